@@ -1,0 +1,2 @@
+//! The laws of goals and of legal histories, each the contract of a function with an empty body.
+#![tactic(auto)]

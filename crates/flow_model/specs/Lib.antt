@@ -1,0 +1,12 @@
+pub mod Lists
+pub mod Process
+pub mod Trace
+pub mod Facts
+pub mod Constraint
+pub mod Schema
+pub mod Ways
+pub mod Resolution
+pub mod Ready
+pub mod Circle
+pub mod Run
+pub mod Verdict
