@@ -10,3 +10,4 @@ pub mod Ready
 pub mod Circle
 pub mod Run
 pub mod Verdict
+pub mod Stored
