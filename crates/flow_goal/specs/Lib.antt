@@ -1,2 +1,3 @@
 pub mod Goal
 pub mod Labelled
+pub mod Numbering

@@ -1,7 +1,7 @@
-ghost use Rattle.std.specs.Prelude.{◌≡◌, ◌≢◌, ◌<◌, ◌^◌, ◌↔◌, length, IfOk, IsErr, slice_get};
+ghost use Rattle.std.specs.Prelude.{◌≡◌, ◌<◌, ◌^◌, ◌↔◌, length, IfOk, IsErr, IsTrue, slice_get};
 ghost use Rattle.flow_model.specs.Process.{IsNumbered};
 ghost use Rattle.flow_goal.specs.Goal.{process_of};
-ghost use Rattle.flow_goal.specs.Labelled.{Labelled};
+ghost use Rattle.flow_goal.specs.Numbering;
 
 use std::marker::Model;
 
@@ -37,21 +37,35 @@ impl Model for Tree {
     ghost invariant = { λ t. IsLabelled (labelled t.goal t.labels.items) };
 }
 
-/// Numbers the leaves of the goal onwards from `next`. `None` where they are numbered otherwise.
-fn number_after(goal: &Goal, next: u32) -> Option<u32> {
+/// The number after the leaves of the goal, if they are numbered onwards from `next` and stay below
+/// `end`.
+fn number_after(goal: &Goal, next: u32, end: u32) -> Option<u32>
+    ensures { result ≡ Numbering.number_after (process_of goal.now) next end }
+{
     match goal {
         Goal::Nop => Some(next),
         Goal::Leaf(n) => {
-            if *n == next {
-                next.checked_add(1)
+            if *n == next && next < end {
+                Some(next + 1)
             } else {
                 None
             }
         }
         Goal::Serial(left, right) | Goal::Beside(left, right) | Goal::Either(left, right) => {
-            number_after(right, number_after(left, next)?)
+            let middle = number_after(left, next, end)?;
+            number_after(right, middle, end)
         }
-        Goal::Iso(part) => number_after(part, next),
+        Goal::Iso(part) => number_after(part, next, end),
+    }
+}
+
+/// Whether the leaves from left to right are 0, 1, .. below the count.
+fn is_numbered(goal: &Goal, count: u32) -> bool
+    ensures { IsTrue result ↔ IsNumbered (process_of goal.now) count }
+{
+    match number_after(goal, 0, count) {
+        Some(stop) => stop == count,
+        None => false,
     }
 }
 
@@ -62,7 +76,8 @@ impl Tree {
         ensures numbering { IsErr result ↔ ¬ (IsNumbered (process_of goal) (length labels.items)) }
         ensures ok { IfOk result (λ tree. (tree.process ≡ process_of goal) × (tree.labels ≡ labels.items)) }
     {
-        if number_after(&goal, 0) == Some(labels.len() as u32) {
+        let count = labels.len() as u32;
+        if is_numbered(&goal, count) {
             Ok(Tree { goal, labels })
         } else {
             Err(TreeRefusal::Numbering)
