@@ -1,0 +1,5 @@
+pub mod Look
+pub mod Given
+pub mod View
+pub mod Kept
+pub mod Fields
