@@ -3,3 +3,4 @@ pub mod Given
 pub mod View
 pub mod Kept
 pub mod Fields
+pub mod Claims

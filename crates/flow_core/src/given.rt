@@ -14,7 +14,9 @@ pub struct Given {
 pub fn is_out_on(given: &[Given], leaf: u32) -> bool
     ensures { result ≡ is_out given.now leaf }
 {
-    given.iter().any(|claim| !claim.answered && claim.leaf == leaf)
+    given
+        .iter()
+        .any(|claim| !claim.answered && claim.leaf == leaf)
 }
 
 /// The place of the first claim that is out.

@@ -21,10 +21,16 @@ pub fn look_through(goal: &Goal, done: &Vec<bool>, leaf: u32) -> Look
     ensures next { result.next ≡ is_next (process_of goal.now) done.now.items leaf }
 {
     match goal {
-        Goal::Nop => Look { finished: true, next: false },
+        Goal::Nop => Look {
+            finished: true,
+            next: false,
+        },
         Goal::Leaf(n) => {
             let finished = done[*n as usize];
-            Look { finished, next: *n == leaf && !finished }
+            Look {
+                finished,
+                next: *n == leaf && !finished,
+            }
         }
         Goal::Serial(left, right) => {
             let first = look_through(left, done, leaf);
@@ -42,6 +48,9 @@ pub fn look_through(goal: &Goal, done: &Vec<bool>, leaf: u32) -> Look
                 next: one.next || other.next,
             }
         }
-        Goal::Either(_, _) | Goal::Iso(_) => Look { finished: false, next: false },
+        Goal::Either(_, _) | Goal::Iso(_) => Look {
+            finished: false,
+            next: false,
+        },
     }
 }
