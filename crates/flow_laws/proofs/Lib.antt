@@ -1,0 +1,5 @@
+pub mod ListLemmas2
+pub mod TraceLemmas2
+pub mod ResolutionsLemmas
+pub mod WaysLemmas
+pub mod OptionsLemmas
