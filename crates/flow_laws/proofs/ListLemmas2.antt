@@ -1,5 +1,7 @@
 -- Facts on lists in the words of the model: members, fronts, orders.
-use Rattle.std.proofs.Common.{◌≡◌, ℕ, zero, suc, ◌+◌, ◌*◌, ◌<◌, ◌≤◌, ◌⊎◌, ◌↔◌, List, [], ◌∷◌, ◌++◌, map, length, refl, sym, ap, ◌∙◌, subst, inl, inr, append_assoc, append-nil, flat_map, arith, slice_get, Some, None, option_map, zero-add, suc-add, zero-mul, length-append, le_of_eq, Bool, true, false, cond, find}
+use Rattle.std.proofs.Common.{◌≡◌, ℕ, zero, suc, ◌+◌, ◌*◌, ◌<◌, ◌≤◌, ◌⊎◌, ◌↔◌, List, [], ◌∷◌, ◌++◌, map, length, refl, sym, ap, ◌∙◌, subst, inl, inr, append_assoc, append-nil, flat_map, arith, slice_get, Some, None, option_map, zero-add, suc-add, zero-mul, length-append, le_of_eq, Bool, true, false, cond, find, ◌≢◌, Option, filter_map}
+use Rattle.std.specs.List.{cons_option}
+use Rattle.std.proofs.lemmas.Bool.Decides.{eqb_tells}
 use Rattle.std.proofs.lemmas.List.{length-map}
 use Rattle.std.proofs.lemmas.Option.{slice_get-map}
 use Rattle.flow_model.specs.Lists.{◌∈◌, Each, AreDistinct, Begins, StandsBefore, IsOrderOf, joined, numbers_from, each_with_each}
@@ -172,3 +174,131 @@ of_find {A} p (y ∷ ys) x e = step (p y) refl e (of_find p ys x)
         (x ∈ (y ∷ ys)) × (p x ≡ true)
     step true h k rest = let same : y ≡ x = cc in (inl (sym same), subst (λ z. p z ≡ true) same h)
     step false h k rest = let (m, i) = rest k in (inr m, i)
+
+-- Which stands before which
+
+pub before_members : {A : Type 0} (x y : A) (t : List A) → StandsBefore x y t → (x ∈ t) × (y ∈ t)
+before_members x y [] h = absurd h
+before_members x y (z ∷ t) (inl h) = (inl h.0, inr h.1)
+before_members x y (z ∷ t) (inr h) = let (m, k) = before_members x y t h in (inr m, inr k)
+
+pub not_both_before : {A : Type 0} (x y : A) (t : List A) → AreDistinct t → StandsBefore x y t → ¬ (StandsBefore y x t)
+not_both_before x y [] d h k = h
+not_both_before x y (z ∷ t) (new, d) (inl h) (inl k) = new (subst (λ w. w ∈ t) k.0 h.1)
+not_both_before x y (z ∷ t) (new, d) (inl h) (inr k) = new (subst (λ w. w ∈ t) h.0 (before_members y x t k).1)
+not_both_before x y (z ∷ t) (new, d) (inr h) (inl k) = new (subst (λ w. w ∈ t) k.0 (before_members x y t h).1)
+not_both_before x y (z ∷ t) (new, d) (inr h) (inr k) = not_both_before x y t d h k
+
+pub one_before : {A : Type 0} (x y : A) (t : List A) → x ∈ t → y ∈ t → x ≢ y → StandsBefore x y t ⊎ StandsBefore y x t
+one_before x y [] h k d = absurd h
+one_before x y (z ∷ t) (inl e) (inl i) d = absurd (d (e ∙ sym i))
+one_before x y (z ∷ t) (inl e) (inr k) d = inl (inl (e, k))
+one_before x y (z ∷ t) (inr h) (inl i) d = inr (inl (i, h))
+one_before x y (z ∷ t) (inr h) (inr k) d = elim (one_before x y t h k d) [ inl m ↦ inl (inr m) | inr m ↦ inr (inr m) ]
+
+pub equal_or_not : (x y : ℕ) → (x ≡ y) ⊎ (x ≢ y)
+equal_or_not x y = elim (eqb_tells x y) [ inl h ↦ inl h.1 | inr h ↦ inr h.1 ]
+
+pub member_or_not : (x : ℕ) (xs : List ℕ) → (x ∈ xs) ⊎ ¬ (x ∈ xs)
+member_or_not x [] = inr (λ h. h)
+member_or_not x (y ∷ ys) = elim (equal_or_not x y) [
+  | inl e ↦ inl (inl e)
+  | inr d ↦ elim (member_or_not x ys) [
+    | inl m ↦ inl (inr m)
+    | inr n ↦ inr (λ h. elim h [ inl e ↦ d e | inr m ↦ n m ])
+  ]
+]
+
+pub before_or_not : (x y : ℕ) (t : List ℕ) → StandsBefore x y t ⊎ ¬ (StandsBefore x y t)
+before_or_not x y [] = inr (λ h. h)
+before_or_not x y (z ∷ t) = elim (before_or_not x y t) [
+  | inl h ↦ inl (inr h)
+  | inr n ↦ elim (equal_or_not x z) [
+    | inr d ↦ inr (λ h. elim h [ inl k ↦ d k.0 | inr k ↦ n k ])
+    | inl e ↦ elim (member_or_not y t) [
+      | inl m ↦ inl (inl (e, m))
+      | inr l ↦ inr (λ h. elim h [ inl k ↦ l k.1 | inr k ↦ n k ])
+    ]
+  ]
+]
+
+-- What a filter that maps keeps
+
+pub mem-cons_option : {A : Type 0} (o : Option A) (y : A) (ys : List A) → y ∈ ys → y ∈ cons_option o ys
+mem-cons_option None y ys h = h
+mem-cons_option (Some x) y ys h = inr h
+
+pub mem-filter_map : {A B : Type 0} (h : A → Option B) (x : A) (y : B) (xs : List A) → x ∈ xs → h x ≡ Some y → y ∈ filter_map h xs
+mem-filter_map h x y [] m k = absurd m
+mem-filter_map h x y (z ∷ zs) (inl e) k =
+    subst (λ o. y ∈ cons_option o (filter_map h zs)) (sym (ap h (sym e) ∙ k)) (inl refl)
+mem-filter_map h x y (z ∷ zs) (inr m) k = mem-cons_option (h z) y (filter_map h zs) (mem-filter_map h x y zs m k)
+
+pub of_filter_map : {A B : Type 0} (h : A → Option B) (y : B) (xs : List A) → y ∈ filter_map h xs → (x : A) × (x ∈ xs) × (h x ≡ Some y)
+of_filter_map h y [] m = absurd m
+of_filter_map {A} {B} h y (z ∷ zs) m = step (h z) refl m (of_filter_map h y zs)
+  where
+    step : (o : Option B) → h z ≡ o → y ∈ cons_option o (filter_map h zs) →
+        (y ∈ filter_map h zs → (x : A) × (x ∈ zs) × (h x ≡ Some y)) → (x : A) × (x ∈ (z ∷ zs)) × (h x ≡ Some y)
+    step None k l rest = let (x, a, b) = rest l in (x, inr a, b)
+    step (Some w) k (inl e) rest = (z, inl refl, k ∙ ap Some (sym e))
+    step (Some w) k (inr l) rest = let (x, a, b) = rest l in (x, inr a, b)
+
+pub before-cons_option : {A : Type 0} (o : Option A) (x y : A) (ys : List A) → StandsBefore x y ys → StandsBefore x y (cons_option o ys)
+before-cons_option None x y ys h = h
+before-cons_option (Some w) x y ys h = inr h
+
+pub before-filter_map : {A B : Type 0} (h : A → Option B) (x y : A) (a b : B) (t : List A) →
+    StandsBefore x y t → h x ≡ Some a → h y ≡ Some b → StandsBefore a b (filter_map h t)
+before-filter_map h x y a b [] s i j = absurd s
+before-filter_map h x y a b (z ∷ t) (inl s) i j =
+    subst (λ o. StandsBefore a b (cons_option o (filter_map h t))) (sym (ap h (sym s.0) ∙ i))
+    (inl (refl, mem-filter_map h y b t s.1 j))
+before-filter_map h x y a b (z ∷ t) (inr s) i j =
+    before-cons_option (h z) a b (filter_map h t) (before-filter_map h x y a b t s i j)
+
+pub of_before-filter_map : {A B : Type 0} (h : A → Option B) (a b : B) (t : List A) → StandsBefore a b (filter_map h t) →
+    (x : A) × ((y : A) × StandsBefore x y t × (h x ≡ Some a) × (h y ≡ Some b))
+of_before-filter_map h a b [] s = absurd s
+of_before-filter_map {A} {B} h a b (z ∷ t) s = step (h z) refl s (of_before-filter_map h a b t)
+  where
+    step : (o : Option B) → h z ≡ o → StandsBefore a b (cons_option o (filter_map h t)) →
+        (StandsBefore a b (filter_map h t) → (x : A) × ((y : A) × StandsBefore x y t × (h x ≡ Some a) × (h y ≡ Some b))) →
+        (x : A) × ((y : A) × StandsBefore x y (z ∷ t) × (h x ≡ Some a) × (h y ≡ Some b))
+    step None k l rest = let (x, (y, c, i, j)) = rest l in (x, (y, inr c, i, j))
+    step (Some w) k (inl l) rest =
+        let (y, m, j) = of_filter_map h b t l.1 in (z, (y, inl (refl, m), k ∙ ap Some (sym l.0), j))
+    step (Some w) k (inr l) rest = let (x, (y, c, i, j)) = rest l in (x, (y, inr c, i, j))
+
+pub some_same : {A : Type 0} (a b : A) → Some a ≡ Some b → a ≡ b
+some_same a b e = cc
+
+-- where what it keeps is distinct, two members that map to the same are one
+pub same_source : {A B : Type 0} (h : A → Option B) (t : List A) → AreDistinct (filter_map h t) →
+    (x y : A) (a : B) → x ∈ t → y ∈ t → h x ≡ Some a → h y ≡ Some a → x ≡ y
+same_source h [] d x y a m k i j = absurd m
+same_source {A} {B} h (z ∷ t) d x y a m k i j = step (h z) refl d m k (same_source h t)
+  where
+    step : (o : Option B) → h z ≡ o → AreDistinct (cons_option o (filter_map h t)) → x ∈ (z ∷ t) → y ∈ (z ∷ t) →
+        (AreDistinct (filter_map h t) → (x y : A) (a : B) → x ∈ t → y ∈ t → h x ≡ Some a → h y ≡ Some a → x ≡ y) → x ≡ y
+    step o l e (inl p) (inl q) rest = p ∙ sym q
+    step None l e (inr p) (inr q) rest = rest e x y a p q i j
+    step (Some w) l e (inr p) (inr q) rest = rest e.1 x y a p q i j
+    step None l e (inl p) (inr q) rest = let bad : Some a ≡ None = sym i ∙ (ap h p ∙ l) in cc
+    step None l e (inr p) (inl q) rest = let bad : Some a ≡ None = sym j ∙ (ap h q ∙ l) in cc
+    step (Some w) l e (inl p) (inr q) rest =
+        let same : a ≡ w = some_same a w (sym i ∙ (ap h p ∙ l)) in
+        absurd (e.0 (subst (λ v. v ∈ filter_map h t) same (mem-filter_map h y a t q j)))
+    step (Some w) l e (inr p) (inl q) rest =
+        let same : a ≡ w = some_same a w (sym j ∙ (ap h q ∙ l)) in
+        absurd (e.0 (subst (λ v. v ∈ filter_map h t) same (mem-filter_map h x a t p i)))
+
+pub not_found : {A : Type 0} (p : A → Bool) (xs : List A) (x : A) → find p xs ≡ None → x ∈ xs → ¬ (p x ≡ true)
+not_found p [] x e m h = m
+not_found {A} p (y ∷ ys) x e m h = step (p y) refl e m (not_found p ys x)
+  where
+    step : (t : Bool) → p y ≡ t → cond t (Some y) (find p ys) ≡ None → x ∈ (y ∷ ys) →
+        (find p ys ≡ None → x ∈ ys → ¬ (p x ≡ true)) → ⊥
+    step true k i l rest = cc
+    step false k i (inl same) rest = let bad : true ≡ false = sym h ∙ (ap p same ∙ k) in cc
+    step false k i (inr l) rest = rest i l h

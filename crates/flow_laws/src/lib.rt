@@ -2,5 +2,7 @@
 #![tactic(auto)]
 
 mod resolutions;
+mod ways;
 
 pub use resolutions::law_traces_are_of_resolutions;
+pub use ways::{law_options_cover_good_traces, law_ways_decide_constraints};
