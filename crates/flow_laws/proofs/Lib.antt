@@ -6,3 +6,4 @@ pub mod OptionsLemmas
 pub mod NormalForms
 pub mod WaysDecide
 pub mod GoodTraces
+pub mod EventsLemmas

@@ -302,3 +302,18 @@ not_found {A} p (y ∷ ys) x e m h = step (p y) refl e m (not_found p ys x)
     step true k i l rest = cc
     step false k i (inl same) rest = let bad : true ≡ false = sym h ∙ (ap p same ∙ k) in cc
     step false k i (inr l) rest = rest i l h
+
+-- where no two different members map to the same, what is kept is distinct
+pub distinct-filter_map : {A B : Type 0} (h : A → Option B) (t : List A) → AreDistinct t →
+    ((x y : A) (e : B) → x ∈ t → y ∈ t → x ≢ y → h x ≡ Some e → h y ≢ Some e) → AreDistinct (filter_map h t)
+distinct-filter_map h [] d apart = tt
+distinct-filter_map {A} {B} h (z ∷ t) (new, d) apart =
+    step (h z) refl (distinct-filter_map h t d (λ x y e m k. apart x y e (inr m) (inr k)))
+  where
+    step : (o : Option B) → h z ≡ o → AreDistinct (filter_map h t) → AreDistinct (cons_option o (filter_map h t))
+    step None k rest = rest
+    step (Some e) k rest = (
+      λ m. let (y, l, i) = of_filter_map h e t m in
+          apart z y e (inl refl) (inr l) (λ same. new (subst (λ w. w ∈ t) (sym same) l)) k i,
+      rest,
+    )

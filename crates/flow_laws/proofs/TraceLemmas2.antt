@@ -1,9 +1,9 @@
 -- What the executions of a goal hold.
 use Rattle.std.proofs.Common.{◌≡◌, ℕ, ◌⊎◌, List, [], ◌∷◌, ◌++◌, refl, sym, ap, ap₂, ◌∙◌, subst, inl, inr, append-nil}
-use Rattle.flow_model.specs.Lists.{◌∈◌, joined}
+use Rattle.flow_model.specs.Lists.{◌∈◌, AreDistinct, joined}
 use Rattle.flow_model.specs.Process.{Process, Empty, Task, Sequence, Parallel, Choice, Isolated, leaves, IsChoiceFree}
 use Rattle.flow_model.specs.Trace.{Blocks, Trace, Shuffle, both_end, from_left, from_right, as_one}
-use Rattle.flow_laws.proofs.ListLemmas2.{mem_append_left, mem_append_right, mem-append, joined-append}
+use Rattle.flow_laws.proofs.ListLemmas2.{mem_append_left, mem_append_right, mem-append, joined-append, distinct_parts, distinct-append}
 
 pub joined-as_one : (bs : List (List ℕ)) → joined (as_one bs) ≡ joined bs
 joined-as_one [] = refl
@@ -121,3 +121,45 @@ no_leaf_has_no_blocks (Parallel a b) none = (
 no_leaf_has_no_blocks (Choice a b) none =
     inl (no_leaf_has_no_blocks a (λ n m. none n (mem_append_left n (leaves a) (leaves b) m)))
 no_leaf_has_no_blocks (Isolated a) none = ([], no_leaf_has_no_blocks a none, refl)
+
+-- No leaf stands twice
+
+pub distinct_shuffle : {a b c : List (List ℕ)} → Shuffle a b c → AreDistinct (joined a) → AreDistinct (joined b) →
+    ((n : ℕ) → n ∈ joined a → ¬ (n ∈ joined b)) → AreDistinct (joined c)
+distinct_shuffle both_end da db apart = da
+distinct_shuffle (from_left {x = x} {a = a} {b = b} {c = c} s) da db apart =
+    let (dx, dr, off) = distinct_parts x (joined a) da in
+    distinct-append x (joined c) dx
+    (distinct_shuffle s dr db (λ n m. apart n (mem_append_right n x (joined a) m)))
+    (λ n m k. elim (of_shuffle s n k) [
+      | inl l ↦ off n m l
+      | inr l ↦ apart n (mem_append_left n x (joined a) m) l
+    ])
+distinct_shuffle (from_right {x = x} {a = a} {b = b} {c = c} s) da db apart =
+    let (dx, dr, off) = distinct_parts x (joined b) db in
+    distinct-append x (joined c) dx
+    (distinct_shuffle s da dr (λ n m k. apart n m (mem_append_right n x (joined b) k)))
+    (λ n m k. elim (of_shuffle s n k) [
+      | inl l ↦ apart n l (mem_append_left n x (joined b) m)
+      | inr l ↦ off n m l
+    ])
+
+pub distinct_blocks : (g : Process) → AreDistinct (leaves g) → (bs : List (List ℕ)) → Blocks g bs → AreDistinct (joined bs)
+distinct_blocks Empty d bs h = subst (λ w. AreDistinct (joined w)) (sym h) tt
+distinct_blocks (Task k) d bs h = subst (λ w. AreDistinct (joined w)) (sym h) d
+distinct_blocks (Sequence a b) d bs (x, y, ha, hb, e) =
+    let (da, db, apart) = distinct_parts (leaves a) (leaves b) d in
+    subst AreDistinct (sym (ap joined e ∙ joined-append x y)) (distinct-append (joined x) (joined y)
+    (distinct_blocks a da x ha) (distinct_blocks b db y hb)
+    (λ n m k. apart n (leaf_of_blocks a x ha n m) (leaf_of_blocks b y hb n k)))
+distinct_blocks (Parallel a b) d bs (x, y, ha, hb, s) =
+    let (da, db, apart) = distinct_parts (leaves a) (leaves b) d in
+    distinct_shuffle s (distinct_blocks a da x ha) (distinct_blocks b db y hb)
+    (λ n m k. apart n (leaf_of_blocks a x ha n m) (leaf_of_blocks b y hb n k))
+distinct_blocks (Choice a b) d bs (inl h) = distinct_blocks a (distinct_parts (leaves a) (leaves b) d).0 bs h
+distinct_blocks (Choice a b) d bs (inr h) = distinct_blocks b (distinct_parts (leaves a) (leaves b) d).1 bs h
+distinct_blocks (Isolated a) d bs (x, h, e) =
+    subst AreDistinct (sym (ap joined e ∙ joined-as_one x)) (distinct_blocks a d x h)
+
+pub distinct_trace : (g : Process) → AreDistinct (leaves g) → (t : List ℕ) → Trace g t → AreDistinct t
+distinct_trace g d t (bs, h, e) = subst AreDistinct (sym e) (distinct_blocks g d bs h)
