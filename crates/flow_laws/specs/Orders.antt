@@ -36,4 +36,4 @@ abbrev pub OrdersMayFollowOne : Type 0
 OrdersMayFollowOne = (w : Schema) → IsWellFormed w → (s : RunState) (o : ChoiceOption) → o ∈ options w → (first : ℕ) (list : List ℕ) →
     ((order : List ℕ) → IsOrderOf order list → MayFollow w s o (first ∷ order))
     ↔ (IsAlive s o × IsReady o.resolution o.order (λ n. n ∈ s.journal) first
-        × AreSideBySide o.resolution o.order (λ n. n ∈ (s.journal ++ first ∷ [])) list)
+    × AreSideBySide o.resolution o.order (λ n. n ∈ (s.journal ++ first ∷ [])) list)

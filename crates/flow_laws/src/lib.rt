@@ -1,2 +1,10 @@
 //! The laws of goals and of legal histories, each the contract of a function with an empty body.
 #![tactic(auto)]
+
+mod events;
+mod resolutions;
+mod ways;
+
+pub use events::law_unique_events_by_least_goal;
+pub use resolutions::law_traces_are_of_resolutions;
+pub use ways::{law_options_cover_good_traces, law_ways_decide_constraints};

@@ -1,0 +1,9 @@
+pub mod ListLemmas2
+pub mod TraceLemmas2
+pub mod ResolutionsLemmas
+pub mod WaysLemmas
+pub mod OptionsLemmas
+pub mod NormalForms
+pub mod WaysDecide
+pub mod GoodTraces
+pub mod EventsLemmas
