@@ -1,1 +1,4 @@
 pub mod ListLemmas1
+pub mod ReadySplit
+pub mod ReadyRemains
+pub mod ReadyOrders
