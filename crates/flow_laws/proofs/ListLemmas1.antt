@@ -38,6 +38,13 @@ pub mem_with : {A : Type 0} (x y : A) (a b : List A) → x ∈ (a ++ y ∷ b) �
 mem_with x y a b h =
     ⊎_elim (λ k. inr (mem_left x a b k)) (⊎_elim inl (λ k. inr (mem_right x a b k))) (mem_append x a (y ∷ b) h)
 
+pub no_member : {A : Type 0} (x : A) (list : List A) → list ≡ [] → ¬ (x ∈ list)
+no_member x list e h = subst (λ l. x ∈ l) e h
+
+pub no_members : {A : Type 0} (list : List A) → ((x : A) → ¬ (x ∈ list)) → list ≡ []
+no_members [] h = refl
+no_members (x ∷ list) h = absurd (h x (inl refl))
+
 -- the place of a member
 pub split_at : {A : Type 0} (x : A) (list : List A) → x ∈ list → (front back : List A) × (list ≡ front ++ x ∷ back)
 split_at x [] h = absurd h
