@@ -7,3 +7,7 @@ pub mod NormalForms
 pub mod WaysDecide
 pub mod GoodTraces
 pub mod EventsLemmas
+pub mod ListLemmas1
+pub mod ReadySplit
+pub mod ReadyRemains
+pub mod ReadyOrders
