@@ -1,1 +1,3 @@
 pub mod PlainGoals
+pub mod Enabled
+pub mod GivenClaims

@@ -137,3 +137,71 @@ leaves_finished (Parallel a b) done p h =
     (leaves_finished b done p.1 (λ x m. h x (mem_append_right x (leaves a) (leaves b) m)))
 leaves_finished (Choice a b) done p h = absurd p
 leaves_finished (Isolated a) done p h = absurd p
+
+-- what the test says of a leaf
+pub record MayComeNext (q : Process) (done : List Bool) (n : ℕ) : Type 0 where
+  pub leaf : n ∈ leaves q
+  pub fresh : ¬ (IsTrue (is_done done n))
+  pub earlier : (x : ℕ) → InSequence q x n → IsTrue (is_done done x)
+
+pub next_sound : (q : Process) (done : List Bool) (n : ℕ) → AreDistinct (leaves q) → IsTrue (is_next q done n) → MayComeNext q done n
+next_sound Empty done n d h = let e : false ≡ true = h in cc
+next_sound (Task m) done n d h =
+    let t = both_true (nat_eq m n) (not (is_done done m)) h in
+    let e : m ≡ n = eqb-true m n t.0 in
+    record { leaf = inl (sym e); fresh = λ y. not_true (is_done done m) t.1 (ap (is_done done) e ∙ y); earlier = λ x s. absurd s }
+next_sound (Sequence a b) done n d h =
+    let parts = distinct_parts (leaves a) (leaves b) d in
+    elim (one_true (is_next a done n) (is_finished a done && is_next b done n) h) [
+      inl l ↦ (let r : MayComeNext a done n = next_sound a done n parts.0 l in record {
+        leaf = mem_append_left n (leaves a) (leaves b) r.leaf;
+        fresh = r.fresh;
+        earlier = λ x. elim [
+          inl s ↦ elim s [ inl t ↦ absurd (parts.2 n r.leaf t.1) | inr u ↦ r.earlier x u ]
+        | inr v ↦ absurd (parts.2 n r.leaf (sequence_second b x n v)) ]
+      })
+    | inr r ↦ (let t = both_true (is_finished a done) (is_next b done n) r in
+        let s : MayComeNext b done n = next_sound b done n parts.1 t.1 in record {
+        leaf = mem_append_right n (leaves a) (leaves b) s.leaf;
+        fresh = s.fresh;
+        earlier = λ x. elim [
+          inl u ↦ elim u [ inl v ↦ finished_leaf a done t.0 x v.0 | inr w ↦ absurd (parts.2 n (sequence_second a x n w) s.leaf) ]
+        | inr v ↦ s.earlier x v ]
+      }) ]
+next_sound (Parallel a b) done n d h =
+    let parts = distinct_parts (leaves a) (leaves b) d in
+    elim (one_true (is_next a done n) (is_next b done n) h) [
+      inl l ↦ (let r : MayComeNext a done n = next_sound a done n parts.0 l in record {
+        leaf = mem_append_left n (leaves a) (leaves b) r.leaf;
+        fresh = r.fresh;
+        earlier = λ x. elim [ inl s ↦ r.earlier x s | inr v ↦ absurd (parts.2 n r.leaf (sequence_second b x n v)) ]
+      })
+    | inr r ↦ (let s : MayComeNext b done n = next_sound b done n parts.1 r in record {
+        leaf = mem_append_right n (leaves a) (leaves b) s.leaf;
+        fresh = s.fresh;
+        earlier = λ x. elim [ inl u ↦ absurd (parts.2 n (sequence_second a x n u) s.leaf) | inr v ↦ s.earlier x v ]
+      }) ]
+next_sound (Choice a b) done n d h = let e : false ≡ true = h in cc
+next_sound (Isolated a) done n d h = let e : false ≡ true = h in cc
+
+pub next_complete : (q : Process) (done : List Bool) (n : ℕ) → IsPlain q → MayComeNext q done n → IsTrue (is_next q done n)
+next_complete Empty done n p m = absurd p
+next_complete (Task k) done n p m =
+    let e : n ≡ k = elim m.leaf [ inl e ↦ e | inr none ↦ absurd none ] in
+    true_both (nat_eq k n) (not (is_done done k)) (eq-eqb k n (sym e)) (true_not (is_done done k) (λ y. m.fresh (ap (is_done done) e ∙ y)))
+next_complete (Sequence a b) done n p m =
+    elim (mem-append n (leaves a) (leaves b) m.leaf) [
+      inl l ↦ true_left (is_next a done n) (is_finished a done && is_next b done n)
+        (next_complete a done n p.0 (record { leaf = l; fresh = m.fresh; earlier = λ x s. m.earlier x (inl (inr s)) }))
+    | inr r ↦ true_right (is_next a done n) (is_finished a done && is_next b done n)
+        (true_both (is_finished a done) (is_next b done n)
+          (leaves_finished a done p.0 (λ x l. m.earlier x (inl (inl (l, r)))))
+          (next_complete b done n p.1 (record { leaf = r; fresh = m.fresh; earlier = λ x s. m.earlier x (inr s) }))) ]
+next_complete (Parallel a b) done n p m =
+    elim (mem-append n (leaves a) (leaves b) m.leaf) [
+      inl l ↦ true_left (is_next a done n) (is_next b done n)
+        (next_complete a done n p.0 (record { leaf = l; fresh = m.fresh; earlier = λ x s. m.earlier x (inl s) }))
+    | inr r ↦ true_right (is_next a done n) (is_next b done n)
+        (next_complete b done n p.1 (record { leaf = r; fresh = m.fresh; earlier = λ x s. m.earlier x (inr s) })) ]
+next_complete (Choice a b) done n p m = absurd p
+next_complete (Isolated a) done n p m = absurd p
