@@ -7,3 +7,4 @@ pub mod NormalForms
 pub mod WaysDecide
 pub mod GoodTraces
 pub mod EventsLemmas
+pub mod FollowingLemmas

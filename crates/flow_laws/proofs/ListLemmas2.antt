@@ -1,5 +1,6 @@
 -- Facts on lists in the words of the model: members, fronts, orders.
-use Rattle.std.proofs.Common.{◌≡◌, ℕ, zero, suc, ◌+◌, ◌*◌, ◌<◌, ◌≤◌, ◌⊎◌, ◌↔◌, List, [], ◌∷◌, ◌++◌, map, length, refl, sym, ap, ◌∙◌, subst, inl, inr, append_assoc, append-nil, flat_map, arith, slice_get, Some, None, option_map, zero-add, suc-add, zero-mul, length-append, le_of_eq, Bool, true, false, cond, find, ◌≢◌, Option, filter_map}
+use Rattle.std.proofs.Common.{◌≡◌, ℕ, zero, suc, ◌+◌, ◌*◌, ◌<◌, ◌≤◌, ◌⊎◌, ◌↔◌, List, [], ◌∷◌, ◌++◌, map, length, refl, sym, ap, ◌∙◌, subst, inl, inr, append_assoc, append-nil, flat_map, arith, slice_get, Some, None, option_map, zero-add, suc-add, zero-mul, length-append, le_of_eq, Bool, true, false, cond, find, ◌≢◌, Option, filter_map, ◌==◌, ◌||◌, IsTrue, true≢false}
+use Rattle.std.proofs.lemmas.Bool.{eqb-true, eq-eqb}
 use Rattle.std.specs.List.{cons_option}
 use Rattle.std.proofs.lemmas.Bool.Decides.{eqb_tells}
 use Rattle.std.proofs.lemmas.List.{length-map}
@@ -317,3 +318,38 @@ distinct-filter_map {A} {B} h (z ∷ t) (new, d) apart =
           apart z y e (inl refl) (inr l) (λ same. new (subst (λ w. w ∈ t) (sym same) l)) k i,
       rest,
     )
+
+pub each_to : {A : Type 0} (P Q : A → Type 0) (xs : List A) → ((x : A) → P x → Q x) → Each P xs → Each Q xs
+each_to P Q [] to h = tt
+each_to P Q (x ∷ xs) to (h, t) = (to x h, each_to P Q xs to t)
+
+-- Orders and fronts
+
+pub same_order : {A : Type 0} (xs : List A) → IsOrderOf xs xs
+same_order [] = refl
+same_order (x ∷ xs) = ([], xs, refl, same_order xs)
+
+pub begins_front : {A : Type 0} (t front more : List A) → Begins t (front ++ more) → Begins t front
+begins_front t front more (rest, e) = (more ++ rest, e ∙ append_assoc front more rest)
+
+-- whether the number is a member
+abbrev pub is_member : List ℕ → ℕ → Bool
+is_member [] n = false
+is_member (x ∷ xs) n = (n == x) || is_member xs n
+
+pub mem_of_test : (xs : List ℕ) (n : ℕ) → IsTrue (is_member xs n) → n ∈ xs
+mem_of_test [] n h = absurd (true≢false (sym h))
+mem_of_test (x ∷ xs) n h = step (n == x) refl h (mem_of_test xs n)
+  where
+    step : (t : Bool) → (n == x) ≡ t → IsTrue (t || is_member xs n) → (IsTrue (is_member xs n) → n ∈ xs) → n ∈ (x ∷ xs)
+    step true e k rest = inl (eqb-true n x e)
+    step false e k rest = inr (rest k)
+
+pub test_of_mem : (xs : List ℕ) (n : ℕ) → n ∈ xs → IsTrue (is_member xs n)
+test_of_mem [] n m = absurd m
+test_of_mem (x ∷ xs) n (inl e) = subst (λ t. IsTrue (t || is_member xs n)) (sym (eq-eqb n x e)) refl
+test_of_mem (x ∷ xs) n (inr m) = step (n == x) (test_of_mem xs n m)
+  where
+    step : (t : Bool) → IsTrue (is_member xs n) → IsTrue (t || is_member xs n)
+    step true k = refl
+    step false k = k
