@@ -8,3 +8,7 @@ pub mod WaysDecide
 pub mod GoodTraces
 pub mod EventsLemmas
 pub mod FollowingLemmas
+pub mod ClaimLemmas
+pub mod RunLemmas
+pub mod SoundStates
+pub mod NeverAtALoss
