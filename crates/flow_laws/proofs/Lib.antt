@@ -2,3 +2,4 @@ pub mod ListLemmas1
 pub mod ReadySplit
 pub mod ReadyRemains
 pub mod ReadyOrders
+pub mod ReadyRuns

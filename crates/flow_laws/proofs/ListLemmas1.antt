@@ -203,6 +203,10 @@ before_across x y [] b h k = absurd h
 before_across x y (z ∷ a) b (inl e) k = inl (e, mem_right y a b k)
 before_across x y (z ∷ a) b (inr h) k = inr (before_across x y a b h k)
 
+pub before_right : {A : Type 0} (x y : A) (a b : List A) → StandsBefore x y b → StandsBefore x y (a ++ b)
+before_right x y [] b h = h
+before_right x y (z ∷ a) b h = inr (before_right x y a b h)
+
 -- of two different members one stands before the other
 pub before_or_after : {A : Type 0} (x y : A) (list : List A) → x ∈ list → y ∈ list → x ≢ y → StandsBefore x y list ⊎ StandsBefore y x list
 before_or_after x y [] h k n = absurd h

@@ -1,2 +1,6 @@
 //! The laws of goals and of legal histories, each the contract of a function with an empty body.
 #![tactic(auto)]
+
+mod ready_runs;
+
+pub use ready_runs::law_ready_runs_are_traces;
