@@ -3,3 +3,4 @@ pub mod ReadySplit
 pub mod ReadyRemains
 pub mod ReadyOrders
 pub mod ReadyRuns
+pub mod OrdersByTwo
