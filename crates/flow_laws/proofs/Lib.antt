@@ -4,3 +4,4 @@ pub mod ReadyRemains
 pub mod ReadyOrders
 pub mod ReadyRuns
 pub mod OrdersByTwo
+pub mod CircleParts
