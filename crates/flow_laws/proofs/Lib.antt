@@ -12,3 +12,10 @@ pub mod ClaimLemmas
 pub mod RunLemmas
 pub mod SoundStates
 pub mod NeverAtALoss
+pub mod ListLemmas1
+pub mod ReadySplit
+pub mod ReadyRemains
+pub mod ReadyOrders
+pub mod ReadyRuns
+pub mod OrdersByTwo
+pub mod CircleParts
