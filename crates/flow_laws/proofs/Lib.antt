@@ -7,7 +7,15 @@ pub mod NormalForms
 pub mod WaysDecide
 pub mod GoodTraces
 pub mod EventsLemmas
+pub mod FollowingLemmas
+pub mod ClaimLemmas
+pub mod RunLemmas
+pub mod SoundStates
+pub mod NeverAtALoss
 pub mod ListLemmas1
 pub mod ReadySplit
 pub mod ReadyRemains
 pub mod ReadyOrders
+pub mod ReadyRuns
+pub mod OrdersByTwo
+pub mod CircleParts

@@ -203,6 +203,10 @@ before_across x y [] b h k = absurd h
 before_across x y (z ∷ a) b (inl e) k = inl (e, mem_right y a b k)
 before_across x y (z ∷ a) b (inr h) k = inr (before_across x y a b h k)
 
+pub before_right : {A : Type 0} (x y : A) (a b : List A) → StandsBefore x y b → StandsBefore x y (a ++ b)
+before_right x y [] b h = h
+before_right x y (z ∷ a) b h = inr (before_right x y a b h)
+
 -- of two different members one stands before the other
 pub before_or_after : {A : Type 0} (x y : A) (list : List A) → x ∈ list → y ∈ list → x ≢ y → StandsBefore x y list ⊎ StandsBefore y x list
 before_or_after x y [] h k n = absurd h
@@ -252,3 +256,29 @@ order_same (x ∷ list) = ([], list, refl, order_same list)
 pub joined_append : {A : Type 0} (a b : List (List A)) → joined (a ++ b) ≡ joined a ++ joined b
 joined_append [] b = refl
 joined_append (x ∷ a) b = ap (λ l. x ++ l) (joined_append a b) ∙ sym (append_assoc x (joined a) (joined b))
+
+pub mem_joined : {A : Type 0} (x : A) (list : List (List A)) (item : List A) → item ∈ list → x ∈ item → x ∈ joined list
+mem_joined x [] item m h = absurd m
+mem_joined x (y ∷ list) item (inl e) h = mem_left x y (joined list) (subst (λ l. x ∈ l) e h)
+mem_joined x (y ∷ list) item (inr m) h = mem_right x y (joined list) (mem_joined x list item m h)
+
+-- the list in which a member of the joined lists stands
+pub list_having : {A : Type 0} (x : A) (list : List (List A)) → x ∈ joined list → (item : List A) × (item ∈ list) × (x ∈ item)
+list_having x [] h = absurd h
+list_having x (y ∷ list) h = ⊎_elim
+    (λ k. (y, inl refl, k))
+    (λ k. let r = list_having x list k in (r.0, inr r.1, r.2))
+    (mem_append x y (joined list) h)
+
+-- where the joined lists are distinct, two with a common member are one
+pub joined_apart : {A : Type 0} (list : List (List A)) (a b : List A) (x : A) → AreDistinct (joined list) → a ∈ list → b ∈ list → x ∈ a → x ∈ b → a ≡ b
+joined_apart [] a b x d m l h k = absurd m
+joined_apart (y ∷ list) a b x d (inl e) (inl f) h k = e ∙ sym f
+joined_apart (y ∷ list) a b x d (inl e) (inr l) h k =
+    absurd (distinct_apart y (joined list) d x (subst (λ z. x ∈ z) e h) (mem_joined x list b l k))
+joined_apart (y ∷ list) a b x d (inr m) (inl f) h k =
+    absurd (distinct_apart y (joined list) d x (subst (λ z. x ∈ z) f k) (mem_joined x list a m h))
+joined_apart (y ∷ list) a b x d (inr m) (inr l) h k = joined_apart list a b x (distinct_right y (joined list) d) m l h k
+
+pub decide_some : {A : Type 0} (P : A → Type 0) → ((x : A) → Decided (P x)) → (list : List A) → Decided ((x : A) × (x ∈ list) × P x)
+decide_some P d list = ⊎_elim inl (λ f. inr (λ r. f r.0 r.1 r.2)) (find_member P d list)

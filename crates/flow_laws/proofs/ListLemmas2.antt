@@ -1,5 +1,6 @@
 -- Facts on lists in the words of the model: members, fronts, orders.
-use Rattle.std.proofs.Common.{◌≡◌, ℕ, zero, suc, ◌+◌, ◌*◌, ◌<◌, ◌≤◌, ◌⊎◌, ◌↔◌, List, [], ◌∷◌, ◌++◌, map, length, refl, sym, ap, ◌∙◌, subst, inl, inr, append_assoc, append-nil, flat_map, arith, slice_get, Some, None, option_map, zero-add, suc-add, zero-mul, length-append, le_of_eq, Bool, true, false, cond, find, ◌≢◌, Option, filter_map}
+use Rattle.std.proofs.Common.{◌≡◌, ℕ, zero, suc, ◌+◌, ◌*◌, ◌<◌, ◌≤◌, ◌⊎◌, ◌↔◌, List, [], ◌∷◌, ◌++◌, map, length, refl, sym, ap, ◌∙◌, subst, inl, inr, append_assoc, append-nil, flat_map, arith, slice_get, Some, None, option_map, zero-add, suc-add, zero-mul, length-append, le_of_eq, Bool, true, false, cond, find, ◌≢◌, Option, filter_map, ◌==◌, ◌||◌, IsTrue, true≢false, filter}
+use Rattle.std.proofs.lemmas.Bool.{eqb-true, eq-eqb}
 use Rattle.std.specs.List.{cons_option}
 use Rattle.std.proofs.lemmas.Bool.Decides.{eqb_tells}
 use Rattle.std.proofs.lemmas.List.{length-map}
@@ -317,3 +318,122 @@ distinct-filter_map {A} {B} h (z ∷ t) (new, d) apart =
           apart z y e (inl refl) (inr l) (λ same. new (subst (λ w. w ∈ t) (sym same) l)) k i,
       rest,
     )
+
+pub each_to : {A : Type 0} (P Q : A → Type 0) (xs : List A) → ((x : A) → P x → Q x) → Each P xs → Each Q xs
+each_to P Q [] to h = tt
+each_to P Q (x ∷ xs) to (h, t) = (to x h, each_to P Q xs to t)
+
+-- Orders and fronts
+
+pub same_order : {A : Type 0} (xs : List A) → IsOrderOf xs xs
+same_order [] = refl
+same_order (x ∷ xs) = ([], xs, refl, same_order xs)
+
+pub begins_front : {A : Type 0} (t front more : List A) → Begins t (front ++ more) → Begins t front
+begins_front t front more (rest, e) = (more ++ rest, e ∙ append_assoc front more rest)
+
+-- whether the number is a member
+abbrev pub is_member : List ℕ → ℕ → Bool
+is_member [] n = false
+is_member (x ∷ xs) n = (n == x) || is_member xs n
+
+pub mem_of_test : (xs : List ℕ) (n : ℕ) → IsTrue (is_member xs n) → n ∈ xs
+mem_of_test [] n h = absurd (true≢false (sym h))
+mem_of_test (x ∷ xs) n h = step (n == x) refl h (mem_of_test xs n)
+  where
+    step : (t : Bool) → (n == x) ≡ t → IsTrue (t || is_member xs n) → (IsTrue (is_member xs n) → n ∈ xs) → n ∈ (x ∷ xs)
+    step true e k rest = inl (eqb-true n x e)
+    step false e k rest = inr (rest k)
+
+pub test_of_mem : (xs : List ℕ) (n : ℕ) → n ∈ xs → IsTrue (is_member xs n)
+test_of_mem [] n m = absurd m
+test_of_mem (x ∷ xs) n (inl e) = subst (λ t. IsTrue (t || is_member xs n)) (sym (eq-eqb n x e)) refl
+test_of_mem (x ∷ xs) n (inr m) = step (n == x) (test_of_mem xs n m)
+  where
+    step : (t : Bool) → IsTrue (is_member xs n) → IsTrue (t || is_member xs n)
+    step true k = refl
+    step false k = k
+
+pub cons_same : {A : Type 0} (x y : A) (xs ys : List A) → x ∷ xs ≡ y ∷ ys → (x ≡ y) × (xs ≡ ys)
+cons_same x y xs ys e = (let h : x ≡ y = cc in h, let t : xs ≡ ys = cc in t)
+
+pub not_empty : {A : Type 0} (front : List A) (x : A) (back : List A) → ¬ ([] ≡ front ++ x ∷ back)
+not_empty [] x back e = cc
+not_empty (y ∷ front) x back e = cc
+
+pub empty_parts : {A : Type 0} (a b : List A) → a ++ b ≡ [] → (a ≡ []) × (b ≡ [])
+empty_parts [] b e = (refl, e)
+empty_parts (x ∷ a) b e = let bad : x ∷ (a ++ b) ≡ [] = e in absurd (not_empty [] x (a ++ b) (sym bad))
+
+pub order_of_none : {A : Type 0} (order : List A) → IsOrderOf order [] → order ≡ []
+order_of_none [] h = refl
+order_of_none (x ∷ order) (front, back, e, h) = absurd (not_empty front x back e)
+
+-- one list cut in two ways: the marked member is in the first half or in the second
+pub two_cuts : {A : Type 0} (a b front : List A) (y : A) (back : List A) → a ++ b ≡ front ++ y ∷ back →
+    ((m : List A) × (a ≡ front ++ y ∷ m) × (back ≡ m ++ b)) ⊎ ((m : List A) × (front ≡ a ++ m) × (b ≡ m ++ y ∷ back))
+two_cuts [] b front y back e = inr (front, refl, e)
+two_cuts (x ∷ a) b [] y back e =
+    let (h, t) = cons_same x y (a ++ b) back e in
+    inl (a, ap (λ w. w ∷ a) h, sym t)
+two_cuts (x ∷ a) b (z ∷ front) y back e =
+    let (h, t) = cons_same x z (a ++ b) (front ++ y ∷ back) e in
+    elim (two_cuts a b front y back t) [
+      | inl k ↦ inl (k.0, ap (λ w. x ∷ w) k.1 ∙ ap (λ w. w ∷ (front ++ y ∷ k.0)) h, k.2)
+      | inr k ↦ inr (k.0, ap (λ w. z ∷ w) k.1 ∙ ap (λ w. w ∷ (a ++ k.0)) (sym h), k.2)
+    ]
+
+-- one more member, last in the order and anywhere in the list
+pub order_with_last : {A : Type 0} (order : List A) (x : A) (a b : List A) → IsOrderOf order (a ++ b) →
+    IsOrderOf (order ++ x ∷ []) (a ++ x ∷ b)
+order_with_last [] x a b h = (a, b, refl, h)
+order_with_last (y ∷ order) x a b (front, back, e, h) = elim (two_cuts a b front y back e) [
+  | inl k ↦ (
+    front,
+    k.0 ++ x ∷ b,
+    ap (λ w. w ++ x ∷ b) k.1 ∙ append_assoc front (y ∷ k.0) (x ∷ b),
+    subst (IsOrderOf (order ++ x ∷ [])) (append_assoc front k.0 (x ∷ b))
+        (order_with_last order x (front ++ k.0) b
+        (subst (IsOrderOf order) (ap (λ w. front ++ w) k.2 ∙ sym (append_assoc front k.0 b)) h)),
+  )
+  | inr k ↦ (
+    a ++ x ∷ k.0,
+    back,
+    ap (λ w. a ++ x ∷ w) k.2 ∙ sym (append_assoc a (x ∷ k.0) (y ∷ back)),
+    subst (IsOrderOf (order ++ x ∷ [])) (sym (append_assoc a (x ∷ k.0) back))
+        (order_with_last order x a (k.0 ++ back)
+        (subst (IsOrderOf order) (ap (λ w. w ++ back) k.1 ∙ append_assoc a k.0 back) h)),
+  )
+]
+
+pub numbers_from_more : (first count : ℕ) → numbers_from first (suc count) ≡ numbers_from first count ++ (first + count) ∷ []
+numbers_from_more first zero = let e : first ≡ first + zero = omega arith in ap (λ n. n ∷ []) e
+numbers_from_more first (suc count) =
+    let e : (first + 1) + count ≡ first + suc count = omega arith in
+    ap (λ w. first ∷ w) (numbers_from_more (first + 1) count ∙ ap (λ n. numbers_from (first + 1) count ++ n ∷ []) e)
+
+pub begins_and_nothing : {A : Type 0} (t front : List A) → Begins t front → Begins t (front ++ [])
+begins_and_nothing t front (rest, e) = (rest, e ∙ ap (λ w. w ++ rest) (sym (append-nil front)))
+
+-- what has Q and passes the test has P
+pub each-filter : {A : Type 0} (P Q : A → Type 0) (p : A → Bool) (xs : List A) → ((x : A) → p x ≡ true → Q x → P x) →
+    Each Q xs → Each P (filter p xs)
+each-filter P Q p [] to h = tt
+each-filter {A} P Q p (x ∷ xs) to (h, t) = step (p x) refl (each-filter P Q p xs to t)
+  where
+    step : (b : Bool) → p x ≡ b → Each P (filter p xs) → Each P (cond b (x ∷ filter p xs) (filter p xs))
+    step true e k = (to x e h, k)
+    step false e k = k
+
+pub numbers_from_below : (first count n : ℕ) → n ∈ numbers_from first count → n < first + count
+numbers_from_below first zero n h = absurd h
+numbers_from_below first (suc count) n (inl e) = omega arith
+numbers_from_below first (suc count) n (inr h) = omega (arith, numbers_from_below (first + 1) count n h)
+
+pub order_of_one : {A : Type 0} (order : List A) (x : A) → IsOrderOf order (x ∷ []) → order ≡ x ∷ []
+order_of_one [] x h = absurd (not_empty [] x [] (sym h))
+order_of_one (y ∷ order) x ([], back, e, h) =
+    let (same, none) = cons_same x y [] back e in
+    ap (λ w. y ∷ w) (order_of_none order (subst (IsOrderOf order) (sym none) h)) ∙ ap (λ z. z ∷ []) (sym same)
+order_of_one (y ∷ order) x (z ∷ front, back, e, h) =
+    absurd (not_empty front y back (cons_same x z [] (front ++ y ∷ back) e).1)

@@ -2,9 +2,15 @@
 #![tactic(auto)]
 
 mod events;
+mod histories;
+mod orders;
+mod ready_runs;
 mod resolutions;
 mod ways;
 
 pub use events::law_unique_events_by_least_goal;
+pub use histories::{law_legal_states_extend, law_never_at_a_loss};
+pub use orders::law_pairs_suffice_for_orders;
+pub use ready_runs::law_ready_runs_are_traces;
 pub use resolutions::law_traces_are_of_resolutions;
 pub use ways::{law_options_cover_good_traces, law_ways_decide_constraints};
