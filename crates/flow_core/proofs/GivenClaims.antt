@@ -49,7 +49,8 @@ find-claims_past k n (x ∷ gs) h =
     let more : k + 1 + length gs ≤ n = omega arith in
     ap (λ b. cond b (Some (claim_of k x)) (find (at n) (claims_from (k + 1) gs))) f ∙ find-claims_past (k + 1) n gs more
 
-abbrev answered : Given → Given
+-- the claim, answered
+abbrev pub answered : Given → Given
 answered g = record g { answered = true }
 
 -- a number before those that are counted answers none

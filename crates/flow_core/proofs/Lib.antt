@@ -1,3 +1,4 @@
 pub mod PlainGoals
 pub mod Enabled
 pub mod GivenClaims
+pub mod Steps
