@@ -5,3 +5,5 @@ pub mod ReadyOrders
 pub mod ReadyRuns
 pub mod OrdersByTwo
 pub mod CircleParts
+pub mod CircleExcludes
+pub mod CircleRing
