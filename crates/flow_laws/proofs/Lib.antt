@@ -7,3 +7,4 @@ pub mod OrdersByTwo
 pub mod CircleParts
 pub mod CircleExcludes
 pub mod CircleRing
+pub mod CircleSearch
