@@ -33,12 +33,12 @@ pub decide_direct : (q : Process) (pairs : List (ℕ × ℕ)) (x y : ℕ) → De
 decide_direct q pairs x y = decide_either (decide_sequence q x y) (decide_mem decide_pair_eq (x, y) pairs)
 
 -- a leaf of the list is not done, or all are
-some_or_all : (run list : List ℕ) → ((x : ℕ) × (x ∈ list) × ¬ (x ∈ run)) ⊎ ((x : ℕ) → x ∈ list → x ∈ run)
+pub some_or_all : (run list : List ℕ) → ((x : ℕ) × (x ∈ list) × ¬ (x ∈ run)) ⊎ ((x : ℕ) → x ∈ list → x ∈ run)
 some_or_all run list = ⊎_elim inl (λ f. inr (λ x m. ⊎_elim (λ k. k) (λ n. absurd (f x m n)) (decide_in x run)))
     (find_member (λ x. ¬ (x ∈ run)) (λ x. decide_not (decide_in x run)) list)
 
 -- some leaf of the list is not done
-abbrev IsUnfinished : List ℕ → List ℕ → Type 0
+abbrev pub IsUnfinished : List ℕ → List ℕ → Type 0
 IsUnfinished run list = (x : ℕ) × (x ∈ list) × ¬ (x ∈ run)
 
 decide_unfinished : (run list : List ℕ) → Decided (IsUnfinished run list)

@@ -8,3 +8,4 @@ pub mod CircleParts
 pub mod CircleExcludes
 pub mod CircleRing
 pub mod CircleSearch
+pub mod CircleOrTrace
