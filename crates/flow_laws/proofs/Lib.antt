@@ -19,3 +19,7 @@ pub mod ReadyOrders
 pub mod ReadyRuns
 pub mod OrdersByTwo
 pub mod CircleParts
+pub mod CircleExcludes
+pub mod CircleRing
+pub mod CircleSearch
+pub mod CircleOrTrace
