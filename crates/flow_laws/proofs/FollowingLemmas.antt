@@ -7,14 +7,14 @@ use Rattle.flow_model.specs.Resolution.{ChoiceOption, options}
 use Rattle.flow_model.specs.Ready.{IsReady, IsReadyRun, IsReadyRunAfter, DoneOr}
 use Rattle.flow_model.specs.Run.{RunState, MayFollow}
 use Rattle.flow_laws.specs.Words.{IsWellFormed}
-use Rattle.flow_laws.specs.ReadyRuns.{ReadyRunsExtend}
-use Rattle.flow_laws.specs.Orders.{AreSideBySide, IsAlive}
+use Rattle.flow_laws.specs.Orders.{AreSideBySide, IsAlive, OrdersMayFollow, OrdersMayFollowOne}
 use Rattle.flow_laws.proofs.ListLemmas2.{each_to, same_order, begins_front, mem_append_left, mem_append_right, mem-append}
 use Rattle.flow_laws.proofs.TraceLeaves.{leaf_of_trace, leaf_in_trace}
 use Rattle.flow_laws.proofs.OptionsLemmas.{option_is_ordered}
 use Rattle.flow_laws.proofs.GoodTraces.{option_trace_is_good}
 use Rattle.flow_laws.proofs.ReadyRuns.{same_run, fronts_are_ready}
 use Rattle.flow_laws.proofs.OrdersByTwo.{side_by_side_of, orders_ready}
+use Rattle.flow_laws.proofs.CircleOrTrace.{ready_runs_extend}
 
 -- Runs in two pieces
 
@@ -80,13 +80,13 @@ alive_of_follow w f s o m next (t, trace, free, begins) =
       after,
     )
 
-pub follow_of_alive : ReadyRunsExtend → (w : Schema) → IsWellFormed w → (s : RunState) (o : ChoiceOption) → o ∈ options w →
+pub follow_of_alive : (w : Schema) → IsWellFormed w → (s : RunState) (o : ChoiceOption) → o ∈ options w →
     (next : List ℕ) → IsAlive s o → IsReadyRunAfter o.resolution o.order (λ n. n ∈ s.journal) next → MayFollow w s o next
-follow_of_alive extend w f s o m next alive after =
+follow_of_alive w f s o m next alive after =
     let ordered = option_is_ordered w f o m in
     let (sample, trace) = alive.has_trace in
     let ready = (run_after_journal o.resolution o.order s.journal next).1 (alive.journal, after) in
-    let (t, h, k, begins) = extend o.resolution o.order ordered (sample, trace.0, trace.1) (s.journal ++ next) ready in (
+    let (t, h, k, begins) = ready_runs_extend o.resolution o.order ordered (sample, trace.0, trace.1) (s.journal ++ next) ready in (
       t,
       (h, k),
       (
@@ -97,15 +97,13 @@ follow_of_alive extend w f s o m next alive after =
       begins,
     )
 
-pub orders_may_follow : ReadyRunsExtend → (w : Schema) → IsWellFormed w → (s : RunState) (o : ChoiceOption) → o ∈ options w → (list : List ℕ) →
-    ((order : List ℕ) → IsOrderOf order list → MayFollow w s o order)
-    ↔ (IsAlive s o × AreSideBySide o.resolution o.order (λ n. n ∈ s.journal) list)
-orders_may_follow extend w f s o m list = (
+pub orders_may_follow : OrdersMayFollow
+orders_may_follow w f s o m list = (
   λ h. (
     (alive_of_follow w f s o m list (h list (same_order list))).0,
     side_by_side_of o.resolution o.order (λ n. n ∈ s.journal) list (λ order p. (alive_of_follow w f s o m order (h order p)).1),
   ),
-  λ h order p. follow_of_alive extend w f s o m order h.0
+  λ h order p. follow_of_alive w f s o m order h.0
       (orders_ready o.resolution o.order (λ n. n ∈ s.journal) list h.1 order p),
 )
 
@@ -116,12 +114,8 @@ done_or_one journal first n = (
   λ m. mem-append n journal (first ∷ []) m,
 )
 
-pub orders_may_follow_one : ReadyRunsExtend → (w : Schema) → IsWellFormed w → (s : RunState) (o : ChoiceOption) → o ∈ options w →
-    (first : ℕ) (list : List ℕ) →
-    ((order : List ℕ) → IsOrderOf order list → MayFollow w s o (first ∷ order))
-    ↔ (IsAlive s o × IsReady o.resolution o.order (λ n. n ∈ s.journal) first
-    × AreSideBySide o.resolution o.order (λ n. n ∈ (s.journal ++ first ∷ [])) list)
-orders_may_follow_one extend w f s o m first list =
+pub orders_may_follow_one : OrdersMayFollowOne
+orders_may_follow_one w f s o m first list =
     let then = λ (order : List ℕ). as_well o.resolution o.order (DoneOr (λ n. n ∈ s.journal) (first ∷ []))
     (λ n. n ∈ (s.journal ++ first ∷ [])) order (done_or_one s.journal first) in (
       λ h. let (alive, (ready, after)) = alive_of_follow w f s o m (first ∷ list) (h list (same_order list)) in (
@@ -130,7 +124,7 @@ orders_may_follow_one extend w f s o m first list =
         side_by_side_of o.resolution o.order (λ n. n ∈ (s.journal ++ first ∷ [])) list
             (λ order p. (then order).0 (alive_of_follow w f s o m (first ∷ order) (h order p)).1.1),
       ),
-      λ (alive, ready, side) order p. follow_of_alive extend w f s o m (first ∷ order) alive (
+      λ (alive, ready, side) order p. follow_of_alive w f s o m (first ∷ order) alive (
         ready,
         (then order).1 (orders_ready o.resolution o.order (λ n. n ∈ (s.journal ++ first ∷ [])) list side order p),
       ),

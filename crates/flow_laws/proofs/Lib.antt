@@ -14,6 +14,10 @@ pub mod ReadyOrders
 pub mod ReadyRuns
 pub mod OrdersByTwo
 pub mod CircleParts
+pub mod CircleExcludes
+pub mod CircleRing
+pub mod CircleSearch
+pub mod CircleOrTrace
 pub mod FollowingLemmas
 pub mod RunLemmas
 pub mod ClaimLemmas

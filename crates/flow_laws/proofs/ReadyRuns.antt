@@ -134,6 +134,26 @@ run_distinct q pairs D (n ∷ run) h =
     ((λ k. r.1 n k (inr (inl refl)), r.0),
       λ x k e. ⊎_elim (λ i. h.0.not_done (subst D i e)) (λ l. r.1 x l (inl e)) k)
 
+-- two ready runs, one after the other, are one
+pub run_join : (q : Process) (pairs : List (ℕ × ℕ)) (D : ℕ → Type 0) (front back : List ℕ) → IsReadyRunAfter q pairs D front →
+    IsReadyRunAfter q pairs (DoneOr D front) back → IsReadyRunAfter q pairs D (front ++ back)
+run_join q pairs D [] back h k = same_run q pairs (DoneOr D []) D back (λ x i. ⊎_elim (λ l. l) absurd i) (λ x i. inl i) k
+run_join q pairs D (n ∷ front) back h k =
+    (h.0, run_join q pairs (DoneOr D (n ∷ [])) front back h.1
+      (same_run q pairs (DoneOr D (n ∷ front)) (DoneOr (DoneOr D (n ∷ [])) front) back (done_part D n front) (done_join D n front) k))
+
+pub run_front : (q : Process) (pairs : List (ℕ × ℕ)) (D : ℕ → Type 0) (front back : List ℕ) → IsReadyRunAfter q pairs D (front ++ back) →
+    IsReadyRunAfter q pairs D front
+run_front q pairs D [] back h = tt
+run_front q pairs D (n ∷ front) back h = (h.0, run_front q pairs (DoneOr D (n ∷ [])) front back h.1)
+
+pub run_back : (q : Process) (pairs : List (ℕ × ℕ)) (D : ℕ → Type 0) (front back : List ℕ) → IsReadyRunAfter q pairs D (front ++ back) →
+    IsReadyRunAfter q pairs (DoneOr D front) back
+run_back q pairs D [] back h = same_run q pairs D (DoneOr D []) back (λ x i. inl i) (λ x i. ⊎_elim (λ l. l) absurd i) h
+run_back q pairs D (n ∷ front) back h =
+    same_run q pairs (DoneOr (DoneOr D (n ∷ [])) front) (DoneOr D (n ∷ front)) back (done_join D n front) (done_part D n front)
+      (run_back q pairs (DoneOr D (n ∷ [])) front back h.1)
+
 -- the same where nothing was done at first
 pub ready_at : (q : Process) (pairs : List (ℕ × ℕ)) (front : List ℕ) (n : ℕ) (back : List ℕ) → IsReadyRun q pairs (front ++ n ∷ back) →
     IsReady q pairs (λ x. x ∈ front) n
@@ -144,6 +164,13 @@ pub ready_run_of : (q : Process) (pairs : List (ℕ × ℕ)) (run : List ℕ) �
     ((front : List ℕ) (n : ℕ) (back : List ℕ) → run ≡ front ++ n ∷ back → IsReady q pairs (λ x. x ∈ front) n) → IsReadyRun q pairs run
 ready_run_of q pairs run f = run_of q pairs (λ x. ⊥) run (λ front n back e.
     same_ready q pairs (λ x. x ∈ front) (DoneOr (λ x. ⊥) front) n (λ x k. inr k) (λ x k. ⊎_elim absurd (λ l. l) k) (f front n back e))
+
+-- one more ready leaf
+pub run_grow : (q : Process) (pairs : List (ℕ × ℕ)) (run : List ℕ) (n : ℕ) → IsReadyRun q pairs run → IsReady q pairs (λ x. x ∈ run) n →
+    IsReadyRun q pairs (run ++ n ∷ [])
+run_grow q pairs run n h r =
+    run_join q pairs (λ x. ⊥) run (n ∷ []) h
+      (same_ready q pairs (λ x. x ∈ run) (DoneOr (λ x. ⊥) run) n (λ x k. inr k) (λ x k. ⊎_elim absurd (λ l. l) k) r, tt)
 
 -- the two are one
 
