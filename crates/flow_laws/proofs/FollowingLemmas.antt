@@ -1,13 +1,13 @@
 -- Ready runs in two pieces, and what may follow a journal.
 use Rattle.std.proofs.Common.{ℕ, ◌↔◌, List, [], ◌∷◌, ◌++◌, inl, inr}
-use Rattle.flow_model.specs.Lists.{◌∈◌, IsOrderOf}
+use Rattle.flow_model.specs.Lists.{◌∈◌}
 use Rattle.flow_model.specs.Process.{Process}
 use Rattle.flow_model.specs.Schema.{Schema}
 use Rattle.flow_model.specs.Resolution.{ChoiceOption, options}
-use Rattle.flow_model.specs.Ready.{IsReady, IsReadyRun, IsReadyRunAfter, DoneOr}
+use Rattle.flow_model.specs.Ready.{IsReadyRun, IsReadyRunAfter, DoneOr}
 use Rattle.flow_model.specs.Run.{RunState, MayFollow}
 use Rattle.flow_laws.specs.Words.{IsWellFormed}
-use Rattle.flow_laws.specs.Orders.{AreSideBySide, IsAlive, OrdersMayFollow, OrdersMayFollowOne}
+use Rattle.flow_laws.specs.Orders.{IsAlive, OrdersMayFollow, OrdersMayFollowOne}
 use Rattle.flow_laws.proofs.ListLemmas2.{each_to, same_order, begins_front, mem_append_left, mem_append_right, mem-append}
 use Rattle.flow_laws.proofs.TraceLeaves.{leaf_of_trace, leaf_in_trace}
 use Rattle.flow_laws.proofs.OptionsLemmas.{option_is_ordered}

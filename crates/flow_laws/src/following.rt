@@ -4,5 +4,4 @@ ghost use Rattle.flow_laws.specs.Orders.{OrdersMayFollow, OrdersMayFollowOne};
 pub fn law_orders_may_follow()
     ensures every_order { OrdersMayFollow }
     ensures after_one { OrdersMayFollowOne }
-{
-}
+{}
