@@ -1,8 +1,7 @@
 -- Every ready run can be completed, or there is a circle.
 use Rattle.std.proofs.Common.{◌≡◌, ℕ, zero, suc, ◌≤◌, List, [], ◌∷◌, ◌++◌, ◌⊎◌, map, length, refl, sym, ap, ◌∙◌, subst, inl, inr, ⊎_elim, arith, append_assoc, append-nil, length-append}
-use Rattle.flow_model.specs.Lists.{◌∈◌, AreInOrder, Begins}
+use Rattle.flow_model.specs.Lists.{◌∈◌, Begins}
 use Rattle.flow_model.specs.Process.{Process, leaves}
-use Rattle.flow_model.specs.Trace.{Trace}
 use Rattle.flow_model.specs.Ready.{IsReady, IsReadyRun, IsCompleteRun}
 use Rattle.flow_model.specs.Circle.{items_of, least_of, IsCircle}
 use Rattle.flow_laws.specs.Words.{IsOrdered}
@@ -19,18 +18,20 @@ use Rattle.flow_laws.proofs.CircleSearch.{some_or_all, IsUnfinished, IsTangle, g
 pub circle_of_tangle : (q : Process) (pairs : List (ℕ × ℕ)) (run : List ℕ) (part : Process) → IsTangle q pairs run part → (circle : List ℕ) × IsCircle q pairs circle
 circle_of_tangle q pairs run part h =
     let found = ring_among q pairs (items_of part) (IsUnfinished run) h.earlier h.start h.start_item h.start_waits in
-    let turned = ring_from_least q pairs (items_of part) found.0 found.1 in
-    (map least_of turned.0, record {
-      part = part;
-      is_part = h.is_part;
-      ring = turned.0;
-      items = each_of (λ item. item ∈ items_of part) turned.0 turned.1.members;
-      distinct = turned.1.distinct;
-      two = turned.1.two;
-      closed = turned.1.closed;
-      written = refl;
-      from_least = turned.2
-    })
+    let turned = ring_from_least q pairs (items_of part) found.0 found.1 in (
+      map least_of turned.0,
+      record {
+        part = part;
+        is_part = h.is_part;
+        ring = turned.0;
+        items = each_of (λ item. item ∈ items_of part) turned.0 turned.1.members;
+        distinct = turned.1.distinct;
+        two = turned.1.two;
+        closed = turned.1.closed;
+        written = refl;
+        from_least = turned.2;
+      },
+    )
 
 module _ (q : Process) (pairs : List (ℕ × ℕ)) (w : IsOrdered q pairs) where
   -- the run can be completed, or there is a circle
@@ -44,9 +45,9 @@ module _ (q : Process) (pairs : List (ℕ × ℕ)) (w : IsOrdered q pairs) where
   complete_step : (left : List ℕ) → ((fewer : List ℕ) → suc (length fewer) ≡ length left → Completes fewer) → Completes left
   complete_step left on run h all = ⊎_elim
       (λ u. ⊎_elim
-        (λ r. ⊎_elim (λ m. next r.0 r.1 (split_at r.0 left m)) (λ m. absurd (r.1.not_done m)) (all r.0 r.1.leaf))
-        (λ r. inr (circle_of_tangle q pairs run r.0 r.1))
-        (goes_on q pairs w run h u))
+      (λ r. ⊎_elim (λ m. next r.0 r.1 (split_at r.0 left m)) (λ m. absurd (r.1.not_done m)) (all r.0 r.1.leaf))
+      (λ r. inr (circle_of_tangle q pairs run r.0 r.1))
+      (goes_on q pairs w run h u))
       (λ f. inl (run, (h, f), ([], sym (append-nil run))))
       (some_or_all run (leaves q))
     where
@@ -54,13 +55,13 @@ module _ (q : Process) (pairs : List (ℕ × ℕ)) (w : IsOrdered q pairs) where
       next n r (front, back, e) =
           let shorter : suc (length (front ++ back)) ≡ length left = omega (arith, ap length e, length-append front (n ∷ back), length-append front back) in
           let still = λ (x : ℕ) (k : x ∈ leaves q). ⊎_elim {C = (x ∈ (front ++ back)) ⊎ (x ∈ (run ++ n ∷ []))}
-            (λ l. ⊎_elim (λ f. inr (mem_right x run (n ∷ []) (inl f))) inl (mem_with x n front back (subst (λ z. x ∈ z) e l)))
-            (λ l. inr (mem_left x run (n ∷ []) l))
-            (all x k) in
+          (λ l. ⊎_elim (λ f. inr (mem_right x run (n ∷ []) (inl f))) inl (mem_with x n front back (subst (λ z. x ∈ z) e l)))
+          (λ l. inr (mem_left x run (n ∷ []) l))
+          (all x k) in
           ⊎_elim
-            (λ c. inl (c.0, c.1, (n ∷ c.2.0, c.2.1 ∙ append_assoc run (n ∷ []) c.2.0)))
-            inr
-            (on (front ++ back) shorter (run ++ n ∷ []) (run_grow q pairs run n h r) still)
+          (λ c. inl (c.0, c.1, (n ∷ c.2.0, c.2.1 ∙ append_assoc run (n ∷ []) c.2.0)))
+          inr
+          (on (front ++ back) shorter (run ++ n ∷ []) (run_grow q pairs run n h r) still)
 
   complete : (k : ℕ) (left : List ℕ) → length left ≤ k → Completes left
   complete zero left n = complete_step left (λ fewer e. absurd (omega arith))

@@ -1,5 +1,5 @@
 -- Isolated parts and their items: how they lie in one another.
-use Rattle.std.proofs.Common.{◌≡◌, ◌≢◌, ℕ, suc, ◌+◌, ◌<◌, ◌≤◌, List, [], ◌∷◌, ◌++◌, ◌⊎◌, refl, sym, ap, ap₂, ◌∙◌, subst, inl, inr, ⊎_elim, arith, append-nil}
+use Rattle.std.proofs.Common.{◌≡◌, ℕ, suc, ◌+◌, ◌<◌, List, [], ◌∷◌, ◌++◌, ◌⊎◌, refl, sym, ap, ap₂, ◌∙◌, subst, inl, inr, ⊎_elim, arith, append-nil}
 use Rattle.flow_model.specs.Lists.{◌∈◌, AreDistinct, joined}
 use Rattle.flow_model.specs.Process.{Process, Empty, Task, Sequence, Parallel, Choice, Isolated, leaves}
 use Rattle.flow_model.specs.Ready.{isolated_parts}
@@ -72,33 +72,33 @@ nested Empty one two n d m l h k = absurd m
 nested (Task i) one two n d m l h k = absurd m
 nested (Sequence a b) one two n d m l h k = ⊎_elim
     (λ m'. ⊎_elim
-      (λ l'. nested a one two n (distinct_left (leaves a) (leaves b) d) m' l' h k)
-      (λ l'. absurd (sides_apart a b one two n d m' l' h k))
-      (mem_append two (isolated_parts a) (isolated_parts b) l))
+    (λ l'. nested a one two n (distinct_left (leaves a) (leaves b) d) m' l' h k)
+    (λ l'. absurd (sides_apart a b one two n d m' l' h k))
+    (mem_append two (isolated_parts a) (isolated_parts b) l))
     (λ m'. ⊎_elim
-      (λ l'. absurd (sides_apart a b two one n d l' m' k h))
-      (λ l'. nested b one two n (distinct_right (leaves a) (leaves b) d) m' l' h k)
-      (mem_append two (isolated_parts a) (isolated_parts b) l))
+    (λ l'. absurd (sides_apart a b two one n d l' m' k h))
+    (λ l'. nested b one two n (distinct_right (leaves a) (leaves b) d) m' l' h k)
+    (mem_append two (isolated_parts a) (isolated_parts b) l))
     (mem_append one (isolated_parts a) (isolated_parts b) m)
 nested (Parallel a b) one two n d m l h k = ⊎_elim
     (λ m'. ⊎_elim
-      (λ l'. nested a one two n (distinct_left (leaves a) (leaves b) d) m' l' h k)
-      (λ l'. absurd (sides_apart a b one two n d m' l' h k))
-      (mem_append two (isolated_parts a) (isolated_parts b) l))
+    (λ l'. nested a one two n (distinct_left (leaves a) (leaves b) d) m' l' h k)
+    (λ l'. absurd (sides_apart a b one two n d m' l' h k))
+    (mem_append two (isolated_parts a) (isolated_parts b) l))
     (λ m'. ⊎_elim
-      (λ l'. absurd (sides_apart a b two one n d l' m' k h))
-      (λ l'. nested b one two n (distinct_right (leaves a) (leaves b) d) m' l' h k)
-      (mem_append two (isolated_parts a) (isolated_parts b) l))
+    (λ l'. absurd (sides_apart a b two one n d l' m' k h))
+    (λ l'. nested b one two n (distinct_right (leaves a) (leaves b) d) m' l' h k)
+    (mem_append two (isolated_parts a) (isolated_parts b) l))
     (mem_append one (isolated_parts a) (isolated_parts b) m)
 nested (Choice a b) one two n d m l h k = ⊎_elim
     (λ m'. ⊎_elim
-      (λ l'. nested a one two n (distinct_left (leaves a) (leaves b) d) m' l' h k)
-      (λ l'. absurd (sides_apart a b one two n d m' l' h k))
-      (mem_append two (isolated_parts a) (isolated_parts b) l))
+    (λ l'. nested a one two n (distinct_left (leaves a) (leaves b) d) m' l' h k)
+    (λ l'. absurd (sides_apart a b one two n d m' l' h k))
+    (mem_append two (isolated_parts a) (isolated_parts b) l))
     (λ m'. ⊎_elim
-      (λ l'. absurd (sides_apart a b two one n d l' m' k h))
-      (λ l'. nested b one two n (distinct_right (leaves a) (leaves b) d) m' l' h k)
-      (mem_append two (isolated_parts a) (isolated_parts b) l))
+    (λ l'. absurd (sides_apart a b two one n d l' m' k h))
+    (λ l'. nested b one two n (distinct_right (leaves a) (leaves b) d) m' l' h k)
+    (mem_append two (isolated_parts a) (isolated_parts b) l))
     (mem_append one (isolated_parts a) (isolated_parts b) m)
 nested (Isolated a) one two n d (inl e) (inl f) h k = inl (inl (e ∙ sym f))
 nested (Isolated a) one two n d (inl e) (inr l) h k = inr (inr (subst (λ p. two ∈ isolated_parts p) (sym e) l))
@@ -198,33 +198,33 @@ part_in_item Empty part item n d m h l k y p = absurd m
 part_in_item (Task i) part item n d m h l k y p = absurd m
 part_in_item (Sequence a b) part item n d m h l k y p = ⊎_elim
     (λ m'. ⊎_elim
-      (λ l'. part_in_item a part item n (distinct_left (leaves a) (leaves b) d) m' h l' k y p)
-      (λ l'. absurd (distinct_apart (leaves a) (leaves b) d n (part_within a part n m' h) (item_within b item n l' k)))
-      (mem_append item (items_of a) (items_of b) l))
+    (λ l'. part_in_item a part item n (distinct_left (leaves a) (leaves b) d) m' h l' k y p)
+    (λ l'. absurd (distinct_apart (leaves a) (leaves b) d n (part_within a part n m' h) (item_within b item n l' k)))
+    (mem_append item (items_of a) (items_of b) l))
     (λ m'. ⊎_elim
-      (λ l'. absurd (distinct_apart (leaves a) (leaves b) d n (item_within a item n l' k) (part_within b part n m' h)))
-      (λ l'. part_in_item b part item n (distinct_right (leaves a) (leaves b) d) m' h l' k y p)
-      (mem_append item (items_of a) (items_of b) l))
+    (λ l'. absurd (distinct_apart (leaves a) (leaves b) d n (item_within a item n l' k) (part_within b part n m' h)))
+    (λ l'. part_in_item b part item n (distinct_right (leaves a) (leaves b) d) m' h l' k y p)
+    (mem_append item (items_of a) (items_of b) l))
     (mem_append part (isolated_parts a) (isolated_parts b) m)
 part_in_item (Parallel a b) part item n d m h l k y p = ⊎_elim
     (λ m'. ⊎_elim
-      (λ l'. part_in_item a part item n (distinct_left (leaves a) (leaves b) d) m' h l' k y p)
-      (λ l'. absurd (distinct_apart (leaves a) (leaves b) d n (part_within a part n m' h) (item_within b item n l' k)))
-      (mem_append item (items_of a) (items_of b) l))
+    (λ l'. part_in_item a part item n (distinct_left (leaves a) (leaves b) d) m' h l' k y p)
+    (λ l'. absurd (distinct_apart (leaves a) (leaves b) d n (part_within a part n m' h) (item_within b item n l' k)))
+    (mem_append item (items_of a) (items_of b) l))
     (λ m'. ⊎_elim
-      (λ l'. absurd (distinct_apart (leaves a) (leaves b) d n (item_within a item n l' k) (part_within b part n m' h)))
-      (λ l'. part_in_item b part item n (distinct_right (leaves a) (leaves b) d) m' h l' k y p)
-      (mem_append item (items_of a) (items_of b) l))
+    (λ l'. absurd (distinct_apart (leaves a) (leaves b) d n (item_within a item n l' k) (part_within b part n m' h)))
+    (λ l'. part_in_item b part item n (distinct_right (leaves a) (leaves b) d) m' h l' k y p)
+    (mem_append item (items_of a) (items_of b) l))
     (mem_append part (isolated_parts a) (isolated_parts b) m)
 part_in_item (Choice a b) part item n d m h l k y p = ⊎_elim
     (λ m'. ⊎_elim
-      (λ l'. part_in_item a part item n (distinct_left (leaves a) (leaves b) d) m' h l' k y p)
-      (λ l'. absurd (distinct_apart (leaves a) (leaves b) d n (part_within a part n m' h) (item_within b item n l' k)))
-      (mem_append item (items_of a) (items_of b) l))
+    (λ l'. part_in_item a part item n (distinct_left (leaves a) (leaves b) d) m' h l' k y p)
+    (λ l'. absurd (distinct_apart (leaves a) (leaves b) d n (part_within a part n m' h) (item_within b item n l' k)))
+    (mem_append item (items_of a) (items_of b) l))
     (λ m'. ⊎_elim
-      (λ l'. absurd (distinct_apart (leaves a) (leaves b) d n (item_within a item n l' k) (part_within b part n m' h)))
-      (λ l'. part_in_item b part item n (distinct_right (leaves a) (leaves b) d) m' h l' k y p)
-      (mem_append item (items_of a) (items_of b) l))
+    (λ l'. absurd (distinct_apart (leaves a) (leaves b) d n (item_within a item n l' k) (part_within b part n m' h)))
+    (λ l'. part_in_item b part item n (distinct_right (leaves a) (leaves b) d) m' h l' k y p)
+    (mem_append item (items_of a) (items_of b) l))
     (mem_append part (isolated_parts a) (isolated_parts b) m)
 part_in_item (Isolated a) part item n d m h l k y p =
     subst (λ z. y ∈ z) (sym (item_of_is item (leaves a) l)) (part_within (Isolated a) part y m p)
@@ -236,7 +236,7 @@ part_or_region q region part item n d (inl e) l k m h =
     inl (part_in_item region part item n (subst (λ p. AreDistinct (leaves p)) (sym e) d) (subst (λ p. part ∈ isolated_parts p) (sym e) m) h l k)
 part_or_region q region part item n d (inr r) l k m h = ⊎_elim
     (⊎_elim
-      (λ e. inr (λ y p. subst (λ z. y ∈ leaves z) (sym e) p))
-      (λ i. inl (part_in_item region part item n (part_distinct q region d r) i h l k)))
+    (λ e. inr (λ y p. subst (λ z. y ∈ leaves z) (sym e) p))
+    (λ i. inl (part_in_item region part item n (part_distinct q region d r) i h l k)))
     (λ i. inr (region_within part region i))
     (nested q part region n d m r h (item_within region item n l k))

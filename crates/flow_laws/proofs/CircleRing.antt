@@ -1,10 +1,10 @@
 -- Where each member of a set of items waits for another, some of them wait in a ring.
-use Rattle.std.proofs.Common.{◌≡◌, ◌≢◌, ℕ, zero, suc, ◌+◌, ◌≤◌, ◌<◌, List, [], ◌∷◌, ◌++◌, ◌⊎◌, map, length, refl, sym, ap, ◌∙◌, subst, inl, inr, ⊎_elim, arith, append_assoc, append-nil, length-append}
+use Rattle.std.proofs.Common.{◌≡◌, ◌≢◌, ℕ, zero, suc, ◌≤◌, ◌<◌, List, [], ◌∷◌, ◌++◌, ◌⊎◌, map, length, refl, sym, ap, ◌∙◌, subst, inl, inr, ⊎_elim, arith, append_assoc, append-nil, length-append}
 use Rattle.std.proofs.lemmas.Bool.{cases_lt}
 use Rattle.flow_model.specs.Lists.{◌∈◌, Each, AreDistinct}
 use Rattle.flow_model.specs.Process.{Process}
 use Rattle.flow_model.specs.Circle.{ItemBefore, LeadsBackTo, IsRing, least_of, BeginsWithLeast}
-use Rattle.flow_laws.proofs.ListLemmas1.{Decided, decide_mem, decide_list_eq, mem_left, mem_right, mem_append, mem_here, mem_with, mem_without, split_at, each_of, each_at, Apart, distinct_left, distinct_right, distinct_apart, distinct_append, not_elsewhere}
+use Rattle.flow_laws.proofs.ListLemmas1.{decide_mem, decide_list_eq, mem_left, mem_right, mem_append, mem_here, mem_with, mem_without, split_at, distinct_left, distinct_right, distinct_apart, distinct_append, not_elsewhere}
 
 -- two or more distinct items among these, in a ring
 pub record RingAmong (q : Process) (pairs : List (ℕ × ℕ)) (items : List (List ℕ)) (ring : List (List ℕ)) : Type 0 where
@@ -56,13 +56,15 @@ module _ (q : Process) (pairs : List (ℕ × ℕ)) where
     close_ring item more d c among other m b =
         let s = split_at other more m in
         let ring = item ∷ (s.0 ++ other ∷ []) in
-        let laid : more ≡ (s.0 ++ other ∷ []) ++ s.1 = s.2 ∙ sym (append_assoc s.0 (other ∷ []) s.1) in
-        (ring, record {
-          members = λ i k. among i (⊎_elim inl (λ l. inr (subst (λ z. i ∈ z) (sym laid) (mem_left i (s.0 ++ other ∷ []) s.1 l))) k);
-          distinct = distinct_left ring s.1 (subst (λ z. AreDistinct (item ∷ z)) laid d);
-          two = omega (arith, length-append s.0 (other ∷ []));
-          closed = chain_back item item s.0 other s.1 (subst (λ z. IsChain (item ∷ z)) s.2 c) b
-        })
+        let laid : more ≡ (s.0 ++ other ∷ []) ++ s.1 = s.2 ∙ sym (append_assoc s.0 (other ∷ []) s.1) in (
+          ring,
+          record {
+            members = λ i k. among i (⊎_elim inl (λ l. inr (subst (λ z. i ∈ z) (sym laid) (mem_left i (s.0 ++ other ∷ []) s.1 l))) k);
+            distinct = distinct_left ring s.1 (subst (λ z. AreDistinct (item ∷ z)) laid d);
+            two = omega (arith, length-append s.0 (other ∷ []));
+            closed = chain_back item item s.0 other s.1 (subst (λ z. IsChain (item ∷ z)) s.2 c) b;
+          },
+        )
 
     -- from a chain that has passed all but these items
     abbrev WalksFrom : List (List ℕ) → Type 0
@@ -74,21 +76,21 @@ module _ (q : Process) (pairs : List (ℕ × ℕ)) where
     walk_step left on item more d c among h all =
         let e = earlier item (among item (inl refl)) h in
         ⊎_elim
-          (⊎_elim (λ i. absurd (e.3 i)) (λ m. close_ring item more d c among e.0 m e.4))
-          (λ fresh. ⊎_elim (λ m. next e.0 e.1 e.2 e.4 fresh (split_at e.0 left m)) (λ m. absurd (fresh m)) (all e.0 e.1))
-          (decide_mem decide_list_eq e.0 (item ∷ more))
+        (⊎_elim (λ i. absurd (e.3 i)) (λ m. close_ring item more d c among e.0 m e.4))
+        (λ fresh. ⊎_elim (λ m. next e.0 e.1 e.2 e.4 fresh (split_at e.0 left m)) (λ m. absurd (fresh m)) (all e.0 e.1))
+        (decide_mem decide_list_eq e.0 (item ∷ more))
       where
         next : (other : List ℕ) → other ∈ items → Waits other → ItemBefore q pairs other item → ¬ (other ∈ (item ∷ more)) →
             (front back : List (List ℕ)) × (left ≡ front ++ other ∷ back) → (ring : List (List ℕ)) × RingAmong q pairs items ring
         next other m waits b fresh (front, back, e) =
             let shorter : suc (length (front ++ back)) ≡ length left = omega (arith, ap length e, length-append front (other ∷ back), length-append front back) in
             on (front ++ back) shorter other (item ∷ more) (fresh, d) (b, c)
-              (λ i k. ⊎_elim (λ f. subst (λ z. z ∈ items) (sym f) m) (among i) k)
-              waits
-              (λ i k. ⊎_elim
-                (λ l. ⊎_elim (λ f. inr (inl f)) inl (mem_with i other front back (subst (λ z. i ∈ z) e l)))
-                (λ l. inr (inr l))
-                (all i k))
+            (λ i k. ⊎_elim (λ f. subst (λ z. z ∈ items) (sym f) m) (among i) k)
+            waits
+            (λ i k. ⊎_elim
+            (λ l. ⊎_elim (λ f. inr (inl f)) inl (mem_with i other front back (subst (λ z. i ∈ z) e l)))
+            (λ l. inr (inr l))
+            (all i k))
 
     walk : (k : ℕ) (left : List (List ℕ)) → length left ≤ k → WalksFrom left
     walk zero left n = walk_step left (λ fewer e. absurd (omega arith))
@@ -114,10 +116,11 @@ each_least bound (x ∷ list) f = (f x (inl refl), each_least bound list (λ z m
 
 turned_distinct : {A : Type 0} (front : List A) (item : A) (back : List A) → AreDistinct (front ++ item ∷ back) → AreDistinct (item ∷ (back ++ front))
 turned_distinct front item back d =
-    let alone = not_elsewhere front back item d in
-    (λ m. ⊎_elim alone.1 alone.0 (mem_append item back front m),
+    let alone = not_elsewhere front back item d in (
+      λ m. ⊎_elim alone.1 alone.0 (mem_append item back front m),
       distinct_append back front (distinct_right front (item ∷ back) d).1 (distinct_left front (item ∷ back) d)
-        (λ x h k. distinct_apart front (item ∷ back) d x k (inr h)))
+          (λ x h k. distinct_apart front (item ∷ back) d x k (inr h)),
+    )
 
 turned_member : {A : Type 0} (front : List A) (item : A) (back : List A) (x : A) → x ∈ (item ∷ (back ++ front)) → x ∈ (front ++ item ∷ back)
 turned_member front item back x (inl e) = subst (λ z. z ∈ (front ++ item ∷ back)) (sym e) (mem_here item front back)
@@ -136,12 +139,13 @@ ring_from_least q pairs items (x ∷ ring) r =
     from : (front back : List (List ℕ)) (item : List ℕ) → x ∷ ring ≡ front ++ item ∷ back → ((z : List ℕ) → z ∈ (x ∷ ring) → least_of item ≤ least_of z) →
         (turned : List (List ℕ)) × RingAmong q pairs items turned × BeginsWithLeast (map least_of turned)
     from front back item e least =
-        let old = λ (i : List ℕ) (k : i ∈ (item ∷ (back ++ front))). subst (λ z. i ∈ z) (sym e) (turned_member front item back i k) in
-        (item ∷ (back ++ front),
+        let old = λ (i : List ℕ) (k : i ∈ (item ∷ (back ++ front))). subst (λ z. i ∈ z) (sym e) (turned_member front item back i k) in (
+          item ∷ (back ++ front),
           record {
             members = λ i k. r.members i (old i k);
             distinct = turned_distinct front item back (subst AreDistinct e r.distinct);
             two = omega (arith, r.two, ap length e, length-append front (item ∷ back), length-append back front);
-            closed = turn_to q pairs front item back (subst (IsRing q pairs) e r.closed)
+            closed = turn_to q pairs front item back (subst (IsRing q pairs) e r.closed);
           },
-          each_least (least_of item) (back ++ front) (λ z m. least z (old z (inr m))))
+          each_least (least_of item) (back ++ front) (λ z m. least z (old z (inr m))),
+        )

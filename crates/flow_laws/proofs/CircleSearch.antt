@@ -1,11 +1,11 @@
 -- A ready run goes on, or some items of a part wait for each other.
-use Rattle.std.proofs.Common.{◌≡◌, ◌≢◌, ℕ, zero, suc, ◌+◌, ◌≤◌, ◌<◌, List, [], ◌∷◌, ◌++◌, ◌⊎◌, length, refl, sym, ap, ◌∙◌, subst, inl, inr, ⊎_elim, arith, append_assoc, length-append}
-use Rattle.flow_model.specs.Lists.{◌∈◌, Each, AreDistinct}
+use Rattle.std.proofs.Common.{◌≡◌, ◌≢◌, ℕ, zero, suc, ◌≤◌, List, [], ◌∷◌, ◌++◌, ◌⊎◌, refl, sym, ap, subst, inl, inr, ⊎_elim, arith}
+use Rattle.flow_model.specs.Lists.{◌∈◌}
 use Rattle.flow_model.specs.Process.{Process, Empty, Task, Sequence, Parallel, Choice, Isolated, leaves}
-use Rattle.flow_model.specs.Ready.{InSequence, DirectlyBefore, isolated_parts, IsReady, IsReadyRun, IsCompleteRun}
+use Rattle.flow_model.specs.Ready.{InSequence, DirectlyBefore, isolated_parts, IsReady, IsReadyRun}
 use Rattle.flow_model.specs.Circle.{items_of, ItemBefore}
 use Rattle.flow_laws.specs.Words.{IsOrdered}
-use Rattle.flow_laws.proofs.ListLemmas1.{Decided, decide_eq, decide_in, decide_mem, decide_not, decide_both, decide_either, decide_some, find_member, First, first_member, last_of, mem_left, mem_append}
+use Rattle.flow_laws.proofs.ListLemmas1.{Decided, decide_eq, decide_in, decide_mem, decide_not, decide_both, decide_either, decide_some, find_member, first_member, last_of, mem_left, mem_append}
 use Rattle.flow_laws.proofs.ReadyRemains.{part_within}
 use Rattle.flow_laws.proofs.ReadyRuns.{direct_first, direct_other, ready_at}
 use Rattle.flow_laws.proofs.CircleParts.{regions, IsWithin, region_within, part_of_region, nested, goal_size, part_smaller, item_kind, item_has, item_within, item_having, part_or_region}
@@ -73,7 +73,7 @@ module _ (q : Process) (pairs : List (ℕ × ℕ)) (w : IsOrdered q pairs) (run 
       let f = first_member (λ z. z ∈ leaves part) (λ z. decide_in z (leaves part)) run x l k in
       let r = ready_at q pairs f.front f.member f.back (subst (IsReadyRun q pairs) f.there ready) in
       λ u v n i b. subst (λ z. u ∈ z) (sym f.there)
-        (mem_left u f.front (f.member ∷ f.back) (r.begins part m f.holds (λ z g h. f.none_before z h g) u v n i b))
+      (mem_left u f.front (f.member ∷ f.back) (r.begins part m f.holds (λ z g h. f.none_before z h g) u v n i b))
 
   -- two caught parts both have the last leaf, so that one lies in the other
   caught_nested : (one two : Process) → one ∈ isolated_parts q → two ∈ isolated_parts q → IsCaught run one → IsCaught run two → IsWithin one two ⊎ IsWithin two one
@@ -85,14 +85,15 @@ module _ (q : Process) (pairs : List (ℕ × ℕ)) (w : IsOrdered q pairs) (run 
         where
           in_front : (x : ℕ) → x ∈ run → x ≢ last → x ∈ front
           in_front x k n = ⊎_elim (λ h. h) (⊎_elim (λ h. absurd (n h)) absurd) (mem_append x front (last ∷ []) (subst (λ z. x ∈ z) e k))
+
           has : (part : Process) → part ∈ isolated_parts q → IsCaught run part → last ∈ leaves part
           has part i ((x, x_in, x_done), (y, y_in, y_fresh)) = ⊎_elim (λ h. h)
-            (λ no.
+              (λ no.
               let r = ready_at q pairs front last [] (subst (IsReadyRun q pairs) e ready) in
               let x_front = in_front x x_done (λ h. no (subst (λ z. z ∈ leaves part) h x_in)) in
               let y_front = r.outside part i no x y x_in x_front y_in in
               absurd (y_fresh (subst (λ z. y ∈ z) (sym e) (mem_left y front (last ∷ []) y_front))))
-            (decide_in last (leaves part))
+              (decide_in last (leaves part))
 
   -- the innermost of the caught parts, or the whole goal
   record IsInnermost (list : List Process) (part : Process) : Type 0 where
@@ -113,11 +114,15 @@ module _ (q : Process) (pairs : List (ℕ × ℕ)) (w : IsOrdered q pairs) (run 
         where
           keep : IsWithin part p → (better : Process) × IsInnermost (p ∷ list) better
           keep h = (part, record { is_part = r.is_part; within = λ other m d. ⊎_elim (λ e. subst (IsWithin part) (sym e) h) (λ k. r.within other k d) m })
+
           inner : IsWithin p part → (better : Process) × IsInnermost (p ∷ list) better
-          inner h = (p, record {
+          inner h = (
+            p,
+            record {
               is_part = inr (f p (inl refl), c);
-              within = λ other m d. ⊎_elim (λ e. subst (IsWithin p) (sym e) (λ x k. k)) (λ k x i. r.within other k d x (h x i)) m
-            })
+              within = λ other m d. ⊎_elim (λ e. subst (IsWithin p) (sym e) (λ x k. k)) (λ k x i. r.within other k d x (h x i)) m;
+            },
+          )
 
   -- a region that may go on by itself: it is unfinished, lies in each caught part, and all around it are open
   record IsFree (part : Process) : Type 0 where
@@ -130,18 +135,21 @@ module _ (q : Process) (pairs : List (ℕ × ℕ)) (w : IsOrdered q pairs) (run 
   some_free u = at (innermost (isolated_parts q) (λ part m. m))
     where
       at : (part : Process) × IsInnermost (isolated_parts q) part → (part : Process) × IsFree part
-      at (part, r) = (part, record {
+      at (part, r) = (
+        part,
+        record {
           is_part = ⊎_elim inl (λ h. inr h.0) r.is_part;
           unfinished = ⊎_elim (λ e. subst (λ p. IsUnfinished run (leaves p)) (sym e) u) (λ h. h.1.1) r.is_part;
           within = r.within;
           around = λ other m k. ⊎_elim
-            (λ e. whole_open other (subst (IsWithin q) (sym e) (λ x i. i)))
-            (λ i. ⊎_elim
+              (λ e. whole_open other (subst (IsWithin q) (sym e) (λ x i. i)))
+              (λ i. ⊎_elim
               (λ e. whole_open other (subst (λ p. IsWithin p other) e k))
               (λ h. begun_open other i h.1.0.0 (k h.1.0.0 h.1.0.1) h.1.0.2)
               r.is_part)
-            m
-        })
+              m;
+        },
+      )
 
   -- a leaf of the region that is not done, and not of the item, is directly before the item
   abbrev IsBlocked : Process → List ℕ → Type 0
@@ -151,8 +159,8 @@ module _ (q : Process) (pairs : List (ℕ × ℕ)) (w : IsOrdered q pairs) (run 
   decide_blocked part item = decide_some
       (λ x. (¬ (x ∈ run) × ¬ (x ∈ item)) × ((y : ℕ) × (y ∈ item) × DirectlyBefore q pairs x y))
       (λ x. decide_both
-        (decide_both (decide_not (decide_in x run)) (decide_not (decide_in x item)))
-        (decide_some (λ y. DirectlyBefore q pairs x y) (λ y. decide_direct q pairs x y) item))
+      (decide_both (decide_not (decide_in x run)) (decide_not (decide_in x item)))
+      (decide_some (λ y. DirectlyBefore q pairs x y) (λ y. decide_direct q pairs x y) item))
       (leaves part)
 
   -- what is directly before an item that is not blocked is done
@@ -160,9 +168,9 @@ module _ (q : Process) (pairs : List (ℕ × ℕ)) (w : IsOrdered q pairs) (run 
       (x y : ℕ) → ¬ (x ∈ item) → y ∈ item → DirectlyBefore q pairs x y → x ∈ run
   item_waits part r item m n x y a b c = ⊎_elim (λ k. k)
       (λ fresh. ⊎_elim
-        (λ i. absurd (n (x, i, ((fresh, a), (y, b, c)))))
-        (λ no. r.around part r.is_part (λ z i. i) x y no (item_within part item y m b) c)
-        (decide_in x (leaves part)))
+      (λ i. absurd (n (x, i, ((fresh, a), (y, b, c)))))
+      (λ no. r.around part r.is_part (λ z i. i) x y no (item_within part item y m b) c)
+      (decide_in x (leaves part)))
       (decide_in x run)
 
   -- and so is what is directly before a part that has the item
@@ -171,21 +179,21 @@ module _ (q : Process) (pairs : List (ℕ × ℕ)) (w : IsOrdered q pairs) (run 
   item_open part r item m n other o within =
       let u = item_has part item m in
       ⊎_elim
-        (λ e. whole_open other (subst (IsWithin q) (sym e) (λ x i. i)))
-        (λ i. ⊎_elim
-          (λ inside x y a b c. item_waits part r item m n x y (λ h. a (within x h)) (inside y b) c)
-          (λ k. r.around other (inr i) k)
-          (part_or_region q part other item u.0 w.distinct r.is_part m u.1 i (within u.0 u.1)))
-        o
+      (λ e. whole_open other (subst (IsWithin q) (sym e) (λ x i. i)))
+      (λ i. ⊎_elim
+      (λ inside x y a b c. item_waits part r item m n x y (λ h. a (within x h)) (inside y b) c)
+      (λ k. r.around other (inr i) k)
+      (part_or_region q part other item u.0 w.distinct r.is_part m u.1 i (within u.0 u.1)))
+      o
 
   leaf_ready : (part : Process) → IsFree part → (n : ℕ) → (n ∷ []) ∈ items_of part → ¬ (n ∈ run) → ¬ (IsBlocked part (n ∷ [])) → IsReady q pairs (λ x. x ∈ run) n
   leaf_ready part r n m fresh free = record {
-      leaf = region_within q part r.is_part n here;
-      not_done = fresh;
-      before = λ x b. item_waits part r (n ∷ []) m free x n (λ h. direct_other q pairs w x n b (⊎_elim {C = x ≡ n} (λ e. e) absurd h)) (inl refl) b;
-      outside = λ p i no x y k d l. ⊎_elim (λ h. h) (λ f. absurd (no (r.within p i ((x, k, d), (y, l, f)) n here))) (decide_in y run);
-      begins = λ p i k none x y a b c. item_open part r (n ∷ []) m free p (inr i) (λ z h. ⊎_elim (λ e. subst (λ u. u ∈ leaves p) (sym e) k) absurd h) x y a b c
-    }
+    leaf = region_within q part r.is_part n here;
+    not_done = fresh;
+    before = λ x b. item_waits part r (n ∷ []) m free x n (λ h. direct_other q pairs w x n b (⊎_elim {C = x ≡ n} (λ e. e) absurd h)) (inl refl) b;
+    outside = λ p i no x y k d l. ⊎_elim (λ h. h) (λ f. absurd (no (r.within p i ((x, k, d), (y, l, f)) n here))) (decide_in y run);
+    begins = λ p i k none x y a b c. item_open part r (n ∷ []) m free p (inr i) (λ z h. ⊎_elim (λ e. subst (λ u. u ∈ leaves p) (sym e) k) absurd h) x y a b c;
+  }
     where
       here : n ∈ leaves part
       here = item_within part (n ∷ []) n m (inl refl)
@@ -193,26 +201,26 @@ module _ (q : Process) (pairs : List (ℕ × ℕ)) (w : IsOrdered q pairs) (run 
   part_free : (part : Process) → IsFree part → (inner : Process) → inner ∈ isolated_parts part → leaves inner ∈ items_of part → IsUnfinished run (leaves inner) →
       ¬ (IsBlocked part (leaves inner)) → IsFree inner
   part_free part r inner m k u n = record {
-      is_part = inr (part_of_region q part inner r.is_part m);
-      unfinished = u;
-      within = λ other i c x h. r.within other i c x (part_within part inner x m h);
-      around = λ other i h. item_open part r (leaves inner) k n other i h
-    }
+    is_part = inr (part_of_region q part inner r.is_part m);
+    unfinished = u;
+    within = λ other i c x h. r.within other i c x (part_within part inner x m h);
+    around = λ other i h. item_open part r (leaves inner) k n other i h;
+  }
 
   tangle_of : (part : Process) → IsFree part → ((item : List ℕ) → item ∈ items_of part → IsUnfinished run item → IsBlocked part item) → IsTangle q pairs run part
   tangle_of part r f = at (item_having part r.unfinished.0 r.unfinished.1)
     where
       at : (item : List ℕ) × (item ∈ items_of part) × (r.unfinished.0 ∈ item) → IsTangle q pairs run part
       at (start, m, h) = record {
-          is_part = r.is_part;
-          start = start;
-          start_item = m;
-          start_waits = (r.unfinished.0, h, r.unfinished.2);
-          earlier = λ item i u.
+        is_part = r.is_part;
+        start = start;
+        start_item = m;
+        start_waits = (r.unfinished.0, h, r.unfinished.2);
+        earlier = λ item i u.
             let b = f item i u in
             let o = item_having part b.0 b.1 in
-            (o.0, o.1, (b.0, o.2, b.2.0.0), λ e. b.2.0.1 (subst (λ z. b.0 ∈ z) e o.2), (b.0, b.2.1.0, o.2, b.2.1.1, b.2.1.2))
-        }
+            (o.0, o.1, (b.0, o.2, b.2.0.0), λ e. b.2.0.1 (subst (λ z. b.0 ∈ z) e o.2), (b.0, b.2.1.0, o.2, b.2.1.1, b.2.1.2));
+      }
 
   -- an unfinished item that is not blocked is a ready leaf or a free part
   step : (part : Process) → IsFree part →
@@ -227,11 +235,11 @@ module _ (q : Process) (pairs : List (ℕ × ℕ)) (w : IsOrdered q pairs) (run 
           ((n : ℕ) × IsReady q pairs (λ x. x ∈ run) n) ⊎ ((tangled : Process) × IsTangle q pairs run tangled)
       open_item item m u n = ⊎_elim
           (λ single.
-            let u' = subst (IsUnfinished run) single.1 u in
-            let is = ⊎_elim {C = u'.0 ≡ single.0} (λ e. e) absurd u'.1 in
-            inl (single.0, leaf_ready part r single.0 (subst (λ z. z ∈ items_of part) single.1 m) (λ h. u'.2 (subst (λ z. z ∈ run) (sym is) h)) (subst (λ z. ¬ (IsBlocked part z)) single.1 n)))
+          let u' = subst (IsUnfinished run) single.1 u in
+          let is = ⊎_elim {C = u'.0 ≡ single.0} (λ e. e) absurd u'.1 in
+          inl (single.0, leaf_ready part r single.0 (subst (λ z. z ∈ items_of part) single.1 m) (λ h. u'.2 (subst (λ z. z ∈ run) (sym is) h)) (subst (λ z. ¬ (IsBlocked part z)) single.1 n)))
           (λ whole. down whole.0 whole.1
-            (part_free part r whole.0 whole.1 (subst (λ z. z ∈ items_of part) whole.2 m) (subst (IsUnfinished run) whole.2 u) (subst (λ z. ¬ (IsBlocked part z)) whole.2 n)))
+          (part_free part r whole.0 whole.1 (subst (λ z. z ∈ items_of part) whole.2 m) (subst (IsUnfinished run) whole.2 u) (subst (λ z. ¬ (IsBlocked part z)) whole.2 n)))
           (item_kind part item m)
 
   -- down the parts

@@ -1,5 +1,5 @@
 -- Lists by their members and the places of these.
-use Rattle.std.proofs.Common.{◌≡◌, ◌≢◌, ℕ, zero, suc, ◌+◌, ◌≤◌, List, [], ◌∷◌, ◌++◌, ◌⊎◌, length, refl, sym, ap, ◌∙◌, subst, inl, inr, ⊎_elim, arith, append_assoc, length-append}
+use Rattle.std.proofs.Common.{◌≡◌, ◌≢◌, ℕ, List, [], ◌∷◌, ◌++◌, ◌⊎◌, refl, sym, ap, ◌∙◌, subst, inl, inr, ⊎_elim, append_assoc}
 use mathlib.Core.List.{List-discrete}
 use native.Mathlib.Decide.{ℕ_discrete}
 use Rattle.std.proofs.lemmas.Bool.{cases_eq}
@@ -124,33 +124,14 @@ first_member {A} P d (y ∷ list) x m p = at (d y) m (λ k. first_member P d lis
     at (inr n) (inl e) f = absurd (n (subst P e p))
     at (inr n) (inr k) f =
         let r = f k in
-        record { front = y ∷ r.front; back = r.back; member = r.member; there = ap (λ l. y ∷ l) r.there; holds = r.holds;
-          none_before = λ z h. ⊎_elim (λ e. λ q. n (subst P e q)) (r.none_before z) h }
-
--- the members with P
-pub record Picked {A : Type 0} (P : A → Type 0) (list : List A) : Type 0 where
-  pub members : List A
-  pub from_list : (x : A) → x ∈ members → x ∈ list
-  pub holds : (x : A) → x ∈ members → P x
-  pub all : (x : A) → x ∈ list → P x → x ∈ members
-
-pub members_with : {A : Type 0} (P : A → Type 0) → ((x : A) → Decided (P x)) → (list : List A) → Picked P list
-members_with P d [] = record { members = []; from_list = λ x m. absurd m; holds = λ x m. absurd m; all = λ x m. absurd m }
-members_with {A} P d (y ∷ list) = at (d y) (members_with P d list)
-  where
-    at : Decided (P y) → Picked P list → Picked P (y ∷ list)
-    at (inl p) r = record {
-      members = y ∷ r.members;
-      from_list = λ x m. ⊎_elim inl (λ k. inr (r.from_list x k)) m;
-      holds = λ x m. ⊎_elim (λ e. subst P (sym e) p) (λ k. r.holds x k) m;
-      all = λ x m q. ⊎_elim inl (λ k. inr (r.all x k q)) m
-    }
-    at (inr n) r = record {
-      members = r.members;
-      from_list = λ x m. inr (r.from_list x m);
-      holds = r.holds;
-      all = λ x m q. ⊎_elim (λ e. absurd (n (subst P e q))) (λ k. r.all x k q) m
-    }
+        record {
+          front = y ∷ r.front;
+          back = r.back;
+          member = r.member;
+          there = ap (λ l. y ∷ l) r.there;
+          holds = r.holds;
+          none_before = λ z h. ⊎_elim (λ e. λ q. n (subst P e q)) (r.none_before z) h;
+        }
 
 -- the last member of a list that has one
 pub last_of : {A : Type 0} (list : List A) (x : A) → x ∈ list → (front : List A) × (last : A) × (list ≡ front ++ last ∷ [])
@@ -187,11 +168,6 @@ pub not_elsewhere : {A : Type 0} (a b : List A) (x : A) → AreDistinct (a ++ x 
 not_elsewhere a b x d = (λ h. distinct_apart a (x ∷ b) d x h (inl refl), (distinct_right a (x ∷ b) d).0)
 
 -- who stands before whom
-
-pub before_first : {A : Type 0} (x y : A) (list : List A) → StandsBefore x y list → x ∈ list
-before_first x y [] h = h
-before_first x y (z ∷ list) (inl h) = inl h.0
-before_first x y (z ∷ list) (inr h) = inr (before_first x y list h)
 
 pub before_second : {A : Type 0} (x y : A) (list : List A) → StandsBefore x y list → y ∈ list
 before_second x y [] h = h

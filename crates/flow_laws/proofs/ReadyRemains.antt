@@ -1,9 +1,9 @@
 -- Leaves, order and parts of a goal, and of what remains of it after its first leaf.
-use Rattle.std.proofs.Common.{◌≡◌, ◌≢◌, ℕ, List, [], ◌∷◌, ◌++◌, ◌⊎◌, refl, sym, ap, ◌∙◌, subst, inl, inr, ⊎_elim}
+use Rattle.std.proofs.Common.{◌≡◌, ◌≢◌, ℕ, [], ◌++◌, ◌⊎◌, refl, sym, subst, inl, inr, ⊎_elim}
 use Rattle.flow_model.specs.Lists.{◌∈◌, AreDistinct}
 use Rattle.flow_model.specs.Process.{Process, Empty, Task, Sequence, Parallel, Choice, Isolated, leaves, IsChoiceFree}
 use Rattle.flow_model.specs.Ready.{InSequence, isolated_parts}
-use Rattle.flow_laws.proofs.ListLemmas1.{Decided, mem_left, mem_right, mem_append, decide_in, no_member, no_members, Apart, distinct_left, distinct_right, distinct_apart, distinct_append}
+use Rattle.flow_laws.proofs.ListLemmas1.{mem_left, mem_right, mem_append, no_member, no_members, Apart, distinct_left, distinct_right, distinct_apart, distinct_append}
 use Rattle.flow_laws.proofs.ReadySplit.{Split, task, sequence_left, sequence_right, parallel_left, parallel_right, isolated}
 
 -- a goal by itself
@@ -132,7 +132,7 @@ split_fresh g inner rest n d (sequence_left {a} {b} {rest = r} s) =
       not_rest = λ h. ⊎_elim f.not_rest (off n (split_here a inner r n s)) (mem_append n (leaves r) (leaves b) h);
       inner_distinct = f.inner_distinct;
       rest_distinct = distinct_append (leaves r) (leaves b) f.rest_distinct (distinct_right (leaves a) (leaves b) d) (λ x h k. off x (split_rest a inner r n s x h) k);
-      apart = λ x h k. ⊎_elim (f.apart x h) (off x (split_inner a inner r n s x h)) (mem_append x (leaves r) (leaves b) k)
+      apart = λ x h k. ⊎_elim (f.apart x h) (off x (split_inner a inner r n s x h)) (mem_append x (leaves r) (leaves b) k);
     }
 split_fresh g inner rest n d (sequence_right {a} {b} e s) = split_fresh b inner rest n (distinct_right (leaves a) (leaves b) d) s
 split_fresh g inner rest n d (parallel_left {a} {b} {rest = r} s) =
@@ -143,7 +143,7 @@ split_fresh g inner rest n d (parallel_left {a} {b} {rest = r} s) =
       not_rest = λ h. ⊎_elim f.not_rest (off n (split_here a inner r n s)) (mem_append n (leaves r) (leaves b) h);
       inner_distinct = f.inner_distinct;
       rest_distinct = distinct_append (leaves r) (leaves b) f.rest_distinct (distinct_right (leaves a) (leaves b) d) (λ x h k. off x (split_rest a inner r n s x h) k);
-      apart = λ x h k. ⊎_elim (f.apart x h) (off x (split_inner a inner r n s x h)) (mem_append x (leaves r) (leaves b) k)
+      apart = λ x h k. ⊎_elim (f.apart x h) (off x (split_inner a inner r n s x h)) (mem_append x (leaves r) (leaves b) k);
     }
 split_fresh g inner rest n d (parallel_right {a} {b} {rest = r} s) =
     let f = split_fresh b inner r n (distinct_right (leaves a) (leaves b) d) s in
@@ -153,7 +153,7 @@ split_fresh g inner rest n d (parallel_right {a} {b} {rest = r} s) =
       not_rest = λ h. ⊎_elim (λ k. off n k (split_here b inner r n s)) f.not_rest (mem_append n (leaves a) (leaves r) h);
       inner_distinct = f.inner_distinct;
       rest_distinct = distinct_append (leaves a) (leaves r) (distinct_left (leaves a) (leaves b) d) f.rest_distinct (λ x h k. off x h (split_rest b inner r n s x k));
-      apart = λ x h k. ⊎_elim (λ l. off x l (split_inner b inner r n s x h)) (f.apart x h) (mem_append x (leaves a) (leaves r) k)
+      apart = λ x h k. ⊎_elim (λ l. off x l (split_inner b inner r n s x h)) (f.apart x h) (mem_append x (leaves a) (leaves r) k);
     }
 split_fresh g inner rest n d (isolated {a} {inner = i} {rest = r} s) =
     let f = split_fresh a i r n d s in
@@ -162,7 +162,7 @@ split_fresh g inner rest n d (isolated {a} {inner = i} {rest = r} s) =
       not_rest = λ h. h;
       inner_distinct = distinct_append (leaves i) (leaves r) f.inner_distinct f.rest_distinct f.apart;
       rest_distinct = tt;
-      apart = λ x h k. k
+      apart = λ x h k. k;
     }
 
 -- what may come first
@@ -194,7 +194,7 @@ split_exists (Task m) n f (inr h) none = absurd h
 split_exists (Sequence a b) n f h none = ⊎_elim
     (λ k. let r = split_exists a n f.0 k (λ x l. none x (inl (inr l))) in (r.0, Sequence r.1 b, sequence_left r.2))
     (λ k. let r = split_exists b n f.1 k (λ x l. none x (inr l)) in
-      (r.0, r.1, sequence_right (no_members (leaves a) (λ x l. none x (inl (inl (l, k))))) r.2))
+    (r.0, r.1, sequence_right (no_members (leaves a) (λ x l. none x (inl (inl (l, k))))) r.2))
     (mem_append n (leaves a) (leaves b) h)
 split_exists (Parallel a b) n f h none = ⊎_elim
     (λ k. let r = split_exists a n f.0 k (λ x l. none x (inl l)) in (r.0, Parallel r.1 b, parallel_left r.2))
@@ -227,8 +227,11 @@ split_around g inner rest n d (sequence_left {a} {b} {rest = r} s) x h =
     let w = split_around a inner r n (distinct_left (leaves a) (leaves b) d) s x h in
     let off = distinct_apart (leaves a) (leaves b) d in
     record {
-      part = w.part; is_part = mem_left w.part (isolated_parts a) (isolated_parts b) w.is_part; has_n = w.has_n; has_x = w.has_x;
-      outside = λ y k l. ⊎_elim (λ m. w.outside y m l) (off y (part_within a w.part y w.is_part l)) (mem_append y (leaves r) (leaves b) k)
+      part = w.part;
+      is_part = mem_left w.part (isolated_parts a) (isolated_parts b) w.is_part;
+      has_n = w.has_n;
+      has_x = w.has_x;
+      outside = λ y k l. ⊎_elim (λ m. w.outside y m l) (off y (part_within a w.part y w.is_part l)) (mem_append y (leaves r) (leaves b) k);
     }
 split_around g inner rest n d (sequence_right {a} {b} e s) x h =
     let w = split_around b inner rest n (distinct_right (leaves a) (leaves b) d) s x h in
@@ -237,21 +240,29 @@ split_around g inner rest n d (parallel_left {a} {b} {rest = r} s) x h =
     let w = split_around a inner r n (distinct_left (leaves a) (leaves b) d) s x h in
     let off = distinct_apart (leaves a) (leaves b) d in
     record {
-      part = w.part; is_part = mem_left w.part (isolated_parts a) (isolated_parts b) w.is_part; has_n = w.has_n; has_x = w.has_x;
-      outside = λ y k l. ⊎_elim (λ m. w.outside y m l) (off y (part_within a w.part y w.is_part l)) (mem_append y (leaves r) (leaves b) k)
+      part = w.part;
+      is_part = mem_left w.part (isolated_parts a) (isolated_parts b) w.is_part;
+      has_n = w.has_n;
+      has_x = w.has_x;
+      outside = λ y k l. ⊎_elim (λ m. w.outside y m l) (off y (part_within a w.part y w.is_part l)) (mem_append y (leaves r) (leaves b) k);
     }
 split_around g inner rest n d (parallel_right {a} {b} {rest = r} s) x h =
     let w = split_around b inner r n (distinct_right (leaves a) (leaves b) d) s x h in
     let off = distinct_apart (leaves a) (leaves b) d in
     record {
-      part = w.part; is_part = mem_right w.part (isolated_parts a) (isolated_parts b) w.is_part; has_n = w.has_n; has_x = w.has_x;
-      outside = λ y k l. ⊎_elim (λ m. off y m (part_within b w.part y w.is_part l)) (λ m. w.outside y m l) (mem_append y (leaves a) (leaves r) k)
+      part = w.part;
+      is_part = mem_right w.part (isolated_parts a) (isolated_parts b) w.is_part;
+      has_n = w.has_n;
+      has_x = w.has_x;
+      outside = λ y k l. ⊎_elim (λ m. off y m (part_within b w.part y w.is_part l)) (λ m. w.outside y m l) (mem_append y (leaves a) (leaves r) k);
     }
 split_around g inner rest n d (isolated {a} {inner = i} {rest = r} s) x h = record {
-      part = a; is_part = inl refl; has_n = split_here a i r n s;
-      has_x = ⊎_elim (split_inner a i r n s x) (split_rest a i r n s x) (mem_append x (leaves i) (leaves r) h);
-      outside = λ y k l. k
-    }
+  part = a;
+  is_part = inl refl;
+  has_n = split_here a i r n s;
+  has_x = ⊎_elim (split_inner a i r n s x) (split_rest a i r n s x) (mem_append x (leaves i) (leaves r) h);
+  outside = λ y k l. k;
+}
 
 -- what remains of a begun part is held together by it
 pub split_holds_off : (g inner rest : Process) (n : ℕ) → AreDistinct (leaves g) → Split g n inner rest → (x y : ℕ) →
@@ -262,13 +273,21 @@ split_holds_off g inner rest n d s x y h k =
 
 holds_off_left : (a b g : Process) (n x y : ℕ) → isolated_parts g ≡ isolated_parts a ++ isolated_parts b → HoldsOff a n x y → HoldsOff g n x y
 holds_off_left a b g n x y e h = record {
-    part = h.part; is_part = rw e (mem_left h.part (isolated_parts a) (isolated_parts b) h.is_part); has_n = h.has_n; has_x = h.has_x; lacks_y = h.lacks_y
-  }
+  part = h.part;
+  is_part = rw e (mem_left h.part (isolated_parts a) (isolated_parts b) h.is_part);
+  has_n = h.has_n;
+  has_x = h.has_x;
+  lacks_y = h.lacks_y;
+}
 
 holds_off_right : (a b g : Process) (n x y : ℕ) → isolated_parts g ≡ isolated_parts a ++ isolated_parts b → HoldsOff b n x y → HoldsOff g n x y
 holds_off_right a b g n x y e h = record {
-    part = h.part; is_part = rw e (mem_right h.part (isolated_parts a) (isolated_parts b) h.is_part); has_n = h.has_n; has_x = h.has_x; lacks_y = h.lacks_y
-  }
+  part = h.part;
+  is_part = rw e (mem_right h.part (isolated_parts a) (isolated_parts b) h.is_part);
+  has_n = h.has_n;
+  has_x = h.has_x;
+  lacks_y = h.lacks_y;
+}
 
 holds_off_part : (a : Process) (n x y : ℕ) → HoldsOff a n x y → HoldsOff (Isolated a) n x y
 holds_off_part a n x y h = record { part = h.part; is_part = inr h.is_part; has_n = h.has_n; has_x = h.has_x; lacks_y = h.lacks_y }
@@ -381,7 +400,7 @@ split_mates_first g inner rest n d (parallel_right {a} {b} {rest = r} s) part m 
     (mem_append part (isolated_parts a) (isolated_parts b) m)
 split_mates_first g inner rest n d (isolated {a} {inner = i} {rest = r} s) part (inl e) k x y h p o l =
     absurd (o (subst (λ q. y ∈ leaves q) (sym e)
-      (⊎_elim (split_inner a i r n s y) (split_rest a i r n s y) (mem_append y (leaves i) (leaves r) l))))
+    (⊎_elim (split_inner a i r n s y) (split_rest a i r n s y) (mem_append y (leaves i) (leaves r) l))))
 split_mates_first g inner rest n d (isolated {a} {inner = i} {rest = r} s) part (inr m) k x y h p o l = ⊎_elim
     (λ q. inl (inr (split_mates_first a i r n d s part m k x y h p o q)))
     (λ q. inl (inl (split_mates a i r n d s part m k x h p, q)))
@@ -393,8 +412,8 @@ pub split_holds_off_order : (g inner rest : Process) (n : ℕ) → AreDistinct (
 split_holds_off_order g inner rest n d s x y h p k = ⊎_elim
     (λ e. absurd (h.lacks_y (subst (λ z. z ∈ leaves h.part) (sym e) h.has_n)))
     (⊎_elim
-      (λ l. inl (inr (split_mates_first g inner rest n d s h.part h.is_part h.has_n x y h.has_x p h.lacks_y l)))
-      (λ l. inl (inl (split_mates g inner rest n d s h.part h.is_part h.has_n x h.has_x p, l))))
+    (λ l. inl (inr (split_mates_first g inner rest n d s h.part h.is_part h.has_n x y h.has_x p h.lacks_y l)))
+    (λ l. inl (inl (split_mates g inner rest n d s h.part h.is_part h.has_n x h.has_x p, l))))
     (split_leaf g inner rest n s y k)
 
 -- parts
@@ -437,9 +456,9 @@ pub split_keeps_parts : (g inner rest : Process) (n : ℕ) → Split g n inner r
 split_keeps_parts g inner rest n task part m k x h = absurd m
 split_keeps_parts g inner rest n (sequence_left {a} {b} {rest = r} s) part m k x h = ⊎_elim
     (λ l. ⊎_elim
-      (λ q. mem_left part (isolated_parts inner) (isolated_parts r ++ isolated_parts b) q)
-      (λ q. mem_right part (isolated_parts inner) (isolated_parts r ++ isolated_parts b) (mem_left part (isolated_parts r) (isolated_parts b) q))
-      (mem_append part (isolated_parts inner) (isolated_parts r) (split_keeps_parts a inner r n s part l k x h)))
+    (λ q. mem_left part (isolated_parts inner) (isolated_parts r ++ isolated_parts b) q)
+    (λ q. mem_right part (isolated_parts inner) (isolated_parts r ++ isolated_parts b) (mem_left part (isolated_parts r) (isolated_parts b) q))
+    (mem_append part (isolated_parts inner) (isolated_parts r) (split_keeps_parts a inner r n s part l k x h)))
     (λ l. mem_right part (isolated_parts inner) (isolated_parts r ++ isolated_parts b) (mem_right part (isolated_parts r) (isolated_parts b) l))
     (mem_append part (isolated_parts a) (isolated_parts b) m)
 split_keeps_parts g inner rest n (sequence_right {a} {b} e s) part m k x h = ⊎_elim
@@ -448,17 +467,17 @@ split_keeps_parts g inner rest n (sequence_right {a} {b} e s) part m k x h = ⊎
     (mem_append part (isolated_parts a) (isolated_parts b) m)
 split_keeps_parts g inner rest n (parallel_left {a} {b} {rest = r} s) part m k x h = ⊎_elim
     (λ l. ⊎_elim
-      (λ q. mem_left part (isolated_parts inner) (isolated_parts r ++ isolated_parts b) q)
-      (λ q. mem_right part (isolated_parts inner) (isolated_parts r ++ isolated_parts b) (mem_left part (isolated_parts r) (isolated_parts b) q))
-      (mem_append part (isolated_parts inner) (isolated_parts r) (split_keeps_parts a inner r n s part l k x h)))
+    (λ q. mem_left part (isolated_parts inner) (isolated_parts r ++ isolated_parts b) q)
+    (λ q. mem_right part (isolated_parts inner) (isolated_parts r ++ isolated_parts b) (mem_left part (isolated_parts r) (isolated_parts b) q))
+    (mem_append part (isolated_parts inner) (isolated_parts r) (split_keeps_parts a inner r n s part l k x h)))
     (λ l. mem_right part (isolated_parts inner) (isolated_parts r ++ isolated_parts b) (mem_right part (isolated_parts r) (isolated_parts b) l))
     (mem_append part (isolated_parts a) (isolated_parts b) m)
 split_keeps_parts g inner rest n (parallel_right {a} {b} {rest = r} s) part m k x h = ⊎_elim
     (λ l. mem_right part (isolated_parts inner) (isolated_parts a ++ isolated_parts r) (mem_left part (isolated_parts a) (isolated_parts r) l))
     (λ l. ⊎_elim
-      (λ q. mem_left part (isolated_parts inner) (isolated_parts a ++ isolated_parts r) q)
-      (λ q. mem_right part (isolated_parts inner) (isolated_parts a ++ isolated_parts r) (mem_right part (isolated_parts a) (isolated_parts r) q))
-      (mem_append part (isolated_parts inner) (isolated_parts r) (split_keeps_parts b inner r n s part l k x h)))
+    (λ q. mem_left part (isolated_parts inner) (isolated_parts a ++ isolated_parts r) q)
+    (λ q. mem_right part (isolated_parts inner) (isolated_parts a ++ isolated_parts r) (mem_right part (isolated_parts a) (isolated_parts r) q))
+    (mem_append part (isolated_parts inner) (isolated_parts r) (split_keeps_parts b inner r n s part l k x h)))
     (mem_append part (isolated_parts a) (isolated_parts b) m)
 split_keeps_parts g inner rest n (isolated {a} {inner = i} {rest = r} s) part (inl e) k x h =
     absurd (k (subst (λ q. n ∈ leaves q) (sym e) (split_here a i r n s)))

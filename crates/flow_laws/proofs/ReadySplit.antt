@@ -1,10 +1,9 @@
 -- What remains of a goal without choices after its first leaf.
-use Rattle.std.proofs.Common.{◌≡◌, ◌≢◌, ℕ, List, [], ◌∷◌, ◌++◌, ◌⊎◌, refl, sym, ap, ◌∙◌, subst, inl, inr, ⊎_elim, append_assoc, append-nil}
-use Rattle.flow_model.specs.Lists.{◌∈◌, AreDistinct, joined}
+use Rattle.std.proofs.Common.{◌≡◌, ℕ, List, [], ◌∷◌, ◌++◌, ◌⊎◌, refl, sym, ap, ◌∙◌, subst, inl, inr, ⊎_elim}
+use Rattle.flow_model.specs.Lists.{joined}
 use Rattle.flow_model.specs.Process.{Process, Empty, Task, Sequence, Parallel, Choice, Isolated, leaves, IsChoiceFree}
-use Rattle.flow_model.specs.Trace.{Shuffle, both_end, from_left, from_right, as_one, Blocks, Trace}
-use Rattle.flow_model.specs.Ready.{InSequence, isolated_parts}
-use Rattle.flow_laws.proofs.ListLemmas1.{Decided, mem_left, mem_right, mem_append, decide_in, Apart, distinct_left, distinct_right, distinct_apart, distinct_append, joined_append}
+use Rattle.flow_model.specs.Trace.{Shuffle, both_end, from_left, from_right, Blocks, Trace}
+use Rattle.flow_laws.proofs.ListLemmas1.{joined_append}
 
 -- Leaf n may come first; `inner` remains of the outermost isolated part that it begins, and must be done
 -- first, and `rest` is what follows.
@@ -74,9 +73,11 @@ split_blocks g inner rest n x y f (parallel_left {a} {b} {rest = r} s) p q =
     ((n ∷ joined x) ∷ q.0, q.1, split_blocks a inner r n x q.0 f.0 s p q.2, q.3, from_left q.4)
 split_blocks g inner rest n x y f (parallel_right {a} {b} {rest = r} s) p q =
     (q.0, (n ∷ joined x) ∷ q.1, q.2, split_blocks b inner r n x q.1 f.1 s p q.3, from_right q.4)
-split_blocks g inner rest n x y f (isolated {a} {inner = i} {rest = r} s) p q =
-    ((n ∷ joined p.0) ∷ p.1, split_blocks a i r n p.0 p.1 f s p.2 p.3,
-      rw (q, p.4, joined_append p.0 p.1))
+split_blocks g inner rest n x y f (isolated {a} {inner = i} {rest = r} s) p q = (
+  (n ∷ joined p.0) ∷ p.1,
+  split_blocks a i r n p.0 p.1 f s p.2 p.3,
+  rw (q, p.4, joined_append p.0 p.1),
+)
 
 -- the first block of an execution of the goal
 pub record FirstBlock (g : Process) (block : List ℕ) (more : List (List ℕ)) : Type 0 where
@@ -95,31 +96,70 @@ first_block (Task n) block more f h =
     record { leaf = n; inner = Empty; rest = Empty; blocks = []; split = task; is_block = cc; of_inner = refl; of_rest = cc }
 first_block (Sequence a b) block more f ([], y, p, q, e) =
     let r = first_block b block more f.1 (subst (λ z. Blocks b z) (sym e) q) in
-    record { leaf = r.leaf; inner = r.inner; rest = r.rest; blocks = r.blocks; split = sequence_right (no_blocks a f.0 p) r.split;
-      is_block = r.is_block; of_inner = r.of_inner; of_rest = r.of_rest }
+    record {
+      leaf = r.leaf;
+      inner = r.inner;
+      rest = r.rest;
+      blocks = r.blocks;
+      split = sequence_right (no_blocks a f.0 p) r.split;
+      is_block = r.is_block;
+      of_inner = r.of_inner;
+      of_rest = r.of_rest;
+    }
 first_block (Sequence a b) block more f (c ∷ x, y, p, q, e) =
     let r = first_block a c x f.0 p in
     let here : block ≡ c = cc in
-    record { leaf = r.leaf; inner = r.inner; rest = Sequence r.rest b; blocks = r.blocks; split = sequence_left r.split;
-      is_block = here ∙ r.is_block; of_inner = r.of_inner; of_rest = (x, y, r.of_rest, q, cc) }
+    record {
+      leaf = r.leaf;
+      inner = r.inner;
+      rest = Sequence r.rest b;
+      blocks = r.blocks;
+      split = sequence_left r.split;
+      is_block = here ∙ r.is_block;
+      of_inner = r.of_inner;
+      of_rest = (x, y, r.of_rest, q, cc);
+    }
 first_block (Parallel a b) block more f (x, y, p, q, s) = ⊎_elim
     (λ l.
-      let r = first_block a block l.0 f.0 (subst (λ z. Blocks a z) l.1 p) in
-      record { leaf = r.leaf; inner = r.inner; rest = Parallel r.rest b; blocks = r.blocks; split = parallel_left r.split;
-        is_block = r.is_block; of_inner = r.of_inner; of_rest = (l.0, y, r.of_rest, q, l.2) })
+    let r = first_block a block l.0 f.0 (subst (λ z. Blocks a z) l.1 p) in
+    record {
+      leaf = r.leaf;
+      inner = r.inner;
+      rest = Parallel r.rest b;
+      blocks = r.blocks;
+      split = parallel_left r.split;
+      is_block = r.is_block;
+      of_inner = r.of_inner;
+      of_rest = (l.0, y, r.of_rest, q, l.2);
+    })
     (λ l.
-      let r = first_block b block l.0 f.1 (subst (λ z. Blocks b z) l.1 q) in
-      record { leaf = r.leaf; inner = r.inner; rest = Parallel a r.rest; blocks = r.blocks; split = parallel_right r.split;
-        is_block = r.is_block; of_inner = r.of_inner; of_rest = (x, l.0, p, r.of_rest, l.2) })
+    let r = first_block b block l.0 f.1 (subst (λ z. Blocks b z) l.1 q) in
+    record {
+      leaf = r.leaf;
+      inner = r.inner;
+      rest = Parallel a r.rest;
+      blocks = r.blocks;
+      split = parallel_right r.split;
+      is_block = r.is_block;
+      of_inner = r.of_inner;
+      of_rest = (x, l.0, p, r.of_rest, l.2);
+    })
     (shuffle_cons s)
 first_block (Choice a b) block more f h = absurd f
 first_block (Isolated a) block more f ([], p, e) = cc
 first_block (Isolated a) block more f (c ∷ x, p, e) =
     let r = first_block a c x f p in
     let whole : block ≡ c ++ joined x = cc in
-    record { leaf = r.leaf; inner = Sequence r.inner r.rest; rest = Empty; blocks = r.blocks ++ x; split = isolated r.split;
+    record {
+      leaf = r.leaf;
+      inner = Sequence r.inner r.rest;
+      rest = Empty;
+      blocks = r.blocks ++ x;
+      split = isolated r.split;
       is_block = whole ∙ ap (λ l. l ++ joined x) r.is_block ∙ ap (λ l. r.leaf ∷ l) (sym (joined_append r.blocks x));
-      of_inner = (r.blocks, x, r.of_inner, r.of_rest, refl); of_rest = cc }
+      of_inner = (r.blocks, x, r.of_inner, r.of_rest, refl);
+      of_rest = cc;
+    }
 
 -- an execution begins with a leaf that may come first, and goes on with what remains
 pub trace_split : (g : Process) (n : ℕ) (t : List ℕ) → IsChoiceFree g → Trace g (n ∷ t) →
@@ -129,17 +169,22 @@ trace_split g n t f (block ∷ more, h, e) =
     let r = first_block g block more f h in
     let joint : n ∷ t ≡ r.leaf ∷ (joined r.blocks ++ joined more) = e ∙ ap (λ l. l ++ joined more) r.is_block in
     let here : r.leaf ≡ n = cc in
-    let tail : t ≡ joined r.blocks ++ joined more = cc in
-    (r.inner, r.rest, subst (λ m. Split g m r.inner r.rest) here r.split,
-      (r.blocks ++ more, (r.blocks, more, r.of_inner, r.of_rest, refl), tail ∙ sym (joined_append r.blocks more)))
+    let tail : t ≡ joined r.blocks ++ joined more = cc in (
+      r.inner,
+      r.rest,
+      subst (λ m. Split g m r.inner r.rest) here r.split,
+      (r.blocks ++ more, (r.blocks, more, r.of_inner, r.of_rest, refl), tail ∙ sym (joined_append r.blocks more)),
+    )
 
 -- and conversely
 pub split_trace : (g inner rest : Process) (n : ℕ) (t : List ℕ) → IsChoiceFree g → Split g n inner rest → Trace (Sequence inner rest) t → Trace g (n ∷ t)
 split_trace g inner rest n t f s h =
     let x = h.1.0 in
-    let y = h.1.1 in
-    ((n ∷ joined x) ∷ y, split_blocks g inner rest n x y f s h.1.2 h.1.3,
-      ap (λ l. n ∷ l) (h.2 ∙ ap joined h.1.4 ∙ joined_append x y))
+    let y = h.1.1 in (
+      (n ∷ joined x) ∷ y,
+      split_blocks g inner rest n x y f s h.1.2 h.1.3,
+      ap (λ l. n ∷ l) (h.2 ∙ ap joined h.1.4 ∙ joined_append x y),
+    )
 
 -- the empty list is an execution of the goals with no leaf, and of no other
 pub trace_nil : (g : Process) → IsChoiceFree g → Trace g [] → leaves g ≡ []
