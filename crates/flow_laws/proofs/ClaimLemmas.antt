@@ -1,10 +1,10 @@
 -- The current claims before and after one is answered.
-use Rattle.std.proofs.Common.{◌≡◌, ℕ, ◌+◌, ◌<◌, ◌≤◌, ◌⊎◌, Bool, true, false, not, ◌&&◌, ◌==◌, nat_lt, cond, if◌then◌else◌, IsTrue, IsSomeAnd, List, [], ◌∷◌, ◌++◌, map, length, filter, find, refl, sym, ap, ◌∙◌, subst, inl, inr, Option, Some, None, true≢false, arith}
-use Rattle.std.proofs.lemmas.Bool.{eqb-true, ltb-true, eqb-false}
+use Rattle.std.proofs.Common.{◌≡◌, ℕ, ◌+◌, ◌<◌, ◌≤◌, Bool, true, false, not, ◌&&◌, ◌==◌, nat_lt, cond, if◌then◌else◌, IsSomeAnd, List, [], ◌∷◌, ◌++◌, map, length, filter, find, refl, sym, ap, ◌∙◌, subst, inl, inr, Option, Some, None, true≢false, arith}
+use Rattle.std.proofs.lemmas.Bool.{eqb-true, ltb-true}
 use Rattle.std.proofs.lemmas.Bool.Decides.{eqb_tells}
 use Rattle.std.proofs.lemmas.List.{length-map}
 use Rattle.flow_model.specs.Lists.{◌∈◌, Each, AreDistinct}
-use Rattle.flow_model.specs.Run.{Claim, RunState, claim_at, leaf_of_claim, IsCurrent, IsLapsed, is_current, is_lapsed, answer, current_claims, current_leaves}
+use Rattle.flow_model.specs.Run.{Claim, RunState, claim_at, leaf_of_claim, answer}
 use Rattle.flow_laws.proofs.ListLemmas2.{some_same}
 
 abbrev pub number_of : Claim → ℕ

@@ -1,13 +1,13 @@
 -- Two leaves stand in one execution exactly where the least goal above them is no choice.
 use Rattle.std.proofs.Common.{◌≡◌, ◌≢◌, ℕ, ◌⊎◌, List, [], ◌∷◌, ◌++◌, length, refl, sym, ap, ◌∙◌, subst, inl, inr, Some}
-use Rattle.flow_model.specs.Lists.{◌∈◌, AreDistinct, joined, numbers_from}
+use Rattle.flow_model.specs.Lists.{◌∈◌, AreDistinct, joined}
 use Rattle.flow_model.specs.Process.{Process, Empty, Task, Sequence, Parallel, Choice, Isolated, leaves, IsNumbered}
-use Rattle.flow_model.specs.Trace.{Blocks, Trace, Shuffle, both_end, from_left, from_right, as_one}
-use Rattle.flow_model.specs.Facts.{event_at, events_of}
+use Rattle.flow_model.specs.Trace.{Blocks, Shuffle, both_end, from_left, from_right, as_one}
+use Rattle.flow_model.specs.Facts.{event_at}
 use Rattle.flow_model.specs.Schema.{Schema, HasUniqueEvents}
 use Rattle.flow_laws.specs.Events.{AreTogether}
 use Rattle.flow_laws.proofs.ListLemmas2.{mem_append_left, mem_append_right, mem-append, joined-append, distinct_parts, distinct-filter_map, distinct-numbers_from, same_source}
-use Rattle.flow_laws.proofs.TraceLemmas2.{joined-as_one, of_shuffle, mem_shuffle_left, mem_shuffle_right, leaf_of_trace, distinct_trace}
+use Rattle.flow_laws.proofs.TraceLeaves.{joined-as_one, of_shuffle, leaf_of_trace, distinct_trace}
 
 -- Executions that hold given leaves
 

@@ -1,16 +1,16 @@
 -- Good executions are those of the options.
-use Rattle.std.proofs.Common.{◌≡◌, ℕ, ◌⊎◌, ◌↔◌, true, List, [], ◌∷◌, refl, sym, subst, inl, inr}
+use Rattle.std.proofs.Common.{ℕ, ◌↔◌, true, List, [], ◌∷◌}
 use Rattle.flow_model.specs.declared.labels.Label.{Label}
-use Rattle.flow_model.specs.Lists.{◌∈◌, Each, AreDistinct, AreInOrder}
+use Rattle.flow_model.specs.Lists.{◌∈◌, Each}
 use Rattle.flow_model.specs.Process.{leaves}
 use Rattle.flow_model.specs.Trace.{Trace}
 use Rattle.flow_model.specs.Facts.{events_of}
 use Rattle.flow_model.specs.Constraint.{Constraint, Always, And, Meets, all_of}
 use Rattle.flow_model.specs.Ways.{normal_form, ways_of}
 use Rattle.flow_model.specs.Schema.{Schema, IsGood}
-use Rattle.flow_model.specs.Resolution.{ChoiceOption, OptionTrace, options, resolutions}
+use Rattle.flow_model.specs.Resolution.{ChoiceOption, OptionTrace, options}
 use Rattle.flow_laws.specs.Words.{IsWellFormed}
-use Rattle.flow_laws.proofs.TraceLemmas2.{leaf_of_trace, leaf_in_trace}
+use Rattle.flow_laws.proofs.TraceLeaves.{leaf_of_trace, leaf_in_trace}
 use Rattle.flow_laws.proofs.ResolutionsLemmas.{blocks_of_a_resolution, resolves_of, choice_free_resolution, goal_trace}
 use Rattle.flow_laws.proofs.OptionsLemmas.{option_parts, mem-options}
 use Rattle.flow_laws.proofs.NormalForms.{normal_form_is}

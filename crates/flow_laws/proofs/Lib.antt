@@ -1,5 +1,6 @@
+pub mod ListLemmas1
 pub mod ListLemmas2
-pub mod TraceLemmas2
+pub mod TraceLeaves
 pub mod ResolutionsLemmas
 pub mod WaysLemmas
 pub mod OptionsLemmas
@@ -7,12 +8,6 @@ pub mod NormalForms
 pub mod WaysDecide
 pub mod GoodTraces
 pub mod EventsLemmas
-pub mod FollowingLemmas
-pub mod ClaimLemmas
-pub mod RunLemmas
-pub mod SoundStates
-pub mod NeverAtALoss
-pub mod ListLemmas1
 pub mod ReadySplit
 pub mod ReadyRemains
 pub mod ReadyOrders
@@ -23,3 +18,8 @@ pub mod CircleExcludes
 pub mod CircleRing
 pub mod CircleSearch
 pub mod CircleOrTrace
+pub mod FollowingLemmas
+pub mod RunLemmas
+pub mod ClaimLemmas
+pub mod SoundStates
+pub mod NeverAtALoss

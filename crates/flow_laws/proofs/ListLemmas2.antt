@@ -1,6 +1,5 @@
 -- Facts on lists in the words of the model: members, fronts, orders.
-use Rattle.std.proofs.Common.{◌≡◌, ℕ, zero, suc, ◌+◌, ◌*◌, ◌<◌, ◌≤◌, ◌⊎◌, ◌↔◌, List, [], ◌∷◌, ◌++◌, map, length, refl, sym, ap, ◌∙◌, subst, inl, inr, append_assoc, append-nil, flat_map, arith, slice_get, Some, None, option_map, zero-add, suc-add, zero-mul, length-append, le_of_eq, Bool, true, false, cond, find, ◌≢◌, Option, filter_map, ◌==◌, ◌||◌, IsTrue, true≢false, filter}
-use Rattle.std.proofs.lemmas.Bool.{eqb-true, eq-eqb}
+use Rattle.std.proofs.Common.{◌≡◌, ℕ, zero, suc, ◌+◌, ◌*◌, ◌<◌, ◌≤◌, ◌⊎◌, List, [], ◌∷◌, ◌++◌, map, length, refl, sym, ap, ◌∙◌, subst, inl, inr, append_assoc, append-nil, flat_map, arith, slice_get, Some, None, option_map, zero-add, suc-add, zero-mul, length-append, le_of_eq, Bool, true, false, cond, find, ◌≢◌, Option, filter_map, filter}
 use Rattle.std.specs.List.{cons_option}
 use Rattle.std.proofs.lemmas.Bool.Decides.{eqb_tells}
 use Rattle.std.proofs.lemmas.List.{length-map}
@@ -97,36 +96,6 @@ slice_get-each_with_each f (z ∷ xs) ys (suc i) j x y e k =
     ∙ (slice_get_append_right (map (f z) ys) _ (i * length ys + j)
     ∙ slice_get-each_with_each f xs ys i j x y e k)
 
--- Distinct members
-
-pub distinct_parts : {A : Type 0} (a b : List A) → AreDistinct (a ++ b) →
-    AreDistinct a × AreDistinct b × ((x : A) → x ∈ a → ¬ (x ∈ b))
-distinct_parts [] b d = (tt, d, λ x h. absurd h)
-distinct_parts {A} (y ∷ a) b (new, d) =
-    let (da, db, apart) = distinct_parts a b d in
-    let out : (x : A) → x ∈ (y ∷ a) → ¬ (x ∈ b) = λ x h k. elim h [
-      | inl e ↦ new (mem_append_right y a b (subst (λ w. w ∈ b) e k))
-      | inr m ↦ apart x m k
-    ] in
-    ((λ h. new (mem_append_left y a b h), da), db, out)
-
-pub distinct-append : {A : Type 0} (a b : List A) → AreDistinct a → AreDistinct b → ((x : A) → x ∈ a → ¬ (x ∈ b)) → AreDistinct (a ++ b)
-distinct-append [] b da db apart = db
-distinct-append (y ∷ a) b (new, da) db apart = (
-  λ h. elim (mem-append y a b h) [ inl m ↦ new m | inr m ↦ apart y (inl refl) m ],
-  distinct-append a b da db (λ x m. apart x (inr m)),
-)
-
-pub numbers_from_least : (first count n : ℕ) → n ∈ numbers_from first count → first ≤ n
-numbers_from_least first zero n h = absurd h
-numbers_from_least first (suc count) n (inl e) = le_of_eq (sym e)
-numbers_from_least first (suc count) n (inr h) = omega (arith, numbers_from_least (first + 1) count n h)
-
-pub distinct-numbers_from : (first count : ℕ) → AreDistinct (numbers_from first count)
-distinct-numbers_from first zero = tt
-distinct-numbers_from first (suc count) =
-    (λ h. omega (arith, numbers_from_least (first + 1) count first h), distinct-numbers_from (first + 1) count)
-
 -- Lists joined
 
 pub joined-append : {A : Type 0} (xs ys : List (List A)) → joined (xs ++ ys) ≡ joined xs ++ joined ys
@@ -167,6 +136,68 @@ pub each_from_members : {A : Type 0} (P : A → Type 0) (xs : List A) → ((x : 
 each_from_members P [] h = tt
 each_from_members P (y ∷ ys) h = (h y (inl refl), each_from_members P ys (λ x m. h x (inr m)))
 
+pub each_to : {A : Type 0} (P Q : A → Type 0) (xs : List A) → ((x : A) → P x → Q x) → Each P xs → Each Q xs
+each_to P Q [] to h = tt
+each_to P Q (x ∷ xs) to (h, t) = (to x h, each_to P Q xs to t)
+
+-- what has Q and passes the test has P
+pub each-filter : {A : Type 0} (P Q : A → Type 0) (p : A → Bool) (xs : List A) → ((x : A) → p x ≡ true → Q x → P x) →
+    Each Q xs → Each P (filter p xs)
+each-filter P Q p [] to h = tt
+each-filter {A} P Q p (x ∷ xs) to (h, t) = step (p x) refl (each-filter P Q p xs to t)
+  where
+    step : (b : Bool) → p x ≡ b → Each P (filter p xs) → Each P (cond b (x ∷ filter p xs) (filter p xs))
+    step true e k = (to x e h, k)
+    step false e k = k
+
+-- Distinct members
+
+pub distinct_parts : {A : Type 0} (a b : List A) → AreDistinct (a ++ b) →
+    AreDistinct a × AreDistinct b × ((x : A) → x ∈ a → ¬ (x ∈ b))
+distinct_parts [] b d = (tt, d, λ x h. absurd h)
+distinct_parts {A} (y ∷ a) b (new, d) =
+    let (da, db, apart) = distinct_parts a b d in
+    let out : (x : A) → x ∈ (y ∷ a) → ¬ (x ∈ b) = λ x h k. elim h [
+      | inl e ↦ new (mem_append_right y a b (subst (λ w. w ∈ b) e k))
+      | inr m ↦ apart x m k
+    ] in
+    ((λ h. new (mem_append_left y a b h), da), db, out)
+
+pub distinct-append : {A : Type 0} (a b : List A) → AreDistinct a → AreDistinct b → ((x : A) → x ∈ a → ¬ (x ∈ b)) → AreDistinct (a ++ b)
+distinct-append [] b da db apart = db
+distinct-append (y ∷ a) b (new, da) db apart = (
+  λ h. elim (mem-append y a b h) [ inl m ↦ new m | inr m ↦ apart y (inl refl) m ],
+  distinct-append a b da db (λ x m. apart x (inr m)),
+)
+
+-- Numbers in a row
+
+pub numbers_from_least : (first count n : ℕ) → n ∈ numbers_from first count → first ≤ n
+numbers_from_least first zero n h = absurd h
+numbers_from_least first (suc count) n (inl e) = le_of_eq (sym e)
+numbers_from_least first (suc count) n (inr h) = omega (arith, numbers_from_least (first + 1) count n h)
+
+pub numbers_from_below : (first count n : ℕ) → n ∈ numbers_from first count → n < first + count
+numbers_from_below first zero n h = absurd h
+numbers_from_below first (suc count) n (inl e) = omega arith
+numbers_from_below first (suc count) n (inr h) = omega (arith, numbers_from_below (first + 1) count n h)
+
+pub numbers_from_more : (first count : ℕ) → numbers_from first (suc count) ≡ numbers_from first count ++ (first + count) ∷ []
+numbers_from_more first zero = let e : first ≡ first + zero = omega arith in ap (λ n. n ∷ []) e
+numbers_from_more first (suc count) =
+    let e : (first + 1) + count ≡ first + suc count = omega arith in
+    ap (λ w. first ∷ w) (numbers_from_more (first + 1) count ∙ ap (λ n. numbers_from (first + 1) count ++ n ∷ []) e)
+
+pub distinct-numbers_from : (first count : ℕ) → AreDistinct (numbers_from first count)
+distinct-numbers_from first zero = tt
+distinct-numbers_from first (suc count) =
+    (λ h. omega (arith, numbers_from_least (first + 1) count first h), distinct-numbers_from (first + 1) count)
+
+-- What is found
+
+pub some_same : {A : Type 0} (a b : A) → Some a ≡ Some b → a ≡ b
+some_same a b e = cc
+
 pub of_find : {A : Type 0} (p : A → Bool) (xs : List A) (x : A) → find p xs ≡ Some x → (x ∈ xs) × (p x ≡ true)
 of_find p [] x e = cc
 of_find {A} p (y ∷ ys) x e = step (p y) refl e (of_find p ys x)
@@ -175,6 +206,16 @@ of_find {A} p (y ∷ ys) x e = step (p y) refl e (of_find p ys x)
         (x ∈ (y ∷ ys)) × (p x ≡ true)
     step true h k rest = let same : y ≡ x = cc in (inl (sym same), subst (λ z. p z ≡ true) same h)
     step false h k rest = let (m, i) = rest k in (inr m, i)
+
+pub not_found : {A : Type 0} (p : A → Bool) (xs : List A) (x : A) → find p xs ≡ None → x ∈ xs → ¬ (p x ≡ true)
+not_found p [] x e m h = m
+not_found {A} p (y ∷ ys) x e m h = step (p y) refl e m (not_found p ys x)
+  where
+    step : (t : Bool) → p y ≡ t → cond t (Some y) (find p ys) ≡ None → x ∈ (y ∷ ys) →
+        (find p ys ≡ None → x ∈ ys → ¬ (p x ≡ true)) → ⊥
+    step true k i l rest = cc
+    step false k i (inl same) rest = let bad : true ≡ false = sym h ∙ (ap p same ∙ k) in cc
+    step false k i (inr l) rest = rest i l h
 
 -- Which stands before which
 
@@ -196,6 +237,8 @@ one_before x y (z ∷ t) (inl e) (inl i) d = absurd (d (e ∙ sym i))
 one_before x y (z ∷ t) (inl e) (inr k) d = inl (inl (e, k))
 one_before x y (z ∷ t) (inr h) (inl i) d = inr (inl (i, h))
 one_before x y (z ∷ t) (inr h) (inr k) d = elim (one_before x y t h k d) [ inl m ↦ inl (inr m) | inr m ↦ inr (inr m) ]
+
+-- Whether or not
 
 pub equal_or_not : (x y : ℕ) → (x ≡ y) ⊎ (x ≢ y)
 equal_or_not x y = elim (eqb_tells x y) [ inl h ↦ inl h.1 | inr h ↦ inr h.1 ]
@@ -271,9 +314,6 @@ of_before-filter_map {A} {B} h a b (z ∷ t) s = step (h z) refl s (of_before-fi
         let (y, m, j) = of_filter_map h b t l.1 in (z, (y, inl (refl, m), k ∙ ap Some (sym l.0), j))
     step (Some w) k (inr l) rest = let (x, (y, c, i, j)) = rest l in (x, (y, inr c, i, j))
 
-pub some_same : {A : Type 0} (a b : A) → Some a ≡ Some b → a ≡ b
-some_same a b e = cc
-
 -- where what it keeps is distinct, two members that map to the same are one
 pub same_source : {A B : Type 0} (h : A → Option B) (t : List A) → AreDistinct (filter_map h t) →
     (x y : A) (a : B) → x ∈ t → y ∈ t → h x ≡ Some a → h y ≡ Some a → x ≡ y
@@ -294,16 +334,6 @@ same_source {A} {B} h (z ∷ t) d x y a m k i j = step (h z) refl d m k (same_so
         let same : a ≡ w = some_same a w (sym j ∙ (ap h q ∙ l)) in
         absurd (e.0 (subst (λ v. v ∈ filter_map h t) same (mem-filter_map h x a t p i)))
 
-pub not_found : {A : Type 0} (p : A → Bool) (xs : List A) (x : A) → find p xs ≡ None → x ∈ xs → ¬ (p x ≡ true)
-not_found p [] x e m h = m
-not_found {A} p (y ∷ ys) x e m h = step (p y) refl e m (not_found p ys x)
-  where
-    step : (t : Bool) → p y ≡ t → cond t (Some y) (find p ys) ≡ None → x ∈ (y ∷ ys) →
-        (find p ys ≡ None → x ∈ ys → ¬ (p x ≡ true)) → ⊥
-    step true k i l rest = cc
-    step false k i (inl same) rest = let bad : true ≡ false = sym h ∙ (ap p same ∙ k) in cc
-    step false k i (inr l) rest = rest i l h
-
 -- where no two different members map to the same, what is kept is distinct
 pub distinct-filter_map : {A B : Type 0} (h : A → Option B) (t : List A) → AreDistinct t →
     ((x y : A) (e : B) → x ∈ t → y ∈ t → x ≢ y → h x ≡ Some e → h y ≢ Some e) → AreDistinct (filter_map h t)
@@ -319,40 +349,7 @@ distinct-filter_map {A} {B} h (z ∷ t) (new, d) apart =
       rest,
     )
 
-pub each_to : {A : Type 0} (P Q : A → Type 0) (xs : List A) → ((x : A) → P x → Q x) → Each P xs → Each Q xs
-each_to P Q [] to h = tt
-each_to P Q (x ∷ xs) to (h, t) = (to x h, each_to P Q xs to t)
-
--- Orders and fronts
-
-pub same_order : {A : Type 0} (xs : List A) → IsOrderOf xs xs
-same_order [] = refl
-same_order (x ∷ xs) = ([], xs, refl, same_order xs)
-
-pub begins_front : {A : Type 0} (t front more : List A) → Begins t (front ++ more) → Begins t front
-begins_front t front more (rest, e) = (more ++ rest, e ∙ append_assoc front more rest)
-
--- whether the number is a member
-abbrev pub is_member : List ℕ → ℕ → Bool
-is_member [] n = false
-is_member (x ∷ xs) n = (n == x) || is_member xs n
-
-pub mem_of_test : (xs : List ℕ) (n : ℕ) → IsTrue (is_member xs n) → n ∈ xs
-mem_of_test [] n h = absurd (true≢false (sym h))
-mem_of_test (x ∷ xs) n h = step (n == x) refl h (mem_of_test xs n)
-  where
-    step : (t : Bool) → (n == x) ≡ t → IsTrue (t || is_member xs n) → (IsTrue (is_member xs n) → n ∈ xs) → n ∈ (x ∷ xs)
-    step true e k rest = inl (eqb-true n x e)
-    step false e k rest = inr (rest k)
-
-pub test_of_mem : (xs : List ℕ) (n : ℕ) → n ∈ xs → IsTrue (is_member xs n)
-test_of_mem [] n m = absurd m
-test_of_mem (x ∷ xs) n (inl e) = subst (λ t. IsTrue (t || is_member xs n)) (sym (eq-eqb n x e)) refl
-test_of_mem (x ∷ xs) n (inr m) = step (n == x) (test_of_mem xs n m)
-  where
-    step : (t : Bool) → IsTrue (is_member xs n) → IsTrue (t || is_member xs n)
-    step true k = refl
-    step false k = k
+-- Fronts and orders
 
 pub cons_same : {A : Type 0} (x y : A) (xs ys : List A) → x ∷ xs ≡ y ∷ ys → (x ≡ y) × (xs ≡ ys)
 cons_same x y xs ys e = (let h : x ≡ y = cc in h, let t : xs ≡ ys = cc in t)
@@ -361,13 +358,27 @@ pub not_empty : {A : Type 0} (front : List A) (x : A) (back : List A) → ¬ ([]
 not_empty [] x back e = cc
 not_empty (y ∷ front) x back e = cc
 
-pub empty_parts : {A : Type 0} (a b : List A) → a ++ b ≡ [] → (a ≡ []) × (b ≡ [])
-empty_parts [] b e = (refl, e)
-empty_parts (x ∷ a) b e = let bad : x ∷ (a ++ b) ≡ [] = e in absurd (not_empty [] x (a ++ b) (sym bad))
+pub begins_front : {A : Type 0} (t front more : List A) → Begins t (front ++ more) → Begins t front
+begins_front t front more (rest, e) = (more ++ rest, e ∙ append_assoc front more rest)
+
+pub begins_and_nothing : {A : Type 0} (t front : List A) → Begins t front → Begins t (front ++ [])
+begins_and_nothing t front (rest, e) = (rest, e ∙ ap (λ w. w ++ rest) (sym (append-nil front)))
+
+pub same_order : {A : Type 0} (xs : List A) → IsOrderOf xs xs
+same_order [] = refl
+same_order (x ∷ xs) = ([], xs, refl, same_order xs)
 
 pub order_of_none : {A : Type 0} (order : List A) → IsOrderOf order [] → order ≡ []
 order_of_none [] h = refl
 order_of_none (x ∷ order) (front, back, e, h) = absurd (not_empty front x back e)
+
+pub order_of_one : {A : Type 0} (order : List A) (x : A) → IsOrderOf order (x ∷ []) → order ≡ x ∷ []
+order_of_one [] x h = absurd (not_empty [] x [] (sym h))
+order_of_one (y ∷ order) x ([], back, e, h) =
+    let (same, none) = cons_same x y [] back e in
+    ap (λ w. y ∷ w) (order_of_none order (subst (IsOrderOf order) (sym none) h)) ∙ ap (λ z. z ∷ []) (sym same)
+order_of_one (y ∷ order) x (z ∷ front, back, e, h) =
+    absurd (not_empty front y back (cons_same x z [] (front ++ y ∷ back) e).1)
 
 -- one list cut in two ways: the marked member is in the first half or in the second
 pub two_cuts : {A : Type 0} (a b front : List A) (y : A) (back : List A) → a ++ b ≡ front ++ y ∷ back →
@@ -405,35 +416,3 @@ order_with_last (y ∷ order) x a b (front, back, e, h) = elim (two_cuts a b fro
         (subst (IsOrderOf order) (ap (λ w. w ++ back) k.1 ∙ append_assoc a k.0 back) h)),
   )
 ]
-
-pub numbers_from_more : (first count : ℕ) → numbers_from first (suc count) ≡ numbers_from first count ++ (first + count) ∷ []
-numbers_from_more first zero = let e : first ≡ first + zero = omega arith in ap (λ n. n ∷ []) e
-numbers_from_more first (suc count) =
-    let e : (first + 1) + count ≡ first + suc count = omega arith in
-    ap (λ w. first ∷ w) (numbers_from_more (first + 1) count ∙ ap (λ n. numbers_from (first + 1) count ++ n ∷ []) e)
-
-pub begins_and_nothing : {A : Type 0} (t front : List A) → Begins t front → Begins t (front ++ [])
-begins_and_nothing t front (rest, e) = (rest, e ∙ ap (λ w. w ++ rest) (sym (append-nil front)))
-
--- what has Q and passes the test has P
-pub each-filter : {A : Type 0} (P Q : A → Type 0) (p : A → Bool) (xs : List A) → ((x : A) → p x ≡ true → Q x → P x) →
-    Each Q xs → Each P (filter p xs)
-each-filter P Q p [] to h = tt
-each-filter {A} P Q p (x ∷ xs) to (h, t) = step (p x) refl (each-filter P Q p xs to t)
-  where
-    step : (b : Bool) → p x ≡ b → Each P (filter p xs) → Each P (cond b (x ∷ filter p xs) (filter p xs))
-    step true e k = (to x e h, k)
-    step false e k = k
-
-pub numbers_from_below : (first count n : ℕ) → n ∈ numbers_from first count → n < first + count
-numbers_from_below first zero n h = absurd h
-numbers_from_below first (suc count) n (inl e) = omega arith
-numbers_from_below first (suc count) n (inr h) = omega (arith, numbers_from_below (first + 1) count n h)
-
-pub order_of_one : {A : Type 0} (order : List A) (x : A) → IsOrderOf order (x ∷ []) → order ≡ x ∷ []
-order_of_one [] x h = absurd (not_empty [] x [] (sym h))
-order_of_one (y ∷ order) x ([], back, e, h) =
-    let (same, none) = cons_same x y [] back e in
-    ap (λ w. y ∷ w) (order_of_none order (subst (IsOrderOf order) (sym none) h)) ∙ ap (λ z. z ∷ []) (sym same)
-order_of_one (y ∷ order) x (z ∷ front, back, e, h) =
-    absurd (not_empty front y back (cons_same x z [] (front ++ y ∷ back) e).1)

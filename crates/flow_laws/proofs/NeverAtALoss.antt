@@ -1,16 +1,15 @@
 -- A legal history that goes on has a claim out, or a next leaf.
-use Rattle.std.proofs.Common.{◌≡◌, ℕ, ◌+◌, ◌<◌, ◌⊎◌, false, true, is_some, List, [], ◌∷◌, ◌++◌, map, length, refl, sym, ap, ◌∙◌, subst, inl, inr, Option, Some, None, append_assoc, append-nil, arith}
+use Rattle.std.proofs.Common.{◌≡◌, ℕ, ◌<◌, ◌⊎◌, is_some, List, [], ◌∷◌, ◌++◌, map, length, refl, sym, ap, ◌∙◌, subst, inl, inr, Option, Some, None, append_assoc, append-nil, arith}
 use Rattle.flow_model.specs.declared.history.Entry.{Entry}
 use Rattle.flow_model.specs.Lists.{◌∈◌, Each, Begins, IsOrderOf, numbers_from}
-use Rattle.flow_model.specs.Process.{leaves}
 use Rattle.flow_model.specs.Facts.{event_at}
 use Rattle.flow_model.specs.Schema.{Schema, IsGood}
 use Rattle.flow_model.specs.Resolution.{ChoiceOption, OptionTrace, options}
-use Rattle.flow_model.specs.Run.{Claim, RunState, first_state, state_of, current_claims, current_leaves, database, IsFree, MayFollow, CanTake, CanDoAside, IsLegal, IsStuck}
+use Rattle.flow_model.specs.Run.{Claim, RunState, first_state, state_of, current_claims, current_leaves, database, IsFree, CanTake, CanDoAside, IsLegal, IsStuck}
 use Rattle.flow_laws.specs.Words.{IsWellFormed, IsConsistent}
 use Rattle.flow_laws.specs.Histories.{IsSound, NeverWaits}
-use Rattle.flow_laws.proofs.ListLemmas2.{mem_append_right, order_of_none, order_of_one, same_order, numbers_from_below}
-use Rattle.flow_laws.proofs.TraceLemmas2.{leaf_of_trace}
+use Rattle.flow_laws.proofs.ListLemmas2.{mem_append_right, order_of_none, order_of_one, numbers_from_below}
+use Rattle.flow_laws.proofs.TraceLeaves.{leaf_of_trace}
 use Rattle.flow_laws.proofs.RunLemmas.{always_holds}
 use Rattle.flow_laws.proofs.SoundStates.{first_is_kept, kept_from}
 

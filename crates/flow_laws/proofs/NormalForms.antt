@@ -1,5 +1,5 @@
 -- Constraints and their normal forms are true of the same lists.
-use Rattle.std.proofs.Common.{◌≡◌, ℕ, ◌⊎◌, ◌↔◌, true, false, List, [], ◌∷◌, inl, inr}
+use Rattle.std.proofs.Common.{ℕ, ◌⊎◌, ◌↔◌, true, false, List, [], ◌∷◌, inl, inr}
 use Rattle.flow_model.specs.Lists.{◌∈◌, StandsBefore}
 use Rattle.flow_model.specs.Constraint.{Constraint, Always, Impossible, Must, Never, Order, Not, And, Or, Meets, HappenInOrder}
 use Rattle.flow_model.specs.Ways.{Normal, always, impossible, must, never, before, not_before, both, either, normal_form, chain, broken_chain}

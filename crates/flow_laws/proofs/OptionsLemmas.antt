@@ -1,14 +1,14 @@
 -- Options: what each has.
-use Rattle.std.proofs.Common.{◌≡◌, ◌≢◌, ℕ, List, [], ◌∷◌, length, refl, sym, ap, ◌∙◌, subst, inl, inr, Some, map, flat_map, subst₂, true}
-use Rattle.flow_model.specs.Lists.{◌∈◌, Each, AreDistinct, AreInOrder, numbers_from}
-use Rattle.flow_model.specs.Process.{Process, leaves, IsNumbered}
+use Rattle.std.proofs.Common.{◌≡◌, ◌≢◌, ℕ, List, length, sym, ap, subst, Some, subst₂, true}
+use Rattle.flow_model.specs.Lists.{◌∈◌, AreDistinct}
+use Rattle.flow_model.specs.Process.{Process, leaves}
 use Rattle.flow_model.specs.Facts.{event_at}
 use Rattle.flow_model.specs.Constraint.{all_of}
 use Rattle.flow_model.specs.Ways.{normal_form, leaf_of_event}
 use Rattle.flow_model.specs.Schema.{Schema}
 use Rattle.flow_model.specs.Resolution.{ChoiceOption, options, options_in, ways_in, resolutions}
 use Rattle.flow_laws.specs.Words.{IsWellFormed, IsOrdered}
-use Rattle.flow_laws.proofs.ListLemmas2.{of_flat_map, of_map, mem-flat_map, mem-map, distinct-numbers_from, each_from_members, each_member}
+use Rattle.flow_laws.proofs.ListLemmas2.{of_flat_map, of_map, mem-flat_map, mem-map, distinct-numbers_from}
 use Rattle.flow_laws.proofs.ResolutionsLemmas.{resolves_of, choice_free_resolution, distinct_leaves_of_resolution}
 use Rattle.flow_laws.proofs.WaysLemmas.{each_pair, leaf_of_event_is}
 

@@ -1,13 +1,13 @@
 -- Resolutions: whose executions they have, which they are, and what their leaves are.
-use Rattle.std.proofs.Common.{◌≡◌, ℕ, zero, suc, ◌+◌, ◌*◌, ◌⊎◌, ◌↔◌, List, [], ◌∷◌, ◌++◌, map, length, refl, sym, ap, ap₂, ◌∙◌, subst, inl, inr, arith, slice_get, Some, option_map, length-append}
+use Rattle.std.proofs.Common.{◌≡◌, ℕ, ◌+◌, ◌*◌, ◌↔◌, List, [], ◌++◌, length, refl, sym, ap₂, ◌∙◌, subst, subst₂, inl, inr, slice_get, Some, length-append}
 use Rattle.std.proofs.lemmas.List.{length-map}
-use Rattle.flow_model.specs.Lists.{◌∈◌, AreDistinct, joined, each_with_each}
+use Rattle.flow_model.specs.Lists.{◌∈◌, AreDistinct, each_with_each}
 use Rattle.flow_model.specs.Process.{Process, Empty, Task, Sequence, Parallel, Choice, Isolated, leaves, IsChoiceFree}
-use Rattle.flow_model.specs.Trace.{Blocks, Trace, Shuffle, both_end, from_left, from_right, as_one}
+use Rattle.flow_model.specs.Trace.{Blocks, Trace}
 use Rattle.flow_model.specs.Resolution.{resolutions, resolution_count}
 use Rattle.flow_laws.specs.Resolutions.{Resolves}
-use Rattle.flow_laws.proofs.ListLemmas2.{mem_append_left, mem_append_right, mem-append, mem-map, of_map, mem-each_with_each, of_each_with_each, length-each_with_each, slice_get-each_with_each, slice_get_append_left, slice_get_append_right, distinct_parts, distinct-append, within_left, within_right}
-use Rattle.flow_laws.proofs.TraceLemmas2.{blocks_of_no_leaf, no_leaf_has_no_blocks, leaf_of_trace, leaf_in_trace}
+use Rattle.flow_laws.proofs.ListLemmas2.{mem_append_left, mem_append_right, mem-append, mem-map, of_map, mem-each_with_each, of_each_with_each, length-each_with_each, slice_get-each_with_each, slice_get_append_right, distinct_parts, distinct-append, within_left, within_right}
+use Rattle.flow_laws.proofs.TraceLeaves.{blocks_of_no_leaf, no_leaf_has_no_blocks, leaf_of_trace, leaf_in_trace}
 
 -- Executions
 
@@ -160,70 +160,69 @@ distinct_leaves_of_resolution (Isolated a) q (x, h, e) d =
 
 -- Resolutions with the same leaves
 
+abbrev pub HaveSameLeaves : Process → Process → Type 0
+HaveSameLeaves p q = (n : ℕ) → (n ∈ leaves p) ↔ (n ∈ leaves q)
+
 pub no_common_leaf : (p q : Process) (a b : List ℕ) → ((n : ℕ) → n ∈ a → ¬ (n ∈ b)) →
     ((n : ℕ) → n ∈ leaves p → n ∈ a) → ((n : ℕ) → n ∈ leaves q → n ∈ b) →
-    ((n : ℕ) → n ∈ leaves p → n ∈ leaves q) → ((n : ℕ) → n ∈ leaves q → n ∈ leaves p) →
-    (bs : List (List ℕ)) → Blocks p bs → Blocks q bs
-no_common_leaf p q a b apart of_a of_b to from bs h =
-    let none : (n : ℕ) → ¬ (n ∈ leaves p) = λ n m. apart n (of_a n m) (of_b n (to n m)) in
+    HaveSameLeaves p q → (bs : List (List ℕ)) → Blocks p bs → Blocks q bs
+no_common_leaf p q a b apart of_a of_b same bs h =
+    let none : (n : ℕ) → ¬ (n ∈ leaves p) = λ n m. apart n (of_a n m) (of_b n ((same n).0 m)) in
     let is_none : bs ≡ [] = blocks_of_no_leaf p none bs h in
-    subst (Blocks q) (sym is_none) (no_leaf_has_no_blocks q (λ n m. none n (from n m)))
+    subst (Blocks q) (sym is_none) (no_leaf_has_no_blocks q (λ n m. none n ((same n).1 m)))
 
--- the first as executed, then the second has the same blocks
-pub same_blocks : (g : Process) → AreDistinct (leaves g) → (p q : Process) → Resolves g p → Resolves g q →
-    ((n : ℕ) → n ∈ leaves p → n ∈ leaves q) → ((n : ℕ) → n ∈ leaves q → n ∈ leaves p) →
+-- two resolutions of two parts that both stay
+pub same_halves : (a b x y u v : Process) → AreDistinct (leaves a ++ leaves b) →
+    Resolves a x → Resolves b y → Resolves a u → Resolves b v →
+    HaveSameLeaves (Sequence x y) (Sequence u v) → HaveSameLeaves x u × HaveSameLeaves y v
+same_halves a b x y u v d hx hy hu hv same =
+    let (da, db, apart) = distinct_parts (leaves a) (leaves b) d in
+    let there = λ (n : ℕ). (same n).0 in
+    let back = λ (n : ℕ). (same n).1 in
+    let of_x = mem-leaves_of_goal a x hx in
+    let of_y = mem-leaves_of_goal b y hy in
+    let of_u = mem-leaves_of_goal a u hu in
+    let of_v = mem-leaves_of_goal b v hv in (
+      λ n. (
+        within_left (leaves a) (leaves b) (leaves x) (leaves y) (leaves u) (leaves v) apart of_x of_v there n,
+        within_left (leaves a) (leaves b) (leaves u) (leaves v) (leaves x) (leaves y) apart of_u of_y back n,
+      ),
+      λ n. (
+        within_right (leaves a) (leaves b) (leaves x) (leaves y) (leaves u) (leaves v) apart of_u of_y there n,
+        within_right (leaves a) (leaves b) (leaves u) (leaves v) (leaves x) (leaves y) apart of_x of_v back n,
+      ),
+    )
+
+-- two resolutions with the same leaves have the same blocks
+pub same_blocks : (g : Process) → AreDistinct (leaves g) → (p q : Process) → Resolves g p → Resolves g q → HaveSameLeaves p q →
     (bs : List (List ℕ)) → Blocks p bs → Blocks q bs
-same_blocks Empty d p q e i to from bs h = subst (λ s. Blocks s bs) (e ∙ sym i) h
-same_blocks (Task n) d p q e i to from bs h = subst (λ s. Blocks s bs) (e ∙ sym i) h
-same_blocks (Sequence a b) d p q (x, y, hx, hy, e) (u, v, hu, hv, i) to from bs h =
+same_blocks Empty d p q e i same bs h = subst (λ s. Blocks s bs) (e ∙ sym i) h
+same_blocks (Task n) d p q e i same bs h = subst (λ s. Blocks s bs) (e ∙ sym i) h
+same_blocks (Sequence a b) d p q (x, y, hx, hy, e) (u, v, hu, hv, i) same bs h =
     let (da, db, apart) = distinct_parts (leaves a) (leaves b) d in
-    let there : (n : ℕ) → n ∈ (leaves x ++ leaves y) → n ∈ (leaves u ++ leaves v) =
-    λ n m. subst (λ s. n ∈ leaves s) i (to n (subst (λ s. n ∈ leaves s) (sym e) m)) in
-    let back : (n : ℕ) → n ∈ (leaves u ++ leaves v) → n ∈ (leaves x ++ leaves y) =
-    λ n m. subst (λ s. n ∈ leaves s) e (from n (subst (λ s. n ∈ leaves s) (sym i) m)) in
+    let (first, second) = same_halves a b x y u v d hx hy hu hv (subst₂ HaveSameLeaves e i same) in
     let (xs, ys, kx, ky, j) = subst (λ s. Blocks s bs) e h in
-    let bx : Blocks u xs = same_blocks a da x u hx hu
-    (within_left (leaves a) (leaves b) (leaves x) (leaves y) (leaves u) (leaves v) apart (mem-leaves_of_goal a x hx) (mem-leaves_of_goal b v hv) there)
-    (within_left (leaves a) (leaves b) (leaves u) (leaves v) (leaves x) (leaves y) apart (mem-leaves_of_goal a u hu) (mem-leaves_of_goal b y hy) back)
-    xs kx in
-    let by : Blocks v ys = same_blocks b db y v hy hv
-    (within_right (leaves a) (leaves b) (leaves x) (leaves y) (leaves u) (leaves v) apart (mem-leaves_of_goal a u hu) (mem-leaves_of_goal b y hy) there)
-    (within_right (leaves a) (leaves b) (leaves u) (leaves v) (leaves x) (leaves y) apart (mem-leaves_of_goal a x hx) (mem-leaves_of_goal b v hv) back)
-    ys ky in
-    subst (λ s. Blocks s bs) (sym i) (xs, ys, bx, by, j)
-same_blocks (Parallel a b) d p q (x, y, hx, hy, e) (u, v, hu, hv, i) to from bs h =
+    subst (λ s. Blocks s bs) (sym i)
+    (xs, ys, same_blocks a da x u hx hu first xs kx, same_blocks b db y v hy hv second ys ky, j)
+same_blocks (Parallel a b) d p q (x, y, hx, hy, e) (u, v, hu, hv, i) same bs h =
     let (da, db, apart) = distinct_parts (leaves a) (leaves b) d in
-    let there : (n : ℕ) → n ∈ (leaves x ++ leaves y) → n ∈ (leaves u ++ leaves v) =
-    λ n m. subst (λ s. n ∈ leaves s) i (to n (subst (λ s. n ∈ leaves s) (sym e) m)) in
-    let back : (n : ℕ) → n ∈ (leaves u ++ leaves v) → n ∈ (leaves x ++ leaves y) =
-    λ n m. subst (λ s. n ∈ leaves s) e (from n (subst (λ s. n ∈ leaves s) (sym i) m)) in
+    let (first, second) = same_halves a b x y u v d hx hy hu hv (subst₂ HaveSameLeaves e i same) in
     let (xs, ys, kx, ky, j) = subst (λ s. Blocks s bs) e h in
-    let bx : Blocks u xs = same_blocks a da x u hx hu
-    (within_left (leaves a) (leaves b) (leaves x) (leaves y) (leaves u) (leaves v) apart (mem-leaves_of_goal a x hx) (mem-leaves_of_goal b v hv) there)
-    (within_left (leaves a) (leaves b) (leaves u) (leaves v) (leaves x) (leaves y) apart (mem-leaves_of_goal a u hu) (mem-leaves_of_goal b y hy) back)
-    xs kx in
-    let by : Blocks v ys = same_blocks b db y v hy hv
-    (within_right (leaves a) (leaves b) (leaves x) (leaves y) (leaves u) (leaves v) apart (mem-leaves_of_goal a u hu) (mem-leaves_of_goal b y hy) there)
-    (within_right (leaves a) (leaves b) (leaves u) (leaves v) (leaves x) (leaves y) apart (mem-leaves_of_goal a x hx) (mem-leaves_of_goal b v hv) back)
-    ys ky in
-    subst (λ s. Blocks s bs) (sym i) (xs, ys, bx, by, j)
-same_blocks (Choice a b) d p q (inl e) (inl i) to from bs h =
-    same_blocks a (distinct_parts (leaves a) (leaves b) d).0 p q e i to from bs h
-same_blocks (Choice a b) d p q (inr e) (inr i) to from bs h =
-    same_blocks b (distinct_parts (leaves a) (leaves b) d).1 p q e i to from bs h
-same_blocks (Choice a b) d p q (inl e) (inr i) to from bs h =
+    subst (λ s. Blocks s bs) (sym i)
+    (xs, ys, same_blocks a da x u hx hu first xs kx, same_blocks b db y v hy hv second ys ky, j)
+same_blocks (Choice a b) d p q (inl e) (inl i) same bs h =
+    same_blocks a (distinct_parts (leaves a) (leaves b) d).0 p q e i same bs h
+same_blocks (Choice a b) d p q (inr e) (inr i) same bs h =
+    same_blocks b (distinct_parts (leaves a) (leaves b) d).1 p q e i same bs h
+same_blocks (Choice a b) d p q (inl e) (inr i) same bs h =
     let (da, db, apart) = distinct_parts (leaves a) (leaves b) d in
-    no_common_leaf p q (leaves a) (leaves b) apart (mem-leaves_of_goal a p e) (mem-leaves_of_goal b q i) to from bs h
-same_blocks (Choice a b) d p q (inr e) (inl i) to from bs h =
+    no_common_leaf p q (leaves a) (leaves b) apart (mem-leaves_of_goal a p e) (mem-leaves_of_goal b q i) same bs h
+same_blocks (Choice a b) d p q (inr e) (inl i) same bs h =
     let (da, db, apart) = distinct_parts (leaves a) (leaves b) d in
-    no_common_leaf p q (leaves b) (leaves a) (λ n m k. apart n k m) (mem-leaves_of_goal b p e) (mem-leaves_of_goal a q i) to from bs h
-same_blocks (Isolated a) d p q (x, h, e) (u, k, i) to from bs m =
-    let there : (n : ℕ) → n ∈ leaves x → n ∈ leaves u =
-    λ n l. subst (λ s. n ∈ leaves s) i (to n (subst (λ s. n ∈ leaves s) (sym e) l)) in
-    let back : (n : ℕ) → n ∈ leaves u → n ∈ leaves x =
-    λ n l. subst (λ s. n ∈ leaves s) e (from n (subst (λ s. n ∈ leaves s) (sym i) l)) in
+    no_common_leaf p q (leaves b) (leaves a) (λ n m k. apart n k m) (mem-leaves_of_goal b p e) (mem-leaves_of_goal a q i) same bs h
+same_blocks (Isolated a) d p q (x, h, e) (u, k, i) same bs m =
     let (xs, kx, j) = subst (λ s. Blocks s bs) e m in
-    subst (λ s. Blocks s bs) (sym i) (xs, same_blocks a d x u h k there back xs kx, j)
+    subst (λ s. Blocks s bs) (sym i) (xs, same_blocks a d x u h k (subst₂ HaveSameLeaves e i same) xs kx, j)
 
 -- Executions by their leaves
 
@@ -239,6 +238,6 @@ resolution_trace g q d m t (bs, h, e) same =
     leaf_in_trace p (choice_free_resolution g p (resolves_of g p k)) t (bs, hp, e) in (
       bs,
       same_blocks g d p q (resolves_of g p k) (resolves_of g q m)
-          (λ n l. (same n).0 (in_p n l)) (λ n l. of_p n ((same n).1 l)) bs hp,
+          (λ n. (λ l. (same n).0 (in_p n l), λ l. of_p n ((same n).1 l))) bs hp,
       e,
     )

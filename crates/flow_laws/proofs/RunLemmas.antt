@@ -1,9 +1,9 @@
 -- Lists of leaves that run, and labels that always hold.
-use Rattle.std.proofs.Common.{◌≡◌, ℕ, zero, suc, Bool, true, false, List, [], ◌∷◌, ◌++◌, IsSome, is_some, MatchOption, slice_get, Option, Some, None, refl, sym, ap, ◌∙◌, subst, inl, inr, true≢false}
+use Rattle.std.proofs.Common.{◌≡◌, ℕ, zero, suc, true, List, [], ◌∷◌, ◌++◌, is_some, MatchOption, slice_get, Option, Some, None, sym, true≢false}
 use Rattle.flow_model.specs.declared.labels.Label.{Label}
 use Rattle.flow_model.specs.declared.labels.Label.TheVariants.{Event, Test, Absent, Ins, Del}
-use Rattle.flow_model.specs.Lists.{◌∈◌, Each}
-use Rattle.flow_model.specs.Facts.{State, Holds, HoldsAt, after_leaf, replay, Runs, event_in, event_at}
+use Rattle.flow_model.specs.Lists.{Each}
+use Rattle.flow_model.specs.Facts.{State, Holds, HoldsAt, after_leaf, replay, Runs, event_in}
 use Rattle.flow_model.specs.Schema.{Schema, IsEventLeaf}
 use Rattle.flow_laws.specs.Histories.{NeverWaits}
 

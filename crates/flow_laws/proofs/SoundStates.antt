@@ -1,5 +1,5 @@
 -- Each entry that may be made keeps the state sound.
-use Rattle.std.proofs.Common.{◌≡◌, ℕ, zero, suc, ◌+◌, ◌<◌, ◌≤◌, ◌⊎◌, Bool, true, false, not, ◌&&◌, ◌==◌, nat_le, nat_lt, cond, IsTrue, List, [], ◌∷◌, ◌++◌, map, length, take, drop, filter, slice_index, refl, sym, ap, ◌∙◌, subst, inl, inr, Some, append_assoc, append-nil, length-append, take-append-drop, arith, le_refl}
+use Rattle.std.proofs.Common.{◌≡◌, ℕ, suc, ◌+◌, ◌≤◌, false, not, ◌&&◌, nat_le, nat_lt, cond, IsTrue, List, [], ◌∷◌, ◌++◌, map, length, take, drop, filter, slice_index, refl, sym, ap, ◌∙◌, subst, append_assoc, length-append, take-append-drop, arith, le_refl}
 use Rattle.std.proofs.lemmas.Bool.{eq-eqb, leb-true}
 use Rattle.std.proofs.lemmas.List.{length-take-le, map-append}
 use Rattle.std.proofs.lemmas.List.Elements.{filter-append}
@@ -8,16 +8,16 @@ use Rattle.flow_model.specs.declared.history.Step.{Step}
 use Rattle.flow_model.specs.declared.history.Step.TheVariants.{Took, Done, Failed, Late, Did, Rewound, Committed}
 use Rattle.flow_model.specs.declared.history.FailEffect.TheVariants.{Switched, Kept}
 use Rattle.flow_model.specs.Lists.{◌∈◌, Each, AreDistinct, Begins, IsOrderOf, numbers_from}
-use Rattle.flow_model.specs.Facts.{Runs, HoldsAt, replay}
-use Rattle.flow_model.specs.Schema.{Schema, start_of, IsEventLeaf, IsGood}
-use Rattle.flow_model.specs.Resolution.{ChoiceOption, OptionTrace, options}
-use Rattle.flow_model.specs.Run.{Claim, RunState, first_state, current_claims, current_leaves, is_current, claim_at, leaf_of_claim, IsCurrent, IsLapsed, database, IsFree, MayFollow, CanTake, CanDo, IsOpen, IsOpenIndex, IsAllowed, answer, next_state, state_after, IsLegalFrom}
+use Rattle.flow_model.specs.Facts.{Runs}
+use Rattle.flow_model.specs.Schema.{Schema, start_of, IsEventLeaf}
+use Rattle.flow_model.specs.Resolution.{ChoiceOption, options}
+use Rattle.flow_model.specs.Run.{Claim, RunState, first_state, current_leaves, is_current, claim_at, leaf_of_claim, IsCurrent, IsLapsed, database, IsFree, MayFollow, CanTake, CanDo, IsOpen, IsAllowed, answer, next_state, state_after, IsLegalFrom}
 use Rattle.flow_laws.specs.Words.{IsWellFormed, IsConsistent}
 use Rattle.flow_laws.specs.Histories.{IsSound}
-use Rattle.flow_laws.proofs.ListLemmas2.{each-append, each_to, each_member, distinct-numbers_from, begins_front, begins_and_nothing, each-filter, same_order, order_of_none, order_with_last, numbers_from_more}
+use Rattle.flow_laws.proofs.ListLemmas2.{each-append, each_to, each_member, distinct-numbers_from, begins_front, begins_and_nothing, each-filter, order_of_none, order_with_last, numbers_from_more}
 use Rattle.flow_laws.proofs.GoodTraces.{option_of_good}
 use Rattle.flow_laws.proofs.RunLemmas.{runs-append, runs_front, event_holds}
-use Rattle.flow_laws.proofs.ClaimLemmas.{number_of, leaf_of, is_of, answered, answer_keeps, numbers-answer, length-answer, taken_out, none_taken_out, none_of_later, leaf_of_claim_is, some_claim, lapsed_is_not_current, claim_in}
+use Rattle.flow_laws.proofs.ClaimLemmas.{number_of, leaf_of, is_of, answer_keeps, numbers-answer, length-answer, taken_out, none_taken_out, none_of_later, leaf_of_claim_is, some_claim, lapsed_is_not_current, claim_in}
 
 -- a sound state, whose claims are of its epoch or of older ones
 pub record IsKept (w : Schema) (s : RunState) : Type 0 where

@@ -1,13 +1,13 @@
 -- On a list of distinct events, some way stands in order exactly where the normal form is met.
-use Rattle.std.proofs.Common.{◌≡◌, ◌≢◌, ℕ, ◌⊎◌, ◌↔◌, Bool, true, false, ◌==◌, ◌||◌, if◌then◌else◌, List, [], ◌∷◌, ◌++◌, refl, sym, ap, ◌∙◌, subst, inl, inr, Option, Some, None}
+use Rattle.std.proofs.Common.{◌≡◌, ◌≢◌, ℕ, ◌⊎◌, ◌↔◌, Bool, true, false, ◌==◌, ◌||◌, if◌then◌else◌, List, [], ◌∷◌, ◌++◌, refl, sym, subst, inl, inr, Option, Some, None}
 use Rattle.std.proofs.lemmas.Bool.{eqb-true, eqb-false, eq-eqb}
 use Rattle.flow_model.specs.declared.labels.Label.{Label}
-use Rattle.flow_model.specs.Lists.{◌∈◌, Each, AreDistinct, AreInOrder, StandsBefore, each_with_each}
+use Rattle.flow_model.specs.Lists.{◌∈◌, AreDistinct, AreInOrder, StandsBefore, each_with_each}
 use Rattle.flow_model.specs.Facts.{event_at, events_of}
 use Rattle.flow_model.specs.Ways.{Normal, always, impossible, must, never, before, not_before, both, either, ways, leaf_of_event, free_way, is_free, ways_of_must, ways_of_never, ways_of_before, ways_of_not_before}
 use Rattle.flow_laws.proofs.ListLemmas2.{mem_append_left, mem_append_right, mem-append, mem-each_with_each, of_each_with_each, each-append, each_parts, not_found, mem-filter_map, of_filter_map, before-filter_map, of_before-filter_map, same_source, before_members, not_both_before, one_before}
 use Rattle.flow_laws.proofs.NormalForms.{MeetsNormal}
-use Rattle.flow_laws.proofs.WaysLemmas.{is_event, leaf_of_event_is, of_either}
+use Rattle.flow_laws.proofs.WaysLemmas.{is_event, leaf_of_event_is}
 
 -- some way of the list stands in order
 abbrev pub HasWay : List (List (ℕ × ℕ)) → List ℕ → Type 0

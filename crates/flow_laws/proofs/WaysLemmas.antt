@@ -1,11 +1,10 @@
 -- The ways of a constraint: of which leaves their pairs are, and what they decide.
-use Rattle.std.proofs.Common.{◌≡◌, ◌≢◌, ℕ, ◌⊎◌, Bool, true, false, ◌==◌, ◌||◌, if◌then◌else◌, List, [], ◌∷◌, ◌++◌, refl, sym, ap, ◌∙◌, subst, inl, inr, Option, Some, None, find, true≢false}
+use Rattle.std.proofs.Common.{◌≡◌, ◌≢◌, ℕ, ◌⊎◌, Bool, true, false, ◌==◌, ◌||◌, if◌then◌else◌, List, [], ◌++◌, refl, sym, ap, subst, inl, inr, Option, Some, None}
 use Rattle.std.proofs.lemmas.Bool.{eqb-true, eqb-false}
 use Rattle.flow_model.specs.declared.labels.Label.{Label}
-use Rattle.flow_model.specs.Lists.{◌∈◌, Each, each_with_each}
+use Rattle.flow_model.specs.Lists.{◌∈◌, Each}
 use Rattle.flow_model.specs.Facts.{event_at}
-use Rattle.flow_model.specs.Constraint.{Constraint}
-use Rattle.flow_model.specs.Ways.{Normal, always, impossible, must, never, before, not_before, both, either, ways, ways_of, normal_form, leaf_of_event, free_way, is_free, ways_of_must, ways_of_never, ways_of_before, ways_of_not_before}
+use Rattle.flow_model.specs.Ways.{Normal, always, impossible, must, never, before, not_before, both, either, ways, leaf_of_event, free_way, is_free, ways_of_must, ways_of_never, ways_of_before, ways_of_not_before}
 use Rattle.flow_laws.proofs.ListLemmas2.{mem-append, of_each_with_each, each-append, of_find}
 
 -- The leaf of an event

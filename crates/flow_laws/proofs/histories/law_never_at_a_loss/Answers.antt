@@ -1,4 +1,4 @@
-use Rattle.std.proofs.Common.{[], refl, append-nil, sym}
+use Rattle.std.proofs.Common.{[], append-nil, sym}
 use Rattle.flow_model.specs.Run.{state_of}
 use Rattle.flow_laws.proofs.NeverAtALoss.{sound_state, not_at_a_loss, never_stuck}
 use Rattle.flow_laws.proofs.histories.law_never_at_a_loss.Goals as goal
