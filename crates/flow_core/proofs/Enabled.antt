@@ -18,8 +18,9 @@ use Rattle.flow_core.proofs.PlainGoals.{plain_free, plain_resolutions, plain_tra
 use Rattle.flow_laws.specs.Words.{IsWellFormed, IsOrdered, EachTwo}
 use Rattle.flow_laws.specs.Events.{AreTogether}
 use Rattle.flow_laws.specs.Orders.{AreSideBySide, IsAlive, OrdersMayFollow}
-use Rattle.flow_laws.specs.ReadyRuns.{CompleteRunsAreTraces}
 use Rattle.flow_laws.proofs.ListLemmas2.{some_same, distinct-numbers_from, distinct_parts, distinct-append, each-append, each_parts, each_member, each_from_members, mem_append_left, mem_append_right, mem-append}
+use Rattle.flow_laws.proofs.FollowingLemmas.{orders_may_follow}
+use Rattle.flow_laws.proofs.ReadyRuns.{complete_runs_are_traces}
 use Rattle.flow_laws.proofs.EventsLemmas.{together_differ, unique_events}
 
 abbrev goal_of : Labelled → Process
@@ -124,34 +125,36 @@ next_of_ready t plain done s flags n r = next_complete t.process done n plain.pl
   earlier = λ x i. (flags.exact x).1 (r.before x (inl i))
 })
 
-module _ (law : OrdersMayFollow) where
-  pub can_take : (t : Labelled) → IsPlainTree t → IsNumbered t.process (length t.labels) → (s : RunState) → IsAhead t s → (n : ℕ) →
-      IsEventLeaf (schema_of t) n → IsReady t.process [] (OnJournal s) n → ¬ (n ∈ current_leaves s) → CanTake (schema_of t) s n
-  can_take t plain numbered s ahead n event ready free =
-      let option : only_option t ∈ options (schema_of t) = subst (λ os. only_option t ∈ os) (sym (plain_options t plain)) (inl refl) in
-      let each : Each (IsReady t.process [] (OnJournal s)) (current_leaves s ++ n ∷ []) = each-append (IsReady t.process [] (OnJournal s)) (current_leaves s) (n ∷ []) ahead.claims (ready, tt) in
-      let apart : AreDistinct (current_leaves s ++ n ∷ []) = distinct-append (current_leaves s) (n ∷ []) ahead.apart ((λ m. m), tt)
-          (λ x m. elim [ inl e ↦ free (subst (λ y. y ∈ current_leaves s) e m) | inr none ↦ none ]) in
-      (event, free, (only_option t, option,
-        (law (schema_of t) (well_formed t plain numbered) s (only_option t) option (current_leaves s ++ n ∷ [])).1
-          (alive t plain s ahead, side_by_side t.process plain.plain (current_leaves s ++ n ∷ []) each apart)))
+-- what the law of orders says
+law : OrdersMayFollow
+law = orders_may_follow
 
-  pub ready_to_take : (t : Labelled) → IsPlainTree t → IsNumbered t.process (length t.labels) → (s : RunState) → (n : ℕ) →
-      CanTake (schema_of t) s n → Each (IsReady t.process [] (OnJournal s)) (current_leaves s ++ n ∷ []) × AreDistinct (current_leaves s ++ n ∷ [])
-  ready_to_take t plain numbered s n (event, free, (o, option, follow)) =
-      let only : o ≡ only_option t = elim (subst (λ os. o ∈ os) (plain_options t plain) option) [ inl e ↦ e | inr none ↦ absurd none ] in
-      let side : IsAlive s o × AreSideBySide o.resolution o.order (OnJournal s) (current_leaves s ++ n ∷ []) =
-          (law (schema_of t) (well_formed t plain numbered) s o option (current_leaves s ++ n ∷ [])).0 follow in
-      let here : AreSideBySide t.process [] (OnJournal s) (current_leaves s ++ n ∷ []) =
-          subst (λ (p : ChoiceOption). AreSideBySide p.resolution p.order (OnJournal s) (current_leaves s ++ n ∷ [])) only side.1 in
-      (here.each, side_apart t.process (OnJournal s) (current_leaves s ++ n ∷ []) here.two)
+pub can_take : (t : Labelled) → IsPlainTree t → IsNumbered t.process (length t.labels) → (s : RunState) → IsAhead t s → (n : ℕ) →
+    IsEventLeaf (schema_of t) n → IsReady t.process [] (OnJournal s) n → ¬ (n ∈ current_leaves s) → CanTake (schema_of t) s n
+can_take t plain numbered s ahead n event ready free =
+    let option : only_option t ∈ options (schema_of t) = subst (λ os. only_option t ∈ os) (sym (plain_options t plain)) (inl refl) in
+    let each : Each (IsReady t.process [] (OnJournal s)) (current_leaves s ++ n ∷ []) = each-append (IsReady t.process [] (OnJournal s)) (current_leaves s) (n ∷ []) ahead.claims (ready, tt) in
+    let apart : AreDistinct (current_leaves s ++ n ∷ []) = distinct-append (current_leaves s) (n ∷ []) ahead.apart ((λ m. m), tt)
+        (λ x m. elim [ inl e ↦ free (subst (λ y. y ∈ current_leaves s) e m) | inr none ↦ none ]) in
+    (event, free, (only_option t, option,
+      (law (schema_of t) (well_formed t plain numbered) s (only_option t) option (current_leaves s ++ n ∷ [])).1
+        (alive t plain s ahead, side_by_side t.process plain.plain (current_leaves s ++ n ∷ []) each apart)))
+
+pub ready_to_take : (t : Labelled) → IsPlainTree t → IsNumbered t.process (length t.labels) → (s : RunState) → (n : ℕ) →
+    CanTake (schema_of t) s n → Each (IsReady t.process [] (OnJournal s)) (current_leaves s ++ n ∷ []) × AreDistinct (current_leaves s ++ n ∷ [])
+ready_to_take t plain numbered s n (event, free, (o, option, follow)) =
+    let only : o ≡ only_option t = elim (subst (λ os. o ∈ os) (plain_options t plain) option) [ inl e ↦ e | inr none ↦ absurd none ] in
+    let side : IsAlive s o × AreSideBySide o.resolution o.order (OnJournal s) (current_leaves s ++ n ∷ []) =
+        (law (schema_of t) (well_formed t plain numbered) s o option (current_leaves s ++ n ∷ [])).0 follow in
+    let here : AreSideBySide t.process [] (OnJournal s) (current_leaves s ++ n ∷ []) =
+        subst (λ (p : ChoiceOption). AreSideBySide p.resolution p.order (OnJournal s) (current_leaves s ++ n ∷ [])) only side.1 in
+    (here.each, side_apart t.process (OnJournal s) (current_leaves s ++ n ∷ []) here.two)
 
 -- the journal is a whole execution exactly where all is done
-module _ (law : CompleteRunsAreTraces) where
-  pub good_when_finished : (t : Labelled) → IsPlainTree t → IsNumbered t.process (length t.labels) → (done : List Bool) (s : RunState) → AreFlags t done s.journal →
-      IsReadyRun t.process [] s.journal → IsTrue (is_finished t.process done) ↔ IsGood (schema_of t) s.journal
-  good_when_finished t plain numbered done s flags run =
-      let ordered : IsOrdered t.process [] = record { choice_free = plain_free t.process plain.plain; distinct = leaves_apart t numbered; of_leaves = tt; different = tt } in
-      let both = law t.process [] ordered s.journal in
-      ((λ f. ((both.0 (run, λ n m. (flags.exact n).0 (finished_leaf t.process done f n m))).0, tt)),
-       (λ g. leaves_finished t.process done plain.plain (λ n m. (flags.exact n).1 ((both.1 (g.0, tt)).1 n m))))
+pub good_when_finished : (t : Labelled) → IsPlainTree t → IsNumbered t.process (length t.labels) → (done : List Bool) (s : RunState) → AreFlags t done s.journal →
+    IsReadyRun t.process [] s.journal → IsTrue (is_finished t.process done) ↔ IsGood (schema_of t) s.journal
+good_when_finished t plain numbered done s flags run =
+    let ordered : IsOrdered t.process [] = record { choice_free = plain_free t.process plain.plain; distinct = leaves_apart t numbered; of_leaves = tt; different = tt } in
+    let both = complete_runs_are_traces t.process [] ordered s.journal in
+    ((λ f. ((both.0 (run, λ n m. (flags.exact n).0 (finished_leaf t.process done f n m))).0, tt)),
+     (λ g. leaves_finished t.process done plain.plain (λ n m. (flags.exact n).1 ((both.1 (g.0, tt)).1 n m))))

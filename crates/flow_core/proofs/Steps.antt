@@ -1,8 +1,13 @@
 -- Each entry that a core makes keeps what its fields keep.
-use Rattle.std.proofs.Common.{◌≡◌, ◌≢◌, ◌≤◌, ◌<◌, ◌+◌, ℕ, zero, suc, Bool, true, false, List, [], ◌∷◌, ◌++◌, length, set, Option, Some, None, slice_get, ◌⊎◌, inl, inr, ◌↔◌, IsTrue, nat_eq, refl, sym, ap, ◌∙◌, subst, arith, length-append}
+use Rattle.std.proofs.Common.{◌≡◌, ◌≢◌, ◌≤◌, ◌<◌, ◌+◌, ℕ, zero, suc, Bool, true, false, List, [], ◌∷◌, ◌++◌, length, set, Option, Some, None, slice_get, ◌⊎◌, inl, inr, ◌↔◌, IsTrue, nat_eq, nat_le, cond, ◌&&◌, refl, sym, ap, ◌∙◌, subst, arith, length-append}
 use Rattle.std.proofs.Math.ListN.{length-set}
 use Rattle.flow_model.specs.declared.history.Entry.{Entry}
 use Rattle.flow_model.specs.declared.history.Step.{Step}
+use Rattle.flow_model.specs.declared.history.Call.{Call}
+use Rattle.flow_model.specs.declared.labels.Label.{Label}
+use Rattle.flow_model.specs.declared.labels.Note.TheVariants as note
+use Rattle.flow_model.specs.Facts.{event_at, is_event}
+use Rattle.flow_model.specs.Verdict.{call_of, event_of_claim, attempts}
 use Rattle.flow_model.specs.declared.history.Step.TheVariants.{Took, Done, Committed}
 use Rattle.flow_model.specs.Lists.{◌∈◌, Each, AreDistinct}
 use Rattle.flow_model.specs.Process.{leaves, IsNumbered}
@@ -12,7 +17,7 @@ use Rattle.flow_model.specs.Run.{Claim, RunState, first_state, next_state, state
 use Rattle.flow_goal.specs.Labelled.{Labelled}
 use Rattle.flow_goal.specs.Plain.{IsPlainTree}
 use Rattle.flow_core.specs.declared.given.Given.{Given}
-use Rattle.flow_core.specs.Given.{claim_of, claims_from}
+use Rattle.flow_core.specs.Given.{claim_of, claims_from, on_event}
 use Rattle.flow_core.specs.Look.{is_done}
 use Rattle.flow_core.specs.View.{schema_of}
 use Rattle.flow_core.specs.Kept.{IsAhead, AreFlags, IsKept}
@@ -21,7 +26,8 @@ use Rattle.flow_core.proofs.GivenClaims.{length-claims_from, claims_from-append,
 use Rattle.flow_laws.proofs.ListLemmas2.{mem_append_left, mem_append_right, mem-append, each-append, each_parts, distinct_parts, distinct-append, equal_or_not}
 use Rattle.flow_laws.proofs.FollowingLemmas.{run_after_journal}
 use Rattle.flow_laws.proofs.ClaimLemmas.{leaf_of_claim_is}
-use Rattle.std.specs.List.{find}
+use Rattle.std.specs.List.{find, fold}
+use Rattle.std.proofs.lemmas.Bool.{le-leb}
 
 -- the state after one entry more
 pub state_after-append : (s : RunState) (history : List Entry) (entry : Entry) → state_after s (history ++ entry ∷ []) ≡ next_state (state_after s history) entry.step
@@ -234,3 +240,43 @@ kept_commit t limit history journal done given committed k going room by none go
       few_claims = let e : length (longer history by Committed) ≡ length history + 1 = length-longer history by Committed in let h : length given ≤ length history = k.few_claims in omega arith;
       few_leaves = let e : length (longer history by Committed) ≡ length history + 1 = length-longer history by Committed in let h : length journal ≤ length history = k.few_leaves in omega arith
     }
+
+-- how many claims are on leaves of an event: every number that was given is at most the last
+fold-claims_from : (labels : List Label) (event last k : ℕ) (gs : List Given) (count : ℕ) → k + length gs ≤ last + 1 →
+    fold (λ a (claim : Claim). a + cond (nat_le claim.number last && is_event event (event_at labels claim.leaf)) 1 0) count (claims_from k gs)
+    ≡ fold (λ a (g : Given). a + cond (is_event event (event_at labels g.leaf)) 1 0) count gs
+fold-claims_from labels event last k [] count h = refl
+fold-claims_from labels event last k (g ∷ gs) count h =
+    let below : nat_le k last ≡ true = le-leb k last (omega arith) in
+    let rest : k + 1 + length gs ≤ last + 1 = omega arith in
+    let one = λ (b : Bool). count + cond (b && is_event event (event_at labels g.leaf)) 1 0 in
+    ap (λ b. fold (λ a (claim : Claim). a + cond (nat_le claim.number last && is_event event (event_at labels claim.leaf)) 1 0) (one b) (claims_from (k + 1) gs)) below
+    ∙ fold-claims_from labels event last (k + 1) gs (count + cond (is_event event (event_at labels g.leaf)) 1 0) rest
+
+last_place : (gs : List Given) (g : Given) → slice_get (gs ++ g ∷ []) (length gs) ≡ Some g
+last_place [] g = refl
+last_place (x ∷ gs) g = last_place gs g
+
+abbrev number_in : Option ℕ → ℕ
+number_in None = 0
+number_in (Some e) = e
+
+-- the call of the claim that was given last
+pub call-took : (t : Labelled) (s : RunState) (gs : List Given) (leaf event claim : ℕ) → s.claims ≡ claims_from 1 (gs ++ record { leaf = leaf; answered = false } ∷ []) →
+    claim ≡ 1 + length gs → event_at t.labels leaf ≡ Some event →
+    record { claim = claim; leaf = leaf; event = event; attempt = on_event t.labels event (gs ++ record { leaf = leaf; answered = false } ∷ []); note = note.Done } ≡ call_of (schema_of t) s claim
+call-took t s gs leaf event claim c number at =
+    let g : Given = record { leaf = leaf; answered = false } in
+    let here : slice_get (gs ++ g ∷ []) (length gs) ≡ Some g = last_place gs g in
+    let found : claim_at s (1 + length gs) ≡ Some (claim_of (1 + length gs) g) = place_of_claim s (gs ++ g ∷ []) c (length gs) g here in
+    let leaf_is : leaf_of_claim s (1 + length gs) ≡ leaf = leaf_of_claim_is s (1 + length gs) (claim_of (1 + length gs) g) found in
+    let w : Schema = schema_of t in
+    let event_is : event_of_claim w s (1 + length gs) ≡ event = ap (λ l. number_in (event_at t.labels l)) leaf_is ∙ ap number_in at in
+    let few : 1 + length (gs ++ g ∷ []) ≤ 1 + length gs + 1 = let e : length (gs ++ g ∷ []) ≡ length gs + 1 = length-append gs (g ∷ []) in omega arith in
+    let count : on_event t.labels event (gs ++ g ∷ []) ≡ attempts w s (event_of_claim w s (1 + length gs)) (1 + length gs) =
+        sym (fold-claims_from t.labels event (1 + length gs) 1 (gs ++ g ∷ []) 0 few)
+        ∙ ap (λ cs. fold (λ a (claim : Claim). a + cond (nat_le claim.number (1 + length gs) && is_event event (event_at t.labels claim.leaf)) 1 0) 0 cs) (sym c)
+        ∙ ap (λ e. attempts w s e (1 + length gs)) (sym event_is) in
+    let at_last : record { claim = 1 + length gs; leaf = leaf; event = event; attempt = on_event t.labels event (gs ++ g ∷ []); note = note.Done } ≡ call_of w s (1 + length gs) =
+        λ i. record { claim = 1 + length gs; leaf = sym leaf_is i; event = sym event_is i; attempt = count i; note = note.Done } in
+    subst (λ (m : ℕ). ◌≡◌ {A = Call} record { claim = m; leaf = leaf; event = event; attempt = on_event t.labels event (gs ++ g ∷ []); note = note.Done } (call_of w s m)) (sym number) at_last

@@ -1,23 +1,45 @@
-use Rattle.std.proofs.Common.{rules, ◌≡◌, ◌<◌, ◌≤◌, ◌+◌, ◌↔◌, ℕ, [], length, true, IsTrue, IfOk, OnErr, OnOk, None, Some, ◌-◌, ◌*◌, ◌/◌, ◌%◌, Bool, false, nat_eq, nat_lt, List, ◌∷◌, ◌++◌, slice_index_or, slice_set, bit_and, bit_or, Fits, w8, w32, w64, Bor, MutBor}
-use Rattle.std.specs.Result.{IsErrOf}
+use Rattle.std.proofs.Common.{◌≡◌, ◌<◌, ◌≤◌, ◌+◌, ℕ, List, [], ◌∷◌, ◌++◌, length, Some, false, subst, sym, ap, ◌∙◌, refl, arith}
+use Rattle.std.specs.Vec.{vec_len, vec_capacity}
+use Rattle.flow_model.specs.declared.history.Entry.{Entry}
+use Rattle.flow_model.specs.declared.history.Step.TheVariants.{Took}
 use Rattle.flow_model.specs.Facts.{event_at}
-use Rattle.flow_model.specs.Schema.{IsEventLeaf, IsOtherLeaf, IsGood}
-use Rattle.flow_model.specs.Run.{CanTake, claim_at, current_claims, IsCurrent}
-use Rattle.flow_model.specs.Verdict.{call_of}
-use Rattle.flow_goal.specs.Plain.{IsPlainTree}
-use Rattle.flow_model.specs.declared.history.Step.TheVariants.{Took, Done, Committed}
-use Rattle.flow_core.specs.View.{schema_of, now, with_entry, GoesOn, HasSteps}
-use Rattle.flow_core.specs.Claims.{IsAnswered, IsOut, IsLeastOut}
+use Rattle.flow_model.specs.Run.{RunState, state_of, CanTake}
+use Rattle.flow_core.specs.declared.given.Given.{Given}
+use Rattle.flow_core.specs.View.{Progress, GoesOn, HasSteps, now, schema_of, with_entry}
+use Rattle.flow_core.specs.Kept.{IsKept}
+use Rattle.flow_core.specs.Given.{on_event}
+use Rattle.flow_core.proofs.Enabled.{ready_to_take}
+use Rattle.flow_core.proofs.GivenClaims.{length-claims_from}
+use Rattle.flow_core.proofs.Steps.{longer, kept_give, call-took}
 use Rattle.flow_core.proofs.engine.Core.give.Goals as goal
 
--- src/engine.rt:142:5
 pub invariant_of-self : goal.invariant_of-self
-invariant_of-self c = ?
+invariant_of-self c =
+    let i = c.self.inside in
+    let k : IsKept i.tree i.limit i.history.items i.journal.items i.done.items i.given.items i.committed = c.self.invariant.kept in
+    let going : (state_of i.history.items).committed ≡ false = subst GoesOn (sym c.self.view_is) c.requires.open in
+    let room : length i.history.items < i.limit = subst HasSteps (sym c.self.view_is) c.requires.steps in
+    let can : CanTake (schema_of i.tree) (state_of i.history.items) c.args.leaf =
+        subst (λ (p : Progress). CanTake p.schema (now p) c.args.leaf) (sym c.self.view_is) c.requires.enabled in
+    let number : c.len.result + 1 ≡ 1 + length i.given.items = ?number in
+    let h : c.push_reserved-2.new.self.items ≡ longer i.history.items c.args.by (Took (1 + length i.given.items) c.args.leaf) =
+        c.push_reserved-2.ensures.items ∙ ap (λ n. longer i.history.items c.args.by (Took n c.args.leaf)) number in
+    record {
+      kept = subst (λ (h : List Entry). IsKept i.tree i.limit h i.journal.items i.done.items c.push_reserved.new.self.items i.committed) (sym h)
+        (subst (λ (g : List Given). IsKept i.tree i.limit (longer i.history.items c.args.by (Took (1 + length i.given.items) c.args.leaf)) i.journal.items i.done.items g i.committed)
+          (sym c.push_reserved.ensures.items)
+          (kept_give i.tree i.limit i.history.items i.journal.items i.done.items i.given.items i.committed k going room c.args.leaf c.args.by can
+            (ready_to_take i.tree k.plain k.numbered (state_of i.history.items) c.args.leaf can)));
+      history_room = let e : vec_capacity c.push_reserved-2.new.self ≡ vec_capacity i.history = c.push_reserved-2.ensures.capacity in
+          let r : i.limit ≤ vec_capacity i.history = c.self.invariant.history_room in omega arith;
+      journal_room = c.self.invariant.journal_room;
+      given_room = let e : vec_capacity c.push_reserved.new.self ≡ vec_capacity i.given = c.push_reserved.ensures.capacity in
+          let r : i.limit ≤ vec_capacity i.given = c.self.invariant.given_room in omega arith;
+      small = c.self.invariant.small
+    }
 
--- src/engine.rt:142:5
 pub returns-clause-entry : goal.returns-clause-entry
 returns-clause-entry c = ?
 
--- src/engine.rt:142:5
 pub returns-clause-call : goal.returns-clause-call
 returns-clause-call c = ?
