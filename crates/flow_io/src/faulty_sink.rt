@@ -51,7 +51,7 @@ impl FaultySink {
 }
 
 impl Sink for FaultySink {
-    ghost use Rattle.std.specs.Prelude.{◌≡◌, ◌+◌, ◌-◌, ◌^◌, ◌<◌, ◌≤◌, ◌↔◌, ◌⊎◌, IfOk, OnErr, IsErr, Some, min, length, Contains};
+    ghost use Rattle.std.specs.Prelude.{◌≡◌, ◌+◌, ◌-◌, ◌^◌, ◌<◌, ◌≤◌, ◌↔◌, ◌⊎◌, IfOk, OnErr, IsErr, is_ok, if◌then◌else◌, Some, min, length, Contains};
     ghost use Rattle.flow_io.specs.Sink.{TakesFront};
 
     ghost held = { λ s. Some s.store.bytes };
@@ -68,8 +68,7 @@ impl Sink for FaultySink {
         ensures room_kept { self.new.store.room ≡ self.old.store.room }
         ensures list_kept { self.new.fail_at ≡ self.old.fail_at }
         ensures counted { self.new.calls ≡ min (self.old.calls + 1) (2 ^ 64 - 1) }
-        ensures later { self.old.store.faults ≤ self.new.store.faults }
-        ensures failed { IsErr result ↔ (self.old.store.faults < self.new.store.faults) }
+        ensures faults { self.new.store.faults ≡ (if is_ok result then self.old.store.faults else self.old.store.faults + 1) }
     {
         let call = self.calls;
         self.calls = call.saturating_add(1);

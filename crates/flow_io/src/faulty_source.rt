@@ -40,7 +40,7 @@ impl FaultySource {
 }
 
 impl Source for FaultySource {
-    ghost use Rattle.std.specs.Prelude.{◌≡◌, ◌^◌, ◌-◌, ◌+◌, ◌<◌, ◌≤◌, ◌↔◌, IfOk, OnErr, IsErr, Some, Ok, min, length, Contains};
+    ghost use Rattle.std.specs.Prelude.{◌≡◌, ◌^◌, ◌-◌, ◌+◌, ◌<◌, ◌≤◌, ◌↔◌, IfOk, OnErr, IsErr, is_ok, if◌then◌else◌, Some, Ok, min, length, Contains};
     ghost use Rattle.std.specs.Io.KnownBytes.{Keeps};
     ghost use Rattle.flow_io.specs.Source.{GivesNext};
 
@@ -57,8 +57,7 @@ impl Source for FaultySource {
         ensures listed { IsErr result ↔ Contains self.old.fail_at self.old.calls }
         ensures list_kept { self.new.fail_at ≡ self.old.fail_at }
         ensures counted { self.new.calls ≡ min (self.old.calls + 1) (2 ^ 64 - 1) }
-        ensures later { self.old.faults ≤ self.new.faults }
-        ensures failed { IsErr result ↔ (self.old.faults < self.new.faults) }
+        ensures faults { self.new.faults ≡ (if is_ok result then self.old.faults else self.old.faults + 1) }
     {
         let call = self.calls;
         self.calls = call.saturating_add(1);

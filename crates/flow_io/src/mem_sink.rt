@@ -55,7 +55,7 @@ impl MemSink {
 }
 
 impl Sink for MemSink {
-    ghost use Rattle.std.specs.Prelude.{◌≡◌, ◌-◌, ◌^◌, ◌<◌, ◌≤◌, ◌↔◌, IfOk, OnErr, IsErr, Some, min, length};
+    ghost use Rattle.std.specs.Prelude.{◌≡◌, ◌+◌, ◌-◌, ◌^◌, ◌<◌, ◌≤◌, ◌↔◌, IfOk, OnErr, IsErr, is_ok, if◌then◌else◌, Some, min, length};
     ghost use Rattle.flow_io.specs.Sink.{TakesFront};
 
     ghost held = { λ s. Some s.bytes };
@@ -69,8 +69,7 @@ impl Sink for MemSink {
         ensures full { IsErr result ↔ (0 < length piece.now) × (self.old.room ≤ length self.old.bytes) }
         ensures bytes_kept { OnErr result (self.new.bytes ≡ self.old.bytes) }
         ensures room_kept { self.new.room ≡ self.old.room }
-        ensures later { self.old.faults ≤ self.new.faults }
-        ensures failed { IsErr result ↔ (self.old.faults < self.new.faults) }
+        ensures faults { self.new.faults ≡ (if is_ok result then self.old.faults else self.old.faults + 1) }
     {
         let free = self.room - self.bytes.len();
         if free == 0 && !piece.is_empty() {

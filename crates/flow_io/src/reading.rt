@@ -20,6 +20,7 @@ pub trait Source {
         ensures left_kept { OnErr result (Keeps (left self.old) (left self.new)) }
         ensures buffer_kept { OnErr result (buf.new ≡ buf.old) }
         ensures later { faults self.old ≤ faults self.new }
+        ensures once { faults self.new ≤ faults self.old + 1 }
         ensures failed { IsErr result ↔ (faults self.old < faults self.new) };
 }
 
@@ -48,6 +49,7 @@ pub fn read_all<S: Source>(
     ensures starved { IsErrOf result ReadRefusal.NoMemory
         → LosesAtMost (S.left source.old) (S.left source.new) limit }
     ensures later { S.faults source.old ≤ S.faults source.new }
+    ensures once { S.faults source.new ≤ S.faults source.old + 1 }
 {
     let mut buffer = [0u8; PIECE];
     let mut bytes = Vec::new(alloc);

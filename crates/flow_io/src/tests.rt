@@ -42,13 +42,19 @@ fn a_failed_read_is_no_end(rt: HostRuntime) -> Result<(), Fail> {
 }
 
 #[test]
-fn reads_and_writes_by_std(rt: HostRuntime) -> Result<(), Fail> {
-    let mut source = StdSource::new(b"through std".as_slice());
+fn reads_by_std(rt: HostRuntime) -> Result<(), Fail> {
+    let mut source = StdSource::new(b"by std".as_slice());
     let read = read_all(rt.alloc(), &mut source, 100)?;
+    assert_eq!(rt; read.as_slice(), b"by std".as_slice());
+    Ok(())
+}
+
+#[test]
+fn writes_by_std(rt: HostRuntime) -> Result<(), Fail> {
     let mut written = Vec::new(rt.alloc());
     let mut sink = StdSink::new(&mut written);
-    write_all(&mut sink, &read)?;
-    assert_eq!(rt; written.as_slice(), b"through std".as_slice());
+    write_all(&mut sink, b"by std")?;
+    assert_eq!(rt; written.as_slice(), b"by std".as_slice());
     Ok(())
 }
 

@@ -1,4 +1,4 @@
-ghost use Rattle.std.specs.Prelude.{◌≡◌, ℕ, ◌-◌, ◌^◌, ◌<◌, ◌≤◌, ◌↔◌, List, length, IfOk, OnOk, OnErr, IsErr, Option};
+ghost use Rattle.std.specs.Prelude.{◌≡◌, ℕ, ◌+◌, ◌-◌, ◌^◌, ◌<◌, ◌≤◌, ◌↔◌, List, length, IfOk, OnOk, OnErr, IsErr, Option};
 ghost use Rattle.std.specs.Io.KnownBytes.{Appends, Keeps};
 ghost use Rattle.flow_io.specs.Sink.{AppendsPart, TakesFront};
 
@@ -18,6 +18,7 @@ pub trait Sink {
         ensures taken { IfOk result (TakesFront (held self.old) (held self.new) piece.now) }
         ensures held_kept { OnErr result (Keeps (held self.old) (held self.new)) }
         ensures later { faults self.old ≤ faults self.new }
+        ensures once { faults self.new ≤ faults self.old + 1 }
         ensures failed { IsErr result ↔ (faults self.old < faults self.new) };
 }
 
@@ -27,6 +28,7 @@ pub fn write_all<K: Sink>(sink: &mut K, bytes: &[u8]) -> Result<(), Failed>
     ensures all { OnOk result (Appends (K.held sink.old) (K.held sink.new) bytes.now) }
     ensures part { OnErr result (AppendsPart (K.held sink.old) (K.held sink.new) bytes.now) }
     ensures later { K.faults sink.old ≤ K.faults sink.new }
+    ensures once { K.faults sink.new ≤ K.faults sink.old + 1 }
     ensures failed { IsErr result ↔ (K.faults sink.old < K.faults sink.new) }
 {
     let mut done = 0;
