@@ -1,5 +1,5 @@
 -- What writes do to the bytes that a sink holds, where the sink tells them.
-use Rattle.std.specs.Prelude.{◌≡◌, ℕ, ◌≤◌, ◌<◌, List, [], ◌++◌, length, take, Option}
+use Rattle.std.specs.Prelude.{ℕ, ◌≤◌, ◌<◌, List, length, take, Option}
 use Rattle.std.specs.Io.KnownBytes.{Appends}
 
 -- a write of the first n bytes of a piece: one at least of a piece that is not empty

@@ -1,5 +1,5 @@
 -- What reads do to the bytes that a source has left, where the source tells them.
-use Rattle.std.specs.Prelude.{◌≡◌, ℕ, ◌≤◌, ◌<◌, List, [], ◌++◌, length, take, drop, Option, None, Some}
+use Rattle.std.specs.Prelude.{◌≡◌, ℕ, ◌≤◌, ◌<◌, List, [], length, take, drop, Option, None, Some}
 use Rattle.std.specs.Io.KnownBytes.{Consumes, IsAtEnd}
 
 -- a read of n bytes: the next ones, at the front of the buffer, whose rest stays, and none only at

@@ -2,6 +2,7 @@ ghost use Rattle.std.specs.Prelude.{◌≡◌, ℕ, ◌+◌, ◌-◌, ◌^◌, �
 ghost use Rattle.std.specs.Io.KnownBytes.{Keeps};
 ghost use Rattle.flow_io.specs.Source.{GivesNext, IsAllOf, LosesAtMost, LosesCount};
 
+use crate::copying::PIECE;
 use crate::failure::{Failed, ReadRefusal};
 use std::alloc::Global;
 
@@ -23,8 +24,6 @@ pub trait Source {
         ensures once { faults self.new ≤ faults self.old + 1 }
         ensures failed { IsErr result ↔ (faults self.old < faults self.new) };
 }
-
-const PIECE: usize = 4096;
 
 /// Reads all bytes up to the end, where they are at most `limit`. A failed read ends the call, and
 /// is never taken as the end.

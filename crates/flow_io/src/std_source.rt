@@ -1,3 +1,4 @@
+use crate::copying::PIECE;
 use crate::failure::Failed;
 use crate::reading::Source;
 use std::io::Read;
@@ -20,8 +21,6 @@ impl<R: Read> StdSource<R> {
         StdSource { reader, faults: 0 }
     }
 }
-
-const PIECE: usize = 4096;
 
 impl<R: Read> Source for StdSource<R> {
     ghost left = { λ s. R.remaining s.reader };

@@ -1,5 +1,4 @@
 use Rattle.std.proofs.Common.{◌≡◌, ◌-◌, length, take, drop, arith, ap}
-use Rattle.std.specs.Io.KnownBytes.{Appends}
 use Rattle.std.proofs.lemmas.List.{take_rest}
 use Rattle.flow_io.proofs.SinkLemmas.{appends_more}
 use Rattle.flow_io.proofs.writing.write_all.Goals as goal

@@ -1,5 +1,4 @@
 use Rattle.std.proofs.Common.{◌≡◌, ap, arith}
-use Rattle.std.proofs.lemmas.List.{length-take}
 use Rattle.flow_io.proofs.SourceLemmas.{gives_into_ok}
 use Rattle.flow_io.proofs.cut_source.CutSourceSource.read.Goals as goal
 
