@@ -8,7 +8,8 @@ pub struct LeafSet<const W: usize> {
 }
 
 impl<const W: usize> LeafSet<W> {
-    ghost use Rattle.std.specs.Prelude.{◌≡◌, ℕ, ◌*◌, ◌<◌, ◌↔◌, ◌==◌, ◌&&◌, ◌||◌, not, false, IsTrue, IfNone, IfSome, length};
+    ghost use Rattle.std.specs.Prelude.{◌≡◌, ℕ, ◌*◌, ◌<◌, ◌↔◌, ◌==◌, ◌&&◌, ◌||◌, not, false, IsTrue, IfNone, IfSome, length, Contains};
+    ghost use Rattle.std.specs.List.Sorted.{IsStrictlyIncreasing};
     ghost use Rattle.leaf_rows.specs.Leaves.{has_leaf, members};
 
     /// The empty set.
@@ -88,7 +89,9 @@ impl<const W: usize> LeafSet<W> {
     }
 
     pub fn count(&self) -> u32
-        ensures { result ≡ length (members self.now) }
+        ensures counted { result ≡ length (members self.now) }
+        ensures listed { (n : ℕ) → Contains (members self.now) n ↔ IsTrue (has_leaf self.now n) }
+        ensures rising { IsStrictlyIncreasing (members self.now) }
     {
         let mut count = 0;
         for i in 0..W {

@@ -1,6 +1,7 @@
 use Rattle.std.proofs.Common.{◌≡◌, ◌+◌, ◌*◌, length, arith, refl, ap, ◌∙◌}
 use Rattle.leaf_rows.specs.Leaves.{has_bit, has_leaf, members, passing_below}
 use Rattle.leaf_rows.proofs.Counts.{length-passing_below, members_more}
+use Rattle.leaf_rows.proofs.Members.{Contains-members, members-rise}
 use Rattle.leaf_rows.proofs.leaf_set.LeafSet.count.Goals as goal
 
 pub loop-i-init : goal.loop-i-init
@@ -22,8 +23,14 @@ loop-i-preserved g c =
     let more = members_more g.row.W c.args.self.now.words c.loop-i.i (omega arith) (omega arith) in
     omega (arith, more, c.loop-i.invariant)
 
-pub returns : goal.returns
+pub returns-clause-counted : goal.returns-clause-counted
 unfolding has_leaf members
-returns g c =
+returns-clause-counted g c =
     let whole : c.loop-i.i ≡ g.row.W = omega arith in
     c.loop-i.invariant ∙ ap (λ i. length (passing_below (has_leaf c.args.self.now) (64 * i))) whole
+
+pub returns-clause-listed : goal.returns-clause-listed
+returns-clause-listed g c = Contains-members c.args.self.now
+
+pub returns-clause-rising : goal.returns-clause-rising
+returns-clause-rising g c = members-rise c.args.self.now

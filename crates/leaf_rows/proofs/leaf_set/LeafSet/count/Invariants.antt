@@ -1,4 +1,4 @@
-use Rattle.std.proofs.Common.{◌≡◌, ℕ, ◌*◌, ◌≤◌, length}
+use Rattle.std.proofs.Common.{◌≡◌, ◌*◌, length}
 use Rattle.leaf_rows.specs.Leaves.{has_leaf, passing_below}
 use Rattle.leaf_rows.proofs.leaf_set.LeafSet.count.Given as goal
 

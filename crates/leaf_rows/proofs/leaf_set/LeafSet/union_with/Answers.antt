@@ -1,4 +1,4 @@
-use Rattle.std.proofs.Common.{◌<◌, ◌*◌, arith}
+use Rattle.std.proofs.Common.{arith}
 use Rattle.leaf_rows.specs.Leaves.{has_leaf}
 use Rattle.leaf_rows.proofs.Rows.{has_bit-union}
 use Rattle.leaf_rows.proofs.leaf_set.LeafSet.union_with.Goals as goal
