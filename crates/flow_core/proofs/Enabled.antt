@@ -68,7 +68,7 @@ label_at (l ∷ ls) (suc x) e h = label_at ls x e h
 pub well_formed : (t : Labelled) → IsPlainTree t → IsNumbered t.process (length t.labels) → IsWellFormed (schema_of t)
 well_formed t plain numbered = record {
   numbered = numbered;
-  unique = unique_events (schema_of t) numbered (λ x y e together at_x at_y. together_differ t.process (leaves_apart t numbered) x y together (same_event t plain x y e at_x at_y))
+  unique = unique_events (schema_of t) numbered (λ x y e together at_x at_y. together_differ t.process (leaves_apart t numbered) x y together (same_event t plain x y e at_x at_y));
 }
   where
     same_event : (t : Labelled) → IsPlainTree t → (x y e : ℕ) → event_at t.labels x ≡ Some e → event_at t.labels y ≡ Some e → x ≡ y
@@ -82,11 +82,13 @@ side_by_side q p {Done} list each apart = record { each = each; two = each_two l
     after_one x y r ne = plain_ready q p y r.leaf
         (elim [ inl d ↦ r.not_done d | inr m ↦ elim m [ inl e ↦ ne (sym e) | inr none ↦ none ] ])
         (λ z s. inl (r.before z (inl s)))
+
     with_first : (x : ℕ) (xs : List ℕ) → IsReady q [] Done x → Each (IsReady q [] Done) xs → ¬ (x ∈ xs) →
         Each (λ y. IsReady q [] (DoneOr Done (x ∷ [])) y × IsReady q [] (DoneOr Done (y ∷ [])) x) xs
     with_first x [] r rs new = tt
     with_first x (y ∷ xs) r rs new =
         ((after_one x y rs.0 (λ e. new (inl e)), after_one y x r (λ e. new (inl (sym e)))), with_first x xs r rs.1 (λ m. new (inr m)))
+
     each_two : (xs : List ℕ) → Each (IsReady q [] Done) xs → AreDistinct xs → EachTwo (λ x y. IsReady q [] (DoneOr Done (x ∷ [])) y) xs
     each_two [] rs d = tt
     each_two (x ∷ xs) rs d = (with_first x xs rs.0 rs.1 d.0, each_two xs rs.1 d.1)
@@ -94,9 +96,10 @@ side_by_side q p {Done} list each apart = record { each = each; two = each_two l
 -- leaves that may come in every order are distinct
 pub side_apart : (q : Process) (Done : ℕ → Type 0) (list : List ℕ) → EachTwo (λ x y. IsReady q [] (DoneOr Done (x ∷ [])) y) list → AreDistinct list
 side_apart q Done [] two = tt
-side_apart q Done (x ∷ xs) two =
-    (λ m. (each_member (λ y. IsReady q [] (DoneOr Done (x ∷ [])) y × IsReady q [] (DoneOr Done (y ∷ [])) x) xs two.0 x m).0.not_done (inr (inl refl)),
-     side_apart q Done xs two.1)
+side_apart q Done (x ∷ xs) two = (
+  λ m. (each_member (λ y. IsReady q [] (DoneOr Done (x ∷ [])) y × IsReady q [] (DoneOr Done (y ∷ [])) x) xs two.0 x m).0.not_done (inr (inl refl)),
+  side_apart q Done xs two.1,
+)
 
 -- what is done is on the journal
 abbrev OnJournal : RunState → ℕ → Type 0
@@ -107,7 +110,7 @@ pub alive : (t : Labelled) → IsPlainTree t → (s : RunState) → IsAhead t s 
 alive t plain s ahead = record {
   has_trace = (leaves t.process, (plain_trace t.process plain.plain, tt));
   unbanned = subst (Each (λ ban. ¬ (ban.1 ∈ leaves t.process))) (sym ahead.bans) tt;
-  journal = ahead.journal
+  journal = ahead.journal;
 }
 
 -- the test says exactly that the leaf may come next after the journal
@@ -122,7 +125,7 @@ pub next_of_ready : (t : Labelled) → IsPlainTree t → (done : List Bool) (s :
 next_of_ready t plain done s flags n r = next_complete t.process done n plain.plain (record {
   leaf = r.leaf;
   fresh = λ d. r.not_done ((flags.exact n).0 d);
-  earlier = λ x i. (flags.exact x).1 (r.before x (inl i))
+  earlier = λ x i. (flags.exact x).1 (r.before x (inl i));
 })
 
 -- what the law of orders says
@@ -135,19 +138,25 @@ can_take t plain numbered s ahead n event ready free =
     let option : only_option t ∈ options (schema_of t) = subst (λ os. only_option t ∈ os) (sym (plain_options t plain)) (inl refl) in
     let each : Each (IsReady t.process [] (OnJournal s)) (current_leaves s ++ n ∷ []) = each-append (IsReady t.process [] (OnJournal s)) (current_leaves s) (n ∷ []) ahead.claims (ready, tt) in
     let apart : AreDistinct (current_leaves s ++ n ∷ []) = distinct-append (current_leaves s) (n ∷ []) ahead.apart ((λ m. m), tt)
-        (λ x m. elim [ inl e ↦ free (subst (λ y. y ∈ current_leaves s) e m) | inr none ↦ none ]) in
-    (event, free, (only_option t, option,
-      (law (schema_of t) (well_formed t plain numbered) s (only_option t) option (current_leaves s ++ n ∷ [])).1
-        (alive t plain s ahead, side_by_side t.process plain.plain (current_leaves s ++ n ∷ []) each apart)))
+    (λ x m. elim [ inl e ↦ free (subst (λ y. y ∈ current_leaves s) e m) | inr none ↦ none ]) in (
+      event,
+      free,
+      (
+        only_option t,
+        option,
+        (law (schema_of t) (well_formed t plain numbered) s (only_option t) option (current_leaves s ++ n ∷ [])).1
+            (alive t plain s ahead, side_by_side t.process plain.plain (current_leaves s ++ n ∷ []) each apart),
+      ),
+    )
 
 pub ready_to_take : (t : Labelled) → IsPlainTree t → IsNumbered t.process (length t.labels) → (s : RunState) → (n : ℕ) →
     CanTake (schema_of t) s n → Each (IsReady t.process [] (OnJournal s)) (current_leaves s ++ n ∷ []) × AreDistinct (current_leaves s ++ n ∷ [])
 ready_to_take t plain numbered s n (event, free, (o, option, follow)) =
     let only : o ≡ only_option t = elim (subst (λ os. o ∈ os) (plain_options t plain) option) [ inl e ↦ e | inr none ↦ absurd none ] in
     let side : IsAlive s o × AreSideBySide o.resolution o.order (OnJournal s) (current_leaves s ++ n ∷ []) =
-        (law (schema_of t) (well_formed t plain numbered) s o option (current_leaves s ++ n ∷ [])).0 follow in
+    (law (schema_of t) (well_formed t plain numbered) s o option (current_leaves s ++ n ∷ [])).0 follow in
     let here : AreSideBySide t.process [] (OnJournal s) (current_leaves s ++ n ∷ []) =
-        subst (λ (p : ChoiceOption). AreSideBySide p.resolution p.order (OnJournal s) (current_leaves s ++ n ∷ [])) only side.1 in
+    subst (λ (p : ChoiceOption). AreSideBySide p.resolution p.order (OnJournal s) (current_leaves s ++ n ∷ [])) only side.1 in
     (here.each, side_apart t.process (OnJournal s) (current_leaves s ++ n ∷ []) here.two)
 
 -- the journal is a whole execution exactly where all is done
@@ -155,6 +164,7 @@ pub good_when_finished : (t : Labelled) → IsPlainTree t → IsNumbered t.proce
     IsReadyRun t.process [] s.journal → IsTrue (is_finished t.process done) ↔ IsGood (schema_of t) s.journal
 good_when_finished t plain numbered done s flags run =
     let ordered : IsOrdered t.process [] = record { choice_free = plain_free t.process plain.plain; distinct = leaves_apart t numbered; of_leaves = tt; different = tt } in
-    let both = complete_runs_are_traces t.process [] ordered s.journal in
-    ((λ f. ((both.0 (run, λ n m. (flags.exact n).0 (finished_leaf t.process done f n m))).0, tt)),
-     (λ g. leaves_finished t.process done plain.plain (λ n m. (flags.exact n).1 ((both.1 (g.0, tt)).1 n m))))
+    let both = complete_runs_are_traces t.process [] ordered s.journal in (
+      (λ f. ((both.0 (run, λ n m. (flags.exact n).0 (finished_leaf t.process done f n m))).0, tt)),
+      (λ g. leaves_finished t.process done plain.plain (λ n m. (flags.exact n).1 ((both.1 (g.0, tt)).1 n m))),
+    )

@@ -1,11 +1,12 @@
 -- The claims of a state, as the code keeps them.
-use Rattle.std.proofs.Common.{◌≡◌, ◌≢◌, ◌≤◌, ◌<◌, ◌+◌, ℕ, zero, suc, Bool, true, false, ◌&&◌, ◌||◌, not, cond, nat_eq, nat_le, nat_lt, List, [], ◌∷◌, ◌++◌, length, map, set, Option, Some, None, slice_get, ◌⊎◌, inl, inr, ◌↔◌, IsTrue, refl, sym, ap, ◌∙◌, subst, arith}
+use Rattle.std.proofs.Common.{◌≡◌, ◌≢◌, ◌≤◌, ◌<◌, ◌+◌, ℕ, zero, suc, Bool, true, false, ◌&&◌, ◌||◌, not, cond, nat_eq, nat_le, nat_lt, List, [], ◌∷◌, ◌++◌, length, map, set, Option, Some, None, slice_get, ◌⊎◌, inl, inr, ◌↔◌, IsTrue, IsSomeAnd, refl, sym, ap, ◌∙◌, subst, arith}
 use Rattle.std.specs.List.{filter, find, list_any, position_from, fold}
+use Rattle.std.proofs.lemmas.Option.{slice_get_cases}
 use Rattle.std.proofs.lemmas.Bool.{eqb-true, eq-eqb, ne_eqb, le-leb}
 use Rattle.flow_model.specs.declared.labels.Label.{Label}
 use Rattle.flow_model.specs.Lists.{◌∈◌, Each, AreDistinct}
 use Rattle.flow_model.specs.Facts.{event_at, is_event}
-use Rattle.flow_model.specs.Run.{Claim, RunState, is_current, current_claims, current_leaves, claim_at, answer}
+use Rattle.flow_model.specs.Run.{Claim, RunState, is_current, current_claims, current_leaves, claim_at, IsCurrent, answer}
 use Rattle.flow_core.specs.declared.given.Given.{Given}
 use Rattle.flow_core.specs.Given.{claim_of, claims_from, is_out, first_out, on_event}
 
@@ -82,7 +83,6 @@ abbrev pub out_leaves : List Given → List ℕ
 out_leaves [] = []
 out_leaves (g ∷ gs) = cond g.answered (out_leaves gs) (g.leaf ∷ out_leaves gs)
 
-
 not_and_true : (b c : Bool) → c ≡ true → not b && c ≡ not b
 not_and_true true c e = refl
 not_and_true false c e = e
@@ -115,11 +115,13 @@ current-leaves s gs e c = ap (λ cs. map (λ (claim : Claim). claim.leaf) (filte
 -- the test of a claim that is out on a leaf
 out_step : (b : Bool) (x n : ℕ) (rest : Bool) (xs : List ℕ) → (rest ≡ true ↔ (n ∈ xs)) → ((not b && nat_eq x n) || rest) ≡ true ↔ (n ∈ cond b xs (x ∷ xs))
 out_step true x n rest xs h = h
-out_step false x n rest xs h =
-    (elim (nat_eq x n) as (λ t. nat_eq x n ≡ t → t || rest ≡ true → n ∈ (x ∷ xs)) [
-       true ↦ λ e _. inl (sym (eqb-true x n e))
-     | false ↦ λ e r. inr (h.0 r) ] refl,
-     elim [ inl e ↦ ap (λ t. t || rest) (eq-eqb x n (sym e)) | inr m ↦ either_true (nat_eq x n) rest (h.1 m) ])
+out_step false x n rest xs h = (
+  elim (nat_eq x n) as (λ t. nat_eq x n ≡ t → t || rest ≡ true → n ∈ (x ∷ xs)) [
+    | true ↦ λ e _. inl (sym (eqb-true x n e))
+    | false ↦ λ e r. inr (h.0 r)
+  ] refl,
+  elim [ inl e ↦ ap (λ t. t || rest) (eq-eqb x n (sym e)) | inr m ↦ either_true (nat_eq x n) rest (h.1 m) ],
+)
   where
     either_true : (a b : Bool) → b ≡ true → a || b ≡ true
     either_true true b e = refl
@@ -155,7 +157,7 @@ out_leaves-answered (x ∷ gs) zero g h a =
       front = [];
       back = out_leaves gs;
       was = ap (λ (y : Given). cond y.answered (out_leaves gs) (y.leaf ∷ out_leaves gs)) e ∙ ap (λ b. cond b (out_leaves gs) (g.leaf ∷ out_leaves gs)) a;
-      is = refl
+      is = refl;
     }
 out_leaves-answered (x ∷ gs) (suc i) g h a =
     let r : LeavesOut (out_leaves gs) (out_leaves (set gs i (answered g))) g.leaf = out_leaves-answered gs i g h a in
@@ -164,3 +166,47 @@ out_leaves-answered (x ∷ gs) (suc i) g h a =
     under : (b : Bool) (y : ℕ) (before after : List ℕ) (leaf : ℕ) → LeavesOut before after leaf → LeavesOut (cond b before (y ∷ before)) (cond b after (y ∷ after)) leaf
     under true y before after leaf r = r
     under false y before after leaf r = record { front = y ∷ r.front; back = r.back; was = ap (λ xs. y ∷ xs) r.was; is = ap (λ xs. y ∷ xs) r.is }
+
+-- what a number says of the claims
+pub data Numbered (gs : List Given) (number : ℕ) : Type 0 where
+  -- it is that of the claim at a place
+  given_at : (i : ℕ) (g : Given) → number ≡ 1 + i → i < length gs → slice_get gs i ≡ Some g → Numbered gs number
+  -- it was never given
+  not_given : (number ≡ 0) ⊎ (length gs < number) → Numbered gs number
+
+pub numbered : (gs : List Given) (number : ℕ) → Numbered gs number
+numbered gs zero = not_given (inl refl)
+numbered gs (suc i) = elim (slice_get_cases gs i).1 [
+  | inl f ↦ given_at i f.0 (omega arith) f.1 f.2
+  | inr p ↦ not_given (inr (let h : length gs ≤ i = p.0 in omega arith))
+]
+
+pub claim-given : (s : RunState) (gs : List Given) → s.claims ≡ claims_from 1 gs → (number i : ℕ) (g : Given) → number ≡ 1 + i → slice_get gs i ≡ Some g →
+    claim_at s number ≡ Some (claim_of number g)
+claim-given s gs c number i g n at =
+    ap (λ m. find (λ (claim : Claim). nat_eq claim.number m) s.claims) n ∙ ap (find (λ (claim : Claim). nat_eq claim.number (1 + i))) c
+    ∙ find-claims_from 1 i gs g at ∙ ap (λ m. Some (claim_of m g)) (sym n)
+
+pub claim-not-given : (s : RunState) (gs : List Given) → s.claims ≡ claims_from 1 gs → (number : ℕ) → (number ≡ 0) ⊎ (length gs < number) → claim_at s number ≡ None
+claim-not-given s gs c number h =
+    ap (find (λ (claim : Claim). nat_eq claim.number number)) c ∙ elim h [
+      | inl z ↦ find-claims_before 1 number gs (omega arith)
+      | inr l ↦ find-claims_past 1 number gs (omega arith)
+    ]
+
+-- in the first epoch a claim is current exactly while it is out
+pub current-given : (s : RunState) (gs : List Given) → s.claims ≡ claims_from 1 gs → s.epoch ≡ 0 → (number i : ℕ) (g : Given) → number ≡ 1 + i → slice_get gs i ≡ Some g →
+    (g.answered ≡ false) ↔ IsCurrent s number
+current-given s gs c e number i g n at =
+    let found : claim_at s number ≡ Some (claim_of number g) = claim-given s gs c number i g n at in
+    let now : nat_eq 0 s.epoch ≡ true = eq-eqb 0 s.epoch (sym e) in (
+      (λ a. subst (λ o. IsSomeAnd o (λ claim. IsTrue (is_current s claim))) (sym found) (not_and_true g.answered (nat_eq 0 s.epoch) now ∙ ap not a)),
+      (λ h. let t : not g.answered ≡ true = sym (not_and_true g.answered (nat_eq 0 s.epoch) now) ∙ subst (λ o. IsSomeAnd o (λ claim. IsTrue (is_current s claim))) found h in not_false g.answered t),
+    )
+  where
+    not_false : (b : Bool) → not b ≡ true → b ≡ false
+    not_false true t = cc
+    not_false false t = refl
+
+pub not-current : (s : RunState) (gs : List Given) → s.claims ≡ claims_from 1 gs → (number : ℕ) → (number ≡ 0) ⊎ (length gs < number) → ¬ (IsCurrent s number)
+not-current s gs c number h k = subst (λ o. IsSomeAnd o (λ claim. IsTrue (is_current s claim))) (claim-not-given s gs c number h) k

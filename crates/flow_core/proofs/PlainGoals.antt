@@ -62,9 +62,13 @@ plain_blocks : (q : Process) → IsPlain q → Blocks q (singles (leaves q))
 plain_blocks Empty p = absurd p
 plain_blocks (Task n) p = refl
 plain_blocks (Sequence a b) p = (singles (leaves a), singles (leaves b), plain_blocks a p.0, plain_blocks b p.1, singles-append (leaves a) (leaves b))
-plain_blocks (Parallel a b) p =
-    (singles (leaves a), singles (leaves b), plain_blocks a p.0, plain_blocks b p.1,
-     subst (λ blocks. Shuffle (singles (leaves a)) (singles (leaves b)) blocks) (sym (singles-append (leaves a) (leaves b))) (one_then_other (singles (leaves a)) (singles (leaves b))))
+plain_blocks (Parallel a b) p = (
+  singles (leaves a),
+  singles (leaves b),
+  plain_blocks a p.0,
+  plain_blocks b p.1,
+  subst (λ blocks. Shuffle (singles (leaves a)) (singles (leaves b)) blocks) (sym (singles-append (leaves a) (leaves b))) (one_then_other (singles (leaves a)) (singles (leaves b))),
+)
 plain_blocks (Choice a b) p = absurd p
 plain_blocks (Isolated a) p = absurd p
 
@@ -80,7 +84,7 @@ plain_ready q p {Done} n leaf fresh earlier = record {
   not_done = fresh;
   before = λ x. elim [ inl s ↦ earlier x s | inr none ↦ absurd none ];
   outside = λ part m. absurd (plain_part q part p m);
-  begins = λ part m. absurd (plain_part q part p m)
+  begins = λ part m. absurd (plain_part q part p m);
 }
 
 pub both_true : (a b : Bool) → IsTrue (a && b) → IsTrue a × IsTrue b
@@ -153,34 +157,38 @@ next_sound (Task m) done n d h =
 next_sound (Sequence a b) done n d h =
     let parts = distinct_parts (leaves a) (leaves b) d in
     elim (one_true (is_next a done n) (is_finished a done && is_next b done n) h) [
-      inl l ↦ (let r : MayComeNext a done n = next_sound a done n parts.0 l in record {
+      | inl l ↦ (let r : MayComeNext a done n = next_sound a done n parts.0 l in record {
         leaf = mem_append_left n (leaves a) (leaves b) r.leaf;
         fresh = r.fresh;
         earlier = λ x. elim [
-          inl s ↦ elim s [ inl t ↦ absurd (parts.2 n r.leaf t.1) | inr u ↦ r.earlier x u ]
-        | inr v ↦ absurd (parts.2 n r.leaf (sequence_second b x n v)) ]
+          | inl s ↦ elim s [ inl t ↦ absurd (parts.2 n r.leaf t.1) | inr u ↦ r.earlier x u ]
+          | inr v ↦ absurd (parts.2 n r.leaf (sequence_second b x n v))
+        ];
       })
-    | inr r ↦ (let t = both_true (is_finished a done) (is_next b done n) r in
-        let s : MayComeNext b done n = next_sound b done n parts.1 t.1 in record {
-        leaf = mem_append_right n (leaves a) (leaves b) s.leaf;
-        fresh = s.fresh;
-        earlier = λ x. elim [
-          inl u ↦ elim u [ inl v ↦ finished_leaf a done t.0 x v.0 | inr w ↦ absurd (parts.2 n (sequence_second a x n w) s.leaf) ]
-        | inr v ↦ s.earlier x v ]
-      }) ]
+      | inr r ↦ (let t = both_true (is_finished a done) (is_next b done n) r in
+          let s : MayComeNext b done n = next_sound b done n parts.1 t.1 in record {
+            leaf = mem_append_right n (leaves a) (leaves b) s.leaf;
+            fresh = s.fresh;
+            earlier = λ x. elim [
+              | inl u ↦ elim u [ inl v ↦ finished_leaf a done t.0 x v.0 | inr w ↦ absurd (parts.2 n (sequence_second a x n w) s.leaf) ]
+              | inr v ↦ s.earlier x v
+            ];
+          })
+    ]
 next_sound (Parallel a b) done n d h =
     let parts = distinct_parts (leaves a) (leaves b) d in
     elim (one_true (is_next a done n) (is_next b done n) h) [
-      inl l ↦ (let r : MayComeNext a done n = next_sound a done n parts.0 l in record {
+      | inl l ↦ (let r : MayComeNext a done n = next_sound a done n parts.0 l in record {
         leaf = mem_append_left n (leaves a) (leaves b) r.leaf;
         fresh = r.fresh;
-        earlier = λ x. elim [ inl s ↦ r.earlier x s | inr v ↦ absurd (parts.2 n r.leaf (sequence_second b x n v)) ]
+        earlier = λ x. elim [ inl s ↦ r.earlier x s | inr v ↦ absurd (parts.2 n r.leaf (sequence_second b x n v)) ];
       })
-    | inr r ↦ (let s : MayComeNext b done n = next_sound b done n parts.1 r in record {
+      | inr r ↦ (let s : MayComeNext b done n = next_sound b done n parts.1 r in record {
         leaf = mem_append_right n (leaves a) (leaves b) s.leaf;
         fresh = s.fresh;
-        earlier = λ x. elim [ inl u ↦ absurd (parts.2 n (sequence_second a x n u) s.leaf) | inr v ↦ s.earlier x v ]
-      }) ]
+        earlier = λ x. elim [ inl u ↦ absurd (parts.2 n (sequence_second a x n u) s.leaf) | inr v ↦ s.earlier x v ];
+      })
+    ]
 next_sound (Choice a b) done n d h = let e : false ≡ true = h in cc
 next_sound (Isolated a) done n d h = let e : false ≡ true = h in cc
 
@@ -191,17 +199,19 @@ next_complete (Task k) done n p m =
     true_both (nat_eq k n) (not (is_done done k)) (eq-eqb k n (sym e)) (true_not (is_done done k) (λ y. m.fresh (ap (is_done done) e ∙ y)))
 next_complete (Sequence a b) done n p m =
     elim (mem-append n (leaves a) (leaves b) m.leaf) [
-      inl l ↦ true_left (is_next a done n) (is_finished a done && is_next b done n)
-        (next_complete a done n p.0 (record { leaf = l; fresh = m.fresh; earlier = λ x s. m.earlier x (inl (inr s)) }))
-    | inr r ↦ true_right (is_next a done n) (is_finished a done && is_next b done n)
-        (true_both (is_finished a done) (is_next b done n)
+      | inl l ↦ true_left (is_next a done n) (is_finished a done && is_next b done n)
+          (next_complete a done n p.0 (record { leaf = l; fresh = m.fresh; earlier = λ x s. m.earlier x (inl (inr s)) }))
+      | inr r ↦ true_right (is_next a done n) (is_finished a done && is_next b done n)
+          (true_both (is_finished a done) (is_next b done n)
           (leaves_finished a done p.0 (λ x l. m.earlier x (inl (inl (l, r)))))
-          (next_complete b done n p.1 (record { leaf = r; fresh = m.fresh; earlier = λ x s. m.earlier x (inr s) }))) ]
+          (next_complete b done n p.1 (record { leaf = r; fresh = m.fresh; earlier = λ x s. m.earlier x (inr s) })))
+    ]
 next_complete (Parallel a b) done n p m =
     elim (mem-append n (leaves a) (leaves b) m.leaf) [
-      inl l ↦ true_left (is_next a done n) (is_next b done n)
-        (next_complete a done n p.0 (record { leaf = l; fresh = m.fresh; earlier = λ x s. m.earlier x (inl s) }))
-    | inr r ↦ true_right (is_next a done n) (is_next b done n)
-        (next_complete b done n p.1 (record { leaf = r; fresh = m.fresh; earlier = λ x s. m.earlier x (inr s) })) ]
+      | inl l ↦ true_left (is_next a done n) (is_next b done n)
+          (next_complete a done n p.0 (record { leaf = l; fresh = m.fresh; earlier = λ x s. m.earlier x (inl s) }))
+      | inr r ↦ true_right (is_next a done n) (is_next b done n)
+          (next_complete b done n p.1 (record { leaf = r; fresh = m.fresh; earlier = λ x s. m.earlier x (inr s) }))
+    ]
 next_complete (Choice a b) done n p m = absurd p
 next_complete (Isolated a) done n p m = absurd p

@@ -9,7 +9,7 @@ use Rattle.flow_model.specs.declared.labels.Note.TheVariants as note
 use Rattle.flow_model.specs.Facts.{event_at, is_event}
 use Rattle.flow_model.specs.Verdict.{call_of, event_of_claim, attempts}
 use Rattle.flow_model.specs.declared.history.Step.TheVariants.{Took, Done, Committed}
-use Rattle.flow_model.specs.Lists.{◌∈◌, Each, AreDistinct}
+use Rattle.flow_model.specs.Lists.{◌∈◌, Each, AreDistinct, numbers_from}
 use Rattle.flow_model.specs.Process.{leaves, IsNumbered}
 use Rattle.flow_model.specs.Schema.{Schema, IsGood}
 use Rattle.flow_model.specs.Ready.{IsReady, IsReadyRun, DoneOr}
@@ -22,7 +22,7 @@ use Rattle.flow_core.specs.Look.{is_done}
 use Rattle.flow_core.specs.View.{schema_of}
 use Rattle.flow_core.specs.Kept.{IsAhead, AreFlags, IsKept}
 use Rattle.flow_core.proofs.PlainGoals.{plain_ready}
-use Rattle.flow_core.proofs.GivenClaims.{length-claims_from, claims_from-append, find-claims_from, answered, answer-claims_from, out_leaves, current-leaves, out_leaves-append, LeavesOut, out_leaves-answered}
+use Rattle.flow_core.proofs.GivenClaims.{Numbered, given_at, not_given, numbered, current-given, not-current, length-claims_from, claims_from-append, find-claims_from, answered, answer-claims_from, out_leaves, current-leaves, out_leaves-append, LeavesOut, out_leaves-answered}
 use Rattle.flow_laws.proofs.ListLemmas2.{mem_append_left, mem_append_right, mem-append, each-append, each_parts, distinct_parts, distinct-append, equal_or_not}
 use Rattle.flow_laws.proofs.FollowingLemmas.{run_after_journal}
 use Rattle.flow_laws.proofs.ClaimLemmas.{leaf_of_claim_is}
@@ -62,27 +62,30 @@ pub ahead_took : (t : Labelled) (s : RunState) (gs : List Given) → IsAhead t s
 ahead_took t s gs ahead c claim leaf number ready apart =
     let g : Given = record { leaf = leaf; answered = false } in
     let c' : (next_state s (Took claim leaf)).claims ≡ claims_from 1 (gs ++ g ∷ []) =
-        ap (λ cs. cs ++ record { number = claim; leaf = leaf; epoch = s.epoch; answered = false } ∷ []) c
-        ∙ ap (λ n. claims_from 1 gs ++ record { number = claim; leaf = leaf; epoch = n; answered = false } ∷ []) ahead.epoch
-        ∙ ap (λ n. claims_from 1 gs ++ claim_of n g ∷ []) number
-        ∙ sym (claims_from-append 1 gs g) in
+    ap (λ cs. cs ++ record { number = claim; leaf = leaf; epoch = s.epoch; answered = false } ∷ []) c
+    ∙ ap (λ n. claims_from 1 gs ++ record { number = claim; leaf = leaf; epoch = n; answered = false } ∷ []) ahead.epoch
+    ∙ ap (λ n. claims_from 1 gs ++ claim_of n g ∷ []) number
+    ∙ sym (claims_from-append 1 gs g) in
     let now : current_leaves (next_state s (Took claim leaf)) ≡ current_leaves s ++ leaf ∷ [] =
-        current-leaves (next_state s (Took claim leaf)) (gs ++ g ∷ []) ahead.epoch c' ∙ out_leaves-append gs leaf
-        ∙ ap (λ xs. xs ++ leaf ∷ []) (sym (current-leaves s gs ahead.epoch c)) in
-    (record {
-      bans = ahead.bans;
-      epoch = ahead.epoch;
-      journal = ahead.journal;
-      claims = subst (Each (IsReady t.process [] (λ n. n ∈ s.journal))) (sym now) ready;
-      apart = subst AreDistinct (sym now) apart
-    }, c')
+    current-leaves (next_state s (Took claim leaf)) (gs ++ g ∷ []) ahead.epoch c' ∙ out_leaves-append gs leaf
+    ∙ ap (λ xs. xs ++ leaf ∷ []) (sym (current-leaves s gs ahead.epoch c)) in (
+      record {
+        bans = ahead.bans;
+        epoch = ahead.epoch;
+        journal = ahead.journal;
+        claims = subst (Each (IsReady t.process [] (λ n. n ∈ s.journal))) (sym now) ready;
+        apart = subst AreDistinct (sym now) apart;
+      },
+      c',
+    )
 
 -- what is left of distinct members when one is taken out
 distinct_without : (front : List ℕ) (x : ℕ) (back : List ℕ) → AreDistinct (front ++ x ∷ back) → AreDistinct (front ++ back) × ¬ (x ∈ (front ++ back))
 distinct_without front x back d =
-    let parts = distinct_parts front (x ∷ back) d in
-    (distinct-append front back parts.0 parts.1.1 (λ y m n. parts.2 y m (inr n)),
-     λ m. elim (mem-append x front back m) [ inl f ↦ parts.2 x f (inl refl) | inr b ↦ parts.1.0 b ])
+    let parts = distinct_parts front (x ∷ back) d in (
+      distinct-append front back parts.0 parts.1.1 (λ y m n. parts.2 y m (inr n)),
+      λ m. elim (mem-append x front back m) [ inl f ↦ parts.2 x f (inl refl) | inr b ↦ parts.1.0 b ],
+    )
 
 each_without : (P : ℕ → Type 0) (front : List ℕ) (x : ℕ) (back : List ℕ) → Each P (front ++ x ∷ back) → Each P (front ++ back) × P x
 each_without P front x back h =
@@ -109,16 +112,19 @@ ahead_done t plain s gs ahead c i g at going =
     let after : current_leaves s' ≡ out.front ++ out.back = current-leaves s' (set gs i (answered g)) ahead.epoch claims' ∙ out.is in
     let ready = each_without (IsReady t.process [] (λ n. n ∈ s.journal)) out.front g.leaf out.back (subst (Each (IsReady t.process [] (λ n. n ∈ s.journal))) before ahead.claims) in
     let apart = distinct_without out.front g.leaf out.back (subst AreDistinct before ahead.apart) in
-    let run : IsReadyRun t.process [] (s.journal ++ g.leaf ∷ []) = (run_after_journal t.process [] s.journal (g.leaf ∷ [])).1 (ahead.journal, (ready.1, tt)) in
-    (record {
-      bans = ahead.bans;
-      epoch = ahead.epoch;
-      journal = subst (IsReadyRun t.process []) (sym journal') run;
-      claims = subst (λ journal. Each (IsReady t.process [] (λ n. n ∈ journal)) (current_leaves s')) (sym journal')
-        (subst (Each (IsReady t.process [] (λ n. n ∈ (s.journal ++ g.leaf ∷ [])))) (sym after)
-          (stay_ready t plain s.journal g.leaf (out.front ++ out.back) ready.0 apart.1));
-      apart = subst AreDistinct (sym after) apart.0
-    }, claims', journal')
+    let run : IsReadyRun t.process [] (s.journal ++ g.leaf ∷ []) = (run_after_journal t.process [] s.journal (g.leaf ∷ [])).1 (ahead.journal, (ready.1, tt)) in (
+      record {
+        bans = ahead.bans;
+        epoch = ahead.epoch;
+        journal = subst (IsReadyRun t.process []) (sym journal') run;
+        claims = subst (λ journal. Each (IsReady t.process [] (λ n. n ∈ journal)) (current_leaves s')) (sym journal')
+            (subst (Each (IsReady t.process [] (λ n. n ∈ (s.journal ++ g.leaf ∷ [])))) (sym after)
+            (stay_ready t plain s.journal g.leaf (out.front ++ out.back) ready.0 apart.1));
+        apart = subst AreDistinct (sym after) apart.0;
+      },
+      claims',
+      journal',
+    )
 
 is_done-same : (done : List Bool) (n : ℕ) → n < length done → is_done (set done n true) n ≡ true
 is_done-same [] n h = absurd (omega arith)
@@ -143,12 +149,16 @@ is_done-kept (b ∷ done) (suc n) (suc m) h = is_done-kept done n m h
 pub flags_set : (t : Labelled) (done : List Bool) (journal : List ℕ) → AreFlags t done journal → (leaf : ℕ) → leaf < length done → AreFlags t (set done leaf true) (journal ++ leaf ∷ [])
 flags_set t done journal flags leaf below = record {
   one_each = length-set done leaf true ∙ flags.one_each;
-  exact = λ n. (elim (equal_or_not n leaf) [
-      inl e ↦ (λ d. mem_append_right n journal (leaf ∷ []) (inl e))
-    | inr ne ↦ (λ d. mem_append_left n journal (leaf ∷ []) ((flags.exact n).0 (sym (is_done-other done n leaf ne) ∙ d))) ],
+  exact = λ n. (
+    elim (equal_or_not n leaf) [
+      | inl e ↦ (λ d. mem_append_right n journal (leaf ∷ []) (inl e))
+      | inr ne ↦ (λ d. mem_append_left n journal (leaf ∷ []) ((flags.exact n).0 (sym (is_done-other done n leaf ne) ∙ d)))
+    ],
     λ m. elim (mem-append n journal (leaf ∷ []) m) [
-      inl j ↦ is_done-kept done n leaf ((flags.exact n).1 j)
-    | inr o ↦ elim o [ inl e ↦ ap (is_done (set done leaf true)) e ∙ is_done-same done leaf below | inr none ↦ absurd none ] ])
+      | inl j ↦ is_done-kept done n leaf ((flags.exact n).1 j)
+      | inr o ↦ elim o [ inl e ↦ ap (is_done (set done leaf true)) e ∙ is_done-same done leaf below | inr none ↦ absurd none ]
+    ],
+  );
 }
 
 -- one entry more of the history
@@ -177,7 +187,7 @@ kept_give t limit history journal done given committed k going room leaf by can 
     let step : Step = Took (1 + length given) leaf in
     let g : Given = record { leaf = leaf; answered = false } in
     let count : 1 + length given ≡ length (state_of history).claims + 1 =
-        let e : length (state_of history).claims ≡ length given = ap length k.claims_are ∙ length-claims_from 1 given in omega arith in
+    let e : length (state_of history).claims ≡ length given = ap length k.claims_are ∙ length-claims_from 1 given in omega arith in
     let both = ahead_took t (state_of history) given k.ahead k.claims_are (1 + length given) leaf refl ready.0 ready.1 in
     let same : state_of (longer history by step) ≡ next_state (state_of history) step = state_longer history by step in
     record {
@@ -192,7 +202,7 @@ kept_give t limit history journal done given committed k going room leaf by can 
       spent = let e : length (longer history by step) ≡ length history + 1 = length-longer history by step in omega arith;
       few_claims = let e : length (longer history by step) ≡ length history + 1 = length-longer history by step in
           let f : length (given ++ g ∷ []) ≡ length given + 1 = length-append given (g ∷ []) in let h : length given ≤ length history = k.few_claims in omega arith;
-      few_leaves = let e : length (longer history by step) ≡ length history + 1 = length-longer history by step in let h : length journal ≤ length history = k.few_leaves in omega arith
+      few_leaves = let e : length (longer history by step) ≡ length history + 1 = length-longer history by step in let h : length journal ≤ length history = k.few_leaves in omega arith;
     }
 
 -- a success is posted
@@ -217,7 +227,7 @@ kept_done t limit history journal done given committed k going room by i g at ou
       few_claims = let e : length (longer history by step) ≡ length history + 1 = length-longer history by step in
           let f : length (set given i (answered g)) ≡ length given = length-set given i (answered g) in let h : length given ≤ length history = k.few_claims in omega arith;
       few_leaves = let e : length (longer history by step) ≡ length history + 1 = length-longer history by step in
-          let f : length (journal ++ g.leaf ∷ []) ≡ length journal + 1 = length-append journal (g.leaf ∷ []) in let h : length journal ≤ length history = k.few_leaves in omega arith
+          let f : length (journal ++ g.leaf ∷ []) ≡ length journal + 1 = length-append journal (g.leaf ∷ []) in let h : length journal ≤ length history = k.few_leaves in omega arith;
     }
 
 -- the run is over
@@ -238,7 +248,7 @@ kept_commit t limit history journal done given committed k going room by none go
       flags = k.flags;
       spent = let e : length (longer history by Committed) ≡ length history + 1 = length-longer history by Committed in omega arith;
       few_claims = let e : length (longer history by Committed) ≡ length history + 1 = length-longer history by Committed in let h : length given ≤ length history = k.few_claims in omega arith;
-      few_leaves = let e : length (longer history by Committed) ≡ length history + 1 = length-longer history by Committed in let h : length journal ≤ length history = k.few_leaves in omega arith
+      few_leaves = let e : length (longer history by Committed) ≡ length history + 1 = length-longer history by Committed in let h : length journal ≤ length history = k.few_leaves in omega arith;
     }
 
 -- how many claims are on leaves of an event: every number that was given is at most the last
@@ -274,9 +284,52 @@ call-took t s gs leaf event claim c number at =
     let event_is : event_of_claim w s (1 + length gs) ≡ event = ap (λ l. number_in (event_at t.labels l)) leaf_is ∙ ap number_in at in
     let few : 1 + length (gs ++ g ∷ []) ≤ 1 + length gs + 1 = let e : length (gs ++ g ∷ []) ≡ length gs + 1 = length-append gs (g ∷ []) in omega arith in
     let count : on_event t.labels event (gs ++ g ∷ []) ≡ attempts w s (event_of_claim w s (1 + length gs)) (1 + length gs) =
-        sym (fold-claims_from t.labels event (1 + length gs) 1 (gs ++ g ∷ []) 0 few)
-        ∙ ap (λ cs. fold (λ a (claim : Claim). a + cond (nat_le claim.number (1 + length gs) && is_event event (event_at t.labels claim.leaf)) 1 0) 0 cs) (sym c)
-        ∙ ap (λ e. attempts w s e (1 + length gs)) (sym event_is) in
+    sym (fold-claims_from t.labels event (1 + length gs) 1 (gs ++ g ∷ []) 0 few)
+    ∙ ap (λ cs. fold (λ a (claim : Claim). a + cond (nat_le claim.number (1 + length gs) && is_event event (event_at t.labels claim.leaf)) 1 0) 0 cs) (sym c)
+    ∙ ap (λ e. attempts w s e (1 + length gs)) (sym event_is) in
     let at_last : record { claim = 1 + length gs; leaf = leaf; event = event; attempt = on_event t.labels event (gs ++ g ∷ []); note = note.Done } ≡ call_of w s (1 + length gs) =
-        λ i. record { claim = 1 + length gs; leaf = sym leaf_is i; event = sym event_is i; attempt = count i; note = note.Done } in
+    λ i. record { claim = 1 + length gs; leaf = sym leaf_is i; event = sym event_is i; attempt = count i; note = note.Done } in
     subst (λ (m : ℕ). ◌≡◌ {A = Call} record { claim = m; leaf = leaf; event = event; attempt = on_event t.labels event (gs ++ g ∷ []); note = note.Done } (call_of w s m)) (sym number) at_last
+
+-- a row of numbers ends below its length
+below_row : (first count n : ℕ) → n ∈ numbers_from first count → n < first + count
+below_row first zero n m = absurd m
+below_row first (suc count) n m = elim m [
+  | inl e ↦ (let f : n ≡ first = e in omega arith)
+  | inr r ↦ (let h : n < first + 1 + count = below_row (first + 1) count n r in omega arith)
+]
+
+-- the claim of a place, while it is out
+pub record IsOutAt (done : List Bool) (given : List Given) (i : ℕ) : Type 0 where
+  pub claim : Given
+  pub within : i < length given
+  pub at : slice_get given i ≡ Some claim
+  pub out : claim.answered ≡ false
+  pub below : claim.leaf < length done
+
+pub out_below : (t : Labelled) (limit : ℕ) (history : List Entry) (journal : List ℕ) (done : List Bool) (given : List Given) (committed : Bool) →
+    IsKept t limit history journal done given committed → (i : ℕ) (g : Given) → slice_get given i ≡ Some g → g.answered ≡ false → g.leaf < length done
+out_below t limit history journal done given committed k i g at out =
+    let l : LeavesOut (out_leaves given) (out_leaves (set given i (answered g))) g.leaf = out_leaves-answered given i g at out in
+    let before : current_leaves (state_of history) ≡ l.front ++ g.leaf ∷ l.back = current-leaves (state_of history) given k.ahead.epoch k.claims_are ∙ l.was in
+    let ready = each_without (IsReady t.process [] (λ n. n ∈ (state_of history).journal)) l.front g.leaf l.back
+    (subst (Each (IsReady t.process [] (λ n. n ∈ (state_of history).journal))) before k.ahead.claims) in
+    let row : g.leaf < 0 + length t.labels = below_row 0 (length t.labels) g.leaf (subst (λ xs. g.leaf ∈ xs) k.numbered ready.1.leaf) in
+    let same : length done ≡ length t.labels = k.flags.one_each in
+    omega arith
+
+pub out_at : (t : Labelled) (limit : ℕ) (history : List Entry) (journal : List ℕ) (done : List Bool) (given : List Given) (committed : Bool) →
+    IsKept t limit history journal done given committed → (i : ℕ) → IsCurrent (state_of history) (1 + i) → IsOutAt done given i
+out_at t limit history journal done given committed k i current = elim (numbered given (1 + i)) [
+  | given_at j g n within at ↦
+      (let same : j ≡ i = omega arith in
+      let out : g.answered ≡ false = (current-given (state_of history) given k.claims_are k.ahead.epoch (1 + i) j g n at).1 current in
+      record {
+        claim = g;
+        within = subst (λ m. m < length given) same within;
+        at = subst (λ m. slice_get given m ≡ Some g) same at;
+        out = out;
+        below = out_below t limit history journal done given committed k j g at out;
+      })
+  | not_given h ↦ absurd (not-current (state_of history) given k.claims_are (1 + i) h current)
+]

@@ -205,7 +205,10 @@ impl Core {
         ensures { self.new ≡ with_entry self.old by (Done (place + 1)) }
     {
         let leaf = self.given[place].leaf;
-        self.given[place].answered = true;
+        self.given[place] = Given {
+            leaf,
+            answered: true,
+        };
         self.done[leaf as usize] = true;
         self.journal.push_reserved(leaf);
         self.history.push_reserved(Entry {

@@ -17,10 +17,10 @@ invariant_of-self c =
     let good : IsGood (schema_of i.tree) (state_of i.history.items).journal = subst (λ (p : Progress). IsGood p.schema (now p).journal) (sym c.self.view_is) c.requires.good in
     record {
       kept = subst (λ (h : List Entry). IsKept i.tree i.limit h i.journal.items i.done.items i.given.items true) (sym c.push_reserved.ensures.items)
-        (kept_commit i.tree i.limit i.history.items i.journal.items i.done.items i.given.items i.committed c.self.invariant.kept going room c.args.by none good);
+          (kept_commit i.tree i.limit i.history.items i.journal.items i.done.items i.given.items i.committed c.self.invariant.kept going room c.args.by none good);
       history_room = let e : vec_capacity c.push_reserved.new.self ≡ vec_capacity i.history = c.push_reserved.ensures.capacity in
           let r : i.limit ≤ vec_capacity i.history = c.self.invariant.history_room in omega arith;
       journal_room = c.self.invariant.journal_room;
       given_room = c.self.invariant.given_room;
-      small = c.self.invariant.small
+      small = c.self.invariant.small;
     }
