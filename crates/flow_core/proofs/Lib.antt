@@ -2,3 +2,4 @@ pub mod PlainGoals
 pub mod Enabled
 pub mod GivenClaims
 pub mod Steps
+pub mod Tests

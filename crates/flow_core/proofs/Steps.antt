@@ -292,7 +292,7 @@ call-took t s gs leaf event claim c number at =
     subst (λ (m : ℕ). ◌≡◌ {A = Call} record { claim = m; leaf = leaf; event = event; attempt = on_event t.labels event (gs ++ g ∷ []); note = note.Done } (call_of w s m)) (sym number) at_last
 
 -- a row of numbers ends below its length
-below_row : (first count n : ℕ) → n ∈ numbers_from first count → n < first + count
+pub below_row : (first count n : ℕ) → n ∈ numbers_from first count → n < first + count
 below_row first zero n m = absurd m
 below_row first (suc count) n m = elim m [
   | inl e ↦ (let f : n ≡ first = e in omega arith)

@@ -1,19 +1,22 @@
-use Rattle.std.proofs.Common.{rules, ◌≡◌, ◌<◌, ◌≤◌, ◌+◌, ◌↔◌, ℕ, [], length, true, IsTrue, IfOk, OnErr, OnOk, None, Some, ◌-◌, ◌*◌, ◌/◌, ◌%◌, Bool, false, nat_eq, nat_lt, List, ◌∷◌, ◌++◌, slice_index_or, slice_set, bit_and, bit_or, Fits, w8, w32, w64, Bor, MutBor}
-use Rattle.std.specs.Result.{IsErrOf}
-use Rattle.flow_model.specs.Facts.{event_at}
-use Rattle.flow_model.specs.Schema.{IsEventLeaf, IsOtherLeaf, IsGood}
-use Rattle.flow_model.specs.Run.{CanTake, claim_at, current_claims, IsCurrent}
-use Rattle.flow_model.specs.Verdict.{call_of}
-use Rattle.flow_goal.specs.Plain.{IsPlainTree}
-use Rattle.flow_model.specs.declared.history.Step.TheVariants.{Took, Done, Committed}
-use Rattle.flow_core.specs.View.{schema_of, now, with_entry, GoesOn, HasSteps}
-use Rattle.flow_core.specs.Claims.{IsAnswered, IsOut, IsLeastOut}
+use Rattle.std.proofs.Common.{◌≡◌, ℕ, Bool, true, false, not, IsTrue, subst, sym, ap, ◌∙◌, length}
+use Rattle.flow_model.specs.Schema.{IsGood}
+use Rattle.flow_model.specs.Run.{state_of}
+use Rattle.flow_core.specs.Look.{AreBelow, is_finished}
+use Rattle.flow_core.specs.View.{Progress, now, schema_of}
+use Rattle.flow_core.proofs.Tests.{flag_each, complete}
 use Rattle.flow_core.proofs.engine.Core.is_complete.Goals as goal
 
--- src/engine.rt:255:9
 pub look_through-requires : goal.look_through-requires
-look_through-requires c = ?
+look_through-requires c =
+    let i = c.self.inside in
+    subst (λ q. AreBelow q i.done.len) (sym c.goal.ensures)
+      (subst (AreBelow i.tree.process) (sym i.done.ok.0) (flag_each i.tree i.limit i.history.items i.journal.items i.done.items i.given.items i.committed c.self.invariant.kept))
 
--- src/engine.rt:252:5
 pub returns : goal.returns
-returns c = ?
+returns c =
+    let i = c.self.inside in
+    let finished : c.look_through.result.finished ≡ is_finished i.tree.process i.done.items =
+        c.look_through.ensures.finished ∙ ap (λ q. is_finished q i.done.items) c.goal.ensures in
+    let both = complete i.tree i.limit i.history.items i.journal.items i.done.items i.given.items i.committed c.self.invariant.kept in
+    ((λ h. subst (λ (p : Progress). IsGood p.schema (now p).journal) c.self.view_is (both.0 (sym finished ∙ h))),
+     (λ g. finished ∙ both.1 (subst (λ (p : Progress). IsGood p.schema (now p).journal) (sym c.self.view_is) g)))
