@@ -1,4 +1,4 @@
-ghost use Rattle.std.specs.Prelude.{◌≡◌, ◌<◌, ◌≤◌, ◌+◌, ◌↔◌, ℕ, [], length, true, IsTrue, IfOk, OnErr, OnOk, None, Some};
+ghost use Rattle.std.specs.Prelude.{◌≡◌, ◌<◌, ◌≤◌, ◌+◌, ◌↔◌, ℕ, [], length, true, IsTrue, IfOk, OnErr, OnOk, None, Some, MatchOption};
 ghost use Rattle.std.specs.Result.{IsErrOf};
 ghost use Rattle.flow_model.specs.Facts.{event_at};
 ghost use Rattle.flow_model.specs.Schema.{IsEventLeaf, IsOtherLeaf, IsGood};
@@ -6,7 +6,7 @@ ghost use Rattle.flow_model.specs.Run.{CanTake, claim_at, current_claims, IsCurr
 ghost use Rattle.flow_model.specs.Verdict.{call_of};
 ghost use Rattle.flow_goal.specs.Plain.{IsPlainTree};
 
-use crate::given::{Given, attempts_at, is_out_on, place_of_first_out};
+use crate::given::{Given, Standing, attempts_at, is_out_on, place_of_first_out};
 use crate::look::look_through;
 use crate::refusal::{CommitRefusal, PostRefusal, TakeRefusal};
 use flow_goal::{Label, Note, Tree};
@@ -44,7 +44,7 @@ impl Model for Core {
 impl Core {
     ghost use Rattle.flow_model.specs.declared.history.Step.TheVariants.{Took, Done, Committed};
     ghost use Rattle.flow_core.specs.View.{schema_of, now, with_entry, GoesOn, HasSteps};
-    ghost use Rattle.flow_core.specs.Claims.{IsAnswered, IsOut, IsLeastOut};
+    ghost use Rattle.flow_core.specs.Claims.{IsAnswered, IsOut, IsLeastOut, IsStanding};
 
     /// Starts a run with no entry yet.
     pub fn start(alloc: Global, tree: Tree, limit: u32) -> Result<Core, AllocError>
@@ -109,10 +109,11 @@ impl Core {
         if self.committed {
             return Err(TakeRefusal::Closed);
         }
-        let event = match self.tree.label(leaf) {
-            None => return Err(TakeRefusal::NoLeaf),
-            Some(Label::Event(event)) => event,
-            Some(_) => return Err(TakeRefusal::WrongKind),
+        if self.tree.leaves() <= leaf {
+            return Err(TakeRefusal::NoLeaf);
+        }
+        let Some(event) = self.event_at(leaf) else {
+            return Err(TakeRefusal::WrongKind);
         };
         if !self.has_steps() {
             return Err(TakeRefusal::Spent { limit: self.limit });
@@ -121,6 +122,16 @@ impl Core {
             return Err(TakeRefusal::NotEnabled);
         }
         Ok(self.give(leaf, event, by))
+    }
+
+    /// The event at a leaf, if the leaf is an event's.
+    fn event_at(&self, leaf: u32) -> Option<u32>
+        ensures { result ≡ event_at self.now.schema.labels leaf }
+    {
+        match self.tree.label(leaf) {
+            Some(Label::Event(event)) => Some(event),
+            _ => None,
+        }
     }
 
     /// Whether there is room for one entry more.
@@ -183,18 +194,31 @@ impl Core {
         if self.committed {
             return Err(PostRefusal::Closed);
         }
-        if claim == 0 || self.given.len() < claim as usize {
-            return Err(PostRefusal::NoClaim);
-        }
-        let place = claim as usize - 1;
-        if self.given[place].answered {
-            return Err(PostRefusal::Answered);
-        }
+        let place = match self.standing(claim) {
+            Standing::NeverGiven => return Err(PostRefusal::NoClaim),
+            Standing::Answered => return Err(PostRefusal::Answered),
+            Standing::Out(place) => place,
+        };
         if !self.has_steps() {
             return Err(PostRefusal::Spent { limit: self.limit });
         }
         self.record_done(place, by);
         Ok(())
+    }
+
+    /// How a claim stands.
+    fn standing(&self, claim: u32) -> Standing
+        ensures { IsStanding (now self.now) claim result }
+    {
+        if claim == 0 || self.given.len() < claim as usize {
+            return Standing::NeverGiven;
+        }
+        let place = claim as usize - 1;
+        if self.given[place].answered {
+            Standing::Answered
+        } else {
+            Standing::Out(place)
+        }
     }
 
     /// Makes the entry of a success: the leaf of the claim at that place goes on the journal.
@@ -240,8 +264,7 @@ impl Core {
         if !self.has_steps() {
             return Err(CommitRefusal::Spent { limit: self.limit });
         }
-        if let Some(place) = place_of_first_out(&self.given) {
-            let claim = place as u32 + 1;
+        if let Some(claim) = self.least_out() {
             return Err(CommitRefusal::ClaimsOut { claim });
         }
         if !self.is_complete() {
@@ -249,6 +272,16 @@ impl Core {
         }
         self.record_commit(by);
         Ok(())
+    }
+
+    /// The least claim that is out.
+    fn least_out(&self) -> Option<u32>
+        ensures { MatchOption result (current_claims (now self.now) ≡ []) (λ claim. IsLeastOut (now self.now) claim) }
+    {
+        match place_of_first_out(&self.given) {
+            None => None,
+            Some(place) => Some(place as u32 + 1),
+        }
     }
 
     /// Whether the journal is a whole execution.
