@@ -1,0 +1,6 @@
+//! Names of events and facts.
+#![tactic(auto)]
+
+mod name;
+
+pub use name::Name;
