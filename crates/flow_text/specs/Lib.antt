@@ -1,3 +1,5 @@
 pub mod Symbols
 pub mod Grammar
 pub mod Written
+pub mod Tokens
+pub mod Reader

@@ -39,18 +39,23 @@ is_in_line b = not (nat_eq b 10)
 abbrev pub is : List ℕ → List ℕ → Bool
 is word text = pointwise nat_eq word text
 
+-- reserved words of declarations
+abbrev pub is_of_declarations : List ℕ → Bool
+is_of_declarations w =
+    is w (codes "fact") || is w (codes "flow") || is w (codes "constraint") || is w (codes "holds") || is w (codes "redundant") || is w (codes "done") || is w (codes "fail")
+
+-- reserved words of goals
+abbrev pub is_of_goals : List ℕ → Bool
+is_of_goals w = is w (codes "nop") || is w (codes "iso") || is w (codes "ins") || is w (codes "del")
+
+-- reserved words of constraints
+abbrev pub is_of_constraints : List ℕ → Bool
+is_of_constraints w =
+    is w (codes "must") || is w (codes "never") || is w (codes "order") || is w (codes "precedes") || is w (codes "needs") || is w (codes "not") || is w (codes "and") || is w (codes "or")
+
 -- the reserved words besides `event` and `goal`
 abbrev pub is_other_word : List ℕ → Bool
 is_other_word w = is_of_declarations w || is_of_goals w || is_of_constraints w
-  where
-    is_of_declarations : List ℕ → Bool
-    is_of_declarations w = is w (codes "fact") || is w (codes "flow") || is w (codes "constraint") || is w (codes "done") || is w (codes "fail")
-
-    is_of_goals : List ℕ → Bool
-    is_of_goals w = is w (codes "nop") || is w (codes "iso") || is w (codes "ins") || is w (codes "del") || is w (codes "holds")
-
-    is_of_constraints : List ℕ → Bool
-    is_of_constraints w = is w (codes "must")
 
 abbrev pub symbol_of_word : List ℕ → Symbol
 symbol_of_word w =
@@ -81,12 +86,16 @@ gap more = record { symbol = None; more = more }
 abbrev pub written : Symbol → ℕ → Piece
 written symbol more = record { symbol = Some symbol; more = more }
 
+-- the word that begins with that letter
+abbrev pub word_piece : ℕ → List ℕ → Piece
+word_piece b bs = written (symbol_of_word (b ∷ take (prefix_len is_in_word bs) bs)) (prefix_len is_in_word bs)
+
 -- what begins with that byte and those behind it; None where nothing can
 abbrev pub piece_at : ℕ → List ℕ → Option Piece
 piece_at b bs =
     if is_space b then Some (gap 0)
     else (if nat_eq b 35 then Some (gap (prefix_len is_in_line bs))
-    else (if is_letter b then Some (written (symbol_of_word (b ∷ take (prefix_len is_in_word bs) bs)) (prefix_len is_in_word bs))
+    else (if is_letter b then Some (word_piece b bs)
     else (if is_digit b then Some (written other (prefix_len is_digit bs))
     else option_map (λ symbol. written symbol 0) (symbol_of_mark b))))
 

@@ -1,7 +1,11 @@
 //! The reader of workflow texts.
 #![tactic(auto)]
 
+mod refusal;
+mod reader;
+mod token;
 mod workflow;
 
 pub use flow_facts::Name;
-pub use workflow::{TextRefusal, Workflow, one_meaning, parse};
+pub use refusal::TextRefusal;
+pub use workflow::{Workflow, one_meaning, parse};

@@ -3,6 +3,8 @@ ghost use Rattle.flow_text.specs.Written.{Written, written, Derives, IsSimple};
 
 use flow_facts::Name;
 use flow_goal::Tree;
+
+use crate::refusal::TextRefusal;
 use std::alloc::Global;
 
 /// What a text declares: the names of its events, and a goal whose leaves are labelled by their
@@ -11,15 +13,6 @@ use std::alloc::Global;
 pub struct Workflow {
     pub events: Vec<Name>,
     pub tree: Tree,
-}
-
-/// Why a text gives no workflow.
-#[derive(Clone, Copy, Debug, PartialEq, Eq)]
-pub enum TextRefusal {
-    /// The text is none of the grammar's, or it names its events wrongly.
-    Unbuilt,
-    /// There is no memory for the workflow. Nothing is said of the text.
-    NoMemory,
 }
 
 /// Reads a workflow from its text.
