@@ -1,1 +1,3 @@
 pub mod Lexing
+pub mod Piles
+pub mod Complete

@@ -17,10 +17,10 @@ pub data Declarations : List Symbol → List (List ℕ) → List Symbol → List
   event : {ts us vs : List Symbol} {ns ms ls : List (List ℕ)}
       → Names ts ns us ms → Declarations us ms vs ls → Declarations (event_word ∷ ts) ns vs ls
 
--- the parts of a goal that the grammar names
+-- any goal; a row of atoms; a name or a goal in parentheses
 pub data Sort : Type 0 where
-  goal : Sort
-  serial : Sort
+  any : Sort
+  row : Sort
   atom : Sort
 
 -- a goal that opens at most so many parentheses at once; its leaves have the next numbers
@@ -28,12 +28,12 @@ pub data Goal : Sort → ℕ → List Symbol → List (List ℕ) → Process →
   leaf : {d : ℕ} {n : List ℕ} {ts : List Symbol} {ns : List (List ℕ)}
       → Goal atom d (name n ∷ ts) ns (Task (length ns)) ts (ns ++ n ∷ [])
   group : {d : ℕ} {g : Process} {ts us : List Symbol} {ns ms : List (List ℕ)}
-      → Goal goal d ts ns g (right ∷ us) ms → Goal atom (suc d) (left ∷ ts) ns g us ms
+      → Goal any d ts ns g (right ∷ us) ms → Goal atom (suc d) (left ∷ ts) ns g us ms
   single : {d : ℕ} {g : Process} {ts us : List Symbol} {ns ms : List (List ℕ)}
-      → Goal atom d ts ns g us ms → Goal serial d ts ns g us ms
+      → Goal atom d ts ns g us ms → Goal row d ts ns g us ms
   sequence : {d : ℕ} {g h : Process} {ts us vs : List Symbol} {ns ms ls : List (List ℕ)}
-      → Goal serial d ts ns g (star ∷ us) ms → Goal atom d us ms h vs ls → Goal serial d ts ns (Sequence g h) vs ls
+      → Goal row d ts ns g (star ∷ us) ms → Goal atom d us ms h vs ls → Goal row d ts ns (Sequence g h) vs ls
   lone : {d : ℕ} {g : Process} {ts us : List Symbol} {ns ms : List (List ℕ)}
-      → Goal serial d ts ns g us ms → Goal goal d ts ns g us ms
+      → Goal row d ts ns g us ms → Goal any d ts ns g us ms
   parallel : {d : ℕ} {g h : Process} {ts us vs : List Symbol} {ns ms ls : List (List ℕ)}
-      → Goal goal d ts ns g (bar ∷ us) ms → Goal serial d us ms h vs ls → Goal goal d ts ns (Parallel g h) vs ls
+      → Goal any d ts ns g (bar ∷ us) ms → Goal row d us ms h vs ls → Goal any d ts ns (Parallel g h) vs ls

@@ -7,7 +7,7 @@ use Rattle.flow_goal.specs.Labelled.{Labelled}
 use Rattle.flow_goal.specs.Plain.{IsPlainTree}
 use Rattle.flow_text.specs.declared.workflow.Workflow.{Workflow}
 use Rattle.flow_text.specs.Symbols.{Symbol, goal_word, semicolon, symbols_of}
-use Rattle.flow_text.specs.Grammar.{Declarations, Goal, goal}
+use Rattle.flow_text.specs.Grammar.{Declarations, Goal, any}
 
 -- the names of the events, and a goal whose labels name them by their places
 pub record Written : Type 0 where
@@ -30,7 +30,7 @@ pub record Derives (text : List ℕ) (w : Written) : Type 0 where
   pub names : List (List ℕ)
   pub lexed : symbols_of text ≡ Some symbols
   pub declared : Declarations symbols [] (goal_word ∷ body) w.events
-  pub read : Goal goal 200 body [] w.goal.process (semicolon ∷ []) names
+  pub read : Goal any 200 body [] w.goal.process (semicolon ∷ []) names
   pub labelled : AreEvents w.events names w.goal.labels
   -- each name is declared once, and stands in the goal once at most
   pub declared_once : AreDistinct w.events
