@@ -5,7 +5,7 @@ use Rattle.std.proofs.lemmas.Bool.{lt-ltb}
 use Rattle.flow_model.specs.Process.{Process, Task, Sequence, Parallel}
 use Rattle.flow_text.specs.Symbols.{Symbol, event_word, goal_word, name, star, bar, comma, semicolon, left, right}
 use Rattle.flow_text.specs.Grammar.{Names, last, more, Declarations, none, event, Sort, any, row, atom, Goal, leaf, group, single, sequence, lone, parallel}
-use Rattle.flow_text.specs.Reader.{Lists, Part, Reading, before_declaration, before_event, after_event, before_atom, after_atom, ended, Outline, joined, after, next}
+use Rattle.flow_text.specs.Reader.{Lists, Part, Reading, before_declaration, before_event, after_event, before_atom, after_atom, Outline, joined, after, outline, outline_of}
 
 -- the state of a goal half read
 abbrev pub at_part : List (List ℕ) → List (List ℕ) → List Lists → Option Process → Part
@@ -72,3 +72,12 @@ goal-read (parallel {d = d} {g = g} {h = h} {ts = ts} {us = us} {vs = vs} {ns = 
     let front : IsRead any d ts ns g (bar ∷ us) ms = goal-read first in
     let (b, x, e, run) = front events around deep (omega (arith, names-grow s)) in
     (Some g, h, refl, run ∙ ap (λ y. after (before_atom (at_part events ms around (Some y)) None) us) e ∙ goal-read s events around (Some g) deep few)
+
+-- what is spelled is read
+pub outline-read : {ts us : List Symbol} {es ns : List (List ℕ)} {g : Process}
+  → Declarations ts [] (goal_word ∷ us) es → Goal any 200 us [] g (semicolon ∷ []) ns → length ns ≤ 1024
+  → outline_of ts ≡ Some (record { events = es; names = ns; goal = g })
+outline-read {us = us} {es = es} {ns = ns} {g = g} declared read few =
+    let whole : IsRead any 200 us [] g (semicolon ∷ []) ns = goal-read read in
+    let (besides, h, e, run) = whole es [] (omega arith) few in
+    ap (option_and_then outline) (declarations-read declared ∙ run) ∙ ap (λ x. Some (record { events = es; names = ns; goal = x })) e
