@@ -3,3 +3,4 @@ pub mod Grammar
 pub mod Written
 pub mod Tokens
 pub mod Reader
+pub mod Index

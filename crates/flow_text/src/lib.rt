@@ -2,6 +2,7 @@
 #![tactic(auto)]
 
 mod refusal;
+mod names;
 mod reader;
 mod token;
 mod workflow;
