@@ -1,5 +1,5 @@
 -- What an index of names says of them, and which labels names have by it.
-use Rattle.std.proofs.Common.{◌≡◌, ℕ, zero, suc, ◌+◌, ◌<◌, List, [], ◌∷◌, ◌++◌, length, Bool, true, false, cond, refl, sym, ap, subst, ◌∙◌, ◌⊎◌, inl, inr, arith}
+use Rattle.std.proofs.Common.{◌≡◌, ℕ, zero, suc, ◌+◌, ◌<◌, ◌≤◌, ◌^◌, List, [], ◌∷◌, ◌++◌, length, Bool, true, false, cond, refl, sym, ap, subst, ◌∙◌, ◌⊎◌, inl, inr, arith}
 use Rattle.std.specs.Prelude.{Option, Some, None, option_map, option_and_then, slice_get, IsSome}
 use Rattle.std.specs.Map.{update}
 use Rattle.std.specs.Str.{bytes_eq}
@@ -8,7 +8,7 @@ use Rattle.flow_model.specs.Lists.{◌∈◌, AreDistinct}
 use Rattle.flow_model.specs.declared.labels.Label.{Label}
 use Rattle.flow_model.specs.declared.labels.Label.TheVariants.{Event}
 use Rattle.flow_text.specs.Index.{Index, no_index, if_new, indexed, labels_by}
-use Rattle.flow_text.specs.Written.{AreEvents}
+use Rattle.flow_text.specs.Written.{AreEvents, IsNamed}
 
 -- where the name is the one that changes, and where it is another
 pub record IsChanged (f : Index) (n : List ℕ) (o : Option ℕ) (q : List ℕ) : Type 0 where
@@ -172,3 +172,46 @@ labels_by-events g events (n ∷ names) labels (k, rest, at, e, others) (out, di
         go : IsChanged g n None m ⊎ IsKept g n None m → g' m ≡ Some j
         go (inl c) = absurd (out (subst (λ x. x ∈ names) (sym c.same) member))
         go (inr a) = a.value ∙ right m j (inr member) there
+
+-- numbered from 0, the names have their places for numbers
+places : (events : List (List ℕ)) (g : Index) → Indexes no_index 0 events g → (n : List ℕ) (k : ℕ) → g n ≡ Some k → slice_get events k ≡ Some n
+places events g index n k e = go (index.no_other n k e)
+  where
+    go : (None ≡ Some k) ⊎ ((i : ℕ) × (slice_get events i ≡ Some n) × (k ≡ 0 + i)) → slice_get events k ≡ Some n
+    go (inl none) = absurd (cc)
+    go (inr (i, at, same)) = let s : k ≡ i = omega arith in ap (slice_get events) s ∙ at
+
+-- what an index of the events makes of the names is right
+pub named-made : (events names : List (List ℕ)) (labels : List Label) (g : Index) → length events ≤ 2 ^ 32 → indexed no_index 0 events ≡ Some g
+  → labels_by g names ≡ Some labels → IsNamed events names labels
+named-made events names labels g few numbered made =
+    let index : Indexes no_index 0 events g = indexed-indexes no_index 0 events g numbered in
+    let m : IsMade g events names labels = labels_by-made g events names labels (places events g index) made in
+    record { declared_once = index.distinct; used_once = m.distinct; labelled = m.events_are; few_events = few }
+
+-- where the names are right, they are numbered, and the labels are what that makes of them
+pub named-makes : (events names : List (List ℕ)) (labels : List Label) → IsNamed events names labels
+  → (g : Index) × (indexed no_index 0 events ≡ Some g) × (labels_by g names ≡ Some labels)
+named-makes events names labels n = go (indexed-distinct no_index 0 events n.declared_once (λ m member. refl))
+  where
+    go : (g : Index) × (indexed no_index 0 events ≡ Some g) → (g : Index) × (indexed no_index 0 events ≡ Some g) × (labels_by g names ≡ Some labels)
+    go (g, e) =
+        let index : Indexes no_index 0 events g = indexed-indexes no_index 0 events g e in
+        (g, e, labels_by-events g events names labels n.labelled n.used_once (λ m k member at. index.has m k at ∙ ap Some (omega arith)))
+
+-- events that have no index are named by no labels
+pub unnumbered : (events names : List (List ℕ)) → indexed no_index 0 events ≡ None → ¬ ((labels : List Label) × IsNamed events names labels)
+unnumbered events names none = λ (labels, n). let (g, e, l) = named-makes events names labels n in cc
+
+-- names that the index makes no labels of are named by none
+pub unlabelled : (events names : List (List ℕ)) (g : Index) → indexed no_index 0 events ≡ Some g → labels_by g names ≡ None
+  → ¬ ((labels : List Label) × IsNamed events names labels)
+unlabelled events names g numbered none = λ (labels, n). let (h, e, l) = named-makes events names labels n in let same : h ≡ g = cc in cc
+
+-- the labels are determined
+pub named-same : (events names : List (List ℕ)) (labels others : List Label) → IsNamed events names labels → IsNamed events names others → labels ≡ others
+named-same events names labels others n m =
+    let (g, e, l) = named-makes events names labels n in
+    let (h, f, k) = named-makes events names others m in
+    let same : g ≡ h = cc in
+    cc

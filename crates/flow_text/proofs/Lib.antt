@@ -5,3 +5,5 @@ pub mod Sound
 pub mod Derived
 pub mod IndexSteps
 pub mod IndexLemmas
+pub mod Labels
+pub mod Meaning

@@ -23,7 +23,15 @@ AreEvents events [] labels = labels ≡ []
 AreEvents events (n ∷ names) labels =
     (number : ℕ) × (rest : List Label) × (slice_get events number ≡ Some n) × (labels ≡ Event number ∷ rest) × AreEvents events names rest
 
--- the text declares the events and writes the goal over their names
+-- each name is declared once and stands once at most, and the labels are the events of the names
+pub record IsNamed (events names : List (List ℕ)) (labels : List Label) : Type 0 where
+  pub declared_once : AreDistinct events
+  pub used_once : AreDistinct names
+  pub labelled : AreEvents events names labels
+  -- an event's place is a number of 32 bits
+  pub few_events : length events ≤ 2 ^ 32
+
+-- the text declares the events, and writes the goal over their names
 pub record Derives (text : List ℕ) (w : Written) : Type 0 where
   pub symbols : List Symbol
   pub body : List Symbol
@@ -31,13 +39,8 @@ pub record Derives (text : List ℕ) (w : Written) : Type 0 where
   pub lexed : symbols_of text ≡ Some symbols
   pub declared : Declarations symbols [] (goal_word ∷ body) w.events
   pub read : Goal any 200 body [] w.goal.process (semicolon ∷ []) names
-  pub labelled : AreEvents w.events names w.goal.labels
-  -- each name is declared once, and stands in the goal once at most
-  pub declared_once : AreDistinct w.events
-  pub used_once : AreDistinct names
+  pub named : IsNamed w.events names w.goal.labels
   pub few_leaves : length names ≤ 1024
-  -- an event's place is a number of 32 bits
-  pub few_events : length w.events ≤ 2 ^ 32
 
 -- each label is an event of a number below the count
 abbrev pub AreEventsBelow : ℕ → List Label → Type 0

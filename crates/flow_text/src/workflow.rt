@@ -4,7 +4,10 @@ ghost use Rattle.flow_text.specs.Written.{Written, written, Derives, IsSimple};
 use flow_facts::Name;
 use flow_goal::Tree;
 
+use crate::names::labels_of;
+use crate::reader::{Script, read};
 use crate::refusal::TextRefusal;
+use crate::token::lex;
 use std::alloc::Global;
 
 /// What a text declares: the names of its events, and a goal whose leaves are labelled by their
@@ -21,7 +24,15 @@ pub fn parse(alloc: Global, text: &[u8]) -> Result<Workflow, TextRefusal>
     ensures unbuilt { IsErrOf result TextRefusal.Unbuilt → ¬ ((w : Written) × Derives text.now w) }
     ensures simple { IfOk result (λ w. IsSimple (written w)) }
 {
-    Err(TextRefusal::NoMemory)
+    let tokens = lex(alloc, text)?;
+    let Script {
+        events,
+        names,
+        goal,
+    } = read(alloc, &tokens)?;
+    let labels = labels_of(alloc, &events, &names)?;
+    let tree = Tree::new(goal, labels).unwrap();
+    Ok(Workflow { events, tree })
 }
 
 /// A text derives at most one value.
