@@ -1,3 +1,4 @@
 pub mod Goal
 pub mod Labelled
 pub mod Numbering
+pub mod Plain

@@ -1,0 +1,5 @@
+pub mod PlainGoals
+pub mod Enabled
+pub mod GivenClaims
+pub mod Steps
+pub mod Tests

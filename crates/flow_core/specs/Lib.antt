@@ -1,0 +1,6 @@
+pub mod Look
+pub mod Given
+pub mod View
+pub mod Kept
+pub mod Fields
+pub mod Claims
