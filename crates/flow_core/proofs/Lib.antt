@@ -3,3 +3,4 @@ pub mod Enabled
 pub mod GivenClaims
 pub mod Steps
 pub mod Tests
+pub mod LawfulHistories

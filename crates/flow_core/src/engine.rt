@@ -44,6 +44,7 @@ impl Model for Core {
 impl Core {
     ghost use Rattle.flow_model.specs.declared.history.Step.TheVariants.{Took, Done, Committed};
     ghost use Rattle.flow_core.specs.View.{schema_of, now, with_entry, GoesOn, HasSteps};
+    ghost use Rattle.flow_core.specs.Lawful.{IsLawful};
     ghost use Rattle.flow_core.specs.Claims.{IsAnswered, IsOut, IsLeastOut, IsStanding};
 
     /// Starts a run with no entry yet.
@@ -68,9 +69,17 @@ impl Core {
 
     /// The entries so far.
     pub fn history(&self) -> &[Entry]
-        ensures { result.now ≡ self.now.history }
+        ensures entries { result.now ≡ self.now.history }
+        ensures lawful { IsLawful self.now.schema self.now.limit self.now.history }
     {
         self.history.as_slice()
+    }
+
+    /// The goal that is run, and its labels.
+    pub fn tree(&self) -> &Tree
+        ensures { schema_of result.now ≡ self.now.schema }
+    {
+        &self.tree
     }
 
     /// The leaves that count, in order.

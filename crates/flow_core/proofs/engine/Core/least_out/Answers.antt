@@ -33,7 +33,7 @@ pub returns-in-None : goal.returns-in-None
 returns-in-None c =
     let i = c.self.inside in
     subst (λ (p : Progress). current_claims (now p) ≡ []) c.self.view_is
-      (none_out i.tree i.limit i.history.items i.journal.items i.done.items i.given.items i.committed c.self.invariant.kept (sym (c.in-None.ensures ∙ ap first_out c.deref.ensures.value)))
+    (none_out i.tree i.limit i.history.items i.journal.items i.done.items i.given.items i.committed c.self.invariant.kept (sym (c.in-None.ensures ∙ ap first_out c.deref.ensures.value)))
 
 pub returns-in-Some : goal.returns-in-Some
 returns-in-Some c =
