@@ -99,7 +99,7 @@ impl Core {
     /// Gives a claim on an event's leaf: leave to perform its task.
     pub fn take(&mut self, leaf: u32, by: u32) -> Result<Call, TakeRefusal>
         ensures ok { IfOk result (λ call.
-            CanTake self.old.schema (now self.old) leaf
+            GoesOn self.old × HasSteps self.old × CanTake self.old.schema (now self.old) leaf
             × (self.new ≡ with_entry self.old by (Took (length (now self.old).claims + 1) leaf))
             × (call ≡ call_of self.new.schema (now self.new) (length (now self.old).claims + 1))) }
 
@@ -188,7 +188,8 @@ impl Core {
 
     /// Posts that the claim's task succeeded.
     pub fn done(&mut self, claim: u32, by: u32) -> Result<(), PostRefusal>
-        ensures ok { OnOk result (IsCurrent (now self.old) claim × (self.new ≡ with_entry self.old by (Done claim))) }
+        ensures ok { OnOk result (GoesOn self.old × HasSteps self.old × IsCurrent (now self.old) claim
+            × (self.new ≡ with_entry self.old by (Done claim))) }
 
         ensures closed { IsErrOf result PostRefusal.Closed ↔ ((now self.old).committed ≡ true) }
         ensures no_claim { IsErrOf result PostRefusal.NoClaim ↔
@@ -254,7 +255,7 @@ impl Core {
 
     /// Ends the run: its journal is a whole execution.
     pub fn commit(&mut self, by: u32) -> Result<(), CommitRefusal>
-        ensures ok { OnOk result ((current_claims (now self.old) ≡ []) × IsGood self.old.schema (now self.old).journal
+        ensures ok { OnOk result (GoesOn self.old × HasSteps self.old × (current_claims (now self.old) ≡ []) × IsGood self.old.schema (now self.old).journal
             × (self.new ≡ with_entry self.old by Committed)) }
 
         ensures closed { IsErrOf result CommitRefusal.Closed ↔ ((now self.old).committed ≡ true) }
