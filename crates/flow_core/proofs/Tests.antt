@@ -1,10 +1,13 @@
 -- What the tests of a core mean, by what its fields keep.
-use Rattle.std.proofs.Common.{◌≡◌, ◌≤◌, ◌<◌, ◌+◌, ◌-◌, ◌⊎◌, ℕ, map, get_or, IsSomeAnd, zero, suc, Bool, true, false, not, cond, nat_eq, Some, None, slice_get, inr, List, [], ◌∷◌, length, IsTrue, ◌↔◌, inl, refl, sym, ap, ◌∙◌, subst, arith}
+use Rattle.std.proofs.Common.{◌≡◌, ◌≤◌, ◌<◌, ◌+◌, ◌-◌, ◌⊎◌, ℕ, map, get_or, IsSomeAnd, zero, suc, Bool, true, false, not, cond, nat_eq, Some, None, slice_get, inr, List, [], ◌∷◌, length, IsTrue, IsSome, ◌↔◌, inl, refl, sym, ap, ◌∙◌, subst, arith}
 use Rattle.flow_model.specs.declared.history.Entry.{Entry}
 use Rattle.flow_model.specs.Lists.{◌∈◌, Each, numbers_from}
 use Rattle.flow_model.specs.Process.{Process, Empty, Task, Sequence, Parallel, Choice, Isolated, leaves}
 use Rattle.flow_model.specs.Schema.{IsEventLeaf, IsGood}
-use Rattle.flow_model.specs.Ready.{IsReady}
+use Rattle.flow_model.specs.declared.labels.Label.{Label}
+use Rattle.flow_model.specs.Facts.{event_at}
+use Rattle.flow_goal.specs.Plain.{IsEvent}
+use Rattle.flow_model.specs.Ready.{IsReady, IsReadyRunAfter, DoneOr}
 use Rattle.std.specs.List.{filter, position_from}
 use Rattle.flow_model.specs.Run.{Claim, RunState, state_of, current_claims, current_leaves, claim_at, is_current, IsCurrent, CanTake}
 use Rattle.flow_goal.specs.Labelled.{Labelled}
@@ -196,3 +199,25 @@ out_unanswered s claim out answered =
     let (c, found, a) = some_claim (λ (c : Claim). IsTrue c.answered) (claim_at s claim) answered in
     let b : c.answered ≡ false = subst (λ o. IsSomeAnd o (λ (c : Claim). c.answered ≡ false)) found out in
     true_not_false (sym a ∙ b)
+
+-- each leaf of a ready run is one of the goal's
+run_leaves : (q : Process) (pairs : List (ℕ × ℕ)) (Done : ℕ → Type 0) (run : List ℕ) → IsReadyRunAfter q pairs Done run → Each (λ n. n ∈ leaves q) run
+run_leaves q pairs Done [] r = tt
+run_leaves q pairs Done (n ∷ run) r = (r.0.leaf, run_leaves q pairs (DoneOr Done (n ∷ [])) run r.1)
+
+-- each leaf of a plain tree is an event's
+event_leaf : (labels : List Label) → Each IsEvent labels → (n : ℕ) → n < length labels → IsSome (event_at labels n)
+event_leaf [] events n h = absurd (omega arith)
+event_leaf (label ∷ labels) events zero h = events.0
+event_leaf (label ∷ labels) events (suc n) h = event_leaf labels events.1 n (let r : n < length labels = omega arith in r)
+
+module _ (t : Labelled) (limit : ℕ) (history : List Entry) (journal : List ℕ) (done : List Bool) (given : List Given) (committed : Bool)
+    (k : IsKept t limit history journal done given committed) where
+  each_event : (ns : List ℕ) → Each (λ n. n ∈ leaves t.process) ns → Each (IsEventLeaf (schema_of t)) ns
+  each_event [] h = tt
+  each_event (n ∷ ns) h =
+      let row : n < 0 + length t.labels = below_row 0 (length t.labels) n (subst (λ xs. n ∈ xs) k.numbered h.0) in
+      (event_leaf t.labels k.plain.events n (omega arith), each_event ns h.1)
+
+  pub journal_events : Each (IsEventLeaf (schema_of t)) journal
+  journal_events = subst (Each (IsEventLeaf (schema_of t))) k.journal_is (each_event (state_of history).journal (run_leaves t.process [] (λ n. ⊥) (state_of history).journal k.ahead.journal))

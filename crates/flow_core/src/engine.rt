@@ -1,6 +1,7 @@
 ghost use Rattle.std.specs.Prelude.{◌≡◌, ◌<◌, ◌≤◌, ◌+◌, ◌↔◌, ℕ, [], length, true, IsTrue, IfOk, OnErr, OnOk, None, Some, MatchOption};
 ghost use Rattle.std.specs.Result.{IsErrOf};
 ghost use Rattle.flow_model.specs.Facts.{event_at};
+ghost use Rattle.flow_model.specs.Lists.{Each};
 ghost use Rattle.flow_model.specs.Schema.{IsEventLeaf, IsOtherLeaf, IsGood};
 ghost use Rattle.flow_model.specs.Run.{CanTake, claim_at, current_claims, IsCurrent};
 ghost use Rattle.flow_model.specs.Verdict.{call_of};
@@ -82,9 +83,25 @@ impl Core {
         &self.tree
     }
 
+    /// The greatest length of the history.
+    pub fn limit(&self) -> u32
+        ensures { result ≡ self.now.limit }
+    {
+        self.limit
+    }
+
+    /// The present epoch: the first, since nothing ends it yet.
+    pub fn epoch(&self) -> u32
+        ensures { result ≡ (now self.now).epoch }
+    {
+        let _ = self.limit;
+        0
+    }
+
     /// The leaves that count, in order.
     pub fn journal(&self) -> &[u32]
-        ensures { result.now ≡ (now self.now).journal }
+        ensures leaves { result.now ≡ (now self.now).journal }
+        ensures events { Each (IsEventLeaf self.now.schema) result.now }
     {
         self.journal.as_slice()
     }
@@ -102,6 +119,7 @@ impl Core {
             GoesOn self.old × HasSteps self.old × CanTake self.old.schema (now self.old) leaf
             × (self.new ≡ with_entry self.old by (Took (length (now self.old).claims + 1) leaf))
             × (call ≡ call_of self.new.schema (now self.new) (length (now self.old).claims + 1))) }
+        ensures event { IfOk result (λ call. event_at self.old.schema.labels leaf ≡ Some call.event) }
 
         ensures closed { IsErrOf result TakeRefusal.Closed ↔ ((now self.old).committed ≡ true) }
         ensures no_leaf { IsErrOf result TakeRefusal.NoLeaf ↔
@@ -166,6 +184,7 @@ impl Core {
         requires enabled { CanTake self.old.schema (now self.old) leaf }
         ensures entry { self.new ≡ with_entry self.old by (Took (length (now self.old).claims + 1) leaf) }
         ensures call { result ≡ call_of self.new.schema (now self.new) (length (now self.old).claims + 1) }
+        ensures event { result.event ≡ event }
     {
         let claim = self.given.len() as u32 + 1;
         self.given.push_reserved(Given {

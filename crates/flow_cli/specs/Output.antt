@@ -1,0 +1,83 @@
+-- What a call writes, and with which status it ends.
+use Rattle.std.specs.Prelude.{◌≡◌, ◌<◌, ◌≤◌, ℕ, List, [], ◌∷◌, ◌++◌, length, take, drop, codes, ◌⊎◌}
+use Rattle.flow_model.specs.Lists.{Each}
+use Rattle.flow_model.specs.Verdict.{Verdict, committed, spent, unfinished, drive_verdict}
+use Rattle.flow_core.specs.View.{Progress, schema_of, now}
+use Rattle.flow_core.specs.Lawful.{IsLawful}
+use Rattle.flow_text.specs.Written.{Written, Derives}
+use Rattle.flow_record.specs.declared.command.Command.{Command}
+use Rattle.flow_record.specs.declared.command.Command.TheVariants as command
+use Rattle.flow_record.specs.Session.{session_of, commands}
+use Rattle.flow_reply.specs.declared.refused.Refused.TheVariants as refused
+use Rattle.flow_reply.specs.Cut.{cut_of}
+use Rattle.flow_reply.specs.Refusing.{refused_text}
+use Rattle.flow_reply.specs.Report.{report_text}
+use Rattle.flow_cli.specs.declared.status.Status.{Status}
+use Rattle.flow_cli.specs.declared.status.Status.TheVariants.{Fine, No, Words, Input, ReadFault, WriteFault, Memory, Spent}
+use Rattle.flow_cli.specs.Drive.{Drives}
+
+-- the words are the program's name and the mode
+abbrev pub IsCall : List (List ℕ) → Type 0
+IsCall words = (program : List ℕ) × (words ≡ program ∷ codes "drive" ∷ [])
+
+-- the greatest number of bytes that are read
+abbrev pub greatest_input : ℕ
+greatest_input = 1048576
+
+-- the greatest length of a history
+abbrev pub step_limit : ℕ
+step_limit = 65536
+
+-- the engine serves the command so far
+abbrev pub IsServed : Command → Type 0
+IsServed (command.Take leaf) = Unit {0}
+IsServed (command.Done claim) = Unit {0}
+IsServed command.Commit = Unit {0}
+IsServed (command.Do leaf) = ⊥
+IsServed (command.Fail claim) = ⊥
+IsServed command.Rewind = ⊥
+IsServed command.Next = ⊥
+IsServed command.Enabled = ⊥
+IsServed command.Journal = ⊥
+IsServed command.Facts = ⊥
+
+-- the input is this workflow and this session
+pub record IsInput (input : List ℕ) (w : Written) (session : List Command) : Type 0 where
+  pub workflow : Derives (take (cut_of input).0 input) w
+  pub read : session_of (drop (cut_of input).1 input) ≡ commands session
+  pub served : Each IsServed session
+
+-- before the first command
+abbrev pub start_of : Written → Progress
+start_of w = record { schema = schema_of w.goal; limit = step_limit; history = [] }
+
+-- The output is that of a driven session with this verdict: a reply to each command, and the report of the history so
+-- made. Of this history the headline holds: it is lawful.
+pub record IsDriven (input : List ℕ) (verdict : Verdict) (output : List ℕ) : Type 0 where
+  pub written : Written
+  pub session : List Command
+  pub replies : List ℕ
+  pub last : Progress
+  pub input_is : IsInput input written session
+  pub driven : Drives written.events (start_of written) session replies last
+  pub lawful : IsLawful last.schema last.limit last.history
+  pub verdict_is : drive_verdict last.limit last.history ≡ verdict
+  pub output_is : output ≡ replies ++ report_text written.events written.goal.labels last.history (now last).journal verdict
+
+-- no workflow with a session is written so
+abbrev pub IsUnbuilt : List ℕ → Type 0
+IsUnbuilt input = ¬ ((w : Written) × ((session : List Command) × IsInput input w session))
+
+-- For these words and this input the call writes that output with that status. The first refusal that applies is the
+-- answer. After a failed write a part of such an output was written, and with no memory nothing.
+abbrev pub Writes : List (List ℕ) → List ℕ → Status → List ℕ → Type 0
+Writes words input Words output = ¬ (IsCall words) × (output ≡ refused_text refused.Words)
+Writes words input ReadFault output = IsCall words × (output ≡ refused_text refused.Read)
+Writes words input Input output = IsCall words ×
+    (((greatest_input < length input) × (output ≡ refused_text refused.TooLong))
+    ⊎ ((length input ≤ greatest_input) × IsUnbuilt input × (output ≡ refused_text refused.Unbuilt)))
+Writes words input Fine output = IsCall words × (length input ≤ greatest_input) × IsDriven input committed output
+Writes words input No output = IsCall words × (length input ≤ greatest_input) × IsDriven input unfinished output
+Writes words input Spent output = IsCall words × (length input ≤ greatest_input) × IsDriven input spent output
+Writes words input WriteFault output = ⊥
+Writes words input Memory output = ⊥
