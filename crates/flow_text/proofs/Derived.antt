@@ -1,7 +1,7 @@
 -- What follows of a text that derives a value.
-use Rattle.std.proofs.Common.{◌≡◌, ℕ, zero, suc, ◌+◌, ◌<◌, ◌≤◌, List, [], ◌∷◌, ◌++◌, length, refl, sym, ap, subst, ◌∙◌, arith, length-append, add-one}
+use Rattle.std.proofs.Common.{◌≡◌, ℕ, ◌+◌, List, [], ◌∷◌, ◌++◌, length, refl, sym, ap, ◌∙◌, arith, length-append}
 use Rattle.flow_model.specs.Lists.{numbers_from}
-use Rattle.flow_model.specs.Process.{Process, Task, Sequence, Parallel, leaves}
+use Rattle.flow_model.specs.Process.{Process, leaves}
 use Rattle.flow_goal.proofs.Numbers.{numbers_from-+}
 use Rattle.flow_goal.specs.Plain.{IsPlain}
 use Rattle.flow_text.specs.Symbols.{Symbol}
@@ -18,12 +18,12 @@ next-together {front = front} {back = back} {a = a} {b = b} left right = record 
   count = left.count + right.count;
   grown = let e : b ≡ a + left.count = left.grown in let f = right.grown in omega arith;
   row = (λ i. left.row i ++ right.row i) ∙ ap (λ from. numbers_from a left.count ++ numbers_from from right.count) left.grown
-      ∙ sym (numbers_from-+ a left.count right.count)
+      ∙ sym (numbers_from-+ a left.count right.count);
 }
 
 -- a goal's leaves are numbered on from the names before it
 pub leaves-numbered : {s : Sort} {d : ℕ} {ts us : List Symbol} {ns ms : List (List ℕ)} {g : Process}
-  → Goal s d ts ns g us ms → AreNext (leaves g) (length ns) (length ms)
+    → Goal s d ts ns g us ms → AreNext (leaves g) (length ns) (length ms)
 leaves-numbered (leaf {n = n} {ns = ns}) = record { count = 1; grown = length-append ns (n ∷ []); row = refl }
 leaves-numbered (group g) = leaves-numbered g
 leaves-numbered (single g) = leaves-numbered g

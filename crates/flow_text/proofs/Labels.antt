@@ -1,6 +1,6 @@
 -- Labels that are events, as the names say.
-use Rattle.std.proofs.Common.{◌≡◌, ℕ, zero, suc, ◌+◌, ◌<◌, ◌≤◌, List, [], ◌∷◌, length, refl, sym, ap, subst, ◌∙◌, inl, inr, arith}
-use Rattle.std.specs.Prelude.{Some, None, slice_get}
+use Rattle.std.proofs.Common.{◌≡◌, ℕ, zero, suc, ◌<◌, List, [], ◌∷◌, length, refl, sym, ap, subst, ◌∙◌, inl, inr, arith}
+use Rattle.std.specs.Prelude.{Some, slice_get}
 use Rattle.flow_model.specs.Lists.{◌∈◌, Each, AreDistinct}
 use Rattle.flow_model.specs.declared.labels.Label.{Label}
 use Rattle.flow_model.specs.declared.labels.Label.TheVariants.{Event}
@@ -27,7 +27,7 @@ events-below events (n ∷ names) labels (k, rest, at, e, others) =
 
 -- the name of a label stands among the names
 name-stands : (events names : List (List ℕ)) (labels : List Label) (k : ℕ) (n : List ℕ) → AreEvents events names labels
-  → Event k ∈ labels → slice_get events k ≡ Some n → n ∈ names
+    → Event k ∈ labels → slice_get events k ≡ Some n → n ∈ names
 name-stands events [] labels k n e member at = subst (λ ls. Event k ∈ ls) e member
 name-stands events (m ∷ names) labels k n (j, rest, there, e, others) member at = go (subst (λ ls. Event k ∈ ls) e member) (name-stands events names rest k n others)
   where

@@ -1,5 +1,5 @@
 -- The levels around, which the code keeps with the innermost last.
-use Rattle.std.proofs.Common.{◌≡◌, ℕ, ◌+◌, ◌<◌, List, [], ◌∷◌, ◌++◌, length, refl, arith}
+use Rattle.std.proofs.Common.{◌≡◌, ◌+◌, ◌<◌, List, [], ◌∷◌, ◌++◌, length, refl, arith}
 use Rattle.std.specs.Prelude.{None}
 use Rattle.flow_model.specs.Process.{Process}
 use Rattle.flow_text.specs.declared.reader.Level.{Level}

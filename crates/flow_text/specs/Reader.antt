@@ -1,8 +1,8 @@
 -- The states of the reader, and what each symbol makes of them.
-use Rattle.std.specs.Prelude.{ℕ, List, [], ◌∷◌, ◌++◌, length, map, nat_lt, if◌then◌else◌, Option, Some, None, option_map, option_and_then}
+use Rattle.std.specs.Prelude.{ℕ, List, [], ◌∷◌, ◌++◌, length, nat_lt, if◌then◌else◌, Option, Some, None, option_map, option_and_then}
 use Rattle.flow_model.specs.Process.{Process, Task, Sequence, Parallel}
 use Rattle.flow_goal.specs.Goal.{process_of}
-use Rattle.flow_text.specs.Symbols.{Symbol, event_word, goal_word, name, star, bar, comma, semicolon, left, right, other}
+use Rattle.flow_text.specs.Symbols.{Symbol, event_word, goal_word, name, star, bar, comma, semicolon, left, right}
 use Rattle.flow_text.specs.declared.reader.Level.{Level}
 use Rattle.flow_text.specs.declared.reader.Half.{Half}
 use Rattle.flow_text.specs.declared.reader.Script.{Script}

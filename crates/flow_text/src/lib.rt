@@ -1,9 +1,11 @@
 //! The reader of workflow texts.
 #![tactic(auto)]
 
-mod refusal;
 mod names;
 mod reader;
+mod refusal;
+#[cfg(test)]
+mod tests;
 mod token;
 mod workflow;
 

@@ -3,13 +3,11 @@ ghost use Rattle.flow_text.specs.Index.{no_index, indexed, labels_by, index_of};
 ghost use Rattle.flow_text.specs.Written.{IsNamed};
 ghost use Rattle.flow_model.specs.declared.labels.Label.{Label};
 
-use std::alloc::Global;
-use std::collections::BTreeMap;
-
+use crate::refusal::TextRefusal;
 use flow_facts::Name;
 use flow_goal::Label;
-
-use crate::refusal::TextRefusal;
+use std::alloc::Global;
+use std::collections::BTreeMap;
 
 /// An event's place is a number of 32 bits.
 const MOST_EVENTS: usize = 1 << 32;
@@ -38,8 +36,10 @@ fn labels_by(
     mut numbers: Numbers<'_>,
     names: &[Name],
 ) -> Result<Vec<Label>, TextRefusal>
-    ensures ok { IfOk result (λ labels. labels_by (index_of numbers.entry) names.now ≡ Some labels.items) }
-    ensures unbuilt { IsErrOf result TextRefusal.Unbuilt → labels_by (index_of numbers.entry) names.now ≡ None }
+    ensures ok { IfOk result (λ labels.
+        labels_by (index_of numbers.entry) names.now ≡ Some labels.items) }
+    ensures unbuilt { IsErrOf result TextRefusal.Unbuilt
+        → labels_by (index_of numbers.entry) names.now ≡ None }
 {
     let mut labels = Vec::new(alloc);
     for name in names {
@@ -52,13 +52,10 @@ fn labels_by(
 }
 
 /// The labels of leaves, as the events of these names.
-pub fn labels_of(
-    alloc: Global,
-    events: &[Name],
-    names: &[Name],
-) -> Result<Vec<Label>, TextRefusal>
+pub fn labels_of(alloc: Global, events: &[Name], names: &[Name]) -> Result<Vec<Label>, TextRefusal>
     ensures ok { IfOk result (λ labels. IsNamed events.now names.now labels.items) }
-    ensures unbuilt { IsErrOf result TextRefusal.Unbuilt → ¬ ((labels : List Label) × IsNamed events.now names.now labels) }
+    ensures unbuilt { IsErrOf result TextRefusal.Unbuilt
+        → ¬ ((labels : List Label) × IsNamed events.now names.now labels) }
 {
     if events.len() > MOST_EVENTS {
         return Err(TextRefusal::Unbuilt);

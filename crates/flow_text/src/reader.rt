@@ -3,15 +3,13 @@ ghost use Rattle.flow_text.specs.Symbols.{bar};
 ghost use Rattle.flow_model.specs.Process.{Task, Sequence, Parallel};
 ghost use Rattle.flow_goal.specs.Goal.{process_of};
 ghost use Rattle.flow_text.specs.Tokens.{symbol, symbols};
-ghost use Rattle.flow_text.specs.Reader as by;
-
-use std::alloc::Global;
-
-use flow_facts::Name;
-use flow_goal::Goal;
+ghost use Rattle.flow_text.specs.Reader as reader;
 
 use crate::refusal::TextRefusal;
 use crate::token::Token;
+use flow_facts::Name;
+use flow_goal::Goal;
+use std::alloc::Global;
 
 /// How many leaves a goal may have.
 const MOST_LEAVES: usize = 1024;
@@ -57,7 +55,8 @@ enum State {
 
 /// The list so far, and the next goal behind it.
 fn in_sequence(alloc: Global, list: Option<Goal>, goal: Goal) -> Result<Goal, TextRefusal>
-    ensures ok { IfOk result (λ g. process_of g ≡ by.joined Sequence (option_map process_of list) (process_of goal)) }
+    ensures ok { IfOk result (λ g.
+        process_of g ≡ reader.joined Sequence (option_map process_of list) (process_of goal)) }
     ensures memory_alone { IsOkUnless result TextRefusal.NoMemory }
 {
     match list {
@@ -68,7 +67,8 @@ fn in_sequence(alloc: Global, list: Option<Goal>, goal: Goal) -> Result<Goal, Te
 
 /// The list so far, and the next goal beside it.
 fn in_parallel(alloc: Global, list: Option<Goal>, goal: Goal) -> Result<Goal, TextRefusal>
-    ensures ok { IfOk result (λ g. process_of g ≡ by.joined Parallel (option_map process_of list) (process_of goal)) }
+    ensures ok { IfOk result (λ g.
+        process_of g ≡ reader.joined Parallel (option_map process_of list) (process_of goal)) }
     ensures memory_alone { IsOkUnless result TextRefusal.NoMemory }
 {
     match list {
@@ -77,9 +77,15 @@ fn in_parallel(alloc: Global, list: Option<Goal>, goal: Goal) -> Result<Goal, Te
     }
 }
 
-fn next_of_declarations(alloc: Global, events: Vec<Name>, token: Token) -> Result<State, TextRefusal>
-    ensures ok { IfOk result (λ s. by.next_of_declarations events.items (symbol token.entry) ≡ Some (by.reading s)) }
-    ensures unbuilt { IsErrOf result TextRefusal.Unbuilt → by.next_of_declarations events.items (symbol token.entry) ≡ None }
+fn next_of_declarations(
+    alloc: Global,
+    events: Vec<Name>,
+    token: Token,
+) -> Result<State, TextRefusal>
+    ensures ok { IfOk result (λ s.
+        reader.next_of_declarations events.items (symbol token.entry) ≡ Some (reader.reading s)) }
+    ensures unbuilt { IsErrOf result TextRefusal.Unbuilt
+        → reader.next_of_declarations events.items (symbol token.entry) ≡ None }
 {
     match token {
         Token::Event => Ok(State::BeforeEvent(events)),
@@ -97,8 +103,10 @@ fn next_of_declarations(alloc: Global, events: Vec<Name>, token: Token) -> Resul
 }
 
 fn next_of_name(alloc: Global, mut events: Vec<Name>, token: Token) -> Result<State, TextRefusal>
-    ensures ok { IfOk result (λ s. by.next_of_name events.items (symbol token.entry) ≡ Some (by.reading s)) }
-    ensures unbuilt { IsErrOf result TextRefusal.Unbuilt → by.next_of_name events.items (symbol token.entry) ≡ None }
+    ensures ok { IfOk result (λ s.
+        reader.next_of_name events.items (symbol token.entry) ≡ Some (reader.reading s)) }
+    ensures unbuilt { IsErrOf result TextRefusal.Unbuilt
+        → reader.next_of_name events.items (symbol token.entry) ≡ None }
 {
     match token {
         Token::Word(word) => {
@@ -110,8 +118,10 @@ fn next_of_name(alloc: Global, mut events: Vec<Name>, token: Token) -> Result<St
 }
 
 fn next_of_names(events: Vec<Name>, token: Token) -> Result<State, TextRefusal>
-    ensures ok { IfOk result (λ s. by.next_of_names events.items (symbol token.entry) ≡ Some (by.reading s)) }
-    ensures unbuilt { IsErrOf result TextRefusal.Unbuilt → by.next_of_names events.items (symbol token.entry) ≡ None }
+    ensures ok { IfOk result (λ s.
+        reader.next_of_names events.items (symbol token.entry) ≡ Some (reader.reading s)) }
+    ensures unbuilt { IsErrOf result TextRefusal.Unbuilt
+        → reader.next_of_names events.items (symbol token.entry) ≡ None }
 {
     match token {
         Token::Comma => Ok(State::BeforeEvent(events)),
@@ -120,9 +130,17 @@ fn next_of_names(events: Vec<Name>, token: Token) -> Result<State, TextRefusal>
     }
 }
 
-fn with_leaf(alloc: Global, mut half: Half, serial: Option<Goal>, word: &[u8]) -> Result<State, TextRefusal>
-    ensures ok { IfOk result (λ s. by.with_leaf (by.part half) (option_map process_of serial) word.now ≡ Some (by.reading s)) }
-    ensures unbuilt { IsErrOf result TextRefusal.Unbuilt → by.with_leaf (by.part half) (option_map process_of serial) word.now ≡ None }
+fn with_leaf(
+    alloc: Global,
+    mut half: Half,
+    serial: Option<Goal>,
+    word: &[u8],
+) -> Result<State, TextRefusal>
+    ensures ok { IfOk result (λ s.
+        reader.with_leaf (reader.part half) (option_map process_of serial) word.now
+        ≡ Some (reader.reading s)) }
+    ensures unbuilt { IsErrOf result TextRefusal.Unbuilt
+        → reader.with_leaf (reader.part half) (option_map process_of serial) word.now ≡ None }
 {
     if half.names.len() >= MOST_LEAVES {
         return Err(TextRefusal::Unbuilt);
@@ -134,8 +152,10 @@ fn with_leaf(alloc: Global, mut half: Half, serial: Option<Goal>, word: &[u8]) -
 
 #[tactic(auto, using(crate::proofs::Piles::piles))]
 fn opened(mut half: Half, serial: Option<Goal>) -> Result<State, TextRefusal>
-    ensures ok { IfOk result (λ s. by.opened (by.part half) (option_map process_of serial) ≡ Some (by.reading s)) }
-    ensures unbuilt { IsErrOf result TextRefusal.Unbuilt → by.opened (by.part half) (option_map process_of serial) ≡ None }
+    ensures ok { IfOk result (λ s.
+        reader.opened (reader.part half) (option_map process_of serial) ≡ Some (reader.reading s)) }
+    ensures unbuilt { IsErrOf result TextRefusal.Unbuilt
+        → reader.opened (reader.part half) (option_map process_of serial) ≡ None }
 {
     if half.around.len() >= MOST_OPEN {
         return Err(TextRefusal::Unbuilt);
@@ -145,9 +165,18 @@ fn opened(mut half: Half, serial: Option<Goal>) -> Result<State, TextRefusal>
     Ok(State::BeforeAtom(half, None))
 }
 
-fn next_of_atom(alloc: Global, half: Half, serial: Option<Goal>, token: Token) -> Result<State, TextRefusal>
-    ensures ok { IfOk result (λ s. by.next_of_atom (by.part half) (option_map process_of serial) (symbol token.entry) ≡ Some (by.reading s)) }
-    ensures unbuilt { IsErrOf result TextRefusal.Unbuilt → by.next_of_atom (by.part half) (option_map process_of serial) (symbol token.entry) ≡ None }
+fn next_of_atom(
+    alloc: Global,
+    half: Half,
+    serial: Option<Goal>,
+    token: Token,
+) -> Result<State, TextRefusal>
+    ensures ok { IfOk result (λ s.
+        reader.next_of_atom (reader.part half) (option_map process_of serial) (symbol token.entry)
+        ≡ Some (reader.reading s)) }
+    ensures unbuilt { IsErrOf result TextRefusal.Unbuilt
+        → reader.next_of_atom (reader.part half) (option_map process_of serial) (symbol token.entry)
+        ≡ None }
 {
     match token {
         Token::Word(word) => with_leaf(alloc, half, serial, word),
@@ -159,8 +188,11 @@ fn next_of_atom(alloc: Global, half: Half, serial: Option<Goal>, token: Token) -
 /// The level is read, and is an atom of the level around it.
 #[tactic(auto, using(crate::proofs::Piles::piles))]
 fn closed(alloc: Global, mut half: Half, goal: Goal) -> Result<State, TextRefusal>
-    ensures ok { IfOk result (λ s. by.closed (by.part half) (process_of goal) (by.part half).around ≡ Some (by.reading s)) }
-    ensures unbuilt { IsErrOf result TextRefusal.Unbuilt → by.closed (by.part half) (process_of goal) (by.part half).around ≡ None }
+    ensures ok { IfOk result (λ s.
+        reader.closed (reader.part half) (process_of goal) (reader.part half).around
+        ≡ Some (reader.reading s)) }
+    ensures unbuilt { IsErrOf result TextRefusal.Unbuilt
+        → reader.closed (reader.part half) (process_of goal) (reader.part half).around ≡ None }
 {
     let Some(level) = half.around.pop() else {
         return Err(TextRefusal::Unbuilt);
@@ -172,8 +204,11 @@ fn closed(alloc: Global, mut half: Half, goal: Goal) -> Result<State, TextRefusa
 
 #[tactic(auto, using(crate::proofs::Piles::piles))]
 fn finished(alloc: Global, half: Half, goal: Goal) -> Result<State, TextRefusal>
-    ensures ok { IfOk result (λ s. by.finished (by.part half) (process_of goal) (by.part half).around ≡ Some (by.reading s)) }
-    ensures unbuilt { IsErrOf result TextRefusal.Unbuilt → by.finished (by.part half) (process_of goal) (by.part half).around ≡ None }
+    ensures ok { IfOk result (λ s.
+        reader.finished (reader.part half) (process_of goal) (reader.part half).around
+        ≡ Some (reader.reading s)) }
+    ensures unbuilt { IsErrOf result TextRefusal.Unbuilt
+        → reader.finished (reader.part half) (process_of goal) (reader.part half).around ≡ None }
 {
     if !half.around.is_empty() {
         return Err(TextRefusal::Unbuilt);
@@ -187,7 +222,8 @@ fn finished(alloc: Global, half: Half, goal: Goal) -> Result<State, TextRefusal>
 }
 
 fn beside(alloc: Global, mut half: Half, goal: Goal) -> Result<State, TextRefusal>
-    ensures ok { IfOk result (λ s. by.next_of_lists (by.part half) (process_of goal) bar ≡ Some (by.reading s)) }
+    ensures ok { IfOk result (λ s.
+        reader.next_of_lists (reader.part half) (process_of goal) bar ≡ Some (reader.reading s)) }
     ensures memory_alone { IsOkUnless result TextRefusal.NoMemory }
 {
     half.besides = Some(in_parallel(alloc, half.besides.take(), goal)?);
@@ -195,8 +231,11 @@ fn beside(alloc: Global, mut half: Half, goal: Goal) -> Result<State, TextRefusa
 }
 
 fn next_of_lists(alloc: Global, half: Half, goal: Goal, token: Token) -> Result<State, TextRefusal>
-    ensures ok { IfOk result (λ s. by.next_of_lists (by.part half) (process_of goal) (symbol token.entry) ≡ Some (by.reading s)) }
-    ensures unbuilt { IsErrOf result TextRefusal.Unbuilt → by.next_of_lists (by.part half) (process_of goal) (symbol token.entry) ≡ None }
+    ensures ok { IfOk result (λ s.
+        reader.next_of_lists (reader.part half) (process_of goal) (symbol token.entry)
+        ≡ Some (reader.reading s)) }
+    ensures unbuilt { IsErrOf result TextRefusal.Unbuilt
+        → reader.next_of_lists (reader.part half) (process_of goal) (symbol token.entry) ≡ None }
 {
     match token {
         Token::Star => Ok(State::BeforeAtom(half, Some(goal))),
@@ -208,8 +247,10 @@ fn next_of_lists(alloc: Global, half: Half, goal: Goal, token: Token) -> Result<
 }
 
 fn next(alloc: Global, state: State, token: Token) -> Result<State, TextRefusal>
-    ensures ok { IfOk result (λ s. by.next (by.reading state) (symbol token.entry) ≡ Some (by.reading s)) }
-    ensures unbuilt { IsErrOf result TextRefusal.Unbuilt → by.next (by.reading state) (symbol token.entry) ≡ None }
+    ensures ok { IfOk result (λ s.
+        reader.next (reader.reading state) (symbol token.entry) ≡ Some (reader.reading s)) }
+    ensures unbuilt { IsErrOf result TextRefusal.Unbuilt
+        → reader.next (reader.reading state) (symbol token.entry) ≡ None }
 {
     match state {
         State::BeforeDeclaration(events) => next_of_declarations(alloc, events, token),
@@ -223,8 +264,10 @@ fn next(alloc: Global, state: State, token: Token) -> Result<State, TextRefusal>
 
 /// Reads the tokens of a text up to their end.
 pub fn read(alloc: Global, tokens: &[Token]) -> Result<Script, TextRefusal>
-    ensures ok { IfOk result (λ s. by.outline_of (symbols tokens.now) ≡ Some (by.outline_by s)) }
-    ensures unbuilt { IsErrOf result TextRefusal.Unbuilt → by.outline_of (symbols tokens.now) ≡ None }
+    ensures ok { IfOk result (λ s.
+        reader.outline_of (symbols tokens.now) ≡ Some (reader.outline_by s)) }
+    ensures unbuilt { IsErrOf result TextRefusal.Unbuilt
+        → reader.outline_of (symbols tokens.now) ≡ None }
 {
     let mut state = State::BeforeDeclaration(Vec::new(alloc));
     for token in tokens {

@@ -3,9 +3,8 @@ ghost use Rattle.std.specs.List.{prefix_len};
 ghost use Rattle.flow_text.specs.Symbols.{is_space, is_digit, is_letter, is_in_word, is_in_line, is, is_of_declarations, is_of_goals, is_of_constraints, symbol_of_word, symbol_of_mark, symbols_of, with_symbol, word_piece, piece_at};
 ghost use Rattle.flow_text.specs.Tokens.{symbol, symbols, piece};
 
-use std::alloc::{AllocError, Global};
-
 use crate::refusal::TextRefusal;
+use std::alloc::{AllocError, Global};
 
 /// A word, a number or a mark of a text.
 #[derive(Clone, Copy)]
@@ -200,7 +199,9 @@ fn piece_at(text: &[u8]) -> Option<Piece<'_>>
 
 /// Adds the token, if there is one.
 fn add<'a>(tokens: &mut Vec<Token<'a>>, token: Option<Token<'a>>) -> Result<(), AllocError>
-    ensures { OnOk result (symbols tokens.new.items ≡ symbols tokens.old.items ++ with_symbol (option_map symbol token.entry) []) }
+    ensures { OnOk result
+        (symbols tokens.new.items
+        ≡ symbols tokens.old.items ++ with_symbol (option_map symbol token.entry) []) }
 {
     if let Some(token) = token {
         tokens.push(token)?;

@@ -1,13 +1,12 @@
 ghost use Rattle.std.specs.Prelude.{◌≡◌, ℕ, List, IfOk, IsErrOf};
 ghost use Rattle.flow_text.specs.Written.{Written, written, Derives, IsSimple};
 
-use flow_facts::Name;
-use flow_goal::Tree;
-
 use crate::names::labels_of;
 use crate::reader::{Script, read};
 use crate::refusal::TextRefusal;
 use crate::token::lex;
+use flow_facts::Name;
+use flow_goal::Tree;
 use std::alloc::Global;
 
 /// What a text declares: the names of its events, and a goal whose leaves are labelled by their
