@@ -72,5 +72,5 @@ abbrev pub Drives : List (List ℕ) → Progress → List Command → List ℕ �
 Drives names old [] text new = (text ≡ []) × (new ≡ old)
 Drives names old (command ∷ commands) text new =
     (answer : Answer) × ((middle : Progress) × ((rest : List ℕ) ×
-        Answers old command answer middle × Drives names middle commands rest new
-        × (text ≡ reply_text names (now middle).epoch command answer ++ rest)))
+    Answers old command answer middle × Drives names middle commands rest new
+    × (text ≡ reply_text names (now middle).epoch command answer ++ rest)))

@@ -1,6 +1,8 @@
 -- What a call writes, and with which status it ends.
-use Rattle.std.specs.Prelude.{◌≡◌, ◌<◌, ◌≤◌, ℕ, List, [], ◌∷◌, ◌++◌, length, take, drop, codes, ◌⊎◌}
+use Rattle.std.specs.Prelude.{◌≡◌, ◌<◌, ◌≤◌, ℕ, List, [], ◌∷◌, ◌++◌, length, take, drop, Some, codes, ◌⊎◌}
+use Rattle.flow_model.specs.declared.labels.Label.{Label}
 use Rattle.flow_model.specs.Lists.{Each}
+use Rattle.flow_model.specs.Facts.{event_at}
 use Rattle.flow_model.specs.Verdict.{Verdict, committed, spent, unfinished, drive_verdict}
 use Rattle.flow_core.specs.View.{Progress, schema_of, now}
 use Rattle.flow_core.specs.Lawful.{IsLawful}
@@ -51,6 +53,10 @@ pub record IsInput (input : List ℕ) (w : Written) (session : List Command) : T
 abbrev pub start_of : Written → Progress
 start_of w = record { schema = schema_of w.goal; limit = step_limit; history = [] }
 
+-- the events at the leaves have names
+abbrev pub HasNames : List (List ℕ) → List Label → Type 0
+HasNames names labels = (leaf event : ℕ) → event_at labels leaf ≡ Some event → event < length names
+
 -- The output is that of a driven session with this verdict: a reply to each command, and the report of the history so
 -- made. Of this history the headline holds: it is lawful.
 pub record IsDriven (input : List ℕ) (verdict : Verdict) (output : List ℕ) : Type 0 where
@@ -68,16 +74,49 @@ pub record IsDriven (input : List ℕ) (verdict : Verdict) (output : List ℕ) :
 abbrev pub IsUnbuilt : List ℕ → Type 0
 IsUnbuilt input = ¬ ((w : Written) × ((session : List Command) × IsInput input w session))
 
--- For these words and this input the call writes that output with that status. The first refusal that applies is the
--- answer. After a failed write a part of such an output was written, and with no memory nothing.
+-- What a call with the right words writes for an input that was read: the first refusal that applies, or a session.
+abbrev pub WritesFor : List ℕ → Status → List ℕ → Type 0
+WritesFor input Input output =
+    ((greatest_input < length input) × (output ≡ refused_text refused.TooLong))
+    ⊎ ((length input ≤ greatest_input) × IsUnbuilt input × (output ≡ refused_text refused.Unbuilt))
+WritesFor input Fine output = (length input ≤ greatest_input) × IsDriven input committed output
+WritesFor input No output = (length input ≤ greatest_input) × IsDriven input unfinished output
+WritesFor input Spent output = (length input ≤ greatest_input) × IsDriven input spent output
+WritesFor input Words output = ⊥
+WritesFor input ReadFault output = ⊥
+WritesFor input WriteFault output = ⊥
+WritesFor input Memory output = ⊥
+
+-- For these words and this input the call writes that output with that status: wrong words are refused first, then a
+-- source that fails.
 abbrev pub Writes : List (List ℕ) → List ℕ → Status → List ℕ → Type 0
 Writes words input Words output = ¬ (IsCall words) × (output ≡ refused_text refused.Words)
 Writes words input ReadFault output = IsCall words × (output ≡ refused_text refused.Read)
-Writes words input Input output = IsCall words ×
-    (((greatest_input < length input) × (output ≡ refused_text refused.TooLong))
-    ⊎ ((length input ≤ greatest_input) × IsUnbuilt input × (output ≡ refused_text refused.Unbuilt)))
-Writes words input Fine output = IsCall words × (length input ≤ greatest_input) × IsDriven input committed output
-Writes words input No output = IsCall words × (length input ≤ greatest_input) × IsDriven input unfinished output
-Writes words input Spent output = IsCall words × (length input ≤ greatest_input) × IsDriven input spent output
+Writes words input Input output = IsCall words × WritesFor input Input output
+Writes words input Fine output = IsCall words × WritesFor input Fine output
+Writes words input No output = IsCall words × WritesFor input No output
+Writes words input Spent output = IsCall words × WritesFor input Spent output
 Writes words input WriteFault output = ⊥
 Writes words input Memory output = ⊥
+
+-- the call wrote its whole output, and no fault and no want of memory ended it
+abbrev pub IsWhole : Status → Type 0
+IsWhole Words = Unit {0}
+IsWhole ReadFault = Unit {0}
+IsWhole Input = Unit {0}
+IsWhole Fine = Unit {0}
+IsWhole No = Unit {0}
+IsWhole Spent = Unit {0}
+IsWhole WriteFault = ⊥
+IsWhole Memory = ⊥
+
+-- the session was gone through to its end
+abbrev pub IsOver : Status → Type 0
+IsOver Fine = Unit {0}
+IsOver No = Unit {0}
+IsOver Spent = Unit {0}
+IsOver Words = ⊥
+IsOver Input = ⊥
+IsOver ReadFault = ⊥
+IsOver WriteFault = ⊥
+IsOver Memory = ⊥
