@@ -1,4 +1,0 @@
-pub mod FirstLine
-pub mod FirstWord
-pub mod Numbers
-pub mod Sessions

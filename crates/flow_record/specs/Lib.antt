@@ -1,4 +1,0 @@
-pub mod Lines
-pub mod Session
-pub mod History
-pub mod Journal
