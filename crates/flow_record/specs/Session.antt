@@ -1,0 +1,77 @@
+-- What the text of a session says.
+use Rattle.std.specs.Prelude.{ℕ, ◌+◌, nat_lt, if◌then◌else◌, List, [], ◌∷◌, Option, Some, None, codes}
+use Rattle.std.specs.Str.{bytes_eq}
+use Rattle.flow_record.specs.declared.command.Command.{Command}
+use Rattle.flow_record.specs.declared.command.Command.TheVariants.{Take, Do, Done, Fail, Rewind, Commit, Next, Enabled, Journal, Facts}
+use Rattle.flow_record.specs.Lines.{without_returns, lines_of, words_of, number_of}
+
+-- the command of one word alone
+abbrev pub bare_command : List ℕ → Option Command
+bare_command word =
+    if bytes_eq word (codes "rewind") then Some Rewind
+    else if bytes_eq word (codes "commit") then Some Commit
+    else if bytes_eq word (codes "next") then Some Next
+    else if bytes_eq word (codes "enabled") then Some Enabled
+    else if bytes_eq word (codes "journal") then Some Journal
+    else if bytes_eq word (codes "facts") then Some Facts
+    else None
+
+-- the command of a word that a number follows
+abbrev pub numbered_command : List ℕ → ℕ → Option Command
+numbered_command word number =
+    if bytes_eq word (codes "take") then Some (Take number)
+    else if bytes_eq word (codes "do") then Some (Do number)
+    else if bytes_eq word (codes "done") then Some (Done number)
+    else if bytes_eq word (codes "fail") then Some (Fail number)
+    else None
+
+-- what a line of a session is
+pub data LineText : Type 0 where
+  -- it has no word
+  blank : LineText
+  command : Command → LineText
+  bad : LineText
+
+-- the line of a command, if there is one
+abbrev pub line_with : Option Command → LineText
+line_with None = bad
+line_with (Some c) = command c
+
+-- a line by its words
+abbrev pub line_of : List (List ℕ) → LineText
+line_of [] = blank
+line_of (word ∷ []) = line_with (bare_command word)
+line_of (word ∷ last ∷ []) = with_number (number_of last)
+  where
+    with_number : Option ℕ → LineText
+    with_number None = bad
+    with_number (Some number) = line_with (numbered_command word number)
+line_of (word ∷ other ∷ third ∷ more) = bad
+
+-- what a session is
+pub data SessionText : Type 0 where
+  commands : List Command → SessionText
+  -- its least line that is not as it must be
+  bad_line : ℕ → SessionText
+
+-- the command before those of the session
+abbrev pub with_command : Command → SessionText → SessionText
+with_command c (commands cs) = commands (c ∷ cs)
+with_command c (bad_line line) = bad_line line
+
+-- the session that begins with the line of that number, before the rest
+abbrev pub with_line : ℕ → LineText → SessionText → SessionText
+with_line number blank rest = rest
+with_line number (command c) rest = with_command c rest
+with_line number bad rest = bad_line number
+
+-- the lines of a session from the one of that number on: no line is numbered 16,384 or more
+abbrev pub session_from : ℕ → List (List ℕ) → SessionText
+session_from number [] = commands []
+session_from number (line ∷ lines) =
+    if nat_lt number 16384 then with_line number (line_of (words_of line)) (session_from (number + 1) lines)
+    else bad_line number
+
+-- the text of a session
+abbrev pub session_of : List ℕ → SessionText
+session_of text = session_from 0 (lines_of (without_returns text))
