@@ -1,5 +1,5 @@
 -- The lines of a text, the words of a line, and numbers.
-use Rattle.std.specs.Prelude.{ℕ, ◌+◌, ◌*◌, ◌-◌, ◌^◌, Bool, true, false, ◌&&◌, ◌||◌, ◌==◌, nat_lt, nat_le, if◌then◌else◌, List, [], ◌∷◌, length, Option, Some, None}
+use Rattle.std.specs.Prelude.{ℕ, ◌+◌, ◌*◌, ◌-◌, ◌^◌, Bool, false, not, ◌&&◌, ◌||◌, ◌==◌, nat_lt, nat_le, if◌then◌else◌, List, [], ◌∷◌, length, Option, Some, None}
 use Rattle.std.specs.List.{list_all}
 
 -- the text begins with that byte
@@ -23,6 +23,12 @@ abbrev pub lines_of : List ℕ → List (List ℕ)
 lines_of [] = []
 lines_of (b ∷ bs) = if b == 10 then [] ∷ lines_of bs else onto_first b (lines_of bs)
 
+-- a line without the carriage return at its end, if it has one
+abbrev pub stripped : List ℕ → List ℕ
+stripped [] = []
+stripped (b ∷ []) = if b == 13 then [] else b ∷ []
+stripped (b ∷ c ∷ bs) = b ∷ stripped (c ∷ bs)
+
 -- a space or a tab
 abbrev pub is_blank : ℕ → Bool
 is_blank b = (b == 32) || (b == 9)
@@ -30,7 +36,7 @@ is_blank b = (b == 32) || (b == 9)
 -- the text begins with a byte that is no blank
 abbrev pub begins_in_word : List ℕ → Bool
 begins_in_word [] = false
-begins_in_word (b ∷ bs) = if is_blank b then false else true
+begins_in_word (b ∷ bs) = not (is_blank b)
 
 -- the words of a line, with blanks before, between and after them
 abbrev pub words_of : List ℕ → List (List ℕ)
@@ -39,6 +45,11 @@ words_of (b ∷ bs) =
     if is_blank b then words_of bs
     else if begins_in_word bs then onto_first b (words_of bs)
     else (b ∷ []) ∷ words_of bs
+
+-- the word before the others, where it is not empty
+abbrev pub with_word : List ℕ → List (List ℕ) → List (List ℕ)
+with_word [] words = []
+with_word (b ∷ bs) words = (b ∷ bs) ∷ words
 
 -- a digit, `0` to `9`
 abbrev pub is_digit : ℕ → Bool
@@ -57,3 +68,8 @@ is_numeral word = list_all is_digit word && (nat_lt 0 (length word) && nat_le (l
 abbrev pub number_of : List ℕ → Option ℕ
 number_of word =
     if is_numeral word && nat_lt (value_after 0 word) (2 ^ 32) then Some (value_after 0 word) else None
+
+-- the value with one digit more, where the byte is a digit and the value stays below 2 ^ 32
+abbrev pub value_with : ℕ → ℕ → Option ℕ
+value_with value byte =
+    if is_digit byte && nat_lt (value * 10 + (byte - 48)) (2 ^ 32) then Some (value * 10 + (byte - 48)) else None

@@ -1,8 +1,11 @@
 -- What the text of a session says.
 use Rattle.std.specs.Prelude.{ℕ, ◌+◌, nat_lt, if◌then◌else◌, List, [], ◌∷◌, Option, Some, None, codes}
+use Rattle.std.specs.Option.{option_and_then}
 use Rattle.std.specs.Str.{bytes_eq}
 use Rattle.flow_record.specs.declared.command.Command.{Command}
 use Rattle.flow_record.specs.declared.command.Command.TheVariants.{Take, Do, Done, Fail, Rewind, Commit, Next, Enabled, Journal, Facts}
+use Rattle.flow_record.specs.declared.line.Line.{Line}
+use Rattle.flow_record.specs.declared.line.Line.TheVariants.{Blank, Holds, Bad}
 use Rattle.flow_record.specs.Lines.{without_returns, lines_of, words_of, number_of}
 
 -- the command of one word alone
@@ -16,37 +19,29 @@ bare_command word =
     else if bytes_eq word (codes "facts") then Some Facts
     else None
 
--- the command of a word that a number follows
-abbrev pub numbered_command : List ℕ → ℕ → Option Command
-numbered_command word number =
-    if bytes_eq word (codes "take") then Some (Take number)
-    else if bytes_eq word (codes "do") then Some (Do number)
-    else if bytes_eq word (codes "done") then Some (Done number)
-    else if bytes_eq word (codes "fail") then Some (Fail number)
-    else None
+-- the command of a word and the number that follows it
+abbrev pub numbered_command : List ℕ → List ℕ → Option Command
+numbered_command word number = option_and_then command (number_of number)
+  where
+    command : ℕ → Option Command
+    command number =
+        if bytes_eq word (codes "take") then Some (Take number)
+        else if bytes_eq word (codes "do") then Some (Do number)
+        else if bytes_eq word (codes "done") then Some (Done number)
+        else if bytes_eq word (codes "fail") then Some (Fail number)
+        else None
 
--- what a line of a session is
-pub data LineText : Type 0 where
-  -- it has no word
-  blank : LineText
-  command : Command → LineText
-  bad : LineText
-
--- the line of a command, if there is one
-abbrev pub line_with : Option Command → LineText
-line_with None = bad
-line_with (Some c) = command c
+-- the line of a command, if it is one
+abbrev pub line_with : Option Command → Line
+line_with None = Bad
+line_with (Some command) = Holds command
 
 -- a line by its words
-abbrev pub line_of : List (List ℕ) → LineText
-line_of [] = blank
+abbrev pub line_of : List (List ℕ) → Line
+line_of [] = Blank
 line_of (word ∷ []) = line_with (bare_command word)
-line_of (word ∷ last ∷ []) = with_number (number_of last)
-  where
-    with_number : Option ℕ → LineText
-    with_number None = bad
-    with_number (Some number) = line_with (numbered_command word number)
-line_of (word ∷ other ∷ third ∷ more) = bad
+line_of (word ∷ number ∷ []) = line_with (numbered_command word number)
+line_of (word ∷ other ∷ third ∷ more) = Bad
 
 -- what a session is
 pub data SessionText : Type 0 where
@@ -56,14 +51,14 @@ pub data SessionText : Type 0 where
 
 -- the command before those of the session
 abbrev pub with_command : Command → SessionText → SessionText
-with_command c (commands cs) = commands (c ∷ cs)
-with_command c (bad_line line) = bad_line line
+with_command command (commands more) = commands (command ∷ more)
+with_command command (bad_line line) = bad_line line
 
 -- the session that begins with the line of that number, before the rest
-abbrev pub with_line : ℕ → LineText → SessionText → SessionText
-with_line number blank rest = rest
-with_line number (command c) rest = with_command c rest
-with_line number bad rest = bad_line number
+abbrev pub with_line : ℕ → Line → SessionText → SessionText
+with_line number Blank rest = rest
+with_line number (Holds command) rest = with_command command rest
+with_line number Bad rest = bad_line number
 
 -- the lines of a session from the one of that number on: no line is numbered 16,384 or more
 abbrev pub session_from : ℕ → List (List ℕ) → SessionText

@@ -2,7 +2,17 @@
 #![tactic(auto)]
 
 mod command;
+mod history;
+mod journal;
+mod line;
+mod lines;
+mod number;
 mod refusal;
+mod session;
+mod words;
 
 pub use command::Command;
+pub use history::print_history;
+pub use journal::print_journal;
 pub use refusal::RecordRefusal;
+pub use session::read_session;
