@@ -1,10 +1,10 @@
 -- The first line of a text, and what stands after it.
-use Rattle.std.proofs.Common.{◌≡◌, ◌⊎◌, inl, inr, ℕ, ◌+◌, ◌-◌, ◌≤◌, ◌<◌, suc, Bool, true, false, not, ◌&&◌, List, [], ◌∷◌, ◌++◌, length, take, drop, refl, sym, ◌∙◌, ap, subst, one-add, add-one, eqb, eqb-true, ne_eqb, ltb, le_refl, if◌then◌else◌, arith, Option, Some, None}
+use Rattle.std.proofs.Common.{◌≡◌, ◌⊎◌, inl, inr, ℕ, ◌+◌, ◌-◌, ◌≤◌, ◌<◌, suc, Bool, true, false, ◌&&◌, List, [], ◌∷◌, ◌++◌, length, take, drop, refl, sym, ◌∙◌, ap, subst, one-add, add-one, eqb-true, ne_eqb, ltb, le_refl, if◌then◌else◌, arith, Some, None}
 use Rattle.std.specs.Prelude.{◌==◌}
 use Rattle.std.specs.List.{position_or_len, position}
 use Rattle.std.proofs.lemmas.Bool.{and_parts, and_from, both_ways, false≢true, ltb-true, ltb-false, cases_lt}
 use Rattle.std.proofs.lemmas.List.{take_rest, take_all, drop_all}
-use Rattle.flow_record.specs.Lines.{stripped, begins_with, without_returns, onto_first, lines_of}
+use Rattle.flow_record.specs.Lines.{stripped, begins_with, without_returns, lines_of}
 
 pulled : (t : Bool) (b : ℕ) (x y : List ℕ) → b ∷ (if t then x else y) ≡ (if t then b ∷ x else b ∷ y)
 pulled true b x y = refl

@@ -1,11 +1,11 @@
 -- The first word of a line, and what stands after it.
-use Rattle.std.proofs.Common.{◌≡◌, ◌⊎◌, inl, inr, ℕ, ◌≤◌, ◌<◌, ◌-◌, Bool, true, false, not, ltb, cond, List, [], ◌∷◌, length, take, drop, refl, one-add, le_antisymm, sym, ◌∙◌, ap, subst, arith, Option, Some, None}
+use Rattle.std.proofs.Common.{◌≡◌, ◌⊎◌, inl, inr, ℕ, ◌-◌, Bool, true, false, not, ltb, List, [], ◌∷◌, length, take, drop, refl, one-add, le_antisymm, sym, ◌∙◌, ap, subst, Option}
 use Rattle.std.specs.List.{position_or_len, position}
 use Rattle.std.specs.Option.{unwrap_or}
 use Rattle.std.proofs.lemmas.Bool.{false≢true, ltb-false, not-true}
 use Rattle.std.proofs.lemmas.List.{take_rest}
 use Rattle.std.proofs.lemmas.List.Sums.{prefix_len-le-length}
-use Rattle.flow_record.specs.Lines.{is_blank, begins_in_word, onto_first, words_of, with_word}
+use Rattle.flow_record.specs.Lines.{is_blank, begins_in_word, words_of, with_word}
 
 -- where the first byte stands that is no blank
 abbrev pub word_start : List ℕ → ℕ

@@ -1,10 +1,10 @@
 -- A number read digit by digit.
-use Rattle.std.proofs.Common.{◌≡◌, ℕ, ◌+◌, ◌-◌, ◌*◌, ◌^◌, ◌≤◌, ◌<◌, Bool, true, false, ◌&&◌, ltb, leb, List, [], ◌∷◌, length, refl, sym, ◌∙◌, ap, arith, le_refl, le_trans, Option, Some, None, if◌then◌else◌, drop, get_or, lit<}
+use Rattle.std.proofs.Common.{◌≡◌, ℕ, ◌+◌, ◌-◌, ◌*◌, ◌^◌, ◌≤◌, ◌<◌, Bool, true, false, ◌&&◌, ltb, leb, List, [], ◌∷◌, length, refl, sym, ◌∙◌, arith, le_refl, le_trans, Option, Some, None, if◌then◌else◌, drop, get_or, lit<}
 use Rattle.std.proofs.lemmas.List.{drop_more}
 use Rattle.std.specs.List.{list_all}
 use Rattle.std.specs.Option.{option_and_then}
 use Rattle.std.proofs.lemmas.Bool.{lt-ltb, le-ltb, le-leb, ltb-true, ltb-false, and_right, and_from}
-use Rattle.flow_record.specs.Lines.{is_digit, value_after, is_numeral, number_of, value_with}
+use Rattle.flow_record.specs.Lines.{is_digit, value_after, number_of, value_with}
 
 -- the digits after others of that value, as far as they are digits and the value stays below 2 ^ 32
 abbrev pub read_from : ℕ → List ℕ → Option ℕ
@@ -25,7 +25,7 @@ read-cons : (t u : Bool) (value b : ℕ) (bs : List ℕ) → is_digit b ≡ t �
 read-cons true true value b bs e f h = rw (e, f) (h (ltb-true _ _ f))
 read-cons true false value b bs e f h =
     let above : ltb (value_after (value * 10 + (b - 48)) bs) (2 ^ 32) ≡ false =
-        le-ltb _ _ (le_trans (ltb-false _ _ f) (grows (value * 10 + (b - 48)) bs)) in
+    le-ltb _ _ (le_trans (ltb-false _ _ f) (grows (value * 10 + (b - 48)) bs)) in
     rw (e, f, above, and_right (list_all is_digit bs) false refl) refl
 read-cons false u value b bs e f h = rw e refl
 

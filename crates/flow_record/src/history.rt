@@ -24,10 +24,14 @@ fn push_entry(text: &mut String, entry: &Entry) -> Result<(), AllocError>
     match entry.step {
         Step::Took { claim, leaf } => writeln!(text, "{by}: took {claim} {leaf}"),
         Step::Done { claim } => writeln!(text, "{by}: done {claim}"),
-        Step::Failed { claim, effect } => match effect {
-            FailEffect::Switched => writeln!(text, "{by}: failed {claim} switched"),
-            FailEffect::Kept => writeln!(text, "{by}: failed {claim} kept"),
-        },
+        Step::Failed {
+            claim,
+            effect: FailEffect::Switched,
+        } => writeln!(text, "{by}: failed {claim} switched"),
+        Step::Failed {
+            claim,
+            effect: FailEffect::Kept,
+        } => writeln!(text, "{by}: failed {claim} kept"),
         Step::Late { claim } => writeln!(text, "{by}: late {claim}"),
         Step::Did { leaf } => writeln!(text, "{by}: did {leaf}"),
         Step::Rewound { index } => writeln!(text, "{by}: rewound {index}"),

@@ -9,6 +9,8 @@ mod lines;
 mod number;
 mod refusal;
 mod session;
+#[cfg(test)]
+mod tests;
 mod words;
 
 pub use command::Command;

@@ -58,14 +58,26 @@ commit_refused (commit.Spent limit) = codes "refused spent " ++ decimal limit
 commit_refused (commit.ClaimsOut claim) = codes "refused claims-out " ++ decimal claim
 commit_refused commit.Unfinished = codes "refused unfinished"
 
--- the answer to a command, where they are of one kind
+-- the reply to a `take`
+abbrev pub take_text : List (List ℕ) → ℕ → ℕ → Result Call TakeRefusal → List ℕ
+take_text names epoch leaf (Ok call) = call_text names epoch call
+take_text names epoch leaf (Err refusal) = take_refused leaf refusal
+
+-- the reply to a `done`
+abbrev pub done_text : ℕ → Result (Unit {0}) PostRefusal → List ℕ
+done_text claim (Ok _) = codes "done " ++ decimal claim
+done_text claim (Err refusal) = post_refused claim refusal
+
+-- the reply to a `commit`
+abbrev pub commit_text : Result (Unit {0}) CommitRefusal → List ℕ
+commit_text (Ok _) = codes "committed"
+commit_text (Err refusal) = commit_refused refusal
+
+-- the reply to a command, where the answer is of its kind
 abbrev pub answer_text : List (List ℕ) → ℕ → Command → Answer → List ℕ
-answer_text names epoch (command.Take leaf) (Took (Ok call)) = call_text names epoch call
-answer_text names epoch (command.Take leaf) (Took (Err refusal)) = take_refused leaf refusal
-answer_text names epoch (command.Done claim) (Done (Ok _)) = codes "done " ++ decimal claim
-answer_text names epoch (command.Done claim) (Done (Err refusal)) = post_refused claim refusal
-answer_text names epoch command.Commit (Committed (Ok _)) = codes "committed"
-answer_text names epoch command.Commit (Committed (Err refusal)) = commit_refused refusal
+answer_text names epoch (command.Take leaf) (Took result) = take_text names epoch leaf result
+answer_text names epoch (command.Done claim) (Done result) = done_text claim result
+answer_text names epoch command.Commit (Committed result) = commit_text result
 answer_text names epoch other answer = []
 
 -- the line of the reply, with its line feed

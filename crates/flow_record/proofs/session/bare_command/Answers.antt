@@ -1,4 +1,4 @@
-use Rattle.std.proofs.Common.{◌≡◌, ℕ, List, length, refl, rules, arith}
+use Rattle.std.proofs.Common.{◌≡◌, refl, rules, arith}
 use Rattle.std.specs.Prelude.{codes}
 use Rattle.std.proofs.lemmas.Slice.Eq.{text_from_reads}
 use Rattle.flow_record.proofs.session.bare_command.Goals as goal

@@ -1,6 +1,6 @@
 use Rattle.std.proofs.Common.{◌≡◌, ◌<◌, ◌≤◌, length, ◌∙◌, ap, rules, arith}
 use Rattle.flow_record.specs.Session.{bad_line}
-use Rattle.flow_record.proofs.Sessions.{too_many, at_end, at_bad, at_blank, at_command, none_before}
+use Rattle.flow_record.proofs.Sessions.{too_many}
 use Rattle.flow_record.proofs.session.read_session.Goals as goal
 
 pub returns-then-number-ge-END-clause-bad : goal.returns-then-number-ge-END-clause-bad

@@ -9,5 +9,5 @@ decreases-loop-rest l = length l.rest
 abbrev pub invariant-loop-rest : goal.invariant-loop-rest
 invariant-loop-rest l = record {
   small : l.number ≤ 16384;
-  read : IsReadTo (session_of l.text) l.read.items l.number l.rest
+  read : IsReadTo (session_of l.text) l.read.items l.number l.rest;
 }
