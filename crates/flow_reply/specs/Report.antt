@@ -7,8 +7,8 @@ use Rattle.flow_model.specs.declared.labels.Label.{Label}
 use Rattle.flow_model.specs.Verdict as verdict
 use Rattle.flow_record.specs.History.{history_text}
 use Rattle.flow_record.specs.Journal.{journal_text}
-use Rattle.flow_reply.specs.declared.outcome.Verdict.{Verdict}
-use Rattle.flow_reply.specs.declared.outcome.Verdict.TheVariants.{Committed, Spent, NoOther, Stuck, Unfinished}
+use Rattle.flow_reply.specs.declared.verdict.Verdict.{Verdict}
+use Rattle.flow_reply.specs.declared.verdict.Verdict.TheVariants.{Committed, Spent, NoOther, Stuck, Unfinished}
 
 -- a verdict of the code as one of the definitions
 abbrev pub meaning : Verdict → verdict.Verdict

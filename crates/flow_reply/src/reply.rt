@@ -1,6 +1,6 @@
 ghost use Rattle.std.specs.Prelude.{◌≡◌, ◌<◌, ◌++◌, length, codes, IfOk};
 ghost use Rattle.std.specs.String.{string_bytes};
-ghost use Rattle.flow_reply.specs.Reply.{IsAnswerTo, HasNamedCall, call_text, take_refused, post_refused, commit_refused, done_text, commit_text, reply_text};
+ghost use Rattle.flow_reply.specs.Reply.{IsAnswerTo, HasNamedCall, given_text, call_text, late_text, take_refused, post_refused, commit_refused, done_text, commit_text, reply_text};
 
 use crate::answer::Answer;
 use flow_core::{Call, CommitRefusal, PostRefusal, TakeRefusal};
@@ -37,13 +37,19 @@ fn print_call(alloc: Global, names: &[Name], epoch: u32, call: &Call) -> Result<
     requires { call.now.event < length names.now }
     ensures { IfOk result (λ line. line.items ≡ call_text names.now epoch call.now ++ codes "\n") }
 {
-    let claim = call.claim;
-    let attempt = call.attempt;
-    let start = format!(in alloc; "claim {claim} epoch {epoch} attempt {attempt} ")?;
-    let mut line = start.into_bytes();
+    let mut line = print_given(alloc, epoch, call)?.into_bytes();
     line.extend_from_slice(names[call.event as usize].bytes())?;
     line.extend_from_slice(b"\n")?;
     Ok(line)
+}
+
+/// Prints a call that is given, up to its event's name.
+fn print_given(alloc: Global, epoch: u32, call: &Call) -> Result<String, AllocError>
+    ensures { IfOk result (λ line. string_bytes line ≡ given_text epoch call.now) }
+{
+    let claim = call.claim;
+    let attempt = call.attempt;
+    format!(in alloc; "claim {claim} epoch {epoch} attempt {attempt} ")
 }
 
 /// Prints the line that says why a leaf is not taken.
@@ -82,8 +88,15 @@ fn refuse_post(alloc: Global, claim: u32, refusal: PostRefusal) -> Result<String
         PostRefusal::NoClaim => format!(in alloc; "refused claim {claim}\n"),
         PostRefusal::Answered => format!(in alloc; "refused answered {claim}\n"),
         PostRefusal::Spent { limit } => format!(in alloc; "refused spent {limit}\n"),
-        PostRefusal::Late { of, now } => format!(in alloc; "late {claim} {of} {now}\n"),
+        PostRefusal::Late { of, now } => print_late(alloc, claim, of, now),
     }
+}
+
+/// Prints the line of a result that came too late.
+fn print_late(alloc: Global, claim: u32, of: u32, now: u32) -> Result<String, AllocError>
+    ensures { IfOk result (λ line. string_bytes line ≡ late_text claim of now ++ codes "\n") }
+{
+    format!(in alloc; "late {claim} {of} {now}\n")
 }
 
 /// Prints the line of what came of a `commit`.

@@ -2,7 +2,7 @@ ghost use Rattle.std.specs.Prelude.{◌≡◌, ◌++◌, codes, IfOk};
 ghost use Rattle.flow_record.specs.Journal.{AreNamed};
 ghost use Rattle.flow_reply.specs.Report.{meaning, IsOfDrive, verdict_text, report_text};
 
-use crate::outcome::Verdict;
+use crate::verdict::Verdict;
 use flow_core::Entry;
 use flow_facts::Name;
 use flow_goal::Tree;

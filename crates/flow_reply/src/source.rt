@@ -1,6 +1,7 @@
 ghost use Rattle.std.specs.Prelude.{◌≡◌, ◌<◌, ◌≤◌, ◌+◌, ◌^◌, ◌==◌, length, min, drop};
-ghost use Rattle.std.specs.List.{position};
 ghost use Rattle.flow_reply.specs.Cut.{is_mark, cut_of, line_end};
+
+use flow_record::place_of_feed;
 
 /// Cuts a source at its first line `%%`: where the first part ends, and where the second begins.
 /// Without such a line the first part is the whole source.
@@ -29,13 +30,6 @@ fn line_end(source: &[u8], place: usize) -> usize
         Some(end) => place + end,
         None => source.len(),
     }
-}
-
-/// The place of the first line feed.
-fn place_of_feed(text: &[u8]) -> Option<usize>
-    ensures { result ≡ position (λ byte. byte == 10) text.now }
-{
-    text.iter().position(|byte| *byte == b'\n')
 }
 
 /// Whether the line is `%%`, with or without a carriage return.
