@@ -19,7 +19,7 @@ use Rattle.flow_cli.specs.Drive.{AnswersTake, AnswersDone, AnswersCommit}
 module _ (old new : Progress) where
   pub took : (leaf : ℕ) (r : Result Call TakeRefusal) →
       IfOk r (λ call. GoesOn old × HasSteps old × CanTake old.schema (now old) leaf × (new ≡ with_entry old 0 (step.Took (length (now old).claims + 1) leaf))
-        × (call ≡ call_of new.schema (now new) (length (now old).claims + 1))) →
+      × (call ≡ call_of new.schema (now new) (length (now old).claims + 1))) →
       (IsErrOf r take.Closed ↔ ((now old).committed ≡ true)) →
       (IsErrOf r take.NoLeaf ↔ (GoesOn old × (length old.schema.labels ≤ leaf))) →
       (IsErrOf r take.WrongKind ↔ (GoesOn old × IsOtherLeaf old.schema leaf)) →

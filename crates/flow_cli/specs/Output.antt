@@ -3,7 +3,9 @@ use Rattle.std.specs.Prelude.{◌≡◌, ◌<◌, ◌≤◌, ℕ, List, [], ◌�
 use Rattle.flow_model.specs.declared.labels.Label.{Label}
 use Rattle.flow_model.specs.Lists.{Each}
 use Rattle.flow_model.specs.Facts.{event_at}
-use Rattle.flow_model.specs.Verdict.{Verdict, committed, spent, unfinished, drive_verdict}
+use Rattle.flow_model.specs.Verdict.{drive_verdict}
+use Rattle.flow_reply.specs.declared.verdict.Verdict.{Verdict}
+use Rattle.flow_reply.specs.declared.verdict.Verdict.TheVariants as verdict
 use Rattle.flow_core.specs.View.{Progress, schema_of, now}
 use Rattle.flow_core.specs.Lawful.{IsLawful}
 use Rattle.flow_text.specs.Written.{Written, Derives}
@@ -13,7 +15,7 @@ use Rattle.flow_record.specs.Session.{session_of, commands}
 use Rattle.flow_reply.specs.declared.refused.Refused.TheVariants as refused
 use Rattle.flow_reply.specs.Cut.{cut_of}
 use Rattle.flow_reply.specs.Refusing.{refused_text}
-use Rattle.flow_reply.specs.Report.{report_text}
+use Rattle.flow_reply.specs.Report.{meaning, report_text}
 use Rattle.flow_cli.specs.declared.status.Status.{Status}
 use Rattle.flow_cli.specs.declared.status.Status.TheVariants.{Fine, No, Words, Input, ReadFault, WriteFault, Memory, Spent}
 use Rattle.flow_cli.specs.Drive.{Drives}
@@ -57,18 +59,32 @@ start_of w = record { schema = schema_of w.goal; limit = step_limit; history = [
 abbrev pub HasNames : List (List ℕ) → List Label → Type 0
 HasNames names labels = (leaf event : ℕ) → event_at labels leaf ≡ Some event → event < length names
 
--- The output is that of a driven session with this verdict: a reply to each command, and the report of the history so
--- made. Of this history the headline holds: it is lawful.
-pub record IsDriven (input : List ℕ) (verdict : Verdict) (output : List ℕ) : Type 0 where
-  pub written : Written
-  pub session : List Command
+-- the status that a verdict ends with
+abbrev pub ended : verdict.Verdict → Status
+ended verdict.Committed = Fine
+ended verdict.Spent = Spent
+ended (verdict.NoOther leaf) = No
+ended verdict.Stuck = No
+ended verdict.Unfinished = No
+
+-- The output is that of a driven session of this workflow with this status: a reply to each command, and the report of
+-- the history so made. Of this history the headline holds: it is lawful.
+pub record Records (written : Written) (session : List Command) (status : Status) (output : List ℕ) : Type 0 where
   pub replies : List ℕ
   pub last : Progress
-  pub input_is : IsInput input written session
   pub driven : Drives written.events (start_of written) session replies last
-  pub lawful : IsLawful last.schema last.limit last.history
-  pub verdict_is : drive_verdict last.limit last.history ≡ verdict
-  pub output_is : output ≡ replies ++ report_text written.events written.goal.labels last.history (now last).journal verdict
+  pub lawful : IsLawful (schema_of written.goal) step_limit last.history
+  pub verdict : Verdict
+  pub verdict_is : meaning verdict ≡ drive_verdict step_limit last.history
+  pub status_is : status ≡ ended verdict
+  pub output_is : output ≡ replies ++ report_text written.events written.goal.labels last.history (now last).journal (meaning verdict)
+
+-- the input is a workflow and a session of it, and the output that of the session
+pub record IsDriven (input : List ℕ) (status : Status) (output : List ℕ) : Type 0 where
+  pub written : Written
+  pub session : List Command
+  pub input_is : IsInput input written session
+  pub records : Records written session status output
 
 -- no workflow with a session is written so
 abbrev pub IsUnbuilt : List ℕ → Type 0
@@ -79,9 +95,9 @@ abbrev pub WritesFor : List ℕ → Status → List ℕ → Type 0
 WritesFor input Input output =
     ((greatest_input < length input) × (output ≡ refused_text refused.TooLong))
     ⊎ ((length input ≤ greatest_input) × IsUnbuilt input × (output ≡ refused_text refused.Unbuilt))
-WritesFor input Fine output = (length input ≤ greatest_input) × IsDriven input committed output
-WritesFor input No output = (length input ≤ greatest_input) × IsDriven input unfinished output
-WritesFor input Spent output = (length input ≤ greatest_input) × IsDriven input spent output
+WritesFor input Fine output = (length input ≤ greatest_input) × IsDriven input Fine output
+WritesFor input No output = (length input ≤ greatest_input) × IsDriven input No output
+WritesFor input Spent output = (length input ≤ greatest_input) × IsDriven input Spent output
 WritesFor input Words output = ⊥
 WritesFor input ReadFault output = ⊥
 WritesFor input WriteFault output = ⊥

@@ -5,15 +5,22 @@ ghost use Rattle.flow_core.specs.View.{Progress};
 ghost use Rattle.flow_reply.specs.Reply.{IsAnswerTo, HasNamedCall};
 ghost use Rattle.flow_reply.specs.Report.{IsOfDrive, meaning};
 ghost use Rattle.flow_cli.specs.Drive.{Answers, Drives};
-ghost use Rattle.flow_cli.specs.Output.{IsServed, HasNames};
+ghost use Rattle.flow_text.specs.Written.{written, IsSimple};
+ghost use Rattle.flow_cli.specs.Output.{IsServed, HasNames, Records, ended};
 
+use crate::output::Output;
+use crate::status::Status;
 use flow_core::Core;
 use flow_facts::Name;
-use flow_reply::{Answer, Command, Verdict};
+use flow_reply::{Answer, Command, Verdict, print_reply, print_report};
+use flow_text::Workflow;
 use std::alloc::{AllocError, Global};
 
 /// The number of the caller that makes the entries of a session.
 const DRIVER: u32 = 0;
+
+/// The greatest length of a history.
+const STEP_LIMIT: u32 = 65_536;
 
 /// Whether the engine serves the command so far.
 pub fn is_served(command: &Command) -> bool
@@ -58,4 +65,61 @@ pub fn verdict_of(core: &Core) -> Verdict
     } else {
         Verdict::Unfinished
     }
+}
+
+/// Goes through the commands, and gives the replies.
+fn reply_to_all(
+    alloc: Global,
+    names: &[Name],
+    core: &mut Core,
+    commands: &[Command],
+) -> Result<Vec<u8>, AllocError>
+    requires served { Each IsServed commands.now }
+    requires named { HasNames names.now core.old.schema.labels }
+    ensures driven { IfOk result (λ text. Drives names.now core.old commands.now text.items core.new) }
+    ensures same { core.new.schema ≡ core.old.schema }
+    ensures limit { core.new.limit ≡ core.old.limit }
+{
+    let mut text = Vec::new(alloc);
+    for command in commands {
+        let answer = serve(core, command);
+        let reply = print_reply(alloc, names, core.epoch(), command, &answer)?;
+        text.extend_from_slice(&reply)?;
+    }
+    Ok(text)
+}
+
+/// The status of a verdict.
+fn status_of(verdict: &Verdict) -> Status
+    requires { IsOfDrive verdict.now }
+    ensures { result ≡ ended verdict.now }
+{
+    match verdict {
+        Verdict::Committed => Status::Fine,
+        Verdict::Spent => Status::Spent,
+        Verdict::Unfinished | Verdict::NoOther(_) | Verdict::Stuck => Status::No,
+    }
+}
+
+/// Drives a workflow by the commands: the replies, and then the report.
+pub fn drive(alloc: Global, workflow: Workflow, commands: &[Command]) -> Result<Output, AllocError>
+    requires simple { IsSimple (written workflow) }
+    requires served { Each IsServed commands.now }
+    ensures { IfOk result (λ output. Records (written workflow) commands.now output.status output.text.items) }
+{
+    let Workflow { events, tree } = workflow;
+    let mut core = Core::start(alloc, tree, STEP_LIMIT)?;
+    let mut text = reply_to_all(alloc, &events, &mut core, commands)?;
+    let verdict = verdict_of(&core);
+    let report = print_report(
+        alloc,
+        &events,
+        core.tree(),
+        core.history(),
+        core.journal(),
+        &verdict,
+    )?;
+    text.extend_from_slice(&report)?;
+    let status = status_of(&verdict);
+    Ok(Output { status, text })
 }
