@@ -60,7 +60,7 @@ abbrev pub HasNames : List (List ℕ) → List Label → Type 0
 HasNames names labels = (leaf event : ℕ) → event_at labels leaf ≡ Some event → event < length names
 
 -- the status that a verdict ends with
-abbrev pub ended : verdict.Verdict → Status
+abbrev pub ended : Verdict → Status
 ended verdict.Committed = Fine
 ended verdict.Spent = Spent
 ended (verdict.NoOther leaf) = No

@@ -1,13 +1,13 @@
-ghost use Rattle.std.specs.Prelude.{◌≡◌, ◌<◌, ◌≤◌, ◌+◌, ◌-◌, ◌^◌, ◌↔◌, ◌⊎◌, ℕ, List, [], map, length, None, IfOk, IfSome};
+ghost use Rattle.std.specs.Prelude.{◌≡◌, ◌<◌, ◌≤◌, ◌+◌, ◌-◌, ◌^◌, ◌↔◌, ◌⊎◌, ℕ, List, [], map, length, Some, None, IfOk, IfSome};
 ghost use Rattle.std.specs.String.{string_bytes};
-ghost use Rattle.std.specs.Io.KnownBytes.{Appends, IsAtEnd};
+ghost use Rattle.std.specs.Io.KnownBytes.{Appends};
 ghost use Rattle.flow_io.specs.Sink.{AppendsPart};
 ghost use Rattle.flow_cli.specs.declared.status.Status.{Status};
 ghost use Rattle.flow_text.specs.Written.{written, IsSimple};
 ghost use Rattle.flow_cli.specs.Output.{greatest_input, IsInput, IsUnbuilt, WritesFor, Writes, IsWhole, IsOver};
 
 use crate::output::{Output, refuse};
-use crate::session::{drive, is_served};
+use crate::session::{are_served, drive};
 use crate::status::Status;
 use crate::words::is_call;
 use flow_io::{ReadRefusal, Sink, Source, read_all, write_all};
@@ -36,7 +36,7 @@ fn read_input(alloc: Global, input: &[u8]) -> Result<Option<(Workflow, Vec<Comma
         Err(RecordRefusal::BadLine { .. }) => return Ok(None),
         Err(RecordRefusal::NoMemory) => return Err(AllocError),
     };
-    if commands.iter().all(is_served) {
+    if are_served(&commands) {
         Ok(Some((workflow, commands)))
     } else {
         Ok(None)
@@ -61,7 +61,7 @@ fn respond<S: Source>(alloc: Global, words: &[String], source: &mut S) -> Result
         Writes (map (λ word. string_bytes word) words.now) input output.status output.text.items)) }
     ensures whole { IfOk result (λ output. IsWhole output.status) }
     ensures fault { IfOk result (λ output. (output.status ≡ Status.ReadFault) ↔ (S.faults source.old < S.faults source.new)) }
-    ensures end { IfOk result (λ output. IsOver output.status → IsAtEnd (S.left source.new)) }
+    ensures end { IfOk result (λ output. IsOver output.status → IfSome (S.left source.old) (λ _. S.left source.new ≡ Some [])) }
 {
     if !is_call(words) {
         return refuse(alloc, &Refused::Words);
@@ -100,7 +100,7 @@ pub fn flow<S: Source, K: Sink>(
     ensures read_fault { result ≡ Status.ReadFault → S.faults source.old < S.faults source.new }
     ensures read_fault_told { S.faults source.old < S.faults source.new →
         (result ≡ Status.ReadFault) ⊎ ((result ≡ Status.WriteFault) ⊎ (result ≡ Status.Memory)) }
-    ensures end { IsOver result → IsAtEnd (S.left source.new) }
+    ensures end { IsOver result → IfSome (S.left source.old) (λ _. S.left source.new ≡ Some []) }
 {
     let output = match respond(alloc, words, source) {
         Ok(output) => output,

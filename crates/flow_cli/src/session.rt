@@ -1,10 +1,9 @@
-ghost use Rattle.std.specs.Prelude.{◌≡◌, IfOk, IsTrue, ◌↔◌};
+ghost use Rattle.std.specs.Prelude.{◌≡◌, ◌↔◌, ℕ, List, IfOk, IsTrue};
 ghost use Rattle.flow_model.specs.Lists.{Each};
 ghost use Rattle.flow_model.specs.Verdict.{drive_verdict};
-ghost use Rattle.flow_core.specs.View.{Progress};
 ghost use Rattle.flow_reply.specs.Reply.{IsAnswerTo, HasNamedCall};
 ghost use Rattle.flow_reply.specs.Report.{IsOfDrive, meaning};
-ghost use Rattle.flow_cli.specs.Drive.{Answers, Drives};
+ghost use Rattle.flow_cli.specs.Drive.{Answers, RepliesTo, Drives, SameRun};
 ghost use Rattle.flow_text.specs.Written.{written, IsSimple};
 ghost use Rattle.flow_cli.specs.Output.{IsServed, HasNames, Records, ended};
 
@@ -38,12 +37,25 @@ pub fn is_served(command: &Command) -> bool
     }
 }
 
+/// Whether the engine serves each of the commands so far.
+pub fn are_served(commands: &[Command]) -> bool
+    ensures { IsTrue result ↔ Each IsServed commands.now }
+{
+    for command in commands {
+        if !is_served(command) {
+            return false;
+        }
+    }
+    true
+}
+
 /// Gives a command to the core.
 fn serve(core: &mut Core, command: &Command) -> Answer
     requires { IsServed command.now }
     ensures answers { Answers core.old command.now result core.new }
     ensures kind { IsAnswerTo command.now result }
-    ensures same { core.new.schema ≡ core.old.schema }
+    ensures same { SameRun core.old core.new }
+    ensures named { (names : List (List ℕ)) → HasNames names core.old.schema.labels → HasNamedCall names result }
 {
     match *command {
         Command::Take(leaf) => Answer::Took(core.take(leaf, DRIVER)),
@@ -67,6 +79,22 @@ pub fn verdict_of(core: &Core) -> Verdict
     }
 }
 
+/// Gives a command to the core, and gives the line of the reply.
+fn reply_to(
+    alloc: Global,
+    names: &[Name],
+    core: &mut Core,
+    command: &Command,
+) -> Result<Vec<u8>, AllocError>
+    requires served { IsServed command.now }
+    requires named { HasNames names.now core.old.schema.labels }
+    ensures reply { IfOk result (λ line. RepliesTo names.now core.old command.now line.items core.new) }
+    ensures same { SameRun core.old core.new }
+{
+    let answer = serve(core, command);
+    print_reply(alloc, names, core.epoch(), command, &answer)
+}
+
 /// Goes through the commands, and gives the replies.
 fn reply_to_all(
     alloc: Global,
@@ -77,14 +105,12 @@ fn reply_to_all(
     requires served { Each IsServed commands.now }
     requires named { HasNames names.now core.old.schema.labels }
     ensures driven { IfOk result (λ text. Drives names.now core.old commands.now text.items core.new) }
-    ensures same { core.new.schema ≡ core.old.schema }
-    ensures limit { core.new.limit ≡ core.old.limit }
+    ensures same { SameRun core.old core.new }
 {
     let mut text = Vec::new(alloc);
     for command in commands {
-        let answer = serve(core, command);
-        let reply = print_reply(alloc, names, core.epoch(), command, &answer)?;
-        text.extend_from_slice(&reply)?;
+        let line = reply_to(alloc, names, core, command)?;
+        text.extend_from_slice(&line)?;
     }
     Ok(text)
 }
