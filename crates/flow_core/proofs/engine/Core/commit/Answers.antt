@@ -1,5 +1,5 @@
 use Rattle.flow_core.specs.View.{now}
-use Rattle.flow_core.proofs.Tests.{none_is_out}
+use Rattle.flow_core.proofs.Answering.{none_is_out}
 use Rattle.flow_core.proofs.engine.Core.commit.Goals as goal
 
 pub returns-in-Some-clause-unfinished : goal.returns-in-Some-clause-unfinished

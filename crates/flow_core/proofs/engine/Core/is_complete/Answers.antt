@@ -3,7 +3,7 @@ use Rattle.flow_model.specs.Schema.{IsGood}
 use Rattle.flow_model.specs.Run.{state_of}
 use Rattle.flow_core.specs.Look.{AreBelow, is_finished}
 use Rattle.flow_core.specs.View.{Progress, now, schema_of}
-use Rattle.flow_core.proofs.Tests.{flag_each, complete}
+use Rattle.flow_core.proofs.Answering.{flag_each, complete}
 use Rattle.flow_core.proofs.engine.Core.is_complete.Goals as goal
 
 pub look_through-requires : goal.look_through-requires

@@ -4,7 +4,7 @@ use Rattle.flow_model.specs.Run.{state_of, CanTake}
 use Rattle.flow_core.specs.Given.{is_out}
 use Rattle.flow_core.specs.Look.{AreBelow, is_next}
 use Rattle.flow_core.specs.View.{Progress, now, schema_of}
-use Rattle.flow_core.proofs.Tests.{flag_each, enabled, enabled_next, enabled_free}
+use Rattle.flow_core.proofs.Answering.{flag_each, enabled, enabled_next, enabled_free}
 use Rattle.flow_core.proofs.engine.Core.is_enabled.Goals as goal
 
 pub look_through-requires : goal.look_through-requires

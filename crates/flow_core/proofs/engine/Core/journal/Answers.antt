@@ -2,7 +2,7 @@ use Rattle.std.proofs.Common.{subst, sym}
 use Rattle.flow_model.specs.Lists.{Each}
 use Rattle.flow_model.specs.Schema.{IsEventLeaf}
 use Rattle.flow_core.specs.View.{Progress}
-use Rattle.flow_core.proofs.Tests.{journal_events}
+use Rattle.flow_core.proofs.Answering.{journal_events}
 use Rattle.flow_core.proofs.engine.Core.journal.Goals as goal
 
 pub returns-clause-events : goal.returns-clause-events

@@ -5,7 +5,7 @@ use Rattle.flow_core.specs.Claims.{IsLeastOut}
 use Rattle.flow_core.specs.Fields.{IsRunning}
 use Rattle.flow_core.specs.Given.{first_out}
 use Rattle.flow_core.specs.View.{Progress, now}
-use Rattle.flow_core.proofs.Tests.{none_out, least_out}
+use Rattle.flow_core.proofs.Answering.{none_out, least_out}
 use Rattle.flow_core.proofs.engine.Core.least_out.Goals as goal
 
 -- the place that was found

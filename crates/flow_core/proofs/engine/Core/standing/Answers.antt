@@ -5,7 +5,7 @@ use Rattle.flow_core.specs.declared.engine.Core.TheInside.{Inside}
 use Rattle.flow_core.specs.Claims.{IsAnswered, IsOut}
 use Rattle.flow_core.specs.Fields.{IsRunning}
 use Rattle.flow_core.specs.View.{Progress, now}
-use Rattle.flow_core.proofs.Tests.{never_given, is_answered, still_out}
+use Rattle.flow_core.proofs.Answering.{never_given, is_answered, still_out}
 use Rattle.flow_core.proofs.engine.Core.standing.Goals.{then-claim-eq0-via-then-claim-eq0, then-claim-eq0-via-else-claim-eq0+then-len-claim}
 use Rattle.flow_core.proofs.engine.Core.standing.Goals as goal
 
