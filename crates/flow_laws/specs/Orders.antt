@@ -1,12 +1,12 @@
 -- Two at a time suffice for every order.
-use Rattle.std.specs.Prelude.{◌≡◌, ℕ, Bool, IsTrue, List, [], ◌∷◌, ◌++◌, ◌↔◌}
-use Rattle.flow_model.specs.Lists.{◌∈◌, Each, AreInOrder, IsOrderOf}
+use Rattle.std.specs.Prelude.{ℕ, Bool, IsTrue, List, [], ◌∷◌, ◌++◌, ◌↔◌}
+use Rattle.flow_model.specs.Lists.{◌∈◌, Each, IsOrderOf}
 use Rattle.flow_model.specs.Process.{Process, leaves}
 use Rattle.flow_model.specs.Schema.{Schema}
 use Rattle.flow_model.specs.Resolution.{ChoiceOption, OptionTrace, options}
 use Rattle.flow_model.specs.Ready.{IsReady, IsReadyRun, IsReadyRunAfter, DoneOr}
 use Rattle.flow_model.specs.Run.{RunState, MayFollow}
-use Rattle.flow_laws.specs.Words.{IsOrdered, IsWellFormed, EachTwo}
+use Rattle.flow_laws.specs.Words.{IsWellFormed, EachTwo}
 
 -- each may come next after the done leaves, and also after them and each other one
 pub record AreSideBySide (q : Process) (pairs : List (ℕ × ℕ)) (Done : ℕ → Type 0) (list : List ℕ) : Type 0 where
@@ -36,4 +36,4 @@ abbrev pub OrdersMayFollowOne : Type 0
 OrdersMayFollowOne = (w : Schema) → IsWellFormed w → (s : RunState) (o : ChoiceOption) → o ∈ options w → (first : ℕ) (list : List ℕ) →
     ((order : List ℕ) → IsOrderOf order list → MayFollow w s o (first ∷ order))
     ↔ (IsAlive s o × IsReady o.resolution o.order (λ n. n ∈ s.journal) first
-        × AreSideBySide o.resolution o.order (λ n. n ∈ (s.journal ++ first ∷ [])) list)
+    × AreSideBySide o.resolution o.order (λ n. n ∈ (s.journal ++ first ∷ [])) list)

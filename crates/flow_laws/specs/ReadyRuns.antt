@@ -1,6 +1,6 @@
 -- Ready runs are the executions of an option.
-use Rattle.std.specs.Prelude.{◌≡◌, ℕ, List, [], ◌∷◌, ◌↔◌}
-use Rattle.flow_model.specs.Lists.{◌∈◌, AreInOrder, Begins}
+use Rattle.std.specs.Prelude.{ℕ, List, ◌↔◌}
+use Rattle.flow_model.specs.Lists.{AreInOrder, Begins}
 use Rattle.flow_model.specs.Process.{Process}
 use Rattle.flow_model.specs.Trace.{Trace}
 use Rattle.flow_model.specs.Ready.{IsReadyRun, IsCompleteRun}

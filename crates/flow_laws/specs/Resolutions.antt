@@ -1,5 +1,5 @@
 -- The executions of a goal are those of its resolutions, and the numbering covers each once.
-use Rattle.std.specs.Prelude.{◌≡◌, ℕ, ◌+◌, ◌*◌, ◌<◌, List, [], ◌∷◌, length, Some, slice_get, ◌⊎◌, ◌↔◌}
+use Rattle.std.specs.Prelude.{◌≡◌, ℕ, ◌+◌, ◌*◌, List, length, Some, slice_get, ◌⊎◌, ◌↔◌}
 use Rattle.flow_model.specs.Lists.{◌∈◌, AreDistinct}
 use Rattle.flow_model.specs.Process.{Process, Empty, Task, Sequence, Parallel, Choice, Isolated, leaves}
 use Rattle.flow_model.specs.Trace.{Blocks, Trace}
@@ -28,11 +28,11 @@ abbrev pub ResolutionsAreNumbered : Type 0
 ResolutionsAreNumbered =
     ((g : Process) → length (resolutions g) ≡ resolution_count g)
     × ((a b x y : Process) (i j : ℕ) → slice_get (resolutions a) i ≡ Some x → slice_get (resolutions b) j ≡ Some y →
-        (slice_get (resolutions (Sequence a b)) (i * resolution_count b + j) ≡ Some (Sequence x y))
-        × (slice_get (resolutions (Parallel a b)) (i * resolution_count b + j) ≡ Some (Parallel x y)))
+    (slice_get (resolutions (Sequence a b)) (i * resolution_count b + j) ≡ Some (Sequence x y))
+    × (slice_get (resolutions (Parallel a b)) (i * resolution_count b + j) ≡ Some (Parallel x y)))
     × ((a b x : Process) (i : ℕ) → slice_get (resolutions a) i ≡ Some x → slice_get (resolutions (Choice a b)) i ≡ Some x)
     × ((a b x : Process) (i : ℕ) → slice_get (resolutions b) i ≡ Some x →
-        slice_get (resolutions (Choice a b)) (resolution_count a + i) ≡ Some x)
+    slice_get (resolutions (Choice a b)) (resolution_count a + i) ≡ Some x)
 
 -- every option of a well-formed workflow has what the laws of ready runs and circles ask
 abbrev pub OptionsAreOrdered : Type 0

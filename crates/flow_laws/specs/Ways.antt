@@ -1,5 +1,5 @@
 -- Ways decide constraints, and options cover the good traces.
-use Rattle.std.specs.Prelude.{◌≡◌, ℕ, List, ◌↔◌}
+use Rattle.std.specs.Prelude.{ℕ, List, ◌↔◌}
 use Rattle.flow_model.specs.declared.labels.Label.{Label}
 use Rattle.flow_model.specs.Lists.{◌∈◌, AreDistinct, AreInOrder}
 use Rattle.flow_model.specs.Facts.{events_of}

@@ -1,5 +1,5 @@
 -- Words that several laws share.
-use Rattle.std.specs.Prelude.{◌≡◌, ◌≢◌, ℕ, List, [], ◌∷◌, length}
+use Rattle.std.specs.Prelude.{◌≢◌, ℕ, List, [], ◌∷◌, length}
 use Rattle.flow_model.specs.Lists.{◌∈◌, Each, AreDistinct}
 use Rattle.flow_model.specs.Process.{Process, leaves, IsChoiceFree, IsNumbered}
 use Rattle.flow_model.specs.Schema.{Schema, IsGood, HasUniqueEvents}

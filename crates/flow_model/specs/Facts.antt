@@ -44,6 +44,11 @@ event_at labels leaf = event_of (slice_get labels leaf)
     event_of None = None
     event_of (Some label) = event_in label
 
+-- it is that event
+abbrev pub is_event : ℕ → Option ℕ → Bool
+is_event e None = false
+is_event e (Some other) = other == e
+
 -- the events of a list of leaves, in its order
 abbrev pub events_of : List Label → List ℕ → List ℕ
 events_of labels t = filter_map (event_at labels) t

@@ -11,7 +11,7 @@ use Rattle.flow_model.specs.declared.history.Outcome.{Outcome}
 use Rattle.flow_model.specs.declared.labels.Note.{Note}
 use Rattle.flow_model.specs.declared.labels.Note.TheVariants as note
 use Rattle.flow_model.specs.Lists.{◌∈◌, Begins, Each}
-use Rattle.flow_model.specs.Facts.{event_at, Runs}
+use Rattle.flow_model.specs.Facts.{event_at, is_event, Runs}
 use Rattle.flow_model.specs.Schema.{Schema, start_of, IsGood}
 use Rattle.flow_model.specs.Run.{Claim, RunState, state_of, leaf_of_claim, IsLegal, IsOpenIndex, IsStuck, Waits}
 
@@ -33,11 +33,7 @@ note_of w e = noted (slice_get w.notes e)
 
 -- how many claims up to that one are on leaves of the event
 abbrev pub attempts : Schema → RunState → ℕ → ℕ → ℕ
-attempts w s e number = count_by (λ (claim : Claim). nat_le claim.number number && is_of (event_at w.labels claim.leaf)) s.claims
-  where
-    is_of : Option ℕ → Bool
-    is_of None = false
-    is_of (Some x) = x == e
+attempts w s e number = count_by (λ (claim : Claim). nat_le claim.number number && is_event e (event_at w.labels claim.leaf)) s.claims
 
 -- what the gate is asked for a claim
 abbrev pub call_of : Schema → RunState → ℕ → Call

@@ -6,7 +6,8 @@ use flow_record::place_of_feed;
 /// Cuts a source at its first line `%%`: where the first part ends, and where the second begins.
 /// Without such a line the first part is the whole source.
 pub fn cut(source: &[u8]) -> (usize, usize)
-    ensures { result ≡ cut_of source.now }
+    ensures parts { result ≡ cut_of source.now }
+    ensures within { (result.0 ≤ length source.now) × (result.1 ≤ length source.now) }
 {
     let length = source.len();
     let mut place = 0;

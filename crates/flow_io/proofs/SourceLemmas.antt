@@ -1,0 +1,84 @@
+-- What one read, and one read after others, do to the bytes that a source has left.
+use Rattle.std.proofs.Common.{◌≡◌, ℕ, ◌+◌, ◌<◌, ◌≤◌, ◌↔◌, List, ◌++◌, length, take, drop, min, Option, None, Some, IfSome, Result, Ok, Err, IfOk, sym, ap, ◌∙◌, arith, append_assoc, length-append}
+use Rattle.std.proofs.lemmas.List.{take-append-drop, take-append-le, drop-append-le, drop-drop, drop_all, drop_at, length-take}
+use Rattle.std.specs.Io.KnownBytes.{Consumes}
+use Rattle.flow_io.specs.Source.{GivesNext, LosesCount}
+
+-- a source over memory gives the next `count` bytes of those left
+pub gives_front : (left left' buffer buffer' : List ℕ) (count : ℕ)
+    → count ≤ length left → count ≤ length buffer' → (count ≡ 0 → 0 < length buffer → length left ≡ 0)
+    → left' ≡ drop count left → take count buffer' ≡ take count left → drop count buffer' ≡ drop count buffer
+    → GivesNext (Some left) (Some left') buffer buffer' count
+gives_front left left' buffer buffer' count in_left in_buffer none gone same rest = record {
+  fits = in_buffer;
+  next = rw (gone, same) (sym (take-append-drop count left));
+  rest = rest;
+  end = λ zero_count has_room. gone ∙ drop_all count left (let e : length left ≡ 0 = none zero_count has_room in omega arith);
+}
+
+-- the same from a place `at` in all the bytes
+pub gives_from : (bytes left buffer buffer' : List ℕ) (at count : ℕ)
+    → drop at bytes ≡ left → count ≡ min (length left) (length buffer) → length buffer' ≡ length buffer
+    → take count buffer' ≡ take count left → drop count buffer' ≡ drop count buffer
+    → GivesNext (Some left) (Some (drop (at + count) bytes)) buffer buffer' count
+gives_from bytes left buffer buffer' at count here is_least same_length same rest =
+    gives_front left (drop (at + count) bytes) buffer buffer' count (omega arith) (omega arith)
+    (λ zero_count has_room. omega arith)
+    (sym (drop-drop count at bytes) ∙ ap (drop count) here) same rest
+
+-- one read after others: the bytes of both are gone
+pub consumes_more : (left left' left'' : Option (List ℕ)) (read piece : List ℕ)
+    → Consumes left left' read → Consumes left' left'' piece → Consumes left left'' (read ++ piece)
+consumes_more None left' left'' read piece before after = tt
+consumes_more (Some bytes) None left'' read piece before after = absurd before
+consumes_more (Some bytes) (Some rest) None read piece before after = absurd after
+consumes_more (Some bytes) (Some rest) (Some rest') read piece before after =
+    before ∙ ap (λ r. read ++ r) after ∙ sym (append_assoc read piece rest')
+
+-- the bytes that are gone, by their number
+pub loses_length : (left left' : Option (List ℕ)) (read : List ℕ) (n : ℕ)
+    → Consumes left left' read → length read ≡ n → LosesCount left left' n
+loses_length None left' read n gone long = tt
+loses_length (Some bytes) None read n gone long = absurd gone
+loses_length (Some bytes) (Some rest) read n gone long = (
+  omega (arith, ap length gone, length-append read rest),
+  ap Some (sym (ap (drop n) gone ∙ drop_at read rest n long)),
+)
+
+-- the same of two reads, one after the other
+pub loses_both : (left left' left'' : Option (List ℕ)) (read piece : List ℕ) (n : ℕ)
+    → Consumes left left' read → Consumes left' left'' piece → length read + length piece ≡ n
+    → LosesCount left left'' n
+loses_both left left' left'' read piece n before after long =
+    loses_length left left'' (read ++ piece) n (consumes_more left left' left'' read piece before after)
+    (length-append read piece ∙ long)
+
+-- what was lost, where what is claimed beside it holds
+pub exactly_lost : {A : Type 0} (claim : A) (left left' : Option (List ℕ)) (n : ℕ)
+    → LosesCount left left' n → IfSome left (λ bytes. A ↔ LosesCount (Some bytes) left' n)
+exactly_lost claim None left' n lost = tt
+exactly_lost claim (Some bytes) left' n lost = ((λ _. lost), (λ _. claim))
+
+-- a read into the front of a buffer is a read into the buffer
+pub gives_into : (left left' : Option (List ℕ)) (buffer part : List ℕ) (room n : ℕ)
+    → length part ≡ length (take room buffer) → (0 < length buffer → 0 < room)
+    → GivesNext left left' (take room buffer) part n
+    → GivesNext left left' buffer (part ++ drop room buffer) n
+gives_into left left' buffer part room n same_length has_room given = record {
+  fits = omega (arith, given.fits, length-append part (drop room buffer));
+  next = rw (take-append-le n part (drop room buffer) given.fits) given.next;
+  rest = drop-append-le n part (drop room buffer) given.fits
+      ∙ ap (λ d. d ++ drop room buffer) given.rest
+      ∙ sym (drop-append-le n (take room buffer) (drop room buffer) (omega (arith, given.fits)))
+      ∙ ap (drop n) (take-append-drop room buffer);
+  end = λ none not_empty. given.end none (omega (arith, has_room not_empty, length-take room buffer));
+}
+
+-- the same of the read's result
+pub gives_into_ok : {E : Type 0} (result : Result ℕ E) (left left' : Option (List ℕ)) (buffer part : List ℕ) (room : ℕ)
+    → length part ≡ length (take room buffer) → (0 < length buffer → 0 < room)
+    → IfOk result (GivesNext left left' (take room buffer) part)
+    → IfOk result (GivesNext left left' buffer (part ++ drop room buffer))
+gives_into_ok (Ok n) left left' buffer part room same_length has_room given =
+    gives_into left left' buffer part room n same_length has_room given
+gives_into_ok (Err e) left left' buffer part room same_length has_room given = tt

@@ -1,0 +1,253 @@
+-- A ready run goes on, or some items of a part wait for each other.
+use Rattle.std.proofs.Common.{◌≡◌, ◌≢◌, ℕ, zero, suc, ◌≤◌, List, [], ◌∷◌, ◌++◌, ◌⊎◌, refl, sym, ap, subst, inl, inr, ⊎_elim, arith}
+use Rattle.flow_model.specs.Lists.{◌∈◌}
+use Rattle.flow_model.specs.Process.{Process, Empty, Task, Sequence, Parallel, Choice, Isolated, leaves}
+use Rattle.flow_model.specs.Ready.{InSequence, DirectlyBefore, isolated_parts, IsReady, IsReadyRun}
+use Rattle.flow_model.specs.Circle.{items_of, ItemBefore}
+use Rattle.flow_laws.specs.Words.{IsOrdered}
+use Rattle.flow_laws.proofs.ListLemmas1.{Decided, decide_eq, decide_in, decide_mem, decide_not, decide_both, decide_either, decide_some, find_member, first_member, last_of, mem_left, mem_append}
+use Rattle.flow_laws.proofs.ReadyRemains.{part_within}
+use Rattle.flow_laws.proofs.ReadyRuns.{direct_first, direct_other, ready_at}
+use Rattle.flow_laws.proofs.CircleParts.{regions, IsWithin, region_within, part_of_region, nested, goal_size, part_smaller, item_kind, item_has, item_within, item_having, part_or_region}
+
+-- decisions
+
+decide_sequence : (g : Process) (x y : ℕ) → Decided (InSequence g x y)
+decide_sequence Empty x y = inr (λ h. h)
+decide_sequence (Task n) x y = inr (λ h. h)
+decide_sequence (Sequence a b) x y =
+    decide_either (decide_either (decide_both (decide_in x (leaves a)) (decide_in y (leaves b))) (decide_sequence a x y)) (decide_sequence b x y)
+decide_sequence (Parallel a b) x y = decide_either (decide_sequence a x y) (decide_sequence b x y)
+decide_sequence (Choice a b) x y = decide_either (decide_sequence a x y) (decide_sequence b x y)
+decide_sequence (Isolated a) x y = decide_sequence a x y
+
+decide_pair_eq : (x y : ℕ × ℕ) → Decided (x ≡ y)
+decide_pair_eq x y = at (decide_eq x.0 y.0) (decide_eq x.1 y.1)
+  where
+    at : Decided (x.0 ≡ y.0) → Decided (x.1 ≡ y.1) → Decided (x ≡ y)
+    at (inl p) (inl r) = inl (λ i. (p i, r i))
+    at (inl p) (inr n) = inr (λ e. n (ap (λ (z : ℕ × ℕ). z.1) e))
+    at (inr n) r = inr (λ e. n (ap (λ (z : ℕ × ℕ). z.0) e))
+
+pub decide_direct : (q : Process) (pairs : List (ℕ × ℕ)) (x y : ℕ) → Decided (DirectlyBefore q pairs x y)
+decide_direct q pairs x y = decide_either (decide_sequence q x y) (decide_mem decide_pair_eq (x, y) pairs)
+
+-- a leaf of the list is not done, or all are
+pub some_or_all : (run list : List ℕ) → ((x : ℕ) × (x ∈ list) × ¬ (x ∈ run)) ⊎ ((x : ℕ) → x ∈ list → x ∈ run)
+some_or_all run list = ⊎_elim inl (λ f. inr (λ x m. ⊎_elim (λ k. k) (λ n. absurd (f x m n)) (decide_in x run)))
+    (find_member (λ x. ¬ (x ∈ run)) (λ x. decide_not (decide_in x run)) list)
+
+-- some leaf of the list is not done
+abbrev pub IsUnfinished : List ℕ → List ℕ → Type 0
+IsUnfinished run list = (x : ℕ) × (x ∈ list) × ¬ (x ∈ run)
+
+decide_unfinished : (run list : List ℕ) → Decided (IsUnfinished run list)
+decide_unfinished run list = decide_some (λ x. ¬ (x ∈ run)) (λ x. decide_not (decide_in x run)) list
+
+-- the part is begun and unfinished
+abbrev IsCaught : List ℕ → Process → Type 0
+IsCaught run part = ((x : ℕ) × (x ∈ leaves part) × (x ∈ run)) × IsUnfinished run (leaves part)
+
+decide_caught : (run : List ℕ) (part : Process) → Decided (IsCaught run part)
+decide_caught run part = decide_both (decide_some (λ x. x ∈ run) (λ x. decide_in x run) (leaves part)) (decide_unfinished run (leaves part))
+
+-- items of one part, each unfinished one of which waits for another
+pub record IsTangle (q : Process) (pairs : List (ℕ × ℕ)) (run : List ℕ) (part : Process) : Type 0 where
+  pub is_part : part ∈ regions q
+  pub start : List ℕ
+  pub start_item : start ∈ items_of part
+  pub start_waits : IsUnfinished run start
+  pub earlier : (item : List ℕ) → item ∈ items_of part → IsUnfinished run item →
+      (other : List ℕ) × (other ∈ items_of part) × IsUnfinished run other × (other ≢ item) × ItemBefore q pairs other item
+
+module _ (q : Process) (pairs : List (ℕ × ℕ)) (w : IsOrdered q pairs) (run : List ℕ) (ready : IsReadyRun q pairs run) where
+  -- whatever outside is directly before one of its leaves is done
+  abbrev IsOpen : Process → Type 0
+  IsOpen part = (x y : ℕ) → ¬ (x ∈ leaves part) → y ∈ leaves part → DirectlyBefore q pairs x y → x ∈ run
+
+  whole_open : (part : Process) → IsWithin q part → IsOpen part
+  whole_open part h x y n k b = absurd (n (h x (direct_first q pairs w x y b)))
+
+  begun_open : (part : Process) → part ∈ isolated_parts q → (x : ℕ) → x ∈ leaves part → x ∈ run → IsOpen part
+  begun_open part m x k l =
+      let f = first_member (λ z. z ∈ leaves part) (λ z. decide_in z (leaves part)) run x l k in
+      let r = ready_at q pairs f.front f.member f.back (subst (IsReadyRun q pairs) f.there ready) in
+      λ u v n i b. subst (λ z. u ∈ z) (sym f.there)
+      (mem_left u f.front (f.member ∷ f.back) (r.begins part m f.holds (λ z g h. f.none_before z h g) u v n i b))
+
+  -- two caught parts both have the last leaf, so that one lies in the other
+  caught_nested : (one two : Process) → one ∈ isolated_parts q → two ∈ isolated_parts q → IsCaught run one → IsCaught run two → IsWithin one two ⊎ IsWithin two one
+  caught_nested one two m l c d = at (last_of run c.0.0 c.0.2)
+    where
+      at : (front : List ℕ) × (last : ℕ) × (run ≡ front ++ last ∷ []) → IsWithin one two ⊎ IsWithin two one
+      at (front, last, e) = ⊎_elim (λ k. inl (region_within two one k)) (λ k. inr (region_within one two k))
+          (nested q one two last w.distinct m l (has one m c) (has two l d))
+        where
+          in_front : (x : ℕ) → x ∈ run → x ≢ last → x ∈ front
+          in_front x k n = ⊎_elim (λ h. h) (⊎_elim (λ h. absurd (n h)) absurd) (mem_append x front (last ∷ []) (subst (λ z. x ∈ z) e k))
+
+          has : (part : Process) → part ∈ isolated_parts q → IsCaught run part → last ∈ leaves part
+          has part i ((x, x_in, x_done), (y, y_in, y_fresh)) = ⊎_elim (λ h. h)
+              (λ no.
+              let r = ready_at q pairs front last [] (subst (IsReadyRun q pairs) e ready) in
+              let x_front = in_front x x_done (λ h. no (subst (λ z. z ∈ leaves part) h x_in)) in
+              let y_front = r.outside part i no x y x_in x_front y_in in
+              absurd (y_fresh (subst (λ z. y ∈ z) (sym e) (mem_left y front (last ∷ []) y_front))))
+              (decide_in last (leaves part))
+
+  -- the innermost of the caught parts, or the whole goal
+  record IsInnermost (list : List Process) (part : Process) : Type 0 where
+    is_part : (part ≡ q) ⊎ ((part ∈ isolated_parts q) × IsCaught run part)
+    within : (other : Process) → other ∈ list → IsCaught run other → IsWithin part other
+
+  innermost : (list : List Process) → ((part : Process) → part ∈ list → part ∈ isolated_parts q) → (part : Process) × IsInnermost list part
+  innermost [] f = (q, record { is_part = inl refl; within = λ other m. absurd m })
+  innermost (p ∷ list) f = at (decide_caught run p) (innermost list (λ x m. f x (inr m)))
+    where
+      at : Decided (IsCaught run p) → (part : Process) × IsInnermost list part → (part : Process) × IsInnermost (p ∷ list) part
+      at (inr n) (part, r) =
+          (part, record { is_part = r.is_part; within = λ other m c. ⊎_elim (λ e. absurd (n (subst (IsCaught run) e c))) (λ k. r.within other k c) m })
+      at (inl c) (part, r) = ⊎_elim
+          (λ e. inner (λ x h. subst (λ z. x ∈ leaves z) (sym e) (part_within q p x (f p (inl refl)) h)))
+          (λ h. ⊎_elim keep inner (caught_nested part p h.0 (f p (inl refl)) h.1 c))
+          r.is_part
+        where
+          keep : IsWithin part p → (better : Process) × IsInnermost (p ∷ list) better
+          keep h = (part, record { is_part = r.is_part; within = λ other m d. ⊎_elim (λ e. subst (IsWithin part) (sym e) h) (λ k. r.within other k d) m })
+
+          inner : IsWithin p part → (better : Process) × IsInnermost (p ∷ list) better
+          inner h = (
+            p,
+            record {
+              is_part = inr (f p (inl refl), c);
+              within = λ other m d. ⊎_elim (λ e. subst (IsWithin p) (sym e) (λ x k. k)) (λ k x i. r.within other k d x (h x i)) m;
+            },
+          )
+
+  -- a region that may go on by itself: it is unfinished, lies in each caught part, and all around it are open
+  record IsFree (part : Process) : Type 0 where
+    is_part : part ∈ regions q
+    unfinished : IsUnfinished run (leaves part)
+    within : (other : Process) → other ∈ isolated_parts q → IsCaught run other → IsWithin part other
+    around : (other : Process) → other ∈ regions q → IsWithin part other → IsOpen other
+
+  some_free : IsUnfinished run (leaves q) → (part : Process) × IsFree part
+  some_free u = at (innermost (isolated_parts q) (λ part m. m))
+    where
+      at : (part : Process) × IsInnermost (isolated_parts q) part → (part : Process) × IsFree part
+      at (part, r) = (
+        part,
+        record {
+          is_part = ⊎_elim inl (λ h. inr h.0) r.is_part;
+          unfinished = ⊎_elim (λ e. subst (λ p. IsUnfinished run (leaves p)) (sym e) u) (λ h. h.1.1) r.is_part;
+          within = r.within;
+          around = λ other m k. ⊎_elim
+              (λ e. whole_open other (subst (IsWithin q) (sym e) (λ x i. i)))
+              (λ i. ⊎_elim
+              (λ e. whole_open other (subst (λ p. IsWithin p other) e k))
+              (λ h. begun_open other i h.1.0.0 (k h.1.0.0 h.1.0.1) h.1.0.2)
+              r.is_part)
+              m;
+        },
+      )
+
+  -- a leaf of the region that is not done, and not of the item, is directly before the item
+  abbrev IsBlocked : Process → List ℕ → Type 0
+  IsBlocked part item = (x : ℕ) × (x ∈ leaves part) × ((¬ (x ∈ run) × ¬ (x ∈ item)) × ((y : ℕ) × (y ∈ item) × DirectlyBefore q pairs x y))
+
+  decide_blocked : (part : Process) (item : List ℕ) → Decided (IsBlocked part item)
+  decide_blocked part item = decide_some
+      (λ x. (¬ (x ∈ run) × ¬ (x ∈ item)) × ((y : ℕ) × (y ∈ item) × DirectlyBefore q pairs x y))
+      (λ x. decide_both
+      (decide_both (decide_not (decide_in x run)) (decide_not (decide_in x item)))
+      (decide_some (λ y. DirectlyBefore q pairs x y) (λ y. decide_direct q pairs x y) item))
+      (leaves part)
+
+  -- what is directly before an item that is not blocked is done
+  item_waits : (part : Process) → IsFree part → (item : List ℕ) → item ∈ items_of part → ¬ (IsBlocked part item) →
+      (x y : ℕ) → ¬ (x ∈ item) → y ∈ item → DirectlyBefore q pairs x y → x ∈ run
+  item_waits part r item m n x y a b c = ⊎_elim (λ k. k)
+      (λ fresh. ⊎_elim
+      (λ i. absurd (n (x, i, ((fresh, a), (y, b, c)))))
+      (λ no. r.around part r.is_part (λ z i. i) x y no (item_within part item y m b) c)
+      (decide_in x (leaves part)))
+      (decide_in x run)
+
+  -- and so is what is directly before a part that has the item
+  item_open : (part : Process) → IsFree part → (item : List ℕ) → item ∈ items_of part → ¬ (IsBlocked part item) → (other : Process) → other ∈ regions q →
+      ((x : ℕ) → x ∈ item → x ∈ leaves other) → IsOpen other
+  item_open part r item m n other o within =
+      let u = item_has part item m in
+      ⊎_elim
+      (λ e. whole_open other (subst (IsWithin q) (sym e) (λ x i. i)))
+      (λ i. ⊎_elim
+      (λ inside x y a b c. item_waits part r item m n x y (λ h. a (within x h)) (inside y b) c)
+      (λ k. r.around other (inr i) k)
+      (part_or_region q part other item u.0 w.distinct r.is_part m u.1 i (within u.0 u.1)))
+      o
+
+  leaf_ready : (part : Process) → IsFree part → (n : ℕ) → (n ∷ []) ∈ items_of part → ¬ (n ∈ run) → ¬ (IsBlocked part (n ∷ [])) → IsReady q pairs (λ x. x ∈ run) n
+  leaf_ready part r n m fresh free = record {
+    leaf = region_within q part r.is_part n here;
+    not_done = fresh;
+    before = λ x b. item_waits part r (n ∷ []) m free x n (λ h. direct_other q pairs w x n b (⊎_elim {C = x ≡ n} (λ e. e) absurd h)) (inl refl) b;
+    outside = λ p i no x y k d l. ⊎_elim (λ h. h) (λ f. absurd (no (r.within p i ((x, k, d), (y, l, f)) n here))) (decide_in y run);
+    begins = λ p i k none x y a b c. item_open part r (n ∷ []) m free p (inr i) (λ z h. ⊎_elim (λ e. subst (λ u. u ∈ leaves p) (sym e) k) absurd h) x y a b c;
+  }
+    where
+      here : n ∈ leaves part
+      here = item_within part (n ∷ []) n m (inl refl)
+
+  part_free : (part : Process) → IsFree part → (inner : Process) → inner ∈ isolated_parts part → leaves inner ∈ items_of part → IsUnfinished run (leaves inner) →
+      ¬ (IsBlocked part (leaves inner)) → IsFree inner
+  part_free part r inner m k u n = record {
+    is_part = inr (part_of_region q part inner r.is_part m);
+    unfinished = u;
+    within = λ other i c x h. r.within other i c x (part_within part inner x m h);
+    around = λ other i h. item_open part r (leaves inner) k n other i h;
+  }
+
+  tangle_of : (part : Process) → IsFree part → ((item : List ℕ) → item ∈ items_of part → IsUnfinished run item → IsBlocked part item) → IsTangle q pairs run part
+  tangle_of part r f = at (item_having part r.unfinished.0 r.unfinished.1)
+    where
+      at : (item : List ℕ) × (item ∈ items_of part) × (r.unfinished.0 ∈ item) → IsTangle q pairs run part
+      at (start, m, h) = record {
+        is_part = r.is_part;
+        start = start;
+        start_item = m;
+        start_waits = (r.unfinished.0, h, r.unfinished.2);
+        earlier = λ item i u.
+            let b = f item i u in
+            let o = item_having part b.0 b.1 in
+            (o.0, o.1, (b.0, o.2, b.2.0.0), λ e. b.2.0.1 (subst (λ z. b.0 ∈ z) e o.2), (b.0, b.2.1.0, o.2, b.2.1.1, b.2.1.2));
+      }
+
+  -- an unfinished item that is not blocked is a ready leaf or a free part
+  step : (part : Process) → IsFree part →
+      ((inner : Process) → inner ∈ isolated_parts part → IsFree inner → ((n : ℕ) × IsReady q pairs (λ x. x ∈ run) n) ⊎ ((tangled : Process) × IsTangle q pairs run tangled)) →
+      ((n : ℕ) × IsReady q pairs (λ x. x ∈ run) n) ⊎ ((tangled : Process) × IsTangle q pairs run tangled)
+  step part r down = ⊎_elim
+      (λ found. open_item found.0 found.1 found.2.0 found.2.1)
+      (λ f. inr (part, tangle_of part r (λ item m u. ⊎_elim (λ k. k) (λ n. absurd (f item m (u, n))) (decide_blocked part item))))
+      (find_member (λ item. IsUnfinished run item × ¬ (IsBlocked part item)) (λ item. decide_both (decide_unfinished run item) (decide_not (decide_blocked part item))) (items_of part))
+    where
+      open_item : (item : List ℕ) → item ∈ items_of part → IsUnfinished run item → ¬ (IsBlocked part item) →
+          ((n : ℕ) × IsReady q pairs (λ x. x ∈ run) n) ⊎ ((tangled : Process) × IsTangle q pairs run tangled)
+      open_item item m u n = ⊎_elim
+          (λ single.
+          let u' = subst (IsUnfinished run) single.1 u in
+          let is = ⊎_elim {C = u'.0 ≡ single.0} (λ e. e) absurd u'.1 in
+          inl (single.0, leaf_ready part r single.0 (subst (λ z. z ∈ items_of part) single.1 m) (λ h. u'.2 (subst (λ z. z ∈ run) (sym is) h)) (subst (λ z. ¬ (IsBlocked part z)) single.1 n)))
+          (λ whole. down whole.0 whole.1
+          (part_free part r whole.0 whole.1 (subst (λ z. z ∈ items_of part) whole.2 m) (subst (IsUnfinished run) whole.2 u) (subst (λ z. ¬ (IsBlocked part z)) whole.2 n)))
+          (item_kind part item m)
+
+  -- down the parts
+  descend : (k : ℕ) (part : Process) → IsFree part → goal_size part ≤ k →
+      ((n : ℕ) × IsReady q pairs (λ x. x ∈ run) n) ⊎ ((tangled : Process) × IsTangle q pairs run tangled)
+  descend zero part r s = step part r (λ inner m f. absurd (omega (arith, part_smaller part inner m)))
+  descend (suc k) part r s = step part r (λ inner m f. descend k inner f (omega (arith, part_smaller part inner m)))
+
+  -- a leaf may come next, or there is a tangle
+  pub goes_on : IsUnfinished run (leaves q) → ((n : ℕ) × IsReady q pairs (λ x. x ∈ run) n) ⊎ ((tangled : Process) × IsTangle q pairs run tangled)
+  goes_on u = let r = some_free u in descend (goal_size r.0) r.0 r.1 (omega arith)

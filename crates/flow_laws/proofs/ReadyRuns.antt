@@ -1,0 +1,228 @@
+-- Ready runs and the executions of an option, leaf by leaf.
+use Rattle.std.proofs.Common.{◌≡◌, ◌≢◌, ℕ, List, [], ◌∷◌, ◌++◌, refl, sym, ap, ◌∙◌, subst, inl, inr, ⊎_elim, append_assoc, append-nil}
+use Rattle.flow_model.specs.Lists.{◌∈◌, AreDistinct, AreInOrder, StandsBefore, Begins}
+use Rattle.flow_model.specs.Process.{Process, Empty, Task, Sequence, Parallel, Choice, Isolated, leaves}
+use Rattle.flow_model.specs.Trace.{Trace}
+use Rattle.flow_model.specs.Ready.{InSequence, DirectlyBefore, isolated_parts, IsReady, DoneOr, IsReadyRunAfter, IsReadyRun, IsCompleteRun}
+use Rattle.flow_laws.specs.Words.{IsOrdered}
+use Rattle.flow_laws.specs.ReadyRuns.{CompleteRunsAreTraces, FrontsAreReady}
+use Rattle.flow_laws.proofs.ListLemmas1.{mem_append, mem_here, each_at, each_of, split_at, distinct_left, distinct_right, distinct_apart, not_elsewhere, before_second, before_across, before_right, in_front, not_both_ways}
+use Rattle.flow_laws.proofs.ReadyRemains.{sequence_first, sequence_second, part_within}
+use Rattle.flow_laws.proofs.ReadyOrders.{IsOrdering, ordering_of_trace, trace_of_ordering}
+
+-- what is directly before what
+
+pub direct_first : (q : Process) (pairs : List (ℕ × ℕ)) → IsOrdered q pairs → (x y : ℕ) → DirectlyBefore q pairs x y → x ∈ leaves q
+direct_first q pairs w x y (inl h) = sequence_first q x y h
+direct_first q pairs w x y (inr m) = (each_at (λ pair. (pair.0 ∈ leaves q) × (pair.1 ∈ leaves q)) pairs (x, y) w.of_leaves m).0
+
+pub direct_second : (q : Process) (pairs : List (ℕ × ℕ)) → IsOrdered q pairs → (x y : ℕ) → DirectlyBefore q pairs x y → y ∈ leaves q
+direct_second q pairs w x y (inl h) = sequence_second q x y h
+direct_second q pairs w x y (inr m) = (each_at (λ pair. (pair.0 ∈ leaves q) × (pair.1 ∈ leaves q)) pairs (x, y) w.of_leaves m).1
+
+sequence_other : (g : Process) (x : ℕ) → AreDistinct (leaves g) → ¬ (InSequence g x x)
+sequence_other Empty x d h = h
+sequence_other (Task n) x d h = h
+sequence_other (Sequence a b) x d (inl (inl h)) = distinct_apart (leaves a) (leaves b) d x h.0 h.1
+sequence_other (Sequence a b) x d (inl (inr h)) = sequence_other a x (distinct_left (leaves a) (leaves b) d) h
+sequence_other (Sequence a b) x d (inr h) = sequence_other b x (distinct_right (leaves a) (leaves b) d) h
+sequence_other (Parallel a b) x d (inl h) = sequence_other a x (distinct_left (leaves a) (leaves b) d) h
+sequence_other (Parallel a b) x d (inr h) = sequence_other b x (distinct_right (leaves a) (leaves b) d) h
+sequence_other (Choice a b) x d (inl h) = sequence_other a x (distinct_left (leaves a) (leaves b) d) h
+sequence_other (Choice a b) x d (inr h) = sequence_other b x (distinct_right (leaves a) (leaves b) d) h
+sequence_other (Isolated a) x d h = sequence_other a x d h
+
+-- no leaf is directly before itself
+pub direct_other : (q : Process) (pairs : List (ℕ × ℕ)) → IsOrdered q pairs → (x y : ℕ) → DirectlyBefore q pairs x y → x ≢ y
+direct_other q pairs w x y (inl h) e = sequence_other q y w.distinct (subst (λ z. InSequence q z y) e h)
+direct_other q pairs w x y (inr m) e = each_at (λ pair. pair.0 ≢ pair.1) pairs (x, y) w.different m e
+
+-- the executions of an option
+
+-- an ordering of the goal in which each pair stands in order
+pub record IsArrangement (q : Process) (pairs : List (ℕ × ℕ)) (t : List ℕ) : Type 0 where
+  pub ordering : IsOrdering q t
+  pub pairs_stand : AreInOrder pairs t
+
+pub arrangement_of : (q : Process) (pairs : List (ℕ × ℕ)) (t : List ℕ) → IsOrdered q pairs → Trace q t → AreInOrder pairs t → IsArrangement q pairs t
+arrangement_of q pairs t w h k = record { ordering = ordering_of_trace t q w.choice_free w.distinct h; pairs_stand = k }
+
+pub direct_stands : (q : Process) (pairs : List (ℕ × ℕ)) (t : List ℕ) → IsArrangement q pairs t → (x y : ℕ) → DirectlyBefore q pairs x y → StandsBefore x y t
+direct_stands q pairs t a x y (inl h) = a.ordering.before x y h
+direct_stands q pairs t a x y (inr m) = each_at (λ pair. StandsBefore pair.0 pair.1 t) pairs (x, y) a.pairs_stand m
+
+-- each leaf of an execution may come next after those before it
+pub ready_in_arrangement : (q : Process) (pairs : List (ℕ × ℕ)) (front : List ℕ) (n : ℕ) (back : List ℕ) → IsOrdered q pairs →
+    IsArrangement q pairs (front ++ n ∷ back) → IsReady q pairs (λ x. x ∈ front) n
+ready_in_arrangement q pairs front n back w a = record {
+  leaf = o.leaf n (mem_here n front back);
+  not_done = (not_elsewhere front back n o.distinct).0;
+  before = λ x b. in_front x n front back o.distinct (direct_stands q pairs (front ++ n ∷ back) a x n b);
+  outside = λ part m l x y k h p. ⊎_elim
+      (λ i. i)
+      (⊎_elim
+      (λ e. absurd (l (subst (λ z. z ∈ leaves part) e p)))
+      (λ i. absurd (o.together part m x n y k l p (before_across x n front (n ∷ back) h (inl refl)) (before_right n y front (n ∷ back) (inl (refl, i))))))
+      (mem_append y front (n ∷ back) (o.all y (part_within q part y m p)));
+  begins = λ part m k none x y l p b. ⊎_elim
+      (λ i. i)
+      (⊎_elim
+      (λ e. absurd (l (subst (λ z. z ∈ leaves part) (sym e) k)))
+      (λ i. absurd (o.together part m n x y k l p (before_right n x front (n ∷ back) (inl (refl, i))) (direct_stands q pairs (front ++ n ∷ back) a x y b))))
+      (mem_append x front (n ∷ back) (o.all x (direct_first q pairs w x y b)));
+}
+  where
+    open a use {ordering as o}
+
+-- ready runs
+
+-- it does not matter how the done leaves are told
+pub same_ready : (q : Process) (pairs : List (ℕ × ℕ)) (D E : ℕ → Type 0) (n : ℕ) → ((x : ℕ) → D x → E x) → ((x : ℕ) → E x → D x) →
+    IsReady q pairs D n → IsReady q pairs E n
+same_ready q pairs D E n to from h = record {
+  leaf = h.leaf;
+  not_done = λ e. h.not_done (from n e);
+  before = λ x b. to x (h.before x b);
+  outside = λ part m l x y k e p. to y (h.outside part m l x y k (from x e) p);
+  begins = λ part m k none x y l p b. to x (h.begins part m k (λ z i e. none z i (to z e)) x y l p b);
+}
+
+pub same_run : (q : Process) (pairs : List (ℕ × ℕ)) (D E : ℕ → Type 0) (run : List ℕ) → ((x : ℕ) → D x → E x) → ((x : ℕ) → E x → D x) →
+    IsReadyRunAfter q pairs D run → IsReadyRunAfter q pairs E run
+same_run q pairs D E [] to from h = tt
+same_run q pairs D E (n ∷ run) to from h = (
+  same_ready q pairs D E n to from h.0,
+  same_run q pairs (DoneOr D (n ∷ [])) (DoneOr E (n ∷ [])) run
+      (λ x k. ⊎_elim (λ l. inl (to x l)) inr k) (λ x k. ⊎_elim (λ l. inl (from x l)) inr k) h.1,
+)
+
+-- one more done leaf, told first or last
+done_join : (D : ℕ → Type 0) (m : ℕ) (more : List ℕ) (x : ℕ) → DoneOr (DoneOr D (m ∷ [])) more x → DoneOr D (m ∷ more) x
+done_join D m more x (inl (inl h)) = inl h
+done_join D m more x (inl (inr (inl e))) = inr (inl e)
+done_join D m more x (inl (inr (inr h))) = absurd h
+done_join D m more x (inr h) = inr (inr h)
+
+done_part : (D : ℕ → Type 0) (m : ℕ) (more : List ℕ) (x : ℕ) → DoneOr D (m ∷ more) x → DoneOr (DoneOr D (m ∷ [])) more x
+done_part D m more x (inl h) = inl (inl h)
+done_part D m more x (inr (inl e)) = inl (inr (inl e))
+done_part D m more x (inr (inr h)) = inr h
+
+-- each leaf of a ready run may come next after those before it
+pub run_at : (q : Process) (pairs : List (ℕ × ℕ)) (D : ℕ → Type 0) (front : List ℕ) (n : ℕ) (back : List ℕ) →
+    IsReadyRunAfter q pairs D (front ++ n ∷ back) → IsReady q pairs (DoneOr D front) n
+run_at q pairs D [] n back h = same_ready q pairs D (DoneOr D []) n (λ x k. inl k) (λ x k. ⊎_elim (λ l. l) absurd k) h.0
+run_at q pairs D (m ∷ front) n back h =
+    same_ready q pairs (DoneOr (DoneOr D (m ∷ [])) front) (DoneOr D (m ∷ front)) n (done_join D m front) (done_part D m front)
+    (run_at q pairs (DoneOr D (m ∷ [])) front n back h.1)
+
+-- and where this is so, the list is a ready run
+pub run_of : (q : Process) (pairs : List (ℕ × ℕ)) (D : ℕ → Type 0) (run : List ℕ) →
+    ((front : List ℕ) (n : ℕ) (back : List ℕ) → run ≡ front ++ n ∷ back → IsReady q pairs (DoneOr D front) n) → IsReadyRunAfter q pairs D run
+run_of q pairs D [] f = tt
+run_of q pairs D (n ∷ run) f = (
+  same_ready q pairs (DoneOr D []) D n (λ x k. ⊎_elim (λ l. l) absurd k) (λ x k. inl k) (f [] n run refl),
+  run_of q pairs (DoneOr D (n ∷ [])) run (λ front m back e.
+      same_ready q pairs (DoneOr D (n ∷ front)) (DoneOr (DoneOr D (n ∷ [])) front) m (done_part D n front) (done_join D n front)
+      (f (n ∷ front) m back (ap (λ l. n ∷ l) e))),
+)
+
+-- the leaves of a ready run are distinct and were not done
+pub run_distinct : (q : Process) (pairs : List (ℕ × ℕ)) (D : ℕ → Type 0) (run : List ℕ) → IsReadyRunAfter q pairs D run →
+    AreDistinct run × ((x : ℕ) → x ∈ run → ¬ (D x))
+run_distinct q pairs D [] h = (tt, λ x k. absurd k)
+run_distinct q pairs D (n ∷ run) h =
+    let r = run_distinct q pairs (DoneOr D (n ∷ [])) run h.1 in (
+      (λ k. r.1 n k (inr (inl refl)), r.0),
+      λ x k e. ⊎_elim (λ i. h.0.not_done (subst D i e)) (λ l. r.1 x l (inl e)) k,
+    )
+
+-- two ready runs, one after the other, are one
+pub run_join : (q : Process) (pairs : List (ℕ × ℕ)) (D : ℕ → Type 0) (front back : List ℕ) → IsReadyRunAfter q pairs D front →
+    IsReadyRunAfter q pairs (DoneOr D front) back → IsReadyRunAfter q pairs D (front ++ back)
+run_join q pairs D [] back h k = same_run q pairs (DoneOr D []) D back (λ x i. ⊎_elim (λ l. l) absurd i) (λ x i. inl i) k
+run_join q pairs D (n ∷ front) back h k = (
+  h.0,
+  run_join q pairs (DoneOr D (n ∷ [])) front back h.1
+      (same_run q pairs (DoneOr D (n ∷ front)) (DoneOr (DoneOr D (n ∷ [])) front) back (done_part D n front) (done_join D n front) k),
+)
+
+pub run_front : (q : Process) (pairs : List (ℕ × ℕ)) (D : ℕ → Type 0) (front back : List ℕ) → IsReadyRunAfter q pairs D (front ++ back) →
+    IsReadyRunAfter q pairs D front
+run_front q pairs D [] back h = tt
+run_front q pairs D (n ∷ front) back h = (h.0, run_front q pairs (DoneOr D (n ∷ [])) front back h.1)
+
+pub run_back : (q : Process) (pairs : List (ℕ × ℕ)) (D : ℕ → Type 0) (front back : List ℕ) → IsReadyRunAfter q pairs D (front ++ back) →
+    IsReadyRunAfter q pairs (DoneOr D front) back
+run_back q pairs D [] back h = same_run q pairs D (DoneOr D []) back (λ x i. inl i) (λ x i. ⊎_elim (λ l. l) absurd i) h
+run_back q pairs D (n ∷ front) back h =
+    same_run q pairs (DoneOr (DoneOr D (n ∷ [])) front) (DoneOr D (n ∷ front)) back (done_join D n front) (done_part D n front)
+    (run_back q pairs (DoneOr D (n ∷ [])) front back h.1)
+
+-- the same where nothing was done at first
+pub ready_at : (q : Process) (pairs : List (ℕ × ℕ)) (front : List ℕ) (n : ℕ) (back : List ℕ) → IsReadyRun q pairs (front ++ n ∷ back) →
+    IsReady q pairs (λ x. x ∈ front) n
+ready_at q pairs front n back h =
+    same_ready q pairs (DoneOr (λ x. ⊥) front) (λ x. x ∈ front) n (λ x k. ⊎_elim absurd (λ l. l) k) (λ x k. inr k) (run_at q pairs (λ x. ⊥) front n back h)
+
+pub ready_run_of : (q : Process) (pairs : List (ℕ × ℕ)) (run : List ℕ) →
+    ((front : List ℕ) (n : ℕ) (back : List ℕ) → run ≡ front ++ n ∷ back → IsReady q pairs (λ x. x ∈ front) n) → IsReadyRun q pairs run
+ready_run_of q pairs run f = run_of q pairs (λ x. ⊥) run (λ front n back e.
+    same_ready q pairs (λ x. x ∈ front) (DoneOr (λ x. ⊥) front) n (λ x k. inr k) (λ x k. ⊎_elim absurd (λ l. l) k) (f front n back e))
+
+-- one more ready leaf
+pub run_grow : (q : Process) (pairs : List (ℕ × ℕ)) (run : List ℕ) (n : ℕ) → IsReadyRun q pairs run → IsReady q pairs (λ x. x ∈ run) n →
+    IsReadyRun q pairs (run ++ n ∷ [])
+run_grow q pairs run n h r =
+    run_join q pairs (λ x. ⊥) run (n ∷ []) h
+    (same_ready q pairs (λ x. x ∈ run) (DoneOr (λ x. ⊥) run) n (λ x k. inr k) (λ x k. ⊎_elim absurd (λ l. l) k) r, tt)
+
+-- the two are one
+
+-- a front of an execution is a ready run
+pub front_ready : (q : Process) (pairs : List (ℕ × ℕ)) (t front : List ℕ) → IsOrdered q pairs → IsArrangement q pairs t → Begins t front → IsReadyRun q pairs front
+front_ready q pairs t front w a b = ready_run_of q pairs front (λ done n back e.
+    let whole : t ≡ done ++ n ∷ (back ++ b.0) = b.1 ∙ ap (λ l. l ++ b.0) e ∙ append_assoc done (n ∷ back) b.0 in
+    ready_in_arrangement q pairs done n (back ++ b.0) w (subst (IsArrangement q pairs) whole a))
+
+-- a complete ready run is an execution
+pub complete_arranged : (q : Process) (pairs : List (ℕ × ℕ)) (t : List ℕ) → IsOrdered q pairs → IsCompleteRun q pairs t → IsArrangement q pairs t
+complete_arranged q pairs t w h = record {
+  ordering = record {
+    leaf = λ x k. let s = split_at x t k in (ready_at q pairs s.0 x s.1 (subst (IsReadyRun q pairs) s.2 h.0)).leaf;
+    all = h.1;
+    distinct = d;
+    before = λ x y k. stands x y (inl k);
+    together = apart;
+  };
+  pairs_stand = each_of (λ pair. StandsBefore pair.0 pair.1 t) pairs (λ pair m. stands pair.0 pair.1 (inr m));
+}
+  where
+    d : AreDistinct t
+    d = (run_distinct q pairs (λ x. ⊥) t h.0).0
+
+    -- what stands in the front at its place stands before it
+    stands_at : (x y : ℕ) (front back : List ℕ) → t ≡ front ++ y ∷ back → x ∈ front → StandsBefore x y t
+    stands_at x y front back e k = subst (StandsBefore x y) (sym e) (before_across x y front (y ∷ back) k (inl refl))
+
+    stands : (x y : ℕ) → DirectlyBefore q pairs x y → StandsBefore x y t
+    stands x y b =
+        let s = split_at y t (h.1 y (direct_second q pairs w x y b)) in
+        stands_at x y s.0 s.1 s.2 ((ready_at q pairs s.0 y s.1 (subst (IsReadyRun q pairs) s.2 h.0)).before x b)
+
+    apart : (part : Process) → part ∈ isolated_parts q → (x y z : ℕ) → x ∈ leaves part → ¬ (y ∈ leaves part) → z ∈ leaves part →
+        StandsBefore x y t → StandsBefore y z t → ⊥
+    apart part m x y z k l p b c =
+        let s = split_at y t (before_second x y t b) in
+        let x_in = in_front x y s.0 s.1 (subst AreDistinct s.2 d) (subst (StandsBefore x y) s.2 b) in
+        let z_in = (ready_at q pairs s.0 y s.1 (subst (IsReadyRun q pairs) s.2 h.0)).outside part m l x z k x_in p in
+        not_both_ways y z t d c (stands_at z y s.0 s.1 s.2 z_in)
+
+pub complete_runs_are_traces : CompleteRunsAreTraces
+complete_runs_are_traces q pairs w t = (
+  λ h. let a = complete_arranged q pairs t w h in (trace_of_ordering t q w.choice_free w.distinct a.ordering, a.pairs_stand),
+  λ h. let a = arrangement_of q pairs t w h.0 h.1 in (front_ready q pairs t t w a ([], sym (append-nil t)), a.ordering.all),
+)
+
+pub fronts_are_ready : FrontsAreReady
+fronts_are_ready q pairs w t front h k b = front_ready q pairs t front w (arrangement_of q pairs t w h k) b

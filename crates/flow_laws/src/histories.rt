@@ -1,0 +1,12 @@
+ghost use Rattle.flow_laws.specs.Histories.{LegalStatesExtend, NeverAtALoss, NeverStuckWithoutTests};
+
+/// Whatever legal history was made, in some option its claims may still be answered in every order.
+pub fn law_legal_states_extend()
+    ensures { LegalStatesExtend }
+{}
+
+/// A run that is not over has a claim to wait for or a leaf to go on with. Only tests and absences can keep it waiting.
+pub fn law_never_at_a_loss()
+    ensures goes_on { NeverAtALoss }
+    ensures without_tests { NeverStuckWithoutTests }
+{}

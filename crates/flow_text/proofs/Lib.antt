@@ -1,0 +1,9 @@
+pub mod Lexing
+pub mod Piles
+pub mod Complete
+pub mod Sound
+pub mod Derived
+pub mod IndexSteps
+pub mod IndexLemmas
+pub mod Labels
+pub mod Meaning

@@ -1,0 +1,102 @@
+ghost use Rattle.std.specs.Prelude.{◌≤◌};
+
+/// A set of numbers below `64 * W`.
+#[derive(Clone, Copy, Debug, PartialEq, Eq)]
+pub struct LeafSet<const W: usize> {
+    words: [u64; W],
+    ghost sized: { W ≤ 64 },
+}
+
+impl<const W: usize> LeafSet<W> {
+    ghost use Rattle.std.specs.Prelude.{◌≡◌, ℕ, ◌*◌, ◌<◌, ◌↔◌, ◌==◌, ◌&&◌, ◌||◌, not, false, IsTrue, IfNone, IfSome, length, Contains};
+    ghost use Rattle.std.specs.List.Sorted.{IsStrictlyIncreasing};
+    ghost use Rattle.leaf_rows.specs.Leaves.{has_leaf, members};
+
+    /// The empty set.
+    pub fn new() -> Self
+        requires { W ≤ 64 }
+        ensures { (n : ℕ) → has_leaf result n ≡ false }
+    {
+        LeafSet { words: [0; W] }
+    }
+
+    pub fn has(&self, n: u32) -> bool
+        requires { n < 64 * W }
+        ensures { result ≡ has_leaf self.now n }
+    {
+        self.words[(n / 64) as usize] >> (n % 64) & 1 == 1
+    }
+
+    pub fn insert(&mut self, n: u32)
+        requires { n < 64 * W }
+        ensures { (k : ℕ) → has_leaf self.new k ≡ (k == n || has_leaf self.old k) }
+    {
+        self.words[(n / 64) as usize] |= 1 << (n % 64);
+    }
+
+    pub fn remove(&mut self, n: u32)
+        requires { n < 64 * W }
+        ensures { (k : ℕ) → has_leaf self.new k ≡ (not (k == n) && has_leaf self.old k) }
+    {
+        self.words[(n / 64) as usize] &= !(1 << (n % 64));
+    }
+
+    pub fn union_with(&mut self, other: &Self)
+        ensures { (k : ℕ) → has_leaf self.new k ≡ (has_leaf self.old k || has_leaf other.now k) }
+    {
+        for i in 0..W {
+            self.words[i] |= other.words[i];
+        }
+    }
+
+    pub fn is_subset(&self, other: &Self) -> bool
+        ensures { IsTrue result ↔ ((k : ℕ) → IsTrue (has_leaf self.now k) → IsTrue (has_leaf other.now k)) }
+    {
+        for i in 0..W {
+            if self.words[i] & !other.words[i] != 0 {
+                return false;
+            }
+        }
+        true
+    }
+
+    /// Whether the two have a common member.
+    pub fn meets(&self, other: &Self) -> bool
+        ensures { IsTrue result ↔ ((k : ℕ) × IsTrue (has_leaf self.now k) × IsTrue (has_leaf other.now k)) }
+    {
+        for i in 0..W {
+            if self.words[i] & other.words[i] != 0 {
+                return true;
+            }
+        }
+        false
+    }
+
+    /// The least member.
+    pub fn first(&self) -> Option<u32>
+        ensures none { IfNone result ((k : ℕ) → has_leaf self.now k ≡ false) }
+        ensures member { IfSome result (λ n. IsTrue (has_leaf self.now n)) }
+        ensures least { IfSome result (λ n. (k : ℕ) → k < n → has_leaf self.now k ≡ false) }
+        ensures within { IfSome result (λ n. n < 64 * W) }
+    {
+        for i in 0..W {
+            let word = self.words[i];
+            if word != 0 {
+                return Some(64 * i as u32 + word.trailing_zeros());
+            }
+        }
+        None
+    }
+
+    pub fn count(&self) -> u32
+        ensures counted { result ≡ length (members self.now) }
+        ensures listed { (n : ℕ) → Contains (members self.now) n ↔ IsTrue (has_leaf self.now n) }
+        ensures rising { IsStrictlyIncreasing (members self.now) }
+    {
+        let mut count = 0;
+        for i in 0..W {
+            count += self.words[i].count_ones();
+        }
+        count
+    }
+}

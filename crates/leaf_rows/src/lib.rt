@@ -1,0 +1,8 @@
+//! Sets of leaf numbers as rows of bits, which take no memory and are compared a word at a time.
+#![tactic(auto)]
+
+mod leaf_set;
+#[cfg(test)]
+mod tests;
+
+pub use leaf_set::LeafSet;
