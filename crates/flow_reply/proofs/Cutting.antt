@@ -1,12 +1,12 @@
 -- The first line of a source, byte for byte.
-use Rattle.std.proofs.Common.{◌≡◌, ℕ, ◌+◌, ◌-◌, ◌≤◌, ◌<◌, suc, min, Bool, true, false, not, ltb, List, [], ◌∷◌, length, take, drop, refl, sym, ◌∙◌, ap, subst, length-drop, one-add, add-one, le_antisymm, arith, Option, Some, None, if◌then◌else◌}
+use Rattle.std.proofs.Common.{◌≡◌, ℕ, ◌+◌, ◌-◌, ◌≤◌, ◌<◌, suc, min, Bool, true, false, not, ltb, List, [], ◌∷◌, length, take, drop, refl, sym, ◌∙◌, ap, length-drop, one-add, le_antisymm, arith, Some, None, if◌then◌else◌}
 use Rattle.std.specs.Prelude.{◌==◌}
 use Rattle.std.specs.List.{position_or_len, position}
-use Rattle.std.proofs.lemmas.Bool.{ltb-true, ltb-false}
+use Rattle.std.proofs.lemmas.Bool.{ltb-false}
 use Rattle.std.proofs.lemmas.List.{take_rest, drop-drop}
 use Rattle.std.proofs.lemmas.List.Sums.{prefix_len-le-length}
 use Rattle.std.proofs.lemmas.List.Folds.{length-prefix_len}
-use Rattle.flow_record.specs.Lines.{lines_of, onto_first}
+use Rattle.flow_record.specs.Lines.{lines_of}
 use Rattle.flow_reply.specs.Cut.{is_mark, cut_from, cut_of, line_end}
 
 -- where the first line feed stands, or the length
