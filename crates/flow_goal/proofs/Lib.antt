@@ -1,1 +1,4 @@
 pub mod Numbers
+pub mod Counting
+pub mod Rising
+pub mod Simpler

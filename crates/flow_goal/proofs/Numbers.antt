@@ -92,7 +92,7 @@ is_row (Isolated a) next last stop h =
 abbrev Reaches : Process → Type 0
 Reaches g = (next count last : ℕ) → leaves g ≡ numbers_from next count → next + count ≤ last → number_after g next last ≡ Some (next + count)
 
-one_leaf : (n next count : ℕ) → n ∷ [] ≡ numbers_from next count → (n ≡ next) × (count ≡ 1)
+pub one_leaf : (n next count : ℕ) → n ∷ [] ≡ numbers_from next count → (n ≡ next) × (count ≡ 1)
 one_leaf n next zero e = cc
 one_leaf n next (suc zero) e = (cc, omega arith)
 one_leaf n next (suc (suc count)) e = cc

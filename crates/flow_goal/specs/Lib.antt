@@ -2,3 +2,5 @@ pub mod Goal
 pub mod Labelled
 pub mod Numbering
 pub mod Plain
+pub mod Resolved
+pub mod Simple
