@@ -2,3 +2,5 @@ pub mod Numbers
 pub mod Counting
 pub mod Rising
 pub mod Simpler
+pub mod FirstPartner
+pub mod Repetitions

@@ -4,3 +4,5 @@ pub mod Numbering
 pub mod Plain
 pub mod Resolved
 pub mod Simple
+pub mod Partners
+pub mod Repeated
