@@ -46,14 +46,14 @@ numbers_of_both a b number count faster most lt whole below kept =
     let turned : resolution_count b * resolution_count a ≡ resolution_count a * resolution_count b = mul_comm (resolution_count b) (resolution_count a) in
     let is : faster ≡ resolution_count b = omega arith in
     let of_a : count / faster ≡ resolution_count a =
-        ap (λ n. n / faster) whole ∙ ap (λ n. resolution_count a * resolution_count b / n) is ∙ mul-div_cancel (resolution_count a) some in
+    ap (λ n. n / faster) whole ∙ ap (λ n. resolution_count a * resolution_count b / n) is ∙ mul-div_cancel (resolution_count a) some in
     let below_whole : number < resolution_count a * resolution_count b = omega arith in
     record {
       faster_is = is;
       slower_is = of_a;
       slower = subst (λ n. number / faster < n) (sym of_a) (subst (λ n. number / n < resolution_count a) (sym is) ((div-lt_iff_lt-mul some).1 below_whole));
       faster_below = subst (λ n. number % n < n) (sym is) (mod-lt number some);
-      together = sym (div-add-mod' number faster) ∙ ap (λ n. number / faster * n + number % faster) is
+      together = sym (div-add-mod' number faster) ∙ ap (λ n. number / faster * n + number % faster) is;
     }
 
 -- and the resolution of that number

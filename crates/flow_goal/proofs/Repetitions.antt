@@ -49,28 +49,28 @@ pair_of_together t whole event x y h e f =
       apart = together_rise t.process x y 0 (length t.labels) whole h;
       at_first = e;
       at_second = f;
-      together = (joined blocks, (blocks, b, refl), mx, my)
+      together = (joined blocks, (blocks, b, refl), mx, my);
     }
 
 pub first_from : (t : Labelled) → IsNumbered t.process (length t.labels) → (event x y : ℕ) → event_at t.labels x ≡ Some event →
     With y ≡ partner_in (λ n. is_event event (event_at t.labels n)) t.process x → IsFirstFrom t x (record { event = event; first = x; second = y })
 first_from t whole event x y e found =
     let (m, h, passed, least) = subst (IsPartner (passes t event) (leaves t.process) (AreTogether t.process x) x) (sym found)
-        (partner_is (passes t event) t.process x 0 (length t.labels) whole) in
+    (partner_is (passes t event) t.process x 0 (length t.labels) whole) in
     record {
       from = refl;
       twice = pair_of_together t whole event x y h e (event_of_test event (event_at t.labels y) passed);
       least = λ other z pair.
           let same : Some other ≡ Some event = sym pair.at_first ∙ e in
           let at : event_at t.labels z ≡ Some event = pair.at_second ∙ same in
-          least z (pair_together t whole other x z pair) (test_of_event event (event_at t.labels z) at)
+          least z (pair_together t whole other x z pair) (test_of_event event (event_at t.labels z) at);
     }
 
 pub none_alone : (t : Labelled) → IsNumbered t.process (length t.labels) → (event x : ℕ) → event_at t.labels x ≡ Some event →
     Alone ≡ partner_in (λ n. is_event event (event_at t.labels n)) t.process x → HoldsNoneFrom t x
 none_alone t whole event x e found other z pair =
     let (m, none) = subst (IsPartner (passes t event) (leaves t.process) (AreTogether t.process x) x) (sym found)
-        (partner_is (passes t event) t.process x 0 (length t.labels) whole) in
+    (partner_is (passes t event) t.process x 0 (length t.labels) whole) in
     let same : Some other ≡ Some event = sym pair.at_first ∙ e in
     let at : event_at t.labels z ≡ Some event = pair.at_second ∙ same in
     let f : true ≡ false = sym (test_of_event event (event_at t.labels z) at) ∙ none z (pair_together t whole other x z pair) in cc
@@ -79,7 +79,7 @@ pub none_outside : (t : Labelled) → IsNumbered t.process (length t.labels) →
     Outside ≡ partner_in (λ n. is_event event (event_at t.labels n)) t.process x → HoldsNoneFrom t x
 none_outside t whole event x found other z pair =
     let none = subst (IsPartner (passes t event) (leaves t.process) (AreTogether t.process x) x) (sym found)
-        (partner_is (passes t event) t.process x 0 (length t.labels) whole) in
+    (partner_is (passes t event) t.process x 0 (length t.labels) whole) in
     absurd (none (together_first t.process x z (pair_together t whole other x z pair)))
 
 pub none_without_event : (t : Labelled) (x : ℕ) → event_at t.labels x ≡ None → HoldsNoneFrom t x
@@ -90,7 +90,7 @@ none_without_event t x e event z pair = let h : Some event ≡ None = sym pair.a
 pub first_of_all : (t : Labelled) (x : ℕ) (found : Twice) → ((k : ℕ) → k < x → HoldsNoneFrom t k) → IsFirstFrom t x found → IsFirstTwice t found
 first_of_all t x found none from = record {
   twice = from.twice;
-  least = least
+  least = least;
 }
   where
     least : (event first second : ℕ) → HoldsTwice t event first second → (found.first < first) ⊎ ((found.first ≡ first) × (found.second ≤ second))

@@ -29,9 +29,10 @@ nothing_first b blocks =
     ((λ h. ([], blocks, refl, h, refl)), (λ (v, w, hv, hw, e). subst (λ u. Blocks b u) (sym (e ∙ ap (λ u. u ++ w) hv)) hw))
 
 nothing_last : (a : Process) → SameBlocks a (Sequence a Empty)
-nothing_last a blocks =
-    ((λ h. (blocks, [], h, refl, sym (append-nil blocks))),
-     (λ (v, w, hv, hw, e). subst (λ u. Blocks a u) (sym (e ∙ ap (λ u. v ++ u) hw ∙ append-nil v)) hv))
+nothing_last a blocks = (
+  (λ h. (blocks, [], h, refl, sym (append-nil blocks))),
+  (λ (v, w, hv, hw, e). subst (λ u. Blocks a u) (sym (e ∙ ap (λ u. v ++ u) hw ∙ append-nil v)) hv),
+)
 
 -- nothing beside a goal
 shuffle_nothing_left : (y : List (List ℕ)) → Shuffle [] y y
@@ -72,9 +73,10 @@ as_one_again [] = refl
 as_one_again (block ∷ blocks) = ap (λ u. u ∷ []) (append-nil (joined (block ∷ blocks)))
 
 isolated_again : (a : Process) → SameBlocks (Isolated a) (Isolated (Isolated a))
-isolated_again a blocks =
-    ((λ (v, hv, e). (as_one v, (v, hv, refl), e ∙ sym (as_one_again v))),
-     (λ (v, (w, hw, e), f). (w, hw, f ∙ ap as_one e ∙ as_one_again w)))
+isolated_again a blocks = (
+  (λ (v, hv, e). (as_one v, (v, hv, refl), e ∙ sym (as_one_again v))),
+  (λ (v, (w, hw, e), f). (w, hw, f ∙ ap as_one e ∙ as_one_again w)),
+)
 
 when_empty : (g : Process) → is_empty g ≡ true → g ≡ Empty
 when_empty Empty e = refl
@@ -98,7 +100,7 @@ sequence_cases a b x y p q true t e f =
       same = then y (Sequence Empty y) (Sequence a b) (nothing_first y) (same_sequence a b Empty y (subst (λ u. SameBlocks u a) none p.same) q.same);
       simple = q.simple;
       leaves_kept = q.leaves_kept ∙ ap (λ u. u ++ leaves b) (sym (ap leaves none) ∙ p.leaves_kept);
-      choice_free = q.choice_free
+      choice_free = q.choice_free;
     }
 sequence_cases a b x y p q false true e f =
     let none : y ≡ Empty = when_empty y f in
@@ -106,13 +108,13 @@ sequence_cases a b x y p q false true e f =
       same = then x (Sequence x Empty) (Sequence a b) (nothing_last x) (same_sequence a b x Empty p.same (subst (λ u. SameBlocks u b) none q.same));
       simple = p.simple;
       leaves_kept = p.leaves_kept ∙ sym (append-nil (leaves a)) ∙ ap (λ u. leaves a ++ u) (sym (ap leaves none) ∙ q.leaves_kept);
-      choice_free = p.choice_free
+      choice_free = p.choice_free;
     }
 sequence_cases a b x y p q false false e f = record {
   same = same_sequence a b x y p.same q.same;
   simple = inr (when_busy x p.simple e, when_busy y q.simple f);
   leaves_kept = ap (λ u. u ++ leaves y) p.leaves_kept ∙ ap (λ u. leaves a ++ u) q.leaves_kept;
-  choice_free = (p.choice_free, q.choice_free)
+  choice_free = (p.choice_free, q.choice_free);
 }
 
 pub simplified_sequence : (a b x y : Process) → IsSimplified a x → IsSimplified b y → IsSimplified (Sequence a b) (both Sequence x y)
@@ -126,7 +128,7 @@ parallel_cases a b x y p q true t e f =
       same = then y (Parallel Empty y) (Parallel a b) (nothing_left y) (same_parallel a b Empty y (subst (λ u. SameBlocks u a) none p.same) q.same);
       simple = q.simple;
       leaves_kept = q.leaves_kept ∙ ap (λ u. u ++ leaves b) (sym (ap leaves none) ∙ p.leaves_kept);
-      choice_free = q.choice_free
+      choice_free = q.choice_free;
     }
 parallel_cases a b x y p q false true e f =
     let none : y ≡ Empty = when_empty y f in
@@ -134,13 +136,13 @@ parallel_cases a b x y p q false true e f =
       same = then x (Parallel x Empty) (Parallel a b) (nothing_right x) (same_parallel a b x Empty p.same (subst (λ u. SameBlocks u b) none q.same));
       simple = p.simple;
       leaves_kept = p.leaves_kept ∙ sym (append-nil (leaves a)) ∙ ap (λ u. leaves a ++ u) (sym (ap leaves none) ∙ q.leaves_kept);
-      choice_free = p.choice_free
+      choice_free = p.choice_free;
     }
 parallel_cases a b x y p q false false e f = record {
   same = same_parallel a b x y p.same q.same;
   simple = inr (when_busy x p.simple e, when_busy y q.simple f);
   leaves_kept = ap (λ u. u ++ leaves y) p.leaves_kept ∙ ap (λ u. leaves a ++ u) q.leaves_kept;
-  choice_free = (p.choice_free, q.choice_free)
+  choice_free = (p.choice_free, q.choice_free);
 }
 
 pub simplified_parallel : (a b x y : Process) → IsSimplified a x → IsSimplified b y → IsSimplified (Parallel a b) (both Parallel x y)
@@ -153,30 +155,30 @@ simplified_isolated a Empty p = record {
   same = then Empty (Isolated Empty) (Isolated a) isolated_nothing (same_isolated a Empty p.same);
   simple = p.simple;
   leaves_kept = p.leaves_kept;
-  choice_free = p.choice_free
+  choice_free = p.choice_free;
 }
 simplified_isolated a (Task n) p = record {
   same = then (Task n) (Isolated (Task n)) (Isolated a) (isolated_leaf n) (same_isolated a (Task n) p.same);
   simple = p.simple;
   leaves_kept = p.leaves_kept;
-  choice_free = p.choice_free
+  choice_free = p.choice_free;
 }
 simplified_isolated a (Sequence x y) p = record {
   same = same_isolated a (Sequence x y) p.same;
   simple = inr (tt, when_busy (Sequence x y) p.simple refl);
   leaves_kept = p.leaves_kept;
-  choice_free = p.choice_free
+  choice_free = p.choice_free;
 }
 simplified_isolated a (Parallel x y) p = record {
   same = same_isolated a (Parallel x y) p.same;
   simple = inr (tt, when_busy (Parallel x y) p.simple refl);
   leaves_kept = p.leaves_kept;
-  choice_free = p.choice_free
+  choice_free = p.choice_free;
 }
 simplified_isolated a (Choice x y) p = absurd p.choice_free
 simplified_isolated a (Isolated x) p = record {
   same = then (Isolated x) (Isolated (Isolated x)) (Isolated a) (isolated_again x) (same_isolated a (Isolated x) p.same);
   simple = p.simple;
   leaves_kept = p.leaves_kept;
-  choice_free = p.choice_free
+  choice_free = p.choice_free;
 }

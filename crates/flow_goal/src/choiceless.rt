@@ -4,9 +4,8 @@ ghost use Rattle.flow_model.specs.Process;
 ghost use Rattle.flow_model.specs.Process.{IsChoiceFree};
 ghost use Rattle.flow_goal.specs.Goal.{process_of};
 
-use std::marker::Model;
-
 use crate::goal::Goal;
+use std::marker::Model;
 
 /// A goal without choices, and the list of its leaves.
 #[derive(Drop)]

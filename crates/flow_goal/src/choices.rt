@@ -3,11 +3,10 @@ ghost use Rattle.flow_model.specs.Resolution;
 ghost use Rattle.flow_model.specs.Process;
 ghost use Rattle.flow_goal.specs.Goal.{process_of};
 
-use std::alloc::{AllocError, Global};
-
 use crate::choiceless::Choiceless;
 use crate::goal::Goal;
 use crate::tree::Tree;
+use std::alloc::{AllocError, Global};
 
 /// How many resolutions a goal has, or the greatest `u64` where they are more.
 fn count_of(goal: &Goal) -> u64

@@ -2,7 +2,7 @@ ghost use Rattle.std.specs.Prelude.{◌≡◌, ◌↔◌, IsNone, IfSome, MatchO
 ghost use Rattle.flow_model.specs.Process.{IsNumbered};
 ghost use Rattle.flow_goal.specs.Repeated.{HoldsNoneFrom, HoldsNoneTwice, IsFirstFrom, IsFirstTwice};
 
-use crate::partners::{partner_of, Partner};
+use crate::partners::{Partner, partner_of};
 use crate::repeats::Twice;
 use crate::tree::Tree;
 

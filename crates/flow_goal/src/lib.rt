@@ -18,3 +18,6 @@ pub use goal::Goal;
 pub use repeats::Twice;
 pub use simple::simplify;
 pub use tree::{Tree, TreeRefusal};
+
+#[cfg(test)]
+mod tests;

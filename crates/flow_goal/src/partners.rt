@@ -53,7 +53,9 @@ pub(crate) fn partner_of(goal: &Goal, tree: &Tree, leaf: u32, event: u32) -> Par
                 Partner::Outside
             }
         }
-        Goal::Serial(left, right) | Goal::Beside(left, right) => match partner_of(left, tree, leaf, event) {
+        Goal::Serial(left, right) | Goal::Beside(left, right) => match partner_of(
+            left, tree, leaf, event,
+        ) {
             Partner::Outside => partner_of(right, tree, leaf, event),
             Partner::Alone => match first_with(right, tree, event) {
                 Some(n) => Partner::With(n),

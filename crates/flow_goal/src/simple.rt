@@ -4,17 +4,17 @@ ghost use Rattle.flow_model.specs.Trace.{Trace};
 ghost use Rattle.flow_goal.specs.Goal.{process_of};
 ghost use Rattle.flow_goal.specs.Simple;
 
-use std::alloc::{AllocError, Global};
-
 use crate::choiceless::Choiceless;
 use crate::goal::Goal;
+use std::alloc::{AllocError, Global};
 
 fn is_empty(goal: &Goal) -> bool
     ensures { result ≡ Simple.is_empty (process_of goal.now) }
 {
     match goal {
         Goal::Nop => true,
-        Goal::Leaf(_) | Goal::Serial(..) | Goal::Beside(..) | Goal::Either(..) | Goal::Iso(_) => false,
+        Goal::Leaf(_) | Goal::Serial(..) | Goal::Beside(..) | Goal::Either(..) | Goal::Iso(_) =>
+            false,
     }
 }
 

@@ -4,11 +4,9 @@ ghost use Rattle.flow_model.specs.Process.{IsNumbered};
 ghost use Rattle.flow_goal.specs.Goal.{process_of};
 ghost use Rattle.flow_goal.specs.Numbering;
 
-use std::marker::Model;
-
-use flow_model::Label;
-
 use crate::goal::Goal;
+use flow_model::Label;
+use std::marker::Model;
 
 /// Why a goal and labels make no tree.
 #[derive(Clone, Copy, Debug, PartialEq, Eq)]

@@ -16,5 +16,5 @@ returns-in-Some-clause-some c =
 pub returns-clause-none : goal.returns-clause-none
 returns-clause-none c =
     let none : (k : ℕ) → k < length c.args.tree.now.labels → HoldsNoneFrom c.args.tree.now k =
-        λ k lt. c.loop-first.invariant k (omega arith) in
+    λ k lt. c.loop-first.invariant k (omega arith) in
     ((λ e. unique c.args.tree.now (search rules) none), (λ u. refl))

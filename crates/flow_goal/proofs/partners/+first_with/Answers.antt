@@ -12,13 +12,13 @@ returns-in-Some t c =
     let of_left = ap (λ (g : Goal). find passes (leaves (process_of g))) c.deref-in-Serial.ensures in
     let in_whole = found_left passes (leaves (process_of c.in-Serial.left.value)) (leaves (process_of c.in-Serial.right.value)) c.in-Some.n (c.in-Some.ensures ∙ of_left) in
     let whole : leaves (process_of c.in-Serial.left.value) ++ leaves (process_of c.in-Serial.right.value) ≡ leaves (process_of c.args.goal.now) =
-        elim c.in-Serial.is [
-          | inl e ↦ sym (ap (λ (g : Goal). leaves (process_of g)) e)
-          | inr h ↦ elim h [
-            | inl e ↦ sym (ap (λ (g : Goal). leaves (process_of g)) e)
-            | inr e ↦ sym (ap (λ (g : Goal). leaves (process_of g)) e)
-          ]
-        ] in
+    elim c.in-Serial.is [
+      | inl e ↦ sym (ap (λ (g : Goal). leaves (process_of g)) e)
+      | inr h ↦ elim h [
+        | inl e ↦ sym (ap (λ (g : Goal). leaves (process_of g)) e)
+        | inr e ↦ sym (ap (λ (g : Goal). leaves (process_of g)) e)
+      ]
+    ] in
     in_whole ∙ ap (find passes) whole
 
 pub returns-in-None : goal.returns-in-None
@@ -27,13 +27,13 @@ returns-in-None t c =
     let of_left = ap (λ (g : Goal). find passes (leaves (process_of g))) c.deref-in-Serial.ensures in
     let of_right = ap (λ (g : Goal). find passes (leaves (process_of g))) c.deref-in-None.ensures in
     let in_whole = found_right passes (leaves (process_of c.in-Serial.left.value)) (leaves (process_of c.in-Serial.right.value)) c.first_with-in-None.result
-        (c.in-None.ensures ∙ of_left) (c.first_with-in-None.ensures ∙ of_right) in
+    (c.in-None.ensures ∙ of_left) (c.first_with-in-None.ensures ∙ of_right) in
     let whole : leaves (process_of c.in-Serial.left.value) ++ leaves (process_of c.in-Serial.right.value) ≡ leaves (process_of c.args.goal.now) =
-        elim c.in-Serial.is [
-          | inl e ↦ sym (ap (λ (g : Goal). leaves (process_of g)) e)
-          | inr h ↦ elim h [
-            | inl e ↦ sym (ap (λ (g : Goal). leaves (process_of g)) e)
-            | inr e ↦ sym (ap (λ (g : Goal). leaves (process_of g)) e)
-          ]
-        ] in
+    elim c.in-Serial.is [
+      | inl e ↦ sym (ap (λ (g : Goal). leaves (process_of g)) e)
+      | inr h ↦ elim h [
+        | inl e ↦ sym (ap (λ (g : Goal). leaves (process_of g)) e)
+        | inr e ↦ sym (ap (λ (g : Goal). leaves (process_of g)) e)
+      ]
+    ] in
     in_whole ∙ ap (find passes) whole
