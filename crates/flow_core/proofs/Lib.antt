@@ -2,4 +2,6 @@ pub mod PlainGoals
 pub mod Enabled
 pub mod GivenClaims
 pub mod Steps
-pub mod Tests
+pub mod Answering
+pub mod LawfulHistories
+pub mod EventLabels

@@ -4,3 +4,4 @@ pub mod View
 pub mod Kept
 pub mod Fields
 pub mod Claims
+pub mod Lawful

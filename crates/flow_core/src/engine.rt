@@ -1,12 +1,13 @@
-ghost use Rattle.std.specs.Prelude.{◌≡◌, ◌<◌, ◌≤◌, ◌+◌, ◌↔◌, ℕ, [], length, true, IsTrue, IfOk, OnErr, OnOk, None, Some};
+ghost use Rattle.std.specs.Prelude.{◌≡◌, ◌<◌, ◌≤◌, ◌+◌, ◌↔◌, ℕ, [], length, true, IsTrue, IfOk, OnErr, OnOk, None, Some, MatchOption};
 ghost use Rattle.std.specs.Result.{IsErrOf};
 ghost use Rattle.flow_model.specs.Facts.{event_at};
+ghost use Rattle.flow_model.specs.Lists.{Each};
 ghost use Rattle.flow_model.specs.Schema.{IsEventLeaf, IsOtherLeaf, IsGood};
 ghost use Rattle.flow_model.specs.Run.{CanTake, claim_at, current_claims, IsCurrent};
 ghost use Rattle.flow_model.specs.Verdict.{call_of};
 ghost use Rattle.flow_goal.specs.Plain.{IsPlainTree};
 
-use crate::given::{Given, attempts_at, is_out_on, place_of_first_out};
+use crate::given::{Given, Standing, attempts_at, is_out_on, place_of_first_out};
 use crate::look::look_through;
 use crate::refusal::{CommitRefusal, PostRefusal, TakeRefusal};
 use flow_goal::{Label, Note, Tree};
@@ -44,7 +45,8 @@ impl Model for Core {
 impl Core {
     ghost use Rattle.flow_model.specs.declared.history.Step.TheVariants.{Took, Done, Committed};
     ghost use Rattle.flow_core.specs.View.{schema_of, now, with_entry, GoesOn, HasSteps};
-    ghost use Rattle.flow_core.specs.Claims.{IsAnswered, IsOut, IsLeastOut};
+    ghost use Rattle.flow_core.specs.Lawful.{IsLawful};
+    ghost use Rattle.flow_core.specs.Claims.{IsAnswered, IsOut, IsLeastOut, IsStanding};
 
     /// Starts a run with no entry yet.
     pub fn start(alloc: Global, tree: Tree, limit: u32) -> Result<Core, AllocError>
@@ -68,14 +70,39 @@ impl Core {
 
     /// The entries so far.
     pub fn history(&self) -> &[Entry]
-        ensures { result.now ≡ self.now.history }
+        ensures entries { result.now ≡ self.now.history }
+        ensures lawful { IsLawful self.now.schema self.now.limit self.now.history }
     {
         self.history.as_slice()
     }
 
+    /// The goal that is run, and its labels.
+    pub fn tree(&self) -> &Tree
+        ensures { schema_of result.now ≡ self.now.schema }
+    {
+        &self.tree
+    }
+
+    /// The greatest length of the history.
+    pub fn limit(&self) -> u32
+        ensures { result ≡ self.now.limit }
+    {
+        self.limit
+    }
+
+    /// The present epoch: the first, since nothing ends it yet.
+    pub fn epoch(&self) -> u32
+        ensures { result ≡ (now self.now).epoch }
+    {
+        // what the fields keep says it
+        let _ = &self.history;
+        0
+    }
+
     /// The leaves that count, in order.
     pub fn journal(&self) -> &[u32]
-        ensures { result.now ≡ (now self.now).journal }
+        ensures leaves { result.now ≡ (now self.now).journal }
+        ensures events { Each (IsEventLeaf self.now.schema) result.now }
     {
         self.journal.as_slice()
     }
@@ -90,9 +117,10 @@ impl Core {
     /// Gives a claim on an event's leaf: leave to perform its task.
     pub fn take(&mut self, leaf: u32, by: u32) -> Result<Call, TakeRefusal>
         ensures ok { IfOk result (λ call.
-            CanTake self.old.schema (now self.old) leaf
+            GoesOn self.old × HasSteps self.old × CanTake self.old.schema (now self.old) leaf
             × (self.new ≡ with_entry self.old by (Took (length (now self.old).claims + 1) leaf))
             × (call ≡ call_of self.new.schema (now self.new) (length (now self.old).claims + 1))) }
+        ensures event { IfOk result (λ call. event_at self.old.schema.labels leaf ≡ Some call.event) }
 
         ensures closed { IsErrOf result TakeRefusal.Closed ↔ ((now self.old).committed ≡ true) }
         ensures no_leaf { IsErrOf result TakeRefusal.NoLeaf ↔
@@ -109,10 +137,11 @@ impl Core {
         if self.committed {
             return Err(TakeRefusal::Closed);
         }
-        let event = match self.tree.label(leaf) {
-            None => return Err(TakeRefusal::NoLeaf),
-            Some(Label::Event(event)) => event,
-            Some(_) => return Err(TakeRefusal::WrongKind),
+        if self.tree.leaves() <= leaf {
+            return Err(TakeRefusal::NoLeaf);
+        }
+        let Some(event) = self.event_at(leaf) else {
+            return Err(TakeRefusal::WrongKind);
         };
         if !self.has_steps() {
             return Err(TakeRefusal::Spent { limit: self.limit });
@@ -121,6 +150,16 @@ impl Core {
             return Err(TakeRefusal::NotEnabled);
         }
         Ok(self.give(leaf, event, by))
+    }
+
+    /// The event at a leaf, if the leaf is an event's.
+    fn event_at(&self, leaf: u32) -> Option<u32>
+        ensures { result ≡ event_at self.now.schema.labels leaf }
+    {
+        match self.tree.label(leaf) {
+            Some(Label::Event(event)) => Some(event),
+            _ => None,
+        }
     }
 
     /// Whether there is room for one entry more.
@@ -146,6 +185,7 @@ impl Core {
         requires enabled { CanTake self.old.schema (now self.old) leaf }
         ensures entry { self.new ≡ with_entry self.old by (Took (length (now self.old).claims + 1) leaf) }
         ensures call { result ≡ call_of self.new.schema (now self.new) (length (now self.old).claims + 1) }
+        ensures event { result.event ≡ event }
     {
         let claim = self.given.len() as u32 + 1;
         self.given.push_reserved(Given {
@@ -168,7 +208,8 @@ impl Core {
 
     /// Posts that the claim's task succeeded.
     pub fn done(&mut self, claim: u32, by: u32) -> Result<(), PostRefusal>
-        ensures ok { OnOk result (IsCurrent (now self.old) claim × (self.new ≡ with_entry self.old by (Done claim))) }
+        ensures ok { OnOk result (GoesOn self.old × HasSteps self.old × IsCurrent (now self.old) claim
+            × (self.new ≡ with_entry self.old by (Done claim))) }
 
         ensures closed { IsErrOf result PostRefusal.Closed ↔ ((now self.old).committed ≡ true) }
         ensures no_claim { IsErrOf result PostRefusal.NoClaim ↔
@@ -183,18 +224,31 @@ impl Core {
         if self.committed {
             return Err(PostRefusal::Closed);
         }
-        if claim == 0 || self.given.len() < claim as usize {
-            return Err(PostRefusal::NoClaim);
-        }
-        let place = claim as usize - 1;
-        if self.given[place].answered {
-            return Err(PostRefusal::Answered);
-        }
+        let place = match self.standing(claim) {
+            Standing::NeverGiven => return Err(PostRefusal::NoClaim),
+            Standing::Answered => return Err(PostRefusal::Answered),
+            Standing::Out(place) => place,
+        };
         if !self.has_steps() {
             return Err(PostRefusal::Spent { limit: self.limit });
         }
         self.record_done(place, by);
         Ok(())
+    }
+
+    /// How a claim stands.
+    fn standing(&self, claim: u32) -> Standing
+        ensures { IsStanding (now self.now) claim result }
+    {
+        if claim == 0 || self.given.len() < claim as usize {
+            return Standing::NeverGiven;
+        }
+        let place = claim as usize - 1;
+        if self.given[place].answered {
+            Standing::Answered
+        } else {
+            Standing::Out(place)
+        }
     }
 
     /// Makes the entry of a success: the leaf of the claim at that place goes on the journal.
@@ -221,7 +275,7 @@ impl Core {
 
     /// Ends the run: its journal is a whole execution.
     pub fn commit(&mut self, by: u32) -> Result<(), CommitRefusal>
-        ensures ok { OnOk result ((current_claims (now self.old) ≡ []) × IsGood self.old.schema (now self.old).journal
+        ensures ok { OnOk result (GoesOn self.old × HasSteps self.old × (current_claims (now self.old) ≡ []) × IsGood self.old.schema (now self.old).journal
             × (self.new ≡ with_entry self.old by Committed)) }
 
         ensures closed { IsErrOf result CommitRefusal.Closed ↔ ((now self.old).committed ≡ true) }
@@ -240,8 +294,7 @@ impl Core {
         if !self.has_steps() {
             return Err(CommitRefusal::Spent { limit: self.limit });
         }
-        if let Some(place) = place_of_first_out(&self.given) {
-            let claim = place as u32 + 1;
+        if let Some(claim) = self.least_out() {
             return Err(CommitRefusal::ClaimsOut { claim });
         }
         if !self.is_complete() {
@@ -249,6 +302,16 @@ impl Core {
         }
         self.record_commit(by);
         Ok(())
+    }
+
+    /// The least claim that is out.
+    fn least_out(&self) -> Option<u32>
+        ensures { MatchOption result (current_claims (now self.now) ≡ []) (λ claim. IsLeastOut (now self.now) claim) }
+    {
+        match place_of_first_out(&self.given) {
+            None => None,
+            Some(place) => Some(place as u32 + 1),
+        }
     }
 
     /// Whether the journal is a whole execution.

@@ -10,6 +10,15 @@ pub struct Given {
     pub answered: bool,
 }
 
+/// How a claim stands.
+#[derive(Clone, Copy)]
+pub enum Standing {
+    NeverGiven,
+    Answered,
+    /// It is out, and this is its place.
+    Out(usize),
+}
+
 /// Whether a claim on the leaf is out.
 pub fn is_out_on(given: &[Given], leaf: u32) -> bool
     ensures { result ≡ is_out given.now leaf }

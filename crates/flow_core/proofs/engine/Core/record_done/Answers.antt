@@ -72,20 +72,20 @@ invariant_of-self c =
     let going : (state_of i.history.items).committed ≡ false = subst GoesOn (sym c.self.view_is) c.requires.open in
     let room : length i.history.items < i.limit = subst HasSteps (sym c.self.view_is) c.requires.steps in
     let made : IsKept i.tree i.limit (longer i.history.items c.args.by (Done (1 + p))) (i.journal.items ++ o.claim.leaf ∷ []) (set i.done.items o.claim.leaf true) (set i.given.items p (answered o.claim)) i.committed =
-        kept_done i.tree i.limit i.history.items i.journal.items i.done.items i.given.items i.committed k going room c.args.by p o.claim o.at o.out o.below
-        (subst (IsCurrent (state_of i.history.items)) (let e : p + 1 ≡ 1 + p = omega arith in e) current) in
+    kept_done i.tree i.limit i.history.items i.journal.items i.done.items i.given.items i.committed k going room c.args.by p o.claim o.at o.out o.below
+    (subst (IsCurrent (state_of i.history.items)) (let e : p + 1 ≡ 1 + p = omega arith in e) current) in
     let read_is : IsKept i.tree i.limit (longer i.history.items c.args.by (Done (1 + p))) (i.journal.items ++ r.leaf ∷ []) (set i.done.items r.leaf true) (set i.given.items p (answered r)) i.committed =
-        subst (λ (g : Given). IsKept i.tree i.limit (longer i.history.items c.args.by (Done (1 + p))) (i.journal.items ++ g.leaf ∷ []) (set i.done.items g.leaf true) (set i.given.items p (answered g)) i.committed) (sym same) made in
+    subst (λ (g : Given). IsKept i.tree i.limit (longer i.history.items c.args.by (Done (1 + p))) (i.journal.items ++ g.leaf ∷ []) (set i.done.items g.leaf true) (set i.given.items p (answered g)) i.committed) (sym same) made in
     let h : c.push_reserved-2.new.self.items ≡ longer i.history.items c.args.by (Done (1 + p)) =
-        c.push_reserved-2.ensures.items ∙ ap (λ n. longer i.history.items c.args.by (Done n)) (let e : p + 1 ≡ 1 + p = omega arith in e) in
+    c.push_reserved-2.ensures.items ∙ ap (λ n. longer i.history.items c.args.by (Done n)) (let e : p + 1 ≡ 1 + p = omega arith in e) in
     record {
       kept = subst (λ (h : List Entry). IsKept i.tree i.limit h c.push_reserved.new.self.items (set i.done.items r.leaf true) (set i.given.items p (answered r)) i.committed) (sym h)
-        (subst (λ (j : List ℕ). IsKept i.tree i.limit (longer i.history.items c.args.by (Done (1 + p))) j (set i.done.items r.leaf true) (set i.given.items p (answered r)) i.committed)
+          (subst (λ (j : List ℕ). IsKept i.tree i.limit (longer i.history.items c.args.by (Done (1 + p))) j (set i.done.items r.leaf true) (set i.given.items p (answered r)) i.committed)
           (sym c.push_reserved.ensures.items) read_is);
       history_room = let e : vec_capacity c.push_reserved-2.new.self ≡ vec_capacity i.history = c.push_reserved-2.ensures.capacity in
           let r : i.limit ≤ vec_capacity i.history = c.self.invariant.history_room in omega arith;
       journal_room = let e : vec_capacity c.push_reserved.new.self ≡ vec_capacity i.journal = c.push_reserved.ensures.capacity in
           let r : i.limit ≤ vec_capacity i.journal = c.self.invariant.journal_room in omega arith;
       given_room = c.self.invariant.given_room;
-      small = c.self.invariant.small
+      small = c.self.invariant.small;
     }

@@ -1,0 +1,4 @@
+pub mod FirstLine
+pub mod FirstWord
+pub mod Numbers
+pub mod Sessions

@@ -1,0 +1,13 @@
+use Rattle.std.proofs.Common.{◌≤◌, length}
+use Rattle.flow_record.specs.Session.{session_of}
+use Rattle.flow_record.proofs.Sessions.{IsReadTo}
+use Rattle.flow_record.proofs.session.read_session.Given as goal
+
+abbrev pub decreases-loop-rest : goal.decreases-loop-rest
+decreases-loop-rest l = length l.rest
+
+abbrev pub invariant-loop-rest : goal.invariant-loop-rest
+invariant-loop-rest l = record {
+  small : l.number ≤ 16384;
+  read : IsReadTo (session_of l.text) l.read.items l.number l.rest;
+}

@@ -1,0 +1,4 @@
+pub mod Lines
+pub mod Session
+pub mod History
+pub mod Journal

@@ -1,0 +1,72 @@
+-- What the text of a session says.
+use Rattle.std.specs.Prelude.{ℕ, ◌+◌, nat_lt, if◌then◌else◌, List, [], ◌∷◌, Option, Some, None, codes}
+use Rattle.std.specs.Option.{option_and_then}
+use Rattle.std.specs.Str.{bytes_eq}
+use Rattle.flow_record.specs.declared.command.Command.{Command}
+use Rattle.flow_record.specs.declared.command.Command.TheVariants.{Take, Do, Done, Fail, Rewind, Commit, Next, Enabled, Journal, Facts}
+use Rattle.flow_record.specs.declared.line.Line.{Line}
+use Rattle.flow_record.specs.declared.line.Line.TheVariants.{Blank, Holds, Bad}
+use Rattle.flow_record.specs.Lines.{without_returns, lines_of, words_of, number_of}
+
+-- the command of one word alone
+abbrev pub bare_command : List ℕ → Option Command
+bare_command word =
+    if bytes_eq word (codes "rewind") then Some Rewind
+    else if bytes_eq word (codes "commit") then Some Commit
+    else if bytes_eq word (codes "next") then Some Next
+    else if bytes_eq word (codes "enabled") then Some Enabled
+    else if bytes_eq word (codes "journal") then Some Journal
+    else if bytes_eq word (codes "facts") then Some Facts
+    else None
+
+-- the command of a word and the number that follows it
+abbrev pub numbered_command : List ℕ → List ℕ → Option Command
+numbered_command word number = option_and_then command (number_of number)
+  where
+    command : ℕ → Option Command
+    command number =
+        if bytes_eq word (codes "take") then Some (Take number)
+        else if bytes_eq word (codes "do") then Some (Do number)
+        else if bytes_eq word (codes "done") then Some (Done number)
+        else if bytes_eq word (codes "fail") then Some (Fail number)
+        else None
+
+-- the line of a command, if it is one
+abbrev pub line_with : Option Command → Line
+line_with None = Bad
+line_with (Some command) = Holds command
+
+-- a line by its words
+abbrev pub line_of : List (List ℕ) → Line
+line_of [] = Blank
+line_of (word ∷ []) = line_with (bare_command word)
+line_of (word ∷ number ∷ []) = line_with (numbered_command word number)
+line_of (word ∷ other ∷ third ∷ more) = Bad
+
+-- what a session is
+pub data SessionText : Type 0 where
+  commands : List Command → SessionText
+  -- its least line that is not as it must be
+  bad_line : ℕ → SessionText
+
+-- the command before those of the session
+abbrev pub with_command : Command → SessionText → SessionText
+with_command command (commands more) = commands (command ∷ more)
+with_command command (bad_line line) = bad_line line
+
+-- the session that begins with the line of that number, before the rest
+abbrev pub with_line : ℕ → Line → SessionText → SessionText
+with_line number Blank rest = rest
+with_line number (Holds command) rest = with_command command rest
+with_line number Bad rest = bad_line number
+
+-- the lines of a session from the one of that number on: no line is numbered 16,384 or more
+abbrev pub session_from : ℕ → List (List ℕ) → SessionText
+session_from number [] = commands []
+session_from number (line ∷ lines) =
+    if nat_lt number 16384 then with_line number (line_of (words_of line)) (session_from (number + 1) lines)
+    else bad_line number
+
+-- the text of a session
+abbrev pub session_of : List ℕ → SessionText
+session_of text = session_from 0 (lines_of (without_returns text))

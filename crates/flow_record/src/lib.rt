@@ -1,0 +1,21 @@
+//! Histories, journals and sessions as text.
+#![tactic(auto)]
+
+mod command;
+mod history;
+mod journal;
+mod line;
+mod lines;
+mod number;
+mod refusal;
+mod session;
+#[cfg(test)]
+mod tests;
+mod words;
+
+pub use command::Command;
+pub use history::print_history;
+pub use journal::print_journal;
+pub use lines::place_of_feed;
+pub use refusal::RecordRefusal;
+pub use session::read_session;

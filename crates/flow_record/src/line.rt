@@ -1,0 +1,10 @@
+use crate::command::Command;
+
+/// What one line of a session is.
+#[derive(Clone, Copy)]
+pub enum Line {
+    /// It has no word.
+    Blank,
+    Holds(Command),
+    Bad,
+}

@@ -1,0 +1,90 @@
+ghost use Rattle.std.specs.Prelude.{◌≡◌, ℕ, IfOk};
+ghost use Rattle.std.specs.Result.{IsErrOf};
+ghost use Rattle.flow_record.specs.Lines.{words_of};
+ghost use Rattle.flow_record.specs.Session.{bare_command, numbered_command, line_of, session_of, commands, bad_line};
+
+use crate::command::Command;
+use crate::line::Line;
+use crate::lines::split_line;
+use crate::number::read_number;
+use crate::refusal::RecordRefusal;
+use crate::words::split_word;
+use std::alloc::Global;
+
+/// A line of that number or a greater one is bad.
+const END: u32 = 16_384;
+
+/// Reads the commands of a session.
+pub fn read_session(alloc: Global, text: &[u8]) -> Result<Vec<Command>, RecordRefusal>
+    ensures ok { IfOk result (λ read. session_of text.now ≡ commands read.items) }
+    ensures bad { (line : ℕ) → IsErrOf result (RecordRefusal.BadLine line) → session_of text.now ≡ bad_line line }
+{
+    let mut read = Vec::new(alloc);
+    let mut rest = text;
+    let mut number = 0;
+    while !rest.is_empty() {
+        if number >= END {
+            return Err(RecordRefusal::BadLine { line: number });
+        }
+        let (line, more) = split_line(rest);
+        match read_line(line) {
+            Line::Blank => {}
+            Line::Holds(command) => read.push(command)?,
+            Line::Bad => return Err(RecordRefusal::BadLine { line: number }),
+        }
+        rest = more;
+        number += 1;
+    }
+    Ok(read)
+}
+
+/// What a line is by its words.
+fn read_line(line: &[u8]) -> Line
+    ensures { result ≡ line_of (words_of line.now) }
+{
+    let (first, rest) = split_word(line);
+    let (second, rest) = split_word(rest);
+    let (third, _) = split_word(rest);
+    let command = if first.is_empty() {
+        return Line::Blank;
+    } else if second.is_empty() {
+        bare_command(first)
+    } else if third.is_empty() {
+        numbered_command(first, second)
+    } else {
+        None
+    };
+    match command {
+        Some(command) => Line::Holds(command),
+        None => Line::Bad,
+    }
+}
+
+/// The command of one word alone.
+fn bare_command(word: &[u8]) -> Option<Command>
+    ensures { result ≡ bare_command word.now }
+{
+    match word {
+        b"rewind" => Some(Command::Rewind),
+        b"commit" => Some(Command::Commit),
+        b"next" => Some(Command::Next),
+        b"enabled" => Some(Command::Enabled),
+        b"journal" => Some(Command::Journal),
+        b"facts" => Some(Command::Facts),
+        _ => None,
+    }
+}
+
+/// The command of a word and the number that follows it.
+fn numbered_command(word: &[u8], number: &[u8]) -> Option<Command>
+    ensures { result ≡ numbered_command word.now number.now }
+{
+    let number = read_number(number)?;
+    match word {
+        b"take" => Some(Command::Take(number)),
+        b"do" => Some(Command::Do(number)),
+        b"done" => Some(Command::Done(number)),
+        b"fail" => Some(Command::Fail(number)),
+        _ => None,
+    }
+}

@@ -1,0 +1,4 @@
+pub mod Cut
+pub mod Reply
+pub mod Report
+pub mod Refusing

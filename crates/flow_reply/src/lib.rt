@@ -1,0 +1,19 @@
+//! The lines that the program writes.
+#![tactic(auto)]
+
+mod answer;
+mod refused;
+mod reply;
+mod report;
+mod source;
+#[cfg(test)]
+mod tests;
+mod verdict;
+
+pub use answer::Answer;
+pub use flow_record::Command;
+pub use refused::{Refused, print_refused};
+pub use reply::print_reply;
+pub use report::print_report;
+pub use source::cut;
+pub use verdict::Verdict;
