@@ -68,9 +68,9 @@ impl Database {
         ensures held { (n : ℕ) → is_held self.new n ≡ (if n == fact then false else is_held self.old n) }
         ensures count { length self.new ≡ length self.old }
     {
-        let was_held = self.has(fact);
+        let found = self.has(fact);
         self.flags[fact as usize] = false;
-        was_held
+        found
     }
 
     /// Puts the fact in or takes it out, as it was before.

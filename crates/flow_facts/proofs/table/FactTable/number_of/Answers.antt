@@ -1,5 +1,4 @@
 use Rattle.std.proofs.Common.{ap, sym, subst, ◌∙◌, ◌≡◌, ◌≢◌, ◌<◌, Some, slice_get, length, get_or, true, false}
-use Rattle.flow_facts.specs.Atom.{Atom, atom_eq}
 use Rattle.flow_facts.specs.Same.{atom_eq-Decides}
 use Rattle.flow_facts.proofs.Places.{mem-slice_get, not_in_first, found_at}
 use Rattle.flow_facts.proofs.table.FactTable.number_of.Goals as goal
