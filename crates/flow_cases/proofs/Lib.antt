@@ -1,0 +1,6 @@
+pub mod TogetherLemmas
+pub mod TakingLemmas
+pub mod KnotLemmas
+pub mod IsolationLemmas
+pub mod EitherOrderLemmas
+pub mod PlainLemmas

@@ -1,0 +1,4 @@
+pub mod Knot
+pub mod Isolation
+pub mod EitherOrder
+pub mod Plain
