@@ -1,5 +1,5 @@
 -- The leaf that is found for a leaf.
-use Rattle.std.proofs.Common.{◌≡◌, ◌≢◌, ◌≤◌, ◌<◌, ℕ, zero, suc, ◌+◌, Bool, true, false, cond, nat_eq, List, [], ◌∷◌, ◌++◌, ◌⊎◌, ◌↔◌, Option, Some, None, find, refl, sym, ap, ◌∙◌, subst, inl, inr, arith}
+use Rattle.std.proofs.Common.{◌≡◌, ◌≤◌, ◌<◌, ℕ, zero, suc, ◌+◌, Bool, true, false, cond, nat_eq, List, [], ◌∷◌, ◌++◌, Option, Some, None, find, refl, sym, ap, ◌∙◌, subst, inl, inr, arith}
 use Rattle.std.proofs.lemmas.Bool.{eqb-true, eq-eqb}
 use Rattle.std.specs.Option.{option_or}
 use Rattle.std.proofs.lemmas.List.Folds.{find-append}
@@ -10,7 +10,7 @@ use Rattle.flow_laws.proofs.ListLemmas2.{mem_append_left, mem_append_right, mem-
 use Rattle.flow_goal.specs.declared.partners.Partner.{Partner}
 use Rattle.flow_goal.specs.declared.partners.Partner.TheVariants.{Outside, Alone, With}
 use Rattle.flow_goal.specs.Partners.{partner_in, in_both, in_either}
-use Rattle.flow_goal.proofs.Numbers.{AreRows, rows, one_leaf}
+use Rattle.flow_goal.proofs.Numbers.{AreRows, rows}
 
 -- the members of a row of numbers
 pub in_row : (low count n : ℕ) → n ∈ numbers_from low count → (low ≤ n) × (n < low + count)

@@ -1,18 +1,15 @@
 -- Pairs of leaves of one event in one execution.
-use Rattle.std.proofs.Common.{◌≡◌, ◌≢◌, ◌≤◌, ◌<◌, ℕ, ◌+◌, Bool, true, false, nat_eq, List, [], ◌∷◌, length, ◌⊎◌, ◌↔◌, Option, Some, None, refl, sym, ap, ◌∙◌, subst, inl, inr, arith}
+use Rattle.std.proofs.Common.{◌≡◌, ◌≢◌, ◌≤◌, ◌<◌, ℕ, Bool, true, false, [], length, ◌⊎◌, Option, Some, None, refl, sym, ap, ◌∙◌, subst, inl, inr, arith}
 use Rattle.std.proofs.lemmas.Bool.{eqb-true, eq-eqb, cases_lt}
-use Rattle.flow_model.specs.Lists.{◌∈◌, AreDistinct, joined, numbers_from}
-use Rattle.flow_model.specs.Process.{Process, leaves, IsNumbered}
-use Rattle.flow_model.specs.Trace.{Blocks, Trace}
-use Rattle.flow_model.specs.Facts.{event_at, events_of, is_event}
-use Rattle.flow_model.specs.Schema.{Schema, HasUniqueEvents}
+use Rattle.flow_model.specs.Lists.{◌∈◌, joined}
+use Rattle.flow_model.specs.Process.{leaves, IsNumbered}
+use Rattle.flow_model.specs.Facts.{event_at, is_event}
+use Rattle.flow_model.specs.Schema.{Schema}
 use Rattle.flow_laws.specs.Events.{AreTogether}
 use Rattle.flow_laws.proofs.EventsLemmas.{blocks_with_both, are_together, unique_events}
-use Rattle.flow_laws.proofs.TraceLeaves.{leaf_of_trace}
 use Rattle.flow_laws.proofs.ListLemmas2.{same_source}
 use Rattle.flow_goal.specs.Labelled.{Labelled}
 use Rattle.flow_goal.specs.Repeated.{HoldsNoneTwice, HoldsTwice, IsFirstFrom, IsFirstTwice, HoldsNoneFrom}
-use Rattle.flow_goal.specs.declared.partners.Partner.{Partner}
 use Rattle.flow_goal.specs.declared.partners.Partner.TheVariants.{Outside, Alone, With}
 use Rattle.flow_goal.specs.declared.repeats.Twice.{Twice}
 use Rattle.flow_goal.specs.Partners.{partner_in}

@@ -1,9 +1,9 @@
 -- Leaving out what says nothing.
-use Rattle.std.proofs.Common.{◌≡◌, ℕ, Bool, true, false, cond, List, [], ◌∷◌, ◌++◌, ◌⊎◌, ◌↔◌, refl, sym, ap, ◌∙◌, subst, inl, inr, append-nil}
+use Rattle.std.proofs.Common.{◌≡◌, ℕ, Bool, true, false, cond, List, [], ◌∷◌, ◌++◌, ◌↔◌, refl, sym, ap, ◌∙◌, subst, inl, inr, append-nil}
 use Rattle.flow_model.specs.Lists.{joined}
-use Rattle.flow_model.specs.Process.{Process, Empty, Task, Sequence, Parallel, Choice, Isolated, IsChoiceFree, leaves}
-use Rattle.flow_model.specs.Trace.{Blocks, Trace, Shuffle, both_end, from_left, from_right, as_one}
-use Rattle.flow_goal.specs.Simple.{IsSeveral, IsBusy, IsSimple, IsSimplified, is_empty, is_several, both, alone}
+use Rattle.flow_model.specs.Process.{Process, Empty, Task, Sequence, Parallel, Choice, Isolated, leaves}
+use Rattle.flow_model.specs.Trace.{Blocks, Shuffle, both_end, from_left, from_right, as_one}
+use Rattle.flow_goal.specs.Simple.{IsBusy, IsSimple, IsSimplified, is_empty, both, alone}
 
 abbrev SameBlocks : Process → Process → Type 0
 SameBlocks g h = (blocks : List (List ℕ)) → Blocks g blocks ↔ Blocks h blocks

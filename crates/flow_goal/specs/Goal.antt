@@ -1,5 +1,4 @@
 -- A goal of the code as a process of the definitions.
-use Rattle.std.specs.Box.{box_value}
 use Rattle.flow_goal.specs.declared.goal.Goal.{Goal, Nop, Leaf, Serial', Beside', Either', Iso'}
 use Rattle.flow_model.specs.Process.{Process, Empty, Task, Sequence, Parallel, Choice, Isolated}
 

@@ -1,5 +1,5 @@
 -- A goal with labels at its leaves.
-use Rattle.std.specs.Prelude.{ℕ, List, length, ◌<◌, ◌^◌}
+use Rattle.std.specs.Prelude.{List, length, ◌<◌, ◌^◌}
 use Rattle.std.proofs.Common.{refl}
 use Rattle.std.specs.Coded.{Coded, code_by, coded×}
 use Rattle.flow_model.specs.declared.labels.Label.{Label}

@@ -1,7 +1,4 @@
-use Rattle.std.proofs.Common.{rules, ap, ◌∙◌, subst, sym}
-use Rattle.std.specs.List.Sorted.{IsStrictlyIncreasing}
-use Rattle.flow_model.specs.Process.{leaves}
-use Rattle.flow_goal.specs.Goal.{process_of}
+use Rattle.std.proofs.Common.{rules}
 use Rattle.flow_goal.proofs.Rising.{choice_free_at, increasing_at}
 use Rattle.flow_goal.proofs.choices.resolve.Goals as goal
 

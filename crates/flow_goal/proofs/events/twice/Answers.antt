@@ -1,4 +1,4 @@
-use Rattle.std.proofs.Common.{rules, ℕ, ◌<◌, length, arith, true, false, ◌≡◌, refl}
+use Rattle.std.proofs.Common.{rules, ℕ, ◌<◌, length, arith, refl}
 use Rattle.flow_goal.specs.Repeated.{HoldsNoneFrom, IsFirstFrom}
 use Rattle.flow_goal.proofs.Repetitions.{first_of_all, not_unique, unique}
 use Rattle.flow_goal.proofs.events.twice.Goals as goal

@@ -1,4 +1,4 @@
-use Rattle.std.proofs.Common.{rules, inl, inr, ap, ◌∙◌, ℕ, sym}
+use Rattle.std.proofs.Common.{rules, inl, inr, ap, ◌∙◌, sym}
 use Rattle.flow_model.specs.Process.{Process}
 use Rattle.flow_goal.specs.Partners.{partner_in}
 use Rattle.flow_goal.proofs.Repetitions.{first_from, none_alone, none_outside, passes}

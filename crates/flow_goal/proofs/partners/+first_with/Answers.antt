@@ -1,4 +1,4 @@
-use Rattle.std.proofs.Common.{rules, ◌≡◌, ℕ, Bool, ◌++◌, Some, None, Option, find, sym, ap, ◌∙◌, subst, inl, inr}
+use Rattle.std.proofs.Common.{◌≡◌, ℕ, Bool, ◌++◌, find, sym, ap, ◌∙◌, inl, inr}
 use Rattle.flow_model.specs.Facts.{event_at, is_event}
 use Rattle.flow_model.specs.Process.{leaves}
 use Rattle.flow_goal.specs.Goal.{process_of}

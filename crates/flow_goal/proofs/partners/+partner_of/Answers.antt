@@ -1,5 +1,5 @@
 use Rattle.std.proofs.Common.{rules, inl, inr}
-use Rattle.flow_goal.proofs.FirstPartner.{both_outside, both_found, both_alone, either_outside}
+use Rattle.flow_goal.proofs.FirstPartner.{both_outside, both_found, both_alone}
 use Rattle.flow_goal.proofs.partners.+partner_of.Goals as goal
 
 pub returns-in-Outside-partner_of : goal.returns-in-Outside-partner_of
