@@ -67,10 +67,18 @@ Answers old (command.Done claim) (Done result) new = AnswersDone old claim resul
 Answers old command.Commit (Committed result) new = AnswersCommit old result new
 Answers old other answer new = ⊥
 
--- the commands, one after another, are replied to by this text and leave this
+-- the command is replied to by this line, and leaves this
+abbrev pub RepliesTo : List (List ℕ) → Progress → Command → List ℕ → Progress → Type 0
+RepliesTo names old command line new =
+    (answer : Answer) × Answers old command answer new × (line ≡ reply_text names (now new).epoch command answer)
+
+-- the commands, one after another, are replied to by this text, and leave this
 abbrev pub Drives : List (List ℕ) → Progress → List Command → List ℕ → Progress → Type 0
 Drives names old [] text new = (text ≡ []) × (new ≡ old)
 Drives names old (command ∷ commands) text new =
-    (answer : Answer) × ((middle : Progress) × ((rest : List ℕ) ×
-        Answers old command answer middle × Drives names middle commands rest new
-        × (text ≡ reply_text names (now middle).epoch command answer ++ rest)))
+    (middle : Progress) × ((line : List ℕ) × ((rest : List ℕ) ×
+    RepliesTo names old command line middle × Drives names middle commands rest new × (text ≡ line ++ rest)))
+
+-- the workflow and the limit are the same
+abbrev pub SameRun : Progress → Progress → Type 0
+SameRun old new = (new.schema ≡ old.schema) × (new.limit ≡ old.limit)

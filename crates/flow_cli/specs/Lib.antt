@@ -1,3 +1,4 @@
 pub mod Code
+pub mod Refusals
 pub mod Drive
 pub mod Output

@@ -1,7 +1,11 @@
 -- What a call writes, and with which status it ends.
-use Rattle.std.specs.Prelude.{◌≡◌, ◌<◌, ◌≤◌, ℕ, List, [], ◌∷◌, ◌++◌, length, take, drop, codes, ◌⊎◌}
+use Rattle.std.specs.Prelude.{◌≡◌, ◌<◌, ◌≤◌, ℕ, List, [], ◌∷◌, ◌++◌, length, take, drop, Some, codes, ◌⊎◌}
+use Rattle.flow_model.specs.declared.labels.Label.{Label}
 use Rattle.flow_model.specs.Lists.{Each}
-use Rattle.flow_model.specs.Verdict.{Verdict, committed, spent, unfinished, drive_verdict}
+use Rattle.flow_model.specs.Facts.{event_at}
+use Rattle.flow_model.specs.Verdict.{drive_verdict}
+use Rattle.flow_reply.specs.declared.verdict.Verdict.{Verdict}
+use Rattle.flow_reply.specs.declared.verdict.Verdict.TheVariants as verdict
 use Rattle.flow_core.specs.View.{Progress, schema_of, now}
 use Rattle.flow_core.specs.Lawful.{IsLawful}
 use Rattle.flow_text.specs.Written.{Written, Derives}
@@ -11,7 +15,7 @@ use Rattle.flow_record.specs.Session.{session_of, commands}
 use Rattle.flow_reply.specs.declared.refused.Refused.TheVariants as refused
 use Rattle.flow_reply.specs.Cut.{cut_of}
 use Rattle.flow_reply.specs.Refusing.{refused_text}
-use Rattle.flow_reply.specs.Report.{report_text}
+use Rattle.flow_reply.specs.Report.{meaning, report_text}
 use Rattle.flow_cli.specs.declared.status.Status.{Status}
 use Rattle.flow_cli.specs.declared.status.Status.TheVariants.{Fine, No, Words, Input, ReadFault, WriteFault, Memory, Spent}
 use Rattle.flow_cli.specs.Drive.{Drives}
@@ -51,33 +55,84 @@ pub record IsInput (input : List ℕ) (w : Written) (session : List Command) : T
 abbrev pub start_of : Written → Progress
 start_of w = record { schema = schema_of w.goal; limit = step_limit; history = [] }
 
--- The output is that of a driven session with this verdict: a reply to each command, and the report of the history so
--- made. Of this history the headline holds: it is lawful.
-pub record IsDriven (input : List ℕ) (verdict : Verdict) (output : List ℕ) : Type 0 where
-  pub written : Written
-  pub session : List Command
+-- the events at the leaves have names
+abbrev pub HasNames : List (List ℕ) → List Label → Type 0
+HasNames names labels = (leaf event : ℕ) → event_at labels leaf ≡ Some event → event < length names
+
+-- the status that a verdict ends with
+abbrev pub ended : Verdict → Status
+ended verdict.Committed = Fine
+ended verdict.Spent = Spent
+ended (verdict.NoOther leaf) = No
+ended verdict.Stuck = No
+ended verdict.Unfinished = No
+
+-- The output is that of a driven session of this workflow with this status: a reply to each command, and the report of
+-- the history so made. Of this history the headline holds: it is lawful.
+pub record Records (written : Written) (session : List Command) (status : Status) (output : List ℕ) : Type 0 where
   pub replies : List ℕ
   pub last : Progress
-  pub input_is : IsInput input written session
   pub driven : Drives written.events (start_of written) session replies last
-  pub lawful : IsLawful last.schema last.limit last.history
-  pub verdict_is : drive_verdict last.limit last.history ≡ verdict
-  pub output_is : output ≡ replies ++ report_text written.events written.goal.labels last.history (now last).journal verdict
+  pub lawful : IsLawful (schema_of written.goal) step_limit last.history
+  pub verdict : Verdict
+  pub verdict_is : meaning verdict ≡ drive_verdict step_limit last.history
+  pub status_is : status ≡ ended verdict
+  pub output_is : output ≡ replies ++ report_text written.events written.goal.labels last.history (now last).journal (meaning verdict)
+
+-- the input is a workflow and a session of it, and the output that of the session
+pub record IsDriven (input : List ℕ) (status : Status) (output : List ℕ) : Type 0 where
+  pub written : Written
+  pub session : List Command
+  pub input_is : IsInput input written session
+  pub records : Records written session status output
 
 -- no workflow with a session is written so
 abbrev pub IsUnbuilt : List ℕ → Type 0
 IsUnbuilt input = ¬ ((w : Written) × ((session : List Command) × IsInput input w session))
 
--- For these words and this input the call writes that output with that status. The first refusal that applies is the
--- answer. After a failed write a part of such an output was written, and with no memory nothing.
+-- What a call with the right words writes for an input that was read: the first refusal that applies, or a session.
+abbrev pub WritesFor : List ℕ → Status → List ℕ → Type 0
+WritesFor input Input output =
+    ((greatest_input < length input) × (output ≡ refused_text refused.TooLong))
+    ⊎ ((length input ≤ greatest_input) × IsUnbuilt input × (output ≡ refused_text refused.Unbuilt))
+WritesFor input Fine output = (length input ≤ greatest_input) × IsDriven input Fine output
+WritesFor input No output = (length input ≤ greatest_input) × IsDriven input No output
+WritesFor input Spent output = (length input ≤ greatest_input) × IsDriven input Spent output
+WritesFor input Words output = ⊥
+WritesFor input ReadFault output = ⊥
+WritesFor input WriteFault output = ⊥
+WritesFor input Memory output = ⊥
+
+-- For these words and this input the call writes that output with that status: wrong words are refused first, then a
+-- source that fails.
 abbrev pub Writes : List (List ℕ) → List ℕ → Status → List ℕ → Type 0
 Writes words input Words output = ¬ (IsCall words) × (output ≡ refused_text refused.Words)
 Writes words input ReadFault output = IsCall words × (output ≡ refused_text refused.Read)
-Writes words input Input output = IsCall words ×
-    (((greatest_input < length input) × (output ≡ refused_text refused.TooLong))
-    ⊎ ((length input ≤ greatest_input) × IsUnbuilt input × (output ≡ refused_text refused.Unbuilt)))
-Writes words input Fine output = IsCall words × (length input ≤ greatest_input) × IsDriven input committed output
-Writes words input No output = IsCall words × (length input ≤ greatest_input) × IsDriven input unfinished output
-Writes words input Spent output = IsCall words × (length input ≤ greatest_input) × IsDriven input spent output
+Writes words input Input output = IsCall words × WritesFor input Input output
+Writes words input Fine output = IsCall words × WritesFor input Fine output
+Writes words input No output = IsCall words × WritesFor input No output
+Writes words input Spent output = IsCall words × WritesFor input Spent output
 Writes words input WriteFault output = ⊥
 Writes words input Memory output = ⊥
+
+-- the call wrote its whole output, and no fault and no want of memory ended it
+abbrev pub IsWhole : Status → Type 0
+IsWhole Words = Unit {0}
+IsWhole ReadFault = Unit {0}
+IsWhole Input = Unit {0}
+IsWhole Fine = Unit {0}
+IsWhole No = Unit {0}
+IsWhole Spent = Unit {0}
+IsWhole WriteFault = ⊥
+IsWhole Memory = ⊥
+
+-- the session was gone through to its end
+abbrev pub IsOver : Status → Type 0
+IsOver Fine = Unit {0}
+IsOver No = Unit {0}
+IsOver Spent = Unit {0}
+IsOver Words = ⊥
+IsOver Input = ⊥
+IsOver ReadFault = ⊥
+IsOver WriteFault = ⊥
+IsOver Memory = ⊥

@@ -1,6 +1,11 @@
 //! The top call: from words and bytes to bytes and a status.
 #![tactic(auto)]
 
+mod call;
+mod output;
+mod session;
 mod status;
+mod words;
 
+pub use call::flow;
 pub use status::Status;

@@ -1,1 +1,6 @@
 pub mod Numbers
+pub mod Counting
+pub mod Rising
+pub mod Simpler
+pub mod FirstPartner
+pub mod Repetitions

@@ -34,7 +34,7 @@ rows (x ∷ front) back first (suc count) e =
       right = r.right;
       together = let t : r.left + r.right ≡ count = r.together in omega arith;
       front_is = let f : front ≡ numbers_from (first + 1) r.left = r.front_is in cc;
-      back_is = r.back_is ∙ ap (λ a. numbers_from a r.right) (omega arith)
+      back_is = r.back_is ∙ ap (λ a. numbers_from a r.right) (omega arith);
     }
 
 -- what the count says of the leaves
@@ -44,10 +44,11 @@ pub record IsRow (g : Process) (next stop : ℕ) : Type 0 where
   pub row : leaves g ≡ numbers_from next count
 
 both_rows : (a b : Process) (next middle stop : ℕ) → IsRow a next middle → IsRow b middle stop → (count : ℕ) × (stop ≡ next + count) × (leaves a ++ leaves b ≡ numbers_from next count)
-both_rows a b next middle stop p q =
-    (p.count + q.count,
-     (let e : middle ≡ next + p.count = p.stops in let f : stop ≡ middle + q.count = q.stops in omega arith),
-     ap (λ xs. xs ++ leaves b) p.row ∙ ap (λ ys. numbers_from next p.count ++ ys) (q.row ∙ ap (λ k. numbers_from k q.count) p.stops) ∙ sym (numbers_from-+ next p.count q.count))
+both_rows a b next middle stop p q = (
+  p.count + q.count,
+  (let e : middle ≡ next + p.count = p.stops in let f : stop ≡ middle + q.count = q.stops in omega arith),
+  ap (λ xs. xs ++ leaves b) p.row ∙ ap (λ ys. numbers_from next p.count ++ ys) (q.row ∙ ap (λ k. numbers_from k q.count) p.stops) ∙ sym (numbers_from-+ next p.count q.count),
+)
 
 -- what a step that may fail gave
 pub bound : {A B : Type 0} (o : Option A) (f : A → Option B) (y : B) → option_and_then f o ≡ Some y → (x : A) × (o ≡ Some x) × (f x ≡ Some y)
@@ -92,7 +93,7 @@ is_row (Isolated a) next last stop h =
 abbrev Reaches : Process → Type 0
 Reaches g = (next count last : ℕ) → leaves g ≡ numbers_from next count → next + count ≤ last → number_after g next last ≡ Some (next + count)
 
-one_leaf : (n next count : ℕ) → n ∷ [] ≡ numbers_from next count → (n ≡ next) × (count ≡ 1)
+pub one_leaf : (n next count : ℕ) → n ∷ [] ≡ numbers_from next count → (n ≡ next) × (count ≡ 1)
 one_leaf n next zero e = cc
 one_leaf n next (suc zero) e = (cc, omega arith)
 one_leaf n next (suc (suc count)) e = cc
@@ -127,16 +128,18 @@ reaches (Isolated a) next count last e le = reaches a next count last e le
 
 -- a goal is numbered with so many leaves exactly where the count from 0 ends there
 pub numbered_iff : (g : Process) (count : ℕ) → (number_after g 0 count ≡ Some count) ↔ (leaves g ≡ numbers_from 0 count)
-numbered_iff g count =
-    ((λ h. let r : IsRow g 0 count = is_row g 0 count count h in
-        r.row ∙ ap (λ k. numbers_from 0 k) (let s : count ≡ 0 + r.count = r.stops in omega arith)),
-     (λ e. reaches g 0 count count e (omega arith) ∙ ap (λ k. Some k) (omega arith)))
+numbered_iff g count = (
+  (λ h. let r : IsRow g 0 count = is_row g 0 count count h in
+      r.row ∙ ap (λ k. numbers_from 0 k) (let s : count ≡ 0 + r.count = r.stops in omega arith)),
+  (λ e. reaches g 0 count count e (omega arith) ∙ ap (λ k. Some k) (omega arith)),
+)
 
 -- where the count stopped, it stopped at the end exactly for a goal with so many leaves
 pub stopped : (g : Process) (count stop : ℕ) → Some stop ≡ number_after g 0 count → IsTrue (nat_eq stop count) ↔ IsNumbered g count
-stopped g count stop h =
-    ((λ t. (numbered_iff g count).0 (sym h ∙ ap (λ k. Some k) (eqb-true stop count t))),
-     (λ e. eq-eqb stop count (some_inj stop count (h ∙ (numbered_iff g count).1 e))))
+stopped g count stop h = (
+  (λ t. (numbered_iff g count).0 (sym h ∙ ap (λ k. Some k) (eqb-true stop count t))),
+  (λ e. eq-eqb stop count (some_inj stop count (h ∙ (numbered_iff g count).1 e))),
+)
 
 -- where it failed, the goal has not so many leaves
 pub failed : (g : Process) (count : ℕ) → None ≡ number_after g 0 count → IsTrue false ↔ IsNumbered g count

@@ -1,11 +1,23 @@
 //! Goals with labelled leaves.
 #![tactic(auto)]
 
+mod choiceless;
+mod choices;
+mod events;
 mod goal;
+mod partners;
+mod repeats;
+mod simple;
 mod tree;
 
-
+pub use choiceless::Choiceless;
+pub use choices::{resolutions, resolve};
+pub use events::twice;
 pub use flow_model::{Label, Note};
 pub use goal::Goal;
+pub use repeats::Twice;
+pub use simple::simplify;
 pub use tree::{Tree, TreeRefusal};
 
+#[cfg(test)]
+mod tests;

@@ -1,13 +1,12 @@
 ghost use Rattle.std.specs.Prelude.{◌≡◌, ◌<◌, ◌^◌, ◌↔◌, length, IfOk, IsErr, IsTrue, slice_get};
+ghost use Rattle.flow_model.specs.Facts.{event_at, is_event};
 ghost use Rattle.flow_model.specs.Process.{IsNumbered};
 ghost use Rattle.flow_goal.specs.Goal.{process_of};
 ghost use Rattle.flow_goal.specs.Numbering;
 
-use std::marker::Model;
-
-use flow_model::Label;
-
 use crate::goal::Goal;
+use flow_model::Label;
+use std::marker::Model;
 
 /// Why a goal and labels make no tree.
 #[derive(Clone, Copy, Debug, PartialEq, Eq)]
@@ -95,6 +94,26 @@ impl Tree {
         ensures { result ≡ slice_get self.now.labels leaf }
     {
         self.labels.get(leaf as usize).copied()
+    }
+
+    /// The event of a leaf, if it has one.
+    pub(crate) fn event(&self, leaf: u32) -> Option<u32>
+        ensures { result ≡ event_at self.now.labels leaf }
+    {
+        match self.labels.get(leaf as usize) {
+            Some(Label::Event(event)) => Some(*event),
+            Some(Label::Test(_) | Label::Absent(_) | Label::Ins(_) | Label::Del(_)) | None => None,
+        }
+    }
+
+    /// Whether a leaf has that event.
+    pub(crate) fn has_event(&self, leaf: u32, event: u32) -> bool
+        ensures { result ≡ is_event event (event_at self.now.labels leaf) }
+    {
+        match self.event(leaf) {
+            Some(other) => other == event,
+            None => false,
+        }
     }
 
     /// How many leaves the goal has.

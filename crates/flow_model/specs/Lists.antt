@@ -2,7 +2,6 @@
 use Rattle.std.specs.Prelude.{◌≡◌, ℕ, zero, suc, ◌+◌, List, [], ◌∷◌, ◌++◌, ◌⊎◌}
 
 infix 40 ◌∈◌
-
 -- x is a member of the list
 abbrev pub ◌∈◌ : {A : Type 0} → A → List A → Type 0
 x ∈ [] = ⊥

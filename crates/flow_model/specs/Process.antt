@@ -1,5 +1,5 @@
 -- Goals of Concurrent Transaction Logic (Bonner and Kifer 1996), as data without pointers.
-use Rattle.std.specs.Prelude.{◌≡◌, ℕ, ◌+◌, List, [], ◌∷◌, ◌++◌}
+use Rattle.std.specs.Prelude.{◌≡◌, ℕ, List, [], ◌∷◌, ◌++◌}
 use Rattle.flow_model.specs.Lists.{numbers_from}
 
 pub data Process : Type 0 where

@@ -1,5 +1,5 @@
 -- What may come next in a goal without choices, under pairs of leaves in order.
-use Rattle.std.specs.Prelude.{◌≡◌, ℕ, List, [], ◌∷◌, ◌++◌, ◌⊎◌}
+use Rattle.std.specs.Prelude.{ℕ, List, [], ◌∷◌, ◌++◌, ◌⊎◌}
 use Rattle.flow_model.specs.Lists.{◌∈◌}
 use Rattle.flow_model.specs.Process.{Process, Empty, Task, Sequence, Parallel, Choice, Isolated, leaves}
 
@@ -14,7 +14,7 @@ InSequence (Isolated a) x y = InSequence a x y
 
 -- x is directly before y: in the goal, or by a pair
 abbrev pub DirectlyBefore : Process → List (ℕ × ℕ) → ℕ → ℕ → Type 0
-DirectlyBefore q pairs x y = InSequence q x y ⊎ ((x , y) ∈ pairs)
+DirectlyBefore q pairs x y = InSequence q x y ⊎ ((x, y) ∈ pairs)
 
 -- the bodies of the isolated parts, outer ones first
 abbrev pub isolated_parts : Process → List Process

@@ -1,7 +1,7 @@
 -- Resolutions of choices, and options: what Apply makes of a workflow (after Davulcu and others 1998).
-use Rattle.std.specs.Prelude.{◌≡◌, ℕ, ◌+◌, ◌*◌, List, [], ◌∷◌, ◌++◌, length, map, sum}
+use Rattle.std.specs.Prelude.{ℕ, ◌+◌, ◌*◌, List, [], ◌∷◌, ◌++◌, length, map, sum}
 use Rattle.std.specs.List.{flat_map}
-use Rattle.flow_model.specs.Lists.{◌∈◌, AreInOrder, each_with_each}
+use Rattle.flow_model.specs.Lists.{AreInOrder, each_with_each}
 use Rattle.flow_model.specs.Process.{Process, Empty, Task, Sequence, Parallel, Choice, Isolated, leaves}
 use Rattle.flow_model.specs.Trace.{Trace}
 use Rattle.flow_model.specs.Constraint.{all_of}

@@ -4,7 +4,6 @@ use Rattle.std.specs.List.{filter, find}
 use Rattle.flow_model.specs.declared.history.Entry.{Entry}
 use Rattle.flow_model.specs.declared.history.Step.{Step}
 use Rattle.flow_model.specs.declared.history.Step.TheVariants.{Took, Done, Failed, Late, Did, Rewound, Committed}
-use Rattle.flow_model.specs.declared.history.FailEffect.{FailEffect}
 use Rattle.flow_model.specs.declared.history.FailEffect.TheVariants.{Switched, Kept}
 use Rattle.flow_model.specs.Lists.{◌∈◌, Each, Begins, IsOrderOf}
 use Rattle.flow_model.specs.Facts.{State, replay, HoldsAt}
@@ -82,13 +81,13 @@ MayFollow w s o next = (t : List ℕ) × OptionTrace o t × IsFree w s t × Begi
 abbrev pub CanTake : Schema → RunState → ℕ → Type 0
 CanTake w s n = IsEventLeaf w n × ¬ (n ∈ current_leaves s) ×
     ((o : ChoiceOption) × (o ∈ options w) ×
-        ((order : List ℕ) → IsOrderOf order (current_leaves s ++ n ∷ []) → MayFollow w s o order))
+    ((order : List ℕ) → IsOrderOf order (current_leaves s ++ n ∷ []) → MayFollow w s o order))
 
 -- the leaf is no event's, and in some one option it may come first, and the current claims' leaves then in every order
 abbrev pub CanDoAside : Schema → RunState → ℕ → Type 0
 CanDoAside w s n = IsOtherLeaf w n ×
     ((o : ChoiceOption) × (o ∈ options w) ×
-        ((order : List ℕ) → IsOrderOf order (current_leaves s) → MayFollow w s o (n ∷ order)))
+    ((order : List ℕ) → IsOrderOf order (current_leaves s) → MayFollow w s o (n ∷ order)))
 
 -- besides, its label holds now
 abbrev pub CanDo : Schema → RunState → ℕ → Type 0
@@ -123,14 +122,14 @@ answer number claims = map (λ (claim : Claim). if claim.number == number then r
 abbrev pub next_state : RunState → Step → RunState
 next_state s (Took claim leaf) = record s { claims = s.claims ++ record { number = claim; leaf = leaf; epoch = s.epoch; answered = false } ∷ [] }
 next_state s (Done claim) = record s { journal = s.journal ++ leaf_of_claim s claim ∷ []; claims = answer claim s.claims }
-next_state s (Failed claim Switched) = record s { bans = s.bans ++ (length s.journal , leaf_of_claim s claim) ∷ []; claims = answer claim s.claims; epoch = s.epoch + 1 }
+next_state s (Failed claim Switched) = record s { bans = s.bans ++ (length s.journal, leaf_of_claim s claim) ∷ []; claims = answer claim s.claims; epoch = s.epoch + 1 }
 next_state s (Failed claim Kept) = record s { claims = answer claim s.claims }
 next_state s (Late claim) = record s { claims = answer claim s.claims }
 next_state s (Did leaf) = record s { journal = s.journal ++ leaf ∷ [] }
 next_state s (Rewound index) = record s {
   journal = take index s.journal;
-  bans = filter (λ ban. nat_le ban.0 index) s.bans ++ (index , slice_index s.journal index) ∷ [];
-  epoch = s.epoch + 1
+  bans = filter (λ ban. nat_le ban.0 index) s.bans ++ (index, slice_index s.journal index) ∷ [];
+  epoch = s.epoch + 1;
 }
 next_state s Committed = record s { committed = true }
 

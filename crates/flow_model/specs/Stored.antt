@@ -41,7 +41,7 @@ process_again (Isolated a) = λ i. Isolated (process_again a i)
 abbrev pub process_code : Coded Process
 process_code = record {
   code = process_value;
-  inj = λ x y p. sym (process_again x) ∙ ap process_back p ∙ process_again y
+  inj = λ x y p. sym (process_again x) ∙ ap process_back p ∙ process_again y;
 }
 
 abbrev events_value : List ℕ → Gv
@@ -89,7 +89,7 @@ constraint_again (Or c d) = λ i. Or (constraint_again c i) (constraint_again d 
 abbrev pub constraint_code : Coded Constraint
 constraint_code = record {
   code = constraint_value;
-  inj = λ x y p. sym (constraint_again x) ∙ ap constraint_back p ∙ constraint_again y
+  inj = λ x y p. sym (constraint_again x) ∙ ap constraint_back p ∙ constraint_again y;
 }
 
 abbrev pub labels_code : Coded (List Label)

@@ -1,16 +1,16 @@
 -- What a run by workers may add to a legal history, and what a history comes to.
-use Rattle.std.specs.Prelude.{◌≡◌, ◌≢◌, ◌<◌, ◌+◌, ◌≤◌, ℕ, Bool, true, false, ◌&&◌, ◌==◌, nat_le, if◌then◌else◌, IsTrue, List, [], ◌∷◌, ◌++◌, length, Option, Some, None, slice_get, ◌⊎◌, ◌↔◌}
+use Rattle.std.specs.Prelude.{◌≡◌, ◌≢◌, ◌<◌, ℕ, true, false, ◌&&◌, ◌==◌, nat_le, if◌then◌else◌, List, [], ◌∷◌, ◌++◌, length, Option, Some, None, slice_get, ◌⊎◌, ◌↔◌}
 use Rattle.std.specs.List.{count_by}
 use Rattle.flow_model.specs.declared.history.Entry.{Entry}
 use Rattle.flow_model.specs.declared.history.Step.{Step}
 use Rattle.flow_model.specs.declared.history.Step.TheVariants.{Took, Done, Failed, Late, Did, Rewound, Committed}
-use Rattle.flow_model.specs.declared.history.FailEffect.TheVariants.{Switched, Kept}
+use Rattle.flow_model.specs.declared.history.FailEffect.TheVariants.{Kept}
 use Rattle.flow_model.specs.declared.history.Call.{Call}
 use Rattle.flow_model.specs.declared.history.Outcome as outcome
 use Rattle.flow_model.specs.declared.history.Outcome.{Outcome}
 use Rattle.flow_model.specs.declared.labels.Note.{Note}
 use Rattle.flow_model.specs.declared.labels.Note.TheVariants as note
-use Rattle.flow_model.specs.Lists.{◌∈◌, Begins, Each}
+use Rattle.flow_model.specs.Lists.{◌∈◌, Begins}
 use Rattle.flow_model.specs.Facts.{event_at, is_event, Runs}
 use Rattle.flow_model.specs.Schema.{Schema, start_of, IsGood}
 use Rattle.flow_model.specs.Run.{Claim, RunState, state_of, leaf_of_claim, IsLegal, IsOpenIndex, IsStuck, Waits}
@@ -42,7 +42,7 @@ call_of w s claim = record {
   leaf = leaf_of_claim s claim;
   event = event_of_claim w s claim;
   attempt = attempts w s (event_of_claim w s claim) claim;
-  note = note_of w (event_of_claim w s claim)
+  note = note_of w (event_of_claim w s claim);
 }
 
 -- the history ends with a kept failure of that leaf
@@ -108,9 +108,9 @@ IsRunVerdict w limit history unfinished = ⊥
 pub record IsDriven (w : Schema) (limit : ℕ) (history : List Entry) : Type 0 where
   pub stops : (earlier later : List Entry) (entry : Entry) (verdict : Verdict) →
       history ≡ earlier ++ entry ∷ later → ¬ (IsRunVerdict w limit earlier verdict)
-  pub goes_back : (earlier later : List Entry) (entry : Entry) (leaf i : ℕ) →
-      history ≡ earlier ++ entry ∷ later → EndsKept earlier leaf → IsOpenIndex w (state_of earlier) i →
-      length earlier < limit → entry.step ≡ Rewound i
+  pub goes_back : (earlier later : List Entry) (leaf i : ℕ) →
+      history ≡ earlier ++ later → EndsKept earlier leaf → IsOpenIndex w (state_of earlier) i → length earlier < limit →
+      (entry : Entry) × ((rest : List Entry) × (later ≡ entry ∷ rest) × (entry.step ≡ Rewound i))
 
 -- the list begins some good trace, and its own tests hold in turn
 abbrev pub IsPossible : Schema → List ℕ → Type 0

@@ -1,5 +1,5 @@
 -- The ways of a constraint: lists of pairs of leaves that stand in order (Apply, after Davulcu and others 1998).
-use Rattle.std.specs.Prelude.{ℕ, Bool, true, false, ◌==◌, ◌&&◌, ◌||◌, if◌then◌else◌, List, [], ◌∷◌, ◌++◌, Option, Some, None}
+use Rattle.std.specs.Prelude.{ℕ, Bool, true, false, ◌==◌, ◌||◌, if◌then◌else◌, List, [], ◌∷◌, ◌++◌, Option, Some, None}
 use Rattle.std.specs.List.{find}
 use Rattle.flow_model.specs.declared.labels.Label.{Label}
 use Rattle.flow_model.specs.Facts.{event_at}
@@ -82,13 +82,13 @@ ways_of_never (Some leaf) = []
 abbrev pub ways_of_before : Option ℕ → Option ℕ → List (List (ℕ × ℕ))
 ways_of_before None b = []
 ways_of_before (Some x) None = []
-ways_of_before (Some x) (Some y) = ((x , y) ∷ []) ∷ []
+ways_of_before (Some x) (Some y) = ((x, y) ∷ []) ∷ []
 
 -- one of the leaves is not there, or the second stands before the first
 abbrev pub ways_of_not_before : Option ℕ → Option ℕ → List (List (ℕ × ℕ))
 ways_of_not_before None b = free_way
 ways_of_not_before (Some x) None = free_way
-ways_of_not_before (Some x) (Some y) = ((y , x) ∷ []) ∷ []
+ways_of_not_before (Some x) (Some y) = ((y, x) ∷ []) ∷ []
 
 -- the ways of a normal form over a set of leaves, by the leaf that each event has there
 abbrev pub ways : Normal → (ℕ → Option ℕ) → List (List (ℕ × ℕ))

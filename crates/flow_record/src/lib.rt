@@ -16,5 +16,6 @@ mod words;
 pub use command::Command;
 pub use history::print_history;
 pub use journal::print_journal;
+pub use lines::place_of_feed;
 pub use refusal::RecordRefusal;
 pub use session::read_session;

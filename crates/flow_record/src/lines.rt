@@ -15,7 +15,7 @@ pub fn split_line(text: &[u8]) -> (&[u8], &[u8])
 }
 
 /// The place of the first line feed.
-fn place_of_feed(text: &[u8]) -> Option<usize>
+pub fn place_of_feed(text: &[u8]) -> Option<usize>
     ensures { result ≡ position (λ byte. byte == 10) text.now }
 {
     text.iter().position(|byte| *byte == b'\n')

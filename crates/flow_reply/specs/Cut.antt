@@ -1,5 +1,6 @@
 -- Where a source is cut in two.
-use Rattle.std.specs.Prelude.{ℕ, ◌+◌, min, Bool, ◌||◌, if◌then◌else◌, List, [], ◌∷◌, length, codes}
+use Rattle.std.specs.Prelude.{ℕ, ◌+◌, min, Bool, ◌||◌, ◌==◌, drop, if◌then◌else◌, List, [], ◌∷◌, length, codes}
+use Rattle.std.specs.List.{position_or_len}
 use Rattle.std.specs.Str.{bytes_eq}
 use Rattle.flow_record.specs.Lines.{lines_of}
 
@@ -17,3 +18,7 @@ cut_from whole place (line ∷ lines) =
 -- where the first part of a source ends, and where the second begins
 abbrev pub cut_of : List ℕ → ℕ × ℕ
 cut_of source = cut_from (length source) 0 (lines_of source)
+
+-- where the line ends that begins at the place
+abbrev pub line_end : List ℕ → ℕ → ℕ
+line_end source place = place + position_or_len (λ byte. byte == 10) (drop place source)

@@ -28,11 +28,15 @@ HasNamedCall names (Took (Err refusal)) = Unit {0}
 HasNamedCall names (Done result) = Unit {0}
 HasNamedCall names (Committed result) = Unit {0}
 
+-- a call that was given in the epoch, before its event's name
+abbrev pub given_text : ℕ → Call → List ℕ
+given_text epoch call =
+    codes "claim " ++ decimal call.claim ++ codes " epoch " ++ decimal epoch
+    ++ codes " attempt " ++ decimal call.attempt ++ codes " "
+
 -- a call that was given in the epoch
 abbrev pub call_text : List (List ℕ) → ℕ → Call → List ℕ
-call_text names epoch call =
-    codes "claim " ++ decimal call.claim ++ codes " epoch " ++ decimal epoch
-    ++ codes " attempt " ++ decimal call.attempt ++ codes " " ++ unwrap_or (slice_get names call.event) []
+call_text names epoch call = given_text epoch call ++ unwrap_or (slice_get names call.event) []
 
 -- why the leaf is not taken
 abbrev pub take_refused : ℕ → TakeRefusal → List ℕ
@@ -42,14 +46,17 @@ take_refused leaf take.WrongKind = codes "refused kind " ++ decimal leaf
 take_refused leaf (take.Spent limit) = codes "refused spent " ++ decimal limit
 take_refused leaf take.NotEnabled = codes "refused not-enabled " ++ decimal leaf
 
+-- a result that came too late
+abbrev pub late_text : ℕ → ℕ → ℕ → List ℕ
+late_text claim of current = codes "late " ++ decimal claim ++ codes " " ++ decimal of ++ codes " " ++ decimal current
+
 -- why the claim's result is not posted
 abbrev pub post_refused : ℕ → PostRefusal → List ℕ
 post_refused claim post.Closed = codes "refused closed"
 post_refused claim post.NoClaim = codes "refused claim " ++ decimal claim
 post_refused claim post.Answered = codes "refused answered " ++ decimal claim
 post_refused claim (post.Spent limit) = codes "refused spent " ++ decimal limit
-post_refused claim (post.Late of current) =
-    codes "late " ++ decimal claim ++ codes " " ++ decimal of ++ codes " " ++ decimal current
+post_refused claim (post.Late of current) = late_text claim of current
 
 -- why the run is not committed
 abbrev pub commit_refused : CommitRefusal → List ℕ
@@ -58,14 +65,26 @@ commit_refused (commit.Spent limit) = codes "refused spent " ++ decimal limit
 commit_refused (commit.ClaimsOut claim) = codes "refused claims-out " ++ decimal claim
 commit_refused commit.Unfinished = codes "refused unfinished"
 
--- the answer to a command, where they are of one kind
+-- the reply to a `take`
+abbrev pub take_text : List (List ℕ) → ℕ → ℕ → Result Call TakeRefusal → List ℕ
+take_text names epoch leaf (Ok call) = call_text names epoch call
+take_text names epoch leaf (Err refusal) = take_refused leaf refusal
+
+-- the reply to a `done`
+abbrev pub done_text : ℕ → Result (Unit {0}) PostRefusal → List ℕ
+done_text claim (Ok _) = codes "done " ++ decimal claim
+done_text claim (Err refusal) = post_refused claim refusal
+
+-- the reply to a `commit`
+abbrev pub commit_text : Result (Unit {0}) CommitRefusal → List ℕ
+commit_text (Ok _) = codes "committed"
+commit_text (Err refusal) = commit_refused refusal
+
+-- the reply to a command, where the answer is of its kind
 abbrev pub answer_text : List (List ℕ) → ℕ → Command → Answer → List ℕ
-answer_text names epoch (command.Take leaf) (Took (Ok call)) = call_text names epoch call
-answer_text names epoch (command.Take leaf) (Took (Err refusal)) = take_refused leaf refusal
-answer_text names epoch (command.Done claim) (Done (Ok _)) = codes "done " ++ decimal claim
-answer_text names epoch (command.Done claim) (Done (Err refusal)) = post_refused claim refusal
-answer_text names epoch command.Commit (Committed (Ok _)) = codes "committed"
-answer_text names epoch command.Commit (Committed (Err refusal)) = commit_refused refusal
+answer_text names epoch (command.Take leaf) (Took result) = take_text names epoch leaf result
+answer_text names epoch (command.Done claim) (Done result) = done_text claim result
+answer_text names epoch command.Commit (Committed result) = commit_text result
 answer_text names epoch other answer = []
 
 -- the line of the reply, with its line feed

@@ -3,9 +3,17 @@
 
 mod answer;
 mod refused;
+mod reply;
+mod report;
+mod source;
+#[cfg(test)]
+mod tests;
 mod verdict;
 
 pub use answer::Answer;
 pub use flow_record::Command;
-pub use refused::Refused;
+pub use refused::{Refused, print_refused};
+pub use reply::print_reply;
+pub use report::print_report;
+pub use source::cut;
 pub use verdict::Verdict;

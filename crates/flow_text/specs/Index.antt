@@ -13,6 +13,7 @@ use Rattle.flow_model.specs.declared.labels.Label.TheVariants.{Event}
 abbrev pub Index : Type 0
 Index = List ℕ → Option ℕ
 
+-- no name has one
 abbrev pub no_index : Index
 no_index name = None
 

@@ -19,12 +19,15 @@ pub data Symbol : Type 0 where
   -- what stands nowhere in this grammar: a number, another mark, another reserved word
   other : Symbol
 
+-- a blank, the end of a line, a tab or a carriage return
 abbrev pub is_space : ℕ → Bool
 is_space b = nat_eq b 32 || nat_eq b 10 || nat_eq b 9 || nat_eq b 13
 
+-- a to z, A to Z
 abbrev pub is_letter : ℕ → Bool
 is_letter b = (nat_le 97 b && nat_le b 122) || (nat_le 65 b && nat_le b 90)
 
+-- 0 to 9
 abbrev pub is_digit : ℕ → Bool
 is_digit b = nat_le 48 b && nat_le b 57
 
@@ -36,6 +39,7 @@ is_in_word b = is_letter b || is_digit b || nat_eq b 95
 abbrev pub is_in_line : ℕ → Bool
 is_in_line b = not (nat_eq b 10)
 
+-- the word is spelled so
 abbrev pub is : List ℕ → List ℕ → Bool
 is word text = pointwise nat_eq word text
 
@@ -57,6 +61,7 @@ is_of_constraints w =
 abbrev pub is_other_word : List ℕ → Bool
 is_other_word w = is_of_declarations w || is_of_goals w || is_of_constraints w
 
+-- a word is reserved, or a name
 abbrev pub symbol_of_word : List ℕ → Symbol
 symbol_of_word w =
     if is w (codes "event") then event_word
@@ -80,9 +85,11 @@ pub record Piece : Type 0 where
   pub symbol : Option Symbol
   pub more : ℕ
 
+-- bytes of which no symbol comes: white space, a comment
 abbrev pub gap : ℕ → Piece
 gap more = record { symbol = None; more = more }
 
+-- a symbol
 abbrev pub written : Symbol → ℕ → Piece
 written symbol more = record { symbol = Some symbol; more = more }
 
@@ -111,5 +118,6 @@ symbols_after (suc skipped) (b ∷ bs) = symbols_after skipped bs
 symbols_after zero (b ∷ bs) =
     option_and_then (λ piece. option_map (with_symbol piece.symbol) (symbols_after piece.more bs)) (piece_at b bs)
 
+-- the symbols of a text
 abbrev pub symbols_of : List ℕ → Option (List Symbol)
 symbols_of text = symbols_after zero text

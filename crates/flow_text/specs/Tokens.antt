@@ -6,6 +6,7 @@ use Rattle.flow_text.specs.declared.token.Piece.{Piece}
 use Rattle.flow_text.specs.Symbols as text
 use Rattle.flow_text.specs.Symbols.{Symbol, event_word, goal_word, name, star, bar, comma, semicolon, left, right, other}
 
+-- what a token stands for
 abbrev pub symbol : Token → Symbol
 symbol Event = event_word
 symbol Goal = goal_word
@@ -18,8 +19,10 @@ symbol Left = left
 symbol Right = right
 symbol Other = other
 
+-- each in turn
 abbrev pub symbols : List Token → List Symbol
 symbols tokens = map symbol tokens
 
+-- the code counts the same bytes
 abbrev pub piece : Piece → text.Piece
 piece p = record { symbol = option_map symbol p.token; more = p.more }

@@ -14,6 +14,7 @@ pub record Written : Type 0 where
   pub events : List (List ℕ)
   pub goal : Labelled
 
+-- what a workflow of the code says
 abbrev pub written : Workflow → Written
 written w = record { events = w.events.items; goal = w.tree }
 

@@ -1,0 +1,26 @@
+//! `flow` on the standard streams: `flow drive` reads a workflow and a session, and writes the replies
+//! and the report.
+#![tactic(auto)]
+
+use flow_cli::{Status, flow};
+use flow_io::{StdSink, StdSource};
+use std::process::ExitCode;
+use std::rt::Env;
+use std::{env, io};
+
+/// The words of the command line.
+fn words(rt: &(impl Env + AllocGlobal)) -> io::Result<Vec<String>> {
+    let mut words = Vec::new(rt.alloc());
+    for word in env::args(rt)? {
+        words.push(word)?;
+    }
+    Ok(words)
+}
+
+fn main(rt: HostRuntime) -> io::Result<ExitCode> {
+    let words = words(&rt)?;
+    let mut source = StdSource::new(rt.stdin());
+    let mut sink = StdSink::new(rt.stdout());
+    let status: Status = flow(rt.alloc(), &words, &mut source, &mut sink);
+    Ok(ExitCode::from(status.code()))
+}

@@ -1,0 +1,3 @@
+pub mod Serving
+pub mod CallWords
+pub mod Driving

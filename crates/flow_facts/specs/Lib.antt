@@ -1,0 +1,4 @@
+pub mod Atom
+pub mod Same
+pub mod Table
+pub mod Held

@@ -1,0 +1,84 @@
+ghost use Rattle.std.specs.Prelude.{◌≡◌, ℕ, ◌<◌, ◌==◌, length, IfOk, All, not, true, false, if◌then◌else◌};
+ghost use Rattle.std.specs.List.{list_any};
+ghost use Rattle.flow_facts.specs.Held.{is_held};
+
+use std::alloc::{AllocError, Global};
+use std::marker::Model;
+
+/// A set of facts, by their numbers below a count. Nothing but `new` takes memory.
+#[derive(Drop)]
+pub struct Database {
+    flags: Vec<bool>,
+}
+
+impl Model for Database {
+    ghost use Rattle.std.specs.Prelude.{List, Bool, length, ◌<◌, ◌^◌};
+
+    ghost Value = { List Bool };
+
+    ghost view = { λ d. d.flags.items };
+
+    ghost invariant = { λ d. length d.flags.items < 2 ^ 32 };
+}
+
+impl Database {
+    /// The set of the listed facts, of so many that there may be.
+    pub fn new(alloc: Global, count: u32, held: &[u32]) -> Result<Database, AllocError>
+        requires { All (λ n. n < count) held.now }
+        ensures count { IfOk result (λ facts. length facts ≡ count) }
+        ensures held { IfOk result (λ facts. (n : ℕ) → is_held facts n ≡ list_any (λ h. h == n) held.now) }
+    {
+        let mut flags = vec![in alloc; false; count as usize]?;
+        for fact in held {
+            flags[*fact as usize] = true;
+        }
+        Ok(Database { flags })
+    }
+
+    /// How many facts there may be.
+    pub fn count(&self) -> u32
+        ensures { result ≡ length self.now }
+    {
+        self.flags.len() as u32
+    }
+
+    pub fn has(&self, fact: u32) -> bool
+        requires { fact < length self.now }
+        ensures { result ≡ is_held self.now fact }
+    {
+        self.flags[fact as usize]
+    }
+
+    /// Puts the fact in, and says whether it was not there.
+    pub fn insert(&mut self, fact: u32) -> bool
+        requires { fact < length self.old }
+        ensures changed { result ≡ not (is_held self.old fact) }
+        ensures held { (n : ℕ) → is_held self.new n ≡ (if n == fact then true else is_held self.old n) }
+        ensures count { length self.new ≡ length self.old }
+    {
+        let was_held = self.has(fact);
+        self.flags[fact as usize] = true;
+        !was_held
+    }
+
+    /// Takes the fact out, and says whether it was there.
+    pub fn delete(&mut self, fact: u32) -> bool
+        requires { fact < length self.old }
+        ensures changed { result ≡ is_held self.old fact }
+        ensures held { (n : ℕ) → is_held self.new n ≡ (if n == fact then false else is_held self.old n) }
+        ensures count { length self.new ≡ length self.old }
+    {
+        let found = self.has(fact);
+        self.flags[fact as usize] = false;
+        found
+    }
+
+    /// Puts the fact in or takes it out, as it was before.
+    pub fn restore(&mut self, fact: u32, held: bool)
+        requires { fact < length self.old }
+        ensures held { (n : ℕ) → is_held self.new n ≡ (if n == fact then held else is_held self.old n) }
+        ensures count { length self.new ≡ length self.old }
+    {
+        self.flags[fact as usize] = held;
+    }
+}

@@ -1,0 +1,28 @@
+-- The leaves that may be done in one execution with a leaf, to its right.
+use Rattle.std.specs.Prelude.{ℕ, Bool, ◌==◌, if◌then◌else◌, Option, Some, None}
+use Rattle.std.specs.List.{find}
+use Rattle.flow_model.specs.Process.{Process, Empty, Task, Sequence, Parallel, Choice, Isolated, leaves}
+use Rattle.flow_goal.specs.declared.partners.Partner.{Partner}
+use Rattle.flow_goal.specs.declared.partners.Partner.TheVariants.{Outside, Alone, With}
+
+-- what two parts that both stay have for a leaf, by what each has, and the first leaf of the second
+abbrev pub in_both : Partner → Partner → Option ℕ → Partner
+in_both Outside right found = right
+in_both Alone right None = Alone
+in_both Alone right (Some n) = With n
+in_both (With n) right found = With n
+
+-- what a choice has for a leaf
+abbrev pub in_either : Partner → Partner → Partner
+in_either Outside right = right
+in_either Alone right = Alone
+in_either (With n) right = With n
+
+-- the first leaf that passes the test and may be done with x, to the right of it
+abbrev pub partner_in : (ℕ → Bool) → Process → ℕ → Partner
+partner_in passes Empty x = Outside
+partner_in passes (Task n) x = if n == x then Alone else Outside
+partner_in passes (Sequence a b) x = in_both (partner_in passes a x) (partner_in passes b x) (find passes (leaves b))
+partner_in passes (Parallel a b) x = in_both (partner_in passes a x) (partner_in passes b x) (find passes (leaves b))
+partner_in passes (Choice a b) x = in_either (partner_in passes a x) (partner_in passes b x)
+partner_in passes (Isolated a) x = partner_in passes a x
