@@ -1,7 +1,7 @@
 -- What the tests of a core mean, by what its fields keep.
 use Rattle.std.proofs.Common.{◌≡◌, ◌≤◌, ◌<◌, ◌+◌, ◌-◌, ◌⊎◌, ℕ, map, get_or, IsSomeAnd, zero, suc, Bool, true, false, not, cond, nat_eq, Some, None, slice_get, inr, List, [], ◌∷◌, length, IsTrue, IsSome, ◌↔◌, inl, refl, sym, ap, ◌∙◌, subst, arith}
 use Rattle.flow_model.specs.declared.history.Entry.{Entry}
-use Rattle.flow_model.specs.Lists.{◌∈◌, Each, numbers_from}
+use Rattle.flow_model.specs.Lists.{◌∈◌, Each}
 use Rattle.flow_model.specs.Process.{Process, Empty, Task, Sequence, Parallel, Choice, Isolated, leaves}
 use Rattle.flow_model.specs.Schema.{IsEventLeaf, IsGood}
 use Rattle.flow_model.specs.declared.labels.Label.{Label}
@@ -19,7 +19,7 @@ use Rattle.flow_core.specs.Claims.{IsLeastOut, IsAnswered, IsOut}
 use Rattle.std.proofs.lemmas.Option.{slice_get_within, slice_get_read}
 use Rattle.flow_core.specs.Kept.{IsKept, AreFlags}
 use Rattle.flow_core.proofs.Enabled.{ready_of_next, next_of_ready, can_take, ready_to_take, good_when_finished}
-use Rattle.flow_core.proofs.GivenClaims.{Numbered, given_at, not_given, numbered, claim-given, claim-not-given, current-given, not-current, out_leaves, current-leaves, is_out-iff}
+use Rattle.flow_core.proofs.GivenClaims.{given_at, not_given, numbered, claim-given, claim-not-given, current-given, not-current, out_leaves, current-leaves, is_out-iff}
 use Rattle.flow_core.proofs.Steps.{below_row}
 use Rattle.flow_laws.proofs.ListLemmas2.{mem_append_left, mem_append_right, each_parts, of_find, some_same}
 use Rattle.flow_laws.proofs.ClaimLemmas.{some_claim}

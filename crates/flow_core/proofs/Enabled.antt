@@ -1,24 +1,23 @@
 -- When a leaf of a plain goal can be taken, and when the journal is whole.
-use Rattle.std.proofs.Common.{◌≡◌, ◌≢◌, ℕ, zero, suc, Bool, true, false, List, [], ◌∷◌, ◌++◌, length, map, Option, Some, None, IsSome, slice_get, ◌⊎◌, inl, inr, ◌↔◌, IsTrue, refl, sym, ap, ◌∙◌, subst}
+use Rattle.std.proofs.Common.{◌≡◌, ◌≢◌, ℕ, zero, suc, Bool, List, [], ◌∷◌, ◌++◌, length, Some, slice_get, inl, inr, ◌↔◌, IsTrue, refl, sym, ap, subst}
 use Rattle.flow_model.specs.declared.labels.Label.{Label}
 use Rattle.flow_model.specs.declared.labels.Label.TheVariants.{Event, Test, Absent, Ins, Del}
-use Rattle.flow_model.specs.Lists.{◌∈◌, Each, AreDistinct, IsOrderOf}
+use Rattle.flow_model.specs.Lists.{◌∈◌, Each, AreDistinct}
 use Rattle.flow_model.specs.Process.{Process, leaves, IsNumbered}
 use Rattle.flow_model.specs.Facts.{event_in, event_at}
-use Rattle.flow_model.specs.Schema.{Schema, IsEventLeaf, IsGood, HasUniqueEvents}
-use Rattle.flow_model.specs.Resolution.{ChoiceOption, options, options_in, resolutions}
-use Rattle.flow_model.specs.Ready.{InSequence, IsReady, IsReadyRun, DoneOr}
-use Rattle.flow_model.specs.Run.{RunState, current_leaves, CanTake, MayFollow}
+use Rattle.flow_model.specs.Schema.{IsEventLeaf, IsGood}
+use Rattle.flow_model.specs.Resolution.{ChoiceOption, options, options_in}
+use Rattle.flow_model.specs.Ready.{IsReady, IsReadyRun, DoneOr}
+use Rattle.flow_model.specs.Run.{RunState, current_leaves, CanTake}
 use Rattle.flow_goal.specs.Labelled.{Labelled}
-use Rattle.flow_goal.specs.Plain.{IsPlain, IsEvent, IsPlainTree}
-use Rattle.flow_core.specs.Look.{is_done, is_finished, is_next}
+use Rattle.flow_goal.specs.Plain.{IsPlain, IsPlainTree}
+use Rattle.flow_core.specs.Look.{is_finished, is_next}
 use Rattle.flow_core.specs.View.{schema_of}
 use Rattle.flow_core.specs.Kept.{IsAhead, AreFlags}
 use Rattle.flow_core.proofs.PlainGoals.{plain_free, plain_resolutions, plain_trace, plain_ready, MayComeNext, next_sound, next_complete, finished_leaf, leaves_finished}
 use Rattle.flow_laws.specs.Words.{IsWellFormed, IsOrdered, EachTwo}
-use Rattle.flow_laws.specs.Events.{AreTogether}
 use Rattle.flow_laws.specs.Orders.{AreSideBySide, IsAlive, OrdersMayFollow}
-use Rattle.flow_laws.proofs.ListLemmas2.{some_same, distinct-numbers_from, distinct_parts, distinct-append, each-append, each_parts, each_member, each_from_members, mem_append_left, mem_append_right, mem-append}
+use Rattle.flow_laws.proofs.ListLemmas2.{some_same, distinct-numbers_from, distinct-append, each-append, each_member}
 use Rattle.flow_laws.proofs.FollowingLemmas.{orders_may_follow}
 use Rattle.flow_laws.proofs.ReadyRuns.{complete_runs_are_traces}
 use Rattle.flow_laws.proofs.EventsLemmas.{together_differ, unique_events}

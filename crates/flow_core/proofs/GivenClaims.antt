@@ -1,14 +1,12 @@
 -- The claims of a state, as the code keeps them.
-use Rattle.std.proofs.Common.{◌≡◌, ◌≢◌, ◌≤◌, ◌<◌, ◌+◌, ℕ, zero, suc, Bool, true, false, ◌&&◌, ◌||◌, not, cond, nat_eq, nat_le, nat_lt, List, [], ◌∷◌, ◌++◌, length, map, set, Option, Some, None, slice_get, ◌⊎◌, inl, inr, ◌↔◌, IsTrue, IsSomeAnd, refl, sym, ap, ◌∙◌, subst, arith}
-use Rattle.std.specs.List.{filter, find, list_any, position_from, fold}
+use Rattle.std.proofs.Common.{◌≡◌, ◌≤◌, ◌<◌, ◌+◌, ℕ, zero, suc, Bool, true, false, ◌&&◌, ◌||◌, not, cond, nat_eq, List, [], ◌∷◌, ◌++◌, length, map, set, Some, None, slice_get, ◌⊎◌, inl, inr, ◌↔◌, IsTrue, IsSomeAnd, refl, sym, ap, ◌∙◌, subst, arith}
+use Rattle.std.specs.List.{filter, find}
 use Rattle.std.proofs.lemmas.Option.{slice_get_cases}
-use Rattle.std.proofs.lemmas.Bool.{eqb-true, eq-eqb, ne_eqb, le-leb}
-use Rattle.flow_model.specs.declared.labels.Label.{Label}
-use Rattle.flow_model.specs.Lists.{◌∈◌, Each, AreDistinct}
-use Rattle.flow_model.specs.Facts.{event_at, is_event}
-use Rattle.flow_model.specs.Run.{Claim, RunState, is_current, current_claims, current_leaves, claim_at, IsCurrent, answer}
+use Rattle.std.proofs.lemmas.Bool.{eqb-true, eq-eqb, ne_eqb}
+use Rattle.flow_model.specs.Lists.{◌∈◌}
+use Rattle.flow_model.specs.Run.{Claim, RunState, is_current, current_leaves, claim_at, IsCurrent, answer}
 use Rattle.flow_core.specs.declared.given.Given.{Given}
-use Rattle.flow_core.specs.Given.{claim_of, claims_from, is_out, first_out, on_event}
+use Rattle.flow_core.specs.Given.{claim_of, claims_from, is_out}
 
 pub length-claims_from : (k : ℕ) (gs : List Given) → length (claims_from k gs) ≡ length gs
 length-claims_from k [] = refl

@@ -1,12 +1,12 @@
 -- The history of a core is lawful.
-use Rattle.std.proofs.Common.{◌≡◌, ◌<◌, ◌+◌, ◌⊎◌, inl, inr, ℕ, Bool, true, false, List, [], ◌∷◌, refl, sym, ◌∙◌, subst, append-nil}
+use Rattle.std.proofs.Common.{◌≡◌, ◌+◌, ℕ, Bool, true, false, List, [], ◌∷◌, sym, ◌∙◌, append-nil}
 use Rattle.flow_model.specs.declared.history.Entry.{Entry}
 use Rattle.flow_model.specs.declared.history.Step.{Step}
 use Rattle.flow_model.specs.declared.history.Step.TheVariants.{Took, Done, Failed, Late, Did, Rewound, Committed}
 use Rattle.flow_model.specs.declared.history.FailEffect.TheVariants.{Switched, Kept}
 use Rattle.flow_model.specs.Process.{leaves}
 use Rattle.flow_model.specs.Schema.{Schema, IsGood}
-use Rattle.flow_model.specs.Run.{RunState, first_state, next_state, state_after, state_of, IsAllowed, IsLegalFrom}
+use Rattle.flow_model.specs.Run.{RunState, first_state, next_state, state_after, IsAllowed, IsLegalFrom}
 use Rattle.flow_goal.specs.Labelled.{Labelled}
 use Rattle.flow_core.specs.declared.given.Given.{Given}
 use Rattle.flow_core.specs.View.{schema_of}

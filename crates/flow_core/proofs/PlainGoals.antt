@@ -1,5 +1,5 @@
 -- Goals of leaves in series and beside one another: what may come next in them, and that they can be executed.
-use Rattle.std.proofs.Common.{◌≡◌, ◌≢◌, ℕ, Bool, true, false, ◌&&◌, ◌||◌, not, nat_eq, List, [], ◌∷◌, ◌++◌, map, ◌⊎◌, inl, inr, ◌↔◌, IsTrue, refl, sym, ap, ◌∙◌, subst}
+use Rattle.std.proofs.Common.{◌≡◌, ℕ, Bool, true, false, ◌&&◌, ◌||◌, not, nat_eq, List, [], ◌∷◌, ◌++◌, ◌⊎◌, inl, inr, IsTrue, refl, sym, ap, ◌∙◌, subst}
 use Rattle.std.proofs.lemmas.Bool.{eqb-true, eq-eqb}
 use Rattle.flow_model.specs.Lists.{◌∈◌, AreDistinct, joined}
 use Rattle.flow_model.specs.Process.{Process, Empty, Task, Sequence, Parallel, Choice, Isolated, leaves, IsChoiceFree}
@@ -8,8 +8,8 @@ use Rattle.flow_model.specs.Ready.{InSequence, isolated_parts, IsReady}
 use Rattle.flow_model.specs.Resolution.{resolutions}
 use Rattle.flow_goal.specs.Plain.{IsPlain}
 use Rattle.flow_core.specs.Look.{is_done, is_finished, is_next}
-use Rattle.flow_laws.proofs.ListLemmas2.{mem_append_left, mem_append_right, mem-append, distinct_parts, joined-append}
-use Rattle.flow_laws.proofs.ReadyRemains.{sequence_first, sequence_second}
+use Rattle.flow_laws.proofs.ListLemmas2.{mem_append_left, mem_append_right, mem-append, distinct_parts}
+use Rattle.flow_laws.proofs.ReadyRemains.{sequence_second}
 
 pub plain_free : (q : Process) → IsPlain q → IsChoiceFree q
 plain_free Empty p = absurd p

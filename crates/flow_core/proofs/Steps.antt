@@ -1,5 +1,5 @@
 -- Each entry that a core makes keeps what its fields keep.
-use Rattle.std.proofs.Common.{◌≡◌, ◌≢◌, ◌≤◌, ◌<◌, ◌+◌, ℕ, zero, suc, Bool, true, false, List, [], ◌∷◌, ◌++◌, length, set, Option, Some, None, slice_get, ◌⊎◌, inl, inr, ◌↔◌, IsTrue, nat_eq, nat_le, cond, ◌&&◌, refl, sym, ap, ◌∙◌, subst, arith, length-append}
+use Rattle.std.proofs.Common.{◌≡◌, ◌≢◌, ◌≤◌, ◌<◌, ◌+◌, ℕ, zero, suc, Bool, true, false, List, [], ◌∷◌, ◌++◌, length, set, Option, Some, None, slice_get, inl, inr, nat_eq, nat_le, cond, ◌&&◌, refl, sym, ap, ◌∙◌, subst, arith, length-append}
 use Rattle.std.proofs.Math.ListN.{length-set}
 use Rattle.flow_model.specs.declared.history.Entry.{Entry}
 use Rattle.flow_model.specs.declared.history.Step.{Step}
@@ -10,10 +10,9 @@ use Rattle.flow_model.specs.Facts.{event_at, is_event}
 use Rattle.flow_model.specs.Verdict.{call_of, event_of_claim, attempts}
 use Rattle.flow_model.specs.declared.history.Step.TheVariants.{Took, Done, Committed}
 use Rattle.flow_model.specs.Lists.{◌∈◌, Each, AreDistinct, numbers_from}
-use Rattle.flow_model.specs.Process.{leaves, IsNumbered}
 use Rattle.flow_model.specs.Schema.{Schema, IsGood}
-use Rattle.flow_model.specs.Ready.{IsReady, IsReadyRun, DoneOr}
-use Rattle.flow_model.specs.Run.{Claim, RunState, first_state, next_state, state_after, state_of, current_leaves, current_claims, claim_at, leaf_of_claim, is_current, IsCurrent, IsAllowed, IsLegalFrom, IsLegal, CanTake, answer}
+use Rattle.flow_model.specs.Ready.{IsReady, IsReadyRun}
+use Rattle.flow_model.specs.Run.{Claim, RunState, first_state, next_state, state_after, state_of, current_leaves, current_claims, claim_at, leaf_of_claim, IsCurrent, IsAllowed, IsLegalFrom, IsLegal, CanTake, answer}
 use Rattle.flow_goal.specs.Labelled.{Labelled}
 use Rattle.flow_goal.specs.Plain.{IsPlainTree}
 use Rattle.flow_core.specs.declared.given.Given.{Given}
@@ -22,7 +21,7 @@ use Rattle.flow_core.specs.Look.{is_done}
 use Rattle.flow_core.specs.View.{schema_of}
 use Rattle.flow_core.specs.Kept.{IsAhead, AreFlags, IsKept}
 use Rattle.flow_core.proofs.PlainGoals.{plain_ready}
-use Rattle.flow_core.proofs.GivenClaims.{Numbered, given_at, not_given, numbered, current-given, not-current, length-claims_from, claims_from-append, find-claims_from, answered, answer-claims_from, out_leaves, current-leaves, out_leaves-append, LeavesOut, out_leaves-answered}
+use Rattle.flow_core.proofs.GivenClaims.{given_at, not_given, numbered, current-given, not-current, length-claims_from, claims_from-append, find-claims_from, answered, answer-claims_from, out_leaves, current-leaves, out_leaves-append, LeavesOut, out_leaves-answered}
 use Rattle.flow_laws.proofs.ListLemmas2.{mem_append_left, mem_append_right, mem-append, each-append, each_parts, distinct_parts, distinct-append, equal_or_not}
 use Rattle.flow_laws.proofs.FollowingLemmas.{run_after_journal}
 use Rattle.flow_laws.proofs.ClaimLemmas.{leaf_of_claim_is}

@@ -1,5 +1,5 @@
 -- The claims that were given, as the code keeps them: all of the first epoch.
-use Rattle.std.specs.Prelude.{ℕ, ◌+◌, Bool, true, false, not, ◌&&◌, ◌==◌, List, [], ◌∷◌, Option, Some, None, slice_get}
+use Rattle.std.specs.Prelude.{ℕ, ◌+◌, Bool, not, ◌&&◌, ◌==◌, List, [], ◌∷◌, Option}
 use Rattle.std.specs.List.{list_any, position_from, count_by}
 use Rattle.flow_model.specs.declared.labels.Label.{Label}
 use Rattle.flow_model.specs.Facts.{event_at, is_event}

@@ -1,5 +1,5 @@
 -- What the fields of a core keep: the history is legal, and all else is its state.
-use Rattle.std.specs.Prelude.{◌≡◌, ◌<◌, ◌≤◌, ◌↔◌, ℕ, Bool, IsTrue, List, [], length}
+use Rattle.std.specs.Prelude.{◌≡◌, ◌≤◌, ◌↔◌, ℕ, Bool, IsTrue, List, [], length}
 use Rattle.flow_model.specs.declared.history.Entry.{Entry}
 use Rattle.flow_model.specs.Lists.{◌∈◌, Each, AreDistinct}
 use Rattle.flow_model.specs.Process.{IsNumbered}

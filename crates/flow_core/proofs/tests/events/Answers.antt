@@ -1,9 +1,8 @@
-use Rattle.std.proofs.Common.{◌≡◌, ◌∷◌, ◌++◌, [], ℕ, length, ap, sym, subst, ◌∙◌, arith}
-use Rattle.flow_model.specs.declared.labels.Label.{Label}
+use Rattle.std.proofs.Common.{◌≡◌, ◌∷◌, ◌++◌, [], length, ap, sym, subst, ◌∙◌, arith}
 use Rattle.flow_model.specs.declared.labels.Label.TheVariants.{Event}
 use Rattle.flow_model.specs.Lists.{Each, AreDistinct}
 use Rattle.flow_goal.specs.Plain.{IsEvent}
-use Rattle.flow_core.proofs.EventLabels.{events_from, one_more, as_many, all_events, all_apart}
+use Rattle.flow_core.proofs.EventLabels.{one_more, as_many, all_events, all_apart}
 use Rattle.flow_core.proofs.tests.events.Goals as goal
 
 pub loop-event-preserved : goal.loop-event-preserved

@@ -1,8 +1,7 @@
-use Rattle.std.proofs.Common.{◌≡◌, ℕ, Bool, true, false, not, IsTrue, subst, sym, ap, ◌∙◌, length}
+use Rattle.std.proofs.Common.{◌≡◌, subst, sym, ap, ◌∙◌}
 use Rattle.flow_model.specs.Schema.{IsGood}
-use Rattle.flow_model.specs.Run.{state_of}
 use Rattle.flow_core.specs.Look.{AreBelow, is_finished}
-use Rattle.flow_core.specs.View.{Progress, now, schema_of}
+use Rattle.flow_core.specs.View.{Progress, now}
 use Rattle.flow_core.proofs.Answering.{flag_each, complete}
 use Rattle.flow_core.proofs.engine.Core.is_complete.Goals as goal
 

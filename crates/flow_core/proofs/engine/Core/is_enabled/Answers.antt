@@ -1,6 +1,6 @@
-use Rattle.std.proofs.Common.{◌≡◌, ℕ, Bool, true, false, not, IsTrue, subst, sym, ap, ◌∙◌, length}
+use Rattle.std.proofs.Common.{◌≡◌, true, false, not, IsTrue, subst, sym, ap, ◌∙◌}
 use Rattle.flow_model.specs.Schema.{IsEventLeaf}
-use Rattle.flow_model.specs.Run.{state_of, CanTake}
+use Rattle.flow_model.specs.Run.{CanTake}
 use Rattle.flow_core.specs.Given.{is_out}
 use Rattle.flow_core.specs.Look.{AreBelow, is_next}
 use Rattle.flow_core.specs.View.{Progress, now, schema_of}

@@ -1,5 +1,5 @@
-use Rattle.std.proofs.Common.{◌≡◌, ◌<◌, ◌≤◌, ◌+◌, ℕ, List, Bool, [], ◌∷◌, ◌++◌, length, set, Some, slice_get, get_or, true, false, subst, sym, ap, ◌∙◌, refl, arith}
-use Rattle.std.specs.Vec.{vec_len, vec_capacity, with_item}
+use Rattle.std.proofs.Common.{◌≡◌, ◌<◌, ◌≤◌, ◌+◌, ℕ, List, [], ◌∷◌, ◌++◌, length, set, Some, slice_get, get_or, true, false, subst, sym, ap, ◌∙◌, arith}
+use Rattle.std.specs.Vec.{vec_len, vec_capacity}
 use Rattle.std.proofs.lemmas.Option.{get_or_from_slice_get}
 use Rattle.flow_model.specs.declared.history.Entry.{Entry}
 use Rattle.flow_model.specs.declared.history.Step.TheVariants.{Done}

@@ -1,4 +1,4 @@
-use Rattle.std.proofs.Common.{◌≡◌, ◌≤◌, ◌<◌, ◌-◌, ◌+◌, ◌⊎◌, inl, inr, ℕ, None, length, subst, sym, ◌∙◌, arith}
+use Rattle.std.proofs.Common.{◌≡◌, ◌≤◌, ◌<◌, ◌⊎◌, inl, inr, ℕ, None, length, subst, arith}
 use Rattle.std.specs.Vec.{vec_len}
 use Rattle.flow_model.specs.Run.{state_of, claim_at, IsCurrent}
 use Rattle.flow_core.specs.declared.engine.Core.TheInside.{Inside}
