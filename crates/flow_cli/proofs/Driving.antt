@@ -67,5 +67,5 @@ pub drives-next : (names : List (List ℕ)) (old middle new : Progress) (session
     Drives names old (take i session) text middle → RepliesTo names middle (get_or session i d) line new → both ≡ text ++ line → Drives names old (take (i + 1) session) both new
 drives-next names old middle new session i d text line both within driven reply is =
     subst (λ (t : List ℕ). Drives names old (take (i + 1) session) t new) (sym is)
-      (subst (λ (front : List Command). Drives names old front (text ++ line) new) (sym (front-more session i d within))
-        (drives-more names old middle new (take i session) (get_or session i d) text line driven reply))
+    (subst (λ (front : List Command). Drives names old front (text ++ line) new) (sym (front-more session i d within))
+    (drives-more names old middle new (take i session) (get_or session i d) text line driven reply))

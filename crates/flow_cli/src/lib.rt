@@ -5,6 +5,8 @@ mod call;
 mod output;
 mod session;
 mod status;
+#[cfg(test)]
+mod tests;
 mod words;
 
 pub use call::flow;

@@ -14,6 +14,6 @@ print_report-requires-clause-named c =
     let labels : w.labels ≡ c.args.workflow.tree.labels = ap (λ (v : Schema). v.labels) same in
     let written : HasNames c.args.workflow.events.items c.args.workflow.tree.labels = below-labels _ c.args.workflow.tree.labels c.requires.simple.declared in
     let named : HasNames c.deref-2.result.now w.labels =
-        subst (λ (ls : List Label). HasNames c.deref-2.result.now ls) (sym labels)
-          (subst (λ (names : List (List ℕ)). HasNames names c.args.workflow.tree.labels) (sym c.deref-2.ensures.value) written) in
+    subst (λ (ls : List Label). HasNames c.deref-2.result.now ls) (sym labels)
+    (subst (λ (names : List (List ℕ)). HasNames names c.args.workflow.tree.labels) (sym c.deref-2.ensures.value) written) in
     are_named c.deref-2.result.now w c.journal.result.now named (subst (λ (v : Schema). Each (IsEventLeaf v) c.journal.result.now) (sym c.tree.ensures) c.journal.ensures.events)
