@@ -1,12 +1,14 @@
 -- The tests of constraints tell what they are to tell.
-use Rattle.std.proofs.Common.{◌≡◌, ℕ, Bool, true, false, not, ◌==◌, ◌&&◌, ◌||◌, IsTrue, List, [], ◌∷◌, map, refl, sym, ap, ◌∙◌, ◌⊎◌, ◌↔◌, inl, inr, true≢false}
+use Rattle.std.proofs.Common.{◌≡◌, ℕ, Bool, true, false, not, ◌==◌, ◌&&◌, ◌||◌, IsTrue, List, [], ◌∷◌, map, Vec, Global, refl, sym, ap, ◌∙◌, ◌⊎◌, ◌↔◌, inl, inr, true≢false}
 use Rattle.std.specs.List.{list_all, list_any}
 use Rattle.std.proofs.lemmas.Bool.{eqb-true, eq-eqb}
 use Rattle.std.proofs.lemmas.List.Folds.{list_all-map}
 use Rattle.flow_model.specs.Lists.{◌∈◌, StandsBefore}
 use Rattle.flow_model.specs.Constraint.{Constraint, Always, Impossible, Must, Never, Order, Not, And, Or, HappenInOrder, Meets, all_of}
 use Rattle.flow_laws.proofs.GoodTraces.{conjoined}
+use Rattle.flow_rules.specs.declared.rule.Rule as rule
 use Rattle.flow_rules.specs.declared.rule.Rule.{Rule}
+use Rattle.flow_rules.proofs.RuleViews.{rule_of-And, rule_of-Or}
 use Rattle.flow_rules.specs.Rule.{any_of, rule_of, rules_of}
 use Rattle.flow_plain.specs.Tests.{is_member, stands_before, happen_in_order, is_met}
 
@@ -46,6 +48,16 @@ is_met-disjoined c (rule ∷ rules) events =
 pub is_met-any_of : (rules : List Rule) (events : List ℕ) →
     is_met (any_of (rules_of rules)) events ≡ list_any (λ rule. is_met (rule_of rule) events) rules
 is_met-any_of rules events = is_met-disjoined Impossible rules events
+
+pub met_all : (r : Rule) (parts : Vec Rule Global) (events : List ℕ) → r ≡ rule.And parts →
+    is_met (rule_of r) events ≡ list_all (λ part. is_met (rule_of part) events) parts.items
+met_all r parts events e =
+    ap (λ part. is_met (rule_of part) events) e ∙ ap (λ c. is_met c events) (rule_of-And parts) ∙ is_met-all_of parts.items events
+
+pub met_any : (r : Rule) (parts : Vec Rule Global) (events : List ℕ) → r ≡ rule.Or parts →
+    is_met (rule_of r) events ≡ list_any (λ part. is_met (rule_of part) events) parts.items
+met_any r parts events e =
+    ap (λ part. is_met (rule_of part) events) e ∙ ap (λ c. is_met c events) (rule_of-Or parts) ∙ is_met-any_of parts.items events
 
 -- tests of two facts
 
