@@ -1,1 +1,4 @@
+pub mod ExecutionsLemmas
+pub mod ListsLemmas
 pub mod MeetsLemmas
+pub mod ShufflesLemmas

@@ -1,5 +1,5 @@
 -- The tests of constraints tell what they are to tell.
-use Rattle.std.proofs.Common.{◌≡◌, ℕ, Bool, true, false, not, ◌==◌, ◌&&◌, ◌||◌, IsTrue, List, [], ◌∷◌, map, Vec, Global, refl, sym, ap, ◌∙◌, ◌⊎◌, ◌↔◌, inl, inr, true≢false}
+use Rattle.std.proofs.Common.{◌≡◌, ℕ, Bool, true, false, not, ◌==◌, ◌&&◌, ◌||◌, IsTrue, List, [], ◌∷◌, Vec, Global, refl, sym, ap, ◌∙◌, ◌⊎◌, ◌↔◌, inl, inr, true≢false}
 use Rattle.std.specs.List.{list_all, list_any}
 use Rattle.std.proofs.lemmas.Bool.{eqb-true, eq-eqb}
 use Rattle.std.proofs.lemmas.List.Folds.{list_all-map}

@@ -2,6 +2,10 @@
 //! compared with.
 #![tactic(auto)]
 
+mod executions;
 mod judging;
+mod lists;
+mod shuffles;
 
+pub use executions::traces;
 pub use judging::meets;

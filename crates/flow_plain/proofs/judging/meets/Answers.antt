@@ -7,4 +7,4 @@ use Rattle.flow_plain.proofs.judging.meets.Goals as goal
 pub returns : goal.returns
 returns c =
     subst (λ b. IsTrue b ↔ Meets (rule_of c.args.rule.now) c.args.events.now) (sym c.holds.ensures)
-        (met_tells (rule_of c.args.rule.now) c.args.events.now)
+    (met_tells (rule_of c.args.rule.now) c.args.events.now)
