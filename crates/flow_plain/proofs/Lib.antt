@@ -1,4 +1,5 @@
 pub mod ExecutionsLemmas
+pub mod GoodLemmas
 pub mod ListsLemmas
 pub mod MeetsLemmas
 pub mod ShufflesLemmas

@@ -33,3 +33,10 @@ pub joined_each_step : {V A B C : Type 0} (view : V → A) (f : A → B → List
     new ≡ old ++ joined (map (f w) ys) → new ≡ joined (each_with_each f (map view (take (i + 1) vecs)) ys)
 joined_each_step view f vecs i v ys w old new h e same so_far added =
     added ∙ (λ k. so_far k ++ joined (map (f (same k)) ys)) ∙ sym (joined_each_more view f vecs i v ys h e)
+
+pub each_step : {V A B C : Type 0} (view : V → A) (f : A → B → C) (vecs : List V) (i : ℕ) (v : V) (ys : List B) (old new : List C) →
+    i < length vecs → v ≡ get_or vecs i v → old ≡ each_with_each f (map view (take i vecs)) ys →
+    new ≡ old ++ map (f (view v)) ys → new ≡ each_with_each f (map view (take (i + 1) vecs)) ys
+each_step view f vecs i v ys old new h e so_far added =
+    added ∙ ap (λ w. w ++ map (f (view v)) ys) so_far
+    ∙ sym (ap (λ w. each_with_each f w ys) (viewed_more view vecs i v h e) ∙ each_push f (map view (take i vecs)) (view v) ys)

@@ -61,11 +61,11 @@ met_any r parts events e =
 
 -- tests of two facts
 
-and_tells : {P Q : Type 0} (a b : Bool) → IsTrue a ↔ P → IsTrue b ↔ Q → IsTrue (a && b) ↔ (P × Q)
+pub and_tells : {P Q : Type 0} (a b : Bool) → IsTrue a ↔ P → IsTrue b ↔ Q → IsTrue (a && b) ↔ (P × Q)
 and_tells true b p q = (λ h. (p.0 refl, q.0 h), λ h. q.1 h.1)
 and_tells false b p q = (λ h. absurd (true≢false (sym h)), λ h. absurd (true≢false (sym (p.1 h.0))))
 
-or_tells : {P Q : Type 0} (a b : Bool) → IsTrue a ↔ P → IsTrue b ↔ Q → IsTrue (a || b) ↔ (P ⊎ Q)
+pub or_tells : {P Q : Type 0} (a b : Bool) → IsTrue a ↔ P → IsTrue b ↔ Q → IsTrue (a || b) ↔ (P ⊎ Q)
 or_tells true b p q = (λ h. inl (p.0 refl), λ h. refl)
 or_tells {P} {Q} false b p q = (λ h. inr (q.0 h), back)
   where
@@ -73,7 +73,7 @@ or_tells {P} {Q} false b p q = (λ h. inr (q.0 h), back)
     back (inl h) = absurd (true≢false (sym (p.1 h)))
     back (inr h) = q.1 h
 
-not_tells : {P : Type 0} (a : Bool) → IsTrue a ↔ P → IsTrue (not a) ↔ (¬ P)
+pub not_tells : {P : Type 0} (a : Bool) → IsTrue a ↔ P → IsTrue (not a) ↔ (¬ P)
 not_tells true p = (λ h. absurd (true≢false (sym h)), λ h. absurd (h (p.0 refl)))
 not_tells false p = (λ h k. true≢false (sym (p.1 k)), λ h. refl)
 

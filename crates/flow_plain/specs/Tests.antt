@@ -1,10 +1,16 @@
 -- Tests that tell whether constraints are met.
-use Rattle.std.specs.Prelude.{ℕ, Bool, true, false, not, ◌==◌, ◌&&◌, ◌||◌, List, [], ◌∷◌}
+use Rattle.std.specs.Prelude.{ℕ, Bool, true, false, not, ◌==◌, ◌&&◌, ◌||◌, List, [], ◌∷◌, Vec}
+use Rattle.std.specs.declared.alloc.Global.{Global}
 use Rattle.std.specs.List.{list_any}
+use Rattle.std.specs.Str.{bytes_eq}
 use Rattle.flow_model.specs.Constraint.{Constraint, Always, Impossible, Must, Never, Order, Not, And, Or}
 
 abbrev pub is_member : ℕ → List ℕ → Bool
 is_member x xs = list_any (λ y. y == x) xs
+
+-- the list is one of the others
+abbrev pub is_listed : List ℕ → List (Vec ℕ Global) → Bool
+is_listed list all = list_any (λ (one : Vec ℕ Global). bytes_eq one.items list) all
 
 -- x stands in the list, and y somewhere after it
 abbrev pub stands_before : ℕ → ℕ → List ℕ → Bool

@@ -138,7 +138,7 @@ fn blocks(alloc: Global, goal: &Goal) -> Result<Vec<Vec<Vec<u32>>>, AllocError>
 }
 
 /// All executions of the goal in event order.
-fn all_traces(alloc: Global, goal: &Goal) -> Result<Vec<Vec<u32>>, AllocError>
+pub fn all_traces(alloc: Global, goal: &Goal) -> Result<Vec<Vec<u32>>, AllocError>
     ensures { IfOk result (λ all. lists all.items ≡ all_traces (process_of goal.now)) }
 {
     let mut all = Vec::new(alloc);

@@ -31,7 +31,7 @@ fn is_chain(chain: &[u32], events: &[u32]) -> bool
 
 /// Whether the events of an execution meet every rule.
 #[cycle(judge)]
-fn all_hold(rules: &[Rule], events: &[u32]) -> bool
+pub fn all_hold(rules: &[Rule], events: &[u32]) -> bool
     ensures { result ≡ list_all (λ rule. is_met (rule_of rule) events.now) rules.now }
 {
     for rule in rules {

@@ -3,9 +3,13 @@
 #![tactic(auto)]
 
 mod executions;
+mod good;
 mod judging;
 mod lists;
+mod resolving;
 mod shuffles;
 
 pub use executions::traces;
+pub use good::{good_traces, is_good};
 pub use judging::meets;
+pub use resolving::{leaves, resolutions};
