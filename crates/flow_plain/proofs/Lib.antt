@@ -2,4 +2,5 @@ pub mod ExecutionsLemmas
 pub mod GoodLemmas
 pub mod ListsLemmas
 pub mod MeetsLemmas
+pub mod RuleWaysLemmas
 pub mod ShufflesLemmas

@@ -30,7 +30,7 @@ is_met-all_of rules events =
     is_met-conjoined Always (rules_of rules) events ∙ list_all-map (λ d. is_met d events) rule_of rules
 
 -- the constraint, or one of the list joined to it from the left
-abbrev disjoined : Constraint → List Constraint → Constraint
+abbrev pub disjoined : Constraint → List Constraint → Constraint
 disjoined c [] = c
 disjoined c (d ∷ ds) = disjoined (Or c d) ds
 

@@ -8,8 +8,10 @@ mod judging;
 mod lists;
 mod resolving;
 mod shuffles;
+mod ways_of_rules;
 
 pub use executions::traces;
 pub use good::{good_traces, is_good};
 pub use judging::meets;
 pub use resolving::{leaves, resolutions};
+pub use ways_of_rules::ways;

@@ -1,0 +1,8 @@
+use Rattle.std.proofs.Common.{◌≡◌, ◌++◌, [], map, take, None, fold}
+use Rattle.flow_model.specs.Ways as model
+use Rattle.flow_plain.specs.RuleWays.{all_ways, any_ways, both_ways}
+use Rattle.flow_plain.specs.Views.{lists}
+use Rattle.flow_plain.proofs.ways_of_rules.add_both.Given as goal
+
+abbrev pub invariant-loop-other : goal.invariant-loop-other
+invariant-loop-other l = lists l.all.items ≡ lists l.initial.all.items ++ map (λ w. l.way ++ w) (lists (take l.other-index l.others))
