@@ -7,7 +7,7 @@ ghost use Rattle.flow_plain.specs.Tests.{happen_in_order, is_met, stands_before}
 use flow_rules::Rule;
 
 /// Whether the one stands in the list, and the other somewhere after it.
-fn is_before(one: u32, other: u32, list: &[u32]) -> bool
+pub fn is_before(one: u32, other: u32, list: &[u32]) -> bool
     ensures { result ≡ stands_before one other list.now }
 {
     match list {

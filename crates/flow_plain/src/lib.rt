@@ -6,12 +6,17 @@ mod executions;
 mod good;
 mod judging;
 mod lists;
+mod orders;
 mod resolving;
 mod shuffles;
+mod standing;
+mod taking;
 mod ways_of_rules;
 
 pub use executions::traces;
 pub use good::{good_traces, is_good};
 pub use judging::meets;
 pub use resolving::{leaves, resolutions};
+pub use standing::{Claim, Standing};
+pub use taking::may_take;
 pub use ways_of_rules::ways;
