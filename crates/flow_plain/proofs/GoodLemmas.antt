@@ -1,5 +1,5 @@
 -- What a list of good executions has, and the test of its members.
-use Rattle.std.proofs.Common.{◌≡◌, ℕ, Bool, true, false, IsTrue, List, [], ◌∷◌, cond, filter, map, refl, sym, ap, ◌∙◌, subst, inl, inr, ◌⊎◌, ◌↔◌, true≢false, Result, Ok, Err, Vec, Global, IfOk}
+use Rattle.std.proofs.Common.{◌≡◌, ℕ, Bool, true, false, IsTrue, List, [], ◌∷◌, cond, filter, refl, sym, ap, ◌∙◌, subst, inl, inr, ◌⊎◌, ◌↔◌, true≢false, Result, Ok, Err, Vec, Global, IfOk}
 use Rattle.std.specs.declared.alloc.AllocError.{AllocError}
 use Rattle.std.specs.List.{list_all}
 use Rattle.std.specs.Str.{bytes_eq}
@@ -7,7 +7,7 @@ use Rattle.std.proofs.lemmas.Slice.Eq.{bytes_eq-Decides}
 use Rattle.flow_model.specs.declared.labels.Note.{Note}
 use Rattle.flow_model.specs.Facts.{events_of}
 use Rattle.flow_model.specs.Lists.{◌∈◌, Each}
-use Rattle.flow_model.specs.Constraint.{Constraint, Meets}
+use Rattle.flow_model.specs.Constraint.{Meets}
 use Rattle.flow_model.specs.Schema.{IsGood}
 use Rattle.flow_goal.specs.Labelled.{Labelled}
 use Rattle.flow_rules.specs.declared.rule.Rule.{Rule}
@@ -38,6 +38,7 @@ mem-filter {A} p x (y ∷ ys) = step (p y) refl (mem-filter p x ys)
         there : (x ≡ y) ⊎ (x ∈ filter p ys) → ((x ≡ y) ⊎ (x ∈ ys)) × IsTrue (p x)
         there (inl s) = (inl s, ap p s ∙ e)
         there (inr m) = (inr (to m).0, (to m).1)
+
         back : ((x ≡ y) ⊎ (x ∈ ys)) × IsTrue (p x) → (x ≡ y) ⊎ (x ∈ filter p ys)
         back (inl s, h) = inl s
         back (inr m, h) = inr (from (m, h))

@@ -1,5 +1,5 @@
 -- The test of what may be taken tells it.
-use Rattle.std.proofs.Common.{◌≡◌, ℕ, Bool, true, false, not, ◌&&◌, ◌||◌, IsTrue, nat_eq, List, [], ◌∷◌, ◌++◌, map, filter, length, drop, refl, sym, ap, ◌∙◌, subst, inl, inr, ◌⊎◌, ◌↔◌, true≢false, Option, Some, None, IsSome, is_some, Result, Ok, Err, IfOk}
+use Rattle.std.proofs.Common.{◌≡◌, ℕ, Bool, not, ◌&&◌, IsTrue, nat_eq, List, [], ◌∷◌, ◌++◌, length, drop, refl, sym, subst, inl, inr, ◌⊎◌, ◌↔◌, true≢false, Option, Some, None, IsSome, is_some, Result, Ok, Err, IfOk}
 use Rattle.std.specs.declared.alloc.AllocError.{AllocError}
 use Rattle.std.specs.List.{list_all, list_any, starts_with}
 use Rattle.std.proofs.lemmas.Bool.Decides.{Decides-eqb}
@@ -10,9 +10,8 @@ use Rattle.flow_model.specs.Facts.{event_at, events_of}
 use Rattle.flow_model.specs.Lists.{◌∈◌, Each, Begins, AreInOrder, StandsBefore, IsOrderOf}
 use Rattle.flow_model.specs.Constraint.{Meets}
 use Rattle.flow_model.specs.Process.{Process}
-use Rattle.flow_model.specs.Trace.{Trace}
-use Rattle.flow_model.specs.Resolution.{ChoiceOption, OptionTrace, options, resolutions, ways_in}
-use Rattle.flow_model.specs.Run.{RunState, current_leaves, IsFree, MayFollow, CanTake}
+use Rattle.flow_model.specs.Resolution.{ChoiceOption, options, resolutions, ways_in}
+use Rattle.flow_model.specs.Run.{RunState, current_leaves, MayFollow, CanTake}
 use Rattle.flow_laws.proofs.ListLemmas2.{mem-map, of_map}
 use Rattle.flow_laws.proofs.ResolutionsLemmas.{goal_trace}
 use Rattle.flow_laws.proofs.OptionsLemmas.{option_parts, mem-options}
@@ -57,6 +56,7 @@ some_tells {A} p P h (x ∷ xs) =
     there : P x ⊎ ((y : A) × (y ∈ xs) × P y) → (y : A) × (y ∈ (x ∷ xs)) × P y
     there (inl k) = (x, inl refl, k)
     there (inr (y, m, k)) = (y, inr m, k)
+
     back : (y : A) × (y ∈ (x ∷ xs)) × P y → P x ⊎ ((y : A) × (y ∈ xs) × P y)
     back (y, inl e, k) = inl (subst P e k)
     back (y, inr m, k) = inr (y, m, k)
@@ -82,8 +82,8 @@ IsFreeToo labels rules s t = (Each (λ c. Meets c (events_of labels t)) (rules_o
 free_tells : (labels : List Label) (rules : List Rule) (s : RunState) (t : List ℕ) → IsTrue (is_free_trace labels rules s t) ↔ IsFreeToo labels rules s t
 free_tells labels rules s t =
     and_tells (is_lawful labels rules t && starts_with nat_eq t s.journal) (has_no_banned s.bans t)
-        (and_tells (is_lawful labels rules t) (starts_with nat_eq t s.journal) (lawful_tells rules (events_of labels t)) (begins_tells t s.journal))
-        (banned_tells s.bans t)
+    (and_tells (is_lawful labels rules t) (starts_with nat_eq t s.journal) (lawful_tells rules (events_of labels t)) (begins_tells t s.journal))
+    (banned_tells s.bans t)
 
 abbrev Follows : List (ℕ × ℕ) → List ℕ → List ℕ → Type 0
 Follows way front t = AreInOrder way t × Begins t front
@@ -122,6 +122,7 @@ every_order tree rules facts notes s members q way m = (there, back)
         let trace = (traces_listed q t).0 listed in
         let ((lawful, goes_on), unbanned) = (free_tells tree.labels rules s t).0 free in
         (t, (trace, ordered), ((goal_trace tree.process q m t trace, lawful), goes_on, unbanned), begun)
+
     back : MayFollowAll tree rules facts notes s members q way → EveryFollows (free_traces tree.labels rules s q) (fronts_of s.journal members) way
     back h front k =
         let (order, j, e) = of_map (λ o. s.journal ++ o) front (all_orders members) k in
@@ -134,31 +135,33 @@ resolution_tells : (tree : Labelled) (rules : List Rule) (facts : List ℕ) (not
     ↔ ((way : List (ℕ × ℕ)) × (way ∈ ways_in (schema_of tree rules facts notes) q) × EveryFollows (free_traces tree.labels rules s q) fronts way)
 resolution_tells tree rules facts notes s fronts q =
     some_tells (every_follows (free_traces tree.labels rules s q) fronts) (EveryFollows (free_traces tree.labels rules s q) fronts)
-        (every_follows_tells (free_traces tree.labels rules s q) fronts) (ways_in (schema_of tree rules facts notes) q)
+    (every_follows_tells (free_traces tree.labels rules s q) fronts) (ways_in (schema_of tree rules facts notes) q)
 
 abbrev SomeOption : Labelled → List Rule → List ℕ → List Note → RunState → List ℕ → Type 0
 SomeOption tree rules facts notes s members =
     (o : ChoiceOption) × (o ∈ options (schema_of tree rules facts notes)) ×
-        ((order : List ℕ) → IsOrderOf order members → MayFollow (schema_of tree rules facts notes) s o order)
+    ((order : List ℕ) → IsOrderOf order members → MayFollow (schema_of tree rules facts notes) s o order)
 
 abbrev SomeResolution : Labelled → List Rule → List ℕ → List Note → RunState → List ℕ → Type 0
 SomeResolution tree rules facts notes s members =
     (q : Process) × (q ∈ resolutions tree.process) ×
-        ((way : List (ℕ × ℕ)) × (way ∈ ways_in (schema_of tree rules facts notes) q) × EveryFollows (free_traces tree.labels rules s q) (fronts_of s.journal members) way)
+    ((way : List (ℕ × ℕ)) × (way ∈ ways_in (schema_of tree rules facts notes) q) × EveryFollows (free_traces tree.labels rules s q) (fronts_of s.journal members) way)
 
 resolutions_tell : (tree : Labelled) (rules : List Rule) (facts : List ℕ) (notes : List Note) (s : RunState) (members : List ℕ) →
     IsTrue (some_option_allows tree rules s members) ↔ SomeResolution tree rules facts notes s members
 resolutions_tell tree rules facts notes s members =
     let fronts = fronts_of s.journal members in
     some_tells (resolution_allows tree.labels rules s fronts)
-        (λ q. (way : List (ℕ × ℕ)) × (way ∈ ways_in (schema_of tree rules facts notes) q) × EveryFollows (free_traces tree.labels rules s q) fronts way)
-        (resolution_tells tree rules facts notes s fronts) (resolutions tree.process)
+    (λ q. (way : List (ℕ × ℕ)) × (way ∈ ways_in (schema_of tree rules facts notes) q) × EveryFollows (free_traces tree.labels rules s q) fronts way)
+    (resolution_tells tree rules facts notes s fronts) (resolutions tree.process)
 
 option_of : (tree : Labelled) (rules : List Rule) (facts : List ℕ) (notes : List Note) (s : RunState) (members : List ℕ) →
     SomeResolution tree rules facts notes s members → SomeOption tree rules facts notes s members
-option_of tree rules facts notes s members (q, m, (way, k, every)) =
-    (record { resolution = q; order = way }, mem-options (schema_of tree rules facts notes) q way m k,
-     (every_order tree rules facts notes s members q way m).0 every)
+option_of tree rules facts notes s members (q, m, (way, k, every)) = (
+  record { resolution = q; order = way },
+  mem-options (schema_of tree rules facts notes) q way m k,
+  (every_order tree rules facts notes s members q way m).0 every,
+)
 
 of_option : (tree : Labelled) (rules : List Rule) (facts : List ℕ) (notes : List Note) (s : RunState) (members : List ℕ) →
     SomeOption tree rules facts notes s members → SomeResolution tree rules facts notes s members
@@ -180,10 +183,10 @@ pub take_tells : (tree : Labelled) (rules : List Rule) (facts : List ℕ) (notes
     IsTrue (may_take tree rules s n) ↔ CanTake (schema_of tree rules facts notes) s n
 take_tells tree rules facts notes s n =
     let (to, from) =
-        and_tells (is_some (event_at tree.labels n) && not (is_member n (current_leaves s))) (some_option_allows tree rules s (current_leaves s ++ n ∷ []))
-            (and_tells (is_some (event_at tree.labels n)) (not (is_member n (current_leaves s)))
-            (some_tells_of (event_at tree.labels n)) (not_tells (is_member n (current_leaves s)) (member_tells n (current_leaves s))))
-            (option_tells tree rules facts notes s (current_leaves s ++ n ∷ [])) in
+    and_tells (is_some (event_at tree.labels n) && not (is_member n (current_leaves s))) (some_option_allows tree rules s (current_leaves s ++ n ∷ []))
+    (and_tells (is_some (event_at tree.labels n)) (not (is_member n (current_leaves s)))
+    (some_tells_of (event_at tree.labels n)) (not_tells (is_member n (current_leaves s)) (member_tells n (current_leaves s))))
+    (option_tells tree rules facts notes s (current_leaves s ++ n ∷ [])) in
     (λ h. let ((event, apart), option) = to h in (event, apart, option), λ (event, apart, option). from ((event, apart), option))
 
 pub exactly_taken : (tree : Labelled) (rules : List Rule) (s : RunState) (n : ℕ) (r : Result Bool AllocError) →

@@ -1,5 +1,5 @@
 -- Where a run stands, in the words of the definitions.
-use Rattle.std.specs.Prelude.{ℕ, map}
+use Rattle.std.specs.Prelude.{map}
 use Rattle.flow_model.specs.Run as model
 use Rattle.flow_plain.specs.declared.standing.Claim.{Claim}
 use Rattle.flow_plain.specs.declared.standing.Standing.{Standing}
@@ -13,5 +13,5 @@ run_state s = record {
   bans = s.bans.items;
   claims = map claim_of s.claims.items;
   epoch = s.epoch;
-  committed = s.committed
+  committed = s.committed;
 }

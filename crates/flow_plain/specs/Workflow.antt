@@ -1,5 +1,5 @@
 -- A tree and rules as a workflow of the definitions, and the tests of its executions.
-use Rattle.std.specs.Prelude.{ℕ, Bool, List, length}
+use Rattle.std.specs.Prelude.{ℕ, Bool, List}
 use Rattle.std.specs.List.{list_all}
 use Rattle.flow_model.specs.declared.labels.Label.{Label}
 use Rattle.flow_model.specs.declared.labels.Note.{Note}
@@ -17,7 +17,7 @@ schema_of tree rules facts notes = record {
   labels = tree.labels;
   rules = rules_of rules;
   facts = facts;
-  notes = notes
+  notes = notes;
 }
 
 -- the events of these leaves meet every rule

@@ -8,13 +8,11 @@ ghost use Rattle.flow_plain.specs.Tests.{is_listed};
 ghost use Rattle.flow_plain.specs.Views.{lists};
 ghost use Rattle.flow_plain.specs.Workflow.{is_lawful, schema_of};
 
-use std::alloc::{AllocError, Global};
-
-use flow_goal::{Label, Tree};
-use flow_rules::Rule;
-
 use crate::executions::all_traces;
 use crate::judging::all_hold;
+use flow_goal::{Label, Tree};
+use flow_rules::Rule;
+use std::alloc::{AllocError, Global};
 
 /// The event at a leaf, if it has one.
 pub fn event_at(tree: &Tree, leaf: u32) -> Option<u32>
@@ -76,7 +74,7 @@ pub fn good_traces(alloc: Global, tree: &Tree, rules: &[Rule]) -> Result<Vec<Vec
 }
 
 /// Whether the list is one of the others.
-fn is_listed(all: &[Vec<u32>], list: &[u32]) -> bool
+pub fn is_listed(all: &[Vec<u32>], list: &[u32]) -> bool
     ensures { result ≡ is_listed list.now all.now }
 {
     for one in all {
@@ -88,12 +86,7 @@ fn is_listed(all: &[Vec<u32>], list: &[u32]) -> bool
 }
 
 /// Whether the list is an execution that meets every rule, with tests taken as true.
-pub fn is_good(
-    alloc: Global,
-    tree: &Tree,
-    rules: &[Rule],
-    list: &[u32],
-) -> Result<bool, AllocError>
+pub fn is_good(alloc: Global, tree: &Tree, rules: &[Rule], list: &[u32]) -> Result<bool, AllocError>
     ensures { IfOk result (λ good. (facts : List ℕ) (notes : List Note) →
         IsTrue good ↔ IsGood (schema_of tree.now rules.now facts notes) list.now) }
 {

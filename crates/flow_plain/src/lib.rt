@@ -6,16 +6,19 @@ mod executions;
 mod good;
 mod judging;
 mod lists;
-mod orders;
+mod ordering;
 mod resolving;
 mod shuffles;
 mod standing;
 mod taking;
+#[cfg(test)]
+mod tests;
 mod ways_of_rules;
 
 pub use executions::traces;
 pub use good::{good_traces, is_good};
 pub use judging::meets;
+pub use ordering::orders;
 pub use resolving::{leaves, resolutions};
 pub use standing::{Claim, Standing};
 pub use taking::may_take;

@@ -5,9 +5,8 @@ ghost use Rattle.flow_model.specs.Resolution.{resolutions};
 ghost use Rattle.flow_goal.specs.Goal.{process_of};
 ghost use Rattle.flow_plain.specs.Pairing.{paired};
 
-use std::alloc::{AllocError, Global};
-
 use flow_goal::Goal;
+use std::alloc::{AllocError, Global};
 
 /// How two goals are put together.
 #[derive(Clone, Copy)]
@@ -135,7 +134,10 @@ pub fn resolutions(alloc: Global, goal: &Goal) -> Result<Vec<Goal>, AllocError>
             let rights = resolutions(alloc, right)?;
             pairs(alloc, Pairing::Beside, &lefts, &rights)
         }
-        Goal::Either(left, right) => followed(resolutions(alloc, left)?, resolutions(alloc, right)?),
+        Goal::Either(left, right) => followed(
+            resolutions(alloc, left)?,
+            resolutions(alloc, right)?,
+        ),
         Goal::Iso(part) => isolated(alloc, resolutions(alloc, part)?),
     }
 }

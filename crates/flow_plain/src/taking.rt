@@ -8,18 +8,16 @@ ghost use Rattle.flow_plain.specs.Taking as test;
 ghost use Rattle.flow_plain.specs.Views.{lists};
 ghost use Rattle.flow_plain.specs.Workflow.{schema_of};
 
-use std::alloc::{AllocError, Global};
-
-use flow_goal::{Goal, Tree};
-use flow_rules::Rule;
-
 use crate::executions::all_traces;
 use crate::good::{event_at, is_lawful};
 use crate::judging::is_before;
-use crate::orders::all_orders;
+use crate::ordering::all_orders;
 use crate::resolving::resolutions;
 use crate::standing::Standing;
 use crate::ways_of_rules::ways;
+use flow_goal::{Goal, Tree};
+use flow_rules::Rule;
+use std::alloc::{AllocError, Global};
 
 /// Whether of each pair the first stands before the second.
 fn are_in_order(pairs: &[(u32, u32)], trace: &[u32]) -> bool

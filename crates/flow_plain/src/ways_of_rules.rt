@@ -9,13 +9,11 @@ ghost use Rattle.flow_plain.specs.RuleWays.{all_ways, any_ways, both_ways, eithe
 ghost use Rattle.flow_plain.specs.Views.{lists};
 ghost use Rattle.flow_plain.specs.Workflow.{schema_of};
 
-use std::alloc::{AllocError, Global};
-
-use flow_goal::{Goal, Tree};
-use flow_rules::Rule;
-
 use crate::good::event_at;
 use crate::resolving::leaves;
+use flow_goal::{Goal, Tree};
+use flow_rules::Rule;
+use std::alloc::{AllocError, Global};
 
 /// Whether the leaf is one of the event.
 fn is_on(tree: &Tree, leaf: u32, event: u32) -> bool
@@ -48,7 +46,7 @@ fn free_way(alloc: Global) -> Result<Vec<Vec<(u32, u32)>>, AllocError>
 
 /// The one way that asks for that pair.
 fn pair_way(alloc: Global, first: u32, second: u32) -> Result<Vec<Vec<(u32, u32)>>, AllocError>
-    ensures { IfOk result (λ all. lists all.items ≡ ((first , second) ∷ []) ∷ []) }
+    ensures { IfOk result (λ all. lists all.items ≡ ((first, second) ∷ []) ∷ []) }
 {
     let mut pairs = Vec::new(alloc);
     pairs.push((first, second))?;

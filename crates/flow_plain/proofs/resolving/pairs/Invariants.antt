@@ -1,6 +1,5 @@
-use Rattle.std.proofs.Common.{◌≡◌, ◌++◌, map, take}
+use Rattle.std.proofs.Common.{◌≡◌, map, take}
 use Rattle.flow_model.specs.Lists.{each_with_each}
-use Rattle.flow_model.specs.Process.{Isolated}
 use Rattle.flow_goal.specs.Goal.{process_of}
 use Rattle.flow_plain.specs.Pairing.{paired}
 use Rattle.flow_plain.proofs.resolving.pairs.Given as goal

@@ -8,5 +8,5 @@ pub returns-then-not-some_follows : goal.returns-then-not-some_follows
 returns-then-not-some_follows c =
     let some = some_follows (lists c.args.traces.now) c.args.way.now in
     sym (all_viewed_at (λ (v : Vec ℕ Global). v.items) some c.args.fronts.now c.loop-front.front-index c.front-item.result
-        c.loop-front-test.true c.front-item.is
-        (sym (c.some_follows.ensures ∙ ap some c.deref.ensures.value) ∙ c.if-not-some_follows.true))
+    c.loop-front-test.true c.front-item.is
+    (sym (c.some_follows.ensures ∙ ap some c.deref.ensures.value) ∙ c.if-not-some_follows.true))

@@ -13,12 +13,12 @@ returns-then-branch c =
     let allows = resolution_allows c.args.tree.now.labels c.args.rules.now (run_state c.args.standing.now) in
     let found = lists c.deref-in-loop-resolution.result.now in
     let here = any_viewed_at process_of (allows found) c.deref-resolution-items.result.now c.loop-resolution.resolution-index c.resolution-item.result
-        c.loop-resolution-test.true c.resolution-item.is (sym c.in_ok-resolution_allows.ensures ∙ c.if-branch.true) in
+    c.loop-resolution-test.true c.resolution-item.is (sym c.in_ok-resolution_allows.ensures ∙ c.if-branch.true) in
     let fronts : found ≡ fronts_of c.args.standing.now.journal.items c.args.members.now =
-        ap lists c.deref-in-loop-resolution.ensures.value ∙ c.in_ok-fronts.ensures ∙ ap (λ j. fronts_of j c.args.members.now) c.deref.ensures.value in
+    ap lists c.deref-in-loop-resolution.ensures.value ∙ c.in_ok-fronts.ensures ∙ ap (λ j. fronts_of j c.args.members.now) c.deref.ensures.value in
     let all : map process_of c.deref-resolution-items.result.now ≡ resolutions c.args.tree.now.process =
-        ap (map process_of) c.deref-resolution-items.ensures.value ∙ c.in_ok-resolutions.ensures ∙ ap resolutions c.goal.ensures in
+    ap (map process_of) c.deref-resolution-items.ensures.value ∙ c.in_ok-resolutions.ensures ∙ ap resolutions c.goal.ensures in
     let same : list_any (allows found) (map process_of c.deref-resolution-items.result.now)
-        ≡ some_option_allows c.args.tree.now c.args.rules.now (run_state c.args.standing.now) c.args.members.now =
-        λ i. list_any (allows (fronts i)) (all i) in
+    ≡ some_option_allows c.args.tree.now c.args.rules.now (run_state c.args.standing.now) c.args.members.now =
+    λ i. list_any (allows (fronts i)) (all i) in
     sym (sym same ∙ here)

@@ -1,6 +1,4 @@
-use Rattle.std.proofs.Common.{◌≡◌, ◌++◌, [], map, take, None, fold}
-use Rattle.flow_model.specs.Ways as model
-use Rattle.flow_plain.specs.RuleWays.{all_ways, any_ways, both_ways}
+use Rattle.std.proofs.Common.{◌≡◌, ◌++◌, map, take}
 use Rattle.flow_plain.specs.Views.{lists}
 use Rattle.flow_plain.proofs.ways_of_rules.add_both.Given as goal
 

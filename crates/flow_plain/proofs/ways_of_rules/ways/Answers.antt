@@ -6,4 +6,4 @@ use Rattle.flow_plain.proofs.ways_of_rules.ways.Goals as goal
 pub returns : goal.returns
 returns c =
     exactly_ways c.args.tree.now c.args.rules.now (process_of c.args.resolution.now) c.deref.result.now c.all_ways.result
-        (c.deref.ensures.value ∙ c.in_ok-leaves.ensures) c.all_ways.ensures
+    (c.deref.ensures.value ∙ c.in_ok-leaves.ensures) c.all_ways.ensures

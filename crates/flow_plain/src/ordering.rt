@@ -36,11 +36,7 @@ fn add_insertions(
 }
 
 /// The orders with one more member.
-fn orders_with(
-    alloc: Global,
-    member: u32,
-    orders: &[Vec<u32>],
-) -> Result<Vec<Vec<u32>>, AllocError>
+fn orders_with(alloc: Global, member: u32, orders: &[Vec<u32>]) -> Result<Vec<Vec<u32>>, AllocError>
     ensures { IfOk result (λ all. lists all.items ≡ orders_with member (lists orders.now)) }
 {
     let mut all = Vec::new(alloc);
