@@ -1,1 +1,5 @@
+mod CountLemmas
+mod NormalViews
 pub mod RuleViews
+mod SplitForms
+mod WayListLemmas
