@@ -7,7 +7,7 @@ use Rattle.flow_model.specs.Lists.{joined}
 use Rattle.flow_model.specs.Ways.{free_way, is_free}
 use Rattle.flow_rules.specs.declared.counting.WayCount.{WayCount}
 use Rattle.flow_rules.specs.Counts.{kept, count_of, is_free_count, counts_of_both, counts_of_either}
-use Rattle.flow_rules.specs.WayLists.{both_ways, either_way}
+use Rattle.flow_rules.specs.WayLists.{both_ways, either_way, is_none}
 
 -- numbers that are kept at a greatest one
 
@@ -137,7 +137,7 @@ free_count ([] ∷ w ∷ ws) = ap (λ b. b && (kept (length (joined (w ∷ ws)))
 pub count_either : (vs ws : List (List (ℕ × ℕ))) → count_of (either_way vs ws) ≡ counts_of_either (count_of vs) (count_of ws)
 count_either vs ws =
     at (is_free vs || is_free ws)
-    ∙ (λ k. if free_count vs (~ k) || free_count ws (~ k) then record { ways = 1; pairs = 0 } else total)
+    ∙ sym (λ k. if free_count vs k || free_count ws k then record { ways = 1; pairs = 0 } else total)
   where
     total : WayCount
     total = record {
@@ -153,3 +153,7 @@ count_either vs ws =
         let pairs : kept (length (joined (vs ++ ws))) ≡ kept (kept (length (joined vs)) + kept (length (joined ws))) =
           ap kept (joined_length vs ws) ∙ sym (sum_kept m (length (joined vs)) (length (joined ws))) in
         λ k. record { ways = ways k; pairs = pairs k }
+
+pub none_left : (ws : List (List (ℕ × ℕ))) → ((count_of ws).ways == 0) ≡ is_none ws
+none_left [] = refl
+none_left (w ∷ ws) = some_left (length ws)

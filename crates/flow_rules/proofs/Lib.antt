@@ -1,4 +1,5 @@
 mod CountLemmas
+mod LeafLemmas
 mod NormalViews
 pub mod RuleViews
 mod SplitForms

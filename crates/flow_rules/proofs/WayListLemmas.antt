@@ -1,10 +1,12 @@
 -- Lists of ways put together.
-use Rattle.std.proofs.Common.{◌≡◌, ℕ, ◌+◌, ◌<◌, Bool, true, false, ◌||◌, if◌then◌else◌, List, [], ◌∷◌, ◌++◌, length, take, get_or, map, fold, refl, sym, ap, ◌∙◌, append_assoc, append-nil, true≢false, Option}
+use Rattle.std.proofs.Common.{◌≡◌, ℕ, ◌+◌, ◌<◌, Bool, true, false, ◌||◌, if◌then◌else◌, List, [], ◌∷◌, ◌++◌, length, take, get_or, map, fold, refl, sym, ap, ◌∙◌, append_assoc, append-nil, true≢false, Vec, Global, Result, Ok, Err, IfOk}
 use Rattle.std.specs.List.{list_any}
 use Rattle.std.proofs.lemmas.List.{take_more, map-append}
 use Rattle.flow_model.specs.Lists.{each_with_each, joined}
 use Rattle.flow_model.specs.Ways.{free_way, is_free}
-use Rattle.flow_rules.specs.WayLists.{both_ways, either_way, is_none}
+use Rattle.std.specs.declared.alloc.AllocError.{AllocError}
+use Rattle.flow_rules.specs.declared.order_set.OrderSet.{OrderSet}
+use Rattle.flow_rules.specs.WayLists.{both_ways, either_way, is_none, pairs_of}
 
 -- one member more
 
@@ -147,3 +149,40 @@ either_joined {A} f (x ∷ xs) us =
     at false true d = refl
     at false false true = refl
     at false false false = append_assoc us (f x) (joined (map f xs))
+
+-- the sets of a vector, one more
+
+pairs_more : (sets : List OrderSet) (i : ℕ) (set : OrderSet) → i < length sets → set ≡ get_or sets i set →
+    pairs_of (take (i + 1) sets) ≡ pairs_of (take i sets) ++ set.pairs.items ∷ []
+pairs_more sets i set h e =
+    ap pairs_of (take_more sets i set h) ∙ map-append (λ (s : OrderSet). s.pairs.items) (take i sets) (get_or sets i set ∷ [])
+    ∙ ap (λ (s : OrderSet). pairs_of (take i sets) ++ s.pairs.items ∷ []) (sym e)
+
+pub both_more : (sets : List OrderSet) (i : ℕ) (set : OrderSet) (ws old new : List (List (ℕ × ℕ))) →
+    i < length sets → set ≡ get_or sets i set → old ≡ both_ways (pairs_of (take i sets)) ws →
+    new ≡ old ++ map (λ w. set.pairs.items ++ w) ws → new ≡ both_ways (pairs_of (take (i + 1) sets)) ws
+both_more sets i set ws old new h e so_far added =
+    added ∙ ap (λ t. t ++ map (λ w. set.pairs.items ++ w) ws) so_far
+    ∙ sym (ap (λ t. both_ways t ws) (pairs_more sets i set h e)
+    ∙ each_push (λ v w. v ++ w) (pairs_of (take i sets)) (set.pairs.items) ws)
+
+pub joined_more : {A : Type 0} (f : A → List (List (ℕ × ℕ))) (xs : List A) (i : ℕ) (x : A) → i < length xs → x ≡ get_or xs i x →
+    joined (map f (take (i + 1) xs)) ≡ joined (map f (take i xs)) ++ f x
+joined_more f xs i x h e =
+    ap (λ t. joined (map f t)) (take_more xs i x h) ∙ ap joined (map-append f (take i xs) (get_or xs i x ∷ []))
+    ∙ joined_push (map f (take i xs)) (f (get_or xs i x)) ∙ ap (λ y. joined (map f (take i xs)) ++ f y) (sym e)
+
+-- where one of the lists is free, so are all together, and else they follow one another
+
+pub any_free : {A : Type 0} (f : A → List (List (ℕ × ℕ))) (xs : List A) → list_any (λ x. is_free (f x)) xs ≡ true →
+    fold (λ vs x. either_way vs (f x)) [] xs ≡ free_way
+any_free f xs h = either_joined f xs [] ∙ ap (λ b. if b then free_way else joined (map f xs)) h
+
+pub none_free : {A : Type 0} (f : A → List (List (ℕ × ℕ))) (xs : List A) → list_any (λ x. is_free (f x)) xs ≡ false →
+    fold (λ vs x. either_way vs (f x)) [] xs ≡ joined (map f xs)
+none_free f xs h = either_joined f xs [] ∙ ap (λ b. if b then free_way else joined (map f xs)) h
+
+pub ok_ways : (r : Result (Vec OrderSet Global) AllocError) (vs ws : List (List (ℕ × ℕ))) → vs ≡ ws →
+    IfOk r (λ all. pairs_of all.items ≡ vs) → IfOk r (λ all. pairs_of all.items ≡ ws)
+ok_ways (Ok all) vs ws e h = h ∙ e
+ok_ways (Err f) vs ws e h = h
