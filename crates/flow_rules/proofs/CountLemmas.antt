@@ -13,9 +13,9 @@ use Rattle.flow_rules.specs.WayLists.{both_ways, either_way, is_none}
 
 min_cases : (x m : ℕ) → ((x ≤ m) × (min x m ≡ x)) ⊎ ((m ≤ x) × (min x m ≡ m))
 min_cases x m = elim (cases_lt x m) [
-    | inl h ↦ let k : x ≤ m = omega arith in inl (k, min-eq_left k)
-    | inr h ↦ inr (h, min-eq_right h)
-  ]
+  | inl h ↦ let k : x ≤ m = omega arith in inl (k, min-eq_left k)
+  | inr h ↦ inr (h, min-eq_right h)
+]
 
 sum_kept : (m x y : ℕ) → min (min x m + min y m) m ≡ min (x + y) m
 sum_kept m x y = at (min_cases x m) (min_cases y m)
@@ -41,9 +41,9 @@ reaches m (suc x) y h =
 
 product_right : (m x y : ℕ) → min (x * min y m) m ≡ min (x * y) m
 product_right m x y = elim (min_cases y m) [
-    | inl (p, e) ↦ ap (λ t. min (x * t) m) e
-    | inr (p, e) ↦ ap (λ t. min (x * t) m) e ∙ reaches m x y p
-  ]
+  | inl (p, e) ↦ ap (λ t. min (x * t) m) e
+  | inr (p, e) ↦ ap (λ t. min (x * t) m) e ∙ reaches m x y p
+]
 
 product_kept : (m x y : ℕ) → min (min x m * min y m) m ≡ min (x * y) m
 product_kept m x y =
@@ -103,17 +103,17 @@ pub count_both : (vs ws : List (List (ℕ × ℕ))) → count_of (both_ways vs w
 count_both vs ws =
     let m : ℕ = 2 ^ 64 - 1 in
     let ways : kept (length (both_ways vs ws)) ≡ kept (kept (length vs) * kept (length ws)) =
-      ap kept (both_length vs ws) ∙ sym (product_kept m (length vs) (length ws)) in
+    ap kept (both_length vs ws) ∙ sym (product_kept m (length vs) (length ws)) in
     let front : kept (length (joined vs) * length ws) ≡ kept (kept (length (joined vs)) * kept (length ws)) =
-      sym (product_kept m (length (joined vs)) (length ws)) in
+    sym (product_kept m (length (joined vs)) (length ws)) in
     let back : kept (length vs * length (joined ws)) ≡ kept (kept (length vs) * kept (length (joined ws))) =
-      sym (product_kept m (length vs) (length (joined ws))) in
+    sym (product_kept m (length vs) (length (joined ws))) in
     let whole : kept (length (joined vs) * length ws + length vs * length (joined ws))
-        ≡ kept (kept (length (joined vs) * length ws) + kept (length vs * length (joined ws))) =
-      sym (sum_kept m (length (joined vs) * length ws) (length vs * length (joined ws))) in
+    ≡ kept (kept (length (joined vs) * length ws) + kept (length vs * length (joined ws))) =
+    sym (sum_kept m (length (joined vs) * length ws) (length vs * length (joined ws))) in
     let pairs : kept (length (joined (both_ways vs ws)))
-        ≡ kept (kept (kept (length (joined vs)) * kept (length ws)) + kept (kept (length vs) * kept (length (joined ws)))) =
-      ap kept (both_pairs vs ws) ∙ whole ∙ (λ k. kept (front k + back k)) in
+    ≡ kept (kept (kept (length (joined vs)) * kept (length ws)) + kept (kept (length vs) * kept (length (joined ws)))) =
+    ap kept (both_pairs vs ws) ∙ whole ∙ (λ k. kept (front k + back k)) in
     λ k. record { ways = ways k; pairs = pairs k }
 
 some_left : (n : ℕ) → (kept (suc n) == 0) ≡ false
@@ -122,7 +122,7 @@ some_left n = ne_eqb (kept (suc n)) 0 (λ e. elim (min_cases (suc n) (2 ^ 64 - 1
 two_left : (n : ℕ) → (kept (suc (suc n)) == 1) ≡ false
 two_left n =
     ne_eqb (kept (suc (suc n))) 1
-        (λ e. elim (min_cases (suc (suc n)) (2 ^ 64 - 1)) [ inl (p, f) ↦ omega arith | inr (p, f) ↦ omega arith ])
+    (λ e. elim (min_cases (suc (suc n)) (2 ^ 64 - 1)) [ inl (p, f) ↦ omega arith | inr (p, f) ↦ omega arith ])
 
 and_false : (b c : Bool) → c ≡ false → (b && c) ≡ false
 and_false true c e = e
@@ -144,14 +144,15 @@ count_either vs ws =
       ways = kept (kept (length vs) + kept (length ws));
       pairs = kept (kept (length (joined vs)) + kept (length (joined ws)));
     }
+
     at : (b : Bool) → count_of (if b then free_way else vs ++ ws) ≡ (if b then record { ways = 1; pairs = 0 } else total)
     at true = refl
     at false =
         let m : ℕ = 2 ^ 64 - 1 in
         let ways : kept (length (vs ++ ws)) ≡ kept (kept (length vs) + kept (length ws)) =
-          ap kept (length-append vs ws) ∙ sym (sum_kept m (length vs) (length ws)) in
+        ap kept (length-append vs ws) ∙ sym (sum_kept m (length vs) (length ws)) in
         let pairs : kept (length (joined (vs ++ ws))) ≡ kept (kept (length (joined vs)) + kept (length (joined ws))) =
-          ap kept (joined_length vs ws) ∙ sym (sum_kept m (length (joined vs)) (length (joined ws))) in
+        ap kept (joined_length vs ws) ∙ sym (sum_kept m (length (joined vs)) (length (joined ws))) in
         λ k. record { ways = ways k; pairs = pairs k }
 
 pub none_left : (ws : List (List (ℕ × ℕ))) → ((count_of ws).ways == 0) ≡ is_none ws

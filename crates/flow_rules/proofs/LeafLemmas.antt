@@ -30,9 +30,9 @@ none_on (Some x) = refl
 -- what stays where the event has a leaf already
 pub stays : (g : ℕ → Option ℕ) (event leaf q : ℕ) → is_some (g event) ≡ true → g q ≡ option_or (g q) (if_on q leaf (Some event))
 stays g event leaf q h = elim (cases_eq event q) [
-    | inl e ↦ at (g q) (ap (λ n. is_some (g n)) (sym e) ∙ h)
-    | inr n ↦ none_on (g q) ∙ ap (λ b. option_or (g q) (if b then Some leaf else None)) (sym (ne_eqb event q n))
-  ]
+  | inl e ↦ at (g q) (ap (λ n. is_some (g n)) (sym e) ∙ h)
+  | inr n ↦ none_on (g q) ∙ ap (λ b. option_or (g q) (if b then Some leaf else None)) (sym (ne_eqb event q n))
+]
   where
     at : (o : Option ℕ) → is_some o ≡ true → o ≡ option_or o (if_on q leaf (Some event))
     at None k = absurd (true≢false (sym k))
@@ -42,16 +42,16 @@ stays g event leaf q h = elim (cases_eq event q) [
 pub added : (g : ℕ → Option ℕ) (event leaf q : ℕ) (same : Bool) → same ≡ (event == q) → is_some (g event) ≡ false →
     cond same (Some leaf) (g q) ≡ option_or (g q) (if_on q leaf (Some event))
 added g event leaf q same s h = elim (cases_eq event q) [
-    | inl e ↦
+  | inl e ↦
       let t : (event == q) ≡ true = eq-eqb event q e in
       ap (λ b. cond b (Some leaf) (g q)) (s ∙ t)
       ∙ at (g q) (ap (λ n. is_some (g n)) (sym e) ∙ h)
       ∙ ap (λ b. option_or (g q) (if b then Some leaf else None)) (sym t)
-    | inr n ↦
+  | inr n ↦
       let f : (event == q) ≡ false = ne_eqb event q n in
       ap (λ b. cond b (Some leaf) (g q)) (s ∙ f) ∙ none_on (g q)
       ∙ ap (λ b. option_or (g q) (if b then Some leaf else None)) (sym f)
-  ]
+]
   where
     at : (o : Option ℕ) → is_some o ≡ false → Some leaf ≡ option_or o (Some leaf)
     at None k = refl

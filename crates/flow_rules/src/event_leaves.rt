@@ -3,10 +3,9 @@ ghost use Rattle.flow_model.specs.Facts.{event_at};
 ghost use Rattle.flow_model.specs.Ways as model;
 ghost use Rattle.flow_rules.specs.EventLeaves.{leaf_in};
 
+use flow_goal::{Label, Tree};
 use std::alloc::{AllocError, Global};
 use std::collections::BTreeMap;
-
-use flow_goal::{Label, Tree};
 
 /// The leaf of each event, among some leaves of a tree.
 #[derive(Drop)]

@@ -5,12 +5,11 @@ ghost use Rattle.flow_rules.specs.EventLeaves.{leaf_in};
 ghost use Rattle.flow_rules.specs.Normal.{normal_of};
 ghost use Rattle.flow_rules.specs.WayLists.{all_ways, any_ways, both_ways, is_none, pairs_of};
 
-use std::alloc::{AllocError, Global};
-
 use crate::counting::count_ways;
 use crate::event_leaves::LeafEvents;
 use crate::normal::Nnf;
 use crate::order_set::OrderSet;
+use std::alloc::{AllocError, Global};
 
 /// The one way that asks for nothing.
 fn free_way(alloc: Global) -> Result<Vec<OrderSet>, AllocError>
@@ -23,7 +22,7 @@ fn free_way(alloc: Global) -> Result<Vec<OrderSet>, AllocError>
 
 /// The one way that asks for that pair.
 fn pair_way(alloc: Global, first: u32, second: u32) -> Result<Vec<OrderSet>, AllocError>
-    ensures { IfOk result (λ all. pairs_of all.items ≡ ((first , second) ∷ []) ∷ []) }
+    ensures { IfOk result (λ all. pairs_of all.items ≡ ((first, second) ∷ []) ∷ []) }
 {
     let mut pairs = Vec::new(alloc);
     pairs.push((first, second))?;
@@ -102,11 +101,7 @@ fn add_both(
 }
 
 /// Each of the first ways with each of the others.
-fn both(
-    alloc: Global,
-    ways: &[OrderSet],
-    others: &[OrderSet],
-) -> Result<Vec<OrderSet>, AllocError>
+fn both(alloc: Global, ways: &[OrderSet], others: &[OrderSet]) -> Result<Vec<OrderSet>, AllocError>
     ensures { IfOk result (λ all. pairs_of all.items ≡ both_ways (pairs_of ways.now) (pairs_of others.now)) }
 {
     let mut all = Vec::new(alloc);
@@ -193,11 +188,7 @@ fn ways_of_any(
 /// The ways in which the leaves meet the rule, in order. No list that is formed has more ways than
 /// the answer.
 #[cycle(listing)]
-pub fn ways(
-    alloc: Global,
-    rule: &Nnf,
-    events: &LeafEvents,
-) -> Result<Vec<OrderSet>, AllocError>
+pub fn ways(alloc: Global, rule: &Nnf, events: &LeafEvents) -> Result<Vec<OrderSet>, AllocError>
     ensures { IfOk result (λ all. pairs_of all.items ≡ model.ways (normal_of rule.now) (leaf_in events.now)) }
 {
     match rule {

@@ -3,10 +3,9 @@ ghost use Rattle.flow_model.specs.Ways as model;
 ghost use Rattle.flow_rules.specs.Rule.{rule_of};
 ghost use Rattle.flow_rules.specs.Normal.{normal_of, normals_of, linked, pair_form, all_form, chain_form, split_form};
 
-use std::alloc::{AllocError, Global};
-
 use crate::normal::Nnf;
 use crate::rule::Rule;
+use std::alloc::{AllocError, Global};
 
 /// One event before another, or the negation where it is not wanted.
 fn pair(first: u32, second: u32, wanted: bool) -> Nnf

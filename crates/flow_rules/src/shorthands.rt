@@ -2,9 +2,8 @@ ghost use Rattle.std.specs.Prelude.{◌≡◌, ◌↔◌, ◌∷◌, [], ℕ, Li
 ghost use Rattle.flow_model.specs.Constraint as constraint;
 ghost use Rattle.flow_rules.specs.Rule.{any_of, rule_of};
 
-use std::alloc::{AllocError, Global};
-
 use crate::rule::Rule;
+use std::alloc::{AllocError, Global};
 
 /// If both events happen, then `a` before `b`.
 pub fn precedes(alloc: Global, a: u32, b: u32) -> Result<Rule, AllocError>

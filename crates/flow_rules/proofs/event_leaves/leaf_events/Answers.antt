@@ -15,15 +15,15 @@ loop-leaf-preserved c = λ q.
     let more = leaf_more c.args.tree.now.labels ls i q c.loop-leaf-test.true in
     elim c.match-event_at.branch [
       | in-Some+then-not-contains_key+in_ok-insert w ↦
-        (λ k. get nat_cmp (w.found-is k) q) ∙ w.in_ok-insert.ensures.updates.0 q
-        ∙ added seen w.in-Some.event leaf q (is_at (nat_cmp w.in-Some.event) q) (unsigned_tied w.in-Some.event q)
+          (λ k. get nat_cmp (w.found-is k) q) ∙ w.in_ok-insert.ensures.updates.0 q
+          ∙ added seen w.in-Some.event leaf q (is_at (nat_cmp w.in-Some.event) q) (unsigned_tied w.in-Some.event q)
           (sym w.contains_key.ensures ∙ w.if-not-contains_key.true)
-        ∙ (λ k. option_or (c.loop-leaf.invariant q k) (if_on q leaf ((sym w.in-Some.is ∙ c.event_at.ensures) k))) ∙ sym more
+          ∙ (λ k. option_or (c.loop-leaf.invariant q k) (if_on q leaf ((sym w.in-Some.is ∙ c.event_at.ensures) k))) ∙ sym more
       | in-Some+else-not-contains_key w ↦
-        (λ k. get nat_cmp (w.found-is k) q)
-        ∙ stays seen w.in-Some.event leaf q (sym w.contains_key.ensures ∙ w.if-not-contains_key.false)
-        ∙ (λ k. option_or (c.loop-leaf.invariant q k) (if_on q leaf ((sym w.in-Some.is ∙ c.event_at.ensures) k))) ∙ sym more
+          (λ k. get nat_cmp (w.found-is k) q)
+          ∙ stays seen w.in-Some.event leaf q (sym w.contains_key.ensures ∙ w.if-not-contains_key.false)
+          ∙ (λ k. option_or (c.loop-leaf.invariant q k) (if_on q leaf ((sym w.in-Some.is ∙ c.event_at.ensures) k))) ∙ sym more
       | in_default w ↦
-        (λ k. get nat_cmp (w.found-is k) q) ∙ none_on (seen q)
-        ∙ (λ k. option_or (c.loop-leaf.invariant q k) (if_on q leaf ((sym w.in_default.is ∙ c.event_at.ensures) k))) ∙ sym more
+          (λ k. get nat_cmp (w.found-is k) q) ∙ none_on (seen q)
+          ∙ (λ k. option_or (c.loop-leaf.invariant q k) (if_on q leaf ((sym w.in_default.is ∙ c.event_at.ensures) k))) ∙ sym more
     ]

@@ -15,25 +15,25 @@ pub ways-returns-in-And : goal.ways-returns-in-And
 ways-returns-in-And t c =
     let leaf = leaf_in c.args.events.now in
     ok_ways c.ways_of_all.result _ _
-        (ap (all_ways leaf) c.deref.ensures.value ∙ ways_of_and leaf c.args.rule.now c.in-And.parts c.in-And.is) c.ways_of_all.ensures
+    (ap (all_ways leaf) c.deref.ensures.value ∙ ways_of_and leaf c.args.rule.now c.in-And.parts c.in-And.is) c.ways_of_all.ensures
 
 pub ways-returns-in-Or : goal.ways-returns-in-Or
 ways-returns-in-Or t c =
     let leaf = leaf_in c.args.events.now in
     ok_ways c.ways_of_any.result _ _
-        (ap (any_ways leaf) c.deref-in-Or.ensures.value ∙ ways_of_or leaf c.args.rule.now c.in-Or.parts c.in-Or.is) c.ways_of_any.ensures
+    (ap (any_ways leaf) c.deref-in-Or.ensures.value ∙ ways_of_or leaf c.args.rule.now c.in-Or.parts c.in-Or.is) c.ways_of_any.ensures
 
 pub ways_of_all-returns-then-some_unmet : goal.ways_of_all-returns-then-some_unmet
 ways_of_all-returns-then-some_unmet t c =
     ap pairs_of c.new.ensures.items
     ∙ sym (all_none (λ (part : Nnf). ways (normal_of part) (leaf_in c.args.events.now)) c.args.parts.now free_way
-      (sym c.some_unmet.ensures ∙ c.if-some_unmet.true))
+    (sym c.some_unmet.ensures ∙ c.if-some_unmet.true))
 
 pub ways_of_any-returns-then-some_free : goal.ways_of_any-returns-then-some_free
 ways_of_any-returns-then-some_free t c =
     ok_ways c.free_way.result _ _
-        (sym (any_free (λ (part : Nnf). ways (normal_of part) (leaf_in c.args.events.now)) c.args.parts.now
-          (sym c.some_free.ensures ∙ c.if-some_free.true))) c.free_way.ensures
+    (sym (any_free (λ (part : Nnf). ways (normal_of part) (leaf_in c.args.events.now)) c.args.parts.now
+    (sym c.some_free.ensures ∙ c.if-some_free.true))) c.free_way.ensures
 
 pub ways_of_any-loop-part-preserved : goal.ways_of_any-loop-part-preserved
 ways_of_any-loop-part-preserved t c =
