@@ -1,1 +1,5 @@
+pub mod Counts
+pub mod EventLeaves
+pub mod Normal
 pub mod Rule
+pub mod WayLists

@@ -1,6 +1,22 @@
-//! Rules on the events of an execution.
+//! Rules on the events of an execution, their normal forms, and the ways in which leaves meet them.
 #![tactic(auto)]
 
+mod counting;
+mod event_leaves;
+mod listing;
+mod normal;
+mod normalizing;
+mod order_set;
 mod rule;
+mod shorthands;
+#[cfg(test)]
+mod tests;
 
+pub use counting::{WayCount, count_ways};
+pub use event_leaves::{LeafEvents, leaf_events};
+pub use listing::ways;
+pub use normal::Nnf;
+pub use normalizing::nnf;
+pub use order_set::OrderSet;
 pub use rule::Rule;
+pub use shorthands::{needs, precedes};

@@ -1,0 +1,35 @@
+-- The ways of a normal form with a list of them in it.
+use Rattle.std.proofs.Common.{◌≡◌, ℕ, List, [], ◌∷◌, Vec, Global, fold, refl, sym, ap, ◌∙◌, Option}
+use Rattle.flow_model.specs.Ways.{Normal, always, impossible, both, either, ways}
+use Rattle.flow_rules.specs.declared.normal.Nnf.{Nnf, And, Or}
+use Rattle.flow_rules.specs.declared.normal.Nnf.TheOpen as open_nnf
+use Rattle.flow_rules.specs.declared.normal.Nnf.TheVariants.{rolls-And, rolls-Or}
+use Rattle.flow_rules.specs.declared.normal.Nnf.TheFolds.{fold-roll-Nnf}
+use Rattle.flow_rules.specs.Normal.{all_normals, any_normals, normal_of, normal_step, normals_of}
+use Rattle.flow_rules.specs.WayLists.{all_ways, any_ways, both_ways, either_way}
+
+normal_of-And : (parts : Vec Nnf Global) → normal_of (And parts) ≡ all_normals (normals_of parts.items)
+normal_of-And parts = ap normal_of (sym (rolls-And parts)) ∙ fold-roll-Nnf Normal normal_step (open_nnf.And parts)
+
+normal_of-Or : (parts : Vec Nnf Global) → normal_of (Or parts) ≡ any_normals (normals_of parts.items)
+normal_of-Or parts = ap normal_of (sym (rolls-Or parts)) ∙ fold-roll-Nnf Normal normal_step (open_nnf.Or parts)
+
+all_from : (leaf : ℕ → Option ℕ) (ns : List Nnf) (n : Normal) →
+    ways (fold both n (normals_of ns)) leaf ≡ fold (λ vs m. both_ways vs (ways (normal_of m) leaf)) (ways n leaf) ns
+all_from leaf [] n = refl
+all_from leaf (m ∷ ns) n = all_from leaf ns (both n (normal_of m))
+
+any_from : (leaf : ℕ → Option ℕ) (ns : List Nnf) (n : Normal) →
+    ways (fold either n (normals_of ns)) leaf ≡ fold (λ vs m. either_way vs (ways (normal_of m) leaf)) (ways n leaf) ns
+any_from leaf [] n = refl
+any_from leaf (m ∷ ns) n = any_from leaf ns (either n (normal_of m))
+
+pub ways_of_and : (leaf : ℕ → Option ℕ) (n : Nnf) (parts : Vec Nnf Global) → n ≡ And parts →
+    all_ways leaf parts.items ≡ ways (normal_of n) leaf
+ways_of_and leaf n parts e =
+    sym (ap (λ m. ways (normal_of m) leaf) e ∙ ap (λ m. ways m leaf) (normal_of-And parts) ∙ all_from leaf parts.items always)
+
+pub ways_of_or : (leaf : ℕ → Option ℕ) (n : Nnf) (parts : Vec Nnf Global) → n ≡ Or parts →
+    any_ways leaf parts.items ≡ ways (normal_of n) leaf
+ways_of_or leaf n parts e =
+    sym (ap (λ m. ways (normal_of m) leaf) e ∙ ap (λ m. ways m leaf) (normal_of-Or parts) ∙ any_from leaf parts.items impossible)

@@ -1,0 +1,100 @@
+ghost use Rattle.std.specs.Prelude.{◌≡◌, ◌∷◌, [], ℕ, Option, true, IfOk, map};
+ghost use Rattle.flow_model.specs.Ways as model;
+ghost use Rattle.flow_rules.specs.Rule.{rule_of};
+ghost use Rattle.flow_rules.specs.Normal.{normal_of, normals_of, linked, pair_form, all_form, chain_form, split_form};
+
+use crate::normal::Nnf;
+use crate::rule::Rule;
+use std::alloc::{AllocError, Global};
+
+/// One event before another, or the negation where it is not wanted.
+fn pair(first: u32, second: u32, wanted: bool) -> Nnf
+    ensures { normal_of result ≡ pair_form wanted first second }
+{
+    if wanted {
+        Nnf::Before(first, second)
+    } else {
+        Nnf::NotBefore(first, second)
+    }
+}
+
+/// Each event with the next one.
+fn pairs(alloc: Global, first: u32, rest: &[u32], wanted: bool) -> Result<Vec<Nnf>, AllocError>
+    ensures { IfOk result (λ pairs. normals_of pairs.items ≡ linked (pair_form wanted) first rest.now) }
+{
+    let mut pairs = Vec::new(alloc);
+    let mut earlier = first;
+    for event in rest {
+        pairs.push(pair(earlier, *event, wanted))?;
+        earlier = *event;
+    }
+    Ok(pairs)
+}
+
+/// An order of one event or of none, or its negation where it is not wanted.
+fn single(event: u32, wanted: bool) -> Nnf
+    ensures { normal_of result ≡ chain_form wanted (event ∷ []) }
+{
+    if wanted {
+        Nnf::Must(event)
+    } else {
+        Nnf::Never(event)
+    }
+}
+
+/// All of the parts, or one of them where they are parts of a negation.
+fn all(parts: Vec<Nnf>, wanted: bool) -> Nnf
+    ensures { normal_of result ≡ all_form wanted (normals_of parts.items) }
+{
+    if wanted {
+        Nnf::And(parts)
+    } else {
+        Nnf::Or(parts)
+    }
+}
+
+/// An order of events, or its negation where it is not wanted.
+fn chain(alloc: Global, events: &[u32], wanted: bool) -> Result<Nnf, AllocError>
+    ensures { IfOk result (λ normal. normal_of normal ≡ chain_form wanted events.now) }
+{
+    match events {
+        [] => Ok(all(Vec::new(alloc), wanted)),
+        [only] => Ok(single(*only, wanted)),
+        [first, rest @ ..] => Ok(all(pairs(alloc, *first, rest, wanted)?, wanted)),
+    }
+}
+
+/// Each of the rules, or its negation where it is not wanted.
+#[cycle(normalizing)]
+fn parts(alloc: Global, rules: &[Rule], wanted: bool) -> Result<Vec<Nnf>, AllocError>
+    ensures { IfOk result (λ parts. normals_of parts.items ≡ map (λ rule. split_form (rule_of rule) wanted) rules.now) }
+{
+    let mut parts = Vec::new(alloc);
+    for rule in rules {
+        parts.push(normal(alloc, rule, wanted)?)?;
+    }
+    Ok(parts)
+}
+
+/// The rule, or its negation where it is not wanted.
+#[cycle(normalizing)]
+fn normal(alloc: Global, rule: &Rule, wanted: bool) -> Result<Nnf, AllocError>
+    ensures { IfOk result (λ normal. normal_of normal ≡ split_form (rule_of rule.now) wanted) }
+{
+    match rule {
+        Rule::Must(event) => Ok(single(*event, wanted)),
+        Rule::Never(event) => Ok(single(*event, !wanted)),
+        Rule::Order(events) => chain(alloc, events, wanted),
+        Rule::Not(part) => normal(alloc, part, !wanted),
+        Rule::And(rules) => Ok(all(parts(alloc, rules, wanted)?, wanted)),
+        Rule::Or(rules) => Ok(all(parts(alloc, rules, wanted)?, !wanted)),
+    }
+}
+
+/// The rule with its orders split into pairs, and negation carried inward.
+pub fn nnf(alloc: Global, rule: &Rule) -> Result<Nnf, AllocError>
+    ensures { IfOk result (λ normal. (leaf : ℕ → Option ℕ) →
+        model.ways (normal_of normal) leaf ≡ model.ways (model.normal_form (rule_of rule.now) true) leaf) }
+{
+    normal(alloc, rule, true)
+}
