@@ -89,7 +89,7 @@ fn lists_the_ways(rt: HostRuntime) -> Result<(), Fail> {
     broken.ways.push(Vec::from_slice(alloc, &[(2, 1)])?)?;
     let rows = vec![in alloc;
         broken,
-        row(
+        row_of(
             alloc,
             &[0, 1, 2],
             order(alloc, &[0, 1, 2])?,
