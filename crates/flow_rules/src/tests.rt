@@ -1,4 +1,4 @@
-ghost use Rattle.std.specs.Prelude.{◌≡◌, ◌≤◌, length, IfOk};
+ghost use Rattle.std.specs.Prelude.{◌≤◌};
 
 use crate::{Rule, WayCount, count_ways, leaf_events, needs, nnf, precedes, ways};
 use flow_goal::{Goal, Label, Tree};
@@ -7,9 +7,7 @@ use std::process::Abort;
 use std::test::Fail;
 
 /// The events 0, 1, .. below the count.
-fn events(alloc: Global, count: u32) -> Result<Vec<Label>, AllocError>
-    ensures { IfOk result (λ labels. length labels.items ≡ count) }
-{
+fn events(alloc: Global, count: u32) -> Result<Vec<Label>, AllocError> {
     let mut labels = Vec::new(alloc);
     for event in 0..count {
         labels.push(Label::Event(event))?;
@@ -18,12 +16,14 @@ fn events(alloc: Global, count: u32) -> Result<Vec<Label>, AllocError>
 }
 
 /// So many leaves beside one another, each with the event of its number.
-fn side_by_side(alloc: Global, count: u32) -> Result<Tree, Fail> {
+fn side_by_side(rt: &impl Abort, alloc: Global, count: u32) -> Result<Tree, Fail> {
     let mut goal = Goal::Leaf(0);
     for leaf in 1..count {
         goal = Goal::Beside(Box::new(alloc, goal)?, Box::new(alloc, Goal::Leaf(leaf))?);
     }
-    Ok(Tree::new(goal, events(alloc, count)?)?)
+    let labels = events(alloc, count)?;
+    assert_eq!(rt; labels.len(), count as usize);
+    Ok(Tree::new(goal, labels)?)
 }
 
 fn order(alloc: Global, events: &[u32]) -> Result<Rule, AllocError> {
@@ -79,7 +79,7 @@ fn row_of(
 #[test]
 fn lists_the_ways(rt: HostRuntime) -> Result<(), Fail> {
     let alloc = rt.alloc();
-    let tree = side_by_side(alloc, 3)?;
+    let tree = side_by_side(&rt, alloc, 3)?;
     let mut broken = row_of(
         alloc,
         &[0, 1, 2],
@@ -125,7 +125,7 @@ fn either_orders(alloc: Global, count: u32) -> Result<Vec<Rule>, AllocError>
 #[test]
 fn forms_no_list_longer_than_its_answer(rt: HostRuntime) -> Result<(), Fail> {
     let alloc = rt.alloc();
-    let tree = side_by_side(alloc, 60)?;
+    let tree = side_by_side(&rt, alloc, 60)?;
     let mut leaves = Vec::new(alloc);
     for leaf in 0..60 {
         leaves.push(leaf)?;
