@@ -1,15 +1,13 @@
-ghost use Rattle.std.specs.Prelude.{◌≡◌, ◌≤◌, length, IfOk};
+ghost use Rattle.std.specs.Prelude.{◌≤◌};
 
-use crate::{LeafEvents, Rule, WayCount, count_ways, leaf_events, needs, nnf, precedes, ways};
+use crate::{Rule, WayCount, count_ways, leaf_events, needs, nnf, precedes, ways};
 use flow_goal::{Goal, Label, Tree};
 use std::alloc::{AllocError, Global};
 use std::process::Abort;
 use std::test::Fail;
 
 /// The events 0, 1, .. below the count.
-fn events(alloc: Global, count: u32) -> Result<Vec<Label>, AllocError>
-    ensures { IfOk result (λ labels. length labels.items ≡ count) }
-{
+fn events(alloc: Global, count: u32) -> Result<Vec<Label>, AllocError> {
     let mut labels = Vec::new(alloc);
     for event in 0..count {
         labels.push(Label::Event(event))?;
@@ -18,12 +16,14 @@ fn events(alloc: Global, count: u32) -> Result<Vec<Label>, AllocError>
 }
 
 /// So many leaves beside one another, each with the event of its number.
-fn side_by_side(alloc: Global, count: u32) -> Result<Tree, Fail> {
+fn side_by_side(rt: &impl Abort, alloc: Global, count: u32) -> Result<Tree, Fail> {
     let mut goal = Goal::Leaf(0);
     for leaf in 1..count {
         goal = Goal::Beside(Box::new(alloc, goal)?, Box::new(alloc, Goal::Leaf(leaf))?);
     }
-    Ok(Tree::new(goal, events(alloc, count)?)?)
+    let labels = events(alloc, count)?;
+    assert_eq!(rt; labels.len(), count as usize);
+    Ok(Tree::new(goal, labels)?)
 }
 
 fn order(alloc: Global, events: &[u32]) -> Result<Rule, AllocError> {
@@ -34,48 +34,75 @@ fn not(alloc: Global, rule: Rule) -> Result<Rule, AllocError> {
     Ok(Rule::Not(Box::new(alloc, rule)?))
 }
 
-/// What the rule is to have: these ways, in order.
-fn expect(
-    rt: &impl Abort,
-    alloc: Global,
-    events: &LeafEvents,
-    rule: &Rule,
-    wanted: &[&[(u32, u32)]],
-) -> Result<(), Fail> {
-    let normal = nnf(alloc, rule)?;
-    let found = ways(alloc, &normal, events)?;
+/// A rule over some leaves, and the pairs of each way that it is to have there.
+#[derive(Drop)]
+struct Row {
+    leaves: Vec<u32>,
+    rule: Rule,
+    ways: Vec<Vec<(u32, u32)>>,
+}
+
+/// That the row's rule has just its ways, and as many.
+fn expect(rt: &impl Abort, alloc: Global, tree: &Tree, row: &Row) -> Result<(), Fail> {
+    let events = leaf_events(alloc, tree, &row.leaves)?;
+    let normal = nnf(alloc, &row.rule)?;
+    let found = ways(alloc, &normal, &events)?;
     let mut pairs = 0u64;
-    assert_eq!(rt; found.len(), wanted.len());
-    for (set, want) in found.iter().zip(wanted) {
-        assert_eq!(rt; set.pairs(), *want);
-        pairs = pairs.saturating_add(want.len() as u64);
+    assert_eq!(rt; found.len(), row.ways.len());
+    for (set, way) in found.iter().zip(&row.ways) {
+        assert_eq!(rt; set.pairs(), way.as_slice());
+        pairs = pairs.saturating_add(way.len() as u64);
     }
     let count = WayCount {
-        ways: wanted.len() as u64,
+        ways: row.ways.len() as u64,
         pairs,
     };
-    assert_eq!(rt; count_ways(&normal, events), count);
+    assert_eq!(rt; count_ways(&normal, &events), count);
     Ok(())
+}
+
+/// A row with one way at most.
+fn row_of(
+    alloc: Global,
+    leaves: &[u32],
+    rule: Rule,
+    way: Option<&[(u32, u32)]>,
+) -> Result<Row, AllocError> {
+    let mut ways = Vec::new(alloc);
+    if let Some(pairs) = way {
+        ways.push(Vec::from_slice(alloc, pairs)?)?;
+    }
+    let leaves = Vec::from_slice(alloc, leaves)?;
+    Ok(Row { leaves, rule, ways })
 }
 
 #[test]
 fn lists_the_ways(rt: HostRuntime) -> Result<(), Fail> {
     let alloc = rt.alloc();
-    let tree = side_by_side(alloc, 3)?;
-    let all = leaf_events(alloc, &tree, &[0, 1, 2])?;
-    let two = leaf_events(alloc, &tree, &[0, 2])?;
-    let broken = not(alloc, order(alloc, &[0, 1, 2])?)?;
-    let rows: [(&LeafEvents, Rule, &[&[(u32, u32)]]); 7] = [
-        (&all, broken, &[&[(1, 0)], &[(2, 1)]]),
-        (&all, order(alloc, &[0, 1, 2])?, &[&[(0, 1), (1, 2)]]),
-        (&all, order(alloc, &[0, 0])?, &[]),
-        (&all, precedes(alloc, 0, 1)?, &[&[(0, 1)]]),
-        (&all, needs(alloc, 0, 1)?, &[&[]]),
-        (&two, needs(alloc, 0, 1)?, &[]),
-        (&two, precedes(alloc, 0, 1)?, &[&[]]),
-    ];
-    for (events, rule, wanted) in &rows {
-        expect(&rt, alloc, events, rule, wanted)?;
+    let tree = side_by_side(&rt, alloc, 3)?;
+    let mut broken = row_of(
+        alloc,
+        &[0, 1, 2],
+        not(alloc, order(alloc, &[0, 1, 2])?)?,
+        Some(&[(1, 0)]),
+    )?;
+    broken.ways.push(Vec::from_slice(alloc, &[(2, 1)])?)?;
+    let rows = vec![in alloc;
+        broken,
+        row_of(
+            alloc,
+            &[0, 1, 2],
+            order(alloc, &[0, 1, 2])?,
+            Some(&[(0, 1), (1, 2)])
+        )?,
+        row_of(alloc, &[0, 1, 2], order(alloc, &[0, 0])?, None)?,
+        row_of(alloc, &[0, 1, 2], precedes(alloc, 0, 1)?, Some(&[(0, 1)]))?,
+        row_of(alloc, &[0, 1, 2], needs(alloc, 0, 1)?, Some(&[]))?,
+        row_of(alloc, &[0, 2], needs(alloc, 0, 1)?, None)?,
+        row_of(alloc, &[0, 2], precedes(alloc, 0, 1)?, Some(&[]))?,
+    ]?;
+    for row in &rows {
+        expect(&rt, alloc, &tree, row)?;
     }
     Ok(())
 }
@@ -98,17 +125,20 @@ fn either_orders(alloc: Global, count: u32) -> Result<Vec<Rule>, AllocError>
 #[test]
 fn forms_no_list_longer_than_its_answer(rt: HostRuntime) -> Result<(), Fail> {
     let alloc = rt.alloc();
-    let tree = side_by_side(alloc, 60)?;
+    let tree = side_by_side(&rt, alloc, 60)?;
     let mut leaves = Vec::new(alloc);
     for leaf in 0..60 {
         leaves.push(leaf)?;
     }
-    let events = leaf_events(alloc, &tree, &leaves)?;
+    let many = nnf(alloc, &Rule::And(either_orders(alloc, 30)?))?;
+    let count = count_ways(&many, &leaf_events(alloc, &tree, &leaves)?);
+    assert_eq!(rt; (count.ways, count.pairs), (1 << 30, 30 << 30));
     let mut rules = either_orders(alloc, 30)?;
     rules.push(Rule::Must(60))?;
-    expect(&rt, alloc, &events, &Rule::And(rules), &[])?;
-    let many = nnf(alloc, &Rule::And(either_orders(alloc, 30)?))?;
-    let count = count_ways(&many, &events);
-    assert_eq!(rt; (count.ways, count.pairs), (1 << 30, 30 << 30));
-    Ok(())
+    expect(
+        &rt,
+        alloc,
+        &tree,
+        &row_of(alloc, &leaves, Rule::And(rules), None)?,
+    )
 }
