@@ -87,6 +87,9 @@ fn resolves_and_simplifies(rt: HostRuntime) -> Result<(), Fail> {
             resolved
         );
         assert_eq!(rt; choiceless.leaves(), leaves);
+        let copy = choiceless.copy(alloc)?;
+        assert_eq!(rt; format!(in alloc; "{:?}", copy.goal())?.as_str(), resolved);
+        assert_eq!(rt; copy.leaves(), leaves);
         let simplified = simplify(alloc, choiceless)?;
         assert_eq!(rt;
             format!(in alloc; "{:?}", simplified.goal())?.as_str(),
