@@ -1,0 +1,4 @@
+pub mod Form
+pub mod RuleForm
+pub mod Script
+pub mod Names
