@@ -1,0 +1,5 @@
+pub mod KeptValues
+pub mod Cutting
+pub mod Written
+pub mod EachToken
+pub mod Small
