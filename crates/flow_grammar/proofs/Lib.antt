@@ -1,0 +1,14 @@
+pub mod Runs
+pub mod ArgStates
+pub mod GoalStates
+pub mod RuleStates
+pub mod ScriptStates
+pub mod QueryStates
+pub mod WantedKinds
+pub mod MadeTexts
+pub mod PrintedGoals
+pub mod PrintedRules
+pub mod PrintedTexts
+pub mod RolesOfNames
+pub mod RunSteps
+pub mod Reading

@@ -1,0 +1,11 @@
+pub mod Symbol
+pub mod Grammar
+pub mod Machine
+pub mod Steps
+pub mod Texts
+pub mod Laws
+pub mod Made
+pub mod Roles
+pub mod Print
+pub mod PrintLaws
+pub mod Cases

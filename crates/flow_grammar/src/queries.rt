@@ -1,0 +1,20 @@
+ghost use Rattle.flow_grammar.specs.Texts.{SpellsQuery};
+ghost use Rattle.flow_grammar.specs.Machine.{read_query, step_query, finish_query, wanted_query, depth_query};
+ghost use Rattle.flow_grammar.specs.Steps.{GoesByStep};
+ghost use Rattle.flow_grammar.specs.Made.{QueriesAreWellMade};
+ghost use Rattle.flow_grammar.specs.Laws.{ReadsJustThese, SaysOneThing, IsStuckJustThere, IsTooDeepJustThere, WantsWhatCouldCome};
+
+/// What the machine finds in the symbols of a query, in the grammar's terms.
+pub fn law_queries_are_read()
+    ensures reads { ReadsJustThese SpellsQuery read_query }
+    ensures one_thing { SaysOneThing SpellsQuery }
+    ensures is_stuck { IsStuckJustThere SpellsQuery read_query }
+    ensures is_too_deep { IsTooDeepJustThere SpellsQuery read_query }
+    ensures wants { WantsWhatCouldCome SpellsQuery read_query }
+    ensures by_step { GoesByStep step_query finish_query wanted_query depth_query }
+{}
+
+/// What a query asks has two or more members in each list.
+pub fn law_queries_are_well_made()
+    ensures { QueriesAreWellMade }
+{}
