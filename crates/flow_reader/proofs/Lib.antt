@@ -1,0 +1,4 @@
+pub mod Depths
+pub mod Heights
+pub mod Within
+pub mod Loops

@@ -1,0 +1,21 @@
+//! The reader of workflow texts and queries: the machine of the grammar, stepped once a token.
+#![tactic(auto)]
+
+mod arguments;
+mod goals;
+mod levels;
+mod queries;
+mod reading;
+mod rule_levels;
+mod rules;
+mod scripts;
+mod symbol;
+#[cfg(test)]
+mod tests;
+mod tokens;
+mod words;
+
+pub use flow_form::{Query, Script, TextRefusal};
+pub use reading::{read_query, read_script};
+pub use symbol::Symbol;
+pub use tokens::symbol_of;

@@ -1,0 +1,186 @@
+ghost use Rattle.std.specs.Prelude.{◌≡◌, ◌∷◌, ◌-◌, ◌^◌, min, [], map, IfOk, OnOk};
+ghost use Rattle.flow_form.specs.RuleForm.{rule_shape_of, negated};
+ghost use Rattle.flow_grammar.specs.Grammar as grammar;
+ghost use Rattle.flow_grammar.specs.Machine as machine;
+ghost use Rattle.flow_reader.specs.Readers.{kind_of};
+ghost use Rattle.flow_reader.specs.Rules.{rule_list_of, rule_frame_of, rule_frames_of, rule_level_of};
+
+use flow_form::{RuleForm, Wanted};
+use std::alloc::{AllocError, Global};
+
+/// How members of a list are joined.
+#[derive(Clone, Copy)]
+enum RuleJoin {
+    And,
+    Or,
+}
+
+/// The list of the members; of one member, that member.
+fn gathered(join: RuleJoin, mut members: Vec<RuleForm>) -> RuleForm
+    ensures { rule_shape_of result ≡ grammar.gather_rules (rule_list_of join) (map rule_shape_of members.items) }
+{
+    if members.len() == 1 {
+        if let Some(only) = members.pop() {
+            return only;
+        }
+    }
+    match join {
+        RuleJoin::And => RuleForm::And(members),
+        RuleJoin::Or => RuleForm::Or(members),
+    }
+}
+
+fn not(alloc: Global, rule: RuleForm) -> Result<RuleForm, AllocError>
+    ensures { IfOk result (λ form. rule_shape_of form ≡ negated (rule_shape_of rule)) }
+{
+    Ok(RuleForm::Not(Box::new(alloc, rule)?))
+}
+
+/// The rule under so many nots.
+pub fn negated(alloc: Global, nots: usize, rule: RuleForm) -> Result<RuleForm, AllocError>
+    ensures { IfOk result (λ form. rule_shape_of form ≡ machine.negate nots (rule_shape_of rule)) }
+{
+    if nots == 0 {
+        return Ok(rule);
+    }
+    let inner = not(alloc, rule)?;
+    negated(alloc, nots - 1, inner)
+}
+
+/// The members that are whole, of the two lists that are being read.
+#[derive(Drop)]
+pub struct RuleLevel {
+    anys: Vec<RuleForm>,
+    alls: Vec<RuleForm>,
+}
+
+impl RuleLevel {
+    pub fn new(alloc: Global) -> RuleLevel
+        ensures { rule_level_of result ≡ machine.rule_level [] [] }
+    {
+        RuleLevel {
+            anys: Vec::new(alloc),
+            alls: Vec::new(alloc),
+        }
+    }
+
+    pub fn push(&mut self, rule: RuleForm) -> Result<(), AllocError>
+        ensures { OnOk result (rule_level_of self.new ≡ machine.push_rule (rule_level_of self.old) (rule_shape_of rule)) }
+    {
+        self.alls.push(rule)?;
+        Ok(())
+    }
+
+    pub fn all_closed(mut self, alloc: Global) -> Result<RuleLevel, AllocError>
+        ensures { IfOk result (λ level. rule_level_of level ≡ machine.close_all (rule_level_of self)) }
+    {
+        let all = gathered(RuleJoin::And, self.alls);
+        self.anys.push(all)?;
+        Ok(RuleLevel {
+            anys: self.anys,
+            alls: Vec::new(alloc),
+        })
+    }
+
+    pub fn closed(self, alloc: Global) -> Result<RuleForm, AllocError>
+        ensures { IfOk result (λ rule. rule_shape_of rule ≡ machine.close_rule (rule_level_of self)) }
+    {
+        let level = self.all_closed(alloc)?;
+        Ok(gathered(RuleJoin::Or, level.anys))
+    }
+}
+
+/// An open parenthesis, with what stands outside it and the nots directly before it.
+#[derive(Drop)]
+pub struct RuleFrame {
+    level: RuleLevel,
+    nots: usize,
+}
+
+impl RuleFrame {
+    /// What stands outside, with the rule inside as its last member.
+    pub fn wrapped(self, alloc: Global, rule: RuleForm) -> Result<RuleLevel, AllocError>
+        ensures { IfOk result (λ level. rule_level_of level ≡ machine.wrap_rule (rule_frame_of self) (rule_shape_of rule)) }
+    {
+        let mut level = self.level;
+        level.push(negated(alloc, self.nots, rule)?)?;
+        Ok(level)
+    }
+}
+
+/// How many parentheses and nots they are, kept at the greatest `usize`.
+fn height_of(frames: &[RuleFrame]) -> usize
+    ensures { result ≡ min (machine.rule_height (rule_frames_of frames.now)) (2 ^ 64 - 1) }
+{
+    match frames.split_last() {
+        None => 0,
+        Some((inner, outer)) => height_of(outer)
+            .saturating_add(inner.nots)
+            .saturating_add(1),
+    }
+}
+
+/// The open parentheses, the innermost last, and what stands in it.
+#[derive(Drop)]
+pub struct RuleStack {
+    pub frames: Vec<RuleFrame>,
+    pub level: RuleLevel,
+}
+
+impl RuleStack {
+    pub fn new(alloc: Global) -> RuleStack
+        ensures frames { rule_frames_of result.frames.items ≡ [] }
+        ensures level { rule_level_of result.level ≡ machine.rule_level [] [] }
+    {
+        RuleStack {
+            frames: Vec::new(alloc),
+            level: RuleLevel::new(alloc),
+        }
+    }
+
+    /// Inside a further parenthesis, which so many nots precede.
+    pub fn parenthesized(mut self, alloc: Global, nots: usize) -> Result<RuleStack, AllocError>
+        ensures frames { IfOk result (λ stack. rule_frames_of stack.frames.items
+            ≡ machine.rule_parenthesis (rule_level_of self.level) nots ∷ rule_frames_of self.frames.items) }
+        ensures level { IfOk result (λ stack. rule_level_of stack.level ≡ machine.rule_level [] []) }
+    {
+        let frame = RuleFrame {
+            level: self.level,
+            nots,
+        };
+        self.frames.push(frame)?;
+        Ok(RuleStack {
+            frames: self.frames,
+            level: RuleLevel::new(alloc),
+        })
+    }
+
+    pub fn all_closed(self, alloc: Global) -> Result<RuleStack, AllocError>
+        ensures frames { IfOk result (λ stack. stack.frames.items ≡ self.frames.items) }
+        ensures level { IfOk result (λ stack. rule_level_of stack.level ≡ machine.close_all (rule_level_of self.level)) }
+    {
+        let level = self.level.all_closed(alloc)?;
+        Ok(RuleStack {
+            frames: self.frames,
+            level,
+        })
+    }
+
+    /// What could come after a unit.
+    pub fn wanted(&self) -> Wanted
+        ensures { kind_of result ≡ machine.wanted_rule_join (rule_frames_of self.now.frames.items) }
+    {
+        if self.frames.is_empty() {
+            Wanted::Semicolon
+        } else {
+            Wanted::Closing
+        }
+    }
+
+    /// How many parentheses and nots are open, kept at the greatest `usize`.
+    pub fn height(&self) -> usize
+        ensures { result ≡ min (machine.rule_height (rule_frames_of self.now.frames.items)) (2 ^ 64 - 1) }
+    {
+        height_of(&self.frames)
+    }
+}

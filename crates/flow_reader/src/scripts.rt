@@ -1,0 +1,368 @@
+ghost use Rattle.std.specs.Prelude.{◌≡◌, ◌∷◌, ◌++◌, ◌-◌, ◌^◌, ◌<◌, [], min, map, option_map, IfOk, IfErr, Some, None};
+ghost use Rattle.flow_facts.specs.Atom.{atom};
+ghost use Rattle.flow_form.specs.Form.{shape_of};
+ghost use Rattle.flow_form.specs.RuleForm.{rule_shape_of};
+ghost use Rattle.flow_form.specs.Script as form;
+ghost use Rattle.flow_form.specs.Script.{said};
+ghost use Rattle.flow_grammar.specs.Machine as machine;
+ghost use Rattle.flow_reader.specs.Symbols.{meant};
+ghost use Rattle.flow_reader.specs.Readers.{kind_of, arg_step};
+ghost use Rattle.flow_reader.specs.Goals.{goal_step};
+ghost use Rattle.flow_reader.specs.Rules.{rule_step};
+ghost use Rattle.flow_reader.specs.Scripts.{declared_of, script_state};
+
+use crate::arguments::{ArgReader, ArgStep};
+use crate::goals::{GoalReader, GoalStep};
+use crate::rules::{RuleReader, RuleStep};
+use crate::symbol::Symbol;
+use flow_form::{Decl, Fact, Form, Name, Note, RuleForm, Script, Wanted};
+use std::alloc::{AllocError, Global};
+
+/// Where the reading of a text stands, with the declarations so far.
+#[derive(Drop)]
+pub enum ScriptReader {
+    DeclarationNeeded(Vec<Decl>),
+    FactToDeclare(Vec<Decl>),
+    AfterRelation(Vec<Decl>, Name),
+    InArgs(Vec<Decl>, ArgReader),
+    AfterFact(Vec<Decl>),
+    EventToDeclare(Vec<Decl>),
+    AfterEvent(Vec<Decl>, Name),
+    AfterFail(Vec<Decl>, Name),
+    AfterNoted(Vec<Decl>),
+    FlowToDeclare(Vec<Decl>),
+    EqualsNeeded(Vec<Decl>, Name),
+    InFlow(Vec<Decl>, Name, GoalReader),
+    InGoal(Vec<Decl>, GoalReader),
+    ConstraintNeeded(Vec<Decl>, Form, Vec<RuleForm>),
+    InConstraint(Vec<Decl>, Form, Vec<RuleForm>, RuleReader),
+}
+
+fn start_declaration(alloc: Global, decls: Vec<Decl>, symbol: Symbol<'_>) -> Option<ScriptReader>
+    ensures { option_map script_state result ≡ machine.start_declaration (declared_of decls.items) (meant symbol.entry) }
+{
+    match symbol {
+        Symbol::Fact => Some(ScriptReader::FactToDeclare(decls)),
+        Symbol::Event => Some(ScriptReader::EventToDeclare(decls)),
+        Symbol::Flow => Some(ScriptReader::FlowToDeclare(decls)),
+        Symbol::Goal => Some(ScriptReader::InGoal(decls, GoalReader::new(alloc))),
+        _ => None,
+    }
+}
+
+fn name_fact(
+    alloc: Global,
+    decls: Vec<Decl>,
+    symbol: Symbol<'_>,
+) -> Result<Option<ScriptReader>, AllocError>
+    ensures { IfOk result (λ step. option_map script_state step
+        ≡ machine.name_declared_fact (declared_of decls.items) (meant symbol.entry)) }
+{
+    match symbol {
+        Symbol::Name(name) => {
+            let relation = Name::new(alloc, name)?;
+            Ok(Some(ScriptReader::AfterRelation(decls, relation)))
+        }
+        _ => Ok(None),
+    }
+}
+
+fn join_fact(decls: Vec<Decl>, symbol: Symbol<'_>) -> Option<ScriptReader>
+    ensures { option_map script_state result ≡ machine.join_fact (declared_of decls.items) (meant symbol.entry) }
+{
+    match symbol {
+        Symbol::Comma => Some(ScriptReader::FactToDeclare(decls)),
+        Symbol::Semicolon => Some(ScriptReader::DeclarationNeeded(decls)),
+        _ => None,
+    }
+}
+
+fn open_args(
+    alloc: Global,
+    mut decls: Vec<Decl>,
+    relation: Name,
+    symbol: Symbol<'_>,
+) -> Result<Option<ScriptReader>, AllocError>
+    ensures { IfOk result (λ step. option_map script_state step
+        ≡ machine.open_declared_args (declared_of decls.items) relation (meant symbol.entry)) }
+{
+    match symbol {
+        Symbol::Opening => {
+            let args = ArgReader::ConstantNeeded(relation, Vec::new(alloc));
+            Ok(Some(ScriptReader::InArgs(decls, args)))
+        }
+        _ => {
+            decls.push(Decl::Fact(Fact::new(relation, Vec::new(alloc))))?;
+            Ok(join_fact(decls, symbol))
+        }
+    }
+}
+
+fn after_arg(mut decls: Vec<Decl>, step: ArgStep) -> Result<Option<ScriptReader>, AllocError>
+    ensures { IfOk result (λ made. option_map script_state made
+        ≡ machine.after_declared_arg (declared_of decls.items) (arg_step step)) }
+{
+    match step {
+        ArgStep::Reading(args) => Ok(Some(ScriptReader::InArgs(decls, args))),
+        ArgStep::Whole(fact) => {
+            decls.push(Decl::Fact(fact))?;
+            Ok(Some(ScriptReader::AfterFact(decls)))
+        }
+        ArgStep::Stuck => Ok(None),
+    }
+}
+
+fn name_event(
+    alloc: Global,
+    decls: Vec<Decl>,
+    symbol: Symbol<'_>,
+) -> Result<Option<ScriptReader>, AllocError>
+    ensures { IfOk result (λ step. option_map script_state step
+        ≡ machine.name_event (declared_of decls.items) (meant symbol.entry)) }
+{
+    match symbol {
+        Symbol::Name(name) => {
+            let event = Name::new(alloc, name)?;
+            Ok(Some(ScriptReader::AfterEvent(decls, event)))
+        }
+        _ => Ok(None),
+    }
+}
+
+fn join_event(decls: Vec<Decl>, symbol: Symbol<'_>) -> Option<ScriptReader>
+    ensures { option_map script_state result ≡ machine.join_event (declared_of decls.items) (meant symbol.entry) }
+{
+    match symbol {
+        Symbol::Comma => Some(ScriptReader::EventToDeclare(decls)),
+        Symbol::Semicolon => Some(ScriptReader::DeclarationNeeded(decls)),
+        _ => None,
+    }
+}
+
+fn note_event(
+    mut decls: Vec<Decl>,
+    event: Name,
+    symbol: Symbol<'_>,
+) -> Result<Option<ScriptReader>, AllocError>
+    ensures { IfOk result (λ step. option_map script_state step
+        ≡ machine.note_event (declared_of decls.items) event (meant symbol.entry)) }
+{
+    match symbol {
+        Symbol::Done => {
+            decls.push(Decl::Event(event, Note::Done))?;
+            Ok(Some(ScriptReader::AfterNoted(decls)))
+        }
+        Symbol::Fail => Ok(Some(ScriptReader::AfterFail(decls, event))),
+        Symbol::Comma | Symbol::Semicolon => {
+            decls.push(Decl::Event(event, Note::Done))?;
+            Ok(join_event(decls, symbol))
+        }
+        _ => Ok(None),
+    }
+}
+
+fn count_failures(
+    mut decls: Vec<Decl>,
+    event: Name,
+    symbol: Symbol<'_>,
+) -> Result<Option<ScriptReader>, AllocError>
+    ensures { IfOk result (λ step. option_map script_state step
+        ≡ machine.count_failures (declared_of decls.items) event (meant symbol.entry)) }
+{
+    match symbol {
+        Symbol::Number(count) => {
+            decls.push(Decl::Event(event, Note::FailFirst(count)))?;
+            Ok(Some(ScriptReader::AfterNoted(decls)))
+        }
+        Symbol::Comma | Symbol::Semicolon => {
+            decls.push(Decl::Event(event, Note::Fail))?;
+            Ok(join_event(decls, symbol))
+        }
+        _ => Ok(None),
+    }
+}
+
+fn name_flow(
+    alloc: Global,
+    decls: Vec<Decl>,
+    symbol: Symbol<'_>,
+) -> Result<Option<ScriptReader>, AllocError>
+    ensures { IfOk result (λ step. option_map script_state step
+        ≡ machine.name_flow (declared_of decls.items) (meant symbol.entry)) }
+{
+    match symbol {
+        Symbol::Name(name) => {
+            let flow = Name::new(alloc, name)?;
+            Ok(Some(ScriptReader::EqualsNeeded(decls, flow)))
+        }
+        _ => Ok(None),
+    }
+}
+
+fn begin_flow(
+    alloc: Global,
+    decls: Vec<Decl>,
+    flow: Name,
+    symbol: Symbol<'_>,
+) -> Option<ScriptReader>
+    ensures { option_map script_state result ≡ machine.begin_flow (declared_of decls.items) flow (meant symbol.entry) }
+{
+    match symbol {
+        Symbol::Equals => Some(ScriptReader::InFlow(decls, flow, GoalReader::new(alloc))),
+        _ => None,
+    }
+}
+
+fn after_flow(
+    mut decls: Vec<Decl>,
+    flow: Name,
+    step: GoalStep,
+) -> Result<Option<ScriptReader>, AllocError>
+    ensures { IfOk result (λ made. option_map script_state made
+        ≡ machine.after_flow_step (declared_of decls.items) flow (goal_step step)) }
+{
+    match step {
+        GoalStep::Reading(goal) => Ok(Some(ScriptReader::InFlow(decls, flow, goal))),
+        GoalStep::Whole(form) => {
+            decls.push(Decl::Flow(flow, form))?;
+            Ok(Some(ScriptReader::DeclarationNeeded(decls)))
+        }
+        GoalStep::Stuck => Ok(None),
+    }
+}
+
+fn after_goal(alloc: Global, decls: Vec<Decl>, step: GoalStep) -> Option<ScriptReader>
+    ensures { option_map script_state result ≡ machine.after_goal_step (declared_of decls.items) (goal_step step) }
+{
+    match step {
+        GoalStep::Reading(goal) => Some(ScriptReader::InGoal(decls, goal)),
+        GoalStep::Whole(form) => {
+            Some(ScriptReader::ConstraintNeeded(decls, form, Vec::new(alloc)))
+        }
+        GoalStep::Stuck => None,
+    }
+}
+
+fn start_constraint(
+    alloc: Global,
+    decls: Vec<Decl>,
+    goal: Form,
+    rules: Vec<RuleForm>,
+    symbol: Symbol<'_>,
+) -> Option<ScriptReader>
+    ensures { option_map script_state result
+        ≡ machine.start_constraint (declared_of decls.items) (shape_of goal) (map rule_shape_of rules.items) (meant symbol.entry) }
+{
+    match symbol {
+        Symbol::Constraint => {
+            let rule = RuleReader::new(alloc);
+            Some(ScriptReader::InConstraint(decls, goal, rules, rule))
+        }
+        _ => None,
+    }
+}
+
+fn after_constraint(
+    decls: Vec<Decl>,
+    goal: Form,
+    mut rules: Vec<RuleForm>,
+    step: RuleStep,
+) -> Result<Option<ScriptReader>, AllocError>
+    ensures { IfOk result (λ made. option_map script_state made
+        ≡ machine.after_rule_step (declared_of decls.items) (shape_of goal) (map rule_shape_of rules.items) (rule_step step)) }
+{
+    match step {
+        RuleStep::Reading(rule) => Ok(Some(ScriptReader::InConstraint(decls, goal, rules, rule))),
+        RuleStep::Whole(rule) => {
+            rules.push(rule)?;
+            Ok(Some(ScriptReader::ConstraintNeeded(decls, goal, rules)))
+        }
+        RuleStep::Stuck => Ok(None),
+    }
+}
+
+impl ScriptReader {
+    /// Before the first symbol of a text.
+    pub fn new(alloc: Global) -> ScriptReader
+        ensures { script_state result ≡ machine.script_start }
+    {
+        ScriptReader::DeclarationNeeded(Vec::new(alloc))
+    }
+
+    /// What a symbol makes of it. `None` where no text goes on with it.
+    pub fn step(self, alloc: Global, symbol: Symbol<'_>) -> Result<Option<ScriptReader>, AllocError>
+        requires { machine.depth_script (script_state self) < 2 ^ 64 - 1 }
+        ensures { IfOk result (λ step. option_map script_state step ≡ machine.step_script (script_state self) (meant symbol.entry)) }
+    {
+        match self {
+            ScriptReader::DeclarationNeeded(decls) => Ok(start_declaration(alloc, decls, symbol)),
+            ScriptReader::FactToDeclare(decls) => name_fact(alloc, decls, symbol),
+            ScriptReader::AfterRelation(decls, name) => open_args(alloc, decls, name, symbol),
+            ScriptReader::InArgs(decls, args) => after_arg(decls, args.step(alloc, symbol)?),
+            ScriptReader::AfterFact(decls) => Ok(join_fact(decls, symbol)),
+            ScriptReader::EventToDeclare(decls) => name_event(alloc, decls, symbol),
+            ScriptReader::AfterEvent(decls, event) => note_event(decls, event, symbol),
+            ScriptReader::AfterFail(decls, event) => count_failures(decls, event, symbol),
+            ScriptReader::AfterNoted(decls) => Ok(join_event(decls, symbol)),
+            ScriptReader::FlowToDeclare(decls) => name_flow(alloc, decls, symbol),
+            ScriptReader::EqualsNeeded(decls, flow) => Ok(begin_flow(alloc, decls, flow, symbol)),
+            ScriptReader::InFlow(decls, flow, goal) => {
+                after_flow(decls, flow, goal.step(alloc, symbol)?)
+            }
+            ScriptReader::InGoal(decls, goal) => {
+                Ok(after_goal(alloc, decls, goal.step(alloc, symbol)?))
+            }
+            ScriptReader::ConstraintNeeded(decls, goal, rules) => {
+                Ok(start_constraint(alloc, decls, goal, rules, symbol))
+            }
+            ScriptReader::InConstraint(decls, goal, rules, rule) => {
+                after_constraint(decls, goal, rules, rule.step(alloc, symbol)?)
+            }
+        }
+    }
+
+    /// What the text says if it ends here, or what could come next.
+    pub fn finish(self) -> Result<Script, Wanted>
+        ensures ok { IfOk result (λ script. machine.finish_script (script_state self) ≡ Some (said script)) }
+        ensures err { IfErr result (λ wanted. (machine.finish_script (script_state self) ≡ None)
+            × (kind_of wanted ≡ machine.wanted_script (script_state self))) }
+    {
+        match self {
+            ScriptReader::ConstraintNeeded(decls, goal, rules) => Ok(Script { decls, goal, rules }),
+            reader => Err(reader.wanted()),
+        }
+    }
+
+    /// What could come next.
+    pub fn wanted(&self) -> Wanted
+        ensures { kind_of result ≡ machine.wanted_script (script_state self.now) }
+    {
+        match self {
+            ScriptReader::DeclarationNeeded(_) => Wanted::Declaration,
+            ScriptReader::FactToDeclare(_) => Wanted::Fact,
+            ScriptReader::InArgs(_, args) => args.wanted(),
+            ScriptReader::EventToDeclare(_) | ScriptReader::FlowToDeclare(_) => Wanted::Name,
+            ScriptReader::AfterRelation(..)
+            | ScriptReader::AfterFact(_)
+            | ScriptReader::AfterEvent(..)
+            | ScriptReader::AfterFail(..)
+            | ScriptReader::AfterNoted(_) => Wanted::Semicolon,
+            ScriptReader::EqualsNeeded(..) => Wanted::Equals,
+            ScriptReader::InFlow(_, _, goal) | ScriptReader::InGoal(_, goal) => goal.wanted(),
+            ScriptReader::ConstraintNeeded(..) => Wanted::Constraint,
+            ScriptReader::InConstraint(_, _, _, rule) => rule.wanted(),
+        }
+    }
+
+    /// In how many parentheses and nots the next symbol stands, kept at the greatest `usize`.
+    pub fn depth(&self) -> usize
+        ensures { result ≡ min (machine.depth_script (script_state self.now)) (2 ^ 64 - 1) }
+    {
+        match self {
+            ScriptReader::InArgs(..) => 1,
+            ScriptReader::InFlow(_, _, goal) | ScriptReader::InGoal(_, goal) => goal.depth(),
+            ScriptReader::InConstraint(_, _, _, rule) => rule.depth(),
+            _ => 0,
+        }
+    }
+}
