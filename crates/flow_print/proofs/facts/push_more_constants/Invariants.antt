@@ -1,0 +1,7 @@
+use Rattle.std.proofs.Common.{◌≡◌, ◌++◌, drop}
+use Rattle.flow_print.specs.Printed.{more_constants}
+use Rattle.flow_print.proofs.facts.push_more_constants.Given as goal
+
+abbrev pub invariant-loop-constant : goal.invariant-loop-constant
+invariant-loop-constant l =
+    l.text.items ++ more_constants (drop l.constant-index l.constants) ≡ l.initial.text.items ++ more_constants l.constants

@@ -1,0 +1,4 @@
+pub mod Printed
+pub mod Joins
+pub mod Printable
+pub mod PrintedLaws

@@ -1,0 +1,55 @@
+ghost use Rattle.std.specs.Prelude.{◌≡◌, ◌++◌, OnOk};
+ghost use Rattle.std.specs.Fmt.{decimal};
+ghost use Rattle.flow_print.specs.Printed.{constant_text, more_constants, arguments_text, fact_text};
+
+use flow_form::{Const, Fact};
+use itoa::Buffer;
+use std::alloc::AllocError;
+
+pub(crate) fn push_number(text: &mut Vec<u8>, number: u32) -> Result<(), AllocError>
+    ensures { OnOk result (text.new.items ≡ text.old.items ++ decimal number) }
+{
+    let mut digits = Buffer::new();
+    text.extend_from_slice(digits.format(number).as_bytes())
+}
+
+fn push_constant(text: &mut Vec<u8>, constant: &Const) -> Result<(), AllocError>
+    ensures { OnOk result (text.new.items ≡ text.old.items ++ constant_text constant.now) }
+{
+    match constant {
+        Const::Word(name) => text.extend_from_slice(name.bytes()),
+        Const::Number(number) => push_number(text, *number),
+    }
+}
+
+/// Each of them after a comma.
+fn push_more_constants(text: &mut Vec<u8>, constants: &[Const]) -> Result<(), AllocError>
+    ensures { OnOk result (text.new.items ≡ text.old.items ++ more_constants constants.now) }
+{
+    for constant in constants {
+        text.extend_from_slice(b",")?;
+        push_constant(text, constant)?;
+    }
+    Ok(())
+}
+
+fn push_arguments(text: &mut Vec<u8>, constants: &[Const]) -> Result<(), AllocError>
+    ensures { OnOk result (text.new.items ≡ text.old.items ++ arguments_text constants.now) }
+{
+    match constants {
+        [] => Ok(()),
+        [first, rest @ ..] => {
+            text.extend_from_slice(b"(")?;
+            push_constant(text, first)?;
+            push_more_constants(text, rest)?;
+            text.extend_from_slice(b")")
+        }
+    }
+}
+
+pub(crate) fn push_fact(text: &mut Vec<u8>, fact: &Fact) -> Result<(), AllocError>
+    ensures { OnOk result (text.new.items ≡ text.old.items ++ fact_text fact.now) }
+{
+    text.extend_from_slice(fact.relation().bytes())?;
+    push_arguments(text, fact.args())
+}

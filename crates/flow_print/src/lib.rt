@@ -1,0 +1,14 @@
+//! Workflows written as text, with as few parentheses as may be.
+#![tactic(auto)]
+
+mod facts;
+mod goals;
+mod laws;
+mod rules;
+mod scripts;
+#[cfg(test)]
+mod tests;
+
+pub use flow_form::Script;
+pub use laws::{law_prints_are_lexed, law_what_is_said_can_be_printed};
+pub use scripts::print;
