@@ -1,0 +1,98 @@
+-- What may follow the done leaves, one by one and two by two.
+use Rattle.std.proofs.Common.{◌≡◌, ℕ, ◌<◌, ◌≤◌, Bool, true, false, ◌==◌, ◌||◌, ◌↔◌, IsTrue, eq-eqb, eqb-true, List, [], ◌∷◌, length, get_or, take, inl, inr, ⊎_elim, refl, sym, ◌∙◌, subst}
+use Rattle.std.proofs.lemmas.List.{take_all}
+use Rattle.flow_model.specs.Lists.{◌∈◌, Each}
+use Rattle.flow_model.specs.Ready.{DoneOr, IsReadyRun, IsCompleteRun}
+use Rattle.flow_model.specs.Process.{leaves}
+use Rattle.flow_laws.specs.Words.{EachTwo}
+use Rattle.flow_laws.proofs.ListLemmas2.{each_member}
+use Rattle.flow_laws.proofs.OrdersByTwo.{pairs_suffice_for_orders}
+use Rattle.flow_laws.proofs.ReadyRuns.{same_ready, same_run}
+use Rattle.flow_plan.specs.declared.progress.Progress.{Progress}
+use Rattle.flow_plan.specs.Planned.{Planned, pairs_of}
+use Rattle.flow_plan.specs.Progress.{is_done, IsDone, bound_of}
+use Rattle.flow_plan.specs.Orders.{Fits, MayComeNext, MayComeAfter, MayFollowInEveryOrder}
+use Rattle.flow_plan.proofs.PlaceLemmas.{member_at, get_at}
+use Rattle.flow_plan.proofs.RowLemmas.{either_true, first_true, second_true}
+
+-- ---- one leaf more is done
+
+pub noted_to : (old new : Progress) (leaf : ℕ) → ((n : ℕ) → is_done new n ≡ (n == leaf || is_done old n)) → (n : ℕ) → IsDone new n → DoneOr (IsDone old) (leaf ∷ []) n
+noted_to old new leaf noted n done = ⊎_elim (λ same. inr (inl (eqb-true n leaf same))) (λ h. inl h)
+    (either_true (n == leaf) (is_done old n) (sym (noted n) ∙ done))
+
+pub noted_from : (old new : Progress) (leaf : ℕ) → ((n : ℕ) → is_done new n ≡ (n == leaf || is_done old n)) → (n : ℕ) → DoneOr (IsDone old) (leaf ∷ []) n → IsDone new n
+noted_from old new leaf noted n either = noted n ∙ ⊎_elim
+    (λ h. second_true (n == leaf) (is_done old n) h)
+    (λ last. ⊎_elim (λ same. first_true (n == leaf) (is_done old n) (eq-eqb n leaf same)) (λ none. absurd none) last) either
+
+pub next_is_after : (p : Planned) (old new : Progress) (first second : ℕ) (answer : Bool) → ((n : ℕ) → is_done new n ≡ (n == first || is_done old n)) →
+    (IsTrue answer ↔ MayComeNext p (IsDone new) second) → IsTrue answer ↔ MayComeAfter p (IsDone old) first second
+next_is_after p old new first second answer noted says = (
+  λ yes. same_ready p.process (pairs_of p.tokens) (IsDone new) (DoneOr (IsDone old) (first ∷ [])) second
+      (noted_to old new first noted) (noted_from old new first noted) (says.0 yes),
+  λ after. says.1 (same_ready p.process (pairs_of p.tokens) (DoneOr (IsDone old) (first ∷ [])) (IsDone new) second
+      (noted_from old new first noted) (noted_to old new first noted) after),
+)
+
+pub orders_after : (p : Planned) (old new : Progress) (first : ℕ) (list : List ℕ) → ((n : ℕ) → is_done new n ≡ (n == first || is_done old n)) →
+    MayFollowInEveryOrder p (IsDone new) list ↔ MayFollowInEveryOrder p (DoneOr (IsDone old) (first ∷ [])) list
+orders_after p old new first list noted = (
+  λ all order is. same_run p.process (pairs_of p.tokens) (IsDone new) (DoneOr (IsDone old) (first ∷ [])) order
+      (noted_to old new first noted) (noted_from old new first noted) (all order is),
+  λ all order is. same_run p.process (pairs_of p.tokens) (DoneOr (IsDone old) (first ∷ [])) (IsDone new) order
+      (noted_from old new first noted) (noted_to old new first noted) (all order is),
+)
+
+-- ---- every order
+
+-- a leaf that may come next can be noted
+pub next_fits : (p : Planned) (done : Progress) (leaf : ℕ) → Fits p done → MayComeNext p (IsDone done) leaf → leaf < bound_of done
+next_fits p done leaf fits next = each_member (λ n. n < bound_of done) (leaves p.process) fits leaf next.leaf
+
+pub all_fit : (p : Planned) (done : Progress) (list : List ℕ) → Fits p done → Each (MayComeNext p (IsDone done)) list →
+    Each (λ n. n < bound_of done) list
+all_fit p done [] fits all = tt
+all_fit p done (n ∷ list) fits all = (next_fits p done n fits all.0, all_fit p done list fits all.1)
+
+pub every_order : (p : Planned) (done : Progress) (list : List ℕ) → Each (MayComeNext p (IsDone done)) list → EachTwo (MayComeAfter p (IsDone done)) list →
+    MayFollowInEveryOrder p (IsDone done) list
+every_order p done list each two = (pairs_suffice_for_orders p.process (pairs_of p.tokens) (is_done done) list).1 (record { each = each; two = two })
+
+pub by_two : (p : Planned) (done : Progress) (list : List ℕ) → MayFollowInEveryOrder p (IsDone done) list →
+    Each (MayComeNext p (IsDone done)) list × EachTwo (MayComeAfter p (IsDone done)) list
+by_two p done list all =
+    let side = (pairs_suffice_for_orders p.process (pairs_of p.tokens) (is_done done) list).0 all in (side.each, side.two)
+
+-- the leaf first, and two by two
+pub leaf_first : (p : Planned) (done : Progress) (leaf : ℕ) (list : List ℕ) → MayComeNext p (IsDone done) leaf → Each (MayComeNext p (IsDone done)) list →
+    Each (λ other. MayComeAfter p (IsDone done) leaf other × MayComeAfter p (IsDone done) other leaf) list → EachTwo (MayComeAfter p (IsDone done)) list →
+    MayFollowInEveryOrder p (IsDone done) (leaf ∷ list)
+leaf_first p done leaf list first each beside two = every_order p done (leaf ∷ list) (first, each) (beside, two)
+
+-- ---- all leaves
+
+pub complete_run : (p : Planned) (done : Progress) (answer : Bool) → (IsTrue answer ↔ ((n : ℕ) → n ∈ leaves p.process → IsDone done n)) →
+    (run : List ℕ) → IsReadyRun p.process (pairs_of p.tokens) run → ((n : ℕ) → IsDone done n ↔ (n ∈ run)) →
+    IsTrue answer ↔ IsCompleteRun p.process (pairs_of p.tokens) run
+complete_run p done answer says run ready same = (
+  λ yes. (ready, λ n member. (same n).0 (says.0 yes n member)),
+  λ complete. says.1 (λ n member. (same n).1 (complete.1 n member)),
+)
+
+-- some leaf is not done
+pub not_complete : (p : Planned) (done : Progress) (items : List ℕ) (i : ℕ) → items ≡ p.leaves → p.leaves ≡ leaves p.process → i < length items →
+    is_done done (get_or items i 0) ≡ false → IsTrue false ↔ ((n : ℕ) → n ∈ leaves p.process → IsDone done n)
+not_complete p done items i is listed within undone = (
+  λ wrong. absurd (cc),
+  λ all. let member : get_or items i 0 ∈ leaves p.process = subst (λ (l : List ℕ). get_or items i 0 ∈ l) (is ∙ listed) (member_at items i (get_or items i 0) (get_at items i within)) in
+      let closed = all (get_or items i 0) member in absurd (cc),
+)
+
+-- all leaves are done
+pub all_complete : (p : Planned) (done : Progress) (items : List ℕ) (i : ℕ) → items ≡ p.leaves → p.leaves ≡ leaves p.process → length items ≤ i →
+    Each (IsDone done) (take i items) → IsTrue true ↔ ((n : ℕ) → n ∈ leaves p.process → IsDone done n)
+all_complete p done items i is listed past all = (
+  λ yes n member. each_member (IsDone done) (leaves p.process) (subst (λ (l : List ℕ). Each (IsDone done) l) (take_all i items past ∙ is ∙ listed) all) n member,
+  λ every. refl,
+)

@@ -1,0 +1,68 @@
+-- Places in rising lists.
+use Rattle.std.proofs.Common.{◌≡◌, ℕ, ◌<◌, ◌≤◌, zero, suc, List, [], ◌∷◌, length, get_or, Some, slice_get, inl, inr, ⊎_elim, refl, sym, ap, arith}
+use Rattle.std.proofs.lemmas.Bool.{cases_lt}
+use native.Mathlib.Numerals.{unary_clauses}
+use Rattle.std.specs.List.Sorted.{IsStrictlyIncreasing}
+use Rattle.std.proofs.lemmas.List.Kept.{AllPairs-from_increasing}
+use Rattle.flow_model.specs.Lists.{◌∈◌, AreDistinct}
+
+-- a member stands at some place
+pub place_of_member : (xs : List ℕ) (x : ℕ) → x ∈ xs → (k : ℕ) × (k < length xs) × (get_or xs k 0 ≡ x)
+place_of_member [] x member = absurd member
+place_of_member (y ∷ ys) x (inl same) = (0, omega arith, sym same)
+place_of_member (y ∷ ys) x (inr member) =
+    let later = place_of_member ys x member in (suc later.0, omega (arith, later.1), later.2)
+
+-- what stands at a place is a member
+pub member_at : (xs : List ℕ) (k x : ℕ) → slice_get xs k ≡ Some x → x ∈ xs
+member_at [] k x at = absurd (cc)
+member_at (y ∷ ys) zero x at = let same : x ≡ y = cc in inl same
+member_at (y ∷ ys) (suc k) x at = inr (member_at ys k x at)
+
+-- within the list, two ways to say what stands at a place
+pub get_at : (xs : List ℕ) (k : ℕ) → k < length xs → slice_get xs k ≡ Some (get_or xs k 0)
+get_at [] k within = absurd (omega arith)
+get_at (y ∷ ys) zero within = refl
+get_at (y ∷ ys) (suc k) within = get_at ys k (omega arith)
+
+pub within_at : (xs : List ℕ) (k x : ℕ) → slice_get xs k ≡ Some x → k < length xs
+within_at [] k x at = absurd (cc)
+within_at (y ∷ ys) zero x at = omega arith
+within_at (y ∷ ys) (suc k) x at = omega (arith, within_at ys k x at)
+
+pub index_at : (xs : List ℕ) (k x : ℕ) → slice_get xs k ≡ Some x → get_or xs k 0 ≡ x
+index_at xs k x at = let here = get_at xs k (within_at xs k x at) in cc
+
+-- each number is above those before it
+pub rising_pairs : (xs : List ℕ) → IsStrictlyIncreasing xs → (i j : ℕ) → i < j → j < length xs → get_or xs i 0 < get_or xs j 0
+rising_pairs xs rising i j below within = AllPairs-from_increasing xs rising i j 0 below within
+
+rising_tail : (x : ℕ) (xs : List ℕ) → IsStrictlyIncreasing (x ∷ xs) → IsStrictlyIncreasing xs
+rising_tail x xs rising k within =
+    let next = rising (suc k) (omega arith) in
+    let there = simp unary_clauses at next in
+    simp unary_clauses there
+
+-- a rising list holds no number twice
+pub distinct_of_rising : (xs : List ℕ) → IsStrictlyIncreasing xs → AreDistinct xs
+distinct_of_rising [] rising = tt
+distinct_of_rising (x ∷ xs) rising = (
+  λ member. let place = place_of_member xs x member in
+      let above : x < get_or xs place.0 0 = rising_pairs (x ∷ xs) rising 0 (suc place.0) (omega arith) (omega (arith, place.1)) in
+      omega (arith, above, place.2),
+  distinct_of_rising xs (rising_tail x xs rising),
+)
+
+-- what a search of a rising list says where it finds nothing
+pub not_found : (xs : List ℕ) (x i : ℕ) → ((k : ℕ) → k < i → get_or xs k 0 < x) → ((k : ℕ) → i ≤ k → k < length xs → x < get_or xs k 0) → ¬ (x ∈ xs)
+not_found xs x i below above member =
+    let place = place_of_member xs x member in
+    ⊎_elim (λ before. omega (arith, below place.0 before, place.2)) (λ after. omega (arith, above place.0 after place.1, place.2))
+    (cases_lt place.0 i)
+
+-- a rising list never falls
+pub rising_never_falls : (xs : List ℕ) → IsStrictlyIncreasing xs → (i j : ℕ) → i ≤ j → j < length xs → get_or xs i 0 ≤ get_or xs j 0
+rising_never_falls xs rising i j order within = ⊎_elim
+    (λ before. omega (arith, rising_pairs xs rising i j before within))
+    (λ after. let same : i ≡ j = omega arith in omega (arith, ap (λ (k : ℕ). get_or xs k 0) same))
+    (cases_lt i j)

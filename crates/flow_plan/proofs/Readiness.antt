@@ -1,0 +1,149 @@
+-- Readiness, by rows of bits.
+use Rattle.std.proofs.Common.{◌≡◌, ◌≢◌, ℕ, ◌<◌, ◌≤◌, Bool, false, nat_lt, ◌↔◌, IsTrue, List, length, get_or, Some, slice_get, ⊎_elim, sym, ◌∙◌, ap, subst, arith}
+use Rattle.std.proofs.lemmas.Bool.{le-ltb}
+use Rattle.std.specs.List.Sorted.{IsStrictlyIncreasing}
+use Rattle.leaf_rows.specs.Leaves.{has_leaf}
+use Rattle.leaf_rows.specs.declared.leaf_set.LeafSet.{LeafSet}
+use Rattle.flow_model.specs.Lists.{◌∈◌, Each, AreDistinct}
+use Rattle.flow_model.specs.Process.{Process, leaves, IsChoiceFree}
+use Rattle.flow_model.specs.Ready.{DirectlyBefore, IsReady}
+use Rattle.flow_laws.specs.Words.{AreOfLeaves, IsOrdered}
+use Rattle.flow_laws.proofs.ListLemmas2.{each_member, each_from_members}
+use Rattle.flow_laws.proofs.ReadyRuns.{direct_first, direct_second}
+use Rattle.flow_plan.specs.declared.token.OrderToken.{OrderToken}
+use Rattle.flow_plan.specs.declared.part_row.PartRow.{PartRow}
+use Rattle.flow_plan.specs.Planned.{Planned, pairs_of}
+use Rattle.flow_plan.specs.Rows.{AreRowsOf, has_at}
+use Rattle.flow_plan.specs.Parts.{IsPartRow, ArePartsOf, PartAllows}
+use Rattle.flow_plan.specs.Kept.{IsKept}
+use Rattle.flow_plan.proofs.PlaceLemmas.{place_of_member, member_at, get_at, distinct_of_rising}
+use Rattle.flow_plan.proofs.RowLemmas.{rows_at, rows_get, rows_length}
+
+-- ---- a new plan
+
+pub new_is_ordered : (p : Planned) → IsChoiceFree p.process → p.leaves ≡ leaves p.process → IsStrictlyIncreasing p.leaves →
+    AreOfLeaves p.process (pairs_of p.tokens) → Each (λ pair. pair.0 ≢ pair.1) (pairs_of p.tokens) → IsOrdered p.process (pairs_of p.tokens)
+new_is_ordered p choice_free listed rising of_leaves different = record {
+  choice_free = choice_free;
+  distinct = subst (λ (l : List ℕ). AreDistinct l) listed (distinct_of_rising p.leaves rising);
+  of_leaves = of_leaves;
+  different = different;
+}
+
+pub new_is_kept : (p : Planned) (tokens : List OrderToken) (told before : List (LeafSet 16)) (parts : List PartRow) →
+    tokens ≡ p.tokens → told ≡ before → IsOrdered p.process (pairs_of p.tokens) → p.leaves ≡ leaves p.process → IsStrictlyIncreasing p.leaves →
+    Each (λ n. n < 1024) p.leaves → AreRowsOf (DirectlyBefore p.process (pairs_of tokens)) p.leaves before → ArePartsOf p.process p.leaves told parts → IsKept p before parts
+new_is_kept p tokens told before parts same_tokens same_rows ordered listed rising small rows parts_are = record {
+  ordered = ordered;
+  listed = listed;
+  rising = rising;
+  small = small;
+  rows = subst (λ (ts : List OrderToken). AreRowsOf (DirectlyBefore p.process (pairs_of ts)) p.leaves before) same_tokens rows;
+  parts_are = subst (λ (rs : List (LeafSet 16)). ArePartsOf p.process p.leaves rs parts) same_rows parts_are;
+}
+
+-- ---- what is directly before a leaf
+
+abbrev pub Before : Planned → ℕ → ℕ → Type 0
+Before p x y = DirectlyBefore p.process (pairs_of p.tokens) x y
+
+in_plan : (p : Planned) (before : List (LeafSet 16)) (parts : List PartRow) → IsKept p before parts → (x : ℕ) → x ∈ leaves p.process → x ∈ p.leaves
+in_plan p before parts kept x member = subst (λ (l : List ℕ). x ∈ l) (sym kept.listed) member
+
+pub before_at_row : (p : Planned) (before : List (LeafSet 16)) (parts : List PartRow) (k x y : ℕ) (row : LeafSet 16) (answer : Bool) → IsKept p before parts →
+    slice_get p.leaves k ≡ Some y → row ≡ get_or before k row → answer ≡ has_leaf row x → IsTrue answer ↔ Before p x y
+before_at_row p before parts k x y row answer kept at is says =
+    let fits = rows_get (DirectlyBefore p.process (pairs_of p.tokens)) p.leaves before k y row row at is kept.rows in
+    subst (λ (b : Bool). IsTrue b ↔ Before p x y) (sym says) (fits x)
+
+-- where the first is no leaf
+pub before_of_large : (p : Planned) (before : List (LeafSet 16)) (parts : List PartRow) (x y : ℕ) → IsKept p before parts → 1024 ≤ x →
+    IsTrue (nat_lt x 1024) ↔ Before p x y
+before_of_large p before parts x y kept large = (
+  λ less. let more = le-ltb x 1024 large in absurd (cc),
+  λ direct. absurd (let small : x < 1024 = each_member (λ n. n < 1024) p.leaves kept.small x
+      (in_plan p before parts kept x (direct_first p.process (pairs_of p.tokens) kept.ordered x y direct)) in omega arith),
+)
+
+-- where the second is no leaf
+pub before_of_none : (p : Planned) (before : List (LeafSet 16)) (parts : List PartRow) (x y : ℕ) → IsKept p before parts → ¬ (y ∈ p.leaves) →
+    IsTrue false ↔ Before p x y
+before_of_none p before parts x y kept missing = (
+  λ never. absurd (cc),
+  λ direct. absurd (missing (in_plan p before parts kept y (direct_second p.process (pairs_of p.tokens) kept.ordered x y direct))),
+)
+
+pub row_within : (p : Planned) (before : List (LeafSet 16)) (parts : List PartRow) → IsKept p before parts → length before ≡ length p.leaves
+row_within p before parts kept = rows_length (DirectlyBefore p.process (pairs_of p.tokens)) p.leaves before kept.rows
+
+-- ---- readiness
+
+abbrev pub Ready : Planned → (ℕ → Type 0) → ℕ → Type 0
+Ready p Done n = IsReady p.process (pairs_of p.tokens) Done n
+
+-- a leaf of a part's row is directly before a leaf of the part
+outside_is : (p : Planned) (before : List (LeafSet 16)) (parts : List PartRow) (part : Process) (row : PartRow) (x : ℕ) → IsKept p before parts →
+    IsPartRow p.leaves before part row → IsTrue (has_leaf row.outside x) → ¬ (x ∈ leaves part) × ((y : ℕ) × (y ∈ leaves part) × Before p x y)
+outside_is p before parts part row x kept is out =
+    let told = (is.outside x).0 out in
+    let ahead = told.0 in
+    let y : ℕ = get_or p.leaves ahead.0 0 in
+    let direct : Before p x y = (rows_at (DirectlyBefore p.process (pairs_of p.tokens)) p.leaves before ahead.0 y (get_at p.leaves ahead.0 ahead.1) kept.rows x).0 ahead.3 in (
+      λ inside. told.1 (in_plan p before parts kept x (direct_first p.process (pairs_of p.tokens) kept.ordered x y direct), (is.inside x).1 inside),
+      (y, (is.inside y).0 ahead.2, direct),
+    )
+
+is_outside : (p : Planned) (before : List (LeafSet 16)) (parts : List PartRow) (part : Process) (row : PartRow) (x y : ℕ) → IsKept p before parts →
+    IsPartRow p.leaves before part row → ¬ (x ∈ leaves part) → y ∈ leaves part → Before p x y → IsTrue (has_leaf row.outside x)
+is_outside p before parts part row x y kept is out member direct =
+    let place = place_of_member p.leaves y (in_plan p before parts kept y (direct_second p.process (pairs_of p.tokens) kept.ordered x y direct)) in
+    let Inside : ℕ → Type 0 = λ n. IsTrue (has_leaf row.inside n) in
+    (is.outside x).1 (
+      (
+        place.0,
+        place.1,
+        subst Inside (sym place.2) ((is.inside y).1 member),
+        (rows_at (DirectlyBefore p.process (pairs_of p.tokens)) p.leaves before place.0 y (get_at p.leaves place.0 place.1 ∙ ap (λ (n : ℕ). Some n) place.2) kept.rows x).1 direct,
+      ),
+      λ both. out ((is.inside x).0 both.1),
+    )
+
+-- what the rows ask is what readiness asks
+pub ready_by_rows : (p : Planned) (before : List (LeafSet 16)) (parts : List PartRow) (D : ℕ → Type 0) (k n : ℕ) → IsKept p before parts →
+    slice_get p.leaves k ≡ Some n → ¬ D n → ((x : ℕ) → IsTrue (has_at before k x) → D x) → Each (λ row. PartAllows row D n) parts → Ready p D n
+ready_by_rows p before parts D k n kept at fresh row_done allowed =
+    let here : (x : ℕ) → Before p x n → D x = λ x direct. row_done x ((rows_at (DirectlyBefore p.process (pairs_of p.tokens)) p.leaves before k n at kept.rows x).1 direct) in
+    record {
+      leaf = subst (λ (l : List ℕ). n ∈ l) kept.listed (member_at p.leaves k n at);
+      not_done = fresh;
+      before = here;
+      outside = λ part member other x y x_in x_done y_in. ⊎_elim
+          (λ single. subst D (single x y x_in y_in) x_done)
+          (λ found. let row = found.0 in
+          let allows = each_member (λ row. PartAllows row D n) parts allowed row found.1 in
+          allows.passes (λ inside. other ((found.2.inside n).0 inside)) x y ((found.2.inside x).1 x_in) x_done ((found.2.inside y).1 y_in))
+          (kept.parts_are.complete part member);
+      begins = λ part member mine none x y x_out y_in direct. ⊎_elim
+          (λ single. here x (subst (λ (m : ℕ). Before p x m) (single y n y_in mine) direct))
+          (λ found. let row = found.0 in
+          let allows = each_member (λ row. PartAllows row D n) parts allowed row found.1 in
+          allows.begins ((found.2.inside n).1 mine) (λ z inside. none z ((found.2.inside z).0 inside)) x (is_outside p before parts part row x y kept found.2 x_out y_in direct))
+          (kept.parts_are.complete part member);
+    }
+
+pub row_of_ready : (p : Planned) (before : List (LeafSet 16)) (parts : List PartRow) (D : ℕ → Type 0) (k n : ℕ) → IsKept p before parts →
+    slice_get p.leaves k ≡ Some n → Ready p D n → (x : ℕ) → IsTrue (has_at before k x) → D x
+row_of_ready p before parts D k n kept at ready x has =
+    ready.before x ((rows_at (DirectlyBefore p.process (pairs_of p.tokens)) p.leaves before k n at kept.rows x).0 has)
+
+pub parts_of_ready : (p : Planned) (before : List (LeafSet 16)) (parts : List PartRow) (D : ℕ → Type 0) (n : ℕ) → IsKept p before parts →
+    Ready p D n → Each (λ row. PartAllows row D n) parts
+parts_of_ready p before parts D n kept ready = each_from_members (λ row. PartAllows row D n) parts (λ row member.
+    let found = kept.parts_are.sound row member in
+    let part = found.0 in
+    record {
+      passes = λ other x y x_in x_done y_in. ready.outside part found.1 (λ mine. other ((found.2.inside n).1 mine)) x y ((found.2.inside x).0 x_in) x_done ((found.2.inside y).0 y_in);
+      begins = λ mine none x out.
+          let told = outside_is p before parts part row x kept found.2 out in
+          ready.begins part found.1 ((found.2.inside n).0 mine) (λ z z_in. none z ((found.2.inside z).1 z_in)) x told.1.0 told.0 told.1.1 told.1.2;
+    })

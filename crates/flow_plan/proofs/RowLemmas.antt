@@ -1,0 +1,268 @@
+-- What rows of bits say.
+use Rattle.std.proofs.Common.{◌≡◌, ◌≢◌, ℕ, ◌+◌, ◌<◌, zero, suc, Bool, true, false, ◌==◌, ◌||◌, IsTrue, eq-eqb, eqb-true, take, get_or, List, [], ◌∷◌, ◌++◌, length, set, Some, slice_get, inl, inr, ◌⊎◌, ◌↔◌, ⊎_elim, refl, sym, ◌∙◌, ap, subst, append_assoc, arith}
+use Rattle.std.proofs.lemmas.List.{take_more, map-append}
+use Rattle.std.specs.List.Sorted.{IsStrictlyIncreasing}
+use Rattle.leaf_rows.specs.Leaves.{has_leaf}
+use Rattle.leaf_rows.specs.declared.leaf_set.LeafSet.{LeafSet}
+use Rattle.flow_model.specs.Lists.{◌∈◌, Each, AreDistinct}
+use Rattle.flow_model.specs.Process.{Process, Sequence, leaves}
+use Rattle.flow_model.specs.Ready.{InSequence, DirectlyBefore}
+use Rattle.flow_laws.specs.Words.{AreOfLeaves}
+use Rattle.flow_laws.proofs.ListLemmas2.{mem_append_left, mem_append_right, mem-append, each_parts, each_member, distinct_parts}
+use Rattle.flow_laws.proofs.ReadyRemains.{sequence_second}
+use Rattle.flow_plan.specs.declared.token.OrderToken.{OrderToken}
+use Rattle.flow_plan.specs.Planned.{pairs_of}
+use Rattle.flow_plan.specs.Rows.{IsRowOf, AreRowsOf, has_at, FitsRows, AddsRows}
+use Rattle.flow_plan.proofs.PlaceLemmas.{member_at, distinct_of_rising}
+
+pub either_true : (a b : Bool) → IsTrue (a || b) → IsTrue a ⊎ IsTrue b
+either_true true b h = inl refl
+either_true false b h = inr h
+
+pub first_true : (a b : Bool) → IsTrue a → IsTrue (a || b)
+first_true true b h = refl
+first_true false b h = absurd (cc)
+
+pub second_true : (a b : Bool) → IsTrue b → IsTrue (a || b)
+second_true true b h = refl
+second_true false b h = h
+
+-- ---- one row
+
+pub row_same : (P Q : ℕ → Type 0) (row : LeafSet 16) → ((x : ℕ) → P x → Q x) → ((x : ℕ) → Q x → P x) → IsRowOf P row → IsRowOf Q row
+row_same P Q row to from is x = (λ has. to x ((is x).0 has), λ holds. (is x).1 (from x holds))
+
+-- the union of two rows
+pub row_of_union : (P Q : ℕ → Type 0) (one two both : LeafSet 16) → ((x : ℕ) → has_leaf both x ≡ (has_leaf one x || has_leaf two x)) →
+    IsRowOf P one → IsRowOf Q two → IsRowOf (λ x. P x ⊎ Q x) both
+row_of_union P Q one two both union is_one is_two x = (
+  λ has. ⊎_elim (λ h. inl ((is_one x).0 h)) (λ h. inr ((is_two x).0 h))
+      (either_true (has_leaf one x) (has_leaf two x) (sym (union x) ∙ has)),
+  λ either. union x ∙ ⊎_elim (λ p. first_true (has_leaf one x) (has_leaf two x) ((is_one x).1 p))
+      (λ q. second_true (has_leaf one x) (has_leaf two x) ((is_two x).1 q)) either,
+)
+
+-- the leaves of two goals, where the second row was added to the first
+pub row_of_both : (a b : List ℕ) (one two both : LeafSet 16) → ((x : ℕ) → has_leaf both x ≡ (has_leaf two x || has_leaf one x)) →
+    IsRowOf (λ x. x ∈ a) one → IsRowOf (λ x. x ∈ b) two → IsRowOf (λ x. x ∈ (a ++ b)) both
+row_of_both a b one two both union is_one is_two =
+    row_same (λ x. (x ∈ b) ⊎ (x ∈ a)) (λ x. x ∈ (a ++ b)) both
+    (λ x either. ⊎_elim (λ h. mem_append_right x a b h) (λ h. mem_append_left x a b h) either)
+    (λ x member. ⊎_elim (λ h. inr h) (λ h. inl h) (mem-append x a b member))
+    (row_of_union (λ x. x ∈ b) (λ x. x ∈ a) two one both union is_two is_one)
+
+-- ---- rows
+
+pub rows_same : (P Q : ℕ → ℕ → Type 0) (ns : List ℕ) (rows : List (LeafSet 16)) →
+    ((n : ℕ) → n ∈ ns → (x : ℕ) → P x n → Q x n) → ((n : ℕ) → n ∈ ns → (x : ℕ) → Q x n → P x n) →
+    AreRowsOf P ns rows → AreRowsOf Q ns rows
+rows_same P Q [] [] to from are = tt
+rows_same P Q [] (row ∷ rows) to from are = are
+rows_same P Q (n ∷ ns) [] to from are = are
+rows_same P Q (n ∷ ns) (row ∷ rows) to from are = (
+  row_same (λ x. P x n) (λ x. Q x n) row (to n (inl refl)) (from n (inl refl)) are.0,
+  rows_same P Q ns rows (λ m member. to m (inr member)) (λ m member. from m (inr member)) are.1,
+)
+
+pub rows_append : (P : ℕ → ℕ → Type 0) (ns ms : List ℕ) (rows more : List (LeafSet 16)) →
+    AreRowsOf P ns rows → AreRowsOf P ms more → AreRowsOf P (ns ++ ms) (rows ++ more)
+rows_append P [] ms [] more are and = and
+rows_append P [] ms (row ∷ rows) more are and = absurd are
+rows_append P (n ∷ ns) ms [] more are and = absurd are
+rows_append P (n ∷ ns) ms (row ∷ rows) more are and = (are.0, rows_append P ns ms rows more are.1 and)
+
+pub rows_length : (P : ℕ → ℕ → Type 0) (ns : List ℕ) (rows : List (LeafSet 16)) → AreRowsOf P ns rows → length rows ≡ length ns
+rows_length P [] [] are = refl
+rows_length P [] (row ∷ rows) are = absurd are
+rows_length P (n ∷ ns) [] are = absurd are
+rows_length P (n ∷ ns) (row ∷ rows) are = omega (arith, rows_length P ns rows are.1)
+
+-- the row at the place of a leaf
+pub rows_at : (P : ℕ → ℕ → Type 0) (ns : List ℕ) (rows : List (LeafSet 16)) (k n : ℕ) → slice_get ns k ≡ Some n →
+    AreRowsOf P ns rows → (x : ℕ) → IsTrue (has_at rows k x) ↔ P x n
+rows_at P [] rows k n at are x = absurd (cc)
+rows_at P (m ∷ ns) [] k n at are x = absurd are
+rows_at P (m ∷ ns) (row ∷ rows) zero n at are x =
+    let same : m ≡ n = cc in
+    let Says : ℕ → Type 0 = λ n. IsTrue (has_leaf row x) ↔ P x n in
+    subst Says same (are.0 x)
+rows_at P (m ∷ ns) (row ∷ rows) (suc k) n at are x = rows_at P ns rows k n at are.1 x
+
+-- the row of one leaf is changed
+pub rows_set : (P Q : ℕ → ℕ → Type 0) (ns : List ℕ) (rows : List (LeafSet 16)) (k n : ℕ) (new : LeafSet 16) → slice_get ns k ≡ Some n →
+    AreDistinct ns → AreRowsOf P ns rows → IsRowOf (λ x. Q x n) new →
+    ((m : ℕ) → m ≢ n → (x : ℕ) → P x m → Q x m) → ((m : ℕ) → m ≢ n → (x : ℕ) → Q x m → P x m) → AreRowsOf Q ns (set rows k new)
+rows_set P Q [] rows k n new at distinct are is to from = absurd (cc)
+rows_set P Q (m ∷ ns) [] k n new at distinct are is to from = absurd are
+rows_set P Q (m ∷ ns) (row ∷ rows) zero n new at distinct are is to from =
+    let same : n ≡ m = cc in
+    let Is : ℕ → Type 0 = λ n. IsRowOf (λ x. Q x n) new in
+    let other : (l : ℕ) → l ∈ ns → l ≢ n = λ l member equal. distinct.0 (subst (λ (i : ℕ). i ∈ ns) (equal ∙ same) member) in (
+      subst Is same is,
+      rows_same P Q ns rows (λ l member. to l (other l member)) (λ l member. from l (other l member)) are.1,
+    )
+rows_set P Q (m ∷ ns) (row ∷ rows) (suc k) n new at distinct are is to from =
+    let other : m ≢ n = λ equal. distinct.0 (subst (λ (i : ℕ). i ∈ ns) (sym equal) (member_at ns k n at)) in (
+      row_same (λ x. P x m) (λ x. Q x m) row (to m other) (from m other) are.0,
+      rows_set P Q ns rows k n new at distinct.1 are.1 is to from,
+    )
+
+-- ---- the rows of a goal
+
+pub fits_rows : (q : Process) (ns : List ℕ) → ns ≡ leaves q → IsStrictlyIncreasing ns → Each (λ n. n < 1024) ns → FitsRows q
+fits_rows q ns listed rising small = record {
+  small = subst (λ (l : List ℕ). Each (λ n. n < 1024) l) listed small;
+  distinct = subst (λ (l : List ℕ). AreDistinct l) listed (distinct_of_rising ns rising);
+}
+
+pub fits_first : (g a b : Process) → leaves g ≡ leaves a ++ leaves b → FitsRows g → FitsRows a
+fits_first g a b same fits = record {
+  small = (each_parts (λ n. n < 1024) (leaves a) (leaves b) (subst (λ (ns : List ℕ). Each (λ n. n < 1024) ns) same fits.small)).0;
+  distinct = (distinct_parts (leaves a) (leaves b) (subst (λ (ns : List ℕ). AreDistinct ns) same fits.distinct)).0;
+}
+
+pub fits_second : (g a b : Process) → leaves g ≡ leaves a ++ leaves b → FitsRows g → FitsRows b
+fits_second g a b same fits = record {
+  small = (each_parts (λ n. n < 1024) (leaves a) (leaves b) (subst (λ (ns : List ℕ). Each (λ n. n < 1024) ns) same fits.small)).1;
+  distinct = (distinct_parts (leaves a) (leaves b) (subst (λ (ns : List ℕ). AreDistinct ns) same fits.distinct)).1;
+}
+
+-- what was added in two steps
+joined_rows : (P : ℕ → ℕ → Type 0) (ns ms : List ℕ) (old mid new one two : List (LeafSet 16)) → mid ≡ old ++ one → new ≡ mid ++ two →
+    AreRowsOf P ns one → AreRowsOf P ms two → (new ≡ old ++ (one ++ two)) × AreRowsOf P (ns ++ ms) (one ++ two)
+joined_rows P ns ms old mid new one two first second are and = (
+  second ∙ ap (λ (l : List (LeafSet 16)). l ++ two) first ∙ append_assoc old one two,
+  rows_append P ns ms one two are and,
+)
+
+-- in a sequence the leaves of the first part are ahead of the second
+pub adds_sequence : (a b : Process) (ahead first more : LeafSet 16) (old mid new : List (LeafSet 16)) → AreDistinct (leaves a ++ leaves b) →
+    IsRowOf (λ x. x ∈ leaves a) first → ((x : ℕ) → has_leaf more x ≡ (has_leaf ahead x || has_leaf first x)) →
+    AddsRows a ahead old mid → AddsRows b more mid new → AddsRows (Sequence a b) ahead old new
+adds_sequence a b ahead first more old mid new distinct is_first union one two =
+    let apart = distinct_parts (leaves a) (leaves b) distinct in
+    let P : ℕ → ℕ → Type 0 = λ x n. IsTrue (has_leaf ahead x) ⊎ InSequence (Sequence a b) x n in
+    let more_is : IsRowOf (λ x. IsTrue (has_leaf ahead x) ⊎ (x ∈ leaves a)) more =
+    row_of_union (λ x. IsTrue (has_leaf ahead x)) (λ x. x ∈ leaves a) ahead first more union (λ x. (λ h. h, λ h. h)) is_first in
+    let all = joined_rows P (leaves a) (leaves b) old mid new one.added two.added one.is two.is
+    (rows_same (λ x n. IsTrue (has_leaf ahead x) ⊎ InSequence a x n) P (leaves a) one.added
+    (λ n member x either. ⊎_elim (λ h. inl h) (λ h. inr (inl (inr h))) either)
+    (λ n member x either. ⊎_elim (λ h. inl h)
+    (λ before. ⊎_elim (λ in_a. ⊎_elim (λ (cross : (x ∈ leaves a) × (n ∈ leaves b)). absurd (apart.2 n member cross.1)) (λ h. inr h) in_a)
+    (λ in_b. absurd (apart.2 n member (sequence_second b x n in_b))) before) either)
+    one.rows)
+    (rows_same (λ x n. IsTrue (has_leaf more x) ⊎ InSequence b x n) P (leaves b) two.added
+    (λ n member x either. ⊎_elim
+    (λ h. ⊎_elim (λ ahead_has. inl ahead_has) (λ in_a. inr (inl (inl (in_a, member)))) ((more_is x).0 h))
+    (λ h. inr (inr h)) either)
+    (λ n member x either. ⊎_elim (λ h. inl ((more_is x).1 (inl h)))
+    (λ before. ⊎_elim (λ in_a. ⊎_elim (λ (cross : (x ∈ leaves a) × (n ∈ leaves b)). inl ((more_is x).1 (inr cross.0)))
+    (λ h. absurd (apart.2 n (sequence_second a x n h) member)) in_a)
+    (λ h. inr h) before) either)
+    two.rows) in
+    record { added = one.added ++ two.added; is = all.0; rows = all.1 }
+
+-- else no part says anything of the other
+pub adds_beside : (g a b : Process) (ahead : LeafSet 16) (old mid new : List (LeafSet 16)) → leaves g ≡ leaves a ++ leaves b → AreDistinct (leaves a ++ leaves b) →
+    ((x n : ℕ) → InSequence g x n ↔ (InSequence a x n ⊎ InSequence b x n)) →
+    AddsRows a ahead old mid → AddsRows b ahead mid new → AddsRows g ahead old new
+adds_beside g a b ahead old mid new listed distinct parts one two =
+    let apart = distinct_parts (leaves a) (leaves b) distinct in
+    let P : ℕ → ℕ → Type 0 = λ x n. IsTrue (has_leaf ahead x) ⊎ InSequence g x n in
+    let all = joined_rows P (leaves a) (leaves b) old mid new one.added two.added one.is two.is
+    (rows_same (λ x n. IsTrue (has_leaf ahead x) ⊎ InSequence a x n) P (leaves a) one.added
+    (λ n member x either. ⊎_elim (λ h. inl h) (λ h. inr ((parts x n).1 (inl h))) either)
+    (λ n member x either. ⊎_elim (λ h. inl h)
+    (λ before. ⊎_elim (λ h. inr h) (λ h. absurd (apart.2 n member (sequence_second b x n h))) ((parts x n).0 before)) either)
+    one.rows)
+    (rows_same (λ x n. IsTrue (has_leaf ahead x) ⊎ InSequence b x n) P (leaves b) two.added
+    (λ n member x either. ⊎_elim (λ h. inl h) (λ h. inr ((parts x n).1 (inr h))) either)
+    (λ n member x either. ⊎_elim (λ h. inl h)
+    (λ before. ⊎_elim (λ h. absurd (apart.2 n (sequence_second a x n h) member)) (λ h. inr h) ((parts x n).0 before)) either)
+    two.rows) in
+    record { added = one.added ++ two.added; is = all.0; rows = subst (λ (ns : List ℕ). AreRowsOf P ns (one.added ++ two.added)) (sym listed) all.1 }
+
+-- ---- the rows of a plan
+
+pub rows_get : (P : ℕ → ℕ → Type 0) (ns : List ℕ) (rows : List (LeafSet 16)) (k n : ℕ) (row d : LeafSet 16) → slice_get ns k ≡ Some n →
+    row ≡ get_or rows k d → AreRowsOf P ns rows → IsRowOf (λ x. P x n) row
+rows_get P [] rows k n row d at is are = absurd (cc)
+rows_get P (m ∷ ns) [] k n row d at is are = absurd are
+rows_get P (m ∷ ns) (first ∷ rows) zero n row d at is are =
+    let same : m ≡ n = cc in
+    let Is : ℕ → LeafSet 16 → Type 0 = λ n row. IsRowOf (λ x. P x n) row in
+    subst (λ (l : ℕ). Is l row) same (subst (λ (r : LeafSet 16). Is m r) (sym is) are.0)
+rows_get P (m ∷ ns) (first ∷ rows) (suc k) n row d at is are = rows_get P ns rows k n row d at is are.1
+
+-- one pair more
+direct_more : (q : Process) (pairs : List (ℕ × ℕ)) (s r x n : ℕ) → DirectlyBefore q (pairs ++ (s, r) ∷ []) x n →
+    DirectlyBefore q pairs x n ⊎ ((x ≡ s) × (n ≡ r))
+direct_more q pairs s r x n (inl order) = inl (inl order)
+direct_more q pairs s r x n (inr member) = ⊎_elim
+    (λ h. inl (inr h))
+    (λ last. ⊎_elim (λ (same : (x, n) ≡ (s, r)). inr (ap (λ (p : ℕ × ℕ). p.0) same, ap (λ (p : ℕ × ℕ). p.1) same)) (λ none. absurd none) last)
+    (mem-append (x, n) pairs ((s, r) ∷ []) member)
+
+direct_still : (q : Process) (pairs : List (ℕ × ℕ)) (s r x n : ℕ) → DirectlyBefore q pairs x n → DirectlyBefore q (pairs ++ (s, r) ∷ []) x n
+direct_still q pairs s r x n (inl order) = inl order
+direct_still q pairs s r x n (inr member) = inr (mem_append_left (x, n) pairs ((s, r) ∷ []) member)
+
+direct_last : (q : Process) (pairs : List (ℕ × ℕ)) (s r x n : ℕ) → x ≡ s → n ≡ r → DirectlyBefore q (pairs ++ (s, r) ∷ []) x n
+direct_last q pairs s r x n first second =
+    inr (mem_append_right (x, n) pairs ((s, r) ∷ []) (inl (λ i. (first i, second i))))
+
+-- the sender of a pair goes into the row of its receiver
+pub rows_with_sender : (q : Process) (pairs : List (ℕ × ℕ)) (s r : ℕ) (ns : List ℕ) (rows : List (LeafSet 16)) (k : ℕ) (row new : LeafSet 16) →
+    slice_get ns k ≡ Some r → AreDistinct ns → AreRowsOf (DirectlyBefore q pairs) ns rows → row ≡ get_or rows k row →
+    ((x : ℕ) → has_leaf new x ≡ (x == s || has_leaf row x)) → AreRowsOf (DirectlyBefore q (pairs ++ (s, r) ∷ [])) ns (set rows k new)
+rows_with_sender q pairs s r ns rows k row new at distinct are is noted =
+    let old = rows_get (DirectlyBefore q pairs) ns rows k r row row at is are in
+    rows_set (DirectlyBefore q pairs) (DirectlyBefore q (pairs ++ (s, r) ∷ [])) ns rows k r new at distinct are
+    (λ x. (
+      λ has. ⊎_elim (λ same. direct_last q pairs s r x r (eqb-true x s same) refl) (λ h. direct_still q pairs s r x r ((old x).0 h))
+          (either_true (x == s) (has_leaf row x) (sym (noted x) ∙ has)),
+      λ direct. noted x ∙ ⊎_elim (λ h. second_true (x == s) (has_leaf row x) ((old x).1 h))
+          (λ (same : (x ≡ s) × (r ≡ r)). first_true (x == s) (has_leaf row x) (eq-eqb x s same.0))
+          (direct_more q pairs s r x r direct),
+    ))
+    (λ m other x direct. direct_still q pairs s r x m direct)
+    (λ m other x direct. ⊎_elim (λ h. h) (λ (same : (x ≡ s) × (m ≡ r)). absurd (other same.1)) (direct_more q pairs s r x m direct))
+
+-- a pair whose receiver is no leaf changes nothing
+pub rows_without : (q : Process) (pairs : List (ℕ × ℕ)) (s r : ℕ) (ns : List ℕ) (rows : List (LeafSet 16)) → ¬ (r ∈ ns) →
+    AreRowsOf (DirectlyBefore q pairs) ns rows → AreRowsOf (DirectlyBefore q (pairs ++ (s, r) ∷ [])) ns rows
+rows_without q pairs s r ns rows missing are =
+    rows_same (DirectlyBefore q pairs) (DirectlyBefore q (pairs ++ (s, r) ∷ [])) ns rows
+    (λ n member x direct. direct_still q pairs s r x n direct)
+    (λ n member x direct. ⊎_elim (λ h. h) (λ (same : (x ≡ s) × (n ≡ r)). absurd (missing (subst (λ (l : ℕ). l ∈ ns) same.1 member)))
+    (direct_more q pairs s r x n direct)) are
+
+-- with no pair what is directly before is in sequence
+pub rows_unpaired : (q : Process) (ns : List ℕ) (rows : List (LeafSet 16)) → AreRowsOf (InSequence q) ns rows → AreRowsOf (DirectlyBefore q []) ns rows
+rows_unpaired q ns rows are = rows_same (InSequence q) (DirectlyBefore q []) ns rows
+    (λ n member x order. inl order) (λ n member x direct. ⊎_elim (λ h. h) (λ none. absurd none) direct) are
+
+-- the pairs of one token more
+pub pairs_more : (tokens : List OrderToken) (i : ℕ) (d : OrderToken) → i < length tokens →
+    pairs_of (take (i + 1) tokens) ≡ pairs_of (take i tokens) ++ ((get_or tokens i d).sender, (get_or tokens i d).receiver) ∷ []
+pairs_more tokens i d within = ap pairs_of (take_more tokens i d within) ∙ map-append (λ (t : OrderToken). (t.sender, t.receiver)) (take i tokens) (get_or tokens i d ∷ [])
+
+-- the rows of the whole goal, of which nothing is ahead
+pub first_rows : (g : Process) (ahead : LeafSet 16) (ns : List ℕ) (old new : List (LeafSet 16)) → ns ≡ leaves g → old ≡ [] → ((x : ℕ) → has_leaf ahead x ≡ false) →
+    AddsRows g ahead old new → AreRowsOf (InSequence g) ns new
+first_rows g ahead ns old new listed none empty adds =
+    let P : ℕ → ℕ → Type 0 = λ x n. IsTrue (has_leaf ahead x) ⊎ InSequence g x n in
+    let are : AreRowsOf (InSequence g) (leaves g) adds.added = rows_same P (InSequence g) (leaves g) adds.added
+    (λ n member x either. ⊎_elim (λ h. let no = empty x in absurd (cc)) (λ h. h) either)
+    (λ n member x h. inr h) adds.rows in
+    let same : adds.added ≡ new = sym (adds.is ∙ ap (λ (l : List (LeafSet 16)). l ++ adds.added) none) in
+    subst (λ (ns : List ℕ). AreRowsOf (InSequence g) ns new) (sym listed)
+    (subst (λ (rows : List (LeafSet 16)). AreRowsOf (InSequence g) (leaves g) rows) same are)
+
+-- the senders of pairs of leaves are as small as the leaves
+pub senders_small : (g : Process) (ns : List ℕ) (tokens : List OrderToken) → ns ≡ leaves g → Each (λ n. n < 1024) ns → AreOfLeaves g (pairs_of tokens) →
+    (k : ℕ) (d : OrderToken) → k < length tokens → (get_or tokens k d).sender < 1024
+senders_small g ns [] listed small of_leaves k d within = absurd (omega arith)
+senders_small g ns (t ∷ ts) listed small of_leaves zero d within =
+    each_member (λ n. n < 1024) ns small t.sender (subst (λ (l : List ℕ). t.sender ∈ l) (sym listed) of_leaves.0.0)
+senders_small g ns (t ∷ ts) listed small of_leaves (suc k) d within = senders_small g ns ts listed small of_leaves.1 k d (omega arith)

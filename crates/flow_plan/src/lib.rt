@@ -1,0 +1,19 @@
+//! Plans: goals without choices, some leaves of which stand in order, and what may come next in them.
+#![tactic(auto)]
+
+mod claims;
+mod knot_free;
+mod part_row;
+mod parts;
+mod places;
+mod plan;
+mod progress;
+mod rows;
+#[cfg(test)]
+mod tests;
+mod token;
+
+pub use knot_free::KnotFree;
+pub use plan::Plan;
+pub use progress::Progress;
+pub use token::OrderToken;

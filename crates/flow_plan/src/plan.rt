@@ -1,0 +1,133 @@
+ghost use Rattle.std.specs.Prelude.{◌≡◌, ◌≢◌, ◌<◌, ◌↔◌, ℕ, IsTrue, IfOk};
+ghost use Rattle.std.specs.List.Sorted.{IsStrictlyIncreasing};
+ghost use Rattle.flow_model.specs.Lists.{◌∈◌, Each};
+ghost use Rattle.flow_model.specs.Process;
+ghost use Rattle.flow_model.specs.Ready.{DirectlyBefore};
+ghost use Rattle.flow_laws.specs.Words.{AreOfLeaves, IsOrdered};
+ghost use Rattle.flow_goal.specs.Goal.{process_of};
+ghost use Rattle.leaf_rows.specs.Leaves.{has_leaf};
+ghost use Rattle.flow_plan.specs.Parts.{PartAllows};
+ghost use Rattle.flow_plan.specs.Planned.{pairs_of};
+
+use crate::part_row::PartRow;
+use crate::parts::part_rows;
+use crate::places::place_of;
+use crate::progress::Progress;
+use crate::rows::before_rows;
+use crate::token::OrderToken;
+use flow_goal::{Choiceless, Goal};
+use leaf_rows::LeafSet;
+use std::alloc::{AllocError, Global};
+use std::marker::Model;
+
+/// A goal without choices, and orders between some of its leaves.
+#[derive(Drop)]
+pub struct Plan {
+    goal: Choiceless,
+    tokens: Vec<OrderToken>,
+    /// For each leaf, the leaves directly before it.
+    before: Vec<LeafSet<16>>,
+    parts: Vec<PartRow>,
+}
+
+impl Model for Plan {
+    ghost use Rattle.flow_plan.specs.Planned.{Planned, planned_code};
+
+    ghost Value = { Planned };
+
+    ghost coded = { planned_code };
+
+    ghost use Rattle.flow_plan.specs.Planned.{planned};
+    ghost use Rattle.flow_plan.specs.Kept.{IsKept};
+
+    ghost view = { λ p. planned p.goal p.tokens.items };
+
+    ghost invariant = { λ p. IsKept (planned p.goal p.tokens.items) p.before.items p.parts.items };
+}
+
+/// Whether each part lets the leaf come next.
+fn parts_allow(parts: &[PartRow], done: &LeafSet<16>, leaf: u32) -> bool
+    requires { leaf < 1024 }
+    ensures { IsTrue result
+        ↔ Each (λ row. PartAllows row (λ x. IsTrue (has_leaf done.now x)) leaf) parts.now }
+{
+    for part in parts {
+        if !part.allows(done, leaf) {
+            return false;
+        }
+    }
+    true
+}
+
+impl Plan {
+    ghost use Rattle.flow_plan.specs.Orders.{Fits, MayComeNext};
+    ghost use Rattle.flow_plan.specs.Progress.{IsDone};
+
+    /// A plan for the goal, in which each token's sender is done before its receiver.
+    pub fn new(alloc: Global, goal: Choiceless, tokens: Vec<OrderToken>) -> Result<Plan, AllocError>
+        requires small { Each (λ n. n < 1024) goal.leaves }
+        requires of_leaves { AreOfLeaves goal.process (pairs_of tokens.items) }
+        requires different { Each (λ pair. pair.0 ≢ pair.1) (pairs_of tokens.items) }
+        ensures process { IfOk result (λ plan. plan.process ≡ goal.process) }
+        ensures leaves { IfOk result (λ plan. plan.leaves ≡ goal.leaves) }
+        ensures tokens { IfOk result (λ plan. plan.tokens ≡ tokens.items) }
+        ensures ordered { IfOk result (λ plan. IsOrdered plan.process (pairs_of plan.tokens)) }
+    {
+        let before = before_rows(alloc, &goal, &tokens)?;
+        let parts = part_rows(alloc, &goal, &before)?;
+        Ok(Plan {
+            goal,
+            tokens,
+            before,
+            parts,
+        })
+    }
+
+    pub fn goal(&self) -> &Goal
+        ensures process { process_of result.now ≡ self.now.process }
+        ensures ordered { IsOrdered self.now.process (pairs_of self.now.tokens) }
+    {
+        self.goal.goal()
+    }
+
+    /// The leaves from left to right, which is from the least to the greatest.
+    pub fn leaves(&self) -> &[u32]
+        ensures leaves { result.now ≡ self.now.leaves }
+        ensures listed { self.now.leaves ≡ Process.leaves self.now.process }
+        ensures rising { IsStrictlyIncreasing self.now.leaves }
+        ensures small { Each (λ n. n < 1024) self.now.leaves }
+    {
+        self.goal.leaves()
+    }
+
+    pub fn tokens(&self) -> &[OrderToken]
+        ensures tokens { result.now ≡ self.now.tokens }
+        ensures ordered { IsOrdered self.now.process (pairs_of self.now.tokens) }
+    {
+        &self.tokens
+    }
+
+    /// Whether the first leaf is directly before the second, in the goal or by a token.
+    pub fn before(&self, first: u32, second: u32) -> bool
+        ensures { IsTrue result ↔ DirectlyBefore self.now.process (pairs_of self.now.tokens) first second }
+    {
+        match place_of(self.goal.leaves(), second) {
+            Some(place) => first < 1024 && self.before[place].has(first),
+            None => false,
+        }
+    }
+
+    /// Whether the leaf may come next after the done ones.
+    pub fn ready(&self, done: &Progress, leaf: u32) -> bool
+        requires { Fits self.now done.now }
+        ensures { IsTrue result ↔ MayComeNext self.now (IsDone done.now) leaf }
+    {
+        let Some(place) = place_of(self.goal.leaves(), leaf) else {
+            return false;
+        };
+        if done.has(leaf) || !self.before[place].is_subset(done.row()) {
+            return false;
+        }
+        parts_allow(&self.parts, done.row(), leaf)
+    }
+}

@@ -1,0 +1,62 @@
+ghost use Rattle.std.specs.Prelude.{◌≤◌};
+
+use leaf_rows::LeafSet;
+
+/// Which of so many leaves are done.
+#[derive(Clone, Copy, Debug, PartialEq, Eq)]
+pub struct Progress {
+    bound: u32,
+    done: LeafSet<16>,
+    ghost small: { bound ≤ 1024 },
+}
+
+impl Progress {
+    ghost use Rattle.std.specs.Prelude.{◌≡◌, ℕ, ◌<◌, ◌==◌, ◌&&◌, ◌||◌, not, false};
+    ghost use Rattle.leaf_rows.specs.Leaves.{has_leaf};
+    ghost use Rattle.flow_plan.specs.Progress.{bound_of, is_done};
+
+    /// No leaf below `leaves` is done yet.
+    pub fn new(leaves: u32) -> Progress
+        requires { leaves ≤ 1024 }
+        ensures bound { bound_of result ≡ leaves }
+        ensures none { (n : ℕ) → is_done result n ≡ false }
+    {
+        Progress {
+            bound: leaves,
+            done: LeafSet::new(),
+        }
+    }
+
+    /// The leaf is done now.
+    pub fn note(&mut self, leaf: u32)
+        requires { leaf < bound_of self.old }
+        ensures bound { bound_of self.new ≡ bound_of self.old }
+        ensures noted { (n : ℕ) → is_done self.new n ≡ (n == leaf || is_done self.old n) }
+    {
+        self.done.insert(leaf);
+    }
+
+    /// The leaf is not done any more.
+    pub fn forget(&mut self, leaf: u32)
+        requires { leaf < bound_of self.old }
+        ensures bound { bound_of self.new ≡ bound_of self.old }
+        ensures forgotten { (n : ℕ) → is_done self.new n ≡ (not (n == leaf) && is_done self.old n) }
+    {
+        self.done.remove(leaf);
+    }
+
+    /// Whether the leaf is done.
+    pub fn has(&self, leaf: u32) -> bool
+        requires { leaf < bound_of self.now }
+        ensures { result ≡ is_done self.now leaf }
+    {
+        self.done.has(leaf)
+    }
+
+    /// The done leaves.
+    pub(crate) fn row(&self) -> &LeafSet<16>
+        ensures { (n : ℕ) → has_leaf result.now n ≡ is_done self.now n }
+    {
+        &self.done
+    }
+}

@@ -1,0 +1,9 @@
+/// An order between two leaves of a plan: the sender is done before the receiver.
+#[derive(Clone, Copy, Debug, PartialEq, Eq)]
+pub struct OrderToken {
+    pub number: u32,
+    /// The leaf that is done first.
+    pub sender: u32,
+    /// The leaf that waits.
+    pub receiver: u32,
+}
