@@ -1,0 +1,13 @@
+pub mod Conjunctions
+pub mod TallyLemmas
+pub mod GraphLemmas
+pub mod RingLemmas
+pub mod TurningLemmas
+pub mod ItemLemmas
+pub mod SampleLemmas
+pub mod SiftingLemmas
+pub mod CircleLemmas
+pub mod EdgeLemmas
+pub mod PartCircles
+pub mod SieveLemmas
+pub mod CompileLemmas

@@ -1,0 +1,120 @@
+-- Options that are looked at one by one.
+use Rattle.std.proofs.Common.{◌≡◌, ℕ, zero, suc, ◌+◌, ◌<◌, List, [], ◌∷◌, ◌++◌, length, take, get_or, map, refl, sym, ap, ◌∙◌, subst, inl, inr, arith, append_assoc, Option, Some, slice_get, Result, Ok, Err, MatchResult}
+use Rattle.std.proofs.lemmas.List.{take_more, map-append, length-take-le}
+use Rattle.std.proofs.lemmas.Option.{slice_get_within, slice_get-get_or, get_or_from_slice_get}
+use Rattle.flow_model.specs.Lists.{◌∈◌}
+use Rattle.flow_model.specs.Process.{Process, Empty, leaves}
+use Rattle.flow_model.specs.Ways.{Normal, ways, leaf_of_event}
+use Rattle.flow_model.specs.Resolution.{ChoiceOption, resolutions}
+use Rattle.flow_laws.proofs.ListLemmas2.{mem-flat_map, some_same}
+use Rattle.flow_goal.specs.Labelled.{Labelled}
+use Rattle.flow_rules.specs.declared.order_set.OrderSet.{OrderSet}
+use Rattle.flow_rules.specs.WayLists.{pairs_of}
+use Rattle.flow_plan.specs.Sampled.{Sampled}
+use Rattle.flow_excise.specs.declared.refusal.Dropped.{Dropped}
+use Rattle.flow_excise.specs.declared.refusal.CompileRefusal.{CompileRefusal}
+use Rattle.flow_excise.specs.declared.refusal.CompileRefusal.TheVariants.{NoMemory}
+use Rattle.flow_excise.specs.declared.sieve.Sieve.{Sieve}
+use Rattle.flow_excise.specs.Executions.{HasExecution, NumberedOption, numbered_ways, numbered_options, TellsOf, AreSifted}
+use Rattle.flow_excise.specs.Compilation.{options_of}
+use Rattle.flow_excise.specs.Options.{options_by, all_options_by}
+use Rattle.flow_excise.specs.Plans.{option_of}
+use Rattle.flow_excise.specs.Sieves.{ArePlannable, option_with, options_with, HasSifted, Sifts}
+use Rattle.flow_excise.proofs.SiftingLemmas.{keep_one, drop_one, numbered, more_ways, more_resolutions}
+use Rattle.flow_excise.proofs.TallyLemmas.{taken_more}
+
+-- one option
+
+pub sift_kept : (n : NumberedOption) (old new : List Sampled) (dropped : List Dropped) (p : Sampled) → new ≡ old ++ p ∷ [] → option_of p.plan ≡ n.option →
+    HasExecution n.option → (done : List NumberedOption) → AreSifted done (options_of old) dropped → AreSifted (done ++ n ∷ []) (options_of new) dropped
+sift_kept n old new dropped p e same h done s =
+    let whole : options_of new ≡ options_of old ++ n.option ∷ [] =
+    ap options_of e ∙ map-append (λ (x : Sampled). option_of x.plan) old (p ∷ []) ∙ ap (λ (o : ChoiceOption). options_of old ++ o ∷ []) same in
+    subst (λ l. AreSifted (done ++ n ∷ []) l dropped) (sym whole) (keep_one done n (options_of old) dropped s h)
+
+pub sift_dropped : (n : NumberedOption) (kept : List ChoiceOption) (old new : List Dropped) (d : Dropped) → new ≡ old ++ d ∷ [] → TellsOf n d →
+    (done : List NumberedOption) → AreSifted done kept old → AreSifted (done ++ n ∷ []) kept new
+sift_dropped n kept old new d e t done s = subst (AreSifted (done ++ n ∷ []) kept) (sym e) (drop_one done n kept old d s t)
+
+-- members by places
+
+pub mem_read : {A : Type 0} (xs : List A) (i : ℕ) (x : A) → i < length xs → x ≡ get_or xs i x → x ∈ xs
+mem_read [] i x l e = absurd (omega arith)
+mem_read (y ∷ xs) zero x l e = inl e
+mem_read (y ∷ xs) (suc i) x l e = inr (mem_read xs i x (omega arith) e)
+
+pub mem_got : {A : Type 0} (xs : List A) (i : ℕ) (x : A) → slice_get xs i ≡ Some x → x ∈ xs
+mem_got xs i x h = mem_read xs i x (slice_get_within xs i x h) (sym (get_or_from_slice_get xs i x x h))
+
+-- the ways of a resolution
+
+abbrev way_option : Process → List (ℕ × ℕ) → ChoiceOption
+way_option q way = record { resolution = q; order = way }
+
+length-options : (q : Process) (orders : List OrderSet) → length (options_with q orders) ≡ length orders
+length-options q [] = refl
+length-options q (o ∷ orders) = ap suc (length-options q orders)
+
+ways_more : (r : ℕ) (q : Process) (orders : List OrderSet) (i : ℕ) (order : OrderSet) → i < length orders → order ≡ get_or orders i order →
+    numbered_ways r 0 (options_with q (take (i + 1) orders)) ≡ numbered_ways r 0 (options_with q (take i orders)) ++ numbered r i (option_with q order) ∷ []
+ways_more r q orders i order l e =
+    let taken : options_with q (take (i + 1) orders) ≡ options_with q (take i orders) ++ option_with q order ∷ [] =
+    ap (options_with q) (take_more orders i order l) ∙ map-append (option_with q) (take i orders) (get_or orders i order ∷ [])
+    ∙ ap (λ (o : OrderSet). options_with q (take i orders) ++ option_with q o ∷ []) (sym e) in
+    let long : 0 + length (options_with q (take i orders)) ≡ i =
+    omega (arith, length-options q (take i orders), length-take-le i orders (omega arith)) in
+    ap (numbered_ways r 0) taken ∙ more_ways r 0 (options_with q (take i orders)) (option_with q order)
+    ∙ ap (λ k. numbered_ways r 0 (options_with q (take i orders)) ++ numbered r k (option_with q order) ∷ []) long
+
+pub sift_more_ways : (r : ℕ) (q : Process) (orders : List OrderSet) (i : ℕ) (order : OrderSet) (first old new : Sieve) → i < length orders → order ≡ get_or orders i order →
+    Sifts (numbered_ways r 0 (options_with q (take i orders))) first old → Sifts (numbered r i (option_with q order) ∷ []) old new →
+    Sifts (numbered_ways r 0 (options_with q (take (i + 1) orders))) first new
+sift_more_ways r q orders i order first old new l e so_far this done s =
+    subst (λ ns. HasSifted ns new)
+    (append_assoc done (numbered_ways r 0 (options_with q (take i orders))) (numbered r i (option_with q order) ∷ []) ∙ ap (λ ns. done ++ ns) (sym (ways_more r q orders i order l e)))
+    (this (done ++ numbered_ways r 0 (options_with q (take i orders))) (so_far done s))
+
+options_found : (q : Process) (orders : List OrderSet) → options_with q orders ≡ map (λ way. way_option q way) (pairs_of orders)
+options_found q [] = refl
+options_found q (o ∷ orders) = ap (λ (l : List ChoiceOption). option_with q o ∷ l) (options_found q orders)
+
+pub ways_found : (t : Labelled) (n : Normal) (q : Process) (orders seen : List OrderSet) (ls : List ℕ) (found : ℕ → Option ℕ) → seen ≡ orders → ls ≡ leaves q →
+    ((event : ℕ) → found event ≡ leaf_of_event t.labels ls event) → pairs_of orders ≡ ways n found → options_with q seen ≡ options_by t n q
+ways_found t n q orders seen ls found e listed same ways_are =
+    ap (options_with q) e ∙ options_found q orders
+    ∙ ap (map (λ way. way_option q way)) (ways_are ∙ (λ k. ways n (λ event. same event k)) ∙ ap (λ (l : List ℕ). ways n (leaf_of_event t.labels l)) listed)
+
+pub plannable_ways : (t : Labelled) (n : Normal) (i : ℕ) (q : Process) (os : List ChoiceOption) → os ≡ options_by t n q → slice_get (resolutions t.process) i ≡ Some q →
+    ArePlannable (all_options_by t n) → ArePlannable os
+plannable_ways t n i q os e there all o m =
+    all o (mem-flat_map (options_by t n) q o (resolutions t.process) (mem_got (resolutions t.process) i q there) (subst (λ l. o ∈ l) e m))
+
+pub sift_found : (t : Labelled) (n : Normal) (i : ℕ) (p : Process) (os : List ChoiceOption) (old new : Sieve) (r : Result (Unit {0}) CompileRefusal) → os ≡ options_by t n p →
+    slice_get (resolutions t.process) i ≡ Some p → MatchResult r (λ _. Sifts (numbered_ways i 0 os) old new) (λ e. e ≡ NoMemory) →
+    MatchResult r (λ _. (q : Process) → slice_get (resolutions t.process) i ≡ Some q → Sifts (numbered_ways i 0 (options_by t n q)) old new) (λ e. e ≡ NoMemory)
+sift_found t n i p os old new (Ok u) e there h = λ q there_too.
+    subst (λ (l : List ChoiceOption). Sifts (numbered_ways i 0 l) old new) (e ∙ ap (options_by t n) (some_same p q (sym there ∙ there_too))) h
+sift_found t n i p os old new (Err f) e there h = h
+
+-- all resolutions
+
+length-mapped : (f : Process → List ChoiceOption) (qs : List Process) → length (map f qs) ≡ length qs
+length-mapped f [] = refl
+length-mapped f (q ∷ qs) = ap suc (length-mapped f qs)
+
+pub sift_more : (t : Labelled) (n : Normal) (i : ℕ) (old new : Sieve) → i < length (resolutions t.process) →
+    ((q : Process) → slice_get (resolutions t.process) i ≡ Some q → Sifts (numbered_ways i 0 (options_by t n q)) old new) →
+    HasSifted (numbered_options 0 (map (options_by t n) (take i (resolutions t.process)))) old →
+    HasSifted (numbered_options 0 (map (options_by t n) (take (i + 1) (resolutions t.process)))) new
+sift_more t n i old new l this s =
+    let all = resolutions t.process in
+    let q = get_or all i Empty in
+    let there = slice_get-get_or all i Empty l in
+    let f = options_by t n in
+    let long : 0 + length (map f (take i all)) ≡ i = omega (arith, length-mapped f (take i all), length-take-le i all (omega arith)) in
+    let whole : numbered_options 0 (map f (take (i + 1) all)) ≡ numbered_options 0 (map f (take i all)) ++ numbered_ways i 0 (f q) =
+    ap (λ (l : List Process). numbered_options 0 (map f l)) (taken_more all i q there)
+    ∙ ap (numbered_options 0) (map-append f (take i all) (q ∷ []))
+    ∙ more_resolutions 0 (map f (take i all)) (f q)
+    ∙ ap (λ k. numbered_options 0 (map f (take i all)) ++ numbered_ways k 0 (f q)) long in
+    subst (λ ns. HasSifted ns new) (sym whole) (this q there (numbered_options 0 (map f (take i all))) s)

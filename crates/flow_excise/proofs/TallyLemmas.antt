@@ -1,0 +1,140 @@
+-- Tallies of options, resolution by resolution.
+use Rattle.std.proofs.Common.{◌≡◌, ℕ, zero, suc, ◌+◌, ◌*◌, ◌-◌, ◌^◌, ◌≤◌, min, List, [], ◌∷◌, ◌++◌, length, take, map, sum, refl, sym, ap, ◌∙◌, ◌⊎◌, inl, inr, arith, Option, Some, slice_get, append-nil}
+use Rattle.std.specs.List.{flat_map}
+use Rattle.std.proofs.Math.Nat.{min-eq_left, min-eq_right, zero-mul, suc-mul, mul_comm, add-zero}
+use Rattle.std.proofs.lemmas.Bool.{cases_lt}
+use Rattle.std.proofs.lemmas.List.{length-append}
+use Rattle.std.proofs.lemmas.List.Sums.{sum-map, sum_by-append, sum_by-cons}
+use Rattle.std.proofs.lemmas.Grind.{flat_map-append}
+use Rattle.std.proofs.lemmas.Option.{slice_get_within, get_or_from_slice_get}
+use Rattle.std.proofs.lemmas.List.{take_more}
+use Rattle.flow_model.specs.Lists.{joined}
+use Rattle.flow_model.specs.Process.{Process, leaves}
+use Rattle.flow_model.specs.Ways.{Normal, ways, leaf_of_event}
+use Rattle.flow_model.specs.Resolution.{ChoiceOption, option_size, resolutions, resolution_count}
+use Rattle.flow_laws.proofs.ResolutionsLemmas.{length-resolutions}
+use Rattle.std.proofs.Math.Seq.{take-length}
+use Rattle.flow_rules.specs.declared.counting.WayCount.{WayCount}
+use Rattle.flow_rules.specs.Counts.{kept, count_of}
+use Rattle.flow_goal.specs.Labelled.{Labelled}
+use Rattle.flow_excise.specs.declared.tally.Tally.{Tally}
+use Rattle.flow_excise.specs.Tallies.{tally_of, added, tally_by}
+use Rattle.flow_excise.specs.Options.{ways_by, options_by}
+
+-- numbers that are kept at a greatest one
+
+min_cases : (x m : ℕ) → ((x ≤ m) × (min x m ≡ x)) ⊎ ((m ≤ x) × (min x m ≡ m))
+min_cases x m = elim (cases_lt x m) [
+  | inl h ↦ let k : x ≤ m = omega arith in inl (k, min-eq_left k)
+  | inr h ↦ inr (h, min-eq_right h)
+]
+
+sum_kept : (m x y : ℕ) → min (min x m + min y m) m ≡ min (x + y) m
+sum_kept m x y = at (min_cases x m) (min_cases y m)
+  where
+    at : ((x ≤ m) × (min x m ≡ x)) ⊎ ((m ≤ x) × (min x m ≡ m)) → ((y ≤ m) × (min y m ≡ y)) ⊎ ((m ≤ y) × (min y m ≡ m)) →
+        min (min x m + min y m) m ≡ min (x + y) m
+    at (inl (p, e)) (inl (q, f)) = λ k. min (e k + f k) m
+    at (inr (p, e)) g =
+        let one : m ≤ min x m + min y m = omega arith in
+        let other : m ≤ x + y = omega arith in
+        min-eq_right one ∙ sym (min-eq_right other)
+    at (inl (p, e)) (inr (q, f)) =
+        let one : m ≤ min x m + min y m = omega arith in
+        let other : m ≤ x + y = omega arith in
+        min-eq_right one ∙ sym (min-eq_right other)
+
+reaches : (m x y : ℕ) → m ≤ y → min (x * m) m ≡ min (x * y) m
+reaches m zero y h = ap (λ t. min t m) (zero-mul m ∙ sym (zero-mul y))
+reaches m (suc x) y h =
+    let one : m ≤ suc x * m = omega (arith, suc-mul x m) in
+    let other : m ≤ suc x * y = omega (arith, suc-mul x y) in
+    min-eq_right one ∙ sym (min-eq_right other)
+
+product_kept : (m x y : ℕ) → min (x * min y m) m ≡ min (x * y) m
+product_kept m x y = elim (min_cases y m) [
+  | inl (p, e) ↦ ap (λ t. min (x * t) m) e
+  | inr (p, e) ↦ ap (λ t. min (x * t) m) e ∙ reaches m x y p
+]
+
+-- two lists of options
+
+pub bulk-append : (a b : List ChoiceOption) → sum (map option_size (a ++ b)) ≡ sum (map option_size a) + sum (map option_size b)
+bulk-append a b =
+    sum-map option_size (a ++ b) ∙ sum_by-append option_size a b ∙ sym (λ k. sum-map option_size a k + sum-map option_size b k)
+
+pub bulk-cons : (o : ChoiceOption) (os : List ChoiceOption) → sum (map option_size (o ∷ os)) ≡ option_size o + sum (map option_size os)
+bulk-cons o os =
+    sum-map option_size (o ∷ os) ∙ sum_by-cons option_size o os ∙ sym (ap (λ n. option_size o + n) (sum-map option_size os))
+
+pub tally-append : (a b : List ChoiceOption) → tally_of (a ++ b) ≡ added (tally_of a) (tally_of b)
+tally-append a b =
+    let m : ℕ = 2 ^ 64 - 1 in
+    let options : kept (length (a ++ b)) ≡ kept (kept (length a) + kept (length b)) =
+    ap kept (length-append a b) ∙ sym (sum_kept m (length a) (length b)) in
+    let size : kept (sum (map option_size (a ++ b))) ≡ kept (kept (sum (map option_size a)) + kept (sum (map option_size b))) =
+    ap kept (bulk-append a b)
+    ∙ sym (sum_kept m (sum (map option_size a)) (sum (map option_size b))) in
+    λ k. record { options = options k; bulk = size k }
+
+-- one resolution
+
+abbrev option_of : Process → List (ℕ × ℕ) → ChoiceOption
+option_of q way = record { resolution = q; order = way }
+
+sizes_by : (q : Process) (ws : List (List (ℕ × ℕ))) →
+    sum (map option_size (map (λ way. option_of q way) ws)) ≡ length ws * length (leaves q) + length (joined ws)
+sizes_by q [] = sym (add-zero (0 * length (leaves q)) ∙ zero-mul (length (leaves q)))
+sizes_by q (w ∷ ws) =
+    let e = sizes_by q ws in
+    let f = suc-mul (length ws) (length (leaves q)) in
+    let g = length-append w (joined ws) in
+    let h = bulk-cons (option_of q w) (map (λ way. option_of q way) ws) in
+    omega arith
+
+count_by : (q : Process) (ws : List (List (ℕ × ℕ))) → length (map (λ way. option_of q way) ws) ≡ length ws
+count_by q [] = refl
+count_by q (w ∷ ws) = ap suc (count_by q ws)
+
+tally_of_ways : (q : Process) (ws : List (List (ℕ × ℕ))) → tally_of (map (λ way. option_of q way) ws) ≡ tally_by (length (leaves q)) (count_of ws)
+tally_of_ways q ws =
+    let m : ℕ = 2 ^ 64 - 1 in
+    let l : ℕ = length (leaves q) in
+    let held : kept (length ws * l) ≡ kept (kept (length ws) * l) =
+    ap kept (mul_comm (length ws) l) ∙ sym (product_kept m l (length ws)) ∙ ap kept (mul_comm l (kept (length ws))) in
+    let size : kept (sum (map option_size (map (λ way. option_of q way) ws))) ≡ kept (kept (kept (length ws) * l) + kept (length (joined ws))) =
+    ap kept (sizes_by q ws) ∙ sym (sum_kept m (length ws * l) (length (joined ws))) ∙ ap (λ n. kept (n + kept (length (joined ws)))) held in
+    λ k. record { options = kept (count_by q ws k); bulk = size k }
+
+pub tally_found : (t : Labelled) (n : Normal) (q : Process) (ls : List ℕ) (found : ℕ → Option ℕ) (count : WayCount) (result : Tally) →
+    ls ≡ leaves q → ((event : ℕ) → found event ≡ leaf_of_event t.labels ls event) → count ≡ count_of (ways n found) →
+    result ≡ tally_by (length ls) count → result ≡ tally_of (options_by t n q)
+tally_found t n q ls found count result listed same counted made =
+    made ∙ ap (λ (l : List ℕ). tally_by (length l) count) listed
+    ∙ ap (tally_by (length (leaves q))) (counted ∙ (λ k. count_of (ways n (λ event. same event k))) ∙ ap (λ (l : List ℕ). count_of (ways n (leaf_of_event t.labels l))) listed)
+    ∙ sym (tally_of_ways q (ways_by t n q))
+
+-- one resolution more
+
+pub taken_more : {A : Type 0} (xs : List A) (i : ℕ) (x : A) → slice_get xs i ≡ Some x → take (i + 1) xs ≡ take i xs ++ x ∷ []
+taken_more xs i x h = take_more xs i x (slice_get_within xs i x h) ∙ ap (λ y. take i xs ++ y ∷ []) (get_or_from_slice_get xs i x x h)
+
+pub flat_more : {A B : Type 0} (f : A → List B) (xs : List A) (i : ℕ) (x : A) → slice_get xs i ≡ Some x →
+    flat_map f (take (i + 1) xs) ≡ flat_map f (take i xs) ++ f x
+flat_more f xs i x h =
+    ap (flat_map f) (taken_more xs i x h) ∙ flat_map-append f (take i xs) (x ∷ []) ∙ ap (λ l. flat_map f (take i xs) ++ l) (append-nil (f x))
+
+pub tally_more : (t : Labelled) (n : Normal) (i : ℕ) (q : Process) (old one new : Tally) → slice_get (resolutions t.process) i ≡ Some q →
+    old ≡ tally_of (flat_map (options_by t n) (take i (resolutions t.process))) → one ≡ tally_of (options_by t n q) → new ≡ added old one →
+    new ≡ tally_of (flat_map (options_by t n) (take (i + 1) (resolutions t.process)))
+tally_more t n i q old one new there so_far this made =
+    made ∙ (λ k. added (so_far k) (this k))
+    ∙ sym (ap tally_of (flat_more (options_by t n) (resolutions t.process) i q there)
+    ∙ tally-append (flat_map (options_by t n) (take i (resolutions t.process))) (options_by t n q))
+
+-- all of them
+pub whole_count : (g : Process) (count : ℕ) → count ≡ min (resolution_count g) (2 ^ 64 - 1) → resolution_count g ≤ 4096 → count ≡ length (resolutions g)
+whole_count g count e h = e ∙ min-eq_left (omega arith) ∙ sym (length-resolutions g)
+
+pub taken_whole : {A : Type 0} (xs : List A) (n : ℕ) → n ≡ length xs → take n xs ≡ xs
+taken_whole xs n e = ap (λ m. take m xs) e ∙ take-length xs

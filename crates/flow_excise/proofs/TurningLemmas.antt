@@ -1,0 +1,82 @@
+-- Rings begun at another of their members.
+use Rattle.std.proofs.Common.{◌≡◌, ℕ, suc, ◌+◌, ◌<◌, ◌≤◌, List, [], ◌∷◌, ◌++◌, map, length, get_or, take, drop, sym, ap, ◌∙◌, subst, inl, inr, ⊎_elim, arith, append_assoc, append-nil, length-append, drop-cons}
+use Rattle.std.proofs.lemmas.List.{take-append-drop, map-append, take-map, drop-map}
+use Rattle.flow_model.specs.Lists.{◌∈◌, Each, AreDistinct}
+use Rattle.flow_model.specs.Process.{Process}
+use Rattle.flow_model.specs.Circle.{items_of, ItemBefore, LeadsBackTo, IsRing, least_of, BeginsWithLeast}
+use Rattle.flow_laws.proofs.ListLemmas1.{mem_left, mem_right, mem_append, distinct_left, distinct_right, distinct_apart, distinct_append, each_of, each_at}
+use Rattle.flow_excise.specs.Items.{IsPartCircle, IsTurned}
+
+-- members by places
+
+pub place_of_member : (xs : List ℕ) (x : ℕ) → x ∈ xs → (k : ℕ) × (k < length xs) × (get_or xs k 0 ≡ x)
+place_of_member [] x m = absurd m
+place_of_member (y ∷ xs) x (inl e) = (0, omega arith, sym e)
+place_of_member (y ∷ xs) x (inr m) = let r = place_of_member xs x m in (suc r.0, omega arith, r.2)
+
+pub mem_turned : {A : Type 0} (p : ℕ) (xs : List A) (x : A) → x ∈ (drop p xs ++ take p xs) → x ∈ xs
+mem_turned p xs x m =
+    subst (λ z. x ∈ z) (take-append-drop p xs)
+    (⊎_elim (λ k. mem_right x (take p xs) (drop p xs) k) (λ k. mem_left x (take p xs) (drop p xs) k) (mem_append x (drop p xs) (take p xs) m))
+
+pub begins_with_least : (xs : List ℕ) (p : ℕ) → p < length xs → ((k : ℕ) → k < length xs → get_or xs p 0 ≤ get_or xs k 0) →
+    BeginsWithLeast (drop p xs ++ take p xs)
+begins_with_least xs p l h =
+    subst (λ (z : List ℕ). BeginsWithLeast (z ++ take p xs)) (sym (drop-cons xs p 0 l))
+    (each_of (λ m. get_or xs p 0 ≤ m) (drop (suc p) xs ++ take p xs)
+    (λ m k. let r = place_of_member xs m (mem_turned p xs m (subst (λ (z : List ℕ). m ∈ (z ++ take p xs)) (sym (drop-cons xs p 0 l)) (inr k))) in
+    subst (λ n. get_or xs p 0 ≤ n) r.2 (h r.0 r.1)))
+
+-- rings
+
+module _ (q : Process) (pairs : List (ℕ × ℕ)) where
+  lead_on : (first next item : List ℕ) (more : List (List ℕ)) → ItemBefore q pairs first next → LeadsBackTo q pairs first item more →
+      LeadsBackTo q pairs next item (more ++ first ∷ [])
+  lead_on first next item [] b h = (h, b)
+  lead_on first next item (m ∷ more) b h = (h.0, lead_on first next m more b h.1)
+
+  turn_once : (first : List ℕ) (more : List (List ℕ)) → IsRing q pairs (first ∷ more) → IsRing q pairs (more ++ first ∷ [])
+  turn_once first [] h = h
+  turn_once first (next ∷ more) h = lead_on first next next more h.0 h.1
+
+  pub turn : (front back : List (List ℕ)) → IsRing q pairs (front ++ back) → IsRing q pairs (back ++ front)
+  turn [] back h = subst (IsRing q pairs) (sym (append-nil back)) h
+  turn (first ∷ front) back h =
+      let turned = subst (IsRing q pairs) (append_assoc front back (first ∷ [])) (turn_once first (front ++ back) h) in
+      subst (IsRing q pairs) (append_assoc back (first ∷ []) front) (turn front (back ++ first ∷ []) turned)
+
+turned_distinct : {A : Type 0} (front back : List A) → AreDistinct (front ++ back) → AreDistinct (back ++ front)
+turned_distinct front back d =
+    distinct_append back front (distinct_right front back d) (distinct_left front back d) (λ x h k. distinct_apart front back d x k h)
+
+-- a ring of items, written and turned, is a circle
+pub circle_from_ring : (q : Process) (pairs : List (ℕ × ℕ)) (part : Process) (ring : List (List ℕ)) (circle : List ℕ) →
+    Each (λ item. item ∈ items_of part) ring → AreDistinct ring → 2 ≤ length ring → IsRing q pairs ring →
+    IsTurned (map least_of ring) circle → IsPartCircle q pairs part circle
+circle_from_ring q pairs part ring circle items distinct two closed t =
+    let whole : take t.place ring ++ drop t.place ring ≡ ring = take-append-drop t.place ring in
+    let long : length (take t.place ring) + length (drop t.place ring) ≡ length ring =
+    sym (length-append (take t.place ring) (drop t.place ring)) ∙ ap length whole in
+    record {
+      ring = drop t.place ring ++ take t.place ring;
+      items = each_of (λ item. item ∈ items_of part) (drop t.place ring ++ take t.place ring)
+          (λ item m. each_at (λ i. i ∈ items_of part) ring item items (mem_turned t.place ring item m));
+      distinct = turned_distinct (take t.place ring) (drop t.place ring) (subst AreDistinct (sym whole) distinct);
+      two = omega (arith, length-append (drop t.place ring) (take t.place ring));
+      closed = turn q pairs (take t.place ring) (drop t.place ring) (subst (IsRing q pairs) (sym whole) closed);
+      written = t.turned ∙ (λ i. drop-map least_of t.place ring i ++ take-map least_of t.place ring i)
+          ∙ sym (map-append least_of (drop t.place ring) (take t.place ring));
+      from_least = t.from_least;
+    }
+
+pub turned_list : (old list seen new : List ℕ) (place : ℕ) → list ≡ old → seen ≡ list → new ≡ drop place list ++ take place list →
+    place < length seen → ((k : ℕ) → k < length seen → get_or seen place 0 ≤ get_or seen k 0) → IsTurned old new
+turned_list old list seen new place e f g l h =
+    let begun = begins_with_least seen place l h in
+    let is : new ≡ drop place seen ++ take place seen = g ∙ sym (ap (λ (z : List ℕ). drop place z ++ take place z) f) in
+    record {
+      place = place;
+      within = subst (λ (z : List ℕ). place < length z) (f ∙ e) l;
+      turned = g ∙ ap (λ (z : List ℕ). drop place z ++ take place z) e;
+      from_least = subst BeginsWithLeast (sym is) begun;
+    }

@@ -1,0 +1,63 @@
+-- What is compiled, as its callers see it.
+use Rattle.std.specs.Prelude.{◌≡◌, ◌≢◌, ◌<◌, ◌≤◌, List, [], length, map}
+use Rattle.std.proofs.Common.{refl}
+use Rattle.std.specs.Coded.{Coded, code_by, coded×, coded_list}
+use Rattle.flow_model.specs.Schema.{Schema}
+use Rattle.flow_model.specs.Resolution.{ChoiceOption, options, options_in, resolutions, resolution_count, bulk}
+use Rattle.flow_laws.specs.Words.{IsConsistent}
+use Rattle.flow_rules.specs.Counts.{kept}
+use Rattle.flow_plan.specs.Sampled.{Sampled, sampled_code}
+use Rattle.flow_excise.specs.declared.counts.Counts.{Counts}
+use Rattle.flow_excise.specs.contracts.counts.Counts as counts
+use Rattle.flow_excise.specs.declared.refusal.CompileRefusal.{CompileRefusal}
+use Rattle.flow_excise.specs.declared.refusal.CompileRefusal.TheVariants.{TooManyChoices, TooManyWays, TooBulky, Inconsistent, NoMemory}
+use Rattle.flow_excise.specs.Executions.{HasExecution, AreJustThose, NumberedOption, numbered_options, TellOfAll}
+use Rattle.flow_excise.specs.Plans.{option_of}
+
+pub record Compilation : Type 0 where
+  pub plans : List Sampled
+  pub counts : Counts
+
+abbrev pub compilation_code : Coded Compilation
+compilation_code = code_by (List Sampled × Counts) (coded× (coded_list sampled_code) counts.the_row.coded)
+    (λ c. (c.plans, c.counts)) (λ t. record { plans = t.0; counts = t.1 }) (λ _. refl)
+
+abbrev pub compilation : List Sampled → Counts → Compilation
+compilation plans counts = record { plans = plans; counts = counts }
+
+-- there is a plan, and they are counted
+pub record IsLive (c : Compilation) : Type 0 where
+  pub some : c.plans ≢ []
+  pub live : c.counts.live ≡ length c.plans
+
+-- the options of the plans
+abbrev pub options_of : List Sampled → List ChoiceOption
+options_of plans = map (λ (s : Sampled). option_of s.plan) plans
+
+-- resolutions, options and bulk are within the limits
+pub record IsWithinLimits (w : Schema) : Type 0 where
+  pub resolutions : resolution_count w.goal ≤ 4096
+  pub options_few : length (options w) ≤ 4096
+  pub light : bulk w ≤ 262144
+
+-- the plans of the options that have an execution, and how large the workflow is
+pub record IsCompiled (w : Schema) (c : Compilation) : Type 0 where
+  pub within : IsWithinLimits w
+  pub consistent : IsConsistent w
+  pub plans : AreJustThose HasExecution (options w) (options_of c.plans)
+  pub resolutions : c.counts.resolutions ≡ resolution_count w.goal
+  pub options_counted : c.counts.options ≡ length (options w)
+  pub bulk_counted : c.counts.bulk ≡ bulk w
+
+-- each option with the number of its resolution and that of its way
+abbrev pub all_numbered : Schema → List NumberedOption
+all_numbered w = numbered_options 0 (map (options_in w) (resolutions w.goal))
+
+-- why the workflow is not compiled; of want of memory nothing is said
+abbrev pub IsRefused : Schema → CompileRefusal → Type 0
+IsRefused w (TooManyChoices count) = (4096 < resolution_count w.goal) × (count ≡ kept (resolution_count w.goal))
+IsRefused w (TooManyWays count) = (resolution_count w.goal ≤ 4096) × ((4096 < length (options w)) × (count ≡ kept (length (options w))))
+IsRefused w (TooBulky count) =
+    (resolution_count w.goal ≤ 4096) × ((length (options w) ≤ 4096) × ((262144 < bulk w) × (count ≡ kept (bulk w))))
+IsRefused w (Inconsistent dropped) = IsWithinLimits w × (¬ (IsConsistent w) × TellOfAll (all_numbered w) dropped.items)
+IsRefused w NoMemory = Unit {0}

@@ -1,0 +1,11 @@
+-- Why a plan is not kept.
+use Rattle.flow_model.specs.Circle.{IsCircle}
+use Rattle.flow_model.specs.Resolution.{ChoiceOption}
+use Rattle.flow_excise.specs.declared.excising.ExciseRefusal.{ExciseRefusal}
+use Rattle.flow_excise.specs.declared.excising.ExciseRefusal.TheVariants.{Circle, NoMemory}
+use Rattle.flow_excise.specs.Executions.{HasExecution}
+
+-- the option has no execution, and that is a circle of it; or nothing is said of it
+abbrev pub IsReasonAgainst : ChoiceOption → ExciseRefusal → Type 0
+IsReasonAgainst o (Circle circle) = ¬ (HasExecution o) × IsCircle o.resolution o.order circle.leaves.items
+IsReasonAgainst o NoMemory = Unit {0}

@@ -1,0 +1,10 @@
+pub mod Options
+pub mod Tallies
+pub mod Limits
+pub mod Graphs
+pub mod Items
+pub mod Executions
+pub mod Plans
+pub mod Excised
+pub mod Compilation
+pub mod Sieves

@@ -1,0 +1,26 @@
+-- How many options there may be, and how large.
+use Rattle.std.specs.Prelude.{◌≡◌, ◌<◌, ◌≤◌, ℕ, List, length, map, sum}
+use Rattle.flow_model.specs.Resolution.{ChoiceOption, option_size}
+use Rattle.flow_rules.specs.Counts.{kept}
+use Rattle.flow_excise.specs.declared.refusal.CompileRefusal.{CompileRefusal}
+use Rattle.flow_excise.specs.declared.refusal.CompileRefusal.TheVariants.{TooManyChoices, TooManyWays, TooBulky, Inconsistent, NoMemory}
+use Rattle.flow_excise.specs.declared.tally.Tally.{Tally}
+
+-- the leaves and pairs of all of them
+abbrev pub bulk_of : List ChoiceOption → ℕ
+bulk_of os = sum (map option_size os)
+
+-- the options are within the limits, and that is their tally
+pub record AreFew (os : List ChoiceOption) (tally : Tally) : Type 0 where
+  pub few : length os ≤ 4096
+  pub light : bulk_of os ≤ 262144
+  pub options : tally.options ≡ length os
+  pub bulk : tally.bulk ≡ bulk_of os
+
+-- the options are too many, or too large in all, or nothing is said
+abbrev pub IsTooMany : List ChoiceOption → CompileRefusal → Type 0
+IsTooMany os (TooManyChoices count) = ⊥
+IsTooMany os (TooManyWays count) = (4096 < length os) × (count ≡ kept (length os))
+IsTooMany os (TooBulky count) = (length os ≤ 4096) × ((262144 < bulk_of os) × (count ≡ kept (bulk_of os)))
+IsTooMany os (Inconsistent dropped) = ⊥
+IsTooMany os NoMemory = Unit {0}

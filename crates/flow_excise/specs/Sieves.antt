@@ -1,0 +1,33 @@
+-- Options that can be made plans of, and those that were looked at.
+use Rattle.std.specs.Prelude.{◌<◌, ◌^◌, List, ◌++◌, length, map}
+use Rattle.flow_model.specs.Lists.{◌∈◌, Each}
+use Rattle.flow_model.specs.Process.{Process, leaves}
+use Rattle.flow_model.specs.Resolution.{ChoiceOption}
+use Rattle.flow_laws.specs.Words.{IsOrdered}
+use Rattle.flow_rules.specs.declared.order_set.OrderSet.{OrderSet}
+use Rattle.flow_excise.specs.declared.sieve.Sieve.{Sieve}
+use Rattle.flow_excise.specs.Executions.{NumberedOption, AreSifted}
+use Rattle.flow_excise.specs.Compilation.{options_of}
+
+pub record IsPlannable (o : ChoiceOption) : Type 0 where
+  pub ordered : IsOrdered o.resolution o.order
+  pub small : Each (λ n. n < 1024) (leaves o.resolution)
+  pub few : length o.order < 2 ^ 32
+
+abbrev pub ArePlannable : List ChoiceOption → Type 0
+ArePlannable os = (o : ChoiceOption) → o ∈ os → IsPlannable o
+
+-- the option of a resolution and one of its ways
+abbrev pub option_with : Process → OrderSet → ChoiceOption
+option_with q way = record { resolution = q; order = way.pairs.items }
+
+abbrev pub options_with : Process → List OrderSet → List ChoiceOption
+options_with q ways = map (option_with q) ways
+
+-- just these options were looked at
+abbrev pub HasSifted : List NumberedOption → Sieve → Type 0
+HasSifted ns sieve = AreSifted ns (options_of sieve.kept.items) sieve.dropped.items
+
+-- these options are looked at after the others
+abbrev pub Sifts : List NumberedOption → Sieve → Sieve → Type 0
+Sifts ns old new = (done : List NumberedOption) → HasSifted done old → HasSifted (done ++ ns) new

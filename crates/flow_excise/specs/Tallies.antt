@@ -1,0 +1,18 @@
+-- How many options there are, and how many leaves and pairs in all of them, in 64 bits.
+use Rattle.std.specs.Prelude.{ℕ, ◌+◌, ◌*◌, List, length, map, sum}
+use Rattle.flow_model.specs.Resolution.{ChoiceOption, option_size}
+use Rattle.flow_rules.specs.declared.counting.WayCount.{WayCount}
+use Rattle.flow_rules.specs.Counts.{kept}
+use Rattle.flow_excise.specs.declared.tally.Tally.{Tally}
+
+-- the tally of a list of options
+abbrev pub tally_of : List ChoiceOption → Tally
+tally_of os = record { options = kept (length os); bulk = kept (sum (map option_size os)) }
+
+-- two tallies as one
+abbrev pub added : Tally → Tally → Tally
+added a b = record { options = kept (a.options + b.options); bulk = kept (a.bulk + b.bulk) }
+
+-- the tally of a resolution with so many leaves, by its ways
+abbrev pub tally_by : ℕ → WayCount → Tally
+tally_by leaves count = record { options = count.ways; bulk = kept (kept (count.ways * leaves) + count.pairs) }

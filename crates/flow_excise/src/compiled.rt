@@ -1,0 +1,53 @@
+ghost use Rattle.std.specs.Prelude.{◌≡◌, ◌≢◌, [], length};
+
+use crate::counts::Counts;
+use flow_plan::KnotFree;
+use std::marker::Model;
+
+/// The plans of all options that have an execution, of which there is one at least.
+#[derive(Drop)]
+pub struct Compiled {
+    plans: Vec<KnotFree>,
+    counts: Counts,
+}
+
+impl Model for Compiled {
+    ghost use Rattle.flow_excise.specs.Compilation.{Compilation, compilation_code};
+
+    ghost Value = { Compilation };
+
+    ghost coded = { compilation_code };
+
+    ghost use Rattle.flow_excise.specs.Compilation.{compilation, IsLive};
+
+    ghost view = { λ c. compilation c.plans.items c.counts };
+
+    ghost invariant = { λ c. IsLive (compilation c.plans.items c.counts) };
+}
+
+impl Compiled {
+    pub(crate) fn new(plans: Vec<KnotFree>, counts: Counts) -> Compiled
+        requires some { plans.items ≢ [] }
+        requires live { counts.live ≡ length plans.items }
+        ensures plans { result.plans ≡ plans.items }
+        ensures counts { result.counts ≡ counts }
+    {
+        Compiled { plans, counts }
+    }
+
+    /// The plans in the order of their options.
+    pub fn plans(&self) -> &[KnotFree]
+        ensures plans { result.now ≡ self.now.plans }
+        ensures some { self.now.plans ≢ [] }
+    {
+        &self.plans
+    }
+
+    pub fn counts(&self) -> Counts
+        ensures counts { result ≡ self.now.counts }
+        ensures live { self.now.counts.live ≡ length self.now.plans }
+    {
+        let _plans = &self.plans;
+        self.counts
+    }
+}

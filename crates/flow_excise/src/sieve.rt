@@ -1,0 +1,117 @@
+ghost use Rattle.std.specs.Prelude.{◌≡◌, ◌<◌, ◌≤◌, ◌^◌, ◌-◌, ◌∷◌, [], ℕ, MatchResult, map, slice_get};
+ghost use Rattle.flow_model.specs.Process.{Process};
+ghost use Rattle.flow_model.specs.Resolution.{resolution_count, resolutions as all_resolutions};
+ghost use Rattle.flow_rules.specs.Normal.{normal_of};
+ghost use Rattle.flow_excise.specs.declared.refusal.CompileRefusal.TheVariants.{NoMemory};
+ghost use Rattle.flow_excise.specs.Executions.{numbered_options, numbered_ways};
+ghost use Rattle.flow_excise.specs.Options.{all_options_by, options_by};
+ghost use Rattle.flow_excise.specs.Sieves.{ArePlannable, HasSifted, Sifts, options_with, option_with, IsPlannable};
+
+use crate::excising::{ExciseRefusal, excise};
+use crate::refusal::{CompileRefusal, Dropped};
+use flow_goal::{Choiceless, Tree, resolutions, resolve};
+use flow_plan::KnotFree;
+use flow_rules::{Nnf, OrderSet, leaf_events, ways};
+use flow_weave::weave;
+use std::alloc::Global;
+
+/// The options that were looked at: plans of those with an execution, and why each of the others has
+/// none.
+#[derive(Drop)]
+pub(crate) struct Sieve {
+    pub(crate) kept: Vec<KnotFree>,
+    pub(crate) dropped: Vec<Dropped>,
+}
+
+/// Looks at one option.
+fn sift(
+    alloc: Global,
+    resolution: &Choiceless,
+    order: &OrderSet,
+    number: u64,
+    way: u64,
+    sieve: &mut Sieve,
+) -> Result<(), CompileRefusal>
+    requires { IsPlannable (option_with resolution.now.process order.now) }
+    ensures { MatchResult result
+        (λ _. Sifts (record { resolution = number; way = way; option = option_with resolution.now.process order.now } ∷ []) sieve.old sieve.new)
+        (λ e. e ≡ NoMemory) }
+{
+    let _leaves = resolution.leaves();
+    let plan = weave(alloc, resolution, order)?;
+    match excise(alloc, plan) {
+        Ok(plan) => {
+            sieve.kept.push(plan)?;
+            Ok(())
+        }
+        Err(ExciseRefusal::Circle(circle)) => {
+            let dropped = Dropped {
+                resolution: number,
+                way,
+                circle,
+            };
+            sieve.dropped.push(dropped)?;
+            Ok(())
+        }
+        Err(ExciseRefusal::NoMemory) => Err(CompileRefusal::NoMemory),
+    }
+}
+
+/// Looks at each way of a resolution.
+fn sift_ways(
+    alloc: Global,
+    resolution: &Choiceless,
+    orders: &[OrderSet],
+    number: u64,
+    sieve: &mut Sieve,
+) -> Result<(), CompileRefusal>
+    requires { ArePlannable (options_with resolution.now.process orders.now) }
+    ensures { MatchResult result
+        (λ _. Sifts (numbered_ways number 0 (options_with resolution.now.process orders.now)) sieve.old sieve.new)
+        (λ e. e ≡ NoMemory) }
+{
+    for (way, order) in orders.iter().enumerate() {
+        sift(alloc, resolution, order, number, way as u64, sieve)?;
+    }
+    Ok(())
+}
+
+/// Looks at each option of the resolution of that number.
+fn sift_resolution(
+    alloc: Global,
+    tree: &Tree,
+    rules: &Nnf,
+    number: u64,
+    sieve: &mut Sieve,
+) -> Result<(), CompileRefusal>
+    requires numbered { number < resolution_count tree.now.process }
+    requires exact { resolution_count tree.now.process ≤ 4096 }
+    requires plannable { ArePlannable (all_options_by tree.now (normal_of rules.now)) }
+    ensures { MatchResult result
+        (λ _. (q : Process) → slice_get (all_resolutions tree.now.process) number ≡ Some q →
+        Sifts (numbered_ways number 0 (options_by tree.now (normal_of rules.now) q)) sieve.old sieve.new)
+        (λ e. e ≡ NoMemory) }
+{
+    let resolution = resolve(alloc, tree, number)?;
+    let events = leaf_events(alloc, tree, resolution.leaves())?;
+    let orders = ways(alloc, rules, &events)?;
+    sift_ways(alloc, &resolution, &orders, number, sieve)
+}
+
+/// Looks at each option, by resolutions in order and then by ways in order.
+pub(crate) fn sift_all(alloc: Global, tree: &Tree, rules: &Nnf) -> Result<Sieve, CompileRefusal>
+    requires exact { resolution_count tree.now.process ≤ 4096 }
+    requires plannable { ArePlannable (all_options_by tree.now (normal_of rules.now)) }
+    ensures { MatchResult result
+        (HasSifted (numbered_options 0 (map (options_by tree.now (normal_of rules.now)) (all_resolutions tree.now.process))))
+        (λ e. e ≡ NoMemory) }
+{
+    let mut sieve = Sieve {
+        kept: Vec::new(alloc),
+        dropped: Vec::new(alloc),
+    };
+    for number in 0..resolutions(tree) {
+        sift_resolution(alloc, tree, rules, number, &mut sieve)?;
+    }
+    Ok(sieve)
+}
