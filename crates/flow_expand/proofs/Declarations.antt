@@ -1,0 +1,103 @@
+-- What distinct names say of declarations.
+use Rattle.std.proofs.Common.{◌≡◌, ℕ, List, [], ◌∷◌, Some, zero, suc, slice_get, refl, sym, subst, inl, inr}
+use Rattle.std.specs.List.{flat_map}
+use Rattle.flow_model.specs.Lists.{◌∈◌, Each, AreDistinct}
+use Rattle.flow_form.specs.Form.{Shape}
+use Rattle.flow_form.specs.Script.{Declared, fact, event, flow, Said}
+use Rattle.flow_form.specs.Names.{names_in, declared_names, event_names, flow_goal, goals_of, IsClosed}
+use Rattle.flow_expand.specs.Steps.{flows_of, flow_names}
+use Rattle.flow_expand.specs.Waiting.{AreDeclared}
+use Rattle.flow_expand.proofs.Members.{mem_left, mem_right, mem_at}
+
+pub flow_declared : (decls : List Declared) (n : List ℕ) → n ∈ flow_names decls → n ∈ declared_names decls
+flow_declared [] n m = m
+flow_declared (fact a ∷ ds) n m = flow_declared ds n m
+flow_declared (event k note ∷ ds) n m = inr (flow_declared ds n m)
+flow_declared (flow k s ∷ ds) n (inl e) = inl e
+flow_declared (flow k s ∷ ds) n (inr m) = inr (flow_declared ds n m)
+
+event_declared : (decls : List Declared) (n : List ℕ) → n ∈ event_names decls → n ∈ declared_names decls
+event_declared [] n m = m
+event_declared (fact a ∷ ds) n m = event_declared ds n m
+event_declared (event k note ∷ ds) n (inl e) = inl e
+event_declared (event k note ∷ ds) n (inr m) = inr (event_declared ds n m)
+event_declared (flow k s ∷ ds) n m = inr (event_declared ds n m)
+
+pub flow_named : (decls : List Declared) (n : List ℕ) (s : Shape) → flow n s ∈ decls → n ∈ flow_names decls
+flow_named [] n s m = m
+flow_named (fact a ∷ ds) n s (inl e) = absurd (cc)
+flow_named (fact a ∷ ds) n s (inr m) = flow_named ds n s m
+flow_named (event k note ∷ ds) n s (inl e) = absurd (cc)
+flow_named (event k note ∷ ds) n s (inr m) = flow_named ds n s m
+flow_named (flow k t ∷ ds) n s (inl e) = inl (cc)
+flow_named (flow k t ∷ ds) n s (inr m) = inr (flow_named ds n s m)
+
+-- a name is not both an event's and a sub-workflow's
+pub not_both : (decls : List Declared) (n : List ℕ) → AreDistinct (declared_names decls) → n ∈ event_names decls → n ∈ flow_names decls → ⊥
+not_both [] n d e f = e
+not_both (fact a ∷ ds) n d e f = not_both ds n d e f
+not_both (event k note ∷ ds) n (out, d) (inl e) f = out (subst (λ z. z ∈ declared_names ds) e (flow_declared ds n f))
+not_both (event k note ∷ ds) n (out, d) (inr e) f = not_both ds n d e f
+not_both (flow k s ∷ ds) n (out, d) e (inl f) = out (subst (λ z. z ∈ declared_names ds) f (event_declared ds n e))
+not_both (flow k s ∷ ds) n (out, d) e (inr f) = not_both ds n d e f
+
+-- a sub-workflow has one goal
+pub same_goal : (decls : List Declared) (n : List ℕ) (s t : Shape) → AreDistinct (declared_names decls) → flow n s ∈ decls → flow n t ∈ decls → s ≡ t
+same_goal [] n s t d e f = absurd e
+same_goal (fact a ∷ ds) n s t d (inl e) f = absurd (cc)
+same_goal (fact a ∷ ds) n s t d (inr e) (inl f) = absurd (cc)
+same_goal (fact a ∷ ds) n s t d (inr e) (inr f) = same_goal ds n s t d e f
+same_goal (event k note ∷ ds) n s t d (inl e) f = absurd (cc)
+same_goal (event k note ∷ ds) n s t d (inr e) (inl f) = absurd (cc)
+same_goal (event k note ∷ ds) n s t d (inr e) (inr f) = same_goal ds n s t d.1 e f
+same_goal (flow k u ∷ ds) n s t d (inl e) (inl f) = cc
+same_goal (flow k u ∷ ds) n s t d (inl e) (inr f) =
+    let g : n ≡ k = cc in absurd (d.0 (subst (λ z. z ∈ declared_names ds) g (flow_declared ds n (flow_named ds n t f))))
+same_goal (flow k u ∷ ds) n s t d (inr e) (inl f) =
+    let g : n ≡ k = cc in absurd (d.0 (subst (λ z. z ∈ declared_names ds) g (flow_declared ds n (flow_named ds n s e))))
+same_goal (flow k u ∷ ds) n s t d (inr e) (inr f) = same_goal ds n s t d.1 e f
+
+pub distinct_flows : (decls : List Declared) → AreDistinct (declared_names decls) → AreDistinct (flow_names decls)
+distinct_flows [] d = tt
+distinct_flows (fact a ∷ ds) d = distinct_flows ds d
+distinct_flows (event k note ∷ ds) d = distinct_flows ds d.1
+distinct_flows (flow k s ∷ ds) d = ((λ m. d.0 (flow_declared ds k m)), distinct_flows ds d.1)
+
+-- the places of sub-workflows
+pub flow_place : (decls : List Declared) (n : List ℕ) (s : Shape) → flow n s ∈ decls → (k : ℕ) × (slice_get (flows_of decls) k ≡ Some (n, s))
+flow_place [] n s m = absurd m
+flow_place (fact a ∷ ds) n s (inl e) = absurd (cc)
+flow_place (fact a ∷ ds) n s (inr m) = flow_place ds n s m
+flow_place (event k note ∷ ds) n s (inl e) = absurd (cc)
+flow_place (event k note ∷ ds) n s (inr m) = flow_place ds n s m
+flow_place (flow k t ∷ ds) n s (inl e) = let f : n ≡ k = cc in let g : s ≡ t = cc in (zero, λ i. Some (sym f i, sym g i))
+flow_place (flow k t ∷ ds) n s (inr m) = let (i, e) = flow_place ds n s m in (suc i, e)
+
+each_member : {A : Type 0} (P : A → Type 0) (xs : List A) (x : A) → Each P xs → x ∈ xs → P x
+each_member P [] x h m = absurd m
+each_member P (y ∷ xs) x h (inl e) = subst P (sym e) h.0
+each_member P (y ∷ xs) x h (inr m) = each_member P xs x h.1 m
+
+mem_flat_map : {A B : Type 0} (f : A → List B) (xs : List A) (x : A) (y : B) → x ∈ xs → y ∈ f x → y ∈ flat_map f xs
+mem_flat_map f [] x y m i = absurd m
+mem_flat_map f (z ∷ xs) x y (inl e) i = mem_left y (f z) (flat_map f xs) (subst (λ w. y ∈ f w) e i)
+mem_flat_map f (z ∷ xs) x y (inr m) i = mem_right y (f z) (flat_map f xs) (mem_flat_map f xs x y m i)
+
+pub in_flows : (decls : List Declared) (n : List ℕ) (s : Shape) → (n, s) ∈ flows_of decls → flow n s ∈ decls
+in_flows [] n s m = absurd m
+in_flows (fact a ∷ ds) n s m = inr (in_flows ds n s m)
+in_flows (event k note ∷ ds) n s m = inr (in_flows ds n s m)
+in_flows (flow k t ∷ ds) n s (inl e) = inl (λ i. flow ((e i).0) ((e i).1))
+in_flows (flow k t ∷ ds) n s (inr m) = inr (in_flows ds n s m)
+
+-- each name of a goal was declared
+pub goals_declared : (s : Said) → IsClosed s → AreDeclared s.decls
+goals_declared s h k n t at m used =
+    each_member (λ x. x ∈ declared_names s.decls) (flat_map names_in (goals_of s)) m h.in_goals
+    (mem_flat_map names_in (goals_of s) t m
+    (mem_left t (flat_map flow_goal s.decls) (s.goal ∷ []) (mem_flat_map flow_goal s.decls (flow n t) t (in_flows s.decls n t (mem_at (flows_of s.decls) k (n, t) at)) (inl refl))) used)
+
+pub goal_declared : (s : Said) → IsClosed s → (m : List ℕ) → m ∈ names_in s.goal → m ∈ declared_names s.decls
+goal_declared s h m used =
+    each_member (λ x. x ∈ declared_names s.decls) (flat_map names_in (goals_of s)) m h.in_goals
+    (mem_flat_map names_in (goals_of s) s.goal m (mem_right s.goal (flat_map flow_goal s.decls) (s.goal ∷ []) (inl refl)) used)

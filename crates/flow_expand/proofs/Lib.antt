@@ -1,0 +1,10 @@
+pub mod Members
+pub mod IndexLemmas
+pub mod PlanLemmas
+pub mod LayLemmas
+pub mod PrepareLemmas
+pub mod SettleLemmas
+pub mod ChainLemmas
+pub mod Declarations
+pub mod Endings
+pub mod TestLemmas

@@ -1,0 +1,45 @@
+ghost use Rattle.std.specs.Prelude.{◌≡◌, ◌+◌, max};
+ghost use Rattle.flow_expand.specs.Expansion.{kept};
+
+/// How many leaves and nothings a goal has, and how many isolations. What would pass the greatest
+/// number is kept at it.
+#[derive(Clone, Copy, Debug, PartialEq, Eq)]
+pub(crate) struct Size {
+    pub(crate) ends: u64,
+    pub(crate) isolations: u64,
+}
+
+impl Size {
+    /// Of a leaf or of nothing.
+    pub(crate) const END: Size = Size {
+        ends: 1,
+        isolations: 0,
+    };
+
+    /// Of two goals together.
+    pub(crate) fn with(self, other: Size) -> Size
+        ensures { result ≡ record { ends = kept (self.ends + other.ends); isolations = kept (self.isolations + other.isolations) } }
+    {
+        Size {
+            ends: self.ends.saturating_add(other.ends),
+            isolations: self.isolations.saturating_add(other.isolations),
+        }
+    }
+
+    /// Of the goal isolated.
+    pub(crate) fn isolated(self) -> Size
+        ensures { result ≡ record { ends = self.ends; isolations = kept (self.isolations + 1) } }
+    {
+        Size {
+            ends: self.ends,
+            isolations: self.isolations.saturating_add(1),
+        }
+    }
+
+    /// The one or the other, whichever is more.
+    pub(crate) fn most(self) -> u64
+        ensures { result ≡ max self.ends self.isolations }
+    {
+        self.ends.max(self.isolations)
+    }
+}
