@@ -5,6 +5,8 @@ mod either_order;
 mod isolation;
 mod knot;
 mod plain;
+#[cfg(test)]
+mod tests;
 
 pub use either_order::{case_either_order_has_two_options, case_either_order_one_at_a_time};
 pub use isolation::case_isolation_keeps_others_out;
