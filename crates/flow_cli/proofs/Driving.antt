@@ -1,14 +1,14 @@
 -- Driven sessions, one command after another.
-use Rattle.std.proofs.Common.{◌≡◌, ◌<◌, ◌≤◌, ◌+◌, ℕ, zero, suc, List, [], ◌∷◌, ◌++◌, length, take, get_or, Option, Some, None, IsSome, IsSomeAnd, true, false, refl, sym, ap, ◌∙◌, subst, append_assoc, append-nil, arith}
+use Rattle.std.proofs.Common.{◌≡◌, ◌<◌, ◌+◌, ℕ, zero, suc, List, [], ◌∷◌, ◌++◌, length, take, get_or, Option, Some, None, IsSome, IsSomeAnd, true, false, refl, sym, ap, ◌∙◌, subst, append_assoc, append-nil, arith}
 use Rattle.flow_model.specs.declared.labels.Label.{Label}
 use Rattle.flow_model.specs.Lists.{Each}
 use Rattle.flow_model.specs.Facts.{event_in, event_at}
 use Rattle.flow_model.specs.Schema.{Schema, IsEventLeaf}
 use Rattle.flow_core.specs.View.{Progress}
 use Rattle.flow_record.specs.declared.command.Command.{Command}
-use Rattle.flow_record.specs.Session.{SessionText, commands, session_of}
+use Rattle.flow_record.specs.Session.{commands}
 use Rattle.flow_record.specs.Journal.{AreNamed}
-use Rattle.flow_text.specs.Written.{AreEventsBelow}
+use Rattle.flow_cli.specs.Written.{AreEventsBelow}
 use Rattle.flow_cli.specs.Drive.{RepliesTo, Drives}
 use Rattle.flow_cli.specs.Output.{HasNames}
 

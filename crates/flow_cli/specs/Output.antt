@@ -8,16 +8,21 @@ use Rattle.flow_reply.specs.declared.verdict.Verdict.{Verdict}
 use Rattle.flow_reply.specs.declared.verdict.Verdict.TheVariants as verdict
 use Rattle.flow_core.specs.View.{Progress, schema_of, now}
 use Rattle.flow_core.specs.Lawful.{IsLawful}
-use Rattle.flow_text.specs.Written.{Written, Derives}
+use Rattle.flow_form.specs.declared.refusal.TextRefusal.{TextRefusal}
+use Rattle.flow_form.specs.Script.{Said}
+use Rattle.flow_text.specs.Saying.{Says}
+use Rattle.flow_text.specs.Parsing.{IsParseRefusal}
 use Rattle.flow_record.specs.declared.command.Command.{Command}
 use Rattle.flow_record.specs.declared.command.Command.TheVariants as command
 use Rattle.flow_record.specs.Session.{session_of, commands}
 use Rattle.flow_reply.specs.declared.refused.Refused.TheVariants as refused
 use Rattle.flow_reply.specs.Cut.{cut_of}
-use Rattle.flow_reply.specs.Refusing.{refused_text}
+use Rattle.flow_reply.specs.Refusing.{refused_text, IsOfText}
 use Rattle.flow_reply.specs.Report.{meaning, report_text}
 use Rattle.flow_cli.specs.declared.status.Status.{Status}
 use Rattle.flow_cli.specs.declared.status.Status.TheVariants.{Fine, No, Words, Input, ReadFault, WriteFault, Memory, Spent}
+use Rattle.flow_cli.specs.Written.{Written}
+use Rattle.flow_cli.specs.Simple.{Runs}
 use Rattle.flow_cli.specs.Drive.{Drives}
 
 -- the words are the program's name and the mode
@@ -45,11 +50,21 @@ IsServed command.Enabled = ⊥
 IsServed command.Journal = ⊥
 IsServed command.Facts = ⊥
 
--- the input is this workflow and this session
-pub record IsInput (input : List ℕ) (w : Written) (session : List Command) : Type 0 where
-  pub workflow : Derives (take (cut_of input).0 input) w
+-- the text of the workflow in an input
+abbrev pub workflow_part : List ℕ → List ℕ
+workflow_part input = take (cut_of input).0 input
+
+-- the engine runs all that is said, as this workflow, and the input goes on with this session, which it serves
+pub record IsBuilt (input : List ℕ) (s : Said) (w : Written) (session : List Command) : Type 0 where
+  pub runs : Runs s w
   pub read : session_of (drop (cut_of input).1 input) ≡ commands session
   pub served : Each IsServed session
+
+-- the input is this workflow and this session
+pub record IsInput (input : List ℕ) (w : Written) (session : List Command) : Type 0 where
+  pub said : Said
+  pub says : Says (workflow_part input) said
+  pub built : IsBuilt input said w session
 
 -- before the first command
 abbrev pub start_of : Written → Progress
@@ -86,15 +101,22 @@ pub record IsDriven (input : List ℕ) (status : Status) (output : List ℕ) : T
   pub input_is : IsInput input written session
   pub records : Records written session status output
 
--- no workflow with a session is written so
+-- The text of the workflow says something, but the engine does not run all of it, or no session that it serves follows.
 abbrev pub IsUnbuilt : List ℕ → Type 0
-IsUnbuilt input = ¬ ((w : Written) × ((session : List Command) × IsInput input w session))
+IsUnbuilt input = (s : Said) × Says (workflow_part input) s × ¬ ((w : Written) × ((session : List Command) × IsBuilt input s w session))
+
+-- the text of the workflow says nothing, and the output is why
+pub record IsRefused (input output : List ℕ) : Type 0 where
+  pub refusal : TextRefusal
+  pub of_text : IsOfText refusal
+  pub first : IsParseRefusal (workflow_part input) refusal
+  pub output_is : output ≡ refused_text (refused.Text refusal)
 
 -- What a call with the right words writes for an input that was read: the first refusal that applies, or a session.
 abbrev pub WritesFor : List ℕ → Status → List ℕ → Type 0
 WritesFor input Input output =
     ((greatest_input < length input) × (output ≡ refused_text refused.TooLong))
-    ⊎ ((length input ≤ greatest_input) × IsUnbuilt input × (output ≡ refused_text refused.Unbuilt))
+    ⊎ ((length input ≤ greatest_input) × (IsRefused input output ⊎ (IsUnbuilt input × (output ≡ refused_text refused.Unbuilt))))
 WritesFor input Fine output = (length input ≤ greatest_input) × IsDriven input Fine output
 WritesFor input No output = (length input ≤ greatest_input) × IsDriven input No output
 WritesFor input Spent output = (length input ≤ greatest_input) × IsDriven input Spent output

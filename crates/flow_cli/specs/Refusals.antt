@@ -9,3 +9,4 @@ status_of refused.Words = Words
 status_of refused.Read = ReadFault
 status_of refused.TooLong = Input
 status_of refused.Unbuilt = Input
+status_of (refused.Text refusal) = Input

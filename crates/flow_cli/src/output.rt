@@ -1,5 +1,5 @@
 ghost use Rattle.std.specs.Prelude.{◌≡◌, IfOk};
-ghost use Rattle.flow_reply.specs.Refusing.{refused_text};
+ghost use Rattle.flow_reply.specs.Refusing.{refused_text, IsTold};
 ghost use Rattle.flow_cli.specs.Refusals.{status_of};
 
 use crate::status::Status;
@@ -20,12 +20,13 @@ fn status_of(refused: &Refused) -> Status
     match refused {
         Refused::Words => Status::Words,
         Refused::Read => Status::ReadFault,
-        Refused::TooLong | Refused::Unbuilt => Status::Input,
+        Refused::TooLong | Refused::Unbuilt | Refused::Text(_) => Status::Input,
     }
 }
 
 /// A refusal as output.
 pub fn refuse(alloc: Global, refused: &Refused) -> Result<Output, AllocError>
+    requires { IsTold refused.now }
     ensures { IfOk result (λ output. (output.status ≡ status_of refused.now) × (output.text.items ≡ refused_text refused.now)) }
 {
     Ok(Output {

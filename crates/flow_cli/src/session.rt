@@ -4,15 +4,15 @@ ghost use Rattle.flow_model.specs.Verdict.{drive_verdict};
 ghost use Rattle.flow_reply.specs.Reply.{IsAnswerTo, HasNamedCall};
 ghost use Rattle.flow_reply.specs.Report.{IsOfDrive, meaning};
 ghost use Rattle.flow_cli.specs.Drive.{Answers, RepliesTo, Drives, SameRun};
-ghost use Rattle.flow_text.specs.Written.{written, IsSimple};
+ghost use Rattle.flow_cli.specs.Written.{written, IsSimple};
 ghost use Rattle.flow_cli.specs.Output.{IsServed, HasNames, Records, ended};
 
 use crate::output::Output;
 use crate::status::Status;
+use crate::workflow::Workflow;
 use flow_core::Core;
 use flow_facts::Name;
 use flow_reply::{Answer, Command, Verdict, print_reply, print_report};
-use flow_text::Workflow;
 use std::alloc::{AllocError, Global};
 
 /// The number of the caller that makes the entries of a session.

@@ -114,13 +114,64 @@ fn drives_sessions(rt: HostRuntime) -> Result<(), Fail> {
         ("goal nop;", Status::Input, UNBUILT),
         ("event a; goal a;\n%%\ntake x\n", Status::Input, UNBUILT),
         ("event a; goal a;\n%%\nnext\n", Status::Input, UNBUILT),
-        ("event a; goal a;\ntake 0\n", Status::Input, UNBUILT),
+        ("event a; goal a + a;", Status::Input, UNBUILT),
+        (
+            "event a; goal a; constraint must a;",
+            Status::Input,
+            UNBUILT,
+        ),
+        ("event a fail; goal a;", Status::Input, UNBUILT),
+        ("event a; goal a * a;", Status::Input, UNBUILT),
     ];
     for (input, status, output) in table {
         let came = call(rt.alloc(), DRIVE, input.as_bytes().to_vec(rt.alloc())?)?;
         assert_eq!(rt; came.0, status, "at {input:?}");
         assert_eq!(rt; came.1.as_slice(), output.as_bytes(), "at {input:?}");
     }
+    Ok(())
+}
+
+#[test]
+fn tells_why_a_text_says_nothing(rt: HostRuntime) -> Result<(), Fail> {
+    let table = [
+        (b"".as_slice(), "refused: expected declaration 0\n"),
+        (
+            b"event a, b; goal a * (b".as_slice(),
+            "refused: expected ) 23\n",
+        ),
+        (b"event a; goal a\xC3\xA9;".as_slice(), "refused: byte 15\n"),
+        (b"event a, a; goal a;".as_slice(), "refused: repeated a 9\n"),
+        (b"goal z;".as_slice(), "refused: unknown z 5\n"),
+        (b"goal %;".as_slice(), "refused: token 5\n"),
+        (
+            b"event a; goal a;\ntake 0\n".as_slice(),
+            "refused: expected constraint 17\n",
+        ),
+        // The text is refused before what follows it.
+        (b"goal z;\n%%\nnext\n".as_slice(), "refused: unknown z 5\n"),
+        (
+            b"event a; goal a + z;".as_slice(),
+            "refused: unknown z 18\n",
+        ),
+    ];
+    for (input, output) in table {
+        let came = call(rt.alloc(), DRIVE, input.to_vec(rt.alloc())?)?;
+        assert_eq!(rt; came.0, Status::Input, "at {output}");
+        assert_eq!(rt; came.1.as_slice(), output.as_bytes(), "at {output}");
+    }
+    Ok(())
+}
+
+#[test]
+fn wrong_words_leave_the_source(rt: HostRuntime) -> Result<(), Fail> {
+    let mut source = MemSource::new(PLAIN.as_bytes().to_vec(rt.alloc())?);
+    let mut sink = MemSink::new(rt.alloc(), 1000)?;
+    let wrong = words_of(rt.alloc(), "flow check")?;
+    let refused = flow(rt.alloc(), &wrong, &mut source, &mut sink);
+    assert_eq!(rt; refused, Status::Words);
+    let right = words_of(rt.alloc(), DRIVE)?;
+    let status = flow(rt.alloc(), &right, &mut source, &mut sink);
+    assert_eq!(rt; status, Status::Fine);
     Ok(())
 }
 
@@ -153,7 +204,7 @@ fn takes_any_name_of_the_program(rt: HostRuntime) -> Result<(), Fail> {
 #[test]
 fn refuses_one_byte_too_many(rt: HostRuntime) -> Result<(), Fail> {
     let table = [
-        (1_048_576, UNBUILT),
+        (1_048_576, "refused: expected declaration 1048576\n"),
         (1_048_577, "refused: too long 1048576\n"),
     ];
     for (length, output) in table {

@@ -1,6 +1,7 @@
 use crate::{Answer, Command, Refused, Verdict, cut, print_refused, print_reply, print_report};
 use flow_core::{Call, CommitRefusal, Entry, PostRefusal, Step, TakeRefusal};
 use flow_facts::Name;
+use flow_form::{TextRefusal, Wanted};
 use flow_goal::{Goal, Label, Note, Tree};
 use std::alloc::{AllocError, Global};
 use std::test::Fail;
@@ -159,8 +160,60 @@ fn refuses(rt: HostRuntime) -> Result<(), Fail> {
         (Refused::Read, "refused: read\n"),
         (Refused::TooLong, "refused: too long 1048576\n"),
         (Refused::Unbuilt, "refused: unbuilt\n"),
+        (
+            Refused::Text(TextRefusal::NotAscii { place: 15 }),
+            "refused: byte 15\n",
+        ),
+        (
+            Refused::Text(TextRefusal::BadToken { place: 5 }),
+            "refused: token 5\n",
+        ),
+        (
+            Refused::Text(TextRefusal::TooDeep { place: 1_048_575 }),
+            "refused: deep 1048575\n",
+        ),
+        (
+            Refused::Text(TextRefusal::Repeated {
+                place: 9,
+                name: Name::new(rt.alloc(), b"pick")?,
+            }),
+            "refused: repeated pick 9\n",
+        ),
+        (
+            Refused::Text(TextRefusal::Unknown {
+                place: 0,
+                name: Name::new(rt.alloc(), b"z")?,
+            }),
+            "refused: unknown z 0\n",
+        ),
     ];
-    for (refused, want) in table {
+    for (refused, want) in &table {
+        let text = print_refused(rt.alloc(), refused)?;
+        assert_eq!(rt; text.as_slice(), want.as_bytes(), "{want}");
+    }
+    Ok(())
+}
+
+#[test]
+fn tells_what_is_expected(rt: HostRuntime) -> Result<(), Fail> {
+    let table = [
+        (Wanted::Declaration, "refused: expected declaration 7\n"),
+        (Wanted::Constraint, "refused: expected constraint 7\n"),
+        (Wanted::Name, "refused: expected name 7\n"),
+        (Wanted::Fact, "refused: expected fact 7\n"),
+        (Wanted::Constant, "refused: expected constant 7\n"),
+        (Wanted::Atom, "refused: expected atom 7\n"),
+        (Wanted::Rule, "refused: expected rule 7\n"),
+        (Wanted::Opening, "refused: expected ( 7\n"),
+        (Wanted::Closing, "refused: expected ) 7\n"),
+        (Wanted::Equals, "refused: expected = 7\n"),
+        (Wanted::Semicolon, "refused: expected ; 7\n"),
+        (Wanted::Query, "refused: expected query 7\n"),
+        (Wanted::Number, "refused: expected number 7\n"),
+        (Wanted::End, "refused: expected end 7\n"),
+    ];
+    for (kind, want) in table {
+        let refused = Refused::Text(TextRefusal::Expected { place: 7, kind });
         let text = print_refused(rt.alloc(), &refused)?;
         assert_eq!(rt; text.as_slice(), want.as_bytes(), "{want}");
     }

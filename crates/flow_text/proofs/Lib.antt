@@ -1,9 +1,3 @@
-pub mod Lexing
-pub mod Piles
-pub mod Complete
-pub mod Sound
-pub mod Derived
-pub mod IndexSteps
-pub mod IndexLemmas
-pub mod Labels
-pub mod Meaning
+pub mod NamesLeft
+pub mod Parsed
+pub mod SaidLaws

@@ -1,6 +1,3 @@
-pub mod Symbols
-pub mod Grammar
-pub mod Written
-pub mod Tokens
-pub mod Reader
-pub mod Index
+pub mod Saying
+pub mod Parsing
+pub mod Laws

@@ -1,14 +1,16 @@
-//! The reader of workflow texts.
+//! Workflow texts and queries, read and printed.
 #![tactic(auto)]
 
-mod names;
-mod reader;
-mod refusal;
+mod laws;
+mod parsing;
+mod places;
 #[cfg(test)]
 mod tests;
-mod token;
-mod workflow;
 
-pub use flow_facts::Name;
-pub use refusal::TextRefusal;
-pub use workflow::{Workflow, one_meaning, parse};
+pub use flow_form::{
+    Const, Decl, Fact, Form, Name, Note, Query, RuleForm, Script, TextRefusal, Wanted,
+};
+pub use flow_lex::{Token, TokenKind, lex};
+pub use flow_print::print;
+pub use laws::{law_printed_scripts_are_read_back, law_texts_say_one_thing};
+pub use parsing::{parse, parse_query};

@@ -1,0 +1,108 @@
+-- Why a text says nothing, and where.
+use Rattle.std.specs.Prelude.{◌≡◌, ℕ, List, [], ◌∷◌, ◌++◌, take, map, Option, Some, None, slice_get}
+use Rattle.std.proofs.Common.{Bor}
+use Rattle.flow_form.specs.declared.refusal.Wanted as told
+use Rattle.flow_form.specs.declared.refusal.TextRefusal.{TextRefusal}
+use Rattle.flow_form.specs.declared.refusal.TextRefusal.TheVariants.{NotAscii, BadToken, Expected, Unknown, Repeated, TooDeep, NoMemory}
+use Rattle.flow_form.specs.Script.{Said, Asked}
+use Rattle.flow_lex.specs.declared.token.Token.{Token}
+use Rattle.flow_lex.specs.Tokens.{lexed, IsAscii, IsFirstNotAscii}
+use Rattle.flow_grammar.specs.Symbol.{Symbol, a_name, Placed}
+use Rattle.flow_grammar.specs.Laws.{StandsFor, MayEnd}
+use Rattle.flow_grammar.specs.Roles.{Role, role_name, script_roles, query_roles}
+use Rattle.flow_grammar.specs.Texts.{IsStuckAt, NoneDeepBefore, StandsDeep, IsViable, IsWhole, SpellsScript, SpellsQuery}
+use Rattle.flow_reader.specs.Symbols.{symbol_of, symbols_of}
+use Rattle.flow_reader.specs.Readers.{kind_of}
+use Rattle.flow_reader.specs.Reading.{place_of}
+use Rattle.flow_names.specs.Good.{IsFirstRepeated, IsFirstUnknown, AsksFirstOfOther}
+use Rattle.flow_text.specs.Saying.{HasTokens, Writes}
+
+-- at the place stands the first token with which no text goes on, or the end of a text that ends too early; what is
+-- told could come there: each token of that kind, and the end if it is of that kind
+pub record IsExpected {V : Type 0} (Spells : List Placed → V → Type 0) (text : List ℕ) (place : ℕ) (kind : told.Wanted) : Type 0 where
+  pub tokens : List Token
+  pub has_tokens : HasTokens text tokens
+  pub number : ℕ
+  pub there : place ≡ place_of text tokens number
+  pub stuck : IsStuckAt Spells (symbols_of text tokens) number
+  pub none_deep : NoneDeepBefore Spells (symbols_of text tokens) number
+  pub could_come : (t : Symbol) → StandsFor (kind_of kind) t → IsViable Spells (take number (symbols_of text tokens) ++ t ∷ [])
+  pub could_end : MayEnd (kind_of kind) → IsWhole Spells (take number (symbols_of text tokens))
+
+-- at the place stands the first parenthesis or `not` that is inside 200 others, with which a text could go on
+pub record IsTooDeep {V : Type 0} (Spells : List Placed → V → Type 0) (text : List ℕ) (place : ℕ) : Type 0 where
+  pub tokens : List Token
+  pub has_tokens : HasTokens text tokens
+  pub number : ℕ
+  pub there : place ≡ place_of text tokens number
+  pub deep : StandsDeep Spells (symbols_of text tokens) number
+  pub none_before : NoneDeepBefore Spells (symbols_of text tokens) number
+
+-- the bytes behind a reference
+abbrev pub bytes_now : Bor (List ℕ) → List ℕ
+bytes_now b = b.now
+
+-- the name that the symbol is, if it is one
+abbrev pub name_in : Symbol → Option (List ℕ)
+name_in (a_name n) = Some n
+name_in _ = None
+
+abbrev pub with_name : ℕ → Option (List ℕ) → List (ℕ × List ℕ) → List (ℕ × List ℕ)
+with_name place None names = names
+with_name place (Some n) names = (place, n) ∷ names
+
+-- the names among the tokens, each with its place
+abbrev pub named_places : List ℕ → List Token → List (ℕ × List ℕ)
+named_places text [] = []
+named_places text (t ∷ ts) = with_name t.start (name_in (symbol_of text t)) (named_places text ts)
+
+-- that name stands at the place as name number k of the text
+pub record IsNameAt (text : List ℕ) (roles : List Role) (k place : ℕ) (name : List ℕ) : Type 0 where
+  pub tokens : List Token
+  pub has_tokens : HasTokens text tokens
+  pub there : slice_get (named_places text tokens) k ≡ Some (place, name)
+  pub named : slice_get (map role_name roles) k ≡ Some name
+
+-- the name there is the first that is declared a second time
+pub record IsRepeatedAt (text : List ℕ) (place : ℕ) (name : List ℕ) : Type 0 where
+  pub said : Said
+  pub writes : Writes SpellsScript text said
+  pub number : ℕ
+  pub first : IsFirstRepeated said number
+  pub there : IsNameAt text (script_roles said) number place name
+
+-- no name is declared a second time, and the name there is the first that is not declared as it must be
+pub record IsUnknownAt (text : List ℕ) (place : ℕ) (name : List ℕ) : Type 0 where
+  pub said : Said
+  pub writes : Writes SpellsScript text said
+  pub number : ℕ
+  pub first : IsFirstUnknown said number
+  pub there : IsNameAt text (script_roles said) number place name
+
+-- the name there is the query's first that is not that of an event
+pub record AsksUnknownAt (text : List ℕ) (s : Said) (place : ℕ) (name : List ℕ) : Type 0 where
+  pub query : Asked
+  pub writes : Writes SpellsQuery text query
+  pub number : ℕ
+  pub first : AsksFirstOfOther query s number
+  pub there : IsNameAt text (query_roles query) number place name
+
+-- The refusal is the first that applies to the text; want of memory says nothing of it.
+abbrev pub IsParseRefusal : List ℕ → TextRefusal → Type 0
+IsParseRefusal text (NotAscii place) = IsFirstNotAscii text place
+IsParseRefusal text (BadToken place) = IsAscii text × ((lexed text).bad ≡ Some place)
+IsParseRefusal text (Expected place kind) = IsExpected SpellsScript text place kind
+IsParseRefusal text (TooDeep place) = IsTooDeep SpellsScript text place
+IsParseRefusal text (Repeated place name) = IsRepeatedAt text place name
+IsParseRefusal text (Unknown place name) = IsUnknownAt text place name
+IsParseRefusal text NoMemory = Unit {0}
+
+-- the same for a query to a workflow
+abbrev pub IsQueryRefusal : List ℕ → Said → TextRefusal → Type 0
+IsQueryRefusal text s (NotAscii place) = IsFirstNotAscii text place
+IsQueryRefusal text s (BadToken place) = IsAscii text × ((lexed text).bad ≡ Some place)
+IsQueryRefusal text s (Expected place kind) = IsExpected SpellsQuery text place kind
+IsQueryRefusal text s (TooDeep place) = IsTooDeep SpellsQuery text place
+IsQueryRefusal text s (Repeated place name) = ⊥
+IsQueryRefusal text s (Unknown place name) = AsksUnknownAt text s place name
+IsQueryRefusal text s NoMemory = Unit {0}

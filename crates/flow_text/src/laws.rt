@@ -1,0 +1,12 @@
+ghost use Rattle.flow_text.specs.Laws.{TextsSayOneThing, PrintsSayIt, PrintsAreReadBack};
+
+/// A text says at most one thing.
+pub fn law_texts_say_one_thing()
+    ensures { TextsSayOneThing }
+{}
+
+/// A script that can be written at all is said by its print, and so is every script that some text says.
+pub fn law_printed_scripts_are_read_back()
+    ensures every_script { PrintsSayIt }
+    ensures what_was_said { PrintsAreReadBack }
+{}
