@@ -14,7 +14,7 @@ cat > crates/bench_compile/src/main.rt <<'PROGRAM'
 //! Compiles a large workflow, and prints what it took.
 #![tactic(auto)]
 
-use flow_excise::{CompileRefusal, compile};
+use flow_excise::compile;
 use flow_goal::{Goal, Label, Tree, twice};
 use flow_rules::{Rule, precedes};
 use std::alloc::{AllocError, Global};
@@ -136,8 +136,7 @@ fn main(rt: HostRuntime) -> io::Result<()> {
     let took = start.elapsed(&rt)?;
     match compiled {
         Ok(compiled) => println!(rt; "{:?} in {} ms", compiled.counts(), took.as_millis())?,
-        Err(CompileRefusal::NoMemory) => println!(rt; "no memory")?,
-        Err(_) => println!(rt; "refused in {} ms", took.as_millis())?,
+        Err(_refusal) => println!(rt; "refused in {} ms", took.as_millis())?,
     }
     Ok(())
 }
