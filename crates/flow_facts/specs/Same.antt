@@ -26,7 +26,7 @@ deciding_equiv E d = record {
 nat_eq-Decides : (m n : ℕ) → Decides (nat_eq m n) (m ≡ n)
 nat_eq-Decides m n = (eqb-true m n, eq-eqb m n)
 
-words_eq-Decides : (a b : List ℕ) → Decides (pointwise nat_eq a b) (a ≡ b)
+pub words_eq-Decides : (a b : List ℕ) → Decides (pointwise nat_eq a b) (a ≡ b)
 words_eq-Decides a b = slice_eq-Decides nat_eq-Decides a b (pointwise nat_eq a b) refl
 
 pub const_eq-Decides : (a b : Const) → Decides (const_eq a b) (a ≡ b)

@@ -1,10 +1,26 @@
+ghost use Rattle.std.specs.Prelude.{◌≡◌, IfOk};
+
 use crate::name::Name;
+use std::alloc::{AllocError, Global};
+use std::hash::{Hash, Hasher};
 
 /// An argument of a fact.
 #[derive(Debug, Drop)]
 pub enum Const {
     Word(Name),
     Number(u32),
+}
+
+impl Const {
+    /// The same constant in memory of its own.
+    pub fn copy(&self, alloc: Global) -> Result<Const, AllocError>
+        ensures { IfOk result (λ constant. constant ≡ self.now) }
+    {
+        match self {
+            Const::Word(word) => Ok(Const::Word(word.copy(alloc)?)),
+            Const::Number(number) => Ok(Const::Number(*number)),
+        }
+    }
 }
 
 impl PartialEq for Const {
@@ -28,4 +44,25 @@ impl Eq for Const {
     ghost use Rattle.flow_facts.specs.Same.{const_equiv};
 
     ghost laws = { const_equiv };
+}
+
+impl Hash for Const {
+    ghost use Rattle.flow_facts.specs.Hashed.{const_writes, consts_alike};
+
+    ghost hash_input = { const_writes };
+
+    ghost respects_eq = { consts_alike };
+
+    fn hash<H: Hasher>(&self, state: &mut H) {
+        match self {
+            Const::Word(word) => {
+                state.write_u8(0);
+                word.hash(state);
+            }
+            Const::Number(number) => {
+                state.write_u8(1);
+                number.hash(state);
+            }
+        }
+    }
 }

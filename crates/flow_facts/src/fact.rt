@@ -1,7 +1,9 @@
-ghost use Rattle.std.specs.Prelude.{◌≡◌};
+ghost use Rattle.std.specs.Prelude.{◌≡◌, IfOk};
 
 use crate::constant::Const;
 use crate::name::Name;
+use std::alloc::{AllocError, Global};
+use std::hash::{Hash, Hasher};
 use std::marker::Model;
 
 /// A ground fact: a relation of constants.
@@ -27,6 +29,18 @@ impl Fact {
         ensures args { result.args ≡ args.items }
     {
         Fact { relation, args }
+    }
+
+    /// The same fact in memory of its own.
+    pub fn copy(&self, alloc: Global) -> Result<Fact, AllocError>
+        ensures { IfOk result (λ fact. fact ≡ self.now) }
+    {
+        let relation = self.relation.copy(alloc)?;
+        let mut args = Vec::new(alloc);
+        for arg in &self.args {
+            args.push(arg.copy(alloc)?)?;
+        }
+        Ok(Fact { relation, args })
     }
 
     pub fn relation(&self) -> &Name
@@ -59,4 +73,17 @@ impl Eq for Fact {
     ghost use Rattle.flow_facts.specs.Same.{atom_equiv};
 
     ghost laws = { atom_equiv };
+}
+
+impl Hash for Fact {
+    ghost use Rattle.flow_facts.specs.Hashed.{atom_writes, atoms_alike};
+
+    ghost hash_input = { atom_writes };
+
+    ghost respects_eq = { atoms_alike };
+
+    fn hash<H: Hasher>(&self, state: &mut H) {
+        self.relation.hash(state);
+        self.args.hash(state);
+    }
 }

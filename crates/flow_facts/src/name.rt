@@ -1,6 +1,7 @@
 ghost use Rattle.std.specs.Prelude.{◌≡◌, IfOk};
 
 use std::alloc::{AllocError, Global};
+use std::hash::{Hash, Hasher};
 use std::marker::Model;
 
 /// A name, as the bytes that it is written in.
@@ -24,6 +25,13 @@ impl Name {
         Ok(Name {
             bytes: Vec::from_slice(alloc, bytes)?,
         })
+    }
+
+    /// The same name in memory of its own.
+    pub fn copy(&self, alloc: Global) -> Result<Name, AllocError>
+        ensures { IfOk result (λ name. name ≡ self.now) }
+    {
+        Name::new(alloc, self.bytes())
     }
 
     pub fn bytes(&self) -> &[u8]
@@ -53,4 +61,16 @@ impl Eq for Name {
     ghost use Rattle.std.specs.Cmp.Rules.{comparing};
 
     ghost laws = { Prim.search (comparing, rules) };
+}
+
+impl Hash for Name {
+    ghost use Rattle.flow_facts.specs.Hashed.{name_writes, names_alike};
+
+    ghost hash_input = { name_writes };
+
+    ghost respects_eq = { names_alike };
+
+    fn hash<H: Hasher>(&self, state: &mut H) {
+        self.bytes.hash(state);
+    }
 }

@@ -63,3 +63,17 @@ fn keeps_facts(rt: HostRuntime) -> Result<(), Fail> {
     assert!(rt; !facts.has(0) && !facts.has(1) && facts.has(2));
     Ok(())
 }
+
+#[test]
+fn copies_facts(rt: HostRuntime) -> Result<(), Fail> {
+    let alloc = rt.alloc();
+    for (thing, price) in [(b"pear".as_slice(), 3), (b"".as_slice(), u32::MAX)] {
+        let fact = price_of(alloc, thing, price)?;
+        let copy = fact.copy(alloc)?;
+        assert!(rt; copy == fact);
+        assert!(rt; copy.relation().copy(alloc)? == *fact.relation());
+        let last = copy.args().last().ok_or("no price")?;
+        assert!(rt; last.copy(alloc)? == Const::Number(price));
+    }
+    Ok(())
+}

@@ -19,7 +19,8 @@ use Rattle.flow_lex.specs.Tokens.{Lexed, lexed, lexed_after}
 use Rattle.flow_grammar.specs.Symbol.{Symbol, constant_symbol, goal_word, constraint_word, and_word, or_word, star, bar, plus, semicolon}
 use Rattle.flow_grammar.specs.Print.{bracket, print_constants, print_arguments, print_fact, in_serial, in_beside, in_either, in_all, in_any, print_goal, print_list, print_rest, print_names, print_rule, print_rules, print_more_rules, print_note, print_declared, print_declarations, print_constraints, print_script}
 use Rattle.flow_reader.specs.Symbols.{word_symbol, mark_symbol, symbol_of, symbols_of}
-use Rattle.flow_print.specs.Printed.{bracketed, constant_text, more_constants, arguments_text, fact_text, goal_text, list_text, more_text, names_text, rule_text, rules_text, more_rules, note_text, declaration_line, declaration_lines, goal_line, constraint_lines, printed}
+use Rattle.flow_facts.specs.Text.{constant_text, more_constants, arguments_text, fact_text}
+use Rattle.flow_print.specs.Printed.{bracketed, goal_text, list_text, more_text, names_text, rule_text, rules_text, more_rules, note_text, declaration_line, declaration_lines, goal_line, constraint_lines, printed}
 use Rattle.flow_print.specs.Printable.{IsName, IsPrintableConstant, IsPrintableFact, IsPrintableGoal, ArePrintableGoals, IsPrintableRule, ArePrintableRules, IsPrintableNote, IsPrintableDeclaration, IsPrintable}
 use Rattle.flow_print.specs.PrintedLaws.{PrintsAreAscii, PrintsAreCut, PrintsAreSymbols}
 use Rattle.flow_print.proofs.Pieces.{Reads, Begins, then, ended_by, opened, nothing, word, name, number, blank, IsMark, mark}

@@ -3,9 +3,7 @@ use Rattle.std.specs.Prelude.{ℕ, Bool, true, false, List, [], ◌∷◌, ◌++
 use Rattle.std.specs.Fmt.{decimal}
 use Rattle.flow_model.specs.declared.labels.Note.{Note}
 use Rattle.flow_model.specs.declared.labels.Note.TheVariants.{Done, Fail, FailFirst}
-use Rattle.flow_facts.specs.declared.constant.Const.{Const}
-use Rattle.flow_facts.specs.declared.constant.Const.TheVariants.{Word, Number}
-use Rattle.flow_facts.specs.Atom.{Atom}
+use Rattle.flow_facts.specs.Text.{fact_text}
 use Rattle.flow_form.specs.Form.{Shape, Shapes, nop, named, test, absent, ins, del, iso, serial, beside, either, no_more, followed}
 use Rattle.flow_form.specs.RuleForm.{RuleShape, RuleShapes, must, never, order, precedes, needs, negated, all, any}
 use Rattle.flow_form.specs.RuleForm as rule
@@ -16,22 +14,6 @@ use Rattle.flow_grammar.specs.Print.{in_serial, in_beside, in_either, in_all, in
 abbrev pub bracketed : Bool → List ℕ → List ℕ
 bracketed true text = codes "(" ++ text ++ codes ")"
 bracketed false text = text
-
-abbrev pub constant_text : Const → List ℕ
-constant_text (Word name) = name
-constant_text (Number n) = decimal n
-
--- each of them after a comma
-abbrev pub more_constants : List Const → List ℕ
-more_constants [] = []
-more_constants (c ∷ cs) = codes "," ++ constant_text c ++ more_constants cs
-
-abbrev pub arguments_text : List Const → List ℕ
-arguments_text [] = []
-arguments_text (c ∷ cs) = codes "(" ++ constant_text c ++ more_constants cs ++ codes ")"
-
-abbrev pub fact_text : Atom → List ℕ
-fact_text a = a.relation ++ arguments_text a.args
 
 -- a list has its mark between each two members, and those members in parentheses that must stand so
 abbrev mutual

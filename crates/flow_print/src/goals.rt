@@ -3,7 +3,7 @@ ghost use Rattle.flow_form.specs.Form.{shape_of, shapes};
 ghost use Rattle.flow_print.specs.Joins.{before, mark_of, parted};
 ghost use Rattle.flow_print.specs.Printed.{bracketed, goal_text, list_text};
 
-use crate::facts::push_fact;
+use flow_facts::push_fact;
 use flow_form::Form;
 use std::alloc::AllocError;
 

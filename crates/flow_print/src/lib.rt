@@ -1,9 +1,9 @@
 //! Workflows written as text, with as few parentheses as may be.
 #![tactic(auto)]
 
-mod facts;
 mod goals;
 mod laws;
+mod numbers;
 mod rules;
 mod scripts;
 #[cfg(test)]

@@ -4,9 +4,10 @@ ghost use Rattle.flow_form.specs.RuleForm.{rule_shape_of};
 ghost use Rattle.flow_form.specs.Script.{declared, said};
 ghost use Rattle.flow_print.specs.Printed.{note_text, declaration_line, declaration_lines, goal_line, constraint_line, constraint_lines, printed};
 
-use crate::facts::{push_fact, push_number};
 use crate::goals::push_goal;
+use crate::numbers::push_number;
 use crate::rules::push_rule;
+use flow_facts::push_fact;
 use flow_form::{Decl, Form, Name, Note, RuleForm, Script};
 use std::alloc::{AllocError, Global};
 

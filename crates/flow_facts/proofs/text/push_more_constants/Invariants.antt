@@ -1,6 +1,6 @@
 use Rattle.std.proofs.Common.{◌≡◌, ◌++◌, drop}
-use Rattle.flow_print.specs.Printed.{more_constants}
-use Rattle.flow_print.proofs.facts.push_more_constants.Given as goal
+use Rattle.flow_facts.specs.Text.{more_constants}
+use Rattle.flow_facts.proofs.text.push_more_constants.Given as goal
 
 abbrev pub invariant-loop-constant : goal.invariant-loop-constant
 invariant-loop-constant l =

@@ -1,24 +1,20 @@
 ghost use Rattle.std.specs.Prelude.{◌≡◌, ◌++◌, OnOk};
-ghost use Rattle.std.specs.Fmt.{decimal};
-ghost use Rattle.flow_print.specs.Printed.{constant_text, more_constants, arguments_text, fact_text};
+ghost use Rattle.flow_facts.specs.Text.{constant_text, more_constants, arguments_text, fact_text};
 
-use flow_form::{Const, Fact};
+use crate::constant::Const;
+use crate::fact::Fact;
 use itoa::Buffer;
 use std::alloc::AllocError;
-
-pub(crate) fn push_number(text: &mut Vec<u8>, number: u32) -> Result<(), AllocError>
-    ensures { OnOk result (text.new.items ≡ text.old.items ++ decimal number) }
-{
-    let mut digits = Buffer::new();
-    text.extend_from_slice(digits.format(number).as_bytes())
-}
 
 fn push_constant(text: &mut Vec<u8>, constant: &Const) -> Result<(), AllocError>
     ensures { OnOk result (text.new.items ≡ text.old.items ++ constant_text constant.now) }
 {
     match constant {
         Const::Word(name) => text.extend_from_slice(name.bytes()),
-        Const::Number(number) => push_number(text, *number),
+        Const::Number(number) => {
+            let mut digits = Buffer::new();
+            text.extend_from_slice(digits.format(*number).as_bytes())
+        }
     }
 }
 
@@ -47,7 +43,8 @@ fn push_arguments(text: &mut Vec<u8>, constants: &[Const]) -> Result<(), AllocEr
     }
 }
 
-pub(crate) fn push_fact(text: &mut Vec<u8>, fact: &Fact) -> Result<(), AllocError>
+/// Adds the fact to a text, as a workflow text writes it: a relation, and its arguments in parentheses.
+pub fn push_fact(text: &mut Vec<u8>, fact: &Fact) -> Result<(), AllocError>
     ensures { OnOk result (text.new.items ≡ text.old.items ++ fact_text fact.now) }
 {
     text.extend_from_slice(fact.relation().bytes())?;
