@@ -6,6 +6,7 @@ ghost use Rattle.flow_goal.specs.Numbering;
 
 use crate::goal::Goal;
 use flow_model::Label;
+use std::alloc::{AllocError, Global};
 use std::marker::Model;
 
 /// Why a goal and labels make no tree.
@@ -81,6 +82,15 @@ impl Tree {
         } else {
             Err(TreeRefusal::Numbering)
         }
+    }
+
+    /// The same tree in memory of its own.
+    pub fn copy(&self, alloc: Global) -> Result<Tree, AllocError>
+        ensures { IfOk result (λ tree. tree ≡ self.now) }
+    {
+        let goal = self.goal.copy(alloc)?;
+        let labels = Vec::from_slice(alloc, &self.labels)?;
+        Ok(Tree { goal, labels })
     }
 
     pub fn goal(&self) -> &Goal
