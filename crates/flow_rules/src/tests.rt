@@ -142,3 +142,17 @@ fn forms_no_list_longer_than_its_answer(rt: HostRuntime) -> Result<(), Fail> {
         &row_of(alloc, &leaves, Rule::And(rules), None)?,
     )
 }
+
+#[test]
+fn copies_each_kind_of_rule(rt: HostRuntime) -> Result<(), Fail> {
+    let alloc = rt.alloc();
+    let either = vec![in alloc; Rule::Never(1), order(alloc, &[0, 2])?]?;
+    let both = vec![in alloc; Rule::Must(0), not(alloc, Rule::Or(either))?]?;
+    let rule = Rule::And(both);
+    let written = format!(in alloc; "{:?}", rule.copy(alloc)?)?;
+    assert_eq!(rt;
+        written.as_str(),
+        "And([Must(0), Not(Or([Never(1), Order([0, 2])]))])"
+    );
+    Ok(())
+}
