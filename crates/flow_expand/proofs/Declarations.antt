@@ -16,7 +16,7 @@ flow_declared (event k note ∷ ds) n m = inr (flow_declared ds n m)
 flow_declared (flow k s ∷ ds) n (inl e) = inl e
 flow_declared (flow k s ∷ ds) n (inr m) = inr (flow_declared ds n m)
 
-event_declared : (decls : List Declared) (n : List ℕ) → n ∈ event_names decls → n ∈ declared_names decls
+pub event_declared : (decls : List Declared) (n : List ℕ) → n ∈ event_names decls → n ∈ declared_names decls
 event_declared [] n m = m
 event_declared (fact a ∷ ds) n m = event_declared ds n m
 event_declared (event k note ∷ ds) n (inl e) = inl e

@@ -7,4 +7,11 @@ pub mod SettleLemmas
 pub mod ChainLemmas
 pub mod Declarations
 pub mod Endings
+pub mod RulingLemmas
 pub mod TestLemmas
+pub mod FactLemmas
+pub mod BuildLemmas
+pub mod BuildingSteps
+pub mod DeclaredLemmas
+pub mod NumberingLemmas
+pub mod AssemblyLemmas

@@ -1,8 +1,9 @@
 -- Members of lists and their places.
-use Rattle.std.proofs.Common.{◌≡◌, ℕ, zero, suc, List, [], ◌∷◌, ◌++◌, ◌⊎◌, length, map, slice_get, Some, refl, sym, ap, ◌∙◌, inl, inr}
+use Rattle.std.proofs.Common.{◌≡◌, ℕ, zero, suc, List, [], ◌∷◌, ◌++◌, ◌⊎◌, ◌||◌, Bool, true, false, length, map, slice_get, Some, refl, sym, ap, ◌∙◌, inl, inr}
 use Rattle.std.proofs.lemmas.List.{append-nil}
 use Rattle.std.proofs.lemmas.List.Concat.{flat_map-append}
-use Rattle.std.specs.List.{flat_map}
+use Rattle.std.specs.Bool.{Decides}
+use Rattle.std.specs.List.{flat_map, list_any}
 use Rattle.flow_model.specs.Lists.{◌∈◌}
 
 pub mem_left : {A : Type 0} (x : A) (xs ys : List A) → x ∈ xs → x ∈ (xs ++ ys)
@@ -52,3 +53,33 @@ get_map f (y ∷ xs) (suc i) x e = get_map f xs i x e
 
 pub flat_map_end : {X A : Type 0} (f : X → List A) (xs : List X) (x : X) → flat_map f (xs ++ x ∷ []) ≡ flat_map f xs ++ f x
 flat_map_end f xs x = flat_map-append f xs (x ∷ []) ∙ ap (λ l. flat_map f xs ++ l) (append-nil (f x))
+
+-- members found by a test of equality
+
+module _ {A : Type 0} (E : A → A → Bool) (decides : (a b : A) → Decides (E a b) (a ≡ b)) where
+  -- what is found is a member
+  pub any_member : (x : A) (xs : List A) → list_any (E x) xs ≡ true → x ∈ xs
+  any_member x [] h = absurd (cc)
+  any_member x (y ∷ xs) h = go (E x y) refl (any_member x xs)
+    where
+      go : (t : Bool) → E x y ≡ t → (list_any (E x) xs ≡ true → x ∈ xs) → (x ≡ y) ⊎ (x ∈ xs)
+      go true e rest = inl ((decides x y).0 e)
+      go false e rest = inr (rest (sym (ap (λ t. t || list_any (E x) xs) e) ∙ h))
+
+  -- and a member is found
+  pub member_any : (x : A) (xs : List A) → x ∈ xs → list_any (E x) xs ≡ true
+  member_any x [] m = absurd m
+  member_any x (y ∷ xs) (inl e) = ap (λ t. t || list_any (E x) xs) ((decides x y).1 e)
+  member_any x (y ∷ xs) (inr m) = go (E x y) (member_any x xs m)
+    where
+      go : (t : Bool) → list_any (E x) xs ≡ true → (t || list_any (E x) xs) ≡ true
+      go true e = refl
+      go false e = e
+
+  -- what is no member is not found
+  pub never_any : (x : A) (xs : List A) → ¬ (x ∈ xs) → list_any (E x) xs ≡ false
+  never_any x xs out = go (list_any (E x) xs) refl
+    where
+      go : (t : Bool) → list_any (E x) xs ≡ t → list_any (E x) xs ≡ false
+      go true e = absurd (out (any_member x xs e))
+      go false e = e

@@ -23,7 +23,7 @@ use Rattle.flow_expand.specs.Steps.{flows_of, flow_names}
 use Rattle.flow_expand.specs.Index.{IsIndex, decls_of, flow_view}
 use Rattle.flow_expand.specs.Laid.{IsLaid, IsStop, Goes}
 use Rattle.flow_expand.specs.Waiting.{IsLaidAt, IsFound}
-use Rattle.flow_expand.specs.Refusals.{flow_count, rule_name_count, IsFinite, HasSize, IsRefusal, IsMeasured}
+use Rattle.flow_expand.specs.Refusals.{flow_count, rule_name_count, IsFinite, IsFitting, IsRefusal, IsMeasured}
 use Rattle.flow_expand.proofs.ChainLemmas.{names_of_flows}
 use Rattle.flow_expand.proofs.Declarations.{flow_place}
 use Rattle.flow_expand.proofs.Endings.{no_recursion}
@@ -102,16 +102,20 @@ finite s names laid plan closed same h all few = record {
 pub found_refusal : (s : Said) (decls : List Declared) (e : ExpandRefusal) → decls ≡ s.decls → flow_count s ≤ 256 → IsFound decls e → IsRefusal s e
 found_refusal s decls (refusal.TooLarge p count) same few h = absurd h
 found_refusal s decls (refusal.Recursive chain) same few h = record { few = few; recursive = subst (λ ds. IsFound ds (refusal.Recursive chain)) same h }
+found_refusal s decls (refusal.Twice found) same few h = absurd h
 found_refusal s decls refusal.NoMemory same few h = tt
 
 pub memory_refusal : (s : Said) (e : ExpandRefusal) → e ≡ refusal.NoMemory → IsRefusal s e
 memory_refusal s e is = subst (IsRefusal s) (sym is) tt
 
-pub goal_size : (s : Said) (decls : List Declared) (plan : List Node) (root : Root) → decls ≡ s.decls → Goes decls plan s.goal root →
-    (size : ℕ) × HasSize s size × (max root.size.ends root.size.isolations ≡ kept size)
+-- a size that is kept is that of the goal
+abbrev pub IsSizeOf : Said → Expansion → ℕ → Type 0
+IsSizeOf s e most = Becomes s.decls s.goal e × (most ≡ kept (size_of e))
+
+pub goal_size : (s : Said) (decls : List Declared) (plan : List Node) (root : Root) → decls ≡ s.decls → (g : Goes decls plan s.goal root) →
+    IsSizeOf s g.expansion (max root.size.ends root.size.isolations)
 goal_size s decls plan root same g = (
-  size_of g.expansion,
-  record { expansion = g.expansion; becomes = subst (λ ds. Becomes ds s.goal g.expansion) same g.becomes; sized = refl },
+  subst (λ ds. Becomes ds s.goal g.expansion) same g.becomes,
   (λ t. max (g.is_root.sized t).ends (g.is_root.sized t).isolations) ∙ most (ends_in g.expansion) (isolations_in g.expansion),
 )
   where
@@ -130,28 +134,17 @@ kept_within n le = omega arith
 kept_names : (n : ℕ) → kept n ≤ 8192 → n ≤ 8192
 kept_names n le = omega arith
 
-pub goal_refusal : (s : Said) (count : ℕ) (e : ExpandRefusal) → IsFinite s → (size : ℕ) × HasSize s size × (count ≡ kept size) → (1024 < count) × (e ≡ refusal.TooLarge part.Goal count) → IsRefusal s e
-goal_refusal s count e f (size, h, same) (many, is) = subst (IsRefusal s) (sym is)
-    (record { finite = f; size = size; has_size = h; large = kept_over size 1024 (subst (λ n. 1024 < n) same many); counted = same })
+pub goal_refusal : (s : Said) (g : Expansion) (count : ℕ) (e : ExpandRefusal) → IsFinite s → IsSizeOf s g count → (1024 < count) × (e ≡ refusal.TooLarge part.Goal count) → IsRefusal s e
+goal_refusal s g count e f (becomes, same) (many, is) = subst (IsRefusal s) (sym is)
+    (record { finite = f; expansion = g; becomes = becomes; large = kept_over (size_of g) 1024 (subst (λ n. 1024 < n) same many); counted = same })
 
-pub rules_refusal : (s : Said) (most count : ℕ) (e : ExpandRefusal) → IsFinite s → (size : ℕ) × HasSize s size × (most ≡ kept size) → most ≤ 1024 → count ≡ kept (rule_name_count s) →
+pub fitting : (s : Said) (g : Expansion) (most : ℕ) → IsFinite s → IsSizeOf s g most → most ≤ 1024 → IsFitting s g
+fitting s g most f (becomes, same) fits = record { finite = f; becomes = becomes; fits = kept_within (size_of g) (subst (λ n. n ≤ 1024) same fits) }
+
+pub rules_refusal : (s : Said) (g : Expansion) (count : ℕ) (e : ExpandRefusal) → IsFitting s g → count ≡ kept (rule_name_count s) →
     (8192 < count) × (e ≡ refusal.TooLarge part.Rules count) → IsRefusal s e
-rules_refusal s most count e f (size, h, same) fits counted (many, is) = subst (IsRefusal s) (sym is) (record {
-  finite = f;
-  size = size;
-  has_size = h;
-  fits = kept_within size (subst (λ n. n ≤ 1024) same fits);
-  many = kept_over (rule_name_count s) 8192 (subst (λ n. 8192 < n) counted many);
-  counted = counted;
-})
+rules_refusal s g count e f counted (many, is) = subst (IsRefusal s) (sym is)
+    (record { expansion = g; fitting = f; many = kept_over (rule_name_count s) 8192 (subst (λ n. 8192 < n) counted many); counted = counted })
 
-pub measured : (s : Said) (most count : ℕ) → IsFinite s → (size : ℕ) × HasSize s size × (most ≡ kept size) → most ≤ 1024 → count ≡ kept (rule_name_count s) → count ≤ 8192 → IsMeasured s most
-measured s most count f (size, h, same) fits counted few =
-    let small : size ≤ 1024 = kept_within size (subst (λ n. n ≤ 1024) same fits) in
-    let is : most ≡ size = omega arith in
-    record {
-      finite = f;
-      has_size = subst (HasSize s) (sym is) h;
-      fits = fits;
-      few_names = kept_names (rule_name_count s) (subst (λ n. n ≤ 8192) counted few);
-    }
+pub measured : (s : Said) (g : Expansion) (count : ℕ) → IsFitting s g → count ≡ kept (rule_name_count s) → count ≤ 8192 → IsMeasured s g
+measured s g count f counted few = record { fitting = f; few_names = kept_names (rule_name_count s) (subst (λ n. n ≤ 8192) counted few) }

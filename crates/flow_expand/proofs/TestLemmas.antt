@@ -3,14 +3,14 @@ use Rattle.std.proofs.Common.{◌≡◌, ℕ, zero, suc, ◌≤◌, List, [], �
 use Rattle.std.proofs.lemmas.List.{append-nil}
 use Rattle.flow_model.specs.Lists.{◌∈◌, Each}
 use Rattle.flow_model.specs.declared.labels.Note.TheVariants as note
-use Rattle.flow_form.specs.Form.{named, serial, followed, no_more, shapes, members, AreGrouped}
+use Rattle.flow_form.specs.Form.{named, serial, followed, no_more, shapes, members, IsGrouped, AreGrouped}
 use Rattle.flow_form.specs.declared.rule_form.RuleForm.{Order}
 use Rattle.flow_form.specs.declared.rule_form.RuleForm.TheOpen as open_rule
 use Rattle.flow_form.specs.declared.rule_form.RuleForm.TheVariants.{rolls-Order}
 use Rattle.flow_form.specs.declared.rule_form.RuleForm.TheFolds.{fold-roll-RuleForm}
 use Rattle.flow_form.specs.RuleForm.{RuleShape, order, rule_step, rule_shape_of}
 use Rattle.flow_form.specs.Script.{event, flow, Said}
-use Rattle.flow_form.specs.Names.{names_in_each, IsClosed}
+use Rattle.flow_form.specs.Names.{names_in, names_in_each, IsClosed}
 
 abbrev a_name : List ℕ
 a_name = 97 ∷ []
@@ -85,6 +85,18 @@ list_closed s count many two ds goal rules =
       in_rules = subst (Each P) (sym (append-nil (replicate many a_name))) (order_names many);
       once = ((λ m. absurd m), tt);
       grouped = ((subst (λ n. 2 ≤ n) (sym (row_length count)) two, row_grouped count), tt);
+      few = omega arith;
+    })
+
+pub goal_closed : (s : Said) → s.decls ≡ event a_name note.Done ∷ [] → s.rules ≡ [] → names_in s.goal ≡ a_name ∷ [] → IsGrouped s.goal → IsClosed s
+goal_closed s ds none names grouped =
+    let P : List ℕ → Type 0 = λ m. m ∈ (a_name ∷ []) in
+    let same : s ≡ record { decls = event a_name note.Done ∷ []; goal = s.goal; rules = [] } = λ i. record { decls = ds i; goal = s.goal; rules = none i } in
+    subst IsClosed (sym same) (record {
+      in_goals = subst (Each P) (sym (append-nil (names_in s.goal) ∙ names)) (inl refl, tt);
+      in_rules = tt;
+      once = ((λ m. absurd m), tt);
+      grouped = (grouped, tt);
       few = omega arith;
     })
 

@@ -1,8 +1,13 @@
 pub mod Expansion
+pub mod Numbers
+pub mod Constraints
 pub mod Steps
 pub mod Index
 pub mod Plan
 pub mod Laid
 pub mod Waiting
 pub mod Refusals
+pub mod Workflows
 pub mod Prepared
+pub mod Built
+pub mod Numbering

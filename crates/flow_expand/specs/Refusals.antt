@@ -1,12 +1,15 @@
--- Why a workflow is not expanded, and how large one is that is.
+-- Why a workflow is not expanded.
 use Rattle.std.specs.Prelude.{◌≡◌, ℕ, ◌<◌, ◌≤◌, List, length}
 use Rattle.std.specs.List.{flat_map}
+use Rattle.flow_goal.specs.declared.repeats.Twice.{Twice}
+use Rattle.flow_goal.specs.Repeated.{IsFirstTwice}
 use Rattle.flow_form.specs.Script.{Said}
 use Rattle.flow_form.specs.Names.{names_in_rule}
 use Rattle.flow_expand.specs.declared.refusal.ExpandRefusal.{ExpandRefusal}
 use Rattle.flow_expand.specs.declared.refusal.ExpandRefusal.TheVariants as refusal
 use Rattle.flow_expand.specs.declared.refusal.Part.TheVariants as part
 use Rattle.flow_expand.specs.Expansion.{Expansion, Becomes, size_of, kept}
+use Rattle.flow_expand.specs.Numbers.{labelled_of}
 use Rattle.flow_expand.specs.Steps.{flow_names, IsRecursive, IsRecursion}
 
 -- how many sub-workflows are declared
@@ -22,11 +25,16 @@ pub record IsFinite (s : Said) : Type 0 where
   pub few : flow_count s ≤ 256
   pub ending : ¬ (IsRecursive s.decls)
 
--- the goal becomes one of that size
-pub record HasSize (s : Said) (size : ℕ) : Type 0 where
-  pub expansion : Expansion
-  pub becomes : Becomes s.decls s.goal expansion
-  pub sized : size ≡ size_of expansion
+-- the goal becomes that one, which is no larger than it may be
+pub record IsFitting (s : Said) (e : Expansion) : Type 0 where
+  pub finite : IsFinite s
+  pub becomes : Becomes s.decls s.goal e
+  pub fits : size_of e ≤ 1024
+
+-- and the constraints are no more than may be
+pub record IsMeasured (s : Said) (e : Expansion) : Type 0 where
+  pub fitting : IsFitting s e
+  pub few_names : rule_name_count s ≤ 8192
 
 pub record HasManyFlows (s : Said) (count : ℕ) : Type 0 where
   pub many : 256 < flow_count s
@@ -38,30 +46,28 @@ pub record HasRecursion (s : Said) (chain : List (List ℕ)) : Type 0 where
 
 pub record HasLargeGoal (s : Said) (count : ℕ) : Type 0 where
   pub finite : IsFinite s
-  pub size : ℕ
-  pub has_size : HasSize s size
-  pub large : 1024 < size
-  pub counted : count ≡ kept size
+  pub expansion : Expansion
+  pub becomes : Becomes s.decls s.goal expansion
+  pub large : 1024 < size_of expansion
+  pub counted : count ≡ kept (size_of expansion)
 
 pub record HasManyRuleNames (s : Said) (count : ℕ) : Type 0 where
-  pub finite : IsFinite s
-  pub size : ℕ
-  pub has_size : HasSize s size
-  pub fits : size ≤ 1024
+  pub expansion : Expansion
+  pub fitting : IsFitting s expansion
   pub many : 8192 < rule_name_count s
   pub counted : count ≡ kept (rule_name_count s)
+
+-- two leaves of one event stand in one execution, and those are the first such
+pub record HasRepetition (s : Said) (found : Twice) : Type 0 where
+  pub expansion : Expansion
+  pub measured : IsMeasured s expansion
+  pub first : IsFirstTwice (labelled_of s.decls expansion) found
 
 -- the refusal is true of what is written, and each that is tested before it is not
 abbrev pub IsRefusal : Said → ExpandRefusal → Type 0
 IsRefusal s (refusal.TooLarge part.Flows count) = HasManyFlows s count
+IsRefusal s (refusal.Recursive chain) = HasRecursion s chain.items
 IsRefusal s (refusal.TooLarge part.Goal count) = HasLargeGoal s count
 IsRefusal s (refusal.TooLarge part.Rules count) = HasManyRuleNames s count
-IsRefusal s (refusal.Recursive chain) = HasRecursion s chain.items
+IsRefusal s (refusal.Twice found) = HasRepetition s found
 IsRefusal s refusal.NoMemory = Unit {0}
-
--- no refusal is true of it, and the goal becomes one of that size
-pub record IsMeasured (s : Said) (size : ℕ) : Type 0 where
-  pub finite : IsFinite s
-  pub has_size : HasSize s size
-  pub fits : size ≤ 1024
-  pub few_names : rule_name_count s ≤ 8192

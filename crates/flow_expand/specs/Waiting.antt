@@ -55,6 +55,7 @@ IsLaidAt laid k = (root : Root) × (slice_get laid k ≡ Some (progress.Laid roo
 abbrev pub IsFound : List Declared → ExpandRefusal → Type 0
 IsFound decls (refusal.TooLarge part count) = ⊥
 IsFound decls (refusal.Recursive chain) = IsRecursion decls chain.items
+IsFound decls (refusal.Twice found) = ⊥
 IsFound decls refusal.NoMemory = Unit {0}
 
 -- the name of a sub-workflow by its number

@@ -2,19 +2,27 @@
 //! counted, unique events.
 #![tactic(auto)]
 
+mod assembling;
+mod building;
 mod chain;
+mod declared;
+mod expanding;
+mod fact_numbers;
 mod lay;
-mod measuring;
 mod names;
+mod numbering;
 mod plan;
 mod preparing;
 mod refusal;
 mod rule_names;
+mod ruling;
 mod settle;
 mod size;
 mod stop;
 #[cfg(test)]
 mod tests;
 
-pub use measuring::measure;
+pub use expanding::expand;
+pub use flow_workflow::Workflow;
 pub use refusal::{ExpandRefusal, Part};
+pub use ruling::rule_of;

@@ -5,8 +5,8 @@ ghost use Rattle.flow_expand.specs.Index.{IsIndexOf, IsIndex, index_of};
 
 use flow_facts::Name;
 use flow_form::{Decl, Form};
+use indexmap::IndexMap;
 use std::alloc::{AllocError, Global};
-use std::collections::BTreeMap;
 
 /// What a name stands for.
 #[derive(Clone, Copy, Debug, PartialEq, Eq)]
@@ -28,7 +28,7 @@ pub(crate) struct Flow<'a> {
 #[derive(Drop)]
 pub(crate) struct Names<'a> {
     pub(crate) decls: &'a [Decl],
-    pub(crate) places: BTreeMap<&'a [u8], Place>,
+    pub(crate) places: IndexMap<&'a [u8], Place>,
     pub(crate) events: u32,
     pub(crate) flows: Vec<Flow<'a>>,
 }
@@ -42,7 +42,7 @@ impl<'a> Names<'a> {
     {
         let mut names = Names {
             decls,
-            places: BTreeMap::new(alloc),
+            places: IndexMap::new(alloc),
             events: 0,
             flows: Vec::new(alloc),
         };

@@ -41,14 +41,6 @@ pub(crate) struct Standing<'a> {
     pub(crate) root: Root,
 }
 
-/// A workflow that may be built.
-#[derive(Drop)]
-pub(crate) struct Prepared<'a> {
-    pub(crate) names: Names<'a>,
-    pub(crate) plan: Plan<'a>,
-    pub(crate) root: Root,
-}
-
 /// Refuses more than so many of a part.
 fn at_most(part: Part, count: u64, most: u64) -> Result<(), ExpandRefusal>
     ensures ok { OnOk result (count ≤ most) }
@@ -82,7 +74,7 @@ fn lay_goal<'a>(
 }
 
 /// Lays the goal of a workflow, unless it is refused.
-pub(crate) fn prepare<'a>(alloc: Global, script: &'a Script) -> Result<Prepared<'a>, ExpandRefusal>
+pub(crate) fn prepare<'a>(alloc: Global, script: &'a Script) -> Result<Standing<'a>, ExpandRefusal>
     requires { IsClosed (said script.now) }
     ensures refused { IfErr result (IsRefusal (said script.now)) }
     ensures ok { IfOk result (IsPrepared (said script.now)) }
@@ -93,6 +85,5 @@ pub(crate) fn prepare<'a>(alloc: Global, script: &'a Script) -> Result<Prepared<
     let standing = lay_goal(&names, settled, &script.goal)?;
     at_most(Part::Goal, standing.root.size.most(), MOST_ENDS)?;
     at_most(Part::Rules, count_names(&script.rules), MOST_NAMES)?;
-    let Standing { plan, root } = standing;
-    Ok(Prepared { names, plan, root })
+    Ok(standing)
 }

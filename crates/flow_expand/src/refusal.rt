@@ -2,6 +2,7 @@ ghost use Rattle.std.specs.Prelude.{◌≡◌};
 ghost use Rattle.flow_expand.specs.declared.refusal.ExpandRefusal.TheVariants.{NoMemory};
 
 use flow_facts::Name;
+use flow_goal::Twice;
 use std::alloc::{AllocError, AllocFailed};
 
 /// A part of a workflow.
@@ -20,6 +21,8 @@ pub enum ExpandRefusal {
     TooLarge { part: Part, count: u64 },
     /// The first sub-workflow names the second, and so on, and the last is the first again.
     Recursive { chain: Vec<Name> },
+    /// Two leaves of one event stand in one execution, the first such.
+    Twice(Twice),
     /// There is no memory. Nothing is said of the workflow.
     NoMemory,
 }

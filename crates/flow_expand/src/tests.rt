@@ -1,15 +1,16 @@
 ghost use Rattle.std.specs.Prelude.{◌≡◌, ◌≤◌, ◌∷◌, [], ◌++◌, IfOk, OnOk, map, replicate};
-ghost use Rattle.flow_form.specs.Form.{shape_of, named, serial, followed, no_more, shapes};
+ghost use Rattle.flow_form.specs.Form.{shape_of, named, serial, followed, no_more, shapes, IsGrouped};
 ghost use Rattle.flow_form.specs.RuleForm.{rule_shape_of};
 ghost use Rattle.flow_form.specs.RuleForm as rule;
 ghost use Rattle.flow_form.specs.Script as script;
 ghost use Rattle.flow_form.specs.Script.{declared, said};
-ghost use Rattle.flow_form.specs.Names.{IsClosed};
+ghost use Rattle.flow_form.specs.Names.{names_in, IsClosed};
 ghost use Rattle.flow_model.specs.declared.labels.Note.TheVariants as note;
 
 use super::*;
 use flow_facts::Name;
 use flow_form::{Decl, Form, RuleForm, Script};
+use flow_goal::Twice;
 use flow_model::Note;
 use std::alloc::{AllocError, Global};
 use std::test::Fail;
@@ -112,33 +113,92 @@ fn list(alloc: Global, count: u32, names_count: u32) -> Result<Script, AllocErro
     Ok(Script { decls, goal, rules })
 }
 
-/// The size of a list, or what is too large of it.
-fn measured(alloc: Global, count: u32, names_count: u32) -> Result<(Option<Part>, u64), Fail>
-    requires { 2 ≤ count }
+/// The event `a` in so many isolations.
+fn isolated(alloc: Global, count: u32) -> Result<Form, AllocError>
+    ensures names { IfOk result (λ form. names_in (shape_of form) ≡ (97 ∷ []) ∷ []) }
+    ensures grouped { IfOk result (λ form. IsGrouped (shape_of form)) }
 {
-    let script = list(alloc, count, names_count)?;
-    match measure(alloc, &script) {
-        Ok(size) => Ok((None, size)),
+    let mut form = call(alloc, b"a")?;
+    for number in 0..count {
+        form = Form::Iso(Box::new(alloc, form)?);
+    }
+    Ok(form)
+}
+
+/// That goal alone.
+fn deep(alloc: Global, count: u32) -> Result<Script, AllocError>
+    ensures { IfOk result (λ script. IsClosed (said script)) }
+{
+    let decls = one_event(alloc)?;
+    let goal = isolated(alloc, count)?;
+    let rules = Vec::new(alloc);
+    Ok(Script { decls, goal, rules })
+}
+
+/// How many leaves it has when it is expanded, or how much is too large of it.
+fn expand_deep(alloc: Global, count: u32) -> Result<(Option<Part>, u64), Fail> {
+    let script = deep(alloc, count)?;
+    match expand(alloc, &script) {
+        Ok(workflow) => Ok((None, u64::from(workflow.tree().leaves()))),
         Err(ExpandRefusal::TooLarge { part, count }) => Ok((Some(part), count)),
-        Err(ExpandRefusal::Recursive { .. }) => Err(Fail::from("a ring")),
-        Err(ExpandRefusal::NoMemory) => Err(Fail::from("no memory")),
+        Err(_) => Err(Fail::from("another refusal")),
     }
 }
 
 #[test]
-fn counts_to_the_limits(rt: HostRuntime) -> Result<(), Fail> {
+fn expands_deep_isolations(rt: HostRuntime) -> Result<(), Fail> {
+    assert!(rt; expand_deep(rt.alloc(), 1024)? == (None, 1));
+    assert!(rt; expand_deep(rt.alloc(), 1025)? == (Some(Part::Goal), 1025));
+    Ok(())
+}
+
+/// What is too large of a list.
+fn too_large(alloc: Global, count: u32, names_count: u32) -> Result<(Part, u64), Fail>
+    requires { 2 ≤ count }
+{
+    let script = list(alloc, count, names_count)?;
+    match expand(alloc, &script) {
+        Err(ExpandRefusal::TooLarge { part, count }) => Ok((part, count)),
+        _ => Err(Fail::from("not too large")),
+    }
+}
+
+#[test]
+fn refuses_what_is_too_large(rt: HostRuntime) -> Result<(), Fail> {
     let alloc = rt.alloc();
-    assert!(rt; measured(alloc, 2, 0)? == (None, 2));
-    assert!(rt; measured(alloc, 1024, 8192)? == (None, 1024));
-    assert!(rt; measured(alloc, 1025, 9000)? == (Some(Part::Goal), 1025));
-    assert!(rt; measured(alloc, 2, 8193)? == (Some(Part::Rules), 8193));
+    assert_eq!(rt; too_large(alloc, 1025, 0)?, (Part::Goal, 1025));
+    assert_eq!(rt; too_large(alloc, 1025, 9000)?, (Part::Goal, 1025));
+    assert_eq!(rt; too_large(alloc, 2, 8193)?, (Part::Rules, 8193));
+    Ok(())
+}
+
+/// The first two leaves of a list that have one event.
+fn repeated(alloc: Global, count: u32, names_count: u32) -> Result<Twice, Fail>
+    requires { 2 ≤ count }
+{
+    let script = list(alloc, count, names_count)?;
+    match expand(alloc, &script) {
+        Err(ExpandRefusal::Twice(found)) => Ok(found),
+        _ => Err(Fail::from("no event twice")),
+    }
+}
+
+#[test]
+fn finds_an_event_twice(rt: HostRuntime) -> Result<(), Fail> {
+    let first = Twice {
+        event: 0,
+        first: 0,
+        second: 1,
+    };
+    assert_eq!(rt; repeated(rt.alloc(), 2, 0)?, first);
+    assert_eq!(rt; repeated(rt.alloc(), 1024, 8192)?, first);
     Ok(())
 }
 
 /// The names of a ring of two sub-workflows.
 fn ring_names(alloc: Global) -> Result<Vec<Name>, Fail> {
     let script = ring(alloc)?;
-    match measure(alloc, &script) {
+    match expand(alloc, &script) {
         Err(ExpandRefusal::Recursive { chain }) => Ok(chain),
         _ => Err(Fail::from("no ring")),
     }
@@ -147,9 +207,11 @@ fn ring_names(alloc: Global) -> Result<Vec<Name>, Fail> {
 #[test]
 fn finds_a_ring_that_the_goal_does_not_use(rt: HostRuntime) -> Result<(), Fail> {
     let chain = ring_names(rt.alloc())?;
-    assert_eq!(rt; chain.len(), 3);
-    assert_eq!(rt; chain[0].bytes(), b"g".as_slice());
-    assert_eq!(rt; chain[1].bytes(), b"f".as_slice());
-    assert_eq!(rt; chain[2].bytes(), b"g".as_slice());
+    let [first, second, third] = chain.as_slice() else {
+        return Err(Fail::from("another length"));
+    };
+    assert_eq!(rt; first.bytes(), b"g".as_slice());
+    assert_eq!(rt; second.bytes(), b"f".as_slice());
+    assert_eq!(rt; third.bytes(), b"g".as_slice());
     Ok(())
 }

@@ -1,5 +1,5 @@
 use Rattle.std.proofs.Common.{rules, ◌≡◌, ◌∙◌, sym, ap, refl, subst, map, ◌++◌, ◌+◌, ◌∷◌, [], length}
-use Rattle.std.proofs.lemmas.Map.Text.{btree_map_updates_str}
+use Rattle.std.proofs.lemmas.Map.Text.{hash_map_updates_str}
 use Rattle.std.proofs.lemmas.List.{map_push}
 use Rattle.std.specs.Map.{update}
 use Rattle.std.specs.Str.{bytes_eq}
@@ -17,7 +17,7 @@ returns-in_ok-insert-in-Event-clause-index c = λ decls h.
     let new : Names = record { decls = c.args.self.now.decls; places = c.insert.new.self; events = c.args.self.now.events + 1; flows = c.args.self.now.flows } in
     subst (λ d. IsIndexOf (decls ++ d ∷ []) new) (sym (ap declared c.in-Event.is))
     (index_event decls c.in-Event.name c.in-Event.field-1 c.args.self.now new
-    (λ q. btree_map_updates_str c.bytes.result.now c.args.self.now.places c.insert.new.self _ c.in_ok-insert-in-Event.ensures.updates q
+    (λ q. hash_map_updates_str c.bytes.result.now c.args.self.now.places c.insert.new.self _ c.in_ok-insert-in-Event.ensures.updates q
     ∙ ap (λ n. update bytes_eq (index_of c.args.self.now) n (Some (place.Event c.args.self.now.events)) q) c.bytes.ensures)
     refl refl h)
 
@@ -27,6 +27,6 @@ returns-in_ok-push-in-Flow-clause-index c = λ decls h.
     let new : Names = record { decls = c.args.self.now.decls; places = c.insert-in-Flow.new.self; events = c.args.self.now.events; flows = c.push.new.self } in
     subst (λ d. IsIndexOf (decls ++ d ∷ []) new) (sym (ap declared c.in-Flow.is))
     (index_flow decls c.in-Flow.name (shape_of c.in-Flow.goal) c.args.self.now new
-    (λ q. btree_map_updates_str c.bytes-in-Flow.result.now c.args.self.now.places c.insert-in-Flow.new.self _ c.in_ok-insert-in-Flow.ensures.updates q
+    (λ q. hash_map_updates_str c.bytes-in-Flow.result.now c.args.self.now.places c.insert-in-Flow.new.self _ c.in_ok-insert-in-Flow.ensures.updates q
     ∙ (λ i. update bytes_eq (index_of c.args.self.now) (c.bytes-in-Flow.ensures i) (Some (place.Flow ((c.len.ensures ∙ count) i))) q))
     refl (ap (map flow_view) c.in_ok-push-in-Flow.ensures.items ∙ map_push flow_view c.args.self.now.flows.items _) h)

@@ -1,0 +1,181 @@
+-- A goal whose leaves and facts are numbered is that of what is written.
+use Rattle.std.proofs.Common.{◌≡◌, ℕ, zero, suc, ◌+◌, ◌<◌, ◌≤◌, ◌^◌, List, [], ◌∷◌, ◌++◌, fold, length, refl, sym, ap, ◌∙◌, subst, inl, arith}
+use Rattle.std.specs.Str.{bytes_eq}
+use Rattle.std.specs.Cmp.Lexicographic.{bytes_decides}
+use Rattle.std.proofs.lemmas.List.Sums.{fold-append}
+use Rattle.flow_model.specs.Lists.{◌∈◌, Each, AreDistinct, numbers_from}
+use Rattle.flow_model.specs.Process.{Process, IsNumbered, leaves}
+use Rattle.flow_facts.specs.Atom.{Atom, atom_eq}
+use Rattle.flow_facts.specs.Same.{atom_eq-Decides}
+use Rattle.flow_goal.proofs.Numbers.{numbers_from-+}
+use Rattle.flow_workflow.specs.Numbers.{IsKnown}
+use Rattle.flow_workflow.proofs.FirstPlaces.{within}
+use Rattle.flow_form.specs.Script.{Said}
+use Rattle.flow_form.specs.Names.{event_names, IsClosed}
+use Rattle.flow_expand.specs.declared.plan.Node.{Node}
+use Rattle.flow_expand.specs.declared.building.Leaves.{Leaves}
+use Rattle.flow_expand.specs.declared.numbering.Numbered.{Numbered}
+use Rattle.flow_expand.specs.Expansion.{Expansion, nothing, happens, holds, lacks, adds, takes, in_turn, at_once, one_of, alone}
+use Rattle.flow_expand.specs.Numbers.{facts_in, with_fact, firsts, declared_facts, facts_of, labels_of, leaf_count, numbered, labelled_of}
+use Rattle.flow_expand.specs.Plan.{Stands}
+use Rattle.flow_expand.specs.Built.{HasRoom, IsBuildable, IsBuilt}
+use Rattle.flow_expand.specs.Refusals.{IsMeasured}
+use Rattle.flow_expand.specs.Numbering.{IsNumberedGoal}
+use Rattle.flow_expand.proofs.Members.{mem_left, mem_right, mem_at}
+use Rattle.flow_expand.proofs.FactLemmas.{fact_there, distinct_firsts, length_fold}
+use Rattle.flow_expand.proofs.BuildLemmas.{leaves_are_ends, labels_after, facts_after}
+use Rattle.flow_expand.proofs.DeclaredLemmas.{distinct_events, facts_few}
+
+-- numbers in a row
+
+pub numbers_end : (n : ℕ) → numbers_from 0 (n + 1) ≡ numbers_from 0 n ++ n ∷ []
+numbers_end n =
+    let last : 0 + n ≡ n = omega arith in
+    numbers_from-+ 0 n 1 ∙ ap (λ k. numbers_from 0 n ++ k ∷ []) last
+
+pub numbers_below : (first count end : ℕ) → first + count ≤ end → Each (λ n. n < end) (numbers_from first count)
+numbers_below first zero end le = tt
+numbers_below first (suc count) end le = (omega arith, numbers_below (first + 1) count end (omega arith))
+
+-- leaves
+
+both_in_row : (a b : Process) (next m n : ℕ) → leaves a ≡ numbers_from next m → leaves b ≡ numbers_from (next + m) n → leaves a ++ leaves b ≡ numbers_from next (m + n)
+both_in_row a b next m n e f = (λ i. e i ++ f i) ∙ sym (numbers_from-+ next m n)
+
+leaves_in_row : (next : ℕ) (e : Expansion) → leaves (numbered next e) ≡ numbers_from next (leaf_count e)
+leaves_in_row next nothing = refl
+leaves_in_row next (happens n) = refl
+leaves_in_row next (holds a) = refl
+leaves_in_row next (lacks a) = refl
+leaves_in_row next (adds a) = refl
+leaves_in_row next (takes a) = refl
+leaves_in_row next (in_turn a b) =
+    both_in_row (numbered next a) (numbered (next + leaf_count a) b) next (leaf_count a) (leaf_count b) (leaves_in_row next a) (leaves_in_row (next + leaf_count a) b)
+leaves_in_row next (at_once a b) =
+    both_in_row (numbered next a) (numbered (next + leaf_count a) b) next (leaf_count a) (leaf_count b) (leaves_in_row next a) (leaves_in_row (next + leaf_count a) b)
+leaves_in_row next (one_of a b) =
+    both_in_row (numbered next a) (numbered (next + leaf_count a) b) next (leaf_count a) (leaf_count b) (leaves_in_row next a) (leaves_in_row (next + leaf_count a) b)
+leaves_in_row next (alone a) = leaves_in_row next a
+
+-- labels
+
+each_both : {A : Type 0} (P : A → Type 0) (xs ys : List A) → Each P xs → Each P ys → Each P (xs ++ ys)
+each_both P [] ys h k = k
+each_both P (x ∷ xs) ys h k = (h.0, each_both P xs ys h.1 k)
+
+-- each label of a goal of the plan has an event, or a fact that is numbered
+module _ (plan : List Node) (events : List (List ℕ)) (facts : List Atom) where
+  abbrev AreKnown : Expansion → Type 0
+  AreKnown e = Each (IsKnown (length events) (length facts)) (labels_of events facts e)
+
+  abbrev AreThere : Expansion → Type 0
+  AreThere e = (x : Atom) → x ∈ facts_in e → x ∈ facts
+
+  both_known : (a b : Expansion) → AreKnown a → AreKnown b → Each (IsKnown (length events) (length facts)) (labels_of events facts a ++ labels_of events facts b)
+  both_known a b h k = each_both (IsKnown (length events) (length facts)) (labels_of events facts a) (labels_of events facts b) h k
+
+  first_there : (a b : Expansion) → ((x : Atom) → x ∈ (facts_in a ++ facts_in b) → x ∈ facts) → AreThere a
+  first_there a b all x m = all x (mem_left x (facts_in a) (facts_in b) m)
+
+  second_there : (a b : Expansion) → ((x : Atom) → x ∈ (facts_in a ++ facts_in b) → x ∈ facts) → AreThere b
+  second_there a b all x m = all x (mem_right x (facts_in a) (facts_in b) m)
+
+  labels_known : (e : Expansion) (i : ℕ) → Stands plan events e i → AreThere e → AreKnown e
+  labels_known nothing i s all = tt
+  labels_known (happens n) i (k, e, f) all = (within bytes_eq bytes_decides n events (mem_at events k n f), tt)
+  labels_known (holds a) i s all = (within atom_eq atom_eq-Decides a facts (all a (inl refl)), tt)
+  labels_known (lacks a) i s all = (within atom_eq atom_eq-Decides a facts (all a (inl refl)), tt)
+  labels_known (adds a) i s all = (within atom_eq atom_eq-Decides a facts (all a (inl refl)), tt)
+  labels_known (takes a) i s all = (within atom_eq atom_eq-Decides a facts (all a (inl refl)), tt)
+  labels_known (in_turn a b) i (j, k, e, l, m, (x, y)) all =
+      both_known a b (labels_known a j x (first_there a b all)) (labels_known b k y (second_there a b all))
+  labels_known (at_once a b) i (j, k, e, l, m, (x, y)) all =
+      both_known a b (labels_known a j x (first_there a b all)) (labels_known b k y (second_there a b all))
+  labels_known (one_of a b) i (j, k, e, l, m, (x, y)) all =
+      both_known a b (labels_known a j x (first_there a b all)) (labels_known b k y (second_there a b all))
+  labels_known (alone a) i (j, e, l, x) all = labels_known a j x all
+
+-- before the goal is built
+
+-- the facts that are declared are numbered, and there are no leaves
+pub record IsStart (s : Said) (leaves : Leaves) : Type 0 where
+  pub facts : leaves.facts.keys ≡ firsts (declared_facts s.decls)
+  pub labels : leaves.labels.items ≡ []
+
+declared_firsts_few : (s : Said) → IsClosed s → length (firsts (declared_facts s.decls)) < 2 ^ 31
+declared_firsts_few s closed = omega (arith, (length_fold [] (declared_facts s.decls)).1, facts_few s.decls, closed.few)
+
+pub declared_few : (s : Said) (keys : List Atom) → IsClosed s → keys ≡ firsts (declared_facts s.decls) → length keys < 2 ^ 32
+declared_few s keys closed is = omega (arith, ap length is, declared_firsts_few s closed)
+
+pub leaves_few : (s : Said) (e : Expansion) → IsMeasured s e → leaf_count e ≤ 1024
+leaves_few s e h = omega (arith, leaves_are_ends e, h.fitting.fits)
+
+pub start_room : (s : Said) (e : Expansion) (leaves : Leaves) → IsClosed s → IsMeasured s e → IsStart s leaves → HasRoom leaves (leaf_count e)
+start_room s e leaves closed measured start = record {
+  labels = omega (arith, ap length start.labels, leaves_few s e measured);
+  facts = omega (arith, ap length start.facts, declared_firsts_few s closed, leaves_few s e measured);
+}
+
+pub start_buildable : (s : Said) (e : Expansion) (plan : List Node) (place : ℕ) (leaves : Leaves) → IsClosed s → IsMeasured s e → Stands plan (event_names s.decls) e place →
+    IsStart s leaves → IsBuildable plan place leaves
+start_buildable s e plan place leaves closed measured stands start = record {
+  events = event_names s.decls;
+  distinct = distinct_events s.decls closed.once;
+  expansion = e;
+  stands = stands;
+  room = start_room s e leaves closed measured start;
+}
+
+-- after it
+
+module _ (s : Said) (e : Expansion) (old new : Leaves) (goal : Process) (closed : IsClosed s) (measured : IsMeasured s e) (start : IsStart s old)
+    (built : IsBuilt (event_names s.decls) e old new goal) where
+  labels_counted : length new.labels.items ≡ leaf_count e
+  labels_counted = omega (arith, labels_after (event_names s.decls) e old new goal built, ap length start.labels)
+
+  goal_is : goal ≡ numbered 0 e
+  goal_is = built.process ∙ ap (λ n. numbered n e) (ap length start.labels)
+
+  pub goal_numbered : IsNumbered goal (length new.labels.items)
+  goal_numbered = ap leaves goal_is ∙ leaves_in_row 0 e ∙ ap (numbers_from 0) (sym labels_counted)
+
+  pub labels_few : length new.labels.items < 2 ^ 32
+  labels_few = omega (arith, labels_counted, leaves_few s e measured)
+
+  facts_are : new.facts.keys ≡ facts_of s.decls e
+  facts_are = built.facts ∙ ap (λ l. fold with_fact l (facts_in e)) start.facts ∙ sym (fold-append with_fact [] (declared_facts s.decls) (facts_in e))
+
+  pub facts_distinct : AreDistinct new.facts.keys
+  facts_distinct = subst AreDistinct (sym facts_are) (distinct_firsts (declared_facts s.decls ++ facts_in e))
+
+  pub facts_within : length new.facts.keys < 2 ^ 32
+  facts_within = omega (arith, facts_after (event_names s.decls) e old new goal built, (start_room s e old closed measured start).facts)
+
+  labels_are : new.labels.items ≡ labels_of (event_names s.decls) (facts_of s.decls e) e
+  labels_are =
+      built.labels ∙ ap (λ l. l ++ labels_of (event_names s.decls) new.facts.keys e) start.labels
+      ∙ ap (λ l. labels_of (event_names s.decls) l e) facts_are
+
+  pub numbered_goal : (plan : List Node) (place : ℕ) (n : Numbered) → Stands plan (event_names s.decls) e place → n.facts ≡ new.facts.keys →
+      n.held.items ≡ numbers_from 0 (length old.facts.keys) → n.tree.process ≡ goal → n.tree.labels ≡ new.labels.items → IsNumberedGoal s n
+  numbered_goal plan place n stands table held process labels = record {
+    expansion = e;
+    measured = measured;
+    facts = table ∙ facts_are;
+    held = held ∙ ap (λ l. numbers_from 0 (length l)) start.facts;
+    tree = tree_is;
+    known = known;
+  }
+    where
+      tree_is : n.tree ≡ labelled_of s.decls e
+      tree_is = λ i. record { process = (process ∙ goal_is) i; labels = (labels ∙ labels_are) i }
+
+      there : (x : Atom) → x ∈ facts_in e → x ∈ facts_of s.decls e
+      there x m = subst (λ l. x ∈ l) (sym (fold-append with_fact [] (declared_facts s.decls) (facts_in e))) (fact_there (firsts (declared_facts s.decls)) (facts_in e) x m)
+
+      known : Each (IsKnown (length (event_names s.decls)) (length n.facts)) n.tree.labels
+      known =
+          subst (λ l. Each (IsKnown (length (event_names s.decls)) (length n.facts)) l) (sym (labels ∙ labels_are))
+          (subst (λ l. Each (IsKnown (length (event_names s.decls)) (length l)) (labels_of (event_names s.decls) (facts_of s.decls e) e)) (sym (table ∙ facts_are))
+          (labels_known plan (event_names s.decls) (facts_of s.decls e) e place stands there))

@@ -1,0 +1,81 @@
+ghost use Rattle.std.specs.Prelude.{◌≡◌, ◌<◌, ◌^◌, IfOk, length};
+ghost use Rattle.flow_model.specs.Lists.{AreDistinct, numbers_from};
+ghost use Rattle.flow_model.specs.Process.{IsNumbered};
+ghost use Rattle.flow_goal.specs.Goal.{process_of};
+ghost use Rattle.flow_form.specs.Script.{said};
+ghost use Rattle.flow_form.specs.Names.{IsClosed};
+ghost use Rattle.flow_expand.specs.Prepared.{IsPrepared};
+ghost use Rattle.flow_expand.specs.Numbering.{IsNumberedGoal};
+
+use crate::building::{Leaves, build};
+use crate::fact_numbers::declared_fact_set;
+use crate::preparing::Standing;
+use flow_facts::{Fact, FactTable};
+use flow_form::Script;
+use flow_goal::{Goal, Tree};
+use flow_model::Label;
+use indexmap::IndexSet;
+use std::alloc::{AllocError, Global};
+
+/// A goal with labels at its leaves, and the facts by their numbers.
+#[derive(Drop)]
+pub(crate) struct Numbered {
+    pub(crate) facts: FactTable,
+    /// The facts that are declared.
+    pub(crate) held: Vec<u32>,
+    pub(crate) tree: Tree,
+}
+
+/// The numbers below the count.
+fn numbers_below(alloc: Global, count: u32) -> Result<Vec<u32>, AllocError>
+    ensures { IfOk result (λ numbers. numbers.items ≡ numbers_from 0 count) }
+{
+    let mut numbers = Vec::new(alloc);
+    for number in 0..count {
+        numbers.push(number)?;
+    }
+    Ok(numbers)
+}
+
+/// The facts in the order of the set.
+fn table_of(alloc: Global, facts: IndexSet<Fact>) -> Result<FactTable, AllocError>
+    requires distinct { AreDistinct facts.keys }
+    requires few { length facts.keys < 2 ^ 32 }
+    ensures { IfOk result (λ table. table ≡ facts.keys) }
+{
+    Ok(FactTable::new(facts.into_iter().collect(alloc)?))
+}
+
+/// Labels at the leaves of a goal that is numbered so.
+fn tree_of(goal: Goal, labels: Vec<Label>) -> Tree
+    requires numbered { IsNumbered (process_of goal) (length labels.items) }
+    requires few { length labels.items < 2 ^ 32 }
+    ensures process { result.process ≡ process_of goal }
+    ensures labels { result.labels ≡ labels.items }
+{
+    match Tree::new(goal, labels) {
+        Ok(tree) => tree,
+        Err(_) => unreachable!(),
+    }
+}
+
+/// Builds the goal of the plan. The facts that are declared have the first numbers.
+pub(crate) fn number(
+    alloc: Global,
+    script: &Script,
+    prepared: &Standing<'_>,
+) -> Result<Numbered, AllocError>
+    requires closed { IsClosed (said script.now) }
+    requires prepared { IsPrepared (said script.now) prepared.now }
+    ensures { IfOk result (IsNumberedGoal (said script.now)) }
+{
+    let facts = declared_fact_set(alloc, &script.decls)?;
+    let held = numbers_below(alloc, facts.len() as u32)?;
+    let labels = Vec::new(alloc);
+    let mut leaves = Leaves { facts, labels };
+    let goal = build(alloc, &prepared.plan, prepared.root.place, &mut leaves)?;
+    let Leaves { facts, labels } = leaves;
+    let tree = tree_of(goal, labels);
+    let facts = table_of(alloc, facts)?;
+    Ok(Numbered { facts, held, tree })
+}
