@@ -43,6 +43,13 @@ impl Compiled {
         &self.plans
     }
 
+    /// The plans by value, in the order of their options.
+    pub fn into_plans(self) -> Vec<KnotFree>
+        ensures { result.items ≡ self.plans }
+    {
+        self.plans
+    }
+
     pub fn counts(&self) -> Counts
         ensures counts { result ≡ self.now.counts }
         ensures live { self.now.counts.live ≡ length self.now.plans }
