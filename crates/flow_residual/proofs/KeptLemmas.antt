@@ -1,0 +1,165 @@
+-- What is kept when a leaf is done or banned, and when a run goes back.
+use Rattle.std.proofs.Common.{◌≡◌, ℕ, zero, suc, ◌<◌, ◌≤◌, nat_le, Bool, true, false, cond, List, [], ◌∷◌, ◌++◌, length, take, drop, get_or, refl, sym, ap, subst, inl, inr, ⊎_elim, arith, length-append}
+use Rattle.std.specs.List.{filter}
+use Rattle.std.proofs.lemmas.List.{map-append, take-append-drop}
+use Rattle.flow_model.specs.Lists.{◌∈◌, Each, AreDistinct}
+use Rattle.flow_model.specs.Process.{leaves}
+use Rattle.flow_laws.proofs.ListLemmas2.{of_map, mem-append, mem_append_left, each-append, each_parts, each_member, each_from_members, distinct_parts, distinct-append}
+use Rattle.flow_plan.proofs.PlaceLemmas.{member_at, get_at}
+use Rattle.flow_excise.proofs.RingLemmas.{at_most}
+use Rattle.flow_residual.specs.declared.ban.Ban.{Ban}
+use Rattle.flow_residual.specs.Remaining.{Remaining, MayComeNext}
+use Rattle.flow_residual.specs.View.{pairs_of_bans}
+use Rattle.flow_residual.specs.Fronts.{AreFronts}
+use Rattle.flow_residual.specs.Kept.{HasSmallLeaves, banned, AreFew, IsKept}
+
+-- ---- few numbers
+
+pub at_most_all : (list : List ℕ) → AreFew list → length list ≤ 1024
+at_most_all list few = at_most 1024 list few.distinct (λ x m. each_member (λ n. n < 1024) list few.small x m)
+
+pub one_more : (list : List ℕ) (n : ℕ) → AreFew list → n < 1024 → ¬ (n ∈ list) → AreFew (list ++ n ∷ [])
+one_more list n few small fresh = record {
+  small = each-append (λ k. k < 1024) list (n ∷ []) few.small (small, tt);
+  distinct = distinct-append list (n ∷ []) few.distinct ((λ none. none), tt)
+      (λ x m k. ⊎_elim (λ same. fresh (subst (λ z. z ∈ list) same m)) (λ none. none) k);
+}
+
+pub room_left : (list : List ℕ) (n : ℕ) → AreFew list → n < 1024 → ¬ (n ∈ list) → length list < 1024
+room_left list n few small fresh =
+    let most = at_most_all (list ++ n ∷ []) (one_more list n few small fresh) in
+    omega (arith, most, length-append list (n ∷ []))
+
+pub few_front : (list : List ℕ) (i : ℕ) → AreFew list → AreFew (take i list)
+few_front list i few =
+    let cut : list ≡ take i list ++ drop i list = sym (take-append-drop i list) in record {
+      small = (each_parts (λ n. n < 1024) (take i list) (drop i list) (subst (Each (λ n. n < 1024)) cut few.small)).0;
+      distinct = (distinct_parts (take i list) (drop i list) (subst AreDistinct cut few.distinct)).0;
+    }
+
+in_front : (list : List ℕ) (i n : ℕ) → n ∈ take i list → n ∈ list
+in_front list i n m = subst (λ (l : List ℕ). n ∈ l) (take-append-drop i list) (mem_append_left n (take i list) (drop i list) m)
+
+-- what stands at a place is not in the front before it
+not_in_front : (list : List ℕ) (i : ℕ) → AreDistinct list → i < length list → ¬ (get_or list i 0 ∈ take i list)
+not_in_front [] i d h m = absurd (omega arith)
+not_in_front (x ∷ list) zero d h m = m
+not_in_front (x ∷ list) (suc i) d h (inl e) =
+    d.0 (subst (λ z. z ∈ list) e (member_at list i (get_or list i 0) (get_at list i (omega arith))))
+not_in_front (x ∷ list) (suc i) d h (inr m) = not_in_front list i d.1 (omega arith) m
+
+-- ---- the leaf that may come next
+
+module _ (r : Remaining) (fronts : List ℕ) (k : IsKept r fronts) (leaf : ℕ) (next : MayComeNext r leaf) where
+  pub next_small : leaf < 1024
+  next_small =
+      let fit = each_member HasSmallLeaves r.options k.fits next.0 next.1.among in
+      each_member (λ n. n < 1024) (leaves next.0.resolution) fit leaf next.2.leaf
+
+  pub next_fresh : ¬ (leaf ∈ r.journal)
+  next_fresh = next.2.not_done
+
+  pub next_free : ¬ (leaf ∈ banned r.bans)
+  next_free m =
+      let (ban, there, is) = of_map (λ (ban : ℕ × ℕ). ban.1) leaf r.bans m in
+      each_member (λ (b : ℕ × ℕ). ¬ (b.1 ∈ leaves next.0.resolution)) r.bans next.1.unbanned ban there (subst (λ n. n ∈ leaves next.0.resolution) is next.2.leaf)
+
+  pub kept_push : (longer : List ℕ) → AreFronts r.options (r.journal ++ leaf ∷ []) longer → IsKept (record r { journal = r.journal ++ leaf ∷ [] }) longer
+  kept_push longer are = record {
+    fits = k.fits;
+    fronts_are = are;
+    done = one_more r.journal leaf k.done next_small next_fresh;
+    bans_few = k.bans_few;
+    apart = each_from_members (λ n. ¬ (n ∈ (r.journal ++ leaf ∷ []))) (banned r.bans) (λ n m there. ⊎_elim
+        (λ before. each_member (λ x. ¬ (x ∈ r.journal)) (banned r.bans) k.apart n m before)
+        (λ last. ⊎_elim (λ same. next_free (subst (λ x. x ∈ banned r.bans) same m)) (λ none. none) last)
+        (mem-append n r.journal (leaf ∷ []) there));
+  }
+
+  pub kept_ban : (i : ℕ) → IsKept (record r { bans = r.bans ++ (i, leaf) ∷ [] }) fronts
+  kept_ban i =
+      let more : banned (r.bans ++ (i, leaf) ∷ []) ≡ banned r.bans ++ leaf ∷ [] = map-append (λ (ban : ℕ × ℕ). ban.1) r.bans ((i, leaf) ∷ []) in record {
+        fits = k.fits;
+        fronts_are = k.fronts_are;
+        done = k.done;
+        bans_few = subst AreFew (sym more) (one_more (banned r.bans) leaf k.bans_few next_small next_free);
+        apart = subst (Each (λ n. ¬ (n ∈ r.journal))) (sym more) (each-append (λ n. ¬ (n ∈ r.journal)) (banned r.bans) (leaf ∷ []) k.apart (next_fresh, tt));
+      }
+
+-- ---- bans that are lifted
+
+left_over : (p : ℕ × ℕ → Bool) (bans : List (ℕ × ℕ)) (n : ℕ) → n ∈ banned (filter p bans) → n ∈ banned bans
+left_over p [] n m = m
+left_over p (ban ∷ bans) n m = step (p ban) (left_over p bans n) m
+  where
+    step : (b : Bool) → (n ∈ banned (filter p bans) → n ∈ banned bans) → n ∈ banned (cond b (ban ∷ filter p bans) (filter p bans)) → n ∈ banned (ban ∷ bans)
+    step true rest (inl e) = inl e
+    step true rest (inr h) = inr (rest h)
+    step false rest h = inr (rest h)
+
+distinct_left_over : (p : ℕ × ℕ → Bool) (bans : List (ℕ × ℕ)) → AreDistinct (banned bans) → AreDistinct (banned (filter p bans))
+distinct_left_over p [] d = tt
+distinct_left_over p (ban ∷ bans) d = step (p ban) (distinct_left_over p bans d.1)
+  where
+    step : (b : Bool) → AreDistinct (banned (filter p bans)) → AreDistinct (banned (cond b (ban ∷ filter p bans) (filter p bans)))
+    step true rest = ((λ m. d.0 (left_over p bans ban.1 m)), rest)
+    step false rest = rest
+
+module _ (r : Remaining) (fronts : List ℕ) (k : IsKept r fronts) (i : ℕ) (within : i < length r.journal) where
+  -- the leaf that is taken back
+  abbrev pub back : ℕ
+  back = get_or r.journal i 0
+
+  abbrev pub stays : ℕ × ℕ → Bool
+  stays ban = nat_le ban.0 i
+
+  back_done : back ∈ r.journal
+  back_done = member_at r.journal i back (get_at r.journal i within)
+
+  back_free : ¬ (back ∈ banned (filter stays r.bans))
+  back_free m = each_member (λ n. ¬ (n ∈ r.journal)) (banned r.bans) k.apart back (left_over stays r.bans back m) back_done
+
+  pub rewind_room : length (banned r.bans) < 1024
+  rewind_room = room_left (banned r.bans) back k.bans_few (each_member (λ n. n < 1024) r.journal k.done.small back back_done)
+      (λ m. each_member (λ n. ¬ (n ∈ r.journal)) (banned r.bans) k.apart back m back_done)
+
+  pub kept_rewind : (shorter : List ℕ) → AreFronts r.options (take i r.journal) shorter →
+      IsKept (record r { journal = take i r.journal; bans = filter stays r.bans ++ (i, back) ∷ [] }) shorter
+  kept_rewind shorter are =
+      let more : banned (filter stays r.bans ++ (i, back) ∷ []) ≡ banned (filter stays r.bans) ++ back ∷ [] =
+      map-append (λ (ban : ℕ × ℕ). ban.1) (filter stays r.bans) ((i, back) ∷ []) in
+      let left : AreFew (banned (filter stays r.bans)) = record {
+        small = each_from_members (λ n. n < 1024) (banned (filter stays r.bans))
+            (λ n m. each_member (λ x. x < 1024) (banned r.bans) k.bans_few.small n (left_over stays r.bans n m));
+        distinct = distinct_left_over stays r.bans k.bans_few.distinct;
+      } in record {
+        fits = k.fits;
+        fronts_are = are;
+        done = few_front r.journal i k.done;
+        bans_few = subst AreFew (sym more)
+            (one_more (banned (filter stays r.bans)) back left (each_member (λ n. n < 1024) r.journal k.done.small back back_done) back_free);
+        apart = subst (Each (λ n. ¬ (n ∈ take i r.journal))) (sym more)
+            (each-append (λ n. ¬ (n ∈ take i r.journal)) (banned (filter stays r.bans)) (back ∷ [])
+            (each_from_members (λ n. ¬ (n ∈ take i r.journal)) (banned (filter stays r.bans))
+            (λ n m there. each_member (λ x. ¬ (x ∈ r.journal)) (banned r.bans) k.apart n (left_over stays r.bans n m) (in_front r.journal i n there)))
+            (not_in_front r.journal i k.done.distinct within, tt));
+      }
+
+-- ---- bans as pairs
+
+pub pairs_of_more : (bans : List Ban) (ban : Ban) → pairs_of_bans (bans ++ ban ∷ []) ≡ pairs_of_bans bans ++ (ban.index, ban.leaf) ∷ []
+pairs_of_more bans ban = map-append (λ (b : Ban). (b.index, b.leaf)) bans (ban ∷ [])
+
+pub pairs_of_left : (i : ℕ) (bans : List Ban) → pairs_of_bans (filter (λ (ban : Ban). nat_le ban.index i) bans) ≡ filter (λ ban. nat_le ban.0 i) (pairs_of_bans bans)
+pairs_of_left i [] = refl
+pairs_of_left i (ban ∷ bans) = step (nat_le ban.index i) (pairs_of_left i bans)
+  where
+    step : (b : Bool) → pairs_of_bans (filter (λ (x : Ban). nat_le x.index i) bans) ≡ filter (λ x. nat_le x.0 i) (pairs_of_bans bans) →
+        pairs_of_bans (cond b (ban ∷ filter (λ (x : Ban). nat_le x.index i) bans) (filter (λ (x : Ban). nat_le x.index i) bans))
+        ≡ cond b ((ban.index, ban.leaf) ∷ filter (λ x. nat_le x.0 i) (pairs_of_bans bans)) (filter (λ x. nat_le x.0 i) (pairs_of_bans bans))
+    step true e = ap (λ (l : List (ℕ × ℕ)). (ban.index, ban.leaf) ∷ l) e
+    step false e = e
+
+pub length-pairs : (bans : List Ban) → length (banned (pairs_of_bans bans)) ≡ length bans
+length-pairs [] = refl
+length-pairs (ban ∷ bans) = ap suc (length-pairs bans)

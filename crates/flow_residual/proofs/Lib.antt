@@ -1,0 +1,6 @@
+pub mod BanLemmas
+pub mod DoneLemmas
+pub mod FrontLemmas
+pub mod KeptLemmas
+pub mod OptionLemmas
+pub mod PossibleLemmas

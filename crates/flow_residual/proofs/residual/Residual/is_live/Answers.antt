@@ -1,0 +1,18 @@
+use Rattle.flow_residual.proofs.OptionLemmas.{option_at}
+use Rattle.flow_residual.proofs.residual.Residual.is_live.Goals as goal
+
+pub returns-then-follows : goal.returns-then-follows
+returns-then-follows c o at = (
+  λ yes. record {
+    among = option_at c.args.self.now.options c.args.place o at;
+    unbanned = (c.is_unbanned.ensures o at).0 yes;
+    journal_ready = (c.follows.ensures o at).0 c.if-follows.true;
+  },
+  λ live. (c.is_unbanned.ensures o at).1 live.unbanned,
+)
+
+pub returns-else-follows : goal.returns-else-follows
+returns-else-follows c o at = (
+  λ wrong. absurd (cc),
+  λ live. let follows = (c.follows.ensures o at).1 live.journal_ready in let not = c.if-follows.false in absurd (cc),
+)

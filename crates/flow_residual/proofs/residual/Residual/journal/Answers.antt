@@ -1,0 +1,8 @@
+use Rattle.std.proofs.Common.{◌≤◌, length, subst}
+use Rattle.flow_residual.specs.Remaining.{Remaining}
+use Rattle.flow_residual.proofs.KeptLemmas.{at_most_all}
+use Rattle.flow_residual.proofs.residual.Residual.journal.Goals as goal
+
+pub returns-clause-few : goal.returns-clause-few
+returns-clause-few c =
+    subst (λ (r : Remaining). length r.journal ≤ 1024) c.self.view_is (at_most_all c.self.inside.journal.items c.self.invariant.kept.done)

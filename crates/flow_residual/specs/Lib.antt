@@ -1,0 +1,6 @@
+pub mod Remaining
+pub mod View
+pub mod Fronts
+pub mod Kept
+pub mod Fields
+pub mod Possible

@@ -1,0 +1,60 @@
+-- What is still possible: the options, the journal so far, and the leaves that are banned.
+use Rattle.std.specs.Prelude.{◌≡◌, ℕ, List, ◌∷◌}
+use Rattle.std.proofs.Common.{refl}
+use Rattle.std.specs.Coded.{Coded, code_by, coded×, coded_ℕ, coded_list}
+use Rattle.flow_model.specs.Lists.{◌∈◌, Each, IsOrderOf}
+use Rattle.flow_model.specs.Process.{Process, leaves}
+use Rattle.flow_model.specs.Stored.{process_code}
+use Rattle.flow_model.specs.Schema.{Schema}
+use Rattle.flow_model.specs.Resolution.{ChoiceOption, options}
+use Rattle.flow_model.specs.Ready.{IsReady, IsReadyRun}
+use Rattle.flow_model.specs.Run.{RunState, IsFree, MayFollow}
+use Rattle.flow_laws.specs.Words.{IsWellFormed}
+use Rattle.flow_excise.specs.Executions.{HasExecution, AreJustThose}
+
+pub record Remaining : Type 0 where
+  -- those that have an execution
+  pub options : List ChoiceOption
+  -- the leaves that count, in order
+  pub journal : List ℕ
+  -- a length of the journal, and the leaf that was banned there
+  pub bans : List (ℕ × ℕ)
+
+abbrev option_code : Coded ChoiceOption
+option_code = code_by (Process × List (ℕ × ℕ)) (coded× process_code (coded_list (coded× coded_ℕ coded_ℕ)))
+    (λ o. (o.resolution, o.order)) (λ p. record { resolution = p.0; order = p.1 }) (λ _. refl)
+
+abbrev pub remaining_code : Coded Remaining
+remaining_code = code_by (List ChoiceOption × (List ℕ × List (ℕ × ℕ)))
+    (coded× (coded_list option_code) (coded× (coded_list coded_ℕ) (coded_list (coded× coded_ℕ coded_ℕ))))
+    (λ r. (r.options, (r.journal, r.bans))) (λ p. record { options = p.0; journal = p.1.0; bans = p.1.1 }) (λ _. refl)
+
+-- it is what remains of the workflow in that state
+pub record IsOf (w : Schema) (s : RunState) (r : Remaining) : Type 0 where
+  pub well_formed : IsWellFormed w
+  -- just the options of the workflow that have an execution
+  pub options_are : AreJustThose HasExecution (options w) r.options
+  pub journal_is : s.journal ≡ r.journal
+  pub bans_are : s.bans ≡ r.bans
+
+-- in some one option the leaves may follow the journal in every order
+abbrev pub MayAllFollow : Schema → RunState → List ℕ → Type 0
+MayAllFollow w s list = (o : ChoiceOption) × (o ∈ options w) × ((order : List ℕ) → IsOrderOf order list → MayFollow w s o order)
+
+-- in some one option the leaf may come first, and the others then in every order
+abbrev pub MayFollowFirst : Schema → RunState → ℕ → List ℕ → Type 0
+MayFollowFirst w s first list = (o : ChoiceOption) × (o ∈ options w) × ((order : List ℕ) → IsOrderOf order list → MayFollow w s o (first ∷ order))
+
+-- some free trace lacks the leaf
+abbrev pub IsAvoidable : Schema → RunState → ℕ → Type 0
+IsAvoidable w s leaf = (t : List ℕ) × IsFree w s t × ¬ (leaf ∈ t)
+
+-- the option holds no banned leaf, and the journal is a ready run of it
+pub record IsLive (r : Remaining) (o : ChoiceOption) : Type 0 where
+  pub among : o ∈ r.options
+  pub unbanned : Each (λ ban. ¬ (ban.1 ∈ leaves o.resolution)) r.bans
+  pub journal_ready : IsReadyRun o.resolution o.order r.journal
+
+-- in some live option the leaf may come next
+abbrev pub MayComeNext : Remaining → ℕ → Type 0
+MayComeNext r leaf = (o : ChoiceOption) × IsLive r o × IsReady o.resolution o.order (λ n. n ∈ r.journal) leaf

@@ -1,0 +1,169 @@
+ghost use Rattle.std.specs.Prelude.{◌≡◌, ◌<◌, ◌≤◌, ◌↔◌, ℕ, [], ◌∷◌, ◌++◌, IfOk, IsTrue, length, take, nat_le, Some, slice_get, slice_index};
+ghost use Rattle.std.specs.List.{filter};
+ghost use Rattle.flow_model.specs.Lists.{◌∈◌, Each};
+ghost use Rattle.flow_model.specs.Process.{leaves};
+ghost use Rattle.flow_model.specs.Ready.{IsReadyRun};
+ghost use Rattle.flow_model.specs.Resolution.{ChoiceOption};
+ghost use Rattle.flow_plan.specs.Progress.{IsDone, bound_of};
+ghost use Rattle.flow_excise.specs.Compilation.{options_of};
+ghost use Rattle.flow_excise.specs.Plans.{option_of};
+ghost use Rattle.flow_residual.specs.Fronts.{AreFronts};
+ghost use Rattle.flow_residual.specs.Kept.{HasSmallLeaves};
+
+use crate::ban::{Ban, holds, is_unbanned, is_unbanned_up_to};
+use crate::fronts::{lengthen, no_fronts, progress_of, shorten};
+use flow_excise::Compiled;
+use flow_plan::{KnotFree, Plan, Progress};
+use std::alloc::{AllocError, Global};
+use std::marker::Model;
+
+/// What is still possible in a run. All memory is taken when it is made.
+#[derive(Drop)]
+pub struct Residual {
+    plans: Vec<KnotFree>,
+    /// Of each plan, how much of the journal is a ready run of it.
+    fronts: Vec<usize>,
+    journal: Vec<u32>,
+    bans: Vec<Ban>,
+}
+
+impl Model for Residual {
+    ghost use Rattle.flow_residual.specs.Remaining.{Remaining, remaining_code};
+
+    ghost Value = { Remaining };
+
+    ghost coded = { remaining_code };
+
+    ghost use Rattle.flow_residual.specs.View.{remaining};
+    ghost use Rattle.flow_residual.specs.Fields.{IsRoomy};
+
+    ghost view = { λ r. remaining r.plans.items r.journal.items r.bans.items };
+
+    ghost invariant = { IsRoomy };
+}
+
+impl Residual {
+    ghost use Rattle.flow_residual.specs.Remaining.{IsLive, MayComeNext};
+    ghost use Rattle.flow_residual.specs.Possible.{IsOpenFor};
+
+    /// What is possible at the start.
+    pub fn new(alloc: Global, compiled: Compiled) -> Result<Residual, AllocError>
+        ensures options { IfOk result (λ r. r.options ≡ options_of compiled.plans) }
+        ensures journal { IfOk result (λ r. r.journal ≡ []) }
+        ensures bans { IfOk result (λ r. r.bans ≡ []) }
+    {
+        let plans = compiled.into_plans();
+        let fronts = no_fronts(alloc, &plans)?;
+        Ok(Residual {
+            journal: Vec::with_capacity(alloc, 1024)?,
+            bans: Vec::with_capacity(alloc, 1024)?,
+            plans,
+            fronts,
+        })
+    }
+
+    /// The leaves that count, in order.
+    pub fn journal(&self) -> &[u32]
+        ensures leaves { result.now ≡ self.now.journal }
+        ensures few { length self.now.journal ≤ 1024 }
+    {
+        &self.journal
+    }
+
+    /// The leaves of the journal.
+    pub(crate) fn done(&self) -> Progress
+        ensures bound { bound_of result ≡ 1024 }
+        ensures same { (n : ℕ) → IsDone result n ↔ (n ∈ self.now.journal) }
+    {
+        progress_of(&self.journal)
+    }
+
+    /// How many plans there are.
+    pub(crate) fn count(&self) -> usize
+        ensures { result ≡ length self.now.options }
+    {
+        self.plans.len()
+    }
+
+    /// The plan at that place.
+    pub(crate) fn plan(&self, place: usize) -> &Plan
+        requires { place < length self.now.options }
+        ensures at { slice_get self.now.options place ≡ Some (option_of result.now) }
+        ensures fits { HasSmallLeaves (option_of result.now) }
+    {
+        self.plans[place].plan()
+    }
+
+    /// Whether the journal is a ready run of the plan at that place.
+    pub(crate) fn follows(&self, place: usize) -> bool
+        requires { place < length self.now.options }
+        ensures { (o : ChoiceOption) → slice_get self.now.options place ≡ Some o →
+            IsTrue result ↔ IsReadyRun o.resolution o.order self.now.journal }
+    {
+        self.fronts[place] == self.journal.len()
+    }
+
+    /// Whether the plan holds no banned leaf.
+    fn is_unbanned(&self, place: usize) -> bool
+        requires { place < length self.now.options }
+        ensures { (o : ChoiceOption) → slice_get self.now.options place ≡ Some o →
+            IsTrue result ↔ Each (λ ban. ¬ (ban.1 ∈ leaves o.resolution)) self.now.bans }
+    {
+        is_unbanned(self.plans[place].plan(), &self.bans)
+    }
+
+    /// Whether the plan at that place is live.
+    pub(crate) fn is_live(&self, place: usize) -> bool
+        requires { place < length self.now.options }
+        ensures { (o : ChoiceOption) → slice_get self.now.options place ≡ Some o → IsTrue result ↔ IsLive self.now o }
+    {
+        self.follows(place) && self.is_unbanned(place)
+    }
+
+    /// Whether the plan at that place lets a run leave out what the journal has at the index, and keep all before it.
+    pub(crate) fn is_open_for(&self, place: usize, index: u32) -> bool
+        requires place { place < length self.now.options }
+        requires index { index < length self.now.journal }
+        ensures { (o : ChoiceOption) → slice_get self.now.options place ≡ Some o →
+            IsTrue result ↔ IsOpenFor self.now index o }
+    {
+        if self.fronts[place] < index as usize {
+            return false;
+        }
+        let plan = self.plans[place].plan();
+        !holds(plan, self.journal[index as usize]) && is_unbanned_up_to(plan, &self.bans, index)
+    }
+
+    /// The leaf is done.
+    pub fn push(&mut self, leaf: u32)
+        requires { MayComeNext self.old leaf }
+        ensures { self.new ≡ record self.old { journal = self.old.journal ++ leaf ∷ [] } }
+    {
+        lengthen(&self.plans, &mut self.fronts, &self.journal, leaf);
+        self.journal.push_reserved(leaf);
+    }
+
+    /// The leaf may no longer be in the run.
+    pub fn ban(&mut self, leaf: u32)
+        requires { MayComeNext self.old leaf }
+        ensures { self.new ≡ record self.old { bans = self.old.bans ++ (length self.old.journal, leaf) ∷ [] } }
+    {
+        let index = self.journal.len() as u32;
+        self.bans.push_reserved(Ban { index, leaf });
+    }
+
+    /// The journal ends before the index, and the leaf that it had there is banned. Later bans are lifted.
+    pub fn rewind_to(&mut self, index: u32)
+        requires { index < length self.old.journal }
+        ensures { self.new ≡ record self.old {
+          journal = take index self.old.journal;
+          bans = filter (λ ban. nat_le ban.0 index) self.old.bans ++ (index, slice_index self.old.journal index) ∷ [];
+        } }
+    {
+        let leaf = self.journal[index as usize];
+        self.bans.retain(|ban| ban.index <= index);
+        self.bans.push_reserved(Ban { index, leaf });
+        self.journal.truncate(index as usize);
+        shorten(&mut self.fronts, index as usize);
+    }
+}
