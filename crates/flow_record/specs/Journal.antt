@@ -1,31 +1,54 @@
--- A journal as text, a line a leaf.
-use Rattle.std.specs.Prelude.{ℕ, ◌<◌, List, [], ◌++◌, length, Option, Some, None, IsSomeAnd, All, slice_get, codes}
+-- Labels of leaves as text, and a journal, a line a leaf.
+use Rattle.std.specs.Prelude.{ℕ, ◌<◌, List, [], ◌++◌, length, Option, Some, None, All, slice_get, codes}
 use Rattle.std.specs.List.{flat_map}
 use Rattle.std.specs.Option.{unwrap_or}
 use Rattle.std.specs.Fmt.{decimal}
 use Rattle.flow_model.specs.declared.labels.Label.{Label}
-use Rattle.flow_model.specs.Facts.{event_at}
+use Rattle.flow_model.specs.declared.labels.Label.TheVariants.{Event, Test, Absent, Ins, Del}
+use Rattle.flow_facts.specs.Atom.{Atom}
+use Rattle.flow_facts.specs.Text.{fact_text}
+use Rattle.flow_workflow.specs.Definition.{Definition}
 
--- the leaf is an event's, and the event has a name
-abbrev pub IsNamed : List (List ℕ) → List Label → ℕ → Type 0
-IsNamed names labels leaf = IsSomeAnd (event_at labels leaf) (λ event. event < length names)
+-- the name of the event of that number
+abbrev pub event_name : Definition → ℕ → List ℕ
+event_name w e = unwrap_or (slice_get w.events e) []
 
--- each of the leaves is so
-abbrev pub AreNamed : List (List ℕ) → List Label → List ℕ → Type 0
-AreNamed names labels leaves = All (IsNamed names labels) leaves
-
--- the name of the event at a leaf
-abbrev pub name_at : List (List ℕ) → List Label → ℕ → List ℕ
-name_at names labels leaf = name (event_at labels leaf)
+-- the fact of that number
+abbrev pub fact_at : Definition → ℕ → List ℕ
+fact_at w f = text (slice_get w.facts f)
   where
-    name : Option ℕ → List ℕ
-    name None = []
-    name (Some event) = unwrap_or (slice_get names event) []
+    text : Option Atom → List ℕ
+    text None = []
+    text (Some a) = fact_text a
+
+-- an event's name, or what is asked of a fact or done to it
+abbrev pub label_text : Definition → Label → List ℕ
+label_text w (Event e) = event_name w e
+label_text w (Test f) = codes "?" ++ fact_at w f
+label_text w (Absent f) = codes "!" ++ fact_at w f
+label_text w (Ins f) = codes "ins " ++ fact_at w f
+label_text w (Del f) = codes "del " ++ fact_at w f
+
+-- the label of a leaf
+abbrev pub leaf_text : Definition → ℕ → List ℕ
+leaf_text w leaf = text (slice_get w.tree.labels leaf)
+  where
+    text : Option Label → List ℕ
+    text None = []
+    text (Some label) = label_text w label
+
+-- the leaf is one of the workflow's
+abbrev pub IsLeaf : Definition → ℕ → Type 0
+IsLeaf w leaf = leaf < length w.tree.labels
+
+-- each of them is one
+abbrev pub AreLeaves : Definition → List ℕ → Type 0
+AreLeaves w leaves = All (IsLeaf w) leaves
 
 -- the line of a leaf, with its line feed
-abbrev pub leaf_line : List (List ℕ) → List Label → ℕ → List ℕ
-leaf_line names labels leaf = decimal leaf ++ codes " " ++ name_at names labels leaf ++ codes "\n"
+abbrev pub leaf_line : Definition → ℕ → List ℕ
+leaf_line w leaf = decimal leaf ++ codes " " ++ leaf_text w leaf ++ codes "\n"
 
 -- the lines of the leaves
-abbrev pub journal_text : List (List ℕ) → List Label → List ℕ → List ℕ
-journal_text names labels leaves = flat_map (leaf_line names labels) leaves
+abbrev pub journal_text : Definition → List ℕ → List ℕ
+journal_text w leaves = flat_map (leaf_line w) leaves

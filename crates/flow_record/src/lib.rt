@@ -15,7 +15,7 @@ mod words;
 
 pub use command::Command;
 pub use history::print_history;
-pub use journal::print_journal;
+pub use journal::{print_journal, print_label};
 pub use lines::place_of_feed;
 pub use refusal::RecordRefusal;
 pub use session::read_session;

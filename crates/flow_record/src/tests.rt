@@ -1,7 +1,14 @@
-use crate::{print_history, print_journal, read_session};
-use flow_facts::Name;
-use flow_goal::{Goal, Label, Tree};
-use flow_model::{Entry, FailEffect, Step};
+ghost use Rattle.std.specs.Prelude.{◌≡◌, [], ◌∷◌, length, codes, IfOk};
+ghost use Rattle.flow_facts.specs.Atom.{atom};
+ghost use Rattle.flow_model.specs.declared.labels.Label.TheVariants.{Event, Test, Absent, Ins, Del};
+
+use crate::{print_history, print_journal, print_label, read_session};
+use flow_facts::{Const, Fact, FactTable, Name};
+use flow_goal::{Goal, Tree, twice};
+use flow_model::{Entry, FailEffect, Label, Note, Step};
+use flow_workflow::Workflow;
+use indexmap::IndexSet;
+use std::alloc::{AllocError, Global};
 use std::test::Fail;
 
 #[test]
@@ -76,15 +83,87 @@ fn prints_histories(rt: HostRuntime) -> Result<(), Fail> {
     Ok(())
 }
 
+/// The event `a`.
+fn events(alloc: Global) -> Result<IndexSet<Name>, Fail>
+    ensures { IfOk result (λ events. events.keys ≡ codes "a" ∷ []) }
+{
+    let mut events = IndexSet::new(alloc);
+    events.insert(Name::new(alloc, b"a")?)?;
+    Ok(events)
+}
+
+fn fact(alloc: Global, relation: &[u8], args: Vec<Const>) -> Result<Fact, AllocError>
+    ensures { IfOk result (λ fact. fact ≡ atom relation.now args.items) }
+{
+    Ok(Fact::new(Name::new(alloc, relation)?, args))
+}
+
+/// The facts `p(x)`, `p(1)` and `q`.
+fn facts(alloc: Global) -> Result<FactTable, Fail>
+    ensures { IfOk result (λ facts. length facts ≡ 3) }
+{
+    let word = Const::Word(Name::new(alloc, b"x")?);
+    let facts = vec![in alloc;
+        fact(alloc, b"p", vec![in alloc; word]?)?,
+        fact(alloc, b"p", vec![in alloc; Const::Number(1)]?)?,
+        fact(alloc, b"q", Vec::new(alloc))?,
+    ]?;
+    Ok(FactTable::new(facts))
+}
+
+/// The leaves `a`, `?p(x)`, `!p(1)`, `ins q` and `del q`, one after the other.
+fn tree(alloc: Global) -> Result<Tree, Fail>
+    ensures { IfOk result (λ tree. tree.labels ≡ Event 0 ∷ Test 0 ∷ Absent 1 ∷ Ins 2 ∷ Del 2 ∷ []) }
+{
+    let labels = [
+        Label::Event(0),
+        Label::Test(0),
+        Label::Absent(1),
+        Label::Ins(2),
+        Label::Del(2),
+    ];
+    let mut goal = Goal::Leaf(0);
+    for leaf in 1..5 {
+        goal = Goal::Serial(Box::new(alloc, goal)?, Box::new(alloc, Goal::Leaf(leaf))?);
+    }
+    Ok(Tree::new(goal, Vec::from_slice(alloc, &labels)?)?)
+}
+
+/// The workflow of that tree.
+fn workflow(alloc: Global) -> Result<Workflow, Fail>
+    ensures { IfOk result (λ workflow. length workflow.tree.labels ≡ 5) }
+{
+    let tree = tree(alloc)?;
+    if twice(&tree).is_some() {
+        return Err(Fail::from("an event twice"));
+    }
+    let notes = vec![in alloc; Note::Done]?;
+    let held = Vec::new(alloc);
+    Ok(Workflow::new(alloc, events(alloc)?, notes, facts(alloc)?, held, tree))
+}
+
+#[test]
+fn prints_labels(rt: HostRuntime) -> Result<(), Fail> {
+    let workflow = workflow(rt.alloc())?;
+    for (leaf, want) in [
+        (0, "a"),
+        (1, "?p(x)"),
+        (2, "!p(1)"),
+        (3, "ins q"),
+        (4, "del q"),
+    ] {
+        let label = print_label(rt.alloc(), &workflow, leaf)?;
+        assert_eq!(rt; label.as_slice(), want.as_bytes(), "{want}");
+    }
+    Ok(())
+}
+
 #[test]
 fn prints_journals(rt: HostRuntime) -> Result<(), Fail> {
-    let names = [
-        Name::new(rt.alloc(), b"check_form")?,
-        Name::new(rt.alloc(), b"pick")?,
-    ];
-    let labels = vec![in rt.alloc(); Label::Event(1)]?;
-    let tree = Tree::new(Goal::Leaf(0), labels).ok().ok_or("numbered")?;
-    let text = print_journal(rt.alloc(), &names, &tree, &[0, 0])?;
-    assert_eq!(rt; text.as_slice(), b"0 pick\n0 pick\n".as_slice());
+    let workflow = workflow(rt.alloc())?;
+    let text = print_journal(rt.alloc(), &workflow, &[4, 0, 1, 0])?;
+    assert_eq!(rt; text.as_slice(), b"4 del q\n0 a\n1 ?p(x)\n0 a\n".as_slice());
+    let empty = print_journal(rt.alloc(), &workflow, &[])?;
+    assert!(rt; empty.is_empty());
     Ok(())
 }
