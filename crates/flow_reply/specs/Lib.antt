@@ -2,3 +2,4 @@ pub mod Cut
 pub mod Reply
 pub mod Report
 pub mod Refusing
+pub mod Checking

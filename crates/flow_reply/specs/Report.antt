@@ -3,10 +3,10 @@ use Rattle.std.specs.Prelude.{ℕ, List, [], ◌++◌, length, codes}
 use Rattle.std.specs.List.{flat_map}
 use Rattle.std.specs.Fmt.{decimal}
 use Rattle.flow_model.specs.declared.history.Entry.{Entry}
-use Rattle.flow_model.specs.declared.labels.Label.{Label}
 use Rattle.flow_model.specs.Verdict as verdict
 use Rattle.flow_record.specs.History.{history_text}
 use Rattle.flow_record.specs.Journal.{journal_text}
+use Rattle.flow_workflow.specs.Definition.{Definition}
 use Rattle.flow_reply.specs.declared.verdict.Verdict.{Verdict}
 use Rattle.flow_reply.specs.declared.verdict.Verdict.TheVariants.{Committed, Spent, NoOther, Stuck, Unfinished}
 
@@ -35,8 +35,8 @@ verdict_text (verdict.stuck waiting) = codes "stuck" ++ flat_map (λ leaf. codes
 verdict_text verdict.unfinished = codes "unfinished"
 
 -- the whole report, each line with its line feed
-abbrev pub report_text : List (List ℕ) → List Label → List Entry → List ℕ → verdict.Verdict → List ℕ
-report_text names labels history journal verdict =
+abbrev pub report_text : Definition → List Entry → List ℕ → verdict.Verdict → List ℕ
+report_text w history journal verdict =
     codes "history " ++ decimal (length history) ++ codes "\n" ++ history_text history
-    ++ codes "journal " ++ decimal (length journal) ++ codes "\n" ++ journal_text names labels journal
+    ++ codes "journal " ++ decimal (length journal) ++ codes "\n" ++ journal_text w journal
     ++ codes "verdict " ++ verdict_text verdict ++ codes "\n"

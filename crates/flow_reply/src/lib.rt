@@ -2,15 +2,21 @@
 #![tactic(auto)]
 
 mod answer;
+mod checking;
+mod numbered;
 mod refused;
 mod reply;
 mod report;
 mod source;
 #[cfg(test)]
 mod tests;
+mod uncompiled;
+mod unexpanded;
+mod unread;
 mod verdict;
 
 pub use answer::Answer;
+pub use checking::print_check;
 pub use flow_record::Command;
 pub use refused::{Refused, print_refused};
 pub use reply::print_reply;

@@ -1,34 +1,32 @@
 ghost use Rattle.std.specs.Prelude.{◌≡◌, ◌++◌, codes, IfOk};
-ghost use Rattle.flow_record.specs.Journal.{AreNamed};
+ghost use Rattle.flow_record.specs.Journal.{AreLeaves};
 ghost use Rattle.flow_reply.specs.Report.{meaning, IsOfDrive, verdict_text, report_text};
 
 use crate::verdict::Verdict;
 use flow_core::Entry;
-use flow_facts::Name;
-use flow_goal::Tree;
 use flow_record::{print_history, print_journal};
+use flow_workflow::Workflow;
 use std::alloc::{AllocError, Global};
 
 /// Prints the report of a driven session.
 pub fn print_report(
     alloc: Global,
-    names: &[Name],
-    tree: &Tree,
+    workflow: &Workflow,
     history: &[Entry],
     journal: &[u32],
     verdict: &Verdict,
 ) -> Result<Vec<u8>, AllocError>
-    requires named { AreNamed names.now tree.now.labels journal.now }
+    requires leaves { AreLeaves workflow.now journal.now }
     requires drive { IsOfDrive verdict.now }
     ensures { IfOk result (λ text.
-        text.items ≡ report_text names.now tree.now.labels history.now journal.now (meaning verdict.now)) }
+        text.items ≡ report_text workflow.now history.now journal.now (meaning verdict.now)) }
 {
     let entries = history.len();
     let leaves = journal.len();
     let mut text = format!(in alloc; "history {entries}\n")?.into_bytes();
     text.extend_from_slice(&print_history(alloc, history)?)?;
     text.extend_from_slice(format!(in alloc; "journal {leaves}\n")?.as_bytes())?;
-    text.extend_from_slice(&print_journal(alloc, names, tree, journal)?)?;
+    text.extend_from_slice(&print_journal(alloc, workflow, journal)?)?;
     text.extend_from_slice(verdict_line(verdict))?;
     Ok(text)
 }
