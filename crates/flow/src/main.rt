@@ -1,5 +1,5 @@
-//! `flow` on the standard streams: `flow drive` reads a workflow and a session, and writes the replies
-//! and the report.
+//! `flow` on the standard streams: `flow check` reads a workflow and says whether its constraints can be
+//! met; `flow drive` reads a workflow and a session, and writes the replies and the report.
 #![tactic(auto)]
 
 use flow_cli::{Status, flow};

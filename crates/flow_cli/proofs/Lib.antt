@@ -1,12 +1,6 @@
 pub mod Serving
-pub mod CallWords
-pub mod Driving
-pub mod IndexSteps
-pub mod IndexLemmas
-pub mod Labels
-pub mod Members
-pub mod Numbering
-pub mod Finding
-pub mod Running
-pub mod Grouped
+pub mod Sessions
+pub mod Numbered
+pub mod PlainTrees
+pub mod Compiled
 pub mod Inputs

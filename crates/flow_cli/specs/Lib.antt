@@ -1,7 +1,8 @@
 pub mod Code
+pub mod Words
 pub mod Refusals
-pub mod Written
-pub mod Index
-pub mod Simple
+pub mod Checking
+pub mod Driveable
 pub mod Drive
+pub mod Driving
 pub mod Output

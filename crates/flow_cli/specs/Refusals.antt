@@ -1,8 +1,24 @@
--- The status of a refusal.
+-- Refusals: their status, and what is written.
+use Rattle.std.specs.Prelude.{◌≡◌, ℕ, List}
+use Rattle.flow_form.specs.Script.{Said}
+use Rattle.flow_form.specs.Names.{event_names}
+use Rattle.flow_expand.specs.declared.refusal.ExpandRefusal.{ExpandRefusal}
+use Rattle.flow_expand.specs.Refusals.{IsRefusal}
+use Rattle.flow_excise.specs.declared.refusal.CompileRefusal.{CompileRefusal}
+use Rattle.flow_excise.specs.declared.refusal.CompileRefusal.TheVariants.{TooManyChoices, TooManyWays, TooBulky, Inconsistent, NoMemory}
 use Rattle.flow_reply.specs.declared.refused.Refused.{Refused}
 use Rattle.flow_reply.specs.declared.refused.Refused.TheVariants as refused
+use Rattle.flow_reply.specs.Refusing.{refused_text, IsOfWorkflow}
 use Rattle.flow_cli.specs.declared.status.Status.{Status}
-use Rattle.flow_cli.specs.declared.status.Status.TheVariants.{Words, Input, ReadFault}
+use Rattle.flow_cli.specs.declared.status.Status.TheVariants.{No, Words, Input, ReadFault}
+
+-- a workflow that no execution meets is an answer, and one that is too large is none
+abbrev pub status_of_compiling : CompileRefusal → Status
+status_of_compiling (TooManyChoices count) = Input
+status_of_compiling (TooManyWays count) = Input
+status_of_compiling (TooBulky count) = Input
+status_of_compiling (Inconsistent dropped) = No
+status_of_compiling NoMemory = Input
 
 abbrev pub status_of : Refused → Status
 status_of refused.Words = Words
@@ -10,3 +26,18 @@ status_of refused.Read = ReadFault
 status_of refused.TooLong = Input
 status_of refused.Unbuilt = Input
 status_of (refused.Text refusal) = Input
+status_of (refused.Record refusal) = Input
+status_of (refused.Expand refusal) = Input
+status_of (refused.Compile refusal) = status_of_compiling refusal
+
+-- the status and the output are those of the refusal, events by these names
+pub record Tells (events : List (List ℕ)) (r : Refused) (status : Status) (output : List ℕ) : Type 0 where
+  pub status_is : status ≡ status_of r
+  pub output_is : output ≡ refused_text events r
+
+-- what is said cannot be expanded, and the output is the first reason
+pub record IsNotExpanded (s : Said) (status : Status) (output : List ℕ) : Type 0 where
+  pub refusal : ExpandRefusal
+  pub of_workflow : IsOfWorkflow (event_names s.decls) refusal
+  pub first : IsRefusal s refusal
+  pub told : Tells (event_names s.decls) (refused.Expand refusal) status output

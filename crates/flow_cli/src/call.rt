@@ -1,20 +1,19 @@
-ghost use Rattle.std.specs.Prelude.{◌≡◌, ◌<◌, ◌≤◌, ◌+◌, ◌-◌, ◌^◌, ◌↔◌, ◌⊎◌, ℕ, List, [], map, length, Some, None, IfOk, IfErr, IfSome};
+ghost use Rattle.std.specs.Prelude.{◌≡◌, ◌<◌, ◌≤◌, ◌-◌, ◌^◌, ◌↔◌, ◌⊎◌, ℕ, List, [], map, length, Some, IfOk, IfSome};
 ghost use Rattle.std.specs.String.{string_bytes};
 ghost use Rattle.std.specs.Io.KnownBytes.{Appends};
+ghost use Rattle.flow_form.specs.Script.{said};
+ghost use Rattle.flow_form.specs.Names.{IsClosed};
 ghost use Rattle.flow_io.specs.Sink.{AppendsPart};
-ghost use Rattle.flow_text.specs.Parsing.{IsParseRefusal};
 ghost use Rattle.flow_cli.specs.declared.status.Status.{Status};
-ghost use Rattle.flow_cli.specs.Written.{written, IsSimple};
-ghost use Rattle.flow_cli.specs.Output.{greatest_input, workflow_part, IsInput, IsUnbuilt, WritesFor, Writes, IsWhole, IsOver};
+ghost use Rattle.flow_cli.specs.Output.{greatest_input, WritesSaid, WritesFor, Writes, IsWhole, IsOfInput, IsOver};
 
+use crate::checking::check;
+use crate::driving::drive;
 use crate::output::{Output, refuse};
-use crate::session::{are_served, drive};
-use crate::simple::workflow_of;
 use crate::status::Status;
-use crate::words::is_call;
-use crate::workflow::Workflow;
+use crate::words::{Mode, mode_of};
+use flow_form::Script;
 use flow_io::{ReadRefusal, Sink, Source, read_all, write_all};
-use flow_record::{Command, RecordRefusal, read_session};
 use flow_reply::{Refused, cut};
 use flow_text::{TextRefusal, parse};
 use std::alloc::{AllocError, Global};
@@ -22,41 +21,33 @@ use std::alloc::{AllocError, Global};
 /// The greatest number of bytes that are read.
 const GREATEST_INPUT: usize = 1_048_576;
 
-/// What is read of an input: a workflow and the commands of its session. `None` where the engine does
-/// not run it so far.
-fn read_input(alloc: Global, input: &[u8]) -> Result<Option<(Workflow, Vec<Command>)>, TextRefusal>
-    ensures found { IfOk result (λ read. IfSome read (λ r. IsInput input.now (written r.0) r.1.items)) }
-    ensures simple { IfOk result (λ read. IfSome read (λ r. IsSimple (written r.0))) }
-    ensures none { IfOk result (λ read. read ≡ None → IsUnbuilt input.now) }
-    ensures refused { IfErr result (λ refusal. IsParseRefusal (workflow_part input.now) refusal) }
+/// What the mode writes for a script and the text that follows it.
+fn answer_script(
+    alloc: Global,
+    mode: Mode,
+    script: &Script,
+    text: &[u8],
+) -> Result<Output, AllocError>
+    requires { IsClosed (said script.now) }
+    ensures { IfOk result (λ output. WritesSaid mode (said script.now) text.now output.status output.text.items) }
 {
-    let (end, second) = cut(input);
-    let script = parse(alloc, &input[..end])?;
-    let Some(workflow) = workflow_of(alloc, script)? else {
-        return Ok(None);
-    };
-    let commands = match read_session(alloc, &input[second..]) {
-        Ok(commands) => commands,
-        Err(RecordRefusal::BadLine { .. }) => return Ok(None),
-        Err(RecordRefusal::NoMemory) => return Err(TextRefusal::NoMemory),
-    };
-    if are_served(&commands) {
-        Ok(Some((workflow, commands)))
-    } else {
-        Ok(None)
+    match mode {
+        Mode::Drive => drive(alloc, script, text),
+        Mode::Check => check(alloc, script),
     }
 }
 
-/// What is written for an input.
-fn answer(alloc: Global, input: &[u8]) -> Result<Output, AllocError>
+/// What the mode writes for an input.
+fn answer(alloc: Global, mode: Mode, input: &[u8]) -> Result<Output, AllocError>
     requires { length input.now ≤ greatest_input }
-    ensures { IfOk result (λ output. WritesFor input.now output.status output.text.items) }
+    ensures writes { IfOk result (λ output. WritesFor mode input.now output.status output.text.items) }
+    ensures of_input { IfOk result (λ output. IsOfInput output.status) }
 {
-    match read_input(alloc, input) {
-        Ok(Some((workflow, commands))) => drive(alloc, workflow, &commands),
-        Ok(None) => refuse(alloc, &Refused::Unbuilt),
+    let (end, second) = cut(input);
+    match parse(alloc, &input[..end]) {
+        Ok(script) => answer_script(alloc, mode, &script, &input[second..]),
         Err(TextRefusal::NoMemory) => Err(AllocError),
-        Err(refusal) => refuse(alloc, &Refused::Text(refusal)),
+        Err(refusal) => refuse(alloc, &Refused::Text(refusal), None),
     }
 }
 
@@ -70,19 +61,20 @@ fn respond<S: Source>(alloc: Global, words: &[String], source: &mut S) -> Result
     ensures fault { IfOk result (λ output. (output.status ≡ Status.ReadFault) ↔ (S.faults source.old < S.faults source.new)) }
     ensures end { IfOk result (λ output. IsOver output.status → IfSome (S.left source.old) (λ _. S.left source.new ≡ Some [])) }
 {
-    if !is_call(words) {
-        return refuse(alloc, &Refused::Words);
-    }
+    let Some(mode) = mode_of(words) else {
+        return refuse(alloc, &Refused::Words, None);
+    };
     match read_all(alloc, source, GREATEST_INPUT) {
-        Ok(input) => answer(alloc, &input),
-        Err(ReadRefusal::ReadFault) => refuse(alloc, &Refused::Read),
-        Err(ReadRefusal::TooLong) => refuse(alloc, &Refused::TooLong),
+        Ok(input) => answer(alloc, mode, &input),
+        Err(ReadRefusal::ReadFault) => refuse(alloc, &Refused::Read, None),
+        Err(ReadRefusal::TooLong) => refuse(alloc, &Refused::TooLong, None),
         Err(ReadRefusal::NoMemory) => Err(AllocError),
     }
 }
 
-/// The program: reads a workflow and a session from the source, drives it, and writes the replies and
-/// the report to the sink. Want of memory may stand in place of every status but a write fault.
+/// The program: reads a workflow from the source, with a session after it where the mode drives it, and
+/// writes to the sink what comes of it. Want of memory may stand in place of every status but a write
+/// fault.
 pub fn flow<S: Source, K: Sink>(
     alloc: Global,
     words: &[String],
@@ -102,7 +94,7 @@ pub fn flow<S: Source, K: Sink>(
         × AppendsPart (K.held sink.old) (K.held sink.new) output)) }
     ensures nothing { result ≡ Status.Memory → K.held sink.new ≡ K.held sink.old }
 
-    // When each fault is told; what wrong words leave of the source, and where a session stands on a
+    // When each fault is told; what wrong words leave of the source, and which answers stand on a
     // source read to its end.
     ensures write_fault { (result ≡ Status.WriteFault) ↔ (K.faults sink.old < K.faults sink.new) }
     ensures read_fault { result ≡ Status.ReadFault → S.faults source.old < S.faults source.new }

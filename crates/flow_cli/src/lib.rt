@@ -2,17 +2,15 @@
 #![tactic(auto)]
 
 mod call;
-mod leaves;
-mod names;
+mod checking;
+mod driveable;
+mod driving;
 mod output;
-mod plain;
 mod session;
-mod simple;
 mod status;
 #[cfg(test)]
 mod tests;
 mod words;
-mod workflow;
 
 pub use call::flow;
 pub use status::Status;

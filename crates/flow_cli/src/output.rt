@@ -1,8 +1,13 @@
 ghost use Rattle.std.specs.Prelude.{◌≡◌, IfOk};
-ghost use Rattle.flow_reply.specs.Refusing.{refused_text, IsTold};
-ghost use Rattle.flow_cli.specs.Refusals.{status_of};
+ghost use Rattle.flow_form.specs.Script.{said};
+ghost use Rattle.flow_expand.specs.Refusals.{IsRefusal};
+ghost use Rattle.flow_reply.specs.Refusing.{named_by, IsTold};
+ghost use Rattle.flow_cli.specs.Refusals.{status_of, status_of_compiling, Tells, IsNotExpanded};
 
 use crate::status::Status;
+use flow_excise::CompileRefusal;
+use flow_expand::ExpandRefusal;
+use flow_form::Script;
 use flow_reply::{Refused, print_refused};
 use std::alloc::{AllocError, Global};
 
@@ -13,6 +18,19 @@ pub struct Output {
     pub text: Vec<u8>,
 }
 
+/// The status where a workflow is not compiled.
+fn status_of_compiling(refusal: &CompileRefusal) -> Status
+    ensures { result ≡ status_of_compiling refusal.now }
+{
+    match refusal {
+        CompileRefusal::Inconsistent { .. } => Status::No,
+        CompileRefusal::TooManyChoices { .. }
+        | CompileRefusal::TooManyWays { .. }
+        | CompileRefusal::TooBulky { .. }
+        | CompileRefusal::NoMemory => Status::Input,
+    }
+}
+
 /// The status of a refusal.
 fn status_of(refused: &Refused) -> Status
     ensures { result ≡ status_of refused.now }
@@ -20,17 +38,41 @@ fn status_of(refused: &Refused) -> Status
     match refused {
         Refused::Words => Status::Words,
         Refused::Read => Status::ReadFault,
-        Refused::TooLong | Refused::Unbuilt | Refused::Text(_) => Status::Input,
+        Refused::TooLong
+        | Refused::Unbuilt
+        | Refused::Text(_)
+        | Refused::Record(_)
+        | Refused::Expand(_) => Status::Input,
+        Refused::Compile(refusal) => status_of_compiling(refusal),
     }
 }
 
-/// A refusal as output.
-pub fn refuse(alloc: Global, refused: &Refused) -> Result<Output, AllocError>
-    requires { IsTold refused.now }
-    ensures { IfOk result (λ output. (output.status ≡ status_of refused.now) × (output.text.items ≡ refused_text refused.now)) }
+/// A refusal as output, the events by the names that the script declares.
+pub fn refuse(
+    alloc: Global,
+    refused: &Refused,
+    script: Option<&Script>,
+) -> Result<Output, AllocError>
+    requires { IsTold (named_by script) refused.now }
+    ensures { IfOk result (λ output. Tells (named_by script.entry) refused.now output.status output.text.items) }
 {
     Ok(Output {
         status: status_of(refused),
-        text: print_refused(alloc, refused)?,
+        text: print_refused(alloc, refused, script)?,
     })
+}
+
+/// Why a script is not expanded, as output.
+pub fn refuse_script(
+    alloc: Global,
+    refusal: ExpandRefusal,
+    script: &Script,
+) -> Result<Output, AllocError>
+    requires { IsRefusal (said script.now) refusal }
+    ensures { IfOk result (λ output. IsNotExpanded (said script.now) output.status output.text.items) }
+{
+    match refusal {
+        ExpandRefusal::NoMemory => Err(AllocError),
+        refusal => refuse(alloc, &Refused::Expand(refusal), Some(script)),
+    }
 }

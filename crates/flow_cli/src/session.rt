@@ -4,13 +4,13 @@ ghost use Rattle.flow_model.specs.Verdict.{drive_verdict};
 ghost use Rattle.flow_reply.specs.Reply.{IsAnswerTo, HasNamedCall};
 ghost use Rattle.flow_reply.specs.Report.{IsOfDrive, meaning};
 ghost use Rattle.flow_cli.specs.Drive.{Answers, RepliesTo, Drives, SameRun};
-ghost use Rattle.flow_cli.specs.Written.{written, IsSimple};
-ghost use Rattle.flow_cli.specs.Output.{IsServed, HasNames, Records, ended};
+ghost use Rattle.flow_cli.specs.Driveable.{IsServed, IsBuilt};
+ghost use Rattle.flow_cli.specs.Driving.{HasNames, Records, ended};
 
 use crate::output::Output;
 use crate::status::Status;
-use crate::workflow::Workflow;
 use flow_core::Core;
+use flow_expand::Workflow;
 use flow_facts::Name;
 use flow_reply::{Answer, Command, Verdict, print_reply, print_report};
 use std::alloc::{AllocError, Global};
@@ -20,34 +20,6 @@ const DRIVER: u32 = 0;
 
 /// The greatest length of a history.
 const STEP_LIMIT: u32 = 65_536;
-
-/// Whether the engine serves the command so far.
-pub fn is_served(command: &Command) -> bool
-    ensures { IsTrue result ↔ IsServed command.now }
-{
-    match command {
-        Command::Take(_) | Command::Done(_) | Command::Commit => true,
-        Command::Do(_)
-        | Command::Fail(_)
-        | Command::Rewind
-        | Command::Next
-        | Command::Enabled
-        | Command::Journal
-        | Command::Facts => false,
-    }
-}
-
-/// Whether the engine serves each of the commands so far.
-pub fn are_served(commands: &[Command]) -> bool
-    ensures { IsTrue result ↔ Each IsServed commands.now }
-{
-    for command in commands {
-        if !is_served(command) {
-            return false;
-        }
-    }
-    true
-}
 
 /// Gives a command to the core.
 fn serve(core: &mut Core, command: &Command) -> Answer
@@ -127,24 +99,16 @@ fn status_of(verdict: &Verdict) -> Status
     }
 }
 
-/// Drives a workflow by the commands: the replies, and then the report.
-pub fn drive(alloc: Global, workflow: Workflow, commands: &[Command]) -> Result<Output, AllocError>
-    requires simple { IsSimple (written workflow) }
-    requires served { Each IsServed commands.now }
-    ensures { IfOk result (λ output. Records (written workflow) commands.now output.status output.text.items) }
+/// Runs a workflow by the commands: the replies, and then the report.
+pub fn run(alloc: Global, workflow: &Workflow, commands: &[Command]) -> Result<Output, AllocError>
+    requires { IsBuilt workflow.now commands.now }
+    ensures { IfOk result (λ output. Records workflow.now commands.now output.status output.text.items) }
 {
-    let Workflow { events, tree } = workflow;
+    let tree = workflow.tree().copy(alloc)?;
     let mut core = Core::start(alloc, tree, STEP_LIMIT)?;
-    let mut text = reply_to_all(alloc, &events, &mut core, commands)?;
+    let mut text = reply_to_all(alloc, workflow.events(), &mut core, commands)?;
     let verdict = verdict_of(&core);
-    let report = print_report(
-        alloc,
-        &events,
-        core.tree(),
-        core.history(),
-        core.journal(),
-        &verdict,
-    )?;
+    let report = print_report(alloc, workflow, core.history(), core.journal(), &verdict)?;
     text.extend_from_slice(&report)?;
     let status = status_of(&verdict);
     Ok(Output { status, text })

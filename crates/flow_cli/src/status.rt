@@ -4,13 +4,13 @@ ghost use Rattle.flow_cli.specs.Code.{code_of};
 /// How a call ended. A process ends with its number, in this order from 0.
 #[derive(Clone, Copy, Debug, PartialEq, Eq)]
 pub enum Status {
-    /// The run is committed.
+    /// The run is committed, or some execution meets the constraints.
     Fine,
-    /// The run is not over.
+    /// The run is not over, or no execution meets the constraints.
     No,
     /// The words are no call of the program.
     Words,
-    /// The input is no workflow with a session.
+    /// The input is not what the mode asks for, or too large.
     Input,
     /// The source failed.
     ReadFault,

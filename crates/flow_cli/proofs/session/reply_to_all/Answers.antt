@@ -1,5 +1,5 @@
 use Rattle.std.proofs.Common.{◌≡◌, List, ℕ, ◌++◌, ap, ◌∙◌}
-use Rattle.flow_cli.proofs.Driving.{drives-next}
+use Rattle.flow_cli.proofs.Sessions.{drives-next}
 use Rattle.flow_cli.proofs.session.reply_to_all.Goals as goal
 
 pub loop-command-preserved : goal.loop-command-preserved
