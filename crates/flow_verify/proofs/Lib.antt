@@ -1,0 +1,4 @@
+mod Executions
+mod Negations
+mod Removals
+mod Trials

@@ -1,0 +1,56 @@
+-- A workflow with the negation of a property as one constraint more.
+use Rattle.std.proofs.Common.{◌≡◌, ℕ, List, [], ◌∷◌, ◌++◌, Vec, Box, Global, sym, ap, ◌∙◌, subst}
+use Rattle.std.proofs.lemmas.List.{map-append}
+use Rattle.flow_model.specs.Facts.{events_of}
+use Rattle.flow_model.specs.Constraint.{Constraint, Not, Meets}
+use Rattle.flow_model.specs.Schema.{Schema, IsGood}
+use Rattle.flow_laws.specs.Words.{IsConsistent}
+use Rattle.flow_laws.proofs.ListLemmas2.{each-append, each_parts}
+use Rattle.flow_laws.proofs.NormalForms.{meets_or_not, not_not}
+use Rattle.flow_rules.specs.declared.rule.Rule as rule
+use Rattle.flow_rules.specs.declared.rule.Rule.{Rule}
+use Rattle.flow_rules.specs.declared.rule.Rule.TheOpen as open_rule
+use Rattle.flow_rules.specs.declared.rule.Rule.TheVariants.{rolls-Not}
+use Rattle.flow_rules.specs.declared.rule.Rule.TheFolds.{fold-roll-Rule}
+use Rattle.flow_rules.specs.Rule.{rule_step, rule_of, rules_of}
+use Rattle.flow_excise.specs.Compilation.{IsWithinLimits}
+use Rattle.flow_excise.specs.Options.{schema_of}
+use Rattle.flow_goal.specs.Labelled.{Labelled}
+use Rattle.flow_verify.specs.declared.answers.Verified.TheVariants.{Holds, Fails}
+use Rattle.flow_verify.specs.Verification.{against, TellsOfProperty}
+
+-- an execution that meets the negation too does not meet the property
+pub fails_by : (w : Schema) (p : Constraint) (t : List ℕ) → IsGood (against w p) t → IsGood w t × ¬ (Meets p (events_of w.labels t))
+fails_by w p t (trace, met) =
+    let (kept, (not_met, _)) = each_parts (λ c. Meets c (events_of w.labels t)) w.rules (Not p ∷ []) met in
+    ((trace, kept), not_met)
+
+-- where none meets the negation too, each meets the property
+pub holds_where_none : (w : Schema) (p : Constraint) → ¬ (IsConsistent (against w p)) →
+    (t : List ℕ) → IsGood w t → Meets p (events_of w.labels t)
+holds_where_none w p none t (trace, met) =
+    not_not (meets_or_not p (events_of w.labels t))
+    (λ n. none (t, (trace, each-append (λ c. Meets c (events_of w.labels t)) w.rules (Not p ∷ []) met (n, tt))))
+
+-- The constraints where a rule is negated and put last
+
+rule_of-Not : (part : Box Rule Global) → rule_of (rule.Not part) ≡ Not (rule_of part.value)
+rule_of-Not part = ap rule_of (sym (rolls-Not part)) ∙ fold-roll-Rule Constraint rule_step (open_rule.Not part)
+
+pub negated_last : (rules more : List Rule) (part : Box Rule Global) (property : Rule) →
+    more ≡ rules ++ rule.Not part ∷ [] → part.value ≡ property → rules_of more ≡ rules_of rules ++ Not (rule_of property) ∷ []
+negated_last rules more part property pushed boxed =
+    ap rules_of pushed ∙ map-append rule_of rules (rule.Not part ∷ [])
+    ∙ ap (λ c. rules_of rules ++ c ∷ []) (rule_of-Not part ∙ ap (λ r. Not (rule_of r)) boxed)
+
+-- What an execution, or none, that meets the rules with the negation among them tells of the property
+
+module _ (t : Labelled) (rules more : List Rule) (p : Constraint) (same : rules_of more ≡ rules_of rules ++ Not p ∷ []) where
+  pub tells_fails : (e : Vec ℕ Global) → IsGood (schema_of t (rules_of more)) e.items → TellsOfProperty (schema_of t (rules_of rules)) p (Fails e)
+  tells_fails e good = fails_by (schema_of t (rules_of rules)) p e.items (subst (λ cs. IsGood (schema_of t cs) e.items) same good)
+
+  pub tells_holds : ¬ (IsConsistent (schema_of t (rules_of more))) → TellsOfProperty (schema_of t (rules_of rules)) p Holds
+  tells_holds none = holds_where_none (schema_of t (rules_of rules)) p (subst (λ cs. ¬ (IsConsistent (schema_of t cs))) same none)
+
+  pub within_with : IsWithinLimits (schema_of t (rules_of more)) → IsWithinLimits (against (schema_of t (rules_of rules)) p)
+  within_with k = subst (λ cs. IsWithinLimits (schema_of t cs)) same k

@@ -1,0 +1,66 @@
+-- What is told of a workflow in which nothing holds at the start and nothing is noted is told of the workflow.
+use Rattle.std.proofs.Common.{◌≡◌, ℕ, List, [], Vec, Global, slice_get, Some, subst}
+use Rattle.flow_model.specs.Facts.{events_of}
+use Rattle.flow_model.specs.Constraint.{Constraint, Meets}
+use Rattle.flow_model.specs.Schema.{Schema, IsGood}
+use Rattle.flow_laws.proofs.ListLemmas2.{each_member}
+use Rattle.flow_facts.proofs.Places.{mem-slice_get}
+use Rattle.flow_excise.specs.Compilation.{IsWithinLimits}
+use Rattle.flow_verify.specs.declared.answers.Verified.TheVariants.{Holds, Fails}
+use Rattle.flow_verify.specs.declared.answers.Redundancy.TheVariants.{Redundant, Needed}
+use Rattle.flow_verify.specs.declared.refusal.VerifyRefusal.{VerifyRefusal}
+use Rattle.flow_verify.specs.declared.refusal.VerifyRefusal.TheVariants.{TooManyChoices, TooManyWays, TooBulky, NoRule, NoMemory}
+use Rattle.flow_verify.specs.Verification.{against, without, TellsOfProperty, TellsOfConstraint, IsRefused}
+use Rattle.flow_goal.specs.Labelled.{Labelled}
+use Rattle.flow_workflow.specs.Definition.{Definition, schema_of}
+use Rattle.flow_excise.specs.Options as options
+use Rattle.flow_verify.proofs.Removals.{each_with}
+
+-- the workflow with nothing that holds at the start, and no notes
+abbrev pub bare : Schema → Schema
+bare w = record w { facts = []; notes = [] }
+
+-- Limits and refusals
+
+within_bare : (w : Schema) → IsWithinLimits (bare w) → IsWithinLimits w
+within_bare w k = record { resolutions = k.resolutions; options_few = k.options_few; light = k.light }
+
+refused_bare : (w : Schema) (e : VerifyRefusal) → IsRefused (bare w) e → IsRefused w e
+refused_bare w (TooManyChoices count) h = h
+refused_bare w (TooManyWays count) h = h
+refused_bare w (TooBulky count) h = h
+refused_bare w (NoRule index) h = h
+refused_bare w NoMemory h = h
+
+module _ (v w : Schema) (c p : Constraint) (same : v ≡ bare w) (e : c ≡ p) where
+  pub within_trial : IsWithinLimits (against v c) → IsWithinLimits (against w p)
+  within_trial k = within_bare (against w p) (subst (λ u. IsWithinLimits u) (λ i. against (same i) (e i)) k)
+
+  pub refused_trial : (r : VerifyRefusal) → IsRefused (against v c) r → IsRefused (against w p) r
+  refused_trial r h = refused_bare (against w p) r (subst (λ u. IsRefused u r) (λ i. against (same i) (e i)) h)
+
+-- The constraint of an index
+
+module _ (w : Schema) (index : ℕ) (c : Constraint) (at : slice_get w.rules index ≡ Some c) (v : Schema) (same : v ≡ bare (without w index)) where
+  meets_at : (t : List ℕ) → IsGood w t → Meets c (events_of w.labels t)
+  meets_at t (trace, met) = each_member (λ d. Meets d (events_of w.labels t)) w.rules met c (mem-slice_get w.rules index c at)
+
+  good_with : (t : List ℕ) → IsGood (without w index) t → Meets c (events_of w.labels t) → IsGood w t
+  good_with t (trace, met) this = (trace, each_with (λ d. Meets d (events_of w.labels t)) w.rules index c at met this)
+
+  pub tells_redundant : TellsOfProperty v c Holds → TellsOfConstraint w index Redundant
+  tells_redundant h t good =
+      let told = subst (λ u. TellsOfProperty u c Holds) same h in good_with t good (told t good)
+
+  pub tells_needed : (t : Vec ℕ Global) → TellsOfProperty v c (Fails t) → TellsOfConstraint w index (Needed t)
+  tells_needed t h =
+      let told = subst (λ u. TellsOfProperty u c (Fails t)) same h in (told.0, λ good. told.1 (meets_at t.items good))
+
+  -- only one constraint has that index
+  pub one_at : (d : Constraint) → slice_get w.rules index ≡ Some d → c ≡ d
+  one_at d e = cc
+
+-- A tree with rules, as the workflow that it is of
+
+pub same_trial : (w : Definition) (tree : Labelled) (rules : List Constraint) → tree ≡ w.tree → rules ≡ w.rules → options.schema_of tree rules ≡ bare (schema_of w)
+same_trial w tree rules e f = λ i. options.schema_of (e i) (f i)

@@ -1,0 +1,51 @@
+ghost use Rattle.std.specs.Prelude.{◌≤◌, IfOk, IfErr, OnOk, MatchOption, length};
+ghost use Rattle.flow_goal.specs.Repeated.{HoldsNoneTwice};
+ghost use Rattle.flow_model.specs.Lists.{◌∈◌};
+ghost use Rattle.flow_model.specs.Resolution.{ChoiceOption, OptionTrace};
+ghost use Rattle.flow_model.specs.Schema.{IsGood};
+ghost use Rattle.flow_laws.specs.Words.{IsConsistent};
+ghost use Rattle.flow_rules.specs.Rule.{rules_of};
+ghost use Rattle.flow_excise.specs.Compilation.{IsWithinLimits, options_of};
+ghost use Rattle.flow_excise.specs.Options.{schema_of};
+ghost use Rattle.flow_verify.specs.Verification.{IsRefused};
+
+use crate::refusal::VerifyRefusal;
+use flow_excise::{CompileRefusal, Compiled, compile};
+use flow_goal::Tree;
+use flow_rules::Rule;
+use std::alloc::{AllocError, Global};
+
+/// The execution that comes with the first plan.
+fn first_sample(alloc: Global, compiled: &Compiled) -> Result<Vec<u32>, AllocError>
+    ensures { IfOk result (λ sample. (o : ChoiceOption) × (o ∈ options_of compiled.now.plans) × OptionTrace o sample.items) }
+{
+    let plans = compiled.plans();
+    Vec::from_slice(alloc, plans[0].sample())
+}
+
+/// An execution of the tree that meets the rules. `None` where there is none.
+pub(crate) fn good_execution(
+    alloc: Global,
+    tree: &Tree,
+    rules: &[Rule],
+) -> Result<Option<Vec<u32>>, VerifyRefusal>
+    requires unique { HoldsNoneTwice tree.now }
+    requires small { length tree.now.labels ≤ 1024 }
+    ensures found { IfOk result (λ found. MatchOption found
+        (¬ (IsConsistent (schema_of tree.now (rules_of rules.now))))
+        (λ t. IsGood (schema_of tree.now (rules_of rules.now)) t.items)) }
+    ensures within { OnOk result (IsWithinLimits (schema_of tree.now (rules_of rules.now))) }
+    ensures refused { IfErr result (IsRefused (schema_of tree.now (rules_of rules.now))) }
+{
+    let _leaves = tree.leaves();
+    match compile(alloc, tree, rules) {
+        Ok(compiled) => Ok(Some(first_sample(alloc, &compiled)?)),
+        Err(CompileRefusal::Inconsistent { .. }) => Ok(None),
+        Err(CompileRefusal::TooManyChoices { count }) => {
+            Err(VerifyRefusal::TooManyChoices { count })
+        }
+        Err(CompileRefusal::TooManyWays { count }) => Err(VerifyRefusal::TooManyWays { count }),
+        Err(CompileRefusal::TooBulky { count }) => Err(VerifyRefusal::TooBulky { count }),
+        Err(CompileRefusal::NoMemory) => Err(VerifyRefusal::NoMemory),
+    }
+}

@@ -1,0 +1,13 @@
+//! Whether every execution of a workflow meets a property, and whether a constraint changes anything.
+#![tactic(auto)]
+
+mod answers;
+mod execution;
+mod refusal;
+#[cfg(test)]
+mod tests;
+mod verifying;
+
+pub use answers::{Redundancy, Verified};
+pub use refusal::VerifyRefusal;
+pub use verifying::{redundant, verify};
