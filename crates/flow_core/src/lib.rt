@@ -5,8 +5,6 @@ mod engine;
 mod given;
 mod look;
 mod refusal;
-#[cfg(test)]
-mod tests;
 
 pub use engine::Core;
 pub use flow_model::{Call, Entry, FailEffect, Step};

@@ -1,0 +1,130 @@
+-- One leaf at first, and then two side by side.
+use Rattle.std.proofs.Common.{◌≡◌, ℕ, ◌⊎◌, [], ◌∷◌, ◌++◌, refl, inl, inr, arith, sym, subst}
+use Rattle.flow_model.specs.Lists.{◌∈◌}
+use Rattle.flow_model.specs.Trace.{both_end, from_left, from_right}
+use Rattle.flow_model.specs.Schema.{IsGood}
+use Rattle.flow_model.specs.Resolution.{ChoiceOption, options}
+use Rattle.flow_model.specs.Ready.{IsReady}
+use Rattle.flow_laws.specs.Orders.{AreSideBySide}
+use Rattle.flow_model.specs.Run.{RunState, CanTake, current_leaves, first_state, state_of}
+use Rattle.flow_law_cases.specs.Plain.{plain, a_done, b_out, PlainIsWellFormed, FirstOnlyA, ThenBOrC, CBesideB, BothOutIsLegal}
+use Rattle.flow_law_cases.proofs.TogetherLemmas.{well_formed}
+use Rattle.flow_law_cases.proofs.TakingLemmas.{take_next, side_by_side_of_take, follow_in_every_order}
+
+pub plain_is_well_formed : PlainIsWellFormed
+plain_is_well_formed = well_formed plain refl refl
+
+b_first : IsGood plain (0 ∷ 1 ∷ 2 ∷ [])
+b_first = (
+  (
+    (0 ∷ []) ∷ (1 ∷ []) ∷ (2 ∷ []) ∷ [],
+    (
+      (0 ∷ []) ∷ [],
+      (1 ∷ []) ∷ (2 ∷ []) ∷ [],
+      refl,
+      ((1 ∷ []) ∷ [], (2 ∷ []) ∷ [], refl, refl, from_left (from_right both_end)),
+      refl,
+    ),
+    refl,
+  ),
+  tt,
+)
+
+c_first : IsGood plain (0 ∷ 2 ∷ 1 ∷ [])
+c_first = (
+  (
+    (0 ∷ []) ∷ (2 ∷ []) ∷ (1 ∷ []) ∷ [],
+    (
+      (0 ∷ []) ∷ [],
+      (2 ∷ []) ∷ (1 ∷ []) ∷ [],
+      refl,
+      ((1 ∷ []) ∷ [], (2 ∷ []) ∷ [], refl, refl, from_right (from_left both_end)),
+      refl,
+    ),
+    refl,
+  ),
+  tt,
+)
+
+-- What can be taken, by the good traces
+
+a_at_first : CanTake plain first_state 0
+a_at_first = take_next plain plain_is_well_formed first_state 0 (0 ∷ 1 ∷ 2 ∷ []) refl refl
+    (b_first, (0 ∷ 1 ∷ 2 ∷ [], refl), tt) (1 ∷ 2 ∷ [], refl)
+
+b_after_a : CanTake plain (state_of a_done) 1
+b_after_a = take_next plain plain_is_well_formed (state_of a_done) 1 (0 ∷ 1 ∷ 2 ∷ []) refl refl
+    (b_first, (1 ∷ 2 ∷ [], refl), tt) (2 ∷ [], refl)
+
+c_after_a : CanTake plain (state_of a_done) 2
+c_after_a = take_next plain plain_is_well_formed (state_of a_done) 2 (0 ∷ 2 ∷ 1 ∷ []) refl refl
+    (c_first, (2 ∷ 1 ∷ [], refl), tt) (1 ∷ [], refl)
+
+-- What cannot, by the law of orders: a leaf that can be taken is ready in the only option
+
+abbrev IsAlone : (ℕ → Type 0) → ℕ → ChoiceOption → Type 0
+IsAlone Done n o = AreSideBySide o.resolution o.order Done (n ∷ [])
+
+ready_in_only : (Done : ℕ → Type 0) (n : ℕ) (o : ChoiceOption) → o ∈ options plain → IsAlone Done n o → IsReady plain.goal [] Done n
+ready_in_only Done n o (inl e) alone = (subst (IsAlone Done n) e alone).each.0
+ready_in_only Done n o (inr none) alone = absurd none
+
+ready_of_take : (s : RunState) (n : ℕ) → current_leaves s ≡ [] → CanTake plain s n → IsReady plain.goal [] (λ x. x ∈ s.journal) n
+ready_of_take s n none h =
+    let (o, m, sides) = side_by_side_of_take plain plain_is_well_formed s n h in
+    ready_in_only (λ x. x ∈ s.journal) n o m
+    (subst (λ ls. AreSideBySide o.resolution o.order (λ x. x ∈ s.journal) (ls ++ n ∷ [])) none sides)
+
+only_a_is_ready : (n : ℕ) → IsReady plain.goal [] (λ x. x ∈ []) n → n ≡ 0
+only_a_is_ready n ready = elim ready.leaf [ inl e ↦ e | inr later ↦ absurd (ready.before 0 (inl (inl (inl (inl refl, later))))) ]
+
+b_or_c_is_ready : (n : ℕ) → IsReady plain.goal [] (λ x. x ∈ (0 ∷ [])) n → (n ≡ 1) ⊎ (n ≡ 2)
+b_or_c_is_ready n ready = of_three ready.leaf
+  where
+    of_three : n ∈ (0 ∷ 1 ∷ 2 ∷ []) → (n ≡ 1) ⊎ (n ≡ 2)
+    of_three (inl e) = absurd (ready.not_done (inl e))
+    of_three (inr (inl e)) = inl e
+    of_three (inr (inr (inl e))) = inr e
+    of_three (inr (inr (inr none))) = absurd none
+
+pub first_only_a : FirstOnlyA
+first_only_a n = (
+  λ h. only_a_is_ready n (ready_of_take first_state n refl h),
+  λ e. subst (CanTake plain first_state) (sym e) a_at_first,
+)
+
+pub then_b_or_c : ThenBOrC
+then_b_or_c n = (
+  λ h. b_or_c_is_ready n (ready_of_take (state_of a_done) n refl h),
+  λ h. elim h [
+    | inl e ↦ subst (CanTake plain (state_of a_done)) (sym e) b_after_a
+    | inr e ↦ subst (CanTake plain (state_of a_done)) (sym e) c_after_a
+  ],
+)
+
+-- Both claims out
+
+abbrev only : ChoiceOption
+only = record { resolution = plain.goal; order = [] }
+
+-- the second claim, while the first is out
+pub c_beside_b : CBesideB
+c_beside_b = (
+  refl,
+  λ h. elim h [ inl e ↦ omega (arith, e) | inr none ↦ none ],
+  (
+    only,
+    inl refl,
+    follow_in_every_order plain plain_is_well_formed (state_of b_out) only (inl refl) 1 2
+        (0 ∷ 1 ∷ 2 ∷ [], (b_first.0, tt), (b_first, (1 ∷ 2 ∷ [], refl), tt), ([], refl))
+        (0 ∷ 2 ∷ 1 ∷ [], (c_first.0, tt), (c_first, (2 ∷ 1 ∷ [], refl), tt), ([], refl)),
+  ),
+)
+
+pub both_out_is_legal : BothOutIsLegal
+both_out_is_legal = (
+  refl,
+  omega arith,
+  (refl, a_at_first),
+  (refl, omega arith, refl, (refl, omega arith, (refl, b_after_a), (refl, omega arith, (refl, c_beside_b), tt))),
+)

@@ -1,0 +1,10 @@
+ghost use Rattle.flow_law_cases.specs.Plain.{BothOutIsLegal, CBesideB, FirstOnlyA, PlainIsWellFormed, ThenBOrC};
+
+/// The task at the front is the only one at first; once it is done the other two go side by side.
+pub fn case_plain_goes_side_by_side()
+    ensures well_formed { PlainIsWellFormed }
+    ensures first { FirstOnlyA }
+    ensures then { ThenBOrC }
+    ensures beside { CBesideB }
+    ensures together { BothOutIsLegal }
+{}

@@ -1,9 +1,0 @@
-pub mod Executions
-pub mod Orders
-pub mod Pairing
-pub mod RuleWays
-pub mod Standing
-pub mod Taking
-pub mod Tests
-pub mod Views
-pub mod Workflow
