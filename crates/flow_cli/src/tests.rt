@@ -5,8 +5,8 @@ use std::test::Fail;
 
 /// A workflow, and what `check` writes of it.
 const NOTHING: &str = "goal nop;";
-const NOTHING_CHECKED: &str =
-    "leaves 0\nresolutions 1\noptions 1\nbulk 0\nlive 1\nconsistent\n";
+
+const NOTHING_CHECKED: &str = "leaves 0\nresolutions 1\noptions 1\nbulk 0\nlive 1\nconsistent\n";
 
 /// The words of a command line.
 fn words_of(alloc: Global, line: &str) -> Result<Vec<String>, AllocError> {

@@ -1,0 +1,543 @@
+#!/usr/bin/env python3
+"""The worst texts within the limits: time and memory of `flow check` on each, beside those of the greatest generated text.
+
+It needs GNU time (/usr/bin/time). Usage: bench/worst.py [PROGRAM] [WORD ..]   the texts whose names have one of the words, or all of them
+The program is crates/flow/out/flow where none is named (`rt run` of the README makes it). Each text is checked five times,
+and the least time counts; the ratios are to the generated text of seed 3 and size 128 in the same run.
+"""
+import os
+import pathlib
+import subprocess
+import sys
+import time
+
+from generated import generated
+
+TOP = pathlib.Path(__file__).resolve().parent.parent
+GREATEST_INPUT = 1_048_576
+TEXTS = {}
+
+
+def text(function):
+    TEXTS[function.__name__.replace("_", " ")] = function
+    return function
+
+
+def names(letter, count, between):
+    return between.join(f"{letter}{number}" for number in range(count))
+
+
+def row(goal_between, count=1024):
+    return f"event {names('e', count, ', ')}; goal {names('e', count, goal_between)};"
+
+
+def filled(head, piece, tail):
+    """As many pieces as fit between head and tail."""
+    room = GREATEST_INPUT - len(head) - len(tail)
+    return head + piece * (room // len(piece)) + tail
+
+
+# --- the reading of a text
+
+@text
+def blanks():
+    return filled("", " ", "goal nop;")
+
+
+@text
+def one_comment():
+    return filled("# ", "x", "\ngoal nop;")
+
+
+@text
+def one_name():
+    return filled("event e", "x", "; goal nop;")
+
+
+@text
+def one_name_in_a_goal_twice():
+    name = "e" + "x" * (GREATEST_INPUT // 2 - 40)
+    return f"event {name}; goal {name};"
+
+
+@text
+def many_events():
+    return f"event {names('e', 140_000, ', ')}; goal nop;"
+
+
+@text
+def many_facts():
+    return f"fact {names('p', 140_000, ', ')}; goal nop;"
+
+
+@text
+def many_facts_with_one_argument():
+    return "fact " + ", ".join(f"p({number})" for number in range(95_000)) + "; goal nop;"
+
+
+@text
+def facts_in_leaves():
+    facts = ", ".join(f"p({number})" for number in range(60_000))
+    leaves = " * ".join(f"?p({59_999 - number})" for number in range(1024))
+    return f"fact {facts}; goal {leaves};"
+
+
+@text
+def one_fact_with_many_arguments():
+    half = ", ".join("a" for _ in range(160_000))
+    return f"fact p({half}); goal ?p({half});"
+
+
+@text
+def long_facts_alike():
+    args = "a," * 200
+    return f"goal {' * '.join(f'?p({args}{number})' for number in range(1024))};"
+
+
+@text
+def long_names_alike():
+    stem = "x" * 480
+    events = ", ".join(f"{stem}{number}" for number in range(1024))
+    goal = " * ".join(f"{stem}{number}" for number in range(1024))
+    return f"event {events}; goal {goal};"
+
+
+def colliding(count):
+    """Names that differ in their front alone, for a search that looks at the end or at a short front."""
+    return [f"a{number:07}" + "z" for number in range(count)]
+
+
+@text
+def names_of_one_length():
+    return f"event {', '.join(colliding(80_000))}; goal nop;"
+
+
+@text
+def parentheses():
+    deep = "(" * 200 + "nop" + ")" * 200
+    return f"goal {' * '.join(deep for _ in range(1024))};"
+
+
+@text
+def inside_199_parentheses():
+    inner = " * ".join("nop" for _ in range(1000))
+    return "goal " + "(" * 199 + inner + ")" * 199 + ";"
+
+
+@text
+def long_lists_deep_in_sub_workflows():
+    flows = []
+    for number in range(250):
+        inner = " * ".join("nop" for _ in range(600))
+        flows.append(f"flow f{number} = " + "(" * 199 + inner + ")" * 199 + ";")
+    return " ".join(flows) + " goal nop;"
+
+
+@text
+def a_refusal_at_the_end():
+    return filled("event e; goal nop; ", "constraint must e; ", "x")
+
+
+@text
+def repeated_at_the_end():
+    return f"event {names('e', 140_000, ', ')}, e139999; goal nop;"
+
+
+@text
+def unknown_at_the_end():
+    return f"event {names('e', 130_000, ', ')}; goal z;"
+
+
+# --- sub-workflows
+
+@text
+def sub_workflows_in_reverse():
+    flows = [f"flow f{number} = f{number + 1} * nop;" for number in range(255)]
+    return "event a; " + " ".join(flows) + " flow f255 = a; goal f0;"
+
+
+@text
+def sub_workflows_that_double():
+    flows = " ".join(f"flow f{number + 1} = f{number} * f{number};" for number in range(255))
+    return f"event a; flow f0 = a; {flows} goal f255;"
+
+
+@text
+def sub_workflows_that_name_all_others():
+    flows = []
+    for number in range(256):
+        others = " * ".join(f"f{other}" for other in range(number + 1, 256)) or "nop"
+        flows.append(f"flow f{number} = nop + {others};")
+    return " ".join(flows) + " goal f0;"
+
+
+@text
+def sub_workflows_with_long_goals():
+    flows = []
+    for number in range(256):
+        follower = f"f{number + 1}" if number < 255 else "nop"
+        flows.append(f"flow f{number} = {' * '.join(follower for _ in range(500))};")
+    return " ".join(flows) + " goal nop;"
+
+
+@text
+def a_ring_at_the_end():
+    flows = [f"flow f{number} = {' * '.join(f'f{number + 1}' for _ in range(500))};" for number in range(255)]
+    return " ".join(flows) + " flow f255 = f0; goal nop;"
+
+
+# --- goals
+
+@text
+def leaves_in_series():
+    return row(" * ")
+
+
+@text
+def leaves_beside():
+    return row(" | ")
+
+
+@text
+def leaves_in_choice():
+    return row(" + ")
+
+
+def isolated(inner, count):
+    """The goal in so many isolations, by sub-workflows of at most 190."""
+    flows, name, left = [], inner, count
+    while left > 0:
+        some = min(left, 190)
+        flows.append(f"flow i{len(flows)} = " + "iso(" * some + name + ")" * some + ";")
+        name = f"i{len(flows) - 1}"
+        left -= some
+    return " ".join(flows), name
+
+
+@text
+def isolations_of_one_leaf():
+    flows, name = isolated("a", 1024)
+    return f"event a; {flows} goal {name};"
+
+
+def onion(count, flip=False):
+    """iso(iso(e0 * e1) * e2) .., by sub-workflows of at most 150 layers."""
+    flows, inner, number = [], "e0", 1
+    while number < count:
+        some = min(count - number, 150)
+        layers = inner
+        for layer in range(number, number + some):
+            layers = f"iso(e{layer} | {layers})" if flip else f"iso({layers} * e{layer})"
+        flows.append(f"flow o{len(flows)} = {layers};")
+        inner = f"o{len(flows) - 1}"
+        number += some
+    return " ".join(flows), inner
+
+
+@text
+def isolations_one_in_another():
+    flows, name = onion(1024)
+    return f"event {names('e', 1024, ', ')}; {flows} goal {name};"
+
+
+@text
+def isolations_one_in_another_beside():
+    flows, name = onion(1024, True)
+    return f"event {names('e', 1024, ', ')}; {flows} goal {name};"
+
+
+@text
+def isolations_one_in_another_backwards():
+    flows, name = onion(1024, True)
+    order = " ".join(f"e{number}" for number in reversed(range(1024)))
+    return f"event {names('e', 1024, ', ')}; {flows} goal {name}; constraint order {order};"
+
+
+@text
+def many_isolated_pairs():
+    pairs = " | ".join(f"iso(e{2 * pair} | e{2 * pair + 1})" for pair in range(512))
+    return f"event {names('e', 1024, ', ')}; goal {pairs};"
+
+
+@text
+def many_isolated_pairs_backwards():
+    pairs = " | ".join(f"iso(e{2 * pair} | e{2 * pair + 1})" for pair in range(512))
+    order = " ".join(f"e{number}" for number in reversed(range(1024)))
+    return f"event {names('e', 1024, ', ')}; goal {pairs}; constraint order {order};"
+
+
+@text
+def free_leaves_beside_an_isolated_chain_backwards():
+    part = " | ".join(f"p{number}" for number in range(512))
+    order = " ".join(f"p{number}" for number in reversed(range(512)))
+    return (f"event {names('e', 512, ', ')}, {names('p', 512, ', ')}; goal iso({part}) | {names('e', 512, ' | ')};"
+            f" constraint order {order};")
+
+
+@text
+def sequences_deep_on_the_right():
+    flows, inner, number = [], "e1023", 1022
+    while number >= 0:
+        some = range(max(number - 149, 0), number + 1)
+        goal = inner
+        for leaf in reversed(some):
+            goal = f"e{leaf} * ({goal})"
+        flows.append(f"flow r{len(flows)} = {goal};")
+        inner = f"r{len(flows) - 1}"
+        number = some[0] - 1
+    return f"event {names('e', 1024, ', ')}; {' '.join(flows)} goal {inner};"
+
+
+@text
+def one_event_in_every_choice():
+    return f"event a; goal {' + '.join('a' for _ in range(1024))};"
+
+
+@text
+def two_events_in_every_choice():
+    return f"event a, b; goal ({' + '.join('a' for _ in range(32))}) * ({' + '.join('b' for _ in range(32))});"
+
+
+@text
+def an_event_twice_at_the_end():
+    return f"event {names('e', 1023, ', ')}; goal {names('e', 1023, ' | ')} | e1022;"
+
+
+# --- constraints
+
+@text
+def an_order_backwards():
+    order = " ".join(f"e{number}" for number in reversed(range(1024)))
+    return row(" | ") + f" constraint order {order};"
+
+
+@text
+def orders_of_8_192_names():
+    order = " ".join(f"e{number}" for number in range(1024))
+    return row(" | ") + f" constraint order {order};" * 8
+
+
+@text
+def constraints_that_ask_for_nothing():
+    return row(" | ") + "".join(f" constraint must e{number % 1024};" for number in range(8192))
+
+
+@text
+def ors_that_ask_for_nothing():
+    ors = "".join(f" constraint must e{2 * n % 1024} or must e{(2 * n + 1) % 1024};" for n in range(4096))
+    return row(" | ") + ors
+
+
+@text
+def one_and_of_8_192():
+    return row(" | ") + " constraint " + " and ".join(f"must e{number % 1024}" for number in range(8192)) + ";"
+
+
+@text
+def one_or_of_8_192_that_cannot_be_met():
+    return row(" | ") + " constraint " + " or ".join(f"never e{number % 1024}" for number in range(8192)) + ";"
+
+
+@text
+def one_or_of_4_096_orders():
+    ors = " or ".join(f"order e{n % 60} e{(n + 1 + n // 60) % 60 if (n + 1 + n // 60) % 60 != n % 60 else 61}" for n in range(4000))
+    return f"event {names('e', 62, ', ')}; goal {names('e', 62, ' | ')}; constraint {ors};"
+
+
+@text
+def constraints_nested_200_deep():
+    inner = "must e0"
+    for depth in range(100):
+        inner = f"not (must e{depth} and {inner})"
+    return row(" | ") + f" constraint {inner};" * 80
+
+
+@text
+def thirty_either_orders_that_cannot_be_met():
+    pairs = "".join(f" constraint order a{n} b{n} or order b{n} a{n};" for n in range(30))
+    return (f"event z, {names('a', 30, ', ')}, {names('b', 30, ', ')}; goal {names('a', 30, ' | ')} | {names('b', 30, ' | ')};"
+            f"{pairs} constraint must z;")
+
+
+# --- choices
+
+def choices(count):
+    return " | ".join(f"(a{number} + b{number})" for number in range(count))
+
+
+def choice_events(count):
+    return f"{names('a', count, ', ')}, {names('b', count, ', ')}"
+
+
+@text
+def twelve_choices():
+    return f"event {choice_events(12)}; goal {choices(12)};"
+
+
+@text
+def twelve_choices_beside_a_thousand_nothings():
+    return f"event {choice_events(12)}; goal {choices(12)} | {' * '.join('nop' for _ in range(1000))};"
+
+
+@text
+def twelve_choices_beside_52_leaves():
+    return f"event {choice_events(12)}, {names('e', 52, ', ')}; goal {choices(12)} | {names('e', 52, ' * ')};"
+
+
+@text
+def twelve_choices_beside_52_isolations():
+    flows, name = onion(52)
+    return f"event {choice_events(12)}, {names('e', 52, ', ')}; {flows} goal {choices(12)} | {name};"
+
+
+@text
+def twelve_choices_in_isolations():
+    goal = "a0 + b0"
+    for number in range(1, 12):
+        goal = f"iso({goal}) * (a{number} + b{number})"
+    for number in range(52):
+        goal = f"iso({goal} * e{number})"
+    return f"event {choice_events(12)}, {names('e', 52, ', ')}; goal {goal};"
+
+
+@text
+def twelve_choices_and_8_192_names_that_ask_for_nothing():
+    rules = "".join(f" constraint must e{number % 52};" for number in range(8192))
+    return f"event {choice_events(12)}, {names('e', 52, ', ')}; goal {choices(12)} | {names('e', 52, ' * ')};{rules}"
+
+
+@text
+def twelve_choices_and_4_096_ors_that_ask_for_nothing():
+    rules = "".join(f" constraint never a{n % 12} or must a{n % 12};" for n in range(4096))
+    return f"event {choice_events(12)}, {names('e', 52, ', ')}; goal {choices(12)} | {names('e', 52, ' * ')};{rules}"
+
+
+@text
+def twelve_choices_and_constraints_that_cannot_be_met():
+    rules = "".join(f" constraint must e{number % 52};" for number in range(8191))
+    return f"event z, {choice_events(12)}, {names('e', 52, ', ')}; goal {choices(12)} | {names('e', 52, ' * ')};{rules} constraint must z;"
+
+
+@text
+def choices_of_1_024_sides_and_constraints():
+    rules = "".join(f" constraint never e{n % 1024} or must e{n % 1024};" for n in range(4096))
+    return row(" + ") + rules
+
+
+@text
+def twelve_either_orders():
+    pairs = "".join(f" constraint order a{n} b{n} or order b{n} a{n};" for n in range(12))
+    return (f"event {choice_events(12)}, {names('e', 28, ', ')}; goal {names('a', 12, ' | ')} | {names('b', 12, ' | ')} | {names('e', 28, ' | ')};{pairs}")
+
+
+@text
+def options_refused():
+    pairs = "".join(f" constraint order a{n} b{n} or order b{n} a{n};" for n in range(13))
+    return f"event {choice_events(13)}; goal {names('a', 13, ' | ')} | {names('b', 13, ' | ')};{pairs}"
+
+
+@text
+def options_refused_after_4_096_resolutions():
+    rules = "".join(f" constraint never e{n % 52} or order e{n % 51} e{n % 51 + 1} or order e{n % 51 + 1} e{n % 51};" for n in range(1600))
+    return f"event {choice_events(12)}, {names('e', 52, ', ')}; goal {choices(12)} | {names('e', 52, ' | ')};{rules}"
+
+
+@text
+def bulk_refused_after_4_096_resolutions():
+    return f"event {choice_events(12)}, {names('e', 1000, ', ')}; goal {choices(12)} | {names('e', 1000, ' | ')};"
+
+
+@text
+def choices_refused():
+    return f"event {choice_events(512)}; goal {choices(512)};"
+
+
+# --- what has no execution
+
+@text
+def an_order_against_a_sequence():
+    order = " ".join(f"e{number}" for number in reversed(range(1024)))
+    return row(" * ") + f" constraint order {order};"
+
+
+@text
+def one_order_against_a_sequence():
+    return row(" * ") + " constraint order e1023 e0;"
+
+
+@text
+def a_ring_of_all_leaves():
+    order = " ".join(f"e{number}" for number in range(1024))
+    return row(" | ") + f" constraint order {order}; constraint order e1023 e0;"
+
+
+@text
+def a_ring_through_isolated_pairs():
+    pairs = " | ".join(f"iso(e{2 * pair} | e{2 * pair + 1})" for pair in range(512))
+    rules = "".join(f" constraint order e{2 * pair} e{(2 * pair + 2) % 1024};" for pair in range(512))
+    return f"event {names('e', 1024, ', ')}; goal {pairs};{rules}"
+
+
+@text
+def a_ring_in_the_innermost_isolation():
+    flows, name = onion(1022)
+    return (f"event a, b, {names('e', 1022, ', ')}; {flows.replace('e0 ', 'iso(a * b) * e0 ', 1)} goal {name};"
+            f" constraint order b a;")
+
+
+@text
+def dropped_options_of_64_leaves():
+    return (f"event {choice_events(12)}, {names('e', 52, ', ')}; goal {choices(12)} | {names('e', 52, ' * ')};"
+            f" constraint order e51 e0;")
+
+
+@text
+def dropped_options_through_isolations():
+    flows, name = onion(50)
+    return (f"event {choice_events(12)}, {names('e', 50, ', ')}, a, b; {flows} goal {choices(12)} | iso(a * b) | {name};"
+            f" constraint order a e0; constraint order e49 b;")
+
+
+@text
+def dropped_in_the_innermost_isolation():
+    flows, name = onion(50)
+    return (f"event {choice_events(12)}, {names('e', 50, ', ')}, a, b; {flows.replace('e0 ', 'iso(a * b) * e0 ', 1)}"
+            f" goal {choices(12)} | {name}; constraint order b a;")
+
+
+def measured(program, words, source):
+    """The least seconds of five calls, the most memory in MB (as GNU time counts it), and the last line of what was written."""
+    best, peak, last = None, 0, ""
+    for _ in range(5):
+        begun = time.perf_counter()
+        call = subprocess.run(["/usr/bin/time", "-f", "%M", program, *words], input=source, capture_output=True, check=False)
+        spent = time.perf_counter() - begun
+        best = spent if best is None else min(best, spent)
+        peak = max(peak, int(call.stderr.split()[-1]) / 1024)
+        last = call.stdout.decode().rstrip("\n").split("\n")[-1] or f"status {call.returncode}"
+        if spent > 5:
+            break
+    return best, peak, last
+
+
+def main():
+    arguments = sys.argv[1:]
+    program = str(TOP / "crates/flow/out/flow")
+    if arguments and os.path.exists(arguments[0]):
+        program = arguments.pop(0)
+    base, base_peak, _ = measured(program, ["check"], generated(3, 128).encode())
+    print(f"the greatest generated text: {base * 1000:.0f} ms, {base_peak:.0f} MB")
+    print(f"{'text':<58}{'bytes':>9}{'ms':>8}{'times':>7}{'MB':>6}  ends with")
+    worst, most = 0, 0
+    for name, make in TEXTS.items():
+        if arguments and not any(word in name for word in arguments):
+            continue
+        source = make().encode()
+        assert len(source) <= GREATEST_INPUT, name
+        seconds, peak, last = measured(program, ["check"], source)
+        worst, most = max(worst, seconds / base), max(most, peak)
+        print(f"{name:<58}{len(source):>9}{seconds * 1000:>8.0f}{seconds / base:>7.1f}{peak:>6.0f}  {last[:40]}", flush=True)
+    print(f"at most {worst:.1f} times the generated text, and {most:.0f} MB")
+
+
+main()
