@@ -1,5 +1,5 @@
 -- What a new epoch does to the claims.
-use Rattle.std.proofs.Common.{◌≡◌, ℕ, ◌+◌, ◌≤◌, ◌↔◌, ◌⊎◌, Bool, true, false, not, ◌&&◌, ◌==◌, cond, if◌then◌else◌, IsTrue, List, [], ◌∷◌, ◌++◌, map, length, filter, refl, sym, ap, ◌∙◌, subst, inl, inr, append_assoc, append-nil, true≢false, le_refl, arith}
+use Rattle.std.proofs.Common.{◌≡◌, ℕ, ◌+◌, ◌≤◌, ◌↔◌, Bool, true, false, not, ◌&&◌, ◌==◌, cond, if◌then◌else◌, IsTrue, List, [], ◌∷◌, ◌++◌, map, filter, refl, sym, ap, ◌∙◌, subst, inl, inr, append_assoc, append-nil, true≢false}
 use Rattle.std.proofs.lemmas.Bool.{eq-eqb}
 use Rattle.flow_model.specs.Lists.{Each}
 use Rattle.flow_model.specs.Schema.{Schema}
@@ -81,12 +81,6 @@ spared_are_current w s before [] h = refl
 spared_are_current w s before (x ∷ xs) (h, t) =
     step (is_spared w s before x) refl (spared_are_current w s (before ++ x.leaf ∷ []) xs t) (spared_are_current w s before xs t)
   where
-    with_it : List Claim
-    with_it = spare w s (before ++ x.leaf ∷ []) xs
-
-    without : List Claim
-    without = spare w s before xs
-
     step : (spared : Bool) → is_spared w s before x ≡ spared →
         map leaf_of (filter (is_of (s.epoch + 1)) (spare w s (before ++ x.leaf ∷ []) xs)) ≡ spared_leaves w s (before ++ x.leaf ∷ []) xs →
         map leaf_of (filter (is_of (s.epoch + 1)) (spare w s before xs)) ≡ spared_leaves w s before xs →
