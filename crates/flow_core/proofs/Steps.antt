@@ -11,6 +11,7 @@ use Rattle.flow_model.specs.Verdict.{call_of, event_of_claim, attempts}
 use Rattle.flow_model.specs.declared.history.Step.TheVariants.{Took, Done, Committed}
 use Rattle.flow_model.specs.Lists.{◌∈◌, Each, AreDistinct, numbers_from}
 use Rattle.flow_model.specs.Schema.{Schema, IsGood}
+use Rattle.flow_model.specs.Decided.{decide_eq}
 use Rattle.flow_model.specs.Ready.{IsReady, IsReadyRun}
 use Rattle.flow_model.specs.Run.{Claim, RunState, first_state, next_state, state_after, state_of, current_leaves, current_claims, claim_at, leaf_of_claim, IsCurrent, IsAllowed, IsLegalFrom, IsLegal, CanTake, answer}
 use Rattle.flow_goal.specs.Labelled.{Labelled}
@@ -22,7 +23,7 @@ use Rattle.flow_core.specs.View.{schema_of}
 use Rattle.flow_core.specs.Kept.{IsAhead, AreFlags, IsKept}
 use Rattle.flow_core.proofs.PlainGoals.{plain_ready}
 use Rattle.flow_core.proofs.GivenClaims.{given_at, not_given, numbered, current-given, not-current, length-claims_from, claims_from-append, find-claims_from, answered, answer-claims_from, out_leaves, current-leaves, out_leaves-append, LeavesOut, out_leaves-answered}
-use Rattle.flow_laws.proofs.ListLemmas2.{mem_append_left, mem_append_right, mem-append, each-append, each_parts, distinct_parts, distinct-append, equal_or_not}
+use Rattle.flow_laws.proofs.ListLemmas2.{mem_append_left, mem_append_right, mem-append, each-append, each_parts, distinct_parts, distinct-append}
 use Rattle.flow_laws.proofs.FollowingLemmas.{run_after_journal}
 use Rattle.flow_laws.proofs.ClaimLemmas.{leaf_of_claim_is}
 use Rattle.std.specs.List.{find, fold}
@@ -150,7 +151,7 @@ pub flags_set : (t : Labelled) (done : List Bool) (journal : List ℕ) → AreFl
 flags_set t done journal flags leaf below = record {
   one_each = length-set done leaf true ∙ flags.one_each;
   exact = λ n. (
-    elim (equal_or_not n leaf) [
+    elim (decide_eq n leaf) [
       | inl e ↦ (λ d. mem_append_right n journal (leaf ∷ []) (inl e))
       | inr ne ↦ (λ d. mem_append_left n journal (leaf ∷ []) ((flags.exact n).0 (sym (is_done-other done n leaf ne) ∙ d)))
     ],
