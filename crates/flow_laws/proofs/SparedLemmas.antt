@@ -5,7 +5,7 @@ use Rattle.flow_model.specs.Lists.{Each}
 use Rattle.flow_model.specs.Schema.{Schema}
 use Rattle.flow_model.specs.Decided.{Decided, told, decide_all_follow, can_all_follow}
 use Rattle.flow_model.specs.Run.{Claim, RunState, is_current, MayAllFollow, spare}
-use Rattle.flow_laws.specs.Spared.{IsSpared, AreSpared, spared_leaves, AnswersAreTheTest}
+use Rattle.flow_laws.specs.Spared.{IsSpared, AreSpared, spared_leaves, AnswersAreTheTest, OthersStay}
 use Rattle.flow_laws.proofs.ClaimLemmas.{number_of, leaf_of, is_of, and_parts, is_not_of_later}
 
 -- The test
@@ -96,6 +96,57 @@ spared_are_current w s before (x ∷ xs) (h, t) =
     step false e a b =
         let l = filter (is_of (s.epoch + 1)) (spare w s before xs) in
         ap (λ b. map leaf_of (cond b (x ∷ l) l)) (is_not_of_later s.epoch x h) ∙ b
+
+-- in two pieces: the second is looked at after what is spared of the first
+pub spare-append : (w : Schema) (s : RunState) (before : List ℕ) (a b : List Claim) →
+    spare w s before (a ++ b) ≡ spare w s before a ++ spare w s (before ++ spared_leaves w s before a) b
+spare-append w s before [] b = ap (λ l. spare w s l b) (sym (append-nil before))
+spare-append w s before (x ∷ xs) b =
+    step (is_spared w s before x) (spare-append w s (before ++ x.leaf ∷ []) xs b) (spare-append w s before xs b)
+  where
+    step : (spared : Bool) →
+        spare w s (before ++ x.leaf ∷ []) (xs ++ b)
+        ≡ spare w s (before ++ x.leaf ∷ []) xs ++ spare w s ((before ++ x.leaf ∷ []) ++ spared_leaves w s (before ++ x.leaf ∷ []) xs) b →
+        spare w s before (xs ++ b) ≡ spare w s before xs ++ spare w s (before ++ spared_leaves w s before xs) b →
+        (if spared then renewed s x ∷ spare w s (before ++ x.leaf ∷ []) (xs ++ b) else x ∷ spare w s before (xs ++ b))
+        ≡ (if spared then renewed s x ∷ spare w s (before ++ x.leaf ∷ []) xs else x ∷ spare w s before xs)
+        ++ spare w s (before ++ (if spared then x.leaf ∷ spared_leaves w s (before ++ x.leaf ∷ []) xs else spared_leaves w s before xs)) b
+    step true a _ =
+        let l = spared_leaves w s (before ++ x.leaf ∷ []) xs in
+        ap (λ l. renewed s x ∷ l) (a ∙ ap (λ l. spare w s (before ++ x.leaf ∷ []) xs ++ spare w s l b) (append_assoc before (x.leaf ∷ []) l))
+    step false _ b = ap (λ l. x ∷ l) b
+
+pub spared_leaves-append : (w : Schema) (s : RunState) (before : List ℕ) (a b : List Claim) →
+    spared_leaves w s before (a ++ b) ≡ spared_leaves w s before a ++ spared_leaves w s (before ++ spared_leaves w s before a) b
+spared_leaves-append w s before [] b = ap (λ l. spared_leaves w s l b) (sym (append-nil before))
+spared_leaves-append w s before (x ∷ xs) b =
+    step (is_spared w s before x) (spared_leaves-append w s (before ++ x.leaf ∷ []) xs b) (spared_leaves-append w s before xs b)
+  where
+    step : (spared : Bool) →
+        spared_leaves w s (before ++ x.leaf ∷ []) (xs ++ b)
+        ≡ spared_leaves w s (before ++ x.leaf ∷ []) xs ++ spared_leaves w s ((before ++ x.leaf ∷ []) ++ spared_leaves w s (before ++ x.leaf ∷ []) xs) b →
+        spared_leaves w s before (xs ++ b) ≡ spared_leaves w s before xs ++ spared_leaves w s (before ++ spared_leaves w s before xs) b →
+        (if spared then x.leaf ∷ spared_leaves w s (before ++ x.leaf ∷ []) (xs ++ b) else spared_leaves w s before (xs ++ b))
+        ≡ (if spared then x.leaf ∷ spared_leaves w s (before ++ x.leaf ∷ []) xs else spared_leaves w s before xs)
+        ++ spared_leaves w s (before ++ (if spared then x.leaf ∷ spared_leaves w s (before ++ x.leaf ∷ []) xs else spared_leaves w s before xs)) b
+    step true a _ =
+        let l = spared_leaves w s (before ++ x.leaf ∷ []) xs in
+        ap (λ l. x.leaf ∷ l) (a ∙ ap (λ m. l ++ spared_leaves w s m b) (append_assoc before (x.leaf ∷ []) l))
+    step false _ b = b
+
+-- where none is current, all stay as they are
+pub spare_of_none : OthersStay
+spare_of_none w s before [] e = (refl, refl)
+spare_of_none w s before (x ∷ xs) e = step (is_current s x) e (spare_of_none w s before xs)
+  where
+    step : (current : Bool) → cond current (x ∷ filter (is_current s) xs) (filter (is_current s) xs) ≡ [] →
+        (filter (is_current s) xs ≡ [] → (spare w s before xs ≡ xs) × (spared_leaves w s before xs ≡ [])) →
+        ((if current && can_all_follow w s (before ++ x.leaf ∷ [])
+        then renewed s x ∷ spare w s (before ++ x.leaf ∷ []) xs else x ∷ spare w s before xs) ≡ x ∷ xs)
+        × ((if current && can_all_follow w s (before ++ x.leaf ∷ [])
+        then x.leaf ∷ spared_leaves w s (before ++ x.leaf ∷ []) xs else spared_leaves w s before xs) ≡ [])
+    step true k rest = cc
+    step false k rest = (ap (λ l. x ∷ l) (rest k).0, (rest k).1)
 
 -- what is spared may follow what was spared before
 pub spared_may_follow : (w : Schema) (s : RunState) (before : List ℕ) (claims : List Claim) → MayAllFollow w s before →

@@ -1,9 +1,10 @@
 -- Which claims a new epoch spares.
 use Rattle.std.specs.Prelude.{◌≡◌, ℕ, ◌+◌, ◌≤◌, Bool, ◌&&◌, if◌then◌else◌, IsTrue, List, [], ◌∷◌, ◌++◌, ◌⊎◌, ◌↔◌}
+use Rattle.std.specs.List.{filter}
 use Rattle.flow_model.specs.Lists.{Each}
 use Rattle.flow_model.specs.Schema.{Schema}
 use Rattle.flow_model.specs.Decided.{can_all_follow}
-use Rattle.flow_model.specs.Run.{Claim, RunState, is_current, current_leaves, MayAllFollow, with_new_epoch}
+use Rattle.flow_model.specs.Run.{Claim, RunState, is_current, current_leaves, MayAllFollow, spare, with_new_epoch}
 
 -- the claim is current, and in some one option its leaf and those before it may follow in every order
 abbrev pub IsSpared : Schema → RunState → List ℕ → Claim → Type 0
@@ -37,3 +38,15 @@ spared_leaves w s before (claim ∷ claims) =
 abbrev pub JustTheSparedAreCurrent : Type 0
 JustTheSparedAreCurrent = (w : Schema) (s : RunState) → Each (λ (claim : Claim). claim.epoch ≤ s.epoch) s.claims →
     current_leaves (with_new_epoch w s) ≡ spared_leaves w s [] s.claims
+
+-- the claims in two pieces: the second is looked at after what is spared of the first
+abbrev pub SparedPieceByPiece : Type 0
+SparedPieceByPiece = (w : Schema) (s : RunState) (before : List ℕ) (first second : List Claim) →
+    (spare w s before (first ++ second) ≡ spare w s before first ++ spare w s (before ++ spared_leaves w s before first) second)
+    × (spared_leaves w s before (first ++ second)
+    ≡ spared_leaves w s before first ++ spared_leaves w s (before ++ spared_leaves w s before first) second)
+
+-- those that are not current stay as they are
+abbrev pub OthersStay : Type 0
+OthersStay = (w : Schema) (s : RunState) (before : List ℕ) (claims : List Claim) → filter (is_current s) claims ≡ [] →
+    (spare w s before claims ≡ claims) × (spared_leaves w s before claims ≡ [])

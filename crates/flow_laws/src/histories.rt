@@ -1,5 +1,5 @@
 ghost use Rattle.flow_laws.specs.Histories.{LegalStatesExtend, NeverAtALoss, NeverStuckWithoutTests};
-ghost use Rattle.flow_laws.specs.Spared.{AnswersAreTheTest, JustTheseAreSpared, JustTheSparedAreCurrent};
+ghost use Rattle.flow_laws.specs.Spared.{AnswersAreTheTest, JustTheseAreSpared, JustTheSparedAreCurrent, OthersStay, SparedPieceByPiece};
 
 /// Whatever legal history was made, in some option its claims may still be answered in every order.
 pub fn law_legal_states_extend()
@@ -16,5 +16,7 @@ pub fn law_never_at_a_loss()
 pub fn law_new_epochs_spare()
     ensures just_these { JustTheseAreSpared }
     ensures current { JustTheSparedAreCurrent }
+    ensures others { OthersStay }
+    ensures pieces { SparedPieceByPiece }
     ensures test { AnswersAreTheTest }
 {}
