@@ -3,6 +3,7 @@ use Rattle.std.proofs.Common.{◌≡◌, ℕ, zero, suc, ◌+◌, ◌*◌, ◌<�
 use Rattle.std.specs.List.{cons_option}
 use Rattle.std.proofs.lemmas.List.{length-map}
 use Rattle.std.proofs.lemmas.Option.{slice_get-map}
+pub use Rattle.flow_model.specs.Decided.{cons_same, not_empty, order_of_none}
 use Rattle.flow_model.specs.Lists.{◌∈◌, Each, AreDistinct, Begins, StandsBefore, IsOrderOf, joined, numbers_from, each_with_each}
 
 -- Members
@@ -322,13 +323,6 @@ distinct-filter_map {A} {B} h (z ∷ t) (new, d) apart =
 
 -- Fronts and orders
 
-pub cons_same : {A : Type 0} (x y : A) (xs ys : List A) → x ∷ xs ≡ y ∷ ys → (x ≡ y) × (xs ≡ ys)
-cons_same x y xs ys e = (let h : x ≡ y = cc in h, let t : xs ≡ ys = cc in t)
-
-pub not_empty : {A : Type 0} (front : List A) (x : A) (back : List A) → ¬ ([] ≡ front ++ x ∷ back)
-not_empty [] x back e = cc
-not_empty (y ∷ front) x back e = cc
-
 pub begins_front : {A : Type 0} (t front more : List A) → Begins t (front ++ more) → Begins t front
 begins_front t front more (rest, e) = (more ++ rest, e ∙ append_assoc front more rest)
 
@@ -338,10 +332,6 @@ begins_and_nothing t front (rest, e) = (rest, e ∙ ap (λ w. w ++ rest) (sym (a
 pub same_order : {A : Type 0} (xs : List A) → IsOrderOf xs xs
 same_order [] = refl
 same_order (x ∷ xs) = ([], xs, refl, same_order xs)
-
-pub order_of_none : {A : Type 0} (order : List A) → IsOrderOf order [] → order ≡ []
-order_of_none [] h = refl
-order_of_none (x ∷ order) (front, back, e, h) = absurd (not_empty front x back e)
 
 pub order_of_one : {A : Type 0} (order : List A) (x : A) → IsOrderOf order (x ∷ []) → order ≡ x ∷ []
 order_of_one [] x h = absurd (not_empty [] x [] (sym h))

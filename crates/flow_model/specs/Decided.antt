@@ -95,15 +95,12 @@ but_first (x ∷ list) = list
 some_is_not_none : {A : Type 0} (x : A) (list : List A) → ¬ (x ∷ list ≡ [])
 some_is_not_none x list e = subst IsEmpty (sym e) tt
 
-firsts_same : {A : Type 0} (x y : A) (a b : List A) → x ∷ a ≡ y ∷ b → x ≡ y
-firsts_same x y a b e = ap (first_or x) e
+pub cons_same : {A : Type 0} (x y : A) (xs ys : List A) → x ∷ xs ≡ y ∷ ys → (x ≡ y) × (xs ≡ ys)
+cons_same x y xs ys e = (ap (first_or x) e, ap but_first e)
 
-rests_same : {A : Type 0} (x y : A) (a b : List A) → x ∷ a ≡ y ∷ b → a ≡ b
-rests_same x y a b e = ap but_first e
-
-no_cut_of_none : {A : Type 0} (front back : List A) (x : A) → ¬ ([] ≡ front ++ x ∷ back)
-no_cut_of_none [] back x e = some_is_not_none x back (sym e)
-no_cut_of_none (y ∷ front) back x e = some_is_not_none y (front ++ x ∷ back) (sym e)
+pub not_empty : {A : Type 0} (front : List A) (x : A) (back : List A) → ¬ ([] ≡ front ++ x ∷ back)
+not_empty [] x back e = some_is_not_none x back (sym e)
+not_empty (y ∷ front) x back e = some_is_not_none y (front ++ x ∷ back) (sym e)
 
 pub decide_begins : (list front : List ℕ) → Decided (Begins list front)
 decide_begins list [] = inl (list, refl)
@@ -114,7 +111,7 @@ decide_begins (y ∷ list) (x ∷ front) = decide_as to from (decide_both (decid
     to (e, (rest, h)) = (rest, ap (λ l. y ∷ l) h ∙ ap (λ n. n ∷ (front ++ rest)) e)
 
     from : Begins (y ∷ list) (x ∷ front) → (y ≡ x) × Begins list front
-    from (rest, h) = (firsts_same y x list (front ++ rest) h, (rest, rests_same y x list (front ++ rest) h))
+    from (rest, h) = let (e, k) = cons_same y x list (front ++ rest) h in (e, (rest, k))
 
 -- Orders of a list
 
@@ -124,7 +121,7 @@ EachCut {A} list P = (front back : List A) (x : A) → list ≡ front ++ x ∷ b
 
 decide_cuts : {A : Type 0} (members : List A) (P : List A → List A → A → Type 0) →
     EachCut members (λ front back x. Decided (P front back x)) → Decided (EachCut members P)
-decide_cuts [] P d = inl (λ front back x e. absurd (no_cut_of_none front back x e))
+decide_cuts [] P d = inl (λ front back x e. absurd (not_empty front x back e))
 decide_cuts {A} (m ∷ members) P d =
     decide_as to from
     (decide_both (d [] members m refl)
@@ -132,10 +129,10 @@ decide_cuts {A} (m ∷ members) P d =
   where
     to : P [] members m × EachCut members (λ front back x. P (m ∷ front) back x) → EachCut (m ∷ members) P
     to (h, k) [] back x e =
-        subst (λ l. P [] l x) (rests_same m x members back e) (subst (P [] members) (firsts_same m x members back e) h)
+        let (same, rest) = cons_same m x members back e in subst (λ l. P [] l x) rest (subst (P [] members) same h)
     to (h, k) (y ∷ front) back x e =
-        subst (λ z. P (z ∷ front) back x) (firsts_same m y members (front ++ x ∷ back) e)
-        (k front back x (rests_same m y members (front ++ x ∷ back) e))
+        let (same, rest) = cons_same m y members (front ++ x ∷ back) e in
+        subst (λ z. P (z ∷ front) back x) same (k front back x rest)
 
     from : EachCut (m ∷ members) P → P [] members m × EachCut members (λ front back x. P (m ∷ front) back x)
     from f = (f [] members m refl, λ front back x e. f (m ∷ front) back x (ap (λ l. m ∷ l) e))
@@ -152,9 +149,9 @@ length-cut : {A : Type 0} (front back : List A) (x : A) → length (front ++ x �
 length-cut [] back x = refl
 length-cut (y ∷ front) back x = ap suc (length-cut front back x)
 
-order_of_none : {A : Type 0} (order : List A) → IsOrderOf order [] → order ≡ []
+pub order_of_none : {A : Type 0} (order : List A) → IsOrderOf order [] → order ≡ []
 order_of_none [] h = refl
-order_of_none (x ∷ order) (front, back, e, h) = absurd (no_cut_of_none front back x e)
+order_of_none (x ∷ order) (front, back, e, h) = absurd (not_empty front x back e)
 
 abbrev ByFirst : {A : Type 0} → (List A → Type 0) → List A → List A → A → Type 0
 ByFirst {A} P front back x = (order : List A) → IsOrderOf order (front ++ back) → P (x ∷ order)
@@ -182,9 +179,9 @@ decide_orders {A} (suc count) (m ∷ members) P e d =
 abbrev SomeShuffle : {A : Type 0} → List A → List A → (List A → Type 0) → Type 0
 SomeShuffle {A} a b P = (c : List A) × Shuffle a b c × P c
 
-shuffle_of_none : {A : Type 0} (b : List A) → Shuffle [] b b
-shuffle_of_none [] = both_end
-shuffle_of_none (y ∷ b) = from_right (shuffle_of_none b)
+pub shuffle_right : {A : Type 0} (b : List A) → Shuffle [] b b
+shuffle_right [] = both_end
+shuffle_right (y ∷ b) = from_right (shuffle_right b)
 
 shuffled_with_none : {A : Type 0} (P : List A → Type 0) {b c : List A} → Shuffle [] b c → P c → P b
 shuffled_with_none P both_end p = p
@@ -214,7 +211,7 @@ decide_after {A} x a left (y ∷ b) P d =
     from (all, from_right {c = c} s, p) = inr (c, s, p)
 
 decide_shuffles : {A : Type 0} (a b : List A) (P : List A → Type 0) → ((c : List A) → Decided (P c)) → Decided (SomeShuffle a b P)
-decide_shuffles [] b P d = decide_as (λ p. (b, shuffle_of_none b, p)) (λ (c, s, p). shuffled_with_none P s p) (d b)
+decide_shuffles [] b P d = decide_as (λ p. (b, shuffle_right b, p)) (λ (c, s, p). shuffled_with_none P s p) (d b)
 decide_shuffles (x ∷ a) b P d = decide_after x a (decide_shuffles a) b P d
 
 abbrev SomeBlocks : Process → (List (List ℕ) → Type 0) → Type 0
