@@ -49,7 +49,7 @@ pub record Records (w : Definition) (session : List Command) (status : Status) (
   pub driven : Drives w.events (start_of w) session replies last
   pub lawful : IsLawful (schema_of w.tree) step_limit last.history
   pub verdict : Verdict
-  pub verdict_is : meaning verdict ≡ drive_verdict step_limit last.history
+  pub verdict_is : meaning verdict ≡ drive_verdict (schema_of w.tree) step_limit last.history
   pub status_is : status ≡ ended verdict
   pub output_is : output ≡ replies ++ report_text w last.history (now last).journal (meaning verdict)
 

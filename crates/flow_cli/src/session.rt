@@ -39,7 +39,7 @@ fn serve(core: &mut Core, command: &Command) -> Answer
 
 /// What the run came to.
 pub fn verdict_of(core: &Core) -> Verdict
-    ensures verdict { meaning result ≡ drive_verdict core.now.limit core.now.history }
+    ensures verdict { meaning result ≡ drive_verdict core.now.schema core.now.limit core.now.history }
     ensures drive { IsOfDrive result }
 {
     if core.committed() {

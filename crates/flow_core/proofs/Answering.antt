@@ -41,39 +41,39 @@ module _ (t : Labelled) (limit : ℕ) (history : List Entry) (journal : List ℕ
       let row : n < 0 + length t.labels = below_row 0 (length t.labels) n (subst (λ xs. n ∈ xs) k.numbered m) in
       let same : length done ≡ length t.labels = k.flags.one_each in omega arith)
 
-  flags : AreFlags t done (state_of history).journal
+  flags : AreFlags t done (state_of (schema_of t) history).journal
   flags = subst (AreFlags t done) (sym k.journal_is) k.flags
 
   -- the leaves of the claims that are out
-  current : current_leaves (state_of history) ≡ out_leaves given
-  current = current-leaves (state_of history) given k.ahead.epoch k.claims_are
+  current : current_leaves (state_of (schema_of t) history) ≡ out_leaves given
+  current = current-leaves (state_of (schema_of t) history) given k.ahead.epoch k.claims_are
 
   pub enabled : (leaf : ℕ) → IsEventLeaf (schema_of t) leaf → IsTrue (is_next t.process done leaf) → IsTrue (not (is_out given leaf)) →
-      CanTake (schema_of t) (state_of history) leaf
+      CanTake (schema_of t) (state_of (schema_of t) history) leaf
   enabled leaf event next free =
-      can_take t k.plain k.numbered (state_of history) k.ahead leaf event
-      (ready_of_next t k.plain k.numbered done (state_of history) flags leaf next)
+      can_take t k.plain k.numbered (state_of (schema_of t) history) k.ahead leaf event
+      (ready_of_next t k.plain k.numbered done (state_of (schema_of t) history) flags leaf next)
       (λ m. is_not (is_out given leaf) free ((is_out-iff given leaf).1 (subst (λ xs. leaf ∈ xs) current m)))
     where
       is_not : (b : Bool) → not b ≡ true → ¬ (b ≡ true)
       is_not true h e = let f : false ≡ true = h in cc
       is_not false h e = cc
 
-  pub enabled_next : (leaf : ℕ) → CanTake (schema_of t) (state_of history) leaf → IsTrue (is_next t.process done leaf)
+  pub enabled_next : (leaf : ℕ) → CanTake (schema_of t) (state_of (schema_of t) history) leaf → IsTrue (is_next t.process done leaf)
   enabled_next leaf can =
-      let ready = ready_to_take t k.plain k.numbered (state_of history) leaf can in
-      next_of_ready t k.plain done (state_of history) flags leaf
-      (each_parts (IsReady t.process [] (λ n. n ∈ (state_of history).journal)) (current_leaves (state_of history)) (leaf ∷ []) ready.0).1.0
+      let ready = ready_to_take t k.plain k.numbered (state_of (schema_of t) history) leaf can in
+      next_of_ready t k.plain done (state_of (schema_of t) history) flags leaf
+      (each_parts (IsReady t.process [] (λ n. n ∈ (state_of (schema_of t) history).journal)) (current_leaves (state_of (schema_of t) history)) (leaf ∷ []) ready.0).1.0
 
-  pub enabled_free : (leaf : ℕ) → CanTake (schema_of t) (state_of history) leaf → IsTrue (not (is_out given leaf))
+  pub enabled_free : (leaf : ℕ) → CanTake (schema_of t) (state_of (schema_of t) history) leaf → IsTrue (not (is_out given leaf))
   enabled_free leaf can = not_true (is_out given leaf) (λ e. can.1 (subst (λ xs. leaf ∈ xs) (sym current) ((is_out-iff given leaf).0 e)))
     where
       not_true : (b : Bool) → ¬ (b ≡ true) → not b ≡ true
       not_true true h = absurd (h refl)
       not_true false h = refl
 
-  pub complete : IsTrue (is_finished t.process done) ↔ IsGood (schema_of t) (state_of history).journal
-  complete = good_when_finished t k.plain k.numbered done (state_of history) flags k.ahead.journal
+  pub complete : IsTrue (is_finished t.process done) ↔ IsGood (schema_of t) (state_of (schema_of t) history).journal
+  complete = good_when_finished t k.plain k.numbered done (state_of (schema_of t) history) flags k.ahead.journal
 
 -- no claim is current where there is none
 mem-filter : (p : Claim → Bool) (x : Claim) (xs : List Claim) → x ∈ xs → p x ≡ true → x ∈ filter p xs
@@ -140,51 +140,51 @@ some_first k (g ∷ gs) i h = step g.answered refl (λ n. some_first (k + 1) gs 
 module _ (t : Labelled) (limit : ℕ) (history : List Entry) (journal : List ℕ) (done : List Bool) (given : List Given) (committed : Bool)
     (k : IsKept t limit history journal done given committed) where
   -- there is no claim out
-  pub none_out : first_out given ≡ None → current_claims (state_of history) ≡ []
-  none_out h = no_map (current_claims (state_of history)) (current-leaves (state_of history) given k.ahead.epoch k.claims_are ∙ none_first 0 given h)
+  pub none_out : first_out given ≡ None → current_claims (state_of (schema_of t) history) ≡ []
+  none_out h = no_map (current_claims (state_of (schema_of t) history)) (current-leaves (state_of (schema_of t) history) given k.ahead.epoch k.claims_are ∙ none_first 0 given h)
     where
       no_map : (claims : List Claim) → map (λ (claim : Claim). claim.leaf) claims ≡ [] → claims ≡ []
       no_map [] e = refl
       no_map (x ∷ xs) e = cc
 
   -- the first claim that is out is the least
-  pub least_out : (place : ℕ) → first_out given ≡ Some place → IsLeastOut (state_of history) (place + 1) × (place < length given)
+  pub least_out : (place : ℕ) → first_out given ≡ Some place → IsLeastOut (state_of (schema_of t) history) (place + 1) × (place < length given)
   least_out place h =
       let (j, e, first) = some_first 0 given place h in
       let at : place ≡ j = let f : place ≡ 0 + j = e in omega arith in
       let number : place + 1 ≡ 1 + j = omega arith in
       let within : j < length given = slice_get_within given j first.claim first.at in (
         (
-          (current-given (state_of history) given k.claims_are k.ahead.epoch (place + 1) j first.claim number first.at).0 first.out,
+          (current-given (state_of (schema_of t) history) given k.claims_are k.ahead.epoch (place + 1) j first.claim number first.at).0 first.out,
           λ other current. elim (numbered given other) [
-            | given_at m g n w a ↦ (let out : g.answered ≡ false = (current-given (state_of history) given k.claims_are k.ahead.epoch other m g n a).1 current in
+            | given_at m g n w a ↦ (let out : g.answered ≡ false = (current-given (state_of (schema_of t) history) given k.claims_are k.ahead.epoch other m g n a).1 current in
                 let l : j ≤ m = first.least m g a out in omega arith)
-            | not_given x ↦ absurd (not-current (state_of history) given k.claims_are other x current)
+            | not_given x ↦ absurd (not-current (state_of (schema_of t) history) given k.claims_are other x current)
           ],
         ),
         omega arith,
       )
 
   -- a number that was never given
-  pub never_given : (claim : ℕ) → (claim ≡ 0) ⊎ (length given < claim) → claim_at (state_of history) claim ≡ None
-  never_given claim h = claim-not-given (state_of history) given k.claims_are claim h
+  pub never_given : (claim : ℕ) → (claim ≡ 0) ⊎ (length given < claim) → claim_at (state_of (schema_of t) history) claim ≡ None
+  never_given claim h = claim-not-given (state_of (schema_of t) history) given k.claims_are claim h
 
   -- the claim that is read at a place
-  pub read_given : (claim : ℕ) (g : Given) → (claim ≡ 0 → ⊥) → claim ≤ length given → g ≡ get_or given (claim - 1) g → claim_at (state_of history) claim ≡ Some (claim_of claim g)
+  pub read_given : (claim : ℕ) (g : Given) → (claim ≡ 0 → ⊥) → claim ≤ length given → g ≡ get_or given (claim - 1) g → claim_at (state_of (schema_of t) history) claim ≡ Some (claim_of claim g)
   read_given claim g some within read =
       let place : slice_get given (claim - 1) ≡ Some g = slice_get_read given (length given) (claim - 1) g refl (omega arith) read in
-      claim-given (state_of history) given k.claims_are claim (claim - 1) g (omega arith) place
+      claim-given (state_of (schema_of t) history) given k.claims_are claim (claim - 1) g (omega arith) place
 
-  pub is_answered : (claim : ℕ) (g : Given) → (claim ≡ 0 → ⊥) → claim ≤ length given → g ≡ get_or given (claim - 1) g → g.answered ≡ true → IsAnswered (state_of history) claim
+  pub is_answered : (claim : ℕ) (g : Given) → (claim ≡ 0 → ⊥) → claim ≤ length given → g ≡ get_or given (claim - 1) g → g.answered ≡ true → IsAnswered (state_of (schema_of t) history) claim
   is_answered claim g some within read a =
       subst (λ o. IsSomeAnd o (λ (c : Claim). IsTrue c.answered)) (sym (read_given claim g some within read)) a
 
   pub still_out : (claim : ℕ) (g : Given) → (claim ≡ 0 → ⊥) → claim ≤ length given → g ≡ get_or given (claim - 1) g → g.answered ≡ false →
-      IsOut (state_of history) claim × IsCurrent (state_of history) claim
+      IsOut (state_of (schema_of t) history) claim × IsCurrent (state_of (schema_of t) history) claim
   still_out claim g some within read a =
       let place : slice_get given (claim - 1) ≡ Some g = slice_get_read given (length given) (claim - 1) g refl (omega arith) read in (
         subst (λ o. IsSomeAnd o (λ (c : Claim). c.answered ≡ false)) (sym (read_given claim g some within read)) a,
-        (current-given (state_of history) given k.claims_are k.ahead.epoch claim (claim - 1) g (omega arith) place).0 a,
+        (current-given (state_of (schema_of t) history) given k.claims_are k.ahead.epoch claim (claim - 1) g (omega arith) place).0 a,
       )
 
 -- how a claim stands, it stands one way
@@ -220,4 +220,4 @@ module _ (t : Labelled) (limit : ℕ) (history : List Entry) (journal : List ℕ
       (event_leaf t.labels k.plain.events n (omega arith), each_event ns h.1)
 
   pub journal_events : Each (IsEventLeaf (schema_of t)) journal
-  journal_events = subst (Each (IsEventLeaf (schema_of t))) k.journal_is (each_event (state_of history).journal (run_leaves t.process [] (λ n. ⊥) (state_of history).journal k.ahead.journal))
+  journal_events = subst (Each (IsEventLeaf (schema_of t))) k.journal_is (each_event (state_of (schema_of t) history).journal (run_leaves t.process [] (λ n. ⊥) (state_of (schema_of t) history).journal k.ahead.journal))

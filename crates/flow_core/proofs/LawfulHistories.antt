@@ -21,7 +21,7 @@ false_is_not : false ≡ true → ⊥
 false_is_not e = cc
 
 -- only a commit ends a run, and it finds the journal good
-good_step : (w : Schema) (s : RunState) (step : Step) → s.committed ≡ false → IsAllowed w s step → (next_state s step).committed ≡ true → IsGood w (next_state s step).journal
+good_step : (w : Schema) (s : RunState) (step : Step) → s.committed ≡ false → IsAllowed w s step → (next_state w s step).committed ≡ true → IsGood w (next_state w s step).journal
 good_step w s (Took claim leaf) going a c = absurd (false_is_not (sym going ∙ c))
 good_step w s (Done claim) going a c = absurd (false_is_not (sym going ∙ c))
 good_step w s (Failed claim Switched) going a c = absurd (false_is_not (sym going ∙ c))
@@ -33,10 +33,10 @@ good_step w s Committed going a c = a.1
 
 -- a legal history that is committed ends with a good journal
 good_end : (w : Schema) (limit : ℕ) (s : RunState) (made : ℕ) (history : List Entry) → IsLegalFrom w limit s made history →
-    (s.committed ≡ true → IsGood w s.journal) → (state_after s history).committed ≡ true → IsGood w (state_after s history).journal
+    (s.committed ≡ true → IsGood w s.journal) → (state_after w s history).committed ≡ true → IsGood w (state_after w s history).journal
 good_end w limit s made [] legal so_far c = so_far c
 good_end w limit s made (entry ∷ entries) legal so_far c =
-    good_end w limit (next_state s entry.step) (made + 1) entries legal.3 (good_step w s entry.step legal.0 legal.2) c
+    good_end w limit (next_state w s entry.step) (made + 1) entries legal.3 (good_step w s entry.step legal.0 legal.2) c
 
 pub lawful : (t : Labelled) (limit : ℕ) (history : List Entry) (journal : List ℕ) (done : List Bool) (given : List Given) (committed : Bool) →
     IsKept t limit history journal done given committed → IsLawful (schema_of t) limit history

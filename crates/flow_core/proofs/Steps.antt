@@ -11,6 +11,7 @@ use Rattle.flow_model.specs.Verdict.{call_of, event_of_claim, attempts}
 use Rattle.flow_model.specs.declared.history.Step.TheVariants.{Took, Done, Committed}
 use Rattle.flow_model.specs.Lists.{◌∈◌, Each, AreDistinct, numbers_from}
 use Rattle.flow_model.specs.Schema.{Schema, IsGood}
+use Rattle.flow_model.specs.Decided.{decide_eq}
 use Rattle.flow_model.specs.Ready.{IsReady, IsReadyRun}
 use Rattle.flow_model.specs.Run.{Claim, RunState, first_state, next_state, state_after, state_of, current_leaves, current_claims, claim_at, leaf_of_claim, IsCurrent, IsAllowed, IsLegalFrom, IsLegal, CanTake, answer}
 use Rattle.flow_goal.specs.Labelled.{Labelled}
@@ -22,24 +23,25 @@ use Rattle.flow_core.specs.View.{schema_of}
 use Rattle.flow_core.specs.Kept.{IsAhead, AreFlags, IsKept}
 use Rattle.flow_core.proofs.PlainGoals.{plain_ready}
 use Rattle.flow_core.proofs.GivenClaims.{given_at, not_given, numbered, current-given, not-current, length-claims_from, claims_from-append, find-claims_from, answered, answer-claims_from, out_leaves, current-leaves, out_leaves-append, LeavesOut, out_leaves-answered}
-use Rattle.flow_laws.proofs.ListLemmas2.{mem_append_left, mem_append_right, mem-append, each-append, each_parts, distinct_parts, distinct-append, equal_or_not}
+use Rattle.flow_laws.proofs.ListLemmas2.{mem_append_left, mem_append_right, mem-append, each-append, each_parts, distinct_parts, distinct-append}
 use Rattle.flow_laws.proofs.FollowingLemmas.{run_after_journal}
 use Rattle.flow_laws.proofs.ClaimLemmas.{leaf_of_claim_is}
 use Rattle.std.specs.List.{find, fold}
 use Rattle.std.proofs.lemmas.Bool.{le-leb}
 
 -- the state after one entry more
-pub state_after-append : (s : RunState) (history : List Entry) (entry : Entry) → state_after s (history ++ entry ∷ []) ≡ next_state (state_after s history) entry.step
-state_after-append s [] entry = refl
-state_after-append s (e ∷ history) entry = state_after-append (next_state s e.step) history entry
+pub state_after-append : (w : Schema) (s : RunState) (history : List Entry) (entry : Entry) →
+    state_after w s (history ++ entry ∷ []) ≡ next_state w (state_after w s history) entry.step
+state_after-append w s [] entry = refl
+state_after-append w s (e ∷ history) entry = state_after-append w (next_state w s e.step) history entry
 
 -- a legal history goes on with an entry that is legal after it
 pub legal-append : (w : Schema) (limit : ℕ) (s : RunState) (made : ℕ) (history : List Entry) (entry : Entry) → IsLegalFrom w limit s made history →
-    (state_after s history).committed ≡ false → made + length history < limit → IsAllowed w (state_after s history) entry.step →
+    (state_after w s history).committed ≡ false → made + length history < limit → IsAllowed w (state_after w s history) entry.step →
     IsLegalFrom w limit s made (history ++ entry ∷ [])
 legal-append w limit s made [] entry legal going room allowed = (going, (let r : made < limit = omega arith in r), allowed, tt)
 legal-append w limit s made (e ∷ history) entry (a, b, c, rest) going room allowed =
-    (a, b, c, legal-append w limit (next_state s e.step) (made + 1) history entry rest going (let r : made + 1 + length history < limit = omega arith in r) allowed)
+    (a, b, c, legal-append w limit (next_state w s e.step) (made + 1) history entry rest going (let r : made + 1 + length history < limit = omega arith in r) allowed)
 
 -- what is ready stays ready when another leaf is done, in a plain goal
 stays_ready : (t : Labelled) → IsPlainTree t → (journal : List ℕ) (x y : ℕ) → IsReady t.process [] (λ n. n ∈ journal) y → x ≢ y →
@@ -57,16 +59,16 @@ stay_ready t plain journal x (y ∷ ys) rs new =
 -- a claim more
 pub ahead_took : (t : Labelled) (s : RunState) (gs : List Given) → IsAhead t s → s.claims ≡ claims_from 1 gs → (claim leaf : ℕ) → claim ≡ 1 + length gs →
     Each (IsReady t.process [] (λ n. n ∈ s.journal)) (current_leaves s ++ leaf ∷ []) → AreDistinct (current_leaves s ++ leaf ∷ []) →
-    IsAhead t (next_state s (Took claim leaf)) × ((next_state s (Took claim leaf)).claims ≡ claims_from 1 (gs ++ record { leaf = leaf; answered = false } ∷ []))
+    IsAhead t (next_state (schema_of t) s (Took claim leaf)) × ((next_state (schema_of t) s (Took claim leaf)).claims ≡ claims_from 1 (gs ++ record { leaf = leaf; answered = false } ∷ []))
 ahead_took t s gs ahead c claim leaf number ready apart =
     let g : Given = record { leaf = leaf; answered = false } in
-    let c' : (next_state s (Took claim leaf)).claims ≡ claims_from 1 (gs ++ g ∷ []) =
+    let c' : (next_state (schema_of t) s (Took claim leaf)).claims ≡ claims_from 1 (gs ++ g ∷ []) =
     ap (λ cs. cs ++ record { number = claim; leaf = leaf; epoch = s.epoch; answered = false } ∷ []) c
     ∙ ap (λ n. claims_from 1 gs ++ record { number = claim; leaf = leaf; epoch = n; answered = false } ∷ []) ahead.epoch
     ∙ ap (λ n. claims_from 1 gs ++ claim_of n g ∷ []) number
     ∙ sym (claims_from-append 1 gs g) in
-    let now : current_leaves (next_state s (Took claim leaf)) ≡ current_leaves s ++ leaf ∷ [] =
-    current-leaves (next_state s (Took claim leaf)) (gs ++ g ∷ []) ahead.epoch c' ∙ out_leaves-append gs leaf
+    let now : current_leaves (next_state (schema_of t) s (Took claim leaf)) ≡ current_leaves s ++ leaf ∷ [] =
+    current-leaves (next_state (schema_of t) s (Took claim leaf)) (gs ++ g ∷ []) ahead.epoch c' ∙ out_leaves-append gs leaf
     ∙ ap (λ xs. xs ++ leaf ∷ []) (sym (current-leaves s gs ahead.epoch c)) in (
       record {
         bans = ahead.bans;
@@ -98,12 +100,12 @@ place_of_claim s gs c i g at = ap (find (λ (claim : Claim). nat_eq claim.number
 -- a claim answered by a success
 pub ahead_done : (t : Labelled) → IsPlainTree t → (s : RunState) (gs : List Given) → IsAhead t s → s.claims ≡ claims_from 1 gs → (i : ℕ) (g : Given) →
     slice_get gs i ≡ Some g → g.answered ≡ false →
-    IsAhead t (next_state s (Done (1 + i))) × ((next_state s (Done (1 + i))).claims ≡ claims_from 1 (set gs i (answered g)))
-    × ((next_state s (Done (1 + i))).journal ≡ s.journal ++ g.leaf ∷ [])
+    IsAhead t (next_state (schema_of t) s (Done (1 + i))) × ((next_state (schema_of t) s (Done (1 + i))).claims ≡ claims_from 1 (set gs i (answered g)))
+    × ((next_state (schema_of t) s (Done (1 + i))).journal ≡ s.journal ++ g.leaf ∷ [])
 ahead_done t plain s gs ahead c i g at going =
     let found : claim_at s (1 + i) ≡ Some (claim_of (1 + i) g) = place_of_claim s gs c i g at in
     let leaf : leaf_of_claim s (1 + i) ≡ g.leaf = leaf_of_claim_is s (1 + i) (claim_of (1 + i) g) found in
-    let s' : RunState = next_state s (Done (1 + i)) in
+    let s' : RunState = next_state (schema_of t) s (Done (1 + i)) in
     let journal' : s'.journal ≡ s.journal ++ g.leaf ∷ [] = ap (λ n. s.journal ++ n ∷ []) leaf in
     let claims' : s'.claims ≡ claims_from 1 (set gs i (answered g)) = ap (answer (1 + i)) c ∙ answer-claims_from 1 i gs g at in
     let out : LeavesOut (out_leaves gs) (out_leaves (set gs i (answered g))) g.leaf = out_leaves-answered gs i g at going in
@@ -149,7 +151,7 @@ pub flags_set : (t : Labelled) (done : List Bool) (journal : List ℕ) → AreFl
 flags_set t done journal flags leaf below = record {
   one_each = length-set done leaf true ∙ flags.one_each;
   exact = λ n. (
-    elim (equal_or_not n leaf) [
+    elim (decide_eq n leaf) [
       | inl e ↦ (λ d. mem_append_right n journal (leaf ∷ []) (inl e))
       | inr ne ↦ (λ d. mem_append_left n journal (leaf ∷ []) ((flags.exact n).0 (sym (is_done-other done n leaf ne) ∙ d)))
     ],
@@ -169,26 +171,26 @@ length-longer history by step = length-append history (record { by = by; step = 
 
 -- what each entry owes
 legal_longer : (t : Labelled) (limit : ℕ) (history : List Entry) (by : ℕ) (step : Step) → IsLegal (schema_of t) limit history →
-    (state_of history).committed ≡ false → length history < limit → IsAllowed (schema_of t) (state_of history) step → IsLegal (schema_of t) limit (longer history by step)
+    (state_of (schema_of t) history).committed ≡ false → length history < limit → IsAllowed (schema_of t) (state_of (schema_of t) history) step → IsLegal (schema_of t) limit (longer history by step)
 legal_longer t limit history by step legal going room allowed =
     legal-append (schema_of t) limit first_state 0 history (record { by = by; step = step }) legal going (let r : 0 + length history < limit = omega arith in r) allowed
 
-state_longer : (history : List Entry) (by : ℕ) (step : Step) → state_of (longer history by step) ≡ next_state (state_of history) step
-state_longer history by step = state_after-append first_state history (record { by = by; step = step })
+state_longer : (t : Labelled) (history : List Entry) (by : ℕ) (step : Step) → state_of (schema_of t) (longer history by step) ≡ next_state (schema_of t) (state_of (schema_of t) history) step
+state_longer t history by step = state_after-append (schema_of t) first_state history (record { by = by; step = step })
 
 -- a claim is given
 pub kept_give : (t : Labelled) (limit : ℕ) (history : List Entry) (journal : List ℕ) (done : List Bool) (given : List Given) (committed : Bool) →
-    IsKept t limit history journal done given committed → (state_of history).committed ≡ false → length history < limit → (leaf by : ℕ) →
-    CanTake (schema_of t) (state_of history) leaf →
-    Each (IsReady t.process [] (λ n. n ∈ (state_of history).journal)) (current_leaves (state_of history) ++ leaf ∷ []) × AreDistinct (current_leaves (state_of history) ++ leaf ∷ []) →
+    IsKept t limit history journal done given committed → (state_of (schema_of t) history).committed ≡ false → length history < limit → (leaf by : ℕ) →
+    CanTake (schema_of t) (state_of (schema_of t) history) leaf →
+    Each (IsReady t.process [] (λ n. n ∈ (state_of (schema_of t) history).journal)) (current_leaves (state_of (schema_of t) history) ++ leaf ∷ []) × AreDistinct (current_leaves (state_of (schema_of t) history) ++ leaf ∷ []) →
     IsKept t limit (longer history by (Took (1 + length given) leaf)) journal done (given ++ record { leaf = leaf; answered = false } ∷ []) committed
 kept_give t limit history journal done given committed k going room leaf by can ready =
     let step : Step = Took (1 + length given) leaf in
     let g : Given = record { leaf = leaf; answered = false } in
-    let count : 1 + length given ≡ length (state_of history).claims + 1 =
-    let e : length (state_of history).claims ≡ length given = ap length k.claims_are ∙ length-claims_from 1 given in omega arith in
-    let both = ahead_took t (state_of history) given k.ahead k.claims_are (1 + length given) leaf refl ready.0 ready.1 in
-    let same : state_of (longer history by step) ≡ next_state (state_of history) step = state_longer history by step in
+    let count : 1 + length given ≡ length (state_of (schema_of t) history).claims + 1 =
+    let e : length (state_of (schema_of t) history).claims ≡ length given = ap length k.claims_are ∙ length-claims_from 1 given in omega arith in
+    let both = ahead_took t (state_of (schema_of t) history) given k.ahead k.claims_are (1 + length given) leaf refl ready.0 ready.1 in
+    let same : state_of (schema_of t) (longer history by step) ≡ next_state (schema_of t) (state_of (schema_of t) history) step = state_longer t history by step in
     record {
       plain = k.plain;
       numbered = k.numbered;
@@ -206,13 +208,13 @@ kept_give t limit history journal done given committed k going room leaf by can 
 
 -- a success is posted
 pub kept_done : (t : Labelled) (limit : ℕ) (history : List Entry) (journal : List ℕ) (done : List Bool) (given : List Given) (committed : Bool) →
-    IsKept t limit history journal done given committed → (state_of history).committed ≡ false → length history < limit → (by i : ℕ) (g : Given) →
-    slice_get given i ≡ Some g → g.answered ≡ false → g.leaf < length done → IsCurrent (state_of history) (1 + i) →
+    IsKept t limit history journal done given committed → (state_of (schema_of t) history).committed ≡ false → length history < limit → (by i : ℕ) (g : Given) →
+    slice_get given i ≡ Some g → g.answered ≡ false → g.leaf < length done → IsCurrent (state_of (schema_of t) history) (1 + i) →
     IsKept t limit (longer history by (Done (1 + i))) (journal ++ g.leaf ∷ []) (set done g.leaf true) (set given i (answered g)) committed
 kept_done t limit history journal done given committed k going room by i g at out below current =
     let step : Step = Done (1 + i) in
-    let both = ahead_done t k.plain (state_of history) given k.ahead k.claims_are i g at out in
-    let same : state_of (longer history by step) ≡ next_state (state_of history) step = state_longer history by step in
+    let both = ahead_done t k.plain (state_of (schema_of t) history) given k.ahead k.claims_are i g at out in
+    let same : state_of (schema_of t) (longer history by step) ≡ next_state (schema_of t) (state_of (schema_of t) history) step = state_longer t history by step in
     record {
       plain = k.plain;
       numbered = k.numbered;
@@ -231,11 +233,11 @@ kept_done t limit history journal done given committed k going room by i g at ou
 
 -- the run is over
 pub kept_commit : (t : Labelled) (limit : ℕ) (history : List Entry) (journal : List ℕ) (done : List Bool) (given : List Given) (committed : Bool) →
-    IsKept t limit history journal done given committed → (state_of history).committed ≡ false → length history < limit → (by : ℕ) →
-    current_claims (state_of history) ≡ [] → IsGood (schema_of t) (state_of history).journal →
+    IsKept t limit history journal done given committed → (state_of (schema_of t) history).committed ≡ false → length history < limit → (by : ℕ) →
+    current_claims (state_of (schema_of t) history) ≡ [] → IsGood (schema_of t) (state_of (schema_of t) history).journal →
     IsKept t limit (longer history by Committed) journal done given true
 kept_commit t limit history journal done given committed k going room by none good =
-    let same : state_of (longer history by Committed) ≡ next_state (state_of history) Committed = state_longer history by Committed in
+    let same : state_of (schema_of t) (longer history by Committed) ≡ next_state (schema_of t) (state_of (schema_of t) history) Committed = state_longer t history by Committed in
     record {
       plain = k.plain;
       numbered = k.numbered;
@@ -310,19 +312,19 @@ pub out_below : (t : Labelled) (limit : ℕ) (history : List Entry) (journal : L
     IsKept t limit history journal done given committed → (i : ℕ) (g : Given) → slice_get given i ≡ Some g → g.answered ≡ false → g.leaf < length done
 out_below t limit history journal done given committed k i g at out =
     let l : LeavesOut (out_leaves given) (out_leaves (set given i (answered g))) g.leaf = out_leaves-answered given i g at out in
-    let before : current_leaves (state_of history) ≡ l.front ++ g.leaf ∷ l.back = current-leaves (state_of history) given k.ahead.epoch k.claims_are ∙ l.was in
-    let ready = each_without (IsReady t.process [] (λ n. n ∈ (state_of history).journal)) l.front g.leaf l.back
-    (subst (Each (IsReady t.process [] (λ n. n ∈ (state_of history).journal))) before k.ahead.claims) in
+    let before : current_leaves (state_of (schema_of t) history) ≡ l.front ++ g.leaf ∷ l.back = current-leaves (state_of (schema_of t) history) given k.ahead.epoch k.claims_are ∙ l.was in
+    let ready = each_without (IsReady t.process [] (λ n. n ∈ (state_of (schema_of t) history).journal)) l.front g.leaf l.back
+    (subst (Each (IsReady t.process [] (λ n. n ∈ (state_of (schema_of t) history).journal))) before k.ahead.claims) in
     let row : g.leaf < 0 + length t.labels = below_row 0 (length t.labels) g.leaf (subst (λ xs. g.leaf ∈ xs) k.numbered ready.1.leaf) in
     let same : length done ≡ length t.labels = k.flags.one_each in
     omega arith
 
 pub out_at : (t : Labelled) (limit : ℕ) (history : List Entry) (journal : List ℕ) (done : List Bool) (given : List Given) (committed : Bool) →
-    IsKept t limit history journal done given committed → (i : ℕ) → IsCurrent (state_of history) (1 + i) → IsOutAt done given i
+    IsKept t limit history journal done given committed → (i : ℕ) → IsCurrent (state_of (schema_of t) history) (1 + i) → IsOutAt done given i
 out_at t limit history journal done given committed k i current = elim (numbered given (1 + i)) [
   | given_at j g n within at ↦
       (let same : j ≡ i = omega arith in
-      let out : g.answered ≡ false = (current-given (state_of history) given k.claims_are k.ahead.epoch (1 + i) j g n at).1 current in
+      let out : g.answered ≡ false = (current-given (state_of (schema_of t) history) given k.claims_are k.ahead.epoch (1 + i) j g n at).1 current in
       record {
         claim = g;
         within = subst (λ m. m < length given) same within;
@@ -330,5 +332,5 @@ out_at t limit history journal done given committed k i current = elim (numbered
         out = out;
         below = out_below t limit history journal done given committed k j g at out;
       })
-  | not_given h ↦ absurd (not-current (state_of history) given k.claims_are (1 + i) h current)
+  | not_given h ↦ absurd (not-current (state_of (schema_of t) history) given k.claims_are (1 + i) h current)
 ]

@@ -29,10 +29,10 @@ pub record IsKept (tree : Labelled) (limit : ℕ) (history : List Entry) (journa
   pub plain : IsPlainTree tree
   pub numbered : IsNumbered tree.process (length tree.labels)
   pub legal : IsLegal (schema_of tree) limit history
-  pub ahead : IsAhead tree (state_of history)
-  pub journal_is : (state_of history).journal ≡ journal
-  pub claims_are : (state_of history).claims ≡ claims_from 1 given
-  pub committed_is : (state_of history).committed ≡ committed
+  pub ahead : IsAhead tree (state_of (schema_of tree) history)
+  pub journal_is : (state_of (schema_of tree) history).journal ≡ journal
+  pub claims_are : (state_of (schema_of tree) history).claims ≡ claims_from 1 given
+  pub committed_is : (state_of (schema_of tree) history).committed ≡ committed
   pub flags : AreFlags tree done journal
   pub spent : length history ≤ limit
   pub few_claims : length given ≤ length history

@@ -11,6 +11,6 @@ pub record IsLawful (w : Schema) (limit : ℕ) (history : List Entry) : Type 0 w
   pub legal : IsLegal w limit history
   -- after every step the journal runs from what was declared, and in some one option the claims' leaves may follow it
   -- in every order, as part of an execution of the goal that meets every constraint
-  pub sound : (front : List Entry) → Begins history front → IsSound w (state_of front)
+  pub sound : (front : List Entry) → Begins history front → IsSound w (state_of w front)
   -- a committed run is an execution of the logic that meets every constraint
-  pub executed : (state_of history).committed ≡ true → IsExecution w (state_of history).journal
+  pub executed : (state_of w history).committed ≡ true → IsExecution w (state_of w history).journal

@@ -24,7 +24,7 @@ schema_of t = record { goal = t.process; labels = t.labels; rules = []; facts = 
 
 -- the state that the history leaves
 abbrev pub now : Progress → RunState
-now p = state_of p.history
+now p = state_of p.schema p.history
 
 -- the history has one entry more
 abbrev pub with_entry : Progress → ℕ → Step → Progress

@@ -52,4 +52,4 @@ one_out_is_legal = (refl, omega arith, (refl, either_can_be_taken.0), tt)
 
 pub other_cannot_be_taken : OtherCannotBeTaken
 other_cannot_be_taken h =
-    let (o, m, sides) = side_by_side_of_take either_way either_way_is_well_formed (state_of one_out) 1 h in never_side_by_side o m sides
+    let (o, m, sides) = side_by_side_of_take either_way either_way_is_well_formed (state_of either_way one_out) 1 h in never_side_by_side o m sides

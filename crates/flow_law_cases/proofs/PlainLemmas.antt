@@ -52,12 +52,12 @@ a_at_first : CanTake plain first_state 0
 a_at_first = take_next plain plain_is_well_formed first_state 0 (0 ∷ 1 ∷ 2 ∷ []) refl refl
     (b_first, (0 ∷ 1 ∷ 2 ∷ [], refl), tt) (1 ∷ 2 ∷ [], refl)
 
-b_after_a : CanTake plain (state_of a_done) 1
-b_after_a = take_next plain plain_is_well_formed (state_of a_done) 1 (0 ∷ 1 ∷ 2 ∷ []) refl refl
+b_after_a : CanTake plain (state_of plain a_done) 1
+b_after_a = take_next plain plain_is_well_formed (state_of plain a_done) 1 (0 ∷ 1 ∷ 2 ∷ []) refl refl
     (b_first, (1 ∷ 2 ∷ [], refl), tt) (2 ∷ [], refl)
 
-c_after_a : CanTake plain (state_of a_done) 2
-c_after_a = take_next plain plain_is_well_formed (state_of a_done) 2 (0 ∷ 2 ∷ 1 ∷ []) refl refl
+c_after_a : CanTake plain (state_of plain a_done) 2
+c_after_a = take_next plain plain_is_well_formed (state_of plain a_done) 2 (0 ∷ 2 ∷ 1 ∷ []) refl refl
     (c_first, (2 ∷ 1 ∷ [], refl), tt) (1 ∷ [], refl)
 
 -- What cannot, by the law of orders: a leaf that can be taken is ready in the only option
@@ -95,10 +95,10 @@ first_only_a n = (
 
 pub then_b_or_c : ThenBOrC
 then_b_or_c n = (
-  λ h. b_or_c_is_ready n (ready_of_take (state_of a_done) n refl h),
+  λ h. b_or_c_is_ready n (ready_of_take (state_of plain a_done) n refl h),
   λ h. elim h [
-    | inl e ↦ subst (CanTake plain (state_of a_done)) (sym e) b_after_a
-    | inr e ↦ subst (CanTake plain (state_of a_done)) (sym e) c_after_a
+    | inl e ↦ subst (CanTake plain (state_of plain a_done)) (sym e) b_after_a
+    | inr e ↦ subst (CanTake plain (state_of plain a_done)) (sym e) c_after_a
   ],
 )
 
@@ -115,7 +115,7 @@ c_beside_b = (
   (
     only,
     inl refl,
-    follow_in_every_order plain plain_is_well_formed (state_of b_out) only (inl refl) 1 2
+    follow_in_every_order plain plain_is_well_formed (state_of plain b_out) only (inl refl) 1 2
         (0 ∷ 1 ∷ 2 ∷ [], (b_first.0, tt), (b_first, (1 ∷ 2 ∷ [], refl), tt), ([], refl))
         (0 ∷ 2 ∷ 1 ∷ [], (c_first.0, tt), (c_first, (2 ∷ 1 ∷ [], refl), tt), ([], refl)),
   ),

@@ -53,4 +53,4 @@ OneOutIsLegal = IsLegal either_way 4 one_out
 
 -- while it is out, no claim may be given on leaf 1
 abbrev pub OtherCannotBeTaken : Type 0
-OtherCannotBeTaken = ¬ (CanTake either_way (state_of one_out) 1)
+OtherCannotBeTaken = ¬ (CanTake either_way (state_of either_way one_out) 1)

@@ -68,4 +68,4 @@ KnotIsConsistent = IsGood knot (2 ∷ 6 ∷ 3 ∷ 7 ∷ []) × IsConsistent knot
 
 -- so after every legal history some option lets its claims be answered in every order
 abbrev pub LegalKnotStatesAreSound : Type 0
-LegalKnotStatesAreSound = (limit : ℕ) (history : List Entry) → IsLegal knot limit history → IsSound knot (state_of history)
+LegalKnotStatesAreSound = (limit : ℕ) (history : List Entry) → IsLegal knot limit history → IsSound knot (state_of knot history)

@@ -33,7 +33,7 @@ a_done = record { by = 0; step = Took 1 0 } ∷ record { by = 0; step = Done 1 }
 
 -- and then just b and c
 abbrev pub ThenBOrC : Type 0
-ThenBOrC = (n : ℕ) → CanTake plain (state_of a_done) n ↔ ((n ≡ 1) ⊎ (n ≡ 2))
+ThenBOrC = (n : ℕ) → CanTake plain (state_of plain a_done) n ↔ ((n ≡ 1) ⊎ (n ≡ 2))
 
 -- then a claim on b is given
 abbrev pub b_out : List Entry
@@ -41,7 +41,7 @@ b_out = record { by = 0; step = Took 1 0 } ∷ record { by = 0; step = Done 1 } 
 
 -- c can be taken beside it
 abbrev pub CBesideB : Type 0
-CBesideB = CanTake plain (state_of b_out) 2
+CBesideB = CanTake plain (state_of plain b_out) 2
 
 -- and one on c, so that both are out together
 abbrev pub both_out : List Entry

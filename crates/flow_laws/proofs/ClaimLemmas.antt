@@ -117,17 +117,14 @@ none_taken_out epoch number (x ∷ xs) claim (new, d) e h = step (x.number == nu
         ∙ ap (λ c. cond c (x ∷ filter (is_of epoch) xs) (filter (is_of epoch) xs)) (sym past)
     step false i k rest = ap (λ w. cond (is_of epoch x) (x ∷ w) w) (rest k h)
 
--- no claim is of an epoch that is yet to come
-pub none_of_later : (epoch : ℕ) (claims : List Claim) → Each (λ (claim : Claim). claim.epoch ≤ epoch) claims →
-    filter (is_of (epoch + 1)) claims ≡ []
-none_of_later epoch [] h = refl
-none_of_later epoch (x ∷ xs) (h, t) =
-    let later : (x.epoch == (epoch + 1)) ≡ false = elim (eqb_tells x.epoch (epoch + 1)) [
+-- a claim of the present epoch or of an older one is not of the next
+pub is_not_of_later : (epoch : ℕ) (claim : Claim) → claim.epoch ≤ epoch → is_of (epoch + 1) claim ≡ false
+is_not_of_later epoch claim h =
+    let later : (claim.epoch == (epoch + 1)) ≡ false = elim (eqb_tells claim.epoch (epoch + 1)) [
       | inl k ↦ absurd (omega (arith, k.1, h))
       | inr k ↦ k.0
     ] in
-    let not_of : is_of (epoch + 1) x ≡ false = ap (λ b. not x.answered && b) later ∙ and_false (not x.answered) in
-    ap (λ b. cond b (x ∷ filter (is_of (epoch + 1)) xs) (filter (is_of (epoch + 1)) xs)) not_of ∙ none_of_later epoch xs t
+    ap (λ b. not claim.answered && b) later ∙ and_false (not claim.answered)
 
 -- The claim of a number
 

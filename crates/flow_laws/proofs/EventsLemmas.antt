@@ -2,18 +2,15 @@
 use Rattle.std.proofs.Common.{◌≡◌, ◌≢◌, ℕ, ◌⊎◌, List, [], ◌∷◌, ◌++◌, length, refl, sym, ap, ◌∙◌, subst, inl, inr, Some}
 use Rattle.flow_model.specs.Lists.{◌∈◌, AreDistinct, joined}
 use Rattle.flow_model.specs.Process.{Process, Empty, Task, Sequence, Parallel, Choice, Isolated, leaves, IsNumbered}
-use Rattle.flow_model.specs.Trace.{Blocks, Shuffle, both_end, from_left, from_right, as_one}
+use Rattle.flow_model.specs.Trace.{Blocks, Shuffle, from_left, as_one}
 use Rattle.flow_model.specs.Facts.{event_at}
 use Rattle.flow_model.specs.Schema.{Schema, HasUniqueEvents}
+use Rattle.flow_model.specs.Decided.{shuffle_right}
 use Rattle.flow_laws.specs.Events.{AreTogether}
 use Rattle.flow_laws.proofs.ListLemmas2.{mem_append_left, mem_append_right, mem-append, joined-append, distinct_parts, distinct-filter_map, distinct-numbers_from, same_source}
 use Rattle.flow_laws.proofs.TraceLeaves.{joined-as_one, of_shuffle, leaf_of_trace, distinct_trace}
 
 -- Executions that hold given leaves
-
-pub shuffle_right : (y : List (List ℕ)) → Shuffle [] y y
-shuffle_right [] = both_end
-shuffle_right (b ∷ y) = from_right (shuffle_right y)
 
 pub shuffle-append : (x y : List (List ℕ)) → Shuffle x y (x ++ y)
 shuffle-append [] y = shuffle_right y

@@ -21,5 +21,6 @@ pub mod CircleOrTrace
 pub mod FollowingLemmas
 pub mod RunLemmas
 pub mod ClaimLemmas
+pub mod SparedLemmas
 pub mod SoundStates
 pub mod NeverAtALoss

@@ -1,13 +1,7 @@
 -- Lists by their members and the places of these.
-use Rattle.std.proofs.Common.{◌≡◌, ◌≢◌, ℕ, List, [], ◌∷◌, ◌++◌, ◌⊎◌, refl, sym, ap, ◌∙◌, subst, inl, inr, ⊎_elim, append_assoc}
-use mathlib.Core.List.{List-discrete}
-use native.Mathlib.Decide.{ℕ_discrete}
-use Rattle.std.proofs.lemmas.Bool.{cases_eq}
+use Rattle.std.proofs.Common.{◌≡◌, ◌≢◌, List, [], ◌∷◌, ◌++◌, ◌⊎◌, refl, sym, ap, ◌∙◌, subst, inl, inr, ⊎_elim, append_assoc}
 use Rattle.flow_model.specs.Lists.{◌∈◌, Each, AreDistinct, StandsBefore, IsOrderOf, joined}
-
--- it holds or it does not, and which is known
-abbrev pub Decided : Type 0 → Type 0
-Decided P = P ⊎ ¬ P
+pub use Rattle.flow_model.specs.Decided.{Decided, decide_eq, decide_list_eq, decide_mem, decide_in, decide_not, decide_both, decide_either, decide_some}
 
 -- members
 
@@ -59,40 +53,6 @@ each_at P (y ∷ list) x h (inr m) = each_at P list x h.1 m
 pub each_of : {A : Type 0} (P : A → Type 0) (list : List A) → ((x : A) → x ∈ list → P x) → Each P list
 each_of P [] f = tt
 each_of P (y ∷ list) f = (f y (inl refl), each_of P list (λ x m. f x (inr m)))
-
--- decisions
-
-pub decide_eq : (x y : ℕ) → Decided (x ≡ y)
-decide_eq x y = cases_eq x y
-
-pub decide_list_eq : (x y : List ℕ) → Decided (x ≡ y)
-decide_list_eq x y = elim (List-discrete ℕ_discrete x y) [ yes e ↦ inl e | no n ↦ inr n ]
-
-pub decide_mem : {A : Type 0} → ((x y : A) → Decided (x ≡ y)) → (x : A) (list : List A) → Decided (x ∈ list)
-decide_mem d x [] = inr (λ h. h)
-decide_mem d x (y ∷ list) = at (d x y) (decide_mem d x list)
-  where
-    at : Decided (x ≡ y) → Decided (x ∈ list) → Decided (x ∈ (y ∷ list))
-    at (inl e) h = inl (inl e)
-    at (inr n) (inl h) = inl (inr h)
-    at (inr n) (inr k) = inr (⊎_elim n k)
-
-pub decide_in : (x : ℕ) (list : List ℕ) → Decided (x ∈ list)
-decide_in x list = decide_mem decide_eq x list
-
-pub decide_not : {P : Type 0} → Decided P → Decided (¬ P)
-decide_not (inl p) = inr (λ n. n p)
-decide_not (inr n) = inl n
-
-pub decide_both : {P Q : Type 0} → Decided P → Decided Q → Decided (P × Q)
-decide_both (inl p) (inl q) = inl (p, q)
-decide_both (inl p) (inr n) = inr (λ h. n h.1)
-decide_both (inr n) q = inr (λ h. n h.0)
-
-pub decide_either : {P Q : Type 0} → Decided P → Decided Q → Decided (P ⊎ Q)
-decide_either (inl p) q = inl (inl p)
-decide_either (inr n) (inl q) = inl (inr q)
-decide_either (inr n) (inr k) = inr (⊎_elim n k)
 
 -- a member with P is found, or each member lacks it
 pub find_member : {A : Type 0} (P : A → Type 0) → ((x : A) → Decided (P x)) → (list : List A) →
@@ -255,6 +215,3 @@ joined_apart (y ∷ list) a b x d (inl e) (inr l) h k =
 joined_apart (y ∷ list) a b x d (inr m) (inl f) h k =
     absurd (distinct_apart y (joined list) d x (subst (λ z. x ∈ z) f k) (mem_joined x list a m h))
 joined_apart (y ∷ list) a b x d (inr m) (inr l) h k = joined_apart list a b x (distinct_right y (joined list) d) m l h k
-
-pub decide_some : {A : Type 0} (P : A → Type 0) → ((x : A) → Decided (P x)) → (list : List A) → Decided ((x : A) × (x ∈ list) × P x)
-decide_some P d list = ⊎_elim inl (λ f. inr (λ r. f r.0 r.1 r.2)) (find_member P d list)

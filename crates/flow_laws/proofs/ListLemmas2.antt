@@ -1,9 +1,9 @@
 -- Facts on lists in the words of the model: members, fronts, orders.
 use Rattle.std.proofs.Common.{◌≡◌, ℕ, zero, suc, ◌+◌, ◌*◌, ◌<◌, ◌≤◌, ◌⊎◌, List, [], ◌∷◌, ◌++◌, map, length, refl, sym, ap, ◌∙◌, subst, inl, inr, append_assoc, append-nil, flat_map, arith, slice_get, Some, None, option_map, zero-add, suc-add, zero-mul, length-append, le_of_eq, Bool, true, false, cond, find, ◌≢◌, Option, filter_map, filter}
 use Rattle.std.specs.List.{cons_option}
-use Rattle.std.proofs.lemmas.Bool.Decides.{eqb_tells}
 use Rattle.std.proofs.lemmas.List.{length-map}
 use Rattle.std.proofs.lemmas.Option.{slice_get-map}
+pub use Rattle.flow_model.specs.Decided.{cons_same, not_empty, order_of_none}
 use Rattle.flow_model.specs.Lists.{◌∈◌, Each, AreDistinct, Begins, StandsBefore, IsOrderOf, joined, numbers_from, each_with_each}
 
 -- Members
@@ -238,34 +238,6 @@ one_before x y (z ∷ t) (inl e) (inr k) d = inl (inl (e, k))
 one_before x y (z ∷ t) (inr h) (inl i) d = inr (inl (i, h))
 one_before x y (z ∷ t) (inr h) (inr k) d = elim (one_before x y t h k d) [ inl m ↦ inl (inr m) | inr m ↦ inr (inr m) ]
 
--- Whether or not
-
-pub equal_or_not : (x y : ℕ) → (x ≡ y) ⊎ (x ≢ y)
-equal_or_not x y = elim (eqb_tells x y) [ inl h ↦ inl h.1 | inr h ↦ inr h.1 ]
-
-pub member_or_not : (x : ℕ) (xs : List ℕ) → (x ∈ xs) ⊎ ¬ (x ∈ xs)
-member_or_not x [] = inr (λ h. h)
-member_or_not x (y ∷ ys) = elim (equal_or_not x y) [
-  | inl e ↦ inl (inl e)
-  | inr d ↦ elim (member_or_not x ys) [
-    | inl m ↦ inl (inr m)
-    | inr n ↦ inr (λ h. elim h [ inl e ↦ d e | inr m ↦ n m ])
-  ]
-]
-
-pub before_or_not : (x y : ℕ) (t : List ℕ) → StandsBefore x y t ⊎ ¬ (StandsBefore x y t)
-before_or_not x y [] = inr (λ h. h)
-before_or_not x y (z ∷ t) = elim (before_or_not x y t) [
-  | inl h ↦ inl (inr h)
-  | inr n ↦ elim (equal_or_not x z) [
-    | inr d ↦ inr (λ h. elim h [ inl k ↦ d k.0 | inr k ↦ n k ])
-    | inl e ↦ elim (member_or_not y t) [
-      | inl m ↦ inl (inl (e, m))
-      | inr l ↦ inr (λ h. elim h [ inl k ↦ l k.1 | inr k ↦ n k ])
-    ]
-  ]
-]
-
 -- What a filter that maps keeps
 
 pub mem-cons_option : {A : Type 0} (o : Option A) (y : A) (ys : List A) → y ∈ ys → y ∈ cons_option o ys
@@ -351,13 +323,6 @@ distinct-filter_map {A} {B} h (z ∷ t) (new, d) apart =
 
 -- Fronts and orders
 
-pub cons_same : {A : Type 0} (x y : A) (xs ys : List A) → x ∷ xs ≡ y ∷ ys → (x ≡ y) × (xs ≡ ys)
-cons_same x y xs ys e = (let h : x ≡ y = cc in h, let t : xs ≡ ys = cc in t)
-
-pub not_empty : {A : Type 0} (front : List A) (x : A) (back : List A) → ¬ ([] ≡ front ++ x ∷ back)
-not_empty [] x back e = cc
-not_empty (y ∷ front) x back e = cc
-
 pub begins_front : {A : Type 0} (t front more : List A) → Begins t (front ++ more) → Begins t front
 begins_front t front more (rest, e) = (more ++ rest, e ∙ append_assoc front more rest)
 
@@ -367,10 +332,6 @@ begins_and_nothing t front (rest, e) = (rest, e ∙ ap (λ w. w ++ rest) (sym (a
 pub same_order : {A : Type 0} (xs : List A) → IsOrderOf xs xs
 same_order [] = refl
 same_order (x ∷ xs) = ([], xs, refl, same_order xs)
-
-pub order_of_none : {A : Type 0} (order : List A) → IsOrderOf order [] → order ≡ []
-order_of_none [] h = refl
-order_of_none (x ∷ order) (front, back, e, h) = absurd (not_empty front x back e)
 
 pub order_of_one : {A : Type 0} (order : List A) (x : A) → IsOrderOf order (x ∷ []) → order ≡ x ∷ []
 order_of_one [] x h = absurd (not_empty [] x [] (sym h))

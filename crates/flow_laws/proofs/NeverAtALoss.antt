@@ -14,9 +14,9 @@ use Rattle.flow_laws.proofs.RunLemmas.{always_holds}
 use Rattle.flow_laws.proofs.SoundStates.{first_is_kept, kept_from}
 
 pub sound_state : (w : Schema) → IsWellFormed w → IsConsistent w → (limit : ℕ) (history : List Entry) → IsLegal w limit history →
-    (front : List Entry) → Begins history front → IsSound w (state_of front)
+    (front : List Entry) → Begins history front → IsSound w (state_of w front)
 sound_state w f consistent limit history legal front (later, e) =
-    (kept_from w f limit first_state 0 (first_is_kept w f consistent) front later (subst (IsLegal w limit) e legal)).sound
+    kept_from w f limit first_state 0 (first_is_kept w f consistent) front later (subst (IsLegal w limit) e legal)
 
 -- With no claim out
 

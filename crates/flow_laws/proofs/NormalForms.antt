@@ -3,7 +3,8 @@ use Rattle.std.proofs.Common.{ℕ, ◌⊎◌, ◌↔◌, true, false, List, [], 
 use Rattle.flow_model.specs.Lists.{◌∈◌, StandsBefore}
 use Rattle.flow_model.specs.Constraint.{Constraint, Always, Impossible, Must, Never, Order, Not, And, Or, Meets, HappenInOrder}
 use Rattle.flow_model.specs.Ways.{Normal, always, impossible, must, never, before, not_before, both, either, normal_form, chain, broken_chain}
-use Rattle.flow_laws.proofs.ListLemmas2.{before_members, member_or_not, before_or_not}
+use Rattle.flow_model.specs.Decided.{decide_in, decide_before, decide_meets}
+use Rattle.flow_laws.proofs.ListLemmas2.{before_members}
 
 -- the normal form is true of the whole list of an execution's events
 abbrev pub MeetsNormal : Normal → List ℕ → Type 0
@@ -18,20 +19,6 @@ MeetsNormal (either x y) events = MeetsNormal x events ⊎ MeetsNormal y events
 
 -- Whether or not
 
-pub both_or_not : {A B : Type 0} → A ⊎ ¬ A → B ⊎ ¬ B → (A × B) ⊎ ¬ (A × B)
-both_or_not (inl a) (inl b) = inl (a, b)
-both_or_not (inl a) (inr n) = inr (λ h. n h.1)
-both_or_not (inr n) b = inr (λ h. n h.0)
-
-pub either_or_not : {A B : Type 0} → A ⊎ ¬ A → B ⊎ ¬ B → (A ⊎ B) ⊎ ¬ (A ⊎ B)
-either_or_not (inl a) b = inl (inl a)
-either_or_not (inr n) (inl b) = inl (inr b)
-either_or_not (inr n) (inr m) = inr (λ h. elim h [ inl a ↦ n a | inr b ↦ m b ])
-
-pub not_or_not : {A : Type 0} → A ⊎ ¬ A → (¬ A) ⊎ ¬ (¬ A)
-not_or_not (inl a) = inr (λ n. n a)
-not_or_not (inr n) = inl n
-
 pub not_not : {A : Type 0} → A ⊎ ¬ A → ¬ (¬ A) → A
 not_not (inl a) h = a
 not_not (inr n) h = absurd (h n)
@@ -40,21 +27,6 @@ not_not (inr n) h = absurd (h n)
 pub one_not : {A B : Type 0} → A ⊎ ¬ A → ¬ (A × B) → (¬ A) ⊎ (¬ B)
 one_not (inl a) h = inr (λ b. h (a, b))
 one_not (inr n) h = inl n
-
-pub in_order_or_not : (es events : List ℕ) → HappenInOrder es events ⊎ ¬ (HappenInOrder es events)
-in_order_or_not [] events = inl tt
-in_order_or_not (a ∷ []) events = member_or_not a events
-in_order_or_not (a ∷ b ∷ more) events = both_or_not (before_or_not a b events) (in_order_or_not (b ∷ more) events)
-
-pub meets_or_not : (c : Constraint) (events : List ℕ) → Meets c events ⊎ ¬ (Meets c events)
-meets_or_not Always events = inl tt
-meets_or_not Impossible events = inr (λ h. h)
-meets_or_not (Must e) events = member_or_not e events
-meets_or_not (Never e) events = not_or_not (member_or_not e events)
-meets_or_not (Order es) events = in_order_or_not es events
-meets_or_not (Not c) events = not_or_not (meets_or_not c events)
-meets_or_not (And c d) events = both_or_not (meets_or_not c events) (meets_or_not d events)
-meets_or_not (Or c d) events = either_or_not (meets_or_not c events) (meets_or_not d events)
 
 -- Chains
 
@@ -72,7 +44,7 @@ broken_chain_is (a ∷ []) events = (λ h. h, λ h. h)
 broken_chain_is (a ∷ b ∷ []) events = (λ h k. h (k, (before_members a b events k).1), λ h k. h k.0)
 broken_chain_is (a ∷ b ∷ c ∷ more) events =
     let (to, from) = broken_chain_is (b ∷ c ∷ more) events in (
-      λ h. elim (one_not (before_or_not a b events) h) [ inl n ↦ inl n | inr n ↦ inr (to n) ],
+      λ h. elim (one_not (decide_before a b events) h) [ inl n ↦ inl n | inr n ↦ inr (to n) ],
       λ h k. elim h [ inl n ↦ n k.0 | inr n ↦ from n k.1 ],
     )
 
@@ -83,17 +55,17 @@ pub normal_form_is : (c : Constraint) (events : List ℕ) →
 normal_form_is Always events = ((λ h. h, λ h. h), (λ h. h tt, λ h k. h))
 normal_form_is Impossible events = ((λ h. h, λ h. h), (λ h. tt, λ h k. k))
 normal_form_is (Must e) events = ((λ h. h, λ h. h), (λ h. h, λ h. h))
-normal_form_is (Never e) events = ((λ h. h, λ h. h), (not_not (member_or_not e events), λ h n. n h))
+normal_form_is (Never e) events = ((λ h. h, λ h. h), (not_not (decide_in e events), λ h n. n h))
 normal_form_is (Order es) events = (chain_is es events, broken_chain_is es events)
 normal_form_is (Not c) events =
     let ((to, from), negated) = normal_form_is c events in
-    (negated, (λ h. to (not_not (meets_or_not c events) h), λ h n. n (from h)))
+    (negated, (λ h. to (not_not (decide_meets c events) h), λ h n. n (from h)))
 normal_form_is (And c d) events =
     let ((to_c, from_c), (to_not_c, from_not_c)) = normal_form_is c events in
     let ((to_d, from_d), (to_not_d, from_not_d)) = normal_form_is d events in (
       (λ h. (to_c h.0, to_d h.1), λ h. (from_c h.0, from_d h.1)),
       (
-        λ h. elim (one_not (meets_or_not c events) h) [ inl n ↦ inl (to_not_c n) | inr n ↦ inr (to_not_d n) ],
+        λ h. elim (one_not (decide_meets c events) h) [ inl n ↦ inl (to_not_c n) | inr n ↦ inr (to_not_d n) ],
         λ h k. elim h [ inl n ↦ from_not_c n k.0 | inr n ↦ from_not_d n k.1 ],
       ),
     )

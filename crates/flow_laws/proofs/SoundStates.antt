@@ -1,7 +1,7 @@
 -- Each entry that may be made keeps the state sound.
 use Rattle.std.proofs.Common.{◌≡◌, ℕ, suc, ◌+◌, ◌≤◌, false, not, ◌&&◌, nat_le, nat_lt, cond, IsTrue, List, [], ◌∷◌, ◌++◌, map, length, take, drop, filter, slice_index, refl, sym, ap, ◌∙◌, subst, append_assoc, length-append, take-append-drop, arith, le_refl}
 use Rattle.std.proofs.lemmas.Bool.{eq-eqb, leb-true}
-use Rattle.std.proofs.lemmas.List.{length-take-le, map-append}
+use Rattle.std.proofs.lemmas.List.{length-take-le, length-map, map-append}
 use Rattle.std.proofs.lemmas.List.Elements.{filter-append}
 use Rattle.flow_model.specs.declared.history.Entry.{Entry}
 use Rattle.flow_model.specs.declared.history.Step.{Step}
@@ -10,44 +10,40 @@ use Rattle.flow_model.specs.declared.history.FailEffect.TheVariants.{Switched, K
 use Rattle.flow_model.specs.Lists.{◌∈◌, Each, AreDistinct, Begins, IsOrderOf, numbers_from}
 use Rattle.flow_model.specs.Facts.{Runs}
 use Rattle.flow_model.specs.Schema.{Schema, start_of, IsEventLeaf}
-use Rattle.flow_model.specs.Resolution.{ChoiceOption, options}
-use Rattle.flow_model.specs.Run.{Claim, RunState, first_state, current_leaves, is_current, claim_at, leaf_of_claim, IsCurrent, IsLapsed, database, IsFree, MayFollow, CanTake, CanDo, IsOpen, IsAllowed, answer, next_state, state_after, IsLegalFrom}
+use Rattle.flow_model.specs.Resolution.{ChoiceOption}
+use Rattle.flow_model.specs.Run.{Claim, RunState, first_state, current_leaves, is_current, claim_at, leaf_of_claim, IsCurrent, IsLapsed, database, IsFree, MayFollow, MayAllFollow, CanTake, CanDo, IsOpen, IsAllowed, answer, spare, with_new_epoch, next_state, state_after, IsLegalFrom}
 use Rattle.flow_laws.specs.Words.{IsWellFormed, IsConsistent}
 use Rattle.flow_laws.specs.Histories.{IsSound}
 use Rattle.flow_laws.proofs.ListLemmas2.{each-append, each_to, each_member, distinct-numbers_from, begins_front, begins_and_nothing, each-filter, order_of_none, order_with_last, numbers_from_more}
 use Rattle.flow_laws.proofs.GoodTraces.{option_of_good}
 use Rattle.flow_laws.proofs.RunLemmas.{runs-append, runs_front, event_holds}
-use Rattle.flow_laws.proofs.ClaimLemmas.{number_of, leaf_of, is_of, answer_keeps, numbers-answer, length-answer, taken_out, none_taken_out, none_of_later, leaf_of_claim_is, some_claim, lapsed_is_not_current, claim_in}
-
--- a sound state, whose claims are of its epoch or of older ones
-pub record IsKept (w : Schema) (s : RunState) : Type 0 where
-  pub sound : IsSound w s
-  pub epochs : Each (λ (claim : Claim). claim.epoch ≤ s.epoch) s.claims
+use Rattle.flow_laws.proofs.ClaimLemmas.{number_of, leaf_of, is_of, answer_keeps, numbers-answer, length-answer, taken_out, none_taken_out, leaf_of_claim_is, some_claim, lapsed_is_not_current, claim_in}
+use Rattle.flow_laws.proofs.SparedLemmas.{spare_keeps, numbers-spare, spared_are_current, spared_may_follow}
 
 -- A good execution that goes on from the journal
 
--- where no claim is current, one free execution will do
-pub extends_by : (w : Schema) → IsWellFormed w → (s : RunState) (t : List ℕ) → IsFree w s t → current_leaves s ≡ [] →
-    (o : ChoiceOption) × (o ∈ options w) × ((order : List ℕ) → IsOrderOf order (current_leaves s) → MayFollow w s o order)
-extends_by w f s t free none =
+-- where none is to follow, one free execution will do
+pub none_may_follow : (w : Schema) → IsWellFormed w → (s : RunState) (t : List ℕ) → IsFree w s t → MayAllFollow w s []
+none_may_follow w f s t free =
     let (o, m, trace) = option_of_good w f t free.0 in (
       o,
       m,
-      λ order p.
-          let empty : order ≡ [] = order_of_none order (subst (IsOrderOf order) none p) in
-          (t, trace, free, subst (λ w. Begins t (s.journal ++ w)) (sym empty) (begins_and_nothing t s.journal free.1)),
+      λ order p. (
+        t,
+        trace,
+        free,
+        subst (λ w. Begins t (s.journal ++ w)) (sym (order_of_none order p)) (begins_and_nothing t s.journal free.1),
+      ),
     )
 
-pub first_is_kept : (w : Schema) → IsWellFormed w → IsConsistent w → IsKept w first_state
+pub first_is_kept : (w : Schema) → IsWellFormed w → IsConsistent w → IsSound w first_state
 first_is_kept w f (t, good) = record {
-  sound = record {
-    runs = tt;
-    bans = tt;
-    numbered = refl;
-    on_events = tt;
-    extends = extends_by w f first_state t (good, (t, refl), tt) refl;
-  };
+  runs = tt;
+  bans = tt;
+  numbered = refl;
+  on_events = tt;
   epochs = tt;
+  extends = none_may_follow w f first_state t (good, (t, refl), tt);
 }
 
 -- What an answer keeps
@@ -64,13 +60,6 @@ answered_on_events w s number h = answer_keeps (λ (claim : Claim). IsEventLeaf 
 pub answered_epochs : (epoch : ℕ) (claims : List Claim) (number : ℕ) → Each (λ (claim : Claim). claim.epoch ≤ epoch) claims →
     Each (λ (claim : Claim). claim.epoch ≤ epoch) (answer number claims)
 answered_epochs epoch claims number h = answer_keeps (λ (claim : Claim). claim.epoch ≤ epoch) (λ claim k. k) number claims h
-
-pub later_epochs : (epoch : ℕ) (claims : List Claim) → Each (λ (claim : Claim). claim.epoch ≤ epoch) claims →
-    Each (λ (claim : Claim). claim.epoch ≤ epoch + 1) claims
-later_epochs epoch claims h = each_to _ _ claims (λ (claim : Claim) k. later claim.epoch epoch k) h
-  where
-    later : (a b : ℕ) → a ≤ b → a ≤ b + 1
-    later a b k = omega arith
 
 pub distinct_numbers : (s : RunState) → map number_of s.claims ≡ numbers_from 1 (length s.claims) → AreDistinct (map number_of s.claims)
 distinct_numbers s e = subst AreDistinct (sym e) (distinct-numbers_from 1 (length s.claims))
@@ -119,169 +108,167 @@ follow_after w s o leaf claims more (t, trace, free, (rest, e)) =
     let begins : Begins t ((s.journal ++ leaf ∷ []) ++ more) = (rest, e ∙ ap (λ w. w ++ rest) (sym (append_assoc s.journal (leaf ∷ []) more))) in
     (t, trace, (free.0, begins_front t (s.journal ++ leaf ∷ []) more begins, free.2), begins)
 
+-- A new epoch
+
+later : (a b : ℕ) → a ≤ b → a ≤ b + 1
+later a b k = omega arith
+
+-- all but its claims is sound, and some free execution goes on
+pub kept_new_epoch : (w : Schema) → IsWellFormed w → (s : RunState) → Runs w.labels (start_of w) s.journal →
+    Each (λ ban. ban.0 ≤ length s.journal) s.bans → map number_of s.claims ≡ numbers_from 1 (length s.claims) →
+    Each (λ (claim : Claim). IsEventLeaf w claim.leaf) s.claims → Each (λ (claim : Claim). claim.epoch ≤ s.epoch) s.claims →
+    (t : List ℕ) → IsFree w s t → IsSound w (with_new_epoch w s)
+kept_new_epoch w f s runs bans numbered on_events epochs t free =
+    let numbers = numbers-spare w s [] s.claims in
+    let count : length s.claims ≡ length (spare w s [] s.claims) =
+    sym (length-map s.claims number_of) ∙ (sym (ap length numbers) ∙ length-map (spare w s [] s.claims) number_of) in
+    record {
+      runs = runs;
+      bans = bans;
+      numbered = numbers ∙ (numbered ∙ ap (numbers_from 1) count);
+      on_events = spare_keeps (λ (claim : Claim). IsEventLeaf w claim.leaf) w s (λ claim k. k) [] s.claims on_events;
+      epochs = spare_keeps (λ (claim : Claim). claim.epoch ≤ s.epoch + 1) w s (λ claim k. le_refl (s.epoch + 1)) [] s.claims
+          (each_to _ _ s.claims (λ (claim : Claim) k. later claim.epoch s.epoch k) epochs);
+      extends = subst (MayAllFollow w s) (sym (spared_are_current w s [] s.claims epochs))
+          (spared_may_follow w s [] s.claims (none_may_follow w f s t free));
+    }
+
 -- Row by row
 
-pub kept_took : (w : Schema) (s : RunState) → IsKept w s → (claim leaf : ℕ) → claim ≡ length s.claims + 1 → CanTake w s leaf →
-    IsKept w (next_state s (Took claim leaf))
+pub kept_took : (w : Schema) (s : RunState) → IsSound w s → (claim leaf : ℕ) → claim ≡ length s.claims + 1 → CanTake w s leaf →
+    IsSound w (next_state w s (Took claim leaf))
 kept_took w s h claim leaf e can =
     let new : Claim = record { number = claim; leaf = leaf; epoch = s.epoch; answered = false } in
     let count : suc (length s.claims) ≡ length (s.claims ++ new ∷ []) = omega (arith, length-append s.claims (new ∷ [])) in
     let next : claim ≡ 1 + length s.claims = omega arith in
-    let now : current_leaves (next_state s (Took claim leaf)) ≡ current_leaves s ++ leaf ∷ [] =
+    let now : current_leaves (next_state w s (Took claim leaf)) ≡ current_leaves s ++ leaf ∷ [] =
     ap (map leaf_of) (filter-append (is_of s.epoch) s.claims (new ∷ []))
     ∙ (map-append leaf_of (filter (is_of s.epoch) s.claims) (filter (is_of s.epoch) (new ∷ []))
     ∙ ap (λ b. current_leaves s ++ map leaf_of (cond b (new ∷ []) [])) (eq-eqb s.epoch s.epoch refl)) in
     let (event, unclaimed, (o, m, follow)) = can in
     record {
-      sound = record {
-        runs = h.sound.runs;
-        bans = h.sound.bans;
-        numbered = map-append number_of s.claims (new ∷ [])
-            ∙ (ap (λ w. w ++ claim ∷ []) h.sound.numbered
-            ∙ (ap (λ n. numbers_from 1 (length s.claims) ++ n ∷ []) next
-            ∙ (sym (numbers_from_more 1 (length s.claims)) ∙ ap (numbers_from 1) count)));
-        on_events = each-append _ s.claims (new ∷ []) h.sound.on_events (event, tt);
-        extends = (o, m, λ order p. follow order (subst (IsOrderOf order) now p));
-      };
+      runs = h.runs;
+      bans = h.bans;
+      numbered = map-append number_of s.claims (new ∷ [])
+          ∙ (ap (λ w. w ++ claim ∷ []) h.numbered
+          ∙ (ap (λ n. numbers_from 1 (length s.claims) ++ n ∷ []) next
+          ∙ (sym (numbers_from_more 1 (length s.claims)) ∙ ap (numbers_from 1) count)));
+      on_events = each-append _ s.claims (new ∷ []) h.on_events (event, tt);
+      extends = (o, m, λ order p. follow order (subst (IsOrderOf order) now p));
       epochs = each-append _ s.claims (new ∷ []) h.epochs (le_refl s.epoch, tt);
     }
 
-pub kept_done : (w : Schema) (s : RunState) → IsKept w s → (claim : ℕ) → IsCurrent s claim → IsKept w (next_state s (Done claim))
+pub kept_done : (w : Schema) (s : RunState) → IsSound w s → (claim : ℕ) → IsCurrent s claim → IsSound w (next_state w s (Done claim))
 kept_done w s h claim current =
     let leaf = leaf_of_claim s claim in
-    let taken = taken_of_current w s h.sound claim current in
-    let (o, m, follow) = h.sound.extends in
+    let taken = taken_of_current w s h claim current in
+    let (o, m, follow) = h.extends in
     record {
-      sound = record {
-        runs = runs-append w.labels (start_of w) s.journal (leaf ∷ []) h.sound.runs
-            (event_holds w (database w s) leaf (event_of_taken w s h.sound claim taken), tt);
-        bans = longer_bans s.journal leaf s.bans h.sound.bans;
-        numbered = answered_numbered s claim h.sound.numbered;
-        on_events = answered_on_events w s claim h.sound.on_events;
-        extends = (
-          o,
-          m,
-          λ order p. follow_after w s o leaf (answer claim s.claims) order
-              (follow (leaf ∷ order) (taken.front, taken.back, taken.whole, subst (IsOrderOf order) taken.left p)),
-        );
-      };
+      runs = runs-append w.labels (start_of w) s.journal (leaf ∷ []) h.runs
+          (event_holds w (database w s) leaf (event_of_taken w s h claim taken), tt);
+      bans = longer_bans s.journal leaf s.bans h.bans;
+      numbered = answered_numbered s claim h.numbered;
+      on_events = answered_on_events w s claim h.on_events;
+      extends = (
+        o,
+        m,
+        λ order p. follow_after w s o leaf (answer claim s.claims) order
+            (follow (leaf ∷ order) (taken.front, taken.back, taken.whole, subst (IsOrderOf order) taken.left p)),
+      );
       epochs = answered_epochs s.epoch s.claims claim h.epochs;
     }
 
-pub kept_failed : (w : Schema) (s : RunState) → IsKept w s → (claim : ℕ) → IsCurrent s claim → IsKept w (next_state s (Failed claim Kept))
+pub kept_failed : (w : Schema) (s : RunState) → IsSound w s → (claim : ℕ) → IsCurrent s claim → IsSound w (next_state w s (Failed claim Kept))
 kept_failed w s h claim current =
     let leaf = leaf_of_claim s claim in
-    let taken = taken_of_current w s h.sound claim current in
-    let (o, m, follow) = h.sound.extends in
+    let taken = taken_of_current w s h claim current in
+    let (o, m, follow) = h.extends in
     record {
-      sound = record {
-        runs = h.sound.runs;
-        bans = h.sound.bans;
-        numbered = answered_numbered s claim h.sound.numbered;
-        on_events = answered_on_events w s claim h.sound.on_events;
-        extends = (
-          o,
-          m,
-          λ order p.
-              let (t, trace, free, (rest, e)) = follow (order ++ leaf ∷ []) (subst (IsOrderOf (order ++ leaf ∷ [])) (sym taken.whole)
-              (order_with_last order leaf taken.front taken.back (subst (IsOrderOf order) taken.left p))) in (
-                t,
-                trace,
-                free,
-                begins_front t (s.journal ++ order) (leaf ∷ [])
-                    (rest, e ∙ ap (λ w. w ++ rest) (sym (append_assoc s.journal order (leaf ∷ [])))),
-              ),
-        );
-      };
+      runs = h.runs;
+      bans = h.bans;
+      numbered = answered_numbered s claim h.numbered;
+      on_events = answered_on_events w s claim h.on_events;
+      extends = (
+        o,
+        m,
+        λ order p.
+            let (t, trace, free, (rest, e)) = follow (order ++ leaf ∷ []) (subst (IsOrderOf (order ++ leaf ∷ [])) (sym taken.whole)
+            (order_with_last order leaf taken.front taken.back (subst (IsOrderOf order) taken.left p))) in (
+              t,
+              trace,
+              free,
+              begins_front t (s.journal ++ order) (leaf ∷ [])
+                  (rest, e ∙ ap (λ w. w ++ rest) (sym (append_assoc s.journal order (leaf ∷ [])))),
+            ),
+      );
       epochs = answered_epochs s.epoch s.claims claim h.epochs;
     }
 
-pub kept_switched : (w : Schema) → IsWellFormed w → (s : RunState) → IsKept w s → (claim : ℕ) →
-    (t : List ℕ) × IsFree w s t × ¬ (leaf_of_claim s claim ∈ t) → IsKept w (next_state s (Failed claim Switched))
+pub kept_switched : (w : Schema) → IsWellFormed w → (s : RunState) → IsSound w s → (claim : ℕ) →
+    (t : List ℕ) × IsFree w s t × ¬ (leaf_of_claim s claim ∈ t) → IsSound w (next_state w s (Failed claim Switched))
 kept_switched w f s h claim (t, free, lacks) =
     let leaf = leaf_of_claim s claim in
-    let after = next_state s (Failed claim Switched) in
-    let epochs = answered_epochs s.epoch s.claims claim h.epochs in
-    record {
-      sound = record {
-        runs = h.sound.runs;
-        bans = each-append _ s.bans ((length s.journal, leaf) ∷ []) h.sound.bans (le_refl (length s.journal), tt);
-        numbered = answered_numbered s claim h.sound.numbered;
-        on_events = answered_on_events w s claim h.sound.on_events;
-        extends = extends_by w f after t
-            (free.0, free.1, each-append _ s.bans ((length s.journal, leaf) ∷ []) free.2 (lacks, tt))
-            (ap (map leaf_of) (none_of_later s.epoch (answer claim s.claims) epochs));
-      };
-      epochs = later_epochs s.epoch (answer claim s.claims) epochs;
-    }
+    let bans = s.bans ++ (length s.journal, leaf) ∷ [] in
+    kept_new_epoch w f (record s { bans = bans; claims = answer claim s.claims }) h.runs
+    (each-append _ s.bans ((length s.journal, leaf) ∷ []) h.bans (le_refl (length s.journal), tt))
+    (answered_numbered s claim h.numbered) (answered_on_events w s claim h.on_events) (answered_epochs s.epoch s.claims claim h.epochs)
+    t (free.0, free.1, each-append _ s.bans ((length s.journal, leaf) ∷ []) free.2 (lacks, tt))
 
-pub kept_late : (w : Schema) (s : RunState) → IsKept w s → (claim : ℕ) → IsLapsed s claim → IsKept w (next_state s (Late claim))
+pub kept_late : (w : Schema) (s : RunState) → IsSound w s → (claim : ℕ) → IsLapsed s claim → IsSound w (next_state w s (Late claim))
 kept_late w s h number lapsed =
     let (claim, e, k) = some_claim (λ claim. IsTrue (not claim.answered && nat_lt claim.epoch s.epoch)) (claim_at s number) lapsed in
-    let same = none_taken_out s.epoch number s.claims claim (distinct_numbers s h.sound.numbered) e (lapsed_is_not_current s.epoch claim k) in
-    let (o, m, follow) = h.sound.extends in
+    let same = none_taken_out s.epoch number s.claims claim (distinct_numbers s h.numbered) e (lapsed_is_not_current s.epoch claim k) in
+    let (o, m, follow) = h.extends in
     record {
-      sound = record {
-        runs = h.sound.runs;
-        bans = h.sound.bans;
-        numbered = answered_numbered s number h.sound.numbered;
-        on_events = answered_on_events w s number h.sound.on_events;
-        extends = (o, m, λ order p. follow order (subst (IsOrderOf order) (ap (map leaf_of) same) p));
-      };
+      runs = h.runs;
+      bans = h.bans;
+      numbered = answered_numbered s number h.numbered;
+      on_events = answered_on_events w s number h.on_events;
+      extends = (o, m, λ order p. follow order (subst (IsOrderOf order) (ap (map leaf_of) same) p));
       epochs = answered_epochs s.epoch s.claims number h.epochs;
     }
 
-pub kept_did : (w : Schema) (s : RunState) → IsKept w s → (leaf : ℕ) → CanDo w s leaf → IsKept w (next_state s (Did leaf))
+pub kept_did : (w : Schema) (s : RunState) → IsSound w s → (leaf : ℕ) → CanDo w s leaf → IsSound w (next_state w s (Did leaf))
 kept_did w s h leaf ((other, (o, m, follow)), holds) = record {
-  sound = record {
-    runs = runs-append w.labels (start_of w) s.journal (leaf ∷ []) h.sound.runs (holds, tt);
-    bans = longer_bans s.journal leaf s.bans h.sound.bans;
-    numbered = h.sound.numbered;
-    on_events = h.sound.on_events;
-    extends = (o, m, λ order p. follow_after w s o leaf s.claims order (follow order p));
-  };
+  runs = runs-append w.labels (start_of w) s.journal (leaf ∷ []) h.runs (holds, tt);
+  bans = longer_bans s.journal leaf s.bans h.bans;
+  numbered = h.numbered;
+  on_events = h.on_events;
+  extends = (o, m, λ order p. follow_after w s o leaf s.claims order (follow order p));
   epochs = h.epochs;
 }
 
-pub kept_rewound : (w : Schema) → IsWellFormed w → (s : RunState) → IsKept w s → (i : ℕ) → IsOpen w s i → IsKept w (next_state s (Rewound i))
+pub kept_rewound : (w : Schema) → IsWellFormed w → (s : RunState) → IsSound w s → (i : ℕ) → IsOpen w s i → IsSound w (next_state w s (Rewound i))
 kept_rewound w f s h i (below, (t, good, begins, unbanned, lacks)) =
-    let after = next_state s (Rewound i) in
+    let left = filter (λ ban. nat_le ban.0 i) s.bans in
+    let here : ℕ × ℕ = (i, slice_index s.journal i) in
     let long : length (take i s.journal) ≡ i = length-take-le i s.journal (omega arith) in
-    record {
-      sound = record {
-        runs = runs_front w.labels (start_of w) (take i s.journal) (drop i s.journal)
-            (subst (Runs w.labels (start_of w)) (sym (take-append-drop i s.journal)) h.sound.runs);
-        bans = each-append _ (filter (λ ban. nat_le ban.0 i) s.bans) ((i, slice_index s.journal i) ∷ [])
-            (each-filter _ _ (λ (ban : ℕ × ℕ). nat_le ban.0 i) s.bans
-            (λ ban k _. subst (λ n. ban.0 ≤ n) (sym long) (leb-true ban.0 i k)) h.sound.bans)
-            (subst (λ n. i ≤ n) (sym long) (le_refl i), tt);
-        numbered = h.sound.numbered;
-        on_events = h.sound.on_events;
-        extends = extends_by w f after t (
-          good,
-          begins,
-          each-append _ (filter (λ ban. nat_le ban.0 i) s.bans) ((i, slice_index s.journal i) ∷ [])
-              (each-filter _ _ (λ (ban : ℕ × ℕ). nat_le ban.0 i) s.bans (λ ban k none. none (leb-true ban.0 i k)) unbanned)
-              (lacks, tt),
-        )
-            (ap (map leaf_of) (none_of_later s.epoch s.claims h.epochs));
-      };
-      epochs = later_epochs s.epoch s.claims h.epochs;
-    }
+    kept_new_epoch w f (record s { journal = take i s.journal; bans = left ++ here ∷ [] })
+    (runs_front w.labels (start_of w) (take i s.journal) (drop i s.journal)
+    (subst (Runs w.labels (start_of w)) (sym (take-append-drop i s.journal)) h.runs))
+    (each-append _ left (here ∷ [])
+    (each-filter _ _ (λ (ban : ℕ × ℕ). nat_le ban.0 i) s.bans
+    (λ ban k _. subst (λ n. ban.0 ≤ n) (sym long) (leb-true ban.0 i k)) h.bans)
+    (subst (λ n. i ≤ n) (sym long) (le_refl i), tt))
+    h.numbered h.on_events h.epochs t (
+      good,
+      begins,
+      each-append _ left (here ∷ [])
+          (each-filter _ _ (λ (ban : ℕ × ℕ). nat_le ban.0 i) s.bans (λ ban k none. none (leb-true ban.0 i k)) unbanned)
+          (lacks, tt),
+    )
 
-pub kept_committed : (w : Schema) (s : RunState) → IsKept w s → IsKept w (next_state s Committed)
+pub kept_committed : (w : Schema) (s : RunState) → IsSound w s → IsSound w (next_state w s Committed)
 kept_committed w s h = record {
-  sound = record {
-    runs = h.sound.runs;
-    bans = h.sound.bans;
-    numbered = h.sound.numbered;
-    on_events = h.sound.on_events;
-    extends = h.sound.extends;
-  };
+  runs = h.runs;
+  bans = h.bans;
+  numbered = h.numbered;
+  on_events = h.on_events;
+  extends = h.extends;
   epochs = h.epochs;
 }
 
-pub kept_next : (w : Schema) → IsWellFormed w → (s : RunState) → IsKept w s → (step : Step) → IsAllowed w s step → IsKept w (next_state s step)
+pub kept_next : (w : Schema) → IsWellFormed w → (s : RunState) → IsSound w s → (step : Step) → IsAllowed w s step → IsSound w (next_state w s step)
 kept_next w f s h (Took claim leaf) a = kept_took w s h claim leaf a.0 a.1
 kept_next w f s h (Done claim) a = kept_done w s h claim a
 kept_next w f s h (Failed claim Switched) a = kept_switched w f s h claim a.1
@@ -291,8 +278,8 @@ kept_next w f s h (Did leaf) a = kept_did w s h leaf a
 kept_next w f s h (Rewound i) a = kept_rewound w f s h i a.0
 kept_next w f s h Committed a = kept_committed w s h
 
-pub kept_from : (w : Schema) → IsWellFormed w → (limit : ℕ) (s : RunState) (made : ℕ) → IsKept w s → (front later : List Entry) →
-    IsLegalFrom w limit s made (front ++ later) → IsKept w (state_after s front)
+pub kept_from : (w : Schema) → IsWellFormed w → (limit : ℕ) (s : RunState) (made : ℕ) → IsSound w s → (front later : List Entry) →
+    IsLegalFrom w limit s made (front ++ later) → IsSound w (state_after w s front)
 kept_from w f limit s made h [] later legal = h
 kept_from w f limit s made h (entry ∷ front) later legal =
-    kept_from w f limit (next_state s entry.step) (made + 1) (kept_next w f s h entry.step legal.2) front later legal.3
+    kept_from w f limit (next_state w s entry.step) (made + 1) (kept_next w f s h entry.step legal.2) front later legal.3

@@ -5,4 +5,5 @@ pub mod Orders
 pub mod Ways
 pub mod Circles
 pub mod Histories
+pub mod Spared
 pub mod Events

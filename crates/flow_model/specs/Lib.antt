@@ -8,6 +8,8 @@ pub mod Ways
 pub mod Resolution
 pub mod Ready
 pub mod Circle
+pub mod RunState
+pub mod Decided
 pub mod Run
 pub mod Verdict
 pub mod Stored

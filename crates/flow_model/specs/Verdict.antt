@@ -46,18 +46,18 @@ call_of w s claim = record {
 }
 
 -- the history ends with a kept failure of that leaf
-abbrev pub EndsKept : List Entry → ℕ → Type 0
-EndsKept history leaf = (earlier : List Entry) × ((entry : Entry) × ((claim : ℕ) ×
-    (history ≡ earlier ++ entry ∷ []) × (entry.step ≡ Failed claim Kept) × (leaf_of_claim (state_of earlier) claim ≡ leaf)))
+abbrev pub EndsKept : Schema → List Entry → ℕ → Type 0
+EndsKept w history leaf = (earlier : List Entry) × ((entry : Entry) × ((claim : ℕ) ×
+    (history ≡ earlier ++ entry ∷ []) × (entry.step ≡ Failed claim Kept) × (leaf_of_claim (state_of w earlier) claim ≡ leaf)))
 
 -- after the earlier entries a run may make this one: it rewinds only where it must, and outcomes come from the gate
 abbrev pub IsRunStep : (Call → Outcome → Type 0) → Schema → List Entry → Step → Type 0
 IsRunStep gives w earlier (Took claim leaf) = Unit {0}
-IsRunStep gives w earlier (Done claim) = gives (call_of w (state_of earlier) claim) outcome.TheVariants.Done
-IsRunStep gives w earlier (Failed claim effect) = gives (call_of w (state_of earlier) claim) outcome.TheVariants.Failed
+IsRunStep gives w earlier (Done claim) = gives (call_of w (state_of w earlier) claim) outcome.TheVariants.Done
+IsRunStep gives w earlier (Failed claim effect) = gives (call_of w (state_of w earlier) claim) outcome.TheVariants.Failed
 IsRunStep gives w earlier (Late claim) = Unit {0}
 IsRunStep gives w earlier (Did leaf) = Unit {0}
-IsRunStep gives w earlier (Rewound index) = IsStuck w (state_of earlier) ⊎ ((leaf : ℕ) × EndsKept earlier leaf)
+IsRunStep gives w earlier (Rewound index) = IsStuck w (state_of w earlier) ⊎ ((leaf : ℕ) × EndsKept w earlier leaf)
 IsRunStep gives w earlier Committed = Unit {0}
 
 -- a legal history that workers may make with a gate
@@ -77,9 +77,9 @@ pub data Verdict : Type 0 where
   unfinished : Verdict
 
 -- the verdict of a driven session
-abbrev pub drive_verdict : ℕ → List Entry → Verdict
-drive_verdict limit history =
-    if (state_of history).committed then committed else if length history == limit then spent else unfinished
+abbrev pub drive_verdict : Schema → ℕ → List Entry → Verdict
+drive_verdict w limit history =
+    if (state_of w history).committed then committed else if length history == limit then spent else unfinished
 
 -- the list rises, and its members are exactly those with P
 pub record AreJust (P : ℕ → Type 0) (members : List ℕ) : Type 0 where
@@ -88,20 +88,20 @@ pub record AreJust (P : ℕ → Type 0) (members : List ℕ) : Type 0 where
 
 -- no place of the journal is open
 abbrev pub HasNoOpenIndex : Schema → List Entry → Type 0
-HasNoOpenIndex w history = (i : ℕ) → ¬ (IsOpenIndex w (state_of history) i)
+HasNoOpenIndex w history = (i : ℕ) → ¬ (IsOpenIndex w (state_of w history) i)
 
 -- the history is neither committed nor as long as the limit
-abbrev pub GoesOn : ℕ → List Entry → Type 0
-GoesOn limit history = ((state_of history).committed ≡ false) × (length history ≢ limit)
+abbrev pub GoesOn : Schema → ℕ → List Entry → Type 0
+GoesOn w limit history = ((state_of w history).committed ≡ false) × (length history ≢ limit)
 
 -- the verdict of a run, the first that applies; a run that has none goes on
 abbrev pub IsRunVerdict : Schema → ℕ → List Entry → Verdict → Type 0
-IsRunVerdict w limit history committed = (state_of history).committed ≡ true
-IsRunVerdict w limit history spent = ((state_of history).committed ≡ false) × (length history ≡ limit)
-IsRunVerdict w limit history (no_other leaf) = GoesOn limit history × EndsKept history leaf × HasNoOpenIndex w history
+IsRunVerdict w limit history committed = (state_of w history).committed ≡ true
+IsRunVerdict w limit history spent = ((state_of w history).committed ≡ false) × (length history ≡ limit)
+IsRunVerdict w limit history (no_other leaf) = GoesOn w limit history × EndsKept w history leaf × HasNoOpenIndex w history
 IsRunVerdict w limit history (stuck waiting) =
-    GoesOn limit history × ((leaf : ℕ) → ¬ (EndsKept history leaf)) × HasNoOpenIndex w history
-    × IsStuck w (state_of history) × AreJust (Waits w (state_of history)) waiting
+    GoesOn w limit history × ((leaf : ℕ) → ¬ (EndsKept w history leaf)) × HasNoOpenIndex w history
+    × IsStuck w (state_of w history) × AreJust (Waits w (state_of w history)) waiting
 IsRunVerdict w limit history unfinished = ⊥
 
 -- The run stops at its first verdict, and goes back at once after a kept failure where it can.
@@ -109,7 +109,7 @@ pub record IsDriven (w : Schema) (limit : ℕ) (history : List Entry) : Type 0 w
   pub stops : (earlier later : List Entry) (entry : Entry) (verdict : Verdict) →
       history ≡ earlier ++ entry ∷ later → ¬ (IsRunVerdict w limit earlier verdict)
   pub goes_back : (earlier later : List Entry) (leaf i : ℕ) →
-      history ≡ earlier ++ later → EndsKept earlier leaf → IsOpenIndex w (state_of earlier) i → length earlier < limit →
+      history ≡ earlier ++ later → EndsKept w earlier leaf → IsOpenIndex w (state_of w earlier) i → length earlier < limit →
       (entry : Entry) × ((rest : List Entry) × (later ≡ entry ∷ rest) × (entry.step ≡ Rewound i))
 
 -- the list begins some good trace, and its own tests hold in turn

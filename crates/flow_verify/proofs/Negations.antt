@@ -6,7 +6,8 @@ use Rattle.flow_model.specs.Constraint.{Constraint, Not, Meets}
 use Rattle.flow_model.specs.Schema.{Schema, IsGood}
 use Rattle.flow_laws.specs.Words.{IsConsistent}
 use Rattle.flow_laws.proofs.ListLemmas2.{each-append, each_parts}
-use Rattle.flow_laws.proofs.NormalForms.{meets_or_not, not_not}
+use Rattle.flow_model.specs.Decided.{decide_meets}
+use Rattle.flow_laws.proofs.NormalForms.{not_not}
 use Rattle.flow_rules.specs.declared.rule.Rule as rule
 use Rattle.flow_rules.specs.declared.rule.Rule.{Rule}
 use Rattle.flow_rules.specs.declared.rule.Rule.TheOpen as open_rule
@@ -29,7 +30,7 @@ fails_by w p t (trace, met) =
 pub holds_where_none : (w : Schema) (p : Constraint) → ¬ (IsConsistent (against w p)) →
     (t : List ℕ) → IsGood w t → Meets p (events_of w.labels t)
 holds_where_none w p none t (trace, met) =
-    not_not (meets_or_not p (events_of w.labels t))
+    not_not (decide_meets p (events_of w.labels t))
     (λ n. none (t, (trace, each-append (λ c. Meets c (events_of w.labels t)) w.rules (Not p ∷ []) met (n, tt))))
 
 -- The constraints where a rule is negated and put last

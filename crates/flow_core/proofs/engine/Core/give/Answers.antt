@@ -19,9 +19,9 @@ pub invariant_of-self : goal.invariant_of-self
 invariant_of-self c =
     let i = c.self.inside in
     let k : IsKept i.tree i.limit i.history.items i.journal.items i.done.items i.given.items i.committed = c.self.invariant.kept in
-    let going : (state_of i.history.items).committed ≡ false = subst GoesOn (sym c.self.view_is) c.requires.open in
+    let going : (state_of (schema_of i.tree) i.history.items).committed ≡ false = subst GoesOn (sym c.self.view_is) c.requires.open in
     let room : length i.history.items < i.limit = subst HasSteps (sym c.self.view_is) c.requires.steps in
-    let can : CanTake (schema_of i.tree) (state_of i.history.items) c.args.leaf =
+    let can : CanTake (schema_of i.tree) (state_of (schema_of i.tree) i.history.items) c.args.leaf =
     subst (λ (p : Progress). CanTake p.schema (now p) c.args.leaf) (sym c.self.view_is) c.requires.enabled in
     let number : c.len.result + 1 ≡ 1 + length i.given.items = let e : vec_len i.given ≡ length i.given.items = i.given.ok.0 in let f : c.len.result ≡ vec_len i.given = c.len.ensures in omega arith in
     let h : c.push_reserved-2.new.self.items ≡ longer i.history.items c.args.by (Took (1 + length i.given.items) c.args.leaf) =
@@ -31,7 +31,7 @@ invariant_of-self c =
           (subst (λ (g : List Given). IsKept i.tree i.limit (longer i.history.items c.args.by (Took (1 + length i.given.items) c.args.leaf)) i.journal.items i.done.items g i.committed)
           (sym c.push_reserved.ensures.items)
           (kept_give i.tree i.limit i.history.items i.journal.items i.done.items i.given.items i.committed k going room c.args.leaf c.args.by can
-          (ready_to_take i.tree k.plain k.numbered (state_of i.history.items) c.args.leaf can)));
+          (ready_to_take i.tree k.plain k.numbered (state_of (schema_of i.tree) i.history.items) c.args.leaf can)));
       history_room = let e : vec_capacity c.push_reserved-2.new.self ≡ vec_capacity i.history = c.push_reserved-2.ensures.capacity in
           let r : i.limit ≤ vec_capacity i.history = c.self.invariant.history_room in omega arith;
       journal_room = c.self.invariant.journal_room;
@@ -43,9 +43,9 @@ invariant_of-self c =
 pub returns-clause-entry : goal.returns-clause-entry
 returns-clause-entry c =
     let i = c.self.inside in
-    let number : c.len.result + 1 ≡ length (state_of i.history.items).claims + 1 =
+    let number : c.len.result + 1 ≡ length (state_of (schema_of i.tree) i.history.items).claims + 1 =
     ap (λ n. n + 1) (c.len.ensures ∙ i.given.ok.0 ∙ sym (length-claims_from 1 i.given.items) ∙ sym (ap length c.self.invariant.kept.claims_are)) in
-    let h : c.push_reserved-2.new.self.items ≡ longer i.history.items c.args.by (Took (length (state_of i.history.items).claims + 1) c.args.leaf) =
+    let h : c.push_reserved-2.new.self.items ≡ longer i.history.items c.args.by (Took (length (state_of (schema_of i.tree) i.history.items).claims + 1) c.args.leaf) =
     c.push_reserved-2.ensures.items ∙ ap (λ n. longer i.history.items c.args.by (Took n c.args.leaf)) number in
     let new : Progress = record { schema = schema_of i.tree; limit = i.limit; history = c.push_reserved-2.new.self.items } in
     subst (λ (p : Progress). new ≡ with_entry p c.args.by (Took (length (now p).claims + 1) c.args.leaf)) c.self.view_is
@@ -54,7 +54,7 @@ returns-clause-entry c =
 pub returns-clause-call : goal.returns-clause-call
 returns-clause-call c =
     let i = c.self.inside in
-    let s' : RunState = state_of c.push_reserved-2.new.self.items in
+    let s' : RunState = state_of (schema_of i.tree) c.push_reserved-2.new.self.items in
     let number : c.len.result + 1 ≡ 1 + length i.given.items = let e : vec_len i.given ≡ length i.given.items = i.given.ok.0 in let f : c.len.result ≡ vec_len i.given = c.len.ensures in omega arith in
     let claims : s'.claims ≡ claims_from 1 (i.given.items ++ record { leaf = c.args.leaf; answered = false } ∷ []) =
     (invariant_of-self c).kept.claims_are ∙ ap (claims_from 1) c.push_reserved.ensures.items in

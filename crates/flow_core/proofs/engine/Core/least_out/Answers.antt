@@ -4,12 +4,12 @@ use Rattle.flow_core.specs.declared.engine.Core.TheInside.{Inside}
 use Rattle.flow_core.specs.Claims.{IsLeastOut}
 use Rattle.flow_core.specs.Fields.{IsRunning}
 use Rattle.flow_core.specs.Given.{first_out}
-use Rattle.flow_core.specs.View.{Progress, now}
+use Rattle.flow_core.specs.View.{Progress, schema_of, now}
 use Rattle.flow_core.proofs.Answering.{none_out, least_out}
 use Rattle.flow_core.proofs.engine.Core.least_out.Goals as goal
 
 -- the place that was found
-found : (i : Inside) → IsRunning i → (place : ℕ) → first_out i.given.items ≡ Some place → IsLeastOut (state_of i.history.items) (place + 1) × (place < length i.given.items)
+found : (i : Inside) → IsRunning i → (place : ℕ) → first_out i.given.items ≡ Some place → IsLeastOut (state_of (schema_of i.tree) i.history.items) (place + 1) × (place < length i.given.items)
 found i r place h = least_out i.tree i.limit i.history.items i.journal.items i.done.items i.given.items i.committed r.kept place h
 
 few : (i : Inside) → IsRunning i → (place : ℕ) → place < length i.given.items → place + 1 ≤ 1000000

@@ -11,10 +11,10 @@ use Rattle.flow_core.proofs.engine.Core.record_commit.Goals as goal
 pub invariant_of-self : goal.invariant_of-self
 invariant_of-self c =
     let i = c.self.inside in
-    let going : (state_of i.history.items).committed ≡ false = subst GoesOn (sym c.self.view_is) c.requires.open in
+    let going : (state_of (schema_of i.tree) i.history.items).committed ≡ false = subst GoesOn (sym c.self.view_is) c.requires.open in
     let room : length i.history.items < i.limit = subst HasSteps (sym c.self.view_is) c.requires.steps in
-    let none : current_claims (state_of i.history.items) ≡ [] = subst (λ (p : Progress). current_claims (now p) ≡ []) (sym c.self.view_is) c.requires.no_claim in
-    let good : IsGood (schema_of i.tree) (state_of i.history.items).journal = subst (λ (p : Progress). IsGood p.schema (now p).journal) (sym c.self.view_is) c.requires.good in
+    let none : current_claims (state_of (schema_of i.tree) i.history.items) ≡ [] = subst (λ (p : Progress). current_claims (now p) ≡ []) (sym c.self.view_is) c.requires.no_claim in
+    let good : IsGood (schema_of i.tree) (state_of (schema_of i.tree) i.history.items).journal = subst (λ (p : Progress). IsGood p.schema (now p).journal) (sym c.self.view_is) c.requires.good in
     record {
       kept = subst (λ (h : List Entry). IsKept i.tree i.limit h i.journal.items i.done.items i.given.items true) (sym c.push_reserved.ensures.items)
           (kept_commit i.tree i.limit i.history.items i.journal.items i.done.items i.given.items i.committed c.self.invariant.kept going room c.args.by none good);

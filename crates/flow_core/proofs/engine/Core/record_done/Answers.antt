@@ -8,15 +8,15 @@ use Rattle.flow_core.specs.declared.engine.Core.TheInside.{Inside}
 use Rattle.flow_core.specs.declared.given.Given.{Given}
 use Rattle.flow_core.specs.Fields.{IsRunning}
 use Rattle.flow_core.specs.Kept.{IsKept}
-use Rattle.flow_core.specs.View.{Progress, GoesOn, HasSteps, now}
+use Rattle.flow_core.specs.View.{Progress, schema_of, GoesOn, HasSteps, now}
 use Rattle.flow_core.proofs.GivenClaims.{answered}
 use Rattle.flow_core.proofs.Steps.{longer, kept_done, IsOutAt, out_at}
 use Rattle.flow_core.proofs.engine.Core.record_done.Goals as goal
 
 -- the claim at the place is out
-place : (i : Inside) → IsRunning i → (p : ℕ) → IsCurrent (state_of i.history.items) (p + 1) → IsOutAt i.done.items i.given.items p
+place : (i : Inside) → IsRunning i → (p : ℕ) → IsCurrent (state_of (schema_of i.tree) i.history.items) (p + 1) → IsOutAt i.done.items i.given.items p
 place i r p current = out_at i.tree i.limit i.history.items i.journal.items i.done.items i.given.items i.committed r.kept p
-    (subst (IsCurrent (state_of i.history.items)) (let e : p + 1 ≡ 1 + p = omega arith in e) current)
+    (subst (IsCurrent (state_of (schema_of i.tree) i.history.items)) (let e : p + 1 ≡ 1 + p = omega arith in e) current)
 
 -- it is below the limit
 few : (i : Inside) → IsRunning i → (p : ℕ) → p < length i.given.items → p + 1 ≤ 1000000
@@ -65,15 +65,15 @@ invariant_of-self c =
     let i = c.self.inside in
     let p : ℕ = c.args.place in
     let k : IsKept i.tree i.limit i.history.items i.journal.items i.done.items i.given.items i.committed = c.self.invariant.kept in
-    let current : IsCurrent (state_of i.history.items) (p + 1) = subst (λ (q : Progress). IsCurrent (now q) (p + 1)) (sym c.self.view_is) c.requires.current in
+    let current : IsCurrent (state_of (schema_of i.tree) i.history.items) (p + 1) = subst (λ (q : Progress). IsCurrent (now q) (p + 1)) (sym c.self.view_is) c.requires.current in
     let o : IsOutAt i.done.items i.given.items p = place i c.self.invariant p current in
     let r : Given = c.index.result.now in
     let same : r ≡ o.claim = read i.given.items p o.claim r o.at c.index.ensures in
-    let going : (state_of i.history.items).committed ≡ false = subst GoesOn (sym c.self.view_is) c.requires.open in
+    let going : (state_of (schema_of i.tree) i.history.items).committed ≡ false = subst GoesOn (sym c.self.view_is) c.requires.open in
     let room : length i.history.items < i.limit = subst HasSteps (sym c.self.view_is) c.requires.steps in
     let made : IsKept i.tree i.limit (longer i.history.items c.args.by (Done (1 + p))) (i.journal.items ++ o.claim.leaf ∷ []) (set i.done.items o.claim.leaf true) (set i.given.items p (answered o.claim)) i.committed =
     kept_done i.tree i.limit i.history.items i.journal.items i.done.items i.given.items i.committed k going room c.args.by p o.claim o.at o.out o.below
-    (subst (IsCurrent (state_of i.history.items)) (let e : p + 1 ≡ 1 + p = omega arith in e) current) in
+    (subst (IsCurrent (state_of (schema_of i.tree) i.history.items)) (let e : p + 1 ≡ 1 + p = omega arith in e) current) in
     let read_is : IsKept i.tree i.limit (longer i.history.items c.args.by (Done (1 + p))) (i.journal.items ++ r.leaf ∷ []) (set i.done.items r.leaf true) (set i.given.items p (answered r)) i.committed =
     subst (λ (g : Given). IsKept i.tree i.limit (longer i.history.items c.args.by (Done (1 + p))) (i.journal.items ++ g.leaf ∷ []) (set i.done.items g.leaf true) (set i.given.items p (answered g)) i.committed) (sym same) made in
     let h : c.push_reserved-2.new.self.items ≡ longer i.history.items c.args.by (Done (1 + p)) =

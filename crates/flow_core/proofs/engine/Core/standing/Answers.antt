@@ -4,12 +4,12 @@ use Rattle.flow_model.specs.Run.{state_of, claim_at, IsCurrent}
 use Rattle.flow_core.specs.declared.engine.Core.TheInside.{Inside}
 use Rattle.flow_core.specs.Claims.{IsAnswered, IsOut}
 use Rattle.flow_core.specs.Fields.{IsRunning}
-use Rattle.flow_core.specs.View.{Progress, now}
+use Rattle.flow_core.specs.View.{Progress, schema_of, now}
 use Rattle.flow_core.proofs.Answering.{never_given, is_answered, still_out}
 use Rattle.flow_core.proofs.engine.Core.standing.Goals.{then-claim-eq0-via-then-claim-eq0, then-claim-eq0-via-else-claim-eq0+then-len-claim}
 use Rattle.flow_core.proofs.engine.Core.standing.Goals as goal
 
-never : (i : Inside) → IsRunning i → (claim : ℕ) → (claim ≡ 0) ⊎ (length i.given.items < claim) → claim_at (state_of i.history.items) claim ≡ None
+never : (i : Inside) → IsRunning i → (claim : ℕ) → (claim ≡ 0) ⊎ (length i.given.items < claim) → claim_at (state_of (schema_of i.tree) i.history.items) claim ≡ None
 never i r claim h = never_given i.tree i.limit i.history.items i.journal.items i.done.items i.given.items i.committed r.kept claim h
 
 pub returns-then-claim-eq0 : goal.returns-then-claim-eq0
