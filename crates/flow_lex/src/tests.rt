@@ -21,7 +21,10 @@ fn told(alloc: Global, text: &[u8]) -> Result<String, Fail> {
 fn texts_have_their_tokens(rt: HostRuntime) -> Result<(), Fail> {
     let alloc = rt.alloc();
     let cases = [
-        (b"# (\nZz_9*9a".as_slice(), "Word 4 8, Mark 8 9, Number 9 10, Word 10 11, "),
+        (
+            b"# (\nZz_9*9a".as_slice(),
+            "Word 4 8, Mark 8 9, Number 9 10, Word 10 11, ",
+        ),
         (b"\t0004294967295\r", "Number 1 14, "),
         (b" 4294967296", "BadToken { place: 1 }"),
         (b"goal _a;", "BadToken { place: 5 }"),

@@ -34,7 +34,10 @@ fn texts_are_read_and_printed(rt: HostRuntime) -> Result<(), Fail> {
     let cases = [
         (CROWDED, PRINTED),
         (PRINTED, PRINTED),
-        ("event a, b; goal a * (b", "Expected { place: 23, kind: Closing }"),
+        (
+            "event a, b; goal a * (b",
+            "Expected { place: 23, kind: Closing }",
+        ),
         ("event a, a; goal z;", "repeated 9"),
         ("flow f = nop; goal f; constraint must f;", "unknown 38"),
     ];
