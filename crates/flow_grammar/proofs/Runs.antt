@@ -1,7 +1,8 @@
 -- What a run finds is so, and it finds what is so, where each state knows what may follow it.
 use Rattle.std.proofs.Common.{◌≡◌, ℕ, zero, suc, ◌<◌, ◌≤◌, ◌⊎◌, Bool, true, false, Option, Some, None, List, [], ◌∷◌, ◌++◌, take, refl, sym, ap, subst, inl, inr, arith, le-leb, leb-true, leb-false}
+use Rattle.std.specs.Prelude.{option_map}
 use Rattle.flow_grammar.specs.Symbol.{Symbol, Placed, at, symbols, Deepens, opening, not_word}
-use Rattle.flow_grammar.specs.Machine.{Reading, gives, expected, too_deep, later, deepest, is_too_deep, at_end, go_on, run, Wanted}
+use Rattle.flow_grammar.specs.Machine.{Reading, gives, expected, too_deep, later, deepest, is_too_deep, at_end, go_on, run, Wanted, standing}
 use Rattle.flow_grammar.specs.Laws.{StandsFor, MayEnd}
 use Rattle.flow_grammar.specs.Texts.{IsShallow, IsDeepAt, Derives, IsWhole, IsViable, StandsDeep, IsStuckAt, NoneDeepBefore}
 
@@ -94,6 +95,21 @@ end_expected (Some u) kind kind' k e = cc
 end_not_deep : {V : Type 0} (o : Option V) (kind : Wanted) (k : ℕ) → ¬ (at_end o kind ≡ too_deep k)
 end_not_deep None kind k e = cc
 end_not_deep (Some u) kind k e = cc
+
+-- the kind that is told stands in the table for the place
+pub wanted_there : {S V : Type 0} (step : S → Symbol → Option S) (finish : S → Option V) (wanted : S → Wanted) (depth : S → ℕ)
+    (ts : List Symbol) (s : S) (kind : Wanted) (i : ℕ) → run step finish wanted depth s ts ≡ expected kind i →
+    option_map wanted (standing step (Some s) (take i ts)) ≡ Some kind
+wanted_there step finish wanted depth [] s kind i e =
+    let (ef, ei, ek) = end_expected (finish s) (wanted s) kind i e in
+    subst (λ y. option_map wanted (standing step (Some s) (take y [])) ≡ Some kind) (sym ei) (ap Some ek)
+wanted_there step finish wanted depth (t ∷ ts) s kind i e =
+    elim (go_expected (step s t) (is_too_deep t (depth s)) (wanted s) (λ y. run step finish wanted depth y ts) kind i e) [
+      | inl (es, ei, ek) ↦ subst (λ y. option_map wanted (standing step (Some s) (take y (t ∷ ts))) ≡ Some kind) (sym ei) (ap Some ek)
+      | inr (next, j, es, eb, ei, er) ↦
+          subst (λ y. option_map wanted (standing step (Some s) (take y (t ∷ ts))) ≡ Some kind) (sym ei)
+          (subst (λ o. option_map wanted (standing step o (take j ts)) ≡ Some kind) (sym es) (wanted_there step finish wanted depth ts next kind j er))
+    ]
 
 known : {A : Type 0} (o : Option A) → (o ≡ None) ⊎ ((s : A) × (o ≡ Some s))
 known None = inl refl

@@ -1,5 +1,5 @@
 -- What reading finds, in the grammar's terms. `Spells` says which texts there are.
-use Rattle.std.specs.Prelude.{◌≡◌, ℕ, List, [], ◌∷◌, ◌++◌, ◌↔◌, take}
+use Rattle.std.specs.Prelude.{◌≡◌, ℕ, Option, Some, List, [], ◌∷◌, ◌++◌, ◌↔◌, take}
 use Rattle.flow_grammar.specs.Symbol.{Symbol, Placed, symbols, fact_word, event_word, flow_word, goal_word, constraint_word, nop_word, iso_word, ins_word, del_word, must_word, never_word, order_word, precedes_word, needs_word, not_word, holds_word, redundant_word, a_name, a_number, opening, closing, semicolon, equals, question, exclamation}
 use Rattle.flow_grammar.specs.Machine.{Wanted, a_declaration, a_constraint, the_name, a_fact, a_constant, an_atom, a_rule, an_opening, a_closing, an_equals, a_semicolon, a_query, the_number, the_end, Reading, gives, expected, too_deep}
 use Rattle.flow_grammar.specs.Texts.{Derives, IsWhole, IsViable, StandsDeep, IsStuckAt, NoneDeepBefore}
@@ -97,3 +97,7 @@ MayEnd _ = ⊥
 abbrev pub WantsWhatCouldCome : {V : Type 0} → (List Placed → V → Type 0) → (List Symbol → Reading V) → Type 0
 WantsWhatCouldCome Spells read = (ts : List Symbol) (kind : Wanted) (k : ℕ) → read ts ≡ expected kind k →
     ((t : Symbol) → StandsFor kind t → IsViable Spells (take k ts ++ t ∷ [])) × (MayEnd kind → IsWhole Spells (take k ts))
+
+-- what is expected is what the table of kinds has for where the reading stands after the symbols before
+abbrev pub TellsWhatIsWanted : {V : Type 0} → (List Symbol → Option Wanted) → (List Symbol → Reading V) → Type 0
+TellsWhatIsWanted wants read = (ts : List Symbol) (kind : Wanted) (k : ℕ) → read ts ≡ expected kind k → wants (take k ts) ≡ Some kind

@@ -1,5 +1,5 @@
 -- The push-down machine that reads a workflow text or a query, a symbol a step.
-use Rattle.std.specs.Prelude.{ℕ, zero, suc, ◌+◌, Bool, true, false, nat_le, Option, Some, None, List, [], ◌∷◌, ◌++◌}
+use Rattle.std.specs.Prelude.{ℕ, zero, suc, ◌+◌, Bool, true, false, nat_le, Option, Some, None, option_map, List, [], ◌∷◌, ◌++◌}
 use Rattle.flow_model.specs.declared.labels.Note.TheVariants.{Done, Fail, FailFirst}
 use Rattle.flow_facts.specs.declared.constant.Const.{Const}
 use Rattle.flow_facts.specs.declared.constant.Const.TheVariants.{Word, Number}
@@ -40,10 +40,6 @@ end_constant n args _ = stuck
 abbrev pub step_arg : ArgState → Symbol → Step ArgState Atom
 step_arg (constant_needed n args) t = read_constant n args t
 step_arg (after_constant n args) t = end_constant n args t
-
-abbrev pub wanted_arg : ArgState → Wanted
-wanted_arg (constant_needed n args) = a_constant
-wanted_arg (after_constant n args) = a_closing
 
 -- A goal, up to its semicolon
 
@@ -134,18 +130,6 @@ step_goal (opening_needed fs l) t = open_iso fs l t
 step_goal (fact_needed p fs l) t = name_relation p fs l t
 step_goal (after_relation p n fs l) t = open_args p n fs l t
 step_goal (in_args p a fs l) t = after_arg p fs l (step_arg a t)
-
-abbrev pub wanted_join : List Frame → Wanted
-wanted_join [] = a_semicolon
-wanted_join (f ∷ fs) = a_closing
-
-abbrev pub wanted_goal : GoalState → Wanted
-wanted_goal (atom_needed fs l) = an_atom
-wanted_goal (after_atom fs l) = wanted_join fs
-wanted_goal (opening_needed fs l) = an_opening
-wanted_goal (fact_needed p fs l) = a_fact
-wanted_goal (after_relation p n fs l) = wanted_join fs
-wanted_goal (in_args p a fs l) = wanted_arg a
 
 -- in how many parentheses the next symbol stands
 abbrev pub height : List Frame → ℕ
@@ -248,16 +232,6 @@ step_rule (unit_needed fs l k) t = start_unit fs l k t
 step_rule (after_unit fs l) t = join_unit fs l t
 step_rule (name_needed names fs l k) t = read_name names fs l k t
 step_rule (after_names ns fs l k) t = more_names ns fs l k t
-
-abbrev pub wanted_rule_join : List RuleFrame → Wanted
-wanted_rule_join [] = a_semicolon
-wanted_rule_join (f ∷ fs) = a_closing
-
-abbrev pub wanted_rule : RuleState → Wanted
-wanted_rule (unit_needed fs l k) = a_rule
-wanted_rule (after_unit fs l) = wanted_rule_join fs
-wanted_rule (name_needed names fs l k) = the_name
-wanted_rule (after_names ns fs l k) = wanted_rule_join fs
 
 -- so many more
 abbrev pub nots_in : ℕ → ℕ → ℕ
@@ -389,23 +363,6 @@ abbrev pub finish_script : State → Option Said
 finish_script (constraint_needed ds s rs) = Some (record { decls = ds; goal = s; rules = rs })
 finish_script _ = None
 
-abbrev pub wanted_script : State → Wanted
-wanted_script (declaration_needed ds) = a_declaration
-wanted_script (fact_to_declare ds) = a_fact
-wanted_script (after_declared_relation ds n) = a_semicolon
-wanted_script (in_declared_args ds a) = wanted_arg a
-wanted_script (after_fact ds) = a_semicolon
-wanted_script (event_to_declare ds) = the_name
-wanted_script (after_event ds n) = a_semicolon
-wanted_script (after_fail ds n) = a_semicolon
-wanted_script (after_noted ds) = a_semicolon
-wanted_script (flow_to_declare ds) = the_name
-wanted_script (equals_needed ds n) = an_equals
-wanted_script (in_flow ds n g) = wanted_goal g
-wanted_script (in_goal ds g) = wanted_goal g
-wanted_script (constraint_needed ds s rs) = a_constraint
-wanted_script (in_constraint ds s rs r) = wanted_rule r
-
 abbrev pub depth_script : State → ℕ
 depth_script (in_declared_args ds a) = 1
 depth_script (in_flow ds n g) = depth_goal g
@@ -451,16 +408,94 @@ abbrev pub finish_query : QueryState → Option Asked
 finish_query (query_read q) = Some q
 finish_query _ = None
 
-abbrev pub wanted_query : QueryState → Wanted
-wanted_query query_needed = a_query
-wanted_query (in_property r) = wanted_rule r
-wanted_query number_needed = the_number
-wanted_query (after_number n) = a_semicolon
-wanted_query (query_read q) = the_end
-
 abbrev pub depth_query : QueryState → ℕ
 depth_query (in_property r) = depth_rule r
 depth_query _ = 0
+
+-- The kinds: what is wanted, by where the reading stands. docs/FORMATS.md has the same table in words.
+
+abbrev pub wanted_arg : ArgState → Wanted
+-- a constant is needed
+wanted_arg (constant_needed n args) = a_constant
+-- inside the parentheses of a fact, after a constant
+wanted_arg (after_constant n args) = a_closing
+
+-- after a complete member of a goal: inside parentheses or not
+abbrev pub wanted_join : List Frame → Wanted
+wanted_join [] = a_semicolon
+wanted_join (f ∷ fs) = a_closing
+
+abbrev pub wanted_goal : GoalState → Wanted
+-- an atom is needed
+wanted_goal (atom_needed fs l) = an_atom
+-- after `iso`
+wanted_goal (opening_needed fs l) = an_opening
+-- the relation of a fact is needed
+wanted_goal (fact_needed p fs l) = a_fact
+wanted_goal (in_args p a fs l) = wanted_arg a
+-- after a complete member
+wanted_goal (after_atom fs l) = wanted_join fs
+wanted_goal (after_relation p n fs l) = wanted_join fs
+
+-- after a complete member of a rule: inside parentheses or not
+abbrev pub wanted_rule_join : List RuleFrame → Wanted
+wanted_rule_join [] = a_semicolon
+wanted_rule_join (f ∷ fs) = a_closing
+
+abbrev pub wanted_rule : RuleState → Wanted
+-- a unit of a rule is needed
+wanted_rule (unit_needed fs l k) = a_rule
+-- the name of an event is needed: for `order` the first two
+wanted_rule (name_needed names fs l k) = the_name
+-- after a complete member
+wanted_rule (after_unit fs l) = wanted_rule_join fs
+wanted_rule (after_names ns fs l k) = wanted_rule_join fs
+
+abbrev pub wanted_script : State → Wanted
+-- a declaration or the goal must begin
+wanted_script (declaration_needed ds) = a_declaration
+-- after the goal, or a constraint
+wanted_script (constraint_needed ds s rs) = a_constraint
+-- the name of an event or sub-workflow is needed
+wanted_script (event_to_declare ds) = the_name
+wanted_script (flow_to_declare ds) = the_name
+-- the relation of a fact is needed
+wanted_script (fact_to_declare ds) = a_fact
+wanted_script (in_declared_args ds a) = wanted_arg a
+-- after the name of a sub-workflow
+wanted_script (equals_needed ds n) = an_equals
+-- after a complete fact or event
+wanted_script (after_declared_relation ds n) = a_semicolon
+wanted_script (after_fact ds) = a_semicolon
+wanted_script (after_event ds n) = a_semicolon
+wanted_script (after_fail ds n) = a_semicolon
+wanted_script (after_noted ds) = a_semicolon
+wanted_script (in_flow ds n g) = wanted_goal g
+wanted_script (in_goal ds g) = wanted_goal g
+wanted_script (in_constraint ds s rs r) = wanted_rule r
+
+abbrev pub wanted_query : QueryState → Wanted
+-- a query must begin
+wanted_query query_needed = a_query
+-- after `redundant`
+wanted_query number_needed = the_number
+wanted_query (after_number n) = a_semicolon
+wanted_query (in_property r) = wanted_rule r
+-- after a query
+wanted_query (query_read q) = the_end
+
+-- where the reading stands that goes on over these symbols, if each of them leads on
+abbrev pub standing : {S : Type 0} → (S → Symbol → Option S) → Option S → List Symbol → Option S
+standing step None ts = None
+standing step (Some s) [] = Some s
+standing step (Some s) (t ∷ ts) = standing step (step s t) ts
+
+-- what is wanted after these symbols of a script, and of a query
+abbrev pub script_wants : List Symbol → Option Wanted
+script_wants ts = option_map wanted_script (standing step_script (Some script_start) ts)
+
+abbrev pub query_wants : List Symbol → Option Wanted
+query_wants ts = option_map wanted_query (standing step_query (Some query_needed) ts)
 
 -- A run over a list of symbols
 

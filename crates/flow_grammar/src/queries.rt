@@ -1,8 +1,8 @@
 ghost use Rattle.flow_grammar.specs.Texts.{SpellsQuery};
-ghost use Rattle.flow_grammar.specs.Machine.{read_query, step_query, finish_query, wanted_query, depth_query};
+ghost use Rattle.flow_grammar.specs.Machine.{read_query, step_query, finish_query, wanted_query, depth_query, query_wants};
 ghost use Rattle.flow_grammar.specs.Steps.{GoesByStep};
 ghost use Rattle.flow_grammar.specs.Made.{QueriesAreWellMade};
-ghost use Rattle.flow_grammar.specs.Laws.{ReadsJustThese, SaysOneThing, IsStuckJustThere, IsTooDeepJustThere, WantsWhatCouldCome};
+ghost use Rattle.flow_grammar.specs.Laws.{ReadsJustThese, SaysOneThing, IsStuckJustThere, IsTooDeepJustThere, WantsWhatCouldCome, TellsWhatIsWanted};
 
 /// What the machine finds in the symbols of a query, in the grammar's terms.
 pub fn law_queries_are_read()
@@ -11,6 +11,7 @@ pub fn law_queries_are_read()
     ensures is_stuck { IsStuckJustThere SpellsQuery read_query }
     ensures is_too_deep { IsTooDeepJustThere SpellsQuery read_query }
     ensures wants { WantsWhatCouldCome SpellsQuery read_query }
+    ensures by_the_table { TellsWhatIsWanted query_wants read_query }
     ensures by_step { GoesByStep step_query finish_query wanted_query depth_query }
 {}
 

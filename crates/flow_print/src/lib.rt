@@ -6,8 +6,6 @@ mod laws;
 mod numbers;
 mod rules;
 mod scripts;
-#[cfg(test)]
-mod tests;
 
 pub use flow_form::Script;
 pub use laws::{law_prints_are_lexed, law_what_is_said_can_be_printed};

@@ -10,8 +10,6 @@ mod rule_levels;
 mod rules;
 mod scripts;
 mod symbol;
-#[cfg(test)]
-mod tests;
 mod tokens;
 mod words;
 
