@@ -6,7 +6,7 @@ use std::test::Fail;
 fn stands_deep_goals(rt: HostRuntime) -> Result<(), Fail> {
     let alloc = rt.alloc();
     let mut goal = Goal::Leaf(0);
-    for _ in 0..1023 {
+    for _ in 0..511 {
         let isolated = Goal::Iso(Box::new(alloc, goal)?);
         let serial = Goal::Serial(Box::new(alloc, Goal::Nop)?, Box::new(alloc, isolated)?);
         goal = Goal::Beside(Box::new(alloc, serial)?, Box::new(alloc, Goal::Nop)?);
