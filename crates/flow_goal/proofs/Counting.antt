@@ -1,21 +1,26 @@
 -- The numbers of resolutions.
-use Rattle.std.proofs.Common.{◌≡◌, ◌≤◌, ◌<◌, ℕ, ◌+◌, ◌-◌, ◌*◌, ◌/◌, ◌%◌, min, ◌++◌, sym, ap, ◌∙◌, subst, arith, Some, slice_get, option_map}
-use Rattle.std.proofs.Math.Nat.{div-lt_iff_lt-mul, mul-div_cancel, mod-lt, le-mul_of_pos_right, mul_comm}
-use Rattle.std.proofs.lemmas.Nat.{div-add-mod'}
+use Rattle.std.proofs.Common.{◌≡◌, ◌≤◌, ◌<◌, ℕ, ◌+◌, ◌-◌, ◌*◌, ◌/◌, ◌%◌, List, [], ◌∷◌, ◌++◌, length, refl, sym, ap, ◌∙◌, subst, arith, append_assoc, Option, Some, None, IsSome, true≢false, ◌⊎◌, inl, inr, min, ◌^◌, slice_get, option_map}
+use Rattle.std.specs.Option.{option_to_list}
+use Rattle.std.proofs.lemmas.Bool.{cases_lt}
+use Rattle.std.proofs.lemmas.List.{length-append}
+use Rattle.std.proofs.Math.Arith.{mod-mul}
+use Rattle.std.proofs.Math.Nat.{min-eq_left, min-eq_right, div-div-eq-div-mul, mod-eq_of_lt, mod-lt, le-mul_of_pos_right, mul_comm}
 use Rattle.std.proofs.lemmas.Option.{slice_get-map}
 use Rattle.flow_model.specs.Lists.{each_with_each}
 use Rattle.flow_model.specs.Process.{Process, Empty, Task, Sequence, Parallel, Choice, Isolated}
 use Rattle.flow_model.specs.Resolution.{resolutions, resolution_count}
 use Rattle.flow_laws.proofs.ResolutionsLemmas.{number_of_both, number_of_right}
 use Rattle.flow_laws.proofs.ListLemmas2.{slice_get_append_left}
+use Rattle.flow_goal.specs.declared.sides.Sides.{Sides}
+use Rattle.flow_goal.specs.Sides.{Ends, IsOf, IsOfBoth, IsOfEither, IsTaken, kept_count, sides_in, sides_of_choice}
 
 -- how many goals a goal is made of
 abbrev pub goal_size : Process → ℕ
 goal_size Empty = 1
 goal_size (Task n) = 1
-goal_size (Sequence a b) = goal_size a + goal_size b + 1
-goal_size (Parallel a b) = goal_size a + goal_size b + 1
-goal_size (Choice a b) = goal_size a + goal_size b + 1
+goal_size (Sequence a b) = goal_size a + goal_size b + 2
+goal_size (Parallel a b) = goal_size a + goal_size b + 2
+goal_size (Choice a b) = goal_size a + goal_size b + 2
 goal_size (Isolated a) = goal_size a + 1
 
 some_product : (m n : ℕ) → 0 < m → 0 < n → 0 < m * n
@@ -30,48 +35,113 @@ some_resolution (Parallel a b) = some_product (resolution_count a) (resolution_c
 some_resolution (Choice a b) = omega (arith, some_resolution a)
 some_resolution (Isolated a) = some_resolution a
 
--- where two parts both stay, the number of the whole by those of the parts, of which the second runs faster
-pub record AreNumbers (a b : Process) (number count faster : ℕ) : Type 0 where
-  pub faster_is : faster ≡ resolution_count b
-  pub slower_is : count / faster ≡ resolution_count a
-  pub slower : number / faster < count / faster
-  pub faster_below : number % faster < faster
-  pub together : number ≡ number / faster * resolution_count b + number % faster
+-- so the parts of a goal have no more than it has
+pub fewer_left : (a b : Process) → resolution_count a ≤ resolution_count a * resolution_count b
+fewer_left a b = le-mul_of_pos_right (resolution_count a) (some_resolution b)
 
-pub numbers_of_both : (a b : Process) (number count faster most : ℕ) → number < count → count ≡ resolution_count a * resolution_count b →
-    count < most → faster ≡ min (resolution_count b) most → AreNumbers a b number count faster
-numbers_of_both a b number count faster most lt whole below kept =
-    let some : 0 < resolution_count b = some_resolution b in
-    let within : resolution_count b ≤ resolution_count b * resolution_count a = le-mul_of_pos_right (resolution_count b) (some_resolution a) in
-    let turned : resolution_count b * resolution_count a ≡ resolution_count a * resolution_count b = mul_comm (resolution_count b) (resolution_count a) in
-    let is : faster ≡ resolution_count b = omega arith in
-    let of_a : count / faster ≡ resolution_count a =
-    ap (λ n. n / faster) whole ∙ ap (λ n. resolution_count a * resolution_count b / n) is ∙ mul-div_cancel (resolution_count a) some in
-    let below_whole : number < resolution_count a * resolution_count b = omega arith in
+pub fewer_right : (a b : Process) → resolution_count b ≤ resolution_count a * resolution_count b
+fewer_right a b = subst (λ n. resolution_count b ≤ n) (mul_comm (resolution_count b) (resolution_count a)) (le-mul_of_pos_right (resolution_count b) (some_resolution a))
+
+-- products that are kept at a greatest number
+
+reaches : (m x y : ℕ) → 0 < x → m ≤ y → m ≤ x * y
+reaches m x y some le = let h : y ≤ y * x = le-mul_of_pos_right y some in let e : y * x ≡ x * y = mul_comm y x in omega arith
+
+pub product_kept : (m x y : ℕ) → 0 < m → 0 < x → 0 < y → min (min x m * min y m) m ≡ min (x * y) m
+product_kept m x y some p q = at (cases_lt x m) (cases_lt y m)
+  where
+    least : (z : ℕ) → 0 < z → 0 < min z m
+    least z h = omega arith
+
+    at : (x < m) ⊎ (m ≤ x) → (y < m) ⊎ (m ≤ y) → min (min x m * min y m) m ≡ min (x * y) m
+    at (inl h) (inl k) = let le_x : x ≤ m = omega arith in let le_y : y ≤ m = omega arith in λ i. min (min-eq_left le_x i * min-eq_left le_y i) m
+    at (inr h) k =
+        let whole : m ≤ x * y = let le = le-mul_of_pos_right x q in omega arith in
+        ap (λ t. min (t * min y m) m) (min-eq_right h) ∙ min-eq_right (le-mul_of_pos_right m (least y q)) ∙ sym (min-eq_right whole)
+    at (inl h) (inr k) =
+        let same : m ≤ m = omega arith in
+        ap (λ t. min (min x m * t) m) (min-eq_right k) ∙ min-eq_right (reaches m (min x m) m (least x p) same) ∙ sym (min-eq_right (reaches m x y p k))
+
+-- the resolution of a number
+
+pub of_both : (a b x y : Process) (number : ℕ) → IsOf a (number / resolution_count b) x → IsOf b number y → IsOfBoth a b number x y
+of_both a b x y number e k f =
+    ap (slice_get (each_with_each f (resolutions a) (resolutions b))) (mod-mul number (some_resolution a) (some_resolution b))
+    ∙ number_of_both f a b x y (number / resolution_count b % resolution_count a) (number % resolution_count b) e k
+
+pub rest_of_both : (a b : Process) (number : ℕ) → number / resolution_count b / resolution_count a ≡ number / (resolution_count a * resolution_count b)
+rest_of_both a b number =
+    div-div-eq-div-mul number (resolution_count b) (resolution_count a)
+    ∙ ap (λ n. number / n) (mul_comm (resolution_count b) (resolution_count a))
+
+pub of_left : (a b x : Process) (number within : ℕ) → within ≡ number % (resolution_count a + resolution_count b) → within < resolution_count a →
+    IsOf a within x → IsOfEither a b number x
+of_left a b x number within is lt e =
+    ap (slice_get (resolutions a ++ resolutions b)) (sym is)
+    ∙ slice_get_append_left (resolutions a) (resolutions b) within x (ap (slice_get (resolutions a)) (sym (mod-eq_of_lt lt)) ∙ e)
+
+pub of_right : (a b x : Process) (number within : ℕ) → within ≡ number % (resolution_count a + resolution_count b) → resolution_count a ≤ within →
+    IsOf b (within - resolution_count a) x → IsOfEither a b number x
+of_right a b x number within is le e =
+    let some : 0 < resolution_count a + resolution_count b = omega (arith, some_resolution a) in
+    let below : number % (resolution_count a + resolution_count b) < resolution_count a + resolution_count b = mod-lt number some in
+    let lt : within - resolution_count a < resolution_count b = omega arith in
+    let back : number % (resolution_count a + resolution_count b) ≡ resolution_count a + (within - resolution_count a) = omega arith in
+    ap (slice_get (resolutions a ++ resolutions b)) back
+    ∙ number_of_right a b x (within - resolution_count a) (ap (slice_get (resolutions b)) (sym (mod-eq_of_lt lt)) ∙ e)
+
+pub of_isolated : (a x : Process) (number : ℕ) → IsOf a number x → IsOf (Isolated a) number (Isolated x)
+of_isolated a x number e = slice_get-map Isolated (resolutions a) (number % resolution_count a) ∙ ap (option_map Isolated) e
+
+-- lists of which parts are taken from the end
+
+pub ends_right : {A : Type 0} (list a b : List A) → Ends list (a ++ b) → Ends list b
+ends_right list a b (front, e) = (front ++ a, e ∙ sym (append_assoc front a b))
+
+pub ends_left : {A : Type 0} (list a b mid : List A) → Ends list (a ++ b) → IsTaken list b mid → Ends mid a
+ends_left list a b mid (front, e) taken = (front, taken (front ++ a) (e ∙ sym (append_assoc front a b)))
+
+pub taken_both : {A : Type 0} (list a b mid new : List A) → IsTaken list b mid → IsTaken mid a new → IsTaken list (a ++ b) new
+taken_both list a b mid new h k front e = k front (h (front ++ a) (e ∙ sym (append_assoc front a b)))
+
+last_same : {A : Type 0} (xs ys : List A) (x y : A) → xs ++ x ∷ [] ≡ ys ++ y ∷ [] → (xs ≡ ys) × (x ≡ y)
+last_same [] [] x y e = (refl, cc)
+last_same [] (z ∷ []) x y e = cc
+last_same [] (z ∷ w ∷ ys) x y e = cc
+last_same (z ∷ []) [] x y e = cc
+last_same (z ∷ w ∷ xs) [] x y e = cc
+last_same {A} (z ∷ xs) (w ∷ ys) x y e =
+    let heads : z ≡ w = cc in
+    let tails : xs ++ x ∷ [] ≡ ys ++ y ∷ [] = cc in
+    let r : (xs ≡ ys) × (x ≡ y) = last_same xs ys x y tails in
+    ((λ k. heads k ∷ r.0 k), r.1)
+
+pub popped : {A : Type 0} (list mid : List A) (last : A) (o : Option A) → list ≡ mid ++ option_to_list o → (0 < length list → IsSome o) → IsTaken list (last ∷ []) mid
+popped list mid last (Some x) e some front k = (last_same mid front x last (sym e ∙ k)).0
+popped list mid last None e some front k =
+    absurd (true≢false (sym (some (let h = length-append front (last ∷ []) in let n : length list ≡ length (front ++ last ∷ []) = ap length k in omega arith))))
+
+popped_last : {A : Type 0} (list back mid : List A) (last x : A) → list ≡ mid ++ x ∷ [] → Ends list (back ++ last ∷ []) → x ≡ last
+popped_last list back mid last x e (front, k) = (last_same mid (front ++ back) x last (sym e ∙ k ∙ sym (append_assoc front back (last ∷ [])))).1
+
+-- what a choice takes from the end of the list
+pub record IsChosen (a b : Process) (list mid : List Sides) (s : Sides) : Type 0 where
+  pub left : s.left ≡ resolution_count a
+  pub right : s.right ≡ resolution_count b
+  pub rest : Ends mid (sides_in a ++ sides_in b)
+  pub all : (new : List Sides) → IsTaken mid (sides_in a ++ sides_in b) new → IsTaken list (sides_of_choice a b) new
+
+pub chosen : (a b : Process) (list mid : List Sides) (s : Sides) → resolution_count a + resolution_count b < 2 ^ 64 - 1 →
+    Ends list (sides_of_choice a b) → list ≡ mid ++ s ∷ [] → IsChosen a b list mid s
+chosen a b list mid s below ends e =
+    let last : Sides = record { left = kept_count a; right = kept_count b } in
+    let is : s ≡ last = popped_last list (sides_in a ++ sides_in b) mid last s e ends in
+    let taken : IsTaken list (last ∷ []) mid = popped list mid last (Some s) e (λ _. refl) in
+    let le_a : resolution_count a ≤ 2 ^ 64 - 1 = omega arith in
+    let le_b : resolution_count b ≤ 2 ^ 64 - 1 = omega arith in
     record {
-      faster_is = is;
-      slower_is = of_a;
-      slower = subst (λ n. number / faster < n) (sym of_a) (subst (λ n. number / n < resolution_count a) (sym is) ((div-lt_iff_lt-mul some).1 below_whole));
-      faster_below = subst (λ n. number % n < n) (sym is) (mod-lt number some);
-      together = sym (div-add-mod' number faster) ∙ ap (λ n. number / faster * n + number % faster) is;
+      left = ap (λ (t : Sides). t.left) is ∙ min-eq_left le_a;
+      right = ap (λ (t : Sides). t.right) is ∙ min-eq_left le_b;
+      rest = ends_left list (sides_in a ++ sides_in b) (last ∷ []) mid ends taken;
+      all = λ new h. taken_both list (sides_in a ++ sides_in b) (last ∷ []) mid new taken h;
     }
-
--- and the resolution of that number
-pub at_both : (f : Process → Process → Process) (a b x y : Process) (number count faster : ℕ) → AreNumbers a b number count faster →
-    slice_get (resolutions a) (number / faster) ≡ Some x → slice_get (resolutions b) (number % faster) ≡ Some y →
-    slice_get (each_with_each f (resolutions a) (resolutions b)) number ≡ Some (f x y)
-at_both f a b x y number count faster n e k =
-    ap (slice_get (each_with_each f (resolutions a) (resolutions b))) n.together
-    ∙ number_of_both f a b x y (number / faster) (number % faster) e k
-
-pub at_left : (a b x : Process) (number : ℕ) → slice_get (resolutions a) number ≡ Some x → slice_get (resolutions (Choice a b)) number ≡ Some x
-at_left a b x number e = slice_get_append_left (resolutions a) (resolutions b) number x e
-
-pub at_right : (a b x : Process) (number earlier : ℕ) → earlier ≡ resolution_count a → earlier ≤ number →
-    slice_get (resolutions b) (number - earlier) ≡ Some x → slice_get (resolutions (Choice a b)) number ≡ Some x
-at_right a b x number earlier is le e =
-    let back : number ≡ resolution_count a + (number - earlier) = omega arith in
-    ap (slice_get (resolutions a ++ resolutions b)) back ∙ number_of_right a b x (number - earlier) e
-
-pub at_isolated : (a x : Process) (number : ℕ) → slice_get (resolutions a) number ≡ Some x → slice_get (resolutions (Isolated a)) number ≡ Some (Isolated x)
-at_isolated a x number e = slice_get-map Isolated (resolutions a) number ∙ ap (option_map Isolated) e

@@ -3,6 +3,7 @@ pub mod Labelled
 pub mod Numbering
 pub mod Plain
 pub mod Resolved
+pub mod Sides
 pub mod Simple
 pub mod Partners
 pub mod Repeated

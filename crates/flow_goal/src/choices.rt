@@ -1,16 +1,18 @@
-ghost use Rattle.std.specs.Prelude.{◌≡◌, ◌-◌, ◌^◌, ◌<◌, ◌++◌, min, IfOk, OnOk, slice_get};
+ghost use Rattle.std.specs.Prelude.{◌≡◌, ◌-◌, ◌^◌, ◌<◌, ◌+◌, ◌*◌, ◌++◌, ◌/◌, min, IfOk, OnOk, slice_get};
 ghost use Rattle.flow_model.specs.Resolution;
 ghost use Rattle.flow_model.specs.Process;
 ghost use Rattle.flow_goal.specs.Goal.{process_of};
+ghost use Rattle.flow_goal.specs.Sides.{Ends, IsOf, IsOfBoth, IsOfEither, IsTaken, kept_count, sides_in, sides_of_choice};
 
 use crate::choiceless::Choiceless;
 use crate::goal::Goal;
+use crate::sides::Sides;
 use crate::tree::Tree;
 use std::alloc::{AllocError, Global};
 
 /// How many resolutions a goal has, or the greatest `u64` where they are more.
 fn count_of(goal: &Goal) -> u64
-    ensures { result ≡ min (Resolution.resolution_count (process_of goal.now)) (2 ^ 64 - 1) }
+    ensures { result ≡ kept_count (process_of goal.now) }
 {
     match goal {
         Goal::Nop | Goal::Leaf(_) => 1,
@@ -29,39 +31,131 @@ pub fn resolutions(tree: &Tree) -> u64
     count_of(tree.goal())
 }
 
-/// The resolution of that number, of so many.
-fn resolved(alloc: Global, goal: &Goal, number: u64, count: u64) -> Result<Goal, AllocError>
-    requires numbered { number < count }
-    requires counted { count ≡ Resolution.resolution_count (process_of goal.now) }
-    requires exact { count < 2 ^ 64 - 1 }
-    ensures { IfOk result (λ q. slice_get (Resolution.resolutions (process_of goal.now)) number ≡ Some (process_of q)) }
+/// Puts what each choice of a goal has on its sides behind the list, inner choices before outer ones
+/// and left ones before right ones. The answer is what `count_of` gives.
+fn count_sides(goal: &Goal, list: &mut Vec<Sides>) -> Result<u64, AllocError>
+    ensures count { IfOk result (λ count. count ≡ kept_count (process_of goal.now)) }
+    ensures sides { OnOk result (list.new.items ≡ list.old.items ++ sides_in (process_of goal.now)) }
+{
+    match goal {
+        Goal::Nop | Goal::Leaf(_) => Ok(1),
+        Goal::Serial(left, right) | Goal::Beside(left, right) => {
+            let first = count_sides(left, list)?;
+            let second = count_sides(right, list)?;
+            Ok(first.saturating_mul(second))
+        }
+        Goal::Either(left, right) => {
+            let left = count_sides(left, list)?;
+            let right = count_sides(right, list)?;
+            list.push(Sides { left, right })?;
+            Ok(left.saturating_add(right))
+        }
+        Goal::Iso(part) => count_sides(part, list),
+    }
+}
+
+/// Takes what belongs to the choices of a goal from the end of the list.
+fn skip(goal: &Goal, list: &mut Vec<Sides>)
+    requires { Ends list.old.items (sides_in (process_of goal.now)) }
+    ensures { IsTaken list.old.items (sides_in (process_of goal.now)) list.new.items }
+{
+    match goal {
+        Goal::Nop | Goal::Leaf(_) => {}
+        Goal::Serial(left, right) | Goal::Beside(left, right) => {
+            skip(right, list);
+            skip(left, list);
+        }
+        Goal::Either(left, right) => {
+            let Some(_) = list.pop() else { unreachable!() };
+            skip(right, list);
+            skip(left, list);
+        }
+        Goal::Iso(part) => skip(part, list),
+    }
+}
+
+/// A resolution of two parts that both stay.
+#[cycle(resolving)]
+fn resolved_both(
+    alloc: Global,
+    left: &Goal,
+    right: &Goal,
+    number: &mut u64,
+    list: &mut Vec<Sides>,
+) -> Result<(Box<Goal>, Box<Goal>), AllocError>
+    requires exact { Resolution.resolution_count (process_of left.now) * Resolution.resolution_count (process_of right.now) < 2 ^ 64 - 1 }
+    requires listed { Ends list.old.items (sides_in (process_of left.now) ++ sides_in (process_of right.now)) }
+    ensures resolution { IfOk result (λ parts. IsOfBoth (process_of left.now) (process_of right.now) number.old (process_of parts.0.value) (process_of parts.1.value)) }
+    ensures rest { OnOk result (number.new ≡
+        number.old / (Resolution.resolution_count (process_of left.now) * Resolution.resolution_count (process_of right.now))) }
+    ensures list { OnOk result (IsTaken list.old.items (sides_in (process_of left.now) ++ sides_in (process_of right.now)) list.new.items) }
+{
+    let second = resolved(alloc, right, number, list)?;
+    let second = Box::new(alloc, second)?;
+    let first = resolved(alloc, left, number, list)?;
+    Ok((Box::new(alloc, first)?, second))
+}
+
+/// A resolution of one of two parts.
+#[cycle(resolving)]
+fn resolved_either(
+    alloc: Global,
+    left: &Goal,
+    right: &Goal,
+    number: &mut u64,
+    list: &mut Vec<Sides>,
+) -> Result<Goal, AllocError>
+    requires exact { Resolution.resolution_count (process_of left.now) + Resolution.resolution_count (process_of right.now) < 2 ^ 64 - 1 }
+    requires listed { Ends list.old.items (sides_of_choice (process_of left.now) (process_of right.now)) }
+    ensures resolution { IfOk result (λ q. IsOfEither (process_of left.now) (process_of right.now) number.old (process_of q)) }
+    ensures rest { OnOk result (number.new ≡
+        number.old / (Resolution.resolution_count (process_of left.now) + Resolution.resolution_count (process_of right.now))) }
+    ensures list { OnOk result (IsTaken list.old.items (sides_of_choice (process_of left.now) (process_of right.now)) list.new.items) }
+{
+    let Some(sides) = list.pop() else {
+        unreachable!()
+    };
+    let mut within = sides.digit(number);
+    if within < sides.left {
+        skip(right, list);
+        resolved(alloc, left, &mut within, list)
+    } else {
+        within -= sides.left;
+        let side = resolved(alloc, right, &mut within, list)?;
+        skip(left, list);
+        Ok(side)
+    }
+}
+
+/// One side at each choice: the resolution of that number, of which more than a goal's count is for
+/// the goals before it. Each goal takes its own choices from the end of the list.
+#[cycle(resolving)]
+fn resolved(
+    alloc: Global,
+    goal: &Goal,
+    number: &mut u64,
+    list: &mut Vec<Sides>,
+) -> Result<Goal, AllocError>
+    requires exact { Resolution.resolution_count (process_of goal.now) < 2 ^ 64 - 1 }
+    requires listed { Ends list.old.items (sides_in (process_of goal.now)) }
+    ensures resolution { IfOk result (λ q. IsOf (process_of goal.now) number.old (process_of q)) }
+    ensures rest { OnOk result (number.new ≡ number.old / Resolution.resolution_count (process_of goal.now)) }
+    ensures list { OnOk result (IsTaken list.old.items (sides_in (process_of goal.now)) list.new.items) }
 {
     match goal {
         Goal::Nop => Ok(Goal::Nop),
         Goal::Leaf(n) => Ok(Goal::Leaf(*n)),
         Goal::Serial(left, right) => {
-            let faster = count_of(right);
-            let first = resolved(alloc, left, number / faster, count / faster)?;
-            let second = resolved(alloc, right, number % faster, faster)?;
-            Ok(Goal::Serial(Box::new(alloc, first)?, Box::new(alloc, second)?))
+            let (first, second) = resolved_both(alloc, left, right, number, list)?;
+            Ok(Goal::Serial(first, second))
         }
         Goal::Beside(left, right) => {
-            let faster = count_of(right);
-            let first = resolved(alloc, left, number / faster, count / faster)?;
-            let second = resolved(alloc, right, number % faster, faster)?;
-            Ok(Goal::Beside(Box::new(alloc, first)?, Box::new(alloc, second)?))
+            let (first, second) = resolved_both(alloc, left, right, number, list)?;
+            Ok(Goal::Beside(first, second))
         }
-        Goal::Either(left, right) => {
-            let later = count_of(right);
-            let earlier = count - later;
-            if number < earlier {
-                resolved(alloc, left, number, earlier)
-            } else {
-                resolved(alloc, right, number - earlier, later)
-            }
-        }
+        Goal::Either(left, right) => resolved_either(alloc, left, right, number, list),
         Goal::Iso(part) => {
-            let body = resolved(alloc, part, number, count)?;
+            let body = resolved(alloc, part, number, list)?;
             Ok(Goal::Iso(Box::new(alloc, body)?))
         }
     }
@@ -85,6 +179,19 @@ fn collect_leaves(goal: &Goal, list: &mut Vec<u32>) -> Result<(), AllocError>
     }
 }
 
+/// The goal of the resolution of that number. It costs two walks of the tree's goal.
+fn resolution(alloc: Global, tree: &Tree, number: u64) -> Result<Goal, AllocError>
+    requires numbered { number < Resolution.resolution_count tree.now.process }
+    requires exact { Resolution.resolution_count tree.now.process < 2 ^ 64 - 1 }
+    ensures { IfOk result (λ q. slice_get (Resolution.resolutions tree.now.process) number ≡ Some (process_of q)) }
+{
+    let mut sides = Vec::new(alloc);
+    count_sides(tree.goal(), &mut sides)?;
+    let mut rest = number;
+    let goal = resolved(alloc, tree.goal(), &mut rest, &mut sides)?;
+    Ok(goal)
+}
+
 /// The resolution of that number: one side is taken at each choice, and the right one of two parts that
 /// both stay runs faster.
 pub fn resolve(alloc: Global, tree: &Tree, number: u64) -> Result<Choiceless, AllocError>
@@ -94,7 +201,7 @@ pub fn resolve(alloc: Global, tree: &Tree, number: u64) -> Result<Choiceless, Al
     ensures leaves { IfOk result (λ q. q.leaves ≡ Process.leaves q.process) }
 {
     let mut leaves = Vec::with_capacity(alloc, tree.leaves() as usize)?;
-    let goal = resolved(alloc, tree.goal(), number, resolutions(tree))?;
+    let goal = resolution(alloc, tree, number)?;
     collect_leaves(&goal, &mut leaves)?;
     Ok(Choiceless::new(goal, leaves))
 }

@@ -21,7 +21,7 @@ pub enum Goal {
 
 impl Goal {
     /// The same goal in memory of its own.
-    pub fn copy(&self, alloc: Global) -> Result<Goal, AllocError>
+    pub(crate) fn copy(&self, alloc: Global) -> Result<Goal, AllocError>
         ensures { IfOk result (λ goal. process_of goal ≡ process_of self.now) }
     {
         match self {

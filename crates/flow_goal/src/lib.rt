@@ -7,6 +7,7 @@ mod events;
 mod goal;
 mod partners;
 mod repeats;
+mod sides;
 mod simple;
 mod tree;
 

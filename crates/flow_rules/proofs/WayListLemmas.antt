@@ -31,7 +31,7 @@ each_push f (z ∷ xs) x ys = ap (λ w. map (f z) ys ++ w) (each_push f xs x ys)
 
 -- each of the first ways with each of the others
 
-map_nothing : (ws : List (List (ℕ × ℕ))) → map (λ w. [] ++ w) ws ≡ ws
+pub map_nothing : (ws : List (List (ℕ × ℕ))) → map (λ w. [] ++ w) ws ≡ ws
 map_nothing [] = refl
 map_nothing (w ∷ ws) = ap (λ t. w ∷ t) (map_nothing ws)
 
@@ -48,7 +48,7 @@ map_twice : (u v : List (ℕ × ℕ)) (ws : List (List (ℕ × ℕ))) → map (�
 map_twice u v [] = refl
 map_twice u v (w ∷ ws) = λ k. append_assoc u v w k ∷ map_twice u v ws k
 
-both_front : (u : List (ℕ × ℕ)) (vs ws : List (List (ℕ × ℕ))) → both_ways (map (λ v. u ++ v) vs) ws ≡ map (λ w. u ++ w) (both_ways vs ws)
+pub both_front : (u : List (ℕ × ℕ)) (vs ws : List (List (ℕ × ℕ))) → both_ways (map (λ v. u ++ v) vs) ws ≡ map (λ w. u ++ w) (both_ways vs ws)
 both_front u [] ws = refl
 both_front u (v ∷ vs) ws =
     (λ k. map_twice u v ws k ++ both_front u vs ws k)
@@ -95,7 +95,7 @@ free_is ((pair ∷ pairs) ∷ ws) h = absurd (true≢false (sym h))
 free_is ([] ∷ []) h = refl
 free_is ([] ∷ w ∷ ws) h = absurd (true≢false (sym h))
 
-not_free-append : (vs ws : List (List (ℕ × ℕ))) → is_free vs ≡ false → is_free ws ≡ false → is_free (vs ++ ws) ≡ false
+pub not_free-append : (vs ws : List (List (ℕ × ℕ))) → is_free vs ≡ false → is_free ws ≡ false → is_free (vs ++ ws) ≡ false
 not_free-append [] ws p q = q
 not_free-append ((pair ∷ pairs) ∷ vs) ws p q = refl
 not_free-append ([] ∷ []) ws p q = absurd (true≢false p)
@@ -150,22 +150,6 @@ either_joined {A} f (x ∷ xs) us =
     at false false true = refl
     at false false false = append_assoc us (f x) (joined (map f xs))
 
--- the sets of a vector, one more
-
-pairs_more : (sets : List OrderSet) (i : ℕ) (set : OrderSet) → i < length sets → set ≡ get_or sets i set →
-    pairs_of (take (i + 1) sets) ≡ pairs_of (take i sets) ++ set.pairs.items ∷ []
-pairs_more sets i set h e =
-    ap pairs_of (take_more sets i set h) ∙ map-append (λ (s : OrderSet). s.pairs.items) (take i sets) (get_or sets i set ∷ [])
-    ∙ ap (λ (s : OrderSet). pairs_of (take i sets) ++ s.pairs.items ∷ []) (sym e)
-
-pub both_more : (sets : List OrderSet) (i : ℕ) (set : OrderSet) (ws old new : List (List (ℕ × ℕ))) →
-    i < length sets → set ≡ get_or sets i set → old ≡ both_ways (pairs_of (take i sets)) ws →
-    new ≡ old ++ map (λ w. set.pairs.items ++ w) ws → new ≡ both_ways (pairs_of (take (i + 1) sets)) ws
-both_more sets i set ws old new h e so_far added =
-    added ∙ ap (λ t. t ++ map (λ w. set.pairs.items ++ w) ws) so_far
-    ∙ sym (ap (λ t. both_ways t ws) (pairs_more sets i set h e)
-    ∙ each_push (λ v w. v ++ w) (pairs_of (take i sets)) (set.pairs.items) ws)
-
 pub joined_more : {A : Type 0} (f : A → List (List (ℕ × ℕ))) (xs : List A) (i : ℕ) (x : A) → i < length xs → x ≡ get_or xs i x →
     joined (map f (take (i + 1) xs)) ≡ joined (map f (take i xs)) ++ f x
 joined_more f xs i x h e =
@@ -178,11 +162,3 @@ pub any_free : {A : Type 0} (f : A → List (List (ℕ × ℕ))) (xs : List A) �
     fold (λ vs x. either_way vs (f x)) [] xs ≡ free_way
 any_free f xs h = either_joined f xs [] ∙ ap (λ b. if b then free_way else joined (map f xs)) h
 
-pub none_free : {A : Type 0} (f : A → List (List (ℕ × ℕ))) (xs : List A) → list_any (λ x. is_free (f x)) xs ≡ false →
-    fold (λ vs x. either_way vs (f x)) [] xs ≡ joined (map f xs)
-none_free f xs h = either_joined f xs [] ∙ ap (λ b. if b then free_way else joined (map f xs)) h
-
-pub ok_ways : (r : Result (Vec OrderSet Global) AllocError) (vs ws : List (List (ℕ × ℕ))) → vs ≡ ws →
-    IfOk r (λ all. pairs_of all.items ≡ vs) → IfOk r (λ all. pairs_of all.items ≡ ws)
-ok_ways (Ok all) vs ws e h = h ∙ e
-ok_ways (Err f) vs ws e h = h

@@ -1,5 +1,7 @@
+pub mod Asked
 pub mod Counts
 pub mod EventLeaves
 pub mod Normal
+pub mod NormalForm
 pub mod Rule
 pub mod WayLists

@@ -1,6 +1,7 @@
 //! Rules on the events of an execution, their normal forms, and the ways in which leaves meet them.
 #![tactic(auto)]
 
+mod asked;
 mod counting;
 mod event_leaves;
 mod listing;

@@ -1,6 +1,8 @@
 ghost use Rattle.std.specs.Prelude.{◌≡◌, ◌∷◌, [], ℕ, Option, true, IfOk, map};
 ghost use Rattle.flow_model.specs.Ways as model;
 ghost use Rattle.flow_rules.specs.Rule.{rule_of};
+ghost use Rattle.flow_rules.specs.NormalForm as tree;
+ghost use Rattle.flow_rules.specs.NormalForm.{form_of};
 ghost use Rattle.flow_rules.specs.Normal.{normal_of, normals_of, linked, pair_form, all_form, chain_form, split_form};
 
 use crate::normal::Nnf;
@@ -9,7 +11,8 @@ use std::alloc::{AllocError, Global};
 
 /// One event before another, or the negation where it is not wanted.
 fn pair(first: u32, second: u32, wanted: bool) -> Nnf
-    ensures { normal_of result ≡ pair_form wanted first second }
+    ensures tree { form_of result ≡ tree.order_form wanted first second }
+    ensures normal { normal_of result ≡ pair_form wanted first second }
 {
     if wanted {
         Nnf::Before(first, second)
@@ -20,7 +23,8 @@ fn pair(first: u32, second: u32, wanted: bool) -> Nnf
 
 /// Each event with the next one.
 fn pairs(alloc: Global, first: u32, rest: &[u32], wanted: bool) -> Result<Vec<Nnf>, AllocError>
-    ensures { IfOk result (λ pairs. normals_of pairs.items ≡ linked (pair_form wanted) first rest.now) }
+    ensures tree { IfOk result (λ pairs. map form_of pairs.items ≡ tree.neighbours wanted (first ∷ rest.now)) }
+    ensures normal { IfOk result (λ pairs. normals_of pairs.items ≡ linked (pair_form wanted) first rest.now) }
 {
     let mut pairs = Vec::new(alloc);
     let mut earlier = first;
@@ -33,7 +37,8 @@ fn pairs(alloc: Global, first: u32, rest: &[u32], wanted: bool) -> Result<Vec<Nn
 
 /// An order of one event or of none, or its negation where it is not wanted.
 fn single(event: u32, wanted: bool) -> Nnf
-    ensures { normal_of result ≡ chain_form wanted (event ∷ []) }
+    ensures tree { form_of result ≡ tree.event_form wanted event }
+    ensures normal { normal_of result ≡ chain_form wanted (event ∷ []) }
 {
     if wanted {
         Nnf::Must(event)
@@ -44,7 +49,8 @@ fn single(event: u32, wanted: bool) -> Nnf
 
 /// All of the parts, or one of them where they are parts of a negation.
 fn all(parts: Vec<Nnf>, wanted: bool) -> Nnf
-    ensures { normal_of result ≡ all_form wanted (normals_of parts.items) }
+    ensures tree { form_of result ≡ tree.list_form wanted (map form_of parts.items) }
+    ensures normal { normal_of result ≡ all_form wanted (normals_of parts.items) }
 {
     if wanted {
         Nnf::And(parts)
@@ -55,7 +61,8 @@ fn all(parts: Vec<Nnf>, wanted: bool) -> Nnf
 
 /// An order of events, or its negation where it is not wanted.
 fn chain(alloc: Global, events: &[u32], wanted: bool) -> Result<Nnf, AllocError>
-    ensures { IfOk result (λ normal. normal_of normal ≡ chain_form wanted events.now) }
+    ensures tree { IfOk result (λ normal. form_of normal ≡ tree.chain_form wanted events.now) }
+    ensures normal { IfOk result (λ normal. normal_of normal ≡ chain_form wanted events.now) }
 {
     match events {
         [] => Ok(all(Vec::new(alloc), wanted)),
@@ -67,7 +74,8 @@ fn chain(alloc: Global, events: &[u32], wanted: bool) -> Result<Nnf, AllocError>
 /// Each of the rules, or its negation where it is not wanted.
 #[cycle(normalizing)]
 fn parts(alloc: Global, rules: &[Rule], wanted: bool) -> Result<Vec<Nnf>, AllocError>
-    ensures { IfOk result (λ parts. normals_of parts.items ≡ map (λ rule. split_form (rule_of rule) wanted) rules.now) }
+    ensures tree { IfOk result (λ parts. map form_of parts.items ≡ map (λ rule. tree.normal_form rule wanted) rules.now) }
+    ensures normal { IfOk result (λ parts. normals_of parts.items ≡ map (λ rule. split_form (rule_of rule) wanted) rules.now) }
 {
     let mut parts = Vec::new(alloc);
     for rule in rules {
@@ -79,7 +87,8 @@ fn parts(alloc: Global, rules: &[Rule], wanted: bool) -> Result<Vec<Nnf>, AllocE
 /// The rule, or its negation where it is not wanted.
 #[cycle(normalizing)]
 fn normal(alloc: Global, rule: &Rule, wanted: bool) -> Result<Nnf, AllocError>
-    ensures { IfOk result (λ normal. normal_of normal ≡ split_form (rule_of rule.now) wanted) }
+    ensures tree { IfOk result (λ normal. form_of normal ≡ tree.normal_form rule.now wanted) }
+    ensures normal { IfOk result (λ normal. normal_of normal ≡ split_form (rule_of rule.now) wanted) }
 {
     match rule {
         Rule::Must(event) => Ok(single(*event, wanted)),
@@ -93,7 +102,8 @@ fn normal(alloc: Global, rule: &Rule, wanted: bool) -> Result<Nnf, AllocError>
 
 /// The rule with its orders split into pairs, and negation carried inward.
 pub fn nnf(alloc: Global, rule: &Rule) -> Result<Nnf, AllocError>
-    ensures { IfOk result (λ normal. (leaf : ℕ → Option ℕ) →
+    ensures tree { IfOk result (λ normal. form_of normal ≡ tree.normal_form rule.now true) }
+    ensures ways { IfOk result (λ normal. (leaf : ℕ → Option ℕ) →
         model.ways (normal_of normal) leaf ≡ model.ways (model.normal_form (rule_of rule.now) true) leaf) }
 {
     normal(alloc, rule, true)

@@ -1,4 +1,4 @@
-ghost use Rattle.std.specs.Prelude.{◌≡◌, ◌++◌, IfOk};
+ghost use Rattle.std.specs.Prelude.{◌≡◌, ◌++◌, ◌∷◌, [], IfOk};
 
 use std::alloc::{AllocError, Global};
 
@@ -22,12 +22,19 @@ impl OrderSet {
         &self.pairs
     }
 
-    /// The pairs of both.
-    pub(crate) fn joined(&self, alloc: Global, other: &OrderSet) -> Result<OrderSet, AllocError>
-        ensures { IfOk result (λ set. set.pairs.items ≡ self.now.pairs.items ++ other.now.pairs.items) }
+    /// The same pairs in memory of their own.
+    pub(crate) fn copy(&self, alloc: Global) -> Result<OrderSet, AllocError>
+        ensures { IfOk result (λ set. set.pairs.items ≡ self.now.pairs.items) }
     {
-        let mut pairs = Vec::from_slice(alloc, &self.pairs)?;
-        pairs.extend_from_slice(&other.pairs)?;
+        let pairs = Vec::from_slice(alloc, &self.pairs)?;
         Ok(OrderSet { pairs })
+    }
+
+    /// One pair more.
+    pub(crate) fn with(mut self, first: u32, second: u32) -> Result<OrderSet, AllocError>
+        ensures { IfOk result (λ set. set.pairs.items ≡ self.pairs.items ++ (first, second) ∷ []) }
+    {
+        self.pairs.push((first, second))?;
+        Ok(self)
     }
 }

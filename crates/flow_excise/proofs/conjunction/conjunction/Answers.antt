@@ -8,7 +8,7 @@ use Rattle.flow_excise.proofs.conjunction.conjunction.Goals as goal
 pub loop-rule-preserved : goal.loop-rule-preserved
 loop-rule-preserved c =
     one_more c.loop-rule.parts.items c.push.new.self.items c.in_ok-nnf.field-0 c.args.rules.now c.loop-rule.rule-index c.rule-item.result
-    c.loop-rule-test.true c.rule-item.is c.in_ok-push.ensures.items c.in_ok-nnf.ensures c.loop-rule.invariant
+    c.loop-rule-test.true c.rule-item.is c.in_ok-push.ensures.items c.in_ok-nnf.ensures.ways c.loop-rule.invariant
 
 pub returns : goal.returns
 returns c = all_rules c.loop-rule.parts c.args.rules.now (subst (λ i. HasWaysOf (all_normals (normals_of c.loop-rule.parts.items)) (all_of (rules_of (take i c.args.rules.now)))) (omega arith) c.loop-rule.invariant)
