@@ -8,7 +8,6 @@ pub mod ChainLemmas
 pub mod Declarations
 pub mod Endings
 pub mod RulingLemmas
-pub mod TestLemmas
 pub mod FactLemmas
 pub mod BuildLemmas
 pub mod BuildingSteps

@@ -19,8 +19,6 @@ mod ruling;
 mod settle;
 mod size;
 mod stop;
-#[cfg(test)]
-mod tests;
 
 pub use expanding::expand;
 pub use flow_workflow::Workflow;
