@@ -4,6 +4,7 @@ pub mod PlanLemmas
 pub mod LayLemmas
 pub mod PrepareLemmas
 pub mod SettleLemmas
+pub mod CallLemmas
 pub mod ChainLemmas
 pub mod Declarations
 pub mod Endings

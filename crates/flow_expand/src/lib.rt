@@ -4,6 +4,7 @@
 
 mod assembling;
 mod building;
+mod calls;
 mod chain;
 mod declared;
 mod expanding;

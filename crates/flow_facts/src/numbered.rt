@@ -76,9 +76,8 @@ impl<K: Key> Numbered<K> {
         self.numbers.get(key).copied()
     }
 
-    /// The number of the key, which is put in where it is new.
+    /// The number of the key, which is put in where it is new. There is room for as many keys as have numbers.
     pub fn add(&mut self, alloc: Global, key: &K) -> Result<u32, AllocError>
-        requires { length self.old + 1 < 2 ^ 32 }
         ensures keys { OnOk result (IsAdded self.old key.now self.new) }
         ensures number { IfOk result (λ n. slice_get self.new n ≡ Some key.now) }
         ensures distinct { AreDistinct self.new }
@@ -87,6 +86,9 @@ impl<K: Key> Numbered<K> {
     {
         if let Some(number) = self.number_of(key) {
             return Ok(number);
+        }
+        if self.keys.len() >= u32::MAX as usize {
+            return Err(AllocError);
         }
         let twin = key.twin(alloc)?;
         let number = self.keys.len() as u32;
