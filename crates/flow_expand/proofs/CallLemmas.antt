@@ -1,5 +1,5 @@
 -- Sub-workflows that goals name, and those of them that were seen laid.
-use Rattle.std.proofs.Common.{◌≡◌, ◌≢◌, ℕ, zero, suc, ◌+◌, ◌<◌, ◌≤◌, List, [], ◌∷◌, ◌++◌, ◌⊎◌, length, map, get_or, set, take, slice_get, Option, Some, None, refl, sym, ap, ◌∙◌, subst, inl, inr, ⊎_elim, arith, Vec, Global}
+use Rattle.std.proofs.Common.{◌≡◌, ℕ, zero, suc, ◌+◌, ◌<◌, ◌≤◌, List, [], ◌∷◌, ◌++◌, ◌⊎◌, length, map, get_or, set, take, slice_get, Option, Some, None, refl, sym, ap, ◌∙◌, subst, inl, inr, ⊎_elim, arith, Vec, Global}
 use Rattle.std.proofs.lemmas.Option.{slice_get-get_or, slice_get_within}
 use Rattle.flow_model.specs.Lists.{◌∈◌}
 use Rattle.flow_form.specs.declared.form.Form.{Form}
@@ -22,7 +22,7 @@ use Rattle.flow_expand.specs.Laid.{IsStop}
 use Rattle.flow_expand.specs.Waiting.{NumberStep, Stays, IsLaidAt}
 use Rattle.flow_expand.specs.Calls.{call_of, calls_in, AreCalls, AreSeen}
 use Rattle.flow_expand.proofs.Members.{get_map, mem_left, mem_right, mem_either, mem_at, place_of}
-use Rattle.flow_expand.proofs.SettleLemmas.{flow_at, waits_for, get_set_same, get_set_other, get_set_cases, same_or_not, stays_at}
+use Rattle.flow_expand.proofs.SettleLemmas.{waits_for, get_set_same, get_set_other, get_set_cases, same_or_not, stays_at}
 
 -- what a call is of
 call_is : (o : Option Place) (j : ℕ) → j ∈ call_of o → o ≡ Some (place.Flow j)

@@ -1,8 +1,6 @@
 -- Events and facts that are declared.
-use Rattle.std.proofs.Common.{◌≡◌, ℕ, ◌+◌, ◌<◌, ◌≤◌, cond, List, [], ◌∷◌, ◌++◌, length, map, get_or, take, drop, refl, sym, ap, ◌∙◌, subst, inl, inr, arith}
+use Rattle.std.proofs.Common.{◌≡◌, ℕ, ◌+◌, ◌<◌, ◌≤◌, List, [], ◌∷◌, ◌++◌, length, map, get_or, take, drop, refl, sym, ap, ◌∙◌, subst, inl, inr, arith}
 use Rattle.std.specs.List.{flat_map}
-use Rattle.std.specs.Str.{bytes_eq}
-use Rattle.std.specs.Cmp.Lexicographic.{bytes_decides}
 use Rattle.std.proofs.lemmas.List.{append-nil, take-append-drop, drop_more, map-append, map_more}
 use Rattle.std.proofs.lemmas.List.Concat.{flat_map-append}
 use Rattle.flow_facts.specs.Indexed.{IsAdded}
@@ -13,7 +11,7 @@ use Rattle.flow_form.specs.declared.script.Decl.TheVariants as decl
 use Rattle.flow_form.specs.Script.{Declared, declared, fact, event, flow}
 use Rattle.flow_form.specs.Names.{declared_names, event_name, event_names}
 use Rattle.flow_expand.specs.Numbers.{declared_facts, notes_of}
-use Rattle.flow_expand.proofs.Members.{flat_map_end, mem_right, never_any}
+use Rattle.flow_expand.proofs.Members.{flat_map_end, mem_right}
 use Rattle.flow_expand.proofs.Declarations.{event_declared}
 
 -- what one more declaration adds

@@ -1,5 +1,5 @@
 -- The order of names, constants and facts, by which they are found.
-use Rattle.std.specs.Prelude.{◌≡◌, ℕ, Bool, List, Some}
+use Rattle.std.specs.Prelude.{◌≡◌, ℕ, List, Some}
 use Rattle.std.specs.Cmp.{IsTotalOrder, IsPartialOrder, then_total, on_total, nat_cmp_total, unsigned_ties, both_tied, po}
 use Rattle.std.specs.Cmp.Lexicographic.{slice_cmp, lists_total, lists_ties, nat_list_cmp_total, texts_ties}
 use Rattle.std.specs.declared.cmp.Ordering.{Ordering}

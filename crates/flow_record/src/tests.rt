@@ -3,11 +3,10 @@ ghost use Rattle.flow_facts.specs.Atom.{atom};
 ghost use Rattle.flow_model.specs.declared.labels.Label.TheVariants.{Event, Test, Absent, Ins, Del};
 
 use crate::{print_history, print_journal, print_label, read_session};
-use flow_facts::{Const, Fact, FactTable, Name};
+use flow_facts::{Const, Fact, FactTable, Name, Numbered};
 use flow_goal::{Goal, Tree, twice};
 use flow_model::{Entry, FailEffect, Label, Note, Step};
 use flow_workflow::Workflow;
-use indexmap::IndexSet;
 use std::alloc::{AllocError, Global};
 use std::test::Fail;
 
@@ -84,11 +83,11 @@ fn prints_histories(rt: HostRuntime) -> Result<(), Fail> {
 }
 
 /// The event `a`.
-fn events(alloc: Global) -> Result<IndexSet<Name>, Fail>
-    ensures { IfOk result (λ events. events.keys ≡ codes "a" ∷ []) }
+fn events(alloc: Global) -> Result<Numbered<Name>, Fail>
+    ensures { IfOk result (λ events. events ≡ codes "a" ∷ []) }
 {
-    let mut events = IndexSet::new(alloc);
-    events.insert(Name::new(alloc, b"a")?)?;
+    let mut events = Numbered::new(alloc);
+    events.add(alloc, &Name::new(alloc, b"a")?)?;
     Ok(events)
 }
 

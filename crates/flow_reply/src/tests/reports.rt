@@ -4,19 +4,18 @@ ghost use Rattle.flow_model.specs.declared.labels.Label.TheVariants.{Event, Ins}
 use crate::{Verdict, print_check, print_report};
 use flow_core::{Entry, Step};
 use flow_excise::Counts;
-use flow_facts::{Fact, FactTable, Name};
+use flow_facts::{Fact, FactTable, Name, Numbered};
 use flow_goal::{Goal, Label, Note, Tree, twice};
 use flow_workflow::Workflow;
-use indexmap::IndexSet;
 use std::alloc::Global;
 use std::test::Fail;
 
 /// The event `pick`.
-fn events(alloc: Global) -> Result<IndexSet<Name>, Fail>
-    ensures { IfOk result (λ events. events.keys ≡ codes "pick" ∷ []) }
+fn events(alloc: Global) -> Result<Numbered<Name>, Fail>
+    ensures { IfOk result (λ events. events ≡ codes "pick" ∷ []) }
 {
-    let mut events = IndexSet::new(alloc);
-    events.insert(Name::new(alloc, b"pick")?)?;
+    let mut events = Numbered::new(alloc);
+    events.add(alloc, &Name::new(alloc, b"pick")?)?;
     Ok(events)
 }
 

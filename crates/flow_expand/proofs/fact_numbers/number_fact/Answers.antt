@@ -1,4 +1,3 @@
-use Rattle.std.proofs.Common.{rules}
 use Rattle.flow_expand.proofs.LayLemmas.{ok_to}
 use Rattle.flow_expand.proofs.FactLemmas.{added_with, number_at}
 use Rattle.flow_expand.proofs.fact_numbers.number_fact.Goals as goal

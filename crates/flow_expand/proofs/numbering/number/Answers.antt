@@ -1,4 +1,4 @@
-use Rattle.std.proofs.Common.{◌∙◌, ap, map, arith}
+use Rattle.std.proofs.Common.{◌∙◌, ap, map}
 use Rattle.flow_model.specs.Lists.{numbers_from}
 use Rattle.flow_form.specs.Script.{declared, said}
 use Rattle.flow_form.specs.Names.{event_names}

@@ -1,4 +1,4 @@
-use Rattle.std.proofs.Common.{rules, ◌≡◌, ℕ, Option, subst, sym, ◌∙◌}
+use Rattle.std.proofs.Common.{rules, ◌≡◌, subst}
 use Rattle.std.specs.Prelude.{◌↔◌, IsNone}
 use Rattle.std.specs.BTreeMap.{get}
 use Rattle.flow_model.specs.Lists.{◌∈◌}
