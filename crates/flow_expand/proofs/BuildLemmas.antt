@@ -130,7 +130,7 @@ built_as events e f old new goal same h = subst (λ g. IsBuilt events g old new 
 pub built_nothing : (events : List (List ℕ)) (old new : Leaves) (goal : Process) → new ≡ old → goal ≡ Empty → IsBuilt events nothing old new goal
 built_nothing events old new goal same is = record {
   process = is;
-  facts = ap (λ (l : Leaves). l.facts.keys) same;
+  facts = ap (λ (l : Leaves). l.facts) same;
   labels = ap (λ (l : Leaves). l.labels.items) same ∙ sym (append-nil old.labels.items);
 }
 
@@ -138,19 +138,19 @@ pub built_event : (events : List (List ℕ)) (n : List ℕ) (k : ℕ) (old new :
     new.facts ≡ old.facts → new.labels.items ≡ old.labels.items ++ Event k ∷ [] → goal ≡ Task (length old.labels.items) → IsBuilt events (happens n) old new goal
 built_event events n k old new goal distinct at same grown is = record {
   process = is;
-  facts = ap (λ facts. facts.keys) same;
+  facts = same;
   labels = grown ∙ ap (λ m. old.labels.items ++ Event m ∷ []) (sym (place_in bytes_eq bytes_decides events k n distinct at));
 }
 
 -- a leaf with a fact
 pub built_fact : (events : List (List ℕ)) (e : Expansion) (a : Atom) (label : ℕ → Label) (number : ℕ) (old new : Leaves) (keys : List Atom) (goal : Process) →
     facts_in e ≡ a ∷ [] → ((facts : List Atom) → labels_of events facts e ≡ label (fact_number facts a) ∷ []) → ((next : ℕ) → numbered next e ≡ Task next) →
-    keys ≡ with_fact old.facts.keys a → new.facts.keys ≡ keys → number ≡ fact_number keys a →
+    keys ≡ with_fact old.facts a → new.facts ≡ keys → number ≡ fact_number keys a →
     new.labels.items ≡ old.labels.items ++ label number ∷ [] → goal ≡ Task (length old.labels.items) → IsBuilt events e old new goal
 built_fact events e a label number old new keys goal one labelled leaf put same is grown at = record {
   process = at ∙ sym (leaf (length old.labels.items));
-  facts = same ∙ put ∙ sym (ap (fold with_fact old.facts.keys) one);
-  labels = grown ∙ ap (λ k. old.labels.items ++ label k ∷ []) (is ∙ ap (λ l. fact_number l a) (sym same)) ∙ sym (ap (λ l. old.labels.items ++ l) (labelled new.facts.keys));
+  facts = same ∙ put ∙ sym (ap (fold with_fact old.facts) one);
+  labels = grown ∙ ap (λ k. old.labels.items ++ label k ∷ []) (is ∙ ap (λ l. fact_number l a) (sym same)) ∙ sym (ap (λ l. old.labels.items ++ l) (labelled new.facts));
 }
 
 pub built_alone : (events : List (List ℕ)) (a : Expansion) (old new : Leaves) (part whole : Process) → IsBuilt events a old new part → whole ≡ Isolated part → IsBuilt events (alone a) old new whole
@@ -161,11 +161,11 @@ built_alone events a old new part whole h is = record { process = is ∙ ap Isol
 pub labels_after : (events : List (List ℕ)) (e : Expansion) (old new : Leaves) (goal : Process) → IsBuilt events e old new goal →
     length new.labels.items ≡ length old.labels.items + leaf_count e
 labels_after events e old new goal h =
-    ap length h.labels ∙ length-append old.labels.items (labels_of events new.facts.keys e) ∙ ap (λ n. length old.labels.items + n) (labels_counted events new.facts.keys e)
+    ap length h.labels ∙ length-append old.labels.items (labels_of events new.facts e) ∙ ap (λ n. length old.labels.items + n) (labels_counted events new.facts e)
 
 pub facts_after : (events : List (List ℕ)) (e : Expansion) (old new : Leaves) (goal : Process) → IsBuilt events e old new goal →
-    length new.facts.keys ≤ length old.facts.keys + leaf_count e
-facts_after events e old new goal h = omega (arith, ap length h.facts, (length_fold old.facts.keys (facts_in e)).1, facts_counted e)
+    length new.facts ≤ length old.facts + leaf_count e
+facts_after events e old new goal h = omega (arith, ap length h.facts, (length_fold old.facts (facts_in e)).1, facts_counted e)
 
 pub room_after : (events : List (List ℕ)) (e : Expansion) (count : ℕ) (old new : Leaves) (goal : Process) → IsBuilt events e old new goal →
     HasRoom old (leaf_count e + count) → HasRoom new count
@@ -177,18 +177,18 @@ room_after events e count old new goal h room = record {
 -- two goals together
 
 module _ (events : List (List ℕ)) (a b : Expansion) (old middle new : Leaves) (left right : Process) (first : IsBuilt events a old middle left) (second : IsBuilt events b middle new right) where
-  both_facts : new.facts.keys ≡ fold with_fact old.facts.keys (facts_in a ++ facts_in b)
-  both_facts = second.facts ∙ ap (λ l. fold with_fact l (facts_in b)) first.facts ∙ sym (fold-append with_fact old.facts.keys (facts_in a) (facts_in b))
+  both_facts : new.facts ≡ fold with_fact old.facts (facts_in a ++ facts_in b)
+  both_facts = second.facts ∙ ap (λ l. fold with_fact l (facts_in b)) first.facts ∙ sym (fold-append with_fact old.facts (facts_in a) (facts_in b))
 
-  labels_stay : labels_of events middle.facts.keys a ≡ labels_of events new.facts.keys a
+  labels_stay : labels_of events middle.facts a ≡ labels_of events new.facts a
   labels_stay =
       sym (ap (λ l. labels_of events l a) second.facts
-      ∙ labels_kept events middle.facts.keys (facts_in b) a (λ x m. subst (λ l. x ∈ l) (sym first.facts) (fact_there old.facts.keys (facts_in a) x m)))
+      ∙ labels_kept events middle.facts (facts_in b) a (λ x m. subst (λ l. x ∈ l) (sym first.facts) (fact_there old.facts (facts_in a) x m)))
 
-  both_labels : new.labels.items ≡ old.labels.items ++ (labels_of events new.facts.keys a ++ labels_of events new.facts.keys b)
+  both_labels : new.labels.items ≡ old.labels.items ++ (labels_of events new.facts a ++ labels_of events new.facts b)
   both_labels =
-      second.labels ∙ ap (λ l. l ++ labels_of events new.facts.keys b) (first.labels ∙ ap (λ l. old.labels.items ++ l) labels_stay)
-      ∙ append_assoc old.labels.items (labels_of events new.facts.keys a) (labels_of events new.facts.keys b)
+      second.labels ∙ ap (λ l. l ++ labels_of events new.facts b) (first.labels ∙ ap (λ l. old.labels.items ++ l) labels_stay)
+      ∙ append_assoc old.labels.items (labels_of events new.facts a) (labels_of events new.facts b)
 
   both_numbered : right ≡ numbered (length old.labels.items + leaf_count a) b
   both_numbered = second.process ∙ ap (λ n. numbered n b) (labels_after events a old middle left first)

@@ -123,7 +123,7 @@ del_leaf = record { fact = λ a. refl; labelled = λ events facts a. refl; leaf 
 
 pub built_fact_at : (of : Atom → Expansion) (label : ℕ → Label) (plan : List Node) (i : ℕ) (a : Atom) (number : ℕ) (keys : List Atom) (old new : Leaves) (goal : Process) →
     IsFactLeaf of label → ((events : List (List ℕ)) (e : Expansion) → Stands plan events e i → e ≡ of a) →
-    keys ≡ with_fact old.facts.keys a → number ≡ fact_number keys a → new.facts.keys ≡ keys →
+    keys ≡ with_fact old.facts a → number ≡ fact_number keys a → new.facts ≡ keys →
     goal ≡ Task (length old.labels.items) → new.labels.items ≡ old.labels.items ++ label number ∷ [] → IsBuiltAt plan i old new goal
 built_fact_at of label plan i a number keys old new goal kind only put is same leaf grown = λ events e d s.
     built_as events e (of a) old new goal (only events e s)

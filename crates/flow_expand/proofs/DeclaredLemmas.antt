@@ -1,11 +1,9 @@
 -- Events and facts that are declared.
-use Rattle.std.proofs.Common.{◌≡◌, ℕ, ◌+◌, ◌<◌, ◌≤◌, cond, List, [], ◌∷◌, ◌++◌, length, map, get_or, take, drop, refl, sym, ap, ◌∙◌, subst, inl, inr, arith}
+use Rattle.std.proofs.Common.{◌≡◌, ℕ, ◌+◌, ◌<◌, ◌≤◌, List, [], ◌∷◌, ◌++◌, length, map, get_or, take, drop, refl, sym, ap, ◌∙◌, subst, inl, inr, arith}
 use Rattle.std.specs.List.{flat_map}
-use Rattle.std.specs.Str.{bytes_eq}
-use Rattle.std.specs.Cmp.Lexicographic.{bytes_decides}
 use Rattle.std.proofs.lemmas.List.{append-nil, take-append-drop, drop_more, map-append, map_more}
 use Rattle.std.proofs.lemmas.List.Concat.{flat_map-append}
-use Rattle.indexmap.specs.IndexSet.{insert_key}
+use Rattle.flow_facts.specs.Indexed.{IsAdded}
 use Rattle.flow_model.specs.declared.labels.Note.{Note}
 use Rattle.flow_model.specs.Lists.{◌∈◌, AreDistinct}
 use Rattle.flow_form.specs.declared.script.Decl.{Decl}
@@ -13,7 +11,7 @@ use Rattle.flow_form.specs.declared.script.Decl.TheVariants as decl
 use Rattle.flow_form.specs.Script.{Declared, declared, fact, event, flow}
 use Rattle.flow_form.specs.Names.{declared_names, event_name, event_names}
 use Rattle.flow_expand.specs.Numbers.{declared_facts, notes_of}
-use Rattle.flow_expand.proofs.Members.{flat_map_end, mem_right, never_any}
+use Rattle.flow_expand.proofs.Members.{flat_map_end, mem_right}
 use Rattle.flow_expand.proofs.Declarations.{event_declared}
 
 -- what one more declaration adds
@@ -68,10 +66,10 @@ names_split decls i item n note lt is same =
     ∙ ap (λ d. event_names (map declared (take i decls)) ++ (event_name d ++ event_names (map declared (drop (i + 1) decls)))) (ap declared (sym is) ∙ same)
 
 pub event_put : (decls : List Decl) (i : ℕ) (item : Decl) (n : List ℕ) (note : Note) (old new : List (List ℕ)) → AreDistinct (event_names (map declared decls)) →
-    i < length decls → item ≡ get_or decls i item → declared item ≡ event n note → old ≡ event_names (map declared (take i decls)) → new ≡ insert_key bytes_eq old n →
+    i < length decls → item ≡ get_or decls i item → declared item ≡ event n note → old ≡ event_names (map declared (take i decls)) → IsAdded old n new →
     new ≡ event_names (map declared (take (i + 1) decls))
 event_put decls i item n note old new distinct lt is same before put =
-    put ∙ ap (λ t. cond t old (old ++ n ∷ [])) (never_any bytes_eq bytes_decides n old out) ∙ ap (λ l. l ++ n ∷ []) before ∙ sym (part_more event_name decls i item (event n note) lt is same)
+    put.missing out ∙ ap (λ l. l ++ n ∷ []) before ∙ sym (part_more event_name decls i item (event n note) lt is same)
   where
     out : ¬ (n ∈ old)
     out m = not_before (event_names (map declared (take i decls))) n (event_names (map declared (drop (i + 1) decls)))

@@ -1,11 +1,13 @@
 -- Facts by their numbers, as more facts are put in.
-use Rattle.std.proofs.Common.{◌≡◌, ◌+◌, ◌≤◌, Bool, true, false, cond, List, [], ◌∷◌, ◌++◌, ◌⊎◌, fold, length, refl, sym, ap, ◌∙◌, subst, inl, inr, ⊎_elim, arith}
+use Rattle.std.proofs.Common.{◌≡◌, ℕ, Some, slice_get, ◌+◌, ◌≤◌, Bool, true, false, cond, List, [], ◌∷◌, ◌++◌, ◌⊎◌, fold, length, refl, sym, ap, ◌∙◌, subst, inl, inr, ⊎_elim, arith}
 use Rattle.std.specs.Prelude.{not}
 use Rattle.std.specs.List.{list_any, position_or_len}
 use Rattle.std.proofs.lemmas.List.{length_push}
 use Rattle.flow_model.specs.Lists.{◌∈◌, AreDistinct}
 use Rattle.flow_facts.specs.Atom.{Atom, atom_eq}
 use Rattle.flow_facts.specs.Same.{atom_eq-Decides}
+use Rattle.flow_facts.specs.Indexed.{IsAdded}
+use Rattle.flow_workflow.proofs.FirstPlaces.{place_in}
 use Rattle.flow_expand.specs.Numbers.{with_fact, fact_number, firsts}
 use Rattle.flow_expand.proofs.Members.{mem_left, mem_right, mem_either, any_member, member_any}
 
@@ -16,6 +18,12 @@ with_cases facts a = go (list_any (atom_eq a) facts) refl
     go : (t : Bool) → list_any (atom_eq a) facts ≡ t → ((a ∈ facts) × (with_fact facts a ≡ facts)) ⊎ (¬ (a ∈ facts) × (with_fact facts a ≡ facts ++ a ∷ []))
     go true e = inl (any_member atom_eq atom_eq-Decides a facts e, ap (λ t. cond t facts (facts ++ a ∷ [])) e)
     go false e = inr ((λ m. let f : true ≡ false = sym (member_any atom_eq atom_eq-Decides a facts m) ∙ e in absurd (cc)), ap (λ t. cond t facts (facts ++ a ∷ [])) e)
+
+pub added_with : (facts : List Atom) (a : Atom) (new : List Atom) → IsAdded facts a new → new ≡ with_fact facts a
+added_with facts a new h = ⊎_elim (λ p. h.there p.0 ∙ sym p.1) (λ p. h.missing p.0 ∙ sym p.1) (with_cases facts a)
+
+pub number_at : (facts : List Atom) (a : Atom) (n : ℕ) → AreDistinct facts → slice_get facts n ≡ Some a → n ≡ fact_number facts a
+number_at facts a n distinct at = sym (place_in atom_eq atom_eq-Decides facts n a distinct at)
 
 -- members
 

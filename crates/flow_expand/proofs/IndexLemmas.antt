@@ -2,13 +2,17 @@
 use Rattle.std.proofs.Common.{◌≡◌, ℕ, ◌+◌, List, [], ◌∷◌, ◌++◌, ◌⊎◌, Bool, true, false, cond, length, map, slice_get, Option, Some, refl, sym, ap, ◌∙◌, subst, inl, inr}
 use Rattle.std.specs.Prelude.{IsSome}
 use Rattle.std.proofs.lemmas.List.{append-nil, length_push, length-map}
+use Rattle.std.specs.List.{flat_map}
 use Rattle.std.specs.Map.{update}
 use Rattle.std.specs.Str.{bytes_eq}
-use Rattle.std.specs.Cmp.Lexicographic.{bytes_decides}
+use Rattle.std.specs.Cmp.Lexicographic.{bytes_decides, slice_cmp, texts_ties}
+use Rattle.std.specs.Ordering.{nat_cmp}
+use Rattle.std.specs.BTreeMap.{BTreeMap, get, Updates}
 use Rattle.flow_model.specs.Lists.{◌∈◌}
 use Rattle.flow_model.specs.declared.labels.Note.{Note}
+use Rattle.flow_facts.specs.Atom.{Atom}
 use Rattle.flow_form.specs.Form.{Shape}
-use Rattle.flow_form.specs.Script.{Declared, event, flow}
+use Rattle.flow_form.specs.Script.{Declared, fact, event, flow}
 use Rattle.flow_form.specs.Names.{declared_name, declared_names, event_name, event_names}
 use Rattle.flow_expand.specs.declared.names.Names.{Names}
 use Rattle.flow_expand.specs.declared.names.Place.{Place}
@@ -29,6 +33,11 @@ update_cases f n o q = go (bytes_eq n q) refl
 
 update_same : (f : Index) (n : List ℕ) (o : Option Place) → update bytes_eq f n o n ≡ o
 update_same f n o = ap (λ b. cond b o (f n)) ((bytes_decides n n).1 refl)
+
+-- what the map finds once more is put in
+pub put_in : (old new : BTreeMap (List ℕ) Place) (n : List ℕ) (p : Place) → Updates (slice_cmp nat_cmp) old new n (Some p) →
+    (q : List ℕ) → get (slice_cmp nat_cmp) new q ≡ update bytes_eq (get (slice_cmp nat_cmp) old) n (Some p) q
+put_in old new n p updates q = updates.0 q ∙ ap (λ b. cond b (Some p) (get (slice_cmp nat_cmp) old q)) (sym (texts_ties n q))
 
 -- the name is new or was there, and either way it stands for something
 has_more : (old new : Index) (decls : List Declared) (d : Declared) (n : List ℕ) (p : Place) → ((q : List ℕ) → new q ≡ update bytes_eq old n (Some p) q)
@@ -133,3 +142,16 @@ index_flow decls n s old new updates one grown h = record {
         go (inr kept) =
             let t = h.flow m k (sym kept ∙ sym (updates m) ∙ e) in
             (t.0, ap (λ l. slice_get l k) flows ∙ get_left (flows_of decls) ((n, s) ∷ []) k (m, t.0) t.1)
+
+-- a fact has no name
+pub index_fact : (decls : List Declared) (a : Atom) (names : Names) → IsIndexOf decls names → IsIndexOf (decls ++ fact a ∷ []) names
+index_fact decls a names h = record {
+  counted = h.counted ∙ sym (ap length (none event_name refl));
+  flows = h.flows ∙ sym (none flow_of refl);
+  event = λ m k e. ap (λ l. slice_get l k) (none event_name refl) ∙ h.event m k e;
+  flow = λ m k e. let s = h.flow m k e in (s.0, ap (λ l. slice_get l k) (none flow_of refl) ∙ s.1);
+  has_all = λ m here. h.has_all m (subst (λ l. m ∈ l) (none declared_name refl) here);
+}
+  where
+    none : {A : Type 0} (part : Declared → List A) → part (fact a) ≡ [] → flat_map part (decls ++ fact a ∷ []) ≡ flat_map part decls
+    none part e = flat_map_end part decls (fact a) ∙ ap (λ l. flat_map part decls ++ l) e ∙ append-nil (flat_map part decls)

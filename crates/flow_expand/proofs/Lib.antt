@@ -4,11 +4,11 @@ pub mod PlanLemmas
 pub mod LayLemmas
 pub mod PrepareLemmas
 pub mod SettleLemmas
+pub mod CallLemmas
 pub mod ChainLemmas
 pub mod Declarations
 pub mod Endings
 pub mod RulingLemmas
-pub mod TestLemmas
 pub mod FactLemmas
 pub mod BuildLemmas
 pub mod BuildingSteps

@@ -99,7 +99,7 @@ module _ (plan : List Node) (events : List (List ℕ)) (facts : List Atom) where
 
 -- the facts that are declared are numbered, and there are no leaves
 pub record IsStart (s : Said) (leaves : Leaves) : Type 0 where
-  pub facts : leaves.facts.keys ≡ firsts (declared_facts s.decls)
+  pub facts : leaves.facts ≡ firsts (declared_facts s.decls)
   pub labels : leaves.labels.items ≡ []
 
 declared_firsts_few : (s : Said) → IsClosed s → length (firsts (declared_facts s.decls)) < 2 ^ 31
@@ -143,22 +143,22 @@ module _ (s : Said) (e : Expansion) (old new : Leaves) (goal : Process) (closed 
   pub labels_few : length new.labels.items < 2 ^ 32
   labels_few = omega (arith, labels_counted, leaves_few s e measured)
 
-  facts_are : new.facts.keys ≡ facts_of s.decls e
+  facts_are : new.facts ≡ facts_of s.decls e
   facts_are = built.facts ∙ ap (λ l. fold with_fact l (facts_in e)) start.facts ∙ sym (fold-append with_fact [] (declared_facts s.decls) (facts_in e))
 
-  pub facts_distinct : AreDistinct new.facts.keys
+  pub facts_distinct : AreDistinct new.facts
   facts_distinct = subst AreDistinct (sym facts_are) (distinct_firsts (declared_facts s.decls ++ facts_in e))
 
-  pub facts_within : length new.facts.keys < 2 ^ 32
+  pub facts_within : length new.facts < 2 ^ 32
   facts_within = omega (arith, facts_after (event_names s.decls) e old new goal built, (start_room s e old closed measured start).facts)
 
   labels_are : new.labels.items ≡ labels_of (event_names s.decls) (facts_of s.decls e) e
   labels_are =
-      built.labels ∙ ap (λ l. l ++ labels_of (event_names s.decls) new.facts.keys e) start.labels
+      built.labels ∙ ap (λ l. l ++ labels_of (event_names s.decls) new.facts e) start.labels
       ∙ ap (λ l. labels_of (event_names s.decls) l e) facts_are
 
-  pub numbered_goal : (plan : List Node) (place : ℕ) (n : Numbered) → Stands plan (event_names s.decls) e place → n.facts ≡ new.facts.keys →
-      n.held.items ≡ numbers_from 0 (length old.facts.keys) → n.tree.process ≡ goal → n.tree.labels ≡ new.labels.items → IsNumberedGoal s n
+  pub numbered_goal : (plan : List Node) (place : ℕ) (n : Numbered) → Stands plan (event_names s.decls) e place → n.facts ≡ new.facts →
+      n.held.items ≡ numbers_from 0 (length old.facts) → n.tree.process ≡ goal → n.tree.labels ≡ new.labels.items → IsNumberedGoal s n
   numbered_goal plan place n stands table held process labels = record {
     expansion = e;
     measured = measured;

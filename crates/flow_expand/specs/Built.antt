@@ -13,7 +13,7 @@ use Rattle.flow_expand.specs.Plan.{Stands}
 -- for so many more leaves and facts there are numbers of 32 bits
 pub record HasRoom (leaves : Leaves) (count : ℕ) : Type 0 where
   pub labels : length leaves.labels.items + count < 2 ^ 32
-  pub facts : length leaves.facts.keys + count < 2 ^ 32
+  pub facts : length leaves.facts + count < 2 ^ 32
 
 -- the part at that place is a goal, and there is room for its leaves
 pub record IsBuildable (plan : List Node) (place : ℕ) (leaves : Leaves) : Type 0 where
@@ -36,8 +36,8 @@ pub record AreBuildable (plan : List Node) (left right : ℕ) (leaves : Leaves) 
 -- the goal's leaves were added, with the facts at them that were new
 pub record IsBuilt (events : List (List ℕ)) (e : Expansion) (old new : Leaves) (goal : Process) : Type 0 where
   pub process : goal ≡ numbered (length old.labels.items) e
-  pub facts : new.facts.keys ≡ fold with_fact old.facts.keys (facts_in e)
-  pub labels : new.labels.items ≡ old.labels.items ++ labels_of events new.facts.keys e
+  pub facts : new.facts ≡ fold with_fact old.facts (facts_in e)
+  pub labels : new.labels.items ≡ old.labels.items ++ labels_of events new.facts e
 
 -- the two, put together so
 abbrev pub joined_process : Join → Process → Process → Process

@@ -1,7 +1,8 @@
 -- What the names of declarations stand for.
 use Rattle.std.specs.Prelude.{◌≡◌, ℕ, List, length, map, Option, Some, slice_get, IsSome}
-use Rattle.std.specs.Str.{bytes_eq}
-use Rattle.indexmap.specs.IndexMap.{get_by}
+use Rattle.std.specs.BTreeMap.{get}
+use Rattle.std.specs.Ordering.{nat_cmp}
+use Rattle.std.specs.Cmp.Lexicographic.{slice_cmp}
 use Rattle.flow_model.specs.Lists.{◌∈◌}
 use Rattle.flow_form.specs.Form.{Shape, shape_of}
 use Rattle.flow_form.specs.Script.{Declared, declared}
@@ -14,7 +15,7 @@ use Rattle.flow_expand.specs.Steps.{flows_of}
 
 -- what a name stands for in the map of the code
 abbrev pub index_of : Names → List ℕ → Option Place
-index_of names q = get_by (λ key. bytes_eq q key.now) names.places
+index_of names q = get (slice_cmp nat_cmp) names.places q
 
 abbrev pub flow_view : Flow → List ℕ × Shape
 flow_view f = (f.name.now, shape_of f.goal.now)

@@ -6,6 +6,7 @@ pub mod Index
 pub mod Plan
 pub mod Laid
 pub mod Waiting
+pub mod Calls
 pub mod Refusals
 pub mod Workflows
 pub mod Prepared

@@ -9,16 +9,15 @@ ghost use Rattle.flow_expand.specs.Built.{IsBuildable, AreBuildable, IsBuilt, jo
 
 use crate::fact_numbers::number_fact;
 use crate::plan::{Join, Node, Plan};
-use flow_facts::Fact;
+use flow_facts::{Fact, Numbered};
 use flow_goal::Goal;
 use flow_model::Label;
-use indexmap::IndexSet;
 use std::alloc::{AllocError, Global};
 
 /// The leaves of a goal so far, and the facts that are numbered.
 #[derive(Drop)]
 pub(crate) struct Leaves {
-    pub(crate) facts: IndexSet<Fact>,
+    pub(crate) facts: Numbered<Fact>,
     pub(crate) labels: Vec<Label>,
 }
 

@@ -4,6 +4,7 @@
 
 mod assembling;
 mod building;
+mod calls;
 mod chain;
 mod declared;
 mod expanding;
@@ -19,8 +20,6 @@ mod ruling;
 mod settle;
 mod size;
 mod stop;
-#[cfg(test)]
-mod tests;
 
 pub use expanding::expand;
 pub use flow_workflow::Workflow;

@@ -5,8 +5,8 @@ ghost use Rattle.flow_expand.specs.Index.{IsIndexOf, IsIndex, index_of};
 
 use flow_facts::Name;
 use flow_form::{Decl, Form};
-use indexmap::IndexMap;
 use std::alloc::{AllocError, Global};
+use std::collections::BTreeMap;
 
 /// What a name stands for.
 #[derive(Clone, Copy, Debug, PartialEq, Eq)]
@@ -28,7 +28,7 @@ pub(crate) struct Flow<'a> {
 #[derive(Drop)]
 pub(crate) struct Names<'a> {
     pub(crate) decls: &'a [Decl],
-    pub(crate) places: IndexMap<&'a [u8], Place>,
+    pub(crate) places: BTreeMap<Name, Place>,
     pub(crate) events: u32,
     pub(crate) flows: Vec<Flow<'a>>,
 }
@@ -42,18 +42,18 @@ impl<'a> Names<'a> {
     {
         let mut names = Names {
             decls,
-            places: IndexMap::new(alloc),
+            places: BTreeMap::new(alloc),
             events: 0,
             flows: Vec::new(alloc),
         };
         for decl in decls {
-            names.add(decl)?;
+            names.add(alloc, decl)?;
         }
         Ok(names)
     }
 
     /// Takes in the name of one more.
-    fn add(&mut self, decl: &'a Decl) -> Result<(), AllocError>
+    fn add(&mut self, alloc: Global, decl: &'a Decl) -> Result<(), AllocError>
         requires { self.old.events < 2 ^ 31 }
         ensures events { OnOk result (self.new.events ≡ self.old.events + length (event_name (declared decl.now))) }
         ensures decls { OnOk result (self.new.decls.now ≡ self.old.decls.now) }
@@ -62,12 +62,13 @@ impl<'a> Names<'a> {
         match decl {
             Decl::Fact(_) => {}
             Decl::Event(name, _) => {
-                self.places.insert(name.bytes(), Place::Event(self.events))?;
+                self.places
+                    .insert(name.copy(alloc)?, Place::Event(self.events))?;
                 self.events += 1;
             }
             Decl::Flow(name, goal) => {
                 self.places
-                    .insert(name.bytes(), Place::Flow(self.flows.len()))?;
+                    .insert(name.copy(alloc)?, Place::Flow(self.flows.len()))?;
                 self.flows.push(Flow { name, goal })?;
             }
         }
@@ -78,6 +79,6 @@ impl<'a> Names<'a> {
     pub(crate) fn place(&self, name: &Name) -> Option<Place>
         ensures { result ≡ index_of self.now name.now }
     {
-        self.places.get(name.bytes()).copied()
+        self.places.get(name).copied()
     }
 }

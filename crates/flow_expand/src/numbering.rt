@@ -1,5 +1,5 @@
 ghost use Rattle.std.specs.Prelude.{◌≡◌, ◌<◌, ◌^◌, IfOk, length};
-ghost use Rattle.flow_model.specs.Lists.{AreDistinct, numbers_from};
+ghost use Rattle.flow_model.specs.Lists.{numbers_from};
 ghost use Rattle.flow_model.specs.Process.{IsNumbered};
 ghost use Rattle.flow_goal.specs.Goal.{process_of};
 ghost use Rattle.flow_form.specs.Script.{said};
@@ -10,11 +10,10 @@ ghost use Rattle.flow_expand.specs.Numbering.{IsNumberedGoal};
 use crate::building::{Leaves, build};
 use crate::fact_numbers::declared_fact_set;
 use crate::preparing::Standing;
-use flow_facts::{Fact, FactTable};
+use flow_facts::FactTable;
 use flow_form::Script;
 use flow_goal::{Goal, Tree};
 use flow_model::Label;
-use indexmap::IndexSet;
 use std::alloc::{AllocError, Global};
 
 /// A goal with labels at its leaves, and the facts by their numbers.
@@ -35,15 +34,6 @@ fn numbers_below(alloc: Global, count: u32) -> Result<Vec<u32>, AllocError>
         numbers.push(number)?;
     }
     Ok(numbers)
-}
-
-/// The facts in the order of the set.
-fn table_of(alloc: Global, facts: IndexSet<Fact>) -> Result<FactTable, AllocError>
-    requires distinct { AreDistinct facts.keys }
-    requires few { length facts.keys < 2 ^ 32 }
-    ensures { IfOk result (λ table. table ≡ facts.keys) }
-{
-    Ok(FactTable::new(facts.into_iter().collect(alloc)?))
 }
 
 /// Labels at the leaves of a goal that is numbered so.
@@ -70,12 +60,12 @@ pub(crate) fn number(
     ensures { IfOk result (IsNumberedGoal (said script.now)) }
 {
     let facts = declared_fact_set(alloc, &script.decls)?;
-    let held = numbers_below(alloc, facts.len() as u32)?;
+    let held = numbers_below(alloc, facts.count())?;
     let labels = Vec::new(alloc);
     let mut leaves = Leaves { facts, labels };
     let goal = build(alloc, &prepared.plan, prepared.root.place, &mut leaves)?;
     let Leaves { facts, labels } = leaves;
     let tree = tree_of(goal, labels);
-    let facts = table_of(alloc, facts)?;
+    let facts = FactTable::new(facts.into_keys());
     Ok(Numbered { facts, held, tree })
 }

@@ -1,5 +1,5 @@
 -- Members by their places.
-use Rattle.std.proofs.Common.{◌≡◌, ◌≢◌, ℕ, zero, suc, ◌+◌, ◌<◌, List, [], ◌∷◌, ◌++◌, length, get_or, slice_get, take, Some, refl, sym, ap, ◌∙◌, subst, inl, inr, arith}
+use Rattle.std.proofs.Common.{◌≡◌, ◌≢◌, ℕ, zero, suc, ◌+◌, ◌<◌, List, [], ◌∷◌, ◌++◌, length, get_or, slice_get, take, Some, refl, sym, ap, ◌∙◌, subst, inl, inr, ◌⊎◌, arith}
 use Rattle.std.proofs.lemmas.List.{take_more}
 use Rattle.flow_model.specs.Lists.{◌∈◌, AreDistinct}
 
@@ -29,10 +29,33 @@ pub found_at : {A : Type 0} (list same : List A) (i : ℕ) (x y : A) → list �
 found_at list same i x y e lt at f =
     ap (λ l. slice_get l i) (sym e) ∙ slice_get_at list i x lt ∙ ap (λ z. Some z) (sym at ∙ f)
 
--- two members that differ
-pub two_distinct : {A : Type 0} (x y : A) (list : List A) → x ≢ y → list ≡ x ∷ y ∷ [] → AreDistinct list
-two_distinct {A} x y list other e = subst AreDistinct (sym e) (apart, ((λ m. absurd m), tt))
+-- a member has a place
+pub place_of : {A : Type 0} (list : List A) (x : A) → x ∈ list → (i : ℕ) × (slice_get list i ≡ Some x)
+place_of [] x m = absurd m
+place_of (y ∷ list) x (inl e) = (zero, ap Some (sym e))
+place_of (y ∷ list) x (inr m) = let (i, at) = place_of list x m in (suc i, at)
+
+pub at_front : {A : Type 0} (list more : List A) (i : ℕ) (x : A) → slice_get list i ≡ Some x → slice_get (list ++ more) i ≡ Some x
+at_front [] more i x e = cc
+at_front (y ∷ list) more zero x e = e
+at_front (y ∷ list) more (suc i) x e = at_front list more i x e
+
+pub at_end : {A : Type 0} (list : List A) (x : A) → slice_get (list ++ x ∷ []) (length list) ≡ Some x
+at_end [] x = refl
+at_end (y ∷ list) x = at_end list x
+
+-- with one more at the end, what stands at a place stood there, or is that one
+pub at_more : {A : Type 0} (list : List A) (y : A) (i : ℕ) (x : A) → slice_get (list ++ y ∷ []) i ≡ Some x → (slice_get list i ≡ Some x) ⊎ ((i ≡ length list) × (y ≡ x))
+at_more [] y zero x e = inr (refl, (let f : Some y ≡ Some x = e in cc))
+at_more [] y (suc i) x e = cc
+at_more (z ∷ list) y zero x e = inl e
+at_more (z ∷ list) y (suc i) x e = go (at_more list y i x e)
   where
-    apart : ¬ (x ∈ (y ∷ []))
-    apart (inl f) = other f
-    apart (inr m) = absurd m
+    go : (slice_get list i ≡ Some x) ⊎ ((i ≡ length list) × (y ≡ x)) → (slice_get list i ≡ Some x) ⊎ ((suc i ≡ length (z ∷ list)) × (y ≡ x))
+    go (inl f) = inl f
+    go (inr (f, same)) = inr (ap suc f, same)
+
+pub distinct_more : {A : Type 0} (list : List A) (x : A) → AreDistinct list → ¬ (x ∈ list) → AreDistinct (list ++ x ∷ [])
+distinct_more [] x d other = ((λ m. absurd m), tt)
+distinct_more (y ∷ list) x d other =
+    (not_in_more y x list d.0 (λ e. other (inl (sym e))), distinct_more list x d.1 (λ m. other (inr m)))

@@ -2,6 +2,7 @@ ghost use Rattle.std.specs.Prelude.{◌≡◌, IfOk};
 
 use crate::name::Name;
 use std::alloc::{AllocError, Global};
+use std::cmp::Ordering;
 use std::hash::{Hash, Hasher};
 
 /// An argument of a fact.
@@ -44,6 +45,41 @@ impl Eq for Const {
     ghost use Rattle.flow_facts.specs.Same.{const_equiv};
 
     ghost laws = { const_equiv };
+}
+
+impl PartialOrd for Const {
+    ghost use Rattle.std.specs.Prelude.{Some};
+    ghost use Rattle.flow_facts.specs.Ordered.{const_cmp, const_order};
+
+    ghost partial_cmp = { λ x y. Some (const_cmp x y) };
+
+    ghost laws = { const_order };
+
+    fn partial_cmp(&self, other: &Const) -> Option<Ordering> {
+        Some(self.cmp(other))
+    }
+}
+
+impl Ord for Const {
+    ghost use Rattle.std.specs.Prelude.{refl};
+    ghost use Rattle.flow_facts.specs.Ordered.{const_cmp, const_total, const_ties};
+
+    ghost cmp = { const_cmp };
+
+    ghost total = { const_total };
+
+    ghost matches_partial_cmp = { λ x y. refl };
+
+    ghost matches_eq = { const_ties };
+
+    fn cmp(&self, other: &Const) -> Ordering {
+        match (self, other) {
+            (Const::Word(one), Const::Word(two)) => one.cmp(two),
+            (Const::Word(_), Const::Number(_)) => Ordering::Less,
+            (Const::Number(_), Const::Word(_)) => Ordering::Greater,
+            (Const::Number(one), Const::Number(two)) => one.cmp(two),
+        }
+    }
 }
 
 impl Hash for Const {

@@ -3,6 +3,7 @@ ghost use Rattle.std.specs.Prelude.{◌≡◌, IfOk};
 use crate::constant::Const;
 use crate::name::Name;
 use std::alloc::{AllocError, Global};
+use std::cmp::Ordering;
 use std::hash::{Hash, Hasher};
 use std::marker::Model;
 
@@ -73,6 +74,39 @@ impl Eq for Fact {
     ghost use Rattle.flow_facts.specs.Same.{atom_equiv};
 
     ghost laws = { atom_equiv };
+}
+
+impl PartialOrd for Fact {
+    ghost use Rattle.std.specs.Prelude.{Some};
+    ghost use Rattle.flow_facts.specs.Ordered.{atom_cmp, atom_order};
+
+    ghost partial_cmp = { λ x y. Some (atom_cmp x y) };
+
+    ghost laws = { atom_order };
+
+    fn partial_cmp(&self, other: &Fact) -> Option<Ordering> {
+        Some(self.cmp(other))
+    }
+}
+
+impl Ord for Fact {
+    ghost use Rattle.std.specs.Prelude.{refl};
+    ghost use Rattle.flow_facts.specs.Ordered.{atom_cmp, atom_total, atom_ties};
+
+    ghost cmp = { atom_cmp };
+
+    ghost total = { atom_total };
+
+    ghost matches_partial_cmp = { λ x y. refl };
+
+    ghost matches_eq = { atom_ties };
+
+    fn cmp(&self, other: &Fact) -> Ordering {
+        match self.relation().cmp(other.relation()) {
+            Ordering::Equal => self.args().cmp(other.args()),
+            unequal => unequal,
+        }
+    }
 }
 
 impl Hash for Fact {

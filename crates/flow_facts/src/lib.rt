@@ -5,6 +5,7 @@ mod constant;
 mod database;
 mod fact;
 mod name;
+mod numbered;
 mod table;
 mod text;
 
@@ -12,6 +13,7 @@ pub use constant::Const;
 pub use database::Database;
 pub use fact::Fact;
 pub use name::Name;
+pub use numbered::{Key, Numbered};
 pub use table::FactTable;
 pub use text::push_fact;
 

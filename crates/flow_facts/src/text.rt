@@ -1,4 +1,5 @@
-ghost use Rattle.std.specs.Prelude.{◌≡◌, ◌++◌, OnOk};
+ghost use Rattle.std.specs.Prelude.{◌≡◌, ◌++◌, OnOk, OnErr};
+ghost use Rattle.flow_model.specs.Lists.{Begins};
 ghost use Rattle.flow_facts.specs.Text.{constant_text, more_constants, arguments_text, fact_text};
 
 use crate::constant::Const;
@@ -7,7 +8,8 @@ use itoa::Buffer;
 use std::alloc::AllocError;
 
 fn push_constant(text: &mut Vec<u8>, constant: &Const) -> Result<(), AllocError>
-    ensures { OnOk result (text.new.items ≡ text.old.items ++ constant_text constant.now) }
+    ensures grown { Begins text.new.items text.old.items }
+    ensures ok { OnOk result (text.new.items ≡ text.old.items ++ constant_text constant.now) }
 {
     match constant {
         Const::Word(name) => text.extend_from_slice(name.bytes()),
@@ -20,7 +22,8 @@ fn push_constant(text: &mut Vec<u8>, constant: &Const) -> Result<(), AllocError>
 
 /// Each of them after a comma.
 fn push_more_constants(text: &mut Vec<u8>, constants: &[Const]) -> Result<(), AllocError>
-    ensures { OnOk result (text.new.items ≡ text.old.items ++ more_constants constants.now) }
+    ensures grown { Begins text.new.items text.old.items }
+    ensures ok { OnOk result (text.new.items ≡ text.old.items ++ more_constants constants.now) }
 {
     for constant in constants {
         text.extend_from_slice(b",")?;
@@ -30,7 +33,8 @@ fn push_more_constants(text: &mut Vec<u8>, constants: &[Const]) -> Result<(), Al
 }
 
 fn push_arguments(text: &mut Vec<u8>, constants: &[Const]) -> Result<(), AllocError>
-    ensures { OnOk result (text.new.items ≡ text.old.items ++ arguments_text constants.now) }
+    ensures grown { Begins text.new.items text.old.items }
+    ensures ok { OnOk result (text.new.items ≡ text.old.items ++ arguments_text constants.now) }
 {
     match constants {
         [] => Ok(()),
@@ -43,10 +47,24 @@ fn push_arguments(text: &mut Vec<u8>, constants: &[Const]) -> Result<(), AllocEr
     }
 }
 
-/// Adds the fact to a text, as a workflow text writes it: a relation, and its arguments in parentheses.
-pub fn push_fact(text: &mut Vec<u8>, fact: &Fact) -> Result<(), AllocError>
-    ensures { OnOk result (text.new.items ≡ text.old.items ++ fact_text fact.now) }
+fn push_parts(text: &mut Vec<u8>, fact: &Fact) -> Result<(), AllocError>
+    ensures grown { Begins text.new.items text.old.items }
+    ensures ok { OnOk result (text.new.items ≡ text.old.items ++ fact_text fact.now) }
 {
     text.extend_from_slice(fact.relation().bytes())?;
     push_arguments(text, fact.args())
+}
+
+/// Adds the fact to a text, as a workflow text writes it: a relation, and its arguments in parentheses.
+/// Where there is no memory, the text is as it was.
+pub fn push_fact(text: &mut Vec<u8>, fact: &Fact) -> Result<(), AllocError>
+    ensures ok { OnOk result (text.new.items ≡ text.old.items ++ fact_text fact.now) }
+    ensures err { OnErr result (text.new.items ≡ text.old.items) }
+{
+    let before = text.len();
+    let pushed = push_parts(text, fact);
+    if pushed.is_err() {
+        text.truncate(before);
+    }
+    pushed
 }

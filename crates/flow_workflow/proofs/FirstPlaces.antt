@@ -1,15 +1,10 @@
 -- The first place in a list at which a member stands, found by a test of equality.
-use Rattle.std.proofs.Common.{◌≡◌, ℕ, zero, suc, ◌+◌, ◌<◌, Bool, true, false, cond, List, [], ◌∷◌, length, get_or, slice_get, ltb, Option, Some, None, position, refl, sym, ap, ◌∙◌, subst, inl, inr, arith}
+use Rattle.std.proofs.Common.{◌≡◌, ℕ, zero, suc, ◌+◌, ◌<◌, Bool, true, false, cond, List, [], ◌∷◌, length, slice_get, Some, refl, sym, ap, ◌∙◌, subst, inl, inr, arith}
 use Rattle.std.specs.Prelude.{not}
 use Rattle.std.specs.List.{position_or_len}
 use Rattle.std.specs.Bool.{Decides}
-use Rattle.std.specs.Prelude.{IfSome, ◌↔◌}
-use Rattle.std.specs.Str.{bytes_eq}
-use Rattle.std.specs.Cmp.Lexicographic.{bytes_decides}
-use Rattle.std.proofs.lemmas.Bool.{ltb-false}
-use Rattle.std.proofs.lemmas.List.Quantifiers.{position-Some}
 use Rattle.flow_model.specs.Lists.{◌∈◌, AreDistinct}
-use Rattle.flow_facts.proofs.Places.{mem-slice_get, slice_get_at}
+use Rattle.flow_facts.proofs.Places.{mem-slice_get}
 
 module _ {A : Type 0} (E : A → A → Bool) (decides : (a b : A) → Decides (E a b) (a ≡ b)) where
   at_head : (x y : A) (xs : List A) (b : Bool) → E x y ≡ b → position_or_len (E x) (y ∷ xs) ≡ cond (not b) (1 + position_or_len (E x) xs) 0
@@ -45,36 +40,3 @@ module _ {A : Type 0} (E : A → A → Bool) (decides : (a b : A) → Decides (E
       go : (b : Bool) → E x y ≡ b → (E x y ≡ false → position_or_len (E x) xs < length xs) → position_or_len (E x) (y ∷ xs) < length (y ∷ xs)
       go true e rest = omega (arith, at_head x y xs true e)
       go false e rest = omega (arith, at_head x y xs false e, rest e)
-
-  -- what is found is the member
-  pub found : (x : A) (xs : List A) (i : ℕ) → position (E x) xs ≡ Some i → slice_get xs i ≡ Some x
-  found x xs i e =
-      let h = position-Some (E x) xs i x e in
-      slice_get_at xs i x h.0 ∙ ap Some (sym ((decides x (get_or xs i x)).0 h.1))
-
-  -- and it is the first place
-  pub first_place : (x : A) (xs : List A) (i : ℕ) → position (E x) xs ≡ Some i → i ≡ position_or_len (E x) xs
-  first_place x xs i e = go (ltb (position_or_len (E x) xs) (length xs)) e
-    where
-      go : (b : Bool) → cond b (Some (position_or_len (E x) xs)) None ≡ Some i → i ≡ position_or_len (E x) xs
-      go true f = cc
-      go false f = cc
-
-  -- what is not found is no member
-  pub absent : (x : A) (xs : List A) → position (E x) xs ≡ None → ¬ (x ∈ xs)
-  absent x xs e m = go (ltb (position_or_len (E x) xs) (length xs)) refl e
-    where
-      go : (b : Bool) → ltb (position_or_len (E x) xs) (length xs) ≡ b → cond b (Some (position_or_len (E x) xs)) None ≡ None → ⊥
-      go true t f = cc
-      go false t f = absurd (omega (arith, ltb-false (position_or_len (E x) xs) (length xs) t, within x xs m))
-
--- a name is looked up in a list that is equal to the one that is told of
-pub is_place : (n : List ℕ) (keys names : List (List ℕ)) (r : Option ℕ) → keys ≡ names → r ≡ position (bytes_eq n) keys →
-    ((r ≡ None) ↔ ¬ (n ∈ names)) × IfSome r (λ i. slice_get names i ≡ Some n)
-is_place n keys names r same is = subst (λ l. ((r ≡ None) ↔ ¬ (n ∈ l)) × IfSome r (λ i. slice_get l i ≡ Some n)) same (at r is)
-  where
-    at : (o : Option ℕ) → o ≡ position (bytes_eq n) keys → ((o ≡ None) ↔ ¬ (n ∈ keys)) × IfSome o (λ i. slice_get keys i ≡ Some n)
-    at None e = (((λ none. absent bytes_eq bytes_decides n keys (sym e)), (λ missing. refl)), tt)
-    at (Some i) e =
-        let there = found bytes_eq bytes_decides n keys i (sym e) in
-        (((λ none. cc), (λ missing. absurd (missing (mem-slice_get keys i n there)))), there)

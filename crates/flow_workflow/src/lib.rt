@@ -1,8 +1,6 @@
 //! A workflow with its sub-workflows in place: events, facts, a goal with labels, and constraints.
 #![tactic(auto)]
 
-#[cfg(test)]
-mod tests;
 mod workflow;
 
 pub use workflow::Workflow;

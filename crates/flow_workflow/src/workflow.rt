@@ -5,18 +5,17 @@ ghost use Rattle.flow_laws.specs.Words.{IsWellFormed};
 ghost use Rattle.flow_rules.specs.Rule.{rules_of};
 ghost use Rattle.flow_workflow.specs.Numbers.{event_number, IsKnown};
 
-use flow_facts::{FactTable, Name};
+use flow_facts::{FactTable, Name, Numbered};
 use flow_goal::Tree;
 use flow_model::Note;
 use flow_rules::Rule;
-use indexmap::IndexSet;
 use std::alloc::Global;
 use std::marker::Model;
 
 /// A workflow whose sub-workflows stand in their places. Events and facts go by their numbers.
 #[derive(Drop)]
 pub struct Workflow {
-    events: IndexSet<Name>,
+    events: Numbered<Name>,
     notes: Vec<Note>,
     facts: FactTable,
     held: Vec<u32>,
@@ -33,25 +32,25 @@ impl Model for Workflow {
 
     ghost use Rattle.flow_workflow.specs.Definition.{definition, IsWorkflow};
 
-    ghost view = { λ w. definition w.events.keys w.notes.items w.facts w.held.items w.tree w.rules.items };
+    ghost view = { λ w. definition w.events w.notes.items w.facts w.held.items w.tree w.rules.items };
 
-    ghost invariant = { λ w. IsWorkflow (definition w.events.keys w.notes.items w.facts w.held.items w.tree w.rules.items) };
+    ghost invariant = { λ w. IsWorkflow (definition w.events w.notes.items w.facts w.held.items w.tree w.rules.items) };
 }
 
 impl Workflow {
     ghost use Rattle.flow_workflow.specs.Definition.{definition, IsWorkflow, schema_of};
 
-    /// The workflow of these parts, with no constraints. Events are numbered in the order of the set.
+    /// The workflow of these parts, with no constraints. Events have the numbers of the table.
     pub fn new(
         alloc: Global,
-        events: IndexSet<Name>,
+        events: Numbered<Name>,
         notes: Vec<Note>,
         facts: FactTable,
         held: Vec<u32>,
         tree: Tree,
     ) -> Workflow
-        requires { IsWorkflow (definition events.keys notes.items facts held.items tree []) }
-        ensures { result ≡ definition events.keys notes.items facts held.items tree [] }
+        requires { IsWorkflow (definition events notes.items facts held.items tree []) }
+        ensures { result ≡ definition events notes.items facts held.items tree [] }
     {
         Workflow {
             events,
@@ -85,7 +84,7 @@ impl Workflow {
         ensures place { IfSome result (λ number. slice_get self.now.events number ≡ Some name.now) }
         ensures number { IfSome result (λ number. number ≡ event_number self.now.events name.now) }
     {
-        self.events.get_index_of(name).map(|place| place as u32)
+        self.events.number_of(name)
     }
 
     /// What is noted of each event, by their numbers.

@@ -18,24 +18,24 @@ event_set-requires c =
 pub new-workflow-requires : goal.new-workflow-requires
 new-workflow-requires c =
     let s = said c.args.script.now in
-    let names : c.in_ok-events.events.keys ≡ event_names s.decls = c.in_ok-events.ensures ∙ ap (λ ds. event_names (map declared ds)) c.deref.ensures.value in
+    let names : c.in_ok-events.events ≡ event_names s.decls = c.in_ok-events.ensures ∙ ap (λ ds. event_names (map declared ds)) c.deref.ensures.value in
     let noted : c.in_ok-notes.notes.items ≡ notes_of s.decls = c.in_ok-notes.ensures ∙ ap (λ ds. notes_of (map declared ds)) c.deref-2.ensures.value in
-    parts_kept s c.args.numbered c.requires.closed c.requires.numbered c.requires.unique c.in_ok-events.events.keys names c.in_ok-notes.notes.items noted
+    parts_kept s c.args.numbered c.requires.closed c.requires.numbered c.requires.unique c.in_ok-events.events names c.in_ok-notes.notes.items noted
 
 pub rules_of-requires : goal.rules_of-requires
 rules_of-requires c =
     let s = said c.args.script.now in
-    let names : c.in_ok-events.events.keys ≡ event_names s.decls = c.in_ok-events.ensures ∙ ap (λ ds. event_names (map declared ds)) c.deref.ensures.value in
+    let names : c.in_ok-events.events ≡ event_names s.decls = c.in_ok-events.ensures ∙ ap (λ ds. event_names (map declared ds)) c.deref.ensures.value in
     let rules : map rule_shape_of c.deref-3.result.now ≡ s.rules = ap (map rule_shape_of) c.deref-3.ensures.value in
     rules_known s c.new-workflow.result.events (map rule_shape_of c.deref-3.result.now) c.requires.closed (ap (λ (w : Definition). w.events) c.new-workflow.ensures ∙ names) rules
 
 pub returns : goal.returns
 returns c =
     let s = said c.args.script.now in
-    let names : c.in_ok-events.events.keys ≡ event_names s.decls = c.in_ok-events.ensures ∙ ap (λ ds. event_names (map declared ds)) c.deref.ensures.value in
+    let names : c.in_ok-events.events ≡ event_names s.decls = c.in_ok-events.ensures ∙ ap (λ ds. event_names (map declared ds)) c.deref.ensures.value in
     let rules : map rule_shape_of c.deref-3.result.now ≡ s.rules = ap (map rule_shape_of) c.deref-3.ensures.value in
     let noted : c.in_ok-notes.notes.items ≡ notes_of s.decls = c.in_ok-notes.ensures ∙ ap (λ ds. notes_of (map declared ds)) c.deref-2.ensures.value in
-    let events : c.new-workflow.result.events ≡ c.in_ok-events.events.keys = ap (λ (w : Definition). w.events) c.new-workflow.ensures in
-    expanded s c.args.numbered c.requires.closed c.requires.numbered c.requires.unique c.in_ok-events.events.keys names c.in_ok-notes.notes.items (rules_of c.in_ok-rules.rules.items) c.with_rules.result noted
+    let events : c.new-workflow.result.events ≡ c.in_ok-events.events = ap (λ (w : Definition). w.events) c.new-workflow.ensures in
+    expanded s c.args.numbered c.requires.closed c.requires.numbered c.requires.unique c.in_ok-events.events names c.in_ok-notes.notes.items (rules_of c.in_ok-rules.rules.items) c.with_rules.result noted
     (c.in_ok-rules.ensures ∙ (λ i. map (constraint_of (events i)) (rules i)))
     (c.with_rules.ensures ∙ ap (λ (w : Definition). record w { rules = rules_of c.in_ok-rules.rules.items }) c.new-workflow.ensures)

@@ -54,36 +54,36 @@ pub build-returns-in_ok-number-in-Test : goal.build-returns-in_ok-number-in-Test
 build-returns-in_ok-number-in-Test t c =
     let there = part_at c.args.plan.now.items c.args.place c.args.leaves.now c.index.result.now (part.Test c.in-Test.fact) c.requires c.index.ensures c.in-Test.is in
     ok_and c.add-in-Test.result _ _ _
-    (λ made leaf grown. built_fact_at holds Test c.args.plan.now.items c.args.place c.in-Test.fact.now c.in_ok-number-in-Test.number c.number_fact.new.facts.keys c.args.leaves.now c.add-in-Test.new.self (process_of made) test_leaf
+    (λ made leaf grown. built_fact_at holds Test c.args.plan.now.items c.args.place c.in-Test.fact.now c.in_ok-number-in-Test.number c.number_fact.new.facts c.args.leaves.now c.add-in-Test.new.self (process_of made) test_leaf
     (λ events e s. goal_of c.args.plan.now.items events c.args.place (part.Test c.in-Test.fact) there e s)
-    c.in_ok-number-in-Test.ensures.facts c.in_ok-number-in-Test.ensures.number (ap (λ facts. facts.keys) c.add-in-Test.ensures.facts) leaf grown)
+    c.in_ok-number-in-Test.ensures.facts c.in_ok-number-in-Test.ensures.number c.add-in-Test.ensures.facts leaf grown)
     c.add-in-Test.ensures.leaf c.add-in-Test.ensures.labels
 
 pub build-returns-in_ok-number-in-Absent : goal.build-returns-in_ok-number-in-Absent
 build-returns-in_ok-number-in-Absent t c =
     let there = part_at c.args.plan.now.items c.args.place c.args.leaves.now c.index.result.now (part.Absent c.in-Absent.fact) c.requires c.index.ensures c.in-Absent.is in
     ok_and c.add-in-Absent.result _ _ _
-    (λ made leaf grown. built_fact_at lacks Absent c.args.plan.now.items c.args.place c.in-Absent.fact.now c.in_ok-number-in-Absent.number c.number_fact-in-Absent.new.facts.keys c.args.leaves.now c.add-in-Absent.new.self (process_of made) absent_leaf
+    (λ made leaf grown. built_fact_at lacks Absent c.args.plan.now.items c.args.place c.in-Absent.fact.now c.in_ok-number-in-Absent.number c.number_fact-in-Absent.new.facts c.args.leaves.now c.add-in-Absent.new.self (process_of made) absent_leaf
     (λ events e s. goal_of c.args.plan.now.items events c.args.place (part.Absent c.in-Absent.fact) there e s)
-    c.in_ok-number-in-Absent.ensures.facts c.in_ok-number-in-Absent.ensures.number (ap (λ facts. facts.keys) c.add-in-Absent.ensures.facts) leaf grown)
+    c.in_ok-number-in-Absent.ensures.facts c.in_ok-number-in-Absent.ensures.number c.add-in-Absent.ensures.facts leaf grown)
     c.add-in-Absent.ensures.leaf c.add-in-Absent.ensures.labels
 
 pub build-returns-in_ok-number-in-Ins : goal.build-returns-in_ok-number-in-Ins
 build-returns-in_ok-number-in-Ins t c =
     let there = part_at c.args.plan.now.items c.args.place c.args.leaves.now c.index.result.now (part.Ins c.in-Ins.fact) c.requires c.index.ensures c.in-Ins.is in
     ok_and c.add-in-Ins.result _ _ _
-    (λ made leaf grown. built_fact_at adds Ins c.args.plan.now.items c.args.place c.in-Ins.fact.now c.in_ok-number-in-Ins.number c.number_fact-in-Ins.new.facts.keys c.args.leaves.now c.add-in-Ins.new.self (process_of made) ins_leaf
+    (λ made leaf grown. built_fact_at adds Ins c.args.plan.now.items c.args.place c.in-Ins.fact.now c.in_ok-number-in-Ins.number c.number_fact-in-Ins.new.facts c.args.leaves.now c.add-in-Ins.new.self (process_of made) ins_leaf
     (λ events e s. goal_of c.args.plan.now.items events c.args.place (part.Ins c.in-Ins.fact) there e s)
-    c.in_ok-number-in-Ins.ensures.facts c.in_ok-number-in-Ins.ensures.number (ap (λ facts. facts.keys) c.add-in-Ins.ensures.facts) leaf grown)
+    c.in_ok-number-in-Ins.ensures.facts c.in_ok-number-in-Ins.ensures.number c.add-in-Ins.ensures.facts leaf grown)
     c.add-in-Ins.ensures.leaf c.add-in-Ins.ensures.labels
 
 pub build-returns-in_ok-number-in-Del : goal.build-returns-in_ok-number-in-Del
 build-returns-in_ok-number-in-Del t c =
     let there = part_at c.args.plan.now.items c.args.place c.args.leaves.now c.index.result.now (part.Del c.in-Del.fact) c.requires c.index.ensures c.in-Del.is in
     ok_and c.add-in-Del.result _ _ _
-    (λ made leaf grown. built_fact_at takes Del c.args.plan.now.items c.args.place c.in-Del.fact.now c.in_ok-number-in-Del.number c.number_fact-in-Del.new.facts.keys c.args.leaves.now c.add-in-Del.new.self (process_of made) del_leaf
+    (λ made leaf grown. built_fact_at takes Del c.args.plan.now.items c.args.place c.in-Del.fact.now c.in_ok-number-in-Del.number c.number_fact-in-Del.new.facts c.args.leaves.now c.add-in-Del.new.self (process_of made) del_leaf
     (λ events e s. goal_of c.args.plan.now.items events c.args.place (part.Del c.in-Del.fact) there e s)
-    c.in_ok-number-in-Del.ensures.facts c.in_ok-number-in-Del.ensures.number (ap (λ facts. facts.keys) c.add-in-Del.ensures.facts) leaf grown)
+    c.in_ok-number-in-Del.ensures.facts c.in_ok-number-in-Del.ensures.number c.add-in-Del.ensures.facts leaf grown)
     c.add-in-Del.ensures.leaf c.add-in-Del.ensures.labels
 
 pub build-returns-in-Serial : goal.build-returns-in-Serial

@@ -1,10 +1,7 @@
-use Rattle.std.proofs.Common.{◌≡◌, ◌≤◌, length, map, take}
+use Rattle.std.proofs.Common.{◌≡◌, map, take}
 use Rattle.flow_form.specs.Script.{declared}
 use Rattle.flow_expand.specs.Numbers.{firsts, declared_facts}
 use Rattle.flow_expand.proofs.fact_numbers.declared_fact_set.Given as goal
 
 abbrev pub invariant-loop-decl : goal.invariant-loop-decl
-invariant-loop-decl l = record {
-  facts : l.facts.keys ≡ firsts (declared_facts (map declared (take l.decl-index l.decls)));
-  few : length l.facts.keys ≤ l.decl-index;
-}
+invariant-loop-decl l = l.facts ≡ firsts (declared_facts (map declared (take l.decl-index l.decls)))

@@ -1,4 +1,4 @@
-use Rattle.std.proofs.Common.{◌∙◌, ap, map, arith}
+use Rattle.std.proofs.Common.{◌∙◌, ap, map}
 use Rattle.flow_model.specs.Lists.{numbers_from}
 use Rattle.flow_form.specs.Script.{declared, said}
 use Rattle.flow_form.specs.Names.{event_names}
@@ -7,14 +7,8 @@ use Rattle.flow_expand.specs.declared.building.Leaves.{Leaves}
 use Rattle.flow_expand.specs.Built.{IsBuilt}
 use Rattle.flow_expand.specs.Numbers.{firsts, declared_facts}
 use Rattle.flow_expand.proofs.DeclaredLemmas.{distinct_events}
-use Rattle.flow_expand.proofs.NumberingLemmas.{IsStart, declared_few, start_buildable, goal_numbered, labels_few, facts_distinct, facts_within, numbered_goal}
+use Rattle.flow_expand.proofs.NumberingLemmas.{IsStart, start_buildable, goal_numbered, labels_few, numbered_goal}
 use Rattle.flow_expand.proofs.numbering.number.Goals as goal
-
-pub overflow_cast-len : goal.overflow_cast-len
-overflow_cast-len c =
-    let few = declared_few (said c.args.script.now) c.in_ok-facts.facts.keys c.requires.closed
-    (c.in_ok-facts.ensures ∙ ap (λ ds. firsts (declared_facts (map declared ds))) c.deref.ensures.value) in
-    omega (arith, few, c.len.ensures.len)
 
 pub build-requires : goal.build-requires
 build-requires c =
@@ -50,30 +44,6 @@ tree_of-tree-requires-clause-few c =
     c.in_ok-goal.ensures (event_names s.decls) c.requires.prepared.expansion (distinct_events s.decls c.requires.closed.once) c.requires.prepared.stands in
     labels_few s c.requires.prepared.expansion old c.build.new.leaves (process_of c.in_ok-goal.goal) c.requires.closed c.requires.prepared.measured start built
 
-pub table_of-requires-clause-distinct : goal.table_of-requires-clause-distinct
-table_of-requires-clause-distinct c =
-    let s = said c.args.script.now in
-    let old : Leaves = record { facts = c.in_ok-facts.facts; labels = c.new-labels.result } in
-    let start : IsStart s old = record {
-      facts = c.in_ok-facts.ensures ∙ ap (λ ds. firsts (declared_facts (map declared ds))) c.deref.ensures.value;
-      labels = c.new-labels.ensures.items;
-    } in
-    let built : IsBuilt (event_names s.decls) c.requires.prepared.expansion old c.build.new.leaves (process_of c.in_ok-goal.goal) =
-    c.in_ok-goal.ensures (event_names s.decls) c.requires.prepared.expansion (distinct_events s.decls c.requires.closed.once) c.requires.prepared.stands in
-    facts_distinct s c.requires.prepared.expansion old c.build.new.leaves (process_of c.in_ok-goal.goal) c.requires.closed c.requires.prepared.measured start built
-
-pub table_of-requires-clause-few : goal.table_of-requires-clause-few
-table_of-requires-clause-few c =
-    let s = said c.args.script.now in
-    let old : Leaves = record { facts = c.in_ok-facts.facts; labels = c.new-labels.result } in
-    let start : IsStart s old = record {
-      facts = c.in_ok-facts.ensures ∙ ap (λ ds. firsts (declared_facts (map declared ds))) c.deref.ensures.value;
-      labels = c.new-labels.ensures.items;
-    } in
-    let built : IsBuilt (event_names s.decls) c.requires.prepared.expansion old c.build.new.leaves (process_of c.in_ok-goal.goal) =
-    c.in_ok-goal.ensures (event_names s.decls) c.requires.prepared.expansion (distinct_events s.decls c.requires.closed.once) c.requires.prepared.stands in
-    facts_within s c.requires.prepared.expansion old c.build.new.leaves (process_of c.in_ok-goal.goal) c.requires.closed c.requires.prepared.measured start built
-
 pub returns : goal.returns
 returns c =
     let s = said c.args.script.now in
@@ -85,5 +55,5 @@ returns c =
     let built : IsBuilt (event_names s.decls) c.requires.prepared.expansion old c.build.new.leaves (process_of c.in_ok-goal.goal) =
     c.in_ok-goal.ensures (event_names s.decls) c.requires.prepared.expansion (distinct_events s.decls c.requires.closed.once) c.requires.prepared.stands in
     numbered_goal s c.requires.prepared.expansion old c.build.new.leaves (process_of c.in_ok-goal.goal) c.requires.closed c.requires.prepared.measured start built
-    c.args.prepared.now.plan.items c.args.prepared.now.root.place (record { facts = c.in_ok-facts-2.facts; held = c.in_ok-held.held; tree = c.tree_of-tree.result }) c.requires.prepared.stands
-    c.in_ok-facts-2.ensures (c.in_ok-held.ensures ∙ ap (numbers_from 0) c.len.ensures.len) c.tree_of-tree.ensures.process c.tree_of-tree.ensures.labels
+    c.args.prepared.now.plan.items c.args.prepared.now.root.place (record { facts = c.new-facts.result; held = c.in_ok-held.held; tree = c.tree_of-tree.result }) c.requires.prepared.stands
+    (c.new-facts.ensures ∙ c.into_keys.ensures.keys) (c.in_ok-held.ensures ∙ ap (numbers_from 0) c.count.ensures) c.tree_of-tree.ensures.process c.tree_of-tree.ensures.labels

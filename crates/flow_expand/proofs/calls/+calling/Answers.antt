@@ -1,0 +1,7 @@
+use Rattle.flow_expand.proofs.CallLemmas.{calls_more}
+use Rattle.flow_expand.proofs.calls.+calling.Goals as goal
+
+pub push_all_calls-loop-form-preserved : goal.push_all_calls-loop-form-preserved
+push_all_calls-loop-form-preserved t c =
+    calls_more c.args.names.now c.args.forms.now c.loop-form.form-index c.form-item.result c.args.calls.now.items c.loop-form.calls.items c.push_calls.new.calls.items
+    c.loop-form-test.true c.form-item.is c.loop-form.invariant c.in_ok-push_calls.ensures
