@@ -9,8 +9,6 @@ mod places;
 mod plan;
 mod progress;
 mod rows;
-#[cfg(test)]
-mod tests;
 mod token;
 
 pub use knot_free::KnotFree;
