@@ -7,8 +7,10 @@ mod part_row;
 mod parts;
 mod places;
 mod plan;
+mod postfix;
 mod progress;
 mod rows;
+mod span;
 mod token;
 
 pub use knot_free::KnotFree;
