@@ -1,11 +1,11 @@
 -- What may follow the done leaves, one by one and two by two.
-use Rattle.std.proofs.Common.{◌≡◌, ℕ, ◌<◌, ◌≤◌, Bool, true, false, ◌==◌, ◌||◌, ◌↔◌, IsTrue, eq-eqb, eqb-true, List, [], ◌∷◌, length, get_or, take, inl, inr, ⊎_elim, refl, sym, ◌∙◌, subst}
+use Rattle.std.proofs.Common.{◌≡◌, ℕ, ◌<◌, ◌≤◌, Bool, true, false, ◌==◌, ◌||◌, ◌↔◌, IsTrue, eq-eqb, eqb-true, List, [], ◌∷◌, length, get_or, take, inl, inr, ⊎_elim, refl, sym, ◌∙◌, subst, arith}
 use Rattle.std.proofs.lemmas.List.{take_all}
 use Rattle.flow_model.specs.Lists.{◌∈◌, Each}
 use Rattle.flow_model.specs.Ready.{DoneOr, IsReadyRun, IsCompleteRun}
 use Rattle.flow_model.specs.Process.{leaves}
 use Rattle.flow_laws.specs.Words.{EachTwo}
-use Rattle.flow_laws.proofs.ListLemmas2.{each_member}
+use Rattle.flow_laws.proofs.ListLemmas2.{each_member, each_to}
 use Rattle.flow_laws.proofs.OrdersByTwo.{pairs_suffice_for_orders}
 use Rattle.flow_laws.proofs.ReadyRuns.{same_ready, same_run}
 use Rattle.flow_plan.specs.declared.progress.Progress.{Progress}
@@ -50,10 +50,11 @@ orders_after p old new first list noted = (
 pub next_fits : (p : Planned) (done : Progress) (leaf : ℕ) → Fits p done → MayComeNext p (IsDone done) leaf → leaf < bound_of done
 next_fits p done leaf fits next = each_member (λ n. n < bound_of done) (leaves p.process) fits leaf next.leaf
 
-pub all_fit : (p : Planned) (done : Progress) (list : List ℕ) → Fits p done → Each (MayComeNext p (IsDone done)) list →
-    Each (λ n. n < bound_of done) list
-all_fit p done [] fits all = tt
-all_fit p done (n ∷ list) fits all = (next_fits p done n fits all.0, all_fit p done list fits all.1)
+pub next_small : (p : Planned) (done : Progress) (leaf : ℕ) → Fits p done → MayComeNext p (IsDone done) leaf → leaf < 1024
+next_small p done leaf fits next = omega (arith, next_fits p done leaf fits next, done.small)
+
+pub all_small : (p : Planned) (done : Progress) (list : List ℕ) → Fits p done → Each (MayComeNext p (IsDone done)) list → Each (λ n. n < 1024) list
+all_small p done list fits all = each_to _ _ list (λ n next. next_small p done n fits next) all
 
 pub every_order : (p : Planned) (done : Progress) (list : List ℕ) → Each (MayComeNext p (IsDone done)) list → EachTwo (MayComeAfter p (IsDone done)) list →
     MayFollowInEveryOrder p (IsDone done) list
@@ -63,12 +64,6 @@ pub by_two : (p : Planned) (done : Progress) (list : List ℕ) → MayFollowInEv
     Each (MayComeNext p (IsDone done)) list × EachTwo (MayComeAfter p (IsDone done)) list
 by_two p done list all =
     let side = (pairs_suffice_for_orders p.process (pairs_of p.tokens) (is_done done) list).0 all in (side.each, side.two)
-
--- the leaf first, and two by two
-pub leaf_first : (p : Planned) (done : Progress) (leaf : ℕ) (list : List ℕ) → MayComeNext p (IsDone done) leaf → Each (MayComeNext p (IsDone done)) list →
-    Each (λ other. MayComeAfter p (IsDone done) leaf other × MayComeAfter p (IsDone done) other leaf) list → EachTwo (MayComeAfter p (IsDone done)) list →
-    MayFollowInEveryOrder p (IsDone done) (leaf ∷ list)
-leaf_first p done leaf list first each beside two = every_order p done (leaf ∷ list) (first, each) (beside, two)
 
 -- ---- all leaves
 

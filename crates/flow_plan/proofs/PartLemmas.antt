@@ -1,74 +1,58 @@
 -- What the rows of isolated parts say.
-use Rattle.std.proofs.Common.{◌≡◌, ℕ, ◌+◌, ◌<◌, zero, suc, Bool, true, false, not, ◌==◌, ◌&&◌, ◌||◌, IsTrue, eq-eqb, List, [], ◌∷◌, ◌++◌, length, take, get_or, Some, slice_get, inl, inr, ◌⊎◌, ◌↔◌, ⊎_elim, refl, sym, ◌∙◌, ap, subst, arith}
-use Rattle.std.proofs.lemmas.List.{take_more}
-use Rattle.std.proofs.lemmas.Bool.{cases_lt, ne_eqb}
-use Rattle.std.proofs.lemmas.Bool.Decides.{Decides-eqb}
-use Rattle.std.proofs.lemmas.Slice.Eq.{slice_eq-Decides}
-use Rattle.std.specs.Cmp.Lexicographic.{pointwise}
-use lib.Dec.{eqb}
-use Rattle.leaf_rows.specs.Leaves.{has_bit, has_leaf}
+use Rattle.std.proofs.Common.{◌≡◌, ◌≢◌, ℕ, ◌+◌, ◌-◌, ◌<◌, ◌≤◌, zero, suc, Bool, true, false, not, ◌==◌, ◌&&◌, ◌||◌, IsTrue, eq-eqb, eqb-true, zero-add, List, [], ◌∷◌, ◌++◌, length, take, drop, get_or, Some, slice_get, inl, inr, ◌⊎◌, ◌↔◌, ⊎_elim, refl, sym, ◌∙◌, ap, subst, arith, append-nil, min}
+use Rattle.std.proofs.lemmas.List.{take_more, length-take, length-drop, get_or-take, get_or-drop}
+use Rattle.std.proofs.Math.Seq.{take-append_seam}
+use Rattle.std.proofs.lemmas.Bool.{cases_lt, cases_eq, ne_eqb}
+use Rattle.std.specs.List.Sorted.{IsStrictlyIncreasing}
+use Rattle.leaf_rows.specs.Leaves.{has_leaf}
 use Rattle.leaf_rows.specs.declared.leaf_set.LeafSet.{LeafSet}
-use Rattle.flow_model.specs.Lists.{◌∈◌}
-use Rattle.flow_model.specs.Process.{Process, leaves}
-use Rattle.flow_model.specs.Ready.{isolated_parts}
-use Rattle.flow_laws.proofs.ListLemmas2.{mem_append_left, mem_append_right, mem-append, some_same}
+use Rattle.flow_model.specs.Lists.{◌∈◌, Each, AreDistinct}
+use Rattle.flow_model.specs.Process.{Process, Empty, Task, Sequence, Parallel, Choice, Isolated, leaves}
+use Rattle.flow_model.specs.Ready.{DirectlyBefore, isolated_parts}
+use Rattle.flow_laws.proofs.ListLemmas2.{mem_append_left, mem_append_right, mem-append, each_member, each_from_members}
 use Rattle.flow_plan.specs.declared.part_row.PartRow.{PartRow}
-use Rattle.flow_plan.specs.Rows.{IsRowOf, has_at}
-use Rattle.flow_plan.specs.Ahead.{IsOutside}
-use Rattle.flow_plan.specs.Parts.{IsOneAtMost, AddsSet, AddsParts, IsPartFor, ArePartsFor, IsPartRow, ArePartsOf, PartAllows}
-use Rattle.flow_plan.proofs.RowLemmas.{either_true, first_true, second_true}
-
--- ---- what stands directly before a part
+use Rattle.flow_plan.specs.declared.span.Span.{Span}
+use Rattle.flow_plan.specs.Rows.{IsRowOf, AreRowsOf, has_at}
+use Rattle.flow_plan.specs.Ahead.{IsAhead, IsOutside}
+use Rattle.flow_plan.specs.Spans.{placed_parts, IsSpanOf, IsEarlier, AreRising, AddsSpans}
+use Rattle.flow_plan.specs.Parts.{IsOneAtMost, at_span, IsPartFor, ArePartsFor, IsPartRow, HasTwo, HaveSameLeaves, AreApart, ArePartsOf, PartAllows}
+use Rattle.flow_plan.proofs.PlaceLemmas.{place_of_member, member_at, get_at, rising_pairs}
+use Rattle.flow_plan.proofs.PostfixLemmas.{StandAt, first_stand, second_stand}
+use Rattle.flow_plan.proofs.RowLemmas.{row_same, either_true, first_true, second_true}
 
 pub has_at_is : (rows : List (LeafSet 16)) (k : ℕ) (row d : LeafSet 16) → k < length rows → row ≡ get_or rows k d → (x : ℕ) → has_at rows k x ≡ has_leaf row x
 has_at_is [] k row d within is x = absurd (omega arith)
 has_at_is (first ∷ rows) zero row d within is x = ap (λ (r : LeafSet 16). has_leaf r x) (sym is)
 has_at_is (first ∷ rows) (suc k) row d within is x = has_at_is rows k row d (omega arith) is x
 
-abbrev pub HasBelow : List ℕ → List (LeafSet 16) → LeafSet 16 → ℕ → ℕ → Type 0
-HasBelow ns rows inside i x = (k : ℕ) × (k < i) × IsTrue (has_leaf inside (get_or ns k 0)) × IsTrue (has_at rows k x)
+-- ---- sets made leaf by leaf and row by row
 
--- the row of one leaf more
-pub below_with : (ns : List ℕ) (rows : List (LeafSet 16)) (inside all new row : LeafSet 16) (i : ℕ) → i < length rows → row ≡ get_or rows i row →
-    IsTrue (has_leaf inside (get_or ns i 0)) → ((x : ℕ) → IsTrue (has_leaf all x) ↔ HasBelow ns rows inside i x) →
-    ((x : ℕ) → has_leaf new x ≡ (has_leaf all x || has_leaf row x)) → (x : ℕ) → IsTrue (has_leaf new x) ↔ HasBelow ns rows inside (i + 1) x
-below_with ns rows inside all new row i within is mine before union x = (
-  λ has. ⊎_elim
-      (λ old. let found = (before x).0 old in (found.0, omega (arith, found.1), found.2, found.3))
-      (λ here. (i, omega arith, mine, has_at_is rows i row row within is x ∙ here))
-      (either_true (has_leaf all x) (has_leaf row x) (sym (union x) ∙ has)),
-  λ found. union x ∙ ⊎_elim
-      (λ lower. first_true (has_leaf all x) (has_leaf row x) ((before x).1 (found.0, lower, found.2, found.3)))
-      (λ last. let same : found.0 ≡ i = omega (arith, found.1) in
-      second_true (has_leaf all x) (has_leaf row x) (sym (has_at_is rows i row row within is x) ∙ subst (λ (k : ℕ). IsTrue (has_at rows k x)) same found.3))
-      (cases_lt found.0 i),
-)
+pub leaf_more : (ns : List ℕ) (i : ℕ) (now new : LeafSet 16) → i < length ns → IsRowOf (λ x. x ∈ take i ns) now →
+    ((x : ℕ) → has_leaf new x ≡ (x == get_or ns i 0 || has_leaf now x)) → IsRowOf (λ x. x ∈ take (i + 1) ns) new
+leaf_more ns i now new within is noted =
+    let n : ℕ = get_or ns i 0 in
+    subst (λ (l : List ℕ). IsRowOf (λ x. x ∈ l) new) (sym (take_more ns i 0 within))
+    (λ x. (
+      λ has. ⊎_elim (λ same. mem_append_right x (take i ns) (n ∷ []) (inl (eqb-true x n same))) (λ h. mem_append_left x (take i ns) (n ∷ []) ((is x).0 h))
+          (either_true (x == n) (has_leaf now x) (sym (noted x) ∙ has)),
+      λ member. noted x ∙ ⊎_elim (λ h. second_true (x == n) (has_leaf now x) ((is x).1 h))
+          (λ last. ⊎_elim (λ same. first_true (x == n) (has_leaf now x) (eq-eqb x n same)) (λ none. absurd none) last)
+          (mem-append x (take i ns) (n ∷ []) member),
+    ))
 
-pub below_without : (ns : List ℕ) (rows : List (LeafSet 16)) (inside all : LeafSet 16) (i : ℕ) →
-    ¬ IsTrue (has_leaf inside (get_or ns i 0)) → ((x : ℕ) → IsTrue (has_leaf all x) ↔ HasBelow ns rows inside i x) →
-    (x : ℕ) → IsTrue (has_leaf all x) ↔ HasBelow ns rows inside (i + 1) x
-below_without ns rows inside all i other before x = (
-  λ has. let found = (before x).0 has in (found.0, omega (arith, found.1), found.2, found.3),
-  λ found. ⊎_elim
-      (λ lower. (before x).1 (found.0, lower, found.2, found.3))
-      (λ last. let same : found.0 ≡ i = omega (arith, found.1) in
-      absurd (other (subst (λ (k : ℕ). IsTrue (has_leaf inside (get_or ns k 0))) same found.2)))
-      (cases_lt found.0 i),
-)
-
--- the set without the leaves so far
-abbrev pub IsLeft : LeafSet 16 → LeafSet 16 → List ℕ → ℕ → Type 0
-IsLeft set inside ns x = IsTrue (has_leaf set x) × ¬ ((x ∈ ns) × IsTrue (has_leaf inside x))
-
-still_left : (set inside : LeafSet 16) (ns : List ℕ) (n x : ℕ) → IsLeft set inside ns x → ¬ ((x ≡ n) × IsTrue (has_leaf inside x)) → IsLeft set inside (ns ++ n ∷ []) x
-still_left set inside ns n x left other = (
-  left.0,
-  λ gone. ⊎_elim (λ h. left.1 (h, gone.1))
-      (λ last. ⊎_elim (λ same. other (same, gone.1)) (λ none. absurd none) last) (mem-append x ns (n ∷ []) gone.0),
-)
-
-was_left : (set inside : LeafSet 16) (ns : List ℕ) (n x : ℕ) → IsLeft set inside (ns ++ n ∷ []) x → IsLeft set inside ns x
-was_left set inside ns n x left = (left.0, λ gone. left.1 (mem_append_left x ns (n ∷ []) gone.0, gone.1))
+pub row_more : (rows : List (LeafSet 16)) (i : ℕ) (now new row : LeafSet 16) → i < length rows → row ≡ get_or rows i row → IsRowOf (IsAhead (take i rows)) now →
+    ((x : ℕ) → has_leaf new x ≡ (has_leaf now x || has_leaf row x)) → IsRowOf (IsAhead (take (i + 1) rows)) new
+row_more rows i now new row within at is union =
+    let same : take (i + 1) rows ≡ take i rows ++ row ∷ [] = take_more rows i row within ∙ ap (λ (r : LeafSet 16). take i rows ++ r ∷ []) (sym at) in
+    subst (λ (l : List (LeafSet 16)). IsRowOf (IsAhead l) new) (sym same)
+    (λ x. (
+      λ has. ⊎_elim (λ h. let found = (is x).0 h in (found.0, mem_append_left found.0 (take i rows) (row ∷ []) found.1, found.2))
+          (λ h. (row, mem_append_right row (take i rows) (row ∷ []) (inl refl), h))
+          (either_true (has_leaf now x) (has_leaf row x) (sym (union x) ∙ has)),
+      λ found. union x ∙ ⊎_elim (λ h. first_true (has_leaf now x) (has_leaf row x) ((is x).1 (found.0, h, found.2)))
+          (λ last. ⊎_elim (λ (equal : found.0 ≡ row). second_true (has_leaf now x) (has_leaf row x) (subst (λ (r : LeafSet 16). IsTrue (has_leaf r x)) equal found.2)) (λ none. absurd none) last)
+          (mem-append found.0 (take i rows) (row ∷ []) found.1),
+    ))
 
 removed_parts : (same has : Bool) → IsTrue (not same && has) → (same ≡ false) × IsTrue has
 removed_parts true has h = absurd (cc)
@@ -78,31 +62,26 @@ removed_of : (same has : Bool) → same ≡ false → IsTrue has → IsTrue (not
 removed_of true has differs h = absurd (cc)
 removed_of false has differs h = h
 
-pub left_with : (set inside now new : LeafSet 16) (ns : List ℕ) (i : ℕ) → i < length ns → IsTrue (has_leaf inside (get_or ns i 0)) →
-    ((x : ℕ) → IsTrue (has_leaf now x) ↔ IsLeft set inside (take i ns) x) →
-    ((x : ℕ) → has_leaf new x ≡ (not (x == get_or ns i 0) && has_leaf now x)) → (x : ℕ) → IsTrue (has_leaf new x) ↔ IsLeft set inside (take (i + 1) ns) x
-left_with set inside now new ns i within mine before removed x =
-    let n : ℕ = get_or ns i 0 in
-    let more = take_more ns i 0 within in
-    let result : IsTrue (has_leaf new x) ↔ IsLeft set inside (take i ns ++ n ∷ []) x = (
-      λ has. let parts = removed_parts (x == n) (has_leaf now x) (sym (removed x) ∙ has) in
-          still_left set inside (take i ns) n x ((before x).0 parts.1) (λ gone. let is = eq-eqb x n gone.0 in let isnt = parts.0 in absurd (cc)),
-      λ left. removed x ∙ removed_of (x == n) (has_leaf now x)
-          (ne_eqb x n (λ same. left.1 (mem_append_right x (take i ns) (n ∷ []) (inl same), subst (λ (k : ℕ). IsTrue (has_leaf inside k)) (sym same) mine)))
-          ((before x).1 (was_left set inside (take i ns) n x left)),
-    ) in
-    subst (λ (l : List ℕ). IsTrue (has_leaf new x) ↔ IsLeft set inside l x) (sym more) result
+-- the set without the leaves so far
+abbrev pub IsLeft : LeafSet 16 → List ℕ → ℕ → Type 0
+IsLeft set ns x = ¬ (x ∈ ns) × IsTrue (has_leaf set x)
 
-pub left_without : (set inside now : LeafSet 16) (ns : List ℕ) (i : ℕ) → i < length ns → ¬ IsTrue (has_leaf inside (get_or ns i 0)) →
-    ((x : ℕ) → IsTrue (has_leaf now x) ↔ IsLeft set inside (take i ns) x) → (x : ℕ) → IsTrue (has_leaf now x) ↔ IsLeft set inside (take (i + 1) ns) x
-left_without set inside now ns i within other before x =
+pub leaf_less : (set : LeafSet 16) (ns : List ℕ) (i : ℕ) (now new : LeafSet 16) → i < length ns → IsRowOf (IsLeft set (take i ns)) now →
+    ((x : ℕ) → has_leaf new x ≡ (not (x == get_or ns i 0) && has_leaf now x)) → IsRowOf (IsLeft set (take (i + 1) ns)) new
+leaf_less set ns i now new within is removed =
     let n : ℕ = get_or ns i 0 in
-    let more = take_more ns i 0 within in
-    let result : IsTrue (has_leaf now x) ↔ IsLeft set inside (take i ns ++ n ∷ []) x = (
-      λ has. still_left set inside (take i ns) n x ((before x).0 has) (λ gone. other (subst (λ (k : ℕ). IsTrue (has_leaf inside k)) gone.0 gone.1)),
-      λ left. (before x).1 (was_left set inside (take i ns) n x left),
-    ) in
-    subst (λ (l : List ℕ). IsTrue (has_leaf now x) ↔ IsLeft set inside l x) (sym more) result
+    subst (λ (l : List ℕ). IsRowOf (IsLeft set l) new) (sym (take_more ns i 0 within))
+    (λ x. (
+      λ has. let parts = removed_parts (x == n) (has_leaf now x) (sym (removed x) ∙ has) in
+          let old = (is x).0 parts.1 in (
+            λ member. ⊎_elim (λ h. old.0 h) (λ last. ⊎_elim (λ same. let yes = eq-eqb x n same in let no = parts.0 in absurd (cc)) (λ none. absurd none) last)
+                (mem-append x (take i ns) (n ∷ []) member),
+            old.1,
+          ),
+      λ left. removed x ∙ removed_of (x == n) (has_leaf now x)
+          (ne_eqb x n (λ same. left.0 (mem_append_right x (take i ns) (n ∷ []) (inl same))))
+          ((is x).1 (λ h. left.0 (mem_append_left x (take i ns) (n ∷ []) h), left.1)),
+    ))
 
 -- ---- what a part allows
 
@@ -114,114 +93,263 @@ allows_to_begin row D n answer mine untouched is = (
   λ allows. is.1 (λ k out. allows.begins mine (λ x x_in x_done. untouched x x_in x_done) k out),
 )
 
--- ---- the sets of parts
+-- ---- what stands at the places of a span
 
--- equal words are equal sets
-pub same_words : (one two : LeafSet 16) → one.words ≡ two.words → (x : ℕ) → has_leaf one x ≡ has_leaf two x
-unfolding has_leaf
-same_words one two same x = ap (λ (words : List ℕ). has_bit 16 words x) same
+pub in_span : (ns : List ℕ) (s : Span) (x : ℕ) → x ∈ at_span s ns → (k : ℕ) × (s.first ≤ k) × (k < s.end) × (k < length ns) × (get_or ns k 0 ≡ x)
+in_span ns s x member =
+    let m : ℕ = s.end - s.first in
+    let found = place_of_member (at_span s ns) x member in
+    let long : length (at_span s ns) ≡ min m (length (drop s.first ns)) = length-take m (drop s.first ns) in
+    let short : length (drop s.first ns) ≡ length ns - s.first = length-drop s.first ns in
+    let within : found.0 < m = omega (arith, found.1, long) in (
+      s.first + found.0,
+      omega arith,
+      omega (arith, within),
+      omega (arith, found.1, long, short),
+      sym (get_or-take m (drop s.first ns) found.0 0 within ∙ get_or-drop s.first ns found.0 0) ∙ found.2,
+    )
 
-member_at_place : (rows : List (LeafSet 16)) (k : ℕ) (row : LeafSet 16) → slice_get rows k ≡ Some row → row ∈ rows
-member_at_place [] k row at = absurd (cc)
-member_at_place (first ∷ rows) zero row at = inl (sym (some_same first row at))
-member_at_place (first ∷ rows) (suc k) row at = inr (member_at_place rows k row at)
+pub at_place : (ns : List ℕ) (s : Span) (k : ℕ) → s.first ≤ k → k < s.end → k < length ns → get_or ns k 0 ∈ at_span s ns
+at_place ns s k after before within =
+    let m : ℕ = s.end - s.first in
+    let j : ℕ = k - s.first in
+    let long : length (at_span s ns) ≡ min m (length (drop s.first ns)) = length-take m (drop s.first ns) in
+    let short : length (drop s.first ns) ≡ length ns - s.first = length-drop s.first ns in
+    let inside : j < length (at_span s ns) = omega (arith, after, before, within, long, short) in
+    let here : get_or (at_span s ns) j 0 ∈ at_span s ns = member_at (at_span s ns) j (get_or (at_span s ns) j 0) (get_at (at_span s ns) j inside) in
+    let there : s.first + j ≡ k = omega (arith, after) in
+    subst (λ (x : ℕ). x ∈ at_span s ns)
+    (get_or-take m (drop s.first ns) j 0 (omega (arith, after, before)) ∙ get_or-drop s.first ns j 0 ∙ ap (λ (i : ℕ). get_or ns i 0) there) here
 
--- the set is one of the old ones
-pub adds_again : (set last : LeafSet 16) (old : List (LeafSet 16)) (k : ℕ) → Some last ≡ slice_get old k →
-    pointwise eqb last.words set.words ≡ true → AddsSet set old old
-adds_again set last old k at same = record {
-  kept = λ row h. h;
-  sound = λ row h. inl h;
-  complete = inr (
-    last,
-    member_at_place old k last (sym at),
-    same_words last set ((slice_eq-Decides {E = eqb} Decides-eqb last.words set.words true (sym same)).0 refl),
-  );
-}
+-- ---- the parts at their places
 
--- the set is put behind the old ones
-pub adds_behind : (set : LeafSet 16) (old new : List (LeafSet 16)) → new ≡ old ++ set ∷ [] → AddsSet set old new
-adds_behind set old new is = record {
-  kept = λ row h. subst (λ (l : List (LeafSet 16)). row ∈ l) (sym is) (mem_append_left row old (set ∷ []) h);
-  sound = λ row h. ⊎_elim (λ in_old. inl in_old) (λ last. ⊎_elim (λ same. inr same) (λ none. absurd none) last)
-      (mem-append row old (set ∷ []) (subst (λ (l : List (LeafSet 16)). row ∈ l) is h));
-  complete = inr (set, subst (λ (l : List (LeafSet 16)). set ∈ l) (sym is) (mem_append_right set old (set ∷ []) (inl refl)), λ x. refl);
-}
+placed_two : (a b : Process) (ns : List ℕ) (k : ℕ) (p : ℕ × Process) →
+    (StandAt ns k (leaves a) → p ∈ placed_parts a k → (p.1 ∈ isolated_parts a) × StandAt ns p.0 (leaves p.1)) →
+    (StandAt ns (k + length (leaves a)) (leaves b) → p ∈ placed_parts b (k + length (leaves a)) → (p.1 ∈ isolated_parts b) × StandAt ns p.0 (leaves p.1)) →
+    StandAt ns k (leaves a ++ leaves b) → p ∈ (placed_parts a k ++ placed_parts b (k + length (leaves a))) →
+    (p.1 ∈ (isolated_parts a ++ isolated_parts b)) × StandAt ns p.0 (leaves p.1)
+placed_two a b ns k p left right at member = ⊎_elim
+    (λ h. let there = left (first_stand ns k (leaves a) (leaves b) at) h in (mem_append_left p.1 (isolated_parts a) (isolated_parts b) there.0, there.1))
+    (λ h. let there = right (second_stand ns k (leaves a) (leaves b) at) h in (mem_append_right p.1 (isolated_parts a) (isolated_parts b) there.0, there.1))
+    (mem-append p (placed_parts a k) (placed_parts b (k + length (leaves a))) member)
 
-pub adds_nothing : (old : List (LeafSet 16)) → AddsParts [] old old
-adds_nothing old = record { kept = λ row h. h; sound = λ row h. inl h; complete = λ part none. absurd none }
+placed_either : (a b : Process) (k : ℕ) (part : Process) → (part ∈ isolated_parts a → (j : ℕ) × ((j, part) ∈ placed_parts a k)) →
+    (part ∈ isolated_parts b → (j : ℕ) × ((j, part) ∈ placed_parts b (k + length (leaves a)))) → part ∈ (isolated_parts a ++ isolated_parts b) →
+    (j : ℕ) × ((j, part) ∈ (placed_parts a k ++ placed_parts b (k + length (leaves a))))
+placed_either a b k part left right member = ⊎_elim
+    (λ h. let there = left h in (there.0, mem_append_left (there.0, part) (placed_parts a k) (placed_parts b (k + length (leaves a))) there.1))
+    (λ h. let there = right h in (there.0, mem_append_right (there.0, part) (placed_parts a k) (placed_parts b (k + length (leaves a))) there.1))
+    (mem-append part (isolated_parts a) (isolated_parts b) member)
 
--- two steps, in either order of the parts
-pub adds_both : (one two all : List Process) (old mid new : List (LeafSet 16)) → ((p : Process) → p ∈ all → (p ∈ one) ⊎ (p ∈ two)) →
-    ((p : Process) → p ∈ one → p ∈ all) → ((p : Process) → p ∈ two → p ∈ all) → AddsParts one old mid → AddsParts two mid new → AddsParts all old new
-adds_both one two all old mid new out left right first second = record {
-  kept = λ row h. second.kept row (first.kept row h);
-  sound = λ row h. ⊎_elim
-      (λ in_mid. ⊎_elim (λ in_old. inl in_old) (λ found. inr (found.0, left found.0 found.1, found.2)) (first.sound row in_mid))
-      (λ found. inr (found.0, right found.0 found.1, found.2)) (second.sound row h);
-  complete = λ part member. ⊎_elim
-      (λ in_one. ⊎_elim (λ single. inl single) (λ found. inr (found.0, second.kept found.0 found.1, found.2)) (first.complete part in_one))
-      (λ in_two. second.complete part in_two) (out part member);
-}
+pub placed_stand : (g : Process) (ns : List ℕ) (k : ℕ) (p : ℕ × Process) → StandAt ns k (leaves g) → p ∈ placed_parts g k →
+    (p.1 ∈ isolated_parts g) × StandAt ns p.0 (leaves p.1)
+placed_stand Empty ns k p at member = absurd member
+placed_stand (Task n) ns k p at member = absurd member
+placed_stand (Sequence a b) ns k p at member = placed_two a b ns k p (placed_stand a ns k p) (placed_stand b ns (k + length (leaves a)) p) at member
+placed_stand (Parallel a b) ns k p at member = placed_two a b ns k p (placed_stand a ns k p) (placed_stand b ns (k + length (leaves a)) p) at member
+placed_stand (Choice a b) ns k p at member = placed_two a b ns k p (placed_stand a ns k p) (placed_stand b ns (k + length (leaves a)) p) at member
+placed_stand (Isolated a) ns k p at (inl same) =
+    let Says : ℕ × Process → Type 0 = λ q. (q.1 ∈ (a ∷ isolated_parts a)) × StandAt ns q.0 (leaves q.1) in
+    subst Says (sym same) (inl refl, at)
+placed_stand (Isolated a) ns k p at (inr member) = let inner = placed_stand a ns k p at member in (inr inner.0, inner.1)
 
--- the set of one part
-pub adds_part : (part : Process) (set : LeafSet 16) (old new : List (LeafSet 16)) → IsRowOf (λ x. x ∈ leaves part) set → AddsSet set old new →
-    AddsParts (part ∷ []) old new
-adds_part part set old new is adds = record {
-  kept = adds.kept;
-  sound = λ row h. ⊎_elim (λ in_old. inl in_old)
-      (λ same. inr (part, inl refl, subst (λ (r : LeafSet 16). IsRowOf (λ x. x ∈ leaves part) r) (sym same) is)) (adds.sound row h);
-  complete = λ other member. ⊎_elim
-      (λ (same : other ≡ part).
-      let Has : Process → Type 0 = λ p. IsOneAtMost (λ x. x ∈ leaves p) ⊎ ((row : LeafSet 16) × (row ∈ new) × IsRowOf (λ x. x ∈ leaves p) row) in
-      let here : Has part = ⊎_elim (λ single. inl (λ x y hx hy. single x y ((is x).1 hx) ((is y).1 hy))) (λ found. inr (found.0, found.1, λ x. (λ has. (is x).0 (sym (found.2 x) ∙ has), λ member. found.2 x ∙ (is x).1 member))) adds.complete in
-      subst Has (sym same) here)
-      (λ none. absurd none) member;
-}
+pub placed_all : (g : Process) (k : ℕ) (part : Process) → part ∈ isolated_parts g → (j : ℕ) × ((j, part) ∈ placed_parts g k)
+placed_all Empty k part member = absurd member
+placed_all (Task n) k part member = absurd member
+placed_all (Sequence a b) k part member = placed_either a b k part (placed_all a k part) (placed_all b (k + length (leaves a)) part) member
+placed_all (Parallel a b) k part member = placed_either a b k part (placed_all a k part) (placed_all b (k + length (leaves a)) part) member
+placed_all (Choice a b) k part member = placed_either a b k part (placed_all a k part) (placed_all b (k + length (leaves a)) part) member
+placed_all (Isolated a) k part (inl same) = (k, inl (λ i. (k, same i)))
+placed_all (Isolated a) k part (inr member) = let inner = placed_all a k part member in (inner.0, inr inner.1)
 
--- ---- the rows of the sets
+-- what stands at the span of a part
+pub span_is : (ns : List ℕ) (p : ℕ × Process) (s : Span) → IsSpanOf p s → StandAt ns p.0 (leaves p.1) → at_span s ns ≡ leaves p.1
+span_is ns p s is at =
+    let long : s.end - s.first ≡ length (leaves p.1) = omega (arith, is.first, is.end) in
+    ap (λ (m : ℕ). take m (drop s.first ns)) long ∙ ap (λ (f : ℕ). take (length (leaves p.1)) (drop f ns)) is.first
+    ∙ ap (take (length (leaves p.1))) at.1 ∙ take-append_seam (leaves p.1) at.0
 
-pub parts_more : (ns : List ℕ) (before sets : List (LeafSet 16)) (rows : List PartRow) (set : LeafSet 16) (row : PartRow) →
-    ArePartsFor ns before sets rows → IsPartFor ns before set row → ArePartsFor ns before (sets ++ set ∷ []) (rows ++ row ∷ [])
-parts_more ns before [] [] set row are is = (is, tt)
-parts_more ns before [] (first ∷ rows) set row are is = absurd are
-parts_more ns before (s ∷ sets) [] set row are is = absurd are
-parts_more ns before (s ∷ sets) (first ∷ rows) set row are is = (are.0, parts_more ns before sets rows set row are.1 is)
+-- ---- the row of a part
 
--- a set of a row, and a row of a set
-set_of_row : (ns : List ℕ) (before sets : List (LeafSet 16)) (rows : List PartRow) (row : PartRow) → ArePartsFor ns before sets rows → row ∈ rows →
-    (set : LeafSet 16) × (set ∈ sets) × IsPartFor ns before set row
-set_of_row ns before [] [] row are member = absurd member
-set_of_row ns before [] (first ∷ rows) row are member = absurd are
-set_of_row ns before (s ∷ sets) [] row are member = absurd member
-set_of_row ns before (s ∷ sets) (first ∷ rows) row are (inl same) = (s, inl refl, subst (λ (r : PartRow). IsPartFor ns before s r) (sym same) are.0)
-set_of_row ns before (s ∷ sets) (first ∷ rows) row are (inr member) =
-    let found = set_of_row ns before sets rows row are.1 member in (found.0, inr found.1, found.2)
+rows_take : (P : ℕ → ℕ → Type 0) (m : ℕ) (ns : List ℕ) (rows : List (LeafSet 16)) → AreRowsOf P ns rows → AreRowsOf P (take m ns) (take m rows)
+rows_take P zero ns rows are = tt
+rows_take P (suc m) [] [] are = tt
+rows_take P (suc m) [] (row ∷ rows) are = absurd are
+rows_take P (suc m) (n ∷ ns) [] are = absurd are
+rows_take P (suc m) (n ∷ ns) (row ∷ rows) are = (are.0, rows_take P m ns rows are.1)
 
-row_of_set : (ns : List ℕ) (before sets : List (LeafSet 16)) (rows : List PartRow) (set : LeafSet 16) → ArePartsFor ns before sets rows → set ∈ sets →
-    (row : PartRow) × (row ∈ rows) × IsPartFor ns before set row
-row_of_set ns before [] rows set are member = absurd member
-row_of_set ns before (s ∷ sets) [] set are member = absurd are
-row_of_set ns before (s ∷ sets) (first ∷ rows) set are (inl same) = (first, inl refl, subst (λ (r : LeafSet 16). IsPartFor ns before r first) (sym same) are.0)
-row_of_set ns before (s ∷ sets) (first ∷ rows) set are (inr member) =
-    let found = row_of_set ns before sets rows set are.1 member in (found.0, inr found.1, found.2)
+rows_drop : (P : ℕ → ℕ → Type 0) (f : ℕ) (ns : List ℕ) (rows : List (LeafSet 16)) → AreRowsOf P ns rows → AreRowsOf P (drop f ns) (drop f rows)
+rows_drop P zero ns rows are = are
+rows_drop P (suc f) [] [] are = tt
+rows_drop P (suc f) [] (row ∷ rows) are = absurd are
+rows_drop P (suc f) (n ∷ ns) [] are = absurd are
+rows_drop P (suc f) (n ∷ ns) (row ∷ rows) are = rows_drop P f ns rows are.1
 
-part_row_of : (ns : List ℕ) (before : List (LeafSet 16)) (part : Process) (set : LeafSet 16) (row : PartRow) → IsRowOf (λ x. x ∈ leaves part) set →
-    IsPartFor ns before set row → IsPartRow ns before part row
-part_row_of ns before part set row is for = record {
-  inside = subst (λ (r : LeafSet 16). IsRowOf (λ x. x ∈ leaves part) r) (sym for.inside) is;
-  outside = subst (λ (r : LeafSet 16). IsRowOf (IsOutside ns before r) row.outside) (sym for.inside) for.outside;
-}
+ahead_of : (P : ℕ → ℕ → Type 0) (ns : List ℕ) (rows : List (LeafSet 16)) (x : ℕ) → AreRowsOf P ns rows → IsAhead rows x → (y : ℕ) × (y ∈ ns) × P x y
+ahead_of P [] [] x are found = absurd found.1
+ahead_of P [] (row ∷ rows) x are found = absurd are
+ahead_of P (n ∷ ns) [] x are found = absurd are
+ahead_of P (n ∷ ns) (row ∷ rows) x are (r, inl same, has) = (n, inl refl, (are.0 x).0 (subst (λ (r : LeafSet 16). IsTrue (has_leaf r x)) same has))
+ahead_of P (n ∷ ns) (row ∷ rows) x are (r, inr member, has) =
+    let later = ahead_of P ns rows x are.1 (r, member, has) in (later.0, inr later.1, later.2)
 
--- the rows of all parts
-pub parts_of_sets : (q : Process) (ns : List ℕ) (before sets none : List (LeafSet 16)) (rows : List PartRow) → none ≡ [] →
-    AddsParts (isolated_parts q) none sets → ArePartsFor ns before sets rows → ArePartsOf q ns before rows
-parts_of_sets q ns before sets none rows empty adds are = record {
-  sound = λ row member.
-      let found = set_of_row ns before sets rows row are member in
-      ⊎_elim (λ old. absurd (subst (λ (l : List (LeafSet 16)). found.0 ∈ l) empty old))
-      (λ part. (part.0, part.1, part_row_of ns before part.0 found.0 row part.2 found.2)) (adds.sound found.0 found.1);
-  complete = λ part member. ⊎_elim (λ single. inl single)
-      (λ set. let row = row_of_set ns before sets rows set.0 are set.1 in
-      inr (row.0, row.1, part_row_of ns before part set.0 row.0 set.2 row.2)) (adds.complete part member);
-}
+is_ahead : (P : ℕ → ℕ → Type 0) (ns : List ℕ) (rows : List (LeafSet 16)) (x y : ℕ) → AreRowsOf P ns rows → y ∈ ns → P x y → IsAhead rows x
+is_ahead P [] rows x y are member holds = absurd member
+is_ahead P (n ∷ ns) [] x y are member holds = absurd are
+is_ahead P (n ∷ ns) (row ∷ rows) x y are (inl same) holds = (row, inl refl, (are.0 x).1 (subst (λ (m : ℕ). P x m) same holds))
+is_ahead P (n ∷ ns) (row ∷ rows) x y are (inr member) holds =
+    let later = is_ahead P ns rows x y are.1 member holds in (later.0, inr later.1, later.2)
+
+pub part_row_of : (q : Process) (pairs : List (ℕ × ℕ)) (ns : List ℕ) (before : List (LeafSet 16)) (part : Process) (s : Span) (row : PartRow) →
+    AreRowsOf (DirectlyBefore q pairs) ns before → at_span s ns ≡ leaves part → IsPartFor ns before s row → IsPartRow q pairs part row
+part_row_of q pairs ns before part s row are is for =
+    let P : ℕ → ℕ → Type 0 = DirectlyBefore q pairs in
+    let here : AreRowsOf P (at_span s ns) (at_span s before) = rows_take P (s.end - s.first) (drop s.first ns) (drop s.first before) (rows_drop P s.first ns before are) in record {
+      inside = subst (λ (l : List ℕ). IsRowOf (λ x. x ∈ l) row.inside) is for.inside;
+      outside = subst (λ (l : List ℕ). IsRowOf (λ x. ¬ (x ∈ l) × ((y : ℕ) × (y ∈ l) × P x y)) row.outside) is
+          (row_same (IsOutside (at_span s ns) (at_span s before)) (λ x. ¬ (x ∈ at_span s ns) × ((y : ℕ) × (y ∈ at_span s ns) × P x y)) row.outside
+          (λ x out. (out.0, ahead_of P (at_span s ns) (at_span s before) x here out.1))
+          (λ x out. (out.0, is_ahead P (at_span s ns) (at_span s before) x out.1.0 here out.1.1 out.1.2)) for.outside);
+    }
+
+-- ---- one row a span
+
+pub parts_more : (ns : List ℕ) (before : List (LeafSet 16)) (spans : List Span) (rows : List PartRow) (s : Span) (row : PartRow) →
+    ArePartsFor ns before spans rows → IsPartFor ns before s row → ArePartsFor ns before (spans ++ s ∷ []) (rows ++ row ∷ [])
+parts_more ns before [] [] s row are is = (is, tt)
+parts_more ns before [] (first ∷ rows) s row are is = absurd are
+parts_more ns before (t ∷ spans) [] s row are is = absurd are
+parts_more ns before (t ∷ spans) (first ∷ rows) s row are is = (are.0, parts_more ns before spans rows s row are.1 is)
+
+span_of_row : (ns : List ℕ) (before : List (LeafSet 16)) (spans : List Span) (rows : List PartRow) (row : PartRow) → ArePartsFor ns before spans rows → row ∈ rows →
+    (s : Span) × (s ∈ spans) × IsPartFor ns before s row
+span_of_row ns before [] [] row are member = absurd member
+span_of_row ns before [] (first ∷ rows) row are member = absurd are
+span_of_row ns before (s ∷ spans) [] row are member = absurd member
+span_of_row ns before (s ∷ spans) (first ∷ rows) row are (inl same) = (s, inl refl, subst (λ (r : PartRow). IsPartFor ns before s r) (sym same) are.0)
+span_of_row ns before (s ∷ spans) (first ∷ rows) row are (inr member) =
+    let found = span_of_row ns before spans rows row are.1 member in (found.0, inr found.1, found.2)
+
+row_of_span : (ns : List ℕ) (before : List (LeafSet 16)) (spans : List Span) (rows : List PartRow) (s : Span) → ArePartsFor ns before spans rows → s ∈ spans →
+    (row : PartRow) × (row ∈ rows) × IsPartFor ns before s row
+row_of_span ns before [] rows s are member = absurd member
+row_of_span ns before (t ∷ spans) [] s are member = absurd are
+row_of_span ns before (t ∷ spans) (first ∷ rows) s are (inl same) = (first, inl refl, subst (λ (r : Span). IsPartFor ns before r first) (sym same) are.0)
+row_of_span ns before (t ∷ spans) (first ∷ rows) s are (inr member) =
+    let found = row_of_span ns before spans rows s are.1 member in (found.0, inr found.1, found.2)
+
+-- ---- each set of leaves once
+
+-- the span has two places within the list
+abbrev pub IsLong : List ℕ → Span → Type 0
+IsLong ns s = (s.first + 2 ≤ s.end) × (s.end ≤ length ns)
+
+has_two : (ns : List ℕ) (before : List (LeafSet 16)) (s : Span) (row : PartRow) → IsStrictlyIncreasing ns → IsLong ns s → IsPartFor ns before s row → HasTwo row
+has_two ns before s row rising long for =
+    let x : ℕ = get_or ns s.first 0 in
+    let y : ℕ = get_or ns (s.first + 1) 0 in
+    let less : x < y = rising_pairs ns rising s.first (s.first + 1) (omega arith) (omega (arith, long.0, long.1)) in (
+      x,
+      y,
+      λ same. omega (arith, less, same),
+      (for.inside x).1 (at_place ns s s.first (omega arith) (omega (arith, long.0)) (omega (arith, long.0, long.1))),
+      (for.inside y).1 (at_place ns s (s.first + 1) (omega arith) (omega (arith, long.0)) (omega (arith, long.0, long.1))),
+    )
+
+-- a place of one span and not of the other
+differ_at : (ns : List ℕ) (before : List (LeafSet 16)) (s t : Span) (one two : PartRow) (k : ℕ) → IsStrictlyIncreasing ns → t.first ≤ k → k < t.end → k < length ns →
+    ((j : ℕ) → s.first ≤ j → j < s.end → j ≢ k) → IsPartFor ns before s one → IsPartFor ns before t two → ¬ HaveSameLeaves one two
+differ_at ns before s t one two k rising after below within other for_one for_two same =
+    let y : ℕ = get_or ns k 0 in
+    let there : IsTrue (has_leaf two.inside y) = (for_two.inside y).1 (at_place ns t k after below within) in
+    let found = in_span ns s y ((for_one.inside y).0 (same y ∙ there)) in
+    let j : ℕ = found.0 in
+    ⊎_elim (λ less. omega (arith, rising_pairs ns rising j k less within, found.4))
+    (λ more. ⊎_elim (λ equal. other j found.1 found.2 equal)
+    (λ differs. let above : k < j = omega (arith, more, differs) in omega (arith, rising_pairs ns rising k j above found.3, found.4)) (cases_eq j k))
+    (cases_lt j k)
+
+are_apart : (ns : List ℕ) (before : List (LeafSet 16)) (s t : Span) (one two : PartRow) → IsStrictlyIncreasing ns → IsLong ns t → IsEarlier s t →
+    IsPartFor ns before s one → IsPartFor ns before t two → ¬ HaveSameLeaves one two
+are_apart ns before s t one two rising long earlier for_one for_two same = ⊎_elim
+    (λ less. differ_at ns before s t one two (t.end - 1) rising (omega (arith, long.0)) (omega (arith, long.0)) (omega (arith, long.0, long.1))
+    (λ j after below equal. omega (arith, less, below, equal, long.0)) for_one for_two same)
+    (λ equal_end. let ends : s.end ≡ t.end = omega (arith, equal_end, earlier.end) in
+    differ_at ns before s t one two t.first rising (omega arith) (omega (arith, long.0)) (omega (arith, long.0, long.1))
+    (λ j after below equal. omega (arith, earlier.first ends, after, equal)) for_one for_two same)
+    (cases_lt s.end t.end)
+
+all_apart : (ns : List ℕ) (before : List (LeafSet 16)) (spans : List Span) (rows : List PartRow) → IsStrictlyIncreasing ns → Each (IsLong ns) spans → AreRising spans →
+    ArePartsFor ns before spans rows → AreApart rows
+all_apart ns before [] [] rising long order are = tt
+all_apart ns before [] (row ∷ rows) rising long order are = absurd are
+all_apart ns before (s ∷ spans) [] rising long order are = absurd are
+all_apart ns before (s ∷ spans) (row ∷ rows) rising long order are = (
+  each_from_members (λ other. ¬ HaveSameLeaves row other) rows (λ other member.
+      let found = span_of_row ns before spans rows other are.1 member in
+      are_apart ns before s found.0 row other rising (each_member (IsLong ns) spans long.1 found.0 found.1) (each_member (IsEarlier s) spans order.0 found.0 found.1) are.0 found.2),
+  all_apart ns before spans rows rising long.1 order.1 are.1,
+)
+
+-- ---- the rows of all parts
+
+one_at_most : (xs : List ℕ) → length xs < 2 → IsOneAtMost (λ x. x ∈ xs)
+one_at_most [] short x y hx hy = absurd hx
+one_at_most (z ∷ []) short x y hx hy = ⊎_elim (λ first. ⊎_elim (λ second. first ∙ sym second) (λ none. absurd none) hy) (λ none. absurd none) hx
+one_at_most (z ∷ (w ∷ xs)) short x y hx hy = absurd (omega (arith, short))
+
+-- the spans of a whole goal have two places in its list of leaves
+pub spans_long : (q : Process) (ns : List ℕ) (none spans : List Span) → none ≡ [] → ns ≡ leaves q → AddsSpans q 0 none spans → Each (IsLong ns) spans
+spans_long q ns none spans empty listed adds = each_from_members (IsLong ns) spans (λ s member.
+    let old : ¬ (s ∈ none) = λ h. subst (λ (l : List Span). s ∈ l) empty h in (
+      ⊎_elim (λ h. absurd (old h)) (λ found. found.3) (adds.sound s member),
+      ⊎_elim (λ h. absurd (old h)) (λ inside. omega (arith, inside.1, ap length listed)) (adds.within s member),
+    ))
+
+-- a list of rising small numbers is short
+rises_from : (ns : List ℕ) → IsStrictlyIncreasing ns → (k : ℕ) → k < length ns → k ≤ get_or ns k 0
+rises_from ns rising zero within = omega arith
+rises_from ns rising (suc k) within =
+    omega (arith, rises_from ns rising k (omega (arith, within)), rising_pairs ns rising k (suc k) (omega arith) within)
+
+pub rising_short : (ns : List ℕ) → IsStrictlyIncreasing ns → Each (λ n. n < 1024) ns → length ns ≤ 1024
+rising_short ns rising small = ⊎_elim (λ fits. omega (arith, fits)) (λ long.
+    let within : 1024 < length ns = omega (arith, long) in
+    let here = each_member (λ n. n < 1024) ns small (get_or ns 1024 0) (member_at ns 1024 (get_or ns 1024 0) (get_at ns 1024 within)) in
+    absurd (omega (arith, here, rises_from ns rising 1024 within)))
+    (cases_lt (length ns) 1025)
+
+-- a span at a place of the list
+long_at : (ns : List ℕ) (spans : List Span) (k : ℕ) (d : Span) → Each (IsLong ns) spans → k < length spans → IsLong ns (get_or spans k d)
+long_at ns [] k d all within = absurd (omega (arith, within))
+long_at ns (s ∷ spans) zero d all within = all.0
+long_at ns (s ∷ spans) (suc k) d all within = long_at ns spans k d all.1 (omega (arith, within))
+
+pub spans_fit : (ns : List ℕ) (spans : List Span) → Each (IsLong ns) spans → (k : ℕ) (d : Span) → k < length spans →
+    ((get_or spans k d).first ≤ (get_or spans k d).end) × ((get_or spans k d).end ≤ length ns)
+spans_fit ns spans all k d within = let long = long_at ns spans k d all within in (omega (arith, long.0), long.1)
+
+pub parts_of_spans : (q : Process) (pairs : List (ℕ × ℕ)) (ns : List ℕ) (before : List (LeafSet 16)) (none spans : List Span) (rows : List PartRow) → none ≡ [] → ns ≡ leaves q →
+    IsStrictlyIncreasing ns → AreRowsOf (DirectlyBefore q pairs) ns before → AddsSpans q 0 none spans → ArePartsFor ns before spans rows → ArePartsOf q pairs rows
+parts_of_spans q pairs ns before none spans rows empty listed rising rows_are adds are =
+    let stand : StandAt ns 0 (leaves q) = ([], listed ∙ sym (append-nil (leaves q))) in
+    let long = spans_long q ns none spans empty listed adds in
+    let old : (s : Span) → ¬ (s ∈ none) = λ s h. subst (λ (l : List Span). s ∈ l) empty h in record {
+      sound = λ row member.
+          let found = span_of_row ns before spans rows row are member in
+          ⊎_elim (λ h. absurd (old found.0 h))
+          (λ placed. let there = placed_stand q ns 0 placed.0 stand placed.1 in
+          (placed.0.1, there.0, part_row_of q pairs ns before placed.0.1 found.0 row rows_are (span_is ns placed.0 found.0 placed.2 there.1) found.2))
+          (adds.sound found.0 found.1);
+      complete = λ part member.
+          let placed = placed_all q 0 part member in
+          ⊎_elim (λ short. inl (one_at_most (leaves part) short))
+          (λ span. let row = row_of_span ns before spans rows span.0 are span.1 in
+          let there = placed_stand q ns 0 (placed.0, part) stand placed.1 in
+          inr (row.0, row.1, part_row_of q pairs ns before part span.0 row.0 rows_are (span_is ns (placed.0, part) span.0 span.2 there.1) row.2))
+          (adds.complete (placed.0, part) placed.1);
+      two = each_from_members HasTwo rows (λ row member.
+          let found = span_of_row ns before spans rows row are member in
+          has_two ns before found.0 row rising (each_member (IsLong ns) spans long found.0 found.1) found.2);
+      apart = all_apart ns before spans rows rising long (adds.rising (subst AreRising (sym empty) tt) (λ s h. absurd (old s h))) are;
+    }

@@ -15,6 +15,7 @@ use Rattle.flow_plan.specs.declared.part_row.PartRow.{PartRow}
 use Rattle.flow_plan.specs.Planned.{Planned, pairs_of}
 use Rattle.flow_plan.specs.Rows.{AreRowsOf, has_at}
 use Rattle.flow_plan.specs.Parts.{IsPartRow, ArePartsOf, PartAllows}
+use Rattle.flow_plan.specs.Orders.{IsFree}
 use Rattle.flow_plan.specs.Kept.{IsKept}
 use Rattle.flow_plan.proofs.PlaceLemmas.{place_of_member, member_at, get_at, distinct_of_rising}
 use Rattle.flow_plan.proofs.RowLemmas.{rows_at, rows_get, rows_length}
@@ -30,16 +31,15 @@ new_is_ordered p choice_free listed rising of_leaves different = record {
   different = different;
 }
 
-pub new_is_kept : (p : Planned) (tokens : List OrderToken) (told before : List (LeafSet 16)) (parts : List PartRow) →
-    tokens ≡ p.tokens → told ≡ before → IsOrdered p.process (pairs_of p.tokens) → p.leaves ≡ leaves p.process → IsStrictlyIncreasing p.leaves →
-    Each (λ n. n < 1024) p.leaves → AreRowsOf (DirectlyBefore p.process (pairs_of tokens)) p.leaves before → ArePartsOf p.process p.leaves told parts → IsKept p before parts
-new_is_kept p tokens told before parts same_tokens same_rows ordered listed rising small rows parts_are = record {
+pub new_is_kept : (p : Planned) (before : List (LeafSet 16)) (parts : List PartRow) → IsOrdered p.process (pairs_of p.tokens) → p.leaves ≡ leaves p.process → IsStrictlyIncreasing p.leaves →
+    Each (λ n. n < 1024) p.leaves → AreRowsOf (DirectlyBefore p.process (pairs_of p.tokens)) p.leaves before → ArePartsOf p.process (pairs_of p.tokens) parts → IsKept p before parts
+new_is_kept p before parts ordered listed rising small rows parts_are = record {
   ordered = ordered;
   listed = listed;
   rising = rising;
   small = small;
-  rows = subst (λ (ts : List OrderToken). AreRowsOf (DirectlyBefore p.process (pairs_of ts)) p.leaves before) same_tokens rows;
-  parts_are = subst (λ (rs : List (LeafSet 16)). ArePartsOf p.process p.leaves rs parts) same_rows parts_are;
+  rows = rows;
+  parts_are = parts_are;
 }
 
 -- ---- what is directly before a leaf
@@ -81,60 +81,43 @@ row_within p before parts kept = rows_length (DirectlyBefore p.process (pairs_of
 abbrev pub Ready : Planned → (ℕ → Type 0) → ℕ → Type 0
 Ready p Done n = IsReady p.process (pairs_of p.tokens) Done n
 
--- a leaf of a part's row is directly before a leaf of the part
-outside_is : (p : Planned) (before : List (LeafSet 16)) (parts : List PartRow) (part : Process) (row : PartRow) (x : ℕ) → IsKept p before parts →
-    IsPartRow p.leaves before part row → IsTrue (has_leaf row.outside x) → ¬ (x ∈ leaves part) × ((y : ℕ) × (y ∈ leaves part) × Before p x y)
-outside_is p before parts part row x kept is out =
-    let told = (is.outside x).0 out in
-    let ahead = told.0 in
-    let y : ℕ = get_or p.leaves ahead.0 0 in
-    let direct : Before p x y = (rows_at (DirectlyBefore p.process (pairs_of p.tokens)) p.leaves before ahead.0 y (get_at p.leaves ahead.0 ahead.1) kept.rows x).0 ahead.3 in (
-      λ inside. told.1 (in_plan p before parts kept x (direct_first p.process (pairs_of p.tokens) kept.ordered x y direct), (is.inside x).1 inside),
-      (y, (is.inside y).0 ahead.2, direct),
-    )
+-- a leaf is free where its row is done
+pub free_by_row : (p : Planned) (before : List (LeafSet 16)) (parts : List PartRow) (D : ℕ → Type 0) (k n : ℕ) → IsKept p before parts →
+    slice_get p.leaves k ≡ Some n → ¬ D n → ((x : ℕ) → IsTrue (has_at before k x) → D x) → IsFree p D n
+free_by_row p before parts D k n kept at fresh row_done = record {
+  leaf = subst (λ (l : List ℕ). n ∈ l) kept.listed (member_at p.leaves k n at);
+  not_done = fresh;
+  before = λ x direct. row_done x ((rows_at (DirectlyBefore p.process (pairs_of p.tokens)) p.leaves before k n at kept.rows x).1 direct);
+}
 
-is_outside : (p : Planned) (before : List (LeafSet 16)) (parts : List PartRow) (part : Process) (row : PartRow) (x y : ℕ) → IsKept p before parts →
-    IsPartRow p.leaves before part row → ¬ (x ∈ leaves part) → y ∈ leaves part → Before p x y → IsTrue (has_leaf row.outside x)
-is_outside p before parts part row x y kept is out member direct =
-    let place = place_of_member p.leaves y (in_plan p before parts kept y (direct_second p.process (pairs_of p.tokens) kept.ordered x y direct)) in
-    let Inside : ℕ → Type 0 = λ n. IsTrue (has_leaf row.inside n) in
-    (is.outside x).1 (
-      (
-        place.0,
-        place.1,
-        subst Inside (sym place.2) ((is.inside y).1 member),
-        (rows_at (DirectlyBefore p.process (pairs_of p.tokens)) p.leaves before place.0 y (get_at p.leaves place.0 place.1 ∙ ap (λ (n : ℕ). Some n) place.2) kept.rows x).1 direct,
-      ),
-      λ both. out ((is.inside x).0 both.1),
-    )
+pub row_of_free : (p : Planned) (before : List (LeafSet 16)) (parts : List PartRow) (D : ℕ → Type 0) (k n : ℕ) → IsKept p before parts →
+    slice_get p.leaves k ≡ Some n → IsFree p D n → (x : ℕ) → IsTrue (has_at before k x) → D x
+row_of_free p before parts D k n kept at free x has =
+    free.before x ((rows_at (DirectlyBefore p.process (pairs_of p.tokens)) p.leaves before k n at kept.rows x).0 has)
 
--- what the rows ask is what readiness asks
-pub ready_by_rows : (p : Planned) (before : List (LeafSet 16)) (parts : List PartRow) (D : ℕ → Type 0) (k n : ℕ) → IsKept p before parts →
-    slice_get p.leaves k ≡ Some n → ¬ D n → ((x : ℕ) → IsTrue (has_at before k x) → D x) → Each (λ row. PartAllows row D n) parts → Ready p D n
-ready_by_rows p before parts D k n kept at fresh row_done allowed =
-    let here : (x : ℕ) → Before p x n → D x = λ x direct. row_done x ((rows_at (DirectlyBefore p.process (pairs_of p.tokens)) p.leaves before k n at kept.rows x).1 direct) in
-    record {
-      leaf = subst (λ (l : List ℕ). n ∈ l) kept.listed (member_at p.leaves k n at);
-      not_done = fresh;
-      before = here;
-      outside = λ part member other x y x_in x_done y_in. ⊎_elim
-          (λ single. subst D (single x y x_in y_in) x_done)
-          (λ found. let row = found.0 in
-          let allows = each_member (λ row. PartAllows row D n) parts allowed row found.1 in
-          allows.passes (λ inside. other ((found.2.inside n).0 inside)) x y ((found.2.inside x).1 x_in) x_done ((found.2.inside y).1 y_in))
-          (kept.parts_are.complete part member);
-      begins = λ part member mine none x y x_out y_in direct. ⊎_elim
-          (λ single. here x (subst (λ (m : ℕ). Before p x m) (single y n y_in mine) direct))
-          (λ found. let row = found.0 in
-          let allows = each_member (λ row. PartAllows row D n) parts allowed row found.1 in
-          allows.begins ((found.2.inside n).1 mine) (λ z inside. none z ((found.2.inside z).0 inside)) x (is_outside p before parts part row x y kept found.2 x_out y_in direct))
-          (kept.parts_are.complete part member);
-    }
+-- a free leaf that each part lets come next is ready
+pub ready_of_free : (p : Planned) (before : List (LeafSet 16)) (parts : List PartRow) (D : ℕ → Type 0) (n : ℕ) → IsKept p before parts →
+    IsFree p D n → Each (λ row. PartAllows row D n) parts → Ready p D n
+ready_of_free p before parts D n kept free allowed = record {
+  leaf = free.leaf;
+  not_done = free.not_done;
+  before = free.before;
+  outside = λ part member other x y x_in x_done y_in. ⊎_elim
+      (λ single. subst D (single x y x_in y_in) x_done)
+      (λ found. let row = found.0 in
+      let allows = each_member (λ row. PartAllows row D n) parts allowed row found.1 in
+      allows.passes (λ inside. other ((found.2.inside n).0 inside)) x y ((found.2.inside x).1 x_in) x_done ((found.2.inside y).1 y_in))
+      (kept.parts_are.complete part member);
+  begins = λ part member mine none x y x_out y_in direct. ⊎_elim
+      (λ single. free.before x (subst (λ (m : ℕ). Before p x m) (single y n y_in mine) direct))
+      (λ found. let row = found.0 in
+      let allows = each_member (λ row. PartAllows row D n) parts allowed row found.1 in
+      allows.begins ((found.2.inside n).1 mine) (λ z inside. none z ((found.2.inside z).0 inside)) x ((found.2.outside x).1 (x_out, (y, y_in, direct))))
+      (kept.parts_are.complete part member);
+}
 
-pub row_of_ready : (p : Planned) (before : List (LeafSet 16)) (parts : List PartRow) (D : ℕ → Type 0) (k n : ℕ) → IsKept p before parts →
-    slice_get p.leaves k ≡ Some n → Ready p D n → (x : ℕ) → IsTrue (has_at before k x) → D x
-row_of_ready p before parts D k n kept at ready x has =
-    ready.before x ((rows_at (DirectlyBefore p.process (pairs_of p.tokens)) p.leaves before k n at kept.rows x).0 has)
+pub free_of_ready : (p : Planned) (D : ℕ → Type 0) (n : ℕ) → Ready p D n → IsFree p D n
+free_of_ready p D n ready = record { leaf = ready.leaf; not_done = ready.not_done; before = ready.before }
 
 pub parts_of_ready : (p : Planned) (before : List (LeafSet 16)) (parts : List PartRow) (D : ℕ → Type 0) (n : ℕ) → IsKept p before parts →
     Ready p D n → Each (λ row. PartAllows row D n) parts
@@ -144,6 +127,6 @@ parts_of_ready p before parts D n kept ready = each_from_members (λ row. PartAl
     record {
       passes = λ other x y x_in x_done y_in. ready.outside part found.1 (λ mine. other ((found.2.inside n).1 mine)) x y ((found.2.inside x).0 x_in) x_done ((found.2.inside y).0 y_in);
       begins = λ mine none x out.
-          let told = outside_is p before parts part row x kept found.2 out in
+          let told = (found.2.outside x).0 out in
           ready.begins part found.1 ((found.2.inside n).0 mine) (λ z z_in. none z ((found.2.inside z).1 z_in)) x told.1.0 told.0 told.1.1 told.1.2;
     })

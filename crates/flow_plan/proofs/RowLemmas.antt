@@ -12,7 +12,7 @@ use Rattle.flow_laws.proofs.ListLemmas2.{mem_append_left, mem_append_right, mem-
 use Rattle.flow_laws.proofs.ReadyRemains.{sequence_second}
 use Rattle.flow_plan.specs.declared.token.OrderToken.{OrderToken}
 use Rattle.flow_plan.specs.Planned.{pairs_of}
-use Rattle.flow_plan.specs.Rows.{IsRowOf, AreRowsOf, has_at, FitsRows, AddsRows}
+use Rattle.flow_plan.specs.Rows.{IsRowOf, AreRowsOf, has_at, FitsRows, AddsRows, GathersLeaves}
 use Rattle.flow_plan.proofs.PlaceLemmas.{member_at, distinct_of_rising}
 
 pub either_true : (a b : Bool) → IsTrue (a || b) → IsTrue a ⊎ IsTrue b
@@ -31,25 +31,6 @@ second_true false b h = h
 
 pub row_same : (P Q : ℕ → Type 0) (row : LeafSet 16) → ((x : ℕ) → P x → Q x) → ((x : ℕ) → Q x → P x) → IsRowOf P row → IsRowOf Q row
 row_same P Q row to from is x = (λ has. to x ((is x).0 has), λ holds. (is x).1 (from x holds))
-
--- the union of two rows
-pub row_of_union : (P Q : ℕ → Type 0) (one two both : LeafSet 16) → ((x : ℕ) → has_leaf both x ≡ (has_leaf one x || has_leaf two x)) →
-    IsRowOf P one → IsRowOf Q two → IsRowOf (λ x. P x ⊎ Q x) both
-row_of_union P Q one two both union is_one is_two x = (
-  λ has. ⊎_elim (λ h. inl ((is_one x).0 h)) (λ h. inr ((is_two x).0 h))
-      (either_true (has_leaf one x) (has_leaf two x) (sym (union x) ∙ has)),
-  λ either. union x ∙ ⊎_elim (λ p. first_true (has_leaf one x) (has_leaf two x) ((is_one x).1 p))
-      (λ q. second_true (has_leaf one x) (has_leaf two x) ((is_two x).1 q)) either,
-)
-
--- the leaves of two goals, where the second row was added to the first
-pub row_of_both : (a b : List ℕ) (one two both : LeafSet 16) → ((x : ℕ) → has_leaf both x ≡ (has_leaf two x || has_leaf one x)) →
-    IsRowOf (λ x. x ∈ a) one → IsRowOf (λ x. x ∈ b) two → IsRowOf (λ x. x ∈ (a ++ b)) both
-row_of_both a b one two both union is_one is_two =
-    row_same (λ x. (x ∈ b) ⊎ (x ∈ a)) (λ x. x ∈ (a ++ b)) both
-    (λ x either. ⊎_elim (λ h. mem_append_right x a b h) (λ h. mem_append_left x a b h) either)
-    (λ x member. ⊎_elim (λ h. inr h) (λ h. inl h) (mem-append x a b member))
-    (row_of_union (λ x. x ∈ b) (λ x. x ∈ a) two one both union is_two is_one)
 
 -- ---- rows
 
@@ -136,14 +117,12 @@ joined_rows P ns ms old mid new one two first second are and = (
 )
 
 -- in a sequence the leaves of the first part are ahead of the second
-pub adds_sequence : (a b : Process) (ahead first more : LeafSet 16) (old mid new : List (LeafSet 16)) → AreDistinct (leaves a ++ leaves b) →
-    IsRowOf (λ x. x ∈ leaves a) first → ((x : ℕ) → has_leaf more x ≡ (has_leaf ahead x || has_leaf first x)) →
+pub adds_sequence : (a b : Process) (ahead more : LeafSet 16) (old mid new : List (LeafSet 16)) → AreDistinct (leaves a ++ leaves b) →
+    IsRowOf (λ x. IsTrue (has_leaf ahead x) ⊎ (x ∈ leaves a)) more →
     AddsRows a ahead old mid → AddsRows b more mid new → AddsRows (Sequence a b) ahead old new
-adds_sequence a b ahead first more old mid new distinct is_first union one two =
+adds_sequence a b ahead more old mid new distinct more_is one two =
     let apart = distinct_parts (leaves a) (leaves b) distinct in
     let P : ℕ → ℕ → Type 0 = λ x n. IsTrue (has_leaf ahead x) ⊎ InSequence (Sequence a b) x n in
-    let more_is : IsRowOf (λ x. IsTrue (has_leaf ahead x) ⊎ (x ∈ leaves a)) more =
-    row_of_union (λ x. IsTrue (has_leaf ahead x)) (λ x. x ∈ leaves a) ahead first more union (λ x. (λ h. h, λ h. h)) is_first in
     let all = joined_rows P (leaves a) (leaves b) old mid new one.added two.added one.is two.is
     (rows_same (λ x n. IsTrue (has_leaf ahead x) ⊎ InSequence a x n) P (leaves a) one.added
     (λ n member x either. ⊎_elim (λ h. inl h) (λ h. inr (inl (inr h))) either)
@@ -181,6 +160,44 @@ adds_beside g a b ahead old mid new listed distinct parts one two =
     (λ before. ⊎_elim (λ h. absurd (apart.2 n (sequence_second a x n h) member)) (λ h. inr h) ((parts x n).0 before)) either)
     two.rows) in
     record { added = one.added ++ two.added; is = all.0; rows = subst (λ (ns : List ℕ). AreRowsOf P ns (one.added ++ two.added)) (sym listed) all.1 }
+
+-- ---- what is gathered on the way
+
+-- what is ahead of the second part of a sequence
+pub ahead_of_second : (a : Process) (ahead empty more : LeafSet 16) → ((x : ℕ) → has_leaf empty x ≡ false) → GathersLeaves a ahead empty more →
+    IsRowOf (λ x. IsTrue (has_leaf ahead x) ⊎ (x ∈ leaves a)) more
+ahead_of_second a ahead empty more none gathers =
+    row_same (λ x. (IsTrue (has_leaf empty x) ⊎ IsTrue (has_leaf ahead x)) ⊎ (x ∈ leaves a)) (λ x. IsTrue (has_leaf ahead x) ⊎ (x ∈ leaves a)) more
+    (λ x either. ⊎_elim (λ before. ⊎_elim (λ h. let no = none x in absurd (cc)) (λ h. inl h) before) (λ h. inr h) either)
+    (λ x either. ⊎_elim (λ h. inl (inr h)) (λ h. inr h) either) gathers
+
+pub gathers_sequence : (a b : Process) (ahead more old new : LeafSet 16) → IsRowOf (λ x. IsTrue (has_leaf ahead x) ⊎ (x ∈ leaves a)) more →
+    GathersLeaves b more old new → GathersLeaves (Sequence a b) ahead old new
+gathers_sequence a b ahead more old new more_is gathers =
+    row_same (λ x. (IsTrue (has_leaf old x) ⊎ IsTrue (has_leaf more x)) ⊎ (x ∈ leaves b))
+    (λ x. (IsTrue (has_leaf old x) ⊎ IsTrue (has_leaf ahead x)) ⊎ (x ∈ (leaves a ++ leaves b))) new
+    (λ x either. ⊎_elim
+    (λ before. ⊎_elim (λ h. inl (inl h))
+    (λ h. ⊎_elim (λ there. inl (inr there)) (λ there. inr (mem_append_left x (leaves a) (leaves b) there)) ((more_is x).0 h)) before)
+    (λ h. inr (mem_append_right x (leaves a) (leaves b) h)) either)
+    (λ x either. ⊎_elim
+    (λ before. ⊎_elim (λ h. inl (inl h)) (λ h. inl (inr ((more_is x).1 (inl h)))) before)
+    (λ member. ⊎_elim (λ h. inl (inr ((more_is x).1 (inr h)))) (λ h. inr h) (mem-append x (leaves a) (leaves b) member)) either) gathers
+
+pub gathers_beside : (g a b : Process) (ahead old mid new : LeafSet 16) → leaves g ≡ leaves a ++ leaves b →
+    GathersLeaves a ahead old mid → GathersLeaves b ahead mid new → GathersLeaves g ahead old new
+gathers_beside g a b ahead old mid new listed first second =
+    subst (λ (ns : List ℕ). IsRowOf (λ x. (IsTrue (has_leaf old x) ⊎ IsTrue (has_leaf ahead x)) ⊎ (x ∈ ns)) new) (sym listed)
+    (row_same (λ x. (IsTrue (has_leaf mid x) ⊎ IsTrue (has_leaf ahead x)) ⊎ (x ∈ leaves b))
+    (λ x. (IsTrue (has_leaf old x) ⊎ IsTrue (has_leaf ahead x)) ⊎ (x ∈ (leaves a ++ leaves b))) new
+    (λ x either. ⊎_elim
+    (λ before. ⊎_elim
+    (λ h. ⊎_elim (λ there. inl there) (λ there. inr (mem_append_left x (leaves a) (leaves b) there)) ((first x).0 h))
+    (λ h. inl (inr h)) before)
+    (λ h. inr (mem_append_right x (leaves a) (leaves b) h)) either)
+    (λ x either. ⊎_elim
+    (λ before. inl (inl ((first x).1 (inl before))))
+    (λ member. ⊎_elim (λ h. inl (inl ((first x).1 (inr h)))) (λ h. inr h) (mem-append x (leaves a) (leaves b) member)) either) second)
 
 -- ---- the rows of a plan
 

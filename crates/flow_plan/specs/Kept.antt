@@ -17,4 +17,4 @@ pub record IsKept (p : Planned) (before : List (LeafSet 16)) (parts : List PartR
   pub rising : IsStrictlyIncreasing p.leaves
   pub small : Each (λ n. n < 1024) p.leaves
   pub rows : AreRowsOf (DirectlyBefore p.process (pairs_of p.tokens)) p.leaves before
-  pub parts_are : ArePartsOf p.process p.leaves before parts
+  pub parts_are : ArePartsOf p.process (pairs_of p.tokens) parts

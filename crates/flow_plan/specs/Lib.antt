@@ -3,6 +3,8 @@ pub mod Kept
 pub mod Orders
 pub mod Parts
 pub mod Planned
+pub mod Postfix
 pub mod Progress
 pub mod Rows
 pub mod Sampled
+pub mod Spans

@@ -1,8 +1,8 @@
 -- What may follow the done leaves of a plan.
 use Rattle.std.specs.Prelude.{ℕ, ◌<◌, List, [], ◌∷◌}
-use Rattle.flow_model.specs.Lists.{Each, IsOrderOf}
+use Rattle.flow_model.specs.Lists.{◌∈◌, Each, IsOrderOf}
 use Rattle.flow_model.specs.Process.{leaves}
-use Rattle.flow_model.specs.Ready.{IsReady, IsReadyRunAfter, DoneOr}
+use Rattle.flow_model.specs.Ready.{DirectlyBefore, IsReady, IsReadyRunAfter, DoneOr}
 use Rattle.flow_plan.specs.Planned.{Planned, pairs_of}
 use Rattle.flow_plan.specs.Progress.{bound_of}
 use Rattle.flow_plan.specs.declared.progress.Progress.{Progress}
@@ -22,3 +22,9 @@ MayComeAfter p Done first second = IsReady p.process (pairs_of p.tokens) (DoneOr
 -- the leaves may follow the done ones in every order
 abbrev pub MayFollowInEveryOrder : Planned → (ℕ → Type 0) → List ℕ → Type 0
 MayFollowInEveryOrder p Done list = (order : List ℕ) → IsOrderOf order list → IsReadyRunAfter p.process (pairs_of p.tokens) Done order
+
+-- the leaf is not done, and what is directly before it is
+pub record IsFree (p : Planned) (Done : ℕ → Type 0) (n : ℕ) : Type 0 where
+  pub leaf : n ∈ leaves p.process
+  pub not_done : ¬ Done n
+  pub before : (x : ℕ) → DirectlyBefore p.process (pairs_of p.tokens) x n → Done x

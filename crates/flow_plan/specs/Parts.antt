@@ -1,11 +1,12 @@
 -- Rows of bits for the isolated parts of a plan.
-use Rattle.std.specs.Prelude.{◌≡◌, ℕ, IsTrue, List, [], ◌∷◌, ◌⊎◌}
+use Rattle.std.specs.Prelude.{◌≡◌, ◌≢◌, ◌-◌, ℕ, IsTrue, List, [], ◌∷◌, ◌⊎◌, take, drop}
 use Rattle.leaf_rows.specs.Leaves.{has_leaf}
 use Rattle.leaf_rows.specs.declared.leaf_set.LeafSet.{LeafSet}
-use Rattle.flow_model.specs.Lists.{◌∈◌}
+use Rattle.flow_model.specs.Lists.{◌∈◌, Each}
 use Rattle.flow_model.specs.Process.{Process, leaves}
-use Rattle.flow_model.specs.Ready.{isolated_parts}
+use Rattle.flow_model.specs.Ready.{DirectlyBefore, isolated_parts}
 use Rattle.flow_plan.specs.declared.part_row.PartRow.{PartRow}
+use Rattle.flow_plan.specs.declared.span.Span.{Span}
 use Rattle.flow_plan.specs.Rows.{IsRowOf}
 use Rattle.flow_plan.specs.Ahead.{IsOutside}
 
@@ -13,42 +14,45 @@ use Rattle.flow_plan.specs.Ahead.{IsOutside}
 abbrev pub IsOneAtMost : (ℕ → Type 0) → Type 0
 IsOneAtMost P = (x y : ℕ) → P x → P y → x ≡ y
 
--- the set is among the new ones, unless it has no two members, and nothing else is new
-pub record AddsSet (set : LeafSet 16) (old new : List (LeafSet 16)) : Type 0 where
-  pub kept : (row : LeafSet 16) → row ∈ old → row ∈ new
-  pub sound : (row : LeafSet 16) → row ∈ new → (row ∈ old) ⊎ (row ≡ set)
-  pub complete : IsOneAtMost (λ x. IsTrue (has_leaf set x))
-      ⊎ ((row : LeafSet 16) × (row ∈ new) × ((x : ℕ) → has_leaf row x ≡ has_leaf set x))
+-- what stands at the places of the span
+abbrev pub at_span : {A : Type 0} → Span → List A → List A
+at_span s list = take (s.end - s.first) (drop s.first list)
 
--- the leaves of each part are among the new sets, unless there are no two of them, and nothing else is new
-pub record AddsParts (parts : List Process) (old new : List (LeafSet 16)) : Type 0 where
-  pub kept : (row : LeafSet 16) → row ∈ old → row ∈ new
-  pub sound : (row : LeafSet 16) → row ∈ new → (row ∈ old) ⊎ ((part : Process) × (part ∈ parts) × IsRowOf (λ x. x ∈ leaves part) row)
-  pub complete : (part : Process) → part ∈ parts →
-      IsOneAtMost (λ x. x ∈ leaves part) ⊎ ((row : LeafSet 16) × (row ∈ new) × IsRowOf (λ x. x ∈ leaves part) row)
+-- the row of the leaves at those places
+pub record IsPartFor (ns : List ℕ) (before : List (LeafSet 16)) (s : Span) (row : PartRow) : Type 0 where
+  pub inside : IsRowOf (λ x. x ∈ at_span s ns) row.inside
+  pub outside : IsRowOf (IsOutside (at_span s ns) (at_span s before)) row.outside
 
--- the row of a part with that set of leaves
-pub record IsPartFor (ns : List ℕ) (before : List (LeafSet 16)) (set : LeafSet 16) (row : PartRow) : Type 0 where
-  pub inside : row.inside ≡ set
-  pub outside : IsRowOf (IsOutside ns before set) row.outside
-
--- one row a set
-abbrev pub ArePartsFor : List ℕ → List (LeafSet 16) → List (LeafSet 16) → List PartRow → Type 0
+-- one row a span
+abbrev pub ArePartsFor : List ℕ → List (LeafSet 16) → List Span → List PartRow → Type 0
 ArePartsFor ns before [] [] = Unit {0}
 ArePartsFor ns before [] (row ∷ rows) = ⊥
-ArePartsFor ns before (set ∷ sets) [] = ⊥
-ArePartsFor ns before (set ∷ sets) (row ∷ rows) = IsPartFor ns before set row × ArePartsFor ns before sets rows
+ArePartsFor ns before (s ∷ spans) [] = ⊥
+ArePartsFor ns before (s ∷ spans) (row ∷ rows) = IsPartFor ns before s row × ArePartsFor ns before spans rows
 
--- the row of a part
-pub record IsPartRow (ns : List ℕ) (before : List (LeafSet 16)) (part : Process) (row : PartRow) : Type 0 where
+-- the row of a part: its leaves, and what is outside and directly before one of them
+pub record IsPartRow (q : Process) (pairs : List (ℕ × ℕ)) (part : Process) (row : PartRow) : Type 0 where
   pub inside : IsRowOf (λ x. x ∈ leaves part) row.inside
-  pub outside : IsRowOf (IsOutside ns before row.inside) row.outside
+  pub outside : IsRowOf (λ x. ¬ (x ∈ leaves part) × ((y : ℕ) × (y ∈ leaves part) × DirectlyBefore q pairs x y)) row.outside
 
--- each is the row of a part, and each part with two leaves has one
-pub record ArePartsOf (q : Process) (ns : List ℕ) (before : List (LeafSet 16)) (rows : List PartRow) : Type 0 where
-  pub sound : (row : PartRow) → row ∈ rows → (part : Process) × (part ∈ isolated_parts q) × IsPartRow ns before part row
+abbrev pub HasTwo : PartRow → Type 0
+HasTwo row = (x y : ℕ) × (x ≢ y) × IsTrue (has_leaf row.inside x) × IsTrue (has_leaf row.inside y)
+
+abbrev pub HaveSameLeaves : PartRow → PartRow → Type 0
+HaveSameLeaves one two = (x : ℕ) → has_leaf one.inside x ≡ has_leaf two.inside x
+
+-- no two have the same leaves
+abbrev pub AreApart : List PartRow → Type 0
+AreApart [] = Unit {0}
+AreApart (row ∷ rows) = Each (λ other. ¬ HaveSameLeaves row other) rows × AreApart rows
+
+-- each is the row of a part, each part with two leaves has one, and each set of leaves comes once
+pub record ArePartsOf (q : Process) (pairs : List (ℕ × ℕ)) (rows : List PartRow) : Type 0 where
+  pub sound : (row : PartRow) → row ∈ rows → (part : Process) × (part ∈ isolated_parts q) × IsPartRow q pairs part row
   pub complete : (part : Process) → part ∈ isolated_parts q →
-      IsOneAtMost (λ x. x ∈ leaves part) ⊎ ((row : PartRow) × (row ∈ rows) × IsPartRow ns before part row)
+      IsOneAtMost (λ x. x ∈ leaves part) ⊎ ((row : PartRow) × (row ∈ rows) × IsPartRow q pairs part row)
+  pub two : Each HasTwo rows
+  pub apart : AreApart rows
 
 -- the part lets the leaf come next
 pub record PartAllows (row : PartRow) (Done : ℕ → Type 0) (n : ℕ) : Type 0 where
@@ -57,3 +61,7 @@ pub record PartAllows (row : PartRow) (Done : ℕ → Type 0) (n : ℕ) : Type 0
   -- it begins the part when nothing outside is waited for
   pub begins : IsTrue (has_leaf row.inside n) → ((x : ℕ) → IsTrue (has_leaf row.inside x) → ¬ Done x) →
       (x : ℕ) → IsTrue (has_leaf row.outside x) → Done x
+
+-- the part has all with P, or none of them
+abbrev pub KeepsTogether : PartRow → (ℕ → Type 0) → Type 0
+KeepsTogether row P = (x y : ℕ) → P x → P y → IsTrue (has_leaf row.inside x) → IsTrue (has_leaf row.inside y)

@@ -1,14 +1,41 @@
-ghost use Rattle.std.specs.Prelude.{◌<◌, ◌↔◌, ℕ, List, IsTrue, [], ◌∷◌};
-ghost use Rattle.flow_model.specs.Lists.{◌∈◌, Each};
+ghost use Rattle.std.specs.Prelude.{◌≡◌, ◌<◌, ◌==◌, ◌||◌, ◌↔◌, ℕ, List, IsTrue, [], ◌∷◌, IfSome, IfNone};
+ghost use Rattle.flow_model.specs.Lists.{◌∈◌, Each, AreDistinct};
 ghost use Rattle.flow_model.specs.Process;
 ghost use Rattle.flow_model.specs.Ready.{DoneOr, IsReadyRun, IsCompleteRun};
-ghost use Rattle.flow_laws.specs.Words.{EachTwo};
-ghost use Rattle.flow_plan.specs.Orders.{Fits, MayComeNext, MayComeAfter, MayFollowInEveryOrder};
+ghost use Rattle.leaf_rows.specs.Leaves.{has_leaf};
+ghost use Rattle.flow_plan.specs.Orders.{Fits, MayComeNext, MayFollowInEveryOrder};
 ghost use Rattle.flow_plan.specs.Planned.{pairs_of};
-ghost use Rattle.flow_plan.specs.Progress.{bound_of, IsDone};
+ghost use Rattle.flow_plan.specs.Progress.{IsDone};
+ghost use Rattle.flow_plan.specs.Rows.{IsRowOf};
 
 use crate::plan::Plan;
 use crate::progress::Progress;
+use leaf_rows::LeafSet;
+
+/// The leaves as a set, where none of them stands twice.
+fn distinct(list: &[u32]) -> Option<LeafSet<16>>
+    requires { Each (λ n. n < 1024) list.now }
+    ensures some { IfSome result (λ set. AreDistinct list.now × IsRowOf (λ x. x ∈ list.now) set) }
+    ensures none { IfNone result (¬ (AreDistinct list.now)) }
+{
+    let mut set = LeafSet::new();
+    for leaf in list {
+        if set.has(*leaf) {
+            return None;
+        }
+        set.insert(*leaf);
+    }
+    Some(set)
+}
+
+/// The set with one leaf more.
+fn with(mut set: LeafSet<16>, leaf: u32) -> LeafSet<16>
+    requires { leaf < 1024 }
+    ensures { (k : ℕ) → has_leaf result k ≡ (k == leaf || has_leaf set k) }
+{
+    set.insert(leaf);
+    set
+}
 
 impl Plan {
     /// Whether each of the leaves may come next.
@@ -24,53 +51,18 @@ impl Plan {
         true
     }
 
-    /// Whether the second leaf may come next after the first.
-    fn ready_after(&self, done: &Progress, first: u32, second: u32) -> bool
-        requires fits { Fits self.now done.now }
-        requires first { first < bound_of done.now }
-        ensures { IsTrue result ↔ MayComeAfter self.now (IsDone done.now) first second }
-    {
-        let mut after = *done;
-        after.note(first);
-        self.ready(&after, second)
-    }
-
-    /// Whether the leaf and each of the others may come next after one another.
-    fn beside_each(&self, done: &Progress, leaf: u32, others: &[u32]) -> bool
-        requires fits { Fits self.now done.now }
-        requires leaf { leaf < bound_of done.now }
-        requires others { Each (λ n. n < bound_of done.now) others.now }
-        ensures { IsTrue result ↔ Each (λ other. MayComeAfter self.now (IsDone done.now) leaf other
-            × MayComeAfter self.now (IsDone done.now) other leaf) others.now }
-    {
-        for other in others {
-            if !self.ready_after(done, leaf, *other) || !self.ready_after(done, *other, leaf) {
-                return false;
-            }
-        }
-        true
-    }
-
-    /// Whether each two of the leaves may come next after one another.
-    fn two_by_two(&self, done: &Progress, list: &[u32]) -> bool
-        requires fits { Fits self.now done.now }
-        requires list { Each (λ n. n < bound_of done.now) list.now }
-        ensures { IsTrue result ↔ EachTwo (MayComeAfter self.now (IsDone done.now)) list.now }
-    {
-        for place in 0..list.len() {
-            if !self.beside_each(done, list[place], &list[place + 1..]) {
-                return false;
-            }
-        }
-        true
-    }
-
     /// Whether the leaves may follow the done ones in every order.
     fn in_every_order(&self, done: &Progress, list: &[u32]) -> bool
         requires { Fits self.now done.now }
         ensures { IsTrue result ↔ MayFollowInEveryOrder self.now (IsDone done.now) list.now }
     {
-        self.each_ready(done, list) && self.two_by_two(done, list)
+        if !self.each_ready(done, list) {
+            return false;
+        }
+        match distinct(list) {
+            Some(set) => self.keeps_together(&set),
+            None => false,
+        }
     }
 
     /// Whether the leaf and the claimed ones may follow the done ones in every order. It takes no memory.
@@ -81,7 +73,10 @@ impl Plan {
         if !self.ready(done, leaf) || !self.each_ready(done, claims) {
             return false;
         }
-        self.beside_each(done, leaf, claims) && self.two_by_two(done, claims)
+        let Some(set) = distinct(claims) else {
+            return false;
+        };
+        !set.has(leaf) && self.keeps_together(&with(set, leaf))
     }
 
     /// Whether the leaf may come next, and then the claimed ones in every order. It takes no memory.

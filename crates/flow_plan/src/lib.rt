@@ -7,10 +7,10 @@ mod part_row;
 mod parts;
 mod places;
 mod plan;
+mod postfix;
 mod progress;
 mod rows;
-#[cfg(test)]
-mod tests;
+mod span;
 mod token;
 
 pub use knot_free::KnotFree;

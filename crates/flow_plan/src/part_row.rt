@@ -1,8 +1,8 @@
-ghost use Rattle.std.specs.Prelude.{◌≡◌, ◌<◌, ◌↔◌, ℕ, IsTrue, length, All};
-ghost use Rattle.flow_model.specs.Lists.{◌∈◌, Each};
+ghost use Rattle.std.specs.Prelude.{◌<◌, ◌↔◌, ℕ, IsTrue, All};
+ghost use Rattle.flow_model.specs.Lists.{◌∈◌};
 ghost use Rattle.leaf_rows.specs.Leaves.{has_leaf};
 ghost use Rattle.flow_plan.specs.Rows.{IsRowOf};
-ghost use Rattle.flow_plan.specs.Ahead.{IsAheadOf, IsOutside};
+ghost use Rattle.flow_plan.specs.Ahead.{IsAhead, IsOutside};
 
 use leaf_rows::LeafSet;
 
@@ -13,47 +13,53 @@ pub(crate) struct PartRow {
     outside: LeafSet<16>,
 }
 
-/// What the rows of those leaves have.
-fn rows_within(inside: &LeafSet<16>, leaves: &[u32], before: &[LeafSet<16>]) -> LeafSet<16>
-    requires small { All (λ n. n < 1024) leaves.now }
-    requires one_each { length before.now ≡ length leaves.now }
-    ensures { IsRowOf (IsAheadOf leaves.now before.now inside.now) result }
+/// The leaves as a set.
+fn set_of(leaves: &[u32]) -> LeafSet<16>
+    requires { All (λ n. n < 1024) leaves.now }
+    ensures { IsRowOf (λ x. x ∈ leaves.now) result }
+{
+    let mut set = LeafSet::new();
+    for leaf in leaves {
+        set.insert(*leaf);
+    }
+    set
+}
+
+/// What some of the rows has.
+fn union(rows: &[LeafSet<16>]) -> LeafSet<16>
+    ensures { IsRowOf (IsAhead rows.now) result }
 {
     let mut all = LeafSet::new();
-    for place in 0..leaves.len() {
-        if inside.has(leaves[place]) {
-            all.union_with(&before[place]);
-        }
+    for row in rows {
+        all.union_with(row);
     }
     all
 }
 
-/// The set without those leaves.
-fn without(mut set: LeafSet<16>, inside: &LeafSet<16>, leaves: &[u32]) -> LeafSet<16>
+/// The set without the leaves.
+fn without(mut set: LeafSet<16>, leaves: &[u32]) -> LeafSet<16>
     requires { All (λ n. n < 1024) leaves.now }
-    ensures { (x : ℕ) → IsTrue (has_leaf result x)
-        ↔ (IsTrue (has_leaf set x) × ¬ ((x ∈ leaves.now) × IsTrue (has_leaf inside.now x))) }
+    ensures { IsRowOf (λ x. ¬ (x ∈ leaves.now) × IsTrue (has_leaf set x)) result }
 {
     for leaf in leaves {
-        if inside.has(*leaf) {
-            set.remove(*leaf);
-        }
+        set.remove(*leaf);
     }
     set
 }
 
 impl PartRow {
-    ghost use Rattle.flow_plan.specs.Parts.{PartAllows};
+    ghost use Rattle.flow_plan.specs.Parts.{PartAllows, KeepsTogether};
 
-    pub(crate) fn new(inside: LeafSet<16>, leaves: &[u32], before: &[LeafSet<16>]) -> PartRow
-        requires small { All (λ n. n < 1024) leaves.now }
-        requires one_each { length before.now ≡ length leaves.now }
-        ensures inside { result.inside ≡ inside }
-        ensures outside { IsRowOf (IsOutside leaves.now before.now inside) result.outside }
+    /// The row of the part with those leaves, whose rows are these.
+    pub(crate) fn new(leaves: &[u32], before: &[LeafSet<16>]) -> PartRow
+        requires { All (λ n. n < 1024) leaves.now }
+        ensures inside { IsRowOf (λ x. x ∈ leaves.now) result.inside }
+        ensures outside { IsRowOf (IsOutside leaves.now before.now) result.outside }
     {
-        let all = rows_within(&inside, leaves, before);
-        let outside = without(all, &inside, leaves);
-        PartRow { inside, outside }
+        PartRow {
+            inside: set_of(leaves),
+            outside: without(union(before), leaves),
+        }
     }
 
     /// Whether the part lets the leaf come next: it must be finished once it is begun, and what is
@@ -67,5 +73,12 @@ impl PartRow {
             (true, false) => self.inside.is_subset(done),
             (false, true) => self.outside.is_subset(done),
         }
+    }
+
+    /// Whether the part has all of the leaves, or none of them.
+    pub(crate) fn keeps_together(&self, leaves: &LeafSet<16>) -> bool
+        ensures { IsTrue result ↔ KeepsTogether self.now (λ x. IsTrue (has_leaf leaves.now x)) }
+    {
+        !self.inside.meets(leaves) || leaves.is_subset(&self.inside)
     }
 }

@@ -1,17 +1,19 @@
-ghost use Rattle.std.specs.Prelude.{◌≡◌, ◌≢◌, ◌<◌, ◌↔◌, ℕ, IsTrue, IfOk};
+ghost use Rattle.std.specs.Prelude.{◌≡◌, ◌≢◌, ◌<◌, ◌↔◌, ℕ, List, IsTrue, IfOk};
 ghost use Rattle.std.specs.List.Sorted.{IsStrictlyIncreasing};
-ghost use Rattle.flow_model.specs.Lists.{◌∈◌, Each};
+ghost use Rattle.flow_model.specs.Lists.{◌∈◌, Each, AreDistinct};
 ghost use Rattle.flow_model.specs.Process;
 ghost use Rattle.flow_model.specs.Ready.{DirectlyBefore};
-ghost use Rattle.flow_laws.specs.Words.{AreOfLeaves, IsOrdered};
+ghost use Rattle.flow_laws.specs.Words.{AreOfLeaves, IsOrdered, EachTwo};
 ghost use Rattle.flow_goal.specs.Goal.{process_of};
 ghost use Rattle.leaf_rows.specs.Leaves.{has_leaf};
-ghost use Rattle.flow_plan.specs.Parts.{PartAllows};
+ghost use Rattle.flow_plan.specs.Rows.{IsRowOf};
+ghost use Rattle.flow_plan.specs.Parts.{PartAllows, KeepsTogether};
 ghost use Rattle.flow_plan.specs.Planned.{pairs_of};
 
 use crate::part_row::PartRow;
 use crate::parts::part_rows;
 use crate::places::place_of;
+use crate::postfix::Postfix;
 use crate::progress::Progress;
 use crate::rows::before_rows;
 use crate::token::OrderToken;
@@ -23,7 +25,7 @@ use std::marker::Model;
 /// A goal without choices, and orders between some of its leaves.
 #[derive(Drop)]
 pub struct Plan {
-    goal: Choiceless,
+    goal: Postfix,
     tokens: Vec<OrderToken>,
     /// For each leaf, the leaves directly before it.
     before: Vec<LeafSet<16>>,
@@ -59,35 +61,54 @@ fn parts_allow(parts: &[PartRow], done: &LeafSet<16>, leaf: u32) -> bool
     true
 }
 
+/// Whether each part has all of the leaves, or none of them.
+fn parts_keep_together(parts: &[PartRow], leaves: &LeafSet<16>) -> bool
+    ensures { IsTrue result
+        ↔ Each (λ row. KeepsTogether row (λ x. IsTrue (has_leaf leaves.now x))) parts.now }
+{
+    for part in parts {
+        if !part.keeps_together(leaves) {
+            return false;
+        }
+    }
+    true
+}
+
 impl Plan {
-    ghost use Rattle.flow_plan.specs.Orders.{Fits, MayComeNext};
+    ghost use Rattle.flow_plan.specs.declared.progress.Progress.{Progress};
+    ghost use Rattle.flow_plan.specs.Orders.{Fits, IsFree, MayComeNext, MayComeAfter};
     ghost use Rattle.flow_plan.specs.Progress.{IsDone};
 
     /// A plan for the goal, in which each token's sender is done before its receiver.
-    pub fn new(alloc: Global, goal: Choiceless, tokens: Vec<OrderToken>) -> Result<Plan, AllocError>
-        requires small { Each (λ n. n < 1024) goal.leaves }
-        requires of_leaves { AreOfLeaves goal.process (pairs_of tokens.items) }
+    pub fn new(
+        alloc: Global,
+        goal: &Choiceless,
+        tokens: Vec<OrderToken>,
+    ) -> Result<Plan, AllocError>
+        requires small { Each (λ n. n < 1024) goal.now.leaves }
+        requires of_leaves { AreOfLeaves goal.now.process (pairs_of tokens.items) }
         requires different { Each (λ pair. pair.0 ≢ pair.1) (pairs_of tokens.items) }
-        ensures process { IfOk result (λ plan. plan.process ≡ goal.process) }
-        ensures leaves { IfOk result (λ plan. plan.leaves ≡ goal.leaves) }
+        ensures process { IfOk result (λ plan. plan.process ≡ goal.now.process) }
+        ensures leaves { IfOk result (λ plan. plan.leaves ≡ goal.now.leaves) }
         ensures tokens { IfOk result (λ plan. plan.tokens ≡ tokens.items) }
         ensures ordered { IfOk result (λ plan. IsOrdered plan.process (pairs_of plan.tokens)) }
     {
-        let before = before_rows(alloc, &goal, &tokens)?;
-        let parts = part_rows(alloc, &goal, &before)?;
+        let before = before_rows(alloc, goal, &tokens)?;
+        let parts = part_rows(alloc, goal, &before)?;
         Ok(Plan {
-            goal,
+            goal: Postfix::new(alloc, goal)?,
             tokens,
             before,
             parts,
         })
     }
 
-    pub fn goal(&self) -> &Goal
-        ensures process { process_of result.now ≡ self.now.process }
+    /// The goal, built anew.
+    pub fn goal(&self, alloc: Global) -> Result<Goal, AllocError>
+        ensures process { IfOk result (λ goal. process_of goal ≡ self.now.process) }
         ensures ordered { IsOrdered self.now.process (pairs_of self.now.tokens) }
     {
-        self.goal.goal()
+        self.goal.goal(alloc)
     }
 
     /// The leaves from left to right, which is from the least to the greatest.
@@ -117,17 +138,32 @@ impl Plan {
         }
     }
 
+    /// Whether the leaf is not done, and all that is directly before it is.
+    fn is_free(&self, done: &Progress, leaf: u32) -> bool
+        requires { Fits self.now done.now }
+        ensures { IsTrue result ↔ IsFree self.now (IsDone done.now) leaf }
+    {
+        match place_of(self.goal.leaves(), leaf) {
+            Some(place) => !done.has(leaf) && self.before[place].is_subset(done.row()),
+            None => false,
+        }
+    }
+
     /// Whether the leaf may come next after the done ones.
     pub fn ready(&self, done: &Progress, leaf: u32) -> bool
         requires { Fits self.now done.now }
         ensures { IsTrue result ↔ MayComeNext self.now (IsDone done.now) leaf }
     {
-        let Some(place) = place_of(self.goal.leaves(), leaf) else {
-            return false;
-        };
-        if done.has(leaf) || !self.before[place].is_subset(done.row()) {
-            return false;
-        }
-        parts_allow(&self.parts, done.row(), leaf)
+        self.is_free(done, leaf) && parts_allow(&self.parts, done.row(), leaf)
+    }
+
+    /// Whether leaves that may come next, none of them twice, may come next after one another. They may where
+    /// each isolated part has all of them or none.
+    pub(crate) fn keeps_together(&self, leaves: &LeafSet<16>) -> bool
+        ensures { (done : Progress) (list : List ℕ) → IsRowOf (λ x. x ∈ list) leaves.now → AreDistinct list →
+            Each (MayComeNext self.now (IsDone done)) list →
+            IsTrue result ↔ EachTwo (MayComeAfter self.now (IsDone done)) list }
+    {
+        parts_keep_together(&self.parts, leaves)
     }
 }

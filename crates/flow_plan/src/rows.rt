@@ -1,12 +1,12 @@
-ghost use Rattle.std.specs.Prelude.{◌≡◌, ◌<◌, length, All, IfOk, OnOk};
-ghost use Rattle.flow_model.specs.Lists.{◌∈◌, Each};
-ghost use Rattle.flow_model.specs.Process.{leaves as leaves_of};
+ghost use Rattle.std.specs.Prelude.{◌≡◌, ◌<◌, ◌==◌, ◌||◌, ℕ, false, [], ◌∷◌, ◌++◌, length, All, IfOk, OnOk};
+ghost use Rattle.flow_model.specs.Lists.{Each};
+ghost use Rattle.leaf_rows.specs.Leaves.{has_leaf};
 ghost use Rattle.flow_model.specs.Ready.{InSequence, DirectlyBefore};
 ghost use Rattle.flow_laws.specs.Words.{AreOfLeaves};
 ghost use Rattle.flow_goal.specs.Goal.{process_of};
 ghost use Rattle.flow_plan.specs.declared.token.OrderToken.{OrderToken};
 ghost use Rattle.flow_plan.specs.Planned.{pairs_of};
-ghost use Rattle.flow_plan.specs.Rows.{IsRowOf, AreRowsOf, FitsRows, AddsRows};
+ghost use Rattle.flow_plan.specs.Rows.{AreRowsOf, FitsRows, AddsRows, GathersLeaves};
 
 use crate::places::place_of;
 use crate::token::OrderToken;
@@ -14,42 +14,63 @@ use flow_goal::{Choiceless, Goal};
 use leaf_rows::LeafSet;
 use std::alloc::{AllocError, Global};
 
+/// An empty row in memory of its own: a recursion keeps none in its frames.
+fn empty_row(alloc: Global) -> Result<Box<LeafSet<16>>, AllocError>
+    ensures { IfOk result (λ row. (n : ℕ) → has_leaf row.value n ≡ false) }
+{
+    Ok(Box::new(alloc, LeafSet::new())?)
+}
+
+/// Puts the row of a leaf behind the others: those that are ahead of it.
+fn add_leaf(
+    leaf: u32,
+    ahead: &LeafSet<16>,
+    all: &mut LeafSet<16>,
+    rows: &mut Vec<LeafSet<16>>,
+) -> Result<(), AllocError>
+    requires { leaf < 1024 }
+    ensures rows { OnOk result (rows.new.items ≡ rows.old.items ++ ahead.now ∷ []) }
+    ensures all { OnOk result ((n : ℕ) → has_leaf all.new n ≡ (n == leaf || (has_leaf all.old n || has_leaf ahead.now n))) }
+{
+    rows.push(*ahead)?;
+    all.union_with(ahead);
+    all.insert(leaf);
+    Ok(())
+}
+
 /// Puts a row for each leaf of the goal behind the others: the leaves before it in the goal, and those
-/// that are ahead of all of it. Returns the leaves of the goal.
+/// that are ahead of all of it. These and the leaves of the goal are put into `all`.
 fn add_rows(
+    alloc: Global,
     goal: &Goal,
     ahead: &LeafSet<16>,
+    all: &mut LeafSet<16>,
     rows: &mut Vec<LeafSet<16>>,
-) -> Result<LeafSet<16>, AllocError>
+) -> Result<(), AllocError>
     requires { FitsRows (process_of goal.now) }
     ensures rows { OnOk result (AddsRows (process_of goal.now) ahead.now rows.old.items rows.new.items) }
-    ensures leaves { IfOk result (IsRowOf (λ x. x ∈ leaves_of (process_of goal.now))) }
+    ensures all { OnOk result (GathersLeaves (process_of goal.now) ahead.now all.old all.new) }
 {
     match goal {
-        Goal::Nop => Ok(LeafSet::new()),
-        Goal::Leaf(n) => {
-            rows.push(*ahead)?;
-            let mut own = LeafSet::new();
-            own.insert(*n);
-            Ok(own)
+        Goal::Nop => {
+            all.union_with(ahead);
+            Ok(())
         }
+        Goal::Leaf(n) => add_leaf(*n, ahead, all, rows),
         Goal::Serial(left, right) => {
-            let first = add_rows(left, ahead, rows)?;
-            let mut more = *ahead;
-            more.union_with(&first);
-            let mut all = add_rows(right, &more, rows)?;
-            all.union_with(&first);
-            Ok(all)
+            let mut more = empty_row(alloc)?;
+            add_rows(alloc, left, ahead, &mut more, rows)?;
+            add_rows(alloc, right, &more, all, rows)?;
+            Ok(())
         }
         Goal::Beside(left, right) | Goal::Either(left, right) => {
-            let first = add_rows(left, ahead, rows)?;
-            let mut all = add_rows(right, ahead, rows)?;
-            all.union_with(&first);
-            Ok(all)
+            add_rows(alloc, left, ahead, all, rows)?;
+            add_rows(alloc, right, ahead, all, rows)?;
+            Ok(())
         }
         Goal::Iso(part) => {
-            let all = add_rows(part, ahead, rows)?;
-            Ok(all)
+            add_rows(alloc, part, ahead, all, rows)?;
+            Ok(())
         }
     }
 }
@@ -83,7 +104,13 @@ pub(crate) fn before_rows(
         AreRowsOf (DirectlyBefore goal.now.process (pairs_of tokens.now)) goal.now.leaves rows.items) }
 {
     let mut rows = Vec::with_capacity(alloc, goal.leaves().len())?;
-    let _all = add_rows(goal.goal(), &LeafSet::new(), &mut rows)?;
+    add_rows(
+        alloc,
+        goal.goal(),
+        &LeafSet::new(),
+        &mut LeafSet::new(),
+        &mut rows,
+    )?;
     add_senders(goal, tokens, &mut rows);
     Ok(rows)
 }

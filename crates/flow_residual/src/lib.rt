@@ -5,7 +5,5 @@ mod ban;
 mod fronts;
 mod possible;
 mod residual;
-#[cfg(test)]
-mod tests;
 
 pub use residual::Residual;

@@ -45,7 +45,6 @@ pub fn weave(alloc: Global, goal: &Choiceless, order: &OrderSet) -> Result<Plan,
         ↔ OptionTrace (option_of goal.now order.now) t) }
 {
     let tokens = tokens_of(alloc, order.pairs())?;
-    let copy = goal.copy(alloc)?;
-    let plan = Plan::new(alloc, copy, tokens)?;
+    let plan = Plan::new(alloc, goal, tokens)?;
     Ok(plan)
 }

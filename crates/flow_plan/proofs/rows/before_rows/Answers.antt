@@ -17,14 +17,14 @@ add_senders-requires-clause-senders c =
 
 pub add_senders-requires-clause-rows : goal.add_senders-requires-clause-rows
 add_senders-requires-clause-rows c =
-    let adds = subst (λ (q : Process). AddsRows q c.new.result c.in_ok-rows.rows.items c.add_rows.new.rows.items) c.goal.ensures.process c.in_ok-_all.ensures.rows in
+    let adds = subst (λ (q : Process). AddsRows q c.new.result c.in_ok-rows.rows.items c.add_rows.new.rows.items) c.goal.ensures.process c.in_ok-add_rows.ensures.rows in
     subst (λ (rows : List (LeafSet 16)). AreRowsOf (InSequence c.args.goal.now.process) c.args.goal.now.leaves rows) (sym c.deref_mut.ensures.value)
     (first_rows c.args.goal.now.process c.new.result c.args.goal.now.leaves c.in_ok-rows.rows.items c.add_rows.new.rows.items c.leaves.ensures.listed
     c.in_ok-rows.ensures.items c.new.ensures adds)
 
 pub add_senders-requires-clause-one_each : goal.add_senders-requires-clause-one_each
 add_senders-requires-clause-one_each c =
-    let adds = subst (λ (q : Process). AddsRows q c.new.result c.in_ok-rows.rows.items c.add_rows.new.rows.items) c.goal.ensures.process c.in_ok-_all.ensures.rows in
+    let adds = subst (λ (q : Process). AddsRows q c.new.result c.in_ok-rows.rows.items c.add_rows.new.rows.items) c.goal.ensures.process c.in_ok-add_rows.ensures.rows in
     ap length c.deref_mut.ensures.value ∙ rows_length (InSequence c.args.goal.now.process) c.args.goal.now.leaves c.add_rows.new.rows.items
     (first_rows c.args.goal.now.process c.new.result c.args.goal.now.leaves c.in_ok-rows.rows.items c.add_rows.new.rows.items c.leaves.ensures.listed
     c.in_ok-rows.ensures.items c.new.ensures adds)

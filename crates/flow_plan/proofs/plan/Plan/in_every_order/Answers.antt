@@ -1,17 +1,27 @@
-use Rattle.flow_plan.proofs.Following.{all_fit, every_order, by_two}
+use Rattle.flow_plan.specs.Progress.{IsDone}
+use Rattle.flow_plan.proofs.Following.{all_small, every_order, by_two}
+use Rattle.flow_plan.proofs.Together.{distinct_by_two}
 use Rattle.flow_plan.proofs.plan.Plan.in_every_order.Goals as goal
 
-pub two_by_two-requires-clause-list : goal.two_by_two-requires-clause-list
-two_by_two-requires-clause-list c = all_fit c.args.self.now c.args.done.now c.args.list.now c.requires (c.each_ready.ensures.0 c.if-each_ready.true)
-
-pub returns-then-each_ready : goal.returns-then-each_ready
-returns-then-each_ready c = (
-  λ two. every_order c.args.self.now c.args.done.now c.args.list.now (c.each_ready.ensures.0 c.if-each_ready.true) (c.two_by_two.ensures.0 two),
-  λ all. c.two_by_two.ensures.1 (by_two c.args.self.now c.args.done.now c.args.list.now all).1,
+pub returns-then-not-each_ready : goal.returns-then-not-each_ready
+returns-then-not-each_ready c = (
+  λ wrong. absurd (cc),
+  λ all. let yes = c.each_ready.ensures.1 (by_two c.args.self.now c.args.done.now c.args.list.now all).0 in let fails = c.if-not-each_ready.true in absurd (cc),
 )
 
-pub returns-else-each_ready : goal.returns-else-each_ready
-returns-else-each_ready c = (
-  λ each. let fails = c.if-each_ready.false in absurd (cc),
-  λ all. c.each_ready.ensures.1 (by_two c.args.self.now c.args.done.now c.args.list.now all).0,
+pub distinct-requires : goal.distinct-requires
+distinct-requires c = all_small c.args.self.now c.args.done.now c.args.list.now c.requires (c.each_ready.ensures.0 c.if-not-each_ready.false)
+
+pub returns-in-Some : goal.returns-in-Some
+returns-in-Some c =
+    let each = c.each_ready.ensures.0 c.if-not-each_ready.false in
+    let two = c.keeps_together.ensures c.args.done.now c.args.list.now c.in-Some.ensures.some.1 c.in-Some.ensures.some.0 each in (
+      λ yes. every_order c.args.self.now c.args.done.now c.args.list.now each (two.0 yes),
+      λ all. two.1 (by_two c.args.self.now c.args.done.now c.args.list.now all).1,
+    )
+
+pub returns-in-None : goal.returns-in-None
+returns-in-None c = (
+  λ wrong. absurd (cc),
+  λ all. absurd (c.in-None.ensures.none (distinct_by_two c.args.self.now (IsDone c.args.done.now) c.args.list.now (by_two c.args.self.now c.args.done.now c.args.list.now all).1)),
 )

@@ -1,7 +1,14 @@
-use Rattle.std.proofs.Common.{length, ap, subst, ◌∙◌}
+use Rattle.std.proofs.Common.{◌≡◌, ◌<◌, List, length, ap, subst, ◌∙◌, sym}
+use Rattle.leaf_rows.specs.declared.leaf_set.LeafSet.{LeafSet}
+use Rattle.flow_model.specs.Process.{Process}
+use Rattle.flow_model.specs.Lists.{Each}
 use Rattle.flow_model.specs.Ready.{DirectlyBefore}
-use Rattle.flow_goal.specs.Resolved.{Resolved, IsResolved}
-use Rattle.flow_plan.specs.Planned.{planned, pairs_of}
+use Rattle.flow_laws.specs.Words.{AreOfLeaves}
+use Rattle.flow_goal.specs.Resolved.{Resolved}
+use Rattle.flow_plan.specs.declared.token.OrderToken.{OrderToken}
+use Rattle.flow_plan.specs.Rows.{AreRowsOf}
+use Rattle.flow_plan.specs.Parts.{ArePartsOf}
+use Rattle.flow_plan.specs.Planned.{Planned, planned, pairs_of}
 use Rattle.flow_plan.proofs.RowLemmas.{rows_length}
 use Rattle.flow_plan.proofs.Readiness.{new_is_kept, new_is_ordered}
 use Rattle.flow_plan.proofs.plan.Plan.new.Goals as goal
@@ -9,17 +16,30 @@ use Rattle.flow_plan.proofs.plan.Plan.new.Goals as goal
 pub part_rows-requires-clause-one_each : goal.part_rows-requires-clause-one_each
 part_rows-requires-clause-one_each c =
     ap length c.deref-2.ensures.value
-    ∙ rows_length (DirectlyBefore c.args.goal.process (pairs_of c.deref.result.now)) c.args.goal.leaves c.in_ok-before.before.items c.in_ok-before.ensures
+    ∙ rows_length (DirectlyBefore c.args.goal.now.process (pairs_of c.deref.result.now)) c.args.goal.now.leaves c.in_ok-before.before.items c.in_ok-before.ensures
 
-pub invariant_of-result : goal.invariant_of-result
-invariant_of-result c =
-    let resolved = subst (λ (r : Resolved). IsResolved r) c.goal.view_is c.goal.invariant in
-    new_is_kept (planned c.args.goal c.args.tokens.items) c.deref.result.now c.deref-2.result.now c.in_ok-before.before.items c.in_ok-parts.parts.items
-    c.deref.ensures.value c.deref-2.ensures.value
-    (new_is_ordered (planned c.args.goal c.args.tokens.items) resolved.choice_free resolved.listed resolved.rising c.requires.of_leaves c.requires.different)
-    resolved.listed resolved.rising c.requires.small c.in_ok-before.ensures c.in_ok-parts.ensures
+-- the given goal is the one that is kept
+same_goal : (new old : Resolved) → new.process ≡ old.process → new.leaves ≡ old.leaves → new ≡ old
+same_goal new old process leaves = λ i. record { process = process i; leaves = leaves i }
 
 pub returns-clause-ordered : goal.returns-clause-ordered
 returns-clause-ordered c =
-    let resolved = subst (λ (r : Resolved). IsResolved r) c.goal.view_is c.goal.invariant in
-    new_is_ordered (planned c.args.goal c.args.tokens.items) resolved.choice_free resolved.listed resolved.rising c.requires.of_leaves c.requires.different
+    let same = same_goal c.in_ok-new.field-0 c.args.goal.now c.in_ok-new.ensures.process c.in_ok-new.ensures.leaves in
+    let r = c.in_ok-new.ensures.resolved in
+    new_is_ordered (planned c.in_ok-new.field-0 c.args.tokens.items) r.choice_free r.listed r.rising
+    (subst (λ (g : Resolved). AreOfLeaves g.process (pairs_of c.args.tokens.items)) (sym same) c.requires.of_leaves) c.requires.different
+
+pub invariant_of-result : goal.invariant_of-result
+invariant_of-result c =
+    let same = same_goal c.in_ok-new.field-0 c.args.goal.now c.in_ok-new.ensures.process c.in_ok-new.ensures.leaves in
+    let r = c.in_ok-new.ensures.resolved in
+    let rows = subst (λ (ts : List OrderToken). AreRowsOf (DirectlyBefore c.args.goal.now.process (pairs_of ts)) c.args.goal.now.leaves c.in_ok-before.before.items) c.deref.ensures.value c.in_ok-before.ensures in
+    let parts_are = c.in_ok-parts.ensures (pairs_of c.args.tokens.items)
+    (subst (λ (rs : List (LeafSet 16)). AreRowsOf (DirectlyBefore c.args.goal.now.process (pairs_of c.args.tokens.items)) c.args.goal.now.leaves rs) (sym c.deref-2.ensures.value) rows) in
+    new_is_kept (planned c.in_ok-new.field-0 c.args.tokens.items) c.in_ok-before.before.items c.in_ok-parts.parts.items
+    (new_is_ordered (planned c.in_ok-new.field-0 c.args.tokens.items) r.choice_free r.listed r.rising
+    (subst (λ (g : Resolved). AreOfLeaves g.process (pairs_of c.args.tokens.items)) (sym same) c.requires.of_leaves) c.requires.different)
+    r.listed r.rising
+    (subst (λ (g : Resolved). Each (λ n. n < 1024) g.leaves) (sym same) c.requires.small)
+    (subst (λ (g : Resolved). AreRowsOf (DirectlyBefore g.process (pairs_of c.args.tokens.items)) g.leaves c.in_ok-before.before.items) (sym same) rows)
+    (subst (λ (g : Resolved). ArePartsOf g.process (pairs_of c.args.tokens.items) c.in_ok-parts.parts.items) (sym same) parts_are)

@@ -1,16 +1,13 @@
-use Rattle.std.proofs.Common.{◌∷◌}
-use Rattle.flow_plan.proofs.Following.{next_fits, all_fit, leaf_first, by_two}
+use Rattle.std.proofs.Common.{ℕ, List, ◌∷◌, inl, inr, ⊎_elim, sym, ◌∙◌, eq-eqb, eqb-true, lit<}
+use Rattle.flow_model.specs.Lists.{◌∈◌, Each, AreDistinct}
+use Rattle.flow_plan.specs.Progress.{IsDone}
+use Rattle.flow_plan.specs.Orders.{MayComeNext}
+use Rattle.flow_plan.specs.Rows.{IsRowOf}
+use Rattle.flow_plan.proofs.RowLemmas.{either_true, first_true, second_true}
+use Rattle.flow_plan.proofs.Following.{next_small, all_small, every_order, by_two}
+use Rattle.flow_plan.proofs.Together.{distinct_by_two}
 use Rattle.flow_plan.proofs.plan.Plan.side_by_side.Goals as goal
 use Rattle.flow_plan.proofs.plan.Plan.side_by_side.Goals.{then-not-ready-via-then-not-ready, then-not-ready-via-else-not-ready+then-not-each_ready}
-
-pub beside_each-requires-clause-leaf : goal.beside_each-requires-clause-leaf
-beside_each-requires-clause-leaf c = next_fits c.args.self.now c.args.done.now c.args.leaf c.requires (c.ready.ensures.0 c.if-not-ready.false)
-
-pub beside_each-requires-clause-others : goal.beside_each-requires-clause-others
-beside_each-requires-clause-others c = all_fit c.args.self.now c.args.done.now c.args.claims.now c.requires (c.each_ready.ensures.0 c.if-not-each_ready.false)
-
-pub two_by_two-requires-clause-list : goal.two_by_two-requires-clause-list
-two_by_two-requires-clause-list c = all_fit c.args.self.now c.args.done.now c.args.claims.now c.requires (c.each_ready.ensures.0 c.if-not-each_ready.false)
 
 pub returns-then-not-ready : goal.returns-then-not-ready
 returns-then-not-ready c = (
@@ -22,15 +19,40 @@ returns-then-not-ready c = (
       ],
 )
 
-pub returns-then-beside_each : goal.returns-then-beside_each
-returns-then-beside_each c = (
-  λ two. leaf_first c.args.self.now c.args.done.now c.args.leaf c.args.claims.now (c.ready.ensures.0 c.if-not-ready.false)
-      (c.each_ready.ensures.0 c.if-not-each_ready.false) (c.beside_each.ensures.0 c.if-beside_each.true) (c.two_by_two.ensures.0 two),
-  λ all. c.two_by_two.ensures.1 (by_two c.args.self.now c.args.done.now (c.args.leaf ∷ c.args.claims.now) all).1.1,
+pub distinct-requires : goal.distinct-requires
+distinct-requires c = all_small c.args.self.now c.args.done.now c.args.claims.now c.requires (c.each_ready.ensures.0 c.if-not-each_ready.false)
+
+pub returns-in_default : goal.returns-in_default
+returns-in_default c = (
+  λ wrong. absurd (cc),
+  λ all. absurd (c.in_default.ensures.none
+      (distinct_by_two c.args.self.now (IsDone c.args.done.now) (c.args.leaf ∷ c.args.claims.now) (by_two c.args.self.now c.args.done.now (c.args.leaf ∷ c.args.claims.now) all).1).1),
 )
 
-pub returns-else-beside_each : goal.returns-else-beside_each
-returns-else-beside_each c = (
-  λ beside. let fails = c.if-beside_each.false in absurd (cc),
-  λ all. c.beside_each.ensures.1 (by_two c.args.self.now c.args.done.now (c.args.leaf ∷ c.args.claims.now) all).1.0,
+pub has-requires : goal.has-requires
+has-requires c = (lit< tt, next_small c.args.self.now c.args.done.now c.args.leaf c.requires (c.ready.ensures.0 c.if-not-ready.false))
+
+pub with-requires : goal.with-requires
+with-requires c = next_small c.args.self.now c.args.done.now c.args.leaf c.requires (c.ready.ensures.0 c.if-not-ready.false)
+
+pub returns-then-not-has : goal.returns-then-not-has
+returns-then-not-has c =
+    let list : List ℕ = c.args.leaf ∷ c.args.claims.now in
+    let each : Each (MayComeNext c.args.self.now (IsDone c.args.done.now)) list = (c.ready.ensures.0 c.if-not-ready.false, c.each_ready.ensures.0 c.if-not-each_ready.false) in
+    let set_is = c.in-Some.ensures.some.1 in
+    let distinct : AreDistinct list = (λ member. let yes = c.has.ensures ∙ (set_is c.args.leaf).1 member in let no = c.if-not-has.true in absurd (cc), c.in-Some.ensures.some.0) in
+    let row : IsRowOf (λ x. x ∈ list) c.with.result = λ x. (
+      λ has. ⊎_elim (λ same. inl (eqb-true x c.args.leaf same)) (λ h. inr ((set_is x).0 h)) (either_true _ _ (sym (c.with.ensures x) ∙ has)),
+      λ member. c.with.ensures x ∙ ⊎_elim (λ same. first_true _ _ (eq-eqb x c.args.leaf same)) (λ h. second_true _ _ ((set_is x).1 h)) member,
+    ) in
+    let two = c.keeps_together.ensures c.args.done.now list row distinct each in (
+      λ yes. every_order c.args.self.now c.args.done.now list each (two.0 yes),
+      λ all. two.1 (by_two c.args.self.now c.args.done.now list all).1,
+    )
+
+pub returns-else-not-has : goal.returns-else-not-has
+returns-else-not-has c = (
+  λ wrong. let has = c.if-not-has.false in absurd (cc),
+  λ all. absurd ((distinct_by_two c.args.self.now (IsDone c.args.done.now) (c.args.leaf ∷ c.args.claims.now) (by_two c.args.self.now c.args.done.now (c.args.leaf ∷ c.args.claims.now) all).1).0
+      ((c.in-Some.ensures.some.1 c.args.leaf).0 (let has = c.if-not-has.false in sym c.has.ensures ∙ has))),
 )

@@ -1,0 +1,18 @@
+use Rattle.std.proofs.Common.{ℕ, List, ◌∷◌, [], ◌++◌, take, get_or, sym, ◌∙◌, ap, subst}
+use Rattle.std.proofs.lemmas.List.{take_more}
+use Rattle.flow_plan.specs.declared.part_row.PartRow.{PartRow}
+use Rattle.flow_plan.specs.declared.span.Span.{Span}
+use Rattle.flow_plan.specs.Parts.{ArePartsFor}
+use Rattle.flow_plan.proofs.PartLemmas.{parts_more}
+use Rattle.flow_plan.proofs.parts.rows_of_spans.Goals as goal
+
+pub loop-span-preserved : goal.loop-span-preserved
+loop-span-preserved c =
+    let ns : List ℕ = c.args.leaves.now in
+    let none : Span = record { first = 0; end = 0 } in
+    let s : Span = get_or c.args.spans.now c.loop-span.span-index none in
+    let more = take_more c.args.spans.now c.loop-span.span-index none c.loop-span-test.true in
+    subst (λ (ss : List Span). ArePartsFor ns c.args.before.now ss c.push.new.self.items) (sym more)
+    (subst (λ (rows : List PartRow). ArePartsFor ns c.args.before.now (take c.loop-span.span-index c.args.spans.now ++ s ∷ []) rows) (sym c.in_ok-push.ensures.items)
+    (parts_more ns c.args.before.now (take c.loop-span.span-index c.args.spans.now) c.loop-span.parts.items s c.new-row.result c.loop-span.invariant
+    (record { inside = c.new-row.ensures.inside; outside = c.new-row.ensures.outside })))

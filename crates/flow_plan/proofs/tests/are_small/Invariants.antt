@@ -1,6 +1,0 @@
-use Rattle.std.proofs.Common.{◌<◌, ◌↔◌, drop}
-use Rattle.flow_model.specs.Lists.{Each}
-use Rattle.flow_plan.proofs.tests.are_small.Given as goal
-
-abbrev pub invariant-loop-leaf : goal.invariant-loop-leaf
-invariant-loop-leaf l = Each (λ n. n < 1024) l.leaves ↔ Each (λ n. n < 1024) (drop l.leaf-index l.leaves)

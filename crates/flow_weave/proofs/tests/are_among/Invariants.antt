@@ -1,7 +1,0 @@
-use Rattle.std.proofs.Common.{◌↔◌, drop}
-use Rattle.flow_model.specs.Lists.{◌∈◌, Each}
-use Rattle.flow_weave.proofs.tests.are_among.Given as goal
-
-abbrev pub invariant-loop-first : goal.invariant-loop-first
-invariant-loop-first l =
-    Each (λ pair. (pair.0 ∈ l.leaves) × (pair.1 ∈ l.leaves)) l.pairs ↔ Each (λ pair. (pair.0 ∈ l.leaves) × (pair.1 ∈ l.leaves)) (drop l.first-index l.pairs)
