@@ -8,8 +8,6 @@ mod driving;
 mod output;
 mod session;
 mod status;
-#[cfg(test)]
-mod tests;
 mod words;
 
 pub use call::flow;

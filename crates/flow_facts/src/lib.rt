@@ -17,5 +17,3 @@ pub use numbered::{Key, Numbered};
 pub use table::FactTable;
 pub use text::push_fact;
 
-#[cfg(test)]
-mod tests;

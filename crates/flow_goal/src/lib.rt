@@ -20,5 +20,3 @@ pub use repeats::Twice;
 pub use simple::simplify;
 pub use tree::{Tree, TreeRefusal};
 
-#[cfg(test)]
-mod tests;

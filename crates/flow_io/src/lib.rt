@@ -13,8 +13,6 @@ mod mem_source;
 mod reading;
 mod std_sink;
 mod std_source;
-#[cfg(test)]
-mod tests;
 mod writing;
 
 pub use cut_source::CutSource;

@@ -5,8 +5,6 @@ mod bytes;
 mod digits;
 mod lexing;
 mod piece;
-#[cfg(test)]
-mod tests;
 mod token;
 mod writing;
 

@@ -9,8 +9,6 @@ mod lines;
 mod number;
 mod refusal;
 mod session;
-#[cfg(test)]
-mod tests;
 mod words;
 
 pub use command::Command;

@@ -8,8 +8,6 @@ mod refused;
 mod reply;
 mod report;
 mod source;
-#[cfg(test)]
-mod tests;
 mod uncompiled;
 mod unexpanded;
 mod unread;

@@ -10,8 +10,6 @@ mod normalizing;
 mod order_set;
 mod rule;
 mod shorthands;
-#[cfg(test)]
-mod tests;
 
 pub use counting::{WayCount, count_ways};
 pub use event_leaves::{LeafEvents, leaf_events};

@@ -4,8 +4,6 @@
 mod laws;
 mod parsing;
 mod places;
-#[cfg(test)]
-mod tests;
 
 pub use flow_form::{
     Const, Decl, Fact, Form, Name, Note, Query, RuleForm, Script, TextRefusal, Wanted,

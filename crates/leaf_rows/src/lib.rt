@@ -2,7 +2,5 @@
 #![tactic(auto)]
 
 mod leaf_set;
-#[cfg(test)]
-mod tests;
 
 pub use leaf_set::LeafSet;

@@ -1,4 +1,4 @@
-use crate::{
+use flow_io::{
     CutSource, Failed, FaultySink, FaultySource, MemSink, MemSource, ReadRefusal, Sink, StdSink,
     StdSource, read_all, write_all,
 };

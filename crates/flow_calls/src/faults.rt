@@ -1,4 +1,4 @@
-use crate::{Status, flow};
+use flow_cli::{Status, flow};
 use flow_io::{FaultySink, FaultySource, MemSink, MemSource, StdSink, StdSource};
 use std::alloc::{AllocError, Global};
 use std::test::Fail;

@@ -1,4 +1,4 @@
-use crate::{Answer, Command, print_reply};
+use flow_reply::{Answer, Command, print_reply};
 use flow_core::{CommitRefusal, PostRefusal, TakeRefusal};
 use std::test::Fail;
 

@@ -1,4 +1,4 @@
-use crate::{print_history, read_session};
+use flow_record::{print_history, read_session};
 use flow_model::{Entry, FailEffect, Step};
 use std::test::Fail;
 

@@ -1,4 +1,4 @@
-use super::*;
+use flow_text::{TextRefusal, parse, parse_query, print};
 use std::alloc::Global;
 use std::test::Fail;
 
