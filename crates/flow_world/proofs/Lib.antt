@@ -1,0 +1,2 @@
+pub mod JournalLabels
+pub mod Trails
