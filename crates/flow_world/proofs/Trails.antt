@@ -1,5 +1,5 @@
 -- Trails of updates: one more, and one less.
-use Rattle.std.proofs.Common.{◌≡◌, ◌==◌, ℕ, Bool, true, false, not, if◌then◌else◌, List, [], ◌∷◌, ◌++◌, length, map, take, refl, sym, ap, subst, ◌∙◌, arith}
+use Rattle.std.proofs.Common.{◌≡◌, ◌==◌, ℕ, Bool, true, false, not, if◌then◌else◌, List, [], ◌∷◌, ◌++◌, length, refl, sym, ap, subst, ◌∙◌}
 use Rattle.std.proofs.lemmas.List.{map-append}
 use Rattle.flow_model.specs.declared.labels.Label.{Label}
 use Rattle.flow_model.specs.declared.labels.Label.TheVariants.{Event, Test, Absent, Ins, Del}
@@ -66,7 +66,7 @@ kept_performed held facts facts' trail trail' u label kept longer is same below 
     = changed ∙ ap (changes (is_held facts)) (sym is) ∙ changes-same _ _ u.label kept.now in
     subst (IsKept held facts') (sym longer) (record {
       updates = subst (λ count. IsTrailFrom count (state_with held) (trail ++ u ∷ [])) (sym same)
-        (trail_with (length facts) (state_with held) trail u kept.updates below' changed');
+          (trail_with (length facts) (state_with held) trail u kept.updates below' changed');
       now = λ n. now n ∙ ap (λ (l : Label). after (is_held facts) l n) (sym is) ∙ after-same _ _ u.label kept.now n ∙ sym (last_after held trail u n);
     })
 

@@ -10,6 +10,6 @@ take_back-requires c =
 pub invariant_of-self : goal.invariant_of-self
 invariant_of-self c = record {
   kept = kept_taken_back c.self.inside.held.items c.self.inside.database c.take_back.new.database c.self.inside.trail.items c.pop.new.self.items c.in-Some.update
-    c.self.invariant.kept c.in-Some.ensures.items c.take_back.ensures.count c.take_back.ensures.held;
+      c.self.invariant.kept c.in-Some.ensures.items c.take_back.ensures.count c.take_back.ensures.held;
   room = omega (arith, c.self.invariant.room, c.pop.ensures.capacity);
 }
