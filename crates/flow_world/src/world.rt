@@ -1,5 +1,6 @@
-ghost use Rattle.std.specs.Prelude.{◌≡◌, ◌<◌, ◌≤◌, ◌-◌, ◌↔◌, ◌∷◌, ◌++◌, [], length, take, false, IsTrue, IfOk, All};
+ghost use Rattle.std.specs.Prelude.{◌≡◌, ◌<◌, ◌≤◌, ◌-◌, ◌↔◌, ◌∷◌, ◌++◌, [], length, take, false, IsTrue, IfOk};
 ghost use Rattle.flow_model.specs.Facts.{Holds};
+ghost use Rattle.flow_model.specs.Lists.{Each};
 
 use crate::update::Update;
 use flow_facts::Database;
@@ -37,7 +38,7 @@ impl World {
 
     /// The listed facts hold, of so many that there may be. There is room for so many labels.
     pub fn new(alloc: Global, count: u32, held: &[u32], room: u32) -> Result<World, AllocError>
-        requires { All (λ n. n < count) held.now }
+        requires { Each (λ fact. fact < count) held.now }
         ensures { IfOk result (λ world. world ≡ course_from held.now count room) }
     {
         Ok(World {
