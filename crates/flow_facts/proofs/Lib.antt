@@ -1,2 +1,3 @@
+pub mod BitFlags
 pub mod Places
 pub mod Indexing
