@@ -106,14 +106,12 @@ numbered gs (suc i) =
 -- the place of a claim that was given
 pub record IsThere (gs : List Given) (number : ℕ) : Type 0 where
   pub place : ℕ
-  pub given : Given
   pub number_is : number ≡ 1 + place
   pub within : place < length gs
-  pub at : slice_get gs place ≡ Some given
 
 pub there : (P : Claim → Type 0) (gs : List Given) (number : ℕ) → IsSomeAnd (claim_in gs number) P → IsThere gs number
 there P gs number h = cases (numbered gs number) h
   where
     cases : Numbered gs number → IsSomeAnd (claim_in gs number) P → IsThere gs number
-    cases (given_at i g n w at claim) h = record { place = i; given = g; number_is = n; within = w; at = at }
+    cases (given_at i g n w at claim) h = record { place = i; number_is = n; within = w }
     cases (not_given none) h = absurd (subst (λ o. IsSomeAnd o P) none h)

@@ -1,7 +1,8 @@
 -- The places and the leaves of the claims that are out.
-use Rattle.std.proofs.Common.{◌≡◌, ◌≤◌, ◌<◌, ◌+◌, ℕ, zero, suc, Bool, true, false, ◌||◌, cond, nat_eq, ◌==◌, List, [], ◌∷◌, ◌++◌, length, map, set, Option, Some, None, slice_get, get_or, inl, inr, ◌↔◌, IsTrue, refl, sym, ap, ◌∙◌, subst, arith, true≢false}
+use Rattle.std.proofs.Common.{◌≡◌, ◌≤◌, ◌<◌, ◌+◌, ℕ, zero, suc, Bool, true, false, ◌||◌, cond, nat_eq, ◌==◌, List, [], ◌∷◌, ◌++◌, length, map, set, Option, Some, None, slice_get, inl, inr, ◌↔◌, IsTrue, refl, sym, ap, ◌∙◌, subst, arith, true≢false}
 use Rattle.std.specs.List.{filter, list_any, remove, position_from}
 use Rattle.std.proofs.lemmas.Bool.{eqb-true, eq-eqb}
+use Rattle.std.proofs.lemmas.Option.{slice_get_within}
 use Rattle.flow_model.specs.Lists.{◌∈◌, Each}
 use Rattle.flow_model.specs.Run.{Claim, RunState, is_current}
 use Rattle.flow_claims.specs.declared.given.Given.{Given}
@@ -101,20 +102,10 @@ is_among b x list other e same = (
   λ m. e ∙ (among x list).1 (subst (λ l. x ∈ l) (sym same) m),
 )
 
-pub member_within : {A : Type 0} (xs : List A) (i : ℕ) (x : A) → slice_get xs i ≡ Some x → i < length xs
-member_within [] i x h = cc
-member_within (y ∷ xs) zero x h = omega arith
-member_within (y ∷ xs) (suc i) x h = let l = member_within xs i x h in omega arith
-
 pub each_at : {A : Type 0} (P : A → Type 0) (xs : List A) (i : ℕ) (x : A) → Each P xs → slice_get xs i ≡ Some x → P x
 each_at P [] i x h at = cc
 each_at P (y ∷ xs) zero x (h, t) at = let e : y ≡ x = cc in subst P e h
 each_at P (y ∷ xs) (suc i) x (h, t) at = each_at P xs i x t at
-
-pub member_read : {A : Type 0} (xs : List A) (i : ℕ) (x d : A) → slice_get xs i ≡ Some x → d ≡ get_or xs i d → slice_get xs i ≡ Some d
-member_read [] i x d h e = cc
-member_read (y ∷ xs) zero x d h e = ap Some (sym e)
-member_read (y ∷ xs) (suc i) x d h e = member_read xs i x d h e
 
 -- ---- one more is given
 
@@ -164,7 +155,7 @@ not_found p n (x ∷ list) h j at = step (nat_eq x p) refl (not_found p (n + 1) 
 pub found_within : (p : ℕ) (list : List ℕ) (i : ℕ) → position_from (λ other. other == p) 0 list ≡ Some i → i < length list
 found_within p list i h =
     let (j, same, there) = found p 0 list i h in
-    let within = member_within list j p there in
+    let within = slice_get_within list j p there in
     omega arith
 
 -- the one at the place is taken out of the current ones where it stands among them

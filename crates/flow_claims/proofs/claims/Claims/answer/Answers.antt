@@ -1,13 +1,14 @@
-use Rattle.std.proofs.Common.{◌≡◌, ◌+◌, ◌-◌, ℕ, ◌==◌, false, Some, None, List, length, set, get_or, slice_get, sym, ap, ◌∙◌, subst, arith, length-set}
+use Rattle.std.proofs.Common.{◌≡◌, ◌+◌, ◌-◌, ◌<◌, ℕ, ◌==◌, false, Some, None, List, length, set, get_or, slice_get, refl, sym, ap, ◌∙◌, subst, arith, length-set}
 use Rattle.std.specs.Vec.{vec_len, vec_capacity}
 use Rattle.std.specs.List.{position_from, remove}
+use Rattle.std.proofs.lemmas.Option.{slice_get_read}
 use Rattle.flow_model.specs.Run.{Claim, answer}
 use Rattle.flow_claims.specs.declared.given.Given.{Given}
 use Rattle.flow_claims.specs.declared.claims.Claims.TheInside.{Inside}
 use Rattle.flow_claims.specs.Claimed.{Claimed, IsUnanswered}
 use Rattle.flow_claims.specs.Fields.{claimed, claimed_by, IsKept}
 use Rattle.flow_claims.proofs.Numbering.{answered, IsThere, there}
-use Rattle.flow_claims.proofs.Outstanding.{member_read, found_within, length-out_leaves}
+use Rattle.flow_claims.proofs.Outstanding.{found_within, length-out_leaves}
 use Rattle.flow_claims.proofs.Counting.{kept_answer, kept_late, answered_value}
 use Rattle.flow_claims.proofs.claims.Claims.answer.Goals as goal
 
@@ -17,8 +18,9 @@ there_in i v number view h = there (λ (claim : Claim). claim.answered ≡ false
 read_in : (gs : List Given) (number : ℕ) (g : Given) → IsThere gs number → g ≡ get_or gs (number - 1) g → slice_get gs (number - 1) ≡ Some g
 read_in gs number g t is =
     let number_is = t.number_is in
-    let place : number - 1 ≡ t.place = omega arith in
-    member_read gs (number - 1) t.given g (ap (slice_get gs) place ∙ t.at) is
+    let within = t.within in
+    let inside : number - 1 < length gs = omega arith in
+    slice_get_read gs (length gs) (number - 1) g refl inside is
 
 pub overflow_sub-place : goal.overflow_sub-place
 overflow_sub-place c =
