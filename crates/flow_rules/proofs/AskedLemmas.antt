@@ -1,5 +1,5 @@
 -- What the parts of a rule ask together.
-use Rattle.std.proofs.Common.{◌≡◌, ℕ, zero, suc, ◌+◌, ◌<◌, Bool, true, false, ◌||◌, if◌then◌else◌, List, [], ◌∷◌, ◌++◌, length, take, get_or, map, fold, refl, sym, ap, subst, ◌∙◌, append-nil, true≢false, arith, Vec, Global, Result, Ok, Err, IfOk}
+use Rattle.std.proofs.Common.{◌≡◌, ℕ, zero, suc, ◌<◌, Bool, true, false, ◌||◌, if◌then◌else◌, List, [], ◌∷◌, ◌++◌, length, get_or, map, fold, refl, sym, ap, subst, ◌∙◌, append-nil, true≢false, arith, Vec, Global, Result, Ok, Err, IfOk}
 use Rattle.std.specs.declared.alloc.AllocError.{AllocError}
 use Rattle.flow_rules.specs.declared.asked.Found.{Found}
 use Rattle.std.specs.List.{list_any}
@@ -13,7 +13,7 @@ use Rattle.flow_rules.specs.declared.asked.Asked.TheFolds.{fold-roll-Asked}
 use Rattle.flow_rules.specs.declared.asked.Asked as asked
 use Rattle.flow_rules.specs.Asked.{AreOpen, Finds, asked_step, ways_asked, ways_of_all, ways_of_any}
 use Rattle.flow_rules.specs.WayLists.{both_ways, either_way, is_none}
-use Rattle.flow_rules.proofs.WayListLemmas.{fold_more, joined_push, fold_push, both_free, all_none, any_free, free_is, not_free-append}
+use Rattle.flow_rules.proofs.WayListLemmas.{joined_push, fold_push, all_none, any_free, not_free-append}
 
 pub asked_all : (parts : Vec Asked Global) → ways_asked (asked.All parts) ≡ ways_of_all parts.items
 asked_all parts = ap ways_asked (sym (rolls-All parts)) ∙ fold-roll-Asked (List (List (ℕ × ℕ))) asked_step (open_asked.All parts)

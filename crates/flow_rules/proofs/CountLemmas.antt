@@ -1,6 +1,6 @@
 -- How many ways lists have that are put together, and how many pairs.
-use Rattle.std.proofs.Common.{◌≡◌, ℕ, zero, suc, ◌+◌, ◌*◌, ◌-◌, ◌^◌, ◌<◌, ◌≤◌, ◌==◌, min, Bool, true, false, ◌||◌, ◌&&◌, if◌then◌else◌, List, [], ◌∷◌, ◌++◌, length, map, refl, sym, ap, ◌∙◌, ◌⊎◌, inl, inr, arith, append_assoc, true≢false}
-use Rattle.std.proofs.Math.Nat.{min-eq_left, min-eq_right, zero-mul, mul-zero, suc-mul, mul-suc, add-mul, mul_comm, le-mul_of_pos_right, zero-add, add-zero, add_assoc}
+use Rattle.std.proofs.Common.{◌≡◌, ℕ, zero, suc, ◌+◌, ◌*◌, ◌-◌, ◌^◌, ◌≤◌, ◌==◌, min, Bool, true, false, ◌||◌, ◌&&◌, if◌then◌else◌, List, [], ◌∷◌, ◌++◌, length, map, refl, sym, ap, ◌∙◌, ◌⊎◌, inl, inr, arith}
+use Rattle.std.proofs.Math.Nat.{min-eq_left, min-eq_right, zero-mul, mul-zero, suc-mul, mul-suc, add-mul, mul_comm, zero-add}
 use Rattle.std.proofs.lemmas.Bool.{cases_lt, ne_eqb}
 use Rattle.std.proofs.lemmas.List.{length-append}
 use Rattle.flow_model.specs.Lists.{joined}

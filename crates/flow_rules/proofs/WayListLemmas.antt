@@ -1,12 +1,10 @@
 -- Lists of ways put together.
-use Rattle.std.proofs.Common.{◌≡◌, ℕ, ◌+◌, ◌<◌, Bool, true, false, ◌||◌, if◌then◌else◌, List, [], ◌∷◌, ◌++◌, length, take, get_or, map, fold, refl, sym, ap, ◌∙◌, append_assoc, append-nil, true≢false, Vec, Global, Result, Ok, Err, IfOk}
+use Rattle.std.proofs.Common.{◌≡◌, ℕ, ◌+◌, ◌<◌, Bool, true, false, ◌||◌, if◌then◌else◌, List, [], ◌∷◌, ◌++◌, length, take, get_or, map, fold, refl, sym, ap, ◌∙◌, append_assoc, append-nil, true≢false}
 use Rattle.std.specs.List.{list_any}
 use Rattle.std.proofs.lemmas.List.{take_more, map-append}
 use Rattle.flow_model.specs.Lists.{each_with_each, joined}
 use Rattle.flow_model.specs.Ways.{free_way, is_free}
-use Rattle.std.specs.declared.alloc.AllocError.{AllocError}
-use Rattle.flow_rules.specs.declared.order_set.OrderSet.{OrderSet}
-use Rattle.flow_rules.specs.WayLists.{both_ways, either_way, is_none, pairs_of}
+use Rattle.flow_rules.specs.WayLists.{both_ways, either_way, is_none}
 
 -- one member more
 
@@ -161,4 +159,3 @@ joined_more f xs i x h e =
 pub any_free : {A : Type 0} (f : A → List (List (ℕ × ℕ))) (xs : List A) → list_any (λ x. is_free (f x)) xs ≡ true →
     fold (λ vs x. either_way vs (f x)) [] xs ≡ free_way
 any_free f xs h = either_joined f xs [] ∙ ap (λ b. if b then free_way else joined (map f xs)) h
-

@@ -1,5 +1,5 @@
 -- What a rule asks of some leaves.
-use Rattle.std.specs.Prelude.{◌≡◌, ℕ, Bool, true, false, List, [], ◌∷◌, ◌++◌, map, fold}
+use Rattle.std.specs.Prelude.{◌≡◌, ℕ, false, List, [], ◌∷◌, map, fold}
 use Rattle.flow_model.specs.Lists.{joined}
 use Rattle.flow_model.specs.Ways.{free_way, is_free}
 use Rattle.flow_rules.specs.declared.asked.Asked.{Asked}

@@ -1,5 +1,5 @@
 -- How many ways a list has, and how many pairs, in 64 bits.
-use Rattle.std.specs.Prelude.{ℕ, ◌+◌, ◌*◌, ◌-◌, ◌^◌, ◌==◌, min, Bool, ◌||◌, ◌&&◌, if◌then◌else◌, List, [], ◌∷◌, length}
+use Rattle.std.specs.Prelude.{ℕ, ◌+◌, ◌*◌, ◌-◌, ◌^◌, ◌==◌, min, Bool, ◌||◌, ◌&&◌, if◌then◌else◌, List, length}
 use Rattle.flow_model.specs.Lists.{joined}
 use Rattle.flow_rules.specs.declared.counting.WayCount.{WayCount}
 

@@ -1,10 +1,10 @@
-use Rattle.std.proofs.Common.{◌≡◌, ◌∙◌, ℕ, ◌+◌, [], ◌++◌, ◌∷◌, List, Vec, Global, length, take, sym, ap, subst, arith}
+use Rattle.std.proofs.Common.{◌∙◌, ℕ, ◌+◌, [], List, Vec, Global, take, sym, ap, subst, arith}
 use Rattle.std.proofs.lemmas.List.{take_all}
 use Rattle.flow_model.specs.Ways.{free_way, ways}
 use Rattle.flow_rules.specs.declared.normal.Nnf.{Nnf}
 use Rattle.flow_rules.specs.declared.asked.Asked.{Asked}
 use Rattle.flow_rules.specs.declared.asked.Found.{Found}
-use Rattle.flow_rules.specs.Asked.{AreOpen, Finds}
+use Rattle.flow_rules.specs.Asked.{Finds}
 use Rattle.flow_rules.specs.EventLeaves.{leaf_in}
 use Rattle.flow_rules.specs.Normal.{normal_of}
 use Rattle.flow_rules.specs.WayLists.{all_ways, any_ways, both_ways, either_way}

@@ -1,5 +1,4 @@
-use Rattle.std.proofs.Common.{◌≡◌, take}
-use Rattle.flow_rules.specs.Asked.{ways_of_all, ways_of_any}
+use Rattle.std.proofs.Common.{take}
 use Rattle.flow_rules.specs.EventLeaves.{leaf_in}
 use Rattle.flow_rules.specs.WayLists.{all_ways, any_ways}
 use Rattle.flow_rules.proofs.AskedLemmas.{IsProduct, IsSum}
