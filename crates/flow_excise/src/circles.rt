@@ -64,11 +64,11 @@ pub(crate) fn find_circle(alloc: Global, plan: &Plan) -> Result<Circle, AllocErr
     requires { ¬ (HasExecution (option_of plan.now)) }
     ensures { IfOk result (λ circle. IsCircle plan.now.process (pairs_of plan.now.tokens) circle.leaves.items) }
 {
-    let goal = plan.goal();
+    let goal = plan.goal(alloc)?;
     let _leaves = plan.leaves();
-    match circle_in(alloc, plan, goal)? {
+    match circle_in(alloc, plan, &goal)? {
         Some(circle) => Ok(circle),
-        None => match inner_circle(alloc, plan, goal)? {
+        None => match inner_circle(alloc, plan, &goal)? {
             Some(circle) => Ok(circle),
             None => unreachable!(),
         },

@@ -13,6 +13,7 @@ use Rattle.flow_model.specs.contracts.history.Entry as entry
 use Rattle.flow_model.specs.Process.{Process, Empty, Task, Sequence, Parallel, Choice, Isolated}
 use Rattle.flow_model.specs.Constraint.{Constraint, Always, Impossible, Must, Never, Order, Not, And, Or}
 use Rattle.flow_model.specs.Schema.{Schema}
+use Rattle.flow_model.specs.Resolution.{ChoiceOption}
 
 abbrev process_value : Process → Gv
 process_value Empty = gcons (gnum 0) gnil
@@ -43,6 +44,10 @@ process_code = record {
   code = process_value;
   inj = λ x y p. sym (process_again x) ∙ ap process_back p ∙ process_again y;
 }
+
+abbrev pub option_code : Coded ChoiceOption
+option_code = code_by (Process × List (ℕ × ℕ)) (coded× process_code (coded_list (coded× coded_ℕ coded_ℕ)))
+    (λ o. (o.resolution, o.order)) (λ p. record { resolution = p.0; order = p.1 }) (λ _. refl)
 
 abbrev events_value : List ℕ → Gv
 events_value [] = gnil

@@ -1,23 +1,155 @@
--- Bans, as leaves and as pairs.
-use Rattle.std.proofs.Common.{◌≡◌, ℕ, Bool, ◌↔◌, IsTrue, List, [], ◌∷◌, subst}
-use Rattle.flow_model.specs.Lists.{Each}
+-- The least bans that options hold.
+use Rattle.std.proofs.Common.{◌≡◌, ◌≢◌, ℕ, zero, suc, ◌+◌, ◌<◌, ◌≤◌, nat_le, nat_lt, min, not, is_some, Bool, true, false, cond, ◌↔◌, IsTrue, List, [], ◌∷◌, ◌++◌, length, get_or, set, Option, None, Some, slice_get, refl, sym, ◌∙◌, subst, inl, inr, ⊎_elim, arith, get_or-set_same, get_or-set_other, below_more, length-append}
+use Rattle.std.specs.List.{filter}
+use Rattle.std.proofs.Math.ListN.{length-set}
+use Rattle.std.proofs.lemmas.Bool.{cases_lt, le-leb, leb-true, ltb-true, lt-ltb}
+use Rattle.std.proofs.lemmas.Option.{slice_get_within, slice_get-get_or}
+use Rattle.flow_model.specs.Lists.{◌∈◌, Each}
+use Rattle.flow_model.specs.Process.{leaves}
 use Rattle.flow_model.specs.Resolution.{ChoiceOption}
-use Rattle.flow_plan.specs.Planned.{Planned}
-use Rattle.flow_excise.specs.Plans.{option_of}
-use Rattle.flow_residual.specs.declared.ban.Ban.{Ban}
-use Rattle.flow_residual.specs.View.{pairs_of_bans}
+use Rattle.flow_laws.proofs.ListLemmas2.{each-append, each_to, each-filter, each_member, mem_append_left, mem_append_right}
+use Rattle.flow_residual.specs.Bans.{IsLeastBan, AreLeastBans}
 
--- what each ban has, its pair has
-pub bans_each : (P : ℕ × ℕ → Type 0) (bans : List Ban) → Each (λ (ban : Ban). P (ban.index, ban.leaf)) bans ↔ Each P (pairs_of_bans bans)
-bans_each P [] = (λ h. h, λ h. h)
-bans_each P (ban ∷ bans) =
-    let rest = bans_each P bans in
-    (λ h. (h.0, rest.0 h.1), λ h. (h.0, rest.1 h.1))
+-- ---- one ban more
 
--- what a test of a plan says of its option
-pub tested : (P : ChoiceOption → ℕ × ℕ → Type 0) (bans told : List Ban) (p : Planned) (o : ChoiceOption) (b : Bool) → told ≡ bans → option_of p ≡ o →
-    (IsTrue b ↔ Each (λ (ban : Ban). P (option_of p) (ban.index, ban.leaf)) told) → IsTrue b ↔ Each (P o) (pairs_of_bans bans)
-tested P bans told p o b same is says =
-    subst (λ (q : ChoiceOption). IsTrue b ↔ Each (P q) (pairs_of_bans bans)) is
-    (subst (λ (l : List Ban). IsTrue b ↔ Each (P (option_of p)) (pairs_of_bans l)) same
-    (λ yes. (bans_each (P (option_of p)) told).0 (says.0 yes), λ each. says.1 ((bans_each (P (option_of p)) told).1 each)))
+pub ban_elsewhere : (o : ChoiceOption) (bans : List (ℕ × ℕ)) (b : Option ℕ) (i leaf : ℕ) → ¬ (leaf ∈ leaves o.resolution) → IsLeastBan o bans b →
+    IsLeastBan o (bans ++ (i, leaf) ∷ []) b
+ban_elsewhere o bans None i leaf out is = each-append (λ ban. ¬ (ban.1 ∈ leaves o.resolution)) bans ((i, leaf) ∷ []) is (out, tt)
+ban_elsewhere o bans (Some j) i leaf out is = (
+  each-append (λ ban. ban.1 ∈ leaves o.resolution → j ≤ ban.0) bans ((i, leaf) ∷ []) is.0 ((λ h. absurd (out h)), tt),
+  (is.1.0, mem_append_left (j, is.1.0) bans ((i, leaf) ∷ []) is.1.1, is.1.2),
+)
+
+pub ban_first : (o : ChoiceOption) (bans : List (ℕ × ℕ)) (i leaf : ℕ) → leaf ∈ leaves o.resolution → IsLeastBan o bans None →
+    IsLeastBan o (bans ++ (i, leaf) ∷ []) (Some i)
+ban_first o bans i leaf here is = (
+  each-append (λ ban. ban.1 ∈ leaves o.resolution → i ≤ ban.0) bans ((i, leaf) ∷ [])
+      (each_to (λ (ban : ℕ × ℕ). ¬ (ban.1 ∈ leaves o.resolution)) (λ (ban : ℕ × ℕ). ban.1 ∈ leaves o.resolution → i ≤ ban.0) bans (λ ban none h. absurd (none h)) is)
+      ((λ h. let b : i ≤ i = omega arith in b), tt),
+  (leaf, mem_append_right (i, leaf) bans ((i, leaf) ∷ []) (inl refl), here),
+)
+
+pub ban_lesser : (o : ChoiceOption) (bans : List (ℕ × ℕ)) (j i leaf : ℕ) → leaf ∈ leaves o.resolution → IsLeastBan o bans (Some j) →
+    IsLeastBan o (bans ++ (i, leaf) ∷ []) (Some (min j i))
+ban_lesser o bans j i leaf here is = (
+  each-append (λ ban. ban.1 ∈ leaves o.resolution → min j i ≤ ban.0) bans ((i, leaf) ∷ [])
+      (each_to (λ (ban : ℕ × ℕ). ban.1 ∈ leaves o.resolution → j ≤ ban.0) (λ (ban : ℕ × ℕ). ban.1 ∈ leaves o.resolution → min j i ≤ ban.0) bans (λ ban least h. let l = least h in omega (arith, l)) is.0)
+      ((λ h. let b : min j i ≤ i = omega arith in b), tt),
+  ⊎_elim
+      (λ less. let same : j ≡ min j i = omega (arith, less) in
+      subst (λ (m : ℕ). (n : ℕ) × ((m, n) ∈ (bans ++ (i, leaf) ∷ [])) × (n ∈ leaves o.resolution)) same
+      (is.1.0, mem_append_left (j, is.1.0) bans ((i, leaf) ∷ []) is.1.1, is.1.2))
+      (λ more. let same : i ≡ min j i = omega (arith, more) in
+      subst (λ (m : ℕ). (n : ℕ) × ((m, n) ∈ (bans ++ (i, leaf) ∷ [])) × (n ∈ leaves o.resolution)) same
+      (leaf, mem_append_right (i, leaf) bans ((i, leaf) ∷ []) (inl refl), here))
+      (cases_lt j i),
+)
+
+-- ---- bans that are lifted
+
+member_filter : (p : ℕ × ℕ → Bool) (bans : List (ℕ × ℕ)) (ban : ℕ × ℕ) → p ban ≡ true → ban ∈ bans → ban ∈ filter p bans
+member_filter p [] ban stays member = member
+member_filter p (b ∷ bans) ban stays (inl same) = subst (λ (l : List (ℕ × ℕ)). ban ∈ l)
+    (λ k. cond (subst (λ (x : ℕ × ℕ). true ≡ p x) same (sym stays) k) (b ∷ filter p bans) (filter p bans)) (inl same)
+member_filter p (b ∷ bans) ban stays (inr member) = step (p b) (member_filter p bans ban stays member)
+  where
+    step : (t : Bool) → ban ∈ filter p bans → ban ∈ cond t (b ∷ filter p bans) (filter p bans)
+    step true h = inr h
+    step false h = h
+
+abbrev pub up_to : ℕ → ℕ × ℕ → Bool
+up_to index ban = nat_le ban.0 index
+
+pub cut_none : (o : ChoiceOption) (bans : List (ℕ × ℕ)) (index : ℕ) → IsLeastBan o bans None → IsLeastBan o (filter (up_to index) bans) None
+cut_none o bans index is =
+    each-filter (λ (ban : ℕ × ℕ). ¬ (ban.1 ∈ leaves o.resolution)) (λ (ban : ℕ × ℕ). ¬ (ban.1 ∈ leaves o.resolution)) (up_to index) bans (λ ban stays none. none) is
+
+pub cut_stays : (o : ChoiceOption) (bans : List (ℕ × ℕ)) (index i : ℕ) → i ≤ index → IsLeastBan o bans (Some i) → IsLeastBan o (filter (up_to index) bans) (Some i)
+cut_stays o bans index i within is = (
+  each-filter (λ (ban : ℕ × ℕ). ban.1 ∈ leaves o.resolution → i ≤ ban.0) (λ (ban : ℕ × ℕ). ban.1 ∈ leaves o.resolution → i ≤ ban.0) (up_to index) bans (λ ban stays least. least) is.0,
+  (is.1.0, member_filter (up_to index) bans (i, is.1.0) (le-leb i index within) is.1.1, is.1.2),
+)
+
+pub cut_goes : (o : ChoiceOption) (bans : List (ℕ × ℕ)) (index i : ℕ) → index < i → IsLeastBan o bans (Some i) → IsLeastBan o (filter (up_to index) bans) None
+cut_goes o bans index i past is =
+    each-filter (λ (ban : ℕ × ℕ). ¬ (ban.1 ∈ leaves o.resolution)) (λ (ban : ℕ × ℕ). ban.1 ∈ leaves o.resolution → i ≤ ban.0) (up_to index) bans
+    (λ ban stays least h. let l = least h in let s = leb-true ban.0 index stays in omega (arith, l, s, past)) is.0
+
+-- ---- what the least ban says
+
+pub above_none : (o : ChoiceOption) (bans : List (ℕ × ℕ)) (index : ℕ) → IsLeastBan o bans None → Each (λ ban. ban.0 ≤ index → ¬ (ban.1 ∈ leaves o.resolution)) bans
+above_none o bans index is = each_to (λ (ban : ℕ × ℕ). ¬ (ban.1 ∈ leaves o.resolution)) (λ (ban : ℕ × ℕ). ban.0 ≤ index → ¬ (ban.1 ∈ leaves o.resolution)) bans (λ ban none below. none) is
+
+pub above_some : (o : ChoiceOption) (bans : List (ℕ × ℕ)) (index i : ℕ) → IsLeastBan o bans (Some i) →
+    (index < i) ↔ Each (λ ban. ban.0 ≤ index → ¬ (ban.1 ∈ leaves o.resolution)) bans
+above_some o bans index i is = (
+  λ past. each_to (λ (ban : ℕ × ℕ). ban.1 ∈ leaves o.resolution → i ≤ ban.0) (λ (ban : ℕ × ℕ). ban.0 ≤ index → ¬ (ban.1 ∈ leaves o.resolution)) bans
+      (λ ban least below h. let l = least h in omega (arith, l, below, past)) is.0,
+  λ none. ⊎_elim (λ past. past)
+      (λ within. absurd (each_member (λ (ban : ℕ × ℕ). ban.0 ≤ index → ¬ (ban.1 ∈ leaves o.resolution)) bans none (i, is.1.0) is.1.1 (let b : i ≤ index = omega (arith, within) in b) is.1.2))
+      (cases_lt index i),
+)
+
+-- none is held exactly where there is no least one
+pub held_some : (o : ChoiceOption) (bans : List (ℕ × ℕ)) (i : ℕ) → IsLeastBan o bans (Some i) → ¬ Each (λ ban. ¬ (ban.1 ∈ leaves o.resolution)) bans
+held_some o bans i is none = each_member (λ (ban : ℕ × ℕ). ¬ (ban.1 ∈ leaves o.resolution)) bans none (i, is.1.0) is.1.1 is.1.2
+
+pub none_held : (o : ChoiceOption) (bans : List (ℕ × ℕ)) (b : Option ℕ) (answer : Bool) → is_some b ≡ not answer → IsLeastBan o bans b →
+    IsTrue answer ↔ Each (λ ban. ¬ (ban.1 ∈ leaves o.resolution)) bans
+none_held o bans None true e is = (λ h. is, λ none. refl)
+none_held o bans None false e is = absurd (cc)
+none_held o bans (Some i) true e is = absurd (cc)
+none_held o bans (Some i) false e is = (λ wrong. absurd (cc), λ none. absurd (held_some o bans i is none))
+
+-- what was read at the place of an option is its least ban
+pub least_read : {os : List ChoiceOption} {bans : List (ℕ × ℕ)} {least : List (Option ℕ)} → AreLeastBans os bans least → (k : ℕ) (o : ChoiceOption) (b : Option ℕ) →
+    slice_get os k ≡ Some o → b ≡ get_or least k b → IsLeastBan o bans b
+least_read {os} {bans} {least} are k o b at is =
+    let within : k < length least = omega (arith, are.one_each, slice_get_within os k o at) in
+    let here : slice_get least k ≡ Some (get_or least k b) = slice_get-get_or least k b within in
+    let there : slice_get least k ≡ Some (get_or least k None) = slice_get-get_or least k None within in
+    subst (IsLeastBan o bans) (let same : get_or least k None ≡ b = cc in same) (are.each k o at)
+
+-- ---- least bans that are changed in turn
+
+-- the first so many are those of the new bans, the others still of the old ones
+pub record AreChanged (os : List ChoiceOption) (old new : List (ℕ × ℕ)) (i : ℕ) (least : List (Option ℕ)) : Type 0 where
+  pub one_each : length least ≡ length os
+  pub changed : (k : ℕ) → k < i → (o : ChoiceOption) → slice_get os k ≡ Some o → IsLeastBan o new (get_or least k None)
+  pub still : (k : ℕ) → i ≤ k → (o : ChoiceOption) → slice_get os k ≡ Some o → IsLeastBan o old (get_or least k None)
+
+module _ (os : List ChoiceOption) (old new : List (ℕ × ℕ)) where
+  pub changed_none : (least : List (Option ℕ)) → AreLeastBans os old least → AreChanged os old new 0 least
+  changed_none least are = record { one_each = are.one_each; changed = λ k h. absurd (omega arith); still = λ k h o at. are.each k o at }
+
+  pub changed_set : (i : ℕ) (v : Option ℕ) (least : List (Option ℕ)) → i < length least → AreChanged os old new i least →
+      ((o : ChoiceOption) → slice_get os i ≡ Some o → IsLeastBan o new v) → AreChanged os old new (i + 1) (set least i v)
+  changed_set i v least within are here = record {
+    one_each = length-set least i v ∙ are.one_each;
+    changed = below_more (λ k. (o : ChoiceOption) → slice_get os k ≡ Some o → IsLeastBan o new (get_or (set least i v) k None)) i
+        (λ k h o at. let ne : k ≢ i = omega arith in rw get_or-set_other (are.changed k h o at))
+        (λ o at. rw get_or-set_same (here o at));
+    still = λ k h o at. let ne : k ≢ i = omega arith in rw get_or-set_other (are.still k (omega arith) o at);
+  }
+
+  pub changed_all : (n : ℕ) (least : List (Option ℕ)) → length least ≤ n → AreChanged os old new n least → AreLeastBans os new least
+  changed_all n least past are = record {
+    one_each = are.one_each;
+    each = λ k o at. let within = slice_get_within os k o at in are.changed k (omega (arith, are.one_each)) o at;
+  }
+
+-- no plan holds a ban of none
+pub least_more : (os : List ChoiceOption) (o : ChoiceOption) (least : List (Option ℕ)) → AreLeastBans os [] least → AreLeastBans (os ++ o ∷ []) [] (least ++ None ∷ [])
+least_more os o least are = record {
+  one_each = omega (arith, are.one_each, length-append os (o ∷ []), length-append least (None ∷ []));
+  each = more os least are.one_each are.each;
+}
+  where
+    more : (os : List ChoiceOption) (least : List (Option ℕ)) → length least ≡ length os → ((k : ℕ) (p : ChoiceOption) → slice_get os k ≡ Some p → IsLeastBan p [] (get_or least k None)) →
+        (k : ℕ) (p : ChoiceOption) → slice_get (os ++ o ∷ []) k ≡ Some p → IsLeastBan p [] (get_or (least ++ None ∷ []) k None)
+    more [] [] e each zero p at = tt
+    more [] [] e each (suc k) p at = absurd (cc)
+    more [] (b ∷ least) e each k p at = absurd (omega (arith, e))
+    more (q ∷ os) [] e each k p at = absurd (omega (arith, e))
+    more (q ∷ os) (b ∷ least) e each zero p at = each zero p at
+    more (q ∷ os) (b ∷ least) e each (suc k) p at = more os least (omega (arith, e)) (λ j r. each (suc j) r) k p at

@@ -27,6 +27,15 @@ done_more old new xs i within noted same n =
           (⊎_elim (λ before. inl ((same n).1 before)) (λ last. inr last) (mem-append n (take i xs) (leaf ∷ []) (subst (λ (l : List ℕ). n ∈ l) more member))),
     )
 
+pub done_push : (old new : Progress) (journal more : List ℕ) (leaf : ℕ) → ((n : ℕ) → is_done new n ≡ (n == leaf || is_done old n)) → more ≡ journal ++ leaf ∷ [] →
+    AreDone old journal → AreDone new more
+done_push old new journal more leaf noted is same n = (
+  λ done. subst (λ (l : List ℕ). n ∈ l) (sym is)
+      (⊎_elim (λ before. mem_append_left n journal (leaf ∷ []) ((same n).0 before)) (λ last. mem_append_right n journal (leaf ∷ []) last) (noted_to old new leaf noted n done)),
+  λ member. noted_from old new leaf noted n
+      (⊎_elim (λ before. inl ((same n).1 before)) (λ last. inr last) (mem-append n journal (leaf ∷ []) (subst (λ (l : List ℕ). n ∈ l) is member))),
+)
+
 -- whether a leaf was found in a rising list
 pub found_there : (xs : List ℕ) (x : ℕ) (r : Result ℕ ℕ) → IsBinarySearchResult (λ y. nat_cmp y x) xs r → IsStrictlyIncreasing xs → IsTrue (is_ok r) ↔ (x ∈ xs)
 found_there xs x (Ok i) is rising =

@@ -219,6 +219,14 @@ module _ (p : Planned) (done : Progress) (journal : List ℕ) (same : AreDone do
 pub in_words : (b : Bool) (P Q : Type 0) → (IsTrue b ↔ P) → (P ↔ Q) → IsTrue b ↔ Q
 in_words b P Q says same = (λ yes. same.0 (says.0 yes), λ q. says.1 (same.1 q))
 
+-- each leaf of those that an option takes, and the first, may come next
+pub each_comes_next : (r : Remaining) (list : List ℕ) → SomeOption (TakesAll r list) r.options → Each (MayComeNext r) list
+each_comes_next r list (o, m, (live, all)) = each_from_members (MayComeNext r) list (λ n member.
+    (o, live, each_member (IsReady o.resolution o.order (λ x. x ∈ r.journal)) list (side_by_side_of o.resolution o.order (λ x. x ∈ r.journal) list all).each n member))
+
+pub first_comes_next : (r : Remaining) (first : ℕ) (list : List ℕ) → SomeOption (TakesFirst r first list) r.options → MayComeNext r first
+first_comes_next r first list (o, m, (live, ready, all)) = (o, live, ready)
+
 -- with no other leaf
 pub comes_alone : (r : Remaining) (leaf : ℕ) (list : List ℕ) → list ≡ [] → SomeOption (TakesFirst r leaf list) r.options ↔ MayComeNext r leaf
 comes_alone r leaf list none = (

@@ -3,8 +3,8 @@ use Rattle.std.specs.Prelude.{◌≡◌, ℕ, List, ◌∷◌}
 use Rattle.std.proofs.Common.{refl}
 use Rattle.std.specs.Coded.{Coded, code_by, coded×, coded_ℕ, coded_list}
 use Rattle.flow_model.specs.Lists.{◌∈◌, Each, IsOrderOf}
-use Rattle.flow_model.specs.Process.{Process, leaves}
-use Rattle.flow_model.specs.Stored.{process_code}
+use Rattle.flow_model.specs.Process.{leaves}
+use Rattle.flow_model.specs.Stored.{option_code}
 use Rattle.flow_model.specs.Schema.{Schema}
 use Rattle.flow_model.specs.Resolution.{ChoiceOption, options}
 use Rattle.flow_model.specs.Ready.{IsReady, IsReadyRun}
@@ -19,10 +19,6 @@ pub record Remaining : Type 0 where
   pub journal : List ℕ
   -- a length of the journal, and the leaf that was banned there
   pub bans : List (ℕ × ℕ)
-
-abbrev option_code : Coded ChoiceOption
-option_code = code_by (Process × List (ℕ × ℕ)) (coded× process_code (coded_list (coded× coded_ℕ coded_ℕ)))
-    (λ o. (o.resolution, o.order)) (λ p. record { resolution = p.0; order = p.1 }) (λ _. refl)
 
 abbrev pub remaining_code : Coded Remaining
 remaining_code = code_by (List ChoiceOption × (List ℕ × List (ℕ × ℕ)))

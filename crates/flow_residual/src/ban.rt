@@ -1,8 +1,14 @@
-ghost use Rattle.std.specs.Prelude.{◌≤◌, ◌↔◌, IsTrue};
+ghost use Rattle.std.specs.Prelude.{◌≡◌, ◌≤◌, ◌↔◌, ℕ, List, [], ◌∷◌, ◌++◌, IsTrue, IfOk, length, nat_le};
+ghost use Rattle.std.specs.List.{filter};
 ghost use Rattle.flow_model.specs.Lists.{◌∈◌, Each};
 ghost use Rattle.flow_model.specs.Process.{leaves};
+ghost use Rattle.flow_model.specs.Resolution.{ChoiceOption};
+ghost use Rattle.flow_excise.specs.Compilation.{options_of};
+ghost use Rattle.flow_excise.specs.Plans.{option_of};
+ghost use Rattle.flow_residual.specs.Bans.{IsLeastBan, AreLeastBans};
 
-use flow_plan::Plan;
+use flow_plan::{KnotFree, Plan};
+use std::alloc::{AllocError, Global};
 
 /// A leaf that no longer may be in the run.
 #[derive(Clone, Copy, Debug, PartialEq, Eq)]
@@ -19,27 +25,72 @@ pub(crate) fn holds(plan: &Plan, leaf: u32) -> bool
     plan.leaves().binary_search(&leaf).is_ok()
 }
 
-/// Whether the plan holds no banned leaf.
-pub(crate) fn is_unbanned(plan: &Plan, bans: &[Ban]) -> bool
-    ensures { IsTrue result ↔ Each (λ ban. ¬ (ban.leaf ∈ leaves plan.now.process)) bans.now }
+/// No plan holds a ban yet.
+pub(crate) fn no_bans(alloc: Global, plans: &[KnotFree]) -> Result<Vec<Option<u32>>, AllocError>
+    ensures { IfOk result (λ least. AreLeastBans (options_of plans.now) [] least.items) }
 {
-    for ban in bans {
-        if holds(plan, ban.leaf) {
-            return false;
-        }
+    let mut least = Vec::with_capacity(alloc, plans.len())?;
+    for _plan in plans {
+        least.push(None)?;
     }
-    true
+    Ok(least)
 }
 
-/// Whether the plan holds no leaf banned up to that length of the journal.
-pub(crate) fn is_unbanned_up_to(plan: &Plan, bans: &[Ban], index: u32) -> bool
-    ensures { IsTrue result
-        ↔ Each (λ ban. ban.index ≤ index → ¬ (ban.leaf ∈ leaves plan.now.process)) bans.now }
+/// The least index of a ban that the plan holds, after one ban more.
+fn with_ban(plan: &Plan, least: Option<u32>, ban: Ban) -> Option<u32>
+    ensures { (bans : List (ℕ × ℕ)) → IsLeastBan (option_of plan.now) bans least →
+        IsLeastBan (option_of plan.now) (bans ++ (ban.index, ban.leaf) ∷ []) result }
 {
-    for ban in bans {
-        if ban.index <= index && holds(plan, ban.leaf) {
-            return false;
-        }
+    if !holds(plan, ban.leaf) {
+        return least;
     }
-    true
+    match least {
+        Some(first) => Some(first.min(ban.index)),
+        None => Some(ban.index),
+    }
+}
+
+/// The least index where only bans up to that index stay.
+fn cut_ban(least: Option<u32>, index: u32) -> Option<u32>
+    ensures { (o : ChoiceOption) (bans : List (ℕ × ℕ)) → IsLeastBan o bans least →
+        IsLeastBan o (filter (λ ban. nat_le ban.0 index) bans) result }
+{
+    match least {
+        Some(first) => { if first <= index { Some(first) } else { None } }
+        None => None,
+    }
+}
+
+/// Whether no ban up to that index is held.
+pub(crate) fn is_above(least: Option<u32>, index: u32) -> bool
+    ensures { (o : ChoiceOption) (bans : List (ℕ × ℕ)) → IsLeastBan o bans least →
+        IsTrue result ↔ Each (λ ban. ban.0 ≤ index → ¬ (ban.1 ∈ leaves o.resolution)) bans }
+{
+    match least {
+        Some(first) => index < first,
+        None => true,
+    }
+}
+
+/// One ban more for all plans.
+pub(crate) fn add_ban(plans: &[KnotFree], least: &mut [Option<u32>], ban: Ban)
+    requires { length least.old ≡ length plans.now }
+    ensures { (bans : List (ℕ × ℕ)) → AreLeastBans (options_of plans.now) bans least.old →
+        AreLeastBans (options_of plans.now) (bans ++ (ban.index, ban.leaf) ∷ []) least.new }
+{
+    for (place, first) in least.iter_mut().enumerate() {
+        *first = with_ban(plans[place].plan(), *first, ban);
+    }
+}
+
+/// Only bans up to the index of this one stay, and it comes to them.
+pub(crate) fn rewind_bans(plans: &[KnotFree], least: &mut [Option<u32>], ban: Ban)
+    requires { length least.old ≡ length plans.now }
+    ensures { (bans : List (ℕ × ℕ)) → AreLeastBans (options_of plans.now) bans least.old →
+        AreLeastBans (options_of plans.now)
+        (filter (λ other. nat_le other.0 ban.index) bans ++ (ban.index, ban.leaf) ∷ []) least.new }
+{
+    for (place, first) in least.iter_mut().enumerate() {
+        *first = with_ban(plans[place].plan(), cut_ban(*first, ban.index), ban);
+    }
 }

@@ -4,7 +4,7 @@ ghost use Rattle.flow_model.specs.Resolution.{ChoiceOption};
 ghost use Rattle.flow_plan.specs.Progress.{IsDone, bound_of};
 ghost use Rattle.flow_excise.specs.Compilation.{options_of};
 ghost use Rattle.flow_residual.specs.Fronts.{AreFronts};
-ghost use Rattle.flow_residual.specs.Kept.{AreFew, HasSmallLeaves};
+ghost use Rattle.flow_residual.specs.Kept.{HasSmallLeaves};
 
 use flow_plan::{KnotFree, Progress};
 use std::alloc::{AllocError, Global};
@@ -36,15 +36,21 @@ pub(crate) fn progress_of(leaves: &[u32]) -> Progress
 }
 
 /// Lengthens the fronts of the whole journal by the leaf where it may come next.
-pub(crate) fn lengthen(plans: &[KnotFree], fronts: &mut [usize], journal: &[u32], leaf: u32)
+pub(crate) fn lengthen(
+    plans: &[KnotFree],
+    fronts: &mut [usize],
+    journal: &[u32],
+    done: &Progress,
+    leaf: u32,
+)
     requires fits { Each HasSmallLeaves (options_of plans.now) }
-    requires few { AreFew journal.now }
+    requires bound { bound_of done.now ≡ 1024 }
+    requires done { (n : ℕ) → IsDone done.now n ↔ (n ∈ journal.now) }
     requires fronts { AreFronts (options_of plans.now) journal.now fronts.old }
     ensures { AreFronts (options_of plans.now) (journal.now ++ leaf ∷ []) fronts.new }
 {
-    let done = progress_of(journal);
     for (place, front) in fronts.iter_mut().enumerate() {
-        if *front == journal.len() && plans[place].plan().ready(&done, leaf) {
+        if *front == journal.len() && plans[place].plan().ready(done, leaf) {
             *front += 1;
         }
     }

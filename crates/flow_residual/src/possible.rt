@@ -1,4 +1,5 @@
-ghost use Rattle.std.specs.Prelude.{◌≡◌, ◌<◌, ◌↔◌, ℕ, IsTrue, [], ◌∷◌, ◌++◌, length, MatchOption};
+ghost use Rattle.std.specs.Prelude.{◌≡◌, ◌<◌, ◌↔◌, ℕ, List, IsTrue, [], ◌∷◌, ◌++◌, length, MatchOption};
+ghost use Rattle.flow_model.specs.Lists.{◌∈◌, Each};
 ghost use Rattle.flow_model.specs.Run.{RunState, IsOpen, IsOpenIndex};
 ghost use Rattle.flow_model.specs.Schema.{Schema, IsGood};
 ghost use Rattle.flow_residual.specs.Possible.{SomeOption, IsOpenFor};
@@ -8,14 +9,23 @@ use crate::ban::holds;
 use crate::residual::Residual;
 
 impl Residual {
+    /// Leaves that may all follow, each may come next; and a leaf that may come first may come next.
+    pub fn law_followers_come_next(&self)
+        ensures all { (w : Schema) (s : RunState) (list : List ℕ) (n : ℕ) → IsOf w s self.now →
+            MayAllFollow w s list → n ∈ list → MayComeNext self.now n }
+        ensures first { (w : Schema) (s : RunState) (first : ℕ) (list : List ℕ) → IsOf w s self.now →
+            MayFollowFirst w s first list → MayComeNext self.now first }
+    {}
+
     /// Whether, in some one option, the claimed leaves and this one may follow in every order.
     pub fn legal_take(&self, claims: &[u32], leaf: u32) -> bool
-        ensures { (w : Schema) (s : RunState) → IsOf w s self.now →
+        ensures follow { (w : Schema) (s : RunState) → IsOf w s self.now →
             IsTrue result ↔ MayAllFollow w s (claims.now ++ leaf ∷ []) }
+        ensures next { IsTrue result → Each (MayComeNext self.now) (claims.now ++ leaf ∷ []) }
     {
         let done = self.done();
         for place in 0..self.count() {
-            if self.is_live(place) && self.plan(place).side_by_side(&done, claims, leaf) {
+            if self.is_live(place) && self.plan(place).side_by_side(done, claims, leaf) {
                 return true;
             }
         }
@@ -26,11 +36,12 @@ impl Residual {
     pub fn legal_do(&self, claims: &[u32], leaf: u32) -> bool
         ensures first { (w : Schema) (s : RunState) → IsOf w s self.now →
             IsTrue result ↔ MayFollowFirst w s leaf claims.now }
+        ensures next { IsTrue result → MayComeNext self.now leaf }
         ensures alone { claims.now ≡ [] → IsTrue result ↔ MayComeNext self.now leaf }
     {
         let done = self.done();
         for place in 0..self.count() {
-            if self.is_live(place) && self.plan(place).may_follow(&done, leaf, claims) {
+            if self.is_live(place) && self.plan(place).may_follow(done, leaf, claims) {
                 return true;
             }
         }
@@ -55,7 +66,7 @@ impl Residual {
     {
         let done = self.done();
         for place in 0..self.count() {
-            if self.follows(place) && self.plan(place).complete(&done) {
+            if self.follows(place) && self.plan(place).complete(done) {
                 return true;
             }
         }

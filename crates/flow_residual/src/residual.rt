@@ -10,7 +10,7 @@ ghost use Rattle.flow_excise.specs.Plans.{option_of};
 ghost use Rattle.flow_residual.specs.Fronts.{AreFronts};
 ghost use Rattle.flow_residual.specs.Kept.{HasSmallLeaves};
 
-use crate::ban::{Ban, holds, is_unbanned, is_unbanned_up_to};
+use crate::ban::{Ban, add_ban, holds, is_above, no_bans, rewind_bans};
 use crate::fronts::{lengthen, no_fronts, progress_of, shorten};
 use flow_excise::Compiled;
 use flow_plan::{KnotFree, Plan, Progress};
@@ -23,7 +23,11 @@ pub struct Residual {
     plans: Vec<KnotFree>,
     /// Of each plan, how much of the journal is a ready run of it.
     fronts: Vec<usize>,
+    /// Of each plan, the least index of a ban of one of its leaves.
+    banned: Vec<Option<u32>>,
     journal: Vec<u32>,
+    /// The leaves of the journal.
+    done: Progress,
     bans: Vec<Ban>,
 }
 
@@ -54,11 +58,14 @@ impl Residual {
     {
         let plans = compiled.into_plans();
         let fronts = no_fronts(alloc, &plans)?;
+        let banned = no_bans(alloc, &plans)?;
         Ok(Residual {
             journal: Vec::with_capacity(alloc, 1024)?,
+            done: Progress::new(1024),
             bans: Vec::with_capacity(alloc, 1024)?,
             plans,
             fronts,
+            banned,
         })
     }
 
@@ -71,11 +78,11 @@ impl Residual {
     }
 
     /// The leaves of the journal.
-    pub(crate) fn done(&self) -> Progress
-        ensures bound { bound_of result ≡ 1024 }
-        ensures same { (n : ℕ) → IsDone result n ↔ (n ∈ self.now.journal) }
+    pub(crate) fn done(&self) -> &Progress
+        ensures bound { bound_of result.now ≡ 1024 }
+        ensures same { (n : ℕ) → IsDone result.now n ↔ (n ∈ self.now.journal) }
     {
-        progress_of(&self.journal)
+        &self.done
     }
 
     /// How many plans there are.
@@ -109,7 +116,7 @@ impl Residual {
         ensures { (o : ChoiceOption) → slice_get self.now.options place ≡ Some o →
             IsTrue result ↔ Each (λ ban. ¬ (ban.1 ∈ leaves o.resolution)) self.now.bans }
     {
-        is_unbanned(self.plans[place].plan(), &self.bans)
+        self.banned[place].is_none()
     }
 
     /// Whether the plan at that place is live.
@@ -131,7 +138,7 @@ impl Residual {
             return false;
         }
         let plan = self.plans[place].plan();
-        !holds(plan, self.journal[index as usize]) && is_unbanned_up_to(plan, &self.bans, index)
+        !holds(plan, self.journal[index as usize]) && is_above(self.banned[place], index)
     }
 
     /// The leaf is done.
@@ -139,8 +146,15 @@ impl Residual {
         requires { MayComeNext self.old leaf }
         ensures { self.new ≡ record self.old { journal = self.old.journal ++ leaf ∷ [] } }
     {
-        lengthen(&self.plans, &mut self.fronts, &self.journal, leaf);
+        lengthen(
+            &self.plans,
+            &mut self.fronts,
+            &self.journal,
+            &self.done,
+            leaf,
+        );
         self.journal.push_reserved(leaf);
+        self.done.note(leaf);
     }
 
     /// The leaf may no longer be in the run.
@@ -150,6 +164,7 @@ impl Residual {
     {
         let index = self.journal.len() as u32;
         self.bans.push_reserved(Ban { index, leaf });
+        add_ban(&self.plans, &mut self.banned, Ban { index, leaf });
     }
 
     /// The journal ends before the index, and the leaf that it had there is banned. Later bans are lifted.
@@ -165,5 +180,7 @@ impl Residual {
         self.bans.push_reserved(Ban { index, leaf });
         self.journal.truncate(index as usize);
         shorten(&mut self.fronts, index as usize);
+        rewind_bans(&self.plans, &mut self.banned, Ban { index, leaf });
+        self.done = progress_of(&self.journal);
     }
 }

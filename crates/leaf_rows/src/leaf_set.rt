@@ -1,5 +1,12 @@
 ghost use Rattle.std.specs.Prelude.{◌≤◌};
 
+/// Does so for each word of a set, by its number.
+macro_rules! each_word {
+    ($word:ident => $block:block) => {
+        for $word in 0..W $block
+    };
+}
+
 /// A set of numbers below `64 * W`.
 #[derive(Clone, Copy, Debug, PartialEq, Eq)]
 pub struct LeafSet<const W: usize> {
@@ -44,19 +51,19 @@ impl<const W: usize> LeafSet<W> {
     pub fn union_with(&mut self, other: &Self)
         ensures { (k : ℕ) → has_leaf self.new k ≡ (has_leaf self.old k || has_leaf other.now k) }
     {
-        for i in 0..W {
+        each_word!(i => {
             self.words[i] |= other.words[i];
-        }
+        });
     }
 
     pub fn is_subset(&self, other: &Self) -> bool
         ensures { IsTrue result ↔ ((k : ℕ) → IsTrue (has_leaf self.now k) → IsTrue (has_leaf other.now k)) }
     {
-        for i in 0..W {
+        each_word!(i => {
             if self.words[i] & !other.words[i] != 0 {
                 return false;
             }
-        }
+        });
         true
     }
 
@@ -64,11 +71,11 @@ impl<const W: usize> LeafSet<W> {
     pub fn meets(&self, other: &Self) -> bool
         ensures { IsTrue result ↔ ((k : ℕ) × IsTrue (has_leaf self.now k) × IsTrue (has_leaf other.now k)) }
     {
-        for i in 0..W {
+        each_word!(i => {
             if self.words[i] & other.words[i] != 0 {
                 return true;
             }
-        }
+        });
         false
     }
 
@@ -79,12 +86,12 @@ impl<const W: usize> LeafSet<W> {
         ensures least { IfSome result (λ n. (k : ℕ) → k < n → has_leaf self.now k ≡ false) }
         ensures within { IfSome result (λ n. n < 64 * W) }
     {
-        for i in 0..W {
+        each_word!(i => {
             let word = self.words[i];
             if word != 0 {
                 return Some(64 * i as u32 + word.trailing_zeros());
             }
-        }
+        });
         None
     }
 
@@ -94,9 +101,9 @@ impl<const W: usize> LeafSet<W> {
         ensures rising { IsStrictlyIncreasing (members self.now) }
     {
         let mut count = 0;
-        for i in 0..W {
+        each_word!(i => {
             count += self.words[i].count_ones();
-        }
+        });
         count
     }
 }

@@ -26,7 +26,7 @@ ready-requires c =
     option_at (options_of plans) c.loop-place.place (option_of item.plan) (plan_at plans c.loop-place.place item within c.index-plans-place.is) in
     let fit : HasSmallLeaves (option_of c.plan.result.now) =
     subst (λ (p : Planned). HasSmallLeaves (option_of p)) (sym c.plan.ensures) (each_member HasSmallLeaves (options_of plans) c.requires.fits (option_of item.plan) member) in
-    subst (λ (bound : ℕ). Each (λ n. n < bound) (leaves c.plan.result.now.process)) (sym c.progress_of-done.ensures.bound) fit
+    subst (λ (bound : ℕ). Each (λ n. n < bound) (leaves c.plan.result.now.process)) (sym c.requires.bound) fit
 
 pub loop-place-preserved : goal.loop-place-preserved
 loop-place-preserved c =
@@ -37,7 +37,7 @@ loop-place-preserved c =
     let i = c.loop-place.place in
     let fronts = c.loop-place.fronts in
     let f : ℕ = get_or fronts i 0 in
-    let done = c.progress_of-done.result in
+    let done = c.args.done.now in
     let here : i < length fronts = omega (arith, c.loop-place-test.true, c.loop-place.auto.fronts) in
     let front : (o : ChoiceOption) → slice_get os i ≡ Some o → IsFront o journal f = c.loop-place.invariant.still i (let b : i ≤ i = omega arith in b) in
     elim c.if-front-journal.branch [
@@ -45,14 +45,14 @@ loop-place-preserved c =
           (longer_set os journal leaf i (f + 1) fronts here c.loop-place.invariant (λ o at.
           let same = ap (λ (p : Planned). option_of p) w.plan.ensures ∙ same_plan plans i w.index-plans-place.result o w.index-plans-place.is at in
           front_longer o journal leaf f (front o at) w.if-front-journal.true
-          ((next_of_option w.plan.result.now done journal c.progress_of-done.ensures.same o same leaf).0 (w.ready.ensures.0 w.if-ready.true))))
+          ((next_of_option w.plan.result.now done journal c.requires.done o same leaf).0 (w.ready.ensures.0 w.if-ready.true))))
       | else-front-journal w ↦ subst (AreLonger os journal leaf (i + 1)) (sym w.fronts-is)
           (elim w.else-front-journal.branch [
             | else-front-journal-via-then-front-journal+else-ready w' ↦ subst (AreLonger os journal leaf (i + 1)) (sym w'.fronts-is)
                 (longer_set os journal leaf i f fronts here c.loop-place.invariant (λ o at.
                 let same = ap (λ (p : Planned). option_of p) w'.plan.ensures ∙ same_plan plans i w'.index-plans-place.result o w'.index-plans-place.is at in
                 front_same o journal leaf f (front o at) (λ both.
-                let yes = w'.ready.ensures.1 ((next_of_option w'.plan.result.now done journal c.progress_of-done.ensures.same o same leaf).1 both.1) in
+                let yes = w'.ready.ensures.1 ((next_of_option w'.plan.result.now done journal c.requires.done o same leaf).1 both.1) in
                 let no = w'.if-ready.false in absurd (cc))))
             | else-front-journal-via-else-front-journal w' ↦ subst (AreLonger os journal leaf (i + 1)) (sym w'.fronts-is)
                 (longer_set os journal leaf i f fronts here c.loop-place.invariant (λ o at. front_same o journal leaf f (front o at) (λ both. w'.if-front-journal.false both.0)))

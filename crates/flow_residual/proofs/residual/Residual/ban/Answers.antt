@@ -1,5 +1,10 @@
-use Rattle.std.proofs.Common.{◌≡◌, ◌≤◌, ◌<◌, ◌++◌, [], ◌∷◌, ℕ, List, length, sym, ap, ◌∙◌, subst, arith}
+use Rattle.std.proofs.Common.{◌≡◌, ◌≤◌, ◌<◌, ◌++◌, [], ◌∷◌, ℕ, List, Option, length, sym, ap, ◌∙◌, subst, subst₂, arith}
 use Rattle.std.specs.Vec.{vec_len, vec_capacity}
+use Rattle.std.proofs.lemmas.List.{with_items_is}
+use Rattle.flow_plan.specs.Sampled.{Sampled}
+use Rattle.flow_excise.specs.Compilation.{options_of}
+use Rattle.flow_residual.specs.Bans.{AreLeastBans}
+use Rattle.flow_residual.proofs.OptionLemmas.{length-options}
 use Rattle.flow_residual.specs.Remaining.{Remaining, MayComeNext}
 use Rattle.flow_residual.specs.View.{remaining, pairs_of_bans}
 use Rattle.flow_residual.specs.Kept.{IsKept, banned}
@@ -35,7 +40,19 @@ invariant_of-self c =
     ap pairs_of_bans c.push_reserved.ensures.items ∙ pairs_of_more i.bans.items (record { index = c.len-index.result; leaf = c.args.leaf }) in
     record {
       kept = subst (λ (bans : List (ℕ × ℕ)). IsKept (record r { bans = bans }) i.fronts.items) (sym more) (kept_ban r i.fronts.items k c.args.leaf next c.len-index.result);
+      least =
+          let before = subst₂ (λ (plans : List Sampled) (least : List (Option ℕ)). AreLeastBans (options_of plans) r.bans least) (sym c.deref.ensures.value) (sym c.deref_mut.ensures.value) c.self.invariant.least in
+          let made = subst (λ (plans : List Sampled). AreLeastBans (options_of plans) (r.bans ++ (c.len-index.result, c.args.leaf) ∷ []) c.add_ban.new.least) c.deref.ensures.value (c.add_ban.ensures r.bans before) in
+          subst₂ (λ (bans : List (ℕ × ℕ)) (least : List (Option ℕ)). AreLeastBans (options_of i.plans.items) bans least) (sym more)
+          (sym (with_items_is i.banned c.add_ban.new.least (made.one_each ∙ sym c.self.invariant.least.one_each ∙ sym i.banned.ok.0))) made;
+      done_bound = c.self.invariant.done_bound;
+      done_are = c.self.invariant.done_are;
       journal_room = c.self.invariant.journal_room;
       bans_room = let same : vec_capacity c.push_reserved.new.self ≡ vec_capacity i.bans = c.push_reserved.ensures.capacity in
           let room : 1024 ≤ vec_capacity i.bans = c.self.invariant.bans_room in omega arith;
     }
+
+pub add_ban-requires : goal.add_ban-requires
+add_ban-requires c =
+    let i = c.self.inside in
+    ap length c.deref_mut.ensures.value ∙ c.self.invariant.least.one_each ∙ length-options i.plans.items ∙ sym (ap length c.deref.ensures.value)

@@ -9,7 +9,8 @@ use Rattle.flow_residual.specs.Fronts.{IsFront}
 use Rattle.flow_residual.specs.Possible.{IsOpenFor}
 use Rattle.flow_residual.proofs.FrontLemmas.{begun_within, front_read, read_at}
 use Rattle.flow_residual.proofs.OptionLemmas.{same_plan}
-use Rattle.flow_residual.proofs.BanLemmas.{tested}
+use Rattle.flow_residual.specs.View.{pairs_of_bans}
+use Rattle.flow_residual.proofs.BanLemmas.{least_read}
 use Rattle.flow_residual.proofs.residual.Residual.is_open_for.Goals as goal
 
 pub returns-then-index : goal.returns-then-index
@@ -37,9 +38,8 @@ returns-then-not-holds c o at =
     let leaf : c.index-3.result.now ≡ slice_index i.journal.items c.args.index = read_at i.journal.items c.args.index c.index-3.result.now within c.index-3.ensures in
     let lacks : ¬ (slice_index i.journal.items c.args.index ∈ leaves o.resolution) =
     subst₂ (λ n (q : ChoiceOption). ¬ (n ∈ leaves q.resolution)) leaf same (λ m. let yes = c.holds.ensures.1 m in let no = c.if-not-holds.true in absurd (cc)) in
-    let bans = tested (λ q ban. ban.0 ≤ c.args.index → ¬ (ban.1 ∈ leaves q.resolution)) i.bans.items c.deref.result.now c.plan-plan.result.now o c.is_unbanned_up_to.result
-    c.deref.ensures.value same c.is_unbanned_up_to.ensures in
-    subst (λ (r : Remaining). IsTrue c.is_unbanned_up_to.result ↔ IsOpenFor r c.args.index o) c.self.view_is
+    let bans = c.is_above.ensures o (pairs_of_bans i.bans.items) (least_read c.self.invariant.least c.args.place o c.index-then-not-holds.result.now there c.index-then-not-holds.ensures) in
+    subst (λ (r : Remaining). IsTrue c.is_above.result ↔ IsOpenFor r c.args.index o) c.self.view_is
     (λ yes. record { begun = begun; without = lacks; unbanned = bans.0 yes }, λ opening. bans.1 opening.unbanned)
 
 pub returns-else-not-holds : goal.returns-else-not-holds

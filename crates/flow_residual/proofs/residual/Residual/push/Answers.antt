@@ -7,6 +7,7 @@ use Rattle.flow_residual.specs.Remaining.{Remaining, MayComeNext}
 use Rattle.flow_residual.specs.View.{remaining}
 use Rattle.flow_residual.specs.Fronts.{AreFronts}
 use Rattle.flow_residual.specs.Kept.{IsKept}
+use Rattle.flow_residual.proofs.DoneLemmas.{AreDone, done_push}
 use Rattle.flow_residual.proofs.KeptLemmas.{room_left, next_small, next_fresh, kept_push}
 use Rattle.flow_residual.proofs.residual.Residual.push.Goals as goal
 
@@ -35,7 +36,21 @@ invariant_of-self c =
     record {
       kept = subst (λ (journal : List ℕ). IsKept (record r { journal = journal }) (with_items i.fronts c.lengthen.new.fronts).items) (sym c.push_reserved.ensures.items)
           (subst (λ (fronts : List ℕ). IsKept (record r { journal = i.journal.items ++ c.args.leaf ∷ [] }) fronts) (sym (with_items_is i.fronts c.lengthen.new.fronts (longer.one_each ∙ sym k.fronts_are.one_each ∙ sym i.fronts.ok.0))) made);
+      least = c.self.invariant.least;
+      done_bound = c.note.ensures.bound ∙ c.self.invariant.done_bound;
+      done_are = done_push i.done c.note.new.self i.journal.items c.push_reserved.new.self.items c.args.leaf c.note.ensures.noted c.push_reserved.ensures.items c.self.invariant.done_are;
       journal_room = let same : vec_capacity c.push_reserved.new.self ≡ vec_capacity i.journal = c.push_reserved.ensures.capacity in
           let room : 1024 ≤ vec_capacity i.journal = c.self.invariant.journal_room in omega arith;
       bans_room = c.self.invariant.bans_room;
     }
+
+pub note-requires : goal.note-requires
+note-requires c =
+    let i = c.self.inside in
+    let r : Remaining = remaining i.plans.items i.journal.items i.bans.items in
+    let next : MayComeNext r c.args.leaf = subst (λ (q : Remaining). MayComeNext q c.args.leaf) (sym c.self.view_is) c.requires in
+    let small : c.args.leaf < 1024 = next_small r i.fronts.items c.self.invariant.kept c.args.leaf next in
+    omega (arith, small, c.self.invariant.done_bound)
+
+pub lengthen-requires-clause-done : goal.lengthen-requires-clause-done
+lengthen-requires-clause-done c = subst (AreDone c.self.inside.done) (sym c.deref-2.ensures.value) c.self.invariant.done_are

@@ -1,15 +1,21 @@
-use Rattle.std.proofs.Common.{◌≡◌, ◌≤◌, ◌<◌, ◌++◌, [], ◌∷◌, ℕ, List, length, take, get_or, nat_le, slice_index, rules, sym, ap, ◌∙◌, subst, subst₂, arith}
+use Rattle.std.proofs.Common.{◌≡◌, ◌≤◌, ◌<◌, ◌++◌, [], ◌∷◌, ℕ, List, Option, length, take, get_or, nat_le, slice_index, rules, sym, ap, ◌∙◌, subst, subst₂, arith}
 use Rattle.std.specs.List.{filter}
 use Rattle.std.specs.Vec.{vec_len, vec_capacity, with_items}
 use Rattle.std.proofs.lemmas.Fn.{filter_same}
 use Rattle.std.proofs.lemmas.List.{with_items_is}
 use Rattle.flow_residual.specs.declared.ban.Ban.{Ban}
+use Rattle.flow_model.specs.Lists.{Each}
+use Rattle.flow_plan.specs.Sampled.{Sampled}
+use Rattle.flow_excise.specs.Compilation.{options_of}
+use Rattle.flow_residual.specs.Bans.{AreLeastBans}
+use Rattle.flow_residual.proofs.OptionLemmas.{length-options}
+use Rattle.flow_residual.proofs.DoneLemmas.{AreDone}
 use Rattle.flow_residual.specs.Remaining.{Remaining}
 use Rattle.flow_residual.specs.View.{remaining, pairs_of_bans}
 use Rattle.flow_residual.specs.Fronts.{AreFronts}
 use Rattle.flow_residual.specs.Kept.{IsKept, banned}
 use Rattle.flow_residual.proofs.FrontLemmas.{read_at}
-use Rattle.flow_residual.proofs.KeptLemmas.{rewind_room, kept_rewind, pairs_of_more, pairs_of_left, length-pairs}
+use Rattle.flow_residual.proofs.KeptLemmas.{few_front, rewind_room, kept_rewind, pairs_of_more, pairs_of_left, length-pairs}
 use Rattle.flow_residual.proofs.residual.Residual.rewind_to.Goals as goal
 
 pub push_reserved-requires : goal.push_reserved-requires
@@ -53,6 +59,15 @@ invariant_of-self c =
           (subst (λ (fronts : List ℕ). IsKept (record r { journal = take index i.journal.items; bans = filter (λ ban. nat_le ban.0 index) r.bans ++ (index, get_or i.journal.items index 0) ∷ [] }) fronts)
           (sym (with_items_is i.fronts c.shorten.new.fronts (shorter.one_each ∙ sym k.fronts_are.one_each ∙ sym i.fronts.ok.0)))
           (kept_rewind r i.fronts.items k index within c.shorten.new.fronts shorter));
+      least =
+          let pairs = filter (λ ban. nat_le ban.0 index) r.bans ++ (index, c.index-leaf.result.now) ∷ [] in
+          let before = subst₂ (λ (plans : List Sampled) (least : List (Option ℕ)). AreLeastBans (options_of plans) r.bans least) (sym c.deref.ensures.value) (sym c.deref_mut-2.ensures.value) c.self.invariant.least in
+          let made = subst (λ (plans : List Sampled). AreLeastBans (options_of plans) pairs c.rewind_bans.new.least) c.deref.ensures.value (c.rewind_bans.ensures r.bans before) in
+          let same : pairs ≡ pairs_of_bans c.push_reserved.new.self.items = (λ k. filter (λ ban. nat_le ban.0 index) r.bans ++ (index, is k) ∷ []) ∙ sym bans in
+          subst₂ (λ (bans : List (ℕ × ℕ)) (least : List (Option ℕ)). AreLeastBans (options_of i.plans.items) bans least) same
+          (sym (with_items_is i.banned c.rewind_bans.new.least (made.one_each ∙ sym c.self.invariant.least.one_each ∙ sym i.banned.ok.0))) made;
+      done_bound = c.progress_of-self-inside.ensures.bound;
+      done_are = subst (AreDone c.progress_of-self-inside.result) c.deref-2.ensures.value c.progress_of-self-inside.ensures.same;
       journal_room = let same : vec_capacity c.truncate.new.self ≡ vec_capacity i.journal = c.truncate.ensures.capacity in
           let room : 1024 ≤ vec_capacity i.journal = c.self.invariant.journal_room in omega arith;
       bans_room = let one : vec_capacity c.push_reserved.new.self ≡ vec_capacity c.retain.new.self = c.push_reserved.ensures.capacity in
@@ -72,3 +87,13 @@ returns c =
     let new : Remaining = remaining i.plans.items c.truncate.new.self.items c.push_reserved.new.self.items in
     subst (λ (q : Remaining). new ≡ record q { journal = take index q.journal; bans = filter (λ ban. nat_le ban.0 index) q.bans ++ (index, slice_index q.journal index) ∷ [] }) c.self.view_is
     (λ j. record { options = new.options; journal = c.truncate.ensures.items j; bans = bans j })
+
+pub rewind_bans-requires : goal.rewind_bans-requires
+rewind_bans-requires c =
+    let i = c.self.inside in
+    ap length c.deref_mut-2.ensures.value ∙ c.self.invariant.least.one_each ∙ length-options i.plans.items ∙ sym (ap length c.deref.ensures.value)
+
+pub progress_of-self-inside-requires : goal.progress_of-self-inside-requires
+progress_of-self-inside-requires c =
+    let i = c.self.inside in
+    subst (Each (λ n. n < 1024)) (sym (c.deref-2.ensures.value ∙ c.truncate.ensures.items)) (few_front i.journal.items c.args.index c.self.invariant.kept.done).small

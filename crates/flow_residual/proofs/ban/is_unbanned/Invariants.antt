@@ -1,8 +1,0 @@
-use Rattle.std.proofs.Common.{◌↔◌, drop}
-use Rattle.flow_model.specs.Lists.{◌∈◌, Each}
-use Rattle.flow_model.specs.Process.{leaves}
-use Rattle.flow_residual.specs.declared.ban.Ban.{Ban}
-use Rattle.flow_residual.proofs.ban.is_unbanned.Given as goal
-
-abbrev pub invariant-loop-ban : goal.invariant-loop-ban
-invariant-loop-ban l = Each (λ (ban : Ban). ¬ (ban.leaf ∈ leaves l.plan.process)) l.bans ↔ Each (λ (ban : Ban). ¬ (ban.leaf ∈ leaves l.plan.process)) (drop l.ban-index l.bans)
