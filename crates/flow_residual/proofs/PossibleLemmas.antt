@@ -5,7 +5,7 @@ use Rattle.flow_model.specs.Process.{Process, leaves}
 use Rattle.flow_model.specs.Schema.{Schema, IsGood}
 use Rattle.flow_model.specs.Resolution.{ChoiceOption, OptionTrace, options}
 use Rattle.flow_model.specs.Ready.{IsReady, IsReadyRun, IsReadyRunAfter, DoneOr}
-use Rattle.flow_model.specs.Run.{RunState, IsFree, MayFollow, IsOpen}
+use Rattle.flow_model.specs.Run.{RunState, IsFree, MayFollow, IsOpen, MayAllFollow, MayFollowFirst}
 use Rattle.flow_laws.specs.Orders.{IsAlive}
 use Rattle.flow_laws.proofs.ListLemmas1.{order_member}
 use Rattle.flow_laws.proofs.ListLemmas2.{same_order, order_with_last, order_of_none, each_member, each_to, each_from_members}
@@ -23,7 +23,7 @@ use Rattle.flow_plan.specs.declared.progress.Progress.{Progress}
 use Rattle.flow_excise.specs.Executions.{HasExecution, AreJustThose}
 use Rattle.flow_excise.specs.Plans.{option_of}
 use Rattle.flow_excise.proofs.SiftingLemmas.{kept_has}
-use Rattle.flow_residual.specs.Remaining.{Remaining, IsOf, IsLive, MayComeNext, MayAllFollow, MayFollowFirst, IsAvoidable}
+use Rattle.flow_residual.specs.Remaining.{Remaining, IsOf, IsLive, MayComeNext, IsAvoidable}
 use Rattle.flow_residual.specs.Possible.{SomeOption, TakesAll, TakesFirst, LeavesOut, IsFinished, IsOpenFor}
 use Rattle.flow_residual.proofs.DoneLemmas.{AreDone}
 

@@ -2,13 +2,13 @@
 use Rattle.std.specs.Prelude.{◌≡◌, ℕ, List, ◌∷◌}
 use Rattle.std.proofs.Common.{refl}
 use Rattle.std.specs.Coded.{Coded, code_by, coded×, coded_ℕ, coded_list}
-use Rattle.flow_model.specs.Lists.{◌∈◌, Each, IsOrderOf}
+use Rattle.flow_model.specs.Lists.{◌∈◌, Each}
 use Rattle.flow_model.specs.Process.{leaves}
 use Rattle.flow_model.specs.Stored.{option_code}
 use Rattle.flow_model.specs.Schema.{Schema}
 use Rattle.flow_model.specs.Resolution.{ChoiceOption, options}
 use Rattle.flow_model.specs.Ready.{IsReady, IsReadyRun}
-use Rattle.flow_model.specs.Run.{RunState, IsFree, MayFollow}
+use Rattle.flow_model.specs.Run.{RunState, IsFree}
 use Rattle.flow_laws.specs.Words.{IsWellFormed}
 use Rattle.flow_excise.specs.Executions.{HasExecution, AreJustThose}
 
@@ -32,14 +32,6 @@ pub record IsOf (w : Schema) (s : RunState) (r : Remaining) : Type 0 where
   pub options_are : AreJustThose HasExecution (options w) r.options
   pub journal_is : s.journal ≡ r.journal
   pub bans_are : s.bans ≡ r.bans
-
--- in some one option the leaves may follow the journal in every order
-abbrev pub MayAllFollow : Schema → RunState → List ℕ → Type 0
-MayAllFollow w s list = (o : ChoiceOption) × (o ∈ options w) × ((order : List ℕ) → IsOrderOf order list → MayFollow w s o order)
-
--- in some one option the leaf may come first, and the others then in every order
-abbrev pub MayFollowFirst : Schema → RunState → ℕ → List ℕ → Type 0
-MayFollowFirst w s first list = (o : ChoiceOption) × (o ∈ options w) × ((order : List ℕ) → IsOrderOf order list → MayFollow w s o (first ∷ order))
 
 -- some free trace lacks the leaf
 abbrev pub IsAvoidable : Schema → RunState → ℕ → Type 0

@@ -1,9 +1,9 @@
 ghost use Rattle.std.specs.Prelude.{◌≡◌, ◌<◌, ◌↔◌, ℕ, List, IsTrue, [], ◌∷◌, ◌++◌, length, MatchOption};
 ghost use Rattle.flow_model.specs.Lists.{◌∈◌, Each};
-ghost use Rattle.flow_model.specs.Run.{RunState, IsOpen, IsOpenIndex};
+ghost use Rattle.flow_model.specs.Run.{RunState, IsOpen, IsOpenIndex, MayAllFollow, MayFollowFirst};
 ghost use Rattle.flow_model.specs.Schema.{Schema, IsGood};
 ghost use Rattle.flow_residual.specs.Possible.{SomeOption, IsOpenFor};
-ghost use Rattle.flow_residual.specs.Remaining.{IsOf, MayAllFollow, MayFollowFirst, MayComeNext, IsAvoidable};
+ghost use Rattle.flow_residual.specs.Remaining.{IsOf, MayComeNext, IsAvoidable};
 
 use crate::ban::holds;
 use crate::residual::Residual;

@@ -1,6 +1,7 @@
 use Rattle.std.proofs.Common.{◌≤◌, true, false, length, arith}
 use Rattle.flow_excise.specs.Plans.{option_of}
-use Rattle.flow_residual.specs.Remaining.{MayFollowFirst, MayComeNext}
+use Rattle.flow_model.specs.Run.{MayFollowFirst}
+use Rattle.flow_residual.specs.Remaining.{MayComeNext}
 use Rattle.flow_residual.specs.Possible.{SomeOption, TakesFirst}
 use Rattle.flow_residual.proofs.OptionLemmas.{none_more, none_there, some_found, none_found}
 use Rattle.flow_residual.proofs.PossibleLemmas.{takes_first_after, may_follow_first, comes_alone, in_words}
