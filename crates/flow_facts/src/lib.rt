@@ -16,4 +16,3 @@ pub use name::Name;
 pub use numbered::{Key, Numbered};
 pub use table::FactTable;
 pub use text::push_fact;
-

@@ -19,4 +19,3 @@ pub use goal::Goal;
 pub use repeats::Twice;
 pub use simple::simplify;
 pub use tree::{Tree, TreeRefusal};
-

@@ -64,6 +64,9 @@ fn a_residual_opens(rt: HostRuntime) -> Result<(), Fail> {
     let residual = Residual::new(alloc, compiled)?;
     assert!(rt; residual.legal_take(&[0], 2) && !residual.legal_take(&[0], 1));
     assert!(rt; residual.can_avoid(0) && !residual.can_avoid(2));
-    assert_eq!(rt; (residual.open_index(), residual.is_complete()), (None, false));
+    assert_eq!(rt;
+        (residual.open_index(), residual.is_complete()),
+        (None, false)
+    );
     Ok(())
 }

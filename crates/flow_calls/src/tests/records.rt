@@ -1,5 +1,5 @@
-use flow_record::{print_history, read_session};
 use flow_model::{Entry, FailEffect, Step};
+use flow_record::{print_history, read_session};
 use std::test::Fail;
 
 #[test]

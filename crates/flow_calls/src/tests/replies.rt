@@ -1,5 +1,5 @@
-use flow_reply::{Answer, Command, print_reply};
 use flow_core::{CommitRefusal, PostRefusal, TakeRefusal};
+use flow_reply::{Answer, Command, print_reply};
 use std::test::Fail;
 
 /// Lines that no session of today leads to; the others are rows of worked cases.
