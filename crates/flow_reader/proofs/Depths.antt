@@ -1,15 +1,11 @@
 -- How deep the next symbol stands.
-use Rattle.std.proofs.Common.{◌≡◌, ℕ, zero, suc, ◌+◌, ◌-◌, ◌^◌, ◌≤◌, ◌<◌, min, ap, arith}
+use Rattle.std.proofs.Common.{◌≡◌, ℕ, zero, suc, ◌+◌, ◌-◌, ◌<◌, ap, arith}
 use Rattle.flow_form.specs.RuleForm.{RuleShape, negated}
 use Rattle.flow_grammar.specs.Machine.{nots_in, negate}
 
 pub nots_added : (k d : ℕ) → nots_in k d ≡ k + d
 nots_added zero d = omega arith
 nots_added (suc k) d = omega (arith, nots_added k d)
-
--- of a height that is kept exactly
-pub kept_nots : (k d h : ℕ) → h ≡ d → h < 2 ^ 64 → min (h + k) (2 ^ 64 - 1) ≡ min (nots_in k d) (2 ^ 64 - 1)
-kept_nots k d h e within = omega (arith, nots_added k d, e)
 
 pub negate_more : (k : ℕ) (r : RuleShape) → 0 < k → negate k r ≡ negate (k - 1) (negated r)
 negate_more zero r h = absurd (omega arith)

@@ -1,4 +1,4 @@
-ghost use Rattle.std.specs.Prelude.{◌≡◌, ◌-◌, ◌^◌, ◌<◌, min, option_map, IfOk, IfErr, Some, None};
+ghost use Rattle.std.specs.Prelude.{◌≡◌, ◌-◌, ◌^◌, ◌<◌, option_map, IfOk, IfErr, Some, None};
 ghost use Rattle.flow_form.specs.Script.{asked};
 ghost use Rattle.flow_grammar.specs.Machine as machine;
 ghost use Rattle.flow_reader.specs.Symbols.{meant};
@@ -99,9 +99,10 @@ impl QueryReader {
         }
     }
 
-    /// In how many parentheses and nots the next symbol stands, kept at the greatest `usize`.
+    /// In how many parentheses and nots the next symbol stands.
     pub fn depth(&self) -> usize
-        ensures { result ≡ min (machine.depth_query (query_state self.now)) (2 ^ 64 - 1) }
+        requires { machine.depth_query (query_state self.now) < 2 ^ 64 - 1 }
+        ensures { result ≡ machine.depth_query (query_state self.now) }
     {
         match self {
             QueryReader::InProperty(rule) => rule.depth(),

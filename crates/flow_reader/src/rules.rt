@@ -1,4 +1,4 @@
-ghost use Rattle.std.specs.Prelude.{◌≡◌, ◌+◌, ◌-◌, ◌^◌, ◌<◌, min, map, IfOk};
+ghost use Rattle.std.specs.Prelude.{◌≡◌, ◌+◌, ◌-◌, ◌^◌, ◌<◌, map, IfOk};
 ghost use Rattle.flow_form.specs.RuleForm.{rule_shape_of};
 ghost use Rattle.flow_grammar.specs.Grammar as grammar;
 ghost use Rattle.flow_grammar.specs.Machine as machine;
@@ -262,14 +262,15 @@ impl RuleReader {
         }
     }
 
-    /// In how many parentheses and nots the next symbol stands, kept at the greatest `usize`.
-    #[tactic(auto, using(crate::proofs::Depths::kept_nots))]
+    /// In how many parentheses and nots the next symbol stands.
+    #[tactic(auto, using(crate::proofs::Depths::nots_added))]
     pub fn depth(&self) -> usize
-        ensures { result ≡ min (machine.depth_rule (rule_state self.now)) (2 ^ 64 - 1) }
+        requires { machine.depth_rule (rule_state self.now) < 2 ^ 64 - 1 }
+        ensures { result ≡ machine.depth_rule (rule_state self.now) }
     {
         match self {
             RuleReader::UnitNeeded(stack, nots) | RuleReader::NameNeeded(_, stack, nots) => {
-                stack.height.saturating_add(*nots)
+                stack.height + *nots
             }
             RuleReader::AfterUnit(stack) | RuleReader::AfterNames(_, stack, _) => stack.height,
         }

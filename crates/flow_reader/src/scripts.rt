@@ -1,4 +1,4 @@
-ghost use Rattle.std.specs.Prelude.{◌≡◌, ◌∷◌, ◌++◌, ◌-◌, ◌^◌, ◌<◌, [], min, map, option_map, IfOk, IfErr, Some, None};
+ghost use Rattle.std.specs.Prelude.{◌≡◌, ◌∷◌, ◌++◌, ◌-◌, ◌^◌, ◌<◌, [], map, option_map, IfOk, IfErr, Some, None};
 ghost use Rattle.flow_facts.specs.Atom.{atom};
 ghost use Rattle.flow_form.specs.Form.{shape_of};
 ghost use Rattle.flow_form.specs.RuleForm.{rule_shape_of};
@@ -354,9 +354,10 @@ impl ScriptReader {
         }
     }
 
-    /// In how many parentheses and nots the next symbol stands, kept at the greatest `usize`.
+    /// In how many parentheses and nots the next symbol stands.
     pub fn depth(&self) -> usize
-        ensures { result ≡ min (machine.depth_script (script_state self.now)) (2 ^ 64 - 1) }
+        requires { machine.depth_script (script_state self.now) < 2 ^ 64 - 1 }
+        ensures { result ≡ machine.depth_script (script_state self.now) }
     {
         match self {
             ScriptReader::InArgs(..) => 1,
