@@ -230,7 +230,7 @@ queries_have_roles w x (d, e, ex) =
 
 -- The roles of each kind
 
-declaring-append : (xs ys : List Role) → declaring (xs ++ ys) ≡ declaring xs ++ declaring ys
+pub declaring-append : (xs ys : List Role) → declaring (xs ++ ys) ≡ declaring xs ++ declaring ys
 declaring-append [] ys = refl
 declaring-append (declares n ∷ xs) ys = ap (λ z. n ∷ z) (declaring-append xs ys)
 declaring-append (in_goal n ∷ xs) ys = declaring-append xs ys
@@ -298,7 +298,7 @@ mutual
   of_goals no_more = record { declares_none = refl; goal = refl; no_rule = refl }
   of_goals (followed s ss) = both_of_goal (names_in s) (names_in_each ss) (goal_roles s) (roles_in_each ss) (of_goal s) (of_goals ss)
 
-of_rules : (ns : List (List ℕ)) → (declaring (map in_rule ns) ≡ []) × (used_in_goals (map in_rule ns) ≡ []) × (used_in_rules (map in_rule ns) ≡ ns)
+pub of_rules : (ns : List (List ℕ)) → (declaring (map in_rule ns) ≡ []) × (used_in_goals (map in_rule ns) ≡ []) × (used_in_rules (map in_rule ns) ≡ ns)
 of_rules [] = (refl, refl, refl)
 of_rules (n ∷ ns) = let (a, b, c) = of_rules ns in (a, b, ap (λ z. n ∷ z) c)
 

@@ -187,7 +187,7 @@ known_is decls known events (in_goal n) h g e = h.in_names n (not_false (known n
 known_is decls known events (in_rule n) h g e = g.in_names n (not_false (events n) e)
 known_is decls known events (in_fact n) h g e = tt
 
-well_is_known : (decls : List Declared) (r : Role) → IsWell decls r → IsUnknown decls r → ⊥
+pub well_is_known : (decls : List Declared) (r : Role) → IsWell decls r → IsUnknown decls r → ⊥
 well_is_known decls (declares n) w u = u
 well_is_known decls (in_goal n) w u = u w
 well_is_known decls (in_rule n) w u = u w

@@ -1,3 +1,4 @@
 pub mod NamesLeft
 pub mod Parsed
 pub mod SaidLaws
+pub mod OneAnswer

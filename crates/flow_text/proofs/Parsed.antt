@@ -14,7 +14,7 @@ use Rattle.flow_grammar.specs.Symbol.{Symbol, Placed, at, symbols, a_name}
 use Rattle.flow_grammar.specs.Machine.{gives, read_script, read_query}
 use Rattle.flow_grammar.specs.Texts.{Derives, SpellsScript, SpellsQuery}
 use Rattle.flow_grammar.specs.Roles.{Role, role_name, names_of, NamesHaveRoles, script_roles, query_roles}
-use Rattle.flow_grammar.proofs.Reading.{script_reads, script_is_stuck, script_is_too_deep, script_wants_what_could_come, query_reads, query_is_stuck, query_is_too_deep, query_wants_what_could_come}
+use Rattle.flow_grammar.proofs.Reading.{script_reads, script_is_stuck, script_is_too_deep, script_wants_what_could_come, script_tells_what_is_wanted, query_reads, query_is_stuck, query_is_too_deep, query_wants_what_could_come, query_tells_what_is_wanted}
 use Rattle.flow_grammar.proofs.MadeTexts.{scripts_are_well_made}
 use Rattle.flow_grammar.proofs.RolesOfNames.{scripts_have_roles, queries_have_roles}
 use Rattle.flow_reader.specs.Symbols.{symbol_of, symbols_of}
@@ -52,7 +52,17 @@ read_refused text tokens (BadToken place) has h = absurd h
 read_refused text tokens (Expected place kind) has (k, e, there) =
     let (stuck, none) = (script_is_stuck (symbols_of text tokens) k).0 (kind_of kind, e) in
     let (come, end) = script_wants_what_could_come (symbols_of text tokens) (kind_of kind) k e in
-    record { tokens = tokens; has_tokens = has; number = k; there = there; stuck = stuck; none_deep = none; could_come = come; could_end = end }
+    record {
+      tokens = tokens;
+      has_tokens = has;
+      number = k;
+      there = there;
+      stuck = stuck;
+      none_deep = none;
+      wanted = script_tells_what_is_wanted (symbols_of text tokens) (kind_of kind) k e;
+      could_come = come;
+      could_end = end;
+    }
 read_refused text tokens (Unknown place name) has h = absurd h
 read_refused text tokens (Repeated place name) has h = absurd h
 read_refused text tokens (TooDeep place) has (k, e, there) =
@@ -67,7 +77,17 @@ query_refused text s tokens (BadToken place) has h = absurd h
 query_refused text s tokens (Expected place kind) has (k, e, there) =
     let (stuck, none) = (query_is_stuck (symbols_of text tokens) k).0 (kind_of kind, e) in
     let (come, end) = query_wants_what_could_come (symbols_of text tokens) (kind_of kind) k e in
-    record { tokens = tokens; has_tokens = has; number = k; there = there; stuck = stuck; none_deep = none; could_come = come; could_end = end }
+    record {
+      tokens = tokens;
+      has_tokens = has;
+      number = k;
+      there = there;
+      stuck = stuck;
+      none_deep = none;
+      wanted = query_tells_what_is_wanted (symbols_of text tokens) (kind_of kind) k e;
+      could_come = come;
+      could_end = end;
+    }
 query_refused text s tokens (Unknown place name) has h = absurd h
 query_refused text s tokens (Repeated place name) has h = absurd h
 query_refused text s tokens (TooDeep place) has (k, e, there) =

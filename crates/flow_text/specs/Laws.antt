@@ -1,12 +1,15 @@
 -- A text says one thing, and what is printed is read back.
-use Rattle.std.specs.Prelude.{◌≡◌, ℕ, List}
-use Rattle.flow_form.specs.Script.{Said}
+use Rattle.std.specs.Prelude.{◌≡◌, ℕ, List, Result, Ok, Err}
+use Rattle.flow_form.specs.declared.refusal.TextRefusal.{TextRefusal}
+use Rattle.flow_form.specs.declared.refusal.TextRefusal.TheVariants.{NoMemory}
+use Rattle.flow_form.specs.Script.{Said, Asked}
 use Rattle.flow_grammar.specs.Made.{IsWellMade}
 use Rattle.flow_grammar.specs.Print.{IsWithin}
 use Rattle.flow_names.specs.Good.{HasGoodNames}
 use Rattle.flow_print.specs.Printed.{printed}
 use Rattle.flow_print.specs.Printable.{IsPrintable}
-use Rattle.flow_text.specs.Saying.{Says}
+use Rattle.flow_text.specs.Saying.{Says, Asks}
+use Rattle.flow_text.specs.Parsing.{IsParseRefusal, IsQueryRefusal}
 
 abbrev pub TextsSayOneThing : Type 0
 TextsSayOneThing = (text : List ℕ) (a b : Said) → Says text a → Says text b → a ≡ b
@@ -18,3 +21,18 @@ PrintsSayIt = (s : Said) → IsPrintable s → IsWellMade s → IsWithin s → H
 -- and so is what some text says
 abbrev pub PrintsAreReadBack : Type 0
 PrintsAreReadBack = (text : List ℕ) (s : Said) → Says text s → Says (printed s) s
+
+-- an answer that tells of the text: what it says, or why it says nothing, but not want of memory
+abbrev pub IsAnswer : {V : Type 0} → (V → Type 0) → (TextRefusal → Type 0) → Result V TextRefusal → Type 0
+IsAnswer Said Refused (Ok x) = Said x
+IsAnswer Said Refused (Err refusal) = Refused refusal × ¬ (refusal ≡ NoMemory)
+
+-- a text has one answer: the same value, or the same refusal with its place, its kind and its name
+abbrev pub TextsHaveOneAnswer : Type 0
+TextsHaveOneAnswer = (text : List ℕ) (a b : Result Said TextRefusal) →
+    IsAnswer (Says text) (IsParseRefusal text) a → IsAnswer (Says text) (IsParseRefusal text) b → a ≡ b
+
+-- so has a query to a workflow
+abbrev pub QueriesHaveOneAnswer : Type 0
+QueriesHaveOneAnswer = (text : List ℕ) (s : Said) (a b : Result Asked TextRefusal) →
+    IsAnswer (Asks text s) (IsQueryRefusal text s) a → IsAnswer (Asks text s) (IsQueryRefusal text s) b → a ≡ b

@@ -8,6 +8,7 @@ use Rattle.flow_form.specs.Script.{Said, Asked}
 use Rattle.flow_lex.specs.declared.token.Token.{Token}
 use Rattle.flow_lex.specs.Tokens.{lexed, IsAscii, IsFirstNotAscii}
 use Rattle.flow_grammar.specs.Symbol.{Symbol, a_name, Placed}
+use Rattle.flow_grammar.specs.Machine.{Wanted, script_wants, query_wants}
 use Rattle.flow_grammar.specs.Laws.{StandsFor, MayEnd}
 use Rattle.flow_grammar.specs.Roles.{Role, role_name, script_roles, query_roles}
 use Rattle.flow_grammar.specs.Texts.{IsStuckAt, NoneDeepBefore, StandsDeep, IsViable, IsWhole, SpellsScript, SpellsQuery}
@@ -17,15 +18,17 @@ use Rattle.flow_reader.specs.Reading.{place_of}
 use Rattle.flow_names.specs.Good.{IsFirstRepeated, IsFirstUnknown, AsksFirstOfOther}
 use Rattle.flow_text.specs.Saying.{HasTokens, Writes}
 
--- at the place stands the first token with which no text goes on, or the end of a text that ends too early; what is
--- told could come there: each token of that kind, and the end if it is of that kind
-pub record IsExpected {V : Type 0} (Spells : List Placed → V → Type 0) (text : List ℕ) (place : ℕ) (kind : told.Wanted) : Type 0 where
+-- at the place stands the first token with which no text goes on, or the end of a text that ends too early; the kind is
+-- that which the table has for where the reading stands after the tokens before, and each token of that kind could come
+-- there, and the end if it is of that kind
+pub record IsExpected {V : Type 0} (Spells : List Placed → V → Type 0) (wants : List Symbol → Option Wanted) (text : List ℕ) (place : ℕ) (kind : told.Wanted) : Type 0 where
   pub tokens : List Token
   pub has_tokens : HasTokens text tokens
   pub number : ℕ
   pub there : place ≡ place_of text tokens number
   pub stuck : IsStuckAt Spells (symbols_of text tokens) number
   pub none_deep : NoneDeepBefore Spells (symbols_of text tokens) number
+  pub wanted : wants (take number (symbols_of text tokens)) ≡ Some (kind_of kind)
   pub could_come : (t : Symbol) → StandsFor (kind_of kind) t → IsViable Spells (take number (symbols_of text tokens) ++ t ∷ [])
   pub could_end : MayEnd (kind_of kind) → IsWhole Spells (take number (symbols_of text tokens))
 
@@ -91,7 +94,7 @@ pub record AsksUnknownAt (text : List ℕ) (s : Said) (place : ℕ) (name : List
 abbrev pub IsParseRefusal : List ℕ → TextRefusal → Type 0
 IsParseRefusal text (NotAscii place) = IsFirstNotAscii text place
 IsParseRefusal text (BadToken place) = IsAscii text × ((lexed text).bad ≡ Some place)
-IsParseRefusal text (Expected place kind) = IsExpected SpellsScript text place kind
+IsParseRefusal text (Expected place kind) = IsExpected SpellsScript script_wants text place kind
 IsParseRefusal text (TooDeep place) = IsTooDeep SpellsScript text place
 IsParseRefusal text (Repeated place name) = IsRepeatedAt text place name
 IsParseRefusal text (Unknown place name) = IsUnknownAt text place name
@@ -101,7 +104,7 @@ IsParseRefusal text NoMemory = Unit {0}
 abbrev pub IsQueryRefusal : List ℕ → Said → TextRefusal → Type 0
 IsQueryRefusal text s (NotAscii place) = IsFirstNotAscii text place
 IsQueryRefusal text s (BadToken place) = IsAscii text × ((lexed text).bad ≡ Some place)
-IsQueryRefusal text s (Expected place kind) = IsExpected SpellsQuery text place kind
+IsQueryRefusal text s (Expected place kind) = IsExpected SpellsQuery query_wants text place kind
 IsQueryRefusal text s (TooDeep place) = IsTooDeep SpellsQuery text place
 IsQueryRefusal text s (Repeated place name) = ⊥
 IsQueryRefusal text s (Unknown place name) = AsksUnknownAt text s place name

@@ -1,8 +1,14 @@
-ghost use Rattle.flow_text.specs.Laws.{TextsSayOneThing, PrintsSayIt, PrintsAreReadBack};
+ghost use Rattle.flow_text.specs.Laws.{TextsSayOneThing, TextsHaveOneAnswer, QueriesHaveOneAnswer, PrintsSayIt, PrintsAreReadBack};
 
 /// A text says at most one thing.
 pub fn law_texts_say_one_thing()
     ensures { TextsSayOneThing }
+{}
+
+/// The contracts of `parse` and `parse_query` leave one answer to each text, or want of memory.
+pub fn law_texts_have_one_answer()
+    ensures of_scripts { TextsHaveOneAnswer }
+    ensures of_queries { QueriesHaveOneAnswer }
 {}
 
 /// A script that can be written at all is said by its print, and so is every script that some text says.

@@ -1,0 +1,312 @@
+-- A text has one answer: what it comes to is one thing, and says which.
+use Rattle.std.proofs.Common.{◌≡◌, ℕ, zero, suc, ◌<◌, ◌≤◌, List, [], ◌∷◌, length, take, slice_get, refl, sym, ap, subst, ◌∙◌, arith}
+use Rattle.std.specs.Prelude.{Option, Some, None, Result, Ok, Err, slice_index}
+use Rattle.flow_form.specs.declared.refusal.Wanted as told
+use Rattle.flow_form.specs.declared.refusal.Wanted.TheVariants as code
+use Rattle.flow_form.specs.declared.refusal.TextRefusal.{TextRefusal}
+use Rattle.flow_form.specs.declared.refusal.TextRefusal.TheVariants.{NotAscii, BadToken, Expected, Unknown, Repeated, TooDeep, NoMemory}
+use Rattle.flow_form.specs.Script.{Said, Asked}
+use Rattle.flow_lex.specs.declared.token.Token.{Token}
+use Rattle.flow_lex.specs.Tokens.{Lexed, lexed, IsAscii, IsFirstNotAscii}
+use Rattle.flow_grammar.specs.Symbol.{Symbol, Placed}
+use Rattle.flow_grammar.specs.Machine.{Wanted, a_declaration, a_constraint, the_name, a_fact, a_constant, an_atom, a_rule, an_opening, a_closing, an_equals, a_semicolon, a_query, the_number, the_end, Reading, gives, expected, too_deep, read_script, read_query, script_wants, query_wants}
+use Rattle.flow_grammar.specs.Texts.{Derives, SpellsScript, SpellsQuery}
+use Rattle.flow_grammar.specs.Laws.{ReadsJustThese, IsStuckJustThere, IsTooDeepJustThere, TellsWhatIsWanted}
+use Rattle.flow_grammar.specs.Roles.{script_roles, query_roles, Role}
+use Rattle.flow_grammar.proofs.Reading.{script_reads, script_is_stuck, script_is_too_deep, script_tells_what_is_wanted, query_reads, query_is_stuck, query_is_too_deep, query_tells_what_is_wanted}
+use Rattle.flow_reader.specs.Symbols.{symbols_of}
+use Rattle.flow_reader.specs.Readers.{kind_of}
+use Rattle.flow_reader.specs.Reading.{place_of}
+use Rattle.flow_names.specs.Good.{HasGoodNames, IsUnknown, IsRepeated, IsFirstRepeated, IsFirstUnknown, AsksOfEvents, AsksFirstOfOther}
+use Rattle.flow_names.proofs.OneFirst.{one_first, once_is_not_repeated, good_has_no_other, events_have_no_other}
+use Rattle.flow_text.specs.Saying.{HasTokens, Writes, Says, Asks}
+use Rattle.flow_text.specs.Parsing.{IsExpected, IsTooDeep, IsNameAt, named_places, IsParseRefusal, IsQueryRefusal}
+use Rattle.flow_text.specs.Laws.{IsAnswer, TextsHaveOneAnswer, QueriesHaveOneAnswer}
+
+-- What a text comes to
+
+data Finding (V : Type 0) : Type 0 where
+  no_ascii : ℕ → Finding V
+  bad_token : ℕ → Finding V
+  read_as : Reading V → Finding V
+
+-- and its names
+data Naming : Type 0 where
+  good : Naming
+  again other : ℕ → Naming
+
+abbrev tokens_in : List ℕ → List Token
+tokens_in text = (lexed text).tokens
+
+abbrev Finds : {V : Type 0} → (List Symbol → Reading V) → List ℕ → Finding V → Type 0
+Finds read text (no_ascii p) = IsFirstNotAscii text p
+Finds read text (bad_token p) = IsAscii text × ((lexed text).bad ≡ Some p)
+Finds read text (read_as r) = IsAscii text × ((lexed text).bad ≡ None) × (read (symbols_of text (tokens_in text)) ≡ r)
+
+ascii_there : (text : List ℕ) (p : ℕ) → IsAscii text → p < length text → slice_index text p ≤ 127
+ascii_there [] p h l = absurd (omega arith)
+ascii_there (b ∷ bs) zero (h, hs) l = h
+ascii_there (b ∷ bs) (suc p) (h, hs) l = ascii_there bs p hs (omega arith)
+
+ascii_before : (text : List ℕ) (p q : ℕ) → IsAscii (take q text) → p < q → p < length text → slice_index text p ≤ 127
+ascii_before [] p q h l m = absurd (omega arith)
+ascii_before (b ∷ bs) p zero h l m = absurd (omega arith)
+ascii_before (b ∷ bs) zero (suc q) (h, hs) l m = h
+ascii_before (b ∷ bs) (suc p) (suc q) (h, hs) l m = ascii_before bs p q hs (omega arith) (omega arith)
+
+no_first : (text : List ℕ) (p : ℕ) → IsAscii text → IsFirstNotAscii text p → ⊥
+no_first text p ascii h = omega (arith, ascii_there text p ascii h.within, h.there)
+
+not_before : (text : List ℕ) (p q : ℕ) → IsFirstNotAscii text p → IsFirstNotAscii text q → p < q → ⊥
+not_before text p q h g l = omega (arith, ascii_before text p q g.before l h.within, h.there)
+
+one_byte : (text : List ℕ) (p q : ℕ) → IsFirstNotAscii text p → IsFirstNotAscii text q → p ≡ q
+one_byte text p q h g =
+    let least : ¬ (p < q) = not_before text p q h g in
+    let also : ¬ (q < p) = not_before text q p g h in
+    omega (arith, least, also)
+
+one_finding : {V : Type 0} (read : List Symbol → Reading V) (text : List ℕ) (f g : Finding V) → Finds read text f → Finds read text g → f ≡ g
+one_finding read text (no_ascii p) (no_ascii q) h k = ap no_ascii (one_byte text p q h k)
+one_finding read text (no_ascii p) (bad_token q) h (ascii, bad) = absurd (no_first text p ascii h)
+one_finding read text (no_ascii p) (read_as r) h (ascii, bad, e) = absurd (no_first text p ascii h)
+one_finding read text (bad_token p) (no_ascii q) (ascii, bad) k = absurd (no_first text q ascii k)
+one_finding read text (bad_token p) (bad_token q) (ascii, bad) (ascii', bad') = let same : p ≡ q = cc in ap bad_token same
+one_finding read text (bad_token p) (read_as r) (ascii, bad) (ascii', bad', e) = absurd (cc)
+one_finding read text (read_as r) (no_ascii q) (ascii, bad, e) k = absurd (no_first text q ascii k)
+one_finding read text (read_as r) (bad_token q) (ascii, bad, e) (ascii', bad') = absurd (cc)
+one_finding read text (read_as r) (read_as s) (ascii, bad, e) (ascii', bad', e') = ap read_as (sym e ∙ e')
+
+-- The answer that says it
+
+abbrev told_of : Wanted → told.Wanted
+told_of a_declaration = code.Declaration
+told_of a_constraint = code.Constraint
+told_of the_name = code.Name
+told_of a_fact = code.Fact
+told_of a_constant = code.Constant
+told_of an_atom = code.Atom
+told_of a_rule = code.Rule
+told_of an_opening = code.Opening
+told_of a_closing = code.Closing
+told_of an_equals = code.Equals
+told_of a_semicolon = code.Semicolon
+told_of a_query = code.Query
+told_of the_number = code.Number
+told_of the_end = code.End
+
+told_back : (kind : told.Wanted) → told_of (kind_of kind) ≡ kind
+told_back code.Declaration = refl
+told_back code.Constraint = refl
+told_back code.Name = refl
+told_back code.Fact = refl
+told_back code.Constant = refl
+told_back code.Atom = refl
+told_back code.Rule = refl
+told_back code.Opening = refl
+told_back code.Closing = refl
+told_back code.Equals = refl
+told_back code.Semicolon = refl
+told_back code.Query = refl
+told_back code.Number = refl
+told_back code.End = refl
+
+abbrev refused_at : {V : Type 0} → (ℕ → List ℕ → TextRefusal) → Option (ℕ × List ℕ) → Result V TextRefusal
+refused_at why None = Err NoMemory
+refused_at why (Some (place, name)) = Err (why place name)
+
+abbrev answer : {V : Type 0} → List ℕ → Finding V → Naming → Result V TextRefusal
+answer text (no_ascii p) v = Err (NotAscii p)
+answer text (bad_token p) v = Err (BadToken p)
+answer text (read_as (expected kind k)) v = Err (Expected (place_of text (tokens_in text) k) (told_of kind))
+answer text (read_as (too_deep k)) v = Err (TooDeep (place_of text (tokens_in text) k))
+answer text (read_as (gives x)) good = Ok x
+answer text (read_as (gives x)) (again k) = refused_at (λ place name. Repeated place name) (slice_get (named_places text (tokens_in text)) k)
+answer text (read_as (gives x)) (other k) = refused_at (λ place name. Unknown place name) (slice_get (named_places text (tokens_in text)) k)
+
+-- what is found of names, where there is a value
+abbrev Judged : {V : Type 0} → (V → Naming → Type 0) → Finding V → Naming → Type 0
+Judged judge (read_as (gives x)) v = judge x v
+Judged judge (no_ascii p) v = v ≡ good
+Judged judge (bad_token p) v = v ≡ good
+Judged judge (read_as (expected kind k)) v = v ≡ good
+Judged judge (read_as (too_deep k)) v = v ≡ good
+
+record Accounts {V : Type 0} (read : List Symbol → Reading V) (judge : V → Naming → Type 0) (text : List ℕ) (a : Result V TextRefusal) : Type 0 where
+  finding : Finding V
+  naming : Naming
+  finds : Finds read text finding
+  judged : Judged judge finding naming
+  is : a ≡ answer text finding naming
+
+module _ {V : Type 0} (judge : V → Naming → Type 0) (one_naming : (x : V) (v u : Naming) → judge x v → judge x u → v ≡ u) where
+  one_judged : (f : Finding V) (v u : Naming) → Judged judge f v → Judged judge f u → v ≡ u
+  one_judged (no_ascii p) v u h g = h ∙ sym g
+  one_judged (bad_token p) v u h g = h ∙ sym g
+  one_judged (read_as (gives x)) v u h g = one_naming x v u h g
+  one_judged (read_as (expected kind k)) v u h g = h ∙ sym g
+  one_judged (read_as (too_deep k)) v u h g = h ∙ sym g
+
+  one_answer : (read : List Symbol → Reading V) (text : List ℕ) (a b : Result V TextRefusal) → Accounts read judge text a → Accounts read judge text b → a ≡ b
+  one_answer read text a b h g =
+      let same = one_finding read text h.finding g.finding h.finds g.finds in
+      let names = one_judged g.finding h.naming g.naming (subst (λ f. Judged judge f h.naming) same h.judged) g.judged in
+      h.is ∙ ap (λ f. answer text f h.naming) same ∙ ap (answer text g.finding) names ∙ sym g.is
+
+-- What the contracts say comes to that
+
+has_these : (text : List ℕ) (tokens : List Token) → HasTokens text tokens → tokens ≡ tokens_in text
+has_these text tokens has = ap (λ (l : Lexed). l.tokens) (sym has.lexed)
+
+has_none_bad : (text : List ℕ) (tokens : List Token) → HasTokens text tokens → (lexed text).bad ≡ None
+has_none_bad text tokens has = ap (λ (l : Lexed). l.bad) has.lexed
+
+some_is : {A : Type 0} (x y : A) → Some x ≡ Some y → x ≡ y
+some_is x y e = cc
+
+module _ {V : Type 0} (Spells : List Placed → V → Type 0) (wants : List Symbol → Option Wanted) (read : List Symbol → Reading V) (judge : V → Naming → Type 0)
+    (reads : ReadsJustThese Spells read) (is_stuck : IsStuckJustThere Spells read) (is_too_deep : IsTooDeepJustThere Spells read)
+    (tells : TellsWhatIsWanted wants read) (text : List ℕ) where
+  abbrev Known : Result V TextRefusal → Type 0
+  Known a = Accounts read judge text a
+
+  found : (tokens : List Token) (r : Reading V) → HasTokens text tokens → read (symbols_of text tokens) ≡ r → Finds read text (read_as r)
+  found tokens r has e =
+      (has.ascii, has_none_bad text tokens has, subst (λ ts. read (symbols_of text ts) ≡ r) (has_these text tokens has) e)
+
+  written : (x : V) → Writes Spells text x → Finds read text (read_as (gives x))
+  written x h = found h.tokens (gives x) h.has_tokens ((reads (symbols_of text h.tokens) x).1 h.derives)
+
+  no_ascii_there : (p : ℕ) → IsFirstNotAscii text p → Known (Err (NotAscii p))
+  no_ascii_there p h = record { finding = no_ascii p; naming = good; finds = h; judged = refl; is = refl }
+
+  bad_there : (p : ℕ) → IsAscii text × ((lexed text).bad ≡ Some p) → Known (Err (BadToken p))
+  bad_there p h = record { finding = bad_token p; naming = good; finds = h; judged = refl; is = refl }
+
+  expected_there : (place : ℕ) (kind : told.Wanted) → IsExpected Spells wants text place kind → Known (Err (Expected place kind))
+  expected_there place kind h =
+      let (found_kind, e) = (is_stuck (symbols_of text h.tokens) h.number).1 (h.stuck, h.none_deep) in
+      let same : found_kind ≡ kind_of kind = some_is _ _ (sym (tells (symbols_of text h.tokens) found_kind h.number e) ∙ h.wanted) in
+      record {
+        finding = read_as (expected (kind_of kind) h.number);
+        naming = good;
+        finds = found h.tokens (expected (kind_of kind) h.number) h.has_tokens (e ∙ ap (λ k. expected k h.number) same);
+        judged = refl;
+        is = ap (λ p. Err (Expected p kind)) (h.there ∙ ap (λ ts. place_of text ts h.number) (has_these text h.tokens h.has_tokens))
+            ∙ ap (λ k. Err (Expected (place_of text (tokens_in text) h.number) k)) (sym (told_back kind));
+      }
+
+  deep_there : (place : ℕ) → IsTooDeep Spells text place → Known (Err (TooDeep place))
+  deep_there place h = record {
+    finding = read_as (too_deep h.number);
+    naming = good;
+    finds = found h.tokens (too_deep h.number) h.has_tokens ((is_too_deep (symbols_of text h.tokens) h.number).1 (h.deep, h.none_before));
+    judged = refl;
+    is = ap (λ p. Err (TooDeep p)) (h.there ∙ ap (λ ts. place_of text ts h.number) (has_these text h.tokens h.has_tokens));
+  }
+
+  said_there : (x : V) → Writes Spells text x → judge x good → Known (Ok x)
+  said_there x h j = record { finding = read_as (gives x); naming = good; finds = written x h; judged = j; is = refl }
+
+  named_there : (why : ℕ → List ℕ → TextRefusal) (roles : List Role) (k place : ℕ) (name : List ℕ) → IsNameAt text roles k place name →
+      Err (why place name) ≡ refused_at {V = V} why (slice_get (named_places text (tokens_in text)) k)
+  named_there why roles k place name h =
+      ap (refused_at why) (sym (ap (λ ts. slice_get (named_places text ts) k) (sym (has_these text h.tokens h.has_tokens)) ∙ h.there))
+
+  again_there : (x : V) (roles : List Role) (k place : ℕ) (name : List ℕ) → Writes Spells text x → judge x (again k) →
+      IsNameAt text roles k place name → Known (Err (Repeated place name))
+  again_there x roles k place name h j there = record {
+    finding = read_as (gives x);
+    naming = again k;
+    finds = written x h;
+    judged = j;
+    is = named_there (λ place name. Repeated place name) roles k place name there;
+  }
+
+  other_there : (x : V) (roles : List Role) (k place : ℕ) (name : List ℕ) → Writes Spells text x → judge x (other k) →
+      IsNameAt text roles k place name → Known (Err (Unknown place name))
+  other_there x roles k place name h j there = record {
+    finding = read_as (gives x);
+    naming = other k;
+    finds = written x h;
+    judged = j;
+    is = named_there (λ place name. Unknown place name) roles k place name there;
+  }
+
+-- Scripts
+
+abbrev judge_script : Said → Naming → Type 0
+judge_script s good = HasGoodNames s
+judge_script s (again k) = IsFirstRepeated s k
+judge_script s (other k) = IsFirstUnknown s k
+
+one_script_naming : (s : Said) (v u : Naming) → judge_script s v → judge_script s u → v ≡ u
+one_script_naming s good good h g = refl
+one_script_naming s good (again k) h g = absurd (once_is_not_repeated s k h.once g)
+one_script_naming s good (other k) h g = absurd (good_has_no_other s k h g.first)
+one_script_naming s (again k) good h g = absurd (once_is_not_repeated s k g.once h)
+one_script_naming s (again k) (again j) h g = ap again (one_first IsRepeated (script_roles s) k j h g)
+one_script_naming s (again k) (other j) h g = absurd (once_is_not_repeated s k g.once h)
+one_script_naming s (other k) good h g = absurd (good_has_no_other s k g h.first)
+one_script_naming s (other k) (again j) h g = absurd (once_is_not_repeated s j h.once g)
+one_script_naming s (other k) (other j) h g = ap other (one_first (λ front role. IsUnknown s.decls role) (script_roles s) k j h.first g.first)
+
+script_known : (text : List ℕ) (a : Result Said TextRefusal) → IsAnswer (Says text) (IsParseRefusal text) a → Accounts read_script judge_script text a
+script_known text (Ok s) h =
+    said_there SpellsScript script_wants read_script judge_script script_reads script_is_stuck script_is_too_deep script_tells_what_is_wanted text s h.writes h.named
+script_known text (Err (NotAscii p)) (h, tells) =
+    no_ascii_there SpellsScript script_wants read_script judge_script script_reads script_is_stuck script_is_too_deep script_tells_what_is_wanted text p h
+script_known text (Err (BadToken p)) (h, tells) =
+    bad_there SpellsScript script_wants read_script judge_script script_reads script_is_stuck script_is_too_deep script_tells_what_is_wanted text p h
+script_known text (Err (Expected p kind)) (h, tells) =
+    expected_there SpellsScript script_wants read_script judge_script script_reads script_is_stuck script_is_too_deep script_tells_what_is_wanted text p kind h
+script_known text (Err (TooDeep p)) (h, tells) =
+    deep_there SpellsScript script_wants read_script judge_script script_reads script_is_stuck script_is_too_deep script_tells_what_is_wanted text p h
+script_known text (Err (Repeated p name)) (h, tells) =
+    again_there SpellsScript script_wants read_script judge_script script_reads script_is_stuck script_is_too_deep script_tells_what_is_wanted text
+    h.said (script_roles h.said) h.number p name h.writes h.first h.there
+script_known text (Err (Unknown p name)) (h, tells) =
+    other_there SpellsScript script_wants read_script judge_script script_reads script_is_stuck script_is_too_deep script_tells_what_is_wanted text
+    h.said (script_roles h.said) h.number p name h.writes h.first h.there
+script_known text (Err NoMemory) (h, tells) = absurd (tells refl)
+
+pub texts_have_one_answer : TextsHaveOneAnswer
+texts_have_one_answer text a b one two =
+    one_answer judge_script one_script_naming read_script text a b (script_known text a one) (script_known text b two)
+
+-- Queries
+
+abbrev judge_query : Said → Asked → Naming → Type 0
+judge_query s q good = AsksOfEvents q s
+judge_query s q (again k) = ⊥
+judge_query s q (other k) = AsksFirstOfOther q s k
+
+one_query_naming : (s : Said) (q : Asked) (v u : Naming) → judge_query s q v → judge_query s q u → v ≡ u
+one_query_naming s q good good h g = refl
+one_query_naming s q good (other k) h g = absurd (events_have_no_other q s k h g)
+one_query_naming s q (other k) good h g = absurd (events_have_no_other q s k g h)
+one_query_naming s q (other k) (other j) h g = ap other (one_first (λ front role. IsUnknown s.decls role) (query_roles q) k j h g)
+one_query_naming s q (again k) u h g = absurd h
+one_query_naming s q v (again k) h g = absurd g
+
+query_known : (text : List ℕ) (s : Said) (a : Result Asked TextRefusal) → IsAnswer (Asks text s) (IsQueryRefusal text s) a →
+    Accounts read_query (judge_query s) text a
+query_known text s (Ok q) h =
+    said_there SpellsQuery query_wants read_query (judge_query s) query_reads query_is_stuck query_is_too_deep query_tells_what_is_wanted text q h.writes h.of_events
+query_known text s (Err (NotAscii p)) (h, tells) =
+    no_ascii_there SpellsQuery query_wants read_query (judge_query s) query_reads query_is_stuck query_is_too_deep query_tells_what_is_wanted text p h
+query_known text s (Err (BadToken p)) (h, tells) =
+    bad_there SpellsQuery query_wants read_query (judge_query s) query_reads query_is_stuck query_is_too_deep query_tells_what_is_wanted text p h
+query_known text s (Err (Expected p kind)) (h, tells) =
+    expected_there SpellsQuery query_wants read_query (judge_query s) query_reads query_is_stuck query_is_too_deep query_tells_what_is_wanted text p kind h
+query_known text s (Err (TooDeep p)) (h, tells) =
+    deep_there SpellsQuery query_wants read_query (judge_query s) query_reads query_is_stuck query_is_too_deep query_tells_what_is_wanted text p h
+query_known text s (Err (Repeated p name)) (h, tells) = absurd h
+query_known text s (Err (Unknown p name)) (h, tells) =
+    other_there SpellsQuery query_wants read_query (judge_query s) query_reads query_is_stuck query_is_too_deep query_tells_what_is_wanted text
+    h.query (query_roles h.query) h.number p name h.writes h.first h.there
+query_known text s (Err NoMemory) (h, tells) = absurd (tells refl)
+
+pub queries_have_one_answer : QueriesHaveOneAnswer
+queries_have_one_answer text s a b one two =
+    one_answer (judge_query s) (one_query_naming s) read_query text a b (query_known text s a one) (query_known text s b two)
