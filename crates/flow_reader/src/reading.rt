@@ -65,9 +65,10 @@ pub fn read_script(alloc: Global, text: &[u8], tokens: &[Token]) -> Result<Scrip
         reader = step_script(alloc, reader, symbol_of(text, *token), token.start)?;
         rest = more;
     }
+    let kind = reader.wanted();
     match reader.finish() {
-        Ok(script) => Ok(script),
-        Err(kind) => Err(TextRefusal::Expected {
+        Some(script) => Ok(script),
+        None => Err(TextRefusal::Expected {
             place: text.len(),
             kind,
         }),
@@ -107,9 +108,10 @@ pub fn read_query(alloc: Global, text: &[u8], tokens: &[Token]) -> Result<Query,
         reader = step_query(alloc, reader, symbol_of(text, *token), token.start)?;
         rest = more;
     }
+    let kind = reader.wanted();
     match reader.finish() {
-        Ok(query) => Ok(query),
-        Err(kind) => Err(TextRefusal::Expected {
+        Some(query) => Ok(query),
+        None => Err(TextRefusal::Expected {
             place: text.len(),
             kind,
         }),
