@@ -1,6 +1,7 @@
 pub mod Symbols
 pub mod Readers
 pub mod Goals
+pub mod RuleLevels
 pub mod Rules
 pub mod Scripts
 pub mod Queries

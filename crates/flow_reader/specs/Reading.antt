@@ -1,5 +1,6 @@
 -- What reading the tokens of a text gives, or why it gives nothing.
-use Rattle.std.specs.Prelude.{◌≡◌, ℕ, zero, suc, true, false, List, [], ◌∷◌, length, Option, Some, None}
+use Rattle.std.specs.Prelude.{◌≡◌, ℕ, zero, suc, Bool, true, false, List, [], ◌∷◌, length, Option, Some, None, Result, Ok, Err}
+use Rattle.flow_form.specs.declared.refusal.Wanted as told
 use Rattle.flow_form.specs.declared.refusal.TextRefusal.{TextRefusal}
 use Rattle.flow_form.specs.declared.refusal.TextRefusal.TheVariants.{NotAscii, BadToken, Expected, Unknown, Repeated, TooDeep, NoMemory}
 use Rattle.flow_lex.specs.declared.token.Token.{Token}
@@ -24,6 +25,13 @@ IsReadRefusal text tokens read (TooDeep place) = (k : ℕ) × (read ≡ too_deep
 IsReadRefusal text tokens read NoMemory = Unit {0}
 
 -- One step of a machine
+
+-- the reader after a step, or why there is none
+abbrev pub settled : {R E : Type 0} → Result (Option R) E → Bool → ℕ → told.Wanted → Result R TextRefusal
+settled (Err error) deep place kind = Err NoMemory
+settled (Ok None) deep place kind = Err (Expected place kind)
+settled (Ok (Some next)) true place kind = Err (TooDeep place)
+settled (Ok (Some next)) false place kind = Ok next
 
 -- the symbol leads on, and does not stand too deep
 abbrev pub IsStep : {S : Type 0} → (S → Symbol → Option S) → (S → ℕ) → S → Symbol → S → Type 0

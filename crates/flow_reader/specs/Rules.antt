@@ -1,6 +1,5 @@
 -- What the code has read of a rule, as states of the machine.
-use Rattle.std.specs.Prelude.{List, map, reverse}
-use Rattle.flow_form.specs.RuleForm.{RuleShape, RuleShapes, all, any, rule_shape_of}
+use Rattle.flow_form.specs.RuleForm.{rule_shape_of}
 use Rattle.flow_grammar.specs.Grammar as grammar
 use Rattle.flow_grammar.specs.Machine as machine
 use Rattle.flow_reader.specs.declared.rules.Single as code_single
@@ -9,10 +8,7 @@ use Rattle.flow_reader.specs.declared.rules.Pair as code_pair
 use Rattle.flow_reader.specs.declared.rules.Pair.TheVariants as pair
 use Rattle.flow_reader.specs.declared.rules.Names as code_names
 use Rattle.flow_reader.specs.declared.rules.Names.TheVariants as names
-use Rattle.flow_reader.specs.declared.rule_levels.RuleJoin as code_join
-use Rattle.flow_reader.specs.declared.rule_levels.RuleJoin.TheVariants as join
-use Rattle.flow_reader.specs.declared.rule_levels.RuleLevel as code_level
-use Rattle.flow_reader.specs.declared.rule_levels.RuleFrame as code_frame
+use Rattle.flow_reader.specs.RuleLevels.{rule_level_of, rule_frames_of}
 use Rattle.flow_reader.specs.declared.rules.RuleReader as code_reader
 use Rattle.flow_reader.specs.declared.rules.RuleReader.TheVariants as reader
 use Rattle.flow_reader.specs.declared.rules.RuleStep as code_step
@@ -32,20 +28,6 @@ names_of (names.Two p) = machine.two (pair_of p)
 names_of (names.Second p n) = machine.second (pair_of p) n
 names_of names.TwoOrMore = machine.two_or_more
 names_of (names.OneOrMore n) = machine.one_or_more n
-
-abbrev pub rule_list_of : code_join.RuleJoin → RuleShapes → RuleShape
-rule_list_of join.And = all
-rule_list_of join.Or = any
-
-abbrev pub rule_level_of : code_level.RuleLevel → machine.RuleLevel
-rule_level_of l = machine.rule_level (map rule_shape_of l.anys.items) (map rule_shape_of l.alls.items)
-
-abbrev pub rule_frame_of : code_frame.RuleFrame → machine.RuleFrame
-rule_frame_of f = machine.rule_parenthesis (rule_level_of f.level) f.nots
-
--- the innermost stands last in the code, and first in the machine
-abbrev pub rule_frames_of : List code_frame.RuleFrame → List machine.RuleFrame
-rule_frames_of fs = reverse (map rule_frame_of fs)
 
 abbrev pub rule_state : code_reader.RuleReader → machine.RuleState
 rule_state (reader.UnitNeeded s k) = machine.unit_needed (rule_frames_of s.frames.items) (rule_level_of s.level) k

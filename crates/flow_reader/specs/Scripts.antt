@@ -1,8 +1,6 @@
 -- What the code has read of a text or a query, as states of the machine.
 use Rattle.std.specs.Prelude.{List, map}
-use Rattle.flow_form.specs.Form.{shape_of}
-use Rattle.flow_form.specs.RuleForm.{rule_shape_of}
-use Rattle.flow_form.specs.Script.{Declared, declared}
+use Rattle.flow_form.specs.Script.{Declared, declared, said}
 use Rattle.flow_form.specs.declared.script.Decl as code_decl
 use Rattle.flow_grammar.specs.Machine as machine
 use Rattle.flow_reader.specs.Readers.{arg_state}
@@ -28,6 +26,5 @@ script_state (reader.FlowToDeclare ds) = machine.flow_to_declare (declared_of ds
 script_state (reader.EqualsNeeded ds n) = machine.equals_needed (declared_of ds.items) n
 script_state (reader.InFlow ds n g) = machine.in_flow (declared_of ds.items) n (goal_state g)
 script_state (reader.InGoal ds g) = machine.in_goal (declared_of ds.items) (goal_state g)
-script_state (reader.ConstraintNeeded ds s rs) = machine.constraint_needed (declared_of ds.items) (shape_of s) (map rule_shape_of rs.items)
-script_state (reader.InConstraint ds s rs r) =
-    machine.in_constraint (declared_of ds.items) (shape_of s) (map rule_shape_of rs.items) (rule_state r)
+script_state (reader.ConstraintNeeded s) = machine.constraint_needed (said s).decls (said s).goal (said s).rules
+script_state (reader.InConstraint s r) = machine.in_constraint (said s).decls (said s).goal (said s).rules (rule_state r)

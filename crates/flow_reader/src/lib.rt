@@ -7,6 +7,7 @@ mod levels;
 mod queries;
 mod reading;
 mod rule_levels;
+mod rule_stack;
 mod rules;
 mod scripts;
 mod symbol;

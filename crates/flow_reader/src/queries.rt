@@ -1,4 +1,4 @@
-ghost use Rattle.std.specs.Prelude.{◌≡◌, ◌-◌, ◌^◌, ◌<◌, min, option_map, IfOk, IfErr, Some, None};
+ghost use Rattle.std.specs.Prelude.{◌≡◌, ◌-◌, ◌^◌, ◌<◌, option_map, IfOk};
 ghost use Rattle.flow_form.specs.Script.{asked};
 ghost use Rattle.flow_grammar.specs.Machine as machine;
 ghost use Rattle.flow_reader.specs.Symbols.{meant};
@@ -74,15 +74,13 @@ impl QueryReader {
         }
     }
 
-    /// What the text asks if it ends here, or what could come next.
-    pub fn finish(self) -> Result<Query, Wanted>
-        ensures ok { IfOk result (λ query. machine.finish_query (query_state self) ≡ Some (asked query)) }
-        ensures err { IfErr result (λ wanted. (machine.finish_query (query_state self) ≡ None)
-            × (kind_of wanted ≡ machine.wanted_query (query_state self))) }
+    /// What the text asks if it ends here.
+    pub fn finish(self) -> Option<Query>
+        ensures { option_map asked result ≡ machine.finish_query (query_state self) }
     {
         match self {
-            QueryReader::QueryRead(query) => Ok(query),
-            reader => Err(reader.wanted()),
+            QueryReader::QueryRead(query) => Some(query),
+            _ => None,
         }
     }
 
@@ -99,9 +97,10 @@ impl QueryReader {
         }
     }
 
-    /// In how many parentheses and nots the next symbol stands, kept at the greatest `usize`.
+    /// In how many parentheses and nots the next symbol stands.
     pub fn depth(&self) -> usize
-        ensures { result ≡ min (machine.depth_query (query_state self.now)) (2 ^ 64 - 1) }
+        requires { machine.depth_query (query_state self.now) < 2 ^ 64 - 1 }
+        ensures { result ≡ machine.depth_query (query_state self.now) }
     {
         match self {
             QueryReader::InProperty(rule) => rule.depth(),

@@ -6,17 +6,34 @@ ghost use Rattle.flow_grammar.specs.Machine as machine;
 ghost use Rattle.flow_reader.specs.Symbols.{meant, symbols_of};
 ghost use Rattle.flow_reader.specs.Scripts.{script_state};
 ghost use Rattle.flow_reader.specs.Queries.{query_state};
-ghost use Rattle.flow_reader.specs.Reading.{IsReadRefusal, IsStep, IsStepRefusal};
+ghost use Rattle.flow_reader.specs.Reading.{IsReadRefusal, IsStep, IsStepRefusal, settled};
 
 use crate::queries::QueryReader;
 use crate::scripts::ScriptReader;
 use crate::symbol::Symbol;
 use crate::tokens::{is_too_deep, symbol_of};
-use flow_form::{Query, Script, TextRefusal};
+use flow_form::{Query, Script, TextRefusal, Wanted};
 use flow_lex::Token;
-use std::alloc::Global;
+use std::alloc::{AllocError, Global};
+
+/// The reader after a symbol, or why there is none: no text goes on with the symbol, or it stands too deep.
+fn settled<R: Drop>(
+    step: Result<Option<R>, AllocError>,
+    deep: bool,
+    place: usize,
+    kind: Wanted,
+) -> Result<R, TextRefusal>
+    ensures { result ≡ settled step deep place kind }
+{
+    match step? {
+        None => Err(TextRefusal::Expected { place, kind }),
+        Some(_) if deep => Err(TextRefusal::TooDeep { place }),
+        Some(next) => Ok(next),
+    }
+}
 
 /// What the symbol at a place makes of a text so far.
+#[tactic(auto, using(crate::proofs::Loops::settled_step, crate::proofs::Loops::settled_refusal))]
 fn step_script(
     alloc: Global,
     reader: ScriptReader,
@@ -31,11 +48,7 @@ fn step_script(
 {
     let deep = is_too_deep(symbol, reader.depth());
     let kind = reader.wanted();
-    match reader.step(alloc, symbol)? {
-        None => Err(TextRefusal::Expected { place, kind }),
-        Some(_) if deep => Err(TextRefusal::TooDeep { place }),
-        Some(next) => Ok(next),
-    }
+    settled(reader.step(alloc, symbol), deep, place, kind)
 }
 
 /// Reads a script from the tokens of a text.
@@ -52,9 +65,10 @@ pub fn read_script(alloc: Global, text: &[u8], tokens: &[Token]) -> Result<Scrip
         reader = step_script(alloc, reader, symbol_of(text, *token), token.start)?;
         rest = more;
     }
+    let kind = reader.wanted();
     match reader.finish() {
-        Ok(script) => Ok(script),
-        Err(kind) => Err(TextRefusal::Expected {
+        Some(script) => Ok(script),
+        None => Err(TextRefusal::Expected {
             place: text.len(),
             kind,
         }),
@@ -62,6 +76,7 @@ pub fn read_script(alloc: Global, text: &[u8], tokens: &[Token]) -> Result<Scrip
 }
 
 /// What the symbol at a place makes of a query so far.
+#[tactic(auto, using(crate::proofs::Loops::settled_step, crate::proofs::Loops::settled_refusal))]
 fn step_query(
     alloc: Global,
     reader: QueryReader,
@@ -76,11 +91,7 @@ fn step_query(
 {
     let deep = is_too_deep(symbol, reader.depth());
     let kind = reader.wanted();
-    match reader.step(alloc, symbol)? {
-        None => Err(TextRefusal::Expected { place, kind }),
-        Some(_) if deep => Err(TextRefusal::TooDeep { place }),
-        Some(next) => Ok(next),
-    }
+    settled(reader.step(alloc, symbol), deep, place, kind)
 }
 
 /// Reads a query from the tokens of a text.
@@ -97,9 +108,10 @@ pub fn read_query(alloc: Global, text: &[u8], tokens: &[Token]) -> Result<Query,
         reader = step_query(alloc, reader, symbol_of(text, *token), token.start)?;
         rest = more;
     }
+    let kind = reader.wanted();
     match reader.finish() {
-        Ok(query) => Ok(query),
-        Err(kind) => Err(TextRefusal::Expected {
+        Some(query) => Ok(query),
+        None => Err(TextRefusal::Expected {
             place: text.len(),
             kind,
         }),

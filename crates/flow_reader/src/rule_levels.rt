@@ -1,11 +1,10 @@
-ghost use Rattle.std.specs.Prelude.{◌≡◌, ◌∷◌, ◌-◌, ◌^◌, min, [], map, IfOk, OnOk};
+ghost use Rattle.std.specs.Prelude.{◌≡◌, [], map, IfOk, OnOk};
 ghost use Rattle.flow_form.specs.RuleForm.{rule_shape_of, negated};
 ghost use Rattle.flow_grammar.specs.Grammar as grammar;
 ghost use Rattle.flow_grammar.specs.Machine as machine;
-ghost use Rattle.flow_reader.specs.Readers.{kind_of};
-ghost use Rattle.flow_reader.specs.Rules.{rule_list_of, rule_frame_of, rule_frames_of, rule_level_of};
+ghost use Rattle.flow_reader.specs.RuleLevels.{rule_list_of, rule_frame_of, rule_level_of};
 
-use flow_form::{RuleForm, Wanted};
+use flow_form::RuleForm;
 use std::alloc::{AllocError, Global};
 
 /// How members of a list are joined.
@@ -93,8 +92,8 @@ impl RuleLevel {
 /// An open parenthesis, with what stands outside it and the nots directly before it.
 #[derive(Drop)]
 pub struct RuleFrame {
-    level: RuleLevel,
-    nots: usize,
+    pub level: RuleLevel,
+    pub nots: usize,
 }
 
 impl RuleFrame {
@@ -105,82 +104,5 @@ impl RuleFrame {
         let mut level = self.level;
         level.push(negated(alloc, self.nots, rule)?)?;
         Ok(level)
-    }
-}
-
-/// How many parentheses and nots they are, kept at the greatest `usize`.
-fn height_of(frames: &[RuleFrame]) -> usize
-    ensures { result ≡ min (machine.rule_height (rule_frames_of frames.now)) (2 ^ 64 - 1) }
-{
-    match frames.split_last() {
-        None => 0,
-        Some((inner, outer)) => height_of(outer)
-            .saturating_add(inner.nots)
-            .saturating_add(1),
-    }
-}
-
-/// The open parentheses, the innermost last, and what stands in it.
-#[derive(Drop)]
-pub struct RuleStack {
-    pub frames: Vec<RuleFrame>,
-    pub level: RuleLevel,
-}
-
-impl RuleStack {
-    pub fn new(alloc: Global) -> RuleStack
-        ensures frames { rule_frames_of result.frames.items ≡ [] }
-        ensures level { rule_level_of result.level ≡ machine.rule_level [] [] }
-    {
-        RuleStack {
-            frames: Vec::new(alloc),
-            level: RuleLevel::new(alloc),
-        }
-    }
-
-    /// Inside a further parenthesis, which so many nots precede.
-    pub fn parenthesized(mut self, alloc: Global, nots: usize) -> Result<RuleStack, AllocError>
-        ensures frames { IfOk result (λ stack. rule_frames_of stack.frames.items
-            ≡ machine.rule_parenthesis (rule_level_of self.level) nots ∷ rule_frames_of self.frames.items) }
-        ensures level { IfOk result (λ stack. rule_level_of stack.level ≡ machine.rule_level [] []) }
-    {
-        let frame = RuleFrame {
-            level: self.level,
-            nots,
-        };
-        self.frames.push(frame)?;
-        Ok(RuleStack {
-            frames: self.frames,
-            level: RuleLevel::new(alloc),
-        })
-    }
-
-    pub fn all_closed(self, alloc: Global) -> Result<RuleStack, AllocError>
-        ensures frames { IfOk result (λ stack. stack.frames.items ≡ self.frames.items) }
-        ensures level { IfOk result (λ stack. rule_level_of stack.level ≡ machine.close_all (rule_level_of self.level)) }
-    {
-        let level = self.level.all_closed(alloc)?;
-        Ok(RuleStack {
-            frames: self.frames,
-            level,
-        })
-    }
-
-    /// What could come after a unit.
-    pub fn wanted(&self) -> Wanted
-        ensures { kind_of result ≡ machine.wanted_rule_join (rule_frames_of self.now.frames.items) }
-    {
-        if self.frames.is_empty() {
-            Wanted::Semicolon
-        } else {
-            Wanted::Closing
-        }
-    }
-
-    /// How many parentheses and nots are open, kept at the greatest `usize`.
-    pub fn height(&self) -> usize
-        ensures { result ≡ min (machine.rule_height (rule_frames_of self.now.frames.items)) (2 ^ 64 - 1) }
-    {
-        height_of(&self.frames)
     }
 }

@@ -1,13 +1,15 @@
-ghost use Rattle.std.specs.Prelude.{◌≡◌, ◌-◌, ◌^◌, ◌<◌, min, map, IfOk};
+ghost use Rattle.std.specs.Prelude.{◌≡◌, ◌+◌, ◌-◌, ◌^◌, ◌<◌, map, IfOk};
 ghost use Rattle.flow_form.specs.RuleForm.{rule_shape_of};
 ghost use Rattle.flow_grammar.specs.Grammar as grammar;
 ghost use Rattle.flow_grammar.specs.Machine as machine;
 ghost use Rattle.flow_grammar.specs.Symbol as grammar_symbol;
 ghost use Rattle.flow_reader.specs.Symbols.{meant};
 ghost use Rattle.flow_reader.specs.Readers.{kind_of};
-ghost use Rattle.flow_reader.specs.Rules.{single_of, pair_of, names_of, rule_frames_of, rule_level_of, rule_state, rule_step};
+ghost use Rattle.flow_reader.specs.RuleLevels.{rule_frames_of, rule_level_of};
+ghost use Rattle.flow_reader.specs.Rules.{single_of, pair_of, names_of, rule_state, rule_step};
 
-use crate::rule_levels::{RuleStack, negated};
+use crate::rule_levels::negated;
+use crate::rule_stack::RuleStack;
 use crate::symbol::Symbol;
 use flow_form::{Name, RuleForm, Wanted};
 use std::alloc::{AllocError, Global};
@@ -81,7 +83,7 @@ fn start_unit(
     nots: usize,
     symbol: Symbol<'_>,
 ) -> Result<RuleStep, AllocError>
-    requires { nots < 2 ^ 64 - 1 }
+    requires { stack.height + nots < 2 ^ 64 - 1 }
     ensures { IfOk result (λ step. rule_step step
         ≡ machine.start_unit (rule_frames_of stack.frames.items) (rule_level_of stack.level) nots (meant symbol.entry)) }
 {
@@ -112,18 +114,21 @@ fn end_rule(alloc: Global, stack: RuleStack) -> Result<RuleStep, AllocError>
     }
 }
 
-fn close_parenthesis(alloc: Global, mut stack: RuleStack) -> Result<RuleStep, AllocError>
+fn close_parenthesis(alloc: Global, stack: RuleStack) -> Result<RuleStep, AllocError>
     ensures { IfOk result (λ step. rule_step step
         ≡ machine.join_unit (rule_frames_of stack.frames.items) (rule_level_of stack.level) grammar_symbol.closing) }
 {
-    let Some(frame) = stack.frames.pop() else {
+    let mut frames = stack.frames;
+    let Some(frame) = frames.pop() else {
         return Ok(RuleStep::Stuck);
     };
+    let height = stack.height - frame.nots - 1;
     let rule = stack.level.closed(alloc)?;
     let level = frame.wrapped(alloc, rule)?;
     let stack = RuleStack {
-        frames: stack.frames,
+        frames,
         level,
+        height,
     };
     Ok(RuleStep::Reading(RuleReader::AfterUnit(stack)))
 }
@@ -147,7 +152,7 @@ fn join_unit(alloc: Global, stack: RuleStack, symbol: Symbol<'_>) -> Result<Rule
 /// The rule under its nots, as a unit that is whole.
 fn after_rule(
     alloc: Global,
-    mut stack: RuleStack,
+    stack: RuleStack,
     nots: usize,
     rule: RuleForm,
 ) -> Result<RuleReader, AllocError>
@@ -155,8 +160,7 @@ fn after_rule(
         (machine.push_rule (rule_level_of stack.level) (machine.negate nots (rule_shape_of rule)))) }
 {
     let unit = negated(alloc, nots, rule)?;
-    stack.level.push(unit)?;
-    Ok(RuleReader::AfterUnit(stack))
+    Ok(RuleReader::AfterUnit(stack.push(unit)?))
 }
 
 fn take_name(
@@ -203,7 +207,7 @@ fn read_name(
 fn more_names(
     alloc: Global,
     mut names: Vec<Name>,
-    mut stack: RuleStack,
+    stack: RuleStack,
     nots: usize,
     symbol: Symbol<'_>,
 ) -> Result<RuleStep, AllocError>
@@ -217,8 +221,7 @@ fn more_names(
         }
         _ => {
             let unit = negated(alloc, nots, RuleForm::Order(names))?;
-            stack.level.push(unit)?;
-            join_unit(alloc, stack, symbol)
+            join_unit(alloc, stack.push(unit)?, symbol)
         }
     }
 }
@@ -231,7 +234,7 @@ impl RuleReader {
         RuleReader::UnitNeeded(RuleStack::new(alloc), 0)
     }
 
-    #[tactic(auto, using(crate::proofs::Depths::nots_within))]
+    #[tactic(auto, using(crate::proofs::Depths::nots_added))]
     pub fn step(self, alloc: Global, symbol: Symbol<'_>) -> Result<RuleStep, AllocError>
         requires { machine.depth_rule (rule_state self) < 2 ^ 64 - 1 }
         ensures { IfOk result (λ step. rule_step step ≡ machine.step_rule (rule_state self) (meant symbol.entry)) }
@@ -259,16 +262,17 @@ impl RuleReader {
         }
     }
 
-    /// In how many parentheses and nots the next symbol stands, kept at the greatest `usize`.
-    #[tactic(auto, using(crate::proofs::Depths::kept_nots))]
+    /// In how many parentheses and nots the next symbol stands.
+    #[tactic(auto, using(crate::proofs::Depths::nots_added))]
     pub fn depth(&self) -> usize
-        ensures { result ≡ min (machine.depth_rule (rule_state self.now)) (2 ^ 64 - 1) }
+        requires { machine.depth_rule (rule_state self.now) < 2 ^ 64 - 1 }
+        ensures { result ≡ machine.depth_rule (rule_state self.now) }
     {
         match self {
             RuleReader::UnitNeeded(stack, nots) | RuleReader::NameNeeded(_, stack, nots) => {
-                stack.height().saturating_add(*nots)
+                stack.height + *nots
             }
-            RuleReader::AfterUnit(stack) | RuleReader::AfterNames(_, stack, _) => stack.height(),
+            RuleReader::AfterUnit(stack) | RuleReader::AfterNames(_, stack, _) => stack.height,
         }
     }
 }

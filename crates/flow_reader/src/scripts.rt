@@ -1,7 +1,6 @@
-ghost use Rattle.std.specs.Prelude.{◌≡◌, ◌∷◌, ◌++◌, ◌-◌, ◌^◌, ◌<◌, [], min, map, option_map, IfOk, IfErr, Some, None};
+ghost use Rattle.std.specs.Prelude.{◌≡◌, ◌∷◌, ◌++◌, ◌-◌, ◌^◌, ◌<◌, [], map, option_map, IfOk};
 ghost use Rattle.flow_facts.specs.Atom.{atom};
 ghost use Rattle.flow_form.specs.Form.{shape_of};
-ghost use Rattle.flow_form.specs.RuleForm.{rule_shape_of};
 ghost use Rattle.flow_form.specs.Script as form;
 ghost use Rattle.flow_form.specs.Script.{said};
 ghost use Rattle.flow_grammar.specs.Machine as machine;
@@ -15,7 +14,7 @@ use crate::arguments::{ArgReader, ArgStep};
 use crate::goals::{GoalReader, GoalStep};
 use crate::rules::{RuleReader, RuleStep};
 use crate::symbol::Symbol;
-use flow_form::{Decl, Fact, Form, Name, Note, RuleForm, Script, Wanted};
+use flow_form::{Decl, Fact, Name, Note, Script, Wanted};
 use std::alloc::{AllocError, Global};
 
 /// Where the reading of a text stands, with the declarations so far.
@@ -34,8 +33,8 @@ pub enum ScriptReader {
     EqualsNeeded(Vec<Decl>, Name),
     InFlow(Vec<Decl>, Name, GoalReader),
     InGoal(Vec<Decl>, GoalReader),
-    ConstraintNeeded(Vec<Decl>, Form, Vec<RuleForm>),
-    InConstraint(Vec<Decl>, Form, Vec<RuleForm>, RuleReader),
+    ConstraintNeeded(Script),
+    InConstraint(Script, RuleReader),
 }
 
 fn start_declaration(alloc: Global, decls: Vec<Decl>, symbol: Symbol<'_>) -> Option<ScriptReader>
@@ -236,46 +235,33 @@ fn after_goal(alloc: Global, decls: Vec<Decl>, step: GoalStep) -> Option<ScriptR
 {
     match step {
         GoalStep::Reading(goal) => Some(ScriptReader::InGoal(decls, goal)),
-        GoalStep::Whole(form) => {
-            Some(ScriptReader::ConstraintNeeded(decls, form, Vec::new(alloc)))
+        GoalStep::Whole(goal) => {
+            let rules = Vec::new(alloc);
+            Some(ScriptReader::ConstraintNeeded(Script { decls, goal, rules }))
         }
         GoalStep::Stuck => None,
     }
 }
 
-fn start_constraint(
-    alloc: Global,
-    decls: Vec<Decl>,
-    goal: Form,
-    rules: Vec<RuleForm>,
-    symbol: Symbol<'_>,
-) -> Option<ScriptReader>
-    ensures { option_map script_state result
-        ≡ machine.start_constraint (declared_of decls.items) (shape_of goal) (map rule_shape_of rules.items) (meant symbol.entry) }
+fn start_constraint(alloc: Global, script: Script, symbol: Symbol<'_>) -> Option<ScriptReader>
+    ensures { option_map script_state result ≡ machine.start_constraint
+        (said script).decls (said script).goal (said script).rules (meant symbol.entry) }
 {
     match symbol {
-        Symbol::Constraint => {
-            let rule = RuleReader::new(alloc);
-            Some(ScriptReader::InConstraint(decls, goal, rules, rule))
-        }
+        Symbol::Constraint => Some(ScriptReader::InConstraint(script, RuleReader::new(alloc))),
         _ => None,
     }
 }
 
-fn after_constraint(
-    decls: Vec<Decl>,
-    goal: Form,
-    mut rules: Vec<RuleForm>,
-    step: RuleStep,
-) -> Result<Option<ScriptReader>, AllocError>
-    ensures { IfOk result (λ made. option_map script_state made
-        ≡ machine.after_rule_step (declared_of decls.items) (shape_of goal) (map rule_shape_of rules.items) (rule_step step)) }
+fn after_constraint(mut script: Script, step: RuleStep) -> Result<Option<ScriptReader>, AllocError>
+    ensures { IfOk result (λ made. option_map script_state made ≡ machine.after_rule_step
+        (said script).decls (said script).goal (said script).rules (rule_step step)) }
 {
     match step {
-        RuleStep::Reading(rule) => Ok(Some(ScriptReader::InConstraint(decls, goal, rules, rule))),
+        RuleStep::Reading(rule) => Ok(Some(ScriptReader::InConstraint(script, rule))),
         RuleStep::Whole(rule) => {
-            rules.push(rule)?;
-            Ok(Some(ScriptReader::ConstraintNeeded(decls, goal, rules)))
+            script.rules.push(rule)?;
+            Ok(Some(ScriptReader::ConstraintNeeded(script)))
         }
         RuleStep::Stuck => Ok(None),
     }
@@ -312,24 +298,20 @@ impl ScriptReader {
             ScriptReader::InGoal(decls, goal) => {
                 Ok(after_goal(alloc, decls, goal.step(alloc, symbol)?))
             }
-            ScriptReader::ConstraintNeeded(decls, goal, rules) => {
-                Ok(start_constraint(alloc, decls, goal, rules, symbol))
-            }
-            ScriptReader::InConstraint(decls, goal, rules, rule) => {
-                after_constraint(decls, goal, rules, rule.step(alloc, symbol)?)
+            ScriptReader::ConstraintNeeded(script) => Ok(start_constraint(alloc, script, symbol)),
+            ScriptReader::InConstraint(script, rule) => {
+                after_constraint(script, rule.step(alloc, symbol)?)
             }
         }
     }
 
-    /// What the text says if it ends here, or what could come next.
-    pub fn finish(self) -> Result<Script, Wanted>
-        ensures ok { IfOk result (λ script. machine.finish_script (script_state self) ≡ Some (said script)) }
-        ensures err { IfErr result (λ wanted. (machine.finish_script (script_state self) ≡ None)
-            × (kind_of wanted ≡ machine.wanted_script (script_state self))) }
+    /// What the text says if it ends here.
+    pub fn finish(self) -> Option<Script>
+        ensures { option_map said result ≡ machine.finish_script (script_state self) }
     {
         match self {
-            ScriptReader::ConstraintNeeded(decls, goal, rules) => Ok(Script { decls, goal, rules }),
-            reader => Err(reader.wanted()),
+            ScriptReader::ConstraintNeeded(script) => Some(script),
+            _ => None,
         }
     }
 
@@ -350,18 +332,19 @@ impl ScriptReader {
             ScriptReader::EqualsNeeded(..) => Wanted::Equals,
             ScriptReader::InFlow(_, _, goal) | ScriptReader::InGoal(_, goal) => goal.wanted(),
             ScriptReader::ConstraintNeeded(..) => Wanted::Constraint,
-            ScriptReader::InConstraint(_, _, _, rule) => rule.wanted(),
+            ScriptReader::InConstraint(_, rule) => rule.wanted(),
         }
     }
 
-    /// In how many parentheses and nots the next symbol stands, kept at the greatest `usize`.
+    /// In how many parentheses and nots the next symbol stands.
     pub fn depth(&self) -> usize
-        ensures { result ≡ min (machine.depth_script (script_state self.now)) (2 ^ 64 - 1) }
+        requires { machine.depth_script (script_state self.now) < 2 ^ 64 - 1 }
+        ensures { result ≡ machine.depth_script (script_state self.now) }
     {
         match self {
             ScriptReader::InArgs(..) => 1,
             ScriptReader::InFlow(_, _, goal) | ScriptReader::InGoal(_, goal) => goal.depth(),
-            ScriptReader::InConstraint(_, _, _, rule) => rule.depth(),
+            ScriptReader::InConstraint(_, rule) => rule.depth(),
             _ => 0,
         }
     }

@@ -1,0 +1,22 @@
+-- The lists and parentheses of a rule that the code has read, as the machine's.
+use Rattle.std.specs.Prelude.{List, map, reverse}
+use Rattle.flow_form.specs.RuleForm.{RuleShape, RuleShapes, all, any, rule_shape_of}
+use Rattle.flow_grammar.specs.Machine as machine
+use Rattle.flow_reader.specs.declared.rule_levels.RuleJoin as code_join
+use Rattle.flow_reader.specs.declared.rule_levels.RuleJoin.TheVariants as join
+use Rattle.flow_reader.specs.declared.rule_levels.RuleLevel as code_level
+use Rattle.flow_reader.specs.declared.rule_levels.RuleFrame as code_frame
+
+abbrev pub rule_list_of : code_join.RuleJoin → RuleShapes → RuleShape
+rule_list_of join.And = all
+rule_list_of join.Or = any
+
+abbrev pub rule_level_of : code_level.RuleLevel → machine.RuleLevel
+rule_level_of l = machine.rule_level (map rule_shape_of l.anys.items) (map rule_shape_of l.alls.items)
+
+abbrev pub rule_frame_of : code_frame.RuleFrame → machine.RuleFrame
+rule_frame_of f = machine.rule_parenthesis (rule_level_of f.level) f.nots
+
+-- the innermost stands last in the code, and first in the machine
+abbrev pub rule_frames_of : List code_frame.RuleFrame → List machine.RuleFrame
+rule_frames_of fs = reverse (map rule_frame_of fs)
