@@ -9,7 +9,7 @@ use crate::event_leaves::LeafEvents;
 use crate::normal::Nnf;
 use std::alloc::{AllocError, Global};
 
-/// What a rule asks of some leaves. Each list in it has a member.
+/// What a rule asks of some leaves. An `All` has a member, and an `Any` has two.
 #[derive(Drop)]
 pub(crate) enum Asked {
     /// The first leaf is to stand before the second.
@@ -90,7 +90,7 @@ fn all_asked(alloc: Global, parts: &[Nnf], events: &LeafEvents) -> Result<Found,
     }
 }
 
-/// What one of the parts asks. Those that can't be met are left out.
+/// What one of the parts asks. Those that can't be met are left out; an only one stands for itself.
 #[cycle(asking)]
 fn any_asked(alloc: Global, parts: &[Nnf], events: &LeafEvents) -> Result<Found, AllocError>
     ensures { IfOk result (λ found. Finds found (any_ways (leaf_in events.now) parts.now)) }
@@ -103,10 +103,12 @@ fn any_asked(alloc: Global, parts: &[Nnf], events: &LeafEvents) -> Result<Found,
             Found::Open(more) => all.push(more)?,
         }
     }
-    if all.is_empty() {
-        Ok(Found::Unmet)
-    } else {
-        Ok(Found::Open(Asked::Any(all)))
+    if all.len() > 1 {
+        return Ok(Found::Open(Asked::Any(all)));
+    }
+    match all.pop() {
+        Some(only) => Ok(Found::Open(only)),
+        None => Ok(Found::Unmet),
     }
 }
 

@@ -35,7 +35,7 @@ fn add(others: Vec<OrderSet>, all: &mut Vec<OrderSet>) -> Result<(), AllocError>
 fn extended(alloc: Global, ways: Vec<OrderSet>, rule: &Asked) -> Result<Vec<OrderSet>, AllocError>
     ensures { IfOk result (λ all. pairs_of all.items ≡ both_ways (pairs_of ways.items) (ways_asked rule.now)) }
 {
-    let mut all = Vec::new(alloc);
+    let mut all = Vec::with_capacity(alloc, ways.len())?;
     for way in ways {
         extend(alloc, way, rule, &mut all)?;
     }

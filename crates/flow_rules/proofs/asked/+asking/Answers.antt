@@ -8,7 +8,7 @@ use Rattle.flow_rules.specs.Asked.{Finds}
 use Rattle.flow_rules.specs.EventLeaves.{leaf_in}
 use Rattle.flow_rules.specs.Normal.{normal_of}
 use Rattle.flow_rules.specs.WayLists.{all_ways, any_ways, both_ways, either_way}
-use Rattle.flow_rules.proofs.AskedLemmas.{IsProduct, IsSum, asked_all, asked_any, asked_more, choice_more, met_any, met_more, ok_finds, unmet_all, unmet_more, whole_product, whole_sum}
+use Rattle.flow_rules.proofs.AskedLemmas.{IsProduct, IsSum, asked_all, asked_any, asked_more, choice_more, met_any, met_more, ok_finds, unmet_all, only_one, unmet_more, whole_product, whole_sum}
 use Rattle.flow_rules.proofs.NormalViews.{ways_of_and, ways_of_or}
 use Rattle.flow_rules.proofs.WayListLemmas.{fold_more}
 use Rattle.flow_rules.proofs.asked.+asking.Goals as goal
@@ -78,8 +78,15 @@ any_asked-loop-part-preserved t c =
           (ap (λ (v : Vec Asked Global). v.items) w.all-is ∙ w.in_ok-push-in-Open.ensures.items) more found.0 found.1 c.loop-part.invariant
     ]
 
-pub any_asked-returns-else-is_empty : goal.any_asked-returns-else-is_empty
-any_asked-returns-else-is_empty t c =
+pub any_asked-returns-then-len-gt1 : goal.any_asked-returns-then-len-gt1
+any_asked-returns-then-len-gt1 t c =
     let whole = ap (any_ways (leaf_in c.args.events.now)) (take_all c.loop-part.part-index c.args.parts.now c.loop-part-test.false) in
     let h : IsSum c.loop-part.all.items (any_ways (leaf_in c.args.events.now) c.args.parts.now) = subst (IsSum c.loop-part.all.items) whole c.loop-part.invariant in
-    (asked_any c.loop-part.all ∙ h.same, whole_sum c.loop-part.all.items _ (λ none. grind (arith, c.loop-part.all.ok, none, c.is_empty.ensures, c.if-is_empty.false)) h)
+    (asked_any c.loop-part.all ∙ h.same, whole_sum c.loop-part.all.items _ (λ none. grind (arith, c.loop-part.all.ok, none, c.len.ensures, c.if-len-gt1.true)) h)
+
+pub any_asked-returns-in-Some : goal.any_asked-returns-in-Some
+any_asked-returns-in-Some t c =
+    let whole = ap (any_ways (leaf_in c.args.events.now)) (take_all c.loop-part.part-index c.args.parts.now c.loop-part-test.false) in
+    let h : IsSum c.loop-part.all.items (any_ways (leaf_in c.args.events.now) c.args.parts.now) = subst (IsSum c.loop-part.all.items) whole c.loop-part.invariant in
+    only_one c.loop-part.all.items c.pop.new.self.items c.in-Some.only _ c.in-Some.ensures.items
+    (grind (arith, c.loop-part.all.ok, c.len.ensures, c.if-len-gt1.false)) h
