@@ -1,11 +1,10 @@
-ghost use Rattle.std.specs.Prelude.{◌≡◌, IfOk};
+ghost use Rattle.std.specs.Prelude.{◌≡◌};
 ghost use Rattle.std.specs.List.Sorted.{IsStrictlyIncreasing};
 ghost use Rattle.flow_model.specs.Process;
 ghost use Rattle.flow_model.specs.Process.{IsChoiceFree};
 ghost use Rattle.flow_goal.specs.Goal.{process_of};
 
 use crate::goal::Goal;
-use std::alloc::{AllocError, Global};
 use std::marker::Model;
 
 /// A goal without choices, and the list of its leaves.
@@ -49,16 +48,6 @@ impl Choiceless {
     {
         self.goal = goal;
         self
-    }
-
-    /// The same goal in memory of its own.
-    pub fn copy(&self, alloc: Global) -> Result<Choiceless, AllocError>
-        ensures process { IfOk result (λ new. new.process ≡ self.now.process) }
-        ensures leaves { IfOk result (λ new. new.leaves ≡ self.now.leaves) }
-    {
-        let goal = self.goal.copy(alloc)?;
-        let leaves = Vec::from_slice(alloc, &self.leaves)?;
-        Ok(Choiceless { goal, leaves })
     }
 
     pub fn goal(&self) -> &Goal
