@@ -18,8 +18,6 @@ mod ring;
 mod sample;
 mod sieve;
 mod tally;
-#[cfg(test)]
-mod tests;
 mod written;
 
 pub use circle::Circle;

@@ -4,8 +4,6 @@
 mod answers;
 mod execution;
 mod refusal;
-#[cfg(test)]
-mod tests;
 mod verifying;
 
 pub use answers::{Redundancy, Verified};
