@@ -3,19 +3,16 @@
 #![tactic(auto)]
 
 mod circle;
-mod circles;
 mod compiled;
 mod compiling;
 mod conjunction;
 mod counts;
-mod edges;
 mod excising;
-mod graph;
+mod item;
 mod items;
 mod limits;
+mod order;
 mod refusal;
-mod ring;
-mod sample;
 mod sieve;
 mod tally;
 mod written;
