@@ -11,7 +11,7 @@ import subprocess
 import sys
 import time
 
-from generated import generated
+from generated import text as generated
 
 TOP = pathlib.Path(__file__).resolve().parent.parent
 GREATEST_INPUT = 1_048_576

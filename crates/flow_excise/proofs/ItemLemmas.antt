@@ -1,15 +1,21 @@
--- Rings of the nodes of an item graph as rings of items.
-use Rattle.std.proofs.Common.{◌≡◌, ◌≢◌, ℕ, zero, suc, ◌<◌, ◌≤◌, Bool, true, false, IsTrue, List, [], ◌∷◌, map, length, refl, sym, ap, ◌∙◌, subst, inl, inr, ⊎_elim, arith, length-append, true≢false}
+-- The items of a part by their rows: rings of them are circles.
+use Rattle.std.proofs.Common.{◌≡◌, ℕ, zero, suc, ◌<◌, ◌≤◌, IsTrue, List, [], ◌∷◌, map, min, length, refl, sym, ap, ◌∙◌, subst, inl, inr, ⊎_elim, arith, Some, slice_get}
 use Rattle.std.proofs.lemmas.Bool.{cases_lt}
-use Rattle.leaf_rows.specs.declared.leaf_set.LeafSet.{LeafSet}
 use Rattle.flow_model.specs.Lists.{◌∈◌, Each, AreDistinct, joined}
 use Rattle.flow_model.specs.Process.{Process, leaves}
+use Rattle.flow_model.specs.Ready.{DirectlyBefore}
 use Rattle.flow_model.specs.Circle.{items_of, ItemBefore, LeadsBackTo, IsRing, least_of}
-use Rattle.flow_laws.proofs.ListLemmas1.{Decided, mem_joined, distinct_apart, distinct_right, decide_mem, decide_list_eq, decide_both, each_at}
-use Rattle.flow_laws.proofs.CircleParts.{item_has, joined_items}
-use Rattle.flow_excise.specs.Graphs.{IsKnotted, LeadsOn, IsCycle, IsNodeRing}
-use Rattle.flow_excise.specs.Items.{item_at, IsItemGraph, IsPartCircle, HasNoCircle, IsTurned}
-use Rattle.flow_excise.proofs.RingLemmas.{at_most}
+use Rattle.flow_laws.specs.Words.{IsOrdered}
+use Rattle.flow_laws.proofs.ListLemmas1.{mem_joined, distinct_apart, distinct_right}
+use Rattle.flow_laws.proofs.CircleParts.{regions, region_distinct, item_has, items_apart, joined_items}
+use Rattle.flow_excise.specs.declared.item.Item.{Item}
+use Rattle.flow_excise.specs.declared.excising.ExciseRefusal.{ExciseRefusal}
+use Rattle.flow_excise.specs.declared.excising.ExciseRefusal.TheVariants.{Circle, NoMemory}
+use Rattle.flow_excise.specs.Rows.{has_inside, has_waits, run_in, least_in, least_at, IsIn, WaitsFor, IsEdge, AreApart}
+use Rattle.flow_excise.specs.Turned.{IsTurned}
+use Rattle.flow_excise.specs.Arranged.{LeadsOn, IsCycle, IsNodeRing, TellsRing}
+use Rattle.flow_excise.specs.Items.{item_at, IsLaid, IsItemOf, AreItemsOf, IsPartCircle, TellsCircle}
+use Rattle.flow_excise.proofs.OrderLemmas.{is_within, waits_within, ring_within}
 use Rattle.flow_excise.proofs.TurningLemmas.{circle_from_ring}
 
 -- the items of a part
@@ -24,19 +30,6 @@ distinct_lists (item ∷ list) d h =
 
 pub distinct_items : (g : Process) → AreDistinct (leaves g) → AreDistinct (items_of g)
 distinct_items g d = distinct_lists (items_of g) (subst AreDistinct (sym (joined_items g)) d) (item_has g)
-
-no_more_lists : (list : List (List ℕ)) → ((item : List ℕ) → item ∈ list → (x : ℕ) × (x ∈ item)) → length list ≤ length (joined list)
-no_more_lists [] h = omega arith
-no_more_lists ([] ∷ list) h = absurd ((h [] (inl refl)).1)
-no_more_lists ((x ∷ xs) ∷ list) h =
-    let l = no_more_lists list (λ i m. h i (inr m)) in
-    omega (arith, length-append (x ∷ xs) (joined list))
-
-pub few_items : (g : Process) (n : ℕ) → AreDistinct (leaves g) → ((x : ℕ) → x ∈ leaves g → x < n) → length (items_of g) ≤ n
-few_items g n d h =
-    let one = no_more_lists (items_of g) (item_has g) in
-    let two = at_most n (leaves g) d h in
-    omega (arith, ap length (joined_items g))
 
 -- items by their numbers
 
@@ -57,143 +50,153 @@ same_number (i ∷ items) zero (suc n) d l k e = absurd (d.0 (subst (λ z. z ∈
 same_number (i ∷ items) (suc m) zero d l k e = absurd (d.0 (subst (λ z. z ∈ items) e (mem-item_at items m (omega arith))))
 same_number (i ∷ items) (suc m) (suc n) d l k e = ap suc (same_number items m n d.1 (omega arith) (omega arith) e)
 
--- from nodes to items
-
-module _ (q : Process) (pairs : List (ℕ × ℕ)) (items : List (List ℕ)) (rows : List (LeafSet 16)) (graph : IsItemGraph q pairs items rows) where
-  abbrev named : List ℕ → List (List ℕ)
-  named ring = map (item_at items) ring
-
-  leads_back : (first node : ℕ) (more : List ℕ) → LeadsOn rows first node more → LeadsBackTo q pairs (item_at items first) (item_at items node) (named more)
-  leads_back first node [] h = ((graph node first).0 h).before
-  leads_back first node (next ∷ more) h = (((graph node next).0 h.0).before, leads_back first next more h.1)
-
-  pub ring_closed : (ring : List ℕ) → IsCycle rows ring → IsRing q pairs (named ring)
-  ring_closed [] h = h
-  ring_closed (node ∷ more) h = leads_back node node more h
-
-  on_within : (first node : ℕ) (more : List ℕ) → LeadsOn rows first node more → Each (λ n. n < length items) (node ∷ more)
-  on_within first node [] h = (((graph node first).0 h).from_there, tt)
-  on_within first node (next ∷ more) h = (((graph node next).0 h.0).from_there, on_within first next more h.1)
-
-  pub ring_within : (ring : List ℕ) → IsCycle rows ring → Each (λ n. n < length items) ring
-  ring_within [] h = absurd h
-  ring_within (node ∷ more) h = on_within node node more h
-
-  pub ring_of_two : (ring : List ℕ) → IsCycle rows ring → 2 ≤ length ring
-  ring_of_two [] h = absurd h
-  ring_of_two (node ∷ []) h = absurd (((graph node node).0 h).differ refl)
-  ring_of_two (node ∷ next ∷ more) h = omega arith
-
-  named_distinct : (ring : List ℕ) → AreDistinct items → Each (λ n. n < length items) ring → AreDistinct ring → AreDistinct (named ring)
-  named_distinct [] d w r = tt
-  named_distinct (n ∷ ring) d w r = (fresh ring w.1 r.0, named_distinct ring d w.1 r.1)
-    where
-      fresh : (more : List ℕ) → Each (λ n. n < length items) more → ¬ (n ∈ more) → ¬ (item_at items n ∈ named more)
-      fresh [] v a m = m
-      fresh (k ∷ more) v a (inl e) = a (inl (same_number items n k d w.0 v.0 e))
-      fresh (k ∷ more) v a (inr m) = fresh more v.1 (λ b. a (inr b)) m
-
-  named_items : (ring : List ℕ) → Each (λ n. n < length items) ring → Each (λ item. item ∈ items) (named ring)
-  named_items [] w = tt
-  named_items (n ∷ ring) w = (mem-item_at items n w.0, named_items ring w.1)
-
-  length-named : (ring : List ℕ) → length (named ring) ≡ length ring
-  length-named [] = refl
-  length-named (n ∷ ring) = ap suc (length-named ring)
-
-  pub circle_of_nodes : (part : Process) (ring circle : List ℕ) → items ≡ items_of part → AreDistinct (leaves part) → IsNodeRing rows ring →
-      IsTurned (map least_of (named ring)) circle → IsPartCircle q pairs part circle
-  circle_of_nodes part ring circle e d r t =
-      let within = ring_within ring r.cycle in
-      circle_from_ring q pairs part (named ring) circle
-      (subst (λ (l : List (List ℕ)). Each (λ item. item ∈ l) (named ring)) e (named_items ring within))
-      (named_distinct ring (subst AreDistinct (sym e) (distinct_items part d)) within r.distinct)
-      (omega (arith, length-named ring, ring_of_two ring r.cycle))
-      (ring_closed ring r.cycle)
-      t
-
--- in a ring of distinct items each has another before it
+-- the item of a number, by its rows
 
 module _ (q : Process) (pairs : List (ℕ × ℕ)) where
-  abbrev pub HasBefore : List (List ℕ) → List ℕ → Type 0
-  HasBefore ring item = (other : List ℕ) × (other ∈ ring) × (other ≢ item) × ItemBefore q pairs other item
+  pub same_length : (ls : List (List ℕ)) (items : List Item) → AreItemsOf q pairs ls items → length ls ≡ length items
+  same_length [] [] a = refl
+  same_length [] (i ∷ items) a = absurd a
+  same_length (l ∷ ls) [] a = absurd a
+  same_length (l ∷ ls) (i ∷ items) a = ap suc (same_length ls items a.1)
 
-  inner_before : (first item : List ℕ) (more : List (List ℕ)) (x : List ℕ) → AreDistinct (item ∷ more) → LeadsBackTo q pairs first item more →
-      x ∈ more → HasBefore (item ∷ more) x
-  inner_before first item [] x d h m = absurd m
-  inner_before first item (next ∷ more) x d h (inl e) =
-      (item, inl refl, λ f. d.0 (inl (f ∙ e)), subst (ItemBefore q pairs item) (sym e) h.0)
-  inner_before first item (next ∷ more) x d h (inr m) =
-      let r = inner_before first next more x d.1 h.1 m in (r.0, inr r.1, r.2, r.3)
+  pub item_is : (ls : List (List ℕ)) (items : List Item) (n : ℕ) → AreItemsOf q pairs ls items → n < length ls →
+      (item : Item) × (slice_get items n ≡ Some item) × IsItemOf q pairs (item_at ls n) item
+  item_is [] [] n a l = absurd (omega arith)
+  item_is [] (i ∷ items) n a l = absurd a
+  item_is (k ∷ ls) [] n a l = absurd a
+  item_is (k ∷ ls) (i ∷ items) zero a l = (i, refl, a.0)
+  item_is (k ∷ ls) (i ∷ items) (suc n) a l = item_is ls items n a.1 (omega arith)
 
-  last_before : (first item : List ℕ) (more : List (List ℕ)) → LeadsBackTo q pairs first item more →
-      (other : List ℕ) × (other ∈ (item ∷ more)) × ItemBefore q pairs other first
-  last_before first item [] h = (item, inl refl, h)
-  last_before first item (next ∷ more) h = let r = last_before first next more h.1 in (r.0, inr r.1, r.2)
+  module _ (ls : List (List ℕ)) (items : List Item) (a : AreItemsOf q pairs ls items) where
+    pub in_list : (n x : ℕ) → IsIn items n x → (n < length ls) × (x ∈ item_at ls n)
+    in_list n x h =
+        let l : n < length ls = omega (arith, is_within items n x h, same_length ls items a) in
+        let r = item_is ls items n a l in
+        (l, (r.2.inside x).0 (subst (λ o. IsTrue (has_inside o x)) r.1 h))
 
-  pub before_in_ring : (ring : List (List ℕ)) (x : List ℕ) → AreDistinct ring → 2 ≤ length ring → IsRing q pairs ring → x ∈ ring → HasBefore ring x
-  before_in_ring [] x d n h m = absurd m
-  before_in_ring (item ∷ []) x d n h m = absurd (omega arith)
-  before_in_ring (item ∷ next ∷ more) x d n h (inl e) =
-      let r = last_before item next more h.1 in
-      (r.0, inr r.1, λ f. d.0 (subst (λ z. z ∈ (next ∷ more)) (f ∙ e) r.1), subst (ItemBefore q pairs r.0) (sym e) r.2)
-  before_in_ring (item ∷ next ∷ more) x d n h (inr m) = inner_before item item (next ∷ more) x d h m
+    pub in_item : (n x : ℕ) → n < length ls → x ∈ item_at ls n → IsIn items n x
+    in_item n x l m = let r = item_is ls items n a l in subst (λ o. IsTrue (has_inside o x)) (sym r.1) ((r.2.inside x).1 m)
 
--- a knotless graph is of a part with no circle
+    pub waits_list : (n x : ℕ) → WaitsFor items n x → (n < length ls) × (((y : ℕ) × (y ∈ item_at ls n) × DirectlyBefore q pairs x y) × ¬ (x ∈ item_at ls n))
+    waits_list n x h =
+        let l : n < length ls = omega (arith, waits_within items n x h, same_length ls items a) in
+        let r = item_is ls items n a l in
+        (l, (r.2.waits x).0 (subst (λ o. IsTrue (has_waits o x)) r.1 h))
 
-abbrev tells : {P : Type 0} → Decided P → Bool
-tells (inl p) = true
-tells (inr n) = false
+    pub waits_item : (n x y : ℕ) → n < length ls → y ∈ item_at ls n → DirectlyBefore q pairs x y → ¬ (x ∈ item_at ls n) → WaitsFor items n x
+    waits_item n x y l m b f = let r = item_is ls items n a l in subst (λ o. IsTrue (has_waits o x)) (sym r.1) ((r.2.waits x).1 ((y, m, b), f))
 
-told : {P : Type 0} (d : Decided P) → IsTrue (tells d) → P
-told (inl p) h = p
-told (inr n) h = absurd (true≢false (sym h))
+    pub laid_at : (n : ℕ) → n < length ls → IsLaid q pairs (item_at ls n) (run_in (slice_get items n))
+    laid_at n l = let r = item_is ls items n a l in subst (λ o. IsLaid q pairs (item_at ls n) (run_in o)) (sym r.1) (r.2.run)
 
-tell : {P : Type 0} (d : Decided P) → P → IsTrue (tells d)
-tell (inl q) p = refl
-tell (inr n) p = absurd (n p)
+    least_is_at : (n : ℕ) → n < length ls → least_at items n ≡ least_of (item_at ls n)
+    least_is_at n l = let r = item_is ls items n a l in ap least_in r.1 ∙ r.2.least
 
-module _ (q : Process) (pairs : List (ℕ × ℕ)) (part : Process) (items : List (List ℕ)) (rows : List (LeafSet 16)) (graph : IsItemGraph q pairs items rows)
-    (same : items ≡ items_of part) (circle : List ℕ) (c : IsPartCircle q pairs part circle) where
-  abbrev IsMarked : ℕ → Type 0
-  IsMarked n = (n < length items) × (item_at items n ∈ c.ring)
+    pub leasts_are : (ring : List ℕ) → ((n : ℕ) → n ∈ ring → n < length ls) → map (least_at items) ring ≡ map least_of (map (item_at ls) ring)
+    leasts_are [] w = refl
+    leasts_are (n ∷ ring) w = λ i. least_is_at n (w n (inl refl)) i ∷ leasts_are ring (λ m k. w m (inr k)) i
 
-  decide_marked : (n : ℕ) → Decided (IsMarked n)
-  decide_marked n = decide_both (⊎_elim inl (λ l. inr (λ k. omega arith)) (cases_lt n (length items))) (decide_mem decide_list_eq (item_at items n) c.ring)
+    -- rings
 
-  abbrev marked : ℕ → Bool
-  marked n = tells (decide_marked n)
+    edge_before : (from to : ℕ) → IsEdge items from to → ItemBefore q pairs (item_at ls from) (item_at ls to)
+    edge_before from to (x, i, v) = let r = waits_list to x v in (x, r.1.0.0, (in_list from x i).1, r.1.0.1, r.1.0.2)
 
-  marked_member : (item : List ℕ) → item ∈ c.ring → (n : ℕ) × (n < length items) × (item_at items n ≡ item)
-  marked_member item m = number_of items item (subst (λ (l : List (List ℕ)). item ∈ l) (sym same) (each_at (λ i. i ∈ items_of part) c.ring item c.items m))
+    not_itself : (n : ℕ) → ¬ (IsEdge items n n)
+    not_itself n (x, i, v) = (waits_list n x v).1.1 (in_list n x i).1
 
-  marks : (item : List ℕ) → item ∈ c.ring → (n : ℕ) × IsTrue (marked n) × (n < length items) × (item_at items n ≡ item)
-  marks item m =
-      let o = marked_member item m in
-      (o.0, tell (decide_marked o.0) (o.1, subst (λ z. z ∈ c.ring) (sym o.2) m), o.1, o.2)
+    leads_back : (first n : ℕ) (more : List ℕ) → LeadsOn items first n more → LeadsBackTo q pairs (item_at ls first) (item_at ls n) (map (item_at ls) more)
+    leads_back first n [] h = edge_before n first h
+    leads_back first n (next ∷ more) h = (edge_before n next h.0, leads_back first next more h.1)
 
-  marks_knotted : IsKnotted rows marked
-  marks_knotted n h =
-      let t = told (decide_marked n) h in
-      let b = before_in_ring q pairs c.ring (item_at items n) c.distinct c.two c.closed t.1 in
-      let o = marks b.0 b.1 in (
-        o.0,
-        o.1,
-        (graph o.0 n).1 (record {
-          from_there = o.2;
-          to_there = t.0;
-          differ = λ f. b.2 (sym o.3 ∙ ap (item_at items) f);
-          before = subst (λ z. ItemBefore q pairs z (item_at items n)) (sym o.3) b.3;
-        }),
-      )
+    ring_closed : (ring : List ℕ) → IsCycle items ring → IsRing q pairs (map (item_at ls) ring)
+    ring_closed [] h = h
+    ring_closed (n ∷ more) h = leads_back n n more h
 
-  some_marked : (ring : List (List ℕ)) → c.ring ≡ ring → (n : ℕ) × IsTrue (marked n)
-  some_marked [] f = let l = c.two in absurd (omega (arith, ap length f))
-  some_marked (item ∷ ring) f = let o = marks item (subst (λ z. item ∈ z) (sym f) (inl refl)) in (o.0, o.1)
+    ring_of_two : (ring : List ℕ) → IsCycle items ring → 2 ≤ length (map (item_at ls) ring)
+    ring_of_two [] h = absurd h
+    ring_of_two (n ∷ []) h = absurd (not_itself n h)
+    ring_of_two (n ∷ next ∷ more) h = omega arith
 
-pub no_circle : (q : Process) (pairs : List (ℕ × ℕ)) (part : Process) (items : List (List ℕ)) (rows : List (LeafSet 16)) →
-    IsItemGraph q pairs items rows → items ≡ items_of part →
-    ((set : ℕ → Bool) → IsKnotted rows set → (node : ℕ) → ¬ (IsTrue (set node))) → HasNoCircle q pairs part
-no_circle q pairs part items rows graph e none circle c =
-    let some = some_marked q pairs part items rows graph e circle c c.ring refl in
-    none (marked q pairs part items rows graph e circle c) (marks_knotted q pairs part items rows graph e circle c) some.0 some.1
+    named_distinct : (ring : List ℕ) → AreDistinct ls → ((n : ℕ) → n ∈ ring → n < length ls) → AreDistinct ring → AreDistinct (map (item_at ls) ring)
+    named_distinct [] d w r = tt
+    named_distinct (n ∷ ring) d w r = (fresh ring (λ m k. w m (inr k)) r.0, named_distinct ring d (λ m k. w m (inr k)) r.1)
+      where
+        fresh : (more : List ℕ) → ((m : ℕ) → m ∈ more → m < length ls) → ¬ (n ∈ more) → ¬ (item_at ls n ∈ map (item_at ls) more)
+        fresh [] v f m = m
+        fresh (k ∷ more) v f (inl e) = f (inl (same_number ls n k d (w n (inl refl)) (v k (inl refl)) e))
+        fresh (k ∷ more) v f (inr m) = fresh more (λ j i. v j (inr i)) (λ b. f (inr b)) m
+
+    named_items : (ring : List ℕ) → ((n : ℕ) → n ∈ ring → n < length ls) → Each (λ item. item ∈ ls) (map (item_at ls) ring)
+    named_items [] w = tt
+    named_items (n ∷ ring) w = (mem-item_at ls n (w n (inl refl)), named_items ring (λ m k. w m (inr k)))
+
+-- the items of a part
+
+module _ (q : Process) (pairs : List (ℕ × ℕ)) (o : IsOrdered q pairs) (part : Process) (p : part ∈ regions q) (items : List Item)
+    (a : AreItemsOf q pairs (items_of part) items) where
+  part_is_distinct : AreDistinct (leaves part)
+  part_is_distinct = region_distinct q part o.distinct p
+
+  pub one_number : (m n x : ℕ) → m < length (items_of part) → n < length (items_of part) → x ∈ item_at (items_of part) m → x ∈ item_at (items_of part) n → m ≡ n
+  one_number m n x k l i j =
+      same_number (items_of part) m n (distinct_items part part_is_distinct) k l
+      (items_apart part (item_at (items_of part) m) (item_at (items_of part) n) x part_is_distinct (mem-item_at (items_of part) m k) (mem-item_at (items_of part) n l) i j)
+
+  pub are_apart : AreApart items
+  are_apart = record {
+    some = λ n l.
+        let l' : n < length (items_of part) = omega (arith, same_length q pairs (items_of part) items a) in
+        let x = item_has part (item_at (items_of part) n) (mem-item_at (items_of part) n l') in
+        (x.0, in_item q pairs (items_of part) items a n x.0 l' x.1);
+    apart = λ m n x i j.
+        let r = in_list q pairs (items_of part) items a m x i in
+        let s = in_list q pairs (items_of part) items a n x j in
+        one_number m n x r.0 s.0 r.1 s.1;
+    others = λ n x v i. (waits_list q pairs (items_of part) items a n x v).1.1 (in_list q pairs (items_of part) items a n x i).1;
+  }
+
+  circle_of_ring : (ring circle : List ℕ) → IsNodeRing items ring → IsTurned (map (least_at items) ring) circle → IsPartCircle q pairs part circle
+  circle_of_ring ring circle r t =
+      let w = λ (n : ℕ) (m : n ∈ ring). let l : n < length (items_of part) = omega (arith, ring_within items ring r.cycle n m, same_length q pairs (items_of part) items a) in l in
+      circle_from_ring q pairs part (map (item_at (items_of part)) ring) circle
+      (named_items q pairs (items_of part) items a ring w)
+      (named_distinct q pairs (items_of part) items a ring (distinct_items part part_is_distinct) w r.distinct)
+      (ring_of_two q pairs (items_of part) items a ring r.cycle)
+      (ring_closed q pairs (items_of part) items a ring r.cycle)
+      (subst (λ l. IsTurned l circle) (leasts_are q pairs (items_of part) items a ring w) t)
+
+  pub tells_circle : (e : ExciseRefusal) → TellsRing items e → TellsCircle q pairs e
+  tells_circle (Circle circle) (ring, r, t) =
+      let c = circle_of_ring ring circle.leaves.items r t in
+      record {
+        part = part;
+        is_part = p;
+        ring = c.ring;
+        items = c.items;
+        distinct = c.distinct;
+        two = c.two;
+        closed = c.closed;
+        written = c.written;
+        from_least = c.from_least;
+      }
+  tells_circle NoMemory h = tt
+
+-- the least leaf of a list
+
+least_below : (l : List ℕ) (x : ℕ) → x ∈ l → least_of l ≤ x
+least_below [] x m = absurd m
+least_below (n ∷ []) x (inl e) = omega arith
+least_below (n ∷ []) x (inr m) = absurd m
+least_below (n ∷ k ∷ more) x (inl e) = omega arith
+least_below (n ∷ k ∷ more) x (inr m) = let i = least_below (k ∷ more) x m in omega arith
+
+least_member : (n : ℕ) (more : List ℕ) → least_of (n ∷ more) ∈ (n ∷ more)
+least_member n [] = inl refl
+least_member n (k ∷ more) = ⊎_elim
+    (λ l. let e : min n (least_of (k ∷ more)) ≡ n = omega arith in inl e)
+    (λ l. let e : min n (least_of (k ∷ more)) ≡ least_of (k ∷ more) = omega arith in inr (subst (λ z. z ∈ (k ∷ more)) (sym e) (least_member k more)))
+    (cases_lt n (least_of (k ∷ more)))
+
+pub least_is : (l : List ℕ) (m : ℕ) → m ∈ l → ((x : ℕ) → x ∈ l → m ≤ x) → m ≡ least_of l
+least_is [] m h all = absurd h
+least_is (n ∷ more) m h all = omega (arith, all (least_of (n ∷ more)) (least_member n more), least_below (n ∷ more) m h)

@@ -1,13 +1,11 @@
 pub mod Conjunctions
 pub mod TallyLemmas
-pub mod GraphLemmas
 pub mod RingLemmas
-pub mod TurningLemmas
+pub mod OrderLemmas
 pub mod ItemLemmas
-pub mod SampleLemmas
+pub mod LaidLemmas
+pub mod PieceLemmas
+pub mod TurningLemmas
 pub mod SiftingLemmas
-pub mod CircleLemmas
-pub mod EdgeLemmas
-pub mod PartCircles
 pub mod SieveLemmas
 pub mod CompileLemmas

@@ -1,11 +1,12 @@
--- Walks in a graph, from each node to one directly before it.
-use Rattle.std.proofs.Common.{◌≡◌, ◌≢◌, ℕ, zero, suc, ◌+◌, ◌-◌, ◌<◌, ◌≤◌, Bool, IsTrue, List, [], ◌∷◌, ◌++◌, length, get_or, take, drop, refl, sym, ap, ◌∙◌, subst, inl, inr, ⊎_elim, arith, length-append}
+-- Walks from each item to one that is before it.
+use Rattle.std.proofs.Common.{◌≡◌, ◌≢◌, ℕ, zero, suc, ◌+◌, ◌<◌, ◌≤◌, List, [], ◌∷◌, ◌++◌, length, get_or, take, drop, refl, sym, ap, ◌∙◌, subst, inl, inr, ⊎_elim, arith, length-append}
 use Rattle.std.proofs.lemmas.List.{take_more, take-append-drop}
-use Rattle.leaf_rows.specs.declared.leaf_set.LeafSet.{LeafSet}
 use Rattle.flow_model.specs.Lists.{◌∈◌, AreDistinct}
 use Rattle.flow_laws.proofs.ListLemmas1.{Decided, mem_without, mem_append, split_at, decide_in, not_elsewhere, distinct_left, distinct_right, distinct_apart, distinct_append}
 use Rattle.flow_laws.proofs.ListLemmas2.{cons_same}
-use Rattle.flow_excise.specs.Graphs.{IsEdge, LeadsOn, IsCycle, IsNodeRing}
+use Rattle.flow_excise.specs.declared.item.Item.{Item}
+use Rattle.flow_excise.specs.Rows.{IsEdge}
+use Rattle.flow_excise.specs.Arranged.{LeadsOn, IsCycle, IsNodeRing}
 
 -- distinct numbers below n are at most n
 
@@ -39,82 +40,58 @@ not_there [] x h m = m
 not_there (y ∷ xs) x h (inl e) = h 0 (omega arith) (sym e)
 not_there (y ∷ xs) x h (inr m) = not_there xs x (λ k l e. h (suc k) (omega arith) e) m
 
--- each node is directly before the next
-abbrev pub IsTrail : List (LeafSet 16) → List ℕ → Type 0
-IsTrail rows [] = Unit {0}
-IsTrail rows (x ∷ []) = Unit {0}
-IsTrail rows (x ∷ y ∷ more) = IsEdge rows x y × IsTrail rows (y ∷ more)
+module _ (items : List Item) where
+  -- each item is before the next
+  abbrev pub IsTrail : List ℕ → Type 0
+  IsTrail [] = Unit {0}
+  IsTrail (x ∷ []) = Unit {0}
+  IsTrail (x ∷ y ∷ more) = IsEdge items x y × IsTrail (y ∷ more)
 
--- distinct nodes of the set, each directly before the next
-pub record IsWalk (rows : List (LeafSet 16)) (set : ℕ → Bool) (path : List ℕ) : Type 0 where
-  pub distinct : AreDistinct path
-  pub trail : IsTrail rows path
-  pub members : (k : ℕ) → k ∈ path → IsTrue (set k)
+  pub trail_end : (x : ℕ) (more : List ℕ) → IsTrail (x ∷ more) → IsTrail more
+  trail_end x [] h = tt
+  trail_end x (y ∷ more) h = h.1
 
-pub walk_begun : (rows : List (LeafSet 16)) (set : ℕ → Bool) (start : ℕ) → IsTrue (set start) → IsWalk rows set (start ∷ [])
-walk_begun rows set start h = record {
-  distinct = (λ m. m, tt);
-  trail = tt;
-  members = λ k m. ⊎_elim (λ e. subst (λ z. IsTrue (set z)) (sym e) h) absurd m;
-}
+  chain_back : (first node : ℕ) (middle : List ℕ) (last : ℕ) (back : List ℕ) →
+      IsTrail (node ∷ ((middle ++ last ∷ []) ++ back)) → IsEdge items last first → LeadsOn items first node (middle ++ last ∷ [])
+  chain_back first node [] last back h k = (h.0, k)
+  chain_back first node (next ∷ middle) last back h k = (h.0, chain_back first next middle last back h.1 k)
 
-pub walk_on : (rows : List (LeafSet 16)) (set : ℕ → Bool) (other node : ℕ) (more : List ℕ) → IsWalk rows set (node ∷ more) →
-    IsTrue (set other) → IsEdge rows other node → ¬ (other ∈ (node ∷ more)) → IsWalk rows set (other ∷ node ∷ more)
-walk_on rows set other node more w h b fresh = record {
-  distinct = (fresh, w.distinct);
-  trail = (b, w.trail);
-  members = λ k m. ⊎_elim (λ e. subst (λ z. IsTrue (set z)) (sym e) h) (w.members k) m;
-}
+  -- a walk that comes back to an item has gone round a ring
+  come_back : (front back : List ℕ) (other node : ℕ) (more : List ℕ) →
+      node ∷ more ≡ (front ++ other ∷ []) ++ back → AreDistinct (node ∷ more) → IsTrail (node ∷ more) → IsEdge items other node → IsNodeRing items (front ++ other ∷ [])
+  come_back front back other node more e d t b = record {
+    distinct = distinct_left (front ++ other ∷ []) back (subst AreDistinct e d);
+    cycle = round front (cons_same node (head_of front) more (rest_of front) (e ∙ whole front)).0 (subst IsTrail e t);
+  }
+    where
+      head_of : List ℕ → ℕ
+      head_of [] = other
+      head_of (f ∷ middle) = f
 
-chain_back : (rows : List (LeafSet 16)) (first node : ℕ) (middle : List ℕ) (last : ℕ) (back : List ℕ) →
-    IsTrail rows (node ∷ ((middle ++ last ∷ []) ++ back)) → IsEdge rows last first → LeadsOn rows first node (middle ++ last ∷ [])
-chain_back rows first node [] last back h k = (h.0, k)
-chain_back rows first node (next ∷ middle) last back h k = (h.0, chain_back rows first next middle last back h.1 k)
+      rest_of : List ℕ → List ℕ
+      rest_of [] = back
+      rest_of (f ∷ middle) = (middle ++ other ∷ []) ++ back
 
--- a walk that comes back to a node has gone round a ring
-pub come_back : (rows : List (LeafSet 16)) (set : ℕ → Bool) (front back : List ℕ) (other node : ℕ) (more : List ℕ) →
-    node ∷ more ≡ (front ++ other ∷ []) ++ back → IsWalk rows set (node ∷ more) → IsEdge rows other node → IsNodeRing rows (front ++ other ∷ [])
-come_back rows set front back other node more e w b = record {
-  distinct = distinct_left (front ++ other ∷ []) back (subst AreDistinct e w.distinct);
-  cycle = round front (cons_same node (head_of front) more (rest_of front) (e ∙ whole front)).0 (subst (IsTrail rows) e w.trail);
-}
-  where
-    head_of : List ℕ → ℕ
-    head_of [] = other
-    head_of (f ∷ middle) = f
+      whole : (front : List ℕ) → (front ++ other ∷ []) ++ back ≡ head_of front ∷ rest_of front
+      whole [] = refl
+      whole (f ∷ middle) = refl
 
-    rest_of : List ℕ → List ℕ
-    rest_of [] = back
-    rest_of (f ∷ middle) = (middle ++ other ∷ []) ++ back
+      round : (front : List ℕ) → node ≡ head_of front → IsTrail ((front ++ other ∷ []) ++ back) → IsCycle items (front ++ other ∷ [])
+      round [] same t = subst (IsEdge items other) same b
+      round (f ∷ middle) same t = chain_back f f middle other back t (subst (IsEdge items other) same b)
 
-    whole : (front : List ℕ) → (front ++ other ∷ []) ++ back ≡ head_of front ∷ rest_of front
-    whole [] = refl
-    whole (f ∷ middle) = refl
+  -- the path up to a place
+  up_to : (xs : List ℕ) (i x : ℕ) → i < length xs → get_or xs i 0 ≡ x → take (i + 1) xs ≡ take i xs ++ x ∷ []
+  up_to xs i x l e = take_more xs i 0 l ∙ ap (λ y. take i xs ++ y ∷ []) e
 
-    round : (front : List ℕ) → node ≡ head_of front → IsTrail rows ((front ++ other ∷ []) ++ back) → IsCycle rows (front ++ other ∷ [])
-    round [] same t = subst (IsEdge rows other) same b
-    round (f ∷ middle) same t = chain_back rows f f middle other back t (subst (IsEdge rows other) same b)
-
--- the path up to a place
-pub up_to : (xs : List ℕ) (i x : ℕ) → i < length xs → get_or xs i 0 ≡ x → take (i + 1) xs ≡ take i xs ++ x ∷ []
-up_to xs i x l e = take_more xs i 0 l ∙ ap (λ y. take i xs ++ y ∷ []) e
-
--- a walk that has come back, by the place where
-pub ring_at : (rows : List (LeafSet 16)) (set : ℕ → Bool) (path seen final : List ℕ) (node : ℕ) (more : List ℕ) (place other : ℕ) →
-    path ≡ node ∷ more → IsWalk rows set (node ∷ more) → seen ≡ path → place < length seen → get_or seen place 0 ≡ other →
-    IsEdge rows other node → final ≡ take (place + 1) path → IsNodeRing rows final
-ring_at rows set path seen final node more place other e w s l is b t =
-    let l' = subst (λ (z : List ℕ). place < length z) s l in
-    let is' = subst (λ (z : List ℕ). get_or z place 0 ≡ other) s is in
-    let laid : take (place + 1) path ≡ take place path ++ other ∷ [] = up_to path place other l' is' in
-    let all : node ∷ more ≡ (take place path ++ other ∷ []) ++ drop (place + 1) path =
-    sym e ∙ sym (take-append-drop (place + 1) path) ∙ ap (λ z. z ++ drop (place + 1) path) laid in
-    subst (IsNodeRing rows) (sym (t ∙ laid)) (come_back rows set (take place path) (drop (place + 1) path) other node more all w b)
-
--- a longer walk leaves fewer nodes to come
-pub shorter : (rows : List (LeafSet 16)) (set : ℕ → Bool) (path new : List ℕ) (node other : ℕ) (more : List ℕ) →
-    path ≡ node ∷ more → new ≡ other ∷ path → IsWalk rows set (other ∷ node ∷ more) → ((k : ℕ) → IsTrue (set k) → k < length rows) →
-    length rows - length new < length rows - length path
-shorter rows set path new node other more e f w within =
-    let most = at_most (length rows) (other ∷ node ∷ more) w.distinct (λ x m. within x (w.members x m)) in
-    omega (arith, ap length e, ap length f)
+  -- a walk that has come back, by the place where
+  pub ring_at : (path seen final : List ℕ) (node : ℕ) (more : List ℕ) (place other : ℕ) →
+      path ≡ node ∷ more → AreDistinct path → IsTrail path → seen ≡ path → place < length seen → get_or seen place 0 ≡ other →
+      IsEdge items other node → final ≡ take (place + 1) path → IsNodeRing items final
+  ring_at path seen final node more place other e d w s l is b t =
+      let l' = subst (λ (z : List ℕ). place < length z) s l in
+      let is' = subst (λ (z : List ℕ). get_or z place 0 ≡ other) s is in
+      let laid : take (place + 1) path ≡ take place path ++ other ∷ [] = up_to path place other l' is' in
+      let all : node ∷ more ≡ (take place path ++ other ∷ []) ++ drop (place + 1) path =
+      sym e ∙ sym (take-append-drop (place + 1) path) ∙ ap (λ z. z ++ drop (place + 1) path) laid in
+      subst (IsNodeRing items) (sym (t ∙ laid)) (come_back (take place path) (drop (place + 1) path) other node more all (subst AreDistinct e d) (subst IsTrail e w) b)

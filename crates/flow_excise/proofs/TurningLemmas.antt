@@ -5,7 +5,8 @@ use Rattle.flow_model.specs.Lists.{◌∈◌, Each, AreDistinct}
 use Rattle.flow_model.specs.Process.{Process}
 use Rattle.flow_model.specs.Circle.{items_of, ItemBefore, LeadsBackTo, IsRing, least_of, BeginsWithLeast}
 use Rattle.flow_laws.proofs.ListLemmas1.{mem_left, mem_right, mem_append, distinct_left, distinct_right, distinct_apart, distinct_append, each_of, each_at}
-use Rattle.flow_excise.specs.Items.{IsPartCircle, IsTurned}
+use Rattle.flow_excise.specs.Items.{IsPartCircle}
+use Rattle.flow_excise.specs.Turned.{IsTurned}
 
 -- members by places
 

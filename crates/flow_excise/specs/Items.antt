@@ -1,15 +1,13 @@
--- The items of a part, its circles, and their graph.
-use Rattle.std.specs.Prelude.{◌≡◌, ◌≢◌, ◌<◌, ◌≤◌, ℕ, List, [], ◌++◌, ◌↔◌, Vec, length, map, take, drop, slice_index_or}
-use Rattle.std.specs.Global.{Global}
-use Rattle.leaf_rows.specs.declared.leaf_set.LeafSet.{LeafSet}
-use Rattle.flow_model.specs.Lists.{◌∈◌, Each, AreDistinct}
-use Rattle.flow_model.specs.Process.{Process}
-use Rattle.flow_model.specs.Circle.{items_of, ItemBefore, IsRing, least_of, BeginsWithLeast}
-use Rattle.flow_excise.specs.Graphs.{IsEdge}
-
--- what the vectors hold
-abbrev pub lists : List (Vec ℕ Global) → List (List ℕ)
-lists vectors = map (λ (v : Vec ℕ Global). v.items) vectors
+-- The items of a part by their rows, and its circles.
+use Rattle.std.specs.Prelude.{◌≡◌, ◌≢◌, ◌<◌, ◌≤◌, ℕ, IsTrue, List, [], ◌∷◌, ◌++◌, ◌↔◌, length, map, slice_index_or}
+use Rattle.leaf_rows.specs.Leaves.{has_leaf}
+use Rattle.flow_model.specs.Lists.{◌∈◌, Each, AreDistinct, StandsBefore}
+use Rattle.flow_model.specs.Process.{Process, leaves}
+use Rattle.flow_model.specs.Ready.{DirectlyBefore, isolated_parts}
+use Rattle.flow_model.specs.Circle.{items_of, ItemBefore, IsRing, least_of, BeginsWithLeast, IsCircle}
+use Rattle.flow_excise.specs.declared.item.Item.{Item}
+use Rattle.flow_excise.specs.declared.excising.ExciseRefusal.{ExciseRefusal}
+use Rattle.flow_excise.specs.declared.excising.ExciseRefusal.TheVariants.{Circle, NoMemory}
 
 -- the item of that number
 abbrev pub item_at : List (List ℕ) → ℕ → List ℕ
@@ -22,9 +20,39 @@ pub record IsItemEdge (q : Process) (pairs : List (ℕ × ℕ)) (items : List (L
   pub differ : from ≢ to
   pub before : ItemBefore q pairs (item_at items from) (item_at items to)
 
--- the rows say which items are before which others
-abbrev pub IsItemGraph : Process → List (ℕ × ℕ) → List (List ℕ) → List (LeafSet 16) → Type 0
-IsItemGraph q pairs items rows = (from to : ℕ) → IsEdge rows from to ↔ IsItemEdge q pairs items from to
+-- the leaves of the list, each behind those directly before it, and with nothing between two leaves of an isolated part
+pub record IsLaid (q : Process) (pairs : List (ℕ × ℕ)) (list run : List ℕ) : Type 0 where
+  pub leaf : (x : ℕ) → x ∈ run → x ∈ list
+  pub all : (x : ℕ) → x ∈ list → x ∈ run
+  pub distinct : AreDistinct run
+  pub before : (x y : ℕ) → x ∈ list → y ∈ list → DirectlyBefore q pairs x y → StandsBefore x y run
+  pub together : (part : Process) → part ∈ isolated_parts q → (x y z : ℕ) → x ∈ leaves part → ¬ (y ∈ leaves part) → z ∈ leaves part →
+      StandsBefore x y run → StandsBefore y z run → ⊥
+
+-- the item with those leaves
+pub record IsItemOf (q : Process) (pairs : List (ℕ × ℕ)) (list : List ℕ) (item : Item) : Type 0 where
+  pub inside : (x : ℕ) → IsTrue (has_leaf item.inside x) ↔ (x ∈ list)
+  pub waits : (x : ℕ) → IsTrue (has_leaf item.waits x) ↔ (((y : ℕ) × (y ∈ list) × DirectlyBefore q pairs x y) × ¬ (x ∈ list))
+  pub least : item.least ≡ least_of list
+  pub run : IsLaid q pairs list item.run.items
+
+-- one item a list
+abbrev pub AreItemsOf : Process → List (ℕ × ℕ) → List (List ℕ) → List Item → Type 0
+AreItemsOf q pairs [] [] = Unit {0}
+AreItemsOf q pairs [] (item ∷ items) = ⊥
+AreItemsOf q pairs (list ∷ lists) [] = ⊥
+AreItemsOf q pairs (list ∷ lists) (item ∷ items) = IsItemOf q pairs list item × AreItemsOf q pairs lists items
+
+-- the items of the goal are added
+pub record AddsItems (q : Process) (pairs : List (ℕ × ℕ)) (g : Process) (old new : List Item) : Type 0 where
+  pub added : List Item
+  pub is : new ≡ old ++ added
+  pub items : AreItemsOf q pairs (items_of g) added
+
+-- the goal stands somewhere in the whole
+pub record IsPieceOf (q g : Process) : Type 0 where
+  pub leaf : (x : ℕ) → x ∈ leaves g → x ∈ leaves q
+  pub part : (part : Process) → part ∈ isolated_parts g → part ∈ isolated_parts q
 
 -- a circle of the items of that part
 pub record IsPartCircle (q : Process) (pairs : List (ℕ × ℕ)) (part : Process) (circle : List ℕ) : Type 0 where
@@ -36,17 +64,7 @@ pub record IsPartCircle (q : Process) (pairs : List (ℕ × ℕ)) (part : Proces
   pub written : circle ≡ map least_of ring
   pub from_least : BeginsWithLeast circle
 
--- the part has none
-abbrev pub HasNoCircle : Process → List (ℕ × ℕ) → Process → Type 0
-HasNoCircle q pairs part = (circle : List ℕ) → ¬ (IsPartCircle q pairs part circle)
-
--- the second list is the first begun at its least member
-pub record IsTurned (old new : List ℕ) : Type 0 where
-  pub place : ℕ
-  pub within : place < length old
-  pub turned : new ≡ drop place old ++ take place old
-  pub from_least : BeginsWithLeast new
-
--- a circle of the items of one of these parts
-abbrev pub IsCircleAmong : Process → List (ℕ × ℕ) → List Process → List ℕ → Type 0
-IsCircleAmong q pairs parts circle = (part : Process) × (part ∈ parts) × IsPartCircle q pairs part circle
+-- a circle of the option; or nothing is said
+abbrev pub TellsCircle : Process → List (ℕ × ℕ) → ExciseRefusal → Type 0
+TellsCircle q pairs (Circle circle) = IsCircle q pairs circle.leaves.items
+TellsCircle q pairs NoMemory = Unit {0}

@@ -1,7 +1,9 @@
 pub mod Options
 pub mod Tallies
 pub mod Limits
-pub mod Graphs
+pub mod Rows
+pub mod Turned
+pub mod Arranged
 pub mod Items
 pub mod Executions
 pub mod Plans

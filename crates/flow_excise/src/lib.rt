@@ -3,23 +3,18 @@
 #![tactic(auto)]
 
 mod circle;
-mod circles;
 mod compiled;
 mod compiling;
 mod conjunction;
 mod counts;
-mod edges;
 mod excising;
-mod graph;
+mod item;
 mod items;
 mod limits;
+mod order;
 mod refusal;
-mod ring;
-mod sample;
 mod sieve;
 mod tally;
-#[cfg(test)]
-mod tests;
 mod written;
 
 pub use circle::Circle;

@@ -7,7 +7,7 @@ ghost use Rattle.flow_excise.specs.Executions.{numbered_options, numbered_ways};
 ghost use Rattle.flow_excise.specs.Options.{all_options_by, options_by};
 ghost use Rattle.flow_excise.specs.Sieves.{ArePlannable, HasSifted, Sifts, options_with, option_with, IsPlannable};
 
-use crate::excising::{ExciseRefusal, excise};
+use crate::excising::{ExciseRefusal, excise_by};
 use crate::refusal::{CompileRefusal, Dropped};
 use flow_goal::{Choiceless, Tree, resolutions, resolve};
 use flow_plan::KnotFree;
@@ -39,7 +39,7 @@ fn sift(
 {
     let _leaves = resolution.leaves();
     let plan = weave(alloc, resolution, order)?;
-    match excise(alloc, plan) {
+    match excise_by(alloc, plan, resolution.goal()) {
         Ok(plan) => {
             sieve.kept.push(plan)?;
             Ok(())

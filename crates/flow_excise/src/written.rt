@@ -1,30 +1,20 @@
 ghost use Rattle.std.specs.Prelude.{◌≡◌, ◌<◌, ◌≤◌, ℕ, IfOk, length, map, slice_index};
-ghost use Rattle.flow_model.specs.Circle as model;
 ghost use Rattle.flow_model.specs.Lists.{Each};
-ghost use Rattle.flow_excise.specs.Items.{IsTurned, item_at, lists};
+ghost use Rattle.flow_excise.specs.Rows.{least_at};
+ghost use Rattle.flow_excise.specs.Turned.{IsTurned};
 
 use crate::circle::Circle;
+use crate::item::Item;
 use std::alloc::{AllocError, Global};
 
-/// The least leaf of an item.
-fn least_of(item: &[u32]) -> u32
-    ensures { result ≡ model.least_of item.now }
-{
-    match item {
-        [] => 0,
-        [only] => *only,
-        [first, rest @ ..] => least_of(rest).min(*first),
-    }
-}
-
 /// The least leaves of those items.
-fn leasts(alloc: Global, items: &[Vec<u32>], numbers: &[u32]) -> Result<Vec<u32>, AllocError>
+fn leasts(alloc: Global, items: &[Item], numbers: &[usize]) -> Result<Vec<u32>, AllocError>
     requires { Each (λ number. number < length items.now) numbers.now }
-    ensures { IfOk result (λ leaves. leaves.items ≡ map (λ number. model.least_of (item_at (lists items.now) number)) numbers.now) }
+    ensures { IfOk result (λ leaves. leaves.items ≡ map (least_at items.now) numbers.now) }
 {
     let mut leaves = Vec::with_capacity(alloc, numbers.len())?;
     for number in numbers {
-        leaves.push(least_of(&items[*number as usize]))?;
+        leaves.push(items[*number].least)?;
     }
     Ok(leaves)
 }
@@ -45,14 +35,10 @@ fn place_of_least(list: &[u32]) -> usize
 }
 
 /// The items of a ring as a circle.
-pub(crate) fn circle_of(
-    alloc: Global,
-    items: &[Vec<u32>],
-    ring: &[u32],
-) -> Result<Circle, AllocError>
+pub(crate) fn circle_of(alloc: Global, items: &[Item], ring: &[usize]) -> Result<Circle, AllocError>
     requires within { Each (λ number. number < length items.now) ring.now }
     requires some { 0 < length ring.now }
-    ensures { IfOk result (λ circle. IsTurned (map (λ number. model.least_of (item_at (lists items.now) number)) ring.now) circle.leaves.items) }
+    ensures { IfOk result (λ circle. IsTurned (map (least_at items.now) ring.now) circle.leaves.items) }
 {
     let mut leaves = leasts(alloc, items, ring)?;
     let place = place_of_least(&leaves);

@@ -149,6 +149,16 @@ impl Plan {
         }
     }
 
+    /// The leaves directly before that leaf, in the goal or by a token.
+    pub fn all_before(&self, leaf: u32) -> LeafSet<16>
+        ensures { (x : ℕ) → IsTrue (has_leaf result x) ↔ DirectlyBefore self.now.process (pairs_of self.now.tokens) x leaf }
+    {
+        match place_of(self.goal.leaves(), leaf) {
+            Some(place) => self.before[place],
+            None => LeafSet::new(),
+        }
+    }
+
     /// Whether the leaf may come next after the done ones.
     pub fn ready(&self, done: &Progress, leaf: u32) -> bool
         requires { Fits self.now done.now }

@@ -126,6 +126,32 @@ has_bit-union w words other both n joined = ⊎_elim
     (λ past. rw (le-ltb n (64 * w) past) refl)
     (cases_lt n (64 * w))
 
+without_digit : (mine yours : ℕ) → mine < 2 → yours < 2 → (min mine (1 - yours) == 1) ≡ (not (yours == 1) && mine == 1)
+without_digit mine yours small_mine small_yours = grind (arith, nat_tests)
+
+-- each of two tests within a range, the second turned
+within_not : (t a b : Bool) → (t && (not b && a)) ≡ (not (t && b) && (t && a))
+within_not true a b = refl
+within_not false a b = refl
+
+-- after `remove_all`
+pub has_bit-without : (w : ℕ) (words other left : List ℕ) (n : ℕ)
+    → (n < 64 * w → get_or left (n / 64) 0 ≡ bit_and (get_or words (n / 64) 0) (bit_not w64 (get_or other (n / 64) 0)))
+    → (n < 64 * w → get_or other (n / 64) 0 < 2 ^ 64)
+    → has_bit w left n ≡ (not (has_bit w other n) && has_bit w words n)
+unfolding has_bit
+has_bit-without w words other left n cleared fits = ⊎_elim
+    (λ within.
+    let there : n % 64 < 64 = omega arith in
+    ap (λ b. nat_lt n (64 * w) && (b == 1))
+    (ap (λ word. bit_at word (n % 64)) (cleared within)
+    ∙ bit_at_and (get_or words (n / 64) 0) (bit_not w64 (get_or other (n / 64) 0)) (n % 64)
+    ∙ ap (min (bit_of words n)) (bit_at_not w64 (get_or other (n / 64) 0) (n % 64) (fits within) there))
+    ∙ ap (λ b. nat_lt n (64 * w) && b) (without_digit (bit_of words n) (bit_of other n) (bit_at-lt _ _) (bit_at-lt _ _))
+    ∙ within_not (nat_lt n (64 * w)) (bit_of words n == 1) (bit_of other n == 1))
+    (λ past. rw (le-ltb n (64 * w) past) refl)
+    (cases_lt n (64 * w))
+
 -- what `has` computes
 pub has_bit-shift : (w : ℕ) (words : List ℕ) (n : ℕ) → n < 64 * w
     → (bit_and (get_or words (n / 64) 0 / 2 ^ (n % 64)) 1 == 1) ≡ has_bit w words n
@@ -183,11 +209,12 @@ has_bit-none w words zero_words k = ⊎_elim
     (λ past. has_bit-past w words k past)
     (cases_lt k (64 * w))
 
--- a common bit of two words is one that both rows have
-pub common_bit : (w : ℕ) (words other : List ℕ) (i : ℕ) → i < w → get_or words i 0 < 2 ^ 64
+-- the least common bit of two words is one that both rows have
+pub least_common : (w : ℕ) (words other : List ℕ) (i : ℕ) → i < w → get_or words i 0 < 2 ^ 64
     → bit_and (get_or words i 0) (get_or other i 0) ≢ 0
-    → (k : ℕ) × (has_bit w words k ≡ true) × (has_bit w other k ≡ true)
-common_bit w words other i within fits not_zero =
+    → (has_bit w words (64 * i + trailing_zeros w64 (bit_and (get_or words i 0) (get_or other i 0))) ≡ true)
+    × (has_bit w other (64 * i + trailing_zeros w64 (bit_and (get_or words i 0) (get_or other i 0))) ≡ true)
+least_common w words other i within fits not_zero =
     let both : ℕ = bit_and (get_or words i 0) (get_or other i 0) in
     let least = bit_at-trailing_zeros w64 both (omega arith) (omega (arith, and_le_l (get_or words i 0) (get_or other i 0), fits)) in
     let at : ℕ = trailing_zeros w64 both in
@@ -195,10 +222,17 @@ common_bit w words other i within fits not_zero =
     = sym (bit_at_and (get_or words i 0) (get_or other i 0) at) ∙ least.1 in
     let small : bit_at (get_or words i 0) at < 2 = bit_at-lt _ _ in
     let small' : bit_at (get_or other i 0) at < 2 = bit_at-lt _ _ in (
-      64 * i + at,
       has_bit-one w words _ (omega (arith, least.0)) (bit_of-place words i at least.0 ∙ omega arith),
       has_bit-one w other _ (omega (arith, least.0)) (bit_of-place other i at least.0 ∙ omega arith),
     )
+
+-- a common bit of two words is one that both rows have
+pub common_bit : (w : ℕ) (words other : List ℕ) (i : ℕ) → i < w → get_or words i 0 < 2 ^ 64
+    → bit_and (get_or words i 0) (get_or other i 0) ≢ 0
+    → (k : ℕ) × (has_bit w words k ≡ true) × (has_bit w other k ≡ true)
+common_bit w words other i within fits not_zero =
+    let least = least_common w words other i within fits not_zero in
+    (64 * i + trailing_zeros w64 (bit_and (get_or words i 0) (get_or other i 0)), least.0, least.1)
 
 -- where no words have a common bit, no bit is common
 pub no_common_bit : (w : ℕ) (words other : List ℕ)

@@ -56,6 +56,14 @@ impl<const W: usize> LeafSet<W> {
         });
     }
 
+    pub fn remove_all(&mut self, other: &Self)
+        ensures { (k : ℕ) → has_leaf self.new k ≡ (not (has_leaf other.now k) && has_leaf self.old k) }
+    {
+        for i in 0..W {
+            self.words[i] &= !other.words[i];
+        }
+    }
+
     pub fn is_subset(&self, other: &Self) -> bool
         ensures { IsTrue result ↔ ((k : ℕ) → IsTrue (has_leaf self.now k) → IsTrue (has_leaf other.now k)) }
     {
@@ -77,6 +85,21 @@ impl<const W: usize> LeafSet<W> {
             }
         });
         false
+    }
+
+    /// The least common member of the two.
+    pub fn first_common(&self, other: &Self) -> Option<u32>
+        ensures none { IfNone result ((k : ℕ) → IsTrue (has_leaf self.now k) → ¬ IsTrue (has_leaf other.now k)) }
+        ensures member { IfSome result (λ n. IsTrue (has_leaf self.now n) × IsTrue (has_leaf other.now n)) }
+        ensures within { IfSome result (λ n. n < 64 * W) }
+    {
+        for i in 0..W {
+            let common = self.words[i] & other.words[i];
+            if common != 0 {
+                return Some(64 * i as u32 + common.trailing_zeros());
+            }
+        }
+        None
     }
 
     /// The least member.

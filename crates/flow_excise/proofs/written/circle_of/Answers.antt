@@ -1,11 +1,10 @@
 use Rattle.std.proofs.Common.{ap, ◌∙◌, map, Vec, Global, ℕ}
-use Rattle.flow_model.specs.Circle as model
-use Rattle.flow_excise.specs.Items.{item_at, lists}
+use Rattle.flow_excise.specs.Rows.{least_at}
 use Rattle.flow_excise.proofs.TurningLemmas.{turned_list}
 use Rattle.flow_excise.proofs.written.circle_of.Goals as goal
 
 pub returns : goal.returns
 returns c =
-    turned_list (map (λ number. model.least_of (item_at (lists c.args.items.now) number)) c.args.ring.now) c.in_ok-leaves.leaves.items c.deref.result.now
+    turned_list (map (least_at c.args.items.now) c.args.ring.now) c.in_ok-leaves.leaves.items c.deref.result.now
     c.new.result.leaves.items c.place_of_least-place.result c.in_ok-leaves.ensures c.deref.ensures.value
     (ap (λ (v : Vec ℕ Global). v.items) c.new.ensures ∙ c.rotate_left.ensures.items) c.place_of_least-place.ensures.within c.place_of_least-place.ensures.least

@@ -1,0 +1,190 @@
+-- Pieces of a goal, and their items one side after the other.
+use Rattle.std.proofs.Common.{◌≡◌, ℕ, ◌<◌, IsTrue, List, [], ◌∷◌, ◌++◌, ◌↔◌, ◌⊎◌, length, refl, sym, ap, ◌∙◌, subst, inl, inr, ⊎_elim, Result, Ok, Err, MatchResult, Box, Global, arith, append_assoc, append-nil, true, false, ◌==◌, true≢false}
+use Rattle.std.proofs.lemmas.Bool.{eq-eqb, eqb-true}
+use Rattle.leaf_rows.specs.Leaves.{has_leaf}
+use Rattle.flow_model.specs.Lists.{◌∈◌, joined}
+use Rattle.flow_model.specs.Process.{Process, Isolated, leaves}
+use Rattle.flow_model.specs.Ready.{DirectlyBefore, isolated_parts}
+use Rattle.flow_model.specs.Circle.{items_of, item_of}
+use Rattle.flow_laws.specs.Words.{IsOrdered}
+use Rattle.flow_laws.proofs.ListLemmas1.{mem_left, mem_right}
+use Rattle.flow_laws.proofs.ReadyRuns.{direct_other}
+use Rattle.flow_laws.proofs.CircleParts.{goal_size, joined_items}
+use Rattle.flow_goal.specs.declared.goal.Goal as goal
+use Rattle.flow_goal.specs.declared.goal.Goal.{Goal}
+use Rattle.flow_goal.specs.Goal.{process_of}
+use Rattle.flow_excise.specs.declared.item.Item.{Item}
+use Rattle.flow_excise.specs.declared.excising.ExciseRefusal.{ExciseRefusal}
+use Rattle.flow_excise.specs.Rows.{AreApart, HasSome}
+use Rattle.flow_excise.specs.Arranged.{AddsOneOf, TellsRing}
+use Rattle.flow_excise.specs.Items.{IsLaid, IsItemOf, AreItemsOf, AddsItems, IsPieceOf, TellsCircle}
+use Rattle.flow_excise.proofs.ItemLemmas.{same_length, are_apart, tells_circle}
+use Rattle.flow_excise.proofs.LaidLemmas.{part_item}
+
+-- the goal is made of two sides
+pub record IsJoin (whole a b : Process) : Type 0 where
+  pub leaves_are : leaves whole ≡ leaves a ++ leaves b
+  pub parts_are : isolated_parts whole ≡ isolated_parts a ++ isolated_parts b
+  pub items_are : items_of whole ≡ items_of a ++ items_of b
+  pub left_smaller : goal_size a < goal_size whole
+  pub right_smaller : goal_size b < goal_size whole
+
+-- a goal of any of the three kinds that have sides
+pub join_of : (g : Goal) (left right : Box Goal Global) → ((g ≡ goal.Serial left right) ⊎ ((g ≡ goal.Beside left right) ⊎ (g ≡ goal.Either left right))) →
+    IsJoin (process_of g) (process_of left.value) (process_of right.value)
+join_of g left right (inl e) = record {
+  leaves_are = ap (λ (x : Goal). leaves (process_of x)) e;
+  parts_are = ap (λ (x : Goal). isolated_parts (process_of x)) e;
+  items_are = ap (λ (x : Goal). items_of (process_of x)) e;
+  left_smaller = let s = ap (λ (x : Goal). goal_size (process_of x)) e in omega arith;
+  right_smaller = let s = ap (λ (x : Goal). goal_size (process_of x)) e in omega arith;
+}
+join_of g left right (inr (inl e)) = record {
+  leaves_are = ap (λ (x : Goal). leaves (process_of x)) e;
+  parts_are = ap (λ (x : Goal). isolated_parts (process_of x)) e;
+  items_are = ap (λ (x : Goal). items_of (process_of x)) e;
+  left_smaller = let s = ap (λ (x : Goal). goal_size (process_of x)) e in omega arith;
+  right_smaller = let s = ap (λ (x : Goal). goal_size (process_of x)) e in omega arith;
+}
+join_of g left right (inr (inr e)) = record {
+  leaves_are = ap (λ (x : Goal). leaves (process_of x)) e;
+  parts_are = ap (λ (x : Goal). isolated_parts (process_of x)) e;
+  items_are = ap (λ (x : Goal). items_of (process_of x)) e;
+  left_smaller = let s = ap (λ (x : Goal). goal_size (process_of x)) e in omega arith;
+  right_smaller = let s = ap (λ (x : Goal). goal_size (process_of x)) e in omega arith;
+}
+
+pub whole_piece : (q : Process) → IsPieceOf q q
+whole_piece q = record { leaf = λ x m. m; part = λ p m. m }
+
+pub piece_left : (q whole a b : Process) → IsJoin whole a b → IsPieceOf q whole → IsPieceOf q a
+piece_left q whole a b j p = record {
+  leaf = λ x m. p.leaf x (subst (λ z. x ∈ z) (sym j.leaves_are) (mem_left x (leaves a) (leaves b) m));
+  part = λ x m. p.part x (subst (λ z. x ∈ z) (sym j.parts_are) (mem_left x (isolated_parts a) (isolated_parts b) m));
+}
+
+pub piece_right : (q whole a b : Process) → IsJoin whole a b → IsPieceOf q whole → IsPieceOf q b
+piece_right q whole a b j p = record {
+  leaf = λ x m. p.leaf x (subst (λ z. x ∈ z) (sym j.leaves_are) (mem_right x (leaves a) (leaves b) m));
+  part = λ x m. p.part x (subst (λ z. x ∈ z) (sym j.parts_are) (mem_right x (isolated_parts a) (isolated_parts b) m));
+}
+
+pub piece_inside : (q whole body : Process) → whole ≡ Isolated body → IsPieceOf q whole → IsPieceOf q body
+piece_inside q whole body e p =
+    let h = subst (IsPieceOf q) e p in
+    record { leaf = h.leaf; part = λ x m. h.part x (inr m) }
+
+item_of_some : (l : List ℕ) (x : ℕ) → x ∈ l → item_of l ≡ l ∷ []
+item_of_some [] x m = absurd m
+item_of_some (n ∷ l) x m = refl
+
+module _ (q : Process) (pairs : List (ℕ × ℕ)) where
+  are_append : (ls ks : List (List ℕ)) (xs ys : List Item) → AreItemsOf q pairs ls xs → AreItemsOf q pairs ks ys → AreItemsOf q pairs (ls ++ ks) (xs ++ ys)
+  are_append [] ks [] ys a b = b
+  are_append [] ks (x ∷ xs) ys a b = absurd a
+  are_append (l ∷ ls) ks [] ys a b = absurd a
+  are_append (l ∷ ls) ks (x ∷ xs) ys a b = (a.0, are_append ls ks xs ys a.1 b)
+
+  pub adds_both : (whole a b : Process) (old mid new : List Item) → IsJoin whole a b → AddsItems q pairs a old mid → AddsItems q pairs b mid new →
+      AddsItems q pairs whole old new
+  adds_both whole a b old mid new j s t = record {
+    added = s.added ++ t.added;
+    is = t.is ∙ ap (λ z. z ++ t.added) s.is ∙ append_assoc old s.added t.added;
+    items = subst (λ z. AreItemsOf q pairs z (s.added ++ t.added)) (sym j.items_are) (are_append (items_of a) (items_of b) s.added t.added s.items t.items);
+  }
+
+  pub adds_rest : (whole a b : Process) (old mid new : List Item) (r : Result (Unit {0}) ExciseRefusal) → IsJoin whole a b → AddsItems q pairs a old mid →
+      MatchResult r (λ _. AddsItems q pairs b mid new) (TellsCircle q pairs) → MatchResult r (λ _. AddsItems q pairs whole old new) (TellsCircle q pairs)
+  adds_rest whole a b old mid new (Ok u) j s t = adds_both whole a b old mid new j s t
+  adds_rest whole a b old mid new (Err e) j s t = t
+
+  pub adds_none : (g : Process) (old : List Item) → items_of g ≡ [] → AddsItems q pairs g old old
+  adds_none g old e = record {
+    added = [];
+    is = sym (append-nil old);
+    items = subst (λ z. AreItemsOf q pairs z []) (sym e) tt;
+  }
+
+  pub adds_one : (g : Process) (list : List ℕ) (old new : List Item) (item : Item) → items_of g ≡ list ∷ [] → new ≡ old ++ item ∷ [] → IsItemOf q pairs list item →
+      AddsItems q pairs g old new
+  adds_one g list old new item e f i = record {
+    added = item ∷ [];
+    is = f;
+    items = subst (λ z. AreItemsOf q pairs z (item ∷ [])) (sym e) (i, tt);
+  }
+
+  pub leaf_item : IsOrdered q pairs → (leaf : ℕ) (item : Item) → ((x : ℕ) → IsTrue (has_leaf item.inside x) ↔ (x ≡ leaf)) →
+      ((x : ℕ) → IsTrue (has_leaf item.waits x) ↔ DirectlyBefore q pairs x leaf) → item.least ≡ leaf → item.run.items ≡ leaf ∷ [] → IsItemOf q pairs (leaf ∷ []) item
+  leaf_item o leaf item inside waits least run = record {
+    inside = λ x. (λ h. inl ((inside x).0 h), λ m. (inside x).1 (is x m));
+    waits = λ x. (
+      λ h. let b = (waits x).0 h in ((leaf, inl refl, b), λ m. direct_other q pairs o x leaf b (is x m)),
+      λ h. (waits x).1 (subst (λ z. DirectlyBefore q pairs x z) (is h.0.0 h.0.1) h.0.2),
+    );
+    least = least;
+    run = subst (IsLaid q pairs (leaf ∷ [])) (sym run) (record {
+      leaf = λ x m. m;
+      all = λ x m. m;
+      distinct = ((λ m. m), tt);
+      before = λ x y m k b. absurd (direct_other q pairs o x y b (is x m ∙ sym (is y k)));
+      together = λ part m x y z a b c h k. ⊎_elim (λ i. i.1) (λ i. i) h;
+    });
+  }
+    where
+      is : (x : ℕ) → x ∈ (leaf ∷ []) → x ≡ leaf
+      is x (inl e) = e
+      is x (inr m) = absurd m
+
+  -- an isolated part with no leaf
+  pub no_item : (whole body : Process) (old mid inner : List Item) → whole ≡ Isolated body → mid ≡ [] → AddsItems q pairs body mid inner →
+      (len : ℕ) → len ≡ length inner → (len == 0) ≡ true → AddsItems q pairs whole old old
+  no_item whole body old mid inner e m s len n t = adds_none whole old (ap items_of e ∙ ap item_of none)
+    where
+      same : inner ≡ s.added
+      same = s.is ∙ ap (λ z. z ++ s.added) m
+
+      nothing : (ls : List (List ℕ)) → length ls ≡ 0 → ls ≡ []
+      nothing [] h = refl
+      nothing (l ∷ ls) h = absurd (omega arith)
+
+      none : leaves body ≡ []
+      none = sym (joined_items body)
+          ∙ ap joined (nothing (items_of body) (same_length q pairs (items_of body) s.added s.items ∙ ap length (sym same) ∙ sym n ∙ eqb-true len 0 t))
+
+  -- and one with leaves
+
+  module _ (o : IsOrdered q pairs) (whole body : Process) (mid inner : List Item) (e : whole ≡ Isolated body) (p : IsPieceOf q whole) (f : mid ≡ [])
+      (s : AddsItems q pairs body mid inner) where
+    same : inner ≡ s.added
+    same = s.is ∙ ap (λ z. z ++ s.added) f
+
+    are : AreItemsOf q pairs (items_of body) inner
+    are = subst (AreItemsOf q pairs (items_of body)) (sym same) s.items
+
+    is_part : body ∈ isolated_parts q
+    is_part = (subst (IsPieceOf q) e p).part body (inl refl)
+
+    pub added_apart : AreApart inner
+    added_apart = are_apart q pairs o body (inr is_part) inner are
+
+    pub added_some : (len : ℕ) → len ≡ length inner → (len == 0) ≡ false → HasSome inner
+    added_some len n t = at inner (λ k. k) refl
+      where
+        at : (list : List Item) → (AreApart list → AreApart list) → inner ≡ list → HasSome inner
+        at [] k g = absurd (true≢false (sym (eq-eqb len 0 (n ∙ ap length g)) ∙ t))
+        at (i ∷ list) k g = let x = added_apart.some 0 (omega (arith, ap length g)) in (0, x.0, x.1)
+
+    pub part_told : (old new seen : List Item) (r : Result (Unit {0}) ExciseRefusal) → seen ≡ inner → MatchResult r (λ _. AddsOneOf seen old new) (TellsRing seen) →
+        MatchResult r (λ _. AddsItems q pairs whole old new) (TellsCircle q pairs)
+    part_told old new seen (Ok u) g h =
+        let a = subst (λ z. AddsOneOf z old new) g h in
+        let i = part_item q pairs o body is_part inner are a.0 a.2 a.3 in
+        adds_one whole (leaves body) old new a.0
+        (ap items_of e ∙ item_of_some (leaves body) (a.0).least ((i.inside (a.0).least).0 (a.2).least))
+        a.1
+        i
+    part_told old new seen (Err r) g h = tells_circle q pairs o body (inr is_part) inner are r (subst (λ z. TellsRing z r) g h)
+
+-- the items of the whole goal, put into an empty list
+pub whole_items : (q : Process) (pairs : List (ℕ × ℕ)) (old new : List Item) → old ≡ [] → AddsItems q pairs q old new → AreItemsOf q pairs (items_of q) new
+whole_items q pairs old new e s = subst (AreItemsOf q pairs (items_of q)) (sym (s.is ∙ ap (λ z. z ++ s.added) e)) s.items
