@@ -14,14 +14,14 @@ add_items-requires-clause-piece c =
 pub run_of-requires : goal.run_of-requires
 run_of-requires c =
     subst AreApart (sym c.deref.ensures.value)
-    (are_apart c.args.plan.now.process (pairs_of c.args.plan.now.tokens) c.tokens-_tokens.ensures.ordered c.args.plan.now.process (inl refl) c.add_items.new.items.items
+    (are_apart c.args.plan.now.process (pairs_of c.args.plan.now.tokens) c.tokens-tokens.ensures.ordered c.args.plan.now.process (inl refl) c.add_items.new.items.items
     (whole_items c.args.plan.now.process (pairs_of c.args.plan.now.tokens) c.new-items.result.items c.add_items.new.items.items c.new-items.ensures.items
     (subst (λ g. AddsItems c.args.plan.now.process (pairs_of c.args.plan.now.tokens) g c.new-items.result.items c.add_items.new.items.items)
     c.requires c.in_ok-add_items.ensures)))
 
 pub returns-clause-ok : goal.returns-clause-ok
 returns-clause-ok c =
-    run_traced c.args.plan.now.process (pairs_of c.args.plan.now.tokens) c.tokens-_tokens.ensures.ordered c.add_items.new.items.items c.deref.result.now
+    run_traced c.args.plan.now.process (pairs_of c.args.plan.now.tokens) c.tokens-tokens.ensures.ordered c.add_items.new.items.items c.deref.result.now
     (whole_items c.args.plan.now.process (pairs_of c.args.plan.now.tokens) c.new-items.result.items c.add_items.new.items.items c.new-items.ensures.items
     (subst (λ g. AddsItems c.args.plan.now.process (pairs_of c.args.plan.now.tokens) g c.new-items.result.items c.add_items.new.items.items)
     c.requires c.in_ok-add_items.ensures))
@@ -29,7 +29,7 @@ returns-clause-ok c =
 
 pub returns-clause-circle : goal.returns-clause-circle
 returns-clause-circle c =
-    ring_told c.args.plan.now.process (pairs_of c.args.plan.now.tokens) c.tokens-_tokens.ensures.ordered c.add_items.new.items.items c.deref.result.now
+    ring_told c.args.plan.now.process (pairs_of c.args.plan.now.tokens) c.tokens-tokens.ensures.ordered c.add_items.new.items.items c.deref.result.now
     (whole_items c.args.plan.now.process (pairs_of c.args.plan.now.tokens) c.new-items.result.items c.add_items.new.items.items c.new-items.ensures.items
     (subst (λ g. AddsItems c.args.plan.now.process (pairs_of c.args.plan.now.tokens) g c.new-items.result.items c.add_items.new.items.items)
     c.requires c.in_ok-add_items.ensures))
