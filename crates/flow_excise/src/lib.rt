@@ -17,6 +17,7 @@ mod refusal;
 mod ring;
 mod sample;
 mod sieve;
+mod sifted;
 mod tally;
 #[cfg(test)]
 mod tests;
