@@ -7,8 +7,8 @@ use Rattle.flow_goal.specs.Resolved.{IsResolved}
 use Rattle.std.specs.List.Sorted.{IsStrictlyIncreasing}
 use Rattle.flow_model.specs.Process.{Process, Empty, Task, Sequence, Parallel, Choice, Isolated, leaves, IsChoiceFree}
 use Rattle.flow_plan.specs.declared.postfix.Node.{Node}
-use Rattle.flow_plan.specs.declared.postfix.Node.TheVariants.{Nop, Leaf, Serial, Beside, Iso}
-use Rattle.flow_plan.specs.Postfix.{nodes_of, leaf_of, top, rest, read, read_on, stack_of}
+use Rattle.flow_plan.specs.declared.postfix.Node.TheVariants.{Serial, Beside, Iso}
+use Rattle.flow_plan.specs.Postfix.{nodes_of, leaf_of, read, read_on, stack_of}
 
 -- the leaves from the place on begin with those
 abbrev pub StandAt : List ℕ → ℕ → List ℕ → Type 0

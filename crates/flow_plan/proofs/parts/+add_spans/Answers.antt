@@ -1,4 +1,4 @@
-use Rattle.std.proofs.Common.{rules, refl, ◌≡◌, ◌⊎◌, ◌+◌, ℕ, List, ◌++◌, length, ap, subst, sym, ◌∙◌, ⊎_elim}
+use Rattle.std.proofs.Common.{refl, ◌≡◌, ◌⊎◌, ◌+◌, ◌++◌, length, ap, subst, ◌∙◌, ⊎_elim}
 use Rattle.flow_model.specs.Process.{Process, leaves}
 use Rattle.flow_goal.specs.declared.goal.Goal.{Goal}
 use Rattle.flow_goal.specs.Goal.{process_of}

@@ -1,6 +1,6 @@
-use Rattle.std.proofs.Common.{◌≡◌, ◌-◌, ℕ, List, Some, None, slice_get, length, subst, sym, refl, ◌∙◌, arith}
+use Rattle.std.proofs.Common.{◌≡◌, ◌-◌, List, Some, None, slice_get, length, subst, arith}
 use Rattle.flow_plan.specs.declared.span.Span.{Span}
-use Rattle.flow_plan.proofs.SpanLemmas.{test_same, test_other, adds_again, adds_behind, pushed_last, earlier_of_last, earlier_of_none, end_of_last}
+use Rattle.flow_plan.proofs.SpanLemmas.{test_same, test_other, adds_again, adds_behind, earlier_of_last, earlier_of_none, end_of_last}
 use Rattle.flow_plan.proofs.parts.add_span.Goals as goal
 use Rattle.flow_plan.proofs.parts.add_span.Goals.{in-Some+else-eq, in_default}
 

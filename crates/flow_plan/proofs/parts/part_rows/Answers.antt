@@ -1,7 +1,6 @@
-use Rattle.std.proofs.Common.{◌≡◌, ◌+◌, ◌≤◌, ℕ, List, length, subst, sym, ap, ◌∙◌, arith}
+use Rattle.std.proofs.Common.{◌≡◌, ◌≤◌, ℕ, List, length, subst, sym, ap, ◌∙◌, arith}
 use Rattle.flow_model.specs.Process.{Process, leaves}
 use Rattle.flow_plan.specs.declared.span.Span.{Span}
-use Rattle.leaf_rows.specs.declared.leaf_set.LeafSet.{LeafSet}
 use Rattle.flow_goal.specs.Goal.{process_of}
 use Rattle.flow_plan.specs.Spans.{AddsSpans}
 use Rattle.flow_plan.specs.Parts.{ArePartsFor}

@@ -1,4 +1,4 @@
-use Rattle.std.proofs.Common.{rules, refl, ap, subst, sym, ◌≡◌, ◌++◌, ◌⊎◌, ℕ, List, IsTrue, false, ⊎_elim}
+use Rattle.std.proofs.Common.{rules, refl, ap, subst, sym, ◌≡◌, ◌++◌, ◌⊎◌, ℕ, IsTrue, false, ⊎_elim}
 use Rattle.flow_model.specs.Lists.{◌∈◌, AreDistinct}
 use Rattle.leaf_rows.specs.Leaves.{has_leaf}
 use Rattle.flow_model.specs.Process.{Process, leaves}

@@ -1,4 +1,4 @@
-use Rattle.std.proofs.Common.{◌≡◌, ◌≤◌, ◌<◌, ◌++◌, [], ◌∷◌, ℕ, List, None, Some, get_or, slice_get, length, ap, ◌∙◌, sym, subst, arith}
+use Rattle.std.proofs.Common.{◌≤◌, ◌<◌, ◌++◌, [], ◌∷◌, None, get_or, length, ap, ◌∙◌, sym, subst, arith}
 use Rattle.flow_model.specs.Resolution.{ChoiceOption}
 use Rattle.flow_plan.specs.Planned.{Planned}
 use Rattle.flow_excise.specs.Compilation.{options_of}

@@ -1,4 +1,4 @@
-use Rattle.std.proofs.Common.{◌≡◌, [], ◌∷◌, ◌++◌, ℕ, List}
+use Rattle.std.proofs.Common.{[], ◌∷◌, ◌++◌, ℕ, List}
 use Rattle.flow_excise.specs.Compilation.{options_of}
 use Rattle.flow_residual.specs.Bans.{AreLeastBans}
 use Rattle.flow_residual.proofs.BanLemmas.{AreChanged}

@@ -1,4 +1,4 @@
-use Rattle.std.proofs.Common.{[], ◌∷◌, ◌++◌, List, Option, None, ℕ, sym, subst, take}
+use Rattle.std.proofs.Common.{[], ◌∷◌, ◌++◌, List, Option, ℕ, sym, subst, take}
 use Rattle.flow_model.specs.Resolution.{ChoiceOption}
 use Rattle.flow_excise.specs.Compilation.{options_of}
 use Rattle.flow_excise.specs.Plans.{option_of}

@@ -1,6 +1,5 @@
 use Rattle.std.proofs.Common.{◌≡◌, ◌<◌, List, length, ap, subst, ◌∙◌, sym}
 use Rattle.leaf_rows.specs.declared.leaf_set.LeafSet.{LeafSet}
-use Rattle.flow_model.specs.Process.{Process}
 use Rattle.flow_model.specs.Lists.{Each}
 use Rattle.flow_model.specs.Ready.{DirectlyBefore}
 use Rattle.flow_laws.specs.Words.{AreOfLeaves}
@@ -8,7 +7,7 @@ use Rattle.flow_goal.specs.Resolved.{Resolved}
 use Rattle.flow_plan.specs.declared.token.OrderToken.{OrderToken}
 use Rattle.flow_plan.specs.Rows.{AreRowsOf}
 use Rattle.flow_plan.specs.Parts.{ArePartsOf}
-use Rattle.flow_plan.specs.Planned.{Planned, planned, pairs_of}
+use Rattle.flow_plan.specs.Planned.{planned, pairs_of}
 use Rattle.flow_plan.proofs.RowLemmas.{rows_length}
 use Rattle.flow_plan.proofs.Readiness.{new_is_kept, new_is_ordered}
 use Rattle.flow_plan.proofs.plan.Plan.new.Goals as goal
