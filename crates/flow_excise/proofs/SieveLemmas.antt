@@ -14,7 +14,7 @@ use Rattle.flow_plan.specs.Sampled.{Sampled}
 use Rattle.flow_excise.specs.declared.refusal.Dropped.{Dropped}
 use Rattle.flow_excise.specs.declared.refusal.CompileRefusal.{CompileRefusal}
 use Rattle.flow_excise.specs.declared.refusal.CompileRefusal.TheVariants.{NoMemory}
-use Rattle.flow_excise.specs.declared.sieve.Sieve.{Sieve}
+use Rattle.flow_excise.specs.declared.sifted.Sieve.{Sieve}
 use Rattle.flow_excise.specs.Executions.{HasExecution, NumberedOption, numbered_ways, numbered_options, TellsOf, AreSifted}
 use Rattle.flow_excise.specs.Compilation.{options_of}
 use Rattle.flow_excise.specs.Options.{options_by, all_options_by}

@@ -1,5 +1,5 @@
 -- What is compiled, as its callers see it.
-use Rattle.std.specs.Prelude.{◌≡◌, ◌≢◌, ◌<◌, ◌≤◌, List, [], length, map}
+use Rattle.std.specs.Prelude.{◌≡◌, ◌≢◌, ◌<◌, ◌≤◌, List, [], length, map, All}
 use Rattle.std.proofs.Common.{refl}
 use Rattle.std.specs.Coded.{Coded, code_by, coded×, coded_list}
 use Rattle.flow_model.specs.Schema.{Schema}
@@ -7,6 +7,7 @@ use Rattle.flow_model.specs.Resolution.{ChoiceOption, options, options_in, resol
 use Rattle.flow_laws.specs.Words.{IsConsistent}
 use Rattle.flow_rules.specs.Counts.{kept}
 use Rattle.flow_plan.specs.Sampled.{Sampled, sampled_code}
+use Rattle.flow_weave.specs.Woven.{AreNumbered}
 use Rattle.flow_excise.specs.declared.counts.Counts.{Counts}
 use Rattle.flow_excise.specs.contracts.counts.Counts as counts
 use Rattle.flow_excise.specs.declared.refusal.CompileRefusal.{CompileRefusal}
@@ -25,10 +26,11 @@ compilation_code = code_by (List Sampled × Counts) (coded× (coded_list sampled
 abbrev pub compilation : List Sampled → Counts → Compilation
 compilation plans counts = record { plans = plans; counts = counts }
 
--- there is a plan, and they are counted
+-- there is a plan, they are counted, and the token with number k of each is the one at place k
 pub record IsLive (c : Compilation) : Type 0 where
   pub some : c.plans ≢ []
   pub live : c.counts.live ≡ length c.plans
+  pub numbered : All (λ (s : Sampled). AreNumbered s.plan.tokens) c.plans
 
 -- the options of the plans
 abbrev pub options_of : List Sampled → List ChoiceOption

@@ -5,7 +5,7 @@ use Rattle.flow_model.specs.Process.{Process, leaves}
 use Rattle.flow_model.specs.Resolution.{ChoiceOption}
 use Rattle.flow_laws.specs.Words.{IsOrdered}
 use Rattle.flow_rules.specs.declared.order_set.OrderSet.{OrderSet}
-use Rattle.flow_excise.specs.declared.sieve.Sieve.{Sieve}
+use Rattle.flow_excise.specs.declared.sifted.Sieve.{Sieve}
 use Rattle.flow_excise.specs.Executions.{NumberedOption, AreSifted}
 use Rattle.flow_excise.specs.Compilation.{options_of}
 

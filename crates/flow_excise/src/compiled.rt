@@ -1,4 +1,6 @@
-ghost use Rattle.std.specs.Prelude.{◌≡◌, ◌≢◌, [], length};
+ghost use Rattle.std.specs.Prelude.{◌≡◌, ◌≢◌, [], length, All};
+ghost use Rattle.flow_plan.specs.Sampled.{Sampled};
+ghost use Rattle.flow_weave.specs.Woven.{AreNumbered};
 
 use crate::counts::Counts;
 use flow_plan::KnotFree;
@@ -29,6 +31,7 @@ impl Compiled {
     pub(crate) fn new(plans: Vec<KnotFree>, counts: Counts) -> Compiled
         requires some { plans.items ≢ [] }
         requires live { counts.live ≡ length plans.items }
+        requires numbered { All (λ (s : Sampled). AreNumbered s.plan.tokens) plans.items }
         ensures plans { result.plans ≡ plans.items }
         ensures counts { result.counts ≡ counts }
     {
@@ -39,13 +42,16 @@ impl Compiled {
     pub fn plans(&self) -> &[KnotFree]
         ensures plans { result.now ≡ self.now.plans }
         ensures some { self.now.plans ≢ [] }
+        // the token with number k stands for pair k of the option's order
+        ensures numbered { All (λ (s : Sampled). AreNumbered s.plan.tokens) self.now.plans }
     {
         &self.plans
     }
 
     /// The plans by value, in the order of their options.
     pub fn into_plans(self) -> Vec<KnotFree>
-        ensures { result.items ≡ self.plans }
+        ensures plans { result.items ≡ self.plans }
+        ensures numbered { All (λ (s : Sampled). AreNumbered s.plan.tokens) result.items }
     {
         self.plans
     }

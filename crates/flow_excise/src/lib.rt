@@ -14,6 +14,7 @@ mod limits;
 mod order;
 mod refusal;
 mod sieve;
+mod sifted;
 mod tally;
 mod written;
 

@@ -9,19 +9,11 @@ ghost use Rattle.flow_excise.specs.Sieves.{ArePlannable, HasSifted, Sifts, optio
 
 use crate::excising::{ExciseRefusal, excise_by};
 use crate::refusal::{CompileRefusal, Dropped};
+use crate::sifted::Sieve;
 use flow_goal::{Choiceless, Tree, resolutions, resolve};
-use flow_plan::KnotFree;
 use flow_rules::{Nnf, OrderSet, leaf_events, ways};
 use flow_weave::weave;
 use std::alloc::Global;
-
-/// The options that were looked at: plans of those with an execution, and why each of the others has
-/// none.
-#[derive(Drop)]
-pub(crate) struct Sieve {
-    pub(crate) kept: Vec<KnotFree>,
-    pub(crate) dropped: Vec<Dropped>,
-}
 
 /// Looks at one option.
 fn sift(

@@ -1,5 +1,6 @@
 -- What a plan is woven of.
-use Rattle.std.specs.Prelude.{ℕ, List, map}
+use Rattle.std.specs.Prelude.{◌≡◌, ℕ, List, length, map}
+use Rattle.flow_model.specs.Lists.{numbers_from}
 use Rattle.flow_model.specs.Resolution.{ChoiceOption}
 use Rattle.flow_goal.specs.Resolved.{Resolved}
 use Rattle.flow_rules.specs.declared.order_set.OrderSet.{OrderSet}
@@ -11,3 +12,7 @@ option_of goal order = record { resolution = goal.process; order = order.pairs.i
 
 abbrev pub token_numbers : List OrderToken → List ℕ
 token_numbers tokens = map (λ (t : OrderToken). t.number) tokens
+
+-- the token with number k is the one at place k
+abbrev pub AreNumbered : List OrderToken → Type 0
+AreNumbered tokens = token_numbers tokens ≡ numbers_from 0 (length tokens)
