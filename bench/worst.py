@@ -27,6 +27,15 @@ def names(letter, count, between):
     return between.join(f"{letter}{number}" for number in range(count))
 
 
+def as_many(head, member, between, tail):
+    """As many members as fit between head and tail, each made of its number."""
+    room, members = GREATEST_INPUT - len(head) - len(tail), []
+    while room > 0:
+        members.append(member(len(members)))
+        room -= len(members[-1]) + len(between)
+    return head + between.join(members[:-1]) + tail
+
+
 def row(goal_between, count=1024):
     return f"event {names('e', count, ', ')}; goal {names('e', count, goal_between)};"
 
@@ -62,29 +71,28 @@ def one_name_in_a_goal_twice():
 
 @text
 def many_events():
-    return f"event {names('e', 140_000, ', ')}; goal nop;"
+    return as_many("event ", lambda n: f"e{n}", ", ", "; goal nop;")
 
 
 @text
 def many_facts():
-    return f"fact {names('p', 140_000, ', ')}; goal nop;"
+    return as_many("fact ", lambda n: f"p{n}", ", ", "; goal nop;")
 
 
 @text
 def many_facts_with_one_argument():
-    return "fact " + ", ".join(f"p({number})" for number in range(95_000)) + "; goal nop;"
+    return as_many("fact ", lambda n: f"p({n})", ", ", "; goal nop;")
 
 
 @text
 def facts_in_leaves():
-    facts = ", ".join(f"p({number})" for number in range(60_000))
-    leaves = " * ".join(f"?p({59_999 - number})" for number in range(1024))
-    return f"fact {facts}; goal {leaves};"
+    leaves = " * ".join(f"?p({n})" for n in range(1024))
+    return as_many("fact ", lambda n: f"p({n})", ", ", f"; goal {leaves};")
 
 
 @text
 def one_fact_with_many_arguments():
-    half = ", ".join("a" for _ in range(160_000))
+    half = ",".join("a" for _ in range(260_000))
     return f"fact p({half}); goal ?p({half});"
 
 
@@ -102,14 +110,9 @@ def long_names_alike():
     return f"event {events}; goal {goal};"
 
 
-def colliding(count):
-    """Names that differ in their front alone, for a search that looks at the end or at a short front."""
-    return [f"a{number:07}" + "z" for number in range(count)]
-
-
 @text
 def names_of_one_length():
-    return f"event {', '.join(colliding(80_000))}; goal nop;"
+    return as_many("event ", lambda n: f"a{n:07}z", ", ", "; goal nop;")
 
 
 @text
@@ -140,12 +143,12 @@ def a_refusal_at_the_end():
 
 @text
 def repeated_at_the_end():
-    return f"event {names('e', 140_000, ', ')}, e139999; goal nop;"
+    return as_many("event ", lambda n: f"e{n}", ", ", ", e9; goal nop;")
 
 
 @text
 def unknown_at_the_end():
-    return f"event {names('e', 130_000, ', ')}; goal z;"
+    return as_many("event ", lambda n: f"e{n}", ", ", "; goal z;")
 
 
 # --- sub-workflows
