@@ -20,10 +20,10 @@ fn words_of(alloc: Global, line: &str) -> Result<Vec<String>, AllocError> {
 #[test]
 fn wrong_words_leave_the_source(rt: HostRuntime) -> Result<(), Fail> {
     let mut source = MemSource::new(NOTHING.as_bytes().to_vec(rt.alloc())?);
-    let mut sink = MemSink::new(rt.alloc(), 1000)?;
     let table = [("flow", Status::Words), ("flow check", Status::Fine)];
     for (line, status) in table {
         let words = words_of(rt.alloc(), line)?;
+        let mut sink = MemSink::new(rt.alloc(), 1000)?;
         assert_eq!(rt; flow(rt.alloc(), &words, &mut source, &mut sink), status);
     }
     Ok(())
