@@ -1,19 +1,21 @@
--- The leaf of an event, among one leaf more.
-use Rattle.std.proofs.Common.{◌≡◌, ℕ, ◌+◌, ◌<◌, ◌==◌, Bool, true, false, if◌then◌else◌, cond, List, [], ◌∷◌, length, take, get_or, find, Option, Some, None, refl, sym, ap, ◌∙◌, true≢false, is_some, inl, inr}
+-- Leaves beside events, and the leaf of an event among one leaf more.
+use Rattle.std.proofs.Common.{◌≡◌, ℕ, ◌+◌, ◌-◌, ◌<◌, ◌≤◌, ◌==◌, Bool, true, false, if◌then◌else◌, cond, zero, suc, List, [], ◌∷◌, length, take, get_or, find, Option, Some, None, refl, sym, subst, ap, ◌∙◌, true≢false, is_some, inl, inr, ⊎_elim, arith}
 use Rattle.std.specs.Option.{option_or}
-use Rattle.std.proofs.lemmas.Bool.{cases_eq, eq-eqb, ne_eqb}
-use Rattle.std.proofs.lemmas.List.{take_more}
+use Rattle.std.specs.List.{insert}
+use Rattle.std.specs.List.Sorted.{IsStrictlyIncreasing}
+use Rattle.std.proofs.lemmas.Bool.{cases_eq, cases_lt, eq-eqb, ne_eqb}
+use Rattle.std.proofs.lemmas.List.{get_or_default, take_more}
+use Rattle.std.proofs.lemmas.List.Edits.{get_or-insert_below, get_or-insert_at, get_or-insert_above, length-insert}
 use Rattle.std.proofs.lemmas.List.Folds.{find-append}
+use Rattle.std.proofs.lemmas.List.Kept.{AllPairs-from_increasing}
 use Rattle.flow_model.specs.declared.labels.Label.{Label}
 use Rattle.flow_model.specs.Facts.{event_at, is_event}
 use Rattle.flow_model.specs.Ways.{leaf_of_event}
+use Rattle.flow_rules.specs.EventLeaves.{IsNoted, IsPlaceFor, leaf_beside, with_leaf}
 
 -- the leaf, if that is its event
 abbrev pub if_on : ℕ → ℕ → Option ℕ → Option ℕ
 if_on q leaf event = if is_event q event then Some leaf else None
-
-find_one : (p : ℕ → Bool) (leaf : ℕ) → find p (leaf ∷ []) ≡ (if p leaf then Some leaf else None)
-find_one p leaf = refl
 
 pub leaf_more : (labels : List Label) (ls : List ℕ) (i q : ℕ) → i < length ls →
     leaf_of_event labels (take (i + 1) ls) q
@@ -27,32 +29,112 @@ pub none_on : (o : Option ℕ) → o ≡ option_or o None
 none_on None = refl
 none_on (Some x) = refl
 
--- what stays where the event has a leaf already
-pub stays : (g : ℕ → Option ℕ) (event leaf q : ℕ) → is_some (g event) ≡ true → g q ≡ option_or (g q) (if_on q leaf (Some event))
-stays g event leaf q h = elim (cases_eq event q) [
-  | inl e ↦ at (g q) (ap (λ n. is_some (g n)) (sym e) ∙ h)
-  | inr n ↦ none_on (g q) ∙ ap (λ b. option_or (g q) (if b then Some leaf else None)) (sym (ne_eqb event q n))
-]
-  where
-    at : (o : Option ℕ) → is_some o ≡ true → o ≡ option_or o (if_on q leaf (Some event))
-    at None k = absurd (true≢false (sym k))
-    at (Some x) k = refl
+-- each event is above those before it
+pub rising_pairs : (xs : List ℕ) → IsStrictlyIncreasing xs → (i j : ℕ) → i < j → j < length xs → get_or xs i 0 < get_or xs j 0
+rising_pairs xs rising i j below within = AllPairs-from_increasing xs rising i j 0 below within
 
--- what is added where it has none
-pub added : (g : ℕ → Option ℕ) (event leaf q : ℕ) (same : Bool) → same ≡ (event == q) → is_some (g event) ≡ false →
-    cond same (Some leaf) (g q) ≡ option_or (g q) (if_on q leaf (Some event))
-added g event leaf q same s h = elim (cases_eq event q) [
-  | inl e ↦
-      let t : (event == q) ≡ true = eq-eqb event q e in
-      ap (λ b. cond b (Some leaf) (g q)) (s ∙ t)
-      ∙ at (g q) (ap (λ n. is_some (g n)) (sym e) ∙ h)
-      ∙ ap (λ b. option_or (g q) (if b then Some leaf else None)) (sym t)
+pub never_falls : (xs : List ℕ) → IsStrictlyIncreasing xs → (i j : ℕ) → i ≤ j → j < length xs → get_or xs i 0 ≤ get_or xs j 0
+never_falls xs rising i j order within = ⊎_elim
+    (λ before. omega (arith, rising_pairs xs rising i j before within))
+    (λ after. let same : i ≡ j = omega arith in omega (arith, ap (λ (k : ℕ). get_or xs k 0) same))
+    (cases_lt i j)
+
+-- the leaf at the place of an event
+pub beside_at : (es ls : List ℕ) (i q : ℕ) → ((k : ℕ) → k < i → get_or es k 0 < q) → i < length es → length ls ≡ length es → get_or es i 0 ≡ q →
+    leaf_beside es ls q ≡ Some (get_or ls i 0)
+beside_at [] ls i q below within same is = absurd (omega arith)
+beside_at (e ∷ es) [] i q below within same is = absurd (omega arith)
+beside_at (e ∷ es) (l ∷ ls) zero q below within same is = ap (λ b. if b then Some l else leaf_beside es ls q) (eq-eqb e q is)
+beside_at (e ∷ es) (l ∷ ls) (suc i) q below within same is =
+    ap (λ b. if b then Some l else leaf_beside es ls q) (ne_eqb e q (λ k. omega (arith, k, below 0 (omega arith))))
+    ∙ beside_at es ls i q (λ k h. below (suc k) (omega arith)) (omega arith) (omega arith) is
+
+-- what an index reads there is the leaf of the event
+pub beside_found : (es ls : List ℕ) (i q l : ℕ) → IsStrictlyIncreasing es → i < length es → length ls ≡ length es → get_or es i 0 ≡ q → l ≡ get_or ls i l →
+    leaf_beside es ls q ≡ Some l
+beside_found es ls i q l rising within same is read =
+    beside_at es ls i q (λ k h. omega (arith, is, rising_pairs es rising k i h within)) within same is
+    ∙ ap (λ (n : ℕ). Some n) (get_or_default ls i 0 l (omega (arith, within, same)) ∙ sym read)
+
+-- no leaf where the event is not there
+pub beside_none : (es ls : List ℕ) (q : ℕ) → ((k : ℕ) → k < length es → ¬ (get_or es k 0 ≡ q)) → leaf_beside es ls q ≡ None
+beside_none [] ls q h = refl
+beside_none (e ∷ es) [] q h = refl
+beside_none (e ∷ es) (l ∷ ls) q h =
+    ap (λ b. if b then Some l else leaf_beside es ls q) (ne_eqb e q (h 0 (omega arith)))
+    ∙ beside_none es ls q (λ k w. h (suc k) (omega arith))
+
+pub place_is_free : (es ls : List ℕ) (q i : ℕ) → IsPlaceFor es q i → leaf_beside es ls q ≡ None
+place_is_free es ls q i at = beside_none es ls q (λ k w same. ⊎_elim
+    (λ before. omega (arith, same, at.1 k before)) (λ after. omega (arith, same, at.2 k after w)) (cases_lt k i))
+
+-- an event and its leaf put in at one place
+pub beside_insert : (es ls : List ℕ) (i e l q : ℕ) → i ≤ length es → length ls ≡ length es → leaf_beside es ls e ≡ None →
+    leaf_beside (insert es i e) (insert ls i l) q ≡ with_leaf e l (leaf_beside es ls q) q
+beside_insert es ls zero e l q within same free = elim (cases_eq e q) [
+  | inl is ↦ 
+      let t : (e == q) ≡ true = eq-eqb e q is in
+      let none : leaf_beside es ls q ≡ None = ap (leaf_beside es ls) (sym is) ∙ free in
+      ap (λ b. if b then Some l else leaf_beside es ls q) t
+      ∙ sym (ap (λ o. with_leaf e l o q) none ∙ ap (λ b. if b then Some l else None) t)
   | inr n ↦
-      let f : (event == q) ≡ false = ne_eqb event q n in
-      ap (λ b. cond b (Some leaf) (g q)) (s ∙ f) ∙ none_on (g q)
-      ∙ ap (λ b. option_or (g q) (if b then Some leaf else None)) (sym f)
+      let f : (e == q) ≡ false = ne_eqb e q n in
+      ap (λ b. if b then Some l else leaf_beside es ls q) f
+      ∙ none_on (leaf_beside es ls q) ∙ ap (λ b. option_or (leaf_beside es ls q) (if b then Some l else None)) (sym f)
+]
+beside_insert [] ls (suc i) e l q within same free = absurd (omega arith)
+beside_insert (x ∷ es) [] (suc i) e l q within same free = absurd (omega arith)
+beside_insert (x ∷ es) (y ∷ ls) (suc i) e l q within same free = elim (cases_eq x q) [
+  | inl is ↦
+      let t : (x == q) ≡ true = eq-eqb x q is in
+      ap (λ b. if b then Some y else leaf_beside (insert es i e) (insert ls i l) q) t
+      ∙ sym (ap (λ b. with_leaf e l (if b then Some y else leaf_beside es ls q) q) t)
+  | inr n ↦
+      let f : (x == q) ≡ false = ne_eqb x q n in
+      ap (λ b. if b then Some y else leaf_beside (insert es i e) (insert ls i l) q) f
+      ∙ beside_insert es ls i e l q (omega arith) (omega arith) later
+      ∙ sym (ap (λ b. with_leaf e l (if b then Some y else leaf_beside es ls q) q) f)
 ]
   where
-    at : (o : Option ℕ) → is_some o ≡ false → Some leaf ≡ option_or o (Some leaf)
-    at None k = refl
-    at (Some x) k = absurd (true≢false k)
+    later : leaf_beside es ls e ≡ None
+    later = elim (cases_eq x e) [
+      | inl is ↦ absurd (let k = sym (ap (λ b. if b then Some y else leaf_beside es ls e) (eq-eqb x e is)) ∙ free in cc)
+      | inr n ↦ sym (ap (λ b. if b then Some y else leaf_beside es ls e) (ne_eqb x e n)) ∙ free
+    ]
+
+-- what stays where the event has a leaf already
+pub beside_stays : (es ls : List ℕ) (e l q : ℕ) → IsStrictlyIncreasing es → length ls ≡ length es → IsNoted es e →
+    leaf_beside es ls q ≡ with_leaf e l (leaf_beside es ls q) q
+beside_stays es ls e l q rising same noted = elim (cases_eq e q) [
+  | inl is ↦
+      let found : leaf_beside es ls q ≡ Some (get_or ls noted.0 0) =
+          beside_at es ls noted.0 q (λ k h. omega (arith, is, noted.2, rising_pairs es rising k noted.0 h noted.1)) noted.1 same (noted.2 ∙ is) in
+      found ∙ sym (ap (λ o. with_leaf e l o q) found)
+  | inr n ↦ none_on (leaf_beside es ls q) ∙ ap (λ b. option_or (leaf_beside es ls q) (if b then Some l else None)) (sym (ne_eqb e q n))
+]
+
+-- events rise with one more at its place
+pub rising_insert : (es : List ℕ) (e i : ℕ) → IsStrictlyIncreasing es → IsPlaceFor es e i → IsStrictlyIncreasing (insert es i e)
+rising_insert es e i rising at k within =
+    let long : length (insert es i e) ≡ length es + 1 = length-insert es i e at.0 in
+    ⊎_elim
+    (λ before. ⊎_elim
+        (λ (h : k + 1 < i). omega (arith, get_or-insert_below es i e 0 k before at.0, get_or-insert_below es i e 0 (k + 1) h at.0, rising_pairs es rising k (k + 1) (omega arith) (omega (arith, at.0))))
+        (λ (h : i ≤ k + 1).
+            let here : i ≡ k + 1 = omega arith in
+            let new : get_or (insert es i e) (k + 1) 0 ≡ e = subst (λ (n : ℕ). get_or (insert es i e) n 0 ≡ e) here (get_or-insert_at es i e 0 at.0) in
+            omega (arith, new, get_or-insert_below es i e 0 k before at.0, at.1 k before))
+        (cases_lt (k + 1) i))
+    (λ after.
+        let next = get_or-insert_above es i e 0 k after at.0 in
+        ⊎_elim
+        (λ (h : i < k).
+            let back : (k - 1) + 1 ≡ k = omega arith in
+            let this : get_or (insert es i e) k 0 ≡ get_or es (k - 1) 0 = subst (λ (n : ℕ). get_or (insert es i e) n 0 ≡ get_or es (k - 1) 0) back (get_or-insert_above es i e 0 (k - 1) (omega arith) at.0) in
+            omega (arith, next, this, rising_pairs es rising (k - 1) k (omega arith) (omega (arith, long, within))))
+        (λ (h : k ≤ i).
+            let here : i ≡ k = omega arith in
+            let new : get_or (insert es i e) k 0 ≡ e = subst (λ (n : ℕ). get_or (insert es i e) n 0 ≡ e) here (get_or-insert_at es i e 0 at.0) in
+            omega (arith, new, next, at.2 k after (omega (arith, long, within))))
+        (cases_lt i k))
+    (cases_lt k i)

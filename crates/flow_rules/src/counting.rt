@@ -5,7 +5,7 @@ ghost use Rattle.flow_rules.specs.EventLeaves.{leaf_in};
 ghost use Rattle.flow_rules.specs.Normal.{normal_of};
 ghost use Rattle.flow_rules.specs.WayLists.{all_ways, any_ways};
 
-use crate::event_leaves::LeafEvents;
+use crate::leaf_table::LeafEvents;
 use crate::normal::Nnf;
 
 /// How many ways there are, and how many pairs in all of them. What would pass the greatest number

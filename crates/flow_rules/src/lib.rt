@@ -4,6 +4,7 @@
 mod asked;
 mod counting;
 mod event_leaves;
+mod leaf_table;
 mod listing;
 mod normal;
 mod normalizing;
@@ -12,7 +13,8 @@ mod rule;
 mod shorthands;
 
 pub use counting::{WayCount, count_ways};
-pub use event_leaves::{LeafEvents, leaf_events};
+pub use event_leaves::leaf_events;
+pub use leaf_table::LeafEvents;
 pub use listing::ways;
 pub use normal::Nnf;
 pub use normalizing::nnf;

@@ -6,7 +6,7 @@ ghost use Rattle.flow_rules.specs.Normal.{normal_of};
 ghost use Rattle.flow_rules.specs.WayLists.{both_ways, pairs_of};
 
 use crate::asked::{Asked, Found, asked_of};
-use crate::event_leaves::LeafEvents;
+use crate::leaf_table::LeafEvents;
 use crate::normal::Nnf;
 use crate::order_set::OrderSet;
 use std::alloc::{AllocError, Global};
