@@ -1,11 +1,10 @@
 -- Leaves beside events, and the leaf of an event among one leaf more.
-use Rattle.std.proofs.Common.{◌≡◌, ℕ, ◌+◌, ◌-◌, ◌<◌, ◌≤◌, ◌==◌, Bool, true, false, if◌then◌else◌, cond, zero, suc, List, [], ◌∷◌, length, take, get_or, find, Option, Some, None, refl, sym, subst, ap, ◌∙◌, true≢false, is_some, inl, inr, ⊎_elim, arith}
+use Rattle.std.proofs.Common.{◌≡◌, ℕ, ◌+◌, ◌<◌, ◌≤◌, ◌==◌, Bool, true, false, if◌then◌else◌, zero, suc, List, [], ◌∷◌, length, take, get_or, find, Option, Some, None, refl, sym, ap, ◌∙◌, inl, inr, ⊎_elim, arith}
 use Rattle.std.specs.Option.{option_or}
 use Rattle.std.specs.List.{insert}
 use Rattle.std.specs.List.Sorted.{IsStrictlyIncreasing}
 use Rattle.std.proofs.lemmas.Bool.{cases_eq, cases_lt, eq-eqb, ne_eqb}
 use Rattle.std.proofs.lemmas.List.{get_or_default, take_more}
-use Rattle.std.proofs.lemmas.List.Edits.{get_or-insert_below, get_or-insert_at, get_or-insert_above, length-insert}
 use Rattle.std.proofs.lemmas.List.Folds.{find-append}
 use Rattle.std.proofs.lemmas.List.Kept.{AllPairs-from_increasing}
 use Rattle.flow_model.specs.declared.labels.Label.{Label}
@@ -72,7 +71,7 @@ place_is_free es ls q i at = beside_none es ls q (λ k w same. ⊎_elim
 pub beside_insert : (es ls : List ℕ) (i e l q : ℕ) → i ≤ length es → length ls ≡ length es → leaf_beside es ls e ≡ None →
     leaf_beside (insert es i e) (insert ls i l) q ≡ with_leaf e l (leaf_beside es ls q) q
 beside_insert es ls zero e l q within same free = elim (cases_eq e q) [
-  | inl is ↦ 
+  | inl is ↦
       let t : (e == q) ≡ true = eq-eqb e q is in
       let none : leaf_beside es ls q ≡ None = ap (leaf_beside es ls) (sym is) ∙ free in
       ap (λ b. if b then Some l else leaf_beside es ls q) t
@@ -108,33 +107,7 @@ pub beside_stays : (es ls : List ℕ) (e l q : ℕ) → IsStrictlyIncreasing es 
 beside_stays es ls e l q rising same noted = elim (cases_eq e q) [
   | inl is ↦
       let found : leaf_beside es ls q ≡ Some (get_or ls noted.0 0) =
-          beside_at es ls noted.0 q (λ k h. omega (arith, is, noted.2, rising_pairs es rising k noted.0 h noted.1)) noted.1 same (noted.2 ∙ is) in
+      beside_at es ls noted.0 q (λ k h. omega (arith, is, noted.2, rising_pairs es rising k noted.0 h noted.1)) noted.1 same (noted.2 ∙ is) in
       found ∙ sym (ap (λ o. with_leaf e l o q) found)
   | inr n ↦ none_on (leaf_beside es ls q) ∙ ap (λ b. option_or (leaf_beside es ls q) (if b then Some l else None)) (sym (ne_eqb e q n))
 ]
-
--- events rise with one more at its place
-pub rising_insert : (es : List ℕ) (e i : ℕ) → IsStrictlyIncreasing es → IsPlaceFor es e i → IsStrictlyIncreasing (insert es i e)
-rising_insert es e i rising at k within =
-    let long : length (insert es i e) ≡ length es + 1 = length-insert es i e at.0 in
-    ⊎_elim
-    (λ before. ⊎_elim
-        (λ (h : k + 1 < i). omega (arith, get_or-insert_below es i e 0 k before at.0, get_or-insert_below es i e 0 (k + 1) h at.0, rising_pairs es rising k (k + 1) (omega arith) (omega (arith, at.0))))
-        (λ (h : i ≤ k + 1).
-            let here : i ≡ k + 1 = omega arith in
-            let new : get_or (insert es i e) (k + 1) 0 ≡ e = subst (λ (n : ℕ). get_or (insert es i e) n 0 ≡ e) here (get_or-insert_at es i e 0 at.0) in
-            omega (arith, new, get_or-insert_below es i e 0 k before at.0, at.1 k before))
-        (cases_lt (k + 1) i))
-    (λ after.
-        let next = get_or-insert_above es i e 0 k after at.0 in
-        ⊎_elim
-        (λ (h : i < k).
-            let back : (k - 1) + 1 ≡ k = omega arith in
-            let this : get_or (insert es i e) k 0 ≡ get_or es (k - 1) 0 = subst (λ (n : ℕ). get_or (insert es i e) n 0 ≡ get_or es (k - 1) 0) back (get_or-insert_above es i e 0 (k - 1) (omega arith) at.0) in
-            omega (arith, next, this, rising_pairs es rising (k - 1) k (omega arith) (omega (arith, long, within))))
-        (λ (h : k ≤ i).
-            let here : i ≡ k = omega arith in
-            let new : get_or (insert es i e) k 0 ≡ e = subst (λ (n : ℕ). get_or (insert es i e) n 0 ≡ e) here (get_or-insert_at es i e 0 at.0) in
-            omega (arith, new, next, at.2 k after (omega (arith, long, within))))
-        (cases_lt i k))
-    (cases_lt k i)

@@ -10,8 +10,13 @@ returns-then-last-event-clause-free c =
       omega arith,
       λ k within.
           let end = length events - 1 in
-          omega (arith, never_falls events c.requires k end (omega (arith, within)) (omega (arith, within)),
-            get_or_default events end 0 c.in-Some.last.now (omega (arith, within)), c.in-Some.ensures.item, c.if-last-event.true),
+          omega (
+            arith,
+            never_falls events c.requires k end (omega (arith, within)) (omega (arith, within)),
+            get_or_default events end 0 c.in-Some.last.now (omega (arith, within)),
+            c.in-Some.ensures.item,
+            c.if-last-event.true,
+          ),
       λ k after within. absurd (omega (arith, after, within)),
     )
 
