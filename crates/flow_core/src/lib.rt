@@ -1,13 +1,11 @@
 //! One run of a workflow: its history, entry by entry, each of them legal.
 #![tactic(auto)]
 
-mod engine;
-mod given;
-mod look;
+mod ask;
+mod next;
 mod refusal;
-#[cfg(test)]
-mod tests;
 
-pub use engine::Core;
+pub use ask::{Ask, Told};
 pub use flow_model::{Call, Entry, FailEffect, Step};
-pub use refusal::{CommitRefusal, PostRefusal, TakeRefusal};
+pub use next::Next;
+pub use refusal::{CommitRefusal, DoRefusal, PostRefusal, RewindRefusal, TakeRefusal};

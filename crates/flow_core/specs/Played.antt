@@ -1,0 +1,1 @@
+-- A list of asks, one after another.
