@@ -2,10 +2,17 @@
 #![tactic(auto)]
 
 mod ask;
+mod core;
+mod ending;
+mod looking;
 mod next;
+mod performing;
+mod posting;
 mod refusal;
+mod taking;
 
 pub use ask::{Ask, Told};
+pub use core::Core;
 pub use flow_model::{Call, Entry, FailEffect, Step};
 pub use next::Next;
 pub use refusal::{CommitRefusal, DoRefusal, PostRefusal, RewindRefusal, TakeRefusal};
