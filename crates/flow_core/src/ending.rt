@@ -1,6 +1,6 @@
 ghost use Rattle.std.specs.Prelude.{◌≡◌};
 
-use crate::core::Core;
+use crate::engine::Core;
 use crate::refusal::{CommitRefusal, RewindRefusal};
 use flow_model::{Entry, Step};
 

@@ -2,8 +2,8 @@
 #![tactic(auto)]
 
 mod ask;
-mod core;
 mod ending;
+mod engine;
 mod looking;
 mod next;
 mod performing;
@@ -12,7 +12,7 @@ mod refusal;
 mod taking;
 
 pub use ask::{Ask, Told};
-pub use core::Core;
+pub use engine::Core;
 pub use flow_model::{Call, Entry, FailEffect, Step};
 pub use next::Next;
 pub use refusal::{CommitRefusal, DoRefusal, PostRefusal, RewindRefusal, TakeRefusal};

@@ -1,6 +1,6 @@
 ghost use Rattle.std.specs.Prelude.{◌≡◌, ◌↔◌, IsTrue};
 
-use crate::core::Core;
+use crate::engine::Core;
 use crate::next::Next;
 use flow_model::{Call, Label};
 

@@ -4,7 +4,7 @@ ghost use Rattle.flow_model.specs.Schema.{IsOtherLeaf};
 ghost use Rattle.flow_model.specs.Run.{database, CanDoAside};
 ghost use Rattle.flow_model.specs.declared.history.Step.TheVariants.{Did};
 
-use crate::core::Core;
+use crate::engine::Core;
 use crate::refusal::DoRefusal;
 use flow_model::{Entry, Label, Step};
 

@@ -3,7 +3,7 @@ ghost use Rattle.flow_model.specs.declared.history.FailEffect.TheVariants as eff
 ghost use Rattle.flow_model.specs.declared.history.Step.TheVariants.{Done, Failed, Late};
 ghost use Rattle.flow_model.specs.Run.{leaf_of_claim, IsCurrent};
 
-use crate::core::Core;
+use crate::engine::Core;
 use crate::refusal::PostRefusal;
 use flow_claims::Given;
 use flow_model::{Entry, FailEffect, Step};

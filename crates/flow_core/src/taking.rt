@@ -5,7 +5,7 @@ ghost use Rattle.flow_model.specs.Run.{CanTake};
 ghost use Rattle.flow_model.specs.Verdict.{call_of};
 ghost use Rattle.flow_model.specs.declared.history.Step.TheVariants.{Took};
 
-use crate::core::Core;
+use crate::engine::Core;
 use crate::refusal::TakeRefusal;
 use flow_model::{Call, Entry, Label, Step};
 
