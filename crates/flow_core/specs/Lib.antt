@@ -1,7 +1,7 @@
-pub mod Run
-pub mod Lawful
-pub mod Answers
-pub mod Looks
-pub mod Played
+pub mod Look
+pub mod Given
+pub mod View
 pub mod Kept
 pub mod Fields
+pub mod Claims
+pub mod Lawful

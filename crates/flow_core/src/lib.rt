@@ -1,18 +1,13 @@
 //! One run of a workflow: its history, entry by entry, each of them legal.
 #![tactic(auto)]
 
-mod ask;
-mod ending;
 mod engine;
-mod looking;
-mod next;
-mod performing;
-mod posting;
+mod given;
+mod look;
 mod refusal;
-mod taking;
+#[cfg(test)]
+mod tests;
 
-pub use ask::{Ask, Told};
 pub use engine::Core;
 pub use flow_model::{Call, Entry, FailEffect, Step};
-pub use next::Next;
-pub use refusal::{CommitRefusal, DoRefusal, PostRefusal, RewindRefusal, TakeRefusal};
+pub use refusal::{CommitRefusal, PostRefusal, TakeRefusal};

@@ -9,8 +9,8 @@ use crate::refusal::DoRefusal;
 use flow_model::{Entry, Label, Step};
 
 impl Core {
-    ghost use Rattle.flow_core.specs.Run.{schema, now, with_entry, GoesOn, HasSteps};
-    ghost use Rattle.flow_core.specs.Answers.{Performs};
+    ghost use Rattle.flow_engine.specs.Run.{schema, now, with_entry, GoesOn, HasSteps};
+    ghost use Rattle.flow_engine.specs.Answers.{Performs};
 
     /// Does a leaf that is no event: its test holds, or its update is made.
     pub fn perform(&mut self, leaf: u32, by: u32) -> Result<(), DoRefusal>

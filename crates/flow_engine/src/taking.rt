@@ -10,8 +10,8 @@ use crate::refusal::TakeRefusal;
 use flow_model::{Call, Entry, Label, Step};
 
 impl Core {
-    ghost use Rattle.flow_core.specs.Run.{schema, now, with_entry, GoesOn, HasSteps};
-    ghost use Rattle.flow_core.specs.Answers.{Takes, next_claim};
+    ghost use Rattle.flow_engine.specs.Run.{schema, now, with_entry, GoesOn, HasSteps};
+    ghost use Rattle.flow_engine.specs.Answers.{Takes, next_claim};
 
     /// Gives a claim on an event's leaf: leave to perform its task.
     pub fn take(&mut self, leaf: u32, by: u32) -> Result<Call, TakeRefusal>

@@ -10,17 +10,17 @@ use Rattle.flow_model.specs.Facts.{HoldsAt}
 use Rattle.flow_model.specs.Schema.{IsEventLeaf, IsOtherLeaf, IsGood}
 use Rattle.flow_model.specs.Run.{Claim, RunState, claim_at, current_claims, database, leaf_of_claim, IsCurrent, IsFree, IsOpen, IsOpenIndex, CanTake, CanDoAside}
 use Rattle.flow_model.specs.Verdict.{call_of}
-use Rattle.flow_core.specs.declared.refusal.TakeRefusal.{TakeRefusal}
-use Rattle.flow_core.specs.declared.refusal.TakeRefusal.TheVariants as take
-use Rattle.flow_core.specs.declared.refusal.DoRefusal.{DoRefusal}
-use Rattle.flow_core.specs.declared.refusal.DoRefusal.TheVariants as perform
-use Rattle.flow_core.specs.declared.refusal.PostRefusal.{PostRefusal}
-use Rattle.flow_core.specs.declared.refusal.PostRefusal.TheVariants as post
-use Rattle.flow_core.specs.declared.refusal.RewindRefusal.{RewindRefusal}
-use Rattle.flow_core.specs.declared.refusal.RewindRefusal.TheVariants as rewind
-use Rattle.flow_core.specs.declared.refusal.CommitRefusal.{CommitRefusal}
-use Rattle.flow_core.specs.declared.refusal.CommitRefusal.TheVariants as commit
-use Rattle.flow_core.specs.Run.{Run, schema, now, with_entry, GoesOn, HasSteps}
+use Rattle.flow_engine.specs.declared.refusal.TakeRefusal.{TakeRefusal}
+use Rattle.flow_engine.specs.declared.refusal.TakeRefusal.TheVariants as take
+use Rattle.flow_engine.specs.declared.refusal.DoRefusal.{DoRefusal}
+use Rattle.flow_engine.specs.declared.refusal.DoRefusal.TheVariants as perform
+use Rattle.flow_engine.specs.declared.refusal.PostRefusal.{PostRefusal}
+use Rattle.flow_engine.specs.declared.refusal.PostRefusal.TheVariants as post
+use Rattle.flow_engine.specs.declared.refusal.RewindRefusal.{RewindRefusal}
+use Rattle.flow_engine.specs.declared.refusal.RewindRefusal.TheVariants as rewind
+use Rattle.flow_engine.specs.declared.refusal.CommitRefusal.{CommitRefusal}
+use Rattle.flow_engine.specs.declared.refusal.CommitRefusal.TheVariants as commit
+use Rattle.flow_engine.specs.Run.{Run, schema, now, with_entry, GoesOn, HasSteps}
 
 -- the run is over
 abbrev pub IsOver : Run → Type 0

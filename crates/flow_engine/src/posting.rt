@@ -9,8 +9,8 @@ use flow_claims::Given;
 use flow_model::{Entry, FailEffect, Step};
 
 impl Core {
-    ghost use Rattle.flow_core.specs.Run.{schema, now, with_entry, GoesOn, HasSteps};
-    ghost use Rattle.flow_core.specs.Answers.{PostsDone, PostsFailed, HasEffect, IsLateOf};
+    ghost use Rattle.flow_engine.specs.Run.{schema, now, with_entry, GoesOn, HasSteps};
+    ghost use Rattle.flow_engine.specs.Answers.{PostsDone, PostsFailed, HasEffect, IsLateOf};
 
     /// Posts that the claim's task succeeded: its leaf goes on the journal.
     pub fn done(&mut self, claim: u32, by: u32) -> Result<(), PostRefusal>

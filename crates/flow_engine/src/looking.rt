@@ -5,7 +5,7 @@ use crate::next::Next;
 use flow_model::{Call, Label};
 
 impl Core {
-    ghost use Rattle.flow_core.specs.Looks.{CanAct, IsWaiting, IsNext};
+    ghost use Rattle.flow_engine.specs.Looks.{CanAct, IsWaiting, IsNext};
 
     /// Whether the leaf can be taken or done.
     pub fn can_act(&self, leaf: u32) -> bool

@@ -2,10 +2,10 @@
 use Rattle.std.specs.Prelude.{◌≡◌, ◌≤◌, ℕ, true, [], ◌⊎◌}
 use Rattle.flow_model.specs.Schema.{IsGood}
 use Rattle.flow_model.specs.Run.{RunState, current_claims, CanTake, CanDo, IsStuck, Waits}
-use Rattle.flow_core.specs.declared.next.Next.{Next}
-use Rattle.flow_core.specs.declared.next.Next.TheVariants.{Act, Wait, Finished, Stuck, Ended}
-use Rattle.flow_core.specs.Run.{Run, schema, now, GoesOn}
-use Rattle.flow_core.specs.Answers.{IsOver, IsLeastCurrent}
+use Rattle.flow_engine.specs.declared.next.Next.{Next}
+use Rattle.flow_engine.specs.declared.next.Next.TheVariants.{Act, Wait, Finished, Stuck, Ended}
+use Rattle.flow_engine.specs.Run.{Run, schema, now, GoesOn}
+use Rattle.flow_engine.specs.Answers.{IsOver, IsLeastCurrent}
 
 -- the run is not over, and the leaf can be taken or done
 abbrev pub CanAct : Run → ℕ → Type 0

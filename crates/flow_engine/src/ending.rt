@@ -5,8 +5,8 @@ use crate::refusal::{CommitRefusal, RewindRefusal};
 use flow_model::{Entry, Step};
 
 impl Core {
-    ghost use Rattle.flow_core.specs.Run.{schema, now, with_entry, GoesOn, HasSteps};
-    ghost use Rattle.flow_core.specs.Answers.{Rewinds, Commits};
+    ghost use Rattle.flow_engine.specs.Run.{schema, now, with_entry, GoesOn, HasSteps};
+    ghost use Rattle.flow_engine.specs.Answers.{Rewinds, Commits};
 
     /// Goes back to the last place at which another choice is still free, and answers that place.
     pub fn rewind(&mut self, by: u32) -> Result<u32, RewindRefusal>

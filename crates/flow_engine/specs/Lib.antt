@@ -1,0 +1,7 @@
+pub mod Run
+pub mod Lawful
+pub mod Answers
+pub mod Looks
+pub mod Played
+pub mod Kept
+pub mod Fields
