@@ -1,1 +1,2 @@
+pub mod BitFlags
 pub mod Places

@@ -8,17 +8,19 @@ use std::marker::Model;
 /// A set of facts, by their numbers below a count. Nothing but `new` takes memory.
 #[derive(Drop)]
 pub struct Database {
-    flags: Vec<bool>,
+    count: u32,
+    words: Vec<u64>,
 }
 
 impl Model for Database {
-    ghost use Rattle.std.specs.Prelude.{List, Bool, length, ◌<◌, ◌^◌};
+    ghost use Rattle.std.specs.Prelude.{List, Bool, length, ◌≤◌, ◌*◌};
+    ghost use Rattle.flow_facts.specs.Held.{flags_of};
 
     ghost Value = { List Bool };
 
-    ghost view = { λ d. d.flags.items };
+    ghost view = { λ d. flags_of d.count d.words.items };
 
-    ghost invariant = { λ d. length d.flags.items < 2 ^ 32 };
+    ghost invariant = { λ d. d.count ≤ 64 * length d.words.items };
 }
 
 impl Database {
@@ -28,25 +30,26 @@ impl Database {
         ensures count { IfOk result (λ facts. length facts ≡ count) }
         ensures held { IfOk result (λ facts. (n : ℕ) → is_held facts n ≡ list_any (λ h. h == n) held.now) }
     {
-        let mut flags = vec![in alloc; false; count as usize]?;
+        let words = vec![in alloc; 0; count.div_ceil(64) as usize]?;
+        let mut facts = Database { count, words };
         for fact in held {
-            flags[*fact as usize] = true;
+            facts.insert(*fact);
         }
-        Ok(Database { flags })
+        Ok(facts)
     }
 
     /// How many facts there may be.
     pub fn count(&self) -> u32
         ensures { result ≡ length self.now }
     {
-        self.flags.len() as u32
+        self.count
     }
 
     pub fn has(&self, fact: u32) -> bool
         requires { fact < length self.now }
         ensures { result ≡ is_held self.now fact }
     {
-        self.flags[fact as usize]
+        self.words[(fact / 64) as usize] >> (fact % 64) & 1 == 1
     }
 
     /// Puts the fact in, and says whether it was not there.
@@ -57,7 +60,7 @@ impl Database {
         ensures count { length self.new ≡ length self.old }
     {
         let was_held = self.has(fact);
-        self.flags[fact as usize] = true;
+        self.words[(fact / 64) as usize] |= 1 << (fact % 64);
         !was_held
     }
 
@@ -68,9 +71,9 @@ impl Database {
         ensures held { (n : ℕ) → is_held self.new n ≡ (if n == fact then false else is_held self.old n) }
         ensures count { length self.new ≡ length self.old }
     {
-        let found = self.has(fact);
-        self.flags[fact as usize] = false;
-        found
+        let was_held = self.has(fact);
+        self.words[(fact / 64) as usize] &= !(1 << (fact % 64));
+        was_held
     }
 
     /// Puts the fact in or takes it out, as it was before.
@@ -79,6 +82,10 @@ impl Database {
         ensures held { (n : ℕ) → is_held self.new n ≡ (if n == fact then held else is_held self.old n) }
         ensures count { length self.new ≡ length self.old }
     {
-        self.flags[fact as usize] = held;
+        if held {
+            self.insert(fact);
+        } else {
+            self.delete(fact);
+        }
     }
 }

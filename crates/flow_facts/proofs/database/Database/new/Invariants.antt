@@ -5,6 +5,6 @@ use Rattle.flow_facts.proofs.database.Database.new.Given as goal
 
 abbrev pub invariant-loop-fact : goal.invariant-loop-fact
 invariant-loop-fact l = record {
-  count : length l.flags.items ≡ l.count;
-  held : (n : ℕ) → is_held l.flags.items n ≡ list_any (λ h. h == n) (take l.fact-index l.held);
+  count : length l.facts ≡ l.count;
+  held : (n : ℕ) → is_held l.facts n ≡ list_any (λ h. h == n) (take l.fact-index l.held);
 }

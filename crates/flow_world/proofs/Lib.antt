@@ -1,0 +1,3 @@
+pub mod JournalLabels
+pub mod Members
+pub mod Trails
