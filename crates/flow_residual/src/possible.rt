@@ -1,5 +1,5 @@
 ghost use Rattle.std.specs.Prelude.{◌≡◌, ◌<◌, ◌↔◌, ℕ, IsTrue, [], ◌∷◌, ◌++◌, length, MatchOption};
-ghost use Rattle.flow_model.specs.Run.{RunState, current_leaves, IsOpen, IsOpenIndex};
+ghost use Rattle.flow_model.specs.Run.{RunState, IsOpen, IsOpenIndex};
 ghost use Rattle.flow_model.specs.Schema.{Schema, IsGood};
 ghost use Rattle.flow_residual.specs.Possible.{SomeOption, IsOpenFor};
 ghost use Rattle.flow_residual.specs.Remaining.{IsOf, MayAllFollow, MayFollowFirst, MayComeNext, IsAvoidable};
@@ -10,7 +10,7 @@ use crate::residual::Residual;
 impl Residual {
     /// Whether, in some one option, the claimed leaves and this one may follow in every order.
     pub fn legal_take(&self, claims: &[u32], leaf: u32) -> bool
-        ensures { (w : Schema) (s : RunState) → IsOf w s self.now → current_leaves s ≡ claims.now →
+        ensures { (w : Schema) (s : RunState) → IsOf w s self.now →
             IsTrue result ↔ MayAllFollow w s (claims.now ++ leaf ∷ []) }
     {
         let done = self.done();
@@ -24,7 +24,7 @@ impl Residual {
 
     /// Whether, in some one option, the leaf may come next, and the claimed leaves then in every order.
     pub fn legal_do(&self, claims: &[u32], leaf: u32) -> bool
-        ensures first { (w : Schema) (s : RunState) → IsOf w s self.now → current_leaves s ≡ claims.now →
+        ensures first { (w : Schema) (s : RunState) → IsOf w s self.now →
             IsTrue result ↔ MayFollowFirst w s leaf claims.now }
         ensures alone { claims.now ≡ [] → IsTrue result ↔ MayComeNext self.now leaf }
     {

@@ -8,7 +8,7 @@ use Rattle.flow_residual.proofs.residual.Residual.legal_do.Goals as goal
 use Rattle.flow_residual.proofs.residual.Residual.legal_do.Goals.{else-is_live-via-then-is_live+else-may_follow, else-is_live-via-else-is_live}
 
 pub returns-then-may_follow-clause-first : goal.returns-then-may_follow-clause-first
-returns-then-may_follow-clause-first c w s of claims =
+returns-then-may_follow-clause-first c w s of =
     let r = c.args.self.now in
     let live = (c.is_live.ensures (option_of c.plan.result.now) c.plan.ensures.at).0 c.if-is_live.true in
     let both = (takes_first_after c.plan.result.now c.done-done.result r.journal c.done-done.ensures.same c.args.leaf c.args.claims.now).0 (c.may_follow.ensures.0 c.if-may_follow.true) in
@@ -38,7 +38,7 @@ loop-place-preserved c =
     ])
 
 pub returns-clause-first : goal.returns-clause-first
-returns-clause-first c w s of claims =
+returns-clause-first c w s of =
     let r = c.args.self.now in
     let past : length r.options ≤ c.loop-place.place = omega (arith, c.count-place-end.ensures, c.loop-place-test.false) in
     in_words false (SomeOption (TakesFirst r c.args.leaf c.args.claims.now) r.options) (MayFollowFirst w s c.args.leaf c.args.claims.now)

@@ -9,7 +9,7 @@ use Rattle.flow_residual.proofs.residual.Residual.legal_take.Goals as goal
 use Rattle.flow_residual.proofs.residual.Residual.legal_take.Goals.{else-is_live-via-then-is_live+else-side_by_side, else-is_live-via-else-is_live}
 
 pub returns-then-side_by_side : goal.returns-then-side_by_side
-returns-then-side_by_side c w s of claims =
+returns-then-side_by_side c w s of =
     let r = c.args.self.now in
     let list : List ℕ = c.args.claims.now ++ c.args.leaf ∷ [] in
     let o : ChoiceOption = option_of c.plan.result.now in
@@ -32,7 +32,7 @@ loop-place-preserved c =
     ])
 
 pub returns : goal.returns
-returns c w s of claims =
+returns c w s of =
     let r = c.args.self.now in
     let list : List ℕ = c.args.claims.now ++ c.args.leaf ∷ [] in
     let past : length r.options ≤ c.loop-place.place = omega (arith, c.count-place-end.ensures, c.loop-place-test.false) in

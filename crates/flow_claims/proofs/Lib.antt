@@ -1,0 +1,5 @@
+pub mod Numbering
+pub mod Outstanding
+pub mod Counting
+pub mod Renewing
+pub mod Thinning

@@ -1,0 +1,241 @@
+-- What a new epoch does to the claims as the code keeps them.
+use Rattle.std.proofs.Common.{◌≡◌, ◌≤◌, ◌<◌, ◌+◌, ℕ, zero, suc, Bool, true, false, ◌&&◌, not, cond, if◌then◌else◌, ◌==◌, List, [], ◌∷◌, ◌++◌, length, set, drop, get_or, refl, sym, ap, ◌∙◌, subst, subst₂, arith, append_assoc}
+use Rattle.std.proofs.lemmas.Bool.{eq-eqb, ne_eqb}
+use Rattle.std.proofs.lemmas.List.{at_drop_more}
+use Rattle.flow_model.specs.Lists.{Each}
+use Rattle.flow_model.specs.Schema.{Schema}
+use Rattle.flow_model.specs.Decided.{can_all_follow}
+use Rattle.flow_model.specs.Run.{RunState, spare}
+use Rattle.flow_laws.proofs.ClaimLemmas.{and_false}
+use Rattle.flow_claims.specs.declared.given.Given.{Given}
+use Rattle.flow_claims.specs.Given.{claim_of, claims_from, is_out, out_places, out_leaves, with_epoch, renewed_at}
+use Rattle.flow_claims.specs.Claimed.{count_of}
+use Rattle.flow_claims.specs.Fields.{events_of, claimed, AreCounted, IsKept}
+use Rattle.flow_claims.specs.Sparing.{staying, head, tail, picked}
+
+-- of the next epoch where the bit says so
+abbrev pub renewed : ℕ → Bool → Given → Given
+renewed e bit g = if bit then record g { epoch = e + 1 } else g
+
+-- each that is out takes one bit
+abbrev pub renew : ℕ → List Bool → List Given → List Given
+renew e bits [] = []
+renew e bits (g ∷ gs) = cond (is_out e g) (renewed e (head bits) g ∷ renew e (tail bits) gs) (g ∷ renew e bits gs)
+
+-- ---- by the places
+
+with_epoch_at : (e k : ℕ) (front : List Given) (g : Given) (gs : List Given) → length front ≡ k →
+    with_epoch e k (front ++ g ∷ gs) ≡ front ++ record g { epoch = e } ∷ gs
+with_epoch_at e k front g gs h = subst (λ n. with_epoch e n (front ++ g ∷ gs) ≡ front ++ record g { epoch = e } ∷ gs) h (there front)
+  where
+    there : (front : List Given) → with_epoch e (length front) (front ++ g ∷ gs) ≡ front ++ record g { epoch = e } ∷ gs
+    there [] = refl
+    there (x ∷ front) = ap (λ l. x ∷ l) (there front)
+
+length-with_one : (front : List Given) (g : Given) (k : ℕ) → length front ≡ k → length (front ++ g ∷ []) ≡ k + 1
+length-with_one front g k h = omega (arith, there front)
+  where
+    there : (front : List Given) → length (front ++ g ∷ []) ≡ suc (length front)
+    there [] = refl
+    there (x ∷ front) = ap suc (there front)
+
+pub renewed_at_places : (e k : ℕ) (bits : List Bool) (front gs : List Given) → length front ≡ k →
+    renewed_at (e + 1) (picked bits (out_places e k gs)) (front ++ gs) ≡ front ++ renew e bits gs
+renewed_at_places e k bits front [] h = refl
+renewed_at_places e k bits front (g ∷ gs) h =
+    step (is_out e g) (λ bits x.
+    ap (renewed_at (e + 1) (picked bits (out_places e (k + 1) gs))) (sym (append_assoc front (x ∷ []) gs))
+    ∙ renewed_at_places e (k + 1) bits (front ++ x ∷ []) gs (length-with_one front x k h)
+    ∙ append_assoc front (x ∷ []) (renew e bits gs))
+  where
+    chosen : (bit : Bool) → ((bits : List Bool) (x : Given) → renewed_at (e + 1) (picked bits (out_places e (k + 1) gs)) (front ++ x ∷ gs) ≡ front ++ x ∷ renew e bits gs) →
+        renewed_at (e + 1) (cond bit (k ∷ picked (tail bits) (out_places e (k + 1) gs)) (picked (tail bits) (out_places e (k + 1) gs))) (front ++ g ∷ gs)
+        ≡ front ++ renewed e bit g ∷ renew e (tail bits) gs
+    chosen true rest =
+        ap (renewed_at (e + 1) (picked (tail bits) (out_places e (k + 1) gs))) (with_epoch_at (e + 1) k front g gs h)
+        ∙ rest (tail bits) (record g { epoch = e + 1 })
+    chosen false rest = rest (tail bits) g
+
+    step : (out : Bool) → ((bits : List Bool) (x : Given) → renewed_at (e + 1) (picked bits (out_places e (k + 1) gs)) (front ++ x ∷ gs) ≡ front ++ x ∷ renew e bits gs) →
+        renewed_at (e + 1) (picked bits (cond out (k ∷ out_places e (k + 1) gs) (out_places e (k + 1) gs))) (front ++ g ∷ gs)
+        ≡ front ++ cond out (renewed e (head bits) g ∷ renew e (tail bits) gs) (g ∷ renew e bits gs)
+    step true rest = chosen (head bits) rest
+    step false rest = rest bits g
+
+-- ---- those that are out in the new epoch
+
+old_is_not_out : (e : ℕ) (g : Given) → g.epoch ≤ e → is_out (e + 1) g ≡ false
+old_is_not_out e g h = ap (λ b. not g.answered && b) (ne_eqb g.epoch (e + 1) (omega arith)) ∙ and_false (not g.answered)
+
+renewed_is_out : (e : ℕ) (bit : Bool) (g : Given) → g.epoch ≤ e → is_out e g ≡ true → is_out (e + 1) (renewed e bit g) ≡ bit
+renewed_is_out e true g h out = unanswered g.answered out
+  where
+    unanswered : (a : Bool) → not a && (g.epoch == e) ≡ true → not a && ((e + 1) == (e + 1)) ≡ true
+    unanswered true k = k
+    unanswered false k = eq-eqb (e + 1) (e + 1) refl
+renewed_is_out e false g h out = old_is_not_out e g h
+
+pub places_renewed : (e k : ℕ) (bits : List Bool) (gs : List Given) → Each (λ (g : Given). g.epoch ≤ e) gs →
+    out_places (e + 1) k (renew e bits gs) ≡ picked bits (out_places e k gs)
+places_renewed e k bits [] h = refl
+places_renewed e k bits (g ∷ gs) (h, t) = step (is_out e g) refl (λ bits. places_renewed e (k + 1) bits gs t)
+  where
+    step : (out : Bool) → is_out e g ≡ out → ((bits : List Bool) → out_places (e + 1) (k + 1) (renew e bits gs) ≡ picked bits (out_places e (k + 1) gs)) →
+        out_places (e + 1) k (cond out (renewed e (head bits) g ∷ renew e (tail bits) gs) (g ∷ renew e bits gs))
+        ≡ picked bits (cond out (k ∷ out_places e (k + 1) gs) (out_places e (k + 1) gs))
+    step true o more =
+        let rest = out_places (e + 1) (k + 1) (renew e (tail bits) gs) in
+        ap (λ b. cond b (k ∷ rest) rest) (renewed_is_out e (head bits) g h o)
+        ∙ ap (λ l. cond (head bits) (k ∷ l) l) (more (tail bits))
+    step false o more =
+        let rest = out_places (e + 1) (k + 1) (renew e bits gs) in
+        ap (λ b. cond b (k ∷ rest) rest) (old_is_not_out e g h) ∙ more bits
+
+same_leaf : (e : ℕ) (bit : Bool) (g : Given) → (renewed e bit g).leaf ≡ g.leaf
+same_leaf e true g = refl
+same_leaf e false g = refl
+
+same_event : (e : ℕ) (bit : Bool) (g : Given) → (renewed e bit g).event ≡ g.event
+same_event e true g = refl
+same_event e false g = refl
+
+pub leaves_renewed : (e : ℕ) (bits : List Bool) (gs : List Given) → Each (λ (g : Given). g.epoch ≤ e) gs →
+    out_leaves (e + 1) (renew e bits gs) ≡ picked bits (out_leaves e gs)
+leaves_renewed e bits [] h = refl
+leaves_renewed e bits (g ∷ gs) (h, t) = step (is_out e g) refl (λ bits. leaves_renewed e bits gs t)
+  where
+    step : (out : Bool) → is_out e g ≡ out → ((bits : List Bool) → out_leaves (e + 1) (renew e bits gs) ≡ picked bits (out_leaves e gs)) →
+        out_leaves (e + 1) (cond out (renewed e (head bits) g ∷ renew e (tail bits) gs) (g ∷ renew e bits gs))
+        ≡ picked bits (cond out (g.leaf ∷ out_leaves e gs) (out_leaves e gs))
+    step true o more =
+        let rest = out_leaves (e + 1) (renew e (tail bits) gs) in
+        ap (λ n. cond (is_out (e + 1) (renewed e (head bits) g)) (n ∷ rest) rest) (same_leaf e (head bits) g)
+        ∙ ap (λ b. cond b (g.leaf ∷ rest) rest) (renewed_is_out e (head bits) g h o)
+        ∙ ap (λ l. cond (head bits) (g.leaf ∷ l) l) (more (tail bits))
+    step false o more =
+        let rest = out_leaves (e + 1) (renew e bits gs) in
+        ap (λ b. cond b (g.leaf ∷ rest) rest) (old_is_not_out e g h) ∙ more bits
+
+-- ---- what stays
+
+pub events_renewed : (e : ℕ) (bits : List Bool) (gs : List Given) → events_of (renew e bits gs) ≡ events_of gs
+events_renewed e bits [] = refl
+events_renewed e bits (g ∷ gs) = step (is_out e g) (λ bits. events_renewed e bits gs)
+  where
+    step : (out : Bool) → ((bits : List Bool) → events_of (renew e bits gs) ≡ events_of gs) → events_of (cond out (renewed e (head bits) g ∷ renew e (tail bits) gs) (g ∷ renew e bits gs)) ≡ g.event ∷ events_of gs
+    step true more = ap (λ n. n ∷ events_of (renew e (tail bits) gs)) (same_event e (head bits) g) ∙ ap (λ l. g.event ∷ l) (more (tail bits))
+    step false more = ap (λ l. g.event ∷ l) (more bits)
+
+epochs_renewed : (e : ℕ) (bits : List Bool) (gs : List Given) → Each (λ (g : Given). g.epoch ≤ e) gs → Each (λ (g : Given). g.epoch ≤ e + 1) (renew e bits gs)
+epochs_renewed e bits [] h = tt
+epochs_renewed e bits (g ∷ gs) (h, t) = step (is_out e g) (λ bits. epochs_renewed e bits gs t)
+  where
+    one : (bit : Bool) → (renewed e bit g).epoch ≤ e + 1
+    one true = omega arith
+    one false = omega arith
+
+    step : (out : Bool) → ((bits : List Bool) → Each (λ (g : Given). g.epoch ≤ e + 1) (renew e bits gs)) →
+        Each (λ (g : Given). g.epoch ≤ e + 1) (cond out (renewed e (head bits) g ∷ renew e (tail bits) gs) (g ∷ renew e bits gs))
+    step true more = (one (head bits), more (tail bits))
+    step false more = (omega arith, more bits)
+
+counted_renewed : (before : List ℕ) (e : ℕ) (bits : List Bool) (gs : List Given) → AreCounted before gs → AreCounted before (renew e bits gs)
+counted_renewed before e bits [] h = tt
+counted_renewed before e bits (g ∷ gs) (h, t) = step (is_out e g) (λ bits. counted_renewed (before ++ g.event ∷ []) e bits gs t)
+  where
+    one : (bit : Bool) → AreCounted (before ++ g.event ∷ []) (renew e (tail bits) gs) → AreCounted before (renewed e bit g ∷ renew e (tail bits) gs)
+    one true more = (h, more)
+    one false more = (h, more)
+
+    step : (out : Bool) → ((bits : List Bool) → AreCounted (before ++ g.event ∷ []) (renew e bits gs)) →
+        AreCounted before (cond out (renewed e (head bits) g ∷ renew e (tail bits) gs) (g ∷ renew e bits gs))
+    step true more = one (head bits) (more (tail bits))
+    step false more = (h, more bits)
+
+pub kept_renew : (gs : List Given) (current leaves attempts : List ℕ) (e : ℕ) (bits : List Bool) → IsKept gs current leaves attempts e →
+    IsKept (renew e bits gs) (picked bits current) (picked bits leaves) attempts (e + 1)
+kept_renew gs current leaves attempts e bits k = record {
+  epochs = epochs_renewed e bits gs k.epochs;
+  current_are = ap (picked bits) k.current_are ∙ sym (places_renewed e 0 bits gs k.epochs);
+  leaves_are = ap (picked bits) k.leaves_are ∙ sym (leaves_renewed e bits gs k.epochs);
+  counted = counted_renewed [] e bits gs k.counted;
+  totals = λ event h. k.totals event h ∙ ap (count_of event) (sym (events_renewed e bits gs));
+}
+
+pub length-renew : (e : ℕ) (bits : List Bool) (gs : List Given) → length (renew e bits gs) ≡ length gs
+length-renew e bits [] = refl
+length-renew e bits (g ∷ gs) = step (is_out e g) (λ bits. length-renew e bits gs)
+  where
+    step : (out : Bool) → ((bits : List Bool) → length (renew e bits gs) ≡ length gs) → length (cond out (renewed e (head bits) g ∷ renew e (tail bits) gs) (g ∷ renew e bits gs)) ≡ suc (length gs)
+    step true more = ap suc (more (tail bits))
+    step false more = ap suc (more bits)
+
+pub each_picked : (P : ℕ → Type 0) (bits : List Bool) (xs : List ℕ) → Each P xs → Each P (picked bits xs)
+each_picked P bits [] h = tt
+each_picked P bits (x ∷ xs) (h, t) = step (head bits) (each_picked P (tail bits) xs t)
+  where
+    step : (bit : Bool) → Each P (picked (tail bits) xs) → Each P (cond bit (x ∷ picked (tail bits) xs) (picked (tail bits) xs))
+    step true more = (h, more)
+    step false more = more
+
+-- ---- just those are spared
+
+pub spare_is : (w : Schema) (s : RunState) (before : List ℕ) (k : ℕ) (gs : List Given) →
+    spare w s before (claims_from k gs) ≡ claims_from k (renew s.epoch (staying w s before (out_leaves s.epoch gs)) gs)
+spare_is w s before k [] = refl
+spare_is w s before k (g ∷ gs) = step (is_out s.epoch g) (λ before. spare_is w s before (k + 1) gs)
+  where
+    chosen : (test : Bool) → ((before : List ℕ) → spare w s before (claims_from (k + 1) gs) ≡ claims_from (k + 1) (renew s.epoch (staying w s before (out_leaves s.epoch gs)) gs)) →
+        (if test then record (claim_of k g) { epoch = s.epoch + 1 } ∷ spare w s (before ++ g.leaf ∷ []) (claims_from (k + 1) gs) else claim_of k g ∷ spare w s before (claims_from (k + 1) gs))
+        ≡ claims_from k (renewed s.epoch test g ∷ renew s.epoch (staying w s (if test then before ++ g.leaf ∷ [] else before) (out_leaves s.epoch gs)) gs)
+    chosen true more = ap (λ l. record (claim_of k g) { epoch = s.epoch + 1 } ∷ l) (more (before ++ g.leaf ∷ []))
+    chosen false more = ap (λ l. claim_of k g ∷ l) (more before)
+
+    step : (out : Bool) → ((before : List ℕ) → spare w s before (claims_from (k + 1) gs) ≡ claims_from (k + 1) (renew s.epoch (staying w s before (out_leaves s.epoch gs)) gs)) →
+        (if out && can_all_follow w s (before ++ g.leaf ∷ [])
+        then record (claim_of k g) { epoch = s.epoch + 1 } ∷ spare w s (before ++ g.leaf ∷ []) (claims_from (k + 1) gs)
+        else claim_of k g ∷ spare w s before (claims_from (k + 1) gs))
+        ≡ claims_from k (cond out
+        (renewed s.epoch (head (staying w s before (cond out (g.leaf ∷ out_leaves s.epoch gs) (out_leaves s.epoch gs)))) g
+        ∷ renew s.epoch (tail (staying w s before (cond out (g.leaf ∷ out_leaves s.epoch gs) (out_leaves s.epoch gs)))) gs)
+        (g ∷ renew s.epoch (staying w s before (cond out (g.leaf ∷ out_leaves s.epoch gs) (out_leaves s.epoch gs))) gs))
+    step true more = chosen (can_all_follow w s (before ++ g.leaf ∷ [])) more
+    step false more = ap (λ l. claim_of k g ∷ l) (more before)
+
+set_epoch : (e p : ℕ) (gs : List Given) (d : Given) → set gs p (record (get_or gs p d) { epoch = e }) ≡ with_epoch e p gs
+set_epoch e zero [] d = refl
+set_epoch e (suc p) [] d = refl
+set_epoch e zero (x ∷ gs) d = refl
+set_epoch e (suc p) (x ∷ gs) d = ap (λ l. x ∷ l) (set_epoch e p gs d)
+
+-- a step of the loop
+pub renewed_one : (e i : ℕ) (places : List ℕ) (gs : List Given) (d : Given) → i < length places →
+    renewed_at e (drop (i + 1) places) (set gs (get_or places i 0) (record (get_or gs (get_or places i 0) d) { epoch = e })) ≡ renewed_at e (drop i places) gs
+renewed_one e i places gs d h =
+    ap (renewed_at e (drop (i + 1) places)) (set_epoch e (get_or places i 0) gs d) ∙ sym (at_drop_more (λ ps. renewed_at e ps gs) places i 0 h)
+
+-- what the code does
+pub renewed_is : (e : ℕ) (bits : List Bool) (gs was new : List Given) (current places : List ℕ) → was ≡ gs → current ≡ out_places e 0 gs → places ≡ picked bits current →
+    new ≡ renewed_at (e + 1) places was → new ≡ renew e bits gs
+renewed_is e bits gs was new current places same are stay is =
+    is ∙ ap (renewed_at (e + 1) places) same ∙ ap (λ l. renewed_at (e + 1) l gs) (stay ∙ ap (picked bits) are) ∙ renewed_at_places e 0 bits [] gs refl
+
+pub kept_renewed : (gs new : List Given) (current new_current leaves new_leaves attempts : List ℕ) (e : ℕ) (bits : List Bool) → IsKept gs current leaves attempts e →
+    new ≡ renew e bits gs → new_current ≡ picked bits current → new_leaves ≡ picked bits leaves → IsKept new new_current new_leaves attempts (e + 1)
+kept_renewed gs new current new_current leaves new_leaves attempts e bits k is places stay =
+    subst (λ l. IsKept l new_current new_leaves attempts (e + 1)) (sym is)
+    (subst₂ (λ c l. IsKept (renew e bits gs) c l attempts (e + 1)) (sym places) (sym stay) (kept_renew gs current leaves attempts e bits k))
+
+-- just those are spared
+pub spared_claims : (w : Schema) (s : RunState) (gs new : List Given) (e : ℕ) (leaves was : List ℕ) (bits : List Bool) → s.claims ≡ claims_from 1 gs → s.epoch ≡ e →
+    leaves ≡ out_leaves e gs → was ≡ leaves → bits ≡ staying w s [] was → new ≡ renew e bits gs → claims_from 1 new ≡ spare w s [] s.claims
+spared_claims w s gs new e leaves was bits claims epoch are same stay is =
+    let all : bits ≡ staying w s [] (out_leaves s.epoch gs) = stay ∙ ap (staying w s []) (same ∙ are ∙ ap (λ n. out_leaves n gs) (sym epoch)) in
+    ap (claims_from 1) is ∙ ap (λ n. claims_from 1 (renew n bits gs)) (sym epoch) ∙ ap (λ b. claims_from 1 (renew s.epoch b gs)) all
+    ∙ sym (spare_is w s [] 1 gs) ∙ ap (spare w s []) (sym claims)
+
+pub renewed_value : (gs new : List Given) (e room kinds : ℕ) (bits : List Bool) → new ≡ renew e bits gs →
+    claimed new (e + 1) room kinds ≡ record (claimed gs e room kinds) { claims = claims_from 1 new; epoch = e + 1 }
+renewed_value gs new e room kinds bits is =
+    let events : events_of new ≡ events_of gs = ap events_of is ∙ events_renewed e bits gs in
+    λ i. record { claims = claims_from 1 new; events = events i; epoch = e + 1; room = room; kinds = kinds }

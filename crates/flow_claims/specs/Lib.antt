@@ -1,0 +1,4 @@
+pub mod Given
+pub mod Claimed
+pub mod Fields
+pub mod Sparing
