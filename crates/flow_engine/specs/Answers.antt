@@ -1,6 +1,6 @@
 -- The table of answers: what a run answers, and what it is afterwards. Of each call the causes are told in the order in which
 -- they are looked for, so each run has one answer to it.
-use Rattle.std.specs.Prelude.{◌≡◌, ◌<◌, ◌≤◌, ◌+◌, ℕ, true, false, IsTrue, IsSomeAnd, None, [], length, Result, Ok, Err, Unit}
+use Rattle.std.specs.Prelude.{◌≡◌, ◌<◌, ◌≤◌, ◌+◌, ℕ, true, false, IsTrue, IsSomeAnd, None, List, [], length, Result, Ok, Err}
 use Rattle.flow_model.specs.declared.history.Call.{Call}
 use Rattle.flow_model.specs.declared.history.FailEffect.{FailEffect}
 use Rattle.flow_model.specs.declared.history.FailEffect.TheVariants.{Switched, Kept}

@@ -54,7 +54,7 @@ impl Core {
         requires few { limit ≤ 1000000 }
         ensures { IfOk result (λ core. core ≡ record { definition = workflow; limit = limit; history = [] }) }
     {
-        let kinds = workflow.events().len() as u32;
+        let kinds = workflow.notes().len() as u32;
         let leaves = workflow.tree().leaves();
         Ok(Core {
             residual: Residual::new(alloc, compiled)?,

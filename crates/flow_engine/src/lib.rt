@@ -2,12 +2,8 @@
 #![tactic(auto)]
 
 mod ask;
-mod ending;
 mod engine;
-mod looking;
 mod next;
-mod performing;
-mod posting;
 mod refusal;
 mod taking;
 

@@ -1,0 +1,4 @@
+pub mod Following
+pub mod Steps
+pub mod Lawful
+pub mod Calls
