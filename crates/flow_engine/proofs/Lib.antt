@@ -2,3 +2,5 @@ pub mod Following
 pub mod Steps
 pub mod Lawful
 pub mod Calls
+pub mod Tests
+pub mod Standings

@@ -2,8 +2,11 @@
 #![tactic(auto)]
 
 mod ask;
+mod ending;
 mod engine;
 mod next;
+mod performing;
+mod posting;
 mod refusal;
 mod taking;
 
