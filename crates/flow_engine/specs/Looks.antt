@@ -7,9 +7,17 @@ use Rattle.flow_engine.specs.declared.next.Next.TheVariants.{Act, Wait, Finished
 use Rattle.flow_engine.specs.Run.{Run, schema, now, GoesOn}
 use Rattle.flow_engine.specs.Answers.{IsOver, IsLeastCurrent}
 
+-- it has P, and no lesser number has
+abbrev pub IsLeast : (ℕ → Type 0) → ℕ → Type 0
+IsLeast P n = P n × ((other : ℕ) → P other → n ≤ other)
+
+-- the leaf can be taken or done
+abbrev pub CanStep : Run → ℕ → Type 0
+CanStep r leaf = CanTake (schema r) (now r) leaf ⊎ CanDo (schema r) (now r) leaf
+
 -- the run is not over, and the leaf can be taken or done
 abbrev pub CanAct : Run → ℕ → Type 0
-CanAct r leaf = GoesOn r × (CanTake (schema r) (now r) leaf ⊎ CanDo (schema r) (now r) leaf)
+CanAct r leaf = GoesOn r × CanStep r leaf
 
 -- nothing is left but tests and absences that are false now, and the leaf is one of them
 abbrev pub IsWaiting : Run → ℕ → Type 0
@@ -22,7 +30,7 @@ NoneCanAct r = (leaf : ℕ) → ¬ (CanAct r leaf)
 -- least leaf that waits
 abbrev pub IsNext : Run → Next → Type 0
 IsNext r Ended = IsOver r
-IsNext r (Act leaf) = CanAct r leaf × ((other : ℕ) → CanAct r other → leaf ≤ other)
+IsNext r (Act leaf) = IsLeast (CanAct r) leaf
 IsNext r (Wait claim) = GoesOn r × NoneCanAct r × IsLeastCurrent (now r) claim
 IsNext r Finished = GoesOn r × NoneCanAct r × (current_claims (now r) ≡ []) × IsGood (schema r) (now r).journal
-IsNext r (Stuck leaf) = IsWaiting r leaf × ((other : ℕ) → IsWaiting r other → leaf ≤ other)
+IsNext r (Stuck leaf) = IsLeast (IsWaiting r) leaf

@@ -1,4 +1,4 @@
-ghost use Rattle.std.specs.Prelude.{◌≡◌, ◌≤◌, ◌↔◌, [], length, IsTrue, IfOk, MatchOption, ℕ};
+ghost use Rattle.std.specs.Prelude.{◌≡◌, ◌≤◌, ◌↔◌, [], length, false, IsTrue, IfOk, MatchOption, ℕ};
 ghost use Rattle.flow_excise.specs.Compilation.{IsCompiled};
 ghost use Rattle.flow_model.specs.Run.{database, IsCurrent, IsOpen, IsOpenIndex};
 ghost use Rattle.flow_workflow.specs.Definition.{schema_of};
@@ -105,7 +105,8 @@ impl Core {
 
     /// Whether the fact holds now; a number past the count is no fact.
     pub fn holds(&self, fact: u32) -> bool
-        ensures { result ≡ database (schema self.now) (now self.now) fact }
+        ensures now { result ≡ database (schema self.now) (now self.now) fact }
+        ensures past { length self.now.definition.facts ≤ fact → result ≡ false }
     {
         self.world.has(fact)
     }

@@ -4,6 +4,7 @@
 mod ask;
 mod ending;
 mod engine;
+mod looking;
 mod next;
 mod performing;
 mod posting;
