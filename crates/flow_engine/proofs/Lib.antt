@@ -4,3 +4,4 @@ pub mod Lawful
 pub mod Calls
 pub mod Tests
 pub mod Standings
+pub mod Waiting
