@@ -1,5 +1,5 @@
 -- Claims by their numbers, and what the gate is asked for them.
-use Rattle.std.proofs.Common.{◌≡◌, ◌≤◌, ◌<◌, ◌+◌, ℕ, zero, suc, Bool, true, false, cond, nat_eq, nat_le, ◌&&◌, List, [], ◌∷◌, ◌++◌, map, length, take, Option, Some, None, slice_get, refl, sym, ap, ◌∙◌, arith}
+use Rattle.std.proofs.Common.{◌≡◌, ◌≤◌, ◌<◌, ◌+◌, ℕ, zero, suc, Bool, true, false, cond, nat_eq, nat_le, ◌&&◌, List, [], ◌∷◌, ◌++◌, map, length, take, Option, Some, None, slice_get, IsTrue, is_some, refl, sym, ap, ◌∙◌, arith, true≢false}
 use Rattle.std.specs.List.{find, fold}
 use Rattle.std.proofs.lemmas.Bool.{eq-eqb, ne_eqb, le-leb, lt-leb}
 use Rattle.flow_model.specs.declared.labels.Label.{Label}
@@ -25,6 +25,12 @@ use Rattle.flow_engine.proofs.Steps.{events_at, label_of_event}
 pub known_event : (labels : List Label) (events facts : ℕ) → Each (IsKnown events facts) labels → (leaf event : ℕ) → event_at labels leaf ≡ Some event → event < events
 known_event labels events facts known leaf event at =
     each_at (IsKnown events facts) labels leaf (Event event) known (label_of_event labels leaf event at)
+
+-- an event's leaf has a label
+pub event_below : (labels : List Label) (n : ℕ) → IsTrue (is_some (event_at labels n)) → n < length labels
+event_below [] n h = absurd (true≢false (sym h))
+event_below (x ∷ xs) zero h = omega arith
+event_below (x ∷ xs) (suc n) h = let l : n < length xs = event_below xs n h in omega arith
 
 -- a claim whose number is past those of the others
 pub find_last : (first : ℕ) (claims : List Claim) (one : Claim) (n : ℕ) → map number_of claims ≡ numbers_from first (length claims) →

@@ -5,3 +5,4 @@ pub mod Calls
 pub mod Tests
 pub mod Standings
 pub mod Waiting
+pub mod OneAnswer

@@ -9,7 +9,7 @@ use Rattle.flow_engine.specs.declared.next.Next.TheVariants.{Act, Wait, Finished
 use Rattle.flow_engine.specs.Run.{Run, schema, now}
 use Rattle.flow_engine.specs.Looks.{CanStep, IsWaiting, IsNext}
 
-left_in : (p : Claim → Bool) (claims : List Claim) (claim : Claim) → claim ∈ claims → p claim ≡ true → ¬ (filter p claims ≡ [])
+pub left_in : (p : Claim → Bool) (claims : List Claim) (claim : Claim) → claim ∈ claims → p claim ≡ true → ¬ (filter p claims ≡ [])
 left_in p [] claim m e none = m
 left_in p (x ∷ xs) claim m e none = step (p x) refl m none (λ there. left_in p xs claim there e)
   where

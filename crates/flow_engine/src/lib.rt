@@ -10,6 +10,7 @@ mod performing;
 mod playing;
 mod posting;
 mod refusal;
+mod single;
 mod taking;
 
 pub use ask::{Ask, Told};
@@ -18,3 +19,4 @@ pub use flow_model::{Call, Entry, FailEffect, Step};
 pub use next::Next;
 pub use playing::play;
 pub use refusal::{CommitRefusal, DoRefusal, PostRefusal, RewindRefusal, TakeRefusal};
+pub use single::law_answers_are_single;
