@@ -1,0 +1,134 @@
+ghost use Rattle.std.specs.Prelude.{◌≡◌, ◌≤◌, ◌↔◌, [], length, false, IsTrue, IfOk, MatchOption, ℕ};
+ghost use Rattle.flow_excise.specs.Compilation.{IsCompiled};
+ghost use Rattle.flow_model.specs.Run.{database, IsCurrent, IsOpen, IsOpenIndex};
+ghost use Rattle.flow_workflow.specs.Definition.{schema_of};
+
+use flow_claims::Claims;
+use flow_excise::Compiled;
+use flow_model::Entry;
+use flow_residual::Residual;
+use flow_workflow::Workflow;
+use flow_world::World;
+use std::alloc::{AllocError, Global};
+use std::marker::Model;
+
+/// One run of a workflow. It keeps that its history is legal. All memory is taken when it is started.
+#[derive(Drop)]
+pub struct Core {
+    pub(crate) workflow: Workflow,
+    pub(crate) residual: Residual,
+    pub(crate) claims: Claims,
+    pub(crate) world: World,
+    pub(crate) limit: u32,
+    pub(crate) history: Vec<Entry>,
+    pub(crate) committed: bool,
+}
+
+impl Model for Core {
+    ghost use Rattle.flow_engine.specs.Run.{Run, run_code};
+
+    ghost Value = { Run };
+
+    ghost coded = { run_code };
+
+    ghost use Rattle.flow_engine.specs.Fields.{run_by, IsRunning};
+
+    ghost view = { run_by };
+
+    ghost invariant = { IsRunning };
+}
+
+impl Core {
+    ghost use Rattle.flow_engine.specs.Run.{schema, now};
+    ghost use Rattle.flow_engine.specs.Lawful.{IsLawful};
+
+    /// Starts a run with no entry yet, of at most so many.
+    pub fn start(
+        alloc: Global,
+        workflow: Workflow,
+        compiled: Compiled,
+        limit: u32,
+    ) -> Result<Core, AllocError>
+        requires compiled { IsCompiled (schema_of workflow) compiled }
+        requires some { 1 ≤ limit }
+        requires few { limit ≤ 1000000 }
+        ensures { IfOk result (λ core. core ≡ record { definition = workflow; limit = limit; history = [] }) }
+    {
+        let kinds = workflow.notes().len() as u32;
+        let leaves = workflow.tree().leaves();
+        Ok(Core {
+            residual: Residual::new(alloc, compiled)?,
+            claims: Claims::new(alloc, kinds, limit)?,
+            world: World::new(alloc, workflow.facts().count(), workflow.held(), leaves)?,
+            history: Vec::with_capacity(alloc, limit as usize)?,
+            committed: false,
+            workflow,
+            limit,
+        })
+    }
+
+    /// The workflow that is run.
+    pub fn workflow(&self) -> &Workflow
+        ensures { result.now ≡ self.now.definition }
+    {
+        &self.workflow
+    }
+
+    /// The greatest length of the history.
+    pub fn limit(&self) -> u32
+        ensures { result ≡ self.now.limit }
+    {
+        self.limit
+    }
+
+    /// The entries so far.
+    pub fn history(&self) -> &[Entry]
+        ensures entries { result.now ≡ self.now.history }
+        ensures lawful { IsLawful (schema self.now) self.now.limit self.now.history }
+    {
+        &self.history
+    }
+
+    /// The leaves that count, in order.
+    pub fn journal(&self) -> &[u32]
+        ensures { result.now ≡ (now self.now).journal }
+    {
+        self.residual.journal()
+    }
+
+    /// The present epoch.
+    pub fn epoch(&self) -> u32
+        ensures { result ≡ (now self.now).epoch }
+    {
+        self.claims.epoch()
+    }
+
+    /// Whether the fact holds now; a number past the count is no fact.
+    pub fn holds(&self, fact: u32) -> bool
+        ensures now { result ≡ database (schema self.now) (now self.now) fact }
+        ensures past { length self.now.definition.facts ≤ fact → result ≡ false }
+    {
+        self.world.has(fact)
+    }
+
+    /// Whether the run is over.
+    pub fn committed(&self) -> bool
+        ensures { result ≡ (now self.now).committed }
+    {
+        self.committed
+    }
+
+    /// The last place of the journal at which another choice is still free.
+    pub fn open_index(&self) -> Option<u32>
+        ensures { MatchOption result ((i : ℕ) → ¬ (IsOpen (schema self.now) (now self.now) i)) (IsOpenIndex (schema self.now) (now self.now)) }
+    {
+        self.residual.open_index()
+    }
+
+    /// Whether the claim was given, is unanswered and of the present epoch.
+    pub fn is_current(&self, claim: u32) -> bool
+        ensures { IsTrue result ↔ IsCurrent (now self.now) claim }
+    {
+        self.claims.is_current(claim)
+    }
+}
