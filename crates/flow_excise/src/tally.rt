@@ -1,10 +1,11 @@
 ghost use Rattle.std.specs.Prelude.{◌≡◌, ◌≤◌, IfOk};
+ghost use Rattle.flow_model.specs.Process;
 ghost use Rattle.flow_model.specs.Resolution.{resolution_count};
 ghost use Rattle.flow_rules.specs.Normal.{normal_of};
 ghost use Rattle.flow_excise.specs.Options.{all_options_by, options_by};
 ghost use Rattle.flow_excise.specs.Tallies.{added, tally_by, tally_of};
 
-use flow_goal::{Choiceless, Tree, resolutions, resolve};
+use flow_goal::{Tree, resolution_leaves, resolutions};
 use flow_rules::{Nnf, WayCount, count_ways, leaf_events};
 use std::alloc::{AllocError, Global};
 
@@ -45,29 +46,24 @@ impl Tally {
     }
 }
 
-/// The tally of the options of a resolution.
-fn tally_in(
-    alloc: Global,
-    tree: &Tree,
-    rules: &Nnf,
-    resolution: &Choiceless,
-) -> Result<Tally, AllocError>
-    ensures { IfOk result (λ tally. tally ≡ tally_of (options_by tree.now (normal_of rules.now) resolution.now.process)) }
+/// The tally of the options of a resolution with these leaves.
+fn tally_in(alloc: Global, tree: &Tree, rules: &Nnf, leaves: &[u32]) -> Result<Tally, AllocError>
+    ensures { IfOk result (λ tally. (resolution : Process.Process) → leaves.now ≡ Process.leaves resolution →
+        tally ≡ tally_of (options_by tree.now (normal_of rules.now) resolution)) }
 {
-    let leaves = resolution.leaves();
     let events = leaf_events(alloc, tree, leaves)?;
     Ok(Tally::of(leaves.len() as u64, count_ways(rules, &events)))
 }
 
-/// The tally of all options. One resolution at a time is in memory.
+/// The tally of all options. The leaves of one resolution at a time are in memory.
 pub(crate) fn whole_tally(alloc: Global, tree: &Tree, rules: &Nnf) -> Result<Tally, AllocError>
     requires { resolution_count tree.now.process ≤ 4096 }
     ensures { IfOk result (λ tally. tally ≡ tally_of (all_options_by tree.now (normal_of rules.now))) }
 {
     let mut tally = NONE;
     for number in 0..resolutions(tree) {
-        let resolution = resolve(alloc, tree, number)?;
-        tally = tally.with(tally_in(alloc, tree, rules, &resolution)?);
+        let leaves = resolution_leaves(alloc, tree, number)?;
+        tally = tally.with(tally_in(alloc, tree, rules, &leaves)?);
     }
     Ok(tally)
 }

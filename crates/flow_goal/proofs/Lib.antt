@@ -4,3 +4,4 @@ pub mod Rising
 pub mod Simpler
 pub mod FirstPartner
 pub mod Repetitions
+pub mod Pushing

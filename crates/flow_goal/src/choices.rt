@@ -1,4 +1,4 @@
-ghost use Rattle.std.specs.Prelude.{◌≡◌, ◌-◌, ◌^◌, ◌<◌, ◌+◌, ◌*◌, ◌++◌, ◌/◌, min, IfOk, OnOk, slice_get};
+ghost use Rattle.std.specs.Prelude.{◌≡◌, ◌-◌, ◌^◌, ◌<◌, ◌+◌, ◌*◌, ◌++◌, ◌/◌, min, reverse, IfOk, OnOk, slice_get};
 ghost use Rattle.flow_model.specs.Resolution;
 ghost use Rattle.flow_model.specs.Process;
 ghost use Rattle.flow_goal.specs.Goal.{process_of};
@@ -204,4 +204,105 @@ pub fn resolve(alloc: Global, tree: &Tree, number: u64) -> Result<Choiceless, Al
     let goal = resolution(alloc, tree, number)?;
     collect_leaves(&goal, &mut leaves)?;
     Ok(Choiceless::new(goal, leaves))
+}
+
+/// Puts the leaves of a resolution of two parts that both stay behind the list.
+#[cycle(pushing)]
+fn push_both(
+    left: &Goal,
+    right: &Goal,
+    number: &mut u64,
+    sides: &mut Vec<Sides>,
+    leaves: &mut Vec<u32>,
+) -> Result<(), AllocError>
+    requires exact { Resolution.resolution_count (process_of left.now) * Resolution.resolution_count (process_of right.now) < 2 ^ 64 - 1 }
+    requires listed { Ends sides.old.items (sides_in (process_of left.now) ++ sides_in (process_of right.now)) }
+    ensures leaves { OnOk result ((x : Process.Process) × (y : Process.Process) ×
+        IsOfBoth (process_of left.now) (process_of right.now) number.old x y ×
+        (leaves.new.items ≡ leaves.old.items ++ reverse (Process.leaves x ++ Process.leaves y))) }
+    ensures rest { OnOk result (number.new ≡
+        number.old / (Resolution.resolution_count (process_of left.now) * Resolution.resolution_count (process_of right.now))) }
+    ensures sides { OnOk result (IsTaken sides.old.items (sides_in (process_of left.now) ++ sides_in (process_of right.now)) sides.new.items) }
+{
+    push_leaves(right, number, sides, leaves)?;
+    push_leaves(left, number, sides, leaves)
+}
+
+/// Puts the leaves of a resolution of one of two parts behind the list.
+#[cycle(pushing)]
+fn push_either(
+    left: &Goal,
+    right: &Goal,
+    number: &mut u64,
+    sides: &mut Vec<Sides>,
+    leaves: &mut Vec<u32>,
+) -> Result<(), AllocError>
+    requires exact { Resolution.resolution_count (process_of left.now) + Resolution.resolution_count (process_of right.now) < 2 ^ 64 - 1 }
+    requires listed { Ends sides.old.items (sides_of_choice (process_of left.now) (process_of right.now)) }
+    ensures leaves { OnOk result ((q : Process.Process) × IsOfEither (process_of left.now) (process_of right.now) number.old q ×
+        (leaves.new.items ≡ leaves.old.items ++ reverse (Process.leaves q))) }
+    ensures rest { OnOk result (number.new ≡
+        number.old / (Resolution.resolution_count (process_of left.now) + Resolution.resolution_count (process_of right.now))) }
+    ensures sides { OnOk result (IsTaken sides.old.items (sides_of_choice (process_of left.now) (process_of right.now)) sides.new.items) }
+{
+    let Some(both) = sides.pop() else {
+        unreachable!()
+    };
+    let mut within = both.digit(number);
+    if both.left <= within {
+        within -= both.left;
+        push_leaves(right, &mut within, sides, leaves)?;
+        skip(left, sides);
+        Ok(())
+    } else {
+        skip(right, sides);
+        push_leaves(left, &mut within, sides, leaves)
+    }
+}
+
+/// Puts the leaves of a resolution behind the list, from right to left, since `resolved` takes the
+/// number and the choices in that order too.
+#[cycle(pushing)]
+fn push_leaves(
+    goal: &Goal,
+    number: &mut u64,
+    sides: &mut Vec<Sides>,
+    leaves: &mut Vec<u32>,
+) -> Result<(), AllocError>
+    requires exact { Resolution.resolution_count (process_of goal.now) < 2 ^ 64 - 1 }
+    requires listed { Ends sides.old.items (sides_in (process_of goal.now)) }
+    ensures leaves { OnOk result ((q : Process.Process) × IsOf (process_of goal.now) number.old q ×
+        (leaves.new.items ≡ leaves.old.items ++ reverse (Process.leaves q))) }
+    ensures rest { OnOk result (number.new ≡ number.old / Resolution.resolution_count (process_of goal.now)) }
+    ensures sides { OnOk result (IsTaken sides.old.items (sides_in (process_of goal.now)) sides.new.items) }
+{
+    match goal {
+        Goal::Nop => Ok(()),
+        Goal::Leaf(n) => {
+            leaves.push(*n)?;
+            Ok(())
+        }
+        Goal::Serial(left, right) | Goal::Beside(left, right) => {
+            push_both(left, right, number, sides, leaves)
+        }
+        Goal::Either(left, right) => push_either(left, right, number, sides, leaves),
+        Goal::Iso(part) => push_leaves(part, number, sides, leaves),
+    }
+}
+
+/// The leaves of the resolution of that number, from left to right. It costs two walks of the tree's
+/// goal, and makes no goal.
+pub fn resolution_leaves(alloc: Global, tree: &Tree, number: u64) -> Result<Vec<u32>, AllocError>
+    requires numbered { number < Resolution.resolution_count tree.now.process }
+    requires exact { Resolution.resolution_count tree.now.process < 2 ^ 64 - 1 }
+    ensures { IfOk result (λ list. (q : Process.Process) × (slice_get (Resolution.resolutions tree.now.process) number ≡ Some q) ×
+        (list.items ≡ Process.leaves q)) }
+{
+    let mut leaves = Vec::with_capacity(alloc, tree.leaves() as usize)?;
+    let mut sides = Vec::new(alloc);
+    count_sides(tree.goal(), &mut sides)?;
+    let mut rest = number;
+    push_leaves(tree.goal(), &mut rest, &mut sides, &mut leaves)?;
+    leaves.reverse();
+    Ok(leaves)
 }

@@ -9,9 +9,10 @@ use Rattle.flow_excise.proofs.tally.whole_tally.Goals as goal
 
 pub loop-number-preserved : goal.loop-number-preserved
 loop-number-preserved c =
-    tally_more c.args.tree.now (normal_of c.args.rules.now) c.loop-number.number c.in_ok-resolution.resolution.process
+    let (resolution, there, listed) = c.in_ok-leaves.ensures in
+    tally_more c.args.tree.now (normal_of c.args.rules.now) c.loop-number.number resolution
     c.loop-number.tally c.in_ok-tally_in.field-0 c.with-tally.result
-    c.in_ok-resolution.ensures.resolution c.loop-number.invariant c.in_ok-tally_in.ensures c.with-tally.ensures
+    there c.loop-number.invariant (c.in_ok-tally_in.ensures resolution (c.deref.ensures.value ∙ listed)) c.with-tally.ensures
 
 pub returns : goal.returns
 returns c =
