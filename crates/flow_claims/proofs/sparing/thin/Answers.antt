@@ -24,7 +24,7 @@ loop-index-preserved c =
     let is : leaf ≡ get_or ls i leaf = get_or_default ls i 0 leaf within in
     let at : place ≡ get_or ps i place = get_or_default ps i 0 place inside in
     let says : (w : Schema) (s : RunState) → IsOf w s r → IsTrue c.legal_take.result ↔ MayAllFollow w s (take kept ls ++ leaf ∷ []) =
-    c.legal_take.ensures in
+    c.legal_take.ensures.follow in
     elim c.if-legal_take.branch [
       | then-legal_take b ↦ moved_as r c.args.places.now c.args.leaves.now (i + 1) (kept + 1) c.if-legal_take.kept _ c.if-legal_take.places _ c.if-legal_take.leaves b.kept-is b.places-is b.leaves-is
           (moved_one r c.args.places.now c.args.leaves.now i kept ps ls c.loop-index.invariant within c.requires leaf is place at c.legal_take.result says b.if-legal_take.true)

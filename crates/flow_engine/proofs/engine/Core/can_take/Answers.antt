@@ -13,7 +13,7 @@ returns-then-not-has_leaf c =
     subst (λ (r : Run). IsTrue c.legal_take.result ↔ CanTake (schema r) (now r) c.args.leaf) c.self.view_is
     (can_take_is i.workflow (state_of (schema_of i.workflow) i.history.items) i.claims k.claims i.residual k.remains c.args.leaf
     (subst (λ (r : Run). IsEventLeaf (schema r) c.args.leaf) (sym c.self.view_is) c.requires) c.has_leaf.result c.has_leaf.ensures c.if-not-has_leaf.true
-    c.legal_take.result c.leaves.result.now c.leaves.ensures c.legal_take.ensures)
+    c.legal_take.result c.leaves.result.now c.leaves.ensures c.legal_take.ensures.follow)
 
 pub returns-else-not-has_leaf : goal.returns-else-not-has_leaf
 returns-else-not-has_leaf c =
