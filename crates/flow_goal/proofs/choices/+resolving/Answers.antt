@@ -6,6 +6,7 @@ use Rattle.flow_model.specs.Resolution.{resolution_count}
 use Rattle.flow_goal.specs.Goal.{process_of}
 use Rattle.flow_goal.specs.Sides.{IsOf, IsOfEither, sides_in}
 use Rattle.flow_goal.proofs.Counting.{IsChosen, chosen, ends_left, ends_right, fewer_left, fewer_right, of_both, of_left, of_right, rest_of_both, some_resolution, taken_both}
+use Rattle.flow_goal.proofs.Pushing.{ok_taken}
 use Rattle.flow_goal.proofs.choices.+resolving.Goals as goal
 
 ok_of_left : (a b : Process) (number within : ℕ) (r : Result Goal AllocError) → within ≡ number % (resolution_count a + resolution_count b) → within < resolution_count a →
@@ -16,10 +17,6 @@ ok_of_left a b number within (Err e) is lt h = h
 on_ok : (r : Result Goal AllocError) (P : Type 0) → P → OnOk r P
 on_ok (Ok q) P p = p
 on_ok (Err e) P p = tt
-
-ok_taken : (r : Result Goal AllocError) (P Q : Type 0) → OnOk r P → (P → Q) → OnOk r Q
-ok_taken (Ok q) P Q p f = f p
-ok_taken (Err e) P Q p f = p
 
 pub resolved_both-resolved-requires : goal.resolved_both-resolved-requires
 resolved_both-resolved-requires t c = (
