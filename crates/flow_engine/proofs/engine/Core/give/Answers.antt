@@ -77,8 +77,8 @@ last_call w limit history r old v committed k history' new k' leaf event attempt
     let found : claim_at s' n ≡ Some one =
     ap (Rattle.std.specs.List.find (λ (claim : Claim). nat_eq claim.number n)) claims ∙ find_last 1 old.claims one n numbered (omega arith) refl in
     let few : length (old.events ++ event ∷ []) ≤ n =
-        let a : length old.claims ≡ length old.events = sym (length-map old.claims _) ∙ ap length k.claims.events_are ∙ length-map old.events Some in
-        let b : length (old.events ++ event ∷ []) ≡ length old.events + 1 = length-append old.events (event ∷ []) in omega arith in
+    let a : length old.claims ≡ length old.events = sym (length-map old.claims _) ∙ ap length k.claims.events_are ∙ length-map old.events Some in
+    let b : length (old.events ++ event ∷ []) ≡ length old.events + 1 = length-append old.events (event ∷ []) in omega arith in
     let whole : count_of event (take n new.events) ≡ count_of event (old.events ++ event ∷ []) =
     ap (λ (x : Claimed). count_of event (take n x.events)) is ∙ ap (count_of event) (take_all n (old.events ++ event ∷ []) few) in
     let more : count_of event (old.events ++ event ∷ []) ≡ count_of event old.events + 1 =
@@ -98,7 +98,7 @@ returns-clause-call c =
     sym (ap (λ (ns : List Rattle.flow_model.specs.declared.labels.Note.Note). slice_get ns c.args.event) c.notes.ensures.notes)
     ∙ slice_get-get_or c.notes.result.now c.args.event note.Done (omega arith) in
     let call : record { claim = length i.claims.claims + 1; leaf = c.args.leaf; event = c.args.event; attempt = c.give-attempt.result; note = noted }
-        ≡ call_of (schema_of i.workflow) (state_of (schema_of i.workflow) c.push_reserved.new.self.items) (length i.claims.claims + 1) =
+    ≡ call_of (schema_of i.workflow) (state_of (schema_of i.workflow) c.push_reserved.new.self.items) (length i.claims.claims + 1) =
     last_call i.workflow i.limit i.history.items i.residual i.claims i.world i.committed k c.push_reserved.new.self.items c.give-attempt.new.self (invariant_of-self c).kept
     c.args.leaf c.args.event c.give-attempt.result noted c.give-attempt.ensures.value at c.give-attempt.ensures.attempt note_is in
     let number : c.count-claim.result + 1 ≡ length i.claims.claims + 1 = ap (λ n. n + 1) c.count-claim.ensures.given in

@@ -65,7 +65,7 @@ invariant_of-self c =
     let r' : Remaining = record i.residual { bans = i.residual.bans ++ (length i.residual.journal, c.args.leaf) ∷ [] } in
     let raised : (w : Schema) (s : RunState) → s.claims ≡ answer c.args.claim i.claims.claims → s.epoch ≡ i.claims.epoch → IsOf w s r' → c.raise.new.self.claims ≡ (with_new_epoch w s).claims =
     λ w s a b f. c.raise.ensures.claims w s (a ∙ sym (ap (λ (x : Claimed). x.claims) c.answer.ensures)) (b ∙ sym (ap (λ (x : Claimed). x.epoch) c.answer.ensures))
-        (subst (IsOf w s) (sym c.ban.ensures) f) in
+    (subst (IsOf w s) (sym c.ban.ensures) f) in
     let others : c.raise.new.self ≡ record i.claims { claims = c.raise.new.self.claims; epoch = i.claims.epoch + 1 } =
     c.raise.ensures.others ∙ ap (λ (x : Claimed). record x { claims = c.raise.new.self.claims; epoch = x.epoch + 1 }) c.answer.ensures in
     record {
