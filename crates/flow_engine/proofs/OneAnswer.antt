@@ -1,5 +1,5 @@
 -- Each ask of a run has one answer, and leaves one run.
-use Rattle.std.proofs.Common.{◌≡◌, ◌<◌, ◌≤◌, ◌∙◌, ℕ, Bool, true, false, List, [], ◌∷◌, length, Option, Some, None, slice_get, Result, Ok, Err, IsTrue, IsSomeAnd, is_some, refl, sym, ap, subst, arith, true≢false}
+use Rattle.std.proofs.Common.{◌≡◌, ◌<◌, ◌≤◌, ◌∙◌, ℕ, Bool, true, false, List, [], ◌∷◌, length, Option, Some, None, slice_get, Result, Ok, Err, not, nat_eq, IsTrue, IsSomeAnd, is_some, refl, sym, ap, subst, arith, true≢false}
 use Rattle.std.proofs.lemmas.Bool.{eqb-true}
 use Rattle.flow_model.specs.declared.labels.Label.{Label}
 use Rattle.flow_model.specs.declared.history.Call.{Call}
@@ -66,7 +66,7 @@ unanswered_late s n of late =
 late_current : (s : RunState) (n of : ℕ) → IsLateOf s n of → IsCurrent s n → ⊥
 late_current s n of late current =
     let (claim, x, y) = both_of s n (λ (c : Claim). (c.answered ≡ false) × (c.epoch ≡ of)) (λ c. IsTrue (is_current s c)) late.1 current in
-    let same : claim.epoch ≡ s.epoch = eqb-true claim.epoch s.epoch (and_parts _ _ y).1 in
+    let same : claim.epoch ≡ s.epoch = eqb-true claim.epoch s.epoch (and_parts (not claim.answered) (nat_eq claim.epoch s.epoch) y).1 in
     let older : of < s.epoch = late.0 in
     let is : claim.epoch ≡ of = x.1 in
     omega arith
