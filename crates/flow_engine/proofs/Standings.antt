@@ -8,7 +8,7 @@ use Rattle.flow_model.specs.declared.labels.Label.TheVariants.{Event, Test, Abse
 use Rattle.flow_model.specs.Lists.{◌∈◌, Each, numbers_from}
 use Rattle.flow_model.specs.Facts.{event_at}
 use Rattle.flow_model.specs.Schema.{Schema}
-use Rattle.flow_model.specs.Run.{Claim, RunState, state_of, claim_at, current_claims, current_leaves, leaf_of_claim, is_current, is_lapsed, IsCurrent, IsLapsed, IsFree}
+use Rattle.flow_model.specs.Run.{Claim, RunState, state_of, claim_at, current_claims, current_leaves, leaf_of_claim, is_current, is_lapsed, IsCurrent, IsLapsed, IsFree, CanTake, CanDoAside}
 use Rattle.flow_laws.specs.Histories.{IsSound}
 use Rattle.flow_laws.proofs.ListLemmas1.{mem_here, decide_in}
 use Rattle.flow_laws.proofs.ListLemmas2.{cons_same, some_same, each_member}
@@ -28,7 +28,7 @@ use Rattle.flow_engine.specs.Run.{Run}
 use Rattle.flow_engine.specs.Answers.{IsUnanswered, IsLeastCurrent}
 use Rattle.flow_engine.specs.Standing.{IsGiven}
 use Rattle.flow_engine.specs.Kept.{IsKept}
-use Rattle.flow_engine.proofs.Following.{next_of_all, journal_within, next_room}
+use Rattle.flow_engine.proofs.Following.{next_of_all, next_of_first, journal_within, next_room}
 use Rattle.flow_engine.proofs.Steps.{events_at, sound_now}
 use Rattle.flow_engine.proofs.Calls.{attempts_are}
 use Rattle.flow_engine.proofs.Tests.{claim_is}
@@ -189,3 +189,14 @@ module _ (w : Definition) (limit : ℕ) (history : List Entry) (r : Remaining) (
   known_fact leaf label at =
       has_fact (length w.events) (length w.facts) v.count label k.course.count
       (each_at (IsKnown (length w.events) (length w.facts)) w.tree.labels leaf label k.known at)
+
+  -- a leaf of the journal is not taken or done again
+  pub done_cannot : (leaf : ℕ) → leaf ∈ s.journal → ¬ (MayComeNext r leaf)
+  done_cannot leaf done (o, live, ready) = ready.not_done (subst (λ j. leaf ∈ j) k.remains.journal_is done)
+
+  pub taken_comes_next : (leaf : ℕ) → CanTake (schema_of w) s leaf → MayComeNext r leaf
+  taken_comes_next leaf can =
+      next_of_all (schema_of w) s r k.remains (current_leaves s ++ leaf ∷ []) leaf can.2 (mem_here leaf (current_leaves s) [])
+
+  pub left_comes_next : (leaf : ℕ) → CanDoAside (schema_of w) s leaf → MayComeNext r leaf
+  left_comes_next leaf aside = next_of_first (schema_of w) s r k.remains (current_leaves s) leaf aside.1
