@@ -1,11 +1,11 @@
 -- Claims that were given, and the least that is current.
-use Rattle.std.proofs.Common.{◌≡◌, ◌≤◌, ◌<◌, ◌+◌, ◌-◌, ◌^◌, ℕ, zero, suc, Bool, true, false, not, ◌&&◌, cond, nat_eq, nat_lt, List, [], ◌∷◌, ◌++◌, map, length, Option, Some, None, slice_get, MatchOption, IsTrue, IsSomeAnd, refl, sym, ap, ◌∙◌, subst, inl, inr, arith, true≢false}
+use Rattle.std.proofs.Common.{◌≡◌, ◌≤◌, ◌<◌, ◌+◌, ◌-◌, ℕ, zero, suc, Bool, true, false, not, cond, nat_eq, nat_lt, List, [], ◌∷◌, ◌++◌, map, length, Option, Some, None, slice_get, MatchOption, IsTrue, IsSomeAnd, refl, sym, ap, ◌∙◌, subst, inl, inr, arith, true≢false}
 use Rattle.std.specs.List.{filter, find}
 use Rattle.std.proofs.lemmas.Bool.{eq-eqb, ne_eqb, eqb-true}
 use Rattle.flow_model.specs.declared.history.Entry.{Entry}
 use Rattle.flow_model.specs.declared.labels.Label.{Label}
 use Rattle.flow_model.specs.declared.labels.Label.TheVariants.{Event, Test, Absent, Ins, Del}
-use Rattle.flow_model.specs.Lists.{◌∈◌, Each, numbers_from}
+use Rattle.flow_model.specs.Lists.{◌∈◌, numbers_from}
 use Rattle.flow_model.specs.Facts.{event_at}
 use Rattle.flow_model.specs.Schema.{Schema}
 use Rattle.flow_model.specs.Run.{Claim, RunState, state_of, claim_at, current_claims, current_leaves, leaf_of_claim, is_current, is_lapsed, IsCurrent, IsLapsed, IsFree, CanTake, CanDoAside}
@@ -24,7 +24,6 @@ use Rattle.flow_claims.proofs.Outstanding.{each_at}
 use Rattle.flow_world.specs.Changes.{HasFactBelow}
 use Rattle.flow_world.specs.Course.{Course}
 use Rattle.flow_world.proofs.JournalLabels.{length-labels_at}
-use Rattle.flow_engine.specs.Run.{Run}
 use Rattle.flow_engine.specs.Answers.{IsUnanswered, IsLeastCurrent}
 use Rattle.flow_engine.specs.Standing.{IsGiven}
 use Rattle.flow_engine.specs.Kept.{IsKept}

@@ -1,7 +1,6 @@
-use Rattle.std.proofs.Common.{◌≡◌, ◌↔◌, ◌∙◌, List, inl, inr, Bool, ℕ, IsTrue, subst, sym}
+use Rattle.std.proofs.Common.{◌↔◌, ◌∙◌, inl, inr, ℕ, IsTrue, subst, sym}
 use Rattle.flow_model.specs.Lists.{◌∈◌}
-use Rattle.flow_model.specs.Run.{RunState, state_of, CanDoAside}
-use Rattle.flow_workflow.specs.Definition.{schema_of}
+use Rattle.flow_model.specs.Run.{CanDoAside}
 use Rattle.flow_claims.proofs.Outstanding.{is_among}
 use Rattle.flow_engine.specs.declared.engine.Core.TheInside.{Inside}
 use Rattle.flow_engine.specs.Fields.{run_by, IsRunning}

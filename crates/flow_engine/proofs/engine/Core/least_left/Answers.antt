@@ -1,4 +1,4 @@
-use Rattle.std.proofs.Common.{◌≡◌, ◌≢◌, ◌<◌, ◌+◌, ◌∙◌, ℕ, inl, inr, subst, sym, arith, true≢false}
+use Rattle.std.proofs.Common.{◌≢◌, ◌<◌, ◌+◌, ◌∙◌, ℕ, inl, inr, subst, sym, arith, true≢false}
 use Rattle.flow_model.specs.Decided.{decide_eq}
 use Rattle.flow_model.specs.Run.{CanDoAside}
 use Rattle.flow_engine.specs.Run.{schema, now}
