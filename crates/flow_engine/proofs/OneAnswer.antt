@@ -1,17 +1,14 @@
 -- Each ask of a run has one answer, and leaves one run.
-use Rattle.std.proofs.Common.{◌≡◌, ◌<◌, ◌≤◌, ◌∙◌, ℕ, Bool, true, false, List, [], ◌∷◌, length, Option, Some, None, slice_get, Result, Ok, Err, not, nat_eq, IsTrue, IsSomeAnd, is_some, refl, sym, ap, subst, arith, true≢false}
+use Rattle.std.proofs.Common.{◌≡◌, ◌<◌, ◌≤◌, ◌∙◌, ℕ, false, [], length, None, Result, Ok, Err, not, nat_eq, IsTrue, IsSomeAnd, is_some, refl, sym, ap, subst, arith, true≢false}
 use Rattle.std.proofs.lemmas.Bool.{eqb-true}
-use Rattle.flow_model.specs.declared.labels.Label.{Label}
 use Rattle.flow_model.specs.declared.history.Call.{Call}
 use Rattle.flow_model.specs.declared.history.FailEffect.{FailEffect}
 use Rattle.flow_model.specs.declared.history.FailEffect.TheVariants.{Switched, Kept}
 use Rattle.flow_model.specs.declared.history.Step.TheVariants.{Rewound}
-use Rattle.flow_model.specs.Facts.{event_at}
 use Rattle.flow_model.specs.Schema.{Schema, IsEventLeaf, IsOtherLeaf}
 use Rattle.flow_model.specs.Run.{Claim, RunState, claim_at, current_claims, is_current, IsCurrent}
 use Rattle.flow_model.specs.Verdict.{call_of}
 use Rattle.flow_laws.proofs.ClaimLemmas.{some_claim, claim_in, and_parts}
-use Rattle.flow_laws.proofs.ListLemmas2.{some_same}
 use Rattle.flow_engine.specs.declared.refusal.TakeRefusal.{TakeRefusal}
 use Rattle.flow_engine.specs.declared.refusal.TakeRefusal.TheVariants as take
 use Rattle.flow_engine.specs.declared.refusal.DoRefusal.{DoRefusal}

@@ -1,14 +1,14 @@
 -- Claims that were given, and the least that is current.
-use Rattle.std.proofs.Common.{◌≡◌, ◌≤◌, ◌<◌, ◌+◌, ◌-◌, ◌^◌, ℕ, zero, suc, Bool, true, false, not, ◌&&◌, cond, nat_eq, nat_lt, List, [], ◌∷◌, ◌++◌, map, length, Option, Some, None, slice_get, MatchOption, IsTrue, IsSomeAnd, refl, sym, ap, ◌∙◌, subst, inl, inr, arith, true≢false}
+use Rattle.std.proofs.Common.{◌≡◌, ◌≤◌, ◌<◌, ◌+◌, ◌-◌, ℕ, zero, suc, Bool, true, false, not, cond, nat_eq, nat_lt, List, [], ◌∷◌, ◌++◌, map, length, Option, Some, None, slice_get, MatchOption, IsTrue, IsSomeAnd, refl, sym, ap, ◌∙◌, subst, inl, inr, arith, true≢false}
 use Rattle.std.specs.List.{filter, find}
 use Rattle.std.proofs.lemmas.Bool.{eq-eqb, ne_eqb, eqb-true}
 use Rattle.flow_model.specs.declared.history.Entry.{Entry}
 use Rattle.flow_model.specs.declared.labels.Label.{Label}
 use Rattle.flow_model.specs.declared.labels.Label.TheVariants.{Event, Test, Absent, Ins, Del}
-use Rattle.flow_model.specs.Lists.{◌∈◌, Each, numbers_from}
+use Rattle.flow_model.specs.Lists.{◌∈◌, numbers_from}
 use Rattle.flow_model.specs.Facts.{event_at}
 use Rattle.flow_model.specs.Schema.{Schema}
-use Rattle.flow_model.specs.Run.{Claim, RunState, state_of, claim_at, current_claims, current_leaves, leaf_of_claim, is_current, is_lapsed, IsCurrent, IsLapsed, IsFree}
+use Rattle.flow_model.specs.Run.{Claim, RunState, state_of, claim_at, current_claims, current_leaves, leaf_of_claim, is_current, is_lapsed, IsCurrent, IsLapsed, IsFree, CanTake, CanDoAside}
 use Rattle.flow_laws.specs.Histories.{IsSound}
 use Rattle.flow_laws.proofs.ListLemmas1.{mem_here, decide_in}
 use Rattle.flow_laws.proofs.ListLemmas2.{cons_same, some_same, each_member}
@@ -24,11 +24,10 @@ use Rattle.flow_claims.proofs.Outstanding.{each_at}
 use Rattle.flow_world.specs.Changes.{HasFactBelow}
 use Rattle.flow_world.specs.Course.{Course}
 use Rattle.flow_world.proofs.JournalLabels.{length-labels_at}
-use Rattle.flow_engine.specs.Run.{Run}
 use Rattle.flow_engine.specs.Answers.{IsUnanswered, IsLeastCurrent}
 use Rattle.flow_engine.specs.Standing.{IsGiven}
 use Rattle.flow_engine.specs.Kept.{IsKept}
-use Rattle.flow_engine.proofs.Following.{next_of_all, journal_within, next_room}
+use Rattle.flow_engine.proofs.Following.{next_of_all, next_of_first, journal_within, next_room}
 use Rattle.flow_engine.proofs.Steps.{events_at, sound_now}
 use Rattle.flow_engine.proofs.Calls.{attempts_are}
 use Rattle.flow_engine.proofs.Tests.{claim_is}
@@ -189,3 +188,14 @@ module _ (w : Definition) (limit : ℕ) (history : List Entry) (r : Remaining) (
   known_fact leaf label at =
       has_fact (length w.events) (length w.facts) v.count label k.course.count
       (each_at (IsKnown (length w.events) (length w.facts)) w.tree.labels leaf label k.known at)
+
+  -- a leaf of the journal is not taken or done again
+  pub done_cannot : (leaf : ℕ) → leaf ∈ s.journal → ¬ (MayComeNext r leaf)
+  done_cannot leaf done (o, live, ready) = ready.not_done (subst (λ j. leaf ∈ j) k.remains.journal_is done)
+
+  pub taken_comes_next : (leaf : ℕ) → CanTake (schema_of w) s leaf → MayComeNext r leaf
+  taken_comes_next leaf can =
+      next_of_all (schema_of w) s r k.remains (current_leaves s ++ leaf ∷ []) leaf can.2 (mem_here leaf (current_leaves s) [])
+
+  pub left_comes_next : (leaf : ℕ) → CanDoAside (schema_of w) s leaf → MayComeNext r leaf
+  left_comes_next leaf aside = next_of_first (schema_of w) s r k.remains (current_leaves s) leaf aside.1

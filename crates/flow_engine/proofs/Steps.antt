@@ -1,5 +1,5 @@
 -- Each entry that a core makes keeps what its fields keep.
-use Rattle.std.proofs.Common.{◌≡◌, ◌≤◌, ◌<◌, ◌+◌, ℕ, suc, Bool, true, false, cond, nat_le, ◌&&◌, if◌then◌else◌, List, [], ◌∷◌, ◌++◌, map, length, take, Option, Some, None, slice_get, slice_index, ◌==◌, IsTrue, refl, sym, ap, ◌∙◌, subst, arith, length-append, append-nil}
+use Rattle.std.proofs.Common.{◌≡◌, ◌≤◌, ◌<◌, ◌+◌, ℕ, Bool, true, false, nat_le, ◌&&◌, if◌then◌else◌, List, [], ◌∷◌, ◌++◌, map, length, take, Option, Some, None, slice_get, slice_index, ◌==◌, refl, sym, ap, ◌∙◌, subst, arith, length-append, append-nil}
 use Rattle.std.specs.List.{filter}
 use Rattle.std.proofs.lemmas.List.{map-append, length-map}
 use Rattle.flow_model.specs.declared.history.Entry.{Entry}
@@ -8,12 +8,11 @@ use Rattle.flow_model.specs.declared.history.Step.TheVariants.{Took, Done, Faile
 use Rattle.flow_model.specs.declared.history.FailEffect.TheVariants.{Switched, Kept}
 use Rattle.flow_model.specs.declared.labels.Label.{Label}
 use Rattle.flow_model.specs.declared.labels.Label.TheVariants.{Event, Test, Absent, Ins, Del}
-use Rattle.flow_model.specs.Lists.{◌∈◌, Each}
 use Rattle.flow_model.specs.Facts.{event_at, event_in}
 use Rattle.flow_model.specs.Schema.{Schema, IsGood}
-use Rattle.flow_model.specs.Resolution.{ChoiceOption, options}
+use Rattle.flow_model.specs.Resolution.{options}
 use Rattle.flow_model.specs.Decided.{can_all_follow}
-use Rattle.flow_model.specs.Run.{Claim, RunState, first_state, next_state, state_after, state_of, current_claims, leaf_of_claim, is_current, IsCurrent, IsLapsed, IsFree, IsOpenIndex, IsAllowed, IsLegalFrom, IsLegal, CanTake, CanDo, answer, spare, with_new_epoch}
+use Rattle.flow_model.specs.Run.{Claim, RunState, first_state, next_state, state_after, state_of, current_claims, leaf_of_claim, is_current, IsCurrent, IsLapsed, IsOpenIndex, IsAllowed, IsLegalFrom, CanTake, CanDo, answer, spare, with_new_epoch}
 use Rattle.flow_laws.proofs.NeverAtALoss.{sound_state}
 use Rattle.flow_laws.specs.Histories.{IsSound}
 use Rattle.flow_workflow.specs.Definition.{Definition, schema_of}

@@ -1,12 +1,12 @@
 -- A run that has something else to do does not wait.
-use Rattle.std.proofs.Common.{◌≡◌, ◌∙◌, ℕ, Bool, true, false, cond, List, [], ◌∷◌, IsTrue, IsSomeAnd, is_some, inl, inr, refl, sym, ap, true≢false}
+use Rattle.std.proofs.Common.{◌≡◌, ◌∙◌, ℕ, Bool, true, false, cond, List, [], ◌∷◌, IsTrue, is_some, inl, inr, refl, sym, ap, true≢false}
 use Rattle.std.specs.List.{filter}
 use Rattle.flow_model.specs.Lists.{◌∈◌}
-use Rattle.flow_model.specs.Run.{Claim, current_claims, claim_at, is_current}
+use Rattle.flow_model.specs.Run.{Claim, claim_at, is_current}
 use Rattle.flow_laws.proofs.ClaimLemmas.{some_claim, claim_in}
 use Rattle.flow_engine.specs.declared.next.Next.{Next}
 use Rattle.flow_engine.specs.declared.next.Next.TheVariants.{Act, Wait, Finished, Stuck, Ended}
-use Rattle.flow_engine.specs.Run.{Run, schema, now}
+use Rattle.flow_engine.specs.Run.{Run, now}
 use Rattle.flow_engine.specs.Looks.{CanStep, IsWaiting, IsNext}
 
 pub left_in : (p : Claim → Bool) (claims : List Claim) (claim : Claim) → claim ∈ claims → p claim ≡ true → ¬ (filter p claims ≡ [])

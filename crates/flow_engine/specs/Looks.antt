@@ -1,7 +1,7 @@
 -- What a run can do next.
-use Rattle.std.specs.Prelude.{◌≡◌, ◌≤◌, ℕ, true, [], ◌⊎◌}
+use Rattle.std.specs.Prelude.{◌≡◌, ◌≤◌, ℕ, [], ◌⊎◌}
 use Rattle.flow_model.specs.Schema.{IsGood}
-use Rattle.flow_model.specs.Run.{RunState, current_claims, CanTake, CanDo, IsStuck, Waits}
+use Rattle.flow_model.specs.Run.{current_claims, CanTake, CanDo, IsStuck, Waits}
 use Rattle.flow_engine.specs.declared.next.Next.{Next}
 use Rattle.flow_engine.specs.declared.next.Next.TheVariants.{Act, Wait, Finished, Stuck, Ended}
 use Rattle.flow_engine.specs.Run.{Run, schema, now, GoesOn}

@@ -1,6 +1,7 @@
 ghost use Rattle.std.specs.Prelude.{◌≡◌, ◌↔◌, ◌==◌, ℕ, [], length, IsTrue, MatchOption};
 ghost use Rattle.std.specs.List.{count_by};
 ghost use Rattle.flow_model.specs.declared.history.Entry.{Entry};
+ghost use Rattle.flow_model.specs.Lists.{◌∈◌};
 ghost use Rattle.flow_model.specs.Schema.{IsGood};
 ghost use Rattle.flow_model.specs.Run.{current_claims, CanDoAside};
 ghost use Rattle.flow_model.specs.Verdict.{call_of};
@@ -89,6 +90,15 @@ impl Core {
         }
     }
 
+    /// Whether the leaf is on the journal. It is not done again, so no plan is asked for it.
+    fn is_done(&self, leaf: u32) -> bool
+        ensures done { IsTrue result ↔ (leaf ∈ (now self.now).journal) }
+        ensures no_step { IsTrue result → ¬ (CanStep self.now leaf) }
+        ensures not_left { IsTrue result → ¬ (CanDoAside (schema self.now) (now self.now) leaf) }
+    {
+        self.residual.journal().contains(&leaf)
+    }
+
     /// Whether the leaf can be done, whatever holds.
     fn could_be_done(&self, leaf: u32) -> bool
         ensures { IsTrue result ↔ CanDoAside (schema self.now) (now self.now) leaf }
@@ -104,7 +114,7 @@ impl Core {
         ensures { MatchOption result ((leaf : ℕ) → ¬ (CanStep self.now leaf)) (IsLeast (CanStep self.now)) }
     {
         for leaf in 0..self.leaves() {
-            if self.can_step(leaf) {
+            if !self.is_done(leaf) && self.can_step(leaf) {
                 return Some(leaf);
             }
         }
@@ -117,7 +127,7 @@ impl Core {
             (IsLeast (CanDoAside (schema self.now) (now self.now))) }
     {
         for leaf in 0..self.leaves() {
-            if self.could_be_done(leaf) {
+            if !self.is_done(leaf) && self.could_be_done(leaf) {
                 return Some(leaf);
             }
         }

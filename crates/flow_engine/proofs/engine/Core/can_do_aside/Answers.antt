@@ -1,4 +1,4 @@
-use Rattle.std.proofs.Common.{◌≡◌, ◌∙◌, ◌↔◌, List, ℕ, IsTrue, subst, sym}
+use Rattle.std.proofs.Common.{◌∙◌, ◌↔◌, List, ℕ, IsTrue, subst, sym}
 use Rattle.flow_model.specs.Schema.{IsOtherLeaf}
 use Rattle.flow_model.specs.Run.{RunState, state_of, MayFollowFirst, CanDoAside}
 use Rattle.flow_workflow.specs.Definition.{schema_of}

@@ -1,4 +1,4 @@
-use Rattle.std.proofs.Common.{◌≡◌, ◌↔◌, not, IsTrue, subst, sym}
+use Rattle.std.proofs.Common.{◌↔◌, not, IsTrue, subst, sym}
 use Rattle.flow_model.specs.Schema.{IsEventLeaf}
 use Rattle.flow_model.specs.Run.{state_of, CanTake}
 use Rattle.flow_workflow.specs.Definition.{schema_of}

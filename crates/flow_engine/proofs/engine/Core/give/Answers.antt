@@ -1,10 +1,8 @@
-use Rattle.std.proofs.Common.{◌≡◌, ◌<◌, ◌≤◌, ◌+◌, ℕ, cond, nat_eq, true, false, List, [], ◌∷◌, ◌++◌, length, map, take, Some, Option, slice_get, slice_index_or, get_or, subst, subst₂, sym, ap, ◌∙◌, refl, arith, length-append}
-use Rattle.std.specs.Vec.{vec_capacity}
+use Rattle.std.proofs.Common.{◌≡◌, ◌<◌, ◌≤◌, ◌+◌, ℕ, cond, nat_eq, false, List, [], ◌∷◌, ◌++◌, length, map, take, Some, slice_get, slice_index_or, subst, subst₂, sym, ap, ◌∙◌, refl, arith, length-append}
 use Rattle.std.proofs.lemmas.Bool.{eq-eqb}
 use Rattle.std.proofs.lemmas.List.{take_all, length-map}
 use Rattle.std.proofs.lemmas.Option.{slice_get-get_or}
 use Rattle.flow_model.specs.declared.history.Entry.{Entry}
-use Rattle.flow_model.specs.declared.history.Step.TheVariants.{Took}
 use Rattle.flow_model.specs.declared.labels.Note.TheVariants as note
 use Rattle.flow_model.specs.Facts.{event_at}
 use Rattle.flow_model.specs.Lists.{numbers_from}
@@ -17,7 +15,7 @@ use Rattle.flow_claims.proofs.Counting.{count-push}
 use Rattle.flow_engine.specs.Run.{Run, schema, now, GoesOn, HasSteps}
 use Rattle.flow_engine.specs.Answers.{next_claim}
 use Rattle.flow_engine.specs.Kept.{IsKept}
-use Rattle.flow_engine.proofs.Steps.{longer, sound_now, kept_took}
+use Rattle.flow_engine.proofs.Steps.{sound_now, kept_took}
 use Rattle.flow_engine.proofs.Calls.{known_event, find_last, call_is}
 use Rattle.flow_engine.proofs.engine.Core.give.Goals as goal
 

@@ -1,26 +1,13 @@
-use Rattle.std.proofs.Common.{◌≡◌, ◌<◌, ◌≤◌, ◌+◌, ◌^◌, ℕ, false, true, List, [], ◌∷◌, ◌++◌, length, take, Some, slice_get, subst, subst₂, sym, ap, ◌∙◌, refl, arith}
-use Rattle.std.specs.Vec.{vec_capacity}
+use Rattle.std.proofs.Common.{◌≡◌, ◌<◌, ◌≤◌, false, List, length, subst, subst₂, sym}
 use Rattle.flow_model.specs.declared.history.Entry.{Entry}
-use Rattle.flow_model.specs.declared.history.Step.{Step}
-use Rattle.flow_model.specs.declared.history.Step.TheVariants.{Took, Done, Failed, Late, Did, Rewound, Committed}
-use Rattle.flow_model.specs.declared.history.FailEffect.TheVariants.{Switched, Kept}
-use Rattle.flow_model.specs.declared.labels.Label.{Label}
-use Rattle.flow_model.specs.declared.labels.Label.TheVariants.{Event}
-use Rattle.flow_model.specs.Facts.{Holds, HoldsAt, event_at}
-use Rattle.flow_model.specs.Lists.{◌∈◌}
-use Rattle.flow_model.specs.Schema.{Schema, IsGood}
-use Rattle.flow_model.specs.Run.{Claim, RunState, state_of, database, leaf_of_claim, current_claims, current_leaves, answer, with_new_epoch, IsCurrent, IsLapsed, IsFree, IsOpenIndex, CanDoAside, CanDo}
-use Rattle.flow_workflow.specs.Definition.{Definition, schema_of}
-use Rattle.flow_residual.specs.Remaining.{Remaining, IsOf, MayComeNext, IsAvoidable}
+use Rattle.flow_model.specs.Run.{RunState, state_of, answer, IsLapsed}
+use Rattle.flow_workflow.specs.Definition.{schema_of}
 use Rattle.flow_claims.specs.Claimed.{Claimed}
-use Rattle.flow_world.specs.Course.{Course}
-use Rattle.flow_engine.specs.Run.{Run, schema, now, GoesOn, HasSteps}
-use Rattle.flow_engine.specs.Standing.{IsGiven}
+use Rattle.flow_engine.specs.Run.{Run, now, GoesOn, HasSteps}
 use Rattle.flow_engine.specs.Kept.{IsKept}
-use Rattle.flow_engine.proofs.Following.{next_of_first}
-use Rattle.flow_engine.proofs.Steps.{longer, sound_now, IsRaised, kept_done, kept_late, kept_failed, kept_switched, kept_rewound, kept_did, kept_committed}
-use Rattle.flow_engine.proofs.Tests.{unanswered_there, leaf_is}
-use Rattle.flow_engine.proofs.Standings.{unanswered_current, unanswered_lapsed, next_of_current, course_length, course_room, known_fact}
+use Rattle.flow_engine.proofs.Steps.{kept_late}
+use Rattle.flow_engine.proofs.Tests.{unanswered_there}
+use Rattle.flow_engine.proofs.Standings.{unanswered_lapsed}
 use Rattle.flow_engine.proofs.engine.Core.record_late.Goals as goal
 
 pub answer-requires : goal.answer-requires

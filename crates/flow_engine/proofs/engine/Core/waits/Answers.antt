@@ -1,4 +1,4 @@
-use Rattle.std.proofs.Common.{false, true≢false, sym}
+use Rattle.std.proofs.Common.{true≢false, sym}
 use Rattle.flow_engine.proofs.Waiting.{not_waiting}
 use Rattle.flow_engine.proofs.engine.Core.waits.Goals as goal
 
