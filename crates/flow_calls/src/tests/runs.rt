@@ -49,7 +49,10 @@ fn plays_choices(rt: HostRuntime) -> Result<(), Fail> {
     let told = play(&mut core, &asks, 7);
     assert!(rt; matches!(&told[0], Told::Call(_)) && matches!(&told[3], Told::Call(_)));
     assert_eq!(rt; told[1], Told::Failed(FailEffect::Switched));
-    assert_eq!(rt; (told[2], told[4], told[5]), (Told::Refused(4), Told::Posted, Told::Refused(9)));
+    assert_eq!(rt;
+        (told[2], told[4], told[5]),
+        (Told::Refused(4), Told::Posted, Told::Refused(9))
+    );
     Ok(())
 }
 
@@ -65,8 +68,14 @@ fn plays_facts(rt: HostRuntime) -> Result<(), Fail> {
         Ask::Rewind,
     ];
     let told = play(&mut core, &asks, 7);
-    assert_eq!(rt; (told[0], told[1], told[2]), (Told::Refused(3), Told::Refused(2), Told::Did));
-    assert_eq!(rt; (told[3], told[4], told[5]), (Told::Refused(4), Told::Committed, Told::Refused(1)));
+    assert_eq!(rt;
+        (told[0], told[1], told[2]),
+        (Told::Refused(3), Told::Refused(2), Told::Did)
+    );
+    assert_eq!(rt;
+        (told[3], told[4], told[5]),
+        (Told::Refused(4), Told::Committed, Told::Refused(1))
+    );
     Ok(())
 }
 
