@@ -1,10 +1,11 @@
 ghost use Rattle.std.specs.Prelude.{◌≡◌, ◌↔◌, ◌==◌, ℕ, [], length, IsTrue, MatchOption};
 ghost use Rattle.std.specs.List.{count_by};
 ghost use Rattle.flow_model.specs.declared.history.Entry.{Entry};
-ghost use Rattle.flow_model.specs.Lists.{◌∈◌};
+ghost use Rattle.flow_model.specs.Lists.{◌∈◌, Each};
 ghost use Rattle.flow_model.specs.Schema.{IsGood};
 ghost use Rattle.flow_model.specs.Run.{current_claims, CanDoAside};
 ghost use Rattle.flow_model.specs.Verdict.{call_of};
+ghost use Rattle.flow_laws.specs.Histories.{NeverWaits};
 
 use crate::engine::Core;
 use crate::next::Next;
@@ -13,6 +14,7 @@ use flow_model::{Call, Label};
 impl Core {
     ghost use Rattle.flow_engine.specs.Run.{schema, now, GoesOn};
     ghost use Rattle.flow_engine.specs.Answers.{IsUnanswered};
+    ghost use Rattle.flow_engine.specs.declared.next.Next.TheVariants.{Stuck};
     ghost use Rattle.flow_engine.specs.Looks.{CanStep, CanAct, IsWaiting, IsLeast, IsNext};
 
     /// Whether the leaf can be taken or done.
@@ -26,14 +28,24 @@ impl Core {
     pub fn waits(&self, leaf: u32) -> bool
         ensures { IsTrue result ↔ IsWaiting self.now leaf }
     {
-        match self.next() {
+        match self.look() {
             Next::Stuck(_) => self.could_be_done(leaf),
             _ => false,
         }
     }
 
-    /// What the run can do next.
+    /// What the run can do next. Without tests and absences it is never stuck.
     pub fn next(&self) -> Next
+        ensures next { IsNext self.now result }
+        ensures without_tests { Each NeverWaits (schema self.now).labels → (leaf : ℕ) → ¬ (result ≡ Stuck leaf) }
+    {
+        // what the fields keep says the second
+        let _ = &self.history;
+        self.look()
+    }
+
+    /// What the run can do next.
+    fn look(&self) -> Next
         ensures { IsNext self.now result }
     {
         if self.committed {

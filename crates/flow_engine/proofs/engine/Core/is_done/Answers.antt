@@ -35,11 +35,11 @@ returns-clause-no_step c =
     let i = c.self.inside in
     subst (λ (r : Run). IsTrue c.contains.result → ¬ (CanStep r c.args.leaf)) c.self.view_is
     (λ told. no_step i c.self.invariant c.args.leaf ((is_among c.contains.result c.args.leaf c.journal.result.now (now (run_by i)).journal c.contains.ensures.value
-        (c.journal.ensures.leaves ∙ sym c.self.invariant.kept.remains.journal_is)).0 told))
+    (c.journal.ensures.leaves ∙ sym c.self.invariant.kept.remains.journal_is)).0 told))
 
 pub returns-clause-not_left : goal.returns-clause-not_left
 returns-clause-not_left c =
     let i = c.self.inside in
     subst (λ (r : Run). IsTrue c.contains.result → ¬ (CanDoAside (schema r) (now r) c.args.leaf)) c.self.view_is
     (λ told. not_left i c.self.invariant c.args.leaf ((is_among c.contains.result c.args.leaf c.journal.result.now (now (run_by i)).journal c.contains.ensures.value
-        (c.journal.ensures.leaves ∙ sym c.self.invariant.kept.remains.journal_is)).0 told))
+    (c.journal.ensures.leaves ∙ sym c.self.invariant.kept.remains.journal_is)).0 told))

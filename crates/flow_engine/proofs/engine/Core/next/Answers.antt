@@ -1,20 +1,22 @@
-use Rattle.std.proofs.Common.{◌≡◌, ◌∙◌, [], inl, inr, sym, subst, true≢false}
-use Rattle.flow_model.specs.Schema.{IsGood}
-use Rattle.flow_model.specs.Run.{RunState, state_of, current_claims}
-use Rattle.flow_laws.proofs.NeverAtALoss.{CanGoOn, goes_on}
+use Rattle.std.proofs.Common.{◌≡◌, ℕ, subst}
+use Rattle.flow_model.specs.Lists.{Each}
+use Rattle.flow_model.specs.Run.{state_of}
+use Rattle.flow_laws.specs.Histories.{NeverWaits}
+use Rattle.flow_laws.proofs.NeverAtALoss.{never_stuck}
 use Rattle.flow_workflow.specs.Definition.{schema_of}
-use Rattle.flow_engine.specs.Run.{Run, schema, now}
+use Rattle.flow_engine.specs.declared.next.Next.{Next}
+use Rattle.flow_engine.specs.declared.next.Next.TheVariants.{Stuck}
+use Rattle.flow_engine.specs.Run.{Run, schema}
+use Rattle.flow_engine.specs.Looks.{IsNext}
 use Rattle.flow_engine.proofs.Steps.{sound_now}
 use Rattle.flow_engine.proofs.engine.Core.next.Goals as goal
 
--- a run with no claim out and an unfinished journal has a leaf to go on with
-pub unreachable-requires : goal.unreachable-requires
-unreachable-requires c =
+pub returns-clause-without_tests : goal.returns-clause-without_tests
+returns-clause-without_tests c =
     let i = c.self.inside in
     let k = c.self.invariant.kept in
-    let s : RunState = state_of (schema_of i.workflow) i.history.items in
-    let on : CanGoOn (schema c.args.self.now) (now c.args.self.now) =
-    subst (λ (r : Run). current_claims (now r) ≡ [] → ¬ (IsGood (schema r) (now r).journal) → CanGoOn (schema r) (now r)) c.self.view_is
-    (λ none unfinished. goes_on (schema_of i.workflow) k.remains.well_formed s (sound_now i.workflow i.limit i.history.items i.residual i.claims i.world i.committed k) unfinished none)
-    c.in_default-least_claim.ensures (λ good. true≢false (sym (c.is_complete.ensures.1 good) ∙ c.if-is_complete.false)) in
-    elim on.1 [ inl can ↦ c.in_default.ensures on.0 (inl can) | inr aside ↦ c.in-None.ensures on.0 aside ]
+    subst (λ (r : Run). IsNext r c.look.result → Each NeverWaits (schema r).labels → (leaf : ℕ) → ¬ (c.look.result ≡ Stuck leaf)) c.self.view_is
+    (λ says none leaf is. never_stuck (schema_of i.workflow) k.remains.well_formed none (state_of (schema_of i.workflow) i.history.items)
+    (sound_now i.workflow i.limit i.history.items i.residual i.claims i.world i.committed k)
+    (subst (IsNext (record { definition = i.workflow; limit = i.limit; history = i.history.items })) is says).0.0)
+    c.look.ensures
