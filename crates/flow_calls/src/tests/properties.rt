@@ -1,9 +1,31 @@
-use super::workflows::workflow_of;
+ghost use Rattle.std.specs.Prelude.{IfOk};
+ghost use Rattle.flow_form.specs.Script.{said};
+ghost use Rattle.flow_form.specs.Names.{IsClosed};
+
 use flow_excise::compile;
+use flow_expand::{Workflow, expand};
 use flow_residual::Residual;
 use flow_rules::{Rule, precedes};
+use flow_text::{Script, parse};
 use flow_verify::{Redundancy, Verified, redundant, verify};
+use std::alloc::Global;
 use std::test::Fail;
+
+fn script_of(alloc: Global, text: &str) -> Result<Script, Fail>
+    ensures { IfOk result (λ script. IsClosed (said script)) }
+{
+    let bytes = text.as_bytes();
+    if bytes.len() >= 1 << 31 {
+        return Err(Fail::from("a long text"));
+    }
+    Ok(parse(alloc, bytes)?)
+}
+
+/// The workflow that the text becomes.
+fn workflow_of(alloc: Global, text: &str) -> Result<Workflow, Fail> {
+    let script = script_of(alloc, text)?;
+    Ok(expand(alloc, &script)?)
+}
 
 #[test]
 fn properties_hold_or_fail(rt: HostRuntime) -> Result<(), Fail> {
