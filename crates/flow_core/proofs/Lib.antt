@@ -1,7 +1,8 @@
-pub mod PlainGoals
-pub mod Enabled
-pub mod GivenClaims
+pub mod Following
 pub mod Steps
-pub mod Answering
-pub mod LawfulHistories
-pub mod EventLabels
+pub mod Lawful
+pub mod Calls
+pub mod Tests
+pub mod Standings
+pub mod Waiting
+pub mod OneAnswer

@@ -1,33 +1,29 @@
 -- Each entry that a core makes keeps what its fields keep.
-use Rattle.std.proofs.Common.{◌≡◌, ◌≢◌, ◌≤◌, ◌<◌, ◌+◌, ℕ, zero, suc, Bool, true, false, List, [], ◌∷◌, ◌++◌, length, set, Option, Some, None, slice_get, inl, inr, nat_eq, nat_le, cond, ◌&&◌, refl, sym, ap, ◌∙◌, subst, arith, length-append}
-use Rattle.std.proofs.Math.ListN.{length-set}
+use Rattle.std.proofs.Common.{◌≡◌, ◌≤◌, ◌<◌, ◌+◌, ℕ, Bool, true, false, nat_le, ◌&&◌, if◌then◌else◌, List, [], ◌∷◌, ◌++◌, map, length, take, Option, Some, None, slice_get, slice_index, ◌==◌, refl, sym, ap, ◌∙◌, subst, arith, length-append, append-nil}
+use Rattle.std.specs.List.{filter}
+use Rattle.std.proofs.lemmas.List.{map-append, length-map}
 use Rattle.flow_model.specs.declared.history.Entry.{Entry}
 use Rattle.flow_model.specs.declared.history.Step.{Step}
-use Rattle.flow_model.specs.declared.history.Call.{Call}
+use Rattle.flow_model.specs.declared.history.Step.TheVariants.{Took, Done, Failed, Late, Did, Rewound, Committed}
+use Rattle.flow_model.specs.declared.history.FailEffect.TheVariants.{Switched, Kept}
 use Rattle.flow_model.specs.declared.labels.Label.{Label}
-use Rattle.flow_model.specs.declared.labels.Note.TheVariants as note
-use Rattle.flow_model.specs.Facts.{event_at, is_event}
-use Rattle.flow_model.specs.Verdict.{call_of, event_of_claim, attempts}
-use Rattle.flow_model.specs.declared.history.Step.TheVariants.{Took, Done, Committed}
-use Rattle.flow_model.specs.Lists.{◌∈◌, Each, AreDistinct, numbers_from}
+use Rattle.flow_model.specs.declared.labels.Label.TheVariants.{Event, Test, Absent, Ins, Del}
+use Rattle.flow_model.specs.Facts.{event_at, event_in}
 use Rattle.flow_model.specs.Schema.{Schema, IsGood}
-use Rattle.flow_model.specs.Decided.{decide_eq}
-use Rattle.flow_model.specs.Ready.{IsReady, IsReadyRun}
-use Rattle.flow_model.specs.Run.{Claim, RunState, first_state, next_state, state_after, state_of, current_leaves, current_claims, claim_at, leaf_of_claim, IsCurrent, IsAllowed, IsLegalFrom, IsLegal, CanTake, answer}
-use Rattle.flow_goal.specs.Labelled.{Labelled}
-use Rattle.flow_goal.specs.Plain.{IsPlainTree}
-use Rattle.flow_core.specs.declared.given.Given.{Given}
-use Rattle.flow_core.specs.Given.{claim_of, claims_from, on_event}
-use Rattle.flow_core.specs.Look.{is_done}
-use Rattle.flow_core.specs.View.{schema_of}
-use Rattle.flow_core.specs.Kept.{IsAhead, AreFlags, IsKept}
-use Rattle.flow_core.proofs.PlainGoals.{plain_ready}
-use Rattle.flow_core.proofs.GivenClaims.{given_at, not_given, numbered, current-given, not-current, length-claims_from, claims_from-append, find-claims_from, answered, answer-claims_from, out_leaves, current-leaves, out_leaves-append, LeavesOut, out_leaves-answered}
-use Rattle.flow_laws.proofs.ListLemmas2.{mem_append_left, mem_append_right, mem-append, each-append, each_parts, distinct_parts, distinct-append}
-use Rattle.flow_laws.proofs.FollowingLemmas.{run_after_journal}
-use Rattle.flow_laws.proofs.ClaimLemmas.{leaf_of_claim_is}
-use Rattle.std.specs.List.{find, fold}
-use Rattle.std.proofs.lemmas.Bool.{le-leb}
+use Rattle.flow_model.specs.Resolution.{options}
+use Rattle.flow_model.specs.Decided.{can_all_follow}
+use Rattle.flow_model.specs.Run.{Claim, RunState, first_state, next_state, state_after, state_of, current_claims, leaf_of_claim, is_current, IsCurrent, IsLapsed, IsOpenIndex, IsAllowed, IsLegalFrom, CanTake, CanDo, answer, spare, with_new_epoch}
+use Rattle.flow_laws.proofs.NeverAtALoss.{sound_state}
+use Rattle.flow_laws.specs.Histories.{IsSound}
+use Rattle.flow_workflow.specs.Definition.{Definition, schema_of}
+use Rattle.flow_excise.specs.Executions.{HasExecution, AreJustThose}
+use Rattle.flow_residual.specs.Remaining.{Remaining, IsOf}
+use Rattle.flow_claims.specs.Claimed.{Claimed}
+use Rattle.flow_world.specs.Course.{Course}
+use Rattle.flow_world.specs.Journals.{labels_at}
+use Rattle.flow_world.proofs.JournalLabels.{labels_at-push, labels_at-take}
+use Rattle.flow_core.specs.Kept.{AreClaimsOf, IsCourseOf, IsKept}
+use Rattle.flow_core.proofs.Following.{journal_within}
 
 -- the state after one entry more
 pub state_after-append : (w : Schema) (s : RunState) (history : List Entry) (entry : Entry) →
@@ -43,294 +39,297 @@ legal-append w limit s made [] entry legal going room allowed = (going, (let r :
 legal-append w limit s made (e ∷ history) entry (a, b, c, rest) going room allowed =
     (a, b, c, legal-append w limit (next_state w s e.step) (made + 1) history entry rest going (let r : made + 1 + length history < limit = omega arith in r) allowed)
 
--- what is ready stays ready when another leaf is done, in a plain goal
-stays_ready : (t : Labelled) → IsPlainTree t → (journal : List ℕ) (x y : ℕ) → IsReady t.process [] (λ n. n ∈ journal) y → x ≢ y →
-    IsReady t.process [] (λ n. n ∈ (journal ++ x ∷ [])) y
-stays_ready t plain journal x y r ne = plain_ready t.process plain.plain y r.leaf
-    (λ m. elim (mem-append y journal (x ∷ []) m) [ inl j ↦ r.not_done j | inr o ↦ elim o [ inl e ↦ ne (sym e) | inr none ↦ none ] ])
-    (λ z s. mem_append_left z journal (x ∷ []) (r.before z (inl s)))
-
-stay_ready : (t : Labelled) → IsPlainTree t → (journal : List ℕ) (x : ℕ) (ys : List ℕ) → Each (IsReady t.process [] (λ n. n ∈ journal)) ys → ¬ (x ∈ ys) →
-    Each (IsReady t.process [] (λ n. n ∈ (journal ++ x ∷ []))) ys
-stay_ready t plain journal x [] rs new = tt
-stay_ready t plain journal x (y ∷ ys) rs new =
-    (stays_ready t plain journal x y rs.0 (λ e. new (inl e)), stay_ready t plain journal x ys rs.1 (λ m. new (inr m)))
-
--- a claim more
-pub ahead_took : (t : Labelled) (s : RunState) (gs : List Given) → IsAhead t s → s.claims ≡ claims_from 1 gs → (claim leaf : ℕ) → claim ≡ 1 + length gs →
-    Each (IsReady t.process [] (λ n. n ∈ s.journal)) (current_leaves s ++ leaf ∷ []) → AreDistinct (current_leaves s ++ leaf ∷ []) →
-    IsAhead t (next_state (schema_of t) s (Took claim leaf)) × ((next_state (schema_of t) s (Took claim leaf)).claims ≡ claims_from 1 (gs ++ record { leaf = leaf; answered = false } ∷ []))
-ahead_took t s gs ahead c claim leaf number ready apart =
-    let g : Given = record { leaf = leaf; answered = false } in
-    let c' : (next_state (schema_of t) s (Took claim leaf)).claims ≡ claims_from 1 (gs ++ g ∷ []) =
-    ap (λ cs. cs ++ record { number = claim; leaf = leaf; epoch = s.epoch; answered = false } ∷ []) c
-    ∙ ap (λ n. claims_from 1 gs ++ record { number = claim; leaf = leaf; epoch = n; answered = false } ∷ []) ahead.epoch
-    ∙ ap (λ n. claims_from 1 gs ++ claim_of n g ∷ []) number
-    ∙ sym (claims_from-append 1 gs g) in
-    let now : current_leaves (next_state (schema_of t) s (Took claim leaf)) ≡ current_leaves s ++ leaf ∷ [] =
-    current-leaves (next_state (schema_of t) s (Took claim leaf)) (gs ++ g ∷ []) ahead.epoch c' ∙ out_leaves-append gs leaf
-    ∙ ap (λ xs. xs ++ leaf ∷ []) (sym (current-leaves s gs ahead.epoch c)) in (
-      record {
-        bans = ahead.bans;
-        epoch = ahead.epoch;
-        journal = ahead.journal;
-        claims = subst (Each (IsReady t.process [] (λ n. n ∈ s.journal))) (sym now) ready;
-        apart = subst AreDistinct (sym now) apart;
-      },
-      c',
-    )
-
--- what is left of distinct members when one is taken out
-distinct_without : (front : List ℕ) (x : ℕ) (back : List ℕ) → AreDistinct (front ++ x ∷ back) → AreDistinct (front ++ back) × ¬ (x ∈ (front ++ back))
-distinct_without front x back d =
-    let parts = distinct_parts front (x ∷ back) d in (
-      distinct-append front back parts.0 parts.1.1 (λ y m n. parts.2 y m (inr n)),
-      λ m. elim (mem-append x front back m) [ inl f ↦ parts.2 x f (inl refl) | inr b ↦ parts.1.0 b ],
-    )
-
-each_without : (P : ℕ → Type 0) (front : List ℕ) (x : ℕ) (back : List ℕ) → Each P (front ++ x ∷ back) → Each P (front ++ back) × P x
-each_without P front x back h =
-    let parts = each_parts P front (x ∷ back) h in (each-append P front back parts.0 parts.1.1, parts.1.0)
-
--- the claim of a place
-pub place_of_claim : (s : RunState) (gs : List Given) → s.claims ≡ claims_from 1 gs → (i : ℕ) (g : Given) → slice_get gs i ≡ Some g →
-    claim_at s (1 + i) ≡ Some (claim_of (1 + i) g)
-place_of_claim s gs c i g at = ap (find (λ (claim : Claim). nat_eq claim.number (1 + i))) c ∙ find-claims_from 1 i gs g at
-
--- a claim answered by a success
-pub ahead_done : (t : Labelled) → IsPlainTree t → (s : RunState) (gs : List Given) → IsAhead t s → s.claims ≡ claims_from 1 gs → (i : ℕ) (g : Given) →
-    slice_get gs i ≡ Some g → g.answered ≡ false →
-    IsAhead t (next_state (schema_of t) s (Done (1 + i))) × ((next_state (schema_of t) s (Done (1 + i))).claims ≡ claims_from 1 (set gs i (answered g)))
-    × ((next_state (schema_of t) s (Done (1 + i))).journal ≡ s.journal ++ g.leaf ∷ [])
-ahead_done t plain s gs ahead c i g at going =
-    let found : claim_at s (1 + i) ≡ Some (claim_of (1 + i) g) = place_of_claim s gs c i g at in
-    let leaf : leaf_of_claim s (1 + i) ≡ g.leaf = leaf_of_claim_is s (1 + i) (claim_of (1 + i) g) found in
-    let s' : RunState = next_state (schema_of t) s (Done (1 + i)) in
-    let journal' : s'.journal ≡ s.journal ++ g.leaf ∷ [] = ap (λ n. s.journal ++ n ∷ []) leaf in
-    let claims' : s'.claims ≡ claims_from 1 (set gs i (answered g)) = ap (answer (1 + i)) c ∙ answer-claims_from 1 i gs g at in
-    let out : LeavesOut (out_leaves gs) (out_leaves (set gs i (answered g))) g.leaf = out_leaves-answered gs i g at going in
-    let before : current_leaves s ≡ out.front ++ g.leaf ∷ out.back = current-leaves s gs ahead.epoch c ∙ out.was in
-    let after : current_leaves s' ≡ out.front ++ out.back = current-leaves s' (set gs i (answered g)) ahead.epoch claims' ∙ out.is in
-    let ready = each_without (IsReady t.process [] (λ n. n ∈ s.journal)) out.front g.leaf out.back (subst (Each (IsReady t.process [] (λ n. n ∈ s.journal))) before ahead.claims) in
-    let apart = distinct_without out.front g.leaf out.back (subst AreDistinct before ahead.apart) in
-    let run : IsReadyRun t.process [] (s.journal ++ g.leaf ∷ []) = (run_after_journal t.process [] s.journal (g.leaf ∷ [])).1 (ahead.journal, (ready.1, tt)) in (
-      record {
-        bans = ahead.bans;
-        epoch = ahead.epoch;
-        journal = subst (IsReadyRun t.process []) (sym journal') run;
-        claims = subst (λ journal. Each (IsReady t.process [] (λ n. n ∈ journal)) (current_leaves s')) (sym journal')
-            (subst (Each (IsReady t.process [] (λ n. n ∈ (s.journal ++ g.leaf ∷ [])))) (sym after)
-            (stay_ready t plain s.journal g.leaf (out.front ++ out.back) ready.0 apart.1));
-        apart = subst AreDistinct (sym after) apart.0;
-      },
-      claims',
-      journal',
-    )
-
-is_done-same : (done : List Bool) (n : ℕ) → n < length done → is_done (set done n true) n ≡ true
-is_done-same [] n h = absurd (omega arith)
-is_done-same (b ∷ done) zero h = refl
-is_done-same (b ∷ done) (suc n) h = is_done-same done n (let k : n < length done = omega arith in k)
-
-is_done-other : (done : List Bool) (n m : ℕ) → n ≢ m → is_done (set done m true) n ≡ is_done done n
-is_done-other [] n m ne = refl
-is_done-other (b ∷ done) zero zero ne = absurd (ne refl)
-is_done-other (b ∷ done) zero (suc m) ne = refl
-is_done-other (b ∷ done) (suc n) zero ne = refl
-is_done-other (b ∷ done) (suc n) (suc m) ne = is_done-other done n m (λ e. ne (ap suc e))
-
-is_done-kept : (done : List Bool) (n m : ℕ) → is_done done n ≡ true → is_done (set done m true) n ≡ true
-is_done-kept [] n m h = h
-is_done-kept (b ∷ done) zero zero h = refl
-is_done-kept (b ∷ done) zero (suc m) h = h
-is_done-kept (b ∷ done) (suc n) zero h = h
-is_done-kept (b ∷ done) (suc n) (suc m) h = is_done-kept done n m h
-
--- a flag more
-pub flags_set : (t : Labelled) (done : List Bool) (journal : List ℕ) → AreFlags t done journal → (leaf : ℕ) → leaf < length done → AreFlags t (set done leaf true) (journal ++ leaf ∷ [])
-flags_set t done journal flags leaf below = record {
-  one_each = length-set done leaf true ∙ flags.one_each;
-  exact = λ n. (
-    elim (decide_eq n leaf) [
-      | inl e ↦ (λ d. mem_append_right n journal (leaf ∷ []) (inl e))
-      | inr ne ↦ (λ d. mem_append_left n journal (leaf ∷ []) ((flags.exact n).0 (sym (is_done-other done n leaf ne) ∙ d)))
-    ],
-    λ m. elim (mem-append n journal (leaf ∷ []) m) [
-      | inl j ↦ is_done-kept done n leaf ((flags.exact n).1 j)
-      | inr o ↦ elim o [ inl e ↦ ap (is_done (set done leaf true)) e ∙ is_done-same done leaf below | inr none ↦ absurd none ]
-    ],
-  );
-}
-
 -- one entry more of the history
 abbrev pub longer : List Entry → ℕ → Step → List Entry
 longer history by step = history ++ record { by = by; step = step } ∷ []
 
-length-longer : (history : List Entry) (by : ℕ) (step : Step) → length (longer history by step) ≡ length history + 1
-length-longer history by step = length-append history (record { by = by; step = step } ∷ [])
+-- ---- what remains
 
--- what each entry owes
-legal_longer : (t : Labelled) (limit : ℕ) (history : List Entry) (by : ℕ) (step : Step) → IsLegal (schema_of t) limit history →
-    (state_of (schema_of t) history).committed ≡ false → length history < limit → IsAllowed (schema_of t) (state_of (schema_of t) history) step → IsLegal (schema_of t) limit (longer history by step)
-legal_longer t limit history by step legal going room allowed =
-    legal-append (schema_of t) limit first_state 0 history (record { by = by; step = step }) legal going (let r : 0 + length history < limit = omega arith in r) allowed
+remains : (w : Schema) (s s' : RunState) (r r' : Remaining) → IsOf w s r → r'.options ≡ r.options → s'.journal ≡ r'.journal → s'.bans ≡ r'.bans → IsOf w s' r'
+remains w s s' r r' f o j b = record {
+  well_formed = f.well_formed;
+  options_are = subst (AreJustThose HasExecution (options w)) (sym o) f.options_are;
+  journal_is = j;
+  bans_are = b;
+}
 
-state_longer : (t : Labelled) (history : List Entry) (by : ℕ) (step : Step) → state_of (schema_of t) (longer history by step) ≡ next_state (schema_of t) (state_of (schema_of t) history) step
-state_longer t history by step = state_after-append (schema_of t) first_state history (record { by = by; step = step })
+-- ---- claims
 
--- a claim is given
-pub kept_give : (t : Labelled) (limit : ℕ) (history : List Entry) (journal : List ℕ) (done : List Bool) (given : List Given) (committed : Bool) →
-    IsKept t limit history journal done given committed → (state_of (schema_of t) history).committed ≡ false → length history < limit → (leaf by : ℕ) →
-    CanTake (schema_of t) (state_of (schema_of t) history) leaf →
-    Each (IsReady t.process [] (λ n. n ∈ (state_of (schema_of t) history).journal)) (current_leaves (state_of (schema_of t) history) ++ leaf ∷ []) × AreDistinct (current_leaves (state_of (schema_of t) history) ++ leaf ∷ []) →
-    IsKept t limit (longer history by (Took (1 + length given) leaf)) journal done (given ++ record { leaf = leaf; answered = false } ∷ []) committed
-kept_give t limit history journal done given committed k going room leaf by can ready =
-    let step : Step = Took (1 + length given) leaf in
-    let g : Given = record { leaf = leaf; answered = false } in
-    let count : 1 + length given ≡ length (state_of (schema_of t) history).claims + 1 =
-    let e : length (state_of (schema_of t) history).claims ≡ length given = ap length k.claims_are ∙ length-claims_from 1 given in omega arith in
-    let both = ahead_took t (state_of (schema_of t) history) given k.ahead k.claims_are (1 + length given) leaf refl ready.0 ready.1 in
-    let same : state_of (schema_of t) (longer history by step) ≡ next_state (schema_of t) (state_of (schema_of t) history) step = state_longer t history by step in
-    record {
-      plain = k.plain;
-      numbered = k.numbered;
-      legal = legal_longer t limit history by step k.legal going room (count, can);
-      ahead = subst (IsAhead t) (sym same) both.0;
-      journal_is = ap (λ (s : RunState). s.journal) same ∙ k.journal_is;
-      claims_are = ap (λ (s : RunState). s.claims) same ∙ both.1;
-      committed_is = ap (λ (s : RunState). s.committed) same ∙ k.committed_is;
-      flags = k.flags;
-      spent = let e : length (longer history by step) ≡ length history + 1 = length-longer history by step in omega arith;
-      few_claims = let e : length (longer history by step) ≡ length history + 1 = length-longer history by step in
-          let f : length (given ++ g ∷ []) ≡ length given + 1 = length-append given (g ∷ []) in let h : length given ≤ length history = k.few_claims in omega arith;
-      few_leaves = let e : length (longer history by step) ≡ length history + 1 = length-longer history by step in let h : length journal ≤ length history = k.few_leaves in omega arith;
+-- the events at the leaves of claims
+abbrev pub events_at : List Label → List Claim → List (Option ℕ)
+events_at labels claims = map (λ (claim : Claim). event_at labels claim.leaf) claims
+
+events-answer : (labels : List Label) (number : ℕ) (claims : List Claim) → events_at labels (answer number claims) ≡ events_at labels claims
+events-answer labels number [] = refl
+events-answer labels number (x ∷ xs) =
+    ap (λ (e : Option ℕ). e ∷ events_at labels (answer number xs)) (step (x.number == number)) ∙ ap (λ (es : List (Option ℕ)). event_at labels x.leaf ∷ es) (events-answer labels number xs)
+  where
+    step : (same : Bool) → event_at labels (if same then record x { answered = true } else x).leaf ≡ event_at labels x.leaf
+    step true = refl
+    step false = refl
+
+events-spare : (labels : List Label) (w : Schema) (s : RunState) (before : List ℕ) (claims : List Claim) → events_at labels (spare w s before claims) ≡ events_at labels claims
+events-spare labels w s before [] = refl
+events-spare labels w s before (x ∷ xs) =
+    step (is_current s x && can_all_follow w s (before ++ x.leaf ∷ [])) (events-spare labels w s (before ++ x.leaf ∷ []) xs) (events-spare labels w s before xs)
+  where
+    step : (spared : Bool) → events_at labels (spare w s (before ++ x.leaf ∷ []) xs) ≡ events_at labels xs → events_at labels (spare w s before xs) ≡ events_at labels xs →
+        events_at labels (if spared then record x { epoch = s.epoch + 1 } ∷ spare w s (before ++ x.leaf ∷ []) xs else x ∷ spare w s before xs)
+        ≡ event_at labels x.leaf ∷ events_at labels xs
+    step true a b = ap (λ (es : List (Option ℕ)). event_at labels x.leaf ∷ es) a
+    step false a b = ap (λ (es : List (Option ℕ)). event_at labels x.leaf ∷ es) b
+
+-- as many events as claims
+length-events_at : (labels : List Label) (claims : List Claim) → length (events_at labels claims) ≡ length claims
+length-events_at labels claims = length-map claims _
+
+-- a leaf with an event has its label
+abbrev event_of : Option Label → Option ℕ
+event_of None = None
+event_of (Some label) = event_in label
+
+event_label : (o : Option Label) (event : ℕ) → event_of o ≡ Some event → o ≡ Some (Event event)
+event_label None event e = cc
+event_label (Some (Event x)) event e = let same : x ≡ event = cc in ap (λ n. Some (Event n)) same
+event_label (Some (Test f)) event e = cc
+event_label (Some (Absent f)) event e = cc
+event_label (Some (Ins f)) event e = cc
+event_label (Some (Del f)) event e = cc
+
+pub label_of_event : (labels : List Label) (leaf event : ℕ) → event_at labels leaf ≡ Some event → slice_get labels leaf ≡ Some (Event event)
+label_of_event labels leaf event e = event_label (slice_get labels leaf) event e
+
+-- ---- the entries
+
+module _ (w : Definition) (limit : ℕ) (history : List Entry) (r : Remaining) (c : Claimed) (v : Course) (committed : Bool)
+    (k : IsKept w limit history r c v committed) where
+  abbrev s : RunState
+  s = state_of (schema_of w) history
+
+  -- the state is sound
+  pub sound_now : IsSound (schema_of w) s
+  sound_now = sound_state (schema_of w) k.remains.well_formed k.consistent limit history k.legal history ([], sym (append-nil history))
+
+  module _ (going : s.committed ≡ false) (room : length history < limit) (by : ℕ) where
+    -- what an entry owes
+    kept_longer : (step : Step) (r' : Remaining) (c' : Claimed) (v' : Course) (committed' : Bool) → IsAllowed (schema_of w) s step →
+        IsOf (schema_of w) (next_state (schema_of w) s step) r' → AreClaimsOf w (next_state (schema_of w) s step) c' →
+        IsCourseOf w (next_state (schema_of w) s step) v' → (next_state (schema_of w) s step).committed ≡ committed' →
+        c'.room ≡ c.room → length c'.claims ≤ length c.claims + 1 → c'.epoch ≤ c.epoch + 1 → IsKept w limit (longer history by step) r' c' v' committed'
+    kept_longer step r' c' v' committed' allowed remains claims course closed same_room more_claims more_epochs =
+        let same : state_of (schema_of w) (longer history by step) ≡ next_state (schema_of w) s step =
+        state_after-append (schema_of w) first_state history (record { by = by; step = step }) in
+        let count : length (longer history by step) ≡ length history + 1 = length-append history (record { by = by; step = step } ∷ []) in
+        record {
+          legal = legal-append (schema_of w) limit first_state 0 history (record { by = by; step = step }) k.legal going (let h : 0 + length history < limit = omega arith in h) allowed;
+          consistent = k.consistent;
+          known = k.known;
+          noted = k.noted;
+          remains = subst (λ (s : RunState). IsOf (schema_of w) s r') (sym same) remains;
+          claims = subst (λ (s : RunState). AreClaimsOf w s c') (sym same) claims;
+          course = subst (λ (s : RunState). IsCourseOf w s v') (sym same) course;
+          committed_is = ap (λ (s : RunState). s.committed) same ∙ closed;
+          spent = omega arith;
+          claims_room = let h : limit ≤ c.room = k.claims_room in omega arith;
+          few_claims = let h : length c.claims ≤ length history = k.few_claims in omega arith;
+          few_epochs = let h : c.epoch ≤ length history = k.few_epochs in omega arith;
+        }
+
+    -- with the journal as it was
+    same_course : (s' : RunState) → s'.journal ≡ s.journal → IsCourseOf w s' v
+    same_course s' j = record {
+      held_is = k.course.held_is;
+      count = k.course.count;
+      labels_are = k.course.labels_are ∙ ap (labels_at w.tree.labels) (sym j);
+      room = k.course.room;
     }
 
--- a success is posted
-pub kept_done : (t : Labelled) (limit : ℕ) (history : List Entry) (journal : List ℕ) (done : List Bool) (given : List Given) (committed : Bool) →
-    IsKept t limit history journal done given committed → (state_of (schema_of t) history).committed ≡ false → length history < limit → (by i : ℕ) (g : Given) →
-    slice_get given i ≡ Some g → g.answered ≡ false → g.leaf < length done → IsCurrent (state_of (schema_of t) history) (1 + i) →
-    IsKept t limit (longer history by (Done (1 + i))) (journal ++ g.leaf ∷ []) (set done g.leaf true) (set given i (answered g)) committed
-kept_done t limit history journal done given committed k going room by i g at out below current =
-    let step : Step = Done (1 + i) in
-    let both = ahead_done t k.plain (state_of (schema_of t) history) given k.ahead k.claims_are i g at out in
-    let same : state_of (schema_of t) (longer history by step) ≡ next_state (schema_of t) (state_of (schema_of t) history) step = state_longer t history by step in
-    record {
-      plain = k.plain;
-      numbered = k.numbered;
-      legal = legal_longer t limit history by step k.legal going room current;
-      ahead = subst (IsAhead t) (sym same) both.0;
-      journal_is = ap (λ (s : RunState). s.journal) same ∙ both.2 ∙ ap (λ j. j ++ g.leaf ∷ []) k.journal_is;
-      claims_are = ap (λ (s : RunState). s.claims) same ∙ both.1;
-      committed_is = ap (λ (s : RunState). s.committed) same ∙ k.committed_is;
-      flags = flags_set t done journal k.flags g.leaf below;
-      spent = let e : length (longer history by step) ≡ length history + 1 = length-longer history by step in omega arith;
-      few_claims = let e : length (longer history by step) ≡ length history + 1 = length-longer history by step in
-          let f : length (set given i (answered g)) ≡ length given = length-set given i (answered g) in let h : length given ≤ length history = k.few_claims in omega arith;
-      few_leaves = let e : length (longer history by step) ≡ length history + 1 = length-longer history by step in
-          let f : length (journal ++ g.leaf ∷ []) ≡ length journal + 1 = length-append journal (g.leaf ∷ []) in let h : length journal ≤ length history = k.few_leaves in omega arith;
+    -- a leaf more of the journal
+    longer_course : (s' : RunState) (leaf : ℕ) (label : Label) → s'.journal ≡ s.journal ++ leaf ∷ [] → slice_get w.tree.labels leaf ≡ Some label →
+        IsCourseOf w s' (record v { labels = v.labels ++ label ∷ [] })
+    longer_course s' leaf label j at = record {
+      held_is = k.course.held_is;
+      count = k.course.count;
+      labels_are = ap (λ (l : List Label). l ++ label ∷ []) k.course.labels_are ∙ sym (labels_at-push w.tree.labels s.journal leaf label at) ∙ ap (labels_at w.tree.labels) (sym j);
+      room = k.course.room;
     }
 
--- the run is over
-pub kept_commit : (t : Labelled) (limit : ℕ) (history : List Entry) (journal : List ℕ) (done : List Bool) (given : List Given) (committed : Bool) →
-    IsKept t limit history journal done given committed → (state_of (schema_of t) history).committed ≡ false → length history < limit → (by : ℕ) →
-    current_claims (state_of (schema_of t) history) ≡ [] → IsGood (schema_of t) (state_of (schema_of t) history).journal →
-    IsKept t limit (longer history by Committed) journal done given true
-kept_commit t limit history journal done given committed k going room by none good =
-    let same : state_of (schema_of t) (longer history by Committed) ≡ next_state (schema_of t) (state_of (schema_of t) history) Committed = state_longer t history by Committed in
-    record {
-      plain = k.plain;
-      numbered = k.numbered;
-      legal = legal_longer t limit history by Committed k.legal going room (none, good);
-      ahead = subst (IsAhead t) (sym same) (record { bans = k.ahead.bans; epoch = k.ahead.epoch; journal = k.ahead.journal; claims = k.ahead.claims; apart = k.ahead.apart });
-      journal_is = ap (λ (s : RunState). s.journal) same ∙ k.journal_is;
-      claims_are = ap (λ (s : RunState). s.claims) same ∙ k.claims_are;
-      committed_is = ap (λ (s : RunState). s.committed) same;
-      flags = k.flags;
-      spent = let e : length (longer history by Committed) ≡ length history + 1 = length-longer history by Committed in omega arith;
-      few_claims = let e : length (longer history by Committed) ≡ length history + 1 = length-longer history by Committed in let h : length given ≤ length history = k.few_claims in omega arith;
-      few_leaves = let e : length (longer history by Committed) ≡ length history + 1 = length-longer history by Committed in let h : length journal ≤ length history = k.few_leaves in omega arith;
+    -- with the claims as they were
+    same_claims : (s' : RunState) → s'.claims ≡ s.claims → s'.epoch ≡ s.epoch → AreClaimsOf w s' c
+    same_claims s' a b = record {
+      claims_are = a ∙ k.claims.claims_are;
+      epoch_is = b ∙ k.claims.epoch_is;
+      events_are = k.claims.events_are;
+      kinds = k.claims.kinds;
     }
 
--- how many claims are on leaves of an event: every number that was given is at most the last
-fold-claims_from : (labels : List Label) (event last k : ℕ) (gs : List Given) (count : ℕ) → k + length gs ≤ last + 1 →
-    fold (λ a (claim : Claim). a + cond (nat_le claim.number last && is_event event (event_at labels claim.leaf)) 1 0) count (claims_from k gs)
-    ≡ fold (λ a (g : Given). a + cond (is_event event (event_at labels g.leaf)) 1 0) count gs
-fold-claims_from labels event last k [] count h = refl
-fold-claims_from labels event last k (g ∷ gs) count h =
-    let below : nat_le k last ≡ true = le-leb k last (omega arith) in
-    let rest : k + 1 + length gs ≤ last + 1 = omega arith in
-    let one = λ (b : Bool). count + cond (b && is_event event (event_at labels g.leaf)) 1 0 in
-    ap (λ b. fold (λ a (claim : Claim). a + cond (nat_le claim.number last && is_event event (event_at labels claim.leaf)) 1 0) (one b) (claims_from (k + 1) gs)) below
-    ∙ fold-claims_from labels event last (k + 1) gs (count + cond (is_event event (event_at labels g.leaf)) 1 0) rest
+    -- with a claim answered
+    answered_claims : (s' : RunState) (claim : ℕ) → s'.claims ≡ answer claim s.claims → s'.epoch ≡ s.epoch → AreClaimsOf w s' (record c { claims = answer claim c.claims })
+    answered_claims s' claim a b = record {
+      claims_are = a ∙ ap (answer claim) k.claims.claims_are;
+      epoch_is = b ∙ k.claims.epoch_is;
+      events_are = events-answer w.tree.labels claim c.claims ∙ k.claims.events_are;
+      kinds = k.claims.kinds;
+    }
 
-last_place : (gs : List Given) (g : Given) → slice_get (gs ++ g ∷ []) (length gs) ≡ Some g
-last_place [] g = refl
-last_place (x ∷ gs) g = last_place gs g
+    -- as many claims, once one is answered
+    few_answered : (claim : ℕ) → length (answer claim c.claims) ≤ length c.claims + 1
+    few_answered claim = let e : length (answer claim c.claims) ≡ length c.claims = length-map c.claims _ in omega arith
 
-abbrev number_in : Option ℕ → ℕ
-number_in None = 0
-number_in (Some e) = e
+    same_epoch : c.epoch ≤ c.epoch + 1
+    same_epoch = omega arith
 
--- the call of the claim that was given last
-pub call-took : (t : Labelled) (s : RunState) (gs : List Given) (leaf event claim : ℕ) → s.claims ≡ claims_from 1 (gs ++ record { leaf = leaf; answered = false } ∷ []) →
-    claim ≡ 1 + length gs → event_at t.labels leaf ≡ Some event →
-    record { claim = claim; leaf = leaf; event = event; attempt = on_event t.labels event (gs ++ record { leaf = leaf; answered = false } ∷ []); note = note.Done } ≡ call_of (schema_of t) s claim
-call-took t s gs leaf event claim c number at =
-    let g : Given = record { leaf = leaf; answered = false } in
-    let here : slice_get (gs ++ g ∷ []) (length gs) ≡ Some g = last_place gs g in
-    let found : claim_at s (1 + length gs) ≡ Some (claim_of (1 + length gs) g) = place_of_claim s (gs ++ g ∷ []) c (length gs) g here in
-    let leaf_is : leaf_of_claim s (1 + length gs) ≡ leaf = leaf_of_claim_is s (1 + length gs) (claim_of (1 + length gs) g) found in
-    let w : Schema = schema_of t in
-    let event_is : event_of_claim w s (1 + length gs) ≡ event = ap (λ l. number_in (event_at t.labels l)) leaf_is ∙ ap number_in at in
-    let few : 1 + length (gs ++ g ∷ []) ≤ 1 + length gs + 1 = let e : length (gs ++ g ∷ []) ≡ length gs + 1 = length-append gs (g ∷ []) in omega arith in
-    let count : on_event t.labels event (gs ++ g ∷ []) ≡ attempts w s (event_of_claim w s (1 + length gs)) (1 + length gs) =
-    sym (fold-claims_from t.labels event (1 + length gs) 1 (gs ++ g ∷ []) 0 few)
-    ∙ ap (λ cs. fold (λ a (claim : Claim). a + cond (nat_le claim.number (1 + length gs) && is_event event (event_at t.labels claim.leaf)) 1 0) 0 cs) (sym c)
-    ∙ ap (λ e. attempts w s e (1 + length gs)) (sym event_is) in
-    let at_last : record { claim = 1 + length gs; leaf = leaf; event = event; attempt = on_event t.labels event (gs ++ g ∷ []); note = note.Done } ≡ call_of w s (1 + length gs) =
-    λ i. record { claim = 1 + length gs; leaf = sym leaf_is i; event = sym event_is i; attempt = count i; note = note.Done } in
-    subst (λ (m : ℕ). ◌≡◌ {A = Call} record { claim = m; leaf = leaf; event = event; attempt = on_event t.labels event (gs ++ g ∷ []); note = note.Done } (call_of w s m)) (sym number) at_last
+    same_count : length c.claims ≤ length c.claims + 1
+    same_count = omega arith
 
--- a row of numbers ends below its length
-pub below_row : (first count n : ℕ) → n ∈ numbers_from first count → n < first + count
-below_row first zero n m = absurd m
-below_row first (suc count) n m = elim m [
-  | inl e ↦ (let f : n ≡ first = e in omega arith)
-  | inr r ↦ (let h : n < first + 1 + count = below_row (first + 1) count n r in omega arith)
-]
+    -- a claim is given
+    pub kept_took : (leaf event claim : ℕ) → claim ≡ length c.claims + 1 → event_at w.tree.labels leaf ≡ Some event → CanTake (schema_of w) s leaf →
+        IsKept w limit (longer history by (Took claim leaf)) r (record c {
+          claims = c.claims ++ record { number = length c.claims + 1; leaf = leaf; epoch = c.epoch; answered = false } ∷ [];
+          events = c.events ++ event ∷ [];
+        }) v committed
+    kept_took leaf event claim number at can =
+        let one : Claim = record { number = length c.claims + 1; leaf = leaf; epoch = c.epoch; answered = false } in
+        kept_longer (Took claim leaf) r _ v committed
+        (number ∙ ap (λ (cs : List Claim). length cs + 1) (sym k.claims.claims_are), can)
+        (remains (schema_of w) s (next_state (schema_of w) s (Took claim leaf)) r r k.remains refl k.remains.journal_is k.remains.bans_are)
+        (record {
+          claims_are = ap (λ (cs : List Claim). cs ++ record { number = claim; leaf = leaf; epoch = s.epoch; answered = false } ∷ []) k.claims.claims_are
+              ∙ ap (λ n. c.claims ++ record { number = n; leaf = leaf; epoch = s.epoch; answered = false } ∷ []) number
+              ∙ ap (λ n. c.claims ++ record { number = length c.claims + 1; leaf = leaf; epoch = n; answered = false } ∷ []) k.claims.epoch_is;
+          epoch_is = k.claims.epoch_is;
+          events_are = map-append (λ (claim : Claim). event_at w.tree.labels claim.leaf) c.claims (one ∷ [])
+              ∙ ap (λ (es : List (Option ℕ)). es ++ event_at w.tree.labels leaf ∷ []) k.claims.events_are
+              ∙ ap (λ (e : Option ℕ). map Some c.events ++ e ∷ []) at
+              ∙ sym (map-append Some c.events (event ∷ []));
+          kinds = k.claims.kinds;
+        })
+        (same_course (next_state (schema_of w) s (Took claim leaf)) refl) k.committed_is refl
+        (let e : length (c.claims ++ one ∷ []) ≡ length c.claims + 1 = length-append c.claims (one ∷ []) in omega arith) same_epoch
 
--- the claim of a place, while it is out
-pub record IsOutAt (done : List Bool) (given : List Given) (i : ℕ) : Type 0 where
-  pub claim : Given
-  pub within : i < length given
-  pub at : slice_get given i ≡ Some claim
-  pub out : claim.answered ≡ false
-  pub below : claim.leaf < length done
+    -- a success is posted
+    pub kept_done : (claim leaf event : ℕ) → IsCurrent s claim → leaf_of_claim s claim ≡ leaf → event_at w.tree.labels leaf ≡ Some event →
+        IsKept w limit (longer history by (Done claim)) (record r { journal = r.journal ++ leaf ∷ [] }) (record c { claims = answer claim c.claims })
+        (record v { labels = v.labels ++ Event event ∷ [] }) committed
+    kept_done claim leaf event current on at =
+        let j : s.journal ++ leaf_of_claim s claim ∷ [] ≡ s.journal ++ leaf ∷ [] = ap (λ n. s.journal ++ n ∷ []) on in
+        kept_longer (Done claim) (record r { journal = r.journal ++ leaf ∷ [] }) _ _ committed current
+        (remains (schema_of w) s (next_state (schema_of w) s (Done claim)) r (record r { journal = r.journal ++ leaf ∷ [] }) k.remains refl
+        (j ∙ ap (λ (j : List ℕ). j ++ leaf ∷ []) k.remains.journal_is) k.remains.bans_are)
+        (answered_claims (next_state (schema_of w) s (Done claim)) claim refl refl)
+        (longer_course (next_state (schema_of w) s (Done claim)) leaf (Event event) j (label_of_event w.tree.labels leaf event at)) k.committed_is refl
+        (few_answered claim) same_epoch
 
-pub out_below : (t : Labelled) (limit : ℕ) (history : List Entry) (journal : List ℕ) (done : List Bool) (given : List Given) (committed : Bool) →
-    IsKept t limit history journal done given committed → (i : ℕ) (g : Given) → slice_get given i ≡ Some g → g.answered ≡ false → g.leaf < length done
-out_below t limit history journal done given committed k i g at out =
-    let l : LeavesOut (out_leaves given) (out_leaves (set given i (answered g))) g.leaf = out_leaves-answered given i g at out in
-    let before : current_leaves (state_of (schema_of t) history) ≡ l.front ++ g.leaf ∷ l.back = current-leaves (state_of (schema_of t) history) given k.ahead.epoch k.claims_are ∙ l.was in
-    let ready = each_without (IsReady t.process [] (λ n. n ∈ (state_of (schema_of t) history).journal)) l.front g.leaf l.back
-    (subst (Each (IsReady t.process [] (λ n. n ∈ (state_of (schema_of t) history).journal))) before k.ahead.claims) in
-    let row : g.leaf < 0 + length t.labels = below_row 0 (length t.labels) g.leaf (subst (λ xs. g.leaf ∈ xs) k.numbered ready.1.leaf) in
-    let same : length done ≡ length t.labels = k.flags.one_each in
-    omega arith
+    -- a result came too late
+    pub kept_late : (claim : ℕ) → IsLapsed s claim → IsKept w limit (longer history by (Late claim)) r (record c { claims = answer claim c.claims }) v committed
+    kept_late claim lapsed =
+        kept_longer (Late claim) r _ v committed lapsed
+        (remains (schema_of w) s (next_state (schema_of w) s (Late claim)) r r k.remains refl k.remains.journal_is k.remains.bans_are)
+        (answered_claims (next_state (schema_of w) s (Late claim)) claim refl refl)
+        (same_course (next_state (schema_of w) s (Late claim)) refl) k.committed_is refl (few_answered claim) same_epoch
 
-pub out_at : (t : Labelled) (limit : ℕ) (history : List Entry) (journal : List ℕ) (done : List Bool) (given : List Given) (committed : Bool) →
-    IsKept t limit history journal done given committed → (i : ℕ) → IsCurrent (state_of (schema_of t) history) (1 + i) → IsOutAt done given i
-out_at t limit history journal done given committed k i current = elim (numbered given (1 + i)) [
-  | given_at j g n within at ↦
-      (let same : j ≡ i = omega arith in
-      let out : g.answered ≡ false = (current-given (state_of (schema_of t) history) given k.claims_are k.ahead.epoch (1 + i) j g n at).1 current in
-      record {
-        claim = g;
-        within = subst (λ m. m < length given) same within;
-        at = subst (λ m. slice_get given m ≡ Some g) same at;
-        out = out;
-        below = out_below t limit history journal done given committed k j g at out;
-      })
-  | not_given h ↦ absurd (not-current (state_of (schema_of t) history) given k.claims_are (1 + i) h current)
-]
+    -- a failure that every execution needs otherwise
+    pub kept_failed : (claim : ℕ) → IsAllowed (schema_of w) s (Failed claim Kept) →
+        IsKept w limit (longer history by (Failed claim Kept)) r (record c { claims = answer claim c.claims }) v committed
+    kept_failed claim allowed =
+        kept_longer (Failed claim Kept) r _ v committed allowed
+        (remains (schema_of w) s (next_state (schema_of w) s (Failed claim Kept)) r r k.remains refl k.remains.journal_is k.remains.bans_are)
+        (answered_claims (next_state (schema_of w) s (Failed claim Kept)) claim refl refl)
+        (same_course (next_state (schema_of w) s (Failed claim Kept)) refl) k.committed_is refl (few_answered claim) same_epoch
+
+    -- a leaf is done that is no event's
+    pub kept_did : (leaf : ℕ) (label : Label) → slice_get w.tree.labels leaf ≡ Some label → CanDo (schema_of w) s leaf →
+        IsKept w limit (longer history by (Did leaf)) (record r { journal = r.journal ++ leaf ∷ [] }) c (record v { labels = v.labels ++ label ∷ [] }) committed
+    kept_did leaf label at can =
+        kept_longer (Did leaf) (record r { journal = r.journal ++ leaf ∷ [] }) c _ committed can
+        (remains (schema_of w) s (next_state (schema_of w) s (Did leaf)) r (record r { journal = r.journal ++ leaf ∷ [] }) k.remains refl
+        (ap (λ (j : List ℕ). j ++ leaf ∷ []) k.remains.journal_is) k.remains.bans_are)
+        (same_claims (next_state (schema_of w) s (Did leaf)) refl refl)
+        (longer_course (next_state (schema_of w) s (Did leaf)) leaf label refl at) k.committed_is refl same_count same_epoch
+
+    -- the run is over
+    pub kept_committed : current_claims s ≡ [] → IsGood (schema_of w) s.journal → IsKept w limit (longer history by Committed) r c v true
+    kept_committed none good =
+        kept_longer Committed r c v true (none, good)
+        (remains (schema_of w) s (next_state (schema_of w) s Committed) r r k.remains refl k.remains.journal_is k.remains.bans_are)
+        (same_claims (next_state (schema_of w) s Committed) refl refl)
+        (same_course (next_state (schema_of w) s Committed) refl) refl refl same_count same_epoch
+
+    -- ---- new epochs
+
+    -- the claims are those that a new epoch leaves, once the residual is that of the state before it
+    abbrev pub IsRaised : Remaining → List Claim → Claimed → Type 0
+    IsRaised r' claims c' = (w : Schema) (s : RunState) → s.claims ≡ claims → s.epoch ≡ c.epoch → IsOf w s r' → c'.claims ≡ (with_new_epoch w s).claims
+
+    raised_claims : (before : RunState) (r' : Remaining) (claims : List Claim) (c' : Claimed) → before.claims ≡ claims → before.epoch ≡ c.epoch →
+        IsOf (schema_of w) before r' → events_at w.tree.labels claims ≡ map Some c.events → IsRaised r' claims c' →
+        c' ≡ record c { claims = c'.claims; epoch = c.epoch + 1 } → AreClaimsOf w (with_new_epoch (schema_of w) before) c'
+    raised_claims before r' claims c' a b f events raised others =
+        let new : c'.claims ≡ (with_new_epoch (schema_of w) before).claims = raised (schema_of w) before a b f in
+        let same_events : c'.events ≡ c.events = ap (λ (x : Claimed). x.events) others in
+        record {
+          claims_are = sym new;
+          epoch_is = ap (λ n. n + 1) b ∙ sym (ap (λ (x : Claimed). x.epoch) others);
+          events_are = ap (events_at w.tree.labels) new ∙ events-spare w.tree.labels (schema_of w) before [] before.claims ∙ ap (events_at w.tree.labels) a ∙ events
+              ∙ ap (map Some) (sym same_events);
+          kinds = ap (λ (x : Claimed). x.kinds) others ∙ k.claims.kinds;
+        }
+
+    -- as many claims as before
+    few_raised : (before : RunState) (claims : List Claim) (c' : Claimed) → before.claims ≡ claims → length claims ≡ length c.claims →
+        c'.claims ≡ (with_new_epoch (schema_of w) before).claims → length c'.claims ≤ length c.claims + 1
+    few_raised before claims c' a count new =
+        let e : length c'.claims ≡ length c.claims =
+        ap length new ∙ sym (length-events_at w.tree.labels (spare (schema_of w) before [] before.claims))
+        ∙ ap length (events-spare w.tree.labels (schema_of w) before [] before.claims) ∙ length-events_at w.tree.labels before.claims ∙ ap length a ∙ count in omega arith
+
+    -- a failure after which an execution goes on without the leaf
+    pub kept_switched : (claim leaf : ℕ) (c' : Claimed) → IsAllowed (schema_of w) s (Failed claim Switched) → leaf_of_claim s claim ≡ leaf →
+        IsRaised (record r { bans = r.bans ++ (length r.journal, leaf) ∷ [] }) (answer claim c.claims) c' →
+        c' ≡ record c { claims = c'.claims; epoch = c.epoch + 1 } →
+        IsKept w limit (longer history by (Failed claim Switched)) (record r { bans = r.bans ++ (length r.journal, leaf) ∷ [] }) c' v committed
+    kept_switched claim leaf c' allowed on raised others =
+        let r' : Remaining = record r { bans = r.bans ++ (length r.journal, leaf) ∷ [] } in
+        let before : RunState = record s { bans = s.bans ++ (length s.journal, leaf_of_claim s claim) ∷ []; claims = answer claim s.claims } in
+        let bans : s.bans ++ (length s.journal, leaf_of_claim s claim) ∷ [] ≡ r'.bans =
+        ap (λ (b : List (ℕ × ℕ)). b ++ (length s.journal, leaf_of_claim s claim) ∷ []) k.remains.bans_are
+        ∙ ap (λ (j : List ℕ). r.bans ++ (length j, leaf_of_claim s claim) ∷ []) k.remains.journal_is ∙ ap (λ n. r.bans ++ (length r.journal, n) ∷ []) on in
+        let f : IsOf (schema_of w) before r' = remains (schema_of w) s before r r' k.remains refl k.remains.journal_is bans in
+        let claims : before.claims ≡ answer claim c.claims = ap (answer claim) k.claims.claims_are in
+        kept_longer (Failed claim Switched) r' c' v committed allowed
+        (remains (schema_of w) s (next_state (schema_of w) s (Failed claim Switched)) r r' k.remains refl k.remains.journal_is bans)
+        (raised_claims before r' (answer claim c.claims) c' claims k.claims.epoch_is f (events-answer w.tree.labels claim c.claims ∙ k.claims.events_are) raised others)
+        (same_course (next_state (schema_of w) s (Failed claim Switched)) refl) k.committed_is (ap (λ (x : Claimed). x.room) others)
+        (few_raised before (answer claim c.claims) c' claims (length-map c.claims _) (raised (schema_of w) before claims k.claims.epoch_is f))
+        (let e : c'.epoch ≡ c.epoch + 1 = ap (λ (x : Claimed). x.epoch) others in omega arith)
+
+    -- the journal is cut
+    pub kept_rewound : (index : ℕ) (c' : Claimed) → IsOpenIndex (schema_of w) s index →
+        IsRaised (record r {
+          journal = take index r.journal;
+          bans = filter (λ ban. nat_le ban.0 index) r.bans ++ (index, slice_index r.journal index) ∷ [];
+        }) c.claims c' → c' ≡ record c { claims = c'.claims; epoch = c.epoch + 1 } →
+        IsKept w limit (longer history by (Rewound index)) (record r {
+          journal = take index r.journal;
+          bans = filter (λ ban. nat_le ban.0 index) r.bans ++ (index, slice_index r.journal index) ∷ [];
+        }) c' (record v { labels = take index v.labels }) committed
+    kept_rewound index c' allowed raised others =
+        let r' : Remaining = record r { journal = take index r.journal; bans = filter (λ ban. nat_le ban.0 index) r.bans ++ (index, slice_index r.journal index) ∷ [] } in
+        let before : RunState = record s { journal = take index s.journal; bans = filter (λ ban. nat_le ban.0 index) s.bans ++ (index, slice_index s.journal index) ∷ [] } in
+        let journal : take index s.journal ≡ r'.journal = ap (take index) k.remains.journal_is in
+        let bans : before.bans ≡ r'.bans =
+        ap (λ (b : List (ℕ × ℕ)). filter (λ ban. nat_le ban.0 index) b ++ (index, slice_index s.journal index) ∷ []) k.remains.bans_are
+        ∙ ap (λ (j : List ℕ). filter (λ ban. nat_le ban.0 index) r.bans ++ (index, slice_index j index) ∷ []) k.remains.journal_is in
+        let f : IsOf (schema_of w) before r' = remains (schema_of w) s before r r' k.remains refl journal bans in
+        kept_longer (Rewound index) r' c' (record v { labels = take index v.labels }) committed allowed
+        (remains (schema_of w) s (next_state (schema_of w) s (Rewound index)) r r' k.remains refl journal bans)
+        (raised_claims before r' c.claims c' k.claims.claims_are k.claims.epoch_is f k.claims.events_are raised others)
+        (record {
+          held_is = k.course.held_is;
+          count = k.course.count;
+          labels_are = ap (take index) k.course.labels_are ∙ sym (labels_at-take w.tree.labels s.journal index (journal_within (schema_of w) k.remains.well_formed s sound_now));
+          room = k.course.room;
+        })
+        k.committed_is (ap (λ (x : Claimed). x.room) others)
+        (few_raised before c.claims c' k.claims.claims_are refl (raised (schema_of w) before k.claims.claims_are k.claims.epoch_is f))
+        (let e : c'.epoch ≡ c.epoch + 1 = ap (λ (x : Claimed). x.epoch) others in omega arith)

@@ -1,39 +1,41 @@
 -- What the fields of a core keep: the history is legal, and all else is its state.
-use Rattle.std.specs.Prelude.{◌≡◌, ◌≤◌, ◌↔◌, ℕ, Bool, IsTrue, List, [], length}
+use Rattle.std.specs.Prelude.{◌≡◌, ◌≤◌, ℕ, Bool, List, length, map, Some}
 use Rattle.flow_model.specs.declared.history.Entry.{Entry}
-use Rattle.flow_model.specs.Lists.{◌∈◌, Each, AreDistinct}
-use Rattle.flow_model.specs.Process.{IsNumbered}
-use Rattle.flow_model.specs.Ready.{IsReady, IsReadyRun}
-use Rattle.flow_model.specs.Run.{RunState, state_of, current_leaves, IsLegal}
-use Rattle.flow_goal.specs.Labelled.{Labelled}
-use Rattle.flow_goal.specs.Plain.{IsPlainTree}
-use Rattle.flow_core.specs.declared.given.Given.{Given}
-use Rattle.flow_core.specs.Given.{claims_from}
-use Rattle.flow_core.specs.Look.{is_done}
-use Rattle.flow_core.specs.View.{schema_of}
+use Rattle.flow_model.specs.Facts.{event_at}
+use Rattle.flow_model.specs.Lists.{Each}
+use Rattle.flow_model.specs.Run.{Claim, RunState, state_of, IsLegal}
+use Rattle.flow_laws.specs.Words.{IsConsistent}
+use Rattle.flow_workflow.specs.Definition.{Definition, schema_of}
+use Rattle.flow_workflow.specs.Numbers.{IsKnown}
+use Rattle.flow_residual.specs.Remaining.{Remaining, IsOf}
+use Rattle.flow_claims.specs.Claimed.{Claimed}
+use Rattle.flow_world.specs.Course.{Course}
+use Rattle.flow_world.specs.Journals.{labels_at}
 
--- the state of a run that never went back: its journal is a ready run, and its claims may each come next
-pub record IsAhead (tree : Labelled) (s : RunState) : Type 0 where
-  pub bans : s.bans ≡ []
-  pub epoch : s.epoch ≡ 0
-  pub journal : IsReadyRun tree.process [] s.journal
-  pub claims : Each (IsReady tree.process [] (λ n. n ∈ s.journal)) (current_leaves s)
-  pub apart : AreDistinct (current_leaves s)
+-- the claims, their events and the epoch are those of the state
+pub record AreClaimsOf (w : Definition) (s : RunState) (c : Claimed) : Type 0 where
+  pub claims_are : s.claims ≡ c.claims
+  pub epoch_is : s.epoch ≡ c.epoch
+  pub events_are : map (λ (claim : Claim). event_at w.tree.labels claim.leaf) c.claims ≡ map Some c.events
+  pub kinds : c.kinds ≡ length w.events
 
--- the flags say which leaves are done
-pub record AreFlags (tree : Labelled) (done : List Bool) (journal : List ℕ) : Type 0 where
-  pub one_each : length done ≡ length tree.labels
-  pub exact : (n : ℕ) → IsTrue (is_done done n) ↔ (n ∈ journal)
+-- what was performed is the state's journal
+pub record IsCourseOf (w : Definition) (s : RunState) (v : Course) : Type 0 where
+  pub held_is : v.held ≡ w.held
+  pub count : v.count ≡ length w.facts
+  pub labels_are : v.labels ≡ labels_at w.tree.labels s.journal
+  pub room : v.room ≡ length w.tree.labels
 
-pub record IsKept (tree : Labelled) (limit : ℕ) (history : List Entry) (journal : List ℕ) (done : List Bool) (given : List Given) (committed : Bool) : Type 0 where
-  pub plain : IsPlainTree tree
-  pub numbered : IsNumbered tree.process (length tree.labels)
-  pub legal : IsLegal (schema_of tree) limit history
-  pub ahead : IsAhead tree (state_of (schema_of tree) history)
-  pub journal_is : (state_of (schema_of tree) history).journal ≡ journal
-  pub claims_are : (state_of (schema_of tree) history).claims ≡ claims_from 1 given
-  pub committed_is : (state_of (schema_of tree) history).committed ≡ committed
-  pub flags : AreFlags tree done journal
+pub record IsKept (w : Definition) (limit : ℕ) (history : List Entry) (r : Remaining) (c : Claimed) (v : Course) (committed : Bool) : Type 0 where
+  pub legal : IsLegal (schema_of w) limit history
+  pub consistent : IsConsistent (schema_of w)
+  pub known : Each (IsKnown (length w.events) (length w.facts)) w.tree.labels
+  pub noted : length w.notes ≡ length w.events
+  pub remains : IsOf (schema_of w) (state_of (schema_of w) history) r
+  pub claims : AreClaimsOf w (state_of (schema_of w) history) c
+  pub course : IsCourseOf w (state_of (schema_of w) history) v
+  pub committed_is : (state_of (schema_of w) history).committed ≡ committed
   pub spent : length history ≤ limit
-  pub few_claims : length given ≤ length history
-  pub few_leaves : length journal ≤ length history
+  pub claims_room : limit ≤ c.room
+  pub few_claims : length c.claims ≤ length history
+  pub few_epochs : c.epoch ≤ length history

@@ -1,7 +1,9 @@
-pub mod Look
-pub mod Given
-pub mod View
+pub mod Run
+pub mod Lawful
+pub mod Answers
+pub mod Single
+pub mod Standing
+pub mod Looks
+pub mod Played
 pub mod Kept
 pub mod Fields
-pub mod Claims
-pub mod Lawful

@@ -1,11 +1,22 @@
 //! One run of a workflow: its history, entry by entry, each of them legal.
 #![tactic(auto)]
 
+mod ask;
+mod ending;
 mod engine;
-mod given;
-mod look;
+mod looking;
+mod next;
+mod performing;
+mod playing;
+mod posting;
 mod refusal;
+mod single;
+mod taking;
 
+pub use ask::{Ask, Told};
 pub use engine::Core;
 pub use flow_model::{Call, Entry, FailEffect, Step};
-pub use refusal::{CommitRefusal, PostRefusal, TakeRefusal};
+pub use next::Next;
+pub use playing::play;
+pub use refusal::{CommitRefusal, DoRefusal, PostRefusal, RewindRefusal, TakeRefusal};
+pub use single::law_answers_are_single;

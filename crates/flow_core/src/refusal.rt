@@ -15,6 +15,23 @@ pub enum TakeRefusal {
     NotEnabled,
 }
 
+/// Why a leaf that is no event is not done.
+#[derive(Clone, Copy, Debug, PartialEq, Eq, Error)]
+pub enum DoRefusal {
+    #[error("the run is over")]
+    Closed,
+    #[error("there is no such leaf")]
+    NoLeaf,
+    #[error("the leaf is an event")]
+    WrongKind,
+    #[error("all {limit} steps are spent")]
+    Spent { limit: u32 },
+    #[error("the leaf cannot be done now")]
+    NotEnabled,
+    #[error("what the leaf tests does not hold now")]
+    TestFalse,
+}
+
 /// Why a result is not posted.
 #[derive(Clone, Copy, Debug, PartialEq, Eq, Error)]
 pub enum PostRefusal {
@@ -29,6 +46,17 @@ pub enum PostRefusal {
     /// The result came too late: it is recorded and does not count.
     #[error("the claim is of epoch {of}, and it is now {now}")]
     Late { of: u32, now: u32 },
+}
+
+/// Why a run does not go back.
+#[derive(Clone, Copy, Debug, PartialEq, Eq, Error)]
+pub enum RewindRefusal {
+    #[error("the run is over")]
+    Closed,
+    #[error("all {limit} steps are spent")]
+    Spent { limit: u32 },
+    #[error("no other choice is free")]
+    NoChoice,
 }
 
 /// Why a run is not committed.

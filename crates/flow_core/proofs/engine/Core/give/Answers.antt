@@ -1,68 +1,108 @@
-use Rattle.std.proofs.Common.{◌≡◌, ◌<◌, ◌≤◌, ◌+◌, List, [], ◌∷◌, ◌++◌, length, Some, false, subst, sym, ap, ◌∙◌, arith}
-use Rattle.std.specs.Vec.{vec_len, vec_capacity}
+use Rattle.std.proofs.Common.{◌≡◌, ◌<◌, ◌≤◌, ◌+◌, ℕ, cond, nat_eq, false, List, [], ◌∷◌, ◌++◌, length, map, take, Some, slice_get, slice_index_or, subst, subst₂, sym, ap, ◌∙◌, refl, arith, length-append}
+use Rattle.std.proofs.lemmas.Bool.{eq-eqb}
+use Rattle.std.proofs.lemmas.List.{take_all, length-map}
+use Rattle.std.proofs.lemmas.Option.{slice_get-get_or}
 use Rattle.flow_model.specs.declared.history.Entry.{Entry}
-use Rattle.flow_model.specs.declared.history.Step.TheVariants.{Took}
-use Rattle.flow_model.specs.Facts.{event_at}
-use Rattle.flow_model.specs.Run.{RunState, state_of, CanTake}
-use Rattle.flow_core.specs.declared.given.Given.{Given}
-use Rattle.flow_core.specs.View.{Progress, GoesOn, HasSteps, now, schema_of, with_entry}
-use Rattle.flow_core.specs.Kept.{IsKept}
-use Rattle.flow_core.specs.Given.{on_event, claims_from}
-use Rattle.flow_model.specs.Verdict.{call_of}
 use Rattle.flow_model.specs.declared.labels.Note.TheVariants as note
-use Rattle.flow_core.proofs.Enabled.{ready_to_take}
-use Rattle.flow_core.proofs.GivenClaims.{length-claims_from}
-use Rattle.flow_core.proofs.Steps.{longer, kept_give, call-took}
+use Rattle.flow_model.specs.Facts.{event_at}
+use Rattle.flow_model.specs.Lists.{numbers_from}
+use Rattle.flow_model.specs.Run.{Claim, RunState, state_of, claim_at, CanTake}
+use Rattle.flow_model.specs.Verdict.{call_of}
+use Rattle.flow_laws.proofs.ClaimLemmas.{number_of}
+use Rattle.flow_workflow.specs.Definition.{Definition, schema_of}
+use Rattle.flow_claims.specs.Claimed.{Claimed, count_of}
+use Rattle.flow_claims.proofs.Counting.{count-push}
+use Rattle.flow_core.specs.Run.{Run, schema, now, GoesOn, HasSteps}
+use Rattle.flow_core.specs.Answers.{next_claim}
+use Rattle.flow_core.specs.Kept.{IsKept}
+use Rattle.flow_core.proofs.Steps.{sound_now, kept_took}
+use Rattle.flow_core.proofs.Calls.{known_event, find_last, call_is}
 use Rattle.flow_core.proofs.engine.Core.give.Goals as goal
+
+pub give-attempt-requires-clause-kind : goal.give-attempt-requires-clause-kind
+give-attempt-requires-clause-kind c =
+    let i = c.self.inside in
+    let k = c.self.invariant.kept in
+    let at : event_at i.workflow.tree.labels c.args.leaf ≡ Some c.args.event =
+    subst (λ (r : Run). event_at (schema r).labels c.args.leaf ≡ Some c.args.event) (sym c.self.view_is) c.requires.event in
+    let l : c.args.event < length i.workflow.events = known_event i.workflow.tree.labels (length i.workflow.events) (length i.workflow.facts) k.known c.args.leaf c.args.event at in
+    let e : i.claims.kinds ≡ length i.workflow.events = k.claims.kinds in
+    omega arith
+
+pub bounds-notes-event : goal.bounds-notes-event
+bounds-notes-event c =
+    let i = c.self.inside in
+    let k = c.self.invariant.kept in
+    let at : event_at i.workflow.tree.labels c.args.leaf ≡ Some c.args.event =
+    subst (λ (r : Run). event_at (schema r).labels c.args.leaf ≡ Some c.args.event) (sym c.self.view_is) c.requires.event in
+    let l : c.args.event < length i.workflow.events = known_event i.workflow.tree.labels (length i.workflow.events) (length i.workflow.facts) k.known c.args.leaf c.args.event at in
+    let e : length c.notes.result.now ≡ length i.workflow.events = ap length c.notes.ensures.notes ∙ k.noted in
+    omega arith
 
 pub invariant_of-self : goal.invariant_of-self
 invariant_of-self c =
     let i = c.self.inside in
-    let k : IsKept i.tree i.limit i.history.items i.journal.items i.done.items i.given.items i.committed = c.self.invariant.kept in
-    let going : (state_of (schema_of i.tree) i.history.items).committed ≡ false = subst GoesOn (sym c.self.view_is) c.requires.open in
+    let k = c.self.invariant.kept in
+    let going : (state_of (schema_of i.workflow) i.history.items).committed ≡ false = subst GoesOn (sym c.self.view_is) c.requires.open in
     let room : length i.history.items < i.limit = subst HasSteps (sym c.self.view_is) c.requires.steps in
-    let can : CanTake (schema_of i.tree) (state_of (schema_of i.tree) i.history.items) c.args.leaf =
-    subst (λ (p : Progress). CanTake p.schema (now p) c.args.leaf) (sym c.self.view_is) c.requires.enabled in
-    let number : c.len.result + 1 ≡ 1 + length i.given.items = let e : vec_len i.given ≡ length i.given.items = i.given.ok.0 in let f : c.len.result ≡ vec_len i.given = c.len.ensures in omega arith in
-    let h : c.push_reserved-2.new.self.items ≡ longer i.history.items c.args.by (Took (1 + length i.given.items) c.args.leaf) =
-    c.push_reserved-2.ensures.items ∙ ap (λ n. longer i.history.items c.args.by (Took n c.args.leaf)) number in
+    let at : event_at i.workflow.tree.labels c.args.leaf ≡ Some c.args.event =
+    subst (λ (r : Run). event_at (schema r).labels c.args.leaf ≡ Some c.args.event) (sym c.self.view_is) c.requires.event in
+    let can : CanTake (schema_of i.workflow) (state_of (schema_of i.workflow) i.history.items) c.args.leaf =
+    subst (λ (r : Run). CanTake (schema r) (now r) c.args.leaf) (sym c.self.view_is) c.requires.enabled in
+    let number : c.count-claim.result + 1 ≡ length i.claims.claims + 1 = ap (λ n. n + 1) c.count-claim.ensures.given in
     record {
-      kept = subst (λ (h : List Entry). IsKept i.tree i.limit h i.journal.items i.done.items c.push_reserved.new.self.items i.committed) (sym h)
-          (subst (λ (g : List Given). IsKept i.tree i.limit (longer i.history.items c.args.by (Took (1 + length i.given.items) c.args.leaf)) i.journal.items i.done.items g i.committed)
-          (sym c.push_reserved.ensures.items)
-          (kept_give i.tree i.limit i.history.items i.journal.items i.done.items i.given.items i.committed k going room c.args.leaf c.args.by can
-          (ready_to_take i.tree k.plain k.numbered (state_of (schema_of i.tree) i.history.items) c.args.leaf can)));
-      history_room = let e : vec_capacity c.push_reserved-2.new.self ≡ vec_capacity i.history = c.push_reserved-2.ensures.capacity in
-          let r : i.limit ≤ vec_capacity i.history = c.self.invariant.history_room in omega arith;
-      journal_room = c.self.invariant.journal_room;
-      given_room = let e : vec_capacity c.push_reserved.new.self ≡ vec_capacity i.given = c.push_reserved.ensures.capacity in
-          let r : i.limit ≤ vec_capacity i.given = c.self.invariant.given_room in omega arith;
+      kept = subst₂ (λ (h : List Entry) (claims : Claimed). IsKept i.workflow i.limit h i.residual claims i.world i.committed) (sym c.push_reserved.ensures.items) (sym c.give-attempt.ensures.value)
+          (kept_took i.workflow i.limit i.history.items i.residual i.claims i.world i.committed k going room c.args.by c.args.leaf c.args.event (c.count-claim.result + 1) number at can);
+      room = subst (λ n. i.limit ≤ n) (sym c.push_reserved.ensures.capacity) c.self.invariant.room;
       small = c.self.invariant.small;
     }
 
-pub returns-clause-entry : goal.returns-clause-entry
-returns-clause-entry c =
-    let i = c.self.inside in
-    let number : c.len.result + 1 ≡ length (state_of (schema_of i.tree) i.history.items).claims + 1 =
-    ap (λ n. n + 1) (c.len.ensures ∙ i.given.ok.0 ∙ sym (length-claims_from 1 i.given.items) ∙ sym (ap length c.self.invariant.kept.claims_are)) in
-    let h : c.push_reserved-2.new.self.items ≡ longer i.history.items c.args.by (Took (length (state_of (schema_of i.tree) i.history.items).claims + 1) c.args.leaf) =
-    c.push_reserved-2.ensures.items ∙ ap (λ n. longer i.history.items c.args.by (Took n c.args.leaf)) number in
-    let new : Progress = record { schema = schema_of i.tree; limit = i.limit; history = c.push_reserved-2.new.self.items } in
-    subst (λ (p : Progress). new ≡ with_entry p c.args.by (Took (length (now p).claims + 1) c.args.leaf)) c.self.view_is
-    (ap (λ (h : List Entry). record { schema = schema_of i.tree; limit = i.limit; history = h }) h)
+-- the claim given last, and what the gate is asked for it
+last_call : (w : Definition) (limit : ℕ) (history : List Entry) (r : _) (old : Claimed) (v : _) (committed : _) (k : IsKept w limit history r old v committed) →
+    (history' : List Entry) (new : Claimed) → IsKept w limit history' r new v committed → (leaf event attempt : ℕ) (noted : _) →
+    new ≡ record old { claims = old.claims ++ record { number = length old.claims + 1; leaf = leaf; epoch = old.epoch; answered = false } ∷ []; events = old.events ++ event ∷ [] } →
+    event_at w.tree.labels leaf ≡ Some event → attempt ≡ count_of event old.events + 1 → slice_get w.notes event ≡ Some noted →
+    record { claim = length old.claims + 1; leaf = leaf; event = event; attempt = attempt; note = noted } ≡ call_of (schema_of w) (state_of (schema_of w) history') (length old.claims + 1)
+last_call w limit history r old v committed k history' new k' leaf event attempt noted is at tries note_is =
+    let s : RunState = state_of (schema_of w) history in
+    let s' : RunState = state_of (schema_of w) history' in
+    let one : Claim = record { number = length old.claims + 1; leaf = leaf; epoch = old.epoch; answered = false } in
+    let n : ℕ = length old.claims + 1 in
+    let sound = sound_now w limit history r old v committed k in
+    let numbered : map number_of old.claims ≡ numbers_from 1 (length old.claims) =
+    sym (ap (map number_of) k.claims.claims_are) ∙ sound.numbered ∙ ap (λ (cs : List Claim). numbers_from 1 (length cs)) k.claims.claims_are in
+    let claims : s'.claims ≡ old.claims ++ one ∷ [] = k'.claims.claims_are ∙ ap (λ (x : Claimed). x.claims) is in
+    let found : claim_at s' n ≡ Some one =
+    ap (Rattle.std.specs.List.find (λ (claim : Claim). nat_eq claim.number n)) claims ∙ find_last 1 old.claims one n numbered (omega arith) refl in
+    let few : length (old.events ++ event ∷ []) ≤ n =
+    let a : length old.claims ≡ length old.events = sym (length-map old.claims _) ∙ ap length k.claims.events_are ∙ length-map old.events Some in
+    let b : length (old.events ++ event ∷ []) ≡ length old.events + 1 = length-append old.events (event ∷ []) in omega arith in
+    let whole : count_of event (take n new.events) ≡ count_of event (old.events ++ event ∷ []) =
+    ap (λ (x : Claimed). count_of event (take n x.events)) is ∙ ap (count_of event) (take_all n (old.events ++ event ∷ []) few) in
+    let more : count_of event (old.events ++ event ∷ []) ≡ count_of event old.events + 1 =
+    count-push event event old.events ∙ ap (λ b. count_of event old.events + cond b 1 0) (eq-eqb event event refl) in
+    call_is w s' new k'.claims (sound_now w limit history' r new v committed k') n leaf event attempt noted one found refl at (tries ∙ sym more ∙ sym whole) note_is
 
 pub returns-clause-call : goal.returns-clause-call
 returns-clause-call c =
     let i = c.self.inside in
-    let s' : RunState = state_of (schema_of i.tree) c.push_reserved-2.new.self.items in
-    let number : c.len.result + 1 ≡ 1 + length i.given.items = let e : vec_len i.given ≡ length i.given.items = i.given.ok.0 in let f : c.len.result ≡ vec_len i.given = c.len.ensures in omega arith in
-    let claims : s'.claims ≡ claims_from 1 (i.given.items ++ record { leaf = c.args.leaf; answered = false } ∷ []) =
-    (invariant_of-self c).kept.claims_are ∙ ap (claims_from 1) c.push_reserved.ensures.items in
-    let at : event_at i.tree.labels c.args.leaf ≡ Some c.args.event = subst (λ (p : Progress). event_at p.schema.labels c.args.leaf ≡ Some c.args.event) (sym c.self.view_is) c.requires.event in
-    let count : c.attempts_at-attempt.result ≡ on_event i.tree.labels c.args.event (i.given.items ++ record { leaf = c.args.leaf; answered = false } ∷ []) =
-    c.attempts_at-attempt.ensures ∙ ap (on_event i.tree.labels c.args.event) (c.deref.ensures.value ∙ c.push_reserved.ensures.items) in
-    let last : c.len.result + 1 ≡ length (now c.args.self.now).claims + 1 = subst (λ (p : Progress). c.len.result + 1 ≡ length (now p).claims + 1) c.self.view_is
-    (ap (λ n. n + 1) (c.len.ensures ∙ i.given.ok.0 ∙ sym (length-claims_from 1 i.given.items) ∙ sym (ap length c.self.invariant.kept.claims_are))) in
-    ap (λ n. record { claim = c.len.result + 1; leaf = c.args.leaf; event = c.args.event; attempt = n; note = note.Done }) count
-    ∙ call-took i.tree s' i.given.items c.args.leaf c.args.event (c.len.result + 1) claims number at
-    ∙ ap (call_of (schema_of i.tree) s') last
+    let k = c.self.invariant.kept in
+    let at : event_at i.workflow.tree.labels c.args.leaf ≡ Some c.args.event =
+    subst (λ (r : Run). event_at (schema r).labels c.args.leaf ≡ Some c.args.event) (sym c.self.view_is) c.requires.event in
+    let noted = slice_index_or c.notes.result.now c.args.event note.Done in
+    let known : c.args.event < length i.workflow.events = known_event i.workflow.tree.labels (length i.workflow.events) (length i.workflow.facts) k.known c.args.leaf c.args.event at in
+    let as_many : length c.notes.result.now ≡ length i.workflow.events = ap length c.notes.ensures.notes ∙ k.noted in
+    let note_is : slice_get i.workflow.notes c.args.event ≡ Some noted =
+    sym (ap (λ (ns : List Rattle.flow_model.specs.declared.labels.Note.Note). slice_get ns c.args.event) c.notes.ensures.notes)
+    ∙ slice_get-get_or c.notes.result.now c.args.event note.Done (omega arith) in
+    let call : record { claim = length i.claims.claims + 1; leaf = c.args.leaf; event = c.args.event; attempt = c.give-attempt.result; note = noted }
+    ≡ call_of (schema_of i.workflow) (state_of (schema_of i.workflow) c.push_reserved.new.self.items) (length i.claims.claims + 1) =
+    last_call i.workflow i.limit i.history.items i.residual i.claims i.world i.committed k c.push_reserved.new.self.items c.give-attempt.new.self (invariant_of-self c).kept
+    c.args.leaf c.args.event c.give-attempt.result noted c.give-attempt.ensures.value at c.give-attempt.ensures.attempt note_is in
+    let number : c.count-claim.result + 1 ≡ length i.claims.claims + 1 = ap (λ n. n + 1) c.count-claim.ensures.given in
+    let same : length i.claims.claims + 1 ≡ next_claim c.args.self.now =
+    ap (λ (cs : List Claim). length cs + 1) (sym k.claims.claims_are) ∙ ap next_claim c.self.view_is in
+    let schema_is : schema_of i.workflow ≡ schema c.args.self.now = ap schema c.self.view_is in
+    ap (λ n. record { claim = n; leaf = c.args.leaf; event = c.args.event; attempt = c.give-attempt.result; note = noted }) number ∙ call
+    ∙ ap (call_of (schema_of i.workflow) (state_of (schema_of i.workflow) c.push_reserved.new.self.items)) same
+    ∙ ap (λ w. call_of w (state_of (schema_of i.workflow) c.push_reserved.new.self.items) (next_claim c.args.self.now)) schema_is

@@ -1,11 +1,11 @@
 use Rattle.std.proofs.Common.{subst}
-use Rattle.flow_core.specs.View.{Progress}
+use Rattle.flow_core.specs.Run.{Run, schema}
 use Rattle.flow_core.specs.Lawful.{IsLawful}
-use Rattle.flow_core.proofs.LawfulHistories.{lawful}
+use Rattle.flow_core.proofs.Lawful.{lawful}
 use Rattle.flow_core.proofs.engine.Core.history.Goals as goal
 
 pub returns-clause-lawful : goal.returns-clause-lawful
 returns-clause-lawful c =
     let i = c.self.inside in
-    subst (λ (p : Progress). IsLawful p.schema p.limit p.history) c.self.view_is
-    (lawful i.tree i.limit i.history.items i.journal.items i.done.items i.given.items i.committed c.self.invariant.kept)
+    subst (λ (r : Run). IsLawful (schema r) r.limit r.history) c.self.view_is
+    (lawful i.workflow i.limit i.history.items i.residual i.claims i.world i.committed c.self.invariant.kept)

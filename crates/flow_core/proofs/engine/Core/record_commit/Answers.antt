@@ -1,26 +1,25 @@
-use Rattle.std.proofs.Common.{◌≡◌, ◌<◌, ◌≤◌, List, [], length, false, true, subst, sym, arith}
-use Rattle.std.specs.Vec.{vec_capacity}
+use Rattle.std.proofs.Common.{◌≡◌, ◌<◌, ◌≤◌, false, true, List, [], length, subst, sym}
 use Rattle.flow_model.specs.declared.history.Entry.{Entry}
 use Rattle.flow_model.specs.Schema.{IsGood}
-use Rattle.flow_model.specs.Run.{state_of, current_claims}
-use Rattle.flow_core.specs.View.{Progress, GoesOn, HasSteps, now, schema_of}
+use Rattle.flow_model.specs.Run.{RunState, state_of, current_claims}
+use Rattle.flow_workflow.specs.Definition.{schema_of}
+use Rattle.flow_core.specs.Run.{Run, schema, now, GoesOn, HasSteps}
 use Rattle.flow_core.specs.Kept.{IsKept}
-use Rattle.flow_core.proofs.Steps.{kept_commit}
+use Rattle.flow_core.proofs.Steps.{kept_committed}
 use Rattle.flow_core.proofs.engine.Core.record_commit.Goals as goal
 
 pub invariant_of-self : goal.invariant_of-self
 invariant_of-self c =
     let i = c.self.inside in
-    let going : (state_of (schema_of i.tree) i.history.items).committed ≡ false = subst GoesOn (sym c.self.view_is) c.requires.open in
+    let k = c.self.invariant.kept in
+    let s : RunState = state_of (schema_of i.workflow) i.history.items in
+    let going : s.committed ≡ false = subst GoesOn (sym c.self.view_is) c.requires.open in
     let room : length i.history.items < i.limit = subst HasSteps (sym c.self.view_is) c.requires.steps in
-    let none : current_claims (state_of (schema_of i.tree) i.history.items) ≡ [] = subst (λ (p : Progress). current_claims (now p) ≡ []) (sym c.self.view_is) c.requires.no_claim in
-    let good : IsGood (schema_of i.tree) (state_of (schema_of i.tree) i.history.items).journal = subst (λ (p : Progress). IsGood p.schema (now p).journal) (sym c.self.view_is) c.requires.good in
+    let none : current_claims s ≡ [] = subst (λ (r : Run). current_claims (now r) ≡ []) (sym c.self.view_is) c.requires.no_claim in
+    let good : IsGood (schema_of i.workflow) s.journal = subst (λ (r : Run). IsGood (schema r) (now r).journal) (sym c.self.view_is) c.requires.good in
     record {
-      kept = subst (λ (h : List Entry). IsKept i.tree i.limit h i.journal.items i.done.items i.given.items true) (sym c.push_reserved.ensures.items)
-          (kept_commit i.tree i.limit i.history.items i.journal.items i.done.items i.given.items i.committed c.self.invariant.kept going room c.args.by none good);
-      history_room = let e : vec_capacity c.push_reserved.new.self ≡ vec_capacity i.history = c.push_reserved.ensures.capacity in
-          let r : i.limit ≤ vec_capacity i.history = c.self.invariant.history_room in omega arith;
-      journal_room = c.self.invariant.journal_room;
-      given_room = c.self.invariant.given_room;
+      kept = subst (λ (h : List Entry). IsKept i.workflow i.limit h i.residual i.claims i.world true) (sym c.push_reserved.ensures.items)
+          (kept_committed i.workflow i.limit i.history.items i.residual i.claims i.world i.committed k going room c.args.by none good);
+      room = subst (λ n. i.limit ≤ n) (sym c.push_reserved.ensures.capacity) c.self.invariant.room;
       small = c.self.invariant.small;
     }

@@ -1,0 +1,76 @@
+-- What the claims of a core, its residual and its world say of the state.
+use Rattle.std.proofs.Common.{◌≡◌, ◌<◌, ◌+◌, ℕ, Bool, true, false, not, ◌&&◌, nat_eq, nat_lt, List, [], ◌∷◌, ◌++◌, Some, ◌↔◌, IsTrue, IsSomeAnd, refl, sym, ap, ◌∙◌, subst, true≢false}
+use Rattle.std.proofs.lemmas.Bool.{eq-eqb, lt-ltb}
+use Rattle.flow_model.specs.Lists.{◌∈◌}
+use Rattle.flow_model.specs.Schema.{Schema, IsEventLeaf}
+use Rattle.flow_model.specs.Run.{Claim, RunState, first_state, current_leaves, current_claims, claim_at, leaf_of_claim, is_current, is_lapsed, IsCurrent, IsLapsed, MayAllFollow, CanTake}
+use Rattle.flow_laws.proofs.ClaimLemmas.{leaf_of_claim_is}
+use Rattle.flow_workflow.specs.Definition.{Definition, schema_of}
+use Rattle.flow_residual.specs.Remaining.{Remaining, IsOf}
+use Rattle.flow_claims.specs.declared.given.Given.{Given}
+use Rattle.flow_claims.specs.Given.{claim_of}
+use Rattle.flow_claims.specs.Claimed.{Claimed, run_of, IsUnanswered}
+use Rattle.flow_core.specs.Answers.{IsAnswered, IsUnanswered as IsUnansweredIn, IsLateOf}
+use Rattle.flow_core.specs.Kept.{AreClaimsOf}
+
+module _ (w : Definition) (s : RunState) (c : Claimed) (are : AreClaimsOf w s c) where
+  pub leaves_are : current_leaves (run_of c) ≡ current_leaves s
+  leaves_are =
+      ap (λ (cs : List Claim). current_leaves (record first_state { claims = cs; epoch = c.epoch })) (sym are.claims_are)
+      ∙ ap (λ e. current_leaves (record first_state { claims = s.claims; epoch = e })) (sym are.epoch_is)
+
+  pub claims_are : current_claims (run_of c) ≡ current_claims s
+  claims_are =
+      ap (λ (cs : List Claim). current_claims (record first_state { claims = cs; epoch = c.epoch })) (sym are.claims_are)
+      ∙ ap (λ e. current_claims (record first_state { claims = s.claims; epoch = e })) (sym are.epoch_is)
+
+  pub claim_is : (number : ℕ) → claim_at (run_of c) number ≡ claim_at s number
+  claim_is number = ap (λ (cs : List Claim). claim_at (record first_state { claims = cs }) number) (sym are.claims_are)
+
+  -- a claim that is to be answered is unanswered, as the claims tell it
+  pub unanswered_there : (number : ℕ) → IsUnansweredIn s number → IsUnanswered c number
+  unanswered_there number = subst (λ o. IsSomeAnd o (λ (claim : Claim). claim.answered ≡ false)) (sym (claim_is number))
+
+  pub can_take_is : (r : Remaining) → IsOf (schema_of w) s r → (leaf : ℕ) → IsEventLeaf (schema_of w) leaf → (has : Bool) →
+      IsTrue has ↔ (leaf ∈ current_leaves (run_of c)) → has ≡ false → (b : Bool) (claims : List ℕ) → claims ≡ current_leaves (run_of c) →
+      ((w : Schema) (s : RunState) → IsOf w s r → IsTrue b ↔ MayAllFollow w s (claims ++ leaf ∷ [])) → IsTrue b ↔ CanTake (schema_of w) s leaf
+  can_take_is r f leaf event has among none b claims same says =
+      let told : IsTrue b ↔ MayAllFollow (schema_of w) s (current_leaves s ++ leaf ∷ []) =
+      subst (λ l. IsTrue b ↔ MayAllFollow (schema_of w) s (l ++ leaf ∷ [])) (same ∙ leaves_are) (says (schema_of w) s f) in (
+        λ yes. (event, (λ m. true≢false (sym (among.1 (subst (λ l. leaf ∈ l) (sym leaves_are) m)) ∙ none)), told.0 yes),
+        λ can. told.1 can.2,
+      )
+
+  pub cannot_take : (leaf : ℕ) (has : Bool) → IsTrue has ↔ (leaf ∈ current_leaves (run_of c)) → has ≡ true → IsTrue (not has) ↔ CanTake (schema_of w) s leaf
+  cannot_take leaf has among some = (
+    λ yes. absurd (true≢false (sym yes ∙ ap not some)),
+    λ can. absurd (can.1 (subst (λ l. leaf ∈ l) leaves_are (among.0 some))),
+  )
+
+-- ---- a claim that was given
+
+module _ (s : RunState) (number : ℕ) (given : Given) (found : claim_at s number ≡ Some (claim_of number given)) where
+  found_has : (P : Claim → Type 0) → P (claim_of number given) → IsSomeAnd (claim_at s number) P
+  found_has P h = subst (λ o. IsSomeAnd o P) (sym found) h
+
+  pub is_answered : given.answered ≡ true → IsAnswered s number
+  is_answered a = found_has (λ (claim : Claim). IsTrue claim.answered) a
+
+  pub is_unanswered : given.answered ≡ false → IsUnansweredIn s number
+  is_unanswered a = found_has (λ (claim : Claim). claim.answered ≡ false) a
+
+  pub is_late : given.answered ≡ false → given.epoch < s.epoch → IsLateOf s number given.epoch
+  is_late a older = (older, found_has (λ (claim : Claim). (claim.answered ≡ false) × (claim.epoch ≡ given.epoch)) (a, refl))
+
+  and_true : (a b : Bool) → a ≡ false → b ≡ true → (not a && b) ≡ true
+  and_true true b h e = cc
+  and_true false b h e = e
+
+  pub lapsed : given.answered ≡ false → given.epoch < s.epoch → IsLapsed s number
+  lapsed a older = found_has (λ (claim : Claim). IsTrue (is_lapsed s claim)) (and_true given.answered (nat_lt given.epoch s.epoch) a (lt-ltb given.epoch s.epoch older))
+
+  pub current_now : given.answered ≡ false → given.epoch ≡ s.epoch → IsCurrent s number
+  current_now a same = found_has (λ (claim : Claim). IsTrue (is_current s claim)) (and_true given.answered (nat_eq given.epoch s.epoch) a (eq-eqb given.epoch s.epoch same))
+
+  pub leaf_is : leaf_of_claim s number ≡ given.leaf
+  leaf_is = leaf_of_claim_is s number (claim_of number given) found

@@ -1,0 +1,155 @@
+ghost use Rattle.std.specs.Prelude.{◌≡◌, ◌↔◌, ◌==◌, ℕ, [], length, IsTrue, MatchOption};
+ghost use Rattle.std.specs.List.{count_by};
+ghost use Rattle.flow_model.specs.declared.history.Entry.{Entry};
+ghost use Rattle.flow_model.specs.Lists.{◌∈◌, Each};
+ghost use Rattle.flow_model.specs.Schema.{IsGood};
+ghost use Rattle.flow_model.specs.Run.{current_claims, CanDoAside};
+ghost use Rattle.flow_model.specs.Verdict.{call_of};
+ghost use Rattle.flow_laws.specs.Histories.{NeverWaits};
+
+use crate::engine::Core;
+use crate::next::Next;
+use flow_model::{Call, Label};
+
+impl Core {
+    ghost use Rattle.flow_core.specs.Run.{schema, now, GoesOn};
+    ghost use Rattle.flow_core.specs.Answers.{IsUnanswered};
+    ghost use Rattle.flow_core.specs.declared.next.Next.TheVariants.{Stuck};
+    ghost use Rattle.flow_core.specs.Looks.{CanStep, CanAct, IsWaiting, IsLeast, IsNext};
+
+    /// Whether the leaf can be taken or done.
+    pub fn can_act(&self, leaf: u32) -> bool
+        ensures { IsTrue result ↔ CanAct self.now leaf }
+    {
+        !self.committed && self.can_step(leaf)
+    }
+
+    /// Whether the run is stuck, and the leaf is one that waits.
+    pub fn waits(&self, leaf: u32) -> bool
+        ensures { IsTrue result ↔ IsWaiting self.now leaf }
+    {
+        match self.look() {
+            Next::Stuck(_) => self.could_be_done(leaf),
+            _ => false,
+        }
+    }
+
+    /// What the run can do next. Without tests and absences it is never stuck.
+    pub fn next(&self) -> Next
+        ensures next { IsNext self.now result }
+        ensures without_tests { Each NeverWaits (schema self.now).labels → (leaf : ℕ) → ¬ (result ≡ Stuck leaf) }
+    {
+        // what the fields keep says the second
+        let _ = &self.history;
+        self.look()
+    }
+
+    /// What the run can do next.
+    fn look(&self) -> Next
+        ensures { IsNext self.now result }
+    {
+        if self.committed {
+            return Next::Ended;
+        }
+        if let Some(leaf) = self.least_step() {
+            return Next::Act(leaf);
+        }
+        if let Some(claim) = self.least_claim() {
+            return Next::Wait(claim);
+        }
+        if self.is_complete() {
+            return Next::Finished;
+        }
+        match self.least_left() {
+            Some(leaf) => Next::Stuck(leaf),
+            None => unreachable!(),
+        }
+    }
+
+    /// The call of a claim that is not answered.
+    pub fn call_of(&self, claim: u32) -> Option<Call>
+        ensures { MatchOption result (¬ (IsUnanswered (now self.now) claim))
+            (λ call. IsUnanswered (now self.now) claim × (call ≡ call_of (schema self.now) (now self.now) claim)) }
+    {
+        let given = self.find(claim)?;
+        if given.answered {
+            return None;
+        }
+        Some(Call {
+            claim,
+            leaf: given.leaf,
+            event: given.event,
+            attempt: given.attempt,
+            note: self.workflow.notes()[given.event as usize],
+        })
+    }
+
+    /// How many entries the caller made.
+    pub fn made(&self, by: u32) -> u64
+        ensures { result ≡ count_by (λ (entry : Entry). entry.by == by) self.now.history }
+    {
+        self.history.iter().filter(|entry| entry.by == by).count() as u64
+    }
+
+    /// Whether the leaf can be taken or done, where the run is not over.
+    fn can_step(&self, leaf: u32) -> bool
+        ensures { IsTrue result ↔ CanStep self.now leaf }
+    {
+        match self.label_at(leaf) {
+            None => false,
+            Some(Label::Event(_)) => self.can_take(leaf),
+            Some(label) => self.label_holds(label) && self.can_do_aside(leaf),
+        }
+    }
+
+    /// Whether the leaf is on the journal. It is not done again, so no plan is asked for it.
+    fn is_done(&self, leaf: u32) -> bool
+        ensures done { IsTrue result ↔ (leaf ∈ (now self.now).journal) }
+        ensures no_step { IsTrue result → ¬ (CanStep self.now leaf) }
+        ensures not_left { IsTrue result → ¬ (CanDoAside (schema self.now) (now self.now) leaf) }
+    {
+        self.residual.journal().contains(&leaf)
+    }
+
+    /// Whether the leaf can be done, whatever holds.
+    fn could_be_done(&self, leaf: u32) -> bool
+        ensures { IsTrue result ↔ CanDoAside (schema self.now) (now self.now) leaf }
+    {
+        match self.label_at(leaf) {
+            None | Some(Label::Event(_)) => false,
+            Some(_) => self.can_do_aside(leaf),
+        }
+    }
+
+    /// The least leaf that can be taken or done, where the run is not over.
+    fn least_step(&self) -> Option<u32>
+        ensures { MatchOption result ((leaf : ℕ) → ¬ (CanStep self.now leaf)) (IsLeast (CanStep self.now)) }
+    {
+        for leaf in 0..self.leaves() {
+            if !self.is_done(leaf) && self.can_step(leaf) {
+                return Some(leaf);
+            }
+        }
+        None
+    }
+
+    /// The least leaf that can be done, whatever holds.
+    fn least_left(&self) -> Option<u32>
+        ensures { MatchOption result ((leaf : ℕ) → ¬ (CanDoAside (schema self.now) (now self.now) leaf))
+            (IsLeast (CanDoAside (schema self.now) (now self.now))) }
+    {
+        for leaf in 0..self.leaves() {
+            if !self.is_done(leaf) && self.could_be_done(leaf) {
+                return Some(leaf);
+            }
+        }
+        None
+    }
+
+    /// How many leaves the goal has.
+    fn leaves(&self) -> u32
+        ensures { result ≡ length (schema self.now).labels }
+    {
+        self.workflow.tree().leaves()
+    }
+}

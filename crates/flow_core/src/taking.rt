@@ -1,0 +1,86 @@
+ghost use Rattle.std.specs.Prelude.{◌≡◌, ◌↔◌, IsTrue, Some, MatchOption};
+ghost use Rattle.flow_model.specs.Facts.{event_at};
+ghost use Rattle.flow_model.specs.Schema.{IsEventLeaf};
+ghost use Rattle.flow_model.specs.Run.{CanTake};
+ghost use Rattle.flow_model.specs.Verdict.{call_of};
+ghost use Rattle.flow_model.specs.declared.history.Step.TheVariants.{Took};
+
+use crate::engine::Core;
+use crate::refusal::TakeRefusal;
+use flow_model::{Call, Entry, Label, Step};
+
+impl Core {
+    ghost use Rattle.flow_core.specs.Run.{schema, now, with_entry, GoesOn, HasSteps};
+    ghost use Rattle.flow_core.specs.Answers.{Takes, next_claim};
+
+    /// Gives a claim on an event's leaf: leave to perform its task.
+    pub fn take(&mut self, leaf: u32, by: u32) -> Result<Call, TakeRefusal>
+        ensures { Takes self.old leaf by result self.new }
+    {
+        if self.committed {
+            return Err(TakeRefusal::Closed);
+        }
+        if self.workflow.tree().leaves() <= leaf {
+            return Err(TakeRefusal::NoLeaf);
+        }
+        let Some(event) = self.event_at(leaf) else {
+            return Err(TakeRefusal::WrongKind);
+        };
+        if !self.has_steps() {
+            return Err(TakeRefusal::Spent { limit: self.limit });
+        }
+        if !self.can_take(leaf) {
+            return Err(TakeRefusal::NotEnabled);
+        }
+        Ok(self.give(leaf, event, by))
+    }
+
+    /// The event at a leaf, if the leaf is an event's.
+    pub(crate) fn event_at(&self, leaf: u32) -> Option<u32>
+        ensures { result ≡ event_at (schema self.now).labels leaf }
+    {
+        match self.workflow.tree().label(leaf) {
+            Some(Label::Event(event)) => Some(event),
+            _ => None,
+        }
+    }
+
+    /// Whether there is room for one entry more.
+    pub(crate) fn has_steps(&self) -> bool
+        ensures { IsTrue result ↔ HasSteps self.now }
+    {
+        self.history.len() < self.limit as usize
+    }
+
+    /// Whether the leaf can be taken.
+    pub(crate) fn can_take(&self, leaf: u32) -> bool
+        requires { IsEventLeaf (schema self.now) leaf }
+        ensures { IsTrue result ↔ CanTake (schema self.now) (now self.now) leaf }
+    {
+        !self.claims.has_leaf(leaf) && self.residual.legal_take(self.claims.leaves(), leaf)
+    }
+
+    /// Makes the entry of a claim that may be given.
+    fn give(&mut self, leaf: u32, event: u32, by: u32) -> Call
+        requires open { GoesOn self.old }
+        requires steps { HasSteps self.old }
+        requires event { event_at (schema self.old).labels leaf ≡ Some event }
+        requires enabled { CanTake (schema self.old) (now self.old) leaf }
+        ensures entry { self.new ≡ with_entry self.old by (Took (next_claim self.old) leaf) }
+        ensures call { result ≡ call_of (schema self.old) (now self.new) (next_claim self.old) }
+    {
+        let claim = self.claims.count() + 1;
+        let attempt = self.claims.give(leaf, event);
+        self.history.push_reserved(Entry {
+            by,
+            step: Step::Took { claim, leaf },
+        });
+        Call {
+            claim,
+            leaf,
+            event,
+            attempt,
+            note: self.workflow.notes()[event as usize],
+        }
+    }
+}
