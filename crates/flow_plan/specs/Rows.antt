@@ -33,7 +33,3 @@ pub record AddsRows (g : Process) (ahead : LeafSet 16) (old new : List (LeafSet 
   pub added : List (LeafSet 16)
   pub is : new ≡ old ++ added
   pub rows : AreRowsOf (λ x n. IsTrue (has_leaf ahead x) ⊎ InSequence g x n) (leaves g) added
-
--- to the old set come the leaves that are ahead, and those of the goal
-abbrev pub GathersLeaves : Process → LeafSet 16 → LeafSet 16 → LeafSet 16 → Type 0
-GathersLeaves g ahead old new = IsRowOf (λ x. (IsTrue (has_leaf old x) ⊎ IsTrue (has_leaf ahead x)) ⊎ (x ∈ leaves g)) new
