@@ -1,7 +1,7 @@
 use Rattle.std.proofs.Common.{List, ℕ, subst, sym}
 use Rattle.flow_excise.specs.Rows.{IsOneOf}
 use Rattle.flow_excise.specs.Arranged.{IsRunOf}
-use Rattle.flow_excise.proofs.items.add_part.Goals as goal
+use Rattle.flow_excise.proofs.gathering.add_part.Goals as goal
 
 pub returns : goal.returns
 returns c =
