@@ -4,11 +4,10 @@ use Rattle.std.proofs.lemmas.List.{map-append, reverse-append}
 use Rattle.flow_plan.specs.Stacks.{WithTop}
 use Rattle.flow_excise.specs.Arranged.{AddsOneOf}
 use Rattle.flow_model.specs.Process.{Process, Empty, Task, Sequence, Parallel, Choice, Isolated, leaves, IsChoiceFree}
-use Rattle.flow_model.specs.Ready.{isolated_parts}
 use Rattle.flow_model.specs.Circle.{items_of}
 use Rattle.flow_laws.specs.Words.{IsOrdered}
 use Rattle.flow_goal.specs.declared.node.Node.{Node}
-use Rattle.flow_goal.specs.declared.node.Node.TheVariants.{Leaf, Serial, Fork, Split, Join, Open, Close}
+use Rattle.flow_goal.specs.declared.node.Node.TheVariants.{Leaf, Serial, Split, Join, Close}
 use Rattle.flow_goal.specs.Written.{nodes_of}
 use Rattle.flow_goal.proofs.WrittenLemmas.{StandAt, first_stand, second_stand, sequence_nodes, parallel_nodes, isolated_nodes, both_long, leaf_stands}
 use Rattle.flow_plan.specs.Planned.{Planned, pairs_of}

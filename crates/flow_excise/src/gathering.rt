@@ -104,7 +104,12 @@ impl Gathering {
     }
 
     /// Reads one mark, unless the items of a part that ends wait for each other.
-    pub(crate) fn read(&mut self, alloc: Global, plan: &Plan, node: &Node) -> Result<(), ExciseRefusal>
+    pub(crate) fn read(
+        &mut self,
+        alloc: Global,
+        plan: &Plan,
+        node: &Node,
+    ) -> Result<(), ExciseRefusal>
         requires { (nodes : List Node) × Gathers plan.now (node.now ∷ nodes) self.old }
         ensures { MatchResult result
             (λ _. Reads plan.now node.now self.old self.new)

@@ -1,12 +1,12 @@
 -- Resolutions that are written from right to left.
-use Rattle.std.proofs.Common.{◌≡◌, ◌≤◌, ◌<◌, ℕ, ◌+◌, ◌-◌, ◌/◌, ◌%◌, List, [], ◌∷◌, ◌++◌, reverse, sym, ap, ◌∙◌, subst, arith, append_assoc, append-nil, refl, slice_get, Some, Result, Ok, Err, OnOk}
+use Rattle.std.proofs.Common.{◌≡◌, ◌≤◌, ◌<◌, ℕ, ◌+◌, ◌-◌, ◌/◌, ◌%◌, List, [], ◌∷◌, ◌++◌, reverse, sym, ap, ◌∙◌, subst, arith, append_assoc, append-nil, refl, slice_get, Result, Ok, Err, OnOk}
 use Rattle.std.proofs.Math.Nat.{mod-eq_of_lt, mod-lt}
 use Rattle.flow_model.specs.Process.{Process, Empty, Task, Sequence, Parallel, Isolated, leaves}
 use Rattle.flow_model.specs.Resolution.{resolution_count, resolutions}
 use Rattle.flow_goal.specs.declared.node.Node.{Node}
 use Rattle.flow_goal.specs.declared.node.Node.TheVariants.{Nop, Leaf, Serial, Fork, Split, Join, Open, Close}
 use Rattle.flow_goal.specs.declared.backwards.Backwards.{Backwards}
-use Rattle.flow_goal.specs.Sides.{IsOf, IsOfBoth, IsOfEither}
+use Rattle.flow_goal.specs.Sides.{IsOf}
 use Rattle.flow_goal.specs.Written.{nodes_of}
 use Rattle.flow_goal.specs.Backwards.{Puts, PutsResolution, PutsEither, PutsBoth, IsBackwardsOf}
 use Rattle.flow_goal.proofs.Counting.{of_both, of_isolated, of_left, of_right}

@@ -3,13 +3,12 @@ use Rattle.std.proofs.Common.{◌≡◌, ℕ, ◌+◌, ◌<◌, ◌≤◌, zero,
 use Rattle.std.proofs.lemmas.List.{map-append, reverse-append}
 use Rattle.flow_goal.specs.declared.goal.Goal.{Goal}
 use Rattle.flow_goal.specs.Goal.{process_of}
-use Rattle.flow_goal.specs.Resolved.{IsResolved}
 use Rattle.flow_goal.specs.Written.{IsWritten}
 use Rattle.std.specs.List.Sorted.{IsStrictlyIncreasing}
 use Rattle.flow_model.specs.Process.{Process, Empty, Task, Sequence, Parallel, Choice, Isolated, leaves, IsChoiceFree}
 use Rattle.flow_goal.specs.declared.node.Node.{Node}
 use Rattle.flow_goal.specs.declared.node.Node.TheVariants.{Serial, Fork, Split, Join, Open, Close}
-use Rattle.flow_goal.specs.Written.{nodes_of, leaf_of, read, read_on, stack_of}
+use Rattle.flow_goal.specs.Written.{nodes_of, leaf_of, read_on, stack_of}
 
 -- the leaves from the place on begin with those
 abbrev pub StandAt : List ℕ → ℕ → List ℕ → Type 0

@@ -1,24 +1,22 @@
 -- What is read from the marks of a goal.
-use Rattle.std.proofs.Common.{◌≡◌, ℕ, ◌+◌, ◌<◌, zero, suc, ◌==◌, ◌||◌, false, IsTrue, eq-eqb, eqb-true, List, [], ◌∷◌, ◌++◌, length, Some, None, MatchOption, slice_get, inl, inr, ◌⊎◌, ⊎_elim, refl, sym, ◌∙◌, ap, subst, append-nil, reverse, arith}
+use Rattle.std.proofs.Common.{◌≡◌, ℕ, ◌+◌, ◌==◌, false, IsTrue, eq-eqb, eqb-true, List, [], ◌∷◌, ◌++◌, length, MatchOption, inl, inr, ◌⊎◌, ⊎_elim, refl, sym, ◌∙◌, subst, append-nil, reverse, arith}
 use Rattle.leaf_rows.specs.Leaves.{has_leaf}
 use Rattle.leaf_rows.specs.declared.leaf_set.LeafSet.{LeafSet}
 use Rattle.flow_model.specs.Lists.{◌∈◌}
 use Rattle.flow_model.specs.Process.{Process, Empty, Task, Sequence, Parallel, Choice, Isolated, leaves, IsChoiceFree}
-use Rattle.flow_model.specs.Ready.{InSequence}
 use Rattle.flow_laws.proofs.ListLemmas2.{mem_append_left, mem_append_right, mem-append}
 use Rattle.flow_goal.specs.declared.node.Node.{Node}
-use Rattle.flow_goal.specs.declared.node.Node.TheVariants.{Leaf, Serial, Fork, Split, Join, Open, Close}
+use Rattle.flow_goal.specs.declared.node.Node.TheVariants.{Serial, Split, Join, Close}
 use Rattle.flow_goal.specs.Written.{nodes_of}
 use Rattle.flow_goal.proofs.WrittenLemmas.{StandAt, first_stand, second_stand, sequence_nodes, parallel_nodes, isolated_nodes, both_long, leaf_stands}
 use Rattle.flow_plan.specs.declared.outline.Outline.{Outline}
 use Rattle.flow_plan.specs.declared.span.Span.{Span}
 use Rattle.flow_plan.specs.declared.sweep.Sweep.{Sweep}
-use Rattle.flow_plan.specs.Rows.{IsRowOf, AreRowsOf, FitsRows, AddsRows}
+use Rattle.flow_plan.specs.Rows.{IsRowOf, FitsRows, AddsRows}
 use Rattle.flow_plan.specs.RowMarks.{IsWith, IsUnion, MakesRows, Completes}
-use Rattle.flow_plan.specs.Spans.{AddsSpan, AddsSpans}
+use Rattle.flow_plan.specs.Spans.{AddsSpans}
 use Rattle.flow_plan.specs.SpanMarks.{MakesSpans, Outlines}
-use Rattle.flow_plan.specs.Stacks.{WithTop}
-use Rattle.flow_plan.proofs.RowLemmas.{either_true, first_true, second_true, row_same, fits_first, fits_second, adds_sequence, adds_beside, first_rows}
+use Rattle.flow_plan.proofs.RowLemmas.{either_true, first_true, second_true, fits_first, fits_second, adds_sequence, adds_beside, first_rows}
 use Rattle.flow_plan.proofs.SpanLemmas.{spans_of_none, spans_of_both, spans_of_isolated}
 
 -- ---- rows

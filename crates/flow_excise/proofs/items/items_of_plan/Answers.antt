@@ -15,8 +15,7 @@ loop-node-init c =
 pub read-requires : goal.read-requires
 read-requires c =
     let nodes = c.nodes-node-items.result.now in
-    let i = c.loop-node.node-index in
-    (
+    let i = c.loop-node.node-index in (
       drop (i + 1) nodes,
       subst (λ (l : List Node). Gathers c.args.plan.now l c.loop-node.gathering) (drop_more nodes i Nop c.loop-node-test.true) c.loop-node.invariant,
     )

@@ -1,7 +1,5 @@
-use Rattle.std.proofs.Common.{◌<◌, ◌-◌, ◌^◌, ◌∙◌, [], ◌++◌, sym, subst}
+use Rattle.std.proofs.Common.{subst}
 use Rattle.flow_model.specs.Process.{Process}
-use Rattle.flow_model.specs.Resolution.{resolution_count}
-use Rattle.flow_goal.specs.Sides.{sides_in}
 use Rattle.flow_goal.specs.Backwards.{PutsResolution}
 use Rattle.flow_goal.proofs.Writing.{written_whole}
 use Rattle.flow_goal.proofs.choices.resolution.Goals as goal

@@ -1,4 +1,4 @@
-use Rattle.std.proofs.Common.{◌≡◌, ◌<◌, List, length, ap, subst, ◌∙◌, sym}
+use Rattle.std.proofs.Common.{◌<◌, List, length, ap, subst, ◌∙◌, sym}
 use Rattle.leaf_rows.specs.declared.leaf_set.LeafSet.{LeafSet}
 use Rattle.flow_model.specs.Lists.{Each}
 use Rattle.flow_model.specs.Ready.{DirectlyBefore}
