@@ -5,6 +5,7 @@ pub mod OrderLemmas
 pub mod ItemLemmas
 pub mod LaidLemmas
 pub mod PieceLemmas
+pub mod GatheringLemmas
 pub mod TurningLemmas
 pub mod SiftingLemmas
 pub mod SieveLemmas

@@ -1,23 +1,18 @@
 -- Pieces of a goal, and their items one side after the other.
-use Rattle.std.proofs.Common.{◌≡◌, ℕ, ◌<◌, IsTrue, List, [], ◌∷◌, ◌++◌, ◌↔◌, ◌⊎◌, length, refl, sym, ap, ◌∙◌, subst, inl, inr, ⊎_elim, Result, Ok, Err, MatchResult, Box, Global, arith, append_assoc, append-nil, true, false, ◌==◌, true≢false}
-use Rattle.std.proofs.lemmas.Bool.{eq-eqb, eqb-true}
+use Rattle.std.proofs.Common.{◌≡◌, ℕ, IsTrue, List, [], ◌∷◌, ◌++◌, ◌↔◌, length, refl, sym, ap, ◌∙◌, subst, inl, inr, ⊎_elim, arith, append_assoc, append-nil}
 use Rattle.leaf_rows.specs.Leaves.{has_leaf}
 use Rattle.flow_model.specs.Lists.{◌∈◌, joined}
-use Rattle.flow_model.specs.Process.{Process, Isolated, leaves}
+use Rattle.flow_model.specs.Process.{Process, Sequence, Parallel, Isolated, leaves}
 use Rattle.flow_model.specs.Ready.{DirectlyBefore, isolated_parts}
 use Rattle.flow_model.specs.Circle.{items_of, item_of}
 use Rattle.flow_laws.specs.Words.{IsOrdered}
 use Rattle.flow_laws.proofs.ListLemmas1.{mem_left, mem_right}
 use Rattle.flow_laws.proofs.ReadyRuns.{direct_other}
-use Rattle.flow_laws.proofs.CircleParts.{goal_size, joined_items}
-use Rattle.flow_goal.specs.declared.goal.Goal as goal
-use Rattle.flow_goal.specs.declared.goal.Goal.{Goal}
-use Rattle.flow_goal.specs.Goal.{process_of}
+use Rattle.flow_laws.proofs.CircleParts.{joined_items}
 use Rattle.flow_excise.specs.declared.item.Item.{Item}
-use Rattle.flow_excise.specs.declared.excising.ExciseRefusal.{ExciseRefusal}
-use Rattle.flow_excise.specs.Rows.{AreApart, HasSome}
-use Rattle.flow_excise.specs.Arranged.{AddsOneOf, TellsRing}
-use Rattle.flow_excise.specs.Items.{IsLaid, IsItemOf, AreItemsOf, AddsItems, IsPieceOf, TellsCircle}
+use Rattle.flow_excise.specs.Rows.{AreApart}
+use Rattle.flow_excise.specs.Items.{IsLaid, IsItemOf, AreItemsOf, AddsItems, IsPieceOf}
+use Rattle.flow_excise.specs.ItemMarks.{CanClose}
 use Rattle.flow_excise.proofs.ItemLemmas.{same_length, are_apart, tells_circle}
 use Rattle.flow_excise.proofs.LaidLemmas.{part_item}
 
@@ -26,33 +21,12 @@ pub record IsJoin (whole a b : Process) : Type 0 where
   pub leaves_are : leaves whole ≡ leaves a ++ leaves b
   pub parts_are : isolated_parts whole ≡ isolated_parts a ++ isolated_parts b
   pub items_are : items_of whole ≡ items_of a ++ items_of b
-  pub left_smaller : goal_size a < goal_size whole
-  pub right_smaller : goal_size b < goal_size whole
 
--- a goal of any of the three kinds that have sides
-pub join_of : (g : Goal) (left right : Box Goal Global) → ((g ≡ goal.Serial left right) ⊎ ((g ≡ goal.Beside left right) ⊎ (g ≡ goal.Either left right))) →
-    IsJoin (process_of g) (process_of left.value) (process_of right.value)
-join_of g left right (inl e) = record {
-  leaves_are = ap (λ (x : Goal). leaves (process_of x)) e;
-  parts_are = ap (λ (x : Goal). isolated_parts (process_of x)) e;
-  items_are = ap (λ (x : Goal). items_of (process_of x)) e;
-  left_smaller = let s = ap (λ (x : Goal). goal_size (process_of x)) e in omega arith;
-  right_smaller = let s = ap (λ (x : Goal). goal_size (process_of x)) e in omega arith;
-}
-join_of g left right (inr (inl e)) = record {
-  leaves_are = ap (λ (x : Goal). leaves (process_of x)) e;
-  parts_are = ap (λ (x : Goal). isolated_parts (process_of x)) e;
-  items_are = ap (λ (x : Goal). items_of (process_of x)) e;
-  left_smaller = let s = ap (λ (x : Goal). goal_size (process_of x)) e in omega arith;
-  right_smaller = let s = ap (λ (x : Goal). goal_size (process_of x)) e in omega arith;
-}
-join_of g left right (inr (inr e)) = record {
-  leaves_are = ap (λ (x : Goal). leaves (process_of x)) e;
-  parts_are = ap (λ (x : Goal). isolated_parts (process_of x)) e;
-  items_are = ap (λ (x : Goal). items_of (process_of x)) e;
-  left_smaller = let s = ap (λ (x : Goal). goal_size (process_of x)) e in omega arith;
-  right_smaller = let s = ap (λ (x : Goal). goal_size (process_of x)) e in omega arith;
-}
+pub join_sequence : (a b : Process) → IsJoin (Sequence a b) a b
+join_sequence a b = record { leaves_are = refl; parts_are = refl; items_are = refl }
+
+pub join_parallel : (a b : Process) → IsJoin (Parallel a b) a b
+join_parallel a b = record { leaves_are = refl; parts_are = refl; items_are = refl }
 
 pub whole_piece : (q : Process) → IsPieceOf q q
 whole_piece q = record { leaf = λ x m. m; part = λ p m. m }
@@ -93,11 +67,6 @@ module _ (q : Process) (pairs : List (ℕ × ℕ)) where
     items = subst (λ z. AreItemsOf q pairs z (s.added ++ t.added)) (sym j.items_are) (are_append (items_of a) (items_of b) s.added t.added s.items t.items);
   }
 
-  pub adds_rest : (whole a b : Process) (old mid new : List Item) (r : Result (Unit {0}) ExciseRefusal) → IsJoin whole a b → AddsItems q pairs a old mid →
-      MatchResult r (λ _. AddsItems q pairs b mid new) (TellsCircle q pairs) → MatchResult r (λ _. AddsItems q pairs whole old new) (TellsCircle q pairs)
-  adds_rest whole a b old mid new (Ok u) j s t = adds_both whole a b old mid new j s t
-  adds_rest whole a b old mid new (Err e) j s t = t
-
   pub adds_none : (g : Process) (old : List Item) → items_of g ≡ [] → AddsItems q pairs g old old
   adds_none g old e = record {
     added = [];
@@ -136,55 +105,36 @@ module _ (q : Process) (pairs : List (ℕ × ℕ)) where
       is x (inr m) = absurd m
 
   -- an isolated part with no leaf
-  pub no_item : (whole body : Process) (old mid inner : List Item) → whole ≡ Isolated body → mid ≡ [] → AddsItems q pairs body mid inner →
-      (len : ℕ) → len ≡ length inner → (len == 0) ≡ true → AddsItems q pairs whole old old
-  no_item whole body old mid inner e m s len n t = adds_none whole old (ap items_of e ∙ ap item_of none)
+  pub no_item : (body : Process) (old inner : List Item) → AddsItems q pairs body [] inner → inner ≡ [] → AddsItems q pairs (Isolated body) old old
+  no_item body old inner s e = adds_none (Isolated body) old (ap item_of none)
     where
-      same : inner ≡ s.added
-      same = s.is ∙ ap (λ z. z ++ s.added) m
-
       nothing : (ls : List (List ℕ)) → length ls ≡ 0 → ls ≡ []
       nothing [] h = refl
       nothing (l ∷ ls) h = absurd (omega arith)
 
       none : leaves body ≡ []
       none = sym (joined_items body)
-          ∙ ap joined (nothing (items_of body) (same_length q pairs (items_of body) s.added s.items ∙ ap length (sym same) ∙ sym n ∙ eqb-true len 0 t))
+          ∙ ap joined (nothing (items_of body) (same_length q pairs (items_of body) s.added s.items ∙ ap length (sym s.is ∙ e)))
 
   -- and one with leaves
 
-  module _ (o : IsOrdered q pairs) (whole body : Process) (mid inner : List Item) (e : whole ≡ Isolated body) (p : IsPieceOf q whole) (f : mid ≡ [])
-      (s : AddsItems q pairs body mid inner) where
-    same : inner ≡ s.added
-    same = s.is ∙ ap (λ z. z ++ s.added) f
-
+  module _ (o : IsOrdered q pairs) (body : Process) (inner : List Item) (is_part : body ∈ isolated_parts q) (s : AddsItems q pairs body [] inner) where
     are : AreItemsOf q pairs (items_of body) inner
-    are = subst (AreItemsOf q pairs (items_of body)) (sym same) s.items
+    are = subst (AreItemsOf q pairs (items_of body)) (sym s.is) s.items
 
-    is_part : body ∈ isolated_parts q
-    is_part = (subst (IsPieceOf q) e p).part body (inl refl)
-
-    pub added_apart : AreApart inner
-    added_apart = are_apart q pairs o body (inr is_part) inner are
-
-    pub added_some : (len : ℕ) → len ≡ length inner → (len == 0) ≡ false → HasSome inner
-    added_some len n t = at inner (λ k. k) refl
+    -- its items may become one
+    pub can_close : (before : List Item) (Then : List Item → Type 0) →
+        ((new : List Item) → AddsItems q pairs (Isolated body) before new → Then new) → CanClose q pairs inner before Then
+    can_close before Then then = record {
+      apart = apart;
+      some = λ l. let x = apart.some 0 l in (0, x.0, x.1);
+      none = λ e. then before (no_item body before inner s e);
+      one = λ new a.
+          let i = part_item q pairs o body is_part inner are a.0 a.2 a.3 in
+          then new (adds_one (Isolated body) (leaves body) before new a.0
+          (item_of_some (leaves body) (a.0).least ((i.inside (a.0).least).0 (a.2).least)) a.1 i);
+      ring = λ refusal r. tells_circle q pairs o body (inr is_part) inner are refusal r;
+    }
       where
-        at : (list : List Item) → (AreApart list → AreApart list) → inner ≡ list → HasSome inner
-        at [] k g = absurd (true≢false (sym (eq-eqb len 0 (n ∙ ap length g)) ∙ t))
-        at (i ∷ list) k g = let x = added_apart.some 0 (omega (arith, ap length g)) in (0, x.0, x.1)
-
-    pub part_told : (old new seen : List Item) (r : Result (Unit {0}) ExciseRefusal) → seen ≡ inner → MatchResult r (λ _. AddsOneOf seen old new) (TellsRing seen) →
-        MatchResult r (λ _. AddsItems q pairs whole old new) (TellsCircle q pairs)
-    part_told old new seen (Ok u) g h =
-        let a = subst (λ z. AddsOneOf z old new) g h in
-        let i = part_item q pairs o body is_part inner are a.0 a.2 a.3 in
-        adds_one whole (leaves body) old new a.0
-        (ap items_of e ∙ item_of_some (leaves body) (a.0).least ((i.inside (a.0).least).0 (a.2).least))
-        a.1
-        i
-    part_told old new seen (Err r) g h = tells_circle q pairs o body (inr is_part) inner are r (subst (λ z. TellsRing z r) g h)
-
--- the items of the whole goal, put into an empty list
-pub whole_items : (q : Process) (pairs : List (ℕ × ℕ)) (old new : List Item) → old ≡ [] → AddsItems q pairs q old new → AreItemsOf q pairs (items_of q) new
-whole_items q pairs old new e s = subst (AreItemsOf q pairs (items_of q)) (sym (s.is ∙ ap (λ z. z ++ s.added) e)) s.items
+        apart : AreApart inner
+        apart = are_apart q pairs o body (inr is_part) inner are

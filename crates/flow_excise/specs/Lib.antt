@@ -4,6 +4,7 @@ pub mod Limits
 pub mod Rows
 pub mod Turned
 pub mod Arranged
+pub mod ItemMarks
 pub mod Items
 pub mod Executions
 pub mod Plans

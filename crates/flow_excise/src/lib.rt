@@ -8,6 +8,7 @@ mod compiling;
 mod conjunction;
 mod counts;
 mod excising;
+mod gathering;
 mod item;
 mod items;
 mod limits;

@@ -7,7 +7,7 @@ ghost use Rattle.flow_excise.specs.Executions.{numbered_options, numbered_ways};
 ghost use Rattle.flow_excise.specs.Options.{all_options_by, options_by};
 ghost use Rattle.flow_excise.specs.Sieves.{ArePlannable, HasSifted, Sifts, options_with, option_with, IsPlannable};
 
-use crate::excising::{ExciseRefusal, excise_by};
+use crate::excising::{ExciseRefusal, excise};
 use crate::refusal::{CompileRefusal, Dropped};
 use crate::sifted::Sieve;
 use flow_goal::{Choiceless, Tree, resolutions, resolve};
@@ -31,7 +31,7 @@ fn sift(
 {
     let _leaves = resolution.leaves();
     let plan = weave(alloc, resolution, order)?;
-    match excise_by(alloc, plan, resolution.goal()) {
+    match excise(alloc, plan) {
         Ok(plan) => {
             sieve.kept.push(plan)?;
             Ok(())

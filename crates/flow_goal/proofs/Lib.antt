@@ -4,4 +4,5 @@ pub mod Rising
 pub mod Simpler
 pub mod FirstPartner
 pub mod Repetitions
-pub mod Pushing
+pub mod Writing
+pub mod WrittenLemmas

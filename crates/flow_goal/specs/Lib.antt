@@ -1,3 +1,4 @@
+pub mod Backwards
 pub mod Goal
 pub mod Labelled
 pub mod Numbering
@@ -7,3 +8,4 @@ pub mod Sides
 pub mod Simple
 pub mod Partners
 pub mod Repeated
+pub mod Written

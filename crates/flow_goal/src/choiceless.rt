@@ -1,16 +1,21 @@
-ghost use Rattle.std.specs.Prelude.{◌≡◌};
+ghost use Rattle.std.specs.Prelude.{◌≡◌, ◌<◌, ◌^◌, length, IfOk};
 ghost use Rattle.std.specs.List.Sorted.{IsStrictlyIncreasing};
 ghost use Rattle.flow_model.specs.Process;
 ghost use Rattle.flow_model.specs.Process.{IsChoiceFree};
 ghost use Rattle.flow_goal.specs.Goal.{process_of};
+ghost use Rattle.flow_goal.specs.Resolved.{IsResolved};
+ghost use Rattle.flow_goal.specs.Written.{nodes_of};
 
 use crate::goal::Goal;
+use crate::node::Node;
+use crate::reading::{read_node, take_top};
+use std::alloc::{AllocError, Global};
 use std::marker::Model;
 
-/// A goal without choices, and the list of its leaves.
+/// A goal without choices, a byte a mark, and the list of its leaves.
 #[derive(Drop)]
 pub struct Choiceless {
-    goal: Goal,
+    nodes: Vec<Node>,
     leaves: Vec<u32>,
 }
 
@@ -21,40 +26,54 @@ impl Model for Choiceless {
 
     ghost coded = { resolved_code };
 
-    ghost use Rattle.flow_goal.specs.Resolved.{resolved, IsResolved};
+    ghost use Rattle.flow_goal.specs.Written.{read, IsWritten};
 
-    ghost view = { λ c. resolved c.goal c.leaves.items };
+    ghost view = { λ c. read c.nodes.items c.leaves.items };
 
-    ghost invariant = { λ c. IsResolved (resolved c.goal c.leaves.items) };
+    ghost invariant = { λ c. IsWritten c.nodes.items c.leaves.items };
 }
 
 impl Choiceless {
-    pub(crate) fn new(goal: Goal, leaves: Vec<u32>) -> Choiceless
-        requires choice_free { IsChoiceFree (process_of goal) }
-        requires listed { leaves.items ≡ Process.leaves (process_of goal) }
+    /// The goal with those marks and leaves.
+    pub(crate) fn new(nodes: Vec<Node>, leaves: Vec<u32>) -> Choiceless
+        requires written { (q : Process.Process) × IsChoiceFree q × (nodes.items ≡ nodes_of q) × (leaves.items ≡ Process.leaves q) }
         requires rising { IsStrictlyIncreasing leaves.items }
-        ensures process { result.process ≡ process_of goal }
+        ensures process { (q : Process.Process) → IsChoiceFree q → nodes.items ≡ nodes_of q → leaves.items ≡ Process.leaves q →
+            result.process ≡ q }
         ensures leaves { result.leaves ≡ leaves.items }
     {
-        Choiceless { goal, leaves }
+        Choiceless { nodes, leaves }
     }
 
-    /// Puts another goal of the same leaves in the place of this one.
-    pub(crate) fn with_goal(mut self, goal: Goal) -> Choiceless
-        requires choice_free { IsChoiceFree (process_of goal) }
-        requires listed { Process.leaves (process_of goal) ≡ self.leaves }
-        ensures process { result.process ≡ process_of goal }
-        ensures leaves { result.leaves ≡ self.leaves }
+    /// The same goal in memory of its own.
+    pub fn copy(&self, alloc: Global) -> Result<Choiceless, AllocError>
+        ensures same { IfOk result (λ new. new ≡ self.now) }
+        ensures resolved { IfOk result IsResolved }
     {
-        self.goal = goal;
-        self
+        let nodes = Vec::from_slice(alloc, &self.nodes)?;
+        let leaves = Vec::from_slice(alloc, &self.leaves)?;
+        Ok(Choiceless { nodes, leaves })
     }
 
-    pub fn goal(&self) -> &Goal
-        ensures process { process_of result.now ≡ self.now.process }
+    /// The goal as a tree, built anew.
+    pub fn goal(&self, alloc: Global) -> Result<Goal, AllocError>
+        ensures process { IfOk result (λ goal. process_of goal ≡ self.now.process) }
         ensures choice_free { IsChoiceFree self.now.process }
     {
-        &self.goal
+        let mut stack = Vec::new(alloc);
+        let mut place = 0;
+        for node in &self.nodes {
+            place = read_node(alloc, node, &self.leaves, place, &mut stack)?;
+        }
+        Ok(take_top(&mut stack))
+    }
+
+    /// The marks of the goal from left to right.
+    pub fn nodes(&self) -> &[Node]
+        ensures nodes { result.now ≡ nodes_of self.now.process }
+        ensures choice_free { IsChoiceFree self.now.process }
+    {
+        &self.nodes
     }
 
     /// The leaves from left to right, which is from the least to the greatest.
@@ -64,5 +83,12 @@ impl Choiceless {
         ensures rising { IsStrictlyIncreasing self.now.leaves }
     {
         &self.leaves
+    }
+
+    /// The leaves alone.
+    pub(crate) fn into_leaves(self) -> Vec<u32>
+        ensures { result.items ≡ self.leaves }
+    {
+        self.leaves
     }
 }

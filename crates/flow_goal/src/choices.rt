@@ -1,11 +1,14 @@
-ghost use Rattle.std.specs.Prelude.{◌≡◌, ◌-◌, ◌^◌, ◌<◌, ◌+◌, ◌*◌, ◌++◌, ◌/◌, min, reverse, IfOk, OnOk, slice_get};
+ghost use Rattle.std.specs.Prelude.{◌≡◌, ◌-◌, ◌^◌, ◌<◌, ◌+◌, ◌*◌, ◌++◌, ◌/◌, min, IfOk, OnOk, slice_get};
 ghost use Rattle.flow_model.specs.Resolution;
 ghost use Rattle.flow_model.specs.Process;
 ghost use Rattle.flow_goal.specs.Goal.{process_of};
-ghost use Rattle.flow_goal.specs.Sides.{Ends, IsOf, IsOfBoth, IsOfEither, IsTaken, kept_count, sides_in, sides_of_choice};
+ghost use Rattle.flow_goal.specs.Sides.{Ends, IsTaken, kept_count, sides_in, sides_of_choice};
+ghost use Rattle.flow_goal.specs.Backwards.{IsBackwardsOf, PutsBoth, PutsEither, PutsResolution, marks_of};
 
+use crate::backwards::Backwards;
 use crate::choiceless::Choiceless;
 use crate::goal::Goal;
+use crate::node::Node;
 use crate::sides::Sides;
 use crate::tree::Tree;
 use std::alloc::{AllocError, Global};
@@ -74,173 +77,40 @@ fn skip(goal: &Goal, list: &mut Vec<Sides>)
     }
 }
 
-/// A resolution of two parts that both stay.
-#[cycle(resolving)]
-fn resolved_both(
-    alloc: Global,
+/// Writes a resolution of two parts that both stay, with the marks in between.
+#[cycle(writing)]
+fn write_both(
     left: &Goal,
     right: &Goal,
-    number: &mut u64,
-    list: &mut Vec<Sides>,
-) -> Result<(Box<Goal>, Box<Goal>), AllocError>
-    requires exact { Resolution.resolution_count (process_of left.now) * Resolution.resolution_count (process_of right.now) < 2 ^ 64 - 1 }
-    requires listed { Ends list.old.items (sides_in (process_of left.now) ++ sides_in (process_of right.now)) }
-    ensures resolution { IfOk result (λ parts. IsOfBoth (process_of left.now) (process_of right.now) number.old (process_of parts.0.value) (process_of parts.1.value)) }
-    ensures rest { OnOk result (number.new ≡
-        number.old / (Resolution.resolution_count (process_of left.now) * Resolution.resolution_count (process_of right.now))) }
-    ensures list { OnOk result (IsTaken list.old.items (sides_in (process_of left.now) ++ sides_in (process_of right.now)) list.new.items) }
-{
-    let second = resolved(alloc, right, number, list)?;
-    let second = Box::new(alloc, second)?;
-    let first = resolved(alloc, left, number, list)?;
-    Ok((Box::new(alloc, first)?, second))
-}
-
-/// A resolution of one of two parts.
-#[cycle(resolving)]
-fn resolved_either(
-    alloc: Global,
-    left: &Goal,
-    right: &Goal,
-    number: &mut u64,
-    list: &mut Vec<Sides>,
-) -> Result<Goal, AllocError>
-    requires exact { Resolution.resolution_count (process_of left.now) + Resolution.resolution_count (process_of right.now) < 2 ^ 64 - 1 }
-    requires listed { Ends list.old.items (sides_of_choice (process_of left.now) (process_of right.now)) }
-    ensures resolution { IfOk result (λ q. IsOfEither (process_of left.now) (process_of right.now) number.old (process_of q)) }
-    ensures rest { OnOk result (number.new ≡
-        number.old / (Resolution.resolution_count (process_of left.now) + Resolution.resolution_count (process_of right.now))) }
-    ensures list { OnOk result (IsTaken list.old.items (sides_of_choice (process_of left.now) (process_of right.now)) list.new.items) }
-{
-    let Some(sides) = list.pop() else {
-        unreachable!()
-    };
-    let mut within = sides.digit(number);
-    if within < sides.left {
-        skip(right, list);
-        resolved(alloc, left, &mut within, list)
-    } else {
-        within -= sides.left;
-        let side = resolved(alloc, right, &mut within, list)?;
-        skip(left, list);
-        Ok(side)
-    }
-}
-
-/// One side at each choice: the resolution of that number, of which more than a goal's count is for
-/// the goals before it. Each goal takes its own choices from the end of the list.
-#[cycle(resolving)]
-fn resolved(
-    alloc: Global,
-    goal: &Goal,
-    number: &mut u64,
-    list: &mut Vec<Sides>,
-) -> Result<Goal, AllocError>
-    requires exact { Resolution.resolution_count (process_of goal.now) < 2 ^ 64 - 1 }
-    requires listed { Ends list.old.items (sides_in (process_of goal.now)) }
-    ensures resolution { IfOk result (λ q. IsOf (process_of goal.now) number.old (process_of q)) }
-    ensures rest { OnOk result (number.new ≡ number.old / Resolution.resolution_count (process_of goal.now)) }
-    ensures list { OnOk result (IsTaken list.old.items (sides_in (process_of goal.now)) list.new.items) }
-{
-    match goal {
-        Goal::Nop => Ok(Goal::Nop),
-        Goal::Leaf(n) => Ok(Goal::Leaf(*n)),
-        Goal::Serial(left, right) => {
-            let (first, second) = resolved_both(alloc, left, right, number, list)?;
-            Ok(Goal::Serial(first, second))
-        }
-        Goal::Beside(left, right) => {
-            let (first, second) = resolved_both(alloc, left, right, number, list)?;
-            Ok(Goal::Beside(first, second))
-        }
-        Goal::Either(left, right) => resolved_either(alloc, left, right, number, list),
-        Goal::Iso(part) => {
-            let body = resolved(alloc, part, number, list)?;
-            Ok(Goal::Iso(Box::new(alloc, body)?))
-        }
-    }
-}
-
-/// Puts the leaves of a goal behind the list, from left to right.
-fn collect_leaves(goal: &Goal, list: &mut Vec<u32>) -> Result<(), AllocError>
-    ensures { OnOk result (list.new.items ≡ list.old.items ++ Process.leaves (process_of goal.now)) }
-{
-    match goal {
-        Goal::Nop => Ok(()),
-        Goal::Leaf(n) => {
-            list.push(*n)?;
-            Ok(())
-        }
-        Goal::Serial(left, right) | Goal::Beside(left, right) | Goal::Either(left, right) => {
-            collect_leaves(left, list)?;
-            collect_leaves(right, list)
-        }
-        Goal::Iso(part) => collect_leaves(part, list),
-    }
-}
-
-/// The goal of the resolution of that number. It costs two walks of the tree's goal.
-fn resolution(alloc: Global, tree: &Tree, number: u64) -> Result<Goal, AllocError>
-    requires numbered { number < Resolution.resolution_count tree.now.process }
-    requires exact { Resolution.resolution_count tree.now.process < 2 ^ 64 - 1 }
-    ensures { IfOk result (λ q. slice_get (Resolution.resolutions tree.now.process) number ≡ Some (process_of q)) }
-{
-    let mut sides = Vec::new(alloc);
-    count_sides(tree.goal(), &mut sides)?;
-    let mut rest = number;
-    let goal = resolved(alloc, tree.goal(), &mut rest, &mut sides)?;
-    Ok(goal)
-}
-
-/// The resolution of that number: one side is taken at each choice, and the right one of two parts that
-/// both stay runs faster.
-pub fn resolve(alloc: Global, tree: &Tree, number: u64) -> Result<Choiceless, AllocError>
-    requires numbered { number < Resolution.resolution_count tree.now.process }
-    requires exact { Resolution.resolution_count tree.now.process < 2 ^ 64 - 1 }
-    ensures resolution { IfOk result (λ q. slice_get (Resolution.resolutions tree.now.process) number ≡ Some q.process) }
-    ensures leaves { IfOk result (λ q. q.leaves ≡ Process.leaves q.process) }
-{
-    let mut leaves = Vec::with_capacity(alloc, tree.leaves() as usize)?;
-    let goal = resolution(alloc, tree, number)?;
-    collect_leaves(&goal, &mut leaves)?;
-    Ok(Choiceless::new(goal, leaves))
-}
-
-/// Puts the leaves of a resolution of two parts that both stay behind the list.
-#[cycle(pushing)]
-fn push_both(
-    left: &Goal,
-    right: &Goal,
+    between: Option<Node>,
     number: &mut u64,
     sides: &mut Vec<Sides>,
-    leaves: &mut Vec<u32>,
+    out: &mut Backwards,
 ) -> Result<(), AllocError>
     requires exact { Resolution.resolution_count (process_of left.now) * Resolution.resolution_count (process_of right.now) < 2 ^ 64 - 1 }
     requires listed { Ends sides.old.items (sides_in (process_of left.now) ++ sides_in (process_of right.now)) }
-    ensures leaves { OnOk result ((x : Process.Process) × (y : Process.Process) ×
-        IsOfBoth (process_of left.now) (process_of right.now) number.old x y ×
-        (leaves.new.items ≡ leaves.old.items ++ reverse (Process.leaves x ++ Process.leaves y))) }
+    ensures written { OnOk result (PutsBoth (process_of left.now) (process_of right.now) number.old (marks_of between) out.old out.new) }
     ensures rest { OnOk result (number.new ≡
         number.old / (Resolution.resolution_count (process_of left.now) * Resolution.resolution_count (process_of right.now))) }
     ensures sides { OnOk result (IsTaken sides.old.items (sides_in (process_of left.now) ++ sides_in (process_of right.now)) sides.new.items) }
 {
-    push_leaves(right, number, sides, leaves)?;
-    push_leaves(left, number, sides, leaves)
+    write(right, number, sides, out)?;
+    out.put_any(between)?;
+    write(left, number, sides, out)
 }
 
-/// Puts the leaves of a resolution of one of two parts behind the list.
-#[cycle(pushing)]
-fn push_either(
+/// Writes a resolution of one of two parts.
+#[cycle(writing)]
+fn write_either(
     left: &Goal,
     right: &Goal,
     number: &mut u64,
     sides: &mut Vec<Sides>,
-    leaves: &mut Vec<u32>,
+    out: &mut Backwards,
 ) -> Result<(), AllocError>
     requires exact { Resolution.resolution_count (process_of left.now) + Resolution.resolution_count (process_of right.now) < 2 ^ 64 - 1 }
     requires listed { Ends sides.old.items (sides_of_choice (process_of left.now) (process_of right.now)) }
-    ensures leaves { OnOk result ((q : Process.Process) × IsOfEither (process_of left.now) (process_of right.now) number.old q ×
-        (leaves.new.items ≡ leaves.old.items ++ reverse (Process.leaves q))) }
+    ensures written { OnOk result (PutsEither (process_of left.now) (process_of right.now) number.old out.old out.new) }
     ensures rest { OnOk result (number.new ≡
         number.old / (Resolution.resolution_count (process_of left.now) + Resolution.resolution_count (process_of right.now))) }
     ensures sides { OnOk result (IsTaken sides.old.items (sides_of_choice (process_of left.now) (process_of right.now)) sides.new.items) }
@@ -251,58 +121,87 @@ fn push_either(
     let mut within = both.digit(number);
     if both.left <= within {
         within -= both.left;
-        push_leaves(right, &mut within, sides, leaves)?;
+        write(right, &mut within, sides, out)?;
         skip(left, sides);
         Ok(())
     } else {
         skip(right, sides);
-        push_leaves(left, &mut within, sides, leaves)
+        write(left, &mut within, sides, out)
     }
 }
 
-/// Puts the leaves of a resolution behind the list, from right to left, since `resolved` takes the
-/// number and the choices in that order too.
-#[cycle(pushing)]
-fn push_leaves(
+/// Writes one side at each choice, from right to left: the resolution of that number, of which more than a
+/// goal's count is for the goals before it. Each goal takes its own choices from the end of the list.
+#[cycle(writing)]
+fn write(
     goal: &Goal,
     number: &mut u64,
     sides: &mut Vec<Sides>,
-    leaves: &mut Vec<u32>,
+    out: &mut Backwards,
 ) -> Result<(), AllocError>
     requires exact { Resolution.resolution_count (process_of goal.now) < 2 ^ 64 - 1 }
     requires listed { Ends sides.old.items (sides_in (process_of goal.now)) }
-    ensures leaves { OnOk result ((q : Process.Process) × IsOf (process_of goal.now) number.old q ×
-        (leaves.new.items ≡ leaves.old.items ++ reverse (Process.leaves q))) }
+    ensures written { OnOk result (PutsResolution (process_of goal.now) number.old out.old out.new) }
     ensures rest { OnOk result (number.new ≡ number.old / Resolution.resolution_count (process_of goal.now)) }
     ensures sides { OnOk result (IsTaken sides.old.items (sides_in (process_of goal.now)) sides.new.items) }
 {
     match goal {
-        Goal::Nop => Ok(()),
-        Goal::Leaf(n) => {
-            leaves.push(*n)?;
-            Ok(())
+        Goal::Nop => out.put(Node::Nop),
+        Goal::Leaf(n) => out.put_leaf(*n),
+        Goal::Serial(left, right) => {
+            out.put(Node::Serial)?;
+            write_both(left, right, None, number, sides, out)
         }
-        Goal::Serial(left, right) | Goal::Beside(left, right) => {
-            push_both(left, right, number, sides, leaves)
+        Goal::Beside(left, right) => {
+            out.put(Node::Join)?;
+            write_both(left, right, Some(Node::Split), number, sides, out)?;
+            out.put(Node::Fork)
         }
-        Goal::Either(left, right) => push_either(left, right, number, sides, leaves),
-        Goal::Iso(part) => push_leaves(part, number, sides, leaves),
+        Goal::Either(left, right) => write_either(left, right, number, sides, out),
+        Goal::Iso(part) => {
+            out.put(Node::Close)?;
+            write(part, number, sides, out)?;
+            out.put(Node::Open)
+        }
     }
 }
 
-/// The leaves of the resolution of that number, from left to right. It costs two walks of the tree's
-/// goal, and makes no goal.
+/// The resolution of that number, from right to left. It costs two walks of the tree's goal.
+fn resolution(alloc: Global, tree: &Tree, number: u64) -> Result<Backwards, AllocError>
+    requires numbered { number < Resolution.resolution_count tree.now.process }
+    requires exact { Resolution.resolution_count tree.now.process < 2 ^ 64 - 1 }
+    ensures { IfOk result (IsBackwardsOf tree.now.process number) }
+{
+    let mut sides = Vec::new(alloc);
+    count_sides(tree.goal(), &mut sides)?;
+    let mut rest = number;
+    let mut out = Backwards::new(alloc);
+    write(tree.goal(), &mut rest, &mut sides, &mut out)?;
+    Ok(out)
+}
+
+/// The resolution of that number: one side is taken at each choice, and the right one of two parts that
+/// both stay runs faster.
+pub fn resolve(alloc: Global, tree: &Tree, number: u64) -> Result<Choiceless, AllocError>
+    requires numbered { number < Resolution.resolution_count tree.now.process }
+    requires exact { Resolution.resolution_count tree.now.process < 2 ^ 64 - 1 }
+    ensures resolution { IfOk result (λ q. slice_get (Resolution.resolutions tree.now.process) number ≡ Some q.process) }
+    ensures leaves { IfOk result (λ q. q.leaves ≡ Process.leaves q.process) }
+{
+    let _leaves = tree.leaves();
+    let mut out = resolution(alloc, tree, number)?;
+    out.nodes.reverse();
+    out.leaves.reverse();
+    Ok(Choiceless::new(out.nodes, out.leaves))
+}
+
+/// The leaves of the resolution of that number, from left to right.
 pub fn resolution_leaves(alloc: Global, tree: &Tree, number: u64) -> Result<Vec<u32>, AllocError>
     requires numbered { number < Resolution.resolution_count tree.now.process }
     requires exact { Resolution.resolution_count tree.now.process < 2 ^ 64 - 1 }
     ensures { IfOk result (λ list. (q : Process.Process) × (slice_get (Resolution.resolutions tree.now.process) number ≡ Some q) ×
         (list.items ≡ Process.leaves q)) }
 {
-    let mut leaves = Vec::with_capacity(alloc, tree.leaves() as usize)?;
-    let mut sides = Vec::new(alloc);
-    count_sides(tree.goal(), &mut sides)?;
-    let mut rest = number;
-    push_leaves(tree.goal(), &mut rest, &mut sides, &mut leaves)?;
-    leaves.reverse();
-    Ok(leaves)
+    let goal = resolve(alloc, tree, number)?;
+    Ok(goal.into_leaves())
 }

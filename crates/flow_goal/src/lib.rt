@@ -1,11 +1,14 @@
 //! Goals with labelled leaves.
 #![tactic(auto)]
 
+mod backwards;
 mod choiceless;
 mod choices;
 mod events;
 mod goal;
+mod node;
 mod partners;
+mod reading;
 mod repeats;
 mod sides;
 mod simple;
@@ -16,6 +19,7 @@ pub use choices::{resolution_leaves, resolutions, resolve};
 pub use events::twice;
 pub use flow_model::{Label, Note};
 pub use goal::Goal;
+pub use node::Node;
 pub use repeats::Twice;
 pub use simple::simplify;
 pub use tree::{Tree, TreeRefusal};

@@ -1,11 +1,13 @@
-ghost use Rattle.std.specs.Prelude.{◌≡◌, ℕ, List, IfOk, ◌↔◌};
+ghost use Rattle.std.specs.Prelude.{◌≡◌, ◌++◌, ℕ, List, IfOk, OnOk, ◌↔◌};
 ghost use Rattle.flow_model.specs.Process;
 ghost use Rattle.flow_model.specs.Trace.{Trace};
 ghost use Rattle.flow_goal.specs.Goal.{process_of};
 ghost use Rattle.flow_goal.specs.Simple;
+ghost use Rattle.flow_goal.specs.Written.{nodes_of};
 
 use crate::choiceless::Choiceless;
 use crate::goal::Goal;
+use crate::node::Node;
 use std::alloc::{AllocError, Global};
 
 fn is_empty(goal: &Goal) -> bool
@@ -87,6 +89,36 @@ fn simplified(alloc: Global, goal: &Goal) -> Result<Goal, AllocError>
     }
 }
 
+/// Puts the marks of a goal behind the others.
+fn add_nodes(goal: &Goal, nodes: &mut Vec<Node>) -> Result<(), AllocError>
+    requires { Process.IsChoiceFree (process_of goal.now) }
+    ensures { OnOk result (nodes.new.items ≡ nodes.old.items ++ nodes_of (process_of goal.now)) }
+{
+    match goal {
+        Goal::Nop => nodes.push(Node::Nop)?,
+        Goal::Leaf(_) => nodes.push(Node::Leaf)?,
+        Goal::Serial(left, right) => {
+            add_nodes(left, nodes)?;
+            add_nodes(right, nodes)?;
+            nodes.push(Node::Serial)?;
+        }
+        Goal::Beside(left, right) => {
+            nodes.push(Node::Fork)?;
+            add_nodes(left, nodes)?;
+            nodes.push(Node::Split)?;
+            add_nodes(right, nodes)?;
+            nodes.push(Node::Join)?;
+        }
+        Goal::Either(_, _) => unreachable!(),
+        Goal::Iso(part) => {
+            nodes.push(Node::Open)?;
+            add_nodes(part, nodes)?;
+            nodes.push(Node::Close)?;
+        }
+    }
+    Ok(())
+}
+
 /// A goal with the same executions and the same leaves, in which there is no `Nop` below another goal and
 /// no isolation of a leaf or of an isolation.
 pub fn simplify(alloc: Global, goal: Choiceless) -> Result<Choiceless, AllocError>
@@ -94,6 +126,10 @@ pub fn simplify(alloc: Global, goal: Choiceless) -> Result<Choiceless, AllocErro
     ensures simple { IfOk result (λ new. Simple.IsSimple new.process) }
     ensures leaves { IfOk result (λ new. new.leaves ≡ goal.leaves) }
 {
-    let simple = simplified(alloc, goal.goal())?;
-    Ok(goal.with_goal(simple))
+    let old = goal.goal(alloc)?;
+    let simple = simplified(alloc, &old)?;
+    let mut nodes = Vec::new(alloc);
+    add_nodes(&simple, &mut nodes)?;
+    let leaves = Vec::from_slice(alloc, goal.leaves())?;
+    Ok(Choiceless::new(nodes, leaves))
 }

@@ -17,7 +17,7 @@ use Rattle.flow_plan.specs.Ahead.{IsAhead, IsOutside}
 use Rattle.flow_plan.specs.Spans.{placed_parts, IsSpanOf, IsEarlier, AreRising, AddsSpans}
 use Rattle.flow_plan.specs.Parts.{IsOneAtMost, at_span, IsPartFor, ArePartsFor, IsPartRow, HasTwo, HaveSameLeaves, AreApart, ArePartsOf, PartAllows}
 use Rattle.flow_plan.proofs.PlaceLemmas.{place_of_member, member_at, get_at, rising_pairs}
-use Rattle.flow_plan.proofs.PostfixLemmas.{StandAt, first_stand, second_stand}
+use Rattle.flow_goal.proofs.WrittenLemmas.{StandAt, first_stand, second_stand}
 use Rattle.flow_plan.proofs.RowLemmas.{row_same, either_true, first_true, second_true}
 
 pub has_at_is : (rows : List (LeafSet 16)) (k : ℕ) (row d : LeafSet 16) → k < length rows → row ≡ get_or rows k d → (x : ℕ) → has_at rows k x ≡ has_leaf row x

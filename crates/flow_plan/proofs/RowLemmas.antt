@@ -12,7 +12,7 @@ use Rattle.flow_laws.proofs.ListLemmas2.{mem_append_left, mem_append_right, mem-
 use Rattle.flow_laws.proofs.ReadyRemains.{sequence_second}
 use Rattle.flow_plan.specs.declared.token.OrderToken.{OrderToken}
 use Rattle.flow_plan.specs.Planned.{pairs_of}
-use Rattle.flow_plan.specs.Rows.{IsRowOf, AreRowsOf, has_at, FitsRows, AddsRows, GathersLeaves}
+use Rattle.flow_plan.specs.Rows.{IsRowOf, AreRowsOf, has_at, FitsRows, AddsRows}
 use Rattle.flow_plan.proofs.PlaceLemmas.{member_at, distinct_of_rising}
 
 pub either_true : (a b : Bool) → IsTrue (a || b) → IsTrue a ⊎ IsTrue b
@@ -160,44 +160,6 @@ adds_beside g a b ahead old mid new listed distinct parts one two =
     (λ before. ⊎_elim (λ h. absurd (apart.2 n (sequence_second a x n h) member)) (λ h. inr h) ((parts x n).0 before)) either)
     two.rows) in
     record { added = one.added ++ two.added; is = all.0; rows = subst (λ (ns : List ℕ). AreRowsOf P ns (one.added ++ two.added)) (sym listed) all.1 }
-
--- ---- what is gathered on the way
-
--- what is ahead of the second part of a sequence
-pub ahead_of_second : (a : Process) (ahead empty more : LeafSet 16) → ((x : ℕ) → has_leaf empty x ≡ false) → GathersLeaves a ahead empty more →
-    IsRowOf (λ x. IsTrue (has_leaf ahead x) ⊎ (x ∈ leaves a)) more
-ahead_of_second a ahead empty more none gathers =
-    row_same (λ x. (IsTrue (has_leaf empty x) ⊎ IsTrue (has_leaf ahead x)) ⊎ (x ∈ leaves a)) (λ x. IsTrue (has_leaf ahead x) ⊎ (x ∈ leaves a)) more
-    (λ x either. ⊎_elim (λ before. ⊎_elim (λ h. let no = none x in absurd (cc)) (λ h. inl h) before) (λ h. inr h) either)
-    (λ x either. ⊎_elim (λ h. inl (inr h)) (λ h. inr h) either) gathers
-
-pub gathers_sequence : (a b : Process) (ahead more old new : LeafSet 16) → IsRowOf (λ x. IsTrue (has_leaf ahead x) ⊎ (x ∈ leaves a)) more →
-    GathersLeaves b more old new → GathersLeaves (Sequence a b) ahead old new
-gathers_sequence a b ahead more old new more_is gathers =
-    row_same (λ x. (IsTrue (has_leaf old x) ⊎ IsTrue (has_leaf more x)) ⊎ (x ∈ leaves b))
-    (λ x. (IsTrue (has_leaf old x) ⊎ IsTrue (has_leaf ahead x)) ⊎ (x ∈ (leaves a ++ leaves b))) new
-    (λ x either. ⊎_elim
-    (λ before. ⊎_elim (λ h. inl (inl h))
-    (λ h. ⊎_elim (λ there. inl (inr there)) (λ there. inr (mem_append_left x (leaves a) (leaves b) there)) ((more_is x).0 h)) before)
-    (λ h. inr (mem_append_right x (leaves a) (leaves b) h)) either)
-    (λ x either. ⊎_elim
-    (λ before. ⊎_elim (λ h. inl (inl h)) (λ h. inl (inr ((more_is x).1 (inl h)))) before)
-    (λ member. ⊎_elim (λ h. inl (inr ((more_is x).1 (inr h)))) (λ h. inr h) (mem-append x (leaves a) (leaves b) member)) either) gathers
-
-pub gathers_beside : (g a b : Process) (ahead old mid new : LeafSet 16) → leaves g ≡ leaves a ++ leaves b →
-    GathersLeaves a ahead old mid → GathersLeaves b ahead mid new → GathersLeaves g ahead old new
-gathers_beside g a b ahead old mid new listed first second =
-    subst (λ (ns : List ℕ). IsRowOf (λ x. (IsTrue (has_leaf old x) ⊎ IsTrue (has_leaf ahead x)) ⊎ (x ∈ ns)) new) (sym listed)
-    (row_same (λ x. (IsTrue (has_leaf mid x) ⊎ IsTrue (has_leaf ahead x)) ⊎ (x ∈ leaves b))
-    (λ x. (IsTrue (has_leaf old x) ⊎ IsTrue (has_leaf ahead x)) ⊎ (x ∈ (leaves a ++ leaves b))) new
-    (λ x either. ⊎_elim
-    (λ before. ⊎_elim
-    (λ h. ⊎_elim (λ there. inl there) (λ there. inr (mem_append_left x (leaves a) (leaves b) there)) ((first x).0 h))
-    (λ h. inl (inr h)) before)
-    (λ h. inr (mem_append_right x (leaves a) (leaves b) h)) either)
-    (λ x either. ⊎_elim
-    (λ before. inl (inl ((first x).1 (inl before))))
-    (λ member. ⊎_elim (λ h. inl (inl ((first x).1 (inr h)))) (λ h. inr h) (mem-append x (leaves a) (leaves b) member)) either) second)
 
 -- ---- the rows of a plan
 

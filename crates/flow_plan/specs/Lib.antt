@@ -3,8 +3,10 @@ pub mod Kept
 pub mod Orders
 pub mod Parts
 pub mod Planned
-pub mod Postfix
 pub mod Progress
+pub mod RowMarks
 pub mod Rows
 pub mod Sampled
+pub mod SpanMarks
 pub mod Spans
+pub mod Stacks

@@ -2,7 +2,7 @@
 use Rattle.std.specs.Prelude.{◌≡◌, ◌<◌, ℕ, zero, suc, Bool, false, IsTrue, List, [], ◌∷◌, ◌++◌, ◌⊎◌, ◌↔◌}
 use Rattle.leaf_rows.specs.Leaves.{has_leaf}
 use Rattle.leaf_rows.specs.declared.leaf_set.LeafSet.{LeafSet}
-use Rattle.flow_model.specs.Lists.{◌∈◌, Each, AreDistinct}
+use Rattle.flow_model.specs.Lists.{Each, AreDistinct}
 use Rattle.flow_model.specs.Process.{Process, leaves}
 use Rattle.flow_model.specs.Ready.{InSequence}
 
@@ -33,7 +33,3 @@ pub record AddsRows (g : Process) (ahead : LeafSet 16) (old new : List (LeafSet 
   pub added : List (LeafSet 16)
   pub is : new ≡ old ++ added
   pub rows : AreRowsOf (λ x n. IsTrue (has_leaf ahead x) ⊎ InSequence g x n) (leaves g) added
-
--- to the old set come the leaves that are ahead, and those of the goal
-abbrev pub GathersLeaves : Process → LeafSet 16 → LeafSet 16 → LeafSet 16 → Type 0
-GathersLeaves g ahead old new = IsRowOf (λ x. (IsTrue (has_leaf old x) ⊎ IsTrue (has_leaf ahead x)) ⊎ (x ∈ leaves g)) new

@@ -3,14 +3,15 @@
 
 mod claims;
 mod knot_free;
+mod outline;
 mod part_row;
 mod parts;
 mod places;
 mod plan;
-mod postfix;
 mod progress;
 mod rows;
 mod span;
+mod sweep;
 mod token;
 
 pub use knot_free::KnotFree;

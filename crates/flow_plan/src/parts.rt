@@ -1,60 +1,27 @@
-ghost use Rattle.std.specs.Prelude.{◌≡◌, ◌<◌, ◌≤◌, ◌+◌, ℕ, List, length, All, IfOk, OnOk};
+ghost use Rattle.std.specs.Prelude.{◌≡◌, ◌<◌, ◌≤◌, ℕ, List, [], length, All, IfOk};
 ghost use Rattle.flow_model.specs.Lists.{Each};
-ghost use Rattle.flow_model.specs.Process.{leaves as leaves_of};
 ghost use Rattle.flow_model.specs.Ready.{DirectlyBefore};
-ghost use Rattle.flow_goal.specs.Goal.{process_of};
 ghost use Rattle.flow_plan.specs.Rows.{AreRowsOf};
 ghost use Rattle.flow_plan.specs.declared.span.Span.{Span};
-ghost use Rattle.flow_plan.specs.Spans.{AddsSpan, AddsSpans};
+ghost use Rattle.flow_plan.specs.Spans.{AddsSpans};
 ghost use Rattle.flow_plan.specs.Parts.{ArePartsFor, ArePartsOf};
 
+use crate::outline::Outline;
 use crate::part_row::PartRow;
 use crate::span::Span;
-use flow_goal::{Choiceless, Goal};
+use flow_goal::Choiceless;
 use leaf_rows::LeafSet;
 use std::alloc::{AllocError, Global};
 
-/// Puts the span behind the others, where it has two places and is not the last of them.
-fn add_span(span: Span, spans: &mut Vec<Span>) -> Result<(), AllocError>
-    requires { span.first ≤ span.end }
-    ensures { OnOk result (AddsSpan span spans.old.items spans.new.items) }
+/// The spans of the isolated parts of the goal with two or more leaves, inner parts first.
+fn spans_of(alloc: Global, goal: &Choiceless) -> Result<Vec<Span>, AllocError>
+    ensures { IfOk result (λ spans. AddsSpans goal.now.process 0 [] spans.items) }
 {
-    if span.end - span.first < 2 {
-        return Ok(());
+    let mut outline = Outline::new(alloc);
+    for node in goal.nodes() {
+        outline.draw(node)?;
     }
-    if let Some(last) = spans.last() {
-        if *last == span {
-            return Ok(());
-        }
-    }
-    spans.push(span)?;
-    Ok(())
-}
-
-/// Puts the span of each isolated part of the goal behind the others, inner parts first, where the leaves
-/// of the goal stand from that place on. Returns where they end.
-///
-/// Of parts with the same leaves nothing but parts with no leaf comes in between, so that the last span
-/// alone may be one that comes again.
-fn add_spans(goal: &Goal, first: usize, spans: &mut Vec<Span>) -> Result<usize, AllocError>
-    requires few { first + length (leaves_of (process_of goal.now)) ≤ 1024 }
-    ensures end { IfOk result (λ end. end ≡ first + length (leaves_of (process_of goal.now))) }
-    ensures spans { OnOk result (AddsSpans (process_of goal.now) first spans.old.items spans.new.items) }
-{
-    match goal {
-        Goal::Nop => Ok(first),
-        Goal::Leaf(_) => Ok(first + 1),
-        Goal::Serial(left, right) | Goal::Beside(left, right) | Goal::Either(left, right) => {
-            let middle = add_spans(left, first, spans)?;
-            let end = add_spans(right, middle, spans)?;
-            Ok(end)
-        }
-        Goal::Iso(part) => {
-            let end = add_spans(part, first, spans)?;
-            add_span(Span { first, end }, spans)?;
-            Ok(end)
-        }
-    }
+    Ok(outline.spans)
 }
 
 /// The rows of the parts at those places.
@@ -90,8 +57,7 @@ pub(crate) fn part_rows(
         ArePartsOf goal.now.process pairs parts.items) }
 {
     let leaves = goal.leaves();
-    let mut spans = Vec::new(alloc);
-    add_spans(goal.goal(), 0, &mut spans)?;
+    let spans = spans_of(alloc, goal)?;
     let parts = rows_of_spans(alloc, &spans, leaves, before)?;
     Ok(parts)
 }

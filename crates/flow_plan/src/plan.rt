@@ -5,6 +5,7 @@ ghost use Rattle.flow_model.specs.Process;
 ghost use Rattle.flow_model.specs.Ready.{DirectlyBefore};
 ghost use Rattle.flow_laws.specs.Words.{AreOfLeaves, IsOrdered, EachTwo};
 ghost use Rattle.flow_goal.specs.Goal.{process_of};
+ghost use Rattle.flow_goal.specs.Written.{nodes_of};
 ghost use Rattle.leaf_rows.specs.Leaves.{has_leaf};
 ghost use Rattle.flow_plan.specs.Rows.{IsRowOf};
 ghost use Rattle.flow_plan.specs.Parts.{PartAllows, KeepsTogether};
@@ -13,11 +14,10 @@ ghost use Rattle.flow_plan.specs.Planned.{pairs_of};
 use crate::part_row::PartRow;
 use crate::parts::part_rows;
 use crate::places::place_of;
-use crate::postfix::Postfix;
 use crate::progress::Progress;
 use crate::rows::before_rows;
 use crate::token::OrderToken;
-use flow_goal::{Choiceless, Goal};
+use flow_goal::{Choiceless, Goal, Node};
 use leaf_rows::LeafSet;
 use std::alloc::{AllocError, Global};
 use std::marker::Model;
@@ -25,7 +25,7 @@ use std::marker::Model;
 /// A goal without choices, and orders between some of its leaves.
 #[derive(Drop)]
 pub struct Plan {
-    goal: Postfix,
+    goal: Choiceless,
     tokens: Vec<OrderToken>,
     /// For each leaf, the leaves directly before it.
     before: Vec<LeafSet<16>>,
@@ -96,7 +96,7 @@ impl Plan {
         let before = before_rows(alloc, goal, &tokens)?;
         let parts = part_rows(alloc, goal, &before)?;
         Ok(Plan {
-            goal: Postfix::new(alloc, goal)?,
+            goal: goal.copy(alloc)?,
             tokens,
             before,
             parts,
@@ -109,6 +109,14 @@ impl Plan {
         ensures ordered { IsOrdered self.now.process (pairs_of self.now.tokens) }
     {
         self.goal.goal(alloc)
+    }
+
+    /// The marks of the goal from left to right.
+    pub fn nodes(&self) -> &[Node]
+        ensures nodes { result.now ≡ nodes_of self.now.process }
+        ensures ordered { IsOrdered self.now.process (pairs_of self.now.tokens) }
+    {
+        self.goal.nodes()
     }
 
     /// The leaves from left to right, which is from the least to the greatest.

@@ -1,36 +1,22 @@
 use Rattle.std.proofs.Common.{sym, subst, inl, refl}
 use Rattle.flow_plan.specs.Planned.{pairs_of}
 use Rattle.flow_excise.specs.Rows.{AreApart}
-use Rattle.flow_excise.specs.Items.{AddsItems, IsPieceOf}
-use Rattle.flow_excise.proofs.PieceLemmas.{whole_piece, whole_items}
 use Rattle.flow_excise.proofs.ItemLemmas.{are_apart}
 use Rattle.flow_excise.proofs.LaidLemmas.{run_traced, ring_told}
 use Rattle.flow_excise.proofs.excising.run_of_plan.Goals as goal
 
-pub add_items-requires-clause-piece : goal.add_items-requires-clause-piece
-add_items-requires-clause-piece c =
-    subst (IsPieceOf c.args.plan.now.process) (sym c.requires) (whole_piece c.args.plan.now.process)
-
 pub run_of-requires : goal.run_of-requires
 run_of-requires c =
     subst AreApart (sym c.deref.ensures.value)
-    (are_apart c.args.plan.now.process (pairs_of c.args.plan.now.tokens) c.tokens-tokens.ensures.ordered c.args.plan.now.process (inl refl) c.add_items.new.items.items
-    (whole_items c.args.plan.now.process (pairs_of c.args.plan.now.tokens) c.new-items.result.items c.add_items.new.items.items c.new-items.ensures.items
-    (subst (λ g. AddsItems c.args.plan.now.process (pairs_of c.args.plan.now.tokens) g c.new-items.result.items c.add_items.new.items.items)
-    c.requires c.in_ok-add_items.ensures)))
+    (are_apart c.args.plan.now.process (pairs_of c.args.plan.now.tokens) c.tokens-tokens.ensures.ordered c.args.plan.now.process (inl refl) c.in_ok-items.items.items
+    c.in_ok-items.ensures)
 
 pub returns-clause-ok : goal.returns-clause-ok
 returns-clause-ok c =
-    run_traced c.args.plan.now.process (pairs_of c.args.plan.now.tokens) c.tokens-tokens.ensures.ordered c.add_items.new.items.items c.deref.result.now
-    (whole_items c.args.plan.now.process (pairs_of c.args.plan.now.tokens) c.new-items.result.items c.add_items.new.items.items c.new-items.ensures.items
-    (subst (λ g. AddsItems c.args.plan.now.process (pairs_of c.args.plan.now.tokens) g c.new-items.result.items c.add_items.new.items.items)
-    c.requires c.in_ok-add_items.ensures))
-    c.deref.ensures.value c.run_of.result c.run_of.ensures.ok
+    run_traced c.args.plan.now.process (pairs_of c.args.plan.now.tokens) c.tokens-tokens.ensures.ordered c.in_ok-items.items.items c.deref.result.now
+    c.in_ok-items.ensures c.deref.ensures.value c.run_of.result c.run_of.ensures.ok
 
 pub returns-clause-circle : goal.returns-clause-circle
 returns-clause-circle c =
-    ring_told c.args.plan.now.process (pairs_of c.args.plan.now.tokens) c.tokens-tokens.ensures.ordered c.add_items.new.items.items c.deref.result.now
-    (whole_items c.args.plan.now.process (pairs_of c.args.plan.now.tokens) c.new-items.result.items c.add_items.new.items.items c.new-items.ensures.items
-    (subst (λ g. AddsItems c.args.plan.now.process (pairs_of c.args.plan.now.tokens) g c.new-items.result.items c.add_items.new.items.items)
-    c.requires c.in_ok-add_items.ensures))
-    c.deref.ensures.value c.run_of.result c.run_of.ensures.ring
+    ring_told c.args.plan.now.process (pairs_of c.args.plan.now.tokens) c.tokens-tokens.ensures.ordered c.in_ok-items.items.items c.deref.result.now
+    c.in_ok-items.ensures c.deref.ensures.value c.run_of.result c.run_of.ensures.ring

@@ -1,6 +1,5 @@
-use Rattle.std.proofs.Common.{ℕ, ◌↔◌, IsTrue, false, List, Some, ◌≡◌, slice_get, length, subst, ap, sym, refl, arith}
+use Rattle.std.proofs.Common.{ℕ, ◌↔◌, IsTrue, List, Some, ◌≡◌, slice_get, length, subst, ap, sym, refl, arith}
 use Rattle.leaf_rows.specs.Leaves.{has_leaf}
-use Rattle.leaf_rows.specs.declared.leaf_set.LeafSet.{LeafSet}
 use Rattle.flow_model.specs.Lists.{◌∈◌}
 use Rattle.flow_plan.specs.Planned.{Planned, planned}
 use Rattle.flow_plan.proofs.Readiness.{Before, before_at_row, before_of_none, row_within}

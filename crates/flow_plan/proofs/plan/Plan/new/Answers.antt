@@ -1,4 +1,4 @@
-use Rattle.std.proofs.Common.{◌≡◌, ◌<◌, List, length, ap, subst, ◌∙◌, sym}
+use Rattle.std.proofs.Common.{◌<◌, List, length, ap, subst, ◌∙◌, sym}
 use Rattle.leaf_rows.specs.declared.leaf_set.LeafSet.{LeafSet}
 use Rattle.flow_model.specs.Lists.{Each}
 use Rattle.flow_model.specs.Ready.{DirectlyBefore}
@@ -17,26 +17,22 @@ part_rows-requires-clause-one_each c =
     ap length c.deref-2.ensures.value
     ∙ rows_length (DirectlyBefore c.args.goal.now.process (pairs_of c.deref.result.now)) c.args.goal.now.leaves c.in_ok-before.before.items c.in_ok-before.ensures
 
--- the given goal is the one that is kept
-same_goal : (new old : Resolved) → new.process ≡ old.process → new.leaves ≡ old.leaves → new ≡ old
-same_goal new old process leaves = λ i. record { process = process i; leaves = leaves i }
-
 pub returns-clause-ordered : goal.returns-clause-ordered
 returns-clause-ordered c =
-    let same = same_goal c.in_ok-new.field-0 c.args.goal.now c.in_ok-new.ensures.process c.in_ok-new.ensures.leaves in
-    let r = c.in_ok-new.ensures.resolved in
-    new_is_ordered (planned c.in_ok-new.field-0 c.args.tokens.items) r.choice_free r.listed r.rising
+    let same = c.in_ok-copy.ensures.same in
+    let r = c.in_ok-copy.ensures.resolved in
+    new_is_ordered (planned c.in_ok-copy.field-0 c.args.tokens.items) r.choice_free r.listed r.rising
     (subst (λ (g : Resolved). AreOfLeaves g.process (pairs_of c.args.tokens.items)) (sym same) c.requires.of_leaves) c.requires.different
 
 pub invariant_of-result : goal.invariant_of-result
 invariant_of-result c =
-    let same = same_goal c.in_ok-new.field-0 c.args.goal.now c.in_ok-new.ensures.process c.in_ok-new.ensures.leaves in
-    let r = c.in_ok-new.ensures.resolved in
+    let same = c.in_ok-copy.ensures.same in
+    let r = c.in_ok-copy.ensures.resolved in
     let rows = subst (λ (ts : List OrderToken). AreRowsOf (DirectlyBefore c.args.goal.now.process (pairs_of ts)) c.args.goal.now.leaves c.in_ok-before.before.items) c.deref.ensures.value c.in_ok-before.ensures in
     let parts_are = c.in_ok-parts.ensures (pairs_of c.args.tokens.items)
     (subst (λ (rs : List (LeafSet 16)). AreRowsOf (DirectlyBefore c.args.goal.now.process (pairs_of c.args.tokens.items)) c.args.goal.now.leaves rs) (sym c.deref-2.ensures.value) rows) in
-    new_is_kept (planned c.in_ok-new.field-0 c.args.tokens.items) c.in_ok-before.before.items c.in_ok-parts.parts.items
-    (new_is_ordered (planned c.in_ok-new.field-0 c.args.tokens.items) r.choice_free r.listed r.rising
+    new_is_kept (planned c.in_ok-copy.field-0 c.args.tokens.items) c.in_ok-before.before.items c.in_ok-parts.parts.items
+    (new_is_ordered (planned c.in_ok-copy.field-0 c.args.tokens.items) r.choice_free r.listed r.rising
     (subst (λ (g : Resolved). AreOfLeaves g.process (pairs_of c.args.tokens.items)) (sym same) c.requires.of_leaves) c.requires.different)
     r.listed r.rising
     (subst (λ (g : Resolved). Each (λ n. n < 1024) g.leaves) (sym same) c.requires.small)

@@ -1,0 +1,51 @@
+ghost use Rattle.std.specs.Prelude.{◌≡◌, ◌∷◌, [], IfOk, OnOk};
+ghost use Rattle.flow_goal.specs.declared.node.Node.TheVariants.{Leaf};
+ghost use Rattle.flow_goal.specs.Backwards.{Puts, marks_of};
+
+use crate::node::Node;
+use std::alloc::{AllocError, Global};
+
+/// A goal without choices that is written from right to left, so that what is last stands first.
+#[derive(Drop)]
+pub(crate) struct Backwards {
+    pub(crate) nodes: Vec<Node>,
+    pub(crate) leaves: Vec<u32>,
+}
+
+impl Backwards {
+    /// Nothing is written yet.
+    pub(crate) fn new(alloc: Global) -> Backwards
+        ensures nodes { result.nodes.items ≡ [] }
+        ensures leaves { result.leaves.items ≡ [] }
+    {
+        Backwards {
+            nodes: Vec::new(alloc),
+            leaves: Vec::new(alloc),
+        }
+    }
+
+    pub(crate) fn put(&mut self, node: Node) -> Result<(), AllocError>
+        ensures { OnOk result (Puts (node ∷ []) [] self.old self.new) }
+    {
+        self.nodes.push(node)?;
+        Ok(())
+    }
+
+    /// Puts the mark, if there is one.
+    pub(crate) fn put_any(&mut self, node: Option<Node>) -> Result<(), AllocError>
+        ensures { OnOk result (Puts (marks_of node) [] self.old self.new) }
+    {
+        match node {
+            Some(node) => self.put(node),
+            None => Ok(()),
+        }
+    }
+
+    pub(crate) fn put_leaf(&mut self, leaf: u32) -> Result<(), AllocError>
+        ensures { OnOk result (Puts (Leaf ∷ []) (leaf ∷ []) self.old self.new) }
+    {
+        self.nodes.push(Node::Leaf)?;
+        self.leaves.push(leaf)?;
+        Ok(())
+    }
+}

@@ -1,0 +1,19 @@
+/// A mark of a goal without choices that is written from left to right.
+#[derive(Clone, Copy, Debug, PartialEq, Eq)]
+pub enum Node {
+    Nop,
+    /// The next of the leaves.
+    Leaf,
+    /// The two goals before it, one after the other.
+    Serial,
+    /// Two goals beside one another begin.
+    Fork,
+    /// The first of them ends, and the second begins.
+    Split,
+    /// The second ends.
+    Join,
+    /// A goal with nothing from outside in between begins.
+    Open,
+    /// It ends.
+    Close,
+}

@@ -1,9 +1,0 @@
-use Rattle.std.proofs.Common.{◌≡◌, ◌≤◌, drop}
-use Rattle.flow_plan.specs.Postfix.{read_on, stack_of}
-use Rattle.flow_plan.proofs.postfix.Postfix.goal.Given as goal
-
-abbrev pub invariant-loop-node : goal.invariant-loop-node
-invariant-loop-node l = record {
-  place : l.place ≤ l.node-index;
-  read : read_on (drop l.node-index l.node-items) l.self-inside.leaves.items l.place (stack_of l.stack.items) ≡ l.self.process;
-}

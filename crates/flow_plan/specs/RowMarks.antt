@@ -1,0 +1,41 @@
+-- Marks of a goal that are read for the rows of its leaves.
+use Rattle.std.specs.Prelude.{◌≡◌, ◌+◌, ◌==◌, ◌||◌, ℕ, List, [], ◌∷◌, ◌++◌, MatchOption, reverse, slice_get}
+use Rattle.leaf_rows.specs.Leaves.{has_leaf}
+use Rattle.leaf_rows.specs.declared.leaf_set.LeafSet.{LeafSet}
+use Rattle.flow_model.specs.Process.{Process}
+use Rattle.flow_model.specs.Ready.{InSequence}
+use Rattle.flow_goal.specs.declared.node.Node.{Node}
+use Rattle.flow_goal.specs.declared.node.Node.TheVariants.{Nop, Leaf, Serial, Fork, Split, Join, Open, Close}
+use Rattle.flow_plan.specs.declared.sweep.Sweep.{Sweep}
+use Rattle.flow_plan.specs.Rows.{AreRowsOf}
+use Rattle.flow_plan.specs.Stacks.{WithTop}
+
+-- the set with the leaf, and the union of two sets
+abbrev pub IsWith : ℕ → LeafSet 16 → LeafSet 16 → Type 0
+IsWith n old new = (x : ℕ) → has_leaf new x ≡ (x == n || has_leaf old x)
+
+abbrev pub IsUnion : LeafSet 16 → LeafSet 16 → LeafSet 16 → Type 0
+IsUnion one two all = (x : ℕ) → has_leaf all x ≡ (has_leaf one x || has_leaf two x)
+
+-- whatever the sets that come are, the rest of the marks makes the rows of what is in sequence in q: with the
+-- leaves from that place on, what is ahead of the next of them, a stack of sets, and the rows so far
+abbrev pub MakesRows : Process → List Node → List ℕ → ℕ → LeafSet 16 → List (LeafSet 16) → List (LeafSet 16) → Type 0
+MakesRows q [] ns k ahead forks rows = AreRowsOf (InSequence q) ns rows
+MakesRows q (Nop ∷ nodes) ns k ahead forks rows = MakesRows q nodes ns k ahead forks rows
+MakesRows q (Leaf ∷ nodes) ns k ahead forks rows = MatchOption (slice_get ns k) ⊥
+    (λ n. (more : LeafSet 16) → IsWith n ahead more → MakesRows q nodes ns (k + 1) more forks (rows ++ ahead ∷ []))
+MakesRows q (Serial ∷ nodes) ns k ahead forks rows = MakesRows q nodes ns k ahead forks rows
+MakesRows q (Fork ∷ nodes) ns k ahead forks rows = MakesRows q nodes ns k ahead (ahead ∷ forks) rows
+MakesRows q (Split ∷ nodes) ns k ahead forks rows = WithTop forks (λ side more. MakesRows q nodes ns k side (ahead ∷ more) rows)
+MakesRows q (Join ∷ nodes) ns k ahead forks rows = WithTop forks
+    (λ side more. (all : LeafSet 16) → IsUnion ahead side all → MakesRows q nodes ns k all more rows)
+MakesRows q (Open ∷ nodes) ns k ahead forks rows = MakesRows q nodes ns k ahead forks rows
+MakesRows q (Close ∷ nodes) ns k ahead forks rows = MakesRows q nodes ns k ahead forks rows
+
+-- so do the marks from a sweep on
+abbrev pub Completes : Process → List Node → List ℕ → Sweep → Type 0
+Completes q nodes ns s = MakesRows q nodes ns s.place s.ahead (reverse s.forks.items) s.rows.items
+
+-- the mark was read
+abbrev pub Passes : Node → List ℕ → Sweep → Sweep → Type 0
+Passes node ns old new = (q : Process) (nodes : List Node) → Completes q (node ∷ nodes) ns old → Completes q nodes ns new
