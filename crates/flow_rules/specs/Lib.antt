@@ -1,4 +1,5 @@
 pub mod Asked
+pub mod Conjunction
 pub mod Counts
 pub mod EventLeaves
 pub mod Normal
