@@ -1,6 +1,8 @@
 mod AskedLemmas
+pub mod ConjunctionLemmas
 mod CountLemmas
 mod FormViews
+mod FreedomLemmas
 mod LeafLemmas
 mod ListingLemmas
 mod NormalViews

@@ -4,5 +4,6 @@ pub mod Counts
 pub mod EventLeaves
 pub mod Normal
 pub mod NormalForm
+pub mod Plain
 pub mod Rule
 pub mod WayLists

@@ -1,8 +1,9 @@
-ghost use Rattle.std.specs.Prelude.{◌≡◌, ℕ, Option, true, IfOk, OnOk, ◌++◌, ◌∷◌, []};
+ghost use Rattle.std.specs.Prelude.{◌≡◌, IfOk};
 ghost use Rattle.std.proofs.Props.{props};
 ghost use Rattle.flow_model.specs.Constraint.{all_of};
 ghost use Rattle.flow_model.specs.Ways as model;
-ghost use Rattle.flow_rules.specs.Conjunction.{ArePlain};
+ghost use Rattle.flow_rules.specs.Normal.{all_normals, normals_of};
+ghost use Rattle.flow_rules.specs.Plain.{IsPlain};
 
 use crate::counting::{WayCount, count_all};
 use crate::freedom::all_free;
@@ -19,22 +20,21 @@ use std::alloc::{AllocError, Global};
 pub struct Conjunction {
     plain: Vec<Nnf>,
     asking: Vec<Nnf>,
-    ghost orderless: { ArePlain plain.items } by { Prim.hlevel props },
+    ghost orderless: { IsPlain (all_normals (normals_of plain.items)) } by { Prim.hlevel props },
 }
 
 /// No way.
 const NONE: WayCount = WayCount { ways: 0, pairs: 0 };
 
 impl Conjunction {
-    ghost use Rattle.flow_rules.specs.Conjunction.{normal_in};
+    ghost use Rattle.flow_rules.specs.Conjunction.{HasWaysOf, normal_in};
     ghost use Rattle.flow_rules.specs.Counts.{count_of};
     ghost use Rattle.flow_rules.specs.EventLeaves.{leaf_in};
     ghost use Rattle.flow_rules.specs.Rule.{rules_of};
 
     /// All of the rules.
     pub fn new(alloc: Global, rules: &[Rule]) -> Result<Conjunction, AllocError>
-        ensures { IfOk result (λ all. (leaf : ℕ → Option ℕ) →
-            model.ways (normal_in all) leaf ≡ model.ways (model.normal_form (all_of (rules_of rules.now)) true) leaf) }
+        ensures { IfOk result (λ all. HasWaysOf (normal_in all) (all_of (rules_of rules.now))) }
     {
         let mut plain = Vec::new(alloc);
         let mut asking = Vec::new(alloc);

@@ -1,6 +1,6 @@
 ghost use Rattle.std.specs.Prelude.{◌≡◌, ℕ, Option, true, IsTrue};
 ghost use Rattle.flow_rules.specs.Normal.{normal_of};
-ghost use Rattle.flow_rules.specs.Conjunction.{IsPlain, is_plain};
+ghost use Rattle.flow_rules.specs.Plain.{IsPlain, is_plain};
 ghost use Rattle.flow_rules.specs.WayLists.{all_ways, any_ways};
 
 use crate::normal::Nnf;
@@ -27,6 +27,7 @@ pub(crate) fn is_plain(rule: &Nnf) -> bool
     match rule {
         Nnf::Must(_) | Nnf::Never(_) => true,
         Nnf::Before(_, _) | Nnf::NotBefore(_, _) => false,
-        Nnf::And(parts) | Nnf::Or(parts) => are_plain(parts),
+        Nnf::And(parts) => are_plain(parts),
+        Nnf::Or(parts) => are_plain(parts),
     }
 }
