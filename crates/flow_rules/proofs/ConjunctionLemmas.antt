@@ -1,5 +1,5 @@
 -- One rule more among all that are to be met.
-use Rattle.std.proofs.Common.{◌≡◌, ℕ, ◌+◌, ◌<◌, Option, true, false, List, [], ◌∷◌, ◌++◌, length, take, get_or, fold, refl, sym, ap, ◌∙◌}
+use Rattle.std.proofs.Common.{◌≡◌, ◌≢◌, ℕ, ◌+◌, ◌<◌, Bool, Option, true, false, List, [], ◌∷◌, ◌++◌, length, take, get_or, fold, refl, sym, ap, ◌∙◌}
 use Rattle.std.proofs.lemmas.List.{take_more, map-append}
 use Rattle.std.proofs.Math.Seq.{take-length}
 use Rattle.flow_model.specs.Constraint.{Constraint, Always, And, all_of}
@@ -84,3 +84,12 @@ pub unmet_ways : (plain asking : List Nnf) (leaf : ℕ → Option ℕ) → IsPla
 unmet_ways plain asking leaf p h =
     ap (λ ws. both_ways ws (ways (all_normals (normals_of asking)) leaf))
     (plain_unmet (ways (all_normals (normals_of plain)) leaf) (p leaf) (ap is_free (ways_of_all leaf plain) ∙ h))
+
+-- where there is a way, only the others count
+pub some_ways : (plain asking : List Nnf) (leaf : ℕ → Option ℕ) → IsPlain (all_normals (normals_of plain)) → ways (parted plain asking) leaf ≢ [] →
+    all_ways leaf asking ≡ ways (parted plain asking) leaf
+some_ways plain asking leaf p some = at (is_free (all_ways leaf plain)) refl
+  where
+    at : (b : Bool) → is_free (all_ways leaf plain) ≡ b → all_ways leaf asking ≡ ways (parted plain asking) leaf
+    at true e = met_ways plain asking leaf e
+    at false e = absurd (some (unmet_ways plain asking leaf p e))

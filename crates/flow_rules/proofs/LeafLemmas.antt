@@ -7,7 +7,8 @@ use Rattle.std.proofs.lemmas.List.Folds.{find-append}
 use Rattle.flow_model.specs.declared.labels.Label.{Label}
 use Rattle.flow_model.specs.Facts.{event_at, is_event}
 use Rattle.flow_model.specs.Ways.{leaf_of_event}
-use Rattle.flow_rules.specs.EventLeaves.{leaf_at, unless, with_leaf, without_leaf}
+use Rattle.flow_rules.specs.EventLeaves.{IsBlank, leaf_at, leaf_in, unless}
+use Rattle.flow_rules.specs.declared.leaf_table.LeafEvents.{LeafEvents}
 
 -- the leaf, if that is its event
 abbrev pub if_on : ℕ → ℕ → Option ℕ → Option ℕ
@@ -43,3 +44,17 @@ room_more [] (suc q) = refl
 room_more (l ∷ ls) zero = refl
 room_more (l ∷ ls) (suc q) = room_more ls q
 
+-- the leaves of one resolution, and none of them left behind
+
+unless_self : (o : Option ℕ) → unless o o ≡ None
+unless_self None = refl
+unless_self (Some x) = refl
+
+module _ (labels : List Label) (ls : List ℕ) (old noted : LeafEvents) (blank : IsBlank old)
+    (notes : (event : ℕ) → leaf_in noted event ≡ option_or (leaf_in old event) (leaf_of_event labels ls event)) where
+  pub noted_leaves : (event : ℕ) → leaf_in noted event ≡ leaf_of_event labels ls event
+  noted_leaves event = notes event ∙ ap (λ o. option_or o (leaf_of_event labels ls event)) (blank event)
+
+  pub blank_again : (new : LeafEvents) → ((event : ℕ) → leaf_in new event ≡ unless (leaf_of_event labels ls event) (leaf_in noted event)) → IsBlank new
+  blank_again new forgets event =
+      forgets event ∙ ap (unless (leaf_of_event labels ls event)) (noted_leaves event) ∙ unless_self (leaf_of_event labels ls event)

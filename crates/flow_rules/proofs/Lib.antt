@@ -1,9 +1,9 @@
 mod AskedLemmas
 pub mod ConjunctionLemmas
-mod CountLemmas
+pub mod CountLemmas
 mod FormViews
 mod FreedomLemmas
-mod LeafLemmas
+pub mod LeafLemmas
 mod ListingLemmas
 mod NormalViews
 pub mod RuleViews

@@ -1,5 +1,5 @@
 -- The leaf of each event.
-use Rattle.std.specs.Prelude.{ℕ, ◌==◌, if◌then◌else◌, List, Option, Some, None, get_or}
+use Rattle.std.specs.Prelude.{◌≡◌, ℕ, ◌==◌, if◌then◌else◌, List, Option, Some, None, get_or}
 use Rattle.std.specs.Option.{option_or}
 use Rattle.flow_rules.specs.declared.leaf_table.LeafEvents.{LeafEvents}
 
@@ -10,6 +10,10 @@ leaf_at leaves event = get_or leaves event None
 -- the leaf that an event has, if it has one
 abbrev pub leaf_in : LeafEvents → ℕ → Option ℕ
 leaf_in table event = leaf_at table.leaves.items event
+
+-- no event has a leaf
+abbrev pub IsBlank : LeafEvents → Type 0
+IsBlank table = (event : ℕ) → leaf_in table event ≡ None
 
 -- the leaf of `q`, where the leaf given is its leaf if it has no other
 abbrev pub with_leaf : ℕ → ℕ → Option ℕ → ℕ → Option ℕ

@@ -1,4 +1,4 @@
-ghost use Rattle.std.specs.Prelude.{◌≡◌, IfOk};
+ghost use Rattle.std.specs.Prelude.{◌≡◌, ◌≢◌, [], IfOk};
 ghost use Rattle.std.proofs.Props.{props};
 ghost use Rattle.flow_model.specs.Constraint.{all_of};
 ghost use Rattle.flow_model.specs.Ways as model;
@@ -8,8 +8,10 @@ ghost use Rattle.flow_rules.specs.Plain.{IsPlain};
 use crate::counting::{WayCount, count_all};
 use crate::freedom::all_free;
 use crate::leaf_table::LeafEvents;
+use crate::listing::ways_of_all;
 use crate::normal::Nnf;
 use crate::normalizing::nnf;
+use crate::order_set::OrderSet;
 use crate::plainness::is_plain;
 use crate::rule::Rule;
 use std::alloc::{AllocError, Global};
@@ -31,6 +33,7 @@ impl Conjunction {
     ghost use Rattle.flow_rules.specs.Counts.{count_of};
     ghost use Rattle.flow_rules.specs.EventLeaves.{leaf_in};
     ghost use Rattle.flow_rules.specs.Rule.{rules_of};
+    ghost use Rattle.flow_rules.specs.WayLists.{pairs_of};
 
     /// All of the rules.
     pub fn new(alloc: Global, rules: &[Rule]) -> Result<Conjunction, AllocError>
@@ -58,5 +61,12 @@ impl Conjunction {
         } else {
             NONE
         }
+    }
+    /// The ways in which the leaves meet all rules, in order, where there are some.
+    pub fn ways(&self, alloc: Global, events: &LeafEvents) -> Result<Vec<OrderSet>, AllocError>
+        requires { model.ways (normal_in self.now) (leaf_in events.now) ≢ [] }
+        ensures { IfOk result (λ all. pairs_of all.items ≡ model.ways (normal_in self.now) (leaf_in events.now)) }
+    {
+        ways_of_all(alloc, &self.asking, events)
     }
 }

@@ -1,4 +1,4 @@
-ghost use Rattle.std.specs.Prelude.{◌≡◌, ◌<◌, ℕ, None, length, OnOk};
+ghost use Rattle.std.specs.Prelude.{◌≡◌, ◌<◌, ℕ, length, OnOk};
 ghost use Rattle.flow_rules.specs.EventLeaves.{leaf_at};
 
 use std::alloc::{AllocError, Global};
@@ -21,11 +21,11 @@ fn make_room(leaves: &mut Vec<Option<u32>>, event: u32) -> Result<(), AllocError
 }
 
 impl LeafEvents {
-    ghost use Rattle.flow_rules.specs.EventLeaves.{leaf_in, with_leaf, without_leaf};
+    ghost use Rattle.flow_rules.specs.EventLeaves.{IsBlank, leaf_in, with_leaf, without_leaf};
 
     /// No event has a leaf.
     pub fn new(alloc: Global) -> LeafEvents
-        ensures { (event : ℕ) → leaf_in result event ≡ None }
+        ensures { IsBlank result }
     {
         LeafEvents {
             leaves: Vec::new(alloc),
