@@ -20,11 +20,7 @@ fn event_at(tree: &Tree, leaf: u32) -> Option<u32>
 
 /// Notes the events of the leaves. Where an event has several leaves, the first counts. It takes memory
 /// in the measure of the greatest event, once.
-pub fn note_events(
-    tree: &Tree,
-    leaves: &[u32],
-    events: &mut LeafEvents,
-) -> Result<(), AllocError>
+pub fn note_events(tree: &Tree, leaves: &[u32], events: &mut LeafEvents) -> Result<(), AllocError>
     ensures { OnOk result ((event : ℕ) →
         leaf_in events.new event ≡ option_or (leaf_in events.old event) (model.leaf_of_event tree.now.labels leaves.now event)) }
 {

@@ -32,6 +32,6 @@ loop-rule-preserved c =
           subst (λ (v : Vec Nnf Global). Kept c v c.if-is_plain.asking) (sym w.plain-is) (
             c.loop-rule.invariant.0,
             asking_more rules i rule normal c.loop-rule-test.true c.rule-item.is c.in_ok-normal.ensures.ways plain asking c.if-is_plain.asking.items
-            ((λ k. (w.asking-is k).items) ∙ w.in_ok-push-2.ensures.items) c.loop-rule.invariant.1,
+                ((λ k. (w.asking-is k).items) ∙ w.in_ok-push-2.ensures.items) c.loop-rule.invariant.1,
           )
     ]
