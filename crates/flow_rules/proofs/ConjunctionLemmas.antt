@@ -1,9 +1,8 @@
 -- One rule more among all that are to be met.
 use Rattle.std.proofs.Common.{◌≡◌, ◌≢◌, ℕ, ◌+◌, ◌<◌, Bool, Option, true, false, List, [], ◌∷◌, ◌++◌, length, take, get_or, fold, refl, sym, ap, ◌∙◌}
 use Rattle.std.proofs.lemmas.List.{take_more, map-append}
-use Rattle.std.proofs.Math.Seq.{take-length}
 use Rattle.flow_model.specs.Constraint.{Constraint, Always, And, all_of}
-use Rattle.flow_model.specs.Ways.{Normal, always, both, free_way, is_free, normal_form, ways}
+use Rattle.flow_model.specs.Ways.{Normal, always, both, is_free, normal_form, ways}
 use Rattle.flow_rules.specs.declared.normal.Nnf.{Nnf}
 use Rattle.flow_rules.specs.declared.rule.Rule.{Rule}
 use Rattle.flow_rules.specs.Conjunction.{HasWaysOf}

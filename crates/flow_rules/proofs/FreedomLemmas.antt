@@ -1,5 +1,5 @@
 -- Ways that ask for nothing, and lists that are met in any order or in none.
-use Rattle.std.proofs.Common.{◌≡◌, ℕ, zero, suc, Bool, true, false, ◌||◌, ◌&&◌, List, [], ◌∷◌, ◌++◌, take, fold, refl, sym, ap, ◌∙◌, ◌⊎◌, inl, inr, true≢false}
+use Rattle.std.proofs.Common.{◌≡◌, ℕ, zero, suc, Bool, true, false, ◌||◌, ◌&&◌, List, [], ◌∷◌, ◌++◌, take, fold, refl, sym, ap, ◌∙◌, ◌⊎◌, inl, inr}
 use Rattle.flow_model.specs.Ways.{free_way, is_free}
 use Rattle.flow_rules.specs.Plain.{is_plain}
 use Rattle.flow_rules.specs.WayLists.{both_ways, either_way, is_none}

@@ -3,7 +3,6 @@ use Rattle.std.specs.Option.{option_or}
 use Rattle.flow_model.specs.Ways.{leaf_of_event}
 use Rattle.std.proofs.Common.{take}
 use Rattle.flow_rules.specs.EventLeaves.{leaf_in}
-use Rattle.flow_rules.specs.declared.leaf_table.LeafEvents.{LeafEvents}
 use Rattle.flow_rules.proofs.LeafLemmas.{if_on, leaf_more, none_on, or_more}
 use Rattle.flow_rules.proofs.event_leaves.note_events.Goals as goal
 use Rattle.flow_rules.proofs.event_leaves.note_events.Goals.{in-Some+in_ok-note, in_default}

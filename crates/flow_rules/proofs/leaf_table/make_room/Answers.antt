@@ -1,4 +1,4 @@
-use Rattle.std.proofs.Common.{◌∙◌, ap, length, arith}
+use Rattle.std.proofs.Common.{◌∙◌, ap, arith}
 use Rattle.flow_rules.specs.EventLeaves.{leaf_at}
 use Rattle.flow_rules.proofs.LeafLemmas.{room_more}
 use Rattle.flow_rules.proofs.leaf_table.make_room.Goals as goal
