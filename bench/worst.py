@@ -410,6 +410,25 @@ def twelve_choices_and_4_096_ors_that_ask_for_nothing():
 
 
 @text
+def twelve_choices_and_4_096_ors_on_their_sides_with_one_order():
+    rules = "".join(f" constraint must a{n % 12} or must b{n % 12};" for n in range(4095))
+    return (f"event {choice_events(12)}, {names('e', 52, ', ')}; goal {choices(12)} | {names('e', 52, ' * ')};"
+            f"{rules} constraint order e0 e1;")
+
+
+@text
+def twelve_choices_and_2_048_orders_that_need_not_be_kept():
+    rules = "".join(f" constraint order e{n % 51 + 1} e{n % 51} or must b{n % 12} or must a{n % 12};" for n in range(2048))
+    return f"event {choice_events(12)}, {names('e', 52, ', ')}; goal {choices(12)} | {names('e', 52, ' * ')};{rules}"
+
+
+@text
+def twelve_choices_and_a_side_asked_for_8_191_times():
+    rules = " constraint must a0;" * 8190 + " constraint order e0 e1;"
+    return f"event {choice_events(12)}, {names('e', 52, ', ')}; goal {choices(12)} | {names('e', 52, ' * ')};{rules}"
+
+
+@text
 def twelve_choices_and_constraints_that_cannot_be_met():
     rules = "".join(f" constraint must e{number % 52};" for number in range(8191))
     return f"event z, {choice_events(12)}, {names('e', 52, ', ')}; goal {choices(12)} | {names('e', 52, ' * ')};{rules} constraint must z;"

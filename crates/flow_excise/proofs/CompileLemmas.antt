@@ -28,7 +28,7 @@ use Rattle.flow_excise.specs.Limits.{bulk_of, IsTooMany}
 use Rattle.flow_excise.specs.Options.{schema_of, options_by, all_options_by}
 use Rattle.flow_excise.specs.Plans.{option_of}
 use Rattle.flow_excise.specs.Sieves.{ArePlannable}
-use Rattle.flow_excise.proofs.Conjunctions.{HasWaysOf}
+use Rattle.flow_rules.specs.Conjunction.{HasWaysOf}
 use Rattle.flow_excise.proofs.SiftingLemmas.{options_told, told_ways, just_those, all_dropped, some_kept, kept_has}
 use Rattle.flow_excise.proofs.TallyLemmas.{bulk-cons}
 

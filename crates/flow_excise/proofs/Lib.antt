@@ -1,4 +1,3 @@
-pub mod Conjunctions
 pub mod TallyLemmas
 pub mod RingLemmas
 pub mod OrderLemmas

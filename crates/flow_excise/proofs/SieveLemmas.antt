@@ -1,6 +1,6 @@
 -- Options that are looked at one by one.
-use Rattle.std.proofs.Common.{◌≡◌, ℕ, zero, suc, ◌+◌, ◌<◌, List, [], ◌∷◌, ◌++◌, length, take, get_or, map, refl, sym, ap, ◌∙◌, subst, inl, inr, arith, append_assoc, Option, Some, slice_get, Result, Ok, Err, MatchResult}
-use Rattle.std.proofs.lemmas.List.{take_more, map-append, length-take-le}
+use Rattle.std.proofs.Common.{◌≡◌, ◌≢◌, Bool, true, false, not, true≢false, append-nil, ℕ, zero, suc, ◌+◌, ◌<◌, List, [], ◌∷◌, ◌++◌, length, take, get_or, map, refl, sym, ap, ◌∙◌, subst, inl, inr, arith, append_assoc, Option, Some, slice_get, Result, Ok, Err, MatchResult}
+use Rattle.std.proofs.lemmas.List.{get_or-map, length-map, length-take-le, map-append, take_more}
 use Rattle.std.proofs.lemmas.Option.{slice_get_within, slice_get-get_or, get_or_from_slice_get}
 use Rattle.flow_model.specs.Lists.{◌∈◌}
 use Rattle.flow_model.specs.Process.{Process, Empty, leaves}
@@ -9,7 +9,7 @@ use Rattle.flow_model.specs.Resolution.{ChoiceOption, resolutions}
 use Rattle.flow_laws.proofs.ListLemmas2.{mem-flat_map, some_same}
 use Rattle.flow_goal.specs.Labelled.{Labelled}
 use Rattle.flow_rules.specs.declared.order_set.OrderSet.{OrderSet}
-use Rattle.flow_rules.specs.WayLists.{pairs_of}
+use Rattle.flow_rules.specs.WayLists.{is_none, pairs_of}
 use Rattle.flow_plan.specs.Sampled.{Sampled}
 use Rattle.flow_excise.specs.declared.refusal.Dropped.{Dropped}
 use Rattle.flow_excise.specs.declared.refusal.CompileRefusal.{CompileRefusal}
@@ -17,7 +17,7 @@ use Rattle.flow_excise.specs.declared.refusal.CompileRefusal.TheVariants.{NoMemo
 use Rattle.flow_excise.specs.declared.sifted.Sieve.{Sieve}
 use Rattle.flow_excise.specs.Executions.{HasExecution, NumberedOption, numbered_ways, numbered_options, TellsOf, AreSifted}
 use Rattle.flow_excise.specs.Compilation.{options_of}
-use Rattle.flow_excise.specs.Options.{options_by, all_options_by}
+use Rattle.flow_excise.specs.Options.{all_options_by, has_ways, options_by, ways_by}
 use Rattle.flow_excise.specs.Plans.{option_of}
 use Rattle.flow_excise.specs.Sieves.{ArePlannable, option_with, options_with, HasSifted, Sifts}
 use Rattle.flow_excise.proofs.SiftingLemmas.{keep_one, drop_one, numbered, more_ways, more_resolutions}
@@ -83,6 +83,38 @@ pub ways_found : (t : Labelled) (n : Normal) (q : Process) (orders seen : List O
 ways_found t n q orders seen ls found e listed same ways_are =
     ap (options_with q) e ∙ options_found q orders
     ∙ ap (map (λ way. way_option q way)) (ways_are ∙ (λ k. ways n (λ event. same event k)) ∙ ap (λ (l : List ℕ). ways n (leaf_of_event t.labels l)) listed)
+
+-- whether a resolution has an option
+
+pub some_found : (t : Labelled) (n : Normal) (q : Process) (ls : List ℕ) (found : ℕ → Option ℕ) → ls ≡ leaves q →
+    ((event : ℕ) → found event ≡ leaf_of_event t.labels ls event) → has_ways t n q ≡ true → ways n found ≢ []
+some_found t n q ls found listed same some none =
+    let ways_are : ways n found ≡ ways_by t n q =
+    (λ k. ways n (λ event. same event k)) ∙ ap (λ (l : List ℕ). ways n (leaf_of_event t.labels l)) listed in
+    true≢false (sym some ∙ ap (λ ws. not (is_none ws)) (sym ways_are ∙ none))
+
+pub none_found : (t : Labelled) (n : Normal) (q : Process) → has_ways t n q ≡ false → options_by t n q ≡ []
+none_found t n q h = at (ways_by t n q) h
+  where
+    at : (ws : List (List (ℕ × ℕ))) → not (is_none ws) ≡ false → map (λ way. way_option q way) ws ≡ []
+    at [] h = refl
+    at (w ∷ ws) h = absurd (true≢false h)
+
+-- nothing is looked at
+pub sift_none : (t : Labelled) (n : Normal) (i : ℕ) (q : Process) (old : Sieve) → options_by t n q ≡ [] → Sifts (numbered_ways i 0 (options_by t n q)) old old
+sift_none t n i q old none done s =
+    subst (λ ns. HasSifted ns old) (sym (ap (λ (os : List ChoiceOption). done ++ numbered_ways i 0 os) none ∙ append-nil done)) s
+
+module _ (t : Labelled) (n : Normal) (met : List Bool) (listed : met ≡ map (has_ways t n) (resolutions t.process)) where
+  pub met_length : length met ≡ length (resolutions t.process)
+  met_length = ap length listed ∙ length-map (resolutions t.process) (has_ways t n)
+
+  pub met_at : (i : ℕ) (b : Bool) → get_or met i false ≡ b → (q : Process) → slice_get (resolutions t.process) i ≡ Some q → has_ways t n q ≡ b
+  met_at i b read q there =
+      let all = resolutions t.process in
+      sym (ap (λ l. get_or l i false) listed ∙ get_or-map (has_ways t n) all i q false (slice_get_within all i q there)
+      ∙ ap (has_ways t n) (get_or_from_slice_get all i q q there))
+      ∙ read
 
 pub plannable_ways : (t : Labelled) (n : Normal) (i : ℕ) (q : Process) (os : List ChoiceOption) → os ≡ options_by t n q → slice_get (resolutions t.process) i ≡ Some q →
     ArePlannable (all_options_by t n) → ArePlannable os

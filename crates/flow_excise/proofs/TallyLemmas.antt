@@ -1,9 +1,9 @@
 -- Tallies of options, resolution by resolution.
-use Rattle.std.proofs.Common.{◌≡◌, ℕ, zero, suc, ◌+◌, ◌*◌, ◌-◌, ◌^◌, ◌≤◌, min, List, [], ◌∷◌, ◌++◌, length, take, map, sum, refl, sym, ap, ◌∙◌, ◌⊎◌, inl, inr, arith, Option, Some, slice_get, append-nil}
+use Rattle.std.proofs.Common.{◌≡◌, ◌==◌, Bool, not, ℕ, zero, suc, ◌+◌, ◌*◌, ◌-◌, ◌^◌, ◌≤◌, min, List, [], ◌∷◌, ◌++◌, length, take, map, sum, refl, sym, ap, ◌∙◌, ◌⊎◌, inl, inr, arith, Some, slice_get, append-nil}
 use Rattle.std.specs.List.{flat_map}
 use Rattle.std.proofs.Math.Nat.{min-eq_left, min-eq_right, zero-mul, suc-mul, mul_comm, add-zero}
 use Rattle.std.proofs.lemmas.Bool.{cases_lt}
-use Rattle.std.proofs.lemmas.List.{length-append}
+use Rattle.std.proofs.lemmas.List.{length-append, map-append}
 use Rattle.std.proofs.lemmas.List.Sums.{sum-map, sum_by-append, sum_by-cons}
 use Rattle.std.proofs.lemmas.Grind.{flat_map-append}
 use Rattle.std.proofs.lemmas.Option.{slice_get_within, get_or_from_slice_get}
@@ -16,10 +16,11 @@ use Rattle.flow_laws.proofs.ResolutionsLemmas.{length-resolutions}
 use Rattle.std.proofs.Math.Seq.{take-length}
 use Rattle.flow_rules.specs.declared.counting.WayCount.{WayCount}
 use Rattle.flow_rules.specs.Counts.{kept, count_of}
+use Rattle.flow_rules.proofs.CountLemmas.{none_left}
 use Rattle.flow_goal.specs.Labelled.{Labelled}
 use Rattle.flow_excise.specs.declared.tally.Tally.{Tally}
 use Rattle.flow_excise.specs.Tallies.{tally_of, added, tally_by}
-use Rattle.flow_excise.specs.Options.{ways_by, options_by}
+use Rattle.flow_excise.specs.Options.{has_ways, options_by, ways_by}
 
 -- numbers that are kept at a greatest one
 
@@ -106,13 +107,19 @@ tally_of_ways q ws =
     ap kept (sizes_by q ws) ∙ sym (sum_kept m (length ws * l) (length (joined ws))) ∙ ap (λ n. kept (n + kept (length (joined ws)))) held in
     λ k. record { options = kept (count_by q ws k); bulk = size k }
 
-pub tally_found : (t : Labelled) (n : Normal) (q : Process) (ls : List ℕ) (found : ℕ → Option ℕ) (count : WayCount) (result : Tally) →
-    ls ≡ leaves q → ((event : ℕ) → found event ≡ leaf_of_event t.labels ls event) → count ≡ count_of (ways n found) →
-    result ≡ tally_by (length ls) count → result ≡ tally_of (options_by t n q)
-tally_found t n q ls found count result listed same counted made =
+pub tally_found : (t : Labelled) (n : Normal) (q : Process) (ls : List ℕ) (count : WayCount) (result : Tally) →
+    ls ≡ leaves q → count ≡ count_of (ways n (leaf_of_event t.labels ls)) → result ≡ tally_by (length ls) count → result ≡ tally_of (options_by t n q)
+tally_found t n q ls count result listed counted made =
     made ∙ ap (λ (l : List ℕ). tally_by (length l) count) listed
-    ∙ ap (tally_by (length (leaves q))) (counted ∙ (λ k. count_of (ways n (λ event. same event k))) ∙ ap (λ (l : List ℕ). count_of (ways n (leaf_of_event t.labels l))) listed)
+    ∙ ap (tally_by (length (leaves q))) (counted ∙ ap (λ (l : List ℕ). count_of (ways n (leaf_of_event t.labels l))) listed)
     ∙ sym (tally_of_ways q (ways_by t n q))
+
+-- whether it has an option
+pub met_found : (t : Labelled) (n : Normal) (q : Process) (ls : List ℕ) (count : WayCount) →
+    ls ≡ leaves q → count ≡ count_of (ways n (leaf_of_event t.labels ls)) → not (count.ways == 0) ≡ has_ways t n q
+met_found t n q ls count listed counted =
+    ap (λ (c : WayCount). not (c.ways == 0)) (counted ∙ ap (λ (l : List ℕ). count_of (ways n (leaf_of_event t.labels l))) listed)
+    ∙ ap not (none_left (ways_by t n q))
 
 -- one resolution more
 
@@ -131,6 +138,14 @@ tally_more t n i q old one new there so_far this made =
     made ∙ (λ k. added (so_far k) (this k))
     ∙ sym (ap tally_of (flat_more (options_by t n) (resolutions t.process) i q there)
     ∙ tally-append (flat_map (options_by t n) (take i (resolutions t.process))) (options_by t n q))
+
+pub met_more : (t : Labelled) (n : Normal) (i : ℕ) (q : Process) (old new : List Bool) (b : Bool) → slice_get (resolutions t.process) i ≡ Some q →
+    old ≡ map (has_ways t n) (take i (resolutions t.process)) → b ≡ has_ways t n q → new ≡ old ++ b ∷ [] →
+    new ≡ map (has_ways t n) (take (i + 1) (resolutions t.process))
+met_more t n i q old new b there so_far this made =
+    made ∙ (λ k. so_far k ++ this k ∷ [])
+    ∙ sym (ap (map (has_ways t n)) (taken_more (resolutions t.process) i q there)
+    ∙ map-append (has_ways t n) (take i (resolutions t.process)) (q ∷ []))
 
 -- all of them
 pub whole_count : (g : Process) (count : ℕ) → count ≡ min (resolution_count g) (2 ^ 64 - 1) → resolution_count g ≤ 4096 → count ≡ length (resolutions g)

@@ -1,5 +1,5 @@
 -- A tree and rules as a workflow, and its options by a normal form of the rules.
-use Rattle.std.specs.Prelude.{ℕ, List, [], map}
+use Rattle.std.specs.Prelude.{ℕ, Bool, not, List, [], map}
 use Rattle.std.specs.List.{flat_map}
 use Rattle.flow_model.specs.Process.{Process, leaves}
 use Rattle.flow_model.specs.Constraint.{Constraint}
@@ -7,6 +7,7 @@ use Rattle.flow_model.specs.Schema.{Schema}
 use Rattle.flow_model.specs.Ways.{Normal, leaf_of_event, ways}
 use Rattle.flow_model.specs.Resolution.{ChoiceOption, resolutions}
 use Rattle.flow_goal.specs.Labelled.{Labelled}
+use Rattle.flow_rules.specs.WayLists.{is_none}
 
 -- the tree with its rules, with no facts and no notes
 abbrev pub schema_of : Labelled → List Constraint → Schema
@@ -15,6 +16,10 @@ schema_of t rules = record { goal = t.process; labels = t.labels; rules = rules;
 -- the ways in which the leaves of a resolution meet a normal form
 abbrev pub ways_by : Labelled → Normal → Process → List (List (ℕ × ℕ))
 ways_by t normal q = ways normal (leaf_of_event t.labels (leaves q))
+
+-- there is such a way
+abbrev pub has_ways : Labelled → Normal → Process → Bool
+has_ways t normal q = not (is_none (ways_by t normal q))
 
 -- the options of one resolution
 abbrev pub options_by : Labelled → Normal → Process → List ChoiceOption

@@ -8,13 +8,12 @@ ghost use Rattle.flow_excise.specs.Options.{schema_of};
 ghost use Rattle.flow_excise.specs.Compilation.{IsCompiled, IsRefused};
 
 use crate::compiled::Compiled;
-use crate::conjunction::conjunction;
 use crate::counts::Counts;
 use crate::limits::{few_options, few_resolutions};
 use crate::refusal::CompileRefusal;
 use crate::sieve::sift_all;
 use flow_goal::Tree;
-use flow_rules::Rule;
+use flow_rules::{Conjunction, Rule};
 use std::alloc::Global;
 
 /// Compiles a tree and rules into the plans of all options that have an execution. Nothing is formed
@@ -29,20 +28,20 @@ pub fn compile(alloc: Global, tree: &Tree, rules: &[Rule]) -> Result<Compiled, C
 {
     let _leaves = tree.leaves();
     let resolutions = few_resolutions(tree)?;
-    let normal = conjunction(alloc, rules)?;
-    let tally = match few_options(alloc, tree, &normal) {
-        Ok(tally) => tally,
+    let rules = Conjunction::new(alloc, rules)?;
+    let counted = match few_options(alloc, tree, &rules) {
+        Ok(counted) => counted,
         Err(refusal) => return Err(refusal),
     };
-    let sieve = sift_all(alloc, tree, &normal)?;
+    let sieve = sift_all(alloc, tree, &rules, &counted.met)?;
     if sieve.kept.is_empty() {
         let dropped = sieve.dropped;
         return Err(CompileRefusal::Inconsistent { dropped });
     }
     let counts = Counts {
         resolutions,
-        options: tally.options,
-        bulk: tally.bulk,
+        options: counted.tally.options,
+        bulk: counted.tally.bulk,
         live: sieve.kept.len() as u64,
     };
     Ok(Compiled::new(sieve.kept, counts))

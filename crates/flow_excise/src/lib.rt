@@ -5,7 +5,6 @@
 mod circle;
 mod compiled;
 mod compiling;
-mod conjunction;
 mod counts;
 mod excising;
 mod gathering;

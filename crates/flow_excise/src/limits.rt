@@ -1,16 +1,15 @@
-ghost use Rattle.std.specs.Prelude.{◌≡◌, ◌<◌, ◌≤◌, MatchResult};
-ghost use Rattle.flow_model.specs.Resolution.{resolution_count};
-ghost use Rattle.flow_rules.specs.Normal.{normal_of};
-ghost use Rattle.flow_excise.specs.Options.{all_options_by};
-ghost use Rattle.flow_excise.specs.Tallies.{tally_of};
+ghost use Rattle.std.specs.Prelude.{◌≡◌, ◌<◌, ◌≤◌, IfOk, MatchResult, map};
+ghost use Rattle.flow_model.specs.Resolution.{resolution_count, resolutions as all_resolutions};
+ghost use Rattle.flow_rules.specs.Conjunction.{normal_in};
+ghost use Rattle.flow_excise.specs.Options.{all_options_by, has_ways};
 ghost use Rattle.flow_rules.specs.Counts.{kept};
 ghost use Rattle.flow_excise.specs.declared.refusal.CompileRefusal.TheVariants.{TooManyChoices};
 ghost use Rattle.flow_excise.specs.Limits.{AreFew, IsTooMany};
 
 use crate::refusal::CompileRefusal;
-use crate::tally::{Tally, whole_tally};
+use crate::tally::{Counted, whole_tally};
 use flow_goal::{Tree, resolutions};
-use flow_rules::Nnf;
+use flow_rules::Conjunction;
 use std::alloc::Global;
 
 /// How many resolutions there may be, and how many options.
@@ -33,21 +32,26 @@ pub(crate) fn few_resolutions(tree: &Tree) -> Result<u64, CompileRefusal>
     }
 }
 
-/// The tally of all options, if it is within the limits.
-pub(crate) fn few_options(alloc: Global, tree: &Tree, rules: &Nnf) -> Result<Tally, CompileRefusal>
+/// What is counted of all resolutions, if the options are within the limits.
+pub(crate) fn few_options(
+    alloc: Global,
+    tree: &Tree,
+    rules: &Conjunction,
+) -> Result<Counted, CompileRefusal>
     requires { resolution_count tree.now.process ≤ 4096 }
-    ensures { MatchResult result
-        (λ tally. AreFew (all_options_by tree.now (normal_of rules.now)) tally)
-        (IsTooMany (all_options_by tree.now (normal_of rules.now))) }
+    ensures options { MatchResult result
+        (λ counted. AreFew (all_options_by tree.now (normal_in rules.now)) counted.tally)
+        (IsTooMany (all_options_by tree.now (normal_in rules.now))) }
+    ensures met { IfOk result (λ counted. counted.met.items ≡ map (has_ways tree.now (normal_in rules.now)) (all_resolutions tree.now.process)) }
 {
-    let tally = whole_tally(alloc, tree, rules)?;
-    if tally.options > MOST_OPTIONS {
-        let count = tally.options;
+    let counted = whole_tally(alloc, tree, rules)?;
+    if counted.tally.options > MOST_OPTIONS {
+        let count = counted.tally.options;
         return Err(CompileRefusal::TooManyWays { count });
     }
-    if tally.bulk > GREATEST_BULK {
-        let count = tally.bulk;
+    if counted.tally.bulk > GREATEST_BULK {
+        let count = counted.tally.bulk;
         return Err(CompileRefusal::TooBulky { count });
     }
-    Ok(tally)
+    Ok(counted)
 }

@@ -1,17 +1,18 @@
-ghost use Rattle.std.specs.Prelude.{◌≡◌, ◌<◌, ◌≤◌, ◌^◌, ◌-◌, ◌∷◌, [], ℕ, MatchResult, map, slice_get};
+ghost use Rattle.std.specs.Prelude.{◌≡◌, ◌<◌, ◌≤◌, ◌^◌, ◌-◌, ◌∷◌, [], ℕ, IsTrue, MatchResult, OnOk, map, slice_get};
 ghost use Rattle.flow_model.specs.Process.{Process};
 ghost use Rattle.flow_model.specs.Resolution.{resolution_count, resolutions as all_resolutions};
-ghost use Rattle.flow_rules.specs.Normal.{normal_of};
+ghost use Rattle.flow_rules.specs.Conjunction.{normal_in};
+ghost use Rattle.flow_rules.specs.EventLeaves.{IsBlank};
 ghost use Rattle.flow_excise.specs.declared.refusal.CompileRefusal.TheVariants.{NoMemory};
 ghost use Rattle.flow_excise.specs.Executions.{numbered_options, numbered_ways};
-ghost use Rattle.flow_excise.specs.Options.{all_options_by, options_by};
+ghost use Rattle.flow_excise.specs.Options.{all_options_by, has_ways, options_by};
 ghost use Rattle.flow_excise.specs.Sieves.{ArePlannable, HasSifted, Sifts, options_with, option_with, IsPlannable};
 
 use crate::excising::{ExciseRefusal, excise};
 use crate::refusal::{CompileRefusal, Dropped};
 use crate::sifted::Sieve;
-use flow_goal::{Choiceless, Tree, resolutions, resolve};
-use flow_rules::{Nnf, OrderSet, leaf_events, ways};
+use flow_goal::{Choiceless, Tree, resolve};
+use flow_rules::{Conjunction, LeafEvents, OrderSet, forget_events, note_events};
 use flow_weave::weave;
 use std::alloc::Global;
 
@@ -68,42 +69,58 @@ fn sift_ways(
     Ok(())
 }
 
-/// Looks at each option of the resolution of that number.
+/// Looks at each option of the resolution of that number, which has some.
 fn sift_resolution(
     alloc: Global,
     tree: &Tree,
-    rules: &Nnf,
+    rules: &Conjunction,
     number: u64,
+    events: &mut LeafEvents,
     sieve: &mut Sieve,
 ) -> Result<(), CompileRefusal>
     requires numbered { number < resolution_count tree.now.process }
     requires exact { resolution_count tree.now.process ≤ 4096 }
-    requires plannable { ArePlannable (all_options_by tree.now (normal_of rules.now)) }
-    ensures { MatchResult result
+    requires plannable { ArePlannable (all_options_by tree.now (normal_in rules.now)) }
+    requires some { (q : Process) → slice_get (all_resolutions tree.now.process) number ≡ Some q → IsTrue (has_ways tree.now (normal_in rules.now) q) }
+    requires blank { IsBlank events.old }
+    ensures options { MatchResult result
         (λ _. (q : Process) → slice_get (all_resolutions tree.now.process) number ≡ Some q →
-        Sifts (numbered_ways number 0 (options_by tree.now (normal_of rules.now) q)) sieve.old sieve.new)
+        Sifts (numbered_ways number 0 (options_by tree.now (normal_in rules.now) q)) sieve.old sieve.new)
         (λ e. e ≡ NoMemory) }
+    ensures blank { OnOk result (IsBlank events.new) }
 {
     let resolution = resolve(alloc, tree, number)?;
-    let events = leaf_events(alloc, tree, resolution.leaves())?;
-    let orders = ways(alloc, rules, &events)?;
+    let leaves = resolution.leaves();
+    note_events(tree, leaves, events)?;
+    let orders = rules.ways(alloc, events)?;
+    forget_events(tree, leaves, events);
     sift_ways(alloc, &resolution, &orders, number, sieve)
 }
 
-/// Looks at each option, by resolutions in order and then by ways in order.
-pub(crate) fn sift_all(alloc: Global, tree: &Tree, rules: &Nnf) -> Result<Sieve, CompileRefusal>
+/// Looks at each option, by resolutions in order and then by ways in order. The list says which
+/// resolutions have options.
+pub(crate) fn sift_all(
+    alloc: Global,
+    tree: &Tree,
+    rules: &Conjunction,
+    met: &[bool],
+) -> Result<Sieve, CompileRefusal>
     requires exact { resolution_count tree.now.process ≤ 4096 }
-    requires plannable { ArePlannable (all_options_by tree.now (normal_of rules.now)) }
+    requires plannable { ArePlannable (all_options_by tree.now (normal_in rules.now)) }
+    requires met { met.now ≡ map (has_ways tree.now (normal_in rules.now)) (all_resolutions tree.now.process) }
     ensures { MatchResult result
-        (HasSifted (numbered_options 0 (map (options_by tree.now (normal_of rules.now)) (all_resolutions tree.now.process))))
+        (HasSifted (numbered_options 0 (map (options_by tree.now (normal_in rules.now)) (all_resolutions tree.now.process))))
         (λ e. e ≡ NoMemory) }
 {
     let mut sieve = Sieve {
         kept: Vec::new(alloc),
         dropped: Vec::new(alloc),
     };
-    for number in 0..resolutions(tree) {
-        sift_resolution(alloc, tree, rules, number, &mut sieve)?;
+    let mut events = LeafEvents::new(alloc);
+    for (number, some) in met.iter().enumerate() {
+        if *some {
+            sift_resolution(alloc, tree, rules, number as u64, &mut events, &mut sieve)?;
+        }
     }
     Ok(sieve)
 }

@@ -1,12 +1,14 @@
-ghost use Rattle.std.specs.Prelude.{◌≡◌, ◌≤◌, IfOk};
-ghost use Rattle.flow_model.specs.Process;
-ghost use Rattle.flow_model.specs.Resolution.{resolution_count};
-ghost use Rattle.flow_rules.specs.Normal.{normal_of};
-ghost use Rattle.flow_excise.specs.Options.{all_options_by, options_by};
+ghost use Rattle.std.specs.Prelude.{◌≡◌, ◌≤◌, IfOk, OnOk, map};
+ghost use Rattle.flow_model.specs.Resolution.{resolution_count, resolutions as all_resolutions};
+ghost use Rattle.flow_model.specs.Ways.{leaf_of_event, ways};
+ghost use Rattle.flow_rules.specs.Conjunction.{normal_in};
+ghost use Rattle.flow_rules.specs.Counts.{count_of};
+ghost use Rattle.flow_rules.specs.EventLeaves.{IsBlank};
+ghost use Rattle.flow_excise.specs.Options.{all_options_by, has_ways};
 ghost use Rattle.flow_excise.specs.Tallies.{added, tally_by, tally_of};
 
 use flow_goal::{Tree, resolution_leaves, resolutions};
-use flow_rules::{Nnf, WayCount, count_ways, leaf_events};
+use flow_rules::{Conjunction, LeafEvents, WayCount, forget_events, note_events};
 use std::alloc::{AllocError, Global};
 
 /// How many options there are, and how many leaves and pairs in all of them. What would pass the
@@ -46,24 +48,49 @@ impl Tally {
     }
 }
 
-/// The tally of the options of a resolution with these leaves.
-fn tally_in(alloc: Global, tree: &Tree, rules: &Nnf, leaves: &[u32]) -> Result<Tally, AllocError>
-    ensures { IfOk result (λ tally. (resolution : Process.Process) → leaves.now ≡ Process.leaves resolution →
-        tally ≡ tally_of (options_by tree.now (normal_of rules.now) resolution)) }
-{
-    let events = leaf_events(alloc, tree, leaves)?;
-    Ok(Tally::of(leaves.len() as u64, count_ways(rules, &events)))
+/// What was counted of all resolutions.
+#[derive(Drop)]
+pub(crate) struct Counted {
+    pub(crate) tally: Tally,
+    /// Of each resolution, whether it has an option.
+    pub(crate) met: Vec<bool>,
 }
 
-/// The tally of all options. The leaves of one resolution at a time are in memory.
-pub(crate) fn whole_tally(alloc: Global, tree: &Tree, rules: &Nnf) -> Result<Tally, AllocError>
+/// How many ways there are in which these leaves meet the rules.
+fn count_in(
+    tree: &Tree,
+    rules: &Conjunction,
+    leaves: &[u32],
+    events: &mut LeafEvents,
+) -> Result<WayCount, AllocError>
+    requires { IsBlank events.old }
+    ensures count { IfOk result (λ count. count ≡ count_of (ways (normal_in rules.now) (leaf_of_event tree.now.labels leaves.now))) }
+    ensures blank { OnOk result (IsBlank events.new) }
+{
+    note_events(tree, leaves, events)?;
+    let count = rules.count(events);
+    forget_events(tree, leaves, events);
+    Ok(count)
+}
+
+/// What is counted of all resolutions. The leaves of one at a time are in memory.
+pub(crate) fn whole_tally(
+    alloc: Global,
+    tree: &Tree,
+    rules: &Conjunction,
+) -> Result<Counted, AllocError>
     requires { resolution_count tree.now.process ≤ 4096 }
-    ensures { IfOk result (λ tally. tally ≡ tally_of (all_options_by tree.now (normal_of rules.now))) }
+    ensures tally { IfOk result (λ counted. counted.tally ≡ tally_of (all_options_by tree.now (normal_in rules.now))) }
+    ensures met { IfOk result (λ counted. counted.met.items ≡ map (has_ways tree.now (normal_in rules.now)) (all_resolutions tree.now.process)) }
 {
     let mut tally = NONE;
+    let mut met = Vec::new(alloc);
+    let mut events = LeafEvents::new(alloc);
     for number in 0..resolutions(tree) {
         let leaves = resolution_leaves(alloc, tree, number)?;
-        tally = tally.with(tally_in(alloc, tree, rules, &leaves)?);
+        let count = count_in(tree, rules, &leaves, &mut events)?;
+        tally = tally.with(Tally::of(leaves.len() as u64, count));
+        met.push(count.ways != 0)?;
     }
-    Ok(tally)
+    Ok(Counted { tally, met })
 }

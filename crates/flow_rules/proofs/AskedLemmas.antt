@@ -39,7 +39,7 @@ pub record IsSum (kept : List Asked) (ways : List (List (ℕ × ℕ))) : Type 0 
 
 -- one part more
 
-both_free_right : (ws : List (List (ℕ × ℕ))) → both_ways ws free_way ≡ ws
+pub both_free_right : (ws : List (List (ℕ × ℕ))) → both_ways ws free_way ≡ ws
 both_free_right [] = refl
 both_free_right (w ∷ ws) = λ k. append-nil w k ∷ both_free_right ws k
 
@@ -48,7 +48,7 @@ both_some [] ws p q = p
 both_some (v ∷ vs) [] p q = absurd (true≢false q)
 both_some (v ∷ vs) (w ∷ ws) p q = refl
 
-two_open : (v w : List (ℕ × ℕ)) (ws : List (List (ℕ × ℕ))) → is_free (v ∷ w ∷ ws) ≡ false
+pub two_open : (v w : List (ℕ × ℕ)) (ws : List (List (ℕ × ℕ))) → is_free (v ∷ w ∷ ws) ≡ false
 two_open [] w ws = refl
 two_open (p ∷ v) w ws = refl
 

@@ -1,7 +1,9 @@
 mod AskedLemmas
-mod CountLemmas
+pub mod ConjunctionLemmas
+pub mod CountLemmas
 mod FormViews
-mod LeafLemmas
+mod FreedomLemmas
+pub mod LeafLemmas
 mod ListingLemmas
 mod NormalViews
 pub mod RuleViews

@@ -24,6 +24,9 @@ any_from : (leaf : ℕ → Option ℕ) (ns : List Nnf) (n : Normal) →
 any_from leaf [] n = refl
 any_from leaf (m ∷ ns) n = any_from leaf ns (either n (normal_of m))
 
+pub ways_of_all : (leaf : ℕ → Option ℕ) (ns : List Nnf) → ways (all_normals (normals_of ns)) leaf ≡ all_ways leaf ns
+ways_of_all leaf ns = all_from leaf ns always
+
 pub ways_of_and : (leaf : ℕ → Option ℕ) (n : Nnf) (parts : Vec Nnf Global) → n ≡ And parts →
     all_ways leaf parts.items ≡ ways (normal_of n) leaf
 ways_of_and leaf n parts e =

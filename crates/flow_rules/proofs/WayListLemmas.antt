@@ -60,7 +60,7 @@ both_assoc (u ∷ us) vs ws =
 
 -- a list with no way in it
 
-both_none : (vs : List (List (ℕ × ℕ))) → both_ways vs [] ≡ []
+pub both_none : (vs : List (List (ℕ × ℕ))) → both_ways vs [] ≡ []
 both_none [] = refl
 both_none (v ∷ vs) = both_none vs
 
@@ -68,7 +68,7 @@ from_none : {A : Type 0} (f : A → List (List (ℕ × ℕ))) (xs : List A) → 
 from_none f [] = refl
 from_none f (x ∷ xs) = from_none f xs
 
-none_is : (ws : List (List (ℕ × ℕ))) → is_none ws ≡ true → ws ≡ []
+pub none_is : (ws : List (List (ℕ × ℕ))) → is_none ws ≡ true → ws ≡ []
 none_is [] h = refl
 none_is (w ∷ ws) h = absurd (true≢false (sym h))
 

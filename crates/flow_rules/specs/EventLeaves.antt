@@ -1,28 +1,29 @@
 -- The leaf of each event.
-use Rattle.std.specs.Prelude.{◌≡◌, ℕ, ◌<◌, ◌≤◌, ◌==◌, if◌then◌else◌, List, [], ◌∷◌, length, Option, Some, None, get_or}
+use Rattle.std.specs.Prelude.{◌≡◌, ℕ, ◌==◌, if◌then◌else◌, List, Option, Some, None, get_or}
 use Rattle.std.specs.Option.{option_or}
 use Rattle.flow_rules.specs.declared.leaf_table.LeafEvents.{LeafEvents}
 
--- the leaf that stands beside an event
-abbrev pub leaf_beside : List ℕ → List ℕ → ℕ → Option ℕ
-leaf_beside [] leaves q = None
-leaf_beside (event ∷ events) [] q = None
-leaf_beside (event ∷ events) (leaf ∷ leaves) q = if event == q then Some leaf else leaf_beside events leaves q
+-- the leaf at an event's place
+abbrev pub leaf_at : List (Option ℕ) → ℕ → Option ℕ
+leaf_at leaves event = get_or leaves event None
 
 -- the leaf that an event has, if it has one
 abbrev pub leaf_in : LeafEvents → ℕ → Option ℕ
-leaf_in table event = leaf_beside table.events.items table.leaves.items event
+leaf_in table event = leaf_at table.leaves.items event
+
+-- no event has a leaf
+abbrev pub IsBlank : LeafEvents → Type 0
+IsBlank table = (event : ℕ) → leaf_in table event ≡ None
 
 -- the leaf of `q`, where the leaf given is its leaf if it has no other
 abbrev pub with_leaf : ℕ → ℕ → Option ℕ → ℕ → Option ℕ
 with_leaf event leaf before q = option_or before (if event == q then Some leaf else None)
 
--- where an event may be put in
-abbrev pub IsPlaceFor : List ℕ → ℕ → ℕ → Type 0
-IsPlaceFor events event place =
-    (place ≤ length events) × ((k : ℕ) → k < place → get_or events k 0 < event)
-    × ((k : ℕ) → place ≤ k → k < length events → event < get_or events k 0)
+-- the leaf of `q`, where that of the event is forgotten
+abbrev pub without_leaf : ℕ → Option ℕ → ℕ → Option ℕ
+without_leaf event before q = if event == q then None else before
 
--- an event is there
-abbrev pub IsNoted : List ℕ → ℕ → Type 0
-IsNoted events event = (k : ℕ) × (k < length events) × (get_or events k 0 ≡ event)
+-- the leaf, unless there is another
+abbrev pub unless : Option ℕ → Option ℕ → Option ℕ
+unless None leaf = leaf
+unless (Some other) leaf = None

@@ -102,7 +102,7 @@ fn not_before(events: &LeafEvents, first: u32, second: u32) -> WayCount
 }
 
 #[cycle(counting)]
-fn count_all(parts: &[Nnf], events: &LeafEvents) -> WayCount
+pub(crate) fn count_all(parts: &[Nnf], events: &LeafEvents) -> WayCount
     ensures { result ≡ count_of (all_ways (leaf_in events.now) parts.now) }
 {
     let mut count = FREE;

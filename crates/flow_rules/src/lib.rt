@@ -2,18 +2,22 @@
 #![tactic(auto)]
 
 mod asked;
+mod conjunction;
 mod counting;
 mod event_leaves;
+mod freedom;
 mod leaf_table;
 mod listing;
 mod normal;
 mod normalizing;
 mod order_set;
+mod plainness;
 mod rule;
 mod shorthands;
 
+pub use conjunction::Conjunction;
 pub use counting::{WayCount, count_ways};
-pub use event_leaves::leaf_events;
+pub use event_leaves::{forget_events, note_events};
 pub use leaf_table::LeafEvents;
 pub use listing::ways;
 pub use normal::Nnf;

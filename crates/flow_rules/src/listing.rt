@@ -3,9 +3,10 @@ ghost use Rattle.flow_model.specs.Ways as model;
 ghost use Rattle.flow_rules.specs.Asked.{ways_asked, ways_of_all, ways_of_any};
 ghost use Rattle.flow_rules.specs.EventLeaves.{leaf_in};
 ghost use Rattle.flow_rules.specs.Normal.{normal_of};
-ghost use Rattle.flow_rules.specs.WayLists.{both_ways, pairs_of};
+ghost use Rattle.flow_rules.specs.WayLists.{all_ways, both_ways, pairs_of};
 
 use crate::asked::{Asked, Found, asked_of};
+use crate::freedom::is_free;
 use crate::leaf_table::LeafEvents;
 use crate::normal::Nnf;
 use crate::order_set::OrderSet;
@@ -115,4 +116,39 @@ pub fn ways(alloc: Global, rule: &Nnf, events: &LeafEvents) -> Result<Vec<OrderS
         Found::Unmet => Ok(Vec::new(alloc)),
         Found::Open(asked) => listed(alloc, &asked),
     }
+}
+
+/// Each of the ways, with each way in which the leaves meet the rule behind it.
+fn with_rule(
+    alloc: Global,
+    ways: Vec<OrderSet>,
+    rule: &Nnf,
+    events: &LeafEvents,
+) -> Result<Vec<OrderSet>, AllocError>
+    ensures { IfOk result (λ all. pairs_of all.items ≡
+        both_ways (pairs_of ways.items) (model.ways (normal_of rule.now) (leaf_in events.now))) }
+{
+    match asked_of(alloc, rule, events)? {
+        Found::Met => Ok(ways),
+        Found::Unmet => Ok(Vec::new(alloc)),
+        Found::Open(asked) => extended(alloc, ways, &asked),
+    }
+}
+
+/// The ways in which the leaves meet all of the rules, in order. A rule that asks for nothing is passed
+/// over with no memory taken.
+pub(crate) fn ways_of_all(
+    alloc: Global,
+    rules: &[Nnf],
+    events: &LeafEvents,
+) -> Result<Vec<OrderSet>, AllocError>
+    ensures { IfOk result (λ all. pairs_of all.items ≡ all_ways (leaf_in events.now) rules.now) }
+{
+    let mut ways = free_way(alloc)?;
+    for rule in rules {
+        if !is_free(rule, events) {
+            ways = with_rule(alloc, ways, rule, events)?;
+        }
+    }
+    Ok(ways)
 }

@@ -1,25 +1,53 @@
-use Rattle.std.proofs.Common.{◌∙◌, ◌≡◌}
+use Rattle.std.proofs.Common.{◌∙◌, ◌≡◌, Result, Ok, Err, OnOk}
+use Rattle.flow_rules.specs.Conjunction.{normal_in}
 use Rattle.flow_rules.specs.EventLeaves.{leaf_in}
-use Rattle.flow_rules.specs.Normal.{normal_of}
+use Rattle.flow_rules.proofs.LeafLemmas.{blank_again, noted_leaves}
 use Rattle.flow_excise.specs.Options.{options_by}
+use Rattle.flow_excise.specs.declared.refusal.CompileRefusal.{CompileRefusal}
 use Rattle.flow_excise.specs.Sieves.{options_with}
-use Rattle.flow_excise.proofs.SieveLemmas.{ways_found, plannable_ways, sift_found}
+use Rattle.flow_excise.proofs.SieveLemmas.{ways_found, some_found, plannable_ways, sift_found}
 use Rattle.flow_excise.proofs.sieve.sift_resolution.Goals as goal
+
+pub ways-requires : goal.ways-requires
+ways-requires c =
+    let tree = c.args.tree.now in
+    let leaves = c.leaves-leaves.result.now in
+    let q = c.in_ok-resolution.resolution.process in
+    some_found tree (normal_in c.args.rules.now) q leaves (leaf_in c.note_events.new.events) (c.leaves-leaves.ensures.leaves ∙ c.leaves-leaves.ensures.listed)
+    (noted_leaves tree.labels leaves c.args.events.now c.note_events.new.events c.requires.blank c.in_ok-note_events.ensures)
+    (c.requires.some q c.in_ok-resolution.ensures.resolution)
 
 pub sift_ways-requires : goal.sift_ways-requires
 sift_ways-requires c =
+    let tree = c.args.tree.now in
+    let normal = normal_in c.args.rules.now in
+    let leaves = c.leaves-leaves.result.now in
     let q = c.in_ok-resolution.resolution.process in
-    let found : options_with q c.deref.result.now ≡ options_by c.args.tree.now (normal_of c.args.rules.now) q =
-    ways_found c.args.tree.now (normal_of c.args.rules.now) q c.in_ok-orders.orders.items c.deref.result.now c.leaves.result.now (leaf_in c.in_ok-events.events)
-    c.deref.ensures.value (c.leaves.ensures.leaves ∙ c.leaves.ensures.listed) c.in_ok-events.ensures c.in_ok-orders.ensures in
-    plannable_ways c.args.tree.now (normal_of c.args.rules.now) c.args.number q (options_with q c.deref.result.now) found c.in_ok-resolution.ensures.resolution
-    c.requires.plannable
+    let noted = noted_leaves tree.labels leaves c.args.events.now c.note_events.new.events c.requires.blank c.in_ok-note_events.ensures in
+    let found : options_with q c.deref.result.now ≡ options_by tree normal q =
+    ways_found tree normal q c.in_ok-orders.orders.items c.deref.result.now leaves (leaf_in c.note_events.new.events)
+    c.deref.ensures.value (c.leaves-leaves.ensures.leaves ∙ c.leaves-leaves.ensures.listed) noted c.in_ok-orders.ensures in
+    plannable_ways tree normal c.args.number q (options_with q c.deref.result.now) found c.in_ok-resolution.ensures.resolution c.requires.plannable
 
-pub returns : goal.returns
-returns c =
+pub returns-clause-options : goal.returns-clause-options
+returns-clause-options c =
+    let tree = c.args.tree.now in
+    let normal = normal_in c.args.rules.now in
+    let leaves = c.leaves-leaves.result.now in
     let q = c.in_ok-resolution.resolution.process in
-    let found : options_with q c.deref.result.now ≡ options_by c.args.tree.now (normal_of c.args.rules.now) q =
-    ways_found c.args.tree.now (normal_of c.args.rules.now) q c.in_ok-orders.orders.items c.deref.result.now c.leaves.result.now (leaf_in c.in_ok-events.events)
-    c.deref.ensures.value (c.leaves.ensures.leaves ∙ c.leaves.ensures.listed) c.in_ok-events.ensures c.in_ok-orders.ensures in
-    sift_found c.args.tree.now (normal_of c.args.rules.now) c.args.number q (options_with q c.deref.result.now) c.args.sieve.now c.sift_ways.new.sieve c.sift_ways.result
+    let noted = noted_leaves tree.labels leaves c.args.events.now c.note_events.new.events c.requires.blank c.in_ok-note_events.ensures in
+    let found : options_with q c.deref.result.now ≡ options_by tree normal q =
+    ways_found tree normal q c.in_ok-orders.orders.items c.deref.result.now leaves (leaf_in c.note_events.new.events)
+    c.deref.ensures.value (c.leaves-leaves.ensures.leaves ∙ c.leaves-leaves.ensures.listed) noted c.in_ok-orders.ensures in
+    sift_found tree normal c.args.number q (options_with q c.deref.result.now) c.args.sieve.now c.sift_ways.new.sieve c.sift_ways.result
     found c.in_ok-resolution.ensures.resolution c.sift_ways.ensures
+
+on_ok : (r : Result (Unit {0}) CompileRefusal) (P : Type 0) → P → OnOk r P
+on_ok (Ok u) P p = p
+on_ok (Err refusal) P p = tt
+
+pub returns-clause-blank : goal.returns-clause-blank
+returns-clause-blank c =
+    on_ok c.sift_ways.result _
+    (blank_again c.args.tree.now.labels c.leaves-leaves.result.now c.args.events.now c.note_events.new.events c.requires.blank c.in_ok-note_events.ensures
+    c.forget_events.new.events c.forget_events.ensures)

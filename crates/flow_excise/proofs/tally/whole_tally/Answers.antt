@@ -1,23 +1,42 @@
-use Rattle.std.proofs.Common.{ap, ◌∙◌, arith, ◌≡◌}
+use Rattle.std.proofs.Common.{ap, ◌∙◌, arith, ◌≡◌, length, map}
 use Rattle.std.specs.List.{flat_map}
 use Rattle.flow_model.specs.Resolution.{resolutions}
-use Rattle.flow_rules.specs.Normal.{normal_of}
-use Rattle.flow_excise.specs.Options.{options_by}
-use Rattle.flow_excise.specs.Tallies.{tally_of}
-use Rattle.flow_excise.proofs.TallyLemmas.{tally_more, whole_count, taken_whole}
+use Rattle.flow_rules.specs.Conjunction.{normal_in}
+use Rattle.flow_excise.specs.Options.{has_ways, options_by}
+use Rattle.flow_excise.specs.Tallies.{tally_by, tally_of}
+use Rattle.flow_excise.proofs.TallyLemmas.{met_found, met_more, tally_found, tally_more, taken_whole, whole_count}
 use Rattle.flow_excise.proofs.tally.whole_tally.Goals as goal
 
 pub loop-number-preserved : goal.loop-number-preserved
 loop-number-preserved c =
     let (resolution, there, listed) = c.in_ok-leaves.ensures in
-    tally_more c.args.tree.now (normal_of c.args.rules.now) c.loop-number.number resolution
-    c.loop-number.tally c.in_ok-tally_in.field-0 c.with-tally.result
-    there c.loop-number.invariant (c.in_ok-tally_in.ensures resolution (c.deref.ensures.value ∙ listed)) c.with-tally.ensures
+    let tree = c.args.tree.now in
+    let normal = normal_in c.args.rules.now in
+    let leaves = c.deref.result.now in
+    let count = c.in_ok-count.count in
+    let same = c.deref.ensures.value ∙ listed in
+    let long : c.len.result ≡ length leaves = grind (arith, c.len.ensures, c.deref.ensures.len, c.deref.ensures.value, c.in_ok-leaves.leaves.ok) in (
+      tally_more tree normal c.loop-number.number resolution c.loop-number.tally c.of.result c.with-tally.result there c.loop-number.invariant.0
+          (tally_found tree normal resolution leaves count c.of.result same c.in_ok-count.ensures.count
+          (c.of.ensures ∙ ap (λ n. tally_by n count) long))
+          c.with-tally.ensures,
+      met_more tree normal c.loop-number.number resolution c.loop-number.met.items c.push.new.self.items _ there c.loop-number.invariant.1
+          (met_found tree normal resolution leaves count same c.in_ok-count.ensures.count) c.in_ok-push.ensures.items,
+      c.in_ok-count.ensures.blank,
+    )
 
-pub returns : goal.returns
-returns c =
+pub returns-clause-tally : goal.returns-clause-tally
+returns-clause-tally c =
     let all = resolutions c.args.tree.now.process in
     let end : c.loop-number.number ≡ c.resolutions-number-end.result = omega arith in
-    c.loop-number.invariant
-    ∙ ap (λ l. tally_of (flat_map (options_by c.args.tree.now (normal_of c.args.rules.now)) l))
+    c.loop-number.invariant.0
+    ∙ ap (λ l. tally_of (flat_map (options_by c.args.tree.now (normal_in c.args.rules.now)) l))
+    (taken_whole all c.loop-number.number (end ∙ whole_count c.args.tree.now.process c.resolutions-number-end.result c.resolutions-number-end.ensures c.requires))
+
+pub returns-clause-met : goal.returns-clause-met
+returns-clause-met c =
+    let all = resolutions c.args.tree.now.process in
+    let end : c.loop-number.number ≡ c.resolutions-number-end.result = omega arith in
+    c.loop-number.invariant.1
+    ∙ ap (λ l. map (has_ways c.args.tree.now (normal_in c.args.rules.now)) l)
     (taken_whole all c.loop-number.number (end ∙ whole_count c.args.tree.now.process c.resolutions-number-end.result c.resolutions-number-end.ensures c.requires))

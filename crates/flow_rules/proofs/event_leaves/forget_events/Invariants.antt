@@ -1,0 +1,8 @@
+use Rattle.std.proofs.Common.{◌≡◌, ℕ, take}
+use Rattle.flow_model.specs.Ways.{leaf_of_event}
+use Rattle.flow_rules.specs.EventLeaves.{leaf_in, unless}
+use Rattle.flow_rules.proofs.event_leaves.forget_events.Given as goal
+
+abbrev pub invariant-loop-leaf : goal.invariant-loop-leaf
+invariant-loop-leaf l =
+    (event : ℕ) → leaf_in l.events event ≡ unless (leaf_of_event l.tree.labels (take l.leaf-index l.leaves) event) (leaf_in l.initial.events event)
