@@ -1,14 +1,12 @@
 -- Options that are followed one leaf more.
-use Rattle.std.proofs.Common.{◌≡◌, ◌≢◌, ℕ, zero, suc, ◌+◌, ◌<◌, ◌≤◌, Bool, true, false, ◌↔◌, IsTrue, List, [], ◌∷◌, ◌++◌, length, get_or, set, Some, slice_get, refl, sym, ap, ◌∙◌, subst, below_more, get_or-set_other, get_or-set_same, arith, length-append}
+use Rattle.std.proofs.Common.{◌≡◌, ◌≢◌, ℕ, zero, suc, ◌+◌, ◌<◌, ◌≤◌, Bool, true, false, ◌↔◌, IsTrue, List, [], ◌∷◌, ◌++◌, length, get_or, set, Some, slice_get, refl, ◌∙◌, subst, below_more, get_or-set_other, get_or-set_same, arith, length-append}
 use Rattle.std.proofs.Math.ListN.{length-set}
 use Rattle.std.proofs.lemmas.Option.{slice_get_within}
 use Rattle.flow_model.specs.Lists.{◌∈◌}
 use Rattle.flow_model.specs.Resolution.{ChoiceOption}
 use Rattle.flow_model.specs.Ready.{IsReady}
 use Rattle.flow_laws.proofs.ReadyRuns.{run_front, run_grow, ready_at}
-use Rattle.flow_residual.specs.Possible.{SomeOption, NoneBelow}
-use Rattle.flow_residual.proofs.OptionLemmas.{option_there, some_found, none_found, none_more, none_there}
-use Rattle.flow_trace.specs.Live.{Follows, Finishes, AreLive}
+use Rattle.flow_trace.specs.Live.{Follows, AreLive}
 
 -- ---- one option more
 

@@ -1,13 +1,13 @@
 -- What is told of a list of leaves, by the options that it follows and by the labels that hold.
-use Rattle.std.proofs.Common.{◌≡◌, ◌<◌, ◌≤◌, ◌+◌, ℕ, zero, suc, ◌↔◌, append-nil, le_antisymm, List, [], ◌∷◌, ◌++◌, length, take, drop, get_or, slice_get, IsTrue, Bool, true, false, refl, sym, ap, ◌∙◌, subst, arith, length-append, ◌⊎◌, inl, inr}
+use Rattle.std.proofs.Common.{◌≡◌, ◌<◌, ◌≤◌, ◌+◌, ℕ, zero, suc, ◌↔◌, append-nil, le_antisymm, List, [], ◌∷◌, ◌++◌, length, take, drop, get_or, slice_get, IsTrue, Bool, true, false, refl, sym, ap, ◌∙◌, subst, arith, length-append, inl, inr}
 use Rattle.std.proofs.lemmas.Bool.{cases_lt}
 use Rattle.std.proofs.lemmas.List.{take_all, take_more, take-append-drop, length-take-le}
 use Rattle.std.proofs.lemmas.List.Elements.{filter_map-append}
 use Rattle.flow_model.specs.declared.labels.Label.{Label}
-use Rattle.flow_model.specs.Lists.{◌∈◌, Each, Begins, AreDistinct, numbers_from}
+use Rattle.flow_model.specs.Lists.{◌∈◌, Each, Begins, numbers_from}
 use Rattle.flow_model.specs.Facts.{State, HoldsAt, after_leaf, Runs, replay}
 use Rattle.flow_model.specs.Schema.{Schema, start_of, IsGood}
-use Rattle.flow_model.specs.Resolution.{ChoiceOption, OptionTrace, options}
+use Rattle.flow_model.specs.Resolution.{ChoiceOption, options}
 use Rattle.flow_model.specs.Run.{RunState, first_state}
 use Rattle.flow_model.specs.Verdict.{IsPossible}
 use Rattle.flow_laws.specs.Words.{IsWellFormed, IsConsistent}

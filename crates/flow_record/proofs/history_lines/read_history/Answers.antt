@@ -1,4 +1,4 @@
-use Rattle.std.proofs.Common.{◌≡◌, ◌<◌, ◌+◌, ◌∙◌, ap, sym, length, Some, None, rules, arith}
+use Rattle.std.proofs.Common.{◌≡◌, ◌<◌, ◌∙◌, ap, sym, length, Some, None, rules, arith}
 use Rattle.flow_record.specs.Lines.{cut_at, pieces_of}
 use Rattle.flow_record.specs.History.{bad_line, entry_of}
 use Rattle.flow_record.proofs.Histories.{read_no_end, read_no_entry, read_one, read_all, lines_left, history_back}

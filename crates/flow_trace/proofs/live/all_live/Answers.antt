@@ -1,4 +1,4 @@
-use Rattle.std.proofs.Common.{true, Bool, [], ◌∷◌, ◌++◌, List, sym, subst, take}
+use Rattle.std.proofs.Common.{Bool, [], ◌∷◌, ◌++◌, List, sym, subst, take}
 use Rattle.flow_model.specs.Lists.{Each}
 use Rattle.flow_model.specs.Resolution.{ChoiceOption}
 use Rattle.flow_laws.proofs.ListLemmas2.{each-append}

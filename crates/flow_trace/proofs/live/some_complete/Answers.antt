@@ -1,4 +1,4 @@
-use Rattle.std.proofs.Common.{◌≡◌, ◌<◌, ◌≤◌, ℕ, Bool, false, ◌↔◌, IsTrue, length, get_or, Some, slice_get, sym, ap, ◌∙◌, subst, arith}
+use Rattle.std.proofs.Common.{◌≡◌, ◌<◌, ◌≤◌, ℕ, false, ◌↔◌, IsTrue, length, get_or, sym, ap, subst, arith}
 use Rattle.flow_model.specs.Lists.{◌∈◌, Each}
 use Rattle.flow_model.specs.Process.{leaves}
 use Rattle.flow_model.specs.Resolution.{ChoiceOption}

@@ -1,6 +1,6 @@
 use Rattle.std.proofs.Common.{◌<◌, ◌≤◌, length, arith}
 use Rattle.flow_excise.specs.Compilation.{options_of}
-use Rattle.flow_residual.proofs.OptionLemmas.{option_there, some_found, none_found, none_more, length-options}
+use Rattle.flow_residual.proofs.OptionLemmas.{option_there, some_found, none_found, none_more}
 use Rattle.flow_trace.specs.Live.{Follows}
 use Rattle.flow_trace.proofs.live.some_live.Goals as goal
 

@@ -1,6 +1,5 @@
-use Rattle.std.proofs.Common.{◌≡◌, ◌<◌, ◌≤◌, ◌+◌, ℕ, Bool, List, length, take, get_or, sym, ap, ◌∙◌, subst, arith}
+use Rattle.std.proofs.Common.{◌≡◌, ◌≤◌, ◌+◌, ℕ, Bool, List, length, take, get_or, sym, ◌∙◌, subst, arith}
 use Rattle.std.proofs.lemmas.List.{with_items_is, length-take-le}
-use Rattle.flow_model.specs.Lists.{Each}
 use Rattle.flow_model.specs.Resolution.{options}
 use Rattle.flow_plan.specs.Sampled.{Sampled}
 use Rattle.flow_workflow.specs.Definition.{schema_of}
@@ -9,7 +8,6 @@ use Rattle.flow_excise.specs.Compilation.{options_of}
 use Rattle.flow_residual.proofs.DoneLemmas.{done_more}
 use Rattle.flow_trace.specs.declared.checked.Checked.TheVariants.{Execution, Prefix, Bad}
 use Rattle.flow_trace.specs.Live.{AreLive}
-use Rattle.flow_trace.specs.Traces.{TellsOfTrace}
 use Rattle.flow_trace.proofs.TraceLemmas.{tells_once, begun_within, with_next, more_is, place_few, place_less, leaf_within, bad_order, begun_more, bad_state, good_state, told_execution, told_prefix, holds_in, course_room, course_more}
 use Rattle.flow_trace.proofs.trace.check_trace.Goals as goal
 
