@@ -1,0 +1,3 @@
+pub mod Entries
+pub mod Turns
+pub mod Steps
