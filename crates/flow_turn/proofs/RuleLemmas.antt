@@ -21,11 +21,11 @@ use Rattle.flow_turn.specs.Steps.{Finds, drew, Takes, looked, list_of, list_in, 
 use Rattle.flow_turn.proofs.ListLemmas.{total-set, total-append, total-at, total-two, total-le, Each-append, Each-map, at_below, made_by-own, made_by-none}
 
 -- 1 where it is the caller's turn
-abbrev serving_at : Stage → ℕ
+abbrev pub serving_at : Stage → ℕ
 serving_at Serving = 1
 serving_at other = 0
 
-not_serving : (stage : Stage) → serving_at stage ≡ 0 → stage ≢ Serving
+pub not_serving : (stage : Stage) → serving_at stage ≡ 0 → stage ≢ Serving
 not_serving stage nobody is = let one = ap serving_at is in absurd (omega arith)
 
 -- a word that counts to n counts to n + k, modulo 2^64
@@ -55,7 +55,7 @@ module _ {T E F : Type 0} (entries : T → List E) (caller : E → ℕ) (fixed :
   Known = Knows caller part
 
   -- what holds of the view that was put, and of each other, holds of each
-  each_set : (P : ℕ → V → Type 0) (views : List V) (id : ℕ) (w : V) → P id w → ((j : ℕ) (u : V) → j ≢ id → get_elem? views j ≡ some u → P j u)
+  pub each_set : (P : ℕ → V → Type 0) (views : List V) (id : ℕ) (w : V) → P id w → ((j : ℕ) (u : V) → j ≢ id → get_elem? views j ≡ some u → P j u)
       → (j : ℕ) (u : V) → get_elem? (set views id w) j ≡ some u → P j u
   each_set P views id w mine others j u at = ⊎_elim (λ (t : (j ≡ id) × (w ≡ u)). subst (λ (z : ℕ × V). P z.0 z.1) (λ i. (sym t.0 i, t.1 i)) mine)
       (λ (t : (j ≢ id) × (get_elem? views j ≡ some u)). others j u t.0 t.1) (at_set views id j w u at)
@@ -143,7 +143,7 @@ module _ {T E F : Type 0} (entries : T → List E) (caller : E → ℕ) (fixed :
   }
 
   -- the value stays where it is, where the view of one who is not served changes
-  stays : (homes : Homes) (log : List E) (views : List V) (id : ℕ) (v w : V) → get_elem? views id ≡ some v → v.stage ≢ Serving → w.stage ≢ Serving → Place homes log views → Place homes log (set views id w)
+  pub stays : (homes : Homes) (log : List E) (views : List V) (id : ℕ) (v w : V) → get_elem? views id ≡ some v → v.stage ≢ Serving → w.stage ≢ Serving → Place homes log views → Place homes log (set views id w)
   stays homes log views id v w at before after (inl h) = inl record {
     value = h.value;
     slot = h.slot;
