@@ -10,9 +10,9 @@ use Rattle.atomic_table.proofs.Lists.{at_set, set_here, set_else, at_longer}
 use Rattle.flow_turn.specs.declared.view.View.{View}
 use Rattle.flow_turn.specs.declared.view.Stage.{Stage}
 use Rattle.flow_turn.specs.declared.view.Stage.TheVariants.{Idle, Waiting, Serving, Joined}
-use Rattle.flow_turn.specs.Entries.{made_by}
+use Rattle.flow_turn.specs.Entries.{made_by, Finds}
 use Rattle.flow_turn.specs.Turns.{tickets_at, living_at, tickets_of, living_of, total, Stands, Knows, IsHome, IsOut, IsInTurns, root_view}
-use Rattle.flow_turn.specs.Steps.{Finds, giving, given_view, taking, joined_view}
+use Rattle.flow_turn.specs.Steps.{giving, given_view, taking, joined_view}
 use Rattle.flow_turn.proofs.ListLemmas.{total-set, total-append, total-two, Each-map, at_below, at_more, made_by-none}
 use Rattle.flow_turn.proofs.RuleLemmas.{serving_at, not_serving, each_set, stays}
 
@@ -194,7 +194,7 @@ module _ {T E F : Type 0} (entries : T → List E) (caller : E → ℕ) (fixed :
 
   -- where all other passes were joined, the value is at home
   pub closes : (id : ℕ) (v : V) (words : List ℕ) (slots : List (Option T)) → v.stage ≡ Idle → v.number ≡ 0 → v.outs ≡ 0 → Final (Seen Rule id v) words slots
-      → (value : T) × (get_elem? slots 0 ≡ some (Some value)) × Finds entries caller fixed v value × Each (λ e. caller e ≤ v.given) (entries value)
+      → (value : T) × (get_elem? slots 0 ≡ some (Some value)) × Finds entries caller fixed v.number v.seen v.mine v.part value × Each (λ e. caller e ≤ v.given) (entries value)
   closes id v words slots idle root joined end =
       let s = end.0 in
       let r = end.1.0 in
@@ -213,9 +213,9 @@ module _ {T E F : Type 0} (entries : T → List E) (caller : E → ℕ) (fixed :
         home.value,
         end.4 0 (Some home.value) (ap (λ (hs : Homes). get_elem? hs 0) home.slot),
         record {
-          seen = subst (λ (l : List E). Begins l v.seen) (sym home.list) k.seen;
-          mine = (λ i. made_by caller (k.named i) (home.list i)) ∙ k.mine;
-          part = k.fixed ∙ ap (λ (f : F). Some f) (sym home.stays);
+          begins = subst (λ (l : List E). Begins l v.seen) (sym home.list) k.seen;
+          own = (λ i. made_by caller (k.named i) (home.list i)) ∙ k.mine;
+          stays = k.fixed ∙ ap (λ (f : F). Some f) (sym home.stays);
         },
         subst (Each (λ e. caller e ≤ v.given)) (sym home.list) (Each-map (λ e. caller e < length s.views) (λ e. caller e ≤ v.given) r.log (λ e below. omega arith) r.callers),
       )

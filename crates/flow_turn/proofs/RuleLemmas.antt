@@ -15,9 +15,9 @@ use Rattle.atomic_table.proofs.Lists.{at_set, set_here, set_else, at_snoc, one_t
 use Rattle.flow_turn.specs.declared.view.View.{View}
 use Rattle.flow_turn.specs.declared.view.Stage.{Stage}
 use Rattle.flow_turn.specs.declared.view.Stage.TheVariants.{Idle, Waiting, Serving, Joined}
-use Rattle.flow_turn.specs.Entries.{made_by}
+use Rattle.flow_turn.specs.Entries.{made_by, Finds}
 use Rattle.flow_turn.specs.Turns.{tickets_at, living_at, tickets_of, living_of, total, Stands, Knows, IsHome, IsOut, IsInTurns, root_view}
-use Rattle.flow_turn.specs.Steps.{Finds, drew, Takes, looked, list_of, list_in, counted, passed, settled, giving, given_view, taking, joined_view}
+use Rattle.flow_turn.specs.Steps.{drew, Takes, looked, list_of, list_in, counted, passed, settled, giving, given_view, taking, joined_view}
 use Rattle.flow_turn.proofs.ListLemmas.{total-set, total-append, total-at, total-two, total-le, Each-append, Each-map, at_below, made_by-own, made_by-none}
 
 -- 1 where it is the caller's turn
@@ -266,9 +266,9 @@ module _ {T E F : Type 0} (entries : T → List E) (caller : E → ℕ) (fixed :
                 (λ j u other there one _. apart j u other there one),
             (
               (λ _. (home.value, refl, record {
-                seen = subst (λ (l : List E). Begins l v.seen) (sym home.list) k.seen;
-                mine = (λ i. made_by caller (k.named i) (home.list i)) ∙ k.mine;
-                part = k.fixed ∙ ap (λ (f : F). Some f) (sym home.stays);
+                begins = subst (λ (l : List E). Begins l v.seen) (sym home.list) k.seen;
+                own = (λ i. made_by caller (k.named i) (home.list i)) ∙ k.mine;
+                stays = k.fixed ∙ ap (λ (f : F). Some f) (sym home.stays);
               })),
               (λ miss. absurd (miss hit)),
             ),

@@ -1,7 +1,7 @@
 -- Lists of entries, each of which names a caller.
-use Rattle.std.specs.Prelude.{◌≡◌, ℕ, ◌==◌, List, ◌++◌}
+use Rattle.std.specs.Prelude.{◌≡◌, ℕ, ◌==◌, List, ◌++◌, Option, Some}
 use Rattle.std.specs.List.{filter}
-use Rattle.flow_model.specs.Lists.{Each}
+use Rattle.flow_model.specs.Lists.{Begins, Each}
 
 module _ {E : Type 0} (caller : E → ℕ) where
   -- the entries that name this caller, in order
@@ -12,3 +12,10 @@ module _ {E : Type 0} (caller : E → ℕ) where
   abbrev pub Grows : ℕ → List E → List E → Type 0
   Grows number before after =
       (added : List E) × (after ≡ before ++ added) × Each (λ e. caller e ≡ number) added
+
+-- What a caller finds, which has this number, has seen this much of the list, added its own entries and knows the fixed part:
+-- the value's list begins with all that was seen, and has of the caller's entries just its own
+pub record Finds {T E F : Type 0} (entries : T → List E) (caller : E → ℕ) (fixed : T → F) (number : ℕ) (seen mine : List E) (part : Option F) (value : T) : Type 0 where
+  pub begins : Begins (entries value) seen
+  pub own : made_by caller number (entries value) ≡ mine
+  pub stays : part ≡ Some (fixed value)

@@ -4,16 +4,10 @@ use Rattle.flow_model.specs.Lists.{Begins}
 use Rattle.atomic_table.specs.Table.{Me}
 use Rattle.flow_turn.specs.declared.view.View.{View}
 use Rattle.flow_turn.specs.declared.view.Stage.TheVariants.{Idle, Waiting, Serving, Joined}
-use Rattle.flow_turn.specs.Entries.{made_by}
+use Rattle.flow_turn.specs.Entries.{Finds}
 
 abbrev pub Sat : Type 0 → Type 0 → Type 0 → Type 0
 Sat T E F = Me (Option T) (View E F)
-
--- What a caller finds when its turn comes: the list begins with all that it had seen, and has of its own entries just those that it made
-pub record Finds {T E F : Type 0} (entries : T → List E) (caller : E → ℕ) (fixed : T → F) (v : View E F) (value : T) : Type 0 where
-  pub seen : Begins (entries value) v.seen
-  pub mine : made_by caller v.number (entries value) ≡ v.mine
-  pub part : v.part ≡ Some (fixed value)
 
 -- the list of the value that a caller has
 abbrev pub list_of : {T E : Type 0} → (T → List E) → Option T → List E
@@ -32,7 +26,7 @@ module _ {T E F : Type 0} where
   -- the value is out with the caller, who has seen its whole list
   abbrev pub Takes : (T → List E) → (E → ℕ) → (T → F) → Sat T E F → Sat T E F → Type 0
   Takes entries caller fixed m n =
-      (value : T) × (n ≡ (record m.0 { stage = Serving; seen = entries value }, (0, Some value) ∷ m.1)) × Finds entries caller fixed m.0 value
+      (value : T) × (n ≡ (record m.0 { stage = Serving; seen = entries value }, (0, Some value) ∷ m.1)) × Finds entries caller fixed m.0.number m.0.seen m.0.mine m.0.part value
 
   abbrev pub looked : (T → List E) → (E → ℕ) → (T → F) → Sat T E F → ℕ → Sat T E F → Type 0
   looked entries caller fixed m found n =

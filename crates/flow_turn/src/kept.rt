@@ -3,7 +3,7 @@ ghost use Rattle.std.specs.Prelude.{◌≡◌, ℕ, List, length};
 ghost use Rattle.flow_turn.specs.Entries.{Grows};
 
 /// A value with a list of entries, each of which names its caller, and with a part that stays as it is.
-pub trait Kept {
+pub trait Kept: Drop {
     /// What the list has.
     type Entry;
 

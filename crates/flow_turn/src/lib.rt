@@ -4,6 +4,7 @@
 
 mod kept;
 mod rule;
+mod turn;
 mod view;
 
 pub use kept::{Job, Kept};

@@ -1,0 +1,60 @@
+-- What contracts see of a pass, and what a turn does to it.
+use Rattle.std.specs.Prelude.{◌≡◌, ℕ, ◌+◌, List, [], ◌++◌, ◌∷◌, Option, Some}
+use Rattle.flow_model.specs.Lists.{Each}
+use Rattle.atomic_table.specs.Seated.{TableId}
+use Rattle.atomic_table.specs.declared.shared.Seat.{Seat}
+use Rattle.flow_turn.specs.declared.view.View.{View}
+use Rattle.flow_turn.specs.declared.view.Stage.TheVariants.{Idle, Serving}
+use Rattle.flow_turn.specs.Entries.{Finds}
+
+-- What a caller knows by its pass
+pub record Knowledge (E F : Type 0) : Type 0 where
+  -- the lock that gave the pass
+  pub lock : TableId
+  pub number : ℕ
+  -- how many passes were split from it, and how many of these were not joined
+  pub given : ℕ
+  pub outs : ℕ
+  -- the list, as far as the caller has seen it
+  pub seen : List E
+  -- what the caller's own turns added
+  pub mine : List E
+  -- the part of the value that stays
+  pub part : Option F
+
+abbrev pub known_of : {T E F : Type 0} → Seat (Option T) (View E F) → Knowledge E F
+known_of {T} {E} {F} seat = let v : View E F = seat.me.0 in
+    record { lock = seat.table_id; number = v.number; given = v.given; outs = v.outs; seen = v.seen; mine = v.mine; part = v.part }
+
+abbrev pub IsSameSeat : {T E F : Type 0} → Seat (Option T) (View E F) → Seat (Option T) (View E F) → Type 0
+IsSameSeat old new = (new.table_id ≡ old.table_id) × (new.id ≡ old.id)
+
+-- the table has three words and a slot, and the seat is one of its own
+abbrev pub IsOfTable : {T E F : Type 0} → TableId → Seat (Option T) (View E F) → Type 0
+IsOfTable table seat = (seat.table_id ≡ table) × (table.words ≡ 3) × (table.slots ≡ 1)
+
+-- the seat is at no turn, and holds no slot
+abbrev pub IsAtRest : {T E F : Type 0} → Seat (Option T) (View E F) → Type 0
+IsAtRest {T} {E} {F} seat = let v : View E F = seat.me.0 in (v.stage ≡ Idle) × (seat.me.1 ≡ [])
+
+-- the seat has its turn, and the value, whose whole list it has seen
+abbrev pub HasTurn : {T E F : Type 0} → (T → List E) → (T → F) → Seat (Option T) (View E F) → Type 0
+HasTurn {T} {E} {F} entries fixed seat = let v : View E F = seat.me.0 in
+    (v.stage ≡ Serving) × ((value : T) × (seat.me.1 ≡ (0, Some value) ∷ []) × (v.seen ≡ entries value) × (v.part ≡ Some (fixed value)))
+
+-- What a job does with the value that a caller found: it adds entries in the caller's name, and the caller has then
+-- seen the whole list
+pub record Works {T E F A : Type 0} (entries : T → List E) (caller : E → ℕ) (fixed : T → F) (does : T → ℕ → A → T → Type 0) (before : T) (old : Knowledge E F) (answer : A) (new : Knowledge E F) : Type 0 where
+  pub after : T
+  pub added : List E
+  pub done : does before old.number answer after
+  pub list : entries after ≡ entries before ++ added
+  pub own : Each (λ e. caller e ≡ old.number) added
+  pub stays : fixed after ≡ fixed before
+  pub learns : new ≡ record old { seen = entries after; mine = old.mine ++ added }
+
+-- What one turn does: the caller finds a value, and its job is done with that value
+pub record Turned {T E F A : Type 0} (entries : T → List E) (caller : E → ℕ) (fixed : T → F) (does : T → ℕ → A → T → Type 0) (old : Knowledge E F) (answer : A) (new : Knowledge E F) : Type 0 where
+  pub value : T
+  pub finds : Finds entries caller fixed old.number old.seen old.mine old.part value
+  pub works : Works entries caller fixed does value old answer new
