@@ -7,12 +7,15 @@ use lib.ListN.{get_elem?}
 use Rattle.flow_model.specs.Lists.{Begins, Each}
 use Rattle.atomic_table.specs.Table.{State, Me, opening, Final, Seen, Splits, Joins}
 use Rattle.atomic_table.proofs.Lists.{at_set, set_here, set_else, at_longer}
+use Rattle.atomic_table.specs.declared.shared.Seat.{Seat}
 use Rattle.flow_turn.specs.declared.view.View.{View}
 use Rattle.flow_turn.specs.declared.view.Stage.{Stage}
 use Rattle.flow_turn.specs.declared.view.Stage.TheVariants.{Idle, Waiting, Serving, Joined}
 use Rattle.flow_turn.specs.Entries.{made_by, Finds}
 use Rattle.flow_turn.specs.Turns.{tickets_at, living_at, tickets_of, living_of, total, Stands, Knows, IsHome, IsOut, IsInTurns, root_view}
 use Rattle.flow_turn.specs.Steps.{giving, given_view, taking, joined_view}
+use Rattle.flow_turn.specs.Passes.{Knowledge, IsAtRest, known_of, split_pass}
+use Rattle.flow_turn.proofs.TurnLemmas.{value_in, known_by}
 use Rattle.flow_turn.proofs.ListLemmas.{total-set, total-append, total-two, Each-map, at_below, at_more, made_by-none}
 use Rattle.flow_turn.proofs.RuleLemmas.{serving_at, not_serving, each_set, stays}
 
@@ -74,10 +77,10 @@ module _ {T E F : Type 0} (entries : T → List E) (caller : E → ℕ) (fixed :
       → (i j : ℕ) (a b : V) → get_elem? (set s.views id w) i ≡ some a → get_elem? (set s.views id w) j ≡ some b → tickets_of a ≡ 1 → tickets_of b ≡ 1 → a.ticket ≡ b.ticket → i ≡ j
   apart_still s r id v w at ticket has i j a b here there one two same =
       let before = (λ (i : ℕ) (a : V) (now : get_elem? (set s.views id w) i ≡ some a). ⊎_elim
-          (λ (p : (i ≡ id) × (w ≡ a)). let u : (z : V) × (get_elem? s.views i ≡ some z) × (z.ticket ≡ a.ticket) × (tickets_of z ≡ tickets_of a) =
-              (v, subst (λ (n : ℕ). get_elem? s.views n ≡ some v) (sym p.0) at, sym ticket ∙ ap (λ (z : V). z.ticket) p.1, sym has ∙ ap tickets_of p.1) in u)
-          (λ (p : (i ≢ id) × (get_elem? s.views i ≡ some a)). (a, p.1, refl, refl))
-          (at_set s.views id i w a now)) in
+      (λ (p : (i ≡ id) × (w ≡ a)). let u : (z : V) × (get_elem? s.views i ≡ some z) × (z.ticket ≡ a.ticket) × (tickets_of z ≡ tickets_of a) =
+      (v, subst (λ (n : ℕ). get_elem? s.views n ≡ some v) (sym p.0) at, sym ticket ∙ ap (λ (z : V). z.ticket) p.1, sym has ∙ ap tickets_of p.1) in u)
+      (λ (p : (i ≢ id) × (get_elem? s.views i ≡ some a)). (a, p.1, refl, refl))
+      (at_set s.views id i w a now)) in
       let p = before i a here in
       let q = before j b there in
       r.apart i j p.0 q.0 p.1 q.1 (p.3 ∙ one) (q.3 ∙ two) (p.2 ∙ (same ∙ sym q.2))
@@ -118,23 +121,23 @@ module _ {T E F : Type 0} (entries : T → List E) (caller : E → ℕ) (fixed :
         callers = Each-map (λ e. caller e < length s.views) (λ e. caller e < length (kept ++ x ∷ [])) r.log (λ e below. omega arith) r.callers;
         knows = λ j u there alive. ⊎_elim
             (λ (old : get_elem? kept j ≡ some u). each_set entries caller fixed part (λ i z. living_of z ≡ 1 → Knows caller part r.drawn r.served r.log i z) s.views id w
-                (λ _. record { named = k.named; fixed = k.fixed; seen = k.seen; beside = k.beside; mine = k.mine; stands = k.stands })
-                (λ i z other here lives. r.knows i z here lives) j u old alive)
+            (λ _. record { named = k.named; fixed = k.fixed; seen = k.seen; beside = k.beside; mine = k.mine; stands = k.stands })
+            (λ i z other here lives. r.knows i z here lives) j u old alive)
             (λ (new : (j ≡ length kept) × (x ≡ u)).
-                subst (λ (z : ℕ × V). Knows caller part r.drawn r.served r.log z.0 z.1) (λ i. (sym new.0 i, new.1 i)) record {
-                  named = omega arith;
-                  fixed = k.fixed;
-                  seen = k.seen;
-                  beside = (r.log, refl);
-                  mine = made_by-none caller (length kept) r.log (Each-map (λ e. caller e < length s.views) (λ e. caller e ≢ length kept) r.log (λ e below same. omega arith) r.callers);
-                  stands = tt;
-                })
+            subst (λ (z : ℕ × V). Knows caller part r.drawn r.served r.log z.0 z.1) (λ i. (sym new.0 i, new.1 i)) record {
+              named = omega arith;
+              fixed = k.fixed;
+              seen = k.seen;
+              beside = (r.log, refl);
+              mine = made_by-none caller (length kept) r.log (Each-map (λ e. caller e < length s.views) (λ e. caller e ≢ length kept) r.log (λ e below same. omega arith) r.callers);
+              stands = tt;
+            })
             (at_more kept x j u there);
         apart = λ i j a b here there one two same. ⊎_elim
             (λ (p : get_elem? kept i ≡ some a). ⊎_elim
-                (λ (q : get_elem? kept j ≡ some b). apart_still s r id v w at refl refl i j a b p q one two same)
-                (λ (q : (j ≡ length kept) × (x ≡ b)). let no_ticket = ap tickets_of q.1 in absurd (omega arith))
-                (at_more kept x j b there))
+            (λ (q : get_elem? kept j ≡ some b). apart_still s r id v w at refl refl i j a b p q one two same)
+            (λ (q : (j ≡ length kept) × (x ≡ b)). let no_ticket = ap tickets_of q.1 in absurd (omega arith))
+            (at_more kept x j b there))
             (λ (p : (i ≡ length kept) × (x ≡ a)). let no_ticket = ap tickets_of p.1 in absurd (omega arith))
             (at_more kept x i a here);
       }
@@ -182,13 +185,13 @@ module _ {T E F : Type 0} (entries : T → List E) (caller : E → ℕ) (fixed :
         knows = each_set entries caller fixed part (λ i z. living_of z ≡ 1 → Knows caller part r.drawn r.served r.log i z) first_set other gone
             (λ none_lives. absurd (omega arith))
             (λ j u _ here. each_set entries caller fixed part (λ i z. living_of z ≡ 1 → Knows caller part r.drawn r.served r.log i z) s.views id x
-                (λ _. record { named = k.named; fixed = k.fixed; seen = k.seen; beside = beside; mine = k.mine; stands = k.stands })
-                (λ i z _ before. r.knows i z before) j u here);
+            (λ _. record { named = k.named; fixed = k.fixed; seen = k.seen; beside = beside; mine = k.mine; stands = k.stands })
+            (λ i z _ before. r.knows i z before) j u here);
         apart = λ i j a b here there_now one two_too same.
             let before = (λ (i : ℕ) (a : V) (at_now : get_elem? (set first_set other gone) i ≡ some a) (one : tickets_of a ≡ 1). ⊎_elim
-                (λ (p : (i ≡ other) × (gone ≡ a)). let no_ticket = ap tickets_of p.1 in absurd {A = get_elem? first_set i ≡ some a} (omega arith))
-                (λ (p : (i ≢ other) × (get_elem? first_set i ≡ some a)). p.1)
-                (at_set first_set other i gone a at_now)) in
+            (λ (p : (i ≡ other) × (gone ≡ a)). let no_ticket = ap tickets_of p.1 in absurd {A = get_elem? first_set i ≡ some a} (omega arith))
+            (λ (p : (i ≢ other) × (get_elem? first_set i ≡ some a)). p.1)
+            (at_set first_set other i gone a at_now)) in
             apart_still s r id v x at refl refl i j a b (before i a here one) (before j b there_now two_too) one two_too same;
       }
 
@@ -205,11 +208,11 @@ module _ {T E F : Type 0} (entries : T → List E) (caller : E → ℕ) (fixed :
       let all = counted.0 in
       let out = counted.1 in
       let home = ⊎_elim (λ (h : IsHome entries fixed part s.homes r.log s.views). h) (λ (o : IsOut s.homes s.views).
-          let lives : living_of v ≡ 1 = ap living_at idle in
-          let lives_too : living_of o.view ≡ 1 = ap living_at o.served in
-          let two = total-two living_of s.views id o.seat v o.view
-              (λ same. not_serving v.stage (ap serving_at idle) (ap (λ (z : V). z.stage) (some-injective v o.view (sym at ∙ (ap (get_elem? s.views) same ∙ o.there))) ∙ o.served)) at o.there in
-          absurd {A = IsHome entries fixed part s.homes r.log s.views} (omega arith)) r.value in (
+      let lives : living_of v ≡ 1 = ap living_at idle in
+      let lives_too : living_of o.view ≡ 1 = ap living_at o.served in
+      let two = total-two living_of s.views id o.seat v o.view
+      (λ same. not_serving v.stage (ap serving_at idle) (ap (λ (z : V). z.stage) (some-injective v o.view (sym at ∙ (ap (get_elem? s.views) same ∙ o.there))) ∙ o.served)) at o.there in
+      absurd {A = IsHome entries fixed part s.homes r.log s.views} (omega arith)) r.value in (
         home.value,
         end.4 0 (Some home.value) (ap (λ (hs : Homes). get_elem? hs 0) home.slot),
         record {
@@ -219,3 +222,23 @@ module _ {T E F : Type 0} (entries : T → List E) (caller : E → ℕ) (fixed :
         },
         subst (Each (λ e. caller e ≤ v.given)) (sym home.list) (Each-map (λ e. caller e < length s.views) (λ e. caller e ≤ v.given) r.log (λ e below. omega arith) r.callers),
       )
+
+module _ {T E F : Type 0} where
+  pub split_knows : (old new : Seat (Option T) (View E F)) → new.table_id ≡ old.table_id → new.me ≡ (given_view old.me.0, []) → known_of new ≡ split_pass (known_of old)
+  split_knows old new table me = λ i. known_by (table i) (me i).0
+
+  -- what is in the slot when the lock is closed
+  pub closes_with : (entries : T → List E) (caller : E → ℕ) (fixed : T → F) (part : F) (seat : Seat (Option T) (View E F)) (root : Knowledge E F) (words : List ℕ) (slots : List (Option T)) (found : Option T)
+      → IsAtRest seat → known_of seat ≡ root → root.number ≡ 0 → root.outs ≡ 0 → Final (Seen (IsInTurns entries caller fixed part) seat.id seat.me.0) words slots → get_elem? slots 0 ≡ some found
+      → (value : T) × (found ≡ Some value) × Finds entries caller fixed root.number root.seen root.mine root.part value × Each (λ e. caller e ≤ root.given) (entries value)
+  closes_with entries caller fixed part seat root words slots found rest known number outs final there =
+      let end = closes entries caller fixed part seat.id seat.me.0 words slots rest.0 (ap (λ (k : Knowledge E F). k.number) known ∙ number) (ap (λ (k : Knowledge E F). k.outs) known ∙ outs) final in
+      let both = subst (λ (k : Knowledge E F). Finds entries caller fixed k.number k.seen k.mine k.part end.0 × Each (λ e. caller e ≤ k.given) (entries end.0)) known (end.2, end.3) in
+      (end.0, some-injective found (Some end.0) (sym there ∙ end.1), both.0, both.1)
+
+  pub closes_as : (entries : T → List E) (caller : E → ℕ) (fixed : T → F) (part : F) (seat : Seat (Option T) (View E F)) (root : Knowledge E F) (words : List ℕ) (slots : List (Option T)) (found : Option T) (value : T)
+      → IsAtRest seat → known_of seat ≡ root → root.number ≡ 0 → root.outs ≡ 0 → Final (Seen (IsInTurns entries caller fixed part) seat.id seat.me.0) words slots → get_elem? slots 0 ≡ some found → found ≡ Some value
+      → Finds entries caller fixed root.number root.seen root.mine root.part value × Each (λ e. caller e ≤ root.given) (entries value)
+  closes_as entries caller fixed part seat root words slots found value rest known number outs final there is =
+      let end = closes_with entries caller fixed part seat root words slots found rest known number outs final there in
+      subst (λ (v : T). Finds entries caller fixed root.number root.seen root.mine root.part v × Each (λ e. caller e ≤ root.given) (entries v)) (ap (value_in end.0) (sym end.1 ∙ is)) (end.2, end.3)

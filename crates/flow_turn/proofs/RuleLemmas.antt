@@ -109,36 +109,36 @@ module _ {T E F : Type 0} (entries : T → List E) (caller : E → ℕ) (fixed :
     tickets = (let old = r.tickets in let step = total-set tickets_of s.views id v w at in omega arith);
     root = λ u there. ⊎_elim
         (λ (t : (0 ≡ id) × (w ≡ u)).
-            let old = r.root v (subst (λ (k : ℕ). get_elem? s.views k ≡ some v) (sym t.0) at) in
-            let step = total-set living_of s.views id v w at in
-            let given : w.given ≡ u.given = ap (λ (z : V). z.given) t.1 in
-            let outs : w.outs ≡ u.outs = ap (λ (z : V). z.outs) t.1 in
-            let long = length-set s.views id w in
-            let a = same.0 in let b = same.1 in let c = same.2 in let d = old.0 in let e = old.1 in
-            (omega arith, omega arith))
+        let old = r.root v (subst (λ (k : ℕ). get_elem? s.views k ≡ some v) (sym t.0) at) in
+        let step = total-set living_of s.views id v w at in
+        let given : w.given ≡ u.given = ap (λ (z : V). z.given) t.1 in
+        let outs : w.outs ≡ u.outs = ap (λ (z : V). z.outs) t.1 in
+        let long = length-set s.views id w in
+        let a = same.0 in let b = same.1 in let c = same.2 in let d = old.0 in let e = old.1 in
+        (omega arith, omega arith))
         (λ (t : (0 ≢ id) × (get_elem? s.views 0 ≡ some u)).
-            let old = r.root u t.1 in
-            let step = total-set living_of s.views id v w at in
-            let long = length-set s.views id w in
-            let a = same.0 in let d = old.0 in let e = old.1 in
-            (omega arith, omega arith))
+        let old = r.root u t.1 in
+        let step = total-set living_of s.views id v w at in
+        let long = length-set s.views id w in
+        let a = same.0 in let d = old.0 in let e = old.1 in
+        (omega arith, omega arith))
         (at_set s.views id 0 w u there);
     few = (let few = r.few in let long = length-set s.views id w in omega arith);
     callers = subst (λ (n : ℕ). Each (λ e. caller e < n) log') (sym (length-set s.views id w))
         (subst (Each (λ e. caller e < length s.views)) (sym grown) (Each-append (λ e. caller e < length s.views) r.log added r.callers named));
     knows = each_set (λ j u. living_of u ≡ 1 → Known drawn' served' log' j u) s.views id w mine
         (λ j u other there live. let o = others j u other there live in
-            subst (λ (l : List E). Known drawn' served' l j u) (sym grown)
-            (still r.drawn r.served drawn' served' r.log added j u (r.knows j u there live) o.0 (subst (λ (l : List E). Stands served' drawn' l u.ticket u.seen u.stage) grown o.1)));
+        subst (λ (l : List E). Known drawn' served' l j u) (sym grown)
+        (still r.drawn r.served drawn' served' r.log added j u (r.knows j u there live) o.0 (subst (λ (l : List E). Stands served' drawn' l u.ticket u.seen u.stage) grown o.1)));
     apart = λ i j x y here there one two match. ⊎_elim
         (λ (t : (i ≡ id) × (w ≡ x)). ⊎_elim
-            (λ (q : (j ≡ id) × (w ≡ y)). t.0 ∙ sym q.0)
-            (λ (q : (j ≢ id) × (get_elem? s.views j ≡ some y)). absurd (apart j y q.0 q.1 two (ap tickets_of t.1 ∙ one) (sym match ∙ ap (λ (z : V). z.ticket) (sym t.1))))
-            (at_set s.views id j w y there))
+        (λ (q : (j ≡ id) × (w ≡ y)). t.0 ∙ sym q.0)
+        (λ (q : (j ≢ id) × (get_elem? s.views j ≡ some y)). absurd (apart j y q.0 q.1 two (ap tickets_of t.1 ∙ one) (sym match ∙ ap (λ (z : V). z.ticket) (sym t.1))))
+        (at_set s.views id j w y there))
         (λ (t : (i ≢ id) × (get_elem? s.views i ≡ some x)). ⊎_elim
-            (λ (q : (j ≡ id) × (w ≡ y)). absurd (apart i x t.0 t.1 one (ap tickets_of q.1 ∙ two) (match ∙ ap (λ (z : V). z.ticket) (sym q.1))))
-            (λ (q : (j ≢ id) × (get_elem? s.views j ≡ some y)). r.apart i j x y t.1 q.1 one two match)
-            (at_set s.views id j w y there))
+        (λ (q : (j ≡ id) × (w ≡ y)). absurd (apart i x t.0 t.1 one (ap tickets_of q.1 ∙ two) (match ∙ ap (λ (z : V). z.ticket) (sym q.1))))
+        (λ (q : (j ≢ id) × (get_elem? s.views j ≡ some y)). r.apart i j x y t.1 q.1 one two match)
+        (at_set s.views id j w y there))
         (at_set s.views id i w x here);
   }
 
@@ -199,11 +199,11 @@ module _ {T E F : Type 0} (entries : T → List E) (caller : E → ℕ) (fixed :
   at_home : (s : St) (r : Rule s) (id : ℕ) (v : V) → get_elem? s.views id ≡ some v → v.stage ≡ Waiting → r.served ≡ v.ticket → IsHome entries fixed part s.homes r.log s.views
   at_home s r id v at waits now = ⊎_elim (λ (h : IsHome entries fixed part s.homes r.log s.views). h)
       (λ (o : IsOut s.homes s.views).
-          let u : V = o.view in
-          let turn = subst (Stands r.served r.drawn r.log u.ticket u.seen) o.served (r.knows o.seat u o.there (ap living_at o.served)).stands in
-          let same : o.seat ≡ id = r.apart o.seat id u v o.there at (ap tickets_at o.served) (ap tickets_at waits) (turn.0 ∙ now) in
-          let one : v ≡ u = some-injective v u (sym at ∙ (ap (get_elem? s.views) (sym same) ∙ o.there)) in
-          absurd (not_serving v.stage (ap serving_at waits) (ap (λ (z : V). z.stage) one ∙ o.served)))
+      let u : V = o.view in
+      let turn = subst (Stands r.served r.drawn r.log u.ticket u.seen) o.served (r.knows o.seat u o.there (ap living_at o.served)).stands in
+      let same : o.seat ≡ id = r.apart o.seat id u v o.there at (ap tickets_at o.served) (ap tickets_at waits) (turn.0 ∙ now) in
+      let one : v ≡ u = some-injective v u (sym at ∙ (ap (get_elem? s.views) (sym same) ∙ o.there)) in
+      absurd (not_serving v.stage (ap serving_at waits) (ap (λ (z : V). z.stage) one ∙ o.served)))
       r.value
 
   pub draws : (slots id : ℕ) (me : M) → me.0.stage ≡ Idle → Allows Rule slots id me 0 (λ n. (n + 1) % 2 ^ 64) (drew me)
@@ -244,35 +244,39 @@ module _ {T E F : Type 0} (entries : T → List E) (caller : E → ℕ) (fixed :
       let all = r.tickets in
       dite (ℕ_discrete (slice_index s.words 1) (v.ticket % 2 ^ 64))
       (λ hit.
-          let waiting = subst (Stands r.served r.drawn r.log v.ticket v.seen) waits k.stands in
-          let from = waiting.0 in
-          let to = waiting.1 in
-          let many = total-le tickets_of s.views (λ u. one_at_most u.stage) in
-          let few = r.few in
-          let now : r.served ≡ v.ticket = one_turn r.served v.ticket (2 ^ 64) from (omega arith) (sym found ∙ hit) in
-          let home = at_home s r id v at waits now in
-          let w : V = record v { stage = Serving; seen = entries home.value } in
-          let whole : Begins r.log (entries home.value) = ([], sym home.list ∙ sym (append-nil (entries home.value))) in (
-            w,
-            takes 0 (Some home.value),
-            ap (λ (hs : Homes). get_elem? hs 0) home.slot,
-            changed s r id v w _ _ r.drawn r.served r.log [] at same_words (sym (append-nil r.log))
-                (inr record { slot = ap (λ (hs : Homes). set hs 0 none) home.slot; seat = id; view = w; there = set_here s.views id w (at_below s.views id v at); served = refl })
-                (omega arith)
-                (sym live, refl, refl)
-                tt
-                (λ j u other there alive. (refl, (r.knows j u there alive).stands))
-                (λ _. record { named = k.named; fixed = k.fixed; seen = whole; beside = k.beside; mine = k.mine; stands = (sym now, home.list) })
-                (λ j u other there one _. apart j u other there one),
-            (
-              (λ _. (home.value, refl, record {
-                begins = subst (λ (l : List E). Begins l v.seen) (sym home.list) k.seen;
-                own = (λ i. made_by caller (k.named i) (home.list i)) ∙ k.mine;
-                stays = k.fixed ∙ ap (λ (f : F). Some f) (sym home.stays);
-              })),
-              (λ miss. absurd (miss hit)),
-            ),
-          ))
+      let waiting = subst (Stands r.served r.drawn r.log v.ticket v.seen) waits k.stands in
+      let from = waiting.0 in
+      let to = waiting.1 in
+      let many = total-le tickets_of s.views (λ u. one_at_most u.stage) in
+      let few = r.few in
+      let now : r.served ≡ v.ticket = one_turn r.served v.ticket (2 ^ 64) from (omega arith) (sym found ∙ hit) in
+      let home = at_home s r id v at waits now in
+      let w : V = record v { stage = Serving; seen = entries home.value } in
+      let whole : Begins r.log (entries home.value) = ([], sym home.list ∙ sym (append-nil (entries home.value))) in (
+        w,
+        takes 0 (Some home.value),
+        ap (λ (hs : Homes). get_elem? hs 0) home.slot,
+        changed s r id v w _ _ r.drawn r.served r.log [] at same_words (sym (append-nil r.log))
+            (inr record { slot = ap (λ (hs : Homes). set hs 0 none) home.slot; seat = id; view = w; there = set_here s.views id w (at_below s.views id v at); served = refl })
+            (omega arith)
+            (sym live, refl, refl)
+            tt
+            (λ j u other there alive. (refl, (r.knows j u there alive).stands))
+            (λ _. record { named = k.named; fixed = k.fixed; seen = whole; beside = k.beside; mine = k.mine; stands = (sym now, home.list) })
+            (λ j u other there one _. apart j u other there one),
+        (
+          (λ _. (
+            home.value,
+            refl,
+            record {
+              begins = subst (λ (l : List E). Begins l v.seen) (sym home.list) k.seen;
+              own = (λ i. made_by caller (k.named i) (home.list i)) ∙ k.mine;
+              stays = k.fixed ∙ ap (λ (f : F). Some f) (sym home.stays);
+            },
+          )),
+          (λ miss. absurd (miss hit)),
+        ),
+      ))
       (λ miss. (
         v,
         keeps,
@@ -297,7 +301,7 @@ module _ {T E F : Type 0} (entries : T → List E) (caller : E → ℕ) (fixed :
       → (j : ℕ) (u : V) → j ≢ id → get_elem? s.views j ≡ some u → living_of u ≡ 1 → Stands served' drawn' log' u.ticket u.seen u.stage
   others_wait s r id v at serves now served' drawn' log' le more j u other there alive =
       moved_on r.served r.drawn served' drawn' r.log log' u.ticket u.seen u.stage
-          (λ one same. others_apart s r id v at (ap tickets_at serves) j u other there one (same ∙ sym now)) le more (r.knows j u there alive).stands
+      (λ one same. others_apart s r id v at (ap tickets_at serves) j u other there one (same ∙ sym now)) le more (r.knows j u there alive).stands
 
   pub count_step : (slots id : ℕ) (me : M) (value : T) (added : List E) (k : ℕ) → me.0.stage ≡ Serving → me.1 ≡ (0, Some value) ∷ [] → entries value ≡ me.0.seen ++ added
       → Each (λ e. caller e ≡ me.0.number) added → length added ≡ k → Allows Rule slots id me 2 (λ n. (n + k) % 2 ^ 64) (λ _ n. counted entries me n)
@@ -313,8 +317,8 @@ module _ {T E F : Type 0} (entries : T → List E) (caller : E → ℕ) (fixed :
       let new_ones : drop (length v.seen) list ≡ added = ap (drop (length v.seen)) (list_is ∙ grows) ∙ drop-append_seam v.seen added in
       let longer : length r.log + k ≡ length list = (let sum = length-append r.log added in let same = ap length grown in omega arith) in
       let mine : made_by caller id list ≡ w.mine =
-          ap (made_by caller id) grown ∙ (filter-append (λ e. caller e == id) r.log added
-          ∙ (λ i. (known.mine ∙ refl) i ++ (made_by-own caller id added (subst (λ (n : ℕ). Each (λ e. caller e ≡ n) added) known.named own) ∙ sym new_ones) i)) in (
+      ap (made_by caller id) grown ∙ (filter-append (λ e. caller e == id) r.log added
+      ∙ (λ i. (known.mine ∙ refl) i ++ (made_by-own caller id added (subst (λ (n : ℕ). Each (λ e. caller e ≡ n) added) known.named own) ∙ sym new_ones) i)) in (
         w,
         keeps,
         tt,
@@ -366,8 +370,8 @@ module _ {T E F : Type 0} (entries : T → List E) (caller : E → ℕ) (fixed :
               stays = some_is (fixed value) part (sym stays_fixed ∙ k.fixed);
               unserved = each_set (λ _ u. u.stage ≢ Serving) s.views id w (not_serving Idle refl)
                   (λ j u other there serves_too.
-                      let other_turn = subst (Stands r.served r.drawn r.log u.ticket u.seen) serves_too (r.knows j u there (ap living_at serves_too)).stands in
-                      others_apart s r id v at has j u other there (ap tickets_at serves_too) (other_turn.0 ∙ sym turn.0));
+                  let other_turn = subst (Stands r.served r.drawn r.log u.ticket u.seen) serves_too (r.knows j u there (ap living_at serves_too)).stands in
+                  others_apart s r id v at has j u other there (ap tickets_at serves_too) (other_turn.0 ∙ sym turn.0));
             })
             (omega arith)
             (sym live, refl, refl)

@@ -15,7 +15,7 @@ use Rattle.flow_turn.proofs.RuleLemmas.{count_step}
 
 module _ {T : Type 0} where
   -- the value in a slot, in place of the one given
-  abbrev value_in : T → Option T → T
+  abbrev pub value_in : T → Option T → T
   value_in other None = other
   value_in other (Some value) = value
 
@@ -28,7 +28,7 @@ module _ {T : Type 0} where
   same_value slots value got found held taken is = ap (first_of_slots value) (sym held ∙ taken) ∙ ap (value_in value) is
 
 module _ {E F : Type 0} where
-  abbrev known_by : TableId → View E F → Knowledge E F
+  abbrev pub known_by : TableId → View E F → Knowledge E F
   known_by table v = record { lock = table; number = v.number; given = v.given; outs = v.outs; seen = v.seen; mine = v.mine; part = v.part }
 
 module _ {T E F : Type 0} (entries : T → List E) where

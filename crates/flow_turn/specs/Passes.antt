@@ -1,5 +1,5 @@
 -- What contracts see of a pass, and what a turn does to it.
-use Rattle.std.specs.Prelude.{◌≡◌, ℕ, ◌+◌, List, [], ◌++◌, ◌∷◌, Option, Some}
+use Rattle.std.specs.Prelude.{◌≡◌, ℕ, ◌+◌, ◌≤◌, List, [], ◌++◌, ◌∷◌, Option, Some}
 use Rattle.flow_model.specs.Lists.{Each}
 use Rattle.atomic_table.specs.Seated.{TableId}
 use Rattle.atomic_table.specs.declared.shared.Seat.{Seat}
@@ -26,12 +26,24 @@ abbrev pub known_of : {T E F : Type 0} → Seat (Option T) (View E F) → Knowle
 known_of {T} {E} {F} seat = let v : View E F = seat.me.0 in
     record { lock = seat.table_id; number = v.number; given = v.given; outs = v.outs; seen = v.seen; mine = v.mine; part = v.part }
 
+-- the counters of a pass
+abbrev pub Counts : {E F : Type 0} → ℕ → ℕ → ℕ → Knowledge E F → Type 0
+Counts number given outs known = (number ≡ known.number) × (given ≡ known.given) × (outs ≡ known.outs) × (outs ≤ given)
+
 abbrev pub IsSameSeat : {T E F : Type 0} → Seat (Option T) (View E F) → Seat (Option T) (View E F) → Type 0
 IsSameSeat old new = (new.table_id ≡ old.table_id) × (new.id ≡ old.id)
 
 -- the table has three words and a slot, and the seat is one of its own
 abbrev pub IsOfTable : {T E F : Type 0} → TableId → Seat (Option T) (View E F) → Type 0
 IsOfTable table seat = (seat.table_id ≡ table) × (table.words ≡ 3) × (table.slots ≡ 1)
+
+-- the root pass of a new lock over a value with this fixed part
+abbrev pub root_pass : {E F : Type 0} → TableId → F → Knowledge E F
+root_pass lock part = record { lock = lock; number = 0; given = 0; outs = 0; seen = []; mine = []; part = Some part }
+
+-- what the next pass that is split from the root knows
+abbrev pub split_pass : {E F : Type 0} → Knowledge E F → Knowledge E F
+split_pass root = record { lock = root.lock; number = root.given + 1; given = 0; outs = 0; seen = root.seen; mine = []; part = root.part }
 
 -- the seat is at no turn, and holds no slot
 abbrev pub IsAtRest : {T E F : Type 0} → Seat (Option T) (View E F) → Type 0

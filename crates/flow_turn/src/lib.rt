@@ -3,8 +3,12 @@
 #![tactic(auto)]
 
 mod kept;
+mod lock;
+mod pass;
 mod rule;
 mod turn;
 mod view;
 
 pub use kept::{Job, Kept};
+pub use lock::{NewRefusal, TurnLock};
+pub use pass::Pass;

@@ -13,7 +13,8 @@ pub struct TurnRule<T> {
     value: PhantomData<T>,
 }
 
-impl<T: Kept> TableRule<Option<T>, View<<T as Kept>::Entry, <T as Kept>::Fixed>, Snapshot<T>> for TurnRule<T> {
+impl<T: Kept> TableRule<Option<T>, View<<T as Kept>::Entry, <T as Kept>::Fixed>, Snapshot<T>>
+    for TurnRule<T> {
     ghost holds = { λ key. IsInTurns T.entries T.caller T.fixed (T.fixed key.value) };
 
     ghost first = { λ key. root_view (T.fixed key.value) };

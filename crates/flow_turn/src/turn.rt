@@ -23,7 +23,12 @@ const ENTRIES: usize = 2;
 // The slot of the value.
 const VALUE: usize = 0;
 
-pub(crate) type Top<T> = Shared<Option<T>, View<<T as Kept>::Entry, <T as Kept>::Fixed>, Snapshot<T>, TurnRule<T>>;
+pub(crate) type Top<T> = Shared<
+    Option<T>,
+    View<<T as Kept>::Entry, <T as Kept>::Fixed>,
+    Snapshot<T>,
+    TurnRule<T>,
+>;
 
 pub(crate) type Chair<T> = Seat<Option<T>, View<<T as Kept>::Entry, <T as Kept>::Fixed>>;
 
