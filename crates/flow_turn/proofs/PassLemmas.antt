@@ -11,13 +11,13 @@ use Rattle.atomic_table.specs.declared.shared.Seat.{Seat}
 use Rattle.flow_turn.specs.declared.view.View.{View}
 use Rattle.flow_turn.specs.declared.view.Stage.{Stage}
 use Rattle.flow_turn.specs.declared.view.Stage.TheVariants.{Idle, Waiting, Serving, Joined}
-use Rattle.flow_turn.specs.Entries.{made_by, Finds}
-use Rattle.flow_turn.specs.Turns.{tickets_at, living_at, tickets_of, living_of, total, Stands, Knows, IsHome, IsOut, IsInTurns, root_view}
+use Rattle.flow_turn.specs.Entries.{made_by, AreMade, Finds}
+use Rattle.flow_turn.specs.Turns.{tickets_at, living_at, tickets_of, living_of, total, Stands, Knows, IsGone, IsHome, IsOut, IsInTurns, root_view}
 use Rattle.flow_turn.specs.Steps.{giving, given_view, taking, joined_view}
 use Rattle.flow_turn.specs.Passes.{Knowledge, IsAtRest, known_of, split_pass}
 use Rattle.flow_turn.proofs.TurnLemmas.{value_in, known_by}
-use Rattle.flow_turn.proofs.ListLemmas.{total-set, total-append, total-two, Each-map, at_below, at_more, made_by-none}
-use Rattle.flow_turn.proofs.RuleLemmas.{serving_at, not_serving, each_set, stays}
+use Rattle.flow_turn.proofs.ListLemmas.{total-set, total-append, total-two, Each-append, Each-map, at_below, at_more, made_by-none}
+use Rattle.flow_turn.proofs.RuleLemmas.{serving_at, not_serving, each_set, stays, gone_elsewhere, IsGone-set}
 
 module _ {T E F : Type 0} (entries : T → List E) (caller : E → ℕ) (fixed : T → F) (part : F) where
   abbrev V : Type 0
@@ -53,7 +53,8 @@ module _ {T E F : Type 0} (entries : T → List E) (caller : E → ℕ) (fixed :
     few = omega arith;
     callers = tt;
     knows = λ j v there live. let is = only j v there in subst (λ (z : ℕ × V). Knows caller part 0 0 [] z.0 z.1) (λ i. (sym is.0 i, is.1 i))
-        record { named = refl; fixed = refl; seen = ([], refl); beside = ([], refl); mine = refl; stands = tt };
+        record { named = refl; fixed = refl; seen = ([], refl); beside = ([], refl); mine = refl; joined = tt; stands = tt };
+    gone = λ j v there. let is = only j v there in subst (λ (z : V). let views : List V = root_view part ∷ [] in Each (λ c. IsGone views c.0) z.joined) is.1 tt;
     apart = λ i j v w here there one two same. (only i v here).0 ∙ sym (only j w there).0;
   }
     where
@@ -121,7 +122,7 @@ module _ {T E F : Type 0} (entries : T → List E) (caller : E → ℕ) (fixed :
         callers = Each-map (λ e. caller e < length s.views) (λ e. caller e < length (kept ++ x ∷ [])) r.log (λ e below. omega arith) r.callers;
         knows = λ j u there alive. ⊎_elim
             (λ (old : get_elem? kept j ≡ some u). each_set entries caller fixed part (λ i z. living_of z ≡ 1 → Knows caller part r.drawn r.served r.log i z) s.views id w
-            (λ _. record { named = k.named; fixed = k.fixed; seen = k.seen; beside = k.beside; mine = k.mine; stands = k.stands })
+            (λ _. record { named = k.named; fixed = k.fixed; seen = k.seen; beside = k.beside; mine = k.mine; joined = k.joined; stands = k.stands })
             (λ i z other here lives. r.knows i z here lives) j u old alive)
             (λ (new : (j ≡ length kept) × (x ≡ u)).
             subst (λ (z : ℕ × V). Knows caller part r.drawn r.served r.log z.0 z.1) (λ i. (sym new.0 i, new.1 i)) record {
@@ -130,8 +131,15 @@ module _ {T E F : Type 0} (entries : T → List E) (caller : E → ℕ) (fixed :
               seen = k.seen;
               beside = (r.log, refl);
               mine = made_by-none caller (length kept) r.log (Each-map (λ e. caller e < length s.views) (λ e. caller e ≢ length kept) r.log (λ e below same. omega arith) r.callers);
+              joined = tt;
               stands = tt;
             })
+            (at_more kept x j u there);
+        gone = λ j u there. ⊎_elim
+            (λ (old : get_elem? kept j ≡ some u). Each-map (λ c. IsGone s.views c.0) (λ c. IsGone (kept ++ x ∷ []) c.0) u.joined
+            (λ c gone. let h = IsGone-set entries caller fixed part s.views id v w at live c.0 gone in (h.0, at_longer kept (x ∷ []) c.0 h.0 h.1, h.2))
+            (each_set entries caller fixed part (λ i z. Each (λ c. IsGone s.views c.0) z.joined) s.views id w (r.gone id v at) (λ i z other here. r.gone i z here) j u old))
+            (λ (new : (j ≡ length kept) × (x ≡ u)). subst (λ (z : V). Each (λ c. IsGone (kept ++ x ∷ []) c.0) z.joined) new.1 tt)
             (at_more kept x j u there);
         apart = λ i j a b here there one two same. ⊎_elim
             (λ (p : get_elem? kept i ≡ some a). ⊎_elim
@@ -153,7 +161,7 @@ module _ {T E F : Type 0} (entries : T → List E) (caller : E → ℕ) (fixed :
       let first : id ≡ 0 = sym k.named ∙ root in
       let at_first : get_elem? s.views 0 ≡ some v = subst (λ (n : ℕ). get_elem? s.views n ≡ some v) first at in
       let there_before : get_elem? s.views other ≡ some w = sym (set_else s.views id other x apart) ∙ there in
-      let beside = (r.knows other w there_before (ap living_at idle_too)).seen in
+      let known = r.knows other w there_before (ap living_at idle_too) in
       let counted = r.root v at_first in
       let all = counted.0 in
       let out = counted.1 in
@@ -162,6 +170,11 @@ module _ {T E F : Type 0} (entries : T → List E) (caller : E → ℕ) (fixed :
       let lives : living_of v ≡ 1 = ap living_at idle in
       let lives_too : living_of w ≡ 1 = ap living_at idle_too in
       let idles_too : tickets_of w ≡ 0 = ap tickets_at idle_too in
+      let after : List V = set first_set other gone in
+      let still_gone = (λ (number : ℕ) (g : IsGone s.views number).
+          let h = IsGone-set entries caller fixed part s.views id v x at lives number g in
+          let g' : IsGone after number = (h.0, set_else first_set other number gone (gone_elsewhere entries caller fixed part s.views other w there_before lives_too number g) ∙ h.1, h.2) in g') in
+      let joined : AreMade caller x.joined r.log = Each-append (λ c. made_by caller c.0 r.log ≡ c.1) v.joined ((w.number, w.mine) ∷ []) k.joined (ap (λ (n : ℕ). made_by caller n r.log) known.named ∙ known.mine, tt) in
       let two = total-two living_of s.views id other v w (λ e. apart (sym e)) at there_before in
       let living = total-set living_of s.views id v x at in
       let living_too = total-set living_of first_set other w gone there in
@@ -185,8 +198,13 @@ module _ {T E F : Type 0} (entries : T → List E) (caller : E → ℕ) (fixed :
         knows = each_set entries caller fixed part (λ i z. living_of z ≡ 1 → Knows caller part r.drawn r.served r.log i z) first_set other gone
             (λ none_lives. absurd (omega arith))
             (λ j u _ here. each_set entries caller fixed part (λ i z. living_of z ≡ 1 → Knows caller part r.drawn r.served r.log i z) s.views id x
-            (λ _. record { named = k.named; fixed = k.fixed; seen = k.seen; beside = beside; mine = k.mine; stands = k.stands })
+            (λ _. record { named = k.named; fixed = k.fixed; seen = k.seen; beside = known.seen; mine = k.mine; joined = joined; stands = k.stands })
             (λ i z _ before. r.knows i z before) j u here);
+        gone = each_set entries caller fixed part (λ j u. Each (λ c. IsGone after c.0) u.joined) first_set other gone tt
+            (λ j u _ here. each_set entries caller fixed part (λ i z. Each (λ c. IsGone after c.0) z.joined) s.views id x
+            (Each-append (λ c. IsGone after c.0) v.joined ((w.number, w.mine) ∷ []) (Each-map (λ c. IsGone s.views c.0) (λ c. IsGone after c.0) v.joined (λ c. still_gone c.0) (r.gone id v at))
+            (subst (IsGone after) (sym known.named) (gone, set_here first_set other gone (at_below first_set other w there), refl), tt))
+            (λ i z _ before. Each-map (λ c. IsGone s.views c.0) (λ c. IsGone after c.0) z.joined (λ c. still_gone c.0) (r.gone i z before)) j u here);
         apart = λ i j a b here there_now one two_too same.
             let before = (λ (i : ℕ) (a : V) (at_now : get_elem? (set first_set other gone) i ≡ some a) (one : tickets_of a ≡ 1). ⊎_elim
             (λ (p : (i ≡ other) × (gone ≡ a)). let no_ticket = ap tickets_of p.1 in absurd {A = get_elem? first_set i ≡ some a} (omega arith))
@@ -197,7 +215,7 @@ module _ {T E F : Type 0} (entries : T → List E) (caller : E → ℕ) (fixed :
 
   -- where all other passes were joined, the value is at home
   pub closes : (id : ℕ) (v : V) (words : List ℕ) (slots : List (Option T)) → v.stage ≡ Idle → v.number ≡ 0 → v.outs ≡ 0 → Final (Seen Rule id v) words slots
-      → (value : T) × (get_elem? slots 0 ≡ some (Some value)) × Finds entries caller fixed v.number v.seen v.mine v.part value × Each (λ e. caller e ≤ v.given) (entries value)
+      → (value : T) × (get_elem? slots 0 ≡ some (Some value)) × Finds entries caller fixed v.number v.seen v.mine v.joined v.part value × Each (λ e. caller e ≤ v.given) (entries value)
   closes id v words slots idle root joined end =
       let s = end.0 in
       let r = end.1.0 in
@@ -218,6 +236,7 @@ module _ {T E F : Type 0} (entries : T → List E) (caller : E → ℕ) (fixed :
         record {
           begins = subst (λ (l : List E). Begins l v.seen) (sym home.list) k.seen;
           own = (λ i. made_by caller (k.named i) (home.list i)) ∙ k.mine;
+          others = subst (AreMade caller v.joined) (sym home.list) k.joined;
           stays = k.fixed ∙ ap (λ (f : F). Some f) (sym home.stays);
         },
         subst (Each (λ e. caller e ≤ v.given)) (sym home.list) (Each-map (λ e. caller e < length s.views) (λ e. caller e ≤ v.given) r.log (λ e below. omega arith) r.callers),
@@ -230,15 +249,15 @@ module _ {T E F : Type 0} where
   -- what is in the slot when the lock is closed
   pub closes_with : (entries : T → List E) (caller : E → ℕ) (fixed : T → F) (part : F) (seat : Seat (Option T) (View E F)) (root : Knowledge E F) (words : List ℕ) (slots : List (Option T)) (found : Option T)
       → IsAtRest seat → known_of seat ≡ root → root.number ≡ 0 → root.outs ≡ 0 → Final (Seen (IsInTurns entries caller fixed part) seat.id seat.me.0) words slots → get_elem? slots 0 ≡ some found
-      → (value : T) × (found ≡ Some value) × Finds entries caller fixed root.number root.seen root.mine root.part value × Each (λ e. caller e ≤ root.given) (entries value)
+      → (value : T) × (found ≡ Some value) × Finds entries caller fixed root.number root.seen root.mine root.joined root.part value × Each (λ e. caller e ≤ root.given) (entries value)
   closes_with entries caller fixed part seat root words slots found rest known number outs final there =
       let end = closes entries caller fixed part seat.id seat.me.0 words slots rest.0 (ap (λ (k : Knowledge E F). k.number) known ∙ number) (ap (λ (k : Knowledge E F). k.outs) known ∙ outs) final in
-      let both = subst (λ (k : Knowledge E F). Finds entries caller fixed k.number k.seen k.mine k.part end.0 × Each (λ e. caller e ≤ k.given) (entries end.0)) known (end.2, end.3) in
+      let both = subst (λ (k : Knowledge E F). Finds entries caller fixed k.number k.seen k.mine k.joined k.part end.0 × Each (λ e. caller e ≤ k.given) (entries end.0)) known (end.2, end.3) in
       (end.0, some-injective found (Some end.0) (sym there ∙ end.1), both.0, both.1)
 
   pub closes_as : (entries : T → List E) (caller : E → ℕ) (fixed : T → F) (part : F) (seat : Seat (Option T) (View E F)) (root : Knowledge E F) (words : List ℕ) (slots : List (Option T)) (found : Option T) (value : T)
       → IsAtRest seat → known_of seat ≡ root → root.number ≡ 0 → root.outs ≡ 0 → Final (Seen (IsInTurns entries caller fixed part) seat.id seat.me.0) words slots → get_elem? slots 0 ≡ some found → found ≡ Some value
-      → Finds entries caller fixed root.number root.seen root.mine root.part value × Each (λ e. caller e ≤ root.given) (entries value)
+      → Finds entries caller fixed root.number root.seen root.mine root.joined root.part value × Each (λ e. caller e ≤ root.given) (entries value)
   closes_as entries caller fixed part seat root words slots found value rest known number outs final there is =
       let end = closes_with entries caller fixed part seat root words slots found rest known number outs final there in
-      subst (λ (v : T). Finds entries caller fixed root.number root.seen root.mine root.part v × Each (λ e. caller e ≤ root.given) (entries v)) (ap (value_in end.0) (sym end.1 ∙ is)) (end.2, end.3)
+      subst (λ (v : T). Finds entries caller fixed root.number root.seen root.mine root.joined root.part v × Each (λ e. caller e ≤ root.given) (entries v)) (ap (value_in end.0) (sym end.1 ∙ is)) (end.2, end.3)

@@ -15,8 +15,8 @@ use Rattle.atomic_table.proofs.Lists.{at_set, set_here, set_else, at_snoc, one_t
 use Rattle.flow_turn.specs.declared.view.View.{View}
 use Rattle.flow_turn.specs.declared.view.Stage.{Stage}
 use Rattle.flow_turn.specs.declared.view.Stage.TheVariants.{Idle, Waiting, Serving, Joined}
-use Rattle.flow_turn.specs.Entries.{made_by, Finds}
-use Rattle.flow_turn.specs.Turns.{tickets_at, living_at, tickets_of, living_of, total, Stands, Knows, IsHome, IsOut, IsInTurns, root_view}
+use Rattle.flow_turn.specs.Entries.{made_by, AreMade, Finds}
+use Rattle.flow_turn.specs.Turns.{tickets_at, living_at, tickets_of, living_of, total, Stands, Knows, IsGone, IsHome, IsOut, IsInTurns, root_view}
 use Rattle.flow_turn.specs.Steps.{drew, Takes, looked, list_of, list_in, counted, passed, settled, giving, given_view, taking, joined_view}
 use Rattle.flow_turn.proofs.ListLemmas.{total-set, total-append, total-at, total-two, total-le, Each-append, Each-map, at_below, made_by-own, made_by-none}
 
@@ -71,15 +71,36 @@ module _ {T E F : Type 0} (entries : T → List E) (caller : E → ℕ) (fixed :
   begins-more : (log added front : List E) → Begins log front → Begins (log ++ added) front
   begins-more log added front b = (b.0 ++ added, ap (λ l. l ++ added) b.1 ∙ append_assoc front b.0 added)
 
+  -- a caller of whom nothing was added
+  made_by-more : (log added : List E) (number : ℕ) → made_by caller number added ≡ [] → made_by caller number (log ++ added) ≡ made_by caller number log
+  made_by-more log added number nothing =
+      filter-append (λ e. caller e == number) log added ∙ (ap (λ l. made_by caller number log ++ l) nothing ∙ append-nil (made_by caller number log))
+
+  AreMade-more : (log added : List E) (callers : List (ℕ × List E)) → AreMade caller callers log → Each (λ c. made_by caller c.0 added ≡ []) callers → AreMade caller callers (log ++ added)
+  AreMade-more log added [] made nothing = tt
+  AreMade-more log added (c ∷ cs) made nothing = (made_by-more log added c.0 nothing.0 ∙ made.0, AreMade-more log added cs made.1 nothing.1)
+
+  -- a pass that was joined is not the one that takes a step
+  pub gone_elsewhere : (views : List V) (id : ℕ) (v : V) → get_elem? views id ≡ some v → living_of v ≡ 1 → (number : ℕ) → IsGone views number → number ≢ id
+  gone_elsewhere views id v at live number gone same =
+      let one : gone.0 ≡ v = some-injective gone.0 v (sym gone.1 ∙ (ap (get_elem? views) same ∙ at)) in
+      let none_lives = gone.2 in
+      let lives = ap living_of one in
+      absurd (omega arith)
+
+  pub IsGone-set : (views : List V) (id : ℕ) (v w : V) → get_elem? views id ≡ some v → living_of v ≡ 1 → (number : ℕ) → IsGone views number → IsGone (set views id w) number
+  IsGone-set views id v w at live number gone = (gone.0, set_else views id number w (gone_elsewhere views id v at live number gone) ∙ gone.1, gone.2)
+
   -- a view that did not change, where others went on
   still : (drawn served drawn' served' : ℕ) (log added : List E) (number : ℕ) (u : V) → Known drawn served log number u → made_by caller number added ≡ []
-      → Stands served' drawn' (log ++ added) u.ticket u.seen u.stage → Known drawn' served' (log ++ added) number u
-  still drawn served drawn' served' log added number u k nothing stands = record {
+      → Each (λ c. made_by caller c.0 added ≡ []) u.joined → Stands served' drawn' (log ++ added) u.ticket u.seen u.stage → Known drawn' served' (log ++ added) number u
+  still drawn served drawn' served' log added number u k nothing others stands = record {
     named = k.named;
     fixed = k.fixed;
     seen = begins-more log added u.seen k.seen;
     beside = begins-more log added u.beside k.beside;
-    mine = filter-append (λ e. caller e == number) log added ∙ (ap (λ l. made_by caller number log ++ l) nothing ∙ (append-nil (made_by caller number log) ∙ k.mine));
+    mine = made_by-more log added number nothing ∙ k.mine;
+    joined = AreMade-more log added u.joined k.joined others;
     stands = stands;
   }
 
@@ -92,15 +113,16 @@ module _ {T E F : Type 0} (entries : T → List E) (caller : E → ℕ) (fixed :
   moved_on served drawn served' drawn' log log' ticket seen Joined apart le more stands = tt
 
   -- a step by which the view of one seat goes from v to w
-  changed : (s : St) (r : Rule s) (id : ℕ) (v w : V) (words' : List ℕ) (homes' : Homes) (drawn' served' : ℕ) (log' added : List E) → get_elem? s.views id ≡ some v
+  changed : (s : St) (r : Rule s) (id : ℕ) (v w : V) (words' : List ℕ) (homes' : Homes) (drawn' served' : ℕ) (log' added : List E) → get_elem? s.views id ≡ some v → living_of v ≡ 1
       → words' ≡ drawn' % 2 ^ 64 ∷ served' % 2 ^ 64 ∷ length log' % 2 ^ 64 ∷ [] → log' ≡ r.log ++ added → Place homes' log' (set s.views id w)
-      → served' + r.drawn + tickets_of w ≡ drawn' + r.served + tickets_of v → (living_of w ≡ living_of v) × (w.given ≡ v.given) × (w.outs ≡ v.outs)
+      → served' + r.drawn + tickets_of w ≡ drawn' + r.served + tickets_of v → (living_of w ≡ living_of v) × (w.given ≡ v.given) × (w.outs ≡ v.outs) × (w.joined ≡ v.joined)
       → Each (λ e. caller e < length s.views) added
-      → ((j : ℕ) (u : V) → j ≢ id → get_elem? s.views j ≡ some u → living_of u ≡ 1 → (made_by caller j added ≡ []) × Stands served' drawn' log' u.ticket u.seen u.stage)
+      → ((j : ℕ) → j ≢ id → made_by caller j added ≡ [])
+      → ((j : ℕ) (u : V) → j ≢ id → get_elem? s.views j ≡ some u → living_of u ≡ 1 → Stands served' drawn' log' u.ticket u.seen u.stage)
       → (living_of w ≡ 1 → Known drawn' served' log' id w)
       → ((j : ℕ) (u : V) → j ≢ id → get_elem? s.views j ≡ some u → tickets_of u ≡ 1 → tickets_of w ≡ 1 → u.ticket ≢ w.ticket)
       → Rule record { words = words'; homes = homes'; views = set s.views id w }
-  changed s r id v w words' homes' drawn' served' log' added at words grown place tickets same named others mine apart = record {
+  changed s r id v w words' homes' drawn' served' log' added at live words grown place tickets same named foreign others mine apart = record {
     drawn = drawn';
     served = served';
     log = log';
@@ -127,9 +149,14 @@ module _ {T E F : Type 0} (entries : T → List E) (caller : E → ℕ) (fixed :
     callers = subst (λ (n : ℕ). Each (λ e. caller e < n) log') (sym (length-set s.views id w))
         (subst (Each (λ e. caller e < length s.views)) (sym grown) (Each-append (λ e. caller e < length s.views) r.log added r.callers named));
     knows = each_set (λ j u. living_of u ≡ 1 → Known drawn' served' log' j u) s.views id w mine
-        (λ j u other there live. let o = others j u other there live in
-        subst (λ (l : List E). Known drawn' served' l j u) (sym grown)
-        (still r.drawn r.served drawn' served' r.log added j u (r.knows j u there live) o.0 (subst (λ (l : List E). Stands served' drawn' l u.ticket u.seen u.stage) grown o.1)));
+        (λ j u other there alive. subst (λ (l : List E). Known drawn' served' l j u) (sym grown)
+        (still r.drawn r.served drawn' served' r.log added j u (r.knows j u there alive) (foreign j other)
+        (Each-map (λ c. IsGone s.views c.0) (λ c. made_by caller c.0 added ≡ []) u.joined (λ c gone. foreign c.0 (gone_elsewhere s.views id v at live c.0 gone)) (r.gone j u there))
+        (subst (λ (l : List E). Stands served' drawn' l u.ticket u.seen u.stage) grown (others j u other there alive))));
+    gone = each_set (λ j u. Each (λ c. IsGone (set s.views id w) c.0) u.joined) s.views id w
+        (subst (Each (λ c. IsGone (set s.views id w) c.0)) (sym same.3)
+        (Each-map (λ c. IsGone s.views c.0) (λ c. IsGone (set s.views id w) c.0) v.joined (λ c. IsGone-set s.views id v w at live c.0) (r.gone id v at)))
+        (λ j u other there. Each-map (λ c. IsGone s.views c.0) (λ c. IsGone (set s.views id w) c.0) u.joined (λ c. IsGone-set s.views id v w at live c.0) (r.gone j u there));
     apart = λ i j x y here there one two match. ⊎_elim
         (λ (t : (i ≡ id) × (w ≡ x)). ⊎_elim
         (λ (q : (j ≡ id) × (w ≡ y)). t.0 ∙ sym q.0)
@@ -218,15 +245,16 @@ module _ {T E F : Type 0} (entries : T → List E) (caller : E → ℕ) (fixed :
         w,
         keeps,
         tt,
-        changed s r id v w _ s.homes (r.drawn + 1) r.served r.log [] at
+        changed s r id v w _ s.homes (r.drawn + 1) r.served r.log [] at live
             (ap (λ (ws : List ℕ). set ws 0 ((slice_index ws 0 + 1) % 2 ^ 64)) r.words ∙ ap (λ (n : ℕ). n ∷ r.served % 2 ^ 64 ∷ length r.log % 2 ^ 64 ∷ []) (counts r.drawn 1))
             (sym (append-nil r.log))
             (stays s.homes r.log s.views id v w at (not_serving v.stage (ap serving_at idle)) (not_serving Waiting refl) r.value)
             (omega arith)
-            (sym live, refl, refl)
+            (sym live, refl, refl, refl)
             tt
-            (λ j u other there alive. (refl, drawn_more r.served r.drawn (r.drawn + 1) r.log u.ticket u.seen u.stage (omega arith) (r.knows j u there alive).stands))
-            (λ _. record { named = k.named; fixed = k.fixed; seen = k.seen; beside = k.beside; mine = k.mine; stands = (omega arith, omega arith) })
+            (λ j _. refl)
+            (λ j u other there alive. drawn_more r.served r.drawn (r.drawn + 1) r.log u.ticket u.seen u.stage (omega arith) (r.knows j u there alive).stands)
+            (λ _. record { named = k.named; fixed = k.fixed; seen = k.seen; beside = k.beside; mine = k.mine; joined = k.joined; stands = (omega arith, omega arith) })
             (λ j u other there one _ match. let less = below_drawn s r j u there one in omega arith),
         (r.drawn, refl, found),
       )
@@ -256,13 +284,14 @@ module _ {T E F : Type 0} (entries : T → List E) (caller : E → ℕ) (fixed :
         w,
         takes 0 (Some home.value),
         ap (λ (hs : Homes). get_elem? hs 0) home.slot,
-        changed s r id v w _ _ r.drawn r.served r.log [] at same_words (sym (append-nil r.log))
+        changed s r id v w _ _ r.drawn r.served r.log [] at live same_words (sym (append-nil r.log))
             (inr record { slot = ap (λ (hs : Homes). set hs 0 none) home.slot; seat = id; view = w; there = set_here s.views id w (at_below s.views id v at); served = refl })
             (omega arith)
-            (sym live, refl, refl)
+            (sym live, refl, refl, refl)
             tt
-            (λ j u other there alive. (refl, (r.knows j u there alive).stands))
-            (λ _. record { named = k.named; fixed = k.fixed; seen = whole; beside = k.beside; mine = k.mine; stands = (sym now, home.list) })
+            (λ j _. refl)
+            (λ j u other there alive. (r.knows j u there alive).stands)
+            (λ _. record { named = k.named; fixed = k.fixed; seen = whole; beside = k.beside; mine = k.mine; joined = k.joined; stands = (sym now, home.list) })
             (λ j u other there one _. apart j u other there one),
         (
           (λ _. (
@@ -271,6 +300,7 @@ module _ {T E F : Type 0} (entries : T → List E) (caller : E → ℕ) (fixed :
             record {
               begins = subst (λ (l : List E). Begins l v.seen) (sym home.list) k.seen;
               own = (λ i. made_by caller (k.named i) (home.list i)) ∙ k.mine;
+              others = subst (AreMade caller v.joined) (sym home.list) k.joined;
               stays = k.fixed ∙ ap (λ (f : F). Some f) (sym home.stays);
             },
           )),
@@ -281,12 +311,13 @@ module _ {T E F : Type 0} (entries : T → List E) (caller : E → ℕ) (fixed :
         v,
         keeps,
         tt,
-        changed s r id v v _ s.homes r.drawn r.served r.log [] at same_words (sym (append-nil r.log))
+        changed s r id v v _ s.homes r.drawn r.served r.log [] at live same_words (sym (append-nil r.log))
             (stays s.homes r.log s.views id v v at (not_serving v.stage (ap serving_at waits)) (not_serving v.stage (ap serving_at waits)) r.value)
             (omega arith)
-            (refl, refl, refl)
+            (refl, refl, refl, refl)
             tt
-            (λ j u other there alive. (refl, (r.knows j u there alive).stands))
+            (λ j _. refl)
+            (λ j u other there alive. (r.knows j u there alive).stands)
             (λ _. k)
             (λ j u other there one _. apart j u other there one),
         ((λ hit. absurd (miss hit)), (λ _. refl)),
@@ -316,31 +347,32 @@ module _ {T E F : Type 0} (entries : T → List E) (caller : E → ℕ) (fixed :
       let grown : list ≡ r.log ++ added = list_is ∙ (grows ∙ ap (λ l. l ++ added) turn.1) in
       let new_ones : drop (length v.seen) list ≡ added = ap (drop (length v.seen)) (list_is ∙ grows) ∙ drop-append_seam v.seen added in
       let longer : length r.log + k ≡ length list = (let sum = length-append r.log added in let same = ap length grown in omega arith) in
+      let foreign = (λ (j : ℕ) (other : j ≢ id). made_by-none caller j added (Each-map (λ e. caller e ≡ v.number) (λ e. caller e ≢ j) added (λ e named same. other (sym same ∙ (named ∙ known.named))) own)) in
       let mine : made_by caller id list ≡ w.mine =
       ap (made_by caller id) grown ∙ (filter-append (λ e. caller e == id) r.log added
       ∙ (λ i. (known.mine ∙ refl) i ++ (made_by-own caller id added (subst (λ (n : ℕ). Each (λ e. caller e ≡ n) added) known.named own) ∙ sym new_ones) i)) in (
         w,
         keeps,
         tt,
-        changed s r id v w _ s.homes r.drawn r.served list added at
+        changed s r id v w _ s.homes r.drawn r.served list added at live
             (ap (λ (ws : List ℕ). set ws 2 ((slice_index ws 2 + k) % 2 ^ 64)) r.words
             ∙ ap (λ (n : ℕ). r.drawn % 2 ^ 64 ∷ r.served % 2 ^ 64 ∷ n ∷ []) (counts (length r.log) k ∙ ap (λ (n : ℕ). n % 2 ^ 64) longer))
             grown
             (inr record { slot = out_with s r id v at serves; seat = id; view = w; there = set_here s.views id w (at_below s.views id v at); served = serves })
             (omega arith)
-            (refl, refl, refl)
+            (refl, refl, refl, refl)
             (Each-map (λ e. caller e ≡ v.number) (λ e. caller e < length s.views) added
             (λ e named. let id_is = known.named in let inside = at_below s.views id v at in omega arith) own)
-            (λ j u other there alive. (
-              made_by-none caller j added (Each-map (λ e. caller e ≡ v.number) (λ e. caller e ≢ j) added (λ e named same. other (sym same ∙ (named ∙ known.named))) own),
-              others_wait s r id v at serves turn.0 r.served r.drawn list (omega arith) (omega arith) j u other there alive,
-            ))
+            foreign
+            (λ j u other there alive. others_wait s r id v at serves turn.0 r.served r.drawn list (omega arith) (omega arith) j u other there alive)
             (λ _. record {
               named = known.named;
               fixed = known.fixed;
               seen = ([], sym (append-nil list));
               beside = subst (λ l. Begins l v.beside) (sym grown) (begins-more r.log added v.beside known.beside);
               mine = mine;
+              joined = subst (AreMade caller v.joined) (sym grown) (AreMade-more r.log added v.joined known.joined (Each-map (λ c. IsGone s.views c.0) (λ c. made_by caller c.0 added ≡ []) v.joined
+                  (λ c gone. foreign c.0 (gone_elsewhere s.views id v at live c.0 gone)) (r.gone id v at)));
               stands = subst (Stands r.served r.drawn list v.ticket list) (sym serves) (turn.0, refl);
             })
             (λ j u other there one has. others_apart s r id v at has j u other there one),
@@ -360,7 +392,7 @@ module _ {T E F : Type 0} (entries : T → List E) (caller : E → ℕ) (fixed :
         w,
         gives,
         tt,
-        changed s r id v w _ _ r.drawn (r.served + 1) r.log [] at
+        changed s r id v w _ _ r.drawn (r.served + 1) r.log [] at live
             (ap (λ (ws : List ℕ). set ws 1 ((slice_index ws 1 + 1) % 2 ^ 64)) r.words ∙ ap (λ (n : ℕ). r.drawn % 2 ^ 64 ∷ n ∷ length r.log % 2 ^ 64 ∷ []) (counts r.served 1))
             (sym (append-nil r.log))
             (inl record {
@@ -374,10 +406,11 @@ module _ {T E F : Type 0} (entries : T → List E) (caller : E → ℕ) (fixed :
                   others_apart s r id v at has j u other there (ap tickets_at serves_too) (other_turn.0 ∙ sym turn.0));
             })
             (omega arith)
-            (sym live, refl, refl)
+            (sym live, refl, refl, refl)
             tt
-            (λ j u other there alive. (refl, others_wait s r id v at serves turn.0 (r.served + 1) r.drawn r.log (omega arith) (omega arith) j u other there alive))
-            (λ _. record { named = k.named; fixed = k.fixed; seen = k.seen; beside = k.beside; mine = k.mine; stands = tt })
+            (λ j _. refl)
+            (λ j u other there alive. others_wait s r id v at serves turn.0 (r.served + 1) r.drawn r.log (omega arith) (omega arith) j u other there alive)
+            (λ _. record { named = k.named; fixed = k.fixed; seen = k.seen; beside = k.beside; mine = k.mine; joined = k.joined; stands = tt })
             (λ j u other there one none_left. absurd (omega arith)),
         (λ i. (w, rest (slot i))),
       )
@@ -392,20 +425,22 @@ module _ {T E F : Type 0} (entries : T → List E) (caller : E → ℕ) (fixed :
         w,
         keeps,
         tt,
-        changed s r id v w _ s.homes r.drawn r.served r.log [] at
+        changed s r id v w _ s.homes r.drawn r.served r.log [] at live
             (ap (λ (ws : List ℕ). set ws 0 (slice_index ws 0)) r.words)
             (sym (append-nil r.log))
             (stays s.homes r.log s.views id v w at unserved unserved r.value)
             (omega arith)
-            (refl, refl, refl)
+            (refl, refl, refl, refl)
             tt
-            (λ j u other there alive. (refl, (r.knows j u there alive).stands))
+            (λ j _. refl)
+            (λ j u other there alive. (r.knows j u there alive).stands)
             (λ _. record {
               named = k.named;
               fixed = k.fixed;
               seen = ([], sym (append-nil r.log));
               beside = (r.log, refl);
               mine = k.mine;
+              joined = k.joined;
               stands = subst (Stands r.served r.drawn r.log v.ticket r.log) (sym idle) tt;
             })
             (λ j u other there one has. others_apart s r id v at has j u other there one),

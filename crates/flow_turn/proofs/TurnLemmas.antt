@@ -29,7 +29,7 @@ module _ {T : Type 0} where
 
 module _ {E F : Type 0} where
   abbrev pub known_by : TableId → View E F → Knowledge E F
-  known_by table v = record { lock = table; number = v.number; given = v.given; outs = v.outs; seen = v.seen; mine = v.mine; part = v.part }
+  known_by table v = record { lock = table; number = v.number; given = v.given; outs = v.outs; seen = v.seen; mine = v.mine; joined = v.joined; part = v.part }
 
 module _ {T E F : Type 0} (entries : T → List E) where
   -- the value was taken, and another put in its place

@@ -1,5 +1,5 @@
 -- What contracts see of a pass, and what a turn does to it.
-use Rattle.std.specs.Prelude.{◌≡◌, ℕ, ◌+◌, ◌≤◌, List, [], ◌++◌, ◌∷◌, Option, Some}
+use Rattle.std.specs.Prelude.{◌≡◌, ℕ, ◌+◌, ◌-◌, ◌≤◌, List, [], ◌++◌, ◌∷◌, Option, Some}
 use Rattle.flow_model.specs.Lists.{Each}
 use Rattle.atomic_table.specs.Seated.{TableId}
 use Rattle.atomic_table.specs.declared.shared.Seat.{Seat}
@@ -19,12 +19,14 @@ pub record Knowledge (E F : Type 0) : Type 0 where
   pub seen : List E
   -- what the caller's own turns added
   pub mine : List E
+  -- the passes that were joined into it, each with its own entries
+  pub joined : List (ℕ × List E)
   -- the part of the value that stays
   pub part : Option F
 
 abbrev pub known_of : {T E F : Type 0} → Seat (Option T) (View E F) → Knowledge E F
 known_of {T} {E} {F} seat = let v : View E F = seat.me.0 in
-    record { lock = seat.table_id; number = v.number; given = v.given; outs = v.outs; seen = v.seen; mine = v.mine; part = v.part }
+    record { lock = seat.table_id; number = v.number; given = v.given; outs = v.outs; seen = v.seen; mine = v.mine; joined = v.joined; part = v.part }
 
 -- the counters of a pass
 abbrev pub Counts : {E F : Type 0} → ℕ → ℕ → ℕ → Knowledge E F → Type 0
@@ -39,11 +41,15 @@ IsOfTable table seat = (seat.table_id ≡ table) × (table.words ≡ 3) × (tabl
 
 -- the root pass of a new lock over a value with this fixed part
 abbrev pub root_pass : {E F : Type 0} → TableId → F → Knowledge E F
-root_pass lock part = record { lock = lock; number = 0; given = 0; outs = 0; seen = []; mine = []; part = Some part }
+root_pass lock part = record { lock = lock; number = 0; given = 0; outs = 0; seen = []; mine = []; joined = []; part = Some part }
 
 -- what the next pass that is split from the root knows
 abbrev pub split_pass : {E F : Type 0} → Knowledge E F → Knowledge E F
-split_pass root = record { lock = root.lock; number = root.given + 1; given = 0; outs = 0; seen = root.seen; mine = []; part = root.part }
+split_pass root = record { lock = root.lock; number = root.given + 1; given = 0; outs = 0; seen = root.seen; mine = []; joined = []; part = root.part }
+
+-- what the root knows after the pass was joined into it, where it has then seen this much
+abbrev pub joined_root : {E F : Type 0} → Knowledge E F → Knowledge E F → List E → Knowledge E F
+joined_root root pass seen = record root { outs = root.outs - 1; seen = seen; joined = root.joined ++ (pass.number, pass.mine) ∷ [] }
 
 -- the seat is at no turn, and holds no slot
 abbrev pub IsAtRest : {T E F : Type 0} → Seat (Option T) (View E F) → Type 0
@@ -68,5 +74,5 @@ pub record Works {T E F A : Type 0} (entries : T → List E) (caller : E → ℕ
 -- What one turn does: the caller finds a value, and its job is done with that value
 pub record Turned {T E F A : Type 0} (entries : T → List E) (caller : E → ℕ) (fixed : T → F) (does : T → ℕ → A → T → Type 0) (old : Knowledge E F) (answer : A) (new : Knowledge E F) : Type 0 where
   pub value : T
-  pub finds : Finds entries caller fixed old.number old.seen old.mine old.part value
+  pub finds : Finds entries caller fixed old.number old.seen old.mine old.joined old.part value
   pub works : Works entries caller fixed does value old answer new

@@ -26,7 +26,7 @@ module _ {T E F : Type 0} where
   -- the value is out with the caller, who has seen its whole list
   abbrev pub Takes : (T → List E) → (E → ℕ) → (T → F) → Sat T E F → Sat T E F → Type 0
   Takes entries caller fixed m n =
-      (value : T) × (n ≡ (record m.0 { stage = Serving; seen = entries value }, (0, Some value) ∷ m.1)) × Finds entries caller fixed m.0.number m.0.seen m.0.mine m.0.part value
+      (value : T) × (n ≡ (record m.0 { stage = Serving; seen = entries value }, (0, Some value) ∷ m.1)) × Finds entries caller fixed m.0.number m.0.seen m.0.mine m.0.joined m.0.part value
 
   abbrev pub looked : (T → List E) → (E → ℕ) → (T → F) → Sat T E F → ℕ → Sat T E F → Type 0
   looked entries caller fixed m found n =
@@ -49,11 +49,11 @@ module _ {E F : Type 0} where
   giving v = record v { given = v.given + 1; outs = v.outs + 1 }
 
   abbrev pub given_view : View E F → View E F
-  given_view v = record { number = v.given + 1; given = 0; outs = 0; stage = Idle; ticket = 0; seen = v.seen; beside = []; mine = []; part = v.part }
+  given_view v = record { number = v.given + 1; given = 0; outs = 0; stage = Idle; ticket = 0; seen = v.seen; beside = []; mine = []; joined = []; part = v.part }
 
   -- the root, after a join, and what is left of the view that was joined
   abbrev pub taking : View E F → View E F → View E F
-  taking v w = record v { outs = v.outs - 1; beside = w.seen }
+  taking v w = record v { outs = v.outs - 1; beside = w.seen; joined = v.joined ++ (w.number, w.mine) ∷ [] }
 
   abbrev pub joined_view : View E F
-  joined_view = record { number = 0; given = 0; outs = 0; stage = Joined; ticket = 0; seen = []; beside = []; mine = []; part = None }
+  joined_view = record { number = 0; given = 0; outs = 0; stage = Joined; ticket = 0; seen = []; beside = []; mine = []; joined = []; part = None }

@@ -9,7 +9,7 @@ use Rattle.atomic_table.specs.Table.{State}
 use Rattle.flow_turn.specs.declared.view.View.{View}
 use Rattle.flow_turn.specs.declared.view.Stage.{Stage}
 use Rattle.flow_turn.specs.declared.view.Stage.TheVariants.{Idle, Waiting, Serving, Joined}
-use Rattle.flow_turn.specs.Entries.{made_by}
+use Rattle.flow_turn.specs.Entries.{made_by, AreMade}
 
 -- how many tickets a caller has
 abbrev pub tickets_at : Stage → ℕ
@@ -50,7 +50,12 @@ pub record Knows {E F : Type 0} (caller : E → ℕ) (part : F) (drawn served : 
   pub seen : Begins log v.seen
   pub beside : Begins log v.beside
   pub mine : made_by caller number log ≡ v.mine
+  pub joined : AreMade caller v.joined log
   pub stands : Stands served drawn log v.ticket v.seen v.stage
+
+-- the pass with this number was joined
+abbrev pub IsGone : {E F : Type 0} → List (View E F) → ℕ → Type 0
+IsGone {E} {F} views number = (u : View E F) × (get_elem? views number ≡ some u) × (living_of u ≡ 0)
 
 -- the value is at home, with these entries, and nobody is served
 pub record IsHome {T E F : Type 0} (entries : T → List E) (fixed : T → F) (part : F) (homes : List (maybe.Option (Option T))) (log : List E) (views : List (View E F)) : Type 0 where
@@ -81,8 +86,9 @@ pub record IsInTurns {T E F : Type 0} (entries : T → List E) (caller : E → �
   pub few : length s.views ≤ 2 ^ 32
   pub callers : Each (λ e. caller e < length s.views) log
   pub knows : (j : ℕ) (v : View E F) → get_elem? s.views j ≡ some v → living_of v ≡ 1 → Knows caller part drawn served log j v
+  pub gone : (j : ℕ) (v : View E F) → get_elem? s.views j ≡ some v → Each (λ c. IsGone s.views c.0) v.joined
   pub apart : (i j : ℕ) (v w : View E F) → get_elem? s.views i ≡ some v → get_elem? s.views j ≡ some w → tickets_of v ≡ 1 → tickets_of w ≡ 1 → v.ticket ≡ w.ticket → i ≡ j
 
 -- the view of the first pass
 abbrev pub root_view : {E F : Type 0} → F → View E F
-root_view part = record { number = 0; given = 0; outs = 0; stage = Idle; ticket = 0; seen = []; beside = []; mine = []; part = Some part }
+root_view part = record { number = 0; given = 0; outs = 0; stage = Idle; ticket = 0; seen = []; beside = []; mine = []; joined = []; part = Some part }

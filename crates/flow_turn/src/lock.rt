@@ -48,7 +48,7 @@ impl<T: Kept> TurnLock<T> {
     ghost use Rattle.std.specs.Prelude.{◌≡◌, ◌+◌, ◌-◌, ◌<◌, ◌≤◌, [], Some, IfOk, IfErr};
     ghost use Rattle.flow_model.specs.Lists.{Begins, Each};
     ghost use Rattle.flow_turn.specs.Entries.{Finds};
-    ghost use Rattle.flow_turn.specs.Passes.{Knowledge, Turned, root_pass, split_pass};
+    ghost use Rattle.flow_turn.specs.Passes.{Knowledge, Turned, root_pass, split_pass, joined_root};
 
     /// A lock over the value, and its root pass. An error stands for want of memory alone.
     pub fn new(alloc: Global, value: T) -> Result<(TurnLock<T>, Pass<T>), NewRefusal<T>>
@@ -113,7 +113,7 @@ impl<T: Kept> TurnLock<T> {
         requires root { root.old.number ≡ 0 }
         ensures root { Begins root.new.seen root.old.seen }
         ensures pass { Begins root.new.seen pass.seen }
-        ensures rest { root.new ≡ record root.old { outs = root.old.outs - 1; seen = root.new.seen } }
+        ensures rest { root.new ≡ joined_root root.old pass root.new.seen }
     {
         let shared = &self.table.shared;
         shared.join_seat::<Mend>(&mut root.seat, pass.into_seat());
@@ -144,7 +144,7 @@ impl<T: Kept> TurnLock<T> {
     pub fn close(self, root: Pass<T>) -> T
         requires lock { root.lock ≡ self }
         requires root { (root.number ≡ 0) × (root.outs ≡ 0) }
-        ensures found { Finds T.entries T.caller T.fixed root.number root.seen root.mine root.part result }
+        ensures found { Finds T.entries T.caller T.fixed root.number root.seen root.mine root.joined root.part result }
         ensures callers { Each (λ entry. T.caller entry ≤ root.given) (T.entries result) }
     {
         let TurnLock { table } = self;

@@ -27,6 +27,8 @@ pub struct View<E, F> {
     /// What the pass that was joined last had seen.
     pub beside: LinkedList<E>,
     pub mine: LinkedList<E>,
+    /// Which passes were joined into this one, and the entries of each.
+    pub joined: LinkedList<(u64, LinkedList<E>)>,
     /// The part of the value that stays, for as long as the pass is not joined.
     pub part: Option<F>,
 }
