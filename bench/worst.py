@@ -5,15 +5,9 @@ It needs GNU time (/usr/bin/time). Usage: bench/worst.py [PROGRAM] [WORD ..]   t
 The program is crates/flow/out/flow where none is named (`rt run` of the README makes it). Each text is checked five times,
 and the least time counts; the ratios are to the generated text of seed 3 and size 128 in the same run.
 """
-import os
-import pathlib
-import subprocess
-import sys
-import time
-
 from generated import text as generated
+from measuring import arguments, measured
 
-TOP = pathlib.Path(__file__).resolve().parent.parent
 GREATEST_INPUT = 1_048_576
 TEXTS = {}
 
@@ -508,32 +502,14 @@ def dropped_in_the_innermost_isolation():
             f" goal {choices(12)} | {name}; constraint order b a;")
 
 
-def measured(program, words, source):
-    """The least seconds of five calls, the most memory in MB (as GNU time counts it), and the last line of what was written."""
-    best, peak, last = None, 0, ""
-    for _ in range(5):
-        begun = time.perf_counter()
-        call = subprocess.run(["/usr/bin/time", "-f", "%M", program, *words], input=source, capture_output=True, check=False)
-        spent = time.perf_counter() - begun
-        best = spent if best is None else min(best, spent)
-        peak = max(peak, int(call.stderr.split()[-1]) / 1024)
-        last = call.stdout.decode().rstrip("\n").split("\n")[-1] or f"status {call.returncode}"
-        if spent > 5:
-            break
-    return best, peak, last
-
-
 def main():
-    arguments = sys.argv[1:]
-    program = str(TOP / "crates/flow/out/flow")
-    if arguments and os.path.exists(arguments[0]):
-        program = arguments.pop(0)
+    program, wanted = arguments()
     base, base_peak, _ = measured(program, ["check"], generated(3, 128).encode())
     print(f"the greatest generated text: {base * 1000:.0f} ms, {base_peak:.0f} MB")
     print(f"{'text':<58}{'bytes':>9}{'ms':>8}{'times':>7}{'MB':>6}  ends with")
     worst, most = 0, 0
     for name, make in TEXTS.items():
-        if arguments and not any(word in name for word in arguments):
+        if wanted and not any(word in name for word in wanted):
             continue
         source = make().encode()
         assert len(source) <= GREATEST_INPUT, name
@@ -543,4 +519,5 @@ def main():
     print(f"at most {worst:.1f} times the generated text, and {most:.0f} MB")
 
 
-main()
+if __name__ == "__main__":
+    main()
