@@ -1,18 +1,16 @@
 -- How a lock is opened and closed, and how a pass is split from the root and joined into it.
-use Rattle.std.proofs.Common.{◌≡◌, ◌≢◌, ◌⊎◌, ℕ, ◌+◌, ◌-◌, ◌%◌, ◌^◌, ◌<◌, ◌≤◌, List, [], ◌∷◌, ◌++◌, length, set, sym, refl, ap, ◌∙◌, subst, ⊎_elim, inl, inr, arith, Option, Some, None, length-set, length-append}
-use Rattle.std.proofs.lemmas.List.{append-nil}
+use Rattle.std.proofs.Common.{◌≡◌, ◌≢◌, ◌⊎◌, ℕ, ◌+◌, ◌^◌, ◌<◌, ◌≤◌, List, [], ◌∷◌, ◌++◌, length, set, sym, refl, ap, ◌∙◌, subst, ⊎_elim, inl, inr, arith, Option, Some, length-set, length-append}
 use mathlib.Core.Option.{none, some, some-injective}
 use mathlib.Core.Option as maybe
 use lib.ListN.{get_elem?}
 use Rattle.flow_model.specs.Lists.{Begins, Each}
-use Rattle.atomic_table.specs.Table.{State, Me, opening, Final, Seen, Splits, Joins}
+use Rattle.atomic_table.specs.Table.{State, opening, Final, Seen, Splits, Joins}
 use Rattle.atomic_table.proofs.Lists.{at_set, set_here, set_else, at_longer}
 use Rattle.atomic_table.specs.declared.shared.Seat.{Seat}
 use Rattle.flow_turn.specs.declared.view.View.{View}
-use Rattle.flow_turn.specs.declared.view.Stage.{Stage}
-use Rattle.flow_turn.specs.declared.view.Stage.TheVariants.{Idle, Waiting, Serving, Joined}
+use Rattle.flow_turn.specs.declared.view.Stage.TheVariants.{Idle, Serving, Joined}
 use Rattle.flow_turn.specs.Entries.{made_by, AreMade, Finds}
-use Rattle.flow_turn.specs.Turns.{tickets_at, living_at, tickets_of, living_of, total, Stands, Knows, IsGone, IsHome, IsOut, IsInTurns, root_view}
+use Rattle.flow_turn.specs.Turns.{tickets_at, living_at, tickets_of, living_of, Knows, IsGone, IsHome, IsOut, IsInTurns, root_view}
 use Rattle.flow_turn.specs.Steps.{giving, given_view, taking, joined_view}
 use Rattle.flow_turn.specs.Passes.{Knowledge, IsAtRest, known_of, split_pass}
 use Rattle.flow_turn.proofs.TurnLemmas.{value_in, known_by}
@@ -172,8 +170,8 @@ module _ {T E F : Type 0} (entries : T → List E) (caller : E → ℕ) (fixed :
       let idles_too : tickets_of w ≡ 0 = ap tickets_at idle_too in
       let after : List V = set first_set other gone in
       let still_gone = (λ (number : ℕ) (g : IsGone s.views number).
-          let h = IsGone-set entries caller fixed part s.views id v x at lives number g in
-          let g' : IsGone after number = (h.0, set_else first_set other number gone (gone_elsewhere entries caller fixed part s.views other w there_before lives_too number g) ∙ h.1, h.2) in g') in
+      let h = IsGone-set entries caller fixed part s.views id v x at lives number g in
+      let g' : IsGone after number = (h.0, set_else first_set other number gone (gone_elsewhere entries caller fixed part s.views other w there_before lives_too number g) ∙ h.1, h.2) in g') in
       let joined : AreMade caller x.joined r.log = Each-append (λ c. made_by caller c.0 r.log ≡ c.1) v.joined ((w.number, w.mine) ∷ []) k.joined (ap (λ (n : ℕ). made_by caller n r.log) known.named ∙ known.mine, tt) in
       let two = total-two living_of s.views id other v w (λ e. apart (sym e)) at there_before in
       let living = total-set living_of s.views id v x at in

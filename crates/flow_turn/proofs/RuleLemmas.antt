@@ -1,5 +1,5 @@
 -- Each step of a lock keeps its rule.
-use Rattle.std.proofs.Common.{◌≡◌, ◌≢◌, ◌⊎◌, ℕ, ◌+◌, ◌-◌, ◌%◌, ◌^◌, ◌<◌, ◌≤◌, ◌==◌, List, [], ◌∷◌, ◌++◌, length, drop, slice_index, set, sym, refl, ap, ◌∙◌, subst, ⊎_elim, inl, inr, arith, Option, Some, None, append_assoc, length-set, length-append}
+use Rattle.std.proofs.Common.{◌≡◌, ◌≢◌, ◌⊎◌, ℕ, ◌+◌, ◌%◌, ◌^◌, ◌<◌, ◌≤◌, ◌==◌, List, [], ◌∷◌, ◌++◌, length, drop, slice_index, set, sym, refl, ap, ◌∙◌, subst, ⊎_elim, inl, inr, arith, Option, Some, None, append_assoc, length-set, length-append}
 use Rattle.std.proofs.Math.Nat.{mod-add-mod}
 use Rattle.std.proofs.Math.Seq.{drop-append_seam}
 use Rattle.std.proofs.lemmas.List.{append-nil}
@@ -11,14 +11,14 @@ use native.Mathlib.Decide.{ℕ_discrete}
 use lib.ListN.{get_elem?}
 use Rattle.flow_model.specs.Lists.{Begins, Each}
 use Rattle.atomic_table.specs.Table.{State, Me, keeps, takes, gives, put_back, rest, Allows}
-use Rattle.atomic_table.proofs.Lists.{at_set, set_here, set_else, at_snoc, one_turn}
+use Rattle.atomic_table.proofs.Lists.{at_set, set_here, set_else, one_turn}
 use Rattle.flow_turn.specs.declared.view.View.{View}
 use Rattle.flow_turn.specs.declared.view.Stage.{Stage}
 use Rattle.flow_turn.specs.declared.view.Stage.TheVariants.{Idle, Waiting, Serving, Joined}
-use Rattle.flow_turn.specs.Entries.{made_by, AreMade, Finds}
-use Rattle.flow_turn.specs.Turns.{tickets_at, living_at, tickets_of, living_of, total, Stands, Knows, IsGone, IsHome, IsOut, IsInTurns, root_view}
-use Rattle.flow_turn.specs.Steps.{drew, Takes, looked, list_of, list_in, counted, passed, settled, giving, given_view, taking, joined_view}
-use Rattle.flow_turn.proofs.ListLemmas.{total-set, total-append, total-at, total-two, total-le, Each-append, Each-map, at_below, made_by-own, made_by-none}
+use Rattle.flow_turn.specs.Entries.{made_by, AreMade}
+use Rattle.flow_turn.specs.Turns.{tickets_at, living_at, tickets_of, living_of, Stands, Knows, IsGone, IsHome, IsOut, IsInTurns}
+use Rattle.flow_turn.specs.Steps.{drew, looked, list_in, counted, passed, settled}
+use Rattle.flow_turn.proofs.ListLemmas.{total-set, total-at, total-le, Each-append, Each-map, at_below, made_by-own, made_by-none}
 
 -- 1 where it is the caller's turn
 abbrev pub serving_at : Stage → ℕ

@@ -1,6 +1,5 @@
-use Rattle.std.proofs.Common.{rules, ◌≡◌, [], ◌∷◌, sym, ap, ◌∙◌, subst, Some}
+use Rattle.std.proofs.Common.{rules, ◌≡◌, [], ◌∷◌, sym, ap, ◌∙◌, Some}
 use Rattle.atomic_table.specs.Table.{rest}
-use Rattle.flow_turn.specs.Entries.{Grows}
 use Rattle.flow_turn.proofs.TurnLemmas.{same_value, put_back_in, counts_work, works}
 use Rattle.flow_turn.proofs.turn.work.Goals as goal
 
