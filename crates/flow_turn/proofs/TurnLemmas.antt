@@ -9,7 +9,7 @@ use Rattle.flow_turn.specs.declared.view.View.{View}
 use Rattle.flow_turn.specs.declared.view.Stage.TheVariants.{Serving}
 use Rattle.flow_turn.specs.Entries.{Grows}
 use Rattle.flow_turn.specs.Turns.{IsInTurns}
-use Rattle.flow_turn.specs.Steps.{Sat, list_in, counted}
+use Rattle.flow_turn.specs.Steps.{Seated, list_in, counted}
 use Rattle.flow_turn.specs.Passes.{Knowledge, known_of, Works}
 use Rattle.flow_turn.proofs.RuleLemmas.{count_step}
 
@@ -33,17 +33,17 @@ module _ {E F : Type 0} where
 
 module _ {T E F : Type 0} (entries : T → List E) where
   -- the value was taken, and another put in its place
-  pub put_back_in : (me taken put : Sat T E F) (value after : T) → me.1 ≡ (0, Some value) ∷ [] → taken ≡ (me.0, (0, None) ∷ rest me.1) → put ≡ (taken.0, (0, Some after) ∷ rest taken.1) → put ≡ (me.0, (0, Some after) ∷ [])
+  pub put_back_in : (me taken put : Seated T E F) (value after : T) → me.1 ≡ (0, Some value) ∷ [] → taken ≡ (me.0, (0, None) ∷ rest me.1) → put ≡ (taken.0, (0, Some after) ∷ rest taken.1) → put ≡ (me.0, (0, Some after) ∷ [])
   put_back_in me taken put value after held took putting =
-      putting ∙ ((λ i. let m : Sat T E F = took i in (m.0, (0, Some after) ∷ rest m.1)) ∙ (λ i. (me.0, (0, Some after) ∷ rest (held i))))
+      putting ∙ ((λ i. let m : Seated T E F = took i in (m.0, (0, Some after) ∷ rest m.1)) ∙ (λ i. (me.0, (0, Some after) ∷ rest (held i))))
 
-  pub counts_work : (caller : E → ℕ) (fixed : T → F) (part : F) (slots id : ℕ) (me put : Sat T E F) (value after : T) (by before now : ℕ) → me.0.stage ≡ Serving → me.0.seen ≡ entries value → me.0.number ≡ by
+  pub counts_work : (caller : E → ℕ) (fixed : T → F) (part : F) (slots id : ℕ) (me put : Seated T E F) (value after : T) (by before now : ℕ) → me.0.stage ≡ Serving → me.0.seen ≡ entries value → me.0.number ≡ by
       → put ≡ (me.0, (0, Some after) ∷ []) → (grown : Grows caller by (entries value) (entries after)) → before ≡ length (entries value) → now ≡ length (entries after)
       → Allows (IsInTurns entries caller fixed part) slots id put 2 (λ n. (n + (now - before)) % 2 ^ 64) (λ _ n. counted entries put n)
   counts_work caller fixed part slots id me put value after by before now serves seen number in_hand grown counted_before counted_now =
       let added = grown.0 in
       let longer : now ≡ before + length added = counted_now ∙ (ap length grown.1 ∙ (length-append (entries value) added ∙ ap (λ (n : ℕ). n + length added) (sym counted_before))) in
-      subst (λ (m : Sat T E F). Allows (IsInTurns entries caller fixed part) slots id m 2 (λ n. (n + (now - before)) % 2 ^ 64) (λ _ n. counted entries m n)) (sym in_hand)
+      subst (λ (m : Seated T E F). Allows (IsInTurns entries caller fixed part) slots id m 2 (λ n. (n + (now - before)) % 2 ^ 64) (λ _ n. counted entries m n)) (sym in_hand)
       (count_step entries caller fixed part slots id (me.0, (0, Some after) ∷ []) after added (now - before) serves refl (grown.1 ∙ ap (λ l. l ++ added) (sym seen))
       (subst (λ (n : ℕ). Each (λ e. caller e ≡ n) added) (sym number) grown.2) (omega arith))
 
@@ -54,7 +54,7 @@ module _ {T E F : Type 0} (entries : T → List E) where
       let v : View E F = old.me.0 in
       let new_ones : drop (length v.seen) (entries after) ≡ added = ap (drop (length v.seen)) grows ∙ drop-append_seam v.seen added in
       (λ i. known_by ((again ∙ same) i) (count i).0)
-      ∙ ((λ i. let m : Sat T E F = in_hand i in let u : View E F = m.0 in known_by old.table_id (record u { seen = list_in entries m.1; mine = u.mine ++ drop (length u.seen) (list_in entries m.1) }))
+      ∙ ((λ i. let m : Seated T E F = in_hand i in let u : View E F = m.0 in known_by old.table_id (record u { seen = list_in entries m.1; mine = u.mine ++ drop (length u.seen) (list_in entries m.1) }))
       ∙ (λ i. known_by old.table_id (record v { seen = entries after; mine = v.mine ++ new_ones i })))
 
   pub works : {A : Type 0} (caller : E → ℕ) (fixed : T → F) (does : T → ℕ → A → T → Type 0) (old last new : Seat (Option T) (View E F)) (value after : T) (by : ℕ) (answer : A)

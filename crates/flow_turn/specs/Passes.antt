@@ -24,14 +24,16 @@ pub record Knowledge (E F : Type 0) : Type 0 where
   -- the part of the value that stays
   pub part : Option F
 
+-- what the caller in this seat knows
 abbrev pub known_of : {T E F : Type 0} → Seat (Option T) (View E F) → Knowledge E F
 known_of {T} {E} {F} seat = let v : View E F = seat.me.0 in
     record { lock = seat.table_id; number = v.number; given = v.given; outs = v.outs; seen = v.seen; mine = v.mine; joined = v.joined; part = v.part }
 
--- the counters of a pass
+-- these are the pass's numbers
 abbrev pub Counts : {E F : Type 0} → ℕ → ℕ → ℕ → Knowledge E F → Type 0
 Counts number given outs known = (number ≡ known.number) × (given ≡ known.given) × (outs ≡ known.outs) × (outs ≤ given)
 
+-- the seat is the same, whatever it knows and holds
 abbrev pub IsSameSeat : {T E F : Type 0} → Seat (Option T) (View E F) → Seat (Option T) (View E F) → Type 0
 IsSameSeat old new = (new.table_id ≡ old.table_id) × (new.id ≡ old.id)
 
@@ -60,8 +62,8 @@ abbrev pub HasTurn : {T E F : Type 0} → (T → List E) → (T → F) → Seat 
 HasTurn {T} {E} {F} entries fixed seat = let v : View E F = seat.me.0 in
     (v.stage ≡ Serving) × ((value : T) × (seat.me.1 ≡ (0, Some value) ∷ []) × (v.seen ≡ entries value) × (v.part ≡ Some (fixed value)))
 
--- What a job does with the value that a caller found: it adds entries in the caller's name, and the caller has then
--- seen the whole list
+-- What a job does with the value that a caller found: it adds entries in the caller's name. The caller has then seen the
+-- whole list, and has these as its own
 pub record Works {T E F A : Type 0} (entries : T → List E) (caller : E → ℕ) (fixed : T → F) (does : T → ℕ → A → T → Type 0) (before : T) (old : Knowledge E F) (answer : A) (new : Knowledge E F) : Type 0 where
   pub after : T
   pub added : List E

@@ -6,41 +6,45 @@ use Rattle.flow_turn.specs.declared.view.View.{View}
 use Rattle.flow_turn.specs.declared.view.Stage.TheVariants.{Idle, Waiting, Serving, Joined}
 use Rattle.flow_turn.specs.Entries.{Finds}
 
-abbrev pub Sat : Type 0 → Type 0 → Type 0 → Type 0
-Sat T E F = Me (Option T) (View E F)
+-- what a seat knows, and the slots that it has taken
+abbrev pub Seated : Type 0 → Type 0 → Type 0 → Type 0
+Seated T E F = Me (Option T) (View E F)
 
--- the list of the value that a caller has
+-- the list of the value in a slot
 abbrev pub list_of : {T E : Type 0} → (T → List E) → Option T → List E
 list_of entries None = []
 list_of entries (Some value) = entries value
 
+-- the list of the value in the slot taken last
 abbrev pub list_in : {T E : Type 0} → (T → List E) → List (ℕ × Option T) → List E
 list_in entries [] = []
 list_in entries (x ∷ xs) = list_of entries x.1
 
 module _ {T E F : Type 0} where
-  -- the word found is the ticket's, modulo 2^64
-  abbrev pub drew : Sat T E F → ℕ → Sat T E F → Type 0
+  -- a ticket is drawn, and the word was its remainder modulo 2^64
+  abbrev pub drew : Seated T E F → ℕ → Seated T E F → Type 0
   drew m found n = (ticket : ℕ) × (n ≡ (record m.0 { stage = Waiting; ticket = ticket }, m.1)) × (found ≡ ticket % 2 ^ 64)
 
-  -- the value is out with the caller, who has seen its whole list
-  abbrev pub Takes : (T → List E) → (E → ℕ) → (T → F) → Sat T E F → Sat T E F → Type 0
+  -- The value is out with the caller, who found it and has seen its whole list
+  abbrev pub Takes : (T → List E) → (E → ℕ) → (T → F) → Seated T E F → Seated T E F → Type 0
   Takes entries caller fixed m n =
       (value : T) × (n ≡ (record m.0 { stage = Serving; seen = entries value }, (0, Some value) ∷ m.1)) × Finds entries caller fixed m.0.number m.0.seen m.0.mine m.0.joined m.0.part value
 
-  abbrev pub looked : (T → List E) → (E → ℕ) → (T → F) → Sat T E F → ℕ → Sat T E F → Type 0
+  -- where the word is the ticket's, the value is taken; else nothing changes
+  abbrev pub looked : (T → List E) → (E → ℕ) → (T → F) → Seated T E F → ℕ → Seated T E F → Type 0
   looked entries caller fixed m found n =
       (found ≡ m.0.ticket % 2 ^ 64 → Takes entries caller fixed m n) × (found ≢ m.0.ticket % 2 ^ 64 → n ≡ m)
 
-  -- what was added is the caller's
-  abbrev pub counted : (T → List E) → Sat T E F → Sat T E F → Type 0
+  -- the caller has seen the whole list of the value in hand, and what is new in it is its own
+  abbrev pub counted : (T → List E) → Seated T E F → Seated T E F → Type 0
   counted entries m n = n ≡ (record m.0 { seen = list_in entries m.1; mine = m.0.mine ++ drop (length m.0.seen) (list_in entries m.1) }, m.1)
 
-  abbrev pub passed : Sat T E F → Sat T E F → Type 0
+  -- the value is given back
+  abbrev pub passed : Seated T E F → Seated T E F → Type 0
   passed m n = n ≡ (record m.0 { stage = Idle }, [])
 
   -- the root has seen the whole list, which begins with what it had seen and with what the joined pass had
-  abbrev pub settled : Sat T E F → Sat T E F → Type 0
+  abbrev pub settled : Seated T E F → Seated T E F → Type 0
   settled m n = (log : List E) × (n ≡ (record m.0 { seen = log; beside = [] }, m.1)) × Begins log m.0.seen × Begins log m.0.beside
 
 module _ {E F : Type 0} where

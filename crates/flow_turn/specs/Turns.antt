@@ -11,14 +11,14 @@ use Rattle.flow_turn.specs.declared.view.Stage.{Stage}
 use Rattle.flow_turn.specs.declared.view.Stage.TheVariants.{Idle, Waiting, Serving, Joined}
 use Rattle.flow_turn.specs.Entries.{made_by, AreMade}
 
--- how many tickets a caller has
+-- 1 where the caller has a ticket, and else 0
 abbrev pub tickets_at : Stage → ℕ
 tickets_at Idle = 0
 tickets_at Waiting = 1
 tickets_at Serving = 1
 tickets_at Joined = 0
 
--- 1 where the pass was not joined
+-- 0 where the pass was joined, and else 1
 abbrev pub living_at : Stage → ℕ
 living_at Idle = 1
 living_at Waiting = 1
@@ -43,7 +43,8 @@ Stands served drawn log ticket seen Waiting = (served ≤ ticket) × (ticket < d
 Stands served drawn log ticket seen Serving = (ticket ≡ served) × (seen ≡ log)
 Stands served drawn log ticket seen Joined = Unit {0}
 
--- what the caller with this number knows
+-- What the caller with this number knows: two beginnings of the list, and which of its entries its own turns added and
+-- those of the passes joined into it
 pub record Knows {E F : Type 0} (caller : E → ℕ) (part : F) (drawn served : ℕ) (log : List E) (number : ℕ) (v : View E F) : Type 0 where
   pub named : v.number ≡ number
   pub fixed : v.part ≡ Some part
@@ -73,7 +74,9 @@ pub record IsOut {T E F : Type 0} (homes : List (maybe.Option (Option T))) (view
   pub there : get_elem? views seat ≡ some view
   pub served : view.stage ≡ Serving
 
+-- The rule. A view's number is its place among the views, in the order in which passes were split
 pub record IsInTurns {T E F : Type 0} (entries : T → List E) (caller : E → ℕ) (fixed : T → F) (part : F) (s : State (Option T) (View E F)) : Type 0 where
+  -- how many tickets were drawn, and how many served
   pub drawn : ℕ
   pub served : ℕ
   -- the one list
@@ -83,10 +86,13 @@ pub record IsInTurns {T E F : Type 0} (entries : T → List E) (caller : E → �
   pub tickets : served + total tickets_of s.views ≡ drawn
   -- the root counts the passes split, and those that were not joined
   pub root : (v : View E F) → get_elem? s.views 0 ≡ some v → (length s.views ≡ v.given + 1) × (total living_of s.views ≡ v.outs + 1)
+  -- so tickets with one remainder modulo 2^64 are one
   pub few : length s.views ≤ 2 ^ 32
+  -- each entry names a view
   pub callers : Each (λ e. caller e < length s.views) log
   pub knows : (j : ℕ) (v : View E F) → get_elem? s.views j ≡ some v → living_of v ≡ 1 → Knows caller part drawn served log j v
   pub gone : (j : ℕ) (v : View E F) → get_elem? s.views j ≡ some v → Each (λ c. IsGone s.views c.0) v.joined
+  -- no two views have one ticket
   pub apart : (i j : ℕ) (v w : View E F) → get_elem? s.views i ≡ some v → get_elem? s.views j ≡ some w → tickets_of v ≡ 1 → tickets_of w ≡ 1 → v.ticket ≡ w.ticket → i ≡ j
 
 -- the view of the first pass
