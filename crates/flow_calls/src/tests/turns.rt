@@ -1,6 +1,6 @@
 //! Four callers in threads of their own take turns at one list.
 ghost use Rattle.std.specs.Thread.{IsSync};
-ghost use Rattle.std.specs.Prelude.{◌≡◌, ℕ, ◌+◌, ◌-◌, ◌<◌, length};
+ghost use Rattle.std.specs.Prelude.{◌≡◌, ◌+◌, ◌<◌};
 
 use flow_turn::{Job, Kept, NewRefusal, Pass, TurnLock};
 use std::sync::Wait;
@@ -25,6 +25,7 @@ struct Notes {
 
 impl Kept for Notes {
     type Entry = Note;
+
     type Fixed = ();
 
     ghost entries = { λ notes. notes.all.items };
