@@ -36,17 +36,17 @@ one_next r Ended Finished x y = absurd (over_on r x y.0)
 one_next r Ended (Stuck n) x y = absurd (over_on r x y.0.0.going_on)
 one_next r (Act n) Ended x y = absurd (over_on r y x.0.0)
 one_next r (Act n) (Act m) x y = ap Act (one_least (CanAct r) n m x y)
-one_next r (Act n) (Wait m) x y = absurd (y.1.0 n x.0)
-one_next r (Act n) Finished x y = absurd (y.1.0 n x.0)
+one_next r (Act n) (Wait m) x y = absurd (y.1 n x.0)
+one_next r (Act n) Finished x y = absurd (y.1 n x.0)
 one_next r (Act n) (Stuck m) x y = absurd (not_waiting r (Act n) x (λ leaf e. cc) m y.0)
 one_next r (Wait n) Ended x y = absurd (over_on r y x.0)
-one_next r (Wait n) (Act m) x y = absurd (x.1.0 m y.0)
-one_next r (Wait n) (Wait m) x y = ap Wait (le_antisymm (x.1.1.1 m y.1.1.0) (y.1.1.1 n x.1.1.0))
-one_next r (Wait n) Finished x y = absurd (none_out (now r) n y.1.1.0 x.1.1)
+one_next r (Wait n) (Act m) x y = absurd (x.1 m y.0)
+one_next r (Wait n) (Wait m) x y = ap Wait (le_antisymm (x.2.1 m y.2.0) (y.2.1 n x.2.0))
+one_next r (Wait n) Finished x y = absurd (none_out (now r) n y.2 x.2)
 one_next r (Wait n) (Stuck m) x y = absurd (not_waiting r (Wait n) x (λ leaf e. cc) m y.0)
 one_next r Finished Ended x y = absurd (over_on r y x.0)
-one_next r Finished (Act m) x y = absurd (x.1.0 m y.0)
-one_next r Finished (Wait m) x y = absurd (none_out (now r) m x.1.1.0 y.1.1)
+one_next r Finished (Act m) x y = absurd (x.1 m y.0)
+one_next r Finished (Wait m) x y = absurd (none_out (now r) m x.2 y.2)
 one_next r Finished Finished x y = refl
 one_next r Finished (Stuck m) x y = absurd (not_waiting r Finished x (λ leaf e. cc) m y.0)
 one_next r (Stuck n) Ended x y = absurd (over_on r y x.0.0.going_on)
@@ -60,9 +60,9 @@ one_next_text r (Act n) b e x y p q = let told : IsNextText r (Act n) y = subst 
 one_next_text r (Wait n) b e x y p q = let told : IsNextText r (Wait n) y = subst (λ c. IsNextText r c y) (sym e) q in p ∙ sym told
 one_next_text r Finished b e x y p q = let told : IsNextText r Finished y = subst (λ c. IsNextText r c y) (sym e) q in p ∙ sym told
 one_next_text r Ended b e x y p q = let told : IsNextText r Ended y = subst (λ c. IsNextText r c y) (sym e) q in p ∙ sym told
-one_next_text r (Stuck n) b e x y (ls, (j, p)) q =
+one_next_text r (Stuck n) b e x y (ls, j, p) q =
     let told : IsNextText r (Stuck n) y = subst (λ c. IsNextText r c y) (sym e) q in
-    p ∙ ap (numbers_text (codes "stuck")) (one_list (IsWaiting r) ls told.0 j told.1.0) ∙ sym told.1.1
+    p ∙ ap (numbers_text (codes "stuck")) (one_list (IsWaiting r) ls told.0 j told.1) ∙ sym told.2
 
 -- Replies and reports
 
@@ -73,19 +73,19 @@ one_reply r (command.Done claim) (Done result) x y p q = p ∙ sym q
 one_reply r (command.Fail claim) (Failed result) x y p q = p ∙ sym q
 one_reply r command.Rewind (Rewound result) x y p q = p ∙ sym q
 one_reply r command.Commit (Committed result) x y p q = p ∙ sym q
-one_reply r command.Next Shown x y (a, (na, p)) (b, (nb, q)) = one_next_text r a b (one_next r a b na nb) x y p q
-one_reply r command.Enabled Shown x y (as, (ja, p)) (bs, (jb, q)) = p ∙ ap (numbers_text (codes "enabled")) (one_list (CanAct r) as bs ja jb) ∙ sym q
+one_reply r command.Next Shown x y (a, na, p) (b, nb, q) = one_next_text r a b (one_next r a b na nb) x y p q
+one_reply r command.Enabled Shown x y (xs, ja, p) (ys, jb, q) = p ∙ ap (numbers_text (codes "enabled")) (one_list (CanAct r) xs ys ja jb) ∙ sym q
 one_reply r command.Journal Shown x y p q = p ∙ sym q
-one_reply r command.Facts Shown x y (as, (ja, p)) (bs, (jb, q)) =
-    p ∙ ap (λ facts. codes "facts" ++ spaced_facts r.definition facts) (one_list (HoldsNow r) as bs ja jb) ∙ sym q
+one_reply r command.Facts Shown x y (xs, ja, p) (ys, jb, q) =
+    p ∙ ap (λ facts. codes "facts" ++ spaced_facts r.definition facts) (one_list (HoldsNow r) xs ys ja jb) ∙ sym q
 one_reply r other answer x y p q = absurd p
 
 one_meaning : (r : Run) (v : Verdict) (a b : verdict.Verdict) → Means r v a → Means r v b → a ≡ b
 one_meaning r came.Committed a b p q = p ∙ sym q
 one_meaning r came.Spent a b p q = p ∙ sym q
 one_meaning r (came.NoOther leaf) a b p q = p ∙ sym q
-one_meaning r came.Stuck a b (as, (ja, p)) (bs, (jb, q)) = p ∙ ap verdict.stuck (one_list (IsWaiting r) as bs ja jb) ∙ sym q
+one_meaning r came.Stuck a b (xs, ja, p) (ys, jb, q) = p ∙ ap verdict.stuck (one_list (IsWaiting r) xs ys ja jb) ∙ sym q
 one_meaning r came.Unfinished a b p q = p ∙ sym q
 
 pub one_report : ReportsAreSingle
-one_report r v x y (a, (ma, p)) (b, (mb, q)) = p ∙ ap (report_text r.definition r.history (now r).journal) (one_meaning r v a b ma mb) ∙ sym q
+one_report r v x y (a, ma, p) (b, mb, q) = p ∙ ap (report_text r.definition r.history (now r).journal) (one_meaning r v a b ma mb) ∙ sym q

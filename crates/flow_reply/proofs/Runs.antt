@@ -33,9 +33,9 @@ all_from P (x ∷ xs) each (suc k) d within = all_from P xs (λ n there. each n 
 -- each leaf of the journal is a leaf of the goal
 pub journal_within : (w : Schema) → IsWellFormed w → (s : RunState) → IsSound w s → All (λ leaf. leaf < length w.labels) s.journal
 journal_within w formed s sound =
-    let (o, (among, follow)) = sound.extends in
-    let (t, (trace, (free, begins))) = follow (current_leaves s) (same_order (current_leaves s)) in
-    let (rest, is) = free.1.0 in
+    let (o, among, follow) = sound.extends in
+    let (t, trace, free, begins) = follow (current_leaves s) (same_order (current_leaves s)) in
+    let (rest, is) = free.1 in
     all_from (λ leaf. leaf < length w.labels) s.journal (λ leaf member.
         let there : leaf ∈ t = subst (λ (l : List ℕ). leaf ∈ l) (sym is) (mem_append_left leaf s.journal rest member) in
         let below : leaf < 0 + length w.labels =
