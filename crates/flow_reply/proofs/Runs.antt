@@ -16,8 +16,8 @@ use Rattle.flow_reply.proofs.Rising.{just_as}
 
 -- what can act is a leaf of the goal
 pub act_within : (r : Run) (leaf : ℕ) → CanAct r leaf → leaf < length (schema r).labels
-act_within r leaf (open, inl take) = event_below (schema r).labels leaf take.0
-act_within r leaf (open, inr can) = can.0.0.0
+act_within r leaf (on, inl take) = event_below (schema r).labels leaf take.0
+act_within r leaf (on, inr can) = can.0.0.0
 
 -- in a run that is stuck, what can be done waits
 pub left_wait : (r : Run) → IsStuck (schema r) (now r) → (list : List ℕ) → AreJust (CanDoAside (schema r) (now r)) list → AreJust (IsWaiting r) list
