@@ -1,6 +1,5 @@
 ghost use Rattle.std.specs.Prelude.{◌≡◌, ◌++◌, length, codes, IfOk};
 ghost use Rattle.std.specs.String.{string_bytes};
-ghost use Rattle.flow_model.specs.Verdict as verdict;
 ghost use Rattle.flow_core.specs.Run.{now};
 ghost use Rattle.flow_record.specs.Journal.{AreLeaves};
 ghost use Rattle.flow_reply.specs.Report.{IsVerdictText, IsReport};
