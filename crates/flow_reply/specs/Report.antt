@@ -8,8 +8,8 @@ use Rattle.flow_core.specs.Looks.{IsWaiting}
 use Rattle.flow_record.specs.History.{history_text}
 use Rattle.flow_record.specs.Journal.{journal_text}
 use Rattle.flow_workflow.specs.Definition.{Definition}
-use Rattle.flow_reply.specs.declared.model.Verdict.{Verdict}
-use Rattle.flow_reply.specs.declared.model.Verdict.TheVariants.{Committed, Spent, NoOther, Stuck, Unfinished}
+use Rattle.flow_reply.specs.declared.verdict.Verdict.{Verdict}
+use Rattle.flow_reply.specs.declared.verdict.Verdict.TheVariants.{Committed, Spent, NoOther, Stuck, Unfinished}
 use Rattle.flow_reply.specs.Refusing.{spaced_numbers}
 
 -- a verdict of the code, as one of the definitions; where the run is stuck, with the leaves that wait
@@ -40,13 +40,13 @@ verdict_text model.unfinished = codes "unfinished"
 abbrev pub IsVerdictText : Run → Verdict → List ℕ → Type 0
 IsVerdictText r verdict text = (meant : model.Verdict) × Means r verdict meant × (text ≡ verdict_text meant)
 
--- the whole report, each line with its line feed
-abbrev pub report_text : Definition → List Entry → List ℕ → model.Verdict → List ℕ
-report_text w history journal verdict =
+-- the whole report, each line with its line feed, the verdict in these words
+abbrev pub report_text : Definition → List Entry → List ℕ → List ℕ → List ℕ
+report_text w history journal words =
     codes "history " ++ decimal (length history) ++ codes "\n" ++ history_text history
     ++ codes "journal " ++ decimal (length journal) ++ codes "\n" ++ journal_text w journal
-    ++ codes "verdict " ++ verdict_text verdict ++ codes "\n"
+    ++ codes "verdict " ++ words ++ codes "\n"
 
 -- the report of a run with the verdict
 abbrev pub IsReport : Run → Verdict → List ℕ → Type 0
-IsReport r verdict text = (meant : model.Verdict) × Means r verdict meant × (text ≡ report_text r.definition r.history (now r).journal meant)
+IsReport r verdict text = (words : List ℕ) × IsVerdictText r verdict words × (text ≡ report_text r.definition r.history (now r).journal words)

@@ -2,7 +2,7 @@ ghost use Rattle.std.specs.Prelude.{◌≡◌, ◌++◌, length, codes, IfOk};
 ghost use Rattle.std.specs.String.{string_bytes};
 ghost use Rattle.flow_core.specs.Run.{now};
 ghost use Rattle.flow_record.specs.Journal.{AreLeaves};
-ghost use Rattle.flow_reply.specs.Report.{IsVerdictText, IsReport};
+ghost use Rattle.flow_reply.specs.Report.{IsVerdictText, IsReport, report_text};
 
 use crate::listed::{print_numbers, waiting};
 use crate::verdict::Verdict;
@@ -18,6 +18,15 @@ pub fn print_report(
 ) -> Result<Vec<u8>, AllocError>
     ensures { IfOk result (λ text. IsReport core.now verdict.now text.items) }
 {
+    let words = print_verdict(alloc, core, verdict)?;
+    print_with(alloc, core, words.as_bytes())
+}
+
+/// Prints the report of a run, its verdict in these words.
+fn print_with(alloc: Global, core: &Core, words: &[u8]) -> Result<Vec<u8>, AllocError>
+    ensures { IfOk result (λ text.
+        text.items ≡ report_text core.now.definition core.now.history (now core.now).journal words.now) }
+{
     let history = core.history();
     let journal = journal_of(core);
     let entries = history.len();
@@ -27,7 +36,7 @@ pub fn print_report(
     text.extend_from_slice(format!(in alloc; "journal {leaves}\n")?.as_bytes())?;
     text.extend_from_slice(&print_journal(alloc, core.workflow(), journal)?)?;
     text.extend_from_slice(b"verdict ")?;
-    text.extend_from_slice(print_verdict(alloc, core, verdict)?.as_bytes())?;
+    text.extend_from_slice(words)?;
     text.extend_from_slice(b"\n")?;
     Ok(text)
 }
