@@ -77,7 +77,7 @@ pub fn waiting(alloc: Global, core: &Core) -> Result<Vec<u32>, AllocError>
 pub fn held(alloc: Global, core: &Core) -> Result<Vec<u32>, AllocError>
     ensures { IfOk result (λ facts. AreJust (HoldsNow core.now) facts.items) }
 {
-    // what both tell makes that no fact past the count holds
+    // both together tell that no fact past the count holds
     let workflow = core.workflow();
     let _ = workflow.held();
     let _ = workflow.tree();
