@@ -11,11 +11,7 @@ use flow_record::{print_history, print_journal};
 use std::alloc::{AllocError, Global};
 
 /// Prints the report of a run that came to the verdict.
-pub fn print_report(
-    alloc: Global,
-    core: &Core,
-    verdict: &Verdict,
-) -> Result<Vec<u8>, AllocError>
+pub fn print_report(alloc: Global, core: &Core, verdict: &Verdict) -> Result<Vec<u8>, AllocError>
     ensures { IfOk result (λ text. IsReport core.now verdict.now text.items) }
 {
     let words = print_verdict(alloc, core, verdict)?;
