@@ -6,3 +6,4 @@ pub mod Tests
 pub mod Standings
 pub mod Waiting
 pub mod OneAnswer
+pub mod Compiled

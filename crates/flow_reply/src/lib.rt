@@ -3,10 +3,15 @@
 
 mod answer;
 mod checking;
+mod ending;
+mod listed;
 mod numbered;
+mod posting;
 mod refused;
 mod reply;
 mod report;
+mod showing;
+mod single;
 mod source;
 mod uncompiled;
 mod unexpanded;
@@ -19,5 +24,6 @@ pub use flow_record::Command;
 pub use refused::{Refused, print_refused};
 pub use reply::print_reply;
 pub use report::print_report;
+pub use single::law_replies_are_single;
 pub use source::cut;
 pub use verdict::Verdict;
