@@ -213,7 +213,12 @@ impl Choices {
     }
 
     /// As `resolution_leaves`, where the choices are counted.
-    pub fn resolution_leaves(&self, alloc: Global, tree: &Tree, number: u64) -> Result<Vec<u32>, AllocError>
+    pub fn resolution_leaves(
+        &self,
+        alloc: Global,
+        tree: &Tree,
+        number: u64,
+    ) -> Result<Vec<u32>, AllocError>
         requires choices { AreChoicesOf tree.now.process self.now }
         requires numbered { number < Resolution.resolution_count tree.now.process }
         requires exact { Resolution.resolution_count tree.now.process < 2 ^ 64 - 1 }

@@ -1,10 +1,6 @@
-use Rattle.std.proofs.Common.{ℕ, List, [], ◌∷◌, refl, reverse, subst, sym, OnOk, arith}
-use Rattle.flow_model.specs.Process.{Process}
-use Rattle.flow_goal.specs.declared.node.Node.{Node}
-use Rattle.flow_goal.specs.declared.node.Node.TheVariants.{Leaf, Fork, Split, Join}
-use Rattle.flow_goal.proofs.Writing.{ok_taken}
-use Rattle.flow_plan.specs.RowMarks.{MakesRowsBy, Passes}
-use Rattle.flow_plan.proofs.SweepLemmas.{top_of, went_on, leaf_passed, fork_passed, split_passed, join_same, join_passed}
+use Rattle.std.proofs.Common.{ℕ, List, reverse, subst, sym}
+use Rattle.flow_plan.specs.RowMarks.{MakesRowsBy}
+use Rattle.flow_plan.proofs.SweepLemmas.{top_of, fork_passed}
 use Rattle.flow_plan.proofs.sweep.Sweep.fork.Goals as goal
 
 pub returns : goal.returns
