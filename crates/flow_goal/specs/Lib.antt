@@ -1,4 +1,5 @@
 pub mod Backwards
+pub mod Choices
 pub mod Goal
 pub mod Labelled
 pub mod Numbering

@@ -3,6 +3,7 @@ ghost use Rattle.flow_model.specs.Resolution;
 ghost use Rattle.flow_model.specs.Process;
 ghost use Rattle.flow_goal.specs.Goal.{process_of};
 ghost use Rattle.flow_goal.specs.Sides.{Ends, IsTaken, kept_count, sides_in, sides_of_choice};
+ghost use Rattle.flow_goal.specs.Choices.{AreChoicesOf};
 ghost use Rattle.flow_goal.specs.Backwards.{IsBackwardsOf, PutsBoth, PutsEither, PutsResolution, marks_of};
 
 use crate::backwards::Backwards;
@@ -166,18 +167,67 @@ fn write(
     }
 }
 
-/// The resolution of that number, from right to left. It costs two walks of the tree's goal.
-fn resolution(alloc: Global, tree: &Tree, number: u64) -> Result<Backwards, AllocError>
-    requires numbered { number < Resolution.resolution_count tree.now.process }
-    requires exact { Resolution.resolution_count tree.now.process < 2 ^ 64 - 1 }
-    ensures { IfOk result (IsBackwardsOf tree.now.process number) }
-{
-    let mut sides = Vec::new(alloc);
-    count_sides(tree.goal(), &mut sides)?;
-    let mut rest = number;
-    let mut out = Backwards::new(alloc);
-    write(tree.goal(), &mut rest, &mut sides, &mut out)?;
-    Ok(out)
+/// How many resolutions each side of each choice of a tree has.
+#[derive(Drop)]
+pub struct Choices {
+    sides: Vec<Sides>,
+}
+
+impl Choices {
+    /// Counts them, in one walk of the tree's goal.
+    pub fn of(alloc: Global, tree: &Tree) -> Result<Choices, AllocError>
+        ensures { IfOk result (AreChoicesOf tree.now.process) }
+    {
+        let mut sides = Vec::new(alloc);
+        count_sides(tree.goal(), &mut sides)?;
+        Ok(Choices { sides })
+    }
+
+    /// The resolution of that number, from right to left, in one walk of the tree's goal.
+    fn written(&self, alloc: Global, tree: &Tree, number: u64) -> Result<Backwards, AllocError>
+        requires choices { AreChoicesOf tree.now.process self.now }
+        requires numbered { number < Resolution.resolution_count tree.now.process }
+        requires exact { Resolution.resolution_count tree.now.process < 2 ^ 64 - 1 }
+        ensures { IfOk result (IsBackwardsOf tree.now.process number) }
+    {
+        let mut sides = Vec::from_slice(alloc, &self.sides)?;
+        let mut rest = number;
+        let mut out = Backwards::new(alloc);
+        write(tree.goal(), &mut rest, &mut sides, &mut out)?;
+        Ok(out)
+    }
+
+    /// As `resolve`, where the choices are counted.
+    pub fn resolve(&self, alloc: Global, tree: &Tree, number: u64) -> Result<Choiceless, AllocError>
+        requires choices { AreChoicesOf tree.now.process self.now }
+        requires numbered { number < Resolution.resolution_count tree.now.process }
+        requires exact { Resolution.resolution_count tree.now.process < 2 ^ 64 - 1 }
+        ensures resolution { IfOk result (λ q. slice_get (Resolution.resolutions tree.now.process) number ≡ Some q.process) }
+        ensures leaves { IfOk result (λ q. q.leaves ≡ Process.leaves q.process) }
+    {
+        let _leaves = tree.leaves();
+        let mut out = self.written(alloc, tree, number)?;
+        out.nodes.reverse();
+        out.leaves.reverse();
+        Ok(Choiceless::new(out.nodes, out.leaves))
+    }
+
+    /// As `resolution_leaves`, where the choices are counted.
+    pub fn resolution_leaves(
+        &self,
+        alloc: Global,
+        tree: &Tree,
+        number: u64,
+    ) -> Result<Vec<u32>, AllocError>
+        requires choices { AreChoicesOf tree.now.process self.now }
+        requires numbered { number < Resolution.resolution_count tree.now.process }
+        requires exact { Resolution.resolution_count tree.now.process < 2 ^ 64 - 1 }
+        ensures { IfOk result (λ list. (q : Process.Process) × (slice_get (Resolution.resolutions tree.now.process) number ≡ Some q) ×
+            (list.items ≡ Process.leaves q)) }
+    {
+        let goal = self.resolve(alloc, tree, number)?;
+        Ok(goal.into_leaves())
+    }
 }
 
 /// The resolution of that number: one side is taken at each choice, and the right one of two parts that
@@ -188,11 +238,7 @@ pub fn resolve(alloc: Global, tree: &Tree, number: u64) -> Result<Choiceless, Al
     ensures resolution { IfOk result (λ q. slice_get (Resolution.resolutions tree.now.process) number ≡ Some q.process) }
     ensures leaves { IfOk result (λ q. q.leaves ≡ Process.leaves q.process) }
 {
-    let _leaves = tree.leaves();
-    let mut out = resolution(alloc, tree, number)?;
-    out.nodes.reverse();
-    out.leaves.reverse();
-    Ok(Choiceless::new(out.nodes, out.leaves))
+    Choices::of(alloc, tree)?.resolve(alloc, tree, number)
 }
 
 /// The leaves of the resolution of that number, from left to right.
@@ -202,6 +248,5 @@ pub fn resolution_leaves(alloc: Global, tree: &Tree, number: u64) -> Result<Vec<
     ensures { IfOk result (λ list. (q : Process.Process) × (slice_get (Resolution.resolutions tree.now.process) number ≡ Some q) ×
         (list.items ≡ Process.leaves q)) }
 {
-    let goal = resolve(alloc, tree, number)?;
-    Ok(goal.into_leaves())
+    Choices::of(alloc, tree)?.resolution_leaves(alloc, tree, number)
 }

@@ -15,7 +15,7 @@ mod simple;
 mod tree;
 
 pub use choiceless::Choiceless;
-pub use choices::{resolution_leaves, resolutions, resolve};
+pub use choices::{Choices, resolution_leaves, resolutions, resolve};
 pub use events::twice;
 pub use flow_model::{Label, Note};
 pub use goal::Goal;

@@ -1,8 +1,9 @@
-ghost use Rattle.std.specs.Prelude.{◌≡◌, ◌<◌, ℕ, [], false, IfOk, OnOk};
+ghost use Rattle.std.specs.Prelude.{◌≡◌, ◌<◌, ◌+◌, ◌^◌, ◌∷◌, ℕ, [], false, slice_get, IfOk, IfSome, OnOk};
 ghost use Rattle.flow_goal.specs.declared.node.Node.TheVariants.{Leaf, Fork, Split, Join};
 ghost use Rattle.flow_model.specs.Lists.{Each};
 ghost use Rattle.leaf_rows.specs.Leaves.{has_leaf};
-ghost use Rattle.flow_plan.specs.RowMarks.{Passes};
+ghost use Rattle.leaf_rows.specs.declared.leaf_set.LeafSet.{LeafSet};
+ghost use Rattle.flow_plan.specs.RowMarks.{GoesOn, Passes};
 
 use flow_goal::Node;
 use leaf_rows::LeafSet;
@@ -13,28 +14,61 @@ use std::alloc::{AllocError, Global};
 pub(crate) struct Sweep {
     /// The place of the next leaf.
     pub(crate) place: usize,
+    /// Sets of leaves, which stay as they are. Others name them by number, so that goals with no leaf
+    /// cost no set.
+    pub(crate) sets: Vec<LeafSet<16>>,
     /// The leaves before the next one.
-    pub(crate) ahead: LeafSet<16>,
+    pub(crate) ahead: usize,
     /// Of each two goals beside one another that are being read: what is ahead of both, and from the
     /// second on what is behind the first.
-    pub(crate) forks: Vec<LeafSet<16>>,
+    pub(crate) forks: Vec<usize>,
     pub(crate) rows: Vec<LeafSet<16>>,
+}
+
+/// The leaf at that place.
+fn leaf_at(leaves: &[u32], place: usize) -> Option<u32>
+    requires { Each (λ n. n < 1024) leaves.now }
+    ensures leaf { result ≡ slice_get leaves.now place }
+    ensures small { IfSome result (λ leaf. leaf < 1024) }
+    ensures next { IfSome result (λ _. place + 1 < 2 ^ 64) }
+{
+    leaves.get(place).copied()
 }
 
 impl Sweep {
     /// Nothing is read yet.
     pub(crate) fn new(alloc: Global, leaves: usize) -> Result<Sweep, AllocError>
         ensures place { IfOk result (λ new. new.place ≡ 0) }
-        ensures ahead { IfOk result (λ new. (x : ℕ) → has_leaf new.ahead x ≡ false) }
+        ensures sets { IfOk result (λ new. (empty : LeafSet 16) × ((x : ℕ) → has_leaf empty x ≡ false) × (new.sets.items ≡ empty ∷ [])) }
+        ensures ahead { IfOk result (λ new. new.ahead ≡ 0) }
         ensures forks { IfOk result (λ new. new.forks.items ≡ []) }
         ensures rows { IfOk result (λ new. new.rows.items ≡ []) }
     {
+        let mut sets = Vec::new(alloc);
+        sets.push(LeafSet::new())?;
         Ok(Sweep {
             place: 0,
-            ahead: LeafSet::new(),
+            sets,
+            ahead: 0,
             forks: Vec::new(alloc),
             rows: Vec::with_capacity(alloc, leaves)?,
         })
+    }
+
+    /// The set of that number.
+    fn set(&self, number: usize) -> Option<LeafSet<16>>
+        ensures { result ≡ slice_get self.now.sets.items number }
+    {
+        self.sets.get(number).copied()
+    }
+
+    /// From now on the set is ahead.
+    fn go_on(&mut self, set: LeafSet<16>) -> Result<(), AllocError>
+        ensures { OnOk result (GoesOn set self.old self.new) }
+    {
+        self.ahead = self.sets.len();
+        self.sets.push(set)?;
+        Ok(())
     }
 
     /// Reads a leaf: what is ahead is its row.
@@ -42,12 +76,17 @@ impl Sweep {
         requires { Each (λ n. n < 1024) leaves.now }
         ensures { OnOk result (Passes Leaf leaves.now self.old self.new) }
     {
-        if let Some(leaf) = leaves.get(self.place).copied() {
-            self.rows.push(self.ahead)?;
-            self.ahead.insert(leaf);
-            self.place += 1;
-        }
-        Ok(())
+        let Some(leaf) = leaf_at(leaves, self.place) else {
+            return Ok(());
+        };
+        let Some(row) = self.set(self.ahead) else {
+            return Ok(());
+        };
+        self.rows.push(row)?;
+        self.place += 1;
+        let mut more = row;
+        more.insert(leaf);
+        self.go_on(more)
     }
 
     fn fork(&mut self, leaves: &[u32]) -> Result<(), AllocError>
@@ -61,19 +100,29 @@ impl Sweep {
     fn split(&mut self, leaves: &[u32]) -> Result<(), AllocError>
         ensures { OnOk result (Passes Split leaves.now self.old self.new) }
     {
-        if let Some(side) = self.forks.pop() {
-            self.forks.push(self.ahead)?;
-            self.ahead = side;
-        }
+        let Some(side) = self.forks.pop() else {
+            return Ok(());
+        };
+        self.forks.push(self.ahead)?;
+        self.ahead = side;
         Ok(())
     }
 
-    fn join(&mut self, leaves: &[u32])
-        ensures { Passes Join leaves.now self.old self.new }
+    fn join(&mut self, leaves: &[u32]) -> Result<(), AllocError>
+        ensures { OnOk result (Passes Join leaves.now self.old self.new) }
     {
-        if let Some(side) = self.forks.pop() {
-            self.ahead.union_with(&side);
+        let Some(side) = self.forks.pop() else {
+            return Ok(());
+        };
+        if side == self.ahead {
+            return Ok(());
         }
+        let (Some(one), Some(two)) = (self.set(self.ahead), self.set(side)) else {
+            return Ok(());
+        };
+        let mut all = one;
+        all.union_with(&two);
+        self.go_on(all)
     }
 
     /// Reads one mark.
@@ -86,10 +135,7 @@ impl Sweep {
             Node::Leaf => self.pass_leaf(leaves),
             Node::Fork => self.fork(leaves),
             Node::Split => self.split(leaves),
-            Node::Join => {
-                self.join(leaves);
-                Ok(())
-            }
+            Node::Join => self.join(leaves),
         }
     }
 }

@@ -1,7 +1,7 @@
 use Rattle.std.proofs.Common.{ℕ, List, ◌∙◌, sym, ap, subst, Some}
 use Rattle.std.specs.List.Sorted.{IsStrictlyIncreasing}
 use Rattle.flow_goal.proofs.Rising.{choice_free_at, increasing_at}
-use Rattle.flow_goal.proofs.choices.resolve.Goals as goal
+use Rattle.flow_goal.proofs.choices.Choices.resolve.Goals as goal
 
 pub new-requires-clause-written : goal.new-requires-clause-written
 new-requires-clause-written c =
