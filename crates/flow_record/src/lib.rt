@@ -15,5 +15,6 @@ pub use command::Command;
 pub use history::print_history;
 pub use journal::{print_journal, print_label};
 pub use lines::place_of_feed;
+pub use number::read_number;
 pub use refusal::RecordRefusal;
 pub use session::read_session;
