@@ -29,7 +29,7 @@ impl Core {
         ensures { IsTrue result ↔ IsWaiting self.now leaf }
     {
         match self.look() {
-            Next::Stuck(_) => self.could_be_done(leaf),
+            Next::Stuck(_) => self.is_left(leaf),
             _ => false,
         }
     }
@@ -108,11 +108,11 @@ impl Core {
         ensures no_step { IsTrue result → ¬ (CanStep self.now leaf) }
         ensures not_left { IsTrue result → ¬ (CanDoAside (schema self.now) (now self.now) leaf) }
     {
-        self.residual.journal().contains(&leaf)
+        self.residual.is_done(leaf)
     }
 
-    /// Whether the leaf can be done, whatever holds.
-    fn could_be_done(&self, leaf: u32) -> bool
+    /// Whether the leaf can be done, whatever holds. Where the run is stuck, these are the leaves that wait.
+    pub fn is_left(&self, leaf: u32) -> bool
         ensures { IsTrue result ↔ CanDoAside (schema self.now) (now self.now) leaf }
     {
         match self.label_at(leaf) {
@@ -139,7 +139,7 @@ impl Core {
             (IsLeast (CanDoAside (schema self.now) (now self.now))) }
     {
         for leaf in 0..self.leaves() {
-            if !self.is_done(leaf) && self.could_be_done(leaf) {
+            if !self.is_done(leaf) && self.is_left(leaf) {
                 return Some(leaf);
             }
         }

@@ -21,11 +21,11 @@ use Rattle.flow_excise.specs.declared.refusal.Dropped.{Dropped}
 use Rattle.flow_excise.specs.declared.refusal.CompileRefusal.{CompileRefusal}
 use Rattle.flow_excise.specs.declared.refusal.CompileRefusal.TheVariants as compilation
 use Rattle.flow_reply.specs.declared.refused.Refused.{Refused}
-use Rattle.flow_reply.specs.declared.refused.Refused.TheVariants.{Words, Read, TooLong, Unbuilt, Text, Record, Expand, Compile}
+use Rattle.flow_reply.specs.declared.refused.Refused.TheVariants.{Words, Read, TooLong, Text, Record, Expand, Compile}
 
 -- how the program is called
 abbrev pub usage_text : List ℕ
-usage_text = codes "usage: flow MODE\n" ++ codes "modes: drive check\n"
+usage_text = codes "usage: flow MODE [--steps N]\n" ++ codes "modes: drive check\n"
 
 -- what a text needs, in words
 abbrev pub kind_text : Wanted → List ℕ
@@ -137,7 +137,6 @@ abbrev pub IsTold : List (List ℕ) → Refused → Type 0
 IsTold events Words = Unit {0}
 IsTold events Read = Unit {0}
 IsTold events TooLong = Unit {0}
-IsTold events Unbuilt = Unit {0}
 IsTold events (Text refusal) = IsOfText refusal
 IsTold events (Record refusal) = IsOfLines refusal
 IsTold events (Expand refusal) = IsOfWorkflow events refusal
@@ -148,7 +147,6 @@ abbrev pub refused_text : List (List ℕ) → Refused → List ℕ
 refused_text events Words = codes "refused: words\n" ++ usage_text
 refused_text events Read = codes "refused: read\n"
 refused_text events TooLong = codes "refused: too long 1048576\n"
-refused_text events Unbuilt = codes "refused: unbuilt\n"
 refused_text events (Text refusal) = codes "refused: " ++ text_refusal refusal ++ codes "\n"
 refused_text events (Record refusal) = codes "refused: " ++ line_refusal refusal ++ codes "\n"
 refused_text events (Expand refusal) = codes "refused: " ++ expand_refusal events refusal ++ codes "\n"

@@ -1,9 +1,16 @@
-use flow_core::{Call, CommitRefusal, PostRefusal, TakeRefusal};
+use flow_core::{
+    Call, CommitRefusal, DoRefusal, FailEffect, PostRefusal, RewindRefusal, TakeRefusal,
+};
 
-/// What the engine answered to a command.
+/// What the core answered to a command. Commands that only look at the run have no answer of their own.
 #[derive(Clone, Copy, Debug, PartialEq, Eq)]
 pub enum Answer {
     Took(Result<Call, TakeRefusal>),
+    Did(Result<(), DoRefusal>),
     Done(Result<(), PostRefusal>),
+    Failed(Result<FailEffect, PostRefusal>),
+    Rewound(Result<u32, RewindRefusal>),
     Committed(Result<(), CommitRefusal>),
+    /// The run is only looked at.
+    Shown,
 }

@@ -3,10 +3,14 @@
 
 mod answer;
 mod checking;
+mod ending;
+mod listed;
 mod numbered;
+mod posting;
 mod refused;
 mod reply;
 mod report;
+mod showing;
 mod source;
 mod uncompiled;
 mod unexpanded;

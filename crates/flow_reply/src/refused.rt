@@ -19,8 +19,6 @@ pub enum Refused {
     Read,
     /// The input has more than 1,048,576 bytes.
     TooLong,
-    /// The input calls for something that is not built yet.
-    Unbuilt,
     /// The text of the workflow says nothing.
     Text(TextRefusal),
     /// A line of the second part says nothing.
@@ -44,11 +42,10 @@ pub fn print_refused(
     match refused {
         Refused::Words => Vec::from_slice(
             alloc,
-            b"refused: words\nusage: flow MODE\nmodes: drive check\n",
+            b"refused: words\nusage: flow MODE [--steps N]\nmodes: drive check\n",
         ),
         Refused::Read => Vec::from_slice(alloc, b"refused: read\n"),
         Refused::TooLong => Vec::from_slice(alloc, b"refused: too long 1048576\n"),
-        Refused::Unbuilt => Vec::from_slice(alloc, b"refused: unbuilt\n"),
         Refused::Text(refusal) => print_text_refusal(alloc, refusal),
         Refused::Record(refusal) => print_line_refusal(alloc, refusal),
         Refused::Expand(refusal) => print_expand_refusal(alloc, refusal, script),

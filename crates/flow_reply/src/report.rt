@@ -1,45 +1,58 @@
-ghost use Rattle.std.specs.Prelude.{◌≡◌, ◌++◌, codes, IfOk};
+ghost use Rattle.std.specs.Prelude.{◌≡◌, ◌×◌, ◌++◌, length, codes, IfOk};
+ghost use Rattle.std.specs.String.{string_bytes};
+ghost use Rattle.flow_model.specs.Verdict as verdict;
+ghost use Rattle.flow_core.specs.Run.{now};
 ghost use Rattle.flow_record.specs.Journal.{AreLeaves};
-ghost use Rattle.flow_reply.specs.Report.{meaning, IsOfDrive, verdict_text, report_text};
+ghost use Rattle.flow_reply.specs.Report.{IsVerdictText, IsReport};
 
+use crate::listed::{print_numbers, waiting};
 use crate::verdict::Verdict;
-use flow_core::Entry;
+use flow_core::Core;
 use flow_record::{print_history, print_journal};
-use flow_workflow::Workflow;
 use std::alloc::{AllocError, Global};
 
-/// Prints the report of a driven session.
+/// Prints the report of a run that came to the verdict.
 pub fn print_report(
     alloc: Global,
-    workflow: &Workflow,
-    history: &[Entry],
-    journal: &[u32],
+    core: &Core,
     verdict: &Verdict,
 ) -> Result<Vec<u8>, AllocError>
-    requires leaves { AreLeaves workflow.now journal.now }
-    requires drive { IsOfDrive verdict.now }
-    ensures { IfOk result (λ text.
-        text.items ≡ report_text workflow.now history.now journal.now (meaning verdict.now)) }
+    ensures { IfOk result (λ text. IsReport core.now verdict.now text.items) }
 {
+    let history = core.history();
+    let journal = journal_of(core);
     let entries = history.len();
     let leaves = journal.len();
     let mut text = format!(in alloc; "history {entries}\n")?.into_bytes();
     text.extend_from_slice(&print_history(alloc, history)?)?;
     text.extend_from_slice(format!(in alloc; "journal {leaves}\n")?.as_bytes())?;
-    text.extend_from_slice(&print_journal(alloc, workflow, journal)?)?;
-    text.extend_from_slice(verdict_line(verdict))?;
+    text.extend_from_slice(&print_journal(alloc, core.workflow(), journal)?)?;
+    text.extend_from_slice(b"verdict ")?;
+    text.extend_from_slice(print_verdict(alloc, core, verdict)?.as_bytes())?;
+    text.extend_from_slice(b"\n")?;
     Ok(text)
 }
 
-/// The line of a verdict.
-fn verdict_line(verdict: &Verdict) -> &'static [u8]
-    requires { IsOfDrive verdict.now }
-    ensures { result.now ≡ codes "verdict " ++ verdict_text (meaning verdict.now) ++ codes "\n" }
+/// The leaves of the journal, each of which has a label.
+fn journal_of(core: &Core) -> &[u32]
+    ensures journal { result.now ≡ (now core.now).journal }
+    ensures leaves { AreLeaves core.now.definition result.now }
+{
+    // what both tell makes the second
+    let _ = core.history();
+    let _ = core.workflow().tree();
+    core.journal()
+}
+
+/// Prints a verdict.
+fn print_verdict(alloc: Global, core: &Core, verdict: &Verdict) -> Result<String, AllocError>
+    ensures { IfOk result (λ text. IsVerdictText core.now verdict.now (string_bytes text)) }
 {
     match verdict {
-        Verdict::Committed => b"verdict committed\n",
-        Verdict::Spent => b"verdict spent\n",
-        Verdict::Unfinished => b"verdict unfinished\n",
-        Verdict::NoOther(_) | Verdict::Stuck => unreachable!(),
+        Verdict::Committed => format!(in alloc; "committed"),
+        Verdict::Spent => format!(in alloc; "spent"),
+        Verdict::NoOther(leaf) => format!(in alloc; "no-other {leaf}"),
+        Verdict::Stuck => print_numbers(alloc, "stuck", &waiting(alloc, core)?),
+        Verdict::Unfinished => format!(in alloc; "unfinished"),
     }
 }

@@ -1,7 +1,8 @@
 ghost use Rattle.std.specs.Prelude.{◌≡◌, ◌++◌, IfOk, OnOk};
 ghost use Rattle.std.specs.String.{string_bytes};
-ghost use Rattle.flow_reply.specs.Refusing.{compile_refusal, dropped_line, inconsistent_text, spaced_numbers, IsOfOptions};
+ghost use Rattle.flow_reply.specs.Refusing.{compile_refusal, dropped_line, inconsistent_text, IsOfOptions};
 
+use crate::listed::push_numbers;
 use crate::numbered::print_numbered;
 use flow_excise::{CompileRefusal, Dropped};
 use std::alloc::{AllocError, Global};
@@ -40,14 +41,4 @@ fn push_dropped(text: &mut String, dropped: &Dropped) -> Result<(), AllocError>
     write!(text, "dropped {resolution} {way} circle")?;
     push_numbers(text, dropped.circle.leaves())?;
     text.push_str("\n")
-}
-
-/// Adds the numbers, each after a blank.
-fn push_numbers(text: &mut String, numbers: &[u32]) -> Result<(), AllocError>
-    ensures { OnOk result (string_bytes text.new ≡ string_bytes text.old ++ spaced_numbers numbers.now) }
-{
-    for number in numbers {
-        write!(text, " {number}")?;
-    }
-    Ok(())
 }

@@ -77,6 +77,13 @@ impl Residual {
         &self.journal
     }
 
+    /// Whether the leaf is on the journal. Takes the same time however long that is.
+    pub fn is_done(&self, leaf: u32) -> bool
+        ensures { IsTrue result ↔ (leaf ∈ self.now.journal) }
+    {
+        leaf < 1024 && self.done.has(leaf)
+    }
+
     /// The leaves of the journal.
     pub(crate) fn done(&self) -> &Progress
         ensures bound { bound_of result.now ≡ 1024 }

@@ -1,7 +1,6 @@
-use Rattle.std.proofs.Common.{◌↔◌, ◌∙◌, inl, inr, ℕ, IsTrue, subst, sym}
+use Rattle.std.proofs.Common.{◌↔◌, inl, inr, ℕ, IsTrue, Bool, subst, sym}
 use Rattle.flow_model.specs.Lists.{◌∈◌}
 use Rattle.flow_model.specs.Run.{CanDoAside}
-use Rattle.flow_claims.proofs.Outstanding.{is_among}
 use Rattle.flow_core.specs.declared.engine.Core.TheInside.{Inside}
 use Rattle.flow_core.specs.Fields.{run_by, IsRunning}
 use Rattle.flow_core.specs.Looks.{CanStep}
@@ -23,23 +22,22 @@ not_left i k leaf done aside =
     done_cannot i.workflow i.limit i.history.items i.residual i.claims i.world i.committed k.kept leaf done
     (left_comes_next i.workflow i.limit i.history.items i.residual i.claims i.world i.committed k.kept leaf aside)
 
+-- what the residual tells of its journal, it tells of the run's
+done_told : (i : Inside) → IsRunning i → (leaf : ℕ) (told : Bool) → IsTrue told ↔ (leaf ∈ i.residual.journal) →
+    IsTrue told ↔ (leaf ∈ (now (run_by i)).journal)
+done_told i k leaf told says = subst (λ journal. IsTrue told ↔ (leaf ∈ journal)) (sym k.kept.remains.journal_is) says
+
 pub returns-clause-done : goal.returns-clause-done
 returns-clause-done c =
-    let i = c.self.inside in
-    subst (λ (r : Run). IsTrue c.contains.result ↔ (c.args.leaf ∈ (now r).journal)) c.self.view_is
-    (is_among c.contains.result c.args.leaf c.journal.result.now (now (run_by i)).journal c.contains.ensures.value
-    (c.journal.ensures.leaves ∙ sym c.self.invariant.kept.remains.journal_is))
+    subst (λ (r : Run). IsTrue c.is_done.result ↔ (c.args.leaf ∈ (now r).journal)) c.self.view_is
+    (done_told c.self.inside c.self.invariant c.args.leaf c.is_done.result c.is_done.ensures)
 
 pub returns-clause-no_step : goal.returns-clause-no_step
 returns-clause-no_step c =
-    let i = c.self.inside in
-    subst (λ (r : Run). IsTrue c.contains.result → ¬ (CanStep r c.args.leaf)) c.self.view_is
-    (λ told. no_step i c.self.invariant c.args.leaf ((is_among c.contains.result c.args.leaf c.journal.result.now (now (run_by i)).journal c.contains.ensures.value
-    (c.journal.ensures.leaves ∙ sym c.self.invariant.kept.remains.journal_is)).0 told))
+    subst (λ (r : Run). IsTrue c.is_done.result → ¬ (CanStep r c.args.leaf)) c.self.view_is
+    (λ told. no_step c.self.inside c.self.invariant c.args.leaf ((done_told c.self.inside c.self.invariant c.args.leaf c.is_done.result c.is_done.ensures).0 told))
 
 pub returns-clause-not_left : goal.returns-clause-not_left
 returns-clause-not_left c =
-    let i = c.self.inside in
-    subst (λ (r : Run). IsTrue c.contains.result → ¬ (CanDoAside (schema r) (now r) c.args.leaf)) c.self.view_is
-    (λ told. not_left i c.self.invariant c.args.leaf ((is_among c.contains.result c.args.leaf c.journal.result.now (now (run_by i)).journal c.contains.ensures.value
-    (c.journal.ensures.leaves ∙ sym c.self.invariant.kept.remains.journal_is)).0 told))
+    subst (λ (r : Run). IsTrue c.is_done.result → ¬ (CanDoAside (schema r) (now r) c.args.leaf)) c.self.view_is
+    (λ told. not_left c.self.inside c.self.invariant c.args.leaf ((done_told c.self.inside c.self.invariant c.args.leaf c.is_done.result c.is_done.ensures).0 told))

@@ -2,7 +2,7 @@ use Rattle.std.proofs.Common.{◌≢◌, ◌<◌, ◌+◌, ◌∙◌, ℕ, inl, 
 use Rattle.flow_model.specs.Decided.{decide_eq}
 use Rattle.flow_model.specs.Run.{CanDoAside}
 use Rattle.flow_core.specs.Run.{schema, now}
-use Rattle.flow_core.proofs.engine.Core.least_left.Goals.{else-not-is_done-via-then-not-is_done+else-could_be_done, else-not-is_done-via-else-not-is_done}
+use Rattle.flow_core.proofs.engine.Core.least_left.Goals.{else-not-is_done-via-then-not-is_done+else-is_left, else-not-is_done-via-else-not-is_done}
 use Rattle.flow_core.proofs.engine.Core.least_left.Goals as goal
 
 -- none below, and not that one
@@ -15,6 +15,6 @@ below_more P i below last n h can = elim (decide_eq n i) [
 pub loop-leaf-preserved : goal.loop-leaf-preserved
 loop-leaf-preserved c =
     below_more (CanDoAside (schema c.args.self.now) (now c.args.self.now)) c.loop-leaf.leaf c.loop-leaf.invariant (elim c.else-not-is_done.branch [
-      | else-not-is_done-via-then-not-is_done+else-could_be_done w ↦ (λ can. true≢false (sym (w.could_be_done.ensures.1 can) ∙ w.if-could_be_done.false))
+      | else-not-is_done-via-then-not-is_done+else-is_left w ↦ (λ can. true≢false (sym (w.is_left.ensures.1 can) ∙ w.if-is_left.false))
       | else-not-is_done-via-else-not-is_done w ↦ c.is_done.ensures.not_left w.if-not-is_done.false
     ])

@@ -1,0 +1,87 @@
+ghost use Rattle.std.specs.Prelude.{◌≡◌, ◌++◌, IfOk, OnOk};
+ghost use Rattle.std.specs.String.{string_bytes};
+ghost use Rattle.flow_model.specs.Run.{CanDoAside, IsStuck};
+ghost use Rattle.flow_model.specs.Verdict.{AreJust};
+ghost use Rattle.flow_core.specs.Run.{schema, now};
+ghost use Rattle.flow_core.specs.Looks.{CanAct, IsWaiting};
+ghost use Rattle.flow_reply.specs.Refusing.{spaced_numbers};
+ghost use Rattle.flow_reply.specs.Reply.{numbers_text, HoldsNow};
+
+use flow_core::{Core, Next};
+use std::alloc::{AllocError, Global};
+
+/// Prints a word, and the numbers after it.
+pub fn print_numbers(alloc: Global, word: &str, numbers: &[u32]) -> Result<String, AllocError>
+    ensures { IfOk result (λ text. string_bytes text ≡ numbers_text word.now numbers.now) }
+{
+    let mut text = format!(in alloc; "{word}")?;
+    push_numbers(&mut text, numbers)?;
+    Ok(text)
+}
+
+/// Adds the numbers, each after a blank.
+pub fn push_numbers(text: &mut String, numbers: &[u32]) -> Result<(), AllocError>
+    ensures { OnOk result (string_bytes text.new ≡ string_bytes text.old ++ spaced_numbers numbers.now) }
+{
+    for number in numbers {
+        write!(text, " {number}")?;
+    }
+    Ok(())
+}
+
+/// The leaves that can act, rising.
+pub fn enabled(alloc: Global, core: &Core) -> Result<Vec<u32>, AllocError>
+    ensures { IfOk result (λ leaves. AreJust (CanAct core.now) leaves.items) }
+{
+    let mut leaves = Vec::new(alloc);
+    for leaf in 0..core.workflow().tree().leaves() {
+        if core.can_act(leaf) {
+            leaves.push(leaf)?;
+        }
+    }
+    Ok(leaves)
+}
+
+/// The leaves that can be done, whatever holds, rising.
+fn left(alloc: Global, core: &Core) -> Result<Vec<u32>, AllocError>
+    ensures { IfOk result (λ leaves. AreJust (CanDoAside (schema core.now) (now core.now)) leaves.items) }
+{
+    let mut leaves = Vec::new(alloc);
+    for leaf in 0..core.workflow().tree().leaves() {
+        if core.is_left(leaf) {
+            leaves.push(leaf)?;
+        }
+    }
+    Ok(leaves)
+}
+
+/// The leaves that wait where the run is stuck, rising.
+pub fn stuck_at(alloc: Global, core: &Core) -> Result<Vec<u32>, AllocError>
+    requires { IsStuck (schema core.now) (now core.now) }
+    ensures { IfOk result (λ leaves. AreJust (IsWaiting core.now) leaves.items) }
+{
+    left(alloc, core)
+}
+
+/// The leaves that wait, rising: none where the run is not stuck.
+pub fn waiting(alloc: Global, core: &Core) -> Result<Vec<u32>, AllocError>
+    ensures { IfOk result (λ leaves. AreJust (IsWaiting core.now) leaves.items) }
+{
+    match core.next() {
+        Next::Stuck(_) => stuck_at(alloc, core),
+        _ => Ok(Vec::new(alloc)),
+    }
+}
+
+/// The facts that hold now, by their numbers.
+pub fn held(alloc: Global, core: &Core) -> Result<Vec<u32>, AllocError>
+    ensures { IfOk result (λ facts. AreJust (HoldsNow core.now) facts.items) }
+{
+    let mut facts = Vec::new(alloc);
+    for fact in 0..core.workflow().facts().count() {
+        if core.holds(fact) {
+            facts.push(fact)?;
+        }
+    }
+    Ok(facts)
+}
