@@ -1,2 +1,4 @@
 pub mod Cutting
 pub mod Tables
+pub mod Rising
+pub mod Runs
