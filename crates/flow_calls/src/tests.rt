@@ -1,6 +1,5 @@
 mod faults;
 mod properties;
 mod records;
-mod replies;
 mod streams;
 mod texts;
