@@ -3,8 +3,9 @@ ghost use Rattle.flow_model.specs.Verdict.{drive_verdict};
 ghost use Rattle.flow_workflow.specs.Definition.{schema_of};
 ghost use Rattle.flow_excise.specs.Compilation.{IsCompiled};
 ghost use Rattle.flow_core.specs.Run.{schema};
+ghost use Rattle.flow_core.specs.Lawful.{IsLawful};
 ghost use Rattle.flow_reply.specs.Reply.{IsAnswerTo, HasNamedCall};
-ghost use Rattle.flow_reply.specs.Report.{IsOfDrive, Means};
+ghost use Rattle.flow_reply.specs.Report.{Means};
 ghost use Rattle.flow_cli.specs.Drive.{Answers, RepliesTo, Drives};
 ghost use Rattle.flow_cli.specs.Words.{IsStepCount};
 ghost use Rattle.flow_cli.specs.Driving.{Records, ended};
@@ -63,11 +64,12 @@ fn reply_to_all(
 /// What the run came to.
 pub fn verdict_of(core: &Core) -> Verdict
     ensures verdict { Means core.now result (drive_verdict (schema core.now) core.now.limit core.now.history) }
-    ensures drive { IsOfDrive result }
+    ensures lawful { IsLawful (schema core.now) core.now.limit core.now.history }
 {
+    let entries = core.history().len();
     if core.committed() {
         Verdict::Committed
-    } else if core.history().len() == core.limit() as usize {
+    } else if entries == core.limit() as usize {
         Verdict::Spent
     } else {
         Verdict::Unfinished
