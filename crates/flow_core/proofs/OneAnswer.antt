@@ -73,7 +73,7 @@ late_once s n of other a b =
     let (claim, x, y) = both_of s n (λ (c : Claim). (c.answered ≡ false) × (c.epoch ≡ of)) (λ (c : Claim). (c.answered ≡ false) × (c.epoch ≡ other)) a.1 b.1 in
     sym x.1 ∙ y.1
 
-none_out : (s : RunState) (n : ℕ) → current_claims s ≡ [] → IsLeastCurrent s n → ⊥
+pub none_out : (s : RunState) (n : ℕ) → current_claims s ≡ [] → IsLeastCurrent s n → ⊥
 none_out s n none least =
     let (claim, found, told) = some_claim (λ c. IsTrue (is_current s c)) (claim_at s n) least.0 in
     left_in (is_current s) s.claims claim (claim_in s.claims n claim found) told none

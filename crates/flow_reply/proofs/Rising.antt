@@ -10,7 +10,7 @@ abbrev pub Below : (ℕ → Type 0) → ℕ → ℕ → Type 0
 Below P bound n = (n < bound) × P n
 
 -- each number stands before greater ones alone
-abbrev Rises : List ℕ → Type 0
+abbrev pub Rises : List ℕ → Type 0
 Rises list = (front back : List ℕ) (x y : ℕ) → list ≡ front ++ x ∷ y ∷ back → x < y
 
 no_two : (front back : List ℕ) (x y : ℕ) → ¬ ([] ≡ front ++ x ∷ y ∷ back)
@@ -93,3 +93,43 @@ all_found P bound list just within = just_as (Below P bound) P list just (λ n b
 -- no number has P
 pub none_has : (P : ℕ → Type 0) → ((n : ℕ) → ¬ (P n)) → AreJust P []
 none_has P none = all_found P 0 [] (none_yet P) (λ n has. absurd (none n has))
+
+-- Two lists that rise
+
+tail_rises : (x : ℕ) (xs : List ℕ) → Rises (x ∷ xs) → Rises xs
+tail_rises x xs rises front back y z e = rises (x ∷ front) back y z (ap (λ l. x ∷ l) e)
+
+above_head : (x : ℕ) (xs : List ℕ) → Rises (x ∷ xs) → (n : ℕ) → n ∈ xs → x < n
+above_head x [] rises n there = absurd there
+above_head x (y ∷ ys) rises n (inl e) = let less : x < y = rises [] ys x y refl in omega (arith, e)
+above_head x (y ∷ ys) rises n (inr there) =
+    let less : x < y = rises [] ys x y refl in
+    let more : y < n = above_head y ys (tail_rises x (y ∷ ys) rises) n there in
+    omega arith
+
+same_heads : (x y : ℕ) (xs ys : List ℕ) → Rises (x ∷ xs) → Rises (y ∷ ys) → x ∈ (y ∷ ys) → y ∈ (x ∷ xs) → x ≡ y
+same_heads x y xs ys rx ry (inl same) other = same
+same_heads x y xs ys rx ry (inr there) (inl same) = sym same
+same_heads x y xs ys rx ry (inr there) (inr back) =
+    let less : y < x = above_head y ys ry x there in
+    let more : x < y = above_head x xs rx y back in
+    absurd (omega arith)
+
+in_tail : (x y : ℕ) (xs ys : List ℕ) → Rises (x ∷ xs) → x ≡ y → (n : ℕ) → n ∈ xs → n ∈ (y ∷ ys) → n ∈ ys
+in_tail x y xs ys rx same n there (inl e) = let less : x < n = above_head x xs rx n there in absurd (omega (arith, e, same))
+in_tail x y xs ys rx same n there (inr m) = m
+
+same_members : (xs ys : List ℕ) → Rises xs → Rises ys → ((n : ℕ) → n ∈ xs → n ∈ ys) → ((n : ℕ) → n ∈ ys → n ∈ xs) → xs ≡ ys
+same_members [] [] rx ry to from = refl
+same_members [] (y ∷ ys) rx ry to from = absurd (from y (inl refl))
+same_members (x ∷ xs) [] rx ry to from = absurd (to x (inl refl))
+same_members (x ∷ xs) (y ∷ ys) rx ry to from =
+    let same : x ≡ y = same_heads x y xs ys rx ry (to x (inl refl)) (from y (inl refl)) in
+    let rest : xs ≡ ys = same_members xs ys (tail_rises x xs rx) (tail_rises y ys ry)
+        (λ n there. in_tail x y xs ys rx same n there (to n (inr there)))
+        (λ n there. in_tail y x ys xs ry (sym same) n there (from n (inr there))) in
+    cc
+
+-- a property has one list
+pub one_list : (P : ℕ → Type 0) (xs ys : List ℕ) → AreJust P xs → AreJust P ys → xs ≡ ys
+one_list P xs ys jx jy = same_members xs ys jx.rising jy.rising (λ n there. (jy.exact n).1 ((jx.exact n).0 there)) (λ n there. (jx.exact n).1 ((jy.exact n).0 there))

@@ -3,3 +3,4 @@ pub mod Reply
 pub mod Report
 pub mod Refusing
 pub mod Checking
+pub mod Single

@@ -6,7 +6,7 @@ ghost use Rattle.flow_reply.specs.Reply.{IsAnswerTo, HasNamedCall, IsReply, IsRe
 use crate::answer::Answer;
 use crate::ending::{print_commit, print_rewind};
 use crate::posting::{print_done, print_fail};
-use crate::showing::{print_enabled, print_facts, print_held, print_next};
+use crate::showing::{show_enabled, show_facts, show_journal, show_next};
 use flow_core::{Call, Core, DoRefusal, TakeRefusal};
 use flow_record::Command;
 use std::alloc::{AllocError, Global};
@@ -45,10 +45,10 @@ fn print_answer(
         (Command::Fail(claim), Answer::Failed(came)) => print_fail(alloc, claim, came)?,
         (Command::Rewind, Answer::Rewound(came)) => print_rewind(alloc, came)?,
         (Command::Commit, Answer::Committed(came)) => print_commit(alloc, came)?,
-        (Command::Next, Answer::Shown) => print_next(alloc, core)?,
-        (Command::Enabled, Answer::Shown) => print_enabled(alloc, core)?,
-        (Command::Journal, Answer::Shown) => print_held(alloc, core)?,
-        (Command::Facts, Answer::Shown) => return print_facts(alloc, core),
+        (Command::Next, Answer::Shown) => show_next(alloc, core)?,
+        (Command::Enabled, Answer::Shown) => show_enabled(alloc, core)?,
+        (Command::Journal, Answer::Shown) => show_journal(alloc, core)?,
+        (Command::Facts, Answer::Shown) => return show_facts(alloc, core),
         _ => unreachable!(),
     };
     Ok(text.into_bytes())
