@@ -1,7 +1,6 @@
 mod faults;
 mod properties;
 mod records;
-mod replies;
 mod streams;
 mod texts;
 mod turns;

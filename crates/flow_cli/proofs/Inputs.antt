@@ -7,12 +7,12 @@ use Rattle.flow_cli.specs.declared.status.Status.{Status}
 use Rattle.flow_cli.specs.Words.{IsCall}
 use Rattle.flow_cli.specs.Output.{greatest_input, WritesFor, WritesRead, Writes}
 
-pub writes_read : (words : List (List ℕ)) (mode : Mode) (all left : Option (List ℕ)) (bytes slice : List ℕ) (status : Status) (output : List ℕ) →
-    IsCall words mode → IsAllOf all left bytes → slice ≡ bytes → length slice ≤ greatest_input → WritesFor mode slice status output →
+pub writes_read : (words : List (List ℕ)) (mode : Mode) (steps : ℕ) (all left : Option (List ℕ)) (bytes slice : List ℕ) (status : Status) (output : List ℕ) →
+    IsCall words mode steps → IsAllOf all left bytes → slice ≡ bytes → length slice ≤ greatest_input → WritesFor mode steps slice status output →
     IfSome all (λ input. Writes words input status output)
-writes_read words mode None left bytes slice status output call whole same short w = tt
-writes_read words mode (Some input) left bytes slice status output call whole same short w =
-    inr (mode, call, inr (subst (λ (i : List ℕ). WritesRead mode i status output) (same ∙ whole.0) (inr (short, w))))
+writes_read words mode steps None left bytes slice status output call whole same short w = tt
+writes_read words mode steps (Some input) left bytes slice status output call whole same short w =
+    inr (mode, (steps, call, inr (subst (λ (i : List ℕ). WritesRead mode steps i status output) (same ∙ whole.0) (inr (short, w)))))
 
 -- a front of an output that some status goes with
 pub partly : (P : List ℕ → Status → List ℕ → Type 0) (all held held' : Option (List ℕ)) (status : Status) (output slice : List ℕ) →

@@ -1,6 +1,6 @@
+pub mod Options
 pub mod Serving
 pub mod Sessions
 pub mod Numbered
-pub mod PlainTrees
 pub mod Compiled
 pub mod Inputs

@@ -1,37 +1,26 @@
 -- What `drive` writes.
-use Rattle.std.specs.Prelude.{◌≡◌, ◌<◌, ℕ, List, [], ◌++◌, length, Some, ◌⊎◌}
-use Rattle.flow_model.specs.declared.labels.Label.{Label}
-use Rattle.flow_model.specs.Facts.{event_at}
+use Rattle.std.specs.Prelude.{◌≡◌, ℕ, List, [], ◌++◌, ◌⊎◌}
 use Rattle.flow_model.specs.Verdict.{drive_verdict}
-use Rattle.flow_core.specs.View.{Progress, schema_of, now}
+use Rattle.flow_core.specs.Run.{Run}
 use Rattle.flow_core.specs.Lawful.{IsLawful}
 use Rattle.flow_form.specs.Script.{Said}
-use Rattle.flow_workflow.specs.Definition.{Definition}
+use Rattle.flow_workflow.specs.Definition.{Definition, schema_of}
 use Rattle.flow_record.specs.declared.command.Command.{Command}
 use Rattle.flow_record.specs.declared.refusal.RecordRefusal.TheVariants.{BadLine}
 use Rattle.flow_record.specs.Session.{session_of, commands, bad_line}
 use Rattle.flow_reply.specs.declared.refused.Refused.TheVariants as refused
 use Rattle.flow_reply.specs.declared.verdict.Verdict.{Verdict}
 use Rattle.flow_reply.specs.declared.verdict.Verdict.TheVariants as verdict
-use Rattle.flow_reply.specs.Report.{meaning, report_text}
+use Rattle.flow_reply.specs.Report.{Means, IsReport}
 use Rattle.flow_cli.specs.declared.status.Status.{Status}
 use Rattle.flow_cli.specs.declared.status.Status.TheVariants.{Fine, No, Spent}
-use Rattle.flow_cli.specs.Refusals.{Tells, IsNotExpanded}
-use Rattle.flow_cli.specs.Checking.{OfWorkflow}
-use Rattle.flow_cli.specs.Driveable.{IsBuilt}
+use Rattle.flow_cli.specs.Refusals.{Tells, IsNotExpanded, OfWorkflow}
+use Rattle.flow_cli.specs.Compiling.{IsNotCompiled}
 use Rattle.flow_cli.specs.Drive.{Drives}
 
--- the greatest length of a history
-abbrev pub step_limit : ℕ
-step_limit = 65536
-
 -- before the first command
-abbrev pub start_of : Definition → Progress
-start_of w = record { schema = schema_of w.tree; limit = step_limit; history = [] }
-
--- the events at the leaves have names
-abbrev pub HasNames : List (List ℕ) → List Label → Type 0
-HasNames names labels = (leaf event : ℕ) → event_at labels leaf ≡ Some event → event < length names
+abbrev pub start_of : Definition → ℕ → Run
+start_of w steps = record { definition = w; limit = steps; history = [] }
 
 -- the status that a verdict ends with
 abbrev pub ended : Verdict → Status
@@ -41,35 +30,28 @@ ended (verdict.NoOther leaf) = No
 ended verdict.Stuck = No
 ended verdict.Unfinished = No
 
--- The output is that of a driven session of this workflow with this status: a reply to each command, and the report of
--- the history so made. Of this history the headline holds: it is lawful.
-pub record Records (w : Definition) (session : List Command) (status : Status) (output : List ℕ) : Type 0 where
+-- The output is that of a driven session of this workflow, in so many steps at most, with this status: a reply to each
+-- command, and the report of the run so made. Of its history the headline holds: it is lawful.
+pub record Records (w : Definition) (steps : ℕ) (session : List Command) (status : Status) (output : List ℕ) : Type 0 where
   pub replies : List ℕ
-  pub last : Progress
-  pub driven : Drives w.events (start_of w) session replies last
-  pub lawful : IsLawful (schema_of w.tree) step_limit last.history
+  pub last : Run
+  pub driven : Drives (start_of w steps) session replies last
+  pub lawful : IsLawful (schema_of w) steps last.history
   pub verdict : Verdict
-  pub verdict_is : meaning verdict ≡ drive_verdict (schema_of w.tree) step_limit last.history
+  pub verdict_is : Means last verdict (drive_verdict (schema_of w) steps last.history)
   pub status_is : status ≡ ended verdict
-  pub output_is : output ≡ replies ++ report_text w last.history (now last).journal (meaning verdict)
+  pub report : List ℕ
+  pub reported : IsReport last verdict report
+  pub output_is : output ≡ replies ++ report
 
--- the engine drives the workflow by this session, and the output is that of it
-pub record IsDriven (w : Definition) (session : List Command) (status : Status) (output : List ℕ) : Type 0 where
-  pub built : IsBuilt w session
-  pub recorded : Records w session status output
-
--- the engine does not drive the workflow by this session so far
-pub record IsUnbuilt (w : Definition) (session : List Command) (status : Status) (output : List ℕ) : Type 0 where
-  pub unbuilt : ¬ (IsBuilt w session)
-  pub told : Tells [] refused.Unbuilt status output
-
--- the status and the output are those of the workflow driven by this session
-abbrev pub DrivesWorkflow : Definition → List Command → Status → List ℕ → Type 0
-DrivesWorkflow w session status output = IsUnbuilt w session status output ⊎ IsDriven w session status output
+-- the status and the output are those of the workflow driven by this session: it is compiled first
+abbrev pub DrivesWorkflow : Definition → ℕ → List Command → Status → List ℕ → Type 0
+DrivesWorkflow w steps session status output = IsNotCompiled w status output ⊎ Records w steps session status output
 
 -- the status and the output are those of what is said driven by this session
-abbrev pub DrivesSaid : Said → List Command → Status → List ℕ → Type 0
-DrivesSaid s session status output = IsNotExpanded s status output ⊎ OfWorkflow s (λ w. DrivesWorkflow w session status output)
+abbrev pub DrivesSaid : Said → ℕ → List Command → Status → List ℕ → Type 0
+DrivesSaid s steps session status output =
+    IsNotExpanded s status output ⊎ OfWorkflow s (λ w. DrivesWorkflow w steps session status output)
 
 -- the text is no session, and the output is the least line that is not as it must be
 pub record IsLineRefused (text : List ℕ) (status : Status) (output : List ℕ) : Type 0 where
@@ -83,5 +65,6 @@ OfSession text P = (session : List Command) × (session_of text ≡ commands ses
 
 -- the status and the output are those of what is said driven by the session of this text: its lines are read before
 -- what is said is expanded
-abbrev pub DrivesText : Said → List ℕ → Status → List ℕ → Type 0
-DrivesText s text status output = IsLineRefused text status output ⊎ OfSession text (λ session. DrivesSaid s session status output)
+abbrev pub DrivesText : Said → ℕ → List ℕ → Status → List ℕ → Type 0
+DrivesText s steps text status output =
+    IsLineRefused text status output ⊎ OfSession text (λ session. DrivesSaid s steps session status output)

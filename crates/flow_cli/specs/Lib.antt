@@ -1,8 +1,8 @@
 pub mod Code
 pub mod Words
 pub mod Refusals
+pub mod Compiling
 pub mod Checking
-pub mod Driveable
 pub mod Drive
 pub mod Driving
 pub mod Output

@@ -40,35 +40,36 @@ pub record IsTextRefused (input : List ℕ) (status : Status) (output : List ℕ
   pub first : IsParseRefusal (workflow_part input) refusal
   pub told : Tells [] (refused.Text refusal) status output
 
--- what the mode writes for what is said and the text that follows it: only `drive` reads that
-abbrev pub WritesSaid : Mode → Said → List ℕ → Status → List ℕ → Type 0
-WritesSaid Drive s text status output = DrivesText s text status output
-WritesSaid Check s text status output = Checks s status output
+-- what the mode writes for what is said and the text that follows it: only `drive` reads that, and counts steps
+abbrev pub WritesSaid : Mode → ℕ → Said → List ℕ → Status → List ℕ → Type 0
+WritesSaid Drive steps s text status output = DrivesText s steps text status output
+WritesSaid Check steps s text status output = Checks s status output
 
 -- the text of the workflow says something, and the output is that of the mode for it
-pub record IsAnswered (mode : Mode) (input : List ℕ) (status : Status) (output : List ℕ) : Type 0 where
+pub record IsAnswered (mode : Mode) (steps : ℕ) (input : List ℕ) (status : Status) (output : List ℕ) : Type 0 where
   pub said : Said
   pub says : Says (workflow_part input) said
-  pub answered : WritesSaid mode said (session_part input) status output
+  pub answered : WritesSaid mode steps said (session_part input) status output
 
 -- what the mode writes for an input that is not too long
-abbrev pub WritesFor : Mode → List ℕ → Status → List ℕ → Type 0
-WritesFor mode input status output = IsTextRefused input status output ⊎ IsAnswered mode input status output
+abbrev pub WritesFor : Mode → ℕ → List ℕ → Status → List ℕ → Type 0
+WritesFor mode steps input status output = IsTextRefused input status output ⊎ IsAnswered mode steps input status output
 
 -- what the mode writes for an input that was read
-abbrev pub WritesRead : Mode → List ℕ → Status → List ℕ → Type 0
-WritesRead mode input status output = IsTooLong input status output ⊎ ((length input ≤ greatest_input) × WritesFor mode input status output)
+abbrev pub WritesRead : Mode → ℕ → List ℕ → Status → List ℕ → Type 0
+WritesRead mode steps input status output =
+    IsTooLong input status output ⊎ ((length input ≤ greatest_input) × WritesFor mode steps input status output)
 
 -- what the mode writes for an input, from a source that may fail
-abbrev pub WritesIn : Mode → List ℕ → Status → List ℕ → Type 0
-WritesIn mode input status output = Tells [] refused.Read status output ⊎ WritesRead mode input status output
+abbrev pub WritesIn : Mode → ℕ → List ℕ → Status → List ℕ → Type 0
+WritesIn mode steps input status output = Tells [] refused.Read status output ⊎ WritesRead mode steps input status output
 
 -- For these words and this input the call writes that output with that status: wrong words are refused first, then a
 -- source that fails, and then the first reason of the mode that applies, if there is one.
 abbrev pub Writes : List (List ℕ) → List ℕ → Status → List ℕ → Type 0
 Writes words input status output =
     (IsNoCall words × Tells [] refused.Words status output)
-    ⊎ ((mode : Mode) × IsCall words mode × WritesIn mode input status output)
+    ⊎ ((mode : Mode) × ((steps : ℕ) × IsCall words mode steps × WritesIn mode steps input status output))
 
 -- the call wrote its whole output, and no fault and no want of memory ended it
 abbrev pub IsWhole : Status → Type 0

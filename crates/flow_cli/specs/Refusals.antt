@@ -2,8 +2,10 @@
 use Rattle.std.specs.Prelude.{◌≡◌, ℕ, List}
 use Rattle.flow_form.specs.Script.{Said}
 use Rattle.flow_form.specs.Names.{event_names}
+use Rattle.flow_workflow.specs.Definition.{Definition}
 use Rattle.flow_expand.specs.declared.refusal.ExpandRefusal.{ExpandRefusal}
 use Rattle.flow_expand.specs.Refusals.{IsRefusal}
+use Rattle.flow_expand.specs.Workflows.{IsExpanded}
 use Rattle.flow_excise.specs.declared.refusal.CompileRefusal.{CompileRefusal}
 use Rattle.flow_excise.specs.declared.refusal.CompileRefusal.TheVariants.{TooManyChoices, TooManyWays, TooBulky, Inconsistent, NoMemory}
 use Rattle.flow_reply.specs.declared.refused.Refused.{Refused}
@@ -24,7 +26,6 @@ abbrev pub status_of : Refused → Status
 status_of refused.Words = Words
 status_of refused.Read = ReadFault
 status_of refused.TooLong = Input
-status_of refused.Unbuilt = Input
 status_of (refused.Text refusal) = Input
 status_of (refused.Record refusal) = Input
 status_of (refused.Expand refusal) = Input
@@ -41,3 +42,7 @@ pub record IsNotExpanded (s : Said) (status : Status) (output : List ℕ) : Type
   pub of_workflow : IsOfWorkflow (event_names s.decls) refusal
   pub first : IsRefusal s refusal
   pub told : Tells (event_names s.decls) (refused.Expand refusal) status output
+
+-- the workflow that is said has P
+abbrev pub OfWorkflow : Said → (Definition → Type 0) → Type 0
+OfWorkflow s P = (w : Definition) × IsExpanded s w × P w

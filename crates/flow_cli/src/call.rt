@@ -5,13 +5,14 @@ ghost use Rattle.flow_form.specs.Script.{said};
 ghost use Rattle.flow_form.specs.Names.{IsClosed};
 ghost use Rattle.flow_io.specs.Sink.{AppendsPart};
 ghost use Rattle.flow_cli.specs.declared.status.Status.{Status};
+ghost use Rattle.flow_cli.specs.Words.{IsStepCount};
 ghost use Rattle.flow_cli.specs.Output.{greatest_input, WritesSaid, WritesFor, Writes, IsWhole, IsOfInput, IsOver};
 
 use crate::checking::check;
 use crate::driving::drive;
 use crate::output::{Output, refuse};
 use crate::status::Status;
-use crate::words::{Mode, mode_of};
+use crate::words::{Mode, Request, request_of};
 use flow_form::Script;
 use flow_io::{ReadRefusal, Sink, Source, read_all, write_all};
 use flow_reply::{Refused, cut};
@@ -21,31 +22,33 @@ use std::alloc::{AllocError, Global};
 /// The greatest number of bytes that are read.
 const GREATEST_INPUT: usize = 1_048_576;
 
-/// What the mode writes for a script and the text that follows it.
+/// What is written for a script and the text that follows it.
 fn answer_script(
     alloc: Global,
-    mode: Mode,
+    request: Request,
     script: &Script,
     text: &[u8],
 ) -> Result<Output, AllocError>
-    requires { IsClosed (said script.now) }
-    ensures { IfOk result (λ output. WritesSaid mode (said script.now) text.now output.status output.text.items) }
+    requires closed { IsClosed (said script.now) }
+    requires steps { IsStepCount request.steps }
+    ensures { IfOk result (λ output. WritesSaid request.mode request.steps (said script.now) text.now output.status output.text.items) }
 {
-    match mode {
-        Mode::Drive => drive(alloc, script, text),
+    match request.mode {
+        Mode::Drive => drive(alloc, script, text, request.steps),
         Mode::Check => check(alloc, script),
     }
 }
 
-/// What the mode writes for an input.
-fn answer(alloc: Global, mode: Mode, input: &[u8]) -> Result<Output, AllocError>
-    requires { length input.now ≤ greatest_input }
-    ensures writes { IfOk result (λ output. WritesFor mode input.now output.status output.text.items) }
+/// What is written for an input.
+fn answer(alloc: Global, request: Request, input: &[u8]) -> Result<Output, AllocError>
+    requires short { length input.now ≤ greatest_input }
+    requires steps { IsStepCount request.steps }
+    ensures writes { IfOk result (λ output. WritesFor request.mode request.steps input.now output.status output.text.items) }
     ensures of_input { IfOk result (λ output. IsOfInput output.status) }
 {
     let (end, second) = cut(input);
     match parse(alloc, &input[..end]) {
-        Ok(script) => answer_script(alloc, mode, &script, &input[second..]),
+        Ok(script) => answer_script(alloc, request, &script, &input[second..]),
         Err(TextRefusal::NoMemory) => Err(AllocError),
         Err(refusal) => refuse(alloc, &Refused::Text(refusal), None),
     }
@@ -61,11 +64,11 @@ fn respond<S: Source>(alloc: Global, words: &[String], source: &mut S) -> Result
     ensures fault { IfOk result (λ output. (output.status ≡ Status.ReadFault) ↔ (S.faults source.old < S.faults source.new)) }
     ensures end { IfOk result (λ output. IsOver output.status → IfSome (S.left source.old) (λ _. S.left source.new ≡ Some [])) }
 {
-    let Some(mode) = mode_of(words) else {
+    let Some(request) = request_of(words) else {
         return refuse(alloc, &Refused::Words, None);
     };
     match read_all(alloc, source, GREATEST_INPUT) {
-        Ok(input) => answer(alloc, mode, &input),
+        Ok(input) => answer(alloc, request, &input),
         Err(ReadRefusal::ReadFault) => refuse(alloc, &Refused::Read, None),
         Err(ReadRefusal::TooLong) => refuse(alloc, &Refused::TooLong, None),
         Err(ReadRefusal::NoMemory) => Err(AllocError),

@@ -3,12 +3,12 @@ ghost use Rattle.flow_form.specs.Script.{said};
 ghost use Rattle.flow_form.specs.Names.{IsClosed};
 ghost use Rattle.flow_cli.specs.Checking.{ChecksWorkflow, Checks};
 
-use crate::output::{Output, refuse, refuse_script};
+use crate::output::{Output, refuse_script, refuse_workflow};
 use crate::status::Status;
-use flow_excise::{CompileRefusal, compile};
+use flow_excise::compile;
 use flow_expand::{Workflow, expand};
 use flow_form::Script;
-use flow_reply::{Refused, print_check};
+use flow_reply::print_check;
 use std::alloc::{AllocError, Global};
 
 /// Checks a workflow: its leaves and counts, or why it is not compiled.
@@ -20,8 +20,7 @@ fn check_workflow(alloc: Global, workflow: &Workflow) -> Result<Output, AllocErr
             status: Status::Fine,
             text: print_check(alloc, workflow, &compiled.counts())?,
         }),
-        Err(CompileRefusal::NoMemory) => Err(AllocError),
-        Err(refusal) => refuse(alloc, &Refused::Compile(refusal), None),
+        Err(refusal) => refuse_workflow(alloc, refusal),
     }
 }
 

@@ -1,50 +1,64 @@
 ghost use Rattle.std.specs.Prelude.{IfOk};
 ghost use Rattle.flow_form.specs.Script.{said};
 ghost use Rattle.flow_form.specs.Names.{IsClosed};
+ghost use Rattle.flow_cli.specs.Words.{IsStepCount};
 ghost use Rattle.flow_cli.specs.Driving.{DrivesWorkflow, DrivesSaid, DrivesText};
 
-use crate::driveable::is_built;
-use crate::output::{Output, refuse, refuse_script};
+use crate::output::{Output, refuse, refuse_script, refuse_workflow};
 use crate::session::run;
+use flow_excise::compile;
 use flow_expand::{Workflow, expand};
 use flow_form::Script;
 use flow_record::{RecordRefusal, read_session};
 use flow_reply::{Command, Refused};
 use std::alloc::{AllocError, Global};
 
-/// Drives a workflow by a session, where the engine does so.
+/// Drives a workflow by a session, where it is compiled.
 fn drive_workflow(
     alloc: Global,
-    workflow: &Workflow,
+    workflow: Workflow,
     session: &[Command],
+    steps: u32,
 ) -> Result<Output, AllocError>
-    ensures { IfOk result (λ output. DrivesWorkflow workflow.now session.now output.status output.text.items) }
+    requires steps { IsStepCount steps }
+    ensures { IfOk result (λ output. DrivesWorkflow workflow steps session.now output.status output.text.items) }
 {
-    if is_built(workflow, session) {
-        run(alloc, workflow, session)
-    } else {
-        refuse(alloc, &Refused::Unbuilt, None)
+    match compile(alloc, workflow.tree(), workflow.rules()) {
+        Ok(compiled) => run(alloc, workflow, compiled, session, steps),
+        Err(refusal) => refuse_workflow(alloc, refusal),
     }
 }
 
 /// Drives what a script says by a session.
-fn drive_script(alloc: Global, script: &Script, session: &[Command]) -> Result<Output, AllocError>
-    requires { IsClosed (said script.now) }
-    ensures { IfOk result (λ output. DrivesSaid (said script.now) session.now output.status output.text.items) }
+fn drive_script(
+    alloc: Global,
+    script: &Script,
+    session: &[Command],
+    steps: u32,
+) -> Result<Output, AllocError>
+    requires closed { IsClosed (said script.now) }
+    requires steps { IsStepCount steps }
+    ensures { IfOk result (λ output. DrivesSaid (said script.now) steps session.now output.status output.text.items) }
 {
     match expand(alloc, script) {
-        Ok(workflow) => drive_workflow(alloc, &workflow, session),
+        Ok(workflow) => drive_workflow(alloc, workflow, session, steps),
         Err(refusal) => refuse_script(alloc, refusal, script),
     }
 }
 
-/// Drives what a script says by the session of a text. Its lines are read first.
-pub fn drive(alloc: Global, script: &Script, text: &[u8]) -> Result<Output, AllocError>
-    requires { IsClosed (said script.now) }
-    ensures { IfOk result (λ output. DrivesText (said script.now) text.now output.status output.text.items) }
+/// Drives what a script says by the session of a text, in so many steps at most. Its lines are read first.
+pub fn drive(
+    alloc: Global,
+    script: &Script,
+    text: &[u8],
+    steps: u32,
+) -> Result<Output, AllocError>
+    requires closed { IsClosed (said script.now) }
+    requires steps { IsStepCount steps }
+    ensures { IfOk result (λ output. DrivesText (said script.now) steps text.now output.status output.text.items) }
 {
     match read_session(alloc, text) {
-        Ok(session) => drive_script(alloc, script, &session),
+        Ok(session) => drive_script(alloc, script, &session, steps),
         Err(RecordRefusal::NoMemory) => Err(AllocError),
         Err(refusal) => refuse(alloc, &Refused::Record(refusal), None),
     }

@@ -3,7 +3,6 @@
 
 mod call;
 mod checking;
-mod driveable;
 mod driving;
 mod output;
 mod session;

@@ -2,7 +2,10 @@ ghost use Rattle.std.specs.Prelude.{◌≡◌, IfOk};
 ghost use Rattle.flow_form.specs.Script.{said};
 ghost use Rattle.flow_expand.specs.Refusals.{IsRefusal};
 ghost use Rattle.flow_reply.specs.Refusing.{named_by, IsTold};
+ghost use Rattle.flow_workflow.specs.Definition.{Definition, schema_of};
+ghost use Rattle.flow_excise.specs.Compilation.{IsRefused};
 ghost use Rattle.flow_cli.specs.Refusals.{status_of, status_of_compiling, Tells, IsNotExpanded};
+ghost use Rattle.flow_cli.specs.Compiling.{IsNotCompiled};
 
 use crate::status::Status;
 use flow_excise::CompileRefusal;
@@ -39,7 +42,6 @@ fn status_of(refused: &Refused) -> Status
         Refused::Words => Status::Words,
         Refused::Read => Status::ReadFault,
         Refused::TooLong
-        | Refused::Unbuilt
         | Refused::Text(_)
         | Refused::Record(_)
         | Refused::Expand(_) => Status::Input,
@@ -74,5 +76,15 @@ pub fn refuse_script(
     match refusal {
         ExpandRefusal::NoMemory => Err(AllocError),
         refusal => refuse(alloc, &Refused::Expand(refusal), Some(script)),
+    }
+}
+
+/// Why a workflow is not compiled, as output.
+pub fn refuse_workflow(alloc: Global, refusal: CompileRefusal) -> Result<Output, AllocError>
+    ensures { IfOk result (λ output. (w : Definition) → IsRefused (schema_of w) refusal → IsNotCompiled w output.status output.text.items) }
+{
+    match refusal {
+        CompileRefusal::NoMemory => Err(AllocError),
+        refusal => refuse(alloc, &Refused::Compile(refusal), None),
     }
 }

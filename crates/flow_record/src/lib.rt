@@ -19,5 +19,6 @@ pub use history_lines::read_history;
 pub use journal::{print_journal, print_label};
 pub use journal_lines::read_journal;
 pub use lines::place_of_feed;
+pub use number::read_number;
 pub use refusal::RecordRefusal;
 pub use session::read_session;

@@ -1,0 +1,42 @@
+-- Workflows that are not compiled.
+use Rattle.std.specs.Prelude.{◌≡◌, ℕ, List, [], ◌⊎◌}
+use Rattle.flow_laws.specs.Words.{IsConsistent}
+use Rattle.flow_workflow.specs.Definition.{Definition, schema_of}
+use Rattle.flow_excise.specs.declared.refusal.CompileRefusal.{CompileRefusal}
+use Rattle.flow_excise.specs.declared.refusal.CompileRefusal.TheVariants.{TooManyChoices, TooManyWays, TooBulky, Inconsistent, NoMemory}
+use Rattle.flow_excise.specs.declared.refusal.Dropped.{Dropped}
+use Rattle.flow_excise.specs.Executions.{TellOfAll}
+use Rattle.flow_excise.specs.Compilation.{IsWithinLimits, IsRefused, all_numbered}
+use Rattle.flow_reply.specs.declared.refused.Refused.TheVariants as refused
+use Rattle.flow_reply.specs.Refusing.{inconsistent_text}
+use Rattle.flow_cli.specs.declared.status.Status.{Status}
+use Rattle.flow_cli.specs.declared.status.Status.TheVariants.{No}
+use Rattle.flow_cli.specs.Refusals.{Tells}
+
+-- the refusal is that there is too much of something
+abbrev pub IsOfCounts : CompileRefusal → Type 0
+IsOfCounts (TooManyChoices count) = Unit {0}
+IsOfCounts (TooManyWays count) = Unit {0}
+IsOfCounts (TooBulky count) = Unit {0}
+IsOfCounts (Inconsistent dropped) = ⊥
+IsOfCounts NoMemory = ⊥
+
+-- the workflow is too large to be compiled, and the output is the first count that is
+pub record IsTooLarge (w : Definition) (status : Status) (output : List ℕ) : Type 0 where
+  pub refusal : CompileRefusal
+  pub of_counts : IsOfCounts refusal
+  pub first : IsRefused (schema_of w) refusal
+  pub told : Tells [] (refused.Compile refusal) status output
+
+-- no execution meets every constraint, and the output has a circle for each option
+pub record IsInconsistent (w : Definition) (status : Status) (output : List ℕ) : Type 0 where
+  pub within : IsWithinLimits (schema_of w)
+  pub none : ¬ (IsConsistent (schema_of w))
+  pub dropped : List Dropped
+  pub circles : TellOfAll (all_numbered (schema_of w)) dropped
+  pub status_is : status ≡ No
+  pub output_is : output ≡ inconsistent_text dropped
+
+-- the workflow is not compiled, and the output says why
+abbrev pub IsNotCompiled : Definition → Status → List ℕ → Type 0
+IsNotCompiled w status output = IsTooLarge w status output ⊎ IsInconsistent w status output
