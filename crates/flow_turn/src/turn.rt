@@ -53,6 +53,18 @@ fn is_served<T: Kept>(top: &Top<T>, seat: &mut Chair<T>, ticket: u64) -> bool
     top.load::<Look>(seat, SERVED) == ticket
 }
 
+// Lets other threads run. While it is still another's turn then, it sleeps until the turn is passed on, since with many
+// callers a mere yield would often give the processor to one whose turn is far off.
+fn step_aside<T: Kept, R: Wait>(rt: &R, top: &Top<T>, ticket: u64)
+    requires { top.now.table_id.words ≡ 3 }
+{
+    thread::yield_now();
+    let served = top.peek(SERVED);
+    if served != ticket {
+        top.park(rt, SERVED, (served % (1 << 32)) as u32);
+    }
+}
+
 // Waits until the ticket is served. While it is another's turn, other threads run.
 fn wait<T: Kept, R: Wait>(rt: &R, top: &Top<T>, seat: &mut Chair<T>, ticket: u64)
     requires table { IsOfTable top.now.table_id seat.old }
@@ -64,7 +76,7 @@ fn wait<T: Kept, R: Wait>(rt: &R, top: &Top<T>, seat: &mut Chair<T>, ticket: u64
         if is_served(top, seat, ticket) {
             return;
         }
-        thread::yield_now();
+        step_aside(rt, top, ticket);
     }
     unreachable!()
 }
@@ -87,7 +99,7 @@ fn work<T: Kept, J: Job<T>>(top: &Top<T>, seat: &mut Chair<T>, by: u32, job: J) 
     answer
 }
 
-// Gives the value back and passes the turn on.
+// Gives the value back and passes the turn on. Who sleeps looks again.
 fn pass_on<T: Kept>(top: &Top<T>, seat: &mut Chair<T>)
     requires table { IsOfTable top.now.table_id seat.old }
     requires turn { HasTurn T.entries T.fixed seat.old }
@@ -96,6 +108,7 @@ fn pass_on<T: Kept>(top: &Top<T>, seat: &mut Chair<T>)
     ensures known { known_of seat.new ≡ known_of seat.old }
 {
     top.fetch_add::<PassOn>(seat, SERVED, 1);
+    top.wake_all(SERVED);
 }
 
 // One turn, of the caller with the number `by`.
