@@ -8,7 +8,7 @@ const MOST_CHOICES: u32 = 6;
 
 /// How a block of eight events is made.
 #[derive(Clone, Copy, Debug, PartialEq, Eq)]
-pub(crate) enum Kind {
+pub enum Kind {
     /// One after another.
     Series,
     /// Four in series beside four in series.

@@ -10,3 +10,4 @@ mod rules;
 mod script;
 
 pub use generating::generate;
+pub use kind::Kind;

@@ -1,0 +1,4 @@
+pub mod EventNames
+pub mod Shapes
+pub mod Parts
+pub mod SaidTexts

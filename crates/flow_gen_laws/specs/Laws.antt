@@ -1,0 +1,21 @@
+-- A generated text is a text of its workflow.
+use Rattle.std.specs.Prelude.{◌≡◌, ℕ, ◌≤◌}
+use Rattle.flow_form.specs.declared.refusal.TextRefusal.{TextRefusal}
+use Rattle.flow_form.specs.declared.refusal.TextRefusal.TheVariants.{NoMemory}
+use Rattle.flow_form.specs.Names.{IsClosed}
+use Rattle.flow_print.specs.Printed.{printed}
+use Rattle.flow_text.specs.Saying.{Says}
+use Rattle.flow_text.specs.Parsing.{IsParseRefusal}
+use Rattle.flow_gen.specs.Generated.{generated}
+
+-- it says the workflow
+abbrev pub TextsSayTheirWorkflow : Type 0
+TextsSayTheirWorkflow = (seed size : ℕ) → 1 ≤ size → size ≤ 128 → Says (printed (generated seed size)) (generated seed size)
+
+-- nothing is wrong with it
+abbrev pub TextsAreRead : Type 0
+TextsAreRead = (seed size : ℕ) (refusal : TextRefusal) → 1 ≤ size → size ≤ 128 → IsParseRefusal (printed (generated seed size)) refusal → refusal ≡ NoMemory
+
+-- each name that the workflow uses is declared, once, and as it must be
+abbrev pub WorkflowsAreClosed : Type 0
+WorkflowsAreClosed = (seed size : ℕ) → 1 ≤ size → size ≤ 128 → IsClosed (generated seed size)
