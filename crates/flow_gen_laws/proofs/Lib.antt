@@ -2,3 +2,5 @@ pub mod EventNames
 pub mod Shapes
 pub mod Parts
 pub mod SaidTexts
+pub mod Rows
+pub mod Expanded

@@ -56,7 +56,7 @@ turn_made count [] some h = absurd (omega (arith, some))
 turn_made count (s ∷ []) some (m, h) = made_deeper count 4 5 s (omega arith) m
 turn_made count (s ∷ t ∷ ss) some h = made_serial count 4 (s ∷ t ∷ ss) (omega arith) h
 
-some_pair : (first : ℕ) (ks : List Kind) → 1 ≤ length ks → 1 ≤ length (pairs first ks)
+pub some_pair : (first : ℕ) (ks : List Kind) → 1 ≤ length ks → 1 ≤ length (pairs first ks)
 some_pair first [] some = some
 some_pair first (a ∷ []) some = omega arith
 some_pair first (a ∷ b ∷ ks) some = omega arith

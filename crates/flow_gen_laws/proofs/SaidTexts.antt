@@ -32,7 +32,7 @@ kind_count seed size =
     let all : length (all_draws seed size) ≡ size + 2 * (size - 1) = draws_length seed (size + 2 * (size - 1)) in
     kinds_length 0 (take size (all_draws seed size)) ∙ length-take-le size (all_draws seed size) (omega (arith, all))
 
-rule_draws : (seed size : ℕ) → length (drop size (all_draws seed size)) ≡ 2 * (size - 1)
+pub rule_draws : (seed size : ℕ) → length (drop size (all_draws seed size)) ≡ 2 * (size - 1)
 rule_draws seed size =
     let all : length (all_draws seed size) ≡ size + 2 * (size - 1) = draws_length seed (size + 2 * (size - 1)) in
     length-drop size (all_draws seed size) ∙ omega (arith, all)
@@ -58,12 +58,12 @@ declared_there seed size n (k, (h, e)) =
     subst (λ names. n ∈ names) (sym (declares_names (numbers_from 0 (8 * size))))
     (subst (λ m. m ∈ map event_name (numbers_from 0 (8 * size))) (sym e) (event_there k (8 * size) h))
 
-event_declared : (seed size : ℕ) (n : List ℕ) → IsEvent (8 * size) n → n ∈ event_names (generated seed size).decls
+pub event_declared : (seed size : ℕ) (n : List ℕ) → IsEvent (8 * size) n → n ∈ event_names (generated seed size).decls
 event_declared seed size n (k, (h, e)) =
     subst (λ names. n ∈ names) (sym (declares_events (numbers_from 0 (8 * size))))
     (subst (λ m. m ∈ map event_name (numbers_from 0 (8 * size))) (sym e) (event_there k (8 * size) h))
 
-names_are_good : (seed size : ℕ) → 1 ≤ size → size ≤ 128 → HasGoodNames (generated seed size)
+pub names_are_good : (seed size : ℕ) → 1 ≤ size → size ≤ 128 → HasGoodNames (generated seed size)
 names_are_good seed size some few =
     let s = generated seed size in
     let Declares : List ℕ → Type 0 = λ n. n ∈ declared_names s.decls in

@@ -6,6 +6,11 @@ use Rattle.flow_form.specs.Names.{IsClosed}
 use Rattle.flow_print.specs.Printed.{printed}
 use Rattle.flow_text.specs.Saying.{Says}
 use Rattle.flow_text.specs.Parsing.{IsParseRefusal}
+use Rattle.flow_workflow.specs.Definition.{Definition}
+use Rattle.flow_expand.specs.declared.refusal.ExpandRefusal.{ExpandRefusal}
+use Rattle.flow_expand.specs.declared.refusal.ExpandRefusal.TheVariants as refusal
+use Rattle.flow_expand.specs.Refusals.{IsRefusal}
+use Rattle.flow_expand.specs.Workflows.{IsExpanded}
 use Rattle.flow_gen.specs.Generated.{generated}
 
 -- it says the workflow
@@ -19,3 +24,11 @@ TextsAreRead = (seed size : ℕ) (refusal : TextRefusal) → 1 ≤ size → size
 -- each name that the workflow uses is declared, once, and as it must be
 abbrev pub WorkflowsAreClosed : Type 0
 WorkflowsAreClosed = (seed size : ℕ) → 1 ≤ size → size ≤ 128 → IsClosed (generated seed size)
+
+-- it is expanded
+abbrev pub WorkflowsAreExpanded : Type 0
+WorkflowsAreExpanded = (seed size : ℕ) → 1 ≤ size → size ≤ 128 → (w : Definition) × IsExpanded (generated seed size) w
+
+-- nothing is wrong with it
+abbrev pub ExpansionsAreNotRefused : Type 0
+ExpansionsAreNotRefused = (seed size : ℕ) (r : ExpandRefusal) → 1 ≤ size → size ≤ 128 → IsRefusal (generated seed size) r → r ≡ refusal.NoMemory

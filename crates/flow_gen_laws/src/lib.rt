@@ -2,5 +2,7 @@
 #![tactic(auto)]
 
 mod texts;
+mod workflows;
 
 pub use texts::law_generated_texts_are_read;
+pub use workflows::law_generated_workflows_are_expanded;
