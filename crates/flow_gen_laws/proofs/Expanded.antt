@@ -93,7 +93,7 @@ get_numbers {A} f first (suc count) zero h = let same : first ≡ first + 0 = om
 get_numbers {A} f first (suc count) (suc i) h =
     let same : first + 1 + i ≡ first + suc i = omega arith in get_numbers f (first + 1) count i (omega (arith, h)) ∙ ap (λ k. Some (f k)) same
 
-number_is : (seed size k : ℕ) → size ≤ 128 → k < 8 * size → event_number (event_names (generated seed size).decls) (event_name k) ≡ k
+pub number_is : (seed size k : ℕ) → size ≤ 128 → k < 8 * size → event_number (event_names (generated seed size).decls) (event_name k) ≡ k
 number_is seed size k few h =
     let same = declares_events (numbers_from 0 (8 * size)) in
     let plain : 0 + k ≡ k = omega arith in

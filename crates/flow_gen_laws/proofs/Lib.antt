@@ -4,3 +4,5 @@ pub mod Parts
 pub mod SaidTexts
 pub mod Rows
 pub mod Expanded
+pub mod Straight
+pub mod Consistent

@@ -1,12 +1,17 @@
 -- A generated text is a text of its workflow.
 use Rattle.std.specs.Prelude.{◌≡◌, ℕ, ◌≤◌}
+use Rattle.flow_model.specs.Lists.{◌∈◌}
+use Rattle.flow_model.specs.Process.{Process, leaves}
+use Rattle.flow_model.specs.Resolution.{resolutions}
+use Rattle.flow_model.specs.Schema.{IsGood}
+use Rattle.flow_laws.specs.Words.{IsConsistent}
 use Rattle.flow_form.specs.declared.refusal.TextRefusal.{TextRefusal}
 use Rattle.flow_form.specs.declared.refusal.TextRefusal.TheVariants.{NoMemory}
 use Rattle.flow_form.specs.Names.{IsClosed}
 use Rattle.flow_print.specs.Printed.{printed}
 use Rattle.flow_text.specs.Saying.{Says}
 use Rattle.flow_text.specs.Parsing.{IsParseRefusal}
-use Rattle.flow_workflow.specs.Definition.{Definition}
+use Rattle.flow_workflow.specs.Definition.{Definition, schema_of}
 use Rattle.flow_expand.specs.declared.refusal.ExpandRefusal.{ExpandRefusal}
 use Rattle.flow_expand.specs.declared.refusal.ExpandRefusal.TheVariants as refusal
 use Rattle.flow_expand.specs.Refusals.{IsRefusal}
@@ -32,3 +37,11 @@ WorkflowsAreExpanded = (seed size : ℕ) → 1 ≤ size → size ≤ 128 → (w 
 -- nothing is wrong with it
 abbrev pub ExpansionsAreNotRefused : Type 0
 ExpansionsAreNotRefused = (seed size : ℕ) (r : ExpandRefusal) → 1 ≤ size → size ≤ 128 → IsRefusal (generated seed size) r → r ≡ refusal.NoMemory
+
+-- from left to right, the leaves of each of its resolutions are a good trace
+abbrev pub LeavesAreGoodTraces : Type 0
+LeavesAreGoodTraces = (seed size : ℕ) (w : Definition) → 1 ≤ size → size ≤ 128 → IsExpanded (generated seed size) w → (q : Process) →
+    q ∈ resolutions w.tree.process → IsGood (schema_of w) (leaves q)
+
+abbrev pub WorkflowsAreConsistent : Type 0
+WorkflowsAreConsistent = (seed size : ℕ) (w : Definition) → 1 ≤ size → size ≤ 128 → IsExpanded (generated seed size) w → IsConsistent (schema_of w)

@@ -1,4 +1,4 @@
-use Rattle.std.proofs.Common.{◌≡◌, ◌+◌, ◌-◌, ◌≤◌, ◌++◌, map}
+use Rattle.std.proofs.Common.{◌≡◌, ◌-◌, ◌++◌, map}
 use Rattle.flow_model.specs.Lists.{numbers_from}
 use Rattle.flow_form.specs.Form.{shape_of, named}
 use Rattle.flow_gen.specs.Generated.{event_name}

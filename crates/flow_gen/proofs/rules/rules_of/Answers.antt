@@ -1,4 +1,4 @@
-use Rattle.std.proofs.Common.{◌≡◌, ◌-◌, length, take, drop, arith}
+use Rattle.std.proofs.Common.{arith}
 use Rattle.flow_gen.proofs.Steps.{constraints_step, after_two, after_two_length}
 use Rattle.flow_gen.proofs.rules.rules_of.Goals as goal
 
