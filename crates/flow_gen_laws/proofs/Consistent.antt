@@ -1,6 +1,6 @@
 -- A generated workflow is consistent.
-use Rattle.std.proofs.Common.{◌≡◌, ℕ, ◌+◌, ◌-◌, ◌*◌, ◌%◌, ◌<◌, ◌≤◌, ◌⊎◌, List, [], ◌∷◌, ◌++◌, Some, length, map, drop, refl, sym, ap, subst, ◌∙◌, inl, inr, arith}
-use Rattle.flow_model.specs.Lists.{◌∈◌, Each, StandsBefore, numbers_from}
+use Rattle.std.proofs.Common.{◌≡◌, ℕ, ◌+◌, ◌*◌, ◌%◌, ◌<◌, ◌≤◌, List, [], ◌∷◌, length, map, drop, sym, ap, subst, ◌∙◌, inl, inr, arith}
+use Rattle.flow_model.specs.Lists.{◌∈◌, Each}
 use Rattle.flow_model.specs.Facts.{event_at, events_of}
 use Rattle.flow_model.specs.Process.{Process, leaves}
 use Rattle.flow_model.specs.Resolution.{resolutions}
@@ -11,12 +11,11 @@ use Rattle.flow_laws.proofs.ListLemmas2.{numbers_from_below}
 use Rattle.flow_laws.proofs.ResolutionsLemmas.{resolves_of, choice_free_resolution, goal_trace, mem-leaves_of_goal}
 use Rattle.flow_goal.proofs.Rising.{Rises, resolution_rises}
 use Rattle.flow_rules.specs.Rule.{any_of}
-use Rattle.flow_form.specs.RuleForm.{RuleShape}
 use Rattle.flow_form.specs.Names.{event_names}
 use Rattle.flow_workflow.specs.Definition.{Definition, schema_of}
 use Rattle.flow_workflow.specs.Numbers.{event_number}
 use Rattle.flow_expand.specs.Expansion.{Expansion}
-use Rattle.flow_expand.specs.Numbers.{numbered, labelled_of}
+use Rattle.flow_expand.specs.Numbers.{numbered}
 use Rattle.flow_expand.specs.Constraints.{constraint_of}
 use Rattle.flow_expand.specs.Workflows.{IsExpanded, definition_of}
 use Rattle.flow_expand.proofs.Endings.{becomes_one}
@@ -62,20 +61,20 @@ good_leaves seed size e some few r q m =
     let is = resolves_of g q m in
     let rises = resolution_rises g q 0 (8 * size) (r.leaves 0) is in
     let below : (x : ℕ) → x ∈ leaves q → x < 8 * size = λ x i.
-        let in_goal = subst (λ ns. x ∈ ns) (r.leaves 0) (mem-leaves_of_goal g q is x i) in omega (arith, numbers_from_below 0 (8 * size) x in_goal) in
+    let in_goal = subst (λ ns. x ∈ ns) (r.leaves 0) (mem-leaves_of_goal g q is x i) in omega (arith, numbers_from_below 0 (8 * size) x in_goal) in
     let same : events_of w.tree.labels (leaves q) ≡ leaves q = own_values (event_at w.tree.labels) (leaves q) (λ x i. leaf_event seed size e few r x (below x i)) in
     let draws_left = rule_draws seed size in (
       goal_trace g q m (leaves q) (straight q (choice_free_resolution g q is)),
       subst (λ t. Each (λ rule. Meets rule t) w.rules) (sym same)
-      (all_met seed size few (leaves q) 0 (0 + 8 * size) rises 0 (drop size (all_draws seed size)) (omega (arith, draws_left, some))),
+          (all_met seed size few (leaves q) 0 (0 + 8 * size) rises 0 (drop size (all_draws seed size)) (omega (arith, draws_left, some))),
     )
 
 -- it has one expansion
 the_definition : (seed size : ℕ) (some : 1 ≤ size) → size ≤ 128 → (w : Definition) → IsExpanded (generated seed size) w → w ≡ definition_of (generated seed size) (whole_row seed size some).0
 the_definition seed size some few w h =
     h.is ∙ ap (definition_of (generated seed size))
-        (becomes_one (generated seed size).decls (names_are_good seed size some few).once (generated seed size).goal h.expansion (whole_row seed size some).0
-        h.measured.fitting.becomes (whole_row seed size some).1.0)
+    (becomes_one (generated seed size).decls (names_are_good seed size some few).once (generated seed size).goal h.expansion (whole_row seed size some).0
+    h.measured.fitting.becomes (whole_row seed size some).1.0)
 
 pub leaves_are_good_traces : LeavesAreGoodTraces
 leaves_are_good_traces seed size w some few h =

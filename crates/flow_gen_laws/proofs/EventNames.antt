@@ -1,11 +1,10 @@
 -- The names of generated events.
-use Rattle.std.proofs.Common.{◌≡◌, ◌≢◌, ℕ, zero, suc, ◌+◌, ◌<◌, ◌≤◌, ◌^◌, Bool, true, false, ◌&&◌, ◌||◌, nat_eq, List, [], ◌∷◌, ◌++◌, map, drop, None, refl, sym, ap, subst, ◌∙◌, inl, inr, arith}
+use Rattle.std.proofs.Common.{◌≡◌, ℕ, zero, suc, ◌+◌, ◌<◌, ◌≤◌, ◌^◌, Bool, true, false, ◌&&◌, nat_eq, List, [], ◌∷◌, map, drop, None, refl, sym, ap, subst, inl, inr, arith}
 use Rattle.std.specs.List.{list_all}
-use Rattle.std.specs.Fmt.{decimal}
 use Rattle.std.proofs.lemmas.Fmt.{decimal_injective}
 use Rattle.std.proofs.lemmas.Bool.{and_from}
 use Rattle.flow_model.specs.Lists.{◌∈◌, AreDistinct, numbers_from}
-use Rattle.flow_lex.specs.Bytes.{is_letter, is_digit, is_in_word}
+use Rattle.flow_lex.specs.Bytes.{is_digit, is_in_word}
 use Rattle.flow_reader.specs.Symbols.{reserved}
 use Rattle.flow_print.specs.Printable.{IsName}
 use Rattle.flow_print.proofs.Digits.{decimal_writes}

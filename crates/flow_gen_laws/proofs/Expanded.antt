@@ -1,5 +1,5 @@
 -- A generated workflow is expanded.
-use Rattle.std.proofs.Common.{◌≡◌, ◌≢◌, ℕ, zero, suc, ◌+◌, ◌-◌, ◌*◌, ◌<◌, ◌≤◌, ◌^◌, List, [], ◌∷◌, ◌++◌, Some, None, slice_get, length, map, take, drop, refl, sym, ap, subst, ◌∙◌, inl, inr, arith}
+use Rattle.std.proofs.Common.{◌≡◌, ℕ, zero, suc, ◌+◌, ◌*◌, ◌<◌, ◌≤◌, List, [], ◌∷◌, Some, slice_get, length, map, take, drop, refl, sym, ap, subst, ◌∙◌, inl, inr, arith}
 use Rattle.std.specs.List.{flat_map}
 use Rattle.std.specs.Str.{bytes_eq}
 use Rattle.std.specs.Cmp.Lexicographic.{bytes_decides}
@@ -7,34 +7,30 @@ use Rattle.flow_model.specs.declared.labels.Note.TheVariants.{Done}
 use Rattle.flow_model.specs.declared.labels.Label.{Label}
 use Rattle.flow_model.specs.declared.labels.Label.TheVariants.{Event}
 use Rattle.flow_model.specs.Lists.{◌∈◌, AreDistinct, numbers_from}
-use Rattle.flow_model.specs.Facts.{event_at, events_of}
-use Rattle.flow_model.specs.Process.{leaves}
+use Rattle.flow_model.specs.Facts.{event_at}
 use Rattle.flow_model.specs.Trace.{Trace}
 use Rattle.flow_laws.proofs.ListLemmas2.{distinct-filter_map, numbers_from_below, distinct-numbers_from}
 use Rattle.flow_laws.proofs.TraceLeaves.{leaf_of_trace, distinct_trace}
-use Rattle.flow_goal.specs.Labelled.{Labelled}
 use Rattle.flow_goal.specs.Repeated.{HoldsNoneTwice, HoldsTwice}
 use Rattle.flow_form.specs.Form.{Shape}
-use Rattle.flow_form.specs.RuleForm.{RuleShape}
-use Rattle.flow_form.specs.Script.{Declared, event, flow, Said}
+use Rattle.flow_form.specs.Script.{event, flow}
 use Rattle.flow_form.specs.Names.{event_names, names_in_rule}
 use Rattle.flow_workflow.specs.Numbers.{event_number}
 use Rattle.flow_workflow.proofs.FirstPlaces.{place_in}
-use Rattle.flow_expand.specs.declared.refusal.ExpandRefusal.{ExpandRefusal}
 use Rattle.flow_expand.specs.declared.refusal.ExpandRefusal.TheVariants as refusal
 use Rattle.flow_expand.specs.declared.refusal.Part.TheVariants as part
 use Rattle.flow_expand.specs.Steps.{flow_names, IsRecursive}
 use Rattle.flow_expand.specs.Expansion.{Expansion, Becomes, size_of}
 use Rattle.flow_expand.specs.Numbers.{numbered, labelled_of, facts_of}
-use Rattle.flow_expand.specs.Refusals.{IsRefusal, IsMeasured, rule_name_count, flow_count}
+use Rattle.flow_expand.specs.Refusals.{IsMeasured, rule_name_count, flow_count}
 use Rattle.flow_expand.specs.Workflows.{definition_of}
 use Rattle.flow_expand.proofs.Endings.{no_recursion, becomes_one}
-use Rattle.flow_gen.specs.Generated.{event_name, all_draws, kinds, pairs, constraints, generated}
+use Rattle.flow_gen.specs.Generated.{event_name, all_draws, kinds, constraints, generated}
 use Rattle.flow_gen_laws.specs.Laws.{WorkflowsAreExpanded, ExpansionsAreNotRefused}
 use Rattle.flow_gen_laws.proofs.EventNames.{distinct_names}
 use Rattle.flow_gen_laws.proofs.Parts.{declares_events, event_there, some_pair}
 use Rattle.flow_gen_laws.proofs.SaidTexts.{kind_count, rule_draws, names_are_good}
-use Rattle.flow_gen_laws.proofs.Rows.{IsRow, HasRow, labels_from, goal_row}
+use Rattle.flow_gen_laws.proofs.Rows.{IsRow, HasRow, goal_row}
 
 -- No sub-workflow is declared
 
@@ -99,7 +95,7 @@ number_is seed size k few h =
     let plain : 0 + k ≡ k = omega arith in
     ap (λ names. event_number names (event_name k)) same
     ∙ place_in bytes_eq bytes_decides (map event_name (numbers_from 0 (8 * size))) k (event_name k) (distinct_names 0 (8 * size) (omega (arith, few)))
-        (get_numbers event_name 0 (8 * size) k h ∙ ap (λ n. Some (event_name n)) plain)
+    (get_numbers event_name 0 (8 * size) k h ∙ ap (λ n. Some (event_name n)) plain)
 
 event_of_label : (labels : List Label) (x k : ℕ) → slice_get labels x ≡ Some (Event k) → event_at labels x ≡ Some k
 event_of_label labels x k e = rw e refl

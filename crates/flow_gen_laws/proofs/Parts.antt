@@ -1,12 +1,12 @@
 -- The parts of a generated workflow.
-use Rattle.std.proofs.Common.{◌≡◌, ℕ, zero, suc, ◌+◌, ◌-◌, ◌*◌, ◌%◌, ◌<◌, ◌≤◌, ◌^◌, List, [], ◌∷◌, ◌++◌, length, map, take, drop, refl, sym, ap, subst, ◌∙◌, inl, inr, arith}
+use Rattle.std.proofs.Common.{◌≡◌, ℕ, zero, suc, ◌+◌, ◌*◌, ◌%◌, ◌<◌, ◌≤◌, List, [], ◌∷◌, length, map, refl, ap, subst, inl, inr, arith}
 use Rattle.std.specs.List.{flat_map}
 use Rattle.flow_model.specs.declared.labels.Note.TheVariants.{Done}
 use Rattle.flow_model.specs.Lists.{◌∈◌, Each, numbers_from}
 use Rattle.flow_laws.proofs.ListLemmas2.{mem-map}
-use Rattle.flow_form.specs.Form.{Shape, named, iso, serial, beside, either, shapes, IsGrouped}
-use Rattle.flow_form.specs.RuleForm.{RuleShape, precedes, IsGroupedRule}
-use Rattle.flow_form.specs.Script.{Declared, event}
+use Rattle.flow_form.specs.Form.{Shape, named, iso}
+use Rattle.flow_form.specs.RuleForm.{RuleShape, IsGroupedRule}
+use Rattle.flow_form.specs.Script.{event}
 use Rattle.flow_form.specs.Names.{declared_names, event_names, flow_goal, names_in_rule}
 use Rattle.flow_grammar.specs.Print.{rule_nesting}
 use Rattle.flow_print.specs.Printable.{IsPrintableRule, IsPrintableDeclaration}
@@ -31,7 +31,7 @@ block_made : (count first : ℕ) (k : Kind) → first + 8 ≤ count → count �
 block_made count first Series fits few = made_deeper count 1 3 (series first 8) (omega arith) (series_made count first 6 (omega arith) few)
 block_made count first Beside fits few =
     made_deeper count 2 3 (block first Beside) (omega arith) (
-      made_beside count 1 (series first 4 ∷ series (first + 4) 4 ∷ []) (omega arith) (series_made count first 2 (omega arith) few, (series_made count (first + 4) 2 (omega arith) few, tt))
+    made_beside count 1 (series first 4 ∷ series (first + 4) 4 ∷ []) (omega arith) (series_made count first 2 (omega arith) few, (series_made count (first + 4) 2 (omega arith) few, tt))
     )
 block_made count first IsolatedBeside fits few =
     made_beside count 2 (iso (series first 4) ∷ series (first + 4) 4 ∷ []) (omega arith) (
@@ -40,15 +40,15 @@ block_made count first IsolatedBeside fits few =
     )
 block_made count first Either fits few =
     made_deeper count 2 3 (block first Either) (omega arith) (
-      made_either count 1 (series first 4 ∷ series (first + 4) 4 ∷ []) (omega arith) (series_made count first 2 (omega arith) few, (series_made count (first + 4) 2 (omega arith) few, tt))
+    made_either count 1 (series first 4 ∷ series (first + 4) 4 ∷ []) (omega arith) (series_made count first 2 (omega arith) few, (series_made count (first + 4) 2 (omega arith) few, tt))
     )
 
 pub pairs_made : (count first : ℕ) (ks : List Kind) → first + 8 * length ks ≤ count → count ≤ 1024 → Each (IsMade count 4) (pairs first ks)
 pairs_made count first [] fits few = tt
 pairs_made count first (a ∷ []) fits few = (made_deeper count 3 4 (block first a) (omega arith) (block_made count first a (omega arith) few), tt)
 pairs_made count first (a ∷ b ∷ ks) fits few = (
-    made_beside count 3 (block first a ∷ block (first + 8) b ∷ []) (omega arith) (block_made count first a (omega arith) few, (block_made count (first + 8) b (omega arith) few, tt)),
-    pairs_made count (first + 16) ks (omega arith) few,
+  made_beside count 3 (block first a ∷ block (first + 8) b ∷ []) (omega arith) (block_made count first a (omega arith) few, (block_made count (first + 8) b (omega arith) few, tt)),
+  pairs_made count (first + 16) ks (omega arith) few,
 )
 
 turn_made : (count : ℕ) (ss : List Shape) → 1 ≤ length ss → Each (IsMade count 4) ss → IsMade count 5 (in_turn ss)
@@ -76,13 +76,13 @@ pub rules_made : (count first : ℕ) (ds : List ℕ) → first + 8 + 4 * length 
 rules_made count first [] fits few = tt
 rules_made count first (f ∷ []) fits few = tt
 rules_made count first (f ∷ g ∷ ds) fits few = (
-    record {
-      names = ((first + f % 8, (omega arith, refl)), ((first + 8 + g % 8, (omega arith, refl)), tt));
-      grouped = tt;
-      printable = (name_is (first + f % 8) (omega arith), name_is (first + 8 + g % 8) (omega arith));
-      shallow = omega arith;
-    },
-    rules_made count (first + 8) ds (omega arith) few,
+  record {
+    names = ((first + f % 8, (omega arith, refl)), ((first + 8 + g % 8, (omega arith, refl)), tt));
+    grouped = tt;
+    printable = (name_is (first + f % 8) (omega arith), name_is (first + 8 + g % 8) (omega arith));
+    shallow = omega arith;
+  },
+  rules_made count (first + 8) ds (omega arith) few,
 )
 
 -- Declarations

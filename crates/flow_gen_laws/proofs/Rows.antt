@@ -1,13 +1,13 @@
 -- Goals whose leaves from the left are the events from one number on.
-use Rattle.std.proofs.Common.{◌≡◌, ℕ, zero, suc, ◌+◌, ◌*◌, ◌<◌, ◌≤◌, ◌^◌, List, [], ◌∷◌, ◌++◌, length, map, fold, refl, sym, ap, subst, ◌∙◌, inl, inr, arith}
+use Rattle.std.proofs.Common.{◌≡◌, ℕ, zero, suc, ◌+◌, ◌*◌, ◌<◌, ◌≤◌, List, [], ◌∷◌, ◌++◌, length, map, fold, refl, sym, ap, subst, ◌∙◌, arith}
 use Rattle.std.proofs.lemmas.List.{map-append}
 use Rattle.flow_model.specs.declared.labels.Label.{Label}
 use Rattle.flow_model.specs.declared.labels.Label.TheVariants.{Event}
-use Rattle.flow_model.specs.Lists.{◌∈◌, Each, numbers_from}
-use Rattle.flow_model.specs.Process.{Process, leaves}
+use Rattle.flow_model.specs.Lists.{◌∈◌, numbers_from}
+use Rattle.flow_model.specs.Process.{leaves}
 use Rattle.flow_facts.specs.Atom.{Atom}
 use Rattle.flow_goal.proofs.Numbers.{numbers_from-+}
-use Rattle.flow_form.specs.Form.{Shape, Shapes, named, iso, serial, beside, either, no_more, followed, shapes}
+use Rattle.flow_form.specs.Form.{Shape, named, iso, serial, beside, either, shapes}
 use Rattle.flow_form.specs.Script.{Declared}
 use Rattle.flow_form.specs.Names.{event_names}
 use Rattle.flow_workflow.specs.Numbers.{event_number}
@@ -145,8 +145,8 @@ HaveEvents decls count = (k : ℕ) → k < count → event_name k ∈ event_name
 module _ (decls : List Declared) (count : ℕ) (there : HaveEvents decls count) where
   event_row : (k : ℕ) → k < count → HasRow decls k 1 0 (named (event_name k))
   event_row k h = (
-      happens (event_name k),
-      (becomes_event (there k h), record { labels = λ facts. refl; ends = refl; leaf_count = refl; leaves = λ next. refl; isolations = omega arith }),
+    happens (event_name k),
+    (becomes_event (there k h), record { labels = λ facts. refl; ends = refl; leaf_count = refl; leaves = λ next. refl; isolations = omega arith }),
   )
 
   event_rows : (first n : ℕ) → first + n ≤ count → HaveRows decls first n 0 (map (λ k. named (event_name k)) (numbers_from first n))
@@ -176,15 +176,15 @@ module _ (decls : List Declared) (count : ℕ) (there : HaveEvents decls count) 
   pair_rows first [] fits = refl
   pair_rows first (a ∷ []) fits = (8, 0, 8, 0, (block_row first a (omega arith), (refl, (omega arith, omega arith))))
   pair_rows first (a ∷ b ∷ ks) fits = (
-      16,
-      8 * length ks,
-      16,
-      8 * length ks,
-      (
-        beside_row decls (block first a) (block (first + 8) b ∷ []) first 16 16
-        (two_rows decls (block first a) (block (first + 8) b) first 8 8 8 8 (block_row first a (omega arith)) (block_row (first + 8) b (omega arith))),
-        (pair_rows (first + 16) ks (omega arith), (omega arith, omega arith)),
-      ),
+    16,
+    8 * length ks,
+    16,
+    8 * length ks,
+    (
+      beside_row decls (block first a) (block (first + 8) b ∷ []) first 16 16
+          (two_rows decls (block first a) (block (first + 8) b) first 8 8 8 8 (block_row first a (omega arith)) (block_row (first + 8) b (omega arith))),
+      (pair_rows (first + 16) ks (omega arith), (omega arith, omega arith)),
+    ),
   )
 
   turn_row : (first n most : ℕ) (ss : List Shape) → 1 ≤ length ss → HaveRows decls first n most ss → HasRow decls first n most (made.in_turn ss)

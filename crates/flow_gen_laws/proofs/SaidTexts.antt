@@ -1,5 +1,5 @@
 -- A generated text says the workflow that it was made from.
-use Rattle.std.proofs.Common.{◌≡◌, ℕ, zero, suc, ◌+◌, ◌-◌, ◌*◌, ◌<◌, ◌≤◌, ◌^◌, List, [], ◌∷◌, ◌++◌, length, map, take, drop, Ok, Err, Result, refl, sym, ap, subst, ◌∙◌, arith, length-drop}
+use Rattle.std.proofs.Common.{◌≡◌, ℕ, zero, suc, ◌+◌, ◌-◌, ◌*◌, ◌≤◌, List, [], ◌∷◌, ◌++◌, length, map, take, drop, Ok, Err, refl, sym, ap, subst, ◌∙◌, arith, length-drop}
 use Rattle.std.specs.List.{flat_map}
 use Rattle.std.proofs.lemmas.List.{length-take-le, length-map}
 use Rattle.flow_model.specs.declared.labels.Note.TheVariants.{Done}
@@ -9,8 +9,8 @@ use Rattle.flow_form.specs.declared.refusal.TextRefusal.{TextRefusal}
 use Rattle.flow_form.specs.declared.refusal.TextRefusal.TheVariants.{NotAscii, BadToken, Expected, Unknown, Repeated, TooDeep, NoMemory}
 use Rattle.flow_form.specs.Form.{Shape, IsGrouped}
 use Rattle.flow_form.specs.RuleForm.{RuleShape, IsGroupedRule}
-use Rattle.flow_form.specs.Script.{Declared, event, Said}
-use Rattle.flow_form.specs.Names.{declared_names, event_names, goals_of, names_in, names_in_rule, IsClosed}
+use Rattle.flow_form.specs.Script.{event, Said}
+use Rattle.flow_form.specs.Names.{declared_names, event_names, goals_of, names_in, names_in_rule}
 use Rattle.flow_grammar.specs.Machine.{deepest}
 use Rattle.flow_grammar.specs.Print.{nesting, rule_nesting, IsWithin}
 use Rattle.flow_grammar.specs.Made.{IsWellMade}
@@ -20,7 +20,7 @@ use Rattle.flow_text.specs.Saying.{Says}
 use Rattle.flow_text.specs.Parsing.{IsParseRefusal}
 use Rattle.flow_text.proofs.SaidLaws.{prints_say_it}
 use Rattle.flow_text.proofs.OneAnswer.{texts_have_one_answer}
-use Rattle.flow_gen.specs.Generated.{event_name, all_draws, kinds, constraints, generated}
+use Rattle.flow_gen.specs.Generated.{event_name, all_draws, kinds, generated}
 use Rattle.flow_gen.proofs.Steps.{draws_length, kinds_length}
 use Rattle.flow_gen_laws.specs.Laws.{TextsSayTheirWorkflow, TextsAreRead, WorkflowsAreClosed}
 use Rattle.flow_gen_laws.proofs.EventNames.{distinct_names}
@@ -88,14 +88,14 @@ goals_grouped seed size some few =
 
 is_well_made : (seed size : ℕ) → 1 ≤ size → size ≤ 128 → IsWellMade (generated seed size)
 is_well_made seed size some few = (
-    goals_grouped seed size some few,
-    each_to (IsRuled (8 * size)) IsGroupedRule (generated seed size).rules (λ r m. m.grouped) (rules_are seed size some few),
+  goals_grouped seed size some few,
+  each_to (IsRuled (8 * size)) IsGroupedRule (generated seed size).rules (λ r m. m.grouped) (rules_are seed size some few),
 )
 
 is_within : (seed size : ℕ) → 1 ≤ size → size ≤ 128 → IsWithin (generated seed size)
 is_within seed size some few = (
-    subst (λ (gs : List Shape). Each (λ g. nesting g ≤ deepest) gs) (sym (goals_are seed size)) (omega (arith, (goal_is seed size some few).shallow), tt),
-    each_to (IsRuled (8 * size)) (λ x. rule_nesting x ≤ deepest) (generated seed size).rules (λ r m. m.shallow) (rules_are seed size some few),
+  subst (λ (gs : List Shape). Each (λ g. nesting g ≤ deepest) gs) (sym (goals_are seed size)) (omega (arith, (goal_is seed size some few).shallow), tt),
+  each_to (IsRuled (8 * size)) (λ x. rule_nesting x ≤ deepest) (generated seed size).rules (λ r m. m.shallow) (rules_are seed size some few),
 )
 
 pub texts_say_it : TextsSayTheirWorkflow

@@ -1,8 +1,8 @@
 -- Goals made of generated events.
-use Rattle.std.proofs.Common.{◌≡◌, ℕ, zero, suc, ◌+◌, ◌<◌, ◌≤◌, ◌^◌, max, Bool, true, false, List, [], ◌∷◌, ◌++◌, length, refl, sym, ap, subst, arith}
-use Rattle.flow_model.specs.Lists.{Each, numbers_from}
-use Rattle.flow_laws.proofs.ListLemmas2.{each-append, each_to}
-use Rattle.flow_form.specs.Form.{Shape, Shapes, named, iso, serial, beside, either, no_more, followed, shapes, members, IsGrouped, AreGrouped}
+use Rattle.std.proofs.Common.{◌≡◌, ℕ, suc, ◌<◌, ◌≤◌, Bool, true, false, List, [], ◌∷◌, length, refl, ap, arith}
+use Rattle.flow_model.specs.Lists.{Each}
+use Rattle.flow_laws.proofs.ListLemmas2.{each-append}
+use Rattle.flow_form.specs.Form.{Shape, named, iso, serial, beside, either, shapes, members, IsGrouped, AreGrouped}
 use Rattle.flow_form.specs.Names.{names_in, names_in_each}
 use Rattle.flow_grammar.specs.Print.{in_serial, in_beside, in_either, nest, nesting, nesting_list}
 use Rattle.flow_print.specs.Printable.{IsPrintableGoal, ArePrintableGoals}
