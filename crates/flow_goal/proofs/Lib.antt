@@ -1,5 +1,6 @@
 pub mod Numbers
 pub mod Counting
+pub mod Outlines
 pub mod Rising
 pub mod Simpler
 pub mod FirstPartner

@@ -3,6 +3,7 @@ pub mod Choices
 pub mod Goal
 pub mod Labelled
 pub mod Numbering
+pub mod Outline
 pub mod Plain
 pub mod Resolved
 pub mod Sides

@@ -10,6 +10,7 @@ use crate::backwards::Backwards;
 use crate::choiceless::Choiceless;
 use crate::goal::Goal;
 use crate::node::Node;
+use crate::outline::outline_of;
 use crate::sides::Sides;
 use crate::tree::Tree;
 use std::alloc::{AllocError, Global};
@@ -171,6 +172,8 @@ fn write(
 #[derive(Drop)]
 pub struct Choices {
     sides: Vec<Sides>,
+    /// The tree's goal without what neither is a leaf nor chooses.
+    outline: Goal,
 }
 
 impl Choices {
@@ -180,20 +183,21 @@ impl Choices {
     {
         let mut sides = Vec::new(alloc);
         count_sides(tree.goal(), &mut sides)?;
-        Ok(Choices { sides })
+        let outline = outline_of(alloc, tree.goal())?;
+        Ok(Choices { sides, outline })
     }
 
-    /// The resolution of that number, from right to left, in one walk of the tree's goal.
-    fn written(&self, alloc: Global, tree: &Tree, number: u64) -> Result<Backwards, AllocError>
-        requires choices { AreChoicesOf tree.now.process self.now }
-        requires numbered { number < Resolution.resolution_count tree.now.process }
-        requires exact { Resolution.resolution_count tree.now.process < 2 ^ 64 - 1 }
-        ensures { IfOk result (IsBackwardsOf tree.now.process number) }
+    /// The resolution of that number, from right to left, in one walk of a goal with the same choices.
+    fn written(&self, alloc: Global, goal: &Goal, number: u64) -> Result<Backwards, AllocError>
+        requires choices { self.now.sides.items ≡ sides_in (process_of goal.now) }
+        requires numbered { number < Resolution.resolution_count (process_of goal.now) }
+        requires exact { Resolution.resolution_count (process_of goal.now) < 2 ^ 64 - 1 }
+        ensures { IfOk result (IsBackwardsOf (process_of goal.now) number) }
     {
         let mut sides = Vec::from_slice(alloc, &self.sides)?;
         let mut rest = number;
         let mut out = Backwards::new(alloc);
-        write(tree.goal(), &mut rest, &mut sides, &mut out)?;
+        write(goal, &mut rest, &mut sides, &mut out)?;
         Ok(out)
     }
 
@@ -206,7 +210,7 @@ impl Choices {
         ensures leaves { IfOk result (λ q. q.leaves ≡ Process.leaves q.process) }
     {
         let _leaves = tree.leaves();
-        let mut out = self.written(alloc, tree, number)?;
+        let mut out = self.written(alloc, tree.goal(), number)?;
         out.nodes.reverse();
         out.leaves.reverse();
         Ok(Choiceless::new(out.nodes, out.leaves))
@@ -225,8 +229,9 @@ impl Choices {
         ensures { IfOk result (λ list. (q : Process.Process) × (slice_get (Resolution.resolutions tree.now.process) number ≡ Some q) ×
             (list.items ≡ Process.leaves q)) }
     {
-        let goal = self.resolve(alloc, tree, number)?;
-        Ok(goal.into_leaves())
+        let mut out = self.written(alloc, &self.outline, number)?;
+        out.leaves.reverse();
+        Ok(out.leaves)
     }
 }
 

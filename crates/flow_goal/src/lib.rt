@@ -7,6 +7,7 @@ mod choices;
 mod events;
 mod goal;
 mod node;
+mod outline;
 mod partners;
 mod reading;
 mod repeats;
