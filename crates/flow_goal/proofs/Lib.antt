@@ -1,8 +1,8 @@
 pub mod Numbers
 pub mod Counting
-pub mod Outlines
 pub mod Rising
 pub mod Simpler
+pub mod Skeletons
 pub mod FirstPartner
 pub mod Repetitions
 pub mod Writing

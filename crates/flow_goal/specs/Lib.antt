@@ -3,11 +3,11 @@ pub mod Choices
 pub mod Goal
 pub mod Labelled
 pub mod Numbering
-pub mod Outline
 pub mod Plain
 pub mod Resolved
 pub mod Sides
 pub mod Simple
+pub mod Skeleton
 pub mod Partners
 pub mod Repeated
 pub mod Written

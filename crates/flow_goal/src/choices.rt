@@ -10,8 +10,8 @@ use crate::backwards::Backwards;
 use crate::choiceless::Choiceless;
 use crate::goal::Goal;
 use crate::node::Node;
-use crate::outline::outline_of;
 use crate::sides::Sides;
+use crate::skeleton::skeleton_of;
 use crate::tree::Tree;
 use std::alloc::{AllocError, Global};
 
@@ -173,18 +173,18 @@ fn write(
 pub struct Choices {
     sides: Vec<Sides>,
     /// The tree's goal without what neither is a leaf nor chooses.
-    outline: Goal,
+    skeleton: Goal,
 }
 
 impl Choices {
-    /// Counts them, in one walk of the tree's goal.
+    /// Counts them. It walks the goal of the tree twice.
     pub fn of(alloc: Global, tree: &Tree) -> Result<Choices, AllocError>
         ensures { IfOk result (AreChoicesOf tree.now.process) }
     {
         let mut sides = Vec::new(alloc);
         count_sides(tree.goal(), &mut sides)?;
-        let outline = outline_of(alloc, tree.goal())?;
-        Ok(Choices { sides, outline })
+        let skeleton = skeleton_of(alloc, tree.goal())?;
+        Ok(Choices { sides, skeleton })
     }
 
     /// The resolution of that number, from right to left, in one walk of a goal with the same choices.
@@ -216,7 +216,7 @@ impl Choices {
         Ok(Choiceless::new(out.nodes, out.leaves))
     }
 
-    /// As `resolution_leaves`, where the choices are counted.
+    /// The leaves of the resolution of that number, from left to right, by a walk of leaves and choices alone.
     pub fn resolution_leaves(
         &self,
         alloc: Global,
@@ -229,7 +229,7 @@ impl Choices {
         ensures { IfOk result (λ list. (q : Process.Process) × (slice_get (Resolution.resolutions tree.now.process) number ≡ Some q) ×
             (list.items ≡ Process.leaves q)) }
     {
-        let mut out = self.written(alloc, &self.outline, number)?;
+        let mut out = self.written(alloc, &self.skeleton, number)?;
         out.leaves.reverse();
         Ok(out.leaves)
     }
@@ -244,14 +244,4 @@ pub fn resolve(alloc: Global, tree: &Tree, number: u64) -> Result<Choiceless, Al
     ensures leaves { IfOk result (λ q. q.leaves ≡ Process.leaves q.process) }
 {
     Choices::of(alloc, tree)?.resolve(alloc, tree, number)
-}
-
-/// The leaves of the resolution of that number, from left to right.
-pub fn resolution_leaves(alloc: Global, tree: &Tree, number: u64) -> Result<Vec<u32>, AllocError>
-    requires numbered { number < Resolution.resolution_count tree.now.process }
-    requires exact { Resolution.resolution_count tree.now.process < 2 ^ 64 - 1 }
-    ensures { IfOk result (λ list. (q : Process.Process) × (slice_get (Resolution.resolutions tree.now.process) number ≡ Some q) ×
-        (list.items ≡ Process.leaves q)) }
-{
-    Choices::of(alloc, tree)?.resolution_leaves(alloc, tree, number)
 }
