@@ -377,6 +377,23 @@ def twelve_choices_beside_a_thousand_nothings():
 
 
 @text
+def twelve_choices_and_a_thousand_nothings_side_by_side():
+    return f"event {choice_events(12)}; goal {choices(12)} | {' | '.join('nop' for _ in range(1000))};"
+
+
+@text
+def twelve_choices_and_a_thousand_isolated_nothings_side_by_side():
+    return f"event {choice_events(12)}; goal {choices(12)} | {' | '.join('iso(nop)' for _ in range(1000))};"
+
+
+@text
+def twelve_choices_each_after_isolated_nothings_side_by_side():
+    some = " | ".join("iso(nop)" for _ in range(83))
+    goal = " | ".join(f"{some} | (a{number} + b{number})" for number in range(12))
+    return f"event {choice_events(12)}; goal {goal};"
+
+
+@text
 def twelve_choices_beside_52_leaves():
     return f"event {choice_events(12)}, {names('e', 52, ', ')}; goal {choices(12)} | {names('e', 52, ' * ')};"
 

@@ -12,7 +12,7 @@ use crate::counts::Counts;
 use crate::limits::{few_options, few_resolutions};
 use crate::refusal::CompileRefusal;
 use crate::sieve::sift_all;
-use flow_goal::Tree;
+use flow_goal::{Choices, Tree};
 use flow_rules::{Conjunction, Rule};
 use std::alloc::Global;
 
@@ -29,11 +29,12 @@ pub fn compile(alloc: Global, tree: &Tree, rules: &[Rule]) -> Result<Compiled, C
     let _leaves = tree.leaves();
     let resolutions = few_resolutions(tree)?;
     let rules = Conjunction::new(alloc, rules)?;
-    let counted = match few_options(alloc, tree, &rules) {
+    let choices = Choices::of(alloc, tree)?;
+    let counted = match few_options(alloc, tree, &choices, &rules) {
         Ok(counted) => counted,
         Err(refusal) => return Err(refusal),
     };
-    let sieve = sift_all(alloc, tree, &rules, &counted.met)?;
+    let sieve = sift_all(alloc, tree, &choices, &rules, &counted.met)?;
     if sieve.kept.is_empty() {
         let dropped = sieve.dropped;
         return Err(CompileRefusal::Inconsistent { dropped });

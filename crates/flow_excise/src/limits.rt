@@ -1,5 +1,6 @@
 ghost use Rattle.std.specs.Prelude.{◌≡◌, ◌<◌, ◌≤◌, IfOk, MatchResult, map};
 ghost use Rattle.flow_model.specs.Resolution.{resolution_count, resolutions as all_resolutions};
+ghost use Rattle.flow_goal.specs.Choices.{AreChoicesOf};
 ghost use Rattle.flow_rules.specs.Conjunction.{normal_in};
 ghost use Rattle.flow_excise.specs.Options.{all_options_by, has_ways};
 ghost use Rattle.flow_rules.specs.Counts.{kept};
@@ -8,7 +9,7 @@ ghost use Rattle.flow_excise.specs.Limits.{AreFew, IsTooMany};
 
 use crate::refusal::CompileRefusal;
 use crate::tally::{Counted, whole_tally};
-use flow_goal::{Tree, resolutions};
+use flow_goal::{Choices, Tree, resolutions};
 use flow_rules::Conjunction;
 use std::alloc::Global;
 
@@ -36,15 +37,17 @@ pub(crate) fn few_resolutions(tree: &Tree) -> Result<u64, CompileRefusal>
 pub(crate) fn few_options(
     alloc: Global,
     tree: &Tree,
+    choices: &Choices,
     rules: &Conjunction,
 ) -> Result<Counted, CompileRefusal>
-    requires { resolution_count tree.now.process ≤ 4096 }
+    requires choices { AreChoicesOf tree.now.process choices.now }
+    requires exact { resolution_count tree.now.process ≤ 4096 }
     ensures options { MatchResult result
         (λ counted. AreFew (all_options_by tree.now (normal_in rules.now)) counted.tally)
         (IsTooMany (all_options_by tree.now (normal_in rules.now))) }
     ensures met { IfOk result (λ counted. counted.met.items ≡ map (has_ways tree.now (normal_in rules.now)) (all_resolutions tree.now.process)) }
 {
-    let counted = whole_tally(alloc, tree, rules)?;
+    let counted = whole_tally(alloc, tree, choices, rules)?;
     if counted.tally.options > MOST_OPTIONS {
         let count = counted.tally.options;
         return Err(CompileRefusal::TooManyWays { count });

@@ -1,6 +1,7 @@
 ghost use Rattle.std.specs.Prelude.{◌≡◌, ◌<◌, ◌≤◌, ◌^◌, ◌-◌, ◌∷◌, [], ℕ, IsTrue, MatchResult, OnOk, map, slice_get};
 ghost use Rattle.flow_model.specs.Process.{Process};
 ghost use Rattle.flow_model.specs.Resolution.{resolution_count, resolutions as all_resolutions};
+ghost use Rattle.flow_goal.specs.Choices.{AreChoicesOf};
 ghost use Rattle.flow_rules.specs.Conjunction.{normal_in};
 ghost use Rattle.flow_rules.specs.EventLeaves.{IsBlank};
 ghost use Rattle.flow_excise.specs.declared.refusal.CompileRefusal.TheVariants.{NoMemory};
@@ -11,7 +12,7 @@ ghost use Rattle.flow_excise.specs.Sieves.{ArePlannable, HasSifted, Sifts, optio
 use crate::excising::{ExciseRefusal, excise};
 use crate::refusal::{CompileRefusal, Dropped};
 use crate::sifted::Sieve;
-use flow_goal::{Choiceless, Tree, resolve};
+use flow_goal::{Choiceless, Choices, Tree};
 use flow_rules::{Conjunction, LeafEvents, OrderSet, forget_events, note_events};
 use flow_weave::weave;
 use std::alloc::Global;
@@ -73,11 +74,13 @@ fn sift_ways(
 fn sift_resolution(
     alloc: Global,
     tree: &Tree,
+    choices: &Choices,
     rules: &Conjunction,
     number: u64,
     events: &mut LeafEvents,
     sieve: &mut Sieve,
 ) -> Result<(), CompileRefusal>
+    requires choices { AreChoicesOf tree.now.process choices.now }
     requires numbered { number < resolution_count tree.now.process }
     requires exact { resolution_count tree.now.process ≤ 4096 }
     requires plannable { ArePlannable (all_options_by tree.now (normal_in rules.now)) }
@@ -89,7 +92,7 @@ fn sift_resolution(
         (λ e. e ≡ NoMemory) }
     ensures blank { OnOk result (IsBlank events.new) }
 {
-    let resolution = resolve(alloc, tree, number)?;
+    let resolution = choices.resolve(alloc, tree, number)?;
     let leaves = resolution.leaves();
     note_events(tree, leaves, events)?;
     let orders = rules.ways(alloc, events)?;
@@ -102,9 +105,11 @@ fn sift_resolution(
 pub(crate) fn sift_all(
     alloc: Global,
     tree: &Tree,
+    choices: &Choices,
     rules: &Conjunction,
     met: &[bool],
 ) -> Result<Sieve, CompileRefusal>
+    requires choices { AreChoicesOf tree.now.process choices.now }
     requires exact { resolution_count tree.now.process ≤ 4096 }
     requires plannable { ArePlannable (all_options_by tree.now (normal_in rules.now)) }
     requires met { met.now ≡ map (has_ways tree.now (normal_in rules.now)) (all_resolutions tree.now.process) }
@@ -119,7 +124,8 @@ pub(crate) fn sift_all(
     let mut events = LeafEvents::new(alloc);
     for (number, some) in met.iter().enumerate() {
         if *some {
-            sift_resolution(alloc, tree, rules, number as u64, &mut events, &mut sieve)?;
+            let number = number as u64;
+            sift_resolution(alloc, tree, choices, rules, number, &mut events, &mut sieve)?;
         }
     }
     Ok(sieve)

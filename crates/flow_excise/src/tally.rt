@@ -1,13 +1,14 @@
 ghost use Rattle.std.specs.Prelude.{◌≡◌, ◌≤◌, IfOk, OnOk, map};
 ghost use Rattle.flow_model.specs.Resolution.{resolution_count, resolutions as all_resolutions};
 ghost use Rattle.flow_model.specs.Ways.{leaf_of_event, ways};
+ghost use Rattle.flow_goal.specs.Choices.{AreChoicesOf};
 ghost use Rattle.flow_rules.specs.Conjunction.{normal_in};
 ghost use Rattle.flow_rules.specs.Counts.{count_of};
 ghost use Rattle.flow_rules.specs.EventLeaves.{IsBlank};
 ghost use Rattle.flow_excise.specs.Options.{all_options_by, has_ways};
 ghost use Rattle.flow_excise.specs.Tallies.{added, tally_by, tally_of};
 
-use flow_goal::{Tree, resolution_leaves, resolutions};
+use flow_goal::{Choices, Tree, resolutions};
 use flow_rules::{Conjunction, LeafEvents, WayCount, forget_events, note_events};
 use std::alloc::{AllocError, Global};
 
@@ -77,9 +78,11 @@ fn count_in(
 pub(crate) fn whole_tally(
     alloc: Global,
     tree: &Tree,
+    choices: &Choices,
     rules: &Conjunction,
 ) -> Result<Counted, AllocError>
-    requires { resolution_count tree.now.process ≤ 4096 }
+    requires choices { AreChoicesOf tree.now.process choices.now }
+    requires exact { resolution_count tree.now.process ≤ 4096 }
     ensures tally { IfOk result (λ counted. counted.tally ≡ tally_of (all_options_by tree.now (normal_in rules.now))) }
     ensures met { IfOk result (λ counted. counted.met.items ≡ map (has_ways tree.now (normal_in rules.now)) (all_resolutions tree.now.process)) }
 {
@@ -87,7 +90,7 @@ pub(crate) fn whole_tally(
     let mut met = Vec::new(alloc);
     let mut events = LeafEvents::new(alloc);
     for number in 0..resolutions(tree) {
-        let leaves = resolution_leaves(alloc, tree, number)?;
+        let leaves = choices.resolution_leaves(alloc, tree, number)?;
         let count = count_in(tree, rules, &leaves, &mut events)?;
         tally = tally.with(Tally::of(leaves.len() as u64, count));
         met.push(count.ways != 0)?;

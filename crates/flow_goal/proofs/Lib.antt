@@ -2,6 +2,7 @@ pub mod Numbers
 pub mod Counting
 pub mod Rising
 pub mod Simpler
+pub mod Skeletons
 pub mod FirstPartner
 pub mod Repetitions
 pub mod Writing

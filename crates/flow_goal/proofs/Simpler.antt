@@ -78,7 +78,7 @@ isolated_again a blocks = (
   (λ (v, (w, hw, e), f). (w, hw, f ∙ ap as_one e ∙ as_one_again w)),
 )
 
-when_empty : (g : Process) → is_empty g ≡ true → g ≡ Empty
+pub when_empty : (g : Process) → is_empty g ≡ true → g ≡ Empty
 when_empty Empty e = refl
 when_empty (Task n) e = cc
 when_empty (Sequence a b) e = cc

@@ -2,7 +2,10 @@
 use Rattle.std.specs.Prelude.{◌≡◌}
 use Rattle.flow_model.specs.Process.{Process}
 use Rattle.flow_goal.specs.declared.choices.Choices.{Choices}
+use Rattle.flow_goal.specs.Goal.{process_of}
+use Rattle.flow_goal.specs.Skeleton.{skeleton}
 use Rattle.flow_goal.specs.Sides.{sides_in}
 
-abbrev pub AreChoicesOf : Process → Choices → Type 0
-AreChoicesOf g choices = choices.sides.items ≡ sides_in g
+pub record AreChoicesOf (g : Process) (choices : Choices) : Type 0 where
+  pub counted : choices.sides.items ≡ sides_in g
+  pub bared : process_of choices.skeleton ≡ skeleton g

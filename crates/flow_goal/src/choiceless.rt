@@ -84,11 +84,4 @@ impl Choiceless {
     {
         &self.leaves
     }
-
-    /// The leaves alone.
-    pub(crate) fn into_leaves(self) -> Vec<u32>
-        ensures { result.items ≡ self.leaves }
-    {
-        self.leaves
-    }
 }

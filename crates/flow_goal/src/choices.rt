@@ -11,6 +11,7 @@ use crate::choiceless::Choiceless;
 use crate::goal::Goal;
 use crate::node::Node;
 use crate::sides::Sides;
+use crate::skeleton::skeleton_of;
 use crate::tree::Tree;
 use std::alloc::{AllocError, Global};
 
@@ -171,29 +172,32 @@ fn write(
 #[derive(Drop)]
 pub struct Choices {
     sides: Vec<Sides>,
+    /// The tree's goal without what neither is a leaf nor chooses.
+    skeleton: Goal,
 }
 
 impl Choices {
-    /// Counts them, in one walk of the tree's goal.
+    /// Counts them. It walks the goal of the tree twice.
     pub fn of(alloc: Global, tree: &Tree) -> Result<Choices, AllocError>
         ensures { IfOk result (AreChoicesOf tree.now.process) }
     {
         let mut sides = Vec::new(alloc);
         count_sides(tree.goal(), &mut sides)?;
-        Ok(Choices { sides })
+        let skeleton = skeleton_of(alloc, tree.goal())?;
+        Ok(Choices { sides, skeleton })
     }
 
-    /// The resolution of that number, from right to left, in one walk of the tree's goal.
-    fn written(&self, alloc: Global, tree: &Tree, number: u64) -> Result<Backwards, AllocError>
-        requires choices { AreChoicesOf tree.now.process self.now }
-        requires numbered { number < Resolution.resolution_count tree.now.process }
-        requires exact { Resolution.resolution_count tree.now.process < 2 ^ 64 - 1 }
-        ensures { IfOk result (IsBackwardsOf tree.now.process number) }
+    /// The resolution of that number, from right to left, in one walk of a goal with the same choices.
+    fn written(&self, alloc: Global, goal: &Goal, number: u64) -> Result<Backwards, AllocError>
+        requires choices { self.now.sides.items ≡ sides_in (process_of goal.now) }
+        requires numbered { number < Resolution.resolution_count (process_of goal.now) }
+        requires exact { Resolution.resolution_count (process_of goal.now) < 2 ^ 64 - 1 }
+        ensures { IfOk result (IsBackwardsOf (process_of goal.now) number) }
     {
         let mut sides = Vec::from_slice(alloc, &self.sides)?;
         let mut rest = number;
         let mut out = Backwards::new(alloc);
-        write(tree.goal(), &mut rest, &mut sides, &mut out)?;
+        write(goal, &mut rest, &mut sides, &mut out)?;
         Ok(out)
     }
 
@@ -206,13 +210,13 @@ impl Choices {
         ensures leaves { IfOk result (λ q. q.leaves ≡ Process.leaves q.process) }
     {
         let _leaves = tree.leaves();
-        let mut out = self.written(alloc, tree, number)?;
+        let mut out = self.written(alloc, tree.goal(), number)?;
         out.nodes.reverse();
         out.leaves.reverse();
         Ok(Choiceless::new(out.nodes, out.leaves))
     }
 
-    /// As `resolution_leaves`, where the choices are counted.
+    /// The leaves of the resolution of that number, from left to right, by a walk of leaves and choices alone.
     pub fn resolution_leaves(
         &self,
         alloc: Global,
@@ -225,8 +229,9 @@ impl Choices {
         ensures { IfOk result (λ list. (q : Process.Process) × (slice_get (Resolution.resolutions tree.now.process) number ≡ Some q) ×
             (list.items ≡ Process.leaves q)) }
     {
-        let goal = self.resolve(alloc, tree, number)?;
-        Ok(goal.into_leaves())
+        let mut out = self.written(alloc, &self.skeleton, number)?;
+        out.leaves.reverse();
+        Ok(out.leaves)
     }
 }
 
@@ -239,14 +244,4 @@ pub fn resolve(alloc: Global, tree: &Tree, number: u64) -> Result<Choiceless, Al
     ensures leaves { IfOk result (λ q. q.leaves ≡ Process.leaves q.process) }
 {
     Choices::of(alloc, tree)?.resolve(alloc, tree, number)
-}
-
-/// The leaves of the resolution of that number, from left to right.
-pub fn resolution_leaves(alloc: Global, tree: &Tree, number: u64) -> Result<Vec<u32>, AllocError>
-    requires numbered { number < Resolution.resolution_count tree.now.process }
-    requires exact { Resolution.resolution_count tree.now.process < 2 ^ 64 - 1 }
-    ensures { IfOk result (λ list. (q : Process.Process) × (slice_get (Resolution.resolutions tree.now.process) number ≡ Some q) ×
-        (list.items ≡ Process.leaves q)) }
-{
-    Choices::of(alloc, tree)?.resolution_leaves(alloc, tree, number)
 }

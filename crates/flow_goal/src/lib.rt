@@ -12,10 +12,11 @@ mod reading;
 mod repeats;
 mod sides;
 mod simple;
+mod skeleton;
 mod tree;
 
 pub use choiceless::Choiceless;
-pub use choices::{Choices, resolution_leaves, resolutions, resolve};
+pub use choices::{Choices, resolutions, resolve};
 pub use events::twice;
 pub use flow_model::{Label, Note};
 pub use goal::Goal;

@@ -30,7 +30,7 @@ fn is_several(goal: &Goal) -> bool
     }
 }
 
-fn in_turn(alloc: Global, left: Goal, right: Goal) -> Result<Goal, AllocError>
+pub(crate) fn in_turn(alloc: Global, left: Goal, right: Goal) -> Result<Goal, AllocError>
     ensures { IfOk result (λ g. process_of g ≡ Simple.both Process.Sequence (process_of left) (process_of right)) }
 {
     if is_empty(&left) {

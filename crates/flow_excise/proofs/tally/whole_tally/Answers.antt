@@ -31,7 +31,7 @@ returns-clause-tally c =
     let end : c.loop-number.number ≡ c.resolutions-number-end.result = omega arith in
     c.loop-number.invariant.0
     ∙ ap (λ l. tally_of (flat_map (options_by c.args.tree.now (normal_in c.args.rules.now)) l))
-    (taken_whole all c.loop-number.number (end ∙ whole_count c.args.tree.now.process c.resolutions-number-end.result c.resolutions-number-end.ensures c.requires))
+    (taken_whole all c.loop-number.number (end ∙ whole_count c.args.tree.now.process c.resolutions-number-end.result c.resolutions-number-end.ensures c.requires.exact))
 
 pub returns-clause-met : goal.returns-clause-met
 returns-clause-met c =
@@ -39,4 +39,4 @@ returns-clause-met c =
     let end : c.loop-number.number ≡ c.resolutions-number-end.result = omega arith in
     c.loop-number.invariant.1
     ∙ ap (λ l. map (has_ways c.args.tree.now (normal_in c.args.rules.now)) l)
-    (taken_whole all c.loop-number.number (end ∙ whole_count c.args.tree.now.process c.resolutions-number-end.result c.resolutions-number-end.ensures c.requires))
+    (taken_whole all c.loop-number.number (end ∙ whole_count c.args.tree.now.process c.resolutions-number-end.result c.resolutions-number-end.ensures c.requires.exact))
