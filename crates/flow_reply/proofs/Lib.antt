@@ -1,5 +1,6 @@
 pub mod Cutting
 pub mod Tables
+mod Verdicts
 pub mod Rising
 pub mod Runs
 pub mod OneReply

@@ -16,7 +16,7 @@ use Rattle.flow_reply.specs.declared.answer.Answer.TheVariants.{Took, Did, Done,
 use Rattle.flow_reply.specs.declared.verdict.Verdict.{Verdict}
 use Rattle.flow_reply.specs.declared.verdict.Verdict.TheVariants as came
 use Rattle.flow_reply.specs.Reply.{IsReply, IsNextText, HoldsNow, numbers_text, spaced_facts}
-use Rattle.flow_reply.specs.Report.{Means, report_text}
+use Rattle.flow_reply.specs.Report.{Means, IsVerdictText, verdict_text, report_text}
 use Rattle.flow_reply.specs.Single.{RepliesAreSingle, ReportsAreSingle}
 use Rattle.flow_reply.proofs.Rising.{one_list}
 
@@ -87,5 +87,8 @@ one_meaning r (came.NoOther leaf) a b p q = p ∙ sym q
 one_meaning r came.Stuck a b (xs, ja, p) (ys, jb, q) = p ∙ ap verdict.stuck (one_list (IsWaiting r) xs ys ja jb) ∙ sym q
 one_meaning r came.Unfinished a b p q = p ∙ sym q
 
+one_words : (r : Run) (v : Verdict) (a b : List ℕ) → IsVerdictText r v a → IsVerdictText r v b → a ≡ b
+one_words r v x y (a, ma, p) (b, mb, q) = p ∙ ap verdict_text (one_meaning r v a b ma mb) ∙ sym q
+
 pub one_report : ReportsAreSingle
-one_report r v x y (a, ma, p) (b, mb, q) = p ∙ ap (report_text r.definition r.history (now r).journal) (one_meaning r v a b ma mb) ∙ sym q
+one_report r v x y (a, va, p) (b, vb, q) = p ∙ ap (report_text r.definition r.history (now r).journal) (one_words r v a b va vb) ∙ sym q

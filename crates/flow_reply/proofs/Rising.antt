@@ -126,8 +126,8 @@ same_members (x ∷ xs) [] rx ry to from = absurd (to x (inl refl))
 same_members (x ∷ xs) (y ∷ ys) rx ry to from =
     let same : x ≡ y = same_heads x y xs ys rx ry (to x (inl refl)) (from y (inl refl)) in
     let rest : xs ≡ ys = same_members xs ys (tail_rises x xs rx) (tail_rises y ys ry)
-        (λ n there. in_tail x y xs ys rx same n there (to n (inr there)))
-        (λ n there. in_tail y x ys xs ry (sym same) n there (from n (inr there))) in
+    (λ n there. in_tail x y xs ys rx same n there (to n (inr there)))
+    (λ n there. in_tail y x ys xs ry (sym same) n there (from n (inr there))) in
     cc
 
 -- a property has one list

@@ -2,7 +2,7 @@
 use Rattle.std.specs.Prelude.{◌≡◌, ℕ, List, ◌++◌, length, codes}
 use Rattle.std.specs.Fmt.{decimal}
 use Rattle.flow_model.specs.declared.history.Entry.{Entry}
-use Rattle.flow_model.specs.Verdict as verdict
+use Rattle.flow_model.specs.Verdict as model
 use Rattle.flow_core.specs.Run.{Run, now}
 use Rattle.flow_core.specs.Looks.{IsWaiting}
 use Rattle.flow_record.specs.History.{history_text}
@@ -13,12 +13,12 @@ use Rattle.flow_reply.specs.declared.verdict.Verdict.TheVariants.{Committed, Spe
 use Rattle.flow_reply.specs.Refusing.{spaced_numbers}
 
 -- a verdict of the code, as one of the definitions; where the run is stuck, with the leaves that wait
-abbrev pub Means : Run → Verdict → verdict.Verdict → Type 0
-Means r Committed meant = meant ≡ verdict.committed
-Means r Spent meant = meant ≡ verdict.spent
-Means r (NoOther leaf) meant = meant ≡ verdict.no_other leaf
-Means r Stuck meant = (leaves : List ℕ) × verdict.AreJust (IsWaiting r) leaves × (meant ≡ verdict.stuck leaves)
-Means r Unfinished meant = meant ≡ verdict.unfinished
+abbrev pub Means : Run → Verdict → model.Verdict → Type 0
+Means r Committed meant = meant ≡ model.committed
+Means r Spent meant = meant ≡ model.spent
+Means r (NoOther leaf) meant = meant ≡ model.no_other leaf
+Means r Stuck meant = (leaves : List ℕ) × model.AreJust (IsWaiting r) leaves × (meant ≡ model.stuck leaves)
+Means r Unfinished meant = meant ≡ model.unfinished
 
 -- a driven session may come to the verdict
 abbrev pub IsOfDrive : Verdict → Type 0
@@ -29,24 +29,24 @@ IsOfDrive Stuck = ⊥
 IsOfDrive Unfinished = Unit {0}
 
 -- a verdict in words
-abbrev pub verdict_text : verdict.Verdict → List ℕ
-verdict_text verdict.committed = codes "committed"
-verdict_text verdict.spent = codes "spent"
-verdict_text (verdict.no_other leaf) = codes "no-other " ++ decimal leaf
-verdict_text (verdict.stuck waiting) = codes "stuck" ++ spaced_numbers waiting
-verdict_text verdict.unfinished = codes "unfinished"
+abbrev pub verdict_text : model.Verdict → List ℕ
+verdict_text model.committed = codes "committed"
+verdict_text model.spent = codes "spent"
+verdict_text (model.no_other leaf) = codes "no-other " ++ decimal leaf
+verdict_text (model.stuck waiting) = codes "stuck" ++ spaced_numbers waiting
+verdict_text model.unfinished = codes "unfinished"
 
 -- a verdict of the code in words
 abbrev pub IsVerdictText : Run → Verdict → List ℕ → Type 0
-IsVerdictText r verdict text = (meant : verdict.Verdict) × Means r verdict meant × (text ≡ verdict_text meant)
+IsVerdictText r verdict text = (meant : model.Verdict) × Means r verdict meant × (text ≡ verdict_text meant)
 
--- the whole report, each line with its line feed
-abbrev pub report_text : Definition → List Entry → List ℕ → verdict.Verdict → List ℕ
-report_text w history journal verdict =
+-- the whole report, each line with its line feed, the verdict in these words
+abbrev pub report_text : Definition → List Entry → List ℕ → List ℕ → List ℕ
+report_text w history journal words =
     codes "history " ++ decimal (length history) ++ codes "\n" ++ history_text history
     ++ codes "journal " ++ decimal (length journal) ++ codes "\n" ++ journal_text w journal
-    ++ codes "verdict " ++ verdict_text verdict ++ codes "\n"
+    ++ codes "verdict " ++ words ++ codes "\n"
 
 -- the report of a run with the verdict
 abbrev pub IsReport : Run → Verdict → List ℕ → Type 0
-IsReport r verdict text = (meant : verdict.Verdict) × Means r verdict meant × (text ≡ report_text r.definition r.history (now r).journal meant)
+IsReport r verdict text = (words : List ℕ) × IsVerdictText r verdict words × (text ≡ report_text r.definition r.history (now r).journal words)

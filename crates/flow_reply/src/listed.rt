@@ -77,8 +77,12 @@ pub fn waiting(alloc: Global, core: &Core) -> Result<Vec<u32>, AllocError>
 pub fn held(alloc: Global, core: &Core) -> Result<Vec<u32>, AllocError>
     ensures { IfOk result (λ facts. AreJust (HoldsNow core.now) facts.items) }
 {
+    // both together tell that no fact past the count holds
+    let workflow = core.workflow();
+    let _ = workflow.held();
+    let _ = workflow.tree();
     let mut facts = Vec::new(alloc);
-    for fact in 0..core.workflow().facts().count() {
+    for fact in 0..workflow.facts().count() {
         if core.holds(fact) {
             facts.push(fact)?;
         }

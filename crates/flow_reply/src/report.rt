@@ -1,9 +1,8 @@
 ghost use Rattle.std.specs.Prelude.{◌≡◌, ◌++◌, length, codes, IfOk};
 ghost use Rattle.std.specs.String.{string_bytes};
-ghost use Rattle.flow_model.specs.Verdict as verdict;
 ghost use Rattle.flow_core.specs.Run.{now};
 ghost use Rattle.flow_record.specs.Journal.{AreLeaves};
-ghost use Rattle.flow_reply.specs.Report.{IsVerdictText, IsReport};
+ghost use Rattle.flow_reply.specs.Report.{IsVerdictText, IsReport, report_text};
 
 use crate::listed::{print_numbers, waiting};
 use crate::verdict::Verdict;
@@ -12,12 +11,17 @@ use flow_record::{print_history, print_journal};
 use std::alloc::{AllocError, Global};
 
 /// Prints the report of a run that came to the verdict.
-pub fn print_report(
-    alloc: Global,
-    core: &Core,
-    verdict: &Verdict,
-) -> Result<Vec<u8>, AllocError>
+pub fn print_report(alloc: Global, core: &Core, verdict: &Verdict) -> Result<Vec<u8>, AllocError>
     ensures { IfOk result (λ text. IsReport core.now verdict.now text.items) }
+{
+    let words = print_verdict(alloc, core, verdict)?;
+    print_with(alloc, core, words.as_bytes())
+}
+
+/// Prints the report of a run, its verdict in these words.
+fn print_with(alloc: Global, core: &Core, words: &[u8]) -> Result<Vec<u8>, AllocError>
+    ensures { IfOk result (λ text.
+        text.items ≡ report_text core.now.definition core.now.history (now core.now).journal words.now) }
 {
     let history = core.history();
     let journal = journal_of(core);
@@ -28,7 +32,7 @@ pub fn print_report(
     text.extend_from_slice(format!(in alloc; "journal {leaves}\n")?.as_bytes())?;
     text.extend_from_slice(&print_journal(alloc, core.workflow(), journal)?)?;
     text.extend_from_slice(b"verdict ")?;
-    text.extend_from_slice(print_verdict(alloc, core, verdict)?.as_bytes())?;
+    text.extend_from_slice(words)?;
     text.extend_from_slice(b"\n")?;
     Ok(text)
 }
