@@ -105,7 +105,8 @@ found-cons true p xs n e f = let g = rw e at f in
     (same, subst (λ k. k < length xs) same (ltb-true _ _ e))
 found-cons false p xs n e f = let g = rw e at f in cc
 
-absent-cons : {X : Type 0} (t : Bool) (p : X → Bool) (xs : List X) → ltb (position_or_len p xs) (length xs) ≡ t →
+-- no element passes
+pub absent-cons : {X : Type 0} (t : Bool) (p : X → Bool) (xs : List X) → ltb (position_or_len p xs) (length xs) ≡ t →
     position p xs ≡ None → length xs ≤ position_or_len p xs
 absent-cons true p xs e f = let g = rw e at f in cc
 absent-cons false p xs e f = ltb-false _ _ e

@@ -1,10 +1,14 @@
--- A number read digit by digit.
-use Rattle.std.proofs.Common.{◌≡◌, ℕ, ◌+◌, ◌-◌, ◌*◌, ◌^◌, ◌≤◌, ◌<◌, Bool, true, false, ◌&&◌, ltb, leb, List, [], ◌∷◌, length, refl, sym, ◌∙◌, arith, le_refl, le_trans, Option, Some, None, if◌then◌else◌, drop, get_or, lit<}
+-- A number read digit by digit, and in its one spelling.
+use Rattle.std.proofs.Common.{◌≡◌, ℕ, ◌+◌, ◌-◌, ◌*◌, ◌^◌, ◌≤◌, ◌<◌, Bool, true, false, ◌&&◌, ltb, leb, List, [], ◌∷◌, length, refl, sym, ◌∙◌, arith, le_refl, le_trans, Option, Some, None, if◌then◌else◌, drop, get_or, lit<, subst, ⊎_elim, rules}
 use Rattle.std.proofs.lemmas.List.{drop_more}
 use Rattle.std.specs.List.{list_all}
 use Rattle.std.specs.Option.{option_and_then}
 use Rattle.std.proofs.lemmas.Bool.{lt-ltb, le-ltb, le-leb, ltb-true, ltb-false, and_right, and_from}
-use Rattle.flow_record.specs.Lines.{is_digit, value_after, number_of, value_with}
+use Rattle.std.specs.Fmt.{decimal}
+use Rattle.std.proofs.lemmas.Fmt.{digits_decimal, digits_value-decimal, decimal_nonempty, length-decimal-le, decimal_digit, first_decimal, decimal-digits_value}
+use Rattle.std.proofs.lemmas.Str.Parse.{IsNumeralModel, numerals_by_fold}
+use Rattle.std.proofs.lemmas.Bool.{and_parts, eq-eqb, ne_eqb, cases_lt}
+use Rattle.flow_record.specs.Lines.{is_digit, value_after, is_numeral, number_of, has_leading_zero, plain_number, value_with}
 
 -- the digits after others of that value, as far as they are digits and the value stays below 2 ^ 32
 abbrev pub read_from : ℕ → List ℕ → Option ℕ
@@ -49,3 +53,58 @@ read_number word some few =
 pub read_more : (value : ℕ) (word : List ℕ) (i : ℕ) → i < length word →
     read_from value (drop i word) ≡ option_and_then (λ v. read_from v (drop (i + 1) word)) (value_with value (get_or word i 0))
 read_more value word i small = rw (drop_more word i 0 small) refl
+
+-- ---- the one spelling of a number
+
+digits_are : IsNumeralModel (λ ds. list_all is_digit ds ≡ true) (value_after 0)
+digits_are = numerals_by_fold _ (search rules) value_after (search rules)
+
+pub decimal_digits : (n : ℕ) → n < 2 ^ 32 → list_all is_digit (decimal n) ≡ true
+decimal_digits n small = digits_decimal digits_are n (omega arith)
+
+no_leading : (ds : List ℕ) → 48 < get_or ds 0 0 → has_leading_zero ds ≡ false
+no_leading [] first = refl
+no_leading (b ∷ []) first = refl
+no_leading (b ∷ c ∷ bs) first = ne_eqb b 48 (omega arith)
+
+decimal_leads : (n : ℕ) → n < 2 ^ 32 → has_leading_zero (decimal n) ≡ false
+decimal_leads n small = ⊎_elim
+    (λ some. no_leading (decimal n) (first_decimal n some (omega arith)))
+    (λ none. rw (decimal_digit n (omega arith)) refl)
+    (cases_lt 0 n)
+
+-- a number is read from its digits
+pub number_there : (n : ℕ) → n < 2 ^ 32 → plain_number (decimal n) ≡ Some n
+number_there n small =
+    let big : n < 2 ^ 64 = omega arith in
+    let some = decimal_nonempty n big in
+    let few = length-decimal-le 10 n (omega arith) (omega arith) big in
+    rw (decimal_leads n small, decimal_digits n small, lt-ltb 0 (length (decimal n)) some, le-leb (length (decimal n)) 10 few, digits_value-decimal digits_are n big, lt-ltb n (2 ^ 32) small) refl
+
+leads_alone : (ds : List ℕ) → has_leading_zero ds ≡ false → 0 < length ds → get_or ds 0 0 ≡ 48 → length ds ≡ 1
+leads_alone [] e some first = absurd (omega arith)
+leads_alone (b ∷ []) e some first = refl
+leads_alone (b ∷ c ∷ bs) e some first = let yes = eq-eqb b 48 first in absurd (cc)
+
+-- and what is read is its digits
+pub number_back : (word : List ℕ) (n : ℕ) → plain_number word ≡ Some n → (word ≡ decimal n) × (n < 2 ^ 32)
+number_back word n e = by_zero (has_leading_zero word) refl e
+  where
+    spelled : has_leading_zero word ≡ false → is_numeral word ≡ true → ltb (value_after 0 word) (2 ^ 32) ≡ true → word ≡ decimal (value_after 0 word)
+    spelled one numeral small =
+        let parts = and_parts (list_all is_digit word) (ltb 0 (length word) && leb (length word) 10) numeral in
+        let some = ltb-true 0 (length word) (and_parts (ltb 0 (length word)) (leb (length word) 10) parts.1).0 in
+        let below : value_after 0 word < 2 ^ 32 = ltb-true _ _ small in
+        sym (decimal-digits_value digits_are word parts.0 some (leads_alone word one some) (omega arith))
+
+    by_value : (t u : Bool) → has_leading_zero word ≡ false → is_numeral word ≡ t → ltb (value_after 0 word) (2 ^ 32) ≡ u →
+        (if t && u then Some (value_after 0 word) else None) ≡ Some n → (word ≡ decimal n) × (n < 2 ^ 32)
+    by_value true true one f g h =
+        let same : value_after 0 word ≡ n = cc in
+        subst (λ m. (word ≡ decimal m) × (m < 2 ^ 32)) same (spelled one f g, ltb-true _ _ g)
+    by_value true false one f g h = cc
+    by_value false u one f g h = cc
+
+    by_zero : (t : Bool) → has_leading_zero word ≡ t → (if t then None else number_of word) ≡ Some n → (word ≡ decimal n) × (n < 2 ^ 32)
+    by_zero true f h = cc
+    by_zero false f h = by_value (is_numeral word) (ltb (value_after 0 word) (2 ^ 32)) f refl refl h

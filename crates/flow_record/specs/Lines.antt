@@ -1,6 +1,7 @@
 -- The lines of a text, the words of a line, and numbers.
 use Rattle.std.specs.Prelude.{ℕ, ◌+◌, ◌*◌, ◌-◌, ◌^◌, Bool, false, not, ◌&&◌, ◌||◌, ◌==◌, nat_lt, nat_le, if◌then◌else◌, List, [], ◌∷◌, length, Option, Some, None}
 use Rattle.std.specs.List.{list_all}
+use Rattle.std.specs.Option.{option_map}
 
 -- the text begins with that byte
 abbrev pub begins_with : ℕ → List ℕ → Bool
@@ -73,3 +74,27 @@ number_of word =
 abbrev pub value_with : ℕ → ℕ → Option ℕ
 value_with value byte =
     if is_digit byte && nat_lt (value * 10 + (byte - 48)) (2 ^ 32) then Some (value * 10 + (byte - 48)) else None
+
+-- more than one digit, and the first of them is 0
+abbrev pub has_leading_zero : List ℕ → Bool
+has_leading_zero [] = false
+has_leading_zero (b ∷ []) = false
+has_leading_zero (b ∷ c ∷ bs) = b == 48
+
+-- the number that a word is, in its one spelling: without leading zeros
+abbrev pub plain_number : List ℕ → Option ℕ
+plain_number word = if has_leading_zero word then None else number_of word
+
+-- a pair of texts, the first with one byte more before it
+abbrev pub with_byte : ℕ → List ℕ × List ℕ → List ℕ × List ℕ
+with_byte b parts = (b ∷ parts.0, parts.1)
+
+-- what stands before the first such byte, and what after it
+abbrev pub cut_at : ℕ → List ℕ → Option (List ℕ × List ℕ)
+cut_at byte [] = None
+cut_at byte (b ∷ bs) = if b == byte then Some ([], bs) else option_map (with_byte b) (cut_at byte bs)
+
+-- the pieces of a text between such bytes, one more than there are of these
+abbrev pub pieces_of : ℕ → List ℕ → List (List ℕ)
+pieces_of byte [] = [] ∷ []
+pieces_of byte (b ∷ bs) = if b == byte then [] ∷ pieces_of byte bs else onto_first b (pieces_of byte bs)

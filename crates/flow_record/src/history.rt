@@ -1,13 +1,15 @@
 ghost use Rattle.std.specs.Prelude.{◌≡◌, ◌++◌, IfOk, OnOk};
 ghost use Rattle.std.specs.String.{string_bytes};
-ghost use Rattle.flow_record.specs.History.{entry_line, history_text};
+ghost use Rattle.flow_record.specs.History.{IsSmall, entry_line, history_text, history_of, history};
 
 use flow_model::{Entry, FailEffect, Step};
 use std::alloc::{AllocError, Global};
 
 /// Prints the lines of a history.
 pub fn print_history(alloc: Global, entries: &[Entry]) -> Result<Vec<u8>, AllocError>
-    ensures { IfOk result (λ text. text.items ≡ history_text entries.now) }
+    ensures text { IfOk result (λ text. text.items ≡ history_text entries.now) }
+    // what is printed is read back
+    ensures read_back { IfOk result (λ text. history_of text.items ≡ history entries.now) }
 {
     let mut text = String::new(alloc);
     for entry in entries {
@@ -18,7 +20,8 @@ pub fn print_history(alloc: Global, entries: &[Entry]) -> Result<Vec<u8>, AllocE
 
 /// Adds the line of an entry to a text.
 fn push_entry(text: &mut String, entry: &Entry) -> Result<(), AllocError>
-    ensures { OnOk result (string_bytes text.new ≡ string_bytes text.old ++ entry_line entry.now) }
+    ensures text { OnOk result (string_bytes text.new ≡ string_bytes text.old ++ entry_line entry.now) }
+    ensures small { IsSmall entry.now }
 {
     let by = entry.by;
     match entry.step {

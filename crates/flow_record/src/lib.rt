@@ -3,7 +3,9 @@
 
 mod command;
 mod history;
+mod history_lines;
 mod journal;
+mod journal_lines;
 mod line;
 mod lines;
 mod number;
@@ -13,7 +15,9 @@ mod words;
 
 pub use command::Command;
 pub use history::print_history;
+pub use history_lines::read_history;
 pub use journal::{print_journal, print_label};
+pub use journal_lines::read_journal;
 pub use lines::place_of_feed;
 pub use number::read_number;
 pub use refusal::RecordRefusal;

@@ -1,6 +1,10 @@
-ghost use Rattle.std.specs.Prelude.{◌≡◌, ◌∷◌, ◌<◌, ◌==◌, length};
+ghost use Rattle.std.specs.Prelude.{◌≡◌, ◌∷◌, ◌<◌, ◌==◌, length, Some, None, MatchOption};
 ghost use Rattle.std.specs.List.{position};
-ghost use Rattle.flow_record.specs.Lines.{without_returns, lines_of, stripped};
+ghost use Rattle.flow_record.specs.Lines.{without_returns, lines_of, stripped, cut_at};
+ghost use Rattle.std.specs.Str.{bytes_eq};
+
+/// A line of that number or a greater one is bad.
+pub const END: u32 = 16_384;
 
 /// The first line of a text that is not empty, and the text after its line feed.
 pub fn split_line(text: &[u8]) -> (&[u8], &[u8])
@@ -14,11 +18,18 @@ pub fn split_line(text: &[u8]) -> (&[u8], &[u8])
     }
 }
 
+/// The place of the first such byte.
+fn place_of(text: &[u8], byte: u8) -> Option<usize>
+    ensures { result ≡ position (λ b. b == byte) text.now }
+{
+    text.iter().position(|b| *b == byte)
+}
+
 /// The place of the first line feed.
 pub fn place_of_feed(text: &[u8]) -> Option<usize>
     ensures { result ≡ position (λ byte. byte == 10) text.now }
 {
-    text.iter().position(|byte| *byte == b'\n')
+    place_of(text, b'\n')
 }
 
 /// A line without the carriage return at its end, if it has one.
@@ -29,4 +40,22 @@ fn without_return(line: &[u8]) -> &[u8]
         None => line,
         Some((last, front)) => if *last == b'\r' { front } else { line },
     }
+}
+
+/// What stands before the first such byte of a text, and what after it.
+pub fn cut_at(text: &[u8], byte: u8) -> Option<(&[u8], &[u8])>
+    ensures { MatchOption result (cut_at byte text.now ≡ None)
+        (λ parts. cut_at byte text.now ≡ Some (parts.0.now, parts.1.now)) }
+{
+    match place_of(text, byte) {
+        Some(end) => Some((&text[..end], &text[end + 1..])),
+        None => None,
+    }
+}
+
+/// Whether the word is that other one.
+pub fn is_word(word: &[u8], other: &[u8]) -> bool
+    ensures { result ≡ bytes_eq word.now other.now }
+{
+    word == other
 }

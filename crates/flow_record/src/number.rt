@@ -1,5 +1,5 @@
 ghost use Rattle.std.specs.Prelude.{◌≡◌};
-ghost use Rattle.flow_record.specs.Lines.{number_of, value_with};
+ghost use Rattle.flow_record.specs.Lines.{number_of, plain_number, value_with};
 
 /// The number that a word is, if it is one.
 pub fn read_number(word: &[u8]) -> Option<u32>
@@ -13,6 +13,16 @@ pub fn read_number(word: &[u8]) -> Option<u32>
         value = value_with(value, *byte)?;
     }
     Some(value)
+}
+
+/// The number that a word is, if it is one in its one spelling: without leading zeros.
+pub fn plain_number(word: &[u8]) -> Option<u32>
+    ensures { result ≡ plain_number word.now }
+{
+    match word {
+        [b'0', _, ..] => None,
+        _ => read_number(word),
+    }
 }
 
 /// The value with one digit more, if the byte is a digit and the value stays a `u32`.

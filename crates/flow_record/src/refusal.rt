@@ -1,6 +1,6 @@
 ghost use Rattle.std.specs.Prelude.{◌≡◌};
 
-use std::alloc::AllocFailed;
+use std::alloc::{AllocError, AllocFailed};
 use thiserror::Error;
 
 /// Why a text is not read.
@@ -9,8 +9,21 @@ pub enum RecordRefusal {
     /// The least line that is not as it must be, counted from 0.
     #[error("line {line} is not as it must be")]
     BadLine { line: u32 },
+    /// All lines are as they must be: the least line whose label is not that of its leaf, counted from 0.
+    #[error("line {line} does not have the label of its leaf")]
+    Label { line: u32 },
     #[error("there is no memory")]
     NoMemory,
+}
+
+impl From<AllocError> for RecordRefusal {
+    ghost use Rattle.flow_record.specs.declared.refusal.RecordRefusal.TheVariants.{NoMemory};
+
+    ghost from_gives = { λ _ e. e ≡ NoMemory };
+
+    fn from(_error: AllocError) -> RecordRefusal {
+        RecordRefusal::NoMemory
+    }
 }
 
 impl<T: Drop> From<AllocFailed<T>> for RecordRefusal {

@@ -5,19 +5,17 @@ ghost use Rattle.flow_record.specs.Session.{bare_command, numbered_command, line
 
 use crate::command::Command;
 use crate::line::Line;
-use crate::lines::split_line;
+use crate::lines::{END, split_line};
 use crate::number::read_number;
 use crate::refusal::RecordRefusal;
 use crate::words::split_word;
 use std::alloc::Global;
 
-/// A line of that number or a greater one is bad.
-const END: u32 = 16_384;
-
 /// Reads the commands of a session.
 pub fn read_session(alloc: Global, text: &[u8]) -> Result<Vec<Command>, RecordRefusal>
     ensures ok { IfOk result (λ read. session_of text.now ≡ commands read.items) }
     ensures bad { (line : ℕ) → IsErrOf result (RecordRefusal.BadLine line) → session_of text.now ≡ bad_line line }
+    ensures no_label { (line : ℕ) → ¬ (IsErrOf result (RecordRefusal.Label line)) }
 {
     let mut read = Vec::new(alloc);
     let mut rest = text;

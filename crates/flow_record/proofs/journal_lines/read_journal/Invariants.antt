@@ -1,0 +1,12 @@
+use Rattle.std.proofs.Common.{◌≤◌, length}
+use Rattle.flow_record.proofs.Journals.{IsReadTo}
+use Rattle.flow_record.proofs.journal_lines.read_journal.Given as goal
+
+abbrev pub decreases-loop-rest : goal.decreases-loop-rest
+decreases-loop-rest l = length l.rest
+
+abbrev pub invariant-loop-rest : goal.invariant-loop-rest
+invariant-loop-rest l = record {
+  small : l.number ≤ 16384;
+  read : IsReadTo l.workflow l.text l.reading.leaves.items l.reading.wrong l.number l.rest;
+}

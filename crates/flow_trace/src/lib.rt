@@ -1,0 +1,10 @@
+//! Whether a list of leaves is an execution of a workflow or the front of one, and where it stops being one.
+#![tactic(auto)]
+
+mod checked;
+mod labels;
+mod live;
+mod trace;
+
+pub use checked::Checked;
+pub use trace::check_trace;
