@@ -27,6 +27,8 @@ fn serve(core: &mut Core, command: &Command) -> Answer
     ensures kind { IsAnswerTo command.now result }
     ensures named { HasNamedCall core.new.definition.events result }
 {
+    // the labels of a workflow are known, so the event of a call has a name
+    let _ = core.workflow().tree();
     match *command {
         Command::Take(leaf) => Answer::Took(core.take(leaf, DRIVER)),
         Command::Do(leaf) => Answer::Did(core.perform(leaf, DRIVER)),
