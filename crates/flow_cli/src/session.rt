@@ -49,11 +49,7 @@ fn reply_to(alloc: Global, core: &mut Core, command: &Command) -> Result<Vec<u8>
 }
 
 /// Goes through the commands, and gives the replies.
-fn reply_to_all(
-    alloc: Global,
-    core: &mut Core,
-    commands: &[Command],
-) -> Result<Vec<u8>, AllocError>
+fn reply_to_all(alloc: Global, core: &mut Core, commands: &[Command]) -> Result<Vec<u8>, AllocError>
     ensures { IfOk result (λ text. Drives core.old commands.now text.items core.new) }
 {
     let mut text = Vec::new(alloc);

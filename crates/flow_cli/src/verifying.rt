@@ -108,11 +108,7 @@ fn verify_constraint(alloc: Global, workflow: &Workflow, index: u32) -> Result<O
 }
 
 /// Answers a query to a workflow.
-fn verify_workflow(
-    alloc: Global,
-    workflow: &Workflow,
-    query: &Query,
-) -> Result<Output, AllocError>
+fn verify_workflow(alloc: Global, workflow: &Workflow, query: &Query) -> Result<Output, AllocError>
     requires { Each (λ n. n ∈ workflow.now.events) (used_in_rules (query_roles (asked query.now))) }
     ensures { IfOk result (λ output. VerifiesWorkflow workflow.now (asked query.now) output.status output.text.items) }
 {
