@@ -4,3 +4,4 @@ pub mod Sessions
 pub mod Numbered
 pub mod Compiled
 pub mod Inputs
+pub mod Queries

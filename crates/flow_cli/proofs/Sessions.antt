@@ -58,7 +58,7 @@ recorded w steps session first last verdict status replies report output is driv
       lawful = subst (λ (n : ℕ). IsLawful (schema_of w) n last.history) same.1 (subst (λ (v : Definition). IsLawful (schema_of v) last.limit last.history) same.0 lawful);
       verdict = verdict;
       verdict_is = subst (λ (n : ℕ). Means last verdict (drive_verdict (schema_of w) n last.history)) same.1
-      (subst (λ (v : Definition). Means last verdict (drive_verdict (schema_of v) last.limit last.history)) same.0 verdict_is);
+          (subst (λ (v : Definition). Means last verdict (drive_verdict (schema_of v) last.limit last.history)) same.0 verdict_is);
       status_is = status_is;
       report = report;
       reported = reported;

@@ -1,5 +1,6 @@
 -- Workflows that are not compiled.
 use Rattle.std.specs.Prelude.{◌≡◌, ℕ, List, [], ◌⊎◌}
+use Rattle.flow_model.specs.Schema.{Schema}
 use Rattle.flow_laws.specs.Words.{IsConsistent}
 use Rattle.flow_workflow.specs.Definition.{Definition, schema_of}
 use Rattle.flow_excise.specs.declared.refusal.CompileRefusal.{CompileRefusal}
@@ -22,10 +23,10 @@ IsOfCounts (Inconsistent dropped) = ⊥
 IsOfCounts NoMemory = ⊥
 
 -- the workflow is too large to be compiled, and the output is the first count that is
-pub record IsTooLarge (w : Definition) (status : Status) (output : List ℕ) : Type 0 where
+pub record IsTooLarge (w : Schema) (status : Status) (output : List ℕ) : Type 0 where
   pub refusal : CompileRefusal
   pub of_counts : IsOfCounts refusal
-  pub first : IsRefused (schema_of w) refusal
+  pub first : IsRefused w refusal
   pub told : Tells [] (refused.Compile refusal) status output
 
 -- no execution meets every constraint, and the output has a circle for each option
@@ -39,4 +40,4 @@ pub record IsInconsistent (w : Definition) (status : Status) (output : List ℕ)
 
 -- the workflow is not compiled, and the output says why
 abbrev pub IsNotCompiled : Definition → Status → List ℕ → Type 0
-IsNotCompiled w status output = IsTooLarge w status output ⊎ IsInconsistent w status output
+IsNotCompiled w status output = IsTooLarge (schema_of w) status output ⊎ IsInconsistent w status output

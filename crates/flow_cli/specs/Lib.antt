@@ -5,4 +5,6 @@ pub mod Compiling
 pub mod Checking
 pub mod Drive
 pub mod Driving
+pub mod Tracing
+pub mod Verifying
 pub mod Output

@@ -8,13 +8,15 @@ use Rattle.flow_reply.specs.declared.refused.Refused.TheVariants as refused
 use Rattle.flow_reply.specs.Cut.{cut_of}
 use Rattle.flow_reply.specs.Refusing.{IsOfText}
 use Rattle.flow_cli.specs.declared.words.Mode.{Mode}
-use Rattle.flow_cli.specs.declared.words.Mode.TheVariants.{Drive, Check}
+use Rattle.flow_cli.specs.declared.words.Mode.TheVariants.{Drive, Check, Verify, Trace}
 use Rattle.flow_cli.specs.declared.status.Status.{Status}
 use Rattle.flow_cli.specs.declared.status.Status.TheVariants.{Fine, No, Words, Input, ReadFault, WriteFault, Memory, Spent}
 use Rattle.flow_cli.specs.Words.{IsCall, IsNoCall}
 use Rattle.flow_cli.specs.Refusals.{Tells}
 use Rattle.flow_cli.specs.Checking.{Checks}
 use Rattle.flow_cli.specs.Driving.{DrivesText}
+use Rattle.flow_cli.specs.Tracing.{TracesText}
+use Rattle.flow_cli.specs.Verifying.{VerifiesText}
 
 -- the greatest number of bytes that are read
 abbrev pub greatest_input : ℕ
@@ -24,9 +26,9 @@ greatest_input = 1048576
 abbrev pub workflow_part : List ℕ → List ℕ
 workflow_part input = take (cut_of input).0 input
 
--- what follows it
-abbrev pub session_part : List ℕ → List ℕ
-session_part input = drop (cut_of input).1 input
+-- what follows it: a session, a query or a journal
+abbrev pub second_part : List ℕ → List ℕ
+second_part input = drop (cut_of input).1 input
 
 -- the input has more bytes than are read
 pub record IsTooLong (input : List ℕ) (status : Status) (output : List ℕ) : Type 0 where
@@ -40,16 +42,19 @@ pub record IsTextRefused (input : List ℕ) (status : Status) (output : List ℕ
   pub first : IsParseRefusal (workflow_part input) refusal
   pub told : Tells [] (refused.Text refusal) status output
 
--- what the mode writes for what is said and the text that follows it: only `drive` reads that, and counts steps
+-- what the mode writes for what is said and the text that follows it: `check` does not look at that, and only `drive`
+-- counts steps
 abbrev pub WritesSaid : Mode → ℕ → Said → List ℕ → Status → List ℕ → Type 0
 WritesSaid Drive steps s text status output = DrivesText s steps text status output
 WritesSaid Check steps s text status output = Checks s status output
+WritesSaid Verify steps s text status output = VerifiesText s text status output
+WritesSaid Trace steps s text status output = TracesText s text status output
 
 -- the text of the workflow says something, and the output is that of the mode for it
 pub record IsAnswered (mode : Mode) (steps : ℕ) (input : List ℕ) (status : Status) (output : List ℕ) : Type 0 where
   pub said : Said
   pub says : Says (workflow_part input) said
-  pub answered : WritesSaid mode steps said (session_part input) status output
+  pub answered : WritesSaid mode steps said (second_part input) status output
 
 -- what the mode writes for an input that is not too long
 abbrev pub WritesFor : Mode → ℕ → List ℕ → Status → List ℕ → Type 0
@@ -93,7 +98,7 @@ IsOfInput ReadFault = ⊥
 IsOfInput WriteFault = ⊥
 IsOfInput Memory = ⊥
 
--- the workflow was checked, or the session gone through to its end
+-- the workflow was checked, the session gone through to its end, or the query or the journal answered
 abbrev pub IsOver : Status → Type 0
 IsOver Fine = Unit {0}
 IsOver No = Unit {0}

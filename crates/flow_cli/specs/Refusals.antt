@@ -27,8 +27,10 @@ status_of refused.Words = Words
 status_of refused.Read = ReadFault
 status_of refused.TooLong = Input
 status_of (refused.Text refusal) = Input
+status_of (refused.Query refusal) = Input
 status_of (refused.Record refusal) = Input
 status_of (refused.Expand refusal) = Input
+status_of (refused.NoRule index) = Input
 status_of (refused.Compile refusal) = status_of_compiling refusal
 
 -- the status and the output are those of the refusal, events by these names

@@ -3,12 +3,14 @@ use Rattle.std.specs.Prelude.{◌≡◌, ◌≤◌, ℕ, List, [], ◌∷◌, Op
 use Rattle.std.specs.Option.{unwrap_or}
 use Rattle.flow_record.specs.Lines.{number_of}
 use Rattle.flow_cli.specs.declared.words.Mode.{Mode}
-use Rattle.flow_cli.specs.declared.words.Mode.TheVariants.{Drive, Check}
+use Rattle.flow_cli.specs.declared.words.Mode.TheVariants.{Drive, Check, Verify, Trace}
 use Rattle.flow_cli.specs.declared.words.Settings.{Settings}
 
 abbrev pub mode_word : Mode → List ℕ
 mode_word Drive = codes "drive"
 mode_word Check = codes "check"
+mode_word Verify = codes "verify"
+mode_word Trace = codes "trace"
 
 -- the word is a number from one up to the greatest
 abbrev pub IsUpTo : ℕ → List ℕ → ℕ → Type 0

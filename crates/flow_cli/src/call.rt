@@ -12,6 +12,8 @@ use crate::checking::check;
 use crate::driving::drive;
 use crate::output::{Output, refuse};
 use crate::status::Status;
+use crate::tracing::trace;
+use crate::verifying::verify;
 use crate::words::{Mode, Request, request_of};
 use flow_form::Script;
 use flow_io::{ReadRefusal, Sink, Source, read_all, write_all};
@@ -36,6 +38,8 @@ fn answer_script(
     match request.mode {
         Mode::Drive => drive(alloc, script, text, request.steps),
         Mode::Check => check(alloc, script),
+        Mode::Verify => verify(alloc, script, text),
+        Mode::Trace => trace(alloc, script, text),
     }
 }
 
@@ -75,8 +79,8 @@ fn respond<S: Source>(alloc: Global, words: &[String], source: &mut S) -> Result
     }
 }
 
-/// The program: reads a workflow from the source, with a session after it where the mode drives it, and
-/// writes to the sink what comes of it. Want of memory may stand in place of every status but a write
+/// The program: reads a workflow from the source, with a session, a query or a journal after it as the mode
+/// asks, and writes to the sink what comes of it. Want of memory may stand in place of every status but a write
 /// fault.
 pub fn flow<S: Source, K: Sink>(
     alloc: Global,

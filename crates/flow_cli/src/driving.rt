@@ -47,12 +47,7 @@ fn drive_script(
 }
 
 /// Drives what a script says by the session of a text, in so many steps at most. Its lines are read first.
-pub fn drive(
-    alloc: Global,
-    script: &Script,
-    text: &[u8],
-    steps: u32,
-) -> Result<Output, AllocError>
+pub fn drive(alloc: Global, script: &Script, text: &[u8], steps: u32) -> Result<Output, AllocError>
     requires closed { IsClosed (said script.now) }
     requires steps { IsStepCount steps }
     ensures { IfOk result (λ output. DrivesText (said script.now) steps text.now output.status output.text.items) }

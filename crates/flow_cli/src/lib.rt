@@ -7,6 +7,8 @@ mod driving;
 mod output;
 mod session;
 mod status;
+mod tracing;
+mod verifying;
 mod words;
 
 pub use call::flow;

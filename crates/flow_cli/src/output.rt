@@ -43,8 +43,10 @@ fn status_of(refused: &Refused) -> Status
         Refused::Read => Status::ReadFault,
         Refused::TooLong
         | Refused::Text(_)
+        | Refused::Query(_)
         | Refused::Record(_)
-        | Refused::Expand(_) => Status::Input,
+        | Refused::Expand(_)
+        | Refused::NoRule(_) => Status::Input,
         Refused::Compile(refusal) => status_of_compiling(refusal),
     }
 }

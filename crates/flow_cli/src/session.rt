@@ -27,6 +27,8 @@ fn serve(core: &mut Core, command: &Command) -> Answer
     ensures kind { IsAnswerTo command.now result }
     ensures named { HasNamedCall core.new.definition.events result }
 {
+    // the labels of a workflow are known, so the event of a call has a name
+    let _ = core.workflow().tree();
     match *command {
         Command::Take(leaf) => Answer::Took(core.take(leaf, DRIVER)),
         Command::Do(leaf) => Answer::Did(core.perform(leaf, DRIVER)),
@@ -47,11 +49,7 @@ fn reply_to(alloc: Global, core: &mut Core, command: &Command) -> Result<Vec<u8>
 }
 
 /// Goes through the commands, and gives the replies.
-fn reply_to_all(
-    alloc: Global,
-    core: &mut Core,
-    commands: &[Command],
-) -> Result<Vec<u8>, AllocError>
+fn reply_to_all(alloc: Global, core: &mut Core, commands: &[Command]) -> Result<Vec<u8>, AllocError>
     ensures { IfOk result (λ text. Drives core.old commands.now text.items core.new) }
 {
     let mut text = Vec::new(alloc);

@@ -4,9 +4,11 @@ ghost use Rattle.flow_cli.specs.Code.{code_of};
 /// How a call ended. A process ends with its number, in this order from 0.
 #[derive(Clone, Copy, Debug, PartialEq, Eq)]
 pub enum Status {
-    /// The run is committed, or some execution meets the constraints.
+    /// The run is committed, some execution meets the constraints, the property holds, the constraint follows
+    /// from the others, or the journal is an execution.
     Fine,
-    /// The run is not over, or no execution meets the constraints.
+    /// The run is not over, no execution meets the constraints, some execution breaks the property or the
+    /// constraint, or the journal is no execution.
     No,
     /// The words are no call of the program.
     Words,

@@ -11,6 +11,10 @@ pub enum Mode {
     Drive,
     /// Say whether some execution of a workflow meets its constraints.
     Check,
+    /// Say whether all executions of a workflow meet a property, or a constraint follows from the others.
+    Verify,
+    /// Say whether a journal is an execution of a workflow.
+    Trace,
 }
 
 /// What the options of a call set.
@@ -58,6 +62,8 @@ fn mode_called(word: &[u8]) -> Option<Mode>
     match word {
         b"drive" => Some(Mode::Drive),
         b"check" => Some(Mode::Check),
+        b"verify" => Some(Mode::Verify),
+        b"trace" => Some(Mode::Trace),
         _ => None,
     }
 }

@@ -9,6 +9,7 @@ use Rattle.flow_model.specs.Facts.{State, state_with, after, after_leaf, replay}
 use Rattle.flow_model.specs.Lists.{◌∈◌, Each}
 use Rattle.flow_model.specs.Run.{CanTake, CanDoAside, IsStuck, Waits, RunState, current_leaves}
 use Rattle.flow_model.specs.Schema.{Schema}
+use Rattle.flow_model.specs.Trace.{Trace}
 use Rattle.flow_model.specs.Verdict.{AreJust}
 use Rattle.flow_laws.specs.Histories.{IsSound}
 use Rattle.flow_laws.specs.Words.{IsWellFormed}
@@ -37,6 +38,16 @@ all_from P [] each k d within = absurd (omega arith)
 all_from P (x ∷ xs) each zero d within = each x (inl refl)
 all_from P (x ∷ xs) each (suc k) d within = all_from P xs (λ n there. each n (inr there)) k d (omega arith)
 
+below_in_trace : (w : Schema) → IsWellFormed w → (t : List ℕ) → Trace w.goal t → (leaf : ℕ) → leaf ∈ t → leaf < length w.labels
+below_in_trace w formed t trace leaf there =
+    let below : leaf < 0 + length w.labels =
+    numbers_from_below 0 (length w.labels) leaf (subst (λ (l : List ℕ). leaf ∈ l) formed.numbered (leaf_of_trace w.goal t trace leaf there)) in
+    omega arith
+
+-- each leaf of an execution is a leaf of the goal
+pub trace_within : (w : Schema) → IsWellFormed w → (t : List ℕ) → Trace w.goal t → All (λ leaf. leaf < length w.labels) t
+trace_within w formed t trace = all_from (λ leaf. leaf < length w.labels) t (λ leaf there. below_in_trace w formed t trace leaf there)
+
 -- each leaf of the journal is a leaf of the goal
 pub journal_within : (w : Schema) → IsWellFormed w → (s : RunState) → IsSound w s → All (λ leaf. leaf < length w.labels) s.journal
 journal_within w formed s sound =
@@ -45,9 +56,7 @@ journal_within w formed s sound =
     let (rest, is) = free.1 in
     all_from (λ leaf. leaf < length w.labels) s.journal (λ leaf member.
     let there : leaf ∈ t = subst (λ (l : List ℕ). leaf ∈ l) (sym is) (mem_append_left leaf s.journal rest member) in
-    let below : leaf < 0 + length w.labels =
-    numbers_from_below 0 (length w.labels) leaf (subst (λ (l : List ℕ). leaf ∈ l) formed.numbered (leaf_of_trace w.goal t free.0.0 leaf there)) in
-    omega arith)
+    below_in_trace w formed t free.0.0 leaf there)
 
 -- Facts that hold have numbers below the count
 

@@ -4,3 +4,4 @@ pub mod Report
 pub mod Refusing
 pub mod Checking
 pub mod Single
+pub mod Judging

@@ -21,11 +21,11 @@ use Rattle.flow_excise.specs.declared.refusal.Dropped.{Dropped}
 use Rattle.flow_excise.specs.declared.refusal.CompileRefusal.{CompileRefusal}
 use Rattle.flow_excise.specs.declared.refusal.CompileRefusal.TheVariants as compilation
 use Rattle.flow_reply.specs.declared.refused.Refused.{Refused}
-use Rattle.flow_reply.specs.declared.refused.Refused.TheVariants.{Words, Read, TooLong, Text, Record, Expand, Compile}
+use Rattle.flow_reply.specs.declared.refused.Refused.TheVariants.{Words, Read, TooLong, Text, Query, Record, Expand, NoRule, Compile}
 
 -- how the program is called
 abbrev pub usage_text : List ℕ
-usage_text = codes "usage: flow MODE [--steps N]\n" ++ codes "modes: drive check\n"
+usage_text = codes "usage: flow MODE [--steps N]\n" ++ codes "modes: drive check verify trace\n"
 
 -- what a text needs, in words
 abbrev pub kind_text : Wanted → List ℕ
@@ -125,11 +125,13 @@ IsOfOptions compilation.NoMemory = ⊥
 -- the refusal is not for want of memory
 abbrev pub IsOfLines : RecordRefusal → Type 0
 IsOfLines (record_refusal.BadLine line) = Unit {0}
+IsOfLines (record_refusal.Label line) = Unit {0}
 IsOfLines record_refusal.NoMemory = ⊥
 
--- the first line that says nothing
+-- the first line that is not as it must be, or whose label is not that of its leaf
 abbrev pub line_refusal : RecordRefusal → List ℕ
 line_refusal (record_refusal.BadLine line) = codes "line " ++ decimal line
+line_refusal (record_refusal.Label line) = codes "label " ++ decimal line
 line_refusal record_refusal.NoMemory = []
 
 -- the program tells it by lines, events by these names
@@ -138,8 +140,10 @@ IsTold events Words = Unit {0}
 IsTold events Read = Unit {0}
 IsTold events TooLong = Unit {0}
 IsTold events (Text refusal) = IsOfText refusal
+IsTold events (Query refusal) = IsOfText refusal
 IsTold events (Record refusal) = IsOfLines refusal
 IsTold events (Expand refusal) = IsOfWorkflow events refusal
+IsTold events (NoRule index) = Unit {0}
 IsTold events (Compile refusal) = IsOfOptions refusal
 
 -- the refusal, each line with its line feed, events by these names
@@ -148,6 +152,8 @@ refused_text events Words = codes "refused: words\n" ++ usage_text
 refused_text events Read = codes "refused: read\n"
 refused_text events TooLong = codes "refused: too long 1048576\n"
 refused_text events (Text refusal) = codes "refused: " ++ text_refusal refusal ++ codes "\n"
+refused_text events (Query refusal) = codes "refused: query " ++ text_refusal refusal ++ codes "\n"
 refused_text events (Record refusal) = codes "refused: " ++ line_refusal refusal ++ codes "\n"
 refused_text events (Expand refusal) = codes "refused: " ++ expand_refusal events refusal ++ codes "\n"
+refused_text events (NoRule index) = codes "refused: " ++ (codes "constraint " ++ decimal index) ++ codes "\n"
 refused_text events (Compile refusal) = compile_refusal refusal

@@ -4,6 +4,7 @@
 mod answer;
 mod checking;
 mod ending;
+mod judging;
 mod listed;
 mod numbered;
 mod posting;
@@ -21,6 +22,7 @@ mod verdict;
 pub use answer::Answer;
 pub use checking::print_check;
 pub use flow_record::Command;
+pub use judging::{print_checked, print_redundancy, print_verified};
 pub use refused::{Refused, print_refused};
 pub use reply::print_reply;
 pub use report::print_report;

@@ -1,6 +1,7 @@
 ghost use Rattle.std.specs.Prelude.{◌≡◌, IfOk};
 ghost use Rattle.flow_reply.specs.Refusing.{refused_text, named_by, IsTold};
 
+use crate::numbered::print_numbered;
 use crate::uncompiled::print_compile_refusal;
 use crate::unexpanded::print_expand_refusal;
 use crate::unread::{print_line_refusal, print_text_refusal};
@@ -21,10 +22,14 @@ pub enum Refused {
     TooLong,
     /// The text of the workflow says nothing.
     Text(TextRefusal),
-    /// A line of the second part says nothing.
+    /// The text of a query asks nothing.
+    Query(TextRefusal),
+    /// A line of the second part is not as it must be.
     Record(RecordRefusal),
     /// The workflow is not expanded.
     Expand(ExpandRefusal),
+    /// The workflow has no constraint of that number.
+    NoRule(u32),
     /// The workflow is not compiled.
     Compile(CompileRefusal),
 }
@@ -42,13 +47,15 @@ pub fn print_refused(
     match refused {
         Refused::Words => Vec::from_slice(
             alloc,
-            b"refused: words\nusage: flow MODE [--steps N]\nmodes: drive check\n",
+            b"refused: words\nusage: flow MODE [--steps N]\nmodes: drive check verify trace\n",
         ),
         Refused::Read => Vec::from_slice(alloc, b"refused: read\n"),
         Refused::TooLong => Vec::from_slice(alloc, b"refused: too long 1048576\n"),
-        Refused::Text(refusal) => print_text_refusal(alloc, refusal),
+        Refused::Text(refusal) => print_text_refusal(alloc, b"refused: ", refusal),
+        Refused::Query(refusal) => print_text_refusal(alloc, b"refused: query ", refusal),
         Refused::Record(refusal) => print_line_refusal(alloc, refusal),
         Refused::Expand(refusal) => print_expand_refusal(alloc, refusal, script),
+        Refused::NoRule(index) => print_numbered(alloc, "constraint", u64::from(*index)),
         Refused::Compile(refusal) => print_compile_refusal(alloc, refusal),
     }
 }

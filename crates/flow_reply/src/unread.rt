@@ -8,50 +8,74 @@ use flow_form::{TextRefusal, Wanted};
 use flow_record::RecordRefusal;
 use std::alloc::{AllocError, Global};
 
-/// Prints the line that says why a text says nothing.
-pub fn print_text_refusal(alloc: Global, refusal: &TextRefusal) -> Result<Vec<u8>, AllocError>
+/// Prints the line that says why a text says nothing, after its head.
+pub fn print_text_refusal(
+    alloc: Global,
+    head: &[u8],
+    refusal: &TextRefusal,
+) -> Result<Vec<u8>, AllocError>
     requires { IsOfText refusal.now }
-    ensures { IfOk result (λ line. line.items ≡ codes "refused: " ++ text_refusal refusal.now ++ codes "\n") }
+    ensures { IfOk result (λ line. line.items ≡ head.now ++ text_refusal refusal.now ++ codes "\n") }
 {
-    match refusal {
-        TextRefusal::NotAscii { place } => print_numbered(alloc, "byte", *place as u64),
-        TextRefusal::BadToken { place } => print_numbered(alloc, "token", *place as u64),
-        TextRefusal::Expected { place, kind } => print_expected(alloc, *kind, *place),
-        TextRefusal::Unknown { place, name } => print_named(alloc, "unknown", name, *place),
-        TextRefusal::Repeated { place, name } => print_named(alloc, "repeated", name, *place),
-        TextRefusal::TooDeep { place } => print_numbered(alloc, "deep", *place as u64),
-        TextRefusal::NoMemory => unreachable!(),
-    }
+    let mut line = Vec::from_slice(alloc, head)?;
+    line.extend_from_slice(&print_reason(alloc, refusal)?)?;
+    line.extend_from_slice(b"\n")?;
+    Ok(line)
 }
 
-/// Prints the line that says which line of a session says nothing.
+/// Prints the line that says which line of a session or a journal is refused.
 pub fn print_line_refusal(alloc: Global, refusal: &RecordRefusal) -> Result<Vec<u8>, AllocError>
     requires { IsOfLines refusal.now }
     ensures { IfOk result (λ line. line.items ≡ codes "refused: " ++ line_refusal refusal.now ++ codes "\n") }
 {
     match refusal {
         RecordRefusal::BadLine { line } => print_numbered(alloc, "line", u64::from(*line)),
+        RecordRefusal::Label { line } => print_numbered(alloc, "label", u64::from(*line)),
         RecordRefusal::NoMemory => unreachable!(),
     }
 }
 
+/// Prints why a text says nothing.
+fn print_reason(alloc: Global, refusal: &TextRefusal) -> Result<Vec<u8>, AllocError>
+    requires { IsOfText refusal.now }
+    ensures { IfOk result (λ text. text.items ≡ text_refusal refusal.now) }
+{
+    match refusal {
+        TextRefusal::NotAscii { place } => print_placed(alloc, "byte", *place),
+        TextRefusal::BadToken { place } => print_placed(alloc, "token", *place),
+        TextRefusal::Expected { place, kind } => print_expected(alloc, *kind, *place),
+        TextRefusal::Unknown { place, name } => print_named(alloc, "unknown", name, *place),
+        TextRefusal::Repeated { place, name } => print_named(alloc, "repeated", name, *place),
+        TextRefusal::TooDeep { place } => print_placed(alloc, "deep", *place),
+        TextRefusal::NoMemory => unreachable!(),
+    }
+}
+
+/// Prints what is wrong at a place.
+fn print_placed(alloc: Global, word: &str, place: usize) -> Result<Vec<u8>, AllocError>
+    ensures { IfOk result (λ text. text.items ≡ word.now ++ codes " " ++ decimal place) }
+{
+    let text = format!(in alloc; "{word} {place}")?;
+    Ok(text.into_bytes())
+}
+
 /// Prints what was expected at a place.
 fn print_expected(alloc: Global, kind: Wanted, place: usize) -> Result<Vec<u8>, AllocError>
-    ensures { IfOk result (λ line. line.items ≡ codes "refused: " ++ (codes "expected " ++ kind_text kind ++ codes " " ++ decimal place) ++ codes "\n") }
+    ensures { IfOk result (λ text. text.items ≡ codes "expected " ++ kind_text kind ++ codes " " ++ decimal place) }
 {
     let wanted = kind_text(kind);
-    let line = format!(in alloc; "refused: expected {wanted} {place}\n")?;
-    Ok(line.into_bytes())
+    let text = format!(in alloc; "expected {wanted} {place}")?;
+    Ok(text.into_bytes())
 }
 
 /// Prints what is wrong with the name at a place.
 fn print_named(alloc: Global, word: &str, name: &Name, place: usize) -> Result<Vec<u8>, AllocError>
-    ensures { IfOk result (λ line. line.items ≡ codes "refused: " ++ (word.now ++ codes " " ++ name.now ++ codes " " ++ decimal place) ++ codes "\n") }
+    ensures { IfOk result (λ text. text.items ≡ word.now ++ codes " " ++ name.now ++ codes " " ++ decimal place) }
 {
-    let mut line = format!(in alloc; "refused: {word} ")?.into_bytes();
-    line.extend_from_slice(name.bytes())?;
-    line.extend_from_slice(format!(in alloc; " {place}\n")?.as_bytes())?;
-    Ok(line)
+    let mut text = format!(in alloc; "{word} ")?.into_bytes();
+    text.extend_from_slice(name.bytes())?;
+    text.extend_from_slice(format!(in alloc; " {place}")?.as_bytes())?;
+    Ok(text)
 }
 
 /// What a text needs, in words.
