@@ -1,5 +1,6 @@
 mod faults;
 mod properties;
 mod records;
+mod runs;
 mod streams;
 mod texts;
