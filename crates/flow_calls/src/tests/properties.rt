@@ -22,7 +22,7 @@ fn script_of(alloc: Global, text: &str) -> Result<Script, Fail>
 }
 
 /// The workflow that the text becomes.
-fn workflow_of(alloc: Global, text: &str) -> Result<Workflow, Fail> {
+pub(crate) fn workflow_of(alloc: Global, text: &str) -> Result<Workflow, Fail> {
     let script = script_of(alloc, text)?;
     Ok(expand(alloc, &script)?)
 }
