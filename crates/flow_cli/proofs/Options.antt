@@ -1,11 +1,11 @@
 -- Options, one after another.
-use Rattle.std.proofs.Common.{◌≡◌, ◌≤◌, ◌-◌, ℕ, List, [], ◌∷◌, Option, Some, None, length, map, take, drop, get_or, refl, sym, ap, ◌∙◌, subst, arith, le_refl}
+use Rattle.std.proofs.Common.{◌≡◌, ◌≤◌, ◌-◌, ℕ, List, [], ◌∷◌, Option, Some, None, length, map, take, drop, get_or, sym, ap, ◌∙◌, subst, arith, le_refl}
 use Rattle.std.proofs.lemmas.List.{take_all}
 use Rattle.std.specs.Prelude.{MatchOption, IfSome}
 use Rattle.flow_record.specs.Lines.{number_of}
 use Rattle.flow_cli.specs.declared.words.Settings.{Settings}
 use Rattle.std.specs.Option.{unwrap_or}
-use Rattle.flow_cli.specs.Words.{IsUpTo, IsStepCount, Sets, SetAll, none_set, default_steps}
+use Rattle.flow_cli.specs.Words.{IsStepCount, Sets, SetAll, none_set, default_steps}
 
 some_same : (a b : ℕ) (o : Option ℕ) → o ≡ Some a → o ≡ Some b → a ≡ b
 some_same a b o p q = cc

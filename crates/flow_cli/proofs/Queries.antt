@@ -1,5 +1,5 @@
 -- What is asked of all executions, and what is told of them.
-use Rattle.std.proofs.Common.{◌≡◌, ◌<◌, ◌≤◌, ℕ, zero, suc, List, [], ◌∷◌, length, slice_get, Some, Result, refl, subst, inl, inr, arith}
+use Rattle.std.proofs.Common.{◌≡◌, ◌≤◌, ℕ, zero, suc, List, [], ◌∷◌, length, slice_get, Some, Result, refl, subst, inl, inr, arith}
 use Rattle.std.specs.declared.alloc.AllocError.{AllocError}
 use Rattle.std.specs.Prelude.{IfOk, ◌⊎◌}
 use Rattle.std.proofs.lemmas.Result.{IfOk-weaker}

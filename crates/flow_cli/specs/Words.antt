@@ -1,5 +1,5 @@
 -- The words of a call.
-use Rattle.std.specs.Prelude.{◌≡◌, ◌≤◌, ℕ, List, [], ◌∷◌, Option, Some, None, codes}
+use Rattle.std.specs.Prelude.{◌≡◌, ◌≤◌, ℕ, List, [], ◌∷◌, Some, None, codes}
 use Rattle.std.specs.Option.{unwrap_or}
 use Rattle.flow_record.specs.Lines.{number_of}
 use Rattle.flow_cli.specs.declared.words.Mode.{Mode}

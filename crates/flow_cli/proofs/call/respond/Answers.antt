@@ -1,4 +1,4 @@
-use Rattle.std.proofs.Common.{◌≤◌, ◌<◌, List, ℕ, length, map, IfSome, rules}
+use Rattle.std.proofs.Common.{◌≤◌, ◌<◌, length, map, IfSome, rules}
 use Rattle.std.specs.String.{string_bytes}
 use Rattle.std.proofs.lemmas.Result.{IfOk-weaker}
 use Rattle.flow_cli.specs.Output.{greatest_input}

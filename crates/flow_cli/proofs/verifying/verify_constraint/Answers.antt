@@ -1,5 +1,4 @@
 use Rattle.std.proofs.Common.{◌≡◌, ◌≤◌, length, rules}
-use Rattle.flow_model.specs.Constraint.{Constraint}
 use Rattle.flow_verify.specs.declared.refusal.VerifyRefusal.TheVariants.{NoRule}
 use Rattle.flow_cli.proofs.Queries.{needs_labelled, tried, untried}
 use Rattle.flow_cli.proofs.verifying.verify_constraint.Goals as goal

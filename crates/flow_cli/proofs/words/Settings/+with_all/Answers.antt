@@ -1,4 +1,3 @@
-use Rattle.std.proofs.Common.{rules, subst, sym}
 use Rattle.std.specs.String.{string_bytes}
 use Rattle.flow_cli.proofs.Options.{sets_next, sets_none}
 use Rattle.flow_cli.proofs.words.Settings.+with_all.Goals as goal
