@@ -4,3 +4,4 @@ mod records;
 mod replies;
 mod streams;
 mod texts;
+mod turns;

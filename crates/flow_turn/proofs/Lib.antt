@@ -1,0 +1,4 @@
+pub mod ListLemmas
+pub mod RuleLemmas
+pub mod PassLemmas
+pub mod TurnLemmas

@@ -1,0 +1,4 @@
+pub mod Entries
+pub mod Turns
+pub mod Steps
+pub mod Passes
