@@ -175,3 +175,8 @@ pub out_by_claim : (r : Run) (claim : ℕ) (call : Call) → IsUnanswered (now r
 out_by_claim r claim call unanswered is =
     let same : claim ≡ call.claim = ap (λ (c : Call). c.claim) (sym is) in
     (subst (IsUnanswered (now r)) same unanswered, is ∙ ap (call_of (schema r) (now r)) same)
+
+-- ---- as entries added to a list
+
+pub grows : (r : Run) (by : ℕ) (after : Run) → Goes r by after → (added : List Entry) × (after.history ≡ r.history ++ added) × Each (λ (e : Entry). e.by ≡ by) added
+grows r by after g = let (added, is, own) = g.continued in (added, ap (λ (a : Run). a.history) is, own)

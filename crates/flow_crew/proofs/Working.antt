@@ -21,8 +21,9 @@ use Rattle.flow_core.specs.Run.{Run, schema, now, with_entry, GoesOn, HasSteps}
 use Rattle.flow_core.specs.Answers.{PostIsRefused, PostsDone, PostsFailed, Rewinds}
 use Rattle.flow_core.specs.Looks.{IsNext}
 use Rattle.flow_core.proofs.Steps.{state_after-append}
+use Rattle.flow_crew.specs.declared.ends.Move.{Move}
 use Rattle.flow_crew.specs.Ends.{HasEnd, HasNoEnd}
-use Rattle.flow_crew.specs.Moves.{IsNextStep, Advances, IsOut, GoesBack, Records}
+use Rattle.flow_crew.specs.Moves.{IsNextStep, Advances, IsBegun, IsOut, IsPosted, GoesBack, Records}
 use Rattle.flow_crew.specs.Kept.{IsByWorkers}
 use Rattle.flow_crew.proofs.Histories.{AreRunSteps, one_step_more, not_last_kept, last_kept, IsDrivenSoFar, IsSettled, so_far, driven_settles, driven_of, one_driven_more}
 use Rattle.flow_crew.proofs.Endings.{no_verdict}
@@ -152,3 +153,15 @@ module _ (gives : Call → Outcome → Bool) where
       one_entry r by (Failed call.claim Switched) after k none (asked r call outcome.Failed out given) (λ c e. cc) (is ∙ h.4) legal
   recorded r call outcome.Failed by after k none out given (Ok Kept, (failed, h, (answer, back))) legal =
       went_back r call.claim by k none h.0 (asked r call outcome.Failed out given) answer after (subst (λ (f : Run). Rewinds f by answer after) h.4 back) legal
+
+  pub begun_by_workers : (r : Run) (by : ℕ) (move : Move) (after : Run) → IsByWorkers gives r → IsBegun r by move after →
+      IsLegal (schema after) after.limit after.history → IsByWorkers gives after
+  begun_by_workers r by move after k (inl h) legal = subst (IsByWorkers gives) (sym h.2) k
+  begun_by_workers r by move after k (inr (inl h)) legal = subst (IsByWorkers gives) (sym h.4) k
+  begun_by_workers r by move after k (inr (inr h)) legal = advanced r by h.0 after k h.1 h.2 legal
+
+  pub posted_by_workers : (r : Run) (call : Call) (o : Outcome) (by : ℕ) (after : Run) → IsByWorkers gives r → gives call o ≡ true → IsPosted r call o by after →
+      IsLegal (schema after) after.limit after.history → IsByWorkers gives after
+  posted_by_workers r call o by after k given (inl h) legal = subst (IsByWorkers gives) (sym h.1) k
+  posted_by_workers r call o by after k given (inr (inl h)) legal = subst (IsByWorkers gives) (sym h.2) k
+  posted_by_workers r call o by after k given (inr (inr h)) legal = recorded r call o by after k h.0 h.1 given h.2 legal

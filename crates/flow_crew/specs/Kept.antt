@@ -2,6 +2,7 @@
 use Rattle.std.specs.Prelude.{◌≡◌, Bool, true, Option, MatchOption}
 use Rattle.flow_model.specs.declared.history.Call.{Call}
 use Rattle.flow_model.specs.declared.history.Outcome.{Outcome}
+use Rattle.flow_model.specs.Run.{IsLegal}
 use Rattle.flow_model.specs.Verdict.{IsRunLegal, IsDriven}
 use Rattle.flow_core.specs.declared.next.Next.{Next}
 use Rattle.flow_core.specs.Run.{Run, schema}
@@ -14,8 +15,8 @@ pub record IsByWorkers (gives : Call → Outcome → Bool) (r : Run) : Type 0 wh
   pub run_legal : IsRunLegal (λ call outcome. gives call outcome ≡ true) (schema r) r.limit r.history
   pub driven : IsDriven (schema r) r.limit r.history
 
--- besides, what the run does next and what it came to are known
-pub record IsHeld (gives : Call → Outcome → Bool) (r : Run) (next : Next) (end : Option End) : Type 0 where
-  pub by_workers : IsByWorkers gives r
+-- the history is legal, and this is what the run does next and what it came to
+pub record IsTracked (r : Run) (next : Next) (end : Option End) : Type 0 where
+  pub legal : IsLegal (schema r) r.limit r.history
   pub goes_on : IsNext r next
   pub ends : MatchOption end (HasNoEnd r) (IsEnd r)

@@ -13,8 +13,8 @@ use std::marker::Model;
 /// A run by workers, and the gate that performs its tasks.
 #[derive(Drop)]
 pub struct Book<'g, G: Gate> {
-    held: Held<G>,
-    gate: &'g G,
+    pub(crate) held: Held<G>,
+    pub(crate) gate: &'g G,
 }
 
 impl<'g, G: Gate> Model for Book<'g, G> {

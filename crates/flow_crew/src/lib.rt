@@ -2,12 +2,16 @@
 #![tactic(auto)]
 
 mod book;
+mod crew;
 mod ends;
 mod held;
+mod jobs;
 mod standing;
 mod steps;
+mod tracked;
 
 pub use book::Book;
+pub use crew::run_crew;
 pub use ends::{End, Move};
 pub use flow_gate::{Call, Gate, Outcome};
 pub use held::Held;

@@ -1,59 +1,12 @@
-use Rattle.std.proofs.Common.{◌≡◌, ◌∙◌, refl, sym, subst, inl, inr}
-use Rattle.flow_core.specs.declared.next.Next.TheVariants as next
-use Rattle.flow_core.specs.Looks.{IsNext}
+use Rattle.std.proofs.Common.{subst}
 use Rattle.flow_core.specs.Run.{Run}
-use Rattle.flow_crew.specs.Ends.{HasEnd, HasNoEnd}
-use Rattle.flow_crew.specs.Moves.{Advances}
-use Rattle.flow_crew.proofs.Endings.{ends, ends_not, has_steps}
-use Rattle.flow_crew.proofs.Working.{advanced}
+use Rattle.flow_crew.specs.Moves.{IsBegun}
+use Rattle.flow_crew.proofs.Working.{begun_by_workers}
 use Rattle.flow_crew.proofs.held.Held.begin.Goals as goal
-use Rattle.flow_crew.proofs.held.Held.begin.Goals.{then-is_some-2, else-is_some-2}
-
-pub returns-then-is_some : goal.returns-then-is_some
-returns-then-is_some g c =
-    let i = c.self.inside in
-    inl (subst HasEnd c.self.view_is (ends i.core i.end c.self.invariant.ends (sym c.is_some.ensures ∙ c.if-is_some.true)), refl, refl)
-
-pub returns-in-Wait : goal.returns-in-Wait
-returns-in-Wait g c =
-    let i = c.self.inside in
-    let none : HasNoEnd i.core = ends_not i.core i.end c.self.invariant.ends (sym c.is_some.ensures ∙ c.if-is_some.false) in
-    let waits : IsNext i.core (next.Wait c.in-Wait.claim) = subst (IsNext i.core) c.in-Wait.is c.self.invariant.goes_on in
-    inr (inl (c.in-Wait.claim, subst HasNoEnd c.self.view_is none, subst (λ (r : Run). IsNext r (next.Wait c.in-Wait.claim)) c.self.view_is waits, refl, refl))
-
-pub go_on-usual-requires : goal.go_on-usual-requires
-go_on-usual-requires g c =
-    let i = c.self.inside in
-    let none : HasNoEnd i.core = ends_not i.core i.end c.self.invariant.ends (sym c.is_some.ensures ∙ c.if-is_some.false) in
-    record {
-      unfinished = none;
-      steps = has_steps i.core none c.self.invariant.by_workers.run_legal.0;
-      next = c.self.invariant.goes_on;
-      moves = λ claim e. c.in_default.not-Wait claim e;
-    }
 
 pub invariant_of-self : goal.invariant_of-self
 invariant_of-self g c =
-    let i = c.self.inside in
-    let none : HasNoEnd i.core = ends_not i.core i.end c.self.invariant.ends (sym c.is_some.ensures ∙ c.if-is_some.false) in
-    let (step, moves, is) = c.go_on-usual.ensures in
-    record {
-      by_workers = advanced g.G.Gate.gives i.core c.args.by step c.go_on-usual.new.core c.self.invariant.by_workers none moves c.stand-next.ensures.legal;
-      goes_on = c.stand-next.ensures.next;
-      ends = c.stand-next.ensures.end;
-    }
+    begun_by_workers g.G.Gate.gives c.self.inside.tracked c.args.by c.begin.result c.begin.new.self c.self.invariant c.begin.ensures.begun c.begin.ensures.legal
 
 pub returns : goal.returns
-returns g c =
-    let i = c.self.inside in
-    let none : HasNoEnd i.core = ends_not i.core i.end c.self.invariant.ends (sym c.is_some.ensures ∙ c.if-is_some.false) in
-    let (step, moves, is) = c.go_on-usual.ensures in
-    inr (inr (
-      step,
-      subst HasNoEnd c.self.view_is none,
-      subst (λ (r : Run). Advances r c.args.by step c.go_on-usual.new.core) c.self.view_is moves,
-      elim c.if-is_some-2.branch [
-        | then-is_some-2 w ↦ inl (ends c.go_on-usual.new.core c.stand-next.result.1 c.stand-next.ensures.end (sym c.is_some-2.ensures ∙ w.if-is_some-2.true), w.result-is)
-        | else-is_some-2 w ↦ inr (ends_not c.go_on-usual.new.core c.stand-next.result.1 c.stand-next.ensures.end (sym c.is_some-2.ensures ∙ w.if-is_some-2.false), w.result-is ∙ is)
-      ],
-    ))
+returns g c = subst (λ (r : Run). IsBegun r c.args.by c.begin.result c.begin.new.self) c.self.view_is c.begin.ensures.begun

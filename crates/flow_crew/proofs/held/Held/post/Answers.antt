@@ -1,48 +1,12 @@
-use Rattle.std.proofs.Common.{◌≡◌, ◌∙◌, refl, sym, subst, inl, inr, true≢false}
+use Rattle.std.proofs.Common.{subst}
 use Rattle.flow_core.specs.Run.{Run}
-use Rattle.flow_crew.specs.Ends.{HasEnd, HasNoEnd}
-use Rattle.flow_crew.specs.Moves.{IsOut, Records}
-use Rattle.flow_crew.proofs.Endings.{ends, ends_not, has_steps}
-use Rattle.flow_crew.proofs.Working.{recorded}
+use Rattle.flow_crew.specs.Moves.{IsPosted}
+use Rattle.flow_crew.proofs.Working.{posted_by_workers}
 use Rattle.flow_crew.proofs.held.Held.post.Goals as goal
-
-pub returns-then-is_some : goal.returns-then-is_some
-returns-then-is_some g c =
-    let i = c.self.inside in
-    inl (subst HasEnd c.self.view_is (ends i.core i.end c.self.invariant.ends (sym c.is_some.ensures ∙ c.if-is_some.true)), refl)
-
-pub tell-failed-requires-clause-steps : goal.tell-failed-requires-clause-steps
-tell-failed-requires-clause-steps g c =
-    let i = c.self.inside in
-    let none : HasNoEnd i.core = ends_not i.core i.end c.self.invariant.ends (sym c.is_some.ensures ∙ c.if-is_some.false) in
-    has_steps i.core none c.self.invariant.by_workers.run_legal.0
 
 pub invariant_of-self : goal.invariant_of-self
 invariant_of-self g c =
-    let i = c.self.inside in
-    let none : HasNoEnd i.core = ends_not i.core i.end c.self.invariant.ends (sym c.is_some.ensures ∙ c.if-is_some.false) in
-    record {
-      by_workers = recorded g.G.Gate.gives i.core c.args.call c.args.outcome c.args.by c.tell-failed.new.core c.self.invariant.by_workers none (c.is_out.ensures.0 c.if-not-is_out.false) c.requires c.tell-failed.ensures.records c.stand-next.ensures.legal;
-      goes_on = c.stand-next.ensures.next;
-      ends = c.stand-next.ensures.end;
-    }
+    posted_by_workers g.G.Gate.gives c.self.inside.tracked c.args.call c.args.outcome c.args.by c.post.new.self c.self.invariant c.requires c.post.ensures.posted c.post.ensures.legal
 
 pub returns : goal.returns
-returns g c =
-    let i = c.self.inside in
-    let none : HasNoEnd i.core = ends_not i.core i.end c.self.invariant.ends (sym c.is_some.ensures ∙ c.if-is_some.false) in
-    inr (inr (
-      subst HasNoEnd c.self.view_is none,
-      subst (λ (r : Run). IsOut r c.args.call) c.self.view_is (c.is_out.ensures.0 c.if-not-is_out.false),
-      subst (λ (r : Run). Records r c.args.call c.args.outcome c.args.by c.tell-failed.new.core) c.self.view_is c.tell-failed.ensures.records,
-    ))
-
-pub returns-then-not-is_out : goal.returns-then-not-is_out
-returns-then-not-is_out g c =
-    let i = c.self.inside in
-    let none : HasNoEnd i.core = ends_not i.core i.end c.self.invariant.ends (sym c.is_some.ensures ∙ c.if-is_some.false) in
-    inr (inl (
-      subst HasNoEnd c.self.view_is none,
-      λ out. true≢false (sym (c.is_out.ensures.1 (subst (λ (r : Run). IsOut r c.args.call) (sym c.self.view_is) out)) ∙ c.if-not-is_out.true),
-      refl,
-    ))
+returns g c = subst (λ (r : Run). IsPosted r c.args.call c.args.outcome c.args.by c.post.new.self) c.self.view_is c.post.ensures.posted

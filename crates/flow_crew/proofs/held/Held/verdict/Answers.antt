@@ -4,4 +4,4 @@ use Rattle.flow_crew.specs.Ends.{IsEnd, HasNoEnd}
 use Rattle.flow_crew.proofs.held.Held.verdict.Goals as goal
 
 pub returns : goal.returns
-returns g c = subst (λ (r : Run). MatchOption c.self.inside.end (HasNoEnd r) (IsEnd r)) c.self.view_is c.self.invariant.ends
+returns g c = subst (λ (r : Run). MatchOption c.verdict.result (HasNoEnd r) (IsEnd r)) c.self.view_is c.verdict.ensures
