@@ -1,0 +1,145 @@
+-- Which verdict stands.
+use Rattle.std.proofs.Common.{◌≡◌, ◌≢◌, ◌≤◌, ◌<◌, ◌+◌, ℕ, Bool, true, false, List, [], ◌∷◌, ◌++◌, length, Option, Some, None, MatchOption, is_some, IsTrue, ◌⊎◌, refl, sym, ap, ◌∙◌, subst, inl, inr, arith, true≢false, append-nil}
+use Rattle.flow_model.specs.declared.history.Entry.{Entry}
+use Rattle.flow_model.specs.declared.history.Step.{Step}
+use Rattle.flow_model.specs.declared.history.Step.TheVariants.{Took, Done, Failed, Late, Did, Rewound, Committed}
+use Rattle.flow_model.specs.declared.history.FailEffect.{FailEffect}
+use Rattle.flow_model.specs.declared.history.FailEffect.TheVariants.{Switched, Kept}
+use Rattle.flow_model.specs.Schema.{Schema}
+use Rattle.flow_model.specs.Run.{first_state, state_of, leaf_of_claim, IsLegal, IsOpen, IsOpenIndex, IsStuck, is_current, claim_at, current_claims, RunState, IsCurrent}
+use Rattle.flow_model.specs.Verdict.{Verdict, EndsKept, HasNoOpenIndex, IsRunVerdict, committed, spent, no_other, stuck, unfinished}
+use Rattle.flow_model.specs.Decided.{Decided}
+use Rattle.flow_laws.proofs.ListLemmas1.{last_of}
+use Rattle.flow_laws.proofs.ListLemmas2.{not_empty}
+use Rattle.flow_laws.proofs.ClaimLemmas.{some_claim, claim_in}
+use Rattle.flow_core.specs.Run.{Run, schema, now, GoesOn, HasSteps}
+use Rattle.flow_core.specs.declared.next.Next.{Next}
+use Rattle.flow_core.specs.declared.next.Next.TheVariants as next
+use Rattle.flow_core.specs.Looks.{IsNext}
+use Rattle.flow_core.proofs.Waiting.{left_in}
+use Rattle.flow_crew.specs.declared.ends.End.{End}
+use Rattle.flow_crew.specs.declared.ends.End.TheVariants as end
+use Rattle.flow_crew.specs.Ends.{IsEnd, HasEnd, HasNoEnd}
+use Rattle.flow_crew.proofs.Histories.{legal_length, not_last_kept}
+use Rattle.flow_crew.proofs.Waiting.{waiting_of}
+
+pub no_verdict : (r : Run) → HasNoEnd r → (verdict : Verdict) → ¬ (IsRunVerdict (schema r) r.limit r.history verdict)
+no_verdict r none committed h = none end.Committed h
+no_verdict r none spent h = none end.Spent h
+no_verdict r none (no_other leaf) h = none (end.NoOther leaf) h
+no_verdict r none (stuck waiting) h = none end.Stuck (waiting, h)
+no_verdict r none unfinished h = h
+
+not_true : (b : Bool) → ¬ (b ≡ true) → b ≡ false
+not_true true h = absurd (h refl)
+not_true false h = refl
+
+pub goes_on : (r : Run) → HasNoEnd r → GoesOn r
+goes_on r none = not_true (now r).committed (none end.Committed)
+
+-- the history is no longer than the limit
+abbrev pub IsWithin : Run → Type 0
+IsWithin r = length r.history ≤ r.limit
+
+pub legal_within : (r : Run) → IsLegal (schema r) r.limit r.history → IsWithin r
+legal_within r legal =
+    let most : 0 + length r.history ≤ r.limit = legal_length (schema r) r.limit first_state 0 r.history legal (omega arith) in omega arith
+
+-- where no verdict stands there is room
+pub has_room : (r : Run) → HasNoEnd r → IsWithin r → HasSteps r
+has_room r none within =
+    let other : length r.history ≢ r.limit = λ full. none end.Spent (goes_on r none, full) in
+    omega arith
+
+pub has_steps : (r : Run) → HasNoEnd r → IsLegal (schema r) r.limit r.history → HasSteps r
+has_steps r none legal = has_room r none (legal_within r legal)
+
+-- whether a history ends with a kept failure can be told
+abbrev DecidedKept : Schema → List Entry → Type 0
+DecidedKept w history = Decided ((leaf : ℕ) × EndsKept w history leaf)
+
+decide_last : (w : Schema) (earlier : List Entry) (last : Entry) (step : Step) → last.step ≡ step → DecidedKept w (earlier ++ last ∷ [])
+decide_last w earlier last step is = by_step step is
+  where
+    other : ((claim : ℕ) → ¬ (last.step ≡ Failed claim Kept)) → DecidedKept w (earlier ++ last ∷ [])
+    other never = inr (λ (leaf, kept). not_last_kept w earlier last never leaf kept)
+
+    by_step : (step : Step) → last.step ≡ step → DecidedKept w (earlier ++ last ∷ [])
+    by_step (Took claim leaf) is = other (λ c e. cc)
+    by_step (Done claim) is = other (λ c e. cc)
+    by_step (Failed claim Switched) is = other (λ c e. cc)
+    by_step (Failed claim Kept) is = inl (leaf_of_claim (state_of w earlier) claim, (earlier, (last, (claim, refl, is, refl))))
+    by_step (Late claim) is = other (λ c e. cc)
+    by_step (Did leaf) is = other (λ c e. cc)
+    by_step (Rewound index) is = other (λ c e. cc)
+    by_step Committed is = other (λ c e. cc)
+
+decide_kept : (w : Schema) (history : List Entry) → DecidedKept w history
+decide_kept w [] = inr (λ (leaf, (earlier, (last, (claim, is, kept, on)))). not_empty earlier last [] is)
+decide_kept w (e ∷ es) =
+    let (earlier, last, is) = last_of (e ∷ es) e (inl refl) in
+    subst (DecidedKept w) (sym is) (decide_last w earlier last last.step refl)
+
+-- a stuck run that cannot go back has come to an end
+pub stuck_end : (r : Run) → GoesOn r → length r.history ≢ r.limit → ((leaf : ℕ) → ¬ (EndsKept (schema r) r.history leaf)) → HasNoOpenIndex (schema r) r.history →
+    IsStuck (schema r) (now r) → IsEnd r end.Stuck
+stuck_end r going other none closed is =
+    let (list, just) = waiting_of (schema r) (now r) is in (list, ((going, other), none, closed, is, just))
+
+pub stuck_ends : (r : Run) → GoesOn r → length r.history ≢ r.limit → HasNoOpenIndex (schema r) r.history → IsStuck (schema r) (now r) → HasEnd r
+stuck_ends r going other closed is = elim (decide_kept (schema r) r.history) [
+  | inl kept ↦ (end.NoOther kept.0, ((going, other), kept.1, closed))
+  | inr none ↦ (end.Stuck, stuck_end r going other (λ leaf kept. none (leaf, kept)) closed is)
+]
+
+-- what the answer to the question for a verdict says
+pub ends : (r : Run) (o : Option End) → MatchOption o (HasNoEnd r) (IsEnd r) → is_some o ≡ true → HasEnd r
+ends r None h e = absurd (true≢false (sym e))
+ends r (Some end) h e = (end, h)
+
+pub ends_not : (r : Run) (o : Option End) → MatchOption o (HasNoEnd r) (IsEnd r) → is_some o ≡ false → HasNoEnd r
+ends_not r None h e = h
+ends_not r (Some end) h e = absurd (true≢false e)
+
+-- no claim is current where none is out
+pub none_out : (s : RunState) (n : ℕ) → current_claims s ≡ [] → ¬ (IsCurrent s n)
+none_out s n none current =
+    let (claim, found, told) = some_claim (λ c. IsTrue (is_current s c)) (claim_at s n) current in
+    left_in (is_current s) s.claims claim (claim_in s.claims n claim found) told none
+
+not_stuck : (r : Run) (n : Next) → IsNext r n → ((leaf : ℕ) → ¬ (n ≡ next.Stuck leaf)) → ¬ (IsStuck (schema r) (now r))
+not_stuck r next.Ended over other is = true≢false (sym over ∙ is.going_on)
+not_stuck r (next.Act leaf) acts other is = elim acts.0.1 [
+  | inl can ↦ (let waits = is.only_waiting leaf (inl can) in true≢false (sym can.0 ∙ ap is_some waits.0.0.1))
+  | inr can ↦ (is.only_waiting leaf (inr can.0)).1 can.1
+]
+not_stuck r (next.Wait claim) out other is = none_out (now r) claim is.no_claim out.2.0
+not_stuck r next.Finished good other is = is.unfinished good.3
+not_stuck r (next.Stuck leaf) here other is = other leaf refl
+
+-- ---- which end, where the run is not committed and there is room
+
+module _ (r : Run) (going : GoesOn r) (other : length r.history ≢ r.limit) where
+  abbrev Found : End → Option End → Type 0
+  Found end o = MatchOption o ((i : ℕ) × IsOpenIndex (schema r) (now r) i) (λ found. (found ≡ end) × HasNoOpenIndex (schema r) r.history)
+
+  open_goes_on : (i : ℕ) → IsOpenIndex (schema r) (now r) i → HasNoEnd r
+  open_goes_on i free end.Committed h = true≢false (sym h ∙ going)
+  open_goes_on i free end.Spent h = other h.1
+  open_goes_on i free (end.NoOther leaf) h = h.2 i free
+  open_goes_on i free end.Stuck (waiting, h) = h.2 i free
+
+  pub kept_end : (leaf : ℕ) → EndsKept (schema r) r.history leaf → (o : Option End) → Found (end.NoOther leaf) o → MatchOption o (HasNoEnd r) (IsEnd r)
+  kept_end leaf kept None (i, free) = open_goes_on i free
+  kept_end leaf kept (Some found) (is, closed) = subst (IsEnd r) (sym is) ((going, other), kept, closed)
+
+  pub waiting_end : ((leaf : ℕ) → ¬ (EndsKept (schema r) r.history leaf)) → IsStuck (schema r) (now r) → (o : Option End) → Found end.Stuck o →
+      MatchOption o (HasNoEnd r) (IsEnd r)
+  waiting_end none is None (i, free) = open_goes_on i free
+  waiting_end none is (Some found) (same, closed) = subst (IsEnd r) (sym same) (stuck_end r going other none closed is)
+
+  pub no_end : ((leaf : ℕ) → ¬ (EndsKept (schema r) r.history leaf)) → (n : Next) → IsNext r n → ((leaf : ℕ) → ¬ (n ≡ next.Stuck leaf)) → HasNoEnd r
+  no_end none n is not end.Committed h = true≢false (sym h ∙ going)
+  no_end none n is not end.Spent h = other h.1
+  no_end none n is not (end.NoOther leaf) h = none leaf h.1
+  no_end none n is not end.Stuck (waiting, h) = not_stuck r n is not h.3

@@ -1,0 +1,6 @@
+pub mod Acting
+pub mod Continuing
+pub mod Endings
+pub mod Histories
+pub mod Waiting
+pub mod Working

@@ -1,0 +1,11 @@
+use Rattle.std.proofs.Common.{Err}
+use Rattle.flow_crew.proofs.Acting.{done_not_kept, failed_not_kept}
+use Rattle.flow_crew.proofs.steps.tell.Goals as goal
+
+pub returns-in-Done-clause-failed : goal.returns-in-Done-clause-failed
+returns-in-Done-clause-failed c =
+    done_not_kept c.args.core.now c.requires.unfinished c.requires.steps c.args.call c.requires.out c.args.by c.done.result c.done.new.self c.done.ensures
+
+pub returns-in-Err-clause-failed : goal.returns-in-Err-clause-failed
+returns-in-Err-clause-failed c =
+    failed_not_kept c.args.core.now c.requires.unfinished c.requires.steps c.args.call c.requires.out c.args.by (Err c.in-Err.field-0) c.fail.new.self c.in-Err.ensures (λ e. cc)

@@ -1,0 +1,17 @@
+//! A run by workers: a book with a lawful history, and a gate that performs its tasks.
+#![tactic(auto)]
+
+mod book;
+mod crew;
+mod ends;
+mod held;
+mod jobs;
+mod standing;
+mod steps;
+mod tracked;
+
+pub use book::Book;
+pub use crew::run_crew;
+pub use ends::{End, Move};
+pub use flow_gate::{Call, Gate, Outcome};
+pub use held::Held;

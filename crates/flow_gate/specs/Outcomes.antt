@@ -1,0 +1,29 @@
+-- What gates answer.
+use Rattle.std.specs.Prelude.{ℕ, Bool, true, false, ◌==◌, ◌&&◌, nat_le, if◌then◌else◌, List, [], ◌∷◌}
+use Rattle.flow_model.specs.declared.history.Call.{Call}
+use Rattle.flow_model.specs.declared.history.Outcome.{Outcome}
+use Rattle.flow_model.specs.declared.history.Outcome.TheVariants.{Done, Failed}
+use Rattle.flow_model.specs.declared.labels.Note.{Note}
+use Rattle.flow_model.specs.declared.labels.Note.TheVariants as note
+
+-- the two are one outcome
+abbrev pub is_same : Outcome → Outcome → Bool
+is_same Done Done = true
+is_same Done Failed = false
+is_same Failed Done = false
+is_same Failed Failed = true
+
+-- the outcome of an attempt at a task, by the note of its event
+abbrev pub outcome_by : Note → ℕ → Outcome
+outcome_by note.Done attempt = Done
+outcome_by note.Fail attempt = Failed
+outcome_by (note.FailFirst count) attempt = if nat_le attempt count then Failed else Done
+
+-- the outcome that the event's declaration announces
+abbrev pub announced : Call → Outcome
+announced call = outcome_by call.note call.attempt
+
+-- the outcome of the first row with that leaf and attempt; a task without a row is done
+abbrev pub outcome_in : List (ℕ × ℕ × Outcome) → ℕ → ℕ → Outcome
+outcome_in [] leaf attempt = Done
+outcome_in (row ∷ rows) leaf attempt = if row.0 == leaf && (row.1 == attempt) then row.2 else outcome_in rows leaf attempt
