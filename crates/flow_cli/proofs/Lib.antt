@@ -1,7 +1,8 @@
-pub mod Options
 pub mod Serving
 pub mod Sessions
 pub mod Numbered
 pub mod Compiled
 pub mod Inputs
+pub mod Statuses
+pub mod Runs
 pub mod Queries

@@ -1,5 +1,5 @@
 -- What `drive` writes.
-use Rattle.std.specs.Prelude.{◌≡◌, ℕ, List, [], ◌++◌, ◌⊎◌}
+use Rattle.std.specs.Prelude.{◌≡◌, ◌≤◌, ℕ, List, [], ◌++◌, ◌⊎◌}
 use Rattle.flow_model.specs.Verdict.{drive_verdict}
 use Rattle.flow_core.specs.Run.{Run}
 use Rattle.flow_core.specs.Lawful.{IsLawful}
@@ -17,6 +17,10 @@ use Rattle.flow_cli.specs.declared.status.Status.TheVariants.{Fine, No, Spent}
 use Rattle.flow_cli.specs.Refusals.{Tells, IsNotExpanded, OfWorkflow}
 use Rattle.flow_cli.specs.Compiling.{IsNotCompiled}
 use Rattle.flow_cli.specs.Drive.{Drives}
+
+-- so many steps a history can be limited to
+abbrev pub IsStepCount : ℕ → Type 0
+IsStepCount steps = (1 ≤ steps) × (steps ≤ 1000000)
 
 -- before the first command
 abbrev pub start_of : Definition → ℕ → Run

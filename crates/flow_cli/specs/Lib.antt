@@ -1,5 +1,4 @@
 pub mod Code
-pub mod Words
 pub mod Refusals
 pub mod Compiling
 pub mod Checking
@@ -7,4 +6,6 @@ pub mod Drive
 pub mod Driving
 pub mod Tracing
 pub mod Verifying
+pub mod Running
+pub mod Generating
 pub mod Output

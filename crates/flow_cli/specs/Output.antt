@@ -1,5 +1,7 @@
 -- What a call writes, and with which status it ends.
-use Rattle.std.specs.Prelude.{◌<◌, ◌≤◌, ℕ, List, [], length, take, drop, ◌⊎◌}
+use Rattle.std.specs.Prelude.{◌<◌, ◌≤◌, ℕ, Bool, List, [], length, take, drop, Option, IfSome, ◌⊎◌}
+use Rattle.flow_model.specs.declared.history.Call.{Call}
+use Rattle.flow_model.specs.declared.history.Outcome.{Outcome}
 use Rattle.flow_form.specs.declared.refusal.TextRefusal.{TextRefusal}
 use Rattle.flow_form.specs.Script.{Said}
 use Rattle.flow_text.specs.Saying.{Says}
@@ -7,14 +9,17 @@ use Rattle.flow_text.specs.Parsing.{IsParseRefusal}
 use Rattle.flow_reply.specs.declared.refused.Refused.TheVariants as refused
 use Rattle.flow_reply.specs.Cut.{cut_of}
 use Rattle.flow_reply.specs.Refusing.{IsOfText}
-use Rattle.flow_cli.specs.declared.words.Mode.{Mode}
-use Rattle.flow_cli.specs.declared.words.Mode.TheVariants.{Drive, Check, Verify, Trace}
+use Rattle.flow_words.specs.declared.request.Mode.{Mode}
+use Rattle.flow_words.specs.declared.request.Mode.TheVariants.{Drive, Run, Check, Verify, Trace, Gen, Large}
+use Rattle.flow_words.specs.declared.request.Request.{Request}
+use Rattle.flow_words.specs.Words.{IsCall, IsNoCall}
 use Rattle.flow_cli.specs.declared.status.Status.{Status}
 use Rattle.flow_cli.specs.declared.status.Status.TheVariants.{Fine, No, Words, Input, ReadFault, WriteFault, Memory, Spent}
-use Rattle.flow_cli.specs.Words.{IsCall, IsNoCall}
 use Rattle.flow_cli.specs.Refusals.{Tells}
 use Rattle.flow_cli.specs.Checking.{Checks}
 use Rattle.flow_cli.specs.Driving.{DrivesText}
+use Rattle.flow_cli.specs.Generating.{Generates}
+use Rattle.flow_cli.specs.Running.{Runs}
 use Rattle.flow_cli.specs.Tracing.{TracesText}
 use Rattle.flow_cli.specs.Verifying.{VerifiesText}
 
@@ -42,39 +47,52 @@ pub record IsTextRefused (input : List ℕ) (status : Status) (output : List ℕ
   pub first : IsParseRefusal (workflow_part input) refusal
   pub told : Tells [] (refused.Text refusal) status output
 
--- what the mode writes for what is said and the text that follows it: `check` does not look at that, and only `drive`
--- counts steps
-abbrev pub WritesSaid : Mode → ℕ → Said → List ℕ → Status → List ℕ → Type 0
-WritesSaid Drive steps s text status output = DrivesText s steps text status output
-WritesSaid Check steps s text status output = Checks s status output
-WritesSaid Verify steps s text status output = VerifiesText s text status output
-WritesSaid Trace steps s text status output = TracesText s text status output
-
--- the text of the workflow says something, and the output is that of the mode for it
-pub record IsAnswered (mode : Mode) (steps : ℕ) (input : List ℕ) (status : Status) (output : List ℕ) : Type 0 where
+-- the text of the workflow says something, and the output is P of that and of the text that follows
+pub record IsAnswered (P : Said → List ℕ → Status → List ℕ → Type 0) (input : List ℕ) (status : Status) (output : List ℕ) : Type 0 where
   pub said : Said
   pub says : Says (workflow_part input) said
-  pub answered : WritesSaid mode steps said (second_part input) status output
+  pub answered : P said (second_part input) status output
 
--- what the mode writes for an input that is not too long
-abbrev pub WritesFor : Mode → ℕ → List ℕ → Status → List ℕ → Type 0
-WritesFor mode steps input status output = IsTextRefused input status output ⊎ IsAnswered mode steps input status output
+-- what is written for an input that is not too long
+abbrev pub WritesFor : (Said → List ℕ → Status → List ℕ → Type 0) → List ℕ → Status → List ℕ → Type 0
+WritesFor P input status output = IsTextRefused input status output ⊎ IsAnswered P input status output
 
--- what the mode writes for an input that was read
-abbrev pub WritesRead : Mode → ℕ → List ℕ → Status → List ℕ → Type 0
-WritesRead mode steps input status output =
-    IsTooLong input status output ⊎ ((length input ≤ greatest_input) × WritesFor mode steps input status output)
+-- what is written for an input that was read
+abbrev pub WritesRead : (Said → List ℕ → Status → List ℕ → Type 0) → List ℕ → Status → List ℕ → Type 0
+WritesRead P input status output =
+    IsTooLong input status output ⊎ ((length input ≤ greatest_input) × WritesFor P input status output)
 
--- what the mode writes for an input, from a source that may fail
-abbrev pub WritesIn : Mode → ℕ → List ℕ → Status → List ℕ → Type 0
-WritesIn mode steps input status output = Tells [] refused.Read status output ⊎ WritesRead mode steps input status output
+-- what is written where a source is read that may fail, and that tells its bytes or does not
+abbrev pub WritesIn : (Said → List ℕ → Status → List ℕ → Type 0) → Option (List ℕ) → Status → List ℕ → Type 0
+WritesIn P source status output = Tells [] refused.Read status output ⊎ IfSome source (λ input. WritesRead P input status output)
 
--- For these words and this input the call writes that output with that status: wrong words are refused first, then a
+-- the mode reads the source
+abbrev pub Reads : Mode → Type 0
+Reads Drive = Unit {0}
+Reads Run = Unit {0}
+Reads Check = Unit {0}
+Reads Verify = Unit {0}
+Reads Trace = Unit {0}
+Reads Gen = ⊥
+Reads Large = ⊥
+
+-- What the mode writes. Those that read take the second part, or leave it: `check` and `run` do not look at it. Only what
+-- workers run asks the gate.
+abbrev pub WritesAs : Mode → (Call → Outcome → Bool) → Request → Option (List ℕ) → Status → List ℕ → Type 0
+WritesAs Drive gives request source status output = WritesIn (λ s text st o. DrivesText s request.steps text st o) source status output
+WritesAs Run gives request source status output = WritesIn (λ s text st o. Runs gives s request.steps request.workers st o) source status output
+WritesAs Check gives request source status output = WritesIn (λ s text st o. Checks s st o) source status output
+WritesAs Verify gives request source status output = WritesIn VerifiesText source status output
+WritesAs Trace gives request source status output = WritesIn TracesText source status output
+WritesAs Gen gives request source status output = Generates request.seed request.size status output
+WritesAs Large gives request source status output = ⊥
+
+-- For these words and this source the call writes that output with that status: wrong words are refused first, then a
 -- source that fails, and then the first reason of the mode that applies, if there is one.
-abbrev pub Writes : List (List ℕ) → List ℕ → Status → List ℕ → Type 0
-Writes words input status output =
+abbrev pub Writes : (Call → Outcome → Bool) → List (List ℕ) → Option (List ℕ) → Status → List ℕ → Type 0
+Writes gives words source status output =
     (IsNoCall words × Tells [] refused.Words status output)
-    ⊎ ((mode : Mode) × ((steps : ℕ) × IsCall words mode steps × WritesIn mode steps input status output))
+    ⊎ ((request : Request) × IsCall words request × WritesAs request.mode gives request source status output)
 
 -- the call wrote its whole output, and no fault and no want of memory ended it
 abbrev pub IsWhole : Status → Type 0
@@ -97,6 +115,17 @@ IsOfInput Words = ⊥
 IsOfInput ReadFault = ⊥
 IsOfInput WriteFault = ⊥
 IsOfInput Memory = ⊥
+
+-- the answer where the source was read, or failed
+abbrev pub IsOfSource : Status → Type 0
+IsOfSource ReadFault = Unit {0}
+IsOfSource Input = Unit {0}
+IsOfSource Fine = Unit {0}
+IsOfSource No = Unit {0}
+IsOfSource Spent = Unit {0}
+IsOfSource Words = ⊥
+IsOfSource WriteFault = ⊥
+IsOfSource Memory = ⊥
 
 -- the workflow was checked, the session gone through to its end, or the query or the journal answered
 abbrev pub IsOver : Status → Type 0

@@ -1,9 +1,8 @@
 ghost use Rattle.std.specs.Prelude.{IfOk};
-ghost use Rattle.flow_form.specs.Script.{said};
-ghost use Rattle.flow_form.specs.Names.{IsClosed};
-ghost use Rattle.flow_cli.specs.Checking.{ChecksWorkflow, Checks};
+ghost use Rattle.flow_cli.specs.Checking.{ChecksWorkflow};
 
 use crate::output::{Output, refuse_script, refuse_workflow};
+use crate::reading::ScriptMode;
 use crate::status::Status;
 use flow_excise::compile;
 use flow_expand::{Workflow, expand};
@@ -24,13 +23,18 @@ fn check_workflow(alloc: Global, workflow: &Workflow) -> Result<Output, AllocErr
     }
 }
 
-/// Checks what a script says.
-pub fn check(alloc: Global, script: &Script) -> Result<Output, AllocError>
-    requires { IsClosed (said script.now) }
-    ensures { IfOk result (λ output. Checks (said script.now) output.status output.text.items) }
-{
-    match expand(alloc, script) {
-        Ok(workflow) => check_workflow(alloc, &workflow),
-        Err(refusal) => refuse_script(alloc, refusal, script),
+/// Says whether some execution of a workflow meets its constraints.
+pub(crate) struct Check;
+
+impl ScriptMode for Check {
+    ghost use Rattle.flow_cli.specs.Checking.{Checks};
+
+    ghost writes = { λ _ s text status output. Checks s status output };
+
+    fn answer(&self, alloc: Global, script: &Script, _text: &[u8]) -> Result<Output, AllocError> {
+        match expand(alloc, script) {
+            Ok(workflow) => check_workflow(alloc, &workflow),
+            Err(refusal) => refuse_script(alloc, refusal, script),
+        }
     }
 }

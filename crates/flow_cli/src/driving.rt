@@ -1,10 +1,10 @@
 ghost use Rattle.std.specs.Prelude.{IfOk};
 ghost use Rattle.flow_form.specs.Script.{said};
 ghost use Rattle.flow_form.specs.Names.{IsClosed};
-ghost use Rattle.flow_cli.specs.Words.{IsStepCount};
-ghost use Rattle.flow_cli.specs.Driving.{DrivesWorkflow, DrivesSaid, DrivesText};
+ghost use Rattle.flow_cli.specs.Driving.{IsStepCount, DrivesWorkflow, DrivesSaid};
 
 use crate::output::{Output, refuse, refuse_script, refuse_workflow};
+use crate::reading::ScriptMode;
 use crate::session::run;
 use flow_excise::compile;
 use flow_expand::{Workflow, expand};
@@ -46,15 +46,24 @@ fn drive_script(
     }
 }
 
-/// Drives what a script says by the session of a text, in so many steps at most. Its lines are read first.
-pub fn drive(alloc: Global, script: &Script, text: &[u8], steps: u32) -> Result<Output, AllocError>
-    requires closed { IsClosed (said script.now) }
-    requires steps { IsStepCount steps }
-    ensures { IfOk result (λ output. DrivesText (said script.now) steps text.now output.status output.text.items) }
-{
-    match read_session(alloc, text) {
-        Ok(session) => drive_script(alloc, script, &session, steps),
-        Err(RecordRefusal::NoMemory) => Err(AllocError),
-        Err(refusal) => refuse(alloc, &Refused::Record(refusal), None),
+/// Drives a workflow by a session.
+pub(crate) struct Drive {
+    /// The greatest length of the history.
+    pub(crate) steps: u32,
+    ghost counted: { IsStepCount steps },
+}
+
+impl ScriptMode for Drive {
+    ghost use Rattle.flow_cli.specs.Driving.{DrivesText};
+
+    ghost writes = { λ drive s text status output. DrivesText s drive.steps text status output };
+
+    // the lines of the session are read first
+    fn answer(&self, alloc: Global, script: &Script, text: &[u8]) -> Result<Output, AllocError> {
+        match read_session(alloc, text) {
+            Ok(session) => drive_script(alloc, script, &session, self.steps),
+            Err(RecordRefusal::NoMemory) => Err(AllocError),
+            Err(refusal) => refuse(alloc, &Refused::Record(refusal), None),
+        }
     }
 }

@@ -4,12 +4,14 @@
 mod call;
 mod checking;
 mod driving;
+mod generating;
 mod output;
+mod reading;
+mod running;
 mod session;
 mod status;
 mod tracing;
 mod verifying;
-mod words;
 
 pub use call::flow;
 pub use status::Status;

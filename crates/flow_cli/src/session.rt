@@ -7,8 +7,7 @@ ghost use Rattle.flow_core.specs.Lawful.{IsLawful};
 ghost use Rattle.flow_reply.specs.Reply.{IsAnswerTo, HasNamedCall};
 ghost use Rattle.flow_reply.specs.Report.{Means};
 ghost use Rattle.flow_cli.specs.Drive.{Answers, RepliesTo, Drives};
-ghost use Rattle.flow_cli.specs.Words.{IsStepCount};
-ghost use Rattle.flow_cli.specs.Driving.{Records, ended};
+ghost use Rattle.flow_cli.specs.Driving.{IsStepCount, Records, ended};
 
 use crate::output::Output;
 use crate::status::Status;
@@ -75,7 +74,7 @@ pub fn verdict_of(core: &Core) -> Verdict
 }
 
 /// The status of a verdict.
-fn status_of(verdict: &Verdict) -> Status
+pub(crate) fn status_of(verdict: &Verdict) -> Status
     ensures { result ≡ ended verdict.now }
 {
     match verdict {

@@ -1,9 +1,8 @@
 ghost use Rattle.std.specs.Prelude.{◌≡◌, IfOk};
-ghost use Rattle.flow_form.specs.Script.{said};
-ghost use Rattle.flow_form.specs.Names.{IsClosed};
-ghost use Rattle.flow_cli.specs.Tracing.{status_of_checked, TracesLeaves, TracesWorkflow, TracesText};
+ghost use Rattle.flow_cli.specs.Tracing.{status_of_checked, TracesLeaves, TracesWorkflow};
 
 use crate::output::{Output, refuse, refuse_script, refuse_workflow};
+use crate::reading::ScriptMode;
 use crate::status::Status;
 use flow_excise::compile;
 use flow_expand::{Workflow, expand};
@@ -50,13 +49,18 @@ fn trace_workflow(alloc: Global, workflow: &Workflow, text: &[u8]) -> Result<Out
     }
 }
 
-/// Checks the journal of a text against what a script says.
-pub fn trace(alloc: Global, script: &Script, text: &[u8]) -> Result<Output, AllocError>
-    requires { IsClosed (said script.now) }
-    ensures { IfOk result (λ output. TracesText (said script.now) text.now output.status output.text.items) }
-{
-    match expand(alloc, script) {
-        Ok(workflow) => trace_workflow(alloc, &workflow, text),
-        Err(refusal) => refuse_script(alloc, refusal, script),
+/// Says whether a journal is an execution of a workflow.
+pub(crate) struct Trace;
+
+impl ScriptMode for Trace {
+    ghost use Rattle.flow_cli.specs.Tracing.{TracesText};
+
+    ghost writes = { λ _ s text status output. TracesText s text status output };
+
+    fn answer(&self, alloc: Global, script: &Script, text: &[u8]) -> Result<Output, AllocError> {
+        match expand(alloc, script) {
+            Ok(workflow) => trace_workflow(alloc, &workflow, text),
+            Err(refusal) => refuse_script(alloc, refusal, script),
+        }
     }
 }

@@ -12,9 +12,10 @@ ghost use Rattle.flow_verify.specs.Verification.{IsRefused};
 ghost use Rattle.flow_reply.specs.declared.refused.Refused.TheVariants as refused;
 ghost use Rattle.flow_cli.specs.Refusals.{Tells};
 ghost use Rattle.flow_cli.specs.Compiling.{IsOfCounts, IsTooLarge};
-ghost use Rattle.flow_cli.specs.Verifying.{status_of_verified, status_of_redundancy, VerifiesProperty, VerifiesConstraint, VerifiesWorkflow, VerifiesSaid, VerifiesText};
+ghost use Rattle.flow_cli.specs.Verifying.{status_of_verified, status_of_redundancy, VerifiesProperty, VerifiesConstraint, VerifiesWorkflow, VerifiesSaid};
 
 use crate::output::{Output, refuse, refuse_script};
+use crate::reading::ScriptMode;
 use crate::status::Status;
 use flow_excise::CompileRefusal;
 use flow_expand::{Workflow, expand, rule_of};
@@ -133,14 +134,20 @@ fn verify_script(alloc: Global, script: &Script, query: &Query) -> Result<Output
     }
 }
 
-/// Answers the query of a text to what a script says. The text is read first.
-pub fn verify(alloc: Global, script: &Script, text: &[u8]) -> Result<Output, AllocError>
-    requires { IsClosed (said script.now) }
-    ensures { IfOk result (λ output. VerifiesText (said script.now) text.now output.status output.text.items) }
-{
-    match parse_query(alloc, text, script) {
-        Ok(query) => verify_script(alloc, script, &query),
-        Err(TextRefusal::NoMemory) => Err(AllocError),
-        Err(refusal) => refuse(alloc, &Refused::Query(refusal), None),
+/// Says whether all executions of a workflow meet a property, or a constraint follows from the others.
+pub(crate) struct Verify;
+
+impl ScriptMode for Verify {
+    ghost use Rattle.flow_cli.specs.Verifying.{VerifiesText};
+
+    ghost writes = { λ _ s text status output. VerifiesText s text status output };
+
+    // the text is read first
+    fn answer(&self, alloc: Global, script: &Script, text: &[u8]) -> Result<Output, AllocError> {
+        match parse_query(alloc, text, script) {
+            Ok(query) => verify_script(alloc, script, &query),
+            Err(TextRefusal::NoMemory) => Err(AllocError),
+            Err(refusal) => refuse(alloc, &Refused::Query(refusal), None),
+        }
     }
 }

@@ -1,7 +1,7 @@
 use Rattle.std.proofs.Common.{inr}
 use Rattle.std.proofs.lemmas.Result.{IfOk-weaker}
-use Rattle.flow_cli.proofs.checking.check.Goals as goal
+use Rattle.flow_cli.proofs.checking.CheckScriptMode.answer.Goals as goal
 
-pub returns-in-Ok : goal.returns-in-Ok
-returns-in-Ok c =
+pub returns-in-Ok-clause-writes : goal.returns-in-Ok-clause-writes
+returns-in-Ok-clause-writes c =
     IfOk-weaker c.check_workflow.result _ _ (λ output checks. inr (c.in-Ok.workflow, c.in-Ok.ensures.ok, checks)) c.check_workflow.ensures

@@ -1,6 +1,6 @@
 use Rattle.std.specs.String.{string_bytes}
-use Rattle.flow_cli.proofs.Options.{sets_next, sets_none}
-use Rattle.flow_cli.proofs.words.Settings.+with_all.Goals as goal
+use Rattle.flow_words.proofs.Options.{sets_next, sets_none}
+use Rattle.flow_words.proofs.settings.Settings.+with_all.Goals as goal
 
 pub returns-in_err-next-in-len2-up : goal.returns-in_err-next-in-len2-up
 returns-in_err-next-in-len2-up t c =

@@ -1,11 +1,15 @@
 -- Options, one after another.
-use Rattle.std.proofs.Common.{◌≡◌, ◌≤◌, ◌-◌, ℕ, List, [], ◌∷◌, Option, Some, None, length, map, take, drop, get_or, sym, ap, ◌∙◌, subst, arith, le_refl}
+use Rattle.std.proofs.Common.{◌≡◌, ◌≤◌, ◌-◌, ℕ, List, [], ◌∷◌, Option, Some, None, length, map, take, drop, get_or, refl, sym, ap, ◌∙◌, subst, arith, le_refl}
 use Rattle.std.proofs.lemmas.List.{take_all}
 use Rattle.std.specs.Prelude.{MatchOption, IfSome}
 use Rattle.flow_record.specs.Lines.{number_of}
-use Rattle.flow_cli.specs.declared.words.Settings.{Settings}
+use Rattle.flow_words.specs.declared.settings.Settings.{Settings}
 use Rattle.std.specs.Option.{unwrap_or}
-use Rattle.flow_cli.specs.Words.{IsStepCount, Sets, SetAll, none_set, default_steps}
+use Rattle.std.specs.Prelude.{◌==◌, if◌then◌else◌}
+use Rattle.flow_words.specs.declared.request.Mode.{Mode}
+use Rattle.flow_words.specs.declared.request.Mode.TheVariants.{Drive, Run, Check, Verify, Trace, Gen, Large}
+use Rattle.flow_words.specs.declared.request.Request.{Request}
+use Rattle.flow_words.specs.Words.{IsStepCount, Sets, SetAll, none_set, asked, mode_word, IsCall, OneRequest}
 
 some_same : (a b : ℕ) (o : Option ℕ) → o ≡ Some a → o ≡ Some b → a ≡ b
 some_same a b o p q = cc
@@ -65,10 +69,52 @@ set_steps [] old new h all = subst (λ (s : Settings). IfSome s.steps IsStepCoun
 set_steps (name ∷ []) old new h all = absurd all
 set_steps (name ∷ value ∷ words) old new h all = set_steps words all.0 new (sets_steps old all.0 name value all.1) all.2
 
-within : (o : Option ℕ) (n : ℕ) → IfSome o IsStepCount → n ≡ unwrap_or o default_steps → IsStepCount n
+within : (o : Option ℕ) (n : ℕ) → IfSome o IsStepCount → n ≡ unwrap_or o 65536 → IsStepCount n
 within None n h is = (omega (arith, is), omega (arith, is))
 within (Some m) n h is = (omega (arith, is, h.0), omega (arith, is, h.1))
 
 -- the number of steps is within its bounds, whether it is set or not
-pub steps_within : (words : List (List ℕ)) (new : Settings) (n : ℕ) → SetAll none_set words new → n ≡ unwrap_or new.steps default_steps → IsStepCount n
+pub steps_within : (words : List (List ℕ)) (new : Settings) (n : ℕ) → SetAll none_set words new → n ≡ unwrap_or new.steps 65536 → IsStepCount n
 steps_within words new n all is = within new.steps n (set_steps words none_set new tt all) is
+
+-- all options of a call set one thing
+set_same : (words : List (List ℕ)) (old a b : Settings) → SetAll old words a → SetAll old words b → a ≡ b
+set_same [] old a b p q = p ∙ sym q
+set_same (name ∷ []) old a b p q = absurd p
+set_same (name ∷ value ∷ words) old a b p q =
+    set_same words q.0 a b (subst (λ (s : Settings). SetAll s words a) (sets_same old p.0 q.0 name value p.1 q.1) p.2) q.2
+
+-- the mode by the first letter of its word
+by_letter : ℕ → Mode
+by_letter letter =
+    if letter == 100 then Drive else if letter == 114 then Run else if letter == 99 then Check else if letter == 118 then Verify
+    else if letter == 116 then Trace else if letter == 103 then Gen else Large
+
+by_its_letter : (mode : Mode) → mode ≡ by_letter (get_or (mode_word mode) 0 0)
+unfolding by_letter
+by_its_letter Drive = refl
+by_its_letter Run = refl
+by_its_letter Check = refl
+by_its_letter Verify = refl
+by_its_letter Trace = refl
+by_its_letter Gen = refl
+by_its_letter Large = refl
+
+mode_same : (a b : Mode) → mode_word a ≡ mode_word b → a ≡ b
+mode_same a b e = by_its_letter a ∙ ap (λ (w : List ℕ). by_letter (get_or w 0 0)) e ∙ sym (by_its_letter b)
+
+module _ (pa pb wa wb : List ℕ) (oa ob : List (List ℕ)) (e : pa ∷ wa ∷ oa ≡ pb ∷ wb ∷ ob) where
+  second_same : wa ≡ wb
+  second_same = cc
+
+  others_same : oa ≡ ob
+  others_same = cc
+
+-- words are a call for one request alone
+pub calls_are_single : OneRequest
+calls_are_single words a b (pa, (oa, (sa, ea, alla, isa))) (pb, (ob, (sb, eb, allb, isb))) =
+    let both = sym ea ∙ eb in
+    let mode : a.mode ≡ b.mode = mode_same a.mode b.mode (second_same pa pb (mode_word a.mode) (mode_word b.mode) oa ob both) in
+    let options : oa ≡ ob = others_same pa pb (mode_word a.mode) (mode_word b.mode) oa ob both in
+    let settings : sa ≡ sb = set_same ob none_set sa sb (subst (λ (os : List (List ℕ)). SetAll none_set os sa) options alla) allb in
+    isa ∙ ap (λ (m : Mode). asked m sa) mode ∙ ap (asked b.mode) settings ∙ sym isb

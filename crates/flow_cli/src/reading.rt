@@ -1,0 +1,66 @@
+//! The modes that read: a script from the source, and the text after it.
+ghost use Rattle.std.specs.Prelude.{◌≡◌, ◌≢◌, ◌<◌, ◌≤◌, ◌-◌, ◌^◌, ◌↔◌, [], length, Some, IfOk, IfSome};
+ghost use Rattle.flow_form.specs.Script.{said};
+ghost use Rattle.flow_form.specs.Names.{IsClosed};
+ghost use Rattle.flow_cli.specs.declared.status.Status.{Status};
+ghost use Rattle.flow_cli.specs.Output.{greatest_input, WritesFor, WritesIn, IsOfInput, IsOfSource, IsOver};
+
+use crate::output::{Output, refuse};
+use crate::status::Status;
+use flow_form::Script;
+use flow_io::{ReadRefusal, Source, read_all};
+use flow_reply::{Refused, cut};
+use flow_text::{TextRefusal, parse};
+use std::alloc::{AllocError, Global};
+
+/// The greatest number of bytes that are read.
+const GREATEST_INPUT: usize = 1_048_576;
+
+/// What is done with a script and the text that follows it.
+pub(crate) trait ScriptMode {
+    ghost use Rattle.std.specs.Prelude.{ℕ, List};
+    ghost use Rattle.flow_form.specs.Script.{Said};
+    ghost use Rattle.flow_cli.specs.declared.status.Status.{Status};
+
+    // What may be written, and with which status, for what is said and the text.
+    ghost writes: { Self → Said → List ℕ → Status → List ℕ → Type 0 };
+
+    fn answer(&self, alloc: Global, script: &Script, text: &[u8]) -> Result<Output, AllocError>
+        requires { IsClosed (said script.now) }
+        ensures writes { IfOk result (λ output. writes self.now (said script.now) text.now output.status output.text.items) }
+        ensures of_input { IfOk result (λ output. IsOfInput output.status) };
+}
+
+/// What is written for an input.
+fn answer_input<M: ScriptMode>(alloc: Global, mode: &M, input: &[u8]) -> Result<Output, AllocError>
+    requires { length input.now ≤ greatest_input }
+    ensures writes { IfOk result (λ output. WritesFor (M.writes mode.now) input.now output.status output.text.items) }
+    ensures of_input { IfOk result (λ output. IsOfInput output.status) }
+{
+    let (end, second) = cut(input);
+    match parse(alloc, &input[..end]) {
+        Ok(script) => mode.answer(alloc, &script, &input[second..]),
+        Err(TextRefusal::NoMemory) => Err(AllocError),
+        Err(refusal) => refuse(alloc, &Refused::Text(refusal), None),
+    }
+}
+
+/// What is written for what the source gives.
+pub(crate) fn answer_source<S: Source, M: ScriptMode>(
+    alloc: Global,
+    mode: &M,
+    source: &mut S,
+) -> Result<Output, AllocError>
+    requires { S.faults source.old < 2 ^ 64 - 1 }
+    ensures writes { IfOk result (λ output. WritesIn (M.writes mode.now) (S.left source.old) output.status output.text.items) }
+    ensures of_source { IfOk result (λ output. IsOfSource output.status) }
+    ensures fault { IfOk result (λ output. (output.status ≡ Status.ReadFault) ↔ (S.faults source.old < S.faults source.new)) }
+    ensures end { IfOk result (λ output. IsOver output.status → IfSome (S.left source.old) (λ _. S.left source.new ≡ Some [])) }
+{
+    match read_all(alloc, source, GREATEST_INPUT) {
+        Ok(input) => answer_input(alloc, mode, &input),
+        Err(ReadRefusal::ReadFault) => refuse(alloc, &Refused::Read, None),
+        Err(ReadRefusal::TooLong) => refuse(alloc, &Refused::TooLong, None),
+        Err(ReadRefusal::NoMemory) => Err(AllocError),
+    }
+}
