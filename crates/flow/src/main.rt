@@ -1,8 +1,10 @@
 //! `flow` on the standard streams: `flow check` reads a workflow and says whether its constraints can be
-//! met; `flow drive` reads a workflow and a session, and writes the replies and the report.
+//! met; `flow drive` reads a workflow and a session, and writes the replies and the report; `flow run` lets
+//! workers run a workflow, whose tasks end as their events announce.
 #![tactic(auto)]
 
 use flow_cli::{Status, flow};
+use flow_gate::NoteGate;
 use flow_io::{StdSink, StdSource};
 use std::process::ExitCode;
 use std::rt::Env;
@@ -21,6 +23,13 @@ fn main(rt: HostRuntime) -> io::Result<ExitCode> {
     let words = words(&rt)?;
     let mut source = StdSource::new(rt.stdin());
     let mut sink = StdSink::new(rt.stdout());
-    let status: Status = flow(rt.alloc(), &words, &mut source, &mut sink);
+    let status: Status = flow(
+        &rt,
+        rt.alloc(),
+        &words,
+        &mut source,
+        &mut sink,
+        &NoteGate,
+    );
     Ok(ExitCode::from(status.code()))
 }

@@ -7,10 +7,13 @@ mod rows;
 
 use anyhow::{Context, Result};
 use flow_cli::flow;
+use flow_gate::NoteGate;
 use flow_io::{MemSink, MemSource};
 use rows::Row;
 use std::alloc::Global;
 use std::rt::{Env, Files};
+use std::sync::Wait;
+use std::thread::Threads;
 use std::{env, fs};
 
 /// More bytes than any row writes.
@@ -26,11 +29,11 @@ fn words_of(alloc: Global, line: &str) -> Result<Vec<String>> {
 }
 
 /// Whether the call that the row describes writes what it must; what it wrote is printed where it does not.
-fn is_right(rt: &(impl Print + AllocGlobal), row: Row<'_>) -> Result<bool> {
+fn is_right<R: Print + AllocGlobal + Threads + Wait + Sync>(rt: &R, row: Row<'_>) -> Result<bool> {
     let words = words_of(rt.alloc(), row.words)?;
     let mut source = MemSource::new(row.input);
     let mut sink = MemSink::new(rt.alloc(), ROOM)?;
-    let status = flow(rt.alloc(), &words, &mut source, &mut sink).code();
+    let status = flow(rt, rt.alloc(), &words, &mut source, &mut sink, &NoteGate).code();
     if status == row.status && sink.bytes() == row.output.as_slice() {
         return Ok(true);
     }
@@ -42,7 +45,11 @@ fn is_right(rt: &(impl Print + AllocGlobal), row: Row<'_>) -> Result<bool> {
 }
 
 /// Tries each row of a file.
-fn try_rows(rt: &(impl Print + AllocGlobal), file: &str, text: &str) -> Result<()> {
+fn try_rows<R: Print + AllocGlobal + Threads + Wait + Sync>(
+    rt: &R,
+    file: &str,
+    text: &str,
+) -> Result<()> {
     let mut right = 0u64;
     let mut all = 0u64;
     // what stands before the first row says what the file is about
@@ -57,7 +64,7 @@ fn try_rows(rt: &(impl Print + AllocGlobal), file: &str, text: &str) -> Result<(
     Ok(())
 }
 
-fn run<R: Print + AllocGlobal + Env + Files>(rt: &R) -> Result<()> {
+fn run<R: Print + AllocGlobal + Env + Files + Threads + Wait + Sync>(rt: &R) -> Result<()> {
     for file in env::args(rt)?.skip(1) {
         let text = fs::read_to_string(rt, file.as_str())?;
         try_rows(rt, file.as_str(), text.as_str())?;

@@ -1,12 +1,14 @@
 -- The statuses of answers to an input that was read.
-use Rattle.std.proofs.Common.{◌≡◌, ℕ, Bool, List, [], sym, subst, inl, inr}
+use Rattle.std.proofs.Common.{◌≡◌, ◌≢◌, ℕ, Bool, List, sym, subst, inl, inr}
 use Rattle.flow_model.specs.declared.history.Call.{Call}
 use Rattle.flow_model.specs.declared.history.Outcome.{Outcome}
 use Rattle.flow_form.specs.Script.{Said, Asked, holds, redundant}
 use Rattle.flow_expand.specs.Constraints.{constraint_of}
 use Rattle.flow_verify.specs.Verification.{against, without}
 use Rattle.flow_workflow.specs.Definition.{Definition, schema_of}
+use Rattle.flow_model.specs.Constraint.{Constraint}
 use Rattle.flow_model.specs.Schema.{Schema}
+use Rattle.flow_record.specs.declared.command.Command.{Command}
 use Rattle.flow_excise.specs.declared.refusal.CompileRefusal.{CompileRefusal}
 use Rattle.flow_excise.specs.declared.refusal.CompileRefusal.TheVariants.{TooManyChoices, TooManyWays, TooBulky, Inconsistent, NoMemory}
 use Rattle.flow_trace.specs.declared.checked.Checked.{Checked}
@@ -18,16 +20,17 @@ use Rattle.flow_verify.specs.declared.answers.Redundancy.TheVariants.{Redundant,
 use Rattle.flow_reply.specs.declared.verdict.Verdict.{Verdict}
 use Rattle.flow_reply.specs.declared.verdict.Verdict.TheVariants as verdict
 use Rattle.flow_cli.specs.declared.status.Status.{Status}
+use Rattle.flow_cli.specs.declared.status.Status.TheVariants.{Fine, No, Words, Input, ReadFault, WriteFault, Memory, Spent}
 use Rattle.flow_cli.specs.Refusals.{status_of_compiling, IsNotExpanded}
 use Rattle.flow_cli.specs.Compiling.{IsOfCounts, IsTooLarge, IsNotCompiled}
-use Rattle.flow_cli.specs.Checking.{Checks}
-use Rattle.flow_cli.specs.Driving.{ended, DrivesText}
-use Rattle.flow_cli.specs.Tracing.{status_of_checked, TracesText}
-use Rattle.flow_cli.specs.Verifying.{status_of_verified, status_of_redundancy, VerifiesWorkflow, VerifiesText}
-use Rattle.flow_cli.specs.Running.{Runs}
-use Rattle.flow_cli.specs.Output.{IsOfInput}
+use Rattle.flow_cli.specs.Checking.{ChecksWorkflow}
+use Rattle.flow_cli.specs.Driving.{ended, DrivesWorkflow, DrivesSaid}
+use Rattle.flow_cli.specs.Tracing.{status_of_checked, TracesLeaves, TracesWorkflow}
+use Rattle.flow_cli.specs.Verifying.{status_of_verified, status_of_redundancy, VerifiesProperty, VerifiesConstraint, VerifiesWorkflow, VerifiesSaid}
+use Rattle.flow_cli.specs.Running.{RunsWorkflow}
+use Rattle.flow_cli.specs.Output.{IsOfInput, IsWhole}
 
-not_expanded : (s : Said) (status : Status) (output : List ℕ) → IsNotExpanded s status output → IsOfInput status
+pub not_expanded : (s : Said) (status : Status) (output : List ℕ) → IsNotExpanded s status output → IsOfInput status
 not_expanded s status output h = subst IsOfInput (sym h.told.status_is) tt
 
 of_counts : (r : CompileRefusal) → IsOfCounts r → IsOfInput (status_of_compiling r)
@@ -64,37 +67,62 @@ of_redundancy : (redundancy : Redundancy) → IsOfInput (status_of_redundancy re
 of_redundancy Redundant = tt
 of_redundancy (Needed t) = tt
 
-pub checks_of_input : (s : Said) (status : Status) (output : List ℕ) → Checks s status output → IsOfInput status
-checks_of_input s status output (inl no) = not_expanded s status output no
-checks_of_input s status output (inr (w, of, inl no)) = not_compiled w status output no
-checks_of_input s status output (inr (w, of, inr found)) = subst IsOfInput (sym found.status_is) tt
+pub checks_of_input : (w : Definition) (status : Status) (output : List ℕ) → ChecksWorkflow w status output → IsOfInput status
+checks_of_input w status output (inl none) = not_compiled w status output none
+checks_of_input w status output (inr found) = subst IsOfInput (sym found.status_is) tt
 
-pub drives_of_input : (s : Said) (steps : ℕ) (text : List ℕ) (status : Status) (output : List ℕ) → DrivesText s steps text status output → IsOfInput status
-drives_of_input s steps text status output (inl no) = subst IsOfInput (sym no.told.status_is) tt
-drives_of_input s steps text status output (inr (session, is, inl no)) = not_expanded s status output no
-drives_of_input s steps text status output (inr (session, is, inr (w, of, inl no))) = not_compiled w status output no
-drives_of_input s steps text status output (inr (session, is, inr (w, of, inr recorded))) = subst IsOfInput (sym recorded.status_is) (of_verdict recorded.verdict)
-
-pub traces_of_input : (s : Said) (text : List ℕ) (status : Status) (output : List ℕ) → TracesText s text status output → IsOfInput status
-traces_of_input s text status output (inl no) = not_expanded s status output no
-traces_of_input s text status output (inr (w, of, inl no)) = subst IsOfInput (sym no.told.status_is) tt
-traces_of_input s text status output (inr (w, of, inr (leaves, is, inl no))) = not_compiled w status output no
-traces_of_input s text status output (inr (w, of, inr (leaves, is, inr tells))) = subst IsOfInput (sym tells.status_is) (of_checked tells.checked)
-
-verifies_of : (w : Definition) (query : Asked) (status : Status) (output : List ℕ) → VerifiesWorkflow w query status output → IsOfInput status
-verifies_of w (holds property) status output (inl large) = too_large (against (schema_of w) (constraint_of w.events property)) status output large
-verifies_of w (holds property) status output (inr tells) = subst IsOfInput (sym tells.status_is) (of_verified tells.verified)
-verifies_of w (redundant index) status output (inl none) = subst IsOfInput (sym none.told.status_is) tt
-verifies_of w (redundant index) status output (inr (rule, at, inl large)) = too_large (against (without (schema_of w) index) rule) status output large
-verifies_of w (redundant index) status output (inr (rule, at, inr tells)) = subst IsOfInput (sym tells.status_is) (of_redundancy tells.redundancy)
-
-pub verifies_of_input : (s : Said) (text : List ℕ) (status : Status) (output : List ℕ) → VerifiesText s text status output → IsOfInput status
-verifies_of_input s text status output (inl no) = subst IsOfInput (sym no.told.status_is) tt
-verifies_of_input s text status output (inr (query, asks, inl no)) = not_expanded s status output no
-verifies_of_input s text status output (inr (query, asks, inr (w, of, verifies))) = verifies_of w query status output verifies
-
-pub runs_of_input : (gives : Call → Outcome → Bool) (s : Said) (steps workers : ℕ) (status : Status) (output : List ℕ) → Runs gives s steps workers status output →
+drives_workflow : (w : Definition) (steps : ℕ) (session : List Command) (status : Status) (output : List ℕ) → DrivesWorkflow w steps session status output →
     IsOfInput status
-runs_of_input gives s steps workers status output (inl no) = not_expanded s status output no
-runs_of_input gives s steps workers status output (inr (w, of, inl no)) = not_compiled w status output no
-runs_of_input gives s steps workers status output (inr (w, of, inr reports)) = subst IsOfInput (sym reports.status_is) (of_verdict reports.verdict)
+drives_workflow w steps session status output (inl none) = not_compiled w status output none
+drives_workflow w steps session status output (inr recorded) = subst IsOfInput (sym recorded.status_is) (of_verdict recorded.verdict)
+
+pub drives_of_input : (s : Said) (steps : ℕ) (session : List Command) (status : Status) (output : List ℕ) → DrivesSaid s steps session status output →
+    IsOfInput status
+drives_of_input s steps session status output (inl none) = not_expanded s status output none
+drives_of_input s steps session status output (inr of) = drives_workflow of.0 steps session status output of.2
+
+traces_leaves : (w : Definition) (leaves : List ℕ) (status : Status) (output : List ℕ) → TracesLeaves w leaves status output → IsOfInput status
+traces_leaves w leaves status output (inl none) = not_compiled w status output none
+traces_leaves w leaves status output (inr tells) = subst IsOfInput (sym tells.status_is) (of_checked tells.checked)
+
+pub traces_of_input : (w : Definition) (text : List ℕ) (status : Status) (output : List ℕ) → TracesWorkflow w text status output → IsOfInput status
+traces_of_input w text status output (inl none) = subst IsOfInput (sym none.told.status_is) tt
+traces_of_input w text status output (inr of) = traces_leaves w of.0 status output of.2
+
+verifies_property : (w : Definition) (property : Constraint) (status : Status) (output : List ℕ) → VerifiesProperty w property status output → IsOfInput status
+verifies_property w property status output (inl large) = too_large (against (schema_of w) property) status output large
+verifies_property w property status output (inr tells) = subst IsOfInput (sym tells.status_is) (of_verified tells.verified)
+
+verifies_constraint : (w : Definition) (index : ℕ) (status : Status) (output : List ℕ) → VerifiesConstraint w index status output → IsOfInput status
+verifies_constraint w index status output (inl none) = subst IsOfInput (sym none.told.status_is) tt
+verifies_constraint w index status output (inr (rule, at, inl large)) = too_large (against (without (schema_of w) index) rule) status output large
+verifies_constraint w index status output (inr (rule, at, inr tells)) = subst IsOfInput (sym tells.status_is) (of_redundancy tells.redundancy)
+
+verifies_workflow : (w : Definition) (query : Asked) (status : Status) (output : List ℕ) → VerifiesWorkflow w query status output → IsOfInput status
+verifies_workflow w (holds property) status output h = verifies_property w (constraint_of w.events property) status output h
+verifies_workflow w (redundant index) status output h = verifies_constraint w index status output h
+
+pub verifies_of_input : (s : Said) (query : Asked) (status : Status) (output : List ℕ) → VerifiesSaid s query status output → IsOfInput status
+verifies_of_input s query status output (inl none) = not_expanded s status output none
+verifies_of_input s query status output (inr of) = verifies_workflow of.0 query status output of.2
+
+pub runs_of_input : (gives : Call → Outcome → Bool) (w : Definition) (steps workers : ℕ) (status : Status) (output : List ℕ) →
+    RunsWorkflow gives w steps workers status output → IsOfInput status
+runs_of_input gives w steps workers status output (inl none) = not_compiled w status output none
+runs_of_input gives w steps workers status output (inr reports) = subst IsOfInput (sym reports.status_is) (of_verdict reports.verdict)
+
+pub input_whole : (s : Status) → IsOfInput s → IsWhole s
+input_whole Fine h = tt
+input_whole No h = tt
+input_whole Words h = tt
+input_whole Input h = tt
+input_whole ReadFault h = tt
+input_whole Spent h = tt
+input_whole WriteFault h = h
+input_whole Memory h = h
+
+pub input_no_words : (s : Status) → IsOfInput s → s ≢ Words
+input_no_words s h is = subst IsOfInput is h
+
+pub input_no_fault : (s : Status) → IsOfInput s → s ≢ ReadFault
+input_no_fault s h is = subst IsOfInput is h

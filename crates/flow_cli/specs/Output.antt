@@ -116,17 +116,6 @@ IsOfInput ReadFault = ⊥
 IsOfInput WriteFault = ⊥
 IsOfInput Memory = ⊥
 
--- the answer where the source was read, or failed
-abbrev pub IsOfSource : Status → Type 0
-IsOfSource ReadFault = Unit {0}
-IsOfSource Input = Unit {0}
-IsOfSource Fine = Unit {0}
-IsOfSource No = Unit {0}
-IsOfSource Spent = Unit {0}
-IsOfSource Words = ⊥
-IsOfSource WriteFault = ⊥
-IsOfSource Memory = ⊥
-
 -- the workflow was checked, the session gone through to its end, or the query or the journal answered
 abbrev pub IsOver : Status → Type 0
 IsOver Fine = Unit {0}

@@ -45,7 +45,15 @@ fn answer<R: Threads + Wait + Sync, S: Source, G: Gate>(
     let workers = request.workers;
     match request.mode {
         Mode::Drive => answer_source(alloc, &Drive { steps }, source),
-        Mode::Run => answer_source(alloc, &Crew { rt, gate, steps, workers }, source),
+        Mode::Run => {
+            let crew = Crew {
+                rt,
+                gate,
+                steps,
+                workers,
+            };
+            crew.run_source(alloc, source)
+        }
         Mode::Check => answer_source(alloc, &Check, source),
         Mode::Verify => answer_source(alloc, &Verify, source),
         Mode::Trace => answer_source(alloc, &Trace, source),

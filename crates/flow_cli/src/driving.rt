@@ -47,6 +47,7 @@ fn drive_script(
 }
 
 /// Drives a workflow by a session.
+#[derive(Drop)]
 pub(crate) struct Drive {
     /// The greatest length of the history.
     pub(crate) steps: u32,

@@ -1,9 +1,9 @@
-//! The modes that read: a script from the source, and the text after it.
+//! The modes that read a script, and the text after it, and need no threads.
 ghost use Rattle.std.specs.Prelude.{◌≡◌, ◌≢◌, ◌<◌, ◌≤◌, ◌-◌, ◌^◌, ◌↔◌, [], length, Some, IfOk, IfSome};
 ghost use Rattle.flow_form.specs.Script.{said};
 ghost use Rattle.flow_form.specs.Names.{IsClosed};
 ghost use Rattle.flow_cli.specs.declared.status.Status.{Status};
-ghost use Rattle.flow_cli.specs.Output.{greatest_input, WritesFor, WritesIn, IsOfInput, IsOfSource, IsOver};
+ghost use Rattle.flow_cli.specs.Output.{greatest_input, WritesFor, WritesIn, IsOfInput, IsWhole, IsOver};
 
 use crate::output::{Output, refuse};
 use crate::status::Status;
@@ -14,7 +14,7 @@ use flow_text::{TextRefusal, parse};
 use std::alloc::{AllocError, Global};
 
 /// The greatest number of bytes that are read.
-const GREATEST_INPUT: usize = 1_048_576;
+pub(crate) const GREATEST_INPUT: usize = 1_048_576;
 
 /// What is done with a script and the text that follows it.
 pub(crate) trait ScriptMode {
@@ -53,7 +53,8 @@ pub(crate) fn answer_source<S: Source, M: ScriptMode>(
 ) -> Result<Output, AllocError>
     requires { S.faults source.old < 2 ^ 64 - 1 }
     ensures writes { IfOk result (λ output. WritesIn (M.writes mode.now) (S.left source.old) output.status output.text.items) }
-    ensures of_source { IfOk result (λ output. IsOfSource output.status) }
+    ensures whole { IfOk result (λ output. IsWhole output.status) }
+    ensures words { IfOk result (λ output. output.status ≢ Status.Words) }
     ensures fault { IfOk result (λ output. (output.status ≡ Status.ReadFault) ↔ (S.faults source.old < S.faults source.new)) }
     ensures end { IfOk result (λ output. IsOver output.status → IfSome (S.left source.old) (λ _. S.left source.new ≡ Some [])) }
 {

@@ -1,26 +1,30 @@
-ghost use Rattle.std.specs.Prelude.{◌≡◌, IfOk};
-ghost use Rattle.std.specs.Prelude.{[]};
+//! The mode `run`: workers make a run of what the source says.
+ghost use Rattle.std.specs.Prelude.{◌≡◌, ◌≢◌, ◌<◌, ◌≤◌, ◌-◌, ◌^◌, ◌↔◌, [], length, Some, IfOk, IfSome};
 ghost use Rattle.flow_form.specs.Script.{said};
 ghost use Rattle.flow_form.specs.Names.{IsClosed};
 ghost use Rattle.flow_workflow.specs.Definition.{schema_of};
 ghost use Rattle.flow_excise.specs.Compilation.{IsCompiled};
-ghost use Rattle.flow_cli.specs.Output.{IsOfInput};
+ghost use Rattle.flow_cli.specs.Output.{greatest_input, WritesFor, WritesIn, IsOfInput, IsWhole, IsOver};
 ghost use Rattle.flow_cli.specs.Running.{IsCrew, verdict_of, IsRunOf, Reports, RunsWorkflow, Runs};
 
-use crate::output::{Output, refuse_script, refuse_workflow};
-use crate::reading::ScriptMode;
+use crate::output::{Output, refuse, refuse_script, refuse_workflow};
+use crate::reading::GREATEST_INPUT;
 use crate::session::status_of;
+use crate::status::Status;
 use flow_core::Core;
 use flow_crew::{Book, End, Gate, run_crew};
 use flow_excise::{Compiled, compile};
 use flow_expand::{Workflow, expand};
 use flow_form::Script;
-use flow_reply::{Verdict, print_report};
+use flow_io::{ReadRefusal, Source, read_all};
+use flow_reply::{Refused, Verdict, cut, print_report};
+use flow_text::{TextRefusal, parse};
 use std::alloc::{AllocError, Global};
 use std::sync::Wait;
 use std::thread::Threads;
 
 /// The workers that run a workflow, each in a thread of the runtime, and the gate that performs its tasks.
+#[derive(Drop)]
 pub(crate) struct Crew<'a, R, G: Gate> {
     pub(crate) rt: &'a R,
     pub(crate) gate: &'a G,
@@ -87,17 +91,53 @@ impl<'a, R: Threads + Wait + Sync, G: Gate> Crew<'a, R, G> {
             Err(refusal) => refuse_workflow(alloc, refusal),
         }
     }
-}
 
-impl<'a, R: Threads + Wait + Sync, G: Gate> ScriptMode for Crew<'a, R, G> {
-    ghost use Rattle.flow_cli.specs.Running.{Runs};
-
-    ghost writes = { λ crew s text status output. Runs G.gives s crew.steps crew.workers status output };
-
-    fn answer(&self, alloc: Global, script: &Script, _text: &[u8]) -> Result<Output, AllocError> {
+    /// Runs what a script says.
+    fn run_script(&self, alloc: Global, script: &Script) -> Result<Output, AllocError>
+        requires { IsClosed (said script.now) }
+        ensures writes { IfOk result (λ output. Runs G.gives (said script.now) self.now.steps self.now.workers output.status output.text.items) }
+        ensures of_input { IfOk result (λ output. IsOfInput output.status) }
+    {
         match expand(alloc, script) {
             Ok(workflow) => self.run_workflow(alloc, workflow),
             Err(refusal) => refuse_script(alloc, refusal, script),
+        }
+    }
+
+    /// Runs what an input says.
+    fn run_input(&self, alloc: Global, input: &[u8]) -> Result<Output, AllocError>
+        requires { length input.now ≤ greatest_input }
+        ensures writes { IfOk result (λ output. WritesFor (λ s text st o. Runs G.gives s self.now.steps self.now.workers st o) input.now
+            output.status output.text.items) }
+        ensures of_input { IfOk result (λ output. IsOfInput output.status) }
+    {
+        let (end, _) = cut(input);
+        match parse(alloc, &input[..end]) {
+            Ok(script) => self.run_script(alloc, &script),
+            Err(TextRefusal::NoMemory) => Err(AllocError),
+            Err(refusal) => refuse(alloc, &Refused::Text(refusal), None),
+        }
+    }
+
+    /// Runs what the source says.
+    pub(crate) fn run_source<S: Source>(
+        &self,
+        alloc: Global,
+        source: &mut S,
+    ) -> Result<Output, AllocError>
+        requires { S.faults source.old < 2 ^ 64 - 1 }
+        ensures writes { IfOk result (λ output. WritesIn (λ s text st o. Runs G.gives s self.now.steps self.now.workers st o) (S.left source.old)
+            output.status output.text.items) }
+        ensures whole { IfOk result (λ output. IsWhole output.status) }
+        ensures words { IfOk result (λ output. output.status ≢ Status.Words) }
+        ensures fault { IfOk result (λ output. (output.status ≡ Status.ReadFault) ↔ (S.faults source.old < S.faults source.new)) }
+        ensures end { IfOk result (λ output. IsOver output.status → IfSome (S.left source.old) (λ _. S.left source.new ≡ Some [])) }
+    {
+        match read_all(alloc, source, GREATEST_INPUT) {
+            Ok(input) => self.run_input(alloc, &input),
+            Err(ReadRefusal::ReadFault) => refuse(alloc, &Refused::Read, None),
+            Err(ReadRefusal::TooLong) => refuse(alloc, &Refused::TooLong, None),
+            Err(ReadRefusal::NoMemory) => Err(AllocError),
         }
     }
 }
