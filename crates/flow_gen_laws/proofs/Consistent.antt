@@ -1,29 +1,26 @@
 -- A generated workflow is consistent.
-use Rattle.std.proofs.Common.{◌≡◌, ℕ, ◌+◌, ◌*◌, ◌%◌, ◌<◌, ◌≤◌, List, [], ◌∷◌, length, map, drop, sym, ap, subst, ◌∙◌, inl, inr, arith}
+use Rattle.std.proofs.Common.{◌≡◌, ℕ, ◌+◌, ◌*◌, ◌<◌, ◌≤◌, List, sym, ap, subst, ◌∙◌, inl, inr, arith}
 use Rattle.flow_model.specs.Lists.{◌∈◌, Each}
 use Rattle.flow_model.specs.Facts.{event_at, events_of}
 use Rattle.flow_model.specs.Process.{Process, leaves}
 use Rattle.flow_model.specs.Resolution.{resolutions}
-use Rattle.flow_model.specs.Constraint.{Constraint, Never, Order, Meets}
+use Rattle.flow_model.specs.Constraint.{Meets}
 use Rattle.flow_model.specs.Decided.{Decided, decide_in}
 use Rattle.flow_model.specs.Schema.{IsGood}
 use Rattle.flow_laws.proofs.ListLemmas2.{numbers_from_below, each_to}
 use Rattle.flow_laws.proofs.ResolutionsLemmas.{resolves_of, choice_free_resolution, goal_trace, mem-leaves_of_goal}
 use Rattle.flow_goal.proofs.Rising.{Rises, resolution_rises}
-use Rattle.flow_rules.specs.Rule.{any_of}
 use Rattle.flow_form.specs.Names.{event_names}
 use Rattle.flow_workflow.specs.Definition.{Definition, schema_of}
-use Rattle.flow_workflow.specs.Numbers.{event_number}
 use Rattle.flow_expand.specs.Expansion.{Expansion}
 use Rattle.flow_expand.specs.Numbers.{numbered}
-use Rattle.flow_expand.specs.Constraints.{constraint_of}
 use Rattle.flow_expand.specs.Workflows.{IsExpanded, definition_of}
 use Rattle.flow_expand.proofs.Endings.{becomes_one}
-use Rattle.flow_gen.specs.Generated.{event_name, all_draws, constraints, generated}
+use Rattle.flow_gen.specs.Generated.{generated}
 use Rattle.flow_gen_laws.specs.Laws.{LeavesAreGoodTraces, WorkflowsAreConsistent}
-use Rattle.flow_gen_laws.proofs.SaidTexts.{rule_draws, names_are_good}
+use Rattle.flow_gen_laws.proofs.SaidTexts.{names_are_good}
 use Rattle.flow_gen_laws.proofs.Rows.{IsRow}
-use Rattle.flow_gen_laws.proofs.Expanded.{whole_row, number_is, leaf_event}
+use Rattle.flow_gen_laws.proofs.Expanded.{whole_row, leaf_event}
 use Rattle.flow_gen_laws.proofs.Precedences.{precedence, IsPrecedence, rules_are}
 use Rattle.flow_gen_laws.proofs.Straight.{straight, some_resolution, rises_before, own_values}
 
@@ -45,8 +42,7 @@ good_leaves seed size e some few r q m =
     let rises = resolution_rises g q 0 (8 * size) (r.leaves 0) is in
     let below : (x : ℕ) → x ∈ leaves q → x < 8 * size = λ x i.
     let in_goal = subst (λ ns. x ∈ ns) (r.leaves 0) (mem-leaves_of_goal g q is x i) in omega (arith, numbers_from_below 0 (8 * size) x in_goal) in
-    let same : events_of w.tree.labels (leaves q) ≡ leaves q = own_values (event_at w.tree.labels) (leaves q) (λ x i. leaf_event seed size e few r x (below x i)) in
-    (
+    let same : events_of w.tree.labels (leaves q) ≡ leaves q = own_values (event_at w.tree.labels) (leaves q) (λ x i. leaf_event seed size e few r x (below x i)) in (
       goal_trace g q m (leaves q) (straight q (choice_free_resolution g q is)),
       subst (λ t. Each (λ rule. Meets rule t) w.rules) (sym same)
           (each_to IsPrecedence (λ rule. Meets rule (leaves q)) w.rules

@@ -1,5 +1,5 @@
 -- No count of a generated workflow is past its limit.
-use Rattle.std.proofs.Common.{◌≡◌, ℕ, ◌+◌, ◌-◌, ◌*◌, ◌^◌, ◌≤◌, List, [], ◌∷◌, length, map, take, refl, sym, ap, subst, ◌∙◌, arith}
+use Rattle.std.proofs.Common.{◌≡◌, ℕ, ◌+◌, ◌-◌, ◌*◌, ◌^◌, ◌≤◌, List, [], ◌∷◌, length, take, refl, sym, ap, subst, ◌∙◌, arith}
 use Rattle.std.proofs.Math.Nat.{mul-le-mul_right}
 use Rattle.std.proofs.Math.Pow.{pow_mono}
 use Rattle.flow_model.specs.Lists.{◌∈◌, numbers_from}
@@ -9,11 +9,8 @@ use Rattle.flow_model.specs.Schema.{Schema}
 use Rattle.flow_laws.specs.Words.{IsConsistent}
 use Rattle.flow_laws.proofs.ResolutionsLemmas.{resolves_of, length-resolutions}
 use Rattle.flow_goal.proofs.Rising.{Rises, resolution_rises}
-use Rattle.flow_form.specs.Names.{event_names}
 use Rattle.flow_workflow.specs.Definition.{Definition, schema_of}
 use Rattle.flow_expand.specs.Expansion.{Expansion}
-use Rattle.flow_expand.specs.Numbers.{numbered}
-use Rattle.flow_expand.specs.Constraints.{constraint_of}
 use Rattle.flow_expand.specs.Workflows.{IsExpanded, definition_of}
 use Rattle.flow_excise.specs.declared.refusal.CompileRefusal.{CompileRefusal}
 use Rattle.flow_excise.specs.declared.refusal.CompileRefusal.TheVariants as compile
