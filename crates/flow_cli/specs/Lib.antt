@@ -8,4 +8,5 @@ pub mod Tracing
 pub mod Verifying
 pub mod Running
 pub mod Generating
+pub mod Large
 pub mod Output

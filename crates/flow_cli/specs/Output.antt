@@ -19,6 +19,7 @@ use Rattle.flow_cli.specs.Refusals.{Tells}
 use Rattle.flow_cli.specs.Checking.{Checks}
 use Rattle.flow_cli.specs.Driving.{DrivesText}
 use Rattle.flow_cli.specs.Generating.{Generates}
+use Rattle.flow_cli.specs.Large.{RunsGenerated}
 use Rattle.flow_cli.specs.Running.{Runs}
 use Rattle.flow_cli.specs.Tracing.{TracesText}
 use Rattle.flow_cli.specs.Verifying.{VerifiesText}
@@ -85,7 +86,7 @@ WritesAs Check gives request source status output = WritesIn (λ s text st o. Ch
 WritesAs Verify gives request source status output = WritesIn VerifiesText source status output
 WritesAs Trace gives request source status output = WritesIn TracesText source status output
 WritesAs Gen gives request source status output = Generates request.seed request.size status output
-WritesAs Large gives request source status output = ⊥
+WritesAs Large gives request source status output = RunsGenerated gives request.seed request.size request.steps request.workers status output
 
 -- For these words and this source the call writes that output with that status: wrong words are refused first, then a
 -- source that fails, and then the first reason of the mode that applies, if there is one.

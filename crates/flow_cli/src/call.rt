@@ -42,23 +42,20 @@ fn answer<R: Threads + Wait + Sync, S: Source, G: Gate>(
     ensures unread { ¬ (Reads request.mode) → source.new ≡ source.old }
 {
     let steps = request.steps;
-    let workers = request.workers;
+    let crew = Crew {
+        rt,
+        gate,
+        steps,
+        workers: request.workers,
+    };
     match request.mode {
         Mode::Drive => answer_source(alloc, &Drive { steps }, source),
-        Mode::Run => {
-            let crew = Crew {
-                rt,
-                gate,
-                steps,
-                workers,
-            };
-            crew.run_source(alloc, source)
-        }
+        Mode::Run => crew.run_source(alloc, source),
         Mode::Check => answer_source(alloc, &Check, source),
         Mode::Verify => answer_source(alloc, &Verify, source),
         Mode::Trace => answer_source(alloc, &Trace, source),
         Mode::Gen => write_generated(alloc, request.seed, request.size),
-        Mode::Large => write_generated(alloc, request.seed, request.size),
+        Mode::Large => crew.run_generated(alloc, request.seed, request.size),
     }
 }
 

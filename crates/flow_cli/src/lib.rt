@@ -4,7 +4,9 @@
 mod call;
 mod checking;
 mod driving;
+mod generated;
 mod generating;
+mod large;
 mod output;
 mod reading;
 mod running;

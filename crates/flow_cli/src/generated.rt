@@ -1,0 +1,82 @@
+//! The generated workflow of a seed and a size, which is never refused.
+ghost use Rattle.std.specs.Prelude.{◌≡◌, ◌≤◌, IfOk};
+ghost use Rattle.flow_form.specs.Script.{said};
+ghost use Rattle.flow_workflow.specs.Definition.{schema_of};
+ghost use Rattle.flow_expand.specs.Workflows.{IsExpanded};
+ghost use Rattle.flow_excise.specs.Compilation.{IsCompiled};
+ghost use Rattle.flow_gen.specs.Generated.{generated};
+
+use flow_excise::{CompileRefusal, Compiled, compile};
+use flow_expand::{ExpandRefusal, Workflow, expand};
+use flow_form::{Script, TextRefusal};
+use flow_gen::generate;
+use flow_gen_laws::{
+    law_generated_texts_are_read, law_generated_workflows_are_compiled,
+    law_generated_workflows_are_expanded,
+};
+use flow_text::{law_texts_say_one_thing, parse};
+use std::alloc::{AllocError, Global};
+
+/// The script that the generated text says.
+fn generated_script(alloc: Global, seed: u32, size: u32) -> Result<Script, AllocError>
+    requires seed { seed ≤ 65536 }
+    requires some { 1 ≤ size }
+    requires few { size ≤ 128 }
+    ensures { IfOk result (λ script. said script ≡ generated seed size) }
+{
+    law_generated_texts_are_read();
+    law_texts_say_one_thing();
+    let text = generate(alloc, seed, size)?;
+    match parse(alloc, &text) {
+        Ok(script) => Ok(script),
+        Err(refusal) => match refusal {
+            TextRefusal::NoMemory => Err(AllocError),
+            _ => unreachable!(),
+        },
+    }
+}
+
+/// The workflow that the generated text says.
+pub(crate) fn generated_workflow(
+    alloc: Global,
+    seed: u32,
+    size: u32,
+) -> Result<Workflow, AllocError>
+    requires seed { seed ≤ 65536 }
+    requires some { 1 ≤ size }
+    requires few { size ≤ 128 }
+    ensures { IfOk result (IsExpanded (generated seed size)) }
+{
+    law_generated_texts_are_read();
+    law_generated_workflows_are_expanded();
+    let script = generated_script(alloc, seed, size)?;
+    match expand(alloc, &script) {
+        Ok(workflow) => Ok(workflow),
+        Err(refusal) => match refusal {
+            ExpandRefusal::NoMemory => Err(AllocError),
+            _ => unreachable!(),
+        },
+    }
+}
+
+/// That workflow compiled.
+pub(crate) fn compile_generated(
+    alloc: Global,
+    workflow: &Workflow,
+    seed: u32,
+    size: u32,
+) -> Result<Compiled, AllocError>
+    requires expanded { IsExpanded (generated seed size) workflow.now }
+    requires some { 1 ≤ size }
+    requires few { size ≤ 128 }
+    ensures { IfOk result (IsCompiled (schema_of workflow.now)) }
+{
+    law_generated_workflows_are_compiled();
+    match compile(alloc, workflow.tree(), workflow.rules()) {
+        Ok(compiled) => Ok(compiled),
+        Err(refusal) => match refusal {
+            CompileRefusal::NoMemory => Err(AllocError),
+            _ => unreachable!(),
+        },
+    }
+}
