@@ -1,24 +1,24 @@
 -- What the command finds in words that it reads.
-use Rattle.std.proofs.Common.{◌≡◌, ◌∙◌, ◌<◌, ◌≤◌, ◌==◌, ℕ, zero, suc, ap, sym, subst, refl, arith, inl, inr, cond, drop, length, List, [], ◌∷◌, map, Bool, true, false, Option, Some, None, codes, IfSome}
+use Rattle.std.proofs.Common.{◌≡◌, ◌∙◌, ◌<◌, ◌≤◌, ◌==◌, ℕ, zero, suc, ap, sym, subst, refl, arith, inl, inr, eqb-true, cond, drop, length, List, [], ◌∷◌, map, Bool, true, false, Option, Some, None, codes, IfSome}
 use Rattle.std.specs.Prelude.{◌≤ℤ◌, Ok, Err, Result, option_map, pos, slice_get, unwrap_or, MatchOption}
 use Rattle.std.specs.List.{All, position_or_len, slice_index_or}
 use Rattle.std.specs.Str.{bytes_eq}
 use Rattle.std.specs.Str.Parse.{IsNumeral, ParsesUnsigned, digits_value, starts_with_minus, without_leading_plus}
 use Rattle.std.specs.Borrow.{Bor}
-use Rattle.std.proofs.lemmas.Bool.{ne_eqb}
+use Rattle.std.proofs.lemmas.Bool.{not-true}
 use Rattle.std.proofs.lemmas.Int.{ints}
-use Rattle.std.proofs.lemmas.List.{get_or-map}
+use Rattle.std.proofs.lemmas.List.{get_or-map, length-map}
 use Rattle.std.proofs.lemmas.List.Elements.{All-get_or}
 use Rattle.std.proofs.lemmas.Slice.Eq.{bytes_eq-Decides}
 use Rattle.std.proofs.lemmas.Str.Parse.{digit_from_value, without_leading_plus_none}
 use Rattle.clap.specs.Words.{Accepts, App, Rule, Text, app_of, args_of, found_of, groups_of, matched_of, one_text, read_as, reading_of, rule_of, without_minus}
 use Rattle.clap.specs.Words.{IsParsedFrom, IsSignedIn, ReadsOne, SameRules, one_of, rows_of}
-use Rattle.clap.specs.Words.{fields_of}
 use Rattle.clap.specs.Built.{IsAuto, NamesNoGroup}
 use Rattle.clap.specs.Facts.{Entry, EntryPasses, HasReading, PassesArg, ValuesPass, parser_of, parser_of_value}
 use Rattle.clap.specs.Walk.{is_simple_arg}
 use Rattle.clap.specs.declared.builder.arg.Arg.{Arg}
 use Rattle.clap.specs.declared.builder.command.Command.{Command}
+use Rattle.clap.specs.declared.builder.command.Command.TheViews.{out-Command}
 use Rattle.clap.specs.declared.builder.value_parser.Reading.{Reading}
 use Rattle.clap.specs.declared.builder.value_parser.ValueParser.{ValueParser}
 use Rattle.clap.specs.declared.builder.value_parser.ValueParser.TheVariants.{Signed}
@@ -46,6 +46,10 @@ value_read : (c : Command) (f : Found) (id text : Text) (how : Reading) → Valu
     → (value : Text) × (text ≡ read_as how value) × PassesArg c id value
 value_read c f id text how values no_groups named reads is = go (matched_of f id) refl
   where
+    read_so : (r : Reading) → r ≡ how → ((value : Bor Text) × (text ≡ read_as r value.now) × PassesArg c id value.now)
+        → (value : Text) × (text ≡ read_as how value) × PassesArg c id value
+    read_so r e v = (v.0.now, subst (λ (q : Reading). text ≡ read_as q v.0.now) e v.1, v.2)
+
     entry : (x : MatchedArg) → option_map (λ s. read_as x.reading s.now) (slice_get x.vals.items 0) ≡ Some text
         → ((e : Entry) × (e.1 ≡ x) × (bytes_eq e.0.now id ≡ true) × EntryPasses c e)
         → (value : Text) × (text ≡ read_as how value) × PassesArg c id value
@@ -65,8 +69,7 @@ value_read c f id text how values no_groups named reads is = go (matched_of f id
           | inl g ↦ absurd (no_group g)
           | inr h ↦ ap (λ (y : MatchedArg). y.reading) (sym got.1) ∙ reads got.0.1.reading (subst (λ (w : Text). HasReading c w got.0.1.reading) key h)
         ] in
-        let value = first_value (λ v. PassesArg c id v.now) x.reading x.vals.items text all first in
-        (value.0.now, value.1 ∙ ap (λ r. read_as r value.0.now) how_is, value.2)
+        read_so x.reading how_is (first_value (λ v. PassesArg c id v.now) x.reading x.vals.items text all first)
 
     go : (o : Option MatchedArg) → matched_of f id ≡ o → (value : Text) × (text ≡ read_as how value) × PassesArg c id value
     go None e = let bad : None ≡ Some text = rw e at is in cc
@@ -133,7 +136,7 @@ simple_at (suc (suc (suc (suc (suc k))))) = refl
 
 nothing_in : {X : Type 0} (xs : List X) → (length xs == 0) ≡ true → xs ≡ []
 nothing_in [] e = refl
-nothing_in (x ∷ xs) e = cc
+nothing_in (x ∷ xs) e = absurd (omega (arith, eqb-true (length (x ∷ xs)) 0 e))
 
 -- ---- the command, as it was made
 
@@ -142,7 +145,7 @@ module _ (old : Command) (app : app_of old ≡ flow_app) where
   rules = ap (λ (a : App). a.top.rules) app
 
   five : length (args_of old) ≡ 5
-  five = omega (arith, sym (length-map rule_of (args_of old)) ∙ ap length rules)
+  five = sym (length-map (args_of old) rule_of) ∙ ap length rules
 
   rule_is : (k : ℕ) (d : Arg) → k < 5 → rule_of (slice_index_or (args_of old) k d) ≡ rule_at k
   rule_is k d lt =
@@ -157,16 +160,16 @@ module _ (old : Command) (app : app_of old ≡ flow_app) where
       let plain : (app_of old).top.is_plain ≡ true = ap (λ (a : App). a.top.is_plain) app in
       nothing_in (groups_of old) (both _ _ plain).0
 
-  no_globals : (fields_of old).has_globals ≡ false
+  no_globals : (out-Command old).has_globals ≡ false
   no_globals =
       let plain : (app_of old).top.is_plain ≡ true = ap (λ (a : App). a.top.is_plain) app in
-      not_true (fields_of old).has_globals (both _ _ (both _ _ (both _ _ plain).1).1).0
+      not-true (out-Command old).has_globals (both _ _ (both _ _ (both _ _ plain).1).1).0
 
   names_no_group : NamesNoGroup old
   names_no_group k d lt =
       let inside : k < 5 = omega (arith, five) in
       let simple : is_simple_arg (slice_index_or (args_of old) k d) ≡ true = ap (λ (r : Rule). r.is_simple) (rule_is k d inside) ∙ simple_at k in
-      nothing_in _ (both _ _ (both _ _ (both _ _ simple).1).1).0
+      nothing_in (slice_index_or (args_of old) k d).groups.items (both _ _ (both _ _ (both _ _ simple).1).1).0
 
   module _ (m : ArgMatches) (p : IsParsedFrom old m) where
     -- an argument of the built command with the id of ours has our parser
@@ -178,11 +181,11 @@ module _ (old : Command) (app : app_of old ≡ flow_app) where
         let ours = same_rules_by_id old m p k x inside
         (λ i e low equal.
         let below : i < 5 = omega (arith, five) in
-        let ids : (rule_at i).id ≡ (rule_at k).id = sym (id_is i e below) ∙ (bytes_eq-Decides _ _).0 equal ∙ id_is k x lt in
+        let ids : (rule_at i).id ≡ (rule_at k).id = sym (id_is i e below) ∙ (bytes_eq-Decides (slice_index_or (args_of old) i e).id.now (slice_index_or (args_of old) k x).id.now).0 equal ∙ id_is k x lt in
         sym (placed i below) ∙ ap place ids ∙ placed k lt)
         (λ auto. elim auto [
-          | inl h ↦ not_elsewhere k _ lt refl (sym (id_is k x lt) ∙ h)
-          | inr h ↦ not_elsewhere k _ lt refl (sym (id_is k x lt) ∙ h)
+          | inl h ↦ not_elsewhere k (codes "help") lt refl (sym (id_is k x lt) ∙ h)
+          | inr h ↦ not_elsewhere k (codes "version") lt refl (sym (id_is k x lt) ∙ h)
         ])
         j x high at same_id in
         ours.parser q (ap (λ (r : Rule). r.parser) (rule_is k x lt) ∙ parser)
@@ -200,17 +203,17 @@ module _ (old : Command) (app : app_of old ≡ flow_app) where
         let any = value.2 in
         let same : parser_of any.1 ≡ q = ap parser_of_value (parser_is k q any.1 any.0 lt parser any.2 any.3 any.4.0) in
         let accepted : Accepts any.1.ignore_case q value.0 = subst (λ (w : ValueParser). Accepts any.1.ignore_case w value.0) same any.4.1 in
-        rw value.1 (between_of_signed least greatest value.0 accepted)
+        subst (IsBetween least greatest) (sym value.1) (between_of_signed least greatest value.0 accepted)
 
-    abbrev number_at : (k least greatest : ℕ) → k < 5 → (rule_at k).parser ≡ Some (Signed (pos least) (pos greatest)) → (o : Option Text)
+    number_at : (k least greatest : ℕ) → k < 5 → (rule_at k).parser ≡ Some (Signed (pos least) (pos greatest)) → (o : Option Text)
         → one_text (found_of m) (rule_at k).id ≡ o → IfSome o (IsBetween least greatest)
     number_at k least greatest lt parser None is = tt
     number_at k least greatest lt parser (Some text) is = number_found k least greatest text lt parser is
 
     pub numbers_found : HasNumbers (found_of m)
     numbers_found = record {
-      steps = number_at 1 1 1000000 (omega arith) refl _ refl;
-      workers = number_at 2 1 64 (omega arith) refl _ refl;
-      seed = number_at 3 0 65536 (omega arith) refl _ refl;
-      size = number_at 4 1 128 (omega arith) refl _ refl;
+      steps = number_at 1 1 1000000 (omega arith) refl (one_text (found_of m) (codes "steps")) refl;
+      workers = number_at 2 1 64 (omega arith) refl (one_text (found_of m) (codes "workers")) refl;
+      seed = number_at 3 0 65536 (omega arith) refl (one_text (found_of m) (codes "seed")) refl;
+      size = number_at 4 1 128 (omega arith) refl (one_text (found_of m) (codes "size")) refl;
     }
