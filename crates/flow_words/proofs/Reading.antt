@@ -1,6 +1,6 @@
 -- What the command finds in words that it reads.
 use Rattle.std.proofs.Common.{◌≡◌, ◌∙◌, ◌<◌, ◌≤◌, ◌==◌, ℕ, zero, suc, ap, sym, subst, refl, arith, inl, inr, eqb-true, cond, drop, length, List, [], ◌∷◌, map, Bool, true, false, Option, Some, None, codes, IfSome}
-use Rattle.std.specs.Prelude.{◌≤ℤ◌, Ok, Err, Result, option_map, pos, slice_get, unwrap_or, MatchOption}
+use Rattle.std.specs.Prelude.{option_and_then, option_map, pos, slice_get, unwrap_or, MatchOption}
 use Rattle.std.specs.List.{All, position_or_len, slice_index_or}
 use Rattle.std.specs.Str.{bytes_eq}
 use Rattle.std.specs.Str.Parse.{IsNumeral, ParsesUnsigned, digits_value, starts_with_minus, without_leading_plus}
@@ -40,40 +40,52 @@ first_value P how (v ∷ vs) text all e =
     let same : read_as how v.now ≡ text = ap (λ (o : Option Text). unwrap_or o text) e in
     (v, sym same, All-get_or P (v ∷ vs) 0 v (omega arith) all)
 
+-- what is read of an entry
+abbrev text_of : Option MatchedArg → Option Text
+text_of = option_and_then (λ a. option_map (λ s. read_as a.reading s.now) (slice_get a.vals.items 0))
+
+-- a value that an argument of that id takes, as it is read
+abbrev IsRead : Command → Text → Text → Reading → Type 0
+IsRead c id text how = (value : Text) × (text ≡ read_as how value) × PassesArg c id value
+
+-- what one entry gives
+entry_read : (c : Command) (id text : Text) (how : Reading) (x : MatchedArg) (e : Entry) → groups_of c ≡ [] → (id ≡ [] → ⊥)
+    → ((r : Reading) → HasReading c id r → r ≡ how) → option_map (λ s. read_as x.reading s.now) (slice_get x.vals.items 0) ≡ Some text
+    → e.1 ≡ x → e.0.now ≡ id → EntryPasses c e → IsRead c id text how
+entry_read c id text how x e no_groups named reads first same key pass =
+    let no_group : e.1.is_group ≡ true → ⊥ = λ g. elim (pass.3 g) [
+      | inl empty ↦ named (sym key ∙ empty)
+      | inr some ↦
+          let bad : 0 < 0 = rw no_groups at some in
+          absurd (omega arith)
+    ] in
+    let all : All (λ v. PassesArg c id v.now) x.vals.items = elim pass.0 [
+      | inl g ↦ absurd (no_group g)
+      | inr values ↦ subst (λ (w : Text). All (λ v. PassesArg c w v.now) x.vals.items) key (rw same at values)
+    ] in
+    let how_is : e.1.reading ≡ how = elim pass.4 [
+      | inl g ↦ absurd (no_group g)
+      | inr h ↦ reads e.1.reading (subst (λ (w : Text). HasReading c w e.1.reading) key h)
+    ] in
+    finish (first_value (λ v. PassesArg c id v.now) x.reading x.vals.items text all first) (ap (λ (y : MatchedArg). y.reading) (sym same) ∙ how_is)
+  where
+    finish : ((value : Bor Text) × (text ≡ read_as x.reading value.now) × PassesArg c id value.now) → x.reading ≡ how → IsRead c id text how
+    finish v how_is = (v.0.now, subst (λ (r : Reading). text ≡ read_as r v.0.now) how_is v.1, v.2)
+
 -- what is read of an id is a value that an argument of that id takes, read as one of that id says
 value_read : (c : Command) (f : Found) (id text : Text) (how : Reading) → ValuesPass c f → groups_of c ≡ [] → (id ≡ [] → ⊥)
-    → ((r : Reading) → HasReading c id r → r ≡ how) → one_text f id ≡ Some text
-    → (value : Text) × (text ≡ read_as how value) × PassesArg c id value
-value_read c f id text how values no_groups named reads is = go (matched_of f id) refl
+    → ((r : Reading) → HasReading c id r → r ≡ how) → one_text f id ≡ Some text → IsRead c id text how
+value_read c f id text how values no_groups named reads is = go (matched_of f id) refl is
   where
-    read_so : (r : Reading) → r ≡ how → ((value : Bor Text) × (text ≡ read_as r value.now) × PassesArg c id value.now)
-        → (value : Text) × (text ≡ read_as how value) × PassesArg c id value
-    read_so r e v = (v.0.now, subst (λ (q : Reading). text ≡ read_as q v.0.now) e v.1, v.2)
+    step : (x : MatchedArg) → option_map (λ s. read_as x.reading s.now) (slice_get x.vals.items 0) ≡ Some text
+        → ((e : Entry) × (e.1 ≡ x) × (bytes_eq e.0.now id ≡ true) × EntryPasses c e) → IsRead c id text how
+    step x first got = entry_read c id text how x got.0 no_groups named reads first got.1 ((bytes_eq-Decides got.0.0.now id).0 got.2) got.3
 
-    entry : (x : MatchedArg) → option_map (λ s. read_as x.reading s.now) (slice_get x.vals.items 0) ≡ Some text
-        → ((e : Entry) × (e.1 ≡ x) × (bytes_eq e.0.now id ≡ true) × EntryPasses c e)
-        → (value : Text) × (text ≡ read_as how value) × PassesArg c id value
-    entry x first got =
-        let key : got.0.0.now ≡ id = (bytes_eq-Decides got.0.0.now id).0 got.2 in
-        let no_group : got.0.1.is_group ≡ true → ⊥ = λ g. elim (got.3.3 g) [
-          | inl empty ↦ named (sym key ∙ empty)
-          | inr some ↦
-              let bad : 0 < 0 = rw no_groups at some in
-              absurd (omega arith)
-        ] in
-        let all : All (λ v. PassesArg c id v.now) x.vals.items = elim got.3.0 [
-          | inl g ↦ absurd (no_group g)
-          | inr pass ↦ subst (λ (w : Text). All (λ v. PassesArg c w v.now) x.vals.items) key (rw got.1 at pass)
-        ] in
-        let how_is : x.reading ≡ how = elim got.3.4 [
-          | inl g ↦ absurd (no_group g)
-          | inr h ↦ ap (λ (y : MatchedArg). y.reading) (sym got.1) ∙ reads got.0.1.reading (subst (λ (w : Text). HasReading c w got.0.1.reading) key h)
-        ] in
-        read_so x.reading how_is (first_value (λ v. PassesArg c id v.now) x.reading x.vals.items text all first)
-
-    go : (o : Option MatchedArg) → matched_of f id ≡ o → (value : Text) × (text ≡ read_as how value) × PassesArg c id value
-    go None e = let bad : None ≡ Some text = rw e at is in cc
-    go (Some x) e = entry x (rw e at is) (entry_by_id (EntryPasses c) f.entries.items id x values e)
+    go : (o : Option MatchedArg) → matched_of f id ≡ o → text_of o ≡ Some text → IsRead c id text how
+    go None found h =
+        let bad : ⊥ = cc in
+        absurd bad
+    go (Some x) found h = step x h (entry_by_id (EntryPasses c) f.entries.items id x values found)
 
 -- ---- numbers
 
