@@ -1,9 +1,9 @@
 -- What the command finds in words that it reads.
-use Rattle.std.proofs.Common.{◌≡◌, ◌∙◌, ◌<◌, ◌≤◌, ◌==◌, ℕ, zero, suc, ap, sym, subst, refl, arith, inl, inr, eqb-true, cond, drop, length, List, [], ◌∷◌, map, Bool, true, false, Option, Some, None, codes, IfSome}
-use Rattle.std.specs.Prelude.{option_and_then, option_map, pos, slice_get, unwrap_or, MatchOption}
+use Rattle.std.proofs.Common.{◌≡◌, ◌∙◌, ◌<◌, ◌==◌, ℕ, zero, suc, ap, sym, subst, refl, arith, inl, inr, eqb-true, cond, drop, length, List, [], ◌∷◌, map, Bool, true, false, Option, Some, None, codes, IfSome}
+use Rattle.std.specs.Prelude.{option_and_then, option_map, pos, slice_get, unwrap_or}
 use Rattle.std.specs.List.{All, position_or_len, slice_index_or}
 use Rattle.std.specs.Str.{bytes_eq}
-use Rattle.std.specs.Str.Parse.{IsNumeral, ParsesUnsigned, digits_value, starts_with_minus, without_leading_plus}
+use Rattle.std.specs.Str.Parse.{IsNumeral, starts_with_minus, without_leading_plus}
 use Rattle.std.specs.Borrow.{Bor}
 use Rattle.std.proofs.lemmas.Bool.{not-true}
 use Rattle.std.proofs.lemmas.Int.{ints}
@@ -12,8 +12,8 @@ use Rattle.std.proofs.lemmas.List.Elements.{All-get_or}
 use Rattle.std.proofs.lemmas.Slice.Eq.{bytes_eq-Decides}
 use Rattle.std.proofs.lemmas.Str.Parse.{digit_from_value, without_leading_plus_none}
 use Rattle.clap.specs.Words.{Accepts, App, Rule, Text, app_of, args_of, found_of, groups_of, matched_of, one_text, read_as, reading_of, rule_of, without_minus}
-use Rattle.clap.specs.Words.{IsParsedFrom, IsSignedIn, ReadsOne, SameRules, one_of, rows_of}
-use Rattle.clap.specs.Built.{IsAuto, NamesNoGroup}
+use Rattle.clap.specs.Words.{IsParsedFrom, IsSignedIn}
+use Rattle.clap.specs.Built.{NamesNoGroup}
 use Rattle.clap.specs.Facts.{Entry, EntryPasses, HasReading, PassesArg, ValuesPass, parser_of, parser_of_value}
 use Rattle.clap.specs.Walk.{is_simple_arg}
 use Rattle.clap.specs.declared.builder.arg.Arg.{Arg}
@@ -26,8 +26,8 @@ use Rattle.clap.specs.declared.parser.matches.ArgMatches.{ArgMatches}
 use Rattle.clap.specs.declared.parser.matches.Found.{Found}
 use Rattle.clap.specs.declared.parser.matches.MatchedArg.{MatchedArg}
 use Rattle.clap.proofs.CallerLemmas.{entry_by_id, same_rules_by_id}
-use Rattle.clap.proofs.WalkLemmas.{both, one_text-rows}
-use Rattle.flow_words.specs.Command.{IsBetween, HasNumbers, flow_app, flow_rules, mode_rule, number_rule}
+use Rattle.clap.proofs.WalkLemmas.{both}
+use Rattle.flow_words.specs.Command.{IsBetween, HasNumbers, flow_app, flow_rules, mode_rule}
 
 -- ---- the value of an entry
 

@@ -28,7 +28,9 @@ fn mode_argument<'a>(alloc: Global) -> Arg<'a>
     ensures rule { rule_of result ≡ mode_rule }
     ensures local { result.global ≡ false }
 {
-    Arg::new(alloc, "mode").required(true).action(ArgAction::Set)
+    Arg::new(alloc, "mode")
+        .required(true)
+        .action(ArgAction::Set)
 }
 
 /// An option with one number, which is the default where the option is not used.

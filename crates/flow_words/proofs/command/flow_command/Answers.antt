@@ -1,6 +1,6 @@
 use Rattle.std.proofs.Common.{◌≡◌, ◌∙◌, rules, ap₂, codes}
 use Rattle.std.proofs.lemmas.Result.{IfOk-weaker}
-use Rattle.clap.specs.Words.{App, Rule, app_of, new_app, rule_of, with_rule}
+use Rattle.clap.specs.Words.{App, app_of, new_app, rule_of, with_rule}
 use Rattle.flow_words.specs.Command.{mode_rule, number_rule}
 use Rattle.flow_words.proofs.command.flow_command.Goals as goal
 
