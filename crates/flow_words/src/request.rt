@@ -1,8 +1,12 @@
-ghost use Rattle.std.specs.Prelude.{◌≡◌, ℕ, List, IfOk, IfSome, MatchOption, map};
+ghost use Rattle.std.specs.Prelude.{◌≡◌, ◌≤◌, ℕ, IfOk, IfSome, MatchOption, map};
 ghost use Rattle.std.specs.String.{string_bytes};
-ghost use Rattle.flow_words.specs.Words.{mode_word, IsCall, IsNoCall, IsWithin, OneRequest};
+ghost use Rattle.clap.specs.Words.{found_of, rows_of, one_of, one_text};
+ghost use Rattle.flow_words.specs.Command.{HasNumbers, IsBetween, IsReading};
+ghost use Rattle.flow_words.specs.Words.{mode_word, HasNumber, IsOf, IsCall, IsNoCall, IsWithin, OneRequest};
 
-use crate::settings::Settings;
+use crate::command::flow_command;
+use clap::ArgMatches;
+use clap::error::ErrorKind;
 use std::alloc::{AllocError, Global};
 
 /// What the program does.
@@ -10,7 +14,7 @@ use std::alloc::{AllocError, Global};
 pub enum Mode {
     /// Drive a workflow by a session.
     Drive,
-    /// Let workers run a workflow.
+    /// Run a workflow by workers.
     Run,
     /// Say whether some execution of a workflow meets its constraints.
     Check,
@@ -20,11 +24,11 @@ pub enum Mode {
     Trace,
     /// Write a generated workflow.
     Gen,
-    /// Let workers run a generated workflow.
+    /// Run a generated workflow by workers.
     Large,
 }
 
-/// What a call is for.
+/// What a call is for. A mode uses the numbers that concern it.
 #[derive(Clone, Copy, Debug, PartialEq, Eq)]
 pub struct Request {
     pub mode: Mode,
@@ -32,63 +36,84 @@ pub struct Request {
     pub steps: u32,
     /// How many workers run a workflow.
     pub workers: u32,
-    /// From what a workflow is generated.
+    /// What a workflow is generated from.
     pub seed: u32,
-    /// How many blocks it has.
+    /// How large a generated workflow is.
     pub size: u32,
 }
 
-/// The greatest length of a history, where no option sets it.
-const DEFAULT_STEPS: u32 = 65_536;
-
-/// What is asked for, where the words are a call.
+/// What the words ask for, where the command reads them.
 pub fn request_of(alloc: Global, words: &[String]) -> Result<Option<Request>, AllocError>
     ensures call { IfOk result (λ found. MatchOption found (IsNoCall (map (λ word. string_bytes word) words.now))
         (IsCall (map (λ word. string_bytes word) words.now))) }
     ensures within { IfOk result (λ found. IfSome found IsWithin) }
 {
-    let _ = alloc;
-    Ok(request_in(words))
+    match read_words(alloc, words)? {
+        Some(matches) => Ok(request_in(&matches)),
+        None => Ok(None),
+    }
 }
 
-/// What is asked for, where the words are the program's name, that of a mode, and options.
-fn request_in(words: &[String]) -> Option<Request>
-    ensures call { MatchOption result (IsNoCall (map (λ word. string_bytes word) words.now))
-        (IsCall (map (λ word. string_bytes word) words.now)) }
+/// What the command finds in the words, where it reads them.
+fn read_words<'a>(alloc: Global, words: &'a [String]) -> Result<Option<ArgMatches<'a>>, AllocError>
+    ensures reading { IfOk result (λ found. IsReading (map (λ word. string_bytes word) words.entry.now) found) }
+    ensures numbers { IfOk result (λ found. IfSome found (λ matches. HasNumbers (found_of matches))) }
+{
+    let command = flow_command(alloc)?;
+    match command.try_get_matches_from(words) {
+        Ok(matches) => Ok(Some(matches)),
+        Err(error) if error.kind() == ErrorKind::OutOfMemory => Err(AllocError),
+        Err(_) => Ok(None),
+    }
+}
+
+/// The request of what the command has found.
+fn request_in(matches: &ArgMatches<'_>) -> Option<Request>
+    requires { HasNumbers (found_of matches.now) }
+    ensures call { MatchOption result ((request : Request) → ¬ (IsOf (rows_of (found_of matches.now)) request))
+        (IsOf (rows_of (found_of matches.now))) }
     ensures within { IfSome result IsWithin }
 {
-    let [_, mode, options @ ..] = words else {
-        return None;
-    };
-    let mode = mode_called(mode.as_bytes())?;
-    let settings = Settings { steps: None }.with_all(options)?;
+    let mode = mode_called(matches.get_str("mode")?)?;
+    let steps = number_in(matches, "steps")?;
+    let workers = number_in(matches, "workers")?;
+    let seed = number_in(matches, "seed")?;
+    let size = number_in(matches, "size")?;
     Some(Request {
         mode,
-        steps: settings.steps.unwrap_or(DEFAULT_STEPS),
-        workers: 4,
-        seed: 1,
-        size: 16,
+        steps,
+        workers,
+        seed,
+        size,
     })
 }
 
 /// The mode of that name.
-fn mode_called(word: &[u8]) -> Option<Mode>
+fn mode_called(word: &str) -> Option<Mode>
     ensures { MatchOption result ((mode : Mode) → ¬ (word.now ≡ mode_word mode)) (λ mode. word.now ≡ mode_word mode) }
 {
     match word {
-        b"drive" => Some(Mode::Drive),
-        b"run" => Some(Mode::Run),
-        b"check" => Some(Mode::Check),
-        b"verify" => Some(Mode::Verify),
-        b"trace" => Some(Mode::Trace),
-        b"gen" => Some(Mode::Gen),
-        b"large" => Some(Mode::Large),
+        "drive" => Some(Mode::Drive),
+        "run" => Some(Mode::Run),
+        "check" => Some(Mode::Check),
+        "verify" => Some(Mode::Verify),
+        "trace" => Some(Mode::Trace),
+        "gen" => Some(Mode::Gen),
+        "large" => Some(Mode::Large),
         _ => None,
     }
+}
+
+/// The number that was found for an option.
+fn number_in(matches: &ArgMatches<'_>, name: &str) -> Option<u32>
+    requires { IfSome (one_text (found_of matches.now) name.now) (IsBetween 0 4294967295) }
+    ensures { MatchOption result ((n : ℕ) → ¬ (HasNumber name.now (rows_of (found_of matches.now)) n))
+        (HasNumber name.now (rows_of (found_of matches.now))) }
+{
+    matches.get_one::<u32>(name)
 }
 
 /// Words are a call for one request alone.
 pub fn law_one_request()
     ensures { OneRequest }
-{
-}
+{}
