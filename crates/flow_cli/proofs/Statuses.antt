@@ -1,5 +1,5 @@
 -- The statuses of answers to an input that was read.
-use Rattle.std.proofs.Common.{◌≡◌, ◌≢◌, ℕ, Bool, List, sym, subst, inl, inr}
+use Rattle.std.proofs.Common.{◌≢◌, ℕ, Bool, List, sym, subst, inl, inr}
 use Rattle.flow_model.specs.declared.history.Call.{Call}
 use Rattle.flow_model.specs.declared.history.Outcome.{Outcome}
 use Rattle.flow_form.specs.Script.{Said, Asked, holds, redundant}
