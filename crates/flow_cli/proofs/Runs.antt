@@ -1,5 +1,5 @@
 -- Runs by workers that came to an end.
-use Rattle.std.proofs.Common.{◌≡◌, ◌≤◌, ℕ, Bool, refl, subst}
+use Rattle.std.proofs.Common.{◌≡◌, ◌≤◌, ℕ, Bool, List, length, refl, ap, ◌∙◌, subst}
 use Rattle.flow_model.specs.declared.history.Call.{Call}
 use Rattle.flow_model.specs.declared.history.Entry.{Entry}
 use Rattle.flow_model.specs.declared.history.Outcome.{Outcome}
@@ -14,8 +14,16 @@ use Rattle.flow_crew.specs.declared.ends.End.{End}
 use Rattle.flow_crew.specs.declared.ends.End.TheVariants as end
 use Rattle.flow_crew.specs.Ends.{IsEnd}
 use Rattle.flow_crew.specs.Kept.{IsByWorkers}
+use Rattle.flow_excise.specs.declared.counts.Counts.{Counts}
+use Rattle.flow_excise.specs.Compilation.{Compilation, IsCompiled}
+use Rattle.flow_reply.specs.declared.summary.Summary.{Summary}
+use Rattle.flow_reply.specs.declared.verdict.Verdict.{Verdict}
 use Rattle.flow_reply.specs.Report.{Means}
+use Rattle.flow_reply.specs.Summary.{IsSummary}
 use Rattle.flow_reply.proofs.Rising.{just_as}
+use Rattle.flow_cli.specs.declared.status.Status.{Status}
+use Rattle.flow_cli.specs.Driving.{ended}
+use Rattle.flow_cli.specs.Large.{summary_of, Summarizes}
 use Rattle.flow_cli.specs.Running.{verdict_of, IsRunOf}
 
 -- the verdict that an end is
@@ -42,3 +50,21 @@ run_of gives w steps workers r e definition limit is lawful by callers =
           (subst (λ (v : Definition). model.IsRunVerdict (schema_of v) r.limit r.history meant) definition stands);
       verdict_is = means;
     }
+
+-- the line of a run of a generated workflow
+pub summarizes : (gives : Call → Outcome → Bool) (w : Definition) (seed size steps workers : ℕ) (c : Compilation) (last first second : Run) (verdict : Verdict)
+    (counts : Counts) (summary : Summary) (status : Status) (output : List ℕ) → IsCompiled (schema_of w) c → c.counts.live ≡ length c.plans →
+    IsRunOf gives w steps workers last verdict → first ≡ last → second ≡ last → counts ≡ c.counts → summary ≡ summary_of counts seed size first verdict →
+    status ≡ ended verdict → IsSummary second summary output → Summarizes gives w seed size steps workers status output
+summarizes gives w seed size steps workers c last first second verdict counts summary status output compiled live run one two counted is status_is told = record {
+  compilation = c;
+  compiled = compiled;
+  live_counted = live;
+  last = last;
+  verdict = verdict;
+  run = run;
+  status_is = status_is;
+  output_is = subst (λ (s : Summary). IsSummary last s output)
+      (is ∙ ap (λ (n : Counts). summary_of n seed size first verdict) counted ∙ ap (λ (r : Run). summary_of c.counts seed size r verdict) one)
+      (subst (λ (r : Run). IsSummary r summary output) two told);
+}

@@ -1,18 +1,40 @@
 //! The mode `large`: workers make a run of a generated workflow.
-ghost use Rattle.std.specs.Prelude.{◌≤◌, IfOk};
+ghost use Rattle.std.specs.Prelude.{◌≡◌, ◌≤◌, IfOk};
 ghost use Rattle.flow_cli.specs.Output.{IsOfInput};
-ghost use Rattle.flow_cli.specs.Large.{RunsGenerated};
+ghost use Rattle.flow_cli.specs.Large.{summary_of, RunsGenerated};
 
 use crate::generated::{compile_generated, generated_workflow};
 use crate::output::Output;
 use crate::running::Crew;
+use crate::session::status_of;
+use flow_core::Core;
 use flow_crew::Gate;
+use flow_excise::Counts;
+use flow_reply::{Summary, Verdict, print_summary};
 use std::alloc::{AllocError, Global};
 use std::sync::Wait;
 use std::thread::Threads;
 
+/// The numbers of a run and of its workflow, which is compiled with these counts.
+fn summary_of(core: &Core, counts: &Counts, seed: u32, size: u32, verdict: Verdict) -> Summary
+    ensures { result ≡ summary_of counts.now seed size core.now verdict }
+{
+    Summary {
+        bulk: counts.bulk,
+        history: core.history().len() as u64,
+        journal: core.journal().len() as u64,
+        leaves: u64::from(core.workflow().tree().leaves()),
+        live: counts.live,
+        options: counts.options,
+        resolutions: counts.resolutions,
+        seed: u64::from(seed),
+        size: u64::from(size),
+        verdict,
+    }
+}
+
 impl<'a, R: Threads + Wait + Sync, G: Gate> Crew<'a, R, G> {
-    /// Runs the generated workflow of that seed and size.
+    /// Runs the generated workflow of that seed and size, and tells the run in one line once it is over.
     pub(crate) fn run_generated(
         &self,
         alloc: Global,
@@ -27,6 +49,12 @@ impl<'a, R: Threads + Wait + Sync, G: Gate> Crew<'a, R, G> {
     {
         let workflow = generated_workflow(alloc, seed, size)?;
         let compiled = compile_generated(alloc, &workflow, seed, size)?;
-        self.report(alloc, workflow, compiled)
+        let counts = compiled.counts();
+        let (book, verdict) = self.run(alloc, workflow, compiled)?;
+        let summary = summary_of(book.core(), &counts, seed, size, verdict);
+        Ok(Output {
+            status: status_of(&verdict),
+            text: print_summary(alloc, book.core(), &summary)?,
+        })
     }
 }

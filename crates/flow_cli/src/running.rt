@@ -66,7 +66,7 @@ impl<'a, R: Threads + Wait + Sync, G: Gate> Crew<'a, R, G> {
     }
 
     /// Runs a compiled workflow, and reports the run once it is over.
-    pub(crate) fn report(
+    fn report(
         &self,
         alloc: Global,
         workflow: Workflow,

@@ -1,0 +1,11 @@
+use Rattle.flow_cli.proofs.Once.{checks_once, traces_once, sessions_once}
+use Rattle.flow_cli.proofs.single.law_outputs_are_single.Goals as goal
+
+pub returns-clause-checks : goal.returns-clause-checks
+returns-clause-checks c = checks_once
+
+pub returns-clause-traces : goal.returns-clause-traces
+returns-clause-traces c = traces_once
+
+pub returns-clause-sessions : goal.returns-clause-sessions
+returns-clause-sessions c = sessions_once
