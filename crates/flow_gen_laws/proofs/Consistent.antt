@@ -1,34 +1,28 @@
 -- A generated workflow is consistent.
-use Rattle.std.proofs.Common.{◌≡◌, ℕ, ◌+◌, ◌*◌, ◌%◌, ◌<◌, ◌≤◌, List, [], ◌∷◌, length, map, drop, sym, ap, subst, ◌∙◌, inl, inr, arith}
+use Rattle.std.proofs.Common.{◌≡◌, ℕ, ◌+◌, ◌*◌, ◌<◌, ◌≤◌, List, sym, ap, subst, ◌∙◌, inl, inr, arith}
 use Rattle.flow_model.specs.Lists.{◌∈◌, Each}
 use Rattle.flow_model.specs.Facts.{event_at, events_of}
 use Rattle.flow_model.specs.Process.{Process, leaves}
 use Rattle.flow_model.specs.Resolution.{resolutions}
-use Rattle.flow_model.specs.Constraint.{Constraint, Never, Order, Meets}
+use Rattle.flow_model.specs.Constraint.{Meets}
 use Rattle.flow_model.specs.Decided.{Decided, decide_in}
 use Rattle.flow_model.specs.Schema.{IsGood}
-use Rattle.flow_laws.proofs.ListLemmas2.{numbers_from_below}
+use Rattle.flow_laws.proofs.ListLemmas2.{numbers_from_below, each_to}
 use Rattle.flow_laws.proofs.ResolutionsLemmas.{resolves_of, choice_free_resolution, goal_trace, mem-leaves_of_goal}
 use Rattle.flow_goal.proofs.Rising.{Rises, resolution_rises}
-use Rattle.flow_rules.specs.Rule.{any_of}
 use Rattle.flow_form.specs.Names.{event_names}
 use Rattle.flow_workflow.specs.Definition.{Definition, schema_of}
-use Rattle.flow_workflow.specs.Numbers.{event_number}
 use Rattle.flow_expand.specs.Expansion.{Expansion}
 use Rattle.flow_expand.specs.Numbers.{numbered}
-use Rattle.flow_expand.specs.Constraints.{constraint_of}
 use Rattle.flow_expand.specs.Workflows.{IsExpanded, definition_of}
 use Rattle.flow_expand.proofs.Endings.{becomes_one}
-use Rattle.flow_gen.specs.Generated.{event_name, all_draws, constraints, generated}
+use Rattle.flow_gen.specs.Generated.{generated}
 use Rattle.flow_gen_laws.specs.Laws.{LeavesAreGoodTraces, WorkflowsAreConsistent}
-use Rattle.flow_gen_laws.proofs.SaidTexts.{rule_draws, names_are_good}
+use Rattle.flow_gen_laws.proofs.SaidTexts.{names_are_good}
 use Rattle.flow_gen_laws.proofs.Rows.{IsRow}
-use Rattle.flow_gen_laws.proofs.Expanded.{whole_row, number_is, leaf_event}
+use Rattle.flow_gen_laws.proofs.Expanded.{whole_row, leaf_event}
+use Rattle.flow_gen_laws.proofs.Precedences.{precedence, IsPrecedence, rules_are}
 use Rattle.flow_gen_laws.proofs.Straight.{straight, some_resolution, rises_before, own_values}
-
--- the constraint that the first of two events precedes the second
-abbrev pub precedence : ℕ → ℕ → Constraint
-precedence x y = any_of (Never x ∷ Never y ∷ Order (x ∷ y ∷ []) ∷ [])
 
 met_by : (low high : ℕ) (t : List ℕ) → Rises low t high → (x y : ℕ) → x < y → Decided (x ∈ t) → Decided (y ∈ t) → Meets (precedence x y) t
 met_by low high t rises x y less (inr absent) other = inl (inl (inr absent))
@@ -37,20 +31,6 @@ met_by low high t rises x y less (inl i) (inl j) = inr (rises_before low high t 
 
 rising_meets : (low high : ℕ) (t : List ℕ) → Rises low t high → (x y : ℕ) → x < y → Meets (precedence x y) t
 rising_meets low high t rises x y less = met_by low high t rises x y less (decide_in x t) (decide_in y t)
-
-module _ (seed size : ℕ) (few : size ≤ 128) (t : List ℕ) (low high : ℕ) (rises : Rises low t high) where
-  one_met : (x y : ℕ) → x < y → y < 8 * size →
-      Meets (precedence (event_number (event_names (generated seed size).decls) (event_name x)) (event_number (event_names (generated seed size).decls) (event_name y))) t
-  one_met x y less h =
-      let events = event_names (generated seed size).decls in
-      subst (λ n. Meets (precedence n (event_number events (event_name y))) t) (sym (number_is seed size x few (omega (arith, less, h))))
-      (subst (λ n. Meets (precedence x n) t) (sym (number_is seed size y few h)) (rising_meets low high t rises x y less))
-
-  all_met : (first : ℕ) (ds : List ℕ) → first + 8 + 4 * length ds ≤ 8 * size →
-      Each (λ rule. Meets rule t) (map (constraint_of (event_names (generated seed size).decls)) (constraints first ds))
-  all_met first [] fits = tt
-  all_met first (f ∷ []) fits = tt
-  all_met first (f ∷ g ∷ ds) fits = (one_met (first + f % 8) (first + 8 + g % 8) (omega arith) (omega arith), all_met (first + 8) ds (omega arith))
 
 good_leaves : (seed size : ℕ) (e : Expansion) → 1 ≤ size → size ≤ 128 → IsRow (event_names (generated seed size).decls) 0 (8 * size) (8 * size) e → (q : Process) →
     q ∈ resolutions (numbered 0 e) → IsGood (schema_of (definition_of (generated seed size) e)) (leaves q)
@@ -62,15 +42,16 @@ good_leaves seed size e some few r q m =
     let rises = resolution_rises g q 0 (8 * size) (r.leaves 0) is in
     let below : (x : ℕ) → x ∈ leaves q → x < 8 * size = λ x i.
     let in_goal = subst (λ ns. x ∈ ns) (r.leaves 0) (mem-leaves_of_goal g q is x i) in omega (arith, numbers_from_below 0 (8 * size) x in_goal) in
-    let same : events_of w.tree.labels (leaves q) ≡ leaves q = own_values (event_at w.tree.labels) (leaves q) (λ x i. leaf_event seed size e few r x (below x i)) in
-    let draws_left = rule_draws seed size in (
+    let same : events_of w.tree.labels (leaves q) ≡ leaves q = own_values (event_at w.tree.labels) (leaves q) (λ x i. leaf_event seed size e few r x (below x i)) in (
       goal_trace g q m (leaves q) (straight q (choice_free_resolution g q is)),
       subst (λ t. Each (λ rule. Meets rule t) w.rules) (sym same)
-          (all_met seed size few (leaves q) 0 (0 + 8 * size) rises 0 (drop size (all_draws seed size)) (omega (arith, draws_left, some))),
+          (each_to IsPrecedence (λ rule. Meets rule (leaves q)) w.rules
+          (λ rule p. subst (λ c. Meets c (leaves q)) (sym p.is) (rising_meets 0 (0 + 8 * size) (leaves q) rises p.first p.second p.less))
+          (rules_are seed size some few)),
     )
 
 -- it has one expansion
-the_definition : (seed size : ℕ) (some : 1 ≤ size) → size ≤ 128 → (w : Definition) → IsExpanded (generated seed size) w → w ≡ definition_of (generated seed size) (whole_row seed size some).0
+pub the_definition : (seed size : ℕ) (some : 1 ≤ size) → size ≤ 128 → (w : Definition) → IsExpanded (generated seed size) w → w ≡ definition_of (generated seed size) (whole_row seed size some).0
 the_definition seed size some few w h =
     h.is ∙ ap (definition_of (generated seed size))
     (becomes_one (generated seed size).decls (names_are_good seed size some few).once (generated seed size).goal h.expansion (whole_row seed size some).0

@@ -34,7 +34,7 @@ use Rattle.flow_gen_laws.proofs.Rows.{IsRow, HasRow, goal_row}
 
 -- No sub-workflow is declared
 
-no_flow : (ns : List ℕ) (n : List ℕ) (s : Shape) → ¬ (flow n s ∈ map (λ k. event (event_name k) Done) ns)
+pub no_flow : (ns : List ℕ) (n : List ℕ) (s : Shape) → ¬ (flow n s ∈ map (λ k. event (event_name k) Done) ns)
 no_flow [] n s m = absurd m
 no_flow (k ∷ ns) n s (inl e) = cc
 no_flow (k ∷ ns) n s (inr m) = no_flow ns n s m

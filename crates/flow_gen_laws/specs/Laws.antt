@@ -1,8 +1,8 @@
 -- A generated text is a text of its workflow.
-use Rattle.std.specs.Prelude.{◌≡◌, ℕ, ◌≤◌}
+use Rattle.std.specs.Prelude.{◌≡◌, ℕ, ◌+◌, ◌-◌, ◌*◌, ◌^◌, ◌≤◌, length, map, sum, take}
 use Rattle.flow_model.specs.Lists.{◌∈◌}
 use Rattle.flow_model.specs.Process.{Process, leaves}
-use Rattle.flow_model.specs.Resolution.{resolutions}
+use Rattle.flow_model.specs.Resolution.{resolutions, resolution_count, ways_in, options, bulk}
 use Rattle.flow_model.specs.Schema.{IsGood}
 use Rattle.flow_laws.specs.Words.{IsConsistent}
 use Rattle.flow_form.specs.declared.refusal.TextRefusal.{TextRefusal}
@@ -16,7 +16,11 @@ use Rattle.flow_expand.specs.declared.refusal.ExpandRefusal.{ExpandRefusal}
 use Rattle.flow_expand.specs.declared.refusal.ExpandRefusal.TheVariants as refusal
 use Rattle.flow_expand.specs.Refusals.{IsRefusal}
 use Rattle.flow_expand.specs.Workflows.{IsExpanded}
-use Rattle.flow_gen.specs.Generated.{generated}
+use Rattle.flow_excise.specs.declared.refusal.CompileRefusal.{CompileRefusal}
+use Rattle.flow_excise.specs.declared.refusal.CompileRefusal.TheVariants as compile
+use Rattle.flow_excise.specs.Compilation.{IsWithinLimits, IsRefused}
+use Rattle.flow_excise.specs.Options as parts
+use Rattle.flow_gen.specs.Generated.{choices_in, kinds, all_draws, generated}
 
 -- it says the workflow
 abbrev pub TextsSayTheirWorkflow : Type 0
@@ -45,3 +49,43 @@ LeavesAreGoodTraces = (seed size : ℕ) (w : Definition) → 1 ≤ size → size
 
 abbrev pub WorkflowsAreConsistent : Type 0
 WorkflowsAreConsistent = (seed size : ℕ) (w : Definition) → 1 ≤ size → size ≤ 128 → IsExpanded (generated seed size) w → IsConsistent (schema_of w)
+
+-- so many of its blocks are choices
+abbrev pub choice_count : ℕ → ℕ → ℕ
+choice_count seed size = sum (map choices_in (kinds 0 (take size (all_draws seed size))))
+
+abbrev pub ChoicesAreFew : Type 0
+ChoicesAreFew = (seed size : ℕ) → choice_count seed size ≤ 6
+
+-- each choice doubles the resolutions
+abbrev pub ChoicesDouble : Type 0
+ChoicesDouble = (seed size : ℕ) (w : Definition) → 1 ≤ size → size ≤ 128 → IsExpanded (generated seed size) w →
+    resolution_count w.tree.process ≡ 2 ^ choice_count seed size
+
+-- the leaves of a resolution meet the constraints in one way
+abbrev pub WaysAreSingle : Type 0
+WaysAreSingle = (seed size : ℕ) (w : Definition) → 1 ≤ size → size ≤ 128 → IsExpanded (generated seed size) w → (q : Process) →
+    q ∈ resolutions w.tree.process → length (ways_in (schema_of w) q) ≡ 1
+
+-- so each resolution is one option
+abbrev pub OptionsAreResolutions : Type 0
+OptionsAreResolutions = (seed size : ℕ) (w : Definition) → 1 ≤ size → size ≤ 128 → IsExpanded (generated seed size) w →
+    length (options (schema_of w)) ≡ resolution_count w.tree.process
+
+-- and an option has no more leaves than there are events, and no more pairs than constraints
+abbrev pub BulkIsSmall : Type 0
+BulkIsSmall = (seed size : ℕ) (w : Definition) → 1 ≤ size → size ≤ 128 → IsExpanded (generated seed size) w →
+    bulk (schema_of w) ≤ resolution_count w.tree.process * (8 * size + (size - 1))
+
+abbrev pub WorkflowsAreWithinLimits : Type 0
+WorkflowsAreWithinLimits = (seed size : ℕ) (w : Definition) → 1 ≤ size → size ≤ 128 → IsExpanded (generated seed size) w → IsWithinLimits (schema_of w)
+
+-- nothing is wrong with it where it is compiled
+abbrev pub CompilingIsNotRefused : Type 0
+CompilingIsNotRefused = (seed size : ℕ) (w : Definition) (r : CompileRefusal) → 1 ≤ size → size ≤ 128 → IsExpanded (generated seed size) w →
+    IsRefused (schema_of w) r → r ≡ compile.NoMemory
+
+-- nor with its tree and its rules
+abbrev pub CompilingPartsIsNotRefused : Type 0
+CompilingPartsIsNotRefused = (seed size : ℕ) (w : Definition) (r : CompileRefusal) → 1 ≤ size → size ≤ 128 → IsExpanded (generated seed size) w →
+    IsRefused (parts.schema_of w.tree w.rules) r → r ≡ compile.NoMemory

@@ -1,4 +1,6 @@
 ghost use Rattle.flow_gen_laws.specs.Laws.{WorkflowsAreExpanded, ExpansionsAreNotRefused, LeavesAreGoodTraces, WorkflowsAreConsistent};
+ghost use Rattle.flow_gen_laws.specs.Laws.{ChoicesAreFew, ChoicesDouble, WaysAreSingle, OptionsAreResolutions, BulkIsSmall, WorkflowsAreWithinLimits};
+ghost use Rattle.flow_gen_laws.specs.Laws.{CompilingIsNotRefused, CompilingPartsIsNotRefused};
 
 /// A generated workflow is never refused where it is expanded: it is small enough, and no execution holds an event
 /// twice.
@@ -12,4 +14,21 @@ pub fn law_generated_workflows_are_expanded()
 pub fn law_generated_workflows_are_consistent()
     ensures good_traces { LeavesAreGoodTraces }
     ensures consistent { WorkflowsAreConsistent }
+{}
+
+/// A generated workflow is within every limit: it has at most six choices, of two sides each, and one option for each
+/// resolution.
+pub fn law_generated_workflows_are_within_limits()
+    ensures few { ChoicesAreFew }
+    ensures resolutions { ChoicesDouble }
+    ensures ways { WaysAreSingle }
+    ensures options { OptionsAreResolutions }
+    ensures bulk { BulkIsSmall }
+    ensures within { WorkflowsAreWithinLimits }
+{}
+
+/// A generated workflow is never refused where it is compiled, as a whole or as its tree and its rules.
+pub fn law_generated_workflows_are_compiled()
+    ensures whole { CompilingIsNotRefused }
+    ensures parts { CompilingPartsIsNotRefused }
 {}

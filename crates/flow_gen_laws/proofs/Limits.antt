@@ -1,0 +1,105 @@
+-- No count of a generated workflow is past its limit.
+use Rattle.std.proofs.Common.{◌≡◌, ℕ, ◌+◌, ◌-◌, ◌*◌, ◌^◌, ◌≤◌, List, [], ◌∷◌, length, take, refl, sym, ap, subst, ◌∙◌, arith}
+use Rattle.std.proofs.Math.Nat.{mul-le-mul_right}
+use Rattle.std.proofs.Math.Pow.{pow_mono}
+use Rattle.flow_model.specs.Lists.{◌∈◌, numbers_from}
+use Rattle.flow_model.specs.Process.{Process, leaves}
+use Rattle.flow_model.specs.Resolution.{resolutions, resolution_count, ways_in, bulk}
+use Rattle.flow_model.specs.Schema.{Schema}
+use Rattle.flow_laws.specs.Words.{IsConsistent}
+use Rattle.flow_laws.proofs.ResolutionsLemmas.{resolves_of, length-resolutions}
+use Rattle.flow_goal.proofs.Rising.{Rises, resolution_rises}
+use Rattle.flow_workflow.specs.Definition.{Definition, schema_of}
+use Rattle.flow_expand.specs.Expansion.{Expansion}
+use Rattle.flow_expand.specs.Workflows.{IsExpanded, definition_of}
+use Rattle.flow_excise.specs.declared.refusal.CompileRefusal.{CompileRefusal}
+use Rattle.flow_excise.specs.declared.refusal.CompileRefusal.TheVariants as compile
+use Rattle.flow_excise.specs.Compilation.{IsWithinLimits, IsRefused}
+use Rattle.flow_excise.specs.Options as parts
+use Rattle.flow_gen.specs.Generated.{all_draws, kinds, generated}
+use Rattle.flow_gen_laws.specs.Laws.{choice_count, ChoicesAreFew, ChoicesDouble, WaysAreSingle, OptionsAreResolutions, BulkIsSmall, WorkflowsAreWithinLimits, CompilingIsNotRefused, CompilingPartsIsNotRefused}
+use Rattle.flow_gen_laws.proofs.Expanded.{whole_row, no_flow}
+use Rattle.flow_gen_laws.proofs.Consistent.{the_definition, workflows_are_consistent}
+use Rattle.flow_gen_laws.proofs.Precedences.{rules_are, few_rules}
+use Rattle.flow_gen_laws.proofs.Choices.{counted, goal_count, kinds_choose}
+use Rattle.flow_gen_laws.proofs.OneWay.{IsOneWay, one_way, AreSingle, are_single}
+
+pub choices_are_few : ChoicesAreFew
+choices_are_few seed size = omega (arith, kinds_choose 0 (take size (all_draws seed size)) (omega arith))
+
+pub choices_double : ChoicesDouble
+choices_double seed size w some few h =
+    let s = generated seed size in
+    ap (λ (v : Definition). resolution_count v.tree.process) h.is
+    ∙ counted s.decls (no_flow (numbers_from 0 (8 * size))) s.goal h.expansion h.measured.fitting.becomes 0
+    ∙ goal_count (kinds 0 (take size (all_draws seed size)))
+
+-- Ways
+
+definition_way : (seed size : ℕ) (e : Expansion) → 1 ≤ size → size ≤ 128 → (q : Process) → IsOneWay (size - 1) (ways_in (schema_of (definition_of (generated seed size) e)) q)
+definition_way seed size e some few q =
+    let w = definition_of (generated seed size) e in
+    let one : IsOneWay (length w.rules) (ways_in (schema_of w) q) = one_way w.rules w.tree.labels (leaves q) (rules_are seed size some few) in
+    record { way = one.way; only = one.only; pairs = omega (arith, one.pairs, few_rules seed size) }
+
+its_way : (seed size : ℕ) (w : Definition) → 1 ≤ size → size ≤ 128 → IsExpanded (generated seed size) w → (q : Process) → IsOneWay (size - 1) (ways_in (schema_of w) q)
+its_way seed size w some few h q =
+    subst (λ (v : Definition). IsOneWay (size - 1) (ways_in (schema_of v) q)) (sym h.is) (definition_way seed size h.expansion some few q)
+
+pub ways_are_single : WaysAreSingle
+ways_are_single seed size w some few h q m = ap (λ (ws : List (List (ℕ × ℕ))). length ws) (its_way seed size w some few h q).only
+
+-- Leaves
+
+rises_length : (low high : ℕ) (xs : List ℕ) → Rises low xs high → low + length xs ≤ high
+rises_length low high [] h = omega (arith, h)
+rises_length low high (x ∷ xs) h = omega (arith, h.0, rises_length (x + 1) high xs h.1)
+
+few_leaves : (seed size : ℕ) (w : Definition) → 1 ≤ size → size ≤ 128 → IsExpanded (generated seed size) w → (q : Process) → q ∈ resolutions w.tree.process → length (leaves q) ≤ 8 * size
+few_leaves seed size w some few h q m =
+    let row = whole_row seed size some in
+    let in_row = ap (λ (v : Definition). leaves v.tree.process) (the_definition seed size some few w h) ∙ row.1.1.leaves 0 in
+    omega (arith, rises_length 0 (0 + 8 * size) (leaves q) (resolution_rises w.tree.process q 0 (8 * size) in_row (resolves_of w.tree.process q m)))
+
+-- Options
+
+single : (seed size : ℕ) (w : Definition) → 1 ≤ size → size ≤ 128 → IsExpanded (generated seed size) w → AreSingle (schema_of w) (resolutions w.tree.process) (8 * size + (size - 1))
+single seed size w some few h =
+    are_single (schema_of w) (resolutions w.tree.process) (8 * size) (size - 1) (few_leaves seed size w some few h) (its_way seed size w some few h)
+
+pub options_are_resolutions : OptionsAreResolutions
+options_are_resolutions seed size w some few h = (single seed size w some few h).count ∙ length-resolutions w.tree.process
+
+pub bulk_is_small : BulkIsSmall
+bulk_is_small seed size w some few h =
+    subst (λ n. bulk (schema_of w) ≤ n * (8 * size + (size - 1))) (length-resolutions w.tree.process) (single seed size w some few h).size
+
+pub workflows_are_within_limits : WorkflowsAreWithinLimits
+workflows_are_within_limits seed size w some few h =
+    let sixth : 2 ^ choice_count seed size ≤ 2 ^ 6 = pow_mono (choices_are_few seed size) in
+    let many : resolution_count w.tree.process ≤ 64 = omega (arith, choices_double seed size w some few h, sixth) in
+    let product : resolution_count w.tree.process * (8 * size + (size - 1)) ≤ 64 * (8 * size + (size - 1)) = mul-le-mul_right (8 * size + (size - 1)) many in
+    record {
+      resolutions = omega (arith, many);
+      options_few = omega (arith, many, options_are_resolutions seed size w some few h);
+      light = omega (arith, bulk_is_small seed size w some few h, product, few);
+    }
+
+-- Refusals
+
+not_refused : (w : Schema) (r : CompileRefusal) → IsWithinLimits w → IsConsistent w → IsRefused w r → r ≡ compile.NoMemory
+not_refused w (compile.TooManyChoices count) within consistent h = absurd (omega (arith, h.0, within.resolutions))
+not_refused w (compile.TooManyWays count) within consistent h = absurd (omega (arith, h.1.0, within.options_few))
+not_refused w (compile.TooBulky count) within consistent h = absurd (omega (arith, h.1.1.0, within.light))
+not_refused w (compile.Inconsistent dropped) within consistent h = absurd (h.1.0 consistent)
+not_refused w compile.NoMemory within consistent h = refl
+
+pub compiling_is_not_refused : CompilingIsNotRefused
+compiling_is_not_refused seed size w r some few h =
+    not_refused (schema_of w) r (workflows_are_within_limits seed size w some few h) (workflows_are_consistent seed size w some few h)
+
+pub compiling_parts_is_not_refused : CompilingPartsIsNotRefused
+compiling_parts_is_not_refused seed size w r some few h =
+    let whole = workflows_are_within_limits seed size w some few h in
+    let within : IsWithinLimits (parts.schema_of w.tree w.rules) = record { resolutions = whole.resolutions; options_few = whole.options_few; light = whole.light } in
+    not_refused (parts.schema_of w.tree w.rules) r within (workflows_are_consistent seed size w some few h)
