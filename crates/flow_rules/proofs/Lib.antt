@@ -5,7 +5,7 @@ mod FormViews
 mod FreedomLemmas
 pub mod LeafLemmas
 mod ListingLemmas
-pub mod MarkLemmas
+mod MarkLemmas
 mod NormalViews
 pub mod RuleViews
 mod SplitForms

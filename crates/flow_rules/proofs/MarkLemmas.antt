@@ -1,5 +1,5 @@
 -- Rules that are marked one by one.
-use Rattle.std.proofs.Common.{◌≡◌, ◌≢◌, ℕ, ◌+◌, ◌<◌, ◌≤◌, ◌==◌, ◌||◌, ◌&&◌, not, Bool, true, false, true≢false, List, [], length, get_or, refl, sym, ap, ◌∙◌, ◌⊎◌, inl, inr, arith, Some, slice_get, Option}
+use Rattle.std.proofs.Common.{◌≡◌, ◌≢◌, ℕ, ◌+◌, ◌<◌, ◌≤◌, ◌==◌, ◌||◌, ◌&&◌, not, Bool, true, false, true≢false, List, [], length, get_or, refl, sym, ap, ◌∙◌, inl, inr, arith, Some, slice_get, Option}
 use Rattle.std.proofs.lemmas.Bool.{cases_lt, eq-eqb}
 use Rattle.std.proofs.lemmas.Option.{get_or_from_slice_get, slice_get-get_or, slice_get_within}
 use Rattle.flow_model.specs.Ways.{is_free, ways}
