@@ -1,0 +1,119 @@
+ghost use Rattle.std.specs.Prelude.{◌≡◌, ◌≤◌, ℕ, IfOk, IfSome, MatchOption, map};
+ghost use Rattle.std.specs.String.{string_bytes};
+ghost use Rattle.clap.specs.Words.{found_of, rows_of, one_of, one_text};
+ghost use Rattle.flow_words.specs.Command.{HasNumbers, IsBetween, IsReading};
+ghost use Rattle.flow_words.specs.Words.{mode_word, HasNumber, IsOf, IsCall, IsNoCall, IsWithin, OneRequest};
+
+use crate::command::flow_command;
+use clap::ArgMatches;
+use clap::error::ErrorKind;
+use std::alloc::{AllocError, Global};
+
+/// What the program does.
+#[derive(Clone, Copy, Debug, PartialEq, Eq)]
+pub enum Mode {
+    /// Drive a workflow by a session.
+    Drive,
+    /// Run a workflow by workers.
+    Run,
+    /// Say whether some execution of a workflow meets its constraints.
+    Check,
+    /// Say whether all executions of a workflow meet a property, or a constraint follows from the others.
+    Verify,
+    /// Say whether a journal is an execution of a workflow.
+    Trace,
+    /// Write a generated workflow.
+    Gen,
+    /// Run a generated workflow by workers.
+    Large,
+}
+
+/// What a call is for. A mode uses the numbers that concern it.
+#[derive(Clone, Copy, Debug, PartialEq, Eq)]
+pub struct Request {
+    pub mode: Mode,
+    /// The greatest length of a history.
+    pub steps: u32,
+    /// How many workers run a workflow.
+    pub workers: u32,
+    /// What a workflow is generated from.
+    pub seed: u32,
+    /// How large a generated workflow is.
+    pub size: u32,
+}
+
+/// What the words ask for, where the command reads them.
+pub fn request_of(alloc: Global, words: &[String]) -> Result<Option<Request>, AllocError>
+    ensures call { IfOk result (λ found. MatchOption found (IsNoCall (map (λ word. string_bytes word) words.now))
+        (IsCall (map (λ word. string_bytes word) words.now))) }
+    ensures within { IfOk result (λ found. IfSome found IsWithin) }
+{
+    match read_words(alloc, words)? {
+        Some(matches) => Ok(request_in(&matches)),
+        None => Ok(None),
+    }
+}
+
+/// What the command finds in the words, where it reads them.
+fn read_words<'a>(alloc: Global, words: &'a [String]) -> Result<Option<ArgMatches<'a>>, AllocError>
+    ensures reading { IfOk result (λ found. IsReading (map (λ word. string_bytes word) words.entry.now) found) }
+    ensures numbers { IfOk result (λ found. IfSome found (λ matches. HasNumbers (found_of matches))) }
+{
+    let command = flow_command(alloc)?;
+    match command.try_get_matches_from(words) {
+        Ok(matches) => Ok(Some(matches)),
+        Err(error) if error.kind() == ErrorKind::OutOfMemory => Err(AllocError),
+        Err(_) => Ok(None),
+    }
+}
+
+/// The request of what the command has found.
+fn request_in(matches: &ArgMatches<'_>) -> Option<Request>
+    requires { HasNumbers (found_of matches.now) }
+    ensures call { MatchOption result ((request : Request) → ¬ (IsOf (rows_of (found_of matches.now)) request))
+        (IsOf (rows_of (found_of matches.now))) }
+    ensures within { IfSome result IsWithin }
+{
+    let mode = mode_called(matches.get_str("mode")?)?;
+    let steps = number_in(matches, "steps")?;
+    let workers = number_in(matches, "workers")?;
+    let seed = number_in(matches, "seed")?;
+    let size = number_in(matches, "size")?;
+    Some(Request {
+        mode,
+        steps,
+        workers,
+        seed,
+        size,
+    })
+}
+
+/// The mode of that name.
+fn mode_called(word: &str) -> Option<Mode>
+    ensures { MatchOption result ((mode : Mode) → ¬ (word.now ≡ mode_word mode)) (λ mode. word.now ≡ mode_word mode) }
+{
+    match word {
+        "drive" => Some(Mode::Drive),
+        "run" => Some(Mode::Run),
+        "check" => Some(Mode::Check),
+        "verify" => Some(Mode::Verify),
+        "trace" => Some(Mode::Trace),
+        "gen" => Some(Mode::Gen),
+        "large" => Some(Mode::Large),
+        _ => None,
+    }
+}
+
+/// The number that was found for an option.
+fn number_in(matches: &ArgMatches<'_>, name: &str) -> Option<u32>
+    requires { IfSome (one_text (found_of matches.now) name.now) (IsBetween 0 4294967295) }
+    ensures { MatchOption result ((n : ℕ) → ¬ (HasNumber name.now (rows_of (found_of matches.now)) n))
+        (HasNumber name.now (rows_of (found_of matches.now))) }
+{
+    matches.get_one::<u32>(name)
+}
+
+/// Words are a call for one request alone.
+pub fn law_one_request()
+    ensures { OneRequest }
+{}
