@@ -3,7 +3,7 @@ use Rattle.std.proofs.lemmas.List.{append-nil}
 use Rattle.flow_model.specs.declared.labels.Note.{Note}
 use Rattle.flow_form.specs.declared.script.Decl.{Decl}
 use Rattle.flow_form.specs.declared.script.Decl.TheVariants as decl
-use Rattle.flow_form.specs.Script.{Declared, declared, event}
+use Rattle.flow_form.specs.Script.{declared, event}
 use Rattle.flow_expand.specs.Numbers.{note_of, notes_of}
 use Rattle.flow_expand.proofs.DeclaredLemmas.{part_more}
 use Rattle.flow_expand.proofs.declared.event_notes.Goals as goal

@@ -1,6 +1,5 @@
-use Rattle.std.proofs.Common.{◌≡◌, get_or, length, refl, sym, ap, subst, ⊎_elim, ◌∙◌, arith}
-use Rattle.std.proofs.lemmas.Option.{slice_get_within, get_or_from_slice_get}
-use Rattle.flow_expand.specs.Waiting.{IsLaidAt}
+use Rattle.std.proofs.Common.{length, arith}
+use Rattle.std.proofs.lemmas.Option.{slice_get_within}
 use Rattle.flow_expand.proofs.settle.first_unlaid.Goals as goal
 
 pub returns-clause-next : goal.returns-clause-next
