@@ -4,3 +4,4 @@ pub mod FrontLemmas
 pub mod KeptLemmas
 pub mod OptionLemmas
 pub mod PossibleLemmas
+pub mod FewLemmas

@@ -5,5 +5,6 @@ mod ban;
 mod fronts;
 mod possible;
 mod residual;
+mod steps;
 
 pub use residual::Residual;

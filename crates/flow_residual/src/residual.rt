@@ -1,4 +1,4 @@
-ghost use Rattle.std.specs.Prelude.{◌≡◌, ◌<◌, ◌≤◌, ◌↔◌, ℕ, [], ◌∷◌, ◌++◌, IfOk, IsTrue, length, take, nat_le, Some, slice_get, slice_index};
+ghost use Rattle.std.specs.Prelude.{◌≡◌, ◌<◌, ◌≤◌, ◌↔◌, ℕ, [], ◌∷◌, ◌++◌, IfOk, IsTrue, length, take, nat_le, false, Some, slice_get, slice_index};
 ghost use Rattle.std.specs.List.{filter};
 ghost use Rattle.flow_model.specs.Lists.{◌∈◌, Each};
 ghost use Rattle.flow_model.specs.Process.{leaves};
@@ -9,11 +9,15 @@ ghost use Rattle.flow_excise.specs.Compilation.{options_of};
 ghost use Rattle.flow_excise.specs.Plans.{option_of};
 ghost use Rattle.flow_residual.specs.Fronts.{AreFronts};
 ghost use Rattle.flow_residual.specs.Kept.{HasSmallLeaves};
+ghost use Rattle.flow_model.specs.Lists.{AreDistinct};
+ghost use Rattle.leaf_rows.specs.Leaves.{has_leaf};
+ghost use Rattle.flow_residual.specs.Possible.{TakesAll, TakesFirst};
 
 use crate::ban::{Ban, add_ban, holds, is_above, no_bans, rewind_bans};
 use crate::fronts::{lengthen, no_fronts, progress_of, shorten};
 use flow_excise::Compiled;
 use flow_plan::{KnotFree, Plan, Progress};
+use leaf_rows::LeafSet;
 use std::alloc::{AllocError, Global};
 use std::marker::Model;
 
@@ -90,6 +94,18 @@ impl Residual {
         ensures same { (n : ℕ) → IsDone result.now n ↔ (n ∈ self.now.journal) }
     {
         &self.done
+    }
+
+    /// Nothing may follow with claims that have a leaf twice, or one that has no place in a row.
+    pub(crate) fn none_found(&self, claims: &[u32]) -> LeafSet<16>
+        requires { ¬ (Each (λ n. n < 1024) claims.now × AreDistinct claims.now) }
+        ensures none { (n : ℕ) → has_leaf result n ≡ false }
+        ensures beside { (o : ChoiceOption) (leaf : ℕ) → ¬ (TakesAll self.now (claims.now ++ leaf ∷ []) o) }
+        ensures first { (o : ChoiceOption) (leaf : ℕ) → ¬ (TakesFirst self.now leaf claims.now o) }
+    {
+        // what the fields keep says that the leaves of options have a place
+        let _ = &self.plans;
+        LeafSet::new()
     }
 
     /// How many plans there are.

@@ -1,0 +1,10 @@
+use Rattle.std.proofs.Common.{◌≡◌, Some, sym, ◌∙◌}
+use Rattle.leaf_rows.specs.Leaves.{has_leaf}
+use Rattle.flow_excise.specs.Plans.{option_of}
+use Rattle.flow_residual.proofs.PossibleLemmas.{next_of_option, in_words}
+use Rattle.flow_residual.proofs.residual.Residual.next_row.Goals as goal
+
+pub returns : goal.returns
+returns c o at n =
+    let same : option_of c.plan.result.now ≡ o = (let e = sym c.plan.ensures.at ∙ at in cc) in
+    in_words (has_leaf c.next_row.result n) _ _ (c.next_row.ensures n) (next_of_option c.plan.result.now c.args.done.now c.args.self.now.journal c.requires.same o same n)
