@@ -29,13 +29,13 @@ loop-place-preserved c n =
           let o : ChoiceOption = option_of v.plan.result.now in
           let live = (c.is_live.ensures o v.plan.ensures.at).0 v.if-is_live.true in
           let next_is : IsRowOf (MayComeNext v.plan.result.now (IsDone c.done-done.result.now)) v.next_row-next.result = λ x.
-              (let both = next_of_option v.plan.result.now c.done-done.result.now r.journal c.done-done.ensures.same o refl x in
-              in_words (has_leaf v.next_row-next.result x) _ _ (v.next_row-next.ensures o v.plan.ensures.at x) (both.1, both.0)) in
+          (let both = next_of_option v.plan.result.now c.done-done.result.now r.journal c.done-done.ensures.same o refl x in
+          in_words (has_leaf v.next_row-next.result x) _ _ (v.next_row-next.ensures o v.plan.ensures.at x) (both.1, both.0)) in
           subst (λ (found : LeafSet 16). IsTrue (has_leaf found n) ↔ SomeBelow (TakesAll r (c.args.claims.now ++ n ∷ [])) r.options (k + 1)) (sym v.found-is)
           (some_more (TakesAll r (c.args.claims.now ++ n ∷ [])) r.options k o (has_leaf v.add_beside-found.result n) (has_leaf c.loop-place.found n) v.plan.ensures.at
           (adds_live (has_leaf v.add_beside-found.result n) (has_leaf c.loop-place.found n) _ _ _ live
-              (v.add_beside-found.ensures c.done-done.result.now c.args.claims.now next_is c.in-Some.ensures.some.1 c.in-Some.ensures.some.0 n)
-              (all_come_next v.plan.result.now c.done-done.result.now r.journal c.done-done.ensures.same c.args.claims.now n))
+          (v.add_beside-found.ensures c.done-done.result.now c.args.claims.now next_is c.in-Some.ensures.some.1 c.in-Some.ensures.some.0 n)
+          (all_come_next v.plan.result.now c.done-done.result.now r.journal c.done-done.ensures.same c.args.claims.now n))
           (c.loop-place.invariant n))
       | else-is_live v ↦
           some_still (TakesAll r (c.args.claims.now ++ n ∷ [])) r.options k (has_leaf c.if-is_live.found n) (has_leaf c.loop-place.found n) (ap (λ (found : LeafSet 16). has_leaf found n) v.found-is)

@@ -39,7 +39,7 @@ loop-place-preserved c n =
           subst (λ (found : LeafSet 16). IsTrue (has_leaf found n) ↔ SomeBelow (TakesFirst r n c.args.claims.now) r.options (k + 1)) (sym v.found-is)
           (some_more (TakesFirst r n c.args.claims.now) r.options k o (has_leaf v.add_first-found.result n) (has_leaf c.loop-place.found n) v.plan.ensures.at
           (adds_first (has_leaf v.add_first-found.result n) (has_leaf c.loop-place.found n) _ _ _ _ live (v.add_first-found.ensures n)
-              (takes_first_after v.plan.result.now c.done-done.result.now r.journal c.done-done.ensures.same n c.args.claims.now))
+          (takes_first_after v.plan.result.now c.done-done.result.now r.journal c.done-done.ensures.same n c.args.claims.now))
           (c.loop-place.invariant n))
       | else-is_live v ↦
           some_still (TakesFirst r n c.args.claims.now) r.options k (has_leaf c.if-is_live.found n) (has_leaf c.loop-place.found n) (ap (λ (found : LeafSet 16). has_leaf found n) v.found-is)
