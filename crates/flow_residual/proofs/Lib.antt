@@ -5,3 +5,4 @@ pub mod KeptLemmas
 pub mod OptionLemmas
 pub mod PossibleLemmas
 pub mod FewLemmas
+pub mod RowLemmas

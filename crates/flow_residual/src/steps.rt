@@ -77,15 +77,4 @@ impl Residual {
         }
         found
     }
-
-    /// The leaves that may come next in the plan at that place.
-    fn next_row(&self, place: usize, done: &Progress) -> LeafSet<16>
-        requires place { place < length self.now.options }
-        requires bound { bound_of done.now ≡ 1024 }
-        requires same { (n : ℕ) → IsDone done.now n ↔ (n ∈ self.now.journal) }
-        ensures { (o : ChoiceOption) → slice_get self.now.options place ≡ Some o →
-            IsRowOf (IsReady o.resolution o.order (λ n. n ∈ self.now.journal)) result }
-    {
-        self.plan(place).next_row(done)
-    }
 }

@@ -26,7 +26,8 @@ add_first-found-requires-clause-fits c = rw c.done-done.ensures.bound (c.plan.en
 pub add_first-found-requires-clause-next : goal.add_first-found-requires-clause-next
 add_first-found-requires-clause-next c n =
     let both = next_of_option c.plan.result.now c.done-done.result.now c.args.self.now.journal c.done-done.ensures.same (option_of c.plan.result.now) refl n in
-    in_words (has_leaf c.next_row-next.result n) _ _ (c.next_row-next.ensures (option_of c.plan.result.now) c.plan.ensures.at n) (both.1, both.0)
+    let live = (c.is_live.ensures (option_of c.plan.result.now) c.plan.ensures.at).0 c.if-is_live.true in
+    in_words (has_leaf c.next_row-next.result n) _ _ (c.next_row-next.ensures (option_of c.plan.result.now) c.plan.ensures.at live.journal_ready n) (both.1, both.0)
 
 pub loop-place-preserved : goal.loop-place-preserved
 loop-place-preserved c n =
