@@ -29,13 +29,8 @@ loop-place-preserved c n =
           let o : ChoiceOption = option_of v.plan.result.now in
           let live = (c.is_live.ensures o v.plan.ensures.at).0 v.if-is_live.true in
           let next_is : IsRowOf (MayComeNext v.plan.result.now (IsDone c.done-done.result.now)) v.next_row-next.result = λ x.
-<<<<<<< HEAD
           (let both = next_of_option v.plan.result.now c.done-done.result.now r.journal c.done-done.ensures.same o refl x in
-          in_words (has_leaf v.next_row-next.result x) _ _ (v.next_row-next.ensures o v.plan.ensures.at x) (both.1, both.0)) in
-=======
-              (let both = next_of_option v.plan.result.now c.done-done.result.now r.journal c.done-done.ensures.same o refl x in
-              in_words (has_leaf v.next_row-next.result x) _ _ (v.next_row-next.ensures o v.plan.ensures.at live.journal_ready x) (both.1, both.0)) in
->>>>>>> 25b9b227e23eabd55c8be15b55add1fdc92474a3
+          in_words (has_leaf v.next_row-next.result x) _ _ (v.next_row-next.ensures o v.plan.ensures.at live.journal_ready x) (both.1, both.0)) in
           subst (λ (found : LeafSet 16). IsTrue (has_leaf found n) ↔ SomeBelow (TakesAll r (c.args.claims.now ++ n ∷ [])) r.options (k + 1)) (sym v.found-is)
           (some_more (TakesAll r (c.args.claims.now ++ n ∷ [])) r.options k o (has_leaf v.add_beside-found.result n) (has_leaf c.loop-place.found n) v.plan.ensures.at
           (adds_live (has_leaf v.add_beside-found.result n) (has_leaf c.loop-place.found n) _ _ _ live
