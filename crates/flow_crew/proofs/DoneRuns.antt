@@ -13,11 +13,11 @@ use Rattle.flow_model.specs.declared.history.Step.{Step}
 use Rattle.flow_model.specs.declared.history.Step.TheVariants.{Took, Done, Failed, Late, Did, Rewound, Committed}
 use Rattle.flow_model.specs.declared.labels.Note.{Note}
 use Rattle.flow_model.specs.declared.labels.Note.TheVariants as note
-use Rattle.flow_model.specs.Lists.{◌∈◌, Each, Begins, numbers_from}
+use Rattle.flow_model.specs.Lists.{◌∈◌, Each, numbers_from}
 use Rattle.flow_model.specs.Facts.{event_at}
-use Rattle.flow_model.specs.Schema.{Schema, IsGood, IsEventLeaf}
-use Rattle.flow_model.specs.Run.{Claim, RunState, first_state, state_of, state_after, next_state, current_leaves, claim_at, leaf_of_claim, answer, IsCurrent, IsLapsed, IsAllowed, IsLegal, IsLegalFrom}
-use Rattle.flow_model.specs.Verdict.{EndsKept, IsRunStep, call_of, event_of_claim, note_of}
+use Rattle.flow_model.specs.Schema.{Schema, IsGood}
+use Rattle.flow_model.specs.Run.{Claim, RunState, first_state, state_of, next_state, current_leaves, claim_at, leaf_of_claim, IsCurrent, IsAllowed, IsLegal, IsLegalFrom}
+use Rattle.flow_model.specs.Verdict.{EndsKept, IsRunStep, call_of}
 use Rattle.flow_laws.specs.Words.{IsWellFormed, IsConsistent}
 use Rattle.flow_laws.specs.Histories.{IsSound, NeverWaits}
 use Rattle.flow_laws.proofs.ListLemmas1.{order_same}
@@ -173,8 +173,7 @@ module _ (gives : Call → Outcome → Bool) (w : Schema) (formed : IsWellFormed
         let next = state_after-append w first_state earlier e in
         let after = plain_next w (state_of w earlier) (length earlier) sound k going e.step step may in
         let long = length-append earlier (e ∷ []) in
-        plain_from later (earlier ++ e ∷ []) (made + 1) (is ∙ sym (append_assoc earlier (e ∷ []) later))
-        (
+        plain_from later (earlier ++ e ∷ []) (made + 1) (is ∙ sym (append_assoc earlier (e ∷ []) later)) (
           each-append IsPlain earlier (e ∷ []) plain (step, tt),
           subst (λ n. IsPlainState (state_of w (earlier ++ e ∷ [])) n) (sym long) (subst (λ s. IsPlainState s (length earlier + 1)) (sym next) after),
         )

@@ -1,10 +1,10 @@
 -- The leaves that wait where a run is stuck make a list.
-use Rattle.std.proofs.Common.{◌≡◌, ◌≢◌, ◌≤◌, ◌<◌, ◌+◌, ◌↔◌, ℕ, zero, suc, List, [], ◌∷◌, ◌++◌, length, map, Option, Some, None, refl, sym, ap, subst, inl, inr, arith}
-use Rattle.flow_model.specs.Lists.{◌∈◌, IsOrderOf}
+use Rattle.std.proofs.Common.{◌≡◌, ◌≢◌, ◌≤◌, ◌<◌, ◌+◌, ℕ, zero, suc, List, [], ◌∷◌, ◌++◌, length, map, Option, Some, None, refl, sym, ap, subst, inl, inr, arith}
+use Rattle.flow_model.specs.Lists.{◌∈◌}
 use Rattle.flow_model.specs.Facts.{event_at}
 use Rattle.flow_model.specs.Schema.{Schema, IsOtherLeaf}
 use Rattle.flow_model.specs.Decided.{Decided, decide_both, decide_eq, decide_all_follow, cons_same, order_of_none}
-use Rattle.flow_model.specs.Run.{Claim, RunState, current_leaves, MayFollow, MayAllFollow, MayFollowFirst, CanDoAside, IsStuck, Waits}
+use Rattle.flow_model.specs.Run.{Claim, RunState, current_leaves, MayFollow, MayFollowFirst, CanDoAside, IsStuck, Waits}
 use Rattle.flow_model.specs.Verdict.{AreJust}
 use Rattle.flow_laws.proofs.ListLemmas2.{order_of_one, same_order}
 
