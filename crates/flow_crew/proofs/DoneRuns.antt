@@ -13,16 +13,16 @@ use Rattle.flow_model.specs.declared.history.Step.{Step}
 use Rattle.flow_model.specs.declared.history.Step.TheVariants.{Took, Done, Failed, Late, Did, Rewound, Committed}
 use Rattle.flow_model.specs.declared.labels.Note.{Note}
 use Rattle.flow_model.specs.declared.labels.Note.TheVariants as note
-use Rattle.flow_model.specs.Lists.{◌∈◌, Each, numbers_from}
+use Rattle.flow_model.specs.Lists.{Each}
 use Rattle.flow_model.specs.Facts.{event_at}
-use Rattle.flow_model.specs.Schema.{Schema, IsGood}
+use Rattle.flow_model.specs.Schema.{Schema}
 use Rattle.flow_model.specs.Run.{Claim, RunState, first_state, state_of, next_state, current_leaves, claim_at, leaf_of_claim, IsCurrent, IsAllowed, IsLegal, IsLegalFrom}
 use Rattle.flow_model.specs.Verdict.{EndsKept, IsRunStep, call_of}
 use Rattle.flow_laws.specs.Words.{IsWellFormed, IsConsistent}
 use Rattle.flow_laws.specs.Histories.{IsSound, NeverWaits}
 use Rattle.flow_laws.proofs.ListLemmas1.{order_same}
-use Rattle.flow_laws.proofs.ListLemmas2.{each-append, each_parts, numbers_from_below}
-use Rattle.flow_laws.proofs.TraceLeaves.{leaf_of_trace, distinct_trace}
+use Rattle.flow_laws.proofs.ListLemmas2.{each-append, each_parts}
+use Rattle.flow_laws.proofs.TraceLeaves.{distinct_trace}
 use Rattle.flow_laws.proofs.OptionsLemmas.{distinct_leaves}
 use Rattle.flow_laws.proofs.ClaimLemmas.{leaf_of, is_of, and_parts, some_claim}
 use Rattle.flow_laws.proofs.SoundStates.{taken_of_current, event_of_taken}
@@ -30,6 +30,8 @@ use Rattle.flow_laws.proofs.NeverAtALoss.{sound_state, never_stuck}
 use Rattle.flow_excise.proofs.RingLemmas.{at_most}
 use Rattle.flow_core.specs.Run.{Run, schema, now}
 use Rattle.flow_core.proofs.Steps.{state_after-append}
+use Rattle.flow_core.proofs.Following.{within_free}
+use Rattle.flow_core.proofs.Calls.{number_in, note_in}
 use Rattle.flow_gate.specs.Outcomes.{is_same, announced, outcome_by}
 use Rattle.flow_crew.specs.declared.ends.End.{End}
 use Rattle.flow_crew.specs.declared.ends.End.TheVariants as end
@@ -65,15 +67,10 @@ few_leaves : (w : Schema) → IsWellFormed w → (s : RunState) → IsSound w s 
 few_leaves w f s sound =
     let (o, m, follow) = sound.extends in
     let (t, trace, free, (rest, is)) = follow (current_leaves s) (order_same (current_leaves s)) in
-    let most : length t ≤ length w.labels = at_most (length w.labels) t (distinct_trace w.goal (distinct_leaves w f) t free.0.0) (λ n m. within t free.0 n m) in
+    let most : length t ≤ length w.labels = at_most (length w.labels) t (distinct_trace w.goal (distinct_leaves w f) t free.0.0) (λ n m. within_free w f s t free n m) in
     let long : length t ≡ length (s.journal ++ current_leaves s) + length rest = ap length is ∙ length-append (s.journal ++ current_leaves s) rest in
     let both : length (s.journal ++ current_leaves s) ≡ length s.journal + length (current_leaves s) = length-append s.journal (current_leaves s) in
     omega arith
-  where
-    within : (t : List ℕ) → IsGood w t → (n : ℕ) → n ∈ t → n < length w.labels
-    within t good n m =
-        let l : n ∈ numbers_from 0 (length w.labels) = subst (λ ls. n ∈ ls) f.numbered (leaf_of_trace w.goal t good.0 n m) in
-        omega (arith, numbers_from_below 0 (length w.labels) n l)
 
 -- No epoch has ended. Each leaf that counts stands for two entries at most, and each that is out for one.
 record IsPlainState (s : RunState) (made : ℕ) : Type 0 where
@@ -119,10 +116,6 @@ not_kept : (w : Schema) (history : List Entry) → Each IsPlain history → (lea
 not_kept w history plain leaf (earlier, (entry, (claim, is, kept, on))) =
     let parts = each_parts IsPlain earlier (entry ∷ []) (subst (Each IsPlain) is plain) in
     subst IsPlainStep kept parts.1.0
-
-abbrev number_in : Option ℕ → ℕ
-number_in None = 0
-number_in (Some e) = e
 
 some_event : (o : Option ℕ) → IsTrue (is_some o) → o ≡ Some (number_in o)
 some_event None h = absurd (true≢false (sym h))
@@ -203,10 +196,6 @@ module _ (gives : Call → Outcome → Bool) (r : Run) (all : AllSucceeds gives 
       absurd (omega arith)
 
 -- ---- declarations
-
-abbrev note_in : Option Note → Note
-note_in None = note.Done
-note_in (Some n) = n
 
 done_note : (notes : List Note) → Each (λ (noted : Note). noted ≡ note.Done) notes → (event : ℕ) → note_in (slice_get notes event) ≡ note.Done
 done_note [] done event = refl
