@@ -1,7 +1,7 @@
 -- A run whose tasks all succeed comes to a commit.
-use Rattle.std.proofs.Common.{◌≡◌, ◌≤◌, ◌<◌, ◌+◌, ◌*◌, ℕ, zero, suc, Bool, true, false, cond, not, ◌&&◌, nat_lt, IsTrue, is_some, List, [], ◌∷◌, ◌++◌, map, length, filter, Option, Some, None, slice_get, refl, sym, ap, ◌∙◌, subst, inl, inr, arith, true≢false, append-nil, append_assoc, length-append}
-use Rattle.std.proofs.lemmas.Bool.{eq-eqb, ltb-true}
-use Rattle.std.proofs.lemmas.List.{map-append}
+use Rattle.std.proofs.Common.{◌≡◌, ◌≤◌, ◌<◌, ◌+◌, ◌*◌, ℕ, zero, suc, Bool, true, false, cond, not, ◌&&◌, nat_lt, IsTrue, is_some, List, [], ◌∷◌, ◌++◌, map, length, filter, Option, Some, None, slice_get, refl, sym, ap, ◌∙◌, subst, inl, inr, arith, true≢false, append-nil, append_assoc, length-append, ◌==◌, nat_le, ◌≢◌, if◌then◌else◌}
+use Rattle.std.proofs.lemmas.Bool.{eq-eqb, ltb-true, eqb-true, le-leb, lt-leb}
+use Rattle.std.proofs.lemmas.List.{map-append, nil_from_length}
 use Rattle.std.proofs.lemmas.List.Elements.{filter-append}
 use Rattle.flow_model.specs.declared.history.Call.{Call}
 use Rattle.flow_model.specs.declared.history.Entry.{Entry}
@@ -13,19 +13,19 @@ use Rattle.flow_model.specs.declared.history.Step.{Step}
 use Rattle.flow_model.specs.declared.history.Step.TheVariants.{Took, Done, Failed, Late, Did, Rewound, Committed}
 use Rattle.flow_model.specs.declared.labels.Note.{Note}
 use Rattle.flow_model.specs.declared.labels.Note.TheVariants as note
-use Rattle.flow_model.specs.Lists.{Each}
-use Rattle.flow_model.specs.Facts.{event_at}
-use Rattle.flow_model.specs.Schema.{Schema}
-use Rattle.flow_model.specs.Run.{Claim, RunState, first_state, state_of, next_state, current_leaves, claim_at, leaf_of_claim, IsCurrent, IsAllowed, IsLegal, IsLegalFrom}
-use Rattle.flow_model.specs.Verdict.{EndsKept, IsRunStep, call_of}
+use Rattle.flow_model.specs.Lists.{◌∈◌, Each}
+use Rattle.flow_model.specs.Facts.{event_at, is_event}
+use Rattle.flow_model.specs.Schema.{Schema, IsEventLeaf}
+use Rattle.flow_model.specs.Run.{Claim, RunState, first_state, state_of, next_state, current_leaves, claim_at, leaf_of_claim, IsCurrent, IsAllowed, IsLegal, IsLegalFrom, is_current}
+use Rattle.flow_model.specs.Verdict.{EndsKept, IsRunStep, call_of, attempts, event_of_claim}
 use Rattle.flow_laws.specs.Words.{IsWellFormed, IsConsistent}
 use Rattle.flow_laws.specs.Histories.{IsSound, NeverWaits}
 use Rattle.flow_laws.proofs.ListLemmas1.{order_same}
-use Rattle.flow_laws.proofs.ListLemmas2.{each-append, each_parts}
+use Rattle.flow_laws.proofs.ListLemmas2.{each-append, each_parts, each_member, of_find}
 use Rattle.flow_laws.proofs.TraceLeaves.{distinct_trace}
 use Rattle.flow_laws.proofs.OptionsLemmas.{distinct_leaves}
-use Rattle.flow_laws.proofs.ClaimLemmas.{leaf_of, is_of, and_parts, some_claim}
-use Rattle.flow_laws.proofs.SoundStates.{taken_of_current, event_of_taken}
+use Rattle.flow_laws.proofs.ClaimLemmas.{leaf_of, is_of, and_parts, some_claim, leaf_of_claim_is}
+use Rattle.flow_laws.proofs.SoundStates.{taken_of_current}
 use Rattle.flow_laws.proofs.NeverAtALoss.{sound_state, never_stuck}
 use Rattle.flow_excise.proofs.RingLemmas.{at_most}
 use Rattle.flow_core.specs.Run.{Run, schema, now}
@@ -37,7 +37,9 @@ use Rattle.flow_crew.specs.declared.ends.End.{End}
 use Rattle.flow_crew.specs.declared.ends.End.TheVariants as end
 use Rattle.flow_crew.specs.Ends.{IsEnd}
 use Rattle.flow_crew.proofs.Histories.{AreRunSteps}
-use Rattle.flow_crew.specs.Done.{IsPlainStep, IsCallFor, NeverFails, AllSucceeds}
+use Rattle.flow_crew.specs.Done.{IsPlainStep, IsCallFor, NeverFails, AllSucceeds, DeclaresSuccess}
+use Rattle.std.proofs.lemmas.List.Sums.{length-filter}
+use Rattle.flow_core.proofs.Waiting.{left_in}
 
 -- ---- how many entries the leaves allow
 
@@ -122,9 +124,28 @@ some_event None h = absurd (true≢false (sym h))
 some_event (Some e) h = refl
 
 -- what is asked for a claim that is out is asked for an event of the workflow
-asked_for : (w : Schema) (s : RunState) → IsSound w s → (claim : ℕ) → IsCurrent s claim → IsCallFor w (call_of w s claim)
-asked_for w s sound claim current =
-    (some_event (event_at w.labels (leaf_of_claim s claim)) (event_of_taken w s sound claim (taken_of_current w s sound claim current)), refl)
+asked_for : (w : Schema) (s : RunState) → IsSound w s → (number : ℕ) → IsCurrent s number → IsCallFor w (call_of w s number)
+asked_for w s sound number current =
+    let (claim, found, told) = some_claim (λ (c : Claim). IsTrue (is_current s c)) (claim_at s number) current in
+    let (given, named) = of_find (λ (c : Claim). c.number == number) s.claims claim found in
+    let leaf : leaf_of_claim s number ≡ claim.leaf = leaf_of_claim_is s number claim found in
+    let on_event : IsEventLeaf w claim.leaf = each_member (λ (c : Claim). IsEventLeaf w c.leaf) s.claims sound.on_events claim given in
+    let event : event_at w.labels (leaf_of_claim s number) ≡ Some (event_of_claim w s number) =
+    some_event (event_at w.labels (leaf_of_claim s number)) (subst (IsEventLeaf w) (sym leaf) on_event) in
+    (event, refl, tried claim given (eqb-true claim.number number named) (ap (event_at w.labels) (sym leaf) ∙ event))
+  where
+    tried : (claim : Claim) → claim ∈ s.claims → claim.number ≡ number → event_at w.labels claim.leaf ≡ Some (event_of_claim w s number) →
+        1 ≤ attempts w s (event_of_claim w s number) number
+    tried claim given named event =
+        let counts : (nat_le claim.number number && is_event (event_of_claim w s number) (event_at w.labels claim.leaf)) ≡ true =
+        ap (λ b. b && is_event (event_of_claim w s number) (event_at w.labels claim.leaf)) (le-leb claim.number number (omega (arith, named)))
+        ∙ ap (is_event (event_of_claim w s number)) event ∙ eq-eqb (event_of_claim w s number) (event_of_claim w s number) refl in
+        let some : attempts w s (event_of_claim w s number) number ≢ 0 =
+        λ none. left_in counted s.claims claim given counts (nil_from_length (filter counted s.claims) (length-filter counted s.claims ∙ none)) in
+        omega arith
+      where
+        counted : Claim → Bool
+        counted c = nat_le c.number number && is_event (event_of_claim w s number) (event_at w.labels c.leaf)
 
 module _ (gives : Call → Outcome → Bool) (w : Schema) (formed : IsWellFormed w) (never_waits : Each NeverWaits w.labels) (never_fails : NeverFails gives w) where
   abbrev MayGive : Call → Outcome → Type 0
@@ -197,10 +218,16 @@ module _ (gives : Call → Outcome → Bool) (r : Run) (all : AllSucceeds gives 
 
 -- ---- declarations
 
-done_note : (notes : List Note) → Each (λ (noted : Note). noted ≡ note.Done) notes → (event : ℕ) → note_in (slice_get notes event) ≡ note.Done
-done_note [] done event = refl
-done_note (n ∷ notes) (is, done) zero = is
-done_note (n ∷ notes) (is, done) (suc event) = done_note notes done event
+declared : (notes : List Note) → Each DeclaresSuccess notes → (event : ℕ) → DeclaresSuccess (note_in (slice_get notes event))
+declared [] all event = tt
+declared (n ∷ notes) (is, all) zero = is
+declared (n ∷ notes) (is, all) (suc event) = declared notes all event
 
-pub notes_never_fail : (w : Schema) → Each (λ (noted : Note). noted ≡ note.Done) w.notes → NeverFails (λ call answer. is_same answer (announced call)) w
-notes_never_fail w done call (at, noted) = ap (λ n. is_same outcome.Failed (outcome_by n call.attempt)) (noted ∙ done_note w.notes done call.event)
+never_failed : (n : Note) → DeclaresSuccess n → (attempt : ℕ) → 1 ≤ attempt → is_same outcome.Failed (outcome_by n attempt) ≡ false
+never_failed note.Done is attempt some = refl
+never_failed note.Fail is attempt some = absurd is
+never_failed (note.FailFirst count) is attempt some =
+    ap (λ b. is_same outcome.Failed (if b then outcome.Failed else outcome.Done)) (lt-leb attempt count (omega (arith, is, some)))
+
+pub as_declared : (w : Schema) → Each DeclaresSuccess w.notes → NeverFails (λ call answer. is_same answer (announced call)) w
+as_declared w all call (at, noted, some) = never_failed call.note (subst DeclaresSuccess (sym noted) (declared w.notes all call.event)) call.attempt some

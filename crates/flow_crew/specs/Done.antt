@@ -31,9 +31,9 @@ IsPlainStep (Did leaf) = Unit {0}
 IsPlainStep (Rewound index) = ⊥
 IsPlainStep Committed = Unit {0}
 
--- the call is for an event of the workflow, with what its declaration notes
+-- the call is for an event of the workflow, with what its declaration notes; attempts are counted from 1
 abbrev pub IsCallFor : Schema → Call → Type 0
-IsCallFor w call = (event_at w.labels call.leaf ≡ Some call.event) × (call.note ≡ note_of w call.event)
+IsCallFor w call = (event_at w.labels call.leaf ≡ Some call.event) × (call.note ≡ note_of w call.event) × (1 ≤ call.attempt)
 
 -- no such call fails
 abbrev pub NeverFails : (Call → Outcome → Bool) → Schema → Type 0
@@ -55,6 +55,12 @@ abbrev pub DoneRunsCommit : Type 0
 DoneRunsCommit = (gives : Call → Outcome → Bool) (r : Run) → AllSucceeds gives r → 2 * length (schema r).labels + 1 ≤ r.limit →
     (found : End) → IsEnd r found → found ≡ end.Committed
 
--- a gate that goes by the declarations, where each declares success
-abbrev pub DoneNotesNeverFail : Type 0
-DoneNotesNeverFail = (w : Schema) → Each (λ (noted : Note). noted ≡ note.Done) w.notes → NeverFails (λ call answer. is_same answer (announced call)) w
+-- a task whose event is declared so succeeds at each attempt
+abbrev pub DeclaresSuccess : Note → Type 0
+DeclaresSuccess note.Done = Unit {0}
+DeclaresSuccess note.Fail = ⊥
+DeclaresSuccess (note.FailFirst count) = count ≡ 0
+
+-- a gate that goes by the declarations
+abbrev pub SuccessIsAsDeclared : Type 0
+SuccessIsAsDeclared = (w : Schema) → Each DeclaresSuccess w.notes → NeverFails (λ call answer. is_same answer (announced call)) w
