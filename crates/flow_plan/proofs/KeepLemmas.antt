@@ -1,11 +1,8 @@
 -- Leaves that a part keeps.
-use Rattle.std.proofs.Common.{◌≡◌, ℕ, Bool, true, false, not, cond, ◌&&◌, ◌↔◌, IsTrue, [], ◌∷◌, Option, None, Some, inl, inr, ◌⊎◌, ⊎_elim, refl, sym, ap, ◌∙◌, subst}
-use Rattle.std.proofs.lemmas.Bool.{cases_Bool, cases_eq}
+use Rattle.std.proofs.Common.{◌≡◌, ℕ, Bool, true, false, cond, ◌&&◌, ◌↔◌, IsTrue, refl, sym, ◌∙◌}
 use Rattle.leaf_rows.specs.Leaves.{has_leaf}
-use Rattle.leaf_rows.specs.declared.leaf_set.LeafSet.{LeafSet}
-use Rattle.flow_model.specs.Ready.{DoneOr}
 use Rattle.flow_plan.specs.declared.part_row.PartRow.{PartRow}
-use Rattle.flow_plan.specs.Parts.{PartAllows, KeepsTogether, KeepsBeside, KeepsAfter}
+use Rattle.flow_plan.specs.Parts.{PartAllows}
 
 -- what is kept, where the two tests say P of what is inside and of what is not
 pub kept_where : (new has inside inner outer : Bool) (P : Type 0) → new ≡ (has && cond inside inner outer) →
