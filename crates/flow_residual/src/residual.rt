@@ -15,8 +15,8 @@ ghost use Rattle.leaf_rows.specs.Leaves.{has_leaf};
 ghost use Rattle.flow_residual.specs.Possible.{TakesAll, TakesFirst};
 
 use crate::ban::{Ban, add_ban, holds, is_above, no_bans, rewind_bans};
-use crate::rows::{fill_rows, no_rows};
 use crate::fronts::{lengthen, no_fronts, progress_of, shorten};
+use crate::rows::{fill_rows, no_rows};
 use flow_excise::Compiled;
 use flow_plan::{KnotFree, Plan, Progress};
 use leaf_rows::LeafSet;

@@ -1,5 +1,5 @@
 use Rattle.std.proofs.Common.{◌≡◌, ℕ, List, length, sym, ap, ◌∙◌, subst, subst₂}
-use Rattle.std.specs.Vec.{vec_len, with_items}
+use Rattle.std.specs.Vec.{with_items}
 use Rattle.std.proofs.lemmas.List.{with_items_is}
 use Rattle.leaf_rows.specs.declared.leaf_set.LeafSet.{LeafSet}
 use Rattle.flow_plan.specs.Sampled.{Sampled}
@@ -14,7 +14,7 @@ invariant_of-self c =
     let same : length c.fill_rows.new.rows ≡ length i.rows.items = c.fill_rows.ensures.one_each ∙ ap length c.deref_mut.ensures.value in
     let written : (with_items i.rows c.fill_rows.new.rows).items ≡ c.fill_rows.new.rows = with_items_is i.rows c.fill_rows.new.rows (same ∙ sym i.rows.ok.0) in
     let next : AreNext (options_of i.plans.items) i.journal.items c.fill_rows.new.rows =
-        subst₂ (λ (plans : List Sampled) (journal : List ℕ). AreNext (options_of plans) journal c.fill_rows.new.rows) c.deref.ensures.value c.deref-then-not-self-2.ensures.value c.fill_rows.ensures.next in
+    subst₂ (λ (plans : List Sampled) (journal : List ℕ). AreNext (options_of plans) journal c.fill_rows.new.rows) c.deref.ensures.value c.deref-then-not-self-2.ensures.value c.fill_rows.ensures.next in
     record {
       kept = k.kept;
       least = k.least;
