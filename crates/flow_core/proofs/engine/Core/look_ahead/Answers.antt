@@ -1,4 +1,4 @@
-use Rattle.std.proofs.Common.{◌↔◌, ◌∷◌, [], ◌++◌, IsTrue, subst, sym, ◌∙◌}
+use Rattle.std.proofs.Common.{subst, sym}
 use Rattle.leaf_rows.specs.Leaves.{has_leaf}
 use Rattle.flow_model.specs.Run.{RunState, state_of}
 use Rattle.flow_workflow.specs.Definition.{schema_of}

@@ -1,6 +1,5 @@
-use Rattle.std.proofs.Common.{◌↔◌, ◌∷◌, [], ◌++◌, IsTrue, subst, sym, ◌∙◌}
-use Rattle.leaf_rows.specs.Leaves.{has_leaf}
-use Rattle.flow_model.specs.Run.{state_of, current_leaves, MayAllFollow, MayFollowFirst}
+use Rattle.std.proofs.Common.{◌↔◌, ◌∷◌, [], ◌++◌, IsTrue, subst, sym}
+use Rattle.flow_model.specs.Run.{state_of, current_leaves, MayAllFollow}
 use Rattle.flow_workflow.specs.Definition.{schema_of}
 use Rattle.flow_core.specs.Run.{Run, schema, now}
 use Rattle.flow_core.proofs.Tests.{told_beside}

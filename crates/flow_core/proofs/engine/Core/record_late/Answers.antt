@@ -1,6 +1,6 @@
 use Rattle.std.proofs.Common.{◌≡◌, ◌<◌, ◌≤◌, false, List, length, subst, subst₂, sym, true≢false}
 use Rattle.flow_model.specs.declared.history.Entry.{Entry}
-use Rattle.flow_model.specs.Run.{RunState, state_of, answer, IsLapsed}
+use Rattle.flow_model.specs.Run.{RunState, state_of, IsLapsed}
 use Rattle.flow_workflow.specs.Definition.{schema_of}
 use Rattle.flow_claims.specs.Claimed.{Claimed}
 use Rattle.flow_core.specs.Run.{Run, now, GoesOn, HasSteps}
