@@ -1,22 +1,19 @@
 -- What may come next in a plan, for all its leaves at once.
-use Rattle.std.proofs.Common.{◌≡◌, ◌≢◌, ℕ, ◌+◌, ◌<◌, ◌≤◌, zero, suc, Bool, true, false, not, ◌==◌, ◌&&◌, ◌||◌, ◌↔◌, IsTrue, eq-eqb, eqb-true, List, [], ◌∷◌, ◌++◌, length, take, get_or, Some, slice_get, inl, inr, ◌⊎◌, ⊎_elim, refl, sym, ap, ◌∙◌, subst, arith}
+use Rattle.std.proofs.Common.{◌≡◌, ℕ, ◌+◌, ◌<◌, zero, suc, Bool, true, false, not, ◌==◌, ◌&&◌, ◌||◌, ◌↔◌, IsTrue, eq-eqb, eqb-true, List, [], ◌∷◌, ◌++◌, length, take, get_or, Some, slice_get, inl, inr, ◌⊎◌, ⊎_elim, refl, sym, ap, ◌∙◌, subst, arith}
 use Rattle.std.proofs.lemmas.List.{take_more}
-use Rattle.std.proofs.lemmas.Bool.{cases_Bool, cases_lt}
+use Rattle.std.proofs.lemmas.Bool.{cases_lt}
 use Rattle.leaf_rows.specs.Leaves.{has_leaf}
 use Rattle.leaf_rows.specs.declared.leaf_set.LeafSet.{LeafSet}
 use Rattle.flow_model.specs.Lists.{◌∈◌, Each, AreDistinct}
 use Rattle.flow_model.specs.Ready.{DirectlyBefore, DoneOr}
-use Rattle.flow_model.specs.Process.{leaves}
-use Rattle.flow_laws.specs.Words.{EachTwo}
 use Rattle.flow_laws.proofs.ListLemmas1.{split_at}
 use Rattle.flow_laws.proofs.ListLemmas2.{each_member, each_from_members, each_parts, each-append, same_order}
-use Rattle.flow_laws.proofs.OrdersByTwo.{pairs_suffice_for_orders}
 use Rattle.flow_laws.proofs.ReadyRuns.{same_ready, same_run}
 use Rattle.flow_plan.specs.declared.part_row.PartRow.{PartRow}
 use Rattle.flow_plan.specs.declared.progress.Progress.{Progress}
 use Rattle.flow_plan.specs.Planned.{Planned, pairs_of}
 use Rattle.flow_plan.specs.Progress.{is_done, IsDone}
-use Rattle.flow_plan.specs.Orders.{IsFree, MayComeNext, MayComeAfter, MayFollowInEveryOrder}
+use Rattle.flow_plan.specs.Orders.{MayComeNext, MayFollowInEveryOrder}
 use Rattle.flow_plan.specs.Rows.{IsRowOf, IsFreeAt, has_at}
 use Rattle.flow_plan.specs.Parts.{PartAllows, KeepsBeside, KeepsAfter}
 use Rattle.flow_plan.specs.Kept.{IsKept}

@@ -1,5 +1,5 @@
 -- The rows of what may come next, plan by plan.
-use Rattle.std.proofs.Common.{◌≡◌, ◌≢◌, ℕ, zero, suc, ◌+◌, ◌<◌, ◌≤◌, ◌↔◌, IsTrue, List, [], ◌∷◌, length, set, Some, slice_get, refl, sym, ap, ◌∙◌, subst, below_more, arith}
+use Rattle.std.proofs.Common.{◌≡◌, ◌≢◌, ℕ, zero, suc, ◌+◌, ◌<◌, ◌↔◌, IsTrue, List, [], ◌∷◌, length, set, Some, slice_get, refl, sym, ap, subst, below_more, arith}
 use Rattle.flow_model.specs.Lists.{◌∈◌}
 use Rattle.flow_model.specs.Ready.{IsReady, IsReadyRun}
 use Rattle.flow_model.specs.Resolution.{ChoiceOption}

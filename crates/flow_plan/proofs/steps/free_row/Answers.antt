@@ -1,5 +1,4 @@
-use Rattle.std.proofs.Common.{◌≡◌, ◌<◌, ◌+◌, ℕ, IsTrue, Some, length, slice_get, get_or, subst, sym, ◌∙◌, arith}
-use Rattle.leaf_rows.specs.Leaves.{has_leaf}
+use Rattle.std.proofs.Common.{◌≡◌, ◌<◌, ◌+◌, ℕ, Some, length, slice_get, get_or, subst, sym, ◌∙◌, arith}
 use Rattle.leaf_rows.specs.declared.leaf_set.LeafSet.{LeafSet}
 use Rattle.flow_plan.specs.Progress.{IsDone}
 use Rattle.flow_plan.specs.Rows.{IsRowOf, IsFreeAt}

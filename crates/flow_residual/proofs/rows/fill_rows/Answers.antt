@@ -1,11 +1,10 @@
-use Rattle.std.proofs.Common.{◌≡◌, ◌+◌, ◌<◌, ◌≤◌, ◌∙◌, ℕ, List, length, get_or, Some, slice_get, sym, ap, subst, arith}
+use Rattle.std.proofs.Common.{◌+◌, ◌<◌, ◌∙◌, ℕ, List, length, get_or, sym, ap, subst, arith}
 use Rattle.leaf_rows.specs.Leaves.{has_leaf}
 use Rattle.leaf_rows.specs.declared.leaf_set.LeafSet.{LeafSet}
 use Rattle.flow_model.specs.Lists.{◌∈◌, Each}
 use Rattle.flow_model.specs.Process.{leaves}
 use Rattle.flow_model.specs.Resolution.{ChoiceOption}
 use Rattle.flow_plan.specs.Planned.{Planned}
-use Rattle.flow_plan.specs.Progress.{bound_of}
 use Rattle.flow_laws.proofs.ListLemmas2.{each_member}
 use Rattle.flow_excise.specs.Compilation.{options_of}
 use Rattle.flow_excise.specs.Plans.{option_of}

@@ -1,4 +1,3 @@
-use Rattle.std.proofs.Common.{◌≡◌, length}
 use Rattle.flow_excise.specs.Compilation.{options_of}
 use Rattle.flow_residual.specs.Fronts.{AreNextBelow}
 use Rattle.flow_residual.proofs.rows.fill_rows.Given as goal

@@ -1,5 +1,4 @@
-use Rattle.std.proofs.Common.{◌≡◌, ℕ, Bool, true, false, cond, ◌&&◌, ◌↔◌, IsTrue, refl, sym, ◌∙◌}
-use Rattle.std.proofs.lemmas.Bool.{cases_Bool}
+use Rattle.std.proofs.Common.{ℕ, true, IsTrue, refl}
 use Rattle.leaf_rows.specs.Leaves.{has_leaf}
 use Rattle.flow_plan.proofs.PartLemmas.{allows_to_begin}
 use Rattle.flow_plan.proofs.KeepLemmas.{fresh_outside, kept_where}

@@ -1,8 +1,7 @@
-use Rattle.std.proofs.Common.{◌≡◌, ℕ, ◌↔◌, ◌⊎◌, ◌∷◌, inl, inr, ⊎_elim, IsTrue, List, subst, sym}
+use Rattle.std.proofs.Common.{ℕ, ◌↔◌, ◌⊎◌, ◌∷◌, inl, ⊎_elim, IsTrue, List, subst, sym}
 use Rattle.leaf_rows.specs.Leaves.{has_leaf}
-use Rattle.flow_model.specs.Lists.{◌∈◌, Each, AreDistinct}
+use Rattle.flow_model.specs.Lists.{Each}
 use Rattle.flow_plan.specs.declared.part_row.PartRow.{PartRow}
-use Rattle.flow_plan.specs.declared.progress.Progress.{Progress}
 use Rattle.flow_plan.specs.Planned.{Planned, planned}
 use Rattle.flow_plan.specs.Progress.{IsDone}
 use Rattle.flow_plan.specs.Orders.{MayComeNext, MayFollowInEveryOrder}

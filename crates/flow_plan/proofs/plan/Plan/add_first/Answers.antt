@@ -1,4 +1,4 @@
-use Rattle.std.proofs.Common.{◌≡◌, ℕ, ◌↔◌, ◌⊎◌, ◌∷◌, [], IsTrue, List, inl, ⊎_elim, subst, sym}
+use Rattle.std.proofs.Common.{ℕ, ◌↔◌, ◌⊎◌, ◌∷◌, [], IsTrue, List, inl, ⊎_elim, subst, sym}
 use Rattle.leaf_rows.specs.Leaves.{has_leaf}
 use Rattle.flow_model.specs.Lists.{Each}
 use Rattle.flow_model.specs.Ready.{DoneOr}

@@ -1,4 +1,4 @@
-use Rattle.std.proofs.Common.{◌≡◌, ℕ, ◌<◌, ◌==◌, ◌||◌, ◌∷◌, [], IsTrue, Option, Some, true≢false, inl, inr, ⊎_elim, eq-eqb, eqb-true, subst, sym, ◌∙◌, arith}
+use Rattle.std.proofs.Common.{◌≡◌, ℕ, ◌<◌, ◌==◌, ◌∷◌, [], IsTrue, Option, Some, true≢false, inl, inr, ⊎_elim, eq-eqb, eqb-true, subst, sym, ◌∙◌, arith}
 use Rattle.leaf_rows.specs.Leaves.{has_leaf}
 use Rattle.flow_model.specs.Ready.{DoneOr}
 use Rattle.flow_plan.specs.Progress.{IsDone}

@@ -1,15 +1,12 @@
-use Rattle.std.proofs.Common.{◌≡◌, ◌≤◌, ◌<◌, ◌↔◌, ◌+◌, ◌⊎◌, ℕ, List, IsTrue, [], ◌∷◌, ◌++◌, length, sym, ap, subst, refl, arith}
+use Rattle.std.proofs.Common.{◌≤◌, ◌↔◌, ◌+◌, IsTrue, length, sym, ap, subst, refl, arith}
 use Rattle.leaf_rows.specs.Leaves.{has_leaf}
 use Rattle.leaf_rows.specs.declared.leaf_set.LeafSet.{LeafSet}
 use Rattle.flow_model.specs.Resolution.{ChoiceOption}
-use Rattle.flow_model.specs.Run.{MayAllFollow, MayFollowFirst}
-use Rattle.flow_plan.specs.Progress.{IsDone}
-use Rattle.flow_plan.specs.Rows.{IsRowOf}
-use Rattle.flow_plan.specs.Orders.{MayComeNext}
+use Rattle.flow_model.specs.Run.{MayFollowFirst}
 use Rattle.flow_excise.specs.Plans.{option_of}
-use Rattle.flow_residual.specs.Possible.{SomeOption, SomeBelow, TakesAll, TakesFirst}
-use Rattle.flow_residual.proofs.OptionLemmas.{some_more, some_still, some_all, adds_live, adds_first, none_at_all}
-use Rattle.flow_residual.proofs.PossibleLemmas.{all_come_next, takes_first_after, may_all_follow, may_follow_first, next_of_option, in_words}
+use Rattle.flow_residual.specs.Possible.{SomeOption, SomeBelow, TakesFirst}
+use Rattle.flow_residual.proofs.OptionLemmas.{some_more, some_still, some_all, adds_first, none_at_all}
+use Rattle.flow_residual.proofs.PossibleLemmas.{takes_first_after, may_follow_first, next_of_option, in_words}
 use Rattle.flow_residual.proofs.residual.Residual.all_first.Goals as goal
 use Rattle.flow_residual.proofs.residual.Residual.all_first.Goals.{then-is_live, else-is_live}
 

@@ -1,4 +1,4 @@
-use Rattle.std.proofs.Common.{ℕ, ◌↔◌, IsTrue, [], ◌∷◌, ◌++◌}
+use Rattle.std.proofs.Common.{ℕ, ◌↔◌, IsTrue}
 use Rattle.leaf_rows.specs.Leaves.{has_leaf}
 use Rattle.flow_residual.specs.Possible.{SomeBelow, TakesFirst}
 use Rattle.flow_residual.proofs.residual.Residual.all_first.Given as goal

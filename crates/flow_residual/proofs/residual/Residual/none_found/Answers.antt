@@ -1,5 +1,4 @@
-use Rattle.std.proofs.Common.{ℕ, ◌<◌, [], ◌∷◌, ◌++◌, subst}
-use Rattle.flow_model.specs.Lists.{Each}
+use Rattle.std.proofs.Common.{ℕ, [], ◌∷◌, ◌++◌, subst}
 use Rattle.flow_model.specs.Resolution.{ChoiceOption}
 use Rattle.flow_residual.specs.Remaining.{Remaining}
 use Rattle.flow_residual.specs.Possible.{TakesAll, TakesFirst}
