@@ -37,7 +37,7 @@ module _ (row : PartRow) (D : ℕ → Type 0) (n first : ℕ) (refused : ¬ Part
   pub missing_outside : In n → (y : ℕ) → IsTrue (has_leaf row.outside y) → ¬ D y → y ≡ first
   missing_outside mine y out fresh = one_of y
       (after.begins mine (λ z z_in either. ⊎_elim (λ done. untouched mine z z_in done)
-          (λ last. ⊎_elim (λ (same : z ≡ first). fresh (next.begins (subst (λ m. IsTrue (has_leaf row.inside m)) same z_in) (untouched mine) y out)) (λ none. absurd none) last) either) y out)
+      (λ last. ⊎_elim (λ (same : z ≡ first). fresh (next.begins (subst (λ m. IsTrue (has_leaf row.inside m)) same z_in) (untouched mine) y out)) (λ none. absurd none) last) either) y out)
       fresh
 
   pub missing_inside : ¬ In n → (y : ℕ) → In y → ¬ D y → y ≡ first

@@ -206,23 +206,31 @@ module _ (p : Planned) (done : Progress) (list : List ℕ) (next claims found re
           (λ k. let both = (keep_is n).0 k in
           let mine = rest_parts next claims found rest rest_is n both.0 in
           let ready = (next_is n).0 mine.0 in
-          inr (ready, orders_at (λ x. x == n || is_done done x) (done_to n) (done_from n)
-          (after_keeps p before parts kept (is_done done) claims list n claims_are (λ m. mine.1 ((claims_are n).1 m)) distinct ready (each_next within) both.1)))
+          inr (
+            ready,
+            orders_at (λ x. x == n || is_done done x) (done_to n) (done_from n)
+                (after_keeps p before parts kept (is_done done) claims list n claims_are (λ m. mine.1 ((claims_are n).1 m)) distinct ready (each_next within) both.1),
+          ))
           ((new_is n).0 has),
       λ either. (new_is n).1 (⊎_elim (λ f. inl f)
           (λ both.
           let other : ¬ (n ∈ list) = first_is_other p (IsDone done) list n both.1 in
-          ⊎_elim (λ r. inr ((keep_is n).1 (r, keeps_after p before parts kept (is_done done) claims list n claims_are other distinct both.0 (each_next within)
-          (λ order is. same_run p.process (pairs_of p.tokens) (DoneOr (IsDone done) (n ∷ [])) (λ x. IsTrue (x == n || is_done done x)) order (done_from n) (done_to n) (both.1 order is)))))
+          ⊎_elim (λ r. inr ((keep_is n).1 (
+            r,
+            keeps_after p before parts kept (is_done done) claims list n claims_are other distinct both.0 (each_next within)
+                (λ order is. same_run p.process (pairs_of p.tokens) (DoneOr (IsDone done) (n ∷ [])) (λ x. IsTrue (x == n || is_done done x)) order (done_from n) (done_to n) (both.1 order is)),
+          )))
           (λ f. inl f) (first_or_found n both.0 other))
           either),
     )
       where
         done_to : (n x : ℕ) → IsTrue (x == n || is_done done x) → DoneOr (IsDone done) (n ∷ []) x
         done_to n x h = ⊎_elim (λ same. inr (inl (eqb-true x n same))) (λ d. inl d) (either_true (x == n) (is_done done x) h)
+
         done_from : (n x : ℕ) → DoneOr (IsDone done) (n ∷ []) x → IsTrue (x == n || is_done done x)
         done_from n x either = ⊎_elim (λ d. second_true (x == n) (is_done done x) d)
             (λ last. ⊎_elim (λ same. first_true (x == n) (is_done done x) (eq-eqb x n same)) (λ none. absurd none) last) either
+
         orders_at : {n : ℕ} (after : ℕ → Bool) → ((x : ℕ) → IsTrue (after x) → DoneOr (IsDone done) (n ∷ []) x) → ((x : ℕ) → DoneOr (IsDone done) (n ∷ []) x → IsTrue (after x)) →
             MayFollowInEveryOrder p (λ x. IsTrue (after x)) list → MayFollowInEveryOrder p (DoneOr (IsDone done) (n ∷ [])) list
         orders_at {n} after to from all order is = same_run p.process (pairs_of p.tokens) (λ x. IsTrue (after x)) (DoneOr (IsDone done) (n ∷ [])) order to from (all order is)

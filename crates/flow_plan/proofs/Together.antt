@@ -100,6 +100,7 @@ module _ (p : Planned) (before : List (LeafSet 16)) (parts : List PartRow) (kept
       into : (x : ℕ) → x ∈ (n ∷ list) → (x ≡ n) ⊎ IsTrue (has_leaf claims x)
       into x (inl same) = inl same
       into x (inr member) = inr ((is x).1 member)
+
       out : (x : ℕ) → (x ≡ n) ⊎ IsTrue (has_leaf claims x) → x ∈ (n ∷ list)
       out x (inl same) = inl same
       out x (inr has) = inr ((is x).0 has)
@@ -128,11 +129,11 @@ module _ (p : Planned) (before : List (LeafSet 16)) (parts : List PartRow) (kept
   pub after_keeps : Each Keeps parts → MayFollowInEveryOrder p E list
   after_keeps keeps =
       let each_after : Each (MayComeNext p E) list = each_from_members (MayComeNext p E) list (λ y member.
-          same_ready p.process (pairs_of p.tokens) (DoneOr D (n ∷ [])) E y from_either to_either
-          (comes_after p before parts kept D n y (λ same. other (subst (λ (m : ℕ). m ∈ list) (sym same) member)) next (each_member (MayComeNext p D) list each y member)
-          (λ row row_in mine. (each_member Keeps parts keeps row row_in).1 mine y ((is y).1 member)))) in
+      same_ready p.process (pairs_of p.tokens) (DoneOr D (n ∷ [])) E y from_either to_either
+      (comes_after p before parts kept D n y (λ same. other (subst (λ (m : ℕ). m ∈ list) (sym same) member)) next (each_member (MayComeNext p D) list each y member)
+      (λ row row_in mine. (each_member Keeps parts keeps row row_in).1 mine y ((is y).1 member)))) in
       let two = all_after p before parts kept E list distinct each_after
-          (λ x y x_in y_in row member has. (each_member Keeps parts keeps row member).0 x y ((is x).1 x_in) ((is y).1 y_in) has) in
+      (λ x y x_in y_in row member has. (each_member Keeps parts keeps row member).0 x y ((is x).1 x_in) ((is y).1 y_in) has) in
       (pairs_suffice_for_orders p.process (pairs_of p.tokens) (λ x. x == n || done x) list).1 (record { each = each_after; two = two })
 
   pub keeps_after : MayFollowInEveryOrder p E list → Each Keeps parts

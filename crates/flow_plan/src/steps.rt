@@ -116,7 +116,12 @@ impl Plan {
 
     /// Adds to what is found the leaves that may follow with the claimed ones in every order, where it is known
     /// which leaves may come next.
-    pub fn add_beside(&self, next: &LeafSet<16>, claims: &LeafSet<16>, found: LeafSet<16>) -> LeafSet<16>
+    pub fn add_beside(
+        &self,
+        next: &LeafSet<16>,
+        claims: &LeafSet<16>,
+        found: LeafSet<16>,
+    ) -> LeafSet<16>
         ensures { (done : Progress) (list : List ℕ) → IsRowOf (MayComeNext self.now (IsDone done)) next.now →
             IsRowOf (λ x. x ∈ list) claims.now → AreDistinct list → (n : ℕ) → IsTrue (has_leaf result n)
             ↔ (IsTrue (has_leaf found n) ⊎ MayFollowInEveryOrder self.now (IsDone done) (n ∷ list)) }
