@@ -84,6 +84,58 @@ def a_thousand_beside_in_the_longest_history():
     return driven(of_each(1024, " | "), lines, ["--steps", "1000000"])
 
 
+def many_options(between):
+    """4,096 options of 64 leaves: twelve choices of two, beside 52 events that all options have, from leaf 24 on."""
+    choices = " | ".join(f"(a{i} + b{i})" for i in range(12))
+    return f"event {names('a', 12, ', ')}, {names('b', 12, ', ')}, {names('x', 52, ', ')}; goal {choices} | ({names('x', 52, between)});"
+
+
+def taken_and_failed(leaf, looks, claims=()):
+    """Claims on some leaves, and then one after another on that leaf, each of which fails; looked at after each line."""
+    lines = [f"take {claim}" for claim in claims]
+    for claim in range(len(lines) + 1, MOST_LINES // 4 + 1):
+        lines += [f"take {leaf}", looks[0], f"fail {claim}", looks[1]]
+    return lines
+
+
+@session
+def four_thousand_options_changed_and_looked_at():
+    return driven(many_options(" * "), taken_and_failed(24, ("enabled", "next")))
+
+
+@session
+def four_thousand_options_beside_changed_and_looked_at():
+    return driven(many_options(" | "), taken_and_failed(24, ("enabled", "enabled")))
+
+
+@session
+def four_thousand_options_with_thirty_claims_out():
+    return driven(many_options(" | "), taken_and_failed(54, ("enabled", "next"), range(24, 54)))
+
+
+@session
+def four_thousand_options_refused():
+    return driven(many_options(" * "), ["take 75"] * MOST_LINES)
+
+
+@session
+def a_thousand_alternatives_that_fail_once_looked_at():
+    lines = []
+    for leaf in range(1024):
+        lines += [f"take {leaf}", f"fail {leaf + 1}", "next"]
+    return driven(of_each(1024, " + "), lines)
+
+
+@session
+def a_thousand_beside_taken_done_and_looked_at():
+    lines = []
+    for leaf in range(1024):
+        lines += [f"take {leaf}", "enabled"]
+    for leaf in range(1024):
+        lines += [f"done {leaf + 1}", "enabled"]
+    return driven(of_each(1024, " | "), lines)
+
+
 def main():
     program, wanted = arguments()
     print(f"{'session':<58}{'ms':>8}{'MB':>6}  ends with")

@@ -440,6 +440,34 @@ def twelve_choices_and_2_048_orders_that_need_not_be_kept():
 
 
 @text
+def twelve_choices_and_2_047_orders_that_need_not_be_kept_beside_one_that_is():
+    rules = "".join(f" constraint order e{n % 50 + 1} e{n % 50} or must b{n % 12} or must a{n % 12};" for n in range(2047))
+    return f"event {choice_events(12)}, {names('e', 51, ', ')}; goal {choices(12)} | {names('e', 51, ' * ')};{rules} constraint order e0 e1;"
+
+
+@text
+def twelve_choices_and_1_170_orders_each_kept_by_one_resolution_in_32():
+    rules = "".join(
+        f" constraint order e{n % 7} e{n % 7 + 1} or {' or '.join(f'must a{(n + side) % 12}' for side in range(5))};" for n in range(1170))
+    return f"event {choice_events(12)}, {names('e', 8, ', ')}; goal {choices(12)} | {names('e', 8, ' * ')};{rules}"
+
+
+def nested(leaf, order):
+    """An order inside 95 `or`s and 95 `and`s that none of them decides, by the names that the numbers have."""
+    inner = order
+    for level in range(95):
+        inner = f"(never {leaf(level)} or (must {leaf(level + 1)} and {inner}))"
+    return inner
+
+
+@text
+def twelve_choices_and_42_orders_inside_190_ands_and_ors():
+    rules = "".join(f" constraint {nested(lambda level, rule=rule: f'e{(rule + level) % 9}', f'order e{rule % 8} e{rule % 8 + 1}')};"
+                    for rule in range(42))
+    return f"event {choice_events(12)}, {names('e', 9, ', ')}; goal {choices(12)} | {names('e', 9, ' * ')};{rules}"
+
+
+@text
 def twelve_choices_and_a_side_asked_for_8_191_times():
     rules = " constraint must a0;" * 8190 + " constraint order e0 e1;"
     return f"event {choice_events(12)}, {names('e', 52, ', ')}; goal {choices(12)} | {names('e', 52, ' * ')};{rules}"

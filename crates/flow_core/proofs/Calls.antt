@@ -76,11 +76,11 @@ module _ (labels : List Label) (event last : ℕ) where
       ∙ ap (λ (o : Option ℕ). counted (count + cond (is_event event o) 1 0) xs) events.0
       ∙ counts (first + 1) k xs es (count + cond (nat_eq e event) 1 0) both.1 events.1 (omega arith)
 
-abbrev number_in : Option ℕ → ℕ
+abbrev pub number_in : Option ℕ → ℕ
 number_in None = 0
 number_in (Some e) = e
 
-abbrev note_in : Option Note → Note
+abbrev pub note_in : Option Note → Note
 note_in None = note.Done
 note_in (Some n) = n
 

@@ -27,7 +27,7 @@ next_of_first w s r f list n (o, m, all) =
     (o, run.0, run.1.0)
 
 -- the leaves of a free trace have labels
-within_free : (w : Schema) → IsWellFormed w → (s : RunState) (t : List ℕ) → IsFree w s t → (n : ℕ) → n ∈ t → n < length w.labels
+pub within_free : (w : Schema) → IsWellFormed w → (s : RunState) (t : List ℕ) → IsFree w s t → (n : ℕ) → n ∈ t → n < length w.labels
 within_free w f s t free n m =
     let l : n ∈ numbers_from 0 (length w.labels) = subst (λ w. n ∈ w) f.numbered (leaf_of_trace w.goal t free.0.0 n m) in
     omega (arith, numbers_from_below 0 (length w.labels) n l)

@@ -5,5 +5,6 @@ pub mod Calls
 pub mod Tests
 pub mod Standings
 pub mod Waiting
+pub mod Rising
 pub mod OneAnswer
 pub mod Compiled

@@ -1,9 +1,9 @@
 -- What the claims of a core, its residual and its world say of the state.
-use Rattle.std.proofs.Common.{◌≡◌, ◌<◌, ◌+◌, ℕ, Bool, true, false, not, ◌&&◌, nat_eq, nat_lt, List, [], ◌∷◌, ◌++◌, Some, ◌↔◌, IsTrue, IsSomeAnd, refl, sym, ap, ◌∙◌, subst, true≢false}
+use Rattle.std.proofs.Common.{◌≡◌, ◌<◌, ℕ, Bool, true, false, not, ◌&&◌, nat_eq, nat_lt, List, [], ◌∷◌, ◌++◌, Some, ◌↔◌, IsTrue, IsSomeAnd, refl, sym, ap, ◌∙◌, subst, true≢false}
 use Rattle.std.proofs.lemmas.Bool.{eq-eqb, lt-ltb}
 use Rattle.flow_model.specs.Lists.{◌∈◌}
-use Rattle.flow_model.specs.Schema.{Schema, IsEventLeaf}
-use Rattle.flow_model.specs.Run.{Claim, RunState, first_state, current_leaves, current_claims, claim_at, leaf_of_claim, is_current, is_lapsed, IsCurrent, IsLapsed, MayAllFollow, CanTake}
+use Rattle.flow_model.specs.Schema.{Schema}
+use Rattle.flow_model.specs.Run.{Claim, RunState, first_state, current_leaves, current_claims, claim_at, leaf_of_claim, is_current, is_lapsed, IsCurrent, IsLapsed, MayAllFollow, MayFollowFirst, CanTake}
 use Rattle.flow_laws.proofs.ClaimLemmas.{leaf_of_claim_is}
 use Rattle.flow_workflow.specs.Definition.{Definition, schema_of}
 use Rattle.flow_residual.specs.Remaining.{Remaining, IsOf}
@@ -31,15 +31,17 @@ module _ (w : Definition) (s : RunState) (c : Claimed) (are : AreClaimsOf w s c)
   pub unanswered_there : (number : ℕ) → IsUnansweredIn s number → IsUnanswered c number
   unanswered_there number = subst (λ o. IsSomeAnd o (λ (claim : Claim). claim.answered ≡ false)) (sym (claim_is number))
 
-  pub can_take_is : (r : Remaining) → IsOf (schema_of w) s r → (leaf : ℕ) → IsEventLeaf (schema_of w) leaf → (has : Bool) →
-      IsTrue has ↔ (leaf ∈ current_leaves (run_of c)) → has ≡ false → (b : Bool) (claims : List ℕ) → claims ≡ current_leaves (run_of c) →
-      ((w : Schema) (s : RunState) → IsOf w s r → IsTrue b ↔ MayAllFollow w s (claims ++ leaf ∷ [])) → IsTrue b ↔ CanTake (schema_of w) s leaf
-  can_take_is r f leaf event has among none b claims same says =
-      let told : IsTrue b ↔ MayAllFollow (schema_of w) s (current_leaves s ++ leaf ∷ []) =
-      subst (λ l. IsTrue b ↔ MayAllFollow (schema_of w) s (l ++ leaf ∷ [])) (same ∙ leaves_are) (says (schema_of w) s f) in (
-        λ yes. (event, (λ m. true≢false (sym (among.1 (subst (λ l. leaf ∈ l) (sym leaves_are) m)) ∙ none)), told.0 yes),
-        λ can. told.1 can.2,
-      )
+  -- the claims that are handed to the residual are the current ones
+  pub told_beside : (r : Remaining) → IsOf (schema_of w) s r → (leaf : ℕ) (b : Bool) (claims : List ℕ) → claims ≡ current_leaves (run_of c) →
+      ((w : Schema) (s : RunState) → IsOf w s r → IsTrue b ↔ MayAllFollow w s (claims ++ leaf ∷ [])) → IsTrue b ↔ MayAllFollow (schema_of w) s (current_leaves s ++ leaf ∷ [])
+  told_beside r f leaf b claims same says = subst (λ l. IsTrue b ↔ MayAllFollow (schema_of w) s (l ++ leaf ∷ [])) (same ∙ leaves_are) (says (schema_of w) s f)
+
+  pub told_first : (r : Remaining) → IsOf (schema_of w) s r → (leaf : ℕ) (b : Bool) (claims : List ℕ) → claims ≡ current_leaves (run_of c) →
+      ((w : Schema) (s : RunState) → IsOf w s r → IsTrue b ↔ MayFollowFirst w s leaf claims) → IsTrue b ↔ MayFollowFirst (schema_of w) s leaf (current_leaves s)
+  told_first r f leaf b claims same says = subst (λ l. IsTrue b ↔ MayFollowFirst (schema_of w) s leaf l) (same ∙ leaves_are) (says (schema_of w) s f)
+
+  pub none_among : (leaf : ℕ) (has : Bool) → IsTrue has ↔ (leaf ∈ current_leaves (run_of c)) → has ≡ false → ¬ (leaf ∈ current_leaves s)
+  none_among leaf has among none m = true≢false (sym (among.1 (subst (λ l. leaf ∈ l) (sym leaves_are) m)) ∙ none)
 
   pub cannot_take : (leaf : ℕ) (has : Bool) → IsTrue has ↔ (leaf ∈ current_leaves (run_of c)) → has ≡ true → IsTrue (not has) ↔ CanTake (schema_of w) s leaf
   cannot_take leaf has among some = (

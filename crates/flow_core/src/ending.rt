@@ -37,6 +37,7 @@ impl Core {
         self.residual.rewind_to(index);
         self.world.back_to(index as usize);
         self.claims.raise(&self.residual);
+        self.looked = false;
         self.history.push_reserved(Entry {
             by,
             step: Step::Rewound { index },
@@ -85,6 +86,7 @@ impl Core {
         ensures { self.new ≡ with_entry self.old by Committed }
     {
         self.committed = true;
+        self.looked = false;
         self.history.push_reserved(Entry {
             by,
             step: Step::Committed,

@@ -9,6 +9,7 @@ use flow_model::Entry;
 use flow_residual::Residual;
 use flow_workflow::Workflow;
 use flow_world::World;
+use leaf_rows::LeafSet;
 use std::alloc::{AllocError, Global};
 use std::marker::Model;
 
@@ -22,6 +23,10 @@ pub struct Core {
     pub(crate) limit: u32,
     pub(crate) history: Vec<Entry>,
     pub(crate) committed: bool,
+    /// Where `looked`, the leaves that may follow with the claims in every order, and those that may come first.
+    pub(crate) beside: LeafSet<16>,
+    pub(crate) first: LeafSet<16>,
+    pub(crate) looked: bool,
 }
 
 impl Model for Core {
@@ -62,6 +67,9 @@ impl Core {
             world: World::new(alloc, workflow.facts().count(), workflow.held(), leaves)?,
             history: Vec::with_capacity(alloc, limit as usize)?,
             committed: false,
+            beside: LeafSet::new(),
+            first: LeafSet::new(),
+            looked: false,
             workflow,
             limit,
         })

@@ -1,6 +1,7 @@
 //! One run of a workflow: its history, entry by entry, each of them legal.
 #![tactic(auto)]
 
+mod ahead;
 mod ask;
 mod ending;
 mod engine;

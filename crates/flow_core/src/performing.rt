@@ -57,7 +57,7 @@ impl Core {
         requires { IsOtherLeaf (schema self.now) leaf }
         ensures { IsTrue result ↔ CanDoAside (schema self.now) (now self.now) leaf }
     {
-        self.residual.legal_do(self.claims.leaves(), leaf)
+        self.may_come_first(leaf)
     }
 
     /// Makes the entry of a leaf that may be done.
@@ -71,6 +71,7 @@ impl Core {
     {
         self.residual.push(leaf);
         self.world.perform(label);
+        self.looked = false;
         self.history.push_reserved(Entry {
             by,
             step: Step::Did { leaf },

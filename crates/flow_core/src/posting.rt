@@ -87,6 +87,7 @@ impl Core {
         ensures { self.new ≡ with_entry self.old by (Late claim) }
     {
         self.claims.answer(claim);
+        self.looked = false;
         self.history.push_reserved(Entry {
             by,
             step: Step::Late { claim },
@@ -103,6 +104,7 @@ impl Core {
         self.claims.answer(claim);
         self.residual.push(given.leaf);
         self.world.perform(Label::Event(given.event));
+        self.looked = false;
         self.history.push_reserved(Entry {
             by,
             step: Step::Done { claim },
@@ -120,6 +122,7 @@ impl Core {
         self.claims.answer(claim);
         self.residual.ban(leaf);
         self.claims.raise(&self.residual);
+        self.looked = false;
         self.history.push_reserved(Entry {
             by,
             step: Step::Failed {
@@ -137,6 +140,7 @@ impl Core {
         ensures { self.new ≡ with_entry self.old by (Failed claim effects.Kept) }
     {
         self.claims.answer(claim);
+        self.looked = false;
         self.history.push_reserved(Entry {
             by,
             step: Step::Failed {

@@ -57,7 +57,7 @@ impl Core {
         requires { IsEventLeaf (schema self.now) leaf }
         ensures { IsTrue result ↔ CanTake (schema self.now) (now self.now) leaf }
     {
-        !self.claims.has_leaf(leaf) && self.residual.legal_take(self.claims.leaves(), leaf)
+        !self.claims.has_leaf(leaf) && self.may_stand_beside(leaf)
     }
 
     /// Makes the entry of a claim that may be given.
@@ -71,6 +71,7 @@ impl Core {
     {
         let claim = self.claims.count() + 1;
         let attempt = self.claims.give(leaf, event);
+        self.looked = false;
         self.history.push_reserved(Entry {
             by,
             step: Step::Took { claim, leaf },

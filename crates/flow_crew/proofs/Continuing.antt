@@ -2,7 +2,6 @@
 use Rattle.std.proofs.Common.{◌≡◌, ◌≤◌, ◌<◌, ◌+◌, ◌-◌, ℕ, List, [], ◌∷◌, ◌++◌, length, Result, Ok, Err, refl, sym, ap, ◌∙◌, subst, inl, inr, arith, append-nil, append_assoc, length-append}
 use Rattle.flow_model.specs.declared.history.Call.{Call}
 use Rattle.flow_model.specs.declared.history.Entry.{Entry}
-use Rattle.flow_model.specs.declared.history.FailEffect.{FailEffect}
 use Rattle.flow_model.specs.declared.history.FailEffect.TheVariants.{Switched, Kept}
 use Rattle.flow_model.specs.declared.history.Outcome.{Outcome}
 use Rattle.flow_model.specs.declared.history.Outcome.TheVariants as outcome
@@ -18,9 +17,9 @@ use Rattle.flow_core.specs.Run.{Run, schema, now, with_entry, HasSteps}
 use Rattle.flow_core.specs.Answers.{IsUnanswered, Rewinds}
 use Rattle.flow_core.specs.Looks.{IsNext}
 use Rattle.flow_crew.specs.declared.ends.Move.{Move}
-use Rattle.flow_crew.specs.declared.ends.Move.TheVariants.{Perform, Went, Wait, Over}
+use Rattle.flow_crew.specs.declared.ends.Move.TheVariants.{Wait, Over}
 use Rattle.flow_crew.specs.Ends.{HasEnd, HasNoEnd}
-use Rattle.flow_crew.specs.Moves.{move_after, IsBegun, IsOut, GoesBack, Records, IsPosted, IsContinued}
+use Rattle.flow_crew.specs.Moves.{move_after, IsBegun, IsOut, Records, IsPosted, IsContinued}
 use Rattle.flow_crew.proofs.Acting.{refused_late}
 use Rattle.flow_crew.proofs.Endings.{IsWithin, has_room}
 

@@ -1,12 +1,11 @@
 -- Which verdict stands.
-use Rattle.std.proofs.Common.{◌≡◌, ◌≢◌, ◌≤◌, ◌<◌, ◌+◌, ℕ, Bool, true, false, List, [], ◌∷◌, ◌++◌, length, Option, Some, None, MatchOption, is_some, IsTrue, ◌⊎◌, refl, sym, ap, ◌∙◌, subst, inl, inr, arith, true≢false, append-nil}
+use Rattle.std.proofs.Common.{◌≡◌, ◌≢◌, ◌≤◌, ◌+◌, ℕ, Bool, true, false, List, [], ◌∷◌, ◌++◌, length, Option, Some, None, MatchOption, is_some, IsTrue, refl, sym, ap, ◌∙◌, subst, inl, inr, arith, true≢false}
 use Rattle.flow_model.specs.declared.history.Entry.{Entry}
 use Rattle.flow_model.specs.declared.history.Step.{Step}
 use Rattle.flow_model.specs.declared.history.Step.TheVariants.{Took, Done, Failed, Late, Did, Rewound, Committed}
-use Rattle.flow_model.specs.declared.history.FailEffect.{FailEffect}
 use Rattle.flow_model.specs.declared.history.FailEffect.TheVariants.{Switched, Kept}
 use Rattle.flow_model.specs.Schema.{Schema}
-use Rattle.flow_model.specs.Run.{first_state, state_of, leaf_of_claim, IsLegal, IsOpen, IsOpenIndex, IsStuck, is_current, claim_at, current_claims, RunState, IsCurrent}
+use Rattle.flow_model.specs.Run.{first_state, state_of, leaf_of_claim, IsLegal, IsOpenIndex, IsStuck, is_current, claim_at, current_claims, RunState, IsCurrent}
 use Rattle.flow_model.specs.Verdict.{Verdict, EndsKept, HasNoOpenIndex, IsRunVerdict, committed, spent, no_other, stuck, unfinished}
 use Rattle.flow_model.specs.Decided.{Decided}
 use Rattle.flow_laws.proofs.ListLemmas1.{last_of}

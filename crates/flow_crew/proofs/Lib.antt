@@ -1,5 +1,6 @@
 pub mod Acting
 pub mod Continuing
+pub mod DoneRuns
 pub mod Endings
 pub mod Histories
 pub mod Waiting

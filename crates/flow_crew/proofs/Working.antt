@@ -1,16 +1,13 @@
 -- What workers do leaves a history that workers may make.
-use Rattle.std.proofs.Common.{◌≡◌, ◌≤◌, ◌<◌, ℕ, Bool, true, false, List, [], ◌∷◌, ◌++◌, length, Result, Ok, Err, refl, sym, ap, ◌∙◌, subst, inl, inr, arith, true≢false}
+use Rattle.std.proofs.Common.{◌≡◌, ◌≤◌, ◌<◌, ℕ, Bool, true, length, Result, Ok, Err, refl, sym, ap, ◌∙◌, subst, inl, inr, arith, true≢false}
 use Rattle.flow_model.specs.declared.history.Call.{Call}
-use Rattle.flow_model.specs.declared.history.Entry.{Entry}
-use Rattle.flow_model.specs.declared.history.FailEffect.{FailEffect}
 use Rattle.flow_model.specs.declared.history.FailEffect.TheVariants.{Switched, Kept}
 use Rattle.flow_model.specs.declared.history.Outcome.{Outcome}
 use Rattle.flow_model.specs.declared.history.Outcome.TheVariants as outcome
 use Rattle.flow_model.specs.declared.history.Step.{Step}
-use Rattle.flow_model.specs.declared.history.Step.TheVariants.{Took, Done, Failed, Late, Did, Rewound, Committed}
-use Rattle.flow_model.specs.Schema.{Schema}
-use Rattle.flow_model.specs.Run.{first_state, next_state, state_of, IsOpenIndex, IsLegal, leaf_of_claim}
-use Rattle.flow_model.specs.Verdict.{Verdict, EndsKept, IsRunStep, IsRunLegal, IsRunVerdict, IsDriven, call_of, committed, spent, no_other, stuck, unfinished}
+use Rattle.flow_model.specs.declared.history.Step.TheVariants.{Took, Done, Failed, Late, Did, Rewound}
+use Rattle.flow_model.specs.Run.{first_state, IsOpenIndex, IsLegal, leaf_of_claim}
+use Rattle.flow_model.specs.Verdict.{Verdict, EndsKept, IsRunStep, IsRunVerdict, call_of, committed, spent, no_other, stuck, unfinished}
 use Rattle.flow_core.specs.declared.next.Next.{Next}
 use Rattle.flow_core.specs.declared.next.Next.TheVariants as next
 use Rattle.flow_core.specs.declared.refusal.PostRefusal.{PostRefusal}
@@ -18,14 +15,14 @@ use Rattle.flow_core.specs.declared.refusal.PostRefusal.TheVariants as post
 use Rattle.flow_core.specs.declared.refusal.RewindRefusal.{RewindRefusal}
 use Rattle.flow_core.specs.declared.refusal.RewindRefusal.TheVariants as rewind
 use Rattle.flow_core.specs.Run.{Run, schema, now, with_entry, GoesOn, HasSteps}
-use Rattle.flow_core.specs.Answers.{PostIsRefused, PostsDone, PostsFailed, Rewinds}
+use Rattle.flow_core.specs.Answers.{PostIsRefused, Rewinds}
 use Rattle.flow_core.specs.Looks.{IsNext}
 use Rattle.flow_core.proofs.Steps.{state_after-append}
 use Rattle.flow_crew.specs.declared.ends.Move.{Move}
-use Rattle.flow_crew.specs.Ends.{HasEnd, HasNoEnd}
-use Rattle.flow_crew.specs.Moves.{IsNextStep, Advances, IsBegun, IsOut, IsPosted, GoesBack, Records}
+use Rattle.flow_crew.specs.Ends.{HasNoEnd}
+use Rattle.flow_crew.specs.Moves.{IsNextStep, Advances, IsBegun, IsOut, IsPosted, Records}
 use Rattle.flow_crew.specs.Kept.{IsByWorkers}
-use Rattle.flow_crew.proofs.Histories.{AreRunSteps, one_step_more, not_last_kept, last_kept, IsDrivenSoFar, IsSettled, so_far, driven_settles, driven_of, one_driven_more}
+use Rattle.flow_crew.proofs.Histories.{AreRunSteps, one_step_more, not_last_kept, IsDrivenSoFar, IsSettled, so_far, driven_settles, driven_of, one_driven_more}
 use Rattle.flow_crew.proofs.Endings.{no_verdict}
 
 -- a step by which a run goes on is no failure

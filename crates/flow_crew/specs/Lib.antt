@@ -1,3 +1,4 @@
 pub mod Ends
 pub mod Moves
 pub mod Kept
+pub mod Done

@@ -3,6 +3,7 @@
 
 mod book;
 mod crew;
+mod done;
 mod ends;
 mod held;
 mod jobs;
@@ -12,6 +13,7 @@ mod tracked;
 
 pub use book::Book;
 pub use crew::run_crew;
+pub use done::law_done_runs_commit;
 pub use ends::{End, Move};
 pub use flow_gate::{Call, Gate, Outcome};
 pub use held::Held;

@@ -1,5 +1,5 @@
 -- Tallies of options, resolution by resolution.
-use Rattle.std.proofs.Common.{◌≡◌, ◌==◌, Bool, not, ℕ, zero, suc, ◌+◌, ◌*◌, ◌-◌, ◌^◌, ◌≤◌, min, List, [], ◌∷◌, ◌++◌, length, take, map, sum, refl, sym, ap, ◌∙◌, ◌⊎◌, inl, inr, arith, Some, slice_get, append-nil}
+use Rattle.std.proofs.Common.{◌≡◌, ◌==◌, Bool, false, not, subst, ℕ, zero, suc, ◌+◌, ◌*◌, ◌-◌, ◌^◌, ◌<◌, ◌≤◌, min, List, [], ◌∷◌, ◌++◌, length, take, map, sum, refl, sym, ap, ◌∙◌, ◌⊎◌, inl, inr, arith, Some, slice_get, append-nil}
 use Rattle.std.specs.List.{flat_map}
 use Rattle.std.proofs.Math.Nat.{min-eq_left, min-eq_right, zero-mul, suc-mul, mul_comm, add-zero}
 use Rattle.std.proofs.lemmas.Bool.{cases_lt}
@@ -12,15 +12,19 @@ use Rattle.flow_model.specs.Lists.{joined}
 use Rattle.flow_model.specs.Process.{Process, leaves}
 use Rattle.flow_model.specs.Ways.{Normal, ways, leaf_of_event}
 use Rattle.flow_model.specs.Resolution.{ChoiceOption, option_size, resolutions, resolution_count}
+use Rattle.flow_laws.proofs.ListLemmas2.{some_same}
 use Rattle.flow_laws.proofs.ResolutionsLemmas.{length-resolutions}
 use Rattle.std.proofs.Math.Seq.{take-length}
 use Rattle.flow_rules.specs.declared.counting.WayCount.{WayCount}
+use Rattle.flow_rules.specs.declared.conjunction.Conjunction.{Conjunction}
+use Rattle.flow_rules.specs.declared.marks.Marks.{Marks}
 use Rattle.flow_rules.specs.Counts.{kept, count_of}
+use Rattle.flow_rules.specs.Marks.{SpareIn, is_marked}
 use Rattle.flow_rules.proofs.CountLemmas.{none_left}
 use Rattle.flow_goal.specs.Labelled.{Labelled}
 use Rattle.flow_excise.specs.declared.tally.Tally.{Tally}
 use Rattle.flow_excise.specs.Tallies.{tally_of, added, tally_by}
-use Rattle.flow_excise.specs.Options.{has_ways, options_by, ways_by}
+use Rattle.flow_excise.specs.Options.{SpareAll, has_ways, options_by, ways_by}
 
 -- numbers that are kept at a greatest one
 
@@ -153,3 +157,26 @@ whole_count g count e h = e ∙ min-eq_left (omega arith) ∙ sym (length-resolu
 
 pub taken_whole : {A : Type 0} (xs : List A) (n : ℕ) → n ≡ length xs → take n xs ≡ xs
 taken_whole xs n e = ap (λ m. take m xs) e ∙ take-length xs
+
+-- rules that are not marked ask nothing of the resolutions so far
+
+abbrev pub SpareBelow : ℕ → Marks → Conjunction → Labelled → Type 0
+SpareBelow count marks rules t = (number : ℕ) (q : Process) → number < count → slice_get (resolutions t.process) number ≡ Some q →
+    SpareIn marks rules (leaf_of_event t.labels (leaves q))
+
+pub spare_more : (rules : Conjunction) (t : Labelled) (i : ℕ) (q : Process) (ls : List ℕ) (old new : Marks) → slice_get (resolutions t.process) i ≡ Some q →
+    ls ≡ leaves q → SpareIn new rules (leaf_of_event t.labels ls) → ((place : ℕ) → is_marked new place ≡ false → is_marked old place ≡ false) →
+    SpareBelow i old rules t → SpareBelow (i + 1) new rules t
+spare_more rules t i q ls old new there listed this more so_far number r lt there_too = elim (cases_lt number i) [
+  | inl h ↦ λ free place rule found unmarked. so_far number r h there_too free place rule found (more place unmarked)
+  | inr h ↦
+      let e : number ≡ i = omega arith in
+      let same : q ≡ r = some_same q r (sym there ∙ ap (λ n. slice_get (resolutions t.process) n) (sym e) ∙ there_too) in
+      subst (λ (l : List ℕ). SpareIn new rules (leaf_of_event t.labels l)) (listed ∙ ap leaves same) this
+]
+
+pub spare_whole : (rules : Conjunction) (t : Labelled) (count : ℕ) (marks : Marks) → count ≡ length (resolutions t.process) →
+    SpareBelow count marks rules t → SpareAll marks rules t
+spare_whole rules t count marks e all number q there =
+    let lt = slice_get_within (resolutions t.process) number q there in
+    all number q (omega arith) there

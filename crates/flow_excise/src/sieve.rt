@@ -6,14 +6,14 @@ ghost use Rattle.flow_rules.specs.Conjunction.{normal_in};
 ghost use Rattle.flow_rules.specs.EventLeaves.{IsBlank};
 ghost use Rattle.flow_excise.specs.declared.refusal.CompileRefusal.TheVariants.{NoMemory};
 ghost use Rattle.flow_excise.specs.Executions.{numbered_options, numbered_ways};
-ghost use Rattle.flow_excise.specs.Options.{all_options_by, has_ways, options_by};
+ghost use Rattle.flow_excise.specs.Options.{SpareAll, all_options_by, has_ways, options_by};
 ghost use Rattle.flow_excise.specs.Sieves.{ArePlannable, HasSifted, Sifts, options_with, option_with, IsPlannable};
 
 use crate::excising::{ExciseRefusal, excise};
 use crate::refusal::{CompileRefusal, Dropped};
 use crate::sifted::Sieve;
 use flow_goal::{Choiceless, Choices, Tree};
-use flow_rules::{Conjunction, LeafEvents, OrderSet, forget_events, note_events};
+use flow_rules::{Conjunction, LeafEvents, Marks, OrderSet, forget_events, note_events};
 use flow_weave::weave;
 use std::alloc::Global;
 
@@ -76,6 +76,7 @@ fn sift_resolution(
     tree: &Tree,
     choices: &Choices,
     rules: &Conjunction,
+    marks: &Marks,
     number: u64,
     events: &mut LeafEvents,
     sieve: &mut Sieve,
@@ -85,6 +86,7 @@ fn sift_resolution(
     requires exact { resolution_count tree.now.process ≤ 4096 }
     requires plannable { ArePlannable (all_options_by tree.now (normal_in rules.now)) }
     requires some { (q : Process) → slice_get (all_resolutions tree.now.process) number ≡ Some q → IsTrue (has_ways tree.now (normal_in rules.now) q) }
+    requires spare { SpareAll marks.now rules.now tree.now }
     requires blank { IsBlank events.old }
     ensures options { MatchResult result
         (λ _. (q : Process) → slice_get (all_resolutions tree.now.process) number ≡ Some q →
@@ -95,24 +97,26 @@ fn sift_resolution(
     let resolution = choices.resolve(alloc, tree, number)?;
     let leaves = resolution.leaves();
     note_events(tree, leaves, events)?;
-    let orders = rules.ways(alloc, events)?;
+    let orders = rules.ways(alloc, events, marks)?;
     forget_events(tree, leaves, events);
     sift_ways(alloc, &resolution, &orders, number, sieve)
 }
 
 /// Looks at each option, by resolutions in order and then by ways in order. The list says which
-/// resolutions have options.
+/// resolutions have options; a rule without a mark asks nothing of any of them.
 pub(crate) fn sift_all(
     alloc: Global,
     tree: &Tree,
     choices: &Choices,
     rules: &Conjunction,
     met: &[bool],
+    marks: &Marks,
 ) -> Result<Sieve, CompileRefusal>
     requires choices { AreChoicesOf tree.now.process choices.now }
     requires exact { resolution_count tree.now.process ≤ 4096 }
     requires plannable { ArePlannable (all_options_by tree.now (normal_in rules.now)) }
     requires met { met.now ≡ map (has_ways tree.now (normal_in rules.now)) (all_resolutions tree.now.process) }
+    requires spare { SpareAll marks.now rules.now tree.now }
     ensures { MatchResult result
         (HasSifted (numbered_options 0 (map (options_by tree.now (normal_in rules.now)) (all_resolutions tree.now.process))))
         (λ e. e ≡ NoMemory) }
@@ -125,7 +129,16 @@ pub(crate) fn sift_all(
     for (number, some) in met.iter().enumerate() {
         if *some {
             let number = number as u64;
-            sift_resolution(alloc, tree, choices, rules, number, &mut events, &mut sieve)?;
+            sift_resolution(
+                alloc,
+                tree,
+                choices,
+                rules,
+                marks,
+                number,
+                &mut events,
+                &mut sieve,
+            )?;
         }
     }
     Ok(sieve)

@@ -1,4 +1,5 @@
 pub mod Members
+pub mod Pushes
 pub mod IndexLemmas
 pub mod PlanLemmas
 pub mod LayLemmas

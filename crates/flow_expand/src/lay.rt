@@ -15,7 +15,7 @@ use flow_form::Form;
 use std::alloc::AllocError;
 
 /// How far a sub-workflow has come.
-#[derive(Clone, Copy, Debug, PartialEq, Eq)]
+#[derive(Clone, Copy)]
 pub(crate) enum Progress {
     Unlaid,
     /// It waits for others.

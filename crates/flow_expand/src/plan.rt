@@ -26,7 +26,7 @@ pub(crate) enum Node<'a> {
 pub(crate) type Plan<'a> = Vec<Node<'a>>;
 
 /// A goal of a plan.
-#[derive(Clone, Copy, Debug, PartialEq, Eq)]
+#[derive(Clone, Copy)]
 pub(crate) struct Root {
     /// The place of its part in the plan.
     pub(crate) place: usize,
@@ -34,7 +34,7 @@ pub(crate) struct Root {
 }
 
 /// How two goals are put together.
-#[derive(Clone, Copy, Debug, PartialEq, Eq)]
+#[derive(Clone, Copy)]
 pub(crate) enum Join {
     Serial,
     Beside,

@@ -3,7 +3,7 @@ ghost use Rattle.flow_expand.specs.Expansion.{kept};
 
 /// How many leaves and nothings a goal has, and how many isolations. What would pass the greatest
 /// number is kept at it.
-#[derive(Clone, Copy, Debug, PartialEq, Eq)]
+#[derive(Clone, Copy)]
 pub(crate) struct Size {
     pub(crate) ends: u64,
     pub(crate) isolations: u64,

@@ -32,3 +32,7 @@ pub record IsFirstTwice (t : Labelled) (found : Twice) : Type 0 where
 -- no pair has that first leaf
 abbrev pub HoldsNoneFrom : Labelled → ℕ → Type 0
 HoldsNoneFrom t first = (event second : ℕ) → ¬ (HoldsTwice t event first second)
+
+-- a leaf after that one has the event
+abbrev pub ComesAgain : Labelled → ℕ → ℕ → Type 0
+ComesAgain t leaf event = (other : ℕ) × (leaf < other) × (event_at t.labels other ≡ Some event)

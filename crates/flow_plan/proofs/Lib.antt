@@ -7,3 +7,5 @@ pub mod SweepLemmas
 pub mod Readiness
 pub mod Together
 pub mod Following
+pub mod KeepLemmas
+pub mod StepRows

@@ -1,5 +1,5 @@
 -- Leaves that may come next, beside one another.
-use Rattle.std.proofs.Common.{◌≡◌, ◌≢◌, ◌+◌, ◌<◌, ℕ, Bool, ◌↔◌, IsTrue, List, [], ◌∷◌, ◌++◌, length, take, drop, get_or, ap, inl, inr, ⊎_elim, refl, sym, ◌∙◌, subst}
+use Rattle.std.proofs.Common.{◌≡◌, ◌≢◌, ◌+◌, ◌<◌, ℕ, Bool, ◌==◌, ◌||◌, eq-eqb, eqb-true, ◌↔◌, IsTrue, List, [], ◌∷◌, ◌++◌, length, take, drop, get_or, ap, inl, inr, ◌⊎◌, ⊎_elim, refl, sym, ◌∙◌, subst}
 use Rattle.std.proofs.lemmas.Bool.{cases_Bool}
 use Rattle.std.proofs.lemmas.List.{take-append-drop, take_more, drop_more}
 use Rattle.leaf_rows.specs.Leaves.{has_leaf}
@@ -8,13 +8,16 @@ use Rattle.flow_model.specs.Lists.{◌∈◌, Each, AreDistinct}
 use Rattle.flow_model.specs.Process.{leaves}
 use Rattle.flow_model.specs.Ready.{DoneOr}
 use Rattle.flow_laws.specs.Words.{EachTwo}
+use Rattle.flow_laws.proofs.OrdersByTwo.{pairs_suffice_for_orders}
+use Rattle.flow_laws.proofs.ReadyRuns.{same_ready}
 use Rattle.flow_laws.proofs.ListLemmas2.{each_member, each_from_members, distinct_parts, distinct-append}
 use Rattle.flow_plan.specs.declared.part_row.PartRow.{PartRow}
-use Rattle.flow_plan.specs.Planned.{Planned}
-use Rattle.flow_plan.specs.Orders.{MayComeNext, MayComeAfter}
+use Rattle.flow_plan.specs.Planned.{Planned, pairs_of}
+use Rattle.flow_plan.specs.Orders.{MayComeNext, MayComeAfter, MayFollowInEveryOrder}
 use Rattle.flow_plan.specs.Rows.{IsRowOf}
-use Rattle.flow_plan.specs.Parts.{KeepsTogether}
+use Rattle.flow_plan.specs.Parts.{KeepsTogether, KeepsBeside, KeepsAfter}
 use Rattle.flow_plan.specs.Kept.{IsKept}
+use Rattle.flow_plan.proofs.RowLemmas.{either_true, first_true, second_true}
 
 module _ (p : Planned) (before : List (LeafSet 16)) (parts : List PartRow) (kept : IsKept p before parts) (D : ℕ → Type 0) where
   -- the one may come after the other where no part has it alone
@@ -83,6 +86,65 @@ module _ (p : Planned) (before : List (LeafSet 16)) (parts : List PartRow) (kept
     λ two. says.1 (each_from_members (λ row. KeepsTogether row (λ x. IsTrue (has_leaf set x))) parts (λ row member x y x_in y_in has.
         of_all_after list each two x y ((is x).0 x_in) ((is y).0 y_in) row member has)),
   )
+
+  -- the same of one leaf more, where the others are a row
+  pub together_beside : (claims : LeafSet 16) (list : List ℕ) (n : ℕ) → IsRowOf (λ x. x ∈ list) claims → ¬ (n ∈ list) → AreDistinct list → Each (MayComeNext p D) (n ∷ list) →
+      Each (λ row. KeepsBeside row (λ x. IsTrue (has_leaf claims x)) n) parts ↔ EachTwo (MayComeAfter p D) (n ∷ list)
+  together_beside claims list n is other distinct each = (
+    λ keeps. all_after (n ∷ list) (other, distinct) each (λ x y x_in y_in row member has.
+        each_member (λ row. KeepsBeside row (λ x. IsTrue (has_leaf claims x)) n) parts keeps row member x y (into x x_in) (into y y_in) has),
+    λ two. each_from_members (λ row. KeepsBeside row (λ x. IsTrue (has_leaf claims x)) n) parts (λ row member x y x_is y_is has.
+        of_all_after (n ∷ list) each two x y (out x x_is) (out y y_is) row member has),
+  )
+    where
+      into : (x : ℕ) → x ∈ (n ∷ list) → (x ≡ n) ⊎ IsTrue (has_leaf claims x)
+      into x (inl same) = inl same
+      into x (inr member) = inr ((is x).1 member)
+
+      out : (x : ℕ) → (x ≡ n) ⊎ IsTrue (has_leaf claims x) → x ∈ (n ∷ list)
+      out x (inl same) = inl same
+      out x (inr has) = inr ((is x).0 has)
+
+-- ---- the leaves after one
+
+module _ (p : Planned) (before : List (LeafSet 16)) (parts : List PartRow) (kept : IsKept p before parts) (done : ℕ → Bool) (claims : LeafSet 16) (list : List ℕ) (n : ℕ)
+    (is : IsRowOf (λ x. x ∈ list) claims) (other : ¬ (n ∈ list)) (distinct : AreDistinct list) (next : MayComeNext p (λ x. IsTrue (done x)) n)
+    (each : Each (MayComeNext p (λ x. IsTrue (done x))) list) where
+  abbrev D : ℕ → Type 0
+  D x = IsTrue (done x)
+
+  abbrev E : ℕ → Type 0
+  E x = IsTrue (x == n || done x)
+
+  abbrev Keeps : PartRow → Type 0
+  Keeps row = KeepsAfter row (λ x. IsTrue (has_leaf claims x)) n
+
+  to_either : (x : ℕ) → E x → DoneOr D (n ∷ []) x
+  to_either x h = ⊎_elim (λ same. inr (inl (eqb-true x n same))) (λ d. inl d) (either_true (x == n) (done x) h)
+
+  from_either : (x : ℕ) → DoneOr D (n ∷ []) x → E x
+  from_either x either = ⊎_elim (λ d. second_true (x == n) (done x) d)
+      (λ last. ⊎_elim (λ same. first_true (x == n) (done x) (eq-eqb x n same)) (λ none. absurd none) last) either
+
+  pub after_keeps : Each Keeps parts → MayFollowInEveryOrder p E list
+  after_keeps keeps =
+      let each_after : Each (MayComeNext p E) list = each_from_members (MayComeNext p E) list (λ y member.
+      same_ready p.process (pairs_of p.tokens) (DoneOr D (n ∷ [])) E y from_either to_either
+      (comes_after p before parts kept D n y (λ same. other (subst (λ (m : ℕ). m ∈ list) (sym same) member)) next (each_member (MayComeNext p D) list each y member)
+      (λ row row_in mine. (each_member Keeps parts keeps row row_in).1 mine y ((is y).1 member)))) in
+      let two = all_after p before parts kept E list distinct each_after
+      (λ x y x_in y_in row member has. (each_member Keeps parts keeps row member).0 x y ((is x).1 x_in) ((is y).1 y_in) has) in
+      (pairs_suffice_for_orders p.process (pairs_of p.tokens) (λ x. x == n || done x) list).1 (record { each = each_after; two = two })
+
+  pub keeps_after : MayFollowInEveryOrder p E list → Each Keeps parts
+  keeps_after all =
+      let side = (pairs_suffice_for_orders p.process (pairs_of p.tokens) (λ x. x == n || done x) list).0 all in
+      each_from_members Keeps parts (λ row member. (
+        λ x y x_is y_is has. of_all_after p before parts kept E list side.each side.two x y ((is x).0 x_is) ((is y).0 y_is) row member has,
+        λ mine y claimed. let y_in : y ∈ list = (is y).0 claimed in
+            not_alone p before parts kept D n y next (each_member (MayComeNext p D) list each y y_in)
+            (same_ready p.process (pairs_of p.tokens) E (DoneOr D (n ∷ [])) y to_either from_either (each_member (MayComeNext p E) list side.each y y_in)) row member mine,
+      ))
 
 -- no leaf twice, where each may come after the others
 pub distinct_by_two : (p : Planned) (D : ℕ → Type 0) (list : List ℕ) → EachTwo (MayComeAfter p D) list → AreDistinct list

@@ -65,3 +65,11 @@ pub record PartAllows (row : PartRow) (Done : ℕ → Type 0) (n : ℕ) : Type 0
 -- the part has all with P, or none of them
 abbrev pub KeepsTogether : PartRow → (ℕ → Type 0) → Type 0
 KeepsTogether row P = (x y : ℕ) → P x → P y → IsTrue (has_leaf row.inside x) → IsTrue (has_leaf row.inside y)
+
+-- the part has the leaf and all with P, or none of them
+abbrev pub KeepsBeside : PartRow → (ℕ → Type 0) → ℕ → Type 0
+KeepsBeside row P n = KeepsTogether row (λ x. (x ≡ n) ⊎ P x)
+
+-- the part has all with P, or none of them; and all, where it has the leaf
+abbrev pub KeepsAfter : PartRow → (ℕ → Type 0) → ℕ → Type 0
+KeepsAfter row P n = KeepsTogether row P × (IsTrue (has_leaf row.inside n) → (x : ℕ) → P x → IsTrue (has_leaf row.inside x))

@@ -1,5 +1,5 @@
 -- Rows of bits: for each leaf of a plan the leaves directly before it.
-use Rattle.std.specs.Prelude.{◌≡◌, ◌<◌, ℕ, zero, suc, Bool, false, IsTrue, List, [], ◌∷◌, ◌++◌, ◌⊎◌, ◌↔◌}
+use Rattle.std.specs.Prelude.{◌≡◌, ◌<◌, ℕ, zero, suc, Bool, false, IsTrue, List, [], ◌∷◌, ◌++◌, ◌⊎◌, ◌↔◌, Some, slice_get}
 use Rattle.leaf_rows.specs.Leaves.{has_leaf}
 use Rattle.leaf_rows.specs.declared.leaf_set.LeafSet.{LeafSet}
 use Rattle.flow_model.specs.Lists.{Each, AreDistinct}
@@ -33,3 +33,7 @@ pub record AddsRows (g : Process) (ahead : LeafSet 16) (old new : List (LeafSet 
   pub added : List (LeafSet 16)
   pub is : new ≡ old ++ added
   pub rows : AreRowsOf (λ x n. IsTrue (has_leaf ahead x) ⊎ InSequence g x n) (leaves g) added
+
+-- it stands at one of the first so many places, is not done, and what its row has is
+abbrev pub IsFreeAt : List ℕ → List (LeafSet 16) → ℕ → (ℕ → Type 0) → ℕ → Type 0
+IsFreeAt ns rows places Done n = (k : ℕ) × (k < places) × (slice_get ns k ≡ Some n) × ¬ (Done n) × ((x : ℕ) → IsTrue (has_at rows k x) → Done x)

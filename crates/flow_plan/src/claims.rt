@@ -13,7 +13,7 @@ use crate::progress::Progress;
 use leaf_rows::LeafSet;
 
 /// The leaves as a set, where none of them stands twice.
-fn distinct(list: &[u32]) -> Option<LeafSet<16>>
+pub fn distinct(list: &[u32]) -> Option<LeafSet<16>>
     requires { Each (λ n. n < 1024) list.now }
     ensures some { IfSome result (λ set. AreDistinct list.now × IsRowOf (λ x. x ∈ list.now) set) }
     ensures none { IfNone result (¬ (AreDistinct list.now)) }
@@ -29,7 +29,7 @@ fn distinct(list: &[u32]) -> Option<LeafSet<16>>
 }
 
 /// The set with one leaf more.
-fn with(mut set: LeafSet<16>, leaf: u32) -> LeafSet<16>
+pub(crate) fn with(mut set: LeafSet<16>, leaf: u32) -> LeafSet<16>
     requires { leaf < 1024 }
     ensures { (k : ℕ) → has_leaf result k ≡ (k == leaf || has_leaf set k) }
 {

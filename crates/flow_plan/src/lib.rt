@@ -11,9 +11,11 @@ mod plan;
 mod progress;
 mod rows;
 mod span;
+mod steps;
 mod sweep;
 mod token;
 
+pub use claims::distinct;
 pub use knot_free::KnotFree;
 pub use plan::Plan;
 pub use progress::Progress;

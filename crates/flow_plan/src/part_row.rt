@@ -1,4 +1,5 @@
-ghost use Rattle.std.specs.Prelude.{◌<◌, ◌↔◌, ℕ, IsTrue, All};
+ghost use Rattle.std.specs.Prelude.{◌≡◌, ◌<◌, ◌↔◌, ◌&&◌, if◌then◌else◌, ℕ, IsTrue, All, Some, [], ◌∷◌};
+ghost use Rattle.flow_model.specs.Ready.{DoneOr};
 ghost use Rattle.flow_model.specs.Lists.{◌∈◌};
 ghost use Rattle.leaf_rows.specs.Leaves.{has_leaf};
 ghost use Rattle.flow_plan.specs.Rows.{IsRowOf};
@@ -47,8 +48,25 @@ fn without(mut set: LeafSet<16>, leaves: &[u32]) -> LeafSet<16>
     set
 }
 
+/// Of the leaves those inside where `inner`, and the others where `outer`.
+fn keep(mut leaves: LeafSet<16>, inside: &LeafSet<16>, inner: bool, outer: bool) -> LeafSet<16>
+    ensures { (n : ℕ) → has_leaf result n ≡ (has_leaf leaves n && (if has_leaf inside.now n then inner else outer)) }
+{
+    match (inner, outer) {
+        (true, true) => {}
+        (false, true) => leaves.remove_all(inside),
+        (true, false) => {
+            let mut others = leaves;
+            others.remove_all(inside);
+            leaves.remove_all(&others);
+        }
+        (false, false) => leaves = LeafSet::new(),
+    }
+    leaves
+}
+
 impl PartRow {
-    ghost use Rattle.flow_plan.specs.Parts.{PartAllows, KeepsTogether};
+    ghost use Rattle.flow_plan.specs.Parts.{PartAllows, KeepsTogether, KeepsBeside, KeepsAfter};
 
     /// The row of the part with those leaves, whose rows are these.
     pub(crate) fn new(leaves: &[u32], before: &[LeafSet<16>]) -> PartRow
@@ -80,5 +98,55 @@ impl PartRow {
         ensures { IsTrue result ↔ KeepsTogether self.now (λ x. IsTrue (has_leaf leaves.now x)) }
     {
         !self.inside.meets(leaves) || leaves.is_subset(&self.inside)
+    }
+
+    /// Of the leaves those that the part lets come next.
+    pub(crate) fn keep_allowed(&self, done: &LeafSet<16>, leaves: LeafSet<16>) -> LeafSet<16>
+        ensures { (n : ℕ) → IsTrue (has_leaf result n)
+            ↔ (IsTrue (has_leaf leaves n) × PartAllows self.now (λ x. IsTrue (has_leaf done.now x)) n) }
+    {
+        if self.inside.meets(done) {
+            keep(leaves, &self.inside, true, self.inside.is_subset(done))
+        } else {
+            keep(leaves, &self.inside, self.outside.is_subset(done), true)
+        }
+    }
+
+    /// Of the leaves those that the part keeps together with the claimed ones.
+    pub(crate) fn keep_beside(&self, claims: &LeafSet<16>, leaves: LeafSet<16>) -> LeafSet<16>
+        ensures { (n : ℕ) → IsTrue (has_leaf result n)
+            ↔ (IsTrue (has_leaf leaves n) × KeepsBeside self.now (λ x. IsTrue (has_leaf claims.now x)) n) }
+    {
+        let inner = claims.is_subset(&self.inside);
+        let outer = !self.inside.meets(claims);
+        keep(leaves, &self.inside, inner, outer)
+    }
+
+    /// Of the leaves those after which the part keeps the claimed ones together.
+    pub(crate) fn keep_first(&self, claims: &LeafSet<16>, leaves: LeafSet<16>) -> LeafSet<16>
+        ensures { (n : ℕ) → IsTrue (has_leaf result n)
+            ↔ (IsTrue (has_leaf leaves n) × KeepsAfter self.now (λ x. IsTrue (has_leaf claims.now x)) n) }
+    {
+        if claims.is_subset(&self.inside) {
+            return leaves;
+        }
+        let outer = !self.inside.meets(claims);
+        keep(leaves, &self.inside, false, outer)
+    }
+
+    /// The leaf that is missing where the part does not let the leaf come next, if one alone is.
+    pub(crate) fn missing(&self, done: &LeafSet<16>, leaf: u32) -> Option<u32>
+        requires { leaf < 1024 }
+        ensures { (first : ℕ) → ¬ (PartAllows self.now (λ x. IsTrue (has_leaf done.now x)) leaf) →
+            PartAllows self.now (λ x. IsTrue (has_leaf done.now x)) first →
+            PartAllows self.now (DoneOr (λ x. IsTrue (has_leaf done.now x)) (first ∷ [])) leaf → result ≡ Some first }
+    {
+        let mut missing = if self.inside.has(leaf) {
+            self.outside
+        } else {
+            self.inside
+        };
+        missing.remove_all(done);
+        missing.first()
     }
 }

@@ -28,8 +28,8 @@ pub struct Plan {
     goal: Choiceless,
     tokens: Vec<OrderToken>,
     /// For each leaf, the leaves directly before it.
-    before: Vec<LeafSet<16>>,
-    parts: Vec<PartRow>,
+    pub(crate) before: Vec<LeafSet<16>>,
+    pub(crate) parts: Vec<PartRow>,
 }
 
 impl Model for Plan {

@@ -76,9 +76,24 @@ fn join_fact(decls: Vec<Decl>, symbol: Symbol<'_>) -> Option<ScriptReader>
     }
 }
 
-fn open_args(
+/// A fact with no arguments, and then what may follow it.
+fn end_bare_fact(
     alloc: Global,
     mut decls: Vec<Decl>,
+    relation: Name,
+    symbol: Symbol<'_>,
+) -> Result<Option<ScriptReader>, AllocError>
+    ensures { IfOk result (λ step. option_map script_state step
+        ≡ machine.join_fact (declared_of decls.items ++ form.fact (atom relation []) ∷ []) (meant symbol.entry)) }
+{
+    let fact = Fact::new(relation, Vec::new(alloc));
+    decls.push(Decl::Fact(fact))?;
+    Ok(join_fact(decls, symbol))
+}
+
+fn open_args(
+    alloc: Global,
+    decls: Vec<Decl>,
     relation: Name,
     symbol: Symbol<'_>,
 ) -> Result<Option<ScriptReader>, AllocError>
@@ -90,10 +105,7 @@ fn open_args(
             let args = ArgReader::ConstantNeeded(relation, Vec::new(alloc));
             Ok(Some(ScriptReader::InArgs(decls, args)))
         }
-        _ => {
-            decls.push(Decl::Fact(Fact::new(relation, Vec::new(alloc))))?;
-            Ok(join_fact(decls, symbol))
-        }
+        _ => end_bare_fact(alloc, decls, relation, symbol),
     }
 }
 

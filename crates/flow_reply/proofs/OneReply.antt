@@ -18,7 +18,7 @@ use Rattle.flow_reply.specs.declared.verdict.Verdict.TheVariants as came
 use Rattle.flow_reply.specs.Reply.{IsReply, IsNextText, HoldsNow, numbers_text, spaced_facts}
 use Rattle.flow_reply.specs.Report.{Means, IsVerdictText, verdict_text, report_text}
 use Rattle.flow_reply.specs.Single.{RepliesAreSingle, ReportsAreSingle}
-use Rattle.flow_reply.proofs.Rising.{one_list}
+use Rattle.flow_core.proofs.Rising.{one_list}
 
 -- What can be done next
 

@@ -20,7 +20,7 @@ use Rattle.flow_core.specs.Looks.{CanAct, IsWaiting}
 use Rattle.flow_core.proofs.Calls.{event_below}
 use Rattle.flow_workflow.specs.Numbers.{IsKnown}
 use Rattle.flow_reply.specs.Reply.{HoldsNow}
-use Rattle.flow_reply.proofs.Rising.{just_as}
+use Rattle.flow_core.proofs.Rising.{just_as}
 
 -- what can act is a leaf of the goal
 pub act_within : (r : Run) (leaf : ℕ) → CanAct r leaf → leaf < length (schema r).labels

@@ -5,3 +5,4 @@ pub mod Refusing
 pub mod Checking
 pub mod Single
 pub mod Judging
+pub mod Summary

@@ -4,3 +4,5 @@ pub mod FrontLemmas
 pub mod KeptLemmas
 pub mod OptionLemmas
 pub mod PossibleLemmas
+pub mod FewLemmas
+pub mod RowLemmas

@@ -1,6 +1,7 @@
 -- Options that are looked through one by one.
-use Rattle.std.proofs.Common.{◌≡◌, ℕ, zero, suc, ◌+◌, ◌<◌, ◌≤◌, true, false, ◌↔◌, IsTrue, List, [], ◌∷◌, ◌++◌, length, take, get_or, Some, slice_get, refl, sym, ap, ◌∙◌, subst, inl, inr, below_more, arith}
+use Rattle.std.proofs.Common.{◌≡◌, ℕ, zero, suc, ◌+◌, ◌<◌, ◌≤◌, Bool, true, false, ◌↔◌, IsTrue, List, [], ◌∷◌, ◌++◌, length, take, get_or, Some, slice_get, refl, sym, ap, ◌∙◌, subst, inl, inr, ◌⊎◌, ⊎_elim, below_more, arith}
 use Rattle.std.proofs.lemmas.List.{take_more, map-append}
+use Rattle.std.proofs.lemmas.Bool.{cases_lt}
 use Rattle.flow_model.specs.Lists.{◌∈◌, Each}
 use Rattle.flow_model.specs.Process.{leaves}
 use Rattle.flow_model.specs.Resolution.{ChoiceOption}
@@ -9,7 +10,7 @@ use Rattle.flow_plan.specs.Sampled.{Sampled}
 use Rattle.flow_excise.specs.Compilation.{options_of}
 use Rattle.flow_excise.specs.Plans.{option_of}
 use Rattle.flow_residual.specs.Kept.{HasSmallLeaves}
-use Rattle.flow_residual.specs.Possible.{SomeOption, NoneBelow}
+use Rattle.flow_residual.specs.Possible.{SomeOption, NoneBelow, SomeBelow}
 
 -- what stands at a place is a member
 pub option_at : (os : List ChoiceOption) (k : ℕ) (o : ChoiceOption) → slice_get os k ≡ Some o → o ∈ os
@@ -48,6 +49,51 @@ none_found P os k past none = (
 pub none_there : (P : ChoiceOption → Type 0) (os : List ChoiceOption) (k : ℕ) (p : ChoiceOption) → slice_get os k ≡ Some p → ¬ (P p) →
     (o : ChoiceOption) → slice_get os k ≡ Some o → ¬ (P o)
 none_there P os k p here not o at h = not (subst P (let same : o ≡ p = cc in same) h)
+
+-- ---- what is found, option by option
+
+pub some_more : (P : ChoiceOption → Type 0) (os : List ChoiceOption) (k : ℕ) (o : ChoiceOption) (new now : Bool) → slice_get os k ≡ Some o →
+    (IsTrue new ↔ (IsTrue now ⊎ P o)) → (IsTrue now ↔ SomeBelow P os k) → IsTrue new ↔ SomeBelow P os (k + 1)
+some_more P os k o new now here step before = (
+  λ h. ⊎_elim (λ old. let found = before.0 old in (found.0, (let b = found.1 in omega (arith, b)), found.2, found.3, found.4))
+      (λ p. (k, (let b : k < k + 1 = omega arith in b), o, here, p)) (step.0 h),
+  λ found. step.1 (⊎_elim (λ below. inl (before.1 (found.0, below, found.2, found.3, found.4)))
+      (λ above. let at : found.0 ≡ k = (let b = found.1 in omega (arith, b, above)) in
+      inr (subst P (let e : Some found.2 ≡ Some o = sym found.3 ∙ ap (λ j. slice_get os j) at ∙ here in cc) found.4))
+      (cases_lt found.0 k)),
+)
+
+pub some_still : (P : ChoiceOption → Type 0) (os : List ChoiceOption) (k : ℕ) (new now : Bool) → new ≡ now → ((o : ChoiceOption) → slice_get os k ≡ Some o → ¬ (P o)) →
+    (IsTrue now ↔ SomeBelow P os k) → IsTrue new ↔ SomeBelow P os (k + 1)
+some_still P os k new now same none before = (
+  λ h. let found = before.0 (sym same ∙ h) in (found.0, (let b = found.1 in omega (arith, b)), found.2, found.3, found.4),
+  λ found. same ∙ before.1 (⊎_elim (λ below. (found.0, below, found.2, found.3, found.4))
+      (λ above. let at : found.0 ≡ k = (let b = found.1 in omega (arith, b, above)) in
+      absurd (none found.2 (sym (ap (λ j. slice_get os j) at) ∙ found.3) found.4))
+      (cases_lt found.0 k)),
+)
+
+pub some_all : (P : ChoiceOption → Type 0) (os : List ChoiceOption) (k : ℕ) (answer : Bool) → length os ≤ k → (IsTrue answer ↔ SomeBelow P os k) → IsTrue answer ↔ SomeOption P os
+some_all P os k answer past below = (
+  λ h. let found = below.0 h in (found.2, option_at os found.0 found.2 found.3, found.4),
+  λ some. let at = place_of_option os some.0 some.1 in below.1 (at.0, (let l = at.1 in omega (arith, l, past)), some.0, at.2, some.2),
+)
+
+-- where the option at the place is live, what its plan adds is what it takes
+pub adds_live : (new now : Bool) (F L Q : Type 0) → L → (IsTrue new ↔ (IsTrue now ⊎ F)) → (F ↔ Q) → IsTrue new ↔ (IsTrue now ⊎ (L × Q))
+adds_live new now F L Q live adds same = (
+  λ h. ⊎_elim (λ old. inl old) (λ f. inr (live, same.0 f)) (adds.0 h),
+  λ either. adds.1 (⊎_elim (λ old. inl old) (λ both. inr (same.1 both.1)) either),
+)
+
+pub adds_first : (new now : Bool) (F L A B : Type 0) → L → (IsTrue new ↔ (IsTrue now ⊎ F)) → (F ↔ (A × B)) → IsTrue new ↔ (IsTrue now ⊎ (L × A × B))
+adds_first new now F L A B live adds same = (
+  λ h. ⊎_elim (λ old. inl old) (λ f. let both = same.0 f in inr (live, both.0, both.1)) (adds.0 h),
+  λ either. adds.1 (⊎_elim (λ old. inl old) (λ all. inr (same.1 (all.1, all.2))) either),
+)
+
+pub none_at_all : (P : ChoiceOption → Type 0) (os : List ChoiceOption) (answer : Bool) → answer ≡ false → ((o : ChoiceOption) → ¬ (P o)) → IsTrue answer ↔ SomeOption P os
+none_at_all P os answer is none = (λ h. absurd (cc), λ some. absurd (none some.0 some.2))
 
 -- ---- the options of plans
 

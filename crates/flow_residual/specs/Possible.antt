@@ -37,3 +37,7 @@ pub record IsOpenFor (r : Remaining) (i : ℕ) (o : ChoiceOption) : Type 0 where
   pub begun : IsBegun o r.journal i
   pub without : ¬ (slice_index r.journal i ∈ leaves o.resolution)
   pub unbanned : Each (λ ban. ban.0 ≤ i → ¬ (ban.1 ∈ leaves o.resolution)) r.bans
+
+-- some of the first so many options of the list has P
+abbrev pub SomeBelow : (ChoiceOption → Type 0) → List ChoiceOption → ℕ → Type 0
+SomeBelow P os k = (j : ℕ) × (j < k) × (o : ChoiceOption) × (slice_get os j ≡ Some o) × P o

@@ -1,5 +1,5 @@
 -- What is still possible: the options, the journal so far, and the leaves that are banned.
-use Rattle.std.specs.Prelude.{◌≡◌, ℕ, List, ◌∷◌}
+use Rattle.std.specs.Prelude.{◌≡◌, ℕ, List}
 use Rattle.std.proofs.Common.{refl}
 use Rattle.std.specs.Coded.{Coded, code_by, coded×, coded_ℕ, coded_list}
 use Rattle.flow_model.specs.Lists.{◌∈◌, Each}

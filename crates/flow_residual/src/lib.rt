@@ -5,5 +5,7 @@ mod ban;
 mod fronts;
 mod possible;
 mod residual;
+mod rows;
+mod steps;
 
 pub use residual::Residual;

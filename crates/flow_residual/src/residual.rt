@@ -1,19 +1,25 @@
-ghost use Rattle.std.specs.Prelude.{◌≡◌, ◌<◌, ◌≤◌, ◌↔◌, ℕ, [], ◌∷◌, ◌++◌, IfOk, IsTrue, length, take, nat_le, Some, slice_get, slice_index};
+ghost use Rattle.std.specs.Prelude.{◌≡◌, ◌<◌, ◌≤◌, ◌↔◌, ℕ, [], ◌∷◌, ◌++◌, IfOk, IsTrue, length, take, nat_le, false, Some, slice_get, slice_index};
 ghost use Rattle.std.specs.List.{filter};
 ghost use Rattle.flow_model.specs.Lists.{◌∈◌, Each};
 ghost use Rattle.flow_model.specs.Process.{leaves};
-ghost use Rattle.flow_model.specs.Ready.{IsReadyRun};
+ghost use Rattle.flow_model.specs.Ready.{IsReady, IsReadyRun};
+ghost use Rattle.flow_plan.specs.Rows.{IsRowOf};
 ghost use Rattle.flow_model.specs.Resolution.{ChoiceOption};
 ghost use Rattle.flow_plan.specs.Progress.{IsDone, bound_of};
 ghost use Rattle.flow_excise.specs.Compilation.{options_of};
 ghost use Rattle.flow_excise.specs.Plans.{option_of};
 ghost use Rattle.flow_residual.specs.Fronts.{AreFronts};
 ghost use Rattle.flow_residual.specs.Kept.{HasSmallLeaves};
+ghost use Rattle.flow_model.specs.Lists.{AreDistinct};
+ghost use Rattle.leaf_rows.specs.Leaves.{has_leaf};
+ghost use Rattle.flow_residual.specs.Possible.{TakesAll, TakesFirst};
 
 use crate::ban::{Ban, add_ban, holds, is_above, no_bans, rewind_bans};
 use crate::fronts::{lengthen, no_fronts, progress_of, shorten};
+use crate::rows::{fill_rows, no_rows};
 use flow_excise::Compiled;
 use flow_plan::{KnotFree, Plan, Progress};
+use leaf_rows::LeafSet;
 use std::alloc::{AllocError, Global};
 use std::marker::Model;
 
@@ -29,6 +35,9 @@ pub struct Residual {
     /// The leaves of the journal.
     done: Progress,
     bans: Vec<Ban>,
+    /// Of each plan that follows the journal, the leaves that may come next, where `fresh`.
+    rows: Vec<LeafSet<16>>,
+    fresh: bool,
 }
 
 impl Model for Residual {
@@ -59,6 +68,7 @@ impl Residual {
         let plans = compiled.into_plans();
         let fronts = no_fronts(alloc, &plans)?;
         let banned = no_bans(alloc, &plans)?;
+        let rows = no_rows(alloc, &plans)?;
         Ok(Residual {
             journal: Vec::with_capacity(alloc, 1024)?,
             done: Progress::new(1024),
@@ -66,6 +76,8 @@ impl Residual {
             plans,
             fronts,
             banned,
+            rows,
+            fresh: false,
         })
     }
 
@@ -90,6 +102,18 @@ impl Residual {
         ensures same { (n : ℕ) → IsDone result.now n ↔ (n ∈ self.now.journal) }
     {
         &self.done
+    }
+
+    /// Nothing may follow with claims that have a leaf twice, or one that has no place in a row.
+    pub(crate) fn none_found(&self, claims: &[u32]) -> LeafSet<16>
+        requires { ¬ (Each (λ n. n < 1024) claims.now × AreDistinct claims.now) }
+        ensures none { (n : ℕ) → has_leaf result n ≡ false }
+        ensures beside { (o : ChoiceOption) (leaf : ℕ) → ¬ (TakesAll self.now (claims.now ++ leaf ∷ []) o) }
+        ensures first { (o : ChoiceOption) (leaf : ℕ) → ¬ (TakesFirst self.now leaf claims.now o) }
+    {
+        // what the fields keep says that the leaves of options have a place
+        let _ = &self.plans;
+        LeafSet::new()
     }
 
     /// How many plans there are.
@@ -162,6 +186,7 @@ impl Residual {
         );
         self.journal.push_reserved(leaf);
         self.done.note(leaf);
+        self.fresh = false;
     }
 
     /// The leaf may no longer be in the run.
@@ -189,5 +214,37 @@ impl Residual {
         shorten(&mut self.fronts, index as usize);
         rewind_bans(&self.plans, &mut self.banned, Ban { index, leaf });
         self.done = progress_of(&self.journal);
+        self.fresh = false;
+    }
+
+    /// Finds for each plan what may come next, so that the questions about this journal need not.
+    pub fn look_ahead(&mut self)
+        ensures { self.new ≡ self.old }
+    {
+        if !self.fresh {
+            fill_rows(
+                &self.plans,
+                &self.fronts,
+                &self.journal,
+                &self.done,
+                &mut self.rows,
+            );
+            self.fresh = true;
+        }
+    }
+
+    /// The leaves that may come next in the plan at that place, where it follows the journal.
+    pub(crate) fn next_row(&self, place: usize, done: &Progress) -> LeafSet<16>
+        requires place { place < length self.now.options }
+        requires bound { bound_of done.now ≡ 1024 }
+        requires same { (n : ℕ) → IsDone done.now n ↔ (n ∈ self.now.journal) }
+        ensures { (o : ChoiceOption) → slice_get self.now.options place ≡ Some o → IsReadyRun o.resolution o.order self.now.journal →
+            IsRowOf (IsReady o.resolution o.order (λ n. n ∈ self.now.journal)) result }
+    {
+        if self.fresh {
+            self.rows[place]
+        } else {
+            self.plan(place).next_row(done)
+        }
     }
 }

@@ -5,6 +5,7 @@ mod FormViews
 mod FreedomLemmas
 pub mod LeafLemmas
 mod ListingLemmas
+mod MarkLemmas
 mod NormalViews
 pub mod RuleViews
 mod SplitForms

@@ -2,6 +2,7 @@ pub mod Asked
 pub mod Conjunction
 pub mod Counts
 pub mod EventLeaves
+pub mod Marks
 pub mod Normal
 pub mod NormalForm
 pub mod Plain

@@ -1,14 +1,15 @@
-ghost use Rattle.std.specs.Prelude.{◌≡◌, ◌≢◌, [], IfOk};
+ghost use Rattle.std.specs.Prelude.{◌≡◌, ◌≢◌, ◌<◌, ℕ, false, length, [], IfOk};
 ghost use Rattle.std.proofs.Props.{props};
 ghost use Rattle.flow_model.specs.Constraint.{all_of};
 ghost use Rattle.flow_model.specs.Ways as model;
 ghost use Rattle.flow_rules.specs.Normal.{all_normals, normals_of};
 ghost use Rattle.flow_rules.specs.Plain.{IsPlain};
 
-use crate::counting::{WayCount, count_all};
+use crate::counting::{WayCount, count_marking};
 use crate::freedom::all_free;
 use crate::leaf_table::LeafEvents;
 use crate::listing::ways_of_all;
+use crate::marks::Marks;
 use crate::normal::Nnf;
 use crate::normalizing::nnf;
 use crate::order_set::OrderSet;
@@ -32,6 +33,7 @@ impl Conjunction {
     ghost use Rattle.flow_rules.specs.Conjunction.{HasWaysOf, normal_in};
     ghost use Rattle.flow_rules.specs.Counts.{count_of};
     ghost use Rattle.flow_rules.specs.EventLeaves.{leaf_in};
+    ghost use Rattle.flow_rules.specs.Marks.{SpareIn, is_marked};
     ghost use Rattle.flow_rules.specs.Rule.{rules_of};
     ghost use Rattle.flow_rules.specs.WayLists.{pairs_of};
 
@@ -52,21 +54,39 @@ impl Conjunction {
         Ok(Conjunction { plain, asking })
     }
 
-    /// How many ways there are in which the leaves meet all rules. It takes no memory.
-    pub fn count(&self, events: &LeafEvents) -> WayCount
-        ensures { result ≡ count_of (model.ways (normal_in self.now) (leaf_in events.now)) }
+    /// Marks for its rules that speak of orders. None is marked.
+    pub fn unmarked(&self, alloc: Global) -> Result<Marks, AllocError>
+        ensures { IfOk result (λ marks. (place : ℕ) → place < length self.now.asking.items → is_marked marks place ≡ false) }
+    {
+        Marks::none_of(alloc, self.asking.len())
+    }
+
+    /// How many ways there are in which the leaves meet all rules, with a mark for each rule of which they
+    /// ask for something. It takes no memory.
+    pub fn count(&self, events: &LeafEvents, marks: &mut Marks) -> WayCount
+        ensures count { result ≡ count_of (model.ways (normal_in self.now) (leaf_in events.now)) }
+        ensures spare { SpareIn marks.new self.now (leaf_in events.now) }
+        ensures more { (q : ℕ) → is_marked marks.new q ≡ false → is_marked marks.old q ≡ false }
     {
         if all_free(&self.plain, events) {
-            count_all(&self.asking, events)
+            count_marking(&self.asking, events, marks)
         } else {
             NONE
         }
     }
-    /// The ways in which the leaves meet all rules, in order, where there are some.
-    pub fn ways(&self, alloc: Global, events: &LeafEvents) -> Result<Vec<OrderSet>, AllocError>
-        requires { model.ways (normal_in self.now) (leaf_in events.now) ≢ [] }
+
+    /// The ways in which the leaves meet all rules, in order, where there are some. Rules that are not
+    /// marked are passed over.
+    pub fn ways(
+        &self,
+        alloc: Global,
+        events: &LeafEvents,
+        marks: &Marks,
+    ) -> Result<Vec<OrderSet>, AllocError>
+        requires some { model.ways (normal_in self.now) (leaf_in events.now) ≢ [] }
+        requires spare { SpareIn marks.now self.now (leaf_in events.now) }
         ensures { IfOk result (λ all. pairs_of all.items ≡ model.ways (normal_in self.now) (leaf_in events.now)) }
     {
-        ways_of_all(alloc, &self.asking, events)
+        ways_of_all(alloc, &self.asking, marks, events)
     }
 }

@@ -1,6 +1,5 @@
-use Rattle.std.proofs.Common.{◌≡◌, ◌≢◌, ◌∙◌, ℕ, length, MatchOption, sym, ap, subst}
+use Rattle.std.proofs.Common.{◌≢◌, ◌∙◌, ℕ, length, MatchOption, sym, ap, subst}
 use Rattle.flow_model.specs.Verdict.{EndsKept}
-use Rattle.flow_core.specs.declared.next.Next.TheVariants as next
 use Rattle.flow_core.specs.Looks.{IsNext}
 use Rattle.flow_core.specs.Run.{schema, GoesOn}
 use Rattle.flow_crew.proofs.Endings.{kept_end, waiting_end, no_end}

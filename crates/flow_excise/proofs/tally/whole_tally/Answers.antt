@@ -4,7 +4,7 @@ use Rattle.flow_model.specs.Resolution.{resolutions}
 use Rattle.flow_rules.specs.Conjunction.{normal_in}
 use Rattle.flow_excise.specs.Options.{has_ways, options_by}
 use Rattle.flow_excise.specs.Tallies.{tally_by, tally_of}
-use Rattle.flow_excise.proofs.TallyLemmas.{met_found, met_more, tally_found, tally_more, taken_whole, whole_count}
+use Rattle.flow_excise.proofs.TallyLemmas.{met_found, met_more, spare_more, spare_whole, tally_found, tally_more, taken_whole, whole_count}
 use Rattle.flow_excise.proofs.tally.whole_tally.Goals as goal
 
 pub loop-number-preserved : goal.loop-number-preserved
@@ -23,6 +23,8 @@ loop-number-preserved c =
       met_more tree normal c.loop-number.number resolution c.loop-number.met.items c.push.new.self.items _ there c.loop-number.invariant.1
           (met_found tree normal resolution leaves count same c.in_ok-count.ensures.count) c.in_ok-push.ensures.items,
       c.in_ok-count.ensures.blank,
+      spare_more c.args.rules.now tree c.loop-number.number resolution leaves c.loop-number.marks c.count_in.new.marks there same
+          c.in_ok-count.ensures.spare c.in_ok-count.ensures.more c.loop-number.invariant.3,
     )
 
 pub returns-clause-tally : goal.returns-clause-tally
@@ -40,3 +42,9 @@ returns-clause-met c =
     c.loop-number.invariant.1
     ∙ ap (λ l. map (has_ways c.args.tree.now (normal_in c.args.rules.now)) l)
     (taken_whole all c.loop-number.number (end ∙ whole_count c.args.tree.now.process c.resolutions-number-end.result c.resolutions-number-end.ensures c.requires.exact))
+
+pub returns-clause-spare : goal.returns-clause-spare
+returns-clause-spare c =
+    let end : c.loop-number.number ≡ c.resolutions-number-end.result = omega arith in
+    spare_whole c.args.rules.now c.args.tree.now c.loop-number.number c.loop-number.marks
+    (end ∙ whole_count c.args.tree.now.process c.resolutions-number-end.result c.resolutions-number-end.ensures c.requires.exact) c.loop-number.invariant.3

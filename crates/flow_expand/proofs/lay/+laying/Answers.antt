@@ -1,11 +1,12 @@
-use Rattle.std.proofs.Common.{rules, refl, sym, ap, ◌∙◌, map, take}
+use Rattle.std.proofs.Common.{rules, ◌≡◌, refl, sym, ap, subst, ◌∙◌, map, take}
+use Rattle.std.specs.Prelude.{IfOk, IfErr}
 use Rattle.flow_form.specs.declared.form.Form.{Form}
-use Rattle.flow_form.specs.Form.{shape_of, nop, test, absent, ins, del, iso, shapes}
+use Rattle.flow_form.specs.Form.{shape_of, nop, test, absent, ins, del, iso, serial, beside, either, shapes}
 use Rattle.flow_form.specs.Names.{event_names, names_in, names_in_each}
 use Rattle.flow_expand.specs.Expansion.{nothing, holds, lacks, adds, takes, becomes_nop, becomes_test, becomes_absent, becomes_ins, becomes_del}
 use Rattle.flow_expand.specs.Index.{decls_of}
-use Rattle.flow_expand.specs.Laid.{IsStop}
-use Rattle.flow_expand.proofs.LayLemmas.{goes_as, goes_iso, laid_more, begins_twice, begun_more, stop_in, names_of_member, err_to, list_step, shape_of-Nop, shape_of-Test, shape_of-Absent, shape_of-Ins, shape_of-Del, shape_of-Iso}
+use Rattle.flow_expand.specs.Laid.{IsStop, Goes}
+use Rattle.flow_expand.proofs.LayLemmas.{goes_as, goes_iso, laid_more, begins_twice, begun_more, stop_in, names_of_member, err_to, list_step, shape_of-Nop, shape_of-Test, shape_of-Absent, shape_of-Ins, shape_of-Del, shape_of-Iso, shape_of-Serial, shape_of-Beside, shape_of-Either}
 use Rattle.flow_expand.proofs.lay.+laying.Goals as goal
 
 pub lay-returns-in_ok-put_end-in-Nop-clause-ok : goal.lay-returns-in_ok-put_end-in-Nop-clause-ok
@@ -57,3 +58,39 @@ lay_list-loop-form-preserved t c =
           (begun_more decls c.loop-form.plan.items c.lay.new.plan.items c.args.how so_far c.loop-form.before c.in_ok-next.ensures.grown (c.loop-form.invariant.begun laid))
           (c.in_ok-next.ensures.ok (laid_more c.args.names.now c.args.laid.now c.args.plan.now.items c.loop-form.plan.items c.loop-form.invariant.grown laid)));
     }
+
+pub lay-returns-in-Serial-clause-ok : goal.lay-returns-in-Serial-clause-ok
+lay-returns-in-Serial-clause-ok t c = λ laid.
+    let same : serial (shapes (map shape_of c.deref-in-Serial.result.now)) ≡ shape_of c.args.form.now =
+    ap (λ fs. serial (shapes (map shape_of fs))) c.deref-in-Serial.ensures.value ∙ sym (shape_of-Serial c.args.form.now c.in-Serial.forms c.in-Serial.is) in
+    subst (λ s. IfOk c.lay_list.result (Goes (decls_of c.args.names.now) c.lay_list.new.plan.items s)) same (c.lay_list.ensures.ok laid)
+
+pub lay-returns-in-Serial-clause-stop : goal.lay-returns-in-Serial-clause-stop
+lay-returns-in-Serial-clause-stop t c =
+    let same : serial (shapes (map shape_of c.deref-in-Serial.result.now)) ≡ shape_of c.args.form.now =
+    ap (λ fs. serial (shapes (map shape_of fs))) c.deref-in-Serial.ensures.value ∙ sym (shape_of-Serial c.args.form.now c.in-Serial.forms c.in-Serial.is) in
+    subst (λ s. IfErr c.lay_list.result (IsStop c.args.names.now c.args.laid.now (names_in s))) same c.lay_list.ensures.stop
+
+pub lay-returns-in-Beside-clause-ok : goal.lay-returns-in-Beside-clause-ok
+lay-returns-in-Beside-clause-ok t c = λ laid.
+    let same : beside (shapes (map shape_of c.deref-in-Beside.result.now)) ≡ shape_of c.args.form.now =
+    ap (λ fs. beside (shapes (map shape_of fs))) c.deref-in-Beside.ensures.value ∙ sym (shape_of-Beside c.args.form.now c.in-Beside.forms c.in-Beside.is) in
+    subst (λ s. IfOk c.lay_list-in-Beside.result (Goes (decls_of c.args.names.now) c.lay_list-in-Beside.new.plan.items s)) same (c.lay_list-in-Beside.ensures.ok laid)
+
+pub lay-returns-in-Beside-clause-stop : goal.lay-returns-in-Beside-clause-stop
+lay-returns-in-Beside-clause-stop t c =
+    let same : beside (shapes (map shape_of c.deref-in-Beside.result.now)) ≡ shape_of c.args.form.now =
+    ap (λ fs. beside (shapes (map shape_of fs))) c.deref-in-Beside.ensures.value ∙ sym (shape_of-Beside c.args.form.now c.in-Beside.forms c.in-Beside.is) in
+    subst (λ s. IfErr c.lay_list-in-Beside.result (IsStop c.args.names.now c.args.laid.now (names_in s))) same c.lay_list-in-Beside.ensures.stop
+
+pub lay-returns-in-Either-clause-ok : goal.lay-returns-in-Either-clause-ok
+lay-returns-in-Either-clause-ok t c = λ laid.
+    let same : either (shapes (map shape_of c.deref-in-Either.result.now)) ≡ shape_of c.args.form.now =
+    ap (λ fs. either (shapes (map shape_of fs))) c.deref-in-Either.ensures.value ∙ sym (shape_of-Either c.args.form.now c.in-Either.forms c.in-Either.is) in
+    subst (λ s. IfOk c.lay_list-in-Either.result (Goes (decls_of c.args.names.now) c.lay_list-in-Either.new.plan.items s)) same (c.lay_list-in-Either.ensures.ok laid)
+
+pub lay-returns-in-Either-clause-stop : goal.lay-returns-in-Either-clause-stop
+lay-returns-in-Either-clause-stop t c =
+    let same : either (shapes (map shape_of c.deref-in-Either.result.now)) ≡ shape_of c.args.form.now =
+    ap (λ fs. either (shapes (map shape_of fs))) c.deref-in-Either.ensures.value ∙ sym (shape_of-Either c.args.form.now c.in-Either.forms c.in-Either.is) in
+    subst (λ s. IfErr c.lay_list-in-Either.result (IsStop c.args.names.now c.args.laid.now (names_in s))) same c.lay_list-in-Either.ensures.stop

@@ -2,7 +2,7 @@ use Rattle.std.proofs.Common.{◌≡◌, ◌<◌, ◌+◌, ℕ, [], ◌∷◌, �
 use Rattle.flow_model.specs.Verdict.{AreJust}
 use Rattle.flow_core.specs.Looks.{CanAct}
 use Rattle.flow_reply.proofs.Runs.{act_within}
-use Rattle.flow_reply.proofs.Rising.{Below, one_found, one_passed, all_found}
+use Rattle.flow_core.proofs.Rising.{Below, one_found, one_passed, all_found}
 use Rattle.flow_reply.proofs.listed.enabled.Goals.{then-can_act+in_ok-push, else-can_act}
 use Rattle.flow_reply.proofs.listed.enabled.Goals as goal
 

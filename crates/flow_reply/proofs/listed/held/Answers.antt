@@ -5,7 +5,7 @@ use Rattle.flow_workflow.specs.Definition.{Definition}
 use Rattle.flow_workflow.specs.Numbers.{IsKnown}
 use Rattle.flow_reply.specs.Reply.{HoldsNow}
 use Rattle.flow_reply.proofs.Runs.{fact_within}
-use Rattle.flow_reply.proofs.Rising.{Below, one_found, one_passed, all_found}
+use Rattle.flow_core.proofs.Rising.{Below, one_found, one_passed, all_found}
 use Rattle.flow_reply.proofs.listed.held.Goals.{then-holds+in_ok-push, else-holds}
 use Rattle.flow_reply.proofs.listed.held.Goals as goal
 

@@ -2,7 +2,7 @@ use Rattle.std.proofs.Common.{◌≡◌, ◌<◌, ◌+◌, ℕ, [], ◌∷◌, �
 use Rattle.flow_model.specs.Verdict.{AreJust}
 use Rattle.flow_model.specs.Run.{CanDoAside}
 use Rattle.flow_core.specs.Run.{schema, now}
-use Rattle.flow_reply.proofs.Rising.{Below, one_found, one_passed, all_found}
+use Rattle.flow_core.proofs.Rising.{Below, one_found, one_passed, all_found}
 use Rattle.flow_reply.proofs.listed.left.Goals.{then-is_left+in_ok-push, else-is_left}
 use Rattle.flow_reply.proofs.listed.left.Goals as goal
 

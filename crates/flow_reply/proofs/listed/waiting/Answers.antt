@@ -2,7 +2,7 @@ use Rattle.std.proofs.Common.{ℕ, List, subst, sym}
 use Rattle.flow_model.specs.Verdict.{AreJust}
 use Rattle.flow_core.specs.Looks.{IsWaiting}
 use Rattle.flow_core.proofs.Waiting.{not_waiting}
-use Rattle.flow_reply.proofs.Rising.{none_has}
+use Rattle.flow_core.proofs.Rising.{none_has}
 use Rattle.flow_reply.proofs.listed.waiting.Goals as goal
 
 pub returns-in_default : goal.returns-in_default

@@ -1,4 +1,4 @@
-use Rattle.std.proofs.Common.{◌≡◌, ◌<◌, ◌≤◌, ◌+◌, ℕ, cond, nat_eq, false, List, [], ◌∷◌, ◌++◌, length, map, take, Some, slice_get, slice_index_or, subst, subst₂, sym, ap, ◌∙◌, refl, arith, length-append}
+use Rattle.std.proofs.Common.{◌≡◌, ◌<◌, ◌≤◌, ◌+◌, ℕ, cond, nat_eq, false, List, [], ◌∷◌, ◌++◌, length, map, take, Some, slice_get, slice_index_or, subst, subst₂, sym, ap, ◌∙◌, refl, arith, length-append, true≢false}
 use Rattle.std.proofs.lemmas.Bool.{eq-eqb}
 use Rattle.std.proofs.lemmas.List.{take_all, length-map}
 use Rattle.std.proofs.lemmas.Option.{slice_get-get_or}
@@ -55,6 +55,7 @@ invariant_of-self c =
           (kept_took i.workflow i.limit i.history.items i.residual i.claims i.world i.committed k going room c.args.by c.args.leaf c.args.event (c.count-claim.result + 1) number at can);
       room = subst (λ n. i.limit ≤ n) (sym c.push_reserved.ensures.capacity) c.self.invariant.room;
       small = c.self.invariant.small;
+      ahead = λ looked. absurd (true≢false (sym looked));
     }
 
 -- the claim given last, and what the gate is asked for it

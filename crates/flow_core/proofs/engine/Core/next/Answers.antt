@@ -4,7 +4,6 @@ use Rattle.flow_model.specs.Run.{state_of}
 use Rattle.flow_laws.specs.Histories.{NeverWaits}
 use Rattle.flow_laws.proofs.NeverAtALoss.{never_stuck}
 use Rattle.flow_workflow.specs.Definition.{schema_of}
-use Rattle.flow_core.specs.declared.next.Next.{Next}
 use Rattle.flow_core.specs.declared.next.Next.TheVariants.{Stuck}
 use Rattle.flow_core.specs.Run.{Run, schema}
 use Rattle.flow_core.specs.Looks.{IsNext}

@@ -1,4 +1,4 @@
-use Rattle.std.proofs.Common.{◌≡◌, ◌<◌, ◌≤◌, false, true, List, [], length, subst, sym}
+use Rattle.std.proofs.Common.{◌≡◌, ◌<◌, ◌≤◌, false, true, List, [], length, subst, sym, true≢false}
 use Rattle.flow_model.specs.declared.history.Entry.{Entry}
 use Rattle.flow_model.specs.Schema.{IsGood}
 use Rattle.flow_model.specs.Run.{RunState, state_of, current_claims}
@@ -22,4 +22,5 @@ invariant_of-self c =
           (kept_committed i.workflow i.limit i.history.items i.residual i.claims i.world i.committed k going room c.args.by none good);
       room = subst (λ n. i.limit ≤ n) (sym c.push_reserved.ensures.capacity) c.self.invariant.room;
       small = c.self.invariant.small;
+      ahead = λ looked. absurd (true≢false (sym looked));
     }

@@ -1,4 +1,4 @@
-use Rattle.std.proofs.Common.{◌≡◌, ◌<◌, ◌≤◌, false, List, length, Some, slice_get, subst, subst₂, sym}
+use Rattle.std.proofs.Common.{◌≡◌, ◌<◌, ◌≤◌, false, List, length, Some, slice_get, subst, subst₂, sym, true≢false}
 use Rattle.flow_model.specs.declared.history.Entry.{Entry}
 use Rattle.flow_model.specs.declared.history.Step.TheVariants.{Did}
 use Rattle.flow_model.specs.Facts.{Holds, HoldsAt}
@@ -67,4 +67,5 @@ invariant_of-self c =
           (kept_did i.workflow i.limit i.history.items i.residual i.claims i.world i.committed k going room c.args.by c.args.leaf c.args.label at (aside, holds_at)));
       room = subst (λ n. i.limit ≤ n) (sym c.push_reserved.ensures.capacity) c.self.invariant.room;
       small = c.self.invariant.small;
+      ahead = λ looked. absurd (true≢false (sym looked));
     }

@@ -1,7 +1,7 @@
-use Rattle.std.proofs.Common.{◌≡◌, ◌<◌, ◌≤◌, ◌+◌, false, List, [], ◌∷◌, ◌++◌, length, subst, subst₂, sym}
+use Rattle.std.proofs.Common.{◌≡◌, ◌<◌, ◌≤◌, false, List, [], ◌∷◌, ◌++◌, length, subst, subst₂, sym, true≢false}
 use Rattle.flow_model.specs.declared.history.Entry.{Entry}
 use Rattle.flow_model.specs.declared.history.Step.TheVariants.{Done}
-use Rattle.flow_model.specs.Run.{RunState, state_of, leaf_of_claim, answer, IsCurrent}
+use Rattle.flow_model.specs.Run.{RunState, state_of, leaf_of_claim, IsCurrent}
 use Rattle.flow_workflow.specs.Definition.{schema_of}
 use Rattle.flow_residual.specs.Remaining.{Remaining, MayComeNext}
 use Rattle.flow_claims.specs.Claimed.{Claimed}
@@ -61,4 +61,5 @@ invariant_of-self c =
       kept = subst (λ (h : List Entry). IsKept i.workflow i.limit h c.push.new.self c.answer.new.self c.perform.new.self i.committed) (sym c.push_reserved.ensures.items) made;
       room = subst (λ n. i.limit ≤ n) (sym c.push_reserved.ensures.capacity) c.self.invariant.room;
       small = c.self.invariant.small;
+      ahead = λ looked. absurd (true≢false (sym looked));
     }

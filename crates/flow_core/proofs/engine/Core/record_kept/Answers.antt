@@ -1,7 +1,7 @@
-use Rattle.std.proofs.Common.{◌≡◌, ◌<◌, ◌≤◌, ℕ, false, List, length, subst, subst₂, sym}
+use Rattle.std.proofs.Common.{◌≡◌, ◌<◌, ◌≤◌, ℕ, false, List, length, subst, subst₂, sym, true≢false}
 use Rattle.flow_model.specs.declared.history.Entry.{Entry}
 use Rattle.flow_model.specs.Lists.{◌∈◌}
-use Rattle.flow_model.specs.Run.{RunState, state_of, leaf_of_claim, answer, IsCurrent, IsFree}
+use Rattle.flow_model.specs.Run.{RunState, state_of, leaf_of_claim, IsCurrent, IsFree}
 use Rattle.flow_workflow.specs.Definition.{schema_of}
 use Rattle.flow_claims.specs.Claimed.{Claimed}
 use Rattle.flow_core.specs.Run.{Run, schema, now, GoesOn, HasSteps}
@@ -34,4 +34,5 @@ invariant_of-self c =
           (kept_failed i.workflow i.limit i.history.items i.residual i.claims i.world i.committed k going room c.args.by c.args.claim (current, needed));
       room = subst (λ n. i.limit ≤ n) (sym c.push_reserved.ensures.capacity) c.self.invariant.room;
       small = c.self.invariant.small;
+      ahead = λ looked. absurd (true≢false (sym looked));
     }

@@ -1,6 +1,6 @@
-use Rattle.std.proofs.Common.{◌≡◌, ◌<◌, ◌≤◌, false, List, length, subst, subst₂, sym}
+use Rattle.std.proofs.Common.{◌≡◌, ◌<◌, ◌≤◌, false, List, length, subst, subst₂, sym, true≢false}
 use Rattle.flow_model.specs.declared.history.Entry.{Entry}
-use Rattle.flow_model.specs.Run.{RunState, state_of, answer, IsLapsed}
+use Rattle.flow_model.specs.Run.{RunState, state_of, IsLapsed}
 use Rattle.flow_workflow.specs.Definition.{schema_of}
 use Rattle.flow_claims.specs.Claimed.{Claimed}
 use Rattle.flow_core.specs.Run.{Run, now, GoesOn, HasSteps}
@@ -31,4 +31,5 @@ invariant_of-self c =
           (kept_late i.workflow i.limit i.history.items i.residual i.claims i.world i.committed k going room c.args.by c.args.claim lapsed);
       room = subst (λ n. i.limit ≤ n) (sym c.push_reserved.ensures.capacity) c.self.invariant.room;
       small = c.self.invariant.small;
+      ahead = λ looked. absurd (true≢false (sym looked));
     }

@@ -1,4 +1,4 @@
-use Rattle.std.proofs.Common.{◌≡◌, ◌<◌, ◌≤◌, ℕ, false, List, length, subst, subst₂, sym, arith}
+use Rattle.std.proofs.Common.{◌≡◌, ◌<◌, ◌≤◌, ℕ, false, List, length, subst, subst₂, sym, arith, true≢false}
 use Rattle.flow_model.specs.declared.history.Entry.{Entry}
 use Rattle.flow_model.specs.declared.history.Step.TheVariants.{Rewound}
 use Rattle.flow_model.specs.Run.{RunState, state_of, IsOpenIndex}
@@ -56,4 +56,5 @@ invariant_of-self c =
           (λ w s a b f. c.raise.ensures.claims w s a b (subst (IsOf w s) (sym c.rewind_to.ensures) f)) c.raise.ensures.others));
       room = subst (λ n. i.limit ≤ n) (sym c.push_reserved.ensures.capacity) c.self.invariant.room;
       small = c.self.invariant.small;
+      ahead = λ looked. absurd (true≢false (sym looked));
     }

@@ -1,4 +1,4 @@
-use Rattle.std.proofs.Common.{◌≡◌, ◌<◌, ◌≤◌, ◌+◌, false, List, [], ◌∷◌, ◌++◌, length, subst, subst₂, sym, ap, ◌∙◌, arith}
+use Rattle.std.proofs.Common.{◌≡◌, ◌<◌, ◌≤◌, ◌+◌, false, List, [], ◌∷◌, ◌++◌, length, subst, subst₂, sym, ap, ◌∙◌, arith, true≢false}
 use Rattle.flow_model.specs.declared.history.Entry.{Entry}
 use Rattle.flow_model.specs.Schema.{Schema}
 use Rattle.flow_model.specs.Run.{RunState, state_of, leaf_of_claim, answer, with_new_epoch, IsCurrent}
@@ -62,4 +62,5 @@ invariant_of-self c =
           (kept_switched i.workflow i.limit i.history.items i.residual i.claims i.world i.committed k going room c.args.by c.args.claim c.args.leaf c.raise.new.self (current, avoidable) on raised others);
       room = subst (λ n. i.limit ≤ n) (sym c.push_reserved.ensures.capacity) c.self.invariant.room;
       small = c.self.invariant.small;
+      ahead = λ looked. absurd (true≢false (sym looked));
     }

@@ -1,4 +1,4 @@
-use Rattle.std.proofs.Common.{◌≡◌, ◌∙◌, ℕ, MatchOption, Option, Some, None, is_some, true, refl, sym, subst}
+use Rattle.std.proofs.Common.{◌≡◌, ℕ, MatchOption, Option, Some, None, is_some, true, refl, sym, subst}
 use Rattle.flow_core.specs.Run.{Run, schema, now}
 use Rattle.flow_core.specs.Answers.{IsUnanswered}
 use Rattle.flow_model.specs.Verdict.{call_of}

@@ -1,4 +1,4 @@
-use Rattle.std.proofs.Common.{◌≡◌, ◌∙◌, refl, sym, subst, inl, inr, true≢false}
+use Rattle.std.proofs.Common.{◌∙◌, refl, sym, subst, inl, inr, true≢false}
 use Rattle.flow_model.specs.Run.{IsLegal}
 use Rattle.flow_core.specs.Run.{Run, schema}
 use Rattle.flow_crew.specs.Ends.{HasEnd, HasNoEnd}

@@ -45,6 +45,8 @@ invariant_of-self c =
           let made = subst (λ (plans : List Sampled). AreLeastBans (options_of plans) (r.bans ++ (c.len-index.result, c.args.leaf) ∷ []) c.add_ban.new.least) c.deref.ensures.value (c.add_ban.ensures r.bans before) in
           subst₂ (λ (bans : List (ℕ × ℕ)) (least : List (Option ℕ)). AreLeastBans (options_of i.plans.items) bans least) (sym more)
           (sym (with_items_is i.banned c.add_ban.new.least (made.one_each ∙ sym c.self.invariant.least.one_each ∙ sym i.banned.ok.0))) made;
+      rows_one_each = c.self.invariant.rows_one_each;
+      rows_are = c.self.invariant.rows_are;
       done_bound = c.self.invariant.done_bound;
       done_are = c.self.invariant.done_are;
       journal_room = c.self.invariant.journal_room;

@@ -1,4 +1,4 @@
-use Rattle.std.proofs.Common.{◌≡◌, ◌≤◌, ◌<◌, ◌++◌, [], ◌∷◌, ℕ, List, length, sym, ◌∙◌, subst, subst₂, arith}
+use Rattle.std.proofs.Common.{true≢false, ◌≡◌, ◌≤◌, ◌<◌, ◌++◌, [], ◌∷◌, ℕ, List, length, sym, ◌∙◌, subst, subst₂, arith}
 use Rattle.std.specs.Vec.{vec_len, vec_capacity, with_items}
 use Rattle.std.proofs.lemmas.List.{with_items_is}
 use Rattle.flow_plan.specs.Sampled.{Sampled}
@@ -37,6 +37,8 @@ invariant_of-self c =
       kept = subst (λ (journal : List ℕ). IsKept (record r { journal = journal }) (with_items i.fronts c.lengthen.new.fronts).items) (sym c.push_reserved.ensures.items)
           (subst (λ (fronts : List ℕ). IsKept (record r { journal = i.journal.items ++ c.args.leaf ∷ [] }) fronts) (sym (with_items_is i.fronts c.lengthen.new.fronts (longer.one_each ∙ sym k.fronts_are.one_each ∙ sym i.fronts.ok.0))) made);
       least = c.self.invariant.least;
+      rows_one_each = c.self.invariant.rows_one_each;
+      rows_are = λ fresh. absurd (true≢false (sym fresh));
       done_bound = c.note.ensures.bound ∙ c.self.invariant.done_bound;
       done_are = done_push i.done c.note.new.self i.journal.items c.push_reserved.new.self.items c.args.leaf c.note.ensures.noted c.push_reserved.ensures.items c.self.invariant.done_are;
       journal_room = let same : vec_capacity c.push_reserved.new.self ≡ vec_capacity i.journal = c.push_reserved.ensures.capacity in

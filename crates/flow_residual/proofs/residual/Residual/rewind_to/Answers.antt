@@ -1,4 +1,4 @@
-use Rattle.std.proofs.Common.{◌≡◌, ◌≤◌, ◌<◌, ◌++◌, [], ◌∷◌, ℕ, List, Option, length, take, get_or, nat_le, slice_index, rules, sym, ap, ◌∙◌, subst, subst₂, arith}
+use Rattle.std.proofs.Common.{true≢false, ◌≡◌, ◌≤◌, ◌<◌, ◌++◌, [], ◌∷◌, ℕ, List, Option, length, take, get_or, nat_le, slice_index, rules, sym, ap, ◌∙◌, subst, subst₂, arith}
 use Rattle.std.specs.List.{filter}
 use Rattle.std.specs.Vec.{vec_len, vec_capacity, with_items}
 use Rattle.std.proofs.lemmas.Fn.{filter_same}
@@ -66,6 +66,8 @@ invariant_of-self c =
           let same : pairs ≡ pairs_of_bans c.push_reserved.new.self.items = (λ k. filter (λ ban. nat_le ban.0 index) r.bans ++ (index, is k) ∷ []) ∙ sym bans in
           subst₂ (λ (bans : List (ℕ × ℕ)) (least : List (Option ℕ)). AreLeastBans (options_of i.plans.items) bans least) same
           (sym (with_items_is i.banned c.rewind_bans.new.least (made.one_each ∙ sym c.self.invariant.least.one_each ∙ sym i.banned.ok.0))) made;
+      rows_one_each = c.self.invariant.rows_one_each;
+      rows_are = λ fresh. absurd (true≢false (sym fresh));
       done_bound = c.progress_of-self-inside.ensures.bound;
       done_are = subst (AreDone c.progress_of-self-inside.result) c.deref-2.ensures.value c.progress_of-self-inside.ensures.same;
       journal_room = let same : vec_capacity c.truncate.new.self ≡ vec_capacity i.journal = c.truncate.ensures.capacity in

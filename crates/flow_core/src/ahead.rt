@@ -1,0 +1,42 @@
+ghost use Rattle.std.specs.Prelude.{◌≡◌, ◌↔◌, IsTrue, [], ◌∷◌, ◌++◌};
+ghost use Rattle.flow_model.specs.Run.{current_leaves, MayAllFollow, MayFollowFirst};
+
+use crate::engine::Core;
+
+impl Core {
+    ghost use Rattle.flow_core.specs.Run.{schema, now};
+
+    /// Finds at once what can be taken or done, so that the questions about this state cost little. The run stays as it is.
+    pub fn look_ahead(&mut self)
+        ensures { self.new ≡ self.old }
+    {
+        if !self.looked {
+            self.residual.look_ahead();
+            self.beside = self.residual.all_beside(self.claims.leaves());
+            self.first = self.residual.all_first(self.claims.leaves());
+            self.looked = true;
+        }
+    }
+
+    /// Whether, in some one option, the leaf and those of the claims may follow in every order.
+    pub(crate) fn may_stand_beside(&self, leaf: u32) -> bool
+        ensures { IsTrue result ↔ MayAllFollow (schema self.now) (now self.now) (current_leaves (now self.now) ++ leaf ∷ []) }
+    {
+        if self.looked && leaf < 1024 {
+            self.beside.has(leaf)
+        } else {
+            self.residual.legal_take(self.claims.leaves(), leaf)
+        }
+    }
+
+    /// Whether, in some one option, the leaf may come next, and those of the claims then in every order.
+    pub(crate) fn may_come_first(&self, leaf: u32) -> bool
+        ensures { IsTrue result ↔ MayFollowFirst (schema self.now) (now self.now) leaf (current_leaves (now self.now)) }
+    {
+        if self.looked && leaf < 1024 {
+            self.first.has(leaf)
+        } else {
+            self.residual.legal_do(self.claims.leaves(), leaf)
+        }
+    }
+}

@@ -1,0 +1,66 @@
+-- Runs in which every task succeeds.
+use Rattle.std.specs.Prelude.{◌≡◌, ◌≤◌, ◌+◌, ◌*◌, Bool, false, length, Some}
+use Rattle.flow_model.specs.declared.history.Call.{Call}
+use Rattle.flow_model.specs.declared.history.Entry.{Entry}
+use Rattle.flow_model.specs.declared.history.Outcome.{Outcome}
+use Rattle.flow_model.specs.declared.history.Outcome.TheVariants as outcome
+use Rattle.flow_model.specs.declared.history.Step.{Step}
+use Rattle.flow_model.specs.declared.history.Step.TheVariants.{Took, Done, Failed, Late, Did, Rewound, Committed}
+use Rattle.flow_model.specs.declared.labels.Note.{Note}
+use Rattle.flow_model.specs.declared.labels.Note.TheVariants as note
+use Rattle.flow_model.specs.Lists.{Each}
+use Rattle.flow_model.specs.Facts.{event_at}
+use Rattle.flow_model.specs.Schema.{Schema}
+use Rattle.flow_model.specs.Verdict.{note_of}
+use Rattle.flow_laws.specs.Words.{IsWellFormed, IsConsistent}
+use Rattle.flow_laws.specs.Histories.{NeverWaits}
+use Rattle.flow_core.specs.Run.{Run, schema}
+use Rattle.flow_gate.specs.Outcomes.{is_same, announced}
+use Rattle.flow_crew.specs.declared.ends.End.{End}
+use Rattle.flow_crew.specs.declared.ends.End.TheVariants as end
+use Rattle.flow_crew.specs.Ends.{IsEnd}
+use Rattle.flow_crew.specs.Kept.{IsByWorkers}
+
+-- nothing failed, nothing came late, and the run did not go back
+abbrev pub IsPlainStep : Step → Type 0
+IsPlainStep (Took claim leaf) = Unit {0}
+IsPlainStep (Done claim) = Unit {0}
+IsPlainStep (Failed claim effect) = ⊥
+IsPlainStep (Late claim) = ⊥
+IsPlainStep (Did leaf) = Unit {0}
+IsPlainStep (Rewound index) = ⊥
+IsPlainStep Committed = Unit {0}
+
+-- the call is for an event of the workflow, with what its declaration notes; attempts are counted from 1
+abbrev pub IsCallFor : Schema → Call → Type 0
+IsCallFor w call = (event_at w.labels call.leaf ≡ Some call.event) × (call.note ≡ note_of w call.event) × (1 ≤ call.attempt)
+
+-- no such call fails
+abbrev pub NeverFails : (Call → Outcome → Bool) → Schema → Type 0
+NeverFails gives w = (call : Call) → IsCallFor w call → gives call outcome.Failed ≡ false
+
+-- Workers run a workflow that has an execution, nothing in it waits, and no task fails.
+pub record AllSucceeds (gives : Call → Outcome → Bool) (r : Run) : Type 0 where
+  pub by_workers : IsByWorkers gives r
+  pub well_formed : IsWellFormed (schema r)
+  pub consistent : IsConsistent (schema r)
+  pub never_waits : Each NeverWaits (schema r).labels
+  pub never_fails : NeverFails gives (schema r)
+
+abbrev pub DoneRunsArePlain : Type 0
+DoneRunsArePlain = (gives : Call → Outcome → Bool) (r : Run) → AllSucceeds gives r → Each (λ (entry : Entry). IsPlainStep entry.step) r.history
+
+-- two entries a leaf and one to commit are enough
+abbrev pub DoneRunsCommit : Type 0
+DoneRunsCommit = (gives : Call → Outcome → Bool) (r : Run) → AllSucceeds gives r → 2 * length (schema r).labels + 1 ≤ r.limit →
+    (found : End) → IsEnd r found → found ≡ end.Committed
+
+-- a task whose event is declared so succeeds at each attempt
+abbrev pub DeclaresSuccess : Note → Type 0
+DeclaresSuccess note.Done = Unit {0}
+DeclaresSuccess note.Fail = ⊥
+DeclaresSuccess (note.FailFirst count) = count ≡ 0
+
+-- a gate that goes by the declarations
+abbrev pub SuccessIsAsDeclared : Type 0
+SuccessIsAsDeclared = (w : Schema) → Each DeclaresSuccess w.notes → NeverFails (λ call answer. is_same answer (announced call)) w

@@ -1,0 +1,56 @@
+ghost use Rattle.std.specs.Prelude.{◌≡◌, IfOk};
+ghost use Rattle.serde_json.specs.View.{view};
+ghost use Rattle.flow_reply.specs.Summary.{summary_object, IsSummary};
+
+use crate::report::print_verdict;
+use crate::verdict::Verdict;
+use flow_core::Core;
+use serde_json::{Value, json};
+use std::alloc::{AllocError, Global};
+
+/// What is told of a run of a generated workflow.
+#[derive(Clone, Copy, Debug, PartialEq, Eq)]
+pub struct Summary {
+    pub bulk: u64,
+    /// The length of the history.
+    pub history: u64,
+    /// The length of the journal.
+    pub journal: u64,
+    pub leaves: u64,
+    /// The options that have an execution.
+    pub live: u64,
+    pub options: u64,
+    pub resolutions: u64,
+    pub seed: u64,
+    pub size: u64,
+    pub verdict: Verdict,
+}
+
+/// Prints the summary of a run that came to its verdict, as one line of JSON.
+pub fn print_summary(alloc: Global, core: &Core, summary: &Summary) -> Result<Vec<u8>, AllocError>
+    ensures { IfOk result (λ text. IsSummary core.now summary.now text.items) }
+{
+    let words = print_verdict(alloc, core, &summary.verdict)?;
+    let object = summary_value(alloc, summary, &words)?;
+    let mut line = object.to_string(alloc)?.into_bytes();
+    line.extend_from_slice(b"\n")?;
+    Ok(line)
+}
+
+/// The summary as an object of JSON, its verdict in these words.
+fn summary_value(alloc: Global, summary: &Summary, words: &str) -> Result<Value, AllocError>
+    ensures { IfOk result (λ value. view value ≡ summary_object summary.now words.now) }
+{
+    json!(in alloc; {
+        "bulk": summary.bulk,
+        "history": summary.history,
+        "journal": summary.journal,
+        "leaves": summary.leaves,
+        "live": summary.live,
+        "options": summary.options,
+        "resolutions": summary.resolutions,
+        "seed": summary.seed,
+        "size": summary.size,
+        "verdict": words
+    })
+}

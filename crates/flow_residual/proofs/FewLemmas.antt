@@ -1,0 +1,41 @@
+-- Lists that are ready runs.
+use Rattle.std.proofs.Common.{ℕ, ◌<◌, List, [], ◌∷◌, ◌++◌, inl, inr, refl, subst}
+use Rattle.flow_model.specs.Lists.{◌∈◌, Each, AreDistinct}
+use Rattle.flow_model.specs.Process.{Process, leaves}
+use Rattle.flow_model.specs.Ready.{DoneOr, IsReadyRunAfter}
+use Rattle.flow_model.specs.Resolution.{ChoiceOption}
+use Rattle.flow_laws.proofs.ListLemmas2.{each_member, each_to, each_parts, distinct_parts, same_order}
+use Rattle.flow_residual.specs.Kept.{HasSmallLeaves}
+use Rattle.flow_residual.specs.Remaining.{Remaining}
+use Rattle.flow_residual.specs.Possible.{TakesAll, TakesFirst}
+
+fresh : (q : Process) (pairs : List (ℕ × ℕ)) (D : ℕ → Type 0) (run : List ℕ) (x : ℕ) → IsReadyRunAfter q pairs D run → x ∈ run → ¬ D x
+fresh q pairs D [] x run member done = member
+fresh q pairs D (n ∷ run) x ready (inl same) done = ready.0.not_done (subst D same done)
+fresh q pairs D (n ∷ run) x ready (inr member) done = fresh q pairs (DoneOr D (n ∷ [])) run x ready.1 member (inl done)
+
+run_distinct : (q : Process) (pairs : List (ℕ × ℕ)) (D : ℕ → Type 0) (run : List ℕ) → IsReadyRunAfter q pairs D run → AreDistinct run
+run_distinct q pairs D [] ready = tt
+run_distinct q pairs D (n ∷ run) ready =
+    ((λ member. fresh q pairs (DoneOr D (n ∷ [])) run n ready.1 member (inr (inl refl))), run_distinct q pairs (DoneOr D (n ∷ [])) run ready.1)
+
+run_leaves : (q : Process) (pairs : List (ℕ × ℕ)) (D : ℕ → Type 0) (run : List ℕ) → IsReadyRunAfter q pairs D run → Each (λ n. n ∈ leaves q) run
+run_leaves q pairs D [] ready = tt
+run_leaves q pairs D (n ∷ run) ready = (ready.0.leaf, run_leaves q pairs (DoneOr D (n ∷ [])) run ready.1)
+
+small_run : (o : ChoiceOption) (D : ℕ → Type 0) (run : List ℕ) → HasSmallLeaves o → IsReadyRunAfter o.resolution o.order D run → Each (λ n. n < 1024) run × AreDistinct run
+small_run o D run fits ready = (
+  each_to (λ n. n ∈ leaves o.resolution) (λ n. n < 1024) run (λ n member. each_member (λ n. n < 1024) (leaves o.resolution) fits n member) (run_leaves o.resolution o.order D run ready),
+  run_distinct o.resolution o.order D run ready,
+)
+
+pub few_beside : (r : Remaining) → Each HasSmallLeaves r.options → (claims : List ℕ) → ¬ (Each (λ n. n < 1024) claims × AreDistinct claims) →
+    (o : ChoiceOption) (leaf : ℕ) → ¬ (TakesAll r (claims ++ leaf ∷ []) o)
+few_beside r fits claims many o leaf takes =
+    let few = small_run o (λ n. n ∈ r.journal) (claims ++ leaf ∷ []) (each_member HasSmallLeaves r.options fits o takes.0.among) (takes.1 (claims ++ leaf ∷ []) (same_order (claims ++ leaf ∷ []))) in
+    many ((each_parts (λ n. n < 1024) claims (leaf ∷ []) few.0).0, (distinct_parts claims (leaf ∷ []) few.1).0)
+
+pub few_first : (r : Remaining) → Each HasSmallLeaves r.options → (claims : List ℕ) → ¬ (Each (λ n. n < 1024) claims × AreDistinct claims) →
+    (o : ChoiceOption) (leaf : ℕ) → ¬ (TakesFirst r leaf claims o)
+few_first r fits claims many o leaf takes =
+    many (small_run o (DoneOr (λ n. n ∈ r.journal) (leaf ∷ [])) claims (each_member HasSmallLeaves r.options fits o takes.0.among) (takes.2 claims (same_order claims)))
