@@ -25,7 +25,7 @@ use Rattle.flow_reply.specs.declared.refused.Refused.TheVariants.{Words, Read, T
 
 -- how the program is called
 abbrev pub usage_text : List ℕ
-usage_text = codes "usage: flow MODE [--steps N]\n" ++ codes "modes: drive check verify trace\n"
+usage_text = codes "usage: flow MODE [--steps N] [--workers N] [--seed N] [--size N]\n" ++ codes "modes: drive run check verify trace gen large\n"
 
 -- what a text needs, in words
 abbrev pub kind_text : Wanted → List ℕ

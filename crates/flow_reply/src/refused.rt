@@ -47,7 +47,7 @@ pub fn print_refused(
     match refused {
         Refused::Words => Vec::from_slice(
             alloc,
-            b"refused: words\nusage: flow MODE [--steps N]\nmodes: drive check verify trace\n",
+            b"refused: words\nusage: flow MODE [--steps N] [--workers N] [--seed N] [--size N]\nmodes: drive run check verify trace gen large\n",
         ),
         Refused::Read => Vec::from_slice(alloc, b"refused: read\n"),
         Refused::TooLong => Vec::from_slice(alloc, b"refused: too long 1048576\n"),
