@@ -25,14 +25,7 @@ fn wrong_words_leave_the_source(rt: HostRuntime) -> Result<(), Fail> {
     for (line, status) in table {
         let words = words_of(rt.alloc(), line)?;
         let mut sink = MemSink::new(rt.alloc(), 1000)?;
-        let told = flow(
-            &rt,
-            rt.alloc(),
-            &words,
-            &mut source,
-            &mut sink,
-            &NoteGate,
-        );
+        let told = flow(&rt, rt.alloc(), &words, &mut source, &mut sink, &NoteGate);
         assert_eq!(rt; told, status);
     }
     Ok(())
@@ -46,14 +39,7 @@ fn a_failed_read_ends_the_call(rt: HostRuntime) -> Result<(), Fail> {
         let input = NOTHING.as_bytes().to_vec(rt.alloc())?;
         let mut source = FaultySource::new(input, [failing].to_vec(rt.alloc())?);
         let mut sink = MemSink::new(rt.alloc(), 1000)?;
-        let status = flow(
-            &rt,
-            rt.alloc(),
-            &words,
-            &mut source,
-            &mut sink,
-            &NoteGate,
-        );
+        let status = flow(&rt, rt.alloc(), &words, &mut source, &mut sink, &NoteGate);
         assert_eq!(rt; status, Status::ReadFault, "at {failing}");
         assert_eq!(rt; sink.bytes(), b"refused: read\n".as_slice(), "at {failing}");
     }
@@ -66,14 +52,7 @@ fn a_failed_write_ends_the_call(rt: HostRuntime) -> Result<(), Fail> {
     for (room, failing, kept) in [(1000, 0, ""), (10, 9, "leaves 0\nr")] {
         let mut source = MemSource::new(NOTHING.as_bytes().to_vec(rt.alloc())?);
         let mut sink = FaultySink::new(rt.alloc(), room, [failing].to_vec(rt.alloc())?)?;
-        let status = flow(
-            &rt,
-            rt.alloc(),
-            &words,
-            &mut source,
-            &mut sink,
-            &NoteGate,
-        );
+        let status = flow(&rt, rt.alloc(), &words, &mut source, &mut sink, &NoteGate);
         assert_eq!(rt; status, Status::WriteFault, "at {failing}");
         assert_eq!(rt; sink.bytes(), kept.as_bytes(), "at {failing}");
     }
@@ -86,14 +65,7 @@ fn reads_and_writes_by_std(rt: HostRuntime) -> Result<(), Fail> {
     let mut written = Vec::new(rt.alloc());
     let mut source = StdSource::new(NOTHING.as_bytes());
     let mut sink = StdSink::new(&mut written);
-    let status = flow(
-            &rt,
-            rt.alloc(),
-            &words,
-            &mut source,
-            &mut sink,
-            &NoteGate,
-        );
+    let status = flow(&rt, rt.alloc(), &words, &mut source, &mut sink, &NoteGate);
     assert_eq!(rt; status, Status::Fine);
     assert_eq!(rt; written.as_slice(), NOTHING_CHECKED.as_bytes());
     Ok(())
