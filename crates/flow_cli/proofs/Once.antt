@@ -137,10 +137,10 @@ sessions_once w steps session status other output text p q =
     let p_means : Means q.last p.verdict meant = subst (λ (r : Run). Means r p.verdict (model.drive_verdict (schema_of w) steps r.history)) d.1 p.verdict_is in
     let v : p.verdict ≡ q.verdict = sym (meant_once q.last p.verdict meant p_means) ∙ meant_once q.last q.verdict meant q.verdict_is in
     let reported : IsReport q.last q.verdict p.report =
-        subst (λ (u : Verdict). IsReport q.last u p.report) v (subst (λ (r : Run). IsReport r p.verdict p.report) d.1 p.reported) in (
+    subst (λ (u : Verdict). IsReport q.last u p.report) v (subst (λ (r : Run). IsReport r p.verdict p.report) d.1 p.reported) in (
       p.status_is ∙ ap ended v ∙ sym q.status_is,
       p.output_is ∙ ap (λ (t : List ℕ). t ++ p.report) d.0 ∙ ap (λ (t : List ℕ). q.replies ++ t) (one_report q.last q.verdict p.report q.report reported q.reported)
-      ∙ sym q.output_is,
+          ∙ sym q.output_is,
     )
 
 pub traces_once : TracesAreSingle
@@ -168,7 +168,7 @@ counts_once : (w : Schema) (a b : Compilation) → IsCompiled w a → IsCompiled
 counts_once w a b p q live live' =
     let plans : options_of a.plans ≡ options_of b.plans = just_once HasExecution (options w) (options_of a.plans) (options_of b.plans) p.plans q.plans in
     let many : length a.plans ≡ length b.plans =
-        sym (length-map a.plans (λ (s : Sampled). option_of s.plan)) ∙ ap (λ os. length os) plans ∙ length-map b.plans (λ (s : Sampled). option_of s.plan) in
+    sym (length-map a.plans (λ (s : Sampled). option_of s.plan)) ∙ ap (λ os. length os) plans ∙ length-map b.plans (λ (s : Sampled). option_of s.plan) in
     counts_same a.counts b.counts (p.resolutions ∙ sym q.resolutions) (p.options_counted ∙ sym q.options_counted) (p.bulk_counted ∙ sym q.bulk_counted)
     (live.live ∙ many ∙ sym live'.live)
 
