@@ -7,7 +7,6 @@ pub mod Driving
 pub mod Tracing
 pub mod Verifying
 pub mod Running
-pub mod Generating
-pub mod Large
+pub mod Generated
 pub mod Output
 pub mod Single

@@ -5,7 +5,6 @@ mod call;
 mod checking;
 mod driving;
 mod generated;
-mod generating;
 mod large;
 mod output;
 mod reading;
