@@ -14,6 +14,7 @@ use Rattle.flow_laws.proofs.ClaimLemmas.{some_claim, claim_in}
 use Rattle.flow_core.specs.Run.{Run, schema, now, GoesOn, HasSteps}
 use Rattle.flow_core.specs.declared.next.Next.{Next}
 use Rattle.flow_core.specs.declared.next.Next.TheVariants as next
+use Rattle.flow_core.specs.Answers.{IsLeastCurrent}
 use Rattle.flow_core.specs.Looks.{IsNext}
 use Rattle.flow_core.proofs.Waiting.{left_in}
 use Rattle.flow_crew.specs.declared.ends.End.{End}
@@ -106,7 +107,18 @@ none_out s n none current =
     let (claim, found, told) = some_claim (λ c. IsTrue (is_current s c)) (claim_at s n) current in
     left_in (is_current s) s.claims claim (claim_in s.claims n claim found) told none
 
-not_stuck : (r : Run) (n : Next) → IsNext r n → ((leaf : ℕ) → ¬ (n ≡ next.Stuck leaf)) → ¬ (IsStuck (schema r) (now r))
+-- where no leaf of a kept failure is told, the history ends with none
+pub none_kept : (r : Run) (o : Option ℕ) → MatchOption o ((leaf : ℕ) → ¬ (EndsKept (schema r) r.history leaf)) (EndsKept (schema r) r.history) →
+    ((leaf : ℕ) → ¬ (o ≡ Some leaf)) → (leaf : ℕ) → ¬ (EndsKept (schema r) r.history leaf)
+none_kept r None h other = h
+none_kept r (Some leaf) h other = absurd (other leaf refl)
+
+-- a run with a claim out is not stuck
+pub claim_out : (r : Run) (o : Option ℕ) → MatchOption o (current_claims (now r) ≡ []) (IsLeastCurrent (now r)) → is_some o ≡ true → ¬ (IsStuck (schema r) (now r))
+claim_out r None h e is = true≢false (sym e)
+claim_out r (Some claim) h e is = none_out (now r) claim is.no_claim h.0
+
+pub not_stuck : (r : Run) (n : Next) → IsNext r n → ((leaf : ℕ) → ¬ (n ≡ next.Stuck leaf)) → ¬ (IsStuck (schema r) (now r))
 not_stuck r next.Ended over other is = true≢false (sym over ∙ is.going_on)
 not_stuck r (next.Act leaf) acts other is = elim acts.0.1 [
   | inl can ↦ (let waits = is.only_waiting leaf (inl can) in true≢false (sym can.0 ∙ ap is_some waits.0.0.1))
@@ -137,8 +149,8 @@ module _ (r : Run) (going : GoesOn r) (other : length r.history ≢ r.limit) whe
   waiting_end none is None (i, free) = open_goes_on i free
   waiting_end none is (Some found) (same, closed) = subst (IsEnd r) (sym same) (stuck_end r going other none closed is)
 
-  pub no_end : ((leaf : ℕ) → ¬ (EndsKept (schema r) r.history leaf)) → (n : Next) → IsNext r n → ((leaf : ℕ) → ¬ (n ≡ next.Stuck leaf)) → HasNoEnd r
-  no_end none n is not end.Committed h = true≢false (sym h ∙ going)
-  no_end none n is not end.Spent h = other h.1
-  no_end none n is not (end.NoOther leaf) h = none leaf h.1
-  no_end none n is not end.Stuck (waiting, h) = not_stuck r n is not h.3
+  pub no_end : ((leaf : ℕ) → ¬ (EndsKept (schema r) r.history leaf)) → ¬ (IsStuck (schema r) (now r)) → HasNoEnd r
+  no_end none unstuck end.Committed h = true≢false (sym h ∙ going)
+  no_end none unstuck end.Spent h = other h.1
+  no_end none free (end.NoOther leaf) h = none leaf h.1
+  no_end none unstuck end.Stuck (waiting, h) = unstuck h.3

@@ -1,5 +1,5 @@
 -- What the type of a book keeps of its run.
-use Rattle.std.specs.Prelude.{◌≡◌, Bool, true, Option, MatchOption}
+use Rattle.std.specs.Prelude.{◌≡◌, Bool, true, Option, IfSome, MatchOption}
 use Rattle.flow_model.specs.declared.history.Call.{Call}
 use Rattle.flow_model.specs.declared.history.Outcome.{Outcome}
 use Rattle.flow_model.specs.Run.{IsLegal}
@@ -15,8 +15,8 @@ pub record IsByWorkers (gives : Call → Outcome → Bool) (r : Run) : Type 0 wh
   pub run_legal : IsRunLegal (λ call outcome. gives call outcome ≡ true) (schema r) r.limit r.history
   pub driven : IsDriven (schema r) r.limit r.history
 
--- the history is legal, and this is what the run does next and what it came to
-pub record IsTracked (r : Run) (next : Next) (end : Option End) : Type 0 where
+-- the history is legal, this is what the run came to, and what it does next where that is known
+pub record IsTracked (r : Run) (next : Option Next) (end : Option End) : Type 0 where
   pub legal : IsLegal (schema r) r.limit r.history
-  pub goes_on : IsNext r next
+  pub goes_on : IfSome next (IsNext r)
   pub ends : MatchOption end (HasNoEnd r) (IsEnd r)

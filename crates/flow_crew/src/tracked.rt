@@ -5,17 +5,18 @@ ghost use Rattle.flow_crew.specs.Ends.{IsEnd, HasNoEnd};
 ghost use Rattle.flow_crew.specs.Moves.{IsBegun, IsPosted, IsOut};
 
 use crate::ends::{End, Move};
-use crate::standing::stand;
+use crate::standing::{look, stand};
 use crate::steps::{go_on, tell};
 use flow_core::{Core, Next};
 use flow_model::{Call, Outcome};
 use std::marker::Model;
 
-/// A run, and what it does next and what it came to. So the leaves are looked at once an entry, and not at each call.
+/// A run and what it came to. So the leaves are looked at once an entry at most, and not at each call.
 #[derive(Drop)]
 pub(crate) struct Tracked {
     core: Core,
-    next: Next,
+    /// What the run does next, where it was looked for since the last entry.
+    next: Option<Next>,
     end: Option<End>,
 }
 
@@ -52,10 +53,12 @@ impl Tracked {
         if self.end.is_some() {
             return Move::Over;
         }
-        if let Next::Wait(claim) = self.next {
+        let next = look(&self.core, self.next);
+        self.next = Some(next);
+        if let Next::Wait(claim) = next {
             return Move::Wait(claim);
         }
-        let usual = go_on(&mut self.core, self.next, by);
+        let usual = go_on(&mut self.core, next, by);
         let (next, end) = stand(&self.core, None);
         self.next = next;
         self.end = end;

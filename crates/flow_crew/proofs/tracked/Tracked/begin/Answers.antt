@@ -21,10 +21,10 @@ pub returns-in-Wait : goal.returns-in-Wait
 returns-in-Wait c =
     let i = c.self.inside in
     let none : HasNoEnd i.core = ends_not i.core i.end c.self.invariant.ends (sym c.is_some.ensures ∙ c.if-is_some.false) in
-    let waits : IsNext i.core (next.Wait c.in-Wait.claim) = subst (IsNext i.core) c.in-Wait.is c.self.invariant.goes_on in
+    let waits : IsNext i.core (next.Wait c.in-Wait.claim) = subst (IsNext i.core) c.in-Wait.is c.look-next.ensures in
     record {
-      begun = inr (inl (c.in-Wait.claim, subst HasNoEnd c.self.view_is none, subst (λ (r : Run). IsNext r (next.Wait c.in-Wait.claim)) c.self.view_is waits, refl, refl));
-      legal = subst (λ (r : Run). IsLegal (schema r) r.limit r.history) c.self.view_is c.self.invariant.legal;
+      begun = inr (inl (c.in-Wait.claim, subst HasNoEnd c.self.view_is none, subst (λ (r : Run). IsNext r (next.Wait c.in-Wait.claim)) c.self.view_is waits, refl, c.self.view_is));
+      legal = c.self.invariant.legal;
     }
 
 pub go_on-usual-requires : goal.go_on-usual-requires
@@ -34,12 +34,12 @@ go_on-usual-requires c =
     record {
       unfinished = none;
       steps = has_steps i.core none c.self.invariant.legal;
-      next = c.self.invariant.goes_on;
+      next = c.look-next.ensures;
       moves = λ claim e. c.in_default.not-Wait claim e;
     }
 
 pub invariant_of-self : goal.invariant_of-self
-invariant_of-self c = record { legal = c.stand-next.ensures.legal; goes_on = c.stand-next.ensures.next; ends = c.stand-next.ensures.end }
+invariant_of-self c = record { legal = c.self.invariant.legal; goes_on = c.look-next.ensures; ends = c.self.invariant.ends }
 
 pub returns-clause-begun : goal.returns-clause-begun
 returns-clause-begun c =
