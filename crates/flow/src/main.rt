@@ -23,13 +23,6 @@ fn main(rt: HostRuntime) -> io::Result<ExitCode> {
     let words = words(&rt)?;
     let mut source = StdSource::new(rt.stdin());
     let mut sink = StdSink::new(rt.stdout());
-    let status: Status = flow(
-        &rt,
-        rt.alloc(),
-        &words,
-        &mut source,
-        &mut sink,
-        &NoteGate,
-    );
+    let status: Status = flow(&rt, rt.alloc(), &words, &mut source, &mut sink, &NoteGate);
     Ok(ExitCode::from(status.code()))
 }

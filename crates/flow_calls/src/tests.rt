@@ -1,7 +1,6 @@
+mod calling;
 mod faults;
-mod properties;
+mod pieces;
 mod records;
 mod runs;
-mod streams;
 mod texts;
-mod turns;

@@ -35,7 +35,11 @@ fn serve(core: &mut Core, command: &Command) -> Answer
         Command::Fail(claim) => Answer::Failed(core.fail(claim, DRIVER)),
         Command::Rewind => Answer::Rewound(core.rewind(DRIVER)),
         Command::Commit => Answer::Committed(core.commit(DRIVER)),
-        Command::Next | Command::Enabled | Command::Journal | Command::Facts => Answer::Shown,
+        Command::Next | Command::Enabled => {
+            core.look_ahead();
+            Answer::Shown
+        }
+        Command::Journal | Command::Facts => Answer::Shown,
     }
 }
 

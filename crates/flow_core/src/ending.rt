@@ -65,7 +65,7 @@ impl Core {
     }
 
     /// The least claim that is out.
-    pub(crate) fn least_claim(&self) -> Option<u32>
+    pub fn least_claim(&self) -> Option<u32>
         ensures { MatchOption result (current_claims (now self.now) ≡ []) (IsLeastCurrent (now self.now)) }
     {
         self.claims.least()

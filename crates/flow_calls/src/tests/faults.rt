@@ -1,100 +1,63 @@
-use flow_cli::{Status, flow};
-use flow_gate::NoteGate;
-use flow_io::{FaultySink, FaultySource, MemSink, MemSource, StdSink, StdSource};
-use std::alloc::{AllocError, Global};
-use std::test::Fail;
+//! Reads and writes that fail, each in turn.
+ghost use Rattle.std.specs.Prelude.{◌<◌, ◌-◌, ◌^◌};
 
-/// A workflow, and what `check` writes of it.
-const NOTHING: &str = "goal nop;";
+use super::calling::{PLAIN, PLAIN_WRITTEN, ROOM, called, is_driven};
+use flow_cli::Status;
+use flow_io::{FaultySink, FaultySource, MemSource};
+use std::alloc::AllocError;
 
-const NOTHING_CHECKED: &str = "leaves 0\nresolutions 1\noptions 1\nbulk 0\nlive 1\nconsistent\n";
-
-/// The words of a command line.
-fn words_of(alloc: Global, line: &str) -> Result<Vec<String>, AllocError> {
-    let mut words = Vec::new(alloc);
-    for word in line.split_whitespace() {
-        words.push(String::from_str(alloc, word)?)?;
-    }
-    Ok(words)
+/// Whether the plain path ends so, with that text, where the read of that number fails.
+fn is_told(rt: &HostRuntime, call: u32, status: Status, text: &str) -> Result<bool, AllocError> {
+    let bytes = PLAIN.as_bytes().to_vec(rt.alloc())?;
+    let failing = [call].to_vec(rt.alloc())?;
+    is_driven(rt, &mut FaultySource::new(bytes, failing), status, text)
 }
 
 #[test]
-fn wrong_words_leave_the_source(rt: HostRuntime) -> Result<(), Fail> {
-    let mut source = MemSource::new(NOTHING.as_bytes().to_vec(rt.alloc())?);
-    let table = [("flow", Status::Words), ("flow check", Status::Fine)];
-    for (line, status) in table {
-        let words = words_of(rt.alloc(), line)?;
-        let mut sink = MemSink::new(rt.alloc(), 1000)?;
-        let told = flow(
-            &rt,
-            rt.alloc(),
-            &words,
-            &mut source,
-            &mut sink,
-            &NoteGate,
-        );
-        assert_eq!(rt; told, status);
+fn a_failed_read_ends_the_call(rt: HostRuntime) {
+    // the second read is the one that finds the end
+    for call in 0..2 {
+        let told = is_told(&rt, call, Status::ReadFault, "refused: read\n");
+        assert!(rt; matches!(told, Ok(true)), "at {call}");
     }
-    Ok(())
+    let told = is_told(&rt, 2, Status::Fine, PLAIN_WRITTEN);
+    assert!(rt; matches!(told, Ok(true)));
+}
+
+/// How the plain path ends into that sink.
+fn written(rt: &HostRuntime, sink: &mut FaultySink) -> Result<Status, AllocError>
+    requires { sink.old.store.faults < 2 ^ 64 - 1 }
+{
+    let bytes = PLAIN.as_bytes().to_vec(rt.alloc())?;
+    called(rt, "flow drive", &mut MemSource::new(bytes), sink)
+}
+
+/// Whether the plain path ends so, with that text, into a sink of that room whose write of that number fails.
+fn is_cut_off(
+    rt: &HostRuntime,
+    room: usize,
+    call: u32,
+    status: Status,
+    text: &[u8],
+) -> Result<bool, AllocError> {
+    let mut sink = FaultySink::new(rt.alloc(), room, [call].to_vec(rt.alloc())?)?;
+    let ended = written(rt, &mut sink)?;
+    Ok(ended == status && sink.bytes() == text)
 }
 
 #[test]
-fn a_failed_read_ends_the_call(rt: HostRuntime) -> Result<(), Fail> {
-    // The second read is the one that finds the end.
-    for (line, failing) in [("flow drive", 0), ("flow check", 1)] {
-        let words = words_of(rt.alloc(), line)?;
-        let input = NOTHING.as_bytes().to_vec(rt.alloc())?;
-        let mut source = FaultySource::new(input, [failing].to_vec(rt.alloc())?);
-        let mut sink = MemSink::new(rt.alloc(), 1000)?;
-        let status = flow(
-            &rt,
-            rt.alloc(),
-            &words,
-            &mut source,
-            &mut sink,
-            &NoteGate,
-        );
-        assert_eq!(rt; status, Status::ReadFault, "at {failing}");
-        assert_eq!(rt; sink.bytes(), b"refused: read\n".as_slice(), "at {failing}");
-    }
-    Ok(())
+fn a_failed_write_ends_the_call(rt: HostRuntime) {
+    let first = is_cut_off(&rt, ROOM, 0, Status::WriteFault, b"");
+    assert!(rt; matches!(first, Ok(true)));
+    let none = is_cut_off(&rt, ROOM, 1, Status::Fine, PLAIN_WRITTEN.as_bytes());
+    assert!(rt; matches!(none, Ok(true)));
 }
 
 #[test]
-fn a_failed_write_ends_the_call(rt: HostRuntime) -> Result<(), Fail> {
-    let words = words_of(rt.alloc(), "flow check")?;
-    for (room, failing, kept) in [(1000, 0, ""), (10, 9, "leaves 0\nr")] {
-        let mut source = MemSource::new(NOTHING.as_bytes().to_vec(rt.alloc())?);
-        let mut sink = FaultySink::new(rt.alloc(), room, [failing].to_vec(rt.alloc())?)?;
-        let status = flow(
-            &rt,
-            rt.alloc(),
-            &words,
-            &mut source,
-            &mut sink,
-            &NoteGate,
-        );
-        assert_eq!(rt; status, Status::WriteFault, "at {failing}");
-        assert_eq!(rt; sink.bytes(), kept.as_bytes(), "at {failing}");
+fn a_full_sink_has_the_front(rt: HostRuntime) {
+    let text = PLAIN_WRITTEN.as_bytes();
+    for room in 0..text.len() {
+        let cut = is_cut_off(&rt, room, 1, Status::WriteFault, &text[..room]);
+        assert!(rt; matches!(cut, Ok(true)), "at {room}");
     }
-    Ok(())
-}
-
-#[test]
-fn reads_and_writes_by_std(rt: HostRuntime) -> Result<(), Fail> {
-    let words = words_of(rt.alloc(), "flow check")?;
-    let mut written = Vec::new(rt.alloc());
-    let mut source = StdSource::new(NOTHING.as_bytes());
-    let mut sink = StdSink::new(&mut written);
-    let status = flow(
-            &rt,
-            rt.alloc(),
-            &words,
-            &mut source,
-            &mut sink,
-            &NoteGate,
-        );
-    assert_eq!(rt; status, Status::Fine);
-    assert_eq!(rt; written.as_slice(), NOTHING_CHECKED.as_bytes());
-    Ok(())
 }

@@ -1,42 +1,46 @@
 use flow_model::{Entry, FailEffect, Step};
-use flow_record::{print_history, read_session};
-use std::test::Fail;
+use flow_record::{RecordRefusal, print_history, read_history};
 
-#[test]
-fn reads_each_command(rt: HostRuntime) -> Result<(), Fail> {
-    let text = b"take 0\ndo 1\ndone 2\nfail 3\nrewind\ncommit\nnext\nenabled\njournal\nfacts";
-    let read = read_session(rt.alloc(), text)?;
-    let got = format!(in rt.alloc(); "{read:?}")?;
-    assert_eq!(rt;
-        got.as_str(),
-        "[Take(0), Do(1), Done(2), Fail(3), Rewind, Commit, Next, Enabled, Journal, Facts]"
-    );
-    Ok(())
+fn entry(step: Step) -> Entry {
+    Entry { by: 12, step }
 }
 
 #[test]
-fn prints_each_entry(rt: HostRuntime) -> Result<(), Fail> {
-    let steps = [
-        Step::Took { claim: 1, leaf: 40 },
-        Step::Failed {
+fn prints_each_entry(rt: HostRuntime) {
+    let switched = FailEffect::Switched;
+    let kept = FailEffect::Kept;
+    let history = [
+        entry(Step::Took { claim: 1, leaf: 40 }),
+        entry(Step::Failed {
             claim: 1,
-            effect: FailEffect::Switched,
-        },
-        Step::Failed {
+            effect: switched,
+        }),
+        entry(Step::Failed {
             claim: 2,
-            effect: FailEffect::Kept,
-        },
-        Step::Late { claim: 3 },
-        Step::Did { leaf: 5 },
-        Step::Rewound { index: 0 },
-        Step::Done { claim: 4 },
-        Step::Committed,
+            effect: kept,
+        }),
+        entry(Step::Late { claim: 3 }),
+        entry(Step::Did { leaf: 5 }),
+        entry(Step::Rewound { index: 0 }),
+        entry(Step::Done { claim: 4 }),
+        entry(Step::Committed),
     ];
-    let history = steps.map(|step| Entry { by: 12, step });
-    let text = print_history(rt.alloc(), &history)?;
+    let text = print_history(rt.alloc(), &history).expect(&rt, "memory");
     assert_eq!(rt;
         text.as_slice(),
         b"12: took 1 40\n12: failed 1 switched\n12: failed 2 kept\n12: late 3\n12: did 5\n12: rewound 0\n12: done 4\n12: committed\n".as_slice()
     );
-    Ok(())
+}
+
+#[test]
+fn reads_an_entry(rt: HostRuntime) {
+    let read = read_history(rt.alloc(), b"0: took 1 40\n").expect(&rt, "memory");
+    let step = Step::Took { claim: 1, leaf: 40 };
+    assert_eq!(rt; read.as_slice(), [Entry { by: 0, step }].as_slice());
+}
+
+#[test]
+fn a_number_with_a_zero_before_it_is_not_read(rt: HostRuntime) {
+    let refusal = read_history(rt.alloc(), b"0: took 01 40\n").err();
+    assert_eq!(rt; refusal, Some(RecordRefusal::BadLine { line: 0 }));
 }

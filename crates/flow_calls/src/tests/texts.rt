@@ -1,15 +1,11 @@
-use flow_text::{TextRefusal, parse, parse_query, print};
+use flow_text::{parse, print};
 use std::alloc::Global;
 use std::test::Fail;
 
-/// The print of what a text says, or why it says nothing.
-fn told(alloc: Global, text: &[u8]) -> Result<String, Fail> {
-    match parse(alloc, text) {
-        Ok(script) => Ok(String::from_utf8(print(alloc, &script)?)?),
-        Err(TextRefusal::Repeated { place, .. }) => Ok(format!(in alloc; "repeated {place}")?),
-        Err(TextRefusal::Unknown { place, .. }) => Ok(format!(in alloc; "unknown {place}")?),
-        Err(refusal) => Ok(format!(in alloc; "{refusal:?}")?),
-    }
+/// The print of what a text says.
+fn printed(alloc: Global, text: &[u8]) -> Result<Vec<u8>, Fail> {
+    let script = parse(alloc, text)?;
+    Ok(print(alloc, &script)?)
 }
 
 /// The whole language, with more parentheses and fewer blanks than its print has.
@@ -29,22 +25,10 @@ constraint order a b c or (precedes a b or not not needs a b);
 ";
 
 #[test]
-fn texts_are_read_and_printed(rt: HostRuntime) -> Result<(), Fail> {
-    let alloc = rt.alloc();
-    let cases = [
-        (CROWDED, PRINTED),
-        (PRINTED, PRINTED),
-        (
-            "event a, b; goal a * (b",
-            "Expected { place: 23, kind: Closing }",
-        ),
-        ("event a, a; goal z;", "repeated 9"),
-        ("flow f = nop; goal f; constraint must f;", "unknown 38"),
-    ];
-    for (text, answer) in cases {
-        assert_eq!(rt; told(alloc, text.as_bytes())?.as_str(), answer, "{text}");
+fn texts_are_printed(rt: HostRuntime) -> Result<(), Fail> {
+    for text in [CROWDED, PRINTED] {
+        let told = printed(rt.alloc(), text.as_bytes())?;
+        assert_eq!(rt; told.as_slice(), PRINTED.as_bytes(), "{text}");
     }
-    let script = parse(alloc, CROWDED.as_bytes())?;
-    assert!(rt; parse_query(alloc, b"holds precedes a b;", &script).is_ok());
     Ok(())
 }

@@ -4,7 +4,6 @@ ghost use Rattle.std.specs.Prelude.{◌≡◌, ◌+◌, ◌<◌};
 
 use flow_turn::{Job, Kept, NewRefusal, Pass, TurnLock};
 use std::sync::Wait;
-use std::test::Fail;
 use std::thread::{Threads, join};
 
 const CALLERS: u32 = 4;
@@ -96,29 +95,31 @@ fn write_beside<R: Threads + Wait + Sync>(
     root
 }
 
+/// Whether the caller's notes are of all its turns, in order.
+fn is_in_turn(notes: &[Note], caller: u32) -> bool {
+    let mut turn = 0u32;
+    for note in notes {
+        if note.by == caller {
+            if note.turn != turn {
+                return false;
+            }
+            turn = turn.wrapping_add(1);
+        }
+    }
+    turn == TURNS
+}
+
 #[test]
-fn callers_take_turns(rt: HostRuntime) -> Result<(), Fail> {
-    let notes = Notes {
-        all: Vec::with_capacity(rt.alloc(), 400)?,
-    };
-    let (lock, root) = match TurnLock::new(rt.alloc(), notes) {
-        Ok(made) => made,
-        Err(NewRefusal { value: _ }) => return Err(Fail::from("no memory")),
+fn callers_take_turns(rt: HostRuntime) {
+    let all = Vec::with_capacity(rt.alloc(), 400).expect(&rt, "memory");
+    let Ok((lock, root)) = TurnLock::new(rt.alloc(), Notes { all }) else {
+        panic!(&rt; "no memory")
     };
     let root = write_beside(&rt, &lock, root, CALLERS);
-    assert_eq!(rt; lock.given(&root), CALLERS);
-    assert_eq!(rt; lock.outs(&root), 0);
+    assert_eq!(rt; (lock.given(&root), lock.outs(&root)), (CALLERS, 0));
     let Notes { all } = lock.close(root);
     assert_eq!(rt; all.len(), 400);
     for caller in 1..CALLERS + 1 {
-        let mut turn = 0;
-        for note in all.as_slice() {
-            if note.by == caller {
-                assert_eq!(rt; note.turn, turn);
-                turn = turn.wrapping_add(1);
-            }
-        }
-        assert_eq!(rt; turn, TURNS);
+        assert!(rt; is_in_turn(&all, caller), "at {caller}");
     }
-    Ok(())
 }

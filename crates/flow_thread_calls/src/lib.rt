@@ -1,0 +1,5 @@
+//! Tests of calls by callers in threads of their own.
+#![tactic(auto)]
+
+#[cfg(test)]
+mod tests;

@@ -1,0 +1,174 @@
+//! Workers that are at work at once, and what they ask of their gate.
+ghost use Rattle.std.specs.Prelude.{true};
+
+use flow_cli::{Status, flow};
+use flow_gate::{Call, Gate, MeetGate, NoteGate, Outcome};
+use flow_io::{MemSink, MemSource};
+use std::alloc::{AllocError, Global};
+use std::sync::atomic::{AtomicBool, AtomicU32, Ordering};
+
+/// More bytes than are written here.
+const ROOM: usize = 4000;
+
+/// How often a task looks for the others.
+const TURNS: u64 = 1_000_000_000;
+
+/// `examples/order_desk.flow`.
+const ORDER_DESK: &str = "event receive, check_form, ask_back, register;
+event credit_hold, credit_low, credit_full, credit_ok;
+event reserve, backorder, pick, pack, weigh;
+event label_home, label_abroad, customs, book_van, book_mail;
+event invoice, pay_card, pay_transfer, remind, post_payment;
+event ship, track, notify_mail, notify_text, close_order, archive, survey;
+
+flow entry = receive * check_form * (ask_back + nop) * register;
+flow credit = iso(credit_hold * (credit_low + credit_full) * credit_ok);
+flow goods = (reserve + backorder) * iso(pick * pack * weigh)
+           * (label_home + label_abroad * customs) * (book_van + book_mail);
+flow money = invoice * (pay_card + pay_transfer * remind)
+           * post_payment * ins paid(order_1);
+
+goal entry * (credit | goods | money) * ?paid(order_1) * ship
+   * (track | notify_mail | notify_text) * close_order * (archive | survey);
+
+constraint precedes credit_ok pick;
+constraint precedes post_payment book_van;
+constraint precedes archive survey;
+constraint needs label_abroad pay_transfer;
+constraint needs credit_low pay_card;
+";
+
+/// The words of a command line.
+fn words_of(alloc: Global, line: &str) -> Result<Vec<String>, AllocError> {
+    let mut words = Vec::new(alloc);
+    for word in line.split_whitespace() {
+        words.push(String::from_str(alloc, word)?)?;
+    }
+    Ok(words)
+}
+
+/// How the workflow is run by that command line, and what is written.
+fn ran<G: Gate>(
+    rt: &HostRuntime,
+    line: &str,
+    workflow: &str,
+    gate: &G,
+) -> Result<(Status, Vec<u8>), AllocError> {
+    let words = words_of(rt.alloc(), line)?;
+    let mut source = MemSource::new(workflow.as_bytes().to_vec(rt.alloc())?);
+    let mut sink = MemSink::new(rt.alloc(), ROOM)?;
+    let status = flow(rt, rt.alloc(), &words, &mut source, &mut sink, gate);
+    let text = sink.bytes().to_vec(rt.alloc())?;
+    Ok((status, text))
+}
+
+/// How many lines of the text have the word as their second.
+fn lines_with(text: &str, word: &str) -> u32 {
+    let mut count = 0u32;
+    for line in text.lines() {
+        if line.split_whitespace().nth(1) == Some(word) {
+            count = count.wrapping_add(1);
+        }
+    }
+    count
+}
+
+/// Whether the run is committed, and no task of it failed.
+fn all_met(told: Result<(Status, Vec<u8>), AllocError>) -> bool {
+    match told {
+        Ok((status, text)) => {
+            let text = std::str::from_utf8(&text).unwrap_or("1 failed");
+            status == Status::Fine && lines_with(text, "failed") == 0
+        }
+        Err(_) => false,
+    }
+}
+
+#[test]
+fn two_workers_meet(rt: HostRuntime) {
+    let gate = MeetGate::new(0, 1, TURNS);
+    let told = ran(
+        &rt,
+        "flow run --workers 2",
+        "event a, b; goal a | b;",
+        &gate,
+    );
+    assert!(rt; all_met(told));
+}
+
+/// Four tasks that succeed only where each sees the three others at work.
+struct FourMeet {
+    came: [AtomicBool; 4],
+}
+
+impl FourMeet {
+    fn have_come(&self) -> bool {
+        for flag in &self.came {
+            if !flag.load(Ordering::SeqCst) {
+                return false;
+            }
+        }
+        true
+    }
+}
+
+impl Gate for FourMeet {
+    ghost gives = { λ _ _. true };
+
+    fn perform(&self, call: Call) -> Outcome {
+        if let Some(flag) = self.came.get(call.leaf as usize) {
+            flag.store(true, Ordering::SeqCst);
+        }
+        for _ in 0..TURNS {
+            if self.have_come() {
+                return Outcome::Done;
+            }
+        }
+        Outcome::Failed
+    }
+}
+
+#[test]
+fn four_workers_meet(rt: HostRuntime) {
+    let gate = FourMeet {
+        came: [
+            AtomicBool::new(false),
+            AtomicBool::new(false),
+            AtomicBool::new(false),
+            AtomicBool::new(false),
+        ],
+    };
+    let workflow = "event a, b, c, d; goal a | b | c | d;";
+    let told = ran(&rt, "flow run --workers 4", workflow, &gate);
+    assert!(rt; all_met(told));
+}
+
+/// As the events are declared, with a count of the tasks.
+struct Counting {
+    asked: AtomicU32,
+}
+
+impl Gate for Counting {
+    ghost gives = { λ _ _. true };
+
+    fn perform(&self, call: Call) -> Outcome {
+        self.asked.fetch_add(1, Ordering::SeqCst);
+        NoteGate.perform(call)
+    }
+}
+
+#[test]
+fn each_task_is_asked_for_once(rt: HostRuntime) {
+    let gate = Counting {
+        asked: AtomicU32::new(0),
+    };
+    let told = ran(&rt, "flow run --workers 4", ORDER_DESK, &gate);
+    let Ok((status, text)) = told else {
+        panic!(&rt; "no memory")
+    };
+    assert_eq!(rt; status, Status::Fine);
+    let text = std::str::from_utf8(&text).unwrap_or("");
+    let asked = gate.asked.load(Ordering::SeqCst);
+    assert!(rt; asked > 0);
+    assert_eq!(rt; lines_with(text, "took"), asked);
+}
