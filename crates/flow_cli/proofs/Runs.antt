@@ -23,7 +23,7 @@ use Rattle.flow_reply.specs.Summary.{IsSummary}
 use Rattle.flow_reply.proofs.Rising.{just_as}
 use Rattle.flow_cli.specs.declared.status.Status.{Status}
 use Rattle.flow_cli.specs.Driving.{ended}
-use Rattle.flow_cli.specs.Generated.{summary_of, Summarizes}
+use Rattle.flow_cli.specs.Large.{summary_of, Summarizes}
 use Rattle.flow_cli.specs.Running.{verdict_of, IsRunOf}
 
 -- the verdict that an end is

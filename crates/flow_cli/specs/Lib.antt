@@ -7,6 +7,7 @@ pub mod Driving
 pub mod Tracing
 pub mod Verifying
 pub mod Running
-pub mod Generated
+pub mod Generating
+pub mod Large
 pub mod Output
 pub mod Single

@@ -18,7 +18,8 @@ use Rattle.flow_cli.specs.declared.status.Status.TheVariants.{Fine, No, Words, I
 use Rattle.flow_cli.specs.Refusals.{Tells}
 use Rattle.flow_cli.specs.Checking.{Checks}
 use Rattle.flow_cli.specs.Driving.{DrivesText}
-use Rattle.flow_cli.specs.Generated.{Generates, RunsGenerated}
+use Rattle.flow_cli.specs.Generating.{Generates}
+use Rattle.flow_cli.specs.Large.{RunsGenerated}
 use Rattle.flow_cli.specs.Running.{Runs}
 use Rattle.flow_cli.specs.Tracing.{TracesText}
 use Rattle.flow_cli.specs.Verifying.{VerifiesText}

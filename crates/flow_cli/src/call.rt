@@ -9,7 +9,7 @@ ghost use Rattle.flow_cli.specs.Output.{Reads, WritesAs, Writes, IsWhole, IsOver
 
 use crate::checking::Check;
 use crate::driving::Drive;
-use crate::generated::write_generated;
+use crate::generating::write_generated;
 use crate::output::{Output, refuse};
 use crate::reading::answer_source;
 use crate::running::Crew;
@@ -84,8 +84,8 @@ fn respond<R: Threads + Wait + Sync, S: Source, G: Gate>(
 }
 
 /// The program: reads a workflow from the source, with a session, a query or a journal after it as the mode
-/// asks, or generates one, and writes to the sink what comes of it. The gate performs the tasks of a run by
-/// workers, which may wait for each other. Want of memory may stand in place of every status but a write fault.
+/// asks, and writes to the sink what comes of it. Want of memory may stand in place of every status but a write
+/// fault.
 pub fn flow<R: Threads + Wait + Sync, S: Source, K: Sink, G: Gate>(
     rt: &R,
     alloc: Global,

@@ -1,14 +1,11 @@
-//! The mode `gen`: the text of a generated workflow. And that workflow, which is never refused.
+//! The generated workflow of a seed and a size, which is never refused.
 ghost use Rattle.std.specs.Prelude.{◌≡◌, ◌≤◌, IfOk};
 ghost use Rattle.flow_form.specs.Script.{said};
 ghost use Rattle.flow_workflow.specs.Definition.{schema_of};
 ghost use Rattle.flow_expand.specs.Workflows.{IsExpanded};
 ghost use Rattle.flow_excise.specs.Compilation.{IsCompiled};
 ghost use Rattle.flow_gen.specs.Generated.{generated};
-ghost use Rattle.flow_cli.specs.Generated.{Generates};
 
-use crate::output::Output;
-use crate::status::Status;
 use flow_excise::{CompileRefusal, Compiled, compile};
 use flow_expand::{ExpandRefusal, Workflow, expand};
 use flow_form::{Script, TextRefusal};
@@ -19,19 +16,6 @@ use flow_gen_laws::{
 };
 use flow_text::{law_texts_say_one_thing, parse};
 use std::alloc::{AllocError, Global};
-
-/// The generated workflow of that seed and size, as output.
-pub(crate) fn write_generated(alloc: Global, seed: u32, size: u32) -> Result<Output, AllocError>
-    requires seed { seed ≤ 65536 }
-    requires some { 1 ≤ size }
-    requires few { size ≤ 128 }
-    ensures { IfOk result (λ output. Generates seed size output.status output.text.items) }
-{
-    Ok(Output {
-        status: Status::Fine,
-        text: generate(alloc, seed, size)?,
-    })
-}
 
 /// The script that the generated text says.
 fn generated_script(alloc: Global, seed: u32, size: u32) -> Result<Script, AllocError>

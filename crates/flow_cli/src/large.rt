@@ -1,7 +1,7 @@
 //! The mode `large`: workers make a run of a generated workflow.
 ghost use Rattle.std.specs.Prelude.{◌≡◌, ◌≤◌, IfOk};
 ghost use Rattle.flow_cli.specs.Output.{IsOfInput};
-ghost use Rattle.flow_cli.specs.Generated.{summary_of, RunsGenerated};
+ghost use Rattle.flow_cli.specs.Large.{summary_of, RunsGenerated};
 
 use crate::generated::{compile_generated, generated_workflow};
 use crate::output::Output;

@@ -5,6 +5,7 @@ mod call;
 mod checking;
 mod driving;
 mod generated;
+mod generating;
 mod large;
 mod output;
 mod reading;

@@ -1,26 +1,19 @@
--- What `gen` and `large` write.
+-- What `large` writes.
 use Rattle.std.specs.Prelude.{◌≡◌, ℕ, Bool, List, length}
 use Rattle.flow_model.specs.declared.history.Call.{Call}
 use Rattle.flow_model.specs.declared.history.Outcome.{Outcome}
 use Rattle.flow_core.specs.Run.{Run, now}
 use Rattle.flow_excise.specs.declared.counts.Counts.{Counts}
 use Rattle.flow_excise.specs.Compilation.{Compilation, IsCompiled}
-use Rattle.flow_print.specs.Printed.{printed}
 use Rattle.flow_gen.specs.Generated.{generated}
 use Rattle.flow_workflow.specs.Definition.{Definition, schema_of}
 use Rattle.flow_reply.specs.declared.summary.Summary.{Summary}
 use Rattle.flow_reply.specs.declared.verdict.Verdict.{Verdict}
 use Rattle.flow_reply.specs.Summary.{IsSummary}
 use Rattle.flow_cli.specs.declared.status.Status.{Status}
-use Rattle.flow_cli.specs.declared.status.Status.TheVariants.{Fine}
 use Rattle.flow_cli.specs.Driving.{ended}
 use Rattle.flow_cli.specs.Refusals.{OfWorkflow}
 use Rattle.flow_cli.specs.Running.{IsRunOf}
-
--- the output is the text of the generated workflow
-pub record Generates (seed size : ℕ) (status : Status) (output : List ℕ) : Type 0 where
-  pub status_is : status ≡ Fine
-  pub output_is : output ≡ printed (generated seed size)
 
 -- the numbers of a run and of its workflow, which is compiled with these counts
 abbrev pub summary_of : Counts → ℕ → ℕ → Run → Verdict → Summary
