@@ -25,7 +25,7 @@ from measuring import TOP
 from worst import TEXTS
 
 # What a mode reads after the workflow, as the ending of a file of examples/.
-MODES = {"check": None, "drive": "session", "trace": "journal", "verify": "query"}
+MODES = {"check": None, "drive": "session", "run": None, "trace": "journal", "verify": "query"}
 EXAMPLES = TOP / "examples"
 # A longer text takes the seconds of a bench, undamaged.
 GREATEST_TEXT = 20_000
@@ -56,6 +56,11 @@ def called(program, words, source, environment=None):
     return call.returncode, call.stdout, call.stderr, spent
 
 
+def answer(mode, status, written):
+    """What a mode answers: of a run its verdict alone, since which worker makes an entry is left open."""
+    return status, written.splitlines()[-1:] if mode == "run" else written
+
+
 def refusing(folder):
     """The library that refuses memory."""
     library = pathlib.Path(folder) / "refusing.so"
@@ -65,14 +70,14 @@ def refusing(folder):
 
 def refused_in_turn(program, library, mode, source):
     """How many runs ended for want of memory, had the usual answer all the same, or ended otherwise."""
-    usual = called(program, [mode], source)[:2]
+    usual = answer(mode, *called(program, [mode], source)[:2])
     ends = collections.Counter()
     while True:
         number = ends.total() + 1
         status, written, told, _ = called(program, [mode], source, {"LD_PRELOAD": library, "REFUSED": str(number)})
         if b"refused" not in told:
             return ends
-        end = "status 6" if (status, written) == (6, b"") else "as usual" if (status, written) == usual else "otherwise"
+        end = "status 6" if (status, written) == (6, b"") else "as usual" if answer(mode, status, written) == usual else "otherwise"
         ends[end] += 1
         if end == "otherwise":
             wrong(f"{mode} without its call {number} for memory: status {status}, {written[:60]!r} {told[:80]!r}")
