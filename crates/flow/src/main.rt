@@ -6,23 +6,32 @@
 use flow_cli::{Status, flow};
 use flow_gate::NoteGate;
 use flow_io::{StdSink, StdSource};
+use std::alloc::AllocError;
 use std::process::ExitCode;
 use std::rt::Env;
 use std::{env, io};
 
-/// The words of the command line.
-fn words(rt: &(impl Env + AllocGlobal)) -> io::Result<Vec<String>> {
+/// The words of the command line. Where one of them is no text there are none, which is no call either.
+fn words(rt: &(impl Env + AllocGlobal)) -> Result<Vec<String>, AllocError> {
     let mut words = Vec::new(rt.alloc());
-    for word in env::args(rt)? {
-        words.push(word)?;
+    match env::args(rt) {
+        Ok(args) => {
+            for word in args {
+                words.push(word)?;
+            }
+        }
+        Err(error) if error.kind() == io::ErrorKind::OutOfMemory => return Err(AllocError),
+        Err(_) => {}
     }
     Ok(words)
 }
 
-fn main(rt: HostRuntime) -> io::Result<ExitCode> {
-    let words = words(&rt)?;
+fn main(rt: HostRuntime) -> ExitCode {
+    let Ok(words) = words(&rt) else {
+        return ExitCode::from(Status::Memory.code());
+    };
     let mut source = StdSource::new(rt.stdin());
     let mut sink = StdSink::new(rt.stdout());
     let status: Status = flow(&rt, rt.alloc(), &words, &mut source, &mut sink, &NoteGate);
-    Ok(ExitCode::from(status.code()))
+    ExitCode::from(status.code())
 }
