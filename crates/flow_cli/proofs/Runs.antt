@@ -20,7 +20,7 @@ use Rattle.flow_reply.specs.declared.summary.Summary.{Summary}
 use Rattle.flow_reply.specs.declared.verdict.Verdict.{Verdict}
 use Rattle.flow_reply.specs.Report.{Means}
 use Rattle.flow_reply.specs.Summary.{IsSummary}
-use Rattle.flow_reply.proofs.Rising.{just_as}
+use Rattle.flow_core.proofs.Rising.{just_as}
 use Rattle.flow_cli.specs.declared.status.Status.{Status}
 use Rattle.flow_cli.specs.Driving.{ended}
 use Rattle.flow_cli.specs.Large.{summary_of, Summarizes}
