@@ -5,7 +5,9 @@ use flow_cli::{Status, flow};
 use flow_gate::{Call, Gate, MeetGate, NoteGate, Outcome};
 use flow_io::{MemSink, MemSource};
 use std::alloc::{AllocError, Global};
+use std::sync::Wait;
 use std::sync::atomic::{AtomicBool, AtomicU32, Ordering};
+use std::thread::Threads;
 
 /// More bytes than are written here.
 const ROOM: usize = 4000;
@@ -48,8 +50,8 @@ fn words_of(alloc: Global, line: &str) -> Result<Vec<String>, AllocError> {
 }
 
 /// How the workflow is run by that command line, and what is written.
-fn ran<G: Gate>(
-    rt: &HostRuntime,
+fn ran<R: AllocGlobal + Threads + Wait + Sync, G: Gate>(
+    rt: &R,
     line: &str,
     workflow: &str,
     gate: &G,
@@ -97,6 +99,7 @@ fn two_workers_meet(rt: HostRuntime) {
 }
 
 /// Four tasks that succeed only where each sees the three others at work.
+#[derive(Drop)]
 struct FourMeet {
     came: [AtomicBool; 4],
 }
@@ -144,6 +147,7 @@ fn four_workers_meet(rt: HostRuntime) {
 }
 
 /// As the events are declared, with a count of the tasks.
+#[derive(Drop)]
 struct Counting {
     asked: AtomicU32,
 }
