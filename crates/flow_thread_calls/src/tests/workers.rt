@@ -5,7 +5,9 @@ use flow_cli::{Status, flow};
 use flow_gate::{Call, Gate, MeetGate, NoteGate, Outcome};
 use flow_io::{MemSink, MemSource};
 use std::alloc::{AllocError, Global};
+use std::sync::Wait;
 use std::sync::atomic::{AtomicBool, AtomicU32, Ordering};
+use std::thread::Threads;
 
 /// More bytes than are written here.
 const ROOM: usize = 4000;
@@ -48,8 +50,8 @@ fn words_of(alloc: Global, line: &str) -> Result<Vec<String>, AllocError> {
 }
 
 /// How the workflow is run by that command line, and what is written.
-fn ran<G: Gate>(
-    rt: &HostRuntime,
+fn ran<R: AllocGlobal + Threads + Wait + Sync, G: Gate>(
+    rt: &R,
     line: &str,
     workflow: &str,
     gate: &G,
@@ -73,13 +75,13 @@ fn lines_with(text: &str, word: &str) -> u32 {
     count
 }
 
-/// Whether the run is committed, and no task of it failed.
-fn all_met(told: Result<(Status, Vec<u8>), AllocError>) -> bool {
+/// Whether the run is committed, and no line of it has the word as its second.
+fn is_fine_without(told: Result<(Status, Vec<u8>), AllocError>, word: &str) -> bool {
     match told {
-        Ok((status, text)) => {
-            let text = std::str::from_utf8(&text).unwrap_or("1 failed");
-            status == Status::Fine && lines_with(text, "failed") == 0
-        }
+        Ok((status, text)) => match std::str::from_utf8(&text) {
+            Ok(text) => status == Status::Fine && lines_with(text, word) == 0,
+            Err(_) => false,
+        },
         Err(_) => false,
     }
 }
@@ -93,10 +95,11 @@ fn two_workers_meet(rt: HostRuntime) {
         "event a, b; goal a | b;",
         &gate,
     );
-    assert!(rt; all_met(told));
+    assert!(rt; is_fine_without(told, "failed"));
 }
 
 /// Four tasks that succeed only where each sees the three others at work.
+#[derive(Drop)]
 struct FourMeet {
     came: [AtomicBool; 4],
 }
@@ -140,10 +143,11 @@ fn four_workers_meet(rt: HostRuntime) {
     };
     let workflow = "event a, b, c, d; goal a | b | c | d;";
     let told = ran(&rt, "flow run --workers 4", workflow, &gate);
-    assert!(rt; all_met(told));
+    assert!(rt; is_fine_without(told, "failed"));
 }
 
 /// As the events are declared, with a count of the tasks.
+#[derive(Drop)]
 struct Counting {
     asked: AtomicU32,
 }
@@ -171,4 +175,15 @@ fn each_task_is_asked_for_once(rt: HostRuntime) {
     let asked = gate.asked.load(Ordering::SeqCst);
     assert!(rt; asked > 0);
     assert_eq!(rt; lines_with(text, "took"), asked);
+}
+
+#[test]
+fn nothing_is_undone_where_no_task_fails(rt: HostRuntime) {
+    let told = ran(&rt, "flow run --workers 4", ORDER_DESK, &NoteGate);
+    assert!(rt; is_fine_without(told, "rewound"));
+    let told = ran(&rt, "flow run --workers 8", ORDER_DESK, &NoteGate);
+    assert!(rt; is_fine_without(told, "rewound"));
+    let plain = "event a, b, c; goal a * (b | c);";
+    let told = ran(&rt, "flow run --workers 64", plain, &NoteGate);
+    assert!(rt; is_fine_without(told, "rewound"));
 }
