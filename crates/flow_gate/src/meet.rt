@@ -6,6 +6,7 @@ use flow_model::{Call, Outcome};
 use std::sync::atomic::{AtomicBool, Ordering};
 
 /// Two tasks that succeed only where each sees the other at work. All others succeed.
+#[derive(Drop)]
 pub struct MeetGate {
     first: u32,
     second: u32,
