@@ -5,6 +5,8 @@ use flow_cli::{Status, flow};
 use flow_gate::NoteGate;
 use flow_io::{MemSink, Sink, Source};
 use std::alloc::{AllocError, Global};
+use std::sync::Wait;
+use std::thread::Threads;
 
 /// More bytes than are written here.
 pub(crate) const ROOM: usize = 2000;
@@ -56,8 +58,8 @@ fn words_of(alloc: Global, line: &str) -> Result<Vec<String>, AllocError> {
 }
 
 /// How a call with that command line ends.
-pub(crate) fn called<S: Source, K: Sink>(
-    rt: &HostRuntime,
+pub(crate) fn called<R: AllocGlobal + Threads + Wait + Sync, S: Source, K: Sink>(
+    rt: &R,
     line: &str,
     source: &mut S,
     sink: &mut K,
@@ -70,8 +72,8 @@ pub(crate) fn called<S: Source, K: Sink>(
 }
 
 /// Whether `drive` ends so over the source, and writes that text.
-pub(crate) fn is_driven<S: Source>(
-    rt: &HostRuntime,
+pub(crate) fn is_driven<R: AllocGlobal + Threads + Wait + Sync, S: Source>(
+    rt: &R,
     source: &mut S,
     status: Status,
     text: &str,

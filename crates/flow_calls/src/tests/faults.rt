@@ -5,9 +5,16 @@ use super::calling::{PLAIN, PLAIN_WRITTEN, ROOM, called, is_driven};
 use flow_cli::Status;
 use flow_io::{FaultySink, FaultySource, MemSource};
 use std::alloc::AllocError;
+use std::sync::Wait;
+use std::thread::Threads;
 
 /// Whether the plain path ends so, with that text, where the read of that number fails.
-fn is_told(rt: &HostRuntime, call: u32, status: Status, text: &str) -> Result<bool, AllocError> {
+fn is_told<R: AllocGlobal + Threads + Wait + Sync>(
+    rt: &R,
+    call: u32,
+    status: Status,
+    text: &str,
+) -> Result<bool, AllocError> {
     let bytes = PLAIN.as_bytes().to_vec(rt.alloc())?;
     let failing = [call].to_vec(rt.alloc())?;
     is_driven(rt, &mut FaultySource::new(bytes, failing), status, text)
@@ -25,7 +32,10 @@ fn a_failed_read_ends_the_call(rt: HostRuntime) {
 }
 
 /// How the plain path ends into that sink.
-fn written(rt: &HostRuntime, sink: &mut FaultySink) -> Result<Status, AllocError>
+fn written<R: AllocGlobal + Threads + Wait + Sync>(
+    rt: &R,
+    sink: &mut FaultySink,
+) -> Result<Status, AllocError>
     requires { sink.old.store.faults < 2 ^ 64 - 1 }
 {
     let bytes = PLAIN.as_bytes().to_vec(rt.alloc())?;
@@ -33,8 +43,8 @@ fn written(rt: &HostRuntime, sink: &mut FaultySink) -> Result<Status, AllocError
 }
 
 /// Whether the plain path ends so, with that text, into a sink of that room whose write of that number fails.
-fn is_cut_off(
-    rt: &HostRuntime,
+fn is_cut_off<R: AllocGlobal + Threads + Wait + Sync>(
+    rt: &R,
     room: usize,
     call: u32,
     status: Status,

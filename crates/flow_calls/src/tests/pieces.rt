@@ -5,9 +5,11 @@ use super::calling::{PLAIN, PLAIN_WRITTEN, ROOM, called, is_driven};
 use flow_cli::Status;
 use flow_io::{CutSource, MemSink, MemSource, StdSink, StdSource};
 use std::alloc::AllocError;
+use std::sync::Wait;
+use std::thread::Threads;
 
 /// Whether the plain path comes out the same in pieces of that size.
-fn is_plain(rt: &HostRuntime, size: usize) -> Result<bool, AllocError>
+fn is_plain<R: AllocGlobal + Threads + Wait + Sync>(rt: &R, size: usize) -> Result<bool, AllocError>
     requires { 0 < size }
 {
     let bytes = PLAIN.as_bytes().to_vec(rt.alloc())?;
@@ -68,7 +70,10 @@ constraint needs credit_low pay_card;
 ";
 
 /// How a check of that text ends.
-fn checked(rt: &HostRuntime, text: &[u8]) -> Result<Status, AllocError> {
+fn checked<R: AllocGlobal + Threads + Wait + Sync>(
+    rt: &R,
+    text: &[u8],
+) -> Result<Status, AllocError> {
     let mut source = MemSource::new(text.to_vec(rt.alloc())?);
     let mut sink = MemSink::new(rt.alloc(), ROOM)?;
     called(rt, "flow check", &mut source, &mut sink)
