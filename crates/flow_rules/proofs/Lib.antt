@@ -3,6 +3,7 @@ pub mod ConjunctionLemmas
 pub mod CountLemmas
 mod FormViews
 mod FreedomLemmas
+mod LaneLemmas
 pub mod LeafLemmas
 mod ListingLemmas
 mod MarkLemmas

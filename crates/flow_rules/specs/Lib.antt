@@ -2,9 +2,11 @@ pub mod Asked
 pub mod Conjunction
 pub mod Counts
 pub mod EventLeaves
+pub mod Lanes
 pub mod Marks
 pub mod Normal
 pub mod NormalForm
 pub mod Plain
+pub mod Rooms
 pub mod Rule
 pub mod WayLists
