@@ -7,7 +7,9 @@ mod LaneLemmas
 pub mod LeafLemmas
 mod ListingLemmas
 mod MarkLemmas
+mod NarrowLemmas
 mod NormalViews
 pub mod RuleViews
 mod SplitForms
+mod StandingLemmas
 mod WayListLemmas

@@ -20,10 +20,10 @@ pub struct WayCount {
 }
 
 /// No way.
-const NONE: WayCount = WayCount { ways: 0, pairs: 0 };
+pub(crate) const NONE: WayCount = WayCount { ways: 0, pairs: 0 };
 
 /// The one way that asks for nothing.
-const FREE: WayCount = WayCount { ways: 1, pairs: 0 };
+pub(crate) const FREE: WayCount = WayCount { ways: 1, pairs: 0 };
 
 /// One way, which asks for one pair.
 const PAIR: WayCount = WayCount { ways: 1, pairs: 1 };
@@ -37,7 +37,7 @@ impl WayCount {
     }
 
     /// Each way with each of the others.
-    fn both(self, other: WayCount) -> WayCount
+    pub(crate) fn both(self, other: WayCount) -> WayCount
         ensures { result ≡ counts_of_both self other }
     {
         let front = self.pairs.saturating_mul(other.ways);

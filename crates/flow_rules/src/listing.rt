@@ -15,7 +15,7 @@ use crate::order_set::OrderSet;
 use std::alloc::{AllocError, Global};
 
 /// The one way that asks for nothing.
-fn free_way(alloc: Global) -> Result<Vec<OrderSet>, AllocError>
+pub(crate) fn free_way(alloc: Global) -> Result<Vec<OrderSet>, AllocError>
     ensures { IfOk result (λ all. pairs_of all.items ≡ model.free_way) }
 {
     let mut all = Vec::new(alloc);
@@ -121,7 +121,7 @@ pub fn ways(alloc: Global, rule: &Nnf, events: &LeafEvents) -> Result<Vec<OrderS
 }
 
 /// Each of the ways, with each way in which the leaves meet the rule behind it.
-fn with_rule(
+pub(crate) fn with_rule(
     alloc: Global,
     ways: Vec<OrderSet>,
     rule: &Nnf,
