@@ -2,7 +2,6 @@
 use Rattle.std.proofs.Common.{◌≡◌, ℕ, ◌-◌, ◌^◌, ◌<◌, min, max, Bool, true, false, not, ◌==◌, ◌||◌, ◌&&◌, if◌then◌else◌, List, [], ◌∷◌, ◌++◌, Option, Some, None, refl, sym, ap, ◌∙◌, arith, bit_and, bit_or, w64}
 use Rattle.std.specs.Int.{bit_at}
 use Rattle.std.specs.Option.{is_some}
-use Rattle.std.proofs.lemmas.Bool.{eq-eqb, ne_eqb}
 use Rattle.std.proofs.lemmas.Bool.Decides.{nat_tests}
 use Rattle.std.proofs.lemmas.Nat.Bits.{bit_at_and, bit_at_or, bit_at_not, bit_at_ones, bit_at-lt, bit_at-zero}
 use Rattle.flow_model.specs.Ways.{free_way, is_free, before, must, never, not_before, ways, ways_of_before, ways_of_must, ways_of_never, ways_of_not_before}
@@ -11,8 +10,8 @@ use Rattle.flow_rules.specs.declared.standing.Standing.{Standing}
 use Rattle.flow_rules.specs.Lanes.{Shows, word_of}
 use Rattle.flow_rules.specs.Standing.{Stands, StandsIn, has_lane}
 use Rattle.flow_rules.specs.WayLists.{both_ways, either_way, is_none}
-use Rattle.flow_rules.proofs.FreedomLemmas.{free_of_both}
-use Rattle.flow_rules.proofs.WayListLemmas.{both_none, either_nothing, free_of_either}
+use Rattle.flow_rules.proofs.AskedLemmas.{two_open}
+use Rattle.flow_rules.proofs.WayListLemmas.{both_free, both_none, either_nothing, free_of_either}
 
 -- lanes of words
 
@@ -40,7 +39,16 @@ lane_none lane = ap (λ (d : ℕ). d == 1) (bit_at-zero lane)
 pub lane_all : (lane : ℕ) → lane < 64 → has_lane (2 ^ 64 - 1) lane ≡ true
 lane_all lane within = ap (λ (d : ℕ). d == 1) (bit_at_ones 64 lane within)
 
--- lists with no way
+-- lists with no way, and the one that asks for nothing
+
+pub free_of_both : (vs ws : List (List (ℕ × ℕ))) → is_free (both_ways vs ws) ≡ (is_free vs && is_free ws)
+free_of_both [] ws = refl
+free_of_both ([] ∷ []) ws = ap is_free (both_free ws)
+free_of_both ((pair ∷ pairs) ∷ vs) [] = ap is_free (both_none vs)
+free_of_both ((pair ∷ pairs) ∷ vs) (w ∷ ws) = refl
+free_of_both ([] ∷ v ∷ vs) [] = ap is_free (both_none vs)
+free_of_both ([] ∷ v ∷ vs) (w ∷ []) = two_open w (v ++ w) _
+free_of_both ([] ∷ v ∷ vs) (w ∷ x ∷ ws) = two_open w x _
 
 pub none_of_both : (vs ws : List (List (ℕ × ℕ))) → is_none (both_ways vs ws) ≡ (is_none vs || is_none ws)
 none_of_both [] ws = refl

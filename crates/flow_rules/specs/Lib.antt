@@ -4,12 +4,10 @@ pub mod Counts
 pub mod EventLeaves
 pub mod Kept
 pub mod Lanes
-pub mod Marks
 pub mod Narrow
 pub mod Narrowed
 pub mod Normal
 pub mod NormalForm
-pub mod Plain
 pub mod Rooms
 pub mod Rule
 pub mod Standing
