@@ -37,7 +37,7 @@ use Rattle.flow_cli.specs.declared.status.Status.{Status}
 use Rattle.flow_cli.specs.Drive.{driver, Answers, RepliesTo, Drives}
 use Rattle.flow_cli.specs.Driving.{start_of, ended}
 use Rattle.flow_cli.specs.Tracing.{status_of_checked}
-use Rattle.flow_cli.specs.Single.{ChecksAreSingle, TracesAreSingle, SessionsAreSingle}
+use Rattle.flow_cli_laws.specs.Single.{ChecksAreSingle, TracesAreSingle, SessionsAreSingle}
 
 module _ (r after other : Run) where
   abbrev Once : Answer → Answer → Type 0

@@ -1,5 +1,5 @@
-use Rattle.flow_cli.proofs.Once.{checks_once, traces_once, sessions_once}
-use Rattle.flow_cli.proofs.single.law_outputs_are_single.Goals as goal
+use Rattle.flow_cli_laws.proofs.Once.{checks_once, traces_once, sessions_once}
+use Rattle.flow_cli_laws.proofs.laws.law_outputs_are_single.Goals as goal
 
 pub returns-clause-checks : goal.returns-clause-checks
 returns-clause-checks c = checks_once
