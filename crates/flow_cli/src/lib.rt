@@ -11,11 +11,9 @@ mod output;
 mod reading;
 mod running;
 mod session;
-mod single;
 mod status;
 mod tracing;
 mod verifying;
 
 pub use call::flow;
-pub use single::law_outputs_are_single;
 pub use status::Status;

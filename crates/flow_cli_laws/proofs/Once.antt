@@ -1,5 +1,5 @@
 -- What is written of a workflow is settled.
-use Rattle.std.proofs.Common.{◌≡◌, ℕ, List, [], ◌∷◌, ◌++◌, Result, length, map, codes, inl, inr, refl, sym, ap, ◌∙◌, subst}
+use Rattle.std.proofs.Common.{◌≡◌, ℕ, List, [], ◌∷◌, ◌++◌, Result, length, codes, inl, inr, refl, sym, ap, ◌∙◌, subst}
 use Rattle.std.proofs.lemmas.List.{length-map}
 use Rattle.flow_model.specs.declared.history.Call.{Call}
 use Rattle.flow_model.specs.declared.history.FailEffect.{FailEffect}
@@ -12,7 +12,6 @@ use Rattle.flow_excise.specs.Compilation.{Compilation, IsLive, IsCompiled, optio
 use Rattle.flow_excise.specs.Executions.{HasExecution, AreJustThose}
 use Rattle.flow_excise.specs.Plans.{option_of}
 use Rattle.flow_plan.specs.Sampled.{Sampled}
-use Rattle.flow_trace.specs.declared.checked.Checked.{Checked}
 use Rattle.flow_trace.proofs.TraceLemmas.{tells_once}
 use Rattle.flow_core.specs.declared.refusal.TakeRefusal.{TakeRefusal}
 use Rattle.flow_core.specs.declared.refusal.DoRefusal.{DoRefusal}
@@ -35,9 +34,13 @@ use Rattle.flow_reply.specs.Report.{Means, IsReport}
 use Rattle.flow_reply.proofs.OneReply.{one_reply, one_report}
 use Rattle.flow_cli.specs.declared.status.Status.{Status}
 use Rattle.flow_cli.specs.Drive.{driver, Answers, RepliesTo, Drives}
-use Rattle.flow_cli.specs.Driving.{start_of, ended}
-use Rattle.flow_cli.specs.Tracing.{status_of_checked}
-use Rattle.flow_cli.specs.Single.{ChecksAreSingle, TracesAreSingle, SessionsAreSingle}
+use Rattle.flow_cli.specs.Checking.{IsFoundConsistent}
+use Rattle.flow_cli.specs.Driving.{start_of, ended, Records}
+use Rattle.flow_cli.specs.Tracing.{status_of_checked, TellsOfLeaves}
+
+-- two answers are the same
+abbrev pub IsSingle : (Status → List ℕ → Type 0) → Type 0
+IsSingle Writes = (status other : Status) (output text : List ℕ) → Writes status output → Writes other text → (status ≡ other) × (output ≡ text)
 
 module _ (r after other : Run) where
   abbrev Once : Answer → Answer → Type 0
@@ -130,7 +133,8 @@ meant_once r (verdict.NoOther leaf) meant h = ap verdict_in h
 meant_once r verdict.Stuck meant (waiting, just, h) = ap verdict_in h
 meant_once r verdict.Unfinished meant h = ap verdict_in h
 
-pub sessions_once : SessionsAreSingle
+-- a workflow that is driven by a session
+pub sessions_once : (w : Definition) (steps : ℕ) (session : List Command) → IsSingle (Records w steps session)
 sessions_once w steps session status other output text p q =
     let d = drives_once (start_of w steps) p.last q.last session p.replies q.replies p.driven q.driven in
     let meant = model.drive_verdict (schema_of w) steps q.last.history in
@@ -143,7 +147,8 @@ sessions_once w steps session status other output text p q =
           ∙ sym q.output_is,
     )
 
-pub traces_once : TracesAreSingle
+-- a list of leaves that is checked against a workflow
+pub traces_once : (w : Definition) (leaves : List ℕ) → IsSingle (TellsOfLeaves w leaves)
 traces_once w leaves status other output text p q =
     let same : p.checked ≡ q.checked = tells_once (schema_of w) leaves p.checked q.checked p.told q.told in
     (p.status_is ∙ ap status_of_checked same ∙ sym q.status_is, p.output_is ∙ ap checked_text same ∙ sym q.output_is)
@@ -172,7 +177,8 @@ counts_once w a b p q live live' =
     counts_same a.counts b.counts (p.resolutions ∙ sym q.resolutions) (p.options_counted ∙ sym q.options_counted) (p.bulk_counted ∙ sym q.bulk_counted)
     (live.live ∙ many ∙ sym live'.live)
 
-pub checks_once : ChecksAreSingle
+-- a workflow that is checked and found consistent
+pub checks_once : (w : Definition) → IsSingle (IsFoundConsistent w)
 checks_once w status other output text p q = (
   p.status_is ∙ sym q.status_is,
   p.output_is ∙ ap (check_text w) (counts_once (schema_of w) p.compilation q.compilation p.compiled q.compiled p.live q.live) ∙ sym q.output_is,

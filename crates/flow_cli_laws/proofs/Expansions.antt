@@ -1,0 +1,155 @@
+-- What is said has one workflow, or one reason why it has none.
+use Rattle.std.proofs.Common.{◌≡◌, ◌<◌, ◌≤◌, ℕ, List, Some, inl, inr, ◌⊎◌, sym, ap, subst, ◌∙◌, arith, le_antisymm}
+use Rattle.flow_model.specs.Lists.{AreDistinct}
+use Rattle.flow_model.specs.Facts.{event_at}
+use Rattle.flow_goal.specs.Labelled.{Labelled}
+use Rattle.flow_goal.specs.declared.repeats.Twice.{Twice}
+use Rattle.flow_goal.specs.Repeated.{HoldsNoneTwice, IsFirstTwice}
+use Rattle.flow_goal.proofs.Repetitions.{not_unique}
+use Rattle.flow_form.specs.Script.{Said}
+use Rattle.flow_form.specs.Names.{declared_names, event_names}
+use Rattle.flow_workflow.specs.Definition.{Definition}
+use Rattle.flow_expand.specs.declared.refusal.ExpandRefusal.{ExpandRefusal}
+use Rattle.flow_expand.specs.declared.refusal.ExpandRefusal.TheVariants as refusal
+use Rattle.flow_expand.specs.declared.refusal.Part.TheVariants as part
+use Rattle.flow_expand.specs.Expansion.{Expansion, size_of, kept}
+use Rattle.flow_expand.specs.Numbers.{labelled_of}
+use Rattle.flow_expand.specs.Refusals.{flow_count, rule_name_count, IsFinite, IsFitting, HasManyFlows, HasRecursion, HasLargeGoal, HasManyRuleNames, HasRepetition, IsRefusal}
+use Rattle.flow_expand.specs.Workflows.{definition_of, IsExpanded}
+use Rattle.flow_expand.proofs.Endings.{becomes_one}
+use Rattle.flow_reply.specs.declared.refused.Refused.TheVariants as refused
+use Rattle.flow_reply.specs.Refusing.{refused_text, IsOfWorkflow}
+use Rattle.flow_cli.specs.declared.status.Status.{Status}
+use Rattle.flow_cli.specs.Refusals.{IsNotExpanded, OfWorkflow}
+use Rattle.flow_cli_laws.specs.Single.{ShowsChain}
+
+-- the first pair of leaves of one event is one
+twice_once : (t : Labelled) (a b : Twice) → IsFirstTwice t a → IsFirstTwice t b → a ≡ b
+twice_once t a b p q = λ i. record { event = event i; first = first i; second = second i }
+  where
+    not_after : (c d : Twice) → IsFirstTwice t c → IsFirstTwice t d → c.first ≤ d.first
+    not_after c d h k = elim (h.least d.event d.first d.second k.twice) [ inl less ↦ omega arith | inr same ↦ omega (arith, same.0) ]
+
+    first : a.first ≡ b.first
+    first = le_antisymm (not_after a b p q) (not_after b a q p)
+
+    not_beyond : (c d : Twice) → IsFirstTwice t c → IsFirstTwice t d → c.first ≡ d.first → c.second ≤ d.second
+    not_beyond c d h k same = elim (h.least d.event d.first d.second k.twice) [ inl less ↦ absurd (omega (arith, same, less)) | inr both ↦ both.1 ]
+
+    second : a.second ≡ b.second
+    second = le_antisymm (not_beyond a b p q first) (not_beyond b a q p (sym first))
+
+    event : a.event ≡ b.event
+    event = let same : Some a.event ≡ Some b.event = sym p.twice.at_first ∙ ap (event_at t.labels) first ∙ q.twice.at_first in cc
+
+module _ (s : Said) (once : AreDistinct (declared_names s.decls)) where
+  -- ---- each refusal excludes those that are tested before it
+
+  many_flows : (n : ℕ) → HasManyFlows s n → flow_count s ≤ 256 → ⊥
+  many_flows n h few = let many : 256 < flow_count s = h.many in omega (arith, many, few)
+
+  recursive : (chain : List (List ℕ)) → HasRecursion s chain → IsFinite s → ⊥
+  recursive chain h finite = finite.ending (h.recursive.first, (h.recursive.between, h.recursive.steps))
+
+  large_goal : (n : ℕ) (e : Expansion) → HasLargeGoal s n → IsFitting s e → ⊥
+  large_goal n e h fitting =
+      let same : h.expansion ≡ e = becomes_one s.decls once s.goal h.expansion e h.becomes fitting.becomes in
+      let large : 1024 < size_of e = subst (λ (f : Expansion). 1024 < size_of f) same h.large in
+      let fits : size_of e ≤ 1024 = fitting.fits in omega (arith, large, fits)
+
+  many_names : (n : ℕ) → HasManyRuleNames s n → rule_name_count s ≤ 8192 → ⊥
+  many_names n h few = let many : 8192 < rule_name_count s = h.many in omega (arith, many, few)
+
+  repeats : (found : Twice) (w : Definition) → HasRepetition s found → IsExpanded s w → ⊥
+  repeats found w h expanded =
+      let same : h.expansion ≡ expanded.expansion =
+      becomes_one s.decls once s.goal h.expansion expanded.expansion h.measured.fitting.becomes expanded.measured.fitting.becomes in
+      not_unique (labelled_of s.decls h.expansion) found.event found.first found.second h.first.twice
+      (subst (λ (f : Expansion). HoldsNoneTwice (labelled_of s.decls f)) (sym same)
+      (subst (λ (v : Definition). HoldsNoneTwice v.tree) expanded.is expanded.unique))
+
+  -- ---- what is said has one workflow, and no refusal beside it
+
+  pub expanded_once : (w v : Definition) → IsExpanded s w → IsExpanded s v → w ≡ v
+  expanded_once w v p q =
+      p.is ∙ ap (definition_of s) (becomes_one s.decls once s.goal p.expansion q.expansion p.measured.fitting.becomes q.measured.fitting.becomes) ∙ sym q.is
+
+  not_refused : (r : ExpandRefusal) (w : Definition) → IsRefusal s r → IsOfWorkflow (event_names s.decls) r → IsExpanded s w → ⊥
+  not_refused (refusal.TooLarge part.Flows n) w h of x = many_flows n h x.measured.fitting.finite.few
+  not_refused (refusal.Recursive chain) w h of x = recursive chain.items h x.measured.fitting.finite
+  not_refused (refusal.TooLarge part.Goal n) w h of x = large_goal n x.expansion h x.measured.fitting
+  not_refused (refusal.TooLarge part.Rules n) w h of x = many_names n h x.measured.few_names
+  not_refused (refusal.Twice found) w h of x = repeats found w h x
+  not_refused refusal.NoMemory w h of x = absurd of
+
+  -- ---- one refusal
+
+  abbrev line : ExpandRefusal → List ℕ
+  line r = refused_text (event_names s.decls) (refused.Expand r)
+
+  -- the outputs of two refusals, which are one, or two chains
+  abbrev AreOne : ExpandRefusal → ExpandRefusal → Type 0
+  AreOne r q = (output text : List ℕ) → output ≡ line r → text ≡ line q → (output ≡ text) ⊎ ShowsChain s output text
+
+  same : (r q : ExpandRefusal) → r ≡ q → AreOne r q
+  same r q e output text one two = inl (one ∙ ap line e ∙ sym two)
+
+  goals_counted : (n m : ℕ) → HasLargeGoal s n → HasLargeGoal s m → n ≡ m
+  goals_counted n m h g =
+      h.counted ∙ ap (λ (e : Expansion). kept (size_of e)) (becomes_one s.decls once s.goal h.expansion g.expansion h.becomes g.becomes) ∙ sym g.counted
+
+  pairs_found : (a b : Twice) → HasRepetition s a → HasRepetition s b → a ≡ b
+  pairs_found a b h g =
+      let e : h.expansion ≡ g.expansion =
+      becomes_one s.decls once s.goal h.expansion g.expansion h.measured.fitting.becomes g.measured.fitting.becomes in
+      twice_once (labelled_of s.decls g.expansion) a b (subst (λ (f : Expansion). IsFirstTwice (labelled_of s.decls f) a) e h.first) g.first
+
+  refusals_are_one : (r q : ExpandRefusal) → IsRefusal s r → IsRefusal s q → IsOfWorkflow (event_names s.decls) r → IsOfWorkflow (event_names s.decls) q → AreOne r q
+  refusals_are_one (refusal.TooLarge part.Flows n) (refusal.TooLarge part.Flows m) h g a b =
+      same (refusal.TooLarge part.Flows n) (refusal.TooLarge part.Flows m) (ap (λ k. refusal.TooLarge part.Flows k) (h.counted ∙ sym g.counted))
+  refusals_are_one (refusal.TooLarge part.Flows n) (refusal.Recursive d) h g a b = absurd (many_flows n h g.few)
+  refusals_are_one (refusal.TooLarge part.Flows n) (refusal.TooLarge part.Goal m) h g a b = absurd (many_flows n h g.finite.few)
+  refusals_are_one (refusal.TooLarge part.Flows n) (refusal.TooLarge part.Rules m) h g a b = absurd (many_flows n h g.fitting.finite.few)
+  refusals_are_one (refusal.TooLarge part.Flows n) (refusal.Twice f) h g a b = absurd (many_flows n h g.measured.fitting.finite.few)
+  refusals_are_one (refusal.Recursive c) (refusal.TooLarge part.Flows m) h g a b = absurd (many_flows m g h.few)
+  refusals_are_one (refusal.Recursive c) (refusal.Recursive d) h g a b =
+      λ output text one two. inr (record { one = c; other = d; one_has = h; other_has = g; output_is = one; text_is = two })
+  refusals_are_one (refusal.Recursive c) (refusal.TooLarge part.Goal m) h g a b = absurd (recursive c.items h g.finite)
+  refusals_are_one (refusal.Recursive c) (refusal.TooLarge part.Rules m) h g a b = absurd (recursive c.items h g.fitting.finite)
+  refusals_are_one (refusal.Recursive c) (refusal.Twice f) h g a b = absurd (recursive c.items h g.measured.fitting.finite)
+  refusals_are_one (refusal.TooLarge part.Goal n) (refusal.TooLarge part.Flows m) h g a b = absurd (many_flows m g h.finite.few)
+  refusals_are_one (refusal.TooLarge part.Goal n) (refusal.Recursive d) h g a b = absurd (recursive d.items g h.finite)
+  refusals_are_one (refusal.TooLarge part.Goal n) (refusal.TooLarge part.Goal m) h g a b =
+      same (refusal.TooLarge part.Goal n) (refusal.TooLarge part.Goal m) (ap (λ k. refusal.TooLarge part.Goal k) (goals_counted n m h g))
+  refusals_are_one (refusal.TooLarge part.Goal n) (refusal.TooLarge part.Rules m) h g a b = absurd (large_goal n g.expansion h g.fitting)
+  refusals_are_one (refusal.TooLarge part.Goal n) (refusal.Twice f) h g a b = absurd (large_goal n g.expansion h g.measured.fitting)
+  refusals_are_one (refusal.TooLarge part.Rules n) (refusal.TooLarge part.Flows m) h g a b = absurd (many_flows m g h.fitting.finite.few)
+  refusals_are_one (refusal.TooLarge part.Rules n) (refusal.Recursive d) h g a b = absurd (recursive d.items g h.fitting.finite)
+  refusals_are_one (refusal.TooLarge part.Rules n) (refusal.TooLarge part.Goal m) h g a b = absurd (large_goal m h.expansion g h.fitting)
+  refusals_are_one (refusal.TooLarge part.Rules n) (refusal.TooLarge part.Rules m) h g a b =
+      same (refusal.TooLarge part.Rules n) (refusal.TooLarge part.Rules m) (ap (λ k. refusal.TooLarge part.Rules k) (h.counted ∙ sym g.counted))
+  refusals_are_one (refusal.TooLarge part.Rules n) (refusal.Twice f) h g a b = absurd (many_names n h g.measured.few_names)
+  refusals_are_one (refusal.Twice e) (refusal.TooLarge part.Flows m) h g a b = absurd (many_flows m g h.measured.fitting.finite.few)
+  refusals_are_one (refusal.Twice e) (refusal.Recursive d) h g a b = absurd (recursive d.items g h.measured.fitting.finite)
+  refusals_are_one (refusal.Twice e) (refusal.TooLarge part.Goal m) h g a b = absurd (large_goal m h.expansion g h.measured.fitting)
+  refusals_are_one (refusal.Twice e) (refusal.TooLarge part.Rules m) h g a b = absurd (many_names m g h.measured.few_names)
+  refusals_are_one (refusal.Twice e) (refusal.Twice f) h g a b = same (refusal.Twice e) (refusal.Twice f) (ap refusal.Twice (pairs_found e f h g))
+  refusals_are_one refusal.NoMemory q h g a b = absurd a
+  refusals_are_one r refusal.NoMemory h g a b = absurd b
+
+  -- ---- two outputs of what is said
+
+  -- both refuse it, or both are of its workflow
+  pub of_one_workflow : (P : Definition → Status → List ℕ → Type 0) (R : Definition → Type 0) (status other : Status) (output text : List ℕ) →
+      ((w : Definition) → P w status output → P w other text → R w) →
+      IsNotExpanded s status output ⊎ OfWorkflow s (λ w. P w status output) → IsNotExpanded s other text ⊎ OfWorkflow s (λ w. P w other text) →
+      ((status ≡ other) × ((output ≡ text) ⊎ ShowsChain s output text)) ⊎ OfWorkflow s R
+  of_one_workflow P R status other output text each (inl p) (inl q) =
+      inl (
+        p.told.status_is ∙ sym q.told.status_is,
+        refusals_are_one p.refusal q.refusal p.first q.first p.of_workflow q.of_workflow output text p.told.output_is q.told.output_is,
+      )
+  of_one_workflow P R status other output text each (inl p) (inr (w, x, h)) = absurd (not_refused p.refusal w p.first p.of_workflow x)
+  of_one_workflow P R status other output text each (inr (w, x, h)) (inl q) = absurd (not_refused q.refusal w q.first q.of_workflow x)
+  of_one_workflow P R status other output text each (inr (w, x, h)) (inr (v, y, g)) =
+      inr (w, x, each w h (subst (λ (u : Definition). P u other text) (expanded_once v w y x) g))

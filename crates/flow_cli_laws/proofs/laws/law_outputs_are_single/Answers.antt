@@ -1,0 +1,9 @@
+use Rattle.flow_cli_laws.proofs.Whole.{outputs_are_single}
+use Rattle.flow_cli_laws.proofs.Faults.{faults_are_told}
+use Rattle.flow_cli_laws.proofs.laws.law_outputs_are_single.Goals as goal
+
+pub returns-clause-outputs : goal.returns-clause-outputs
+returns-clause-outputs c = outputs_are_single c.law_one_request.ensures
+
+pub returns-clause-faults : goal.returns-clause-faults
+returns-clause-faults c = faults_are_told
