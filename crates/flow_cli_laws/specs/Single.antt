@@ -93,7 +93,7 @@ pub record Agree (words : List (List ℕ)) (input : List ℕ) (status other : St
   pub status_is : status ≡ other
   pub output_is : (output ≡ text) ⊎ ShowsFor words input output text
 
--- the mode compiles a workflow, and where it does not refuse it does not say that the workflow was within the limits
+-- the mode performs no tasks, and where it does not refuse a workflow it does not say that this was within the limits
 abbrev pub SaysNoLimits : Mode → Type 0
 SaysNoLimits Drive = Unit {0}
 SaysNoLimits Trace = Unit {0}
