@@ -22,6 +22,7 @@ use Rattle.flow_excise.specs.Plans.{option_of}
 use Rattle.flow_excise.specs.Sieves.{ArePlannable, option_with, options_with, HasSifted, Sifts}
 use Rattle.flow_excise.proofs.SiftingLemmas.{keep_one, drop_one, numbered, more_ways, more_resolutions}
 use Rattle.flow_excise.proofs.TallyLemmas.{taken_more}
+use Rattle.flow_model.proofs.Lists.{mem-slice_get}
 
 -- one option
 
@@ -42,9 +43,6 @@ pub mem_read : {A : Type 0} (xs : List A) (i : ℕ) (x : A) → i < length xs �
 mem_read [] i x l e = absurd (omega arith)
 mem_read (y ∷ xs) zero x l e = inl e
 mem_read (y ∷ xs) (suc i) x l e = inr (mem_read xs i x (omega arith) e)
-
-pub mem_got : {A : Type 0} (xs : List A) (i : ℕ) (x : A) → slice_get xs i ≡ Some x → x ∈ xs
-mem_got xs i x h = mem_read xs i x (slice_get_within xs i x h) (sym (get_or_from_slice_get xs i x x h))
 
 -- the ways of a resolution
 
@@ -119,7 +117,7 @@ module _ (t : Labelled) (n : Normal) (met : List Bool) (listed : met ≡ map (ha
 pub plannable_ways : (t : Labelled) (n : Normal) (i : ℕ) (q : Process) (os : List ChoiceOption) → os ≡ options_by t n q → slice_get (resolutions t.process) i ≡ Some q →
     ArePlannable (all_options_by t n) → ArePlannable os
 plannable_ways t n i q os e there all o m =
-    all o (mem-flat_map (options_by t n) q o (resolutions t.process) (mem_got (resolutions t.process) i q there) (subst (λ l. o ∈ l) e m))
+    all o (mem-flat_map (options_by t n) q o (resolutions t.process) (mem-slice_get (resolutions t.process) i q there) (subst (λ l. o ∈ l) e m))
 
 pub sift_found : (t : Labelled) (n : Normal) (i : ℕ) (p : Process) (os : List ChoiceOption) (old new : Sieve) (r : Result (Unit {0}) CompileRefusal) → os ≡ options_by t n p →
     slice_get (resolutions t.process) i ≡ Some p → MatchResult r (λ _. Sifts (numbered_ways i 0 os) old new) (λ e. e ≡ NoMemory) →

@@ -1,7 +1,7 @@
 -- Tallies of options, resolution by resolution.
-use Rattle.std.proofs.Common.{◌≡◌, ◌==◌, Bool, false, not, subst, ℕ, zero, suc, ◌+◌, ◌*◌, ◌-◌, ◌^◌, ◌<◌, ◌≤◌, min, List, [], ◌∷◌, ◌++◌, length, take, map, sum, refl, sym, ap, ◌∙◌, ◌⊎◌, inl, inr, arith, Some, slice_get, append-nil}
+use Rattle.std.proofs.Common.{◌≡◌, ◌==◌, Bool, false, not, subst, ℕ, suc, ◌+◌, ◌*◌, ◌-◌, ◌^◌, ◌<◌, ◌≤◌, min, List, [], ◌∷◌, ◌++◌, length, take, map, sum, refl, sym, ap, ◌∙◌, inl, inr, arith, Some, slice_get, append-nil}
 use Rattle.std.specs.List.{flat_map}
-use Rattle.std.proofs.Math.Nat.{min-eq_left, min-eq_right, zero-mul, suc-mul, mul_comm, add-zero}
+use Rattle.std.proofs.Math.Nat.{min-eq_left, zero-mul, suc-mul, mul_comm, add-zero}
 use Rattle.std.proofs.lemmas.Bool.{cases_lt}
 use Rattle.std.proofs.lemmas.List.{length-append, map-append}
 use Rattle.std.proofs.lemmas.List.Sums.{sum-map, sum_by-append, sum_by-cons}
@@ -20,47 +20,11 @@ use Rattle.flow_rules.specs.declared.conjunction.Conjunction.{Conjunction}
 use Rattle.flow_rules.specs.declared.marks.Marks.{Marks}
 use Rattle.flow_rules.specs.Counts.{kept, count_of}
 use Rattle.flow_rules.specs.Marks.{SpareIn, is_marked}
-use Rattle.flow_rules.proofs.CountLemmas.{none_left}
+use Rattle.flow_rules.proofs.CountLemmas.{none_left, sum_kept, product_right}
 use Rattle.flow_goal.specs.Labelled.{Labelled}
 use Rattle.flow_excise.specs.declared.tally.Tally.{Tally}
 use Rattle.flow_excise.specs.Tallies.{tally_of, added, tally_by}
 use Rattle.flow_excise.specs.Options.{SpareAll, has_ways, options_by, ways_by}
-
--- numbers that are kept at a greatest one
-
-min_cases : (x m : ℕ) → ((x ≤ m) × (min x m ≡ x)) ⊎ ((m ≤ x) × (min x m ≡ m))
-min_cases x m = elim (cases_lt x m) [
-  | inl h ↦ let k : x ≤ m = omega arith in inl (k, min-eq_left k)
-  | inr h ↦ inr (h, min-eq_right h)
-]
-
-sum_kept : (m x y : ℕ) → min (min x m + min y m) m ≡ min (x + y) m
-sum_kept m x y = at (min_cases x m) (min_cases y m)
-  where
-    at : ((x ≤ m) × (min x m ≡ x)) ⊎ ((m ≤ x) × (min x m ≡ m)) → ((y ≤ m) × (min y m ≡ y)) ⊎ ((m ≤ y) × (min y m ≡ m)) →
-        min (min x m + min y m) m ≡ min (x + y) m
-    at (inl (p, e)) (inl (q, f)) = λ k. min (e k + f k) m
-    at (inr (p, e)) g =
-        let one : m ≤ min x m + min y m = omega arith in
-        let other : m ≤ x + y = omega arith in
-        min-eq_right one ∙ sym (min-eq_right other)
-    at (inl (p, e)) (inr (q, f)) =
-        let one : m ≤ min x m + min y m = omega arith in
-        let other : m ≤ x + y = omega arith in
-        min-eq_right one ∙ sym (min-eq_right other)
-
-reaches : (m x y : ℕ) → m ≤ y → min (x * m) m ≡ min (x * y) m
-reaches m zero y h = ap (λ t. min t m) (zero-mul m ∙ sym (zero-mul y))
-reaches m (suc x) y h =
-    let one : m ≤ suc x * m = omega (arith, suc-mul x m) in
-    let other : m ≤ suc x * y = omega (arith, suc-mul x y) in
-    min-eq_right one ∙ sym (min-eq_right other)
-
-product_kept : (m x y : ℕ) → min (x * min y m) m ≡ min (x * y) m
-product_kept m x y = elim (min_cases y m) [
-  | inl (p, e) ↦ ap (λ t. min (x * t) m) e
-  | inr (p, e) ↦ ap (λ t. min (x * t) m) e ∙ reaches m x y p
-]
 
 -- two lists of options
 
@@ -106,7 +70,7 @@ tally_of_ways q ws =
     let m : ℕ = 2 ^ 64 - 1 in
     let l : ℕ = length (leaves q) in
     let held : kept (length ws * l) ≡ kept (kept (length ws) * l) =
-    ap kept (mul_comm (length ws) l) ∙ sym (product_kept m l (length ws)) ∙ ap kept (mul_comm l (kept (length ws))) in
+    ap kept (mul_comm (length ws) l) ∙ sym (product_right m l (length ws)) ∙ ap kept (mul_comm l (kept (length ws))) in
     let size : kept (sum (map option_size (map (λ way. option_of q way) ws))) ≡ kept (kept (kept (length ws) * l) + kept (length (joined ws))) =
     ap kept (sizes_by q ws) ∙ sym (sum_kept m (length ws * l) (length (joined ws))) ∙ ap (λ n. kept (n + kept (length (joined ws)))) held in
     λ k. record { options = kept (count_by q ws k); bulk = size k }

@@ -17,7 +17,7 @@ min_cases x m = elim (cases_lt x m) [
   | inr h ↦ inr (h, min-eq_right h)
 ]
 
-sum_kept : (m x y : ℕ) → min (min x m + min y m) m ≡ min (x + y) m
+pub sum_kept : (m x y : ℕ) → min (min x m + min y m) m ≡ min (x + y) m
 sum_kept m x y = at (min_cases x m) (min_cases y m)
   where
     at : ((x ≤ m) × (min x m ≡ x)) ⊎ ((m ≤ x) × (min x m ≡ m)) → ((y ≤ m) × (min y m ≡ y)) ⊎ ((m ≤ y) × (min y m ≡ m)) →
@@ -39,7 +39,7 @@ reaches m (suc x) y h =
     let other : m ≤ suc x * y = omega (arith, suc-mul x y) in
     min-eq_right one ∙ sym (min-eq_right other)
 
-product_right : (m x y : ℕ) → min (x * min y m) m ≡ min (x * y) m
+pub product_right : (m x y : ℕ) → min (x * min y m) m ≡ min (x * y) m
 product_right m x y = elim (min_cases y m) [
   | inl (p, e) ↦ ap (λ t. min (x * t) m) e
   | inr (p, e) ↦ ap (λ t. min (x * t) m) e ∙ reaches m x y p
