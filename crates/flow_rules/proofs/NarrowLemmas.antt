@@ -1,5 +1,6 @@
 -- What is kept of parts in some lanes, and the ways of narrowed rules.
 use Rattle.std.proofs.Common.{◌≡◌, ℕ, ◌+◌, ◌-◌, ◌^◌, ◌<◌, Bool, true, false, not, true≢false, ◌||◌, ◌&&◌, if◌then◌else◌, List, [], ◌∷◌, ◌++◌, length, take, get_or, fold, Option, IsTrue, refl, sym, ap, ◌∙◌, append-nil, bit_and, bit_or}
+use Rattle.std.proofs.lemmas.Bool.{not-false}
 use Rattle.flow_model.specs.Ways.{free_way, is_free, ways}
 use Rattle.flow_rules.specs.declared.lanes.Lanes.{Lanes}
 use Rattle.flow_rules.specs.declared.narrowed.LaneRule.{LaneRule}
@@ -96,10 +97,6 @@ open_in free unmet lane fits within met =
     at true = refl
     at false = refl
 
-not_false : (b : Bool) → not b ≡ false → b ≡ true
-not_false true e = refl
-not_false false e = absurd (true≢false e)
-
 module _ (unmet : ℕ) (lanes : Lanes) (rules : List Nnf) (i : ℕ) (rule : Nnf) (inside : i < length rules) (is : rule ≡ get_or rules i rule)
     (s : Standing) (stands : Stands s lanes (ways (normal_of rule))) (fits : bit_or s.free unmet < 2 ^ 64) where
   open_lanes : ℕ
@@ -109,7 +106,7 @@ module _ (unmet : ℕ) (lanes : Lanes) (rules : List Nnf) (i : ℕ) (rule : Nnf)
   closed : (left : List LaneRule) (lane : ℕ) (leaf : ℕ → Option ℕ) → lane < 64 → Shows lanes lane leaf → has_lane unmet lane ≡ false →
       has_lane (2 ^ 64 - 1 - bit_or s.free unmet) lane ≡ false → open_ways lane leaf left ≡ all_ways leaf (take i rules) → open_ways lane leaf left ≡ all_ways leaf (take (i + 1) rules)
   closed left lane leaf within shows met shut so_far =
-      let free : has_lane s.free lane ≡ true = not_false (has_lane s.free lane) (sym (open_in s.free unmet lane fits within met) ∙ shut) in
+      let free : has_lane s.free lane ≡ true = not-false (has_lane s.free lane) (sym (open_in s.free unmet lane fits within met) ∙ shut) in
       let these : ways (normal_of rule) leaf ≡ free_way = free_is (ways (normal_of rule) leaf) (sym (stands lane leaf within shows).free ∙ free) in
       so_far
       ∙ sym (all_up_to 0 lanes rules i rule inside is leaf ∙ ap (both_ways (all_ways leaf (take i rules))) these ∙ both_free_right (all_ways leaf (take i rules)))
