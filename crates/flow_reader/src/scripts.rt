@@ -323,7 +323,10 @@ impl ScriptReader {
     {
         match self {
             ScriptReader::ConstraintNeeded(script) => Some(script),
-            _ => None,
+            unfinished => {
+                drop(unfinished);
+                None
+            }
         }
     }
 
