@@ -6,7 +6,8 @@ Usage: bench/large.py [PROGRAM] [SEED SIZE [WORKERS ..]]   3 128 and 1 4 64 wher
 
 Prints for each number of workers the least milliseconds out of fifteen calls each: of the program, of plain Rust by as many workers
 behind std's Mutex, of plain Rust by none, with no lock, and the ratios; then the same of the run alone, which for the program is
-what a call takes more than one with a single step, in which nothing but the run is left out. All must write the same line.
+what a call takes more than one by one worker with a single step. All must write the same line. The run alone is told only on a machine
+that does nothing else.
 """
 import pathlib
 import subprocess
@@ -37,7 +38,7 @@ def main():
         plain = str(pathlib.Path(place) / "large")
         subprocess.run(["rustc", "-O", "--edition", "2021", "-o", plain, str(TOP / "bench/plain/large.rs")], check=True)
         for workers in words[2:] or ["1", "4", "64"]:
-            calls = [[*flow, "--workers", workers], [plain, seed, size, workers], [plain, seed, size, "0"], [*flow, "--workers", workers, "--steps", "1"]]
+            calls = [[*flow, "--workers", workers], [plain, seed, size, workers], [plain, seed, size, "0"], [*flow, "--workers", "1", "--steps", "1"]]
             told = list(zip(*[[spent(call) for call in calls] for _ in range(CALLS)]))
             assert len({line for one in told[:3] for _, line, _ in one}) == 1, "they write different lines"
             ours, beside, alone, before = [min(took for took, _, _ in one) for one in told]
