@@ -76,9 +76,11 @@ impl<'a, R: Threads + Wait + Sync, G: Gate> Crew<'a, R, G> {
         ensures { IfOk result (λ output. Reports G.gives workflow self.now.steps self.now.workers output.status output.text.items) }
     {
         let (book, verdict) = self.run(alloc, workflow, compiled)?;
+        let report = print_report(alloc, book.core(), &verdict);
+        drop(book);
         Ok(Output {
             status: status_of(&verdict),
-            text: print_report(alloc, book.core(), &verdict)?,
+            text: report?,
         })
     }
 
