@@ -1,5 +1,5 @@
 -- What is kept of parts in some lanes, and the ways of narrowed rules.
-use Rattle.std.proofs.Common.{◌≡◌, ℕ, ◌+◌, ◌-◌, ◌^◌, ◌<◌, Bool, true, false, not, true≢false, ◌||◌, ◌&&◌, if◌then◌else◌, List, [], ◌∷◌, ◌++◌, length, take, get_or, fold, Option, IsTrue, refl, sym, ap, ◌∙◌, append-nil, bit_and, bit_or}
+use Rattle.std.proofs.Common.{◌≡◌, ℕ, ◌+◌, ◌-◌, ◌^◌, ◌<◌, Bool, true, false, not, true≢false, ◌||◌, ◌&&◌, if◌then◌else◌, List, [], ◌∷◌, ◌++◌, length, take, get_or, Option, refl, sym, ap, ◌∙◌, append-nil, bit_and, bit_or}
 use Rattle.std.proofs.lemmas.Bool.{not-false}
 use Rattle.flow_model.specs.Ways.{free_way, is_free, ways}
 use Rattle.flow_rules.specs.declared.lanes.Lanes.{Lanes}
@@ -10,8 +10,8 @@ use Rattle.flow_rules.specs.Lanes.{Shows}
 use Rattle.flow_rules.specs.Narrow.{HasWaysIn}
 use Rattle.flow_rules.specs.Narrowed.{open_ways, with_open}
 use Rattle.flow_rules.specs.Normal.{normal_of}
-use Rattle.flow_rules.specs.Standing.{Stands, StandsIn, has_lane}
-use Rattle.flow_rules.specs.WayLists.{all_ways, any_ways, both_ways, either_way, is_none}
+use Rattle.flow_rules.specs.Standing.{Stands, has_lane}
+use Rattle.flow_rules.specs.WayLists.{all_ways, any_ways, both_ways, either_way}
 use Rattle.flow_rules.proofs.AskedLemmas.{both_free_right}
 use Rattle.flow_rules.proofs.StandingLemmas.{lane_and, lane_none, lane_not, lane_or}
 use Rattle.flow_rules.proofs.WayListLemmas.{fold_more, fold_push, free_is, none_is}

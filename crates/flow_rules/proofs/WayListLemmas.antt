@@ -65,7 +65,7 @@ pub both_none : (vs : List (List (ℕ × ℕ))) → both_ways vs [] ≡ []
 both_none [] = refl
 both_none (v ∷ vs) = both_none vs
 
-from_none : {A : Type 0} (f : A → List (List (ℕ × ℕ))) (xs : List A) → fold (λ vs x. both_ways vs (f x)) [] xs ≡ []
+pub from_none : {A : Type 0} (f : A → List (List (ℕ × ℕ))) (xs : List A) → fold (λ vs x. both_ways vs (f x)) [] xs ≡ []
 from_none f [] = refl
 from_none f (x ∷ xs) = from_none f xs
 

@@ -108,6 +108,9 @@ fn count_all(parts: &[Nnf], events: &LeafEvents) -> WayCount
     let mut count = FREE;
     for part in parts {
         count = count.both(count_ways(part, events));
+        if count.ways == 0 {
+            return NONE;
+        }
     }
     count
 }
@@ -119,6 +122,9 @@ fn count_any(parts: &[Nnf], events: &LeafEvents) -> WayCount
     let mut count = NONE;
     for part in parts {
         count = count.either(count_ways(part, events));
+        if count.is_free() {
+            return FREE;
+        }
     }
     count
 }

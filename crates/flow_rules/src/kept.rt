@@ -1,5 +1,5 @@
 ghost use Rattle.std.specs.Prelude.{◌≡◌, ◌++◌, ◌∷◌, [], IfOk};
-ghost use Rattle.flow_rules.specs.Kept.{items_of};
+ghost use Rattle.flow_rules.specs.Kept.{HoldsMore, items_of};
 
 use std::alloc::{AllocError, Global};
 
@@ -14,7 +14,8 @@ pub(crate) enum Kept<T> {
 impl<T: Drop> Kept<T> {
     /// One item more.
     pub(crate) fn with(self, alloc: Global, item: T) -> Result<Kept<T>, AllocError>
-        ensures { IfOk result (λ kept. items_of kept ≡ items_of self ++ item ∷ []) }
+        ensures items { IfOk result (λ kept. items_of kept ≡ items_of self ++ item ∷ []) }
+        ensures more { IfOk result (λ kept. HoldsMore kept) }
     {
         match self {
             Kept::Nothing => Ok(Kept::One(item)),

@@ -51,7 +51,7 @@ narrow_all-loop-part-preserved t c =
       elim c.if-not-covers.branch [
         | narrow_all-then-not-covers+in_ok-kept w ↦
             all_with wanted lanes parts i part c.loop-part-test.true c.part-item.is (items_of c.loop-part.kept) (items_of c.if-not-covers.kept) narrow.rule
-            (ap (λ (k : Kept Nnf). items_of k) w.kept-is ∙ w.in_ok-kept.ensures) c.in_ok-narrow.ensures.ways c.loop-part.invariant.1
+            (ap (λ (k : Kept Nnf). items_of k) w.kept-is ∙ w.in_ok-kept.ensures.items) c.in_ok-narrow.ensures.ways c.loop-part.invariant.1
         | narrow_all-else-not-covers+in-And-1 w ↦
             subst (λ (k : Kept Nnf). AllKept wanted lanes (items_of k) (take (i + 1) parts)) (sym w.kept-is) (out w.if-not-covers.false)
         | narrow_all-else-not-covers+in-Or-1 w ↦
@@ -94,7 +94,7 @@ narrow_any-loop-part-preserved t c =
       elim c.if-not-covers.branch [
         | narrow_any-then-not-covers+in_ok-kept w ↦
             any_with wanted lanes parts i part c.loop-part-test.true c.part-item.is (items_of c.loop-part.kept) (items_of c.if-not-covers.kept) narrow.rule
-            (ap (λ (k : Kept Nnf). items_of k) w.kept-is ∙ w.in_ok-kept.ensures) c.in_ok-narrow.ensures.ways c.loop-part.invariant.1
+            (ap (λ (k : Kept Nnf). items_of k) w.kept-is ∙ w.in_ok-kept.ensures.items) c.in_ok-narrow.ensures.ways c.loop-part.invariant.1
         | narrow_any-else-not-covers+in-And-1 w ↦
             subst (λ (k : Kept Nnf). AnyKept wanted lanes (items_of k) (take (i + 1) parts)) (sym w.kept-is) (out w.if-not-covers.false)
         | narrow_any-else-not-covers+in-Or-1 w ↦

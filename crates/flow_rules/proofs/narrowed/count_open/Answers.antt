@@ -1,4 +1,4 @@
-use Rattle.std.proofs.Common.{◌≡◌, Bool, true, false, if◌then◌else◌, ℕ, List, take, sym, ap, refl, ◌∙◌}
+use Rattle.std.proofs.Common.{if◌then◌else◌, take, sym, ap, ◌∙◌}
 use Rattle.flow_model.specs.Ways.{free_way, ways}
 use Rattle.flow_rules.specs.Counts.{count_of, counts_of_both}
 use Rattle.flow_rules.specs.EventLeaves.{leaf_in}
