@@ -87,4 +87,13 @@ impl<'g, G: Gate> Book<'g, G> {
     {
         self.held.core()
     }
+
+    /// The run alone.
+    pub fn into_core(self) -> Core
+        ensures run { result ≡ self.entry }
+        ensures by_workers { IsByWorkers G.gives self.entry }
+    {
+        let Book { held, gate: _ } = self;
+        held.into_core()
+    }
 }

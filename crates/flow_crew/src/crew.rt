@@ -9,11 +9,11 @@ use crate::book::Book;
 use crate::ends::{End, Move};
 use crate::held::Held;
 use crate::jobs::{Begin, Post};
+use crossbeam_utils::sync::EventCount;
 use flow_gate::Gate;
 use flow_turn::{NewRefusal, Pass, TurnLock};
 use std::alloc::Global;
 use std::sync::Wait;
-use std::thread;
 use std::thread::{Threads, join};
 
 /// Runs the book by so many workers, which are the callers from 1 on, each in a thread of its own. The gate performs tasks
@@ -53,7 +53,8 @@ fn work_all<R: Threads + Wait + Sync, G: Gate>(
 {
     match TurnLock::new(alloc, held) {
         Ok((lock, root)) => {
-            let root = work_beside(rt, &lock, gate, root, workers);
+            let idle = EventCount::new();
+            let root = work_beside(rt, &lock, &idle, gate, root, workers);
             lock.close(root)
         }
         Err(NewRefusal { value }) => value,
@@ -64,6 +65,7 @@ fn work_all<R: Threads + Wait + Sync, G: Gate>(
 fn work_beside<R: Threads + Wait + Sync, G: Gate>(
     rt: &R,
     lock: &TurnLock<Held<G>>,
+    idle: &EventCount,
     gate: &G,
     mut root: Pass<Held<G>>,
     workers: u32,
@@ -81,20 +83,22 @@ fn work_beside<R: Threads + Wait + Sync, G: Gate>(
         || -> Pass<Held<G>>
             requires { pass.lock ≡ lock.now }
             ensures { result.lock ≡ lock.entry.now }
-        { work(rt, lock, gate, pass) },
+        { work(rt, lock, idle, gate, pass) },
         || -> Pass<Held<G>>
             requires { (root.lock ≡ lock.now) × (root.number ≡ 0) × (root.given + fewer < 4294967295) × IsSync R.row }
             ensures { (result.lock ≡ lock.entry.now) × (result.number ≡ 0) × (result.given ≡ root.given + fewer) × (result.outs ≡ root.outs) × (result.part ≡ root.part) }
-        { work_beside(rt, lock, gate, root, fewer) },
+        { work_beside(rt, lock, idle, gate, root, fewer) },
     );
     lock.join(&mut root, pass);
     root
 }
 
-/// One worker: it asks what to do, and performs tasks, until the run has come to an end.
+/// One worker: it asks what to do, and performs tasks, until the run has come to an end. Who takes a task wakes one of the
+/// idle, for which there may be another; who waits asks again once woken.
 fn work<R: Wait, G: Gate>(
     rt: &R,
     lock: &TurnLock<Held<G>>,
+    idle: &EventCount,
     gate: &G,
     mut pass: Pass<Held<G>>,
 ) -> Pass<Held<G>>
@@ -102,15 +106,35 @@ fn work<R: Wait, G: Gate>(
     ensures { result.lock ≡ lock.now }
 {
     for _ in rt.forever() {
-        match lock.with_turn(rt, &mut pass, Begin::new()) {
+        match ask(rt, lock, idle, &mut pass) {
             Move::Perform(call) => {
+                idle.notify_one();
                 let outcome = gate.perform(call);
                 lock.with_turn(rt, &mut pass, Post::new(call, outcome));
             }
-            Move::Went => {}
-            Move::Wait(_) => thread::yield_now(),
+            Move::Went | Move::Wait(_) => {}
             Move::Over => break,
         }
     }
+    idle.notify_all();
     pass
+}
+
+/// What the worker is to do. Where that is to wait, it sleeps until it is woken; it is counted among the idle before it asks,
+/// so that it misses no call in between.
+fn ask<R: Wait, G: Gate>(
+    rt: &R,
+    lock: &TurnLock<Held<G>>,
+    idle: &EventCount,
+    pass: &mut Pass<Held<G>>,
+) -> Move
+    requires { pass.old.lock ≡ lock.now }
+    ensures { pass.new.lock ≡ lock.now }
+{
+    let key = idle.prepare_wait();
+    let found = lock.with_turn(rt, pass, Begin::new());
+    if let Move::Wait(_) = found {
+        key.wait(rt);
+    }
+    found
 }

@@ -1,7 +1,7 @@
 use flow_model::Call;
 
 /// What a run by workers comes to.
-#[derive(Clone, Copy, Debug, PartialEq, Eq)]
+#[derive(Clone, Copy)]
 pub enum End {
     Committed,
     /// Only tests and absences that are false now are left, and no other choice is free.
@@ -13,7 +13,7 @@ pub enum End {
 }
 
 /// What a caller is to do.
-#[derive(Clone, Copy, Debug, PartialEq, Eq)]
+#[derive(Clone, Copy)]
 pub enum Move {
     /// The task of this call.
     Perform(Call),

@@ -72,4 +72,13 @@ impl<G: Gate> Held<G> {
     {
         self.tracked.core()
     }
+
+    /// The run alone.
+    pub(crate) fn into_core(self) -> Core
+        ensures run { result ≡ self }
+        ensures by_workers { IsByWorkers G.gives self }
+    {
+        let Held { tracked, gate: _ } = self;
+        tracked.into_core()
+    }
 }

@@ -95,6 +95,18 @@ impl Tracked {
     {
         &self.core
     }
+
+    /// The run alone.
+    pub(crate) fn into_core(self) -> Core
+        ensures { result ≡ self }
+    {
+        let Tracked {
+            core,
+            next: _,
+            end: _,
+        } = self;
+        core
+    }
 }
 
 /// Whether the call is that of a claim which is not answered.
