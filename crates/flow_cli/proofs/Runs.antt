@@ -52,11 +52,11 @@ run_of gives w steps workers r e definition limit is lawful by callers =
     }
 
 -- the line of a run of a generated workflow
-pub summarizes : (gives : Call → Outcome → Bool) (w : Definition) (seed size steps workers : ℕ) (c : Compilation) (last first second : Run) (verdict : Verdict)
+pub summarizes : (gives : Call → Outcome → Bool) (w : Definition) (seed size steps workers : ℕ) (c : Compilation) (last : Run) (verdict : Verdict)
     (counts : Counts) (summary : Summary) (status : Status) (output : List ℕ) → IsCompiled (schema_of w) c → c.counts.live ≡ length c.plans →
-    IsRunOf gives w steps workers last verdict → first ≡ last → second ≡ last → counts ≡ c.counts → summary ≡ summary_of counts seed size first verdict →
-    status ≡ ended verdict → IsSummary second summary output → Summarizes gives w seed size steps workers status output
-summarizes gives w seed size steps workers c last first second verdict counts summary status output compiled live run one two counted is status_is told = record {
+    IsRunOf gives w steps workers last verdict → counts ≡ c.counts → summary ≡ summary_of counts seed size last verdict → status ≡ ended verdict →
+    IsSummary last summary output → Summarizes gives w seed size steps workers status output
+summarizes gives w seed size steps workers c last verdict counts summary status output compiled live run counted is status_is told = record {
   compilation = c;
   compiled = compiled;
   live_counted = live;
@@ -64,7 +64,5 @@ summarizes gives w seed size steps workers c last first second verdict counts su
   verdict = verdict;
   run = run;
   status_is = status_is;
-  output_is = subst (λ (s : Summary). IsSummary last s output)
-      (is ∙ ap (λ (n : Counts). summary_of n seed size first verdict) counted ∙ ap (λ (r : Run). summary_of c.counts seed size r verdict) one)
-      (subst (λ (r : Run). IsSummary r summary output) two told);
+  output_is = subst (λ (s : Summary). IsSummary last s output) (is ∙ ap (λ (n : Counts). summary_of n seed size last verdict) counted) told;
 }

@@ -16,7 +16,7 @@ use crate::running::Crew;
 use crate::status::Status;
 use crate::tracing::Trace;
 use crate::verifying::Verify;
-use flow_crew::Gate;
+use flow_gate::Gate;
 use flow_io::{Sink, Source, write_all};
 use flow_reply::Refused;
 use flow_words::{Mode, Request, law_one_request, request_of};

@@ -8,8 +8,8 @@ use crate::output::Output;
 use crate::running::Crew;
 use crate::session::status_of;
 use flow_core::Core;
-use flow_crew::Gate;
 use flow_excise::Counts;
+use flow_gate::Gate;
 use flow_reply::{Summary, Verdict, print_summary};
 use std::alloc::{AllocError, Global};
 use std::sync::Wait;
@@ -50,11 +50,11 @@ impl<'a, R: Threads + Wait + Sync, G: Gate> Crew<'a, R, G> {
         let workflow = generated_workflow(alloc, seed, size)?;
         let compiled = compile_generated(alloc, &workflow, seed, size)?;
         let counts = compiled.counts();
-        let (book, verdict) = self.run(alloc, workflow, compiled)?;
-        let summary = summary_of(book.core(), &counts, seed, size, verdict);
+        let (core, verdict) = self.run(alloc, workflow, compiled)?;
+        let summary = summary_of(&core, &counts, seed, size, verdict);
         Ok(Output {
             status: status_of(&verdict),
-            text: print_summary(alloc, book.core(), &summary)?,
+            text: print_summary(alloc, &core, &summary)?,
         })
     }
 }

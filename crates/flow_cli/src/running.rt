@@ -12,10 +12,11 @@ use crate::reading::GREATEST_INPUT;
 use crate::session::status_of;
 use crate::status::Status;
 use flow_core::Core;
-use flow_crew::{Book, End, Gate, run_crew};
+use flow_crew::{Book, End, run_crew};
 use flow_excise::{Compiled, compile};
 use flow_expand::{Workflow, expand};
 use flow_form::Script;
+use flow_gate::Gate;
 use flow_io::{ReadRefusal, Source, read_all};
 use flow_reply::{Refused, Verdict, cut, print_report};
 use flow_text::{TextRefusal, parse};
@@ -54,15 +55,16 @@ impl<'a, R: Threads + Wait + Sync, G: Gate> Crew<'a, R, G> {
         alloc: Global,
         workflow: Workflow,
         compiled: Compiled,
-    ) -> Result<(Book<'a, G>, Verdict), AllocError>
+    ) -> Result<(Core, Verdict), AllocError>
         requires { IsCompiled (schema_of workflow) compiled }
         ensures { IfOk result (λ ran. IsRunOf G.gives workflow self.now.steps self.now.workers ran.0 ran.1) }
     {
         let core = Core::start(alloc, workflow, compiled, self.steps)?;
         let (book, end) = run_crew(self.rt, alloc, Book::new(core, self.gate), self.workers);
-        // what the book and its core keep of the history
-        let _ = book.core().history();
-        Ok((book, verdict_of(end)))
+        let core = book.into_core();
+        // what the core keeps of the history
+        let _ = core.history();
+        Ok((core, verdict_of(end)))
     }
 
     /// Runs a compiled workflow, and reports the run once it is over.
@@ -75,10 +77,10 @@ impl<'a, R: Threads + Wait + Sync, G: Gate> Crew<'a, R, G> {
         requires { IsCompiled (schema_of workflow) compiled }
         ensures { IfOk result (λ output. Reports G.gives workflow self.now.steps self.now.workers output.status output.text.items) }
     {
-        let (book, verdict) = self.run(alloc, workflow, compiled)?;
+        let (core, verdict) = self.run(alloc, workflow, compiled)?;
         Ok(Output {
             status: status_of(&verdict),
-            text: print_report(alloc, book.core(), &verdict)?,
+            text: print_report(alloc, &core, &verdict)?,
         })
     }
 

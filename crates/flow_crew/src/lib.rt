@@ -15,5 +15,4 @@ pub use book::Book;
 pub use crew::run_crew;
 pub use done::law_done_runs_commit;
 pub use ends::{End, Move};
-pub use flow_gate::{Call, Gate, Outcome};
 pub use held::Held;
