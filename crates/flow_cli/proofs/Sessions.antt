@@ -2,6 +2,7 @@
 use Rattle.std.proofs.Common.{◌≡◌, ◌<◌, ◌+◌, ℕ, zero, suc, List, [], ◌∷◌, ◌++◌, length, take, get_or, refl, sym, ap, ◌∙◌, subst, append_assoc, append-nil, arith}
 use Rattle.flow_model.specs.Verdict.{drive_verdict}
 use Rattle.flow_workflow.specs.Definition.{Definition, schema_of}
+use Rattle.flow_excise.specs.Compilation.{IsWithinLimits}
 use Rattle.flow_core.specs.Run.{Run, schema}
 use Rattle.flow_core.specs.Lawful.{IsLawful}
 use Rattle.flow_reply.specs.declared.verdict.Verdict.{Verdict}
@@ -46,12 +47,13 @@ drives_same old new (c ∷ session) text (m, (line, (rest, (answer, answers, rep
 
 -- a driven session is recorded
 pub recorded : (w : Definition) (steps : ℕ) (session : List Command) (first last : Run) (verdict : Verdict) (status : Status) (replies report output : List ℕ) →
-    first ≡ start_of w steps → Drives first session replies last → IsLawful (schema last) last.limit last.history →
+    IsWithinLimits (schema_of w) → first ≡ start_of w steps → Drives first session replies last → IsLawful (schema last) last.limit last.history →
     Means last verdict (drive_verdict (schema last) last.limit last.history) → status ≡ ended verdict → IsReport last verdict report →
     output ≡ replies ++ report → Records w steps session status output
-recorded w steps session first last verdict status replies report output is driven lawful verdict_is status_is reported output_is =
+recorded w steps session first last verdict status replies report output within is driven lawful verdict_is status_is reported output_is =
     let d : Drives (start_of w steps) session replies last = subst (λ (r : Run). Drives r session replies last) is driven in
     let same : SameRun (start_of w steps) last = drives_same (start_of w steps) last session replies d in record {
+      within = within;
       replies = replies;
       last = last;
       driven = d;

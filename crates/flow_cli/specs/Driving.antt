@@ -5,6 +5,7 @@ use Rattle.flow_core.specs.Run.{Run}
 use Rattle.flow_core.specs.Lawful.{IsLawful}
 use Rattle.flow_form.specs.Script.{Said}
 use Rattle.flow_workflow.specs.Definition.{Definition, schema_of}
+use Rattle.flow_excise.specs.Compilation.{IsWithinLimits}
 use Rattle.flow_record.specs.declared.command.Command.{Command}
 use Rattle.flow_record.specs.declared.refusal.RecordRefusal.TheVariants.{BadLine}
 use Rattle.flow_record.specs.Session.{session_of, commands, bad_line}
@@ -34,9 +35,10 @@ ended (verdict.NoOther leaf) = No
 ended verdict.Stuck = No
 ended verdict.Unfinished = No
 
--- The output is that of a driven session of this workflow, in so many steps at most, with this status: a reply to each
--- command, and the report of the run so made. Of its history the headline holds: it is lawful.
+-- The workflow is not too large, and the output is that of a driven session of it, in so many steps at most, with this
+-- status: a reply to each command, and the report of the run so made. Of its history the headline holds: it is lawful.
 pub record Records (w : Definition) (steps : ℕ) (session : List Command) (status : Status) (output : List ℕ) : Type 0 where
+  pub within : IsWithinLimits (schema_of w)
   pub replies : List ℕ
   pub last : Run
   pub driven : Drives (start_of w steps) session replies last

@@ -2,6 +2,7 @@
 use Rattle.std.specs.Prelude.{◌≡◌, ℕ, List, [], ◌⊎◌}
 use Rattle.flow_form.specs.Script.{Said}
 use Rattle.flow_workflow.specs.Definition.{Definition, schema_of}
+use Rattle.flow_excise.specs.Compilation.{IsWithinLimits}
 use Rattle.flow_record.specs.declared.refusal.RecordRefusal.{RecordRefusal}
 use Rattle.flow_record.specs.declared.refusal.RecordRefusal.TheVariants.{BadLine, Label, NoMemory}
 use Rattle.flow_record.specs.Journal.{journal_of, journal, bad_line, wrong_label}
@@ -21,8 +22,9 @@ status_of_checked Execution = Fine
 status_of_checked Prefix = No
 status_of_checked (Bad k) = No
 
--- the output is what the leaves are of the workflow
+-- the workflow is not too large, and the output is what the leaves are of it
 pub record TellsOfLeaves (w : Definition) (leaves : List ℕ) (status : Status) (output : List ℕ) : Type 0 where
+  pub within : IsWithinLimits (schema_of w)
   pub checked : Checked
   pub told : TellsOfTrace (schema_of w) leaves checked
   pub status_is : status ≡ status_of_checked checked

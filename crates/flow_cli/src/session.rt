@@ -1,7 +1,7 @@
 ghost use Rattle.std.specs.Prelude.{◌≡◌, ℕ, IfOk};
 ghost use Rattle.flow_model.specs.Verdict.{drive_verdict};
 ghost use Rattle.flow_workflow.specs.Definition.{Definition, schema_of};
-ghost use Rattle.flow_excise.specs.Compilation.{IsCompiled};
+ghost use Rattle.flow_excise.specs.Compilation.{IsCompiled, IsWithinLimits};
 ghost use Rattle.flow_core.specs.Run.{schema};
 ghost use Rattle.flow_core.specs.Lawful.{IsLawful};
 ghost use Rattle.flow_reply.specs.Reply.{IsAnswerTo, HasNamedCall};
@@ -90,7 +90,7 @@ pub(crate) fn status_of(verdict: &Verdict) -> Status
 
 /// Goes through the commands, and then reports the run: the replies, and then the report.
 fn record(alloc: Global, core: &mut Core, commands: &[Command]) -> Result<Output, AllocError>
-    ensures { (w : Definition) (steps : ℕ) → core.old ≡ start_of w steps
+    ensures { (w : Definition) (steps : ℕ) → IsWithinLimits (schema_of w) → core.old ≡ start_of w steps
         → IfOk result (λ output. Records w steps commands.now output.status output.text.items) }
 {
     let mut text = reply_to_all(alloc, core, commands)?;

@@ -7,6 +7,7 @@ use Rattle.flow_laws.specs.Words.{IsConsistent}
 use Rattle.flow_form.specs.Script.{Said}
 use Rattle.flow_form.specs.Names.{declared_names}
 use Rattle.flow_workflow.specs.Definition.{Definition, schema_of}
+use Rattle.flow_excise.specs.Compilation.{IsWithinLimits}
 use Rattle.flow_core.specs.Lawful.{IsLawful}
 use Rattle.flow_record.specs.declared.command.Command.{Command}
 use Rattle.flow_record.specs.declared.refusal.RecordRefusal.{RecordRefusal}
@@ -20,12 +21,12 @@ use Rattle.flow_trace.specs.declared.checked.Checked.TheVariants.{Execution, Pre
 use Rattle.flow_trace.specs.Traces.{TellsOfTrace}
 use Rattle.flow_reply.specs.declared.refused.Refused.TheVariants as refused
 use Rattle.flow_cli.specs.declared.status.Status.{Status}
-use Rattle.flow_cli.specs.Output.{IsOver}
-use Rattle.flow_cli.specs.Checking.{ChecksWorkflow, Checks}
-use Rattle.flow_cli.specs.Driving.{DrivesWorkflow, DrivesSaid, DrivesText}
-use Rattle.flow_cli.specs.Tracing.{TracesLeaves, TracesWorkflow, TracesText, IsJournalRefusal}
+use Rattle.flow_cli.specs.Compiling.{IsNotCompiled}
+use Rattle.flow_cli.specs.Checking.{IsFoundConsistent, ChecksWorkflow, Checks}
+use Rattle.flow_cli.specs.Driving.{Records, DrivesWorkflow, DrivesSaid, DrivesText}
+use Rattle.flow_cli.specs.Tracing.{TellsOfLeaves, TracesLeaves, TracesWorkflow, TracesText, IsJournalRefusal}
 use Rattle.flow_cli_laws.specs.Single.{ShowsCircles, ShowsCause}
-use Rattle.flow_cli_laws.proofs.Once.{checks_once, traces_once, sessions_once}
+use Rattle.flow_cli_laws.proofs.Once.{IsSingle, checks_once, traces_once, sessions_once}
 use Rattle.flow_cli_laws.proofs.Expansions.{of_one_workflow}
 use Rattle.flow_cli_laws.proofs.Compilations.{told_once, not_too_large, not_compiled_once}
 use Rattle.flow_cli_laws.proofs.Agreeing as agreeing
@@ -34,21 +35,21 @@ module _ (status other : Status) (output text : List ℕ) where
   abbrev Agree : Type 0 → Type 0
   Agree Free = agreeing.Agree status other output text Free
 
-  abbrev OneIsLarge : Definition → Type 0
-  OneIsLarge w = agreeing.OneIsLarge status other output text w
-
-  abbrev Settled : Said → Type 0 → Type 0
-  Settled s Free = agreeing.Settled status other output text s Free
+  -- a workflow is refused in one way but for the circles, or what is found of it is one
+  compiled_once : (w : Definition) (Found : Status → List ℕ → Type 0) → IsSingle Found →
+      ((st : Status) (o : List ℕ) → Found st o → IsWithinLimits (schema_of w) × IsConsistent (schema_of w)) →
+      IsNotCompiled w status output ⊎ Found status output → IsNotCompiled w other text ⊎ Found other text → Agree (ShowsCircles w output text)
+  compiled_once w Found once fine (inl p) (inl q) = not_compiled_once w status other output text p q
+  compiled_once w Found once fine (inl (inl p)) (inr q) = absurd (not_too_large (schema_of w) status output p (fine other text q).0)
+  compiled_once w Found once fine (inl (inr p)) (inr q) = absurd (p.none (fine other text q).1)
+  compiled_once w Found once fine (inr p) (inl (inl q)) = absurd (not_too_large (schema_of w) other text q (fine status output p).0)
+  compiled_once w Found once fine (inr p) (inl (inr q)) = absurd (q.none (fine status output p).1)
+  compiled_once w Found once fine (inr p) (inr q) = agreeing.same status other output text (ShowsCircles w output text) (once status other output text p q)
 
   -- ---- `check`
 
   workflow_checks_once : (w : Definition) → ChecksWorkflow w status output → ChecksWorkflow w other text → Agree (ShowsCircles w output text)
-  workflow_checks_once w (inl p) (inl q) = not_compiled_once w status other output text p q
-  workflow_checks_once w (inl (inl p)) (inr q) = absurd (not_too_large (schema_of w) status output p q.compiled.within)
-  workflow_checks_once w (inl (inr p)) (inr q) = absurd (p.none q.compiled.consistent)
-  workflow_checks_once w (inr p) (inl (inl q)) = absurd (not_too_large (schema_of w) other text q p.compiled.within)
-  workflow_checks_once w (inr p) (inl (inr q)) = absurd (q.none p.compiled.consistent)
-  workflow_checks_once w (inr p) (inr q) = agreeing.same status other output text (ShowsCircles w output text) (checks_once w status other output text p q)
+  workflow_checks_once w = compiled_once w (IsFoundConsistent w) (checks_once w) (λ st o found. (found.compiled.within, found.compiled.consistent))
 
   pub check_agrees : (s : Said) → AreDistinct (declared_names s.decls) → Checks s status output → Checks s other text → Agree (ShowsCause s output text)
   check_agrees s once p q = agreeing.shown_of status other output text s (λ w. ShowsCircles w output text) (of_one_workflow s once ChecksWorkflow (λ w. Agree (ShowsCircles w output text))
@@ -64,26 +65,22 @@ module _ (status other : Status) (output text : List ℕ) where
       (t, free.0)
 
   workflow_drives_once : (w : Definition) (steps : ℕ) (session : List Command) → DrivesWorkflow w steps session status output → DrivesWorkflow w steps session other text →
-      Agree (ShowsCircles w output text) ⊎ OneIsLarge w
-  workflow_drives_once w steps session (inl p) (inl q) = inl (not_compiled_once w status other output text p q)
-  workflow_drives_once w steps session (inl (inl p)) (inr q) = inr (agreeing.first_large status other output text w p (subst IsOver (sym q.status_is) (agreeing.ended_over q.verdict)))
-  workflow_drives_once w steps session (inl (inr p)) (inr q) = absurd (p.none (driven_consistent (schema_of w) steps q.last.history q.lawful))
-  workflow_drives_once w steps session (inr p) (inl (inl q)) = inr (agreeing.second_large status other output text w q (subst IsOver (sym p.status_is) (agreeing.ended_over p.verdict)))
-  workflow_drives_once w steps session (inr p) (inl (inr q)) = absurd (q.none (driven_consistent (schema_of w) steps p.last.history p.lawful))
-  workflow_drives_once w steps session (inr p) (inr q) = inl (agreeing.same status other output text (ShowsCircles w output text) (sessions_once w steps session status other output text p q))
+      Agree (ShowsCircles w output text)
+  workflow_drives_once w steps session = compiled_once w (Records w steps session) (sessions_once w steps session)
+      (λ st o driven. (driven.within, driven_consistent (schema_of w) steps driven.last.history driven.lawful))
 
   said_drives_once : (s : Said) → AreDistinct (declared_names s.decls) → (steps : ℕ) (session : List Command) →
-      DrivesSaid s steps session status output → DrivesSaid s steps session other text → Settled s (ShowsCause s output text)
-  said_drives_once s once steps session p q = agreeing.cause_of status other output text s (of_one_workflow s once (λ w st o. DrivesWorkflow w steps session st o)
-      (λ w. Agree (ShowsCircles w output text) ⊎ OneIsLarge w) status other output text (λ w h g. workflow_drives_once w steps session h g) p q)
+      DrivesSaid s steps session status output → DrivesSaid s steps session other text → Agree (ShowsCause s output text)
+  said_drives_once s once steps session p q = agreeing.shown_of status other output text s (λ w. ShowsCircles w output text) (of_one_workflow s once (λ w st o. DrivesWorkflow w steps session st o)
+      (λ w. Agree (ShowsCircles w output text)) status other output text (λ w h g. workflow_drives_once w steps session h g) p q)
 
   pub drive_agrees : (s : Said) → AreDistinct (declared_names s.decls) → (steps : ℕ) (second : List ℕ) →
-      DrivesText s steps second status output → DrivesText s steps second other text → Settled s (ShowsCause s output text)
+      DrivesText s steps second status output → DrivesText s steps second other text → Agree (ShowsCause s output text)
   drive_agrees s once steps second (inl p) (inl q) =
       let bad : session_text.bad_line p.line ≡ session_text.bad_line q.line = sym p.bad ∙ q.bad in
       let line : p.line ≡ q.line = cc in
-      inl (agreeing.same status other output text (ShowsCause s output text) (told_once [] (refused.Record (record_refusal.BadLine p.line)) (refused.Record (record_refusal.BadLine q.line)) status other output text
-      (ap (λ n. refused.Record (record_refusal.BadLine n)) line) p.told q.told))
+      agreeing.same status other output text (ShowsCause s output text) (told_once [] (refused.Record (record_refusal.BadLine p.line)) (refused.Record (record_refusal.BadLine q.line)) status other output text
+      (ap (λ n. refused.Record (record_refusal.BadLine n)) line) p.told q.told)
   drive_agrees s once steps second (inl p) (inr (session, is, h)) = let no : session_text.bad_line p.line ≡ commands session = sym p.bad ∙ is in cc
   drive_agrees s once steps second (inr (session, is, h)) (inl q) = let no : session_text.bad_line q.line ≡ commands session = sym q.bad ∙ is in cc
   drive_agrees s once steps second (inr (session, is, h)) (inr (others, are, g)) =
@@ -99,13 +96,9 @@ module _ (status other : Status) (output text : List ℕ) where
   traced_consistent w leaves (Bad k) h = (h.0.0.0, h.0.0.1)
 
   leaves_trace_once : (w : Definition) (leaves : List ℕ) → TracesLeaves w leaves status output → TracesLeaves w leaves other text →
-      Agree (ShowsCircles w output text) ⊎ OneIsLarge w
-  leaves_trace_once w leaves (inl p) (inl q) = inl (not_compiled_once w status other output text p q)
-  leaves_trace_once w leaves (inl (inl p)) (inr q) = inr (agreeing.first_large status other output text w p (subst IsOver (sym q.status_is) (agreeing.checked_over q.checked)))
-  leaves_trace_once w leaves (inl (inr p)) (inr q) = absurd (p.none (traced_consistent (schema_of w) leaves q.checked q.told))
-  leaves_trace_once w leaves (inr p) (inl (inl q)) = inr (agreeing.second_large status other output text w q (subst IsOver (sym p.status_is) (agreeing.checked_over p.checked)))
-  leaves_trace_once w leaves (inr p) (inl (inr q)) = absurd (q.none (traced_consistent (schema_of w) leaves p.checked p.told))
-  leaves_trace_once w leaves (inr p) (inr q) = inl (agreeing.same status other output text (ShowsCircles w output text) (traces_once w leaves status other output text p q))
+      Agree (ShowsCircles w output text)
+  leaves_trace_once w leaves = compiled_once w (TellsOfLeaves w leaves) (traces_once w leaves)
+      (λ st o tells. (tells.within, traced_consistent (schema_of w) leaves tells.checked tells.told))
 
   -- a text is refused as a journal for one reason
   journal_refused_once : (w : Definition) (second : List ℕ) (r q : RecordRefusal) → IsJournalRefusal w second r → IsJournalRefusal w second q → r ≡ q
@@ -126,10 +119,10 @@ module _ (status other : Status) (output text : List ℕ) where
   no_journal w second leaves record_refusal.NoMemory h is = h
 
   workflow_traces_once : (w : Definition) (second : List ℕ) → TracesWorkflow w second status output → TracesWorkflow w second other text →
-      Agree (ShowsCircles w output text) ⊎ OneIsLarge w
+      Agree (ShowsCircles w output text)
   workflow_traces_once w second (inl p) (inl q) =
-      inl (agreeing.same status other output text (ShowsCircles w output text) (told_once [] (refused.Record p.refusal) (refused.Record q.refusal) status other output text
-      (ap refused.Record (journal_refused_once w second p.refusal q.refusal p.why q.why)) p.told q.told))
+      agreeing.same status other output text (ShowsCircles w output text) (told_once [] (refused.Record p.refusal) (refused.Record q.refusal) status other output text
+      (ap refused.Record (journal_refused_once w second p.refusal q.refusal p.why q.why)) p.told q.told)
   workflow_traces_once w second (inl p) (inr (leaves, is, h)) = absurd (no_journal w second leaves p.refusal p.why is)
   workflow_traces_once w second (inr (leaves, is, h)) (inl q) = absurd (no_journal w second leaves q.refusal q.why is)
   workflow_traces_once w second (inr (leaves, is, h)) (inr (others, are, g)) =
@@ -138,6 +131,6 @@ module _ (status other : Status) (output text : List ℕ) where
       leaves_trace_once w leaves h (subst (λ (list : List ℕ). TracesLeaves w list other text) list g)
 
   pub trace_agrees : (s : Said) → AreDistinct (declared_names s.decls) → (second : List ℕ) → TracesText s second status output → TracesText s second other text →
-      Settled s (ShowsCause s output text)
-  trace_agrees s once second p q = agreeing.cause_of status other output text s (of_one_workflow s once (λ w st o. TracesWorkflow w second st o)
-      (λ w. Agree (ShowsCircles w output text) ⊎ OneIsLarge w) status other output text (λ w h g. workflow_traces_once w second h g) p q)
+      Agree (ShowsCause s output text)
+  trace_agrees s once second p q = agreeing.shown_of status other output text s (λ w. ShowsCircles w output text) (of_one_workflow s once (λ w st o. TracesWorkflow w second st o)
+      (λ w. Agree (ShowsCircles w output text)) status other output text (λ w h g. workflow_traces_once w second h g) p q)

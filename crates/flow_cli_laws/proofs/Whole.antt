@@ -1,5 +1,5 @@
 -- Two outputs for the same words and the same input.
-use Rattle.std.proofs.Common.{◌≡◌, ◌<◌, ◌≤◌, ℕ, List, [], length, Bool, Some, Ok, Err, inl, inr, ◌⊎◌, refl, sym, ap, subst, ⊎_elim, ◌∙◌, arith}
+use Rattle.std.proofs.Common.{◌≡◌, ◌<◌, ◌≤◌, ℕ, List, [], length, Bool, Some, Ok, Err, inl, inr, ◌⊎◌, refl, sym, ap, subst, ◌∙◌, arith}
 use Rattle.flow_model.specs.declared.history.Call.{Call}
 use Rattle.flow_model.specs.declared.history.Outcome.{Outcome}
 use Rattle.flow_form.specs.Script.{Said}
@@ -12,16 +12,14 @@ use Rattle.flow_words.specs.declared.request.Request.{Request}
 use Rattle.flow_words.specs.Words.{IsCall, OneRequest}
 use Rattle.flow_cli.specs.declared.status.Status.{Status}
 use Rattle.flow_cli.specs.declared.status.Status.TheVariants.{ReadFault}
-use Rattle.flow_cli.specs.Refusals.{OfWorkflow}
 use Rattle.flow_cli.specs.Checking.{Checks}
 use Rattle.flow_cli.specs.Driving.{DrivesText}
 use Rattle.flow_cli.specs.Tracing.{TracesText}
 use Rattle.flow_cli.specs.Verifying.{VerifiesText}
 use Rattle.flow_cli.specs.Output.{workflow_part, second_part, WritesIn, WritesAs}
-use Rattle.flow_cli_laws.specs.Single.{Shows, Agree, SaysNoLimits, PartOverLimits, AsksNoGate, OutputsAreSingle}
+use Rattle.flow_cli_laws.specs.Single.{Shows, Agree, AsksNoGate, OutputsAreSingle}
 use Rattle.flow_cli_laws.proofs.Compilations.{told_once}
 use Rattle.flow_cli_laws.proofs.TextAnswers.{of_text, one_refusal, one_value, not_both}
-use Rattle.flow_cli_laws.proofs.Agreeing.{OneIsLarge}
 use Rattle.flow_cli_laws.proofs.Modes.{check_agrees, drive_agrees, trace_agrees}
 use Rattle.flow_cli_laws.proofs.Verifying.{verify_agrees}
 
@@ -51,18 +49,13 @@ module _ (input : List ℕ) (status other : Status) (output text : List ℕ) whe
 
   -- ---- one mode
 
-  -- the outputs agree, or they part over the limits
+  -- the status is the same, and the output too, but for what the mode shows
   abbrev Settled : Mode → Type 0
-  Settled mode =
-      ((status ≡ other) × ((output ≡ text) ⊎ ((s : Said) × Says (workflow_part input) s × Shows mode s (second_part input) output text)))
-      ⊎ (SaysNoLimits mode × ((s : Said) × Says (workflow_part input) s × OfWorkflow s (λ w. OneIsLarge status other output text w)))
+  Settled mode = (status ≡ other) × ((output ≡ text) ⊎ ((s : Said) × Says (workflow_part input) s × Shows mode s (second_part input) output text))
 
-  settled : (mode : Mode) (s : Said) → Says (workflow_part input) s →
-      ((status ≡ other) × ((output ≡ text) ⊎ Shows mode s (second_part input) output text))
-      ⊎ (SaysNoLimits mode × OfWorkflow s (λ w. OneIsLarge status other output text w)) → Settled mode
-  settled mode s says (inl (is, inl e)) = inl (is, inl e)
-  settled mode s says (inl (is, inr shows)) = inl (is, inr (s, says, shows))
-  settled mode s says (inr (none, large)) = inr (none, (s, says, large))
+  settled : (mode : Mode) (s : Said) → Says (workflow_part input) s → (status ≡ other) × ((output ≡ text) ⊎ Shows mode s (second_part input) output text) → Settled mode
+  settled mode s says (is, inl e) = (is, inl e)
+  settled mode s says (is, inr shows) = (is, inr (s, says, shows))
 
   mode_once : (gives allows : Call → Outcome → Bool) (request : Request) (mode : Mode) → AsksNoGate mode → ¬ (status ≡ ReadFault) → ¬ (other ≡ ReadFault) →
       WritesAs mode gives request (Some input) status output → WritesAs mode allows request (Some input) other text → Settled mode
@@ -71,45 +64,42 @@ module _ (input : List ℕ) (status other : Status) (output text : List ℕ) whe
     where
       drive : ((status ≡ other) × (output ≡ text)) ⊎ ((s : Said) × Says (workflow_part input) s × DrivesText s request.steps (second_part input) status output
           × DrivesText s request.steps (second_part input) other text) → Settled Drive
-      drive (inl (is, e)) = inl (is, inl e)
+      drive (inl (is, e)) = (is, inl e)
       drive (inr (s, says, h, g)) =
-          settled Drive s says (⊎_elim inl (λ large. inr (tt, large)) (drive_agrees status other output text s says.named.once request.steps (second_part input) h g))
+          settled Drive s says (drive_agrees status other output text s says.named.once request.steps (second_part input) h g)
   mode_once gives allows request Check asks fine also p q =
       check (read_once (λ s second st o. Checks s st o) fine also p q)
     where
       check : ((status ≡ other) × (output ≡ text)) ⊎ ((s : Said) × Says (workflow_part input) s × Checks s status output × Checks s other text) → Settled Check
-      check (inl (is, e)) = inl (is, inl e)
-      check (inr (s, says, h, g)) = settled Check s says (inl (check_agrees status other output text s says.named.once h g))
+      check (inl (is, e)) = (is, inl e)
+      check (inr (s, says, h, g)) = settled Check s says (check_agrees status other output text s says.named.once h g)
   mode_once gives allows request Verify asks fine also p q =
       verify (read_once VerifiesText fine also p q)
     where
       verify : ((status ≡ other) × (output ≡ text)) ⊎ ((s : Said) × Says (workflow_part input) s × VerifiesText s (second_part input) status output
           × VerifiesText s (second_part input) other text) → Settled Verify
-      verify (inl (is, e)) = inl (is, inl e)
-      verify (inr (s, says, h, g)) = settled Verify s says (inl (verify_agrees status other output text s says.named.once (second_part input) h g))
+      verify (inl (is, e)) = (is, inl e)
+      verify (inr (s, says, h, g)) = settled Verify s says (verify_agrees status other output text s says.named.once (second_part input) h g)
   mode_once gives allows request Trace asks fine also p q =
       trace (read_once TracesText fine also p q)
     where
       trace : ((status ≡ other) × (output ≡ text)) ⊎ ((s : Said) × Says (workflow_part input) s × TracesText s (second_part input) status output
           × TracesText s (second_part input) other text) → Settled Trace
-      trace (inl (is, e)) = inl (is, inl e)
+      trace (inl (is, e)) = (is, inl e)
       trace (inr (s, says, h, g)) =
-          settled Trace s says (⊎_elim inl (λ large. inr (tt, large)) (trace_agrees status other output text s says.named.once (second_part input) h g))
-  mode_once gives allows request Gen asks fine also p q = inl (p.status_is ∙ sym q.status_is, inl (p.output_is ∙ sym q.output_is))
+          settled Trace s says (trace_agrees status other output text s says.named.once (second_part input) h g)
+  mode_once gives allows request Gen asks fine also p q = (p.status_is ∙ sym q.status_is, inl (p.output_is ∙ sym q.output_is))
   mode_once gives allows request Run asks fine also p q = absurd asks
   mode_once gives allows request Large asks fine also p q = absurd asks
 
-  called : (words : List (List ℕ)) (request : Request) → IsCall words request → Settled request.mode →
-      Agree words input status other output text ⊎ PartOverLimits words input status other output text
-  called words request call (inl (is, inl e)) = inl (record { status_is = is; output_is = inl e })
-  called words request call (inl (is, inr (s, says, shows))) = inl (record { status_is = is; output_is = inr (request, call, (s, says, shows)) })
-  called words request call (inr (unsaid, (s, says, (w, x, (differ, large))))) =
-      inr (record { request = request; call = call; unsaid = unsaid; said = s; says = says; differ = differ; large = (w, x, large) })
+  called : (words : List (List ℕ)) (request : Request) → IsCall words request → Settled request.mode → Agree words input status other output text
+  called words request call (is, inl e) = record { status_is = is; output_is = inl e }
+  called words request call (is, inr (s, says, shows)) = record { status_is = is; output_is = inr (request, call, (s, says, shows)) }
 
 -- words are a call for one request, so two outputs for them are of one mode
 pub outputs_are_single : OneRequest → OutputsAreSingle
 outputs_are_single one gives allows words input status other output text quiet fine also (inl (none, told)) (inl (wrong, tells)) =
-    let same = told_once [] refused.Words refused.Words status other output text refl told tells in inl (record { status_is = same.0; output_is = inl same.1 })
+    let same = told_once [] refused.Words refused.Words status other output text refl told tells in record { status_is = same.0; output_is = inl same.1 }
 outputs_are_single one gives allows words input status other output text quiet fine also (inl (none, told)) (inr (request, call, h)) = absurd (none request call)
 outputs_are_single one gives allows words input status other output text quiet fine also (inr (request, call, h)) (inl (none, told)) = absurd (none request call)
 outputs_are_single one gives allows words input status other output text quiet fine also (inr (request, call, h)) (inr (again, recall, g)) =

@@ -25,7 +25,6 @@ use Rattle.flow_words.specs.Words.{IsCall}
 use Rattle.flow_cli.specs.declared.status.Status.{Status}
 use Rattle.flow_cli.specs.declared.status.Status.TheVariants.{ReadFault}
 use Rattle.flow_cli.specs.Refusals.{OfWorkflow}
-use Rattle.flow_cli.specs.Compiling.{IsTooLarge}
 use Rattle.flow_cli.specs.Verifying.{OfQuery}
 use Rattle.flow_cli.specs.Output.{workflow_part, second_part, Writes}
 
@@ -93,26 +92,6 @@ pub record Agree (words : List (List ℕ)) (input : List ℕ) (status other : St
   pub status_is : status ≡ other
   pub output_is : (output ≡ text) ⊎ ShowsFor words input output text
 
--- the mode performs no tasks, and where it does not refuse a workflow it does not say that this was within the limits
-abbrev pub SaysNoLimits : Mode → Type 0
-SaysNoLimits Drive = Unit {0}
-SaysNoLimits Trace = Unit {0}
-SaysNoLimits Run = ⊥
-SaysNoLimits Check = ⊥
-SaysNoLimits Verify = ⊥
-SaysNoLimits Gen = ⊥
-SaysNoLimits Large = ⊥
-
--- in such a mode the statuses differ, and one of the two outputs is that the workflow is too large
-pub record PartOverLimits (words : List (List ℕ)) (input : List ℕ) (status other : Status) (output text : List ℕ) : Type 0 where
-  pub request : Request
-  pub call : IsCall words request
-  pub unsaid : SaysNoLimits request.mode
-  pub said : Said
-  pub says : Says (workflow_part input) said
-  pub differ : ¬ (status ≡ other)
-  pub large : OfWorkflow said (λ w. IsTooLarge (schema_of w) status output ⊎ IsTooLarge (schema_of w) other text)
-
 -- the mode performs no tasks
 abbrev pub AsksNoGate : Mode → Type 0
 AsksNoGate Drive = Unit {0}
@@ -126,12 +105,12 @@ AsksNoGate Large = ⊥
 -- ---- the laws
 
 -- Where no tasks are performed, words and an input have one output, whatever the gate: where a source did not fail, two
--- outputs agree, or they part over a workflow that is too large.
+-- outputs agree.
 abbrev pub OutputsAreSingle : Type 0
 OutputsAreSingle = (gives allows : Call → Outcome → Bool) (words : List (List ℕ)) (input : List ℕ) (status other : Status) (output text : List ℕ) →
     ((request : Request) → IsCall words request → AsksNoGate request.mode) → ¬ (status ≡ ReadFault) → ¬ (other ≡ ReadFault) →
     Writes gives words (Some input) status output → Writes allows words (Some input) other text →
-    Agree words input status other output text ⊎ PartOverLimits words input status other output text
+    Agree words input status other output text
 
 -- where it failed, in any mode, the output is that it did
 abbrev pub FaultsAreTold : Type 0
