@@ -1,9 +1,10 @@
 -- The lanes of words put together, and what they say of ways put together.
-use Rattle.std.proofs.Common.{◌≡◌, ℕ, ◌-◌, ◌^◌, ◌<◌, min, max, Bool, true, false, not, ◌==◌, ◌||◌, ◌&&◌, if◌then◌else◌, List, [], ◌∷◌, ◌++◌, Option, Some, None, refl, sym, ap, ◌∙◌, arith, bit_and, bit_or, w64}
+use Rattle.std.proofs.Common.{◌≡◌, ℕ, ◌-◌, ◌^◌, ◌<◌, min, Bool, true, false, not, ◌==◌, ◌||◌, ◌&&◌, if◌then◌else◌, List, [], ◌∷◌, ◌++◌, Option, Some, None, refl, sym, ap, ◌∙◌, arith, bit_and, bit_or, w64}
 use Rattle.std.specs.Int.{bit_at}
 use Rattle.std.specs.Option.{is_some}
 use Rattle.std.proofs.lemmas.Bool.Decides.{nat_tests}
 use Rattle.std.proofs.lemmas.Nat.Bits.{bit_at_and, bit_at_or, bit_at_not, bit_at_ones, bit_at-lt, bit_at-zero}
+use Rattle.leaf_rows.proofs.Rows.{one_or}
 use Rattle.flow_model.specs.Ways.{free_way, is_free, before, must, never, not_before, ways, ways_of_before, ways_of_must, ways_of_never, ways_of_not_before}
 use Rattle.flow_rules.specs.declared.lanes.Lanes.{Lanes}
 use Rattle.flow_rules.specs.declared.standing.Standing.{Standing}
@@ -17,9 +18,6 @@ use Rattle.flow_rules.proofs.WayListLemmas.{both_free, both_none, either_nothing
 
 one_and : (a b : ℕ) → a < 2 → b < 2 → (min a b == 1) ≡ (a == 1 && b == 1)
 one_and a b small_a small_b = grind (arith, nat_tests)
-
-one_or : (a b : ℕ) → a < 2 → b < 2 → (max a b == 1) ≡ (a == 1 || b == 1)
-one_or a b small_a small_b = grind (arith, nat_tests)
 
 one_not : (a : ℕ) → a < 2 → (1 - a == 1) ≡ not (a == 1)
 one_not a small = grind (arith, nat_tests)

@@ -104,7 +104,7 @@ has_bit-remove w words n k long within =
 
 -- ---- every word changed
 
-one_or : (a b : ℕ) → a < 2 → b < 2 → (max a b == 1) ≡ (a == 1 || b == 1)
+pub one_or : (a b : ℕ) → a < 2 → b < 2 → (max a b == 1) ≡ (a == 1 || b == 1)
 one_or a b small_a small_b = grind (arith, nat_tests)
 
 -- each of two tests within a range
