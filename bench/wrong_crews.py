@@ -54,8 +54,7 @@ ALL = "work_all(rt, alloc, held, gate, workers);"
 BODIES = {
     "right": ({}, ""),
     "one_thread": ({"use std::thread::{Threads, join};": "use std::thread::Threads;"}, JOIN),
-    "holds_the_lock": ({"lock.with_turn(rt, &mut pass, Begin::new())": "lock.with_turn(rt, &mut pass, InTurn { gate })",
-                        "use crate::jobs::{Begin, Post};": "use crate::jobs::Post;"}, IN_TURN),
+    "holds_the_lock": ({"ask(rt, lock, idle, &mut pass)": "lock.with_turn(rt, &mut pass, InTurn { gate })"}, IN_TURN),
     "one_worker": ({ALL: ALL.replace("workers", "1")}, ""),
     "three_workers_at_most": ({ALL: ALL.replace("workers", "workers.min(3)")}, ""),
     "one_worker_less": ({ALL: ALL.replace("workers", "workers - workers / 64")}, ""),

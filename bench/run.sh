@@ -1,0 +1,20 @@
+#!/usr/bin/env bash
+# All benches, one after another; each prints its own table. Nothing else should run beside them.
+#
+# Usage: bench/run.sh [PROGRAM]     crates/flow/out/flow where it is not given
+#
+# Ends with 1 where one of them found what should not be. turns.sh and wrong_crews.py build programs of their own and take
+# some minutes.
+set -u
+cd "$(dirname "$0")"
+program=$(realpath "${1:-../crates/flow/out/flow}")
+status=0
+for bench in worst sessions traces large hostile; do
+    echo "== $bench"
+    "./$bench.py" "$program" || status=1
+done
+for bench in turns.sh wrong_crews.py; do
+    echo "== ${bench%.*}"
+    "./$bench" || status=1
+done
+exit $status
