@@ -1,24 +1,34 @@
 #!/usr/bin/env python3
 """Hostile use of the built program: memory that is refused, streams that fail, and damaged inputs.
 
-Usage: bench/hostile.py [PROGRAM] [PART ..] [--inputs COUNT] [--seed SEED]     PART: memory, streams, damage; without one all three
+Usage: bench/hostile.py [PROGRAM] [PART ..] [--inputs COUNT] [--seed SEED]     PART: memory, reads, writes, damage; without one all
 
 memory   the order desk in each mode, with one call for memory refused, the first, the second and so on until a run makes
-         fewer calls: each ends with the usual answer, or with status 6 and nothing written (bench/refusing.c, built by cc)
-streams  each mode reading from a folder ends with status 4, and writing to a full device with status 5
+         fewer calls: each ends with the usual answer, or with status 6 and a front of the usual text written
+reads    each mode that reads, with each read failing in turn, as many bytes a read as the program asks for and 7: status 4; with 1, 2
+         and 7 bytes a read, and from a pipe into which so many are written at a time: the usual answer; from a folder and a closed
+         file: status 4
+writes   each mode with each write failing in turn, as many bytes a write as the program hands out and 7: status 5 and a front of the
+         usual text written; with 1, 2 and 7 bytes a write: the usual answer; to a full device, a closed file, and a pipe whose reader
+         has gone, before the first byte or in the middle: status 5
 damage   inputs with bytes flipped, cut, doubled or exchanged (10,000 of them, seed 1): each ends with status 0, 1, 3 or 7
          within a second of the processor's time, and with no word on standard error
 
-It ends with 1 where something came out otherwise, and prints that.
+refusing.c, built by cc, refuses memory and fails reads and writes. The script ends with 1 where something came out otherwise, and
+prints that.
 """
 import argparse
 import collections
+import contextlib
+import fcntl
 import os
 import pathlib
 import random
+import re
 import subprocess
 import sys
 import tempfile
+import threading
 
 from generated import text as generated
 from measuring import TOP
@@ -26,6 +36,12 @@ from worst import TEXTS
 
 # What a mode reads after the workflow, as the ending of a file of examples/.
 MODES = {"check": None, "drive": "session", "run": None, "trace": "journal", "verify": "query"}
+# The calls whose memory, reads and writes fail; what several workers write is not always the same; the last two read nothing.
+CALLS = {"check": None, "drive": "session", "run --workers 1": None, "trace": "journal", "verify": "query"}
+SEVERAL = {"run --workers 4": None}
+UNREAD = {"gen --size 16": None, "large --size 16 --workers 1": None}
+PIECES = [1, 2, 7]
+CALLERS = re.compile(rb"(?m)^[01](: ?|\Z)")
 EXAMPLES = TOP / "examples"
 # A longer text takes the seconds of a bench, undamaged.
 GREATEST_TEXT = 20_000
@@ -46,68 +62,163 @@ def sources(name, ending):
     return [workflow + more.read_bytes() for more in EXAMPLES.glob(f"{name}.{ending}")]
 
 
-def called(program, words, source, environment=None):
+def called(program, words, source, environment=None, **streams):
     """The status of a call, negative after a signal; what it wrote; what stands on standard error; its processor seconds."""
     before = os.times()
-    call = subprocess.run([program, *words], input=source, capture_output=True, check=False, timeout=60,
-                          env=environment and {**os.environ, **environment})
+    usual = {"input": source, "stdout": subprocess.PIPE} | streams
+    call = subprocess.run([program, *words], stderr=subprocess.PIPE, check=False, timeout=60,
+                          env=environment and {**os.environ, **environment}, **usual)
     after = os.times()
     spent = after.children_user + after.children_system - before.children_user - before.children_system
-    return call.returncode, call.stdout, call.stderr, spent
+    return call.returncode, call.stdout or b"", call.stderr, spent
 
 
-def answer(mode, status, written):
-    """What a mode answers: of a run its verdict alone, since which worker makes an entry is left open."""
-    return status, written.splitlines()[-1:] if mode == "run" else written
+class Use:
+    """A call of the program over the order desk, whose memory, reads and writes may fail."""
+
+    def __init__(self, program, library, line, ending):
+        self.program, self.library, self.line, self.words = program, library, line, line.split()
+        self.source = sources("order_desk", ending)[0]
+        self.usual = self.told(*self.call({})[:2])
+
+    def call(self, environment, **streams):
+        loaded = {"LD_PRELOAD": self.library} | {name: str(number) for name, number in environment.items()}
+        return called(self.program, self.words, self.source, loaded, **streams)
+
+    def told(self, status, written):
+        """What is answered: by several workers the verdict alone, since which worker makes an entry is left open. Without memory for
+        the lock one worker's entries are made by the finisher, so the numbers of callers are left out."""
+        return status, written.splitlines()[-1:] if self.line in SEVERAL else CALLERS.sub(b"", written)
+
+    def is_usual(self, status, written):
+        return self.told(status, written) == self.usual
+
+    def is_front(self, written):
+        return written == b"" if self.line in SEVERAL else self.usual[1].startswith(CALLERS.sub(b"", written))
+
+    def in_turn(self, number_of, environment, is_right):
+        """How many calls there were with the first, the second and so on refused, until the program makes fewer."""
+        number = 0
+        while True:
+            status, written, told, _ = self.call(environment | {number_of: number + 1})
+            if b"refused" not in told:
+                return number
+            number += 1
+            if told != b"refused\n" or not is_right(status, written):
+                wrong(f"{self.line}, {number_of} {number} {environment}: status {status}, {written[:60]!r} {told[:80]!r}")
+
+    def expect(self, what, wanted, status, written):
+        """Tells where a call came out otherwise than with the status that is wanted, or as usual where none is."""
+        right = self.is_usual(status, written) if wanted is None else status == wanted and self.is_front(written)
+        if not right:
+            wrong(f"{self.line}, {what}: status {status}, {written[:60]!r}")
 
 
-def refusing(folder):
-    """The library that refuses memory."""
-    library = pathlib.Path(folder) / "refusing.so"
-    subprocess.run(["cc", "-shared", "-fPIC", "-O1", "-o", library, TOP / "bench/refusing.c"], check=True)
-    return str(library)
+def uses(program, calls):
+    with tempfile.TemporaryDirectory() as folder:
+        library = pathlib.Path(folder) / "refusing.so"
+        subprocess.run(["cc", "-shared", "-fPIC", "-O1", "-o", library, TOP / "bench/refusing.c"], check=True)
+        for line, ending in calls.items():
+            yield Use(program, str(library), line, ending)
 
 
-def refused_in_turn(program, library, mode, source):
-    """How many runs ended for want of memory, had the usual answer all the same, or ended otherwise."""
-    usual = answer(mode, *called(program, [mode], source)[:2])
-    ends = collections.Counter()
-    while True:
-        number = ends.total() + 1
-        status, written, told, _ = called(program, [mode], source, {"LD_PRELOAD": library, "REFUSED": str(number)})
-        if b"refused" not in told:
-            return ends
-        end = "status 6" if (status, written) == (6, b"") else "as usual" if answer(mode, status, written) == usual else "otherwise"
-        ends[end] += 1
-        if end == "otherwise":
-            wrong(f"{mode} without its call {number} for memory: status {status}, {written[:60]!r} {told[:80]!r}")
+def table_row(*columns):
+    print(f"{columns[0]:<30}" + "".join(f"{column:>14}" for column in columns[1:]))
 
 
 def memory(program, _):
-    columns = ["status 6", "as usual", "otherwise"]
-    print(f"{'memory, the order desk':<26}{'refused':>10}" + "".join(f"{column:>10}" for column in columns))
-    with tempfile.TemporaryDirectory() as folder:
-        library = refusing(folder)
-        for mode, ending in MODES.items():
-            for source in sources("order_desk", ending):
-                ends = refused_in_turn(program, library, mode, source)
-                print(f"{mode:<26}{ends.total():>10}" + "".join(f"{ends[column]:>10}" for column in columns), flush=True)
+    table_row("memory, the order desk", "refused", "status 6", "as usual")
+    for use in uses(program, CALLS | SEVERAL | UNREAD):
+        ends = collections.Counter()
+
+        def is_right(status, written):
+            end = "status 6" if status == 6 and use.is_front(written) else "as usual" if use.is_usual(status, written) else ""
+            ends[end] += 1
+            return end != ""
+
+        table_row(use.line, use.in_turn("REFUSED", {}, is_right), ends["status 6"], ends["as usual"])
 
 
-def streams(program, _):
-    print(f"{'streams':<26}{'a folder':>9}{'full':>10}")
-    for mode, ending in MODES.items():
-        source = sources("order_desk", ending)[0]
+def through_pipe(use, piece):
+    """The answer to a source that is written into a pipe so many bytes at a time."""
+    end, begin = os.pipe()
+
+    def write_all():
+        with os.fdopen(begin, "wb", buffering=0) as pipe:
+            for place in range(0, len(use.source), piece):
+                pipe.write(use.source[place:place + piece])
+
+    writer = threading.Thread(target=write_all)
+    writer.start()
+    with os.fdopen(end, "rb") as source:
+        answer = use.call({}, input=None, stdin=source)[:2]
+        source.read()
+    writer.join()
+    return answer
+
+
+def closed(use, stream):
+    """The answer where standard input (0) or output (1) is closed."""
+    words = ["sh", "-c", f'exec "$0" "$@" {stream}>&-', use.program, *use.words]
+    call = subprocess.run(words, input=use.source, capture_output=True, check=False, timeout=60)
+    return call.returncode, call.stdout
+
+
+def reads(program, _):
+    table_row("reads, the order desk", "failed", "7 a read", "short")
+    for use in uses(program, CALLS):
+        def is_right(status, written):
+            return (status, written) == (4, b"refused: read\n")
+
+        failed = [use.in_turn("READ_FAILS", how, is_right) for how in [{}, {"READ_AT_MOST": 7}]]
+        for piece in PIECES:
+            use.expect(f"{piece} a read", None, *use.call({"READ_AT_MOST": piece})[:2])
+            use.expect(f"{piece} a write into the pipe", None, *through_pipe(use, piece))
         folder = os.open("/", os.O_RDONLY)
-        read = subprocess.run([program, mode], stdin=folder, capture_output=True, check=False)
+        answers = {"a folder": use.call({}, input=None, stdin=folder)[:2], "a closed file": closed(use, 0)}
         os.close(folder)
-        if (read.returncode, read.stdout) != (4, b"refused: read\n"):
-            wrong(f"{mode} reads a folder: status {read.returncode}, {read.stdout[:60]!r}")
+        for what, answer in answers.items():
+            if not is_right(*answer):
+                wrong(f"{use.line} reads {what}: status {answer[0]}, {answer[1][:60]!r}")
+        table_row(use.line, *failed, 2 * len(PIECES))
+
+
+def left_by_reader(program, words, source, count):
+    """The status where the reader of a small pipe goes after so many bytes."""
+    end, begin = os.pipe()
+    fcntl.fcntl(begin, fcntl.F_SETPIPE_SZ, 4096)
+    with subprocess.Popen([program, *words], stdin=subprocess.PIPE, stdout=begin, stderr=subprocess.DEVNULL) as call:
+        os.close(begin)
+        if count == 0:
+            os.close(end)
+        with contextlib.suppress(BrokenPipeError):
+            call.stdin.write(source)
+            call.stdin.close()
+        if count > 0:
+            os.read(end, count)
+            os.close(end)
+        return call.wait(timeout=60)
+
+
+def writes(program, _):
+    table_row("writes, the order desk", "failed", "7 a write", "short")
+    for use in uses(program, CALLS | UNREAD):
+        def is_right(status, written):
+            return status == 5 and use.is_front(written)
+
+        failed = [use.in_turn("WRITE_FAILS", how, is_right) for how in [{}, {"WRITE_AT_MOST": 7}]]
+        for piece in PIECES:
+            use.expect(f"{piece} a write", None, *use.call({"WRITE_AT_MOST": piece})[:2])
         with open("/dev/full", "wb") as full:
-            write = subprocess.run([program, mode], input=source, stdout=full, stderr=subprocess.PIPE, check=False)
-        if write.returncode != 5:
-            wrong(f"{mode} writes to a full device: status {write.returncode}")
-        print(f"{mode:<26}{read.returncode:>9}{write.returncode:>10}", flush=True)
+            use.expect("a full device", 5, *use.call({}, stdout=full)[:2])
+        use.expect("a closed output", 5, *closed(use, 1))
+        use.expect("a reader that has gone", 5, left_by_reader(program, use.words, use.source, 0), b"")
+        table_row(use.line, *failed, len(PIECES))
+    text = generated(3, 128).encode()
+    for words in [["check"], ["run"], ["gen", "--seed", "3", "--size", "128"]]:
+        status = left_by_reader(program, words, text, 1)
+        if status != 5:
+            wrong(f"{words[0]}, a reader that goes in the middle: status {status}")
 
 
 def flipped(draw, source):
@@ -183,7 +294,7 @@ def damage(program, options):
         print(f"{mode:<26}{counts.total():>9}{told}{slowest[mode] * 1000:>9.0f}")
 
 
-PARTS = {"memory": memory, "streams": streams, "damage": damage}
+PARTS = {"memory": memory, "reads": reads, "writes": writes, "damage": damage}
 
 
 def main():

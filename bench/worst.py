@@ -446,6 +446,12 @@ def twelve_choices_and_2_047_orders_that_need_not_be_kept_beside_one_that_is():
 
 
 @text
+def twelve_choices_and_1_365_ors_of_two_orders_that_need_not_be_kept():
+    rules = "".join(f" constraint order e{n % 51 + 1} e{n % 51} or order e{n % 51} e{n % 51 + 1} or must b{n % 12} or must a{n % 12};" for n in range(1365))
+    return f"event {choice_events(12)}, {names('e', 52, ', ')}; goal {choices(12)} | {names('e', 52, ' * ')};{rules}"
+
+
+@text
 def twelve_choices_and_1_170_orders_each_kept_by_one_resolution_in_32():
     rules = "".join(
         f" constraint order e{n % 7} e{n % 7 + 1} or {' or '.join(f'must a{(n + side) % 12}' for side in range(5))};" for n in range(1170))
@@ -454,9 +460,14 @@ def twelve_choices_and_1_170_orders_each_kept_by_one_resolution_in_32():
 
 def nested(leaf, order):
     """An order inside 95 `or`s and 95 `and`s that none of them decides, by the names that the numbers have."""
+    return nested_in(lambda level: f"never {leaf(level)}", lambda level: f"must {leaf(level + 1)}", order)
+
+
+def nested_in(either, both, order):
+    """An order inside 95 `or`s and 95 `and`s with the sides that the numbers have."""
     inner = order
     for level in range(95):
-        inner = f"(never {leaf(level)} or (must {leaf(level + 1)} and {inner}))"
+        inner = f"({either(level)} or ({both(level)} and {inner}))"
     return inner
 
 
@@ -464,6 +475,23 @@ def nested(leaf, order):
 def twelve_choices_and_42_orders_inside_190_ands_and_ors():
     rules = "".join(f" constraint {nested(lambda level, rule=rule: f'e{(rule + level) % 9}', f'order e{rule % 8} e{rule % 8 + 1}')};"
                     for rule in range(42))
+    return f"event {choice_events(12)}, {names('e', 9, ', ')}; goal {choices(12)} | {names('e', 9, ' * ')};{rules}"
+
+
+@text
+def twelve_choices_and_42_orders_inside_190_ands_and_ors_of_a_side():
+    rules = "".join(f" constraint {nested(lambda level, rule=rule: f'a{rule % 12}', f'order e{rule % 8} e{rule % 8 + 1}')};" for rule in range(42))
+    return f"event {choice_events(12)}, {names('e', 9, ', ')}; goal {choices(12)} | {names('e', 9, ' * ')};{rules}"
+
+
+@text
+def twelve_choices_and_21_orders_inside_190_ands_and_ors_of_both_sides():
+    def rule(number):
+        side = f"a{number % 12}"
+        return nested_in(lambda level: f"(never {side} and must {side})", lambda level: f"(never {side} or must {side})",
+                         f"order e{number % 8} e{number % 8 + 1}")
+
+    rules = "".join(f" constraint {rule(number)};" for number in range(21))
     return f"event {choice_events(12)}, {names('e', 9, ', ')}; goal {choices(12)} | {names('e', 9, ' * ')};{rules}"
 
 

@@ -1,11 +1,14 @@
 //! `flow large` in plain Rust: the same algorithm over the same data structures, with no proof, for comparison. A text is
-//! generated, read, compiled by Apply and Excise, and run by workers behind a lock whose tasks all succeed. Only what the
-//! generated texts need is here: no facts, no sub-workflows, no failures, no rewinds.
+//! generated, read, compiled by Apply and Excise, and run by workers behind a lock whose tasks all succeed; by 0 workers it is run
+//! without a lock and a thread. Only what the generated texts need is here: no facts, no sub-workflows, no failures, no rewinds.
 //!
 //! Usage: large SEED SIZE WORKERS
+//!
+//! The microseconds that the run took are told on standard error.
 
 use std::collections::BTreeMap;
 use std::sync::Mutex;
+use std::time::Instant;
 
 const WORDS: usize = 16;
 
@@ -641,6 +644,33 @@ fn work(run: &Mutex<Run>) {
     }
 }
 
+fn work_alone(run: &mut Run) {
+    loop {
+        match run.next() {
+            Next::Act(leaf) => {
+                run.take(leaf);
+                run.finish(leaf);
+            }
+            Next::Wait => unreachable!(),
+            Next::Finished => {
+                run.committed = true;
+                run.entries += 1;
+            }
+            Next::Ended => return,
+        }
+    }
+}
+
+fn work_beside(run: Run, workers: u64) -> Run {
+    let run = Mutex::new(run);
+    std::thread::scope(|scope| {
+        for _ in 0..workers {
+            scope.spawn(|| work(&run));
+        }
+    });
+    run.into_inner().unwrap()
+}
+
 fn main() {
     let words: Vec<u64> = std::env::args().skip(1).map(|word| word.parse().unwrap()).collect();
     let (seed, size, workers) = (words[0], words[1] as usize, words[2]);
@@ -648,7 +678,7 @@ fn main() {
     let workflow = read(&text);
     let (plans, counts) = compile(&workflow);
     let leaves = workflow.events.len() as u32;
-    let run = Mutex::new(Run {
+    let mut run = Run {
         fronts: vec![0; plans.len()],
         plans,
         leaves,
@@ -657,13 +687,14 @@ fn main() {
         claims: Vec::new(),
         entries: 0,
         committed: false,
-    });
-    std::thread::scope(|scope| {
-        for _ in 0..workers {
-            scope.spawn(|| work(&run));
-        }
-    });
-    let run = run.into_inner().unwrap();
+    };
+    let begun = Instant::now();
+    if workers == 0 {
+        work_alone(&mut run);
+    } else {
+        run = work_beside(run, workers);
+    }
+    eprintln!("{}", begun.elapsed().as_micros());
     println!(
         "{{\"bulk\":{},\"history\":{},\"journal\":{},\"leaves\":{},\"live\":{},\"options\":{},\"resolutions\":{},\"seed\":{},\"size\":{},\"verdict\":\"committed\"}}",
         counts.bulk,

@@ -52,9 +52,11 @@ impl<'a, R: Threads + Wait + Sync, G: Gate> Crew<'a, R, G> {
         let counts = compiled.counts();
         let (core, verdict) = self.run(alloc, workflow, compiled)?;
         let summary = summary_of(&core, &counts, seed, size, verdict);
+        let text = print_summary(alloc, &core, &summary);
+        drop(core);
         Ok(Output {
             status: status_of(&verdict),
-            text: print_summary(alloc, &core, &summary)?,
+            text: text?,
         })
     }
 }

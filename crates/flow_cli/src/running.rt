@@ -78,9 +78,11 @@ impl<'a, R: Threads + Wait + Sync, G: Gate> Crew<'a, R, G> {
         ensures { IfOk result (λ output. Reports G.gives workflow self.now.steps self.now.workers output.status output.text.items) }
     {
         let (core, verdict) = self.run(alloc, workflow, compiled)?;
+        let report = print_report(alloc, &core, &verdict);
+        drop(core);
         Ok(Output {
             status: status_of(&verdict),
-            text: print_report(alloc, &core, &verdict)?,
+            text: report?,
         })
     }
 

@@ -1,13 +1,13 @@
-ghost use Rattle.std.specs.Prelude.{◌≡◌, IfOk};
+ghost use Rattle.std.specs.Prelude.{◌≡◌, ℕ, IfOk};
 ghost use Rattle.flow_model.specs.Verdict.{drive_verdict};
-ghost use Rattle.flow_workflow.specs.Definition.{schema_of};
-ghost use Rattle.flow_excise.specs.Compilation.{IsCompiled};
+ghost use Rattle.flow_workflow.specs.Definition.{Definition, schema_of};
+ghost use Rattle.flow_excise.specs.Compilation.{IsWithinLimits, IsCompiled};
 ghost use Rattle.flow_core.specs.Run.{schema};
 ghost use Rattle.flow_core.specs.Lawful.{IsLawful};
 ghost use Rattle.flow_reply.specs.Reply.{IsAnswerTo, HasNamedCall};
 ghost use Rattle.flow_reply.specs.Report.{Means};
 ghost use Rattle.flow_cli.specs.Drive.{Answers, RepliesTo, Drives};
-ghost use Rattle.flow_cli.specs.Driving.{IsStepCount, Records, ended};
+ghost use Rattle.flow_cli.specs.Driving.{IsStepCount, Records, ended, start_of};
 
 use crate::output::Output;
 use crate::status::Status;
@@ -88,7 +88,20 @@ pub(crate) fn status_of(verdict: &Verdict) -> Status
     }
 }
 
-/// Runs a workflow by the commands, in so many steps at most: the replies, and then the report.
+/// Goes through the commands, and then reports the run: the replies, and then the report.
+fn record(alloc: Global, core: &mut Core, commands: &[Command]) -> Result<Output, AllocError>
+    ensures { (w : Definition) (steps : ℕ) → IsWithinLimits (schema_of w) → core.old ≡ start_of w steps
+        → IfOk result (λ output. Records w steps commands.now output.status output.text.items) }
+{
+    let mut text = reply_to_all(alloc, core, commands)?;
+    let verdict = verdict_of(core);
+    let report = print_report(alloc, core, &verdict)?;
+    text.extend_from_slice(&report)?;
+    let status = status_of(&verdict);
+    Ok(Output { status, text })
+}
+
+/// Runs a workflow by the commands, in so many steps at most.
 pub fn run(
     alloc: Global,
     workflow: Workflow,
@@ -101,10 +114,7 @@ pub fn run(
     ensures { IfOk result (λ output. Records workflow steps commands.now output.status output.text.items) }
 {
     let mut core = Core::start(alloc, workflow, compiled, steps)?;
-    let mut text = reply_to_all(alloc, &mut core, commands)?;
-    let verdict = verdict_of(&core);
-    let report = print_report(alloc, &core, &verdict)?;
-    text.extend_from_slice(&report)?;
-    let status = status_of(&verdict);
-    Ok(Output { status, text })
+    let output = record(alloc, &mut core, commands);
+    drop(core);
+    output
 }

@@ -27,7 +27,7 @@ use Rattle.flow_core.proofs.Waiting.{left_in}
 
 -- ---- what cannot be both
 
-not_over : (r : Run) → IsOver r → GoesOn r → ⊥
+pub not_over : (r : Run) → IsOver r → GoesOn r → ⊥
 not_over r over going = true≢false (sym over ∙ going)
 
 unit_same : (a b : Unit {0}) → a ≡ b

@@ -1,7 +1,7 @@
 use flow_model::{Call, FailEffect};
 
 /// What is asked of a run.
-#[derive(Clone, Copy, Debug, PartialEq, Eq)]
+#[derive(Clone, Copy)]
 pub enum Ask {
     /// A claim on the leaf.
     Take(u32),

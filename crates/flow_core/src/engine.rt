@@ -13,6 +13,50 @@ use leaf_rows::LeafSet;
 use std::alloc::{AllocError, Global};
 use std::marker::Model;
 
+/// What a run has when it is started, beside its workflow. In a function that owned the workflow too, each failure would free
+/// that field by field, which takes minutes to prove.
+#[derive(Drop)]
+struct Parts {
+    residual: Residual,
+    claims: Claims,
+    world: World,
+    history: Vec<Entry>,
+}
+
+impl Parts {
+    ghost use Rattle.std.specs.Vec.{vec_capacity};
+    ghost use Rattle.flow_core.specs.Kept.{IsKept};
+
+    /// The parts of a run with no entry yet, of at most so many.
+    fn new(
+        alloc: Global,
+        workflow: &Workflow,
+        compiled: Compiled,
+        limit: u32,
+    ) -> Result<Parts, AllocError>
+        requires compiled { IsCompiled (schema_of workflow.now) compiled }
+        requires few { limit ≤ 1000000 }
+        ensures kept { IfOk result (λ p. IsKept workflow.now limit [] p.residual p.claims p.world false) }
+        ensures none { IfOk result (λ p. p.history.items ≡ []) }
+        ensures room { IfOk result (λ p. limit ≤ vec_capacity p.history) }
+    {
+        // that each event has a note is told by the notes
+        let _ = workflow.notes();
+        let kinds = workflow.events().len() as u32;
+        let leaves = workflow.tree().leaves();
+        let history = Vec::with_capacity(alloc, limit as usize)?;
+        let claims = Claims::new(alloc, kinds, limit)?;
+        let world = World::new(alloc, workflow.facts().count(), workflow.held(), leaves)?;
+        let residual = Residual::new(alloc, compiled)?;
+        Ok(Parts {
+            residual,
+            claims,
+            world,
+            history,
+        })
+    }
+}
+
 /// One run of a workflow. It keeps that its history is legal. All memory is taken when it is started.
 #[derive(Drop)]
 pub struct Core {
@@ -59,19 +103,23 @@ impl Core {
         requires few { limit ≤ 1000000 }
         ensures { IfOk result (λ core. core ≡ record { definition = workflow; limit = limit; history = [] }) }
     {
-        let kinds = workflow.notes().len() as u32;
-        let leaves = workflow.tree().leaves();
+        let Parts {
+            residual,
+            claims,
+            world,
+            history,
+        } = Parts::new(alloc, &workflow, compiled, limit)?;
         Ok(Core {
-            residual: Residual::new(alloc, compiled)?,
-            claims: Claims::new(alloc, kinds, limit)?,
-            world: World::new(alloc, workflow.facts().count(), workflow.held(), leaves)?,
-            history: Vec::with_capacity(alloc, limit as usize)?,
+            workflow,
+            residual,
+            claims,
+            world,
+            limit,
+            history,
             committed: false,
             beside: LeafSet::new(),
             first: LeafSet::new(),
             looked: false,
-            workflow,
-            limit,
         })
     }
 

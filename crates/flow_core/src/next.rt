@@ -1,5 +1,5 @@
 /// What a run can do next.
-#[derive(Clone, Copy, Debug, PartialEq, Eq)]
+#[derive(Clone, Copy)]
 pub enum Next {
     /// The leaf can be taken or done.
     Act(u32),

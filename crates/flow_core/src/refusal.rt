@@ -1,74 +1,70 @@
-use thiserror::Error;
-
 /// Why a leaf is not taken.
-#[derive(Clone, Copy, Debug, PartialEq, Eq, Error)]
+#[derive(Clone, Copy)]
 pub enum TakeRefusal {
-    #[error("the run is over")]
+    /// The run is over.
     Closed,
-    #[error("there is no such leaf")]
+    /// There is no such leaf.
     NoLeaf,
-    #[error("the leaf is no event")]
+    /// The leaf is no event.
     WrongKind,
-    #[error("all {limit} steps are spent")]
+    /// All steps are spent.
     Spent { limit: u32 },
-    #[error("the leaf cannot be taken now")]
+    /// The leaf cannot be taken now.
     NotEnabled,
 }
 
 /// Why a leaf that is no event is not done.
-#[derive(Clone, Copy, Debug, PartialEq, Eq, Error)]
+#[derive(Clone, Copy)]
 pub enum DoRefusal {
-    #[error("the run is over")]
+    /// The run is over.
     Closed,
-    #[error("there is no such leaf")]
+    /// There is no such leaf.
     NoLeaf,
-    #[error("the leaf is an event")]
+    /// The leaf is an event.
     WrongKind,
-    #[error("all {limit} steps are spent")]
+    /// All steps are spent.
     Spent { limit: u32 },
-    #[error("the leaf cannot be done now")]
+    /// The leaf cannot be done now.
     NotEnabled,
-    #[error("what the leaf tests does not hold now")]
+    /// What the leaf tests does not hold now.
     TestFalse,
 }
 
 /// Why a result is not posted.
-#[derive(Clone, Copy, Debug, PartialEq, Eq, Error)]
+#[derive(Clone, Copy)]
 pub enum PostRefusal {
-    #[error("the run is over")]
+    /// The run is over.
     Closed,
-    #[error("the claim was never given")]
+    /// The claim was never given.
     NoClaim,
-    #[error("the claim is answered")]
+    /// The claim is answered.
     Answered,
-    #[error("all {limit} steps are spent")]
+    /// All steps are spent.
     Spent { limit: u32 },
-    /// The result came too late: it is recorded and does not count.
-    #[error("the claim is of epoch {of}, and it is now {now}")]
+    /// The claim is of an earlier epoch: the result is recorded and does not count.
     Late { of: u32, now: u32 },
 }
 
 /// Why a run does not go back.
-#[derive(Clone, Copy, Debug, PartialEq, Eq, Error)]
+#[derive(Clone, Copy)]
 pub enum RewindRefusal {
-    #[error("the run is over")]
+    /// The run is over.
     Closed,
-    #[error("all {limit} steps are spent")]
+    /// All steps are spent.
     Spent { limit: u32 },
-    #[error("no other choice is free")]
+    /// No other choice is free.
     NoChoice,
 }
 
 /// Why a run is not committed.
-#[derive(Clone, Copy, Debug, PartialEq, Eq, Error)]
+#[derive(Clone, Copy)]
 pub enum CommitRefusal {
-    #[error("the run is over")]
+    /// The run is over.
     Closed,
-    #[error("all {limit} steps are spent")]
+    /// All steps are spent.
     Spent { limit: u32 },
-    /// The least claim that is out.
-    #[error("claim {claim} is out")]
+    /// A claim is out, this one the least.
     ClaimsOut { claim: u32 },
-    #[error("the journal is no whole execution")]
+    /// The journal is no whole execution.
     Unfinished,
 }

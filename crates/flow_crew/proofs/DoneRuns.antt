@@ -20,8 +20,7 @@ use Rattle.flow_model.specs.Run.{Claim, RunState, first_state, state_of, next_st
 use Rattle.flow_model.specs.Verdict.{EndsKept, IsRunStep, call_of, attempts, event_of_claim}
 use Rattle.flow_laws.specs.Words.{IsWellFormed, IsConsistent}
 use Rattle.flow_laws.specs.Histories.{IsSound, NeverWaits}
-use Rattle.flow_laws.proofs.ListLemmas1.{order_same}
-use Rattle.flow_laws.proofs.ListLemmas2.{each-append, each_parts, each_member, of_find}
+use Rattle.flow_laws.proofs.ListLemmas2.{each-append, each_parts, each_member, of_find, same_order}
 use Rattle.flow_laws.proofs.TraceLeaves.{distinct_trace}
 use Rattle.flow_laws.proofs.OptionsLemmas.{distinct_leaves}
 use Rattle.flow_laws.proofs.ClaimLemmas.{leaf_of, is_of, and_parts, some_claim, leaf_of_claim_is}
@@ -68,7 +67,7 @@ fewer_out w s sound claim current =
 few_leaves : (w : Schema) → IsWellFormed w → (s : RunState) → IsSound w s → length s.journal + length (current_leaves s) ≤ length w.labels
 few_leaves w f s sound =
     let (o, m, follow) = sound.extends in
-    let (t, trace, free, (rest, is)) = follow (current_leaves s) (order_same (current_leaves s)) in
+    let (t, trace, free, (rest, is)) = follow (current_leaves s) (same_order (current_leaves s)) in
     let most : length t ≤ length w.labels = at_most (length w.labels) t (distinct_trace w.goal (distinct_leaves w f) t free.0.0) (λ n m. within_free w f s t free n m) in
     let long : length t ≡ length (s.journal ++ current_leaves s) + length rest = ap length is ∙ length-append (s.journal ++ current_leaves s) rest in
     let both : length (s.journal ++ current_leaves s) ≡ length s.journal + length (current_leaves s) = length-append s.journal (current_leaves s) in

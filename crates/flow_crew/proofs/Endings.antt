@@ -1,5 +1,6 @@
 -- Which verdict stands.
-use Rattle.std.proofs.Common.{◌≡◌, ◌≢◌, ◌≤◌, ◌+◌, ℕ, Bool, true, false, List, [], ◌∷◌, ◌++◌, length, Option, Some, None, MatchOption, is_some, IsTrue, refl, sym, ap, ◌∙◌, subst, inl, inr, arith, true≢false}
+use Rattle.std.proofs.Common.{◌≡◌, ◌≢◌, ◌≤◌, ◌+◌, ℕ, true, false, List, [], ◌∷◌, ◌++◌, length, Option, Some, None, MatchOption, is_some, IsTrue, refl, sym, ap, ◌∙◌, subst, inl, inr, arith, true≢false}
+use Rattle.std.proofs.lemmas.Bool.{false_from_ne_true}
 use Rattle.flow_model.specs.declared.history.Entry.{Entry}
 use Rattle.flow_model.specs.declared.history.Step.{Step}
 use Rattle.flow_model.specs.declared.history.Step.TheVariants.{Took, Done, Failed, Late, Did, Rewound, Committed}
@@ -30,12 +31,8 @@ no_verdict r none (no_other leaf) h = none (end.NoOther leaf) h
 no_verdict r none (stuck waiting) h = none end.Stuck (waiting, h)
 no_verdict r none unfinished h = h
 
-not_true : (b : Bool) → ¬ (b ≡ true) → b ≡ false
-not_true true h = absurd (h refl)
-not_true false h = refl
-
 pub goes_on : (r : Run) → HasNoEnd r → GoesOn r
-goes_on r none = not_true (now r).committed (none end.Committed)
+goes_on r none = false_from_ne_true (now r).committed (none end.Committed)
 
 -- the history is no longer than the limit
 abbrev pub IsWithin : Run → Type 0

@@ -11,8 +11,7 @@ use Rattle.flow_model.specs.Ways.{Normal, leaf_of_event}
 use Rattle.flow_model.specs.Schema.{Schema}
 use Rattle.flow_model.specs.Resolution.{ChoiceOption, options, options_in, option_size, resolutions, resolution_count}
 use Rattle.flow_laws.specs.Words.{IsWellFormed, IsConsistent}
-use Rattle.flow_laws.proofs.ListLemmas1.{each_of}
-use Rattle.flow_laws.proofs.ListLemmas2.{mem-map, numbers_from_below}
+use Rattle.flow_laws.proofs.ListLemmas2.{mem-map, numbers_from_below, each_from_members}
 use Rattle.flow_laws.proofs.ResolutionsLemmas.{resolves_of, mem-leaves_of_goal}
 use Rattle.flow_laws.proofs.OptionsLemmas.{option_parts, option_is_ordered}
 use Rattle.flow_laws.proofs.GoodTraces.{option_of_good, option_trace_is_good}
@@ -68,7 +67,7 @@ plannable w os f small e light o m =
     let there : o ∈ options w = subst (λ l. o ∈ l) e m in
     let parts = option_parts w o there in record {
       ordered = option_is_ordered w f o there;
-      small = each_of (λ n. n < 1024) (leaves o.resolution) (λ n k.
+      small = each_from_members (λ n. n < 1024) (leaves o.resolution) (λ n k.
           let in_goal = mem-leaves_of_goal w.goal o.resolution (resolves_of w.goal o.resolution parts.0) n k in
           let below = numbers_from_below 0 (length w.labels) n (subst (λ l. n ∈ l) f.numbered in_goal) in
           omega arith);

@@ -7,8 +7,8 @@ use Rattle.flow_model.specs.Trace.{Trace}
 use Rattle.flow_model.specs.Ready.{DirectlyBefore, isolated_parts}
 use Rattle.flow_model.specs.Circle.{items_of}
 use Rattle.flow_laws.specs.Words.{IsOrdered}
-use Rattle.flow_laws.proofs.ListLemmas1.{mem_joined, list_having, distinct_append, before_across, before_right, before_or_after, not_both_ways, decide_eq, each_of}
-use Rattle.flow_laws.proofs.ListLemmas2.{mem-map, of_map, before_members}
+use Rattle.flow_laws.proofs.ListLemmas1.{mem_joined, list_having, distinct_append, before_across, before_right, before_or_after, not_both_ways, decide_eq}
+use Rattle.flow_laws.proofs.ListLemmas2.{mem-map, of_map, before_members, each_from_members}
 use Rattle.flow_laws.proofs.ReadyOrders.{trace_of_ordering}
 use Rattle.flow_laws.proofs.ReadyRuns.{direct_first, direct_second, arrangement_of}
 use Rattle.flow_laws.proofs.CircleExcludes.{circle_excludes}
@@ -162,7 +162,7 @@ laid_trace q pairs run o l = (
     before = λ x y b. ordered x y (inl b);
     together = l.together;
   }),
-  each_of (λ pair. StandsBefore pair.0 pair.1 run) pairs (λ pair m. ordered pair.0 pair.1 (inr m)),
+  each_from_members (λ pair. StandsBefore pair.0 pair.1 run) pairs (λ pair m. ordered pair.0 pair.1 (inr m)),
 )
   where
     ordered : (x y : ℕ) → DirectlyBefore q pairs x y → StandsBefore x y run

@@ -1,3 +1,4 @@
+pub mod BlockLemmas
 pub mod TallyLemmas
 pub mod RingLemmas
 pub mod OrderLemmas

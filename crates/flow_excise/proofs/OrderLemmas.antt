@@ -6,8 +6,8 @@ use Rattle.std.proofs.lemmas.Option.{slice_get_past, slice_get_read}
 use Rattle.leaf_rows.specs.declared.leaf_set.LeafSet.{LeafSet}
 use Rattle.leaf_rows.specs.Leaves.{has_leaf}
 use Rattle.flow_model.specs.Lists.{◌∈◌, Each, AreDistinct, StandsBefore, joined}
-use Rattle.flow_laws.proofs.ListLemmas1.{joined_append, each_at, mem_left, mem_right, mem_append, decide_in, distinct_append, before_across}
-use Rattle.flow_laws.proofs.ListLemmas2.{some_same, each_from_members}
+use Rattle.flow_laws.proofs.ListLemmas1.{each_at, decide_in, distinct_append, before_across}
+use Rattle.flow_laws.proofs.ListLemmas2.{some_same, each_from_members, mem_append_left, mem_append_right, mem-append, joined-append}
 use Rattle.flow_excise.specs.declared.item.Item.{Item}
 use Rattle.flow_excise.specs.Rows.{has_inside, has_waits, run_in, runs, least_in, least_at, IsIn, WaitsFor, IsEdge, AreApart}
 use Rattle.flow_excise.specs.Arranged.{IsArranged, IsWholeOrder, IsCycle, LeadsOn, Holds}
@@ -34,7 +34,7 @@ not_and false b = (λ h. (not_true false refl, h), λ h. h.1)
 
 pub before_left : {A : Type 0} (x y : A) (a b : List A) → StandsBefore x y a → StandsBefore x y (a ++ b)
 before_left x y [] b h = absurd h
-before_left x y (z ∷ a) b (inl h) = inl (h.0, mem_left y a b h.1)
+before_left x y (z ∷ a) b (inl h) = inl (h.0, mem_append_left y a b h.1)
 before_left x y (z ∷ a) b (inr h) = inr (before_left x y a b h)
 
 pub is_within : (items : List Item) (n x : ℕ) → IsIn items n x → n < length items
@@ -74,22 +74,22 @@ module _ (items : List Item) (w : AreApart items) where
   grown left new order longer top a there fresh free cleared e = subst (IsArranged items new) (sym e) (record {
     distinct = distinct_append order (top ∷ []) a.distinct ((λ m. m), tt)
         (λ x m k. ⊎_elim (λ i. fresh (subst (λ z. z ∈ order) i m)) (λ f. absurd f) k);
-    within = λ n m. ⊎_elim (a.within n) (⊎_elim (λ i. subst (λ z. z < length items) (sym i) there) (λ f. absurd f)) (mem_append n order (top ∷ []) m);
+    within = λ n m. ⊎_elim (a.within n) (⊎_elim (λ i. subst (λ z. z < length items) (sym i) there) (λ f. absurd f)) (mem-append n order (top ∷ []) m);
     rest = λ x. (still x, was x);
-    behind = λ m n k edge. ⊎_elim (λ i. before_left m n order (top ∷ []) (a.behind m n i edge)) (last m n edge) (mem_append n order (top ∷ []) k);
+    behind = λ m n k edge. ⊎_elim (λ i. before_left m n order (top ∷ []) (a.behind m n i edge)) (last m n edge) (mem-append n order (top ∷ []) k);
   })
     where
       still : (x : ℕ) → IsTrue (has_leaf new x) → (n : ℕ) × IsIn items n x × ¬ (n ∈ (order ++ top ∷ []))
       still x h =
           let both = (not_and (has_inside (slice_get items top) x) (has_leaf left x)).0 (sym (cleared x) ∙ h) in
           let r = (a.rest x).0 both.1 in
-          (r.0, r.1, λ m. ⊎_elim r.2 (⊎_elim (λ i. both.0 (subst (λ z. IsIn items z x) i r.1)) (λ f. absurd f)) (mem_append r.0 order (top ∷ []) m))
+          (r.0, r.1, λ m. ⊎_elim r.2 (⊎_elim (λ i. both.0 (subst (λ z. IsIn items z x) i r.1)) (λ f. absurd f)) (mem-append r.0 order (top ∷ []) m))
 
       was : (x : ℕ) → (n : ℕ) × IsIn items n x × ¬ (n ∈ (order ++ top ∷ [])) → IsTrue (has_leaf new x)
       was x (n, i, f) =
           cleared x ∙ (not_and (has_inside (slice_get items top) x) (has_leaf left x)).1 (
-            (λ t. f (mem_right n order (top ∷ []) (inl (w.apart n top x i t)))),
-            (a.rest x).1 (n, i, λ m. f (mem_left n order (top ∷ []) m)),
+            (λ t. f (mem_append_right n order (top ∷ []) (inl (w.apart n top x i t)))),
+            (a.rest x).1 (n, i, λ m. f (mem_append_left n order (top ∷ []) m)),
           )
 
       last : (m n : ℕ) → IsEdge items m n → n ∈ (top ∷ []) → StandsBefore m n (order ++ top ∷ [])
@@ -148,7 +148,7 @@ module _ (items : List Item) (w : AreApart items) where
         within = λ n m. p.within n (subst (λ z. n ∈ z) (sym e) (inr m));
         fresh = λ n m k. ⊎_elim (p.fresh n (subst (λ z. n ∈ z) (sym e) (inr m)))
             (⊎_elim (λ i. d.0 (subst (λ z. z ∈ more) i m)) (λ f. absurd f))
-            (mem_append n order (top ∷ []) (subst (λ z. n ∈ z) f k));
+            (mem-append n order (top ∷ []) (subst (λ z. n ∈ z) f k));
         trail = trail_end items top more (subst (IsTrail items) e p.trail);
       }
 
@@ -181,13 +181,13 @@ rest_of path new top more e f = f ∙ ap (λ (z : List ℕ). remove z 0) e
 -- what is held goes on
 
 pub holds_on : (old order longer : List ℕ) (top : ℕ) → longer ≡ order ++ top ∷ [] → ((m : ℕ) → m ∈ old → m ∈ order) → (m : ℕ) → m ∈ old → m ∈ longer
-holds_on old order longer top e kept m k = subst (λ z. m ∈ z) (sym e) (mem_left m order (top ∷ []) (kept m k))
+holds_on old order longer top e kept m k = subst (λ z. m ∈ z) (sym e) (mem_append_left m order (top ∷ []) (kept m k))
 
 pub start_on : (start : ℕ) (order longer path : List ℕ) (top : ℕ) (more : List ℕ) → path ≡ top ∷ more → longer ≡ order ++ top ∷ [] →
     (start ∈ order) ⊎ (start ∈ path) → (start ∈ longer) ⊎ (start ∈ more)
-start_on start order longer path top more e f (inl m) = inl (subst (λ z. start ∈ z) (sym f) (mem_left start order (top ∷ []) m))
+start_on start order longer path top more e f (inl m) = inl (subst (λ z. start ∈ z) (sym f) (mem_append_left start order (top ∷ []) m))
 start_on start order longer path top more e f (inr m) = ⊎_elim
-    (λ i. inl (subst (λ z. start ∈ z) (sym f) (mem_right start order (top ∷ []) (inl i))))
+    (λ i. inl (subst (λ z. start ∈ z) (sym f) (mem_append_right start order (top ∷ []) (inl i))))
     inr
     (subst (λ z. start ∈ z) e m)
 
@@ -290,7 +290,7 @@ runs_more items order k item l w e =
     let there = item_there items n item (each_at (λ m. m < length items) order n w (member_at order k l)) e in
     ap (λ z. joined (map f z)) (take_more order k 0 l)
     ∙ ap joined (map-append f (take k order) (n ∷ []))
-    ∙ joined_append (map f (take k order)) (f n ∷ [])
+    ∙ joined-append (map f (take k order)) (f n ∷ [])
     ∙ ap (λ z. runs items (take k order) ++ z) (append-nil (f n) ∙ ap run_in there ∙ ap (λ (i : Item). i.run.items) e)
 
 -- and the least leaf of one item more

@@ -6,7 +6,6 @@ use Rattle.flow_model.specs.Process.{Process, Sequence, Parallel, Isolated, leav
 use Rattle.flow_model.specs.Ready.{DirectlyBefore, isolated_parts}
 use Rattle.flow_model.specs.Circle.{items_of, item_of}
 use Rattle.flow_laws.specs.Words.{IsOrdered}
-use Rattle.flow_laws.proofs.ListLemmas1.{mem_left, mem_right}
 use Rattle.flow_laws.proofs.ReadyRuns.{direct_other}
 use Rattle.flow_laws.proofs.CircleParts.{joined_items}
 use Rattle.flow_excise.specs.declared.item.Item.{Item}
@@ -15,6 +14,7 @@ use Rattle.flow_excise.specs.Items.{IsLaid, IsItemOf, AreItemsOf, AddsItems, IsP
 use Rattle.flow_excise.specs.ItemMarks.{CanClose}
 use Rattle.flow_excise.proofs.ItemLemmas.{same_length, are_apart, tells_circle}
 use Rattle.flow_excise.proofs.LaidLemmas.{part_item}
+use Rattle.flow_laws.proofs.ListLemmas2.{mem_append_left, mem_append_right}
 
 -- the goal is made of two sides
 pub record IsJoin (whole a b : Process) : Type 0 where
@@ -33,14 +33,14 @@ whole_piece q = record { leaf = λ x m. m; part = λ p m. m }
 
 pub piece_left : (q whole a b : Process) → IsJoin whole a b → IsPieceOf q whole → IsPieceOf q a
 piece_left q whole a b j p = record {
-  leaf = λ x m. p.leaf x (subst (λ z. x ∈ z) (sym j.leaves_are) (mem_left x (leaves a) (leaves b) m));
-  part = λ x m. p.part x (subst (λ z. x ∈ z) (sym j.parts_are) (mem_left x (isolated_parts a) (isolated_parts b) m));
+  leaf = λ x m. p.leaf x (subst (λ z. x ∈ z) (sym j.leaves_are) (mem_append_left x (leaves a) (leaves b) m));
+  part = λ x m. p.part x (subst (λ z. x ∈ z) (sym j.parts_are) (mem_append_left x (isolated_parts a) (isolated_parts b) m));
 }
 
 pub piece_right : (q whole a b : Process) → IsJoin whole a b → IsPieceOf q whole → IsPieceOf q b
 piece_right q whole a b j p = record {
-  leaf = λ x m. p.leaf x (subst (λ z. x ∈ z) (sym j.leaves_are) (mem_right x (leaves a) (leaves b) m));
-  part = λ x m. p.part x (subst (λ z. x ∈ z) (sym j.parts_are) (mem_right x (isolated_parts a) (isolated_parts b) m));
+  leaf = λ x m. p.leaf x (subst (λ z. x ∈ z) (sym j.leaves_are) (mem_append_right x (leaves a) (leaves b) m));
+  part = λ x m. p.part x (subst (λ z. x ∈ z) (sym j.parts_are) (mem_append_right x (isolated_parts a) (isolated_parts b) m));
 }
 
 pub piece_inside : (q whole body : Process) → whole ≡ Isolated body → IsPieceOf q whole → IsPieceOf q body

@@ -2,8 +2,8 @@
 use Rattle.std.proofs.Common.{◌≡◌, ◌≢◌, ℕ, zero, suc, ◌+◌, ◌<◌, ◌≤◌, List, [], ◌∷◌, ◌++◌, length, get_or, take, drop, refl, sym, ap, ◌∙◌, subst, inl, inr, ⊎_elim, arith, length-append}
 use Rattle.std.proofs.lemmas.List.{take_more, take-append-drop}
 use Rattle.flow_model.specs.Lists.{◌∈◌, AreDistinct}
-use Rattle.flow_laws.proofs.ListLemmas1.{Decided, mem_without, mem_append, split_at, decide_in, not_elsewhere, distinct_left, distinct_right, distinct_apart, distinct_append}
-use Rattle.flow_laws.proofs.ListLemmas2.{cons_same}
+use Rattle.flow_laws.proofs.ListLemmas1.{Decided, mem_without, split_at, decide_in, not_elsewhere, distinct_left, distinct_right, distinct_apart, distinct_append}
+use Rattle.flow_laws.proofs.ListLemmas2.{cons_same, mem-append}
 use Rattle.flow_excise.specs.declared.item.Item.{Item}
 use Rattle.flow_excise.specs.Rows.{IsEdge}
 use Rattle.flow_excise.specs.Arranged.{LeadsOn, IsCycle, IsNodeRing}
@@ -30,7 +30,7 @@ at_most (suc n) xs d h = at (decide_in n xs) (λ ys e f. at_most n ys e f)
         let alone = not_elsewhere s.0 s.1 n d' in
         let l = on (s.0 ++ s.1) (distinct_without s.0 s.1 n d')
         (λ x k. below x (subst (λ z. x ∈ z) (sym s.2) (mem_without x n s.0 s.1 k))
-        (λ e. ⊎_elim (λ i. alone.0 (subst (λ z. z ∈ s.0) e i)) (λ i. alone.1 (subst (λ z. z ∈ s.1) e i)) (mem_append x s.0 s.1 k))) in
+        (λ e. ⊎_elim (λ i. alone.0 (subst (λ z. z ∈ s.0) e i)) (λ i. alone.1 (subst (λ z. z ∈ s.1) e i)) (mem-append x s.0 s.1 k))) in
         omega (arith, ap length s.2, length-append s.0 (n ∷ s.1), length-append s.0 s.1)
 
 -- members by places

@@ -1,10 +1,10 @@
 -- Options that are looked at one by one.
-use Rattle.std.proofs.Common.{◌≡◌, ◌≢◌, Bool, true, false, not, true≢false, append-nil, ℕ, zero, suc, ◌+◌, ◌<◌, List, [], ◌∷◌, ◌++◌, length, take, get_or, map, refl, sym, ap, ◌∙◌, subst, inl, inr, arith, append_assoc, Option, Some, slice_get, Result, Ok, Err, MatchResult}
+use Rattle.std.proofs.Common.{◌≡◌, Bool, false, not, true≢false, append-nil, ℕ, zero, suc, ◌+◌, ◌<◌, List, [], ◌∷◌, ◌++◌, length, take, get_or, map, refl, sym, ap, ◌∙◌, subst, inl, inr, arith, append_assoc, Some, slice_get, Result, Ok, Err, MatchResult}
 use Rattle.std.proofs.lemmas.List.{get_or-map, length-map, length-take-le, map-append, take_more}
 use Rattle.std.proofs.lemmas.Option.{slice_get_within, slice_get-get_or, get_or_from_slice_get}
 use Rattle.flow_model.specs.Lists.{◌∈◌}
-use Rattle.flow_model.specs.Process.{Process, Empty, leaves}
-use Rattle.flow_model.specs.Ways.{Normal, ways, leaf_of_event}
+use Rattle.flow_model.specs.Process.{Process, Empty}
+use Rattle.flow_model.specs.Ways.{Normal, ways}
 use Rattle.flow_model.specs.Resolution.{ChoiceOption, resolutions}
 use Rattle.flow_laws.proofs.ListLemmas2.{mem-flat_map, some_same}
 use Rattle.flow_goal.specs.Labelled.{Labelled}
@@ -22,6 +22,7 @@ use Rattle.flow_excise.specs.Plans.{option_of}
 use Rattle.flow_excise.specs.Sieves.{ArePlannable, option_with, options_with, HasSifted, Sifts}
 use Rattle.flow_excise.proofs.SiftingLemmas.{keep_one, drop_one, numbered, more_ways, more_resolutions}
 use Rattle.flow_excise.proofs.TallyLemmas.{taken_more}
+use Rattle.flow_model.proofs.Lists.{mem-slice_get}
 
 -- one option
 
@@ -42,9 +43,6 @@ pub mem_read : {A : Type 0} (xs : List A) (i : ℕ) (x : A) → i < length xs �
 mem_read [] i x l e = absurd (omega arith)
 mem_read (y ∷ xs) zero x l e = inl e
 mem_read (y ∷ xs) (suc i) x l e = inr (mem_read xs i x (omega arith) e)
-
-pub mem_got : {A : Type 0} (xs : List A) (i : ℕ) (x : A) → slice_get xs i ≡ Some x → x ∈ xs
-mem_got xs i x h = mem_read xs i x (slice_get_within xs i x h) (sym (get_or_from_slice_get xs i x x h))
 
 -- the ways of a resolution
 
@@ -78,20 +76,11 @@ options_found : (q : Process) (orders : List OrderSet) → options_with q orders
 options_found q [] = refl
 options_found q (o ∷ orders) = ap (λ (l : List ChoiceOption). option_with q o ∷ l) (options_found q orders)
 
-pub ways_found : (t : Labelled) (n : Normal) (q : Process) (orders seen : List OrderSet) (ls : List ℕ) (found : ℕ → Option ℕ) → seen ≡ orders → ls ≡ leaves q →
-    ((event : ℕ) → found event ≡ leaf_of_event t.labels ls event) → pairs_of orders ≡ ways n found → options_with q seen ≡ options_by t n q
-ways_found t n q orders seen ls found e listed same ways_are =
-    ap (options_with q) e ∙ options_found q orders
-    ∙ ap (map (λ way. way_option q way)) (ways_are ∙ (λ k. ways n (λ event. same event k)) ∙ ap (λ (l : List ℕ). ways n (leaf_of_event t.labels l)) listed)
+pub ways_found : (q : Process) (orders seen : List OrderSet) (ways : List (List (ℕ × ℕ))) → seen ≡ orders → pairs_of orders ≡ ways →
+    options_with q seen ≡ map (λ way. way_option q way) ways
+ways_found q orders seen ways e ways_are = ap (options_with q) e ∙ options_found q orders ∙ ap (map (λ way. way_option q way)) ways_are
 
 -- whether a resolution has an option
-
-pub some_found : (t : Labelled) (n : Normal) (q : Process) (ls : List ℕ) (found : ℕ → Option ℕ) → ls ≡ leaves q →
-    ((event : ℕ) → found event ≡ leaf_of_event t.labels ls event) → has_ways t n q ≡ true → ways n found ≢ []
-some_found t n q ls found listed same some none =
-    let ways_are : ways n found ≡ ways_by t n q =
-    (λ k. ways n (λ event. same event k)) ∙ ap (λ (l : List ℕ). ways n (leaf_of_event t.labels l)) listed in
-    true≢false (sym some ∙ ap (λ ws. not (is_none ws)) (sym ways_are ∙ none))
 
 pub none_found : (t : Labelled) (n : Normal) (q : Process) → has_ways t n q ≡ false → options_by t n q ≡ []
 none_found t n q h = at (ways_by t n q) h
@@ -119,14 +108,14 @@ module _ (t : Labelled) (n : Normal) (met : List Bool) (listed : met ≡ map (ha
 pub plannable_ways : (t : Labelled) (n : Normal) (i : ℕ) (q : Process) (os : List ChoiceOption) → os ≡ options_by t n q → slice_get (resolutions t.process) i ≡ Some q →
     ArePlannable (all_options_by t n) → ArePlannable os
 plannable_ways t n i q os e there all o m =
-    all o (mem-flat_map (options_by t n) q o (resolutions t.process) (mem_got (resolutions t.process) i q there) (subst (λ l. o ∈ l) e m))
+    all o (mem-flat_map (options_by t n) q o (resolutions t.process) (mem-slice_get (resolutions t.process) i q there) (subst (λ l. o ∈ l) e m))
 
-pub sift_found : (t : Labelled) (n : Normal) (i : ℕ) (p : Process) (os : List ChoiceOption) (old new : Sieve) (r : Result (Unit {0}) CompileRefusal) → os ≡ options_by t n p →
+pub sift_found : (t : Labelled) (i : ℕ) (p : Process) (os : List ChoiceOption) (of : Process → List ChoiceOption) (old new : Sieve) (r : Result (Unit {0}) CompileRefusal) → os ≡ of p →
     slice_get (resolutions t.process) i ≡ Some p → MatchResult r (λ _. Sifts (numbered_ways i 0 os) old new) (λ e. e ≡ NoMemory) →
-    MatchResult r (λ _. (q : Process) → slice_get (resolutions t.process) i ≡ Some q → Sifts (numbered_ways i 0 (options_by t n q)) old new) (λ e. e ≡ NoMemory)
-sift_found t n i p os old new (Ok u) e there h = λ q there_too.
-    subst (λ (l : List ChoiceOption). Sifts (numbered_ways i 0 l) old new) (e ∙ ap (options_by t n) (some_same p q (sym there ∙ there_too))) h
-sift_found t n i p os old new (Err f) e there h = h
+    MatchResult r (λ _. (q : Process) → slice_get (resolutions t.process) i ≡ Some q → Sifts (numbered_ways i 0 (of q)) old new) (λ e. e ≡ NoMemory)
+sift_found t i p os of old new (Ok u) e there h = λ q there_too.
+    subst (λ (l : List ChoiceOption). Sifts (numbered_ways i 0 l) old new) (e ∙ ap of (some_same p q (sym there ∙ there_too))) h
+sift_found t i p os of old new (Err f) e there h = h
 
 -- all resolutions
 

@@ -1,8 +1,7 @@
 -- Tallies of options, resolution by resolution.
-use Rattle.std.proofs.Common.{◌≡◌, ◌==◌, Bool, false, not, subst, ℕ, zero, suc, ◌+◌, ◌*◌, ◌-◌, ◌^◌, ◌<◌, ◌≤◌, min, List, [], ◌∷◌, ◌++◌, length, take, map, sum, refl, sym, ap, ◌∙◌, ◌⊎◌, inl, inr, arith, Some, slice_get, append-nil}
+use Rattle.std.proofs.Common.{◌≡◌, ◌==◌, Bool, not, subst, ℕ, suc, ◌+◌, ◌*◌, ◌-◌, ◌^◌, ◌≤◌, min, List, [], ◌∷◌, ◌++◌, length, take, map, sum, refl, sym, ap, ◌∙◌, arith, Some, slice_get, append-nil}
 use Rattle.std.specs.List.{flat_map}
-use Rattle.std.proofs.Math.Nat.{min-eq_left, min-eq_right, zero-mul, suc-mul, mul_comm, add-zero}
-use Rattle.std.proofs.lemmas.Bool.{cases_lt}
+use Rattle.std.proofs.Math.Nat.{zero-mul, suc-mul, mul_comm, add-zero}
 use Rattle.std.proofs.lemmas.List.{length-append, map-append}
 use Rattle.std.proofs.lemmas.List.Sums.{sum-map, sum_by-append, sum_by-cons}
 use Rattle.std.proofs.lemmas.Grind.{flat_map-append}
@@ -10,57 +9,16 @@ use Rattle.std.proofs.lemmas.Option.{slice_get_within, get_or_from_slice_get}
 use Rattle.std.proofs.lemmas.List.{take_more}
 use Rattle.flow_model.specs.Lists.{joined}
 use Rattle.flow_model.specs.Process.{Process, leaves}
-use Rattle.flow_model.specs.Ways.{Normal, ways, leaf_of_event}
-use Rattle.flow_model.specs.Resolution.{ChoiceOption, option_size, resolutions, resolution_count}
-use Rattle.flow_laws.proofs.ListLemmas2.{some_same}
-use Rattle.flow_laws.proofs.ResolutionsLemmas.{length-resolutions}
-use Rattle.std.proofs.Math.Seq.{take-length}
+use Rattle.flow_model.specs.Ways.{Normal}
+use Rattle.flow_model.specs.Resolution.{ChoiceOption, option_size, resolutions}
 use Rattle.flow_rules.specs.declared.counting.WayCount.{WayCount}
-use Rattle.flow_rules.specs.declared.conjunction.Conjunction.{Conjunction}
-use Rattle.flow_rules.specs.declared.marks.Marks.{Marks}
 use Rattle.flow_rules.specs.Counts.{kept, count_of}
-use Rattle.flow_rules.specs.Marks.{SpareIn, is_marked}
-use Rattle.flow_rules.proofs.CountLemmas.{none_left}
+use Rattle.flow_rules.proofs.CountLemmas.{none_left, sum_kept, product_right}
 use Rattle.flow_goal.specs.Labelled.{Labelled}
+use Rattle.flow_excise.specs.declared.tally.Counted.{Counted}
 use Rattle.flow_excise.specs.declared.tally.Tally.{Tally}
-use Rattle.flow_excise.specs.Tallies.{tally_of, added, tally_by}
-use Rattle.flow_excise.specs.Options.{SpareAll, has_ways, options_by, ways_by}
-
--- numbers that are kept at a greatest one
-
-min_cases : (x m : ℕ) → ((x ≤ m) × (min x m ≡ x)) ⊎ ((m ≤ x) × (min x m ≡ m))
-min_cases x m = elim (cases_lt x m) [
-  | inl h ↦ let k : x ≤ m = omega arith in inl (k, min-eq_left k)
-  | inr h ↦ inr (h, min-eq_right h)
-]
-
-sum_kept : (m x y : ℕ) → min (min x m + min y m) m ≡ min (x + y) m
-sum_kept m x y = at (min_cases x m) (min_cases y m)
-  where
-    at : ((x ≤ m) × (min x m ≡ x)) ⊎ ((m ≤ x) × (min x m ≡ m)) → ((y ≤ m) × (min y m ≡ y)) ⊎ ((m ≤ y) × (min y m ≡ m)) →
-        min (min x m + min y m) m ≡ min (x + y) m
-    at (inl (p, e)) (inl (q, f)) = λ k. min (e k + f k) m
-    at (inr (p, e)) g =
-        let one : m ≤ min x m + min y m = omega arith in
-        let other : m ≤ x + y = omega arith in
-        min-eq_right one ∙ sym (min-eq_right other)
-    at (inl (p, e)) (inr (q, f)) =
-        let one : m ≤ min x m + min y m = omega arith in
-        let other : m ≤ x + y = omega arith in
-        min-eq_right one ∙ sym (min-eq_right other)
-
-reaches : (m x y : ℕ) → m ≤ y → min (x * m) m ≡ min (x * y) m
-reaches m zero y h = ap (λ t. min t m) (zero-mul m ∙ sym (zero-mul y))
-reaches m (suc x) y h =
-    let one : m ≤ suc x * m = omega (arith, suc-mul x m) in
-    let other : m ≤ suc x * y = omega (arith, suc-mul x y) in
-    min-eq_right one ∙ sym (min-eq_right other)
-
-product_kept : (m x y : ℕ) → min (x * min y m) m ≡ min (x * y) m
-product_kept m x y = elim (min_cases y m) [
-  | inl (p, e) ↦ ap (λ t. min (x * t) m) e
-  | inr (p, e) ↦ ap (λ t. min (x * t) m) e ∙ reaches m x y p
-]
+use Rattle.flow_excise.specs.Tallies.{IsCountedTo, tally_of, added, tally_by}
+use Rattle.flow_excise.specs.Options.{has_ways, options_by, ways_by}
 
 -- two lists of options
 
@@ -106,24 +64,19 @@ tally_of_ways q ws =
     let m : ℕ = 2 ^ 64 - 1 in
     let l : ℕ = length (leaves q) in
     let held : kept (length ws * l) ≡ kept (kept (length ws) * l) =
-    ap kept (mul_comm (length ws) l) ∙ sym (product_kept m l (length ws)) ∙ ap kept (mul_comm l (kept (length ws))) in
+    ap kept (mul_comm (length ws) l) ∙ sym (product_right m l (length ws)) ∙ ap kept (mul_comm l (kept (length ws))) in
     let size : kept (sum (map option_size (map (λ way. option_of q way) ws))) ≡ kept (kept (kept (length ws) * l) + kept (length (joined ws))) =
     ap kept (sizes_by q ws) ∙ sym (sum_kept m (length ws * l) (length (joined ws))) ∙ ap (λ n. kept (n + kept (length (joined ws)))) held in
     λ k. record { options = kept (count_by q ws k); bulk = size k }
 
-pub tally_found : (t : Labelled) (n : Normal) (q : Process) (ls : List ℕ) (count : WayCount) (result : Tally) →
-    ls ≡ leaves q → count ≡ count_of (ways n (leaf_of_event t.labels ls)) → result ≡ tally_by (length ls) count → result ≡ tally_of (options_by t n q)
-tally_found t n q ls count result listed counted made =
-    made ∙ ap (λ (l : List ℕ). tally_by (length l) count) listed
-    ∙ ap (tally_by (length (leaves q))) (counted ∙ ap (λ (l : List ℕ). count_of (ways n (leaf_of_event t.labels l))) listed)
-    ∙ sym (tally_of_ways q (ways_by t n q))
+tally_found : (t : Labelled) (n : Normal) (q : Process) (ls : List ℕ) (count : WayCount) → ls ≡ leaves q → count ≡ count_of (ways_by t n q) →
+    tally_by (length ls) count ≡ tally_of (options_by t n q)
+tally_found t n q ls count listed counted =
+    ap (λ (l : List ℕ). tally_by (length l) count) listed ∙ ap (tally_by (length (leaves q))) counted ∙ sym (tally_of_ways q (ways_by t n q))
 
 -- whether it has an option
-pub met_found : (t : Labelled) (n : Normal) (q : Process) (ls : List ℕ) (count : WayCount) →
-    ls ≡ leaves q → count ≡ count_of (ways n (leaf_of_event t.labels ls)) → not (count.ways == 0) ≡ has_ways t n q
-met_found t n q ls count listed counted =
-    ap (λ (c : WayCount). not (c.ways == 0)) (counted ∙ ap (λ (l : List ℕ). count_of (ways n (leaf_of_event t.labels l))) listed)
-    ∙ ap not (none_left (ways_by t n q))
+met_found : (t : Labelled) (n : Normal) (q : Process) (count : WayCount) → count ≡ count_of (ways_by t n q) → not (count.ways == 0) ≡ has_ways t n q
+met_found t n q count counted = ap (λ (c : WayCount). not (c.ways == 0)) counted ∙ ap not (none_left (ways_by t n q))
 
 -- one resolution more
 
@@ -135,7 +88,7 @@ pub flat_more : {A B : Type 0} (f : A → List B) (xs : List A) (i : ℕ) (x : A
 flat_more f xs i x h =
     ap (flat_map f) (taken_more xs i x h) ∙ flat_map-append f (take i xs) (x ∷ []) ∙ ap (λ l. flat_map f (take i xs) ++ l) (append-nil (f x))
 
-pub tally_more : (t : Labelled) (n : Normal) (i : ℕ) (q : Process) (old one new : Tally) → slice_get (resolutions t.process) i ≡ Some q →
+tally_more : (t : Labelled) (n : Normal) (i : ℕ) (q : Process) (old one new : Tally) → slice_get (resolutions t.process) i ≡ Some q →
     old ≡ tally_of (flat_map (options_by t n) (take i (resolutions t.process))) → one ≡ tally_of (options_by t n q) → new ≡ added old one →
     new ≡ tally_of (flat_map (options_by t n) (take (i + 1) (resolutions t.process)))
 tally_more t n i q old one new there so_far this made =
@@ -143,7 +96,7 @@ tally_more t n i q old one new there so_far this made =
     ∙ sym (ap tally_of (flat_more (options_by t n) (resolutions t.process) i q there)
     ∙ tally-append (flat_map (options_by t n) (take i (resolutions t.process))) (options_by t n q))
 
-pub met_more : (t : Labelled) (n : Normal) (i : ℕ) (q : Process) (old new : List Bool) (b : Bool) → slice_get (resolutions t.process) i ≡ Some q →
+met_more : (t : Labelled) (n : Normal) (i : ℕ) (q : Process) (old new : List Bool) (b : Bool) → slice_get (resolutions t.process) i ≡ Some q →
     old ≡ map (has_ways t n) (take i (resolutions t.process)) → b ≡ has_ways t n q → new ≡ old ++ b ∷ [] →
     new ≡ map (has_ways t n) (take (i + 1) (resolutions t.process))
 met_more t n i q old new b there so_far this made =
@@ -151,32 +104,22 @@ met_more t n i q old new b there so_far this made =
     ∙ sym (ap (map (has_ways t n)) (taken_more (resolutions t.process) i q there)
     ∙ map-append (has_ways t n) (take i (resolutions t.process)) (q ∷ []))
 
--- all of them
-pub whole_count : (g : Process) (count : ℕ) → count ≡ min (resolution_count g) (2 ^ 64 - 1) → resolution_count g ≤ 4096 → count ≡ length (resolutions g)
-whole_count g count e h = e ∙ min-eq_left (omega arith) ∙ sym (length-resolutions g)
+pub counted_more : (t : Labelled) (n : Normal) (i next long : ℕ) (q : Process) (ls : List ℕ) (count : WayCount) (old new : Counted) → next ≡ i + 1 →
+    slice_get (resolutions t.process) i ≡ Some q → ls ≡ leaves q → count ≡ count_of (ways_by t n q) → long ≡ length ls →
+    new.tally ≡ added old.tally (tally_by long count) → new.met.items ≡ old.met.items ++ not (count.ways == 0) ∷ [] →
+    IsCountedTo t n i old → IsCountedTo t n next new
+counted_more t n i next long q ls count old new e there listed counted length_is more met so_far =
+    let after : IsCountedTo t n (i + 1) new = record {
+      tally = tally_more t n i q old.tally (tally_by long count) new.tally there so_far.tally
+          (ap (λ l. tally_by l count) length_is ∙ tally_found t n q ls count listed counted) more;
+      met = met_more t n i q old.met.items new.met.items (not (count.ways == 0)) there so_far.met (met_found t n q count counted) met;
+    } in
+    subst (λ k. IsCountedTo t n k new) (sym e) after
 
-pub taken_whole : {A : Type 0} (xs : List A) (n : ℕ) → n ≡ length xs → take n xs ≡ xs
-taken_whole xs n e = ap (λ m. take m xs) e ∙ take-length xs
-
--- rules that are not marked ask nothing of the resolutions so far
-
-abbrev pub SpareBelow : ℕ → Marks → Conjunction → Labelled → Type 0
-SpareBelow count marks rules t = (number : ℕ) (q : Process) → number < count → slice_get (resolutions t.process) number ≡ Some q →
-    SpareIn marks rules (leaf_of_event t.labels (leaves q))
-
-pub spare_more : (rules : Conjunction) (t : Labelled) (i : ℕ) (q : Process) (ls : List ℕ) (old new : Marks) → slice_get (resolutions t.process) i ≡ Some q →
-    ls ≡ leaves q → SpareIn new rules (leaf_of_event t.labels ls) → ((place : ℕ) → is_marked new place ≡ false → is_marked old place ≡ false) →
-    SpareBelow i old rules t → SpareBelow (i + 1) new rules t
-spare_more rules t i q ls old new there listed this more so_far number r lt there_too = elim (cases_lt number i) [
-  | inl h ↦ λ free place rule found unmarked. so_far number r h there_too free place rule found (more place unmarked)
-  | inr h ↦
-      let e : number ≡ i = omega arith in
-      let same : q ≡ r = some_same q r (sym there ∙ ap (λ n. slice_get (resolutions t.process) n) (sym e) ∙ there_too) in
-      subst (λ (l : List ℕ). SpareIn new rules (leaf_of_event t.labels l)) (listed ∙ ap leaves same) this
-]
-
-pub spare_whole : (rules : Conjunction) (t : Labelled) (count : ℕ) (marks : Marks) → count ≡ length (resolutions t.process) →
-    SpareBelow count marks rules t → SpareAll marks rules t
-spare_whole rules t count marks e all number q there =
-    let lt = slice_get_within (resolutions t.process) number q there in
-    all number q (omega arith) there
+-- as many where the lists of them are the same
+pub counted_same : (t : Labelled) (n : Normal) (i j : ℕ) (counted : Counted) → take i (resolutions t.process) ≡ take j (resolutions t.process) →
+    IsCountedTo t n i counted → IsCountedTo t n j counted
+counted_same t n i j counted e so_far = record {
+  tally = so_far.tally ∙ ap (λ qs. tally_of (flat_map (options_by t n) qs)) e;
+  met = so_far.met ∙ ap (map (has_ways t n)) e;
+}

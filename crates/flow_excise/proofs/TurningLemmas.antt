@@ -1,30 +1,27 @@
 -- Rings begun at another of their members.
-use Rattle.std.proofs.Common.{◌≡◌, ℕ, suc, ◌+◌, ◌<◌, ◌≤◌, List, [], ◌∷◌, ◌++◌, map, length, get_or, take, drop, sym, ap, ◌∙◌, subst, inl, inr, ⊎_elim, arith, append_assoc, append-nil, length-append, drop-cons}
+use Rattle.std.proofs.Common.{◌≡◌, ℕ, suc, ◌+◌, ◌<◌, ◌≤◌, List, [], ◌∷◌, ◌++◌, map, length, get_or, take, drop, sym, ap, ◌∙◌, subst, inr, ⊎_elim, arith, append_assoc, append-nil, length-append, drop-cons}
 use Rattle.std.proofs.lemmas.List.{take-append-drop, map-append, take-map, drop-map}
 use Rattle.flow_model.specs.Lists.{◌∈◌, Each, AreDistinct}
 use Rattle.flow_model.specs.Process.{Process}
 use Rattle.flow_model.specs.Circle.{items_of, ItemBefore, LeadsBackTo, IsRing, least_of, BeginsWithLeast}
-use Rattle.flow_laws.proofs.ListLemmas1.{mem_left, mem_right, mem_append, distinct_left, distinct_right, distinct_apart, distinct_append, each_of, each_at}
+use Rattle.flow_laws.proofs.ListLemmas1.{distinct_left, distinct_right, distinct_apart, distinct_append, each_at}
 use Rattle.flow_excise.specs.Items.{IsPartCircle}
 use Rattle.flow_excise.specs.Turned.{IsTurned}
+use Rattle.flow_laws.proofs.ListLemmas2.{mem_append_left, mem_append_right, mem-append, each_from_members}
+use Rattle.flow_plan.proofs.PlaceLemmas.{place_of_member}
 
 -- members by places
-
-pub place_of_member : (xs : List ℕ) (x : ℕ) → x ∈ xs → (k : ℕ) × (k < length xs) × (get_or xs k 0 ≡ x)
-place_of_member [] x m = absurd m
-place_of_member (y ∷ xs) x (inl e) = (0, omega arith, sym e)
-place_of_member (y ∷ xs) x (inr m) = let r = place_of_member xs x m in (suc r.0, omega arith, r.2)
 
 pub mem_turned : {A : Type 0} (p : ℕ) (xs : List A) (x : A) → x ∈ (drop p xs ++ take p xs) → x ∈ xs
 mem_turned p xs x m =
     subst (λ z. x ∈ z) (take-append-drop p xs)
-    (⊎_elim (λ k. mem_right x (take p xs) (drop p xs) k) (λ k. mem_left x (take p xs) (drop p xs) k) (mem_append x (drop p xs) (take p xs) m))
+    (⊎_elim (λ k. mem_append_right x (take p xs) (drop p xs) k) (λ k. mem_append_left x (take p xs) (drop p xs) k) (mem-append x (drop p xs) (take p xs) m))
 
 pub begins_with_least : (xs : List ℕ) (p : ℕ) → p < length xs → ((k : ℕ) → k < length xs → get_or xs p 0 ≤ get_or xs k 0) →
     BeginsWithLeast (drop p xs ++ take p xs)
 begins_with_least xs p l h =
     subst (λ (z : List ℕ). BeginsWithLeast (z ++ take p xs)) (sym (drop-cons xs p 0 l))
-    (each_of (λ m. get_or xs p 0 ≤ m) (drop (suc p) xs ++ take p xs)
+    (each_from_members (λ m. get_or xs p 0 ≤ m) (drop (suc p) xs ++ take p xs)
     (λ m k. let r = place_of_member xs m (mem_turned p xs m (subst (λ (z : List ℕ). m ∈ (z ++ take p xs)) (sym (drop-cons xs p 0 l)) (inr k))) in
     subst (λ n. get_or xs p 0 ≤ n) r.2 (h r.0 r.1)))
 
@@ -60,7 +57,7 @@ circle_from_ring q pairs part ring circle items distinct two closed t =
     sym (length-append (take t.place ring) (drop t.place ring)) ∙ ap length whole in
     record {
       ring = drop t.place ring ++ take t.place ring;
-      items = each_of (λ item. item ∈ items_of part) (drop t.place ring ++ take t.place ring)
+      items = each_from_members (λ item. item ∈ items_of part) (drop t.place ring ++ take t.place ring)
           (λ item m. each_at (λ i. i ∈ items_of part) ring item items (mem_turned t.place ring item m));
       distinct = turned_distinct (take t.place ring) (drop t.place ring) (subst AreDistinct (sym whole) distinct);
       two = omega (arith, length-append (drop t.place ring) (take t.place ring));

@@ -1,4 +1,5 @@
 pub mod Options
+pub mod Blocks
 pub mod Tallies
 pub mod Limits
 pub mod Rows

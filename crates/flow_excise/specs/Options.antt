@@ -1,5 +1,5 @@
 -- A tree and rules as a workflow, and its options by a normal form of the rules.
-use Rattle.std.specs.Prelude.{◌≡◌, ℕ, Bool, not, List, [], map, Some, slice_get}
+use Rattle.std.specs.Prelude.{ℕ, Bool, not, List, [], map}
 use Rattle.std.specs.List.{flat_map}
 use Rattle.flow_model.specs.Process.{Process, leaves}
 use Rattle.flow_model.specs.Constraint.{Constraint}
@@ -7,9 +7,6 @@ use Rattle.flow_model.specs.Schema.{Schema}
 use Rattle.flow_model.specs.Ways.{Normal, leaf_of_event, ways}
 use Rattle.flow_model.specs.Resolution.{ChoiceOption, resolutions}
 use Rattle.flow_goal.specs.Labelled.{Labelled}
-use Rattle.flow_rules.specs.declared.conjunction.Conjunction.{Conjunction}
-use Rattle.flow_rules.specs.declared.marks.Marks.{Marks}
-use Rattle.flow_rules.specs.Marks.{SpareIn}
 use Rattle.flow_rules.specs.WayLists.{is_none}
 
 -- the tree with its rules, with no facts and no notes
@@ -31,7 +28,3 @@ options_by t normal q = map (λ way. record { resolution = q; order = way }) (wa
 -- all options in order: by resolutions, and then by ways
 abbrev pub all_options_by : Labelled → Normal → List ChoiceOption
 all_options_by t normal = flat_map (options_by t normal) (resolutions t.process)
-
--- no resolution that meets the rules without orders is asked for anything by a rule that is not marked
-abbrev pub SpareAll : Marks → Conjunction → Labelled → Type 0
-SpareAll marks rules t = (number : ℕ) (q : Process) → slice_get (resolutions t.process) number ≡ Some q → SpareIn marks rules (leaf_of_event t.labels (leaves q))

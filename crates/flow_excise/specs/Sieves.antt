@@ -1,12 +1,15 @@
 -- Options that can be made plans of, and those that were looked at.
-use Rattle.std.specs.Prelude.{◌<◌, ◌^◌, List, ◌++◌, length, map}
+use Rattle.std.specs.Prelude.{◌<◌, ◌^◌, ℕ, List, ◌++◌, length, map, take}
 use Rattle.flow_model.specs.Lists.{◌∈◌, Each}
 use Rattle.flow_model.specs.Process.{Process, leaves}
-use Rattle.flow_model.specs.Resolution.{ChoiceOption}
+use Rattle.flow_model.specs.Resolution.{ChoiceOption, resolutions}
+use Rattle.flow_model.specs.Ways.{Normal}
+use Rattle.flow_goal.specs.Labelled.{Labelled}
 use Rattle.flow_laws.specs.Words.{IsOrdered}
 use Rattle.flow_rules.specs.declared.order_set.OrderSet.{OrderSet}
 use Rattle.flow_excise.specs.declared.sifted.Sieve.{Sieve}
-use Rattle.flow_excise.specs.Executions.{NumberedOption, AreSifted}
+use Rattle.flow_excise.specs.Executions.{NumberedOption, AreSifted, numbered_options}
+use Rattle.flow_excise.specs.Options.{options_by}
 use Rattle.flow_excise.specs.Compilation.{options_of}
 
 pub record IsPlannable (o : ChoiceOption) : Type 0 where
@@ -31,3 +34,7 @@ HasSifted ns sieve = AreSifted ns (options_of sieve.kept.items) sieve.dropped.it
 -- these options are looked at after the others
 abbrev pub Sifts : List NumberedOption → Sieve → Sieve → Type 0
 Sifts ns old new = (done : List NumberedOption) → HasSifted done old → HasSifted (done ++ ns) new
+
+-- just the options of the first so many resolutions were looked at
+abbrev pub HasSiftedTo : Labelled → Normal → ℕ → Sieve → Type 0
+HasSiftedTo t n count sieve = HasSifted (numbered_options 0 (map (options_by t n) (take count (resolutions t.process)))) sieve

@@ -34,7 +34,7 @@ pub fn compile(alloc: Global, tree: &Tree, rules: &[Rule]) -> Result<Compiled, C
         Ok(counted) => counted,
         Err(refusal) => return Err(refusal),
     };
-    let sieve = sift_all(alloc, tree, &choices, &rules, &counted.met, &counted.marks)?;
+    let sieve = sift_all(alloc, tree, &choices, &rules, &counted.met)?;
     if sieve.kept.is_empty() {
         let dropped = sieve.dropped;
         return Err(CompileRefusal::Inconsistent { dropped });

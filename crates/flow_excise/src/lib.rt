@@ -2,6 +2,7 @@
 //! Kifer, Ramakrishnan and Ramakrishnan 1998).
 #![tactic(auto)]
 
+mod block;
 mod circle;
 mod compiled;
 mod compiling;

@@ -2,7 +2,7 @@ ghost use Rattle.std.specs.Prelude.{◌≡◌, ◌<◌, ◌≤◌, IfOk, MatchRe
 ghost use Rattle.flow_model.specs.Resolution.{resolution_count, resolutions as all_resolutions};
 ghost use Rattle.flow_goal.specs.Choices.{AreChoicesOf};
 ghost use Rattle.flow_rules.specs.Conjunction.{normal_in};
-ghost use Rattle.flow_excise.specs.Options.{SpareAll, all_options_by, has_ways};
+ghost use Rattle.flow_excise.specs.Options.{all_options_by, has_ways};
 ghost use Rattle.flow_rules.specs.Counts.{kept};
 ghost use Rattle.flow_excise.specs.declared.refusal.CompileRefusal.TheVariants.{TooManyChoices};
 ghost use Rattle.flow_excise.specs.Limits.{AreFew, IsTooMany};
@@ -46,7 +46,6 @@ pub(crate) fn few_options(
         (λ counted. AreFew (all_options_by tree.now (normal_in rules.now)) counted.tally)
         (IsTooMany (all_options_by tree.now (normal_in rules.now))) }
     ensures met { IfOk result (λ counted. counted.met.items ≡ map (has_ways tree.now (normal_in rules.now)) (all_resolutions tree.now.process)) }
-    ensures spare { IfOk result (λ counted. SpareAll counted.marks rules.now tree.now) }
 {
     let counted = whole_tally(alloc, tree, choices, rules)?;
     if counted.tally.options > MOST_OPTIONS {

@@ -1,19 +1,22 @@
-ghost use Rattle.std.specs.Prelude.{◌≡◌, ◌<◌, ◌≤◌, ◌^◌, ◌-◌, ◌∷◌, [], ℕ, IsTrue, MatchResult, OnOk, map, slice_get};
+ghost use Rattle.std.specs.Prelude.{◌≡◌, ◌<◌, ◌≤◌, ◌+◌, ◌∷◌, [], ℕ, MatchResult, OnOk, length, map, slice_get};
 ghost use Rattle.flow_model.specs.Process.{Process};
 ghost use Rattle.flow_model.specs.Resolution.{resolution_count, resolutions as all_resolutions};
+ghost use Rattle.flow_model.specs.Ways.{Normal};
 ghost use Rattle.flow_goal.specs.Choices.{AreChoicesOf};
 ghost use Rattle.flow_rules.specs.Conjunction.{normal_in};
 ghost use Rattle.flow_rules.specs.EventLeaves.{IsBlank};
 ghost use Rattle.flow_excise.specs.declared.refusal.CompileRefusal.TheVariants.{NoMemory};
+ghost use Rattle.flow_excise.specs.Blocks.{HasWays, options_in};
 ghost use Rattle.flow_excise.specs.Executions.{numbered_options, numbered_ways};
-ghost use Rattle.flow_excise.specs.Options.{SpareAll, all_options_by, has_ways, options_by};
-ghost use Rattle.flow_excise.specs.Sieves.{ArePlannable, HasSifted, Sifts, options_with, option_with, IsPlannable};
+ghost use Rattle.flow_excise.specs.Options.{all_options_by, has_ways, options_by};
+ghost use Rattle.flow_excise.specs.Sieves.{ArePlannable, HasSifted, HasSiftedTo, Sifts, options_with, option_with, IsPlannable};
 
+use crate::block::{Block, blocks};
 use crate::excising::{ExciseRefusal, excise};
 use crate::refusal::{CompileRefusal, Dropped};
 use crate::sifted::Sieve;
 use flow_goal::{Choiceless, Choices, Tree};
-use flow_rules::{Conjunction, LeafEvents, Marks, OrderSet, forget_events, note_events};
+use flow_rules::{Conjunction, Lanes, LeafEvents, OrderSet, forget_events, note_events};
 use flow_weave::weave;
 use std::alloc::Global;
 
@@ -70,53 +73,84 @@ fn sift_ways(
     Ok(())
 }
 
-/// Looks at each option of the resolution of that number, which has some.
+/// Looks at each option of the resolution in a lane of the block.
 fn sift_resolution(
     alloc: Global,
     tree: &Tree,
     choices: &Choices,
-    rules: &Conjunction,
-    marks: &Marks,
-    number: u64,
+    block: &Block,
+    lane: u32,
     events: &mut LeafEvents,
     sieve: &mut Sieve,
 ) -> Result<(), CompileRefusal>
     requires choices { AreChoicesOf tree.now.process choices.now }
-    requires numbered { number < resolution_count tree.now.process }
     requires exact { resolution_count tree.now.process ≤ 4096 }
-    requires plannable { ArePlannable (all_options_by tree.now (normal_in rules.now)) }
-    requires some { (q : Process) → slice_get (all_resolutions tree.now.process) number ≡ Some q → IsTrue (has_ways tree.now (normal_in rules.now) q) }
-    requires spare { SpareAll marks.now rules.now tree.now }
+    requires numbered { block.now.first + lane < resolution_count tree.now.process }
+    requires lane { lane < 64 }
+    requires plannable { (q : Process) → slice_get (all_resolutions tree.now.process) (block.now.first + lane) ≡ Some q →
+        ArePlannable (options_in tree.now block.now lane q) }
     requires blank { IsBlank events.old }
     ensures options { MatchResult result
-        (λ _. (q : Process) → slice_get (all_resolutions tree.now.process) number ≡ Some q →
-        Sifts (numbered_ways number 0 (options_by tree.now (normal_in rules.now) q)) sieve.old sieve.new)
+        (λ _. (q : Process) → slice_get (all_resolutions tree.now.process) (block.now.first + lane) ≡ Some q →
+        Sifts (numbered_ways (block.now.first + lane) 0 (options_in tree.now block.now lane q)) sieve.old sieve.new)
         (λ e. e ≡ NoMemory) }
     ensures blank { OnOk result (IsBlank events.new) }
 {
+    let number = block.first + lane as u64;
     let resolution = choices.resolve(alloc, tree, number)?;
     let leaves = resolution.leaves();
     note_events(tree, leaves, events)?;
-    let orders = rules.ways(alloc, events, marks)?;
+    let orders = block.narrowed.ways(alloc, lane, events)?;
     forget_events(tree, leaves, events);
     sift_ways(alloc, &resolution, &orders, number, sieve)
 }
 
+/// Looks at each option of the resolutions of a block, after those of the blocks before it.
+fn sift_block(
+    alloc: Global,
+    tree: &Tree,
+    choices: &Choices,
+    met: &[bool],
+    block: &Block,
+    events: &mut LeafEvents,
+    sieve: &mut Sieve,
+) -> Result<(), CompileRefusal>
+    requires choices { AreChoicesOf tree.now.process choices.now }
+    requires exact { resolution_count tree.now.process ≤ 4096 }
+    requires within { block.now.first + block.now.size ≤ resolution_count tree.now.process }
+    requires few { block.now.size ≤ 64 }
+    requires long { length met.now ≡ resolution_count tree.now.process }
+    requires plannable { (lane : ℕ) (q : Process) → lane < block.now.size →
+        slice_get (all_resolutions tree.now.process) (block.now.first + lane) ≡ Some q → ArePlannable (options_in tree.now block.now lane q) }
+    requires blank { IsBlank events.old }
+    ensures sifted { MatchResult result
+        (λ _. (normal : Normal) → HasWays tree.now normal block.now → met.now ≡ map (has_ways tree.now normal) (all_resolutions tree.now.process) →
+        HasSiftedTo tree.now normal block.now.first sieve.old → HasSiftedTo tree.now normal (block.now.first + block.now.size) sieve.new)
+        (λ e. e ≡ NoMemory) }
+    ensures blank { OnOk result (IsBlank events.new) }
+{
+    for lane in 0..block.size {
+        let has_options = met[(block.first + lane as u64) as usize];
+        if has_options {
+            sift_resolution(alloc, tree, choices, block, lane, events, sieve)?;
+        }
+    }
+    Ok(())
+}
+
 /// Looks at each option, by resolutions in order and then by ways in order. The list says which
-/// resolutions have options; a rule without a mark asks nothing of any of them.
+/// resolutions have options.
 pub(crate) fn sift_all(
     alloc: Global,
     tree: &Tree,
     choices: &Choices,
     rules: &Conjunction,
     met: &[bool],
-    marks: &Marks,
 ) -> Result<Sieve, CompileRefusal>
     requires choices { AreChoicesOf tree.now.process choices.now }
     requires exact { resolution_count tree.now.process ≤ 4096 }
     requires plannable { ArePlannable (all_options_by tree.now (normal_in rules.now)) }
     requires met { met.now ≡ map (has_ways tree.now (normal_in rules.now)) (all_resolutions tree.now.process) }
-    requires spare { SpareAll marks.now rules.now tree.now }
     ensures { MatchResult result
         (HasSifted (numbered_options 0 (map (options_by tree.now (normal_in rules.now)) (all_resolutions tree.now.process))))
         (λ e. e ≡ NoMemory) }
@@ -125,21 +159,11 @@ pub(crate) fn sift_all(
         kept: Vec::new(alloc),
         dropped: Vec::new(alloc),
     };
+    let mut lanes = Lanes::new(alloc);
     let mut events = LeafEvents::new(alloc);
-    for (number, some) in met.iter().enumerate() {
-        if *some {
-            let number = number as u64;
-            sift_resolution(
-                alloc,
-                tree,
-                choices,
-                rules,
-                marks,
-                number,
-                &mut events,
-                &mut sieve,
-            )?;
-        }
+    for number in 0..blocks(tree) {
+        let block = Block::new(alloc, tree, choices, rules, number, &mut lanes)?;
+        sift_block(alloc, tree, choices, met, &block, &mut events, &mut sieve)?;
     }
     Ok(sieve)
 }

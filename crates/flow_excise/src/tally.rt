@@ -1,16 +1,18 @@
-ghost use Rattle.std.specs.Prelude.{◌≡◌, ◌≤◌, ℕ, false, IfOk, OnOk, map};
+ghost use Rattle.std.specs.Prelude.{◌≡◌, ◌<◌, ◌≤◌, ◌+◌, ◌==◌, ◌++◌, ◌∷◌, [], not, IfOk, OnOk, map};
 ghost use Rattle.flow_model.specs.Resolution.{resolution_count, resolutions as all_resolutions};
-ghost use Rattle.flow_model.specs.Ways.{leaf_of_event, ways};
+ghost use Rattle.flow_model.specs.Ways.{Normal, leaf_of_event};
 ghost use Rattle.flow_goal.specs.Choices.{AreChoicesOf};
 ghost use Rattle.flow_rules.specs.Conjunction.{normal_in};
 ghost use Rattle.flow_rules.specs.Counts.{count_of};
 ghost use Rattle.flow_rules.specs.EventLeaves.{IsBlank};
-ghost use Rattle.flow_rules.specs.Marks.{SpareIn, is_marked};
-ghost use Rattle.flow_excise.specs.Options.{SpareAll, all_options_by, has_ways};
-ghost use Rattle.flow_excise.specs.Tallies.{added, tally_by, tally_of};
+ghost use Rattle.flow_rules.specs.Narrowed.{ways_in};
+ghost use Rattle.flow_excise.specs.Blocks.{HasWays};
+ghost use Rattle.flow_excise.specs.Options.{all_options_by, has_ways};
+ghost use Rattle.flow_excise.specs.Tallies.{IsCountedTo, added, tally_by, tally_of};
 
-use flow_goal::{Choices, Tree, resolutions};
-use flow_rules::{Conjunction, LeafEvents, Marks, WayCount, forget_events, note_events};
+use crate::block::{Block, blocks};
+use flow_goal::{Choices, Tree};
+use flow_rules::{Conjunction, Lanes, LeafEvents, Narrowed, WayCount, forget_events, note_events};
 use std::alloc::{AllocError, Global};
 
 /// How many options there are, and how many leaves and pairs in all of them. What would pass the
@@ -50,38 +52,72 @@ impl Tally {
     }
 }
 
-/// What was counted of all resolutions.
+/// What was counted of resolutions.
 #[derive(Drop)]
 pub(crate) struct Counted {
     pub(crate) tally: Tally,
     /// Of each resolution, whether it has an option.
     pub(crate) met: Vec<bool>,
-    /// The rules that ask something of a resolution.
-    pub(crate) marks: Marks,
 }
 
-/// How many ways there are in which these leaves meet the rules, with a mark for each rule of which they
-/// ask for something.
+impl Counted {
+    /// One resolution more, with so many leaves.
+    fn add(&mut self, leaves: u64, count: WayCount) -> Result<(), AllocError>
+        ensures tally { OnOk result (self.new.tally ≡ added self.old.tally (tally_by leaves count)) }
+        ensures met { OnOk result (self.new.met.items ≡ self.old.met.items ++ not (count.ways == 0) ∷ []) }
+    {
+        self.met.push(count.ways != 0)?;
+        self.tally = self.tally.with(Tally::of(leaves, count));
+        Ok(())
+    }
+}
+
+/// How many ways there are in which these leaves meet the rules that are narrowed for their lane.
 fn count_in(
     tree: &Tree,
-    rules: &Conjunction,
+    narrowed: &Narrowed,
+    lane: u32,
     leaves: &[u32],
     events: &mut LeafEvents,
-    marks: &mut Marks,
 ) -> Result<WayCount, AllocError>
-    requires { IsBlank events.old }
-    ensures count { IfOk result (λ count. count ≡ count_of (ways (normal_in rules.now) (leaf_of_event tree.now.labels leaves.now))) }
+    requires lane { lane < 64 }
+    requires blank { IsBlank events.old }
+    ensures count { IfOk result (λ count. count ≡ count_of (ways_in narrowed.now lane (leaf_of_event tree.now.labels leaves.now))) }
     ensures blank { OnOk result (IsBlank events.new) }
-    ensures spare { OnOk result (SpareIn marks.new rules.now (leaf_of_event tree.now.labels leaves.now)) }
-    ensures more { OnOk result ((place : ℕ) → is_marked marks.new place ≡ false → is_marked marks.old place ≡ false) }
 {
     note_events(tree, leaves, events)?;
-    let count = rules.count(events, marks);
+    let count = narrowed.count(lane, events);
     forget_events(tree, leaves, events);
     Ok(count)
 }
 
-/// What is counted of all resolutions. The leaves of one at a time are in memory.
+/// Counts the resolutions of a block behind those before it. The leaves of one at a time are in memory.
+fn tally_block(
+    alloc: Global,
+    tree: &Tree,
+    choices: &Choices,
+    block: &Block,
+    events: &mut LeafEvents,
+    counted: &mut Counted,
+) -> Result<(), AllocError>
+    requires choices { AreChoicesOf tree.now.process choices.now }
+    requires exact { resolution_count tree.now.process ≤ 4096 }
+    requires within { block.now.first + block.now.size ≤ resolution_count tree.now.process }
+    requires few { block.now.size ≤ 64 }
+    requires blank { IsBlank events.old }
+    ensures counted { OnOk result ((normal : Normal) → HasWays tree.now normal block.now →
+        IsCountedTo tree.now normal block.now.first counted.old → IsCountedTo tree.now normal (block.now.first + block.now.size) counted.new) }
+    ensures blank { OnOk result (IsBlank events.new) }
+{
+    for lane in 0..block.size {
+        let leaves = choices.resolution_leaves(alloc, tree, block.first + lane as u64)?;
+        let count = count_in(tree, &block.narrowed, lane, &leaves, events)?;
+        counted.add(leaves.len() as u64, count)?;
+    }
+    Ok(())
+}
+
+/// What is counted of all resolutions, block by block.
 pub(crate) fn whole_tally(
     alloc: Global,
     tree: &Tree,
@@ -92,17 +128,16 @@ pub(crate) fn whole_tally(
     requires exact { resolution_count tree.now.process ≤ 4096 }
     ensures tally { IfOk result (λ counted. counted.tally ≡ tally_of (all_options_by tree.now (normal_in rules.now))) }
     ensures met { IfOk result (λ counted. counted.met.items ≡ map (has_ways tree.now (normal_in rules.now)) (all_resolutions tree.now.process)) }
-    ensures spare { IfOk result (λ counted. SpareAll counted.marks rules.now tree.now) }
 {
-    let mut tally = NONE;
-    let mut met = Vec::new(alloc);
+    let mut counted = Counted {
+        tally: NONE,
+        met: Vec::new(alloc),
+    };
+    let mut lanes = Lanes::new(alloc);
     let mut events = LeafEvents::new(alloc);
-    let mut marks = rules.unmarked(alloc)?;
-    for number in 0..resolutions(tree) {
-        let leaves = choices.resolution_leaves(alloc, tree, number)?;
-        let count = count_in(tree, rules, &leaves, &mut events, &mut marks)?;
-        tally = tally.with(Tally::of(leaves.len() as u64, count));
-        met.push(count.ways != 0)?;
+    for number in 0..blocks(tree) {
+        let block = Block::new(alloc, tree, choices, rules, number, &mut lanes)?;
+        tally_block(alloc, tree, choices, &block, &mut events, &mut counted)?;
     }
-    Ok(Counted { tally, met, marks })
+    Ok(counted)
 }

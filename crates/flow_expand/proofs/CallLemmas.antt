@@ -21,8 +21,9 @@ use Rattle.flow_expand.specs.Index.{IsIndex, decls_of, index_of}
 use Rattle.flow_expand.specs.Laid.{IsStop}
 use Rattle.flow_expand.specs.Waiting.{NumberStep, Stays, IsLaidAt}
 use Rattle.flow_expand.specs.Calls.{call_of, calls_in, AreCalls, AreSeen}
-use Rattle.flow_expand.proofs.Members.{get_map, mem_left, mem_right, mem_either, mem_at, place_of}
+use Rattle.flow_expand.proofs.Members.{get_map, mem_left, mem_right, mem_either, mem_at}
 use Rattle.flow_expand.proofs.SettleLemmas.{waits_for, get_set_same, get_set_other, get_set_cases, same_or_not, stays_at}
+use Rattle.flow_facts.proofs.Places.{place_of}
 
 -- what a call is of
 call_is : (o : Option Place) (j : ℕ) → j ∈ call_of o → o ≡ Some (place.Flow j)
@@ -75,7 +76,7 @@ never_waits names laid ahead list s st j is ends all same stopped = go (subst (I
   where
     go : IsStop names laid (names_in s) (stop.Waits j) → ⊥
     go (n, used, there, unlaid) =
-        let (i, at) = place_of j list (subst (λ l. j ∈ l) (sym is) (named_call names (names_in s) n j used there)) in
+        let (i, at) = place_of list j (subst (λ l. j ∈ l) (sym is) (named_call names (names_in s) n j used there)) in
         let (root, e) = all i j (before list ahead i j ends at) at in
         unlaid root e
       where

@@ -13,8 +13,9 @@ use Rattle.flow_expand.specs.Index.{IsIndex, decls_of, flow_view}
 use Rattle.flow_expand.specs.Steps.{flows_of, flow_names, IsStep, LeadsTo, IsRecursion}
 use Rattle.flow_expand.specs.Waiting.{NumberStep, AreSteps, name_at}
 use Rattle.flow_expand.proofs.Members.{mem_left, mem_right, mem_either, mem_at, get_map}
-use Rattle.flow_expand.proofs.LayLemmas.{flow_there}
+use Rattle.flow_expand.proofs.Declarations.{in_flows}
 use Rattle.flow_expand.proofs.SettleLemmas.{steps_more, flow_at}
+use Rattle.flow_laws.proofs.ListLemmas2.{of_map}
 
 -- names and numbers
 
@@ -33,7 +34,7 @@ name_is decls k n s e = get_or_from_slice_get (flow_names decls) k n [] (name_th
 step_of : (decls : List Declared) (k j : ℕ) → NumberStep decls k j → IsStep decls (name_at decls k) (name_at decls j)
 step_of decls k j h = record {
   goal = h.goal;
-  is_goal = subst (λ n. flow n h.goal ∈ decls) (sym (name_is decls k h.name h.goal h.first)) (flow_there decls h.name h.goal (mem_at (flows_of decls) k (h.name, h.goal) h.first));
+  is_goal = subst (λ n. flow n h.goal ∈ decls) (sym (name_is decls k h.name h.goal h.first)) (in_flows decls h.name h.goal (mem_at (flows_of decls) k (h.name, h.goal) h.first));
   names = subst (λ n. n ∈ names_in h.goal) (sym (name_is decls j h.other h.others h.second)) h.names;
   is_flow = subst (λ n. n ∈ flow_names decls) (sym (name_is decls j h.other h.others h.second)) (mem_at (flow_names decls) j h.other (name_there decls j h.other h.others h.second));
 }
@@ -61,18 +62,13 @@ stands_before (z ∷ xs) (suc i) (suc j) x y e f lt = inr (stands_before xs i j 
 name_within : (decls : List Declared) (k : ℕ) → k < length (flow_names decls) → slice_get (flow_names decls) k ≡ Some (name_at decls k)
 name_within decls k lt = slice_get-get_or (flow_names decls) k [] lt
 
-mem_map : {A B : Type 0} (f : A → B) (y : B) (xs : List A) → y ∈ map f xs → (x : A) × (x ∈ xs) × (y ≡ f x)
-mem_map f y [] m = absurd m
-mem_map f y (x ∷ xs) (inl e) = (x, inl refl, e)
-mem_map f y (x ∷ xs) (inr m) = let (z, i, e) = mem_map f y xs m in (z, inr i, e)
-
 distinct_names : (decls : List Declared) (ks : List ℕ) → AreDistinct (flow_names decls) → ((k : ℕ) → k ∈ ks → k < length (flow_names decls)) → AreDistinct ks → AreDistinct (map (name_at decls) ks)
 distinct_names decls [] once lt d = tt
 distinct_names decls (k ∷ ks) once lt (out, d) = (fresh, distinct_names decls ks once (λ j m. lt j (inr m)) d)
   where
     fresh : ¬ (name_at decls k ∈ map (name_at decls) ks)
     fresh m =
-        let (j, i, e) = mem_map (name_at decls) (name_at decls k) ks m in
+        let (j, i, e) = of_map (name_at decls) (name_at decls k) ks m in
         out (subst (λ z. z ∈ ks)
         (same_place (flow_names decls) j k (name_at decls j) once (name_within decls j (lt j (inr i))) (name_within decls k (lt k (inl refl)) ∙ ap Some e)) i)
 

@@ -1,13 +1,15 @@
 -- What distinct names say of declarations.
 use Rattle.std.proofs.Common.{◌≡◌, ℕ, List, [], ◌∷◌, Some, zero, suc, slice_get, refl, sym, subst, inl, inr}
 use Rattle.std.specs.List.{flat_map}
-use Rattle.flow_model.specs.Lists.{◌∈◌, Each, AreDistinct}
+use Rattle.flow_model.specs.Lists.{◌∈◌, AreDistinct}
 use Rattle.flow_form.specs.Form.{Shape}
 use Rattle.flow_form.specs.Script.{Declared, fact, event, flow, Said}
 use Rattle.flow_form.specs.Names.{names_in, declared_names, event_names, flow_goal, goals_of, IsClosed}
 use Rattle.flow_expand.specs.Steps.{flows_of, flow_names}
 use Rattle.flow_expand.specs.Waiting.{AreDeclared}
 use Rattle.flow_expand.proofs.Members.{mem_left, mem_right, mem_at}
+use Rattle.flow_laws.proofs.ListLemmas1.{each_at}
+use Rattle.flow_laws.proofs.ListLemmas2.{mem-flat_map}
 
 pub flow_declared : (decls : List Declared) (n : List ℕ) → n ∈ flow_names decls → n ∈ declared_names decls
 flow_declared [] n m = m
@@ -73,16 +75,6 @@ flow_place (event k note ∷ ds) n s (inr m) = flow_place ds n s m
 flow_place (flow k t ∷ ds) n s (inl e) = let f : n ≡ k = cc in let g : s ≡ t = cc in (zero, λ i. Some (sym f i, sym g i))
 flow_place (flow k t ∷ ds) n s (inr m) = let (i, e) = flow_place ds n s m in (suc i, e)
 
-each_member : {A : Type 0} (P : A → Type 0) (xs : List A) (x : A) → Each P xs → x ∈ xs → P x
-each_member P [] x h m = absurd m
-each_member P (y ∷ xs) x h (inl e) = subst P (sym e) h.0
-each_member P (y ∷ xs) x h (inr m) = each_member P xs x h.1 m
-
-mem_flat_map : {A B : Type 0} (f : A → List B) (xs : List A) (x : A) (y : B) → x ∈ xs → y ∈ f x → y ∈ flat_map f xs
-mem_flat_map f [] x y m i = absurd m
-mem_flat_map f (z ∷ xs) x y (inl e) i = mem_left y (f z) (flat_map f xs) (subst (λ w. y ∈ f w) e i)
-mem_flat_map f (z ∷ xs) x y (inr m) i = mem_right y (f z) (flat_map f xs) (mem_flat_map f xs x y m i)
-
 pub in_flows : (decls : List Declared) (n : List ℕ) (s : Shape) → (n, s) ∈ flows_of decls → flow n s ∈ decls
 in_flows [] n s m = absurd m
 in_flows (fact a ∷ ds) n s m = inr (in_flows ds n s m)
@@ -93,11 +85,11 @@ in_flows (flow k t ∷ ds) n s (inr m) = inr (in_flows ds n s m)
 -- each name of a goal was declared
 pub goals_declared : (s : Said) → IsClosed s → AreDeclared s.decls
 goals_declared s h k n t at m used =
-    each_member (λ x. x ∈ declared_names s.decls) (flat_map names_in (goals_of s)) m h.in_goals
-    (mem_flat_map names_in (goals_of s) t m
-    (mem_left t (flat_map flow_goal s.decls) (s.goal ∷ []) (mem_flat_map flow_goal s.decls (flow n t) t (in_flows s.decls n t (mem_at (flows_of s.decls) k (n, t) at)) (inl refl))) used)
+    each_at (λ x. x ∈ declared_names s.decls) (flat_map names_in (goals_of s)) m h.in_goals
+    (mem-flat_map names_in t m (goals_of s)
+    (mem_left t (flat_map flow_goal s.decls) (s.goal ∷ []) (mem-flat_map flow_goal (flow n t) t s.decls (in_flows s.decls n t (mem_at (flows_of s.decls) k (n, t) at)) (inl refl))) used)
 
 pub goal_declared : (s : Said) → IsClosed s → (m : List ℕ) → m ∈ names_in s.goal → m ∈ declared_names s.decls
 goal_declared s h m used =
-    each_member (λ x. x ∈ declared_names s.decls) (flat_map names_in (goals_of s)) m h.in_goals
-    (mem_flat_map names_in (goals_of s) s.goal m (mem_right s.goal (flat_map flow_goal s.decls) (s.goal ∷ []) (inl refl)) used)
+    each_at (λ x. x ∈ declared_names s.decls) (flat_map names_in (goals_of s)) m h.in_goals
+    (mem-flat_map names_in s.goal m (goals_of s) (mem_right s.goal (flat_map flow_goal s.decls) (s.goal ∷ []) (inl refl)) used)

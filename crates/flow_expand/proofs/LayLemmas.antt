@@ -1,5 +1,5 @@
 -- What is written, in a plan that grows.
-use Rattle.std.proofs.Common.{◌≡◌, ℕ, zero, suc, ◌+◌, ◌<◌, List, [], ◌∷◌, ◌++◌, length, map, fold, get_or, take, slice_get, Option, Some, None, refl, sym, ap, ◌∙◌, subst, inl, inr, arith, Vec, Box, Global, Result, Ok, Err}
+use Rattle.std.proofs.Common.{◌≡◌, ℕ, zero, suc, ◌+◌, ◌<◌, List, [], ◌∷◌, ◌++◌, length, map, fold, get_or, take, slice_get, Option, Some, None, refl, sym, ap, ◌∙◌, subst, arith, Vec, Box, Global, Result, Ok, Err}
 use Rattle.std.specs.Result.{IfOk, IfErr}
 use Rattle.std.proofs.lemmas.List.{append_assoc, map_more}
 use Rattle.flow_model.specs.Lists.{◌∈◌, Begins}
@@ -9,7 +9,7 @@ use Rattle.flow_form.specs.declared.form.Form.TheOpen as open_form
 use Rattle.flow_form.specs.declared.form.Form.TheVariants.{rolls-Nop, rolls-Test, rolls-Absent, rolls-Ins, rolls-Del, rolls-Iso, rolls-Serial, rolls-Beside, rolls-Either}
 use Rattle.flow_form.specs.declared.form.Form.TheFolds.{fold-roll-Form}
 use Rattle.flow_form.specs.Form.{Shape, Shapes, shapes, shape_of, shape_step, no_more, nop, named, test, absent, ins, del, iso, serial, beside, either}
-use Rattle.flow_form.specs.Script.{Declared, fact, event, flow}
+use Rattle.flow_form.specs.Script.{Declared, event, flow}
 use Rattle.flow_form.specs.Names.{names_in, names_in_each, event_names}
 use Rattle.flow_expand.specs.declared.names.Names.{Names}
 use Rattle.flow_expand.specs.declared.names.Place.TheVariants as place
@@ -27,6 +27,7 @@ use Rattle.flow_expand.specs.Index.{IsIndex, decls_of, index_of}
 use Rattle.flow_expand.specs.Laid.{Goes, ListGoes, IsBegun, IsLaid, IsStop, list_shape}
 use Rattle.flow_expand.proofs.Members.{mem_left, mem_right, mem_at}
 use Rattle.flow_expand.proofs.PlanLemmas.{stands_more}
+use Rattle.flow_expand.proofs.Declarations.{in_flows}
 
 pub root_more : (old new : List Node) (events : List (List ℕ)) (e : Expansion) (root : Root) → Begins new old → IsRoot old events e root → IsRoot new events e root
 root_more old new events e root (more, is) h = record {
@@ -119,14 +120,6 @@ pub goes_iso : (decls : List Declared) (old new : List Node) (s t : Shape) (root
 goes_iso decls old new s t root whole same h put =
     goes_as decls new t (iso s) (alone h.expansion) whole same (becomes_iso h.becomes) (put (event_names decls) h.expansion h.is_root)
 
--- the sub-workflow of a number was declared
-pub flow_there : (decls : List Declared) (n : List ℕ) (s : Shape) → (n, s) ∈ flows_of decls → flow n s ∈ decls
-flow_there [] n s m = absurd m
-flow_there (fact a ∷ ds) n s m = inr (flow_there ds n s m)
-flow_there (event k note ∷ ds) n s m = inr (flow_there ds n s m)
-flow_there (flow k t ∷ ds) n s (inl e) = inl (λ i. flow ((e i).0) ((e i).1))
-flow_there (flow k t ∷ ds) n s (inr m) = inr (flow_there ds n s m)
-
 pub goes_flow : (names : Names) (laid : List Progress) (plan : List Node) (n : List ℕ) (k : ℕ) (root : Root) → IsLaid names laid plan → index_of names n ≡ Some (place.Flow k) →
     ((s : Shape) → slice_get (flows_of (decls_of names)) k ≡ Some (n, s) → Goes (decls_of names) plan s root) → Goes (decls_of names) plan (named n) root
 goes_flow names laid plan n k root h e on =
@@ -134,7 +127,7 @@ goes_flow names laid plan n k root h e on =
     let g = on f.0 f.1 in
     record {
       expansion = g.expansion;
-      becomes = becomes_flow (flow_there (decls_of names) n f.0 (mem_at (flows_of (decls_of names)) k (n, f.0) f.1)) g.becomes;
+      becomes = becomes_flow (in_flows (decls_of names) n f.0 (mem_at (flows_of (decls_of names)) k (n, f.0) f.1)) g.becomes;
       is_root = g.is_root;
     }
 

@@ -1,55 +1,20 @@
 -- Members of lists and their places.
-use Rattle.std.proofs.Common.{◌≡◌, ℕ, zero, suc, List, [], ◌∷◌, ◌++◌, ◌⊎◌, ◌||◌, Bool, true, false, length, map, slice_get, Some, refl, sym, ap, ◌∙◌, inl, inr}
+use Rattle.std.proofs.Common.{◌≡◌, ℕ, List, [], ◌∷◌, ◌++◌, ◌⊎◌, ◌||◌, Bool, true, false, length, map, slice_get, Some, refl, sym, ap, ◌∙◌, inl, inr, option_map}
 use Rattle.std.proofs.lemmas.List.{append-nil}
 use Rattle.std.proofs.lemmas.List.Concat.{flat_map-append}
 use Rattle.std.specs.Bool.{Decides}
 use Rattle.std.specs.List.{flat_map, list_any}
+use Rattle.std.proofs.lemmas.Option.{slice_get-map}
 use Rattle.flow_model.specs.Lists.{◌∈◌}
-
-pub mem_left : {A : Type 0} (x : A) (xs ys : List A) → x ∈ xs → x ∈ (xs ++ ys)
-mem_left x [] ys m = absurd m
-mem_left x (y ∷ xs) ys (inl e) = inl e
-mem_left x (y ∷ xs) ys (inr m) = inr (mem_left x xs ys m)
-
-pub mem_right : {A : Type 0} (x : A) (xs ys : List A) → x ∈ ys → x ∈ (xs ++ ys)
-mem_right x [] ys m = m
-mem_right x (y ∷ xs) ys m = inr (mem_right x xs ys m)
-
-pub mem_either : {A : Type 0} (x : A) (xs ys : List A) → x ∈ (xs ++ ys) → (x ∈ xs) ⊎ (x ∈ ys)
-mem_either x [] ys m = inr m
-mem_either x (y ∷ xs) ys (inl e) = inl (inl e)
-mem_either {A} x (y ∷ xs) ys (inr m) = go (mem_either x xs ys m)
-  where
-    go : (x ∈ xs) ⊎ (x ∈ ys) → (x ∈ (y ∷ xs)) ⊎ (x ∈ ys)
-    go (inl h) = inl (inr h)
-    go (inr h) = inr h
-
-pub mem_at : {A : Type 0} (xs : List A) (i : ℕ) (x : A) → slice_get xs i ≡ Some x → x ∈ xs
-mem_at [] i x e = cc
-mem_at (y ∷ xs) zero x e = inl (let f : Some y ≡ Some x = e in cc)
-mem_at (y ∷ xs) (suc i) x e = inr (mem_at xs i x e)
-
-pub place_of : {A : Type 0} (x : A) (xs : List A) → x ∈ xs → (i : ℕ) × (slice_get xs i ≡ Some x)
-place_of x [] m = absurd m
-place_of x (y ∷ xs) (inl e) = (zero, ap Some (sym e))
-place_of {A} x (y ∷ xs) (inr m) = go (place_of x xs m)
-  where
-    go : (i : ℕ) × (slice_get xs i ≡ Some x) → (i : ℕ) × (slice_get (y ∷ xs) i ≡ Some x)
-    go (i, e) = (suc i, e)
-
-pub get_left : {A : Type 0} (xs ys : List A) (i : ℕ) (x : A) → slice_get xs i ≡ Some x → slice_get (xs ++ ys) i ≡ Some x
-get_left [] ys i x e = cc
-get_left (y ∷ xs) ys zero x e = e
-get_left (y ∷ xs) ys (suc i) x e = get_left xs ys i x e
+pub use Rattle.flow_model.proofs.Lists.{mem-slice_get as mem_at, slice_get_append_left as get_left}
+pub use Rattle.flow_laws.proofs.ListLemmas2.{mem_append_left as mem_left, mem_append_right as mem_right, mem-append as mem_either}
 
 pub get_end : {A : Type 0} (xs ys : List A) (y : A) → slice_get (xs ++ y ∷ ys) (length xs) ≡ Some y
 get_end [] ys y = refl
 get_end (x ∷ xs) ys y = get_end xs ys y
 
 pub get_map : {A B : Type 0} (f : A → B) (xs : List A) (i : ℕ) (x : A) → slice_get xs i ≡ Some x → slice_get (map f xs) i ≡ Some (f x)
-get_map f [] i x e = cc
-get_map f (y ∷ xs) zero x e = let g : Some y ≡ Some x = e in let h : y ≡ x = cc in ap (λ z. Some (f z)) h
-get_map f (y ∷ xs) (suc i) x e = get_map f xs i x e
+get_map f xs i x e = slice_get-map f xs i ∙ ap (option_map f) e
 
 pub flat_map_end : {X A : Type 0} (f : X → List A) (xs : List X) (x : X) → flat_map f (xs ++ x ∷ []) ≡ flat_map f xs ++ f x
 flat_map_end f xs x = flat_map-append f xs (x ∷ []) ∙ ap (λ l. flat_map f xs ++ l) (append-nil (f x))

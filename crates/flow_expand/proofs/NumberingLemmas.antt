@@ -25,6 +25,7 @@ use Rattle.flow_expand.proofs.Members.{mem_left, mem_right, mem_at}
 use Rattle.flow_expand.proofs.FactLemmas.{fact_there, distinct_firsts, length_fold}
 use Rattle.flow_expand.proofs.BuildLemmas.{leaves_are_ends, labels_after, facts_after}
 use Rattle.flow_expand.proofs.DeclaredLemmas.{distinct_events, facts_few}
+use Rattle.flow_model.proofs.Lists.{each-append}
 
 -- numbers in a row
 
@@ -59,10 +60,6 @@ leaves_in_row next (alone a) = leaves_in_row next a
 
 -- labels
 
-each_both : {A : Type 0} (P : A → Type 0) (xs ys : List A) → Each P xs → Each P ys → Each P (xs ++ ys)
-each_both P [] ys h k = k
-each_both P (x ∷ xs) ys h k = (h.0, each_both P xs ys h.1 k)
-
 -- each label of a goal of the plan has an event, or a fact that is numbered
 module _ (plan : List Node) (events : List (List ℕ)) (facts : List Atom) where
   abbrev AreKnown : Expansion → Type 0
@@ -72,7 +69,7 @@ module _ (plan : List Node) (events : List (List ℕ)) (facts : List Atom) where
   AreThere e = (x : Atom) → x ∈ facts_in e → x ∈ facts
 
   both_known : (a b : Expansion) → AreKnown a → AreKnown b → Each (IsKnown (length events) (length facts)) (labels_of events facts a ++ labels_of events facts b)
-  both_known a b h k = each_both (IsKnown (length events) (length facts)) (labels_of events facts a) (labels_of events facts b) h k
+  both_known a b h k = each-append (IsKnown (length events) (length facts)) (labels_of events facts a) (labels_of events facts b) h k
 
   first_there : (a b : Expansion) → ((x : Atom) → x ∈ (facts_in a ++ facts_in b) → x ∈ facts) → AreThere a
   first_there a b all x m = all x (mem_left x (facts_in a) (facts_in b) m)

@@ -74,7 +74,7 @@ end_root old new p root grown at size events e h = record {
   sized = size ∙ sym (λ t. record { ends = kept ((end_sized p events e h).0 t); isolations = kept ((end_sized p events e h).1 t) });
 }
 
-kept_sum : (m n : ℕ) → kept (kept m + kept n) ≡ kept (m + n)
+pub kept_sum : (m n : ℕ) → kept (kept m + kept n) ≡ kept (m + n)
 kept_sum m n = omega arith
 
 kept_more : (m : ℕ) → kept (kept m + 1) ≡ kept (m + 1)

@@ -27,6 +27,7 @@ use Rattle.flow_expand.specs.Refusals.{flow_count, rule_name_count, IsFinite, Is
 use Rattle.flow_expand.proofs.ChainLemmas.{names_of_flows}
 use Rattle.flow_expand.proofs.Declarations.{flow_place}
 use Rattle.flow_expand.proofs.Endings.{no_recursion}
+use Rattle.flow_expand.proofs.PlanLemmas.{kept_sum}
 
 -- names in constraints
 
@@ -40,9 +41,6 @@ rules_end (q ∷ rs) r =
     length-append (names_in_rule q) (names_in_rules (rule_shapes (rs ++ r ∷ []))) ∙ ap (λ n. length (names_in_rule q) + n) (rules_end rs r)
     ∙ (let e : length (names_in_rule q) + (length (names_in_rules (rule_shapes rs)) + length (names_in_rule r)) ≡ (length (names_in_rule q) + length (names_in_rules (rule_shapes rs))) + length (names_in_rule r) = omega arith in e)
     ∙ ap (λ n. n + length (names_in_rule r)) (sym (length-append (names_in_rule q) (names_in_rules (rule_shapes rs))))
-
-kept_sum : (m n : ℕ) → kept (kept m + kept n) ≡ kept (m + n)
-kept_sum m n = omega arith
 
 pub count_more : (rules : List RuleForm) (i count one : ℕ) (item : RuleForm) → i < length rules → item ≡ get_or rules i item → count ≡ kept (length (names_in_rules (rule_shapes (map rule_shape_of (take i rules))))) →
     one ≡ kept (length (names_in_rule (rule_shape_of item))) → kept (count + one) ≡ kept (length (names_in_rules (rule_shapes (map rule_shape_of (take (i + 1) rules)))))

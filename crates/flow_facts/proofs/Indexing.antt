@@ -9,7 +9,7 @@ use Rattle.std.specs.BTreeMap.{BTreeMap, get, Updates}
 use Rattle.std.proofs.lemmas.List.{length-append}
 use Rattle.flow_model.specs.Lists.{◌∈◌}
 use Rattle.flow_facts.specs.Indexed.{IsIndexed}
-use Rattle.flow_facts.proofs.Places.{mem-slice_get, place_of, at_front, at_end, at_more, distinct_more}
+use Rattle.flow_facts.proofs.Places.{mem-slice_get, place_of, slice_get_append_left, at_end, at_more, distinct_more}
 
 module _ {K : Type 0} (cmp : K → K → Ordering) where
   -- what is looked up is none just where the key is none of them
@@ -62,7 +62,7 @@ module _ {K : Type 0} (cmp : K → K → Ordering) where
           differs f = let g : true ≡ false = sym ((Equal-is (cmp k q)).1 (subst (λ x. cmp k x ≡ Equal) f (tied_itself total k))) ∙ e in cc
 
           to : get cmp after q ≡ Some n → slice_get (keys ++ k ∷ []) n ≡ Some q
-          to f = at_front keys (k ∷ []) n q ((is.places q n).0 (sym stays ∙ f))
+          to f = slice_get_append_left keys (k ∷ []) n q ((is.places q n).0 (sym stays ∙ f))
 
           go : (slice_get keys n ≡ Some q) ⊎ ((n ≡ length keys) × (k ≡ q)) → get cmp after q ≡ Some n
           go (inl f) = stays ∙ (is.places q n).1 f

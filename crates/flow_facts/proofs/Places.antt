@@ -1,12 +1,8 @@
 -- Members by their places.
 use Rattle.std.proofs.Common.{◌≡◌, ◌≢◌, ℕ, zero, suc, ◌+◌, ◌<◌, List, [], ◌∷◌, ◌++◌, length, get_or, slice_get, take, Some, refl, sym, ap, ◌∙◌, subst, inl, inr, ◌⊎◌, arith}
 use Rattle.std.proofs.lemmas.List.{take_more}
+pub use Rattle.flow_model.proofs.Lists.{mem-slice_get, slice_get_append_left}
 use Rattle.flow_model.specs.Lists.{◌∈◌, AreDistinct}
-
-pub mem-slice_get : {A : Type 0} (list : List A) (i : ℕ) (x : A) → slice_get list i ≡ Some x → x ∈ list
-mem-slice_get [] i x e = cc
-mem-slice_get (y ∷ list) zero x e = inl (let f : Some y ≡ Some x = e in cc)
-mem-slice_get (y ∷ list) (suc i) x e = inr (mem-slice_get list i x e)
 
 not_in_more : {A : Type 0} (x y : A) (list : List A) → ¬ (x ∈ list) → x ≢ y → ¬ (x ∈ (list ++ y ∷ []))
 not_in_more x y [] h other (inl e) = other e
@@ -34,11 +30,6 @@ pub place_of : {A : Type 0} (list : List A) (x : A) → x ∈ list → (i : ℕ)
 place_of [] x m = absurd m
 place_of (y ∷ list) x (inl e) = (zero, ap Some (sym e))
 place_of (y ∷ list) x (inr m) = let (i, at) = place_of list x m in (suc i, at)
-
-pub at_front : {A : Type 0} (list more : List A) (i : ℕ) (x : A) → slice_get list i ≡ Some x → slice_get (list ++ more) i ≡ Some x
-at_front [] more i x e = cc
-at_front (y ∷ list) more zero x e = e
-at_front (y ∷ list) more (suc i) x e = at_front list more i x e
 
 pub at_end : {A : Type 0} (list : List A) (x : A) → slice_get (list ++ x ∷ []) (length list) ≡ Some x
 at_end [] x = refl

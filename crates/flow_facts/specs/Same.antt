@@ -4,7 +4,7 @@ use Rattle.std.specs.Bool.{Decides}
 use Rattle.std.specs.Cmp.{IsEquivalence, IsPartialEquivalence, partial_equiv_from_equiv}
 use Rattle.std.specs.Cmp.Lexicographic.{pointwise}
 use Rattle.std.proofs.Common.{refl, sym, ap, ◌∙◌}
-use Rattle.std.proofs.lemmas.Bool.{eqb-true, eq-eqb}
+use Rattle.std.proofs.lemmas.Bool.{and_parts, eqb-true, eq-eqb}
 use Rattle.std.proofs.lemmas.Slice.Eq.{slice_eq-Decides}
 use Rattle.flow_facts.specs.declared.constant.Const.{Const}
 use Rattle.flow_facts.specs.declared.constant.Const.TheVariants.{Word, Number}
@@ -41,10 +41,6 @@ const_eq-Decides (Number m) (Number n) = ((λ e. ap Number (eqb-true m n e)), (�
     number_inj : (m n : ℕ) → Number m ≡ Number n → m ≡ n
     number_inj m n e = cc
 
-both_true : (a b : Bool) → (a && b) ≡ true → (a ≡ true) × (b ≡ true)
-both_true true b e = (refl, e)
-both_true false b e = cc
-
 pub atom_eq-Decides : (a b : Atom) → Decides (atom_eq a b) (a ≡ b)
 atom_eq-Decides a b = (same, other)
   where
@@ -53,7 +49,7 @@ atom_eq-Decides a b = (same, other)
 
     same : atom_eq a b ≡ true → a ≡ b
     same e =
-        let (r, s) = both_true (pointwise nat_eq a.relation b.relation) (pointwise const_eq a.args b.args) e in
+        let (r, s) = and_parts (pointwise nat_eq a.relation b.relation) (pointwise const_eq a.args b.args) e in
         let p = (words_eq-Decides a.relation b.relation).0 r in
         let q = args_eq-Decides.0 s in
         λ i. record { relation = p i; args = q i }

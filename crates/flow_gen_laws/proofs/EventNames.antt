@@ -1,8 +1,8 @@
 -- The names of generated events.
-use Rattle.std.proofs.Common.{◌≡◌, ℕ, zero, suc, ◌+◌, ◌<◌, ◌≤◌, ◌^◌, Bool, true, false, ◌&&◌, nat_eq, List, [], ◌∷◌, map, drop, None, refl, sym, ap, subst, inl, inr, arith}
+use Rattle.std.proofs.Common.{◌≡◌, ℕ, zero, suc, ◌+◌, ◌<◌, ◌≤◌, ◌^◌, true, false, nat_eq, List, [], ◌∷◌, map, drop, None, refl, sym, ap, subst, inl, inr, arith}
 use Rattle.std.specs.List.{list_all}
 use Rattle.std.proofs.lemmas.Fmt.{decimal_injective}
-use Rattle.std.proofs.lemmas.Bool.{and_from}
+use Rattle.std.proofs.lemmas.Bool.{and_from, and_parts}
 use Rattle.flow_model.specs.Lists.{◌∈◌, AreDistinct, numbers_from}
 use Rattle.flow_lex.specs.Bytes.{is_digit, is_in_word}
 use Rattle.flow_reader.specs.Symbols.{reserved}
@@ -10,18 +10,13 @@ use Rattle.flow_print.specs.Printable.{IsName}
 use Rattle.flow_print.proofs.Digits.{decimal_writes}
 use Rattle.flow_gen.specs.Generated.{event_name}
 
-both : (a b : Bool) → (a && b) ≡ true → (a ≡ true) × (b ≡ true)
-both true true h = (refl, refl)
-both true false h = cc
-both false b h = cc
-
 digit_in_word : (d : ℕ) → is_digit d ≡ true → is_in_word d ≡ true
 digit_in_word d h = grind arith
 
 digits_in_word : (ds : List ℕ) → list_all is_digit ds ≡ true → list_all is_in_word ds ≡ true
 digits_in_word [] h = refl
 digits_in_word (d ∷ ds) h =
-    let (first, more) = both (is_digit d) (list_all is_digit ds) h in
+    let (first, more) = and_parts (is_digit d) (list_all is_digit ds) h in
     and_from (is_in_word d) (list_all is_in_word ds) (digit_in_word d first) (digits_in_word ds more)
 
 not_v : (d : ℕ) → is_digit d ≡ true → nat_eq d 118 ≡ false

@@ -3,6 +3,7 @@ use Rattle.std.proofs.Common.{◌≡◌, ℕ, zero, suc, ◌+◌, ◌*◌, ◌<�
 use Rattle.std.specs.List.{flat_map}
 use Rattle.std.specs.Str.{bytes_eq}
 use Rattle.std.specs.Cmp.Lexicographic.{bytes_decides}
+use Rattle.std.proofs.lemmas.Option.{same_Some}
 use Rattle.flow_model.specs.declared.labels.Note.TheVariants.{Done}
 use Rattle.flow_model.specs.declared.labels.Label.{Label}
 use Rattle.flow_model.specs.declared.labels.Label.TheVariants.{Event}
@@ -116,13 +117,10 @@ trace_below : (seed size : ℕ) (e : Expansion) → IsRow (event_names (generate
 trace_below seed size e r t trace x m =
     let i = subst (λ ns. x ∈ ns) (r.leaves 0) (leaf_of_trace (numbered 0 e) t trace x m) in omega (arith, numbers_from_below 0 (8 * size) x i)
 
-some_number : (a b : ℕ) → Some a ≡ Some b → a ≡ b
-some_number a b e = cc
-
 same_leaf : (seed size : ℕ) (e : Expansion) → size ≤ 128 → IsRow (event_names (generated seed size).decls) 0 (8 * size) (8 * size) e → (x y k : ℕ) → x < 8 * size → y < 8 * size →
     event_at (labelled_of (generated seed size).decls e).labels x ≡ Some k → event_at (labelled_of (generated seed size).decls e).labels y ≡ Some k → x ≡ y
 same_leaf seed size e few r x y k h i one two =
-    some_number x y (sym (leaf_event seed size e few r x h) ∙ one ∙ sym two ∙ leaf_event seed size e few r y i)
+    same_Some x y (sym (leaf_event seed size e few r x h) ∙ one ∙ sym two ∙ leaf_event seed size e few r y i)
 
 pub none_twice : (seed size : ℕ) (e : Expansion) → size ≤ 128 → IsRow (event_names (generated seed size).decls) 0 (8 * size) (8 * size) e →
     HoldsNoneTwice (labelled_of (generated seed size).decls e)

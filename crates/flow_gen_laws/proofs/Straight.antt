@@ -3,18 +3,14 @@ use Rattle.std.proofs.Common.{◌≡◌, ℕ, ◌+◌, ◌<◌, ◌≤◌, List,
 use Rattle.std.specs.List.{filter_map, cons_option}
 use Rattle.flow_model.specs.Lists.{◌∈◌, StandsBefore, joined}
 use Rattle.flow_model.specs.Process.{Process, Empty, Task, Sequence, Parallel, Choice, Isolated, leaves, IsChoiceFree}
-use Rattle.flow_model.specs.Trace.{Shuffle, from_left, as_one, Trace}
-use Rattle.flow_model.specs.Decided.{shuffle_right}
+use Rattle.flow_model.specs.Trace.{as_one, Trace}
 use Rattle.flow_model.specs.Resolution.{resolutions}
 use Rattle.flow_laws.specs.Resolutions.{Resolves}
 use Rattle.flow_laws.proofs.ListLemmas2.{joined-append}
 use Rattle.flow_laws.proofs.TraceLeaves.{joined-as_one}
 use Rattle.flow_laws.proofs.ResolutionsLemmas.{mem-resolutions}
 use Rattle.flow_goal.proofs.Rising.{Rises}
-
-one_then_other : (a b : List (List ℕ)) → Shuffle a b (a ++ b)
-one_then_other [] b = shuffle_right b
-one_then_other (x ∷ a) b = from_left (one_then_other a b)
+use Rattle.flow_laws.proofs.EventsLemmas.{shuffle-append}
 
 -- they are one of its traces
 pub straight : (q : Process) → IsChoiceFree q → Trace q (leaves q)
@@ -27,7 +23,7 @@ straight (Sequence a b) free =
 straight (Parallel a b) free =
     let (x, i, e) = straight a free.0 in
     let (y, j, f) = straight b free.1 in
-    (x ++ y, (x, y, i, j, one_then_other x y), ap (λ l. l ++ leaves b) e ∙ ap (λ l. joined x ++ l) f ∙ sym (joined-append x y))
+    (x ++ y, (x, y, i, j, shuffle-append x y), ap (λ l. l ++ leaves b) e ∙ ap (λ l. joined x ++ l) f ∙ sym (joined-append x y))
 straight (Choice a b) free = absurd free
 straight (Isolated a) free = let (x, i, e) = straight a free in (as_one x, (x, i, refl), e ∙ sym (joined-as_one x))
 

@@ -5,6 +5,7 @@ use Rattle.std.specs.Option.{option_and_then}
 use Rattle.flow_model.specs.Lists.{numbers_from}
 use Rattle.flow_model.specs.Process.{IsNumbered, Process, Empty, Task, Sequence, Parallel, Choice, Isolated, leaves}
 use Rattle.flow_goal.specs.Numbering.{number_after}
+use Rattle.std.proofs.lemmas.Option.{same_Some}
 
 -- numbers in a row, and then the next ones
 pub numbers_from-+ : (first m n : ℕ) → numbers_from first (m + n) ≡ numbers_from first m ++ numbers_from (first + m) n
@@ -55,12 +56,9 @@ pub bound : {A B : Type 0} (o : Option A) (f : A → Option B) (y : B) → optio
 bound None f y e = cc
 bound (Some x) f y e = (x, refl, e)
 
-some_inj : (x y : ℕ) → Some x ≡ Some y → x ≡ y
-some_inj x y e = cc
-
 task_row : (n next last stop : ℕ) (b c : Bool) → nat_eq n next ≡ b → nat_lt next last ≡ c →
     cond b (cond c (Some (next + 1)) None) None ≡ Some stop → IsRow (Task n) next stop
-task_row n next last stop true true e f h = record { count = 1; stops = sym (some_inj (next + 1) stop h); row = ap (λ x. x ∷ []) (eqb-true n next e) }
+task_row n next last stop true true e f h = record { count = 1; stops = sym (same_Some (next + 1) stop h); row = ap (λ x. x ∷ []) (eqb-true n next e) }
 task_row n next last stop true false e f h = cc
 task_row n next last stop false c e f h = cc
 
@@ -74,7 +72,7 @@ two_rows a b next last stop p q h =
 
 -- where the count ends, the leaves are a row up to there
 pub is_row : (g : Process) (next last stop : ℕ) → number_after g next last ≡ Some stop → IsRow g next stop
-is_row Empty next last stop h = record { count = 0; stops = sym (some_inj next stop h) ∙ omega arith; row = refl }
+is_row Empty next last stop h = record { count = 0; stops = sym (same_Some next stop h) ∙ omega arith; row = refl }
 is_row (Task n) next last stop h = task_row n next last stop (nat_eq n next) (nat_lt next last) refl refl h
 is_row (Sequence a b) next last stop h =
     let r = two_rows a b next last stop (λ m. is_row a next last m) (λ m. is_row b m last stop) h in
@@ -138,7 +136,7 @@ numbered_iff g count = (
 pub stopped : (g : Process) (count stop : ℕ) → Some stop ≡ number_after g 0 count → IsTrue (nat_eq stop count) ↔ IsNumbered g count
 stopped g count stop h = (
   (λ t. (numbered_iff g count).0 (sym h ∙ ap (λ k. Some k) (eqb-true stop count t))),
-  (λ e. eq-eqb stop count (some_inj stop count (h ∙ (numbered_iff g count).1 e))),
+  (λ e. eq-eqb stop count (same_Some stop count (h ∙ (numbered_iff g count).1 e))),
 )
 
 -- where it failed, the goal has not so many leaves

@@ -1,6 +1,6 @@
 -- Pairs of leaves of one event in one execution.
-use Rattle.std.proofs.Common.{◌≡◌, ◌≢◌, ◌≤◌, ◌<◌, ℕ, Bool, true, false, [], length, ◌⊎◌, Option, Some, None, refl, sym, ap, ◌∙◌, subst, inl, inr, arith}
-use Rattle.std.proofs.lemmas.Bool.{eqb-true, eq-eqb, cases_lt}
+use Rattle.std.proofs.Common.{◌≡◌, ◌≢◌, ◌≤◌, ◌<◌, ℕ, Bool, true, false, [], length, ◌⊎◌, Some, None, refl, sym, ◌∙◌, subst, inl, inr, arith}
+use Rattle.std.proofs.lemmas.Bool.{cases_lt}
 use Rattle.flow_model.specs.Lists.{◌∈◌, joined}
 use Rattle.flow_model.specs.Process.{leaves, IsNumbered}
 use Rattle.flow_model.specs.Facts.{event_at, is_event}
@@ -14,17 +14,11 @@ use Rattle.flow_goal.specs.declared.partners.Partner.TheVariants.{Outside, Alone
 use Rattle.flow_goal.specs.declared.repeats.Twice.{Twice}
 use Rattle.flow_goal.specs.Partners.{partner_in}
 use Rattle.flow_goal.proofs.FirstPartner.{partner_is, together_rise, together_first, in_row, IsPartner}
+use Rattle.flow_laws.proofs.WaysLemmas.{event_from_test, test_of_event}
 
 -- the test for an event
 abbrev pub passes : Labelled → ℕ → ℕ → Bool
 passes t event = λ n. is_event event (event_at t.labels n)
-
-event_of_test : (event : ℕ) (o : Option ℕ) → is_event event o ≡ true → o ≡ Some event
-event_of_test event None e = cc
-event_of_test event (Some other) e = ap (λ n. Some n) (eqb-true other event e)
-
-test_of_event : (event : ℕ) (o : Option ℕ) → o ≡ Some event → is_event event o ≡ true
-test_of_event event o e = ap (is_event event) e ∙ eq-eqb event event refl
 
 -- a pair is together in the goal
 pair_together : (t : Labelled) → IsNumbered t.process (length t.labels) → (event x y : ℕ) → HoldsTwice t event x y → AreTogether t.process x y
@@ -56,7 +50,7 @@ first_from t whole event x y e found =
     (partner_is (passes t event) t.process x 0 (length t.labels) whole) in
     record {
       from = refl;
-      twice = pair_of_together t whole event x y h e (event_of_test event (event_at t.labels y) passed);
+      twice = pair_of_together t whole event x y h e (event_from_test event (event_at t.labels y) passed);
       least = λ other z pair.
           let same : Some other ≡ Some event = sym pair.at_first ∙ e in
           let at : event_at t.labels z ≡ Some event = pair.at_second ∙ same in

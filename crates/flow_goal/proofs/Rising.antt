@@ -1,12 +1,13 @@
 -- Lists of leaves that rise.
 use Rattle.std.proofs.Common.{◌≡◌, ◌≤◌, ◌<◌, ℕ, zero, suc, ◌+◌, List, [], ◌∷◌, ◌++◌, length, slice_get, slice_index, Some, sym, ap, subst, inl, inr, arith}
 use Rattle.std.specs.List.Sorted.{IsStrictlyIncreasing}
-use Rattle.flow_model.specs.Lists.{◌∈◌, numbers_from}
+use Rattle.flow_model.specs.Lists.{numbers_from}
 use Rattle.flow_model.specs.Process.{Process, Empty, Task, Sequence, Parallel, Choice, Isolated, leaves, IsNumbered, IsChoiceFree}
 use Rattle.flow_model.specs.Resolution.{resolutions}
 use Rattle.flow_laws.specs.Resolutions.{Resolves}
 use Rattle.flow_laws.proofs.ResolutionsLemmas.{resolves_of, choice_free_resolution}
 use Rattle.flow_goal.proofs.Numbers.{AreRows, rows, one_leaf}
+use Rattle.flow_model.proofs.Lists.{mem-slice_get}
 
 -- the list rises, from the lower bound on and below the upper one
 abbrev pub Rises : ℕ → List ℕ → ℕ → Type 0
@@ -63,11 +64,6 @@ resolution_rises (Choice a b) q low count e (inr h) =
     (resolution_rises b q (low + r.left) r.right r.back_is h))
 resolution_rises (Isolated a) q low count e (x, h, k) =
     subst (λ p. Rises low (leaves p) (low + count)) (sym k) (resolution_rises a x low count e h)
-
-mem-slice_get : {A : Type 0} (list : List A) (i : ℕ) (x : A) → slice_get list i ≡ Some x → x ∈ list
-mem-slice_get [] i x e = cc
-mem-slice_get (y ∷ list) zero x e = inl (let f : Some y ≡ Some x = e in cc)
-mem-slice_get (y ∷ list) (suc i) x e = inr (mem-slice_get list i x e)
 
 -- what the resolution of a number is
 pub resolution_at : (g q : Process) (i : ℕ) → slice_get (resolutions g) i ≡ Some q → Resolves g q

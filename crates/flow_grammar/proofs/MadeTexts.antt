@@ -9,6 +9,7 @@ use Rattle.flow_facts.specs.declared.constant.Const.{Const}
 use Rattle.flow_grammar.specs.Symbol.{Placed, at, closing, semicolon, goal_word}
 use Rattle.flow_grammar.specs.Grammar.{FactText, bare, applied, spell_constants, spell_fact, asking, denying, adding, taking, GoalText, goal_text, MoreBesides, no_beside, then_beside, BesideText, beside_text, MoreSerials, no_serial, then_serial, SerialText, serial_text, MoreAtoms, no_atom, then_atom, AtomText, nop_text, name_text, fact_text, iso_text, group_text, spell_goal, spell_besides, spell_beside, spell_serials, spell_serial, spell_atoms, spell_atom, gather, mean_goal, mean_besides, mean_beside, mean_serials, mean_serial, mean_atoms, mean_atom, must_come, never_come, preceding, needing, RuleText, rule_text, MoreConjs, no_conj, then_conj, ConjText, conj_text, MoreUnits, no_unit, then_unit, UnitText, not_text, inner_text, single_text, order_text, pair_text, gather_rules, mean_rule, mean_conjs, mean_conj, mean_units, mean_unit, NoteText, silent_text, done_text, fail_text, fail_first_text, spell_note, NotedText, noted_text, DeclText, facts_text, events_text, flow_text, spell_facts, mean_facts, spell_events, mean_events, spell_decl, mean_decl, ScriptText, script_text, spell_decls, mean_decls, spell_constraints, mean_constraints, spell_script, mean_script, QueryText, holds_text, redundant_text, mean_query}
 use Rattle.flow_grammar.specs.Made.{IsWellMade, IsWellAsked, ScriptsAreWellMade, QueriesAreWellMade}
+use Rattle.flow_model.proofs.Lists.{each-append}
 
 -- Goals
 
@@ -99,21 +100,17 @@ mutual
 
 -- Texts
 
-each_append : {A : Type 0} (P : A → Type 0) (xs ys : List A) → Each P xs → Each P ys → Each P (xs ++ ys)
-each_append P [] ys h k = k
-each_append P (x ∷ xs) ys (h, more) k = (h, each_append P xs ys more k)
-
-goals_append : (P : Shape → Type 0) (ds es : List Declared) → Each P (flat_map flow_goal ds) → Each P (flat_map flow_goal es) → Each P (flat_map flow_goal (ds ++ es))
+pub goals_append : (P : Shape → Type 0) (ds es : List Declared) → Each P (flat_map flow_goal ds) → Each P (flat_map flow_goal es) → Each P (flat_map flow_goal (ds ++ es))
 goals_append P [] es h k = k
 goals_append P (fact a ∷ ds) es h k = goals_append P ds es h k
 goals_append P (event n note ∷ ds) es h k = goals_append P ds es h k
 goals_append P (flow n s ∷ ds) es (h, more) k = (h, goals_append P ds es more k)
 
-facts_goals : (P : Shape → Type 0) (fs : List FactText) → Each P (flat_map flow_goal (mean_facts fs))
+pub facts_goals : (P : Shape → Type 0) (fs : List FactText) → Each P (flat_map flow_goal (mean_facts fs))
 facts_goals P [] = tt
 facts_goals P (f ∷ fs) = facts_goals P fs
 
-events_goals : (P : Shape → Type 0) (es : List NotedText) → Each P (flat_map flow_goal (mean_events es))
+pub events_goals : (P : Shape → Type 0) (es : List NotedText) → Each P (flat_map flow_goal (mean_events es))
 events_goals P [] = tt
 events_goals P (noted_text n note ∷ es) = events_goals P es
 
@@ -132,7 +129,7 @@ constraints_grouped (c ∷ cs) = (grouped_rule c, constraints_grouped cs)
 
 script_made : (d : ScriptText) → IsWellMade (mean_script d)
 script_made (script_text ds g cs) =
-    (each_append IsGrouped (flat_map flow_goal (mean_decls ds)) (mean_goal g ∷ []) (decls_goals ds) (grouped_goal g, tt), constraints_grouped cs)
+    (each-append IsGrouped (flat_map flow_goal (mean_decls ds)) (mean_goal g ∷ []) (decls_goals ds) (grouped_goal g, tt), constraints_grouped cs)
 
 query_made : (d : QueryText) → IsWellAsked (mean_query d)
 query_made (holds_text x) = grouped_rule x

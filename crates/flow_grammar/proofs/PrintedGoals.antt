@@ -321,10 +321,10 @@ all_flat s a e1 e2 e3 e = record {
   as_goal = e;
 }
 
-left_fits : (d m n : ℕ) → d + max m n ≤ deepest → d + m ≤ deepest
+pub left_fits : (d m n : ℕ) → d + max m n ≤ deepest → d + m ≤ deepest
 left_fits d m n l = omega arith
 
-right_fits : (d m n : ℕ) → d + max m n ≤ deepest → d + n ≤ deepest
+pub right_fits : (d m n : ℕ) → d + max m n ≤ deepest → d + n ≤ deepest
 right_fits d m n l = omega arith
 
 iso_fits : (g : GoalText) (n : ℕ) → ((d : ℕ) → Fits (spell_goal d g) (d + n)) → (d : ℕ) → Fits (spell_atom d (iso_text g)) (d + suc n)

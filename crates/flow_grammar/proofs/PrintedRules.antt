@@ -1,5 +1,5 @@
 -- A rule's print: its derivation, and that no other derivation of the rule is less deep.
-use Rattle.std.proofs.Common.{◌≡◌, ℕ, suc, ◌+◌, ◌<◌, ◌≤◌, max, Bool, false, List, [], ◌∷◌, length, refl, sym, ap, ◌∙◌, subst, arith}
+use Rattle.std.proofs.Common.{◌≡◌, ℕ, suc, ◌+◌, ◌<◌, ◌≤◌, Bool, false, List, [], ◌∷◌, length, refl, sym, ap, ◌∙◌, subst, arith}
 use Rattle.flow_model.specs.Lists.{Each}
 use Rattle.flow_form.specs.RuleForm.{RuleShape, RuleShapes, must, never, order, precedes, needs, negated, all, any, no_more, followed, rule_shapes, rule_members, IsGroupedRule, AreGroupedRules}
 use Rattle.flow_grammar.specs.Symbol.{Placed, at, symbols, a_name, opening, closing, and_word, or_word, not_word, order_word}
@@ -7,6 +7,7 @@ use Rattle.flow_grammar.specs.Grammar.{must_come, never_come, preceding, needing
 use Rattle.flow_grammar.specs.Machine.{deepest}
 use Rattle.flow_grammar.specs.Texts.{IsShallow}
 use Rattle.flow_grammar.specs.Print.{bracket, in_all, in_any, print_names, print_rule, print_more_rules, nest, rule_nesting, rules_nesting}
+use Rattle.flow_grammar.proofs.PrintedGoals.{left_fits, right_fits}
 
 -- The derivation of a rule at each level
 
@@ -204,12 +205,6 @@ all_flat x u e1 e2 e = record {
   as_conj = subst (λ b. (d : ℕ) → Fits (spell_unit d u) (d + nest b (rule_nesting x))) (sym e2) e;
   as_rule = e;
 }
-
-left_fits : (d m n : ℕ) → d + max m n ≤ deepest → d + m ≤ deepest
-left_fits d m n l = omega arith
-
-right_fits : (d m n : ℕ) → d + max m n ≤ deepest → d + n ≤ deepest
-right_fits d m n l = omega arith
 
 names_flat : (d : ℕ) (ns : List (List ℕ)) (r : List Placed) → IsShallow r → IsShallow (spell_names d ns r)
 names_flat d [] r h = h

@@ -1,16 +1,16 @@
 -- A text's print is read back.
-use Rattle.std.proofs.Common.{◌≡◌, ℕ, ◌+◌, ◌≤◌, List, [], ◌∷◌, ◌++◌, flat_map, refl, sym, ap, ◌∙◌, subst, arith}
+use Rattle.std.proofs.Common.{◌≡◌, ℕ, ◌+◌, ◌≤◌, List, [], ◌∷◌, flat_map, refl, sym, ap, ◌∙◌, subst, arith}
 use Rattle.flow_model.specs.declared.labels.Note.{Note}
 use Rattle.flow_model.specs.declared.labels.Note.TheVariants.{Done, Fail, FailFirst}
 use Rattle.flow_model.specs.Lists.{Each}
 use Rattle.flow_facts.specs.declared.constant.Const.{Const}
 use Rattle.flow_facts.specs.Atom.{Atom}
-use Rattle.flow_form.specs.Form.{Shape, IsGrouped}
+use Rattle.flow_form.specs.Form.{IsGrouped}
 use Rattle.flow_form.specs.RuleForm.{RuleShape, IsGroupedRule}
 use Rattle.flow_form.specs.Script.{Declared, fact, event, flow, Said}
 use Rattle.flow_form.specs.Names.{flow_goal}
 use Rattle.flow_grammar.specs.Symbol.{Placed, at, symbols, fact_word, event_word, flow_word, goal_word, constraint_word, a_name, equals, semicolon}
-use Rattle.flow_grammar.specs.Grammar.{FactText, NoteText, silent_text, fail_text, fail_first_text, spell_note, mean_note, done_text, NotedText, noted_text, DeclText, facts_text, events_text, flow_text, spell_facts, mean_facts, spell_events, mean_events, spell_decl, mean_decl, spell_goal, mean_goal, RuleText, mean_rule, ScriptText, script_text, spell_decls, mean_decls, spell_constraints, mean_constraints, spell_script, mean_script}
+use Rattle.flow_grammar.specs.Grammar.{FactText, NoteText, silent_text, fail_text, fail_first_text, spell_note, mean_note, done_text, NotedText, noted_text, DeclText, facts_text, events_text, flow_text, spell_facts, spell_events, spell_decl, mean_decl, spell_goal, mean_goal, RuleText, mean_rule, ScriptText, script_text, spell_decls, mean_decls, spell_constraints, mean_constraints, spell_script, mean_script}
 use Rattle.flow_grammar.specs.Machine.{deepest, step_script, finish_script, wanted_script, depth_script, script_start}
 use Rattle.flow_grammar.specs.Texts.{IsShallow, Derives, SpellsScript}
 use Rattle.flow_grammar.specs.Made.{IsWellMade}
@@ -18,9 +18,10 @@ use Rattle.flow_grammar.specs.Print.{print_goal, print_rule, print_note, print_d
 use Rattle.flow_grammar.specs.PrintLaws.{PrintSaysIt, PrintIsNoDeeper, PrintIsReadBack}
 use Rattle.flow_grammar.proofs.Runs.{derived, given}
 use Rattle.flow_grammar.proofs.ScriptStates.{Rest, script_knows}
-use Rattle.flow_grammar.proofs.MadeTexts.{scripts_are_well_made}
+use Rattle.flow_grammar.proofs.MadeTexts.{scripts_are_well_made, goals_append, facts_goals, events_goals}
 use Rattle.flow_grammar.proofs.PrintedGoals.{fact_of, fact_means, fact_prints, fact_shallow, after_fact, canon, canon_means, canon_spells, canon_flat, goal_within}
 use Rattle.flow_grammar.proofs.PrintedRules as rules
+use Rattle.flow_model.proofs.Lists.{each-append, each_parts}
 
 note_of : Note → NoteText
 note_of Done = silent_text
@@ -75,22 +76,10 @@ constraints_mean [] h = refl
 constraints_mean (x ∷ xs) (h, more) =
     ap (λ y. y ∷ mean_constraints (constraints_of xs)) (rules.canon_means x h).as_rule ∙ ap (λ y. x ∷ y) (constraints_mean xs more)
 
-each_left : {A : Type 0} (P : A → Type 0) (xs ys : List A) → Each P (xs ++ ys) → Each P xs
-each_left P [] ys h = tt
-each_left P (x ∷ xs) ys (h, more) = (h, each_left P xs ys more)
-
-each_right : {A : Type 0} (P : A → Type 0) (xs ys : List A) → Each P (xs ++ ys) → Each P ys
-each_right P [] ys h = h
-each_right P (x ∷ xs) ys (h, more) = each_right P xs ys more
-
-each_append : {A : Type 0} (P : A → Type 0) (xs ys : List A) → Each P xs → Each P ys → Each P (xs ++ ys)
-each_append P [] ys h k = k
-each_append P (x ∷ xs) ys (h, more) k = (h, each_append P xs ys more k)
-
 text_means : (s : Said) → IsWellMade s → mean_script (text_of s) ≡ s
 text_means s (h, k) = λ i. record {
-  decls = decls_mean s.decls (each_left IsGrouped (flat_map flow_goal s.decls) (s.goal ∷ []) h) i;
-  goal = (canon_means s.goal (each_right IsGrouped (flat_map flow_goal s.decls) (s.goal ∷ []) h).0).as_goal i;
+  decls = decls_mean s.decls (each_parts IsGrouped (flat_map flow_goal s.decls) (s.goal ∷ []) h).0 i;
+  goal = (canon_means s.goal (each_parts IsGrouped (flat_map flow_goal s.decls) (s.goal ∷ []) h).1.0).as_goal i;
   rules = constraints_mean s.rules k i;
 }
 
@@ -117,10 +106,10 @@ constraints_print (x ∷ xs) (h, more) =
 
 text_prints : (s : Said) → IsWellMade s → symbols (spell_script (text_of s)) ≡ print_script s
 text_prints s (h, k) =
-    decls_print s.decls (each_left IsGrouped (flat_map flow_goal s.decls) (s.goal ∷ []) h)
+    decls_print s.decls (each_parts IsGrouped (flat_map flow_goal s.decls) (s.goal ∷ []) h).0
     (at 0 goal_word ∷ spell_goal 0 (canon s.goal).as_goal (at 0 semicolon ∷ spell_constraints (constraints_of s.rules))) ∙
     (ap (λ y. print_declarations s.decls (goal_word ∷ y))
-    ((canon_spells s.goal (each_right IsGrouped (flat_map flow_goal s.decls) (s.goal ∷ []) h).0).as_goal 0 (at 0 semicolon ∷ spell_constraints (constraints_of s.rules))) ∙
+    ((canon_spells s.goal (each_parts IsGrouped (flat_map flow_goal s.decls) (s.goal ∷ []) h).1.0).as_goal 0 (at 0 semicolon ∷ spell_constraints (constraints_of s.rules))) ∙
     ap (λ y. print_declarations s.decls (goal_word ∷ print_goal s.goal (semicolon ∷ y))) (constraints_print s.rules k))
 
 -- It is shallow
@@ -164,11 +153,11 @@ constraints_shallow (x ∷ xs) (h, more) (l, less) = (
 
 text_shallow : (s : Said) → IsWellMade s → IsWithin s → IsShallow (spell_script (text_of s))
 text_shallow s (h, k) (l, m) =
-    decls_shallow s.decls (each_left IsGrouped (flat_map flow_goal s.decls) (s.goal ∷ []) h) (each_left (λ g. nesting g ≤ deepest) (flat_map flow_goal s.decls) (s.goal ∷ []) l)
+    decls_shallow s.decls (each_parts IsGrouped (flat_map flow_goal s.decls) (s.goal ∷ []) h).0 (each_parts (λ g. nesting g ≤ deepest) (flat_map flow_goal s.decls) (s.goal ∷ []) l).0
     (at 0 goal_word ∷ spell_goal 0 (canon s.goal).as_goal (at 0 semicolon ∷ spell_constraints (constraints_of s.rules))) (
       λ j. absurd j,
-      (canon_flat s.goal (each_right IsGrouped (flat_map flow_goal s.decls) (s.goal ∷ []) h).0).as_goal 0 (at 0 semicolon ∷ spell_constraints (constraints_of s.rules))
-          (from_zero (nesting s.goal) (each_right (λ g. nesting g ≤ deepest) (flat_map flow_goal s.decls) (s.goal ∷ []) l).0)
+      (canon_flat s.goal (each_parts IsGrouped (flat_map flow_goal s.decls) (s.goal ∷ []) h).1.0).as_goal 0 (at 0 semicolon ∷ spell_constraints (constraints_of s.rules))
+          (from_zero (nesting s.goal) (each_parts (λ g. nesting g ≤ deepest) (flat_map flow_goal s.decls) (s.goal ∷ []) l).1.0)
           (λ j. absurd j, constraints_shallow s.rules k m),
     )
 
@@ -176,20 +165,6 @@ pub print_says_it : PrintSaysIt
 print_says_it s h l = (spell_script (text_of s), text_prints s h, text_shallow s h l, (text_of s, refl, text_means s h))
 
 -- No text that says it is less deep
-
-facts_goals : (P : Shape → Type 0) (fs : List FactText) → Each P (flat_map flow_goal (mean_facts fs))
-facts_goals P [] = tt
-facts_goals P (f ∷ fs) = facts_goals P fs
-
-events_goals : (P : Shape → Type 0) (es : List NotedText) → Each P (flat_map flow_goal (mean_events es))
-events_goals P [] = tt
-events_goals P (noted_text n note ∷ es) = events_goals P es
-
-goals_append : (P : Shape → Type 0) (ds es : List Declared) → Each P (flat_map flow_goal ds) → Each P (flat_map flow_goal es) → Each P (flat_map flow_goal (ds ++ es))
-goals_append P [] es h k = k
-goals_append P (fact a ∷ ds) es h k = goals_append P ds es h k
-goals_append P (event n note ∷ ds) es h k = goals_append P ds es h k
-goals_append P (flow n s ∷ ds) es (h, more) k = (h, goals_append P ds es more k)
 
 after_facts : (fs : List FactText) (r : List Placed) → IsShallow (spell_facts fs r) → IsShallow r
 after_facts [] r h = h
@@ -236,7 +211,7 @@ script_within : (d : ScriptText) → IsShallow (spell_script d) → IsWithin (me
 script_within (script_text ds g cs) h =
     let (xs, k) = decls_within ds (at 0 goal_word ∷ spell_goal 0 g (at 0 semicolon ∷ spell_constraints cs)) h in
     let (x, j) = goal_within g 0 (at 0 semicolon ∷ spell_constraints cs) (omega arith) k.1 in
-    (each_append (λ y. nesting y ≤ deepest) (flat_map flow_goal (mean_decls ds)) (mean_goal g ∷ []) xs (to_zero (nesting (mean_goal g)) x, tt), constraints_within cs j.1)
+    (each-append (λ y. nesting y ≤ deepest) (flat_map flow_goal (mean_decls ds)) (mean_goal g ∷ []) xs (to_zero (nesting (mean_goal g)) x, tt), constraints_within cs j.1)
 
 pub print_is_no_deeper : PrintIsNoDeeper
 print_is_no_deeper ts s (w, e, sh, (d, ew, es)) = subst IsWithin es (script_within d (subst IsShallow (sym ew) sh))

@@ -5,6 +5,7 @@ use Rattle.flow_grammar.specs.Symbol.{Symbol, Placed, at, symbols, Deepens, open
 use Rattle.flow_grammar.specs.Machine.{Reading, gives, expected, too_deep, later, deepest, is_too_deep, at_end, go_on, run, Wanted, standing}
 use Rattle.flow_grammar.specs.Laws.{StandsFor, MayEnd}
 use Rattle.flow_grammar.specs.Texts.{IsShallow, IsDeepAt, Derives, IsWhole, IsViable, StandsDeep, IsStuckAt, NoneDeepBefore}
+use Rattle.std.proofs.lemmas.Bool.{false_from_ne_true}
 
 pub uncons : (w : List Placed) (t : Symbol) (ts : List Symbol) → symbols w ≡ t ∷ ts →
     (n : ℕ) × (v : List Placed) × (w ≡ at n t ∷ v) × (symbols v ≡ ts)
@@ -25,10 +26,6 @@ deep_of : (t : Symbol) (d : ℕ) → is_too_deep t d ≡ true → Deepens t × (
 deep_of opening d e = (tt, leb-true deepest d e)
 deep_of not_word d e = (tt, leb-true deepest d e)
 deep_of _ d e = cc
-
-no_depth : (b : Bool) → ¬ (b ≡ true) → b ≡ false
-no_depth true h = absurd (h refl)
-no_depth false h = refl
 
 -- What one step of a run makes
 
@@ -232,7 +229,7 @@ module _ {S V : Type 0} (step : S → Symbol → Option S) (finish : S → Optio
       (at n t ∷ w, ap (λ y. t ∷ y) ew, (λ h. subst (λ y. y < deepest) (sym (d h)) (not_deep t (depth s) eb h), sh), r')
 
   not_too_deep : (s : S) (t : Symbol) (n : ℕ) → (Deepens t → n < deepest) → (Deepens t → n ≡ depth s) → is_too_deep t (depth s) ≡ false
-  not_too_deep s t n sh d = no_depth (is_too_deep t (depth s)) λ e.
+  not_too_deep s t n sh d = false_from_ne_true (is_too_deep t (depth s)) λ e.
       let (dt, l) = deep_of t (depth s) e in
       let below : n < deepest = sh dt in
       let same : n ≡ depth s = d dt in
@@ -298,7 +295,7 @@ module _ {S V : Type 0} (step : S → Symbol → Option S) (finish : S → Optio
         let (kind, er) = stuck_there ts next i (down next e (v, more)) (below next e h) in (
           kind,
           go_later (step s t) (is_too_deep t (depth s)) (wanted s) (λ y. reads y ts) next (expected kind i) e
-              (no_depth (is_too_deep t (depth s)) (λ b. h zero (omega arith) (deep_there s next t ts e b))) er,
+              (false_from_ne_true (is_too_deep t (depth s)) (λ b. h zero (omega arith) (deep_there s next t ts e b))) er,
         )
   ]
     where
@@ -346,7 +343,7 @@ module _ {S V : Type 0} (step : S → Symbol → Option S) (finish : S → Optio
           go_too_deep (step s t) (is_too_deep t (depth s)) (wanted s) (λ y. reads y ts) next es (deep_here s t ts d)
       deeper next es (suc j) d h' rec =
           go_later (step s t) (is_too_deep t (depth s)) (wanted s) (λ y. reads y ts) next (too_deep j) es
-          (no_depth (is_too_deep t (depth s)) (λ b. h' zero (omega arith) (deep_there s next t ts es b)))
+          (false_from_ne_true (is_too_deep t (depth s)) (λ b. h' zero (omega arith) (deep_there s next t ts es b)))
           (rec j (deep_down s next t ts j es d) (λ i' l dp'. h' (suc i') (omega arith) (deep_up s next t ts i' es dp')))
 
   -- one meaning

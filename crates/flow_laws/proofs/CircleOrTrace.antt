@@ -7,12 +7,13 @@ use Rattle.flow_model.specs.Circle.{items_of, least_of, IsCircle}
 use Rattle.flow_laws.specs.Words.{IsOrdered}
 use Rattle.flow_laws.specs.ReadyRuns.{ReadyRunsExtend}
 use Rattle.flow_laws.specs.Circles.{TraceOrCircle}
-use Rattle.flow_laws.proofs.ListLemmas1.{mem_left, mem_right, mem_with, split_at, each_of}
+use Rattle.flow_laws.proofs.ListLemmas1.{mem_with, split_at}
 use Rattle.flow_laws.proofs.ReadyOrders.{trace_of_ordering}
 use Rattle.flow_laws.proofs.ReadyRuns.{run_grow, arrangement_of, complete_arranged}
 use Rattle.flow_laws.proofs.CircleExcludes.{circle_excludes}
 use Rattle.flow_laws.proofs.CircleRing.{ring_among, ring_from_least}
 use Rattle.flow_laws.proofs.CircleSearch.{some_or_all, IsUnfinished, IsTangle, goes_on}
+use Rattle.flow_laws.proofs.ListLemmas2.{mem_append_left, mem_append_right, each_from_members}
 
 -- items that wait for each other hold a circle
 pub circle_of_tangle : (q : Process) (pairs : List (ℕ × ℕ)) (run : List ℕ) (part : Process) → IsTangle q pairs run part → (circle : List ℕ) × IsCircle q pairs circle
@@ -24,7 +25,7 @@ circle_of_tangle q pairs run part h =
         part = part;
         is_part = h.is_part;
         ring = turned.0;
-        items = each_of (λ item. item ∈ items_of part) turned.0 turned.1.members;
+        items = each_from_members (λ item. item ∈ items_of part) turned.0 turned.1.members;
         distinct = turned.1.distinct;
         two = turned.1.two;
         closed = turned.1.closed;
@@ -55,8 +56,8 @@ module _ (q : Process) (pairs : List (ℕ × ℕ)) (w : IsOrdered q pairs) where
       next n r (front, back, e) =
           let shorter : suc (length (front ++ back)) ≡ length left = omega (arith, ap length e, length-append front (n ∷ back), length-append front back) in
           let still = λ (x : ℕ) (k : x ∈ leaves q). ⊎_elim {C = (x ∈ (front ++ back)) ⊎ (x ∈ (run ++ n ∷ []))}
-          (λ l. ⊎_elim (λ f. inr (mem_right x run (n ∷ []) (inl f))) inl (mem_with x n front back (subst (λ z. x ∈ z) e l)))
-          (λ l. inr (mem_left x run (n ∷ []) l))
+          (λ l. ⊎_elim (λ f. inr (mem_append_right x run (n ∷ []) (inl f))) inl (mem_with x n front back (subst (λ z. x ∈ z) e l)))
+          (λ l. inr (mem_append_left x run (n ∷ []) l))
           (all x k) in
           ⊎_elim
           (λ c. inl (c.0, c.1, (n ∷ c.2.0, c.2.1 ∙ append_assoc run (n ∷ []) c.2.0)))

@@ -4,8 +4,9 @@ use Rattle.flow_model.specs.Lists.{◌∈◌, AreDistinct, joined}
 use Rattle.flow_model.specs.Process.{Process, Empty, Task, Sequence, Parallel, Choice, Isolated, leaves}
 use Rattle.flow_model.specs.Ready.{isolated_parts}
 use Rattle.flow_model.specs.Circle.{item_of, items_of}
-use Rattle.flow_laws.proofs.ListLemmas1.{mem_left, mem_right, mem_append, distinct_left, distinct_right, distinct_apart, joined_append, mem_joined, list_having, joined_apart}
+use Rattle.flow_laws.proofs.ListLemmas1.{distinct_left, distinct_right, distinct_apart, mem_joined, list_having, joined_apart}
 use Rattle.flow_laws.proofs.ReadyRemains.{part_within}
+use Rattle.flow_laws.proofs.ListLemmas2.{mem_append_left, mem_append_right, mem-append, joined-append}
 
 -- the whole goal, and the bodies of its isolated parts
 abbrev pub regions : Process → List Process
@@ -23,17 +24,17 @@ pub part_of_part : (q part inner : Process) → part ∈ isolated_parts q → in
 part_of_part Empty part inner m k = absurd m
 part_of_part (Task n) part inner m k = absurd m
 part_of_part (Sequence a b) part inner m k = ⊎_elim
-    (λ l. mem_left inner (isolated_parts a) (isolated_parts b) (part_of_part a part inner l k))
-    (λ l. mem_right inner (isolated_parts a) (isolated_parts b) (part_of_part b part inner l k))
-    (mem_append part (isolated_parts a) (isolated_parts b) m)
+    (λ l. mem_append_left inner (isolated_parts a) (isolated_parts b) (part_of_part a part inner l k))
+    (λ l. mem_append_right inner (isolated_parts a) (isolated_parts b) (part_of_part b part inner l k))
+    (mem-append part (isolated_parts a) (isolated_parts b) m)
 part_of_part (Parallel a b) part inner m k = ⊎_elim
-    (λ l. mem_left inner (isolated_parts a) (isolated_parts b) (part_of_part a part inner l k))
-    (λ l. mem_right inner (isolated_parts a) (isolated_parts b) (part_of_part b part inner l k))
-    (mem_append part (isolated_parts a) (isolated_parts b) m)
+    (λ l. mem_append_left inner (isolated_parts a) (isolated_parts b) (part_of_part a part inner l k))
+    (λ l. mem_append_right inner (isolated_parts a) (isolated_parts b) (part_of_part b part inner l k))
+    (mem-append part (isolated_parts a) (isolated_parts b) m)
 part_of_part (Choice a b) part inner m k = ⊎_elim
-    (λ l. mem_left inner (isolated_parts a) (isolated_parts b) (part_of_part a part inner l k))
-    (λ l. mem_right inner (isolated_parts a) (isolated_parts b) (part_of_part b part inner l k))
-    (mem_append part (isolated_parts a) (isolated_parts b) m)
+    (λ l. mem_append_left inner (isolated_parts a) (isolated_parts b) (part_of_part a part inner l k))
+    (λ l. mem_append_right inner (isolated_parts a) (isolated_parts b) (part_of_part b part inner l k))
+    (mem-append part (isolated_parts a) (isolated_parts b) m)
 part_of_part (Isolated a) part inner (inl e) k = inr (subst (λ p. inner ∈ isolated_parts p) e k)
 part_of_part (Isolated a) part inner (inr m) k = inr (part_of_part a part inner m k)
 
@@ -47,13 +48,13 @@ part_distinct Empty part d m = absurd m
 part_distinct (Task n) part d m = absurd m
 part_distinct (Sequence a b) part d m = ⊎_elim
     (part_distinct a part (distinct_left (leaves a) (leaves b) d)) (part_distinct b part (distinct_right (leaves a) (leaves b) d))
-    (mem_append part (isolated_parts a) (isolated_parts b) m)
+    (mem-append part (isolated_parts a) (isolated_parts b) m)
 part_distinct (Parallel a b) part d m = ⊎_elim
     (part_distinct a part (distinct_left (leaves a) (leaves b) d)) (part_distinct b part (distinct_right (leaves a) (leaves b) d))
-    (mem_append part (isolated_parts a) (isolated_parts b) m)
+    (mem-append part (isolated_parts a) (isolated_parts b) m)
 part_distinct (Choice a b) part d m = ⊎_elim
     (part_distinct a part (distinct_left (leaves a) (leaves b) d)) (part_distinct b part (distinct_right (leaves a) (leaves b) d))
-    (mem_append part (isolated_parts a) (isolated_parts b) m)
+    (mem-append part (isolated_parts a) (isolated_parts b) m)
 part_distinct (Isolated a) part d (inl e) = subst (λ p. AreDistinct (leaves p)) (sym e) d
 part_distinct (Isolated a) part d (inr m) = part_distinct a part d m
 
@@ -74,32 +75,32 @@ nested (Sequence a b) one two n d m l h k = ⊎_elim
     (λ m'. ⊎_elim
     (λ l'. nested a one two n (distinct_left (leaves a) (leaves b) d) m' l' h k)
     (λ l'. absurd (sides_apart a b one two n d m' l' h k))
-    (mem_append two (isolated_parts a) (isolated_parts b) l))
+    (mem-append two (isolated_parts a) (isolated_parts b) l))
     (λ m'. ⊎_elim
     (λ l'. absurd (sides_apart a b two one n d l' m' k h))
     (λ l'. nested b one two n (distinct_right (leaves a) (leaves b) d) m' l' h k)
-    (mem_append two (isolated_parts a) (isolated_parts b) l))
-    (mem_append one (isolated_parts a) (isolated_parts b) m)
+    (mem-append two (isolated_parts a) (isolated_parts b) l))
+    (mem-append one (isolated_parts a) (isolated_parts b) m)
 nested (Parallel a b) one two n d m l h k = ⊎_elim
     (λ m'. ⊎_elim
     (λ l'. nested a one two n (distinct_left (leaves a) (leaves b) d) m' l' h k)
     (λ l'. absurd (sides_apart a b one two n d m' l' h k))
-    (mem_append two (isolated_parts a) (isolated_parts b) l))
+    (mem-append two (isolated_parts a) (isolated_parts b) l))
     (λ m'. ⊎_elim
     (λ l'. absurd (sides_apart a b two one n d l' m' k h))
     (λ l'. nested b one two n (distinct_right (leaves a) (leaves b) d) m' l' h k)
-    (mem_append two (isolated_parts a) (isolated_parts b) l))
-    (mem_append one (isolated_parts a) (isolated_parts b) m)
+    (mem-append two (isolated_parts a) (isolated_parts b) l))
+    (mem-append one (isolated_parts a) (isolated_parts b) m)
 nested (Choice a b) one two n d m l h k = ⊎_elim
     (λ m'. ⊎_elim
     (λ l'. nested a one two n (distinct_left (leaves a) (leaves b) d) m' l' h k)
     (λ l'. absurd (sides_apart a b one two n d m' l' h k))
-    (mem_append two (isolated_parts a) (isolated_parts b) l))
+    (mem-append two (isolated_parts a) (isolated_parts b) l))
     (λ m'. ⊎_elim
     (λ l'. absurd (sides_apart a b two one n d l' m' k h))
     (λ l'. nested b one two n (distinct_right (leaves a) (leaves b) d) m' l' h k)
-    (mem_append two (isolated_parts a) (isolated_parts b) l))
-    (mem_append one (isolated_parts a) (isolated_parts b) m)
+    (mem-append two (isolated_parts a) (isolated_parts b) l))
+    (mem-append one (isolated_parts a) (isolated_parts b) m)
 nested (Isolated a) one two n d (inl e) (inl f) h k = inl (inl (e ∙ sym f))
 nested (Isolated a) one two n d (inl e) (inr l) h k = inr (inr (subst (λ p. two ∈ isolated_parts p) (sym e) l))
 nested (Isolated a) one two n d (inr m) (inl f) h k = inl (inr (subst (λ p. one ∈ isolated_parts p) (sym f) m))
@@ -118,11 +119,11 @@ pub part_smaller : (q part : Process) → part ∈ isolated_parts q → goal_siz
 part_smaller Empty part m = absurd m
 part_smaller (Task n) part m = absurd m
 part_smaller (Sequence a b) part m = ⊎_elim
-    (λ k. omega (arith, part_smaller a part k)) (λ k. omega (arith, part_smaller b part k)) (mem_append part (isolated_parts a) (isolated_parts b) m)
+    (λ k. omega (arith, part_smaller a part k)) (λ k. omega (arith, part_smaller b part k)) (mem-append part (isolated_parts a) (isolated_parts b) m)
 part_smaller (Parallel a b) part m = ⊎_elim
-    (λ k. omega (arith, part_smaller a part k)) (λ k. omega (arith, part_smaller b part k)) (mem_append part (isolated_parts a) (isolated_parts b) m)
+    (λ k. omega (arith, part_smaller a part k)) (λ k. omega (arith, part_smaller b part k)) (mem-append part (isolated_parts a) (isolated_parts b) m)
 part_smaller (Choice a b) part m = ⊎_elim
-    (λ k. omega (arith, part_smaller a part k)) (λ k. omega (arith, part_smaller b part k)) (mem_append part (isolated_parts a) (isolated_parts b) m)
+    (λ k. omega (arith, part_smaller a part k)) (λ k. omega (arith, part_smaller b part k)) (mem-append part (isolated_parts a) (isolated_parts b) m)
 part_smaller (Isolated a) part (inl e) = let s : goal_size part ≡ goal_size a = ap goal_size e in omega arith
 part_smaller (Isolated a) part (inr m) = omega (arith, part_smaller a part m)
 
@@ -140,17 +141,17 @@ item_kind Empty item m = absurd m
 item_kind (Task n) item (inl e) = inl (n, e)
 item_kind (Task n) item (inr m) = absurd m
 item_kind (Sequence a b) item m = ⊎_elim
-    (λ k. ⊎_elim inl (λ r. inr (r.0, mem_left r.0 (isolated_parts a) (isolated_parts b) r.1, r.2)) (item_kind a item k))
-    (λ k. ⊎_elim inl (λ r. inr (r.0, mem_right r.0 (isolated_parts a) (isolated_parts b) r.1, r.2)) (item_kind b item k))
-    (mem_append item (items_of a) (items_of b) m)
+    (λ k. ⊎_elim inl (λ r. inr (r.0, mem_append_left r.0 (isolated_parts a) (isolated_parts b) r.1, r.2)) (item_kind a item k))
+    (λ k. ⊎_elim inl (λ r. inr (r.0, mem_append_right r.0 (isolated_parts a) (isolated_parts b) r.1, r.2)) (item_kind b item k))
+    (mem-append item (items_of a) (items_of b) m)
 item_kind (Parallel a b) item m = ⊎_elim
-    (λ k. ⊎_elim inl (λ r. inr (r.0, mem_left r.0 (isolated_parts a) (isolated_parts b) r.1, r.2)) (item_kind a item k))
-    (λ k. ⊎_elim inl (λ r. inr (r.0, mem_right r.0 (isolated_parts a) (isolated_parts b) r.1, r.2)) (item_kind b item k))
-    (mem_append item (items_of a) (items_of b) m)
+    (λ k. ⊎_elim inl (λ r. inr (r.0, mem_append_left r.0 (isolated_parts a) (isolated_parts b) r.1, r.2)) (item_kind a item k))
+    (λ k. ⊎_elim inl (λ r. inr (r.0, mem_append_right r.0 (isolated_parts a) (isolated_parts b) r.1, r.2)) (item_kind b item k))
+    (mem-append item (items_of a) (items_of b) m)
 item_kind (Choice a b) item m = ⊎_elim
-    (λ k. ⊎_elim inl (λ r. inr (r.0, mem_left r.0 (isolated_parts a) (isolated_parts b) r.1, r.2)) (item_kind a item k))
-    (λ k. ⊎_elim inl (λ r. inr (r.0, mem_right r.0 (isolated_parts a) (isolated_parts b) r.1, r.2)) (item_kind b item k))
-    (mem_append item (items_of a) (items_of b) m)
+    (λ k. ⊎_elim inl (λ r. inr (r.0, mem_append_left r.0 (isolated_parts a) (isolated_parts b) r.1, r.2)) (item_kind a item k))
+    (λ k. ⊎_elim inl (λ r. inr (r.0, mem_append_right r.0 (isolated_parts a) (isolated_parts b) r.1, r.2)) (item_kind b item k))
+    (mem-append item (items_of a) (items_of b) m)
 item_kind (Isolated a) item m = inr (a, inl refl, item_of_is item (leaves a) m)
 
 item_of_has : (item list : List ℕ) → item ∈ item_of list → (x : ℕ) × (x ∈ item)
@@ -163,9 +164,9 @@ pub item_has : (g : Process) (item : List ℕ) → item ∈ items_of g → (x : 
 item_has Empty item m = absurd m
 item_has (Task n) item (inl e) = (n, subst (λ l. n ∈ l) (sym e) (inl refl))
 item_has (Task n) item (inr m) = absurd m
-item_has (Sequence a b) item m = ⊎_elim (item_has a item) (item_has b item) (mem_append item (items_of a) (items_of b) m)
-item_has (Parallel a b) item m = ⊎_elim (item_has a item) (item_has b item) (mem_append item (items_of a) (items_of b) m)
-item_has (Choice a b) item m = ⊎_elim (item_has a item) (item_has b item) (mem_append item (items_of a) (items_of b) m)
+item_has (Sequence a b) item m = ⊎_elim (item_has a item) (item_has b item) (mem-append item (items_of a) (items_of b) m)
+item_has (Parallel a b) item m = ⊎_elim (item_has a item) (item_has b item) (mem-append item (items_of a) (items_of b) m)
+item_has (Choice a b) item m = ⊎_elim (item_has a item) (item_has b item) (mem-append item (items_of a) (items_of b) m)
 item_has (Isolated a) item m = item_of_has item (leaves a) m
 
 joined_item : (list : List ℕ) → joined (item_of list) ≡ list
@@ -175,9 +176,9 @@ joined_item (n ∷ ns) = append-nil (n ∷ ns)
 pub joined_items : (g : Process) → joined (items_of g) ≡ leaves g
 joined_items Empty = refl
 joined_items (Task n) = refl
-joined_items (Sequence a b) = joined_append (items_of a) (items_of b) ∙ ap₂ (λ x y. x ++ y) (joined_items a) (joined_items b)
-joined_items (Parallel a b) = joined_append (items_of a) (items_of b) ∙ ap₂ (λ x y. x ++ y) (joined_items a) (joined_items b)
-joined_items (Choice a b) = joined_append (items_of a) (items_of b) ∙ ap₂ (λ x y. x ++ y) (joined_items a) (joined_items b)
+joined_items (Sequence a b) = joined-append (items_of a) (items_of b) ∙ ap₂ (λ x y. x ++ y) (joined_items a) (joined_items b)
+joined_items (Parallel a b) = joined-append (items_of a) (items_of b) ∙ ap₂ (λ x y. x ++ y) (joined_items a) (joined_items b)
+joined_items (Choice a b) = joined-append (items_of a) (items_of b) ∙ ap₂ (λ x y. x ++ y) (joined_items a) (joined_items b)
 joined_items (Isolated a) = joined_item (leaves a)
 
 pub item_within : (g : Process) (item : List ℕ) (x : ℕ) → item ∈ items_of g → x ∈ item → x ∈ leaves g
@@ -200,32 +201,32 @@ part_in_item (Sequence a b) part item n d m h l k y p = ⊎_elim
     (λ m'. ⊎_elim
     (λ l'. part_in_item a part item n (distinct_left (leaves a) (leaves b) d) m' h l' k y p)
     (λ l'. absurd (distinct_apart (leaves a) (leaves b) d n (part_within a part n m' h) (item_within b item n l' k)))
-    (mem_append item (items_of a) (items_of b) l))
+    (mem-append item (items_of a) (items_of b) l))
     (λ m'. ⊎_elim
     (λ l'. absurd (distinct_apart (leaves a) (leaves b) d n (item_within a item n l' k) (part_within b part n m' h)))
     (λ l'. part_in_item b part item n (distinct_right (leaves a) (leaves b) d) m' h l' k y p)
-    (mem_append item (items_of a) (items_of b) l))
-    (mem_append part (isolated_parts a) (isolated_parts b) m)
+    (mem-append item (items_of a) (items_of b) l))
+    (mem-append part (isolated_parts a) (isolated_parts b) m)
 part_in_item (Parallel a b) part item n d m h l k y p = ⊎_elim
     (λ m'. ⊎_elim
     (λ l'. part_in_item a part item n (distinct_left (leaves a) (leaves b) d) m' h l' k y p)
     (λ l'. absurd (distinct_apart (leaves a) (leaves b) d n (part_within a part n m' h) (item_within b item n l' k)))
-    (mem_append item (items_of a) (items_of b) l))
+    (mem-append item (items_of a) (items_of b) l))
     (λ m'. ⊎_elim
     (λ l'. absurd (distinct_apart (leaves a) (leaves b) d n (item_within a item n l' k) (part_within b part n m' h)))
     (λ l'. part_in_item b part item n (distinct_right (leaves a) (leaves b) d) m' h l' k y p)
-    (mem_append item (items_of a) (items_of b) l))
-    (mem_append part (isolated_parts a) (isolated_parts b) m)
+    (mem-append item (items_of a) (items_of b) l))
+    (mem-append part (isolated_parts a) (isolated_parts b) m)
 part_in_item (Choice a b) part item n d m h l k y p = ⊎_elim
     (λ m'. ⊎_elim
     (λ l'. part_in_item a part item n (distinct_left (leaves a) (leaves b) d) m' h l' k y p)
     (λ l'. absurd (distinct_apart (leaves a) (leaves b) d n (part_within a part n m' h) (item_within b item n l' k)))
-    (mem_append item (items_of a) (items_of b) l))
+    (mem-append item (items_of a) (items_of b) l))
     (λ m'. ⊎_elim
     (λ l'. absurd (distinct_apart (leaves a) (leaves b) d n (item_within a item n l' k) (part_within b part n m' h)))
     (λ l'. part_in_item b part item n (distinct_right (leaves a) (leaves b) d) m' h l' k y p)
-    (mem_append item (items_of a) (items_of b) l))
-    (mem_append part (isolated_parts a) (isolated_parts b) m)
+    (mem-append item (items_of a) (items_of b) l))
+    (mem-append part (isolated_parts a) (isolated_parts b) m)
 part_in_item (Isolated a) part item n d m h l k y p =
     subst (λ z. y ∈ z) (sym (item_of_is item (leaves a) l)) (part_within (Isolated a) part y m p)
 

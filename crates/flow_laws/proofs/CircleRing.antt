@@ -4,7 +4,8 @@ use Rattle.std.proofs.lemmas.Bool.{cases_lt}
 use Rattle.flow_model.specs.Lists.{◌∈◌, Each, AreDistinct}
 use Rattle.flow_model.specs.Process.{Process}
 use Rattle.flow_model.specs.Circle.{ItemBefore, LeadsBackTo, IsRing, least_of, BeginsWithLeast}
-use Rattle.flow_laws.proofs.ListLemmas1.{decide_mem, decide_list_eq, mem_left, mem_right, mem_append, mem_here, mem_with, mem_without, split_at, distinct_left, distinct_right, distinct_apart, distinct_append, not_elsewhere}
+use Rattle.flow_laws.proofs.ListLemmas1.{decide_mem, decide_list_eq, mem_here, mem_with, mem_without, split_at, distinct_left, distinct_right, distinct_apart, distinct_append, not_elsewhere}
+use Rattle.flow_laws.proofs.ListLemmas2.{mem_append_left, mem_append_right, mem-append}
 
 -- two or more distinct items among these, in a ring
 pub record RingAmong (q : Process) (pairs : List (ℕ × ℕ)) (items : List (List ℕ)) (ring : List (List ℕ)) : Type 0 where
@@ -59,7 +60,7 @@ module _ (q : Process) (pairs : List (ℕ × ℕ)) where
         let laid : more ≡ (s.0 ++ other ∷ []) ++ s.1 = s.2 ∙ sym (append_assoc s.0 (other ∷ []) s.1) in (
           ring,
           record {
-            members = λ i k. among i (⊎_elim inl (λ l. inr (subst (λ z. i ∈ z) (sym laid) (mem_left i (s.0 ++ other ∷ []) s.1 l))) k);
+            members = λ i k. among i (⊎_elim inl (λ l. inr (subst (λ z. i ∈ z) (sym laid) (mem_append_left i (s.0 ++ other ∷ []) s.1 l))) k);
             distinct = distinct_left ring s.1 (subst (λ z. AreDistinct (item ∷ z)) laid d);
             two = omega (arith, length-append s.0 (other ∷ []));
             closed = chain_back item item s.0 other s.1 (subst (λ z. IsChain (item ∷ z)) s.2 c) b;
@@ -117,7 +118,7 @@ each_least bound (x ∷ list) f = (f x (inl refl), each_least bound list (λ z m
 turned_distinct : {A : Type 0} (front : List A) (item : A) (back : List A) → AreDistinct (front ++ item ∷ back) → AreDistinct (item ∷ (back ++ front))
 turned_distinct front item back d =
     let alone = not_elsewhere front back item d in (
-      λ m. ⊎_elim alone.1 alone.0 (mem_append item back front m),
+      λ m. ⊎_elim alone.1 alone.0 (mem-append item back front m),
       distinct_append back front (distinct_right front (item ∷ back) d).1 (distinct_left front (item ∷ back) d)
           (λ x h k. distinct_apart front (item ∷ back) d x k (inr h)),
     )
@@ -125,7 +126,7 @@ turned_distinct front item back d =
 turned_member : {A : Type 0} (front : List A) (item : A) (back : List A) (x : A) → x ∈ (item ∷ (back ++ front)) → x ∈ (front ++ item ∷ back)
 turned_member front item back x (inl e) = subst (λ z. z ∈ (front ++ item ∷ back)) (sym e) (mem_here item front back)
 turned_member front item back x (inr m) =
-    mem_without x item front back (⊎_elim (λ k. mem_right x front back k) (λ k. mem_left x front back k) (mem_append x back front m))
+    mem_without x item front back (⊎_elim (λ k. mem_append_right x front back k) (λ k. mem_append_left x front back k) (mem-append x back front m))
 
 -- a ring that begins with the item of the least leaf
 pub ring_from_least : (q : Process) (pairs : List (ℕ × ℕ)) (items ring : List (List ℕ)) → RingAmong q pairs items ring →

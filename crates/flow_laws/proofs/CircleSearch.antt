@@ -5,10 +5,11 @@ use Rattle.flow_model.specs.Process.{Process, Empty, Task, Sequence, Parallel, C
 use Rattle.flow_model.specs.Ready.{InSequence, DirectlyBefore, isolated_parts, IsReady, IsReadyRun}
 use Rattle.flow_model.specs.Circle.{items_of, ItemBefore}
 use Rattle.flow_laws.specs.Words.{IsOrdered}
-use Rattle.flow_laws.proofs.ListLemmas1.{Decided, decide_eq, decide_in, decide_mem, decide_not, decide_both, decide_either, decide_some, find_member, first_member, last_of, mem_left, mem_append}
+use Rattle.flow_laws.proofs.ListLemmas1.{Decided, decide_eq, decide_in, decide_mem, decide_not, decide_both, decide_either, decide_some, find_member, first_member, last_of}
 use Rattle.flow_laws.proofs.ReadyRemains.{part_within}
 use Rattle.flow_laws.proofs.ReadyRuns.{direct_first, direct_other, ready_at}
 use Rattle.flow_laws.proofs.CircleParts.{regions, IsWithin, region_within, part_of_region, nested, goal_size, part_smaller, item_kind, item_has, item_within, item_having, part_or_region}
+use Rattle.flow_laws.proofs.ListLemmas2.{mem_append_left, mem-append}
 
 -- decisions
 
@@ -73,7 +74,7 @@ module _ (q : Process) (pairs : List (ℕ × ℕ)) (w : IsOrdered q pairs) (run 
       let f = first_member (λ z. z ∈ leaves part) (λ z. decide_in z (leaves part)) run x l k in
       let r = ready_at q pairs f.front f.member f.back (subst (IsReadyRun q pairs) f.there ready) in
       λ u v n i b. subst (λ z. u ∈ z) (sym f.there)
-      (mem_left u f.front (f.member ∷ f.back) (r.begins part m f.holds (λ z g h. f.none_before z h g) u v n i b))
+      (mem_append_left u f.front (f.member ∷ f.back) (r.begins part m f.holds (λ z g h. f.none_before z h g) u v n i b))
 
   -- two caught parts both have the last leaf, so that one lies in the other
   caught_nested : (one two : Process) → one ∈ isolated_parts q → two ∈ isolated_parts q → IsCaught run one → IsCaught run two → IsWithin one two ⊎ IsWithin two one
@@ -84,7 +85,7 @@ module _ (q : Process) (pairs : List (ℕ × ℕ)) (w : IsOrdered q pairs) (run 
           (nested q one two last w.distinct m l (has one m c) (has two l d))
         where
           in_front : (x : ℕ) → x ∈ run → x ≢ last → x ∈ front
-          in_front x k n = ⊎_elim (λ h. h) (⊎_elim (λ h. absurd (n h)) absurd) (mem_append x front (last ∷ []) (subst (λ z. x ∈ z) e k))
+          in_front x k n = ⊎_elim (λ h. h) (⊎_elim (λ h. absurd (n h)) absurd) (mem-append x front (last ∷ []) (subst (λ z. x ∈ z) e k))
 
           has : (part : Process) → part ∈ isolated_parts q → IsCaught run part → last ∈ leaves part
           has part i ((x, x_in, x_done), (y, y_in, y_fresh)) = ⊎_elim (λ h. h)
@@ -92,7 +93,7 @@ module _ (q : Process) (pairs : List (ℕ × ℕ)) (w : IsOrdered q pairs) (run 
               let r = ready_at q pairs front last [] (subst (IsReadyRun q pairs) e ready) in
               let x_front = in_front x x_done (λ h. no (subst (λ z. z ∈ leaves part) h x_in)) in
               let y_front = r.outside part i no x y x_in x_front y_in in
-              absurd (y_fresh (subst (λ z. y ∈ z) (sym e) (mem_left y front (last ∷ []) y_front))))
+              absurd (y_fresh (subst (λ z. y ∈ z) (sym e) (mem_append_left y front (last ∷ []) y_front))))
               (decide_in last (leaves part))
 
   -- the innermost of the caught parts, or the whole goal

@@ -1,5 +1,6 @@
 -- The current claims before and after one is answered.
 use Rattle.std.proofs.Common.{◌≡◌, ℕ, ◌+◌, ◌<◌, ◌≤◌, Bool, true, false, not, ◌&&◌, ◌==◌, nat_lt, cond, if◌then◌else◌, IsSomeAnd, List, [], ◌∷◌, ◌++◌, map, length, filter, find, refl, sym, ap, ◌∙◌, subst, inl, inr, Option, Some, None, true≢false, arith}
+pub use Rattle.std.proofs.lemmas.Bool.{and_parts}
 use Rattle.std.proofs.lemmas.Bool.{eqb-true, ltb-true}
 use Rattle.std.proofs.lemmas.Bool.Decides.{eqb_tells}
 use Rattle.std.proofs.lemmas.List.{length-map}
@@ -20,10 +21,6 @@ is_of epoch claim = not claim.answered && (claim.epoch == epoch)
 -- the claim once answered
 abbrev pub answered : Claim → Claim
 answered claim = record claim { answered = true }
-
-pub and_parts : (a b : Bool) → (a && b) ≡ true → (a ≡ true) × (b ≡ true)
-and_parts true b e = (refl, e)
-and_parts false b e = absurd (true≢false (sym e))
 
 pub and_false : (a : Bool) → (a && false) ≡ false
 and_false true = refl

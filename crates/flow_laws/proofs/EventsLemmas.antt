@@ -8,7 +8,7 @@ use Rattle.flow_model.specs.Schema.{Schema, HasUniqueEvents}
 use Rattle.flow_model.specs.Decided.{shuffle_right}
 use Rattle.flow_laws.specs.Events.{AreTogether}
 use Rattle.flow_laws.proofs.ListLemmas2.{mem_append_left, mem_append_right, mem-append, joined-append, distinct_parts, distinct-filter_map, distinct-numbers_from, same_source}
-use Rattle.flow_laws.proofs.TraceLeaves.{joined-as_one, of_shuffle, leaf_of_trace, distinct_trace}
+use Rattle.flow_laws.proofs.TraceLeaves.{joined-as_one, of_shuffle, leaf_of_blocks, distinct_trace}
 
 -- Executions that hold given leaves
 
@@ -102,9 +102,6 @@ together_differ (Isolated a) d m n h = together_differ a d m n h
 
 -- Leaves of one execution
 
-pub leaf_in : (g : Process) (bs : List (List ℕ)) → Blocks g bs → (n : ℕ) → n ∈ joined bs → n ∈ leaves g
-leaf_in g bs h n m = leaf_of_trace g (joined bs) (bs, h, refl) n m
-
 pub one_leaf : (n k : ℕ) → n ∈ (k ∷ []) → n ≡ k
 one_leaf n k (inl e) = e
 one_leaf n k (inr m) = absurd m
@@ -117,8 +114,8 @@ pub of_two_parts : (a b : Process) (x y : List (List ℕ)) → Blocks a x → Bl
     AreTogether (Parallel a b) m n ⊎ AreTogether (Parallel a b) n m
 of_two_parts a b x y hx hy in_a in_b m n (inl i) (inl j) d =
     elim (in_a m n i j d) [ inl k ↦ inl (inl (inr k)) | inr k ↦ inr (inl (inr k)) ]
-of_two_parts a b x y hx hy in_a in_b m n (inl i) (inr j) d = inl (inl (inl (leaf_in a x hx m i, leaf_in b y hy n j)))
-of_two_parts a b x y hx hy in_a in_b m n (inr i) (inl j) d = inr (inl (inl (leaf_in a x hx n j, leaf_in b y hy m i)))
+of_two_parts a b x y hx hy in_a in_b m n (inl i) (inr j) d = inl (inl (inl (leaf_of_blocks a x hx m i, leaf_of_blocks b y hy n j)))
+of_two_parts a b x y hx hy in_a in_b m n (inr i) (inl j) d = inr (inl (inl (leaf_of_blocks a x hx n j, leaf_of_blocks b y hy m i)))
 of_two_parts a b x y hx hy in_a in_b m n (inr i) (inr j) d =
     elim (in_b m n i j d) [ inl k ↦ inl (inr k) | inr k ↦ inr (inr k) ]
 

@@ -1,36 +1,23 @@
 -- Lists by their members and the places of these.
-use Rattle.std.proofs.Common.{◌≡◌, ◌≢◌, List, [], ◌∷◌, ◌++◌, ◌⊎◌, refl, sym, ap, ◌∙◌, subst, inl, inr, ⊎_elim, append_assoc}
+use Rattle.std.proofs.Common.{◌≡◌, ◌≢◌, List, [], ◌∷◌, ◌++◌, ◌⊎◌, refl, sym, ap, ◌∙◌, subst, inl, inr, ⊎_elim}
 use Rattle.flow_model.specs.Lists.{◌∈◌, Each, AreDistinct, StandsBefore, IsOrderOf, joined}
+use Rattle.flow_laws.proofs.ListLemmas2.{mem_append_left, mem_append_right, mem-append}
 pub use Rattle.flow_model.specs.Decided.{Decided, decide_eq, decide_list_eq, decide_mem, decide_in, decide_not, decide_both, decide_either, decide_some}
 
 -- members
 
-pub mem_left : {A : Type 0} (x : A) (a b : List A) → x ∈ a → x ∈ (a ++ b)
-mem_left x [] b h = absurd h
-mem_left x (y ∷ a) b (inl e) = inl e
-mem_left x (y ∷ a) b (inr h) = inr (mem_left x a b h)
-
-pub mem_right : {A : Type 0} (x : A) (a b : List A) → x ∈ b → x ∈ (a ++ b)
-mem_right x [] b h = h
-mem_right x (y ∷ a) b h = inr (mem_right x a b h)
-
-pub mem_append : {A : Type 0} (x : A) (a b : List A) → x ∈ (a ++ b) → (x ∈ a) ⊎ (x ∈ b)
-mem_append x [] b h = inr h
-mem_append x (y ∷ a) b (inl e) = inl (inl e)
-mem_append x (y ∷ a) b (inr h) = ⊎_elim (λ k. inl (inr k)) inr (mem_append x a b h)
-
 -- the member in the middle
 pub mem_here : {A : Type 0} (x : A) (a b : List A) → x ∈ (a ++ x ∷ b)
-mem_here x a b = mem_right x a (x ∷ b) (inl refl)
+mem_here x a b = mem_append_right x a (x ∷ b) (inl refl)
 
 -- a member of the list without that place is one of the whole
 pub mem_without : {A : Type 0} (x y : A) (a b : List A) → x ∈ (a ++ b) → x ∈ (a ++ y ∷ b)
-mem_without x y a b h = ⊎_elim (λ k. mem_left x a (y ∷ b) k) (λ k. mem_right x a (y ∷ b) (inr k)) (mem_append x a b h)
+mem_without x y a b h = ⊎_elim (λ k. mem_append_left x a (y ∷ b) k) (λ k. mem_append_right x a (y ∷ b) (inr k)) (mem-append x a b h)
 
 -- and a member of the whole is that one or in the rest
 pub mem_with : {A : Type 0} (x y : A) (a b : List A) → x ∈ (a ++ y ∷ b) → (x ≡ y) ⊎ (x ∈ (a ++ b))
 mem_with x y a b h =
-    ⊎_elim (λ k. inr (mem_left x a b k)) (⊎_elim inl (λ k. inr (mem_right x a b k))) (mem_append x a (y ∷ b) h)
+    ⊎_elim (λ k. inr (mem_append_left x a b k)) (⊎_elim inl (λ k. inr (mem_append_right x a b k))) (mem-append x a (y ∷ b) h)
 
 pub no_member : {A : Type 0} (x : A) (list : List A) → list ≡ [] → ¬ (x ∈ list)
 no_member x list e h = subst (λ l. x ∈ l) e h
@@ -49,10 +36,6 @@ pub each_at : {A : Type 0} (P : A → Type 0) (list : List A) (x : A) → Each P
 each_at P [] x h m = absurd m
 each_at P (y ∷ list) x h (inl e) = subst P (sym e) h.0
 each_at P (y ∷ list) x h (inr m) = each_at P list x h.1 m
-
-pub each_of : {A : Type 0} (P : A → Type 0) (list : List A) → ((x : A) → x ∈ list → P x) → Each P list
-each_of P [] f = tt
-each_of P (y ∷ list) f = (f y (inl refl), each_of P list (λ x m. f x (inr m)))
 
 -- a member with P is found, or each member lacks it
 pub find_member : {A : Type 0} (P : A → Type 0) → ((x : A) → Decided (P x)) → (list : List A) →
@@ -107,7 +90,7 @@ Apart {A} a b = (x : A) → x ∈ a → x ∈ b → ⊥
 
 pub distinct_left : {A : Type 0} (a b : List A) → AreDistinct (a ++ b) → AreDistinct a
 distinct_left [] b d = tt
-distinct_left (x ∷ a) b d = (λ h. d.0 (mem_left x a b h), distinct_left a b d.1)
+distinct_left (x ∷ a) b d = (λ h. d.0 (mem_append_left x a b h), distinct_left a b d.1)
 
 pub distinct_right : {A : Type 0} (a b : List A) → AreDistinct (a ++ b) → AreDistinct b
 distinct_right [] b d = d
@@ -115,13 +98,13 @@ distinct_right (x ∷ a) b d = distinct_right a b d.1
 
 pub distinct_apart : {A : Type 0} (a b : List A) → AreDistinct (a ++ b) → Apart a b
 distinct_apart [] b d x h k = h
-distinct_apart (y ∷ a) b d x (inl e) k = d.0 (mem_right y a b (subst (λ z. z ∈ b) e k))
+distinct_apart (y ∷ a) b d x (inl e) k = d.0 (mem_append_right y a b (subst (λ z. z ∈ b) e k))
 distinct_apart (y ∷ a) b d x (inr h) k = distinct_apart a b d.1 x h k
 
 pub distinct_append : {A : Type 0} (a b : List A) → AreDistinct a → AreDistinct b → Apart a b → AreDistinct (a ++ b)
 distinct_append [] b d e f = e
 distinct_append (x ∷ a) b d e f =
-    (λ h. ⊎_elim d.0 (f x (inl refl)) (mem_append x a b h), distinct_append a b d.1 e (λ y k. f y (inr k)))
+    (λ h. ⊎_elim d.0 (f x (inl refl)) (mem-append x a b h), distinct_append a b d.1 e (λ y k. f y (inr k)))
 
 -- the member in the middle stands nowhere else
 pub not_elsewhere : {A : Type 0} (a b : List A) (x : A) → AreDistinct (a ++ x ∷ b) → ¬ (x ∈ a) × ¬ (x ∈ b)
@@ -136,7 +119,7 @@ before_second x y (z ∷ list) (inr h) = inr (before_second x y list h)
 
 pub before_across : {A : Type 0} (x y : A) (a b : List A) → x ∈ a → y ∈ b → StandsBefore x y (a ++ b)
 before_across x y [] b h k = absurd h
-before_across x y (z ∷ a) b (inl e) k = inl (e, mem_right y a b k)
+before_across x y (z ∷ a) b (inl e) k = inl (e, mem_append_right y a b k)
 before_across x y (z ∷ a) b (inr h) k = inr (before_across x y a b h k)
 
 pub before_right : {A : Type 0} (x y : A) (a b : List A) → StandsBefore x y b → StandsBefore x y (a ++ b)
@@ -180,23 +163,14 @@ in_front x y (z ∷ a) b d (inr h) = inr (in_front x y a b d.1 h)
 pub order_member : {A : Type 0} (x : A) (order list : List A) → IsOrderOf order list → x ∈ order → x ∈ list
 order_member x [] list o m = absurd m
 order_member x (y ∷ order) list o (inl e) =
-    subst (λ l. x ∈ l) (sym o.2) (mem_right x o.0 (y ∷ o.1) (inl e))
+    subst (λ l. x ∈ l) (sym o.2) (mem_append_right x o.0 (y ∷ o.1) (inl e))
 order_member x (y ∷ order) list o (inr m) =
     subst (λ l. x ∈ l) (sym o.2) (mem_without x y o.0 o.1 (order_member x order (o.0 ++ o.1) o.3 m))
 
-pub order_same : {A : Type 0} (list : List A) → IsOrderOf list list
-order_same [] = refl
-order_same (x ∷ list) = ([], list, refl, order_same list)
-
--- one list of lists, joined
-pub joined_append : {A : Type 0} (a b : List (List A)) → joined (a ++ b) ≡ joined a ++ joined b
-joined_append [] b = refl
-joined_append (x ∷ a) b = ap (λ l. x ++ l) (joined_append a b) ∙ sym (append_assoc x (joined a) (joined b))
-
 pub mem_joined : {A : Type 0} (x : A) (list : List (List A)) (item : List A) → item ∈ list → x ∈ item → x ∈ joined list
 mem_joined x [] item m h = absurd m
-mem_joined x (y ∷ list) item (inl e) h = mem_left x y (joined list) (subst (λ l. x ∈ l) e h)
-mem_joined x (y ∷ list) item (inr m) h = mem_right x y (joined list) (mem_joined x list item m h)
+mem_joined x (y ∷ list) item (inl e) h = mem_append_left x y (joined list) (subst (λ l. x ∈ l) e h)
+mem_joined x (y ∷ list) item (inr m) h = mem_append_right x y (joined list) (mem_joined x list item m h)
 
 -- the list in which a member of the joined lists stands
 pub list_having : {A : Type 0} (x : A) (list : List (List A)) → x ∈ joined list → (item : List A) × (item ∈ list) × (x ∈ item)
@@ -204,7 +178,7 @@ list_having x [] h = absurd h
 list_having x (y ∷ list) h = ⊎_elim
     (λ k. (y, inl refl, k))
     (λ k. let r = list_having x list k in (r.0, inr r.1, r.2))
-    (mem_append x y (joined list) h)
+    (mem-append x y (joined list) h)
 
 -- where the joined lists are distinct, two with a common member are one
 pub joined_apart : {A : Type 0} (list : List (List A)) (a b : List A) (x : A) → AreDistinct (joined list) → a ∈ list → b ∈ list → x ∈ a → x ∈ b → a ≡ b

@@ -4,6 +4,7 @@ use Rattle.std.specs.List.{cons_option}
 use Rattle.std.proofs.lemmas.List.{length-map}
 use Rattle.std.proofs.lemmas.Option.{slice_get-map}
 pub use Rattle.flow_model.specs.Decided.{cons_same, not_empty, order_of_none}
+pub use Rattle.flow_model.proofs.Lists.{each-append, each_parts, slice_get_append_left}
 use Rattle.flow_model.specs.Lists.{◌∈◌, Each, AreDistinct, Begins, StandsBefore, IsOrderOf, joined, numbers_from, each_with_each}
 
 -- Members
@@ -65,11 +66,6 @@ of_flat_map f y (z ∷ xs) h = elim (mem-append y (f z) _ h) [
 
 -- Places
 
-pub slice_get_append_left : {A : Type 0} (xs ys : List A) (i : ℕ) (x : A) → slice_get xs i ≡ Some x → slice_get (xs ++ ys) i ≡ Some x
-slice_get_append_left [] ys i x e = cc
-slice_get_append_left (z ∷ xs) ys zero x e = e
-slice_get_append_left (z ∷ xs) ys (suc i) x e = slice_get_append_left xs ys i x e
-
 pub slice_get_append_right : {A : Type 0} (xs ys : List A) (i : ℕ) → slice_get (xs ++ ys) (length xs + i) ≡ slice_get ys i
 slice_get_append_right [] ys i = ap (slice_get ys) (zero-add i)
 slice_get_append_right (z ∷ xs) ys i = ap (slice_get (z ∷ (xs ++ ys))) (suc-add (length xs) i) ∙ slice_get_append_right xs ys i
@@ -118,14 +114,6 @@ within_right a b x y u v apart of_a of_b whole n m = elim (mem-append n u v (who
 ]
 
 -- What each member has
-
-pub each-append : {A : Type 0} (P : A → Type 0) (a b : List A) → Each P a → Each P b → Each P (a ++ b)
-each-append P [] b ha hb = hb
-each-append P (x ∷ a) b (h, ha) hb = (h, each-append P a b ha hb)
-
-pub each_parts : {A : Type 0} (P : A → Type 0) (a b : List A) → Each P (a ++ b) → Each P a × Each P b
-each_parts P [] b h = (tt, h)
-each_parts P (x ∷ a) b (h, t) = let (ha, hb) = each_parts P a b t in ((h, ha), hb)
 
 pub each_member : {A : Type 0} (P : A → Type 0) (xs : List A) → Each P xs → (x : A) → x ∈ xs → P x
 each_member P [] h x m = absurd m
@@ -230,13 +218,6 @@ not_both_before x y (z ∷ t) (new, d) (inl h) (inl k) = new (subst (λ w. w ∈
 not_both_before x y (z ∷ t) (new, d) (inl h) (inr k) = new (subst (λ w. w ∈ t) h.0 (before_members y x t k).1)
 not_both_before x y (z ∷ t) (new, d) (inr h) (inl k) = new (subst (λ w. w ∈ t) k.0 (before_members x y t h).1)
 not_both_before x y (z ∷ t) (new, d) (inr h) (inr k) = not_both_before x y t d h k
-
-pub one_before : {A : Type 0} (x y : A) (t : List A) → x ∈ t → y ∈ t → x ≢ y → StandsBefore x y t ⊎ StandsBefore y x t
-one_before x y [] h k d = absurd h
-one_before x y (z ∷ t) (inl e) (inl i) d = absurd (d (e ∙ sym i))
-one_before x y (z ∷ t) (inl e) (inr k) d = inl (inl (e, k))
-one_before x y (z ∷ t) (inr h) (inl i) d = inr (inl (i, h))
-one_before x y (z ∷ t) (inr h) (inr k) d = elim (one_before x y t h k d) [ inl m ↦ inl (inr m) | inr m ↦ inr (inr m) ]
 
 -- What a filter that maps keeps
 

@@ -5,8 +5,9 @@ use Rattle.flow_model.specs.Process.{Process}
 use Rattle.flow_model.specs.Ready.{IsReady, DoneOr, IsReadyRunAfter}
 use Rattle.flow_laws.specs.Words.{EachTwo}
 use Rattle.flow_laws.specs.Orders.{AreSideBySide, PairsSufficeForOrders}
-use Rattle.flow_laws.proofs.ListLemmas1.{mem_here, mem_without, each_at, each_of, split_at, order_member, order_same}
+use Rattle.flow_laws.proofs.ListLemmas1.{mem_here, mem_without, each_at, split_at, order_member}
 use Rattle.flow_laws.proofs.ReadyRuns.{run_of}
+use Rattle.flow_laws.proofs.ListLemmas2.{each_from_members, same_order}
 
 -- each two members of a list
 
@@ -14,7 +15,7 @@ pub each_two_of : {A : Type 0} (R : A → A → Type 0) (list : List A) →
     ((front middle back : List A) (x y : A) → list ≡ front ++ x ∷ (middle ++ y ∷ back) → R x y × R y x) → EachTwo R list
 each_two_of R [] f = tt
 each_two_of R (x ∷ list) f = (
-  each_of (λ y. R x y × R y x) list (λ y m. let s = split_at y list m in f [] s.0 s.1 x y (ap (λ l. x ∷ l) s.2)),
+  each_from_members (λ y. R x y × R y x) list (λ y m. let s = split_at y list m in f [] s.0 s.1 x y (ap (λ l. x ∷ l) s.2)),
   each_two_of R list (λ front middle back u v e. f (x ∷ front) middle back u v (ap (λ l. x ∷ l) e)),
 )
 
@@ -26,7 +27,7 @@ each_two_out R (x ∷ front) y back h =
     let r = each_two_out R front y back h.1 in
     let k = each_at (λ z. R x z × R z x) (front ++ y ∷ back) y h.0 (mem_here y front back) in (
       ((k.1, k.0), r.0),
-      (each_of (λ z. R x z × R z x) (front ++ back) (λ z m. each_at (λ u. R x u × R u x) (front ++ y ∷ back) z h.0 (mem_without z y front back m)), r.1),
+      (each_from_members (λ z. R x z × R z x) (front ++ back) (λ z m. each_at (λ u. R x u × R u x) (front ++ y ∷ back) z h.0 (mem_without z y front back m)), r.1),
     )
 
 -- the order does not matter
@@ -34,7 +35,7 @@ pub each_two_order : {A : Type 0} (R : A → A → Type 0) (order list : List A)
 each_two_order R [] list o h = tt
 each_two_order R (y ∷ order) list o h =
     let k = each_two_out R o.0 y o.1 (subst (EachTwo R) o.2 h) in (
-      each_of (λ z. R y z × R z y) order (λ z m. each_at (λ u. R y u × R u y) (o.0 ++ o.1) z k.0 (order_member z order (o.0 ++ o.1) o.3 m)),
+      each_from_members (λ z. R y z × R z y) order (λ z m. each_at (λ u. R y u × R u y) (o.0 ++ o.1) z k.0 (order_member z order (o.0 ++ o.1) o.3 m)),
       each_two_order R order (o.0 ++ o.1) o.3 k.1,
     )
 
@@ -47,7 +48,7 @@ each_two_at R (y ∷ front) n back h x (inr m) = each_two_at R front n back h.1 
 -- orders that begin with two members
 module _ {A : Type 0} (front middle back : List A) (x y : A) where
   pub order_one_two : IsOrderOf (x ∷ y ∷ ((front ++ middle) ++ back)) (front ++ x ∷ (middle ++ y ∷ back))
-  order_one_two = (front, middle ++ y ∷ back, refl, (front ++ middle, back, sym (append_assoc front middle (y ∷ back)), order_same ((front ++ middle) ++ back)))
+  order_one_two = (front, middle ++ y ∷ back, refl, (front ++ middle, back, sym (append_assoc front middle (y ∷ back)), same_order ((front ++ middle) ++ back)))
 
   pub order_two_one : IsOrderOf (y ∷ x ∷ ((front ++ middle) ++ back)) (front ++ x ∷ (middle ++ y ∷ back))
   order_two_one = (
@@ -58,7 +59,7 @@ module _ {A : Type 0} (front middle back : List A) (x y : A) where
       front,
       middle ++ back,
       append_assoc front (x ∷ middle) back,
-      subst (IsOrderOf ((front ++ middle) ++ back)) (append_assoc front middle back) (order_same ((front ++ middle) ++ back)),
+      subst (IsOrderOf ((front ++ middle) ++ back)) (append_assoc front middle back) (same_order ((front ++ middle) ++ back)),
     ),
   )
 
@@ -81,8 +82,8 @@ module _ (q : Process) (pairs : List (ℕ × ℕ)) (Done : ℕ → Type 0) where
 
   pub side_by_side_of : (list : List ℕ) → ((order : List ℕ) → IsOrderOf order list → IsReadyRunAfter q pairs Done order) → AreSideBySide q pairs Done list
   side_by_side_of list f = record {
-    each = each_of (IsReady q pairs Done) list (λ x m.
-        let s = split_at x list m in (f (x ∷ (s.0 ++ s.1)) (s.0, s.1, s.2, order_same (s.0 ++ s.1))).0);
+    each = each_from_members (IsReady q pairs Done) list (λ x m.
+        let s = split_at x list m in (f (x ∷ (s.0 ++ s.1)) (s.0, s.1, s.2, same_order (s.0 ++ s.1))).0);
     two = each_two_of (λ x y. IsReady q pairs (DoneOr Done (x ∷ [])) y) list (λ front middle back x y e.
         let rest = (front ++ middle) ++ back in (
           (f (x ∷ y ∷ rest) (subst (IsOrderOf (x ∷ y ∷ rest)) (sym e) (order_one_two front middle back x y))).1.0,

@@ -4,9 +4,10 @@ use Rattle.flow_model.specs.Lists.{◌∈◌, AreDistinct, StandsBefore}
 use Rattle.flow_model.specs.Process.{Process, Sequence, leaves, IsChoiceFree}
 use Rattle.flow_model.specs.Trace.{Trace}
 use Rattle.flow_model.specs.Ready.{InSequence, isolated_parts}
-use Rattle.flow_laws.proofs.ListLemmas1.{mem_left, mem_right, mem_append, decide_eq, decide_in, no_member, no_members, distinct_append, before_second, before_or_after, not_both_ways}
+use Rattle.flow_laws.proofs.ListLemmas1.{decide_eq, decide_in, no_member, no_members, distinct_append, before_second, before_or_after, not_both_ways}
 use Rattle.flow_laws.proofs.ReadySplit.{Split, trace_split, split_trace, trace_nil, nil_trace}
 use Rattle.flow_laws.proofs.ReadyRemains.{HoldsOff, sequence_first, sequence_second, split_choice_free, split_here, split_leaf, split_inner, split_rest, split_fresh, split_first, split_exists, split_holds_off, split_rest_order, split_inner_order, split_keeps_order, split_holds_off_order, split_rest_parts, split_inner_parts, split_keeps_parts}
+use Rattle.flow_laws.proofs.ListLemmas2.{mem_append_left, mem_append_right, mem-append}
 
 -- the list holds each leaf once, in the goal's sequence, and nothing stands between two leaves of an isolated part
 pub record IsOrdering (g : Process) (t : List ℕ) : Type 0 where
@@ -26,12 +27,12 @@ remains_leaf g inner rest n d s x h =
     ⊎_elim
     (λ k. (split_inner g inner rest n s x k, λ e. f.not_inner (subst (λ y. y ∈ leaves inner) e k)))
     (λ k. (split_rest g inner rest n s x k, λ e. f.not_rest (subst (λ y. y ∈ leaves rest) e k)))
-    (mem_append x (leaves inner) (leaves rest) h)
+    (mem-append x (leaves inner) (leaves rest) h)
 
 remains_all : (g inner rest : Process) (n : ℕ) → Split g n inner rest → (x : ℕ) → x ∈ leaves g → x ≢ n → x ∈ leaves (Sequence inner rest)
 remains_all g inner rest n s x h p = ⊎_elim
     (λ e. absurd (p e))
-    (⊎_elim (λ k. mem_left x (leaves inner) (leaves rest) k) (λ k. mem_right x (leaves inner) (leaves rest) k))
+    (⊎_elim (λ k. mem_append_left x (leaves inner) (leaves rest) k) (λ k. mem_append_right x (leaves inner) (leaves rest) k))
     (split_leaf g inner rest n s x h)
 
 remains_distinct : (g inner rest : Process) (n : ℕ) → AreDistinct (leaves g) → Split g n inner rest → AreDistinct (leaves (Sequence inner rest))
@@ -48,7 +49,7 @@ remains_order g inner rest n d s x y (inr h) = inl (split_rest_order g inner res
 remains_parts : (g inner rest : Process) (n : ℕ) → Split g n inner rest → (part : Process) → part ∈ isolated_parts (Sequence inner rest) → part ∈ isolated_parts g
 remains_parts g inner rest n s part m = ⊎_elim
     (split_inner_parts g inner rest n s part) (split_rest_parts g inner rest n s part)
-    (mem_append part (isolated_parts inner) (isolated_parts rest) m)
+    (mem-append part (isolated_parts inner) (isolated_parts rest) m)
 
 second_in : (x y n : ℕ) (t : List ℕ) → StandsBefore x y (n ∷ t) → y ∈ t
 second_in x y n t h = ⊎_elim (λ k. k.1) (before_second x y t) h

@@ -3,33 +3,34 @@ use Rattle.std.proofs.Common.{◌≡◌, ◌≢◌, ℕ, [], ◌++◌, ◌⊎◌
 use Rattle.flow_model.specs.Lists.{◌∈◌, AreDistinct}
 use Rattle.flow_model.specs.Process.{Process, Empty, Task, Sequence, Parallel, Choice, Isolated, leaves, IsChoiceFree}
 use Rattle.flow_model.specs.Ready.{InSequence, isolated_parts}
-use Rattle.flow_laws.proofs.ListLemmas1.{mem_left, mem_right, mem_append, no_member, no_members, Apart, distinct_left, distinct_right, distinct_apart, distinct_append}
+use Rattle.flow_laws.proofs.ListLemmas1.{no_member, no_members, Apart, distinct_left, distinct_right, distinct_apart, distinct_append}
 use Rattle.flow_laws.proofs.ReadySplit.{Split, task, sequence_left, sequence_right, parallel_left, parallel_right, isolated}
+use Rattle.flow_laws.proofs.ListLemmas2.{mem_append_left, mem_append_right, mem-append}
 
 -- a goal by itself
 
 pub sequence_first : (g : Process) (x y : ℕ) → InSequence g x y → x ∈ leaves g
 sequence_first Empty x y h = absurd h
 sequence_first (Task n) x y h = absurd h
-sequence_first (Sequence a b) x y (inl (inl h)) = mem_left x (leaves a) (leaves b) h.0
-sequence_first (Sequence a b) x y (inl (inr h)) = mem_left x (leaves a) (leaves b) (sequence_first a x y h)
-sequence_first (Sequence a b) x y (inr h) = mem_right x (leaves a) (leaves b) (sequence_first b x y h)
-sequence_first (Parallel a b) x y (inl h) = mem_left x (leaves a) (leaves b) (sequence_first a x y h)
-sequence_first (Parallel a b) x y (inr h) = mem_right x (leaves a) (leaves b) (sequence_first b x y h)
-sequence_first (Choice a b) x y (inl h) = mem_left x (leaves a) (leaves b) (sequence_first a x y h)
-sequence_first (Choice a b) x y (inr h) = mem_right x (leaves a) (leaves b) (sequence_first b x y h)
+sequence_first (Sequence a b) x y (inl (inl h)) = mem_append_left x (leaves a) (leaves b) h.0
+sequence_first (Sequence a b) x y (inl (inr h)) = mem_append_left x (leaves a) (leaves b) (sequence_first a x y h)
+sequence_first (Sequence a b) x y (inr h) = mem_append_right x (leaves a) (leaves b) (sequence_first b x y h)
+sequence_first (Parallel a b) x y (inl h) = mem_append_left x (leaves a) (leaves b) (sequence_first a x y h)
+sequence_first (Parallel a b) x y (inr h) = mem_append_right x (leaves a) (leaves b) (sequence_first b x y h)
+sequence_first (Choice a b) x y (inl h) = mem_append_left x (leaves a) (leaves b) (sequence_first a x y h)
+sequence_first (Choice a b) x y (inr h) = mem_append_right x (leaves a) (leaves b) (sequence_first b x y h)
 sequence_first (Isolated a) x y h = sequence_first a x y h
 
 pub sequence_second : (g : Process) (x y : ℕ) → InSequence g x y → y ∈ leaves g
 sequence_second Empty x y h = absurd h
 sequence_second (Task n) x y h = absurd h
-sequence_second (Sequence a b) x y (inl (inl h)) = mem_right y (leaves a) (leaves b) h.1
-sequence_second (Sequence a b) x y (inl (inr h)) = mem_left y (leaves a) (leaves b) (sequence_second a x y h)
-sequence_second (Sequence a b) x y (inr h) = mem_right y (leaves a) (leaves b) (sequence_second b x y h)
-sequence_second (Parallel a b) x y (inl h) = mem_left y (leaves a) (leaves b) (sequence_second a x y h)
-sequence_second (Parallel a b) x y (inr h) = mem_right y (leaves a) (leaves b) (sequence_second b x y h)
-sequence_second (Choice a b) x y (inl h) = mem_left y (leaves a) (leaves b) (sequence_second a x y h)
-sequence_second (Choice a b) x y (inr h) = mem_right y (leaves a) (leaves b) (sequence_second b x y h)
+sequence_second (Sequence a b) x y (inl (inl h)) = mem_append_right y (leaves a) (leaves b) h.1
+sequence_second (Sequence a b) x y (inl (inr h)) = mem_append_left y (leaves a) (leaves b) (sequence_second a x y h)
+sequence_second (Sequence a b) x y (inr h) = mem_append_right y (leaves a) (leaves b) (sequence_second b x y h)
+sequence_second (Parallel a b) x y (inl h) = mem_append_left y (leaves a) (leaves b) (sequence_second a x y h)
+sequence_second (Parallel a b) x y (inr h) = mem_append_right y (leaves a) (leaves b) (sequence_second b x y h)
+sequence_second (Choice a b) x y (inl h) = mem_append_left y (leaves a) (leaves b) (sequence_second a x y h)
+sequence_second (Choice a b) x y (inr h) = mem_append_right y (leaves a) (leaves b) (sequence_second b x y h)
 sequence_second (Isolated a) x y h = sequence_second a x y h
 
 -- the leaves of an isolated part are leaves of the goal
@@ -37,17 +38,17 @@ pub part_within : (g part : Process) (x : ℕ) → part ∈ isolated_parts g →
 part_within Empty part x m h = absurd m
 part_within (Task n) part x m h = absurd m
 part_within (Sequence a b) part x m h = ⊎_elim
-    (λ k. mem_left x (leaves a) (leaves b) (part_within a part x k h))
-    (λ k. mem_right x (leaves a) (leaves b) (part_within b part x k h))
-    (mem_append part (isolated_parts a) (isolated_parts b) m)
+    (λ k. mem_append_left x (leaves a) (leaves b) (part_within a part x k h))
+    (λ k. mem_append_right x (leaves a) (leaves b) (part_within b part x k h))
+    (mem-append part (isolated_parts a) (isolated_parts b) m)
 part_within (Parallel a b) part x m h = ⊎_elim
-    (λ k. mem_left x (leaves a) (leaves b) (part_within a part x k h))
-    (λ k. mem_right x (leaves a) (leaves b) (part_within b part x k h))
-    (mem_append part (isolated_parts a) (isolated_parts b) m)
+    (λ k. mem_append_left x (leaves a) (leaves b) (part_within a part x k h))
+    (λ k. mem_append_right x (leaves a) (leaves b) (part_within b part x k h))
+    (mem-append part (isolated_parts a) (isolated_parts b) m)
 part_within (Choice a b) part x m h = ⊎_elim
-    (λ k. mem_left x (leaves a) (leaves b) (part_within a part x k h))
-    (λ k. mem_right x (leaves a) (leaves b) (part_within b part x k h))
-    (mem_append part (isolated_parts a) (isolated_parts b) m)
+    (λ k. mem_append_left x (leaves a) (leaves b) (part_within a part x k h))
+    (λ k. mem_append_right x (leaves a) (leaves b) (part_within b part x k h))
+    (mem-append part (isolated_parts a) (isolated_parts b) m)
 part_within (Isolated a) part x (inl e) h = subst (λ p. x ∈ leaves p) e h
 part_within (Isolated a) part x (inr m) h = part_within a part x m h
 
@@ -63,10 +64,10 @@ split_choice_free g inner rest n f (isolated {a} {inner = i} {rest = r} s) = (sp
 
 pub split_here : (g inner rest : Process) (n : ℕ) → Split g n inner rest → n ∈ leaves g
 split_here g inner rest n task = inl refl
-split_here g inner rest n (sequence_left {a} {b} {rest = r} s) = mem_left n (leaves a) (leaves b) (split_here a inner r n s)
-split_here g inner rest n (sequence_right {a} {b} e s) = mem_right n (leaves a) (leaves b) (split_here b inner rest n s)
-split_here g inner rest n (parallel_left {a} {b} {rest = r} s) = mem_left n (leaves a) (leaves b) (split_here a inner r n s)
-split_here g inner rest n (parallel_right {a} {b} {rest = r} s) = mem_right n (leaves a) (leaves b) (split_here b inner r n s)
+split_here g inner rest n (sequence_left {a} {b} {rest = r} s) = mem_append_left n (leaves a) (leaves b) (split_here a inner r n s)
+split_here g inner rest n (sequence_right {a} {b} e s) = mem_append_right n (leaves a) (leaves b) (split_here b inner rest n s)
+split_here g inner rest n (parallel_left {a} {b} {rest = r} s) = mem_append_left n (leaves a) (leaves b) (split_here a inner r n s)
+split_here g inner rest n (parallel_right {a} {b} {rest = r} s) = mem_append_right n (leaves a) (leaves b) (split_here b inner r n s)
 split_here g inner rest n (isolated {a} {inner = i} {rest = r} s) = split_here a i r n s
 
 -- each leaf is the first one, or remains in the begun part, or after it
@@ -74,45 +75,45 @@ pub split_leaf : (g inner rest : Process) (n : ℕ) → Split g n inner rest →
 split_leaf g inner rest n task x (inl e) = inl e
 split_leaf g inner rest n task x (inr h) = absurd h
 split_leaf g inner rest n (sequence_left {a} {b} {rest = r} s) x h = ⊎_elim
-    (λ k. ⊎_elim inl (λ l. inr (⊎_elim inl (λ m. inr (mem_left x (leaves r) (leaves b) m)) l)) (split_leaf a inner r n s x k))
-    (λ k. inr (inr (mem_right x (leaves r) (leaves b) k)))
-    (mem_append x (leaves a) (leaves b) h)
+    (λ k. ⊎_elim inl (λ l. inr (⊎_elim inl (λ m. inr (mem_append_left x (leaves r) (leaves b) m)) l)) (split_leaf a inner r n s x k))
+    (λ k. inr (inr (mem_append_right x (leaves r) (leaves b) k)))
+    (mem-append x (leaves a) (leaves b) h)
 split_leaf g inner rest n (sequence_right {a} {b} e s) x h = ⊎_elim
     (λ k. absurd (no_member x (leaves a) e k))
     (λ k. split_leaf b inner rest n s x k)
-    (mem_append x (leaves a) (leaves b) h)
+    (mem-append x (leaves a) (leaves b) h)
 split_leaf g inner rest n (parallel_left {a} {b} {rest = r} s) x h = ⊎_elim
-    (λ k. ⊎_elim inl (λ l. inr (⊎_elim inl (λ m. inr (mem_left x (leaves r) (leaves b) m)) l)) (split_leaf a inner r n s x k))
-    (λ k. inr (inr (mem_right x (leaves r) (leaves b) k)))
-    (mem_append x (leaves a) (leaves b) h)
+    (λ k. ⊎_elim inl (λ l. inr (⊎_elim inl (λ m. inr (mem_append_left x (leaves r) (leaves b) m)) l)) (split_leaf a inner r n s x k))
+    (λ k. inr (inr (mem_append_right x (leaves r) (leaves b) k)))
+    (mem-append x (leaves a) (leaves b) h)
 split_leaf g inner rest n (parallel_right {a} {b} {rest = r} s) x h = ⊎_elim
-    (λ k. inr (inr (mem_left x (leaves a) (leaves r) k)))
-    (λ k. ⊎_elim inl (λ l. inr (⊎_elim inl (λ m. inr (mem_right x (leaves a) (leaves r) m)) l)) (split_leaf b inner r n s x k))
-    (mem_append x (leaves a) (leaves b) h)
+    (λ k. inr (inr (mem_append_left x (leaves a) (leaves r) k)))
+    (λ k. ⊎_elim inl (λ l. inr (⊎_elim inl (λ m. inr (mem_append_right x (leaves a) (leaves r) m)) l)) (split_leaf b inner r n s x k))
+    (mem-append x (leaves a) (leaves b) h)
 split_leaf g inner rest n (isolated {a} {inner = i} {rest = r} s) x h = ⊎_elim
     inl
-    (λ l. inr (inl (⊎_elim (λ k. mem_left x (leaves i) (leaves r) k) (λ k. mem_right x (leaves i) (leaves r) k) l)))
+    (λ l. inr (inl (⊎_elim (λ k. mem_append_left x (leaves i) (leaves r) k) (λ k. mem_append_right x (leaves i) (leaves r) k) l)))
     (split_leaf a i r n s x h)
 
 pub split_rest : (g inner rest : Process) (n : ℕ) → Split g n inner rest → (x : ℕ) → x ∈ leaves rest → x ∈ leaves g
 split_rest g inner rest n task x h = absurd h
 split_rest g inner rest n (sequence_left {a} {b} {rest = r} s) x h = ⊎_elim
-    (λ k. mem_left x (leaves a) (leaves b) (split_rest a inner r n s x k)) (λ k. mem_right x (leaves a) (leaves b) k) (mem_append x (leaves r) (leaves b) h)
-split_rest g inner rest n (sequence_right {a} {b} e s) x h = mem_right x (leaves a) (leaves b) (split_rest b inner rest n s x h)
+    (λ k. mem_append_left x (leaves a) (leaves b) (split_rest a inner r n s x k)) (λ k. mem_append_right x (leaves a) (leaves b) k) (mem-append x (leaves r) (leaves b) h)
+split_rest g inner rest n (sequence_right {a} {b} e s) x h = mem_append_right x (leaves a) (leaves b) (split_rest b inner rest n s x h)
 split_rest g inner rest n (parallel_left {a} {b} {rest = r} s) x h = ⊎_elim
-    (λ k. mem_left x (leaves a) (leaves b) (split_rest a inner r n s x k)) (λ k. mem_right x (leaves a) (leaves b) k) (mem_append x (leaves r) (leaves b) h)
+    (λ k. mem_append_left x (leaves a) (leaves b) (split_rest a inner r n s x k)) (λ k. mem_append_right x (leaves a) (leaves b) k) (mem-append x (leaves r) (leaves b) h)
 split_rest g inner rest n (parallel_right {a} {b} {rest = r} s) x h = ⊎_elim
-    (λ k. mem_left x (leaves a) (leaves b) k) (λ k. mem_right x (leaves a) (leaves b) (split_rest b inner r n s x k)) (mem_append x (leaves a) (leaves r) h)
+    (λ k. mem_append_left x (leaves a) (leaves b) k) (λ k. mem_append_right x (leaves a) (leaves b) (split_rest b inner r n s x k)) (mem-append x (leaves a) (leaves r) h)
 split_rest g inner rest n (isolated {a} s) x h = absurd h
 
 pub split_inner : (g inner rest : Process) (n : ℕ) → Split g n inner rest → (x : ℕ) → x ∈ leaves inner → x ∈ leaves g
 split_inner g inner rest n task x h = absurd h
-split_inner g inner rest n (sequence_left {a} {b} {rest = r} s) x h = mem_left x (leaves a) (leaves b) (split_inner a inner r n s x h)
-split_inner g inner rest n (sequence_right {a} {b} e s) x h = mem_right x (leaves a) (leaves b) (split_inner b inner rest n s x h)
-split_inner g inner rest n (parallel_left {a} {b} {rest = r} s) x h = mem_left x (leaves a) (leaves b) (split_inner a inner r n s x h)
-split_inner g inner rest n (parallel_right {a} {b} {rest = r} s) x h = mem_right x (leaves a) (leaves b) (split_inner b inner r n s x h)
+split_inner g inner rest n (sequence_left {a} {b} {rest = r} s) x h = mem_append_left x (leaves a) (leaves b) (split_inner a inner r n s x h)
+split_inner g inner rest n (sequence_right {a} {b} e s) x h = mem_append_right x (leaves a) (leaves b) (split_inner b inner rest n s x h)
+split_inner g inner rest n (parallel_left {a} {b} {rest = r} s) x h = mem_append_left x (leaves a) (leaves b) (split_inner a inner r n s x h)
+split_inner g inner rest n (parallel_right {a} {b} {rest = r} s) x h = mem_append_right x (leaves a) (leaves b) (split_inner b inner r n s x h)
 split_inner g inner rest n (isolated {a} {inner = i} {rest = r} s) x h = ⊎_elim
-    (λ k. split_inner a i r n s x k) (λ k. split_rest a i r n s x k) (mem_append x (leaves i) (leaves r) h)
+    (λ k. split_inner a i r n s x k) (λ k. split_rest a i r n s x k) (mem-append x (leaves i) (leaves r) h)
 
 -- no leaf stands twice in what remains
 pub record AreFresh (inner rest : Process) (n : ℕ) : Type 0 where
@@ -129,10 +130,10 @@ split_fresh g inner rest n d (sequence_left {a} {b} {rest = r} s) =
     let off = distinct_apart (leaves a) (leaves b) d in
     record {
       not_inner = f.not_inner;
-      not_rest = λ h. ⊎_elim f.not_rest (off n (split_here a inner r n s)) (mem_append n (leaves r) (leaves b) h);
+      not_rest = λ h. ⊎_elim f.not_rest (off n (split_here a inner r n s)) (mem-append n (leaves r) (leaves b) h);
       inner_distinct = f.inner_distinct;
       rest_distinct = distinct_append (leaves r) (leaves b) f.rest_distinct (distinct_right (leaves a) (leaves b) d) (λ x h k. off x (split_rest a inner r n s x h) k);
-      apart = λ x h k. ⊎_elim (f.apart x h) (off x (split_inner a inner r n s x h)) (mem_append x (leaves r) (leaves b) k);
+      apart = λ x h k. ⊎_elim (f.apart x h) (off x (split_inner a inner r n s x h)) (mem-append x (leaves r) (leaves b) k);
     }
 split_fresh g inner rest n d (sequence_right {a} {b} e s) = split_fresh b inner rest n (distinct_right (leaves a) (leaves b) d) s
 split_fresh g inner rest n d (parallel_left {a} {b} {rest = r} s) =
@@ -140,25 +141,25 @@ split_fresh g inner rest n d (parallel_left {a} {b} {rest = r} s) =
     let off = distinct_apart (leaves a) (leaves b) d in
     record {
       not_inner = f.not_inner;
-      not_rest = λ h. ⊎_elim f.not_rest (off n (split_here a inner r n s)) (mem_append n (leaves r) (leaves b) h);
+      not_rest = λ h. ⊎_elim f.not_rest (off n (split_here a inner r n s)) (mem-append n (leaves r) (leaves b) h);
       inner_distinct = f.inner_distinct;
       rest_distinct = distinct_append (leaves r) (leaves b) f.rest_distinct (distinct_right (leaves a) (leaves b) d) (λ x h k. off x (split_rest a inner r n s x h) k);
-      apart = λ x h k. ⊎_elim (f.apart x h) (off x (split_inner a inner r n s x h)) (mem_append x (leaves r) (leaves b) k);
+      apart = λ x h k. ⊎_elim (f.apart x h) (off x (split_inner a inner r n s x h)) (mem-append x (leaves r) (leaves b) k);
     }
 split_fresh g inner rest n d (parallel_right {a} {b} {rest = r} s) =
     let f = split_fresh b inner r n (distinct_right (leaves a) (leaves b) d) s in
     let off = distinct_apart (leaves a) (leaves b) d in
     record {
       not_inner = f.not_inner;
-      not_rest = λ h. ⊎_elim (λ k. off n k (split_here b inner r n s)) f.not_rest (mem_append n (leaves a) (leaves r) h);
+      not_rest = λ h. ⊎_elim (λ k. off n k (split_here b inner r n s)) f.not_rest (mem-append n (leaves a) (leaves r) h);
       inner_distinct = f.inner_distinct;
       rest_distinct = distinct_append (leaves a) (leaves r) (distinct_left (leaves a) (leaves b) d) f.rest_distinct (λ x h k. off x h (split_rest b inner r n s x k));
-      apart = λ x h k. ⊎_elim (λ l. off x l (split_inner b inner r n s x h)) (f.apart x h) (mem_append x (leaves a) (leaves r) k);
+      apart = λ x h k. ⊎_elim (λ l. off x l (split_inner b inner r n s x h)) (f.apart x h) (mem-append x (leaves a) (leaves r) k);
     }
 split_fresh g inner rest n d (isolated {a} {inner = i} {rest = r} s) =
     let f = split_fresh a i r n d s in
     record {
-      not_inner = λ h. ⊎_elim f.not_inner f.not_rest (mem_append n (leaves i) (leaves r) h);
+      not_inner = λ h. ⊎_elim f.not_inner f.not_rest (mem-append n (leaves i) (leaves r) h);
       not_rest = λ h. h;
       inner_distinct = distinct_append (leaves i) (leaves r) f.inner_distinct f.rest_distinct f.apart;
       rest_distinct = tt;
@@ -195,11 +196,11 @@ split_exists (Sequence a b) n f h none = ⊎_elim
     (λ k. let r = split_exists a n f.0 k (λ x l. none x (inl (inr l))) in (r.0, Sequence r.1 b, sequence_left r.2))
     (λ k. let r = split_exists b n f.1 k (λ x l. none x (inr l)) in
     (r.0, r.1, sequence_right (no_members (leaves a) (λ x l. none x (inl (inl (l, k))))) r.2))
-    (mem_append n (leaves a) (leaves b) h)
+    (mem-append n (leaves a) (leaves b) h)
 split_exists (Parallel a b) n f h none = ⊎_elim
     (λ k. let r = split_exists a n f.0 k (λ x l. none x (inl l)) in (r.0, Parallel r.1 b, parallel_left r.2))
     (λ k. let r = split_exists b n f.1 k (λ x l. none x (inr l)) in (r.0, Parallel a r.1, parallel_right r.2))
-    (mem_append n (leaves a) (leaves b) h)
+    (mem-append n (leaves a) (leaves b) h)
 split_exists (Choice a b) n f h none = absurd f
 split_exists (Isolated a) n f h none = let r = split_exists a n f h none in (Sequence r.0 r.1, Empty, isolated r.2)
 
@@ -228,39 +229,39 @@ split_around g inner rest n d (sequence_left {a} {b} {rest = r} s) x h =
     let off = distinct_apart (leaves a) (leaves b) d in
     record {
       part = w.part;
-      is_part = mem_left w.part (isolated_parts a) (isolated_parts b) w.is_part;
+      is_part = mem_append_left w.part (isolated_parts a) (isolated_parts b) w.is_part;
       has_n = w.has_n;
       has_x = w.has_x;
-      outside = λ y k l. ⊎_elim (λ m. w.outside y m l) (off y (part_within a w.part y w.is_part l)) (mem_append y (leaves r) (leaves b) k);
+      outside = λ y k l. ⊎_elim (λ m. w.outside y m l) (off y (part_within a w.part y w.is_part l)) (mem-append y (leaves r) (leaves b) k);
     }
 split_around g inner rest n d (sequence_right {a} {b} e s) x h =
     let w = split_around b inner rest n (distinct_right (leaves a) (leaves b) d) s x h in
-    record { part = w.part; is_part = mem_right w.part (isolated_parts a) (isolated_parts b) w.is_part; has_n = w.has_n; has_x = w.has_x; outside = w.outside }
+    record { part = w.part; is_part = mem_append_right w.part (isolated_parts a) (isolated_parts b) w.is_part; has_n = w.has_n; has_x = w.has_x; outside = w.outside }
 split_around g inner rest n d (parallel_left {a} {b} {rest = r} s) x h =
     let w = split_around a inner r n (distinct_left (leaves a) (leaves b) d) s x h in
     let off = distinct_apart (leaves a) (leaves b) d in
     record {
       part = w.part;
-      is_part = mem_left w.part (isolated_parts a) (isolated_parts b) w.is_part;
+      is_part = mem_append_left w.part (isolated_parts a) (isolated_parts b) w.is_part;
       has_n = w.has_n;
       has_x = w.has_x;
-      outside = λ y k l. ⊎_elim (λ m. w.outside y m l) (off y (part_within a w.part y w.is_part l)) (mem_append y (leaves r) (leaves b) k);
+      outside = λ y k l. ⊎_elim (λ m. w.outside y m l) (off y (part_within a w.part y w.is_part l)) (mem-append y (leaves r) (leaves b) k);
     }
 split_around g inner rest n d (parallel_right {a} {b} {rest = r} s) x h =
     let w = split_around b inner r n (distinct_right (leaves a) (leaves b) d) s x h in
     let off = distinct_apart (leaves a) (leaves b) d in
     record {
       part = w.part;
-      is_part = mem_right w.part (isolated_parts a) (isolated_parts b) w.is_part;
+      is_part = mem_append_right w.part (isolated_parts a) (isolated_parts b) w.is_part;
       has_n = w.has_n;
       has_x = w.has_x;
-      outside = λ y k l. ⊎_elim (λ m. off y m (part_within b w.part y w.is_part l)) (λ m. w.outside y m l) (mem_append y (leaves a) (leaves r) k);
+      outside = λ y k l. ⊎_elim (λ m. off y m (part_within b w.part y w.is_part l)) (λ m. w.outside y m l) (mem-append y (leaves a) (leaves r) k);
     }
 split_around g inner rest n d (isolated {a} {inner = i} {rest = r} s) x h = record {
   part = a;
   is_part = inl refl;
   has_n = split_here a i r n s;
-  has_x = ⊎_elim (split_inner a i r n s x) (split_rest a i r n s x) (mem_append x (leaves i) (leaves r) h);
+  has_x = ⊎_elim (split_inner a i r n s x) (split_rest a i r n s x) (mem-append x (leaves i) (leaves r) h);
   outside = λ y k l. k;
 }
 
@@ -274,7 +275,7 @@ split_holds_off g inner rest n d s x y h k =
 holds_off_left : (a b g : Process) (n x y : ℕ) → isolated_parts g ≡ isolated_parts a ++ isolated_parts b → HoldsOff a n x y → HoldsOff g n x y
 holds_off_left a b g n x y e h = record {
   part = h.part;
-  is_part = rw e (mem_left h.part (isolated_parts a) (isolated_parts b) h.is_part);
+  is_part = rw e (mem_append_left h.part (isolated_parts a) (isolated_parts b) h.is_part);
   has_n = h.has_n;
   has_x = h.has_x;
   lacks_y = h.lacks_y;
@@ -283,7 +284,7 @@ holds_off_left a b g n x y e h = record {
 holds_off_right : (a b g : Process) (n x y : ℕ) → isolated_parts g ≡ isolated_parts a ++ isolated_parts b → HoldsOff b n x y → HoldsOff g n x y
 holds_off_right a b g n x y e h = record {
   part = h.part;
-  is_part = rw e (mem_right h.part (isolated_parts a) (isolated_parts b) h.is_part);
+  is_part = rw e (mem_append_right h.part (isolated_parts a) (isolated_parts b) h.is_part);
   has_n = h.has_n;
   has_x = h.has_x;
   lacks_y = h.lacks_y;
@@ -330,10 +331,10 @@ pub split_keeps_order : (g inner rest : Process) (n : ℕ) → Split g n inner r
 split_keeps_order g inner rest n task x y h p q = absurd h
 split_keeps_order g inner rest n (sequence_left {a} {b} {rest = r} s) x y (inl (inl h)) p q = ⊎_elim
     (λ e. absurd (p e))
-    (⊎_elim (λ k. inl (inl (k, mem_right y (leaves r) (leaves b) h.1))) (λ k. inr (inl (inl (k, h.1)))))
+    (⊎_elim (λ k. inl (inl (k, mem_append_right y (leaves r) (leaves b) h.1))) (λ k. inr (inl (inl (k, h.1)))))
     (split_leaf a inner r n s x h.0)
 split_keeps_order g inner rest n (sequence_left {a} {b} {rest = r} s) x y (inl (inr h)) p q = ⊎_elim
-    (⊎_elim (λ k. inl (inl (k.0, mem_left y (leaves r) (leaves b) k.1))) (λ k. inl (inr k)))
+    (⊎_elim (λ k. inl (inl (k.0, mem_append_left y (leaves r) (leaves b) k.1))) (λ k. inl (inr k)))
     (λ k. inr (inl (inr k)))
     (split_keeps_order a inner r n s x y h p q)
 split_keeps_order g inner rest n (sequence_left {a} {b} {rest = r} s) x y (inr h) p q = inr (inr h)
@@ -341,13 +342,13 @@ split_keeps_order g inner rest n (sequence_right {a} {b} e s) x y (inl (inl h)) 
 split_keeps_order g inner rest n (sequence_right {a} {b} e s) x y (inl (inr h)) p q = absurd (no_member x (leaves a) e (sequence_first a x y h))
 split_keeps_order g inner rest n (sequence_right {a} {b} e s) x y (inr h) p q = split_keeps_order b inner rest n s x y h p q
 split_keeps_order g inner rest n (parallel_left {a} {b} {rest = r} s) x y (inl h) p q = ⊎_elim
-    (⊎_elim (λ k. inl (inl (k.0, mem_left y (leaves r) (leaves b) k.1))) (λ k. inl (inr k)))
+    (⊎_elim (λ k. inl (inl (k.0, mem_append_left y (leaves r) (leaves b) k.1))) (λ k. inl (inr k)))
     (λ k. inr (inl k))
     (split_keeps_order a inner r n s x y h p q)
 split_keeps_order g inner rest n (parallel_left {a} {b} {rest = r} s) x y (inr h) p q = inr (inr h)
 split_keeps_order g inner rest n (parallel_right {a} {b} {rest = r} s) x y (inl h) p q = inr (inl h)
 split_keeps_order g inner rest n (parallel_right {a} {b} {rest = r} s) x y (inr h) p q = ⊎_elim
-    (⊎_elim (λ k. inl (inl (k.0, mem_right y (leaves a) (leaves r) k.1))) (λ k. inl (inr k)))
+    (⊎_elim (λ k. inl (inl (k.0, mem_append_right y (leaves a) (leaves r) k.1))) (λ k. inl (inr k)))
     (λ k. inr (inr k))
     (split_keeps_order b inner r n s x y h p q)
 split_keeps_order g inner rest n (isolated {a} {inner = i} {rest = r} s) x y h p q = inl (inr (split_keeps_order a i r n s x y h p q))
@@ -359,24 +360,24 @@ split_mates g inner rest n d task part m k x h p = absurd m
 split_mates g inner rest n d (sequence_left {a} {b} {rest = r} s) part m k x h p = ⊎_elim
     (λ l. split_mates a inner r n (distinct_left (leaves a) (leaves b) d) s part l k x h p)
     (λ l. absurd (distinct_apart (leaves a) (leaves b) d n (split_here a inner r n s) (part_within b part n l k)))
-    (mem_append part (isolated_parts a) (isolated_parts b) m)
+    (mem-append part (isolated_parts a) (isolated_parts b) m)
 split_mates g inner rest n d (sequence_right {a} {b} e s) part m k x h p = ⊎_elim
     (λ l. absurd (no_member n (leaves a) e (part_within a part n l k)))
     (λ l. split_mates b inner rest n (distinct_right (leaves a) (leaves b) d) s part l k x h p)
-    (mem_append part (isolated_parts a) (isolated_parts b) m)
+    (mem-append part (isolated_parts a) (isolated_parts b) m)
 split_mates g inner rest n d (parallel_left {a} {b} {rest = r} s) part m k x h p = ⊎_elim
     (λ l. split_mates a inner r n (distinct_left (leaves a) (leaves b) d) s part l k x h p)
     (λ l. absurd (distinct_apart (leaves a) (leaves b) d n (split_here a inner r n s) (part_within b part n l k)))
-    (mem_append part (isolated_parts a) (isolated_parts b) m)
+    (mem-append part (isolated_parts a) (isolated_parts b) m)
 split_mates g inner rest n d (parallel_right {a} {b} {rest = r} s) part m k x h p = ⊎_elim
     (λ l. absurd (distinct_apart (leaves a) (leaves b) d n (part_within a part n l k) (split_here b inner r n s)))
     (λ l. split_mates b inner r n (distinct_right (leaves a) (leaves b) d) s part l k x h p)
-    (mem_append part (isolated_parts a) (isolated_parts b) m)
+    (mem-append part (isolated_parts a) (isolated_parts b) m)
 split_mates g inner rest n d (isolated {a} {inner = i} {rest = r} s) part (inl e) k x h p = ⊎_elim
-    (λ l. absurd (p l)) (⊎_elim (λ l. mem_left x (leaves i) (leaves r) l) (λ l. mem_right x (leaves i) (leaves r) l))
+    (λ l. absurd (p l)) (⊎_elim (λ l. mem_append_left x (leaves i) (leaves r) l) (λ l. mem_append_right x (leaves i) (leaves r) l))
     (split_leaf a i r n s x (subst (λ q. x ∈ leaves q) e h))
 split_mates g inner rest n d (isolated {a} {inner = i} {rest = r} s) part (inr m) k x h p =
-    mem_left x (leaves i) (leaves r) (split_mates a i r n d s part m k x h p)
+    mem_append_left x (leaves i) (leaves r) (split_mates a i r n d s part m k x h p)
 
 -- they come before the others that remain there
 pub split_mates_first : (g inner rest : Process) (n : ℕ) → AreDistinct (leaves g) → Split g n inner rest → (part : Process) → part ∈ isolated_parts g →
@@ -385,26 +386,26 @@ split_mates_first g inner rest n d task part m k x y h p o l = absurd l
 split_mates_first g inner rest n d (sequence_left {a} {b} {rest = r} s) part m k x y h p o l = ⊎_elim
     (λ q. split_mates_first a inner r n (distinct_left (leaves a) (leaves b) d) s part q k x y h p o l)
     (λ q. absurd (distinct_apart (leaves a) (leaves b) d n (split_here a inner r n s) (part_within b part n q k)))
-    (mem_append part (isolated_parts a) (isolated_parts b) m)
+    (mem-append part (isolated_parts a) (isolated_parts b) m)
 split_mates_first g inner rest n d (sequence_right {a} {b} e s) part m k x y h p o l = ⊎_elim
     (λ q. absurd (no_member n (leaves a) e (part_within a part n q k)))
     (λ q. split_mates_first b inner rest n (distinct_right (leaves a) (leaves b) d) s part q k x y h p o l)
-    (mem_append part (isolated_parts a) (isolated_parts b) m)
+    (mem-append part (isolated_parts a) (isolated_parts b) m)
 split_mates_first g inner rest n d (parallel_left {a} {b} {rest = r} s) part m k x y h p o l = ⊎_elim
     (λ q. split_mates_first a inner r n (distinct_left (leaves a) (leaves b) d) s part q k x y h p o l)
     (λ q. absurd (distinct_apart (leaves a) (leaves b) d n (split_here a inner r n s) (part_within b part n q k)))
-    (mem_append part (isolated_parts a) (isolated_parts b) m)
+    (mem-append part (isolated_parts a) (isolated_parts b) m)
 split_mates_first g inner rest n d (parallel_right {a} {b} {rest = r} s) part m k x y h p o l = ⊎_elim
     (λ q. absurd (distinct_apart (leaves a) (leaves b) d n (part_within a part n q k) (split_here b inner r n s)))
     (λ q. split_mates_first b inner r n (distinct_right (leaves a) (leaves b) d) s part q k x y h p o l)
-    (mem_append part (isolated_parts a) (isolated_parts b) m)
+    (mem-append part (isolated_parts a) (isolated_parts b) m)
 split_mates_first g inner rest n d (isolated {a} {inner = i} {rest = r} s) part (inl e) k x y h p o l =
     absurd (o (subst (λ q. y ∈ leaves q) (sym e)
-    (⊎_elim (split_inner a i r n s y) (split_rest a i r n s y) (mem_append y (leaves i) (leaves r) l))))
+    (⊎_elim (split_inner a i r n s y) (split_rest a i r n s y) (mem-append y (leaves i) (leaves r) l))))
 split_mates_first g inner rest n d (isolated {a} {inner = i} {rest = r} s) part (inr m) k x y h p o l = ⊎_elim
     (λ q. inl (inr (split_mates_first a i r n d s part m k x y h p o q)))
     (λ q. inl (inl (split_mates a i r n d s part m k x h p, q)))
-    (mem_append y (leaves i) (leaves r) l)
+    (mem-append y (leaves i) (leaves r) l)
 
 -- what a part that n begins holds off comes after its leaves
 pub split_holds_off_order : (g inner rest : Process) (n : ℕ) → AreDistinct (leaves g) → Split g n inner rest → (x y : ℕ) → HoldsOff g n x y → x ≢ n →
@@ -421,34 +422,34 @@ split_holds_off_order g inner rest n d s x y h p k = ⊎_elim
 pub split_rest_parts : (g inner rest : Process) (n : ℕ) → Split g n inner rest → (part : Process) → part ∈ isolated_parts rest → part ∈ isolated_parts g
 split_rest_parts g inner rest n task part m = absurd m
 split_rest_parts g inner rest n (sequence_left {a} {b} {rest = r} s) part m = ⊎_elim
-    (λ k. mem_left part (isolated_parts a) (isolated_parts b) (split_rest_parts a inner r n s part k))
-    (λ k. mem_right part (isolated_parts a) (isolated_parts b) k)
-    (mem_append part (isolated_parts r) (isolated_parts b) m)
+    (λ k. mem_append_left part (isolated_parts a) (isolated_parts b) (split_rest_parts a inner r n s part k))
+    (λ k. mem_append_right part (isolated_parts a) (isolated_parts b) k)
+    (mem-append part (isolated_parts r) (isolated_parts b) m)
 split_rest_parts g inner rest n (sequence_right {a} {b} e s) part m =
-    mem_right part (isolated_parts a) (isolated_parts b) (split_rest_parts b inner rest n s part m)
+    mem_append_right part (isolated_parts a) (isolated_parts b) (split_rest_parts b inner rest n s part m)
 split_rest_parts g inner rest n (parallel_left {a} {b} {rest = r} s) part m = ⊎_elim
-    (λ k. mem_left part (isolated_parts a) (isolated_parts b) (split_rest_parts a inner r n s part k))
-    (λ k. mem_right part (isolated_parts a) (isolated_parts b) k)
-    (mem_append part (isolated_parts r) (isolated_parts b) m)
+    (λ k. mem_append_left part (isolated_parts a) (isolated_parts b) (split_rest_parts a inner r n s part k))
+    (λ k. mem_append_right part (isolated_parts a) (isolated_parts b) k)
+    (mem-append part (isolated_parts r) (isolated_parts b) m)
 split_rest_parts g inner rest n (parallel_right {a} {b} {rest = r} s) part m = ⊎_elim
-    (λ k. mem_left part (isolated_parts a) (isolated_parts b) k)
-    (λ k. mem_right part (isolated_parts a) (isolated_parts b) (split_rest_parts b inner r n s part k))
-    (mem_append part (isolated_parts a) (isolated_parts r) m)
+    (λ k. mem_append_left part (isolated_parts a) (isolated_parts b) k)
+    (λ k. mem_append_right part (isolated_parts a) (isolated_parts b) (split_rest_parts b inner r n s part k))
+    (mem-append part (isolated_parts a) (isolated_parts r) m)
 split_rest_parts g inner rest n (isolated {a} s) part m = absurd m
 
 pub split_inner_parts : (g inner rest : Process) (n : ℕ) → Split g n inner rest → (part : Process) → part ∈ isolated_parts inner → part ∈ isolated_parts g
 split_inner_parts g inner rest n task part m = absurd m
 split_inner_parts g inner rest n (sequence_left {a} {b} {rest = r} s) part m =
-    mem_left part (isolated_parts a) (isolated_parts b) (split_inner_parts a inner r n s part m)
+    mem_append_left part (isolated_parts a) (isolated_parts b) (split_inner_parts a inner r n s part m)
 split_inner_parts g inner rest n (sequence_right {a} {b} e s) part m =
-    mem_right part (isolated_parts a) (isolated_parts b) (split_inner_parts b inner rest n s part m)
+    mem_append_right part (isolated_parts a) (isolated_parts b) (split_inner_parts b inner rest n s part m)
 split_inner_parts g inner rest n (parallel_left {a} {b} {rest = r} s) part m =
-    mem_left part (isolated_parts a) (isolated_parts b) (split_inner_parts a inner r n s part m)
+    mem_append_left part (isolated_parts a) (isolated_parts b) (split_inner_parts a inner r n s part m)
 split_inner_parts g inner rest n (parallel_right {a} {b} {rest = r} s) part m =
-    mem_right part (isolated_parts a) (isolated_parts b) (split_inner_parts b inner r n s part m)
+    mem_append_right part (isolated_parts a) (isolated_parts b) (split_inner_parts b inner r n s part m)
 split_inner_parts g inner rest n (isolated {a} {inner = i} {rest = r} s) part m = inr (⊎_elim
     (split_inner_parts a i r n s part) (split_rest_parts a i r n s part)
-    (mem_append part (isolated_parts i) (isolated_parts r) m))
+    (mem-append part (isolated_parts i) (isolated_parts r) m))
 
 -- a part that is not begun remains, if it has a leaf
 pub split_keeps_parts : (g inner rest : Process) (n : ℕ) → Split g n inner rest → (part : Process) → part ∈ isolated_parts g → ¬ (n ∈ leaves part) →
@@ -456,30 +457,30 @@ pub split_keeps_parts : (g inner rest : Process) (n : ℕ) → Split g n inner r
 split_keeps_parts g inner rest n task part m k x h = absurd m
 split_keeps_parts g inner rest n (sequence_left {a} {b} {rest = r} s) part m k x h = ⊎_elim
     (λ l. ⊎_elim
-    (λ q. mem_left part (isolated_parts inner) (isolated_parts r ++ isolated_parts b) q)
-    (λ q. mem_right part (isolated_parts inner) (isolated_parts r ++ isolated_parts b) (mem_left part (isolated_parts r) (isolated_parts b) q))
-    (mem_append part (isolated_parts inner) (isolated_parts r) (split_keeps_parts a inner r n s part l k x h)))
-    (λ l. mem_right part (isolated_parts inner) (isolated_parts r ++ isolated_parts b) (mem_right part (isolated_parts r) (isolated_parts b) l))
-    (mem_append part (isolated_parts a) (isolated_parts b) m)
+    (λ q. mem_append_left part (isolated_parts inner) (isolated_parts r ++ isolated_parts b) q)
+    (λ q. mem_append_right part (isolated_parts inner) (isolated_parts r ++ isolated_parts b) (mem_append_left part (isolated_parts r) (isolated_parts b) q))
+    (mem-append part (isolated_parts inner) (isolated_parts r) (split_keeps_parts a inner r n s part l k x h)))
+    (λ l. mem_append_right part (isolated_parts inner) (isolated_parts r ++ isolated_parts b) (mem_append_right part (isolated_parts r) (isolated_parts b) l))
+    (mem-append part (isolated_parts a) (isolated_parts b) m)
 split_keeps_parts g inner rest n (sequence_right {a} {b} e s) part m k x h = ⊎_elim
     (λ l. absurd (no_member x (leaves a) e (part_within a part x l h)))
     (λ l. split_keeps_parts b inner rest n s part l k x h)
-    (mem_append part (isolated_parts a) (isolated_parts b) m)
+    (mem-append part (isolated_parts a) (isolated_parts b) m)
 split_keeps_parts g inner rest n (parallel_left {a} {b} {rest = r} s) part m k x h = ⊎_elim
     (λ l. ⊎_elim
-    (λ q. mem_left part (isolated_parts inner) (isolated_parts r ++ isolated_parts b) q)
-    (λ q. mem_right part (isolated_parts inner) (isolated_parts r ++ isolated_parts b) (mem_left part (isolated_parts r) (isolated_parts b) q))
-    (mem_append part (isolated_parts inner) (isolated_parts r) (split_keeps_parts a inner r n s part l k x h)))
-    (λ l. mem_right part (isolated_parts inner) (isolated_parts r ++ isolated_parts b) (mem_right part (isolated_parts r) (isolated_parts b) l))
-    (mem_append part (isolated_parts a) (isolated_parts b) m)
+    (λ q. mem_append_left part (isolated_parts inner) (isolated_parts r ++ isolated_parts b) q)
+    (λ q. mem_append_right part (isolated_parts inner) (isolated_parts r ++ isolated_parts b) (mem_append_left part (isolated_parts r) (isolated_parts b) q))
+    (mem-append part (isolated_parts inner) (isolated_parts r) (split_keeps_parts a inner r n s part l k x h)))
+    (λ l. mem_append_right part (isolated_parts inner) (isolated_parts r ++ isolated_parts b) (mem_append_right part (isolated_parts r) (isolated_parts b) l))
+    (mem-append part (isolated_parts a) (isolated_parts b) m)
 split_keeps_parts g inner rest n (parallel_right {a} {b} {rest = r} s) part m k x h = ⊎_elim
-    (λ l. mem_right part (isolated_parts inner) (isolated_parts a ++ isolated_parts r) (mem_left part (isolated_parts a) (isolated_parts r) l))
+    (λ l. mem_append_right part (isolated_parts inner) (isolated_parts a ++ isolated_parts r) (mem_append_left part (isolated_parts a) (isolated_parts r) l))
     (λ l. ⊎_elim
-    (λ q. mem_left part (isolated_parts inner) (isolated_parts a ++ isolated_parts r) q)
-    (λ q. mem_right part (isolated_parts inner) (isolated_parts a ++ isolated_parts r) (mem_right part (isolated_parts a) (isolated_parts r) q))
-    (mem_append part (isolated_parts inner) (isolated_parts r) (split_keeps_parts b inner r n s part l k x h)))
-    (mem_append part (isolated_parts a) (isolated_parts b) m)
+    (λ q. mem_append_left part (isolated_parts inner) (isolated_parts a ++ isolated_parts r) q)
+    (λ q. mem_append_right part (isolated_parts inner) (isolated_parts a ++ isolated_parts r) (mem_append_right part (isolated_parts a) (isolated_parts r) q))
+    (mem-append part (isolated_parts inner) (isolated_parts r) (split_keeps_parts b inner r n s part l k x h)))
+    (mem-append part (isolated_parts a) (isolated_parts b) m)
 split_keeps_parts g inner rest n (isolated {a} {inner = i} {rest = r} s) part (inl e) k x h =
     absurd (k (subst (λ q. n ∈ leaves q) (sym e) (split_here a i r n s)))
 split_keeps_parts g inner rest n (isolated {a} {inner = i} {rest = r} s) part (inr m) k x h =
-    mem_left part (isolated_parts (Sequence i r)) [] (split_keeps_parts a i r n s part m k x h)
+    mem_append_left part (isolated_parts (Sequence i r)) [] (split_keeps_parts a i r n s part m k x h)

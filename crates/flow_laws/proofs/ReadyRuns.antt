@@ -6,9 +6,10 @@ use Rattle.flow_model.specs.Trace.{Trace}
 use Rattle.flow_model.specs.Ready.{InSequence, DirectlyBefore, isolated_parts, IsReady, DoneOr, IsReadyRunAfter, IsReadyRun, IsCompleteRun}
 use Rattle.flow_laws.specs.Words.{IsOrdered}
 use Rattle.flow_laws.specs.ReadyRuns.{CompleteRunsAreTraces, FrontsAreReady}
-use Rattle.flow_laws.proofs.ListLemmas1.{mem_append, mem_here, each_at, each_of, split_at, distinct_left, distinct_right, distinct_apart, not_elsewhere, before_second, before_across, before_right, in_front, not_both_ways}
+use Rattle.flow_laws.proofs.ListLemmas1.{mem_here, each_at, split_at, distinct_left, distinct_right, distinct_apart, not_elsewhere, before_second, before_across, before_right, in_front, not_both_ways}
 use Rattle.flow_laws.proofs.ReadyRemains.{sequence_first, sequence_second, part_within}
 use Rattle.flow_laws.proofs.ReadyOrders.{IsOrdering, ordering_of_trace, trace_of_ordering}
+use Rattle.flow_laws.proofs.ListLemmas2.{mem-append, each_from_members}
 
 -- what is directly before what
 
@@ -63,13 +64,13 @@ ready_in_arrangement q pairs front n back w a = record {
       (⊎_elim
       (λ e. absurd (l (subst (λ z. z ∈ leaves part) e p)))
       (λ i. absurd (o.together part m x n y k l p (before_across x n front (n ∷ back) h (inl refl)) (before_right n y front (n ∷ back) (inl (refl, i))))))
-      (mem_append y front (n ∷ back) (o.all y (part_within q part y m p)));
+      (mem-append y front (n ∷ back) (o.all y (part_within q part y m p)));
   begins = λ part m k none x y l p b. ⊎_elim
       (λ i. i)
       (⊎_elim
       (λ e. absurd (l (subst (λ z. z ∈ leaves part) (sym e) k)))
       (λ i. absurd (o.together part m n x y k l p (before_right n x front (n ∷ back) (inl (refl, i))) (direct_stands q pairs (front ++ n ∷ back) a x y b))))
-      (mem_append x front (n ∷ back) (o.all x (direct_first q pairs w x y b)));
+      (mem-append x front (n ∷ back) (o.all x (direct_first q pairs w x y b)));
 }
   where
     open a use {ordering as o}
@@ -195,7 +196,7 @@ complete_arranged q pairs t w h = record {
     before = λ x y k. stands x y (inl k);
     together = apart;
   };
-  pairs_stand = each_of (λ pair. StandsBefore pair.0 pair.1 t) pairs (λ pair m. stands pair.0 pair.1 (inr m));
+  pairs_stand = each_from_members (λ pair. StandsBefore pair.0 pair.1 t) pairs (λ pair m. stands pair.0 pair.1 (inr m));
 }
   where
     d : AreDistinct t

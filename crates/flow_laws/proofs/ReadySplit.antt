@@ -3,7 +3,7 @@ use Rattle.std.proofs.Common.{◌≡◌, ℕ, List, [], ◌∷◌, ◌++◌, ◌
 use Rattle.flow_model.specs.Lists.{joined}
 use Rattle.flow_model.specs.Process.{Process, Empty, Task, Sequence, Parallel, Choice, Isolated, leaves, IsChoiceFree}
 use Rattle.flow_model.specs.Trace.{Shuffle, both_end, from_left, from_right, Blocks, Trace}
-use Rattle.flow_laws.proofs.ListLemmas1.{joined_append}
+use Rattle.flow_laws.proofs.ListLemmas2.{joined-append}
 
 -- Leaf n may come first; `inner` remains of the outermost isolated part that it begins, and must be done
 -- first, and `rest` is what follows.
@@ -76,7 +76,7 @@ split_blocks g inner rest n x y f (parallel_right {a} {b} {rest = r} s) p q =
 split_blocks g inner rest n x y f (isolated {a} {inner = i} {rest = r} s) p q = (
   (n ∷ joined p.0) ∷ p.1,
   split_blocks a i r n p.0 p.1 f s p.2 p.3,
-  rw (q, p.4, joined_append p.0 p.1),
+  rw (q, p.4, joined-append p.0 p.1),
 )
 
 -- the first block of an execution of the goal
@@ -156,7 +156,7 @@ first_block (Isolated a) block more f (c ∷ x, p, e) =
       rest = Empty;
       blocks = r.blocks ++ x;
       split = isolated r.split;
-      is_block = whole ∙ ap (λ l. l ++ joined x) r.is_block ∙ ap (λ l. r.leaf ∷ l) (sym (joined_append r.blocks x));
+      is_block = whole ∙ ap (λ l. l ++ joined x) r.is_block ∙ ap (λ l. r.leaf ∷ l) (sym (joined-append r.blocks x));
       of_inner = (r.blocks, x, r.of_inner, r.of_rest, refl);
       of_rest = cc;
     }
@@ -173,7 +173,7 @@ trace_split g n t f (block ∷ more, h, e) =
       r.inner,
       r.rest,
       subst (λ m. Split g m r.inner r.rest) here r.split,
-      (r.blocks ++ more, (r.blocks, more, r.of_inner, r.of_rest, refl), tail ∙ sym (joined_append r.blocks more)),
+      (r.blocks ++ more, (r.blocks, more, r.of_inner, r.of_rest, refl), tail ∙ sym (joined-append r.blocks more)),
     )
 
 -- and conversely
@@ -183,7 +183,7 @@ split_trace g inner rest n t f s h =
     let y = h.1.1 in (
       (n ∷ joined x) ∷ y,
       split_blocks g inner rest n x y f s h.1.2 h.1.3,
-      ap (λ l. n ∷ l) (h.2 ∙ ap joined h.1.4 ∙ joined_append x y),
+      ap (λ l. n ∷ l) (h.2 ∙ ap joined h.1.4 ∙ joined-append x y),
     )
 
 -- the empty list is an execution of the goals with no leaf, and of no other

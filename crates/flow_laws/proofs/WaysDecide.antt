@@ -1,13 +1,14 @@
 -- On a list of distinct events, some way stands in order exactly where the normal form is met.
 use Rattle.std.proofs.Common.{◌≡◌, ◌≢◌, ℕ, ◌⊎◌, ◌↔◌, Bool, true, false, ◌==◌, ◌||◌, if◌then◌else◌, List, [], ◌∷◌, ◌++◌, refl, sym, subst, inl, inr, Option, Some, None}
-use Rattle.std.proofs.lemmas.Bool.{eqb-true, eqb-false, eq-eqb}
+use Rattle.std.proofs.lemmas.Bool.{eqb-true, eqb-false}
 use Rattle.flow_model.specs.declared.labels.Label.{Label}
 use Rattle.flow_model.specs.Lists.{◌∈◌, AreDistinct, AreInOrder, StandsBefore, each_with_each}
-use Rattle.flow_model.specs.Facts.{event_at, events_of}
+use Rattle.flow_model.specs.Facts.{event_at, is_event, events_of}
 use Rattle.flow_model.specs.Ways.{Normal, always, impossible, must, never, before, not_before, both, either, ways, leaf_of_event, free_way, is_free, ways_of_must, ways_of_never, ways_of_before, ways_of_not_before}
-use Rattle.flow_laws.proofs.ListLemmas2.{mem_append_left, mem_append_right, mem-append, mem-each_with_each, of_each_with_each, each-append, each_parts, not_found, mem-filter_map, of_filter_map, before-filter_map, of_before-filter_map, same_source, before_members, not_both_before, one_before}
+use Rattle.flow_laws.proofs.ListLemmas2.{mem_append_left, mem_append_right, mem-append, mem-each_with_each, of_each_with_each, each-append, each_parts, not_found, mem-filter_map, of_filter_map, before-filter_map, of_before-filter_map, same_source, before_members, not_both_before}
 use Rattle.flow_laws.proofs.NormalForms.{MeetsNormal}
-use Rattle.flow_laws.proofs.WaysLemmas.{is_event, leaf_of_event_is}
+use Rattle.flow_laws.proofs.WaysLemmas.{test_of_event, leaf_of_event_is}
+use Rattle.flow_laws.proofs.ListLemmas1.{before_or_after}
 
 -- some way of the list stands in order
 abbrev pub HasWay : List (List (ℕ × ℕ)) → List ℕ → Type 0
@@ -23,9 +24,6 @@ pub record AreItsLeaves (labels : List Label) (t ls : List ℕ) : Type 0 where
 pub leaf_is_there : {labels : List Label} {t ls : List ℕ} → AreItsLeaves labels t ls → (e n : ℕ) →
     leaf_of_event labels ls e ≡ Some n → (n ∈ t) × (event_at labels n ≡ Some e)
 leaf_is_there {labels} {t} {ls} l e n h = let (m, k) = leaf_of_event_is labels ls e n h in ((l.same n).1 m, k)
-
-pub test_of_event : (e : ℕ) (o : Option ℕ) → o ≡ Some e → is_event e o ≡ true
-test_of_event e o h = subst (λ p. is_event e p ≡ true) (sym h) (eq-eqb e e refl)
 
 pub event_is_not_there : {labels : List Label} {t ls : List ℕ} → AreItsLeaves labels t ls → (e : ℕ) →
     leaf_of_event labels ls e ≡ None → ¬ (e ∈ events_of labels t)
@@ -115,7 +113,7 @@ decide_not_before {labels} {t} l a b false e None i p j =
 decide_not_before {labels} {t} l a b false e (Some x) i None j =
     (λ n. free_has_way t, λ k s. event_is_not_there l b j (before_members a b (events_of labels t) s).1)
 decide_not_before {labels} {t} l a b false e (Some x) i (Some y) j = (
-  λ n. elim (one_before x y t (leaf_is_there l a x i).0 (leaf_is_there l b y j).0 (leaves_differ l a b x y (eqb-false a b e) i j)) [
+  λ n. elim (before_or_after x y t (leaf_is_there l a x i).0 (leaf_is_there l b y j).0 (leaves_differ l a b x y (eqb-false a b e) i j)) [
     | inl s ↦ absurd (n (before_events l a b x y i j s))
     | inr s ↦ ((y, x) ∷ [], inl refl, (s, tt))
   ],
@@ -128,11 +126,11 @@ decide_not_before {labels} {t} l a b false e (Some x) i (Some y) j = (
 
 -- The joined forms
 
-pub is_free_is : (vs : List (List (ℕ × ℕ))) → is_free vs ≡ true → vs ≡ free_way
-is_free_is [] e = cc
-is_free_is ((pair ∷ pairs) ∷ vs) e = cc
-is_free_is ([] ∷ []) e = refl
-is_free_is ([] ∷ way ∷ vs) e = cc
+pub free_is : (vs : List (List (ℕ × ℕ))) → is_free vs ≡ true → vs ≡ free_way
+free_is [] e = cc
+free_is ((pair ∷ pairs) ∷ vs) e = cc
+free_is ([] ∷ []) e = refl
+free_is ([] ∷ way ∷ vs) e = cc
 
 pub decide_both : (t : List ℕ) (X Y : Type 0) (vs ws : List (List (ℕ × ℕ))) → X ↔ HasWay vs t → Y ↔ HasWay ws t →
     (X × Y) ↔ HasWay (each_with_each (λ v w. v ++ w) vs ws) t
@@ -149,9 +147,9 @@ pub decide_either : (t : List ℕ) (X Y : Type 0) (vs ws : List (List (ℕ × �
     (f g : Bool) → is_free vs ≡ f → is_free ws ≡ g →
     (X ⊎ Y) ↔ HasWay (if f || g then free_way else vs ++ ws) t
 decide_either t X Y vs ws x y true g e i =
-    (λ h. free_has_way t, λ k. inl (x.1 (subst (λ u. HasWay u t) (sym (is_free_is vs e)) (free_has_way t))))
+    (λ h. free_has_way t, λ k. inl (x.1 (subst (λ u. HasWay u t) (sym (free_is vs e)) (free_has_way t))))
 decide_either t X Y vs ws x y false true e i =
-    (λ h. free_has_way t, λ k. inr (y.1 (subst (λ u. HasWay u t) (sym (is_free_is ws i)) (free_has_way t))))
+    (λ h. free_has_way t, λ k. inr (y.1 (subst (λ u. HasWay u t) (sym (free_is ws i)) (free_has_way t))))
 decide_either t X Y vs ws x y false false e i = (
   λ h. elim h [
     | inl k ↦ (let (v, m, s) = x.0 k in (v, mem_append_left v vs ws m, s))

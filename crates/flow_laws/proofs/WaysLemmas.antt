@@ -1,22 +1,20 @@
 -- The ways of a constraint: of which leaves their pairs are, and what they decide.
-use Rattle.std.proofs.Common.{◌≡◌, ◌≢◌, ℕ, ◌⊎◌, Bool, true, false, ◌==◌, ◌||◌, if◌then◌else◌, List, [], ◌++◌, refl, sym, ap, subst, inl, inr, Option, Some, None}
-use Rattle.std.proofs.lemmas.Bool.{eqb-true, eqb-false}
+use Rattle.std.proofs.Common.{◌≡◌, ◌≢◌, ℕ, ◌⊎◌, Bool, true, false, ◌==◌, ◌||◌, if◌then◌else◌, List, [], ◌++◌, refl, sym, ap, ◌∙◌, subst, inl, inr, Option, Some, None}
+use Rattle.std.proofs.lemmas.Bool.{eqb-true, eqb-false, eq-eqb}
 use Rattle.flow_model.specs.declared.labels.Label.{Label}
 use Rattle.flow_model.specs.Lists.{◌∈◌, Each}
-use Rattle.flow_model.specs.Facts.{event_at}
+use Rattle.flow_model.specs.Facts.{event_at, is_event}
 use Rattle.flow_model.specs.Ways.{Normal, always, impossible, must, never, before, not_before, both, either, ways, leaf_of_event, free_way, is_free, ways_of_must, ways_of_never, ways_of_before, ways_of_not_before}
 use Rattle.flow_laws.proofs.ListLemmas2.{mem-append, of_each_with_each, each-append, of_find}
 
 -- The leaf of an event
 
--- the event, if any, is that one
-abbrev pub is_event : ℕ → Option ℕ → Bool
-is_event e None = false
-is_event e (Some x) = x == e
-
 pub event_from_test : (e : ℕ) (o : Option ℕ) → is_event e o ≡ true → o ≡ Some e
 event_from_test e None h = cc
 event_from_test e (Some x) h = ap Some (eqb-true x e h)
+
+pub test_of_event : (e : ℕ) (o : Option ℕ) → o ≡ Some e → is_event e o ≡ true
+test_of_event e o h = ap (is_event e) h ∙ eq-eqb e e refl
 
 pub leaf_of_event_is : (labels : List Label) (ls : List ℕ) (e n : ℕ) → leaf_of_event labels ls e ≡ Some n →
     (n ∈ ls) × (event_at labels n ≡ Some e)

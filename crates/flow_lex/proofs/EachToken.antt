@@ -1,30 +1,20 @@
 -- What holds of each token that is read.
-use Rattle.std.proofs.Common.{◌≡◌, ℕ, zero, suc, ◌+◌, ◌-◌, List, [], ◌∷◌, ◌++◌, length, length-append, take, drop, refl, sym, subst, arith, append_assoc}
+use Rattle.std.proofs.Common.{◌≡◌, ℕ, zero, suc, ◌+◌, ◌-◌, List, [], ◌∷◌, ◌++◌, length, length-append, take, refl, sym, subst, arith, append_assoc}
 use Rattle.std.specs.Prelude.{Option, Some, None}
 use Rattle.flow_model.specs.Lists.{Each}
 use Rattle.flow_lex.specs.declared.token.Token.{Token}
 use Rattle.flow_lex.specs.declared.token.TokenKind.{TokenKind}
 use Rattle.flow_lex.specs.declared.piece.Piece.{Piece}
 use Rattle.flow_lex.specs.Tokens.{Lexed, piece_at, token_of, with_tokens, after_piece, lexed_after, lexed, bytes_of}
-
-drop-front : (front bs : List ℕ) → drop (length front) (front ++ bs) ≡ bs
-drop-front [] bs = refl
-drop-front (x ∷ front) bs = drop-front front bs
+use Rattle.flow_model.proofs.Lists.{each-append, each_parts}
+use Rattle.std.proofs.Math.Seq.{drop-append_seam}
 
 -- the bytes of the token that begins there
 token-bytes : (front : List ℕ) (b more : ℕ) (bs : List ℕ) (kind : TokenKind) →
     bytes_of (front ++ b ∷ bs) (record { kind = kind; start = length front; end = length front + more + 1 }) ≡ b ∷ take more bs
 token-bytes front b more bs kind =
     let size : length front + more + 1 - length front ≡ suc more = omega arith in
-    (λ i. take (size i) (drop-front front (b ∷ bs) i))
-
-each-append : {A : Type 0} (P : A → Type 0) (xs ys : List A) → Each P xs → Each P ys → Each P (xs ++ ys)
-each-append P [] ys h k = k
-each-append P (x ∷ xs) ys (a, h) k = (a, each-append P xs ys h k)
-
-each-front : {A : Type 0} (P : A → Type 0) (xs ys : List A) → Each P (xs ++ ys) → Each P xs
-each-front P [] ys h = tt
-each-front P (x ∷ xs) ys (a, h) = (a, each-front P xs ys h)
+    (λ i. take (size i) (drop-append_seam front (b ∷ bs) i))
 
 -- the token's kind and bytes have Q
 abbrev pub Has : (TokenKind → List ℕ → Type 0) → List ℕ → Token → Type 0
@@ -68,7 +58,7 @@ module _ (Q : TokenKind → List ℕ → Type 0)
   -- the tokens that are read first
   pub each-token : (text : List ℕ) (front : List Token) (l : Lexed) → lexed text ≡ with_tokens front l → Each (Has Q text) front
   each-token text front l e =
-      each-front (Has Q text) front l.tokens (subst (λ (whole : Lexed). Each (Has Q text) whole.tokens) e (has-after text [] zero))
+      (each_parts (Has Q text) front l.tokens (subst (λ (whole : Lexed). Each (Has Q text) whole.tokens) e (has-after text [] zero))).0
 
   pub each-read : (text : List ℕ) (tokens : List Token) → lexed text ≡ record { tokens = tokens; bad = None } → Each (Has Q text) tokens
   each-read text tokens e = subst (λ (whole : Lexed). Each (Has Q text) whole.tokens) e (has-after text [] zero)

@@ -1,5 +1,5 @@
 -- What is written piece by piece is read so.
-use Rattle.std.proofs.Common.{◌≡◌, ℕ, zero, suc, ◌+◌, ◌<◌, ◌^◌, List, [], ◌∷◌, ◌++◌, length, take, drop, refl, ap, ◌∙◌, arith, Bool, true, false, cond, nat_lt, ◌&&◌, if◌then◌else◌}
+use Rattle.std.proofs.Common.{◌≡◌, ℕ, zero, suc, ◌+◌, ◌<◌, ◌^◌, List, [], ◌∷◌, ◌++◌, length, take, refl, ap, ◌∙◌, arith, Bool, true, false, cond, nat_lt, ◌&&◌, if◌then◌else◌}
 use Rattle.std.specs.Prelude.{Some, None}
 use Rattle.std.proofs.lemmas.Bool.{lt-ltb}
 use Rattle.std.specs.List.{prefix_len, list_all}
@@ -9,6 +9,7 @@ use Rattle.flow_lex.specs.Bytes.{is_letter, is_digit, is_in_word, number_value}
 use Rattle.flow_lex.specs.Tokens.{token, with_tokens, after_piece, lexed_after, piece_at, number_piece}
 use Rattle.flow_lex.specs.Writing.{BeginsWithout, spanning, WordsAreRead, NumbersAreRead}
 use Rattle.flow_lex.proofs.Cutting.{lexed_after-skipped}
+use Rattle.std.proofs.Math.Seq.{drop-append_seam, take-append_seam}
 
 -- all of the front pass and what follows does not
 prefix_len-front : (p : ℕ → Bool) (more rest : List ℕ) → list_all p more ≡ true → BeginsWithout p rest → prefix_len p (more ++ rest) ≡ length more
@@ -20,14 +21,6 @@ prefix_len-front p (b ∷ bs) rest all stop = go (p b) refl all (λ h. prefix_le
         → prefix_len p (b ∷ bs ++ rest) ≡ suc (length bs)
     go true e h more = ap (λ pass. cond pass (1 + prefix_len p (bs ++ rest)) 0) e ∙ ap (λ n. 1 + n) (more h) ∙ omega arith
     go false e h more = cc
-
-drop-front : (more rest : List ℕ) → drop (length more) (more ++ rest) ≡ rest
-drop-front [] rest = refl
-drop-front (b ∷ bs) rest = drop-front bs rest
-
-take-front : (more rest : List ℕ) → take (length more) (more ++ rest) ≡ more
-take-front [] rest = refl
-take-front (b ∷ bs) rest = ap (λ t. b ∷ t) (take-front bs rest)
 
 letter-piece : (b : ℕ) (bs : List ℕ) → is_letter b ≡ true → piece_at b bs ≡ Some (token Word (prefix_len is_in_word bs))
 letter-piece b bs letter = grind arith
@@ -41,7 +34,7 @@ token-read : (place b : ℕ) (more rest : List ℕ) (kind : TokenKind) → piece
 token-read place b more rest kind e =
     ap (λ piece. after_piece place piece (λ n. lexed_after (place + 1) n (more ++ rest))) e
     ∙ (λ i. with_tokens (record { kind = kind; start = place; end = ended i } ∷ []) (lexed_after-skipped (place + 1) (length more) (more ++ rest) i))
-    ∙ (λ i. with_tokens (spanning kind place (length (b ∷ more)) ∷ []) (lexed_after (on i) zero (drop-front more rest i)))
+    ∙ (λ i. with_tokens (spanning kind place (length (b ∷ more)) ∷ []) (lexed_after (on i) zero (drop-append_seam more rest i)))
   where
     ended : place + length more + 1 ≡ place + suc (length more)
     ended = omega arith
@@ -57,7 +50,7 @@ number-piece : (b : ℕ) (more rest : List ℕ) → list_all is_digit more ≡ t
     → number_piece b (more ++ rest) ≡ Some (token Number (length more))
 number-piece b more rest inside stop small =
     ap (λ n. if nat_lt (number_value (b ∷ take n (more ++ rest))) (2 ^ 32) then Some (token Number n) else None) (prefix_len-front is_digit more rest inside stop)
-    ∙ ap (λ ds. if nat_lt (number_value (b ∷ ds)) (2 ^ 32) then Some (token Number (length more)) else None) (take-front more rest)
+    ∙ ap (λ ds. if nat_lt (number_value (b ∷ ds)) (2 ^ 32) then Some (token Number (length more)) else None) (take-append_seam more rest)
     ∙ ap (λ t. if t then Some (token Number (length more)) else None) (lt-ltb (number_value (b ∷ more)) (2 ^ 32) small)
 
 pub numbers-read : NumbersAreRead

@@ -1,6 +1,7 @@
 -- What the passes find is the first role of its kind.
 use Rattle.std.proofs.Common.{◌≡◌, ℕ, ◌+◌, List, [], ◌∷◌, ◌++◌, length, Bool, true, false, cond, refl, sym, ap, subst, ◌∙◌, ◌⊎◌, inl, inr, append_assoc, arith}
 use Rattle.std.specs.Prelude.{Option, Some, None, not}
+use Rattle.std.proofs.lemmas.Bool.{not-false}
 use Rattle.flow_model.specs.Lists.{◌∈◌, Each, AreDistinct}
 use Rattle.flow_form.specs.Script.{Declared}
 use Rattle.flow_form.specs.Names.{declared_names, event_names}
@@ -169,10 +170,6 @@ unknown_is decls known events (in_goal n) h g e = λ member. let t = h.in_set n 
 unknown_is decls known events (in_rule n) h g e = λ member. let t = g.in_set n member in let u : not (events n) ≡ not true = ap not t in cc
 unknown_is decls known events (in_fact n) h g e = absurd (cc)
 
-not_false : (b : Bool) → not b ≡ false → b ≡ true
-not_false true e = refl
-not_false false e = cc
-
 -- the role is as it must be
 abbrev pub IsWell : List Declared → Role → Type 0
 IsWell decls (declares n) = Unit {0}
@@ -183,8 +180,8 @@ IsWell decls (in_fact n) = Unit {0}
 known_is : (decls : List Declared) (known events : NameSet) (r : Role) → Holds known (declared_names decls) → Holds events (event_names decls)
     → is_unknown known events r ≡ false → IsWell decls r
 known_is decls known events (declares n) h g e = tt
-known_is decls known events (in_goal n) h g e = h.in_names n (not_false (known n) e)
-known_is decls known events (in_rule n) h g e = g.in_names n (not_false (events n) e)
+known_is decls known events (in_goal n) h g e = h.in_names n (not-false (known n) e)
+known_is decls known events (in_rule n) h g e = g.in_names n (not-false (events n) e)
 known_is decls known events (in_fact n) h g e = tt
 
 pub well_is_known : (decls : List Declared) (r : Role) → IsWell decls r → IsUnknown decls r → ⊥

@@ -5,7 +5,6 @@ use Rattle.std.specs.List.{list_all}
 use Rattle.std.specs.Fmt.{decimal}
 use Rattle.std.proofs.lemmas.Bool.{and_parts}
 use Rattle.std.proofs.lemmas.List.{map-append}
-use Rattle.flow_model.specs.Lists.{Each}
 use Rattle.flow_lex.specs.declared.token.Token.{Token}
 use Rattle.flow_lex.specs.declared.token.TokenKind.{TokenKind}
 use Rattle.flow_lex.specs.declared.token.TokenKind.TheVariants.{Word, Number, Mark}
@@ -17,6 +16,8 @@ use Rattle.flow_grammar.specs.Symbol.{Symbol, a_name, a_number}
 use Rattle.flow_reader.specs.Symbols.{reserved, word_symbol, mark_symbol, symbol_of}
 use Rattle.flow_print.specs.Printable.{IsName}
 use Rattle.flow_print.proofs.Digits.{Writes, decimal_writes}
+use Rattle.flow_model.proofs.Lists.{each-append}
+use Rattle.std.proofs.Math.Seq.{drop-append_seam, take-append_seam}
 
 -- an open piece ends in a word or a number, and what follows does not go on with it
 abbrev pub Stops : Bool → List ℕ → Type 0
@@ -29,10 +30,6 @@ pub record Reads (open_end : Bool) (x : List ℕ) (f : List Symbol → List Symb
   pub cut : (text front rest : List ℕ) → text ≡ front ++ (x ++ rest) → Stops open_end rest →
       (ts : List Token) × ((lexed_after (length front) zero (x ++ rest) ≡ with_tokens ts (lexed_after (length front + length x) zero rest))
       × ((r : List Symbol) → map (symbol_of text) ts ++ r ≡ f r))
-
-each-append : {A : Type 0} (P : A → Type 0) (xs ys : List A) → Each P xs → Each P ys → Each P (xs ++ ys)
-each-append P [] ys h k = k
-each-append P (x ∷ xs) ys (a, h) k = (a, each-append P xs ys h k)
 
 regrouped : (a b : List Token) (l : Lexed) → with_tokens a (with_tokens b l) ≡ with_tokens (a ++ b) l
 regrouped a b l = ap (λ ts. record { tokens = ts; bad = l.bad }) (sym (append_assoc a b l.tokens))
@@ -116,19 +113,11 @@ all-ascii : (p : ℕ → Bool) → ((b : ℕ) → p b ≡ true → b ≤ 127) �
 all-ascii p small [] h = tt
 all-ascii p small (b ∷ bs) h = let parts = and_parts (p b) (list_all p bs) h in (small b parts.0, all-ascii p small bs parts.1)
 
-drop-front : {A : Type 0} (front rest : List A) → drop (length front) (front ++ rest) ≡ rest
-drop-front [] rest = refl
-drop-front (b ∷ bs) rest = drop-front bs rest
-
-take-front : {A : Type 0} (front rest : List A) → take (length front) (front ++ rest) ≡ front
-take-front [] rest = refl
-take-front (b ∷ bs) rest = ap (λ t. b ∷ t) (take-front bs rest)
-
 -- the bytes of a token are those that stand there
 bytes_there : (text front x rest : List ℕ) (kind : TokenKind) → text ≡ front ++ (x ++ rest) → bytes_of text (spanning kind (length front) (length x)) ≡ x
 bytes_there text front x rest kind is =
     let size : length front + length x - length front ≡ length x = omega arith in
-    (λ i. take (size i) (drop (length front) (is i))) ∙ ap (take (length x)) (drop-front front (x ++ rest)) ∙ take-front x rest
+    (λ i. take (size i) (drop (length front) (is i))) ∙ ap (take (length x)) (drop-append_seam front (x ++ rest)) ∙ take-append_seam x rest
 
 byte_there : (front rest : List ℕ) (b : ℕ) → slice_index_or (front ++ b ∷ rest) (length front) 0 ≡ b
 byte_there [] rest b = refl

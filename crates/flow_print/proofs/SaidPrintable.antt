@@ -1,5 +1,5 @@
 -- What is derived from symbols that can be written can be printed.
-use Rattle.std.proofs.Common.{ℕ, suc, List, [], ◌∷◌, ◌++◌, sym, subst}
+use Rattle.std.proofs.Common.{ℕ, suc, List, [], ◌∷◌, sym, subst}
 use Rattle.flow_model.specs.Lists.{Each}
 use Rattle.flow_facts.specs.declared.constant.Const.{Const}
 use Rattle.flow_facts.specs.declared.constant.Const.TheVariants as const
@@ -10,6 +10,7 @@ use Rattle.flow_grammar.specs.Grammar.{FactText, bare, applied, spell_constants,
 use Rattle.flow_print.specs.Printable.{IsName, IsPrintableConstant, IsPrintableFact, IsPrintableGoal, ArePrintableGoals, IsPrintableRule, ArePrintableRules, IsPrintableNote, IsPrintableDeclaration, IsPrintable}
 use Rattle.flow_print.specs.PrintedLaws.{SaidIsPrintable}
 use Rattle.flow_print.proofs.Writable.{IsWritable, tokens-writable}
+use Rattle.flow_model.proofs.Lists.{each-append}
 
 -- each symbol of the spelled list can be written
 abbrev W : List Placed → Type 0
@@ -183,10 +184,6 @@ decl (events_text e es) r (w, h) =
 decl (flow_text n g) r (w, (n', (eq, h))) =
     let (g', (end, r')) = goal g 0 (at 0 semicolon ∷ r) h in
     (((n', g'), tt), r')
-
-each-append : {A : Type 0} (P : A → Type 0) (xs ys : List A) → Each P xs → Each P ys → Each P (xs ++ ys)
-each-append P [] ys h k = k
-each-append P (x ∷ xs) ys (a, h) k = (a, each-append P xs ys h k)
 
 decls : (ds : List DeclText) (r : List Placed) → W (spell_decls ds r) → Each IsPrintableDeclaration (mean_decls ds) × W r
 decls [] r h = (tt, h)

@@ -81,14 +81,20 @@ fn start_atom(alloc: Global, stack: Stack, symbol: Symbol<'_>) -> Result<GoalSte
     Ok(GoalStep::Reading(reader))
 }
 
-fn join_atom(alloc: Global, stack: Stack, symbol: Symbol<'_>) -> Result<GoalStep, AllocError>
+fn join_atom(alloc: Global, mut stack: Stack, symbol: Symbol<'_>) -> Result<GoalStep, AllocError>
     ensures { IfOk result (λ step. goal_step step
         ≡ machine.join_atom (frames_of stack.frames.items) (level_of stack.level) (meant symbol.entry)) }
 {
     match symbol {
         Symbol::Star => Ok(GoalStep::Reading(GoalReader::AtomNeeded(stack))),
-        Symbol::Bar => Ok(GoalStep::Reading(GoalReader::AtomNeeded(stack.serial_closed(alloc)?))),
-        Symbol::Plus => Ok(GoalStep::Reading(GoalReader::AtomNeeded(stack.beside_closed(alloc)?))),
+        Symbol::Bar => {
+            stack.level.close_serial(alloc)?;
+            Ok(GoalStep::Reading(GoalReader::AtomNeeded(stack)))
+        }
+        Symbol::Plus => {
+            stack.level.close_beside(alloc)?;
+            Ok(GoalStep::Reading(GoalReader::AtomNeeded(stack)))
+        }
         Symbol::Semicolon => end_goal(alloc, stack),
         Symbol::Closing => close_parenthesis(alloc, stack),
         _ => Ok(GoalStep::Stuck),

@@ -8,6 +8,7 @@ ghost use Rattle.flow_reader.specs.Goals.{list_of, frame_of, frames_of, level_of
 
 use flow_form::{Form, Wanted};
 use std::alloc::{AllocError, Global};
+use std::mem;
 
 /// How members of a list are joined.
 #[derive(Clone, Copy)]
@@ -59,36 +60,28 @@ impl Level {
         Ok(())
     }
 
-    pub fn serial_closed(mut self, alloc: Global) -> Result<Level, AllocError>
-        ensures { IfOk result (λ level. level_of level ≡ machine.close_serial (level_of self)) }
+    pub fn close_serial(&mut self, alloc: Global) -> Result<(), AllocError>
+        ensures { OnOk result (level_of self.new ≡ machine.close_serial (level_of self.old)) }
     {
-        let serial = gathered(Join::Serial, self.serials);
-        self.besides.push(serial)?;
-        Ok(Level {
-            eithers: self.eithers,
-            besides: self.besides,
-            serials: Vec::new(alloc),
-        })
+        let serials = mem::replace(&mut self.serials, Vec::new(alloc));
+        self.besides.push(gathered(Join::Serial, serials))?;
+        Ok(())
     }
 
-    pub fn beside_closed(self, alloc: Global) -> Result<Level, AllocError>
-        ensures { IfOk result (λ level. level_of level ≡ machine.close_beside (level_of self)) }
+    pub fn close_beside(&mut self, alloc: Global) -> Result<(), AllocError>
+        ensures { OnOk result (level_of self.new ≡ machine.close_beside (level_of self.old)) }
     {
-        let mut level = self.serial_closed(alloc)?;
-        let beside = gathered(Join::Beside, level.besides);
-        level.eithers.push(beside)?;
-        Ok(Level {
-            eithers: level.eithers,
-            besides: Vec::new(alloc),
-            serials: level.serials,
-        })
+        self.close_serial(alloc)?;
+        let besides = mem::replace(&mut self.besides, Vec::new(alloc));
+        self.eithers.push(gathered(Join::Beside, besides))?;
+        Ok(())
     }
 
-    pub fn closed(self, alloc: Global) -> Result<Form, AllocError>
+    pub fn closed(mut self, alloc: Global) -> Result<Form, AllocError>
         ensures { IfOk result (λ form. shape_of form ≡ machine.close (level_of self)) }
     {
-        let level = self.beside_closed(alloc)?;
-        Ok(gathered(Join::Either, level.eithers))
+        self.close_beside(alloc)?;
+        Ok(gathered(Join::Either, self.eithers))
     }
 }
 
@@ -160,28 +153,6 @@ impl Stack {
         Ok(Stack {
             frames: self.frames,
             level: Level::new(alloc),
-        })
-    }
-
-    pub fn serial_closed(self, alloc: Global) -> Result<Stack, AllocError>
-        ensures frames { IfOk result (λ stack. stack.frames.items ≡ self.frames.items) }
-        ensures level { IfOk result (λ stack. level_of stack.level ≡ machine.close_serial (level_of self.level)) }
-    {
-        let level = self.level.serial_closed(alloc)?;
-        Ok(Stack {
-            frames: self.frames,
-            level,
-        })
-    }
-
-    pub fn beside_closed(self, alloc: Global) -> Result<Stack, AllocError>
-        ensures frames { IfOk result (λ stack. stack.frames.items ≡ self.frames.items) }
-        ensures level { IfOk result (λ stack. level_of stack.level ≡ machine.close_beside (level_of self.level)) }
-    {
-        let level = self.level.beside_closed(alloc)?;
-        Ok(Stack {
-            frames: self.frames,
-            level,
         })
     }
 

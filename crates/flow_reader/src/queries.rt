@@ -80,7 +80,10 @@ impl QueryReader {
     {
         match self {
             QueryReader::QueryRead(query) => Some(query),
-            _ => None,
+            unfinished => {
+                drop(unfinished);
+                None
+            }
         }
     }
 

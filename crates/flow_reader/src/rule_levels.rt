@@ -6,6 +6,7 @@ ghost use Rattle.flow_reader.specs.RuleLevels.{rule_list_of, rule_frame_of, rule
 
 use flow_form::RuleForm;
 use std::alloc::{AllocError, Global};
+use std::mem;
 
 /// How members of a list are joined.
 #[derive(Clone, Copy)]
@@ -70,22 +71,19 @@ impl RuleLevel {
         Ok(())
     }
 
-    pub fn all_closed(mut self, alloc: Global) -> Result<RuleLevel, AllocError>
-        ensures { IfOk result (λ level. rule_level_of level ≡ machine.close_all (rule_level_of self)) }
+    pub fn close_all(&mut self, alloc: Global) -> Result<(), AllocError>
+        ensures { OnOk result (rule_level_of self.new ≡ machine.close_all (rule_level_of self.old)) }
     {
-        let all = gathered(RuleJoin::And, self.alls);
-        self.anys.push(all)?;
-        Ok(RuleLevel {
-            anys: self.anys,
-            alls: Vec::new(alloc),
-        })
+        let alls = mem::replace(&mut self.alls, Vec::new(alloc));
+        self.anys.push(gathered(RuleJoin::And, alls))?;
+        Ok(())
     }
 
-    pub fn closed(self, alloc: Global) -> Result<RuleForm, AllocError>
+    pub fn closed(mut self, alloc: Global) -> Result<RuleForm, AllocError>
         ensures { IfOk result (λ rule. rule_shape_of rule ≡ machine.close_rule (rule_level_of self)) }
     {
-        let level = self.all_closed(alloc)?;
-        Ok(gathered(RuleJoin::Or, level.anys))
+        self.close_all(alloc)?;
+        Ok(gathered(RuleJoin::Or, self.anys))
     }
 }
 

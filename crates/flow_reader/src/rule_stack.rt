@@ -70,7 +70,8 @@ impl RuleStack {
         ensures frames { IfOk result (λ stack. stack.frames.items ≡ self.frames.items) }
         ensures level { IfOk result (λ stack. rule_level_of stack.level ≡ machine.close_all (rule_level_of self.level)) }
     {
-        let level = self.level.all_closed(alloc)?;
+        let mut level = self.level;
+        level.close_all(alloc)?;
         Ok(RuleStack {
             frames: self.frames,
             level,

@@ -261,7 +261,10 @@ fn start_constraint(alloc: Global, script: Script, symbol: Symbol<'_>) -> Option
 {
     match symbol {
         Symbol::Constraint => Some(ScriptReader::InConstraint(script, RuleReader::new(alloc))),
-        _ => None,
+        _ => {
+            drop(script);
+            None
+        }
     }
 }
 
@@ -275,7 +278,10 @@ fn after_constraint(mut script: Script, step: RuleStep) -> Result<Option<ScriptR
             script.rules.push(rule)?;
             Ok(Some(ScriptReader::ConstraintNeeded(script)))
         }
-        RuleStep::Stuck => Ok(None),
+        RuleStep::Stuck => {
+            drop(script);
+            Ok(None)
+        }
     }
 }
 
@@ -323,7 +329,10 @@ impl ScriptReader {
     {
         match self {
             ScriptReader::ConstraintNeeded(script) => Some(script),
-            _ => None,
+            unfinished => {
+                drop(unfinished);
+                None
+            }
         }
     }
 

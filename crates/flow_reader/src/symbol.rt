@@ -1,5 +1,5 @@
 /// A token as the grammar sees it.
-#[derive(Clone, Copy, Debug)]
+#[derive(Clone, Copy)]
 pub enum Symbol<'a> {
     Fact,
     Event,

@@ -1,55 +1,49 @@
 -- What is written of a run is settled by the run.
-use Rattle.std.proofs.Common.{◌≡◌, ◌∙◌, ℕ, true, false, true≢false, List, [], ◌∷◌, ◌++◌, refl, sym, ap, subst, inl, inr, arith, le_antisymm}
+use Rattle.std.proofs.Common.{◌≡◌, ◌∙◌, ℕ, List, ◌++◌, refl, sym, ap, subst, le_antisymm}
 use Rattle.std.specs.Prelude.{codes}
-use Rattle.flow_model.specs.Lists.{◌∈◌}
 use Rattle.flow_model.specs.Verdict as verdict
-use Rattle.flow_model.specs.Verdict.{AreJust}
 use Rattle.flow_core.specs.declared.next.Next.{Next}
 use Rattle.flow_core.specs.declared.next.Next.TheVariants.{Act, Wait, Finished, Stuck, Ended}
-use Rattle.flow_core.specs.Run.{Run, now, GoesOn}
-use Rattle.flow_core.specs.Answers.{IsOver}
+use Rattle.flow_core.specs.Run.{Run, now}
 use Rattle.flow_core.specs.Looks.{CanAct, IsWaiting, IsLeast, IsNext}
 use Rattle.flow_core.proofs.Waiting.{not_waiting}
-use Rattle.flow_core.proofs.OneAnswer.{none_out}
+use Rattle.flow_core.proofs.OneAnswer.{none_out, not_over}
 use Rattle.flow_record.specs.declared.command.Command.TheVariants as command
 use Rattle.flow_reply.specs.declared.answer.Answer.TheVariants.{Took, Did, Done, Failed, Rewound, Committed, Shown}
 use Rattle.flow_reply.specs.declared.verdict.Verdict.{Verdict}
 use Rattle.flow_reply.specs.declared.verdict.Verdict.TheVariants as came
-use Rattle.flow_reply.specs.Reply.{IsReply, IsNextText, HoldsNow, numbers_text, spaced_facts}
+use Rattle.flow_reply.specs.Reply.{IsNextText, HoldsNow, numbers_text, spaced_facts}
 use Rattle.flow_reply.specs.Report.{Means, IsVerdictText, verdict_text, report_text}
 use Rattle.flow_reply.specs.Single.{RepliesAreSingle, ReportsAreSingle}
 use Rattle.flow_core.proofs.Rising.{one_list}
 
 -- What can be done next
 
-over_on : (r : Run) → IsOver r → GoesOn r → ⊥
-over_on r over on = true≢false (sym over ∙ on)
-
 one_least : (P : ℕ → Type 0) (x y : ℕ) → IsLeast P x → IsLeast P y → x ≡ y
 one_least P x y (px, least) (py, other) = le_antisymm (least y py) (other x px)
 
 pub one_next : (r : Run) (a b : Next) → IsNext r a → IsNext r b → a ≡ b
 one_next r Ended Ended x y = refl
-one_next r Ended (Act n) x y = absurd (over_on r x y.0.0)
-one_next r Ended (Wait n) x y = absurd (over_on r x y.0)
-one_next r Ended Finished x y = absurd (over_on r x y.0)
-one_next r Ended (Stuck n) x y = absurd (over_on r x y.0.0.going_on)
-one_next r (Act n) Ended x y = absurd (over_on r y x.0.0)
+one_next r Ended (Act n) x y = absurd (not_over r x y.0.0)
+one_next r Ended (Wait n) x y = absurd (not_over r x y.0)
+one_next r Ended Finished x y = absurd (not_over r x y.0)
+one_next r Ended (Stuck n) x y = absurd (not_over r x y.0.0.going_on)
+one_next r (Act n) Ended x y = absurd (not_over r y x.0.0)
 one_next r (Act n) (Act m) x y = ap Act (one_least (CanAct r) n m x y)
 one_next r (Act n) (Wait m) x y = absurd (y.1 n x.0)
 one_next r (Act n) Finished x y = absurd (y.1 n x.0)
 one_next r (Act n) (Stuck m) x y = absurd (not_waiting r (Act n) x (λ leaf e. cc) m y.0)
-one_next r (Wait n) Ended x y = absurd (over_on r y x.0)
+one_next r (Wait n) Ended x y = absurd (not_over r y x.0)
 one_next r (Wait n) (Act m) x y = absurd (x.1 m y.0)
 one_next r (Wait n) (Wait m) x y = ap Wait (le_antisymm (x.2.1 m y.2.0) (y.2.1 n x.2.0))
 one_next r (Wait n) Finished x y = absurd (none_out (now r) n y.2 x.2)
 one_next r (Wait n) (Stuck m) x y = absurd (not_waiting r (Wait n) x (λ leaf e. cc) m y.0)
-one_next r Finished Ended x y = absurd (over_on r y x.0)
+one_next r Finished Ended x y = absurd (not_over r y x.0)
 one_next r Finished (Act m) x y = absurd (x.1 m y.0)
 one_next r Finished (Wait m) x y = absurd (none_out (now r) m x.2 y.2)
 one_next r Finished Finished x y = refl
 one_next r Finished (Stuck m) x y = absurd (not_waiting r Finished x (λ leaf e. cc) m y.0)
-one_next r (Stuck n) Ended x y = absurd (over_on r y x.0.0.going_on)
+one_next r (Stuck n) Ended x y = absurd (not_over r y x.0.0.going_on)
 one_next r (Stuck n) (Act m) x y = absurd (not_waiting r (Act m) y (λ leaf e. cc) n x.0)
 one_next r (Stuck n) (Wait m) x y = absurd (not_waiting r (Wait m) y (λ leaf e. cc) n x.0)
 one_next r (Stuck n) Finished x y = absurd (not_waiting r Finished y (λ leaf e. cc) n x.0)

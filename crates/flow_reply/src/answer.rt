@@ -3,7 +3,7 @@ use flow_core::{
 };
 
 /// What the core answered to a command. Commands that only look at the run have no answer of their own.
-#[derive(Clone, Copy, Debug, PartialEq, Eq)]
+#[derive(Clone, Copy)]
 pub enum Answer {
     Took(Result<Call, TakeRefusal>),
     Did(Result<(), DoRefusal>),

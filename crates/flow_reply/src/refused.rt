@@ -12,7 +12,7 @@ use flow_record::RecordRefusal;
 use std::alloc::{AllocError, Global};
 
 /// Why the program does nothing.
-#[derive(Debug, Drop)]
+#[derive(Drop)]
 pub enum Refused {
     /// The words of the command line are no call of the program.
     Words,

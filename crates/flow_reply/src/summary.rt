@@ -9,7 +9,7 @@ use serde_json::{Value, json};
 use std::alloc::{AllocError, Global};
 
 /// What is told of a run of a generated workflow.
-#[derive(Clone, Copy, Debug)]
+#[derive(Clone, Copy)]
 pub struct Summary {
     pub bulk: u64,
     /// The length of the history.

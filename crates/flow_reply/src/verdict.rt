@@ -1,5 +1,5 @@
 /// What a run came to.
-#[derive(Clone, Copy, Debug, PartialEq, Eq)]
+#[derive(Clone, Copy)]
 pub enum Verdict {
     Committed,
     /// The history is as long as the limit.

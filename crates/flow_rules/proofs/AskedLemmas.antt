@@ -1,9 +1,9 @@
 -- What the parts of a rule ask together.
-use Rattle.std.proofs.Common.{◌≡◌, ℕ, zero, suc, ◌+◌, ◌<◌, ◌≤◌, Bool, true, false, ◌||◌, if◌then◌else◌, List, [], ◌∷◌, ◌++◌, length, get_or, map, fold, refl, sym, ap, subst, ◌∙◌, append-nil, true≢false, arith, Vec, Global, Result, Ok, Err, IfOk}
+use Rattle.std.proofs.Common.{◌≡◌, ℕ, zero, suc, ◌<◌, Bool, true, false, ◌||◌, if◌then◌else◌, List, [], ◌∷◌, ◌++◌, length, get_or, map, fold, refl, sym, ap, subst, ◌∙◌, append-nil, true≢false, arith, Vec, Global, Result, Ok, Err, IfOk}
 use Rattle.std.specs.declared.alloc.AllocError.{AllocError}
 use Rattle.flow_rules.specs.declared.asked.Found.{Found}
 use Rattle.std.specs.List.{list_any}
-use Rattle.std.proofs.lemmas.List.{length-append, map-append}
+use Rattle.std.proofs.lemmas.List.{map-append}
 use Rattle.flow_model.specs.Lists.{joined}
 use Rattle.flow_model.specs.Ways.{free_way, is_free}
 use Rattle.flow_rules.specs.declared.asked.Asked.{Asked}
@@ -13,7 +13,7 @@ use Rattle.flow_rules.specs.declared.asked.Asked.TheFolds.{fold-roll-Asked}
 use Rattle.flow_rules.specs.declared.asked.Asked as asked
 use Rattle.flow_rules.specs.Asked.{AreOpen, Finds, asked_step, ways_asked, ways_of_all, ways_of_any}
 use Rattle.flow_rules.specs.WayLists.{both_ways, either_way, is_none}
-use Rattle.flow_rules.proofs.WayListLemmas.{joined_push, fold_push, all_none, any_free, not_free-append}
+use Rattle.flow_rules.proofs.WayListLemmas.{joined_push, fold_push, all_none, any_free, both_free, not_free-append}
 
 pub asked_all : (parts : Vec Asked Global) → ways_asked (asked.All parts) ≡ ways_of_all parts.items
 asked_all parts = ap ways_asked (sym (rolls-All parts)) ∙ fold-roll-Asked (List (List (ℕ × ℕ))) asked_step (open_asked.All parts)
@@ -135,17 +135,23 @@ pub whole_sum : (kept : List Asked) (ways : List (List (ℕ × ℕ))) → ¬ (le
 whole_sum [] ways some h = absurd (some refl)
 whole_sum (k ∷ kept) ways some h = record { some = h.none; pairs = h.pairs }
 
-pub only_one : (kept mid : List Asked) (a : Asked) (ways : List (List (ℕ × ℕ))) → kept ≡ mid ++ a ∷ [] → length kept ≤ 1 → IsSum kept ways →
-    (ways_asked a ≡ ways) × AreOpen ways
-only_one kept [] a ways e le h = (
+pub none_of_all : (kept : List Asked) (ways : List (List (ℕ × ℕ))) → kept ≡ [] → IsProduct kept ways → ways ≡ free_way
+none_of_all kept ways e h = sym h.same ∙ ap ways_of_all e
+
+pub none_of_any : (kept : List Asked) (ways : List (List (ℕ × ℕ))) → kept ≡ [] → IsSum kept ways → ways ≡ []
+none_of_any kept ways e h = sym h.same ∙ ap ways_of_any e
+
+pub only_of_all : (kept : List Asked) (a : Asked) (ways : List (List (ℕ × ℕ))) → kept ≡ a ∷ [] → IsProduct kept ways → (ways_asked a ≡ ways) × AreOpen ways
+only_of_all kept a ways e h = (
+  sym (both_free (ways_asked a)) ∙ sym (ap ways_of_all e) ∙ h.same,
+  record { some = h.some; pairs = h.free ∙ ap is_nil e },
+)
+
+pub only_of_any : (kept : List Asked) (a : Asked) (ways : List (List (ℕ × ℕ))) → kept ≡ a ∷ [] → IsSum kept ways → (ways_asked a ≡ ways) × AreOpen ways
+only_of_any kept a ways e h = (
   sym (append-nil (ways_asked a)) ∙ sym (ap ways_of_any e) ∙ h.same,
   record { some = h.none ∙ ap is_nil e; pairs = h.pairs },
 )
-only_one kept (m ∷ mid) a ways e le h =
-    let n : length kept ≡ length (m ∷ mid ++ a ∷ []) = ap length e in
-    let p : length (m ∷ mid ++ a ∷ []) ≡ length (m ∷ mid) + 1 = length-append (m ∷ mid) (a ∷ []) in
-    let q : 0 < length (m ∷ mid) = omega arith in
-    let no : ⊥ = omega arith in absurd no
 
 pub ok_finds : (r : Result Found AllocError) (vs ws : List (List (ℕ × ℕ))) → vs ≡ ws → IfOk r (λ found. Finds found vs) → IfOk r (λ found. Finds found ws)
 ok_finds (Ok found) vs ws e h = subst (Finds found) e h

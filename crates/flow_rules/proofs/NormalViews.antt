@@ -1,9 +1,9 @@
 -- The ways of a normal form with a list of them in it.
 use Rattle.std.proofs.Common.{◌≡◌, ℕ, List, [], ◌∷◌, Vec, Global, fold, refl, sym, ap, ◌∙◌, Option}
-use Rattle.flow_model.specs.Ways.{Normal, always, impossible, both, either, ways}
-use Rattle.flow_rules.specs.declared.normal.Nnf.{Nnf, And, Or}
+use Rattle.flow_model.specs.Ways.{Normal, always, impossible, must, never, before, not_before, both, either, ways}
+use Rattle.flow_rules.specs.declared.normal.Nnf.{Nnf, Must, Never, Before, NotBefore, And, Or}
 use Rattle.flow_rules.specs.declared.normal.Nnf.TheOpen as open_nnf
-use Rattle.flow_rules.specs.declared.normal.Nnf.TheVariants.{rolls-And, rolls-Or}
+use Rattle.flow_rules.specs.declared.normal.Nnf.TheVariants.{rolls-Must, rolls-Never, rolls-Before, rolls-NotBefore, rolls-And, rolls-Or}
 use Rattle.flow_rules.specs.declared.normal.Nnf.TheFolds.{fold-roll-Nnf}
 use Rattle.flow_rules.specs.Normal.{all_normals, any_normals, normal_of, normal_step, normals_of}
 use Rattle.flow_rules.specs.WayLists.{all_ways, any_ways, both_ways, either_way}
@@ -36,3 +36,25 @@ pub ways_of_or : (leaf : ℕ → Option ℕ) (n : Nnf) (parts : Vec Nnf Global) 
     any_ways leaf parts.items ≡ ways (normal_of n) leaf
 ways_of_or leaf n parts e =
     sym (ap (λ m. ways (normal_of m) leaf) e ∙ ap (λ m. ways m leaf) (normal_of-Or parts) ∙ any_from leaf parts.items impossible)
+
+-- the ways of a normal form with no other in it
+
+pub ways_at_must : (leaf : ℕ → Option ℕ) (n : Nnf) (event : ℕ) → n ≡ Must event → ways (must event) leaf ≡ ways (normal_of n) leaf
+ways_at_must leaf n event e =
+    sym (ap (λ m. ways (normal_of m) leaf) e
+    ∙ ap (λ m. ways m leaf) (ap normal_of (sym (rolls-Must event)) ∙ fold-roll-Nnf Normal normal_step (open_nnf.Must event)))
+
+pub ways_at_never : (leaf : ℕ → Option ℕ) (n : Nnf) (event : ℕ) → n ≡ Never event → ways (never event) leaf ≡ ways (normal_of n) leaf
+ways_at_never leaf n event e =
+    sym (ap (λ m. ways (normal_of m) leaf) e
+    ∙ ap (λ m. ways m leaf) (ap normal_of (sym (rolls-Never event)) ∙ fold-roll-Nnf Normal normal_step (open_nnf.Never event)))
+
+pub ways_at_before : (leaf : ℕ → Option ℕ) (n : Nnf) (a b : ℕ) → n ≡ Before a b → ways (before a b) leaf ≡ ways (normal_of n) leaf
+ways_at_before leaf n a b e =
+    sym (ap (λ m. ways (normal_of m) leaf) e
+    ∙ ap (λ m. ways m leaf) (ap normal_of (sym (rolls-Before a b)) ∙ fold-roll-Nnf Normal normal_step (open_nnf.Before a b)))
+
+pub ways_at_not_before : (leaf : ℕ → Option ℕ) (n : Nnf) (a b : ℕ) → n ≡ NotBefore a b → ways (not_before a b) leaf ≡ ways (normal_of n) leaf
+ways_at_not_before leaf n a b e =
+    sym (ap (λ m. ways (normal_of m) leaf) e
+    ∙ ap (λ m. ways m leaf) (ap normal_of (sym (rolls-NotBefore a b)) ∙ fold-roll-Nnf Normal normal_step (open_nnf.NotBefore a b)))

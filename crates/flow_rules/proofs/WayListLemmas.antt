@@ -4,6 +4,7 @@ use Rattle.std.specs.List.{list_any}
 use Rattle.std.proofs.lemmas.List.{take_more, map-append}
 use Rattle.flow_model.specs.Lists.{each_with_each, joined}
 use Rattle.flow_model.specs.Ways.{free_way, is_free}
+pub use Rattle.flow_laws.proofs.WaysDecide.{free_is}
 use Rattle.flow_rules.specs.WayLists.{both_ways, either_way, is_none}
 
 -- one member more
@@ -64,7 +65,7 @@ pub both_none : (vs : List (List (ℕ × ℕ))) → both_ways vs [] ≡ []
 both_none [] = refl
 both_none (v ∷ vs) = both_none vs
 
-from_none : {A : Type 0} (f : A → List (List (ℕ × ℕ))) (xs : List A) → fold (λ vs x. both_ways vs (f x)) [] xs ≡ []
+pub from_none : {A : Type 0} (f : A → List (List (ℕ × ℕ))) (xs : List A) → fold (λ vs x. both_ways vs (f x)) [] xs ≡ []
 from_none f [] = refl
 from_none f (x ∷ xs) = from_none f xs
 
@@ -86,12 +87,6 @@ all_none {A} f (x ∷ xs) us h = at (is_none (f x)) refl (all_none f xs (both_wa
     at false e next = next (sym (ap (λ b. b || list_any (λ y. is_none (f y)) xs) e) ∙ h)
 
 -- the ways of one or the other
-
-pub free_is : (ws : List (List (ℕ × ℕ))) → is_free ws ≡ true → ws ≡ free_way
-free_is [] h = absurd (true≢false (sym h))
-free_is ((pair ∷ pairs) ∷ ws) h = absurd (true≢false (sym h))
-free_is ([] ∷ []) h = refl
-free_is ([] ∷ w ∷ ws) h = absurd (true≢false (sym h))
 
 pub not_free-append : (vs ws : List (List (ℕ × ℕ))) → is_free vs ≡ false → is_free ws ≡ false → is_free (vs ++ ws) ≡ false
 not_free-append [] ws p q = q

@@ -2,9 +2,13 @@ pub mod Asked
 pub mod Conjunction
 pub mod Counts
 pub mod EventLeaves
-pub mod Marks
+pub mod Kept
+pub mod Lanes
+pub mod Narrow
+pub mod Narrowed
 pub mod Normal
 pub mod NormalForm
-pub mod Plain
+pub mod Rooms
 pub mod Rule
+pub mod Standing
 pub mod WayLists

@@ -5,11 +5,12 @@ ghost use Rattle.flow_rules.specs.EventLeaves.{leaf_in};
 ghost use Rattle.flow_rules.specs.Normal.{normal_of};
 ghost use Rattle.flow_rules.specs.WayLists.{all_ways, any_ways};
 
+use crate::kept::Kept;
 use crate::leaf_table::LeafEvents;
 use crate::normal::Nnf;
 use std::alloc::{AllocError, Global};
 
-/// What a rule asks of some leaves. An `All` has a member, and an `Any` has two.
+/// What a rule asks of some leaves.
 #[derive(Drop)]
 pub(crate) enum Asked {
     /// The first leaf is to stand before the second.
@@ -70,23 +71,23 @@ fn not_before(events: &LeafEvents, first: u32, second: u32) -> Found
     }
 }
 
-/// What all parts ask together. Those that ask for nothing are left out.
+/// What all parts ask together. Those that ask for nothing are left out; an only one stands for itself.
 #[cycle(asking)]
 fn all_asked(alloc: Global, parts: &[Nnf], events: &LeafEvents) -> Result<Found, AllocError>
     ensures { IfOk result (λ found. Finds found (all_ways (leaf_in events.now) parts.now)) }
 {
-    let mut all = Vec::new(alloc);
+    let mut kept = Kept::Nothing;
     for part in parts {
         match asked_of(alloc, part, events)? {
             Found::Met => {}
             Found::Unmet => return Ok(Found::Unmet),
-            Found::Open(more) => all.push(more)?,
+            Found::Open(more) => kept = kept.with(alloc, more)?,
         }
     }
-    if all.is_empty() {
-        Ok(Found::Met)
-    } else {
-        Ok(Found::Open(Asked::All(all)))
+    match kept {
+        Kept::Nothing => Ok(Found::Met),
+        Kept::One(only) => Ok(Found::Open(only)),
+        Kept::More(all) => Ok(Found::Open(Asked::All(all))),
     }
 }
 
@@ -95,20 +96,18 @@ fn all_asked(alloc: Global, parts: &[Nnf], events: &LeafEvents) -> Result<Found,
 fn any_asked(alloc: Global, parts: &[Nnf], events: &LeafEvents) -> Result<Found, AllocError>
     ensures { IfOk result (λ found. Finds found (any_ways (leaf_in events.now) parts.now)) }
 {
-    let mut all = Vec::new(alloc);
+    let mut kept = Kept::Nothing;
     for part in parts {
         match asked_of(alloc, part, events)? {
             Found::Met => return Ok(Found::Met),
             Found::Unmet => {}
-            Found::Open(more) => all.push(more)?,
+            Found::Open(more) => kept = kept.with(alloc, more)?,
         }
     }
-    if all.len() > 1 {
-        return Ok(Found::Open(Asked::Any(all)));
-    }
-    match all.pop() {
-        Some(only) => Ok(Found::Open(only)),
-        None => Ok(Found::Unmet),
+    match kept {
+        Kept::Nothing => Ok(Found::Unmet),
+        Kept::One(only) => Ok(Found::Open(only)),
+        Kept::More(any) => Ok(Found::Open(Asked::Any(any))),
     }
 }
 

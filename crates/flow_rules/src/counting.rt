@@ -1,14 +1,11 @@
-ghost use Rattle.std.specs.Prelude.{◌≡◌, ℕ, false};
+ghost use Rattle.std.specs.Prelude.{◌≡◌};
 ghost use Rattle.flow_model.specs.Ways as model;
 ghost use Rattle.flow_rules.specs.Counts.{count_of, counts_of_both, counts_of_either, is_free_count};
 ghost use Rattle.flow_rules.specs.EventLeaves.{leaf_in};
-ghost use Rattle.flow_rules.specs.Marks.{Spare, is_marked};
 ghost use Rattle.flow_rules.specs.Normal.{normal_of};
 ghost use Rattle.flow_rules.specs.WayLists.{all_ways, any_ways};
 
-use crate::freedom::is_free;
 use crate::leaf_table::LeafEvents;
-use crate::marks::Marks;
 use crate::normal::Nnf;
 
 /// How many ways there are, and how many pairs in all of them. What would pass the greatest number
@@ -20,10 +17,10 @@ pub struct WayCount {
 }
 
 /// No way.
-const NONE: WayCount = WayCount { ways: 0, pairs: 0 };
+pub(crate) const NONE: WayCount = WayCount { ways: 0, pairs: 0 };
 
 /// The one way that asks for nothing.
-const FREE: WayCount = WayCount { ways: 1, pairs: 0 };
+pub(crate) const FREE: WayCount = WayCount { ways: 1, pairs: 0 };
 
 /// One way, which asks for one pair.
 const PAIR: WayCount = WayCount { ways: 1, pairs: 1 };
@@ -37,7 +34,7 @@ impl WayCount {
     }
 
     /// Each way with each of the others.
-    fn both(self, other: WayCount) -> WayCount
+    pub(crate) fn both(self, other: WayCount) -> WayCount
         ensures { result ≡ counts_of_both self other }
     {
         let front = self.pairs.saturating_mul(other.ways);
@@ -111,6 +108,9 @@ fn count_all(parts: &[Nnf], events: &LeafEvents) -> WayCount
     let mut count = FREE;
     for part in parts {
         count = count.both(count_ways(part, events));
+        if count.ways == 0 {
+            return NONE;
+        }
     }
     count
 }
@@ -122,6 +122,9 @@ fn count_any(parts: &[Nnf], events: &LeafEvents) -> WayCount
     let mut count = NONE;
     for part in parts {
         count = count.either(count_ways(part, events));
+        if count.is_free() {
+            return FREE;
+        }
     }
     count
 }
@@ -139,21 +142,4 @@ pub fn count_ways(rule: &Nnf, events: &LeafEvents) -> WayCount
         Nnf::And(parts) => count_all(parts, events),
         Nnf::Or(parts) => count_any(parts, events),
     }
-}
-
-/// As `count_all`, with a mark for each rule that asks for something. Whether a rule does is found sooner
-/// than its count.
-pub(crate) fn count_marking(rules: &[Nnf], events: &LeafEvents, marks: &mut Marks) -> WayCount
-    ensures count { result ≡ count_of (all_ways (leaf_in events.now) rules.now) }
-    ensures spare { Spare marks.new rules.now (leaf_in events.now) }
-    ensures more { (q : ℕ) → is_marked marks.new q ≡ false → is_marked marks.old q ≡ false }
-{
-    let mut count = FREE;
-    for (place, rule) in rules.iter().enumerate() {
-        if !is_free(rule, events) {
-            marks.add(place);
-            count = count.both(count_ways(rule, events));
-        }
-    }
-    count
 }

@@ -1,23 +1,12 @@
-ghost use Rattle.std.specs.Prelude.{◌≡◌, ◌<◌, ℕ, length, OnOk};
-ghost use Rattle.flow_rules.specs.EventLeaves.{leaf_at};
+ghost use Rattle.std.specs.Prelude.{◌≡◌, ◌<◌, ◌≤◌, ℕ, length, OnOk};
 
+use crate::room::make_room;
 use std::alloc::{AllocError, Global};
 
 /// The leaf of each event, among some leaves of a tree: at the place of each event its leaf.
 #[derive(Drop)]
 pub struct LeafEvents {
     leaves: Vec<Option<u32>>,
-}
-
-/// Makes room for an event.
-fn make_room(leaves: &mut Vec<Option<u32>>, event: u32) -> Result<(), AllocError>
-    ensures room { OnOk result (event < length leaves.new.items) }
-    ensures same { OnOk result ((q : ℕ) → leaf_at leaves.new.items q ≡ leaf_at leaves.old.items q) }
-{
-    for _ in leaves.len()..event as usize + 1 {
-        leaves.push(None)?;
-    }
-    Ok(())
 }
 
 impl LeafEvents {
@@ -42,15 +31,23 @@ impl LeafEvents {
         }
     }
 
-    /// Notes the event with its leaf, unless it has one.
-    pub(crate) fn note(&mut self, event: u32, leaf: u32) -> Result<(), AllocError>
-        ensures { OnOk result ((q : ℕ) → leaf_in self.new q ≡ with_leaf event leaf (leaf_in self.old q) q) }
+    /// Makes room for the events below a bound.
+    pub(crate) fn make_room(&mut self, room: usize) -> Result<(), AllocError>
+        ensures room { OnOk result (room ≤ length self.new.leaves.items) }
+        ensures same { (q : ℕ) → leaf_in self.new q ≡ leaf_in self.old q }
     {
-        make_room(&mut self.leaves, event)?;
+        make_room(&mut self.leaves, room, None)
+    }
+
+    /// Notes the event with its leaf, unless it has one.
+    pub(crate) fn note(&mut self, event: u32, leaf: u32)
+        requires { event < length self.old.leaves.items }
+        ensures noted { (q : ℕ) → leaf_in self.new q ≡ with_leaf event leaf (leaf_in self.old q) q }
+        ensures room { length self.new.leaves.items ≡ length self.old.leaves.items }
+    {
         if self.leaves[event as usize].is_none() {
             self.leaves[event as usize] = Some(leaf);
         }
-        Ok(())
     }
 
     /// Takes the event's leaf away, if it has one.

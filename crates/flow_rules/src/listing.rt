@@ -1,21 +1,18 @@
-ghost use Rattle.std.specs.Prelude.{◌≡◌, ◌++◌, ◌&&◌, not, IfOk, OnOk, map};
+ghost use Rattle.std.specs.Prelude.{◌≡◌, ◌++◌, IfOk, OnOk, map};
 ghost use Rattle.flow_model.specs.Ways as model;
 ghost use Rattle.flow_rules.specs.Asked.{ways_asked, ways_of_all, ways_of_any};
 ghost use Rattle.flow_rules.specs.EventLeaves.{leaf_in};
-ghost use Rattle.flow_rules.specs.Marks.{Spare, is_marked};
 ghost use Rattle.flow_rules.specs.Normal.{normal_of};
-ghost use Rattle.flow_rules.specs.WayLists.{all_ways, both_ways, pairs_of};
+ghost use Rattle.flow_rules.specs.WayLists.{both_ways, pairs_of};
 
 use crate::asked::{Asked, Found, asked_of};
-use crate::freedom::is_free;
 use crate::leaf_table::LeafEvents;
-use crate::marks::Marks;
 use crate::normal::Nnf;
 use crate::order_set::OrderSet;
 use std::alloc::{AllocError, Global};
 
 /// The one way that asks for nothing.
-fn free_way(alloc: Global) -> Result<Vec<OrderSet>, AllocError>
+pub(crate) fn free_way(alloc: Global) -> Result<Vec<OrderSet>, AllocError>
     ensures { IfOk result (λ all. pairs_of all.items ≡ model.free_way) }
 {
     let mut all = Vec::new(alloc);
@@ -121,7 +118,7 @@ pub fn ways(alloc: Global, rule: &Nnf, events: &LeafEvents) -> Result<Vec<OrderS
 }
 
 /// Each of the ways, with each way in which the leaves meet the rule behind it.
-fn with_rule(
+pub(crate) fn with_rule(
     alloc: Global,
     ways: Vec<OrderSet>,
     rule: &Nnf,
@@ -135,31 +132,4 @@ fn with_rule(
         Found::Unmet => Ok(Vec::new(alloc)),
         Found::Open(asked) => extended(alloc, ways, &asked),
     }
-}
-
-/// Whether the rule at a place is to be looked at: it is marked, and asks for something.
-fn asks(marks: &Marks, place: usize, rule: &Nnf, events: &LeafEvents) -> bool
-    ensures { result ≡ (is_marked marks.now place && not (model.is_free (model.ways (normal_of rule.now) (leaf_in events.now)))) }
-{
-    marks.has(place) && !is_free(rule, events)
-}
-
-/// The ways in which the leaves meet all of the rules, in order. A rule that asks for nothing is passed
-/// over with no memory taken, and one that is not marked is not looked at.
-pub(crate) fn ways_of_all(
-    alloc: Global,
-    rules: &[Nnf],
-    marks: &Marks,
-    events: &LeafEvents,
-) -> Result<Vec<OrderSet>, AllocError>
-    requires { Spare marks.now rules.now (leaf_in events.now) }
-    ensures { IfOk result (λ all. pairs_of all.items ≡ all_ways (leaf_in events.now) rules.now) }
-{
-    let mut ways = free_way(alloc)?;
-    for (place, rule) in rules.iter().enumerate() {
-        if asks(marks, place, rule, events) {
-            ways = with_rule(alloc, ways, rule, events)?;
-        }
-    }
-    Ok(ways)
 }

@@ -22,6 +22,7 @@ use Rattle.flow_names.proofs.OneFirst.{one_first, once_is_not_repeated, good_has
 use Rattle.flow_text.specs.Saying.{HasTokens, Writes, Says, Asks}
 use Rattle.flow_text.specs.Parsing.{IsExpected, IsTooDeep, IsNameAt, named_places, IsParseRefusal, IsQueryRefusal}
 use Rattle.flow_text.specs.Laws.{IsAnswer, TextsHaveOneAnswer, QueriesHaveOneAnswer}
+use Rattle.std.proofs.lemmas.Option.{same_Some}
 
 -- What a text comes to
 
@@ -161,9 +162,6 @@ has_these text tokens has = ap (λ (l : Lexed). l.tokens) (sym has.lexed)
 has_none_bad : (text : List ℕ) (tokens : List Token) → HasTokens text tokens → (lexed text).bad ≡ None
 has_none_bad text tokens has = ap (λ (l : Lexed). l.bad) has.lexed
 
-some_is : {A : Type 0} (x y : A) → Some x ≡ Some y → x ≡ y
-some_is x y e = cc
-
 module _ {V : Type 0} (Spells : List Placed → V → Type 0) (wants : List Symbol → Option Wanted) (read : List Symbol → Reading V) (judge : V → Naming → Type 0)
     (reads : ReadsJustThese Spells read) (is_stuck : IsStuckJustThere Spells read) (is_too_deep : IsTooDeepJustThere Spells read)
     (tells : TellsWhatIsWanted wants read) (text : List ℕ) where
@@ -186,7 +184,7 @@ module _ {V : Type 0} (Spells : List Placed → V → Type 0) (wants : List Symb
   expected_there : (place : ℕ) (kind : told.Wanted) → IsExpected Spells wants text place kind → Known (Err (Expected place kind))
   expected_there place kind h =
       let (found_kind, e) = (is_stuck (symbols_of text h.tokens) h.number).1 (h.stuck, h.none_deep) in
-      let same : found_kind ≡ kind_of kind = some_is _ _ (sym (tells (symbols_of text h.tokens) found_kind h.number e) ∙ h.wanted) in
+      let same : found_kind ≡ kind_of kind = same_Some _ _ (sym (tells (symbols_of text h.tokens) found_kind h.number e) ∙ h.wanted) in
       record {
         finding = read_as (expected (kind_of kind) h.number);
         naming = good;

@@ -1,5 +1,5 @@
 -- What reading gives, in the words of the grammar.
-use Rattle.std.proofs.Common.{◌≡◌, ℕ, zero, suc, ◌+◌, ◌≤◌, ◌<◌, ◌^◌, List, [], ◌∷◌, length, length-append, map, slice_get, refl, sym, ap, ◌∙◌, arith}
+use Rattle.std.proofs.Common.{◌≡◌, ℕ, suc, ◌+◌, ◌≤◌, ◌<◌, ◌^◌, List, [], ◌∷◌, length, length-append, map, slice_get, refl, sym, ap, ◌∙◌, arith}
 use Rattle.std.specs.Prelude.{Some, None, option_map, Result, Ok, Err, IfOk, IfErr}
 use Rattle.flow_form.specs.declared.refusal.TextRefusal.{TextRefusal}
 use Rattle.flow_form.specs.declared.refusal.TextRefusal.TheVariants.{NotAscii, BadToken, Expected, Unknown, Repeated, TooDeep, NoMemory}
@@ -23,6 +23,8 @@ use Rattle.flow_reader.specs.Reading.{IsReadRefusal}
 use Rattle.flow_names.specs.Good.{IsFirst, HasGoodNames, IsFirstRepeated, IsFirstUnknown, AsksOfEvents, AsksFirstOfOther}
 use Rattle.flow_text.specs.Saying.{HasTokens, Writes, Says, Asks}
 use Rattle.flow_text.specs.Parsing.{name_in, with_name, named_places, IsNameAt, IsRepeatedAt, IsUnknownAt, AsksUnknownAt, IsParseRefusal, IsQueryRefusal}
+use Rattle.std.proofs.lemmas.List.{length-map}
+use Rattle.std.proofs.lemmas.Option.{slice_get-map}
 
 pub lex_refused : (text : List ℕ) (refusal : TextRefusal) → IsRefused text refusal → IsParseRefusal text refusal
 lex_refused text (NotAscii place) h = h
@@ -113,15 +115,6 @@ names_are_roles : {V : Type 0} (Spells : List Placed → V → Type 0) (roles : 
     NamesHaveRoles Spells roles → Derives Spells (symbols_of text tokens) x → map second (named_places text tokens) ≡ map role_name (roles x)
 names_are_roles Spells roles text tokens x law (w, e, shallow, spells) = names_listed text tokens ∙ ap names_of (sym e) ∙ law w x spells
 
-length-map : {A B : Type 0} (f : A → B) (xs : List A) → length (map f xs) ≡ length xs
-length-map f [] = refl
-length-map f (x ∷ xs) = ap suc (length-map f xs)
-
-get-map : {A B : Type 0} (f : A → B) (xs : List A) (k : ℕ) (x : A) → slice_get xs k ≡ Some x → slice_get (map f xs) k ≡ Some (f x)
-get-map f [] k x e = cc
-get-map f (y ∷ ys) zero x e = ap (option_map f) e
-get-map f (y ∷ ys) (suc k) x e = get-map f ys k x e
-
 pub first_within : (P : List Role → Role → Type 0) (roles : List Role) (k : ℕ) → IsFirst P roles k → k < length roles
 first_within P roles k h =
     let whole : length roles ≡ length h.front + suc (length h.back) = ap length h.cut ∙ length-append h.front (h.role ∷ h.back) in
@@ -132,7 +125,7 @@ pub name_within : {V : Type 0} (Spells : List Placed → V → Type 0) (roles : 
     NamesHaveRoles Spells roles → Derives Spells (symbols_of text tokens) x → k < length (roles x) → k < length (named_places text tokens)
 name_within Spells roles text tokens x k law d h =
     let same : length (named_places text tokens) ≡ length (roles x)
-    = sym (length-map second (named_places text tokens)) ∙ ap length (names_are_roles Spells roles text tokens x law d) ∙ length-map role_name (roles x) in
+    = sym (length-map (named_places text tokens) second) ∙ ap length (names_are_roles Spells roles text tokens x law d) ∙ length-map (roles x) role_name in
     omega (arith, same, h)
 
 pub name_at : {V : Type 0} (Spells : List Placed → V → Type 0) (roles : V → List Role) (text : List ℕ) (tokens : List Token) (x : V) (k place : ℕ) (name : List ℕ) →
@@ -142,7 +135,7 @@ name_at Spells roles text tokens x k place name law has d there = record {
   tokens = tokens;
   has_tokens = has;
   there = there;
-  named = ap (λ names. slice_get names k) (sym (names_are_roles Spells roles text tokens x law d)) ∙ get-map second (named_places text tokens) k (place, name) there;
+  named = ap (λ names. slice_get names k) (sym (names_are_roles Spells roles text tokens x law d)) ∙ slice_get-map second (named_places text tokens) k ∙ ap (option_map second) there;
 }
 
 -- What expansion asks
@@ -159,7 +152,7 @@ pub is_closed : (text : List ℕ) (tokens : List Token) (s : Said) → AreSpans 
     HasGoodNames s → length text < 2 ^ 31 → IsClosed s
 is_closed text tokens s spans (w, e, shallow, spells) names short =
     let ((goals, rules), fewer) = scripts_are_well_made w s spells in
-    let many : length w ≡ length tokens = sym (length-symbols w) ∙ ap length e ∙ length-map (symbol_of text) tokens in
+    let many : length w ≡ length tokens = sym (length-symbols w) ∙ ap length e ∙ length-map tokens (symbol_of text) in
     record {
       in_goals = names.in_goals;
       in_rules = names.in_rules;

@@ -1,0 +1,64 @@
+-- Blocks of 64 resolutions, and the lanes in them.
+use Rattle.std.proofs.Common.{◌≡◌, ◌==◌, false, ℕ, ◌+◌, ◌*◌, ◌/◌, ◌<◌, ◌≤◌, min, List, length, take, map, sym, ap, ◌∙◌, subst, inl, inr, arith, Some, slice_get}
+use Rattle.std.proofs.lemmas.Bool.{cases_lt, ne_eqb}
+use Rattle.std.proofs.lemmas.List.{take_all, take_min}
+use Rattle.flow_model.specs.Process.{Process, leaves}
+use Rattle.flow_model.specs.Resolution.{resolution_count, resolutions}
+use Rattle.flow_model.specs.Ways.{Normal, leaf_of_event}
+use Rattle.flow_laws.proofs.ListLemmas2.{some_same}
+use Rattle.flow_laws.proofs.ResolutionsLemmas.{length-resolutions}
+use Rattle.flow_goal.specs.Labelled.{Labelled}
+use Rattle.flow_rules.specs.declared.lanes.Lanes.{Lanes}
+use Rattle.flow_rules.specs.Lanes.{Shows, has_event}
+use Rattle.flow_excise.specs.declared.block.Block.{Block}
+use Rattle.flow_excise.specs.Blocks.{AreShown, HasWays, IsBlock, options_in}
+use Rattle.flow_excise.specs.Options.{options_by}
+
+-- one lane more
+pub shown_more : (t : Labelled) (first lane : ℕ) (p : Process) (ls : List ℕ) (old new : Lanes) → slice_get (resolutions t.process) (first + lane) ≡ Some p → ls ≡ leaves p →
+    Shows new lane (leaf_of_event t.labels ls) → ((other event : ℕ) → (other == lane) ≡ false → has_event new other event ≡ has_event old other event) →
+    AreShown t first lane old → AreShown t first (lane + 1) new
+shown_more t first lane p ls old new there listed this others so_far number q lt there_too = elim (cases_lt number lane) [
+  | inl h ↦ λ event. others number event (ne_eqb number lane (λ e. omega (arith, e, h))) ∙ so_far number q h there_too event
+  | inr h ↦
+      let e : lane ≡ number = omega arith in
+      let same : p ≡ q = some_same p q (sym there ∙ ap (λ n. slice_get (resolutions t.process) (first + n)) e ∙ there_too) in
+      subst (λ (n : ℕ). Shows new n (leaf_of_event t.labels (leaves q))) e
+      (subst (λ (l : List ℕ). Shows new lane (leaf_of_event t.labels l)) (listed ∙ ap leaves same) this)
+]
+
+-- and no lane beyond it is used
+pub blank_more : (lane : ℕ) (old new : Lanes) → ((other event : ℕ) → (other == lane) ≡ false → has_event new other event ≡ has_event old other event) →
+    ((other event : ℕ) → lane ≤ other → has_event old other event ≡ false) → (other event : ℕ) → lane + 1 ≤ other → has_event new other event ≡ false
+blank_more lane old new others blank other event h =
+    others other event (ne_eqb other lane (λ e. omega (arith, e, h))) ∙ blank other event (omega arith)
+
+-- where a block ends
+
+pub block_within : (t : Labelled) (n : Normal) (number : ℕ) (block : Block) → IsBlock t n number block → 64 * number < resolution_count t.process →
+    block.first + block.size ≤ resolution_count t.process
+block_within t n number block b h = omega (arith, b.first, b.size, h)
+
+pub block_few : (t : Labelled) (n : Normal) (number : ℕ) (block : Block) → IsBlock t n number block → block.size ≤ 64
+block_few t n number block b = omega (arith, b.size)
+
+pub block_end : (t : Labelled) (n : Normal) (number : ℕ) (block : Block) → IsBlock t n number block → 64 * number < resolution_count t.process →
+    take (block.first + block.size) (resolutions t.process) ≡ take (64 * (number + 1)) (resolutions t.process)
+block_end t n number block b h =
+    let long : length (resolutions t.process) ≡ resolution_count t.process = length-resolutions t.process in
+    let end : block.first + block.size ≡ min (64 * (number + 1)) (length (resolutions t.process)) = omega (arith, b.first, b.size, h, long) in
+    ap (λ k. take k (resolutions t.process)) end ∙ take_min (64 * (number + 1)) (resolutions t.process)
+
+pub more_blocks : (count number blocks : ℕ) → blocks ≡ (count + 63) / 64 → number < blocks → 64 * number < count
+more_blocks count number blocks e h = omega arith
+
+pub last_block : (t : Labelled) (number blocks : ℕ) → blocks ≡ (resolution_count t.process + 63) / 64 → number ≡ blocks →
+    take (64 * number) (resolutions t.process) ≡ resolutions t.process
+last_block t number blocks e h =
+    let long : length (resolutions t.process) ≡ resolution_count t.process = length-resolutions t.process in
+    take_all (64 * number) (resolutions t.process) (omega (arith, e, h, long))
+
+-- the options in a lane
+pub options_found : (t : Labelled) (n : Normal) (block : Block) (lane : ℕ) (q : Process) → HasWays t n block → lane < block.size →
+    slice_get (resolutions t.process) (block.first + lane) ≡ Some q → options_in t block lane q ≡ options_by t n q
+options_found t n block lane q ways h there = ap (map (λ way. record { resolution = q; order = way })) (ways lane q h there)

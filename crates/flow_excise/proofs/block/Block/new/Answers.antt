@@ -1,0 +1,12 @@
+use Rattle.std.proofs.Common.{refl, arith}
+use Rattle.flow_model.specs.Process.{leaves}
+use Rattle.flow_model.specs.Ways.{leaf_of_event}
+use Rattle.flow_excise.proofs.block.Block.new.Goals as goal
+
+pub returns : goal.returns
+returns c = record {
+  first = refl;
+  size = c.size_of-size.ensures;
+  ways = λ lane q h there.
+      c.in_ok-narrowed.ensures lane (leaf_of_event c.args.tree.now.labels (leaves q)) (omega (arith, h, c.size_of-size.ensures)) (c.in_ok-block_lanes.ensures lane q h there);
+}

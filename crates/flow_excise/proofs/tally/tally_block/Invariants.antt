@@ -1,0 +1,13 @@
+use Rattle.std.proofs.Common.{◌+◌}
+use Rattle.flow_model.specs.Ways.{Normal}
+use Rattle.flow_rules.specs.EventLeaves.{IsBlank}
+use Rattle.flow_excise.specs.Blocks.{HasWays}
+use Rattle.flow_excise.specs.Tallies.{IsCountedTo}
+use Rattle.flow_excise.proofs.tally.tally_block.Given as goal
+
+abbrev pub invariant-loop-lane : goal.invariant-loop-lane
+invariant-loop-lane l = record {
+  blank : IsBlank l.events;
+  counted : (normal : Normal) → HasWays l.tree normal l.block → IsCountedTo l.tree normal l.block.first l.fn.counted →
+      IsCountedTo l.tree normal (l.block.first + l.lane) l.counted;
+}

@@ -1,0 +1,72 @@
+ghost use Rattle.std.specs.Prelude.{◌≡◌, ◌<◌, ◌==◌, ◌&&◌, ◌||◌, ℕ, false, is_some, length, OnErr, OnOk};
+ghost use Rattle.flow_model.specs.Ways as model;
+
+use crate::room::{event_at, make_room, room_for};
+use flow_goal::Tree;
+use std::alloc::{AllocError, Global};
+
+/// Up to 64 maps from events to leaves side by side, one a lane: of each event, the lanes in which it has
+/// a leaf.
+#[derive(Drop)]
+pub struct Lanes {
+    words: Vec<u64>,
+}
+
+impl Lanes {
+    ghost use Rattle.flow_rules.specs.Lanes.{Shows, has_event, word_of};
+
+    /// No event has a leaf in any lane.
+    pub fn new(alloc: Global) -> Lanes
+        ensures { (lane event : ℕ) → has_event result lane event ≡ false }
+    {
+        Lanes {
+            words: Vec::new(alloc),
+        }
+    }
+
+    /// The lanes in which the event has a leaf: a bit each.
+    pub(crate) fn lanes_of(&self, event: u32) -> u64
+        ensures { result ≡ word_of self.now event }
+    {
+        match self.words.get(event as usize) {
+            Some(word) => *word,
+            None => 0,
+        }
+    }
+
+    /// Marks the event in a lane.
+    fn mark(&mut self, event: u32, lane: u32)
+        requires room { event < length self.old.words.items }
+        requires lane { lane < 64 }
+        ensures marked { (other q : ℕ) →
+            has_event self.new other q ≡ (other == lane && event == q || has_event self.old other q) }
+        ensures room { length self.new.words.items ≡ length self.old.words.items }
+    {
+        self.words[event as usize] |= 1 << lane;
+    }
+
+    /// Notes the events of the leaves in a lane that has none. It takes memory in the measure of the
+    /// greatest event, once.
+    pub fn note(&mut self, tree: &Tree, leaves: &[u32], lane: u32) -> Result<(), AllocError>
+        requires lane { lane < 64 }
+        requires blank { (event : ℕ) → has_event self.old lane event ≡ false }
+        ensures shown { OnOk result (Shows self.new lane (model.leaf_of_event tree.now.labels leaves.now)) }
+        ensures others { (other event : ℕ) → (other == lane) ≡ false → has_event self.new other event ≡ has_event self.old other event }
+        ensures unchanged { OnErr result ((other event : ℕ) → has_event self.new other event ≡ has_event self.old other event) }
+    {
+        make_room(&mut self.words, room_for(tree, leaves), 0)?;
+        for leaf in leaves {
+            if let Some(event) = event_at(tree, *leaf) {
+                self.mark(event, lane);
+            }
+        }
+        Ok(())
+    }
+
+    /// No event has a leaf any more. The memory is kept.
+    pub fn clear(&mut self)
+        ensures { (lane event : ℕ) → has_event self.new lane event ≡ false }
+    {
+        self.words.fill(0);
+    }
+}

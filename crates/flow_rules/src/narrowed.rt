@@ -1,0 +1,123 @@
+ghost use Rattle.std.specs.Prelude.{◌≡◌, ◌<◌, ℕ, Option, IfOk};
+ghost use Rattle.flow_rules.specs.Counts.{count_of};
+ghost use Rattle.flow_rules.specs.EventLeaves.{leaf_in};
+ghost use Rattle.flow_rules.specs.Lanes.{Shows};
+ghost use Rattle.flow_rules.specs.Narrowed.{open_ways, ways_in};
+ghost use Rattle.flow_rules.specs.Standing.{has_lane};
+ghost use Rattle.flow_rules.specs.WayLists.{all_ways, pairs_of};
+
+use crate::counting::{FREE, NONE, WayCount, count_ways};
+use crate::lanes::Lanes;
+use crate::leaf_table::LeafEvents;
+use crate::listing::{free_way, with_rule};
+use crate::narrow::narrow_rule;
+use crate::normal::Nnf;
+use crate::order_set::OrderSet;
+use crate::standing::{all_standing, standing_of};
+use std::alloc::{AllocError, Global};
+
+/// What is left of a rule in the lanes in which it asks for an order.
+#[derive(Drop)]
+struct LaneRule {
+    lanes: u64,
+    rule: Nnf,
+}
+
+/// What rules that are all to be met ask in each of 64 lanes: where one of them is unmet, and what is
+/// left of the others.
+#[derive(Drop)]
+pub struct Narrowed {
+    unmet: u64,
+    rules: Vec<LaneRule>,
+}
+
+fn has_lane(word: u64, lane: u32) -> bool
+    requires { lane < 64 }
+    ensures { result ≡ has_lane word lane }
+{
+    word >> lane & 1 == 1
+}
+
+/// What the rules ask. A rule that is met in any order in each lane in which all can be met is left out.
+pub(crate) fn narrow_each(
+    alloc: Global,
+    rules: &[Nnf],
+    lanes: &Lanes,
+) -> Result<Narrowed, AllocError>
+    ensures { IfOk result (λ narrowed. (lane : ℕ) (leaf : ℕ → Option ℕ) → lane < 64 → Shows lanes.now lane leaf →
+        ways_in narrowed lane leaf ≡ all_ways leaf rules.now) }
+{
+    let unmet = all_standing(rules, lanes).unmet;
+    let mut left = Vec::new(alloc);
+    for rule in rules {
+        let open = !(standing_of(rule, lanes).free | unmet);
+        if open != 0 {
+            let narrow = narrow_rule(alloc, rule, lanes, open)?;
+            left.push(LaneRule {
+                lanes: open,
+                rule: narrow.rule,
+            })?;
+        }
+    }
+    Ok(Narrowed { unmet, rules: left })
+}
+
+fn count_open(rules: &[LaneRule], lane: u32, events: &LeafEvents) -> WayCount
+    requires { lane < 64 }
+    ensures { result ≡ count_of (open_ways lane (leaf_in events.now) rules.now) }
+{
+    let mut count = FREE;
+    for rule in rules {
+        if has_lane(rule.lanes, lane) {
+            count = count.both(count_ways(&rule.rule, events));
+        }
+    }
+    count
+}
+
+fn list_open(
+    alloc: Global,
+    rules: &[LaneRule],
+    lane: u32,
+    events: &LeafEvents,
+) -> Result<Vec<OrderSet>, AllocError>
+    requires { lane < 64 }
+    ensures { IfOk result (λ all. pairs_of all.items ≡ open_ways lane (leaf_in events.now) rules.now) }
+{
+    let mut ways = free_way(alloc)?;
+    for rule in rules {
+        if has_lane(rule.lanes, lane) {
+            ways = with_rule(alloc, ways, &rule.rule, events)?;
+        }
+    }
+    Ok(ways)
+}
+
+impl Narrowed {
+    /// How many ways there are in a lane, by the leaves of its events. It takes no memory.
+    pub fn count(&self, lane: u32, events: &LeafEvents) -> WayCount
+        requires { lane < 64 }
+        ensures { result ≡ count_of (ways_in self.now lane (leaf_in events.now)) }
+    {
+        if has_lane(self.unmet, lane) {
+            return NONE;
+        }
+        count_open(&self.rules, lane, events)
+    }
+
+    /// The ways in a lane, in order, by the leaves of its events.
+    pub fn ways(
+        &self,
+        alloc: Global,
+        lane: u32,
+        events: &LeafEvents,
+    ) -> Result<Vec<OrderSet>, AllocError>
+        requires { lane < 64 }
+        ensures { IfOk result (λ all. pairs_of all.items ≡ ways_in self.now lane (leaf_in events.now)) }
+    {
+        if has_lane(self.unmet, lane) {
+            return Ok(Vec::new(alloc));
+        }
+        list_open(alloc, &self.rules, lane, events)
+    }
+}
