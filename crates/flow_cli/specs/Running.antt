@@ -12,6 +12,7 @@ use Rattle.flow_crew.specs.declared.ends.End.TheVariants as end
 use Rattle.flow_crew.specs.Kept.{IsByWorkers}
 use Rattle.flow_form.specs.Script.{Said}
 use Rattle.flow_workflow.specs.Definition.{Definition, schema_of}
+use Rattle.flow_excise.specs.Compilation.{IsWithinLimits}
 use Rattle.flow_reply.specs.declared.verdict.Verdict.{Verdict}
 use Rattle.flow_reply.specs.declared.verdict.Verdict.TheVariants as verdict
 use Rattle.flow_reply.specs.Report.{Means, IsReport}
@@ -50,8 +51,10 @@ pub record IsRunOf (gives : Call → Outcome → Bool) (w : Definition) (steps w
   pub stands_is : model.IsRunVerdict (schema_of w) steps last.history stands
   pub verdict_is : Means last verdict stands
 
--- the output is the report of a run of this workflow and nothing else, and the status that of its verdict
+-- the workflow is not too large, the output is the report of a run of it and nothing else, and the status that of its
+-- verdict
 pub record Reports (gives : Call → Outcome → Bool) (w : Definition) (steps workers : ℕ) (status : Status) (output : List ℕ) : Type 0 where
+  pub within : IsWithinLimits (schema_of w)
   pub last : Run
   pub verdict : Verdict
   pub run : IsRunOf gives w steps workers last verdict
