@@ -7,6 +7,7 @@ use flow_io::{MemSink, MemSource};
 use std::alloc::{AllocError, Global};
 use std::sync::Wait;
 use std::sync::atomic::{AtomicBool, AtomicU32, Ordering};
+use std::thread;
 use std::thread::Threads;
 
 /// More bytes than are written here.
@@ -14,6 +15,9 @@ const ROOM: usize = 4000;
 
 /// How often a task looks for the others.
 const TURNS: u64 = 1_000_000_000;
+
+/// The same, where 64 tasks look for each other.
+const FEWER_TURNS: u64 = 1_000_000;
 
 /// `examples/order_desk.flow`.
 const ORDER_DESK: &str = "event receive, check_form, ask_back, register;
@@ -98,13 +102,23 @@ fn two_workers_meet(rt: HostRuntime) {
     assert!(rt; is_fine_without(told, "failed"));
 }
 
-/// Four tasks that succeed only where each sees the three others at work.
+/// Tasks that succeed only where each sees all others at work.
 #[derive(Drop)]
-struct FourMeet {
-    came: [AtomicBool; 4],
+struct AllMeet {
+    came: Vec<AtomicBool>,
+    /// How often a task looks for the others.
+    turns: u64,
 }
 
-impl FourMeet {
+impl AllMeet {
+    fn new(alloc: Global, tasks: u32, turns: u64) -> Result<AllMeet, AllocError> {
+        let mut came = Vec::new(alloc);
+        for _ in 0..tasks {
+            came.push(AtomicBool::new(false))?;
+        }
+        Ok(AllMeet { came, turns })
+    }
+
     fn have_come(&self) -> bool {
         for flag in &self.came {
             if !flag.load(Ordering::SeqCst) {
@@ -115,35 +129,61 @@ impl FourMeet {
     }
 }
 
-impl Gate for FourMeet {
+impl Gate for AllMeet {
     ghost gives = { λ _ _. true };
 
     fn perform(&self, call: Call) -> Outcome {
         if let Some(flag) = self.came.get(call.leaf as usize) {
             flag.store(true, Ordering::SeqCst);
         }
-        for _ in 0..TURNS {
+        for turn in 0..self.turns {
             if self.have_come() {
                 return Outcome::Done;
+            }
+            // there may be more tasks than processors
+            if turn % 64 == 0 {
+                thread::yield_now();
             }
         }
         Outcome::Failed
     }
 }
 
+/// `e0, e1, e2` for the three first events and a comma between them.
+fn events(alloc: Global, count: u32, between: &str) -> Result<String, AllocError> {
+    let mut text = String::new(alloc);
+    for number in 0..count {
+        if number > 0 {
+            text.push_str(between)?;
+        }
+        text.push_str(&format!(in alloc; "e{number}")?)?;
+    }
+    Ok(text)
+}
+
+/// How a run of so many tasks, which are all to be at work at once, comes out by as many workers.
+fn met<R: AllocGlobal + Threads + Wait + Sync>(
+    rt: &R,
+    tasks: u32,
+    turns: u64,
+) -> Result<(Status, Vec<u8>), AllocError> {
+    let alloc = rt.alloc();
+    let declared = events(alloc, tasks, ", ")?;
+    let beside = events(alloc, tasks, " | ")?;
+    let workflow = format!(in alloc; "event {declared}; goal {beside};")?;
+    let line = format!(in alloc; "flow run --workers {tasks}")?;
+    let gate = AllMeet::new(alloc, tasks, turns)?;
+    ran(rt, &line, &workflow, &gate)
+}
+
 #[test]
 fn four_workers_meet(rt: HostRuntime) {
-    let gate = FourMeet {
-        came: [
-            AtomicBool::new(false),
-            AtomicBool::new(false),
-            AtomicBool::new(false),
-            AtomicBool::new(false),
-        ],
-    };
-    let workflow = "event a, b, c, d; goal a | b | c | d;";
-    let told = ran(&rt, "flow run --workers 4", workflow, &gate);
-    assert!(rt; is_fine_without(told, "failed"));
+    assert!(rt; is_fine_without(met(&rt, 4, TURNS), "failed"));
+}
+
+#[test]
+fn as_many_workers_as_can_be_meet(rt: HostRuntime) {
+    assert!(rt; is_fine_without(met(&rt, 64, FEWER_TURNS), "failed"));
 }
 
 /// As the events are declared, with a count of the tasks.

@@ -1,0 +1,103 @@
+#!/usr/bin/env python3
+"""Wrong bodies of run_crew that its contract lets through, since none says that threads run: each must fail the tests of
+crates/flow_thread_calls.
+
+Usage: bench/wrong_crews.py [BODY ..]     without one all, and the right body first
+
+Each body is put into a copy of the crates, and the tests are built there with no proof (rt try --test). That build is slow, so a task
+looks for the others 10,000,000 times there, and not 1,000,000,000. The script ends with 1 where a wrong body passes, or the right one
+does not.
+"""
+import pathlib
+import re
+import shutil
+import subprocess
+import sys
+import tempfile
+
+TOP = pathlib.Path(__file__).resolve().parent.parent
+CREW = "crates/flow_crew/src/crew.rt"
+TESTS = "crates/flow_thread_calls/src/tests/workers.rt"
+
+# In place of std's: the second begins when the first has ended.
+JOIN = """
+fn join<R, A, B, F: FnOnce() -> A, G: FnOnce() -> B>(_rt: &R, first: F, second: G) -> (A, B) {
+    (first(), second())
+}
+"""
+# What the worker is to do is done in the turn in which it is asked for.
+IN_TURN = """
+struct InTurn<'g, G> {
+    gate: &'g G,
+}
+
+impl<'g, G: Gate> flow_turn::Job<Held<G>> for InTurn<'g, G> {
+    type Answer = Move;
+
+    ghost does = { λ _ _ _ _ _. Unit {0} };
+
+    fn run(self, held: &mut Held<G>, by: u32) -> Move {
+        let InTurn { gate } = self;
+        match held.begin(by) {
+            Move::Perform(call) => {
+                let outcome = gate.perform(call);
+                held.post(call, outcome, by);
+                Move::Went
+            }
+            other => other,
+        }
+    }
+}
+"""
+ALL = "work_all(rt, alloc, held, gate, workers);"
+# Of each body what it changes, and what it adds at the end.
+BODIES = {
+    "right": ({}, ""),
+    "one_thread": ({"use std::thread::{Threads, join};": "use std::thread::Threads;"}, JOIN),
+    "holds_the_lock": ({"lock.with_turn(rt, &mut pass, Begin::new())": "lock.with_turn(rt, &mut pass, InTurn { gate })",
+                        "use crate::jobs::{Begin, Post};": "use crate::jobs::Post;"}, IN_TURN),
+    "one_worker": ({ALL: ALL.replace("workers", "1")}, ""),
+    "three_workers_at_most": ({ALL: ALL.replace("workers", "workers.min(3)")}, ""),
+    "one_worker_less": ({ALL: ALL.replace("workers", "workers - workers / 64")}, ""),
+}
+
+
+def changed(file, changes):
+    text = file.read_text()
+    for old, new in changes.items():
+        assert text.count(old) == 1, f"{file} has another line than: {old}"
+        text = text.replace(old, new)
+    file.write_text(text)
+
+
+def ends_of_tests(name):
+    """Of each test whether it passes with this body."""
+    changes, more = BODIES[name]
+    with tempfile.TemporaryDirectory() as place:
+        top = pathlib.Path(place)
+        shutil.copytree(TOP / "crates", top / "crates", ignore=shutil.ignore_patterns("out"))
+        for file in ["crates.txt", "HANDLES"]:
+            shutil.copy(TOP / file, top)
+        changed(top / CREW, changes)
+        (top / CREW).write_text((top / CREW).read_text() + more)
+        changed(top / TESTS, {" = 1_000_000_000;": " = 10_000_000;"})
+        # the interpreter that is asked first would not come to the end of a wait
+        words = ["rt", "try", "--test", "--steps", "1", "--seconds", "600"]
+        ran = subprocess.run(words, cwd=top / TESTS[:TESTS.index("src")], capture_output=True, text=True, check=False)
+    told = ran.stdout + ran.stderr
+    ends = {test: end == "ok" for test, end in re.findall(r"(?m)^test tests::\w+::(\w+) \.\.\. (\w+)", told)}
+    assert ends, told
+    return ends
+
+
+def main():
+    unexpected = 0
+    for name in sys.argv[1:] or BODIES:
+        failed = [test for test, passes in ends_of_tests(name).items() if not passes]
+        print(f"{name:<22} fails {', '.join(failed) or 'none'}", flush=True)
+        unexpected += (name == "right") == bool(failed)
+    sys.exit(1 if unexpected else 0)
+
+
+if __name__ == "__main__":
+    main()
