@@ -1,27 +1,39 @@
 -- What is said has one workflow, or one reason why it has none.
-use Rattle.std.proofs.Common.{◌≡◌, ◌<◌, ◌≤◌, ℕ, List, Some, inl, inr, ◌⊎◌, sym, ap, subst, ◌∙◌, arith, le_antisymm}
-use Rattle.flow_model.specs.Lists.{AreDistinct}
+use Rattle.std.proofs.Common.{◌≡◌, ◌<◌, ◌≤◌, ℕ, List, length, Some, inl, inr, ◌⊎◌, sym, ap, subst, ◌∙◌, arith, le_antisymm}
+use Rattle.flow_model.specs.Lists.{AreDistinct, numbers_from}
 use Rattle.flow_model.specs.Facts.{event_at}
+use Rattle.flow_model.specs.Process.{IsNumbered}
+use Rattle.flow_laws.specs.Words.{IsWellFormed}
 use Rattle.flow_goal.specs.Labelled.{Labelled}
 use Rattle.flow_goal.specs.declared.repeats.Twice.{Twice}
 use Rattle.flow_goal.specs.Repeated.{HoldsNoneTwice, IsFirstTwice}
 use Rattle.flow_goal.proofs.Repetitions.{not_unique}
 use Rattle.flow_form.specs.Script.{Said}
 use Rattle.flow_form.specs.Names.{declared_names, event_names}
-use Rattle.flow_workflow.specs.Definition.{Definition}
+use Rattle.flow_workflow.specs.Definition.{Definition, schema_of}
 use Rattle.flow_expand.specs.declared.refusal.ExpandRefusal.{ExpandRefusal}
 use Rattle.flow_expand.specs.declared.refusal.ExpandRefusal.TheVariants as refusal
 use Rattle.flow_expand.specs.declared.refusal.Part.TheVariants as part
 use Rattle.flow_expand.specs.Expansion.{Expansion, size_of, kept}
-use Rattle.flow_expand.specs.Numbers.{labelled_of}
+use Rattle.flow_expand.specs.Numbers.{facts_of, labelled_of}
 use Rattle.flow_expand.specs.Refusals.{flow_count, rule_name_count, IsFinite, IsFitting, HasManyFlows, HasRecursion, HasLargeGoal, HasManyRuleNames, HasRepetition, IsRefusal}
 use Rattle.flow_expand.specs.Workflows.{definition_of, IsExpanded}
 use Rattle.flow_expand.proofs.Endings.{becomes_one}
+use Rattle.flow_expand.proofs.BuildLemmas.{labels_counted}
+use Rattle.flow_expand.proofs.NumberingLemmas.{leaves_in_row}
 use Rattle.flow_reply.specs.declared.refused.Refused.TheVariants as refused
 use Rattle.flow_reply.specs.Refusing.{refused_text, IsOfWorkflow}
 use Rattle.flow_cli.specs.declared.status.Status.{Status}
 use Rattle.flow_cli.specs.Refusals.{IsNotExpanded, OfWorkflow}
 use Rattle.flow_cli_laws.specs.Single.{ShowsChain}
+
+-- the workflow that is said is well-formed
+pub well_formed : (s : Said) (w : Definition) → IsExpanded s w → IsWellFormed (schema_of w)
+well_formed s w x = record {
+  numbered = subst (λ (t : Labelled). IsNumbered t.process (length t.labels)) (sym (ap (λ (v : Definition). v.tree) x.is))
+      (leaves_in_row 0 x.expansion ∙ ap (numbers_from 0) (sym (labels_counted (event_names s.decls) (facts_of s.decls x.expansion) x.expansion)));
+  unique = x.unique;
+}
 
 -- the first pair of leaves of one event is one
 twice_once : (t : Labelled) (a b : Twice) → IsFirstTwice t a → IsFirstTwice t b → a ≡ b
@@ -74,7 +86,7 @@ module _ (s : Said) (once : AreDistinct (declared_names s.decls)) where
   expanded_once w v p q =
       p.is ∙ ap (definition_of s) (becomes_one s.decls once s.goal p.expansion q.expansion p.measured.fitting.becomes q.measured.fitting.becomes) ∙ sym q.is
 
-  not_refused : (r : ExpandRefusal) (w : Definition) → IsRefusal s r → IsOfWorkflow (event_names s.decls) r → IsExpanded s w → ⊥
+  pub not_refused : (r : ExpandRefusal) (w : Definition) → IsRefusal s r → IsOfWorkflow (event_names s.decls) r → IsExpanded s w → ⊥
   not_refused (refusal.TooLarge part.Flows n) w h of x = many_flows n h x.measured.fitting.finite.few
   not_refused (refusal.Recursive chain) w h of x = recursive chain.items h x.measured.fitting.finite
   not_refused (refusal.TooLarge part.Goal n) w h of x = large_goal n x.expansion h x.measured.fitting

@@ -1,4 +1,5 @@
 ghost use Rattle.flow_cli_laws.specs.Single.{OutputsAreSingle, FaultsAreTold};
+ghost use Rattle.flow_cli_laws.specs.Done.{DoneRunsAreReported};
 
 use flow_words::law_one_request;
 
@@ -8,6 +9,16 @@ use flow_words::law_one_request;
 pub fn law_outputs_are_single()
     ensures outputs { OutputsAreSingle }
     ensures faults { FaultsAreTold }
+{
+    // words are a call for one request alone
+    law_one_request();
+}
+
+/// Where workers run a workflow in which nothing waits and no task fails, with room for two entries a leaf and one more,
+/// each schedule commits it. That no task fails follows from the notes of its events where the gate goes by them, see
+/// `flow_crew::law_done_runs_commit`.
+pub fn law_done_runs_are_committed()
+    ensures { DoneRunsAreReported }
 {
     // words are a call for one request alone
     law_one_request();

@@ -1,6 +1,6 @@
-//! What the top call writes is settled by what it reads.
+//! Laws of what the top call writes.
 #![tactic(auto)]
 
 mod laws;
 
-pub use laws::law_outputs_are_single;
+pub use laws::{law_done_runs_are_committed, law_outputs_are_single};

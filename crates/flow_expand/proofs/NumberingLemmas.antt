@@ -43,7 +43,7 @@ numbers_below first (suc count) end le = (omega arith, numbers_below (first + 1)
 both_in_row : (a b : Process) (next m n : ℕ) → leaves a ≡ numbers_from next m → leaves b ≡ numbers_from (next + m) n → leaves a ++ leaves b ≡ numbers_from next (m + n)
 both_in_row a b next m n e f = (λ i. e i ++ f i) ∙ sym (numbers_from-+ next m n)
 
-leaves_in_row : (next : ℕ) (e : Expansion) → leaves (numbered next e) ≡ numbers_from next (leaf_count e)
+pub leaves_in_row : (next : ℕ) (e : Expansion) → leaves (numbered next e) ≡ numbers_from next (leaf_count e)
 leaves_in_row next nothing = refl
 leaves_in_row next (happens n) = refl
 leaves_in_row next (holds a) = refl

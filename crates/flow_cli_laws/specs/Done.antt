@@ -1,0 +1,55 @@
+-- What `run` writes of a workflow in which every task succeeds.
+use Rattle.std.specs.Prelude.{◌≡◌, ◌≤◌, ◌+◌, ◌*◌, ℕ, Bool, List, length, Some}
+use Rattle.flow_model.specs.declared.history.Call.{Call}
+use Rattle.flow_model.specs.declared.history.Entry.{Entry}
+use Rattle.flow_model.specs.declared.history.Outcome.{Outcome}
+use Rattle.flow_model.specs.Lists.{Each}
+use Rattle.flow_laws.specs.Words.{IsConsistent}
+use Rattle.flow_laws.specs.Histories.{NeverWaits}
+use Rattle.flow_form.specs.Script.{Said}
+use Rattle.flow_text.specs.Saying.{Says}
+use Rattle.flow_workflow.specs.Definition.{Definition, schema_of}
+use Rattle.flow_expand.specs.Workflows.{IsExpanded}
+use Rattle.flow_excise.specs.Compilation.{IsWithinLimits}
+use Rattle.flow_core.specs.Run.{Run}
+use Rattle.flow_crew.specs.Done.{IsPlainStep, NeverFails}
+use Rattle.flow_reply.specs.declared.verdict.Verdict.TheVariants.{Committed}
+use Rattle.flow_reply.specs.Report.{IsReport}
+use Rattle.flow_words.specs.declared.request.Mode.TheVariants as mode
+use Rattle.flow_words.specs.declared.request.Request.{Request}
+use Rattle.flow_words.specs.Words.{IsCall}
+use Rattle.flow_cli.specs.declared.status.Status.{Status}
+use Rattle.flow_cli.specs.declared.status.Status.TheVariants.{Fine, ReadFault}
+use Rattle.flow_cli.specs.Running.{IsRunOf}
+use Rattle.flow_cli.specs.Output.{greatest_input, workflow_part, Writes}
+
+-- the input is not too long, and the workflow is the one that it says
+pub record IsInputOf (w : Definition) (input : List ℕ) : Type 0 where
+  pub short : length input ≤ greatest_input
+  pub said : Said
+  pub says : Says (workflow_part input) said
+  pub expanded : IsExpanded said w
+
+-- the workflow is not too large, some execution meets every constraint, nothing in it waits, and with that gate no task of
+-- it fails
+pub record AlwaysSucceeds (gives : Call → Outcome → Bool) (w : Definition) : Type 0 where
+  pub within : IsWithinLimits (schema_of w)
+  pub consistent : IsConsistent (schema_of w)
+  pub never_waits : Each NeverWaits w.tree.labels
+  pub never_fails : NeverFails gives (schema_of w)
+
+-- the output is the report of a committed run, in which nothing failed, nothing came late and nothing went back
+pub record ReportsSuccess (gives : Call → Outcome → Bool) (w : Definition) (steps workers : ℕ) (status : Status) (output : List ℕ) : Type 0 where
+  pub last : Run
+  pub run : IsRunOf gives w steps workers last Committed
+  pub plain : Each (λ (entry : Entry). IsPlainStep entry.step) last.history
+  pub status_is : status ≡ Fine
+  pub output_is : IsReport last Committed output
+
+-- With room for two entries a leaf and one more, such a workflow is run to its end at once, whatever the schedule, unless
+-- its source fails.
+abbrev pub DoneRunsAreReported : Type 0
+DoneRunsAreReported = (gives : Call → Outcome → Bool) (words : List (List ℕ)) (request : Request) (input : List ℕ) (w : Definition) →
+    IsCall words request → request.mode ≡ mode.Run → IsInputOf w input → AlwaysSucceeds gives w → 2 * length w.tree.labels + 1 ≤ request.steps →
+    (status : Status) (output : List ℕ) → ¬ (status ≡ ReadFault) → Writes gives words (Some input) status output →
+    ReportsSuccess gives w request.steps request.workers status output
