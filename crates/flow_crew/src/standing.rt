@@ -37,15 +37,17 @@ pub(crate) fn stand(core: &Core, failed: Option<u32>) -> (Option<Next>, Option<E
     }
 }
 
-/// What the run does next, which may be known.
-pub(crate) fn look(core: &Core, known: Option<Next>) -> Next
-    requires { IfSome known (IsNext core.now) }
-    ensures { IsNext core.now result }
+/// What the run does next, which may be known. It is asked of all leaves at once: while claims are out, few of them may go on.
+pub(crate) fn look(core: &mut Core, known: Option<Next>) -> Next
+    requires { IfSome known (IsNext core.old) }
+    ensures same { core.new ≡ core.old }
+    ensures next { IsNext core.old result }
 {
-    match known {
-        Some(next) => next,
-        None => core.next(),
+    if let Some(next) = known {
+        return next;
     }
+    core.look_ahead();
+    core.next()
 }
 
 /// The end, where no choice is open.

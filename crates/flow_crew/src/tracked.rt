@@ -53,7 +53,7 @@ impl Tracked {
         if self.end.is_some() {
             return Move::Over;
         }
-        let next = look(&self.core, self.next);
+        let next = look(&mut self.core, self.next);
         self.next = Some(next);
         if let Next::Wait(claim) = next {
             return Move::Wait(claim);
