@@ -6,7 +6,7 @@
 # Ends with 1 where one of them found what should not be. turns.sh and wrong_crews.py build programs of their own and take
 # some minutes.
 set -u
-cd "$(dirname "$0")"
+cd "$(dirname "$0")" || exit
 program=$(realpath "${1:-../crates/flow/out/flow}")
 status=0
 for bench in worst sessions traces large hostile; do
