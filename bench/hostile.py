@@ -187,10 +187,11 @@ def left_by_reader(program, words, source, count):
     """The status where the reader of a small pipe goes after so many bytes."""
     end, begin = os.pipe()
     fcntl.fcntl(begin, fcntl.F_SETPIPE_SZ, 4096)
+    # before the program begins: what reads nothing writes at once
+    if count == 0:
+        os.close(end)
     with subprocess.Popen([program, *words], stdin=subprocess.PIPE, stdout=begin, stderr=subprocess.DEVNULL) as call:
         os.close(begin)
-        if count == 0:
-            os.close(end)
         with contextlib.suppress(BrokenPipeError):
             call.stdin.write(source)
             call.stdin.close()
