@@ -25,8 +25,8 @@ use Rattle.flow_cli.specs.Compiling.{IsNotCompiled}
 use Rattle.flow_cli.specs.Checking.{IsFoundConsistent, ChecksWorkflow, Checks}
 use Rattle.flow_cli.specs.Driving.{Records, DrivesWorkflow, DrivesSaid, DrivesText}
 use Rattle.flow_cli.specs.Tracing.{TellsOfLeaves, TracesLeaves, TracesWorkflow, TracesText, IsJournalRefusal}
-use Rattle.flow_cli_laws.specs.Single.{ShowsCircles, ShowsCause}
-use Rattle.flow_cli_laws.proofs.Once.{IsSingle, checks_once, traces_once, sessions_once}
+use Rattle.flow_cli_laws.specs.Single.{IsSingle, ShowsCircles, ShowsCause}
+use Rattle.flow_cli_laws.proofs.Once.{checks_once, traces_once, sessions_once}
 use Rattle.flow_cli_laws.proofs.Expansions.{of_one_workflow}
 use Rattle.flow_cli_laws.proofs.Compilations.{told_once, not_too_large, not_compiled_once}
 use Rattle.flow_cli_laws.proofs.Agreeing as agreeing

@@ -37,10 +37,7 @@ use Rattle.flow_cli.specs.Drive.{driver, Answers, RepliesTo, Drives}
 use Rattle.flow_cli.specs.Checking.{IsFoundConsistent}
 use Rattle.flow_cli.specs.Driving.{start_of, ended, Records}
 use Rattle.flow_cli.specs.Tracing.{status_of_checked, TellsOfLeaves}
-
--- two answers are the same
-abbrev pub IsSingle : (Status → List ℕ → Type 0) → Type 0
-IsSingle Writes = (status other : Status) (output text : List ℕ) → Writes status output → Writes other text → (status ≡ other) × (output ≡ text)
+use Rattle.flow_cli_laws.specs.Single.{IsSingle}
 
 module _ (r after other : Run) where
   abbrev Once : Answer → Answer → Type 0

@@ -12,6 +12,7 @@ use Rattle.flow_expand.specs.Refusals.{IsRefusal}
 use Rattle.flow_expand.specs.Constraints.{constraint_of}
 use Rattle.flow_excise.specs.Executions.{TellOfAll}
 use Rattle.flow_excise.specs.Compilation.{all_numbered}
+use Rattle.flow_record.specs.declared.command.Command.{Command}
 use Rattle.flow_verify.specs.declared.answers.Verified.TheVariants.{Fails}
 use Rattle.flow_verify.specs.declared.answers.Redundancy.TheVariants.{Needed}
 use Rattle.flow_verify.specs.Verification.{TellsOfProperty, TellsOfConstraint}
@@ -24,7 +25,10 @@ use Rattle.flow_words.specs.declared.request.Request.{Request}
 use Rattle.flow_words.specs.Words.{IsCall}
 use Rattle.flow_cli.specs.declared.status.Status.{Status}
 use Rattle.flow_cli.specs.declared.status.Status.TheVariants.{ReadFault}
+use Rattle.flow_cli.specs.Checking.{IsFoundConsistent}
+use Rattle.flow_cli.specs.Driving.{Records}
 use Rattle.flow_cli.specs.Refusals.{OfWorkflow}
+use Rattle.flow_cli.specs.Tracing.{TellsOfLeaves}
 use Rattle.flow_cli.specs.Verifying.{OfQuery}
 use Rattle.flow_cli.specs.Output.{workflow_part, second_part, Writes}
 
@@ -116,3 +120,19 @@ OutputsAreSingle = (gives allows : Call → Outcome → Bool) (words : List (Lis
 abbrev pub FaultsAreTold : Type 0
 FaultsAreTold = (gives : Call → Outcome → Bool) (words : List (List ℕ)) (input output : List ℕ) →
     Writes gives words (Some input) ReadFault output → output ≡ refused_text [] refused.Read
+
+-- two answers are the same
+abbrev pub IsSingle : (Status → List ℕ → Type 0) → Type 0
+IsSingle Writes = (status other : Status) (output text : List ℕ) → Writes status output → Writes other text → (status ≡ other) × (output ≡ text)
+
+-- Of a workflow that is compiled, whether a text says it or not, nothing is left open: where it is checked and found consistent,
+abbrev pub ChecksAreSingle : Type 0
+ChecksAreSingle = (w : Definition) → IsSingle (IsFoundConsistent w)
+
+-- where a list of leaves is checked against it,
+abbrev pub TracesAreSingle : Type 0
+TracesAreSingle = (w : Definition) (leaves : List ℕ) → IsSingle (TellsOfLeaves w leaves)
+
+-- and where it is driven by a session.
+abbrev pub SessionsAreSingle : Type 0
+SessionsAreSingle = (w : Definition) (steps : ℕ) (session : List Command) → IsSingle (Records w steps session)

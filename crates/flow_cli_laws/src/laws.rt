@@ -1,4 +1,4 @@
-ghost use Rattle.flow_cli_laws.specs.Single.{OutputsAreSingle, FaultsAreTold};
+ghost use Rattle.flow_cli_laws.specs.Single.{OutputsAreSingle, FaultsAreTold, ChecksAreSingle, TracesAreSingle, SessionsAreSingle};
 ghost use Rattle.flow_cli_laws.specs.Done.{DoneRunsAreReported};
 
 use flow_words::law_one_request;
@@ -9,6 +9,9 @@ use flow_words::law_one_request;
 pub fn law_outputs_are_single()
     ensures outputs { OutputsAreSingle }
     ensures faults { FaultsAreTold }
+    ensures checks { ChecksAreSingle }
+    ensures traces { TracesAreSingle }
+    ensures sessions { SessionsAreSingle }
 {
     // words are a call for one request alone
     law_one_request();
