@@ -15,7 +15,7 @@ use std::alloc::{AllocError, AllocFailed, Global};
 use thiserror::Error;
 
 /// Why a plan is not kept.
-#[derive(Debug, PartialEq, Eq, Drop, Error)]
+#[derive(Debug, Drop, Error)]
 pub enum ExciseRefusal {
     /// It has no execution, since its leaves wait for each other.
     #[error("leaves wait for each other")]

@@ -6,7 +6,7 @@ use std::alloc::{AllocError, AllocFailed};
 use thiserror::Error;
 
 /// An option that has no execution.
-#[derive(Debug, PartialEq, Eq, Drop)]
+#[derive(Debug, Drop)]
 pub struct Dropped {
     /// The number of its resolution.
     pub resolution: u64,
@@ -16,7 +16,7 @@ pub struct Dropped {
 }
 
 /// Why a tree and rules give no plans.
-#[derive(Debug, PartialEq, Eq, Drop, Error)]
+#[derive(Debug, Drop, Error)]
 pub enum CompileRefusal {
     #[error("{count} ways to resolve the choices are too many")]
     TooManyChoices { count: u64 },

@@ -6,7 +6,7 @@ use flow_goal::Twice;
 use std::alloc::{AllocError, AllocFailed};
 
 /// A part of a workflow.
-#[derive(Clone, Copy, Debug, PartialEq, Eq)]
+#[derive(Clone, Copy, Debug)]
 pub enum Part {
     Flows,
     Goal,

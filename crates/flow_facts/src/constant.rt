@@ -6,7 +6,7 @@ use std::cmp::Ordering;
 use std::hash::{Hash, Hasher};
 
 /// An argument of a fact.
-#[derive(Debug, Drop)]
+#[derive(Drop)]
 pub enum Const {
     Word(Name),
     Number(u32),

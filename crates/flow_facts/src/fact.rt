@@ -8,7 +8,7 @@ use std::hash::{Hash, Hasher};
 use std::marker::Model;
 
 /// A ground fact: a relation of constants.
-#[derive(Debug, Drop)]
+#[derive(Drop)]
 pub struct Fact {
     relation: Name,
     args: Vec<Const>,

@@ -5,7 +5,7 @@ use std::alloc::{AllocError, Global};
 
 /// A goal of Concurrent Transaction Logic (Bonner and Kifer 1996). Leaves are numbered from 0 from
 /// left to right.
-#[derive(Debug, Drop)]
+#[derive(Drop)]
 pub enum Goal {
     Nop,
     Leaf(u32),

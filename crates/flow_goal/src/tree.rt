@@ -10,7 +10,7 @@ use std::alloc::{AllocError, Global};
 use std::marker::Model;
 
 /// Why a goal and labels make no tree.
-#[derive(Clone, Copy, Debug, PartialEq, Eq)]
+#[derive(Clone, Copy)]
 pub enum TreeRefusal {
     /// The leaves from left to right are not numbered 0, 1, .. below the number of labels.
     Numbering,

@@ -4,7 +4,7 @@ ghost use Rattle.flow_names.specs.declared.refusal.NameRefusal.TheVariants.{NoMe
 use std::alloc::{AllocError, AllocFailed};
 
 /// Which name of a text is wrong. Names are counted from 0 in the order of the text.
-#[derive(Clone, Copy, Debug, PartialEq, Eq)]
+#[derive(Clone, Copy)]
 pub enum NameRefusal {
     /// The first name that is declared a second time.
     Repeated { index: usize },

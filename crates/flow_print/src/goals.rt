@@ -8,7 +8,7 @@ use flow_form::Form;
 use std::alloc::AllocError;
 
 /// A kind of list.
-#[derive(Clone, Copy, Debug, PartialEq, Eq)]
+#[derive(Clone, Copy)]
 pub(crate) enum Join {
     Serial,
     Beside,

@@ -7,7 +7,7 @@ use flow_form::{Name, RuleForm};
 use std::alloc::AllocError;
 
 /// A kind of list.
-#[derive(Clone, Copy, Debug, PartialEq, Eq)]
+#[derive(Clone, Copy)]
 pub(crate) enum Linking {
     And,
     Or,

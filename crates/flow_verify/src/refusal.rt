@@ -6,7 +6,7 @@ use thiserror::Error;
 
 /// Why nothing is told of a property or a constraint. The counts are those of the workflow with one
 /// constraint more.
-#[derive(Debug, PartialEq, Eq, Drop, Error)]
+#[derive(Debug, Drop, Error)]
 pub enum VerifyRefusal {
     #[error("{count} ways to resolve the choices are too many")]
     TooManyChoices { count: u64 },
