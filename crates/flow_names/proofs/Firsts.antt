@@ -1,8 +1,9 @@
 -- What the passes find is the first role of its kind.
-use Rattle.std.proofs.Common.{◌≡◌, ℕ, ◌+◌, List, [], ◌∷◌, ◌++◌, length, Bool, true, false, cond, refl, sym, ap, subst, ◌∙◌, ◌⊎◌, inl, inr, append_assoc, arith}
+use Rattle.std.proofs.Common.{◌≡◌, ℕ, ◌+◌, List, [], ◌∷◌, ◌++◌, length, Bool, true, false, cond, refl, sym, ap, subst, ◌∙◌, ◌⊎◌, inl, inr, append_assoc, append-nil, arith}
 use Rattle.std.specs.Prelude.{Option, Some, None, not}
 use Rattle.std.proofs.lemmas.Bool.{not-false}
 use Rattle.flow_model.specs.Lists.{◌∈◌, Each, AreDistinct}
+use Rattle.flow_laws.proofs.ListLemmas2.{mem_append_left, mem_append_right}
 use Rattle.flow_form.specs.Script.{Declared}
 use Rattle.flow_form.specs.Names.{declared_names, event_names}
 use Rattle.flow_grammar.specs.Roles.{Role, declares, in_goal, in_rule, in_fact, declaring, used_in_goals, used_in_rules}
@@ -11,8 +12,8 @@ use Rattle.flow_grammar.specs.Roles.{script_roles, query_roles}
 use Rattle.flow_grammar.proofs.RolesOfNames.{roles_are_the_names}
 use Rattle.flow_names.specs.declared.known.Known.{Known}
 use Rattle.flow_names.specs.Good.{IsRepeated, IsUnknown, IsFirst, HasGoodNames, IsFirstRepeated, IsFirstUnknown, AsksOfEvents, AsksFirstOfOther}
-use Rattle.flow_names.specs.Passes.{NameSet, no_names, with_name, is_again, after, repeated_from, is_unknown, unknown_from, has, KnowsThose}
-use Rattle.flow_names.proofs.Sets.{Holds, none_held, held_more, held, in_front, in_back}
+use Rattle.flow_names.specs.Passes.{NameSet, no_names, with_name, Holds, is_again, after, repeated_from, is_unknown, unknown_from, has, has_event, KnowsThose}
+use Rattle.flow_names.proofs.Sets.{none_held, held_more}
 
 -- no role of the list has P after `before` and those before it
 abbrev pub HasNone : (List Role → Role → Type 0) → List Role → List Role → Type 0
@@ -34,10 +35,6 @@ record Cut (P : List Role → Role → Type 0) (before : List Role) (start : ℕ
   here : P (before ++ front) role
   first : (a b : List Role) (r : Role) → front ≡ a ++ r ∷ b → P (before ++ a) r → ⊥
 
-append_none : (xs : List Role) → xs ++ [] ≡ xs
-append_none [] = refl
-append_none (x ∷ xs) = ap (λ z. x ∷ z) (append_none xs)
-
 cut_of : (P : List Role → Role → Type 0) (before : List Role) (start : ℕ) (roles : List Role) (k : ℕ) → HasFirst P before start roles k → Cut P before start roles k
 cut_of P before start [] k h = absurd h
 cut_of P before start (r ∷ rs) k (inl (here, e)) = record {
@@ -46,7 +43,7 @@ cut_of P before start (r ∷ rs) k (inl (here, e)) = record {
   back = rs;
   cut = refl;
   place = omega arith;
-  here = subst (λ z. P z r) (sym (append_none before)) here;
+  here = subst (λ z. P z r) (sym (append-nil before)) here;
   first = none;
 }
   where
@@ -67,7 +64,7 @@ cut_of P before start (r ∷ rs) k (inr (out, h)) = go (cut_of P (before ++ r �
     }
       where
         first : (a b : List Role) (q : Role) → r ∷ c.front ≡ a ++ q ∷ b → P (before ++ a) q → ⊥
-        first [] b q e p = let same : q ≡ r = cc in out (subst (λ z. P before z) same (subst (λ z. P z q) (append_none before) p))
+        first [] b q e p = let same : q ≡ r = cc in out (subst (λ z. P before z) same (subst (λ z. P z q) (append-nil before) p))
         first (x ∷ a) b q e p =
             let same : x ≡ r = cc in
             let rest : c.front ≡ a ++ q ∷ b = cc in
@@ -89,11 +86,7 @@ declaring_push (in_rule n ∷ front) r = declaring_push front r
 declaring_push (in_fact n ∷ front) r = declaring_push front r
 
 plain : (front : List Role) (r : Role) (set : NameSet) → declaring (r ∷ []) ≡ [] → Holds set (declaring front) → Holds set (declaring (front ++ r ∷ []))
-plain front r set none h = subst (λ z. Holds set z) (sym (declaring_push front r ∙ ap (λ z. declaring front ++ z) none ∙ names_none (declaring front))) h
-  where
-    names_none : (xs : List (List ℕ)) → xs ++ [] ≡ xs
-    names_none [] = refl
-    names_none (x ∷ xs) = ap (λ z. x ∷ z) (names_none xs)
+plain front r set none h = subst (λ z. Holds set z) (sym (declaring_push front r ∙ ap (λ z. declaring front ++ z) none ∙ append-nil (declaring front))) h
 
 held_after : (set : NameSet) (front : List Role) (r : Role) → Holds set (declaring front) → Holds (after set r) (declaring (front ++ r ∷ []))
 held_after set front (declares n) h = subst (λ z. Holds (with_name set n) z) (sym (declaring_push front (declares n))) (held_more set (declaring front) n h)
@@ -102,13 +95,13 @@ held_after set front (in_rule n) h = plain front (in_rule n) set refl h
 held_after set front (in_fact n) h = plain front (in_fact n) set refl h
 
 again_is : (set : NameSet) (front : List Role) (r : Role) → Holds set (declaring front) → is_again set r ≡ true → IsRepeated front r
-again_is set front (declares n) h e = h.in_names n e
+again_is set front (declares n) h e = (h n).0 e
 again_is set front (in_goal n) h e = absurd (cc)
 again_is set front (in_rule n) h e = absurd (cc)
 again_is set front (in_fact n) h e = absurd (cc)
 
 again_is_not : (set : NameSet) (front : List Role) (r : Role) → Holds set (declaring front) → is_again set r ≡ false → IsRepeated front r → ⊥
-again_is_not set front (declares n) h e member = let t = h.in_set n member in cc
+again_is_not set front (declares n) h e member = let t = (h n).1 member in cc
 again_is_not set front (in_goal n) h e member = member
 again_is_not set front (in_rule n) h e member = member
 again_is_not set front (in_fact n) h e member = member
@@ -142,7 +135,7 @@ abbrev AreNew : List (List ℕ) → List (List ℕ) → Type 0
 AreNew earlier names = AreDistinct names × ((n : List ℕ) → n ∈ earlier → n ∈ names → ⊥)
 
 pass : (front : List Role) (r : Role) (names : List (List ℕ)) → declaring (r ∷ []) ≡ [] → AreNew (declaring (front ++ r ∷ [])) names → AreNew (declaring front) names
-pass front r names none (distinct, new) = (distinct, λ n a b. new n (subst (λ z. n ∈ z) (sym (declaring_push front r)) (in_front n (declaring front) (declaring (r ∷ [])) a)) b)
+pass front r names none (distinct, new) = (distinct, λ n a b. new n (subst (λ z. n ∈ z) (sym (declaring_push front r)) (mem_append_left n (declaring front) (declaring (r ∷ [])) a)) b)
 
 new_names : (front roles : List Role) → HasNone IsRepeated front roles → AreNew (declaring front) (declaring roles)
 new_names front [] none = (tt, λ n a b. b)
@@ -152,11 +145,11 @@ new_names front (declares n ∷ rs) (out, none) = go (new_names (front ++ declar
     earlier q member = subst (λ z. q ∈ z) (sym (declaring_push front (declares n))) member
 
     go : AreNew (declaring (front ++ declares n ∷ [])) (declaring rs) → AreNew (declaring front) (n ∷ declaring rs)
-    go (distinct, new) = ((λ member. new n (earlier n (in_back n (declaring front) (n ∷ []) (inl refl))) member, distinct), apart)
+    go (distinct, new) = ((λ member. new n (earlier n (mem_append_right n (declaring front) (n ∷ []) (inl refl))) member, distinct), apart)
       where
         apart : (q : List ℕ) → q ∈ declaring front → q ∈ (n ∷ declaring rs) → ⊥
         apart q a (inl e) = out (subst (λ z. z ∈ declaring front) e a)
-        apart q a (inr b) = new q (earlier q (in_front q (declaring front) (n ∷ []) a)) b
+        apart q a (inr b) = new q (earlier q (mem_append_left q (declaring front) (n ∷ []) a)) b
 new_names front (in_goal n ∷ rs) (out, none) = pass front (in_goal n) (declaring rs) refl (new_names (front ++ in_goal n ∷ []) rs none)
 new_names front (in_rule n ∷ rs) (out, none) = pass front (in_rule n) (declaring rs) refl (new_names (front ++ in_rule n ∷ []) rs none)
 new_names front (in_fact n ∷ rs) (out, none) = pass front (in_fact n) (declaring rs) refl (new_names (front ++ in_fact n ∷ []) rs none)
@@ -166,8 +159,8 @@ new_names front (in_fact n ∷ rs) (out, none) = pass front (in_fact n) (declari
 unknown_is : (decls : List Declared) (known events : NameSet) (r : Role) → Holds known (declared_names decls) → Holds events (event_names decls)
     → is_unknown known events r ≡ true → IsUnknown decls r
 unknown_is decls known events (declares n) h g e = absurd (cc)
-unknown_is decls known events (in_goal n) h g e = λ member. let t = h.in_set n member in let u : not (known n) ≡ not true = ap not t in cc
-unknown_is decls known events (in_rule n) h g e = λ member. let t = g.in_set n member in let u : not (events n) ≡ not true = ap not t in cc
+unknown_is decls known events (in_goal n) h g e = λ member. let t = (h n).1 member in let u : not (known n) ≡ not true = ap not t in cc
+unknown_is decls known events (in_rule n) h g e = λ member. let t = (g n).1 member in let u : not (events n) ≡ not true = ap not t in cc
 unknown_is decls known events (in_fact n) h g e = absurd (cc)
 
 -- the role is as it must be
@@ -180,8 +173,8 @@ IsWell decls (in_fact n) = Unit {0}
 known_is : (decls : List Declared) (known events : NameSet) (r : Role) → Holds known (declared_names decls) → Holds events (event_names decls)
     → is_unknown known events r ≡ false → IsWell decls r
 known_is decls known events (declares n) h g e = tt
-known_is decls known events (in_goal n) h g e = h.in_names n (not-false (known n) e)
-known_is decls known events (in_rule n) h g e = g.in_names n (not-false (events n) e)
+known_is decls known events (in_goal n) h g e = (h n).0 (not-false (known n) e)
+known_is decls known events (in_rule n) h g e = (g n).0 (not-false (events n) e)
 known_is decls known events (in_fact n) h g e = tt
 
 pub well_is_known : (decls : List Declared) (r : Role) → IsWell decls r → IsUnknown decls r → ⊥
@@ -230,55 +223,61 @@ well_in_rules decls (in_fact n ∷ rs) (w, ws) = well_in_rules decls rs ws
 
 -- Scripts and queries
 
-known_held : (decls : List Declared) (known : Known) → KnowsThose decls known → Holds (has known.declared) (declared_names decls)
-known_held decls known k = subst (λ z. Holds z (declared_names decls)) (sym k.declared) (held (declared_names decls))
-
-events_held : (decls : List Declared) (known : Known) → KnowsThose decls known → Holds (has known.events) (event_names decls)
-events_held decls known k = subst (λ z. Holds z (event_names decls)) (sym k.events) (held (event_names decls))
-
 first_other : (decls : List Declared) (known : Known) (roles : List Role) (k : ℕ) → KnowsThose decls known
-    → unknown_from (has known.declared) (has known.events) 0 roles ≡ Some k → IsFirst (λ front role. IsUnknown decls role) roles k
+    → unknown_from (has known.names) (has_event known.names) 0 roles ≡ Some k → IsFirst (λ front role. IsUnknown decls role) roles k
 first_other decls known roles k knows e =
     is_first (λ front role. IsUnknown decls role) roles k
-    (unknown_first decls (has known.declared) (has known.events) [] 0 roles k (known_held decls known knows) (events_held decls known knows) e)
+    (unknown_first decls (has known.names) (has_event known.names) [] 0 roles k knows.declared knows.events e)
 
 all_well : (decls : List Declared) (known : Known) (roles : List Role) → KnowsThose decls known
-    → unknown_from (has known.declared) (has known.events) 0 roles ≡ None → Each (IsWell decls) roles
+    → unknown_from (has known.names) (has_event known.names) 0 roles ≡ None → Each (IsWell decls) roles
 all_well decls known roles knows e =
-    unknown_none decls (has known.declared) (has known.events) 0 roles (known_held decls known knows) (events_held decls known knows) e
+    unknown_none decls (has known.names) (has_event known.names) 0 roles knows.declared knows.events e
 
-pub script_once : (s : Said) (roles : List Role) → roles ≡ script_roles s → repeated_from no_names 0 roles ≡ None → AreDistinct (declared_names s.decls)
-script_once s roles is e =
-    subst (λ z. AreDistinct z) (ap declaring is ∙ (roles_are_the_names s).0) (new_names [] roles (repeated_none no_names [] 0 roles none_held e)).0
+-- what the pass for repeated names gives, which is made where it is known that there is one
+abbrev pub found_repeated : Known → List Role → Option ℕ
+found_repeated known roles = cond known.is_again (repeated_from no_names 0 roles) None
 
-pub script_repeated : (s : Said) (roles : List Role) (k : ℕ) → roles ≡ script_roles s → repeated_from no_names 0 roles ≡ Some k → IsFirstRepeated s k
-script_repeated s roles k is e =
-    subst (λ z. IsFirst IsRepeated z k) is (is_first IsRepeated roles k (repeated_first no_names [] 0 roles k none_held e))
+script_once : (s : Said) (known : Known) (roles : List Role) → roles ≡ script_roles s → KnowsThose s.decls known
+    → found_repeated known roles ≡ None → AreDistinct (declared_names s.decls)
+script_once s known roles is knows none = go known.is_again refl none
+  where
+    go : (b : Bool) → known.is_again ≡ b → cond b (repeated_from no_names 0 roles) None ≡ None → AreDistinct (declared_names s.decls)
+    go true again e =
+        subst AreDistinct (ap declaring is ∙ (roles_are_the_names s).0) (new_names [] roles (repeated_none no_names [] 0 roles none_held e)).0
+    go false again e = knows.once again
+
+pub script_repeated : (s : Said) (known : Known) (roles : List Role) (k : ℕ) → roles ≡ script_roles s → found_repeated known roles ≡ Some k → IsFirstRepeated s k
+script_repeated s known roles k is found = go known.is_again found
+  where
+    go : (b : Bool) → cond b (repeated_from no_names 0 roles) None ≡ Some k → IsFirstRepeated s k
+    go true e = subst (λ z. IsFirst IsRepeated z k) is (is_first IsRepeated roles k (repeated_first no_names [] 0 roles k none_held e))
+    go false e = absurd (cc)
 
 pub script_unknown : (s : Said) (known : Known) (roles : List Role) (k : ℕ) → roles ≡ script_roles s → KnowsThose s.decls known
-    → repeated_from no_names 0 roles ≡ None → unknown_from (has known.declared) (has known.events) 0 roles ≡ Some k → IsFirstUnknown s k
+    → found_repeated known roles ≡ None → unknown_from (has known.names) (has_event known.names) 0 roles ≡ Some k → IsFirstUnknown s k
 script_unknown s known roles k is knows none e = record {
-  once = script_once s roles is none;
+  once = script_once s known roles is knows none;
   first = subst (λ z. IsFirst (λ front role. IsUnknown s.decls role) z k) is (first_other s.decls known roles k knows e);
 }
 
 pub script_good : (s : Said) (known : Known) (roles : List Role) → roles ≡ script_roles s → KnowsThose s.decls known
-    → repeated_from no_names 0 roles ≡ None → unknown_from (has known.declared) (has known.events) 0 roles ≡ None → HasGoodNames s
+    → found_repeated known roles ≡ None → unknown_from (has known.names) (has_event known.names) 0 roles ≡ None → HasGoodNames s
 script_good s known roles is knows none e =
     let well : Each (IsWell s.decls) roles = all_well s.decls known roles knows e in
     record {
       in_goals = subst (λ z. Each (λ n. n ∈ declared_names s.decls) z) (ap used_in_goals is ∙ (roles_are_the_names s).1) (well_in_goals s.decls roles well);
       in_rules = subst (λ z. Each (λ n. n ∈ event_names s.decls) z) (ap used_in_rules is ∙ (roles_are_the_names s).2) (well_in_rules s.decls roles well);
-      once = script_once s roles is none;
+      once = script_once s known roles is knows none;
     }
 
 pub query_unknown : (q : Asked) (s : Said) (known : Known) (roles : List Role) (k : ℕ) → roles ≡ query_roles q → KnowsThose s.decls known
-    → unknown_from (has known.declared) (has known.events) 0 roles ≡ Some k → AsksFirstOfOther q s k
+    → unknown_from (has known.names) (has_event known.names) 0 roles ≡ Some k → AsksFirstOfOther q s k
 query_unknown q s known roles k is knows e =
     subst (λ z. IsFirst (λ front role. IsUnknown s.decls role) z k) is (first_other s.decls known roles k knows e)
 
 pub query_good : (q : Asked) (s : Said) (known : Known) (roles : List Role) → roles ≡ query_roles q → KnowsThose s.decls known
-    → unknown_from (has known.declared) (has known.events) 0 roles ≡ None → AsksOfEvents q s
+    → unknown_from (has known.names) (has_event known.names) 0 roles ≡ None → AsksOfEvents q s
 query_good q s known roles is knows e =
     subst (λ z. Each (λ n. n ∈ event_names s.decls) (used_in_rules z)) is (well_in_rules s.decls roles (all_well s.decls known roles knows e))
 

@@ -1,6 +1,7 @@
 -- There is one first role of a kind, and none where all are as they must be.
 use Rattle.std.proofs.Common.{◌≡◌, ℕ, suc, List, [], ◌∷◌, ◌++◌, length, refl, sym, ap, subst, ◌∙◌, ◌⊎◌, inl, inr}
 use Rattle.flow_model.specs.Lists.{◌∈◌, Each, AreDistinct}
+use Rattle.flow_laws.proofs.ListLemmas2.{distinct_parts}
 use Rattle.flow_form.specs.Script.{Declared, Said, Asked, holds, redundant}
 use Rattle.flow_form.specs.Names.{declared_names, event_names, names_in_rule}
 use Rattle.flow_grammar.specs.Roles.{Role, declares, in_goal, in_rule, in_fact, declaring, used_in_goals, used_in_rules, script_roles, query_roles}
@@ -32,18 +33,9 @@ one_first P roles k j h g = elim (cuts h.front h.back g.front g.back h.role g.ro
 
 -- Names that are declared once
 
-apart : (xs ys : List (List ℕ)) (n : List ℕ) → AreDistinct (xs ++ n ∷ ys) → n ∈ xs → ⊥
-apart [] ys n d member = member
-apart (x ∷ xs) ys n (out, d) (inl e) = out (subst (λ z. z ∈ (xs ++ n ∷ ys)) e (there xs))
-  where
-    there : (zs : List (List ℕ)) → n ∈ (zs ++ n ∷ ys)
-    there [] = inl refl
-    there (z ∷ zs) = inr (there zs)
-apart (x ∷ xs) ys n (out, d) (inr member) = apart xs ys n d member
-
 not_again : (front back : List Role) (role : Role) → AreDistinct (declaring (front ++ role ∷ back)) → IsRepeated front role → ⊥
 not_again front back (declares n) d here =
-    apart (declaring front) (declaring back) n (subst AreDistinct (declaring-append front (declares n ∷ back)) d) here
+    (distinct_parts (declaring front) (n ∷ declaring back) (subst AreDistinct (declaring-append front (declares n ∷ back)) d)).2 n here (inl refl)
 not_again front back (in_goal n) d here = here
 not_again front back (in_rule n) d here = here
 not_again front back (in_fact n) d here = here

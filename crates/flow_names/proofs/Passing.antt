@@ -1,13 +1,10 @@
 -- One more role or declaration: what it does to a pass.
-use Rattle.std.proofs.Common.{◌≡◌, ℕ, suc, ◌+◌, ◌<◌, List, ◌∷◌, length, drop, get_or, map, flat_map, Bool, true, false, cond, sym, ap, ◌∙◌, add-one}
+use Rattle.std.proofs.Common.{◌≡◌, ℕ, suc, ◌+◌, ◌<◌, List, ◌∷◌, length, drop, get_or, Bool, true, false, cond, sym, ap, ◌∙◌, add-one}
 use Rattle.std.proofs.Math.Seq.{drop-cons}
 use Rattle.std.specs.Prelude.{Option, Some}
-use Rattle.flow_form.specs.declared.script.Decl.{Decl}
-use Rattle.flow_form.specs.Script.{Declared, declared}
 use Rattle.flow_names.specs.declared.named.Named.{Named}
 use Rattle.flow_names.specs.Listed.{role_of, roles_of}
-use Rattle.flow_names.specs.Passes.{NameSet, grown, is_again, after, repeated_from, is_unknown, unknown_from}
-use Rattle.flow_names.proofs.Sets.{grown-append}
+use Rattle.flow_names.specs.Passes.{NameSet, is_again, after, repeated_from, is_unknown, unknown_from}
 
 drop-at : {X : Type 0} (i : ℕ) (xs : List X) (item : X) → i < length xs → item ≡ get_or xs i item → drop i xs ≡ item ∷ drop (i + 1) xs
 drop-at i xs item h is =
@@ -43,12 +40,3 @@ pub unknown_here : (all : Option ℕ) (known events : NameSet) (i : ℕ) (list :
 unknown_here all known events i list item b h is test holds so_far =
     sym (so_far ∙ ap (λ z. unknown_from known events i (roles_of z)) (drop-at i list item h is)
     ∙ ap (λ z. cond z (Some i) (unknown_from known events (i + 1) (roles_of (drop (i + 1) list)))) (sym test ∙ holds))
-
--- one more declaration is taken into a set
-pub grown_on : (names : Declared → List (List ℕ)) (all set set' : NameSet) (i : ℕ) (decls : List Decl) (item : Decl)
-    → i < length decls → item ≡ get_or decls i item → set' ≡ grown set (names (declared item))
-    → all ≡ grown set (flat_map names (map declared (drop i decls))) → all ≡ grown set' (flat_map names (map declared (drop (i + 1) decls)))
-grown_on names all set set' i decls item h is next so_far =
-    so_far ∙ ap (λ z. grown set (flat_map names (map declared z))) (drop-at i decls item h is)
-    ∙ grown-append set (names (declared item)) (flat_map names (map declared (drop (i + 1) decls)))
-    ∙ ap (λ z. grown z (flat_map names (map declared (drop (i + 1) decls)))) (sym next)

@@ -17,10 +17,10 @@ pub fn check_script(alloc: Global, script: &Script) -> Result<(), NameRefusal>
     ensures unknown { (k : ℕ) → IsErrOf result (Unknown k) → IsFirstUnknown (said script.now) k }
 {
     let list = names_of_script(alloc, script)?;
-    if let Some(index) = first_repeated(alloc, &list)? {
+    let known = Known::of(alloc, &script.decls)?;
+    if let Some(index) = first_repeated(alloc, &list, &known)? {
         return Err(NameRefusal::Repeated { index });
     }
-    let known = Known::of(alloc, &script.decls)?;
     if let Some(index) = first_unknown(&list, &known) {
         return Err(NameRefusal::Unknown { index });
     }

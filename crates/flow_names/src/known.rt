@@ -1,23 +1,27 @@
-ghost use Rattle.std.specs.Prelude.{◌≡◌, IfOk, OnOk, map};
-ghost use Rattle.flow_form.specs.Script.{declared};
-ghost use Rattle.flow_form.specs.Names.{declared_name, event_name};
+ghost use Rattle.std.specs.Prelude.{◌≡◌, ◌++◌, ◌∷◌, [], IfOk, OnOk, List, map};
+ghost use Rattle.flow_form.specs.Script.{Declared, declared};
 ghost use Rattle.flow_names.specs.Listed.{role_of};
-ghost use Rattle.flow_names.specs.Passes.{has, grown, is_unknown, KnowsThose};
+ghost use Rattle.flow_names.specs.Passes.{has, has_event, is_unknown, KnowsThose};
 
 use crate::named::Named;
 use flow_form::Decl;
 use std::alloc::{AllocError, Global};
 use std::collections::BTreeMap;
 
-/// A set of names.
-pub(crate) type Names<'a> = BTreeMap<&'a [u8], ()>;
+/// What a name is declared as.
+#[derive(Clone, Copy)]
+pub(crate) enum Kind {
+    Event,
+    Flow,
+}
 
 /// The names that declarations make known.
 #[derive(Drop)]
 pub(crate) struct Known<'a> {
-    /// Of events and sub-workflows.
-    pub(crate) declared: Names<'a>,
-    pub(crate) events: Names<'a>,
+    /// What each is declared as: an event, if it is declared as both.
+    pub(crate) names: BTreeMap<&'a [u8], Kind>,
+    /// Whether one is declared a second time.
+    pub(crate) is_again: bool,
 }
 
 impl<'a> Known<'a> {
@@ -25,8 +29,8 @@ impl<'a> Known<'a> {
         ensures { IfOk result (λ known. KnowsThose (map declared decls.now) known) }
     {
         let mut known = Known {
-            declared: BTreeMap::new(alloc),
-            events: BTreeMap::new(alloc),
+            names: BTreeMap::new(alloc),
+            is_again: false,
         };
         for decl in decls {
             known.add(decl)?;
@@ -35,29 +39,38 @@ impl<'a> Known<'a> {
     }
 
     fn add(&mut self, decl: &'a Decl) -> Result<(), AllocError>
-        ensures declared { OnOk result (has self.new.declared ≡ grown (has self.old.declared) (declared_name (declared decl.now))) }
-        ensures events { OnOk result (has self.new.events ≡ grown (has self.old.events) (event_name (declared decl.now))) }
+        ensures { (ds : List Declared) → KnowsThose ds self.old → OnOk result (KnowsThose (ds ++ declared decl.now ∷ []) self.new) }
     {
         match decl {
             Decl::Fact(_) => {}
             Decl::Event(name, _) => {
-                self.declared.insert(name.bytes(), ())?;
-                self.events.insert(name.bytes(), ())?;
+                let earlier = self.names.insert(name.bytes(), Kind::Event)?;
+                self.is_again |= earlier.is_some();
             }
             Decl::Flow(name, _) => {
-                self.declared.insert(name.bytes(), ())?;
+                if self.names.contains_key(name.bytes()) {
+                    self.is_again = true;
+                } else {
+                    self.names.insert(name.bytes(), Kind::Flow)?;
+                }
             }
         }
         Ok(())
     }
 
+    fn has_event(&self, name: &[u8]) -> bool
+        ensures { result ≡ has_event self.now.names name.now }
+    {
+        matches!(self.names.get(name), Some(Kind::Event))
+    }
+
     /// The name is not declared as it must be where it stands.
     pub(crate) fn lacks(&self, named: &Named<'_>) -> bool
-        ensures { result ≡ is_unknown (has self.now.declared) (has self.now.events) (role_of named.now) }
+        ensures { result ≡ is_unknown (has self.now.names) (has_event self.now.names) (role_of named.now) }
     {
         match named {
-            Named::InGoal(name) => !self.declared.contains_key(name.bytes()),
-            Named::InRule(name) => !self.events.contains_key(name.bytes()),
+            Named::InGoal(name) => !self.names.contains_key(name.bytes()),
+            Named::InRule(name) => !self.has_event(name.bytes()),
             Named::Declares(_) | Named::InFact(_) => false,
         }
     }

@@ -1,9 +1,9 @@
-use Rattle.std.proofs.Common.{ap, sym, ◌∙◌}
+use Rattle.std.proofs.Common.{ap, sym, refl, ◌∙◌}
 use Rattle.std.specs.Prelude.{is_some}
 use Rattle.std.proofs.lemmas.Map.Text.{btree_map_updates_str}
 use Rattle.flow_names.specs.Listed.{role_of}
 use Rattle.flow_names.specs.Passes.{has, is_again, after}
-use Rattle.flow_names.proofs.Sets.{has_inserted}
+use Rattle.flow_names.proofs.Sets.{given}
 use Rattle.flow_names.proofs.search.is_again.Goals as goal
 
 pub returns-in_ok-insert-in-Declares-clause-again : goal.returns-in_ok-insert-in-Declares-clause-again
@@ -13,6 +13,6 @@ returns-in_ok-insert-in-Declares-clause-again c =
 
 pub returns-in_ok-insert-in-Declares-clause-names : goal.returns-in_ok-insert-in-Declares-clause-names
 returns-in_ok-insert-in-Declares-clause-names c =
-    has_inserted c.args.names.now c.insert.new.self c.bytes.result.now c.in-Declares.name.now tt c.bytes.ensures
+    given is_some c.args.names.now c.insert.new.self c.bytes.result.now c.in-Declares.name.now tt refl c.bytes.ensures
     (btree_map_updates_str c.bytes.result.now c.args.names.now c.insert.new.self _ c.in_ok-insert-in-Declares.ensures.updates)
     ∙ ap (λ r. after (has c.args.names.now) (role_of r)) (sym c.in-Declares.is)
