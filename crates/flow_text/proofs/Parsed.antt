@@ -20,9 +20,9 @@ use Rattle.flow_grammar.proofs.RolesOfNames.{scripts_have_roles, queries_have_ro
 use Rattle.flow_reader.specs.Symbols.{symbol_of, symbols_of}
 use Rattle.flow_reader.specs.Readers.{kind_of}
 use Rattle.flow_reader.specs.Reading.{IsReadRefusal}
-use Rattle.flow_names.specs.Good.{IsFirst, HasGoodNames, IsFirstRepeated, IsFirstUnknown, AsksOfEvents, AsksFirstOfOther}
+use Rattle.flow_text.specs.GoodNames.{IsFirst, HasGoodNames, IsFirstRepeated, IsFirstUnknown, AsksOfEvents, AsksFirstOfOther}
 use Rattle.flow_text.specs.Saying.{HasTokens, Writes, Says, Asks}
-use Rattle.flow_text.specs.Parsing.{name_in, with_name, named_places, IsNameAt, IsRepeatedAt, IsUnknownAt, AsksUnknownAt, IsParseRefusal, IsQueryRefusal}
+use Rattle.flow_text.specs.Parsing.{name_in, with_place, named_places, IsNameAt, IsRepeatedAt, IsUnknownAt, AsksUnknownAt, IsParseRefusal, IsQueryRefusal}
 use Rattle.std.proofs.lemmas.List.{length-map}
 use Rattle.std.proofs.lemmas.Option.{slice_get-map}
 
@@ -103,7 +103,7 @@ abbrev pub second : ℕ × List ℕ → List ℕ
 second p = p.1
 
 named-one : (place : ℕ) (t : Symbol) (ts : List Symbol) (names : List (ℕ × List ℕ)) → map second names ≡ names_of ts →
-    map second (with_name place (name_in t) names) ≡ names_of (t ∷ ts)
+    map second (with_place place (name_in t) names) ≡ names_of (t ∷ ts)
 named-one place (a_name n) ts names e = ap (λ ns. n ∷ ns) e
 named-one place _ ts names e = e
 

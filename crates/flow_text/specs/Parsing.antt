@@ -15,7 +15,7 @@ use Rattle.flow_grammar.specs.Texts.{IsStuckAt, NoneDeepBefore, StandsDeep, IsVi
 use Rattle.flow_reader.specs.Symbols.{symbol_of, symbols_of}
 use Rattle.flow_reader.specs.Readers.{kind_of}
 use Rattle.flow_reader.specs.Reading.{place_of}
-use Rattle.flow_names.specs.Good.{IsFirstRepeated, IsFirstUnknown, AsksFirstOfOther}
+use Rattle.flow_text.specs.GoodNames.{IsFirstRepeated, IsFirstUnknown, AsksFirstOfOther}
 use Rattle.flow_text.specs.Saying.{HasTokens, Writes}
 
 -- at the place stands the first token with which no text goes on, or the end of a text that ends too early; the kind is
@@ -50,14 +50,14 @@ abbrev pub name_in : Symbol → Option (List ℕ)
 name_in (a_name n) = Some n
 name_in _ = None
 
-abbrev pub with_name : ℕ → Option (List ℕ) → List (ℕ × List ℕ) → List (ℕ × List ℕ)
-with_name place None names = names
-with_name place (Some n) names = (place, n) ∷ names
+abbrev pub with_place : ℕ → Option (List ℕ) → List (ℕ × List ℕ) → List (ℕ × List ℕ)
+with_place place None names = names
+with_place place (Some n) names = (place, n) ∷ names
 
 -- the names among the tokens, each with its place
 abbrev pub named_places : List ℕ → List Token → List (ℕ × List ℕ)
 named_places text [] = []
-named_places text (t ∷ ts) = with_name t.start (name_in (symbol_of text t)) (named_places text ts)
+named_places text (t ∷ ts) = with_place t.start (name_in (symbol_of text t)) (named_places text ts)
 
 -- that name stands at the place as name number k of the text
 pub record IsNameAt (text : List ℕ) (roles : List Role) (k place : ℕ) (name : List ℕ) : Type 0 where

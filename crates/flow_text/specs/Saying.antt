@@ -6,7 +6,7 @@ use Rattle.flow_lex.specs.Tokens.{lexed, IsAscii}
 use Rattle.flow_grammar.specs.Symbol.{Placed}
 use Rattle.flow_grammar.specs.Texts.{Derives, SpellsScript, SpellsQuery}
 use Rattle.flow_reader.specs.Symbols.{symbols_of}
-use Rattle.flow_names.specs.Good.{HasGoodNames, AsksOfEvents}
+use Rattle.flow_text.specs.GoodNames.{HasGoodNames, AsksOfEvents}
 
 -- the text is cut into these tokens
 pub record HasTokens (text : List ℕ) (tokens : List Token) : Type 0 where

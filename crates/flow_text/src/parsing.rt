@@ -5,14 +5,15 @@ ghost use Rattle.flow_form.specs.Names.{IsClosed};
 ghost use Rattle.flow_lex.specs.Tokens.{AreSpans, IsSmall};
 ghost use Rattle.flow_grammar.specs.Texts.{Derives, SpellsScript, SpellsQuery};
 ghost use Rattle.flow_reader.specs.Symbols.{symbols_of};
-ghost use Rattle.flow_names.specs.Good.{HasGoodNames, IsFirstRepeated, IsFirstUnknown, AsksOfEvents, AsksFirstOfOther};
+ghost use Rattle.flow_text.specs.GoodNames.{HasGoodNames, IsFirstRepeated, IsFirstUnknown, AsksOfEvents, AsksFirstOfOther};
 ghost use Rattle.flow_text.specs.Saying.{HasTokens, Says, Asks};
 ghost use Rattle.flow_text.specs.Parsing.{IsParseRefusal, IsQueryRefusal};
 
+use crate::name_refusal::NameRefusal;
+use crate::names::{check_query, check_script};
 use crate::places::name_at;
 use flow_form::{Query, Script, TextRefusal};
 use flow_lex::{Token, lex};
-use flow_names::{NameRefusal, check_query, check_script};
 use flow_reader::{read_query, read_script};
 use std::alloc::Global;
 

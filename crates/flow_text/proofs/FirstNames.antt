@@ -1,0 +1,286 @@
+-- What the passes find is the first role of its kind.
+use Rattle.std.proofs.Common.{◌≡◌, ℕ, ◌+◌, List, [], ◌∷◌, ◌++◌, length, Bool, true, false, cond, refl, sym, ap, subst, ◌∙◌, ◌⊎◌, inl, inr, append_assoc, append-nil, arith}
+use Rattle.std.specs.Prelude.{Option, Some, None, not}
+use Rattle.std.proofs.lemmas.Bool.{not-false}
+use Rattle.flow_model.specs.Lists.{◌∈◌, Each, AreDistinct}
+use Rattle.flow_laws.proofs.ListLemmas2.{mem_append_left, mem_append_right}
+use Rattle.flow_form.specs.Script.{Declared}
+use Rattle.flow_form.specs.Names.{declared_names, event_names}
+use Rattle.flow_grammar.specs.Roles.{Role, declares, in_goal, in_rule, in_fact, declaring, used_in_goals, used_in_rules}
+use Rattle.flow_form.specs.Script.{Said, Asked}
+use Rattle.flow_grammar.specs.Roles.{script_roles, query_roles}
+use Rattle.flow_grammar.proofs.RolesOfNames.{roles_are_the_names}
+use Rattle.flow_text.specs.declared.known.Known.{Known}
+use Rattle.flow_text.specs.GoodNames.{IsRepeated, IsUnknown, IsFirst, HasGoodNames, IsFirstRepeated, IsFirstUnknown, AsksOfEvents, AsksFirstOfOther}
+use Rattle.flow_text.specs.KnownNames.{NameSet, no_names, with_name, Holds, is_again, after, repeated_from, is_unknown, unknown_from, has, has_event, KnowsThose}
+use Rattle.flow_text.proofs.KnownNames.{none_held, held_more}
+
+-- no role of the list has P after `before` and those before it
+abbrev pub HasNone : (List Role → Role → Type 0) → List Role → List Role → Type 0
+HasNone P before [] = Unit {0}
+HasNone P before (r ∷ rs) = (P before r → ⊥) × HasNone P (before ++ r ∷ []) rs
+
+-- role number k, counted from `start`, is the first that has it
+abbrev pub HasFirst : (List Role → Role → Type 0) → List Role → ℕ → List Role → ℕ → Type 0
+HasFirst P before start [] k = ⊥
+HasFirst P before start (r ∷ rs) k = (P before r × (k ≡ start)) ⊎ ((P before r → ⊥) × HasFirst P (before ++ r ∷ []) (start + 1) rs k)
+
+-- the same as a cut of the list
+record Cut (P : List Role → Role → Type 0) (before : List Role) (start : ℕ) (roles : List Role) (k : ℕ) : Type 0 where
+  front : List Role
+  role : Role
+  back : List Role
+  cut : roles ≡ front ++ role ∷ back
+  place : start + length front ≡ k
+  here : P (before ++ front) role
+  first : (a b : List Role) (r : Role) → front ≡ a ++ r ∷ b → P (before ++ a) r → ⊥
+
+cut_of : (P : List Role → Role → Type 0) (before : List Role) (start : ℕ) (roles : List Role) (k : ℕ) → HasFirst P before start roles k → Cut P before start roles k
+cut_of P before start [] k h = absurd h
+cut_of P before start (r ∷ rs) k (inl (here, e)) = record {
+  front = [];
+  role = r;
+  back = rs;
+  cut = refl;
+  place = omega arith;
+  here = subst (λ z. P z r) (sym (append-nil before)) here;
+  first = none;
+}
+  where
+    none : (a b : List Role) (q : Role) → [] ≡ a ++ q ∷ b → P (before ++ a) q → ⊥
+    none [] b q e = absurd (cc)
+    none (x ∷ a) b q e = absurd (cc)
+cut_of P before start (r ∷ rs) k (inr (out, h)) = go (cut_of P (before ++ r ∷ []) (start + 1) rs k h)
+  where
+    go : Cut P (before ++ r ∷ []) (start + 1) rs k → Cut P before start (r ∷ rs) k
+    go c = record {
+      front = r ∷ c.front;
+      role = c.role;
+      back = c.back;
+      cut = ap (λ z. r ∷ z) c.cut;
+      place = let p = c.place in omega arith;
+      here = subst (λ z. P z c.role) (append_assoc before (r ∷ []) c.front) c.here;
+      first = first;
+    }
+      where
+        first : (a b : List Role) (q : Role) → r ∷ c.front ≡ a ++ q ∷ b → P (before ++ a) q → ⊥
+        first [] b q e p = let same : q ≡ r = cc in out (subst (λ z. P before z) same (subst (λ z. P z q) (append-nil before) p))
+        first (x ∷ a) b q e p =
+            let same : x ≡ r = cc in
+            let rest : c.front ≡ a ++ q ∷ b = cc in
+            c.first a b q rest (subst (λ z. P z q) (sym (append_assoc before (r ∷ []) a)) (subst (λ z. P (before ++ z ∷ a) q) same p))
+
+is_first : (P : List Role → Role → Type 0) (roles : List Role) (k : ℕ) → HasFirst P [] 0 roles k → IsFirst P roles k
+is_first P roles k h = go (cut_of P [] 0 roles k h)
+  where
+    go : Cut P [] 0 roles k → IsFirst P roles k
+    go c = record { front = c.front; role = c.role; back = c.back; cut = c.cut; place = (let p = c.place in omega arith); here = c.here; first = c.first }
+
+-- Names that are declared again
+
+declaring_push : (front : List Role) (r : Role) → declaring (front ++ r ∷ []) ≡ declaring front ++ declaring (r ∷ [])
+declaring_push [] r = refl
+declaring_push (declares n ∷ front) r = ap (λ z. n ∷ z) (declaring_push front r)
+declaring_push (in_goal n ∷ front) r = declaring_push front r
+declaring_push (in_rule n ∷ front) r = declaring_push front r
+declaring_push (in_fact n ∷ front) r = declaring_push front r
+
+plain : (front : List Role) (r : Role) (set : NameSet) → declaring (r ∷ []) ≡ [] → Holds set (declaring front) → Holds set (declaring (front ++ r ∷ []))
+plain front r set none h = subst (λ z. Holds set z) (sym (declaring_push front r ∙ ap (λ z. declaring front ++ z) none ∙ append-nil (declaring front))) h
+
+held_after : (set : NameSet) (front : List Role) (r : Role) → Holds set (declaring front) → Holds (after set r) (declaring (front ++ r ∷ []))
+held_after set front (declares n) h = subst (λ z. Holds (with_name set n) z) (sym (declaring_push front (declares n))) (held_more set (declaring front) n h)
+held_after set front (in_goal n) h = plain front (in_goal n) set refl h
+held_after set front (in_rule n) h = plain front (in_rule n) set refl h
+held_after set front (in_fact n) h = plain front (in_fact n) set refl h
+
+again_is : (set : NameSet) (front : List Role) (r : Role) → Holds set (declaring front) → is_again set r ≡ true → IsRepeated front r
+again_is set front (declares n) h e = (h n).0 e
+again_is set front (in_goal n) h e = absurd (cc)
+again_is set front (in_rule n) h e = absurd (cc)
+again_is set front (in_fact n) h e = absurd (cc)
+
+again_is_not : (set : NameSet) (front : List Role) (r : Role) → Holds set (declaring front) → is_again set r ≡ false → IsRepeated front r → ⊥
+again_is_not set front (declares n) h e member = let t = (h n).1 member in cc
+again_is_not set front (in_goal n) h e member = member
+again_is_not set front (in_rule n) h e member = member
+again_is_not set front (in_fact n) h e member = member
+
+repeated_first : (set : NameSet) (front : List Role) (start : ℕ) (roles : List Role) (k : ℕ) → Holds set (declaring front)
+    → repeated_from set start roles ≡ Some k → HasFirst IsRepeated front start roles k
+repeated_first set front start [] k h e = absurd (cc)
+repeated_first set front start (r ∷ rs) k h e =
+    go (is_again set r) refl e (repeated_first (after set r) (front ++ r ∷ []) (start + 1) rs k (held_after set front r h))
+  where
+    go : (b : Bool) → is_again set r ≡ b → cond b (Some start) (repeated_from (after set r) (start + 1) rs) ≡ Some k
+        → (repeated_from (after set r) (start + 1) rs ≡ Some k → HasFirst IsRepeated (front ++ r ∷ []) (start + 1) rs k)
+        → HasFirst IsRepeated front start (r ∷ rs) k
+    go true t e rest = let same : k ≡ start = cc in inl (again_is set front r h t, same)
+    go false t e rest = inr (again_is_not set front r h t, rest e)
+
+repeated_none : (set : NameSet) (front : List Role) (start : ℕ) (roles : List Role) → Holds set (declaring front)
+    → repeated_from set start roles ≡ None → HasNone IsRepeated front roles
+repeated_none set front start [] h e = tt
+repeated_none set front start (r ∷ rs) h e =
+    go (is_again set r) refl e (repeated_none (after set r) (front ++ r ∷ []) (start + 1) rs (held_after set front r h))
+  where
+    go : (b : Bool) → is_again set r ≡ b → cond b (Some start) (repeated_from (after set r) (start + 1) rs) ≡ None
+        → (repeated_from (after set r) (start + 1) rs ≡ None → HasNone IsRepeated (front ++ r ∷ []) rs)
+        → HasNone IsRepeated front (r ∷ rs)
+    go true t e rest = absurd (cc)
+    go false t e rest = (again_is_not set front r h t, rest e)
+
+-- no name of the list is among the earlier, and none stands twice
+abbrev AreNew : List (List ℕ) → List (List ℕ) → Type 0
+AreNew earlier names = AreDistinct names × ((n : List ℕ) → n ∈ earlier → n ∈ names → ⊥)
+
+pass : (front : List Role) (r : Role) (names : List (List ℕ)) → declaring (r ∷ []) ≡ [] → AreNew (declaring (front ++ r ∷ [])) names → AreNew (declaring front) names
+pass front r names none (distinct, new) = (distinct, λ n a b. new n (subst (λ z. n ∈ z) (sym (declaring_push front r)) (mem_append_left n (declaring front) (declaring (r ∷ [])) a)) b)
+
+new_names : (front roles : List Role) → HasNone IsRepeated front roles → AreNew (declaring front) (declaring roles)
+new_names front [] none = (tt, λ n a b. b)
+new_names front (declares n ∷ rs) (out, none) = go (new_names (front ++ declares n ∷ []) rs none)
+  where
+    earlier : (q : List ℕ) → q ∈ (declaring front ++ n ∷ []) → q ∈ declaring (front ++ declares n ∷ [])
+    earlier q member = subst (λ z. q ∈ z) (sym (declaring_push front (declares n))) member
+
+    go : AreNew (declaring (front ++ declares n ∷ [])) (declaring rs) → AreNew (declaring front) (n ∷ declaring rs)
+    go (distinct, new) = ((λ member. new n (earlier n (mem_append_right n (declaring front) (n ∷ []) (inl refl))) member, distinct), apart)
+      where
+        apart : (q : List ℕ) → q ∈ declaring front → q ∈ (n ∷ declaring rs) → ⊥
+        apart q a (inl e) = out (subst (λ z. z ∈ declaring front) e a)
+        apart q a (inr b) = new q (earlier q (mem_append_left q (declaring front) (n ∷ []) a)) b
+new_names front (in_goal n ∷ rs) (out, none) = pass front (in_goal n) (declaring rs) refl (new_names (front ++ in_goal n ∷ []) rs none)
+new_names front (in_rule n ∷ rs) (out, none) = pass front (in_rule n) (declaring rs) refl (new_names (front ++ in_rule n ∷ []) rs none)
+new_names front (in_fact n ∷ rs) (out, none) = pass front (in_fact n) (declaring rs) refl (new_names (front ++ in_fact n ∷ []) rs none)
+
+-- Names that are not declared as they must be
+
+unknown_is : (decls : List Declared) (known events : NameSet) (r : Role) → Holds known (declared_names decls) → Holds events (event_names decls)
+    → is_unknown known events r ≡ true → IsUnknown decls r
+unknown_is decls known events (declares n) h g e = absurd (cc)
+unknown_is decls known events (in_goal n) h g e = λ member. let t = (h n).1 member in let u : not (known n) ≡ not true = ap not t in cc
+unknown_is decls known events (in_rule n) h g e = λ member. let t = (g n).1 member in let u : not (events n) ≡ not true = ap not t in cc
+unknown_is decls known events (in_fact n) h g e = absurd (cc)
+
+-- the role is as it must be
+abbrev pub IsWell : List Declared → Role → Type 0
+IsWell decls (declares n) = Unit {0}
+IsWell decls (in_goal n) = n ∈ declared_names decls
+IsWell decls (in_rule n) = n ∈ event_names decls
+IsWell decls (in_fact n) = Unit {0}
+
+known_is : (decls : List Declared) (known events : NameSet) (r : Role) → Holds known (declared_names decls) → Holds events (event_names decls)
+    → is_unknown known events r ≡ false → IsWell decls r
+known_is decls known events (declares n) h g e = tt
+known_is decls known events (in_goal n) h g e = (h n).0 (not-false (known n) e)
+known_is decls known events (in_rule n) h g e = (g n).0 (not-false (events n) e)
+known_is decls known events (in_fact n) h g e = tt
+
+pub well_is_known : (decls : List Declared) (r : Role) → IsWell decls r → IsUnknown decls r → ⊥
+well_is_known decls (declares n) w u = u
+well_is_known decls (in_goal n) w u = u w
+well_is_known decls (in_rule n) w u = u w
+well_is_known decls (in_fact n) w u = u
+
+unknown_first : (decls : List Declared) (known events : NameSet) (front : List Role) (start : ℕ) (roles : List Role) (k : ℕ)
+    → Holds known (declared_names decls) → Holds events (event_names decls)
+    → unknown_from known events start roles ≡ Some k → HasFirst (λ front role. IsUnknown decls role) front start roles k
+unknown_first decls known events front start [] k h g e = absurd (cc)
+unknown_first decls known events front start (r ∷ rs) k h g e =
+    go (is_unknown known events r) refl e (unknown_first decls known events (front ++ r ∷ []) (start + 1) rs k h g)
+  where
+    go : (b : Bool) → is_unknown known events r ≡ b → cond b (Some start) (unknown_from known events (start + 1) rs) ≡ Some k
+        → (unknown_from known events (start + 1) rs ≡ Some k → HasFirst (λ front role. IsUnknown decls role) (front ++ r ∷ []) (start + 1) rs k)
+        → HasFirst (λ front role. IsUnknown decls role) front start (r ∷ rs) k
+    go true t e rest = let same : k ≡ start = cc in inl (unknown_is decls known events r h g t, same)
+    go false t e rest = inr (well_is_known decls r (known_is decls known events r h g t), rest e)
+
+unknown_none : (decls : List Declared) (known events : NameSet) (start : ℕ) (roles : List Role)
+    → Holds known (declared_names decls) → Holds events (event_names decls)
+    → unknown_from known events start roles ≡ None → Each (IsWell decls) roles
+unknown_none decls known events start [] h g e = tt
+unknown_none decls known events start (r ∷ rs) h g e = go (is_unknown known events r) refl e (unknown_none decls known events (start + 1) rs h g)
+  where
+    go : (b : Bool) → is_unknown known events r ≡ b → cond b (Some start) (unknown_from known events (start + 1) rs) ≡ None
+        → (unknown_from known events (start + 1) rs ≡ None → Each (IsWell decls) rs) → Each (IsWell decls) (r ∷ rs)
+    go true t e rest = absurd (cc)
+    go false t e rest = (known_is decls known events r h g t, rest e)
+
+well_in_goals : (decls : List Declared) (roles : List Role) → Each (IsWell decls) roles → Each (λ n. n ∈ declared_names decls) (used_in_goals roles)
+well_in_goals decls [] w = tt
+well_in_goals decls (declares n ∷ rs) (w, ws) = well_in_goals decls rs ws
+well_in_goals decls (in_goal n ∷ rs) (w, ws) = (w, well_in_goals decls rs ws)
+well_in_goals decls (in_rule n ∷ rs) (w, ws) = well_in_goals decls rs ws
+well_in_goals decls (in_fact n ∷ rs) (w, ws) = well_in_goals decls rs ws
+
+well_in_rules : (decls : List Declared) (roles : List Role) → Each (IsWell decls) roles → Each (λ n. n ∈ event_names decls) (used_in_rules roles)
+well_in_rules decls [] w = tt
+well_in_rules decls (declares n ∷ rs) (w, ws) = well_in_rules decls rs ws
+well_in_rules decls (in_goal n ∷ rs) (w, ws) = well_in_rules decls rs ws
+well_in_rules decls (in_rule n ∷ rs) (w, ws) = (w, well_in_rules decls rs ws)
+well_in_rules decls (in_fact n ∷ rs) (w, ws) = well_in_rules decls rs ws
+
+-- Scripts and queries
+
+first_other : (decls : List Declared) (known : Known) (roles : List Role) (k : ℕ) → KnowsThose decls known
+    → unknown_from (has known.names) (has_event known.names) 0 roles ≡ Some k → IsFirst (λ front role. IsUnknown decls role) roles k
+first_other decls known roles k knows e =
+    is_first (λ front role. IsUnknown decls role) roles k
+    (unknown_first decls (has known.names) (has_event known.names) [] 0 roles k knows.declared knows.events e)
+
+all_well : (decls : List Declared) (known : Known) (roles : List Role) → KnowsThose decls known
+    → unknown_from (has known.names) (has_event known.names) 0 roles ≡ None → Each (IsWell decls) roles
+all_well decls known roles knows e =
+    unknown_none decls (has known.names) (has_event known.names) 0 roles knows.declared knows.events e
+
+-- what the pass for repeated names gives, which is made where it is known that there is one
+abbrev pub found_repeated : Known → List Role → Option ℕ
+found_repeated known roles = cond known.is_again (repeated_from no_names 0 roles) None
+
+script_once : (s : Said) (known : Known) (roles : List Role) → roles ≡ script_roles s → KnowsThose s.decls known
+    → found_repeated known roles ≡ None → AreDistinct (declared_names s.decls)
+script_once s known roles is knows none = go known.is_again refl none
+  where
+    go : (b : Bool) → known.is_again ≡ b → cond b (repeated_from no_names 0 roles) None ≡ None → AreDistinct (declared_names s.decls)
+    go true again e =
+        subst AreDistinct (ap declaring is ∙ (roles_are_the_names s).0) (new_names [] roles (repeated_none no_names [] 0 roles none_held e)).0
+    go false again e = knows.once again
+
+pub script_repeated : (s : Said) (known : Known) (roles : List Role) (k : ℕ) → roles ≡ script_roles s → found_repeated known roles ≡ Some k → IsFirstRepeated s k
+script_repeated s known roles k is found = go known.is_again found
+  where
+    go : (b : Bool) → cond b (repeated_from no_names 0 roles) None ≡ Some k → IsFirstRepeated s k
+    go true e = subst (λ z. IsFirst IsRepeated z k) is (is_first IsRepeated roles k (repeated_first no_names [] 0 roles k none_held e))
+    go false e = absurd (cc)
+
+pub script_unknown : (s : Said) (known : Known) (roles : List Role) (k : ℕ) → roles ≡ script_roles s → KnowsThose s.decls known
+    → found_repeated known roles ≡ None → unknown_from (has known.names) (has_event known.names) 0 roles ≡ Some k → IsFirstUnknown s k
+script_unknown s known roles k is knows none e = record {
+  once = script_once s known roles is knows none;
+  first = subst (λ z. IsFirst (λ front role. IsUnknown s.decls role) z k) is (first_other s.decls known roles k knows e);
+}
+
+pub script_good : (s : Said) (known : Known) (roles : List Role) → roles ≡ script_roles s → KnowsThose s.decls known
+    → found_repeated known roles ≡ None → unknown_from (has known.names) (has_event known.names) 0 roles ≡ None → HasGoodNames s
+script_good s known roles is knows none e =
+    let well : Each (IsWell s.decls) roles = all_well s.decls known roles knows e in
+    record {
+      in_goals = subst (λ z. Each (λ n. n ∈ declared_names s.decls) z) (ap used_in_goals is ∙ (roles_are_the_names s).1) (well_in_goals s.decls roles well);
+      in_rules = subst (λ z. Each (λ n. n ∈ event_names s.decls) z) (ap used_in_rules is ∙ (roles_are_the_names s).2) (well_in_rules s.decls roles well);
+      once = script_once s known roles is knows none;
+    }
+
+pub query_unknown : (q : Asked) (s : Said) (known : Known) (roles : List Role) (k : ℕ) → roles ≡ query_roles q → KnowsThose s.decls known
+    → unknown_from (has known.names) (has_event known.names) 0 roles ≡ Some k → AsksFirstOfOther q s k
+query_unknown q s known roles k is knows e =
+    subst (λ z. IsFirst (λ front role. IsUnknown s.decls role) z k) is (first_other s.decls known roles k knows e)
+
+pub query_good : (q : Asked) (s : Said) (known : Known) (roles : List Role) → roles ≡ query_roles q → KnowsThose s.decls known
+    → unknown_from (has known.names) (has_event known.names) 0 roles ≡ None → AsksOfEvents q s
+query_good q s known roles is knows e =
+    subst (λ z. Each (λ n. n ∈ event_names s.decls) (used_in_rules z)) is (well_in_rules s.decls roles (all_well s.decls known roles knows e))
+
+pub none_of : (o : Option ℕ) → ((k : ℕ) → o ≡ Some k → ⊥) → o ≡ None
+none_of None out = refl
+none_of (Some k) out = absurd (out k refl)
