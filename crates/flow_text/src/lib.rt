@@ -7,10 +7,10 @@ mod listing;
 mod name_refusal;
 mod names;
 mod parsing;
-mod places;
 mod print_goals;
 mod print_rules;
 mod print_scripts;
+mod source;
 
 pub use flow_form::{
     Const, Decl, Fact, Form, Name, Note, Query, RuleForm, Script, TextRefusal, Wanted,
