@@ -1,19 +1,21 @@
 -- What the passes find is the first role of its kind.
 use Rattle.std.proofs.Common.{◌≡◌, ℕ, ◌+◌, List, [], ◌∷◌, ◌++◌, length, Bool, true, false, cond, refl, sym, ap, subst, ◌∙◌, ◌⊎◌, inl, inr, append_assoc, append-nil, arith}
 use Rattle.std.specs.Prelude.{Option, Some, None, not}
+use Rattle.std.specs.List.{position_from}
 use Rattle.std.proofs.lemmas.Bool.{not-false}
 use Rattle.flow_model.specs.Lists.{◌∈◌, Each, AreDistinct}
-use Rattle.flow_laws.proofs.ListLemmas2.{mem_append_left, mem_append_right}
 use Rattle.flow_form.specs.Script.{Declared}
 use Rattle.flow_form.specs.Names.{declared_names, event_names}
 use Rattle.flow_grammar.specs.Roles.{Role, declares, in_goal, in_rule, in_fact, declaring, used_in_goals, used_in_rules}
 use Rattle.flow_form.specs.Script.{Said, Asked}
 use Rattle.flow_grammar.specs.Roles.{script_roles, query_roles}
-use Rattle.flow_grammar.proofs.RolesOfNames.{roles_are_the_names}
+use Rattle.flow_grammar.proofs.RolesOfNames.{roles_are_the_names, declaring-append}
+use Rattle.flow_text.specs.declared.listing.Named.{Named}
+use Rattle.flow_text.specs.ListedNames.{role_of, roles_of}
 use Rattle.flow_text.specs.declared.known.Known.{Known}
 use Rattle.flow_text.specs.GoodNames.{IsRepeated, IsUnknown, IsFirst, HasGoodNames, IsFirstRepeated, IsFirstUnknown, AsksOfEvents, AsksFirstOfOther}
-use Rattle.flow_text.specs.KnownNames.{NameSet, no_names, with_name, Holds, is_again, after, repeated_from, is_unknown, unknown_from, has, has_event, KnowsThose}
-use Rattle.flow_text.proofs.KnownNames.{none_held, held_more}
+use Rattle.flow_text.specs.KnownNames.{NameSet, no_names, with_name, Holds, is_again, after, repeated_from, is_unknown, has, has_event, KnowsThose}
+use Rattle.flow_text.proofs.KnownNames.{none_held, held_more, held_none, distinct_more}
 
 -- no role of the list has P after `before` and those before it
 abbrev pub HasNone : (List Role → Role → Type 0) → List Role → List Role → Type 0
@@ -78,21 +80,14 @@ is_first P roles k h = go (cut_of P [] 0 roles k h)
 
 -- Names that are declared again
 
-declaring_push : (front : List Role) (r : Role) → declaring (front ++ r ∷ []) ≡ declaring front ++ declaring (r ∷ [])
-declaring_push [] r = refl
-declaring_push (declares n ∷ front) r = ap (λ z. n ∷ z) (declaring_push front r)
-declaring_push (in_goal n ∷ front) r = declaring_push front r
-declaring_push (in_rule n ∷ front) r = declaring_push front r
-declaring_push (in_fact n ∷ front) r = declaring_push front r
-
-plain : (front : List Role) (r : Role) (set : NameSet) → declaring (r ∷ []) ≡ [] → Holds set (declaring front) → Holds set (declaring (front ++ r ∷ []))
-plain front r set none h = subst (λ z. Holds set z) (sym (declaring_push front r ∙ ap (λ z. declaring front ++ z) none ∙ append-nil (declaring front))) h
-
 held_after : (set : NameSet) (front : List Role) (r : Role) → Holds set (declaring front) → Holds (after set r) (declaring (front ++ r ∷ []))
-held_after set front (declares n) h = subst (λ z. Holds (with_name set n) z) (sym (declaring_push front (declares n))) (held_more set (declaring front) n h)
-held_after set front (in_goal n) h = plain front (in_goal n) set refl h
-held_after set front (in_rule n) h = plain front (in_rule n) set refl h
-held_after set front (in_fact n) h = plain front (in_fact n) set refl h
+held_after set front r h = subst (Holds (after set r)) (sym (declaring-append front (r ∷ []))) (more r)
+  where
+    more : (r : Role) → Holds (after set r) (declaring front ++ declaring (r ∷ []))
+    more (declares n) = held_more set (declaring front) n h
+    more (in_goal n) = held_none set (declaring front) h
+    more (in_rule n) = held_none set (declaring front) h
+    more (in_fact n) = held_none set (declaring front) h
 
 again_is : (set : NameSet) (front : List Role) (r : Role) → Holds set (declaring front) → is_again set r ≡ true → IsRepeated front r
 again_is set front (declares n) h e = (h n).0 e
@@ -130,29 +125,19 @@ repeated_none set front start (r ∷ rs) h e =
     go true t e rest = absurd (cc)
     go false t e rest = (again_is_not set front r h t, rest e)
 
--- no name of the list is among the earlier, and none stands twice
-abbrev AreNew : List (List ℕ) → List (List ℕ) → Type 0
-AreNew earlier names = AreDistinct names × ((n : List ℕ) → n ∈ earlier → n ∈ names → ⊥)
-
-pass : (front : List Role) (r : Role) (names : List (List ℕ)) → declaring (r ∷ []) ≡ [] → AreNew (declaring (front ++ r ∷ [])) names → AreNew (declaring front) names
-pass front r names none (distinct, new) = (distinct, λ n a b. new n (subst (λ z. n ∈ z) (sym (declaring_push front r)) (mem_append_left n (declaring front) (declaring (r ∷ [])) a)) b)
-
-new_names : (front roles : List Role) → HasNone IsRepeated front roles → AreNew (declaring front) (declaring roles)
-new_names front [] none = (tt, λ n a b. b)
-new_names front (declares n ∷ rs) (out, none) = go (new_names (front ++ declares n ∷ []) rs none)
+once_all : (front roles : List Role) → AreDistinct (declaring front) → HasNone IsRepeated front roles → AreDistinct (declaring (front ++ roles))
+once_all front [] distinct none = subst (λ z. AreDistinct (declaring z)) (sym (append-nil front)) distinct
+once_all front (r ∷ rs) distinct (new, none) =
+    subst (λ z. AreDistinct (declaring z)) (append_assoc front (r ∷ []) rs) (once_all (front ++ r ∷ []) rs (subst AreDistinct (sym (declaring-append front (r ∷ []))) (more r new)) none)
   where
-    earlier : (q : List ℕ) → q ∈ (declaring front ++ n ∷ []) → q ∈ declaring (front ++ declares n ∷ [])
-    earlier q member = subst (λ z. q ∈ z) (sym (declaring_push front (declares n))) member
+    same : AreDistinct (declaring front ++ [])
+    same = subst AreDistinct (sym (append-nil (declaring front))) distinct
 
-    go : AreNew (declaring (front ++ declares n ∷ [])) (declaring rs) → AreNew (declaring front) (n ∷ declaring rs)
-    go (distinct, new) = ((λ member. new n (earlier n (mem_append_right n (declaring front) (n ∷ []) (inl refl))) member, distinct), apart)
-      where
-        apart : (q : List ℕ) → q ∈ declaring front → q ∈ (n ∷ declaring rs) → ⊥
-        apart q a (inl e) = out (subst (λ z. z ∈ declaring front) e a)
-        apart q a (inr b) = new q (earlier q (mem_append_left q (declaring front) (n ∷ []) a)) b
-new_names front (in_goal n ∷ rs) (out, none) = pass front (in_goal n) (declaring rs) refl (new_names (front ++ in_goal n ∷ []) rs none)
-new_names front (in_rule n ∷ rs) (out, none) = pass front (in_rule n) (declaring rs) refl (new_names (front ++ in_rule n ∷ []) rs none)
-new_names front (in_fact n ∷ rs) (out, none) = pass front (in_fact n) (declaring rs) refl (new_names (front ++ in_fact n ∷ []) rs none)
+    more : (r : Role) → (IsRepeated front r → ⊥) → AreDistinct (declaring front ++ declaring (r ∷ []))
+    more (declares n) new = distinct_more (declaring front) n distinct new
+    more (in_goal n) new = same
+    more (in_rule n) new = same
+    more (in_fact n) new = same
 
 -- Names that are not declared as they must be
 
@@ -185,25 +170,25 @@ well_is_known decls (in_fact n) w u = u
 
 unknown_first : (decls : List Declared) (known events : NameSet) (front : List Role) (start : ℕ) (roles : List Role) (k : ℕ)
     → Holds known (declared_names decls) → Holds events (event_names decls)
-    → unknown_from known events start roles ≡ Some k → HasFirst (λ front role. IsUnknown decls role) front start roles k
+    → position_from (is_unknown known events) start roles ≡ Some k → HasFirst (λ front role. IsUnknown decls role) front start roles k
 unknown_first decls known events front start [] k h g e = absurd (cc)
 unknown_first decls known events front start (r ∷ rs) k h g e =
     go (is_unknown known events r) refl e (unknown_first decls known events (front ++ r ∷ []) (start + 1) rs k h g)
   where
-    go : (b : Bool) → is_unknown known events r ≡ b → cond b (Some start) (unknown_from known events (start + 1) rs) ≡ Some k
-        → (unknown_from known events (start + 1) rs ≡ Some k → HasFirst (λ front role. IsUnknown decls role) (front ++ r ∷ []) (start + 1) rs k)
+    go : (b : Bool) → is_unknown known events r ≡ b → cond b (Some start) (position_from (is_unknown known events) (start + 1) rs) ≡ Some k
+        → (position_from (is_unknown known events) (start + 1) rs ≡ Some k → HasFirst (λ front role. IsUnknown decls role) (front ++ r ∷ []) (start + 1) rs k)
         → HasFirst (λ front role. IsUnknown decls role) front start (r ∷ rs) k
     go true t e rest = let same : k ≡ start = cc in inl (unknown_is decls known events r h g t, same)
     go false t e rest = inr (well_is_known decls r (known_is decls known events r h g t), rest e)
 
 unknown_none : (decls : List Declared) (known events : NameSet) (start : ℕ) (roles : List Role)
     → Holds known (declared_names decls) → Holds events (event_names decls)
-    → unknown_from known events start roles ≡ None → Each (IsWell decls) roles
+    → position_from (is_unknown known events) start roles ≡ None → Each (IsWell decls) roles
 unknown_none decls known events start [] h g e = tt
 unknown_none decls known events start (r ∷ rs) h g e = go (is_unknown known events r) refl e (unknown_none decls known events (start + 1) rs h g)
   where
-    go : (b : Bool) → is_unknown known events r ≡ b → cond b (Some start) (unknown_from known events (start + 1) rs) ≡ None
-        → (unknown_from known events (start + 1) rs ≡ None → Each (IsWell decls) rs) → Each (IsWell decls) (r ∷ rs)
+    go : (b : Bool) → is_unknown known events r ≡ b → cond b (Some start) (position_from (is_unknown known events) (start + 1) rs) ≡ None
+        → (position_from (is_unknown known events) (start + 1) rs ≡ None → Each (IsWell decls) rs) → Each (IsWell decls) (r ∷ rs)
     go true t e rest = absurd (cc)
     go false t e rest = (known_is decls known events r h g t, rest e)
 
@@ -224,13 +209,13 @@ well_in_rules decls (in_fact n ∷ rs) (w, ws) = well_in_rules decls rs ws
 -- Scripts and queries
 
 first_other : (decls : List Declared) (known : Known) (roles : List Role) (k : ℕ) → KnowsThose decls known
-    → unknown_from (has known.names) (has_event known.names) 0 roles ≡ Some k → IsFirst (λ front role. IsUnknown decls role) roles k
+    → position_from (is_unknown (has known.names) (has_event known.names)) 0 roles ≡ Some k → IsFirst (λ front role. IsUnknown decls role) roles k
 first_other decls known roles k knows e =
     is_first (λ front role. IsUnknown decls role) roles k
     (unknown_first decls (has known.names) (has_event known.names) [] 0 roles k knows.declared knows.events e)
 
 all_well : (decls : List Declared) (known : Known) (roles : List Role) → KnowsThose decls known
-    → unknown_from (has known.names) (has_event known.names) 0 roles ≡ None → Each (IsWell decls) roles
+    → position_from (is_unknown (has known.names) (has_event known.names)) 0 roles ≡ None → Each (IsWell decls) roles
 all_well decls known roles knows e =
     unknown_none decls (has known.names) (has_event known.names) 0 roles knows.declared knows.events e
 
@@ -244,7 +229,7 @@ script_once s known roles is knows none = go known.is_again refl none
   where
     go : (b : Bool) → known.is_again ≡ b → cond b (repeated_from no_names 0 roles) None ≡ None → AreDistinct (declared_names s.decls)
     go true again e =
-        subst AreDistinct (ap declaring is ∙ (roles_are_the_names s).0) (new_names [] roles (repeated_none no_names [] 0 roles none_held e)).0
+        subst AreDistinct (ap declaring is ∙ (roles_are_the_names s).0) (once_all [] roles tt (repeated_none no_names [] 0 roles none_held e))
     go false again e = knows.once again
 
 pub script_repeated : (s : Said) (known : Known) (roles : List Role) (k : ℕ) → roles ≡ script_roles s → found_repeated known roles ≡ Some k → IsFirstRepeated s k
@@ -255,14 +240,14 @@ script_repeated s known roles k is found = go known.is_again found
     go false e = absurd (cc)
 
 pub script_unknown : (s : Said) (known : Known) (roles : List Role) (k : ℕ) → roles ≡ script_roles s → KnowsThose s.decls known
-    → found_repeated known roles ≡ None → unknown_from (has known.names) (has_event known.names) 0 roles ≡ Some k → IsFirstUnknown s k
+    → found_repeated known roles ≡ None → position_from (is_unknown (has known.names) (has_event known.names)) 0 roles ≡ Some k → IsFirstUnknown s k
 script_unknown s known roles k is knows none e = record {
   once = script_once s known roles is knows none;
   first = subst (λ z. IsFirst (λ front role. IsUnknown s.decls role) z k) is (first_other s.decls known roles k knows e);
 }
 
 pub script_good : (s : Said) (known : Known) (roles : List Role) → roles ≡ script_roles s → KnowsThose s.decls known
-    → found_repeated known roles ≡ None → unknown_from (has known.names) (has_event known.names) 0 roles ≡ None → HasGoodNames s
+    → found_repeated known roles ≡ None → position_from (is_unknown (has known.names) (has_event known.names)) 0 roles ≡ None → HasGoodNames s
 script_good s known roles is knows none e =
     let well : Each (IsWell s.decls) roles = all_well s.decls known roles knows e in
     record {
@@ -272,15 +257,28 @@ script_good s known roles is knows none e =
     }
 
 pub query_unknown : (q : Asked) (s : Said) (known : Known) (roles : List Role) (k : ℕ) → roles ≡ query_roles q → KnowsThose s.decls known
-    → unknown_from (has known.names) (has_event known.names) 0 roles ≡ Some k → AsksFirstOfOther q s k
+    → position_from (is_unknown (has known.names) (has_event known.names)) 0 roles ≡ Some k → AsksFirstOfOther q s k
 query_unknown q s known roles k is knows e =
     subst (λ z. IsFirst (λ front role. IsUnknown s.decls role) z k) is (first_other s.decls known roles k knows e)
 
 pub query_good : (q : Asked) (s : Said) (known : Known) (roles : List Role) → roles ≡ query_roles q → KnowsThose s.decls known
-    → unknown_from (has known.names) (has_event known.names) 0 roles ≡ None → AsksOfEvents q s
+    → position_from (is_unknown (has known.names) (has_event known.names)) 0 roles ≡ None → AsksOfEvents q s
 query_good q s known roles is knows e =
     subst (λ z. Each (λ n. n ∈ event_names s.decls) (used_in_rules z)) is (well_in_rules s.decls roles (all_well s.decls known roles knows e))
 
 pub none_of : (o : Option ℕ) → ((k : ℕ) → o ≡ Some k → ⊥) → o ≡ None
 none_of None out = refl
 none_of (Some k) out = absurd (out k refl)
+
+-- the code's pass finds the same place among the names as it lists them
+pub unknown_among : (known : Known) (list given : List Named) → given ≡ list
+    → position_from (is_unknown (has known.names) (has_event known.names)) 0 (roles_of list)
+    ≡ position_from (λ named. is_unknown (has known.names) (has_event known.names) (role_of named)) 0 given
+unknown_among known list given same = sym (placed 0 list) ∙ ap (position_from (λ named. test (role_of named)) 0) (sym same)
+  where
+    test : Role → Bool
+    test = is_unknown (has known.names) (has_event known.names)
+
+    placed : (place : ℕ) (list : List Named) → position_from (λ named. test (role_of named)) place list ≡ position_from test place (roles_of list)
+    placed place [] = refl
+    placed place (x ∷ list) = ap (cond (test (role_of x)) (Some place)) (placed (place + 1) list)

@@ -76,10 +76,10 @@ held_again set names n there h q = (λ e. mem_append_left q names (n ∷ []) ((h
     in_set (inr (inl e)) = subst (λ z. set z ≡ true) (sym e) there
     in_set (inr (inr none)) = absurd none
 
-held_none : (set : NameSet) (names : List (List ℕ)) → Holds set names → Holds set (names ++ [])
+pub held_none : (set : NameSet) (names : List (List ℕ)) → Holds set names → Holds set (names ++ [])
 held_none set names h = subst (Holds set) (sym (append-nil names)) h
 
-distinct_more : (names : List (List ℕ)) (n : List ℕ) → AreDistinct names → ¬ (n ∈ names) → AreDistinct (names ++ n ∷ [])
+pub distinct_more : (names : List (List ℕ)) (n : List ℕ) → AreDistinct names → ¬ (n ∈ names) → AreDistinct (names ++ n ∷ [])
 distinct_more names n distinct new =
     distinct-append names (n ∷ []) distinct ((λ none. none), tt)
     (λ x member same. elim same [ inl e ↦ new (subst (λ z. z ∈ names) e member) | inr none ↦ none ])

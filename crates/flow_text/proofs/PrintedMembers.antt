@@ -40,7 +40,7 @@ pushed_two : (text text' text'' x y rest : List ℕ) → text' ≡ text ++ x →
 pushed_two text text' text'' x y rest e f =
     ap (λ t. t ++ rest) (f ∙ ap (λ t. t ++ y) e) ∙ append_assoc (text ++ x) y rest ∙ append_assoc text x (y ++ rest) ∙ ap (λ t. text ++ t) (sym (append_assoc x y rest))
 
-next_of : {A : Type 0} (xs : List A) (i : ℕ) (x : A) → i < length xs → x ≡ get_or xs i x → x ∷ drop (i + 1) xs ≡ drop i xs
+pub next_of : {A : Type 0} (xs : List A) (i : ℕ) (x : A) → i < length xs → x ≡ get_or xs i x → x ∷ drop (i + 1) xs ≡ drop i xs
 next_of xs i x h e = ap (λ y. y ∷ drop (i + 1) xs) e ∙ sym (drop_more xs i x h)
 
 pub member_pushed : (mark : List ℕ) (parted : Shape → Bool) (first : Bool) (forms : List Form) (i : ℕ) (item : Form) (text text' text'' whole : List ℕ) →

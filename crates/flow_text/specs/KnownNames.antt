@@ -65,11 +65,6 @@ is_unknown declared events (in_goal n) = not (declared n)
 is_unknown declared events (in_rule n) = not (events n)
 is_unknown declared events (in_fact n) = false
 
--- the first such role
-abbrev pub unknown_from : NameSet → NameSet → ℕ → List Role → Option ℕ
-unknown_from declared events place [] = None
-unknown_from declared events place (r ∷ roles) = cond (is_unknown declared events r) (Some place) (unknown_from declared events (place + 1) roles)
-
 -- the names and events are those of the declarations, and where it does not tell so, none is declared a second time
 pub record KnowsThose (decls : List Declared) (known : Known) : Type 0 where
   pub declared : Holds (has known.names) (declared_names decls)

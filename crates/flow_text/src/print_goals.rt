@@ -40,14 +40,14 @@ impl Join {
     }
 }
 
-/// The mark before a member, but for the first.
-fn push_mark(text: &mut Vec<u8>, join: Join, is_first: bool) -> Result<(), AllocError>
-    ensures { OnOk result (text.new.items ≡ text.old.items ++ before is_first (mark_of join)) }
+/// What stands before a member of a list: the mark, but for the first.
+pub(crate) fn push_mark(text: &mut Vec<u8>, mark: &[u8], is_first: bool) -> Result<(), AllocError>
+    ensures { OnOk result (text.new.items ≡ text.old.items ++ before is_first mark.now) }
 {
     if is_first {
         return Ok(());
     }
-    text.extend_from_slice(join.mark())
+    text.extend_from_slice(mark)
 }
 
 #[cycle(goals)]
@@ -69,7 +69,7 @@ fn push_list(text: &mut Vec<u8>, join: Join, members: &[Form]) -> Result<(), All
 {
     let mut is_first = true;
     for member in members {
-        push_mark(text, join, is_first)?;
+        push_mark(text, join.mark(), is_first)?;
         push_member(text, join, member)?;
         is_first = false;
     }

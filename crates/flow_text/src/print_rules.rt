@@ -1,8 +1,9 @@
 ghost use Rattle.std.specs.Prelude.{◌≡◌, ◌++◌, OnOk, map, codes};
 ghost use Rattle.flow_form.specs.RuleForm.{rule_shape_of, rule_shapes};
-ghost use Rattle.flow_text.specs.Joins.{before, word_of, parted_rule};
+ghost use Rattle.flow_text.specs.Joins.{word_of, parted_rule};
 ghost use Rattle.flow_text.specs.Printed.{bracketed, names_text, rule_text, rules_text};
 
+use crate::print_goals::push_mark;
 use flow_form::{Name, RuleForm};
 use std::alloc::AllocError;
 
@@ -55,16 +56,6 @@ fn push_two(text: &mut Vec<u8>, first: &Name, second: &Name) -> Result<(), Alloc
     text.extend_from_slice(second.bytes())
 }
 
-/// The word before a member, but for the first.
-fn push_word(text: &mut Vec<u8>, linking: Linking, is_first: bool) -> Result<(), AllocError>
-    ensures { OnOk result (text.new.items ≡ text.old.items ++ before is_first (word_of linking)) }
-{
-    if is_first {
-        return Ok(());
-    }
-    text.extend_from_slice(linking.word())
-}
-
 /// A member of a list of that kind.
 #[cycle(rules)]
 fn push_member(text: &mut Vec<u8>, linking: Linking, member: &RuleForm) -> Result<(), AllocError>
@@ -85,7 +76,7 @@ fn push_list(text: &mut Vec<u8>, linking: Linking, members: &[RuleForm]) -> Resu
 {
     let mut is_first = true;
     for member in members {
-        push_word(text, linking, is_first)?;
+        push_mark(text, linking.word(), is_first)?;
         push_member(text, linking, member)?;
         is_first = false;
     }
