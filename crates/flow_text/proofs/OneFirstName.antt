@@ -1,6 +1,7 @@
 -- There is one first role of a kind, and none where all are as they must be.
 use Rattle.std.proofs.Common.{◌≡◌, ℕ, suc, List, [], ◌∷◌, ◌++◌, length, refl, sym, ap, subst, ◌∙◌, ◌⊎◌, inl, inr}
 use Rattle.flow_model.specs.Lists.{◌∈◌, Each, AreDistinct}
+use Rattle.flow_model.proofs.Lists.{each_parts}
 use Rattle.flow_laws.proofs.ListLemmas2.{distinct_parts}
 use Rattle.flow_form.specs.Script.{Declared, Said, Asked, holds, redundant}
 use Rattle.flow_form.specs.Names.{declared_names, event_names, names_in_rule}
@@ -54,13 +55,9 @@ all_well decls (in_goal n ∷ rs) (m, g) r = (m, all_well decls rs g r)
 all_well decls (in_rule n ∷ rs) g (m, r) = (m, all_well decls rs g r)
 all_well decls (in_fact n ∷ rs) g r = (tt, all_well decls rs g r)
 
-there : (decls : List Declared) (front back : List Role) (role : Role) → Each (IsWell decls) (front ++ role ∷ back) → IsWell decls role
-there decls [] back role (w, ws) = w
-there decls (r ∷ front) back role (w, ws) = there decls front back role ws
-
 well_has_no_other : (decls : List Declared) (roles : List Role) (k : ℕ) → Each (IsWell decls) roles → IsFirst (λ front role. IsUnknown decls role) roles k → ⊥
 well_has_no_other decls roles k well h =
-    well_is_known decls h.role (there decls h.front h.back h.role (subst (Each (IsWell decls)) h.cut well)) h.here
+    well_is_known decls h.role (each_parts (IsWell decls) h.front (h.role ∷ h.back) (subst (Each (IsWell decls)) h.cut well)).1.0 h.here
 
 pub good_has_no_other : (s : Said) (k : ℕ) → HasGoodNames s → IsFirst (λ front role. IsUnknown s.decls role) (script_roles s) k → ⊥
 good_has_no_other s k good h =

@@ -22,7 +22,7 @@ use Rattle.flow_reader.specs.Symbols.{symbol_of, symbols_of}
 use Rattle.flow_reader.specs.Readers.{kind_of}
 use Rattle.flow_reader.specs.Reading.{IsReadRefusal}
 use Rattle.flow_text.specs.GoodNames.{IsFirst, HasGoodNames}
-use Rattle.flow_text.specs.Saying.{HasTokens, IsCut, Cut}
+use Rattle.flow_text.specs.Saying.{HasTokens, IsCut, Cut, Writes}
 use Rattle.flow_text.specs.Parsing.{name_in, with_place, named_places, IsFirstNameAt, IsTextRefusal}
 use Rattle.std.proofs.lemmas.List.{length-map}
 use Rattle.std.proofs.lemmas.Option.{slice_get-map}
@@ -167,6 +167,9 @@ module _ {V : Type 0} (Spells : List Placed → V → Type 0) (wants : List Symb
 
   pub derived : (x : V) → read (symbols_of text given) ≡ gives x → Derives Spells (symbols_of source.text source.tokens) x
   derived x h = (m.reads (symbols_of source.text source.tokens) x).0 (subst (λ (s : Cut). read (symbols_of s.text s.tokens) ≡ gives x) read_from h)
+
+  pub written : (x : V) → IsCut text tokens → read (symbols_of text given) ≡ gives x → Writes Spells source.text x
+  written x cut h = record { tokens = source.tokens; has_tokens = (cut_of text tokens source view cut).has_tokens; derives = derived x h }
 
   pub refused : (again unknown : ℕ → List ℕ → Type 0) (refusal : TextRefusal) → IsCut text tokens → IsReadRefusal text given (read (symbols_of text given)) refusal
       → IsTextRefusal Spells wants again unknown source.text refusal

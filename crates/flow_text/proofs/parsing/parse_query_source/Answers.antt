@@ -2,7 +2,7 @@ use Rattle.std.proofs.lemmas.Result.{err_from_is_err_and}
 use Rattle.flow_form.specs.Script.{said, asked}
 use Rattle.flow_grammar.specs.Machine.{read_query, query_wants}
 use Rattle.flow_grammar.specs.Texts.{SpellsQuery}
-use Rattle.flow_text.proofs.Parsed.{queries, cut_of, derived, refused}
+use Rattle.flow_text.proofs.Parsed.{queries, derived, written, refused}
 use Rattle.flow_text.proofs.parsing.parse_query_source.Goals as goal
 
 pub returns-in_err-query-clause-refused : goal.returns-in_err-query-clause-refused
@@ -18,12 +18,8 @@ check_query_names-requires c =
 
 pub returns-clause-ok : goal.returns-clause-ok
 returns-clause-ok c = record {
-  writes = record {
-    tokens = c.args.source.now.tokens;
-    has_tokens = (cut_of c.source.inside.text.now c.source.inside.tokens.items c.args.source.now c.source.view_is c.source.invariant).has_tokens;
-    derives =
-        derived SpellsQuery query_wants read_query queries c.source.inside.text.now c.source.inside.tokens.items c.deref.result.now c.args.source.now c.source.view_is c.deref.ensures.value
-        (asked c.in_ok-query.query) c.in_ok-query.ensures.ok;
-  };
+  writes =
+      written SpellsQuery query_wants read_query queries c.source.inside.text.now c.source.inside.tokens.items c.deref.result.now c.args.source.now c.source.view_is c.deref.ensures.value
+      (asked c.in_ok-query.query) c.source.invariant c.in_ok-query.ensures.ok;
   of_events = c.in_ok-check_query_names.ensures.ok;
 }

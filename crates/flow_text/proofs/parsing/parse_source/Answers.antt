@@ -2,7 +2,7 @@ use Rattle.std.proofs.lemmas.Result.{err_from_is_err_and}
 use Rattle.flow_form.specs.Script.{said}
 use Rattle.flow_grammar.specs.Machine.{read_script, script_wants}
 use Rattle.flow_grammar.specs.Texts.{SpellsScript}
-use Rattle.flow_text.proofs.Parsed.{scripts, cut_of, derived, refused, is_closed}
+use Rattle.flow_text.proofs.Parsed.{scripts, cut_of, derived, written, refused, is_closed}
 use Rattle.flow_text.proofs.parsing.parse_source.Goals as goal
 
 pub returns-in_err-script-clause-refused : goal.returns-in_err-script-clause-refused
@@ -18,13 +18,9 @@ check_names-requires c =
 
 pub returns-clause-ok : goal.returns-clause-ok
 returns-clause-ok c = record {
-  writes = record {
-    tokens = c.args.source.now.tokens;
-    has_tokens = (cut_of c.source.inside.text.now c.source.inside.tokens.items c.args.source.now c.source.view_is c.source.invariant).has_tokens;
-    derives =
-        derived SpellsScript script_wants read_script scripts c.source.inside.text.now c.source.inside.tokens.items c.deref.result.now c.args.source.now c.source.view_is c.deref.ensures.value
-        (said c.in_ok-script.script) c.in_ok-script.ensures.ok;
-  };
+  writes =
+      written SpellsScript script_wants read_script scripts c.source.inside.text.now c.source.inside.tokens.items c.deref.result.now c.args.source.now c.source.view_is c.deref.ensures.value
+      (said c.in_ok-script.script) c.source.invariant c.in_ok-script.ensures.ok;
   named = c.in_ok-check_names.ensures.ok;
 }
 
