@@ -161,7 +161,7 @@ has_these text tokens has = ap (λ (l : Lexed). l.tokens) (sym has.lexed)
 has_none_bad : (text : List ℕ) (tokens : List Token) → HasTokens text tokens → (lexed text).bad ≡ None
 has_none_bad text tokens has = ap (λ (l : Lexed). l.bad) has.lexed
 
-module _ {V : Type 0} (Spells : List Placed → V → Type 0) (wants : List Symbol → Option Wanted) (read : List Symbol → Reading V) (m : IsMachine Spells wants read)
+module _ {V : Type 0} {Spells : List Placed → V → Type 0} {wants : List Symbol → Option Wanted} {read : List Symbol → Reading V} (m : IsMachine Spells wants read)
     (judge : V → Naming → Type 0) (text : List ℕ) where
   abbrev Known : Result V TextRefusal → Type 0
   Known a = Accounts read judge text a
@@ -254,10 +254,10 @@ one_script_naming s (other k) (other j) h g = ap other (one_first (λ front role
 
 script_known : (text : List ℕ) (a : Result Said TextRefusal) → IsAnswer (Says text) (IsParseRefusal text) a → Accounts read_script judge_script text a
 script_known text =
-    known SpellsScript script_wants read_script scripts judge_script text (Says text) _ _
-    (λ s h. said_there SpellsScript script_wants read_script scripts judge_script text s h.writes h.named)
-    (again_there SpellsScript script_wants read_script scripts judge_script text script_roles)
-    (other_there SpellsScript script_wants read_script scripts judge_script text script_roles)
+    known scripts judge_script text (Says text) _ _
+    (λ s h. said_there scripts judge_script text s h.writes h.named)
+    (again_there scripts judge_script text script_roles)
+    (other_there scripts judge_script text script_roles)
 
 pub texts_have_one_answer : TextsHaveOneAnswer
 texts_have_one_answer text a b one two =
@@ -281,9 +281,9 @@ one_query_naming s q v (again k) h g = absurd g
 query_known : (text : List ℕ) (s : Said) (a : Result Asked TextRefusal) → IsAnswer (Asks text s) (IsQueryRefusal text s) a →
     Accounts read_query (judge_query s) text a
 query_known text s =
-    known SpellsQuery query_wants read_query queries (judge_query s) text (Asks text s) _ _
-    (λ q h. said_there SpellsQuery query_wants read_query queries (judge_query s) text q h.writes h.of_events) (λ place name h. absurd h)
-    (other_there SpellsQuery query_wants read_query queries (judge_query s) text query_roles)
+    known queries (judge_query s) text (Asks text s) _ _
+    (λ q h. said_there queries (judge_query s) text q h.writes h.of_events) (λ place name h. absurd h)
+    (other_there queries (judge_query s) text query_roles)
 
 pub queries_have_one_answer : QueriesHaveOneAnswer
 queries_have_one_answer text s a b one two =

@@ -107,16 +107,16 @@ names_are_roles : {V : Type 0} (Spells : List Placed → V → Type 0) (roles : 
 names_are_roles Spells roles text tokens x law (w, e, shallow, spells) = names_listed text tokens ∙ ap names_of (sym e) ∙ law w x spells
 
 -- the number of a role is that of a name
-pub first_named : {V : Type 0} (Spells : List Placed → V → Type 0) (roles : V → List Role) (P : List Role → Role → Type 0) (text : List ℕ) (tokens : List Token) (x : V) (k : ℕ) →
-    NamesHaveRoles Spells roles → Derives Spells (symbols_of text tokens) x → IsFirst P (roles x) k → k < length (named_places text tokens)
+pub first_named : {V : Type 0} (Spells : List Placed → V → Type 0) (roles : V → List Role) (P : List Role → Role → Type 0) (text : List ℕ) (tokens : List Token) (x : V)
+    (k : ℕ) → NamesHaveRoles Spells roles → Derives Spells (symbols_of text tokens) x → IsFirst P (roles x) k → k < length (named_places text tokens)
 first_named Spells roles P text tokens x k law d h =
     let same : length (named_places text tokens) ≡ length (roles x)
     = sym (length-map (named_places text tokens) second) ∙ ap length (names_are_roles Spells roles text tokens x law d) ∙ length-map (roles x) role_name in
     let whole : length (roles x) ≡ length h.front + suc (length h.back) = ap length h.cut ∙ length-append h.front (h.role ∷ h.back) in
     omega (arith, same, whole, h.place)
 
-pub first_there : {V : Type 0} (Spells : List Placed → V → Type 0) (roles : V → List Role) (IsSo : V → ℕ → Type 0) (text : List ℕ) (tokens : List Token) (x : V) (k place : ℕ) (name : List ℕ) →
-    NamesHaveRoles Spells roles → HasTokens text tokens → Derives Spells (symbols_of text tokens) x → IsSo x k →
+pub first_there : {V : Type 0} (Spells : List Placed → V → Type 0) (roles : V → List Role) (IsSo : V → ℕ → Type 0) (text : List ℕ) (tokens : List Token) (x : V)
+    (k place : ℕ) (name : List ℕ) → NamesHaveRoles Spells roles → HasTokens text tokens → Derives Spells (symbols_of text tokens) x → IsSo x k →
     slice_get (named_places text tokens) k ≡ Some (place, name) → IsFirstNameAt Spells roles IsSo text place name
 first_there Spells roles IsSo text tokens x k place name law has d h there = record {
   value = x;
@@ -157,11 +157,11 @@ is_closed text tokens s spans (w, e, shallow, spells) names short =
 -- What the code reads
 
 -- what is known of the fields of a source is known of its value
-pub cut_of : (text : List ℕ) (tokens : List Token) (source : Cut) → record { text = text; tokens = tokens } ≡ source → IsCut text tokens → IsCut source.text source.tokens
-cut_of text tokens source view cut = subst (λ (s : Cut). IsCut s.text s.tokens) view cut
+pub cut_of : {text : List ℕ} {tokens : List Token} {source : Cut} → record { text = text; tokens = tokens } ≡ source → IsCut text tokens → IsCut source.text source.tokens
+cut_of view cut = subst (λ (s : Cut). IsCut s.text s.tokens) view cut
 
-module _ {V : Type 0} (Spells : List Placed → V → Type 0) (wants : List Symbol → Option Wanted) (read : List Symbol → Reading V) (m : IsMachine Spells wants read)
-    (text : List ℕ) (tokens given : List Token) (source : Cut) (view : record { text = text; tokens = tokens } ≡ source) (same : given ≡ tokens) where
+module _ {V : Type 0} {Spells : List Placed → V → Type 0} {wants : List Symbol → Option Wanted} {read : List Symbol → Reading V} (m : IsMachine Spells wants read)
+    {text : List ℕ} {tokens given : List Token} {source : Cut} (view : record { text = text; tokens = tokens } ≡ source) (same : given ≡ tokens) where
   read_from : record { text = text; tokens = given } ≡ source
   read_from = ap (λ (ts : List Token). record { text = text; tokens = ts }) same ∙ view
 
@@ -169,10 +169,10 @@ module _ {V : Type 0} (Spells : List Placed → V → Type 0) (wants : List Symb
   derived x h = (m.reads (symbols_of source.text source.tokens) x).0 (subst (λ (s : Cut). read (symbols_of s.text s.tokens) ≡ gives x) read_from h)
 
   pub written : (x : V) → IsCut text tokens → read (symbols_of text given) ≡ gives x → Writes Spells source.text x
-  written x cut h = record { tokens = source.tokens; has_tokens = (cut_of text tokens source view cut).has_tokens; derives = derived x h }
+  written x cut h = record { tokens = source.tokens; has_tokens = (cut_of view cut).has_tokens; derives = derived x h }
 
   pub refused : (again unknown : ℕ → List ℕ → Type 0) (refusal : TextRefusal) → IsCut text tokens → IsReadRefusal text given (read (symbols_of text given)) refusal
       → IsTextRefusal Spells wants again unknown source.text refusal
   refused again unknown refusal cut h =
-      read_refused Spells wants again unknown source.text read m source.tokens refusal (cut_of text tokens source view cut).has_tokens
+      read_refused Spells wants again unknown source.text read m source.tokens refusal (cut_of view cut).has_tokens
       (subst (λ (s : Cut). IsReadRefusal s.text s.tokens (read (symbols_of s.text s.tokens)) refusal) read_from h)

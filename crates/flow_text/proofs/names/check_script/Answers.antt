@@ -25,4 +25,5 @@ returns-clause-ok c =
     script_good (said c.args.script.now) c.in_ok-known.known (roles_of c.in_ok-list.list.items) c.in_ok-list.ensures
     (subst (λ z. KnowsThose (map declared z) c.in_ok-known.known) c.deref.ensures.value c.in_ok-known.ensures)
     (ap (λ z. found_repeated c.in_ok-known.known (roles_of z)) (sym c.deref-2.ensures.value) ∙ sym c.in_ok-index.ensures ∙ none_of c.in_ok-index.field-0 c.in_default.not-Some)
-    (unknown_among c.in_ok-known.known c.in_ok-list.list.items c.deref-3.result.now c.deref-3.ensures.value ∙ sym c.first_unknown.ensures ∙ none_of c.first_unknown.result c.in_default-first_unknown.not-Some)
+    (unknown_among c.in_ok-known.known c.in_ok-list.list.items c.deref-3.result.now c.deref-3.ensures.value
+    ∙ sym c.first_unknown.ensures ∙ none_of c.first_unknown.result c.in_default-first_unknown.not-Some)
