@@ -4,7 +4,7 @@ ghost use Rattle.flow_model.specs.Schema.{Schema};
 ghost use Rattle.flow_form.specs.Script.{said, asked};
 ghost use Rattle.flow_form.specs.Names.{IsClosed};
 ghost use Rattle.flow_grammar.specs.Roles.{used_in_rules, query_roles};
-ghost use Rattle.flow_names.specs.Good.{AsksOfEvents};
+ghost use Rattle.flow_text.specs.GoodNames.{AsksOfEvents};
 ghost use Rattle.flow_rules.specs.Rule.{rule_of};
 ghost use Rattle.flow_excise.specs.Compilation as compilation;
 ghost use Rattle.flow_verify.specs.declared.refusal.VerifyRefusal.TheVariants.{NoRule};

@@ -14,8 +14,8 @@ use Rattle.flow_form.specs.Names.{declared_names, event_names, goals_of, names_i
 use Rattle.flow_grammar.specs.Machine.{deepest}
 use Rattle.flow_grammar.specs.Print.{nesting, rule_nesting, IsWithin}
 use Rattle.flow_grammar.specs.Made.{IsWellMade}
-use Rattle.flow_print.specs.Printable.{IsPrintable, IsPrintableRule}
-use Rattle.flow_names.specs.Good.{HasGoodNames}
+use Rattle.flow_text.specs.Printable.{IsPrintable, IsPrintableRule}
+use Rattle.flow_text.specs.GoodNames.{HasGoodNames}
 use Rattle.flow_text.specs.Saying.{Says}
 use Rattle.flow_text.specs.Parsing.{IsParseRefusal}
 use Rattle.flow_text.proofs.SaidLaws.{prints_say_it}
