@@ -9,7 +9,7 @@ use Rattle.flow_model.specs.Circle.{items_of}
 use Rattle.flow_laws.specs.Words.{IsOrdered}
 use Rattle.flow_laws.proofs.ListLemmas1.{mem_joined, list_having, distinct_append, before_across, before_right, before_or_after, not_both_ways, decide_eq}
 use Rattle.flow_laws.proofs.ListLemmas2.{mem-map, of_map, before_members, each_from_members}
-use Rattle.flow_laws.proofs.ReadyOrders.{trace_of_ordering}
+use Rattle.flow_laws.proofs.Orderings.{trace_of_ordering}
 use Rattle.flow_laws.proofs.ReadyRuns.{direct_first, direct_second, arrangement_of}
 use Rattle.flow_laws.proofs.CircleExcludes.{circle_excludes}
 use Rattle.flow_laws.proofs.CircleParts.{regions, item_within, item_having, part_or_region}

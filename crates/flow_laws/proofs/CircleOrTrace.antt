@@ -8,7 +8,7 @@ use Rattle.flow_laws.specs.Words.{IsOrdered}
 use Rattle.flow_laws.specs.ReadyRuns.{ReadyRunsExtend}
 use Rattle.flow_laws.specs.Circles.{TraceOrCircle}
 use Rattle.flow_laws.proofs.ListLemmas1.{mem_with, split_at}
-use Rattle.flow_laws.proofs.ReadyOrders.{trace_of_ordering}
+use Rattle.flow_laws.proofs.Orderings.{trace_of_ordering}
 use Rattle.flow_laws.proofs.ReadyRuns.{run_grow, arrangement_of, complete_arranged}
 use Rattle.flow_laws.proofs.CircleExcludes.{circle_excludes}
 use Rattle.flow_laws.proofs.CircleRing.{ring_among, ring_from_least}

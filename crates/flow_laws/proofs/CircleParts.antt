@@ -5,7 +5,7 @@ use Rattle.flow_model.specs.Process.{Process, Empty, Task, Sequence, Parallel, C
 use Rattle.flow_model.specs.Ready.{isolated_parts}
 use Rattle.flow_model.specs.Circle.{item_of, items_of}
 use Rattle.flow_laws.proofs.ListLemmas1.{distinct_left, distinct_right, distinct_apart, mem_joined, list_having, joined_apart}
-use Rattle.flow_laws.proofs.ReadyRemains.{part_within}
+use Rattle.flow_laws.proofs.GoalParts.{part_within}
 use Rattle.flow_laws.proofs.ListLemmas2.{mem_append_left, mem_append_right, mem-append, joined-append}
 
 -- the whole goal, and the bodies of its isolated parts

@@ -2,19 +2,15 @@
 use Rattle.std.proofs.Common.{◌≡◌, ◌≢◌, ℕ, ◌⊎◌, List, [], ◌∷◌, ◌++◌, length, refl, sym, ap, ◌∙◌, subst, inl, inr, Some}
 use Rattle.flow_model.specs.Lists.{◌∈◌, AreDistinct, joined}
 use Rattle.flow_model.specs.Process.{Process, Empty, Task, Sequence, Parallel, Choice, Isolated, leaves, IsNumbered}
-use Rattle.flow_model.specs.Trace.{Blocks, Shuffle, from_left, as_one}
+use Rattle.flow_model.specs.Trace.{Blocks, as_one}
 use Rattle.flow_model.specs.Facts.{event_at}
 use Rattle.flow_model.specs.Schema.{Schema, HasUniqueEvents}
-use Rattle.flow_model.specs.Decided.{shuffle_right}
 use Rattle.flow_laws.specs.Events.{AreTogether}
 use Rattle.flow_laws.proofs.ListLemmas2.{mem_append_left, mem_append_right, mem-append, joined-append, distinct_parts, distinct-filter_map, distinct-numbers_from, same_source}
-use Rattle.flow_laws.proofs.TraceLeaves.{joined-as_one, of_shuffle, leaf_of_blocks, distinct_trace}
+use Rattle.flow_laws.proofs.Shuffles.{shuffle-append, shuffle-joined, of_shuffle}
+use Rattle.flow_laws.proofs.TraceLeaves.{joined-as_one, leaf_of_blocks, distinct_trace}
 
 -- Executions that hold given leaves
-
-pub shuffle-append : (x y : List (List ℕ)) → Shuffle x y (x ++ y)
-shuffle-append [] y = shuffle_right y
-shuffle-append (b ∷ x) y = from_left (shuffle-append x y)
 
 pub some_blocks : (g : Process) → (bs : List (List ℕ)) × Blocks g bs
 some_blocks Empty = ([], refl)
@@ -130,7 +126,7 @@ are_together (Sequence a b) bs (x, y, hx, hy, e) m n i j d =
     (mem-append m (joined x) (joined y) (subst (λ w. m ∈ w) whole i))
     (mem-append n (joined x) (joined y) (subst (λ w. n ∈ w) whole j)) d
 are_together (Parallel a b) bs (x, y, hx, hy, s) m n i j d =
-    of_two_parts a b x y hx hy (are_together a x hx) (are_together b y hy) m n (of_shuffle s m i) (of_shuffle s n j) d
+    of_two_parts a b x y hx hy (are_together a x hx) (are_together b y hy) m n (of_shuffle (shuffle-joined s) m i) (of_shuffle (shuffle-joined s) n j) d
 are_together (Choice a b) bs (inl h) m n i j d =
     elim (are_together a bs h m n i j d) [ inl k ↦ inl (inl k) | inr k ↦ inr (inl k) ]
 are_together (Choice a b) bs (inr h) m n i j d =

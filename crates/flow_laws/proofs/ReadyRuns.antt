@@ -7,8 +7,8 @@ use Rattle.flow_model.specs.Ready.{InSequence, DirectlyBefore, isolated_parts, I
 use Rattle.flow_laws.specs.Words.{IsOrdered}
 use Rattle.flow_laws.specs.ReadyRuns.{CompleteRunsAreTraces, FrontsAreReady}
 use Rattle.flow_laws.proofs.ListLemmas1.{mem_here, each_at, split_at, distinct_left, distinct_right, distinct_apart, not_elsewhere, before_second, before_across, before_right, in_front, not_both_ways}
-use Rattle.flow_laws.proofs.ReadyRemains.{sequence_first, sequence_second, part_within}
-use Rattle.flow_laws.proofs.ReadyOrders.{IsOrdering, ordering_of_trace, trace_of_ordering}
+use Rattle.flow_laws.proofs.GoalParts.{sequence_first, sequence_second, part_within}
+use Rattle.flow_laws.proofs.Orderings.{IsOrdering, ordering_of_trace, trace_of_ordering}
 use Rattle.flow_laws.proofs.ListLemmas2.{mem-append, each_from_members}
 
 -- what is directly before what
