@@ -17,7 +17,7 @@ use Rattle.flow_laws.specs.Histories.{IsSound}
 use Rattle.flow_laws.proofs.ListLemmas2.{each-append, each_to, each_member, distinct-numbers_from, begins_front, begins_and_nothing, each-filter, order_of_none, order_with_last, numbers_from_more}
 use Rattle.flow_laws.proofs.GoodTraces.{option_of_good}
 use Rattle.flow_laws.proofs.RunLemmas.{runs-append, runs_front, event_holds}
-use Rattle.flow_laws.proofs.ClaimLemmas.{number_of, leaf_of, is_of, answer_keeps, numbers-answer, length-answer, taken_out, none_taken_out, leaf_of_claim_is, some_claim, lapsed_is_not_current, claim_in}
+use Rattle.flow_laws.proofs.ClaimLemmas.{number_of, leaf_of, is_of, answer_keeps, numbers-answer, taken_out, none_taken_out, leaf_of_claim_is, some_claim, lapsed_is_not_current, claim_in}
 use Rattle.flow_laws.proofs.SparedLemmas.{spare_keeps, numbers-spare, spared_are_current, spared_may_follow}
 
 -- A good execution that goes on from the journal
@@ -51,7 +51,7 @@ first_is_kept w f (t, good) = record {
 pub answered_numbered : (s : RunState) (number : ℕ) → map number_of s.claims ≡ numbers_from 1 (length s.claims) →
     map number_of (answer number s.claims) ≡ numbers_from 1 (length (answer number s.claims))
 answered_numbered s number e =
-    numbers-answer number s.claims ∙ (e ∙ ap (numbers_from 1) (sym (length-answer number s.claims)))
+    numbers-answer number s.claims ∙ (e ∙ ap (numbers_from 1) (sym (length-map s.claims _)))
 
 pub answered_on_events : (w : Schema) (s : RunState) (number : ℕ) → Each (λ (claim : Claim). IsEventLeaf w claim.leaf) s.claims →
     Each (λ (claim : Claim). IsEventLeaf w claim.leaf) (answer number s.claims)
