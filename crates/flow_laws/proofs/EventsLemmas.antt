@@ -8,19 +8,9 @@ use Rattle.flow_model.specs.Schema.{Schema, HasUniqueEvents}
 use Rattle.flow_laws.specs.Events.{AreTogether}
 use Rattle.flow_laws.proofs.ListLemmas2.{mem_append_left, mem_append_right, mem-append, joined-append, distinct_parts, distinct-filter_map, distinct-numbers_from, same_source}
 use Rattle.flow_laws.proofs.Shuffles.{shuffle-append, shuffle-joined, of_shuffle}
-use Rattle.flow_laws.proofs.TraceLeaves.{joined-as_one, leaf_of_blocks, distinct_trace}
+use Rattle.flow_laws.proofs.TraceLeaves.{joined-as_one, some_blocks, leaf_of_blocks, distinct_trace}
 
 -- Executions that hold given leaves
-
-pub some_blocks : (g : Process) → (bs : List (List ℕ)) × Blocks g bs
-some_blocks Empty = ([], refl)
-some_blocks (Task n) = ((n ∷ []) ∷ [], refl)
-some_blocks (Sequence a b) =
-    let (x, hx) = some_blocks a in let (y, hy) = some_blocks b in (x ++ y, (x, y, hx, hy, refl))
-some_blocks (Parallel a b) =
-    let (x, hx) = some_blocks a in let (y, hy) = some_blocks b in (x ++ y, (x, y, hx, hy, shuffle-append x y))
-some_blocks (Choice a b) = let (x, hx) = some_blocks a in (x, inl hx)
-some_blocks (Isolated a) = let (x, hx) = some_blocks a in (as_one x, (x, hx, refl))
 
 pub mem_joined_left : (n : ℕ) (x y : List (List ℕ)) → n ∈ joined x → n ∈ joined (x ++ y)
 mem_joined_left n x y m = subst (λ w. n ∈ w) (sym (joined-append x y)) (mem_append_left n (joined x) (joined y) m)

@@ -22,14 +22,14 @@ pub record IsOrdering (g : Process) (t : List ℕ) : Type 0 where
 -- Executions are orderings
 
 -- what stands in the goal's sequence stands so in each execution
-abbrev KeepsSequence : Process → Type 0
+abbrev pub KeepsSequence : Process → Type 0
 KeepsSequence g = (bs : List (List ℕ)) → Blocks g bs → (x y : ℕ) → InSequence g x y → StandsBefore x y (joined bs)
 
 halves_keep : (a b : Process) → KeepsSequence a → KeepsSequence b → KeepsSequence (Parallel a b)
 halves_keep a b in_a in_b bs (u, v, ha, hb, s) x y (inl k) = before_in_shuffle (shuffle-joined s) x y (in_a u ha x y k)
 halves_keep a b in_a in_b bs (u, v, ha, hb, s) x y (inr k) = before_in_shuffle (shuffle_swap (shuffle-joined s)) x y (in_b v hb x y k)
 
-before_in_blocks : (g : Process) → IsChoiceFree g → KeepsSequence g
+pub before_in_blocks : (g : Process) → IsChoiceFree g → KeepsSequence g
 before_in_blocks Empty f bs h x y k = absurd k
 before_in_blocks (Task n) f bs h x y k = absurd k
 before_in_blocks (Sequence a b) (fa, fb) bs (u, v, ha, hb, e) x y (inl (inl k)) =

@@ -119,3 +119,15 @@ distinct_blocks (Isolated a) d bs (x, h, e) =
 
 pub distinct_trace : (g : Process) → AreDistinct (leaves g) → (t : List ℕ) → Trace g t → AreDistinct t
 distinct_trace g d t (bs, h, e) = subst AreDistinct (sym e) (distinct_blocks g d bs h)
+
+-- Each goal has an execution
+
+pub some_blocks : (g : Process) → (bs : List (List ℕ)) × Blocks g bs
+some_blocks Empty = ([], refl)
+some_blocks (Task n) = ((n ∷ []) ∷ [], refl)
+some_blocks (Sequence a b) =
+    let (x, hx) = some_blocks a in let (y, hy) = some_blocks b in (x ++ y, (x, y, hx, hy, refl))
+some_blocks (Parallel a b) =
+    let (x, hx) = some_blocks a in let (y, hy) = some_blocks b in (x ++ y, (x, y, hx, hy, shuffle-append x y))
+some_blocks (Choice a b) = let (x, hx) = some_blocks a in (x, inl hx)
+some_blocks (Isolated a) = let (x, hx) = some_blocks a in (as_one x, (x, hx, refl))
