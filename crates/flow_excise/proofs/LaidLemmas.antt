@@ -12,7 +12,7 @@ use Rattle.flow_laws.proofs.ListLemmas2.{mem-map, of_map, before_members, each_f
 use Rattle.flow_laws.proofs.Orderings.{trace_of_ordering}
 use Rattle.flow_laws.proofs.ReadyRuns.{direct_first, direct_second, arrangement_of}
 use Rattle.flow_laws.proofs.CircleExcludes.{circle_excludes}
-use Rattle.flow_laws.proofs.CircleParts.{regions, item_within, item_having, part_or_region}
+use Rattle.flow_laws.proofs.GoalParts.{regions, item_within, item_having, part_or_region}
 use Rattle.flow_excise.specs.declared.item.Item.{Item}
 use Rattle.flow_excise.specs.Rows.{run_in, IsIn, IsOneOf}
 use Rattle.flow_excise.specs.Arranged.{IsWholeOrder, IsRunOf, TellsRing}

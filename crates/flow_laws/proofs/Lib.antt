@@ -13,7 +13,6 @@ pub mod GoalParts
 pub mod Orderings
 pub mod ReadyRuns
 pub mod OrdersByTwo
-pub mod CircleParts
 pub mod CircleExcludes
 pub mod CircleRing
 pub mod CircleSearch

@@ -8,7 +8,7 @@ use Rattle.flow_laws.specs.Words.{IsOrdered}
 use Rattle.flow_laws.specs.ReadyRuns.{CompleteRunsAreTraces, FrontsAreReady}
 use Rattle.flow_laws.proofs.ListLemmas1.{mem_here, each_at, split_at, not_elsewhere, before_second, before_across, before_right, in_front, not_before_itself, not_both_ways}
 use Rattle.flow_laws.proofs.TraceLeaves.{some_blocks, distinct_blocks}
-use Rattle.flow_laws.proofs.GoalParts.{sequence_first, sequence_second, part_within}
+use Rattle.flow_laws.proofs.GoalParts.{sequence_first, sequence_second, part_within, case_of}
 use Rattle.flow_laws.proofs.Orderings.{IsOrdering, before_in_blocks, ordering_of_trace, trace_of_ordering}
 use Rattle.flow_laws.proofs.ListLemmas2.{mem-append, each_from_members}
 
@@ -57,7 +57,7 @@ ready_in_arrangement q pairs front n back w a = record {
       (⊎_elim
       (λ e. absurd (l (subst (λ z. z ∈ leaves part) e p)))
       (λ i. absurd (o.together part m x n y k l p (before_across x n front (n ∷ back) h (inl refl)) (before_right n y front (n ∷ back) (inl (refl, i))))))
-      (mem-append y front (n ∷ back) (o.all y (part_within q part y m p)));
+      (mem-append y front (n ∷ back) (o.all y (part_within (case_of q) part y m p)));
   begins = λ part m k none x y l p b. ⊎_elim
       (λ i. i)
       (⊎_elim
