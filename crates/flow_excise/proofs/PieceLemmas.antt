@@ -14,7 +14,7 @@ use Rattle.flow_excise.specs.Items.{IsLaid, IsItemOf, AreItemsOf, AddsItems, IsP
 use Rattle.flow_excise.specs.ItemMarks.{CanClose}
 use Rattle.flow_excise.proofs.ItemLemmas.{same_length, are_apart, tells_circle}
 use Rattle.flow_excise.proofs.LaidLemmas.{part_item}
-use Rattle.flow_laws.proofs.ListLemmas2.{mem_append_left, mem_append_right}
+use Rattle.flow_laws.proofs.Members.{mem_append_left, mem_append_right}
 
 -- the goal is made of two sides
 pub record IsJoin (whole a b : Process) : Type 0 where

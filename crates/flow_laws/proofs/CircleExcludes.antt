@@ -6,7 +6,7 @@ use Rattle.flow_model.specs.Ready.{isolated_parts}
 use Rattle.flow_model.specs.Circle.{items_of, ItemBefore, LeadsBackTo, IsRing, IsCircle}
 use Rattle.flow_laws.specs.Words.{IsOrdered}
 use Rattle.flow_laws.specs.Circles.{CirclesExcludeTraces}
-use Rattle.flow_laws.proofs.ListLemmas1.{before_or_after, before_trans, not_both_ways}
+use Rattle.flow_laws.proofs.Members.{before_or_after, before_trans, not_both_ways}
 use Rattle.flow_laws.proofs.ReadyRuns.{IsArrangement, arrangement_of, direct_stands}
 use Rattle.flow_laws.proofs.GoalParts.{regions, region_within, region_distinct, part_of_region, item_kind, item_has, item_within, items_apart, case_of}
 

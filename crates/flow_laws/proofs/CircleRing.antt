@@ -4,8 +4,7 @@ use Rattle.std.proofs.lemmas.Bool.{cases_lt}
 use Rattle.flow_model.specs.Lists.{◌∈◌, Each, AreDistinct}
 use Rattle.flow_model.specs.Process.{Process}
 use Rattle.flow_model.specs.Circle.{ItemBefore, LeadsBackTo, IsRing, least_of, BeginsWithLeast}
-use Rattle.flow_laws.proofs.ListLemmas1.{decide_mem, decide_list_eq, mem_here, mem_with, mem_without, split_at, distinct_left, distinct_right, distinct_apart, distinct_append, not_elsewhere}
-use Rattle.flow_laws.proofs.ListLemmas2.{mem_append_left, mem_append_right, mem-append}
+use Rattle.flow_laws.proofs.Members.{decide_mem, decide_list_eq, mem_here, mem_with, mem_without, split_at, distinct_left, distinct_right, distinct_apart, distinct-append, not_elsewhere, mem_append_left, mem_append_right, mem-append}
 
 -- two or more distinct items among these, in a ring
 pub record RingAmong (q : Process) (pairs : List (ℕ × ℕ)) (items : List (List ℕ)) (ring : List (List ℕ)) : Type 0 where
@@ -119,7 +118,7 @@ turned_distinct : {A : Type 0} (front : List A) (item : A) (back : List A) → A
 turned_distinct front item back d =
     let alone = not_elsewhere front back item d in (
       λ m. ⊎_elim alone.1 alone.0 (mem-append item back front m),
-      distinct_append back front (distinct_right front (item ∷ back) d).1 (distinct_left front (item ∷ back) d)
+      distinct-append back front (distinct_right front (item ∷ back) d).1 (distinct_left front (item ∷ back) d)
           (λ x h k. distinct_apart front (item ∷ back) d x k (inr h)),
     )
 

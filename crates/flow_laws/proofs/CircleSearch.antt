@@ -5,10 +5,9 @@ use Rattle.flow_model.specs.Process.{Process, Empty, Task, Sequence, Parallel, C
 use Rattle.flow_model.specs.Ready.{InSequence, DirectlyBefore, isolated_parts, IsReady, IsReadyRun}
 use Rattle.flow_model.specs.Circle.{items_of, ItemBefore}
 use Rattle.flow_laws.specs.Words.{IsOrdered}
-use Rattle.flow_laws.proofs.ListLemmas1.{Decided, decide_eq, decide_in, decide_mem, decide_not, decide_both, decide_either, decide_some, find_member, first_member, last_of}
+use Rattle.flow_laws.proofs.Members.{Decided, decide_eq, decide_in, decide_mem, decide_not, decide_both, decide_either, decide_some, find_member, first_member, last_of, mem_append_left, mem-append}
 use Rattle.flow_laws.proofs.GoalParts.{part_within, regions, IsWithin, region_within, part_of_region, nested, goal_size, part_smaller, item_kind, item_has, item_within, item_having, part_or_region, case_of}
 use Rattle.flow_laws.proofs.ReadyRuns.{direct_first, direct_other, ready_at}
-use Rattle.flow_laws.proofs.ListLemmas2.{mem_append_left, mem-append}
 
 -- decisions
 

@@ -4,7 +4,7 @@ pub use Rattle.std.proofs.lemmas.Bool.{and_parts}
 use Rattle.std.proofs.lemmas.Bool.{eqb-true, ltb-true, cases_Bool, false_from_ne_true}
 use Rattle.flow_model.specs.Lists.{◌∈◌, Each, AreDistinct}
 use Rattle.flow_model.specs.Run.{Claim, RunState, claim_at, leaf_of_claim, answer}
-use Rattle.flow_laws.proofs.ListLemmas2.{some_same, of_find}
+use Rattle.flow_laws.proofs.MadeLists.{some_same, of_find}
 
 abbrev pub number_of : Claim → ℕ
 number_of claim = claim.number

@@ -7,7 +7,8 @@ use Rattle.flow_model.specs.Ready.{IsReadyRunAfter, DoneOr}
 use Rattle.flow_model.specs.Run.{RunState, MayFollow}
 use Rattle.flow_laws.specs.Words.{IsWellFormed}
 use Rattle.flow_laws.specs.Orders.{IsAlive, OrdersMayFollow, OrdersMayFollowOne}
-use Rattle.flow_laws.proofs.ListLemmas2.{each_to, same_order, begins_front, mem_append_left, mem_append_right, mem-append}
+use Rattle.flow_laws.proofs.Members.{each_to, mem_append_left, mem_append_right, mem-append}
+use Rattle.flow_laws.proofs.MadeLists.{same_order, begins_front}
 use Rattle.flow_laws.proofs.TraceLeaves.{leaf_of_trace, leaf_in_trace}
 use Rattle.flow_laws.proofs.OptionsLemmas.{option_is_ordered}
 use Rattle.flow_laws.proofs.GoodTraces.{option_trace_is_good}

@@ -4,8 +4,8 @@ use Rattle.flow_model.specs.Lists.{◌∈◌, AreDistinct, joined}
 use Rattle.flow_model.specs.Process.{Process, Empty, Task, Sequence, Parallel, Choice, Isolated, leaves}
 use Rattle.flow_model.specs.Ready.{InSequence, isolated_parts}
 use Rattle.flow_model.specs.Circle.{item_of, items_of}
-use Rattle.flow_laws.proofs.ListLemmas1.{distinct_left, distinct_right, distinct_apart, mem_joined, list_having, joined_apart}
-use Rattle.flow_laws.proofs.ListLemmas2.{mem_append_left, mem_append_right, mem-append, joined-append}
+use Rattle.flow_laws.proofs.Members.{distinct_left, distinct_right, distinct_apart, mem_append_left, mem_append_right, mem-append}
+use Rattle.flow_laws.proofs.MadeLists.{mem_joined, list_having, joined_apart, joined-append}
 
 -- Cases
 

@@ -1,5 +1,5 @@
-pub mod ListLemmas1
-pub mod ListLemmas2
+pub mod Members
+pub mod MadeLists
 pub mod Shuffles
 pub mod TraceLeaves
 pub mod ResolutionsLemmas

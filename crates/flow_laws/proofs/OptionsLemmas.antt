@@ -8,7 +8,7 @@ use Rattle.flow_model.specs.Ways.{normal_form, leaf_of_event}
 use Rattle.flow_model.specs.Schema.{Schema}
 use Rattle.flow_model.specs.Resolution.{ChoiceOption, options, options_in, ways_in, resolutions}
 use Rattle.flow_laws.specs.Words.{IsWellFormed, IsOrdered}
-use Rattle.flow_laws.proofs.ListLemmas2.{of_flat_map, of_map, mem-flat_map, mem-map, distinct-numbers_from}
+use Rattle.flow_laws.proofs.MadeLists.{of_flat_map, of_map, mem-flat_map, mem-map, distinct-numbers_from}
 use Rattle.flow_laws.proofs.ResolutionsLemmas.{resolves_of, choice_free_resolution, distinct_leaves_of_resolution}
 use Rattle.flow_laws.proofs.WaysLemmas.{each_pair, leaf_of_event_is}
 

@@ -4,8 +4,8 @@ use Rattle.flow_model.specs.Lists.{◌∈◌, AreDistinct, StandsBefore, joined}
 use Rattle.flow_model.specs.Process.{Process, Empty, Task, Sequence, Parallel, Choice, Isolated, leaves, IsChoiceFree}
 use Rattle.flow_model.specs.Trace.{Shuffle, Blocks, Trace, as_one}
 use Rattle.flow_model.specs.Ready.{InSequence, isolated_parts}
-use Rattle.flow_laws.proofs.ListLemmas1.{no_members, distinct_left, distinct_right, distinct_apart, before_second, before_across, before_right, before_or_after, not_before_itself, not_both_ways}
-use Rattle.flow_laws.proofs.ListLemmas2.{mem_append_left, mem_append_right, mem-append, joined-append}
+use Rattle.flow_laws.proofs.Members.{no_members, distinct_left, distinct_right, distinct_apart, before_members, before_across, before_right, before_or_after, not_before_itself, not_both_ways, mem_append_left, mem_append_right, mem-append}
+use Rattle.flow_laws.proofs.MadeLists.{joined-append}
 use Rattle.flow_laws.proofs.Shuffles.{shuffle-joined, shuffle_swap, of_shuffle, mem_shuffle_left, before_in_shuffle, distinct_in_shuffle, shuffle_of, front_first, shuffle_nothing, AreUnbroken, shuffle_blocks}
 use Rattle.flow_laws.proofs.GoalParts.{sequence_first, sequence_second, part_within, case_of}
 use Rattle.flow_laws.proofs.TraceLeaves.{joined-as_one, beside, leaf_of_blocks, leaf_in_blocks, distinct_trace, leaf_of_trace, leaf_in_trace}
@@ -107,7 +107,7 @@ piece_unbroken list piece d (front, back, e) x y z k l p b c =
     (λ m. ⊎_elim l
     (λ i. not_both_ways y z list d c (from z y (before_right z y front (piece ++ back) (before_across z y piece back p i))))
     (mem-append y piece back m))
-    (mem-append y front (piece ++ back) (subst (λ w. y ∈ w) e (before_second x y list b)))
+    (mem-append y front (piece ++ back) (subst (λ w. y ∈ w) e (before_members x y list b).1))
   where
     from : (u v : ℕ) → StandsBefore u v (front ++ (piece ++ back)) → StandsBefore u v list
     from u v h = subst (StandsBefore u v) (sym e) h

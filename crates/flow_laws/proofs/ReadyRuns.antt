@@ -6,21 +6,20 @@ use Rattle.flow_model.specs.Trace.{Trace}
 use Rattle.flow_model.specs.Ready.{InSequence, DirectlyBefore, isolated_parts, IsReady, DoneOr, IsReadyRunAfter, IsReadyRun, IsCompleteRun}
 use Rattle.flow_laws.specs.Words.{IsOrdered}
 use Rattle.flow_laws.specs.ReadyRuns.{CompleteRunsAreTraces, FrontsAreReady}
-use Rattle.flow_laws.proofs.ListLemmas1.{mem_here, each_at, split_at, not_elsewhere, before_second, before_across, before_right, in_front, not_before_itself, not_both_ways}
+use Rattle.flow_laws.proofs.Members.{mem_here, each_member, split_at, not_elsewhere, before_members, before_across, before_right, in_front, not_before_itself, not_both_ways, mem-append, each_from_members}
 use Rattle.flow_laws.proofs.TraceLeaves.{some_blocks, distinct_blocks}
 use Rattle.flow_laws.proofs.GoalParts.{sequence_first, sequence_second, part_within, case_of}
 use Rattle.flow_laws.proofs.Orderings.{IsOrdering, before_in_blocks, ordering_of_trace, trace_of_ordering}
-use Rattle.flow_laws.proofs.ListLemmas2.{mem-append, each_from_members}
 
 -- what is directly before what
 
 pub direct_first : (q : Process) (pairs : List (ℕ × ℕ)) → IsOrdered q pairs → (x y : ℕ) → DirectlyBefore q pairs x y → x ∈ leaves q
 direct_first q pairs w x y (inl h) = sequence_first q x y h
-direct_first q pairs w x y (inr m) = (each_at (λ pair. (pair.0 ∈ leaves q) × (pair.1 ∈ leaves q)) pairs (x, y) w.of_leaves m).0
+direct_first q pairs w x y (inr m) = (each_member (λ pair. (pair.0 ∈ leaves q) × (pair.1 ∈ leaves q)) pairs w.of_leaves (x, y) m).0
 
 pub direct_second : (q : Process) (pairs : List (ℕ × ℕ)) → IsOrdered q pairs → (x y : ℕ) → DirectlyBefore q pairs x y → y ∈ leaves q
 direct_second q pairs w x y (inl h) = sequence_second q x y h
-direct_second q pairs w x y (inr m) = (each_at (λ pair. (pair.0 ∈ leaves q) × (pair.1 ∈ leaves q)) pairs (x, y) w.of_leaves m).1
+direct_second q pairs w x y (inr m) = (each_member (λ pair. (pair.0 ∈ leaves q) × (pair.1 ∈ leaves q)) pairs w.of_leaves (x, y) m).1
 
 sequence_other : (g : Process) (x : ℕ) → IsChoiceFree g → AreDistinct (leaves g) → ¬ (InSequence g x x)
 sequence_other g x f d h =
@@ -29,7 +28,7 @@ sequence_other g x f d h =
 -- no leaf is directly before itself
 pub direct_other : (q : Process) (pairs : List (ℕ × ℕ)) → IsOrdered q pairs → (x y : ℕ) → DirectlyBefore q pairs x y → x ≢ y
 direct_other q pairs w x y (inl h) e = sequence_other q y w.choice_free w.distinct (subst (λ z. InSequence q z y) e h)
-direct_other q pairs w x y (inr m) e = each_at (λ pair. pair.0 ≢ pair.1) pairs (x, y) w.different m e
+direct_other q pairs w x y (inr m) e = each_member (λ pair. pair.0 ≢ pair.1) pairs w.different (x, y) m e
 
 -- the executions of an option
 
@@ -43,7 +42,7 @@ arrangement_of q pairs t w h k = record { ordering = ordering_of_trace t q w.cho
 
 pub direct_stands : (q : Process) (pairs : List (ℕ × ℕ)) (t : List ℕ) → IsArrangement q pairs t → (x y : ℕ) → DirectlyBefore q pairs x y → StandsBefore x y t
 direct_stands q pairs t a x y (inl h) = a.ordering.before x y h
-direct_stands q pairs t a x y (inr m) = each_at (λ pair. StandsBefore pair.0 pair.1 t) pairs (x, y) a.pairs_stand m
+direct_stands q pairs t a x y (inr m) = each_member (λ pair. StandsBefore pair.0 pair.1 t) pairs a.pairs_stand (x, y) m
 
 -- each leaf of an execution may come next after those before it
 pub ready_in_arrangement : (q : Process) (pairs : List (ℕ × ℕ)) (front : List ℕ) (n : ℕ) (back : List ℕ) → IsOrdered q pairs →
@@ -204,7 +203,7 @@ complete_arranged q pairs t w h = record {
     apart : (part : Process) → part ∈ isolated_parts q → (x y z : ℕ) → x ∈ leaves part → ¬ (y ∈ leaves part) → z ∈ leaves part →
         StandsBefore x y t → StandsBefore y z t → ⊥
     apart part m x y z k l p b c =
-        let s = split_at y t (before_second x y t b) in
+        let s = split_at y t ((before_members x y t b).1) in
         let x_in = in_front x y s.0 s.1 (subst AreDistinct s.2 d) (subst (StandsBefore x y) s.2 b) in
         let z_in = (ready_at q pairs s.0 y s.1 (subst (IsReadyRun q pairs) s.2 h.0)).outside part m l x z k x_in p in
         not_both_ways y z t d c (stands_at z y s.0 s.1 s.2 z_in)

@@ -6,7 +6,8 @@ use Rattle.flow_model.specs.Process.{Process, Empty, Task, Sequence, Parallel, C
 use Rattle.flow_model.specs.Trace.{Blocks, Trace}
 use Rattle.flow_model.specs.Resolution.{resolutions, resolution_count}
 use Rattle.flow_laws.specs.Resolutions.{Resolves}
-use Rattle.flow_laws.proofs.ListLemmas2.{mem_append_left, mem_append_right, mem-append, mem-map, of_map, mem-each_with_each, of_each_with_each, length-each_with_each, slice_get-each_with_each, slice_get_append_right, distinct_parts, distinct-append, within_left, within_right}
+use Rattle.flow_laws.proofs.Members.{mem_append_left, mem_append_right, mem-append, distinct_parts, distinct-append}
+use Rattle.flow_laws.proofs.MadeLists.{mem-map, of_map, mem-each_with_each, of_each_with_each, length-each_with_each, slice_get-each_with_each, slice_get_append_right}
 use Rattle.flow_laws.proofs.TraceLeaves.{blocks_of_no_leaf, no_leaf_has_no_blocks, leaf_of_trace, leaf_in_trace}
 
 -- Executions
@@ -159,6 +160,21 @@ distinct_leaves_of_resolution (Isolated a) q (x, h, e) d =
     subst (λ p. AreDistinct (leaves p)) (sym e) (distinct_leaves_of_resolution a x h d)
 
 -- Resolutions with the same leaves
+
+-- of two halves with nothing in common, what is within the whole is within the half
+within_left : {A : Type 0} (a b x y u v : List A) → ((n : A) → n ∈ a → ¬ (n ∈ b)) → ((n : A) → n ∈ x → n ∈ a) →
+    ((n : A) → n ∈ v → n ∈ b) → ((n : A) → n ∈ (x ++ y) → n ∈ (u ++ v)) → (n : A) → n ∈ x → n ∈ u
+within_left a b x y u v apart of_a of_b whole n m = elim (mem-append n u v (whole n (mem_append_left n x y m))) [
+  | inl k ↦ k
+  | inr k ↦ absurd (apart n (of_a n m) (of_b n k))
+]
+
+within_right : {A : Type 0} (a b x y u v : List A) → ((n : A) → n ∈ a → ¬ (n ∈ b)) → ((n : A) → n ∈ u → n ∈ a) →
+    ((n : A) → n ∈ y → n ∈ b) → ((n : A) → n ∈ (x ++ y) → n ∈ (u ++ v)) → (n : A) → n ∈ y → n ∈ v
+within_right a b x y u v apart of_a of_b whole n m = elim (mem-append n u v (whole n (mem_append_right n x y m))) [
+  | inl k ↦ absurd (apart n (of_a n k) (of_b n m))
+  | inr k ↦ k
+]
 
 abbrev pub HaveSameLeaves : Process → Process → Type 0
 HaveSameLeaves p q = (n : ℕ) → (n ∈ leaves p) ↔ (n ∈ leaves q)

@@ -14,7 +14,8 @@ use Rattle.flow_model.specs.Resolution.{ChoiceOption}
 use Rattle.flow_model.specs.Run.{Claim, RunState, first_state, current_leaves, is_current, claim_at, leaf_of_claim, IsCurrent, IsLapsed, database, IsFree, MayFollow, MayAllFollow, CanTake, CanDo, IsOpen, IsAllowed, answer, spare, with_new_epoch, next_state, state_after, IsLegalFrom}
 use Rattle.flow_laws.specs.Words.{IsWellFormed, IsConsistent}
 use Rattle.flow_laws.specs.Histories.{IsSound}
-use Rattle.flow_laws.proofs.ListLemmas2.{each-append, each_to, each_member, distinct-numbers_from, begins_front, begins_and_nothing, each-filter, order_of_none, order_with_last, numbers_from_more}
+use Rattle.flow_laws.proofs.Members.{each-append, each_to, each_member}
+use Rattle.flow_laws.proofs.MadeLists.{distinct-numbers_from, begins_front, begins_and_nothing, each-filter, order_of_none, order_with_last, numbers_from_more}
 use Rattle.flow_laws.proofs.GoodTraces.{option_of_good}
 use Rattle.flow_laws.proofs.RunLemmas.{runs-append, runs_front, event_holds}
 use Rattle.flow_laws.proofs.ClaimLemmas.{number_of, leaf_of, is_of, answer_keeps, numbers-answer, taken_out, none_taken_out, leaf_of_claim_is, some_claim, lapsed_is_not_current, claim_in}

@@ -5,7 +5,8 @@ use Rattle.flow_model.specs.declared.labels.Label.{Label}
 use Rattle.flow_model.specs.Lists.{◌∈◌, Each}
 use Rattle.flow_model.specs.Facts.{event_at, is_event}
 use Rattle.flow_model.specs.Ways.{Normal, always, impossible, must, never, before, not_before, both, either, ways, leaf_of_event, free_way, is_free, ways_of_must, ways_of_never, ways_of_before, ways_of_not_before}
-use Rattle.flow_laws.proofs.ListLemmas2.{mem-append, of_each_with_each, each-append, of_find}
+use Rattle.flow_laws.proofs.Members.{mem-append, each-append}
+use Rattle.flow_laws.proofs.MadeLists.{of_each_with_each, of_find}
 
 -- The leaf of an event
 
