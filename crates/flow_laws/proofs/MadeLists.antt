@@ -158,9 +158,15 @@ each-filter P Q p (x ∷ xs) to (h, t) = elim (cases_Bool (p x)) [
 
 -- What a filter that maps keeps
 
-none_or_some : {A : Type 0} (o : Option A) → (o ≡ None) ⊎ ((x : A) × (o ≡ Some x))
-none_or_some None = inl refl
-none_or_some (Some x) = inr (x, refl)
+-- the first member is left out, or is kept as what it maps to
+kept_first : {A B : Type 0} (h : A → Option B) (z : A) (zs : List A) →
+    (filter_map h (z ∷ zs) ≡ filter_map h zs) ⊎ ((w : B) × (h z ≡ Some w) × (filter_map h (z ∷ zs) ≡ w ∷ filter_map h zs))
+kept_first {A} {B} h z zs = step (h z) refl
+  where
+    step : (o : Option B) → h z ≡ o →
+        (filter_map h (z ∷ zs) ≡ filter_map h zs) ⊎ ((w : B) × (h z ≡ Some w) × (filter_map h (z ∷ zs) ≡ w ∷ filter_map h zs))
+    step None k = inl (rw k refl)
+    step (Some w) k = inr (w, k, rw k refl)
 
 mem-cons_option : {A : Type 0} (o : Option A) (y : A) (ys : List A) → y ∈ ys → y ∈ cons_option o ys
 mem-cons_option None y ys h = h
@@ -181,13 +187,12 @@ mem-filter_map h x y (z ∷ zs) (inr m) k = mem-cons_option (h z) y (filter_map 
 
 pub of_filter_map : {A B : Type 0} (h : A → Option B) (y : B) (xs : List A) → y ∈ filter_map h xs → (x : A) × (x ∈ xs) × (h x ≡ Some y)
 of_filter_map h y [] m = absurd m
-of_filter_map h y (z ∷ zs) m = elim (none_or_some (h z)) [
-  | inl k ↦ (let (x, a, b) = of_filter_map h y zs (rw k at m) in (x, inr a, b))
-  | inr (w, k) ↦ ⊎_elim
-      (λ e. (z, inl refl, k ∙ ap Some (sym e)))
-      (λ l. let (x, a, b) = of_filter_map h y zs l in (x, inr a, b))
-      (rw k at m)
-]
+of_filter_map h y (z ∷ zs) m =
+    let in_rest = λ (l : y ∈ filter_map h zs). let (x, a, b) = of_filter_map h y zs l in let r : (x : _) × (x ∈ (z ∷ zs)) × (h x ≡ Some y) = (x, inr a, b) in r in
+    elim (kept_first h z zs) [
+      | inl e ↦ in_rest (subst (λ l. y ∈ l) e m)
+      | inr (w, k, e) ↦ ⊎_elim (λ f. (z, inl refl, k ∙ ap Some (sym f))) in_rest (subst (λ l. y ∈ l) e m)
+    ]
 
 pub before-filter_map : {A B : Type 0} (h : A → Option B) (x y : A) (a b : B) (t : List A) →
     StandsBefore x y t → h x ≡ Some a → h y ≡ Some b → StandsBefore a b (filter_map h t)
@@ -199,13 +204,15 @@ before-filter_map h x y a b (z ∷ t) (inr s) i j =
 pub of_before-filter_map : {A B : Type 0} (h : A → Option B) (a b : B) (t : List A) → StandsBefore a b (filter_map h t) →
     (x : A) × ((y : A) × StandsBefore x y t × (h x ≡ Some a) × (h y ≡ Some b))
 of_before-filter_map h a b [] s = absurd s
-of_before-filter_map h a b (z ∷ t) s = elim (none_or_some (h z)) [
-  | inl k ↦ (let (x, (y, c, i, j)) = of_before-filter_map h a b t (rw k at s) in (x, (y, inr c, i, j)))
-  | inr (w, k) ↦ ⊎_elim
-      (λ l. let (y, m, j) = of_filter_map h b t l.1 in (z, (y, inl (refl, m), k ∙ ap Some (sym l.0), j)))
-      (λ l. let (x, (y, c, i, j)) = of_before-filter_map h a b t l in (x, (y, inr c, i, j)))
-      (rw k at s)
-]
+of_before-filter_map h a b (z ∷ t) s =
+    let in_rest = λ (l : StandsBefore a b (filter_map h t)). let (x, (y, c, i, j)) = of_before-filter_map h a b t l in
+    let r : (x : _) × ((y : _) × StandsBefore x y (z ∷ t) × (h x ≡ Some a) × (h y ≡ Some b)) = (x, (y, inr c, i, j)) in r in
+    elim (kept_first h z t) [
+      | inl e ↦ in_rest (subst (StandsBefore a b) e s)
+      | inr (w, k, e) ↦ ⊎_elim
+          (λ l. let (y, m, j) = of_filter_map h b t l.1 in (z, (y, inl (refl, m), k ∙ ap Some (sym l.0), j)))
+          in_rest (subst (StandsBefore a b) e s)
+    ]
 
 -- where what it keeps is distinct, two members that map to the same are one
 pub same_source : {A B : Type 0} (h : A → Option B) (t : List A) → AreDistinct (filter_map h t) →
@@ -224,11 +231,11 @@ pub distinct-filter_map : {A B : Type 0} (h : A → Option B) (t : List A) → A
 distinct-filter_map h [] d apart = tt
 distinct-filter_map h (z ∷ t) (new, d) apart =
     let rest = distinct-filter_map h t d (λ x y e m k. apart x y e (inr m) (inr k)) in
-    elim (none_or_some (h z)) [
-      | inl k ↦ rw k rest
-      | inr (e, k) ↦ rw k (
-        λ m. let (y, l, i) = of_filter_map h e t m in
-            apart z y e (inl refl) (inr l) (λ same. new (subst (λ w. w ∈ t) (sym same) l)) k i,
+    elim (kept_first h z t) [
+      | inl k ↦ subst AreDistinct (sym k) rest
+      | inr (e, k, l) ↦ subst AreDistinct (sym l) (
+        λ m. let (y, n, i) = of_filter_map h e t m in
+            apart z y e (inl refl) (inr n) (λ same. new (subst (λ w. w ∈ t) (sym same) n)) k i,
         rest,
       )
     ]
