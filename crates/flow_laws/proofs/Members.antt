@@ -18,6 +18,13 @@ mem-append x [] b h = inr h
 mem-append x (y ∷ a) b (inl e) = inl (inl e)
 mem-append x (y ∷ a) b (inr h) = ⊎_elim (λ m. inl (inr m)) inr (mem-append x a b h)
 
+pub mem_swap : {A : Type 0} (x : A) (a b : List A) → x ∈ (a ++ b) → x ∈ (b ++ a)
+mem_swap x a b m = ⊎_elim (mem_append_right x b a) (mem_append_left x b a) (mem-append x a b m)
+
+-- members of two lists that go into two lists
+pub mem_both : {A : Type 0} (x : A) (a b c d : List A) → (x ∈ a → x ∈ c) → (x ∈ b → x ∈ d) → x ∈ (a ++ b) → x ∈ (c ++ d)
+mem_both x a b c d f g m = ⊎_elim (λ k. mem_append_left x c d (f k)) (λ k. mem_append_right x c d (g k)) (mem-append x a b m)
+
 -- the member in the middle
 pub mem_here : {A : Type 0} (x : A) (a b : List A) → x ∈ (a ++ x ∷ b)
 mem_here x a b = mem_append_right x a (x ∷ b) (inl refl)
@@ -120,6 +127,9 @@ distinct-append (x ∷ a) b d e f =
 
 pub distinct_parts : {A : Type 0} (a b : List A) → AreDistinct (a ++ b) → AreDistinct a × AreDistinct b × Apart a b
 distinct_parts a b d = (distinct_left a b d, distinct_right a b d, distinct_apart a b d)
+
+pub distinct_swap : {A : Type 0} (a b : List A) → AreDistinct (a ++ b) → AreDistinct (b ++ a)
+distinct_swap a b d = distinct-append b a (distinct_right a b d) (distinct_left a b d) (λ x h k. distinct_apart a b d x k h)
 
 -- the member in the middle stands nowhere else
 pub not_elsewhere : {A : Type 0} (a b : List A) (x : A) → AreDistinct (a ++ x ∷ b) → ¬ (x ∈ a) × ¬ (x ∈ b)

@@ -14,6 +14,17 @@ joined-as_one (b ∷ bs) = append-nil (b ++ joined bs)
 pub beside : (a b : Process) (bs : List (List ℕ)) → Blocks (Sequence a b) bs → Blocks (Parallel a b) bs
 beside a b bs (x, y, ha, hb, e) = (x, y, ha, hb, subst (Shuffle x y) (sym e) (shuffle-append x y))
 
+-- each goal has an execution
+pub some_blocks : (g : Process) → (bs : List (List ℕ)) × Blocks g bs
+some_blocks Empty = ([], refl)
+some_blocks (Task n) = ((n ∷ []) ∷ [], refl)
+some_blocks (Sequence a b) =
+    let (x, hx) = some_blocks a in let (y, hy) = some_blocks b in (x ++ y, (x, y, hx, hy, refl))
+some_blocks (Parallel a b) =
+    let (x, hx) = some_blocks a in let (y, hy) = some_blocks b in (x ++ y, (x, y, hx, hy, shuffle-append x y))
+some_blocks (Choice a b) = let (x, hx) = some_blocks a in (x, inl hx)
+some_blocks (Isolated a) = let (x, hx) = some_blocks a in (as_one x, (x, hx, refl))
+
 -- Members of an execution
 
 -- each leaf that is done is one of the goal
@@ -87,14 +98,7 @@ blocks_of_no_leaf (Choice a b) none bs (inr h) = blocks_of_no_leaf b (none_right
 blocks_of_no_leaf (Isolated a) none bs (x, h, e) = e ∙ ap as_one (blocks_of_no_leaf a none x h)
 
 pub no_leaf_has_no_blocks : (g : Process) → HasNoLeaf g → Blocks g []
-no_leaf_has_no_blocks Empty none = refl
-no_leaf_has_no_blocks (Task k) none = absurd (none k (inl refl))
-no_leaf_has_no_blocks (Sequence a b) none =
-    ([], [], no_leaf_has_no_blocks a (none_left a b none), no_leaf_has_no_blocks b (none_right a b none), refl)
-no_leaf_has_no_blocks (Parallel a b) none =
-    ([], [], no_leaf_has_no_blocks a (none_left a b none), no_leaf_has_no_blocks b (none_right a b none), both_end)
-no_leaf_has_no_blocks (Choice a b) none = inl (no_leaf_has_no_blocks a (none_left a b none))
-no_leaf_has_no_blocks (Isolated a) none = ([], no_leaf_has_no_blocks a none, refl)
+no_leaf_has_no_blocks g none = let (bs, h) = some_blocks g in subst (Blocks g) (blocks_of_no_leaf g none bs h) h
 
 -- No leaf stands twice
 
@@ -119,15 +123,3 @@ distinct_blocks (Isolated a) d bs (x, h, e) =
 
 pub distinct_trace : (g : Process) → AreDistinct (leaves g) → (t : List ℕ) → Trace g t → AreDistinct t
 distinct_trace g d t (bs, h, e) = subst AreDistinct (sym e) (distinct_blocks g d bs h)
-
--- Each goal has an execution
-
-pub some_blocks : (g : Process) → (bs : List (List ℕ)) × Blocks g bs
-some_blocks Empty = ([], refl)
-some_blocks (Task n) = ((n ∷ []) ∷ [], refl)
-some_blocks (Sequence a b) =
-    let (x, hx) = some_blocks a in let (y, hy) = some_blocks b in (x ++ y, (x, y, hx, hy, refl))
-some_blocks (Parallel a b) =
-    let (x, hx) = some_blocks a in let (y, hy) = some_blocks b in (x ++ y, (x, y, hx, hy, shuffle-append x y))
-some_blocks (Choice a b) = let (x, hx) = some_blocks a in (x, inl hx)
-some_blocks (Isolated a) = let (x, hx) = some_blocks a in (as_one x, (x, hx, refl))
