@@ -223,24 +223,17 @@ ordering_beside a b t o = record {
 }
 
 -- an ordering of two halves, by these
-record IsHalved (a b : Process) (t : List ℕ) : Type 0 where
-  left : List ℕ
-  right : List ℕ
-  shuffle : Shuffle left right t
-  of_left : IsOrdering a left
-  of_right : IsOrdering b right
-
-halve : (a b : Process) (t : List ℕ) → AreDistinct (leaves (Parallel a b)) → IsOrdering (Parallel a b) t → IsHalved a b t
+halve : (a b : Process) (t : List ℕ) → AreDistinct (leaves (Parallel a b)) → IsOrdering (Parallel a b) t →
+    (left right : List ℕ) × Shuffle left right t × IsOrdering a left × IsOrdering b right
 halve a b t d o =
     let off = distinct_apart (leaves a) (leaves b) d in
-    let (u, v, s, of_a, of_b) = shuffle_of (leaves a) (leaves b) t (λ x m. mem-append x (leaves a) (leaves b) (o.leaf x m)) in
-    record {
-      left = u;
-      right = v;
-      shuffle = s;
-      of_left = half_ordering a (Parallel a b) u v t (left_half a b) o s of_a (λ x m k. off x k (of_b x m));
-      of_right = half_ordering b (Parallel a b) v u t (right_half a b) o (shuffle_swap s) of_b (λ x m k. off x (of_a x m) k);
-    }
+    let (u, v, s, of_a, of_b) = shuffle_of (leaves a) (leaves b) t (λ x m. mem-append x (leaves a) (leaves b) (o.leaf x m)) in (
+      u,
+      v,
+      s,
+      half_ordering a (Parallel a b) u v t (left_half a b) o s of_a (λ x m k. off x k (of_b x m)),
+      half_ordering b (Parallel a b) v u t (right_half a b) o (shuffle_swap s) of_b (λ x m k. off x (of_a x m) k),
+    )
 
 only_member : (n : ℕ) (t : List ℕ) → AreDistinct t → ((x : ℕ) → x ∈ t → x ∈ (n ∷ [])) → n ∈ t → t ≡ n ∷ []
 only_member n [] d f m = absurd m
@@ -252,21 +245,21 @@ blocks_of_ordering : (g : Process) (t : List ℕ) → IsChoiceFree g → AreDist
 blocks_of_ordering Empty t f d o = ([], refl, no_members t o.leaf)
 blocks_of_ordering (Task n) t f d o = ((n ∷ []) ∷ [], refl, only_member n t o.distinct o.leaf (o.all n (inl refl)))
 blocks_of_ordering (Sequence a b) t (fa, fb) d o =
-    let h = halve a b t d (ordering_beside a b t o) in
-    let (x, hx, ex) = blocks_of_ordering a h.left fa (distinct_left (leaves a) (leaves b) d) h.of_left in
-    let (y, hy, ey) = blocks_of_ordering b h.right fb (distinct_right (leaves a) (leaves b) d) h.of_right in
-    let (more, e, s) = front_first h.left [] h.right t (subst (λ l. Shuffle l h.right t) (sym (append-nil h.left)) h.shuffle)
-    (λ u v m k i. not_both_ways u v t o.distinct (o.before u v (inl (inl (h.of_left.leaf u m, h.of_right.leaf v k)))) i) in
-    (x ++ y, (x, y, hx, hy, refl), e ∙ (ap₂ ◌++◌ ex (shuffle_nothing s ∙ ey) ∙ sym (joined-append x y)))
+    let (u, v, s, in_a, in_b) = halve a b t d (ordering_beside a b t o) in
+    let (x, hx, ex) = blocks_of_ordering a u fa (distinct_left (leaves a) (leaves b) d) in_a in
+    let (y, hy, ey) = blocks_of_ordering b v fb (distinct_right (leaves a) (leaves b) d) in_b in
+    let (more, e, r) = front_first u [] v t (subst (λ l. Shuffle l v t) (sym (append-nil u)) s)
+    (λ m n i j k. not_both_ways m n t o.distinct (o.before m n (inl (inl (in_a.leaf m i, in_b.leaf n j)))) k) in
+    (x ++ y, (x, y, hx, hy, refl), e ∙ (ap₂ ◌++◌ ex (shuffle_nothing r ∙ ey) ∙ sym (joined-append x y)))
 blocks_of_ordering (Parallel a b) t (fa, fb) d o =
-    let h = halve a b t d o in
+    let (u, v, s, in_a, in_b) = halve a b t d o in
     let off = distinct_apart (leaves a) (leaves b) d in
-    let (x, hx, ex) = blocks_of_ordering a h.left fa (distinct_left (leaves a) (leaves b) d) h.of_left in
-    let (y, hy, ey) = blocks_of_ordering b h.right fb (distinct_right (leaves a) (leaves b) d) h.of_right in
-    let (c, s, e) = shuffle_blocks x y t (subst₂ (λ u v. Shuffle u v t) ex ey h.shuffle)
+    let (x, hx, ex) = blocks_of_ordering a u fa (distinct_left (leaves a) (leaves b) d) in_a in
+    let (y, hy, ey) = blocks_of_ordering b v fb (distinct_right (leaves a) (leaves b) d) in_b in
+    let (c, r, e) = shuffle_blocks x y t (subst₂ (λ u v. Shuffle u v t) ex ey s)
     (half_unbroken a (Parallel a b) x (joined y) t fa hx (left_half a b) o (λ n m k. off n k (leaf_of_blocks b y hy n m)))
     (half_unbroken b (Parallel a b) y (joined x) t fb hy (right_half a b) o (λ n m k. off n (leaf_of_blocks a x hx n m) k)) in
-    (c, (x, y, hx, hy, s), e)
+    (c, (x, y, hx, hy, r), e)
 blocks_of_ordering (Choice a b) t f d o = absurd f
 blocks_of_ordering (Isolated a) t f d o =
     let inner : IsOrdering a t = record {

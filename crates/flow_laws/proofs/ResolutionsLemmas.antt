@@ -30,45 +30,30 @@ blocks_of_a_resolution (Choice a b) bs (inr h) =
 blocks_of_a_resolution (Isolated a) bs (x, h, e) =
     let (q, m, k) = blocks_of_a_resolution a x h in (Isolated q, mem-map Isolated q _ m, (x, k, e))
 
-pub blocks_of_goal : (g q : Process) (bs : List (List ℕ)) → q ∈ resolutions g → Blocks q bs → Blocks g bs
-blocks_of_goal Empty q bs (inl e) h = subst (λ p. Blocks p bs) e h
-blocks_of_goal Empty q bs (inr m) h = absurd m
-blocks_of_goal (Task n) q bs (inl e) h = subst (λ p. Blocks p bs) e h
-blocks_of_goal (Task n) q bs (inr m) h = absurd m
-blocks_of_goal (Sequence a b) q bs m h =
-    let (p, (r, ma, mb, e)) = of_each_with_each Sequence q (resolutions a) (resolutions b) m in
-    let (x, y, hx, hy, k) = subst (λ s. Blocks s bs) e h in
-    (x, y, blocks_of_goal a p x ma hx, blocks_of_goal b r y mb hy, k)
-blocks_of_goal (Parallel a b) q bs m h =
-    let (p, (r, ma, mb, e)) = of_each_with_each Parallel q (resolutions a) (resolutions b) m in
-    let (x, y, hx, hy, k) = subst (λ s. Blocks s bs) e h in
-    (x, y, blocks_of_goal a p x ma hx, blocks_of_goal b r y mb hy, k)
-blocks_of_goal (Choice a b) q bs m h = elim (mem-append q (resolutions a) (resolutions b) m) [
-  | inl k ↦ inl (blocks_of_goal a q bs k h)
-  | inr k ↦ inr (blocks_of_goal b q bs k h)
-]
-blocks_of_goal (Isolated a) q bs m h =
-    let (p, k, e) = of_map Isolated q (resolutions a) m in
-    let (x, hx, i) = subst (λ s. Blocks s bs) e h in
-    (x, blocks_of_goal a p x k hx, i)
+pub blocks_of_goal : (g q : Process) (bs : List (List ℕ)) → Resolves g q → Blocks q bs → Blocks g bs
+blocks_of_goal Empty q bs e h = subst (λ p. Blocks p bs) e h
+blocks_of_goal (Task n) q bs e h = subst (λ p. Blocks p bs) e h
+blocks_of_goal (Sequence a b) q bs (p, r, hp, hr, e) h =
+    let (x, y, hx, hy, k) = subst (λ s. Blocks s bs) e h in (x, y, blocks_of_goal a p x hp hx, blocks_of_goal b r y hr hy, k)
+blocks_of_goal (Parallel a b) q bs (p, r, hp, hr, e) h =
+    let (x, y, hx, hy, k) = subst (λ s. Blocks s bs) e h in (x, y, blocks_of_goal a p x hp hx, blocks_of_goal b r y hr hy, k)
+blocks_of_goal (Choice a b) q bs (inl k) h = inl (blocks_of_goal a q bs k h)
+blocks_of_goal (Choice a b) q bs (inr k) h = inr (blocks_of_goal b q bs k h)
+blocks_of_goal (Isolated a) q bs (p, r, e) h = let (x, hx, k) = subst (λ s. Blocks s bs) e h in (x, blocks_of_goal a p x r hx, k)
 
 -- Which they are
 
 pub resolves_of : (g q : Process) → q ∈ resolutions g → Resolves g q
-resolves_of Empty q (inl e) = e
-resolves_of Empty q (inr m) = absurd m
-resolves_of (Task n) q (inl e) = e
-resolves_of (Task n) q (inr m) = absurd m
+resolves_of Empty q m = ⊎_elim (λ e. e) absurd m
+resolves_of (Task n) q m = ⊎_elim (λ e. e) absurd m
 resolves_of (Sequence a b) q m =
     let (p, (r, ma, mb, e)) = of_each_with_each Sequence q (resolutions a) (resolutions b) m in
     (p, r, resolves_of a p ma, resolves_of b r mb, e)
 resolves_of (Parallel a b) q m =
     let (p, (r, ma, mb, e)) = of_each_with_each Parallel q (resolutions a) (resolutions b) m in
     (p, r, resolves_of a p ma, resolves_of b r mb, e)
-resolves_of (Choice a b) q m = elim (mem-append q (resolutions a) (resolutions b) m) [
-  | inl k ↦ inl (resolves_of a q k)
-  | inr k ↦ inr (resolves_of b q k)
-]
+resolves_of (Choice a b) q m =
+    ⊎_elim (λ k. inl (resolves_of a q k)) (λ k. inr (resolves_of b q k)) (mem-append q (resolutions a) (resolutions b) m)
 resolves_of (Isolated a) q m = let (p, k, e) = of_map Isolated q (resolutions a) m in (p, resolves_of a p k, e)
 
 pub mem-resolutions : (g q : Process) → Resolves g q → q ∈ resolutions g
@@ -227,7 +212,7 @@ same_blocks (Isolated a) d p q (x, h, e) (u, k, i) same bs m =
 -- Executions by their leaves
 
 pub goal_trace : (g q : Process) → q ∈ resolutions g → (t : List ℕ) → Trace q t → Trace g t
-goal_trace g q m t (bs, h, e) = (bs, blocks_of_goal g q bs m h, e)
+goal_trace g q m t (bs, h, e) = (bs, blocks_of_goal g q bs (resolves_of g q m) h, e)
 
 pub resolution_trace : (g q : Process) → AreDistinct (leaves g) → q ∈ resolutions g → (t : List ℕ) →
     Trace g t → ((n : ℕ) → (n ∈ t) ↔ (n ∈ leaves q)) → Trace q t

@@ -7,7 +7,7 @@ use Rattle.flow_laws.proofs.OptionsLemmas.{option_is_ordered}
 use Rattle.flow_laws.proofs.resolutions.law_traces_are_of_resolutions.Goals as goal
 
 pub returns-clause-blocks : goal.returns-clause-blocks
-returns-clause-blocks c = λ g bs. (blocks_of_a_resolution g bs, λ (q, m, h). blocks_of_goal g q bs m h)
+returns-clause-blocks c = λ g bs. (blocks_of_a_resolution g bs, λ (q, m, h). blocks_of_goal g q bs (resolves_of g q m) h)
 
 pub returns-clause-just_these : goal.returns-clause-just_these
 returns-clause-just_these c = λ g q. (resolves_of g q, mem-resolutions g q)
