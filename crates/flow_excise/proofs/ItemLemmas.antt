@@ -6,8 +6,9 @@ use Rattle.flow_model.specs.Process.{Process, leaves}
 use Rattle.flow_model.specs.Ready.{DirectlyBefore}
 use Rattle.flow_model.specs.Circle.{items_of, ItemBefore, LeadsBackTo, IsRing, least_of}
 use Rattle.flow_laws.specs.Words.{IsOrdered}
-use Rattle.flow_laws.proofs.ListLemmas1.{mem_joined, distinct_apart, distinct_right}
-use Rattle.flow_laws.proofs.CircleParts.{regions, region_distinct, item_has, items_apart, joined_items}
+use Rattle.flow_laws.proofs.Members.{distinct_apart, distinct_right}
+use Rattle.flow_laws.proofs.MadeLists.{mem_joined}
+use Rattle.flow_laws.proofs.GoalParts.{regions, region_distinct, item_has, items_apart, joined_items}
 use Rattle.flow_excise.specs.declared.item.Item.{Item}
 use Rattle.flow_excise.specs.declared.excising.ExciseRefusal.{ExciseRefusal}
 use Rattle.flow_excise.specs.declared.excising.ExciseRefusal.TheVariants.{Circle, NoMemory}

@@ -7,12 +7,12 @@ use Rattle.flow_model.specs.Trace.{Trace}
 use Rattle.flow_model.specs.Ready.{DirectlyBefore, isolated_parts}
 use Rattle.flow_model.specs.Circle.{items_of}
 use Rattle.flow_laws.specs.Words.{IsOrdered}
-use Rattle.flow_laws.proofs.ListLemmas1.{mem_joined, list_having, distinct_append, before_across, before_right, before_or_after, not_both_ways, decide_eq}
-use Rattle.flow_laws.proofs.ListLemmas2.{mem-map, of_map, before_members, each_from_members}
-use Rattle.flow_laws.proofs.ReadyOrders.{trace_of_ordering}
+use Rattle.flow_laws.proofs.Members.{distinct-append, before_across, before_right, before_or_after, not_both_ways, decide_eq, before_members, each_from_members}
+use Rattle.flow_laws.proofs.MadeLists.{mem_joined, list_having, mem-map, of_map}
+use Rattle.flow_laws.proofs.Orderings.{trace_of_ordering}
 use Rattle.flow_laws.proofs.ReadyRuns.{direct_first, direct_second, arrangement_of}
 use Rattle.flow_laws.proofs.CircleExcludes.{circle_excludes}
-use Rattle.flow_laws.proofs.CircleParts.{regions, item_within, item_having, part_or_region}
+use Rattle.flow_laws.proofs.GoalParts.{regions, item_within, item_having, part_or_region}
 use Rattle.flow_excise.specs.declared.item.Item.{Item}
 use Rattle.flow_excise.specs.Rows.{run_in, IsIn, IsOneOf}
 use Rattle.flow_excise.specs.Arranged.{IsWholeOrder, IsRunOf, TellsRing}
@@ -50,7 +50,7 @@ module _ (f : ℕ → List ℕ) where
       ((i j x : ℕ) → i ∈ order → j ∈ order → x ∈ f i → x ∈ f j → i ≡ j) → AreDistinct (joined (map f order))
   distinct_blocks [] d each one = tt
   distinct_blocks (z ∷ order) d each one =
-      distinct_append (f z) (joined (map f order)) (each z (inl refl)) (distinct_blocks order d.1 (λ n m. each n (inr m)) (λ i j x k l. one i j x (inr k) (inr l)))
+      distinct-append (f z) (joined (map f order)) (each z (inl refl)) (distinct_blocks order d.1 (λ n m. each n (inr m)) (λ i j x k l. one i j x (inr k) (inr l)))
       (λ x h k. let r = of_block order x k in d.0 (subst (λ u. u ∈ order) (sym (one z r.0 x (inl refl) (inr r.1) h r.2)) r.1))
 
 module _ (q : Process) (pairs : List (ℕ × ℕ)) (o : IsOrdered q pairs) (part : Process) (p : part ∈ regions q) (items : List Item)

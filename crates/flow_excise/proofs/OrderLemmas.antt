@@ -6,8 +6,8 @@ use Rattle.std.proofs.lemmas.Option.{slice_get_past, slice_get_read}
 use Rattle.leaf_rows.specs.declared.leaf_set.LeafSet.{LeafSet}
 use Rattle.leaf_rows.specs.Leaves.{has_leaf}
 use Rattle.flow_model.specs.Lists.{◌∈◌, Each, AreDistinct, StandsBefore, joined}
-use Rattle.flow_laws.proofs.ListLemmas1.{each_at, decide_in, distinct_append, before_across}
-use Rattle.flow_laws.proofs.ListLemmas2.{some_same, each_from_members, mem_append_left, mem_append_right, mem-append, joined-append}
+use Rattle.flow_laws.proofs.Members.{each_member, decide_in, distinct-append, before_across, each_from_members, mem_append_left, mem_append_right, mem-append}
+use Rattle.flow_laws.proofs.MadeLists.{some_same, joined-append}
 use Rattle.flow_excise.specs.declared.item.Item.{Item}
 use Rattle.flow_excise.specs.Rows.{has_inside, has_waits, run_in, runs, least_in, least_at, IsIn, WaitsFor, IsEdge, AreApart}
 use Rattle.flow_excise.specs.Arranged.{IsArranged, IsWholeOrder, IsCycle, LeadsOn, Holds}
@@ -72,7 +72,7 @@ module _ (items : List Item) (w : AreApart items) where
       ((x : ℕ) → WaitsFor items top x → ¬ (IsTrue (has_leaf left x))) →
       ((x : ℕ) → has_leaf new x ≡ (not (has_inside (slice_get items top) x) && has_leaf left x)) → longer ≡ order ++ top ∷ [] → IsArranged items new longer
   grown left new order longer top a there fresh free cleared e = subst (IsArranged items new) (sym e) (record {
-    distinct = distinct_append order (top ∷ []) a.distinct ((λ m. m), tt)
+    distinct = distinct-append order (top ∷ []) a.distinct ((λ m. m), tt)
         (λ x m k. ⊎_elim (λ i. fresh (subst (λ z. z ∈ order) i m)) (λ f. absurd f) k);
     within = λ n m. ⊎_elim (a.within n) (⊎_elim (λ i. subst (λ z. z < length items) (sym i) there) (λ f. absurd f)) (mem-append n order (top ∷ []) m);
     rest = λ x. (still x, was x);
@@ -287,7 +287,7 @@ pub runs_more : (items : List Item) (order : List ℕ) (k : ℕ) (item : Item) �
 runs_more items order k item l w e =
     let f : ℕ → List ℕ = λ n. run_in (slice_get items n) in
     let n : ℕ = get_or order k 0 in
-    let there = item_there items n item (each_at (λ m. m < length items) order n w (member_at order k l)) e in
+    let there = item_there items n item (each_member (λ m. m < length items) order w n (member_at order k l)) e in
     ap (λ z. joined (map f z)) (take_more order k 0 l)
     ∙ ap joined (map-append f (take k order) (n ∷ []))
     ∙ joined-append (map f (take k order)) (f n ∷ [])
@@ -298,7 +298,7 @@ pub leasts_more : (items : List Item) (order : List ℕ) (k : ℕ) (item : Item)
     map (least_at items) (take (k + 1) order) ≡ map (least_at items) (take k order) ++ (get_or items (get_or order k 0) item).least ∷ []
 leasts_more items order k item l w e =
     let n : ℕ = get_or order k 0 in
-    let there = item_there items n item (each_at (λ m. m < length items) order n w (member_at order k l)) e in
+    let there = item_there items n item (each_member (λ m. m < length items) order w n (member_at order k l)) e in
     ap (map (least_at items)) (take_more order k 0 l)
     ∙ map-append (least_at items) (take k order) (n ∷ [])
     ∙ ap (λ z. map (least_at items) (take k order) ++ z ∷ []) (ap least_in there ∙ ap (λ (i : Item). i.least) e)

@@ -7,14 +7,14 @@ use Rattle.flow_model.specs.Ready.{DirectlyBefore, isolated_parts}
 use Rattle.flow_model.specs.Circle.{items_of, item_of}
 use Rattle.flow_laws.specs.Words.{IsOrdered}
 use Rattle.flow_laws.proofs.ReadyRuns.{direct_other}
-use Rattle.flow_laws.proofs.CircleParts.{joined_items}
+use Rattle.flow_laws.proofs.GoalParts.{joined_items}
 use Rattle.flow_excise.specs.declared.item.Item.{Item}
 use Rattle.flow_excise.specs.Rows.{AreApart}
 use Rattle.flow_excise.specs.Items.{IsLaid, IsItemOf, AreItemsOf, AddsItems, IsPieceOf}
 use Rattle.flow_excise.specs.ItemMarks.{CanClose}
 use Rattle.flow_excise.proofs.ItemLemmas.{same_length, are_apart, tells_circle}
 use Rattle.flow_excise.proofs.LaidLemmas.{part_item}
-use Rattle.flow_laws.proofs.ListLemmas2.{mem_append_left, mem_append_right}
+use Rattle.flow_laws.proofs.Members.{mem_append_left, mem_append_right}
 
 -- the goal is made of two sides
 pub record IsJoin (whole a b : Process) : Type 0 where

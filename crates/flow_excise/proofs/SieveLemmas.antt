@@ -6,7 +6,7 @@ use Rattle.flow_model.specs.Lists.{◌∈◌}
 use Rattle.flow_model.specs.Process.{Process, Empty}
 use Rattle.flow_model.specs.Ways.{Normal, ways}
 use Rattle.flow_model.specs.Resolution.{ChoiceOption, resolutions}
-use Rattle.flow_laws.proofs.ListLemmas2.{mem-flat_map, some_same}
+use Rattle.flow_laws.proofs.MadeLists.{mem-flat_map, some_same}
 use Rattle.flow_goal.specs.Labelled.{Labelled}
 use Rattle.flow_rules.specs.declared.order_set.OrderSet.{OrderSet}
 use Rattle.flow_rules.specs.WayLists.{is_none, pairs_of}

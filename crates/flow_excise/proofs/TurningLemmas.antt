@@ -4,10 +4,9 @@ use Rattle.std.proofs.lemmas.List.{take-append-drop, map-append, take-map, drop-
 use Rattle.flow_model.specs.Lists.{◌∈◌, Each, AreDistinct}
 use Rattle.flow_model.specs.Process.{Process}
 use Rattle.flow_model.specs.Circle.{items_of, ItemBefore, LeadsBackTo, IsRing, least_of, BeginsWithLeast}
-use Rattle.flow_laws.proofs.ListLemmas1.{distinct_left, distinct_right, distinct_apart, distinct_append, each_at}
+use Rattle.flow_laws.proofs.Members.{distinct_left, distinct_right, distinct_apart, distinct-append, each_member, mem_append_left, mem_append_right, mem-append, each_from_members}
 use Rattle.flow_excise.specs.Items.{IsPartCircle}
 use Rattle.flow_excise.specs.Turned.{IsTurned}
-use Rattle.flow_laws.proofs.ListLemmas2.{mem_append_left, mem_append_right, mem-append, each_from_members}
 use Rattle.flow_plan.proofs.PlaceLemmas.{place_of_member}
 
 -- members by places
@@ -45,7 +44,7 @@ module _ (q : Process) (pairs : List (ℕ × ℕ)) where
 
 turned_distinct : {A : Type 0} (front back : List A) → AreDistinct (front ++ back) → AreDistinct (back ++ front)
 turned_distinct front back d =
-    distinct_append back front (distinct_right front back d) (distinct_left front back d) (λ x h k. distinct_apart front back d x k h)
+    distinct-append back front (distinct_right front back d) (distinct_left front back d) (λ x h k. distinct_apart front back d x k h)
 
 -- a ring of items, written and turned, is a circle
 pub circle_from_ring : (q : Process) (pairs : List (ℕ × ℕ)) (part : Process) (ring : List (List ℕ)) (circle : List ℕ) →
@@ -58,7 +57,7 @@ circle_from_ring q pairs part ring circle items distinct two closed t =
     record {
       ring = drop t.place ring ++ take t.place ring;
       items = each_from_members (λ item. item ∈ items_of part) (drop t.place ring ++ take t.place ring)
-          (λ item m. each_at (λ i. i ∈ items_of part) ring item items (mem_turned t.place ring item m));
+          (λ item m. each_member (λ i. i ∈ items_of part) ring items item (mem_turned t.place ring item m));
       distinct = turned_distinct (take t.place ring) (drop t.place ring) (subst AreDistinct (sym whole) distinct);
       two = omega (arith, length-append (drop t.place ring) (take t.place ring));
       closed = turn q pairs (take t.place ring) (drop t.place ring) (subst (IsRing q pairs) (sym whole) closed);

@@ -15,7 +15,7 @@ use Rattle.flow_expand.specs.Waiting.{NumberStep, AreSteps, name_at}
 use Rattle.flow_expand.proofs.Members.{mem_left, mem_right, mem_either, mem_at, get_map}
 use Rattle.flow_expand.proofs.Declarations.{in_flows}
 use Rattle.flow_expand.proofs.SettleLemmas.{steps_more, flow_at}
-use Rattle.flow_laws.proofs.ListLemmas2.{of_map}
+use Rattle.flow_laws.proofs.MadeLists.{of_map}
 
 -- names and numbers
 

@@ -8,8 +8,8 @@ use Rattle.flow_form.specs.Names.{names_in, declared_names, event_names, flow_go
 use Rattle.flow_expand.specs.Steps.{flows_of, flow_names}
 use Rattle.flow_expand.specs.Waiting.{AreDeclared}
 use Rattle.flow_expand.proofs.Members.{mem_left, mem_right, mem_at}
-use Rattle.flow_laws.proofs.ListLemmas1.{each_at}
-use Rattle.flow_laws.proofs.ListLemmas2.{mem-flat_map}
+use Rattle.flow_laws.proofs.Members.{each_member}
+use Rattle.flow_laws.proofs.MadeLists.{mem-flat_map}
 
 pub flow_declared : (decls : List Declared) (n : List ℕ) → n ∈ flow_names decls → n ∈ declared_names decls
 flow_declared [] n m = m
@@ -85,11 +85,11 @@ in_flows (flow k t ∷ ds) n s (inr m) = inr (in_flows ds n s m)
 -- each name of a goal was declared
 pub goals_declared : (s : Said) → IsClosed s → AreDeclared s.decls
 goals_declared s h k n t at m used =
-    each_at (λ x. x ∈ declared_names s.decls) (flat_map names_in (goals_of s)) m h.in_goals
+    each_member (λ x. x ∈ declared_names s.decls) (flat_map names_in (goals_of s)) h.in_goals m
     (mem-flat_map names_in t m (goals_of s)
     (mem_left t (flat_map flow_goal s.decls) (s.goal ∷ []) (mem-flat_map flow_goal (flow n t) t s.decls (in_flows s.decls n t (mem_at (flows_of s.decls) k (n, t) at)) (inl refl))) used)
 
 pub goal_declared : (s : Said) → IsClosed s → (m : List ℕ) → m ∈ names_in s.goal → m ∈ declared_names s.decls
 goal_declared s h m used =
-    each_at (λ x. x ∈ declared_names s.decls) (flat_map names_in (goals_of s)) m h.in_goals
+    each_member (λ x. x ∈ declared_names s.decls) (flat_map names_in (goals_of s)) h.in_goals m
     (mem-flat_map names_in s.goal m (goals_of s) (mem_right s.goal (flat_map flow_goal s.decls) (s.goal ∷ []) (inl refl)) used)

@@ -7,7 +7,7 @@ use Rattle.std.specs.List.{flat_map, list_any}
 use Rattle.std.proofs.lemmas.Option.{slice_get-map}
 use Rattle.flow_model.specs.Lists.{◌∈◌}
 pub use Rattle.flow_model.proofs.Lists.{mem-slice_get as mem_at, slice_get_append_left as get_left}
-pub use Rattle.flow_laws.proofs.ListLemmas2.{mem_append_left as mem_left, mem_append_right as mem_right, mem-append as mem_either}
+pub use Rattle.flow_laws.proofs.Members.{mem_append_left as mem_left, mem_append_right as mem_right, mem-append as mem_either}
 
 pub get_end : {A : Type 0} (xs ys : List A) (y : A) → slice_get (xs ++ y ∷ ys) (length xs) ≡ Some y
 get_end [] ys y = refl

@@ -3,7 +3,7 @@ use Rattle.std.proofs.Common.{◌≡◌, ℕ, zero, suc, ◌+◌, ◌<◌, List,
 use Rattle.std.specs.List.{flat_map}
 use Rattle.flow_model.specs.Lists.{Each}
 use Rattle.flow_model.specs.Constraint.{all_of}
-use Rattle.flow_laws.proofs.ListLemmas2.{each_parts}
+use Rattle.flow_laws.proofs.Members.{each_parts}
 use Rattle.flow_form.specs.declared.rule_form.RuleForm as form
 use Rattle.flow_form.specs.declared.rule_form.RuleForm.{RuleForm}
 use Rattle.flow_form.specs.declared.rule_form.RuleForm.TheOpen as open_rule

@@ -7,7 +7,8 @@ use Rattle.flow_model.specs.Resolution.{resolutions}
 use Rattle.flow_model.specs.Constraint.{Meets}
 use Rattle.flow_model.specs.Decided.{Decided, decide_in}
 use Rattle.flow_model.specs.Schema.{IsGood}
-use Rattle.flow_laws.proofs.ListLemmas2.{numbers_from_below, each_to}
+use Rattle.flow_laws.proofs.Members.{each_to}
+use Rattle.flow_laws.proofs.MadeLists.{numbers_from_below}
 use Rattle.flow_laws.proofs.ResolutionsLemmas.{resolves_of, choice_free_resolution, goal_trace, mem-leaves_of_goal}
 use Rattle.flow_goal.proofs.Rising.{Rises, resolution_rises}
 use Rattle.flow_form.specs.Names.{event_names}

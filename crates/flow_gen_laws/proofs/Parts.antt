@@ -3,7 +3,7 @@ use Rattle.std.proofs.Common.{◌≡◌, ℕ, zero, suc, ◌+◌, ◌*◌, ◌%�
 use Rattle.std.specs.List.{flat_map}
 use Rattle.flow_model.specs.declared.labels.Note.TheVariants.{Done}
 use Rattle.flow_model.specs.Lists.{◌∈◌, Each, numbers_from}
-use Rattle.flow_laws.proofs.ListLemmas2.{mem-map}
+use Rattle.flow_laws.proofs.MadeLists.{mem-map}
 use Rattle.flow_form.specs.Form.{Shape, named, iso}
 use Rattle.flow_form.specs.RuleForm.{RuleShape, IsGroupedRule}
 use Rattle.flow_form.specs.Script.{event}

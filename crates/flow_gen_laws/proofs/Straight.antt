@@ -6,7 +6,7 @@ use Rattle.flow_model.specs.Process.{Process, Empty, Task, Sequence, Parallel, C
 use Rattle.flow_model.specs.Trace.{as_one, Trace}
 use Rattle.flow_model.specs.Resolution.{resolutions}
 use Rattle.flow_laws.specs.Resolutions.{Resolves}
-use Rattle.flow_laws.proofs.ListLemmas2.{joined-append}
+use Rattle.flow_laws.proofs.MadeLists.{joined-append}
 use Rattle.flow_laws.proofs.TraceLeaves.{joined-as_one}
 use Rattle.flow_laws.proofs.ResolutionsLemmas.{mem-resolutions}
 use Rattle.flow_goal.proofs.Rising.{Rises}

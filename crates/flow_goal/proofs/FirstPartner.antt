@@ -6,7 +6,7 @@ use Rattle.std.proofs.lemmas.List.Folds.{find-append}
 use Rattle.flow_model.specs.Lists.{◌∈◌, numbers_from}
 use Rattle.flow_model.specs.Process.{Process, Empty, Task, Sequence, Parallel, Choice, Isolated, leaves}
 use Rattle.flow_laws.specs.Events.{AreTogether}
-use Rattle.flow_laws.proofs.ListLemmas2.{mem_append_left, mem_append_right, mem-append}
+use Rattle.flow_laws.proofs.Members.{mem_append_left, mem_append_right, mem-append}
 use Rattle.flow_goal.specs.declared.partners.Partner.{Partner}
 use Rattle.flow_goal.specs.declared.partners.Partner.TheVariants.{Outside, Alone, With}
 use Rattle.flow_goal.specs.Partners.{partner_in, in_both, in_either}

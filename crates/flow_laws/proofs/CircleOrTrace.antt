@@ -7,13 +7,12 @@ use Rattle.flow_model.specs.Circle.{items_of, least_of, IsCircle}
 use Rattle.flow_laws.specs.Words.{IsOrdered}
 use Rattle.flow_laws.specs.ReadyRuns.{ReadyRunsExtend}
 use Rattle.flow_laws.specs.Circles.{TraceOrCircle}
-use Rattle.flow_laws.proofs.ListLemmas1.{mem_with, split_at}
-use Rattle.flow_laws.proofs.ReadyOrders.{trace_of_ordering}
+use Rattle.flow_laws.proofs.Members.{mem_with, split_at, mem_append_left, mem_append_right, each_from_members}
+use Rattle.flow_laws.proofs.Orderings.{trace_of_ordering}
 use Rattle.flow_laws.proofs.ReadyRuns.{run_grow, arrangement_of, complete_arranged}
 use Rattle.flow_laws.proofs.CircleExcludes.{circle_excludes}
 use Rattle.flow_laws.proofs.CircleRing.{ring_among, ring_from_least}
 use Rattle.flow_laws.proofs.CircleSearch.{some_or_all, IsUnfinished, IsTangle, goes_on}
-use Rattle.flow_laws.proofs.ListLemmas2.{mem_append_left, mem_append_right, each_from_members}
 
 -- items that wait for each other hold a circle
 pub circle_of_tangle : (q : Process) (pairs : List (ℕ × ℕ)) (run : List ℕ) (part : Process) → IsTangle q pairs run part → (circle : List ℕ) × IsCircle q pairs circle

@@ -4,8 +4,7 @@ use Rattle.std.proofs.lemmas.Bool.{cases_lt}
 use Rattle.flow_model.specs.Lists.{◌∈◌, Each, AreDistinct}
 use Rattle.flow_model.specs.Process.{Process}
 use Rattle.flow_model.specs.Circle.{ItemBefore, LeadsBackTo, IsRing, least_of, BeginsWithLeast}
-use Rattle.flow_laws.proofs.ListLemmas1.{decide_mem, decide_list_eq, mem_here, mem_with, mem_without, split_at, distinct_left, distinct_right, distinct_apart, distinct_append, not_elsewhere}
-use Rattle.flow_laws.proofs.ListLemmas2.{mem_append_left, mem_append_right, mem-append}
+use Rattle.flow_laws.proofs.Members.{decide_mem, decide_list_eq, mem_with, split_at, distinct_left, distinct_swap, mem_swap, mem_append_left}
 
 -- two or more distinct items among these, in a ring
 pub record RingAmong (q : Process) (pairs : List (ℕ × ℕ)) (items : List (List ℕ)) (ring : List (List ℕ)) : Type 0 where
@@ -115,19 +114,6 @@ each_least : (bound : ℕ) (list : List (List ℕ)) → ((z : List ℕ) → z �
 each_least bound [] f = tt
 each_least bound (x ∷ list) f = (f x (inl refl), each_least bound list (λ z m. f z (inr m)))
 
-turned_distinct : {A : Type 0} (front : List A) (item : A) (back : List A) → AreDistinct (front ++ item ∷ back) → AreDistinct (item ∷ (back ++ front))
-turned_distinct front item back d =
-    let alone = not_elsewhere front back item d in (
-      λ m. ⊎_elim alone.1 alone.0 (mem-append item back front m),
-      distinct_append back front (distinct_right front (item ∷ back) d).1 (distinct_left front (item ∷ back) d)
-          (λ x h k. distinct_apart front (item ∷ back) d x k (inr h)),
-    )
-
-turned_member : {A : Type 0} (front : List A) (item : A) (back : List A) (x : A) → x ∈ (item ∷ (back ++ front)) → x ∈ (front ++ item ∷ back)
-turned_member front item back x (inl e) = subst (λ z. z ∈ (front ++ item ∷ back)) (sym e) (mem_here item front back)
-turned_member front item back x (inr m) =
-    mem_without x item front back (⊎_elim (λ k. mem_append_right x front back k) (λ k. mem_append_left x front back k) (mem-append x back front m))
-
 -- a ring that begins with the item of the least leaf
 pub ring_from_least : (q : Process) (pairs : List (ℕ × ℕ)) (items ring : List (List ℕ)) → RingAmong q pairs items ring →
     (turned : List (List ℕ)) × RingAmong q pairs items turned × BeginsWithLeast (map least_of turned)
@@ -140,11 +126,11 @@ ring_from_least q pairs items (x ∷ ring) r =
     from : (front back : List (List ℕ)) (item : List ℕ) → x ∷ ring ≡ front ++ item ∷ back → ((z : List ℕ) → z ∈ (x ∷ ring) → least_of item ≤ least_of z) →
         (turned : List (List ℕ)) × RingAmong q pairs items turned × BeginsWithLeast (map least_of turned)
     from front back item e least =
-        let old = λ (i : List ℕ) (k : i ∈ (item ∷ (back ++ front))). subst (λ z. i ∈ z) (sym e) (turned_member front item back i k) in (
+        let old = λ (i : List ℕ) (k : i ∈ (item ∷ (back ++ front))). subst (λ z. i ∈ z) (sym e) (mem_swap i (item ∷ back) front k) in (
           item ∷ (back ++ front),
           record {
             members = λ i k. r.members i (old i k);
-            distinct = turned_distinct front item back (subst AreDistinct e r.distinct);
+            distinct = distinct_swap front (item ∷ back) (subst AreDistinct e r.distinct);
             two = omega (arith, r.two, ap length e, length-append front (item ∷ back), length-append back front);
             closed = turn_to q pairs front item back (subst (IsRing q pairs) e r.closed);
           },

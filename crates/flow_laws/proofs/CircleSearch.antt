@@ -5,11 +5,9 @@ use Rattle.flow_model.specs.Process.{Process, Empty, Task, Sequence, Parallel, C
 use Rattle.flow_model.specs.Ready.{InSequence, DirectlyBefore, isolated_parts, IsReady, IsReadyRun}
 use Rattle.flow_model.specs.Circle.{items_of, ItemBefore}
 use Rattle.flow_laws.specs.Words.{IsOrdered}
-use Rattle.flow_laws.proofs.ListLemmas1.{Decided, decide_eq, decide_in, decide_mem, decide_not, decide_both, decide_either, decide_some, find_member, first_member, last_of}
-use Rattle.flow_laws.proofs.ReadyRemains.{part_within}
+use Rattle.flow_laws.proofs.Members.{Decided, decide_eq, decide_in, decide_mem, decide_not, decide_both, decide_either, decide_some, find_member, first_member, last_of, mem_append_left, mem-append}
+use Rattle.flow_laws.proofs.GoalParts.{part_within, regions, IsWithin, region_within, part_of_region, nested, goal_size, part_smaller, item_kind, item_has, item_within, item_having, part_or_region, case_of}
 use Rattle.flow_laws.proofs.ReadyRuns.{direct_first, direct_other, ready_at}
-use Rattle.flow_laws.proofs.CircleParts.{regions, IsWithin, region_within, part_of_region, nested, goal_size, part_smaller, item_kind, item_has, item_within, item_having, part_or_region}
-use Rattle.flow_laws.proofs.ListLemmas2.{mem_append_left, mem-append}
 
 -- decisions
 
@@ -82,7 +80,7 @@ module _ (q : Process) (pairs : List (ℕ × ℕ)) (w : IsOrdered q pairs) (run 
     where
       at : (front : List ℕ) × (last : ℕ) × (run ≡ front ++ last ∷ []) → IsWithin one two ⊎ IsWithin two one
       at (front, last, e) = ⊎_elim (λ k. inl (region_within two one k)) (λ k. inr (region_within one two k))
-          (nested q one two last w.distinct m l (has one m c) (has two l d))
+          (nested (case_of q) one two last w.distinct m l (has one m c) (has two l d))
         where
           in_front : (x : ℕ) → x ∈ run → x ≢ last → x ∈ front
           in_front x k n = ⊎_elim (λ h. h) (⊎_elim (λ h. absurd (n h)) absurd) (mem-append x front (last ∷ []) (subst (λ z. x ∈ z) e k))
@@ -109,7 +107,7 @@ module _ (q : Process) (pairs : List (ℕ × ℕ)) (w : IsOrdered q pairs) (run 
       at (inr n) (part, r) =
           (part, record { is_part = r.is_part; within = λ other m c. ⊎_elim (λ e. absurd (n (subst (IsCaught run) e c))) (λ k. r.within other k c) m })
       at (inl c) (part, r) = ⊎_elim
-          (λ e. inner (λ x h. subst (λ z. x ∈ leaves z) (sym e) (part_within q p x (f p (inl refl)) h)))
+          (λ e. inner (λ x h. subst (λ z. x ∈ leaves z) (sym e) (part_within (case_of q) p x (f p (inl refl)) h)))
           (λ h. ⊎_elim keep inner (caught_nested part p h.0 (f p (inl refl)) h.1 c))
           r.is_part
         where
@@ -204,7 +202,7 @@ module _ (q : Process) (pairs : List (ℕ × ℕ)) (w : IsOrdered q pairs) (run 
   part_free part r inner m k u n = record {
     is_part = inr (part_of_region q part inner r.is_part m);
     unfinished = u;
-    within = λ other i c x h. r.within other i c x (part_within part inner x m h);
+    within = λ other i c x h. r.within other i c x (part_within (case_of part) inner x m h);
     around = λ other i h. item_open part r (leaves inner) k n other i h;
   }
 
@@ -241,13 +239,13 @@ module _ (q : Process) (pairs : List (ℕ × ℕ)) (w : IsOrdered q pairs) (run 
           inl (single.0, leaf_ready part r single.0 (subst (λ z. z ∈ items_of part) single.1 m) (λ h. u'.2 (subst (λ z. z ∈ run) (sym is) h)) (subst (λ z. ¬ (IsBlocked part z)) single.1 n)))
           (λ whole. down whole.0 whole.1
           (part_free part r whole.0 whole.1 (subst (λ z. z ∈ items_of part) whole.2 m) (subst (IsUnfinished run) whole.2 u) (subst (λ z. ¬ (IsBlocked part z)) whole.2 n)))
-          (item_kind part item m)
+          (item_kind (case_of part) item m)
 
   -- down the parts
   descend : (k : ℕ) (part : Process) → IsFree part → goal_size part ≤ k →
       ((n : ℕ) × IsReady q pairs (λ x. x ∈ run) n) ⊎ ((tangled : Process) × IsTangle q pairs run tangled)
-  descend zero part r s = step part r (λ inner m f. absurd (omega (arith, part_smaller part inner m)))
-  descend (suc k) part r s = step part r (λ inner m f. descend k inner f (omega (arith, part_smaller part inner m)))
+  descend zero part r s = step part r (λ inner m f. absurd (omega (arith, part_smaller (case_of part) inner m)))
+  descend (suc k) part r s = step part r (λ inner m f. descend k inner f (omega (arith, part_smaller (case_of part) inner m)))
 
   -- a leaf may come next, or there is a tangle
   pub goes_on : IsUnfinished run (leaves q) → ((n : ℕ) × IsReady q pairs (λ x. x ∈ run) n) ⊎ ((tangled : Process) × IsTangle q pairs run tangled)

@@ -8,7 +8,8 @@ use Rattle.flow_model.specs.Resolution.{ChoiceOption, OptionTrace, options}
 use Rattle.flow_model.specs.Run.{Claim, RunState, first_state, state_of, current_claims, current_leaves, database, IsFree, CanTake, CanDoAside, IsLegal, IsStuck}
 use Rattle.flow_laws.specs.Words.{IsWellFormed, IsConsistent}
 use Rattle.flow_laws.specs.Histories.{IsSound, NeverWaits}
-use Rattle.flow_laws.proofs.ListLemmas2.{mem_append_right, order_of_none, order_of_one, numbers_from_below}
+use Rattle.flow_laws.proofs.Members.{mem_append_right}
+use Rattle.flow_laws.proofs.MadeLists.{order_of_none, order_of_one, numbers_from_below}
 use Rattle.flow_laws.proofs.TraceLeaves.{leaf_of_trace}
 use Rattle.flow_laws.proofs.RunLemmas.{always_holds}
 use Rattle.flow_laws.proofs.SoundStates.{first_is_kept, kept_from}

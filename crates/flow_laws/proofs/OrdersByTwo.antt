@@ -5,9 +5,9 @@ use Rattle.flow_model.specs.Process.{Process}
 use Rattle.flow_model.specs.Ready.{IsReady, DoneOr, IsReadyRunAfter}
 use Rattle.flow_laws.specs.Words.{EachTwo}
 use Rattle.flow_laws.specs.Orders.{AreSideBySide, PairsSufficeForOrders}
-use Rattle.flow_laws.proofs.ListLemmas1.{mem_here, mem_without, each_at, split_at, order_member}
+use Rattle.flow_laws.proofs.Members.{mem_here, mem_without, each_member, split_at, each_from_members}
+use Rattle.flow_laws.proofs.MadeLists.{order_member, same_order}
 use Rattle.flow_laws.proofs.ReadyRuns.{run_of}
-use Rattle.flow_laws.proofs.ListLemmas2.{each_from_members, same_order}
 
 -- each two members of a list
 
@@ -25,9 +25,9 @@ pub each_two_out : {A : Type 0} (R : A → A → Type 0) (front : List A) (y : A
 each_two_out R [] y back h = h
 each_two_out R (x ∷ front) y back h =
     let r = each_two_out R front y back h.1 in
-    let k = each_at (λ z. R x z × R z x) (front ++ y ∷ back) y h.0 (mem_here y front back) in (
+    let k = each_member (λ z. R x z × R z x) (front ++ y ∷ back) h.0 y (mem_here y front back) in (
       ((k.1, k.0), r.0),
-      (each_from_members (λ z. R x z × R z x) (front ++ back) (λ z m. each_at (λ u. R x u × R u x) (front ++ y ∷ back) z h.0 (mem_without z y front back m)), r.1),
+      (each_from_members (λ z. R x z × R z x) (front ++ back) (λ z m. each_member (λ u. R x u × R u x) (front ++ y ∷ back) h.0 z (mem_without z y front back m)), r.1),
     )
 
 -- the order does not matter
@@ -35,14 +35,14 @@ pub each_two_order : {A : Type 0} (R : A → A → Type 0) (order list : List A)
 each_two_order R [] list o h = tt
 each_two_order R (y ∷ order) list o h =
     let k = each_two_out R o.0 y o.1 (subst (EachTwo R) o.2 h) in (
-      each_from_members (λ z. R y z × R z y) order (λ z m. each_at (λ u. R y u × R u y) (o.0 ++ o.1) z k.0 (order_member z order (o.0 ++ o.1) o.3 m)),
+      each_from_members (λ z. R y z × R z y) order (λ z m. each_member (λ u. R y u × R u y) (o.0 ++ o.1) k.0 z (order_member z order (o.0 ++ o.1) o.3 m)),
       each_two_order R order (o.0 ++ o.1) o.3 k.1,
     )
 
 pub each_two_at : {A : Type 0} (R : A → A → Type 0) (front : List A) (n : A) (back : List A) → EachTwo R (front ++ n ∷ back) → (x : A) → x ∈ front → R x n
 each_two_at R [] n back h x m = absurd m
 each_two_at R (y ∷ front) n back h x (inl e) =
-    subst (λ z. R z n) (sym e) (each_at (λ z. R y z × R z y) (front ++ n ∷ back) n h.0 (mem_here n front back)).0
+    subst (λ z. R z n) (sym e) (each_member (λ z. R y z × R z y) (front ++ n ∷ back) h.0 n (mem_here n front back)).0
 each_two_at R (y ∷ front) n back h x (inr m) = each_two_at R front n back h.1 x m
 
 -- orders that begin with two members
@@ -97,7 +97,7 @@ module _ (q : Process) (pairs : List (ℕ × ℕ)) (Done : ℕ → Type 0) where
       run_of q pairs Done order (λ front n back e.
       let there = order_member n order list o (subst (λ l. n ∈ l) (sym e) (mem_here n front back)) in
       let two' = subst (EachTwo (λ x y. IsReady q pairs (DoneOr Done (x ∷ [])) y)) e two in
-      ready_after_all front n (each_at (IsReady q pairs Done) list n s.each there)
+      ready_after_all front n (each_member (IsReady q pairs Done) list s.each n there)
       (each_two_at (λ x y. IsReady q pairs (DoneOr Done (x ∷ [])) y) front n back two'))
 
 pub pairs_suffice_for_orders : PairsSufficeForOrders

@@ -1,7 +1,7 @@
 use Rattle.std.proofs.Common.{ℕ, ◌↔◌, ◌<◌, IsTrue, List, Some, ◌≡◌, slice_get, length, subst, sym, ap, ◌∙◌, arith}
 use Rattle.flow_model.specs.Process as process
 use Rattle.flow_model.specs.Lists.{◌∈◌, Each}
-use Rattle.flow_laws.proofs.ListLemmas2.{each_member}
+use Rattle.flow_laws.proofs.Members.{each_member}
 use Rattle.flow_plan.specs.Planned.{Planned, planned}
 use Rattle.flow_plan.specs.Progress.{IsDone, bound_of}
 use Rattle.flow_plan.specs.Orders.{IsFree}

@@ -1,31 +1,15 @@
--- Facts on lists in the words of the model: members, fronts, orders.
-use Rattle.std.proofs.Common.{◌≡◌, ℕ, zero, suc, ◌+◌, ◌*◌, ◌<◌, ◌≤◌, ◌⊎◌, List, [], ◌∷◌, ◌++◌, map, length, refl, sym, ap, ◌∙◌, subst, inl, inr, append_assoc, append-nil, flat_map, arith, slice_get, Some, None, option_map, zero-add, suc-add, zero-mul, length-append, le_of_eq, Bool, true, false, cond, find, ◌≢◌, Option, filter_map, filter}
+-- Lists made of others: mapped, joined, filtered, numbered, reordered.
+use Rattle.std.proofs.Common.{◌≡◌, ◌≢◌, ℕ, zero, suc, ◌+◌, ◌*◌, ◌<◌, ◌≤◌, ◌⊎◌, List, [], ◌∷◌, ◌++◌, map, length, refl, sym, ap, ◌∙◌, subst, inl, inr, ⊎_elim, append_assoc, append-nil, flat_map, arith, slice_get, Option, Some, None, option_map, zero-add, suc-add, zero-mul, length-append, le_of_eq, Bool, true, find, filter_map, filter, true≢false}
 use Rattle.std.specs.List.{cons_option}
+use Rattle.std.proofs.lemmas.Bool.{cases_Bool}
 use Rattle.std.proofs.lemmas.List.{length-map}
 use Rattle.std.proofs.lemmas.Option.{slice_get-map}
-pub use Rattle.flow_model.specs.Decided.{cons_same, not_empty, order_of_none}
-pub use Rattle.flow_model.proofs.Lists.{each-append, each_parts, slice_get_append_left}
 use Rattle.flow_model.specs.Lists.{◌∈◌, Each, AreDistinct, Begins, StandsBefore, IsOrderOf, joined, numbers_from, each_with_each}
+pub use Rattle.flow_model.specs.Decided.{order_of_none}
+pub use Rattle.flow_model.proofs.Lists.{slice_get_append_left}
+use Rattle.flow_laws.proofs.Members.{mem_append_left, mem_append_right, mem-append, mem_without, distinct_apart, distinct_right, cons_same, not_empty}
 
--- Members
-
-pub mem_append_left : {A : Type 0} (x : A) (a b : List A) → x ∈ a → x ∈ (a ++ b)
-mem_append_left x [] b h = absurd h
-mem_append_left x (y ∷ a) b (inl e) = inl e
-mem_append_left x (y ∷ a) b (inr h) = inr (mem_append_left x a b h)
-
-pub mem_append_right : {A : Type 0} (x : A) (a b : List A) → x ∈ b → x ∈ (a ++ b)
-mem_append_right x [] b h = h
-mem_append_right x (y ∷ a) b h = inr (mem_append_right x a b h)
-
-pub mem-append : {A : Type 0} (x : A) (a b : List A) → x ∈ (a ++ b) → (x ∈ a) ⊎ (x ∈ b)
-mem-append x [] b h = inr h
-mem-append x (y ∷ a) b (inl e) = inl (inl e)
-mem-append {A} x (y ∷ a) b (inr h) = step (mem-append x a b h)
-  where
-    step : (x ∈ a) ⊎ (x ∈ b) → (x ∈ (y ∷ a)) ⊎ (x ∈ b)
-    step (inl m) = inl (inr m)
-    step (inr m) = inr m
+-- Mapped
 
 pub mem-map : {A B : Type 0} (f : A → B) (x : A) (xs : List A) → x ∈ xs → f x ∈ map f xs
 mem-map f x [] h = absurd h
@@ -92,71 +76,34 @@ slice_get-each_with_each f (z ∷ xs) ys (suc i) j x y e k =
     ∙ (slice_get_append_right (map (f z) ys) _ (i * length ys + j)
     ∙ slice_get-each_with_each f xs ys i j x y e k)
 
--- Lists joined
+-- Joined
 
 pub joined-append : {A : Type 0} (xs ys : List (List A)) → joined (xs ++ ys) ≡ joined xs ++ joined ys
 joined-append [] ys = refl
 joined-append (x ∷ xs) ys = ap (λ w. x ++ w) (joined-append xs ys) ∙ sym (append_assoc x (joined xs) (joined ys))
 
--- of two halves with nothing in common, what is within the whole is within the half
-pub within_left : {A : Type 0} (a b x y u v : List A) → ((n : A) → n ∈ a → ¬ (n ∈ b)) → ((n : A) → n ∈ x → n ∈ a) →
-    ((n : A) → n ∈ v → n ∈ b) → ((n : A) → n ∈ (x ++ y) → n ∈ (u ++ v)) → (n : A) → n ∈ x → n ∈ u
-within_left a b x y u v apart of_a of_b whole n m = elim (mem-append n u v (whole n (mem_append_left n x y m))) [
-  | inl k ↦ k
-  | inr k ↦ absurd (apart n (of_a n m) (of_b n k))
-]
+pub mem_joined : {A : Type 0} (x : A) (list : List (List A)) (item : List A) → item ∈ list → x ∈ item → x ∈ joined list
+mem_joined x [] item m h = absurd m
+mem_joined x (y ∷ list) item (inl e) h = mem_append_left x y (joined list) (subst (λ l. x ∈ l) e h)
+mem_joined x (y ∷ list) item (inr m) h = mem_append_right x y (joined list) (mem_joined x list item m h)
 
-pub within_right : {A : Type 0} (a b x y u v : List A) → ((n : A) → n ∈ a → ¬ (n ∈ b)) → ((n : A) → n ∈ u → n ∈ a) →
-    ((n : A) → n ∈ y → n ∈ b) → ((n : A) → n ∈ (x ++ y) → n ∈ (u ++ v)) → (n : A) → n ∈ y → n ∈ v
-within_right a b x y u v apart of_a of_b whole n m = elim (mem-append n u v (whole n (mem_append_right n x y m))) [
-  | inl k ↦ absurd (apart n (of_a n k) (of_b n m))
-  | inr k ↦ k
-]
+-- the list in which a member of the joined lists stands
+pub list_having : {A : Type 0} (x : A) (list : List (List A)) → x ∈ joined list → (item : List A) × (item ∈ list) × (x ∈ item)
+list_having x [] h = absurd h
+list_having x (y ∷ list) h = ⊎_elim
+    (λ k. (y, inl refl, k))
+    (λ k. let r = list_having x list k in (r.0, inr r.1, r.2))
+    (mem-append x y (joined list) h)
 
--- What each member has
-
-pub each_member : {A : Type 0} (P : A → Type 0) (xs : List A) → Each P xs → (x : A) → x ∈ xs → P x
-each_member P [] h x m = absurd m
-each_member P (y ∷ ys) (h, t) x (inl e) = subst P (sym e) h
-each_member P (y ∷ ys) (h, t) x (inr m) = each_member P ys t x m
-
-pub each_from_members : {A : Type 0} (P : A → Type 0) (xs : List A) → ((x : A) → x ∈ xs → P x) → Each P xs
-each_from_members P [] h = tt
-each_from_members P (y ∷ ys) h = (h y (inl refl), each_from_members P ys (λ x m. h x (inr m)))
-
-pub each_to : {A : Type 0} (P Q : A → Type 0) (xs : List A) → ((x : A) → P x → Q x) → Each P xs → Each Q xs
-each_to P Q [] to h = tt
-each_to P Q (x ∷ xs) to (h, t) = (to x h, each_to P Q xs to t)
-
--- what has Q and passes the test has P
-pub each-filter : {A : Type 0} (P Q : A → Type 0) (p : A → Bool) (xs : List A) → ((x : A) → p x ≡ true → Q x → P x) →
-    Each Q xs → Each P (filter p xs)
-each-filter P Q p [] to h = tt
-each-filter {A} P Q p (x ∷ xs) to (h, t) = step (p x) refl (each-filter P Q p xs to t)
-  where
-    step : (b : Bool) → p x ≡ b → Each P (filter p xs) → Each P (cond b (x ∷ filter p xs) (filter p xs))
-    step true e k = (to x e h, k)
-    step false e k = k
-
--- Distinct members
-
-pub distinct_parts : {A : Type 0} (a b : List A) → AreDistinct (a ++ b) →
-    AreDistinct a × AreDistinct b × ((x : A) → x ∈ a → ¬ (x ∈ b))
-distinct_parts [] b d = (tt, d, λ x h. absurd h)
-distinct_parts {A} (y ∷ a) b (new, d) =
-    let (da, db, apart) = distinct_parts a b d in
-    let out : (x : A) → x ∈ (y ∷ a) → ¬ (x ∈ b) = λ x h k. elim h [
-      | inl e ↦ new (mem_append_right y a b (subst (λ w. w ∈ b) e k))
-      | inr m ↦ apart x m k
-    ] in
-    ((λ h. new (mem_append_left y a b h), da), db, out)
-
-pub distinct-append : {A : Type 0} (a b : List A) → AreDistinct a → AreDistinct b → ((x : A) → x ∈ a → ¬ (x ∈ b)) → AreDistinct (a ++ b)
-distinct-append [] b da db apart = db
-distinct-append (y ∷ a) b (new, da) db apart = (
-  λ h. elim (mem-append y a b h) [ inl m ↦ new m | inr m ↦ apart y (inl refl) m ],
-  distinct-append a b da db (λ x m. apart x (inr m)),
-)
+-- where the joined lists are distinct, two with a common member are one
+pub joined_apart : {A : Type 0} (list : List (List A)) (a b : List A) (x : A) → AreDistinct (joined list) → a ∈ list → b ∈ list → x ∈ a → x ∈ b → a ≡ b
+joined_apart [] a b x d m l h k = absurd m
+joined_apart (y ∷ list) a b x d (inl e) (inl f) h k = e ∙ sym f
+joined_apart (y ∷ list) a b x d (inl e) (inr l) h k =
+    absurd (distinct_apart y (joined list) d x (subst (λ z. x ∈ z) e h) (mem_joined x list b l k))
+joined_apart (y ∷ list) a b x d (inr m) (inl f) h k =
+    absurd (distinct_apart y (joined list) d x (subst (λ z. x ∈ z) f k) (mem_joined x list a m h))
+joined_apart (y ∷ list) a b x d (inr m) (inr l) h k = joined_apart list a b x (distinct_right y (joined list) d) m l h k
 
 -- Numbers in a row
 
@@ -188,119 +135,110 @@ some_same a b e = cc
 
 pub of_find : {A : Type 0} (p : A → Bool) (xs : List A) (x : A) → find p xs ≡ Some x → (x ∈ xs) × (p x ≡ true)
 of_find p [] x e = cc
-of_find {A} p (y ∷ ys) x e = step (p y) refl e (of_find p ys x)
-  where
-    step : (t : Bool) → p y ≡ t → cond t (Some y) (find p ys) ≡ Some x → (find p ys ≡ Some x → (x ∈ ys) × (p x ≡ true)) →
-        (x ∈ (y ∷ ys)) × (p x ≡ true)
-    step true h k rest = let same : y ≡ x = cc in (inl (sym same), subst (λ z. p z ≡ true) same h)
-    step false h k rest = let (m, i) = rest k in (inr m, i)
+of_find p (y ∷ ys) x e = elim (cases_Bool (p y)) [
+  | inl h ↦ (let same = some_same y x (rw h at e) in (inl (sym same), subst (λ z. p z ≡ true) same h))
+  | inr h ↦ (let (m, i) = of_find p ys x (rw h at e) in (inr m, i))
+]
 
 pub not_found : {A : Type 0} (p : A → Bool) (xs : List A) (x : A) → find p xs ≡ None → x ∈ xs → ¬ (p x ≡ true)
 not_found p [] x e m h = m
-not_found {A} p (y ∷ ys) x e m h = step (p y) refl e m (not_found p ys x)
-  where
-    step : (t : Bool) → p y ≡ t → cond t (Some y) (find p ys) ≡ None → x ∈ (y ∷ ys) →
-        (find p ys ≡ None → x ∈ ys → ¬ (p x ≡ true)) → ⊥
-    step true k i l rest = cc
-    step false k i (inl same) rest = let bad : true ≡ false = sym h ∙ (ap p same ∙ k) in cc
-    step false k i (inr l) rest = rest i l h
+not_found p (y ∷ ys) x e m h = elim (cases_Bool (p y)) [
+  | inl k ↦ (let bad = rw k at e in cc)
+  | inr k ↦ ⊎_elim (λ same. true≢false (sym h ∙ (ap p same ∙ k))) (λ l. not_found p ys x (rw k at e) l h) m
+]
 
--- Which stands before which
-
-pub before_members : {A : Type 0} (x y : A) (t : List A) → StandsBefore x y t → (x ∈ t) × (y ∈ t)
-before_members x y [] h = absurd h
-before_members x y (z ∷ t) (inl h) = (inl h.0, inr h.1)
-before_members x y (z ∷ t) (inr h) = let (m, k) = before_members x y t h in (inr m, inr k)
-
-pub not_both_before : {A : Type 0} (x y : A) (t : List A) → AreDistinct t → StandsBefore x y t → ¬ (StandsBefore y x t)
-not_both_before x y [] d h k = h
-not_both_before x y (z ∷ t) (new, d) (inl h) (inl k) = new (subst (λ w. w ∈ t) k.0 h.1)
-not_both_before x y (z ∷ t) (new, d) (inl h) (inr k) = new (subst (λ w. w ∈ t) h.0 (before_members y x t k).1)
-not_both_before x y (z ∷ t) (new, d) (inr h) (inl k) = new (subst (λ w. w ∈ t) k.0 (before_members x y t h).1)
-not_both_before x y (z ∷ t) (new, d) (inr h) (inr k) = not_both_before x y t d h k
+-- what has Q and passes the test has P
+pub each-filter : {A : Type 0} (P Q : A → Type 0) (p : A → Bool) (xs : List A) → ((x : A) → p x ≡ true → Q x → P x) →
+    Each Q xs → Each P (filter p xs)
+each-filter P Q p [] to h = tt
+each-filter P Q p (x ∷ xs) to (h, t) = elim (cases_Bool (p x)) [
+  | inl e ↦ rw e (to x e h, each-filter P Q p xs to t)
+  | inr e ↦ rw e (each-filter P Q p xs to t)
+]
 
 -- What a filter that maps keeps
 
-pub mem-cons_option : {A : Type 0} (o : Option A) (y : A) (ys : List A) → y ∈ ys → y ∈ cons_option o ys
+-- the first member is left out, or is kept as what it maps to
+kept_first : {A B : Type 0} (h : A → Option B) (z : A) (zs : List A) →
+    (filter_map h (z ∷ zs) ≡ filter_map h zs) ⊎ ((w : B) × (h z ≡ Some w) × (filter_map h (z ∷ zs) ≡ w ∷ filter_map h zs))
+kept_first {A} {B} h z zs = step (h z) refl
+  where
+    step : (o : Option B) → h z ≡ o →
+        (filter_map h (z ∷ zs) ≡ filter_map h zs) ⊎ ((w : B) × (h z ≡ Some w) × (filter_map h (z ∷ zs) ≡ w ∷ filter_map h zs))
+    step None k = inl (rw k refl)
+    step (Some w) k = inr (w, k, rw k refl)
+
+mem-cons_option : {A : Type 0} (o : Option A) (y : A) (ys : List A) → y ∈ ys → y ∈ cons_option o ys
 mem-cons_option None y ys h = h
 mem-cons_option (Some x) y ys h = inr h
 
+before-cons_option : {A : Type 0} (o : Option A) (x y : A) (ys : List A) → StandsBefore x y ys → StandsBefore x y (cons_option o ys)
+before-cons_option None x y ys h = h
+before-cons_option (Some w) x y ys h = inr h
+
+distinct_cons_option : {A : Type 0} (o : Option A) (ys : List A) → AreDistinct (cons_option o ys) → AreDistinct ys
+distinct_cons_option None ys d = d
+distinct_cons_option (Some x) ys d = d.1
+
 pub mem-filter_map : {A B : Type 0} (h : A → Option B) (x : A) (y : B) (xs : List A) → x ∈ xs → h x ≡ Some y → y ∈ filter_map h xs
 mem-filter_map h x y [] m k = absurd m
-mem-filter_map h x y (z ∷ zs) (inl e) k =
-    subst (λ o. y ∈ cons_option o (filter_map h zs)) (sym (ap h (sym e) ∙ k)) (inl refl)
+mem-filter_map h x y (z ∷ zs) (inl e) k = rw (ap h (sym e) ∙ k) (inl refl)
 mem-filter_map h x y (z ∷ zs) (inr m) k = mem-cons_option (h z) y (filter_map h zs) (mem-filter_map h x y zs m k)
 
 pub of_filter_map : {A B : Type 0} (h : A → Option B) (y : B) (xs : List A) → y ∈ filter_map h xs → (x : A) × (x ∈ xs) × (h x ≡ Some y)
 of_filter_map h y [] m = absurd m
-of_filter_map {A} {B} h y (z ∷ zs) m = step (h z) refl m (of_filter_map h y zs)
-  where
-    step : (o : Option B) → h z ≡ o → y ∈ cons_option o (filter_map h zs) →
-        (y ∈ filter_map h zs → (x : A) × (x ∈ zs) × (h x ≡ Some y)) → (x : A) × (x ∈ (z ∷ zs)) × (h x ≡ Some y)
-    step None k l rest = let (x, a, b) = rest l in (x, inr a, b)
-    step (Some w) k (inl e) rest = (z, inl refl, k ∙ ap Some (sym e))
-    step (Some w) k (inr l) rest = let (x, a, b) = rest l in (x, inr a, b)
-
-pub before-cons_option : {A : Type 0} (o : Option A) (x y : A) (ys : List A) → StandsBefore x y ys → StandsBefore x y (cons_option o ys)
-before-cons_option None x y ys h = h
-before-cons_option (Some w) x y ys h = inr h
+of_filter_map h y (z ∷ zs) m =
+    let in_rest = λ (l : y ∈ filter_map h zs). let (x, a, b) = of_filter_map h y zs l in let r : (x : _) × (x ∈ (z ∷ zs)) × (h x ≡ Some y) = (x, inr a, b) in r in
+    elim (kept_first h z zs) [
+      | inl e ↦ in_rest (subst (λ l. y ∈ l) e m)
+      | inr (w, k, e) ↦ ⊎_elim (λ f. (z, inl refl, k ∙ ap Some (sym f))) in_rest (subst (λ l. y ∈ l) e m)
+    ]
 
 pub before-filter_map : {A B : Type 0} (h : A → Option B) (x y : A) (a b : B) (t : List A) →
     StandsBefore x y t → h x ≡ Some a → h y ≡ Some b → StandsBefore a b (filter_map h t)
 before-filter_map h x y a b [] s i j = absurd s
-before-filter_map h x y a b (z ∷ t) (inl s) i j =
-    subst (λ o. StandsBefore a b (cons_option o (filter_map h t))) (sym (ap h (sym s.0) ∙ i))
-    (inl (refl, mem-filter_map h y b t s.1 j))
+before-filter_map h x y a b (z ∷ t) (inl s) i j = rw (ap h (sym s.0) ∙ i) (inl (refl, mem-filter_map h y b t s.1 j))
 before-filter_map h x y a b (z ∷ t) (inr s) i j =
     before-cons_option (h z) a b (filter_map h t) (before-filter_map h x y a b t s i j)
 
 pub of_before-filter_map : {A B : Type 0} (h : A → Option B) (a b : B) (t : List A) → StandsBefore a b (filter_map h t) →
     (x : A) × ((y : A) × StandsBefore x y t × (h x ≡ Some a) × (h y ≡ Some b))
 of_before-filter_map h a b [] s = absurd s
-of_before-filter_map {A} {B} h a b (z ∷ t) s = step (h z) refl s (of_before-filter_map h a b t)
-  where
-    step : (o : Option B) → h z ≡ o → StandsBefore a b (cons_option o (filter_map h t)) →
-        (StandsBefore a b (filter_map h t) → (x : A) × ((y : A) × StandsBefore x y t × (h x ≡ Some a) × (h y ≡ Some b))) →
-        (x : A) × ((y : A) × StandsBefore x y (z ∷ t) × (h x ≡ Some a) × (h y ≡ Some b))
-    step None k l rest = let (x, (y, c, i, j)) = rest l in (x, (y, inr c, i, j))
-    step (Some w) k (inl l) rest =
-        let (y, m, j) = of_filter_map h b t l.1 in (z, (y, inl (refl, m), k ∙ ap Some (sym l.0), j))
-    step (Some w) k (inr l) rest = let (x, (y, c, i, j)) = rest l in (x, (y, inr c, i, j))
+of_before-filter_map h a b (z ∷ t) s =
+    let in_rest = λ (l : StandsBefore a b (filter_map h t)). let (x, (y, c, i, j)) = of_before-filter_map h a b t l in
+    let r : (x : _) × ((y : _) × StandsBefore x y (z ∷ t) × (h x ≡ Some a) × (h y ≡ Some b)) = (x, (y, inr c, i, j)) in r in
+    elim (kept_first h z t) [
+      | inl e ↦ in_rest (subst (StandsBefore a b) e s)
+      | inr (w, k, e) ↦ ⊎_elim
+          (λ l. let (y, m, j) = of_filter_map h b t l.1 in (z, (y, inl (refl, m), k ∙ ap Some (sym l.0), j)))
+          in_rest (subst (StandsBefore a b) e s)
+    ]
 
 -- where what it keeps is distinct, two members that map to the same are one
 pub same_source : {A B : Type 0} (h : A → Option B) (t : List A) → AreDistinct (filter_map h t) →
     (x y : A) (a : B) → x ∈ t → y ∈ t → h x ≡ Some a → h y ≡ Some a → x ≡ y
 same_source h [] d x y a m k i j = absurd m
-same_source {A} {B} h (z ∷ t) d x y a m k i j = step (h z) refl d m k (same_source h t)
-  where
-    step : (o : Option B) → h z ≡ o → AreDistinct (cons_option o (filter_map h t)) → x ∈ (z ∷ t) → y ∈ (z ∷ t) →
-        (AreDistinct (filter_map h t) → (x y : A) (a : B) → x ∈ t → y ∈ t → h x ≡ Some a → h y ≡ Some a → x ≡ y) → x ≡ y
-    step o l e (inl p) (inl q) rest = p ∙ sym q
-    step None l e (inr p) (inr q) rest = rest e x y a p q i j
-    step (Some w) l e (inr p) (inr q) rest = rest e.1 x y a p q i j
-    step None l e (inl p) (inr q) rest = let bad : Some a ≡ None = sym i ∙ (ap h p ∙ l) in cc
-    step None l e (inr p) (inl q) rest = let bad : Some a ≡ None = sym j ∙ (ap h q ∙ l) in cc
-    step (Some w) l e (inl p) (inr q) rest =
-        let same : a ≡ w = some_same a w (sym i ∙ (ap h p ∙ l)) in
-        absurd (e.0 (subst (λ v. v ∈ filter_map h t) same (mem-filter_map h y a t q j)))
-    step (Some w) l e (inr p) (inl q) rest =
-        let same : a ≡ w = some_same a w (sym j ∙ (ap h q ∙ l)) in
-        absurd (e.0 (subst (λ v. v ∈ filter_map h t) same (mem-filter_map h x a t p i)))
+same_source h (z ∷ t) d x y a (inl p) (inl q) i j = p ∙ sym q
+same_source h (z ∷ t) d x y a (inl p) (inr q) i j =
+    let d' = rw (ap h (sym p) ∙ i) at d in absurd (d'.0 (mem-filter_map h y a t q j))
+same_source h (z ∷ t) d x y a (inr p) (inl q) i j =
+    let d' = rw (ap h (sym q) ∙ j) at d in absurd (d'.0 (mem-filter_map h x a t p i))
+same_source h (z ∷ t) d x y a (inr p) (inr q) i j = same_source h t (distinct_cons_option (h z) (filter_map h t) d) x y a p q i j
 
 -- where no two different members map to the same, what is kept is distinct
 pub distinct-filter_map : {A B : Type 0} (h : A → Option B) (t : List A) → AreDistinct t →
     ((x y : A) (e : B) → x ∈ t → y ∈ t → x ≢ y → h x ≡ Some e → h y ≢ Some e) → AreDistinct (filter_map h t)
 distinct-filter_map h [] d apart = tt
-distinct-filter_map {A} {B} h (z ∷ t) (new, d) apart =
-    step (h z) refl (distinct-filter_map h t d (λ x y e m k. apart x y e (inr m) (inr k)))
-  where
-    step : (o : Option B) → h z ≡ o → AreDistinct (filter_map h t) → AreDistinct (cons_option o (filter_map h t))
-    step None k rest = rest
-    step (Some e) k rest = (
-      λ m. let (y, l, i) = of_filter_map h e t m in
-          apart z y e (inl refl) (inr l) (λ same. new (subst (λ w. w ∈ t) (sym same) l)) k i,
-      rest,
-    )
+distinct-filter_map h (z ∷ t) (new, d) apart =
+    let rest = distinct-filter_map h t d (λ x y e m k. apart x y e (inr m) (inr k)) in
+    elim (kept_first h z t) [
+      | inl k ↦ subst AreDistinct (sym k) rest
+      | inr (e, k, l) ↦ subst AreDistinct (sym l) (
+        λ m. let (y, n, i) = of_filter_map h e t m in
+            apart z y e (inl refl) (inr n) (λ same. new (subst (λ w. w ∈ t) (sym same) n)) k i,
+        rest,
+      )
+    ]
 
 -- Fronts and orders
 
@@ -321,6 +259,13 @@ order_of_one (y ∷ order) x ([], back, e, h) =
     ap (λ w. y ∷ w) (order_of_none order (subst (IsOrderOf order) (sym none) h)) ∙ ap (λ z. z ∷ []) (sym same)
 order_of_one (y ∷ order) x (z ∷ front, back, e, h) =
     absurd (not_empty front y back (cons_same x z [] (front ++ y ∷ back) e).1)
+
+pub order_member : {A : Type 0} (x : A) (order list : List A) → IsOrderOf order list → x ∈ order → x ∈ list
+order_member x [] list o m = absurd m
+order_member x (y ∷ order) list o (inl e) =
+    subst (λ l. x ∈ l) (sym o.2) (mem_append_right x o.0 (y ∷ o.1) (inl e))
+order_member x (y ∷ order) list o (inr m) =
+    subst (λ l. x ∈ l) (sym o.2) (mem_without x y o.0 o.1 (order_member x order (o.0 ++ o.1) o.3 m))
 
 -- one list cut in two ways: the marked member is in the first half or in the second
 pub two_cuts : {A : Type 0} (a b front : List A) (y : A) (back : List A) → a ++ b ≡ front ++ y ∷ back →

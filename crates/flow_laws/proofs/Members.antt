@@ -1,10 +1,29 @@
--- Lists by their members and the places of these.
+-- Members of lists: what each has, and where they stand.
 use Rattle.std.proofs.Common.{◌≡◌, ◌≢◌, List, [], ◌∷◌, ◌++◌, ◌⊎◌, refl, sym, ap, ◌∙◌, subst, inl, inr, ⊎_elim}
-use Rattle.flow_model.specs.Lists.{◌∈◌, Each, AreDistinct, StandsBefore, IsOrderOf, joined}
-use Rattle.flow_laws.proofs.ListLemmas2.{mem_append_left, mem_append_right, mem-append}
-pub use Rattle.flow_model.specs.Decided.{Decided, decide_eq, decide_list_eq, decide_mem, decide_in, decide_not, decide_both, decide_either, decide_some}
+use Rattle.flow_model.specs.Lists.{◌∈◌, Each, AreDistinct, StandsBefore}
+pub use Rattle.flow_model.specs.Decided.{Decided, decide_eq, decide_list_eq, decide_mem, decide_in, decide_not, decide_both, decide_either, decide_some, cons_same, not_empty}
+pub use Rattle.flow_model.proofs.Lists.{each-append, each_parts}
 
--- members
+pub mem_append_left : {A : Type 0} (x : A) (a b : List A) → x ∈ a → x ∈ (a ++ b)
+mem_append_left x [] b h = absurd h
+mem_append_left x (y ∷ a) b (inl e) = inl e
+mem_append_left x (y ∷ a) b (inr h) = inr (mem_append_left x a b h)
+
+pub mem_append_right : {A : Type 0} (x : A) (a b : List A) → x ∈ b → x ∈ (a ++ b)
+mem_append_right x [] b h = h
+mem_append_right x (y ∷ a) b h = inr (mem_append_right x a b h)
+
+pub mem-append : {A : Type 0} (x : A) (a b : List A) → x ∈ (a ++ b) → (x ∈ a) ⊎ (x ∈ b)
+mem-append x [] b h = inr h
+mem-append x (y ∷ a) b (inl e) = inl (inl e)
+mem-append x (y ∷ a) b (inr h) = ⊎_elim (λ m. inl (inr m)) inr (mem-append x a b h)
+
+pub mem_swap : {A : Type 0} (x : A) (a b : List A) → x ∈ (a ++ b) → x ∈ (b ++ a)
+mem_swap x a b m = ⊎_elim (mem_append_right x b a) (mem_append_left x b a) (mem-append x a b m)
+
+-- members of two lists that go into two lists
+pub mem_both : {A : Type 0} (x : A) (a b c d : List A) → (x ∈ a → x ∈ c) → (x ∈ b → x ∈ d) → x ∈ (a ++ b) → x ∈ (c ++ d)
+mem_both x a b c d f g m = ⊎_elim (λ k. mem_append_left x c d (f k)) (λ k. mem_append_right x c d (g k)) (mem-append x a b m)
 
 -- the member in the middle
 pub mem_here : {A : Type 0} (x : A) (a b : List A) → x ∈ (a ++ x ∷ b)
@@ -19,9 +38,6 @@ pub mem_with : {A : Type 0} (x y : A) (a b : List A) → x ∈ (a ++ y ∷ b) �
 mem_with x y a b h =
     ⊎_elim (λ k. inr (mem_append_left x a b k)) (⊎_elim inl (λ k. inr (mem_append_right x a b k))) (mem-append x a (y ∷ b) h)
 
-pub no_member : {A : Type 0} (x : A) (list : List A) → list ≡ [] → ¬ (x ∈ list)
-no_member x list e h = subst (λ l. x ∈ l) e h
-
 pub no_members : {A : Type 0} (list : List A) → ((x : A) → ¬ (x ∈ list)) → list ≡ []
 no_members [] h = refl
 no_members (x ∷ list) h = absurd (h x (inl refl))
@@ -32,22 +48,25 @@ split_at x [] h = absurd h
 split_at x (y ∷ list) (inl e) = ([], list, ap (λ z. z ∷ list) (sym e))
 split_at x (y ∷ list) (inr h) = let s = split_at x list h in (y ∷ s.0, s.1, ap (λ l. y ∷ l) s.2)
 
-pub each_at : {A : Type 0} (P : A → Type 0) (list : List A) (x : A) → Each P list → x ∈ list → P x
-each_at P [] x h m = absurd m
-each_at P (y ∷ list) x h (inl e) = subst P (sym e) h.0
-each_at P (y ∷ list) x h (inr m) = each_at P list x h.1 m
+-- what each member has
+
+pub each_member : {A : Type 0} (P : A → Type 0) (xs : List A) → Each P xs → (x : A) → x ∈ xs → P x
+each_member P [] h x m = absurd m
+each_member P (y ∷ ys) (h, t) x (inl e) = subst P (sym e) h
+each_member P (y ∷ ys) (h, t) x (inr m) = each_member P ys t x m
+
+pub each_from_members : {A : Type 0} (P : A → Type 0) (xs : List A) → ((x : A) → x ∈ xs → P x) → Each P xs
+each_from_members P [] h = tt
+each_from_members P (y ∷ ys) h = (h y (inl refl), each_from_members P ys (λ x m. h x (inr m)))
+
+pub each_to : {A : Type 0} (P Q : A → Type 0) (xs : List A) → ((x : A) → P x → Q x) → Each P xs → Each Q xs
+each_to P Q [] to h = tt
+each_to P Q (x ∷ xs) to (h, t) = (to x h, each_to P Q xs to t)
 
 -- a member with P is found, or each member lacks it
 pub find_member : {A : Type 0} (P : A → Type 0) → ((x : A) → Decided (P x)) → (list : List A) →
     ((x : A) × (x ∈ list) × P x) ⊎ ((x : A) → x ∈ list → ¬ (P x))
-find_member P d [] = inr (λ x m. absurd m)
-find_member {A} P d (y ∷ list) = at (d y) (find_member P d list)
-  where
-    at : Decided (P y) → ((x : A) × (x ∈ list) × P x) ⊎ ((x : A) → x ∈ list → ¬ (P x)) →
-        ((x : A) × (x ∈ (y ∷ list)) × P x) ⊎ ((x : A) → x ∈ (y ∷ list) → ¬ (P x))
-    at (inl p) r = inl (y, inl refl, p)
-    at (inr n) (inl r) = inl (r.0, inr r.1, r.2)
-    at (inr n) (inr r) = inr (λ x m. ⊎_elim (λ e. λ p. n (subst P e p)) (r x) m)
+find_member P d list = ⊎_elim inl (λ n. inr (λ x m p. n (x, m, p))) (decide_some P d list)
 
 -- the first member with P, and where it stands
 pub record First {A : Type 0} (P : A → Type 0) (list : List A) : Type 0 where
@@ -101,21 +120,27 @@ distinct_apart [] b d x h k = h
 distinct_apart (y ∷ a) b d x (inl e) k = d.0 (mem_append_right y a b (subst (λ z. z ∈ b) e k))
 distinct_apart (y ∷ a) b d x (inr h) k = distinct_apart a b d.1 x h k
 
-pub distinct_append : {A : Type 0} (a b : List A) → AreDistinct a → AreDistinct b → Apart a b → AreDistinct (a ++ b)
-distinct_append [] b d e f = e
-distinct_append (x ∷ a) b d e f =
-    (λ h. ⊎_elim d.0 (f x (inl refl)) (mem-append x a b h), distinct_append a b d.1 e (λ y k. f y (inr k)))
+pub distinct-append : {A : Type 0} (a b : List A) → AreDistinct a → AreDistinct b → Apart a b → AreDistinct (a ++ b)
+distinct-append [] b d e f = e
+distinct-append (x ∷ a) b d e f =
+    (λ h. ⊎_elim d.0 (f x (inl refl)) (mem-append x a b h), distinct-append a b d.1 e (λ y k. f y (inr k)))
+
+pub distinct_parts : {A : Type 0} (a b : List A) → AreDistinct (a ++ b) → AreDistinct a × AreDistinct b × Apart a b
+distinct_parts a b d = (distinct_left a b d, distinct_right a b d, distinct_apart a b d)
+
+pub distinct_swap : {A : Type 0} (a b : List A) → AreDistinct (a ++ b) → AreDistinct (b ++ a)
+distinct_swap a b d = distinct-append b a (distinct_right a b d) (distinct_left a b d) (λ x h k. distinct_apart a b d x k h)
 
 -- the member in the middle stands nowhere else
 pub not_elsewhere : {A : Type 0} (a b : List A) (x : A) → AreDistinct (a ++ x ∷ b) → ¬ (x ∈ a) × ¬ (x ∈ b)
 not_elsewhere a b x d = (λ h. distinct_apart a (x ∷ b) d x h (inl refl), (distinct_right a (x ∷ b) d).0)
 
--- who stands before whom
+-- which stands before which
 
-pub before_second : {A : Type 0} (x y : A) (list : List A) → StandsBefore x y list → y ∈ list
-before_second x y [] h = h
-before_second x y (z ∷ list) (inl h) = inr h.1
-before_second x y (z ∷ list) (inr h) = inr (before_second x y list h)
+pub before_members : {A : Type 0} (x y : A) (t : List A) → StandsBefore x y t → (x ∈ t) × (y ∈ t)
+before_members x y [] h = absurd h
+before_members x y (z ∷ t) (inl h) = (inl h.0, inr h.1)
+before_members x y (z ∷ t) (inr h) = let (m, k) = before_members x y t h in (inr m, inr k)
 
 pub before_across : {A : Type 0} (x y : A) (a b : List A) → x ∈ a → y ∈ b → StandsBefore x y (a ++ b)
 before_across x y [] b h k = absurd h
@@ -143,8 +168,8 @@ not_before_itself x (z ∷ list) d (inr h) = not_before_itself x list d.1 h
 pub before_trans : {A : Type 0} (x y z : A) (list : List A) → AreDistinct list → StandsBefore x y list → StandsBefore y z list → StandsBefore x z list
 before_trans x y z [] d h k = h
 before_trans x y z (u ∷ list) d (inl h) (inl k) = inl (h.0, k.1)
-before_trans x y z (u ∷ list) d (inl h) (inr k) = inl (h.0, before_second y z list k)
-before_trans x y z (u ∷ list) d (inr h) (inl k) = absurd (d.0 (subst (λ v. v ∈ list) k.0 (before_second x y list h)))
+before_trans x y z (u ∷ list) d (inl h) (inr k) = inl (h.0, (before_members y z list k).1)
+before_trans x y z (u ∷ list) d (inr h) (inl k) = absurd (d.0 (subst (λ v. v ∈ list) k.0 (before_members x y list h).1))
 before_trans x y z (u ∷ list) d (inr h) (inr k) = inr (before_trans x y z list d.1 h k)
 
 -- not both ways
@@ -154,38 +179,6 @@ not_both_ways x y list d h k = not_before_itself x list d (before_trans x y x li
 -- what stands before the member in the middle is in the front
 pub in_front : {A : Type 0} (x y : A) (a b : List A) → AreDistinct (a ++ y ∷ b) → StandsBefore x y (a ++ y ∷ b) → x ∈ a
 in_front x y [] b d (inl h) = absurd (d.0 h.1)
-in_front x y [] b d (inr h) = absurd (d.0 (before_second x y b h))
+in_front x y [] b d (inr h) = absurd (d.0 (before_members x y b h).1)
 in_front x y (z ∷ a) b d (inl h) = inl h.0
 in_front x y (z ∷ a) b d (inr h) = inr (in_front x y a b d.1 h)
-
--- orders
-
-pub order_member : {A : Type 0} (x : A) (order list : List A) → IsOrderOf order list → x ∈ order → x ∈ list
-order_member x [] list o m = absurd m
-order_member x (y ∷ order) list o (inl e) =
-    subst (λ l. x ∈ l) (sym o.2) (mem_append_right x o.0 (y ∷ o.1) (inl e))
-order_member x (y ∷ order) list o (inr m) =
-    subst (λ l. x ∈ l) (sym o.2) (mem_without x y o.0 o.1 (order_member x order (o.0 ++ o.1) o.3 m))
-
-pub mem_joined : {A : Type 0} (x : A) (list : List (List A)) (item : List A) → item ∈ list → x ∈ item → x ∈ joined list
-mem_joined x [] item m h = absurd m
-mem_joined x (y ∷ list) item (inl e) h = mem_append_left x y (joined list) (subst (λ l. x ∈ l) e h)
-mem_joined x (y ∷ list) item (inr m) h = mem_append_right x y (joined list) (mem_joined x list item m h)
-
--- the list in which a member of the joined lists stands
-pub list_having : {A : Type 0} (x : A) (list : List (List A)) → x ∈ joined list → (item : List A) × (item ∈ list) × (x ∈ item)
-list_having x [] h = absurd h
-list_having x (y ∷ list) h = ⊎_elim
-    (λ k. (y, inl refl, k))
-    (λ k. let r = list_having x list k in (r.0, inr r.1, r.2))
-    (mem-append x y (joined list) h)
-
--- where the joined lists are distinct, two with a common member are one
-pub joined_apart : {A : Type 0} (list : List (List A)) (a b : List A) (x : A) → AreDistinct (joined list) → a ∈ list → b ∈ list → x ∈ a → x ∈ b → a ≡ b
-joined_apart [] a b x d m l h k = absurd m
-joined_apart (y ∷ list) a b x d (inl e) (inl f) h k = e ∙ sym f
-joined_apart (y ∷ list) a b x d (inl e) (inr l) h k =
-    absurd (distinct_apart y (joined list) d x (subst (λ z. x ∈ z) e h) (mem_joined x list b l k))
-joined_apart (y ∷ list) a b x d (inr m) (inl f) h k =
-    absurd (distinct_apart y (joined list) d x (subst (λ z. x ∈ z) f k) (mem_joined x list a m h))
-joined_apart (y ∷ list) a b x d (inr m) (inr l) h k = joined_apart list a b x (distinct_right y (joined list) d) m l h k
