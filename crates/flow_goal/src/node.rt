@@ -1,5 +1,5 @@
 /// A mark of a goal without choices that is written from left to right.
-#[derive(Clone, Copy, Debug, PartialEq, Eq)]
+#[derive(Clone, Copy)]
 pub enum Node {
     Nop,
     /// The next of the leaves.

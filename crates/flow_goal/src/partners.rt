@@ -9,7 +9,7 @@ use crate::goal::Goal;
 use crate::tree::Tree;
 
 /// The first leaf of an event that may be done in one execution with a leaf, to its right in a goal.
-#[derive(Clone, Copy, Debug, PartialEq, Eq)]
+#[derive(Clone, Copy)]
 pub(crate) enum Partner {
     /// The leaf itself is not in the goal.
     Outside,

@@ -1,7 +1,7 @@
 ghost use Rattle.std.specs.Prelude.{◌≡◌, ◌+◌, ◌<◌, ◌^◌, ◌%◌, ◌/◌};
 
 /// How many resolutions each side of a choice has, or the greatest `u64` where they are more.
-#[derive(Clone, Copy, Debug, PartialEq, Eq)]
+#[derive(Clone, Copy)]
 pub(crate) struct Sides {
     pub(crate) left: u64,
     pub(crate) right: u64,

@@ -5,12 +5,13 @@ ghost use Rattle.flow_goal.specs.Goal.{process_of};
 ghost use Rattle.flow_goal.specs.Numbering;
 
 use crate::goal::Goal;
+use crate::shape::{Shape, shaped};
 use flow_model::Label;
 use std::alloc::{AllocError, Global};
 use std::marker::Model;
 
 /// Why a goal and labels make no tree.
-#[derive(Clone, Copy, Debug, PartialEq, Eq)]
+#[derive(Clone, Copy)]
 pub enum TreeRefusal {
     /// The leaves from left to right are not numbered 0, 1, .. below the number of labels.
     Numbering,
@@ -85,11 +86,12 @@ impl Tree {
     }
 
     /// The same tree in memory of its own.
+    #[tactic(auto, using(crate::proofs::Skeletons::whole_is_same))]
     pub fn copy(&self, alloc: Global) -> Result<Tree, AllocError>
         ensures { IfOk result (λ tree. tree ≡ self.now) }
     {
-        let goal = self.goal.copy(alloc)?;
         let labels = Vec::from_slice(alloc, &self.labels)?;
+        let goal = shaped(alloc, Shape::Whole, &self.goal)?;
         Ok(Tree { goal, labels })
     }
 

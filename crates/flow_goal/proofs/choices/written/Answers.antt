@@ -1,6 +1,6 @@
 use Rattle.flow_goal.specs.Goal.{process_of}
 use Rattle.flow_goal.proofs.Writing.{written_whole}
-use Rattle.flow_goal.proofs.choices.Choices.written.Goals as goal
+use Rattle.flow_goal.proofs.choices.written.Goals as goal
 
 pub returns : goal.returns
 returns c =
