@@ -199,6 +199,9 @@ simplified (Parallel a b) free =
 simplified (Choice a b) free = absurd free
 simplified (Isolated a) free = simplified_isolated a (shaped Simple a) (simplified a free)
 
+pub simplified_as : {g old new : Process} → old ≡ g → IsChoiceFree g → new ≡ shaped Simple old → IsSimplified g new
+simplified_as {g} e free is = subst (IsSimplified g) (sym (is ∙ ap (shaped Simple) e)) (simplified g free)
+
 -- the executions are the same
 pub same_traces : (old new : Process) → IsSimplified old new → (t : List ℕ) → Trace new t ↔ Trace old t
 same_traces old new s t = ((λ (v, h, e). (v, (s.same v).0 h, e)), (λ (v, h, e). (v, (s.same v).1 h, e)))

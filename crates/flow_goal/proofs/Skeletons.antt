@@ -88,7 +88,12 @@ same_sides (Task n) = refl
 same_sides (Sequence a b) = sides_of_both (shaped Bare a) (shaped Bare b) ∙ (λ i. same_sides a i ++ same_sides b i)
 same_sides (Parallel a b) = sides_of_both (shaped Bare a) (shaped Bare b) ∙ (λ i. same_sides a i ++ same_sides b i)
 same_sides (Choice a b) = λ i. same_sides a i ++ same_sides b i
-    ++ record { left = min (same_count a i) (2 ^ 64 - 1); right = min (same_count b i) (2 ^ 64 - 1) } ∷ []
+    ++ record {
+      left = min (same_count a i) (2 ^ 64 - 1);
+      right = min (same_count b i) (2 ^ 64 - 1);
+      left_choices = length (same_sides a i);
+      right_choices = length (same_sides b i);
+    } ∷ []
 same_sides (Isolated a) = same_sides a
 
 -- a resolution with the same leaves

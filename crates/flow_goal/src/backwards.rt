@@ -4,7 +4,7 @@ ghost use Rattle.std.specs.Option.{option_to_list};
 ghost use Rattle.flow_goal.specs.Backwards.{Puts};
 
 use crate::node::Node;
-use std::alloc::{AllocError, Global};
+use std::alloc::AllocError;
 
 /// The marks around two goals that both stay.
 #[derive(Clone, Copy)]
@@ -36,17 +36,6 @@ pub(crate) struct Backwards {
 }
 
 impl Backwards {
-    /// Nothing is written yet.
-    pub(crate) fn new(alloc: Global) -> Backwards
-        ensures nodes { result.nodes.items ≡ [] }
-        ensures leaves { result.leaves.items ≡ [] }
-    {
-        Backwards {
-            nodes: Vec::new(alloc),
-            leaves: Vec::new(alloc),
-        }
-    }
-
     pub(crate) fn put(&mut self, node: Node) -> Result<(), AllocError>
         ensures { OnOk result (Puts (node ∷ []) [] self.old self.new) }
     {

@@ -1,9 +1,10 @@
-ghost use Rattle.std.specs.Prelude.{◌≡◌, ◌-◌, ◌^◌, ◌<◌, ◌+◌, ◌*◌, ◌++◌, ◌/◌, min, IfOk, OnOk, slice_get};
+ghost use Rattle.std.specs.Prelude.{◌≡◌, ◌-◌, ◌^◌, ◌<◌, ◌+◌, ◌*◌, ◌++◌, ◌/◌, min, List, length, IfOk, OnOk, slice_get};
 ghost use Rattle.std.specs.List.Sorted.{IsStrictlyIncreasing};
 ghost use Rattle.flow_model.specs.Resolution;
 ghost use Rattle.flow_model.specs.Process;
 ghost use Rattle.flow_goal.specs.Goal.{process_of};
-ghost use Rattle.flow_goal.specs.Sides.{Ends, IsTaken, kept_count, sides_in, sides_of_choice};
+ghost use Rattle.flow_goal.specs.declared.sides.Sides.{Sides};
+ghost use Rattle.flow_goal.specs.Sides.{Ends, IsTaken, kept_count, sides_in};
 ghost use Rattle.flow_goal.specs.Choices.{AreChoicesOf};
 ghost use Rattle.flow_goal.specs.Backwards.{IsBackwardsOf, PutsBoth, PutsEither, PutsResolution};
 
@@ -51,33 +52,28 @@ fn count_sides(goal: &Goal, list: &mut Vec<Sides>) -> Result<u64, AllocError>
             Ok(first.saturating_mul(second))
         }
         Goal::Either(left, right) => {
+            let start = list.len();
             let left = count_sides(left, list)?;
+            let middle = list.len();
             let right = count_sides(right, list)?;
-            list.push(Sides { left, right })?;
+            list.push(Sides {
+                left,
+                right,
+                left_choices: middle - start,
+                right_choices: list.len() - middle,
+            })?;
             Ok(left.saturating_add(right))
         }
         Goal::Iso(part) => count_sides(part, list),
     }
 }
 
-/// Takes what belongs to the choices of a goal from the end of the list.
-fn skip(goal: &Goal, list: &mut Vec<Sides>)
-    requires { Ends list.old.items (sides_in (process_of goal.now)) }
-    ensures { IsTaken list.old.items (sides_in (process_of goal.now)) list.new.items }
+/// Takes so many choices from the end of the list.
+fn skip(count: usize, list: &mut Vec<Sides>)
+    requires { (back : List Sides) × Ends list.old.items back × (count ≡ length back) }
+    ensures { (back : List Sides) → count ≡ length back → IsTaken list.old.items back list.new.items }
 {
-    match goal {
-        Goal::Nop | Goal::Leaf(_) => {}
-        Goal::Serial(left, right) | Goal::Beside(left, right) => {
-            skip(right, list);
-            skip(left, list);
-        }
-        Goal::Either(left, right) => {
-            let Some(_) = list.pop() else { unreachable!() };
-            skip(right, list);
-            skip(left, list);
-        }
-        Goal::Iso(part) => skip(part, list),
-    }
+    list.truncate(list.len() - count);
 }
 
 /// Writes a resolution of two parts that both stay, with the marks around them.
@@ -114,11 +110,11 @@ fn write_either(
     out: &mut Backwards,
 ) -> Result<(), AllocError>
     requires exact { Resolution.resolution_count (process_of left.now) + Resolution.resolution_count (process_of right.now) < 2 ^ 64 - 1 }
-    requires listed { Ends sides.old.items (sides_of_choice (process_of left.now) (process_of right.now)) }
+    requires listed { Ends sides.old.items (sides_in (Process.Choice (process_of left.now) (process_of right.now))) }
     ensures written { OnOk result (PutsEither (process_of left.now) (process_of right.now) number.old out.old out.new) }
     ensures rest { OnOk result (number.new ≡
         number.old / (Resolution.resolution_count (process_of left.now) + Resolution.resolution_count (process_of right.now))) }
-    ensures sides { OnOk result (IsTaken sides.old.items (sides_of_choice (process_of left.now) (process_of right.now)) sides.new.items) }
+    ensures sides { OnOk result (IsTaken sides.old.items (sides_in (Process.Choice (process_of left.now) (process_of right.now))) sides.new.items) }
 {
     let Some(both) = sides.pop() else {
         unreachable!()
@@ -127,10 +123,10 @@ fn write_either(
     if both.left <= within {
         within -= both.left;
         write(right, &mut within, sides, out)?;
-        skip(left, sides);
+        skip(both.left_choices, sides);
         Ok(())
     } else {
-        skip(right, sides);
+        skip(both.right_choices, sides);
         write(left, &mut within, sides, out)
     }
 }
@@ -178,7 +174,10 @@ fn written(
 {
     let mut sides = Vec::from_slice(alloc, sides)?;
     let mut rest = number;
-    let mut out = Backwards::new(alloc);
+    let mut out = Backwards {
+        nodes: Vec::new(alloc),
+        leaves: Vec::new(alloc),
+    };
     write(goal, &mut rest, &mut sides, &mut out)?;
     Ok(out)
 }

@@ -36,30 +36,23 @@ pub(crate) fn together(
 ) -> Result<Goal, AllocError>
     ensures { IfOk result (λ goal. process_of goal ≡ together operator (process_of left) (process_of right)) }
 {
-    let (left, right) = boxes(alloc, left, right)?;
+    let left = match Box::new(alloc, left) {
+        Ok(left) => left,
+        Err(refused) => {
+            drop(right);
+            return Err(refused.into());
+        }
+    };
+    let right = match Box::new(alloc, right) {
+        Ok(right) => right,
+        Err(refused) => {
+            drop(left);
+            return Err(refused.into());
+        }
+    };
     match operator {
         Operator::Serial => Ok(Goal::Serial(left, right)),
         Operator::Beside => Ok(Goal::Beside(left, right)),
         Operator::Either => Ok(Goal::Either(left, right)),
-    }
-}
-
-/// Each of the two goals in a box.
-fn boxes(alloc: Global, left: Goal, right: Goal) -> Result<(Box<Goal>, Box<Goal>), AllocError>
-    ensures left { IfOk result (λ two. two.0.value ≡ left) }
-    ensures right { IfOk result (λ two. two.1.value ≡ right) }
-{
-    match Box::new(alloc, left) {
-        Ok(left) => match Box::new(alloc, right) {
-            Ok(right) => Ok((left, right)),
-            Err(refused) => {
-                drop(left);
-                Err(refused.into())
-            }
-        },
-        Err(refused) => {
-            drop(right);
-            Err(refused.into())
-        }
     }
 }

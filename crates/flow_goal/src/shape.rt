@@ -16,16 +16,6 @@ pub(crate) enum Shape {
     Bare,
 }
 
-fn is_empty(goal: &Goal) -> bool
-    ensures { result ≡ Shapes.is_empty (process_of goal.now) }
-{
-    match goal {
-        Goal::Nop => true,
-        Goal::Leaf(_) | Goal::Serial(..) | Goal::Beside(..) | Goal::Either(..) | Goal::Iso(_) =>
-            false,
-    }
-}
-
 /// Whether the isolation of the goal says something.
 fn is_several(goal: &Goal) -> bool
     ensures { result ≡ Shapes.is_several (process_of goal.now) }
@@ -41,25 +31,23 @@ impl Shape {
     fn leaves_out(self, operator: Operator, goal: &Goal) -> bool
         ensures { result ≡ Shapes.leaves_out self operator (process_of goal.now) }
     {
-        match self {
+        let may = match self {
             Shape::Whole => false,
             Shape::Simple | Shape::Bare => match operator {
-                Operator::Serial | Operator::Beside => is_empty(goal),
+                Operator::Serial | Operator::Beside => true,
                 Operator::Either => false,
             },
-        }
+        };
+        may && matches!(goal, Goal::Nop)
     }
 
-    /// What joins two goals in place of the operator.
-    fn operator(self, operator: Operator) -> Operator
-        ensures { result ≡ Shapes.operator_in self operator }
+    /// What joins two goals that are beside one another.
+    fn beside(self) -> Operator
+        ensures { result ≡ Shapes.beside self }
     {
         match self {
-            Shape::Whole | Shape::Simple => operator,
-            Shape::Bare => match operator {
-                Operator::Serial | Operator::Beside => Operator::Serial,
-                Operator::Either => Operator::Either,
-            },
+            Shape::Whole | Shape::Simple => Operator::Beside,
+            Shape::Bare => Operator::Serial,
         }
     }
 
@@ -81,7 +69,7 @@ impl Shape {
             drop(right);
             return Ok(left);
         }
-        together(alloc, self.operator(operator), left, right)
+        together(alloc, operator, left, right)
     }
 
     /// The isolation of a goal of the shape, or the goal where that says nothing.
@@ -132,7 +120,7 @@ pub(crate) fn shaped(alloc: Global, shape: Shape, goal: &Goal) -> Result<Goal, A
         Goal::Nop => Ok(Goal::Nop),
         Goal::Leaf(n) => Ok(Goal::Leaf(*n)),
         Goal::Serial(left, right) => shaped_both(alloc, shape, Operator::Serial, left, right),
-        Goal::Beside(left, right) => shaped_both(alloc, shape, Operator::Beside, left, right),
+        Goal::Beside(left, right) => shaped_both(alloc, shape, shape.beside(), left, right),
         Goal::Either(left, right) => shaped_both(alloc, shape, Operator::Either, left, right),
         Goal::Iso(part) => shape.isolated(alloc, shaped(alloc, shape, part)?),
     }

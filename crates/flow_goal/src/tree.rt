@@ -81,6 +81,7 @@ impl Tree {
         if is_numbered(&goal, count) {
             Ok(Tree { goal, labels })
         } else {
+            drop(goal);
             Err(TreeRefusal::Numbering)
         }
     }
@@ -112,9 +113,9 @@ impl Tree {
     pub(crate) fn event(&self, leaf: u32) -> Option<u32>
         ensures { result ≡ event_at self.now.labels leaf }
     {
-        match self.labels.get(leaf as usize) {
-            Some(Label::Event(event)) => Some(*event),
-            Some(Label::Test(_) | Label::Absent(_) | Label::Ins(_) | Label::Del(_)) | None => None,
+        match self.label(leaf)? {
+            Label::Event(event) => Some(event),
+            Label::Test(_) | Label::Absent(_) | Label::Ins(_) | Label::Del(_) => None,
         }
     }
 

@@ -51,17 +51,17 @@ write_either-write-requires t c =
 pub write_either-skip-requires : goal.write_either-skip-requires
 write_either-skip-requires t c =
     let k : IsChosen (process_of c.args.left.now) (process_of c.args.right.now) _ _ c.in-Some.both = chosen (process_of c.args.left.now) (process_of c.args.right.now) _ _ c.in-Some.both c.requires.exact c.requires.listed c.in-Some.ensures.items in
-    ends_left _ (sides_in (process_of c.args.left.now)) (sides_in (process_of c.args.right.now)) _ k.rest c.in_ok-write.ensures.sides
+    (sides_in (process_of c.args.left.now), ends_left _ (sides_in (process_of c.args.left.now)) (sides_in (process_of c.args.right.now)) _ k.rest c.in_ok-write.ensures.sides, k.left_choices)
 
 pub write_either-skip-requires-else-both-within : goal.write_either-skip-requires-else-both-within
 write_either-skip-requires-else-both-within t c =
     let k : IsChosen (process_of c.args.left.now) (process_of c.args.right.now) _ _ c.in-Some.both = chosen (process_of c.args.left.now) (process_of c.args.right.now) _ _ c.in-Some.both c.requires.exact c.requires.listed c.in-Some.ensures.items in
-    ends_right _ (sides_in (process_of c.args.left.now)) _ k.rest
+    (sides_in (process_of c.args.right.now), ends_right _ (sides_in (process_of c.args.left.now)) _ k.rest, k.right_choices)
 
 pub write_either-write-requires-else-both-within : goal.write_either-write-requires-else-both-within
 write_either-write-requires-else-both-within t c =
     let k : IsChosen (process_of c.args.left.now) (process_of c.args.right.now) _ _ c.in-Some.both = chosen (process_of c.args.left.now) (process_of c.args.right.now) _ _ c.in-Some.both c.requires.exact c.requires.listed c.in-Some.ensures.items in
-    (search rules, ((let lt = c.requires.exact in omega arith), ends_left _ (sides_in (process_of c.args.left.now)) (sides_in (process_of c.args.right.now)) _ k.rest c.skip-else-both-within.ensures))
+    (search rules, ((let lt = c.requires.exact in omega arith), ends_left _ (sides_in (process_of c.args.left.now)) (sides_in (process_of c.args.right.now)) _ k.rest (c.skip-else-both-within.ensures _ k.right_choices)))
 
 pub write_either-returns-in_ok-write-clause-written : goal.write_either-returns-in_ok-write-clause-written
 write_either-returns-in_ok-write-clause-written t c =
@@ -79,7 +79,7 @@ write_either-returns-in_ok-write-clause-rest t c =
 pub write_either-returns-in_ok-write-clause-sides : goal.write_either-returns-in_ok-write-clause-sides
 write_either-returns-in_ok-write-clause-sides t c =
     let k : IsChosen (process_of c.args.left.now) (process_of c.args.right.now) _ _ c.in-Some.both = chosen (process_of c.args.left.now) (process_of c.args.right.now) _ _ c.in-Some.both c.requires.exact c.requires.listed c.in-Some.ensures.items in
-    k.all _ (taken_both _ (sides_in (process_of c.args.left.now)) (sides_in (process_of c.args.right.now)) _ _ c.in_ok-write.ensures.sides c.skip.ensures)
+    k.all _ (taken_both _ (sides_in (process_of c.args.left.now)) (sides_in (process_of c.args.right.now)) _ _ c.in_ok-write.ensures.sides (c.skip.ensures _ k.left_choices))
 
 pub write_either-returns-else-both-within-clause-written : goal.write_either-returns-else-both-within-clause-written
 write_either-returns-else-both-within-clause-written t c =
@@ -98,7 +98,7 @@ pub write_either-returns-else-both-within-clause-sides : goal.write_either-retur
 write_either-returns-else-both-within-clause-sides t c =
     let k : IsChosen (process_of c.args.left.now) (process_of c.args.right.now) _ _ c.in-Some.both = chosen (process_of c.args.left.now) (process_of c.args.right.now) _ _ c.in-Some.both c.requires.exact c.requires.listed c.in-Some.ensures.items in
     ok_taken c.write-else-both-within.result _ _ c.write-else-both-within.ensures.sides
-    (λ h. k.all _ (taken_both _ (sides_in (process_of c.args.left.now)) (sides_in (process_of c.args.right.now)) _ _ c.skip-else-both-within.ensures h))
+    (λ h. k.all _ (taken_both _ (sides_in (process_of c.args.left.now)) (sides_in (process_of c.args.right.now)) _ _ (c.skip-else-both-within.ensures _ k.right_choices) h))
 
 pub write-returns-in-Leaf-clause-written : goal.write-returns-in-Leaf-clause-written
 write-returns-in-Leaf-clause-written t c =
