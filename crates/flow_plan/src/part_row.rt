@@ -8,7 +8,7 @@ ghost use Rattle.flow_plan.specs.Ahead.{IsAhead, IsOutside};
 use leaf_rows::LeafSet;
 
 /// The leaves of an isolated part, and the leaves outside it that are directly before one of them.
-#[derive(Clone, Copy, Debug, PartialEq, Eq)]
+#[derive(Clone, Copy)]
 pub(crate) struct PartRow {
     inside: LeafSet<16>,
     outside: LeafSet<16>,

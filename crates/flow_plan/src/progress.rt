@@ -3,7 +3,7 @@ ghost use Rattle.std.specs.Prelude.{◌≤◌};
 use leaf_rows::LeafSet;
 
 /// Which of so many leaves are done.
-#[derive(Clone, Copy, Debug, PartialEq, Eq)]
+#[derive(Clone, Copy)]
 pub struct Progress {
     bound: u32,
     done: LeafSet<16>,

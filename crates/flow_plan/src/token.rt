@@ -1,5 +1,5 @@
 /// An order between two leaves of a plan: the sender is done before the receiver.
-#[derive(Clone, Copy, Debug, PartialEq, Eq)]
+#[derive(Clone, Copy)]
 pub struct OrderToken {
     pub number: u32,
     /// The leaf that is done first.
