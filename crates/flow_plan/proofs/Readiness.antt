@@ -16,7 +16,8 @@ use Rattle.flow_plan.specs.Rows.{AreRowsOf, has_at}
 use Rattle.flow_plan.specs.Parts.{ArePartsOf, PartAllows}
 use Rattle.flow_plan.specs.Orders.{IsFree}
 use Rattle.flow_plan.specs.Kept.{IsKept}
-use Rattle.flow_plan.proofs.PlaceLemmas.{member_at, distinct_of_rising}
+use Rattle.flow_plan.proofs.PlaceLemmas.{distinct_of_rising}
+use Rattle.flow_model.proofs.Lists.{mem-slice_get}
 use Rattle.flow_plan.proofs.RowLemmas.{rows_at, rows_get, rows_length}
 
 -- ---- a new plan
@@ -65,7 +66,7 @@ Ready p Done n = IsReady p.process (pairs_of p.tokens) Done n
 pub free_by_row : (p : Planned) (before : List (LeafSet 16)) (parts : List PartRow) (D : ℕ → Type 0) (k n : ℕ) → IsKept p before parts →
     slice_get p.leaves k ≡ Some n → ¬ D n → ((x : ℕ) → IsTrue (has_at before k x) → D x) → IsFree p D n
 free_by_row p before parts D k n kept at fresh row_done = record {
-  leaf = subst (λ (l : List ℕ). n ∈ l) kept.listed (member_at p.leaves k n at);
+  leaf = subst (λ (l : List ℕ). n ∈ l) kept.listed (mem-slice_get p.leaves k n at);
   not_done = fresh;
   before = λ x direct. row_done x ((rows_at (DirectlyBefore p.process (pairs_of p.tokens)) p.leaves before k n at kept.rows x).1 direct);
 }

@@ -146,7 +146,12 @@ impl PartRow {
     }
 
     /// Of the leaves those that the part keeps for that use, by the done or the claimed ones.
-    pub(crate) fn keep_for(&self, what: Use, others: &LeafSet<16>, leaves: LeafSet<16>) -> LeafSet<16>
+    pub(crate) fn keep_for(
+        &self,
+        what: Use,
+        others: &LeafSet<16>,
+        leaves: LeafSet<16>,
+    ) -> LeafSet<16>
         ensures { (n : ℕ) → IsTrue (has_leaf result n)
             ↔ (IsTrue (has_leaf leaves n) × Keeps what self.now (λ x. IsTrue (has_leaf others.now x)) n) }
     {

@@ -30,7 +30,12 @@ fn free_row(leaves: &[u32], before: &[LeafSet<16>], done: &Progress) -> LeafSet<
 }
 
 /// Of the leaves those that each part keeps for that use, by the done or the claimed ones.
-fn keep_for(parts: &[PartRow], what: Use, others: &LeafSet<16>, mut leaves: LeafSet<16>) -> LeafSet<16>
+fn keep_for(
+    parts: &[PartRow],
+    what: Use,
+    others: &LeafSet<16>,
+    mut leaves: LeafSet<16>,
+) -> LeafSet<16>
     ensures { (n : ℕ) → IsTrue (has_leaf result n) ↔ (IsTrue (has_leaf leaves n)
         × Each (λ row. Keeps what row (λ x. IsTrue (has_leaf others.now x)) n) parts.now) }
 {

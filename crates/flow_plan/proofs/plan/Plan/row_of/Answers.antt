@@ -3,7 +3,7 @@ use Rattle.leaf_rows.specs.Leaves.{has_leaf}
 use Rattle.flow_model.specs.Lists.{◌∈◌}
 use Rattle.flow_model.specs.Process.{leaves}
 use Rattle.flow_plan.specs.Planned.{Planned, planned}
-use Rattle.flow_plan.proofs.PlaceLemmas.{member_at}
+use Rattle.flow_model.proofs.Lists.{mem-slice_get}
 use Rattle.flow_plan.proofs.Readiness.{Before, before_at_row, before_second, row_within}
 use Rattle.flow_plan.proofs.plan.Plan.row_of.Goals as goal
 
@@ -18,7 +18,7 @@ returns-in-Some-clause-leaf c =
     let at : slice_get c.self.inside.goal.leaves c.in-Some.place ≡ Some c.args.leaf
     = subst (λ (ns : List ℕ). slice_get ns c.in-Some.place ≡ Some c.args.leaf) c.leaves.ensures.leaves c.in-Some.ensures.found in
     subst (λ (p : Planned). c.args.leaf ∈ leaves p.process) c.self.view_is
-    (subst (λ (ns : List ℕ). c.args.leaf ∈ ns) c.self.invariant.listed (member_at c.self.inside.goal.leaves c.in-Some.place c.args.leaf at))
+    (subst (λ (ns : List ℕ). c.args.leaf ∈ ns) c.self.invariant.listed (mem-slice_get c.self.inside.goal.leaves c.in-Some.place c.args.leaf at))
 
 pub returns-in-Some-clause-row : goal.returns-in-Some-clause-row
 returns-in-Some-clause-row c =
