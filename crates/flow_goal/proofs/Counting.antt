@@ -1,9 +1,9 @@
 -- The numbers of resolutions.
-use Rattle.std.proofs.Common.{◌≡◌, ◌≤◌, ◌<◌, ℕ, ◌+◌, ◌-◌, ◌*◌, ◌/◌, ◌%◌, List, [], ◌∷◌, ◌++◌, length, refl, sym, ap, ◌∙◌, subst, arith, append_assoc, Option, Some, None, IsSome, true≢false, ◌⊎◌, inl, inr, min, ◌^◌, slice_get, option_map}
-use Rattle.std.specs.Option.{option_to_list}
+use Rattle.std.proofs.Common.{◌≡◌, ◌≤◌, ◌<◌, ℕ, ◌+◌, ◌-◌, ◌*◌, ◌/◌, ◌%◌, List, [], ◌∷◌, ◌++◌, length, take, refl, sym, ap, ◌∙◌, subst, arith, append_assoc, Some, ◌⊎◌, inl, inr, min, ◌^◌, slice_get, option_map}
 use Rattle.std.proofs.lemmas.Bool.{cases_lt}
 use Rattle.std.proofs.lemmas.List.{length-append}
 use Rattle.std.proofs.Math.Arith.{mod-mul}
+use Rattle.std.proofs.Math.Seq.{take-append_seam}
 use Rattle.std.proofs.Math.Nat.{min-eq_left, min-eq_right, div-div-eq-div-mul, mod-eq_of_lt, mod-lt, le-mul_of_pos_right, mul_comm}
 use Rattle.std.proofs.lemmas.Option.{slice_get-map}
 use Rattle.flow_model.specs.Lists.{each_with_each}
@@ -12,7 +12,7 @@ use Rattle.flow_model.specs.Resolution.{resolutions, resolution_count}
 use Rattle.flow_laws.proofs.ResolutionsLemmas.{number_of_both, number_of_right}
 use Rattle.flow_laws.proofs.MadeLists.{slice_get_append_left}
 use Rattle.flow_goal.specs.declared.sides.Sides.{Sides}
-use Rattle.flow_goal.specs.Sides.{Ends, IsOf, IsOfBoth, IsOfEither, IsTaken, kept_count, sides_in, sides_of_choice}
+use Rattle.flow_goal.specs.Sides.{Ends, IsOf, IsOfBoth, IsOfEither, IsTaken, kept_count, sides_in}
 
 -- how many goals a goal is made of
 abbrev pub goal_size : Process → ℕ
@@ -116,32 +116,35 @@ last_same {A} (z ∷ xs) (w ∷ ys) x y e =
     let r : (xs ≡ ys) × (x ≡ y) = last_same xs ys x y tails in
     ((λ k. heads k ∷ r.0 k), r.1)
 
-pub popped : {A : Type 0} (list mid : List A) (last : A) (o : Option A) → list ≡ mid ++ option_to_list o → (0 < length list → IsSome o) → IsTaken list (last ∷ []) mid
-popped list mid last (Some x) e some front k = (last_same mid front x last (sym e ∙ k)).0
-popped list mid last None e some front k =
-    absurd (true≢false (sym (some (let h = length-append front (last ∷ []) in let n : length list ≡ length (front ++ last ∷ []) = ap length k in omega arith))))
-
-popped_last : {A : Type 0} (list back mid : List A) (last x : A) → list ≡ mid ++ x ∷ [] → Ends list (back ++ last ∷ []) → x ≡ last
-popped_last list back mid last x e (front, k) = (last_same mid (front ++ back) x last (sym e ∙ k ∙ sym (append_assoc front back (last ∷ [])))).1
+-- so many as the part is long
+pub took : {A : Type 0} (list back : List A) (count : ℕ) → count ≡ length back → IsTaken list back (take (length list - count) list)
+took list back count is front e =
+    let long : length list ≡ length front + length back = ap length e ∙ length-append front back in
+    ap (λ (n : ℕ). take n list) (omega arith) ∙ ap (take (length front)) e ∙ take-append_seam front back
 
 -- what a choice takes from the end of the list
 pub record IsChosen (a b : Process) (list mid : List Sides) (s : Sides) : Type 0 where
   pub left : s.left ≡ resolution_count a
   pub right : s.right ≡ resolution_count b
+  pub left_choices : s.left_choices ≡ length (sides_in a)
+  pub right_choices : s.right_choices ≡ length (sides_in b)
   pub rest : Ends mid (sides_in a ++ sides_in b)
-  pub all : (new : List Sides) → IsTaken mid (sides_in a ++ sides_in b) new → IsTaken list (sides_of_choice a b) new
+  pub all : (new : List Sides) → IsTaken mid (sides_in a ++ sides_in b) new → IsTaken list (sides_in (Choice a b)) new
 
 pub chosen : (a b : Process) (list mid : List Sides) (s : Sides) → resolution_count a + resolution_count b < 2 ^ 64 - 1 →
-    Ends list (sides_of_choice a b) → list ≡ mid ++ s ∷ [] → IsChosen a b list mid s
-chosen a b list mid s below ends e =
-    let last : Sides = record { left = kept_count a; right = kept_count b } in
-    let is : s ≡ last = popped_last list (sides_in a ++ sides_in b) mid last s e ends in
-    let taken : IsTaken list (last ∷ []) mid = popped list mid last (Some s) e (λ _. refl) in
+    Ends list (sides_in (Choice a b)) → list ≡ mid ++ s ∷ [] → IsChosen a b list mid s
+chosen a b list mid s below (front, ends) e =
+    let last : Sides = record { left = kept_count a; right = kept_count b; left_choices = length (sides_in a); right_choices = length (sides_in b) } in
+    let both : (mid ≡ front ++ (sides_in a ++ sides_in b)) × (s ≡ last) =
+    last_same mid (front ++ (sides_in a ++ sides_in b)) s last (sym e ∙ ends ∙ sym (append_assoc front (sides_in a ++ sides_in b) (last ∷ []))) in
+    let taken : IsTaken list (last ∷ []) mid = λ other k. (last_same mid other s last (sym e ∙ k)).0 in
     let le_a : resolution_count a ≤ 2 ^ 64 - 1 = omega arith in
     let le_b : resolution_count b ≤ 2 ^ 64 - 1 = omega arith in
     record {
-      left = ap (λ (t : Sides). t.left) is ∙ min-eq_left le_a;
-      right = ap (λ (t : Sides). t.right) is ∙ min-eq_left le_b;
-      rest = ends_left list (sides_in a ++ sides_in b) (last ∷ []) mid ends taken;
+      left = ap (λ (t : Sides). t.left) both.1 ∙ min-eq_left le_a;
+      right = ap (λ (t : Sides). t.right) both.1 ∙ min-eq_left le_b;
+      left_choices = ap (λ (t : Sides). t.left_choices) both.1;
+      right_choices = ap (λ (t : Sides). t.right_choices) both.1;
+      rest = (front, both.0);
       all = λ new h. taken_both list (sides_in a ++ sides_in b) (last ∷ []) mid new taken h;
     }

@@ -1,9 +1,15 @@
 -- Leaving out what says nothing.
-use Rattle.std.proofs.Common.{◌≡◌, ℕ, Bool, true, false, cond, List, [], ◌∷◌, ◌++◌, ◌↔◌, refl, sym, ap, ◌∙◌, subst, inl, inr, append-nil}
-use Rattle.flow_model.specs.Lists.{joined}
-use Rattle.flow_model.specs.Process.{Process, Empty, Task, Sequence, Parallel, Choice, Isolated, leaves}
-use Rattle.flow_model.specs.Trace.{Blocks, Shuffle, both_end, from_left, from_right, as_one}
-use Rattle.flow_goal.specs.Simple.{IsBusy, IsSimple, IsSimplified, is_empty, both, alone}
+use Rattle.std.proofs.Common.{◌≡◌, ℕ, Bool, true, false, cond, List, [], ◌∷◌, ◌++◌, ◌↔◌, Some, length, map, slice_get, refl, sym, ap, ◌∙◌, subst, inl, inr, append-nil}
+use Rattle.flow_model.specs.Lists.{each_with_each, joined}
+use Rattle.flow_model.specs.Process.{Process, Empty, Task, Sequence, Parallel, Choice, Isolated, IsChoiceFree, leaves}
+use Rattle.std.proofs.lemmas.Option.{same_Some}
+use Rattle.flow_model.specs.Resolution.{resolutions, resolution_count}
+use Rattle.flow_laws.proofs.ResolutionsLemmas.{length-resolutions}
+use Rattle.flow_model.specs.Trace.{Blocks, Shuffle, Trace, both_end, from_left, from_right, as_one}
+use Rattle.flow_goal.specs.declared.shape.Shape.TheVariants.{Simple}
+use Rattle.flow_goal.specs.Shapes.{is_empty, isolated, shaped}
+use Rattle.flow_goal.specs.Sides.{sides_in}
+use Rattle.flow_goal.specs.Simple.{IsBusy, IsSimple, IsSimplified}
 
 abbrev SameBlocks : Process → Process → Type 0
 SameBlocks g h = (blocks : List (List ℕ)) → Blocks g blocks ↔ Blocks h blocks
@@ -92,65 +98,63 @@ when_busy g (inr h) f = h
 
 -- Two parts that both stay
 
-sequence_cases : (a b x y : Process) → IsSimplified a x → IsSimplified b y → (s t : Bool) → is_empty x ≡ s → is_empty y ≡ t →
-    IsSimplified (Sequence a b) (cond s y (cond t x (Sequence x y)))
-sequence_cases a b x y p q true t e f =
-    let none : x ≡ Empty = when_empty x e in
-    record {
-      same = then y (Sequence Empty y) (Sequence a b) (nothing_first y) (same_sequence a b Empty y (subst (λ u. SameBlocks u a) none p.same) q.same);
-      simple = q.simple;
-      leaves_kept = q.leaves_kept ∙ ap (λ u. u ++ leaves b) (sym (ap leaves none) ∙ p.leaves_kept);
-      choice_free = q.choice_free;
-    }
-sequence_cases a b x y p q false true e f =
-    let none : y ≡ Empty = when_empty y f in
-    record {
-      same = then x (Sequence x Empty) (Sequence a b) (nothing_last x) (same_sequence a b x Empty p.same (subst (λ u. SameBlocks u b) none q.same));
-      simple = p.simple;
-      leaves_kept = p.leaves_kept ∙ sym (append-nil (leaves a)) ∙ ap (λ u. leaves a ++ u) (sym (ap leaves none) ∙ q.leaves_kept);
-      choice_free = p.choice_free;
-    }
-sequence_cases a b x y p q false false e f = record {
-  same = same_sequence a b x y p.same q.same;
-  simple = inr (when_busy x p.simple e, when_busy y q.simple f);
-  leaves_kept = ap (λ u. u ++ leaves y) p.leaves_kept ∙ ap (λ u. leaves a ++ u) q.leaves_kept;
-  choice_free = (p.choice_free, q.choice_free);
+-- what makes one goal of two that both stay keeps
+record Keeps (f : Process → Process → Process) : Type 0 where
+  same : (a b x y : Process) → SameBlocks x a → SameBlocks y b → SameBlocks (f x y) (f a b)
+  nothing_first : (b : Process) → SameBlocks b (f Empty b)
+  nothing_last : (a : Process) → SameBlocks a (f a Empty)
+  busy : (a b : Process) → IsBusy a → IsBusy b → IsBusy (f a b)
+  leaves_are : (a b : Process) → leaves (f a b) ≡ leaves a ++ leaves b
+  choice_free : (a b : Process) → IsChoiceFree a → IsChoiceFree b → IsChoiceFree (f a b)
+
+sequence_keeps : Keeps Sequence
+sequence_keeps = record {
+  same = same_sequence;
+  nothing_first = nothing_first;
+  nothing_last = nothing_last;
+  busy = λ a b p q. (p, q);
+  leaves_are = λ a b. refl;
+  choice_free = λ a b p q. (p, q);
 }
 
-pub simplified_sequence : (a b x y : Process) → IsSimplified a x → IsSimplified b y → IsSimplified (Sequence a b) (both Sequence x y)
-simplified_sequence a b x y p q = sequence_cases a b x y p q (is_empty x) (is_empty y) refl refl
-
-parallel_cases : (a b x y : Process) → IsSimplified a x → IsSimplified b y → (s t : Bool) → is_empty x ≡ s → is_empty y ≡ t →
-    IsSimplified (Parallel a b) (cond s y (cond t x (Parallel x y)))
-parallel_cases a b x y p q true t e f =
-    let none : x ≡ Empty = when_empty x e in
-    record {
-      same = then y (Parallel Empty y) (Parallel a b) (nothing_left y) (same_parallel a b Empty y (subst (λ u. SameBlocks u a) none p.same) q.same);
-      simple = q.simple;
-      leaves_kept = q.leaves_kept ∙ ap (λ u. u ++ leaves b) (sym (ap leaves none) ∙ p.leaves_kept);
-      choice_free = q.choice_free;
-    }
-parallel_cases a b x y p q false true e f =
-    let none : y ≡ Empty = when_empty y f in
-    record {
-      same = then x (Parallel x Empty) (Parallel a b) (nothing_right x) (same_parallel a b x Empty p.same (subst (λ u. SameBlocks u b) none q.same));
-      simple = p.simple;
-      leaves_kept = p.leaves_kept ∙ sym (append-nil (leaves a)) ∙ ap (λ u. leaves a ++ u) (sym (ap leaves none) ∙ q.leaves_kept);
-      choice_free = p.choice_free;
-    }
-parallel_cases a b x y p q false false e f = record {
-  same = same_parallel a b x y p.same q.same;
-  simple = inr (when_busy x p.simple e, when_busy y q.simple f);
-  leaves_kept = ap (λ u. u ++ leaves y) p.leaves_kept ∙ ap (λ u. leaves a ++ u) q.leaves_kept;
-  choice_free = (p.choice_free, q.choice_free);
+parallel_keeps : Keeps Parallel
+parallel_keeps = record {
+  same = same_parallel;
+  nothing_first = nothing_left;
+  nothing_last = nothing_right;
+  busy = λ a b p q. (p, q);
+  leaves_are = λ a b. refl;
+  choice_free = λ a b p q. (p, q);
 }
 
-pub simplified_parallel : (a b x y : Process) → IsSimplified a x → IsSimplified b y → IsSimplified (Parallel a b) (both Parallel x y)
-simplified_parallel a b x y p q = parallel_cases a b x y p q (is_empty x) (is_empty y) refl refl
+simplified_both : (f : Process → Process → Process) → Keeps f → (a b x y : Process) → IsSimplified a x → IsSimplified b y →
+    (s t : Bool) → is_empty x ≡ s → is_empty y ≡ t → IsSimplified (f a b) (cond s y (cond t x (f x y)))
+simplified_both f keeps a b x y p q true t e _ =
+    let none : x ≡ Empty = when_empty x e in
+    record {
+      same = then y (f Empty y) (f a b) (keeps.nothing_first y) (keeps.same a b Empty y (subst (λ u. SameBlocks u a) none p.same) q.same);
+      simple = q.simple;
+      leaves_kept = q.leaves_kept ∙ ap (λ u. u ++ leaves b) (sym (ap leaves none) ∙ p.leaves_kept) ∙ sym (keeps.leaves_are a b);
+      choice_free = q.choice_free;
+    }
+simplified_both f keeps a b x y p q false true _ e =
+    let none : y ≡ Empty = when_empty y e in
+    record {
+      same = then x (f x Empty) (f a b) (keeps.nothing_last x) (keeps.same a b x Empty p.same (subst (λ u. SameBlocks u b) none q.same));
+      simple = p.simple;
+      leaves_kept = p.leaves_kept ∙ sym (append-nil (leaves a)) ∙ ap (λ u. leaves a ++ u) (sym (ap leaves none) ∙ q.leaves_kept) ∙ sym (keeps.leaves_are a b);
+      choice_free = p.choice_free;
+    }
+simplified_both f keeps a b x y p q false false e g = record {
+  same = keeps.same a b x y p.same q.same;
+  simple = inr (keeps.busy x y (when_busy x p.simple e) (when_busy y q.simple g));
+  leaves_kept = keeps.leaves_are x y ∙ (λ i. p.leaves_kept i ++ q.leaves_kept i) ∙ sym (keeps.leaves_are a b);
+  choice_free = keeps.choice_free x y p.choice_free q.choice_free;
+}
 
 -- A part alone
 
-pub simplified_isolated : (a x : Process) → IsSimplified a x → IsSimplified (Isolated a) (alone x)
+simplified_isolated : (a x : Process) → IsSimplified a x → IsSimplified (Isolated a) (isolated Simple x)
 simplified_isolated a Empty p = record {
   same = then Empty (Isolated Empty) (Isolated a) isolated_nothing (same_isolated a Empty p.same);
   simple = p.simple;
@@ -182,3 +186,46 @@ simplified_isolated a (Isolated x) p = record {
   leaves_kept = p.leaves_kept;
   choice_free = p.choice_free;
 }
+
+-- The whole
+
+pub simplified : (g : Process) → IsChoiceFree g → IsSimplified g (shaped Simple g)
+simplified Empty free = record { same = λ blocks. ((λ h. h), (λ h. h)); simple = inl refl; leaves_kept = refl; choice_free = tt }
+simplified (Task n) free = record { same = λ blocks. ((λ h. h), (λ h. h)); simple = inr tt; leaves_kept = refl; choice_free = tt }
+simplified (Sequence a b) free =
+    simplified_both Sequence sequence_keeps a b (shaped Simple a) (shaped Simple b) (simplified a free.0) (simplified b free.1) (is_empty (shaped Simple a)) (is_empty (shaped Simple b)) refl refl
+simplified (Parallel a b) free =
+    simplified_both Parallel parallel_keeps a b (shaped Simple a) (shaped Simple b) (simplified a free.0) (simplified b free.1) (is_empty (shaped Simple a)) (is_empty (shaped Simple b)) refl refl
+simplified (Choice a b) free = absurd free
+simplified (Isolated a) free = simplified_isolated a (shaped Simple a) (simplified a free)
+
+pub simplified_as : {g old new : Process} → old ≡ g → IsChoiceFree g → new ≡ shaped Simple old → IsSimplified g new
+simplified_as {g} e free is = subst (IsSimplified g) (sym (is ∙ ap (shaped Simple) e)) (simplified g free)
+
+-- the executions are the same
+pub same_traces : (old new : Process) → IsSimplified old new → (t : List ℕ) → Trace new t ↔ Trace old t
+same_traces old new s t = ((λ (v, h, e). (v, (s.same v).0 h, e)), (λ (v, h, e). (v, (s.same v).1 h, e)))
+
+-- A goal without choices has one resolution, which is the goal, and so no sides
+
+pub only_resolution : (g : Process) → IsChoiceFree g → resolutions g ≡ g ∷ []
+only_resolution Empty free = refl
+only_resolution (Task n) free = refl
+only_resolution (Sequence a b) free = λ i. each_with_each Sequence (only_resolution a free.0 i) (only_resolution b free.1 i)
+only_resolution (Parallel a b) free = λ i. each_with_each Parallel (only_resolution a free.0 i) (only_resolution b free.1 i)
+only_resolution (Choice a b) free = absurd free
+only_resolution (Isolated a) free = ap (map Isolated) (only_resolution a free)
+
+pub no_sides : (g : Process) → IsChoiceFree g → sides_in g ≡ []
+no_sides Empty free = refl
+no_sides (Task n) free = refl
+no_sides (Sequence a b) free = λ i. no_sides a free.0 i ++ no_sides b free.1 i
+no_sides (Parallel a b) free = λ i. no_sides a free.0 i ++ no_sides b free.1 i
+no_sides (Choice a b) free = absurd free
+no_sides (Isolated a) free = no_sides a free
+
+pub only_count : (g : Process) → IsChoiceFree g → resolution_count g ≡ 1
+only_count g free = sym (length-resolutions g) ∙ ap length (only_resolution g free)
+
+pub only_at : (g q : Process) → IsChoiceFree g → slice_get (resolutions g) 0 ≡ Some q → g ≡ q
+only_at g q free at = same_Some g q (sym (ap (λ l. slice_get l 0) (only_resolution g free)) ∙ at)

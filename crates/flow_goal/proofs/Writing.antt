@@ -1,11 +1,13 @@
 -- Resolutions that are written from right to left.
-use Rattle.std.proofs.Common.{◌≡◌, ◌≤◌, ◌<◌, ℕ, ◌+◌, ◌-◌, ◌/◌, ◌%◌, List, [], ◌∷◌, ◌++◌, reverse, sym, ap, ◌∙◌, subst, arith, append_assoc, append-nil, refl, slice_get, Result, Ok, Err, OnOk}
+use Rattle.std.proofs.Common.{◌≡◌, ◌≤◌, ◌<◌, ℕ, ◌+◌, ◌-◌, ◌/◌, ◌%◌, List, [], ◌∷◌, ◌++◌, reverse, sym, ap, ◌∙◌, subst, arith, append_assoc, append-nil, refl, slice_get, Some, None, Result, Ok, Err, OnOk}
 use Rattle.std.proofs.Math.Nat.{mod-eq_of_lt, mod-lt}
 use Rattle.flow_model.specs.Process.{Process, Empty, Task, Sequence, Parallel, Isolated, leaves}
 use Rattle.flow_model.specs.Resolution.{resolution_count, resolutions}
 use Rattle.flow_goal.specs.declared.node.Node.{Node}
 use Rattle.flow_goal.specs.declared.node.Node.TheVariants.{Nop, Leaf, Serial, Fork, Split, Join, Open, Close}
+use Rattle.std.specs.Option.{option_to_list}
 use Rattle.flow_goal.specs.declared.backwards.Backwards.{Backwards}
+use Rattle.flow_goal.specs.declared.backwards.Marks.{Marks}
 use Rattle.flow_goal.specs.Sides.{IsOf}
 use Rattle.flow_goal.specs.Written.{nodes_of}
 use Rattle.flow_goal.specs.Backwards.{Puts, PutsResolution, PutsEither, PutsBoth, IsBackwardsOf}
@@ -40,26 +42,17 @@ written_task n number old new p =
     let below : number % 1 < 1 = mod-lt number some in
     let none : number % 1 ≡ 0 = omega arith in (Task n, ap (slice_get (Task n ∷ [])) none, p)
 
-pub written_sequence : (a b : Process) (number : ℕ) (old mid new : Backwards) → Puts (Serial ∷ []) [] old mid → PutsBoth a b number [] mid new →
-    PutsResolution (Sequence a b) number old new
-written_sequence a b number old mid new p (x, y, is, q) = (
-  Sequence x y,
-  is Sequence,
-  puts_as ((nodes_of x ++ nodes_of y) ++ Serial ∷ []) (nodes_of (Sequence x y)) ((leaves x ++ leaves y) ++ []) (leaves x ++ leaves y) old new
-      (append_assoc (nodes_of x) (nodes_of y) (Serial ∷ [])) (append-nil (leaves x ++ leaves y))
-      (puts_more (Serial ∷ []) (nodes_of x ++ nodes_of y) [] (leaves x ++ leaves y) old mid new p q),
-)
+abbrev pub serial_marks : Marks
+serial_marks = record { first = None; between = None; last = Serial }
 
-pub written_parallel : (a b : Process) (number : ℕ) (old mid new last : Backwards) → Puts (Join ∷ []) [] old mid → PutsBoth a b number (Split ∷ []) mid new →
-    Puts (Fork ∷ []) [] new last → PutsResolution (Parallel a b) number old last
-written_parallel a b number old mid new last p (x, y, is, q) r = (
-  Parallel x y,
-  is Parallel,
-  puts_as (Fork ∷ ((nodes_of x ++ (Split ∷ nodes_of y)) ++ Join ∷ [])) (nodes_of (Parallel x y)) ((leaves x ++ leaves y) ++ []) (leaves x ++ leaves y) old last
-      (ap (λ l. Fork ∷ l) (append_assoc (nodes_of x) (Split ∷ nodes_of y) (Join ∷ []))) (append-nil (leaves x ++ leaves y))
-      (puts_more ((nodes_of x ++ (Split ∷ nodes_of y)) ++ Join ∷ []) (Fork ∷ []) ((leaves x ++ leaves y) ++ []) [] old new last
-      (puts_more (Join ∷ []) (nodes_of x ++ (Split ∷ nodes_of y)) [] (leaves x ++ leaves y) old mid new p q) r),
-)
+abbrev pub beside_marks : Marks
+beside_marks = record { first = Some Fork; between = Some Split; last = Join }
+
+pub written_sequence : (a b : Process) (number : ℕ) (old new : Backwards) → PutsBoth a b number serial_marks old new → PutsResolution (Sequence a b) number old new
+written_sequence a b number old new (x, y, is, q) = (Sequence x y, is Sequence, q)
+
+pub written_parallel : (a b : Process) (number : ℕ) (old new : Backwards) → PutsBoth a b number beside_marks old new → PutsResolution (Parallel a b) number old new
+written_parallel a b number old new (x, y, is, q) = (Parallel x y, is Parallel, q)
 
 pub written_isolated : (a : Process) (number : ℕ) (old mid new last : Backwards) → Puts (Close ∷ []) [] old mid → PutsResolution a number mid new →
     Puts (Open ∷ []) [] new last → PutsResolution (Isolated a) number old last
@@ -72,15 +65,22 @@ written_isolated a number old mid new last p (x, is, q) r = (
       (puts_more (Close ∷ []) (nodes_of x) [] (leaves x) old mid new p q) r),
 )
 
-pub written_both : (a b : Process) (number next : ℕ) (marks : List Node) (old mid between new : Backwards) → next ≡ number / resolution_count b →
-    PutsResolution b number old mid → Puts marks [] mid between → PutsResolution a next between new → PutsBoth a b number marks old new
-written_both a b number next marks old mid between new r (y, is_y, p) m (x, is_x, q) = (
-  x,
-  y,
-  of_both a b x y number (subst (λ n. IsOf a n x) r is_x) is_y,
-  puts_more (marks ++ nodes_of y) (nodes_of x) (leaves y) (leaves x) old between new
-      (puts_more (nodes_of y) marks (leaves y) [] old mid between p m) q,
-)
+pub written_both : (a b : Process) (number next : ℕ) (marks : Marks) (old last right between left new : Backwards) → next ≡ number / resolution_count b →
+    Puts (marks.last ∷ []) [] old last → PutsResolution b number last right → Puts (option_to_list marks.between) [] right between →
+    PutsResolution a next between left → Puts (option_to_list marks.first) [] left new → PutsBoth a b number marks old new
+written_both a b number next marks old last right between left new r p (y, is_y, q) m (x, is_x, s) f =
+    let back = nodes_of y ++ marks.last ∷ [] in
+    let middle = option_to_list marks.between ++ back in (
+      x,
+      y,
+      of_both a b x y number (subst (λ n. IsOf a n x) r is_x) is_y,
+      puts_as (option_to_list marks.first ++ (nodes_of x ++ middle)) (option_to_list marks.first ++ (nodes_of x ++ middle)) (leaves x ++ (leaves y ++ [])) (leaves x ++ leaves y) old new
+          refl (ap (λ l. leaves x ++ l) (append-nil (leaves y)))
+          (puts_more (nodes_of x ++ middle) (option_to_list marks.first) (leaves x ++ (leaves y ++ [])) [] old left new
+          (puts_more middle (nodes_of x) (leaves y ++ []) (leaves x) old between left
+          (puts_more back (option_to_list marks.between) (leaves y ++ []) [] old right between
+          (puts_more (marks.last ∷ []) (nodes_of y) [] (leaves y) old last right p q) m) s) f),
+    )
 
 pub written_left : (a b : Process) (number within : ℕ) (old new : Backwards) → within ≡ number % (resolution_count a + resolution_count b) →
     within < resolution_count a → PutsResolution a within old new → PutsEither a b number old new

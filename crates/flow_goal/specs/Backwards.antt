@@ -1,9 +1,11 @@
 -- A goal that is written from right to left.
-use Rattle.std.specs.Prelude.{◌≡◌, ℕ, List, [], ◌∷◌, ◌++◌, reverse, Option, Some, None, slice_get}
+use Rattle.std.specs.Prelude.{◌≡◌, ℕ, List, [], ◌∷◌, ◌++◌, reverse, Some, slice_get}
 use Rattle.flow_model.specs.Process.{Process, leaves}
 use Rattle.flow_model.specs.Resolution.{resolutions}
 use Rattle.flow_goal.specs.declared.node.Node.{Node}
 use Rattle.flow_goal.specs.declared.backwards.Backwards.{Backwards}
+use Rattle.flow_goal.specs.declared.backwards.Marks.{Marks}
+use Rattle.std.specs.Option.{option_to_list}
 use Rattle.flow_goal.specs.Written.{nodes_of}
 use Rattle.flow_goal.specs.Sides.{IsOf, IsOfBoth, IsOfEither}
 
@@ -11,10 +13,6 @@ use Rattle.flow_goal.specs.Sides.{IsOf, IsOfBoth, IsOfEither}
 pub record Puts (marks : List Node) (ns : List ℕ) (old new : Backwards) : Type 0 where
   pub nodes_are : reverse new.nodes.items ≡ marks ++ reverse old.nodes.items
   pub leaves_are : reverse new.leaves.items ≡ ns ++ reverse old.leaves.items
-
-abbrev pub marks_of : Option Node → List Node
-marks_of None = []
-marks_of (Some node) = node ∷ []
 
 -- a resolution was written
 abbrev pub PutsResolution : Process → ℕ → Backwards → Backwards → Type 0
@@ -24,10 +22,11 @@ PutsResolution g number old new = (q : Process) × IsOf g number q × Puts (node
 abbrev pub PutsEither : Process → Process → ℕ → Backwards → Backwards → Type 0
 PutsEither a b number old new = (q : Process) × IsOfEither a b number q × Puts (nodes_of q) (leaves q) old new
 
--- one of each of two goals, with marks in between
-abbrev pub PutsBoth : Process → Process → ℕ → List Node → Backwards → Backwards → Type 0
+-- one of each of two goals, with the marks around them
+abbrev pub PutsBoth : Process → Process → ℕ → Marks → Backwards → Backwards → Type 0
 PutsBoth a b number marks old new = (x : Process) × (y : Process) × IsOfBoth a b number x y ×
-    Puts (nodes_of x ++ (marks ++ nodes_of y)) (leaves x ++ leaves y) old new
+    Puts (option_to_list marks.first ++ (nodes_of x ++ (option_to_list marks.between ++ (nodes_of y ++ marks.last ∷ []))))
+    (leaves x ++ leaves y) old new
 
 -- the resolution of that number is written, and nothing else
 abbrev pub IsBackwardsOf : Process → ℕ → Backwards → Type 0

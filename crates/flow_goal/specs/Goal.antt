@@ -1,5 +1,7 @@
 -- A goal of the code as a process of the definitions.
 use Rattle.flow_goal.specs.declared.goal.Goal.{Goal, Nop, Leaf, Serial', Beside', Either', Iso'}
+use Rattle.flow_goal.specs.declared.goal.Operator.{Operator}
+use Rattle.flow_goal.specs.declared.goal.Operator.TheVariants.{Serial, Beside, Either}
 use Rattle.flow_model.specs.Process.{Process, Empty, Task, Sequence, Parallel, Choice, Isolated}
 
 abbrev pub process_of : Goal → Process
@@ -9,3 +11,8 @@ process_of (Serial' p a q b) = Sequence (process_of a) (process_of b)
 process_of (Beside' p a q b) = Parallel (process_of a) (process_of b)
 process_of (Either' p a q b) = Choice (process_of a) (process_of b)
 process_of (Iso' p a) = Isolated (process_of a)
+
+abbrev pub together : Operator → Process → Process → Process
+together Serial = Sequence
+together Beside = Parallel
+together Either = Choice

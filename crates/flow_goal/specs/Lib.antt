@@ -7,7 +7,7 @@ pub mod Plain
 pub mod Resolved
 pub mod Sides
 pub mod Simple
-pub mod Skeleton
+pub mod Shapes
 pub mod Partners
 pub mod Repeated
 pub mod Written

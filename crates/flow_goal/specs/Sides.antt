@@ -1,5 +1,5 @@
 -- What the choices of a goal have on their sides.
-use Rattle.std.specs.Prelude.{◌≡◌, ◌+◌, ◌-◌, ◌*◌, ◌%◌, ◌^◌, ℕ, min, List, [], ◌∷◌, ◌++◌, Some, slice_get}
+use Rattle.std.specs.Prelude.{◌≡◌, ◌+◌, ◌-◌, ◌*◌, ◌%◌, ◌^◌, ℕ, min, List, [], ◌∷◌, ◌++◌, length, Some, slice_get}
 use Rattle.flow_model.specs.Lists.{each_with_each}
 use Rattle.flow_model.specs.Process.{Process, Empty, Task, Sequence, Parallel, Choice, Isolated}
 use Rattle.flow_model.specs.Resolution.{resolutions, resolution_count}
@@ -15,12 +15,9 @@ sides_in Empty = []
 sides_in (Task n) = []
 sides_in (Sequence a b) = sides_in a ++ sides_in b
 sides_in (Parallel a b) = sides_in a ++ sides_in b
-sides_in (Choice a b) = sides_in a ++ sides_in b ++ record { left = kept_count a; right = kept_count b } ∷ []
+sides_in (Choice a b) = sides_in a ++ sides_in b ++
+    record { left = kept_count a; right = kept_count b; left_choices = length (sides_in a); right_choices = length (sides_in b) } ∷ []
 sides_in (Isolated a) = sides_in a
-
--- those of a choice of the two
-abbrev pub sides_of_choice : Process → Process → List Sides
-sides_of_choice a b = sides_in a ++ sides_in b ++ record { left = kept_count a; right = kept_count b } ∷ []
 
 -- the list ends with that part
 abbrev pub Ends : {A : Type 0} → List A → List A → Type 0

@@ -1,5 +1,5 @@
 -- Goals without what says nothing.
-use Rattle.std.specs.Prelude.{◌≡◌, ℕ, Bool, true, false, List, if◌then◌else◌, ◌⊎◌, ◌↔◌}
+use Rattle.std.specs.Prelude.{◌≡◌, ℕ, List, ◌⊎◌, ◌↔◌}
 use Rattle.flow_model.specs.Process.{Process, Empty, Task, Sequence, Parallel, Choice, Isolated, IsChoiceFree, leaves}
 use Rattle.flow_model.specs.Trace.{Blocks}
 
@@ -31,29 +31,3 @@ pub record IsSimplified (old new : Process) : Type 0 where
   pub simple : IsSimple new
   pub leaves_kept : leaves new ≡ leaves old
   pub choice_free : IsChoiceFree new
-
--- it is nothing
-abbrev pub is_empty : Process → Bool
-is_empty Empty = true
-is_empty (Task n) = false
-is_empty (Sequence a b) = false
-is_empty (Parallel a b) = false
-is_empty (Choice a b) = false
-is_empty (Isolated a) = false
-
--- its isolation would say something
-abbrev pub is_several : Process → Bool
-is_several Empty = false
-is_several (Task n) = false
-is_several (Sequence a b) = true
-is_several (Parallel a b) = true
-is_several (Choice a b) = true
-is_several (Isolated a) = false
-
--- both parts, or the other one where one is nothing
-abbrev pub both : (Process → Process → Process) → Process → Process → Process
-both f a b = if is_empty a then b else if is_empty b then a else f a b
-
--- the isolation, or the goal itself where that says the same
-abbrev pub alone : Process → Process
-alone a = if is_several a then Isolated a else a

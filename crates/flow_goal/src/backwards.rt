@@ -1,9 +1,32 @@
 ghost use Rattle.std.specs.Prelude.{◌≡◌, ◌∷◌, [], IfOk, OnOk};
 ghost use Rattle.flow_goal.specs.declared.node.Node.TheVariants.{Leaf};
-ghost use Rattle.flow_goal.specs.Backwards.{Puts, marks_of};
+ghost use Rattle.std.specs.Option.{option_to_list};
+ghost use Rattle.flow_goal.specs.Backwards.{Puts};
 
 use crate::node::Node;
-use std::alloc::{AllocError, Global};
+use std::alloc::AllocError;
+
+/// The marks around two goals that both stay.
+#[derive(Clone, Copy)]
+pub(crate) struct Marks {
+    pub(crate) first: Option<Node>,
+    pub(crate) between: Option<Node>,
+    pub(crate) last: Node,
+}
+
+impl Marks {
+    pub(crate) const SERIAL: Marks = Marks {
+        first: None,
+        between: None,
+        last: Node::Serial,
+    };
+
+    pub(crate) const BESIDE: Marks = Marks {
+        first: Some(Node::Fork),
+        between: Some(Node::Split),
+        last: Node::Join,
+    };
+}
 
 /// A goal without choices that is written from right to left, so that what is last stands first.
 #[derive(Drop)]
@@ -13,17 +36,6 @@ pub(crate) struct Backwards {
 }
 
 impl Backwards {
-    /// Nothing is written yet.
-    pub(crate) fn new(alloc: Global) -> Backwards
-        ensures nodes { result.nodes.items ≡ [] }
-        ensures leaves { result.leaves.items ≡ [] }
-    {
-        Backwards {
-            nodes: Vec::new(alloc),
-            leaves: Vec::new(alloc),
-        }
-    }
-
     pub(crate) fn put(&mut self, node: Node) -> Result<(), AllocError>
         ensures { OnOk result (Puts (node ∷ []) [] self.old self.new) }
     {
@@ -33,7 +45,7 @@ impl Backwards {
 
     /// Puts the mark, if there is one.
     pub(crate) fn put_any(&mut self, node: Option<Node>) -> Result<(), AllocError>
-        ensures { OnOk result (Puts (marks_of node) [] self.old self.new) }
+        ensures { OnOk result (Puts (option_to_list node) [] self.old self.new) }
     {
         match node {
             Some(node) => self.put(node),

@@ -1,17 +1,19 @@
-ghost use Rattle.std.specs.Prelude.{◌≡◌, ◌-◌, ◌^◌, ◌<◌, ◌+◌, ◌*◌, ◌++◌, ◌/◌, min, IfOk, OnOk, slice_get};
+ghost use Rattle.std.specs.Prelude.{◌≡◌, ◌-◌, ◌^◌, ◌<◌, ◌+◌, ◌*◌, ◌++◌, ◌/◌, min, List, length, IfOk, OnOk, slice_get};
+ghost use Rattle.std.specs.List.Sorted.{IsStrictlyIncreasing};
 ghost use Rattle.flow_model.specs.Resolution;
 ghost use Rattle.flow_model.specs.Process;
 ghost use Rattle.flow_goal.specs.Goal.{process_of};
-ghost use Rattle.flow_goal.specs.Sides.{Ends, IsTaken, kept_count, sides_in, sides_of_choice};
+ghost use Rattle.flow_goal.specs.declared.sides.Sides.{Sides};
+ghost use Rattle.flow_goal.specs.Sides.{Ends, IsTaken, kept_count, sides_in};
 ghost use Rattle.flow_goal.specs.Choices.{AreChoicesOf};
-ghost use Rattle.flow_goal.specs.Backwards.{IsBackwardsOf, PutsBoth, PutsEither, PutsResolution, marks_of};
+ghost use Rattle.flow_goal.specs.Backwards.{IsBackwardsOf, PutsBoth, PutsEither, PutsResolution};
 
-use crate::backwards::Backwards;
+use crate::backwards::{Backwards, Marks};
 use crate::choiceless::Choiceless;
 use crate::goal::Goal;
 use crate::node::Node;
+use crate::shape::{Shape, shaped};
 use crate::sides::Sides;
-use crate::skeleton::skeleton_of;
 use crate::tree::Tree;
 use std::alloc::{AllocError, Global};
 
@@ -50,55 +52,52 @@ fn count_sides(goal: &Goal, list: &mut Vec<Sides>) -> Result<u64, AllocError>
             Ok(first.saturating_mul(second))
         }
         Goal::Either(left, right) => {
+            let start = list.len();
             let left = count_sides(left, list)?;
+            let middle = list.len();
             let right = count_sides(right, list)?;
-            list.push(Sides { left, right })?;
+            list.push(Sides {
+                left,
+                right,
+                left_choices: middle - start,
+                right_choices: list.len() - middle,
+            })?;
             Ok(left.saturating_add(right))
         }
         Goal::Iso(part) => count_sides(part, list),
     }
 }
 
-/// Takes what belongs to the choices of a goal from the end of the list.
-fn skip(goal: &Goal, list: &mut Vec<Sides>)
-    requires { Ends list.old.items (sides_in (process_of goal.now)) }
-    ensures { IsTaken list.old.items (sides_in (process_of goal.now)) list.new.items }
+/// Takes so many choices from the end of the list.
+fn skip(count: usize, list: &mut Vec<Sides>)
+    requires { (back : List Sides) × Ends list.old.items back × (count ≡ length back) }
+    ensures { (back : List Sides) → count ≡ length back → IsTaken list.old.items back list.new.items }
 {
-    match goal {
-        Goal::Nop | Goal::Leaf(_) => {}
-        Goal::Serial(left, right) | Goal::Beside(left, right) => {
-            skip(right, list);
-            skip(left, list);
-        }
-        Goal::Either(left, right) => {
-            let Some(_) = list.pop() else { unreachable!() };
-            skip(right, list);
-            skip(left, list);
-        }
-        Goal::Iso(part) => skip(part, list),
-    }
+    list.truncate(list.len() - count);
 }
 
-/// Writes a resolution of two parts that both stay, with the marks in between.
+/// Writes a resolution of two parts that both stay, with the marks around them.
 #[cycle(writing)]
 fn write_both(
     left: &Goal,
     right: &Goal,
-    between: Option<Node>,
+    marks: Marks,
     number: &mut u64,
     sides: &mut Vec<Sides>,
     out: &mut Backwards,
 ) -> Result<(), AllocError>
     requires exact { Resolution.resolution_count (process_of left.now) * Resolution.resolution_count (process_of right.now) < 2 ^ 64 - 1 }
     requires listed { Ends sides.old.items (sides_in (process_of left.now) ++ sides_in (process_of right.now)) }
-    ensures written { OnOk result (PutsBoth (process_of left.now) (process_of right.now) number.old (marks_of between) out.old out.new) }
+    ensures written { OnOk result (PutsBoth (process_of left.now) (process_of right.now) number.old marks out.old out.new) }
     ensures rest { OnOk result (number.new ≡
         number.old / (Resolution.resolution_count (process_of left.now) * Resolution.resolution_count (process_of right.now))) }
     ensures sides { OnOk result (IsTaken sides.old.items (sides_in (process_of left.now) ++ sides_in (process_of right.now)) sides.new.items) }
 {
+    out.put(marks.last)?;
     write(right, number, sides, out)?;
-    out.put_any(between)?;
-    write(left, number, sides, out)
+    out.put_any(marks.between)?;
+    write(left, number, sides, out)?;
+    out.put_any(marks.first)
 }
 
 /// Writes a resolution of one of two parts.
@@ -111,11 +110,11 @@ fn write_either(
     out: &mut Backwards,
 ) -> Result<(), AllocError>
     requires exact { Resolution.resolution_count (process_of left.now) + Resolution.resolution_count (process_of right.now) < 2 ^ 64 - 1 }
-    requires listed { Ends sides.old.items (sides_of_choice (process_of left.now) (process_of right.now)) }
+    requires listed { Ends sides.old.items (sides_in (Process.Choice (process_of left.now) (process_of right.now))) }
     ensures written { OnOk result (PutsEither (process_of left.now) (process_of right.now) number.old out.old out.new) }
     ensures rest { OnOk result (number.new ≡
         number.old / (Resolution.resolution_count (process_of left.now) + Resolution.resolution_count (process_of right.now))) }
-    ensures sides { OnOk result (IsTaken sides.old.items (sides_of_choice (process_of left.now) (process_of right.now)) sides.new.items) }
+    ensures sides { OnOk result (IsTaken sides.old.items (sides_in (Process.Choice (process_of left.now) (process_of right.now))) sides.new.items) }
 {
     let Some(both) = sides.pop() else {
         unreachable!()
@@ -124,10 +123,10 @@ fn write_either(
     if both.left <= within {
         within -= both.left;
         write(right, &mut within, sides, out)?;
-        skip(left, sides);
+        skip(both.left_choices, sides);
         Ok(())
     } else {
-        skip(right, sides);
+        skip(both.right_choices, sides);
         write(left, &mut within, sides, out)
     }
 }
@@ -150,15 +149,8 @@ fn write(
     match goal {
         Goal::Nop => out.put(Node::Nop),
         Goal::Leaf(n) => out.put_leaf(*n),
-        Goal::Serial(left, right) => {
-            out.put(Node::Serial)?;
-            write_both(left, right, None, number, sides, out)
-        }
-        Goal::Beside(left, right) => {
-            out.put(Node::Join)?;
-            write_both(left, right, Some(Node::Split), number, sides, out)?;
-            out.put(Node::Fork)
-        }
+        Goal::Serial(left, right) => write_both(left, right, Marks::SERIAL, number, sides, out),
+        Goal::Beside(left, right) => write_both(left, right, Marks::BESIDE, number, sides, out),
         Goal::Either(left, right) => write_either(left, right, number, sides, out),
         Goal::Iso(part) => {
             out.put(Node::Close)?;
@@ -166,6 +158,49 @@ fn write(
             out.put(Node::Open)
         }
     }
+}
+
+/// The resolution of that number, from right to left, where the sides of the goal's choices are counted.
+fn written(
+    alloc: Global,
+    sides: &[Sides],
+    goal: &Goal,
+    number: u64,
+) -> Result<Backwards, AllocError>
+    requires choices { sides.now ≡ sides_in (process_of goal.now) }
+    requires numbered { number < Resolution.resolution_count (process_of goal.now) }
+    requires exact { Resolution.resolution_count (process_of goal.now) < 2 ^ 64 - 1 }
+    ensures { IfOk result (IsBackwardsOf (process_of goal.now) number) }
+{
+    let mut sides = Vec::from_slice(alloc, sides)?;
+    let mut rest = number;
+    let mut out = Backwards {
+        nodes: Vec::new(alloc),
+        leaves: Vec::new(alloc),
+    };
+    write(goal, &mut rest, &mut sides, &mut out)?;
+    Ok(out)
+}
+
+/// The resolution of that number, where the sides of the goal's choices are counted.
+pub(crate) fn resolved(
+    alloc: Global,
+    sides: &[Sides],
+    goal: &Goal,
+    number: u64,
+) -> Result<Choiceless, AllocError>
+    requires choices { sides.now ≡ sides_in (process_of goal.now) }
+    requires numbered { number < Resolution.resolution_count (process_of goal.now) }
+    requires exact { Resolution.resolution_count (process_of goal.now) < 2 ^ 64 - 1 }
+    requires rising { (q : Process.Process) → slice_get (Resolution.resolutions (process_of goal.now)) number ≡ Some q
+        → IsStrictlyIncreasing (Process.leaves q) }
+    ensures resolution { IfOk result (λ q. slice_get (Resolution.resolutions (process_of goal.now)) number ≡ Some q.process) }
+    ensures leaves { IfOk result (λ q. q.leaves ≡ Process.leaves q.process) }
+{
+    let mut out = written(alloc, sides, goal, number)?;
+    out.nodes.reverse();
+    out.leaves.reverse();
+    Ok(Choiceless::new(out.nodes, out.leaves))
 }
 
 /// How many resolutions each side of each choice of a tree has.
@@ -183,22 +218,8 @@ impl Choices {
     {
         let mut sides = Vec::new(alloc);
         count_sides(tree.goal(), &mut sides)?;
-        let skeleton = skeleton_of(alloc, tree.goal())?;
+        let skeleton = shaped(alloc, Shape::Bare, tree.goal())?;
         Ok(Choices { sides, skeleton })
-    }
-
-    /// The resolution of that number, from right to left, in one walk of a goal with the same choices.
-    fn written(&self, alloc: Global, goal: &Goal, number: u64) -> Result<Backwards, AllocError>
-        requires choices { self.now.sides.items ≡ sides_in (process_of goal.now) }
-        requires numbered { number < Resolution.resolution_count (process_of goal.now) }
-        requires exact { Resolution.resolution_count (process_of goal.now) < 2 ^ 64 - 1 }
-        ensures { IfOk result (IsBackwardsOf (process_of goal.now) number) }
-    {
-        let mut sides = Vec::from_slice(alloc, &self.sides)?;
-        let mut rest = number;
-        let mut out = Backwards::new(alloc);
-        write(goal, &mut rest, &mut sides, &mut out)?;
-        Ok(out)
     }
 
     /// As `resolve`, where the choices are counted.
@@ -210,10 +231,7 @@ impl Choices {
         ensures leaves { IfOk result (λ q. q.leaves ≡ Process.leaves q.process) }
     {
         let _leaves = tree.leaves();
-        let mut out = self.written(alloc, tree.goal(), number)?;
-        out.nodes.reverse();
-        out.leaves.reverse();
-        Ok(Choiceless::new(out.nodes, out.leaves))
+        resolved(alloc, &self.sides, tree.goal(), number)
     }
 
     /// The leaves of the resolution of that number, from left to right, by a walk of leaves and choices alone.
@@ -229,7 +247,7 @@ impl Choices {
         ensures { IfOk result (λ list. (q : Process.Process) × (slice_get (Resolution.resolutions tree.now.process) number ≡ Some q) ×
             (list.items ≡ Process.leaves q)) }
     {
-        let mut out = self.written(alloc, &self.skeleton, number)?;
+        let mut out = written(alloc, &self.sides, &self.skeleton, number)?;
         out.leaves.reverse();
         Ok(out.leaves)
     }
@@ -243,5 +261,8 @@ pub fn resolve(alloc: Global, tree: &Tree, number: u64) -> Result<Choiceless, Al
     ensures resolution { IfOk result (λ q. slice_get (Resolution.resolutions tree.now.process) number ≡ Some q.process) }
     ensures leaves { IfOk result (λ q. q.leaves ≡ Process.leaves q.process) }
 {
-    Choices::of(alloc, tree)?.resolve(alloc, tree, number)
+    let choices = Choices::of(alloc, tree)?;
+    let resolution = choices.resolve(alloc, tree, number);
+    drop(choices);
+    resolution
 }

@@ -1,5 +1,5 @@
 ghost use Rattle.std.specs.Prelude.{◌≡◌, IfOk};
-ghost use Rattle.flow_goal.specs.Goal.{process_of};
+ghost use Rattle.flow_goal.specs.Goal.{process_of, together};
 
 use std::alloc::{AllocError, Global};
 
@@ -19,27 +19,40 @@ pub enum Goal {
     Iso(Box<Goal>),
 }
 
-impl Goal {
-    /// The same goal in memory of its own.
-    pub(crate) fn copy(&self, alloc: Global) -> Result<Goal, AllocError>
-        ensures { IfOk result (λ goal. process_of goal ≡ process_of self.now) }
-    {
-        match self {
-            Goal::Nop => Ok(Goal::Nop),
-            Goal::Leaf(n) => Ok(Goal::Leaf(*n)),
-            Goal::Serial(left, right) => {
-                let first = Box::new(alloc, left.copy(alloc)?)?;
-                Ok(Goal::Serial(first, Box::new(alloc, right.copy(alloc)?)?))
-            }
-            Goal::Beside(left, right) => {
-                let first = Box::new(alloc, left.copy(alloc)?)?;
-                Ok(Goal::Beside(first, Box::new(alloc, right.copy(alloc)?)?))
-            }
-            Goal::Either(left, right) => {
-                let first = Box::new(alloc, left.copy(alloc)?)?;
-                Ok(Goal::Either(first, Box::new(alloc, right.copy(alloc)?)?))
-            }
-            Goal::Iso(part) => Ok(Goal::Iso(Box::new(alloc, part.copy(alloc)?)?)),
+/// What makes one goal of two.
+#[derive(Clone, Copy)]
+pub(crate) enum Operator {
+    Serial,
+    Beside,
+    Either,
+}
+
+/// The two goals as one.
+pub(crate) fn together(
+    alloc: Global,
+    operator: Operator,
+    left: Goal,
+    right: Goal,
+) -> Result<Goal, AllocError>
+    ensures { IfOk result (λ goal. process_of goal ≡ together operator (process_of left) (process_of right)) }
+{
+    let left = match Box::new(alloc, left) {
+        Ok(left) => left,
+        Err(refused) => {
+            drop(right);
+            return Err(refused.into());
         }
+    };
+    let right = match Box::new(alloc, right) {
+        Ok(right) => right,
+        Err(refused) => {
+            drop(left);
+            return Err(refused.into());
+        }
+    };
+    match operator {
+        Operator::Serial => Ok(Goal::Serial(left, right)),
+        Operator::Beside => Ok(Goal::Beside(left, right)),
+        Operator::Either => Ok(Goal::Either(left, right)),
     }
 }

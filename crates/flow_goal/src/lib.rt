@@ -10,9 +10,9 @@ mod node;
 mod partners;
 mod reading;
 mod repeats;
+mod shape;
 mod sides;
 mod simple;
-mod skeleton;
 mod tree;
 
 pub use choiceless::Choiceless;

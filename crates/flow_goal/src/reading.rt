@@ -1,9 +1,10 @@
 ghost use Rattle.std.specs.Prelude.{◌≡◌, ◌<◌, ◌≤◌, ◌+◌, ◌^◌, ◌∷◌, List, IfOk, OnOk};
-ghost use Rattle.flow_goal.specs.Goal.{process_of};
+ghost use Rattle.flow_goal.specs.Goal.{process_of, together};
+ghost use Rattle.flow_model.specs.Process.{Isolated};
 ghost use Rattle.flow_goal.specs.declared.node.Node.{Node};
 ghost use Rattle.flow_goal.specs.Written.{leaf_of, read_on, rest, stack_of, top};
 
-use crate::goal::Goal;
+use crate::goal::{Goal, Operator, together};
 use crate::node::Node;
 use std::alloc::{AllocError, Global};
 
@@ -26,23 +27,30 @@ pub(crate) fn take_top(stack: &mut Vec<Goal>) -> Goal
     stack.pop().unwrap_or(Goal::Nop)
 }
 
-/// Takes two goals off the stack, the lower one first.
-fn take_two(alloc: Global, stack: &mut Vec<Goal>) -> Result<(Box<Goal>, Box<Goal>), AllocError>
-    ensures first { IfOk result (λ two. process_of two.0.value ≡ top (rest (stack_of stack.old.items))) }
-    ensures second { IfOk result (λ two. process_of two.1.value ≡ top (stack_of stack.old.items)) }
-    ensures left { OnOk result (stack_of stack.new.items ≡ rest (rest (stack_of stack.old.items))) }
-{
-    let right = Box::new(alloc, take_top(stack))?;
-    let left = Box::new(alloc, take_top(stack))?;
-    Ok((left, right))
-}
-
 /// Puts the goal on the stack.
 fn put(goal: Goal, stack: &mut Vec<Goal>) -> Result<(), AllocError>
     ensures { OnOk result (stack_of stack.new.items ≡ process_of goal ∷ stack_of stack.old.items) }
 {
     stack.push(goal)?;
     Ok(())
+}
+
+/// Makes one goal of the two on top of the stack.
+fn join(alloc: Global, operator: Operator, stack: &mut Vec<Goal>) -> Result<(), AllocError>
+    ensures { OnOk result (stack_of stack.new.items ≡
+        together operator (top (rest (stack_of stack.old.items))) (top (stack_of stack.old.items)) ∷ rest (rest (stack_of stack.old.items))) }
+{
+    let right = take_top(stack);
+    let left = take_top(stack);
+    put(together(alloc, operator, left, right)?, stack)
+}
+
+/// Isolates the goal on top of the stack.
+fn isolate(alloc: Global, stack: &mut Vec<Goal>) -> Result<(), AllocError>
+    ensures { OnOk result (stack_of stack.new.items ≡ Isolated (top (stack_of stack.old.items)) ∷ rest (stack_of stack.old.items)) }
+{
+    let part = Box::new(alloc, take_top(stack))?;
+    put(Goal::Iso(part), stack)
 }
 
 /// Reads one mark: what it joins is taken off the stack, and the goal that it makes is put there. Returns the
@@ -61,29 +69,15 @@ pub(crate) fn read_node(
         ≡ read_on nodes leaves.now next (stack_of stack.new.items)) }
 {
     match node {
-        Node::Nop => {
-            put(Goal::Nop, stack)?;
-            Ok(place)
-        }
-        Node::Fork | Node::Split | Node::Open => Ok(place),
+        Node::Fork | Node::Split | Node::Open => {}
+        Node::Nop => put(Goal::Nop, stack)?,
         Node::Leaf => {
             put(leaf_at(leaves, place), stack)?;
-            Ok(place + 1)
+            return Ok(place + 1);
         }
-        Node::Serial => {
-            let (left, right) = take_two(alloc, stack)?;
-            put(Goal::Serial(left, right), stack)?;
-            Ok(place)
-        }
-        Node::Join => {
-            let (left, right) = take_two(alloc, stack)?;
-            put(Goal::Beside(left, right), stack)?;
-            Ok(place)
-        }
-        Node::Close => {
-            let part = Box::new(alloc, take_top(stack))?;
-            put(Goal::Iso(part), stack)?;
-            Ok(place)
-        }
+        Node::Serial => join(alloc, Operator::Serial, stack)?,
+        Node::Join => join(alloc, Operator::Beside, stack)?,
+        Node::Close => isolate(alloc, stack)?,
     }
+    Ok(place)
 }

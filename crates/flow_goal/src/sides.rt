@@ -1,10 +1,12 @@
 ghost use Rattle.std.specs.Prelude.{◌≡◌, ◌+◌, ◌<◌, ◌^◌, ◌%◌, ◌/◌};
 
-/// How many resolutions each side of a choice has, or the greatest `u64` where they are more.
+/// How many resolutions each side of a choice has, or the greatest `u64` where they are more, and how many choices.
 #[derive(Clone, Copy)]
 pub(crate) struct Sides {
     pub(crate) left: u64,
     pub(crate) right: u64,
+    pub(crate) left_choices: usize,
+    pub(crate) right_choices: usize,
 }
 
 impl Sides {

@@ -5,6 +5,7 @@ ghost use Rattle.flow_goal.specs.Goal.{process_of};
 ghost use Rattle.flow_goal.specs.Numbering;
 
 use crate::goal::Goal;
+use crate::shape::{Shape, shaped};
 use flow_model::Label;
 use std::alloc::{AllocError, Global};
 use std::marker::Model;
@@ -80,16 +81,18 @@ impl Tree {
         if is_numbered(&goal, count) {
             Ok(Tree { goal, labels })
         } else {
+            drop(goal);
             Err(TreeRefusal::Numbering)
         }
     }
 
     /// The same tree in memory of its own.
+    #[tactic(auto, using(crate::proofs::Skeletons::whole_is_same))]
     pub fn copy(&self, alloc: Global) -> Result<Tree, AllocError>
         ensures { IfOk result (λ tree. tree ≡ self.now) }
     {
-        let goal = self.goal.copy(alloc)?;
         let labels = Vec::from_slice(alloc, &self.labels)?;
+        let goal = shaped(alloc, Shape::Whole, &self.goal)?;
         Ok(Tree { goal, labels })
     }
 
@@ -110,9 +113,9 @@ impl Tree {
     pub(crate) fn event(&self, leaf: u32) -> Option<u32>
         ensures { result ≡ event_at self.now.labels leaf }
     {
-        match self.labels.get(leaf as usize) {
-            Some(Label::Event(event)) => Some(*event),
-            Some(Label::Test(_) | Label::Absent(_) | Label::Ins(_) | Label::Del(_)) | None => None,
+        match self.label(leaf)? {
+            Label::Event(event) => Some(event),
+            Label::Test(_) | Label::Absent(_) | Label::Ins(_) | Label::Del(_) => None,
         }
     }
 

@@ -12,7 +12,7 @@ use Rattle.flow_plan.specs.declared.progress.Progress.{Progress}
 use Rattle.flow_plan.specs.Planned.{Planned, pairs_of}
 use Rattle.flow_plan.specs.Progress.{is_done, IsDone, bound_of}
 use Rattle.flow_plan.specs.Orders.{Fits, MayComeNext, MayComeAfter, MayFollowInEveryOrder}
-use Rattle.flow_plan.proofs.PlaceLemmas.{member_at, get_at}
+use Rattle.flow_plan.proofs.PlaceLemmas.{read_member}
 use Rattle.flow_plan.proofs.RowLemmas.{either_true, first_true, second_true}
 
 -- ---- one leaf more is done
@@ -80,7 +80,7 @@ pub not_complete : (p : Planned) (done : Progress) (items : List ℕ) (i : ℕ) 
     is_done done (get_or items i 0) ≡ false → IsTrue false ↔ ((n : ℕ) → n ∈ leaves p.process → IsDone done n)
 not_complete p done items i is listed within undone = (
   λ wrong. absurd (cc),
-  λ all. let member : get_or items i 0 ∈ leaves p.process = subst (λ (l : List ℕ). get_or items i 0 ∈ l) (is ∙ listed) (member_at items i (get_or items i 0) (get_at items i within)) in
+  λ all. let member : get_or items i 0 ∈ leaves p.process = subst (λ (l : List ℕ). get_or items i 0 ∈ l) (is ∙ listed) (read_member items i within) in
       let closed = all (get_or items i 0) member in absurd (cc),
 )
 

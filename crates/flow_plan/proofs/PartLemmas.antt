@@ -16,7 +16,8 @@ use Rattle.flow_plan.specs.Rows.{IsRowOf, AreRowsOf, has_at}
 use Rattle.flow_plan.specs.Ahead.{IsAhead, IsOutside}
 use Rattle.flow_plan.specs.Spans.{placed_parts, IsSpanOf, IsEarlier, AreRising, AddsSpans}
 use Rattle.flow_plan.specs.Parts.{IsOneAtMost, at_span, IsPartFor, ArePartsFor, IsPartRow, HasTwo, HaveSameLeaves, AreApart, ArePartsOf, PartAllows}
-use Rattle.flow_plan.proofs.PlaceLemmas.{place_of_member, member_at, get_at, rising_pairs}
+use Rattle.flow_plan.proofs.PlaceLemmas.{place_of_member, read_member}
+use Rattle.std.proofs.lemmas.List.Kept.{AllPairs-from_increasing}
 use Rattle.flow_goal.proofs.WrittenLemmas.{StandAt, first_stand, second_stand}
 use Rattle.flow_plan.proofs.RowLemmas.{row_same, either_true, first_true, second_true}
 
@@ -116,7 +117,7 @@ at_place ns s k after before within =
     let long : length (at_span s ns) ≡ min m (length (drop s.first ns)) = length-take m (drop s.first ns) in
     let short : length (drop s.first ns) ≡ length ns - s.first = length-drop s.first ns in
     let inside : j < length (at_span s ns) = omega (arith, after, before, within, long, short) in
-    let here : get_or (at_span s ns) j 0 ∈ at_span s ns = member_at (at_span s ns) j (get_or (at_span s ns) j 0) (get_at (at_span s ns) j inside) in
+    let here : get_or (at_span s ns) j 0 ∈ at_span s ns = read_member (at_span s ns) j inside in
     let there : s.first + j ≡ k = omega (arith, after) in
     subst (λ (x : ℕ). x ∈ at_span s ns)
     (get_or-take m (drop s.first ns) j 0 (omega (arith, after, before)) ∙ get_or-drop s.first ns j 0 ∙ ap (λ (i : ℕ). get_or ns i 0) there) here
@@ -248,7 +249,7 @@ has_two : (ns : List ℕ) (before : List (LeafSet 16)) (s : Span) (row : PartRow
 has_two ns before s row rising long for =
     let x : ℕ = get_or ns s.first 0 in
     let y : ℕ = get_or ns (s.first + 1) 0 in
-    let less : x < y = rising_pairs ns rising s.first (s.first + 1) (omega arith) (omega (arith, long.0, long.1)) in (
+    let less : x < y = AllPairs-from_increasing ns rising s.first (s.first + 1) 0 (omega arith) (omega (arith, long.0, long.1)) in (
       x,
       y,
       λ same. omega (arith, less, same),
@@ -264,9 +265,9 @@ differ_at ns before s t one two k rising after below within other for_one for_tw
     let there : IsTrue (has_leaf two.inside y) = (for_two.inside y).1 (at_place ns t k after below within) in
     let found = in_span ns s y ((for_one.inside y).0 (same y ∙ there)) in
     let j : ℕ = found.0 in
-    ⊎_elim (λ less. omega (arith, rising_pairs ns rising j k less within, found.4))
+    ⊎_elim (λ less. omega (arith, AllPairs-from_increasing ns rising j k 0 less within, found.4))
     (λ more. ⊎_elim (λ equal. other j found.1 found.2 equal)
-    (λ differs. let above : k < j = omega (arith, more, differs) in omega (arith, rising_pairs ns rising k j above found.3, found.4)) (cases_eq j k))
+    (λ differs. let above : k < j = omega (arith, more, differs) in omega (arith, AllPairs-from_increasing ns rising k j 0 above found.3, found.4)) (cases_eq j k))
     (cases_lt j k)
 
 are_apart : (ns : List ℕ) (before : List (LeafSet 16)) (s t : Span) (one two : PartRow) → IsStrictlyIncreasing ns → IsLong ns t → IsEarlier s t →
@@ -310,12 +311,12 @@ spans_long q ns none spans empty listed adds = each_from_members (IsLong ns) spa
 rises_from : (ns : List ℕ) → IsStrictlyIncreasing ns → (k : ℕ) → k < length ns → k ≤ get_or ns k 0
 rises_from ns rising zero within = omega arith
 rises_from ns rising (suc k) within =
-    omega (arith, rises_from ns rising k (omega (arith, within)), rising_pairs ns rising k (suc k) (omega arith) within)
+    omega (arith, rises_from ns rising k (omega (arith, within)), AllPairs-from_increasing ns rising k (suc k) 0 (omega arith) within)
 
 pub rising_short : (ns : List ℕ) → IsStrictlyIncreasing ns → Each (λ n. n < 1024) ns → length ns ≤ 1024
 rising_short ns rising small = ⊎_elim (λ fits. omega (arith, fits)) (λ long.
     let within : 1024 < length ns = omega (arith, long) in
-    let here = each_member (λ n. n < 1024) ns small (get_or ns 1024 0) (member_at ns 1024 (get_or ns 1024 0) (get_at ns 1024 within)) in
+    let here = each_member (λ n. n < 1024) ns small (get_or ns 1024 0) (read_member ns 1024 within) in
     absurd (omega (arith, here, rises_from ns rising 1024 within)))
     (cases_lt (length ns) 1025)
 

@@ -4,6 +4,8 @@ use Rattle.std.proofs.lemmas.Bool.{cases_lt}
 use native.Mathlib.Numerals.{unary_clauses}
 use Rattle.std.specs.List.Sorted.{IsStrictlyIncreasing}
 use Rattle.std.proofs.lemmas.List.Kept.{AllPairs-from_increasing}
+use Rattle.std.proofs.lemmas.Option.{slice_get-get_or}
+use Rattle.flow_model.proofs.Lists.{mem-slice_get}
 use Rattle.flow_model.specs.Lists.{◌∈◌, AreDistinct}
 
 -- a member stands at some place
@@ -13,29 +15,9 @@ place_of_member (y ∷ ys) x (inl same) = (0, omega arith, sym same)
 place_of_member (y ∷ ys) x (inr member) =
     let later = place_of_member ys x member in (suc later.0, omega (arith, later.1), later.2)
 
--- what stands at a place is a member
-pub member_at : (xs : List ℕ) (k x : ℕ) → slice_get xs k ≡ Some x → x ∈ xs
-member_at [] k x at = absurd (cc)
-member_at (y ∷ ys) zero x at = let same : x ≡ y = cc in inl same
-member_at (y ∷ ys) (suc k) x at = inr (member_at ys k x at)
-
--- within the list, two ways to say what stands at a place
-pub get_at : (xs : List ℕ) (k : ℕ) → k < length xs → slice_get xs k ≡ Some (get_or xs k 0)
-get_at [] k within = absurd (omega arith)
-get_at (y ∷ ys) zero within = refl
-get_at (y ∷ ys) (suc k) within = get_at ys k (omega arith)
-
-pub within_at : (xs : List ℕ) (k x : ℕ) → slice_get xs k ≡ Some x → k < length xs
-within_at [] k x at = absurd (cc)
-within_at (y ∷ ys) zero x at = omega arith
-within_at (y ∷ ys) (suc k) x at = omega (arith, within_at ys k x at)
-
-pub index_at : (xs : List ℕ) (k x : ℕ) → slice_get xs k ≡ Some x → get_or xs k 0 ≡ x
-index_at xs k x at = let here = get_at xs k (within_at xs k x at) in cc
-
--- each number is above those before it
-pub rising_pairs : (xs : List ℕ) → IsStrictlyIncreasing xs → (i j : ℕ) → i < j → j < length xs → get_or xs i 0 < get_or xs j 0
-rising_pairs xs rising i j below within = AllPairs-from_increasing xs rising i j 0 below within
+-- what stands at a place within the list is a member
+pub read_member : (xs : List ℕ) (k : ℕ) → k < length xs → get_or xs k 0 ∈ xs
+read_member xs k within = mem-slice_get xs k (get_or xs k 0) (slice_get-get_or xs k 0 within)
 
 rising_tail : (x : ℕ) (xs : List ℕ) → IsStrictlyIncreasing (x ∷ xs) → IsStrictlyIncreasing xs
 rising_tail x xs rising k within =
@@ -48,7 +30,7 @@ pub distinct_of_rising : (xs : List ℕ) → IsStrictlyIncreasing xs → AreDist
 distinct_of_rising [] rising = tt
 distinct_of_rising (x ∷ xs) rising = (
   λ member. let place = place_of_member xs x member in
-      let above : x < get_or xs place.0 0 = rising_pairs (x ∷ xs) rising 0 (suc place.0) (omega arith) (omega (arith, place.1)) in
+      let above : x < get_or xs place.0 0 = AllPairs-from_increasing (x ∷ xs) rising 0 (suc place.0) 0 (omega arith) (omega (arith, place.1)) in
       omega (arith, above, place.2),
   distinct_of_rising xs (rising_tail x xs rising),
 )
@@ -63,6 +45,6 @@ not_found xs x i below above member =
 -- a rising list never falls
 pub rising_never_falls : (xs : List ℕ) → IsStrictlyIncreasing xs → (i j : ℕ) → i ≤ j → j < length xs → get_or xs i 0 ≤ get_or xs j 0
 rising_never_falls xs rising i j order within = ⊎_elim
-    (λ before. omega (arith, rising_pairs xs rising i j before within))
+    (λ before. omega (arith, AllPairs-from_increasing xs rising i j 0 before within))
     (λ after. let same : i ≡ j = omega arith in omega (arith, ap (λ (k : ℕ). get_or xs k 0) same))
     (cases_lt i j)

@@ -16,7 +16,8 @@ use Rattle.flow_plan.specs.Rows.{AreRowsOf, has_at}
 use Rattle.flow_plan.specs.Parts.{ArePartsOf, PartAllows}
 use Rattle.flow_plan.specs.Orders.{IsFree}
 use Rattle.flow_plan.specs.Kept.{IsKept}
-use Rattle.flow_plan.proofs.PlaceLemmas.{member_at, distinct_of_rising}
+use Rattle.flow_plan.proofs.PlaceLemmas.{distinct_of_rising}
+use Rattle.flow_model.proofs.Lists.{mem-slice_get}
 use Rattle.flow_plan.proofs.RowLemmas.{rows_at, rows_get, rows_length}
 
 -- ---- a new plan
@@ -46,31 +47,12 @@ new_is_kept p before parts ordered listed rising small rows parts_are = record {
 abbrev pub Before : Planned → ℕ → ℕ → Type 0
 Before p x y = DirectlyBefore p.process (pairs_of p.tokens) x y
 
-in_plan : (p : Planned) (before : List (LeafSet 16)) (parts : List PartRow) → IsKept p before parts → (x : ℕ) → x ∈ leaves p.process → x ∈ p.leaves
-in_plan p before parts kept x member = subst (λ (l : List ℕ). x ∈ l) (sym kept.listed) member
+pub before_at_row : (p : Planned) (before : List (LeafSet 16)) (parts : List PartRow) (k x y : ℕ) (row : LeafSet 16) → IsKept p before parts →
+    slice_get p.leaves k ≡ Some y → row ≡ get_or before k row → IsTrue (has_leaf row x) ↔ Before p x y
+before_at_row p before parts k x y row kept at is = rows_get (DirectlyBefore p.process (pairs_of p.tokens)) p.leaves before k y row row at is kept.rows x
 
-pub before_at_row : (p : Planned) (before : List (LeafSet 16)) (parts : List PartRow) (k x y : ℕ) (row : LeafSet 16) (answer : Bool) → IsKept p before parts →
-    slice_get p.leaves k ≡ Some y → row ≡ get_or before k row → answer ≡ has_leaf row x → IsTrue answer ↔ Before p x y
-before_at_row p before parts k x y row answer kept at is says =
-    let fits = rows_get (DirectlyBefore p.process (pairs_of p.tokens)) p.leaves before k y row row at is kept.rows in
-    subst (λ (b : Bool). IsTrue b ↔ Before p x y) (sym says) (fits x)
-
--- where the first is no leaf
-pub before_of_large : (p : Planned) (before : List (LeafSet 16)) (parts : List PartRow) (x y : ℕ) → IsKept p before parts → 1024 ≤ x →
-    IsTrue (nat_lt x 1024) ↔ Before p x y
-before_of_large p before parts x y kept large = (
-  λ less. let more = le-ltb x 1024 large in absurd (cc),
-  λ direct. absurd (let small : x < 1024 = each_member (λ n. n < 1024) p.leaves kept.small x
-      (in_plan p before parts kept x (direct_first p.process (pairs_of p.tokens) kept.ordered x y direct)) in omega arith),
-)
-
--- where the second is no leaf
-pub before_of_none : (p : Planned) (before : List (LeafSet 16)) (parts : List PartRow) (x y : ℕ) → IsKept p before parts → ¬ (y ∈ p.leaves) →
-    IsTrue false ↔ Before p x y
-before_of_none p before parts x y kept missing = (
-  λ never. absurd (cc),
-  λ direct. absurd (missing (in_plan p before parts kept y (direct_second p.process (pairs_of p.tokens) kept.ordered x y direct))),
-)
+pub before_second : (p : Planned) → IsOrdered p.process (pairs_of p.tokens) → (x y : ℕ) → Before p x y → y ∈ leaves p.process
+before_second p ordered x y direct = direct_second p.process (pairs_of p.tokens) ordered x y direct
 
 pub row_within : (p : Planned) (before : List (LeafSet 16)) (parts : List PartRow) → IsKept p before parts → length before ≡ length p.leaves
 row_within p before parts kept = rows_length (DirectlyBefore p.process (pairs_of p.tokens)) p.leaves before kept.rows
@@ -84,7 +66,7 @@ Ready p Done n = IsReady p.process (pairs_of p.tokens) Done n
 pub free_by_row : (p : Planned) (before : List (LeafSet 16)) (parts : List PartRow) (D : ℕ → Type 0) (k n : ℕ) → IsKept p before parts →
     slice_get p.leaves k ≡ Some n → ¬ D n → ((x : ℕ) → IsTrue (has_at before k x) → D x) → IsFree p D n
 free_by_row p before parts D k n kept at fresh row_done = record {
-  leaf = subst (λ (l : List ℕ). n ∈ l) kept.listed (member_at p.leaves k n at);
+  leaf = subst (λ (l : List ℕ). n ∈ l) kept.listed (mem-slice_get p.leaves k n at);
   not_done = fresh;
   before = λ x direct. row_done x ((rows_at (DirectlyBefore p.process (pairs_of p.tokens)) p.leaves before k n at kept.rows x).1 direct);
 }

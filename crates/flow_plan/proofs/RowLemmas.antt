@@ -13,7 +13,8 @@ use Rattle.flow_laws.proofs.GoalParts.{sequence_second}
 use Rattle.flow_plan.specs.declared.token.OrderToken.{OrderToken}
 use Rattle.flow_plan.specs.Planned.{pairs_of}
 use Rattle.flow_plan.specs.Rows.{IsRowOf, AreRowsOf, has_at, FitsRows, AddsRows}
-use Rattle.flow_plan.proofs.PlaceLemmas.{member_at, distinct_of_rising}
+use Rattle.flow_plan.proofs.PlaceLemmas.{distinct_of_rising}
+use Rattle.flow_model.proofs.Lists.{mem-slice_get}
 
 pub either_true : (a b : Bool) → IsTrue (a || b) → IsTrue a ⊎ IsTrue b
 either_true true b h = inl refl
@@ -83,7 +84,7 @@ rows_set P Q (m ∷ ns) (row ∷ rows) zero n new at distinct are is to from =
       rows_same P Q ns rows (λ l member. to l (other l member)) (λ l member. from l (other l member)) are.1,
     )
 rows_set P Q (m ∷ ns) (row ∷ rows) (suc k) n new at distinct are is to from =
-    let other : m ≢ n = λ equal. distinct.0 (subst (λ (i : ℕ). i ∈ ns) (sym equal) (member_at ns k n at)) in (
+    let other : m ≢ n = λ equal. distinct.0 (subst (λ (i : ℕ). i ∈ ns) (sym equal) (mem-slice_get ns k n at)) in (
       row_same (λ x. P x m) (λ x. Q x m) row (to m other) (from m other) are.0,
       rows_set P Q ns rows k n new at distinct.1 are.1 is to from,
     )

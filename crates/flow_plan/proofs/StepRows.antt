@@ -17,7 +17,8 @@ use Rattle.flow_plan.specs.Orders.{MayComeNext, MayFollowInEveryOrder}
 use Rattle.flow_plan.specs.Rows.{IsRowOf, IsFreeAt, has_at}
 use Rattle.flow_plan.specs.Parts.{PartAllows, KeepsBeside, KeepsAfter}
 use Rattle.flow_plan.specs.Kept.{IsKept}
-use Rattle.flow_plan.proofs.PlaceLemmas.{place_of_member, get_at}
+use Rattle.flow_plan.proofs.PlaceLemmas.{place_of_member}
+use Rattle.std.proofs.lemmas.Option.{slice_get-get_or}
 use Rattle.flow_plan.proofs.RowLemmas.{either_true, first_true, second_true}
 use Rattle.flow_plan.proofs.Readiness.{free_by_row, row_of_free, free_of_ready, ready_of_free, parts_of_ready}
 use Rattle.flow_plan.proofs.Following.{every_order, by_two}
@@ -100,7 +101,7 @@ module _ (p : Planned) (before : List (LeafSet 16)) (parts : List PartRow) (kept
         (ready_of_free p before parts Here n kept (record { leaf = is_free.leaf; not_done = λ h. is_free.not_done (to_done n h); before = λ x direct. from_done x (is_free.before x direct) }) both.1),
     λ ready.
         let place = place_of_member p.leaves n (subst (λ (l : List ℕ). n ∈ l) (sym kept.listed) ready.leaf) in
-        let at : slice_get p.leaves place.0 ≡ Some n = get_at p.leaves place.0 place.1 ∙ ap Some place.2 in
+        let at : slice_get p.leaves place.0 ≡ Some n = slice_get-get_or p.leaves place.0 0 place.1 ∙ ap Some place.2 in
         (keep_is n).1 (
           (free_is n).1 (place.0, place.1, at, ready.not_done, row_of_free p before parts (IsDone done) place.0 n kept at (free_of_ready p (IsDone done) n ready)),
           parts_of_ready p before parts Here n kept (same_ready p.process (pairs_of p.tokens) (IsDone done) Here n from_done to_done ready),

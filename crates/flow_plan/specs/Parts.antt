@@ -6,6 +6,8 @@ use Rattle.flow_model.specs.Lists.{◌∈◌, Each}
 use Rattle.flow_model.specs.Process.{Process, leaves}
 use Rattle.flow_model.specs.Ready.{DirectlyBefore, isolated_parts}
 use Rattle.flow_plan.specs.declared.part_row.PartRow.{PartRow}
+use Rattle.flow_plan.specs.declared.part_row.Use.{Use}
+use Rattle.flow_plan.specs.declared.part_row.Use.TheVariants.{Next, Beside, First}
 use Rattle.flow_plan.specs.declared.span.Span.{Span}
 use Rattle.flow_plan.specs.Rows.{IsRowOf}
 use Rattle.flow_plan.specs.Ahead.{IsOutside}
@@ -73,3 +75,9 @@ KeepsBeside row P n = KeepsTogether row (λ x. (x ≡ n) ⊎ P x)
 -- the part has all with P, or none of them; and all, where it has the leaf
 abbrev pub KeepsAfter : PartRow → (ℕ → Type 0) → ℕ → Type 0
 KeepsAfter row P n = KeepsTogether row P × (IsTrue (has_leaf row.inside n) → (x : ℕ) → P x → IsTrue (has_leaf row.inside x))
+
+-- the part keeps the leaf for that use, by the done or the claimed ones with P
+abbrev pub Keeps : Use → PartRow → (ℕ → Type 0) → ℕ → Type 0
+Keeps Next = PartAllows
+Keeps Beside = KeepsBeside
+Keeps First = KeepsAfter

@@ -14,6 +14,17 @@ pub(crate) struct PartRow {
     outside: LeafSet<16>,
 }
 
+/// For what leaves are kept.
+#[derive(Clone, Copy)]
+pub(crate) enum Use {
+    /// To come next after the done ones.
+    Next,
+    /// To follow with the claimed ones in every order.
+    Beside,
+    /// To come before the claimed ones.
+    First,
+}
+
 /// The leaves as a set.
 fn set_of(leaves: &[u32]) -> LeafSet<16>
     requires { All (λ n. n < 1024) leaves.now }
@@ -66,7 +77,7 @@ fn keep(mut leaves: LeafSet<16>, inside: &LeafSet<16>, inner: bool, outer: bool)
 }
 
 impl PartRow {
-    ghost use Rattle.flow_plan.specs.Parts.{PartAllows, KeepsTogether, KeepsBeside, KeepsAfter};
+    ghost use Rattle.flow_plan.specs.Parts.{PartAllows, Keeps, KeepsTogether, KeepsBeside, KeepsAfter};
 
     /// The row of the part with those leaves, whose rows are these.
     pub(crate) fn new(leaves: &[u32], before: &[LeafSet<16>]) -> PartRow
@@ -101,7 +112,7 @@ impl PartRow {
     }
 
     /// Of the leaves those that the part lets come next.
-    pub(crate) fn keep_allowed(&self, done: &LeafSet<16>, leaves: LeafSet<16>) -> LeafSet<16>
+    fn keep_allowed(&self, done: &LeafSet<16>, leaves: LeafSet<16>) -> LeafSet<16>
         ensures { (n : ℕ) → IsTrue (has_leaf result n)
             ↔ (IsTrue (has_leaf leaves n) × PartAllows self.now (λ x. IsTrue (has_leaf done.now x)) n) }
     {
@@ -113,7 +124,7 @@ impl PartRow {
     }
 
     /// Of the leaves those that the part keeps together with the claimed ones.
-    pub(crate) fn keep_beside(&self, claims: &LeafSet<16>, leaves: LeafSet<16>) -> LeafSet<16>
+    fn keep_beside(&self, claims: &LeafSet<16>, leaves: LeafSet<16>) -> LeafSet<16>
         ensures { (n : ℕ) → IsTrue (has_leaf result n)
             ↔ (IsTrue (has_leaf leaves n) × KeepsBeside self.now (λ x. IsTrue (has_leaf claims.now x)) n) }
     {
@@ -123,7 +134,7 @@ impl PartRow {
     }
 
     /// Of the leaves those after which the part keeps the claimed ones together.
-    pub(crate) fn keep_first(&self, claims: &LeafSet<16>, leaves: LeafSet<16>) -> LeafSet<16>
+    fn keep_first(&self, claims: &LeafSet<16>, leaves: LeafSet<16>) -> LeafSet<16>
         ensures { (n : ℕ) → IsTrue (has_leaf result n)
             ↔ (IsTrue (has_leaf leaves n) × KeepsAfter self.now (λ x. IsTrue (has_leaf claims.now x)) n) }
     {
@@ -132,6 +143,23 @@ impl PartRow {
         }
         let outer = !self.inside.meets(claims);
         keep(leaves, &self.inside, false, outer)
+    }
+
+    /// Of the leaves those that the part keeps for that use, by the done or the claimed ones.
+    pub(crate) fn keep_for(
+        &self,
+        what: Use,
+        others: &LeafSet<16>,
+        leaves: LeafSet<16>,
+    ) -> LeafSet<16>
+        ensures { (n : ℕ) → IsTrue (has_leaf result n)
+            ↔ (IsTrue (has_leaf leaves n) × Keeps what self.now (λ x. IsTrue (has_leaf others.now x)) n) }
+    {
+        match what {
+            Use::Next => self.keep_allowed(others, leaves),
+            Use::Beside => self.keep_beside(others, leaves),
+            Use::First => self.keep_first(others, leaves),
+        }
     }
 
     /// The leaf that is missing where the part does not let the leaf come next, if one alone is.

@@ -1,4 +1,4 @@
-ghost use Rattle.std.specs.Prelude.{◌≡◌, ◌≢◌, ◌<◌, ◌↔◌, ℕ, List, IsTrue, IfOk};
+ghost use Rattle.std.specs.Prelude.{◌≡◌, ◌≢◌, ◌<◌, ◌↔◌, ℕ, List, IsTrue, IfNone, IfOk, IfSome};
 ghost use Rattle.std.specs.List.Sorted.{IsStrictlyIncreasing};
 ghost use Rattle.flow_model.specs.Lists.{◌∈◌, Each, AreDistinct};
 ghost use Rattle.flow_model.specs.Process;
@@ -136,12 +136,26 @@ impl Plan {
         &self.tokens
     }
 
+    /// The row of the leaf.
+    fn row_of(&self, leaf: u32) -> Option<&LeafSet<16>>
+        ensures leaf { IfSome result (λ _. leaf ∈ Process.leaves self.now.process) }
+        ensures row { IfSome result (λ row. (x : ℕ) → IsTrue (has_leaf row.now x)
+            ↔ DirectlyBefore self.now.process (pairs_of self.now.tokens) x leaf) }
+        ensures missing { IfNone result (¬ (leaf ∈ Process.leaves self.now.process)) }
+        ensures none { IfNone result ((x : ℕ) → ¬ (DirectlyBefore self.now.process (pairs_of self.now.tokens) x leaf)) }
+    {
+        match place_of(self.goal.leaves(), leaf) {
+            Some(place) => Some(&self.before[place]),
+            None => None,
+        }
+    }
+
     /// Whether the first leaf is directly before the second, in the goal or by a token.
     pub fn before(&self, first: u32, second: u32) -> bool
         ensures { IsTrue result ↔ DirectlyBefore self.now.process (pairs_of self.now.tokens) first second }
     {
-        match place_of(self.goal.leaves(), second) {
-            Some(place) => first < 1024 && self.before[place].has(first),
+        match self.row_of(second) {
+            Some(row) => first < 1024 && row.has(first),
             None => false,
         }
     }
@@ -151,8 +165,8 @@ impl Plan {
         requires { Fits self.now done.now }
         ensures { IsTrue result ↔ IsFree self.now (IsDone done.now) leaf }
     {
-        match place_of(self.goal.leaves(), leaf) {
-            Some(place) => !done.has(leaf) && self.before[place].is_subset(done.row()),
+        match self.row_of(leaf) {
+            Some(row) => !done.has(leaf) && row.is_subset(done.row()),
             None => false,
         }
     }
@@ -161,8 +175,8 @@ impl Plan {
     pub fn all_before(&self, leaf: u32) -> LeafSet<16>
         ensures { (x : ℕ) → IsTrue (has_leaf result x) ↔ DirectlyBefore self.now.process (pairs_of self.now.tokens) x leaf }
     {
-        match place_of(self.goal.leaves(), leaf) {
-            Some(place) => self.before[place],
+        match self.row_of(leaf) {
+            Some(row) => *row,
             None => LeafSet::new(),
         }
     }

@@ -4,12 +4,12 @@ ghost use Rattle.flow_model.specs.Lists.{◌∈◌, Each, AreDistinct};
 ghost use Rattle.flow_model.specs.Ready.{DoneOr};
 ghost use Rattle.leaf_rows.specs.Leaves.{has_leaf};
 ghost use Rattle.flow_plan.specs.Orders.{Fits, IsFree, MayComeNext, MayFollowInEveryOrder};
-ghost use Rattle.flow_plan.specs.Parts.{PartAllows, KeepsBeside, KeepsAfter};
+ghost use Rattle.flow_plan.specs.Parts.{PartAllows, Keeps};
 ghost use Rattle.flow_plan.specs.Progress.{IsDone, bound_of};
 ghost use Rattle.flow_plan.specs.Rows.{IsRowOf, IsFreeAt};
 
 use crate::claims::with;
-use crate::part_row::PartRow;
+use crate::part_row::{PartRow, Use};
 use crate::plan::Plan;
 use crate::progress::Progress;
 use leaf_rows::LeafSet;
@@ -29,35 +29,18 @@ fn free_row(leaves: &[u32], before: &[LeafSet<16>], done: &Progress) -> LeafSet<
     row
 }
 
-/// Of the leaves those that each part lets come next.
-fn keep_allowed(parts: &[PartRow], done: &LeafSet<16>, mut leaves: LeafSet<16>) -> LeafSet<16>
+/// Of the leaves those that each part keeps for that use, by the done or the claimed ones.
+fn keep_for(
+    parts: &[PartRow],
+    what: Use,
+    others: &LeafSet<16>,
+    mut leaves: LeafSet<16>,
+) -> LeafSet<16>
     ensures { (n : ℕ) → IsTrue (has_leaf result n) ↔ (IsTrue (has_leaf leaves n)
-        × Each (λ row. PartAllows row (λ x. IsTrue (has_leaf done.now x)) n) parts.now) }
+        × Each (λ row. Keeps what row (λ x. IsTrue (has_leaf others.now x)) n) parts.now) }
 {
     for part in parts {
-        leaves = part.keep_allowed(done, leaves);
-    }
-    leaves
-}
-
-/// Of the leaves those that each part keeps together with the claimed ones.
-fn keep_beside(parts: &[PartRow], claims: &LeafSet<16>, mut leaves: LeafSet<16>) -> LeafSet<16>
-    ensures { (n : ℕ) → IsTrue (has_leaf result n) ↔ (IsTrue (has_leaf leaves n)
-        × Each (λ row. KeepsBeside row (λ x. IsTrue (has_leaf claims.now x)) n) parts.now) }
-{
-    for part in parts {
-        leaves = part.keep_beside(claims, leaves);
-    }
-    leaves
-}
-
-/// Of the leaves those after which each part keeps the claimed ones together.
-fn keep_first(parts: &[PartRow], claims: &LeafSet<16>, mut leaves: LeafSet<16>) -> LeafSet<16>
-    ensures { (n : ℕ) → IsTrue (has_leaf result n) ↔ (IsTrue (has_leaf leaves n)
-        × Each (λ row. KeepsAfter row (λ x. IsTrue (has_leaf claims.now x)) n) parts.now) }
-{
-    for part in parts {
-        leaves = part.keep_first(claims, leaves);
+        leaves = part.keep_for(what, others, leaves);
     }
     leaves
 }
@@ -111,7 +94,7 @@ impl Plan {
         ensures { IsRowOf (MayComeNext self.now (IsDone done.now)) result }
     {
         let free = free_row(self.leaves(), &self.before, done);
-        keep_allowed(&self.parts, done.row(), free)
+        keep_for(&self.parts, Use::Next, done.row(), free)
     }
 
     /// Adds to what is found the leaves that may follow with the claimed ones in every order, where it is known
@@ -130,7 +113,7 @@ impl Plan {
         if is_empty(&rest) || !claims.is_subset(next) {
             return found;
         }
-        both(found, &keep_beside(&self.parts, claims, rest))
+        both(found, &keep_for(&self.parts, Use::Beside, claims, rest))
     }
 
     /// The only leaf after which that one may come next, where it may not come next yet.
@@ -169,7 +152,7 @@ impl Plan {
             return found;
         }
         match first_outside(claims, next) {
-            None => both(found, &keep_first(&self.parts, claims, rest)),
+            None => both(found, &keep_for(&self.parts, Use::First, claims, rest)),
             Some(leaf) => self.add_only(done, leaf, list, &rest, found),
         }
     }

@@ -8,7 +8,7 @@ use Rattle.flow_laws.proofs.Members.{mem_append_left, mem_append_right, mem-appe
 use Rattle.flow_plan.specs.declared.progress.Progress.{Progress}
 use Rattle.flow_plan.specs.Progress.{is_done, IsDone}
 use Rattle.flow_plan.proofs.Following.{noted_to, noted_from}
-use Rattle.flow_plan.proofs.PlaceLemmas.{member_at, get_at, not_found, rising_never_falls}
+use Rattle.flow_plan.proofs.PlaceLemmas.{not_found, read_member, rising_never_falls}
 
 -- the done leaves are those of the list
 abbrev pub AreDone : Progress → List ℕ → Type 0
@@ -40,7 +40,7 @@ done_push old new journal more leaf noted is same n = (
 pub found_there : (xs : List ℕ) (x : ℕ) (r : Result ℕ ℕ) → IsBinarySearchResult (λ y. nat_cmp y x) xs r → IsStrictlyIncreasing xs → IsTrue (is_ok r) ↔ (x ∈ xs)
 found_there xs x (Ok i) is rising =
     let found = searched xs x (Ok i) is (rising_never_falls xs rising) in
-    let member : x ∈ xs = subst (λ (n : ℕ). n ∈ xs) found.1 (member_at xs i (get_or xs i 0) (get_at xs i found.0)) in
+    let member : x ∈ xs = subst (λ (n : ℕ). n ∈ xs) found.1 (read_member xs i found.0) in
     (λ yes. member, λ m. refl)
 found_there xs x (Err i) is rising =
     let found = searched xs x (Err i) is (rising_never_falls xs rising) in

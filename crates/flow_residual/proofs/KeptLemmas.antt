@@ -4,9 +4,9 @@ use Rattle.std.specs.List.{filter}
 use Rattle.std.proofs.lemmas.List.{map-append, take-append-drop}
 use Rattle.flow_model.specs.Lists.{◌∈◌, Each, AreDistinct}
 use Rattle.flow_model.specs.Process.{leaves}
-use Rattle.flow_laws.proofs.Members.{mem-append, mem_append_left, each-append, each_parts, each_member, each_from_members, distinct_parts, distinct-append}
 use Rattle.flow_laws.proofs.MadeLists.{of_map}
-use Rattle.flow_plan.proofs.PlaceLemmas.{member_at, get_at}
+use Rattle.flow_laws.proofs.Members.{mem-append, mem_append_left, each-append, each_parts, each_member, each_from_members, distinct_parts, distinct-append}
+use Rattle.flow_plan.proofs.PlaceLemmas.{read_member}
 use Rattle.flow_excise.proofs.RingLemmas.{at_most}
 use Rattle.flow_residual.specs.declared.ban.Ban.{Ban}
 use Rattle.flow_residual.specs.Remaining.{Remaining, MayComeNext}
@@ -46,7 +46,7 @@ not_in_front : (list : List ℕ) (i : ℕ) → AreDistinct list → i < length l
 not_in_front [] i d h m = absurd (omega arith)
 not_in_front (x ∷ list) zero d h m = m
 not_in_front (x ∷ list) (suc i) d h (inl e) =
-    d.0 (subst (λ z. z ∈ list) e (member_at list i (get_or list i 0) (get_at list i (omega arith))))
+    d.0 (subst (λ z. z ∈ list) e (read_member list i (omega arith)))
 not_in_front (x ∷ list) (suc i) d h (inr m) = not_in_front list i d.1 (omega arith) m
 
 -- ---- the leaf that may come next
@@ -115,7 +115,7 @@ module _ (r : Remaining) (fronts : List ℕ) (k : IsKept r fronts) (i : ℕ) (wi
   stays ban = nat_le ban.0 i
 
   back_done : back ∈ r.journal
-  back_done = member_at r.journal i back (get_at r.journal i within)
+  back_done = read_member r.journal i within
 
   back_free : ¬ (back ∈ banned (filter stays r.bans))
   back_free m = each_member (λ n. ¬ (n ∈ r.journal)) (banned r.bans) k.apart back (left_over stays r.bans back m) back_done

@@ -9,7 +9,7 @@ use Rattle.std.specs.Str.{bytes_eq}
 use Rattle.std.proofs.lemmas.List.Concat.{flat_map-append}
 use Rattle.flow_model.specs.Lists.{◌∈◌, AreDistinct}
 use Rattle.flow_model.specs.declared.labels.Note.{Note}
-use Rattle.flow_laws.proofs.ListLemmas2.{mem_append_left, mem_append_right, mem-append, distinct-append}
+use Rattle.flow_laws.proofs.Members.{mem_append_left, mem_append_right, mem-append, distinct-append}
 use Rattle.flow_form.specs.Form.{Shape}
 use Rattle.flow_form.specs.Script.{Declared, event, flow}
 use Rattle.flow_form.specs.Names.{declared_name, declared_names, event_name, event_names}

@@ -2,7 +2,7 @@
 use Rattle.std.proofs.Common.{◌≡◌, ℕ, suc, List, [], ◌∷◌, ◌++◌, length, refl, sym, ap, subst, ◌∙◌, ◌⊎◌, inl, inr}
 use Rattle.flow_model.specs.Lists.{◌∈◌, Each, AreDistinct}
 use Rattle.flow_model.proofs.Lists.{each_parts}
-use Rattle.flow_laws.proofs.ListLemmas2.{distinct_parts}
+use Rattle.flow_laws.proofs.Members.{distinct_parts}
 use Rattle.flow_form.specs.Script.{Declared, Said, Asked, holds, redundant}
 use Rattle.flow_form.specs.Names.{declared_names, event_names, names_in_rule}
 use Rattle.flow_grammar.specs.Roles.{Role, declares, in_goal, in_rule, in_fact, declaring, used_in_goals, used_in_rules, script_roles, query_roles}

@@ -2,7 +2,7 @@ use Rattle.std.proofs.Common.{◌≡◌, ◌<◌, ◌+◌, ℕ, Some, length, sl
 use Rattle.leaf_rows.specs.declared.leaf_set.LeafSet.{LeafSet}
 use Rattle.flow_plan.specs.Progress.{IsDone}
 use Rattle.flow_plan.specs.Rows.{IsRowOf, IsFreeAt}
-use Rattle.flow_plan.proofs.PlaceLemmas.{get_at}
+use Rattle.std.proofs.lemmas.Option.{slice_get-get_or}
 use Rattle.flow_plan.proofs.PartLemmas.{has_at_is}
 use Rattle.flow_plan.proofs.StepRows.{free_skipped, free_added}
 use Rattle.flow_plan.proofs.steps.free_row.Goals as goal
@@ -14,7 +14,7 @@ loop-place-preserved c =
     let rows = c.args.before.now in
     let i = c.loop-place.place in
     let n : ℕ = get_or ns i 0 in
-    let at : slice_get ns i ≡ Some n = get_at ns i c.loop-place-test.true in
+    let at : slice_get ns i ≡ Some n = slice_get-get_or ns i 0 c.loop-place-test.true in
     let within : i < length rows = omega (arith, c.loop-place-test.true, c.requires.one_each) in
     elim c.if-not-has.branch [
       | then-not-has+then-is_subset w ↦

@@ -1,6 +1,6 @@
 use Rattle.std.proofs.Common.{◌<◌, ◌∙◌, arith, get_or}
 use Rattle.flow_laws.proofs.Members.{each_member}
-use Rattle.flow_plan.proofs.PlaceLemmas.{member_at, get_at}
+use Rattle.flow_plan.proofs.PlaceLemmas.{read_member}
 use Rattle.flow_residual.proofs.DoneLemmas.{done_more}
 use Rattle.flow_residual.proofs.fronts.progress_of.Goals as goal
 
@@ -8,7 +8,7 @@ pub note-requires : goal.note-requires
 note-requires c =
     let xs = c.args.leaves.now in
     let small : get_or xs c.loop-leaf.leaf-index 0 < 1024 = each_member (λ n. n < 1024) xs c.requires (get_or xs c.loop-leaf.leaf-index 0)
-    (member_at xs c.loop-leaf.leaf-index (get_or xs c.loop-leaf.leaf-index 0) (get_at xs c.loop-leaf.leaf-index c.loop-leaf-test.true)) in
+    (read_member xs c.loop-leaf.leaf-index c.loop-leaf-test.true) in
     omega (arith, c.loop-leaf.invariant.bound)
 
 pub loop-leaf-preserved : goal.loop-leaf-preserved

@@ -7,7 +7,7 @@ use Rattle.flow_goal.proofs.choices.Choices.resolution_leaves.Goals as goal
 
 pub written-requires-clause-choices : goal.written-requires-clause-choices
 written-requires-clause-choices c =
-    c.requires.choices.counted ∙ sym (ap sides_in c.requires.choices.bared ∙ same_sides c.args.tree.now.process)
+    c.deref.ensures.value ∙ c.requires.choices.counted ∙ sym (ap sides_in c.requires.choices.bared ∙ same_sides c.args.tree.now.process)
 
 pub written-requires-clause-numbered : goal.written-requires-clause-numbered
 written-requires-clause-numbered c =

@@ -29,9 +29,9 @@ pub returns : goal.returns
 returns c done list next_is claims_are distinct =
     let i = c.self.inside in
     let p : Planned = planned i.goal i.tokens.items in
-    let keep = subst (λ (rows : List PartRow). (n : ℕ) → IsTrue (has_leaf c.keep_beside.result n) ↔ (IsTrue (has_leaf c.rest_of-rest.result n)
-    × Each (λ row. KeepsBeside row (λ x. IsTrue (has_leaf c.args.claims.now x)) n) rows)) c.deref.ensures.value c.keep_beside.ensures in
+    let keep = subst (λ (rows : List PartRow). (n : ℕ) → IsTrue (has_leaf c.keep_for.result n) ↔ (IsTrue (has_leaf c.rest_of-rest.result n)
+    × Each (λ row. KeepsBeside row (λ x. IsTrue (has_leaf c.args.claims.now x)) n) rows)) c.deref.ensures.value c.keep_for.ensures in
     subst (λ (p : Planned). (n : ℕ) → IsTrue (has_leaf c.both.result n) ↔ (IsTrue (has_leaf c.args.found n) ⊎ MayFollowInEveryOrder p (IsDone done) (n ∷ list))) c.self.view_is
     (adds_beside p done list c.args.next.now c.args.claims.now c.args.found c.rest_of-rest.result c.rest_of-rest.ensures
     (subst (λ (p : Planned). IsRowOf (MayComeNext p (IsDone done)) c.args.next.now) (sym c.self.view_is) next_is) claims_are distinct
-    i.before.items i.parts.items c.self.invariant (c.is_subset.ensures.0 c.if-not-is_subset.false) c.keep_beside.result c.both.result c.both.ensures keep)
+    i.before.items i.parts.items c.self.invariant (c.is_subset.ensures.0 c.if-not-is_subset.false) c.keep_for.result c.both.result c.both.ensures keep)

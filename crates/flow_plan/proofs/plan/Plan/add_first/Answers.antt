@@ -25,10 +25,10 @@ pub returns-in-None : goal.returns-in-None
 returns-in-None c =
     let i = c.self.inside in
     let p : Planned = planned i.goal i.tokens.items in
-    let keep = subst (λ (rows : List PartRow). (n : ℕ) → IsTrue (has_leaf c.keep_first.result n) ↔ (IsTrue (has_leaf c.rest_of-rest.result n)
-    × Each (λ row. KeepsAfter row (λ x. IsTrue (has_leaf c.args.claims.now x)) n) rows)) c.deref.ensures.value c.keep_first.ensures in
+    let keep = subst (λ (rows : List PartRow). (n : ℕ) → IsTrue (has_leaf c.keep_for.result n) ↔ (IsTrue (has_leaf c.rest_of-rest.result n)
+    × Each (λ row. KeepsAfter row (λ x. IsTrue (has_leaf c.args.claims.now x)) n) rows)) c.deref.ensures.value c.keep_for.ensures in
     subst (λ (p : Planned). (n : ℕ) → IsTrue (has_leaf c.both.result n) ↔ (IsTrue (has_leaf c.args.found n) ⊎ (MayComeNext p (IsDone c.args.done.now) n
     × MayFollowInEveryOrder p (DoneOr (IsDone c.args.done.now) (n ∷ [])) c.args.list.now))) c.self.view_is
     (adds_first p c.args.done.now c.args.list.now c.args.next.now c.args.claims.now c.args.found c.rest_of-rest.result c.rest_of-rest.ensures
     (subst (λ (p : Planned). IsRowOf (MayComeNext p (IsDone c.args.done.now)) c.args.next.now) (sym c.self.view_is) c.requires.next) c.requires.claims c.requires.distinct
-    i.before.items i.parts.items c.self.invariant c.in-None.ensures.none c.keep_first.result c.both.result c.both.ensures keep)
+    i.before.items i.parts.items c.self.invariant c.in-None.ensures.none c.keep_for.result c.both.result c.both.ensures keep)

@@ -28,7 +28,7 @@ returns c =
     subst (λ (ns : List ℕ). IsRowOf (λ n. IsFreeAt ns i.before.items (length ns) (IsDone c.args.done.now) n) c.free_row-free.result) listed
     (subst (λ (rows : List (LeafSet 16)). IsRowOf (λ n. IsFreeAt c.leaves.result.now rows (length c.leaves.result.now) (IsDone c.args.done.now) n) c.free_row-free.result) c.deref.ensures.value
     c.free_row-free.ensures) in
-    let keep = subst (λ (rows : List PartRow). (n : ℕ) → IsTrue (has_leaf c.keep_allowed.result n) ↔ (IsTrue (has_leaf c.free_row-free.result n)
-    × Each (λ row. PartAllows row (λ x. IsTrue (has_leaf c.row.result.now x)) n) rows)) c.deref-2.ensures.value c.keep_allowed.ensures in
-    subst (λ (p : Planned). IsRowOf (MayComeNext p (IsDone c.args.done.now)) c.keep_allowed.result) c.self.view_is
-    (next_by_rows p i.before.items i.parts.items c.self.invariant c.args.done.now c.row.result.now c.row.ensures c.free_row-free.result c.keep_allowed.result free keep)
+    let keep = subst (λ (rows : List PartRow). (n : ℕ) → IsTrue (has_leaf c.keep_for.result n) ↔ (IsTrue (has_leaf c.free_row-free.result n)
+    × Each (λ row. PartAllows row (λ x. IsTrue (has_leaf c.row.result.now x)) n) rows)) c.deref-2.ensures.value c.keep_for.ensures in
+    subst (λ (p : Planned). IsRowOf (MayComeNext p (IsDone c.args.done.now)) c.keep_for.result) c.self.view_is
+    (next_by_rows p i.before.items i.parts.items c.self.invariant c.args.done.now c.row.result.now c.row.ensures c.free_row-free.result c.keep_for.result free keep)

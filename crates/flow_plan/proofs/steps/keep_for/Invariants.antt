@@ -1,9 +1,9 @@
 use Rattle.std.proofs.Common.{ℕ, ◌↔◌, IsTrue, take}
 use Rattle.leaf_rows.specs.Leaves.{has_leaf}
 use Rattle.flow_model.specs.Lists.{Each}
-use Rattle.flow_plan.specs.Parts.{KeepsBeside}
-use Rattle.flow_plan.proofs.steps.keep_beside.Given as goal
+use Rattle.flow_plan.specs.Parts.{Keeps}
+use Rattle.flow_plan.proofs.steps.keep_for.Given as goal
 
 abbrev pub invariant-loop-part : goal.invariant-loop-part
 invariant-loop-part l = (n : ℕ) → IsTrue (has_leaf l.leaves n) ↔ (IsTrue (has_leaf l.initial.leaves n)
-    × Each (λ row. KeepsBeside row (λ x. IsTrue (has_leaf l.claims x)) n) (take l.part-index l.parts))
+    × Each (λ row. Keeps l.what row (λ x. IsTrue (has_leaf l.others x)) n) (take l.part-index l.parts))

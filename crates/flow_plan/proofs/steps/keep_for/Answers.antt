@@ -1,0 +1,12 @@
+use Rattle.std.proofs.Common.{IsTrue}
+use Rattle.leaf_rows.specs.Leaves.{has_leaf}
+use Rattle.flow_plan.specs.declared.part_row.PartRow.{PartRow}
+use Rattle.flow_plan.specs.Parts.{Keeps}
+use Rattle.flow_plan.proofs.StepRows.{kept_step}
+use Rattle.flow_plan.proofs.steps.keep_for.Goals as goal
+
+pub loop-part-preserved : goal.loop-part-preserved
+loop-part-preserved c n =
+    kept_step (λ (row : PartRow). Keeps c.args.what row (λ x. IsTrue (has_leaf c.args.others.now x)) n) c.args.parts.now c.loop-part.part-index c.part-item.result
+    (has_leaf c.keep_for-leaves.result n) (has_leaf c.loop-part.leaves n) (has_leaf c.args.leaves n) c.loop-part-test.true c.part-item.is
+    (c.keep_for-leaves.ensures n) (c.loop-part.invariant n)
