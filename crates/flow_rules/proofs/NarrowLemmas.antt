@@ -1,6 +1,10 @@
 -- What is kept of parts in some lanes, and the ways of narrowed rules.
-use Rattle.std.proofs.Common.{◌≡◌, ℕ, ◌+◌, ◌-◌, ◌^◌, ◌<◌, Bool, true, false, not, true≢false, ◌||◌, ◌&&◌, if◌then◌else◌, List, [], ◌∷◌, ◌++◌, length, take, get_or, Option, refl, sym, ap, ◌∙◌, append-nil, bit_and, bit_or}
-use Rattle.std.proofs.lemmas.Bool.{not-false}
+use Rattle.std.proofs.Common.{◌≡◌, ℕ, ◌+◌, ◌-◌, ◌^◌, ◌<◌, Bool, true, false, not, true≢false, ◌||◌, ◌&&◌, if◌then◌else◌, List, [], ◌∷◌, ◌++◌, length, take, get_or, Option, refl, sym, ap, ◌∙◌, append-nil, bit_and, bit_or, ◌==◌, ◌↔◌, arith}
+use Rattle.std.proofs.lemmas.Bool.{eq-eqb, eqb-true, not-false}
+use Rattle.std.proofs.lemmas.Bool.Decides.{nat_tests}
+use Rattle.std.proofs.lemmas.Nat.{and_le_l}
+use Rattle.std.proofs.lemmas.Nat.Bits.{bit_at-lt, bit_at-zero, same_from_bits_below}
+use Rattle.std.specs.Int.{bit_at}
 use Rattle.flow_model.specs.Ways.{free_way, is_free, ways}
 use Rattle.flow_rules.specs.declared.lanes.Lanes.{Lanes}
 use Rattle.flow_rules.specs.declared.narrowed.LaneRule.{LaneRule}
@@ -23,12 +27,33 @@ out_of true true e h = refl
 out_of true false e h = absurd (true≢false e)
 out_of false d e h = absurd (true≢false (sym h))
 
-pub covered : (word wanted lane : ℕ) → word < 2 ^ 64 → lane < 64 → bit_and wanted (2 ^ 64 - 1 - word) ≡ 0 → has_lane wanted lane ≡ true → has_lane word lane ≡ true
-covered word wanted lane fits within none has =
-    out_of (has_lane wanted lane) (has_lane word lane)
-    (sym (lane_and wanted (2 ^ 64 - 1 - word) lane ∙ (λ k. has_lane wanted lane && lane_not word lane fits within k))
-    ∙ ap (λ (w : ℕ). has_lane w lane) none ∙ lane_none lane)
-    has
+into : (b d : Bool) → (b ≡ true → d ≡ true) → (b && not d) ≡ false
+into true d h = ap not (h refl)
+into false d h = refl
+
+zero_digit : (d : ℕ) → d < 2 → (d == 1) ≡ false → d ≡ 0
+zero_digit d small e = grind (arith, nat_tests)
+
+-- a word with no lane is zero
+no_lane : (n : ℕ) → n < 2 ^ 64 → ((lane : ℕ) → lane < 64 → has_lane n lane ≡ false) → n ≡ 0
+no_lane n fits none =
+    same_from_bits_below 64 n 0 fits (omega arith)
+    (λ lane within. zero_digit (bit_at n lane) (bit_at-lt n lane) (none lane within) ∙ sym (bit_at-zero lane))
+
+module _ (word wanted : ℕ) (fits : word < 2 ^ 64) (wanted_fits : wanted < 2 ^ 64) where
+  left_out_of : (lane : ℕ) → lane < 64 → has_lane (bit_and wanted (2 ^ 64 - 1 - word)) lane ≡ (has_lane wanted lane && not (has_lane word lane))
+  left_out_of lane within = lane_and wanted (2 ^ 64 - 1 - word) lane ∙ (λ k. has_lane wanted lane && lane_not word lane fits within k)
+
+  pub covered : (bit_and wanted (2 ^ 64 - 1 - word) == 0) ≡ true ↔ ((lane : ℕ) → lane < 64 → has_lane wanted lane ≡ true → has_lane word lane ≡ true)
+  covered = (
+    λ none lane within.
+        out_of (has_lane wanted lane) (has_lane word lane)
+        (sym (left_out_of lane within) ∙ ap (λ (w : ℕ). has_lane w lane) (eqb-true (bit_and wanted (2 ^ 64 - 1 - word)) 0 none) ∙ lane_none lane),
+    λ all.
+        eq-eqb (bit_and wanted (2 ^ 64 - 1 - word)) 0
+        (no_lane (bit_and wanted (2 ^ 64 - 1 - word)) (omega (arith, and_le_l wanted (2 ^ 64 - 1 - word)))
+        (λ lane within. left_out_of lane within ∙ into (has_lane wanted lane) (has_lane word lane) (all lane within))),
+  )
 
 -- what is kept has the ways of the parts in each of the wanted lanes
 

@@ -1,4 +1,4 @@
-ghost use Rattle.std.specs.Prelude.{◌≡◌, ◌<◌, ℕ, List, Option, IfOk, IsTrue};
+ghost use Rattle.std.specs.Prelude.{◌≡◌, ◌<◌, ◌↔◌, ℕ, List, Option, IfOk, IsTrue};
 ghost use Rattle.flow_model.specs.Ways as model;
 ghost use Rattle.flow_rules.specs.Kept.{items_of};
 ghost use Rattle.flow_rules.specs.Narrow.{HasWaysIn};
@@ -21,7 +21,7 @@ pub(crate) struct Narrow {
 
 /// Whether each of the wanted lanes is in the word.
 fn covers(word: u64, wanted: u64) -> bool
-    ensures { IsTrue result → (lane : ℕ) → lane < 64 → IsTrue (has_lane wanted lane) → IsTrue (has_lane word lane) }
+    ensures { IsTrue result ↔ ((lane : ℕ) → lane < 64 → IsTrue (has_lane wanted lane) → IsTrue (has_lane word lane)) }
 {
     wanted & !word == 0
 }

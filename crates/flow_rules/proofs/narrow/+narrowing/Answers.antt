@@ -42,7 +42,7 @@ narrow_all-loop-part-preserved t c =
     let stands = c.in_ok-narrow.ensures.standing in
     let out : c.covers.result ≡ true → AllKept wanted lanes (items_of c.loop-part.kept) (take (i + 1) parts) =
     λ covers. all_without wanted lanes parts i part c.loop-part-test.true c.part-item.is (items_of c.loop-part.kept) narrow.standing stands
-    (c.covers.ensures covers) c.loop-part.invariant.1 in (
+    (c.covers.ensures.0 covers) c.loop-part.invariant.1 in (
       λ lane leaf within shows.
           stand_as _ lane (both_ways (all_ways leaf (take i parts)) (ways (normal_of part) leaf)) _
           (sym (fold_more (λ vs r. both_ways vs (ways (normal_of r) leaf)) free_way parts i part c.loop-part-test.true c.part-item.is))
@@ -85,7 +85,7 @@ narrow_any-loop-part-preserved t c =
     let stands = c.in_ok-narrow.ensures.standing in
     let out : c.covers.result ≡ true → AnyKept wanted lanes (items_of c.loop-part.kept) (take (i + 1) parts) =
     λ covers. any_without wanted lanes parts i part c.loop-part-test.true c.part-item.is (items_of c.loop-part.kept) narrow.standing stands
-    (c.covers.ensures covers) c.loop-part.invariant.1 in (
+    (c.covers.ensures.0 covers) c.loop-part.invariant.1 in (
       λ lane leaf within shows.
           stand_as _ lane (either_way (any_ways leaf (take i parts)) (ways (normal_of part) leaf)) _
           (sym (fold_more (λ vs r. either_way vs (ways (normal_of r) leaf)) [] parts i part c.loop-part-test.true c.part-item.is))
