@@ -1,11 +1,13 @@
 ghost use Rattle.std.specs.Prelude.{◌≡◌, ◌++◌, IfOk, OnOk, map};
 ghost use Rattle.flow_model.specs.Ways as model;
-ghost use Rattle.flow_rules.specs.Asked.{ways_asked, ways_of_all, ways_of_any};
+ghost use Rattle.flow_rules.specs.declared.connective.Connective.TheVariants.{And, Or};
+ghost use Rattle.flow_rules.specs.Asked.{ways_asked, ways_asked_by};
 ghost use Rattle.flow_rules.specs.EventLeaves.{leaf_in};
 ghost use Rattle.flow_rules.specs.Normal.{normal_of};
-ghost use Rattle.flow_rules.specs.WayLists.{both_ways, pairs_of};
+ghost use Rattle.flow_rules.specs.WayLists.{both_ways, decided, pairs_of};
 
 use crate::asked::{Asked, Found, asked_of};
+use crate::connective::Connective;
 use crate::leaf_table::LeafEvents;
 use crate::normal::Nnf;
 use crate::order_set::OrderSet;
@@ -18,6 +20,17 @@ pub(crate) fn free_way(alloc: Global) -> Result<Vec<OrderSet>, AllocError>
     let mut all = Vec::new(alloc);
     all.push(OrderSet::new(Vec::new(alloc)))?;
     Ok(all)
+}
+
+/// The one way that asks for nothing, or none.
+fn decided(alloc: Global, met: bool) -> Result<Vec<OrderSet>, AllocError>
+    ensures { IfOk result (λ all. pairs_of all.items ≡ decided met) }
+{
+    if met {
+        free_way(alloc)
+    } else {
+        Ok(Vec::new(alloc))
+    }
 }
 
 /// Puts the others behind the ways.
@@ -50,7 +63,7 @@ fn extend_by_all(
     parts: &[Asked],
     all: &mut Vec<OrderSet>,
 ) -> Result<(), AllocError>
-    ensures { OnOk result (pairs_of all.new.items ≡ pairs_of all.old.items ++ map (λ w. way.pairs.items ++ w) (ways_of_all parts.now)) }
+    ensures { OnOk result (pairs_of all.new.items ≡ pairs_of all.old.items ++ map (λ w. way.pairs.items ++ w) (ways_asked_by And parts.now)) }
 {
     let mut ways = Vec::new(alloc);
     ways.push(way)?;
@@ -68,7 +81,7 @@ fn extend_by_any(
     parts: &[Asked],
     all: &mut Vec<OrderSet>,
 ) -> Result<(), AllocError>
-    ensures { OnOk result (pairs_of all.new.items ≡ pairs_of all.old.items ++ map (λ w. way.now.pairs.items ++ w) (ways_of_any parts.now)) }
+    ensures { OnOk result (pairs_of all.new.items ≡ pairs_of all.old.items ++ map (λ w. way.now.pairs.items ++ w) (ways_asked_by Or parts.now)) }
 {
     for part in parts {
         extend(alloc, way.copy(alloc)?, part, all)?;
@@ -91,8 +104,8 @@ fn extend(
             all.push(way.with(*first, *second)?)?;
             Ok(())
         }
-        Asked::All(parts) => extend_by_all(alloc, way, parts, all),
-        Asked::Any(parts) => extend_by_any(alloc, &way, parts, all),
+        Asked::Parts(Connective::And, parts) => extend_by_all(alloc, way, parts, all),
+        Asked::Parts(Connective::Or, parts) => extend_by_any(alloc, &way, parts, all),
     }
 }
 
@@ -111,8 +124,7 @@ pub fn ways(alloc: Global, rule: &Nnf, events: &LeafEvents) -> Result<Vec<OrderS
     ensures { IfOk result (λ all. pairs_of all.items ≡ model.ways (normal_of rule.now) (leaf_in events.now)) }
 {
     match asked_of(alloc, rule, events)? {
-        Found::Met => free_way(alloc),
-        Found::Unmet => Ok(Vec::new(alloc)),
+        Found::Decided(met) => decided(alloc, met),
         Found::Open(asked) => listed(alloc, &asked),
     }
 }
@@ -128,8 +140,11 @@ pub(crate) fn with_rule(
         both_ways (pairs_of ways.items) (model.ways (normal_of rule.now) (leaf_in events.now))) }
 {
     match asked_of(alloc, rule, events)? {
-        Found::Met => Ok(ways),
-        Found::Unmet => Ok(Vec::new(alloc)),
+        Found::Decided(true) => Ok(ways),
+        Found::Decided(false) => {
+            drop(ways);
+            Ok(Vec::new(alloc))
+        }
         Found::Open(asked) => extended(alloc, ways, &asked),
     }
 }
