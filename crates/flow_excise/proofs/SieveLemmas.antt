@@ -1,6 +1,7 @@
 -- Options that are looked at one by one.
-use Rattle.std.proofs.Common.{◌≡◌, Bool, false, not, true≢false, append-nil, ℕ, zero, suc, ◌+◌, ◌<◌, List, [], ◌∷◌, ◌++◌, length, take, get_or, map, refl, sym, ap, ◌∙◌, subst, inl, inr, arith, append_assoc, Some, slice_get, Result, Ok, Err, MatchResult}
-use Rattle.std.proofs.lemmas.List.{get_or-map, length-map, length-take-le, map-append, take_more}
+use Rattle.std.proofs.Common.{◌≡◌, Bool, false, not, true≢false, append-nil, ℕ, zero, suc, ◌+◌, ◌<◌, ◌≤◌, List, [], ◌∷◌, ◌++◌, length, take, get_or, map, refl, sym, ap, ◌∙◌, subst, inl, inr, arith, append_assoc, Some, slice_get, Result, Ok, Err, MatchResult}
+use Rattle.std.proofs.lemmas.Bool.{cases_lt}
+use Rattle.std.proofs.lemmas.List.{get_or-map, length-map, length-take-le, map-append, take_all, take_more}
 use Rattle.std.proofs.lemmas.Option.{slice_get_within, slice_get-get_or, get_or_from_slice_get}
 use Rattle.flow_model.specs.Lists.{◌∈◌}
 use Rattle.flow_model.specs.Process.{Process, Empty}
@@ -19,7 +20,7 @@ use Rattle.flow_excise.specs.Executions.{HasExecution, NumberedOption, numbered_
 use Rattle.flow_excise.specs.Compilation.{options_of}
 use Rattle.flow_excise.specs.Options.{all_options_by, has_ways, options_by, ways_by}
 use Rattle.flow_excise.specs.Plans.{option_of}
-use Rattle.flow_excise.specs.Sieves.{ArePlannable, option_with, options_with, HasSifted, Sifts}
+use Rattle.flow_excise.specs.Sieves.{ArePlannable, option_with, options_with, HasSifted, HasSiftedTo, Sifts}
 use Rattle.flow_excise.proofs.SiftingLemmas.{keep_one, drop_one, numbered, more_ways, more_resolutions}
 use Rattle.flow_excise.proofs.TallyLemmas.{taken_more}
 use Rattle.flow_model.proofs.Lists.{mem-slice_get}
@@ -139,3 +140,20 @@ sift_more t n i old new l this s =
     ∙ more_resolutions 0 (map f (take i all)) (f q)
     ∙ ap (λ k. numbered_options 0 (map f (take i all)) ++ numbered_ways k 0 (f q)) long in
     subst (λ ns. HasSifted ns new) (sym whole) (this q there (numbered_options 0 (map f (take i all))) s)
+
+-- resolutions of which none has an option
+module _ (t : Labelled) (n : Normal) (met : List Bool) (listed : met ≡ map (has_ways t n) (resolutions t.process)) (first : ℕ) (s : Sieve) where
+  pub none_sifted : (count : ℕ) → ((k : ℕ) → first ≤ k → k < first + count → get_or met k false ≡ false) → HasSiftedTo t n first s → HasSiftedTo t n (first + count) s
+  none_sifted zero none so_far = let e : first ≡ first + 0 = omega arith in subst (λ k. HasSiftedTo t n k s) e so_far
+  none_sifted (suc count) none so_far =
+      let all = resolutions t.process in
+      let before = none_sifted count (λ k low high. none k low (omega arith)) so_far in
+      let next : first + count + 1 ≡ first + suc count = omega arith in
+      let this = none (first + count) (omega arith) (omega arith) in
+      subst (λ k. HasSiftedTo t n k s) next (elim (cases_lt (first + count) (length all)) [
+        | inl h ↦
+            sift_more t n (first + count) s s h (λ q there. sift_none t n (first + count) q s (none_found t n q (met_at t n met listed (first + count) false this q there))) before
+        | inr h ↦
+            subst (λ qs. HasSifted (numbered_options 0 (map (options_by t n) qs)) s)
+            (take_all (first + count) all h ∙ sym (take_all (first + count + 1) all (omega arith))) before
+      ])

@@ -13,16 +13,13 @@ use crate::items::items_of_plan;
 use crate::order::run_of;
 use flow_plan::{KnotFree, OrderToken, Plan};
 use std::alloc::{AllocError, AllocFailed, Global};
-use thiserror::Error;
 
 /// Why a plan is not kept.
-#[derive(Debug, PartialEq, Eq, Drop, Error)]
+#[derive(Drop)]
 pub enum ExciseRefusal {
     /// It has no execution, since its leaves wait for each other.
-    #[error("leaves wait for each other")]
     Circle(Circle),
     /// Nothing is said of the plan.
-    #[error("out of memory")]
     NoMemory,
 }
 

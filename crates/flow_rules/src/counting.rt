@@ -11,7 +11,7 @@ use crate::normal::Nnf;
 
 /// How many ways there are, and how many pairs in all of them. What would pass the greatest number
 /// is kept at it.
-#[derive(Clone, Copy, Debug, PartialEq, Eq)]
+#[derive(Clone, Copy)]
 pub struct WayCount {
     pub ways: u64,
     pub pairs: u64,

@@ -74,6 +74,6 @@ loop-top-preserved c =
       arranged = i.arranged;
       path = path_on c.args.items.now c.requires.apart c.loop-top.left c.loop-top.order.items c.loop-top.path.items c.insert.new.self.items c.in-Some.top c.in-Some-blocker.next t.0 t.1
           i.arranged i.path c.in-Some-blocker.ensures fresh new;
-      start = ⊎_elim inl (λ m. inr (subst (λ (z : List ℕ). c.args.start ∈ z) (sym new) (inr m))) i.start;
+      start = ⊎_elim inl (λ m. inr (subst (λ (z : List ℕ). c.args.start ∈ z) (sym {A = List ℕ} new) (inr m))) i.start;
       kept = i.kept;
     }
