@@ -9,7 +9,8 @@ ghost use Rattle.flow_excise.specs.declared.refusal.CompileRefusal.TheVariants.{
 ghost use Rattle.flow_excise.specs.Blocks.{HasWays, options_in};
 ghost use Rattle.flow_excise.specs.Executions.{numbered_options, numbered_ways};
 ghost use Rattle.flow_excise.specs.Options.{all_options_by, has_ways, options_by};
-ghost use Rattle.flow_excise.specs.Sieves.{ArePlannable, HasSifted, HasSiftedTo, Sifts, options_with, option_with, IsPlannable};
+ghost use Rattle.flow_excise.specs.Sieves.{ArePlannable, HasSifted, HasSiftedTo, Sifts, options_with, IsPlannable};
+ghost use Rattle.flow_weave.specs.Woven.{option_with};
 
 use crate::block::{Block, blocks};
 use crate::excising::{ExciseRefusal, excise};

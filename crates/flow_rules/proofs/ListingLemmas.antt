@@ -6,15 +6,15 @@ use Rattle.flow_rules.specs.declared.asked.Asked.{Asked}
 use Rattle.flow_rules.specs.declared.order_set.OrderSet.{OrderSet}
 use Rattle.flow_rules.specs.declared.connective.Connective.TheVariants.{And, Or}
 use Rattle.flow_rules.specs.Asked.{ways_asked, ways_asked_by}
-use Rattle.flow_rules.specs.WayLists.{both_ways, pairs_of}
+use Rattle.flow_rules.specs.WayLists.{both_ways, ways_of_sets}
 use Rattle.flow_rules.proofs.WayListLemmas.{both_front, each_push, fold_push, joined_more}
 
-pub way_more : (yielded : List OrderSet) (way : OrderSet) (xs old new : List (List (ℕ × ℕ))) → old ≡ both_ways (pairs_of yielded) xs →
-    new ≡ old ++ map (λ w. way.pairs.items ++ w) xs → new ≡ both_ways (pairs_of (yielded ++ way ∷ [])) xs
+pub way_more : (yielded : List OrderSet) (way : OrderSet) (xs old new : List (List (ℕ × ℕ))) → old ≡ both_ways (ways_of_sets yielded) xs →
+    new ≡ old ++ map (λ w. way.pairs.items ++ w) xs → new ≡ both_ways (ways_of_sets (yielded ++ way ∷ [])) xs
 way_more yielded way xs old new so_far added =
     added ∙ ap (λ t. t ++ map (λ w. way.pairs.items ++ w) xs) so_far
     ∙ sym (ap (λ t. both_ways t xs) (map-append (λ (s : OrderSet). s.pairs.items) yielded (way ∷ []))
-    ∙ each_push (λ v w. v ++ w) (pairs_of yielded) (way.pairs.items) xs)
+    ∙ each_push (λ v w. v ++ w) (ways_of_sets yielded) (way.pairs.items) xs)
 
 all_more : (parts : List Asked) (i : ℕ) (part : Asked) → i < length parts → part ≡ get_or parts i part →
     ways_asked_by And (take (i + 1) parts) ≡ both_ways (ways_asked_by And (take i parts)) (ways_asked part)

@@ -9,8 +9,8 @@ use Rattle.flow_rules.specs.declared.order_set.OrderSet.{OrderSet}
 use Rattle.flow_rules.specs.Normal.{normal_of}
 
 -- the pairs of each set
-abbrev pub pairs_of : List OrderSet → List (List (ℕ × ℕ))
-pairs_of sets = map (λ (s : OrderSet). s.pairs.items) sets
+abbrev pub ways_of_sets : List OrderSet → List (List (ℕ × ℕ))
+ways_of_sets sets = map (λ (s : OrderSet). s.pairs.items) sets
 
 -- there is no way
 abbrev pub is_none : List (List (ℕ × ℕ)) → Bool

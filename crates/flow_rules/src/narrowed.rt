@@ -5,7 +5,7 @@ ghost use Rattle.flow_rules.specs.EventLeaves.{leaf_in};
 ghost use Rattle.flow_rules.specs.Lanes.{Shows};
 ghost use Rattle.flow_rules.specs.Narrowed.{open_ways, ways_in};
 ghost use Rattle.flow_rules.specs.Standing.{has_lane};
-ghost use Rattle.flow_rules.specs.WayLists.{pairs_of, ways_of_parts};
+ghost use Rattle.flow_rules.specs.WayLists.{ways_of_sets, ways_of_parts};
 
 use crate::connective::Connective;
 use crate::counting::{FREE, NONE, WayCount, count_ways};
@@ -84,7 +84,7 @@ fn list_open(
     events: &LeafEvents,
 ) -> Result<Vec<OrderSet>, AllocError>
     requires { lane < 64 }
-    ensures { IfOk result (λ all. pairs_of all.items ≡ open_ways lane (leaf_in events.now) rules.now) }
+    ensures { IfOk result (λ all. ways_of_sets all.items ≡ open_ways lane (leaf_in events.now) rules.now) }
 {
     let mut ways = free_way(alloc)?;
     for rule in rules {
@@ -115,7 +115,7 @@ impl Narrowed {
         events: &LeafEvents,
     ) -> Result<Vec<OrderSet>, AllocError>
         requires { lane < 64 }
-        ensures { IfOk result (λ all. pairs_of all.items ≡ ways_in self.now lane (leaf_in events.now)) }
+        ensures { IfOk result (λ all. ways_of_sets all.items ≡ ways_in self.now lane (leaf_in events.now)) }
     {
         if has_lane(self.unmet, lane) {
             return Ok(Vec::new(alloc));
