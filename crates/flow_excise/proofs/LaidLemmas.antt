@@ -16,7 +16,7 @@ use Rattle.flow_laws.proofs.GoalParts.{regions, item_within, item_having, part_o
 use Rattle.flow_excise.specs.declared.item.Item.{Item}
 use Rattle.flow_excise.specs.Rows.{run_in, IsIn, IsOneOf}
 use Rattle.flow_excise.specs.Arranged.{IsWholeOrder, IsRunOf, TellsRing}
-use Rattle.flow_excise.specs.Items.{item_at, IsLaid, IsItemOf, AreItemsOf, TellsCircle}
+use Rattle.flow_excise.specs.Items.{item_at, IsLinedUp, IsItemOf, AreItemsOf, TellsCircle}
 use Rattle.flow_excise.specs.Excised.{IsReasonAgainst}
 use Rattle.flow_model.specs.Resolution.{ChoiceOption}
 use Rattle.flow_excise.specs.declared.excising.ExciseRefusal.{ExciseRefusal}
@@ -67,7 +67,7 @@ module _ (q : Process) (pairs : List (ℕ × ℕ)) (o : IsOrdered q pairs) (part
   listed : (n : ℕ) → n < length (items_of part) → n ∈ order
   listed n l = w.all n (omega (arith, same_length q pairs (items_of part) items a))
 
-  at : (n : ℕ) → n ∈ order → IsLaid q pairs (item_at (items_of part) n) (f n)
+  at : (n : ℕ) → n ∈ order → IsLinedUp q pairs (item_at (items_of part) n) (f n)
   at n m = laid_at q pairs (items_of part) items a n (there n m)
 
   one : (i j x : ℕ) → i ∈ order → j ∈ order → x ∈ f i → x ∈ f j → i ≡ j
@@ -138,7 +138,7 @@ module _ (q : Process) (pairs : List (ℕ × ℕ)) (o : IsOrdered q pairs) (part
                   (λ k. not_both_ways y z run run_distinct c (before_blocks f order i j z y k zi yj))
                   (before_or_after j i order j_in i_in n)
 
-  pub laid : IsLaid q pairs (leaves part) run
+  pub laid : IsLinedUp q pairs (leaves part) run
   laid = record {
     leaf = run_leaf;
     all = λ x m. let r = holding x m in mem_block f order r.0 x r.1 ((at r.0 r.1).all x r.2);
@@ -148,12 +148,12 @@ module _ (q : Process) (pairs : List (ℕ × ℕ)) (o : IsOrdered q pairs) (part
   }
 
 pub laid_run : (q : Process) (pairs : List (ℕ × ℕ)) → IsOrdered q pairs → (part : Process) → part ∈ regions q → (items : List Item) → AreItemsOf q pairs (items_of part) items →
-    (list : List ℕ) → IsRunOf items list → IsLaid q pairs (leaves part) list
-laid_run q pairs o part p items a list (order, w, e) = subst (IsLaid q pairs (leaves part)) (sym e) (laid q pairs o part p items a order w)
+    (list : List ℕ) → IsRunOf items list → IsLinedUp q pairs (leaves part) list
+laid_run q pairs o part p items a list (order, w, e) = subst (IsLinedUp q pairs (leaves part)) (sym e) (laid q pairs o part p items a order w)
 
 -- a whole goal so laid is executed
 
-pub laid_trace : (q : Process) (pairs : List (ℕ × ℕ)) (run : List ℕ) → IsOrdered q pairs → IsLaid q pairs (leaves q) run → Trace q run × AreInOrder pairs run
+pub laid_trace : (q : Process) (pairs : List (ℕ × ℕ)) (run : List ℕ) → IsOrdered q pairs → IsLinedUp q pairs (leaves q) run → Trace q run × AreInOrder pairs run
 laid_trace q pairs run o l = (
   trace_of_ordering run q o.choice_free o.distinct (record {
     leaf = l.leaf;

@@ -10,7 +10,7 @@ use Rattle.flow_laws.proofs.Members.{each_member, decide_in, distinct-append, be
 use Rattle.flow_laws.proofs.MadeLists.{some_same, joined-append}
 use Rattle.flow_excise.specs.declared.item.Item.{Item}
 use Rattle.flow_excise.specs.Rows.{has_inside, has_waits, run_in, runs, least_in, least_at, IsIn, WaitsFor, IsEdge, AreApart}
-use Rattle.flow_excise.specs.Arranged.{IsArranged, IsWholeOrder, IsCycle, LeadsOn, Holds}
+use Rattle.flow_excise.specs.Arranged.{IsArranged, IsWholeOrder, IsCycle, LeadsOn, TakesIn}
 use Rattle.flow_excise.proofs.RingLemmas.{at_most, IsTrail, trail_end}
 
 -- tests
@@ -220,7 +220,7 @@ pub each_within : (items : List Item) (order seen : List ℕ) → seen ≡ order
 each_within items order seen e h = each_from_members (λ n. n < length items) seen (λ n m. h n (subst (λ z. n ∈ z) e m))
 
 -- one more place passed
-pub passed_more : (old new : List ℕ) (start : ℕ) → ((n : ℕ) → n < start → n ∈ old) → Holds start old new → (n : ℕ) → n < start + 1 → n ∈ new
+pub passed_more : (old new : List ℕ) (start : ℕ) → ((n : ℕ) → n < start → n ∈ old) → TakesIn start old new → (n : ℕ) → n < start + 1 → n ∈ new
 passed_more old new start h k n l = ⊎_elim (λ i. k.kept n (h n i)) (λ e. subst (λ z. z ∈ new) (sym e) k.here) (at (cases_lt n start))
   where
     at : (n < start) ⊎ (start ≤ n) → (n < start) ⊎ (n ≡ start)

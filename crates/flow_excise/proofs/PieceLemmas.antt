@@ -10,7 +10,7 @@ use Rattle.flow_laws.proofs.ReadyRuns.{direct_other}
 use Rattle.flow_laws.proofs.GoalParts.{joined_items}
 use Rattle.flow_excise.specs.declared.item.Item.{Item}
 use Rattle.flow_excise.specs.Rows.{AreApart}
-use Rattle.flow_excise.specs.Items.{IsLaid, IsItemOf, AreItemsOf, AddsItems, IsPieceOf}
+use Rattle.flow_excise.specs.Items.{IsLinedUp, IsItemOf, AreItemsOf, AddsItems, IsPieceOf}
 use Rattle.flow_excise.specs.ItemMarks.{CanClose}
 use Rattle.flow_excise.proofs.ItemLemmas.{same_length, are_apart, tells_circle}
 use Rattle.flow_excise.proofs.LaidLemmas.{part_item}
@@ -91,7 +91,7 @@ module _ (q : Process) (pairs : List (ℕ × ℕ)) where
       λ h. (waits x).1 (subst (λ z. DirectlyBefore q pairs x z) (is h.0.0 h.0.1) h.0.2),
     );
     least = least;
-    run = subst (IsLaid q pairs (leaf ∷ [])) (sym run) (record {
+    run = subst (IsLinedUp q pairs (leaf ∷ [])) (sym run) (record {
       leaf = λ x m. m;
       all = λ x m. m;
       distinct = ((λ m. m), tt);

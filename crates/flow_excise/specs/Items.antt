@@ -21,7 +21,7 @@ pub record IsItemEdge (q : Process) (pairs : List (ℕ × ℕ)) (items : List (L
   pub before : ItemBefore q pairs (item_at items from) (item_at items to)
 
 -- the leaves of the list, each behind those directly before it, and with nothing between two leaves of an isolated part
-pub record IsLaid (q : Process) (pairs : List (ℕ × ℕ)) (list run : List ℕ) : Type 0 where
+pub record IsLinedUp (q : Process) (pairs : List (ℕ × ℕ)) (list run : List ℕ) : Type 0 where
   pub leaf : (x : ℕ) → x ∈ run → x ∈ list
   pub all : (x : ℕ) → x ∈ list → x ∈ run
   pub distinct : AreDistinct run
@@ -34,7 +34,7 @@ pub record IsItemOf (q : Process) (pairs : List (ℕ × ℕ)) (list : List ℕ) 
   pub inside : (x : ℕ) → IsTrue (has_leaf item.inside x) ↔ (x ∈ list)
   pub waits : (x : ℕ) → IsTrue (has_leaf item.waits x) ↔ (((y : ℕ) × (y ∈ list) × DirectlyBefore q pairs x y) × ¬ (x ∈ list))
   pub least : item.least ≡ least_of list
-  pub run : IsLaid q pairs list item.run.items
+  pub run : IsLinedUp q pairs list item.run.items
 
 -- one item a list
 abbrev pub AreItemsOf : Process → List (ℕ × ℕ) → List (List ℕ) → List Item → Type 0

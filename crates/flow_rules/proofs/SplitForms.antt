@@ -6,7 +6,7 @@ use Rattle.flow_model.specs.Ways.{Normal, both, either, before, not_before, norm
 use Rattle.flow_rules.specs.declared.normal.Nnf.{Nnf}
 use Rattle.flow_rules.specs.declared.rule.Rule as rule
 use Rattle.flow_rules.specs.declared.rule.Rule.{Rule}
-use Rattle.flow_rules.specs.Normal.{normal_of, all_form, pair_form, chain_form, split_form, linked}
+use Rattle.flow_rules.specs.Normal.{normal_of, all_form, pair_form, split_chain, split_form, linked}
 use Rattle.flow_rules.specs.Rule.{rule_of, rules_of}
 use Rattle.flow_rules.specs.WayLists.{both_ways, either_way}
 use Rattle.flow_rules.proofs.RuleViews.{rule_of-And, rule_of-Or}
@@ -80,7 +80,7 @@ linked_unmet leaf (c ∷ more) n a b =
     ∙ either_assoc (ways n leaf) (ways (not_before a b) leaf) (ways (broken_chain (b ∷ c ∷ more)) leaf)
 
 order_same : (leaf : ℕ → Option ℕ) (es : List ℕ) (wanted : Bool) →
-    ways (chain_form wanted es) leaf ≡ ways (normal_form (Order es) wanted) leaf
+    ways (split_chain wanted es) leaf ≡ ways (normal_form (Order es) wanted) leaf
 order_same leaf [] true = refl
 order_same leaf [] false = refl
 order_same leaf (e ∷ []) true = refl

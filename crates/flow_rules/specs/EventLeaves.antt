@@ -1,15 +1,11 @@
 -- The leaf of each event.
-use Rattle.std.specs.Prelude.{◌≡◌, ℕ, ◌==◌, if◌then◌else◌, List, Option, Some, None, get_or}
+use Rattle.std.specs.Prelude.{◌≡◌, ℕ, ◌==◌, if◌then◌else◌, Option, Some, None, get_or}
 use Rattle.std.specs.Option.{option_or}
 use Rattle.flow_rules.specs.declared.leaf_table.LeafEvents.{LeafEvents}
 
--- the leaf at an event's place
-abbrev pub leaf_at : List (Option ℕ) → ℕ → Option ℕ
-leaf_at leaves event = get_or leaves event None
-
 -- the leaf that an event has, if it has one
 abbrev pub leaf_in : LeafEvents → ℕ → Option ℕ
-leaf_in table event = leaf_at table.leaves.items event
+leaf_in table event = get_or table.leaves.items event None
 
 -- no event has a leaf
 abbrev pub IsBlank : LeafEvents → Type 0

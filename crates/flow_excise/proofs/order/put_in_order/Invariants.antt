@@ -2,7 +2,7 @@ use Rattle.std.proofs.Common.{ℕ, ◌⊎◌}
 use Rattle.flow_model.specs.Lists.{◌∈◌}
 use Rattle.flow_excise.specs.Arranged.{IsArranged}
 use Rattle.flow_excise.proofs.OrderLemmas.{IsPath, steps}
-use Rattle.flow_excise.proofs.order.settle.Given as goal
+use Rattle.flow_excise.proofs.order.put_in_order.Given as goal
 
 abbrev pub invariant-loop-top : goal.invariant-loop-top
 invariant-loop-top l = record {
