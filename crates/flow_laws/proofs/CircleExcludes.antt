@@ -6,7 +6,7 @@ use Rattle.flow_model.specs.Ready.{isolated_parts}
 use Rattle.flow_model.specs.Circle.{items_of, ItemBefore, LeadsBackTo, IsRing, IsCircle}
 use Rattle.flow_laws.specs.Words.{IsOrdered}
 use Rattle.flow_laws.specs.Circles.{CirclesExcludeTraces}
-use Rattle.flow_laws.proofs.Members.{before_or_after, before_trans, not_both_ways}
+use Rattle.flow_laws.proofs.Members.{only_one, before_or_after, before_trans, not_both_ways}
 use Rattle.flow_laws.proofs.ReadyRuns.{IsArrangement, arrangement_of, direct_stands}
 use Rattle.flow_laws.proofs.GoalParts.{regions, region_within, region_distinct, part_of_region, item_kind, item_has, item_within, items_apart, case_of}
 
@@ -20,7 +20,7 @@ module _ (q : Process) (pairs : List (ℕ × ℕ)) (t : List ℕ) (w : IsOrdered
     where
       single : (i : ℕ) × (item ≡ i ∷ []) → ⊥
       single (i, e) =
-          let is = λ (u : ℕ) (p : u ∈ item). let one : u ∈ (i ∷ []) = subst (λ s. u ∈ s) e p in ⊎_elim {C = u ≡ i} (λ f. f) absurd one in
+          let is = λ (u : ℕ) (p : u ∈ item). only_one u i (subst (λ s. u ∈ s) e p) in
           let same : z ≡ x = is z l ∙ sym (is x h) in
           not_both_ways x y t a.ordering.distinct b (subst (λ u. StandsBefore y u t) same c)
 

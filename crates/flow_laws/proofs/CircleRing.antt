@@ -1,10 +1,10 @@
 -- Where each member of a set of items waits for another, some of them wait in a ring.
-use Rattle.std.proofs.Common.{◌≡◌, ◌≢◌, ℕ, zero, suc, ◌≤◌, ◌<◌, List, [], ◌∷◌, ◌++◌, ◌⊎◌, map, length, refl, sym, ap, ◌∙◌, subst, inl, inr, ⊎_elim, arith, append_assoc, append-nil, length-append}
+use Rattle.std.proofs.Common.{◌≡◌, ◌≢◌, ℕ, ◌≤◌, List, [], ◌∷◌, ◌++◌, ◌⊎◌, map, length, refl, sym, ap, ◌∙◌, subst, inl, inr, ⊎_elim, arith, le_refl, append_assoc, append-nil, length-append}
 use Rattle.std.proofs.lemmas.Bool.{cases_lt}
 use Rattle.flow_model.specs.Lists.{◌∈◌, Each, AreDistinct}
 use Rattle.flow_model.specs.Process.{Process}
 use Rattle.flow_model.specs.Circle.{ItemBefore, LeadsBackTo, IsRing, least_of, BeginsWithLeast}
-use Rattle.flow_laws.proofs.Members.{decide_mem, decide_list_eq, mem_with, split_at, distinct_left, distinct_swap, mem_swap, mem_append_left}
+use Rattle.flow_laws.proofs.Members.{decide_mem, decide_list_eq, LeavingOut, by_leaving_out, least_in, only_one, mem_with, split_at, distinct_left, distinct_swap, mem_swap, mem_append_left}
 
 -- two or more distinct items among these, in a ring
 pub record RingAmong (q : Process) (pairs : List (ℕ × ℕ)) (items : List (List ℕ)) (ring : List (List ℕ)) : Type 0 where
@@ -72,7 +72,7 @@ module _ (q : Process) (pairs : List (ℕ × ℕ)) where
         ((i : List ℕ) → i ∈ (item ∷ more) → i ∈ items) → Waits item → ((i : List ℕ) → i ∈ items → (i ∈ left) ⊎ (i ∈ (item ∷ more))) →
         (ring : List (List ℕ)) × RingAmong q pairs items ring
 
-    walk_step : (left : List (List ℕ)) → ((fewer : List (List ℕ)) → suc (length fewer) ≡ length left → WalksFrom fewer) → WalksFrom left
+    walk_step : (left : List (List ℕ)) → LeavingOut WalksFrom left → WalksFrom left
     walk_step left on item more d c among h all =
         let e = earlier item (among item (inl refl)) h in
         ⊎_elim
@@ -83,8 +83,7 @@ module _ (q : Process) (pairs : List (ℕ × ℕ)) where
         next : (other : List ℕ) → other ∈ items → Waits other → ItemBefore q pairs other item → ¬ (other ∈ (item ∷ more)) →
             (front back : List (List ℕ)) × (left ≡ front ++ other ∷ back) → (ring : List (List ℕ)) × RingAmong q pairs items ring
         next other m waits b fresh (front, back, e) =
-            let shorter : suc (length (front ++ back)) ≡ length left = omega (arith, ap length e, length-append front (other ∷ back), length-append front back) in
-            on (front ++ back) shorter other (item ∷ more) (fresh, d) (b, c)
+            on front other back e other (item ∷ more) (fresh, d) (b, c)
             (λ i k. ⊎_elim (λ f. subst (λ z. z ∈ items) (sym f) m) (among i) k)
             waits
             (λ i k. ⊎_elim
@@ -92,23 +91,17 @@ module _ (q : Process) (pairs : List (ℕ × ℕ)) where
             (λ l. inr (inr l))
             (all i k))
 
-    walk : (k : ℕ) (left : List (List ℕ)) → length left ≤ k → WalksFrom left
-    walk zero left n = walk_step left (λ fewer e. absurd (omega arith))
-    walk (suc k) left n = walk_step left (λ fewer e. walk k fewer (omega arith))
-
     pub ring_among : (item : List ℕ) → item ∈ items → Waits item → (ring : List (List ℕ)) × RingAmong q pairs items ring
     ring_among item m h =
-        walk (length items) items (omega arith) item [] (λ k. k, tt) tt (λ i k. ⊎_elim (λ e. subst (λ z. z ∈ items) (sym e) m) absurd k) h (λ i k. inl k)
+        by_leaving_out WalksFrom walk_step items item [] (λ k. k, tt) tt (λ i k. subst (λ z. z ∈ items) (sym (only_one i item k)) m) h (λ i k. inl k)
 
 -- the member with the least number
-pub least_member : {A : Type 0} (f : A → ℕ) (x : A) (list : List A) → (y : A) × (y ∈ (x ∷ list)) × ((z : A) → z ∈ (x ∷ list) → f y ≤ f z)
-least_member f x [] = (x, inl refl, λ z m. ⊎_elim (λ e. omega (arith, ap f e)) absurd m)
-least_member {A} f x (y ∷ list) = at (least_member f y list) (cases_lt (f x) (f (least_member f y list).0))
-  where
-    at : (r : (u : A) × (u ∈ (y ∷ list)) × ((z : A) → z ∈ (y ∷ list) → f u ≤ f z)) → (f x < f r.0) ⊎ (f r.0 ≤ f x) →
-        (u : A) × (u ∈ (x ∷ y ∷ list)) × ((z : A) → z ∈ (x ∷ y ∷ list) → f u ≤ f z)
-    at r (inl l) = (x, inl refl, λ z m. ⊎_elim (λ e. omega (arith, ap f e)) (λ k. omega (arith, r.2 z k)) m)
-    at r (inr l) = (r.0, inr r.1, λ z m. ⊎_elim (λ e. omega (arith, ap f e)) (r.2 z) m)
+least_member : {A : Type 0} (f : A → ℕ) (x : A) (list : List A) → (y : A) × (y ∈ (x ∷ list)) × ((z : A) → z ∈ (x ∷ list) → f y ≤ f z)
+least_member f x list = ⊎_elim
+    (λ none. absurd (none x (inl refl) tt))
+    (λ (y, m, _, least). (y, m, λ z k. least z k tt))
+    (least_in (λ z. Unit {0}) (λ a b. f a ≤ f b) (λ z. inl tt) (λ z. le_refl (f z)) (λ a b c h k. omega arith) (x ∷ list)
+    (λ a b m n p r. ⊎_elim (λ h. inl (omega arith)) inr (cases_lt (f a) (f b))))
 
 each_least : (bound : ℕ) (list : List (List ℕ)) → ((z : List ℕ) → z ∈ list → bound ≤ least_of z) → Each (λ m. bound ≤ m) (map least_of list)
 each_least bound [] f = tt

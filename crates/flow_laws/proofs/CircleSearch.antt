@@ -5,7 +5,7 @@ use Rattle.flow_model.specs.Process.{Process, Empty, Task, Sequence, Parallel, C
 use Rattle.flow_model.specs.Ready.{InSequence, DirectlyBefore, isolated_parts, IsReady, IsReadyRun}
 use Rattle.flow_model.specs.Circle.{items_of, ItemBefore}
 use Rattle.flow_laws.specs.Words.{IsOrdered}
-use Rattle.flow_laws.proofs.Members.{Decided, decide_eq, decide_in, decide_mem, decide_not, decide_both, decide_either, decide_some, find_member, first_member, last_of, mem_append_left, mem-append}
+use Rattle.flow_laws.proofs.Members.{Decided, decide_eq, decide_in, decide_mem, decide_not, decide_both, decide_either, decide_some, find_member, first_member, least_in, last_of, only_one, mem_append_left, mem-append}
 use Rattle.flow_laws.proofs.GoalParts.{part_within, regions, IsWithin, region_within, part_of_region, nested, goal_size, part_smaller, item_kind, item_has, item_within, item_having, part_or_region, case_of}
 use Rattle.flow_laws.proofs.ReadyRuns.{direct_first, direct_other, ready_at}
 
@@ -69,10 +69,9 @@ module _ (q : Process) (pairs : List (ℕ × ℕ)) (w : IsOrdered q pairs) (run 
 
   begun_open : (part : Process) → part ∈ isolated_parts q → (x : ℕ) → x ∈ leaves part → x ∈ run → IsOpen part
   begun_open part m x k l =
-      let f = first_member (λ z. z ∈ leaves part) (λ z. decide_in z (leaves part)) run x l k in
-      let r = ready_at q pairs f.front f.member f.back (subst (IsReadyRun q pairs) f.there ready) in
-      λ u v n i b. subst (λ z. u ∈ z) (sym f.there)
-      (mem_append_left u f.front (f.member ∷ f.back) (r.begins part m f.holds (λ z g h. f.none_before z h g) u v n i b))
+      let (front, first, back, there, here, none) = first_member (λ z. z ∈ leaves part) (λ z. decide_in z (leaves part)) run x l k in
+      let r = ready_at q pairs front first back (subst (IsReadyRun q pairs) there ready) in
+      λ u v n i b. subst (λ z. u ∈ z) (sym there) (mem_append_left u front (first ∷ back) (r.begins part m here (λ z g h. none z h g) u v n i b))
 
   -- two caught parts both have the last leaf, so that one lies in the other
   caught_nested : (one two : Process) → one ∈ isolated_parts q → two ∈ isolated_parts q → IsCaught run one → IsCaught run two → IsWithin one two ⊎ IsWithin two one
@@ -94,35 +93,6 @@ module _ (q : Process) (pairs : List (ℕ × ℕ)) (w : IsOrdered q pairs) (run 
               absurd (y_fresh (subst (λ z. y ∈ z) (sym e) (mem_append_left y front (last ∷ []) y_front))))
               (decide_in last (leaves part))
 
-  -- the innermost of the caught parts, or the whole goal
-  record IsInnermost (list : List Process) (part : Process) : Type 0 where
-    is_part : (part ≡ q) ⊎ ((part ∈ isolated_parts q) × IsCaught run part)
-    within : (other : Process) → other ∈ list → IsCaught run other → IsWithin part other
-
-  innermost : (list : List Process) → ((part : Process) → part ∈ list → part ∈ isolated_parts q) → (part : Process) × IsInnermost list part
-  innermost [] f = (q, record { is_part = inl refl; within = λ other m. absurd m })
-  innermost (p ∷ list) f = at (decide_caught run p) (innermost list (λ x m. f x (inr m)))
-    where
-      at : Decided (IsCaught run p) → (part : Process) × IsInnermost list part → (part : Process) × IsInnermost (p ∷ list) part
-      at (inr n) (part, r) =
-          (part, record { is_part = r.is_part; within = λ other m c. ⊎_elim (λ e. absurd (n (subst (IsCaught run) e c))) (λ k. r.within other k c) m })
-      at (inl c) (part, r) = ⊎_elim
-          (λ e. inner (λ x h. subst (λ z. x ∈ leaves z) (sym e) (part_within (case_of q) p x (f p (inl refl)) h)))
-          (λ h. ⊎_elim keep inner (caught_nested part p h.0 (f p (inl refl)) h.1 c))
-          r.is_part
-        where
-          keep : IsWithin part p → (better : Process) × IsInnermost (p ∷ list) better
-          keep h = (part, record { is_part = r.is_part; within = λ other m d. ⊎_elim (λ e. subst (IsWithin part) (sym e) h) (λ k. r.within other k d) m })
-
-          inner : IsWithin p part → (better : Process) × IsInnermost (p ∷ list) better
-          inner h = (
-            p,
-            record {
-              is_part = inr (f p (inl refl), c);
-              within = λ other m d. ⊎_elim (λ e. subst (IsWithin p) (sym e) (λ x k. k)) (λ k x i. r.within other k d x (h x i)) m;
-            },
-          )
-
   -- a region that may go on by itself: it is unfinished, lies in each caught part, and all around it are open
   record IsFree (part : Process) : Type 0 where
     is_part : part ∈ regions q
@@ -130,25 +100,24 @@ module _ (q : Process) (pairs : List (ℕ × ℕ)) (w : IsOrdered q pairs) (run 
     within : (other : Process) → other ∈ isolated_parts q → IsCaught run other → IsWithin part other
     around : (other : Process) → other ∈ regions q → IsWithin part other → IsOpen other
 
+  -- the innermost of the caught parts, or the whole goal
   some_free : IsUnfinished run (leaves q) → (part : Process) × IsFree part
-  some_free u = at (innermost (isolated_parts q) (λ part m. m))
-    where
-      at : (part : Process) × IsInnermost (isolated_parts q) part → (part : Process) × IsFree part
-      at (part, r) = (
+  some_free u = ⊎_elim
+      (λ none. (
+        q,
+        record { is_part = inl refl; unfinished = u; within = λ other m c. absurd (none other m c); around = λ other m. whole_open other },
+      ))
+      (λ (part, m, c, least). (
         part,
         record {
-          is_part = ⊎_elim inl (λ h. inr h.0) r.is_part;
-          unfinished = ⊎_elim (λ e. subst (λ p. IsUnfinished run (leaves p)) (sym e) u) (λ h. h.1.1) r.is_part;
-          within = r.within;
-          around = λ other m k. ⊎_elim
-              (λ e. whole_open other (subst (IsWithin q) (sym e) (λ x i. i)))
-              (λ i. ⊎_elim
-              (λ e. whole_open other (subst (λ p. IsWithin p other) e k))
-              (λ h. begun_open other i h.1.0.0 (k h.1.0.0 h.1.0.1) h.1.0.2)
-              r.is_part)
-              m;
+          is_part = inr m;
+          unfinished = c.1;
+          within = least;
+          around = λ other o k. ⊎_elim
+              (λ e. whole_open other (subst (IsWithin q) (sym e) (λ x i. i))) (λ i. begun_open other i c.0.0 (k c.0.0 c.0.1) c.0.2) o;
         },
-      )
+      ))
+      (least_in (IsCaught run) IsWithin (decide_caught run) (λ part x k. k) (λ a b c h k x i. k x (h x i)) (isolated_parts q) caught_nested)
 
   -- a leaf of the region that is not done, and not of the item, is directly before the item
   abbrev IsBlocked : Process → List ℕ → Type 0
@@ -189,9 +158,9 @@ module _ (q : Process) (pairs : List (ℕ × ℕ)) (w : IsOrdered q pairs) (run 
   leaf_ready part r n m fresh free = record {
     leaf = region_within q part r.is_part n here;
     not_done = fresh;
-    before = λ x b. item_waits part r (n ∷ []) m free x n (λ h. direct_other q pairs w x n b (⊎_elim {C = x ≡ n} (λ e. e) absurd h)) (inl refl) b;
+    before = λ x b. item_waits part r (n ∷ []) m free x n (λ h. direct_other q pairs w x n b (only_one x n h)) (inl refl) b;
     outside = λ p i no x y k d l. ⊎_elim (λ h. h) (λ f. absurd (no (r.within p i ((x, k, d), (y, l, f)) n here))) (decide_in y run);
-    begins = λ p i k none x y a b c. item_open part r (n ∷ []) m free p (inr i) (λ z h. ⊎_elim (λ e. subst (λ u. u ∈ leaves p) (sym e) k) absurd h) x y a b c;
+    begins = λ p i k none x y a b c. item_open part r (n ∷ []) m free p (inr i) (λ z h. subst (λ u. u ∈ leaves p) (sym (only_one z n h)) k) x y a b c;
   }
     where
       here : n ∈ leaves part
@@ -235,7 +204,7 @@ module _ (q : Process) (pairs : List (ℕ × ℕ)) (w : IsOrdered q pairs) (run 
       open_item item m u n = ⊎_elim
           (λ single.
           let u' = subst (IsUnfinished run) single.1 u in
-          let is = ⊎_elim {C = u'.0 ≡ single.0} (λ e. e) absurd u'.1 in
+          let is = only_one u'.0 single.0 u'.1 in
           inl (single.0, leaf_ready part r single.0 (subst (λ z. z ∈ items_of part) single.1 m) (λ h. u'.2 (subst (λ z. z ∈ run) (sym is) h)) (subst (λ z. ¬ (IsBlocked part z)) single.1 n)))
           (λ whole. down whole.0 whole.1
           (part_free part r whole.0 whole.1 (subst (λ z. z ∈ items_of part) whole.2 m) (subst (IsUnfinished run) whole.2 u) (subst (λ z. ¬ (IsBlocked part z)) whole.2 n)))

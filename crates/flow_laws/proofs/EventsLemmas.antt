@@ -6,7 +6,7 @@ use Rattle.flow_model.specs.Trace.{Blocks, as_one}
 use Rattle.flow_model.specs.Facts.{event_at}
 use Rattle.flow_model.specs.Schema.{Schema, HasUniqueEvents}
 use Rattle.flow_laws.specs.Events.{AreTogether}
-use Rattle.flow_laws.proofs.Members.{each-append, each_to, mem-append, distinct_parts}
+use Rattle.flow_laws.proofs.Members.{only_one, each-append, each_to, mem-append, distinct_parts}
 use Rattle.flow_laws.proofs.MadeLists.{distinct-filter_map, distinct-numbers_from, same_source}
 use Rattle.flow_laws.proofs.Shuffles.{shuffle-append, shuffle-joined, of_shuffle, mem_shuffle_left, mem_shuffle_right}
 use Rattle.flow_laws.proofs.TraceLeaves.{joined-as_one, beside, some_blocks, leaf_of_blocks, distinct_trace}
@@ -84,9 +84,6 @@ together_differ (Isolated a) d m n h = together_differ a d m n h
 
 -- Leaves of one execution
 
-one_leaf : (n k : ℕ) → n ∈ (k ∷ []) → n ≡ k
-one_leaf n k = ⊎_elim (λ e. e) absurd
-
 -- of two leaves of an execution the one is together with the other, on its left or its right
 abbrev pub AreAllTogether : Process → Type 0
 AreAllTogether g = (bs : List (List ℕ)) → Blocks g bs → (m n : ℕ) → m ∈ joined bs → n ∈ joined bs → m ≢ n → AreTogether g m n ⊎ AreTogether g n m
@@ -104,7 +101,7 @@ together_in_halves a b in_a in_b bs (x, y, hx, hy, s) m n i j d =
 pub are_together : (g : Process) → AreAllTogether g
 are_together Empty bs h m n i j d = absurd (subst (λ w. m ∈ joined w) h i)
 are_together (Task k) bs h m n i j d =
-    absurd (d (one_leaf m k (subst (λ w. m ∈ joined w) h i) ∙ sym (one_leaf n k (subst (λ w. n ∈ joined w) h j))))
+    absurd (d (only_one m k (subst (λ w. m ∈ joined w) h i) ∙ sym (only_one n k (subst (λ w. n ∈ joined w) h j))))
 are_together (Sequence a b) bs h m n i j d = together_in_halves a b (are_together a) (are_together b) bs (beside a b bs h) m n i j d
 are_together (Parallel a b) bs h m n i j d = together_in_halves a b (are_together a) (are_together b) bs h m n i j d
 are_together (Choice a b) bs (inl h) m n i j d = ⊎_elim (λ k. inl (inl k)) (λ k. inr (inl k)) (are_together a bs h m n i j d)

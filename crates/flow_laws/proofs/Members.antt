@@ -1,5 +1,5 @@
 -- Members of lists: what each has, and where they stand.
-use Rattle.std.proofs.Common.{◌≡◌, ◌≢◌, List, [], ◌∷◌, ◌++◌, ◌⊎◌, refl, sym, ap, ◌∙◌, subst, inl, inr, ⊎_elim}
+use Rattle.std.proofs.Common.{◌≡◌, ◌≢◌, ℕ, zero, suc, List, [], ◌∷◌, ◌++◌, ◌⊎◌, length, length-append, arith, refl, sym, ap, ◌∙◌, subst, inl, inr, ⊎_elim}
 use Rattle.flow_model.specs.Lists.{◌∈◌, Each, AreDistinct, StandsBefore}
 pub use Rattle.flow_model.specs.Decided.{Decided, decide_eq, decide_list_eq, decide_mem, decide_in, decide_not, decide_both, decide_either, decide_some, cons_same, not_empty}
 pub use Rattle.flow_model.proofs.Lists.{each-append, each_parts}
@@ -48,6 +48,24 @@ split_at x [] h = absurd h
 split_at x (y ∷ list) (inl e) = ([], list, ap (λ z. z ∷ list) (sym e))
 split_at x (y ∷ list) (inr h) = let s = split_at x list h in (y ∷ s.0, s.1, ap (λ l. y ∷ l) s.2)
 
+pub only_one : {A : Type 0} (x y : A) → x ∈ (y ∷ []) → x ≡ y
+only_one x y = ⊎_elim (λ e. e) absurd
+
+-- P of the list with any one member left out
+abbrev pub LeavingOut : {A : Type 0} → (List A → Type 0) → List A → Type 0
+LeavingOut {A} P list = (front : List A) (x : A) (back : List A) → list ≡ front ++ x ∷ back → P (front ++ back)
+
+-- what holds of a list if it does with any one member left out holds of each list
+pub by_leaving_out : {A : Type 0} (P : List A → Type 0) → ((list : List A) → LeavingOut P list → P list) → (list : List A) → P list
+by_leaving_out {A} P step list = down (length list) list refl
+  where
+    shorter : (k : ℕ) (l front : List A) (x : A) (back : List A) → length l ≡ k → l ≡ front ++ x ∷ back → suc (length (front ++ back)) ≡ k
+    shorter k l front x back e f = omega (arith, ap length f, length-append front (x ∷ back), length-append front back)
+
+    down : (k : ℕ) (l : List A) → length l ≡ k → P l
+    down zero l e = step l (λ front x back f. absurd (omega (arith, shorter zero l front x back e f)))
+    down (suc k) l e = step l (λ front x back f. down k (front ++ back) (omega (arith, shorter (suc k) l front x back e f)))
+
 -- what each member has
 
 pub each_member : {A : Type 0} (P : A → Type 0) (xs : List A) → Each P xs → (x : A) → x ∈ xs → P x
@@ -68,32 +86,32 @@ pub find_member : {A : Type 0} (P : A → Type 0) → ((x : A) → Decided (P x)
     ((x : A) × (x ∈ list) × P x) ⊎ ((x : A) → x ∈ list → ¬ (P x))
 find_member P d list = ⊎_elim inl (λ n. inr (λ x m p. n (x, m, p))) (decide_some P d list)
 
--- the first member with P, and where it stands
-pub record First {A : Type 0} (P : A → Type 0) (list : List A) : Type 0 where
-  pub front : List A
-  pub back : List A
-  pub member : A
-  pub there : list ≡ front ++ member ∷ back
-  pub holds : P member
-  pub none_before : (z : A) → z ∈ front → ¬ (P z)
-
-pub first_member : {A : Type 0} (P : A → Type 0) → ((x : A) → Decided (P x)) → (list : List A) (x : A) → x ∈ list → P x → First P list
+-- the first member with P, and what stands around it
+pub first_member : {A : Type 0} (P : A → Type 0) → ((x : A) → Decided (P x)) → (list : List A) (x : A) → x ∈ list → P x →
+    (front : List A) × (first : A) × (back : List A) × (list ≡ front ++ first ∷ back) × P first × ((z : A) → z ∈ front → ¬ (P z))
 first_member P d [] x m p = absurd m
-first_member {A} P d (y ∷ list) x m p = at (d y) m (λ k. first_member P d list x k p)
+first_member P d (y ∷ list) x m p = elim (d y) [
+  | inl q ↦ ([], y, list, refl, q, λ z h. absurd h)
+  | inr n ↦ (let (front, first, back, e, q, none) = first_member P d list x (⊎_elim (λ e. absurd (n (subst P e p))) (λ k. k) m) p in
+      (y ∷ front, first, back, ap (λ l. y ∷ l) e, q, λ z h. ⊎_elim (λ e r. n (subst P e r)) (none z) h))
+]
+
+-- the least of the members with P, where of two of them one is at most the other
+pub least_in : {A : Type 0} (P : A → Type 0) (R : A → A → Type 0) → ((x : A) → Decided (P x)) → ((x : A) → R x x) → ((x y z : A) → R x y → R y z → R x z) →
+    (list : List A) → ((x y : A) → x ∈ list → y ∈ list → P x → P y → R x y ⊎ R y x) →
+    ((x : A) → x ∈ list → ¬ (P x)) ⊎ ((x : A) × (x ∈ list) × P x × ((y : A) → y ∈ list → P y → R x y))
+least_in P R d same on [] either = inl (λ x m. absurd m)
+least_in {A} P R d same on (y ∷ list) either = at (d y) (least_in P R d same on list (λ u v m n. either u v (inr m) (inr n)))
   where
-    at : Decided (P y) → x ∈ (y ∷ list) → (x ∈ list → First P list) → First P (y ∷ list)
-    at (inl q) k f = record { front = []; back = list; member = y; there = refl; holds = q; none_before = λ z h. absurd h }
-    at (inr n) (inl e) f = absurd (n (subst P e p))
-    at (inr n) (inr k) f =
-        let r = f k in
-        record {
-          front = y ∷ r.front;
-          back = r.back;
-          member = r.member;
-          there = ap (λ l. y ∷ l) r.there;
-          holds = r.holds;
-          none_before = λ z h. ⊎_elim (λ e. λ q. n (subst P e q)) (r.none_before z) h;
-        }
+    at : Decided (P y) → ((x : A) → x ∈ list → ¬ (P x)) ⊎ ((x : A) × (x ∈ list) × P x × ((z : A) → z ∈ list → P z → R x z)) →
+        ((x : A) → x ∈ (y ∷ list) → ¬ (P x)) ⊎ ((x : A) × (x ∈ (y ∷ list)) × P x × ((z : A) → z ∈ (y ∷ list) → P z → R x z))
+    at (inr n) (inl f) = inl (λ x m. ⊎_elim (λ e p. n (subst P e p)) (f x) m)
+    at (inr n) (inr (x, m, p, l)) = inr (x, inr m, p, λ z k q. ⊎_elim (λ e. absurd (n (subst P e q))) (λ i. l z i q) k)
+    at (inl p) (inl f) = inr (y, inl refl, p, λ z k q. ⊎_elim (λ e. subst (R y) (sym e) (same y)) (λ i. absurd (f z i q)) k)
+    at (inl p) (inr (x, m, q, l)) = ⊎_elim
+        (λ r. inr (y, inl refl, p, λ z k s. ⊎_elim (λ e. subst (R y) (sym e) (same y)) (λ i. on y x z r (l z i s)) k))
+        (λ r. inr (x, inr m, q, λ z k s. ⊎_elim (λ e. subst (R x) (sym e) r) (λ i. l z i s) k))
+        (either y x (inl refl) (inr m) p q)
 
 -- the last member of a list that has one
 pub last_of : {A : Type 0} (list : List A) (x : A) → x ∈ list → (front : List A) × (last : A) × (list ≡ front ++ last ∷ [])

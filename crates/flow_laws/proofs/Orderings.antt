@@ -4,7 +4,7 @@ use Rattle.flow_model.specs.Lists.{◌∈◌, AreDistinct, StandsBefore, joined}
 use Rattle.flow_model.specs.Process.{Process, Empty, Task, Sequence, Parallel, Choice, Isolated, leaves, IsChoiceFree}
 use Rattle.flow_model.specs.Trace.{Shuffle, Blocks, Trace, as_one}
 use Rattle.flow_model.specs.Ready.{InSequence, isolated_parts}
-use Rattle.flow_laws.proofs.Members.{no_members, distinct_left, distinct_right, distinct_apart, before_members, before_across, before_right, before_or_after, not_before_itself, not_both_ways, mem_append_left, mem_append_right, mem-append}
+use Rattle.flow_laws.proofs.Members.{only_one, no_members, distinct_left, distinct_right, distinct_apart, before_members, before_across, before_right, before_or_after, not_before_itself, not_both_ways, mem_append_left, mem_append_right, mem-append}
 use Rattle.flow_laws.proofs.MadeLists.{joined-append}
 use Rattle.flow_laws.proofs.Shuffles.{shuffle-joined, shuffle_swap, of_shuffle, mem_shuffle_left, before_in_shuffle, distinct_in_shuffle, shuffle_of, front_first, shuffle_nothing, AreUnbroken, shuffle_blocks}
 use Rattle.flow_laws.proofs.GoalParts.{sequence_first, sequence_second, part_within, case_of}
@@ -155,7 +155,7 @@ as_one_is (b ∷ x) block (inr m) = absurd m
 
 block_kind : (g : Process) → IsChoiceFree g → HasBlocks g
 block_kind Empty f bs h block m = absurd (subst (λ l. block ∈ l) h m)
-block_kind (Task n) f bs h block m = inl (n, ⊎_elim (λ e. e) absurd (subst (λ l. block ∈ l) h m))
+block_kind (Task n) f bs h block m = inl (n, only_one block (n ∷ []) (subst (λ l. block ∈ l) h m))
 block_kind (Sequence a b) (fa, fb) bs h block m = blocks_of_halves a b (block_kind a fa) (block_kind b fb) bs (beside a b bs h) block m
 block_kind (Parallel a b) (fa, fb) bs h block m = blocks_of_halves a b (block_kind a fa) (block_kind b fb) bs h block m
 block_kind (Choice a b) f bs h block m = absurd f
@@ -206,7 +206,7 @@ half_unbroken : (a g : Process) (bs : List (List ℕ)) (other t : List ℕ) → 
     ((x : ℕ) → x ∈ other → ¬ (x ∈ leaves a)) → AreUnbroken bs other t
 half_unbroken a g bs other t f h half o others block m x y z k l p b c = ⊎_elim
     (λ (n, e).
-    let is = λ (u : ℕ) (i : u ∈ block). ⊎_elim {C = u ≡ n} (λ j. j) absurd (let r : u ∈ (n ∷ []) = subst (λ w. u ∈ w) e i in r) in
+    let is = λ (u : ℕ) (i : u ∈ block). only_one u n (subst (λ w. u ∈ w) e i) in
     not_both_ways x y t o.distinct b (subst (λ u. StandsBefore y u t) (is z p ∙ sym (is x k)) c))
     (λ (part, i, same).
     o.together part (half.part part i) x y z ((same x).0 k) (λ j. others y l (part_within (case_of a) part y i j)) ((same z).0 p) b c)
@@ -237,9 +237,9 @@ halve a b t d o =
 
 only_member : (n : ℕ) (t : List ℕ) → AreDistinct t → ((x : ℕ) → x ∈ t → x ∈ (n ∷ [])) → n ∈ t → t ≡ n ∷ []
 only_member n [] d f m = absurd m
-only_member n (y ∷ []) d f m = ap (λ z. z ∷ []) (⊎_elim (λ e. e) absurd (f y (inl refl)))
+only_member n (y ∷ []) d f m = ap (λ z. z ∷ []) (only_one y n (f y (inl refl)))
 only_member n (y ∷ z ∷ t) d f m =
-    absurd (d.0 (inl (⊎_elim (λ e. e) absurd (f y (inl refl)) ∙ sym (⊎_elim (λ e. e) absurd (f z (inr (inl refl)))))))
+    absurd (d.0 (inl (only_one y n (f y (inl refl)) ∙ sym (only_one z n (f z (inr (inl refl)))))))
 
 blocks_of_ordering : (g : Process) (t : List ℕ) → IsChoiceFree g → AreDistinct (leaves g) → IsOrdering g t → Trace g t
 blocks_of_ordering Empty t f d o = ([], refl, no_members t o.leaf)
