@@ -12,7 +12,7 @@ use Rattle.flow_text.specs.declared.listing.Named.{Named}
 use Rattle.flow_text.specs.ListedNames.{role_of, roles_of}
 use Rattle.flow_text.specs.declared.known.Known.{Known}
 use Rattle.flow_text.specs.GoodNames.{IsRepeated, IsUnknown, IsFirst, HasGoodNames, IsFirstRepeated, IsFirstUnknown, AsksOfEvents, AsksFirstOfOther}
-use Rattle.flow_text.specs.KnownNames.{NameSet, no_names, with_name, Holds, is_again, after, repeated_from, is_unknown, has, has_event, KnowsThose}
+use Rattle.flow_text.specs.KnownNames.{NameSet, no_names, with_name, HasJust, is_again, after, repeated_from, is_unknown, has, has_as_event, KnowsThose}
 use Rattle.flow_text.proofs.KnownNames.{none_held, held_more, held_none, distinct_more}
 
 -- no role of the list has P after `before` and those before it
@@ -81,35 +81,35 @@ is_first P roles k c =
 
 -- Names that are declared again
 
-held_after : (set : NameSet) (front : List Role) (r : Role) → Holds set (declaring front) → Holds (after set r) (declaring (front ++ r ∷ []))
-held_after set front r h = subst (Holds (after set r)) (sym (declaring-append front (r ∷ []))) (more r)
+held_after : (set : NameSet) (front : List Role) (r : Role) → HasJust set (declaring front) → HasJust (after set r) (declaring (front ++ r ∷ []))
+held_after set front r h = subst (HasJust (after set r)) (sym (declaring-append front (r ∷ []))) (more r)
   where
-    more : (r : Role) → Holds (after set r) (declaring front ++ declaring (r ∷ []))
+    more : (r : Role) → HasJust (after set r) (declaring front ++ declaring (r ∷ []))
     more (declares n) = held_more set (declaring front) n h
     more (in_goal n) = held_none set (declaring front) h
     more (in_rule n) = held_none set (declaring front) h
     more (in_fact n) = held_none set (declaring front) h
 
-again_is : (set : NameSet) (front : List Role) (r : Role) → Holds set (declaring front) → is_again set r ≡ true → IsRepeated front r
+again_is : (set : NameSet) (front : List Role) (r : Role) → HasJust set (declaring front) → is_again set r ≡ true → IsRepeated front r
 again_is set front (declares n) h e = (h n).0 e
 again_is set front (in_goal n) h e = absurd (cc)
 again_is set front (in_rule n) h e = absurd (cc)
 again_is set front (in_fact n) h e = absurd (cc)
 
-again_is_not : (set : NameSet) (front : List Role) (r : Role) → Holds set (declaring front) → is_again set r ≡ false → IsRepeated front r → ⊥
+again_is_not : (set : NameSet) (front : List Role) (r : Role) → HasJust set (declaring front) → is_again set r ≡ false → IsRepeated front r → ⊥
 again_is_not set front (declares n) h e member = let t = (h n).1 member in cc
 again_is_not set front (in_goal n) h e member = member
 again_is_not set front (in_rule n) h e member = member
 again_is_not set front (in_fact n) h e member = member
 
-repeated_first : (set : NameSet) (front : List Role) (start : ℕ) (roles : List Role) (k : ℕ) → Holds set (declaring front)
+repeated_first : (set : NameSet) (front : List Role) (start : ℕ) (roles : List Role) (k : ℕ) → HasJust set (declaring front)
     → repeated_from set start roles ≡ Some k → Cut IsRepeated front start roles k
 repeated_first set front start [] k h e = absurd (cc)
 repeated_first set front start (r ∷ rs) k h e =
     cut_by IsRepeated front start r rs k (is_again set r) (repeated_from (after set r) (start + 1) rs) (again_is set front r h) (again_is_not set front r h)
     (repeated_first (after set r) (front ++ r ∷ []) (start + 1) rs k (held_after set front r h)) e
 
-repeated_none : (set : NameSet) (front : List Role) (start : ℕ) (roles : List Role) → Holds set (declaring front)
+repeated_none : (set : NameSet) (front : List Role) (start : ℕ) (roles : List Role) → HasJust set (declaring front)
     → repeated_from set start roles ≡ None → HasNone IsRepeated front roles
 repeated_none set front start [] h e = tt
 repeated_none set front start (r ∷ rs) h e =
@@ -147,19 +147,19 @@ well_is_known decls (in_fact n) w u = u
 
 -- as the code tests it
 abbrev pub is_other : Known → Role → Bool
-is_other known = is_unknown (has known.names) (has_event known.names)
+is_other known = is_unknown (has known.names) (has_as_event known.names)
 
 module _ (decls : List Declared) (known : Known) (knows : KnowsThose decls known) where
   other_is : (r : Role) → is_other known r ≡ true → IsUnknown decls r
   other_is (declares n) e = absurd (cc)
   other_is (in_goal n) e = λ member. let t = (knows.declared n).1 member in let u : not (has known.names n) ≡ not true = ap not t in cc
-  other_is (in_rule n) e = λ member. let t = (knows.events n).1 member in let u : not (has_event known.names n) ≡ not true = ap not t in cc
+  other_is (in_rule n) e = λ member. let t = (knows.events n).1 member in let u : not (has_as_event known.names n) ≡ not true = ap not t in cc
   other_is (in_fact n) e = absurd (cc)
 
   well_is : (r : Role) → is_other known r ≡ false → IsWell decls r
   well_is (declares n) e = tt
   well_is (in_goal n) e = (knows.declared n).0 (not-false (has known.names n) e)
-  well_is (in_rule n) e = (knows.events n).0 (not-false (has_event known.names n) e)
+  well_is (in_rule n) e = (knows.events n).0 (not-false (has_as_event known.names n) e)
   well_is (in_fact n) e = tt
 
   other_first : (front : List Role) (start : ℕ) (roles : List Role) (k : ℕ) → position_from (is_other known) start roles ≡ Some k

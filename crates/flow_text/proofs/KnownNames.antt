@@ -13,10 +13,10 @@ use Rattle.flow_laws.proofs.Members.{mem_append_left, mem_append_right, mem-appe
 use Rattle.flow_form.specs.Form.{Shape}
 use Rattle.flow_form.specs.Script.{Declared, event, flow}
 use Rattle.flow_form.specs.Names.{declared_name, declared_names, event_name, event_names}
-use Rattle.flow_text.specs.declared.known.Kind.{Kind}
-use Rattle.flow_text.specs.declared.known.Kind.TheVariants.{Flow}
+use Rattle.flow_text.specs.declared.known.DeclaredAs.{DeclaredAs}
+use Rattle.flow_text.specs.declared.known.DeclaredAs.TheVariants.{Flow}
 use Rattle.flow_text.specs.declared.known.Known.{Known}
-use Rattle.flow_text.specs.KnownNames.{NameSet, no_names, with_name, Holds, has, is_event, has_event, KnowsThose}
+use Rattle.flow_text.specs.KnownNames.{NameSet, no_names, with_name, HasJust, has, as_event, has_as_event, KnowsThose}
 
 abbrev looked_up : {X : Type 0} → BTreeMap (Bor (List ℕ)) X → List ℕ → Option X
 looked_up m name = get_by (λ key. slice_cmp nat_cmp name key.now) m
@@ -36,23 +36,23 @@ given {X} asked m m' key name w is_asked same updates =
     taken false o = refl
 
 -- a new name that is no event leaves the events
-pub given_flow : (m m' : BTreeMap (Bor (List ℕ)) Kind) (key name : List ℕ) → has m name ≡ false → key ≡ name → IsGiven m m' key Flow → has_event m' ≡ has_event m
-given_flow m m' key name new is updates = λ i q. (ap is_event (updates q) ∙ other q (bytes_eq key q) refl) i
+pub given_flow : (m m' : BTreeMap (Bor (List ℕ)) DeclaredAs) (key name : List ℕ) → has m name ≡ false → key ≡ name → IsGiven m m' key Flow → has_as_event m' ≡ has_as_event m
+given_flow m m' key name new is updates = λ i q. (ap as_event (updates q) ∙ other q (bytes_eq key q) refl) i
   where
-    no_event : (o : Option Kind) → is_some o ≡ false → false ≡ is_event o
+    no_event : (o : Option DeclaredAs) → is_some o ≡ false → false ≡ as_event o
     no_event None e = refl
     no_event (Some kind) e = absurd (cc)
 
-    other : (q : List ℕ) (b : Bool) → bytes_eq key q ≡ b → is_event (cond b (Some Flow) (looked_up m q)) ≡ is_event (looked_up m q)
+    other : (q : List ℕ) (b : Bool) → bytes_eq key q ≡ b → as_event (cond b (Some Flow) (looked_up m q)) ≡ as_event (looked_up m q)
     other q true same = no_event (looked_up m q) (subst (λ z. has m z ≡ false) (sym is ∙ (bytes_decides key q).0 same) new)
     other q false same = refl
 
 -- Members
 
-pub none_held : Holds no_names []
+pub none_held : HasJust no_names []
 none_held q = (λ e. absurd (cc), λ member. absurd member)
 
-pub held_more : (set : NameSet) (names : List (List ℕ)) (n : List ℕ) → Holds set names → Holds (with_name set n) (names ++ n ∷ [])
+pub held_more : (set : NameSet) (names : List (List ℕ)) (n : List ℕ) → HasJust set names → HasJust (with_name set n) (names ++ n ∷ [])
 held_more set names n h q = (in_names (bytes_eq n q) refl, λ member. in_set (mem-append q names (n ∷ []) member))
   where
     in_names : (b : Bool) → bytes_eq n q ≡ b → cond b true (set q) ≡ true → q ∈ (names ++ n ∷ [])
@@ -68,7 +68,7 @@ held_more set names n h q = (in_names (bytes_eq n q) refl, λ member. in_set (me
     in_set (inr (inl e)) = ap (λ b. cond b true (set q)) ((bytes_decides n q).1 (sym e))
     in_set (inr (inr none)) = absurd none
 
-held_again : (set : NameSet) (names : List (List ℕ)) (n : List ℕ) → set n ≡ true → Holds set names → Holds set (names ++ n ∷ [])
+held_again : (set : NameSet) (names : List (List ℕ)) (n : List ℕ) → set n ≡ true → HasJust set names → HasJust set (names ++ n ∷ [])
 held_again set names n there h q = (λ e. mem_append_left q names (n ∷ []) ((h q).0 e), λ member. in_set (mem-append q names (n ∷ []) member))
   where
     in_set : (q ∈ names) ⊎ (q ∈ (n ∷ [])) → set q ≡ true
@@ -76,8 +76,8 @@ held_again set names n there h q = (λ e. mem_append_left q names (n ∷ []) ((h
     in_set (inr (inl e)) = subst (λ z. set z ≡ true) (sym e) there
     in_set (inr (inr none)) = absurd none
 
-pub held_none : (set : NameSet) (names : List (List ℕ)) → Holds set names → Holds set (names ++ [])
-held_none set names h = subst (Holds set) (sym (append-nil names)) h
+pub held_none : (set : NameSet) (names : List (List ℕ)) → HasJust set names → HasJust set (names ++ [])
+held_none set names h = subst (HasJust set) (sym (append-nil names)) h
 
 pub distinct_more : (names : List (List ℕ)) (n : List ℕ) → AreDistinct names → ¬ (n ∈ names) → AreDistinct (names ++ n ∷ [])
 distinct_more names n distinct new =
@@ -86,22 +86,22 @@ distinct_more names n distinct new =
 
 -- Declarations
 
-grown : (ds : List Declared) (d : Declared) (known : Known) → Holds (has known.names) (declared_names ds ++ declared_names (d ∷ []))
-    → Holds (has_event known.names) (event_names ds ++ event_names (d ∷ []))
+grown : (ds : List Declared) (d : Declared) (known : Known) → HasJust (has known.names) (declared_names ds ++ declared_names (d ∷ []))
+    → HasJust (has_as_event known.names) (event_names ds ++ event_names (d ∷ []))
     → (known.is_again ≡ false → AreDistinct (declared_names ds ++ declared_names (d ∷ []))) → KnowsThose (ds ++ d ∷ []) known
 grown ds d known names events once = record {
-  declared = subst (Holds (has known.names)) (sym (flat_map-append declared_name ds (d ∷ []))) names;
-  events = subst (Holds (has_event known.names)) (sym (flat_map-append event_name ds (d ∷ []))) events;
+  declared = subst (HasJust (has known.names)) (sym (flat_map-append declared_name ds (d ∷ []))) names;
+  events = subst (HasJust (has_as_event known.names)) (sym (flat_map-append event_name ds (d ∷ []))) events;
   once = λ e. subst AreDistinct (sym (flat_map-append declared_name ds (d ∷ []))) (once e);
 }
 
 pub event_known : (ds : List Declared) (d : Declared) (n : List ℕ) (note : Note) (old new : Known) → d ≡ event n note → KnowsThose ds old
-    → has new.names ≡ with_name (has old.names) n → has_event new.names ≡ with_name (has_event old.names) n → new.is_again ≡ old.is_again || has old.names n
+    → has new.names ≡ with_name (has old.names) n → has_as_event new.names ≡ with_name (has_as_event old.names) n → new.is_again ≡ old.is_again || has old.names n
     → KnowsThose (ds ++ d ∷ []) new
 event_known ds d n note old new is h names events again =
     subst (λ z. KnowsThose (ds ++ z ∷ []) new) (sym is)
-    (grown ds (event n note) new (subst (λ z. Holds z (declared_names ds ++ n ∷ [])) (sym names) (held_more (has old.names) (declared_names ds) n h.declared))
-    (subst (λ z. Holds z (event_names ds ++ n ∷ [])) (sym events) (held_more (has_event old.names) (event_names ds) n h.events))
+    (grown ds (event n note) new (subst (λ z. HasJust z (declared_names ds ++ n ∷ [])) (sym names) (held_more (has old.names) (declared_names ds) n h.declared))
+    (subst (λ z. HasJust z (event_names ds ++ n ∷ [])) (sym events) (held_more (has_as_event old.names) (event_names ds) n h.events))
     (λ e. once old.is_again (has old.names n) refl refl (sym again ∙ e)))
   where
     once : (a b : Bool) → old.is_again ≡ a → has old.names n ≡ b → (a || b) ≡ false → AreDistinct (declared_names ds ++ n ∷ [])
@@ -110,12 +110,12 @@ event_known ds d n note old new is h names events again =
     once false false is there e = distinct_more (declared_names ds) n (h.once is) (λ member. let t = (h.declared n).1 member in cc)
 
 pub flow_known : (ds : List Declared) (d : Declared) (n : List ℕ) (s : Shape) (old new : Known) → d ≡ flow n s → KnowsThose ds old
-    → has old.names n ≡ false → has new.names ≡ with_name (has old.names) n → has_event new.names ≡ has_event old.names → new.is_again ≡ old.is_again
+    → has old.names n ≡ false → has new.names ≡ with_name (has old.names) n → has_as_event new.names ≡ has_as_event old.names → new.is_again ≡ old.is_again
     → KnowsThose (ds ++ d ∷ []) new
 flow_known ds d n s old new is h absent names events again =
     subst (λ z. KnowsThose (ds ++ z ∷ []) new) (sym is)
-    (grown ds (flow n s) new (subst (λ z. Holds z (declared_names ds ++ n ∷ [])) (sym names) (held_more (has old.names) (declared_names ds) n h.declared))
-    (subst (λ z. Holds z (event_names ds ++ [])) (sym events) (held_none (has_event old.names) (event_names ds) h.events))
+    (grown ds (flow n s) new (subst (λ z. HasJust z (declared_names ds ++ n ∷ [])) (sym names) (held_more (has old.names) (declared_names ds) n h.declared))
+    (subst (λ z. HasJust z (event_names ds ++ [])) (sym events) (held_none (has_as_event old.names) (event_names ds) h.events))
     (λ e. distinct_more (declared_names ds) n (h.once (sym again ∙ e)) (λ member. let t = (h.declared n).1 member in cc)))
 
 -- the sub-workflow's name was declared before
@@ -123,6 +123,6 @@ pub flow_again : (ds : List Declared) (d : Declared) (n : List ℕ) (s : Shape) 
     → has old.names n ≡ true → new.names ≡ old.names → new.is_again ≡ true → KnowsThose (ds ++ d ∷ []) new
 flow_again ds d n s old new is h there names again =
     subst (λ z. KnowsThose (ds ++ z ∷ []) new) (sym is)
-    (grown ds (flow n s) new (subst (λ z. Holds (has z) (declared_names ds ++ n ∷ [])) (sym names) (held_again (has old.names) (declared_names ds) n there h.declared))
-    (subst (λ z. Holds (has_event z) (event_names ds ++ [])) (sym names) (held_none (has_event old.names) (event_names ds) h.events))
+    (grown ds (flow n s) new (subst (λ z. HasJust (has z) (declared_names ds ++ n ∷ [])) (sym names) (held_again (has old.names) (declared_names ds) n there h.declared))
+    (subst (λ z. HasJust (has_as_event z) (event_names ds ++ [])) (sym names) (held_none (has_as_event old.names) (event_names ds) h.events))
     (λ e. absurd (cc)))

@@ -22,7 +22,7 @@ use Rattle.flow_reader.specs.Symbols.{symbol_of, symbols_of}
 use Rattle.flow_reader.specs.Readers.{kind_of}
 use Rattle.flow_reader.specs.Reading.{IsReadRefusal}
 use Rattle.flow_text.specs.GoodNames.{IsFirst, HasGoodNames}
-use Rattle.flow_text.specs.Saying.{HasTokens, IsCut, Cut, Writes}
+use Rattle.flow_text.specs.Saying.{HasTokens, IsLexed, TextInTokens, Writes}
 use Rattle.flow_text.specs.Parsing.{name_in, with_place, named_places, IsFirstNameAt, IsTextRefusal}
 use Rattle.std.proofs.lemmas.List.{length-map}
 use Rattle.std.proofs.lemmas.Option.{slice_get-map}
@@ -156,23 +156,23 @@ is_closed text tokens s spans (w, e, shallow, spells) names short =
 
 -- What the code reads
 
--- what is known of the fields of a source is known of its value
-pub cut_of : {text : List ℕ} {tokens : List Token} {source : Cut} → record { text = text; tokens = tokens } ≡ source → IsCut text tokens → IsCut source.text source.tokens
-cut_of view cut = subst (λ (s : Cut). IsCut s.text s.tokens) view cut
+-- what is known of the fields of a lexed text is known of its value
+pub lexed_of : {text : List ℕ} {tokens : List Token} {lexed_text : TextInTokens} → record { text = text; tokens = tokens } ≡ lexed_text → IsLexed text tokens → IsLexed lexed_text.text lexed_text.tokens
+lexed_of view is_lexed = subst (λ (s : TextInTokens). IsLexed s.text s.tokens) view is_lexed
 
 module _ {V : Type 0} {Spells : List Placed → V → Type 0} {wants : List Symbol → Option Wanted} {read : List Symbol → Reading V} (m : IsMachine Spells wants read)
-    {text : List ℕ} {tokens given : List Token} {source : Cut} (view : record { text = text; tokens = tokens } ≡ source) (same : given ≡ tokens) where
-  read_from : record { text = text; tokens = given } ≡ source
+    {text : List ℕ} {tokens given : List Token} {lexed_text : TextInTokens} (view : record { text = text; tokens = tokens } ≡ lexed_text) (same : given ≡ tokens) where
+  read_from : record { text = text; tokens = given } ≡ lexed_text
   read_from = ap (λ (ts : List Token). record { text = text; tokens = ts }) same ∙ view
 
-  pub derived : (x : V) → read (symbols_of text given) ≡ gives x → Derives Spells (symbols_of source.text source.tokens) x
-  derived x h = (m.reads (symbols_of source.text source.tokens) x).0 (subst (λ (s : Cut). read (symbols_of s.text s.tokens) ≡ gives x) read_from h)
+  pub derived : (x : V) → read (symbols_of text given) ≡ gives x → Derives Spells (symbols_of lexed_text.text lexed_text.tokens) x
+  derived x h = (m.reads (symbols_of lexed_text.text lexed_text.tokens) x).0 (subst (λ (s : TextInTokens). read (symbols_of s.text s.tokens) ≡ gives x) read_from h)
 
-  pub written : (x : V) → IsCut text tokens → read (symbols_of text given) ≡ gives x → Writes Spells source.text x
-  written x cut h = record { tokens = source.tokens; has_tokens = (cut_of view cut).has_tokens; derives = derived x h }
+  pub written : (x : V) → IsLexed text tokens → read (symbols_of text given) ≡ gives x → Writes Spells lexed_text.text x
+  written x is_lexed h = record { tokens = lexed_text.tokens; has_tokens = (lexed_of view is_lexed).has_tokens; derives = derived x h }
 
-  pub refused : (again unknown : ℕ → List ℕ → Type 0) (refusal : TextRefusal) → IsCut text tokens → IsReadRefusal text given (read (symbols_of text given)) refusal
-      → IsTextRefusal Spells wants again unknown source.text refusal
-  refused again unknown refusal cut h =
-      read_refused Spells wants again unknown source.text read m source.tokens refusal (cut_of view cut).has_tokens
-      (subst (λ (s : Cut). IsReadRefusal s.text s.tokens (read (symbols_of s.text s.tokens)) refusal) read_from h)
+  pub refused : (again unknown : ℕ → List ℕ → Type 0) (refusal : TextRefusal) → IsLexed text tokens → IsReadRefusal text given (read (symbols_of text given)) refusal
+      → IsTextRefusal Spells wants again unknown lexed_text.text refusal
+  refused again unknown refusal is_lexed h =
+      read_refused Spells wants again unknown lexed_text.text read m lexed_text.tokens refusal (lexed_of view is_lexed).has_tokens
+      (subst (λ (s : TextInTokens). IsReadRefusal s.text s.tokens (read (symbols_of s.text s.tokens)) refusal) read_from h)

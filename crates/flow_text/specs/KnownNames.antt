@@ -9,8 +9,8 @@ use Rattle.flow_model.specs.Lists.{◌∈◌, AreDistinct}
 use Rattle.flow_form.specs.Script.{Declared}
 use Rattle.flow_form.specs.Names.{declared_names, event_names}
 use Rattle.flow_grammar.specs.Roles.{Role, declares, in_goal, in_rule, in_fact}
-use Rattle.flow_text.specs.declared.known.Kind.{Kind}
-use Rattle.flow_text.specs.declared.known.Kind.TheVariants.{Event}
+use Rattle.flow_text.specs.declared.known.DeclaredAs.{DeclaredAs}
+use Rattle.flow_text.specs.declared.known.DeclaredAs.TheVariants.{Event}
 use Rattle.flow_text.specs.declared.known.Known.{Known}
 
 -- a set of names, by the test for its members
@@ -24,20 +24,20 @@ abbrev pub with_name : NameSet → List ℕ → NameSet
 with_name set name other = cond (bytes_eq name other) true (set other)
 
 -- its members are those names
-abbrev pub Holds : NameSet → List (List ℕ) → Type 0
-Holds set names = (q : List ℕ) → (set q ≡ true) ↔ (q ∈ names)
+abbrev pub HasJust : NameSet → List (List ℕ) → Type 0
+HasJust set names = (q : List ℕ) → (set q ≡ true) ↔ (q ∈ names)
 
 -- the set of a map's keys
 abbrev pub has : {X : Type 0} → BTreeMap (Bor (List ℕ)) X → NameSet
 has m name = is_some (get_by (λ key. slice_cmp nat_cmp name key.now) m)
 
-abbrev pub is_event : Option Kind → Bool
-is_event (Some Event) = true
-is_event _ = false
+abbrev pub as_event : Option DeclaredAs → Bool
+as_event (Some Event) = true
+as_event _ = false
 
 -- the set of those that the map has as events
-abbrev pub has_event : BTreeMap (Bor (List ℕ)) Kind → NameSet
-has_event m name = is_event (get_by (λ key. slice_cmp nat_cmp name key.now) m)
+abbrev pub has_as_event : BTreeMap (Bor (List ℕ)) DeclaredAs → NameSet
+has_as_event m name = as_event (get_by (λ key. slice_cmp nat_cmp name key.now) m)
 
 -- the role declares a name of the set
 abbrev pub is_again : NameSet → Role → Bool
@@ -67,6 +67,6 @@ is_unknown declared events (in_fact n) = false
 
 -- the names and events are those of the declarations, and where it does not tell so, none is declared a second time
 pub record KnowsThose (decls : List Declared) (known : Known) : Type 0 where
-  pub declared : Holds (has known.names) (declared_names decls)
-  pub events : Holds (has_event known.names) (event_names decls)
+  pub declared : HasJust (has known.names) (declared_names decls)
+  pub events : HasJust (has_as_event known.names) (event_names decls)
   pub once : known.is_again ≡ false → AreDistinct (declared_names decls)

@@ -15,13 +15,13 @@ pub record HasTokens (text : List ℕ) (tokens : List Token) : Type 0 where
   pub lexed : lexed text ≡ record { tokens = tokens; bad = None }
 
 -- the same of tokens that stand within the text one behind the other, and whose numbers have 32 bits
-pub record IsCut (text : List ℕ) (tokens : List Token) : Type 0 where
+pub record IsLexed (text : List ℕ) (tokens : List Token) : Type 0 where
   pub has_tokens : HasTokens text tokens
   pub spans : AreSpans 0 (length text) tokens
   pub small : Each (IsSmall text) tokens
 
 -- a text with tokens
-pub record Cut : Type 0 where
+pub record TextInTokens : Type 0 where
   pub text : List ℕ
   pub tokens : List Token
 

@@ -1,7 +1,7 @@
 ghost use Rattle.std.specs.Prelude.{◌≡◌, ◌++◌, ◌∷◌, [], IfOk, OnOk, List, map};
 ghost use Rattle.flow_form.specs.Script.{Declared, declared};
 ghost use Rattle.flow_text.specs.ListedNames.{role_of};
-ghost use Rattle.flow_text.specs.KnownNames.{has, has_event, is_unknown, KnowsThose};
+ghost use Rattle.flow_text.specs.KnownNames.{has, has_as_event, is_unknown, KnowsThose};
 
 use crate::listing::Named;
 use flow_form::Decl;
@@ -10,7 +10,7 @@ use std::collections::BTreeMap;
 
 /// What a name is declared as.
 #[derive(Clone, Copy)]
-pub(crate) enum Kind {
+pub(crate) enum DeclaredAs {
     Event,
     Flow,
 }
@@ -19,7 +19,7 @@ pub(crate) enum Kind {
 #[derive(Drop)]
 pub(crate) struct Known<'a> {
     /// What each is declared as: an event, if it is declared as both.
-    pub(crate) names: BTreeMap<&'a [u8], Kind>,
+    pub(crate) names: BTreeMap<&'a [u8], DeclaredAs>,
     /// Whether one is declared a second time.
     pub(crate) is_again: bool,
 }
@@ -44,33 +44,33 @@ impl<'a> Known<'a> {
         match decl {
             Decl::Fact(_) => {}
             Decl::Event(name, _) => {
-                let earlier = self.names.insert(name.bytes(), Kind::Event)?;
+                let earlier = self.names.insert(name.bytes(), DeclaredAs::Event)?;
                 self.is_again |= earlier.is_some();
             }
             Decl::Flow(name, _) => {
                 if self.names.contains_key(name.bytes()) {
                     self.is_again = true;
                 } else {
-                    self.names.insert(name.bytes(), Kind::Flow)?;
+                    self.names.insert(name.bytes(), DeclaredAs::Flow)?;
                 }
             }
         }
         Ok(())
     }
 
-    fn has_event(&self, name: &[u8]) -> bool
-        ensures { result ≡ has_event self.now.names name.now }
+    fn has_as_event(&self, name: &[u8]) -> bool
+        ensures { result ≡ has_as_event self.now.names name.now }
     {
-        matches!(self.names.get(name), Some(Kind::Event))
+        matches!(self.names.get(name), Some(DeclaredAs::Event))
     }
 
     /// The name is not declared as it must be where it stands.
     pub(crate) fn lacks(&self, named: &Named<'_>) -> bool
-        ensures { result ≡ is_unknown (has self.now.names) (has_event self.now.names) (role_of named.now) }
+        ensures { result ≡ is_unknown (has self.now.names) (has_as_event self.now.names) (role_of named.now) }
     {
         match named {
             Named::InGoal(name) => !self.names.contains_key(name.bytes()),
-            Named::InRule(name) => !self.has_event(name.bytes()),
+            Named::InRule(name) => !self.has_as_event(name.bytes()),
             Named::Declares(_) | Named::InFact(_) => false,
         }
     }

@@ -3,6 +3,7 @@
 
 mod known;
 mod laws;
+mod lexed_text;
 mod listing;
 mod name_refusal;
 mod names;
@@ -10,7 +11,6 @@ mod parsing;
 mod print_goals;
 mod print_rules;
 mod print_scripts;
-mod source;
 
 pub use flow_form::{
     Const, Decl, Fact, Form, Name, Note, Query, RuleForm, Script, TextRefusal, Wanted,

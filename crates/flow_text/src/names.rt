@@ -3,7 +3,7 @@ ghost use Rattle.std.specs.List.{position_from};
 ghost use Rattle.flow_form.specs.Script.{said, asked};
 ghost use Rattle.flow_text.specs.declared.name_refusal.NameRefusal.TheVariants.{Repeated, Unknown};
 ghost use Rattle.flow_text.specs.GoodNames.{HasGoodNames, IsFirstRepeated, IsFirstUnknown, AsksOfEvents, AsksFirstOfOther};
-ghost use Rattle.flow_text.specs.KnownNames.{has, has_event, no_names, is_again, after, repeated_from, is_unknown};
+ghost use Rattle.flow_text.specs.KnownNames.{has, has_as_event, no_names, is_again, after, repeated_from, is_unknown};
 ghost use Rattle.flow_text.specs.ListedNames.{role_of, roles_of};
 
 use crate::known::Known;
@@ -46,7 +46,7 @@ fn first_repeated(
 
 /// The place of the first name that is not declared as it must be.
 fn first_unknown(list: &[Named<'_>], known: &Known<'_>) -> Option<usize>
-    ensures { result ≡ position_from (λ named. is_unknown (has known.now.names) (has_event known.now.names) (role_of named)) 0 list.now }
+    ensures { result ≡ position_from (λ named. is_unknown (has known.now.names) (has_as_event known.now.names) (role_of named)) 0 list.now }
 {
     list.iter().position(|named| known.lacks(named))
 }

@@ -7,27 +7,27 @@ ghost use Rattle.flow_text.specs.GoodNames.{HasGoodNames, AsksOfEvents};
 ghost use Rattle.flow_text.specs.Saying.{Says, Asks};
 ghost use Rattle.flow_text.specs.Parsing.{IsParseRefusal, IsQueryRefusal};
 
+use crate::lexed_text::LexedText;
 use crate::name_refusal::NameRefusal;
 use crate::names::{check_query, check_script};
-use crate::source::Source;
 use flow_form::{Query, Script, TextRefusal};
 use flow_reader::{read_query, read_script};
 use std::alloc::Global;
 
 /// Whether the names of the script that was read are good.
-fn check_names(alloc: Global, source: &Source<'_>, script: &Script) -> Result<(), TextRefusal>
-    requires { Derives SpellsScript (symbols_of source.now.text source.now.tokens) (said script.now) }
+fn check_names(alloc: Global, lexed: &LexedText<'_>, script: &Script) -> Result<(), TextRefusal>
+    requires { Derives SpellsScript (symbols_of lexed.now.text lexed.now.tokens) (said script.now) }
     ensures ok { OnOk result (HasGoodNames (said script.now)) }
-    ensures refused { IfErr result (λ refusal. IsParseRefusal source.now.text refusal) }
+    ensures refused { IfErr result (λ refusal. IsParseRefusal lexed.now.text refusal) }
 {
     match check_script(alloc, script) {
         Ok(()) => Ok(()),
         Err(NameRefusal::Repeated { index }) => {
-            let (place, name) = source.name_at(alloc, index)?;
+            let (place, name) = lexed.name_at(alloc, index)?;
             Err(TextRefusal::Repeated { place, name })
         }
         Err(NameRefusal::Unknown { index }) => {
-            let (place, name) = source.name_at(alloc, index)?;
+            let (place, name) = lexed.name_at(alloc, index)?;
             Err(TextRefusal::Unknown { place, name })
         }
         Err(NameRefusal::NoMemory) => Err(TextRefusal::NoMemory),
@@ -35,13 +35,13 @@ fn check_names(alloc: Global, source: &Source<'_>, script: &Script) -> Result<()
 }
 
 /// Reads a workflow from the tokens of its text.
-fn parse_source(alloc: Global, source: &Source<'_>) -> Result<Script, TextRefusal>
-    ensures ok { IfOk result (λ script. Says source.now.text (said script)) }
-    ensures closed { IfOk result (λ script. length source.now.text < 2 ^ 31 → IsClosed (said script)) }
-    ensures refused { IfErr result (λ refusal. IsParseRefusal source.now.text refusal) }
+fn parse_lexed(alloc: Global, lexed: &LexedText<'_>) -> Result<Script, TextRefusal>
+    ensures ok { IfOk result (λ script. Says lexed.now.text (said script)) }
+    ensures closed { IfOk result (λ script. length lexed.now.text < 2 ^ 31 → IsClosed (said script)) }
+    ensures refused { IfErr result (λ refusal. IsParseRefusal lexed.now.text refusal) }
 {
-    let script = read_script(alloc, source.text, &source.tokens)?;
-    check_names(alloc, source, &script)?;
+    let script = read_script(alloc, lexed.text, &lexed.tokens)?;
+    check_names(alloc, lexed, &script)?;
     Ok(script)
 }
 
@@ -52,26 +52,26 @@ pub fn parse(alloc: Global, text: &[u8]) -> Result<Script, TextRefusal>
     ensures closed { IfOk result (λ script. length text.now < 2 ^ 31 → IsClosed (said script)) }
     ensures refused { IfErr result (λ refusal. IsParseRefusal text.now refusal) }
 {
-    let source = Source::of(alloc, text)?;
-    parse_source(alloc, &source)
+    let lexed = LexedText::of(alloc, text)?;
+    parse_lexed(alloc, &lexed)
 }
 
 /// Whether the names of the query that was read are those of events.
 fn check_query_names(
     alloc: Global,
-    source: &Source<'_>,
+    lexed: &LexedText<'_>,
     script: &Script,
     query: &Query,
 ) -> Result<(), TextRefusal>
-    requires { Derives SpellsQuery (symbols_of source.now.text source.now.tokens) (asked query.now) }
+    requires { Derives SpellsQuery (symbols_of lexed.now.text lexed.now.tokens) (asked query.now) }
     ensures ok { OnOk result (AsksOfEvents (asked query.now) (said script.now)) }
-    ensures refused { IfErr result (λ refusal. IsQueryRefusal source.now.text (said script.now) refusal) }
+    ensures refused { IfErr result (λ refusal. IsQueryRefusal lexed.now.text (said script.now) refusal) }
 {
     match check_query(alloc, query, script) {
         Ok(()) => Ok(()),
         Err(NameRefusal::Repeated { .. }) => unreachable!(),
         Err(NameRefusal::Unknown { index }) => {
-            let (place, name) = source.name_at(alloc, index)?;
+            let (place, name) = lexed.name_at(alloc, index)?;
             Err(TextRefusal::Unknown { place, name })
         }
         Err(NameRefusal::NoMemory) => Err(TextRefusal::NoMemory),
@@ -79,16 +79,16 @@ fn check_query_names(
 }
 
 /// Reads a query from the tokens of its text.
-fn parse_query_source(
+fn parse_query_lexed(
     alloc: Global,
-    source: &Source<'_>,
+    lexed: &LexedText<'_>,
     script: &Script,
 ) -> Result<Query, TextRefusal>
-    ensures ok { IfOk result (λ query. Asks source.now.text (said script.now) (asked query)) }
-    ensures refused { IfErr result (λ refusal. IsQueryRefusal source.now.text (said script.now) refusal) }
+    ensures ok { IfOk result (λ query. Asks lexed.now.text (said script.now) (asked query)) }
+    ensures refused { IfErr result (λ refusal. IsQueryRefusal lexed.now.text (said script.now) refusal) }
 {
-    let query = read_query(alloc, source.text, &source.tokens)?;
-    check_query_names(alloc, source, script, &query)?;
+    let query = read_query(alloc, lexed.text, &lexed.tokens)?;
+    check_query_names(alloc, lexed, script, &query)?;
     Ok(query)
 }
 
@@ -97,6 +97,6 @@ pub fn parse_query(alloc: Global, text: &[u8], script: &Script) -> Result<Query,
     ensures ok { IfOk result (λ query. Asks text.now (said script.now) (asked query)) }
     ensures refused { IfErr result (λ refusal. IsQueryRefusal text.now (said script.now) refusal) }
 {
-    let source = Source::of(alloc, text)?;
-    parse_query_source(alloc, &source, script)
+    let lexed = LexedText::of(alloc, text)?;
+    parse_query_lexed(alloc, &lexed, script)
 }

@@ -9,20 +9,20 @@ use Rattle.flow_text.proofs.parsing.check_names.Goals as goal
 
 pub name_at-requires : goal.name_at-requires
 name_at-requires c =
-    first_named SpellsScript script_roles _ c.args.source.now.text c.args.source.now.tokens (said c.args.script.now) c.in-Err-Repeated.index scripts_have_roles c.requires
+    first_named SpellsScript script_roles _ c.args.lexed.now.text c.args.lexed.now.tokens (said c.args.script.now) c.in-Err-Repeated.index scripts_have_roles c.requires
     (c.in-Err-Repeated.ensures.repeated c.in-Err-Repeated.index (search rules))
 
 pub name_at-requires-in-Err-Unknown : goal.name_at-requires-in-Err-Unknown
 name_at-requires-in-Err-Unknown c =
-    first_named SpellsScript script_roles _ c.args.source.now.text c.args.source.now.tokens (said c.args.script.now) c.in-Err-Unknown.index scripts_have_roles c.requires
+    first_named SpellsScript script_roles _ c.args.lexed.now.text c.args.lexed.now.tokens (said c.args.script.now) c.in-Err-Unknown.index scripts_have_roles c.requires
     (c.in-Err-Unknown.ensures.unknown c.in-Err-Unknown.index (search rules)).first
 
 pub returns-in_ok-place-in-Err-Repeated-clause-refused : goal.returns-in_ok-place-in-Err-Repeated-clause-refused
 returns-in_ok-place-in-Err-Repeated-clause-refused c =
-    first_there SpellsScript script_roles IsFirstRepeated c.args.source.now.text c.args.source.now.tokens (said c.args.script.now) c.in-Err-Repeated.index _ _ scripts_have_roles
+    first_there SpellsScript script_roles IsFirstRepeated c.args.lexed.now.text c.args.lexed.now.tokens (said c.args.script.now) c.in-Err-Repeated.index _ _ scripts_have_roles
     c.in_ok-place-in-Err-Repeated.ensures.cut c.requires (c.in-Err-Repeated.ensures.repeated c.in-Err-Repeated.index (search rules)) c.in_ok-place-in-Err-Repeated.ensures.name
 
 pub returns-in_ok-place-in-Err-Unknown-clause-refused : goal.returns-in_ok-place-in-Err-Unknown-clause-refused
 returns-in_ok-place-in-Err-Unknown-clause-refused c =
-    first_there SpellsScript script_roles IsFirstUnknown c.args.source.now.text c.args.source.now.tokens (said c.args.script.now) c.in-Err-Unknown.index _ _ scripts_have_roles
+    first_there SpellsScript script_roles IsFirstUnknown c.args.lexed.now.text c.args.lexed.now.tokens (said c.args.script.now) c.in-Err-Unknown.index _ _ scripts_have_roles
     c.in_ok-place-in-Err-Unknown.ensures.cut c.requires (c.in-Err-Unknown.ensures.unknown c.in-Err-Unknown.index (search rules)) c.in_ok-place-in-Err-Unknown.ensures.name

@@ -1,6 +1,6 @@
 use Rattle.std.proofs.Common.{length}
 use Rattle.flow_text.proofs.NamesLeft.{IsLeft}
-use Rattle.flow_text.proofs.source.Source.name_at.Given as goal
+use Rattle.flow_text.proofs.lexed_text.LexedText.name_at.Given as goal
 
 abbrev pub invariant-loop-token : goal.invariant-loop-token
 invariant-loop-token l = IsLeft l.self-inside.text.now l.self-inside.tokens.items l.number l.left l.rest

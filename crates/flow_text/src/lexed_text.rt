@@ -2,7 +2,7 @@ ghost use Rattle.std.specs.Prelude.{◌≡◌, ◌<◌, length, Some, IfOk, IfEr
 ghost use Rattle.flow_lex.specs.Refusals.{IsRefused};
 ghost use Rattle.flow_reader.specs.Symbols.{meant};
 ghost use Rattle.flow_text.specs.Parsing.{name_in, named_places, bytes_now};
-ghost use Rattle.flow_text.specs.Saying.{HasTokens, IsCut, Cut};
+ghost use Rattle.flow_text.specs.Saying.{HasTokens, IsLexed, TextInTokens};
 
 use flow_form::{Name, TextRefusal};
 use flow_lex::{Token, lex};
@@ -22,26 +22,26 @@ fn name_in(symbol: Symbol<'_>) -> Option<&[u8]>
 
 /// A text with its tokens.
 #[derive(Drop)]
-pub(crate) struct Source<'a> {
+pub(crate) struct LexedText<'a> {
     pub(crate) text: &'a [u8],
     pub(crate) tokens: Vec<Token>,
 }
 
-impl<'a> Model for Source<'a> {
-    ghost Value = { Cut };
+impl<'a> Model for LexedText<'a> {
+    ghost Value = { TextInTokens };
 
     ghost view = { λ s. record { text = s.text.now; tokens = s.tokens.items } };
 
-    ghost invariant = { λ s. IsCut s.text.now s.tokens.items };
+    ghost invariant = { λ s. IsLexed s.text.now s.tokens.items };
 }
 
-impl<'a> Source<'a> {
-    pub(crate) fn of(alloc: Global, text: &'a [u8]) -> Result<Source<'a>, TextRefusal>
-        ensures text { IfOk result (λ source. source.text ≡ text.now) }
+impl<'a> LexedText<'a> {
+    pub(crate) fn of(alloc: Global, text: &'a [u8]) -> Result<LexedText<'a>, TextRefusal>
+        ensures text { IfOk result (λ lexed. lexed.text ≡ text.now) }
         ensures refused { IfErr result (λ refusal. IsRefused text.now refusal) }
     {
         let tokens = lex(alloc, text)?;
-        Ok(Source { text, tokens })
+        Ok(LexedText { text, tokens })
     }
 
     /// The name of that number among the tokens, and where it stands.
