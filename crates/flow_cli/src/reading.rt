@@ -9,7 +9,8 @@ use crate::output::{Output, refuse};
 use crate::status::Status;
 use flow_form::Script;
 use flow_io::{ReadRefusal, Source, read_all};
-use flow_reply::{Refused, cut};
+use flow_record::cut;
+use flow_reply::Refused;
 use flow_text::{TextRefusal, parse};
 use std::alloc::{AllocError, Global};
 
