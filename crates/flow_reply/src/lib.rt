@@ -7,6 +7,7 @@ mod ending;
 mod judging;
 mod listed;
 mod numbered;
+mod pieces;
 mod posting;
 mod refused;
 mod reply;
