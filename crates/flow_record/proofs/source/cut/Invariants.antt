@@ -1,6 +1,6 @@
 use Rattle.std.proofs.Common.{◌-◌}
-use Rattle.flow_reply.proofs.Cutting.{IsCutFrom}
-use Rattle.flow_reply.proofs.source.cut.Given as goal
+use Rattle.flow_record.proofs.Cutting.{IsCutFrom}
+use Rattle.flow_record.proofs.source.cut.Given as goal
 
 abbrev pub invariant-loop-place : goal.invariant-loop-place
 invariant-loop-place l = IsCutFrom l.source l.place

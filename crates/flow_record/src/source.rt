@@ -1,7 +1,7 @@
 ghost use Rattle.std.specs.Prelude.{◌≡◌, ◌<◌, ◌≤◌, length};
-ghost use Rattle.flow_reply.specs.Cut.{is_mark, cut_of, line_end};
+ghost use Rattle.flow_record.specs.Cut.{is_mark, cut_of, line_end};
 
-use flow_record::place_of_feed;
+use crate::lines::{is_word, place_of_feed};
 
 /// Cuts a source at its first line `%%`: where the first part ends, and where the second begins.
 /// Without such a line the first part is the whole source.
@@ -37,5 +37,5 @@ fn line_end(source: &[u8], place: usize) -> usize
 fn is_mark(line: &[u8]) -> bool
     ensures { result ≡ is_mark line.now }
 {
-    line == b"%%".as_slice() || line == b"%%\r".as_slice()
+    is_word(line, b"%%") || is_word(line, b"%%\r")
 }

@@ -1,20 +1,13 @@
 -- The first line of a source, byte for byte.
-use Rattle.std.proofs.Common.{◌≡◌, ℕ, ◌+◌, ◌-◌, ◌≤◌, ◌<◌, suc, min, Bool, true, false, not, ltb, List, [], ◌∷◌, length, take, drop, refl, sym, ◌∙◌, ap, length-drop, one-add, le_antisymm, arith, Some, None, if◌then◌else◌}
+use Rattle.std.proofs.Common.{◌≡◌, ℕ, ◌+◌, ◌-◌, ◌≤◌, ◌<◌, suc, min, Bool, true, false, not, ltb, List, [], ◌∷◌, length, take, drop, refl, sym, ◌∙◌, ap, length-drop, one-add, arith, None, if◌then◌else◌}
 use Rattle.std.specs.Prelude.{◌==◌}
 use Rattle.std.specs.List.{position_or_len, position}
-use Rattle.std.proofs.lemmas.Bool.{ltb-false}
 use Rattle.std.proofs.lemmas.List.{take_rest, drop-drop}
 use Rattle.std.proofs.lemmas.List.Sums.{prefix_len-le-length}
 use Rattle.std.proofs.lemmas.List.Folds.{length-prefix_len}
 use Rattle.flow_record.specs.Lines.{lines_of}
-use Rattle.flow_reply.specs.Cut.{is_mark, cut_from, cut_of, line_end}
-
--- where the first line feed stands, or the length
-abbrev pub feed : List ℕ → ℕ
-feed text = position_or_len (λ byte. byte == 10) text
-
-feed-le : (text : List ℕ) → feed text ≤ length text
-feed-le text = prefix_len-le-length (λ byte. not (byte == 10)) text
+use Rattle.flow_record.proofs.FirstLine.{feed, absent-cons}
+use Rattle.flow_record.specs.Cut.{is_mark, cut_from, cut_of, line_end}
 
 -- a text is its first line and the lines after it
 abbrev Splits : List ℕ → Type 0
@@ -32,25 +25,14 @@ splits : (text : List ℕ) → 0 < length text → Splits text
 splits [] some = absurd (omega arith)
 splits (b ∷ bs) some = splits-cons (b == 10) b bs refl (splits bs)
 
-found-cons : (t : Bool) (text : List ℕ) (n : ℕ) → ltb (feed text) (length text) ≡ t →
-    position (λ byte. byte == 10) text ≡ Some n → feed text ≡ n
-found-cons true text n e f = let g = rw e at f in cc
-found-cons false text n e f = let g = rw e at f in cc
-
-absent-cons : (t : Bool) (text : List ℕ) → ltb (feed text) (length text) ≡ t →
-    position (λ byte. byte == 10) text ≡ None → feed text ≡ length text
-absent-cons true text e f = let g = rw e at f in cc
-absent-cons false text e f = le_antisymm (feed-le text) (ltb-false _ _ e)
-
 -- no line feed: the line ends with the source
 pub at_end : (source : List ℕ) (place : ℕ) → place < length source →
     position (λ byte. byte == 10) (take (length source - place) (drop place source)) ≡ None →
     length source ≡ line_end source place
 at_end source place small e =
-    let there : feed (drop place source) ≡ length (drop place source) =
-    absent-cons (ltb (feed (drop place source)) (length (drop place source))) (drop place source) refl
-    (rw take_rest at e) in
-    omega (arith, there, length-drop place source)
+    let text : List ℕ = drop place source in
+    let past : length text ≤ feed text = absent-cons (ltb (feed text) (length text)) (λ byte. byte == 10) text refl (rw take_rest at e) in
+    omega (arith, past, prefix_len-le-length (λ byte. not (byte == 10)) text, length-drop place source)
 
 -- what is left to cut from the place on
 abbrev pub IsCutFrom : List ℕ → ℕ → Type 0

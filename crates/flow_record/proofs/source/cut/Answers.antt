@@ -1,6 +1,6 @@
 use Rattle.std.proofs.Common.{arith}
-use Rattle.flow_reply.proofs.Cutting.{at_mark, at_other}
-use Rattle.flow_reply.proofs.source.cut.Goals as goal
+use Rattle.flow_record.proofs.Cutting.{at_mark, at_other}
+use Rattle.flow_record.proofs.source.cut.Goals as goal
 
 pub returns-then-end-length-clause-parts : goal.returns-then-end-length-clause-parts
 returns-then-end-length-clause-parts c =
