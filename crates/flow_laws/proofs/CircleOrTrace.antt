@@ -8,8 +8,7 @@ use Rattle.flow_laws.specs.Words.{IsOrdered}
 use Rattle.flow_laws.specs.ReadyRuns.{ReadyRunsExtend}
 use Rattle.flow_laws.specs.Circles.{TraceOrCircle}
 use Rattle.flow_laws.proofs.Members.{LeavingOut, by_leaving_out, mem_with, split_at, mem_append_left, mem_append_right, each_from_members}
-use Rattle.flow_laws.proofs.Orderings.{trace_of_ordering}
-use Rattle.flow_laws.proofs.ReadyRuns.{run_grow, arrangement_of, complete_arranged}
+use Rattle.flow_laws.proofs.ReadyRuns.{run_grow, arrangement_of, complete_runs_are_traces}
 use Rattle.flow_laws.proofs.CircleExcludes.{circle_excludes}
 use Rattle.flow_laws.proofs.CircleRing.{ring_among, ring_from_least}
 use Rattle.flow_laws.proofs.CircleSearch.{some_or_all, IsUnfinished, IsTangle, goes_on}
@@ -67,12 +66,12 @@ module _ (q : Process) (pairs : List (ℕ × ℕ)) (w : IsOrdered q pairs) where
 
 pub ready_runs_extend : ReadyRunsExtend
 ready_runs_extend q pairs w (s, h, k) run r = ⊎_elim
-    (λ c. let a = complete_arranged q pairs c.0 w c.1 in (c.0, trace_of_ordering c.0 q w.choice_free w.distinct a.ordering, a.pairs_stand, c.2))
-    (λ c. absurd (circle_excludes q pairs w c.0 c.1 s (arrangement_of q pairs s w h k)))
+    (λ (t, complete, begins). let (trace, order) = (complete_runs_are_traces q pairs w t).0 complete in (t, trace, order, begins))
+    (λ (circle, c). absurd (circle_excludes q pairs w circle c s (arrangement_of q pairs s w h k)))
     (run_or_circle q pairs w run r)
 
 pub trace_or_circle : TraceOrCircle
 trace_or_circle q pairs w = ⊎_elim
-    (λ c. let a = complete_arranged q pairs c.0 w c.1 in inl (c.0, trace_of_ordering c.0 q w.choice_free w.distinct a.ordering, a.pairs_stand))
+    (λ (t, complete, begins). let (trace, order) = (complete_runs_are_traces q pairs w t).0 complete in inl (t, trace, order))
     inr
     (run_or_circle q pairs w [] tt)

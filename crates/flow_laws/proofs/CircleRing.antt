@@ -33,17 +33,16 @@ module _ (q : Process) (pairs : List (ℕ × ℕ)) where
   lead_on first next item [] b h = (h, b)
   lead_on first next item (m ∷ more) b h = (h.0, lead_on first next m more b h.1)
 
-  turn_once : (first next : List ℕ) (more : List (List ℕ)) → IsRing q pairs (first ∷ next ∷ more) → IsRing q pairs (next ∷ (more ++ first ∷ []))
-  turn_once first next more h = lead_on first next next more h.0 h.1
+  turn_once : (first : List ℕ) (more : List (List ℕ)) → IsRing q pairs (first ∷ more) → IsRing q pairs (more ++ first ∷ [])
+  turn_once first [] h = h
+  turn_once first (next ∷ more) h = lead_on first next next more h.0 h.1
 
   -- the ring begun at another of its members
-  turn_to : (front : List (List ℕ)) (item : List ℕ) (back : List (List ℕ)) → IsRing q pairs (front ++ item ∷ back) → IsRing q pairs (item ∷ (back ++ front))
-  turn_to [] item back h = rw append-nil h
-  turn_to (first ∷ []) item back h = turn_once first item back h
-  turn_to (first ∷ next ∷ front) item back h =
-      let turned = turn_once first next (front ++ item ∷ back) h in
-      let laid = subst (IsRing q pairs) (ap (λ l. next ∷ l) (append_assoc front (item ∷ back) (first ∷ []))) turned in
-      subst (IsRing q pairs) (ap (λ l. item ∷ l) (append_assoc back (first ∷ []) (next ∷ front))) (turn_to (next ∷ front) item (back ++ first ∷ []) laid)
+  pub turn : (front back : List (List ℕ)) → IsRing q pairs (front ++ back) → IsRing q pairs (back ++ front)
+  turn [] back h = subst (IsRing q pairs) (sym (append-nil back)) h
+  turn (first ∷ front) back h =
+      let turned = subst (IsRing q pairs) (append_assoc front back (first ∷ [])) (turn_once first (front ++ back) h) in
+      subst (IsRing q pairs) (append_assoc back (first ∷ []) front) (turn front (back ++ first ∷ []) turned)
 
   -- a ring found by walking back
 
@@ -125,7 +124,7 @@ ring_from_least q pairs items (x ∷ ring) r =
             members = λ i k. r.members i (old i k);
             distinct = distinct_swap front (item ∷ back) (subst AreDistinct e r.distinct);
             two = omega (arith, r.two, ap length e, length-append front (item ∷ back), length-append back front);
-            closed = turn_to q pairs front item back (subst (IsRing q pairs) e r.closed);
+            closed = turn q pairs front (item ∷ back) (subst (IsRing q pairs) e r.closed);
           },
           each_least (least_of item) (back ++ front) (λ z m. least z (old z (inr m))),
         )

@@ -190,32 +190,31 @@ module _ (q : Process) (pairs : List (ℕ × ℕ)) (w : IsOrdered q pairs) (run 
             (o.0, o.1, (b.0, o.2, b.2.0.0), λ e. b.2.0.1 (subst (λ z. b.0 ∈ z) e o.2), (b.0, b.2.1.0, o.2, b.2.1.1, b.2.1.2));
       }
 
+  -- a leaf may come next, or there is a tangle
+  abbrev pub GoesOn : Type 0
+  GoesOn = ((n : ℕ) × IsReady q pairs (λ x. x ∈ run) n) ⊎ ((tangled : Process) × IsTangle q pairs run tangled)
+
   -- an unfinished item that is not blocked is a ready leaf or a free part
-  step : (part : Process) → IsFree part →
-      ((inner : Process) → inner ∈ isolated_parts part → IsFree inner → ((n : ℕ) × IsReady q pairs (λ x. x ∈ run) n) ⊎ ((tangled : Process) × IsTangle q pairs run tangled)) →
-      ((n : ℕ) × IsReady q pairs (λ x. x ∈ run) n) ⊎ ((tangled : Process) × IsTangle q pairs run tangled)
+  step : (part : Process) → IsFree part → ((inner : Process) → inner ∈ isolated_parts part → IsFree inner → GoesOn) → GoesOn
   step part r down = ⊎_elim
       (λ found. open_item found.0 found.1 found.2.0 found.2.1)
       (λ f. inr (part, tangle_of part r (λ item m u. ⊎_elim (λ k. k) (λ n. absurd (f item m (u, n))) (decide_blocked part item))))
       (find_member (λ item. IsUnfinished run item × ¬ (IsBlocked part item)) (λ item. decide_both (decide_unfinished run item) (decide_not (decide_blocked part item))) (items_of part))
     where
-      open_item : (item : List ℕ) → item ∈ items_of part → IsUnfinished run item → ¬ (IsBlocked part item) →
-          ((n : ℕ) × IsReady q pairs (λ x. x ∈ run) n) ⊎ ((tangled : Process) × IsTangle q pairs run tangled)
+      open_item : (item : List ℕ) → item ∈ items_of part → IsUnfinished run item → ¬ (IsBlocked part item) → GoesOn
       open_item item m u n = ⊎_elim
-          (λ single.
-          let u' = subst (IsUnfinished run) single.1 u in
-          let is = only_one u'.0 single.0 u'.1 in
-          inl (single.0, leaf_ready part r single.0 (subst (λ z. z ∈ items_of part) single.1 m) (λ h. u'.2 (subst (λ z. z ∈ run) (sym is) h)) (subst (λ z. ¬ (IsBlocked part z)) single.1 n)))
-          (λ whole. down whole.0 whole.1
-          (part_free part r whole.0 whole.1 (subst (λ z. z ∈ items_of part) whole.2 m) (subst (IsUnfinished run) whole.2 u) (subst (λ z. ¬ (IsBlocked part z)) whole.2 n)))
+          (λ (leaf, e).
+          let (x, x_in, fresh) = subst (IsUnfinished run) e u in
+          let undone = subst (λ z. ¬ (z ∈ run)) (only_one x leaf x_in) fresh in
+          inl (leaf, leaf_ready part r leaf (subst (λ z. z ∈ items_of part) e m) undone (subst (λ z. ¬ (IsBlocked part z)) e n)))
+          (λ (inner, i, e). down inner i
+          (part_free part r inner i (subst (λ z. z ∈ items_of part) e m) (subst (IsUnfinished run) e u) (subst (λ z. ¬ (IsBlocked part z)) e n)))
           (item_kind (case_of part) item m)
 
   -- down the parts
-  descend : (k : ℕ) (part : Process) → IsFree part → goal_size part ≤ k →
-      ((n : ℕ) × IsReady q pairs (λ x. x ∈ run) n) ⊎ ((tangled : Process) × IsTangle q pairs run tangled)
+  descend : (k : ℕ) (part : Process) → IsFree part → goal_size part ≤ k → GoesOn
   descend zero part r s = step part r (λ inner m f. absurd (omega (arith, part_smaller (case_of part) inner m)))
   descend (suc k) part r s = step part r (λ inner m f. descend k inner f (omega (arith, part_smaller (case_of part) inner m)))
 
-  -- a leaf may come next, or there is a tangle
-  pub goes_on : IsUnfinished run (leaves q) → ((n : ℕ) × IsReady q pairs (λ x. x ∈ run) n) ⊎ ((tangled : Process) × IsTangle q pairs run tangled)
+  pub goes_on : IsUnfinished run (leaves q) → GoesOn
   goes_on u = let r = some_free u in descend (goal_size r.0) r.0 r.1 (omega arith)
