@@ -8,7 +8,7 @@ use Rattle.flow_model.specs.Process.{Process, Empty, Task, Sequence, Parallel, C
 use Rattle.flow_model.specs.Resolution.{OptionTrace}
 use Rattle.flow_model.specs.Trace.{as_one, Trace}
 use Rattle.flow_laws.specs.Words.{AreOfLeaves, IsOrdered}
-use Rattle.flow_laws.proofs.EventsLemmas.{shuffle-append}
+use Rattle.flow_laws.proofs.Shuffles.{shuffle-append}
 use Rattle.flow_laws.proofs.Members.{before_or_after}
 use Rattle.flow_laws.proofs.MadeLists.{joined-append}
 use Rattle.flow_laws.proofs.TraceLeaves.{joined-as_one}

@@ -12,7 +12,7 @@ use Rattle.flow_model.specs.Resolution.{resolutions, resolution_count}
 use Rattle.flow_laws.proofs.ResolutionsLemmas.{number_of_both, number_of_right}
 use Rattle.flow_laws.proofs.MadeLists.{slice_get_append_left}
 use Rattle.flow_goal.specs.declared.sides.Sides.{Sides}
-use Rattle.flow_goal.specs.Sides.{Ends, IsOf, IsOfBoth, IsOfEither, IsTaken, kept_count, sides_in}
+use Rattle.flow_goal.specs.Sides.{Ends, IsResolutionOf, AreResolutionsOf, IsResolutionOfEither, IsTaken, kept_count, sides_in}
 
 -- how many goals a goal is made of
 abbrev pub goal_size : Process → ℕ
@@ -64,7 +64,7 @@ product_kept m x y some p q = at (cases_lt x m) (cases_lt y m)
 
 -- the resolution of a number
 
-pub of_both : (a b x y : Process) (number : ℕ) → IsOf a (number / resolution_count b) x → IsOf b number y → IsOfBoth a b number x y
+pub of_both : (a b x y : Process) (number : ℕ) → IsResolutionOf a (number / resolution_count b) x → IsResolutionOf b number y → AreResolutionsOf a b number x y
 of_both a b x y number e k f =
     ap (slice_get (each_with_each f (resolutions a) (resolutions b))) (mod-mul number (some_resolution a) (some_resolution b))
     ∙ number_of_both f a b x y (number / resolution_count b % resolution_count a) (number % resolution_count b) e k
@@ -75,13 +75,13 @@ rest_of_both a b number =
     ∙ ap (λ n. number / n) (mul_comm (resolution_count b) (resolution_count a))
 
 pub of_left : (a b x : Process) (number within : ℕ) → within ≡ number % (resolution_count a + resolution_count b) → within < resolution_count a →
-    IsOf a within x → IsOfEither a b number x
+    IsResolutionOf a within x → IsResolutionOfEither a b number x
 of_left a b x number within is lt e =
     ap (slice_get (resolutions a ++ resolutions b)) (sym is)
     ∙ slice_get_append_left (resolutions a) (resolutions b) within x (ap (slice_get (resolutions a)) (sym (mod-eq_of_lt lt)) ∙ e)
 
 pub of_right : (a b x : Process) (number within : ℕ) → within ≡ number % (resolution_count a + resolution_count b) → resolution_count a ≤ within →
-    IsOf b (within - resolution_count a) x → IsOfEither a b number x
+    IsResolutionOf b (within - resolution_count a) x → IsResolutionOfEither a b number x
 of_right a b x number within is le e =
     let some : 0 < resolution_count a + resolution_count b = omega (arith, some_resolution a) in
     let below : number % (resolution_count a + resolution_count b) < resolution_count a + resolution_count b = mod-lt number some in
@@ -90,7 +90,7 @@ of_right a b x number within is le e =
     ap (slice_get (resolutions a ++ resolutions b)) back
     ∙ number_of_right a b x (within - resolution_count a) (ap (slice_get (resolutions b)) (sym (mod-eq_of_lt lt)) ∙ e)
 
-pub of_isolated : (a x : Process) (number : ℕ) → IsOf a number x → IsOf (Isolated a) number (Isolated x)
+pub of_isolated : (a x : Process) (number : ℕ) → IsResolutionOf a number x → IsResolutionOf (Isolated a) number (Isolated x)
 of_isolated a x number e = slice_get-map Isolated (resolutions a) (number % resolution_count a) ∙ ap (option_map Isolated) e
 
 -- lists of which parts are taken from the end

@@ -6,17 +6,18 @@ use Rattle.std.proofs.lemmas.List.Folds.{find-append}
 use Rattle.flow_model.specs.Lists.{◌∈◌, numbers_from}
 use Rattle.flow_model.specs.Process.{Process, Empty, Task, Sequence, Parallel, Choice, Isolated, leaves}
 use Rattle.flow_laws.specs.Events.{AreTogether}
+use Rattle.flow_laws.proofs.EventsLemmas.{blocks_with_both}
+use Rattle.flow_laws.proofs.TraceLeaves.{leaf_of_blocks}
+use Rattle.flow_laws.proofs.MadeLists.{numbers_from_below, numbers_from_least}
 use Rattle.flow_laws.proofs.Members.{mem_append_left, mem_append_right, mem-append}
 use Rattle.flow_goal.specs.declared.partners.Partner.{Partner}
 use Rattle.flow_goal.specs.declared.partners.Partner.TheVariants.{Outside, Alone, With}
-use Rattle.flow_goal.specs.Partners.{partner_in, in_both, in_either}
+use Rattle.flow_goal.specs.Partners.{partner_in, partner_in_both, partner_in_choice}
 use Rattle.flow_goal.proofs.Numbers.{AreRows, rows}
 
 -- the members of a row of numbers
 pub in_row : (low count n : ℕ) → n ∈ numbers_from low count → (low ≤ n) × (n < low + count)
-in_row low zero n m = absurd m
-in_row low (suc count) n (inl e) = (omega arith, omega arith)
-in_row low (suc count) n (inr m) = let h = in_row (low + 1) count n m in (omega (arith, h.0), omega (arith, h.1))
+in_row low count n m = (numbers_from_least low count n m, numbers_from_below low count n m)
 
 -- what a search in a list finds: the least member that passes, if one does
 abbrev pub IsFound : (ℕ → Bool) → List ℕ → Option ℕ → Type 0
@@ -53,17 +54,14 @@ found_left passes xs ys n e = sym (find-append passes xs ys ∙ ap (λ o. option
 pub found_right : (passes : ℕ → Bool) (xs ys : List ℕ) (o : Option ℕ) → None ≡ find passes xs → o ≡ find passes ys → o ≡ find passes (xs ++ ys)
 found_right passes xs ys o e f = f ∙ sym (find-append passes xs ys ∙ ap (λ o. option_or o (find passes ys)) (sym e))
 
-pub both_outside : (one right answer : Partner) (found : Option ℕ) → Outside ≡ one → answer ≡ right → answer ≡ in_both one right found
-both_outside one right answer found e f = f ∙ ap (λ p. in_both p right found) e
+pub both_outside : (one right answer : Partner) (found : Option ℕ) → Outside ≡ one → answer ≡ right → answer ≡ partner_in_both one right found
+both_outside one right answer found e f = f ∙ ap (λ p. partner_in_both p right found) e
 
-pub both_found : (one right : Partner) (found : Option ℕ) (n : ℕ) → Alone ≡ one → Some n ≡ found → With n ≡ in_both one right found
-both_found one right found n e f = ap (λ o. in_both Alone right o) f ∙ ap (λ p. in_both p right found) e
+pub both_found : (one right : Partner) (found : Option ℕ) (n : ℕ) → Alone ≡ one → Some n ≡ found → With n ≡ partner_in_both one right found
+both_found one right found n e f = ap (λ o. partner_in_both Alone right o) f ∙ ap (λ p. partner_in_both p right found) e
 
-pub both_alone : (one right : Partner) (found : Option ℕ) → Alone ≡ one → None ≡ found → Alone ≡ in_both one right found
-both_alone one right found e f = ap (λ o. in_both Alone right o) f ∙ ap (λ p. in_both p right found) e
-
-pub either_outside : (one right answer : Partner) → Outside ≡ one → answer ≡ right → answer ≡ in_either one right
-either_outside one right answer e f = f ∙ ap (λ p. in_either p right) e
+pub both_alone : (one right : Partner) (found : Option ℕ) → Alone ≡ one → None ≡ found → Alone ≡ partner_in_both one right found
+both_alone one right found e f = ap (λ o. partner_in_both Alone right o) f ∙ ap (λ p. partner_in_both p right found) e
 
 -- What is found
 
@@ -75,41 +73,21 @@ IsPartner passes list Together x (With y) =
     (x ∈ list) × Together y × (passes y ≡ true) × ((z : ℕ) → Together z → passes z ≡ true → y ≤ z)
 
 pub together_first : (g : Process) (x y : ℕ) → AreTogether g x y → x ∈ leaves g
-together_first Empty x y h = absurd h
-together_first (Task n) x y h = absurd h
-together_first (Sequence a b) x y (inl (inl h)) = mem_append_left x (leaves a) (leaves b) h.0
-together_first (Sequence a b) x y (inl (inr h)) = mem_append_left x (leaves a) (leaves b) (together_first a x y h)
-together_first (Sequence a b) x y (inr h) = mem_append_right x (leaves a) (leaves b) (together_first b x y h)
-together_first (Parallel a b) x y (inl (inl h)) = mem_append_left x (leaves a) (leaves b) h.0
-together_first (Parallel a b) x y (inl (inr h)) = mem_append_left x (leaves a) (leaves b) (together_first a x y h)
-together_first (Parallel a b) x y (inr h) = mem_append_right x (leaves a) (leaves b) (together_first b x y h)
-together_first (Choice a b) x y (inl h) = mem_append_left x (leaves a) (leaves b) (together_first a x y h)
-together_first (Choice a b) x y (inr h) = mem_append_right x (leaves a) (leaves b) (together_first b x y h)
-together_first (Isolated a) x y h = together_first a x y h
+together_first g x y h = let (blocks, b, mx, my) = blocks_with_both g x y h in leaf_of_blocks g blocks b x mx
 
-pub together_second : (g : Process) (x y : ℕ) → AreTogether g x y → y ∈ leaves g
-together_second Empty x y h = absurd h
-together_second (Task n) x y h = absurd h
-together_second (Sequence a b) x y (inl (inl h)) = mem_append_right y (leaves a) (leaves b) h.1
-together_second (Sequence a b) x y (inl (inr h)) = mem_append_left y (leaves a) (leaves b) (together_second a x y h)
-together_second (Sequence a b) x y (inr h) = mem_append_right y (leaves a) (leaves b) (together_second b x y h)
-together_second (Parallel a b) x y (inl (inl h)) = mem_append_right y (leaves a) (leaves b) h.1
-together_second (Parallel a b) x y (inl (inr h)) = mem_append_left y (leaves a) (leaves b) (together_second a x y h)
-together_second (Parallel a b) x y (inr h) = mem_append_right y (leaves a) (leaves b) (together_second b x y h)
-together_second (Choice a b) x y (inl h) = mem_append_left y (leaves a) (leaves b) (together_second a x y h)
-together_second (Choice a b) x y (inr h) = mem_append_right y (leaves a) (leaves b) (together_second b x y h)
-together_second (Isolated a) x y h = together_second a x y h
+together_second : (g : Process) (x y : ℕ) → AreTogether g x y → y ∈ leaves g
+together_second g x y h = let (blocks, b, mx, my) = blocks_with_both g x y h in leaf_of_blocks g blocks b y my
 
 -- the leaves of the first goal come before those of the second
-abbrev AreApart : Process → Process → Type 0
-AreApart a b = (m n : ℕ) → m ∈ leaves a → n ∈ leaves b → m < n
+abbrev ComeBefore : Process → Process → Type 0
+ComeBefore a b = (m n : ℕ) → m ∈ leaves a → n ∈ leaves b → m < n
 
-not_in_second : (a b : Process) (x : ℕ) → AreApart a b → x ∈ leaves a → ¬ (x ∈ leaves b)
+not_in_second : (a b : Process) (x : ℕ) → ComeBefore a b → x ∈ leaves a → ¬ (x ∈ leaves b)
 not_in_second a b x apart m n = let h : x < x = apart x x m n in omega arith
 
-both_is : (passes : ℕ → Bool) (a b : Process) (x : ℕ) (one two : Partner) (found : Option ℕ) → AreApart a b →
+both_is : (passes : ℕ → Bool) (a b : Process) (x : ℕ) (one two : Partner) (found : Option ℕ) → ComeBefore a b →
     IsPartner passes (leaves a) (AreTogether a x) x one → IsPartner passes (leaves b) (AreTogether b x) x two → IsFound passes (leaves b) found →
-    IsPartner passes (leaves (Sequence a b)) (AreTogether (Sequence a b) x) x (in_both one two found)
+    IsPartner passes (leaves (Sequence a b)) (AreTogether (Sequence a b) x) x (partner_in_both one two found)
 both_is passes a b x Outside Outside found apart fails none f =
     λ m. elim (mem-append x (leaves a) (leaves b) m) [ inl i ↦ fails i | inr i ↦ none i ]
 both_is passes a b x Outside Alone found apart fails (m, none) f = (mem_append_right x (leaves a) (leaves b) m, alone)
@@ -144,9 +122,9 @@ both_is passes a b x (With y) two found apart (m, t, passed, least) q f = (mem_a
     least_of_all z (inl (inr h)) p = least z h p
     least_of_all z (inr h) p = absurd (not_in_second a b x apart m (together_first b x z h))
 
-either_is : (passes : ℕ → Bool) (a b : Process) (x : ℕ) (one two : Partner) → AreApart a b →
+either_is : (passes : ℕ → Bool) (a b : Process) (x : ℕ) (one two : Partner) → ComeBefore a b →
     IsPartner passes (leaves a) (AreTogether a x) x one → IsPartner passes (leaves b) (AreTogether b x) x two →
-    IsPartner passes (leaves (Choice a b)) (AreTogether (Choice a b) x) x (in_either one two)
+    IsPartner passes (leaves (Choice a b)) (AreTogether (Choice a b) x) x (partner_in_choice one two)
 either_is passes a b x Outside Outside apart fails none =
     λ m. elim (mem-append x (leaves a) (leaves b) m) [ inl i ↦ fails i | inr i ↦ none i ]
 either_is passes a b x Outside Alone apart fails (m, none) = (mem_append_right x (leaves a) (leaves b) m, alone)
@@ -178,7 +156,7 @@ task_is passes n x false e = λ m. other m
     other (inl f) = let h : true ≡ false = sym (eq-eqb n x (sym f)) ∙ e in cc
     other (inr m) = absurd m
 
-rows_apart : (a b : Process) (low count : ℕ) → AreRows (leaves a) (leaves b) low count → AreApart a b
+rows_apart : (a b : Process) (low count : ℕ) → AreRows (leaves a) (leaves b) low count → ComeBefore a b
 rows_apart a b low count r m n i j =
     let h = in_row low r.left m (subst (λ list. m ∈ list) r.front_is i) in
     let k = in_row (low + r.left) r.right n (subst (λ list. n ∈ list) r.back_is j) in

@@ -39,12 +39,12 @@ rows (x ∷ front) back first (suc count) e =
     }
 
 -- what the count says of the leaves
-pub record IsRow (g : Process) (next stop : ℕ) : Type 0 where
+pub record IsNumberedBetween (g : Process) (next stop : ℕ) : Type 0 where
   pub count : ℕ
   pub stops : stop ≡ next + count
   pub row : leaves g ≡ numbers_from next count
 
-both_rows : (a b : Process) (next middle stop : ℕ) → IsRow a next middle → IsRow b middle stop → (count : ℕ) × (stop ≡ next + count) × (leaves a ++ leaves b ≡ numbers_from next count)
+both_rows : (a b : Process) (next middle stop : ℕ) → IsNumberedBetween a next middle → IsNumberedBetween b middle stop → (count : ℕ) × (stop ≡ next + count) × (leaves a ++ leaves b ≡ numbers_from next count)
 both_rows a b next middle stop p q = (
   p.count + q.count,
   (let e : middle ≡ next + p.count = p.stops in let f : stop ≡ middle + q.count = q.stops in omega arith),
@@ -57,13 +57,13 @@ bound None f y e = cc
 bound (Some x) f y e = (x, refl, e)
 
 task_row : (n next last stop : ℕ) (b c : Bool) → nat_eq n next ≡ b → nat_lt next last ≡ c →
-    cond b (cond c (Some (next + 1)) None) None ≡ Some stop → IsRow (Task n) next stop
+    cond b (cond c (Some (next + 1)) None) None ≡ Some stop → IsNumberedBetween (Task n) next stop
 task_row n next last stop true true e f h = record { count = 1; stops = sym (same_Some (next + 1) stop h); row = ap (λ x. x ∷ []) (eqb-true n next e) }
 task_row n next last stop true false e f h = cc
 task_row n next last stop false c e f h = cc
 
-two_rows : (a b : Process) (next last stop : ℕ) → ((middle : ℕ) → number_after a next last ≡ Some middle → IsRow a next middle) →
-    ((middle : ℕ) → number_after b middle last ≡ Some stop → IsRow b middle stop) →
+two_rows : (a b : Process) (next last stop : ℕ) → ((middle : ℕ) → number_after a next last ≡ Some middle → IsNumberedBetween a next middle) →
+    ((middle : ℕ) → number_after b middle last ≡ Some stop → IsNumberedBetween b middle stop) →
     option_and_then (λ middle. number_after b middle last) (number_after a next last) ≡ Some stop →
     (count : ℕ) × (stop ≡ next + count) × (leaves a ++ leaves b ≡ numbers_from next count)
 two_rows a b next last stop p q h =
@@ -71,7 +71,7 @@ two_rows a b next last stop p q h =
     both_rows a b next m stop (p m e) (q m f)
 
 -- where the count ends, the leaves are a row up to there
-pub is_row : (g : Process) (next last stop : ℕ) → number_after g next last ≡ Some stop → IsRow g next stop
+pub is_row : (g : Process) (next last stop : ℕ) → number_after g next last ≡ Some stop → IsNumberedBetween g next stop
 is_row Empty next last stop h = record { count = 0; stops = sym (same_Some next stop h) ∙ omega arith; row = refl }
 is_row (Task n) next last stop h = task_row n next last stop (nat_eq n next) (nat_lt next last) refl refl h
 is_row (Sequence a b) next last stop h =
@@ -127,7 +127,7 @@ reaches (Isolated a) next count last e le = reaches a next count last e le
 -- a goal is numbered with so many leaves exactly where the count from 0 ends there
 pub numbered_iff : (g : Process) (count : ℕ) → (number_after g 0 count ≡ Some count) ↔ (leaves g ≡ numbers_from 0 count)
 numbered_iff g count = (
-  (λ h. let r : IsRow g 0 count = is_row g 0 count count h in
+  (λ h. let r : IsNumberedBetween g 0 count = is_row g 0 count count h in
       r.row ∙ ap (λ k. numbers_from 0 k) (let s : count ≡ 0 + r.count = r.stops in omega arith)),
   (λ e. reaches g 0 count count e (omega arith) ∙ ap (λ k. Some k) (omega arith)),
 )

@@ -73,9 +73,6 @@ none_outside t whole event x found other z pair =
     (partner_is (passes t event) t.process x 0 (length t.labels) whole) in
     absurd (none (together_first t.process x z (pair_together t whole other x z pair)))
 
-pub none_without_event : (t : Labelled) (x : ℕ) → event_at t.labels x ≡ None → HoldsNoneFrom t x
-none_without_event t x e event z pair = let h : Some event ≡ None = sym pair.at_first ∙ e in cc
-
 -- The first pair of all
 
 pub first_of_all : (t : Labelled) (x : ℕ) (found : Twice) → ((k : ℕ) → k < x → HoldsNoneFrom t k) → IsFirstFrom t x found → IsFirstTwice t found

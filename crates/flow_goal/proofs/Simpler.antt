@@ -202,10 +202,6 @@ simplified (Isolated a) free = simplified_isolated a (shaped Simple a) (simplifi
 pub simplified_as : {g old new : Process} → old ≡ g → IsChoiceFree g → new ≡ shaped Simple old → IsSimplified g new
 simplified_as {g} e free is = subst (IsSimplified g) (sym (is ∙ ap (shaped Simple) e)) (simplified g free)
 
--- the executions are the same
-pub same_traces : (old new : Process) → IsSimplified old new → (t : List ℕ) → Trace new t ↔ Trace old t
-same_traces old new s t = ((λ (v, h, e). (v, (s.same v).0 h, e)), (λ (v, h, e). (v, (s.same v).1 h, e)))
-
 -- A goal without choices has one resolution, which is the goal, and so no sides
 
 pub only_resolution : (g : Process) → IsChoiceFree g → resolutions g ≡ g ∷ []

@@ -8,7 +8,7 @@ use Rattle.flow_goal.specs.declared.node.Node.TheVariants.{Nop, Leaf, Serial, Fo
 use Rattle.std.specs.Option.{option_to_list}
 use Rattle.flow_goal.specs.declared.backwards.Backwards.{Backwards}
 use Rattle.flow_goal.specs.declared.backwards.Marks.{Marks}
-use Rattle.flow_goal.specs.Sides.{IsOf}
+use Rattle.flow_goal.specs.Sides.{IsResolutionOf}
 use Rattle.flow_goal.specs.Written.{nodes_of}
 use Rattle.flow_goal.specs.Backwards.{Puts, PutsResolution, PutsEither, PutsBoth, IsBackwardsOf}
 use Rattle.flow_goal.proofs.Counting.{of_both, of_isolated, of_left, of_right}
@@ -29,12 +29,6 @@ puts_as marks more ns ms old new e f p = record {
   nodes_are = p.nodes_are ∙ ap (λ l. l ++ reverse old.nodes.items) e;
   leaves_are = p.leaves_are ∙ ap (λ l. l ++ reverse old.leaves.items) f;
 }
-
-pub written_nop : (number : ℕ) (old new : Backwards) → Puts (Nop ∷ []) [] old new → PutsResolution Empty number old new
-written_nop number old new p =
-    let some : 0 < 1 = omega arith in
-    let below : number % 1 < 1 = mod-lt number some in
-    let none : number % 1 ≡ 0 = omega arith in (Empty, ap (slice_get (Empty ∷ [])) none, p)
 
 pub written_task : (n number : ℕ) (old new : Backwards) → Puts (Leaf ∷ []) (n ∷ []) old new → PutsResolution (Task n) number old new
 written_task n number old new p =
@@ -73,7 +67,7 @@ written_both a b number next marks old last right between left new r p (y, is_y,
     let middle = option_to_list marks.between ++ back in (
       x,
       y,
-      of_both a b x y number (subst (λ n. IsOf a n x) r is_x) is_y,
+      of_both a b x y number (subst (λ n. IsResolutionOf a n x) r is_x) is_y,
       puts_as (option_to_list marks.first ++ (nodes_of x ++ middle)) (option_to_list marks.first ++ (nodes_of x ++ middle)) (leaves x ++ (leaves y ++ [])) (leaves x ++ leaves y) old new
           refl (ap (λ l. leaves x ++ l) (append-nil (leaves y)))
           (puts_more (nodes_of x ++ middle) (option_to_list marks.first) (leaves x ++ (leaves y ++ [])) [] old left new

@@ -8,7 +8,7 @@ use Rattle.std.specs.List.Sorted.{IsStrictlyIncreasing}
 use Rattle.flow_model.specs.Process.{Process, Empty, Task, Sequence, Parallel, Choice, Isolated, leaves, IsChoiceFree}
 use Rattle.flow_goal.specs.declared.node.Node.{Node}
 use Rattle.flow_goal.specs.declared.node.Node.TheVariants.{Serial, Fork, Split, Join, Open, Close}
-use Rattle.flow_goal.specs.Written.{nodes_of, leaf_of, read_on, stack_of}
+use Rattle.flow_goal.specs.Written.{nodes_of, leaf_of, read_on, goals_on}
 
 -- the leaves from the place on begin with those
 abbrev pub StandAt : List ℕ → ℕ → List ℕ → Type 0
@@ -108,7 +108,3 @@ pub leaf_missing : (ns : List ℕ) (k : ℕ) → length ns ≤ k → Empty ≡ l
 leaf_missing [] k past = refl
 leaf_missing (m ∷ ns) zero past = absurd (omega (arith, past))
 leaf_missing (m ∷ ns) (suc k) past = leaf_missing ns k (omega (arith, past))
-
--- a goal more on the stack
-pub stack_push : (goals : List Goal) (g : Goal) → stack_of (goals ++ g ∷ []) ≡ process_of g ∷ stack_of goals
-stack_push goals g = ap reverse (map-append process_of goals (g ∷ [])) ∙ reverse-append (map process_of goals) (process_of g ∷ [])

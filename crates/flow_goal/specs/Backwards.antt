@@ -7,7 +7,7 @@ use Rattle.flow_goal.specs.declared.backwards.Backwards.{Backwards}
 use Rattle.flow_goal.specs.declared.backwards.Marks.{Marks}
 use Rattle.std.specs.Option.{option_to_list}
 use Rattle.flow_goal.specs.Written.{nodes_of}
-use Rattle.flow_goal.specs.Sides.{IsOf, IsOfBoth, IsOfEither}
+use Rattle.flow_goal.specs.Sides.{IsResolutionOf, AreResolutionsOf, IsResolutionOfEither}
 
 -- marks and leaves were put to the left of those that were there
 pub record Puts (marks : List Node) (ns : List ℕ) (old new : Backwards) : Type 0 where
@@ -16,15 +16,15 @@ pub record Puts (marks : List Node) (ns : List ℕ) (old new : Backwards) : Type
 
 -- a resolution was written
 abbrev pub PutsResolution : Process → ℕ → Backwards → Backwards → Type 0
-PutsResolution g number old new = (q : Process) × IsOf g number q × Puts (nodes_of q) (leaves q) old new
+PutsResolution g number old new = (q : Process) × IsResolutionOf g number q × Puts (nodes_of q) (leaves q) old new
 
 -- one of one of two goals
 abbrev pub PutsEither : Process → Process → ℕ → Backwards → Backwards → Type 0
-PutsEither a b number old new = (q : Process) × IsOfEither a b number q × Puts (nodes_of q) (leaves q) old new
+PutsEither a b number old new = (q : Process) × IsResolutionOfEither a b number q × Puts (nodes_of q) (leaves q) old new
 
 -- one of each of two goals, with the marks around them
 abbrev pub PutsBoth : Process → Process → ℕ → Marks → Backwards → Backwards → Type 0
-PutsBoth a b number marks old new = (x : Process) × (y : Process) × IsOfBoth a b number x y ×
+PutsBoth a b number marks old new = (x : Process) × (y : Process) × AreResolutionsOf a b number x y ×
     Puts (option_to_list marks.first ++ (nodes_of x ++ (option_to_list marks.between ++ (nodes_of y ++ marks.last ∷ []))))
     (leaves x ++ leaves y) old new
 

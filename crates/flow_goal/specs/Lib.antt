@@ -3,7 +3,6 @@ pub mod Choices
 pub mod Goal
 pub mod Labelled
 pub mod Numbering
-pub mod Plain
 pub mod Resolved
 pub mod Sides
 pub mod Simple

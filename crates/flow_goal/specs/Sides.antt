@@ -28,14 +28,14 @@ abbrev pub IsTaken : {A : Type 0} → List A → List A → List A → Type 0
 IsTaken {A} list back new = (front : List A) → list ≡ front ++ back → new ≡ front
 
 -- q is the resolution of the number, of which a multiple of the count says nothing
-abbrev pub IsOf : Process → ℕ → Process → Type 0
-IsOf g number q = slice_get (resolutions g) (number % resolution_count g) ≡ Some q
+abbrev pub IsResolutionOf : Process → ℕ → Process → Type 0
+IsResolutionOf g number q = slice_get (resolutions g) (number % resolution_count g) ≡ Some q
 
 -- x and y are those of two goals that both stay, however they are put together
-abbrev pub IsOfBoth : Process → Process → ℕ → Process → Process → Type 0
-IsOfBoth a b number x y = (f : Process → Process → Process) →
+abbrev pub AreResolutionsOf : Process → Process → ℕ → Process → Process → Type 0
+AreResolutionsOf a b number x y = (f : Process → Process → Process) →
     slice_get (each_with_each f (resolutions a) (resolutions b)) (number % (resolution_count a * resolution_count b)) ≡ Some (f x y)
 
 -- q is that of one of two goals
-abbrev pub IsOfEither : Process → Process → ℕ → Process → Type 0
-IsOfEither a b number q = slice_get (resolutions a ++ resolutions b) (number % (resolution_count a + resolution_count b)) ≡ Some q
+abbrev pub IsResolutionOfEither : Process → Process → ℕ → Process → Type 0
+IsResolutionOfEither a b number q = slice_get (resolutions a ++ resolutions b) (number % (resolution_count a + resolution_count b)) ≡ Some q

@@ -51,5 +51,5 @@ pub record IsWritten (nodes : List Node) (leaves : List ℕ) : Type 0 where
   pub nodes_are : nodes ≡ nodes_of (read nodes leaves).process
 
 -- the goals of the code's stack, whose top is its last one
-abbrev pub stack_of : List Goal → List Process
-stack_of goals = reverse (map process_of goals)
+abbrev pub goals_on : List Goal → List Process
+goals_on goals = reverse (map process_of goals)

@@ -2,7 +2,7 @@ ghost use Rattle.std.specs.Prelude.{◌≡◌, ◌<◌, ◌≤◌, ◌+◌, ◌^
 ghost use Rattle.flow_goal.specs.Goal.{process_of, together};
 ghost use Rattle.flow_model.specs.Process.{Isolated};
 ghost use Rattle.flow_goal.specs.declared.node.Node.{Node};
-ghost use Rattle.flow_goal.specs.Written.{leaf_of, read_on, rest, stack_of, top};
+ghost use Rattle.flow_goal.specs.Written.{leaf_of, read_on, rest, goals_on, top};
 
 use crate::goal::{Goal, Operator, together};
 use crate::node::Node;
@@ -21,15 +21,15 @@ fn leaf_at(leaves: &[u32], place: usize) -> Goal
 
 /// Takes the goal on top off the stack. One that is missing is nothing.
 pub(crate) fn take_top(stack: &mut Vec<Goal>) -> Goal
-    ensures taken { process_of result ≡ top (stack_of stack.old.items) }
-    ensures left { stack_of stack.new.items ≡ rest (stack_of stack.old.items) }
+    ensures taken { process_of result ≡ top (goals_on stack.old.items) }
+    ensures left { goals_on stack.new.items ≡ rest (goals_on stack.old.items) }
 {
     stack.pop().unwrap_or(Goal::Nop)
 }
 
 /// Puts the goal on the stack.
 fn put(goal: Goal, stack: &mut Vec<Goal>) -> Result<(), AllocError>
-    ensures { OnOk result (stack_of stack.new.items ≡ process_of goal ∷ stack_of stack.old.items) }
+    ensures { OnOk result (goals_on stack.new.items ≡ process_of goal ∷ goals_on stack.old.items) }
 {
     stack.push(goal)?;
     Ok(())
@@ -37,8 +37,8 @@ fn put(goal: Goal, stack: &mut Vec<Goal>) -> Result<(), AllocError>
 
 /// Makes one goal of the two on top of the stack.
 fn join(alloc: Global, operator: Operator, stack: &mut Vec<Goal>) -> Result<(), AllocError>
-    ensures { OnOk result (stack_of stack.new.items ≡
-        together operator (top (rest (stack_of stack.old.items))) (top (stack_of stack.old.items)) ∷ rest (rest (stack_of stack.old.items))) }
+    ensures { OnOk result (goals_on stack.new.items ≡
+        together operator (top (rest (goals_on stack.old.items))) (top (goals_on stack.old.items)) ∷ rest (rest (goals_on stack.old.items))) }
 {
     let right = take_top(stack);
     let left = take_top(stack);
@@ -47,7 +47,7 @@ fn join(alloc: Global, operator: Operator, stack: &mut Vec<Goal>) -> Result<(), 
 
 /// Isolates the goal on top of the stack.
 fn isolate(alloc: Global, stack: &mut Vec<Goal>) -> Result<(), AllocError>
-    ensures { OnOk result (stack_of stack.new.items ≡ Isolated (top (stack_of stack.old.items)) ∷ rest (stack_of stack.old.items)) }
+    ensures { OnOk result (goals_on stack.new.items ≡ Isolated (top (goals_on stack.old.items)) ∷ rest (goals_on stack.old.items)) }
 {
     let part = Box::new(alloc, take_top(stack))?;
     put(Goal::Iso(part), stack)
@@ -65,8 +65,8 @@ pub(crate) fn read_node(
     requires { place + 1 < 2 ^ 64 }
     ensures next { IfOk result (λ next. next ≤ place + 1) }
     ensures read { IfOk result (λ next. (nodes : List Node) →
-        read_on (node.now ∷ nodes) leaves.now place (stack_of stack.old.items)
-        ≡ read_on nodes leaves.now next (stack_of stack.new.items)) }
+        read_on (node.now ∷ nodes) leaves.now place (goals_on stack.old.items)
+        ≡ read_on nodes leaves.now next (goals_on stack.new.items)) }
 {
     match node {
         Node::Fork | Node::Split | Node::Open => {}

@@ -26,15 +26,6 @@ noted_from old new leaf noted n either = noted n ∙ ⊎_elim
     (λ h. second_true (n == leaf) (is_done old n) h)
     (λ last. ⊎_elim (λ same. first_true (n == leaf) (is_done old n) (eq-eqb n leaf same)) (λ none. absurd none) last) either
 
-pub next_is_after : (p : Planned) (old new : Progress) (first second : ℕ) (answer : Bool) → ((n : ℕ) → is_done new n ≡ (n == first || is_done old n)) →
-    (IsTrue answer ↔ MayComeNext p (IsDone new) second) → IsTrue answer ↔ MayComeAfter p (IsDone old) first second
-next_is_after p old new first second answer noted says = (
-  λ yes. same_ready p.process (pairs_of p.tokens) (IsDone new) (DoneOr (IsDone old) (first ∷ [])) second
-      (noted_to old new first noted) (noted_from old new first noted) (says.0 yes),
-  λ after. says.1 (same_ready p.process (pairs_of p.tokens) (DoneOr (IsDone old) (first ∷ [])) (IsDone new) second
-      (noted_from old new first noted) (noted_to old new first noted) after),
-)
-
 pub orders_after : (p : Planned) (old new : Progress) (first : ℕ) (list : List ℕ) → ((n : ℕ) → is_done new n ≡ (n == first || is_done old n)) →
     MayFollowInEveryOrder p (IsDone new) list ↔ MayFollowInEveryOrder p (DoneOr (IsDone old) (first ∷ [])) list
 orders_after p old new first list noted = (

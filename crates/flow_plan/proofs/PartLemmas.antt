@@ -1,5 +1,5 @@
 -- What the rows of isolated parts say.
-use Rattle.std.proofs.Common.{◌≡◌, ◌≢◌, ℕ, ◌+◌, ◌-◌, ◌<◌, ◌≤◌, zero, suc, Bool, true, false, not, ◌==◌, ◌&&◌, ◌||◌, IsTrue, eq-eqb, eqb-true, List, [], ◌∷◌, ◌++◌, length, take, drop, get_or, inl, inr, ◌↔◌, ⊎_elim, refl, sym, ◌∙◌, ap, subst, arith, append-nil, min}
+use Rattle.std.proofs.Common.{◌≡◌, ◌≢◌, ℕ, ◌+◌, ◌-◌, ◌<◌, ◌≤◌, zero, suc, Bool, true, false, not, ◌==◌, ◌&&◌, ◌||◌, ◌↔◌, IsTrue, eq-eqb, eqb-true, List, [], ◌∷◌, ◌++◌, length, take, drop, get_or, inl, inr, ◌↔◌, ⊎_elim, refl, sym, ◌∙◌, ap, subst, arith, append-nil, min}
 use Rattle.std.proofs.lemmas.List.{take_more, length-take, length-drop, get_or-take, get_or-drop}
 use Rattle.std.proofs.Math.Seq.{take-append_seam}
 use Rattle.std.proofs.lemmas.Bool.{cases_lt, cases_eq, ne_eqb}
@@ -13,9 +13,9 @@ use Rattle.flow_laws.proofs.Members.{mem_append_left, mem_append_right, mem-appe
 use Rattle.flow_plan.specs.declared.part_row.PartRow.{PartRow}
 use Rattle.flow_plan.specs.declared.span.Span.{Span}
 use Rattle.flow_plan.specs.Rows.{IsRowOf, AreRowsOf, has_at}
-use Rattle.flow_plan.specs.Ahead.{IsAhead, IsOutside}
+use Rattle.flow_plan.specs.Ahead.{IsInSome, IsOutside}
 use Rattle.flow_plan.specs.Spans.{placed_parts, IsSpanOf, IsEarlier, AreRising, AddsSpans}
-use Rattle.flow_plan.specs.Parts.{IsOneAtMost, at_span, IsPartFor, ArePartsFor, IsPartRow, HasTwo, HaveSameLeaves, AreApart, ArePartsOf, PartAllows}
+use Rattle.flow_plan.specs.Parts.{IsOneAtMost, at_span, IsPartFor, ArePartsFor, IsPartRow, HasTwo, HaveSameLeaves, HaveOtherLeaves, ArePartsOf, PartAllows}
 use Rattle.flow_plan.proofs.PlaceLemmas.{place_of_member, read_member}
 use Rattle.std.proofs.lemmas.List.Kept.{AllPairs-from_increasing}
 use Rattle.flow_goal.proofs.WrittenLemmas.{StandAt, first_stand, second_stand}
@@ -41,11 +41,11 @@ leaf_more ns i now new within is noted =
           (mem-append x (take i ns) (n ∷ []) member),
     ))
 
-pub row_more : (rows : List (LeafSet 16)) (i : ℕ) (now new row : LeafSet 16) → i < length rows → row ≡ get_or rows i row → IsRowOf (IsAhead (take i rows)) now →
-    ((x : ℕ) → has_leaf new x ≡ (has_leaf now x || has_leaf row x)) → IsRowOf (IsAhead (take (i + 1) rows)) new
+pub row_more : (rows : List (LeafSet 16)) (i : ℕ) (now new row : LeafSet 16) → i < length rows → row ≡ get_or rows i row → IsRowOf (IsInSome (take i rows)) now →
+    ((x : ℕ) → has_leaf new x ≡ (has_leaf now x || has_leaf row x)) → IsRowOf (IsInSome (take (i + 1) rows)) new
 row_more rows i now new row within at is union =
     let same : take (i + 1) rows ≡ take i rows ++ row ∷ [] = take_more rows i row within ∙ ap (λ (r : LeafSet 16). take i rows ++ r ∷ []) (sym at) in
-    subst (λ (l : List (LeafSet 16)). IsRowOf (IsAhead l) new) (sym same)
+    subst (λ (l : List (LeafSet 16)). IsRowOf (IsInSome l) new) (sym same)
     (λ x. (
       λ has. ⊎_elim (λ h. let found = (is x).0 h in (found.0, mem_append_left found.0 (take i rows) (row ∷ []) found.1, found.2))
           (λ h. (row, mem_append_right row (take i rows) (row ∷ []) (inl refl), h))
@@ -55,34 +55,10 @@ row_more rows i now new row within at is union =
           (mem-append found.0 (take i rows) (row ∷ []) found.1),
     ))
 
-removed_parts : (same has : Bool) → IsTrue (not same && has) → (same ≡ false) × IsTrue has
-removed_parts true has h = absurd (cc)
-removed_parts false has h = (refl, h)
-
-removed_of : (same has : Bool) → same ≡ false → IsTrue has → IsTrue (not same && has)
-removed_of true has differs h = absurd (cc)
-removed_of false has differs h = h
-
--- the set without the leaves so far
-abbrev pub IsLeft : LeafSet 16 → List ℕ → ℕ → Type 0
-IsLeft set ns x = ¬ (x ∈ ns) × IsTrue (has_leaf set x)
-
-pub leaf_less : (set : LeafSet 16) (ns : List ℕ) (i : ℕ) (now new : LeafSet 16) → i < length ns → IsRowOf (IsLeft set (take i ns)) now →
-    ((x : ℕ) → has_leaf new x ≡ (not (x == get_or ns i 0) && has_leaf now x)) → IsRowOf (IsLeft set (take (i + 1) ns)) new
-leaf_less set ns i now new within is removed =
-    let n : ℕ = get_or ns i 0 in
-    subst (λ (l : List ℕ). IsRowOf (IsLeft set l) new) (sym (take_more ns i 0 within))
-    (λ x. (
-      λ has. let parts = removed_parts (x == n) (has_leaf now x) (sym (removed x) ∙ has) in
-          let old = (is x).0 parts.1 in (
-            λ member. ⊎_elim (λ h. old.0 h) (λ last. ⊎_elim (λ same. let yes = eq-eqb x n same in let no = parts.0 in absurd (cc)) (λ none. absurd none) last)
-                (mem-append x (take i ns) (n ∷ []) member),
-            old.1,
-          ),
-      λ left. removed x ∙ removed_of (x == n) (has_leaf now x)
-          (ne_eqb x n (λ same. left.0 (mem_append_right x (take i ns) (n ∷ []) (inl same))))
-          ((is x).1 (λ h. left.0 (mem_append_left x (take i ns) (n ∷ []) h), left.1)),
-    ))
+-- what the one has, and the other has not
+pub left_over : (P Q : Type 0) (out has new : Bool) → new ≡ (not out && has) → IsTrue out ↔ P → IsTrue has ↔ Q → IsTrue new ↔ (¬ P × Q)
+left_over P Q true has new is p q = (λ h. absurd (cc), λ both. absurd (both.0 (p.0 refl)))
+left_over P Q false has new is p q = (λ h. ((λ x. let no = p.1 x in absurd (cc)), q.0 (sym is ∙ h)), λ both. is ∙ q.1 both.1)
 
 -- ---- what a part allows
 
@@ -186,7 +162,7 @@ rows_drop P (suc f) [] (row ∷ rows) are = absurd are
 rows_drop P (suc f) (n ∷ ns) [] are = absurd are
 rows_drop P (suc f) (n ∷ ns) (row ∷ rows) are = rows_drop P f ns rows are.1
 
-ahead_of : (P : ℕ → ℕ → Type 0) (ns : List ℕ) (rows : List (LeafSet 16)) (x : ℕ) → AreRowsOf P ns rows → IsAhead rows x → (y : ℕ) × (y ∈ ns) × P x y
+ahead_of : (P : ℕ → ℕ → Type 0) (ns : List ℕ) (rows : List (LeafSet 16)) (x : ℕ) → AreRowsOf P ns rows → IsInSome rows x → (y : ℕ) × (y ∈ ns) × P x y
 ahead_of P [] [] x are found = absurd found.1
 ahead_of P [] (row ∷ rows) x are found = absurd are
 ahead_of P (n ∷ ns) [] x are found = absurd are
@@ -194,7 +170,7 @@ ahead_of P (n ∷ ns) (row ∷ rows) x are (r, inl same, has) = (n, inl refl, (a
 ahead_of P (n ∷ ns) (row ∷ rows) x are (r, inr member, has) =
     let later = ahead_of P ns rows x are.1 (r, member, has) in (later.0, inr later.1, later.2)
 
-is_ahead : (P : ℕ → ℕ → Type 0) (ns : List ℕ) (rows : List (LeafSet 16)) (x y : ℕ) → AreRowsOf P ns rows → y ∈ ns → P x y → IsAhead rows x
+is_ahead : (P : ℕ → ℕ → Type 0) (ns : List ℕ) (rows : List (LeafSet 16)) (x y : ℕ) → AreRowsOf P ns rows → y ∈ ns → P x y → IsInSome rows x
 is_ahead P [] rows x y are member holds = absurd member
 is_ahead P (n ∷ ns) [] x y are member holds = absurd are
 is_ahead P (n ∷ ns) (row ∷ rows) x y are (inl same) holds = (row, inl refl, (are.0 x).1 (subst (λ (m : ℕ). P x m) same holds))
@@ -281,7 +257,7 @@ are_apart ns before s t one two rising long earlier for_one for_two same = ⊎_e
     (cases_lt s.end t.end)
 
 all_apart : (ns : List ℕ) (before : List (LeafSet 16)) (spans : List Span) (rows : List PartRow) → IsStrictlyIncreasing ns → Each (IsLong ns) spans → AreRising spans →
-    ArePartsFor ns before spans rows → AreApart rows
+    ArePartsFor ns before spans rows → HaveOtherLeaves rows
 all_apart ns before [] [] rising long order are = tt
 all_apart ns before [] (row ∷ rows) rising long order are = absurd are
 all_apart ns before (s ∷ spans) [] rising long order are = absurd are
@@ -312,13 +288,6 @@ rises_from : (ns : List ℕ) → IsStrictlyIncreasing ns → (k : ℕ) → k < l
 rises_from ns rising zero within = omega arith
 rises_from ns rising (suc k) within =
     omega (arith, rises_from ns rising k (omega (arith, within)), AllPairs-from_increasing ns rising k (suc k) 0 (omega arith) within)
-
-pub rising_short : (ns : List ℕ) → IsStrictlyIncreasing ns → Each (λ n. n < 1024) ns → length ns ≤ 1024
-rising_short ns rising small = ⊎_elim (λ fits. omega (arith, fits)) (λ long.
-    let within : 1024 < length ns = omega (arith, long) in
-    let here = each_member (λ n. n < 1024) ns small (get_or ns 1024 0) (read_member ns 1024 within) in
-    absurd (omega (arith, here, rises_from ns rising 1024 within)))
-    (cases_lt (length ns) 1025)
 
 -- a span at a place of the list
 long_at : (ns : List ℕ) (spans : List Span) (k : ℕ) (d : Span) → Each (IsLong ns) spans → k < length spans → IsLong ns (get_or spans k d)

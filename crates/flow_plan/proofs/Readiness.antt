@@ -14,8 +14,8 @@ use Rattle.flow_plan.specs.declared.part_row.PartRow.{PartRow}
 use Rattle.flow_plan.specs.Planned.{Planned, pairs_of}
 use Rattle.flow_plan.specs.Rows.{AreRowsOf, has_at}
 use Rattle.flow_plan.specs.Parts.{ArePartsOf, PartAllows}
-use Rattle.flow_plan.specs.Orders.{IsFree}
-use Rattle.flow_plan.specs.Kept.{IsKept}
+use Rattle.flow_plan.specs.Orders.{IsUnblocked}
+use Rattle.flow_plan.specs.Fields.{AreFieldsOf}
 use Rattle.flow_plan.proofs.PlaceLemmas.{distinct_of_rising}
 use Rattle.flow_model.proofs.Lists.{mem-slice_get}
 use Rattle.flow_plan.proofs.RowLemmas.{rows_at, rows_get, rows_length}
@@ -32,7 +32,7 @@ new_is_ordered p choice_free listed rising of_leaves different = record {
 }
 
 pub new_is_kept : (p : Planned) (before : List (LeafSet 16)) (parts : List PartRow) → IsOrdered p.process (pairs_of p.tokens) → p.leaves ≡ leaves p.process → IsStrictlyIncreasing p.leaves →
-    Each (λ n. n < 1024) p.leaves → AreRowsOf (DirectlyBefore p.process (pairs_of p.tokens)) p.leaves before → ArePartsOf p.process (pairs_of p.tokens) parts → IsKept p before parts
+    Each (λ n. n < 1024) p.leaves → AreRowsOf (DirectlyBefore p.process (pairs_of p.tokens)) p.leaves before → ArePartsOf p.process (pairs_of p.tokens) parts → AreFieldsOf p before parts
 new_is_kept p before parts ordered listed rising small rows parts_are = record {
   ordered = ordered;
   listed = listed;
@@ -47,14 +47,14 @@ new_is_kept p before parts ordered listed rising small rows parts_are = record {
 abbrev pub Before : Planned → ℕ → ℕ → Type 0
 Before p x y = DirectlyBefore p.process (pairs_of p.tokens) x y
 
-pub before_at_row : (p : Planned) (before : List (LeafSet 16)) (parts : List PartRow) (k x y : ℕ) (row : LeafSet 16) → IsKept p before parts →
+pub before_at_row : (p : Planned) (before : List (LeafSet 16)) (parts : List PartRow) (k x y : ℕ) (row : LeafSet 16) → AreFieldsOf p before parts →
     slice_get p.leaves k ≡ Some y → row ≡ get_or before k row → IsTrue (has_leaf row x) ↔ Before p x y
 before_at_row p before parts k x y row kept at is = rows_get (DirectlyBefore p.process (pairs_of p.tokens)) p.leaves before k y row row at is kept.rows x
 
 pub before_second : (p : Planned) → IsOrdered p.process (pairs_of p.tokens) → (x y : ℕ) → Before p x y → y ∈ leaves p.process
 before_second p ordered x y direct = direct_second p.process (pairs_of p.tokens) ordered x y direct
 
-pub row_within : (p : Planned) (before : List (LeafSet 16)) (parts : List PartRow) → IsKept p before parts → length before ≡ length p.leaves
+pub row_within : (p : Planned) (before : List (LeafSet 16)) (parts : List PartRow) → AreFieldsOf p before parts → length before ≡ length p.leaves
 row_within p before parts kept = rows_length (DirectlyBefore p.process (pairs_of p.tokens)) p.leaves before kept.rows
 
 -- ---- readiness
@@ -63,22 +63,22 @@ abbrev pub Ready : Planned → (ℕ → Type 0) → ℕ → Type 0
 Ready p Done n = IsReady p.process (pairs_of p.tokens) Done n
 
 -- a leaf is free where its row is done
-pub free_by_row : (p : Planned) (before : List (LeafSet 16)) (parts : List PartRow) (D : ℕ → Type 0) (k n : ℕ) → IsKept p before parts →
-    slice_get p.leaves k ≡ Some n → ¬ D n → ((x : ℕ) → IsTrue (has_at before k x) → D x) → IsFree p D n
+pub free_by_row : (p : Planned) (before : List (LeafSet 16)) (parts : List PartRow) (D : ℕ → Type 0) (k n : ℕ) → AreFieldsOf p before parts →
+    slice_get p.leaves k ≡ Some n → ¬ D n → ((x : ℕ) → IsTrue (has_at before k x) → D x) → IsUnblocked p D n
 free_by_row p before parts D k n kept at fresh row_done = record {
   leaf = subst (λ (l : List ℕ). n ∈ l) kept.listed (mem-slice_get p.leaves k n at);
   not_done = fresh;
   before = λ x direct. row_done x ((rows_at (DirectlyBefore p.process (pairs_of p.tokens)) p.leaves before k n at kept.rows x).1 direct);
 }
 
-pub row_of_free : (p : Planned) (before : List (LeafSet 16)) (parts : List PartRow) (D : ℕ → Type 0) (k n : ℕ) → IsKept p before parts →
-    slice_get p.leaves k ≡ Some n → IsFree p D n → (x : ℕ) → IsTrue (has_at before k x) → D x
+pub row_of_free : (p : Planned) (before : List (LeafSet 16)) (parts : List PartRow) (D : ℕ → Type 0) (k n : ℕ) → AreFieldsOf p before parts →
+    slice_get p.leaves k ≡ Some n → IsUnblocked p D n → (x : ℕ) → IsTrue (has_at before k x) → D x
 row_of_free p before parts D k n kept at free x has =
     free.before x ((rows_at (DirectlyBefore p.process (pairs_of p.tokens)) p.leaves before k n at kept.rows x).0 has)
 
 -- a free leaf that each part lets come next is ready
-pub ready_of_free : (p : Planned) (before : List (LeafSet 16)) (parts : List PartRow) (D : ℕ → Type 0) (n : ℕ) → IsKept p before parts →
-    IsFree p D n → Each (λ row. PartAllows row D n) parts → Ready p D n
+pub ready_of_free : (p : Planned) (before : List (LeafSet 16)) (parts : List PartRow) (D : ℕ → Type 0) (n : ℕ) → AreFieldsOf p before parts →
+    IsUnblocked p D n → Each (λ row. PartAllows row D n) parts → Ready p D n
 ready_of_free p before parts D n kept free allowed = record {
   leaf = free.leaf;
   not_done = free.not_done;
@@ -97,10 +97,10 @@ ready_of_free p before parts D n kept free allowed = record {
       (kept.parts_are.complete part member);
 }
 
-pub free_of_ready : (p : Planned) (D : ℕ → Type 0) (n : ℕ) → Ready p D n → IsFree p D n
+pub free_of_ready : (p : Planned) (D : ℕ → Type 0) (n : ℕ) → Ready p D n → IsUnblocked p D n
 free_of_ready p D n ready = record { leaf = ready.leaf; not_done = ready.not_done; before = ready.before }
 
-pub parts_of_ready : (p : Planned) (before : List (LeafSet 16)) (parts : List PartRow) (D : ℕ → Type 0) (n : ℕ) → IsKept p before parts →
+pub parts_of_ready : (p : Planned) (before : List (LeafSet 16)) (parts : List PartRow) (D : ℕ → Type 0) (n : ℕ) → AreFieldsOf p before parts →
     Ready p D n → Each (λ row. PartAllows row D n) parts
 parts_of_ready p before parts D n kept ready = each_from_members (λ row. PartAllows row D n) parts (λ row member.
     let found = kept.parts_are.sound row member in

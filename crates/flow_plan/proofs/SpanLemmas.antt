@@ -50,14 +50,6 @@ earlier_other s t other before = record {
   first = λ same. ⊎_elim (λ equal. absurd (other (same_span s t equal same))) (λ differs. omega (arith, before.first same, differs)) (cases_eq s.first t.first);
 }
 
-pub adds_short : (span : Span) (old : List Span) → span.end < span.first + 2 → AddsSpan span old old
-adds_short span old short = record {
-  kept = λ s h. h;
-  sound = λ s h. inl h;
-  complete = inl short;
-  rising = λ rising all. rising;
-}
-
 -- what a test of two spans says
 pub test_same : (s t : Span) → true ≡ ((s.first == t.first) && (s.end == t.end)) → s ≡ t
 test_same s t test =

@@ -14,9 +14,9 @@ use Rattle.flow_plan.specs.declared.progress.Progress.{Progress}
 use Rattle.flow_plan.specs.Planned.{Planned, pairs_of}
 use Rattle.flow_plan.specs.Progress.{is_done, IsDone}
 use Rattle.flow_plan.specs.Orders.{MayComeNext, MayFollowInEveryOrder}
-use Rattle.flow_plan.specs.Rows.{IsRowOf, IsFreeAt, has_at}
+use Rattle.flow_plan.specs.Rows.{IsRowOf, IsUnblockedAt, has_at}
 use Rattle.flow_plan.specs.Parts.{PartAllows, KeepsBeside, KeepsAfter}
-use Rattle.flow_plan.specs.Kept.{IsKept}
+use Rattle.flow_plan.specs.Fields.{AreFieldsOf}
 use Rattle.flow_plan.proofs.PlaceLemmas.{place_of_member}
 use Rattle.std.proofs.lemmas.Option.{slice_get-get_or}
 use Rattle.flow_plan.proofs.RowLemmas.{either_true, first_true, second_true}
@@ -43,12 +43,12 @@ kept_step P parts i row new now was within is step before =
 
 -- ---- leaf by leaf
 
-module _ (ns : List ℕ) (rows : List (LeafSet 16)) (D : ℕ → Type 0) (i : ℕ) (now new : LeafSet 16) (before : IsRowOf (IsFreeAt ns rows i D) now) where
-  later : (x : ℕ) → IsFreeAt ns rows i D x → IsFreeAt ns rows (i + 1) D x
+module _ (ns : List ℕ) (rows : List (LeafSet 16)) (D : ℕ → Type 0) (i : ℕ) (now new : LeafSet 16) (before : IsRowOf (IsUnblockedAt ns rows i D) now) where
+  later : (x : ℕ) → IsUnblockedAt ns rows i D x → IsUnblockedAt ns rows (i + 1) D x
   later x (k, below, at, fresh, ready) = (k, (let b : k < i + 1 = omega (arith, below) in b), at, fresh, ready)
 
   -- it was there before, or stands at the last place
-  earlier : (n x : ℕ) → slice_get ns i ≡ Some n → IsFreeAt ns rows (i + 1) D x → IsFreeAt ns rows i D x ⊎ ((x ≡ n) × ¬ D n × ((y : ℕ) → IsTrue (has_at rows i y) → D y))
+  earlier : (n x : ℕ) → slice_get ns i ≡ Some n → IsUnblockedAt ns rows (i + 1) D x → IsUnblockedAt ns rows i D x ⊎ ((x ≡ n) × ¬ D n × ((y : ℕ) → IsTrue (has_at rows i y) → D y))
   earlier n x here (k, below, at, fresh, ready) = ⊎_elim
       (λ less. inl (k, less, at, fresh, ready))
       (λ more. let last : k ≡ i = omega (arith, below, more) in
@@ -56,7 +56,7 @@ module _ (ns : List ℕ) (rows : List (LeafSet 16)) (D : ℕ → Type 0) (i : �
       inr (same, (λ done. fresh (subst D (sym same) done)), λ y has. ready y (subst (λ j. IsTrue (has_at rows j y)) (sym last) has)))
       (cases_lt k i)
 
-  pub free_skipped : (n : ℕ) → new ≡ now → slice_get ns i ≡ Some n → (¬ D n → ((x : ℕ) → IsTrue (has_at rows i x) → D x) → ⊥) → IsRowOf (IsFreeAt ns rows (i + 1) D) new
+  pub free_skipped : (n : ℕ) → new ≡ now → slice_get ns i ≡ Some n → (¬ D n → ((x : ℕ) → IsTrue (has_at rows i x) → D x) → ⊥) → IsRowOf (IsUnblockedAt ns rows (i + 1) D) new
   free_skipped n same here not_free x = (
     λ has. later x ((before x).0 (subst (λ (r : LeafSet 16). IsTrue (has_leaf r x)) same has)),
     λ found. subst (λ (r : LeafSet 16). IsTrue (has_leaf r x)) (sym same)
@@ -64,7 +64,7 @@ module _ (ns : List ℕ) (rows : List (LeafSet 16)) (D : ℕ → Type 0) (i : �
   )
 
   pub free_added : (n : ℕ) → ((k : ℕ) → has_leaf new k ≡ (k == n || has_leaf now k)) → slice_get ns i ≡ Some n → ¬ D n → ((x : ℕ) → IsTrue (has_at rows i x) → D x) →
-      IsRowOf (IsFreeAt ns rows (i + 1) D) new
+      IsRowOf (IsUnblockedAt ns rows (i + 1) D) new
   free_added n noted here fresh ready x = (
     λ has. ⊎_elim
         (λ same. let is : x ≡ n = eqb-true x n same in
@@ -79,7 +79,7 @@ module _ (ns : List ℕ) (rows : List (LeafSet 16)) (D : ℕ → Type 0) (i : �
 
 -- ---- what comes next
 
-module _ (p : Planned) (before : List (LeafSet 16)) (parts : List PartRow) (kept : IsKept p before parts) (done : Progress) (row : LeafSet 16)
+module _ (p : Planned) (before : List (LeafSet 16)) (parts : List PartRow) (kept : AreFieldsOf p before parts) (done : Progress) (row : LeafSet 16)
     (row_is : (n : ℕ) → has_leaf row n ≡ is_done done n) where
   abbrev Here : ℕ → Type 0
   Here x = IsTrue (has_leaf row x)
@@ -90,15 +90,15 @@ module _ (p : Planned) (before : List (LeafSet 16)) (parts : List PartRow) (kept
   pub from_done : (x : ℕ) → IsDone done x → Here x
   from_done x h = row_is x ∙ h
 
-  pub next_by_rows : (free keep : LeafSet 16) → IsRowOf (λ n. IsFreeAt p.leaves before (length p.leaves) (IsDone done) n) free →
+  pub next_by_rows : (free keep : LeafSet 16) → IsRowOf (λ n. IsUnblockedAt p.leaves before (length p.leaves) (IsDone done) n) free →
       ((n : ℕ) → IsTrue (has_leaf keep n) ↔ (IsTrue (has_leaf free n) × Each (λ r. PartAllows r Here n) parts)) → IsRowOf (MayComeNext p (IsDone done)) keep
   next_by_rows free keep free_is keep_is n = (
     λ has.
         let both = (keep_is n).0 has in
         let found = (free_is n).0 both.0 in
-        let is_free = free_by_row p before parts (IsDone done) found.0 n kept found.2 found.3 found.4 in
+        let is_unblocked = free_by_row p before parts (IsDone done) found.0 n kept found.2 found.3 found.4 in
         same_ready p.process (pairs_of p.tokens) Here (IsDone done) n to_done from_done
-        (ready_of_free p before parts Here n kept (record { leaf = is_free.leaf; not_done = λ h. is_free.not_done (to_done n h); before = λ x direct. from_done x (is_free.before x direct) }) both.1),
+        (ready_of_free p before parts Here n kept (record { leaf = is_unblocked.leaf; not_done = λ h. is_unblocked.not_done (to_done n h); before = λ x direct. from_done x (is_unblocked.before x direct) }) both.1),
     λ ready.
         let place = place_of_member p.leaves n (subst (λ (l : List ℕ). n ∈ l) (sym kept.listed) ready.leaf) in
         let at : slice_get p.leaves place.0 ≡ Some n = slice_get-get_or p.leaves place.0 0 place.1 ∙ ap Some place.2 in
@@ -179,7 +179,7 @@ module _ (p : Planned) (done : Progress) (list : List ℕ) (next claims found re
   each_next : ((k : ℕ) → IsTrue (has_leaf claims k) → IsTrue (has_leaf next k)) → Each (MayComeNext p (IsDone done)) list
   each_next within = each_from_members (MayComeNext p (IsDone done)) list (λ k member. (next_is k).0 (within k ((claims_are k).1 member)))
 
-  module _ (before : List (LeafSet 16)) (parts : List PartRow) (kept : IsKept p before parts) (within : (k : ℕ) → IsTrue (has_leaf claims k) → IsTrue (has_leaf next k)) (keep new : LeafSet 16)
+  module _ (before : List (LeafSet 16)) (parts : List PartRow) (kept : AreFieldsOf p before parts) (within : (k : ℕ) → IsTrue (has_leaf claims k) → IsTrue (has_leaf next k)) (keep new : LeafSet 16)
       (new_is : (n : ℕ) → IsTrue (has_leaf new n) ↔ (IsTrue (has_leaf found n) ⊎ IsTrue (has_leaf keep n))) where
     pub adds_beside : ((n : ℕ) → IsTrue (has_leaf keep n) ↔ (IsTrue (has_leaf rest n) × Each (λ r. KeepsBeside r (λ x. IsTrue (has_leaf claims x)) n) parts)) →
         (n : ℕ) → IsTrue (has_leaf new n) ↔ (IsTrue (has_leaf found n) ⊎ MayFollowInEveryOrder p (IsDone done) (n ∷ list))

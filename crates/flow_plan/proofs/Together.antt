@@ -16,10 +16,10 @@ use Rattle.flow_plan.specs.Planned.{Planned, pairs_of}
 use Rattle.flow_plan.specs.Orders.{MayComeNext, MayComeAfter, MayFollowInEveryOrder}
 use Rattle.flow_plan.specs.Rows.{IsRowOf}
 use Rattle.flow_plan.specs.Parts.{KeepsTogether, KeepsBeside, KeepsAfter}
-use Rattle.flow_plan.specs.Kept.{IsKept}
+use Rattle.flow_plan.specs.Fields.{AreFieldsOf}
 use Rattle.flow_plan.proofs.RowLemmas.{either_true, first_true, second_true}
 
-module _ (p : Planned) (before : List (LeafSet 16)) (parts : List PartRow) (kept : IsKept p before parts) (D : ℕ → Type 0) where
+module _ (p : Planned) (before : List (LeafSet 16)) (parts : List PartRow) (kept : AreFieldsOf p before parts) (D : ℕ → Type 0) where
   -- the one may come after the other where no part has it alone
   comes_after : (x y : ℕ) → x ≢ y → MayComeNext p D x → MayComeNext p D y → ((row : PartRow) → row ∈ parts → IsTrue (has_leaf row.inside x) → IsTrue (has_leaf row.inside y)) →
       MayComeAfter p D x y
@@ -107,7 +107,7 @@ module _ (p : Planned) (before : List (LeafSet 16)) (parts : List PartRow) (kept
 
 -- ---- the leaves after one
 
-module _ (p : Planned) (before : List (LeafSet 16)) (parts : List PartRow) (kept : IsKept p before parts) (done : ℕ → Bool) (claims : LeafSet 16) (list : List ℕ) (n : ℕ)
+module _ (p : Planned) (before : List (LeafSet 16)) (parts : List PartRow) (kept : AreFieldsOf p before parts) (done : ℕ → Bool) (claims : LeafSet 16) (list : List ℕ) (n : ℕ)
     (is : IsRowOf (λ x. x ∈ list) claims) (other : ¬ (n ∈ list)) (distinct : AreDistinct list) (next : MayComeNext p (λ x. IsTrue (done x)) n)
     (each : Each (MayComeNext p (λ x. IsTrue (done x))) list) where
   abbrev D : ℕ → Type 0

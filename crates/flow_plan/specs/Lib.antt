@@ -1,5 +1,5 @@
 pub mod Ahead
-pub mod Kept
+pub mod Fields
 pub mod Orders
 pub mod Parts
 pub mod Planned

@@ -24,7 +24,7 @@ abbrev pub MayFollowInEveryOrder : Planned → (ℕ → Type 0) → List ℕ →
 MayFollowInEveryOrder p Done list = (order : List ℕ) → IsOrderOf order list → IsReadyRunAfter p.process (pairs_of p.tokens) Done order
 
 -- the leaf is not done, and what is directly before it is
-pub record IsFree (p : Planned) (Done : ℕ → Type 0) (n : ℕ) : Type 0 where
+pub record IsUnblocked (p : Planned) (Done : ℕ → Type 0) (n : ℕ) : Type 0 where
   pub leaf : n ∈ leaves p.process
   pub not_done : ¬ Done n
   pub before : (x : ℕ) → DirectlyBefore p.process (pairs_of p.tokens) x n → Done x

@@ -44,9 +44,9 @@ abbrev pub HaveSameLeaves : PartRow → PartRow → Type 0
 HaveSameLeaves one two = (x : ℕ) → has_leaf one.inside x ≡ has_leaf two.inside x
 
 -- no two have the same leaves
-abbrev pub AreApart : List PartRow → Type 0
-AreApart [] = Unit {0}
-AreApart (row ∷ rows) = Each (λ other. ¬ HaveSameLeaves row other) rows × AreApart rows
+abbrev pub HaveOtherLeaves : List PartRow → Type 0
+HaveOtherLeaves [] = Unit {0}
+HaveOtherLeaves (row ∷ rows) = Each (λ other. ¬ HaveSameLeaves row other) rows × HaveOtherLeaves rows
 
 -- each is the row of a part, each part with two leaves has one, and each set of leaves comes once
 pub record ArePartsOf (q : Process) (pairs : List (ℕ × ℕ)) (rows : List PartRow) : Type 0 where
@@ -54,7 +54,7 @@ pub record ArePartsOf (q : Process) (pairs : List (ℕ × ℕ)) (rows : List Par
   pub complete : (part : Process) → part ∈ isolated_parts q →
       IsOneAtMost (λ x. x ∈ leaves part) ⊎ ((row : PartRow) × (row ∈ rows) × IsPartRow q pairs part row)
   pub two : Each HasTwo rows
-  pub apart : AreApart rows
+  pub apart : HaveOtherLeaves rows
 
 -- the part lets the leaf come next
 pub record PartAllows (row : PartRow) (Done : ℕ → Type 0) (n : ℕ) : Type 0 where

@@ -35,5 +35,5 @@ pub record AddsRows (g : Process) (ahead : LeafSet 16) (old new : List (LeafSet 
   pub rows : AreRowsOf (λ x n. IsTrue (has_leaf ahead x) ⊎ InSequence g x n) (leaves g) added
 
 -- it stands at one of the first so many places, is not done, and what its row has is
-abbrev pub IsFreeAt : List ℕ → List (LeafSet 16) → ℕ → (ℕ → Type 0) → ℕ → Type 0
-IsFreeAt ns rows places Done n = (k : ℕ) × (k < places) × (slice_get ns k ≡ Some n) × ¬ (Done n) × ((x : ℕ) → IsTrue (has_at rows k x) → Done x)
+abbrev pub IsUnblockedAt : List ℕ → List (LeafSet 16) → ℕ → (ℕ → Type 0) → ℕ → Type 0
+IsUnblockedAt ns rows places Done n = (k : ℕ) × (k < places) × (slice_get ns k ≡ Some n) × ¬ (Done n) × ((x : ℕ) → IsTrue (has_at rows k x) → Done x)

@@ -6,7 +6,7 @@ ghost use Rattle.flow_plan.specs.SpanMarks.{Draws};
 
 use crate::span::Span;
 use flow_goal::Node;
-use std::alloc::{AllocError, Global};
+use std::alloc::AllocError;
 
 /// The spans of the first isolated parts of a goal that is read from left to right.
 #[derive(Drop)]
@@ -39,19 +39,6 @@ fn add_span(span: Span, spans: &mut Vec<Span>) -> Result<(), AllocError>
 }
 
 impl Outline {
-    /// Nothing is read yet.
-    pub(crate) fn new(alloc: Global) -> Outline
-        ensures place { result.place ≡ 0 }
-        ensures opens { result.opens.items ≡ [] }
-        ensures spans { result.spans.items ≡ [] }
-    {
-        Outline {
-            place: 0,
-            opens: Vec::new(alloc),
-            spans: Vec::new(alloc),
-        }
-    }
-
     /// A part ends: its span is one more.
     fn close(&mut self) -> Result<(), AllocError>
         ensures place { OnOk result (self.new.place ≡ self.old.place) }

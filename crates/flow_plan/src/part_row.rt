@@ -3,7 +3,7 @@ ghost use Rattle.flow_model.specs.Ready.{DoneOr};
 ghost use Rattle.flow_model.specs.Lists.{◌∈◌};
 ghost use Rattle.leaf_rows.specs.Leaves.{has_leaf};
 ghost use Rattle.flow_plan.specs.Rows.{IsRowOf};
-ghost use Rattle.flow_plan.specs.Ahead.{IsAhead, IsOutside};
+ghost use Rattle.flow_plan.specs.Ahead.{IsInSome, IsOutside};
 
 use leaf_rows::LeafSet;
 
@@ -39,24 +39,13 @@ fn set_of(leaves: &[u32]) -> LeafSet<16>
 
 /// What some of the rows has.
 fn union(rows: &[LeafSet<16>]) -> LeafSet<16>
-    ensures { IsRowOf (IsAhead rows.now) result }
+    ensures { IsRowOf (IsInSome rows.now) result }
 {
     let mut all = LeafSet::new();
     for row in rows {
         all.union_with(row);
     }
     all
-}
-
-/// The set without the leaves.
-fn without(mut set: LeafSet<16>, leaves: &[u32]) -> LeafSet<16>
-    requires { All (λ n. n < 1024) leaves.now }
-    ensures { IsRowOf (λ x. ¬ (x ∈ leaves.now) × IsTrue (has_leaf set x)) result }
-{
-    for leaf in leaves {
-        set.remove(*leaf);
-    }
-    set
 }
 
 /// Of the leaves those inside where `inner`, and the others where `outer`.
@@ -85,10 +74,10 @@ impl PartRow {
         ensures inside { IsRowOf (λ x. x ∈ leaves.now) result.inside }
         ensures outside { IsRowOf (IsOutside leaves.now before.now) result.outside }
     {
-        PartRow {
-            inside: set_of(leaves),
-            outside: without(union(before), leaves),
-        }
+        let inside = set_of(leaves);
+        let mut outside = union(before);
+        outside.remove_all(&inside);
+        PartRow { inside, outside }
     }
 
     /// Whether the part lets the leaf come next: it must be finished once it is begun, and what is

@@ -17,7 +17,11 @@ use std::alloc::{AllocError, Global};
 fn spans_of(alloc: Global, goal: &Choiceless) -> Result<Vec<Span>, AllocError>
     ensures { IfOk result (λ spans. AddsSpans goal.now.process 0 [] spans.items) }
 {
-    let mut outline = Outline::new(alloc);
+    let mut outline = Outline {
+        place: 0,
+        opens: Vec::new(alloc),
+        spans: Vec::new(alloc),
+    };
     for node in goal.nodes() {
         outline.draw(node)?;
     }

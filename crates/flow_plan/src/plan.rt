@@ -40,11 +40,11 @@ impl Model for Plan {
     ghost coded = { planned_code };
 
     ghost use Rattle.flow_plan.specs.Planned.{planned};
-    ghost use Rattle.flow_plan.specs.Kept.{IsKept};
+    ghost use Rattle.flow_plan.specs.Fields.{AreFieldsOf};
 
     ghost view = { λ p. planned p.goal p.tokens.items };
 
-    ghost invariant = { λ p. IsKept (planned p.goal p.tokens.items) p.before.items p.parts.items };
+    ghost invariant = { λ p. AreFieldsOf (planned p.goal p.tokens.items) p.before.items p.parts.items };
 }
 
 /// Whether each part lets the leaf come next.
@@ -76,7 +76,7 @@ fn parts_keep_together(parts: &[PartRow], leaves: &LeafSet<16>) -> bool
 
 impl Plan {
     ghost use Rattle.flow_plan.specs.declared.progress.Progress.{Progress};
-    ghost use Rattle.flow_plan.specs.Orders.{Fits, IsFree, MayComeNext, MayComeAfter};
+    ghost use Rattle.flow_plan.specs.Orders.{Fits, IsUnblocked, MayComeNext, MayComeAfter};
     ghost use Rattle.flow_plan.specs.Progress.{IsDone};
 
     /// A plan for the goal, in which each token's sender is done before its receiver.
@@ -161,9 +161,9 @@ impl Plan {
     }
 
     /// Whether the leaf is not done, and all that is directly before it is.
-    fn is_free(&self, done: &Progress, leaf: u32) -> bool
+    fn is_unblocked(&self, done: &Progress, leaf: u32) -> bool
         requires { Fits self.now done.now }
-        ensures { IsTrue result ↔ IsFree self.now (IsDone done.now) leaf }
+        ensures { IsTrue result ↔ IsUnblocked self.now (IsDone done.now) leaf }
     {
         match self.row_of(leaf) {
             Some(row) => !done.has(leaf) && row.is_subset(done.row()),
@@ -186,7 +186,7 @@ impl Plan {
         requires { Fits self.now done.now }
         ensures { IsTrue result ↔ MayComeNext self.now (IsDone done.now) leaf }
     {
-        self.is_free(done, leaf) && parts_allow(&self.parts, done.row(), leaf)
+        self.is_unblocked(done, leaf) && parts_allow(&self.parts, done.row(), leaf)
     }
 
     /// Whether leaves that may come next, none of them twice, may come next after one another. They may where

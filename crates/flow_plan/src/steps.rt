@@ -3,10 +3,10 @@ ghost use Rattle.std.specs.Prelude.{◌≡◌, ◌<◌, ◌↔◌, ◌⊎◌, �
 ghost use Rattle.flow_model.specs.Lists.{◌∈◌, Each, AreDistinct};
 ghost use Rattle.flow_model.specs.Ready.{DoneOr};
 ghost use Rattle.leaf_rows.specs.Leaves.{has_leaf};
-ghost use Rattle.flow_plan.specs.Orders.{Fits, IsFree, MayComeNext, MayFollowInEveryOrder};
+ghost use Rattle.flow_plan.specs.Orders.{Fits, IsUnblocked, MayComeNext, MayFollowInEveryOrder};
 ghost use Rattle.flow_plan.specs.Parts.{PartAllows, Keeps};
 ghost use Rattle.flow_plan.specs.Progress.{IsDone, bound_of};
-ghost use Rattle.flow_plan.specs.Rows.{IsRowOf, IsFreeAt};
+ghost use Rattle.flow_plan.specs.Rows.{IsRowOf, IsUnblockedAt};
 
 use crate::claims::with;
 use crate::part_row::{PartRow, Use};
@@ -18,7 +18,7 @@ use leaf_rows::LeafSet;
 fn free_row(leaves: &[u32], before: &[LeafSet<16>], done: &Progress) -> LeafSet<16>
     requires one_each { length before.now ≡ length leaves.now }
     requires fits { Each (λ n. n < bound_of done.now) leaves.now }
-    ensures { IsRowOf (λ n. IsFreeAt leaves.now before.now (length leaves.now) (IsDone done.now) n) result }
+    ensures { IsRowOf (λ n. IsUnblockedAt leaves.now before.now (length leaves.now) (IsDone done.now) n) result }
 {
     let mut row = LeafSet::new();
     for (place, leaf) in leaves.iter().enumerate() {

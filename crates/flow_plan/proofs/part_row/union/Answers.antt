@@ -2,7 +2,7 @@ use Rattle.std.proofs.Common.{List, subst}
 use Rattle.std.proofs.lemmas.List.{take_all}
 use Rattle.leaf_rows.specs.declared.leaf_set.LeafSet.{LeafSet}
 use Rattle.flow_plan.specs.Rows.{IsRowOf}
-use Rattle.flow_plan.specs.Ahead.{IsAhead}
+use Rattle.flow_plan.specs.Ahead.{IsInSome}
 use Rattle.flow_plan.proofs.PartLemmas.{row_more}
 use Rattle.flow_plan.proofs.part_row.union.Goals as goal
 
@@ -12,4 +12,4 @@ loop-row-preserved c =
 
 pub returns : goal.returns
 returns c =
-    subst (λ (rows : List (LeafSet 16)). IsRowOf (IsAhead rows) c.loop-row.all) (take_all c.loop-row.row-index c.args.rows.now c.loop-row-test.false) c.loop-row.invariant
+    subst (λ (rows : List (LeafSet 16)). IsRowOf (IsInSome rows) c.loop-row.all) (take_all c.loop-row.row-index c.args.rows.now c.loop-row-test.false) c.loop-row.invariant

@@ -1,7 +1,7 @@
 use Rattle.std.proofs.Common.{◌≡◌, ◌<◌, ◌+◌, ℕ, Some, length, slice_get, get_or, subst, sym, ◌∙◌, arith}
 use Rattle.leaf_rows.specs.declared.leaf_set.LeafSet.{LeafSet}
 use Rattle.flow_plan.specs.Progress.{IsDone}
-use Rattle.flow_plan.specs.Rows.{IsRowOf, IsFreeAt}
+use Rattle.flow_plan.specs.Rows.{IsRowOf, IsUnblockedAt}
 use Rattle.std.proofs.lemmas.Option.{slice_get-get_or}
 use Rattle.flow_plan.proofs.PartLemmas.{has_at_is}
 use Rattle.flow_plan.proofs.StepRows.{free_skipped, free_added}
@@ -19,7 +19,7 @@ loop-place-preserved c =
     elim c.if-not-has.branch [
       | then-not-has+then-is_subset w ↦
           let row_is = has_at_is rows i w.index-before-place.result w.index-before-place.result within w.index-before-place.is in
-          subst (λ (r : LeafSet 16). IsRowOf (IsFreeAt ns rows (i + 1) (IsDone c.args.done.now)) r) (sym w.row-is)
+          subst (λ (r : LeafSet 16). IsRowOf (IsUnblockedAt ns rows (i + 1) (IsDone c.args.done.now)) r) (sym w.row-is)
           (free_added ns rows (IsDone c.args.done.now) i c.loop-place.row w.insert.new.self c.loop-place.invariant n w.insert.ensures at
           (λ done. let was = c.has.ensures ∙ done in let is = w.if-not-has.true in absurd (cc))
           (λ x has. sym (w.row.ensures x) ∙ w.is_subset.ensures.0 w.if-is_subset.true x (sym (row_is x) ∙ has)))

@@ -1,11 +1,10 @@
-use Rattle.std.proofs.Common.{IsTrue}
-use Rattle.flow_model.specs.Lists.{◌∈◌}
 use Rattle.leaf_rows.specs.Leaves.{has_leaf}
-use Rattle.flow_plan.specs.Ahead.{IsOutside}
-use Rattle.flow_plan.proofs.RowLemmas.{row_same}
+use Rattle.flow_model.specs.Lists.{◌∈◌}
+use Rattle.flow_plan.specs.Ahead.{IsInSome}
+use Rattle.flow_plan.proofs.PartLemmas.{left_over}
 use Rattle.flow_plan.proofs.part_row.PartRow.new.Goals as goal
 
 pub returns-clause-outside : goal.returns-clause-outside
-returns-clause-outside c =
-    row_same (λ x. ¬ (x ∈ c.args.leaves.now) × IsTrue (has_leaf c.union.result x)) (IsOutside c.args.leaves.now c.args.before.now) c.without.result
-    (λ x both. (both.0, (c.union.ensures x).0 both.1)) (λ x both. (both.0, (c.union.ensures x).1 both.1)) c.without.ensures
+returns-clause-outside c = λ x.
+    left_over (x ∈ c.args.leaves.now) (IsInSome c.args.before.now x) (has_leaf c.set_of-inside.result x) (has_leaf c.union-outside.result x) (has_leaf c.remove_all.new.self x)
+    (c.remove_all.ensures x) (c.set_of-inside.ensures x) (c.union-outside.ensures x)

@@ -6,7 +6,7 @@ use Rattle.flow_plan.specs.declared.part_row.PartRow.{PartRow}
 use Rattle.flow_plan.specs.Planned.{Planned, planned}
 use Rattle.flow_plan.specs.Progress.{IsDone}
 use Rattle.flow_plan.specs.Orders.{MayComeNext}
-use Rattle.flow_plan.specs.Rows.{IsRowOf, IsFreeAt}
+use Rattle.flow_plan.specs.Rows.{IsRowOf, IsUnblockedAt}
 use Rattle.flow_plan.specs.Parts.{PartAllows}
 use Rattle.flow_plan.proofs.Readiness.{row_within}
 use Rattle.flow_plan.proofs.StepRows.{next_by_rows}
@@ -24,9 +24,9 @@ returns c =
     let i = c.self.inside in
     let p : Planned = planned i.goal i.tokens.items in
     let listed : c.leaves.result.now ≡ p.leaves = c.leaves.ensures.leaves ∙ sym (ap (λ (p : Planned). p.leaves) c.self.view_is) in
-    let free : IsRowOf (λ n. IsFreeAt p.leaves i.before.items (length p.leaves) (IsDone c.args.done.now) n) c.free_row-free.result =
-    subst (λ (ns : List ℕ). IsRowOf (λ n. IsFreeAt ns i.before.items (length ns) (IsDone c.args.done.now) n) c.free_row-free.result) listed
-    (subst (λ (rows : List (LeafSet 16)). IsRowOf (λ n. IsFreeAt c.leaves.result.now rows (length c.leaves.result.now) (IsDone c.args.done.now) n) c.free_row-free.result) c.deref.ensures.value
+    let free : IsRowOf (λ n. IsUnblockedAt p.leaves i.before.items (length p.leaves) (IsDone c.args.done.now) n) c.free_row-free.result =
+    subst (λ (ns : List ℕ). IsRowOf (λ n. IsUnblockedAt ns i.before.items (length ns) (IsDone c.args.done.now) n) c.free_row-free.result) listed
+    (subst (λ (rows : List (LeafSet 16)). IsRowOf (λ n. IsUnblockedAt c.leaves.result.now rows (length c.leaves.result.now) (IsDone c.args.done.now) n) c.free_row-free.result) c.deref.ensures.value
     c.free_row-free.ensures) in
     let keep = subst (λ (rows : List PartRow). (n : ℕ) → IsTrue (has_leaf c.keep_for.result n) ↔ (IsTrue (has_leaf c.free_row-free.result n)
     × Each (λ row. PartAllows row (λ x. IsTrue (has_leaf c.row.result.now x)) n) rows)) c.deref-2.ensures.value c.keep_for.ensures in

@@ -6,7 +6,7 @@ use Rattle.flow_laws.proofs.ReadyRuns.{same_ready}
 use Rattle.flow_plan.specs.declared.part_row.PartRow.{PartRow}
 use Rattle.flow_plan.specs.Planned.{Planned, planned, pairs_of}
 use Rattle.flow_plan.specs.Progress.{IsDone}
-use Rattle.flow_plan.specs.Orders.{IsFree}
+use Rattle.flow_plan.specs.Orders.{IsUnblocked}
 use Rattle.flow_plan.specs.Parts.{PartAllows}
 use Rattle.flow_plan.proofs.Readiness.{Ready, ready_of_free, free_of_ready, parts_of_ready}
 use Rattle.flow_plan.proofs.plan.Plan.ready.Goals as goal
@@ -14,11 +14,11 @@ use Rattle.flow_plan.proofs.plan.Plan.ready.Goals as goal
 pub parts_allow-requires : goal.parts_allow-requires
 parts_allow-requires c =
     let i = c.self.inside in
-    let free = subst (λ (p : Planned). IsFree p (IsDone c.args.done.now) c.args.leaf) (sym c.self.view_is) (c.is_free.ensures.0 c.if-is_free.true) in
+    let free = subst (λ (p : Planned). IsUnblocked p (IsDone c.args.done.now) c.args.leaf) (sym c.self.view_is) (c.is_unblocked.ensures.0 c.if-is_unblocked.true) in
     each_member (λ n. n < 1024) i.goal.leaves c.self.invariant.small c.args.leaf (subst (λ (ns : List ℕ). c.args.leaf ∈ ns) (sym c.self.invariant.listed) free.leaf)
 
-pub returns-then-is_free : goal.returns-then-is_free
-returns-then-is_free c =
+pub returns-then-is_unblocked : goal.returns-then-is_unblocked
+returns-then-is_unblocked c =
     let i = c.self.inside in
     let p : Planned = planned c.self.inside.goal c.self.inside.tokens.items in
     let Here : ℕ → Type 0 = λ x. IsTrue (has_leaf c.row.result.now x) in
@@ -26,8 +26,8 @@ returns-then-is_free c =
     let from : (x : ℕ) → IsDone c.args.done.now x → Here x = λ x h. c.row.ensures x ∙ h in
     let says : IsTrue c.parts_allow.result ↔ Each (λ row. PartAllows row Here c.args.leaf) i.parts.items
     = subst (λ (rows : List PartRow). IsTrue c.parts_allow.result ↔ Each (λ row. PartAllows row (λ x. IsTrue (has_leaf c.row.result.now x)) c.args.leaf) rows) c.deref.ensures.value c.parts_allow.ensures in
-    let free = subst (λ (p : Planned). IsFree p (IsDone c.args.done.now) c.args.leaf) (sym c.self.view_is) (c.is_free.ensures.0 c.if-is_free.true) in
-    let here : IsFree p Here c.args.leaf = record { leaf = free.leaf; not_done = λ h. free.not_done (to c.args.leaf h); before = λ x direct. from x (free.before x direct) } in
+    let free = subst (λ (p : Planned). IsUnblocked p (IsDone c.args.done.now) c.args.leaf) (sym c.self.view_is) (c.is_unblocked.ensures.0 c.if-is_unblocked.true) in
+    let here : IsUnblocked p Here c.args.leaf = record { leaf = free.leaf; not_done = λ h. free.not_done (to c.args.leaf h); before = λ x direct. from x (free.before x direct) } in
     subst (λ (p : Planned). IsTrue c.parts_allow.result ↔ Ready p (IsDone c.args.done.now) c.args.leaf) c.self.view_is (
       λ yes. same_ready p.process (pairs_of p.tokens) Here (IsDone c.args.done.now) c.args.leaf to from
           (ready_of_free p i.before.items i.parts.items Here c.args.leaf c.self.invariant here (says.0 yes)),
@@ -35,8 +35,8 @@ returns-then-is_free c =
           (same_ready p.process (pairs_of p.tokens) (IsDone c.args.done.now) Here c.args.leaf from to ready)),
     )
 
-pub returns-else-is_free : goal.returns-else-is_free
-returns-else-is_free c = (
-  λ wrong. let fails = c.if-is_free.false in absurd (cc),
-  λ ready. c.is_free.ensures.1 (free_of_ready c.args.self.now (IsDone c.args.done.now) c.args.leaf ready),
+pub returns-else-is_unblocked : goal.returns-else-is_unblocked
+returns-else-is_unblocked c = (
+  λ wrong. let fails = c.if-is_unblocked.false in absurd (cc),
+  λ ready. c.is_unblocked.ensures.1 (free_of_ready c.args.self.now (IsDone c.args.done.now) c.args.leaf ready),
 )

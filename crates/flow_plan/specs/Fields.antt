@@ -11,7 +11,7 @@ use Rattle.flow_plan.specs.Planned.{Planned, pairs_of}
 use Rattle.flow_plan.specs.Rows.{AreRowsOf}
 use Rattle.flow_plan.specs.Parts.{ArePartsOf}
 
-pub record IsKept (p : Planned) (before : List (LeafSet 16)) (parts : List PartRow) : Type 0 where
+pub record AreFieldsOf (p : Planned) (before : List (LeafSet 16)) (parts : List PartRow) : Type 0 where
   pub ordered : IsOrdered p.process (pairs_of p.tokens)
   pub listed : p.leaves ≡ process.leaves p.process
   pub rising : IsStrictlyIncreasing p.leaves
