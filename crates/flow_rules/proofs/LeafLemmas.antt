@@ -18,11 +18,6 @@ leaf_more labels ls i q h =
     let on : ℕ → Bool = λ (n : ℕ). is_event q (event_at labels n) in
     ap (find on) (take_more ls i 0 h) ∙ find-append on (take i ls) (get_or ls i 0 ∷ [])
 
--- nothing noted
-pub none_on : (o : Option ℕ) → o ≡ option_or o None
-none_on None = refl
-none_on (Some x) = refl
-
 or_more : (o p r : Option ℕ) → option_or (option_or o p) r ≡ option_or o (option_or p r)
 or_more None p r = refl
 or_more (Some x) p r = refl
