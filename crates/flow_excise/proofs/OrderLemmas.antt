@@ -18,14 +18,6 @@ use Rattle.flow_excise.proofs.RingLemmas.{at_most, IsTrail, trail_end}
 pub not_true : (b : Bool) → b ≡ false → ¬ (IsTrue b)
 not_true b e h = true≢false (sym h ∙ e)
 
-pub is_false : (b : Bool) → ¬ (IsTrue b) → b ≡ false
-is_false true h = absurd (h refl)
-is_false false h = refl
-
-true_or_not : (b : Bool) → IsTrue b ⊎ ¬ (IsTrue b)
-true_or_not true = inl refl
-true_or_not false = inr (not_true false refl)
-
 pub not_and : (a b : Bool) → IsTrue (not a && b) ↔ (¬ (IsTrue a) × IsTrue b)
 not_and true b = (λ h. absurd (true≢false (sym h)), λ h. absurd (h.0 refl))
 not_and false b = (λ h. (not_true false refl, h), λ h. h.1)
@@ -122,14 +114,6 @@ module _ (items : List Item) (w : AreApart items) where
 
   -- walks
 
-  pub path_begun : (order : List ℕ) (start : ℕ) → start < length items → ¬ (start ∈ order) → IsPath items order (start ∷ [])
-  path_begun order start l f = record {
-    distinct = ((λ m. m), tt);
-    within = λ n m. ⊎_elim (λ e. subst (λ z. z < length items) (sym e) l) (λ f. absurd f) m;
-    fresh = λ n m. ⊎_elim {C = ¬ (n ∈ order)} (λ e. subst (λ z. ¬ (z ∈ order)) (sym e) f) (λ f. absurd f) m;
-    trail = tt;
-  }
-
   pub path_on : (left : LeafSet 16) (order path new : List ℕ) (top next : ℕ) (more : List ℕ) → path ≡ top ∷ more → IsArranged items left order → IsPath items order path →
       ((x : ℕ) × IsIn items next x × WaitsFor items top x × IsTrue (has_leaf left x)) → ¬ (next ∈ path) → new ≡ next ∷ path → IsPath items order new
   path_on left order path new top next more e a p (x, i, v, h) fresh f = subst (IsPath items order) (sym f) (record {
@@ -191,15 +175,6 @@ start_on start order longer path top more e f (inr m) = ⊎_elim
     inr
     (subst (λ z. start ∈ z) e m)
 
-pub is_settled : (start : ℕ) (order path seen : List ℕ) (o p : Option ℕ) → seen ≡ path → o ≡ slice_get seen 0 → p ≡ o → p ≡ None →
-    (start ∈ order) ⊎ (start ∈ path) → start ∈ order
-is_settled start order path seen o p e f g h (inl m) = m
-is_settled start order path seen o p e f g h (inr m) = at path (sym (ap (λ (z : List ℕ). slice_get z 0) e) ∙ sym f ∙ sym g ∙ h) m
-  where
-    at : (list : List ℕ) → slice_get list 0 ≡ None → start ∈ list → start ∈ order
-    at [] k m = absurd m
-    at (x ∷ list) k m = absurd (cc)
-
 -- rings
 
 on_within : (items : List Item) (first n : ℕ) (more : List ℕ) → LeadsOn items first n more → (m : ℕ) → m ∈ (n ∷ more) → m < length items
@@ -211,10 +186,6 @@ on_within items first n (next ∷ more) h m (inr k) = on_within items first next
 pub ring_within : (items : List Item) (ring : List ℕ) → IsCycle items ring → (m : ℕ) → m ∈ ring → m < length items
 ring_within items [] h m k = absurd h
 ring_within items (n ∷ more) h m k = on_within items n n more h m k
-
-pub ring_some : (items : List Item) (ring : List ℕ) → IsCycle items ring → 0 < length ring
-ring_some items [] h = absurd h
-ring_some items (n ∷ more) h = omega arith
 
 pub each_within : (items : List Item) (order seen : List ℕ) → seen ≡ order → ((n : ℕ) → n ∈ order → n < length items) → Each (λ n. n < length items) seen
 each_within items order seen e h = each_from_members (λ n. n < length items) seen (λ n m. h n (subst (λ z. n ∈ z) e m))

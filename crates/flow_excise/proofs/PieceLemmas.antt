@@ -1,5 +1,6 @@
 -- Pieces of a goal, and their items one side after the other.
 use Rattle.std.proofs.Common.{◌≡◌, ℕ, IsTrue, List, [], ◌∷◌, ◌++◌, ◌↔◌, length, refl, sym, ap, ◌∙◌, subst, inl, inr, ⊎_elim, arith, append_assoc, append-nil}
+use Rattle.std.proofs.lemmas.List.{nil_from_length}
 use Rattle.leaf_rows.specs.Leaves.{has_leaf}
 use Rattle.flow_model.specs.Lists.{◌∈◌, joined}
 use Rattle.flow_model.specs.Process.{Process, Sequence, Parallel, Isolated, leaves}
@@ -108,13 +109,9 @@ module _ (q : Process) (pairs : List (ℕ × ℕ)) where
   pub no_item : (body : Process) (old inner : List Item) → AddsItems q pairs body [] inner → inner ≡ [] → AddsItems q pairs (Isolated body) old old
   no_item body old inner s e = adds_none (Isolated body) old (ap item_of none)
     where
-      nothing : (ls : List (List ℕ)) → length ls ≡ 0 → ls ≡ []
-      nothing [] h = refl
-      nothing (l ∷ ls) h = absurd (omega arith)
-
       none : leaves body ≡ []
       none = sym (joined_items body)
-          ∙ ap joined (nothing (items_of body) (same_length q pairs (items_of body) s.added s.items ∙ ap length (sym s.is ∙ e)))
+          ∙ ap joined (nil_from_length (items_of body) (same_length q pairs (items_of body) s.added s.items ∙ ap length (sym s.is ∙ e)))
 
   -- and one with leaves
 

@@ -13,13 +13,6 @@ use Rattle.flow_excise.specs.declared.excising.ExciseRefusal.TheVariants.{Circle
 abbrev pub item_at : List (List ℕ) → ℕ → List ℕ
 item_at items number = slice_index_or items number []
 
--- of two different items the first is before the second
-pub record IsItemEdge (q : Process) (pairs : List (ℕ × ℕ)) (items : List (List ℕ)) (from to : ℕ) : Type 0 where
-  pub from_there : from < length items
-  pub to_there : to < length items
-  pub differ : from ≢ to
-  pub before : ItemBefore q pairs (item_at items from) (item_at items to)
-
 -- the leaves of the list, each behind those directly before it, and with nothing between two leaves of an isolated part
 pub record IsLinedUp (q : Process) (pairs : List (ℕ × ℕ)) (list run : List ℕ) : Type 0 where
   pub leaf : (x : ℕ) → x ∈ run → x ∈ list

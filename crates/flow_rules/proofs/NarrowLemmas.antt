@@ -97,9 +97,6 @@ open_in free unmet lane fits within met =
 
 module _ (unmet : ℕ) (lanes : Lanes) (rules : List Nnf) (i : ℕ) (rule : Nnf) (inside : i < length rules) (is : rule ≡ get_or rules i rule)
     (s : Standing) (stands : Stands s lanes (ways (normal_of rule))) (fits : bit_or s.free unmet < 2 ^ 64) where
-  open_lanes : ℕ
-  open_lanes = 2 ^ 64 - 1 - bit_or s.free unmet
-
   -- where it is not open there, the rule adds nothing
   closed : (left : List LaneRule) (lane : ℕ) (leaf : ℕ → Option ℕ) → lane < 64 → Shows lanes lane leaf → has_lane unmet lane ≡ false →
       has_lane (2 ^ 64 - 1 - bit_or s.free unmet) lane ≡ false → open_ways lane leaf left ≡ ways_of_parts And leaf (take i rules) → open_ways lane leaf left ≡ ways_of_parts And leaf (take (i + 1) rules)
