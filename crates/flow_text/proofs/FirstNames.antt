@@ -1,5 +1,5 @@
 -- What the passes find is the first role of its kind.
-use Rattle.std.proofs.Common.{◌≡◌, ℕ, ◌+◌, List, [], ◌∷◌, ◌++◌, length, Bool, true, false, cond, refl, sym, ap, subst, ◌∙◌, ◌⊎◌, inl, inr, append_assoc, append-nil, arith}
+use Rattle.std.proofs.Common.{◌≡◌, ℕ, ◌+◌, List, [], ◌∷◌, ◌++◌, length, Bool, true, false, cond, refl, sym, ap, subst, ◌∙◌, append_assoc, append-nil, arith}
 use Rattle.std.specs.Prelude.{Option, Some, None, not}
 use Rattle.std.specs.List.{position_from}
 use Rattle.std.proofs.lemmas.Bool.{not-false}
@@ -12,7 +12,7 @@ use Rattle.flow_text.specs.declared.listing.Named.{Named}
 use Rattle.flow_text.specs.ListedNames.{role_of, roles_of}
 use Rattle.flow_text.specs.declared.known.Known.{Known}
 use Rattle.flow_text.specs.GoodNames.{IsRepeated, IsUnknown, IsFirst, HasGoodNames, IsFirstRepeated, IsFirstUnknown, AsksOfEvents, AsksFirstOfOther}
-use Rattle.flow_text.specs.KnownNames.{NameSet, no_names, with_name, HasJust, is_again, after, repeated_from, is_unknown, has, has_as_event, KnowsThose}
+use Rattle.flow_text.specs.KnownNames.{NameSet, no_names, HasJust, is_again, after, repeated_from, is_unknown, has, has_as_event, KnowsThose}
 use Rattle.flow_text.proofs.KnownNames.{none_held, held_more, held_none, distinct_more}
 
 -- no role of the list has P after `before` and those before it

@@ -3,21 +3,18 @@ use Rattle.std.proofs.Common.{◌≡◌, ℕ, suc, ◌+◌, ◌≤◌, ◌<◌, 
 use Rattle.std.specs.Prelude.{Option, Some, option_map}
 use Rattle.flow_form.specs.declared.refusal.TextRefusal.{TextRefusal}
 use Rattle.flow_form.specs.declared.refusal.TextRefusal.TheVariants.{NotAscii, BadToken, Expected, Unknown, Repeated, TooDeep, NoMemory}
-use Rattle.flow_form.specs.declared.script.Script.{Script}
-use Rattle.flow_form.specs.declared.query.Query.{Query}
-use Rattle.flow_form.specs.Script.{Said, Asked, said, asked}
+use Rattle.flow_form.specs.Script.{Said}
 use Rattle.flow_form.specs.Names.{IsClosed}
 use Rattle.flow_lex.specs.declared.token.Token.{Token}
-use Rattle.flow_lex.specs.Tokens.{lexed, IsAscii, AreSpans}
+use Rattle.flow_lex.specs.Tokens.{AreSpans}
 use Rattle.flow_lex.specs.Refusals.{IsRefused}
 use Rattle.flow_grammar.specs.Symbol.{Symbol, Placed, at, symbols, a_name}
 use Rattle.flow_grammar.specs.Machine.{Wanted, Reading, gives, read_script, read_query, script_wants, query_wants}
 use Rattle.flow_grammar.specs.Laws.{ReadsJustThese, IsStuckJustThere, IsTooDeepJustThere, WantsWhatCouldCome, TellsWhatIsWanted}
 use Rattle.flow_grammar.specs.Texts.{Derives, SpellsScript, SpellsQuery}
-use Rattle.flow_grammar.specs.Roles.{Role, role_name, names_of, NamesHaveRoles, script_roles, query_roles}
+use Rattle.flow_grammar.specs.Roles.{Role, role_name, names_of, NamesHaveRoles}
 use Rattle.flow_grammar.proofs.Reading.{script_reads, script_is_stuck, script_is_too_deep, script_wants_what_could_come, script_tells_what_is_wanted, query_reads, query_is_stuck, query_is_too_deep, query_wants_what_could_come, query_tells_what_is_wanted}
 use Rattle.flow_grammar.proofs.MadeTexts.{scripts_are_well_made}
-use Rattle.flow_grammar.proofs.RolesOfNames.{scripts_have_roles, queries_have_roles}
 use Rattle.flow_reader.specs.Symbols.{symbol_of, symbols_of}
 use Rattle.flow_reader.specs.Readers.{kind_of}
 use Rattle.flow_reader.specs.Reading.{IsReadRefusal}

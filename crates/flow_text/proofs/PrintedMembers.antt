@@ -1,9 +1,8 @@
 -- The members of a list that are left.
 use Rattle.std.proofs.Common.{◌≡◌, ℕ, ◌+◌, ◌<◌, Bool, true, false, List, [], ◌∷◌, ◌++◌, length, map, get_or, drop, refl, sym, ap, ◌∙◌, append_assoc}
 use Rattle.std.proofs.lemmas.List.{drop_more}
-use Rattle.flow_form.specs.declared.form.Form.{Form}
 use Rattle.flow_form.specs.declared.rule_form.RuleForm.{RuleForm}
-use Rattle.flow_form.specs.Form.{Shape, Shapes, shape_of, shapes, no_more}
+use Rattle.flow_form.specs.Form.{Shape, no_more}
 use Rattle.flow_form.specs.RuleForm.{RuleShape, RuleShapes, rule_shape_of, rule_shapes}
 use Rattle.flow_form.specs.RuleForm as rule
 use Rattle.flow_text.specs.Joins.{before}

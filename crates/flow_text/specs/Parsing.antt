@@ -4,7 +4,7 @@ use Rattle.std.proofs.Common.{Bor}
 use Rattle.flow_form.specs.declared.refusal.Wanted as told
 use Rattle.flow_form.specs.declared.refusal.TextRefusal.{TextRefusal}
 use Rattle.flow_form.specs.declared.refusal.TextRefusal.TheVariants.{NotAscii, BadToken, Expected, Unknown, Repeated, TooDeep, NoMemory}
-use Rattle.flow_form.specs.Script.{Said, Asked}
+use Rattle.flow_form.specs.Script.{Said}
 use Rattle.flow_lex.specs.declared.token.Token.{Token}
 use Rattle.flow_lex.specs.Tokens.{lexed, IsAscii, IsFirstNotAscii}
 use Rattle.flow_grammar.specs.Symbol.{Symbol, a_name, Placed}

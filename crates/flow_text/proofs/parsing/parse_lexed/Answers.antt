@@ -1,3 +1,4 @@
+use Rattle.std.proofs.Common.{rules}
 use Rattle.std.proofs.lemmas.Result.{err_from_is_err_and}
 use Rattle.flow_form.specs.Script.{said}
 use Rattle.flow_text.proofs.Parsed.{scripts, lexed_of, derived, written, refused, is_closed}
@@ -14,11 +15,11 @@ check_names-requires c = derived scripts c.lexed.view_is c.deref.ensures.value (
 pub returns-clause-ok : goal.returns-clause-ok
 returns-clause-ok c = record {
   writes = written scripts c.lexed.view_is c.deref.ensures.value (said c.in_ok-script.script) c.lexed.invariant c.in_ok-script.ensures.ok;
-  named = c.in_ok-check_names.ensures.ok;
+  named = search rules;
 }
 
 pub returns-clause-closed : goal.returns-clause-closed
 returns-clause-closed c =
     is_closed c.args.lexed.now.text c.args.lexed.now.tokens (said c.in_ok-script.script)
     (lexed_of c.lexed.view_is c.lexed.invariant).spans
-    (derived scripts c.lexed.view_is c.deref.ensures.value (said c.in_ok-script.script) c.in_ok-script.ensures.ok) c.in_ok-check_names.ensures.ok
+    (derived scripts c.lexed.view_is c.deref.ensures.value (said c.in_ok-script.script) c.in_ok-script.ensures.ok) (search rules)

@@ -1,5 +1,6 @@
+use Rattle.std.proofs.Common.{rules}
 use Rattle.std.proofs.lemmas.Result.{err_from_is_err_and}
-use Rattle.flow_form.specs.Script.{said, asked}
+use Rattle.flow_form.specs.Script.{asked}
 use Rattle.flow_text.proofs.Parsed.{queries, derived, written, refused}
 use Rattle.flow_text.proofs.parsing.parse_query_lexed.Goals as goal
 
@@ -14,5 +15,5 @@ check_query_names-requires c = derived queries c.lexed.view_is c.deref.ensures.v
 pub returns-clause-ok : goal.returns-clause-ok
 returns-clause-ok c = record {
   writes = written queries c.lexed.view_is c.deref.ensures.value (asked c.in_ok-query.query) c.lexed.invariant c.in_ok-query.ensures.ok;
-  of_events = c.in_ok-check_query_names.ensures.ok;
+  of_events = search rules;
 }
