@@ -1,5 +1,5 @@
 -- An order of items that grows, and the walk to the next of them.
-use Rattle.std.proofs.Common.{◌≡◌, ℕ, zero, suc, ◌+◌, ◌-◌, ◌<◌, ◌≤◌, Bool, true, false, not, ◌&&◌, ◌||◌, IsTrue, List, [], ◌∷◌, ◌++◌, ◌↔◌, ◌⊎◌, length, get_or, map, refl, sym, ap, ◌∙◌, subst, inl, inr, ⊎_elim, arith, length-append, true≢false, Some, None, Option, slice_get, take, remove, append-nil}
+use Rattle.std.proofs.Common.{◌≡◌, ℕ, zero, suc, ◌+◌, ◌-◌, ◌<◌, ◌≤◌, Bool, true, false, not, ◌&&◌, IsTrue, List, [], ◌∷◌, ◌++◌, ◌↔◌, ◌⊎◌, length, get_or, map, refl, sym, ap, ◌∙◌, subst, inl, inr, ⊎_elim, arith, length-append, true≢false, Some, Option, slice_get, take, remove, append-nil}
 use Rattle.std.proofs.lemmas.List.{take_more, map-append}
 use Rattle.std.proofs.lemmas.Bool.{cases_lt}
 use Rattle.std.proofs.lemmas.Option.{slice_get_past, slice_get_read}
@@ -198,44 +198,9 @@ passed_more old new start h k n l = ⊎_elim (λ i. k.kept n (h n i)) (λ e. sub
     at (inl i) = inl i
     at (inr i) = inr (omega arith)
 
--- unions of the rows of items
-
-true_or : (a b : Bool) → IsTrue (a || b) ↔ (IsTrue a ⊎ IsTrue b)
-true_or true b = (λ h. inl refl, λ h. refl)
-true_or false b = (λ h. inr h, λ h. ⊎_elim (λ k. absurd (not_true false refl k)) (λ k. k) h)
-
+-- the union of rows of items
 abbrev pub IsUnion : (Option Item → ℕ → Bool) → List Item → ℕ → (ℕ → Bool) → Type 0
 IsUnion test items k all = (x : ℕ) → IsTrue (all x) ↔ ((n : ℕ) × (n < k) × IsTrue (test (slice_get items n) x))
-
-pub union_more : (test : Option Item → ℕ → Bool) (items : List Item) (k : ℕ) (old new : ℕ → Bool) →
-    ((x : ℕ) → new x ≡ (old x || test (slice_get items k) x)) → IsUnion test items k old → IsUnion test items (k + 1) new
-union_more test items k old new h u x = (there, back)
-  where
-    there : IsTrue (new x) → (n : ℕ) × (n < k + 1) × IsTrue (test (slice_get items n) x)
-    there t = ⊎_elim
-        (λ i. let r = (u x).0 i in (r.0, omega (arith, r.1), r.2))
-        (λ i. (k, omega arith, i))
-        ((true_or (old x) (test (slice_get items k) x)).0 (sym (h x) ∙ t))
-
-    back : (n : ℕ) × (n < k + 1) × IsTrue (test (slice_get items n) x) → IsTrue (new x)
-    back (n, l, t) = h x ∙ (true_or (old x) (test (slice_get items k) x)).1 (⊎_elim
-        (λ i. inl ((u x).1 (n, i, t)))
-        (λ i. let e : n ≡ k = omega arith in inr (subst (λ z. IsTrue (test (slice_get items z) x)) e t))
-        (cases_lt n k))
-
-pub union_begun : (test : Option Item → ℕ → Bool) (items : List Item) (new : ℕ → Bool) → ((x : ℕ) → new x ≡ false) → IsUnion test items 0 new
-union_begun test items new h x = (λ t. absurd (not_true (new x) (h x) t), λ r. absurd (let l = r.1 in omega arith))
-
-pub union_whole : (test : Option Item → ℕ → Bool) (items : List Item) (k : ℕ) (all : ℕ → Bool) → length items ≤ k → ((x : ℕ) → test None x ≡ false) → IsUnion test items k all →
-    (x : ℕ) → IsTrue (all x) ↔ ((n : ℕ) × IsTrue (test (slice_get items n) x))
-union_whole test items k all l none u x = (
-  λ t. let r = (u x).0 t in (r.0, r.2),
-  λ r. (u x).1 (r.0, at (cases_lt r.0 (length items)) r.1, r.1),
-)
-  where
-    at : {n : ℕ} → (n < length items) ⊎ (length items ≤ n) → IsTrue (test (slice_get items n) x) → n < k
-    at (inl i) t = omega arith
-    at {n} (inr i) t = absurd (not_true (test (slice_get items n) x) (ap (λ o. test o x) (slice_get_past items n i) ∙ none x) t)
 
 -- the item at a place
 pub item_there : (items : List Item) (n : ℕ) (item : Item) → n < length items → item ≡ get_or items n item → slice_get items n ≡ Some item

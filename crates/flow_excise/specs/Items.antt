@@ -1,10 +1,10 @@
 -- The items of a part by their rows, and its circles.
-use Rattle.std.specs.Prelude.{◌≡◌, ◌≢◌, ◌<◌, ◌≤◌, ℕ, IsTrue, List, [], ◌∷◌, ◌++◌, ◌↔◌, length, map, slice_index_or}
+use Rattle.std.specs.Prelude.{◌≡◌, ◌≤◌, ℕ, IsTrue, List, [], ◌∷◌, ◌++◌, ◌↔◌, length, map, slice_index_or}
 use Rattle.leaf_rows.specs.Leaves.{has_leaf}
 use Rattle.flow_model.specs.Lists.{◌∈◌, Each, AreDistinct, StandsBefore}
 use Rattle.flow_model.specs.Process.{Process, leaves}
 use Rattle.flow_model.specs.Ready.{DirectlyBefore, isolated_parts}
-use Rattle.flow_model.specs.Circle.{items_of, ItemBefore, IsRing, least_of, BeginsWithLeast, IsCircle}
+use Rattle.flow_model.specs.Circle.{items_of, IsRing, least_of, BeginsWithLeast, IsCircle}
 use Rattle.flow_excise.specs.declared.item.Item.{Item}
 use Rattle.flow_excise.specs.declared.excising.ExciseRefusal.{ExciseRefusal}
 use Rattle.flow_excise.specs.declared.excising.ExciseRefusal.TheVariants.{Circle, NoMemory}

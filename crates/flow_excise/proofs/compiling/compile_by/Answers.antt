@@ -1,13 +1,10 @@
-use Rattle.std.proofs.Common.{◌≡◌, ◌≢◌, ◌∙◌, List, [], Result, Ok, Err, IfOk, IfErr, length, sym, subst, ap}
-use Rattle.flow_model.specs.Constraint.{Constraint, all_of}
+use Rattle.std.proofs.Common.{◌≡◌, ◌≢◌, List, [], IfOk, length, subst}
+use Rattle.flow_model.specs.Constraint.{Constraint}
 use Rattle.flow_model.specs.Process.{IsNumbered}
-use Rattle.flow_model.specs.Resolution.{ChoiceOption}
 use Rattle.flow_laws.specs.Words.{IsWellFormed}
 use Rattle.flow_goal.specs.Labelled.{Labelled}
 use Rattle.flow_goal.specs.Repeated.{HoldsNoneTwice}
-use Rattle.flow_rules.specs.Conjunction.{HasWaysOf, normal_in}
-use Rattle.flow_excise.specs.declared.refusal.CompileRefusal.{CompileRefusal}
-use Rattle.flow_excise.specs.Compilation.{Compilation, IsRefused}
+use Rattle.flow_rules.specs.Conjunction.{normal_in}
 use Rattle.flow_excise.specs.Options.{all_options_by, schema_of}
 use Rattle.flow_excise.proofs.CompileLemmas.{compiled_by, plannable, refused_by, same_options, too_many}
 use Rattle.flow_excise.proofs.compiling.compile_by.Goals as goal

@@ -1,9 +1,9 @@
-use Rattle.std.proofs.Common.{ap, ◌∙◌, subst, sym, ◌≡◌, ◌++◌, [], ◌∷◌, ℕ, zero, suc, Bool, true, false, cond, is_ok, List, All, length, refl, arith}
+use Rattle.std.proofs.Common.{ap, ◌∙◌, subst, sym, ◌≡◌, ◌++◌, [], ◌∷◌, ℕ, Bool, true, false, cond, is_ok, List, All, length, refl}
 use Rattle.std.proofs.lemmas.List.{length-map}
 use Rattle.std.proofs.lemmas.List.Elements.{All-push}
 use Rattle.flow_model.specs.Lists.{numbers_from}
 use Rattle.flow_plan.specs.declared.token.OrderToken.{OrderToken}
-use Rattle.flow_plan.specs.Planned.{Planned, pairs_of}
+use Rattle.flow_plan.specs.Planned.{Planned}
 use Rattle.flow_plan.specs.Sampled.{Sampled}
 use Rattle.flow_weave.specs.Woven.{option_with, AreNumbered}
 use Rattle.flow_model.specs.Circle.{IsCircle}
