@@ -96,15 +96,18 @@ first_member P d (y ∷ list) x m p = elim (d y) [
       (y ∷ front, first, back, ap (λ l. y ∷ l) e, q, λ z h. ⊎_elim (λ e r. n (subst P e r)) (none z) h))
 ]
 
--- the least of the members with P, where of two of them one is at most the other
-pub least_in : {A : Type 0} (P : A → Type 0) (R : A → A → Type 0) → ((x : A) → Decided (P x)) → ((x : A) → R x x) → ((x y z : A) → R x y → R y z → R x z) →
-    (list : List A) → ((x y : A) → x ∈ list → y ∈ list → P x → P y → R x y ⊎ R y x) →
+-- no member has P, or one of those that have it is the least of them
+abbrev pub HasLeast : {A : Type 0} → (A → Type 0) → (A → A → Type 0) → List A → Type 0
+HasLeast {A} P R list =
     ((x : A) → x ∈ list → ¬ (P x)) ⊎ ((x : A) × (x ∈ list) × P x × ((y : A) → y ∈ list → P y → R x y))
+
+-- where of two members with P one is at most the other
+pub least_in : {A : Type 0} (P : A → Type 0) (R : A → A → Type 0) → ((x : A) → Decided (P x)) → ((x : A) → R x x) → ((x y z : A) → R x y → R y z → R x z) →
+    (list : List A) → ((x y : A) → x ∈ list → y ∈ list → P x → P y → R x y ⊎ R y x) → HasLeast P R list
 least_in P R d same on [] either = inl (λ x m. absurd m)
 least_in {A} P R d same on (y ∷ list) either = at (d y) (least_in P R d same on list (λ u v m n. either u v (inr m) (inr n)))
   where
-    at : Decided (P y) → ((x : A) → x ∈ list → ¬ (P x)) ⊎ ((x : A) × (x ∈ list) × P x × ((z : A) → z ∈ list → P z → R x z)) →
-        ((x : A) → x ∈ (y ∷ list) → ¬ (P x)) ⊎ ((x : A) × (x ∈ (y ∷ list)) × P x × ((z : A) → z ∈ (y ∷ list) → P z → R x z))
+    at : Decided (P y) → HasLeast P R list → HasLeast P R (y ∷ list)
     at (inr n) (inl f) = inl (λ x m. ⊎_elim (λ e p. n (subst P e p)) (f x) m)
     at (inr n) (inr (x, m, p, l)) = inr (x, inr m, p, λ z k q. ⊎_elim (λ e. absurd (n (subst P e q))) (λ i. l z i q) k)
     at (inl p) (inl f) = inr (y, inl refl, p, λ z k q. ⊎_elim (λ e. subst (R y) (sym e) (same y)) (λ i. absurd (f z i q)) k)

@@ -129,23 +129,41 @@ ordering_of_trace t g f d (bs, h, e) = record {
 
 -- Orderings are executions
 
+-- the one goal stands in the other
+record IsHalf (a g : Process) : Type 0 where
+  leaf : (x : ℕ) → x ∈ leaves a → x ∈ leaves g
+  sequence : (x y : ℕ) → InSequence a x y → InSequence g x y
+  part : (part : Process) → part ∈ isolated_parts a → part ∈ isolated_parts g
+
+left_half : (a b : Process) → IsHalf a (Parallel a b)
+left_half a b = record {
+  leaf = λ x. mem_append_left x (leaves a) (leaves b);
+  sequence = λ x y. inl;
+  part = λ p. mem_append_left p (isolated_parts a) (isolated_parts b);
+}
+
+right_half : (a b : Process) → IsHalf b (Parallel a b)
+right_half a b = record {
+  leaf = λ x. mem_append_right x (leaves a) (leaves b);
+  sequence = λ x y. inr;
+  part = λ p. mem_append_right p (isolated_parts a) (isolated_parts b);
+}
+
 -- a block of an execution is one leaf, or has the leaves of an isolated part
 abbrev IsBlockOf : Process → List ℕ → Type 0
 IsBlockOf g block =
     ((n : ℕ) × (block ≡ n ∷ [])) ⊎ ((part : Process) × (part ∈ isolated_parts g) × ((x : ℕ) → (x ∈ block) ↔ (x ∈ leaves part)))
 
-block_in_half : (a g : Process) (block : List ℕ) → ((part : Process) → part ∈ isolated_parts a → part ∈ isolated_parts g) →
-    IsBlockOf a block → IsBlockOf g block
-block_in_half a g block in_g (inl h) = inl h
-block_in_half a g block in_g (inr (part, m, same)) = inr (part, in_g part m, same)
+block_of_half : (a g : Process) (block : List ℕ) → IsHalf a g → IsBlockOf a block → IsBlockOf g block
+block_of_half a g block half = ⊎_elim inl (λ (part, m, same). inr (part, half.part part m, same))
 
 abbrev HasBlocks : Process → Type 0
 HasBlocks g = (bs : List (List ℕ)) → Blocks g bs → (block : List ℕ) → block ∈ bs → IsBlockOf g block
 
 blocks_of_halves : (a b : Process) → HasBlocks a → HasBlocks b → HasBlocks (Parallel a b)
 blocks_of_halves a b of_a of_b bs (x, y, ha, hb, s) block m = ⊎_elim
-    (λ k. block_in_half a (Parallel a b) block (λ part i. mem_append_left part (isolated_parts a) (isolated_parts b) i) (of_a x ha block k))
-    (λ k. block_in_half b (Parallel a b) block (λ part i. mem_append_right part (isolated_parts a) (isolated_parts b) i) (of_b y hb block k))
+    (λ k. block_of_half a (Parallel a b) block (left_half a b) (of_a x ha block k))
+    (λ k. block_of_half b (Parallel a b) block (right_half a b) (of_b y hb block k))
     (of_shuffle s block m)
 
 as_one_is : (x : List (List ℕ)) (block : List ℕ) → block ∈ as_one x → block ≡ joined x
@@ -162,26 +180,6 @@ block_kind (Choice a b) f bs h block m = absurd f
 block_kind (Isolated a) f bs (x, h, e) block m =
     let is : block ≡ joined x = as_one_is x block (subst (λ l. block ∈ l) e m) in
     inr (a, inl refl, λ y. (λ k. leaf_of_blocks a x h y (subst (λ l. y ∈ l) is k), λ k. subst (λ l. y ∈ l) (sym is) (leaf_in_blocks a f x h y k)))
-
--- the one goal stands in the other
-record IsHalf (a g : Process) : Type 0 where
-  leaf : (x : ℕ) → x ∈ leaves a → x ∈ leaves g
-  sequence : (x y : ℕ) → InSequence a x y → InSequence g x y
-  part : (part : Process) → part ∈ isolated_parts a → part ∈ isolated_parts g
-
-left_half : (a b : Process) → IsHalf a (Parallel a b)
-left_half a b = record {
-  leaf = λ x k. mem_append_left x (leaves a) (leaves b) k;
-  sequence = λ x y k. inl k;
-  part = λ p k. mem_append_left p (isolated_parts a) (isolated_parts b) k;
-}
-
-right_half : (a b : Process) → IsHalf b (Parallel a b)
-right_half a b = record {
-  leaf = λ x k. mem_append_right x (leaves a) (leaves b) k;
-  sequence = λ x y k. inr k;
-  part = λ p k. mem_append_right p (isolated_parts a) (isolated_parts b) k;
-}
 
 -- the members of a half, in their order
 half_ordering : (a g : Process) (u v t : List ℕ) → IsHalf a g → IsOrdering g t → Shuffle u v t → ((x : ℕ) → x ∈ u → x ∈ leaves a) →

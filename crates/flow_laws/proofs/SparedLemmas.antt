@@ -1,6 +1,6 @@
 -- What a new epoch does to the claims.
 use Rattle.std.proofs.Common.{◌≡◌, ℕ, ◌+◌, ◌≤◌, ◌↔◌, Bool, true, false, not, ◌&&◌, ◌==◌, IsTrue, List, [], ◌∷◌, ◌++◌, map, filter, refl, sym, ap, ◌∙◌, subst, inl, inr, append_assoc, append-nil, true≢false}
-use Rattle.std.proofs.lemmas.Bool.{eq-eqb, cases_Bool, false_from_ne_true}
+use Rattle.std.proofs.lemmas.Bool.{and_from, eq-eqb, cases_Bool, false_from_ne_true}
 use Rattle.flow_model.specs.Lists.{Each}
 use Rattle.flow_model.specs.Schema.{Schema}
 use Rattle.flow_model.specs.Decided.{Decided, told, decide_all_follow, can_all_follow}
@@ -33,16 +33,12 @@ answers_are_the_test w s list answer = same_tests (can_all_follow w s list) answ
 abbrev pub is_spared : Schema → RunState → List ℕ → Claim → Bool
 is_spared w s before claim = is_current s claim && can_all_follow w s (before ++ claim.leaf ∷ [])
 
-both_true : (a b : Bool) → a ≡ true → b ≡ true → (a && b) ≡ true
-both_true true b e h = h
-both_true false b e h = absurd (true≢false (sym e))
-
 pub spared_told : (w : Schema) (s : RunState) (before : List ℕ) (claim : Claim) → is_spared w s before claim ≡ true ↔ IsSpared w s before claim
 spared_told w s before claim =
     let test = can_all_follow w s (before ++ claim.leaf ∷ []) in
     let (to, from) = can_follow w s (before ++ claim.leaf ∷ []) in (
       λ e. let (current, can) = and_parts (is_current s claim) test e in (current, to can),
-      λ h. both_true (is_current s claim) test h.0 (from h.1),
+      λ h. and_from (is_current s claim) test h.0 (from h.1),
     )
 
 -- What sparing keeps
@@ -74,7 +70,7 @@ spared_are_current w s before [] h = refl
 spared_are_current w s before (x ∷ xs) (h, t) = elim (cases_Bool (is_spared w s before x)) [
   | inl e ↦ (let current = ((spared_told w s before x).0 e).0 in
       let new : is_of (s.epoch + 1) (renewed s x) ≡ true =
-      both_true (not x.answered) ((s.epoch + 1) == (s.epoch + 1)) (and_parts (not x.answered) (x.epoch == s.epoch) current).0
+      and_from (not x.answered) ((s.epoch + 1) == (s.epoch + 1)) (and_parts (not x.answered) (x.epoch == s.epoch) current).0
       (eq-eqb (s.epoch + 1) (s.epoch + 1) refl) in
       rw (e, new) (ap (λ l. x.leaf ∷ l) (spared_are_current w s (before ++ x.leaf ∷ []) xs t)))
   | inr e ↦ rw (e, is_not_of_later s.epoch x h) (spared_are_current w s before xs t)
