@@ -1,5 +1,5 @@
 -- How many parentheses and nots are open, as the stack keeps it.
-use Rattle.std.proofs.Common.{◌≡◌, ℕ, ◌+◌, ◌-◌, ◌≤◌, List, [], ◌∷◌, ◌++◌, map, reverse, ap, ◌∙◌, arith}
+use Rattle.std.proofs.Common.{◌≡◌, ℕ, ◌+◌, List, [], ◌∷◌, ◌++◌, map, reverse, ap, ◌∙◌, arith}
 use Rattle.std.proofs.lemmas.List.{reverse-append, map-append}
 use Rattle.flow_grammar.specs.Machine.{rule_height}
 use Rattle.flow_reader.specs.declared.rule_levels.RuleFrame.{RuleFrame}

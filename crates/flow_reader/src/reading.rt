@@ -1,10 +1,10 @@
-ghost use Rattle.std.specs.Prelude.{◌≡◌, ◌-◌, ◌^◌, ◌<◌, length, IfOk, IfErr};
+ghost use Rattle.std.specs.Prelude.{◌≡◌, ◌-◌, ◌^◌, ◌<◌, [], length, OnOk, IfOk, IfErr};
 ghost use Rattle.flow_model.specs.Lists.{Each};
 ghost use Rattle.flow_form.specs.Script.{said, asked};
 ghost use Rattle.flow_lex.specs.Tokens.{AreSpans, IsSmall};
 ghost use Rattle.flow_grammar.specs.Machine as machine;
 ghost use Rattle.flow_reader.specs.Symbols.{meant, symbols_of};
-ghost use Rattle.flow_reader.specs.Scripts.{script_state};
+ghost use Rattle.flow_reader.specs.Scripts.{decls_of, script_state};
 ghost use Rattle.flow_reader.specs.Queries.{query_state};
 ghost use Rattle.flow_reader.specs.Reading.{IsReadRefusal, LeadsOn, IsStepRefusal, settled};
 
@@ -53,6 +53,37 @@ fn step_script(
     settled(parts.step(alloc, reached, symbol), deep, place, kind)
 }
 
+/// Reads a script into parts that say nothing yet.
+fn read_parts(
+    alloc: Global,
+    parts: &mut ScriptParts,
+    text: &[u8],
+    tokens: &[Token],
+) -> Result<(), TextRefusal>
+    requires fresh { decls_of parts.old ≡ [] }
+    requires spans { AreSpans 0 (length text.now) tokens.now }
+    requires small { Each (IsSmall text.now) tokens.now }
+    ensures ok { OnOk result (machine.read_script (symbols_of text.now tokens.now) ≡ machine.gives (said parts.new.script)) }
+    ensures refused { IfErr result (λ refusal.
+        IsReadRefusal text.now tokens.now (machine.read_script (symbols_of text.now tokens.now)) refusal) }
+{
+    let mut reached = ScriptPlace::DeclarationNeeded;
+    let mut rest = tokens;
+    while let Some((token, more)) = rest.split_first() {
+        reached = step_script(alloc, parts, reached, symbol_of(text, *token), token.start)?;
+        rest = more;
+    }
+    let kind = parts.wanted(&reached);
+    if parts.is_whole(reached) {
+        Ok(())
+    } else {
+        Err(TextRefusal::Expected {
+            place: text.len(),
+            kind,
+        })
+    }
+}
+
 /// Reads a script from the tokens of a text.
 pub fn read_script(alloc: Global, text: &[u8], tokens: &[Token]) -> Result<Script, TextRefusal>
     requires spans { AreSpans 0 (length text.now) tokens.now }
@@ -62,25 +93,20 @@ pub fn read_script(alloc: Global, text: &[u8], tokens: &[Token]) -> Result<Scrip
         IsReadRefusal text.now tokens.now (machine.read_script (symbols_of text.now tokens.now)) refusal) }
 {
     let mut parts = ScriptParts::new(alloc);
-    let mut reached = ScriptPlace::DeclarationNeeded;
-    let mut rest = tokens;
-    while let Some((token, more)) = rest.split_first() {
-        reached = step_script(
-            alloc,
-            &mut parts,
-            reached,
-            symbol_of(text, *token),
-            token.start,
-        )?;
-        rest = more;
-    }
-    let kind = parts.wanted(&reached);
-    match parts.finish(reached) {
-        Some(script) => Ok(script),
-        None => Err(TextRefusal::Expected {
-            place: text.len(),
-            kind,
-        }),
+    let read = read_parts(alloc, &mut parts, text, tokens);
+    let ScriptParts {
+        script,
+        goals,
+        rules,
+    } = parts;
+    drop(goals);
+    drop(rules);
+    match read {
+        Ok(()) => Ok(script),
+        Err(refusal) => {
+            drop(script);
+            Err(refusal)
+        }
     }
 }
 

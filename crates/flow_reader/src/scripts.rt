@@ -1,4 +1,4 @@
-ghost use Rattle.std.specs.Prelude.{◌≡◌, ◌∷◌, ◌++◌, ◌-◌, ◌^◌, ◌<◌, [], option_map, IfOk};
+ghost use Rattle.std.specs.Prelude.{◌≡◌, ◌∷◌, ◌++◌, ◌-◌, ◌^◌, ◌<◌, [], option_map, if◌then◌else◌, IfOk};
 ghost use Rattle.flow_facts.specs.Atom.{atom};
 ghost use Rattle.flow_form.specs.Form.{shape_of};
 ghost use Rattle.flow_form.specs.Script as form;
@@ -384,23 +384,15 @@ impl ScriptParts {
         }
     }
 
-    /// What the text says if it ends here.
-    pub fn finish(self, place: ScriptPlace) -> Option<Script>
-        ensures { option_map said result ≡ machine.finish_script (script_state self place) }
+    /// Whether a text may end here. It drops the place.
+    pub fn is_whole(&self, place: ScriptPlace) -> bool
+        ensures { machine.finish_script (script_state self.now place) ≡ (if result then Some (said self.now.script) else None) }
     {
-        let ScriptParts {
-            script,
-            goals,
-            rules,
-        } = self;
-        drop(goals);
-        drop(rules);
         match place {
-            ScriptPlace::ConstraintNeeded => Some(script),
+            ScriptPlace::ConstraintNeeded => true,
             unfinished => {
                 drop(unfinished);
-                drop(script);
-                None
+                false
             }
         }
     }

@@ -3,7 +3,7 @@ use Rattle.flow_grammar.specs.Machine as machine
 use Rattle.flow_reader.specs.Symbols.{symbols_of}
 use Rattle.flow_reader.specs.Scripts.{script_state}
 use Rattle.flow_reader.proofs.Loops.{Stands}
-use Rattle.flow_reader.proofs.reading.read_script.Given as goal
+use Rattle.flow_reader.proofs.reading.read_parts.Given as goal
 
 abbrev pub invariant-loop-token : goal.invariant-loop-token
 invariant-loop-token l =

@@ -6,7 +6,7 @@ use Rattle.flow_reader.specs.Scripts.{script_state}
 use Rattle.flow_reader.specs.Reading.{LeadsOn}
 use Rattle.flow_reader.proofs.Within.{script_within}
 use Rattle.flow_reader.proofs.Loops.{Stands, token_within, stands_next}
-use Rattle.flow_reader.proofs.reading.read_script.Goals as goal
+use Rattle.flow_reader.proofs.reading.read_parts.Goals as goal
 
 pub symbol_of-requires-clause-within : goal.symbol_of-requires-clause-within
 symbol_of-requires-clause-within c =
