@@ -1,12 +1,11 @@
-ghost use Rattle.std.specs.Prelude.{◌≡◌, ◌+◌, ◌-◌, ◌^◌, ◌<◌, map, IfOk};
+ghost use Rattle.std.specs.Prelude.{◌≡◌, ◌+◌, ◌-◌, ◌^◌, ◌<◌, IfOk};
 ghost use Rattle.flow_form.specs.RuleForm.{rule_shape_of};
-ghost use Rattle.flow_grammar.specs.Grammar as grammar;
 ghost use Rattle.flow_grammar.specs.Machine as machine;
 ghost use Rattle.flow_grammar.specs.Symbol as grammar_symbol;
 ghost use Rattle.flow_reader.specs.Symbols.{meant};
 ghost use Rattle.flow_reader.specs.Readers.{kind_of};
 ghost use Rattle.flow_reader.specs.RuleLevels.{rule_frames_of, rule_level_of};
-ghost use Rattle.flow_reader.specs.Rules.{single_of, pair_of, missing_names, rule_state, rule_step};
+ghost use Rattle.flow_reader.specs.Rules.{missing_names, rule_state, rule_step};
 
 use crate::rule_levels::RuleLevel;
 use crate::rule_stack::RuleStack;
@@ -22,33 +21,11 @@ pub enum Single {
     Never,
 }
 
-impl Single {
-    fn rule(self, name: Name) -> RuleForm
-        ensures { rule_shape_of result ≡ grammar.single (single_of self) name }
-    {
-        match self {
-            Single::Must => RuleForm::Must(name),
-            Single::Never => RuleForm::Never(name),
-        }
-    }
-}
-
 /// A rule on two events.
 #[derive(Clone, Copy)]
 pub enum Pair {
     Precedes,
     Needs,
-}
-
-impl Pair {
-    fn rule(self, first: Name, second: Name) -> RuleForm
-        ensures { rule_shape_of result ≡ grammar.paired (pair_of self) first second }
-    {
-        match self {
-            Pair::Precedes => RuleForm::Precedes(first, second),
-            Pair::Needs => RuleForm::Needs(first, second),
-        }
-    }
 }
 
 /// The names that must still come.
@@ -173,12 +150,17 @@ fn take_name(
         ≡ machine.take_name (missing_names names) (rule_frames_of stack.old.frames.items) (rule_level_of stack.old.level) nots name) }
 {
     match names {
-        MissingNames::One(single) => after_rule(alloc, stack, nots, single.rule(name)),
-        MissingNames::Two(pair) => Ok(RulePlace::NameNeeded(
-            MissingNames::Second(pair, name),
-            nots,
-        )),
-        MissingNames::Second(pair, first) => after_rule(alloc, stack, nots, pair.rule(first, name)),
+        MissingNames::One(Single::Must) => after_rule(alloc, stack, nots, RuleForm::Must(name)),
+        MissingNames::One(Single::Never) => after_rule(alloc, stack, nots, RuleForm::Never(name)),
+        MissingNames::Two(pair) => {
+            Ok(RulePlace::NameNeeded(MissingNames::Second(pair, name), nots))
+        }
+        MissingNames::Second(Pair::Precedes, first) => {
+            after_rule(alloc, stack, nots, RuleForm::Precedes(first, name))
+        }
+        MissingNames::Second(Pair::Needs, first) => {
+            after_rule(alloc, stack, nots, RuleForm::Needs(first, name))
+        }
         MissingNames::TwoOrMore => Ok(RulePlace::NameNeeded(MissingNames::OneOrMore(name), nots)),
         MissingNames::OneOrMore(first) => {
             let both = vec![in alloc; first, name]?;
