@@ -4,7 +4,7 @@ ghost use Rattle.flow_grammar.specs.Grammar as grammar;
 ghost use Rattle.flow_grammar.specs.Machine as machine;
 ghost use Rattle.flow_grammar.specs.Symbol as grammar_symbol;
 ghost use Rattle.flow_reader.specs.Symbols.{meant};
-ghost use Rattle.flow_reader.specs.Readers.{kind_of, arg_step};
+ghost use Rattle.flow_reader.specs.Readers.{kind_of};
 ghost use Rattle.flow_reader.specs.Goals.{prefix_of, frames_of, level_of, goal_state, goal_step};
 
 use crate::arguments::{ArgReader, ArgStep};
@@ -153,17 +153,6 @@ fn open_args(
     }
 }
 
-fn after_arg(stack: &mut Stack, prefix: Prefix, step: ArgStep) -> Result<GoalStep, AllocError>
-    ensures { IfOk result (λ made. goal_step stack.new made
-        ≡ machine.after_arg (prefix_of prefix) (frames_of stack.old.frames.items) (level_of stack.old.level) (arg_step step)) }
-{
-    match step {
-        ArgStep::Reading(args) => Ok(GoalStep::Reading(GoalPlace::InArgs(prefix, args))),
-        ArgStep::Whole(fact) => after_form(stack, prefix.form(fact)),
-        ArgStep::Stuck => Ok(GoalStep::Stuck),
-    }
-}
-
 impl GoalPlace {
     pub fn step(
         self,
@@ -193,7 +182,11 @@ impl GoalPlace {
             GoalPlace::AfterRelation(prefix, relation) => {
                 open_args(alloc, stack, prefix, relation, symbol)
             }
-            GoalPlace::InArgs(prefix, args) => after_arg(stack, prefix, args.step(alloc, symbol)?),
+            GoalPlace::InArgs(prefix, args) => match args.step(alloc, symbol)? {
+                ArgStep::Reading(args) => Ok(GoalStep::Reading(GoalPlace::InArgs(prefix, args))),
+                ArgStep::Whole(fact) => after_form(stack, prefix.form(fact)),
+                ArgStep::Stuck => Ok(GoalStep::Stuck),
+            },
         }
     }
 

@@ -294,19 +294,6 @@ impl ScriptParts {
         }
     }
 
-    fn start_constraint(&mut self, alloc: Global, symbol: Symbol<'_>) -> Option<ScriptPlace>
-        ensures { option_map (script_state self.new) result ≡ machine.start_constraint
-            (decls_of self.old) (said self.old.script).goal (said self.old.script).rules (meant symbol.entry) }
-    {
-        match symbol {
-            Symbol::Constraint => {
-                self.rules.restart(alloc);
-                Some(ScriptPlace::InConstraint(RulePlace::UnitNeeded(0)))
-            }
-            _ => None,
-        }
-    }
-
     fn after_constraint(&mut self, step: RuleStep) -> Result<Option<ScriptPlace>, AllocError>
         ensures { IfOk result (λ made. option_map (script_state self.new) made ≡ machine.after_rule_step
             (decls_of self.old) (said self.old.script).goal (said self.old.script).rules (rule_step self.old.rules step)) }
@@ -341,7 +328,13 @@ impl ScriptParts {
                 let step = goal.step(alloc, &mut self.goals, symbol)?;
                 Ok(self.after_goal(alloc, step))
             }
-            ScriptPlace::ConstraintNeeded => Ok(self.start_constraint(alloc, symbol)),
+            ScriptPlace::ConstraintNeeded => match symbol {
+                Symbol::Constraint => {
+                    self.rules.restart(alloc);
+                    Ok(Some(ScriptPlace::InConstraint(RulePlace::UnitNeeded(0))))
+                }
+                _ => Ok(None),
+            },
             ScriptPlace::InConstraint(rule) => {
                 let step = rule.step(alloc, &mut self.rules, symbol)?;
                 self.after_constraint(step)
