@@ -1,10 +1,11 @@
 -- There is one first role of a kind, and none where all are as they must be.
 use Rattle.std.proofs.Common.{◌≡◌, ℕ, suc, List, [], ◌∷◌, ◌++◌, length, refl, sym, ap, subst, ◌∙◌, ◌⊎◌, inl, inr}
+use Rattle.std.proofs.lemmas.Grind.{flat_map-append}
 use Rattle.flow_model.specs.Lists.{◌∈◌, Each, AreDistinct}
 use Rattle.flow_form.specs.Script.{Declared, Said, Asked, holds, redundant}
 use Rattle.flow_form.specs.Names.{declared_names, event_names, names_in_rule}
-use Rattle.flow_grammar.specs.Roles.{Role, declares, in_goal, in_rule, in_fact, declaring, used_in_goals, used_in_rules, script_roles, query_roles}
-use Rattle.flow_grammar.proofs.RolesOfNames.{roles_are_the_names, declaring-append, of_rules}
+use Rattle.flow_grammar.specs.Roles.{Role, declares, in_goal, in_rule, in_fact, declared_by, declaring, used_in_goals, used_in_rules, script_roles, query_roles}
+use Rattle.flow_grammar.proofs.RolesOfNames.{roles_are_the_names, of_rules}
 use Rattle.flow_names.specs.Good.{IsRepeated, IsUnknown, IsFirst, HasGoodNames, IsFirstRepeated, AsksOfEvents, AsksFirstOfOther}
 use Rattle.flow_names.proofs.Firsts.{IsWell, well_is_known}
 
@@ -43,7 +44,7 @@ apart (x ∷ xs) ys n (out, d) (inr member) = apart xs ys n d member
 
 not_again : (front back : List Role) (role : Role) → AreDistinct (declaring (front ++ role ∷ back)) → IsRepeated front role → ⊥
 not_again front back (declares n) d here =
-    apart (declaring front) (declaring back) n (subst AreDistinct (declaring-append front (declares n ∷ back)) d) here
+    apart (declaring front) (declaring back) n (subst AreDistinct (flat_map-append declared_by front (declares n ∷ back)) d) here
 not_again front back (in_goal n) d here = here
 not_again front back (in_rule n) d here = here
 not_again front back (in_fact n) d here = here

@@ -1,6 +1,6 @@
 -- What the code has read of a goal, as states of the machine.
 use Rattle.std.specs.Prelude.{List, map, reverse}
-use Rattle.flow_form.specs.Form.{Shape, Shapes, serial, beside, either, shape_of}
+use Rattle.flow_form.specs.Form.{Shape, shape_of}
 use Rattle.flow_grammar.specs.Grammar as grammar
 use Rattle.flow_grammar.specs.Machine as machine
 use Rattle.flow_reader.specs.Readers.{arg_state}
@@ -22,10 +22,10 @@ prefix_of prefix.Absent = grammar.denying
 prefix_of prefix.Ins = grammar.adding
 prefix_of prefix.Del = grammar.taking
 
-abbrev pub list_of : code_join.Join → Shapes → Shape
-list_of join.Serial = serial
-list_of join.Beside = beside
-list_of join.Either = either
+abbrev pub list_of : code_join.Join → List Shape → Shape
+list_of join.Serial = grammar.list grammar.goals 0
+list_of join.Beside = grammar.list grammar.goals 1
+list_of join.Either = grammar.list grammar.goals 2
 
 abbrev pub level_of : code_level.Level → machine.Level
 level_of l = machine.level (map shape_of l.eithers.items) (map shape_of l.besides.items) (map shape_of l.serials.items)

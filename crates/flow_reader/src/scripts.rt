@@ -55,7 +55,7 @@ fn name_fact(
     symbol: Symbol<'_>,
 ) -> Result<Option<ScriptReader>, AllocError>
     ensures { IfOk result (λ step. option_map script_state step
-        ≡ machine.name_declared_fact (declared_of decls.items) (meant symbol.entry)) }
+        ≡ machine.with_name (machine.after_declared_relation (declared_of decls.items)) (meant symbol.entry)) }
 {
     match symbol {
         Symbol::Name(name) => {
@@ -67,7 +67,7 @@ fn name_fact(
 }
 
 fn join_fact(decls: Vec<Decl>, symbol: Symbol<'_>) -> Option<ScriptReader>
-    ensures { option_map script_state result ≡ machine.join_fact (declared_of decls.items) (meant symbol.entry) }
+    ensures { option_map script_state result ≡ machine.join_item machine.fact_to_declare (declared_of decls.items) (meant symbol.entry) }
 {
     match symbol {
         Symbol::Comma => Some(ScriptReader::FactToDeclare(decls)),
@@ -84,7 +84,7 @@ fn end_bare_fact(
     symbol: Symbol<'_>,
 ) -> Result<Option<ScriptReader>, AllocError>
     ensures { IfOk result (λ step. option_map script_state step
-        ≡ machine.join_fact (declared_of decls.items ++ form.fact (atom relation []) ∷ []) (meant symbol.entry)) }
+        ≡ machine.join_item machine.fact_to_declare (declared_of decls.items ++ form.fact (atom relation []) ∷ []) (meant symbol.entry)) }
 {
     let fact = Fact::new(relation, Vec::new(alloc));
     decls.push(Decl::Fact(fact))?;
@@ -129,7 +129,7 @@ fn name_event(
     symbol: Symbol<'_>,
 ) -> Result<Option<ScriptReader>, AllocError>
     ensures { IfOk result (λ step. option_map script_state step
-        ≡ machine.name_event (declared_of decls.items) (meant symbol.entry)) }
+        ≡ machine.with_name (machine.after_event (declared_of decls.items)) (meant symbol.entry)) }
 {
     match symbol {
         Symbol::Name(name) => {
@@ -141,7 +141,7 @@ fn name_event(
 }
 
 fn join_event(decls: Vec<Decl>, symbol: Symbol<'_>) -> Option<ScriptReader>
-    ensures { option_map script_state result ≡ machine.join_event (declared_of decls.items) (meant symbol.entry) }
+    ensures { option_map script_state result ≡ machine.join_item machine.event_to_declare (declared_of decls.items) (meant symbol.entry) }
 {
     match symbol {
         Symbol::Comma => Some(ScriptReader::EventToDeclare(decls)),
@@ -199,7 +199,7 @@ fn name_flow(
     symbol: Symbol<'_>,
 ) -> Result<Option<ScriptReader>, AllocError>
     ensures { IfOk result (λ step. option_map script_state step
-        ≡ machine.name_flow (declared_of decls.items) (meant symbol.entry)) }
+        ≡ machine.with_name (machine.equals_needed (declared_of decls.items)) (meant symbol.entry)) }
 {
     match symbol {
         Symbol::Name(name) => {
