@@ -14,32 +14,9 @@ use Rattle.flow_grammar.specs.Print.{bracket, print_constants, print_fact, in_se
 
 -- Facts
 
-abbrev fact_with : List ℕ → List Const → FactText
-fact_with n [] = bare n
-fact_with n (c ∷ cs) = applied n c cs
-
-pub fact_of : Atom → FactText
-fact_of a = fact_with a.relation a.args
-
-pub fact_means : (a : Atom) → mean_fact (fact_of a) ≡ a
-unfolding fact_of
-fact_means a = with_means a.relation a.args
-  where
-    with_means : (n : List ℕ) (args : List Const) → mean_fact (fact_with n args) ≡ atom n args
-    with_means n [] = refl
-    with_means n (c ∷ cs) = refl
-
 constants_print : (d : ℕ) (cs : List Const) (r : List Placed) → symbols (spell_constants d cs r) ≡ print_constants cs (symbols r)
 constants_print d [] r = refl
 constants_print d (c ∷ cs) r = ap (λ y. comma ∷ constant_symbol c ∷ y) (constants_print d cs r)
-
-pub fact_prints : (d : ℕ) (a : Atom) (r : List Placed) → symbols (spell_fact d (fact_of a) r) ≡ print_fact a (symbols r)
-unfolding fact_of
-fact_prints d a r = with_prints a.relation a.args
-  where
-    with_prints : (n : List ℕ) (args : List Const) → symbols (spell_fact d (fact_with n args) r) ≡ print_fact (atom n args) (symbols r)
-    with_prints n [] = refl
-    with_prints n (c ∷ cs) = ap (λ y. a_name n ∷ opening ∷ constant_symbol c ∷ y) (constants_print (suc d) cs (at (suc d) closing ∷ r))
 
 constant_flat : (c : Const) → ¬ Deepens (constant_symbol c)
 constant_flat (Word n) h = h
@@ -49,14 +26,25 @@ constants_shallow : (d : ℕ) (cs : List Const) (r : List Placed) → IsShallow 
 constants_shallow d [] r h = h
 constants_shallow d (c ∷ cs) r h = (λ k. absurd k, (λ k. absurd (constant_flat c k), constants_shallow d cs r h))
 
-pub fact_shallow : (d : ℕ) (a : Atom) (r : List Placed) → d + arguments_nesting a.args ≤ deepest → IsShallow r → IsShallow (spell_fact d (fact_of a) r)
-unfolding fact_of
-fact_shallow d a r l h = with_shallow a.relation a.args l
-  where
-    with_shallow : (n : List ℕ) (args : List Const) → d + arguments_nesting args ≤ deepest → IsShallow (spell_fact d (fact_with n args) r)
-    with_shallow n [] l' = (λ k. absurd k, h)
-    with_shallow n (c ∷ cs) l' =
-        (λ k. absurd k, (λ k. omega arith, (λ k. absurd (constant_flat c k), constants_shallow (suc d) cs (at (suc d) closing ∷ r) (λ k. absurd k, h))))
+-- a derivation that spells the fact's print
+pub record PrintedFact (a : Atom) : Type 0 where
+  pub text : FactText
+  pub means : mean_fact text ≡ a
+  pub prints : (d : ℕ) (r : List Placed) → symbols (spell_fact d text r) ≡ print_fact a (symbols r)
+  pub shallow : (d : ℕ) (r : List Placed) → d + arguments_nesting a.args ≤ deepest → IsShallow r → IsShallow (spell_fact d text r)
+
+with_args : (n : List ℕ) (args : List Const) → PrintedFact (atom n args)
+with_args n [] = record { text = bare n; means = refl; prints = λ d r. refl; shallow = λ d r l h. (λ k. absurd k, h) }
+with_args n (c ∷ cs) = record {
+  text = applied n c cs;
+  means = refl;
+  prints = λ d r. ap (λ y. a_name n ∷ opening ∷ constant_symbol c ∷ y) (constants_print (suc d) cs (at (suc d) closing ∷ r));
+  shallow = λ d r l h.
+      (λ k. absurd k, (λ k. omega arith, (λ k. absurd (constant_flat c k), constants_shallow (suc d) cs (at (suc d) closing ∷ r) (λ k. absurd k, h))));
+}
+
+pub fact_printed : (a : Atom) → PrintedFact a
+fact_printed a = with_args a.relation a.args
 
 -- A derivation at a level
 
@@ -143,11 +131,11 @@ prefix_flat adding h = h
 prefix_flat taking h = h
 
 with_prefix : (p : Prefix) (a : Atom) → Spelled goals 0 (prefixed p a) (λ r. prefix_symbol p ∷ print_fact a r) (arguments_nesting a.args)
-with_prefix p a = record {
-  text = fact_text p (fact_of a);
-  means = ap (prefixed p) (fact_means a);
-  prints = λ d r. ap (λ y. prefix_symbol p ∷ y) (fact_prints d a r);
-  shallow = λ d r l h. (λ j. absurd (prefix_flat p j), fact_shallow d a r l h);
+with_prefix p a = let f = fact_printed a in record {
+  text = fact_text p f.text;
+  means = ap (prefixed p) f.means;
+  prints = λ d r. ap (λ y. prefix_symbol p ∷ y) (f.prints d r);
+  shallow = λ d r l h. (λ j. absurd (prefix_flat p j), f.shallow d r l h);
 }
 
 isolated : {s : Shape} {print : List Symbol → List Symbol} {depth : ℕ} → Spelled goals 3 s print depth → Spelled goals 0 (iso s) (λ r. iso_word ∷ bracket true print r) (suc depth)

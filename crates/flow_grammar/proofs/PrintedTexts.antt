@@ -1,13 +1,12 @@
 -- A text's print is read back.
-use Rattle.std.proofs.Common.{◌≡◌, ℕ, ◌+◌, ◌≤◌, List, [], ◌∷◌, map, flat_map, refl, sym, ap, ◌∙◌, subst, arith}
+use Rattle.std.proofs.Common.{◌≡◌, ◌+◌, ◌≤◌, List, [], ◌∷◌, map, flat_map, refl, sym, ap, ◌∙◌, subst, arith}
 use Rattle.flow_model.specs.declared.labels.Note.{Note}
 use Rattle.flow_model.specs.declared.labels.Note.TheVariants.{Done, Fail, FailFirst}
 use Rattle.flow_model.specs.Lists.{Each}
 use Rattle.flow_facts.specs.declared.constant.Const.{Const}
-use Rattle.flow_facts.specs.Atom.{Atom}
 use Rattle.flow_form.specs.Form.{IsGrouped}
 use Rattle.flow_form.specs.RuleForm.{RuleShape, IsGroupedRule}
-use Rattle.flow_form.specs.Script.{Declared, fact, event, flow, Said}
+use Rattle.flow_form.specs.Script.{Declared, fact, event, flow}
 use Rattle.flow_form.specs.Names.{flow_goal}
 use Rattle.flow_grammar.specs.Symbol.{Placed, at, symbols, fact_word, event_word, flow_word, goal_word, constraint_word, a_name, equals, semicolon}
 use Rattle.flow_grammar.specs.Grammar.{FactText, rules, Text, spell, mean, NoteText, silent_text, done_text, fail_text, fail_first_text, spell_note, mean_note, NotedText, noted_text, spell_noted, DeclText, facts_text, events_text, flow_text, spell_fact, spell_items, spell_decl, mean_decl, mean_rule, ScriptText, script_text, spell_decls, spell_constraints, spell_script, mean_script}
@@ -19,7 +18,7 @@ use Rattle.flow_grammar.specs.PrintLaws.{PrintSaysIt, PrintIsNoDeeper, PrintIsRe
 use Rattle.flow_grammar.proofs.Runs.{derived, given}
 use Rattle.flow_grammar.proofs.ScriptStates.{Rest, script_knows}
 use Rattle.flow_grammar.proofs.MadeTexts.{scripts_are_well_made, goals_append, facts_goals, events_goals}
-use Rattle.flow_grammar.proofs.Printed.{fact_of, fact_means, fact_prints, fact_shallow, goal_printed, rule_printed}
+use Rattle.flow_grammar.proofs.Printed.{fact_printed, goal_printed, rule_printed}
 use Rattle.flow_grammar.proofs.Depths.{after_fact, within}
 use Rattle.flow_model.proofs.Lists.{each-append, each_parts}
 
@@ -43,11 +42,11 @@ record PrintedDecls (ds : List Declared) : Type 0 where
 
 decls_printed : (ds : List Declared) → Each IsGrouped (flat_map flow_goal ds) → PrintedDecls ds
 decls_printed [] h = record { texts = []; means = refl; prints = λ r. refl; shallow = λ l r k. k }
-decls_printed (fact a ∷ ds) h = let more = decls_printed ds h in record {
-  texts = facts_text (fact_of a) [] ∷ more.texts;
-  means = rw (fact_means a, more.means);
-  prints = λ r. ap (λ y. fact_word ∷ y) (fact_prints 0 a (at 0 semicolon ∷ spell_decls more.texts r)) ∙ ap (λ y. print_declared (fact a) y) (more.prints r);
-  shallow = λ l r k. (λ j. absurd j, fact_shallow 0 a (at 0 semicolon ∷ spell_decls more.texts r) (args_few a.args) (λ j. absurd j, more.shallow l r k));
+decls_printed (fact a ∷ ds) h = let more = decls_printed ds h in let f = fact_printed a in record {
+  texts = facts_text f.text [] ∷ more.texts;
+  means = rw (f.means, more.means);
+  prints = λ r. ap (λ y. fact_word ∷ y) (f.prints 0 (at 0 semicolon ∷ spell_decls more.texts r)) ∙ ap (λ y. print_declared (fact a) y) (more.prints r);
+  shallow = λ l r k. (λ j. absurd j, f.shallow 0 (at 0 semicolon ∷ spell_decls more.texts r) (args_few a.args) (λ j. absurd j, more.shallow l r k));
 }
 decls_printed (event n note ∷ ds) h = let more = decls_printed ds h in let (t, means, prints, shallow) = note_printed note in record {
   texts = events_text (noted_text n t) [] ∷ more.texts;
@@ -111,9 +110,6 @@ after_noted (noted_text n done_text) r (k, h) = h.1
 after_noted (noted_text n fail_text) r (k, h) = h.1
 after_noted (noted_text n (fail_first_text m)) r (k, h) = h.1.1
 
-to_zero : (n : ℕ) → 0 + n ≤ deepest → n ≤ deepest
-to_zero n l = omega arith
-
 decl_within : (d : DeclText) (r : List Placed) → IsShallow (spell_decl d r) → Each (λ g. nesting g ≤ deepest) (flat_map flow_goal (mean_decl d)) × IsShallow r
 decl_within (facts_text f fs) r h =
     (facts_goals (λ g. nesting g ≤ deepest) fs, (after_item (spell_fact 0) after_a_fact (f ∷ fs) (at 0 semicolon ∷ r) h).1)
@@ -121,7 +117,7 @@ decl_within (events_text e es) r h =
     (events_goals (λ g. nesting g ≤ deepest) (e ∷ es), (after_item spell_noted after_noted (e ∷ es) (at 0 semicolon ∷ r) h).1)
 decl_within (flow_text n g) r (h, (k, (j, more))) =
     let (x, rest) = within g 0 (at 0 semicolon ∷ r) (omega arith) (omega arith) more in
-    ((to_zero (nesting (mean g)) x, tt), rest.1)
+    ((omega arith, tt), rest.1)
 
 decls_within : (ds : List DeclText) (r : List Placed) → IsShallow (spell_decls ds r) → Each (λ g. nesting g ≤ deepest) (flat_map flow_goal (flat_map mean_decl ds)) × IsShallow r
 decls_within [] r h = (tt, h)
@@ -134,13 +130,13 @@ constraints_within : (cs : List (Text rules 2)) → IsShallow (spell_constraints
 constraints_within [] h = tt
 constraints_within (c ∷ cs) (h, more) =
     let (x, k) = within c 0 (at 0 semicolon ∷ spell_constraints cs) (omega arith) (omega arith) more in
-    (to_zero (rule_nesting (mean c)) x, constraints_within cs k.1)
+    (omega arith, constraints_within cs k.1)
 
 script_within : (d : ScriptText) → IsShallow (spell_script d) → IsWithin (mean_script d)
 script_within (script_text ds g cs) h =
     let (xs, k) = decls_within ds (at 0 goal_word ∷ spell 0 g (at 0 semicolon ∷ spell_constraints cs)) h in
     let (x, j) = within g 0 (at 0 semicolon ∷ spell_constraints cs) (omega arith) (omega arith) k.1 in
-    (each-append (λ y. nesting y ≤ deepest) (flat_map flow_goal (flat_map mean_decl ds)) (mean g ∷ []) xs (to_zero (nesting (mean g)) x, tt), constraints_within cs j.1)
+    (each-append (λ y. nesting y ≤ deepest) (flat_map flow_goal (flat_map mean_decl ds)) (mean g ∷ []) xs (omega arith, tt), constraints_within cs j.1)
 
 pub print_is_no_deeper : PrintIsNoDeeper
 print_is_no_deeper ts s (w, e, sh, (d, ew, es)) = subst IsWithin es (script_within d (subst IsShallow (sym ew) sh))

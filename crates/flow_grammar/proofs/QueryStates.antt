@@ -1,12 +1,12 @@
 -- A whole query: what may follow each state.
-use Rattle.std.proofs.Common.{◌≡◌, ℕ, Option, Some, List, [], ◌∷◌, refl, ap, ◌∙◌, subst}
+use Rattle.std.proofs.Common.{◌≡◌, ℕ, Some, List, [], ◌∷◌, refl, ap, ◌∙◌, subst}
 use Rattle.flow_form.specs.Script.{Asked, holds, redundant}
 use Rattle.flow_grammar.specs.Symbol.{Symbol, Placed, at, Deepens, holds_word, redundant_word, a_number, semicolon}
 use Rattle.flow_grammar.specs.Grammar.{spell, holds_text, redundant_text}
 use Rattle.flow_grammar.specs.Machine.{step_rule, depth_rule, QueryState, query_needed, in_property, number_needed, after_number, query_read, step_query, finish_query, depth_query}
 use Rattle.flow_grammar.specs.Texts.{SpellsQuery}
 use Rattle.flow_grammar.proofs.Runs.{OnNext, Front, Knows}
-use Rattle.flow_grammar.proofs.Parts.{Follow, carried_forth, carried_back}
+use Rattle.flow_grammar.proofs.Parts.{carried_forth, carried_back}
 use Rattle.flow_grammar.proofs.RuleStates.{RuleRest, rule_forth, rule_back, rule_completes, need_of_rule, rule_of_need, Closing}
 
 abbrev pub Rest : QueryState → List Placed → Asked → Type 0

@@ -1,15 +1,15 @@
 -- A whole text: what may follow each state.
-use Rattle.std.proofs.Common.{◌≡◌, ℕ, ◌⊎◌, Option, Some, List, [], ◌∷◌, ◌++◌, map, refl, sym, ap, ◌∙◌, subst, inl, inr, append_assoc, append-nil}
+use Rattle.std.proofs.Common.{◌≡◌, ℕ, ◌⊎◌, Some, List, [], ◌∷◌, ◌++◌, map, refl, sym, ap, ◌∙◌, subst, inl, inr, append_assoc, append-nil}
 use Rattle.flow_model.specs.declared.labels.Note.TheVariants.{Done, Fail, FailFirst}
 use Rattle.flow_facts.specs.Atom.{atom}
 use Rattle.flow_form.specs.Form.{Shape}
 use Rattle.flow_form.specs.RuleForm.{RuleShape}
 use Rattle.flow_form.specs.Script.{Declared, fact, event, flow, Said}
 use Rattle.flow_grammar.specs.Symbol.{Symbol, Placed, at, Deepens, fact_word, event_word, flow_word, goal_word, constraint_word, done_word, fail_word, a_name, a_number, opening, comma, semicolon, equals}
-use Rattle.flow_grammar.specs.Grammar.{FactText, bare, applied, spell_fact, mean_fact, goals, rules, Text, spell, mean, NoteText, silent_text, done_text, fail_text, fail_first_text, spell_note, mean_note, NotedText, noted_text, spell_noted, mean_noted, facts_text, events_text, flow_text, spell_items, declared_fact, ScriptText, script_text, spell_script, mean_script, mean_rule, spell_constraints}
+use Rattle.flow_grammar.specs.Grammar.{bare, applied, spell_fact, goals, rules, Text, spell, mean, NoteText, silent_text, done_text, fail_text, fail_first_text, spell_note, mean_note, noted_text, spell_noted, mean_noted, facts_text, events_text, flow_text, spell_items, declared_fact, ScriptText, script_text, spell_script, mean_script, mean_rule, spell_constraints}
 use Rattle.flow_grammar.specs.Machine.{constant_needed, step_arg, step_goal, depth_goal, step_rule, depth_rule, State, declaration_needed, fact_to_declare, after_declared_relation, in_declared_args, after_fact, event_to_declare, after_event, after_fail, after_noted, flow_to_declare, equals_needed, in_flow, in_goal, constraint_needed, in_constraint, join_item, step_script, finish_script, depth_script}
 use Rattle.flow_grammar.proofs.Runs.{OnNext, Front, Knows}
-use Rattle.flow_grammar.proofs.Parts.{Follow, StepNext, carried_forth, carried_back}
+use Rattle.flow_grammar.proofs.Parts.{carried_forth, carried_back}
 use Rattle.flow_grammar.proofs.ArgStates.{ArgRest, arg_forth, arg_back, arg_completes}
 use Rattle.flow_grammar.proofs.GoalStates.{GoalRest, goal_forth, goal_back, goal_completes, need_of_goal, goal_of_need, nop_goal, Closing}
 use Rattle.flow_grammar.proofs.RuleStates.{RuleRest, rule_forth, rule_back, rule_completes, need_of_rule, rule_of_need}

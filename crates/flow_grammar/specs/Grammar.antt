@@ -1,5 +1,5 @@
 -- The grammar: for each part of a text its derivations, what each spells, and what it means.
--- `spell_..` takes the number of parentheses and nots around the part, and what follows it.
+-- `spell` and `spell_..` take the number of parentheses and nots around the part, and what follows it.
 use Rattle.std.specs.Prelude.{ℕ, zero, suc, List, [], ◌∷◌, map}
 use Rattle.std.specs.List.{flat_map}
 use Rattle.flow_model.specs.declared.labels.Note.{Note}
@@ -73,7 +73,8 @@ abbrev pub spell_names : ℕ → List (List ℕ) → List Placed → List Placed
 spell_names d [] r = r
 spell_names d (n ∷ ns) r = at d (a_name n) ∷ spell_names d ns r
 
--- Goals and rules have levels: what stands at a level is a member of the level below and further members, each behind a join
+-- Goals and rules are read by levels. At level 0 stand atoms and units; at each level above a member of the level below, and
+-- further ones, each behind a join. So a serial has level 1, a beside 2 and a goal 3; a conj has level 1 and a rule 2.
 pub data Kind : Type 0 where
   goals rules : Kind
 
@@ -81,12 +82,12 @@ abbrev pub Meaning : Kind → Type 0
 Meaning goals = Shape
 Meaning rules = RuleShape
 
--- the level of a whole goal or rule: there are so many kinds of lists
+-- the level of a whole goal or rule
 abbrev pub top : Kind → ℕ
 top goals = 3
 top rules = 2
 
--- what stands between the members of a list, the narrowest first
+-- what stands before each further member of that level, and what the members are together
 abbrev pub join : Kind → ℕ → Symbol
 join goals zero = star
 join goals (suc zero) = bar

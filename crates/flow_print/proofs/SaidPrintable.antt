@@ -7,10 +7,11 @@ use Rattle.flow_form.specs.Form.{Shape, shapes}
 use Rattle.flow_form.specs.RuleForm.{RuleShape, rule_shapes}
 use Rattle.flow_form.specs.Script.{Declared}
 use Rattle.flow_grammar.specs.Symbol.{Placed, at, symbol, symbols, constant_symbol, closing, semicolon, goal_word}
-use Rattle.flow_grammar.specs.Grammar.{FactText, bare, applied, spell_constants, spell_fact, mean_fact, Prefix, asking, denying, adding, taking, prefixed, Single, must_come, never_come, single, Pair, preceding, needing, paired, spell_names, Kind, goals, rules, Meaning, list, gather, Text, joined, group_text, nop_text, name_text, fact_text, iso_text, not_text, single_text, order_text, pair_text, More, no_more_text, then_text, spell, spell_more, mean, mean_more, NoteText, silent_text, done_text, fail_text, fail_first_text, spell_note, mean_note, NotedText, noted_text, spell_noted, mean_noted, DeclText, facts_text, events_text, flow_text, spell_items, declared_fact, spell_decl, mean_decl, ScriptText, script_text, spell_decls, spell_constraints, mean_rule, spell_script, mean_script}
+use Rattle.flow_grammar.specs.Grammar.{FactText, bare, applied, spell_constants, spell_fact, mean_fact, Prefix, asking, denying, adding, taking, prefixed, Single, must_come, never_come, single, Pair, preceding, needing, paired, spell_names, Kind, goals, rules, Meaning, list, Text, joined, group_text, nop_text, name_text, fact_text, iso_text, not_text, single_text, order_text, pair_text, More, no_more_text, then_text, spell, spell_more, mean, mean_more, NoteText, silent_text, done_text, fail_text, fail_first_text, spell_note, mean_note, NotedText, noted_text, spell_noted, mean_noted, DeclText, facts_text, events_text, flow_text, spell_items, declared_fact, spell_decl, mean_decl, ScriptText, script_text, spell_decls, spell_constraints, mean_rule, spell_script, mean_script}
 use Rattle.flow_print.specs.Printable.{IsName, IsPrintableConstant, IsPrintableFact, IsPrintableGoal, ArePrintableGoals, IsPrintableRule, ArePrintableRules, IsPrintableNote, IsPrintableDeclaration, IsPrintable}
 use Rattle.flow_print.specs.PrintedLaws.{SaidIsPrintable}
 use Rattle.flow_print.proofs.Writable.{IsWritable, tokens-writable}
+use Rattle.flow_grammar.proofs.MadeTexts.{gathered}
 use Rattle.flow_model.proofs.Lists.{each-append}
 
 -- each symbol of the spelled list can be written
@@ -56,11 +57,6 @@ listed goals (suc (suc n)) ss h = goals-listed ss h
 listed rules zero rs h = rules-listed rs h
 listed rules (suc n) rs h = rules-listed rs h
 
-gathered : (k : Kind) (n : ℕ) (ms : List (Meaning k)) → Each (IsPrintableMeaning k) ms → IsPrintableMeaning k (gather (list k n) ms)
-gathered k n [] h = listed k n [] tt
-gathered k n (m ∷ []) h = h.0
-gathered k n (m ∷ m' ∷ ms) h = listed k n (m ∷ m' ∷ ms) h
-
 single-printable : (s : Single) (n : List ℕ) → IsName n → IsPrintableRule (single s n)
 single-printable must_come n h = h
 single-printable never_come n h = h
@@ -78,7 +74,7 @@ mutual
   text {k} (joined {n = n} m ms) d r h =
       let (x, h1) = text m d (spell_more d ms r) h in
       let (xs, r') = more ms d r h1 in
-      (gathered k n (mean m ∷ mean_more ms) (x, xs), r')
+      (gathered (IsPrintableMeaning k) (IsPrintableMeaning k) (list k n) (λ m' h2. h2) (λ m1 m2 ms'. listed k n (m1 ∷ m2 ∷ ms')) (mean m) (mean_more ms) x xs, r')
   text (group_text t) d r (opened, h) = let (x, (closed, r')) = text t (suc d) (at (suc d) closing ∷ r) h in (x, r')
   text nop_text d r (w, h) = (tt, h)
   text (name_text n) d r (n', h) = (n', h)
