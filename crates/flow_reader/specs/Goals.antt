@@ -1,6 +1,6 @@
 -- What the code has read of a goal, as states of the machine.
 use Rattle.std.specs.Prelude.{Bool, true, false, List, map, reverse}
-use Rattle.flow_form.specs.Form.{Shape, Shapes, serial, beside, either, shape_of}
+use Rattle.flow_form.specs.Form.{Shape, shape_of}
 use Rattle.flow_grammar.specs.Grammar as grammar
 use Rattle.flow_grammar.specs.Machine as machine
 use Rattle.flow_reader.specs.Readers.{arg_state}
@@ -22,10 +22,10 @@ prefix_of prefix.Absent = grammar.denying
 prefix_of prefix.Ins = grammar.adding
 prefix_of prefix.Del = grammar.taking
 
-abbrev pub goal_list : code_list.GoalList → Shapes → Shape
-goal_list list.Serial = serial
-goal_list list.Beside = beside
-goal_list list.Either = either
+abbrev pub goal_list : code_list.GoalList → List Shape → Shape
+goal_list list.Serial = grammar.list grammar.goals 0
+goal_list list.Beside = grammar.list grammar.goals 1
+goal_list list.Either = grammar.list grammar.goals 2
 
 abbrev pub level_of : code_level.Level → machine.Level
 level_of l = machine.level (map shape_of l.eithers.items) (map shape_of l.besides.items) (map shape_of l.serials.items)

@@ -17,7 +17,7 @@ enum RuleList {
 
 /// The list of the members; of one member, that member.
 fn gathered(list: RuleList, mut members: Vec<RuleForm>) -> RuleForm
-    ensures { rule_shape_of result ≡ grammar.gather_rules (rule_list list) (map rule_shape_of members.items) }
+    ensures { rule_shape_of result ≡ grammar.gather (rule_list list) (map rule_shape_of members.items) }
 {
     if members.len() == 1 {
         if let Some(only) = members.pop() {

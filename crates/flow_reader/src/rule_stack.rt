@@ -54,7 +54,7 @@ impl RuleStack {
 
     /// What could come after a unit.
     pub fn wanted(&self) -> Wanted
-        ensures { kind_of result ≡ machine.wanted_rule_join (rule_frames_of self.now.frames.items) }
+        ensures { kind_of result ≡ machine.wanted_join (rule_frames_of self.now.frames.items) }
     {
         if self.frames.is_empty() {
             Wanted::Semicolon

@@ -98,7 +98,7 @@ impl ScriptParts {
     }
 
     fn join_fact(&self, symbol: Symbol<'_>) -> Option<ScriptPlace>
-        ensures { option_map (script_state self.now) result ≡ machine.join_fact (decls_of self.now) (meant symbol.entry) }
+        ensures { option_map (script_state self.now) result ≡ machine.join_item machine.fact_to_declare (decls_of self.now) (meant symbol.entry) }
     {
         match symbol {
             Symbol::Comma => Some(ScriptPlace::InFact(FactPlace::FactNeeded)),
@@ -160,7 +160,7 @@ impl ScriptParts {
     }
 
     fn join_event(&self, symbol: Symbol<'_>) -> Option<ScriptPlace>
-        ensures { option_map (script_state self.now) result ≡ machine.join_event (decls_of self.now) (meant symbol.entry) }
+        ensures { option_map (script_state self.now) result ≡ machine.join_item machine.event_to_declare (decls_of self.now) (meant symbol.entry) }
     {
         match symbol {
             Symbol::Comma => Some(ScriptPlace::InEvent(EventPlace::NameNeeded)),

@@ -3,11 +3,12 @@ use Rattle.std.proofs.Common.{◌≡◌, ℕ, ◌+◌, List, [], ◌∷◌, ◌+
 use Rattle.std.specs.Prelude.{Option, Some, None, not}
 use Rattle.std.specs.List.{position_from}
 use Rattle.std.proofs.lemmas.Bool.{not-false}
+use Rattle.std.proofs.lemmas.Grind.{flat_map-append}
 use Rattle.flow_model.specs.Lists.{◌∈◌, Each, AreDistinct}
 use Rattle.flow_form.specs.Script.{Declared, Said, Asked}
 use Rattle.flow_form.specs.Names.{declared_names, event_names}
-use Rattle.flow_grammar.specs.Roles.{Role, declares, in_goal, in_rule, in_fact, declaring, used_in_goals, used_in_rules, script_roles, query_roles}
-use Rattle.flow_grammar.proofs.RolesOfNames.{roles_are_the_names, declaring-append}
+use Rattle.flow_grammar.specs.Roles.{Role, declares, in_goal, in_rule, in_fact, declared_by, declaring, used_in_goals, used_in_rules, script_roles, query_roles}
+use Rattle.flow_grammar.proofs.RolesOfNames.{roles_are_the_names}
 use Rattle.flow_text.specs.declared.listing.Named.{Named}
 use Rattle.flow_text.specs.ListedNames.{role_of, roles_of}
 use Rattle.flow_text.specs.declared.known.Known.{Known}
@@ -82,7 +83,7 @@ is_first P roles k c =
 -- Names that are declared again
 
 held_after : (set : NameSet) (front : List Role) (r : Role) → HasJust set (declaring front) → HasJust (after set r) (declaring (front ++ r ∷ []))
-held_after set front r h = subst (HasJust (after set r)) (sym (declaring-append front (r ∷ []))) (more r)
+held_after set front r h = subst (HasJust (after set r)) (sym (flat_map-append declared_by front (r ∷ []))) (more r)
   where
     more : (r : Role) → HasJust (after set r) (declaring front ++ declaring (r ∷ []))
     more (declares n) = held_more set (declaring front) n h
@@ -119,7 +120,7 @@ repeated_none set front start (r ∷ rs) h e =
 once_all : (front roles : List Role) → AreDistinct (declaring front) → HasNone IsRepeated front roles → AreDistinct (declaring (front ++ roles))
 once_all front [] distinct none = subst (λ z. AreDistinct (declaring z)) (sym (append-nil front)) distinct
 once_all front (r ∷ rs) distinct (new, none) =
-    subst (λ z. AreDistinct (declaring z)) (append_assoc front (r ∷ []) rs) (once_all (front ++ r ∷ []) rs (subst AreDistinct (sym (declaring-append front (r ∷ []))) (more r new)) none)
+    subst (λ z. AreDistinct (declaring z)) (append_assoc front (r ∷ []) rs) (once_all (front ++ r ∷ []) rs (subst AreDistinct (sym (flat_map-append declared_by front (r ∷ []))) (more r new)) none)
   where
     same : AreDistinct (declaring front ++ [])
     same = subst AreDistinct (sym (append-nil (declaring front))) distinct

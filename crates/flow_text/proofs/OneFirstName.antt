@@ -1,12 +1,13 @@
 -- There is one first role of a kind, and none where all are as they must be.
 use Rattle.std.proofs.Common.{◌≡◌, ℕ, suc, List, [], ◌∷◌, ◌++◌, length, refl, sym, ap, subst, ◌∙◌, ◌⊎◌, inl, inr}
+use Rattle.std.proofs.lemmas.Grind.{flat_map-append}
 use Rattle.flow_model.specs.Lists.{◌∈◌, Each, AreDistinct}
 use Rattle.flow_model.proofs.Lists.{each_parts}
 use Rattle.flow_laws.proofs.Members.{distinct_parts}
 use Rattle.flow_form.specs.Script.{Declared, Said, Asked, holds, redundant}
 use Rattle.flow_form.specs.Names.{declared_names, event_names, names_in_rule}
-use Rattle.flow_grammar.specs.Roles.{Role, declares, in_goal, in_rule, in_fact, declaring, used_in_goals, used_in_rules, script_roles, query_roles}
-use Rattle.flow_grammar.proofs.RolesOfNames.{roles_are_the_names, declaring-append, of_rules}
+use Rattle.flow_grammar.specs.Roles.{Role, declares, in_goal, in_rule, in_fact, declared_by, declaring, used_in_goals, used_in_rules, script_roles, query_roles}
+use Rattle.flow_grammar.proofs.RolesOfNames.{roles_are_the_names, of_rules}
 use Rattle.flow_text.specs.GoodNames.{IsRepeated, IsUnknown, IsFirst, HasGoodNames, IsFirstRepeated, AsksOfEvents, AsksFirstOfOther}
 use Rattle.flow_text.proofs.FirstNames.{IsWell, well_is_known}
 
@@ -36,7 +37,7 @@ one_first P roles k j h g = elim (cuts h.front h.back g.front g.back h.role g.ro
 
 not_again : (front back : List Role) (role : Role) → AreDistinct (declaring (front ++ role ∷ back)) → IsRepeated front role → ⊥
 not_again front back (declares n) d here =
-    (distinct_parts (declaring front) (n ∷ declaring back) (subst AreDistinct (declaring-append front (declares n ∷ back)) d)).2 n here (inl refl)
+    (distinct_parts (declaring front) (n ∷ declaring back) (subst AreDistinct (flat_map-append declared_by front (declares n ∷ back)) d)).2 n here (inl refl)
 not_again front back (in_goal n) d here = here
 not_again front back (in_rule n) d here = here
 not_again front back (in_fact n) d here = here
