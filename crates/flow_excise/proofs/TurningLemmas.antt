@@ -1,9 +1,9 @@
 -- Rings begun at another of their members.
-use Rattle.std.proofs.Common.{◌≡◌, ℕ, suc, ◌+◌, ◌<◌, ◌≤◌, List, [], ◌∷◌, ◌++◌, map, length, get_or, take, drop, sym, ap, ◌∙◌, subst, inr, ⊎_elim, arith, append_assoc, append-nil, length-append, drop-cons}
+use Rattle.std.proofs.Common.{◌≡◌, ℕ, suc, ◌+◌, ◌<◌, ◌≤◌, List, ◌++◌, map, length, get_or, take, drop, sym, ap, ◌∙◌, subst, inr, arith, length-append, drop-cons}
 use Rattle.std.proofs.lemmas.List.{take-append-drop, map-append, take-map, drop-map}
 use Rattle.flow_model.specs.Lists.{◌∈◌, Each, AreDistinct}
 use Rattle.flow_model.specs.Process.{Process}
-use Rattle.flow_model.specs.Circle.{items_of, ItemBefore, LeadsBackTo, IsRing, least_of, BeginsWithLeast}
+use Rattle.flow_model.specs.Circle.{items_of, IsRing, least_of, BeginsWithLeast}
 use Rattle.flow_laws.proofs.Members.{distinct_swap, each_member, mem_swap, each_from_members}
 use Rattle.flow_laws.proofs.CircleRing.{turn}
 use Rattle.flow_excise.specs.Items.{IsPartCircle}

@@ -6,9 +6,10 @@ use Rattle.flow_model.specs.Resolution.{ChoiceOption, options}
 use Rattle.flow_model.specs.Run.{first_state, state_of}
 use Rattle.flow_laws.specs.Orders.{AreSideBySide}
 use Rattle.flow_laws.proofs.FollowingLemmas.{orders_may_follow}
+use Rattle.flow_laws.proofs.NeverAtALoss.{take_next}
 use Rattle.flow_law_cases.specs.EitherOrder.{either_way, one_out, EitherWayIsWellFormed, BothOrdersAreGood, EitherCanBeTaken, NoOptionHasBothOrders, OneOutIsLegal, OtherCannotBeTaken}
 use Rattle.flow_law_cases.proofs.TogetherLemmas.{well_formed}
-use Rattle.flow_law_cases.proofs.TakingLemmas.{take_next, side_by_side_of_take}
+use Rattle.flow_law_cases.proofs.TakingLemmas.{side_by_side_of_take}
 
 pub either_way_is_well_formed : EitherWayIsWellFormed
 either_way_is_well_formed = well_formed either_way refl refl

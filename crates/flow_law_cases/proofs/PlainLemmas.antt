@@ -7,9 +7,10 @@ use Rattle.flow_model.specs.Resolution.{ChoiceOption, options}
 use Rattle.flow_model.specs.Ready.{IsReady}
 use Rattle.flow_laws.specs.Orders.{AreSideBySide}
 use Rattle.flow_model.specs.Run.{RunState, CanTake, current_leaves, first_state, state_of}
+use Rattle.flow_laws.proofs.NeverAtALoss.{take_next}
 use Rattle.flow_law_cases.specs.Plain.{plain, a_done, b_out, PlainIsWellFormed, FirstOnlyA, ThenBOrC, CBesideB, BothOutIsLegal}
 use Rattle.flow_law_cases.proofs.TogetherLemmas.{well_formed}
-use Rattle.flow_law_cases.proofs.TakingLemmas.{take_next, side_by_side_of_take, follow_in_every_order}
+use Rattle.flow_law_cases.proofs.TakingLemmas.{side_by_side_of_take, follow_in_every_order}
 
 pub plain_is_well_formed : PlainIsWellFormed
 plain_is_well_formed = well_formed plain refl refl

@@ -1,30 +1,12 @@
 -- What can be taken, by good traces and by the law of orders.
-use Rattle.std.proofs.Common.{◌≡◌, ℕ, List, [], ◌∷◌, ◌++◌, sym, subst}
-use Rattle.flow_model.specs.Lists.{◌∈◌, Begins, IsOrderOf}
-use Rattle.flow_model.specs.Schema.{Schema, IsEventLeaf}
+use Rattle.std.proofs.Common.{ℕ, List, [], ◌∷◌, ◌++◌}
+use Rattle.flow_model.specs.Lists.{◌∈◌, IsOrderOf}
+use Rattle.flow_model.specs.Schema.{Schema}
 use Rattle.flow_model.specs.Resolution.{ChoiceOption, options}
-use Rattle.flow_model.specs.Run.{RunState, current_leaves, IsFree, CanTake, MayFollow}
+use Rattle.flow_model.specs.Run.{RunState, current_leaves, CanTake, MayFollow}
 use Rattle.flow_laws.specs.Words.{IsWellFormed}
 use Rattle.flow_laws.specs.Orders.{AreSideBySide}
-use Rattle.flow_laws.proofs.MadeLists.{order_of_one}
-use Rattle.flow_laws.proofs.GoodTraces.{option_of_good}
 use Rattle.flow_laws.proofs.FollowingLemmas.{alive_of_follow, orders_may_follow}
-
--- with no claim out, the leaf at which a free trace goes on can be taken
-pub take_next : (w : Schema) → IsWellFormed w → (s : RunState) (n : ℕ) (t : List ℕ) → IsEventLeaf w n → current_leaves s ≡ [] →
-    IsFree w s t → Begins t (s.journal ++ n ∷ []) → CanTake w s n
-take_next w f s n t event none free begins =
-    let (o, m, trace) = option_of_good w f t free.0 in (
-      event,
-      λ l. subst (λ ls. n ∈ ls) none l,
-      (
-        o,
-        m,
-        λ order p.
-            let one : order ≡ n ∷ [] = order_of_one order n (subst (λ ls. IsOrderOf order (ls ++ n ∷ [])) none p) in
-            (t, trace, free, subst (λ next. Begins t (s.journal ++ next)) (sym one) begins),
-      ),
-    )
 
 -- the leaf stands side by side with the claims' leaves in some option
 pub side_by_side_of_take : (w : Schema) → IsWellFormed w → (s : RunState) (n : ℕ) → CanTake w s n →

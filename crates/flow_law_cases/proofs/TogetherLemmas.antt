@@ -1,5 +1,5 @@
 -- A test that the leaves that one execution may hold have different events.
-use Rattle.std.proofs.Common.{◌≡◌, ◌≢◌, ℕ, Bool, true, false, not, ◌&&◌, ◌==◌, List, [], ◌∷◌, length, sym, ap, ◌∙◌, subst, inl, inr, Option, Some, None}
+use Rattle.std.proofs.Common.{◌≡◌, ◌≢◌, ℕ, Bool, true, false, not, ◌&&◌, ◌==◌, List, [], ◌∷◌, length, sym, ap, ◌∙◌, subst, inl, inr, ⊎_elim, Option, Some, None}
 use Rattle.std.specs.List.{list_all}
 use Rattle.std.proofs.lemmas.Bool.{eq-eqb}
 use Rattle.flow_model.specs.declared.labels.Label.{Label}
@@ -54,24 +54,21 @@ two_apart labels xs ys h x y e m k =
 abbrev Apart : List Label → ℕ → ℕ → ℕ → Type 0
 Apart labels x y e = event_at labels x ≡ Some e → event_at labels y ≢ Some e
 
-of_parts : (labels : List Label) (a b : Process) (x y e : ℕ) → all_differ labels (leaves a) (leaves b) ≡ true →
-    (AreTogether a x y → Apart labels x y e) → (AreTogether b x y → Apart labels x y e) →
-    AreTogether (Sequence a b) x y → Apart labels x y e
-of_parts labels a b x y e h in_a in_b (inl (inl (m, k))) = two_apart labels (leaves a) (leaves b) h x y e m k
-of_parts labels a b x y e h in_a in_b (inl (inr t)) = in_a t
-of_parts labels a b x y e h in_a in_b (inr t) = in_b t
+-- all leaves that one execution may hold have different events
+abbrev AreApart : List Label → Process → Type 0
+AreApart labels g = differ_within labels g ≡ true → (x y e : ℕ) → AreTogether g x y → Apart labels x y e
 
-together_apart : (labels : List Label) (g : Process) → differ_within labels g ≡ true → (x y e : ℕ) → AreTogether g x y → Apart labels x y e
+halves_apart : (labels : List Label) (a b : Process) → AreApart labels a → AreApart labels b → AreApart labels (Sequence a b)
+halves_apart labels a b in_a in_b h x y e t =
+    let (across, within) = and_parts (all_differ labels (leaves a) (leaves b)) (differ_within labels a && differ_within labels b) h in
+    let (ha, hb) = and_parts (differ_within labels a) (differ_within labels b) within in
+    ⊎_elim (⊎_elim (λ (m, k). two_apart labels (leaves a) (leaves b) across x y e m k) (in_a ha x y e)) (in_b hb x y e) t
+
+together_apart : (labels : List Label) (g : Process) → AreApart labels g
 together_apart labels Empty h x y e t = absurd t
 together_apart labels (Task n) h x y e t = absurd t
-together_apart labels (Sequence a b) h x y e t =
-    let (across, within) = and_parts (all_differ labels (leaves a) (leaves b)) (differ_within labels a && differ_within labels b) h in
-    let (in_a, in_b) = and_parts (differ_within labels a) (differ_within labels b) within in
-    of_parts labels a b x y e across (together_apart labels a in_a x y e) (together_apart labels b in_b x y e) t
-together_apart labels (Parallel a b) h x y e t =
-    let (across, within) = and_parts (all_differ labels (leaves a) (leaves b)) (differ_within labels a && differ_within labels b) h in
-    let (in_a, in_b) = and_parts (differ_within labels a) (differ_within labels b) within in
-    of_parts labels a b x y e across (together_apart labels a in_a x y e) (together_apart labels b in_b x y e) t
+together_apart labels (Sequence a b) h x y e t = halves_apart labels a b (together_apart labels a) (together_apart labels b) h x y e t
+together_apart labels (Parallel a b) h x y e t = halves_apart labels a b (together_apart labels a) (together_apart labels b) h x y e t
 together_apart labels (Choice a b) h x y e (inl t) =
     together_apart labels a (and_parts (differ_within labels a) (differ_within labels b) h).0 x y e t
 together_apart labels (Choice a b) h x y e (inr t) =

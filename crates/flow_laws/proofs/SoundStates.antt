@@ -10,7 +10,7 @@ use Rattle.flow_model.specs.declared.history.FailEffect.TheVariants.{Switched, K
 use Rattle.flow_model.specs.Lists.{◌∈◌, Each, AreDistinct, Begins, IsOrderOf, numbers_from}
 use Rattle.flow_model.specs.Facts.{Runs}
 use Rattle.flow_model.specs.Schema.{Schema, start_of, IsEventLeaf}
-use Rattle.flow_model.specs.Resolution.{ChoiceOption}
+use Rattle.flow_model.specs.Resolution.{ChoiceOption, options}
 use Rattle.flow_model.specs.Run.{Claim, RunState, first_state, current_leaves, is_current, claim_at, leaf_of_claim, IsCurrent, IsLapsed, database, IsFree, MayFollow, MayAllFollow, CanTake, CanDo, IsOpen, IsAllowed, answer, spare, with_new_epoch, next_state, state_after, IsLegalFrom}
 use Rattle.flow_laws.specs.Words.{IsWellFormed, IsConsistent}
 use Rattle.flow_laws.specs.Histories.{IsSound}
@@ -23,19 +23,18 @@ use Rattle.flow_laws.proofs.SparedLemmas.{spare_keeps, numbers-spare, spared_are
 
 -- A good execution that goes on from the journal
 
+-- in some option these leaves may follow, as they do in a free execution
+pub free_may_follow : (w : Schema) → IsWellFormed w → (s : RunState) (t these : List ℕ) → IsFree w s t → Begins t (s.journal ++ these) →
+    (o : ChoiceOption) × (o ∈ options w) × ((next : List ℕ) → next ≡ these → MayFollow w s o next)
+free_may_follow w f s t these free begins =
+    let (o, m, trace) = option_of_good w f t free.0 in
+    (o, m, λ next e. (t, trace, free, subst (λ l. Begins t (s.journal ++ l)) (sym e) begins))
+
 -- where none is to follow, one free execution will do
-pub none_may_follow : (w : Schema) → IsWellFormed w → (s : RunState) (t : List ℕ) → IsFree w s t → MayAllFollow w s []
+none_may_follow : (w : Schema) → IsWellFormed w → (s : RunState) (t : List ℕ) → IsFree w s t → MayAllFollow w s []
 none_may_follow w f s t free =
-    let (o, m, trace) = option_of_good w f t free.0 in (
-      o,
-      m,
-      λ order p. (
-        t,
-        trace,
-        free,
-        subst (λ w. Begins t (s.journal ++ w)) (sym (order_of_none order p)) (begins_and_nothing t s.journal free.1),
-      ),
-    )
+    let (o, m, follows) = free_may_follow w f s t [] free (begins_and_nothing t s.journal free.1) in
+    (o, m, λ order p. follows order (order_of_none order p))
 
 -- the claims of a sound state
 record AreSoundClaims (w : Schema) (epoch : ℕ) (claims : List Claim) : Type 0 where
