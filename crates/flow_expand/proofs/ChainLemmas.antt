@@ -11,15 +11,11 @@ use Rattle.flow_form.specs.Script.{Declared, flow}
 use Rattle.flow_form.specs.Names.{names_in}
 use Rattle.flow_expand.specs.Steps.{flows_of, flow_names, IsStep, LeadsTo, IsRecursion}
 use Rattle.flow_expand.specs.Waiting.{NumberStep, AreSteps, ComesBack, name_at}
-use Rattle.flow_expand.proofs.Members.{mem_left, mem_right, mem_either, mem_at, get_map}
-use Rattle.flow_expand.proofs.Declarations.{in_flows}
-use Rattle.flow_expand.proofs.DirectoryLemmas.{names_of_flows}
+use Rattle.flow_expand.proofs.Members.{mem_left, mem_right, mem_either, mem_at, same_place}
+use Rattle.flow_expand.proofs.Declarations.{in_flows, name_there}
 use Rattle.flow_expand.proofs.SettleLemmas.{steps_more}
 
 -- names and numbers
-
-name_there : (decls : List Declared) (k : ℕ) (n : List ℕ) (s : Shape) → slice_get (flows_of decls) k ≡ Some (n, s) → slice_get (flow_names decls) k ≡ Some n
-name_there decls k n s e = ap (λ l. slice_get l k) (names_of_flows decls) ∙ get_map (λ (p : List ℕ × Shape). p.0) (flows_of decls) k (n, s) e
 
 name_is : (decls : List Declared) (k : ℕ) (n : List ℕ) (s : Shape) → slice_get (flows_of decls) k ≡ Some (n, s) → name_at decls k ≡ n
 name_is decls k n s e = get_or_from_slice_get (flow_names decls) k n [] (name_there decls k n s e)
@@ -37,13 +33,6 @@ leads_of decls k [] last (s, t) = step_of decls k last s
 leads_of decls k (j ∷ more) last (s, t) = (step_of decls k j s, leads_of decls j more last t)
 
 -- the number of a name
-
-same_place : {A : Type 0} (xs : List A) (i j : ℕ) (x : A) → AreDistinct xs → slice_get xs i ≡ Some x → slice_get xs j ≡ Some x → i ≡ j
-same_place [] i j x d e f = absurd (cc)
-same_place (y ∷ xs) zero zero x d e f = refl
-same_place (y ∷ xs) zero (suc j) x d e f = let g : Some y ≡ Some x = e in let h : y ≡ x = cc in absurd (d.0 (subst (λ z. z ∈ xs) (sym h) (mem_at xs j x f)))
-same_place (y ∷ xs) (suc i) zero x d e f = let g : Some y ≡ Some x = f in let h : y ≡ x = cc in absurd (d.0 (subst (λ z. z ∈ xs) (sym h) (mem_at xs i x e)))
-same_place (y ∷ xs) (suc i) (suc j) x d e f = ap suc (same_place xs i j x d.1 e f)
 
 stands_before : {A : Type 0} (xs : List A) (i j : ℕ) (x y : A) → slice_get xs i ≡ Some x → slice_get xs j ≡ Some y → i < j → StandsBefore x y xs
 stands_before [] i j x y e f lt = absurd (cc)

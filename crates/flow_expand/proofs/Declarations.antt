@@ -1,13 +1,14 @@
 -- What distinct names say of declarations.
-use Rattle.std.proofs.Common.{◌≡◌, ℕ, List, [], ◌∷◌, Some, zero, suc, slice_get, refl, sym, subst, inl, inr, ◌⊎◌, ⊎_elim}
+use Rattle.std.proofs.Common.{◌≡◌, ℕ, List, [], ◌∷◌, Some, map, slice_get, refl, sym, ap, ◌∙◌, subst, inl, inr, ◌⊎◌, ⊎_elim}
 use Rattle.std.specs.List.{flat_map}
 use Rattle.flow_model.specs.Lists.{◌∈◌, Each, AreDistinct}
+use Rattle.flow_facts.proofs.Places.{place_of}
 use Rattle.flow_form.specs.Form.{Shape}
 use Rattle.flow_form.specs.Script.{Declared, fact, event, flow, Said}
 use Rattle.flow_form.specs.Names.{names_in, declared_names, event_names, flow_goal, goals_of, IsClosed}
-use Rattle.flow_expand.specs.Steps.{flows_of, flow_names, AreDeclared}
-use Rattle.flow_expand.proofs.Members.{mem_left, mem_right, mem_at}
-use Rattle.flow_laws.proofs.MadeLists.{mem-flat_map}
+use Rattle.flow_expand.specs.Steps.{flow_of, flows_of, flow_name, flow_names, AreDeclared}
+use Rattle.flow_expand.proofs.Members.{mem_left, mem_right, mem_at, get_map, same_place}
+use Rattle.flow_laws.proofs.MadeLists.{mem-flat_map, some_same}
 use Rattle.flow_laws.proofs.Members.{each_from_members, each_member}
 
 pub flow_declared : (decls : List Declared) (n : List ℕ) → n ∈ flow_names decls → n ∈ declared_names decls
@@ -25,13 +26,7 @@ event_declared (event k note ∷ ds) n (inr m) = inr (event_declared ds n m)
 event_declared (flow k s ∷ ds) n m = inr (event_declared ds n m)
 
 pub flow_named : (decls : List Declared) (n : List ℕ) (s : Shape) → flow n s ∈ decls → n ∈ flow_names decls
-flow_named [] n s m = m
-flow_named (fact a ∷ ds) n s (inl e) = absurd (cc)
-flow_named (fact a ∷ ds) n s (inr m) = flow_named ds n s m
-flow_named (event k note ∷ ds) n s (inl e) = absurd (cc)
-flow_named (event k note ∷ ds) n s (inr m) = flow_named ds n s m
-flow_named (flow k t ∷ ds) n s (inl e) = inl (cc)
-flow_named (flow k t ∷ ds) n s (inr m) = inr (flow_named ds n s m)
+flow_named decls n s m = mem-flat_map flow_name (flow n s) n decls m (inl refl)
 
 -- a name that was declared is an event's or a sub-workflow's
 pub either_kind : (decls : List Declared) (n : List ℕ) → n ∈ declared_names decls → (n ∈ event_names decls) ⊎ (n ∈ flow_names decls)
@@ -51,22 +46,6 @@ not_both (event k note ∷ ds) n (out, d) (inr e) f = not_both ds n d e f
 not_both (flow k s ∷ ds) n (out, d) e (inl f) = out (subst (λ z. z ∈ declared_names ds) f (event_declared ds n e))
 not_both (flow k s ∷ ds) n (out, d) e (inr f) = not_both ds n d e f
 
--- a sub-workflow has one goal
-pub same_goal : (decls : List Declared) (n : List ℕ) (s t : Shape) → AreDistinct (declared_names decls) → flow n s ∈ decls → flow n t ∈ decls → s ≡ t
-same_goal [] n s t d e f = absurd e
-same_goal (fact a ∷ ds) n s t d (inl e) f = absurd (cc)
-same_goal (fact a ∷ ds) n s t d (inr e) (inl f) = absurd (cc)
-same_goal (fact a ∷ ds) n s t d (inr e) (inr f) = same_goal ds n s t d e f
-same_goal (event k note ∷ ds) n s t d (inl e) f = absurd (cc)
-same_goal (event k note ∷ ds) n s t d (inr e) (inl f) = absurd (cc)
-same_goal (event k note ∷ ds) n s t d (inr e) (inr f) = same_goal ds n s t d.1 e f
-same_goal (flow k u ∷ ds) n s t d (inl e) (inl f) = cc
-same_goal (flow k u ∷ ds) n s t d (inl e) (inr f) =
-    let g : n ≡ k = cc in absurd (d.0 (subst (λ z. z ∈ declared_names ds) g (flow_declared ds n (flow_named ds n t f))))
-same_goal (flow k u ∷ ds) n s t d (inr e) (inl f) =
-    let g : n ≡ k = cc in absurd (d.0 (subst (λ z. z ∈ declared_names ds) g (flow_declared ds n (flow_named ds n s e))))
-same_goal (flow k u ∷ ds) n s t d (inr e) (inr f) = same_goal ds n s t d.1 e f
-
 pub distinct_flows : (decls : List Declared) → AreDistinct (declared_names decls) → AreDistinct (flow_names decls)
 distinct_flows [] d = tt
 distinct_flows (fact a ∷ ds) d = distinct_flows ds d
@@ -75,13 +54,7 @@ distinct_flows (flow k s ∷ ds) d = ((λ m. d.0 (flow_declared ds k m)), distin
 
 -- the places of sub-workflows
 pub flow_place : (decls : List Declared) (n : List ℕ) (s : Shape) → flow n s ∈ decls → (k : ℕ) × (slice_get (flows_of decls) k ≡ Some (n, s))
-flow_place [] n s m = absurd m
-flow_place (fact a ∷ ds) n s (inl e) = absurd (cc)
-flow_place (fact a ∷ ds) n s (inr m) = flow_place ds n s m
-flow_place (event k note ∷ ds) n s (inl e) = absurd (cc)
-flow_place (event k note ∷ ds) n s (inr m) = flow_place ds n s m
-flow_place (flow k t ∷ ds) n s (inl e) = let f : n ≡ k = cc in let g : s ≡ t = cc in (zero, λ i. Some (sym f i, sym g i))
-flow_place (flow k t ∷ ds) n s (inr m) = let (i, e) = flow_place ds n s m in (suc i, e)
+flow_place decls n s m = place_of (flows_of decls) (n, s) (mem-flat_map flow_of (flow n s) (n, s) decls m (inl refl))
 
 pub in_flows : (decls : List Declared) (n : List ℕ) (s : Shape) → (n, s) ∈ flows_of decls → flow n s ∈ decls
 in_flows [] n s m = absurd m
@@ -89,6 +62,23 @@ in_flows (fact a ∷ ds) n s m = inr (in_flows ds n s m)
 in_flows (event k note ∷ ds) n s m = inr (in_flows ds n s m)
 in_flows (flow k t ∷ ds) n s (inl e) = inl (λ i. flow ((e i).0) ((e i).1))
 in_flows (flow k t ∷ ds) n s (inr m) = inr (in_flows ds n s m)
+
+pub names_of_flows : (decls : List Declared) → flow_names decls ≡ map (λ (p : List ℕ × Shape). p.0) (flows_of decls)
+names_of_flows [] = refl
+names_of_flows (fact a ∷ ds) = names_of_flows ds
+names_of_flows (event n note ∷ ds) = names_of_flows ds
+names_of_flows (flow n s ∷ ds) = ap (λ l. n ∷ l) (names_of_flows ds)
+
+pub name_there : (decls : List Declared) (k : ℕ) (n : List ℕ) (s : Shape) → slice_get (flows_of decls) k ≡ Some (n, s) → slice_get (flow_names decls) k ≡ Some n
+name_there decls k n s e = ap (λ l. slice_get l k) (names_of_flows decls) ∙ get_map (λ (p : List ℕ × Shape). p.0) (flows_of decls) k (n, s) e
+
+-- a sub-workflow has one goal
+pub same_goal : (decls : List Declared) (n : List ℕ) (s t : Shape) → AreDistinct (declared_names decls) → flow n s ∈ decls → flow n t ∈ decls → s ≡ t
+same_goal decls n s t d e f =
+    let (k, one) = flow_place decls n s e in
+    let (j, other) = flow_place decls n t f in
+    let same : k ≡ j = same_place (flow_names decls) k j n (distinct_flows decls d) (name_there decls k n s one) (name_there decls j n t other) in
+    ap (λ (p : List ℕ × Shape). p.1) (some_same (n, s) (n, t) (sym one ∙ ap (slice_get (flows_of decls)) same ∙ other))
 
 -- each name of a goal was declared
 

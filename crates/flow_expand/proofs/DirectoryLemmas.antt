@@ -17,7 +17,7 @@ use Rattle.flow_expand.specs.declared.directory.Directory.{Directory}
 use Rattle.flow_expand.specs.Directory.{found_in, decls_of, IsDirectory}
 use Rattle.flow_expand.specs.Steps.{flows_of, flow_names}
 use Rattle.flow_expand.proofs.Members.{any_member, member_any, never_any, mem_at, get_map}
-use Rattle.flow_expand.proofs.Declarations.{distinct_flows}
+use Rattle.flow_expand.proofs.Declarations.{distinct_flows, names_of_flows}
 
 pub found_is : (names : List (List ℕ)) (n : List ℕ) (r : Option ℕ) → AreDistinct names → (IsNone r ↔ ¬ (n ∈ names)) → IfSome r (λ k. slice_get names k ≡ Some n) → r ≡ found_in names n
 found_is names n None d none at = sym (ap (λ b. cond b (Some (position_or_len (bytes_eq n) names)) None) (never_any bytes_eq bytes_decides n names (none.0 refl)))
@@ -45,12 +45,6 @@ found_none names n e m =
     cc
 
 -- names and goals of sub-workflows
-
-pub names_of_flows : (decls : List Declared) → flow_names decls ≡ map (λ (p : List ℕ × Shape). p.0) (flows_of decls)
-names_of_flows [] = refl
-names_of_flows (fact a ∷ ds) = names_of_flows ds
-names_of_flows (event n note ∷ ds) = names_of_flows ds
-names_of_flows (flow n s ∷ ds) = ap (λ l. n ∷ l) (names_of_flows ds)
 
 goals_of_flows : (decls : List Declared) → flat_map flow_goal decls ≡ map (λ (p : List ℕ × Shape). p.1) (flows_of decls)
 goals_of_flows [] = refl

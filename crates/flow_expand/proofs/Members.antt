@@ -1,16 +1,24 @@
 -- Members of lists and their places.
-use Rattle.std.proofs.Common.{◌≡◌, ℕ, List, [], ◌∷◌, ◌++◌, ◌⊎◌, ◌||◌, Bool, true, false, map, slice_get, Some, refl, sym, ap, ◌∙◌, inl, inr, option_map}
+use Rattle.std.proofs.Common.{◌≡◌, ℕ, zero, suc, List, [], ◌∷◌, ◌++◌, ◌⊎◌, ◌||◌, Bool, true, false, map, slice_get, Some, refl, sym, ap, ◌∙◌, subst, inl, inr, option_map}
 use Rattle.std.proofs.lemmas.List.{append-nil}
 use Rattle.std.proofs.lemmas.List.Concat.{flat_map-append}
 use Rattle.std.specs.Bool.{Decides}
 use Rattle.std.specs.List.{flat_map, list_any}
 use Rattle.std.proofs.lemmas.Option.{slice_get-map}
-use Rattle.flow_model.specs.Lists.{◌∈◌}
+use Rattle.flow_model.specs.Lists.{◌∈◌, AreDistinct}
 pub use Rattle.flow_model.proofs.Lists.{mem-slice_get as mem_at, slice_get_append_left as get_left}
 pub use Rattle.flow_laws.proofs.Members.{mem_append_left as mem_left, mem_append_right as mem_right, mem-append as mem_either}
 
 pub get_map : {A B : Type 0} (f : A → B) (xs : List A) (i : ℕ) (x : A) → slice_get xs i ≡ Some x → slice_get (map f xs) i ≡ Some (f x)
 get_map f xs i x e = slice_get-map f xs i ∙ ap (option_map f) e
+
+-- in a list of distinct members each has one place
+pub same_place : {A : Type 0} (xs : List A) (i j : ℕ) (x : A) → AreDistinct xs → slice_get xs i ≡ Some x → slice_get xs j ≡ Some x → i ≡ j
+same_place [] i j x d e f = absurd (cc)
+same_place (y ∷ xs) zero zero x d e f = refl
+same_place (y ∷ xs) zero (suc j) x d e f = let g : Some y ≡ Some x = e in let h : y ≡ x = cc in absurd (d.0 (subst (λ z. z ∈ xs) (sym h) (mem_at xs j x f)))
+same_place (y ∷ xs) (suc i) zero x d e f = let g : Some y ≡ Some x = f in let h : y ≡ x = cc in absurd (d.0 (subst (λ z. z ∈ xs) (sym h) (mem_at xs i x e)))
+same_place (y ∷ xs) (suc i) (suc j) x d e f = ap suc (same_place xs i j x d.1 e f)
 
 pub flat_map_end : {X A : Type 0} (f : X → List A) (xs : List X) (x : X) → flat_map f (xs ++ x ∷ []) ≡ flat_map f xs ++ f x
 flat_map_end f xs x = flat_map-append f xs (x ∷ []) ∙ ap (λ l. flat_map f xs ++ l) (append-nil (f x))

@@ -2,7 +2,7 @@
 use Rattle.std.proofs.Common.{◌≡◌, ◌≢◌, ℕ, zero, suc, ◌+◌, ◌-◌, ◌<◌, List, [], ◌∷◌, ◌++◌, ◌⊎◌, length, get_or, set, slice_get, Option, Some, None, refl, sym, ap, ◌∙◌, subst, inl, inr, ⊎_elim, arith}
 use Rattle.std.specs.Prelude.{All, MatchOption}
 use Rattle.std.proofs.lemmas.Option.{slice_get-get_or, slice_get_within}
-use Rattle.std.proofs.lemmas.List.{append_assoc, length-set}
+use Rattle.std.proofs.lemmas.List.{append_assoc, length-set, get_or-set_same}
 use Rattle.flow_model.specs.Lists.{◌∈◌, AreDistinct, Begins}
 use Rattle.flow_laws.proofs.MadeLists.{some_same}
 use Rattle.flow_facts.proofs.Places.{distinct_more}
@@ -17,13 +17,11 @@ use Rattle.flow_expand.specs.Steps.{flows_of}
 use Rattle.flow_expand.specs.Directory.{decls_of}
 use Rattle.flow_expand.specs.Laid.{Goes, IsLaid, IsLaidAt}
 use Rattle.flow_expand.specs.Waiting.{NumberStep, AreSteps, IsPath, Stays, weight, work_left}
-use Rattle.flow_expand.proofs.Members.{mem_left, mem_right, mem_either}
+use Rattle.flow_expand.proofs.Members.{mem_left, mem_right, mem_either, mem_at}
 use Rattle.flow_expand.proofs.LayLemmas.{laid_more}
 
 pub get_set_same : {A : Type 0} (xs : List A) (i : ℕ) (y : A) → i < length xs → slice_get (set xs i y) i ≡ Some y
-get_set_same [] i y lt = absurd (omega arith)
-get_set_same (x ∷ xs) zero y lt = refl
-get_set_same (x ∷ xs) (suc i) y lt = get_set_same xs i y (omega arith)
+get_set_same xs i y lt = slice_get-get_or (set xs i y) i y (subst (λ n. i < n) (sym (length-set xs i y)) lt) ∙ ap Some (get_or-set_same xs i y y lt)
 
 pub get_set_other : {A : Type 0} (xs : List A) (i k : ℕ) (y : A) → k ≢ i → slice_get (set xs i y) k ≡ slice_get xs k
 get_set_other [] i k y n = refl
@@ -157,13 +155,8 @@ stays_twice a b c x y = record {
   unlaid = λ k e. x.unlaid k (y.unlaid k e);
 }
 
-mem_get_or : (xs : List ℕ) (k d : ℕ) → k < length xs → get_or xs k d ∈ xs
-mem_get_or [] k d lt = absurd (omega arith)
-mem_get_or (x ∷ xs) zero d lt = inl refl
-mem_get_or (x ∷ xs) (suc k) d lt = inr (mem_get_or xs k d (omega arith))
-
 pub path_within : (decls : List Declared) (laid : List Stage) (path : List ℕ) (n : ℕ) → IsPath decls laid path → length laid ≡ n → All (λ k. k < n) path
-path_within decls laid path n h count = λ k d lt. subst (λ m. get_or path k d < m) count (slice_get_within laid (get_or path k d) stage.Begun (h.begun (get_or path k d) (mem_get_or path k d lt)))
+path_within decls laid path n h count = λ k d lt. subst (λ m. get_or path k d < m) count (slice_get_within laid (get_or path k d) stage.Begun (h.begun (get_or path k d) (mem_at path k (get_or path k d) (slice_get-get_or path k d lt))))
 
 pub laid_begun : (d : Directory) (laid : List Stage) (layout : List Piece) (k : ℕ) → IsLaid d laid layout → IsLaid d (set laid k stage.Begun) layout
 laid_begun d laid layout k h = record {

@@ -20,8 +20,8 @@ build-requires c =
     } in
     start_buildable s c.requires.prepared.expansion c.args.laid.now.layout.items c.args.laid.now.root.place old c.requires.closed c.requires.prepared.measured c.requires.prepared.placed start
 
-pub tree_of-tree-requires-clause-numbered : goal.tree_of-tree-requires-clause-numbered
-tree_of-tree-requires-clause-numbered c =
+pub tree_of-tree-requires : goal.tree_of-tree-requires
+tree_of-tree-requires c =
     let s = said c.args.script.now in
     let old : Leaves = record { facts = c.in_ok-facts.facts; labels = c.new-labels.result } in
     let start : IsStart s old = record {
@@ -30,19 +30,7 @@ tree_of-tree-requires-clause-numbered c =
     } in
     let built : IsBuilt (event_names s.decls) c.requires.prepared.expansion old c.build.new.leaves (process_of c.in_ok-goal.goal) =
     c.in_ok-goal.ensures (event_names s.decls) c.requires.prepared.expansion (distinct_events s.decls c.requires.closed.once) c.requires.prepared.placed in
-    goal_numbered s c.requires.prepared.expansion old c.build.new.leaves (process_of c.in_ok-goal.goal) c.requires.closed c.requires.prepared.measured start built
-
-pub tree_of-tree-requires-clause-few : goal.tree_of-tree-requires-clause-few
-tree_of-tree-requires-clause-few c =
-    let s = said c.args.script.now in
-    let old : Leaves = record { facts = c.in_ok-facts.facts; labels = c.new-labels.result } in
-    let start : IsStart s old = record {
-      facts = c.in_ok-facts.ensures ∙ ap (λ ds. firsts (declared_facts (map declared ds))) c.deref.ensures.value;
-      labels = c.new-labels.ensures.items;
-    } in
-    let built : IsBuilt (event_names s.decls) c.requires.prepared.expansion old c.build.new.leaves (process_of c.in_ok-goal.goal) =
-    c.in_ok-goal.ensures (event_names s.decls) c.requires.prepared.expansion (distinct_events s.decls c.requires.closed.once) c.requires.prepared.placed in
-    labels_few s c.requires.prepared.expansion old c.build.new.leaves (process_of c.in_ok-goal.goal) c.requires.closed c.requires.prepared.measured start built
+    record { numbered = goal_numbered s c.requires.prepared.expansion old c.build.new.leaves (process_of c.in_ok-goal.goal) c.requires.closed c.requires.prepared.measured start built; few = labels_few s c.requires.prepared.expansion old c.build.new.leaves (process_of c.in_ok-goal.goal) c.requires.closed c.requires.prepared.measured start built }
 
 pub returns : goal.returns
 returns c =
