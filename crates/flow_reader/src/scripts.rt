@@ -177,16 +177,13 @@ impl ScriptParts {
         ensures { IfOk result (λ step. option_map (script_state self.new) step
             ≡ machine.note_event (decls_of self.old) event (meant symbol.entry)) }
     {
+        if let Symbol::Fail = symbol {
+            return Ok(Some(ScriptPlace::InEvent(EventPlace::AfterFail(event))));
+        }
+        self.script.decls.push(Decl::Event(event, Note::Done))?;
         match symbol {
-            Symbol::Done => {
-                self.script.decls.push(Decl::Event(event, Note::Done))?;
-                Ok(Some(ScriptPlace::InEvent(EventPlace::AfterNote)))
-            }
-            Symbol::Fail => Ok(Some(ScriptPlace::InEvent(EventPlace::AfterFail(event)))),
-            _ => {
-                self.script.decls.push(Decl::Event(event, Note::Done))?;
-                Ok(self.join_event(symbol))
-            }
+            Symbol::Done => Ok(Some(ScriptPlace::InEvent(EventPlace::AfterNote))),
+            _ => Ok(self.join_event(symbol)),
         }
     }
 
