@@ -8,6 +8,7 @@ use Rattle.leaf_rows.specs.Leaves.{has_leaf}
 use Rattle.flow_model.specs.Lists.{◌∈◌, Each, AreDistinct, StandsBefore, joined}
 use Rattle.flow_laws.proofs.Members.{each_member, decide_in, distinct-append, before_across, each_from_members, mem_append_left, mem_append_right, mem-append}
 use Rattle.flow_laws.proofs.MadeLists.{some_same, joined-append}
+use Rattle.flow_plan.proofs.PlaceLemmas.{read_member}
 use Rattle.flow_excise.specs.declared.item.Item.{Item}
 use Rattle.flow_excise.specs.Rows.{has_inside, has_waits, run_in, runs, least_in, least_at, IsIn, WaitsFor, IsEdge, AreApart}
 use Rattle.flow_excise.specs.Arranged.{IsArranged, IsWholeOrder, IsCycle, LeadsOn, TakesIn}
@@ -212,18 +213,13 @@ seen_in items n x item l e h = subst (λ o. IsTrue (has_inside o x)) (sym (item_
 pub in_seen : (items : List Item) (n x : ℕ) (item : Item) → n < length items → item ≡ get_or items n item → IsIn items n x → IsTrue (has_leaf (get_or items n item).inside x)
 in_seen items n x item l e h = subst (λ (i : Item). IsTrue (has_leaf i.inside x)) e (subst (λ o. IsTrue (has_inside o x)) (item_there items n item l e) h)
 
-member_at : (xs : List ℕ) (i : ℕ) → i < length xs → get_or xs i 0 ∈ xs
-member_at [] i l = absurd (omega arith)
-member_at (x ∷ xs) zero l = inl refl
-member_at (x ∷ xs) (suc i) l = inr (member_at xs i (omega arith))
-
 -- the runs of one item more
 pub runs_more : (items : List Item) (order : List ℕ) (k : ℕ) (item : Item) → k < length order → Each (λ n. n < length items) order → item ≡ get_or items (get_or order k 0) item →
     runs items (take (k + 1) order) ≡ runs items (take k order) ++ (get_or items (get_or order k 0) item).run.items
 runs_more items order k item l w e =
     let f : ℕ → List ℕ = λ n. run_in (slice_get items n) in
     let n : ℕ = get_or order k 0 in
-    let there = item_there items n item (each_member (λ m. m < length items) order w n (member_at order k l)) e in
+    let there = item_there items n item (each_member (λ m. m < length items) order w n (read_member order k l)) e in
     ap (λ z. joined (map f z)) (take_more order k 0 l)
     ∙ ap joined (map-append f (take k order) (n ∷ []))
     ∙ joined-append (map f (take k order)) (f n ∷ [])
@@ -234,7 +230,7 @@ pub leasts_more : (items : List Item) (order : List ℕ) (k : ℕ) (item : Item)
     map (least_at items) (take (k + 1) order) ≡ map (least_at items) (take k order) ++ (get_or items (get_or order k 0) item).least ∷ []
 leasts_more items order k item l w e =
     let n : ℕ = get_or order k 0 in
-    let there = item_there items n item (each_member (λ m. m < length items) order w n (member_at order k l)) e in
+    let there = item_there items n item (each_member (λ m. m < length items) order w n (read_member order k l)) e in
     ap (map (least_at items)) (take_more order k 0 l)
     ∙ map-append (least_at items) (take k order) (n ∷ [])
     ∙ ap (λ z. map (least_at items) (take k order) ++ z ∷ []) (ap least_in there ∙ ap (λ (i : Item). i.least) e)

@@ -44,12 +44,13 @@ pub record IsNumberedBetween (g : Process) (next stop : ℕ) : Type 0 where
   pub stops : stop ≡ next + count
   pub row : leaves g ≡ numbers_from next count
 
-both_rows : (a b : Process) (next middle stop : ℕ) → IsNumberedBetween a next middle → IsNumberedBetween b middle stop → (count : ℕ) × (stop ≡ next + count) × (leaves a ++ leaves b ≡ numbers_from next count)
-both_rows a b next middle stop p q = (
-  p.count + q.count,
-  (let e : middle ≡ next + p.count = p.stops in let f : stop ≡ middle + q.count = q.stops in omega arith),
-  ap (λ xs. xs ++ leaves b) p.row ∙ ap (λ ys. numbers_from next p.count ++ ys) (q.row ∙ ap (λ k. numbers_from k q.count) p.stops) ∙ sym (numbers_from-+ next p.count q.count),
-)
+both_rows : (g a b : Process) (next middle stop : ℕ) → leaves g ≡ leaves a ++ leaves b → IsNumberedBetween a next middle → IsNumberedBetween b middle stop → IsNumberedBetween g next stop
+both_rows g a b next middle stop is p q = record {
+  count = p.count + q.count;
+  stops = let e : middle ≡ next + p.count = p.stops in let f : stop ≡ middle + q.count = q.stops in omega arith;
+  row = is ∙ ap (λ xs. xs ++ leaves b) p.row ∙ ap (λ ys. numbers_from next p.count ++ ys) (q.row ∙ ap (λ k. numbers_from k q.count) p.stops)
+      ∙ sym (numbers_from-+ next p.count q.count);
+}
 
 -- what a step that may fail gave
 pub bound : {A B : Type 0} (o : Option A) (f : A → Option B) (y : B) → option_and_then f o ≡ Some y → (x : A) × (o ≡ Some x) × (f x ≡ Some y)
@@ -62,27 +63,20 @@ task_row n next last stop true true e f h = record { count = 1; stops = sym (sam
 task_row n next last stop true false e f h = cc
 task_row n next last stop false c e f h = cc
 
-two_rows : (a b : Process) (next last stop : ℕ) → ((middle : ℕ) → number_after a next last ≡ Some middle → IsNumberedBetween a next middle) →
+two_rows : (g a b : Process) (next last stop : ℕ) → leaves g ≡ leaves a ++ leaves b → ((middle : ℕ) → number_after a next last ≡ Some middle → IsNumberedBetween a next middle) →
     ((middle : ℕ) → number_after b middle last ≡ Some stop → IsNumberedBetween b middle stop) →
-    option_and_then (λ middle. number_after b middle last) (number_after a next last) ≡ Some stop →
-    (count : ℕ) × (stop ≡ next + count) × (leaves a ++ leaves b ≡ numbers_from next count)
-two_rows a b next last stop p q h =
+    option_and_then (λ middle. number_after b middle last) (number_after a next last) ≡ Some stop → IsNumberedBetween g next stop
+two_rows g a b next last stop is p q h =
     let (m, e, f) = bound (number_after a next last) (λ middle. number_after b middle last) stop h in
-    both_rows a b next m stop (p m e) (q m f)
+    both_rows g a b next m stop is (p m e) (q m f)
 
 -- where the count ends, the leaves are a row up to there
 pub is_row : (g : Process) (next last stop : ℕ) → number_after g next last ≡ Some stop → IsNumberedBetween g next stop
 is_row Empty next last stop h = record { count = 0; stops = sym (same_Some next stop h) ∙ omega arith; row = refl }
 is_row (Task n) next last stop h = task_row n next last stop (nat_eq n next) (nat_lt next last) refl refl h
-is_row (Sequence a b) next last stop h =
-    let r = two_rows a b next last stop (λ m. is_row a next last m) (λ m. is_row b m last stop) h in
-    record { count = r.0; stops = r.1; row = r.2 }
-is_row (Parallel a b) next last stop h =
-    let r = two_rows a b next last stop (λ m. is_row a next last m) (λ m. is_row b m last stop) h in
-    record { count = r.0; stops = r.1; row = r.2 }
-is_row (Choice a b) next last stop h =
-    let r = two_rows a b next last stop (λ m. is_row a next last m) (λ m. is_row b m last stop) h in
-    record { count = r.0; stops = r.1; row = r.2 }
+is_row (Sequence a b) next last stop h = two_rows (Sequence a b) a b next last stop refl (λ m. is_row a next last m) (λ m. is_row b m last stop) h
+is_row (Parallel a b) next last stop h = two_rows (Parallel a b) a b next last stop refl (λ m. is_row a next last m) (λ m. is_row b m last stop) h
+is_row (Choice a b) next last stop h = two_rows (Choice a b) a b next last stop refl (λ m. is_row a next last m) (λ m. is_row b m last stop) h
 is_row (Isolated a) next last stop h =
     let r = is_row a next last stop h in
     record { count = r.count; stops = r.stops; row = r.row }

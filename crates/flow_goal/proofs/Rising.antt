@@ -36,6 +36,16 @@ increasing low high (x ∷ y ∷ ys) h (suc k) lt =
     let next : slice_index (y ∷ ys) (k + 1) ≡ slice_index (x ∷ y ∷ ys) (suc k + 1) = ap (λ i. slice_index (x ∷ y ∷ ys) i) one_on in
     subst (λ n. slice_index (y ∷ ys) k < n) next (increasing (x + 1) high (y ∷ ys) h.1 k below)
 
+-- the leaves of two parts of a resolution rise, where those of each do
+both_rise : (a b x y : Process) (ns : List ℕ) (low count : ℕ) → leaves a ++ leaves b ≡ numbers_from low count → ns ≡ leaves x ++ leaves y →
+    ((low count : ℕ) → leaves a ≡ numbers_from low count → Rises low (leaves x) (low + count)) →
+    ((low count : ℕ) → leaves b ≡ numbers_from low count → Rises low (leaves y) (low + count)) → Rises low ns (low + count)
+both_rise a b x y ns low count e k p q =
+    let r : AreRows (leaves a) (leaves b) low count = rows (leaves a) (leaves b) low count e in
+    subst (λ (ns : List ℕ). Rises low ns (low + count)) (sym k)
+    (rises_higher low (low + r.left + r.right) (low + count) (leaves x ++ leaves y) (let t = r.together in omega arith)
+    (rises-append low (low + r.left) (low + r.left + r.right) (leaves x) (leaves y) (p low r.left r.front_is) (q (low + r.left) r.right r.back_is)))
+
 -- so do the leaves of a resolution, where those of the goal are numbered
 pub resolution_rises : (g q : Process) (low count : ℕ) → leaves g ≡ numbers_from low count → Resolves g q → Rises low (leaves q) (low + count)
 resolution_rises Empty q low count e h = subst (λ p. Rises low (leaves p) (low + count)) (sym h) (omega arith)
@@ -43,17 +53,9 @@ resolution_rises (Task n) q low count e h =
     let o : (n ≡ low) × (count ≡ 1) = one_leaf n low count e in
     subst (λ p. Rises low (leaves p) (low + count)) (sym h) (omega (arith, o.0), omega (arith, o.0, o.1))
 resolution_rises (Sequence a b) q low count e (x, y, hx, hy, k) =
-    let r : AreRows (leaves a) (leaves b) low count = rows (leaves a) (leaves b) low count e in
-    subst (λ p. Rises low (leaves p) (low + count)) (sym k)
-    (rises_higher low (low + r.left + r.right) (low + count) (leaves x ++ leaves y) (let t = r.together in omega arith)
-    (rises-append low (low + r.left) (low + r.left + r.right) (leaves x) (leaves y)
-    (resolution_rises a x low r.left r.front_is hx) (resolution_rises b y (low + r.left) r.right r.back_is hy)))
+    both_rise a b x y (leaves q) low count e (ap leaves k) (λ l c f. resolution_rises a x l c f hx) (λ l c f. resolution_rises b y l c f hy)
 resolution_rises (Parallel a b) q low count e (x, y, hx, hy, k) =
-    let r : AreRows (leaves a) (leaves b) low count = rows (leaves a) (leaves b) low count e in
-    subst (λ p. Rises low (leaves p) (low + count)) (sym k)
-    (rises_higher low (low + r.left + r.right) (low + count) (leaves x ++ leaves y) (let t = r.together in omega arith)
-    (rises-append low (low + r.left) (low + r.left + r.right) (leaves x) (leaves y)
-    (resolution_rises a x low r.left r.front_is hx) (resolution_rises b y (low + r.left) r.right r.back_is hy)))
+    both_rise a b x y (leaves q) low count e (ap leaves k) (λ l c f. resolution_rises a x l c f hx) (λ l c f. resolution_rises b y l c f hy)
 resolution_rises (Choice a b) q low count e (inl h) =
     let r : AreRows (leaves a) (leaves b) low count = rows (leaves a) (leaves b) low count e in
     rises_higher low (low + r.left) (low + count) (leaves q) (let t = r.together in omega arith) (resolution_rises a q low r.left r.front_is h)

@@ -5,7 +5,7 @@ use Rattle.flow_model.specs.Process.{Process, Empty, Task, Sequence, Parallel, C
 use Rattle.std.proofs.lemmas.Option.{same_Some}
 use Rattle.flow_model.specs.Resolution.{resolutions, resolution_count}
 use Rattle.flow_laws.proofs.ResolutionsLemmas.{length-resolutions}
-use Rattle.flow_model.specs.Trace.{Blocks, Shuffle, Trace, both_end, from_left, from_right, as_one}
+use Rattle.flow_model.specs.Trace.{Blocks, Shuffle, both_end, from_left, from_right, as_one}
 use Rattle.flow_goal.specs.declared.shape.Shape.TheVariants.{Simple}
 use Rattle.flow_goal.specs.Shapes.{is_empty, isolated, shaped}
 use Rattle.flow_goal.specs.Sides.{sides_in}

@@ -1,10 +1,10 @@
 -- Resolutions that are written from right to left.
 use Rattle.std.proofs.Common.{◌≡◌, ◌≤◌, ◌<◌, ℕ, ◌+◌, ◌-◌, ◌/◌, ◌%◌, List, [], ◌∷◌, ◌++◌, reverse, sym, ap, ◌∙◌, subst, arith, append_assoc, append-nil, refl, slice_get, Some, None, Result, Ok, Err, OnOk}
 use Rattle.std.proofs.Math.Nat.{mod-eq_of_lt, mod-lt}
-use Rattle.flow_model.specs.Process.{Process, Empty, Task, Sequence, Parallel, Isolated, leaves}
+use Rattle.flow_model.specs.Process.{Process, Task, Sequence, Parallel, Isolated, leaves}
 use Rattle.flow_model.specs.Resolution.{resolution_count, resolutions}
 use Rattle.flow_goal.specs.declared.node.Node.{Node}
-use Rattle.flow_goal.specs.declared.node.Node.TheVariants.{Nop, Leaf, Serial, Fork, Split, Join, Open, Close}
+use Rattle.flow_goal.specs.declared.node.Node.TheVariants.{Leaf, Serial, Fork, Split, Join, Open, Close}
 use Rattle.std.specs.Option.{option_to_list}
 use Rattle.flow_goal.specs.declared.backwards.Backwards.{Backwards}
 use Rattle.flow_goal.specs.declared.backwards.Marks.{Marks}

@@ -1,14 +1,11 @@
 -- What is read from the nodes of a goal.
-use Rattle.std.proofs.Common.{◌≡◌, ℕ, ◌+◌, ◌<◌, ◌≤◌, zero, suc, get_or, List, [], ◌∷◌, ◌++◌, length, drop, map, reverse, Some, slice_get, refl, sym, ◌∙◌, ap, subst, append_assoc, append-nil, zero-add, add-zero, length-append, arith}
-use Rattle.std.proofs.lemmas.List.{map-append, reverse-append}
-use Rattle.flow_goal.specs.declared.goal.Goal.{Goal}
-use Rattle.flow_goal.specs.Goal.{process_of}
+use Rattle.std.proofs.Common.{◌≡◌, ℕ, ◌+◌, ◌<◌, ◌≤◌, zero, suc, get_or, List, [], ◌∷◌, ◌++◌, length, drop, Some, slice_get, refl, sym, ◌∙◌, ap, subst, append_assoc, append-nil, zero-add, add-zero, length-append, arith}
 use Rattle.flow_goal.specs.Written.{IsWritten}
 use Rattle.std.specs.List.Sorted.{IsStrictlyIncreasing}
 use Rattle.flow_model.specs.Process.{Process, Empty, Task, Sequence, Parallel, Choice, Isolated, leaves, IsChoiceFree}
 use Rattle.flow_goal.specs.declared.node.Node.{Node}
 use Rattle.flow_goal.specs.declared.node.Node.TheVariants.{Serial, Fork, Split, Join, Open, Close}
-use Rattle.flow_goal.specs.Written.{nodes_of, leaf_of, read_on, goals_on}
+use Rattle.flow_goal.specs.Written.{nodes_of, leaf_of, read_on}
 
 -- the leaves from the place on begin with those
 abbrev pub StandAt : List ℕ → ℕ → List ℕ → Type 0

@@ -7,7 +7,7 @@ use Rattle.flow_model.specs.Process.{leaves}
 use Rattle.flow_laws.specs.Words.{EachTwo}
 use Rattle.flow_laws.proofs.Members.{each_member, each_to}
 use Rattle.flow_laws.proofs.OrdersByTwo.{pairs_suffice_for_orders}
-use Rattle.flow_laws.proofs.ReadyRuns.{same_ready, same_run}
+use Rattle.flow_laws.proofs.ReadyRuns.{same_run}
 use Rattle.flow_plan.specs.declared.progress.Progress.{Progress}
 use Rattle.flow_plan.specs.Planned.{Planned, pairs_of}
 use Rattle.flow_plan.specs.Progress.{is_done, IsDone, bound_of}

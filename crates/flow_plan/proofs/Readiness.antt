@@ -1,6 +1,5 @@
 -- Readiness, by rows of bits.
-use Rattle.std.proofs.Common.{◌≡◌, ◌≢◌, ℕ, ◌<◌, ◌≤◌, Bool, false, nat_lt, ◌↔◌, IsTrue, List, length, get_or, Some, slice_get, ⊎_elim, sym, subst, arith}
-use Rattle.std.proofs.lemmas.Bool.{le-ltb}
+use Rattle.std.proofs.Common.{◌≡◌, ◌≢◌, ℕ, ◌<◌, ◌↔◌, IsTrue, List, length, get_or, Some, slice_get, ⊎_elim, subst}
 use Rattle.std.specs.List.Sorted.{IsStrictlyIncreasing}
 use Rattle.leaf_rows.specs.Leaves.{has_leaf}
 use Rattle.leaf_rows.specs.declared.leaf_set.LeafSet.{LeafSet}
@@ -9,7 +8,7 @@ use Rattle.flow_model.specs.Process.{leaves, IsChoiceFree}
 use Rattle.flow_model.specs.Ready.{DirectlyBefore, IsReady}
 use Rattle.flow_laws.specs.Words.{AreOfLeaves, IsOrdered}
 use Rattle.flow_laws.proofs.Members.{each_member, each_from_members}
-use Rattle.flow_laws.proofs.ReadyRuns.{direct_first, direct_second}
+use Rattle.flow_laws.proofs.ReadyRuns.{direct_second}
 use Rattle.flow_plan.specs.declared.part_row.PartRow.{PartRow}
 use Rattle.flow_plan.specs.Planned.{Planned, pairs_of}
 use Rattle.flow_plan.specs.Rows.{AreRowsOf, has_at}

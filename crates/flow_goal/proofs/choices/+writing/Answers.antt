@@ -1,4 +1,4 @@
-use Rattle.std.proofs.Common.{rules, ◌≡◌, ◌∙◌, ◌+◌, ◌-◌, ◌/◌, ◌%◌, [], ◌∷◌, sym, ap, subst, arith}
+use Rattle.std.proofs.Common.{rules, ◌≡◌, ◌∙◌, ◌+◌, ◌-◌, ◌/◌, ◌%◌, sym, ap, subst, arith}
 use Rattle.flow_goal.specs.declared.goal.Goal.{Goal}
 use Rattle.flow_model.specs.Resolution.{resolution_count}
 use Rattle.flow_goal.specs.Goal.{process_of}
