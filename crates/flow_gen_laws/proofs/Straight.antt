@@ -10,7 +10,7 @@ use Rattle.flow_laws.proofs.MadeLists.{joined-append}
 use Rattle.flow_laws.proofs.TraceLeaves.{joined-as_one}
 use Rattle.flow_laws.proofs.ResolutionsLemmas.{mem-resolutions}
 use Rattle.flow_goal.proofs.Rising.{Rises}
-use Rattle.flow_laws.proofs.EventsLemmas.{shuffle-append}
+use Rattle.flow_laws.proofs.Shuffles.{shuffle-append}
 
 -- they are one of its traces
 pub straight : (q : Process) → IsChoiceFree q → Trace q (leaves q)
