@@ -10,7 +10,6 @@ use Rattle.flow_laws.proofs.MadeLists.{joined-append}
 use Rattle.flow_laws.proofs.TraceLeaves.{joined-as_one}
 use Rattle.flow_laws.proofs.ResolutionsLemmas.{mem-resolutions}
 use Rattle.flow_goal.proofs.Rising.{Rises}
-use Rattle.flow_laws.proofs.Shuffles.{shuffle-append}
 
 -- a goal has a resolution
 one_resolution : (g : Process) → (q : Process) × Resolves g q

@@ -85,7 +85,7 @@ together_differ (Isolated a) d m n h = together_differ a d m n h
 -- Leaves of one execution
 
 -- of two leaves of an execution the one is together with the other, on its left or its right
-abbrev pub AreAllTogether : Process → Type 0
+abbrev AreAllTogether : Process → Type 0
 AreAllTogether g = (bs : List (List ℕ)) → Blocks g bs → (m n : ℕ) → m ∈ joined bs → n ∈ joined bs → m ≢ n → AreTogether g m n ⊎ AreTogether g n m
 
 together_in_halves : (a b : Process) → AreAllTogether a → AreAllTogether b → AreAllTogether (Parallel a b)
@@ -98,7 +98,8 @@ together_in_halves a b in_a in_b bs (x, y, hx, hy, s) m n i j d =
     cases (inr k) (inl l) = inr (inl (inl (leaf_of_blocks a x hx n l, leaf_of_blocks b y hy m k)))
     cases (inr k) (inr l) = ⊎_elim (λ t. inl (inr t)) (λ t. inr (inr t)) (in_b y hy m n k l d)
 
-pub are_together : (g : Process) → AreAllTogether g
+pub are_together : (g : Process) (bs : List (List ℕ)) → Blocks g bs → (m n : ℕ) → m ∈ joined bs → n ∈ joined bs → m ≢ n →
+    AreTogether g m n ⊎ AreTogether g n m
 are_together Empty bs h m n i j d = absurd (subst (λ w. m ∈ joined w) h i)
 are_together (Task k) bs h m n i j d =
     absurd (d (only_one m k (subst (λ w. m ∈ joined w) h i) ∙ sym (only_one n k (subst (λ w. n ∈ joined w) h j))))

@@ -141,12 +141,12 @@ distinct_apart [] b d x h k = h
 distinct_apart (y ∷ a) b d x (inl e) k = d.0 (mem_append_right y a b (subst (λ z. z ∈ b) e k))
 distinct_apart (y ∷ a) b d x (inr h) k = distinct_apart a b d.1 x h k
 
-pub distinct-append : {A : Type 0} (a b : List A) → AreDistinct a → AreDistinct b → Apart a b → AreDistinct (a ++ b)
+pub distinct-append : {A : Type 0} (a b : List A) → AreDistinct a → AreDistinct b → ((x : A) → x ∈ a → ¬ (x ∈ b)) → AreDistinct (a ++ b)
 distinct-append [] b d e f = e
 distinct-append (x ∷ a) b d e f =
     (λ h. ⊎_elim d.0 (f x (inl refl)) (mem-append x a b h), distinct-append a b d.1 e (λ y k. f y (inr k)))
 
-pub distinct_parts : {A : Type 0} (a b : List A) → AreDistinct (a ++ b) → AreDistinct a × AreDistinct b × Apart a b
+pub distinct_parts : {A : Type 0} (a b : List A) → AreDistinct (a ++ b) → AreDistinct a × AreDistinct b × ((x : A) → x ∈ a → ¬ (x ∈ b))
 distinct_parts a b d = (distinct_left a b d, distinct_right a b d, distinct_apart a b d)
 
 pub distinct_swap : {A : Type 0} (a b : List A) → AreDistinct (a ++ b) → AreDistinct (b ++ a)
