@@ -5,7 +5,8 @@ use Rattle.std.specs.Cmp.Lexicographic.{bytes_decides}
 use Rattle.flow_model.specs.declared.labels.Label.{Label}
 use Rattle.flow_model.specs.Lists.{Each}
 use Rattle.flow_model.specs.Facts.{event_in, event_at}
-use Rattle.flow_laws.proofs.ListLemmas2.{each-append, some_same}
+use Rattle.flow_laws.proofs.Members.{each-append}
+use Rattle.flow_laws.proofs.MadeLists.{some_same}
 use Rattle.flow_facts.specs.Atom.{Atom}
 use Rattle.flow_form.specs.Form.{Shape, Shapes}
 use Rattle.flow_form.specs.Script.{Said, Declared}

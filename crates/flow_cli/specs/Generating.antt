@@ -1,6 +1,6 @@
 -- What `gen` writes.
 use Rattle.std.specs.Prelude.{◌≡◌, ℕ, List}
-use Rattle.flow_print.specs.Printed.{printed}
+use Rattle.flow_text.specs.Printed.{printed}
 use Rattle.flow_gen.specs.Generated.{generated}
 use Rattle.flow_cli.specs.declared.status.Status.{Status}
 use Rattle.flow_cli.specs.declared.status.Status.TheVariants.{Fine}

@@ -79,7 +79,7 @@ fn respond<R: Threads + Wait + Sync, S: Source, G: Gate>(
     law_one_request();
     match request_of(alloc, words)? {
         Some(request) => answer(rt, alloc, request, source, gate),
-        None => refuse(alloc, &Refused::Words, None),
+        None => refuse(alloc, Refused::Words, None),
     }
 }
 

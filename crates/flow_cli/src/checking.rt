@@ -15,10 +15,14 @@ fn check_workflow(alloc: Global, workflow: &Workflow) -> Result<Output, AllocErr
     ensures { IfOk result (λ output. ChecksWorkflow workflow.now output.status output.text.items) }
 {
     match compile(alloc, workflow.tree(), workflow.rules()) {
-        Ok(compiled) => Ok(Output {
-            status: Status::Fine,
-            text: print_check(alloc, workflow, &compiled.counts())?,
-        }),
+        Ok(compiled) => {
+            let text = print_check(alloc, workflow, &compiled.counts());
+            drop(compiled);
+            Ok(Output {
+                status: Status::Fine,
+                text: text?,
+            })
+        }
         Err(refusal) => refuse_workflow(alloc, refusal),
     }
 }
@@ -33,7 +37,11 @@ impl ScriptMode for Check {
 
     fn answer(&self, alloc: Global, script: &Script, _text: &[u8]) -> Result<Output, AllocError> {
         match expand(alloc, script) {
-            Ok(workflow) => check_workflow(alloc, &workflow),
+            Ok(workflow) => {
+                let output = check_workflow(alloc, &workflow);
+                drop(workflow);
+                output
+            }
             Err(refusal) => refuse_script(alloc, refusal, script),
         }
     }

@@ -25,7 +25,10 @@ fn drive_workflow(
 {
     match compile(alloc, workflow.tree(), workflow.rules()) {
         Ok(compiled) => run(alloc, workflow, compiled, session, steps),
-        Err(refusal) => refuse_workflow(alloc, refusal),
+        Err(refusal) => {
+            drop(workflow);
+            refuse_workflow(alloc, refusal)
+        }
     }
 }
 
@@ -64,7 +67,7 @@ impl ScriptMode for Drive {
         match read_session(alloc, text) {
             Ok(session) => drive_script(alloc, script, &session, self.steps),
             Err(RecordRefusal::NoMemory) => Err(AllocError),
-            Err(refusal) => refuse(alloc, &Refused::Record(refusal), None),
+            Err(refusal) => refuse(alloc, Refused::Record(refusal), None),
         }
     }
 }

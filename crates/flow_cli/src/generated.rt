@@ -47,10 +47,27 @@ pub(crate) fn generated_workflow(
     requires few { size ≤ 128 }
     ensures { IfOk result (IsExpanded (generated seed size)) }
 {
+    let script = generated_script(alloc, seed, size)?;
+    let workflow = expand_generated(alloc, &script, seed, size);
+    drop(script);
+    workflow
+}
+
+/// The workflow that the script says.
+fn expand_generated(
+    alloc: Global,
+    script: &Script,
+    seed: u32,
+    size: u32,
+) -> Result<Workflow, AllocError>
+    requires script { said script.now ≡ generated seed size }
+    requires some { 1 ≤ size }
+    requires few { size ≤ 128 }
+    ensures { IfOk result (IsExpanded (generated seed size)) }
+{
     law_generated_texts_are_read();
     law_generated_workflows_are_expanded();
-    let script = generated_script(alloc, seed, size)?;
-    match expand(alloc, &script) {
+    match expand(alloc, script) {
         Ok(workflow) => Ok(workflow),
         Err(refusal) => match refusal {
             ExpandRefusal::NoMemory => Err(AllocError),

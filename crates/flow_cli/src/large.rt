@@ -48,7 +48,13 @@ impl<'a, R: Threads + Wait + Sync, G: Gate> Crew<'a, R, G> {
         ensures of_input { IfOk result (λ output. IsOfInput output.status) }
     {
         let workflow = generated_workflow(alloc, seed, size)?;
-        let compiled = compile_generated(alloc, &workflow, seed, size)?;
+        let compiled = match compile_generated(alloc, &workflow, seed, size) {
+            Ok(compiled) => compiled,
+            Err(refusal) => {
+                drop(workflow);
+                return Err(refusal);
+            }
+        };
         let counts = compiled.counts();
         let (core, verdict) = self.run(alloc, workflow, compiled)?;
         let summary = summary_of(&core, &counts, seed, size, verdict);

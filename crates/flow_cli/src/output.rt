@@ -54,15 +54,18 @@ fn status_of(refused: &Refused) -> Status
 /// A refusal as output, the events by the names that the script declares.
 pub fn refuse(
     alloc: Global,
-    refused: &Refused,
+    refused: Refused,
     script: Option<&Script>,
 ) -> Result<Output, AllocError>
-    requires { IsTold (named_by script) refused.now }
-    ensures { IfOk result (λ output. Tells (named_by script.entry) refused.now output.status output.text.items) }
+    requires { IsTold (named_by script) refused }
+    ensures { IfOk result (λ output. Tells (named_by script.entry) refused output.status output.text.items) }
 {
+    let status = status_of(&refused);
+    let text = print_refused(alloc, &refused, script);
+    drop(refused);
     Ok(Output {
-        status: status_of(refused),
-        text: print_refused(alloc, refused, script)?,
+        status,
+        text: text?,
     })
 }
 
@@ -77,7 +80,7 @@ pub fn refuse_script(
 {
     match refusal {
         ExpandRefusal::NoMemory => Err(AllocError),
-        refusal => refuse(alloc, &Refused::Expand(refusal), Some(script)),
+        refusal => refuse(alloc, Refused::Expand(refusal), Some(script)),
     }
 }
 
@@ -87,6 +90,6 @@ pub fn refuse_workflow(alloc: Global, refusal: CompileRefusal) -> Result<Output,
 {
     match refusal {
         CompileRefusal::NoMemory => Err(AllocError),
-        refusal => refuse(alloc, &Refused::Compile(refusal), None),
+        refusal => refuse(alloc, Refused::Compile(refusal), None),
     }
 }

@@ -9,7 +9,8 @@ use crate::output::{Output, refuse};
 use crate::status::Status;
 use flow_form::Script;
 use flow_io::{ReadRefusal, Source, read_all};
-use flow_reply::{Refused, cut};
+use flow_record::cut;
+use flow_reply::Refused;
 use flow_text::{TextRefusal, parse};
 use std::alloc::{AllocError, Global};
 
@@ -39,9 +40,13 @@ fn answer_input<M: ScriptMode>(alloc: Global, mode: &M, input: &[u8]) -> Result<
 {
     let (end, second) = cut(input);
     match parse(alloc, &input[..end]) {
-        Ok(script) => mode.answer(alloc, &script, &input[second..]),
+        Ok(script) => {
+            let output = mode.answer(alloc, &script, &input[second..]);
+            drop(script);
+            output
+        }
         Err(TextRefusal::NoMemory) => Err(AllocError),
-        Err(refusal) => refuse(alloc, &Refused::Text(refusal), None),
+        Err(refusal) => refuse(alloc, Refused::Text(refusal), None),
     }
 }
 
@@ -60,8 +65,8 @@ pub(crate) fn answer_source<S: Source, M: ScriptMode>(
 {
     match read_all(alloc, source, GREATEST_INPUT) {
         Ok(input) => answer_input(alloc, mode, &input),
-        Err(ReadRefusal::ReadFault) => refuse(alloc, &Refused::Read, None),
-        Err(ReadRefusal::TooLong) => refuse(alloc, &Refused::TooLong, None),
+        Err(ReadRefusal::ReadFault) => refuse(alloc, Refused::Read, None),
+        Err(ReadRefusal::TooLong) => refuse(alloc, Refused::TooLong, None),
         Err(ReadRefusal::NoMemory) => Err(AllocError),
     }
 }

@@ -18,7 +18,8 @@ use flow_expand::{Workflow, expand};
 use flow_form::Script;
 use flow_gate::Gate;
 use flow_io::{ReadRefusal, Source, read_all};
-use flow_reply::{Refused, Verdict, cut, print_report};
+use flow_record::cut;
+use flow_reply::{Refused, Verdict, print_report};
 use flow_text::{TextRefusal, parse};
 use std::alloc::{AllocError, Global};
 use std::sync::Wait;
@@ -92,7 +93,10 @@ impl<'a, R: Threads + Wait + Sync, G: Gate> Crew<'a, R, G> {
     {
         match compile(alloc, workflow.tree(), workflow.rules()) {
             Ok(compiled) => self.report(alloc, workflow, compiled),
-            Err(refusal) => refuse_workflow(alloc, refusal),
+            Err(refusal) => {
+                drop(workflow);
+                refuse_workflow(alloc, refusal)
+            }
         }
     }
 
@@ -117,9 +121,13 @@ impl<'a, R: Threads + Wait + Sync, G: Gate> Crew<'a, R, G> {
     {
         let (end, _) = cut(input);
         match parse(alloc, &input[..end]) {
-            Ok(script) => self.run_script(alloc, &script),
+            Ok(script) => {
+                let output = self.run_script(alloc, &script);
+                drop(script);
+                output
+            }
             Err(TextRefusal::NoMemory) => Err(AllocError),
-            Err(refusal) => refuse(alloc, &Refused::Text(refusal), None),
+            Err(refusal) => refuse(alloc, Refused::Text(refusal), None),
         }
     }
 
@@ -139,8 +147,8 @@ impl<'a, R: Threads + Wait + Sync, G: Gate> Crew<'a, R, G> {
     {
         match read_all(alloc, source, GREATEST_INPUT) {
             Ok(input) => self.run_input(alloc, &input),
-            Err(ReadRefusal::ReadFault) => refuse(alloc, &Refused::Read, None),
-            Err(ReadRefusal::TooLong) => refuse(alloc, &Refused::TooLong, None),
+            Err(ReadRefusal::ReadFault) => refuse(alloc, Refused::Read, None),
+            Err(ReadRefusal::TooLong) => refuse(alloc, Refused::TooLong, None),
             Err(ReadRefusal::NoMemory) => Err(AllocError),
         }
     }

@@ -28,7 +28,9 @@ fn trace_leaves(alloc: Global, workflow: &Workflow, leaves: &[u32]) -> Result<Ou
 {
     match compile(alloc, workflow.tree(), workflow.rules()) {
         Ok(compiled) => {
-            let checked = check_trace(alloc, workflow, &compiled, leaves)?;
+            let checked = check_trace(alloc, workflow, &compiled, leaves);
+            drop(compiled);
+            let checked = checked?;
             Ok(Output {
                 status: status_of_checked(checked),
                 text: print_checked(alloc, checked)?,
@@ -45,7 +47,7 @@ fn trace_workflow(alloc: Global, workflow: &Workflow, text: &[u8]) -> Result<Out
     match read_journal(alloc, workflow, text) {
         Ok(leaves) => trace_leaves(alloc, workflow, &leaves),
         Err(RecordRefusal::NoMemory) => Err(AllocError),
-        Err(refusal) => refuse(alloc, &Refused::Record(refusal), None),
+        Err(refusal) => refuse(alloc, Refused::Record(refusal), None),
     }
 }
 
@@ -59,7 +61,11 @@ impl ScriptMode for Trace {
 
     fn answer(&self, alloc: Global, script: &Script, text: &[u8]) -> Result<Output, AllocError> {
         match expand(alloc, script) {
-            Ok(workflow) => trace_workflow(alloc, &workflow, text),
+            Ok(workflow) => {
+                let output = trace_workflow(alloc, &workflow, text);
+                drop(workflow);
+                output
+            }
             Err(refusal) => refuse_script(alloc, refusal, script),
         }
     }

@@ -4,7 +4,7 @@ ghost use Rattle.flow_model.specs.Schema.{Schema};
 ghost use Rattle.flow_form.specs.Script.{said, asked};
 ghost use Rattle.flow_form.specs.Names.{IsClosed};
 ghost use Rattle.flow_grammar.specs.Roles.{used_in_rules, query_roles};
-ghost use Rattle.flow_names.specs.Good.{AsksOfEvents};
+ghost use Rattle.flow_text.specs.GoodNames.{AsksOfEvents};
 ghost use Rattle.flow_rules.specs.Rule.{rule_of};
 ghost use Rattle.flow_excise.specs.Compilation as compilation;
 ghost use Rattle.flow_verify.specs.declared.refusal.VerifyRefusal.TheVariants.{NoRule};
@@ -51,7 +51,7 @@ fn refuse_count(alloc: Global, refusal: CompileRefusal) -> Result<Output, AllocE
     requires { IsOfCounts refusal }
     ensures { IfOk result (λ output. (w : Schema) → compilation.IsRefused w refusal → IsTooLarge w output.status output.text.items) }
 {
-    refuse(alloc, &Refused::Compile(refusal), None)
+    refuse(alloc, Refused::Compile(refusal), None)
 }
 
 /// Why nothing is told of a property or a constraint, as output.
@@ -69,7 +69,7 @@ fn refuse_trial(alloc: Global, refusal: VerifyRefusal) -> Result<Output, AllocEr
         VerifyRefusal::TooBulky { count } => {
             refuse_count(alloc, CompileRefusal::TooBulky { count })
         }
-        VerifyRefusal::NoRule { index } => refuse(alloc, &Refused::NoRule(index), None),
+        VerifyRefusal::NoRule { index } => refuse(alloc, Refused::NoRule(index), None),
         VerifyRefusal::NoMemory => Err(AllocError),
     }
 }
@@ -116,7 +116,9 @@ fn verify_workflow(alloc: Global, workflow: &Workflow, query: &Query) -> Result<
     match query {
         Query::Holds(property) => {
             let rule = rule_of(alloc, property, workflow)?;
-            verify_property(alloc, workflow, &rule)
+            let output = verify_property(alloc, workflow, &rule);
+            drop(rule);
+            output
         }
         Query::Redundant(index) => verify_constraint(alloc, workflow, *index),
     }
@@ -129,7 +131,11 @@ fn verify_script(alloc: Global, script: &Script, query: &Query) -> Result<Output
     ensures { IfOk result (λ output. VerifiesSaid (said script.now) (asked query.now) output.status output.text.items) }
 {
     match expand(alloc, script) {
-        Ok(workflow) => verify_workflow(alloc, &workflow, query),
+        Ok(workflow) => {
+            let output = verify_workflow(alloc, &workflow, query);
+            drop(workflow);
+            output
+        }
         Err(refusal) => refuse_script(alloc, refusal, script),
     }
 }
@@ -145,9 +151,13 @@ impl ScriptMode for Verify {
     // the text is read first
     fn answer(&self, alloc: Global, script: &Script, text: &[u8]) -> Result<Output, AllocError> {
         match parse_query(alloc, text, script) {
-            Ok(query) => verify_script(alloc, script, &query),
+            Ok(query) => {
+                let output = verify_script(alloc, script, &query);
+                drop(query);
+                output
+            }
             Err(TextRefusal::NoMemory) => Err(AllocError),
-            Err(refusal) => refuse(alloc, &Refused::Query(refusal), None),
+            Err(refusal) => refuse(alloc, Refused::Query(refusal), None),
         }
     }
 }

@@ -14,7 +14,7 @@ use Rattle.flow_workflow.specs.Definition.{Definition, schema_of}
 use Rattle.flow_expand.specs.declared.refusal.ExpandRefusal.{ExpandRefusal}
 use Rattle.flow_expand.specs.declared.refusal.ExpandRefusal.TheVariants as refusal
 use Rattle.flow_expand.specs.declared.refusal.Part.TheVariants as part
-use Rattle.flow_expand.specs.Expansion.{Expansion, size_of, kept}
+use Rattle.flow_expand.specs.Expansion.{Expansion, size_of, capped}
 use Rattle.flow_expand.specs.Numbers.{facts_of, labelled_of}
 use Rattle.flow_expand.specs.Refusals.{flow_count, rule_name_count, IsFinite, IsFitting, HasManyFlows, HasRecursion, HasLargeGoal, HasManyRuleNames, HasRepetition, IsRefusal}
 use Rattle.flow_expand.specs.Workflows.{definition_of, IsExpanded}
@@ -108,7 +108,7 @@ module _ (s : Said) (once : AreDistinct (declared_names s.decls)) where
 
   goals_counted : (n m : ℕ) → HasLargeGoal s n → HasLargeGoal s m → n ≡ m
   goals_counted n m h g =
-      h.counted ∙ ap (λ (e : Expansion). kept (size_of e)) (becomes_one s.decls once s.goal h.expansion g.expansion h.becomes g.becomes) ∙ sym g.counted
+      h.counted ∙ ap (λ (e : Expansion). capped (size_of e)) (becomes_one s.decls once s.goal h.expansion g.expansion h.becomes g.becomes) ∙ sym g.counted
 
   pairs_found : (a b : Twice) → HasRepetition s a → HasRepetition s b → a ≡ b
   pairs_found a b h g =

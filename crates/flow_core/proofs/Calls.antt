@@ -12,7 +12,7 @@ use Rattle.flow_model.specs.Facts.{event_at, is_event}
 use Rattle.flow_model.specs.Run.{Claim, RunState, claim_at, leaf_of_claim}
 use Rattle.flow_model.specs.Verdict.{call_of, event_of_claim, note_of, attempts}
 use Rattle.flow_laws.specs.Histories.{IsSound}
-use Rattle.flow_laws.proofs.ListLemmas2.{cons_same}
+use Rattle.flow_laws.proofs.Members.{cons_same}
 use Rattle.flow_laws.proofs.ClaimLemmas.{number_of, leaf_of_claim_is}
 use Rattle.flow_workflow.specs.Definition.{Definition, schema_of}
 use Rattle.flow_workflow.specs.Numbers.{IsKnown}

@@ -5,8 +5,8 @@ use Rattle.flow_model.specs.Schema.{Schema}
 use Rattle.flow_model.specs.Run.{RunState, current_leaves, IsFree, MayFollow, MayAllFollow, MayFollowFirst}
 use Rattle.flow_laws.specs.Words.{IsWellFormed}
 use Rattle.flow_laws.specs.Histories.{IsSound}
-use Rattle.flow_laws.proofs.ListLemmas1.{split_at}
-use Rattle.flow_laws.proofs.ListLemmas2.{mem_append_left, each_from_members, distinct-numbers_from, numbers_from_below, same_order, begins_front}
+use Rattle.flow_laws.proofs.Members.{split_at, mem_append_left, each_from_members}
+use Rattle.flow_laws.proofs.MadeLists.{distinct-numbers_from, numbers_from_below, same_order, begins_front}
 use Rattle.flow_laws.proofs.TraceLeaves.{leaf_of_trace, distinct_trace}
 use Rattle.flow_excise.proofs.RingLemmas.{at_most}
 use Rattle.flow_residual.specs.Remaining.{Remaining, IsOf, MayComeNext}

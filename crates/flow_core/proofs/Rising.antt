@@ -3,7 +3,7 @@ use Rattle.std.proofs.Common.{◌≡◌, ◌≢◌, ℕ, ◌+◌, ◌<◌, List,
 use Rattle.flow_model.specs.Lists.{◌∈◌}
 use Rattle.flow_model.specs.Decided.{decide_eq}
 use Rattle.flow_model.specs.Verdict.{AreJust}
-use Rattle.flow_laws.proofs.ListLemmas2.{mem_append_left, mem_append_right, mem-append}
+use Rattle.flow_laws.proofs.Members.{mem_append_left, mem_append_right, mem-append}
 
 -- it is below the bound, and has P
 abbrev pub Below : (ℕ → Type 0) → ℕ → ℕ → Type 0

@@ -10,8 +10,8 @@ use Rattle.flow_model.specs.Facts.{event_at}
 use Rattle.flow_model.specs.Schema.{Schema}
 use Rattle.flow_model.specs.Run.{Claim, RunState, state_of, claim_at, current_claims, current_leaves, leaf_of_claim, is_current, is_lapsed, IsCurrent, IsLapsed, IsFree, CanTake, CanDoAside}
 use Rattle.flow_laws.specs.Histories.{IsSound}
-use Rattle.flow_laws.proofs.ListLemmas1.{mem_here, decide_in}
-use Rattle.flow_laws.proofs.ListLemmas2.{cons_same, some_same, each_member}
+use Rattle.flow_laws.proofs.Members.{mem_here, decide_in, cons_same, each_member}
+use Rattle.flow_laws.proofs.MadeLists.{some_same}
 use Rattle.flow_laws.proofs.ClaimLemmas.{number_of, some_claim, claim_in, and_parts}
 use Rattle.flow_laws.proofs.SoundStates.{taken_of_current}
 use Rattle.flow_workflow.specs.Definition.{Definition, schema_of}

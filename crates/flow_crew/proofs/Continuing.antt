@@ -9,7 +9,7 @@ use Rattle.flow_model.specs.declared.history.Step.{Step}
 use Rattle.flow_model.specs.declared.history.Step.TheVariants.{Took, Done, Failed, Late, Did, Rewound, Committed}
 use Rattle.flow_model.specs.Lists.{Each}
 use Rattle.flow_model.specs.Verdict.{call_of}
-use Rattle.flow_laws.proofs.ListLemmas2.{each-append}
+use Rattle.flow_laws.proofs.Members.{each-append}
 use Rattle.flow_core.specs.declared.next.Next.TheVariants as next
 use Rattle.flow_core.specs.declared.refusal.RewindRefusal.{RewindRefusal}
 use Rattle.flow_core.specs.declared.refusal.RewindRefusal.TheVariants as rewind

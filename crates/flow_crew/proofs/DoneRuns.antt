@@ -20,7 +20,8 @@ use Rattle.flow_model.specs.Run.{Claim, RunState, first_state, state_of, next_st
 use Rattle.flow_model.specs.Verdict.{EndsKept, IsRunStep, call_of, attempts, event_of_claim}
 use Rattle.flow_laws.specs.Words.{IsWellFormed, IsConsistent}
 use Rattle.flow_laws.specs.Histories.{IsSound, NeverWaits}
-use Rattle.flow_laws.proofs.ListLemmas2.{each-append, each_parts, each_member, of_find, same_order}
+use Rattle.flow_laws.proofs.Members.{each-append, each_parts, each_member}
+use Rattle.flow_laws.proofs.MadeLists.{of_find, same_order}
 use Rattle.flow_laws.proofs.TraceLeaves.{distinct_trace}
 use Rattle.flow_laws.proofs.OptionsLemmas.{distinct_leaves}
 use Rattle.flow_laws.proofs.ClaimLemmas.{leaf_of, is_of, and_parts, some_claim, leaf_of_claim_is}

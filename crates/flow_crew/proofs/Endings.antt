@@ -9,8 +9,7 @@ use Rattle.flow_model.specs.Schema.{Schema}
 use Rattle.flow_model.specs.Run.{first_state, state_of, leaf_of_claim, IsLegal, IsOpenIndex, IsStuck, is_current, claim_at, current_claims, RunState, IsCurrent}
 use Rattle.flow_model.specs.Verdict.{Verdict, EndsKept, HasNoOpenIndex, IsRunVerdict, committed, spent, no_other, stuck, unfinished}
 use Rattle.flow_model.specs.Decided.{Decided}
-use Rattle.flow_laws.proofs.ListLemmas1.{last_of}
-use Rattle.flow_laws.proofs.ListLemmas2.{not_empty}
+use Rattle.flow_laws.proofs.Members.{last_of, not_empty}
 use Rattle.flow_laws.proofs.ClaimLemmas.{some_claim, claim_in}
 use Rattle.flow_core.specs.Run.{Run, schema, now, GoesOn, HasSteps}
 use Rattle.flow_core.specs.declared.next.Next.{Next}

@@ -5,7 +5,7 @@ use Rattle.std.proofs.lemmas.List.{take_all, take_min}
 use Rattle.flow_model.specs.Process.{Process, leaves}
 use Rattle.flow_model.specs.Resolution.{resolution_count, resolutions}
 use Rattle.flow_model.specs.Ways.{Normal, leaf_of_event}
-use Rattle.flow_laws.proofs.ListLemmas2.{some_same}
+use Rattle.flow_laws.proofs.MadeLists.{some_same}
 use Rattle.flow_laws.proofs.ResolutionsLemmas.{length-resolutions}
 use Rattle.flow_goal.specs.Labelled.{Labelled}
 use Rattle.flow_rules.specs.declared.lanes.Lanes.{Lanes}

@@ -1,8 +1,8 @@
 -- What the options of a workflow have, and what follows when all were looked at.
 use Rattle.std.proofs.lemmas.Bool.{eqb-true, eq-eqb}
-use Rattle.std.proofs.Common.{true≢false, ◌==◌, ◌≡◌, ◌≢◌, ℕ, ◌+◌, ◌<◌, ◌≤◌, true, false, List, [], ◌∷◌, ◌++◌, length, map, refl, sym, ap, ◌∙◌, subst, inl, inr, arith}
+use Rattle.std.proofs.Common.{true≢false, ◌==◌, ◌≡◌, ◌≢◌, ℕ, ◌+◌, ◌<◌, ◌≤◌, true, false, List, [], ◌∷◌, ◌++◌, length, map, refl, sym, ap, ◌∙◌, subst, inl, inr, arith, Result, Ok, Err, IfOk, IfErr}
 use Rattle.std.specs.List.{flat_map}
-use Rattle.std.proofs.lemmas.List.{map-append}
+use Rattle.std.proofs.lemmas.List.{map-append, nil_from_length}
 use Rattle.std.proofs.lemmas.List.Concat.{flat_map-cons}
 use Rattle.flow_model.specs.Lists.{◌∈◌}
 use Rattle.flow_model.specs.Process.{Process, leaves}
@@ -11,7 +11,8 @@ use Rattle.flow_model.specs.Ways.{Normal, leaf_of_event}
 use Rattle.flow_model.specs.Schema.{Schema}
 use Rattle.flow_model.specs.Resolution.{ChoiceOption, options, options_in, option_size, resolutions, resolution_count}
 use Rattle.flow_laws.specs.Words.{IsWellFormed, IsConsistent}
-use Rattle.flow_laws.proofs.ListLemmas2.{mem-map, numbers_from_below, each_from_members}
+use Rattle.flow_laws.proofs.Members.{each_from_members}
+use Rattle.flow_laws.proofs.MadeLists.{mem-map, numbers_from_below}
 use Rattle.flow_laws.proofs.ResolutionsLemmas.{resolves_of, mem-leaves_of_goal}
 use Rattle.flow_laws.proofs.OptionsLemmas.{option_parts, option_is_ordered}
 use Rattle.flow_laws.proofs.GoodTraces.{option_of_good, option_trace_is_good}
@@ -22,11 +23,14 @@ use Rattle.flow_excise.specs.declared.refusal.Dropped.{Dropped}
 use Rattle.flow_excise.specs.declared.refusal.CompileRefusal.{CompileRefusal}
 use Rattle.flow_excise.specs.declared.refusal.CompileRefusal.TheVariants.{TooManyChoices, TooManyWays, TooBulky, Inconsistent, NoMemory}
 use Rattle.flow_excise.specs.Executions.{HasExecution, AreJustThose, NumberedOption, numbered_ways, numbered_options, TellOfAll, AreSifted}
-use Rattle.flow_excise.specs.Compilation.{options_of, all_numbered, IsWithinLimits, IsRefused}
-use Rattle.flow_excise.specs.Limits.{bulk_of, IsTooMany}
+use Rattle.flow_excise.specs.declared.counts.Counts.{Counts}
+use Rattle.flow_excise.specs.declared.sifted.Sieve.{Sieve}
+use Rattle.flow_excise.specs.declared.tally.Tally.{Tally}
+use Rattle.flow_excise.specs.Compilation.{Compilation, options_of, all_numbered, IsCompiled, IsWithinLimits, IsRefused}
+use Rattle.flow_excise.specs.Limits.{AreFew, bulk_of, IsTooMany}
 use Rattle.flow_excise.specs.Options.{schema_of, options_by, all_options_by}
 use Rattle.flow_excise.specs.Plans.{option_of}
-use Rattle.flow_excise.specs.Sieves.{ArePlannable}
+use Rattle.flow_excise.specs.Sieves.{ArePlannable, HasSifted}
 use Rattle.flow_rules.specs.Conjunction.{HasWaysOf}
 use Rattle.flow_excise.proofs.SiftingLemmas.{options_told, told_ways, just_those, all_dropped, some_kept, kept_has}
 use Rattle.flow_excise.proofs.TallyLemmas.{bulk-cons}
@@ -109,22 +113,50 @@ module _ (w : Schema) (f : IsWellFormed w) (plans : List Sampled) (dropped : Lis
   consistent_plans [] e n = absurd (n refl)
   consistent_plans (p ∷ l) e n = consistent_by (option_of p.plan) (subst (λ z. option_of p.plan ∈ options_of z) (sym e) (inl refl))
 
--- the limits, by the normal form
-pub within_limits : (w : Schema) (os : List ChoiceOption) → os ≡ options w → resolution_count w.goal ≤ 4096 → length os ≤ 4096 → bulk_of os ≤ 262144 → IsWithinLimits w
-within_limits w os e r l b = record {
-  resolutions = r;
-  options_few = subst (λ (l : List ChoiceOption). length l ≤ 4096) e l;
-  light = subst (λ (l : List ChoiceOption). bulk_of l ≤ 262144) e b;
-}
+-- the answers where the options are counted and sifted, by a normal form of the constraints
+
+module _ (t : Labelled) (these : List Constraint) (n : Normal) (same : HasWaysOf n (all_of these)) (f : IsWellFormed (schema_of t these))
+    (few : resolution_count t.process ≤ 4096) (tally : Tally) (counted : AreFew (all_options_by t n) tally) (sieve : Sieve)
+    (sifted : HasSifted (numbered_options 0 (map (options_by t n) (resolutions t.process))) sieve) where
+  all_sifted : AreSifted (all_numbered (schema_of t these)) (options_of sieve.kept.items) sieve.dropped.items
+  all_sifted = subst (λ ns. AreSifted ns (options_of sieve.kept.items) sieve.dropped.items) (same_numbered t these n same) sifted
+
+  within : IsWithinLimits (schema_of t these)
+  within = record {
+    resolutions = few;
+    options_few = subst (λ (l : List ChoiceOption). length l ≤ 4096) (same_options t these n same) counted.few;
+    light = subst (λ (l : List ChoiceOption). bulk_of l ≤ 262144) (same_options t these n same) counted.light;
+  }
+
+  pub refused_by : (r : Result Compilation CompileRefusal) → IfErr r (λ e. (sieve.kept.items ≡ []) × (e ≡ Inconsistent sieve.dropped)) → IfErr r (IsRefused (schema_of t these))
+  refused_by (Ok c) h = h
+  refused_by (Err e) (none, is) =
+      subst (IsRefused (schema_of t these)) (sym is) (
+        within,
+        (
+          none_consistent (schema_of t these) f sieve.kept.items sieve.dropped.items all_sifted none,
+          all_told (schema_of t these) f sieve.kept.items sieve.dropped.items all_sifted none,
+        ),
+      )
+
+  pub compiled_by : (r : Result Compilation CompileRefusal) → IfOk r (λ c. (sieve.kept.items ≢ []) × (c.plans ≡ sieve.kept.items) ×
+      (c.counts ≡ record { resolutions = resolution_count t.process; options = tally.options; bulk = tally.bulk; live = length sieve.kept.items })) →
+      IfOk r (IsCompiled (schema_of t these))
+  compiled_by (Err e) h = h
+  compiled_by (Ok c) (some, plans, counts) = record {
+    within = within;
+    consistent = consistent_plans (schema_of t these) f sieve.kept.items sieve.dropped.items all_sifted sieve.kept.items refl some;
+    plans = subst (λ (l : List Sampled). AreJustThose HasExecution (options (schema_of t these)) (options_of l)) (sym plans)
+        (plans_are (schema_of t these) f sieve.kept.items sieve.dropped.items all_sifted);
+    resolutions = ap (λ (x : Counts). x.resolutions) counts;
+    options_counted = ap (λ (x : Counts). x.options) counts ∙ counted.options ∙ ap (λ (l : List ChoiceOption). length l) (same_options t these n same);
+    bulk_counted = ap (λ (x : Counts). x.bulk) counts ∙ counted.bulk ∙ ap bulk_of (same_options t these n same);
+  }
 
 -- vectors with nothing in them
 
-no_items : {A : Type 0} (xs : List A) → length xs ≡ 0 → xs ≡ []
-no_items [] e = refl
-no_items (x ∷ xs) e = absurd (omega arith)
-
 pub is_empty : {A : Type 0} (xs : List A) (n : ℕ) → n ≡ length xs → (n == 0) ≡ true → xs ≡ []
-is_empty xs n e t = no_items xs (sym e ∙ eqb-true n 0 t)
+is_empty xs n e t = nil_from_length xs (sym e ∙ eqb-true n 0 t)
 
 pub is_not_empty : {A : Type 0} (xs : List A) (n : ℕ) → n ≡ length xs → (n == 0) ≡ false → xs ≢ []
 is_not_empty xs n e t f = true≢false (sym (eq-eqb n 0 (e ∙ ap length f)) ∙ t)

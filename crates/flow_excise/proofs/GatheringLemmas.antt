@@ -14,7 +14,7 @@ use Rattle.flow_plan.specs.Planned.{Planned, pairs_of}
 use Rattle.flow_excise.specs.declared.gathering.Gathering.{Gathering}
 use Rattle.flow_excise.specs.declared.item.Item.{Item}
 use Rattle.flow_excise.specs.Items.{IsItemOf, AreItemsOf, AddsItems, IsPieceOf}
-use Rattle.flow_excise.specs.ItemMarks.{CanClose, MakesItems, Gathers, Reads, stack_of}
+use Rattle.flow_excise.specs.ItemMarks.{CanClose, MakesItems, Gathers, ReadsMark, stack_of}
 use Rattle.flow_excise.proofs.PieceLemmas.{join_sequence, join_parallel, whole_piece, piece_left, piece_right, piece_inside, adds_both, adds_none, adds_one, can_close}
 
 module _ (q : Process) (pairs : List (ℕ × ℕ)) (o : IsOrdered q pairs) (ns : List ℕ) where
@@ -67,7 +67,7 @@ begun_items p nodes g o are listed place items outer =
 -- ---- one mark
 
 pub leaf_read : (p : Planned) (leaf : ℕ) (item : Item) (old new : Gathering) → slice_get p.leaves old.place ≡ Some leaf → IsItemOf p.process (pairs_of p.tokens) (leaf ∷ []) item →
-    new.place ≡ old.place + 1 → new.items.items ≡ old.items.items ++ item ∷ [] → new.outer ≡ old.outer → Reads p Leaf old new
+    new.place ≡ old.place + 1 → new.items.items ≡ old.items.items ++ item ∷ [] → new.outer ≡ old.outer → ReadsMark p Leaf old new
 leaf_read p leaf item old new at is place items outer nodes h =
     let q : Process = p.process in
     let pairs : List (ℕ × ℕ) = pairs_of p.tokens in
@@ -77,7 +77,7 @@ leaf_read p leaf item old new at is place items outer nodes h =
     (subst (λ o. MatchOption o ⊥ (λ n. (item : Item) → IsItemOf q pairs (n ∷ []) item →
     MakesItems q pairs nodes p.leaves (old.place + 1) (old.items.items ++ item ∷ []) (stack_of old.outer.items))) at h item is)))
 
-pub leaf_missed : (p : Planned) (old new : Gathering) → slice_get p.leaves old.place ≡ None → Reads p Leaf old new
+pub leaf_missed : (p : Planned) (old new : Gathering) → slice_get p.leaves old.place ≡ None → ReadsMark p Leaf old new
 leaf_missed p old new at nodes h =
     absurd (subst (λ o. MatchOption o ⊥ (λ n. (item : Item) → IsItemOf p.process (pairs_of p.tokens) (n ∷ []) item →
     MakesItems p.process (pairs_of p.tokens) nodes p.leaves (old.place + 1) (old.items.items ++ item ∷ []) (stack_of old.outer.items))) at h)
@@ -95,16 +95,16 @@ module _ (p : Planned) (before : Vec Item Global) (old new : Gathering) (on : ol
       (subst (λ l. WithTop l (λ before more. CanClose p.process (pairs_of p.tokens) old.items.items before (λ items. MakesItems p.process (pairs_of p.tokens) nodes p.leaves old.place items more)))
       (stack_top old.outer.items new.outer.items before on) h)
 
-  pub part_read : (seen made : List Item) → seen ≡ old.items.items → new.items.items ≡ made → AddsOneOf seen before.items made → Reads p Close old new
+  pub part_read : (seen made : List Item) → seen ≡ old.items.items → new.items.items ≡ made → AddsOneOf seen before.items made → ReadsMark p Close old new
   part_read seen made is kept adds nodes h =
       subst (λ (l : List Item). MakesItems p.process (pairs_of p.tokens) nodes p.leaves new.place l (stack_of new.outer.items)) (sym kept)
       ((closing nodes h).one made (subst (λ l. AddsOneOf l before.items made) is adds))
 
-  pub none_read : old.items.items ≡ [] → new.items.items ≡ before.items → Reads p Close old new
+  pub none_read : old.items.items ≡ [] → new.items.items ≡ before.items → ReadsMark p Close old new
   none_read none kept nodes h =
       subst (λ (l : List Item). MakesItems p.process (pairs_of p.tokens) nodes p.leaves new.place l (stack_of new.outer.items)) (sym kept) ((closing nodes h).none none)
 
-pub none_missed : (p : Planned) (old new : Gathering) → old.outer.items ≡ [] → Reads p Close old new
+pub none_missed : (p : Planned) (old new : Gathering) → old.outer.items ≡ [] → ReadsMark p Close old new
 none_missed p old new none nodes h =
     absurd (subst (λ (l : List (Vec Item Global)). WithTop (stack_of l) (λ before more. CanClose p.process (pairs_of p.tokens) old.items.items before
     (λ items. MakesItems p.process (pairs_of p.tokens) nodes p.leaves old.place items more))) none h)

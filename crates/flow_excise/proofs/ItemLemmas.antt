@@ -6,15 +6,16 @@ use Rattle.flow_model.specs.Process.{Process, leaves}
 use Rattle.flow_model.specs.Ready.{DirectlyBefore}
 use Rattle.flow_model.specs.Circle.{items_of, ItemBefore, LeadsBackTo, IsRing, least_of}
 use Rattle.flow_laws.specs.Words.{IsOrdered}
-use Rattle.flow_laws.proofs.ListLemmas1.{mem_joined, distinct_apart, distinct_right}
-use Rattle.flow_laws.proofs.CircleParts.{regions, region_distinct, item_has, items_apart, joined_items}
+use Rattle.flow_laws.proofs.Members.{distinct_apart, distinct_right}
+use Rattle.flow_laws.proofs.MadeLists.{mem_joined}
+use Rattle.flow_laws.proofs.GoalParts.{regions, region_distinct, item_has, items_apart, joined_items}
 use Rattle.flow_excise.specs.declared.item.Item.{Item}
 use Rattle.flow_excise.specs.declared.excising.ExciseRefusal.{ExciseRefusal}
 use Rattle.flow_excise.specs.declared.excising.ExciseRefusal.TheVariants.{Circle, NoMemory}
 use Rattle.flow_excise.specs.Rows.{has_inside, has_waits, run_in, least_in, least_at, IsIn, WaitsFor, IsEdge, AreApart}
 use Rattle.flow_excise.specs.Turned.{IsTurned}
 use Rattle.flow_excise.specs.Arranged.{LeadsOn, IsCycle, IsNodeRing, TellsRing}
-use Rattle.flow_excise.specs.Items.{item_at, IsLaid, IsItemOf, AreItemsOf, IsPartCircle, TellsCircle}
+use Rattle.flow_excise.specs.Items.{item_at, IsLinedUp, IsItemOf, AreItemsOf, IsPartCircle, TellsCircle}
 use Rattle.flow_excise.proofs.OrderLemmas.{is_within, waits_within, ring_within}
 use Rattle.flow_excise.proofs.TurningLemmas.{circle_from_ring}
 
@@ -86,8 +87,8 @@ module _ (q : Process) (pairs : List (ℕ × ℕ)) where
     pub waits_item : (n x y : ℕ) → n < length ls → y ∈ item_at ls n → DirectlyBefore q pairs x y → ¬ (x ∈ item_at ls n) → WaitsFor items n x
     waits_item n x y l m b f = let r = item_is ls items n a l in subst (λ o. IsTrue (has_waits o x)) (sym r.1) ((r.2.waits x).1 ((y, m, b), f))
 
-    pub laid_at : (n : ℕ) → n < length ls → IsLaid q pairs (item_at ls n) (run_in (slice_get items n))
-    laid_at n l = let r = item_is ls items n a l in subst (λ o. IsLaid q pairs (item_at ls n) (run_in o)) (sym r.1) (r.2.run)
+    pub laid_at : (n : ℕ) → n < length ls → IsLinedUp q pairs (item_at ls n) (run_in (slice_get items n))
+    laid_at n l = let r = item_is ls items n a l in subst (λ o. IsLinedUp q pairs (item_at ls n) (run_in o)) (sym r.1) (r.2.run)
 
     least_is_at : (n : ℕ) → n < length ls → least_at items n ≡ least_of (item_at ls n)
     least_is_at n l = let r = item_is ls items n a l in ap least_in r.1 ∙ r.2.least

@@ -7,16 +7,16 @@ use Rattle.flow_model.specs.Trace.{Trace}
 use Rattle.flow_model.specs.Ready.{DirectlyBefore, isolated_parts}
 use Rattle.flow_model.specs.Circle.{items_of}
 use Rattle.flow_laws.specs.Words.{IsOrdered}
-use Rattle.flow_laws.proofs.ListLemmas1.{mem_joined, list_having, distinct_append, before_across, before_right, before_or_after, not_both_ways, decide_eq}
-use Rattle.flow_laws.proofs.ListLemmas2.{mem-map, of_map, before_members, each_from_members}
-use Rattle.flow_laws.proofs.ReadyOrders.{trace_of_ordering}
+use Rattle.flow_laws.proofs.Members.{distinct-append, before_across, before_right, before_or_after, not_both_ways, decide_eq, before_members, each_from_members}
+use Rattle.flow_laws.proofs.MadeLists.{mem_joined, list_having, mem-map, of_map}
+use Rattle.flow_laws.proofs.Orderings.{trace_of_ordering}
 use Rattle.flow_laws.proofs.ReadyRuns.{direct_first, direct_second, arrangement_of}
 use Rattle.flow_laws.proofs.CircleExcludes.{circle_excludes}
-use Rattle.flow_laws.proofs.CircleParts.{regions, item_within, item_having, part_or_region}
+use Rattle.flow_laws.proofs.GoalParts.{regions, item_within, item_having, part_or_region}
 use Rattle.flow_excise.specs.declared.item.Item.{Item}
 use Rattle.flow_excise.specs.Rows.{run_in, IsIn, IsOneOf}
 use Rattle.flow_excise.specs.Arranged.{IsWholeOrder, IsRunOf, TellsRing}
-use Rattle.flow_excise.specs.Items.{item_at, IsLaid, IsItemOf, AreItemsOf, TellsCircle}
+use Rattle.flow_excise.specs.Items.{item_at, IsLinedUp, IsItemOf, AreItemsOf, TellsCircle}
 use Rattle.flow_excise.specs.Excised.{IsReasonAgainst}
 use Rattle.flow_model.specs.Resolution.{ChoiceOption}
 use Rattle.flow_excise.specs.declared.excising.ExciseRefusal.{ExciseRefusal}
@@ -50,7 +50,7 @@ module _ (f : ℕ → List ℕ) where
       ((i j x : ℕ) → i ∈ order → j ∈ order → x ∈ f i → x ∈ f j → i ≡ j) → AreDistinct (joined (map f order))
   distinct_blocks [] d each one = tt
   distinct_blocks (z ∷ order) d each one =
-      distinct_append (f z) (joined (map f order)) (each z (inl refl)) (distinct_blocks order d.1 (λ n m. each n (inr m)) (λ i j x k l. one i j x (inr k) (inr l)))
+      distinct-append (f z) (joined (map f order)) (each z (inl refl)) (distinct_blocks order d.1 (λ n m. each n (inr m)) (λ i j x k l. one i j x (inr k) (inr l)))
       (λ x h k. let r = of_block order x k in d.0 (subst (λ u. u ∈ order) (sym (one z r.0 x (inl refl) (inr r.1) h r.2)) r.1))
 
 module _ (q : Process) (pairs : List (ℕ × ℕ)) (o : IsOrdered q pairs) (part : Process) (p : part ∈ regions q) (items : List Item)
@@ -67,7 +67,7 @@ module _ (q : Process) (pairs : List (ℕ × ℕ)) (o : IsOrdered q pairs) (part
   listed : (n : ℕ) → n < length (items_of part) → n ∈ order
   listed n l = w.all n (omega (arith, same_length q pairs (items_of part) items a))
 
-  at : (n : ℕ) → n ∈ order → IsLaid q pairs (item_at (items_of part) n) (f n)
+  at : (n : ℕ) → n ∈ order → IsLinedUp q pairs (item_at (items_of part) n) (f n)
   at n m = laid_at q pairs (items_of part) items a n (there n m)
 
   one : (i j x : ℕ) → i ∈ order → j ∈ order → x ∈ f i → x ∈ f j → i ≡ j
@@ -138,7 +138,7 @@ module _ (q : Process) (pairs : List (ℕ × ℕ)) (o : IsOrdered q pairs) (part
                   (λ k. not_both_ways y z run run_distinct c (before_blocks f order i j z y k zi yj))
                   (before_or_after j i order j_in i_in n)
 
-  pub laid : IsLaid q pairs (leaves part) run
+  pub laid : IsLinedUp q pairs (leaves part) run
   laid = record {
     leaf = run_leaf;
     all = λ x m. let r = holding x m in mem_block f order r.0 x r.1 ((at r.0 r.1).all x r.2);
@@ -148,12 +148,12 @@ module _ (q : Process) (pairs : List (ℕ × ℕ)) (o : IsOrdered q pairs) (part
   }
 
 pub laid_run : (q : Process) (pairs : List (ℕ × ℕ)) → IsOrdered q pairs → (part : Process) → part ∈ regions q → (items : List Item) → AreItemsOf q pairs (items_of part) items →
-    (list : List ℕ) → IsRunOf items list → IsLaid q pairs (leaves part) list
-laid_run q pairs o part p items a list (order, w, e) = subst (IsLaid q pairs (leaves part)) (sym e) (laid q pairs o part p items a order w)
+    (list : List ℕ) → IsRunOf items list → IsLinedUp q pairs (leaves part) list
+laid_run q pairs o part p items a list (order, w, e) = subst (IsLinedUp q pairs (leaves part)) (sym e) (laid q pairs o part p items a order w)
 
 -- a whole goal so laid is executed
 
-pub laid_trace : (q : Process) (pairs : List (ℕ × ℕ)) (run : List ℕ) → IsOrdered q pairs → IsLaid q pairs (leaves q) run → Trace q run × AreInOrder pairs run
+pub laid_trace : (q : Process) (pairs : List (ℕ × ℕ)) (run : List ℕ) → IsOrdered q pairs → IsLinedUp q pairs (leaves q) run → Trace q run × AreInOrder pairs run
 laid_trace q pairs run o l = (
   trace_of_ordering run q o.choice_free o.distinct (record {
     leaf = l.leaf;

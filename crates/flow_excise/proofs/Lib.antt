@@ -2,6 +2,7 @@ pub mod BlockLemmas
 pub mod TallyLemmas
 pub mod RingLemmas
 pub mod OrderLemmas
+pub mod ForwardLemmas
 pub mod ItemLemmas
 pub mod LaidLemmas
 pub mod PieceLemmas

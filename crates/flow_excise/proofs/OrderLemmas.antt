@@ -1,31 +1,23 @@
 -- An order of items that grows, and the walk to the next of them.
-use Rattle.std.proofs.Common.{◌≡◌, ℕ, zero, suc, ◌+◌, ◌-◌, ◌<◌, ◌≤◌, Bool, true, false, not, ◌&&◌, ◌||◌, IsTrue, List, [], ◌∷◌, ◌++◌, ◌↔◌, ◌⊎◌, length, get_or, map, refl, sym, ap, ◌∙◌, subst, inl, inr, ⊎_elim, arith, length-append, true≢false, Some, None, Option, slice_get, take, remove, append-nil}
+use Rattle.std.proofs.Common.{◌≡◌, ℕ, zero, suc, ◌+◌, ◌-◌, ◌<◌, ◌≤◌, Bool, true, false, not, ◌&&◌, IsTrue, List, [], ◌∷◌, ◌++◌, ◌↔◌, ◌⊎◌, length, get_or, map, refl, sym, ap, ◌∙◌, subst, inl, inr, ⊎_elim, arith, length-append, true≢false, Some, Option, slice_get, take, remove, append-nil}
 use Rattle.std.proofs.lemmas.List.{take_more, map-append}
 use Rattle.std.proofs.lemmas.Bool.{cases_lt}
 use Rattle.std.proofs.lemmas.Option.{slice_get_past, slice_get_read}
 use Rattle.leaf_rows.specs.declared.leaf_set.LeafSet.{LeafSet}
 use Rattle.leaf_rows.specs.Leaves.{has_leaf}
 use Rattle.flow_model.specs.Lists.{◌∈◌, Each, AreDistinct, StandsBefore, joined}
-use Rattle.flow_laws.proofs.ListLemmas1.{each_at, decide_in, distinct_append, before_across}
-use Rattle.flow_laws.proofs.ListLemmas2.{some_same, each_from_members, mem_append_left, mem_append_right, mem-append, joined-append}
+use Rattle.flow_laws.proofs.Members.{each_member, decide_in, distinct-append, before_across, each_from_members, mem_append_left, mem_append_right, mem-append}
+use Rattle.flow_laws.proofs.MadeLists.{some_same, joined-append}
 use Rattle.flow_plan.proofs.PlaceLemmas.{read_member}
 use Rattle.flow_excise.specs.declared.item.Item.{Item}
 use Rattle.flow_excise.specs.Rows.{has_inside, has_waits, run_in, runs, least_in, least_at, IsIn, WaitsFor, IsEdge, AreApart}
-use Rattle.flow_excise.specs.Arranged.{IsArranged, IsWholeOrder, IsCycle, LeadsOn, Holds}
+use Rattle.flow_excise.specs.Arranged.{IsArranged, IsWholeOrder, IsCycle, LeadsOn, TakesIn}
 use Rattle.flow_excise.proofs.RingLemmas.{at_most, IsTrail, trail_end}
 
 -- tests
 
 pub not_true : (b : Bool) → b ≡ false → ¬ (IsTrue b)
 not_true b e h = true≢false (sym h ∙ e)
-
-pub is_false : (b : Bool) → ¬ (IsTrue b) → b ≡ false
-is_false true h = absurd (h refl)
-is_false false h = refl
-
-true_or_not : (b : Bool) → IsTrue b ⊎ ¬ (IsTrue b)
-true_or_not true = inl refl
-true_or_not false = inr (not_true false refl)
 
 pub not_and : (a b : Bool) → IsTrue (not a && b) ↔ (¬ (IsTrue a) × IsTrue b)
 not_and true b = (λ h. absurd (true≢false (sym h)), λ h. absurd (h.0 refl))
@@ -73,7 +65,7 @@ module _ (items : List Item) (w : AreApart items) where
       ((x : ℕ) → WaitsFor items top x → ¬ (IsTrue (has_leaf left x))) →
       ((x : ℕ) → has_leaf new x ≡ (not (has_inside (slice_get items top) x) && has_leaf left x)) → longer ≡ order ++ top ∷ [] → IsArranged items new longer
   grown left new order longer top a there fresh free cleared e = subst (IsArranged items new) (sym e) (record {
-    distinct = distinct_append order (top ∷ []) a.distinct ((λ m. m), tt)
+    distinct = distinct-append order (top ∷ []) a.distinct ((λ m. m), tt)
         (λ x m k. ⊎_elim (λ i. fresh (subst (λ z. z ∈ order) i m)) (λ f. absurd f) k);
     within = λ n m. ⊎_elim (a.within n) (⊎_elim (λ i. subst (λ z. z < length items) (sym i) there) (λ f. absurd f)) (mem-append n order (top ∷ []) m);
     rest = λ x. (still x, was x);
@@ -122,14 +114,6 @@ module _ (items : List Item) (w : AreApart items) where
   }
 
   -- walks
-
-  pub path_begun : (order : List ℕ) (start : ℕ) → start < length items → ¬ (start ∈ order) → IsPath items order (start ∷ [])
-  path_begun order start l f = record {
-    distinct = ((λ m. m), tt);
-    within = λ n m. ⊎_elim (λ e. subst (λ z. z < length items) (sym e) l) (λ f. absurd f) m;
-    fresh = λ n m. ⊎_elim {C = ¬ (n ∈ order)} (λ e. subst (λ z. ¬ (z ∈ order)) (sym e) f) (λ f. absurd f) m;
-    trail = tt;
-  }
 
   pub path_on : (left : LeafSet 16) (order path new : List ℕ) (top next : ℕ) (more : List ℕ) → path ≡ top ∷ more → IsArranged items left order → IsPath items order path →
       ((x : ℕ) × IsIn items next x × WaitsFor items top x × IsTrue (has_leaf left x)) → ¬ (next ∈ path) → new ≡ next ∷ path → IsPath items order new
@@ -192,15 +176,6 @@ start_on start order longer path top more e f (inr m) = ⊎_elim
     inr
     (subst (λ z. start ∈ z) e m)
 
-pub is_settled : (start : ℕ) (order path seen : List ℕ) (o p : Option ℕ) → seen ≡ path → o ≡ slice_get seen 0 → p ≡ o → p ≡ None →
-    (start ∈ order) ⊎ (start ∈ path) → start ∈ order
-is_settled start order path seen o p e f g h (inl m) = m
-is_settled start order path seen o p e f g h (inr m) = at path (sym (ap (λ (z : List ℕ). slice_get z 0) e) ∙ sym f ∙ sym g ∙ h) m
-  where
-    at : (list : List ℕ) → slice_get list 0 ≡ None → start ∈ list → start ∈ order
-    at [] k m = absurd m
-    at (x ∷ list) k m = absurd (cc)
-
 -- rings
 
 on_within : (items : List Item) (first n : ℕ) (more : List ℕ) → LeadsOn items first n more → (m : ℕ) → m ∈ (n ∷ more) → m < length items
@@ -213,59 +188,20 @@ pub ring_within : (items : List Item) (ring : List ℕ) → IsCycle items ring �
 ring_within items [] h m k = absurd h
 ring_within items (n ∷ more) h m k = on_within items n n more h m k
 
-pub ring_some : (items : List Item) (ring : List ℕ) → IsCycle items ring → 0 < length ring
-ring_some items [] h = absurd h
-ring_some items (n ∷ more) h = omega arith
-
 pub each_within : (items : List Item) (order seen : List ℕ) → seen ≡ order → ((n : ℕ) → n ∈ order → n < length items) → Each (λ n. n < length items) seen
 each_within items order seen e h = each_from_members (λ n. n < length items) seen (λ n m. h n (subst (λ z. n ∈ z) e m))
 
 -- one more place passed
-pub passed_more : (old new : List ℕ) (start : ℕ) → ((n : ℕ) → n < start → n ∈ old) → Holds start old new → (n : ℕ) → n < start + 1 → n ∈ new
+pub passed_more : (old new : List ℕ) (start : ℕ) → ((n : ℕ) → n < start → n ∈ old) → TakesIn start old new → (n : ℕ) → n < start + 1 → n ∈ new
 passed_more old new start h k n l = ⊎_elim (λ i. k.kept n (h n i)) (λ e. subst (λ z. z ∈ new) (sym e) k.here) (at (cases_lt n start))
   where
     at : (n < start) ⊎ (start ≤ n) → (n < start) ⊎ (n ≡ start)
     at (inl i) = inl i
     at (inr i) = inr (omega arith)
 
--- unions of the rows of items
-
-true_or : (a b : Bool) → IsTrue (a || b) ↔ (IsTrue a ⊎ IsTrue b)
-true_or true b = (λ h. inl refl, λ h. refl)
-true_or false b = (λ h. inr h, λ h. ⊎_elim (λ k. absurd (not_true false refl k)) (λ k. k) h)
-
+-- the union of rows of items
 abbrev pub IsUnion : (Option Item → ℕ → Bool) → List Item → ℕ → (ℕ → Bool) → Type 0
 IsUnion test items k all = (x : ℕ) → IsTrue (all x) ↔ ((n : ℕ) × (n < k) × IsTrue (test (slice_get items n) x))
-
-pub union_more : (test : Option Item → ℕ → Bool) (items : List Item) (k : ℕ) (old new : ℕ → Bool) →
-    ((x : ℕ) → new x ≡ (old x || test (slice_get items k) x)) → IsUnion test items k old → IsUnion test items (k + 1) new
-union_more test items k old new h u x = (there, back)
-  where
-    there : IsTrue (new x) → (n : ℕ) × (n < k + 1) × IsTrue (test (slice_get items n) x)
-    there t = ⊎_elim
-        (λ i. let r = (u x).0 i in (r.0, omega (arith, r.1), r.2))
-        (λ i. (k, omega arith, i))
-        ((true_or (old x) (test (slice_get items k) x)).0 (sym (h x) ∙ t))
-
-    back : (n : ℕ) × (n < k + 1) × IsTrue (test (slice_get items n) x) → IsTrue (new x)
-    back (n, l, t) = h x ∙ (true_or (old x) (test (slice_get items k) x)).1 (⊎_elim
-        (λ i. inl ((u x).1 (n, i, t)))
-        (λ i. let e : n ≡ k = omega arith in inr (subst (λ z. IsTrue (test (slice_get items z) x)) e t))
-        (cases_lt n k))
-
-pub union_begun : (test : Option Item → ℕ → Bool) (items : List Item) (new : ℕ → Bool) → ((x : ℕ) → new x ≡ false) → IsUnion test items 0 new
-union_begun test items new h x = (λ t. absurd (not_true (new x) (h x) t), λ r. absurd (let l = r.1 in omega arith))
-
-pub union_whole : (test : Option Item → ℕ → Bool) (items : List Item) (k : ℕ) (all : ℕ → Bool) → length items ≤ k → ((x : ℕ) → test None x ≡ false) → IsUnion test items k all →
-    (x : ℕ) → IsTrue (all x) ↔ ((n : ℕ) × IsTrue (test (slice_get items n) x))
-union_whole test items k all l none u x = (
-  λ t. let r = (u x).0 t in (r.0, r.2),
-  λ r. (u x).1 (r.0, at (cases_lt r.0 (length items)) r.1, r.1),
-)
-  where
-    at : {n : ℕ} → (n < length items) ⊎ (length items ≤ n) → IsTrue (test (slice_get items n) x) → n < k
-    at (inl i) t = omega arith
-    at {n} (inr i) t = absurd (not_true (test (slice_get items n) x) (ap (λ o. test o x) (slice_get_past items n i) ∙ none x) t)
 
 -- the item at a place
 pub item_there : (items : List Item) (n : ℕ) (item : Item) → n < length items → item ≡ get_or items n item → slice_get items n ≡ Some item
@@ -283,7 +219,7 @@ pub runs_more : (items : List Item) (order : List ℕ) (k : ℕ) (item : Item) �
 runs_more items order k item l w e =
     let f : ℕ → List ℕ = λ n. run_in (slice_get items n) in
     let n : ℕ = get_or order k 0 in
-    let there = item_there items n item (each_at (λ m. m < length items) order n w (read_member order k l)) e in
+    let there = item_there items n item (each_member (λ m. m < length items) order w n (read_member order k l)) e in
     ap (λ z. joined (map f z)) (take_more order k 0 l)
     ∙ ap joined (map-append f (take k order) (n ∷ []))
     ∙ joined-append (map f (take k order)) (f n ∷ [])
@@ -294,7 +230,7 @@ pub leasts_more : (items : List Item) (order : List ℕ) (k : ℕ) (item : Item)
     map (least_at items) (take (k + 1) order) ≡ map (least_at items) (take k order) ++ (get_or items (get_or order k 0) item).least ∷ []
 leasts_more items order k item l w e =
     let n : ℕ = get_or order k 0 in
-    let there = item_there items n item (each_at (λ m. m < length items) order n w (read_member order k l)) e in
+    let there = item_there items n item (each_member (λ m. m < length items) order w n (read_member order k l)) e in
     ap (map (least_at items)) (take_more order k 0 l)
     ∙ map-append (least_at items) (take k order) (n ∷ [])
     ∙ ap (λ z. map (least_at items) (take k order) ++ z ∷ []) (ap least_in there ∙ ap (λ (i : Item). i.least) e)

@@ -1,5 +1,6 @@
 -- Pieces of a goal, and their items one side after the other.
-use Rattle.std.proofs.Common.{◌≡◌, ℕ, IsTrue, List, [], ◌∷◌, ◌++◌, ◌↔◌, length, refl, sym, ap, ◌∙◌, subst, inl, inr, ⊎_elim, arith, append_assoc, append-nil}
+use Rattle.std.proofs.Common.{◌≡◌, ℕ, IsTrue, List, [], ◌∷◌, ◌++◌, ◌↔◌, length, refl, sym, ap, ◌∙◌, subst, inl, inr, ⊎_elim, append_assoc, append-nil}
+use Rattle.std.proofs.lemmas.List.{nil_from_length}
 use Rattle.leaf_rows.specs.Leaves.{has_leaf}
 use Rattle.flow_model.specs.Lists.{◌∈◌, joined}
 use Rattle.flow_model.specs.Process.{Process, Sequence, Parallel, Isolated, leaves}
@@ -7,14 +8,14 @@ use Rattle.flow_model.specs.Ready.{DirectlyBefore, isolated_parts}
 use Rattle.flow_model.specs.Circle.{items_of, item_of}
 use Rattle.flow_laws.specs.Words.{IsOrdered}
 use Rattle.flow_laws.proofs.ReadyRuns.{direct_other}
-use Rattle.flow_laws.proofs.CircleParts.{joined_items}
+use Rattle.flow_laws.proofs.GoalParts.{joined_items}
 use Rattle.flow_excise.specs.declared.item.Item.{Item}
 use Rattle.flow_excise.specs.Rows.{AreApart}
-use Rattle.flow_excise.specs.Items.{IsLaid, IsItemOf, AreItemsOf, AddsItems, IsPieceOf}
+use Rattle.flow_excise.specs.Items.{IsLinedUp, IsItemOf, AreItemsOf, AddsItems, IsPieceOf}
 use Rattle.flow_excise.specs.ItemMarks.{CanClose}
 use Rattle.flow_excise.proofs.ItemLemmas.{same_length, are_apart, tells_circle}
 use Rattle.flow_excise.proofs.LaidLemmas.{part_item}
-use Rattle.flow_laws.proofs.ListLemmas2.{mem_append_left, mem_append_right}
+use Rattle.flow_laws.proofs.Members.{mem_append_left, mem_append_right}
 
 -- the goal is made of two sides
 pub record IsJoin (whole a b : Process) : Type 0 where
@@ -91,7 +92,7 @@ module _ (q : Process) (pairs : List (ℕ × ℕ)) where
       λ h. (waits x).1 (subst (λ z. DirectlyBefore q pairs x z) (is h.0.0 h.0.1) h.0.2),
     );
     least = least;
-    run = subst (IsLaid q pairs (leaf ∷ [])) (sym run) (record {
+    run = subst (IsLinedUp q pairs (leaf ∷ [])) (sym run) (record {
       leaf = λ x m. m;
       all = λ x m. m;
       distinct = ((λ m. m), tt);
@@ -108,13 +109,9 @@ module _ (q : Process) (pairs : List (ℕ × ℕ)) where
   pub no_item : (body : Process) (old inner : List Item) → AddsItems q pairs body [] inner → inner ≡ [] → AddsItems q pairs (Isolated body) old old
   no_item body old inner s e = adds_none (Isolated body) old (ap item_of none)
     where
-      nothing : (ls : List (List ℕ)) → length ls ≡ 0 → ls ≡ []
-      nothing [] h = refl
-      nothing (l ∷ ls) h = absurd (omega arith)
-
       none : leaves body ≡ []
       none = sym (joined_items body)
-          ∙ ap joined (nothing (items_of body) (same_length q pairs (items_of body) s.added s.items ∙ ap length (sym s.is ∙ e)))
+          ∙ ap joined (nil_from_length (items_of body) (same_length q pairs (items_of body) s.added s.items ∙ ap length (sym s.is ∙ e)))
 
   -- and one with leaves
 

@@ -2,8 +2,7 @@
 use Rattle.std.proofs.Common.{◌≡◌, ◌≢◌, ℕ, zero, suc, ◌+◌, ◌<◌, ◌≤◌, List, [], ◌∷◌, ◌++◌, length, get_or, take, drop, refl, sym, ap, ◌∙◌, subst, inl, inr, ⊎_elim, arith, length-append}
 use Rattle.std.proofs.lemmas.List.{take_more, take-append-drop}
 use Rattle.flow_model.specs.Lists.{◌∈◌, AreDistinct}
-use Rattle.flow_laws.proofs.ListLemmas1.{Decided, mem_without, split_at, decide_in, not_elsewhere, distinct_left, distinct_right, distinct_apart, distinct_append}
-use Rattle.flow_laws.proofs.ListLemmas2.{cons_same, mem-append}
+use Rattle.flow_laws.proofs.Members.{Decided, mem_without, split_at, decide_in, not_elsewhere, distinct_left, distinct_right, distinct_apart, distinct-append, cons_same, mem-append}
 use Rattle.flow_excise.specs.declared.item.Item.{Item}
 use Rattle.flow_excise.specs.Rows.{IsEdge}
 use Rattle.flow_excise.specs.Arranged.{LeadsOn, IsCycle, IsNodeRing}
@@ -12,7 +11,7 @@ use Rattle.flow_excise.specs.Arranged.{LeadsOn, IsCycle, IsNodeRing}
 
 pub distinct_without : {A : Type 0} (a b : List A) (x : A) → AreDistinct (a ++ x ∷ b) → AreDistinct (a ++ b)
 distinct_without a b x d =
-    distinct_append a b (distinct_left a (x ∷ b) d) (distinct_right a (x ∷ b) d).1 (λ y h k. distinct_apart a (x ∷ b) d y h (inr k))
+    distinct-append a b (distinct_left a (x ∷ b) d) (distinct_right a (x ∷ b) d).1 (λ y h k. distinct_apart a (x ∷ b) d y h (inr k))
 
 pub at_most : (n : ℕ) (xs : List ℕ) → AreDistinct xs → ((x : ℕ) → x ∈ xs → x < n) → length xs ≤ n
 at_most zero [] d h = omega arith

@@ -1,15 +1,16 @@
 -- Options that are looked at one by one.
-use Rattle.std.proofs.Common.{◌≡◌, Bool, false, not, true≢false, append-nil, ℕ, zero, suc, ◌+◌, ◌<◌, List, [], ◌∷◌, ◌++◌, length, take, get_or, map, refl, sym, ap, ◌∙◌, subst, inl, inr, arith, append_assoc, Some, slice_get, Result, Ok, Err, MatchResult}
-use Rattle.std.proofs.lemmas.List.{get_or-map, length-map, length-take-le, map-append, take_more}
+use Rattle.std.proofs.Common.{◌≡◌, Bool, false, not, true≢false, append-nil, ℕ, zero, suc, ◌+◌, ◌<◌, ◌≤◌, List, [], ◌∷◌, ◌++◌, length, take, get_or, map, refl, sym, ap, ◌∙◌, subst, inl, inr, arith, append_assoc, Some, slice_get, Result, Ok, Err, MatchResult}
+use Rattle.std.proofs.lemmas.Bool.{cases_lt}
+use Rattle.std.proofs.lemmas.List.{get_or-map, length-map, length-take-le, map-append, take_all, take_more}
 use Rattle.std.proofs.lemmas.Option.{slice_get_within, slice_get-get_or, get_or_from_slice_get}
 use Rattle.flow_model.specs.Lists.{◌∈◌}
 use Rattle.flow_model.specs.Process.{Process, Empty}
 use Rattle.flow_model.specs.Ways.{Normal, ways}
 use Rattle.flow_model.specs.Resolution.{ChoiceOption, resolutions}
-use Rattle.flow_laws.proofs.ListLemmas2.{mem-flat_map, some_same}
+use Rattle.flow_laws.proofs.MadeLists.{mem-flat_map, some_same}
 use Rattle.flow_goal.specs.Labelled.{Labelled}
 use Rattle.flow_rules.specs.declared.order_set.OrderSet.{OrderSet}
-use Rattle.flow_rules.specs.WayLists.{is_none, pairs_of}
+use Rattle.flow_rules.specs.WayLists.{is_none, ways_of_sets}
 use Rattle.flow_plan.specs.Sampled.{Sampled}
 use Rattle.flow_excise.specs.declared.refusal.Dropped.{Dropped}
 use Rattle.flow_excise.specs.declared.refusal.CompileRefusal.{CompileRefusal}
@@ -19,7 +20,8 @@ use Rattle.flow_excise.specs.Executions.{HasExecution, NumberedOption, numbered_
 use Rattle.flow_excise.specs.Compilation.{options_of}
 use Rattle.flow_excise.specs.Options.{all_options_by, has_ways, options_by, ways_by}
 use Rattle.flow_excise.specs.Plans.{option_of}
-use Rattle.flow_excise.specs.Sieves.{ArePlannable, option_with, options_with, HasSifted, Sifts}
+use Rattle.flow_excise.specs.Sieves.{ArePlannable, options_with, HasSifted, HasSiftedTo, Sifts}
+use Rattle.flow_weave.specs.Woven.{option_with}
 use Rattle.flow_excise.proofs.SiftingLemmas.{keep_one, drop_one, numbered, more_ways, more_resolutions}
 use Rattle.flow_excise.proofs.TallyLemmas.{taken_more}
 use Rattle.flow_model.proofs.Lists.{mem-slice_get}
@@ -49,10 +51,6 @@ mem_read (y ∷ xs) (suc i) x l e = inr (mem_read xs i x (omega arith) e)
 abbrev way_option : Process → List (ℕ × ℕ) → ChoiceOption
 way_option q way = record { resolution = q; order = way }
 
-length-options : (q : Process) (orders : List OrderSet) → length (options_with q orders) ≡ length orders
-length-options q [] = refl
-length-options q (o ∷ orders) = ap suc (length-options q orders)
-
 ways_more : (r : ℕ) (q : Process) (orders : List OrderSet) (i : ℕ) (order : OrderSet) → i < length orders → order ≡ get_or orders i order →
     numbered_ways r 0 (options_with q (take (i + 1) orders)) ≡ numbered_ways r 0 (options_with q (take i orders)) ++ numbered r i (option_with q order) ∷ []
 ways_more r q orders i order l e =
@@ -60,7 +58,7 @@ ways_more r q orders i order l e =
     ap (options_with q) (take_more orders i order l) ∙ map-append (option_with q) (take i orders) (get_or orders i order ∷ [])
     ∙ ap (λ (o : OrderSet). options_with q (take i orders) ++ option_with q o ∷ []) (sym e) in
     let long : 0 + length (options_with q (take i orders)) ≡ i =
-    omega (arith, length-options q (take i orders), length-take-le i orders (omega arith)) in
+    omega (arith, length-map (take i orders) (option_with q), length-take-le i orders (omega arith)) in
     ap (numbered_ways r 0) taken ∙ more_ways r 0 (options_with q (take i orders)) (option_with q order)
     ∙ ap (λ k. numbered_ways r 0 (options_with q (take i orders)) ++ numbered r k (option_with q order) ∷ []) long
 
@@ -72,11 +70,11 @@ sift_more_ways r q orders i order first old new l e so_far this done s =
     (append_assoc done (numbered_ways r 0 (options_with q (take i orders))) (numbered r i (option_with q order) ∷ []) ∙ ap (λ ns. done ++ ns) (sym (ways_more r q orders i order l e)))
     (this (done ++ numbered_ways r 0 (options_with q (take i orders))) (so_far done s))
 
-options_found : (q : Process) (orders : List OrderSet) → options_with q orders ≡ map (λ way. way_option q way) (pairs_of orders)
+options_found : (q : Process) (orders : List OrderSet) → options_with q orders ≡ map (λ way. way_option q way) (ways_of_sets orders)
 options_found q [] = refl
 options_found q (o ∷ orders) = ap (λ (l : List ChoiceOption). option_with q o ∷ l) (options_found q orders)
 
-pub ways_found : (q : Process) (orders seen : List OrderSet) (ways : List (List (ℕ × ℕ))) → seen ≡ orders → pairs_of orders ≡ ways →
+pub ways_found : (q : Process) (orders seen : List OrderSet) (ways : List (List (ℕ × ℕ))) → seen ≡ orders → ways_of_sets orders ≡ ways →
     options_with q seen ≡ map (λ way. way_option q way) ways
 ways_found q orders seen ways e ways_are = ap (options_with q) e ∙ options_found q orders ∙ ap (map (λ way. way_option q way)) ways_are
 
@@ -119,10 +117,6 @@ sift_found t i p os of old new (Err f) e there h = h
 
 -- all resolutions
 
-length-mapped : (f : Process → List ChoiceOption) (qs : List Process) → length (map f qs) ≡ length qs
-length-mapped f [] = refl
-length-mapped f (q ∷ qs) = ap suc (length-mapped f qs)
-
 pub sift_more : (t : Labelled) (n : Normal) (i : ℕ) (old new : Sieve) → i < length (resolutions t.process) →
     ((q : Process) → slice_get (resolutions t.process) i ≡ Some q → Sifts (numbered_ways i 0 (options_by t n q)) old new) →
     HasSifted (numbered_options 0 (map (options_by t n) (take i (resolutions t.process)))) old →
@@ -132,10 +126,27 @@ sift_more t n i old new l this s =
     let q = get_or all i Empty in
     let there = slice_get-get_or all i Empty l in
     let f = options_by t n in
-    let long : 0 + length (map f (take i all)) ≡ i = omega (arith, length-mapped f (take i all), length-take-le i all (omega arith)) in
+    let long : 0 + length (map f (take i all)) ≡ i = omega (arith, length-map (take i all) f, length-take-le i all (omega arith)) in
     let whole : numbered_options 0 (map f (take (i + 1) all)) ≡ numbered_options 0 (map f (take i all)) ++ numbered_ways i 0 (f q) =
     ap (λ (l : List Process). numbered_options 0 (map f l)) (taken_more all i q there)
     ∙ ap (numbered_options 0) (map-append f (take i all) (q ∷ []))
     ∙ more_resolutions 0 (map f (take i all)) (f q)
     ∙ ap (λ k. numbered_options 0 (map f (take i all)) ++ numbered_ways k 0 (f q)) long in
     subst (λ ns. HasSifted ns new) (sym whole) (this q there (numbered_options 0 (map f (take i all))) s)
+
+-- resolutions of which none has an option
+module _ (t : Labelled) (n : Normal) (met : List Bool) (listed : met ≡ map (has_ways t n) (resolutions t.process)) (first : ℕ) (s : Sieve) where
+  pub none_sifted : (count : ℕ) → ((k : ℕ) → first ≤ k → k < first + count → get_or met k false ≡ false) → HasSiftedTo t n first s → HasSiftedTo t n (first + count) s
+  none_sifted zero none so_far = let e : first ≡ first + 0 = omega arith in subst (λ k. HasSiftedTo t n k s) e so_far
+  none_sifted (suc count) none so_far =
+      let all = resolutions t.process in
+      let before = none_sifted count (λ k low high. none k low (omega arith)) so_far in
+      let next : first + count + 1 ≡ first + suc count = omega arith in
+      let this = none (first + count) (omega arith) (omega arith) in
+      subst (λ k. HasSiftedTo t n k s) next (elim (cases_lt (first + count) (length all)) [
+        | inl h ↦
+            sift_more t n (first + count) s s h (λ q there. sift_none t n (first + count) q s (none_found t n q (met_at t n met listed (first + count) false this q there))) before
+        | inr h ↦
+            subst (λ qs. HasSifted (numbered_options 0 (map (options_by t n) qs)) s)
+            (take_all (first + count) all h ∙ sym (take_all (first + count + 1) all (omega arith))) before
+      ])

@@ -1,8 +1,8 @@
 -- Tallies of options, resolution by resolution.
-use Rattle.std.proofs.Common.{◌≡◌, ◌==◌, Bool, not, subst, ℕ, suc, ◌+◌, ◌*◌, ◌-◌, ◌^◌, ◌≤◌, min, List, [], ◌∷◌, ◌++◌, length, take, map, sum, refl, sym, ap, ◌∙◌, arith, Some, slice_get, append-nil}
+use Rattle.std.proofs.Common.{◌≡◌, ◌==◌, Bool, not, subst, ℕ, ◌+◌, ◌*◌, ◌-◌, ◌^◌, List, [], ◌∷◌, ◌++◌, length, take, map, sum, sym, ap, ◌∙◌, arith, Some, slice_get, append-nil}
 use Rattle.std.specs.List.{flat_map}
 use Rattle.std.proofs.Math.Nat.{zero-mul, suc-mul, mul_comm, add-zero}
-use Rattle.std.proofs.lemmas.List.{length-append, map-append}
+use Rattle.std.proofs.lemmas.List.{length-append, length-map, map-append}
 use Rattle.std.proofs.lemmas.List.Sums.{sum-map, sum_by-append, sum_by-cons}
 use Rattle.std.proofs.lemmas.Grind.{flat_map-append}
 use Rattle.std.proofs.lemmas.Option.{slice_get_within, get_or_from_slice_get}
@@ -55,10 +55,6 @@ sizes_by q (w ∷ ws) =
     let h = bulk-cons (option_of q w) (map (λ way. option_of q way) ws) in
     omega arith
 
-count_by : (q : Process) (ws : List (List (ℕ × ℕ))) → length (map (λ way. option_of q way) ws) ≡ length ws
-count_by q [] = refl
-count_by q (w ∷ ws) = ap suc (count_by q ws)
-
 tally_of_ways : (q : Process) (ws : List (List (ℕ × ℕ))) → tally_of (map (λ way. option_of q way) ws) ≡ tally_by (length (leaves q)) (count_of ws)
 tally_of_ways q ws =
     let m : ℕ = 2 ^ 64 - 1 in
@@ -67,7 +63,7 @@ tally_of_ways q ws =
     ap kept (mul_comm (length ws) l) ∙ sym (product_right m l (length ws)) ∙ ap kept (mul_comm l (kept (length ws))) in
     let size : kept (sum (map option_size (map (λ way. option_of q way) ws))) ≡ kept (kept (kept (length ws) * l) + kept (length (joined ws))) =
     ap kept (sizes_by q ws) ∙ sym (sum_kept m (length ws * l) (length (joined ws))) ∙ ap (λ n. kept (n + kept (length (joined ws)))) held in
-    λ k. record { options = kept (count_by q ws k); bulk = size k }
+    λ k. record { options = kept (length-map ws (λ way. option_of q way) k); bulk = size k }
 
 tally_found : (t : Labelled) (n : Normal) (q : Process) (ls : List ℕ) (count : WayCount) → ls ≡ leaves q → count ≡ count_of (ways_by t n q) →
     tally_by (length ls) count ≡ tally_of (options_by t n q)

@@ -4,18 +4,16 @@ use Rattle.std.proofs.lemmas.List.{take-append-drop, map-append, take-map, drop-
 use Rattle.flow_model.specs.Lists.{◌∈◌, Each, AreDistinct}
 use Rattle.flow_model.specs.Process.{Process}
 use Rattle.flow_model.specs.Circle.{items_of, ItemBefore, LeadsBackTo, IsRing, least_of, BeginsWithLeast}
-use Rattle.flow_laws.proofs.ListLemmas1.{distinct_left, distinct_right, distinct_apart, distinct_append, each_at}
+use Rattle.flow_laws.proofs.Members.{distinct_swap, each_member, mem_swap, each_from_members}
+use Rattle.flow_laws.proofs.CircleRing.{turn}
 use Rattle.flow_excise.specs.Items.{IsPartCircle}
 use Rattle.flow_excise.specs.Turned.{IsTurned}
-use Rattle.flow_laws.proofs.ListLemmas2.{mem_append_left, mem_append_right, mem-append, each_from_members}
 use Rattle.flow_plan.proofs.PlaceLemmas.{place_of_member}
 
 -- members by places
 
 pub mem_turned : {A : Type 0} (p : ℕ) (xs : List A) (x : A) → x ∈ (drop p xs ++ take p xs) → x ∈ xs
-mem_turned p xs x m =
-    subst (λ z. x ∈ z) (take-append-drop p xs)
-    (⊎_elim (λ k. mem_append_right x (take p xs) (drop p xs) k) (λ k. mem_append_left x (take p xs) (drop p xs) k) (mem-append x (drop p xs) (take p xs) m))
+mem_turned p xs x m = subst (λ z. x ∈ z) (take-append-drop p xs) (mem_swap x (drop p xs) (take p xs) m)
 
 pub begins_with_least : (xs : List ℕ) (p : ℕ) → p < length xs → ((k : ℕ) → k < length xs → get_or xs p 0 ≤ get_or xs k 0) →
     BeginsWithLeast (drop p xs ++ take p xs)
@@ -24,28 +22,6 @@ begins_with_least xs p l h =
     (each_from_members (λ m. get_or xs p 0 ≤ m) (drop (suc p) xs ++ take p xs)
     (λ m k. let r = place_of_member xs m (mem_turned p xs m (subst (λ (z : List ℕ). m ∈ (z ++ take p xs)) (sym (drop-cons xs p 0 l)) (inr k))) in
     subst (λ n. get_or xs p 0 ≤ n) r.2 (h r.0 r.1)))
-
--- rings
-
-module _ (q : Process) (pairs : List (ℕ × ℕ)) where
-  lead_on : (first next item : List ℕ) (more : List (List ℕ)) → ItemBefore q pairs first next → LeadsBackTo q pairs first item more →
-      LeadsBackTo q pairs next item (more ++ first ∷ [])
-  lead_on first next item [] b h = (h, b)
-  lead_on first next item (m ∷ more) b h = (h.0, lead_on first next m more b h.1)
-
-  turn_once : (first : List ℕ) (more : List (List ℕ)) → IsRing q pairs (first ∷ more) → IsRing q pairs (more ++ first ∷ [])
-  turn_once first [] h = h
-  turn_once first (next ∷ more) h = lead_on first next next more h.0 h.1
-
-  pub turn : (front back : List (List ℕ)) → IsRing q pairs (front ++ back) → IsRing q pairs (back ++ front)
-  turn [] back h = subst (IsRing q pairs) (sym (append-nil back)) h
-  turn (first ∷ front) back h =
-      let turned = subst (IsRing q pairs) (append_assoc front back (first ∷ [])) (turn_once first (front ++ back) h) in
-      subst (IsRing q pairs) (append_assoc back (first ∷ []) front) (turn front (back ++ first ∷ []) turned)
-
-turned_distinct : {A : Type 0} (front back : List A) → AreDistinct (front ++ back) → AreDistinct (back ++ front)
-turned_distinct front back d =
-    distinct_append back front (distinct_right front back d) (distinct_left front back d) (λ x h k. distinct_apart front back d x k h)
 
 -- a ring of items, written and turned, is a circle
 pub circle_from_ring : (q : Process) (pairs : List (ℕ × ℕ)) (part : Process) (ring : List (List ℕ)) (circle : List ℕ) →
@@ -58,8 +34,8 @@ circle_from_ring q pairs part ring circle items distinct two closed t =
     record {
       ring = drop t.place ring ++ take t.place ring;
       items = each_from_members (λ item. item ∈ items_of part) (drop t.place ring ++ take t.place ring)
-          (λ item m. each_at (λ i. i ∈ items_of part) ring item items (mem_turned t.place ring item m));
-      distinct = turned_distinct (take t.place ring) (drop t.place ring) (subst AreDistinct (sym whole) distinct);
+          (λ item m. each_member (λ i. i ∈ items_of part) ring items item (mem_turned t.place ring item m));
+      distinct = distinct_swap (take t.place ring) (drop t.place ring) (subst AreDistinct (sym whole) distinct);
       two = omega (arith, length-append (drop t.place ring) (take t.place ring));
       closed = turn q pairs (take t.place ring) (drop t.place ring) (subst (IsRing q pairs) (sym whole) closed);
       written = t.turned ∙ (λ i. drop-map least_of t.place ring i ++ take-map least_of t.place ring i)

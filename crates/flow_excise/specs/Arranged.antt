@@ -17,7 +17,7 @@ pub record IsArranged (items : List Item) (left : LeafSet 16) (order : List ℕ)
   pub behind : (m n : ℕ) → n ∈ order → IsEdge items m n → StandsBefore m n order
 
 -- the new order holds the number, and all that the old one holds
-pub record Holds (n : ℕ) (old new : List ℕ) : Type 0 where
+pub record TakesIn (n : ℕ) (old new : List ℕ) : Type 0 where
   pub here : n ∈ new
   pub kept : (m : ℕ) → m ∈ old → m ∈ new
 

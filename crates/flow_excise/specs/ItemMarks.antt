@@ -46,5 +46,5 @@ abbrev pub Gathers : Planned → List Node → Gathering → Type 0
 Gathers p nodes g = MakesItems p.process (pairs_of p.tokens) nodes p.leaves g.place g.items.items (stack_of g.outer.items)
 
 -- the mark was read
-abbrev pub Reads : Planned → Node → Gathering → Gathering → Type 0
-Reads p node old new = (nodes : List Node) → Gathers p (node ∷ nodes) old → Gathers p nodes new
+abbrev pub ReadsMark : Planned → Node → Gathering → Gathering → Type 0
+ReadsMark p node old new = (nodes : List Node) → Gathers p (node ∷ nodes) old → Gathers p nodes new

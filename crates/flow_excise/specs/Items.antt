@@ -1,10 +1,10 @@
 -- The items of a part by their rows, and its circles.
-use Rattle.std.specs.Prelude.{◌≡◌, ◌≢◌, ◌<◌, ◌≤◌, ℕ, IsTrue, List, [], ◌∷◌, ◌++◌, ◌↔◌, length, map, slice_index_or}
+use Rattle.std.specs.Prelude.{◌≡◌, ◌≤◌, ℕ, IsTrue, List, [], ◌∷◌, ◌++◌, ◌↔◌, length, map, slice_index_or}
 use Rattle.leaf_rows.specs.Leaves.{has_leaf}
 use Rattle.flow_model.specs.Lists.{◌∈◌, Each, AreDistinct, StandsBefore}
 use Rattle.flow_model.specs.Process.{Process, leaves}
 use Rattle.flow_model.specs.Ready.{DirectlyBefore, isolated_parts}
-use Rattle.flow_model.specs.Circle.{items_of, ItemBefore, IsRing, least_of, BeginsWithLeast, IsCircle}
+use Rattle.flow_model.specs.Circle.{items_of, IsRing, least_of, BeginsWithLeast, IsCircle}
 use Rattle.flow_excise.specs.declared.item.Item.{Item}
 use Rattle.flow_excise.specs.declared.excising.ExciseRefusal.{ExciseRefusal}
 use Rattle.flow_excise.specs.declared.excising.ExciseRefusal.TheVariants.{Circle, NoMemory}
@@ -13,15 +13,8 @@ use Rattle.flow_excise.specs.declared.excising.ExciseRefusal.TheVariants.{Circle
 abbrev pub item_at : List (List ℕ) → ℕ → List ℕ
 item_at items number = slice_index_or items number []
 
--- of two different items the first is before the second
-pub record IsItemEdge (q : Process) (pairs : List (ℕ × ℕ)) (items : List (List ℕ)) (from to : ℕ) : Type 0 where
-  pub from_there : from < length items
-  pub to_there : to < length items
-  pub differ : from ≢ to
-  pub before : ItemBefore q pairs (item_at items from) (item_at items to)
-
 -- the leaves of the list, each behind those directly before it, and with nothing between two leaves of an isolated part
-pub record IsLaid (q : Process) (pairs : List (ℕ × ℕ)) (list run : List ℕ) : Type 0 where
+pub record IsLinedUp (q : Process) (pairs : List (ℕ × ℕ)) (list run : List ℕ) : Type 0 where
   pub leaf : (x : ℕ) → x ∈ run → x ∈ list
   pub all : (x : ℕ) → x ∈ list → x ∈ run
   pub distinct : AreDistinct run
@@ -34,7 +27,7 @@ pub record IsItemOf (q : Process) (pairs : List (ℕ × ℕ)) (list : List ℕ) 
   pub inside : (x : ℕ) → IsTrue (has_leaf item.inside x) ↔ (x ∈ list)
   pub waits : (x : ℕ) → IsTrue (has_leaf item.waits x) ↔ (((y : ℕ) × (y ∈ list) × DirectlyBefore q pairs x y) × ¬ (x ∈ list))
   pub least : item.least ≡ least_of list
-  pub run : IsLaid q pairs list item.run.items
+  pub run : IsLinedUp q pairs list item.run.items
 
 -- one item a list
 abbrev pub AreItemsOf : Process → List (ℕ × ℕ) → List (List ℕ) → List Item → Type 0

@@ -7,6 +7,7 @@ use Rattle.flow_model.specs.Ways.{Normal}
 use Rattle.flow_goal.specs.Labelled.{Labelled}
 use Rattle.flow_laws.specs.Words.{IsOrdered}
 use Rattle.flow_rules.specs.declared.order_set.OrderSet.{OrderSet}
+use Rattle.flow_weave.specs.Woven.{option_with}
 use Rattle.flow_excise.specs.declared.sifted.Sieve.{Sieve}
 use Rattle.flow_excise.specs.Executions.{NumberedOption, AreSifted, numbered_options}
 use Rattle.flow_excise.specs.Options.{options_by}
@@ -19,10 +20,6 @@ pub record IsPlannable (o : ChoiceOption) : Type 0 where
 
 abbrev pub ArePlannable : List ChoiceOption → Type 0
 ArePlannable os = (o : ChoiceOption) → o ∈ os → IsPlannable o
-
--- the option of a resolution and one of its ways
-abbrev pub option_with : Process → OrderSet → ChoiceOption
-option_with q way = record { resolution = q; order = way.pairs.items }
 
 abbrev pub options_with : Process → List OrderSet → List ChoiceOption
 options_with q ways = map (option_with q) ways

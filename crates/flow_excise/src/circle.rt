@@ -2,7 +2,7 @@ ghost use Rattle.std.specs.Prelude.{◌≡◌};
 
 /// Why an option has no execution: two or more items of one part wait for each other in a ring. Each is
 /// written as its least leaf, the least of all first.
-#[derive(Debug, PartialEq, Eq, Drop)]
+#[derive(Debug, Drop)]
 pub struct Circle {
     leaves: Vec<u32>,
 }

@@ -1,9 +1,12 @@
-ghost use Rattle.std.specs.Prelude.{◌≡◌, ◌<◌, ◌≤◌, IfOk, IfErr, length};
+ghost use Rattle.std.specs.Prelude.{◌≡◌, ◌≢◌, ◌<◌, ◌≤◌, [], List, IfOk, IfErr, length};
 ghost use Rattle.flow_goal.specs.Repeated.{HoldsNoneTwice};
+ghost use Rattle.flow_goal.specs.Choices.{AreChoicesOf};
+ghost use Rattle.flow_model.specs.Constraint.{Constraint, all_of};
 ghost use Rattle.flow_model.specs.Resolution.{resolution_count};
+ghost use Rattle.flow_rules.specs.Conjunction.{HasWaysOf, normal_in};
 ghost use Rattle.flow_rules.specs.Rule.{rules_of};
 ghost use Rattle.flow_rules.specs.Counts as way_counts;
-ghost use Rattle.flow_excise.specs.declared.refusal.CompileRefusal.TheVariants.{TooManyChoices};
+ghost use Rattle.flow_excise.specs.declared.refusal.CompileRefusal.TheVariants.{Inconsistent, TooManyChoices};
 ghost use Rattle.flow_excise.specs.Options.{schema_of};
 ghost use Rattle.flow_excise.specs.Compilation.{IsCompiled, IsRefused};
 
@@ -12,9 +15,57 @@ use crate::counts::Counts;
 use crate::limits::{few_options, few_resolutions};
 use crate::refusal::CompileRefusal;
 use crate::sieve::sift_all;
+use crate::sifted::Sieve;
+use crate::tally::Tally;
 use flow_goal::{Choices, Tree};
 use flow_rules::{Conjunction, Rule};
 use std::alloc::Global;
+
+/// The plans that were found, if there is one.
+fn compiled_of(sieve: Sieve, resolutions: u64, tally: Tally) -> Result<Compiled, CompileRefusal>
+    ensures ok { IfOk result (λ compiled. (sieve.kept.items ≢ []) × (compiled.plans ≡ sieve.kept.items) ×
+        (compiled.counts ≡ record { resolutions = resolutions; options = tally.options; bulk = tally.bulk; live = length sieve.kept.items })) }
+    ensures none { IfErr result (λ refusal. (sieve.kept.items ≡ []) × (refusal ≡ Inconsistent sieve.dropped)) }
+{
+    if sieve.kept.is_empty() {
+        let dropped = sieve.dropped;
+        return Err(CompileRefusal::Inconsistent { dropped });
+    }
+    let counts = Counts {
+        resolutions,
+        options: tally.options,
+        bulk: tally.bulk,
+        live: sieve.kept.len() as u64,
+    };
+    Ok(Compiled::new(sieve.kept, counts))
+}
+
+/// Compiles a tree whose resolutions and choices are counted. Nothing is formed before the options are
+/// counted and within the limits.
+fn compile_by(
+    alloc: Global,
+    tree: &Tree,
+    choices: &Choices,
+    rules: &Conjunction,
+    resolutions: u64,
+) -> Result<Compiled, CompileRefusal>
+    requires unique { HoldsNoneTwice tree.now }
+    requires small { length tree.now.labels ≤ 1024 }
+    requires choices { AreChoicesOf tree.now.process choices.now }
+    requires exact { resolution_count tree.now.process ≤ 4096 }
+    requires counted { resolutions ≡ resolution_count tree.now.process }
+    requires made { (these : List Constraint) × HasWaysOf (normal_in rules.now) (all_of these) }
+    ensures refused { (these : List Constraint) → HasWaysOf (normal_in rules.now) (all_of these) → IfErr result (IsRefused (schema_of tree.now these)) }
+    ensures ok { (these : List Constraint) → HasWaysOf (normal_in rules.now) (all_of these) → IfOk result (IsCompiled (schema_of tree.now these)) }
+{
+    let _leaves = tree.leaves();
+    let counted = match few_options(alloc, tree, choices, rules) {
+        Ok(counted) => counted,
+        Err(refusal) => return Err(refusal),
+    };
+    let sieve = sift_all(alloc, tree, choices, rules, &counted.met)?;
+    compiled_of(sieve, resolutions, counted.tally)
+}
 
 /// Compiles a tree and rules into the plans of all options that have an execution. Nothing is formed
 /// before the options are counted and within the limits.
@@ -26,24 +77,11 @@ pub fn compile(alloc: Global, tree: &Tree, rules: &[Rule]) -> Result<Compiled, C
     ensures refused { IfErr result (IsRefused (schema_of tree.now (rules_of rules.now))) }
     ensures ok { IfOk result (IsCompiled (schema_of tree.now (rules_of rules.now))) }
 {
-    let _leaves = tree.leaves();
     let resolutions = few_resolutions(tree)?;
     let rules = Conjunction::new(alloc, rules)?;
     let choices = Choices::of(alloc, tree)?;
-    let counted = match few_options(alloc, tree, &choices, &rules) {
-        Ok(counted) => counted,
-        Err(refusal) => return Err(refusal),
-    };
-    let sieve = sift_all(alloc, tree, &choices, &rules, &counted.met)?;
-    if sieve.kept.is_empty() {
-        let dropped = sieve.dropped;
-        return Err(CompileRefusal::Inconsistent { dropped });
-    }
-    let counts = Counts {
-        resolutions,
-        options: counted.tally.options,
-        bulk: counted.tally.bulk,
-        live: sieve.kept.len() as u64,
-    };
-    Ok(Compiled::new(sieve.kept, counts))
+    let compiled = compile_by(alloc, tree, &choices, &rules, resolutions);
+    drop(choices);
+    drop(rules);
+    compiled
 }

@@ -1,5 +1,5 @@
 /// How large a workflow is.
-#[derive(Clone, Copy, Debug, PartialEq, Eq)]
+#[derive(Clone, Copy)]
 pub struct Counts {
     /// In how many ways its choices can be resolved.
     pub resolutions: u64,

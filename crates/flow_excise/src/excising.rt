@@ -1,5 +1,6 @@
-ghost use Rattle.std.specs.Prelude.{◌≡◌, IfOk, IfErr, IsOk};
+ghost use Rattle.std.specs.Prelude.{◌≡◌, ◌<◌, ◌↔◌, IsTrue, IfOk, IfErr, IsOk};
 ghost use Rattle.flow_excise.specs.declared.excising.ExciseRefusal.TheVariants.{NoMemory};
+ghost use Rattle.flow_model.specs.Lists.{Each};
 ghost use Rattle.flow_model.specs.Resolution.{OptionTrace};
 ghost use Rattle.flow_plan.specs.Planned.{pairs_of};
 ghost use Rattle.flow_excise.specs.Executions.{HasExecution};
@@ -10,18 +11,15 @@ ghost use Rattle.flow_excise.specs.Excised.{IsReasonAgainst};
 use crate::circle::Circle;
 use crate::items::items_of_plan;
 use crate::order::run_of;
-use flow_plan::{KnotFree, Plan};
+use flow_plan::{KnotFree, OrderToken, Plan};
 use std::alloc::{AllocError, AllocFailed, Global};
-use thiserror::Error;
 
 /// Why a plan is not kept.
-#[derive(Debug, PartialEq, Eq, Drop, Error)]
+#[derive(Drop)]
 pub enum ExciseRefusal {
     /// It has no execution, since its leaves wait for each other.
-    #[error("leaves wait for each other")]
     Circle(Circle),
     /// Nothing is said of the plan.
-    #[error("out of memory")]
     NoMemory,
 }
 
@@ -41,12 +39,28 @@ impl<T: Drop> From<AllocFailed<T>> for ExciseRefusal {
     }
 }
 
-/// An execution of a plan, or why there is none.
+/// Whether each token leads from a lesser leaf to a greater one.
+fn lead_forward(tokens: &[OrderToken]) -> bool
+    ensures { IsTrue result ↔ Each (λ token. token.sender < token.receiver) tokens.now }
+{
+    for token in tokens {
+        if token.receiver <= token.sender {
+            return false;
+        }
+    }
+    true
+}
+
+/// An execution of a plan, or why there is none. Where all tokens lead forward, the leaves from left to
+/// right are one.
 fn run_of_plan(alloc: Global, plan: &Plan) -> Result<Vec<u32>, ExciseRefusal>
     ensures ok { IfOk result (λ run. OptionTrace (option_of plan.now) run.items) }
     ensures circle { IfErr result (TellsCircle plan.now.process (pairs_of plan.now.tokens)) }
 {
-    let _tokens = plan.tokens();
+    let leaves = plan.leaves();
+    if lead_forward(plan.tokens()) {
+        return Ok(Vec::from_slice(alloc, leaves)?);
+    }
     let items = items_of_plan(alloc, plan)?;
     run_of(alloc, &items)
 }

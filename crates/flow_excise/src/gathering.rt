@@ -5,7 +5,7 @@ ghost use Rattle.flow_goal.specs.declared.node.Node.TheVariants.{Leaf, Open, Clo
 ghost use Rattle.flow_excise.specs.Rows.{AreApart, HasSome};
 ghost use Rattle.flow_excise.specs.Arranged.{AddsOneOf, TellsRing};
 ghost use Rattle.flow_excise.specs.Items.{TellsCircle};
-ghost use Rattle.flow_excise.specs.ItemMarks.{Gathers, Reads};
+ghost use Rattle.flow_excise.specs.ItemMarks.{Gathers, ReadsMark};
 
 use crate::excising::ExciseRefusal;
 use crate::item::Item;
@@ -40,7 +40,7 @@ fn add_part(alloc: Global, inner: &[Item], items: &mut Vec<Item>) -> Result<(), 
 }
 
 /// The leaf at that place.
-fn leaf_at(plan: &Plan, place: usize) -> Option<u32>
+fn leaf_in_place(plan: &Plan, place: usize) -> Option<u32>
     ensures leaf { result ≡ slice_get plan.now.leaves place }
     ensures small { IfSome result (λ leaf. leaf < 1024) }
     ensures next { IfSome result (λ _. place + 1 < 2 ^ 64) }
@@ -65,11 +65,11 @@ impl Gathering {
     /// A leaf is an item.
     fn leaf(&mut self, alloc: Global, plan: &Plan) -> Result<(), ExciseRefusal>
         ensures { MatchResult result
-            (λ _. Reads plan.now Leaf self.old self.new)
+            (λ _. ReadsMark plan.now Leaf self.old self.new)
             (TellsCircle plan.now.process (pairs_of plan.now.tokens)) }
     {
         let _tokens = plan.tokens();
-        if let Some(leaf) = leaf_at(plan, self.place) {
+        if let Some(leaf) = leaf_in_place(plan, self.place) {
             self.items.push(Item::of_leaf(alloc, plan, leaf)?)?;
             self.place += 1;
         }
@@ -79,7 +79,7 @@ impl Gathering {
     /// A part begins.
     fn open(&mut self, alloc: Global, plan: &Plan) -> Result<(), ExciseRefusal>
         ensures { MatchResult result
-            (λ _. Reads plan.now Open self.old self.new)
+            (λ _. ReadsMark plan.now Open self.old self.new)
             (TellsCircle plan.now.process (pairs_of plan.now.tokens)) }
     {
         let around = mem::replace(&mut self.items, Vec::new(alloc));
@@ -91,7 +91,7 @@ impl Gathering {
     fn close(&mut self, alloc: Global, plan: &Plan) -> Result<(), ExciseRefusal>
         requires { (nodes : List Node) × Gathers plan.now (Close ∷ nodes) self.old }
         ensures { MatchResult result
-            (λ _. Reads plan.now Close self.old self.new)
+            (λ _. ReadsMark plan.now Close self.old self.new)
             (TellsCircle plan.now.process (pairs_of plan.now.tokens)) }
     {
         if let Some(mut before) = self.outer.pop() {
@@ -103,7 +103,7 @@ impl Gathering {
         Ok(())
     }
 
-    /// Reads one mark, unless the items of a part that ends wait for each other.
+    /// ReadsMark one mark, unless the items of a part that ends wait for each other.
     pub(crate) fn read(
         &mut self,
         alloc: Global,
@@ -112,7 +112,7 @@ impl Gathering {
     ) -> Result<(), ExciseRefusal>
         requires { (nodes : List Node) × Gathers plan.now (node.now ∷ nodes) self.old }
         ensures { MatchResult result
-            (λ _. Reads plan.now node.now self.old self.new)
+            (λ _. ReadsMark plan.now node.now self.old self.new)
             (TellsCircle plan.now.process (pairs_of plan.now.tokens)) }
     {
         match node {

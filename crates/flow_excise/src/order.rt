@@ -2,7 +2,7 @@ ghost use Rattle.std.specs.Prelude.{◌≡◌, ◌<◌, ◌&&◌, ℕ, IsTrue, I
 ghost use Rattle.flow_model.specs.Lists.{◌∈◌, Each};
 ghost use Rattle.leaf_rows.specs.Leaves.{has_leaf};
 ghost use Rattle.flow_excise.specs.Rows.{AreApart, IsIn, WaitsFor, has_inside, runs};
-ghost use Rattle.flow_excise.specs.Arranged.{Holds, IsArranged, IsNodeRing, IsRunOf, TellsRing};
+ghost use Rattle.flow_excise.specs.Arranged.{TakesIn, IsArranged, IsNodeRing, IsRunOf, TellsRing};
 
 use crate::excising::ExciseRefusal;
 use crate::item::{Item, all_inside};
@@ -47,7 +47,7 @@ fn take_out(items: &[Item], number: usize, left: &mut LeafSet<16>)
 }
 
 /// The first place of a number in a path.
-fn place_of(path: &[usize], number: usize) -> Option<usize>
+fn place_in_path(path: &[usize], number: usize) -> Option<usize>
     ensures { MatchOption result (¬ (number ∈ path.now))
         (λ place. (place < length path.now) × (slice_index path.now place ≡ number)) }
 {
@@ -61,7 +61,7 @@ fn place_of(path: &[usize], number: usize) -> Option<usize>
 
 /// Puts the item behind the order, and before it those that it waits for, as far as they are left. If
 /// they wait for each other, a ring of them is returned.
-fn settle(
+fn put_in_order(
     alloc: Global,
     items: &[Item],
     start: usize,
@@ -73,7 +73,7 @@ fn settle(
     requires fresh { ¬ (start ∈ order.old.items) }
     requires arranged { IsArranged items.now left.old order.old.items }
     ensures { IfOk result (λ found. MatchOption found
-        (IsArranged items.now left.new order.new.items × Holds start order.old.items order.new.items)
+        (IsArranged items.now left.new order.new.items × TakesIn start order.old.items order.new.items)
         (λ ring. IsNodeRing items.now ring.items)) }
 {
     let mut path = Vec::with_capacity(alloc, 1)?;
@@ -85,7 +85,7 @@ fn settle(
                 order.push(top)?;
                 path.remove(0);
             }
-            Some(next) => match place_of(&path, next) {
+            Some(next) => match place_in_path(&path, next) {
                 Some(place) => {
                     path.truncate(place + 1);
                     return Ok(Some(path));
@@ -120,7 +120,7 @@ pub(crate) fn run_of(alloc: Global, items: &[Item]) -> Result<Vec<u32>, ExciseRe
     let mut order = Vec::with_capacity(alloc, items.len())?;
     for start in 0..items.len() {
         if items[start].inside.meets(&left) {
-            match settle(alloc, items, start, &mut left, &mut order)? {
+            match put_in_order(alloc, items, start, &mut left, &mut order)? {
                 None => {}
                 Some(ring) => return Err(ExciseRefusal::Circle(circle_of(alloc, items, &ring)?)),
             }

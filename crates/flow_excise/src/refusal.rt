@@ -3,10 +3,9 @@ ghost use Rattle.flow_excise.specs.declared.refusal.CompileRefusal.TheVariants.{
 
 use crate::circle::Circle;
 use std::alloc::{AllocError, AllocFailed};
-use thiserror::Error;
 
 /// An option that has no execution.
-#[derive(Debug, PartialEq, Eq, Drop)]
+#[derive(Debug, Drop)]
 pub struct Dropped {
     /// The number of its resolution.
     pub resolution: u64,
@@ -16,20 +15,17 @@ pub struct Dropped {
 }
 
 /// Why a tree and rules give no plans.
-#[derive(Debug, PartialEq, Eq, Drop, Error)]
+#[derive(Debug, Drop)]
 pub enum CompileRefusal {
-    #[error("{count} ways to resolve the choices are too many")]
+    /// So many ways to resolve the choices.
     TooManyChoices { count: u64 },
-    #[error("{count} options are too many")]
+    /// So many options.
     TooManyWays { count: u64 },
     /// So many leaves and pairs are in all options.
-    #[error("{count} leaves and pairs in all options are too many")]
     TooBulky { count: u64 },
-    /// Each option, in order, with its circle.
-    #[error("no execution meets the constraints")]
+    /// No execution meets the constraints: each option, in order, with its circle.
     Inconsistent { dropped: Vec<Dropped> },
     /// Nothing is said of the workflow.
-    #[error("out of memory")]
     NoMemory,
 }
 

@@ -1,4 +1,4 @@
-ghost use Rattle.std.specs.Prelude.{◌≡◌, ◌<◌, ◌≤◌, ◌+◌, ◌∷◌, [], ℕ, MatchResult, OnOk, length, map, slice_get};
+ghost use Rattle.std.specs.Prelude.{◌≡◌, ◌<◌, ◌≤◌, ◌↔◌, ◌+◌, ◌*◌, ◌∷◌, [], ℕ, false, get_or, IsTrue, MatchResult, OnOk, length, map, slice_get};
 ghost use Rattle.flow_model.specs.Process.{Process};
 ghost use Rattle.flow_model.specs.Resolution.{resolution_count, resolutions as all_resolutions};
 ghost use Rattle.flow_model.specs.Ways.{Normal};
@@ -9,7 +9,8 @@ ghost use Rattle.flow_excise.specs.declared.refusal.CompileRefusal.TheVariants.{
 ghost use Rattle.flow_excise.specs.Blocks.{HasWays, options_in};
 ghost use Rattle.flow_excise.specs.Executions.{numbered_options, numbered_ways};
 ghost use Rattle.flow_excise.specs.Options.{all_options_by, has_ways, options_by};
-ghost use Rattle.flow_excise.specs.Sieves.{ArePlannable, HasSifted, HasSiftedTo, Sifts, options_with, option_with, IsPlannable};
+ghost use Rattle.flow_excise.specs.Sieves.{ArePlannable, HasSifted, HasSiftedTo, Sifts, options_with, IsPlannable};
+ghost use Rattle.flow_weave.specs.Woven.{option_with};
 
 use crate::block::{Block, blocks};
 use crate::excising::{ExciseRefusal, excise};
@@ -138,8 +139,23 @@ fn sift_block(
     Ok(())
 }
 
+/// Whether one of the resolutions in the block of that number has an option.
+fn has_option(met: &[bool], number: u64) -> bool
+    requires { 64 * number < length met.now }
+    ensures { IsTrue result ↔ ((k : ℕ) × (64 * number ≤ k) × (k < 64 * number + 64) × IsTrue (get_or met.now k false)) }
+{
+    let start = 64 * number as usize;
+    let count = (met.len() - start).min(64);
+    for k in start..start + count {
+        if met[k] {
+            return true;
+        }
+    }
+    false
+}
+
 /// Looks at each option, by resolutions in order and then by ways in order. The list says which
-/// resolutions have options.
+/// resolutions have options. A block with none of them is not made.
 pub(crate) fn sift_all(
     alloc: Global,
     tree: &Tree,
@@ -162,8 +178,10 @@ pub(crate) fn sift_all(
     let mut lanes = Lanes::new(alloc);
     let mut events = LeafEvents::new(alloc);
     for number in 0..blocks(tree) {
-        let block = Block::new(alloc, tree, choices, rules, number, &mut lanes)?;
-        sift_block(alloc, tree, choices, met, &block, &mut events, &mut sieve)?;
+        if has_option(met, number) {
+            let block = Block::new(alloc, tree, choices, rules, number, &mut lanes)?;
+            sift_block(alloc, tree, choices, met, &block, &mut events, &mut sieve)?;
+        }
     }
     Ok(sieve)
 }

@@ -17,7 +17,7 @@ use std::alloc::{AllocError, Global};
 
 /// How many options there are, and how many leaves and pairs in all of them. What would pass the
 /// greatest number is kept at it.
-#[derive(Clone, Copy, Debug, PartialEq, Eq)]
+#[derive(Clone, Copy)]
 pub(crate) struct Tally {
     pub(crate) options: u64,
     pub(crate) bulk: u64,

@@ -20,7 +20,7 @@ fn leasts(alloc: Global, items: &[Item], numbers: &[usize]) -> Result<Vec<u32>, 
 }
 
 /// The first place of the least number.
-fn place_of_least(list: &[u32]) -> usize
+fn least_place(list: &[u32]) -> usize
     requires { 0 < length list.now }
     ensures within { result < length list.now }
     ensures least { (k : ℕ) → k < length list.now → slice_index list.now result ≤ slice_index list.now k }
@@ -41,7 +41,7 @@ pub(crate) fn circle_of(alloc: Global, items: &[Item], ring: &[usize]) -> Result
     ensures { IfOk result (λ circle. IsTurned (map (least_at items.now) ring.now) circle.leaves.items) }
 {
     let mut leaves = leasts(alloc, items, ring)?;
-    let place = place_of_least(&leaves);
+    let place = least_place(&leaves);
     leaves.rotate_left(place);
     Ok(Circle::new(leaves))
 }

@@ -8,30 +8,32 @@ use Rattle.flow_model.specs.Lists.{◌∈◌, Each, AreDistinct}
 use Rattle.flow_goal.specs.Repeated.{HoldsNoneTwice}
 use Rattle.flow_workflow.specs.Definition.{Definition, IsWorkflow}
 use Rattle.flow_workflow.specs.Numbers.{IsKnown}
-use Rattle.flow_form.specs.RuleForm.{RuleShape}
+use Rattle.flow_form.specs.RuleForm.{RuleShape, rule_shapes}
 use Rattle.flow_form.specs.Script.{Said}
-use Rattle.flow_form.specs.Names.{event_names, names_in_rule, IsClosed}
-use Rattle.flow_expand.specs.declared.numbering.Numbered.{Numbered}
+use Rattle.flow_form.specs.Names.{event_names, names_in_rule, names_in_rules, IsClosed}
+use Rattle.flow_expand.specs.declared.numbered_goal.NumberedGoal.{NumberedGoal}
 use Rattle.flow_expand.specs.Numbers.{facts_in, with_fact, firsts, declared_facts, facts_of, notes_of}
 use Rattle.flow_expand.specs.Constraints.{constraint_of}
 use Rattle.flow_expand.specs.Numbering.{IsNumberedGoal}
 use Rattle.flow_expand.specs.Workflows.{definition_of, IsExpanded}
 use Rattle.flow_expand.proofs.FactLemmas.{length_fold}
+use Rattle.flow_expand.proofs.PrepareLemmas.{names_in_all}
 use Rattle.flow_expand.proofs.BuildLemmas.{labels_counted}
 use Rattle.flow_expand.proofs.DeclaredLemmas.{distinct_events, events_few, events_noted}
 use Rattle.flow_expand.proofs.NumberingLemmas.{numbers_below, leaves_few}
 
 -- without constraints yet
-abbrev pub parts : Numbered → List (List ℕ) → List Note → Definition
+abbrev pub parts : NumberedGoal → List (List ℕ) → List Note → Definition
 parts n events notes = record { events = events; notes = notes; facts = n.facts; held = n.held.items; tree = n.tree; rules = [] }
 
 -- constraints speak of events that are declared
 pub rules_known : (s : Said) (events : List (List ℕ)) (rules : List RuleShape) → IsClosed s → events ≡ event_names s.decls → rules ≡ s.rules →
-    Each (λ n. n ∈ events) (flat_map names_in_rule rules)
+    Each (λ n. n ∈ events) (names_in_rules (rule_shapes rules))
 rules_known s events rules closed names same =
-    subst (λ l. Each (λ n. n ∈ events) (flat_map names_in_rule l)) (sym same) (subst (λ l. Each (λ n. n ∈ l) (flat_map names_in_rule s.rules)) (sym names) closed.in_rules)
+    subst (λ ns. Each (λ n. n ∈ events) ns) (sym (ap (λ l. names_in_rules (rule_shapes l)) same ∙ names_in_all s.rules))
+    (subst (λ l. Each (λ n. n ∈ l) (flat_map names_in_rule s.rules)) (sym names) closed.in_rules)
 
-module _ (s : Said) (n : Numbered) (closed : IsClosed s) (numbered : IsNumberedGoal s n) (unique : HoldsNoneTwice n.tree)
+module _ (s : Said) (n : NumberedGoal) (closed : IsClosed s) (numbered : IsNumberedGoal s n) (unique : HoldsNoneTwice n.tree)
     (events : List (List ℕ)) (names : events ≡ event_names s.decls) where
   held_below : Each (λ f. f < length n.facts) n.held.items
   held_below =

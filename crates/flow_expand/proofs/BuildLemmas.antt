@@ -1,24 +1,22 @@
--- Goals that are built of the parts of a plan.
-use Rattle.std.proofs.Common.{◌≡◌, ℕ, ◌+◌, ◌<◌, ◌≤◌, List, [], ◌∷◌, ◌++◌, fold, length, slice_get, Some, refl, sym, ap, ◌∙◌, subst, inl, arith}
+-- Goals that are built of the parts of a layout.
+use Rattle.std.proofs.Common.{◌≡◌, ℕ, ◌+◌, ◌≤◌, List, [], ◌∷◌, ◌++◌, fold, length, slice_get, Some, refl, sym, ap, ◌∙◌, subst, inl, arith}
 use Rattle.std.specs.Str.{bytes_eq}
 use Rattle.std.specs.Cmp.Lexicographic.{bytes_decides}
 use Rattle.std.proofs.lemmas.List.{append-nil, append_assoc, length-append}
 use Rattle.std.proofs.lemmas.List.Sums.{fold-append}
-use Rattle.flow_model.specs.declared.labels.Label.{Label}
 use Rattle.flow_model.specs.declared.labels.Label.TheVariants.{Event, Test, Absent, Ins, Del}
 use Rattle.flow_model.specs.Lists.{◌∈◌, AreDistinct}
 use Rattle.flow_model.specs.Process.{Process, Empty, Task, Isolated}
 use Rattle.flow_facts.specs.Atom.{Atom}
 use Rattle.flow_workflow.proofs.FirstPlaces.{place_in}
-use Rattle.flow_expand.specs.declared.plan.Node.{Node}
-use Rattle.flow_expand.specs.declared.plan.Node.TheVariants as part
-use Rattle.flow_expand.specs.declared.plan.Join.{Join}
-use Rattle.flow_expand.specs.declared.plan.Join.TheVariants as how
+use Rattle.flow_expand.specs.declared.layout.Deed.{Deed}
+use Rattle.flow_expand.specs.declared.layout.Pairing.{Pairing}
 use Rattle.flow_expand.specs.declared.building.Leaves.{Leaves}
 use Rattle.flow_expand.specs.Expansion.{Expansion, nothing, happens, holds, lacks, adds, takes, in_turn, at_once, one_of, alone, ends_in}
 use Rattle.flow_expand.specs.Numbers.{facts_in, with_fact, fact_number, labels_of, leaf_count, numbered}
-use Rattle.flow_expand.specs.Plan.{Stands, join_of}
-use Rattle.flow_expand.specs.Built.{HasRoom, IsBuilt, joined_process}
+use Rattle.flow_expand.specs.Layout.{paired, fact_leaf, label_of}
+use Rattle.flow_expand.specs.Built.{HasRoom, IsBuilt, paired_process}
+use Rattle.flow_expand.proofs.LayoutLemmas.{IsFactLeaf, fact_kind, ArePaired, pair_kind}
 use Rattle.flow_expand.proofs.FactLemmas.{fact_there, number_kept, length_fold}
 use Rattle.flow_expand.proofs.Members.{mem_left, mem_right}
 
@@ -91,37 +89,6 @@ labels_kept events facts more (one_of a b) all = λ i.
     ++ labels_kept events facts more b (λ x m. all x (mem_right x (facts_in a) (facts_in b) m)) i
 labels_kept events facts more (alone a) all = labels_kept events facts more a all
 
--- the part at a place and the goal that stands there
-
--- the goal that a part stands for
-abbrev pub IsGoalOf : List Node → List (List ℕ) → ℕ → Node → Expansion → Type 0
-IsGoalOf plan events i part.Nop e = e ≡ nothing
-IsGoalOf plan events i (part.Event k) e = (n : List ℕ) × (e ≡ happens n) × (slice_get events k ≡ Some n)
-IsGoalOf plan events i (part.Test f) e = e ≡ holds f.now
-IsGoalOf plan events i (part.Absent f) e = e ≡ lacks f.now
-IsGoalOf plan events i (part.Ins f) e = e ≡ adds f.now
-IsGoalOf plan events i (part.Del f) e = e ≡ takes f.now
-IsGoalOf plan events i (part.Serial j k) e = (a b : Expansion) × (e ≡ in_turn a b) × (j < i) × (k < i) × (Stands plan events a j × Stands plan events b k)
-IsGoalOf plan events i (part.Beside j k) e = (a b : Expansion) × (e ≡ at_once a b) × (j < i) × (k < i) × (Stands plan events a j × Stands plan events b k)
-IsGoalOf plan events i (part.Either j k) e = (a b : Expansion) × (e ≡ one_of a b) × (j < i) × (k < i) × (Stands plan events a j × Stands plan events b k)
-IsGoalOf plan events i (part.Iso j) e = (a : Expansion) × (e ≡ alone a) × (j < i) × Stands plan events a j
-
-module _ (plan : List Node) (events : List (List ℕ)) (i : ℕ) (p : Node) (at : slice_get plan i ≡ Some p) where
-  is_part : (q : Node) → slice_get plan i ≡ Some q → q ≡ p
-  is_part q e = let f : Some q ≡ Some p = sym e ∙ at in cc
-
-  pub goal_of : (e : Expansion) → Stands plan events e i → IsGoalOf plan events i p e
-  goal_of nothing h = subst (λ q. IsGoalOf plan events i q nothing) (is_part part.Nop h) refl
-  goal_of (happens n) (k, e, f) = subst (λ q. IsGoalOf plan events i q (happens n)) (is_part (part.Event k) e) (n, refl, f)
-  goal_of (holds a) (f, e, g) = subst (λ q. IsGoalOf plan events i q (holds a)) (is_part (part.Test f) e) (ap holds (sym g))
-  goal_of (lacks a) (f, e, g) = subst (λ q. IsGoalOf plan events i q (lacks a)) (is_part (part.Absent f) e) (ap lacks (sym g))
-  goal_of (adds a) (f, e, g) = subst (λ q. IsGoalOf plan events i q (adds a)) (is_part (part.Ins f) e) (ap adds (sym g))
-  goal_of (takes a) (f, e, g) = subst (λ q. IsGoalOf plan events i q (takes a)) (is_part (part.Del f) e) (ap takes (sym g))
-  goal_of (in_turn a b) (j, k, e, l, m, s) = subst (λ q. IsGoalOf plan events i q (in_turn a b)) (is_part (part.Serial j k) e) (a, b, refl, l, m, s)
-  goal_of (at_once a b) (j, k, e, l, m, s) = subst (λ q. IsGoalOf plan events i q (at_once a b)) (is_part (part.Beside j k) e) (a, b, refl, l, m, s)
-  goal_of (one_of a b) (j, k, e, l, m, s) = subst (λ q. IsGoalOf plan events i q (one_of a b)) (is_part (part.Either j k) e) (a, b, refl, l, m, s)
-  goal_of (alone a) (j, e, l, s) = subst (λ q. IsGoalOf plan events i q (alone a)) (is_part (part.Iso j) e) (a, refl, l, s)
-
 -- what is built
 
 pub built_as : (events : List (List ℕ)) (e f : Expansion) (old new : Leaves) (goal : Process) → e ≡ f → IsBuilt events f old new goal → IsBuilt events e old new goal
@@ -143,15 +110,17 @@ built_event events n k old new goal distinct at same grown is = record {
 }
 
 -- a leaf with a fact
-pub built_fact : (events : List (List ℕ)) (e : Expansion) (a : Atom) (label : ℕ → Label) (number : ℕ) (old new : Leaves) (keys : List Atom) (goal : Process) →
-    facts_in e ≡ a ∷ [] → ((facts : List Atom) → labels_of events facts e ≡ label (fact_number facts a) ∷ []) → ((next : ℕ) → numbered next e ≡ Task next) →
-    keys ≡ with_fact old.facts a → new.facts ≡ keys → number ≡ fact_number keys a →
-    new.labels.items ≡ old.labels.items ++ label number ∷ [] → goal ≡ Task (length old.labels.items) → IsBuilt events e old new goal
-built_fact events e a label number old new keys goal one labelled leaf put same is grown at = record {
-  process = at ∙ sym (leaf (length old.labels.items));
-  facts = same ∙ put ∙ sym (ap (fold with_fact old.facts) one);
-  labels = grown ∙ ap (λ k. old.labels.items ++ label k ∷ []) (is ∙ ap (λ l. fact_number l a) (sym same)) ∙ sym (ap (λ l. old.labels.items ++ l) (labelled new.facts));
+pub built_fact : (events : List (List ℕ)) (d : Deed) (a : Atom) (number : ℕ) (old new : Leaves) (keys : List Atom) (goal : Process) →
+    keys ≡ with_fact old.facts a → number ≡ fact_number keys a → new.facts ≡ keys →
+    new.labels.items ≡ old.labels.items ++ label_of d number ∷ [] → goal ≡ Task (length old.labels.items) → IsBuilt events (fact_leaf d a) old new goal
+built_fact events d a number old new keys goal put is same grown at = record {
+  process = at ∙ sym (kind.task (length old.labels.items) a);
+  facts = same ∙ put ∙ sym (ap (fold with_fact old.facts) (kind.facts a));
+  labels = grown ∙ ap (λ k. old.labels.items ++ label_of d k ∷ []) (is ∙ ap (λ l. fact_number l a) (sym same)) ∙ sym (ap (λ l. old.labels.items ++ l) (kind.labels events new.facts a));
 }
+  where
+    kind : IsFactLeaf d
+    kind = fact_kind d
 
 pub built_alone : (events : List (List ℕ)) (a : Expansion) (old new : Leaves) (part whole : Process) → IsBuilt events a old new part → whole ≡ Isolated part → IsBuilt events (alone a) old new whole
 built_alone events a old new part whole h is = record { process = is ∙ ap Isolated h.process; facts = h.facts; labels = h.labels }
@@ -166,6 +135,9 @@ labels_after events e old new goal h =
 pub facts_after : (events : List (List ℕ)) (e : Expansion) (old new : Leaves) (goal : Process) → IsBuilt events e old new goal →
     length new.facts ≤ length old.facts + leaf_count e
 facts_after events e old new goal h = omega (arith, ap length h.facts, (length_fold old.facts (facts_in e)).1, facts_counted e)
+
+pub room_before : (leaves : Leaves) (first second : ℕ) → HasRoom leaves (first + second) → HasRoom leaves first
+room_before leaves first second room = record { labels = omega (arith, room.labels); facts = omega (arith, room.facts) }
 
 pub room_after : (events : List (List ℕ)) (e : Expansion) (count : ℕ) (old new : Leaves) (goal : Process) → IsBuilt events e old new goal →
     HasRoom old (leaf_count e + count) → HasRoom new count
@@ -193,7 +165,12 @@ module _ (events : List (List ℕ)) (a b : Expansion) (old middle new : Leaves) 
   both_numbered : right ≡ numbered (length old.labels.items + leaf_count a) b
   both_numbered = second.process ∙ ap (λ n. numbered n b) (labels_after events a old middle left first)
 
-  pub built_both : (by : Join) (whole : Process) → whole ≡ joined_process by left right → IsBuilt events (join_of by a b) old new whole
-  built_both how.Serial whole is = record { process = is ∙ (λ i. joined_process how.Serial (first.process i) (both_numbered i)); facts = both_facts; labels = both_labels }
-  built_both how.Beside whole is = record { process = is ∙ (λ i. joined_process how.Beside (first.process i) (both_numbered i)); facts = both_facts; labels = both_labels }
-  built_both how.Either whole is = record { process = is ∙ (λ i. joined_process how.Either (first.process i) (both_numbered i)); facts = both_facts; labels = both_labels }
+  pub built_both : (by : Pairing) (whole : Process) → whole ≡ paired_process by left right → IsBuilt events (paired by a b) old new whole
+  built_both by whole is = record {
+    process = is ∙ (λ i. paired_process by (first.process i) (both_numbered i)) ∙ sym (kind.numbers (length old.labels.items));
+    facts = both_facts ∙ sym (ap (fold with_fact old.facts) kind.facts);
+    labels = both_labels ∙ sym (ap (λ l. old.labels.items ++ l) (kind.labels events new.facts));
+  }
+    where
+      kind : ArePaired by a b
+      kind = pair_kind by a b

@@ -1,29 +1,22 @@
 -- A ring of sub-workflows, written from the one declared first.
 use Rattle.std.proofs.Common.{◌≡◌, ◌≢◌, ℕ, zero, suc, ◌+◌, ◌<◌, ◌≤◌, List, [], ◌∷◌, ◌++◌, length, map, get_or, take, drop, slice_get, Some, refl, sym, ap, ◌∙◌, subst, inl, inr, ⊎_elim, arith}
-use Rattle.std.proofs.lemmas.List.{append_assoc, append-nil, map-append, take-append-drop, drop_more, map_more, length-map}
-use Rattle.std.specs.Prelude.{All}
+use Rattle.std.proofs.lemmas.List.{append_assoc, append-nil, map-append, take-append-drop, drop_more}
 use Rattle.std.proofs.lemmas.Option.{slice_get_within, slice_get-get_or, get_or_from_slice_get}
 use Rattle.flow_model.specs.Lists.{◌∈◌, Each, AreDistinct, StandsBefore}
-use Rattle.flow_form.specs.Form.{Shape, shape_of}
-use Rattle.flow_form.specs.Script.{Declared, fact, event, flow}
+use Rattle.flow_laws.proofs.Members.{distinct_right, distinct_parts, distinct-append}
+use Rattle.flow_laws.proofs.MadeLists.{of_map}
+use Rattle.flow_facts.proofs.Places.{place_of}
+use Rattle.flow_form.specs.Form.{Shape}
+use Rattle.flow_form.specs.Script.{Declared, flow}
 use Rattle.flow_form.specs.Names.{names_in}
-use Rattle.flow_expand.specs.declared.names.Names.{Names}
-use Rattle.flow_expand.specs.declared.names.Flow.{Flow}
-use Rattle.flow_expand.specs.Index.{IsIndex, decls_of, flow_view}
 use Rattle.flow_expand.specs.Steps.{flows_of, flow_names, IsStep, LeadsTo, IsRecursion}
-use Rattle.flow_expand.specs.Waiting.{NumberStep, AreSteps, name_at}
+use Rattle.flow_expand.specs.Waiting.{NumberStep, AreSteps, ComesBack, name_at}
 use Rattle.flow_expand.proofs.Members.{mem_left, mem_right, mem_either, mem_at, get_map}
 use Rattle.flow_expand.proofs.Declarations.{in_flows}
-use Rattle.flow_expand.proofs.SettleLemmas.{steps_more, flow_at}
-use Rattle.flow_laws.proofs.ListLemmas2.{of_map}
+use Rattle.flow_expand.proofs.DirectoryLemmas.{names_of_flows}
+use Rattle.flow_expand.proofs.SettleLemmas.{steps_more}
 
 -- names and numbers
-
-pub names_of_flows : (decls : List Declared) → flow_names decls ≡ map (λ (p : List ℕ × Shape). p.0) (flows_of decls)
-names_of_flows [] = refl
-names_of_flows (fact a ∷ ds) = names_of_flows ds
-names_of_flows (event n note ∷ ds) = names_of_flows ds
-names_of_flows (flow n s ∷ ds) = ap (λ l. n ∷ l) (names_of_flows ds)
 
 name_there : (decls : List Declared) (k : ℕ) (n : List ℕ) (s : Shape) → slice_get (flows_of decls) k ≡ Some (n, s) → slice_get (flow_names decls) k ≡ Some n
 name_there decls k n s e = ap (λ l. slice_get l k) (names_of_flows decls) ∙ get_map (λ (p : List ℕ × Shape). p.0) (flows_of decls) k (n, s) e
@@ -82,19 +75,8 @@ earlier_names decls m (k ∷ ks) lt all = (
 
 -- distinct members in another order
 
-distinct_parts : (xs ys : List ℕ) → AreDistinct (xs ++ ys) → AreDistinct xs × AreDistinct ys × ((x : ℕ) → x ∈ xs → x ∈ ys → ⊥)
-distinct_parts [] ys d = (tt, d, λ x m. absurd m)
-distinct_parts (z ∷ xs) ys (out, d) =
-    let (a, b, c) = distinct_parts xs ys d in
-    (((λ m. out (mem_left z xs ys m)), a), b, λ x m i. ⊎_elim (λ e. out (mem_right z xs ys (subst (λ w. w ∈ ys) e i))) (λ k. c x k i) m)
-
-distinct_both : (xs ys : List ℕ) → AreDistinct xs → AreDistinct ys → ((x : ℕ) → x ∈ xs → x ∈ ys → ⊥) → AreDistinct (xs ++ ys)
-distinct_both [] ys a b c = b
-distinct_both (z ∷ xs) ys (out, a) b c =
-    ((λ m. ⊎_elim out (λ i. c z (inl refl) i) (mem_either z xs ys m)), distinct_both xs ys a b (λ x m i. c x (inr m) i))
-
 distinct_turned : (xs ys : List ℕ) → AreDistinct (xs ++ ys) → AreDistinct (ys ++ xs)
-distinct_turned xs ys d = let (a, b, c) = distinct_parts xs ys d in distinct_both ys xs b a (λ x m i. c x i m)
+distinct_turned xs ys d = let (a, b, c) = distinct_parts xs ys d in distinct-append ys xs b a (λ x m i. c x i m)
 
 -- steps of a ring
 
@@ -151,90 +133,54 @@ ring_chain decls a m b next rest chain once begins steps distinct all written = 
         omega arith
 
 -- the chain of a path that comes back to one of its members
-pub path_chain : (decls : List Declared) (path front : List ℕ) (last next p low : ℕ) (chain : List (List ℕ)) → AreDistinct (flow_names decls) → AreDistinct path → AreSteps decls path →
-    path ≡ front ++ last ∷ [] → NumberStep decls last next → slice_get path p ≡ Some next → low < length (drop p path) →
-    ((k : ℕ) → k < length (drop p path) → get_or (drop p path) low 0 ≤ get_or (drop p path) k 0) → ((k : ℕ) → k ∈ path → k < length (flow_names decls)) →
-    chain ≡ map (name_at decls) (drop low (drop p path)) ++ map (name_at decls) (take low (drop p path)) ++ map (name_at decls) (get_or (drop p path) low 0 ∷ []) → IsRecursion decls chain
-path_chain decls path front last next p low chain once distinct steps is step at lt least within written =
-    ring_chain decls a m b next (drop (p + 1) path) chain once begins closed (subst AreDistinct laid_out ring_distinct) all
-    (written ∙ ap (λ l. map (name_at decls) l ++ map (name_at decls) a ++ map (name_at decls) (m ∷ [])) (drop_more ring low 0 lt)
-    ∙ sym (map-append (name_at decls) ((m ∷ b) ++ a) (m ∷ []) ∙ ap (λ l. l ++ map (name_at decls) (m ∷ [])) (map-append (name_at decls) (m ∷ b) a)))
-  where
-    ring : List ℕ
-    ring = drop p path
+module _ (decls : List Declared) (path : List ℕ) (last next p low : ℕ) (once : AreDistinct (flow_names decls)) (back : ComesBack decls path last next) (at : slice_get path p ≡ Some next)
+    (lt : low < length (drop p path)) (least : (k : ℕ) → k < length (drop p path) → get_or (drop p path) low 0 ≤ get_or (drop p path) k 0) where
+  abbrev ring : List ℕ
+  ring = drop p path
 
-    a : List ℕ
-    a = take low (drop p path)
+  abbrev a : List ℕ
+  a = take low (drop p path)
 
-    b : List ℕ
-    b = drop (low + 1) (drop p path)
+  abbrev b : List ℕ
+  b = drop (low + 1) (drop p path)
 
-    m : ℕ
-    m = get_or (drop p path) low 0
+  abbrev m : ℕ
+  m = get_or (drop p path) low 0
 
-    p_lt : p < length path
-    p_lt = slice_get_within path p next at
+  laid_out : drop p path ≡ a ++ m ∷ b
+  laid_out = sym (take-append-drop low (drop p path)) ∙ ap (λ l. take low (drop p path) ++ l) (drop_more (drop p path) low 0 lt)
 
-    laid_out : drop p path ≡ a ++ m ∷ b
-    laid_out = sym (take-append-drop low (drop p path)) ∙ ap (λ l. take low (drop p path) ++ l) (drop_more (drop p path) low 0 lt)
+  begins : a ++ m ∷ b ≡ next ∷ drop (p + 1) path
+  begins = sym laid_out ∙ drop_more path p 0 (slice_get_within path p next at) ∙ ap (λ n. n ∷ drop (p + 1) path) (get_or_from_slice_get path p next 0 at)
 
-    first : get_or path p 0 ≡ next
-    first = get_or_from_slice_get path p next 0 at
+  whole : take p path ++ drop p path ≡ path
+  whole = take-append-drop p path
 
-    begins : a ++ m ∷ b ≡ next ∷ drop (p + 1) path
-    begins = sym laid_out ∙ drop_more path p 0 p_lt ∙ ap (λ n. n ∷ drop (p + 1) path) first
+  closed : AreSteps decls ((a ++ m ∷ b) ++ next ∷ [])
+  closed =
+      let (front, ends) = back.ends in
+      subst (λ l. AreSteps decls (l ++ next ∷ [])) laid_out
+      (steps_back decls (take p path) (drop p path ++ next ∷ [])
+      (subst (AreSteps decls) (ap (λ l. l ++ next ∷ []) (sym whole) ∙ append_assoc (take p path) (drop p path) (next ∷ []))
+      (subst (λ l. AreSteps decls (l ++ next ∷ [])) (sym ends)
+      (subst (AreSteps decls) (sym (append_assoc front (last ∷ []) (next ∷ []))) (steps_more decls front last next (subst (AreSteps decls) ends back.steps) back.step)))))
 
-    ring_distinct : AreDistinct (drop p path)
-    ring_distinct = (distinct_parts (take p path) (drop p path) (subst AreDistinct (sym (take-append-drop p path)) distinct)).1
+  bounds : (k : ℕ) → k ∈ (a ++ m ∷ b) → (m ≤ k) × (k < length (flow_names decls))
+  bounds k i =
+      let in_ring : k ∈ drop p path = subst (λ l. k ∈ l) (sym laid_out) i in
+      let (j, there) = place_of (drop p path) k in_ring in
+      let (q, here) = place_of path k (subst (λ l. k ∈ l) whole (mem_right k (take p path) (drop p path) in_ring)) in (
+        subst (λ z. m ≤ z) (get_or_from_slice_get (drop p path) j k 0 there) (least j (slice_get_within (drop p path) j k there)),
+        subst (λ z. z < length (flow_names decls)) (get_or_from_slice_get path q k 0 here) (back.within q 0 (slice_get_within path q k here)),
+      )
 
-    closed : AreSteps decls ((a ++ m ∷ b) ++ next ∷ [])
-    closed = subst (λ l. AreSteps decls (l ++ next ∷ [])) laid_out
-        (steps_back decls (take p path) (drop p path ++ next ∷ [])
-        (subst (AreSteps decls) (ap (λ l. l ++ next ∷ []) (sym (take-append-drop p path)) ∙ append_assoc (take p path) (drop p path) (next ∷ []))
-        (subst (λ l. AreSteps decls (l ++ next ∷ [])) (sym is)
-        (subst (AreSteps decls) (sym (append_assoc front (last ∷ []) (next ∷ []))) (steps_more decls front last next (subst (AreSteps decls) is steps) step)))))
-
-    all : (k : ℕ) → k ∈ (a ++ m ∷ b) → (m ≤ k) × (k < length (flow_names decls))
-    all k i =
-        let in_ring : k ∈ drop p path = subst (λ l. k ∈ l) (sym laid_out) i in
-        (least_in k in_ring, within k (subst (λ l. k ∈ l) (take-append-drop p path) (mem_right k (take p path) (drop p path) in_ring)))
-      where
-        place : (xs : List ℕ) (k : ℕ) → k ∈ xs → (j : ℕ) × (j < length xs) × (get_or xs j 0 ≡ k)
-        place [] k i = absurd i
-        place (x ∷ xs) k (inl e) = (zero, omega arith, sym e)
-        place (x ∷ xs) k (inr i) = let (j, l, e) = place xs k i in (suc j, omega arith, e)
-
-        least_in : (k : ℕ) → k ∈ drop p path → m ≤ k
-        least_in k i = let (j, l, e) = place (drop p path) k i in subst (λ z. m ≤ z) e (least j l)
-
--- one more name is written out
-pub name_pushed : (names : Names) (numbers : List ℕ) (i : ℕ) (f : Flow) (old so_far new : List (List ℕ)) (n : List ℕ) → IsIndex names → i < length numbers →
-    get_or numbers i 0 < length names.flows.items → f ≡ get_or names.flows.items (get_or numbers i 0) f → n ≡ f.name.now →
-    so_far ≡ old ++ map (name_at (decls_of names)) (take i numbers) → new ≡ so_far ++ n ∷ [] → new ≡ old ++ map (name_at (decls_of names)) (take (i + 1) numbers)
-name_pushed names numbers i f old so_far new n h lt within is same before grown =
-    let named : n ≡ name_at (decls_of names) (get_or numbers i 0) =
-    same ∙ sym (name_is (decls_of names) (get_or numbers i 0) f.name.now (shape_of f.goal.now) (flow_at names (get_or numbers i 0) f h within is)) in
-    grown ∙ (λ t. before t ++ named t ∷ []) ∙ append_assoc old (map (name_at (decls_of names)) (take i numbers)) (name_at (decls_of names) (get_or numbers i 0) ∷ [])
-    ∙ ap (λ l. old ++ l) (sym (map_more (name_at (decls_of names)) numbers i 0 lt))
-
-pub members_within : (names : Names) (path : List ℕ) → IsIndex names → All (λ k. k < length names.flows.items) path → (k : ℕ) → k ∈ path → k < length (flow_names (decls_of names))
-members_within names [] h all k m = absurd m
-members_within names (x ∷ path) h all k (inl e) =
-    let lt : x < length names.flows.items = all 0 0 (omega arith) in
-    let count : length (flow_names (decls_of names)) ≡ length names.flows.items =
-    ap length (names_of_flows (decls_of names)) ∙ length-map (flows_of (decls_of names)) (λ (p : List ℕ × Shape). p.0) ∙ ap length (sym h.flows) ∙ length-map names.flows.items flow_view in
-    omega arith
-members_within names (x ∷ path) h all k (inr m) = members_within names path h (λ j d lt. all (suc j) d (omega arith)) k m
+  pub path_chain : (chain : List (List ℕ)) →
+      chain ≡ map (name_at decls) (drop low (drop p path)) ++ map (name_at decls) (take low (drop p path)) ++ map (name_at decls) (get_or (drop p path) low 0 ∷ []) → IsRecursion decls chain
+  path_chain chain written =
+      ring_chain decls a m b next (drop (p + 1) path) chain once begins closed
+      (subst AreDistinct laid_out (distinct_right (take p path) (drop p path) (subst AreDistinct (sym whole) back.distinct))) bounds
+      (written ∙ ap (λ l. map (name_at decls) l ++ map (name_at decls) a ++ map (name_at decls) (m ∷ [])) (drop_more ring low 0 lt)
+      ∙ sym (map-append (name_at decls) ((m ∷ b) ++ a) (m ∷ []) ∙ ap (λ l. l ++ map (name_at decls) (m ∷ [])) (map-append (name_at decls) (m ∷ b) a)))
 
 pub three_parts : {A : Type 0} (c0 c1 c2 c3 x y z : List A) → c0 ≡ [] → c1 ≡ c0 ++ x → c2 ≡ c1 ++ y → c3 ≡ c2 ++ z → c3 ≡ x ++ y ++ z
 three_parts c0 c1 c2 c3 x y z e f g h = h ∙ ap (λ l. l ++ z) (g ∙ ap (λ l. l ++ y) (f ∙ ap (λ l. l ++ x) e))
-
--- the same, where the ring is a list of its own
-pub ring_of_path : (decls : List Declared) (path front : List ℕ) (last next p low : ℕ) (ring : List ℕ) (chain : List (List ℕ)) → ring ≡ drop p path → AreDistinct (flow_names decls) → AreDistinct path →
-    AreSteps decls path → path ≡ front ++ last ∷ [] → NumberStep decls last next → slice_get path p ≡ Some next → low < length ring →
-    ((k : ℕ) → k < length ring → get_or ring low 0 ≤ get_or ring k 0) → ((k : ℕ) → k ∈ path → k < length (flow_names decls)) →
-    chain ≡ map (name_at decls) (drop low ring) ++ map (name_at decls) (take low ring) ++ map (name_at decls) (get_or ring low 0 ∷ []) → IsRecursion decls chain
-ring_of_path decls path front last next p low ring chain same once distinct steps is step at lt least within written =
-    path_chain decls path front last next p low chain once distinct steps is step at (subst (λ r. low < length r) same lt)
-    (subst (λ (r : List ℕ). (k : ℕ) → k < length r → get_or r low 0 ≤ get_or r k 0) same least) within
-    (written ∙ ap (λ r. map (name_at decls) (drop low r) ++ map (name_at decls) (take low r) ++ map (name_at decls) (get_or r low 0 ∷ [])) same)

@@ -1,15 +1,14 @@
 -- What distinct names say of declarations.
-use Rattle.std.proofs.Common.{◌≡◌, ℕ, List, [], ◌∷◌, Some, zero, suc, slice_get, refl, sym, subst, inl, inr}
+use Rattle.std.proofs.Common.{◌≡◌, ℕ, List, [], ◌∷◌, Some, zero, suc, slice_get, refl, sym, subst, inl, inr, ◌⊎◌, ⊎_elim}
 use Rattle.std.specs.List.{flat_map}
-use Rattle.flow_model.specs.Lists.{◌∈◌, AreDistinct}
+use Rattle.flow_model.specs.Lists.{◌∈◌, Each, AreDistinct}
 use Rattle.flow_form.specs.Form.{Shape}
 use Rattle.flow_form.specs.Script.{Declared, fact, event, flow, Said}
 use Rattle.flow_form.specs.Names.{names_in, declared_names, event_names, flow_goal, goals_of, IsClosed}
-use Rattle.flow_expand.specs.Steps.{flows_of, flow_names}
-use Rattle.flow_expand.specs.Waiting.{AreDeclared}
+use Rattle.flow_expand.specs.Steps.{flows_of, flow_names, AreDeclared}
 use Rattle.flow_expand.proofs.Members.{mem_left, mem_right, mem_at}
-use Rattle.flow_laws.proofs.ListLemmas1.{each_at}
-use Rattle.flow_laws.proofs.ListLemmas2.{mem-flat_map}
+use Rattle.flow_laws.proofs.MadeLists.{mem-flat_map}
+use Rattle.flow_laws.proofs.Members.{each_from_members, each_member}
 
 pub flow_declared : (decls : List Declared) (n : List ℕ) → n ∈ flow_names decls → n ∈ declared_names decls
 flow_declared [] n m = m
@@ -33,6 +32,15 @@ flow_named (event k note ∷ ds) n s (inl e) = absurd (cc)
 flow_named (event k note ∷ ds) n s (inr m) = flow_named ds n s m
 flow_named (flow k t ∷ ds) n s (inl e) = inl (cc)
 flow_named (flow k t ∷ ds) n s (inr m) = inr (flow_named ds n s m)
+
+-- a name that was declared is an event's or a sub-workflow's
+pub either_kind : (decls : List Declared) (n : List ℕ) → n ∈ declared_names decls → (n ∈ event_names decls) ⊎ (n ∈ flow_names decls)
+either_kind [] n m = absurd m
+either_kind (fact a ∷ ds) n m = either_kind ds n m
+either_kind (event k note ∷ ds) n (inl e) = inl (inl e)
+either_kind (event k note ∷ ds) n (inr m) = ⊎_elim (λ h. inl (inr h)) (λ h. inr h) (either_kind ds n m)
+either_kind (flow k s ∷ ds) n (inl e) = inr (inl e)
+either_kind (flow k s ∷ ds) n (inr m) = ⊎_elim (λ h. inl h) (λ h. inr (inr h)) (either_kind ds n m)
 
 -- a name is not both an event's and a sub-workflow's
 pub not_both : (decls : List Declared) (n : List ℕ) → AreDistinct (declared_names decls) → n ∈ event_names decls → n ∈ flow_names decls → ⊥
@@ -83,13 +91,16 @@ in_flows (flow k t ∷ ds) n s (inl e) = inl (λ i. flow ((e i).0) ((e i).1))
 in_flows (flow k t ∷ ds) n s (inr m) = inr (in_flows ds n s m)
 
 -- each name of a goal was declared
-pub goals_declared : (s : Said) → IsClosed s → AreDeclared s.decls
-goals_declared s h k n t at m used =
-    each_at (λ x. x ∈ declared_names s.decls) (flat_map names_in (goals_of s)) m h.in_goals
-    (mem-flat_map names_in t m (goals_of s)
-    (mem_left t (flat_map flow_goal s.decls) (s.goal ∷ []) (mem-flat_map flow_goal (flow n t) t s.decls (in_flows s.decls n t (mem_at (flows_of s.decls) k (n, t) at)) (inl refl))) used)
 
-pub goal_declared : (s : Said) → IsClosed s → (m : List ℕ) → m ∈ names_in s.goal → m ∈ declared_names s.decls
-goal_declared s h m used =
-    each_at (λ x. x ∈ declared_names s.decls) (flat_map names_in (goals_of s)) m h.in_goals
-    (mem-flat_map names_in s.goal m (goals_of s) (mem_right s.goal (flat_map flow_goal s.decls) (s.goal ∷ []) (inl refl)) used)
+goals_closed : (s : Said) (t : Shape) → IsClosed s → t ∈ goals_of s → Each (λ x. x ∈ declared_names s.decls) (names_in t)
+goals_closed s t h m =
+    each_from_members (λ x. x ∈ declared_names s.decls) (names_in t)
+    (λ n used. each_member (λ x. x ∈ declared_names s.decls) (flat_map names_in (goals_of s)) h.in_goals n (mem-flat_map names_in t n (goals_of s) m used))
+
+pub goals_declared : (s : Said) → IsClosed s → AreDeclared s.decls
+goals_declared s h k n t at =
+    goals_closed s t h
+    (mem_left t (flat_map flow_goal s.decls) (s.goal ∷ []) (mem-flat_map flow_goal (flow n t) t s.decls (in_flows s.decls n t (mem_at (flows_of s.decls) k (n, t) at)) (inl refl)))
+
+pub goal_declared : (s : Said) → IsClosed s → Each (λ x. x ∈ declared_names s.decls) (names_in s.goal)
+goal_declared s h = goals_closed s s.goal h (mem_right s.goal (flat_map flow_goal s.decls) (s.goal ∷ []) (inl refl))

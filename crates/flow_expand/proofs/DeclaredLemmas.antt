@@ -1,25 +1,21 @@
--- Events and facts that are declared.
-use Rattle.std.proofs.Common.{◌≡◌, ℕ, ◌+◌, ◌<◌, ◌≤◌, List, [], ◌∷◌, ◌++◌, length, map, get_or, take, drop, refl, sym, ap, ◌∙◌, subst, inl, inr, arith}
+-- Events, sub-workflows and facts that are declared.
+use Rattle.std.proofs.Common.{◌≡◌, ℕ, ◌+◌, ◌<◌, ◌≤◌, List, [], ◌∷◌, ◌++◌, length, map, get_or, take, drop, refl, sym, ap, ◌∙◌, subst, arith}
 use Rattle.std.specs.List.{flat_map}
 use Rattle.std.proofs.lemmas.List.{append-nil, take-append-drop, drop_more, map-append, map_more}
 use Rattle.std.proofs.lemmas.List.Concat.{flat_map-append}
 use Rattle.flow_facts.specs.Indexed.{IsAdded}
 use Rattle.flow_model.specs.declared.labels.Note.{Note}
 use Rattle.flow_model.specs.Lists.{◌∈◌, AreDistinct}
+use Rattle.flow_laws.proofs.Members.{not_elsewhere}
+use Rattle.flow_form.specs.declared.form.Form.{Form}
 use Rattle.flow_form.specs.declared.script.Decl.{Decl}
 use Rattle.flow_form.specs.declared.script.Decl.TheVariants as decl
 use Rattle.flow_form.specs.Script.{Declared, declared, fact, event, flow}
-use Rattle.flow_form.specs.Names.{declared_names, event_name, event_names}
-use Rattle.flow_expand.specs.Numbers.{declared_facts, notes_of}
-use Rattle.flow_expand.proofs.Members.{flat_map_end, mem_right}
+use Rattle.flow_form.specs.Names.{declared_names, event_name, event_names, flow_goal}
+use Rattle.flow_expand.specs.Numbers.{declared_facts, event_note, notes_of}
+use Rattle.flow_expand.specs.Steps.{flow_name}
+use Rattle.flow_expand.proofs.Members.{flat_map_end}
 use Rattle.flow_expand.proofs.Declarations.{event_declared}
-
--- what one more declaration adds
-pub part_more : {A : Type 0} (part : Declared → List A) (decls : List Decl) (i : ℕ) (item : Decl) (d : Declared) → i < length decls → item ≡ get_or decls i item → declared item ≡ d →
-    flat_map part (map declared (take (i + 1) decls)) ≡ flat_map part (map declared (take i decls)) ++ part d
-part_more part decls i item d lt is same =
-    ap (flat_map part) (map_more declared decls i item lt) ∙ flat_map_end part (map declared (take i decls)) (declared (get_or decls i item))
-    ∙ ap (λ x. flat_map part (map declared (take i decls)) ++ part x) (ap declared (sym is) ∙ same)
 
 -- names of events
 
@@ -48,41 +44,51 @@ events_noted (fact a ∷ ds) = events_noted ds
 events_noted (event n note ∷ ds) = omega (arith, events_noted ds)
 events_noted (flow n s ∷ ds) = events_noted ds
 
--- a new name goes last
+-- what declarations hold of a kind, as they are gone through
 
-not_before : (xs : List (List ℕ)) (n : List ℕ) (ys : List (List ℕ)) → AreDistinct (xs ++ n ∷ ys) → ¬ (n ∈ xs)
-not_before [] n ys d m = m
-not_before (x ∷ xs) n ys d (inl e) = d.0 (subst (λ z. z ∈ (xs ++ n ∷ ys)) e (mem_right n xs (n ∷ ys) (inl refl)))
-not_before (x ∷ xs) n ys d (inr m) = not_before xs n ys d.1 m
+module _ {A : Type 0} (part : Declared → List A) (decls : List Decl) (i : ℕ) (item : Decl) (lt : i < length decls) (is : item ≡ get_or decls i item) where
+  pub part_more : flat_map part (map declared (take (i + 1) decls)) ≡ flat_map part (map declared (take i decls)) ++ part (declared item)
+  part_more =
+      ap (flat_map part) (map_more declared decls i item lt) ∙ flat_map_end part (map declared (take i decls)) (declared (get_or decls i item))
+      ∙ ap (λ d. flat_map part (map declared (take i decls)) ++ part (declared d)) (sym is)
 
--- the names before a declaration, its own and those after it
-names_split : (decls : List Decl) (i : ℕ) (item : Decl) (n : List ℕ) (note : Note) → i < length decls → item ≡ get_or decls i item → declared item ≡ event n note →
-    event_names (map declared decls) ≡ event_names (map declared (take i decls)) ++ n ∷ event_names (map declared (drop (i + 1) decls))
-names_split decls i item n note lt is same =
-    ap (λ l. event_names (map declared l)) (sym (take-append-drop i decls))
-    ∙ ap event_names (map-append declared (take i decls) (drop i decls))
-    ∙ flat_map-append event_name (map declared (take i decls)) (map declared (drop i decls))
-    ∙ ap (λ l. event_names (map declared (take i decls)) ++ event_names (map declared l)) (drop_more decls i item lt)
-    ∙ ap (λ d. event_names (map declared (take i decls)) ++ (event_name d ++ event_names (map declared (drop (i + 1) decls)))) (ap declared (sym is) ∙ same)
+  pub part_put : (x : A) (old new : List A) → part (declared item) ≡ x ∷ [] → old ≡ flat_map part (map declared (take i decls)) → new ≡ old ++ x ∷ [] →
+      new ≡ flat_map part (map declared (take (i + 1) decls))
+  part_put x old new one before put = put ∙ ap (λ l. l ++ x ∷ []) before ∙ ap (λ l. flat_map part (map declared (take i decls)) ++ l) (sym one) ∙ sym part_more
 
-pub event_put : (decls : List Decl) (i : ℕ) (item : Decl) (n : List ℕ) (note : Note) (old new : List (List ℕ)) → AreDistinct (event_names (map declared decls)) →
-    i < length decls → item ≡ get_or decls i item → declared item ≡ event n note → old ≡ event_names (map declared (take i decls)) → IsAdded old n new →
-    new ≡ event_names (map declared (take (i + 1) decls))
-event_put decls i item n note old new distinct lt is same before put =
-    put.missing out ∙ ap (λ l. l ++ n ∷ []) before ∙ sym (part_more event_name decls i item (event n note) lt is same)
-  where
-    out : ¬ (n ∈ old)
-    out m = not_before (event_names (map declared (take i decls))) n (event_names (map declared (drop (i + 1) decls)))
-        (subst AreDistinct (names_split decls i item n note lt is same) distinct) (subst (λ l. n ∈ l) before m)
+  -- what is of another kind adds nothing
+  pub part_passed : (old : List A) → part (declared item) ≡ [] → old ≡ flat_map part (map declared (take i decls)) → old ≡ flat_map part (map declared (take (i + 1) decls))
+  part_passed old none before = before ∙ sym (append-nil _) ∙ ap (λ l. flat_map part (map declared (take i decls)) ++ l) (sym none) ∙ sym part_more
 
--- what is no event adds no name
-pub event_passed : (decls : List Decl) (i : ℕ) (item : Decl) (old : List (List ℕ)) → i < length decls → item ≡ get_or decls i item →
-    ((n : List ℕ) (note : Note) → ¬ (item ≡ decl.Event n note)) → old ≡ event_names (map declared (take i decls)) → old ≡ event_names (map declared (take (i + 1) decls))
-event_passed decls i item old lt is other before =
-    before ∙ sym (append-nil (event_names (map declared (take i decls)))) ∙ ap (λ l. event_names (map declared (take i decls)) ++ l) (sym (none item other))
-    ∙ sym (part_more event_name decls i item (declared item) lt is refl)
-  where
-    none : (d : Decl) → ((n : List ℕ) (note : Note) → ¬ (d ≡ decl.Event n note)) → event_name (declared d) ≡ []
-    none (decl.Fact a) h = refl
-    none (decl.Event n note) h = absurd (h n note refl)
-    none (decl.Flow n f) h = refl
+  -- before it, its own, and after it
+  part_split : flat_map part (map declared decls) ≡ flat_map part (map declared (take i decls)) ++ (part (declared item) ++ flat_map part (map declared (drop (i + 1) decls)))
+  part_split =
+      ap (λ l. flat_map part (map declared l)) (sym (take-append-drop i decls))
+      ∙ ap (flat_map part) (map-append declared (take i decls) (drop i decls))
+      ∙ flat_map-append part (map declared (take i decls)) (map declared (drop i decls))
+      ∙ ap (λ l. flat_map part (map declared (take i decls)) ++ flat_map part (map declared l)) (drop_more decls i item lt)
+      ∙ ap (λ d. flat_map part (map declared (take i decls)) ++ (part (declared d) ++ flat_map part (map declared (drop (i + 1) decls)))) (sym is)
+
+  -- where none stands twice, a new one goes last
+  pub part_added : (x : A) (old new : List A) → AreDistinct (flat_map part (map declared decls)) → part (declared item) ≡ x ∷ [] → old ≡ flat_map part (map declared (take i decls)) →
+      IsAdded old x new → new ≡ flat_map part (map declared (take (i + 1) decls))
+  part_added x old new distinct one before put = part_put x old new one before (put.missing out)
+    where
+      rest : List A
+      rest = flat_map part (map declared (drop (i + 1) decls))
+
+      out : ¬ (x ∈ old)
+      out m =
+          (not_elsewhere (flat_map part (map declared (take i decls))) rest x
+          (subst AreDistinct (part_split ∙ ap (λ l. flat_map part (map declared (take i decls)) ++ (l ++ rest)) one) distinct)).0
+          (subst (λ l. x ∈ l) before m)
+
+pub not_event : (d : Decl) → ((n : List ℕ) (note : Note) → ¬ (d ≡ decl.Event n note)) → (event_name (declared d) ≡ []) × (event_note (declared d) ≡ [])
+not_event (decl.Fact a) h = (refl, refl)
+not_event (decl.Event n note) h = absurd (h n note refl)
+not_event (decl.Flow n f) h = (refl, refl)
+
+pub not_flow : (d : Decl) → ((n : List ℕ) (f : Form) → ¬ (d ≡ decl.Flow n f)) → (flow_name (declared d) ≡ []) × (flow_goal (declared d) ≡ [])
+not_flow (decl.Fact a) h = (refl, refl)
+not_flow (decl.Event n note) h = (refl, refl)
+not_flow (decl.Flow n f) h = absurd (h n f refl)

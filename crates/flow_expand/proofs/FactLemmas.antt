@@ -8,8 +8,8 @@ use Rattle.flow_facts.specs.Atom.{Atom, atom_eq}
 use Rattle.flow_facts.specs.Same.{atom_eq-Decides}
 use Rattle.flow_facts.specs.Indexed.{IsAdded}
 use Rattle.flow_workflow.proofs.FirstPlaces.{place_in}
-use Rattle.flow_expand.specs.Numbers.{with_fact, fact_number, firsts}
-use Rattle.flow_expand.proofs.Members.{mem_left, mem_right, mem_either, any_member, member_any}
+use Rattle.flow_expand.specs.Numbers.{with_fact, fact_number}
+use Rattle.flow_expand.proofs.Members.{mem_left, mem_right, any_member, member_any}
 
 -- one more fact was there, or goes to the end
 with_cases : (facts : List Atom) (a : Atom) → ((a ∈ facts) × (with_fact facts a ≡ facts)) ⊎ (¬ (a ∈ facts) × (with_fact facts a ≡ facts ++ a ∷ []))
@@ -66,25 +66,6 @@ number_with facts a x m = ⊎_elim (λ h. ap (λ l. fact_number l x) h.1) (λ h.
 pub number_kept : (facts more : List Atom) (x : Atom) → x ∈ facts → fact_number (fold with_fact facts more) x ≡ fact_number facts x
 number_kept facts [] x m = refl
 number_kept facts (a ∷ more) x m = number_kept (with_fact facts a) more x (with_stays facts a x m) ∙ number_with facts a x m
-
--- no fact stands twice
-
-distinct_end : (facts : List Atom) (a : Atom) → AreDistinct facts → ¬ (a ∈ facts) → AreDistinct (facts ++ a ∷ [])
-distinct_end [] a d out = ((λ m. absurd m), tt)
-distinct_end (b ∷ facts) a (first, d) out = (
-  (λ m. ⊎_elim first (λ i. ⊎_elim (λ e. out (inl (sym e))) (λ n. absurd n) i) (mem_either b facts (a ∷ []) m)),
-  distinct_end facts a d (λ m. out (inr m)),
-)
-
-distinct_with : (facts : List Atom) (a : Atom) → AreDistinct facts → AreDistinct (with_fact facts a)
-distinct_with facts a d = ⊎_elim (λ h. subst AreDistinct (sym h.1) d) (λ h. subst AreDistinct (sym h.1) (distinct_end facts a d h.0)) (with_cases facts a)
-
-distinct_fold : (facts more : List Atom) → AreDistinct facts → AreDistinct (fold with_fact facts more)
-distinct_fold facts [] d = d
-distinct_fold facts (a ∷ more) d = distinct_fold (with_fact facts a) more (distinct_with facts a d)
-
-pub distinct_firsts : (facts : List Atom) → AreDistinct (firsts facts)
-distinct_firsts facts = distinct_fold [] facts tt
 
 -- how many
 

@@ -1,7 +1,7 @@
 pub mod Members
 pub mod Pushes
-pub mod IndexLemmas
-pub mod PlanLemmas
+pub mod DirectoryLemmas
+pub mod LayoutLemmas
 pub mod LayLemmas
 pub mod PrepareLemmas
 pub mod SettleLemmas

@@ -1,5 +1,5 @@
 -- Members of lists and their places.
-use Rattle.std.proofs.Common.{◌≡◌, ℕ, List, [], ◌∷◌, ◌++◌, ◌⊎◌, ◌||◌, Bool, true, false, length, map, slice_get, Some, refl, sym, ap, ◌∙◌, inl, inr, option_map}
+use Rattle.std.proofs.Common.{◌≡◌, ℕ, List, [], ◌∷◌, ◌++◌, ◌⊎◌, ◌||◌, Bool, true, false, map, slice_get, Some, refl, sym, ap, ◌∙◌, inl, inr, option_map}
 use Rattle.std.proofs.lemmas.List.{append-nil}
 use Rattle.std.proofs.lemmas.List.Concat.{flat_map-append}
 use Rattle.std.specs.Bool.{Decides}
@@ -7,11 +7,7 @@ use Rattle.std.specs.List.{flat_map, list_any}
 use Rattle.std.proofs.lemmas.Option.{slice_get-map}
 use Rattle.flow_model.specs.Lists.{◌∈◌}
 pub use Rattle.flow_model.proofs.Lists.{mem-slice_get as mem_at, slice_get_append_left as get_left}
-pub use Rattle.flow_laws.proofs.ListLemmas2.{mem_append_left as mem_left, mem_append_right as mem_right, mem-append as mem_either}
-
-pub get_end : {A : Type 0} (xs ys : List A) (y : A) → slice_get (xs ++ y ∷ ys) (length xs) ≡ Some y
-get_end [] ys y = refl
-get_end (x ∷ xs) ys y = get_end xs ys y
+pub use Rattle.flow_laws.proofs.Members.{mem_append_left as mem_left, mem_append_right as mem_right, mem-append as mem_either}
 
 pub get_map : {A B : Type 0} (f : A → B) (xs : List A) (i : ℕ) (x : A) → slice_get xs i ≡ Some x → slice_get (map f xs) i ≡ Some (f x)
 get_map f xs i x e = slice_get-map f xs i ∙ ap (option_map f) e

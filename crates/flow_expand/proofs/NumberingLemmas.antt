@@ -3,7 +3,7 @@ use Rattle.std.proofs.Common.{◌≡◌, ℕ, zero, suc, ◌+◌, ◌<◌, ◌�
 use Rattle.std.specs.Str.{bytes_eq}
 use Rattle.std.specs.Cmp.Lexicographic.{bytes_decides}
 use Rattle.std.proofs.lemmas.List.Sums.{fold-append}
-use Rattle.flow_model.specs.Lists.{◌∈◌, Each, AreDistinct, numbers_from}
+use Rattle.flow_model.specs.Lists.{◌∈◌, Each, numbers_from}
 use Rattle.flow_model.specs.Process.{Process, IsNumbered, leaves}
 use Rattle.flow_facts.specs.Atom.{Atom, atom_eq}
 use Rattle.flow_facts.specs.Same.{atom_eq-Decides}
@@ -12,18 +12,21 @@ use Rattle.flow_workflow.specs.Numbers.{IsKnown}
 use Rattle.flow_workflow.proofs.FirstPlaces.{within}
 use Rattle.flow_form.specs.Script.{Said}
 use Rattle.flow_form.specs.Names.{event_names, IsClosed}
-use Rattle.flow_expand.specs.declared.plan.Node.{Node}
+use Rattle.flow_expand.specs.declared.layout.Deed.{Deed}
+use Rattle.flow_expand.specs.declared.layout.Deed.TheVariants as deed
+use Rattle.flow_expand.specs.declared.layout.Piece.{Piece}
 use Rattle.flow_expand.specs.declared.building.Leaves.{Leaves}
-use Rattle.flow_expand.specs.declared.numbering.Numbered.{Numbered}
+use Rattle.flow_expand.specs.declared.numbered_goal.NumberedGoal.{NumberedGoal}
 use Rattle.flow_expand.specs.Expansion.{Expansion, nothing, happens, holds, lacks, adds, takes, in_turn, at_once, one_of, alone}
-use Rattle.flow_expand.specs.Numbers.{facts_in, with_fact, firsts, declared_facts, facts_of, labels_of, leaf_count, numbered, labelled_of}
-use Rattle.flow_expand.specs.Plan.{Stands}
+use Rattle.flow_expand.specs.Numbers.{facts_in, with_fact, fact_number, firsts, declared_facts, facts_of, labels_of, leaf_count, numbered, labelled_of}
+use Rattle.flow_expand.specs.Layout.{IsPlaced, placed_nothing, placed_event, placed_fact, placed_pair, placed_alone, label_of}
 use Rattle.flow_expand.specs.Built.{HasRoom, IsBuildable, IsBuilt}
 use Rattle.flow_expand.specs.Refusals.{IsMeasured}
 use Rattle.flow_expand.specs.Numbering.{IsNumberedGoal}
 use Rattle.flow_expand.proofs.Members.{mem_left, mem_right, mem_at}
-use Rattle.flow_expand.proofs.FactLemmas.{fact_there, distinct_firsts, length_fold}
-use Rattle.flow_expand.proofs.BuildLemmas.{leaves_are_ends, labels_after, facts_after}
+use Rattle.flow_expand.proofs.LayoutLemmas.{fact_kind, pair_kind}
+use Rattle.flow_expand.proofs.FactLemmas.{fact_there, length_fold}
+use Rattle.flow_expand.proofs.BuildLemmas.{leaves_are_ends, labels_after}
 use Rattle.flow_expand.proofs.DeclaredLemmas.{distinct_events, facts_few}
 use Rattle.flow_model.proofs.Lists.{each-append}
 
@@ -60,37 +63,33 @@ leaves_in_row next (alone a) = leaves_in_row next a
 
 -- labels
 
--- each label of a goal of the plan has an event, or a fact that is numbered
-module _ (plan : List Node) (events : List (List ℕ)) (facts : List Atom) where
+-- each label of a goal of the layout has an event, or a fact that is numbered
+module _ (layout : List Piece) (events : List (List ℕ)) (facts : List Atom) where
   abbrev AreKnown : Expansion → Type 0
   AreKnown e = Each (IsKnown (length events) (length facts)) (labels_of events facts e)
 
   abbrev AreThere : Expansion → Type 0
   AreThere e = (x : Atom) → x ∈ facts_in e → x ∈ facts
 
-  both_known : (a b : Expansion) → AreKnown a → AreKnown b → Each (IsKnown (length events) (length facts)) (labels_of events facts a ++ labels_of events facts b)
-  both_known a b h k = each-append (IsKnown (length events) (length facts)) (labels_of events facts a) (labels_of events facts b) h k
-
-  first_there : (a b : Expansion) → ((x : Atom) → x ∈ (facts_in a ++ facts_in b) → x ∈ facts) → AreThere a
-  first_there a b all x m = all x (mem_left x (facts_in a) (facts_in b) m)
-
-  second_there : (a b : Expansion) → ((x : Atom) → x ∈ (facts_in a ++ facts_in b) → x ∈ facts) → AreThere b
-  second_there a b all x m = all x (mem_right x (facts_in a) (facts_in b) m)
-
-  labels_known : (e : Expansion) (i : ℕ) → Stands plan events e i → AreThere e → AreKnown e
-  labels_known nothing i s all = tt
-  labels_known (happens n) i (k, e, f) all = (within bytes_eq bytes_decides n events (mem_at events k n f), tt)
-  labels_known (holds a) i s all = (within atom_eq atom_eq-Decides a facts (all a (inl refl)), tt)
-  labels_known (lacks a) i s all = (within atom_eq atom_eq-Decides a facts (all a (inl refl)), tt)
-  labels_known (adds a) i s all = (within atom_eq atom_eq-Decides a facts (all a (inl refl)), tt)
-  labels_known (takes a) i s all = (within atom_eq atom_eq-Decides a facts (all a (inl refl)), tt)
-  labels_known (in_turn a b) i (j, k, e, l, m, (x, y)) all =
-      both_known a b (labels_known a j x (first_there a b all)) (labels_known b k y (second_there a b all))
-  labels_known (at_once a b) i (j, k, e, l, m, (x, y)) all =
-      both_known a b (labels_known a j x (first_there a b all)) (labels_known b k y (second_there a b all))
-  labels_known (one_of a b) i (j, k, e, l, m, (x, y)) all =
-      both_known a b (labels_known a j x (first_there a b all)) (labels_known b k y (second_there a b all))
-  labels_known (alone a) i (j, e, l, x) all = labels_known a j x all
+  labels_known : (e : Expansion) (i : ℕ) → IsPlaced layout events e i → AreThere e → AreKnown e
+  labels_known e i (placed_nothing at) all = tt
+  labels_known e i (placed_event {k = k} {n = n} at there) all = (within bytes_eq bytes_decides n events (mem_at events k n there), tt)
+  labels_known e i (placed_fact {d = d} {f = f} at) all =
+      subst (Each (IsKnown (length events) (length facts))) (sym ((fact_kind d).labels events facts f.now))
+      (known_label d (fact_number facts f.now) (within atom_eq atom_eq-Decides f.now facts (all f.now (subst (λ l. f.now ∈ l) (sym ((fact_kind d).facts f.now)) (inl refl)))), tt)
+    where
+      known_label : (d : Deed) (n : ℕ) → n < length facts → IsKnown (length events) (length facts) (label_of d n)
+      known_label deed.Test n lt = lt
+      known_label deed.Absent n lt = lt
+      known_label deed.Ins n lt = lt
+      known_label deed.Del n lt = lt
+  labels_known e i (placed_pair {j = j} {k = k} {by = by} {a = a} {b = b} at l m x y) all =
+      let pair = pair_kind by a b in
+      subst (Each (IsKnown (length events) (length facts))) (sym (pair.labels events facts))
+      (each-append (IsKnown (length events) (length facts)) (labels_of events facts a) (labels_of events facts b)
+      (labels_known a j x (λ z h. all z (subst (λ l. z ∈ l) (sym pair.facts) (mem_left z (facts_in a) (facts_in b) h))))
+      (labels_known b k y (λ z h. all z (subst (λ l. z ∈ l) (sym pair.facts) (mem_right z (facts_in a) (facts_in b) h)))))
+  labels_known e i (placed_alone {j = j} {a = a} at l x) all = labels_known a j x all
 
 -- before the goal is built
 
@@ -102,9 +101,6 @@ pub record IsStart (s : Said) (leaves : Leaves) : Type 0 where
 declared_firsts_few : (s : Said) → IsClosed s → length (firsts (declared_facts s.decls)) < 2 ^ 31
 declared_firsts_few s closed = omega (arith, (length_fold [] (declared_facts s.decls)).1, facts_few s.decls, closed.few)
 
-pub declared_few : (s : Said) (keys : List Atom) → IsClosed s → keys ≡ firsts (declared_facts s.decls) → length keys < 2 ^ 32
-declared_few s keys closed is = omega (arith, ap length is, declared_firsts_few s closed)
-
 pub leaves_few : (s : Said) (e : Expansion) → IsMeasured s e → leaf_count e ≤ 1024
 leaves_few s e h = omega (arith, leaves_are_ends e, h.fitting.fits)
 
@@ -114,13 +110,13 @@ start_room s e leaves closed measured start = record {
   facts = omega (arith, ap length start.facts, declared_firsts_few s closed, leaves_few s e measured);
 }
 
-pub start_buildable : (s : Said) (e : Expansion) (plan : List Node) (place : ℕ) (leaves : Leaves) → IsClosed s → IsMeasured s e → Stands plan (event_names s.decls) e place →
-    IsStart s leaves → IsBuildable plan place leaves
-start_buildable s e plan place leaves closed measured stands start = record {
+pub start_buildable : (s : Said) (e : Expansion) (layout : List Piece) (place : ℕ) (leaves : Leaves) → IsClosed s → IsMeasured s e → IsPlaced layout (event_names s.decls) e place →
+    IsStart s leaves → IsBuildable layout place leaves
+start_buildable s e layout place leaves closed measured placed start = record {
   events = event_names s.decls;
   distinct = distinct_events s.decls closed.once;
   expansion = e;
-  stands = stands;
+  placed = placed;
   room = start_room s e leaves closed measured start;
 }
 
@@ -143,20 +139,14 @@ module _ (s : Said) (e : Expansion) (old new : Leaves) (goal : Process) (closed 
   facts_are : new.facts ≡ facts_of s.decls e
   facts_are = built.facts ∙ ap (λ l. fold with_fact l (facts_in e)) start.facts ∙ sym (fold-append with_fact [] (declared_facts s.decls) (facts_in e))
 
-  pub facts_distinct : AreDistinct new.facts
-  facts_distinct = subst AreDistinct (sym facts_are) (distinct_firsts (declared_facts s.decls ++ facts_in e))
-
-  pub facts_within : length new.facts < 2 ^ 32
-  facts_within = omega (arith, facts_after (event_names s.decls) e old new goal built, (start_room s e old closed measured start).facts)
-
   labels_are : new.labels.items ≡ labels_of (event_names s.decls) (facts_of s.decls e) e
   labels_are =
       built.labels ∙ ap (λ l. l ++ labels_of (event_names s.decls) new.facts e) start.labels
       ∙ ap (λ l. labels_of (event_names s.decls) l e) facts_are
 
-  pub numbered_goal : (plan : List Node) (place : ℕ) (n : Numbered) → Stands plan (event_names s.decls) e place → n.facts ≡ new.facts →
+  pub numbered_goal : (layout : List Piece) (place : ℕ) (n : NumberedGoal) → IsPlaced layout (event_names s.decls) e place → n.facts ≡ new.facts →
       n.held.items ≡ numbers_from 0 (length old.facts) → n.tree.process ≡ goal → n.tree.labels ≡ new.labels.items → IsNumberedGoal s n
-  numbered_goal plan place n stands table held process labels = record {
+  numbered_goal layout place n placed table held process labels = record {
     expansion = e;
     measured = measured;
     facts = table ∙ facts_are;
@@ -175,4 +165,4 @@ module _ (s : Said) (e : Expansion) (old new : Leaves) (goal : Process) (closed 
       known =
           subst (λ l. Each (IsKnown (length (event_names s.decls)) (length n.facts)) l) (sym (labels ∙ labels_are))
           (subst (λ l. Each (IsKnown (length (event_names s.decls)) (length l)) (labels_of (event_names s.decls) (facts_of s.decls e) e)) (sym (table ∙ facts_are))
-          (labels_known plan (event_names s.decls) (facts_of s.decls e) e place stands there))
+          (labels_known layout (event_names s.decls) (facts_of s.decls e) e place placed there))

@@ -80,9 +80,9 @@ abbrev pub size_of : Expansion → ℕ
 size_of e = max (ends_in e) (isolations_in e)
 
 -- the number, or the greatest one of 64 bits
-abbrev pub kept : ℕ → ℕ
-kept n = min n (2 ^ 64 - 1)
+abbrev pub capped : ℕ → ℕ
+capped n = min n (2 ^ 64 - 1)
 
 -- its numbers in 64 bits
 abbrev pub sizes_of : Expansion → Size
-sizes_of e = record { ends = kept (ends_in e); isolations = kept (isolations_in e) }
+sizes_of e = record { ends = capped (ends_in e); isolations = capped (isolations_in e) }

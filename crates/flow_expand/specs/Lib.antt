@@ -2,11 +2,11 @@ pub mod Expansion
 pub mod Numbers
 pub mod Constraints
 pub mod Steps
-pub mod Index
-pub mod Plan
+pub mod Directory
+pub mod Layout
 pub mod Laid
-pub mod Waiting
 pub mod Calls
+pub mod Waiting
 pub mod Refusals
 pub mod Workflows
 pub mod Prepared

@@ -51,14 +51,14 @@ facts_of decls e = firsts (declared_facts decls ++ facts_in e)
 abbrev pub held_of : List Declared → List ℕ
 held_of decls = numbers_from 0 (length (firsts (declared_facts decls)))
 
-abbrev pub note_of : Declared → List Note
-note_of (fact a) = []
-note_of (event n note) = note ∷ []
-note_of (flow n s) = []
+abbrev pub event_note : Declared → List Note
+event_note (fact a) = []
+event_note (event n note) = note ∷ []
+event_note (flow n s) = []
 
 -- the notes of events by their numbers
 abbrev pub notes_of : List Declared → List Note
-notes_of decls = flat_map note_of decls
+notes_of decls = flat_map event_note decls
 
 -- the number of a fact: its place among them
 abbrev pub fact_number : List Atom → Atom → ℕ

@@ -8,7 +8,7 @@ use Rattle.flow_form.specs.Names.{names_in_rule}
 use Rattle.flow_expand.specs.declared.refusal.ExpandRefusal.{ExpandRefusal}
 use Rattle.flow_expand.specs.declared.refusal.ExpandRefusal.TheVariants as refusal
 use Rattle.flow_expand.specs.declared.refusal.Part.TheVariants as part
-use Rattle.flow_expand.specs.Expansion.{Expansion, Becomes, size_of, kept}
+use Rattle.flow_expand.specs.Expansion.{Expansion, Becomes, size_of, capped}
 use Rattle.flow_expand.specs.Numbers.{labelled_of}
 use Rattle.flow_expand.specs.Steps.{flow_names, IsRecursive, IsRecursion}
 
@@ -49,13 +49,13 @@ pub record HasLargeGoal (s : Said) (count : ℕ) : Type 0 where
   pub expansion : Expansion
   pub becomes : Becomes s.decls s.goal expansion
   pub large : 1024 < size_of expansion
-  pub counted : count ≡ kept (size_of expansion)
+  pub counted : count ≡ capped (size_of expansion)
 
 pub record HasManyRuleNames (s : Said) (count : ℕ) : Type 0 where
   pub expansion : Expansion
   pub fitting : IsFitting s expansion
   pub many : 8192 < rule_name_count s
-  pub counted : count ≡ kept (rule_name_count s)
+  pub counted : count ≡ capped (rule_name_count s)
 
 -- two leaves of one event stand in one execution, and those are the first such
 pub record HasRepetition (s : Said) (found : Twice) : Type 0 where

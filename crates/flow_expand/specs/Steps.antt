@@ -1,10 +1,10 @@
 -- Sub-workflows that name one another.
-use Rattle.std.specs.Prelude.{◌≡◌, ℕ, List, [], ◌∷◌, ◌++◌}
+use Rattle.std.specs.Prelude.{◌≡◌, ℕ, List, [], ◌∷◌, ◌++◌, Some, slice_get}
 use Rattle.std.specs.List.{flat_map}
 use Rattle.flow_model.specs.Lists.{◌∈◌, Each, AreDistinct, StandsBefore}
 use Rattle.flow_form.specs.Form.{Shape}
 use Rattle.flow_form.specs.Script.{Declared, fact, event, flow}
-use Rattle.flow_form.specs.Names.{names_in}
+use Rattle.flow_form.specs.Names.{names_in, declared_names}
 
 abbrev pub flow_of : Declared → List (List ℕ × Shape)
 flow_of (fact a) = []
@@ -23,6 +23,10 @@ flow_name (flow n s) = n ∷ []
 -- the names of the sub-workflows, in order of declaration
 abbrev pub flow_names : List Declared → List (List ℕ)
 flow_names decls = flat_map flow_name decls
+
+-- every name in the goal of a sub-workflow was declared
+abbrev pub AreDeclared : List Declared → Type 0
+AreDeclared decls = (k : ℕ) (n : List ℕ) (s : Shape) → slice_get (flows_of decls) k ≡ Some (n, s) → Each (λ m. m ∈ declared_names decls) (names_in s)
 
 -- both are sub-workflows, and the second's name stands in the first's goal
 pub record IsStep (decls : List Declared) (one two : List ℕ) : Type 0 where

@@ -1,12 +1,13 @@
-ghost use Rattle.std.specs.Prelude.{IfOk};
+ghost use Rattle.std.specs.Prelude.{◌≡◌, IfOk};
 ghost use Rattle.flow_goal.specs.Repeated.{HoldsNoneTwice};
 ghost use Rattle.flow_form.specs.Script.{said};
-ghost use Rattle.flow_form.specs.Names.{IsClosed};
+ghost use Rattle.flow_form.specs.Names.{IsClosed, event_names};
+ghost use Rattle.flow_expand.specs.Numbers.{notes_of};
 ghost use Rattle.flow_expand.specs.Numbering.{IsNumberedGoal};
 ghost use Rattle.flow_expand.specs.Workflows.{IsExpanded};
 
-use crate::declared::{event_notes, event_set};
-use crate::numbering::Numbered;
+use crate::events::Events;
+use crate::numbered_goal::NumberedGoal;
 use crate::ruling::rules_of;
 use flow_form::Script;
 use flow_workflow::Workflow;
@@ -16,17 +17,24 @@ use std::alloc::{AllocError, Global};
 pub(crate) fn assemble(
     alloc: Global,
     script: &Script,
-    numbered: Numbered,
+    events: Events,
+    goal: NumberedGoal,
 ) -> Result<Workflow, AllocError>
     requires closed { IsClosed (said script.now) }
-    requires numbered { IsNumberedGoal (said script.now) numbered }
-    requires unique { HoldsNoneTwice numbered.tree }
+    requires names { events.names ≡ event_names (said script.now).decls }
+    requires notes { events.notes.items ≡ notes_of (said script.now).decls }
+    requires numbered { IsNumberedGoal (said script.now) goal }
+    requires unique { HoldsNoneTwice goal.tree }
     ensures { IfOk result (IsExpanded (said script.now)) }
 {
-    let events = event_set(alloc, &script.decls)?;
-    let notes = event_notes(alloc, &script.decls)?;
-    let Numbered { facts, held, tree } = numbered;
-    let workflow = Workflow::new(alloc, events, notes, facts, held, tree);
-    let rules = rules_of(alloc, &script.rules, &workflow)?;
-    Ok(workflow.with_rules(rules))
+    let Events { names, notes } = events;
+    let NumberedGoal { facts, held, tree } = goal;
+    let workflow = Workflow::new(alloc, names, notes, facts, held, tree);
+    match rules_of(alloc, &script.rules, &workflow) {
+        Ok(rules) => Ok(workflow.with_rules(rules)),
+        Err(error) => {
+            drop(workflow);
+            Err(error)
+        }
+    }
 }

@@ -1,11 +1,10 @@
-ghost use Rattle.std.specs.Prelude.{◌≡◌, ◌∷◌, [], ◌++◌, ◌<◌, ◌≤◌, ◌-◌, length, IfOk, OnOk, map, take, slice_get, slice_index, Some, vec_len, All, ℕ};
-ghost use Rattle.flow_model.specs.Lists.{◌∈◌, AreDistinct};
-ghost use Rattle.flow_expand.specs.Index.{IsIndex, decls_of};
-ghost use Rattle.flow_expand.specs.Steps.{IsRecursion, flow_names};
-ghost use Rattle.flow_expand.specs.Waiting.{AreSteps, NumberStep, IsFound, name_at};
+ghost use Rattle.std.specs.Prelude.{◌≡◌, ◌∷◌, [], ◌++◌, ◌<◌, ◌≤◌, length, IfOk, OnOk, map, slice_get, slice_index, slice_index_or, Some, All, ℕ};
+ghost use Rattle.flow_model.specs.Lists.{◌∈◌};
+ghost use Rattle.flow_expand.specs.Directory.{IsDirectory, decls_of};
+ghost use Rattle.flow_expand.specs.Steps.{IsRecursion};
+ghost use Rattle.flow_expand.specs.Waiting.{ComesBack};
 
-use crate::names::Names;
-use crate::refusal::ExpandRefusal;
+use crate::directory::Directory;
 use flow_facts::Name;
 use std::alloc::{AllocError, Global};
 
@@ -37,41 +36,35 @@ fn place_of_least(ring: &[usize]) -> usize
     least
 }
 
-/// Writes out the names of sub-workflows.
+/// Writes out the names of those numbers.
 fn push_names(
     alloc: Global,
-    names: &Names<'_>,
+    names: &[Name],
     numbers: &[usize],
     chain: &mut Vec<Name>,
 ) -> Result<(), AllocError>
-    requires index { IsIndex names.now }
-    requires within { All (λ k. k < vec_len names.now.flows) numbers.now }
-    ensures { OnOk result (chain.new.items ≡ chain.old.items ++ map (name_at (decls_of names.now)) numbers.now) }
+    requires { All (λ k. k < length names.now) numbers.now }
+    ensures { OnOk result (chain.new.items ≡ chain.old.items ++ map (λ k. slice_index_or names.now k []) numbers.now) }
 {
     for number in numbers {
-        chain.push(Name::new(alloc, names.flows[*number].name.bytes())?)?;
+        chain.push(names[*number].copy(alloc)?)?;
     }
     Ok(())
 }
 
 /// The ring of sub-workflows from `next` on, written from the one declared first.
-fn chain_of(
+pub(crate) fn chain_of(
     alloc: Global,
-    names: &Names<'_>,
+    directory: &Directory<'_>,
     path: &[usize],
     flow: usize,
     next: usize,
 ) -> Result<Vec<Name>, AllocError>
-    requires distinct { AreDistinct (flow_names (decls_of names.now)) }
-    requires index { IsIndex names.now }
-    requires once { AreDistinct path.now }
-    requires steps { AreSteps (decls_of names.now) path.now }
-    requires last { path.now ≡ take (length path.now - 1) path.now ++ flow ∷ [] }
-    requires step { NumberStep (decls_of names.now) flow next }
-    requires there { next ∈ path.now }
-    requires within { All (λ k. k < vec_len names.now.flows) path.now }
-    ensures { IfOk result (λ chain. IsRecursion (decls_of names.now) chain.items) }
+    requires directory { IsDirectory directory.now }
+    requires back { ComesBack (decls_of directory.now) path.now flow next }
+    ensures { IfOk result (λ chain. IsRecursion (decls_of directory.now) chain.items) }
 {
+    let names = directory.flows.as_slice();
     let ring = &path[place_of(path, next)..];
     let least = place_of_least(ring);
     let mut chain = Vec::new(alloc);
@@ -79,28 +72,4 @@ fn chain_of(
     push_names(alloc, names, &ring[..least], &mut chain)?;
     push_names(alloc, names, &[ring[least]], &mut chain)?;
     Ok(chain)
-}
-
-/// That the sub-workflows of the path from `next` on wait for one another.
-pub(crate) fn recursive(
-    alloc: Global,
-    names: &Names<'_>,
-    path: &[usize],
-    flow: usize,
-    next: usize,
-) -> ExpandRefusal
-    requires distinct { AreDistinct (flow_names (decls_of names.now)) }
-    requires index { IsIndex names.now }
-    requires once { AreDistinct path.now }
-    requires steps { AreSteps (decls_of names.now) path.now }
-    requires last { path.now ≡ take (length path.now - 1) path.now ++ flow ∷ [] }
-    requires step { NumberStep (decls_of names.now) flow next }
-    requires there { next ∈ path.now }
-    requires within { All (λ k. k < vec_len names.now.flows) path.now }
-    ensures { IsFound (decls_of names.now) result }
-{
-    match chain_of(alloc, names, path, flow, next) {
-        Ok(chain) => ExpandRefusal::Recursive { chain },
-        Err(_) => ExpandRefusal::NoMemory,
-    }
 }

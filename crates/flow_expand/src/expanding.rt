@@ -1,18 +1,43 @@
 ghost use Rattle.std.specs.Prelude.{◌≡◌, IfOk, IfErr};
+ghost use Rattle.flow_goal.specs.Repeated.{HoldsNoneTwice};
 ghost use Rattle.flow_form.specs.Script.{said};
-ghost use Rattle.flow_form.specs.Names.{IsClosed};
+ghost use Rattle.flow_form.specs.Names.{IsClosed, event_names};
 ghost use Rattle.flow_expand.specs.Expansion.{Expansion, Becomes};
+ghost use Rattle.flow_expand.specs.Numbering.{IsNumberedGoal};
 ghost use Rattle.flow_expand.specs.Refusals.{IsRefusal};
 ghost use Rattle.flow_expand.specs.Workflows.{IsExpanded};
 
 use crate::assembling::assemble;
-use crate::numbering::number;
+use crate::events::Events;
+use crate::numbered_goal::{NumberedGoal, number};
 use crate::preparing::prepare;
 use crate::refusal::ExpandRefusal;
+use flow_facts::{Name, Numbered};
 use flow_form::Script;
 use flow_goal::twice;
 use flow_workflow::Workflow;
 use std::alloc::Global;
+
+/// The goal of a script with its leaves numbered, unless the script is refused.
+fn goal_of(
+    alloc: Global,
+    script: &Script,
+    events: &Numbered<Name>,
+) -> Result<NumberedGoal, ExpandRefusal>
+    requires closed { IsClosed (said script.now) }
+    requires events { events.now ≡ event_names (said script.now).decls }
+    ensures refused { IfErr result (IsRefusal (said script.now)) }
+    ensures numbered { IfOk result (IsNumberedGoal (said script.now)) }
+    ensures unique { IfOk result (λ goal. HoldsNoneTwice goal.tree) }
+{
+    let laid = prepare(alloc, script, events)?;
+    let goal = number(alloc, script, &laid)?;
+    if let Some(found) = twice(&goal.tree) {
+        drop(goal);
+        return Err(ExpandRefusal::Twice(found));
+    }
+    Ok(goal)
+}
 
 /// The workflow of a script, with each sub-workflow in its place. What is too large is refused before
 /// anything is built.
@@ -22,10 +47,7 @@ pub fn expand(alloc: Global, script: &Script) -> Result<Workflow, ExpandRefusal>
     ensures one { (e f : Expansion) → Becomes (said script.now).decls (said script.now).goal e → Becomes (said script.now).decls (said script.now).goal f → e ≡ f }
     ensures ok { IfOk result (IsExpanded (said script.now)) }
 {
-    let prepared = prepare(alloc, script)?;
-    let numbered = number(alloc, script, &prepared)?;
-    if let Some(found) = twice(&numbered.tree) {
-        return Err(ExpandRefusal::Twice(found));
-    }
-    Ok(assemble(alloc, script, numbered)?)
+    let events = Events::new(alloc, &script.decls)?;
+    let goal = goal_of(alloc, script, &events.names)?;
+    Ok(assemble(alloc, script, events, goal)?)
 }

@@ -1,28 +1,21 @@
-ghost use Rattle.std.specs.Prelude.{◌≡◌, ◌<◌, ◌≤◌, ℕ, List, max, length, map, IfOk, OnOk, IfErr, vec_len};
-ghost use Rattle.flow_model.specs.Lists.{◌∈◌};
-ghost use Rattle.flow_form.specs.Form.{shape_of};
+ghost use Rattle.std.specs.Prelude.{◌≡◌, ◌<◌, ◌≤◌, IfOk, OnOk, IfErr};
 ghost use Rattle.flow_form.specs.Script.{said};
-ghost use Rattle.flow_form.specs.RuleForm.{rule_shape_of, rule_shapes};
-ghost use Rattle.flow_form.specs.Names.{names_in, names_in_rules, declared_names, IsClosed};
-ghost use Rattle.flow_expand.specs.declared.refusal.ExpandRefusal.{ExpandRefusal};
+ghost use Rattle.flow_form.specs.Names.{IsClosed, event_names};
 ghost use Rattle.flow_expand.specs.declared.refusal.ExpandRefusal.TheVariants as refusal;
-ghost use Rattle.flow_expand.specs.declared.refusal.Part.TheVariants as part;
-ghost use Rattle.flow_expand.specs.Expansion.{kept};
-ghost use Rattle.flow_expand.specs.Index.{decls_of};
-ghost use Rattle.flow_expand.specs.Laid.{IsLaid, Goes};
+ghost use Rattle.flow_expand.specs.Calls.{IsSettling};
+ghost use Rattle.flow_expand.specs.Directory.{decls_of};
 ghost use Rattle.flow_expand.specs.Prepared.{IsPrepared};
-ghost use Rattle.flow_expand.specs.Refusals.{IsRefusal, IsMeasured};
-ghost use Rattle.flow_expand.specs.Waiting.{IsLaidAt};
+ghost use Rattle.flow_expand.specs.Refusals.{IsRefusal, flow_count};
+ghost use Rattle.flow_expand.specs.Waiting.{IsIdle};
 
+use crate::directory::Directory;
 use crate::lay::lay;
-use crate::names::Names;
-use crate::plan::{Plan, Root};
+use crate::layout::{Layout, Root};
 use crate::refusal::{ExpandRefusal, Part};
 use crate::rule_names::count_names;
-use crate::settle::{Settled, settle_all};
-use crate::size::Size;
-use crate::stop::Stop;
-use flow_form::{Form, RuleForm, Script};
+use crate::settling::Settling;
+use flow_facts::{Name, Numbered};
+use flow_form::Script;
 use std::alloc::Global;
 
 /// How many sub-workflows may be declared.
@@ -34,10 +27,10 @@ const MOST_ENDS: u64 = 1024;
 /// How many names of events may be written in constraints.
 const MOST_NAMES: u64 = 8192;
 
-/// A goal that stands in a plan.
+/// A goal that stands in a layout.
 #[derive(Drop)]
-pub(crate) struct Standing<'a> {
-    pub(crate) plan: Plan<'a>,
+pub(crate) struct LaidGoal<'a> {
+    pub(crate) layout: Layout<'a>,
     pub(crate) root: Root,
 }
 
@@ -52,38 +45,55 @@ fn at_most(part: Part, count: u64, most: u64) -> Result<(), ExpandRefusal>
     Ok(())
 }
 
-/// Lays the goal over sub-workflows that are all laid.
+/// Lays the goal of a script over its sub-workflows, unless it is refused.
 fn lay_goal<'a>(
-    names: &Names<'a>,
-    settled: Settled<'a>,
-    goal: &'a Form,
-) -> Result<Standing<'a>, ExpandRefusal>
-    requires declared { (m : List ℕ) → m ∈ names_in (shape_of goal.now) → m ∈ declared_names (decls_of names.now) }
-    requires laid { IsLaid names.now settled.laid.items settled.plan.items }
-    requires all { (k : ℕ) → k < vec_len names.now.flows → IsLaidAt settled.laid.items k }
-    ensures ok { IfOk result (λ s. Goes (decls_of names.now) s.plan.items (shape_of goal.now) s.root) }
-    ensures err { IfErr result (λ e. e ≡ refusal.NoMemory) }
+    alloc: Global,
+    script: &'a Script,
+    directory: &Directory<'a>,
+    settling: &mut Settling<'a>,
+) -> Result<Root, ExpandRefusal>
+    requires closed { IsClosed (said script.now) }
+    requires decls { decls_of directory.now ≡ (said script.now).decls }
+    requires few { flow_count (said script.now) ≤ 256 }
+    requires settling { IsSettling directory.now settling.old }
+    requires idle { IsIdle settling.old.laid.items }
+    ensures refused { IfErr result (IsRefusal (said script.now)) }
+    ensures ok { IfOk result (λ root. IsPrepared (said script.now) settling.new.layout.items root) }
 {
-    let Settled { laid, mut plan } = settled;
-    match lay(names, &laid, goal, &mut plan) {
-        Ok(root) => Ok(Standing { plan, root }),
-        Err(Stop::Waits(_)) => unreachable!(),
-        Err(Stop::Undeclared) => unreachable!(),
-        Err(Stop::NoMemory) => Err(ExpandRefusal::NoMemory),
-    }
+    settling.settle_all(alloc, directory)?;
+    let root = lay(
+        directory,
+        &settling.laid,
+        &script.goal,
+        &mut settling.layout,
+    )?;
+    at_most(Part::Goal, root.size.most(), MOST_ENDS)?;
+    at_most(Part::Rules, count_names(&script.rules), MOST_NAMES)?;
+    Ok(root)
 }
 
-/// Lays the goal of a workflow, unless it is refused.
-pub(crate) fn prepare<'a>(alloc: Global, script: &'a Script) -> Result<Standing<'a>, ExpandRefusal>
-    requires { IsClosed (said script.now) }
+/// Lays the goal of a script, unless it is refused.
+pub(crate) fn prepare<'a>(
+    alloc: Global,
+    script: &'a Script,
+    events: &'a Numbered<Name>,
+) -> Result<LaidGoal<'a>, ExpandRefusal>
+    requires closed { IsClosed (said script.now) }
+    requires events { events.now ≡ event_names (said script.now).decls }
     ensures refused { IfErr result (IsRefusal (said script.now)) }
-    ensures ok { IfOk result (IsPrepared (said script.now)) }
+    ensures ok { IfOk result (λ goal. IsPrepared (said script.now) goal.layout.items goal.root) }
 {
-    let names = Names::new(alloc, &script.decls)?;
-    at_most(Part::Flows, names.flows.len() as u64, MOST_FLOWS)?;
-    let settled = settle_all(alloc, &names)?;
-    let standing = lay_goal(&names, settled, &script.goal)?;
-    at_most(Part::Goal, standing.root.size.most(), MOST_ENDS)?;
-    at_most(Part::Rules, count_names(&script.rules), MOST_NAMES)?;
-    Ok(standing)
+    let directory = Directory::new(alloc, &script.decls, events)?;
+    at_most(Part::Flows, directory.goals.len() as u64, MOST_FLOWS)?;
+    let mut settling = Settling::new(alloc, &directory)?;
+    match lay_goal(alloc, script, &directory, &mut settling) {
+        Ok(root) => Ok(LaidGoal {
+            layout: settling.layout,
+            root,
+        }),
+        Err(refusal) => {
+            drop(settling);
+            Err(refusal)
+        }
+    }
 }

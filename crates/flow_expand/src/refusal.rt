@@ -6,7 +6,7 @@ use flow_goal::Twice;
 use std::alloc::{AllocError, AllocFailed};
 
 /// A part of a workflow.
-#[derive(Clone, Copy, Debug, PartialEq, Eq)]
+#[derive(Clone, Copy, Debug)]
 pub enum Part {
     Flows,
     Goal,
@@ -17,7 +17,7 @@ pub enum Part {
 #[derive(Debug, Drop)]
 pub enum ExpandRefusal {
     /// There are so many sub-workflows, ends of the expanded goal, or names in constraints. What would pass the
-    /// greatest number is kept at it.
+    /// greatest number is capped at it.
     TooLarge { part: Part, count: u64 },
     /// The first sub-workflow names the second, and so on, and the last is the first again.
     Recursive { chain: Vec<Name> },

@@ -1,11 +1,10 @@
-ghost use Rattle.std.specs.Prelude.{◌≡◌, IfOk, map};
-ghost use Rattle.std.specs.List.{flat_map};
+ghost use Rattle.std.specs.Prelude.{◌≡◌, ◌<◌, IfOk, length, map, slice_index_or};
 ghost use Rattle.flow_model.specs.Lists.{◌∈◌, Each};
-ghost use Rattle.flow_form.specs.RuleForm.{rule_shape_of};
-ghost use Rattle.flow_form.specs.Names.{names_in_rule};
+ghost use Rattle.flow_form.specs.RuleForm.{rule_shape_of, rule_shapes};
+ghost use Rattle.flow_form.specs.Names.{names_in_rule, names_in_rules};
 ghost use Rattle.flow_rules.specs.Rule as rules;
 ghost use Rattle.flow_workflow.specs.Numbers as numbers;
-ghost use Rattle.flow_expand.specs.Constraints.{constraint_of};
+ghost use Rattle.flow_expand.specs.Constraints.{constraint_of, constraints_of};
 
 use flow_facts::Name;
 use flow_form::RuleForm;
@@ -63,6 +62,14 @@ pub fn rule_of(alloc: Global, form: &RuleForm, workflow: &Workflow) -> Result<Ru
     }
 }
 
+/// Where the names in all constraints of a list are events, those in each of them are.
+fn member_known(forms: &[RuleForm], place: usize, form: &RuleForm, workflow: &Workflow)
+    requires known { Each (λ n. n ∈ workflow.now.events) (names_in_rules (rule_shapes (map rule_shape_of forms.now))) }
+    requires within { place < length forms.now }
+    requires is { form.now ≡ slice_index_or forms.now place form.now }
+    ensures { Each (λ n. n ∈ workflow.now.events) (names_in_rule (rule_shape_of form.now)) }
+{}
+
 /// Each of the constraints.
 #[cycle(ruling)]
 pub(crate) fn rules_of(
@@ -70,11 +77,13 @@ pub(crate) fn rules_of(
     forms: &[RuleForm],
     workflow: &Workflow,
 ) -> Result<Vec<Rule>, AllocError>
-    requires { Each (λ n. n ∈ workflow.now.events) (flat_map names_in_rule (map rule_shape_of forms.now)) }
-    ensures { IfOk result (λ made. rules.rules_of made.items ≡ map (constraint_of workflow.now.events) (map rule_shape_of forms.now)) }
+    requires { Each (λ n. n ∈ workflow.now.events) (names_in_rules (rule_shapes (map rule_shape_of forms.now))) }
+    ensures { IfOk result (λ made. rules.rules_of made.items ≡ constraints_of workflow.now.events (rule_shapes (map rule_shape_of forms.now))) }
 {
     let mut made = Vec::new(alloc);
-    for form in forms {
+    for (place, form) in forms.iter().enumerate() {
+        // It says that the names in this one are events.
+        member_known(forms, place, form, workflow);
         made.push(rule_of(alloc, form, workflow)?)?;
     }
     Ok(made)

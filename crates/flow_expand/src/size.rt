@@ -1,8 +1,8 @@
 ghost use Rattle.std.specs.Prelude.{◌≡◌, ◌+◌, max};
-ghost use Rattle.flow_expand.specs.Expansion.{kept};
+ghost use Rattle.flow_expand.specs.Expansion.{capped};
 
 /// How many leaves and nothings a goal has, and how many isolations. What would pass the greatest
-/// number is kept at it.
+/// number is capped at it.
 #[derive(Clone, Copy)]
 pub(crate) struct Size {
     pub(crate) ends: u64,
@@ -18,7 +18,7 @@ impl Size {
 
     /// Of two goals together.
     pub(crate) fn with(self, other: Size) -> Size
-        ensures { result ≡ record { ends = kept (self.ends + other.ends); isolations = kept (self.isolations + other.isolations) } }
+        ensures { result ≡ record { ends = capped (self.ends + other.ends); isolations = capped (self.isolations + other.isolations) } }
     {
         Size {
             ends: self.ends.saturating_add(other.ends),
@@ -28,7 +28,7 @@ impl Size {
 
     /// Of the goal isolated.
     pub(crate) fn isolated(self) -> Size
-        ensures { result ≡ record { ends = self.ends; isolations = kept (self.isolations + 1) } }
+        ensures { result ≡ record { ends = self.ends; isolations = capped (self.isolations + 1) } }
     {
         Size {
             ends: self.ends,

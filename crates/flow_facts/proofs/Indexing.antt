@@ -6,7 +6,9 @@ use Rattle.std.specs.declared.cmp.Ordering.TheVariants.{Equal}
 use Rattle.std.specs.Ordering.{is_eq}
 use Rattle.std.specs.Cmp.{IsTotalOrder, tied_itself, Equal-is}
 use Rattle.std.specs.BTreeMap.{BTreeMap, get, Updates}
+use Rattle.std.specs.Option.{unwrap_or}
 use Rattle.std.proofs.lemmas.List.{length-append}
+use Rattle.std.proofs.lemmas.Option.{slice_get_within}
 use Rattle.flow_model.specs.Lists.{◌∈◌}
 use Rattle.flow_facts.specs.Indexed.{IsIndexed}
 use Rattle.flow_facts.proofs.Places.{mem-slice_get, place_of, slice_get_append_left, at_end, at_more, distinct_more}
@@ -22,6 +24,25 @@ module _ {K : Type 0} (cmp : K → K → Ordering) where
           let f : None ≡ Some i = e ∙ (is.places k i).1 at in cc
   none_missing keys numbers k (Some n) is e =
       ((λ none. cc), (λ other. absurd (other (mem-slice_get keys n k ((is.places k n).0 (sym e))))))
+
+  -- where the map has nothing else for it, a key that gets the next number is new
+  pub new_key : (keys : List K) (numbers : BTreeMap K ℕ) (k : K) (number : ℕ) → IsIndexed cmp keys numbers → number ≡ unwrap_or (get cmp numbers k) number → number ≡ length keys → ¬ (k ∈ keys)
+  new_key keys numbers k number is found last = go (get cmp numbers k) refl
+    where
+      go : (o : Option ℕ) → get cmp numbers k ≡ o → ¬ (k ∈ keys)
+      go None e m = let (i, at) = place_of keys k m in let f : None ≡ Some i = sym e ∙ (is.places k i).1 at in cc
+      go (Some n) e m =
+          let within : n < length keys = slice_get_within keys n k ((is.places k n).0 e) in
+          let same : number ≡ n = found ∙ ap (λ o. unwrap_or o number) e in
+          omega (arith, within, same, last)
+
+  -- and one that gets another number has a place
+  pub old_key : (keys : List K) (numbers : BTreeMap K ℕ) (k : K) (number n : ℕ) → IsIndexed cmp keys numbers → n ≡ unwrap_or (get cmp numbers k) number → n ≢ number → k ∈ keys
+  old_key keys numbers k number n is found other = go (get cmp numbers k) refl
+    where
+      go : (o : Option ℕ) → get cmp numbers k ≡ o → k ∈ keys
+      go None e = absurd (other (found ∙ ap (λ o. unwrap_or o number) e))
+      go (Some m) e = mem-slice_get keys m k ((is.places k m).0 e)
 
   -- one more at the end
   pub one_more : (total : IsTotalOrder cmp) (same : (one other : K) → cmp one other ≡ Equal → one ≡ other) (keys : List K) (numbers after : BTreeMap K ℕ) (k : K) →

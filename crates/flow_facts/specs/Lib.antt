@@ -4,5 +4,4 @@ pub mod Table
 pub mod Held
 pub mod Ordered
 pub mod Indexed
-pub mod Hashed
 pub mod Text

@@ -3,10 +3,9 @@ ghost use Rattle.std.specs.Prelude.{◌≡◌, IfOk};
 use crate::name::Name;
 use std::alloc::{AllocError, Global};
 use std::cmp::Ordering;
-use std::hash::{Hash, Hasher};
 
 /// An argument of a fact.
-#[derive(Debug, Drop)]
+#[derive(Drop)]
 pub enum Const {
     Word(Name),
     Number(u32),
@@ -78,27 +77,6 @@ impl Ord for Const {
             (Const::Word(_), Const::Number(_)) => Ordering::Less,
             (Const::Number(_), Const::Word(_)) => Ordering::Greater,
             (Const::Number(one), Const::Number(two)) => one.cmp(two),
-        }
-    }
-}
-
-impl Hash for Const {
-    ghost use Rattle.flow_facts.specs.Hashed.{const_writes, consts_alike};
-
-    ghost hash_input = { const_writes };
-
-    ghost respects_eq = { consts_alike };
-
-    fn hash<H: Hasher>(&self, state: &mut H) {
-        match self {
-            Const::Word(word) => {
-                state.write_u8(0);
-                word.hash(state);
-            }
-            Const::Number(number) => {
-                state.write_u8(1);
-                number.hash(state);
-            }
         }
     }
 }

@@ -4,11 +4,10 @@ use crate::constant::Const;
 use crate::name::Name;
 use std::alloc::{AllocError, Global};
 use std::cmp::Ordering;
-use std::hash::{Hash, Hasher};
 use std::marker::Model;
 
 /// A ground fact: a relation of constants.
-#[derive(Debug, Drop)]
+#[derive(Drop)]
 pub struct Fact {
     relation: Name,
     args: Vec<Const>,
@@ -106,18 +105,5 @@ impl Ord for Fact {
             Ordering::Equal => self.args().cmp(other.args()),
             unequal => unequal,
         }
-    }
-}
-
-impl Hash for Fact {
-    ghost use Rattle.flow_facts.specs.Hashed.{atom_writes, atoms_alike};
-
-    ghost hash_input = { atom_writes };
-
-    ghost respects_eq = { atoms_alike };
-
-    fn hash<H: Hasher>(&self, state: &mut H) {
-        self.relation.hash(state);
-        self.args.hash(state);
     }
 }

@@ -2,7 +2,6 @@ ghost use Rattle.std.specs.Prelude.{◌≡◌, IfOk};
 
 use std::alloc::{AllocError, Global};
 use std::cmp::Ordering;
-use std::hash::{Hash, Hasher};
 use std::marker::Model;
 
 /// A name, as the bytes that it is written in.
@@ -93,17 +92,5 @@ impl Ord for Name {
 
     fn cmp(&self, other: &Name) -> Ordering {
         self.bytes().cmp(other.bytes())
-    }
-}
-
-impl Hash for Name {
-    ghost use Rattle.flow_facts.specs.Hashed.{name_writes, names_alike};
-
-    ghost hash_input = { name_writes };
-
-    ghost respects_eq = { names_alike };
-
-    fn hash<H: Hasher>(&self, state: &mut H) {
-        self.bytes.hash(state);
     }
 }

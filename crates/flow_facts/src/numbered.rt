@@ -1,5 +1,7 @@
 ghost use Rattle.std.specs.Prelude.{◌≡◌, ◌∷◌, [], ◌++◌, ◌<◌, ◌≤◌, ◌+◌, ◌^◌, ◌↔◌, length, IfOk, OnOk, OnErr, IsNone, IfSome, slice_get, Some};
 ghost use Rattle.std.specs.declared.cmp.Ordering.TheVariants.{Equal};
+ghost use Rattle.std.specs.Option.{unwrap_or};
+ghost use Rattle.std.specs.BTreeMap.{get, Updates, IsUnchanged};
 ghost use Rattle.flow_model.specs.Lists.{◌∈◌, AreDistinct};
 ghost use Rattle.flow_facts.specs.Indexed.{IsAdded};
 
@@ -57,6 +59,19 @@ impl<K: Key> Model for Numbered<K> {
     ghost invariant = { λ t. IsIndexed K.cmp t.keys.items t.numbers };
 }
 
+/// What the map has for the key. The number is put in where it has nothing.
+fn find_or_put<K: Key>(
+    numbers: &mut BTreeMap<K, u32>,
+    key: K,
+    number: u32,
+) -> Result<u32, AllocError>
+    ensures found { IfOk result (λ n. n ≡ unwrap_or (get K.cmp numbers.old key) number) }
+    ensures put { IfOk result (λ n. Updates K.cmp numbers.old numbers.new key (Some n)) }
+    ensures err { OnErr result (IsUnchanged numbers.old numbers.new) }
+{
+    Ok(*numbers.entry(key)?.or_insert(number))
+}
+
 impl<K: Key> Numbered<K> {
     /// No keys.
     pub fn new(alloc: Global) -> Numbered<K>
@@ -84,20 +99,18 @@ impl<K: Key> Numbered<K> {
         ensures few { length self.new ≤ length self.old + 1 }
         ensures err { OnErr result (self.new ≡ self.old) }
     {
-        if let Some(number) = self.number_of(key) {
+        if self.keys.len() >= u32::MAX as usize {
+            return self.number_of(key).ok_or(AllocError);
+        }
+        let number = self.keys.len() as u32;
+        let twin = key.twin(alloc)?;
+        self.keys.push(key.twin(alloc)?)?;
+        let found = find_or_put(&mut self.numbers, twin, number).ok();
+        if found == Some(number) {
             return Ok(number);
         }
-        if self.keys.len() >= u32::MAX as usize {
-            return Err(AllocError);
-        }
-        let twin = key.twin(alloc)?;
-        let number = self.keys.len() as u32;
-        self.keys.push(key.twin(alloc)?)?;
-        let Ok(_) = self.numbers.insert(twin, number) else {
-            self.keys.pop();
-            return Err(AllocError);
-        };
-        Ok(number)
+        self.keys.pop();
+        found.ok_or(AllocError)
     }
 
     pub fn count(&self) -> u32

@@ -1,7 +1,7 @@
 use flow_facts::{Fact, Name};
 
 /// A goal as it is written (Bonner and Kifer 1996). A list has two or more members.
-#[derive(Debug, Drop)]
+#[derive(Drop)]
 pub enum Form {
     Nop,
     /// An event or a sub-workflow.

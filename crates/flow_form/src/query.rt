@@ -1,7 +1,7 @@
 use crate::rule_form::RuleForm;
 
 /// A question about a workflow.
-#[derive(Debug, Drop)]
+#[derive(Drop)]
 pub enum Query {
     /// Whether every execution meets the constraint.
     Holds(RuleForm),

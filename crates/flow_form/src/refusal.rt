@@ -5,7 +5,7 @@ use flow_facts::Name;
 use std::alloc::{AllocError, AllocFailed};
 
 /// What a text needs at the place where it goes wrong.
-#[derive(Clone, Copy, Debug, PartialEq, Eq)]
+#[derive(Clone, Copy, Debug)]
 pub enum Wanted {
     /// A declaration or the goal.
     Declaration,

@@ -2,7 +2,7 @@ use flow_facts::Name;
 
 /// A constraint on events as it is written (Davulcu, Kifer, Ramakrishnan and Ramakrishnan 1998). A list has two or
 /// more members.
-#[derive(Debug, Drop)]
+#[derive(Drop)]
 pub enum RuleForm {
     /// The event happens.
     Must(Name),

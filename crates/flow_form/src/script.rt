@@ -4,7 +4,7 @@ use flow_facts::{Fact, Name};
 use flow_model::Note;
 
 /// One declaration.
-#[derive(Debug, Drop)]
+#[derive(Drop)]
 pub enum Decl {
     /// The fact holds at the start.
     Fact(Fact),
@@ -14,7 +14,7 @@ pub enum Decl {
 }
 
 /// A workflow as it is written.
-#[derive(Debug, Drop)]
+#[derive(Drop)]
 pub struct Script {
     pub decls: Vec<Decl>,
     pub goal: Form,

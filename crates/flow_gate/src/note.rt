@@ -5,7 +5,7 @@ use crate::gate::Gate;
 use flow_model::{Call, Note, Outcome};
 
 /// Each task ends as its event's declaration announces.
-#[derive(Clone, Copy, Debug, PartialEq, Eq)]
+#[derive(Clone, Copy)]
 pub struct NoteGate;
 
 impl Gate for NoteGate {

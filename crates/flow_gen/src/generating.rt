@@ -1,5 +1,5 @@
 ghost use Rattle.std.specs.Prelude.{◌≡◌, ◌≤◌, IfOk};
-ghost use Rattle.flow_print.specs.Printed.{printed};
+ghost use Rattle.flow_text.specs.Printed.{printed};
 ghost use Rattle.flow_gen.specs.Generated.{generated};
 
 use crate::script::script_of;

@@ -7,7 +7,7 @@ use std::alloc::{AllocError, Global};
 const MOST_CHOICES: u32 = 6;
 
 /// How a block of eight events is made.
-#[derive(Clone, Copy, Debug, PartialEq, Eq)]
+#[derive(Clone, Copy)]
 pub enum Kind {
     /// One after another.
     Series,

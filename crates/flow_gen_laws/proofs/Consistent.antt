@@ -7,9 +7,10 @@ use Rattle.flow_model.specs.Resolution.{resolutions}
 use Rattle.flow_model.specs.Constraint.{Meets}
 use Rattle.flow_model.specs.Decided.{Decided, decide_in}
 use Rattle.flow_model.specs.Schema.{IsGood}
-use Rattle.flow_laws.proofs.ListLemmas2.{numbers_from_below, each_to}
+use Rattle.flow_laws.proofs.Members.{each_to}
+use Rattle.flow_laws.proofs.MadeLists.{numbers_from_below}
 use Rattle.flow_laws.proofs.ResolutionsLemmas.{resolves_of, choice_free_resolution, goal_trace, mem-leaves_of_goal}
-use Rattle.flow_goal.proofs.Rising.{Rises, resolution_rises}
+use Rattle.flow_goal.proofs.Rising.{Rises, increasing, resolution_rises}
 use Rattle.flow_form.specs.Names.{event_names}
 use Rattle.flow_workflow.specs.Definition.{Definition, schema_of}
 use Rattle.flow_expand.specs.Expansion.{Expansion}
@@ -22,12 +23,13 @@ use Rattle.flow_gen_laws.proofs.SaidTexts.{names_are_good}
 use Rattle.flow_gen_laws.proofs.Rows.{IsRow}
 use Rattle.flow_gen_laws.proofs.Expanded.{whole_row, leaf_event}
 use Rattle.flow_gen_laws.proofs.Precedences.{precedence, IsPrecedence, rules_are}
-use Rattle.flow_gen_laws.proofs.Straight.{straight, some_resolution, rises_before, own_values}
+use Rattle.flow_excise.proofs.ForwardLemmas.{straight, rising_before}
+use Rattle.flow_gen_laws.proofs.Straight.{some_resolution, own_values}
 
 met_by : (low high : ℕ) (t : List ℕ) → Rises low t high → (x y : ℕ) → x < y → Decided (x ∈ t) → Decided (y ∈ t) → Meets (precedence x y) t
 met_by low high t rises x y less (inr absent) other = inl (inl (inr absent))
 met_by low high t rises x y less (inl i) (inr absent) = inl (inr absent)
-met_by low high t rises x y less (inl i) (inl j) = inr (rises_before low high t rises x y i j less, j)
+met_by low high t rises x y less (inl i) (inl j) = inr (rising_before t (increasing low high t rises) x y i j less, j)
 
 rising_meets : (low high : ℕ) (t : List ℕ) → Rises low t high → (x y : ℕ) → x < y → Meets (precedence x y) t
 rising_meets low high t rises x y less = met_by low high t rises x y less (decide_in x t) (decide_in y t)

@@ -10,7 +10,7 @@ use Rattle.flow_model.specs.declared.labels.Label.TheVariants.{Event}
 use Rattle.flow_model.specs.Lists.{◌∈◌, AreDistinct, numbers_from}
 use Rattle.flow_model.specs.Facts.{event_at}
 use Rattle.flow_model.specs.Trace.{Trace}
-use Rattle.flow_laws.proofs.ListLemmas2.{distinct-filter_map, numbers_from_below, distinct-numbers_from}
+use Rattle.flow_laws.proofs.MadeLists.{distinct-filter_map, numbers_from_below, distinct-numbers_from}
 use Rattle.flow_laws.proofs.TraceLeaves.{leaf_of_trace, distinct_trace}
 use Rattle.flow_goal.specs.Repeated.{HoldsNoneTwice, HoldsTwice}
 use Rattle.flow_form.specs.Form.{Shape}

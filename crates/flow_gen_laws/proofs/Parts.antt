@@ -3,13 +3,13 @@ use Rattle.std.proofs.Common.{◌≡◌, ℕ, zero, suc, ◌+◌, ◌*◌, ◌%�
 use Rattle.std.specs.List.{flat_map}
 use Rattle.flow_model.specs.declared.labels.Note.TheVariants.{Done}
 use Rattle.flow_model.specs.Lists.{◌∈◌, Each, numbers_from}
-use Rattle.flow_laws.proofs.ListLemmas2.{mem-map}
+use Rattle.flow_laws.proofs.MadeLists.{mem-map}
 use Rattle.flow_form.specs.Form.{Shape, named, iso}
 use Rattle.flow_form.specs.RuleForm.{RuleShape, IsGroupedRule}
 use Rattle.flow_form.specs.Script.{event}
 use Rattle.flow_form.specs.Names.{declared_names, event_names, flow_goal, names_in_rule}
 use Rattle.flow_grammar.specs.Print.{rule_nesting}
-use Rattle.flow_print.specs.Printable.{IsPrintableRule, IsPrintableDeclaration}
+use Rattle.flow_text.specs.Printable.{IsPrintableRule, IsPrintableDeclaration}
 use Rattle.flow_gen.specs.declared.kind.Kind.{Kind}
 use Rattle.flow_gen.specs.declared.kind.Kind.TheVariants.{Series, Beside, IsolatedBeside, Either}
 use Rattle.flow_gen.specs.Generated as made

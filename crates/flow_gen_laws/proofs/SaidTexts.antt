@@ -4,7 +4,7 @@ use Rattle.std.specs.List.{flat_map}
 use Rattle.std.proofs.lemmas.List.{length-take-le, length-map}
 use Rattle.flow_model.specs.declared.labels.Note.TheVariants.{Done}
 use Rattle.flow_model.specs.Lists.{◌∈◌, Each, numbers_from, AreDistinct}
-use Rattle.flow_laws.proofs.ListLemmas2.{each-append, each_to}
+use Rattle.flow_laws.proofs.Members.{each-append, each_to}
 use Rattle.flow_form.specs.declared.refusal.TextRefusal.{TextRefusal}
 use Rattle.flow_form.specs.declared.refusal.TextRefusal.TheVariants.{NotAscii, BadToken, Expected, Unknown, Repeated, TooDeep, NoMemory}
 use Rattle.flow_form.specs.Form.{Shape, IsGrouped}
@@ -14,8 +14,8 @@ use Rattle.flow_form.specs.Names.{declared_names, event_names, goals_of, names_i
 use Rattle.flow_grammar.specs.Machine.{deepest}
 use Rattle.flow_grammar.specs.Print.{nesting, rule_nesting, IsWithin}
 use Rattle.flow_grammar.specs.Made.{IsWellMade}
-use Rattle.flow_print.specs.Printable.{IsPrintable, IsPrintableRule}
-use Rattle.flow_names.specs.Good.{HasGoodNames}
+use Rattle.flow_text.specs.Printable.{IsPrintable, IsPrintableRule}
+use Rattle.flow_text.specs.GoodNames.{HasGoodNames}
 use Rattle.flow_text.specs.Saying.{Says}
 use Rattle.flow_text.specs.Parsing.{IsParseRefusal}
 use Rattle.flow_text.proofs.SaidLaws.{prints_say_it}

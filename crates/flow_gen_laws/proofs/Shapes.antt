@@ -1,11 +1,11 @@
 -- Goals made of generated events.
 use Rattle.std.proofs.Common.{◌≡◌, ℕ, suc, ◌<◌, ◌≤◌, Bool, true, false, List, [], ◌∷◌, length, refl, ap, arith}
 use Rattle.flow_model.specs.Lists.{Each}
-use Rattle.flow_laws.proofs.ListLemmas2.{each-append}
+use Rattle.flow_laws.proofs.Members.{each-append}
 use Rattle.flow_form.specs.Form.{Shape, named, iso, serial, beside, either, shapes, members, IsGrouped, AreGrouped}
 use Rattle.flow_form.specs.Names.{names_in, names_in_each}
 use Rattle.flow_grammar.specs.Print.{in_serial, in_beside, in_either, nest, nesting, nesting_list}
-use Rattle.flow_print.specs.Printable.{IsPrintableGoal, ArePrintableGoals}
+use Rattle.flow_text.specs.Printable.{IsPrintableGoal, ArePrintableGoals}
 use Rattle.flow_gen.specs.Generated.{event_name}
 use Rattle.flow_gen_laws.proofs.EventNames.{name_is}
 

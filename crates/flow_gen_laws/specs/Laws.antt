@@ -8,7 +8,7 @@ use Rattle.flow_laws.specs.Words.{IsConsistent}
 use Rattle.flow_form.specs.declared.refusal.TextRefusal.{TextRefusal}
 use Rattle.flow_form.specs.declared.refusal.TextRefusal.TheVariants.{NoMemory}
 use Rattle.flow_form.specs.Names.{IsClosed}
-use Rattle.flow_print.specs.Printed.{printed}
+use Rattle.flow_text.specs.Printed.{printed}
 use Rattle.flow_text.specs.Saying.{Says}
 use Rattle.flow_text.specs.Parsing.{IsParseRefusal}
 use Rattle.flow_workflow.specs.Definition.{Definition, schema_of}

@@ -10,7 +10,7 @@ use Rattle.flow_model.specs.Lists.{each_with_each}
 use Rattle.flow_model.specs.Process.{Process, Empty, Task, Sequence, Parallel, Choice, Isolated}
 use Rattle.flow_model.specs.Resolution.{resolutions, resolution_count}
 use Rattle.flow_laws.proofs.ResolutionsLemmas.{number_of_both, number_of_right}
-use Rattle.flow_laws.proofs.ListLemmas2.{slice_get_append_left}
+use Rattle.flow_laws.proofs.MadeLists.{slice_get_append_left}
 use Rattle.flow_goal.specs.declared.sides.Sides.{Sides}
 use Rattle.flow_goal.specs.Sides.{Ends, IsResolutionOf, AreResolutionsOf, IsResolutionOfEither, IsTaken, kept_count, sides_in}
 

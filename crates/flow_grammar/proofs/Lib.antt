@@ -1,4 +1,5 @@
 pub mod Runs
+pub mod Parts
 pub mod ArgStates
 pub mod GoalStates
 pub mod RuleStates
@@ -6,8 +7,8 @@ pub mod ScriptStates
 pub mod QueryStates
 pub mod WantedKinds
 pub mod MadeTexts
-pub mod PrintedGoals
-pub mod PrintedRules
+pub mod Printed
+pub mod Depths
 pub mod PrintedTexts
 pub mod RolesOfNames
 pub mod RunSteps

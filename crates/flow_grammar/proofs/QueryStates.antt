@@ -1,72 +1,59 @@
 -- A whole query: what may follow each state.
-use Rattle.std.proofs.Common.{◌≡◌, ℕ, Option, Some, List, [], ◌∷◌, refl, ap, ◌∙◌, subst}
+use Rattle.std.proofs.Common.{◌≡◌, ℕ, Some, List, [], ◌∷◌, refl, ap, ◌∙◌, subst}
 use Rattle.flow_form.specs.Script.{Asked, holds, redundant}
 use Rattle.flow_grammar.specs.Symbol.{Symbol, Placed, at, Deepens, holds_word, redundant_word, a_number, semicolon}
-use Rattle.flow_grammar.specs.Grammar.{spell_rule, holds_text, redundant_text}
-use Rattle.flow_grammar.specs.Machine.{reading, whole, stuck, RuleState, RuleStep, step_rule, QueryState, query_needed, in_property, number_needed, after_number, query_read, after_property_step, step_query, finish_query, depth_query}
+use Rattle.flow_grammar.specs.Grammar.{spell, holds_text, redundant_text}
+use Rattle.flow_grammar.specs.Machine.{step_rule, depth_rule, QueryState, query_needed, in_property, number_needed, after_number, query_read, step_query, finish_query, depth_query}
 use Rattle.flow_grammar.specs.Texts.{SpellsQuery}
 use Rattle.flow_grammar.proofs.Runs.{OnNext, Front, Knows}
-use Rattle.flow_grammar.proofs.RuleStates.{RuleRest, RuleNext, RuleFront, rule_forth, rule_back, rule_completes, need_of_rule, rule_of_need, Closing}
-
-abbrev pub Ended : Asked → List Placed → Asked → Type 0
-Ended q w x = ([] ≡ w) × (q ≡ x)
+use Rattle.flow_grammar.proofs.Parts.{carried_forth, carried_back}
+use Rattle.flow_grammar.proofs.RuleStates.{RuleRest, rule_forth, rule_back, rule_completes, need_of_rule, rule_of_need, Closing}
 
 abbrev pub Rest : QueryState → List Placed → Asked → Type 0
 Rest query_needed w x = SpellsQuery w x
-Rest (in_property r) w x = RuleRest r w (λ y v. Ended (holds y) v x)
+Rest (in_property r) w x = RuleRest r w (λ y v. ([] ≡ v) × (holds y ≡ x))
 Rest number_needed w x = (n : ℕ) × (at 0 (a_number n) ∷ at 0 semicolon ∷ [] ≡ w) × (redundant n ≡ x)
 Rest (after_number n) w x = (at 0 semicolon ∷ [] ≡ w) × (redundant n ≡ x)
-Rest (query_read q) w x = Ended q w x
+Rest (query_read q) w x = ([] ≡ w) × (q ≡ x)
 
-abbrev pub Next : Option QueryState → List Placed → Asked → Type 0
-Next o w x = OnNext Rest o w x
-
-abbrev pub Ahead : QueryState → List Placed → Asked → Type 0
-Ahead s w x = Front step_query finish_query depth_query Rest s w x
-
-of_rule : (o : RuleStep) (w : List Placed) (x : Asked) → RuleNext o w (λ y v. Ended (holds y) v x) → Next (after_property_step o) w x
-of_rule (reading r) w x h = h
-of_rule (whole y) w x h = h
-of_rule stuck w x h = h
-
-to_rule : (o : RuleStep) (w : List Placed) (x : Asked) → Next (after_property_step o) w x → RuleNext o w (λ y v. Ended (holds y) v x)
-to_rule (reading r) w x h = h
-to_rule (whole y) w x h = h
-to_rule stuck w x h = h
-
-rule_ahead : (r : RuleState) (w : List Placed) (x : Asked) → RuleFront r w (λ y v. Ended (holds y) v x) → Ahead (in_property r) w x
-rule_ahead r [] x h = absurd h
-rule_ahead r (at m t ∷ w) x (e, h) = (e, of_rule (step_rule r t) w x h)
+abbrev Ahead : QueryState → List Placed → Asked → Type 0
+Ahead = Front step_query finish_query depth_query Rest
 
 query_forth : (s : QueryState) (w : List Placed) (x : Asked) → Rest s w x → Ahead s w x
 query_forth query_needed w x (holds_text y, e, ex) =
     subst (λ v. Ahead query_needed v x) e
-    (λ h. refl, need_of_rule (Closing (λ z v. Ended (holds z) v x) []) 0 y (at 0 semicolon ∷ []) ([], refl, (refl, ex)))
+    (λ h. refl, need_of_rule (Closing (λ z v. Rest (query_read (holds z)) v x) []) 0 y (at 0 semicolon ∷ []) ([], refl, (refl, ex)))
 query_forth query_needed w x (redundant_text n, e, ex) = subst (λ v. Ahead query_needed v x) e (λ h. refl, (n, refl, ex))
-query_forth (in_property r) w x h = rule_ahead r w x (rule_forth r w (λ y v. Ended (holds y) v x) h)
+query_forth (in_property r) w x h =
+    carried_forth RuleRest Rest in_property (λ y. query_read (holds y)) x step_rule depth_rule step_query finish_query depth_query (λ s v k. k)
+    r w refl (λ t. refl) (rule_forth r w (λ y v. Rest (query_read (holds y)) v x) h)
 query_forth number_needed w x (n, e, ex) = subst (λ v. Ahead number_needed v x) e (λ h. refl, (refl, ex))
 query_forth (after_number n) w x (e, ex) = subst (λ v. Ahead (after_number n) v x) e (λ h. refl, (refl, ex))
 query_forth (query_read q) w x (e, ex) = subst (λ v. Ahead (query_read q) v x) e (ap Some ex)
 
-start_back : (t : Symbol) (w : List Placed) (x : Asked) → Next (step_query query_needed t) w x → Rest query_needed (at 0 t ∷ w) x
+abbrev Back : QueryState → Symbol → List Placed → Asked → Type 0
+Back s t w x = OnNext Rest (step_query s t) w x → Rest s (at 0 t ∷ w) x
+
+start_back : (t : Symbol) (w : List Placed) (x : Asked) → Back query_needed t w x
 start_back holds_word w x h =
-    let (y, r, e, (v, e', (e2, ex))) = rule_of_need (Closing (λ z v. Ended (holds z) v x) []) 0 w h in
-    (holds_text y, ap (λ z. at 0 holds_word ∷ z) (ap (spell_rule 0 y) (ap (λ z. at 0 semicolon ∷ z) e2 ∙ e') ∙ e), ex)
+    let (y, r, e, (v, e', (e2, ex))) = rule_of_need (Closing (λ z v. Rest (query_read (holds z)) v x) []) 0 w h in
+    (holds_text y, ap (λ z. at 0 holds_word ∷ z) (ap (spell 0 y) (ap (λ z. at 0 semicolon ∷ z) e2 ∙ e') ∙ e), ex)
 start_back redundant_word w x (n, e, ex) = (redundant_text n, ap (λ z. at 0 redundant_word ∷ z) e, ex)
 start_back _ w x h = absurd h
 
-number_back : (t : Symbol) (w : List Placed) (x : Asked) → Next (step_query number_needed t) w x → Rest number_needed (at 0 t ∷ w) x
+number_back : (t : Symbol) (w : List Placed) (x : Asked) → Back number_needed t w x
 number_back (a_number n) w x (e, ex) = (n, ap (λ z. at 0 (a_number n) ∷ z) e, ex)
 number_back _ w x h = absurd h
 
-end_back : (n : ℕ) (t : Symbol) (w : List Placed) (x : Asked) → Next (step_query (after_number n) t) w x → Rest (after_number n) (at 0 t ∷ w) x
+end_back : (n : ℕ) (t : Symbol) (w : List Placed) (x : Asked) → Back (after_number n) t w x
 end_back n semicolon w x (e, ex) = (ap (λ z. at 0 semicolon ∷ z) e, ex)
 end_back n _ w x h = absurd h
 
-query_back : (s : QueryState) (t : Symbol) (w : List Placed) (x : Asked) → Next (step_query s t) w x →
+query_back : (s : QueryState) (t : Symbol) (w : List Placed) (x : Asked) → OnNext Rest (step_query s t) w x →
     (n : ℕ) × (Deepens t → n ≡ depth_query s) × Rest s (at n t ∷ w) x
 query_back query_needed t w x h = (0, λ h'. refl, start_back t w x h)
-query_back (in_property r) t w x h = rule_back r t w (λ y v. Ended (holds y) v x) (to_rule (step_rule r t) w x h)
+query_back (in_property r) t w x h =
+    rule_back r t w (λ y v. Rest (query_read (holds y)) v x) (carried_back RuleRest Rest in_property (λ y. query_read (holds y)) x (λ s v k. k) (step_rule r t) w h)
 query_back number_needed t w x h = (0, λ h'. refl, number_back t w x h)
 query_back (after_number n) t w x h = (0, λ h'. refl, end_back n t w x h)
 query_back (query_read q) t w x h = absurd h
@@ -77,7 +64,7 @@ query_ended _ x e = cc
 
 query_completes : (s : QueryState) → (w : List Placed) × (x : Asked) × Rest s w x
 query_completes query_needed = (_, _, (redundant_text 0, refl, refl))
-query_completes (in_property r) = rule_completes r (λ x y v. Ended (holds y) v x) (λ y. ([], holds y, (refl, refl)))
+query_completes (in_property r) = rule_completes r (λ x y v. Rest (query_read (holds y)) v x) (λ y. ([], holds y, (refl, refl)))
 query_completes number_needed = (_, _, (0, refl, refl))
 query_completes (after_number n) = (_, _, (refl, refl))
 query_completes (query_read q) = ([], q, (refl, refl))

@@ -68,18 +68,6 @@ go_deep (Some s) true kind rest k e = (s, refl, inl (refl, cc))
 go_deep (Some s) false kind rest k e =
     let (j, ek, er) = later_deep (rest s) k e in (s, refl, inr (j, refl, ek, er))
 
-pub go_later : {S V : Type 0} (o : Option S) (b : Bool) (kind : Wanted) (rest : S → Reading V) (s : S) (y : Reading V) →
-    o ≡ Some s → b ≡ false → rest s ≡ y → go_on o b kind rest ≡ later y
-go_later o b kind rest s y eo eb e = rw (eo, eb) (ap later e)
-
-pub go_none : {S V : Type 0} (o : Option S) (b : Bool) (kind : Wanted) (rest : S → Reading V) →
-    o ≡ None → go_on o b kind rest ≡ expected kind 0
-go_none o b kind rest eo = rw eo refl
-
-pub go_too_deep : {S V : Type 0} (o : Option S) (b : Bool) (kind : Wanted) (rest : S → Reading V) (s : S) →
-    o ≡ Some s → b ≡ true → go_on o b kind rest ≡ too_deep 0
-go_too_deep o b kind rest s eo eb = rw (eo, eb) refl
-
 end_gives : {V : Type 0} (o : Option V) (kind : Wanted) (v : V) → at_end o kind ≡ gives v → o ≡ Some v
 end_gives None kind v e = cc
 end_gives (Some u) kind v e = cc
@@ -151,13 +139,12 @@ module _ {S V : Type 0} (step : S → Symbol → Option S) (finish : S → Optio
   on_next None w x h = absurd h
   on_next (Some s) w x h = (s, refl, h)
 
-  front : (s : S) (t : Symbol) (ts : List Symbol) (w : List Placed) (x : V) → symbols w ≡ t ∷ ts → R s w x →
-      (n : ℕ) × (v : List Placed) × (next : S) × (step s t ≡ Some next) × (w ≡ at n t ∷ v) × (symbols v ≡ ts) × (Deepens t → n ≡ depth s) × R next v x
-  front s t ts w x e r =
+  front : (s : S) (o : Option S) (t : Symbol) (ts : List Symbol) (w : List Placed) (x : V) → step s t ≡ o → symbols w ≡ t ∷ ts → R s w x →
+      (n : ℕ) × (v : List Placed) × (w ≡ at n t ∷ v) × (symbols v ≡ ts) × (Deepens t → n ≡ depth s) × OnNext R o v x
+  front s o t ts w x es e r =
       let (n, v, ew, ev) = uncons w t ts e in
       let f : (Deepens t → n ≡ depth s) × OnNext R (step s t) v x = k.forth s (at n t ∷ v) x (subst (λ y. R s y x) ew r) in
-      let (next, es, r') = on_next (step s t) v x f.1 in
-      (n, v, next, es, ew, ev, f.0, r')
+      (n, v, ew, ev, f.0, subst (λ o'. OnNext R o' v x) es f.1)
 
   behind : (s next : S) (t : Symbol) (w : List Placed) (x : V) → step s t ≡ Some next → R next w x →
       (n : ℕ) × (Deepens t → n ≡ depth s) × R s (at n t ∷ w) x
@@ -167,16 +154,10 @@ module _ {S V : Type 0} (step : S → Symbol → Option S) (finish : S → Optio
   viable_nil s = let (w, x, r) = k.completes s in (w, x, (symbols w, refl), r)
 
   viable_none : (s : S) (t : Symbol) (ts : List Symbol) → step s t ≡ None → ¬ IsViable (R s) (t ∷ ts)
-  viable_none s t ts es (w, x, (rest, e), r) =
-      let f = front s t (ts ++ rest) w x e r in
-      let e' : step s t ≡ Some f.2 = f.3 in
-      cc
+  viable_none s t ts es (w, x, (rest, e), r) = (front s None t (ts ++ rest) w x es e r).5
 
   viable_down : (s next : S) (t : Symbol) (ts : List Symbol) → step s t ≡ Some next → IsViable (R s) (t ∷ ts) → IsViable (R next) ts
-  viable_down s next t ts es (w, x, (rest, e), r) =
-      let (n, v, next', es', ew, ev, d, r') = front s t (ts ++ rest) w x e r in
-      let same : next' ≡ next = cc in
-      (v, x, (rest, ev), subst (λ y. R y v x) same r')
+  viable_down s next t ts es (w, x, (rest, e), r) = let (n, v, ew, ev, d, r') = front s (Some next) t (ts ++ rest) w x es e r in (v, x, (rest, ev), r')
 
   viable_up : (s next : S) (t : Symbol) (ts : List Symbol) → step s t ≡ Some next → IsViable (R next) ts → IsViable (R s) (t ∷ ts)
   viable_up s next t ts es (w, x, (rest, e), r) =
@@ -184,10 +165,7 @@ module _ {S V : Type 0} (step : S → Symbol → Option S) (finish : S → Optio
       (at n t ∷ w, x, (rest, ap (λ y. t ∷ y) e), r')
 
   whole_down : (s next : S) (t : Symbol) (ts : List Symbol) → step s t ≡ Some next → IsWhole (R s) (t ∷ ts) → IsWhole (R next) ts
-  whole_down s next t ts es (w, x, e, r) =
-      let (n, v, next', es', ew, ev, d, r') = front s t ts w x e r in
-      let same : next' ≡ next = cc in
-      (v, x, ev, subst (λ y. R y v x) same r')
+  whole_down s next t ts es (w, x, e, r) = let (n, v, ew, ev, d, r') = front s (Some next) t ts w x es e r in (v, x, ev, r')
 
   whole_up : (s next : S) (t : Symbol) (ts : List Symbol) → step s t ≡ Some next → IsWhole (R next) ts → IsWhole (R s) (t ∷ ts)
   whole_up s next t ts es (w, x, e, r) =
@@ -196,9 +174,8 @@ module _ {S V : Type 0} (step : S → Symbol → Option S) (finish : S → Optio
 
   deep_down : (s next : S) (t : Symbol) (ts : List Symbol) (j : ℕ) → step s t ≡ Some next → StandsDeep (R s) (t ∷ ts) (suc j) → StandsDeep (R next) ts j
   deep_down s next t ts j es (l, (w, x, (rest, e), dp, r)) =
-      let (n, v, next', es', ew, ev, d, r') = front s t (take (suc j) ts ++ rest) w x e r in
-      let same : next' ≡ next = cc in
-      (omega arith, (v, x, (rest, ev), subst (λ y. IsDeepAt y (suc j)) ew dp, subst (λ y. R y v x) same r'))
+      let (n, v, ew, ev, d, r') = front s (Some next) t (take (suc j) ts ++ rest) w x es e r in
+      (omega arith, (v, x, (rest, ev), subst (λ y. IsDeepAt y (suc j)) ew dp, r'))
 
   deep_up : (s next : S) (t : Symbol) (ts : List Symbol) (j : ℕ) → step s t ≡ Some next → StandsDeep (R next) ts j → StandsDeep (R s) (t ∷ ts) (suc j)
   deep_up s next t ts j es (l, (w, x, (rest, e), dp, r)) =
@@ -207,7 +184,7 @@ module _ {S V : Type 0} (step : S → Symbol → Option S) (finish : S → Optio
 
   deep_here : (s : S) (t : Symbol) (ts : List Symbol) → StandsDeep (R s) (t ∷ ts) 0 → is_too_deep t (depth s) ≡ true
   deep_here s t ts (l, (w, x, (rest, e), dp, r)) =
-      let (n, v, next, es, ew, ev, d, r') = front s t rest w x e r in
+      let (n, v, ew, ev, d, r') = front s (step s t) t rest w x refl e r in
       let here : Deepens t × (deepest ≤ n) = subst (λ y. IsDeepAt y 0) ew dp in
       is_deep t (depth s) here.0 (subst (λ y. deepest ≤ y) (d here.0) here.1)
 
@@ -217,6 +194,11 @@ module _ {S V : Type 0} (step : S → Symbol → Option S) (finish : S → Optio
       let (n, d, r') = behind s next t w x es r in
       let (dt, l) = deep_of t (depth s) b in
       (omega arith, (at n t ∷ w, x, (symbols w, refl), (dt, subst (λ y. deepest ≤ y) (sym (d dt)) l), r'))
+
+  none_before : (s next : S) (t : Symbol) (ts : List Symbol) (j : ℕ) → step s t ≡ Some next → is_too_deep t (depth s) ≡ false → NoneDeepBefore (R next) ts j →
+      NoneDeepBefore (R s) (t ∷ ts) (suc j)
+  none_before s next t ts j es eb h zero l dp = let e' = deep_here s t ts dp in cc
+  none_before s next t ts j es eb h (suc i) l dp = h i (omega arith) (deep_down s next t ts i es dp)
 
   -- a value
 
@@ -240,8 +222,8 @@ module _ {S V : Type 0} (step : S → Symbol → Option S) (finish : S → Optio
   given_by (at n t ∷ w) s x (sh, more) r =
       let f : (Deepens t → n ≡ depth s) × OnNext R (step s t) w x = k.forth s (at n t ∷ w) x r in
       let (next, es, r') = on_next (step s t) w x f.1 in
-      go_later (step s t) (is_too_deep t (depth s)) (wanted s) (λ y. reads y (symbols w)) next (gives x) es
-      (not_too_deep s t n sh f.0) (given_by w next x more r')
+      let eb = not_too_deep s t n sh f.0 in
+      rw (es, eb, given_by w next x more r')
 
   pub given : (ts : List Symbol) (s : S) (x : V) → Derives (R s) ts x → reads s ts ≡ gives x
   given ts s x (w, e, sh, r) = subst (λ y. reads s y ≡ gives x) e (given_by w s x sh r)
@@ -266,16 +248,12 @@ module _ {S V : Type 0} (step : S → Symbol → Option S) (finish : S → Optio
             (up next j es eb (stuck_where ts next kind j er))
       ]
     where
-      none_before : (next : S) (j : ℕ) → step s t ≡ Some next → is_too_deep t (depth s) ≡ false → NoneDeepBefore (R next) ts j → NoneDeepBefore (R s) (t ∷ ts) (suc j)
-      none_before next j es eb h zero l dp = let e' = deep_here s t ts dp in cc
-      none_before next j es eb h (suc i') l dp = h i' (omega arith) (deep_down s next t ts i' es dp)
-
       up : (next : S) (j : ℕ) → step s t ≡ Some next → is_too_deep t (depth s) ≡ false →
           IsStuckAt (R next) ts j × NoneDeepBefore (R next) ts j → IsStuckAt (R s) (t ∷ ts) (suc j) × NoneDeepBefore (R s) (t ∷ ts) (suc j)
       up next j es eb ((v, inl (l, refuted)), h) =
-          ((viable_up s next t (take j ts) es v, inl (omega arith, λ v'. refuted (viable_down s next t (take (suc j) ts) es v'))), none_before next j es eb h)
+          ((viable_up s next t (take j ts) es v, inl (omega arith, λ v'. refuted (viable_down s next t (take (suc j) ts) es v'))), none_before s next t ts j es eb h)
       up next j es eb ((v, inr (l, refuted)), h) =
-          ((viable_up s next t (take j ts) es v, inr (omega arith, λ v'. refuted (whole_down s next t ts es v'))), none_before next j es eb h)
+          ((viable_up s next t (take j ts) es v, inr (omega arith, λ v'. refuted (whole_down s next t ts es v'))), none_before s next t ts j es eb h)
 
   pub stuck_there : (ts : List Symbol) (s : S) (i : ℕ) → IsStuckAt (R s) ts i → NoneDeepBefore (R s) ts i →
       (kind : Wanted) × (reads s ts ≡ expected kind i)
@@ -285,18 +263,16 @@ module _ {S V : Type 0} (step : S → Symbol → Option S) (finish : S → Optio
     | inr (x, e) ↦ absurd (refuted ([], x, refl, k.ended s x e))
   ]
   stuck_there (t ∷ ts) s zero (v, inl (l, refuted)) h = elim (known (step s t)) [
-    | inl e ↦ (wanted s, go_none (step s t) (is_too_deep t (depth s)) (wanted s) (λ y. reads y ts) e)
+    | inl e ↦ (wanted s, rw e refl)
     | inr (next, e) ↦ absurd (refuted (viable_up s next t [] e (viable_nil next)))
   ]
   stuck_there (t ∷ ts) s zero (v, inr (l, refuted)) h = absurd (omega arith)
   stuck_there (t ∷ ts) s (suc i) (v, more) h = elim (known (step s t)) [
     | inl e ↦ absurd (viable_none s t (take i ts) e v)
     | inr (next, e) ↦
-        let (kind, er) = stuck_there ts next i (down next e (v, more)) (below next e h) in (
-          kind,
-          go_later (step s t) (is_too_deep t (depth s)) (wanted s) (λ y. reads y ts) next (expected kind i) e
-              (false_from_ne_true (is_too_deep t (depth s)) (λ b. h zero (omega arith) (deep_there s next t ts e b))) er,
-        )
+        let (kind, er) = stuck_there ts next i (down next e (v, more)) (below next e h) in
+        let eb = false_from_ne_true (is_too_deep t (depth s)) (λ b. h zero (omega arith) (deep_there s next t ts e b)) in
+        (kind, rw (e, eb, er) refl)
   ]
     where
       down : (next : S) → step s t ≡ Some next → IsStuckAt (R s) (t ∷ ts) (suc i) → IsStuckAt (R next) ts i
@@ -319,13 +295,9 @@ module _ {S V : Type 0} (step : S → Symbol → Option S) (finish : S → Optio
             (up next j es eb (deep_where ts next j er))
       ]
     where
-      none_before : (next : S) (j : ℕ) → step s t ≡ Some next → is_too_deep t (depth s) ≡ false → NoneDeepBefore (R next) ts j → NoneDeepBefore (R s) (t ∷ ts) (suc j)
-      none_before next j es eb h zero l dp = let e' = deep_here s t ts dp in cc
-      none_before next j es eb h (suc i') l dp = h i' (omega arith) (deep_down s next t ts i' es dp)
-
       up : (next : S) (j : ℕ) → step s t ≡ Some next → is_too_deep t (depth s) ≡ false →
           StandsDeep (R next) ts j × NoneDeepBefore (R next) ts j → StandsDeep (R s) (t ∷ ts) (suc j) × NoneDeepBefore (R s) (t ∷ ts) (suc j)
-      up next j es eb (dp, h) = (deep_up s next t ts j es dp, none_before next j es eb h)
+      up next j es eb (dp, h) = (deep_up s next t ts j es dp, none_before s next t ts j es eb h)
 
   pub deep_then : (ts : List Symbol) (s : S) (i : ℕ) → StandsDeep (R s) ts i → NoneDeepBefore (R s) ts i → reads s ts ≡ too_deep i
   deep_then [] s i (l, more) h = absurd (omega arith)
@@ -339,12 +311,11 @@ module _ {S V : Type 0} (step : S → Symbol → Option S) (finish : S → Optio
 
       deeper : (next : S) → step s t ≡ Some next → (j : ℕ) → StandsDeep (R s) (t ∷ ts) j → NoneDeepBefore (R s) (t ∷ ts) j →
           ((i' : ℕ) → StandsDeep (R next) ts i' → NoneDeepBefore (R next) ts i' → reads next ts ≡ too_deep i') → reads s (t ∷ ts) ≡ too_deep j
-      deeper next es zero d h' rec =
-          go_too_deep (step s t) (is_too_deep t (depth s)) (wanted s) (λ y. reads y ts) next es (deep_here s t ts d)
+      deeper next es zero d h' rec = let eb = deep_here s t ts d in rw (es, eb) refl
       deeper next es (suc j) d h' rec =
-          go_later (step s t) (is_too_deep t (depth s)) (wanted s) (λ y. reads y ts) next (too_deep j) es
-          (false_from_ne_true (is_too_deep t (depth s)) (λ b. h' zero (omega arith) (deep_there s next t ts es b)))
-          (rec j (deep_down s next t ts j es d) (λ i' l dp'. h' (suc i') (omega arith) (deep_up s next t ts i' es dp')))
+          let eb = false_from_ne_true (is_too_deep t (depth s)) (λ b. h' zero (omega arith) (deep_there s next t ts es b)) in
+          let er = rec j (deep_down s next t ts j es d) (λ i' l dp'. h' (suc i') (omega arith) (deep_up s next t ts i' es dp')) in
+          rw (es, eb, er) refl
 
   -- one meaning
 
@@ -357,9 +328,8 @@ module _ {S V : Type 0} (step : S → Symbol → Option S) (finish : S → Optio
   one_meaning (at n t ∷ w) v s x y e r r' =
       let f : (Deepens t → n ≡ depth s) × OnNext R (step s t) w x = k.forth s (at n t ∷ w) x r in
       let (next, es, q) = on_next (step s t) w x f.1 in
-      let (n', v', next', es', ew, ev, d, q') = front s t (symbols w) v y (sym e) r' in
-      let same : next' ≡ next = cc in
-      one_meaning w v' next x y (sym ev) q (subst (λ z. R z v' y) same q')
+      let (n', v', ew, ev, d, q') = front s (Some next) t (symbols w) v y es (sym e) r' in
+      one_meaning w v' next x y (sym ev) q q'
 
   -- the kind
 

@@ -2,12 +2,10 @@
 use Rattle.std.proofs.Common.{ℕ, List, [], ◌∷◌, subst, sym}
 use Rattle.flow_facts.specs.declared.constant.Const.{Const}
 use Rattle.flow_facts.specs.Atom.{Atom}
-use Rattle.flow_form.specs.Form.{Shape}
-use Rattle.flow_form.specs.RuleForm.{RuleShape}
 use Rattle.flow_form.specs.Script.{Declared}
 use Rattle.flow_grammar.specs.Symbol.{Symbol, fact_word, event_word, flow_word, goal_word, nop_word, iso_word, ins_word, del_word, must_word, never_word, order_word, precedes_word, needs_word, not_word, holds_word, redundant_word, a_name, a_number, opening, question, exclamation}
 use Rattle.flow_grammar.specs.Grammar.{Prefix}
-use Rattle.flow_grammar.specs.Machine.{Step, reading, whole, stuck, ArgState, constant_needed, after_constant, step_arg, wanted_arg, Level, Frame, GoalState, atom_needed, after_atom, opening_needed, fact_needed, after_relation, in_args, after_arg, step_goal, wanted_goal, wanted_join, join_atom, RuleLevel, RuleFrame, Names, RuleState, unit_needed, after_unit, name_needed, after_names, step_rule, wanted_rule, wanted_rule_join, join_unit, State, declaration_needed, fact_to_declare, after_declared_relation, in_declared_args, after_fact, event_to_declare, after_event, after_fail, after_noted, flow_to_declare, equals_needed, in_flow, in_goal, constraint_needed, in_constraint, after_declared_arg, after_flow_step, after_goal_step, after_rule_step, step_script, finish_script, wanted_script, QueryState, query_needed, in_property, number_needed, after_number, query_read, after_property_step, step_query, finish_query, wanted_query}
+use Rattle.flow_grammar.specs.Machine.{Step, reading, whole, stuck, carry, with_name, ArgState, constant_needed, after_constant, step_arg, wanted_arg, Level, Frame, GoalState, atom_needed, after_atom, opening_needed, fact_needed, after_relation, in_args, after_arg, step_goal, wanted_goal, RuleLevel, RuleFrame, Names, RuleState, unit_needed, after_unit, name_needed, after_names, step_rule, wanted_rule, State, declaration_needed, fact_to_declare, after_declared_relation, in_declared_args, event_to_declare, after_event, flow_to_declare, equals_needed, in_flow, in_goal, constraint_needed, in_constraint, step_script, finish_script, wanted_script, QueryState, query_needed, in_property, number_needed, after_number, query_read, step_query, finish_query, wanted_query}
 use Rattle.flow_grammar.specs.Laws.{StandsFor, MayEnd, BeginsDeclaration, IsAName, IsAConstant, BeginsAtom, BeginsUnit, BeginsQuery, IsANumber}
 use Rattle.flow_grammar.proofs.Runs.{Goes, Wants}
 
@@ -40,14 +38,6 @@ relation_comes : (p : Prefix) (fs : List Frame) (l : Level) (t : Symbol) → IsA
 relation_comes p fs l (a_name n) h = tt
 relation_comes p fs l _ h = absurd h
 
-join_comes : (fs : List Frame) (l : Level) (t : Symbol) → StandsFor (wanted_join fs) t → Moves (join_atom fs l t)
-join_comes [] l t h = subst (λ y. Moves (join_atom [] l y)) (sym h) tt
-join_comes (f ∷ fs) l t h = subst (λ y. Moves (join_atom (f ∷ fs) l y)) (sym h) tt
-
-arguments_come : (p : Prefix) (n : List ℕ) (fs : List Frame) (l : Level) (t : Symbol) → StandsFor (wanted_join fs) t → Moves (step_goal (after_relation p n fs l) t)
-arguments_come p n [] l t h = subst (λ y. Moves (step_goal (after_relation p n [] l) y)) (sym h) tt
-arguments_come p n (f ∷ fs) l t h = subst (λ y. Moves (step_goal (after_relation p n (f ∷ fs) l) y)) (sym h) tt
-
 arg_moves : (p : Prefix) (fs : List Frame) (l : Level) (o : Step ArgState Atom) → Moves o → Moves (after_arg p fs l o)
 arg_moves p fs l (reading a) h = h
 arg_moves p fs l (whole f) h = h
@@ -55,10 +45,12 @@ arg_moves p fs l stuck h = h
 
 goal_comes : (g : GoalState) (t : Symbol) → StandsFor (wanted_goal g) t → Moves (step_goal g t)
 goal_comes (atom_needed fs l) t h = atom_comes fs l t h
-goal_comes (after_atom fs l) t h = join_comes fs l t h
-goal_comes (opening_needed fs l) t h = subst (λ y. Moves (step_goal (opening_needed fs l) y)) (sym h) tt
+goal_comes (after_atom [] l) t h = rw h tt
+goal_comes (after_atom (f ∷ fs) l) t h = rw h tt
+goal_comes (opening_needed fs l) t h = rw h tt
 goal_comes (fact_needed p fs l) t h = relation_comes p fs l t h
-goal_comes (after_relation p n fs l) t h = arguments_come p n fs l t h
+goal_comes (after_relation p n [] l) t h = rw h tt
+goal_comes (after_relation p n (f ∷ fs) l) t h = rw h tt
 goal_comes (in_args p a fs l) t h = arg_moves p fs l (step_arg a t) (arg_comes a t h)
 
 unit_comes : (fs : List RuleFrame) (l : RuleLevel) (k : ℕ) (t : Symbol) → BeginsUnit t → Moves (step_rule (unit_needed fs l k) t)
@@ -75,44 +67,22 @@ name_comes : (names : Names) (fs : List RuleFrame) (l : RuleLevel) (k : ℕ) (t 
 name_comes names fs l k (a_name n) h = tt
 name_comes names fs l k _ h = absurd h
 
-unit_join_comes : (fs : List RuleFrame) (l : RuleLevel) (t : Symbol) → StandsFor (wanted_rule_join fs) t → Moves (join_unit fs l t)
-unit_join_comes [] l t h = subst (λ y. Moves (join_unit [] l y)) (sym h) tt
-unit_join_comes (f ∷ fs) l t h = subst (λ y. Moves (join_unit (f ∷ fs) l y)) (sym h) tt
-
-more_come : (ns : List (List ℕ)) (fs : List RuleFrame) (l : RuleLevel) (k : ℕ) (t : Symbol) → StandsFor (wanted_rule_join fs) t → Moves (step_rule (after_names ns fs l k) t)
-more_come ns [] l k t h = subst (λ y. Moves (step_rule (after_names ns [] l k) y)) (sym h) tt
-more_come ns (f ∷ fs) l k t h = subst (λ y. Moves (step_rule (after_names ns (f ∷ fs) l k) y)) (sym h) tt
-
 rule_comes : (r : RuleState) (t : Symbol) → StandsFor (wanted_rule r) t → Moves (step_rule r t)
 rule_comes (unit_needed fs l k) t h = unit_comes fs l k t h
-rule_comes (after_unit fs l) t h = unit_join_comes fs l t h
+rule_comes (after_unit [] l) t h = rw h tt
+rule_comes (after_unit (f ∷ fs) l) t h = rw h tt
 rule_comes (name_needed names fs l k) t h = name_comes names fs l k t h
-rule_comes (after_names ns fs l k) t h = more_come ns fs l k t h
+rule_comes (after_names ns [] l k) t h = rw h tt
+rule_comes (after_names ns (f ∷ fs) l k) t h = rw h tt
 
-declared_arg_goes : (ds : List Declared) (o : Step ArgState Atom) → Moves o → Goes (after_declared_arg ds o)
-declared_arg_goes ds (reading a) h = h
-declared_arg_goes ds (whole f) h = h
-declared_arg_goes ds stuck h = h
+carry_goes : {S V T : Type 0} (within : S → T) (after : V → T) (o : Step S V) → Moves o → Goes (carry within after o)
+carry_goes within after (reading s) h = h
+carry_goes within after (whole x) h = h
+carry_goes within after stuck h = h
 
-flow_goes : (ds : List Declared) (n : List ℕ) (o : Step GoalState Shape) → Moves o → Goes (after_flow_step ds n o)
-flow_goes ds n (reading a) h = h
-flow_goes ds n (whole f) h = h
-flow_goes ds n stuck h = h
-
-goal_goes : (ds : List Declared) (o : Step GoalState Shape) → Moves o → Goes (after_goal_step ds o)
-goal_goes ds (reading a) h = h
-goal_goes ds (whole f) h = h
-goal_goes ds stuck h = h
-
-rule_goes : (ds : List Declared) (s : Shape) (rs : List RuleShape) (o : Step RuleState RuleShape) → Moves o → Goes (after_rule_step ds s rs o)
-rule_goes ds s rs (reading a) h = h
-rule_goes ds s rs (whole f) h = h
-rule_goes ds s rs stuck h = h
-
-property_goes : (o : Step RuleState RuleShape) → Moves o → Goes (after_property_step o)
-property_goes (reading a) h = h
-property_goes (whole f) h = h
-property_goes stuck h = h
+named_goes : {T : Type 0} (next : List ℕ → T) (t : Symbol) → IsAName t → Goes (with_name next t)
+named_goes next (a_name n) h = tt
+named_goes next _ h = absurd h
 
 declaration_comes : (ds : List Declared) (t : Symbol) → BeginsDeclaration t → Goes (step_script (declaration_needed ds) t)
 declaration_comes ds fact_word h = tt
@@ -121,68 +91,41 @@ declaration_comes ds flow_word h = tt
 declaration_comes ds goal_word h = tt
 declaration_comes ds _ h = absurd h
 
-fact_comes : (ds : List Declared) (t : Symbol) → IsAName t → Goes (step_script (fact_to_declare ds) t)
-fact_comes ds (a_name n) h = tt
-fact_comes ds _ h = absurd h
-
-event_comes : (ds : List Declared) (t : Symbol) → IsAName t → Goes (step_script (event_to_declare ds) t)
-event_comes ds (a_name n) h = tt
-event_comes ds _ h = absurd h
-
-flow_comes : (ds : List Declared) (t : Symbol) → IsAName t → Goes (step_script (flow_to_declare ds) t)
-flow_comes ds (a_name n) h = tt
-flow_comes ds _ h = absurd h
-
 script_comes : (s : State) (t : Symbol) → StandsFor (wanted_script s) t → Goes (step_script s t)
 script_comes (declaration_needed ds) t h = declaration_comes ds t h
-script_comes (fact_to_declare ds) t h = fact_comes ds t h
-script_comes (after_declared_relation ds n) t h = subst (λ y. Goes (step_script (after_declared_relation ds n) y)) (sym h) tt
-script_comes (in_declared_args ds a) t h = declared_arg_goes ds (step_arg a t) (arg_comes a t h)
-script_comes (after_fact ds) t h = subst (λ y. Goes (step_script (after_fact ds) y)) (sym h) tt
-script_comes (event_to_declare ds) t h = event_comes ds t h
-script_comes (after_event ds n) t h = subst (λ y. Goes (step_script (after_event ds n) y)) (sym h) tt
-script_comes (after_fail ds n) t h = subst (λ y. Goes (step_script (after_fail ds n) y)) (sym h) tt
-script_comes (after_noted ds) t h = subst (λ y. Goes (step_script (after_noted ds) y)) (sym h) tt
-script_comes (flow_to_declare ds) t h = flow_comes ds t h
-script_comes (equals_needed ds n) t h = subst (λ y. Goes (step_script (equals_needed ds n) y)) (sym h) tt
-script_comes (in_flow ds n g) t h = flow_goes ds n (step_goal g t) (goal_comes g t h)
-script_comes (in_goal ds g) t h = goal_goes ds (step_goal g t) (goal_comes g t h)
-script_comes (constraint_needed ds s rs) t h = subst (λ y. Goes (step_script (constraint_needed ds s rs) y)) (sym h) tt
-script_comes (in_constraint ds s rs r) t h = rule_goes ds s rs (step_rule r t) (rule_comes r t h)
-
-arg_goes_on : (a : ArgState) → ¬ MayEnd (wanted_arg a)
-arg_goes_on (constant_needed n args) h = h
-arg_goes_on (after_constant n args) h = h
-
-join_goes_on : (fs : List Frame) → ¬ MayEnd (wanted_join fs)
-join_goes_on [] h = h
-join_goes_on (f ∷ fs) h = h
+script_comes (fact_to_declare ds) t h = named_goes (after_declared_relation ds) t h
+script_comes (in_declared_args ds a) t h = carry_goes (in_declared_args ds) _ (step_arg a t) (arg_comes a t h)
+script_comes (event_to_declare ds) t h = named_goes (after_event ds) t h
+script_comes (flow_to_declare ds) t h = named_goes (equals_needed ds) t h
+script_comes (in_flow ds n g) t h = carry_goes (in_flow ds n) _ (step_goal g t) (goal_comes g t h)
+script_comes (in_goal ds g) t h = carry_goes (in_goal ds) _ (step_goal g t) (goal_comes g t h)
+script_comes (in_constraint ds s rs r) t h = carry_goes (in_constraint ds s rs) _ (step_rule r t) (rule_comes r t h)
+script_comes _ t h = rw h tt
 
 goal_goes_on : (g : GoalState) → ¬ MayEnd (wanted_goal g)
-goal_goes_on (atom_needed fs l) h = h
-goal_goes_on (after_atom fs l) h = join_goes_on fs h
-goal_goes_on (opening_needed fs l) h = h
-goal_goes_on (fact_needed p fs l) h = h
-goal_goes_on (after_relation p n fs l) h = join_goes_on fs h
-goal_goes_on (in_args p a fs l) h = arg_goes_on a h
-
-rule_join_goes_on : (fs : List RuleFrame) → ¬ MayEnd (wanted_rule_join fs)
-rule_join_goes_on [] h = h
-rule_join_goes_on (f ∷ fs) h = h
+goal_goes_on (after_atom [] l) h = h
+goal_goes_on (after_atom (f ∷ fs) l) h = h
+goal_goes_on (after_relation p n [] l) h = h
+goal_goes_on (after_relation p n (f ∷ fs) l) h = h
+goal_goes_on (in_args p (constant_needed n args) fs l) h = h
+goal_goes_on (in_args p (after_constant n args) fs l) h = h
+goal_goes_on _ h = h
 
 rule_goes_on : (r : RuleState) → ¬ MayEnd (wanted_rule r)
-rule_goes_on (unit_needed fs l k) h = h
-rule_goes_on (after_unit fs l) h = rule_join_goes_on fs h
-rule_goes_on (name_needed names fs l k) h = h
-rule_goes_on (after_names ns fs l k) h = rule_join_goes_on fs h
+rule_goes_on (after_unit [] l) h = h
+rule_goes_on (after_unit (f ∷ fs) l) h = h
+rule_goes_on (after_names ns [] l k) h = h
+rule_goes_on (after_names ns (f ∷ fs) l k) h = h
+rule_goes_on _ h = h
 
 script_ends : (s : State) → MayEnd (wanted_script s) → Goes (finish_script s)
 script_ends (constraint_needed ds s rs) h = tt
-script_ends (in_declared_args ds a) h = absurd (arg_goes_on a h)
-script_ends (in_flow ds n g) h = absurd (goal_goes_on g h)
-script_ends (in_goal ds g) h = absurd (goal_goes_on g h)
-script_ends (in_constraint ds s rs r) h = absurd (rule_goes_on r h)
-script_ends _ h = absurd h
+script_ends (in_declared_args ds (constant_needed n args)) h = h
+script_ends (in_declared_args ds (after_constant n args)) h = h
+script_ends (in_flow ds n g) h = goal_goes_on g h
+script_ends (in_goal ds g) h = goal_goes_on g h
+script_ends (in_constraint ds s rs r) h = rule_goes_on r h
+script_ends _ h = h
 
 pub script_wants : Wants step_script finish_script wanted_script
 script_wants = record { comes = script_comes; ends = script_ends }
@@ -198,15 +141,15 @@ number_comes _ h = absurd h
 
 query_comes : (s : QueryState) (t : Symbol) → StandsFor (wanted_query s) t → Goes (step_query s t)
 query_comes query_needed t h = start_comes t h
-query_comes (in_property r) t h = property_goes (step_rule r t) (rule_comes r t h)
+query_comes (in_property r) t h = carry_goes in_property _ (step_rule r t) (rule_comes r t h)
 query_comes number_needed t h = number_comes t h
-query_comes (after_number n) t h = subst (λ y. Goes (step_query (after_number n) y)) (sym h) tt
+query_comes (after_number n) t h = rw h tt
 query_comes (query_read q) t h = absurd h
 
 query_ends : (s : QueryState) → MayEnd (wanted_query s) → Goes (finish_query s)
 query_ends (query_read q) h = tt
-query_ends (in_property r) h = absurd (rule_goes_on r h)
-query_ends _ h = absurd h
+query_ends (in_property r) h = rule_goes_on r h
+query_ends _ h = h
 
 pub query_wants : Wants step_query finish_query wanted_query
 query_wants = record { comes = query_comes; ends = query_ends }

@@ -1,12 +1,13 @@
 -- The grammar: for each part of a text its derivations, what each spells, and what it means.
--- `spell_..` takes the number of parentheses and nots around the part, and what follows it.
-use Rattle.std.specs.Prelude.{ℕ, suc, List, [], ◌∷◌, ◌++◌}
+-- `spell` and `spell_..` take the number of parentheses and nots around the part, and what follows it.
+use Rattle.std.specs.Prelude.{ℕ, zero, suc, List, [], ◌∷◌, map}
+use Rattle.std.specs.List.{flat_map}
 use Rattle.flow_model.specs.declared.labels.Note.{Note}
 use Rattle.flow_model.specs.declared.labels.Note.TheVariants.{Done, Fail, FailFirst}
 use Rattle.flow_facts.specs.declared.constant.Const.{Const}
 use Rattle.flow_facts.specs.Atom.{Atom, atom}
-use Rattle.flow_form.specs.Form.{Shape, Shapes, nop, named, test, absent, ins, del, iso, serial, beside, either, shapes}
-use Rattle.flow_form.specs.RuleForm.{RuleShape, RuleShapes, must, never, order, precedes, needs, negated, all, any, rule_shapes}
+use Rattle.flow_form.specs.Form.{Shape, nop, named, test, absent, ins, del, iso, serial, beside, either, shapes}
+use Rattle.flow_form.specs.RuleForm.{RuleShape, must, never, order, precedes, needs, negated, all, any, rule_shapes}
 use Rattle.flow_form.specs.Script.{Declared, fact, event, flow, Said, Asked, holds, redundant}
 use Rattle.flow_grammar.specs.Symbol.{Symbol, Placed, at, constant_symbol, fact_word, event_word, flow_word, goal_word, constraint_word, nop_word, iso_word, ins_word, del_word, must_word, never_word, order_word, precedes_word, needs_word, not_word, and_word, or_word, done_word, fail_word, holds_word, redundant_word, a_name, a_number, star, bar, plus, opening, closing, comma, semicolon, equals, question, exclamation}
 
@@ -44,103 +45,6 @@ prefixed denying = absent
 prefixed adding = ins
 prefixed taking = del
 
-mutual
-  -- goal = beside { "+" beside }
-  pub data GoalText : Type 0 where
-    goal_text : BesideText → MoreBesides → GoalText
-
-  pub data MoreBesides : Type 0 where
-    no_beside : MoreBesides
-    then_beside : BesideText → MoreBesides → MoreBesides
-
-  -- beside = serial { "|" serial }
-  pub data BesideText : Type 0 where
-    beside_text : SerialText → MoreSerials → BesideText
-
-  pub data MoreSerials : Type 0 where
-    no_serial : MoreSerials
-    then_serial : SerialText → MoreSerials → MoreSerials
-
-  -- serial = atom { "*" atom }
-  pub data SerialText : Type 0 where
-    serial_text : AtomText → MoreAtoms → SerialText
-
-  pub data MoreAtoms : Type 0 where
-    no_atom : MoreAtoms
-    then_atom : AtomText → MoreAtoms → MoreAtoms
-
-  -- atom = "nop" | name | "?" fact | "!" fact | "ins" fact | "del" fact | "iso" "(" goal ")" | "(" goal ")"
-  pub data AtomText : Type 0 where
-    nop_text : AtomText
-    name_text : List ℕ → AtomText
-    fact_text : Prefix → FactText → AtomText
-    iso_text : GoalText → AtomText
-    group_text : GoalText → AtomText
-
-abbrev mutual
-  pub spell_goal : ℕ → GoalText → List Placed → List Placed
-  spell_goal d (goal_text b bs) r = spell_beside d b (spell_besides d bs r)
-
-  pub spell_besides : ℕ → MoreBesides → List Placed → List Placed
-  spell_besides d no_beside r = r
-  spell_besides d (then_beside b bs) r = at d plus ∷ spell_beside d b (spell_besides d bs r)
-
-  pub spell_beside : ℕ → BesideText → List Placed → List Placed
-  spell_beside d (beside_text s ss) r = spell_serial d s (spell_serials d ss r)
-
-  pub spell_serials : ℕ → MoreSerials → List Placed → List Placed
-  spell_serials d no_serial r = r
-  spell_serials d (then_serial s ss) r = at d bar ∷ spell_serial d s (spell_serials d ss r)
-
-  pub spell_serial : ℕ → SerialText → List Placed → List Placed
-  spell_serial d (serial_text a more) r = spell_atom d a (spell_atoms d more r)
-
-  pub spell_atoms : ℕ → MoreAtoms → List Placed → List Placed
-  spell_atoms d no_atom r = r
-  spell_atoms d (then_atom a more) r = at d star ∷ spell_atom d a (spell_atoms d more r)
-
-  pub spell_atom : ℕ → AtomText → List Placed → List Placed
-  spell_atom d nop_text r = at d nop_word ∷ r
-  spell_atom d (name_text n) r = at d (a_name n) ∷ r
-  spell_atom d (fact_text p f) r = at d (prefix_symbol p) ∷ spell_fact d f r
-  spell_atom d (iso_text g) r = at d iso_word ∷ at d opening ∷ spell_goal (suc d) g (at (suc d) closing ∷ r)
-  spell_atom d (group_text g) r = at d opening ∷ spell_goal (suc d) g (at (suc d) closing ∷ r)
-
--- a list of one is its one member
-abbrev pub gather : (Shapes → Shape) → List Shape → Shape
-gather list [] = list (shapes [])
-gather list (s ∷ []) = s
-gather list (s ∷ s' ∷ ss) = list (shapes (s ∷ s' ∷ ss))
-
-abbrev mutual
-  pub mean_goal : GoalText → Shape
-  mean_goal (goal_text b bs) = gather either (mean_beside b ∷ mean_besides bs)
-
-  pub mean_besides : MoreBesides → List Shape
-  mean_besides no_beside = []
-  mean_besides (then_beside b bs) = mean_beside b ∷ mean_besides bs
-
-  pub mean_beside : BesideText → Shape
-  mean_beside (beside_text s ss) = gather beside (mean_serial s ∷ mean_serials ss)
-
-  pub mean_serials : MoreSerials → List Shape
-  mean_serials no_serial = []
-  mean_serials (then_serial s ss) = mean_serial s ∷ mean_serials ss
-
-  pub mean_serial : SerialText → Shape
-  mean_serial (serial_text a more) = gather serial (mean_atom a ∷ mean_atoms more)
-
-  pub mean_atoms : MoreAtoms → List Shape
-  mean_atoms no_atom = []
-  mean_atoms (then_atom a more) = mean_atom a ∷ mean_atoms more
-
-  pub mean_atom : AtomText → Shape
-  mean_atom nop_text = nop
-  mean_atom (name_text n) = named n
-  mean_atom (fact_text p f) = prefixed p (mean_fact f)
-  mean_atom (iso_text g) = iso (mean_goal g)
-  mean_atom (group_text g) = mean_goal g
-
 -- "must", "never"
 pub data Single : Type 0 where
   must_come never_come : Single
@@ -165,85 +69,100 @@ abbrev pub paired : Pair → List ℕ → List ℕ → RuleShape
 paired preceding = precedes
 paired needing = needs
 
-mutual
-  -- rule = conj { "or" conj }
-  pub data RuleText : Type 0 where
-    rule_text : ConjText → MoreConjs → RuleText
-
-  pub data MoreConjs : Type 0 where
-    no_conj : MoreConjs
-    then_conj : ConjText → MoreConjs → MoreConjs
-
-  -- conj = unit { "and" unit }
-  pub data ConjText : Type 0 where
-    conj_text : UnitText → MoreUnits → ConjText
-
-  pub data MoreUnits : Type 0 where
-    no_unit : MoreUnits
-    then_unit : UnitText → MoreUnits → MoreUnits
-
-  -- unit = "not" unit | "(" rule ")" | "must" name | "never" name
-  --      | "order" name name { name } | "precedes" name name | "needs" name name
-  pub data UnitText : Type 0 where
-    not_text : UnitText → UnitText
-    inner_text : RuleText → UnitText
-    single_text : Single → List ℕ → UnitText
-    order_text : List ℕ → List ℕ → List (List ℕ) → UnitText
-    pair_text : Pair → List ℕ → List ℕ → UnitText
-
 abbrev pub spell_names : ℕ → List (List ℕ) → List Placed → List Placed
 spell_names d [] r = r
 spell_names d (n ∷ ns) r = at d (a_name n) ∷ spell_names d ns r
 
+-- Goals and rules are read by levels. At level 0 stand atoms and units; at each level above a member of the level below, and
+-- further ones, each behind a join. So a serial has level 1, a beside 2 and a goal 3; a conj has level 1 and a rule 2.
+pub data Kind : Type 0 where
+  goals rules : Kind
+
+abbrev pub Meaning : Kind → Type 0
+Meaning goals = Shape
+Meaning rules = RuleShape
+
+-- the level of a whole goal or rule
+abbrev pub top : Kind → ℕ
+top goals = 3
+top rules = 2
+
+-- what stands before each further member of that level, and what the members are together
+abbrev pub join : Kind → ℕ → Symbol
+join goals zero = star
+join goals (suc zero) = bar
+join goals _ = plus
+join rules zero = and_word
+join rules _ = or_word
+
+abbrev pub list : (k : Kind) → ℕ → List (Meaning k) → Meaning k
+list goals zero ss = serial (shapes ss)
+list goals (suc zero) ss = beside (shapes ss)
+list goals _ ss = either (shapes ss)
+list rules zero rs = all (rule_shapes rs)
+list rules _ rs = any (rule_shapes rs)
+
+mutual
+  pub data Text : Kind → ℕ → Type 0 where
+    -- goal = beside { "+" beside }, beside = serial { "|" serial }, serial = atom { "*" atom }
+    -- rule = conj { "or" conj }, conj = unit { "and" unit }
+    joined : {k : Kind} {n : ℕ} → Text k n → More k n → Text k (suc n)
+    -- atom = "(" goal ")", unit = "(" rule ")"
+    group_text : {k : Kind} → Text k (top k) → Text k 0
+    -- atom = "nop" | name | "?" fact | "!" fact | "ins" fact | "del" fact | "iso" "(" goal ")"
+    nop_text : Text goals 0
+    name_text : List ℕ → Text goals 0
+    fact_text : Prefix → FactText → Text goals 0
+    iso_text : Text goals 3 → Text goals 0
+    -- unit = "not" unit | "must" name | "never" name | "order" name name { name } | "precedes" name name | "needs" name name
+    not_text : Text rules 0 → Text rules 0
+    single_text : Single → List ℕ → Text rules 0
+    order_text : List ℕ → List ℕ → List (List ℕ) → Text rules 0
+    pair_text : Pair → List ℕ → List ℕ → Text rules 0
+
+  pub data More : Kind → ℕ → Type 0 where
+    no_more_text : {k : Kind} {n : ℕ} → More k n
+    then_text : {k : Kind} {n : ℕ} → Text k n → More k n → More k n
+
 abbrev mutual
-  pub spell_rule : ℕ → RuleText → List Placed → List Placed
-  spell_rule d (rule_text c cs) r = spell_conj d c (spell_conjs d cs r)
+  pub spell : {k : Kind} {n : ℕ} → ℕ → Text k n → List Placed → List Placed
+  spell d (joined m ms) r = spell d m (spell_more d ms r)
+  spell d (group_text t) r = at d opening ∷ spell (suc d) t (at (suc d) closing ∷ r)
+  spell d nop_text r = at d nop_word ∷ r
+  spell d (name_text n) r = at d (a_name n) ∷ r
+  spell d (fact_text p f) r = at d (prefix_symbol p) ∷ spell_fact d f r
+  spell d (iso_text g) r = at d iso_word ∷ at d opening ∷ spell (suc d) g (at (suc d) closing ∷ r)
+  spell d (not_text u) r = at d not_word ∷ spell (suc d) u r
+  spell d (single_text s n) r = at d (single_symbol s) ∷ at d (a_name n) ∷ r
+  spell d (order_text a b ns) r = at d order_word ∷ at d (a_name a) ∷ at d (a_name b) ∷ spell_names d ns r
+  spell d (pair_text p a b) r = at d (pair_symbol p) ∷ at d (a_name a) ∷ at d (a_name b) ∷ r
 
-  pub spell_conjs : ℕ → MoreConjs → List Placed → List Placed
-  spell_conjs d no_conj r = r
-  spell_conjs d (then_conj c cs) r = at d or_word ∷ spell_conj d c (spell_conjs d cs r)
-
-  pub spell_conj : ℕ → ConjText → List Placed → List Placed
-  spell_conj d (conj_text u us) r = spell_unit d u (spell_units d us r)
-
-  pub spell_units : ℕ → MoreUnits → List Placed → List Placed
-  spell_units d no_unit r = r
-  spell_units d (then_unit u us) r = at d and_word ∷ spell_unit d u (spell_units d us r)
-
-  pub spell_unit : ℕ → UnitText → List Placed → List Placed
-  spell_unit d (not_text u) r = at d not_word ∷ spell_unit (suc d) u r
-  spell_unit d (inner_text x) r = at d opening ∷ spell_rule (suc d) x (at (suc d) closing ∷ r)
-  spell_unit d (single_text s n) r = at d (single_symbol s) ∷ at d (a_name n) ∷ r
-  spell_unit d (order_text a b ns) r = at d order_word ∷ at d (a_name a) ∷ at d (a_name b) ∷ spell_names d ns r
-  spell_unit d (pair_text p a b) r = at d (pair_symbol p) ∷ at d (a_name a) ∷ at d (a_name b) ∷ r
+  pub spell_more : {k : Kind} {n : ℕ} → ℕ → More k n → List Placed → List Placed
+  spell_more d no_more_text r = r
+  spell_more {k} {n} d (then_text m ms) r = at d (join k n) ∷ spell d m (spell_more d ms r)
 
 -- a list of one is its one member
-abbrev pub gather_rules : (RuleShapes → RuleShape) → List RuleShape → RuleShape
-gather_rules list [] = list (rule_shapes [])
-gather_rules list (r ∷ []) = r
-gather_rules list (r ∷ r' ∷ rs) = list (rule_shapes (r ∷ r' ∷ rs))
+abbrev pub gather : {M : Type 0} → (List M → M) → List M → M
+gather list [] = list []
+gather list (m ∷ []) = m
+gather list (m ∷ m' ∷ ms) = list (m ∷ m' ∷ ms)
 
 abbrev mutual
-  pub mean_rule : RuleText → RuleShape
-  mean_rule (rule_text c cs) = gather_rules any (mean_conj c ∷ mean_conjs cs)
+  pub mean : {k : Kind} {n : ℕ} → Text k n → Meaning k
+  mean {k} (joined {n = n} m ms) = gather (list k n) (mean m ∷ mean_more ms)
+  mean (group_text t) = mean t
+  mean nop_text = nop
+  mean (name_text n) = named n
+  mean (fact_text p f) = prefixed p (mean_fact f)
+  mean (iso_text g) = iso (mean g)
+  mean (not_text u) = negated (mean u)
+  mean (single_text s n) = single s n
+  mean (order_text a b ns) = order (a ∷ b ∷ ns)
+  mean (pair_text p a b) = paired p a b
 
-  pub mean_conjs : MoreConjs → List RuleShape
-  mean_conjs no_conj = []
-  mean_conjs (then_conj c cs) = mean_conj c ∷ mean_conjs cs
-
-  pub mean_conj : ConjText → RuleShape
-  mean_conj (conj_text u us) = gather_rules all (mean_unit u ∷ mean_units us)
-
-  pub mean_units : MoreUnits → List RuleShape
-  mean_units no_unit = []
-  mean_units (then_unit u us) = mean_unit u ∷ mean_units us
-
-  pub mean_unit : UnitText → RuleShape
-  mean_unit (not_text u) = negated (mean_unit u)
-  mean_unit (inner_text x) = mean_rule x
-  mean_unit (single_text s n) = single s n
-  mean_unit (order_text a b ns) = order (a ∷ b ∷ ns)
-  mean_unit (pair_text p a b) = paired p a b
+  pub mean_more : {k : Kind} {n : ℕ} → More k n → List (Meaning k)
+  mean_more no_more_text = []
+  mean_more (then_text m ms) = mean m ∷ mean_more ms
 
 -- [ "done" | "fail" [ number ] ]
 pub data NoteText : Type 0 where
@@ -276,72 +195,56 @@ mean_noted (noted_text n note) = event n (mean_note note)
 pub data DeclText : Type 0 where
   facts_text : FactText → List FactText → DeclText
   events_text : NotedText → List NotedText → DeclText
-  flow_text : List ℕ → GoalText → DeclText
+  flow_text : List ℕ → Text goals 3 → DeclText
 
-abbrev pub spell_facts : List FactText → List Placed → List Placed
-spell_facts [] r = r
-spell_facts (f ∷ fs) r = at 0 comma ∷ spell_fact 0 f (spell_facts fs r)
-
-abbrev pub mean_facts : List FactText → List Declared
-mean_facts [] = []
-mean_facts (f ∷ fs) = fact (mean_fact f) ∷ mean_facts fs
-
-abbrev pub spell_events : List NotedText → List Placed → List Placed
-spell_events [] r = r
-spell_events (e ∷ es) r = at 0 comma ∷ spell_noted e (spell_events es r)
-
-abbrev pub mean_events : List NotedText → List Declared
-mean_events [] = []
-mean_events (e ∷ es) = mean_noted e ∷ mean_events es
+-- { "," item }
+abbrev pub spell_items : {A : Type 0} → (A → List Placed → List Placed) → List A → List Placed → List Placed
+spell_items spell_item [] r = r
+spell_items spell_item (x ∷ xs) r = at 0 comma ∷ spell_item x (spell_items spell_item xs r)
 
 abbrev pub spell_decl : DeclText → List Placed → List Placed
-spell_decl (facts_text f fs) r = at 0 fact_word ∷ spell_fact 0 f (spell_facts fs (at 0 semicolon ∷ r))
-spell_decl (events_text e es) r = at 0 event_word ∷ spell_noted e (spell_events es (at 0 semicolon ∷ r))
-spell_decl (flow_text n g) r =
-    at 0 flow_word ∷ at 0 (a_name n) ∷ at 0 equals ∷ spell_goal 0 g (at 0 semicolon ∷ r)
+spell_decl (facts_text f fs) r = at 0 fact_word ∷ spell_fact 0 f (spell_items (spell_fact 0) fs (at 0 semicolon ∷ r))
+spell_decl (events_text e es) r = at 0 event_word ∷ spell_noted e (spell_items spell_noted es (at 0 semicolon ∷ r))
+spell_decl (flow_text n g) r = at 0 flow_word ∷ at 0 (a_name n) ∷ at 0 equals ∷ spell 0 g (at 0 semicolon ∷ r)
+
+abbrev pub declared_fact : FactText → Declared
+declared_fact f = fact (mean_fact f)
 
 abbrev pub mean_decl : DeclText → List Declared
-mean_decl (facts_text f fs) = fact (mean_fact f) ∷ mean_facts fs
-mean_decl (events_text e es) = mean_noted e ∷ mean_events es
-mean_decl (flow_text n g) = flow n (mean_goal g) ∷ []
+mean_decl (facts_text f fs) = map declared_fact (f ∷ fs)
+mean_decl (events_text e es) = map mean_noted (e ∷ es)
+mean_decl (flow_text n g) = flow n (mean g) ∷ []
 
 -- script = { decl } "goal" goal ";" { "constraint" rule ";" } end
 pub data ScriptText : Type 0 where
-  script_text : List DeclText → GoalText → List RuleText → ScriptText
+  script_text : List DeclText → Text goals 3 → List (Text rules 2) → ScriptText
 
 abbrev pub spell_decls : List DeclText → List Placed → List Placed
 spell_decls [] r = r
 spell_decls (d ∷ ds) r = spell_decl d (spell_decls ds r)
 
-abbrev pub mean_decls : List DeclText → List Declared
-mean_decls [] = []
-mean_decls (d ∷ ds) = mean_decl d ++ mean_decls ds
-
-abbrev pub spell_constraints : List RuleText → List Placed
+abbrev pub spell_constraints : List (Text rules 2) → List Placed
 spell_constraints [] = []
-spell_constraints (c ∷ cs) = at 0 constraint_word ∷ spell_rule 0 c (at 0 semicolon ∷ spell_constraints cs)
-
-abbrev pub mean_constraints : List RuleText → List RuleShape
-mean_constraints [] = []
-mean_constraints (c ∷ cs) = mean_rule c ∷ mean_constraints cs
+spell_constraints (c ∷ cs) = at 0 constraint_word ∷ spell 0 c (at 0 semicolon ∷ spell_constraints cs)
 
 abbrev pub spell_script : ScriptText → List Placed
-spell_script (script_text ds g cs) =
-    spell_decls ds (at 0 goal_word ∷ spell_goal 0 g (at 0 semicolon ∷ spell_constraints cs))
+spell_script (script_text ds g cs) = spell_decls ds (at 0 goal_word ∷ spell 0 g (at 0 semicolon ∷ spell_constraints cs))
+
+abbrev pub mean_rule : Text rules 2 → RuleShape
+mean_rule c = mean c
 
 abbrev pub mean_script : ScriptText → Said
-mean_script (script_text ds g cs) =
-    record { decls = mean_decls ds; goal = mean_goal g; rules = mean_constraints cs }
+mean_script (script_text ds g cs) = record { decls = flat_map mean_decl ds; goal = mean g; rules = map mean_rule cs }
 
 -- query = "holds" rule ";" end | "redundant" number ";" end
 pub data QueryText : Type 0 where
-  holds_text : RuleText → QueryText
+  holds_text : Text rules 2 → QueryText
   redundant_text : ℕ → QueryText
 
 abbrev pub spell_query : QueryText → List Placed
-spell_query (holds_text x) = at 0 holds_word ∷ spell_rule 0 x (at 0 semicolon ∷ [])
+spell_query (holds_text x) = at 0 holds_word ∷ spell 0 x (at 0 semicolon ∷ [])
 spell_query (redundant_text n) = at 0 redundant_word ∷ at 0 (a_number n) ∷ at 0 semicolon ∷ []
 
 abbrev pub mean_query : QueryText → Asked
-mean_query (holds_text x) = holds (mean_rule x)
+mean_query (holds_text x) = holds (mean x)
 mean_query (redundant_text n) = redundant n

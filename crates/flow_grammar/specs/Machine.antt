@@ -4,11 +4,11 @@ use Rattle.flow_model.specs.declared.labels.Note.TheVariants.{Done, Fail, FailFi
 use Rattle.flow_facts.specs.declared.constant.Const.{Const}
 use Rattle.flow_facts.specs.declared.constant.Const.TheVariants.{Word, Number}
 use Rattle.flow_facts.specs.Atom.{Atom, atom}
-use Rattle.flow_form.specs.Form.{Shape, nop, named, iso, serial, beside, either}
-use Rattle.flow_form.specs.RuleForm.{RuleShape, order, negated, all, any}
+use Rattle.flow_form.specs.Form.{Shape, nop, named, iso}
+use Rattle.flow_form.specs.RuleForm.{RuleShape, order, negated}
 use Rattle.flow_form.specs.Script.{Declared, fact, event, flow, Said, Asked, holds, redundant}
 use Rattle.flow_grammar.specs.Symbol.{Symbol, fact_word, event_word, flow_word, goal_word, constraint_word, nop_word, iso_word, ins_word, del_word, must_word, never_word, order_word, precedes_word, needs_word, not_word, and_word, or_word, done_word, fail_word, holds_word, redundant_word, a_name, a_number, star, bar, plus, opening, closing, comma, semicolon, equals, question, exclamation}
-use Rattle.flow_grammar.specs.Grammar.{Prefix, asking, denying, adding, taking, prefixed, gather, Single, must_come, never_come, single, Pair, preceding, needing, paired, gather_rules}
+use Rattle.flow_grammar.specs.Grammar.{Prefix, asking, denying, adding, taking, prefixed, Single, must_come, never_come, single, Pair, preceding, needing, paired, goals, rules, list, gather}
 
 -- what could come, where a symbol or the end came with which no text goes on
 pub data Wanted : Type 0 where
@@ -20,6 +20,17 @@ pub data Step (S V : Type 0) : Type 0 where
   reading : S → Step S V
   whole : V → Step S V
   stuck : Step S V
+
+-- what it makes of the whole: within the part, or with its value after it
+abbrev pub carry : {S V T : Type 0} → (S → T) → (V → T) → Step S V → Option T
+carry within after (reading s) = Some (within s)
+carry within after (whole x) = Some (after x)
+carry within after stuck = None
+
+-- where a name is needed
+abbrev pub with_name : {T : Type 0} → (List ℕ → T) → Symbol → Option T
+with_name next (a_name n) = Some (next n)
+with_name next _ = None
 
 -- The arguments of a fact
 
@@ -56,13 +67,13 @@ abbrev pub push : Level → Shape → Level
 push l s = level l.eithers l.besides (l.serials ++ s ∷ [])
 
 abbrev pub close_serial : Level → Level
-close_serial l = level l.eithers (l.besides ++ gather serial l.serials ∷ []) []
+close_serial l = level l.eithers (l.besides ++ gather (list goals 0) l.serials ∷ []) []
 
 abbrev pub close_beside : Level → Level
-close_beside l = level (l.eithers ++ gather beside (l.besides ++ gather serial l.serials ∷ []) ∷ []) [] []
+close_beside l = level (l.eithers ++ gather (list goals 1) (close_serial l).besides ∷ []) [] []
 
 abbrev pub close : Level → Shape
-close l = gather either (l.eithers ++ gather beside (l.besides ++ gather serial l.serials ∷ []) ∷ [])
+close l = gather (list goals 2) (close_beside l).eithers
 
 -- an open parenthesis, with the lists that stand outside it
 pub data Frame : Type 0 where
@@ -158,10 +169,10 @@ abbrev pub push_rule : RuleLevel → RuleShape → RuleLevel
 push_rule l r = rule_level l.anys (l.alls ++ r ∷ [])
 
 abbrev pub close_all : RuleLevel → RuleLevel
-close_all l = rule_level (l.anys ++ gather_rules all l.alls ∷ []) []
+close_all l = rule_level (l.anys ++ gather (list rules 0) l.alls ∷ []) []
 
 abbrev pub close_rule : RuleLevel → RuleShape
-close_rule l = gather_rules any (l.anys ++ gather_rules all l.alls ∷ [])
+close_rule l = gather (list rules 1) (close_all l).anys
 
 -- an open parenthesis, with the lists that stand outside it and the nots directly before it
 pub data RuleFrame : Type 0 where
@@ -278,80 +289,56 @@ start_declaration ds flow_word = Some (flow_to_declare ds)
 start_declaration ds goal_word = Some (in_goal ds goal_start)
 start_declaration ds _ = None
 
-abbrev pub name_declared_fact : List Declared → Symbol → Option State
-name_declared_fact ds (a_name n) = Some (after_declared_relation ds n)
-name_declared_fact ds _ = None
-
-abbrev pub join_fact : List Declared → Symbol → Option State
-join_fact ds comma = Some (fact_to_declare ds)
-join_fact ds semicolon = Some (declaration_needed ds)
-join_fact ds _ = None
+-- after an item, where the next one of its kind is read by `again`
+abbrev pub join_item : (List Declared → State) → List Declared → Symbol → Option State
+join_item again ds comma = Some (again ds)
+join_item again ds semicolon = Some (declaration_needed ds)
+join_item again ds _ = None
 
 abbrev pub open_declared_args : List Declared → List ℕ → Symbol → Option State
 open_declared_args ds n opening = Some (in_declared_args ds (constant_needed n []))
-open_declared_args ds n t = join_fact (ds ++ fact (atom n []) ∷ []) t
+open_declared_args ds n t = join_item fact_to_declare (ds ++ fact (atom n []) ∷ []) t
 
 abbrev pub after_declared_arg : List Declared → Step ArgState Atom → Option State
-after_declared_arg ds (reading a) = Some (in_declared_args ds a)
-after_declared_arg ds (whole f) = Some (after_fact (ds ++ fact f ∷ []))
-after_declared_arg ds stuck = None
-
-abbrev pub name_event : List Declared → Symbol → Option State
-name_event ds (a_name n) = Some (after_event ds n)
-name_event ds _ = None
-
-abbrev pub join_event : List Declared → Symbol → Option State
-join_event ds comma = Some (event_to_declare ds)
-join_event ds semicolon = Some (declaration_needed ds)
-join_event ds _ = None
+after_declared_arg ds = carry (in_declared_args ds) (λ f. after_fact (ds ++ fact f ∷ []))
 
 abbrev pub note_event : List Declared → List ℕ → Symbol → Option State
 note_event ds n done_word = Some (after_noted (ds ++ event n Done ∷ []))
 note_event ds n fail_word = Some (after_fail ds n)
-note_event ds n t = join_event (ds ++ event n Done ∷ []) t
+note_event ds n t = join_item event_to_declare (ds ++ event n Done ∷ []) t
 
 abbrev pub count_failures : List Declared → List ℕ → Symbol → Option State
 count_failures ds n (a_number m) = Some (after_noted (ds ++ event n (FailFirst m) ∷ []))
-count_failures ds n t = join_event (ds ++ event n Fail ∷ []) t
-
-abbrev pub name_flow : List Declared → Symbol → Option State
-name_flow ds (a_name n) = Some (equals_needed ds n)
-name_flow ds _ = None
+count_failures ds n t = join_item event_to_declare (ds ++ event n Fail ∷ []) t
 
 abbrev pub begin_flow : List Declared → List ℕ → Symbol → Option State
 begin_flow ds n equals = Some (in_flow ds n goal_start)
 begin_flow ds n _ = None
 
 abbrev pub after_flow_step : List Declared → List ℕ → GoalStep → Option State
-after_flow_step ds n (reading g) = Some (in_flow ds n g)
-after_flow_step ds n (whole s) = Some (declaration_needed (ds ++ flow n s ∷ []))
-after_flow_step ds n stuck = None
+after_flow_step ds n = carry (in_flow ds n) (λ s. declaration_needed (ds ++ flow n s ∷ []))
 
 abbrev pub after_goal_step : List Declared → GoalStep → Option State
-after_goal_step ds (reading g) = Some (in_goal ds g)
-after_goal_step ds (whole s) = Some (constraint_needed ds s [])
-after_goal_step ds stuck = None
+after_goal_step ds = carry (in_goal ds) (λ s. constraint_needed ds s [])
 
 abbrev pub start_constraint : List Declared → Shape → List RuleShape → Symbol → Option State
 start_constraint ds s rs constraint_word = Some (in_constraint ds s rs rule_start)
 start_constraint ds s rs _ = None
 
 abbrev pub after_rule_step : List Declared → Shape → List RuleShape → RuleStep → Option State
-after_rule_step ds s rs (reading r) = Some (in_constraint ds s rs r)
-after_rule_step ds s rs (whole x) = Some (constraint_needed ds s (rs ++ x ∷ []))
-after_rule_step ds s rs stuck = None
+after_rule_step ds s rs = carry (in_constraint ds s rs) (λ x. constraint_needed ds s (rs ++ x ∷ []))
 
 abbrev pub step_script : State → Symbol → Option State
 step_script (declaration_needed ds) t = start_declaration ds t
-step_script (fact_to_declare ds) t = name_declared_fact ds t
+step_script (fact_to_declare ds) t = with_name (after_declared_relation ds) t
 step_script (after_declared_relation ds n) t = open_declared_args ds n t
 step_script (in_declared_args ds a) t = after_declared_arg ds (step_arg a t)
-step_script (after_fact ds) t = join_fact ds t
-step_script (event_to_declare ds) t = name_event ds t
+step_script (after_fact ds) t = join_item fact_to_declare ds t
+step_script (event_to_declare ds) t = with_name (after_event ds) t
 step_script (after_event ds n) t = note_event ds n t
 step_script (after_fail ds n) t = count_failures ds n t
-step_script (after_noted ds) t = join_event ds t
-step_script (flow_to_declare ds) t = name_flow ds t
+step_script (after_noted ds) t = join_item event_to_declare ds t
+step_script (flow_to_declare ds) t = with_name (equals_needed ds) t
 step_script (equals_needed ds n) t = begin_flow ds n t
 step_script (in_flow ds n g) t = after_flow_step ds n (step_goal g t)
 step_script (in_goal ds g) t = after_goal_step ds (step_goal g t)
@@ -385,9 +372,7 @@ start_query redundant_word = Some number_needed
 start_query _ = None
 
 abbrev pub after_property_step : RuleStep → Option QueryState
-after_property_step (reading r) = Some (in_property r)
-after_property_step (whole x) = Some (query_read (holds x))
-after_property_step stuck = None
+after_property_step = carry in_property (λ x. query_read (holds x))
 
 abbrev pub read_number : Symbol → Option QueryState
 read_number (a_number n) = Some (after_number n)
@@ -420,8 +405,8 @@ wanted_arg (constant_needed n args) = a_constant
 -- inside the parentheses of a fact, after a constant
 wanted_arg (after_constant n args) = a_closing
 
--- after a complete member of a goal: inside parentheses or not
-abbrev pub wanted_join : List Frame → Wanted
+-- after a complete member: inside parentheses or not
+abbrev pub wanted_join : {F : Type 0} → List F → Wanted
 wanted_join [] = a_semicolon
 wanted_join (f ∷ fs) = a_closing
 
@@ -437,19 +422,14 @@ wanted_goal (in_args p a fs l) = wanted_arg a
 wanted_goal (after_atom fs l) = wanted_join fs
 wanted_goal (after_relation p n fs l) = wanted_join fs
 
--- after a complete member of a rule: inside parentheses or not
-abbrev pub wanted_rule_join : List RuleFrame → Wanted
-wanted_rule_join [] = a_semicolon
-wanted_rule_join (f ∷ fs) = a_closing
-
 abbrev pub wanted_rule : RuleState → Wanted
 -- a unit of a rule is needed
 wanted_rule (unit_needed fs l k) = a_rule
 -- the name of an event is needed: for `order` the first two
 wanted_rule (name_needed names fs l k) = the_name
 -- after a complete member
-wanted_rule (after_unit fs l) = wanted_rule_join fs
-wanted_rule (after_names ns fs l k) = wanted_rule_join fs
+wanted_rule (after_unit fs l) = wanted_join fs
+wanted_rule (after_names ns fs l k) = wanted_join fs
 
 abbrev pub wanted_script : State → Wanted
 -- a declaration or the goal must begin

@@ -74,20 +74,26 @@ NamesHaveRoles {V} Spells roles = (w : List Placed) (x : V) → Spells w x → n
 
 -- the roles of each kind
 
+abbrev pub declared_by : Role → List (List ℕ)
+declared_by (declares n) = n ∷ []
+declared_by _ = []
+
+abbrev pub goal_name : Role → List (List ℕ)
+goal_name (in_goal n) = n ∷ []
+goal_name _ = []
+
+abbrev pub rule_name : Role → List (List ℕ)
+rule_name (in_rule n) = n ∷ []
+rule_name _ = []
+
 abbrev pub declaring : List Role → List (List ℕ)
-declaring [] = []
-declaring (declares n ∷ rs) = n ∷ declaring rs
-declaring (_ ∷ rs) = declaring rs
+declaring rs = flat_map declared_by rs
 
 abbrev pub used_in_goals : List Role → List (List ℕ)
-used_in_goals [] = []
-used_in_goals (in_goal n ∷ rs) = n ∷ used_in_goals rs
-used_in_goals (_ ∷ rs) = used_in_goals rs
+used_in_goals rs = flat_map goal_name rs
 
 abbrev pub used_in_rules : List Role → List (List ℕ)
-used_in_rules [] = []
-used_in_rules (in_rule n ∷ rs) = n ∷ used_in_rules rs
-used_in_rules (_ ∷ rs) = used_in_rules rs
+used_in_rules rs = flat_map rule_name rs
 
 abbrev pub RolesAreTheNames : Type 0
 RolesAreTheNames = (s : Said) →

@@ -6,7 +6,7 @@ use Rattle.flow_model.specs.Resolution.{ChoiceOption, options}
 use Rattle.flow_model.specs.Run.{RunState, current_leaves, IsFree, CanTake, MayFollow}
 use Rattle.flow_laws.specs.Words.{IsWellFormed}
 use Rattle.flow_laws.specs.Orders.{AreSideBySide}
-use Rattle.flow_laws.proofs.ListLemmas2.{order_of_one}
+use Rattle.flow_laws.proofs.MadeLists.{order_of_one}
 use Rattle.flow_laws.proofs.GoodTraces.{option_of_good}
 use Rattle.flow_laws.proofs.FollowingLemmas.{alive_of_follow, orders_may_follow}
 

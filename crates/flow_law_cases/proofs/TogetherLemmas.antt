@@ -9,7 +9,7 @@ use Rattle.flow_model.specs.Facts.{event_at}
 use Rattle.flow_model.specs.Schema.{Schema}
 use Rattle.flow_laws.specs.Words.{IsWellFormed}
 use Rattle.flow_laws.specs.Events.{AreTogether}
-use Rattle.flow_laws.proofs.ListLemmas2.{some_same}
+use Rattle.flow_laws.proofs.MadeLists.{some_same}
 use Rattle.flow_laws.proofs.ClaimLemmas.{and_parts}
 use Rattle.flow_laws.proofs.EventsLemmas.{unique_events}
 

@@ -6,9 +6,9 @@ use Rattle.flow_model.specs.Ready.{isolated_parts}
 use Rattle.flow_model.specs.Circle.{items_of, ItemBefore, LeadsBackTo, IsRing, IsCircle}
 use Rattle.flow_laws.specs.Words.{IsOrdered}
 use Rattle.flow_laws.specs.Circles.{CirclesExcludeTraces}
-use Rattle.flow_laws.proofs.ListLemmas1.{before_or_after, before_trans, not_both_ways}
+use Rattle.flow_laws.proofs.Members.{only_one, before_or_after, before_trans, not_both_ways}
 use Rattle.flow_laws.proofs.ReadyRuns.{IsArrangement, arrangement_of, direct_stands}
-use Rattle.flow_laws.proofs.CircleParts.{regions, region_within, region_distinct, part_of_region, item_kind, item_has, item_within, items_apart}
+use Rattle.flow_laws.proofs.GoalParts.{regions, region_within, region_distinct, part_of_region, item_kind, item_has, item_within, items_apart, case_of}
 
 module _ (q : Process) (pairs : List (ℕ × ℕ)) (t : List ℕ) (w : IsOrdered q pairs) (a : IsArrangement q pairs t) (part : Process) (m : part ∈ regions q) where
   item_stands_in : (item : List ℕ) (x : ℕ) → item ∈ items_of part → x ∈ item → x ∈ t
@@ -16,11 +16,11 @@ module _ (q : Process) (pairs : List (ℕ × ℕ)) (t : List ℕ) (w : IsOrdered
 
   -- nothing stands between two leaves of an item
   item_together : (item : List ℕ) (x y z : ℕ) → item ∈ items_of part → x ∈ item → ¬ (y ∈ item) → z ∈ item → StandsBefore x y t → StandsBefore y z t → ⊥
-  item_together item x y z k h n l b c = ⊎_elim single whole (item_kind part item k)
+  item_together item x y z k h n l b c = ⊎_elim single whole (item_kind (case_of part) item k)
     where
       single : (i : ℕ) × (item ≡ i ∷ []) → ⊥
       single (i, e) =
-          let is = λ (u : ℕ) (p : u ∈ item). let one : u ∈ (i ∷ []) = subst (λ s. u ∈ s) e p in ⊎_elim {C = u ≡ i} (λ f. f) absurd one in
+          let is = λ (u : ℕ) (p : u ∈ item). only_one u i (subst (λ s. u ∈ s) e p) in
           let same : z ≡ x = is z l ∙ sym (is x h) in
           not_both_ways x y t a.ordering.distinct b (subst (λ u. StandsBefore y u t) same c)
 

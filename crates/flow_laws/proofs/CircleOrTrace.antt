@@ -1,5 +1,5 @@
 -- Every ready run can be completed, or there is a circle.
-use Rattle.std.proofs.Common.{◌≡◌, ℕ, zero, suc, ◌≤◌, List, [], ◌∷◌, ◌++◌, ◌⊎◌, map, length, refl, sym, ap, ◌∙◌, subst, inl, inr, ⊎_elim, arith, append_assoc, append-nil, length-append}
+use Rattle.std.proofs.Common.{◌≡◌, ℕ, List, [], ◌∷◌, ◌++◌, ◌⊎◌, map, refl, sym, ◌∙◌, subst, inl, inr, ⊎_elim, append_assoc, append-nil}
 use Rattle.flow_model.specs.Lists.{◌∈◌, Begins}
 use Rattle.flow_model.specs.Process.{Process, leaves}
 use Rattle.flow_model.specs.Ready.{IsReady, IsReadyRun, IsCompleteRun}
@@ -7,13 +7,11 @@ use Rattle.flow_model.specs.Circle.{items_of, least_of, IsCircle}
 use Rattle.flow_laws.specs.Words.{IsOrdered}
 use Rattle.flow_laws.specs.ReadyRuns.{ReadyRunsExtend}
 use Rattle.flow_laws.specs.Circles.{TraceOrCircle}
-use Rattle.flow_laws.proofs.ListLemmas1.{mem_with, split_at}
-use Rattle.flow_laws.proofs.ReadyOrders.{trace_of_ordering}
-use Rattle.flow_laws.proofs.ReadyRuns.{run_grow, arrangement_of, complete_arranged}
+use Rattle.flow_laws.proofs.Members.{LeavingOut, by_leaving_out, mem_with, split_at, mem_append_left, mem_append_right, each_from_members}
+use Rattle.flow_laws.proofs.ReadyRuns.{run_grow, arrangement_of, complete_runs_are_traces}
 use Rattle.flow_laws.proofs.CircleExcludes.{circle_excludes}
 use Rattle.flow_laws.proofs.CircleRing.{ring_among, ring_from_least}
 use Rattle.flow_laws.proofs.CircleSearch.{some_or_all, IsUnfinished, IsTangle, goes_on}
-use Rattle.flow_laws.proofs.ListLemmas2.{mem_append_left, mem_append_right, each_from_members}
 
 -- items that wait for each other hold a circle
 pub circle_of_tangle : (q : Process) (pairs : List (ℕ × ℕ)) (run : List ℕ) (part : Process) → IsTangle q pairs run part → (circle : List ℕ) × IsCircle q pairs circle
@@ -43,7 +41,7 @@ module _ (q : Process) (pairs : List (ℕ × ℕ)) (w : IsOrdered q pairs) where
   abbrev Completes : List ℕ → Type 0
   Completes left = (run : List ℕ) → IsReadyRun q pairs run → ((x : ℕ) → x ∈ leaves q → (x ∈ left) ⊎ (x ∈ run)) → GoesOnOrCircle run
 
-  complete_step : (left : List ℕ) → ((fewer : List ℕ) → suc (length fewer) ≡ length left → Completes fewer) → Completes left
+  complete_step : (left : List ℕ) → LeavingOut Completes left → Completes left
   complete_step left on run h all = ⊎_elim
       (λ u. ⊎_elim
       (λ r. ⊎_elim (λ m. next r.0 r.1 (split_at r.0 left m)) (λ m. absurd (r.1.not_done m)) (all r.0 r.1.leaf))
@@ -54,7 +52,6 @@ module _ (q : Process) (pairs : List (ℕ × ℕ)) (w : IsOrdered q pairs) where
     where
       next : (n : ℕ) → IsReady q pairs (λ x. x ∈ run) n → (front back : List ℕ) × (left ≡ front ++ n ∷ back) → GoesOnOrCircle run
       next n r (front, back, e) =
-          let shorter : suc (length (front ++ back)) ≡ length left = omega (arith, ap length e, length-append front (n ∷ back), length-append front back) in
           let still = λ (x : ℕ) (k : x ∈ leaves q). ⊎_elim {C = (x ∈ (front ++ back)) ⊎ (x ∈ (run ++ n ∷ []))}
           (λ l. ⊎_elim (λ f. inr (mem_append_right x run (n ∷ []) (inl f))) inl (mem_with x n front back (subst (λ z. x ∈ z) e l)))
           (λ l. inr (mem_append_left x run (n ∷ []) l))
@@ -62,23 +59,19 @@ module _ (q : Process) (pairs : List (ℕ × ℕ)) (w : IsOrdered q pairs) where
           ⊎_elim
           (λ c. inl (c.0, c.1, (n ∷ c.2.0, c.2.1 ∙ append_assoc run (n ∷ []) c.2.0)))
           inr
-          (on (front ++ back) shorter (run ++ n ∷ []) (run_grow q pairs run n h r) still)
+          (on front n back e (run ++ n ∷ []) (run_grow q pairs run n h r) still)
 
-  complete : (k : ℕ) (left : List ℕ) → length left ≤ k → Completes left
-  complete zero left n = complete_step left (λ fewer e. absurd (omega arith))
-  complete (suc k) left n = complete_step left (λ fewer e. complete k fewer (omega arith))
-
-  pub run_or_circle : (run : List ℕ) → IsReadyRun q pairs run → GoesOnOrCircle run
-  run_or_circle run h = complete (length (leaves q)) (leaves q) (omega arith) run h (λ x k. inl k)
+  run_or_circle : (run : List ℕ) → IsReadyRun q pairs run → GoesOnOrCircle run
+  run_or_circle run h = by_leaving_out Completes complete_step (leaves q) run h (λ x k. inl k)
 
 pub ready_runs_extend : ReadyRunsExtend
 ready_runs_extend q pairs w (s, h, k) run r = ⊎_elim
-    (λ c. let a = complete_arranged q pairs c.0 w c.1 in (c.0, trace_of_ordering c.0 q w.choice_free w.distinct a.ordering, a.pairs_stand, c.2))
-    (λ c. absurd (circle_excludes q pairs w c.0 c.1 s (arrangement_of q pairs s w h k)))
+    (λ (t, complete, begins). let (trace, order) = (complete_runs_are_traces q pairs w t).0 complete in (t, trace, order, begins))
+    (λ (circle, c). absurd (circle_excludes q pairs w circle c s (arrangement_of q pairs s w h k)))
     (run_or_circle q pairs w run r)
 
 pub trace_or_circle : TraceOrCircle
 trace_or_circle q pairs w = ⊎_elim
-    (λ c. let a = complete_arranged q pairs c.0 w c.1 in inl (c.0, trace_of_ordering c.0 q w.choice_free w.distinct a.ordering, a.pairs_stand))
+    (λ (t, complete, begins). let (trace, order) = (complete_runs_are_traces q pairs w t).0 complete in inl (t, trace, order))
     inr
     (run_or_circle q pairs w [] tt)

@@ -1,11 +1,10 @@
 -- Where each member of a set of items waits for another, some of them wait in a ring.
-use Rattle.std.proofs.Common.{◌≡◌, ◌≢◌, ℕ, zero, suc, ◌≤◌, ◌<◌, List, [], ◌∷◌, ◌++◌, ◌⊎◌, map, length, refl, sym, ap, ◌∙◌, subst, inl, inr, ⊎_elim, arith, append_assoc, append-nil, length-append}
+use Rattle.std.proofs.Common.{◌≡◌, ◌≢◌, ℕ, ◌≤◌, List, [], ◌∷◌, ◌++◌, ◌⊎◌, map, length, refl, sym, ap, ◌∙◌, subst, inl, inr, ⊎_elim, arith, le_refl, append_assoc, append-nil, length-append}
 use Rattle.std.proofs.lemmas.Bool.{cases_lt}
 use Rattle.flow_model.specs.Lists.{◌∈◌, Each, AreDistinct}
 use Rattle.flow_model.specs.Process.{Process}
 use Rattle.flow_model.specs.Circle.{ItemBefore, LeadsBackTo, IsRing, least_of, BeginsWithLeast}
-use Rattle.flow_laws.proofs.ListLemmas1.{decide_mem, decide_list_eq, mem_here, mem_with, mem_without, split_at, distinct_left, distinct_right, distinct_apart, distinct_append, not_elsewhere}
-use Rattle.flow_laws.proofs.ListLemmas2.{mem_append_left, mem_append_right, mem-append}
+use Rattle.flow_laws.proofs.Members.{decide_mem, decide_list_eq, LeavingOut, by_leaving_out, least_in, only_one, mem_with, split_at, distinct_left, distinct_swap, mem_swap, mem_append_left}
 
 -- two or more distinct items among these, in a ring
 pub record RingAmong (q : Process) (pairs : List (ℕ × ℕ)) (items : List (List ℕ)) (ring : List (List ℕ)) : Type 0 where
@@ -34,17 +33,16 @@ module _ (q : Process) (pairs : List (ℕ × ℕ)) where
   lead_on first next item [] b h = (h, b)
   lead_on first next item (m ∷ more) b h = (h.0, lead_on first next m more b h.1)
 
-  turn_once : (first next : List ℕ) (more : List (List ℕ)) → IsRing q pairs (first ∷ next ∷ more) → IsRing q pairs (next ∷ (more ++ first ∷ []))
-  turn_once first next more h = lead_on first next next more h.0 h.1
+  turn_once : (first : List ℕ) (more : List (List ℕ)) → IsRing q pairs (first ∷ more) → IsRing q pairs (more ++ first ∷ [])
+  turn_once first [] h = h
+  turn_once first (next ∷ more) h = lead_on first next next more h.0 h.1
 
   -- the ring begun at another of its members
-  turn_to : (front : List (List ℕ)) (item : List ℕ) (back : List (List ℕ)) → IsRing q pairs (front ++ item ∷ back) → IsRing q pairs (item ∷ (back ++ front))
-  turn_to [] item back h = rw append-nil h
-  turn_to (first ∷ []) item back h = turn_once first item back h
-  turn_to (first ∷ next ∷ front) item back h =
-      let turned = turn_once first next (front ++ item ∷ back) h in
-      let laid = subst (IsRing q pairs) (ap (λ l. next ∷ l) (append_assoc front (item ∷ back) (first ∷ []))) turned in
-      subst (IsRing q pairs) (ap (λ l. item ∷ l) (append_assoc back (first ∷ []) (next ∷ front))) (turn_to (next ∷ front) item (back ++ first ∷ []) laid)
+  pub turn : (front back : List (List ℕ)) → IsRing q pairs (front ++ back) → IsRing q pairs (back ++ front)
+  turn [] back h = subst (IsRing q pairs) (sym (append-nil back)) h
+  turn (first ∷ front) back h =
+      let turned = subst (IsRing q pairs) (append_assoc front back (first ∷ [])) (turn_once first (front ++ back) h) in
+      subst (IsRing q pairs) (append_assoc back (first ∷ []) front) (turn front (back ++ first ∷ []) turned)
 
   -- a ring found by walking back
 
@@ -73,7 +71,7 @@ module _ (q : Process) (pairs : List (ℕ × ℕ)) where
         ((i : List ℕ) → i ∈ (item ∷ more) → i ∈ items) → Waits item → ((i : List ℕ) → i ∈ items → (i ∈ left) ⊎ (i ∈ (item ∷ more))) →
         (ring : List (List ℕ)) × RingAmong q pairs items ring
 
-    walk_step : (left : List (List ℕ)) → ((fewer : List (List ℕ)) → suc (length fewer) ≡ length left → WalksFrom fewer) → WalksFrom left
+    walk_step : (left : List (List ℕ)) → LeavingOut WalksFrom left → WalksFrom left
     walk_step left on item more d c among h all =
         let e = earlier item (among item (inl refl)) h in
         ⊎_elim
@@ -84,8 +82,7 @@ module _ (q : Process) (pairs : List (ℕ × ℕ)) where
         next : (other : List ℕ) → other ∈ items → Waits other → ItemBefore q pairs other item → ¬ (other ∈ (item ∷ more)) →
             (front back : List (List ℕ)) × (left ≡ front ++ other ∷ back) → (ring : List (List ℕ)) × RingAmong q pairs items ring
         next other m waits b fresh (front, back, e) =
-            let shorter : suc (length (front ++ back)) ≡ length left = omega (arith, ap length e, length-append front (other ∷ back), length-append front back) in
-            on (front ++ back) shorter other (item ∷ more) (fresh, d) (b, c)
+            on front other back e other (item ∷ more) (fresh, d) (b, c)
             (λ i k. ⊎_elim (λ f. subst (λ z. z ∈ items) (sym f) m) (among i) k)
             waits
             (λ i k. ⊎_elim
@@ -93,40 +90,21 @@ module _ (q : Process) (pairs : List (ℕ × ℕ)) where
             (λ l. inr (inr l))
             (all i k))
 
-    walk : (k : ℕ) (left : List (List ℕ)) → length left ≤ k → WalksFrom left
-    walk zero left n = walk_step left (λ fewer e. absurd (omega arith))
-    walk (suc k) left n = walk_step left (λ fewer e. walk k fewer (omega arith))
-
     pub ring_among : (item : List ℕ) → item ∈ items → Waits item → (ring : List (List ℕ)) × RingAmong q pairs items ring
     ring_among item m h =
-        walk (length items) items (omega arith) item [] (λ k. k, tt) tt (λ i k. ⊎_elim (λ e. subst (λ z. z ∈ items) (sym e) m) absurd k) h (λ i k. inl k)
+        by_leaving_out WalksFrom walk_step items item [] (λ k. k, tt) tt (λ i k. subst (λ z. z ∈ items) (sym (only_one i item k)) m) h (λ i k. inl k)
 
 -- the member with the least number
-pub least_member : {A : Type 0} (f : A → ℕ) (x : A) (list : List A) → (y : A) × (y ∈ (x ∷ list)) × ((z : A) → z ∈ (x ∷ list) → f y ≤ f z)
-least_member f x [] = (x, inl refl, λ z m. ⊎_elim (λ e. omega (arith, ap f e)) absurd m)
-least_member {A} f x (y ∷ list) = at (least_member f y list) (cases_lt (f x) (f (least_member f y list).0))
-  where
-    at : (r : (u : A) × (u ∈ (y ∷ list)) × ((z : A) → z ∈ (y ∷ list) → f u ≤ f z)) → (f x < f r.0) ⊎ (f r.0 ≤ f x) →
-        (u : A) × (u ∈ (x ∷ y ∷ list)) × ((z : A) → z ∈ (x ∷ y ∷ list) → f u ≤ f z)
-    at r (inl l) = (x, inl refl, λ z m. ⊎_elim (λ e. omega (arith, ap f e)) (λ k. omega (arith, r.2 z k)) m)
-    at r (inr l) = (r.0, inr r.1, λ z m. ⊎_elim (λ e. omega (arith, ap f e)) (r.2 z) m)
+least_member : {A : Type 0} (f : A → ℕ) (x : A) (list : List A) → (y : A) × (y ∈ (x ∷ list)) × ((z : A) → z ∈ (x ∷ list) → f y ≤ f z)
+least_member f x list = ⊎_elim
+    (λ none. absurd (none x (inl refl) tt))
+    (λ (y, m, _, least). (y, m, λ z k. least z k tt))
+    (least_in (λ z. Unit {0}) (λ a b. f a ≤ f b) (λ z. inl tt) (λ z. le_refl (f z)) (λ a b c h k. omega arith) (x ∷ list)
+    (λ a b m n p r. ⊎_elim (λ h. inl (omega arith)) inr (cases_lt (f a) (f b))))
 
 each_least : (bound : ℕ) (list : List (List ℕ)) → ((z : List ℕ) → z ∈ list → bound ≤ least_of z) → Each (λ m. bound ≤ m) (map least_of list)
 each_least bound [] f = tt
 each_least bound (x ∷ list) f = (f x (inl refl), each_least bound list (λ z m. f z (inr m)))
-
-turned_distinct : {A : Type 0} (front : List A) (item : A) (back : List A) → AreDistinct (front ++ item ∷ back) → AreDistinct (item ∷ (back ++ front))
-turned_distinct front item back d =
-    let alone = not_elsewhere front back item d in (
-      λ m. ⊎_elim alone.1 alone.0 (mem-append item back front m),
-      distinct_append back front (distinct_right front (item ∷ back) d).1 (distinct_left front (item ∷ back) d)
-          (λ x h k. distinct_apart front (item ∷ back) d x k (inr h)),
-    )
-
-turned_member : {A : Type 0} (front : List A) (item : A) (back : List A) (x : A) → x ∈ (item ∷ (back ++ front)) → x ∈ (front ++ item ∷ back)
-turned_member front item back x (inl e) = subst (λ z. z ∈ (front ++ item ∷ back)) (sym e) (mem_here item front back)
-turned_member front item back x (inr m) =
-    mem_without x item front back (⊎_elim (λ k. mem_append_right x front back k) (λ k. mem_append_left x front back k) (mem-append x back front m))
 
 -- a ring that begins with the item of the least leaf
 pub ring_from_least : (q : Process) (pairs : List (ℕ × ℕ)) (items ring : List (List ℕ)) → RingAmong q pairs items ring →
@@ -140,13 +118,13 @@ ring_from_least q pairs items (x ∷ ring) r =
     from : (front back : List (List ℕ)) (item : List ℕ) → x ∷ ring ≡ front ++ item ∷ back → ((z : List ℕ) → z ∈ (x ∷ ring) → least_of item ≤ least_of z) →
         (turned : List (List ℕ)) × RingAmong q pairs items turned × BeginsWithLeast (map least_of turned)
     from front back item e least =
-        let old = λ (i : List ℕ) (k : i ∈ (item ∷ (back ++ front))). subst (λ z. i ∈ z) (sym e) (turned_member front item back i k) in (
+        let old = λ (i : List ℕ) (k : i ∈ (item ∷ (back ++ front))). subst (λ z. i ∈ z) (sym e) (mem_swap i (item ∷ back) front k) in (
           item ∷ (back ++ front),
           record {
             members = λ i k. r.members i (old i k);
-            distinct = turned_distinct front item back (subst AreDistinct e r.distinct);
+            distinct = distinct_swap front (item ∷ back) (subst AreDistinct e r.distinct);
             two = omega (arith, r.two, ap length e, length-append front (item ∷ back), length-append back front);
-            closed = turn_to q pairs front item back (subst (IsRing q pairs) e r.closed);
+            closed = turn q pairs front (item ∷ back) (subst (IsRing q pairs) e r.closed);
           },
           each_least (least_of item) (back ++ front) (λ z m. least z (old z (inr m))),
         )

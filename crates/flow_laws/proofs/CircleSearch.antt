@@ -5,11 +5,9 @@ use Rattle.flow_model.specs.Process.{Process, Empty, Task, Sequence, Parallel, C
 use Rattle.flow_model.specs.Ready.{InSequence, DirectlyBefore, isolated_parts, IsReady, IsReadyRun}
 use Rattle.flow_model.specs.Circle.{items_of, ItemBefore}
 use Rattle.flow_laws.specs.Words.{IsOrdered}
-use Rattle.flow_laws.proofs.ListLemmas1.{Decided, decide_eq, decide_in, decide_mem, decide_not, decide_both, decide_either, decide_some, find_member, first_member, last_of}
-use Rattle.flow_laws.proofs.ReadyRemains.{part_within}
+use Rattle.flow_laws.proofs.Members.{Decided, decide_eq, decide_in, decide_mem, decide_not, decide_both, decide_either, decide_some, find_member, first_member, least_in, last_of, only_one, mem_append_left, mem-append}
+use Rattle.flow_laws.proofs.GoalParts.{part_within, regions, IsWithin, region_within, part_of_region, nested, goal_size, part_smaller, item_kind, item_has, item_within, item_having, part_or_region, case_of}
 use Rattle.flow_laws.proofs.ReadyRuns.{direct_first, direct_other, ready_at}
-use Rattle.flow_laws.proofs.CircleParts.{regions, IsWithin, region_within, part_of_region, nested, goal_size, part_smaller, item_kind, item_has, item_within, item_having, part_or_region}
-use Rattle.flow_laws.proofs.ListLemmas2.{mem_append_left, mem-append}
 
 -- decisions
 
@@ -71,10 +69,9 @@ module _ (q : Process) (pairs : List (ℕ × ℕ)) (w : IsOrdered q pairs) (run 
 
   begun_open : (part : Process) → part ∈ isolated_parts q → (x : ℕ) → x ∈ leaves part → x ∈ run → IsOpen part
   begun_open part m x k l =
-      let f = first_member (λ z. z ∈ leaves part) (λ z. decide_in z (leaves part)) run x l k in
-      let r = ready_at q pairs f.front f.member f.back (subst (IsReadyRun q pairs) f.there ready) in
-      λ u v n i b. subst (λ z. u ∈ z) (sym f.there)
-      (mem_append_left u f.front (f.member ∷ f.back) (r.begins part m f.holds (λ z g h. f.none_before z h g) u v n i b))
+      let (front, first, back, there, here, none) = first_member (λ z. z ∈ leaves part) (λ z. decide_in z (leaves part)) run x l k in
+      let r = ready_at q pairs front first back (subst (IsReadyRun q pairs) there ready) in
+      λ u v n i b. subst (λ z. u ∈ z) (sym there) (mem_append_left u front (first ∷ back) (r.begins part m here (λ z g h. none z h g) u v n i b))
 
   -- two caught parts both have the last leaf, so that one lies in the other
   caught_nested : (one two : Process) → one ∈ isolated_parts q → two ∈ isolated_parts q → IsCaught run one → IsCaught run two → IsWithin one two ⊎ IsWithin two one
@@ -82,7 +79,7 @@ module _ (q : Process) (pairs : List (ℕ × ℕ)) (w : IsOrdered q pairs) (run 
     where
       at : (front : List ℕ) × (last : ℕ) × (run ≡ front ++ last ∷ []) → IsWithin one two ⊎ IsWithin two one
       at (front, last, e) = ⊎_elim (λ k. inl (region_within two one k)) (λ k. inr (region_within one two k))
-          (nested q one two last w.distinct m l (has one m c) (has two l d))
+          (nested (case_of q) one two last w.distinct m l (has one m c) (has two l d))
         where
           in_front : (x : ℕ) → x ∈ run → x ≢ last → x ∈ front
           in_front x k n = ⊎_elim (λ h. h) (⊎_elim (λ h. absurd (n h)) absurd) (mem-append x front (last ∷ []) (subst (λ z. x ∈ z) e k))
@@ -96,35 +93,6 @@ module _ (q : Process) (pairs : List (ℕ × ℕ)) (w : IsOrdered q pairs) (run 
               absurd (y_fresh (subst (λ z. y ∈ z) (sym e) (mem_append_left y front (last ∷ []) y_front))))
               (decide_in last (leaves part))
 
-  -- the innermost of the caught parts, or the whole goal
-  record IsInnermost (list : List Process) (part : Process) : Type 0 where
-    is_part : (part ≡ q) ⊎ ((part ∈ isolated_parts q) × IsCaught run part)
-    within : (other : Process) → other ∈ list → IsCaught run other → IsWithin part other
-
-  innermost : (list : List Process) → ((part : Process) → part ∈ list → part ∈ isolated_parts q) → (part : Process) × IsInnermost list part
-  innermost [] f = (q, record { is_part = inl refl; within = λ other m. absurd m })
-  innermost (p ∷ list) f = at (decide_caught run p) (innermost list (λ x m. f x (inr m)))
-    where
-      at : Decided (IsCaught run p) → (part : Process) × IsInnermost list part → (part : Process) × IsInnermost (p ∷ list) part
-      at (inr n) (part, r) =
-          (part, record { is_part = r.is_part; within = λ other m c. ⊎_elim (λ e. absurd (n (subst (IsCaught run) e c))) (λ k. r.within other k c) m })
-      at (inl c) (part, r) = ⊎_elim
-          (λ e. inner (λ x h. subst (λ z. x ∈ leaves z) (sym e) (part_within q p x (f p (inl refl)) h)))
-          (λ h. ⊎_elim keep inner (caught_nested part p h.0 (f p (inl refl)) h.1 c))
-          r.is_part
-        where
-          keep : IsWithin part p → (better : Process) × IsInnermost (p ∷ list) better
-          keep h = (part, record { is_part = r.is_part; within = λ other m d. ⊎_elim (λ e. subst (IsWithin part) (sym e) h) (λ k. r.within other k d) m })
-
-          inner : IsWithin p part → (better : Process) × IsInnermost (p ∷ list) better
-          inner h = (
-            p,
-            record {
-              is_part = inr (f p (inl refl), c);
-              within = λ other m d. ⊎_elim (λ e. subst (IsWithin p) (sym e) (λ x k. k)) (λ k x i. r.within other k d x (h x i)) m;
-            },
-          )
-
   -- a region that may go on by itself: it is unfinished, lies in each caught part, and all around it are open
   record IsFree (part : Process) : Type 0 where
     is_part : part ∈ regions q
@@ -132,25 +100,24 @@ module _ (q : Process) (pairs : List (ℕ × ℕ)) (w : IsOrdered q pairs) (run 
     within : (other : Process) → other ∈ isolated_parts q → IsCaught run other → IsWithin part other
     around : (other : Process) → other ∈ regions q → IsWithin part other → IsOpen other
 
+  -- the innermost of the caught parts, or the whole goal
   some_free : IsUnfinished run (leaves q) → (part : Process) × IsFree part
-  some_free u = at (innermost (isolated_parts q) (λ part m. m))
-    where
-      at : (part : Process) × IsInnermost (isolated_parts q) part → (part : Process) × IsFree part
-      at (part, r) = (
+  some_free u = ⊎_elim
+      (λ none. (
+        q,
+        record { is_part = inl refl; unfinished = u; within = λ other m c. absurd (none other m c); around = λ other m. whole_open other },
+      ))
+      (λ (part, m, c, least). (
         part,
         record {
-          is_part = ⊎_elim inl (λ h. inr h.0) r.is_part;
-          unfinished = ⊎_elim (λ e. subst (λ p. IsUnfinished run (leaves p)) (sym e) u) (λ h. h.1.1) r.is_part;
-          within = r.within;
-          around = λ other m k. ⊎_elim
-              (λ e. whole_open other (subst (IsWithin q) (sym e) (λ x i. i)))
-              (λ i. ⊎_elim
-              (λ e. whole_open other (subst (λ p. IsWithin p other) e k))
-              (λ h. begun_open other i h.1.0.0 (k h.1.0.0 h.1.0.1) h.1.0.2)
-              r.is_part)
-              m;
+          is_part = inr m;
+          unfinished = c.1;
+          within = least;
+          around = λ other o k. ⊎_elim
+              (λ e. whole_open other (subst (IsWithin q) (sym e) (λ x i. i))) (λ i. begun_open other i c.0.0 (k c.0.0 c.0.1) c.0.2) o;
         },
-      )
+      ))
+      (least_in (IsCaught run) IsWithin (decide_caught run) (λ part x k. k) (λ a b c h k x i. k x (h x i)) (isolated_parts q) caught_nested)
 
   -- a leaf of the region that is not done, and not of the item, is directly before the item
   abbrev IsBlocked : Process → List ℕ → Type 0
@@ -191,9 +158,9 @@ module _ (q : Process) (pairs : List (ℕ × ℕ)) (w : IsOrdered q pairs) (run 
   leaf_ready part r n m fresh free = record {
     leaf = region_within q part r.is_part n here;
     not_done = fresh;
-    before = λ x b. item_waits part r (n ∷ []) m free x n (λ h. direct_other q pairs w x n b (⊎_elim {C = x ≡ n} (λ e. e) absurd h)) (inl refl) b;
+    before = λ x b. item_waits part r (n ∷ []) m free x n (λ h. direct_other q pairs w x n b (only_one x n h)) (inl refl) b;
     outside = λ p i no x y k d l. ⊎_elim (λ h. h) (λ f. absurd (no (r.within p i ((x, k, d), (y, l, f)) n here))) (decide_in y run);
-    begins = λ p i k none x y a b c. item_open part r (n ∷ []) m free p (inr i) (λ z h. ⊎_elim (λ e. subst (λ u. u ∈ leaves p) (sym e) k) absurd h) x y a b c;
+    begins = λ p i k none x y a b c. item_open part r (n ∷ []) m free p (inr i) (λ z h. subst (λ u. u ∈ leaves p) (sym (only_one z n h)) k) x y a b c;
   }
     where
       here : n ∈ leaves part
@@ -204,7 +171,7 @@ module _ (q : Process) (pairs : List (ℕ × ℕ)) (w : IsOrdered q pairs) (run 
   part_free part r inner m k u n = record {
     is_part = inr (part_of_region q part inner r.is_part m);
     unfinished = u;
-    within = λ other i c x h. r.within other i c x (part_within part inner x m h);
+    within = λ other i c x h. r.within other i c x (part_within (case_of part) inner x m h);
     around = λ other i h. item_open part r (leaves inner) k n other i h;
   }
 
@@ -223,32 +190,31 @@ module _ (q : Process) (pairs : List (ℕ × ℕ)) (w : IsOrdered q pairs) (run 
             (o.0, o.1, (b.0, o.2, b.2.0.0), λ e. b.2.0.1 (subst (λ z. b.0 ∈ z) e o.2), (b.0, b.2.1.0, o.2, b.2.1.1, b.2.1.2));
       }
 
+  -- a leaf may come next, or there is a tangle
+  abbrev pub GoesOn : Type 0
+  GoesOn = ((n : ℕ) × IsReady q pairs (λ x. x ∈ run) n) ⊎ ((tangled : Process) × IsTangle q pairs run tangled)
+
   -- an unfinished item that is not blocked is a ready leaf or a free part
-  step : (part : Process) → IsFree part →
-      ((inner : Process) → inner ∈ isolated_parts part → IsFree inner → ((n : ℕ) × IsReady q pairs (λ x. x ∈ run) n) ⊎ ((tangled : Process) × IsTangle q pairs run tangled)) →
-      ((n : ℕ) × IsReady q pairs (λ x. x ∈ run) n) ⊎ ((tangled : Process) × IsTangle q pairs run tangled)
+  step : (part : Process) → IsFree part → ((inner : Process) → inner ∈ isolated_parts part → IsFree inner → GoesOn) → GoesOn
   step part r down = ⊎_elim
       (λ found. open_item found.0 found.1 found.2.0 found.2.1)
       (λ f. inr (part, tangle_of part r (λ item m u. ⊎_elim (λ k. k) (λ n. absurd (f item m (u, n))) (decide_blocked part item))))
       (find_member (λ item. IsUnfinished run item × ¬ (IsBlocked part item)) (λ item. decide_both (decide_unfinished run item) (decide_not (decide_blocked part item))) (items_of part))
     where
-      open_item : (item : List ℕ) → item ∈ items_of part → IsUnfinished run item → ¬ (IsBlocked part item) →
-          ((n : ℕ) × IsReady q pairs (λ x. x ∈ run) n) ⊎ ((tangled : Process) × IsTangle q pairs run tangled)
+      open_item : (item : List ℕ) → item ∈ items_of part → IsUnfinished run item → ¬ (IsBlocked part item) → GoesOn
       open_item item m u n = ⊎_elim
-          (λ single.
-          let u' = subst (IsUnfinished run) single.1 u in
-          let is = ⊎_elim {C = u'.0 ≡ single.0} (λ e. e) absurd u'.1 in
-          inl (single.0, leaf_ready part r single.0 (subst (λ z. z ∈ items_of part) single.1 m) (λ h. u'.2 (subst (λ z. z ∈ run) (sym is) h)) (subst (λ z. ¬ (IsBlocked part z)) single.1 n)))
-          (λ whole. down whole.0 whole.1
-          (part_free part r whole.0 whole.1 (subst (λ z. z ∈ items_of part) whole.2 m) (subst (IsUnfinished run) whole.2 u) (subst (λ z. ¬ (IsBlocked part z)) whole.2 n)))
-          (item_kind part item m)
+          (λ (leaf, e).
+          let (x, x_in, fresh) = subst (IsUnfinished run) e u in
+          let undone = subst (λ z. ¬ (z ∈ run)) (only_one x leaf x_in) fresh in
+          inl (leaf, leaf_ready part r leaf (subst (λ z. z ∈ items_of part) e m) undone (subst (λ z. ¬ (IsBlocked part z)) e n)))
+          (λ (inner, i, e). down inner i
+          (part_free part r inner i (subst (λ z. z ∈ items_of part) e m) (subst (IsUnfinished run) e u) (subst (λ z. ¬ (IsBlocked part z)) e n)))
+          (item_kind (case_of part) item m)
 
   -- down the parts
-  descend : (k : ℕ) (part : Process) → IsFree part → goal_size part ≤ k →
-      ((n : ℕ) × IsReady q pairs (λ x. x ∈ run) n) ⊎ ((tangled : Process) × IsTangle q pairs run tangled)
-  descend zero part r s = step part r (λ inner m f. absurd (omega (arith, part_smaller part inner m)))
-  descend (suc k) part r s = step part r (λ inner m f. descend k inner f (omega (arith, part_smaller part inner m)))
+  descend : (k : ℕ) (part : Process) → IsFree part → goal_size part ≤ k → GoesOn
+  descend zero part r s = step part r (λ inner m f. absurd (omega (arith, part_smaller (case_of part) inner m)))
+  descend (suc k) part r s = step part r (λ inner m f. descend k inner f (omega (arith, part_smaller (case_of part) inner m)))
 
-  -- a leaf may come next, or there is a tangle
-  pub goes_on : IsUnfinished run (leaves q) → ((n : ℕ) × IsReady q pairs (λ x. x ∈ run) n) ⊎ ((tangled : Process) × IsTangle q pairs run tangled)
+  pub goes_on : IsUnfinished run (leaves q) → GoesOn
   goes_on u = let r = some_free u in descend (goal_size r.0) r.0 r.1 (omega arith)

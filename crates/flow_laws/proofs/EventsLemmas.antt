@@ -1,89 +1,71 @@
 -- Two leaves stand in one execution exactly where the least goal above them is no choice.
-use Rattle.std.proofs.Common.{◌≡◌, ◌≢◌, ℕ, ◌⊎◌, List, [], ◌∷◌, ◌++◌, length, refl, sym, ap, ◌∙◌, subst, inl, inr, Some}
-use Rattle.flow_model.specs.Lists.{◌∈◌, AreDistinct, joined}
+use Rattle.std.proofs.Common.{◌≡◌, ◌≢◌, ℕ, ◌⊎◌, List, [], ◌∷◌, ◌++◌, length, refl, sym, ap, ◌∙◌, subst, inl, inr, ⊎_elim, Some}
+use Rattle.flow_model.specs.Lists.{◌∈◌, Each, AreDistinct, joined}
 use Rattle.flow_model.specs.Process.{Process, Empty, Task, Sequence, Parallel, Choice, Isolated, leaves, IsNumbered}
-use Rattle.flow_model.specs.Trace.{Blocks, Shuffle, from_left, as_one}
+use Rattle.flow_model.specs.Trace.{Blocks, as_one}
 use Rattle.flow_model.specs.Facts.{event_at}
 use Rattle.flow_model.specs.Schema.{Schema, HasUniqueEvents}
-use Rattle.flow_model.specs.Decided.{shuffle_right}
 use Rattle.flow_laws.specs.Events.{AreTogether}
-use Rattle.flow_laws.proofs.ListLemmas2.{mem_append_left, mem_append_right, mem-append, joined-append, distinct_parts, distinct-filter_map, distinct-numbers_from, same_source}
-use Rattle.flow_laws.proofs.TraceLeaves.{joined-as_one, of_shuffle, leaf_of_blocks, distinct_trace}
+use Rattle.flow_laws.proofs.Members.{only_one, each-append, each_to, mem-append, distinct_parts}
+use Rattle.flow_laws.proofs.MadeLists.{distinct-filter_map, distinct-numbers_from, same_source}
+use Rattle.flow_laws.proofs.Shuffles.{shuffle-append, shuffle-joined, of_shuffle, mem_shuffle_left, mem_shuffle_right}
+use Rattle.flow_laws.proofs.TraceLeaves.{joined-as_one, beside, some_blocks, leaf_of_blocks, distinct_trace}
 
 -- Executions that hold given leaves
 
-pub shuffle-append : (x y : List (List ℕ)) → Shuffle x y (x ++ y)
-shuffle-append [] y = shuffle_right y
-shuffle-append (b ∷ x) y = from_left (shuffle-append x y)
+-- the goal may be executed so that these leaves are done
+abbrev MayDo : Process → List ℕ → Type 0
+MayDo g done = (bs : List (List ℕ)) × Blocks g bs × Each (λ n. n ∈ joined bs) done
 
-pub some_blocks : (g : Process) → (bs : List (List ℕ)) × Blocks g bs
-some_blocks Empty = ([], refl)
-some_blocks (Task n) = ((n ∷ []) ∷ [], refl)
-some_blocks (Sequence a b) =
-    let (x, hx) = some_blocks a in let (y, hy) = some_blocks b in (x ++ y, (x, y, hx, hy, refl))
-some_blocks (Parallel a b) =
-    let (x, hx) = some_blocks a in let (y, hy) = some_blocks b in (x ++ y, (x, y, hx, hy, shuffle-append x y))
-some_blocks (Choice a b) = let (x, hx) = some_blocks a in (x, inl hx)
-some_blocks (Isolated a) = let (x, hx) = some_blocks a in (as_one x, (x, hx, refl))
+may_do_nothing : (g : Process) → MayDo g []
+may_do_nothing g = let (bs, h) = some_blocks g in (bs, h, tt)
 
-pub mem_joined_left : (n : ℕ) (x y : List (List ℕ)) → n ∈ joined x → n ∈ joined (x ++ y)
-mem_joined_left n x y m = subst (λ w. n ∈ w) (sym (joined-append x y)) (mem_append_left n (joined x) (joined y) m)
+-- those of two halves are done one half after the other
+do_both : (a b : Process) (first second : List ℕ) → MayDo a first → MayDo b second →
+    MayDo (Sequence a b) (first ++ second) × MayDo (Parallel a b) (first ++ second)
+do_both a b first second (x, hx, mx) (y, hy, my) =
+    let whole = shuffle-joined (shuffle-append x y) in
+    let all = each-append (λ n. n ∈ joined (x ++ y)) first second
+    (each_to _ _ first (λ n. mem_shuffle_left whole n) mx) (each_to _ _ second (λ n. mem_shuffle_right whole n) my) in
+    ((x ++ y, (x, y, hx, hy, refl), all), (x ++ y, (x, y, hx, hy, shuffle-append x y), all))
 
-pub mem_joined_right : (n : ℕ) (x y : List (List ℕ)) → n ∈ joined y → n ∈ joined (x ++ y)
-mem_joined_right n x y m = subst (λ w. n ∈ w) (sym (joined-append x y)) (mem_append_right n (joined x) (joined y) m)
+do_isolated : (a : Process) (done : List ℕ) → MayDo a done → MayDo (Isolated a) done
+do_isolated a done (x, h, m) = (as_one x, (x, h, refl), each_to _ _ done (λ n k. subst (λ w. n ∈ w) (sym (joined-as_one x)) k) m)
 
-pub mem-as_one : (n : ℕ) (x : List (List ℕ)) → n ∈ joined x → n ∈ joined (as_one x)
-mem-as_one n x m = subst (λ w. n ∈ w) (sym (joined-as_one x)) m
-
--- the goal may be executed so that the leaf is done
-pub blocks_with : (g : Process) (n : ℕ) → n ∈ leaves g → (bs : List (List ℕ)) × Blocks g bs × (n ∈ joined bs)
-blocks_with Empty n m = absurd m
-blocks_with (Task k) n m = ((k ∷ []) ∷ [], refl, m)
-blocks_with (Sequence a b) n m = elim (mem-append n (leaves a) (leaves b) m) [
-  | inl l ↦ (let (x, hx, mx) = blocks_with a n l in let (y, hy) = some_blocks b in
-      (x ++ y, (x, y, hx, hy, refl), mem_joined_left n x y mx))
-  | inr l ↦ (let (x, hx) = some_blocks a in let (y, hy, my) = blocks_with b n l in
-      (x ++ y, (x, y, hx, hy, refl), mem_joined_right n x y my))
+may_do_one : (g : Process) (n : ℕ) → n ∈ leaves g → MayDo g (n ∷ [])
+may_do_one Empty n m = absurd m
+may_do_one (Task k) n m = ((k ∷ []) ∷ [], refl, (m, tt))
+may_do_one (Sequence a b) n m = elim (mem-append n (leaves a) (leaves b) m) [
+  | inl l ↦ (do_both a b (n ∷ []) [] (may_do_one a n l) (may_do_nothing b)).0
+  | inr l ↦ (do_both a b [] (n ∷ []) (may_do_nothing a) (may_do_one b n l)).0
 ]
-blocks_with (Parallel a b) n m = elim (mem-append n (leaves a) (leaves b) m) [
-  | inl l ↦ (let (x, hx, mx) = blocks_with a n l in let (y, hy) = some_blocks b in
-      (x ++ y, (x, y, hx, hy, shuffle-append x y), mem_joined_left n x y mx))
-  | inr l ↦ (let (x, hx) = some_blocks a in let (y, hy, my) = blocks_with b n l in
-      (x ++ y, (x, y, hx, hy, shuffle-append x y), mem_joined_right n x y my))
+may_do_one (Parallel a b) n m = elim (mem-append n (leaves a) (leaves b) m) [
+  | inl l ↦ (do_both a b (n ∷ []) [] (may_do_one a n l) (may_do_nothing b)).1
+  | inr l ↦ (do_both a b [] (n ∷ []) (may_do_nothing a) (may_do_one b n l)).1
 ]
-blocks_with (Choice a b) n m = elim (mem-append n (leaves a) (leaves b) m) [
-  | inl l ↦ (let (x, hx, mx) = blocks_with a n l in (x, inl hx, mx))
-  | inr l ↦ (let (x, hx, mx) = blocks_with b n l in (x, inr hx, mx))
+may_do_one (Choice a b) n m = elim (mem-append n (leaves a) (leaves b) m) [
+  | inl l ↦ (let (x, h, k) = may_do_one a n l in (x, inl h, k))
+  | inr l ↦ (let (x, h, k) = may_do_one b n l in (x, inr h, k))
 ]
-blocks_with (Isolated a) n m = let (x, hx, mx) = blocks_with a n m in (as_one x, (x, hx, refl), mem-as_one n x mx)
+may_do_one (Isolated a) n m = do_isolated a (n ∷ []) (may_do_one a n m)
+
+may_do_two : (g : Process) (m n : ℕ) → AreTogether g m n → MayDo g (m ∷ n ∷ [])
+may_do_two Empty m n h = absurd h
+may_do_two (Task k) m n h = absurd h
+may_do_two (Sequence a b) m n (inl (inl h)) = (do_both a b (m ∷ []) (n ∷ []) (may_do_one a m h.0) (may_do_one b n h.1)).0
+may_do_two (Sequence a b) m n (inl (inr h)) = (do_both a b (m ∷ n ∷ []) [] (may_do_two a m n h) (may_do_nothing b)).0
+may_do_two (Sequence a b) m n (inr h) = (do_both a b [] (m ∷ n ∷ []) (may_do_nothing a) (may_do_two b m n h)).0
+may_do_two (Parallel a b) m n (inl (inl h)) = (do_both a b (m ∷ []) (n ∷ []) (may_do_one a m h.0) (may_do_one b n h.1)).1
+may_do_two (Parallel a b) m n (inl (inr h)) = (do_both a b (m ∷ n ∷ []) [] (may_do_two a m n h) (may_do_nothing b)).1
+may_do_two (Parallel a b) m n (inr h) = (do_both a b [] (m ∷ n ∷ []) (may_do_nothing a) (may_do_two b m n h)).1
+may_do_two (Choice a b) m n (inl h) = let (x, k, all) = may_do_two a m n h in (x, inl k, all)
+may_do_two (Choice a b) m n (inr h) = let (x, k, all) = may_do_two b m n h in (x, inr k, all)
+may_do_two (Isolated a) m n h = do_isolated a (m ∷ n ∷ []) (may_do_two a m n h)
 
 -- the goal may be executed so that both leaves are done
 pub blocks_with_both : (g : Process) (m n : ℕ) → AreTogether g m n →
     (bs : List (List ℕ)) × Blocks g bs × (m ∈ joined bs) × (n ∈ joined bs)
-blocks_with_both Empty m n h = absurd h
-blocks_with_both (Task k) m n h = absurd h
-blocks_with_both (Sequence a b) m n (inl (inl h)) =
-    let (x, hx, mx) = blocks_with a m h.0 in let (y, hy, my) = blocks_with b n h.1 in
-    (x ++ y, (x, y, hx, hy, refl), mem_joined_left m x y mx, mem_joined_right n x y my)
-blocks_with_both (Sequence a b) m n (inl (inr h)) =
-    let (x, hx, mx, nx) = blocks_with_both a m n h in let (y, hy) = some_blocks b in
-    (x ++ y, (x, y, hx, hy, refl), mem_joined_left m x y mx, mem_joined_left n x y nx)
-blocks_with_both (Sequence a b) m n (inr h) =
-    let (x, hx) = some_blocks a in let (y, hy, my, ny) = blocks_with_both b m n h in
-    (x ++ y, (x, y, hx, hy, refl), mem_joined_right m x y my, mem_joined_right n x y ny)
-blocks_with_both (Parallel a b) m n (inl (inl h)) =
-    let (x, hx, mx) = blocks_with a m h.0 in let (y, hy, my) = blocks_with b n h.1 in
-    (x ++ y, (x, y, hx, hy, shuffle-append x y), mem_joined_left m x y mx, mem_joined_right n x y my)
-blocks_with_both (Parallel a b) m n (inl (inr h)) =
-    let (x, hx, mx, nx) = blocks_with_both a m n h in let (y, hy) = some_blocks b in
-    (x ++ y, (x, y, hx, hy, shuffle-append x y), mem_joined_left m x y mx, mem_joined_left n x y nx)
-blocks_with_both (Parallel a b) m n (inr h) =
-    let (x, hx) = some_blocks a in let (y, hy, my, ny) = blocks_with_both b m n h in
-    (x ++ y, (x, y, hx, hy, shuffle-append x y), mem_joined_right m x y my, mem_joined_right n x y ny)
-blocks_with_both (Choice a b) m n (inl h) = let (x, hx, mx, nx) = blocks_with_both a m n h in (x, inl hx, mx, nx)
-blocks_with_both (Choice a b) m n (inr h) = let (x, hx, mx, nx) = blocks_with_both b m n h in (x, inr hx, mx, nx)
-blocks_with_both (Isolated a) m n h =
-    let (x, hx, mx, nx) = blocks_with_both a m n h in (as_one x, (x, hx, refl), mem-as_one m x mx, mem-as_one n x nx)
+blocks_with_both g m n h = let (bs, b, all) = may_do_two g m n h in (bs, b, all.0, all.1.0)
 
 pub together_differ : (g : Process) → AreDistinct (leaves g) → (m n : ℕ) → AreTogether g m n → m ≢ n
 together_differ Empty d m n h = absurd h
@@ -102,39 +84,28 @@ together_differ (Isolated a) d m n h = together_differ a d m n h
 
 -- Leaves of one execution
 
-pub one_leaf : (n k : ℕ) → n ∈ (k ∷ []) → n ≡ k
-one_leaf n k (inl e) = e
-one_leaf n k (inr m) = absurd m
+-- of two leaves of an execution the one is together with the other, on its left or its right
+abbrev pub AreAllTogether : Process → Type 0
+AreAllTogether g = (bs : List (List ℕ)) → Blocks g bs → (m n : ℕ) → m ∈ joined bs → n ∈ joined bs → m ≢ n → AreTogether g m n ⊎ AreTogether g n m
 
--- of two parts that both stay: each leaf is done in the one or in the other
-pub of_two_parts : (a b : Process) (x y : List (List ℕ)) → Blocks a x → Blocks b y →
-    ((m n : ℕ) → m ∈ joined x → n ∈ joined x → m ≢ n → AreTogether a m n ⊎ AreTogether a n m) →
-    ((m n : ℕ) → m ∈ joined y → n ∈ joined y → m ≢ n → AreTogether b m n ⊎ AreTogether b n m) →
-    (m n : ℕ) → (m ∈ joined x) ⊎ (m ∈ joined y) → (n ∈ joined x) ⊎ (n ∈ joined y) → m ≢ n →
-    AreTogether (Parallel a b) m n ⊎ AreTogether (Parallel a b) n m
-of_two_parts a b x y hx hy in_a in_b m n (inl i) (inl j) d =
-    elim (in_a m n i j d) [ inl k ↦ inl (inl (inr k)) | inr k ↦ inr (inl (inr k)) ]
-of_two_parts a b x y hx hy in_a in_b m n (inl i) (inr j) d = inl (inl (inl (leaf_of_blocks a x hx m i, leaf_of_blocks b y hy n j)))
-of_two_parts a b x y hx hy in_a in_b m n (inr i) (inl j) d = inr (inl (inl (leaf_of_blocks a x hx n j, leaf_of_blocks b y hy m i)))
-of_two_parts a b x y hx hy in_a in_b m n (inr i) (inr j) d =
-    elim (in_b m n i j d) [ inl k ↦ inl (inr k) | inr k ↦ inr (inr k) ]
+together_in_halves : (a b : Process) → AreAllTogether a → AreAllTogether b → AreAllTogether (Parallel a b)
+together_in_halves a b in_a in_b bs (x, y, hx, hy, s) m n i j d =
+    cases (of_shuffle (shuffle-joined s) m i) (of_shuffle (shuffle-joined s) n j)
+  where
+    cases : (m ∈ joined x) ⊎ (m ∈ joined y) → (n ∈ joined x) ⊎ (n ∈ joined y) → AreTogether (Parallel a b) m n ⊎ AreTogether (Parallel a b) n m
+    cases (inl k) (inl l) = ⊎_elim (λ t. inl (inl (inr t))) (λ t. inr (inl (inr t))) (in_a x hx m n k l d)
+    cases (inl k) (inr l) = inl (inl (inl (leaf_of_blocks a x hx m k, leaf_of_blocks b y hy n l)))
+    cases (inr k) (inl l) = inr (inl (inl (leaf_of_blocks a x hx n l, leaf_of_blocks b y hy m k)))
+    cases (inr k) (inr l) = ⊎_elim (λ t. inl (inr t)) (λ t. inr (inr t)) (in_b y hy m n k l d)
 
-pub are_together : (g : Process) (bs : List (List ℕ)) → Blocks g bs → (m n : ℕ) → m ∈ joined bs → n ∈ joined bs → m ≢ n →
-    AreTogether g m n ⊎ AreTogether g n m
+pub are_together : (g : Process) → AreAllTogether g
 are_together Empty bs h m n i j d = absurd (subst (λ w. m ∈ joined w) h i)
 are_together (Task k) bs h m n i j d =
-    absurd (d (one_leaf m k (subst (λ w. m ∈ joined w) h i) ∙ sym (one_leaf n k (subst (λ w. n ∈ joined w) h j))))
-are_together (Sequence a b) bs (x, y, hx, hy, e) m n i j d =
-    let whole : joined bs ≡ joined x ++ joined y = ap joined e ∙ joined-append x y in
-    of_two_parts a b x y hx hy (are_together a x hx) (are_together b y hy) m n
-    (mem-append m (joined x) (joined y) (subst (λ w. m ∈ w) whole i))
-    (mem-append n (joined x) (joined y) (subst (λ w. n ∈ w) whole j)) d
-are_together (Parallel a b) bs (x, y, hx, hy, s) m n i j d =
-    of_two_parts a b x y hx hy (are_together a x hx) (are_together b y hy) m n (of_shuffle s m i) (of_shuffle s n j) d
-are_together (Choice a b) bs (inl h) m n i j d =
-    elim (are_together a bs h m n i j d) [ inl k ↦ inl (inl k) | inr k ↦ inr (inl k) ]
-are_together (Choice a b) bs (inr h) m n i j d =
-    elim (are_together b bs h m n i j d) [ inl k ↦ inl (inr k) | inr k ↦ inr (inr k) ]
+    absurd (d (only_one m k (subst (λ w. m ∈ joined w) h i) ∙ sym (only_one n k (subst (λ w. n ∈ joined w) h j))))
+are_together (Sequence a b) bs h m n i j d = together_in_halves a b (are_together a) (are_together b) bs (beside a b bs h) m n i j d
+are_together (Parallel a b) bs h m n i j d = together_in_halves a b (are_together a) (are_together b) bs h m n i j d
+are_together (Choice a b) bs (inl h) m n i j d = ⊎_elim (λ k. inl (inl k)) (λ k. inr (inl k)) (are_together a bs h m n i j d)
+are_together (Choice a b) bs (inr h) m n i j d = ⊎_elim (λ k. inl (inr k)) (λ k. inr (inr k)) (are_together b bs h m n i j d)
 are_together (Isolated a) bs (x, h, e) m n i j d = are_together a x h m n
     (subst (λ w. m ∈ w) (ap joined e ∙ joined-as_one x) i) (subst (λ w. n ∈ w) (ap joined e ∙ joined-as_one x) j) d
 

@@ -1,69 +1,20 @@
--- Ready runs in two pieces, and what may follow a journal.
-use Rattle.std.proofs.Common.{ℕ, ◌↔◌, List, [], ◌∷◌, ◌++◌, inl, inr}
+-- What may follow a journal.
+use Rattle.std.proofs.Common.{ℕ, List, [], ◌∷◌, ◌++◌, inl, inr}
 use Rattle.flow_model.specs.Lists.{◌∈◌}
-use Rattle.flow_model.specs.Process.{Process}
 use Rattle.flow_model.specs.Schema.{Schema}
 use Rattle.flow_model.specs.Resolution.{ChoiceOption, options}
-use Rattle.flow_model.specs.Ready.{IsReadyRun, IsReadyRunAfter, DoneOr}
+use Rattle.flow_model.specs.Ready.{IsReadyRunAfter, DoneOr}
 use Rattle.flow_model.specs.Run.{RunState, MayFollow}
 use Rattle.flow_laws.specs.Words.{IsWellFormed}
 use Rattle.flow_laws.specs.Orders.{IsAlive, OrdersMayFollow, OrdersMayFollowOne}
-use Rattle.flow_laws.proofs.ListLemmas2.{each_to, same_order, begins_front, mem_append_left, mem_append_right, mem-append}
+use Rattle.flow_laws.proofs.Members.{each_to, mem_append_left, mem_append_right, mem-append}
+use Rattle.flow_laws.proofs.MadeLists.{same_order, begins_front}
 use Rattle.flow_laws.proofs.TraceLeaves.{leaf_of_trace, leaf_in_trace}
 use Rattle.flow_laws.proofs.OptionsLemmas.{option_is_ordered}
 use Rattle.flow_laws.proofs.GoodTraces.{option_trace_is_good}
-use Rattle.flow_laws.proofs.ReadyRuns.{same_run, fronts_are_ready}
+use Rattle.flow_laws.proofs.ReadyRuns.{AreSame, as_well, run_after_journal, fronts_are_ready}
 use Rattle.flow_laws.proofs.OrdersByTwo.{side_by_side_of, orders_ready}
 use Rattle.flow_laws.proofs.CircleOrTrace.{ready_runs_extend}
-
--- Runs in two pieces
-
--- the same leaves are done
-abbrev pub AreSame : (ℕ → Type 0) → (ℕ → Type 0) → Type 0
-AreSame D E = (n : ℕ) → D n ↔ E n
-
-pub as_well : (q : Process) (pairs : List (ℕ × ℕ)) (D E : ℕ → Type 0) (run : List ℕ) → AreSame D E →
-    IsReadyRunAfter q pairs D run ↔ IsReadyRunAfter q pairs E run
-as_well q pairs D E run same =
-    (same_run q pairs D E run (λ n. (same n).0) (λ n. (same n).1), same_run q pairs E D run (λ n. (same n).1) (λ n. (same n).0))
-
-pub done_in_turn : (D : ℕ → Type 0) (n : ℕ) (run : List ℕ) → AreSame (DoneOr (DoneOr D (n ∷ [])) run) (DoneOr D (n ∷ run))
-done_in_turn D n run m = (
-  λ h. elim h [
-    | inl k ↦ elim k [ inl d ↦ inl d | inr l ↦ elim l [ inl e ↦ inr (inl e) | inr f ↦ absurd f ] ]
-    | inr l ↦ inr (inr l)
-  ],
-  λ h. elim h [
-    | inl d ↦ inl (inl d)
-    | inr l ↦ elim l [ inl e ↦ inl (inr (inl e)) | inr k ↦ inr k ]
-  ],
-)
-
-pub done_or_none : (D : ℕ → Type 0) → AreSame D (DoneOr D [])
-done_or_none D n = (λ d. inl d, λ h. elim h [ inl d ↦ d | inr f ↦ absurd f ])
-
-pub run-append : (q : Process) (pairs : List (ℕ × ℕ)) (D : ℕ → Type 0) (run more : List ℕ) →
-    IsReadyRunAfter q pairs D (run ++ more) ↔ (IsReadyRunAfter q pairs D run × IsReadyRunAfter q pairs (DoneOr D run) more)
-run-append q pairs D [] more =
-    let (there, back) = as_well q pairs D (DoneOr D []) more (done_or_none D) in
-    (λ h. (tt, there h), λ h. back h.1)
-run-append q pairs D (n ∷ run) more =
-    let (to, from) = run-append q pairs (DoneOr D (n ∷ [])) run more in
-    let (there, back) = as_well q pairs (DoneOr (DoneOr D (n ∷ [])) run) (DoneOr D (n ∷ run)) more (done_in_turn D n run) in
-    (λ h. let (k, l) = to h.1 in ((h.0, k), there l), λ h. (h.0.0, from (h.0.1, back h.1)))
-
--- nothing was done before the journal
-pub done_is_journal : (journal : List ℕ) → AreSame (DoneOr (λ n. ⊥) journal) (λ n. n ∈ journal)
-done_is_journal journal n = (λ h. elim h [ inl f ↦ absurd f | inr m ↦ m ], λ m. inr m)
-
-pub run_after_journal : (q : Process) (pairs : List (ℕ × ℕ)) (journal more : List ℕ) →
-    IsReadyRun q pairs (journal ++ more) ↔ (IsReadyRun q pairs journal × IsReadyRunAfter q pairs (λ n. n ∈ journal) more)
-run_after_journal q pairs journal more =
-    let (to, from) = run-append q pairs (λ n. ⊥) journal more in
-    let (there, back) = as_well q pairs (DoneOr (λ n. ⊥) journal) (λ n. n ∈ journal) more (done_is_journal journal) in
-    (λ h. let (k, l) = to h in (k, there l), λ h. from (h.0, back h.1))
-
--- What may follow
 
 -- in an option that is alive just what is a ready run after the journal
 pub alive_of_follow : (w : Schema) → IsWellFormed w → (s : RunState) (o : ChoiceOption) → o ∈ options w →

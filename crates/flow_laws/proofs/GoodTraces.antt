@@ -2,13 +2,13 @@
 use Rattle.std.proofs.Common.{ℕ, ◌↔◌, true, List, [], ◌∷◌}
 use Rattle.flow_model.specs.declared.labels.Label.{Label}
 use Rattle.flow_model.specs.Lists.{◌∈◌, Each}
-use Rattle.flow_model.specs.Process.{leaves}
+use Rattle.flow_model.specs.Process.{Process, leaves}
 use Rattle.flow_model.specs.Trace.{Trace}
 use Rattle.flow_model.specs.Facts.{events_of}
 use Rattle.flow_model.specs.Constraint.{Constraint, Always, And, Meets, all_of}
 use Rattle.flow_model.specs.Ways.{normal_form, ways_of}
 use Rattle.flow_model.specs.Schema.{Schema, IsGood}
-use Rattle.flow_model.specs.Resolution.{ChoiceOption, OptionTrace, options}
+use Rattle.flow_model.specs.Resolution.{ChoiceOption, OptionTrace, options, resolutions}
 use Rattle.flow_laws.specs.Words.{IsWellFormed}
 use Rattle.flow_laws.proofs.TraceLeaves.{leaf_of_trace, leaf_in_trace}
 use Rattle.flow_laws.proofs.ResolutionsLemmas.{blocks_of_a_resolution, resolves_of, choice_free_resolution, goal_trace}
@@ -41,38 +41,22 @@ all_of_is ds events =
     (λ h. (to h).1, λ h. from (tt, h))
 
 -- an execution of a resolution has its leaves, and no event twice
-pub has_its_leaves : (w : Schema) → IsWellFormed w → (o : ChoiceOption) → o ∈ options w → (t : List ℕ) → Trace o.resolution t →
-    AreItsLeaves w.labels t (leaves o.resolution)
-has_its_leaves w f o m t h =
-    let k = (option_parts w o m).0 in
-    record {
-      distinct = f.unique t (goal_trace w.goal o.resolution k t h);
-      same = λ n. (
-        leaf_of_trace o.resolution t h n,
-        leaf_in_trace o.resolution (choice_free_resolution w.goal o.resolution (resolves_of w.goal o.resolution k)) t h n,
-      );
-    }
+has_its_leaves : (w : Schema) → IsWellFormed w → (q : Process) → q ∈ resolutions w.goal → (t : List ℕ) → Trace q t → AreItsLeaves w.labels t (leaves q)
+has_its_leaves w f q m t h =
+    let free = choice_free_resolution w.goal q (resolves_of w.goal q m) in
+    record { distinct = f.unique t (goal_trace w.goal q m t h); same = λ n. (leaf_of_trace q t h n, leaf_in_trace q free t h n) }
 
 pub option_of_good : (w : Schema) → IsWellFormed w → (t : List ℕ) → IsGood w t →
     (o : ChoiceOption) × (o ∈ options w) × OptionTrace o t
 option_of_good w f t ((bs, h, e), met) =
     let (q, m, k) = blocks_of_a_resolution w.goal bs h in
     let trace : Trace q t = (bs, k, e) in
-    let l : AreItsLeaves w.labels t (leaves q) = record {
-      distinct = f.unique t (bs, h, e);
-      same = λ n. (
-        leaf_of_trace q t trace n,
-        leaf_in_trace q (choice_free_resolution w.goal q (resolves_of w.goal q m)) t trace n,
-      );
-    } in
-    let (way, mw, s) = (constraint_by_ways (all_of w.rules) w.labels t (leaves q) l).0
+    let (way, mw, s) = (constraint_by_ways (all_of w.rules) w.labels t (leaves q) (has_its_leaves w f q m t trace)).0
     ((all_of_is w.rules (events_of w.labels t)).1 met) in
     (record { resolution = q; order = way }, mem-options w q way m mw, (trace, s))
 
 pub option_trace_is_good : (w : Schema) → IsWellFormed w → (t : List ℕ) (o : ChoiceOption) → o ∈ options w → OptionTrace o t → IsGood w t
 option_trace_is_good w f t o m (h, s) =
-    let (mq, mw) = option_parts w o m in (
-      goal_trace w.goal o.resolution mq t h,
-      (all_of_is w.rules (events_of w.labels t)).0
-          ((constraint_by_ways (all_of w.rules) w.labels t (leaves o.resolution) (has_its_leaves w f o m t h)).1 (o.order, mw, s)),
-    )
+    let (mq, mw) = option_parts w o m in
+    let met = (constraint_by_ways (all_of w.rules) w.labels t (leaves o.resolution) (has_its_leaves w f o.resolution mq t h)).1 (o.order, mw, s) in
+    (goal_trace w.goal o.resolution mq t h, (all_of_is w.rules (events_of w.labels t)).0 met)

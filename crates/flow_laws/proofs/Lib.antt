@@ -1,5 +1,6 @@
-pub mod ListLemmas1
-pub mod ListLemmas2
+pub mod Members
+pub mod MadeLists
+pub mod Shuffles
 pub mod TraceLeaves
 pub mod ResolutionsLemmas
 pub mod WaysLemmas
@@ -8,12 +9,10 @@ pub mod NormalForms
 pub mod WaysDecide
 pub mod GoodTraces
 pub mod EventsLemmas
-pub mod ReadySplit
-pub mod ReadyRemains
-pub mod ReadyOrders
+pub mod GoalParts
+pub mod Orderings
 pub mod ReadyRuns
 pub mod OrdersByTwo
-pub mod CircleParts
 pub mod CircleExcludes
 pub mod CircleRing
 pub mod CircleSearch

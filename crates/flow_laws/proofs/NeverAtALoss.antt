@@ -5,10 +5,11 @@ use Rattle.flow_model.specs.Lists.{◌∈◌, Each, Begins, IsOrderOf, numbers_f
 use Rattle.flow_model.specs.Facts.{event_at}
 use Rattle.flow_model.specs.Schema.{Schema, IsGood}
 use Rattle.flow_model.specs.Resolution.{ChoiceOption, OptionTrace, options}
-use Rattle.flow_model.specs.Run.{Claim, RunState, first_state, state_of, current_claims, current_leaves, database, IsFree, CanTake, CanDoAside, IsLegal, IsStuck}
+use Rattle.flow_model.specs.Run.{Claim, RunState, first_state, state_of, current_claims, current_leaves, database, IsFree, MayFollow, CanTake, CanDoAside, IsLegal, IsStuck}
 use Rattle.flow_laws.specs.Words.{IsWellFormed, IsConsistent}
 use Rattle.flow_laws.specs.Histories.{IsSound, NeverWaits}
-use Rattle.flow_laws.proofs.ListLemmas2.{mem_append_right, order_of_none, order_of_one, numbers_from_below}
+use Rattle.flow_laws.proofs.Members.{mem_append_right}
+use Rattle.flow_laws.proofs.MadeLists.{order_of_none, order_of_one, numbers_from_below}
 use Rattle.flow_laws.proofs.TraceLeaves.{leaf_of_trace}
 use Rattle.flow_laws.proofs.RunLemmas.{always_holds}
 use Rattle.flow_laws.proofs.SoundStates.{first_is_kept, kept_from}
@@ -38,34 +39,18 @@ next_leaf w f s o m none t n rest trace free e = step (event_at w.labels n) refl
         let in_goal : n ∈ numbers_from 0 (length w.labels) = subst (λ w. n ∈ w) f.numbered (leaf_of_trace w.goal t free.0.0 n in_trace) in
         omega (arith, numbers_from_below 0 (length w.labels) n in_goal)
 
+    follows : (next : List ℕ) → next ≡ n ∷ [] → MayFollow w s o next
+    follows next one = (t, trace, free, subst (λ w. Begins t (s.journal ++ w)) (sym one) begins)
+
     step : (event : Option ℕ) → event_at w.labels n ≡ event → CanGoOn w s
-    step (Some x) i = (
-      n,
-      inl (
-        ap is_some i,
-        (λ l. subst (λ w. n ∈ w) none l),
-        (
-          o,
-          m,
-          λ order p.
-              let one : order ≡ n ∷ [] = order_of_one order n (subst (λ w. IsOrderOf order (w ++ n ∷ [])) none p) in
-              (t, trace, free, subst (λ w. Begins t (s.journal ++ w)) (sym one) begins),
-        ),
-      ),
-    )
-    step None i = (
-      n,
-      inr (
-        (within, i),
-        (
-          o,
-          m,
-          λ order p.
-              let empty : order ≡ [] = order_of_none order (subst (IsOrderOf order) none p) in
-              (t, trace, free, subst (λ w. Begins t (s.journal ++ n ∷ w)) (sym empty) begins),
-        ),
-      ),
-    )
+    step (Some x) i =
+        let alone = λ (order : List ℕ) (p : IsOrderOf order (current_leaves s ++ n ∷ [])).
+        follows order (order_of_one order n (subst (λ w. IsOrderOf order (w ++ n ∷ [])) none p)) in
+        (n, inl (ap is_some i, (λ l. subst (λ w. n ∈ w) none l), (o, m, alone)))
+    step None i =
+        let first = λ (order : List ℕ) (p : IsOrderOf order (current_leaves s)).
+        follows (n ∷ order) (ap (λ w. n ∷ w) (order_of_none order (subst (IsOrderOf order) none p))) in
+        (n, inr ((within, i), (o, m, first)))
 
 pub goes_on : (w : Schema) → IsWellFormed w → (s : RunState) → IsSound w s → ¬ (IsGood w s.journal) → current_claims s ≡ [] → CanGoOn w s
 goes_on w f s h unfinished none =

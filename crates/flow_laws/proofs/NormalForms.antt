@@ -4,7 +4,7 @@ use Rattle.flow_model.specs.Lists.{◌∈◌, StandsBefore}
 use Rattle.flow_model.specs.Constraint.{Constraint, Always, Impossible, Must, Never, Order, Not, And, Or, Meets, HappenInOrder}
 use Rattle.flow_model.specs.Ways.{Normal, always, impossible, must, never, before, not_before, both, either, normal_form, chain, broken_chain}
 use Rattle.flow_model.specs.Decided.{decide_in, decide_before, decide_meets}
-use Rattle.flow_laws.proofs.ListLemmas2.{before_members}
+use Rattle.flow_laws.proofs.Members.{before_members}
 
 -- the normal form is true of the whole list of an execution's events
 abbrev pub MeetsNormal : Normal → List ℕ → Type 0

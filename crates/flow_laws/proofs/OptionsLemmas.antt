@@ -1,16 +1,15 @@
 -- Options: what each has.
-use Rattle.std.proofs.Common.{◌≡◌, ◌≢◌, ℕ, List, length, sym, ap, subst, Some, subst₂, true}
+use Rattle.std.proofs.Common.{◌≡◌, ◌≢◌, ℕ, List, length, sym, ap, subst, subst₂, true}
 use Rattle.flow_model.specs.Lists.{◌∈◌, AreDistinct}
 use Rattle.flow_model.specs.Process.{Process, leaves}
-use Rattle.flow_model.specs.Facts.{event_at}
 use Rattle.flow_model.specs.Constraint.{all_of}
 use Rattle.flow_model.specs.Ways.{normal_form, leaf_of_event}
 use Rattle.flow_model.specs.Schema.{Schema}
 use Rattle.flow_model.specs.Resolution.{ChoiceOption, options, options_in, ways_in, resolutions}
 use Rattle.flow_laws.specs.Words.{IsWellFormed, IsOrdered}
-use Rattle.flow_laws.proofs.ListLemmas2.{of_flat_map, of_map, mem-flat_map, mem-map, distinct-numbers_from}
+use Rattle.flow_laws.proofs.MadeLists.{of_flat_map, of_map, mem-flat_map, mem-map, distinct-numbers_from}
 use Rattle.flow_laws.proofs.ResolutionsLemmas.{resolves_of, choice_free_resolution, distinct_leaves_of_resolution}
-use Rattle.flow_laws.proofs.WaysLemmas.{each_pair, leaf_of_event_is}
+use Rattle.flow_laws.proofs.WaysLemmas.{each_pair, leaf_of_event_is, same_event}
 
 pub option_parts : (w : Schema) (o : ChoiceOption) → o ∈ options w → (o.resolution ∈ resolutions w.goal) × (o.order ∈ ways_in w o.resolution)
 option_parts w o m =
@@ -31,15 +30,6 @@ mem-options w q way mq mw =
 pub distinct_leaves : (w : Schema) → IsWellFormed w → AreDistinct (leaves w.goal)
 distinct_leaves w f = subst AreDistinct (sym f.numbered) (distinct-numbers_from 0 (length w.labels))
 
--- one leaf has one event
-pub same_event : (w : Schema) (ls : List ℕ) (a b x y : ℕ) →
-    leaf_of_event w.labels ls a ≡ Some x → leaf_of_event w.labels ls b ≡ Some y → x ≡ y → a ≡ b
-same_event w ls a b x y i j e =
-    let at_x : event_at w.labels x ≡ Some a = (leaf_of_event_is w.labels ls a x i).1 in
-    let at_y : event_at w.labels y ≡ Some b = (leaf_of_event_is w.labels ls b y j).1 in
-    let at_x_too : event_at w.labels x ≡ Some b = subst (λ n. event_at w.labels n ≡ Some b) (sym e) at_y in
-    cc
-
 pub option_is_ordered : (w : Schema) → IsWellFormed w → (o : ChoiceOption) → o ∈ options w → IsOrdered o.resolution o.order
 option_is_ordered w f o m =
     let (mq, mw) = option_parts w o m in
@@ -52,6 +42,6 @@ option_is_ordered w f o m =
           (λ a b x y d i j. ((leaf_of_event_is w.labels (leaves o.resolution) a x i).0, (leaf_of_event_is w.labels (leaves o.resolution) b y j).0))
           (normal_form (all_of w.rules) true) o.order mw;
       different = each_pair (λ pair. pair.0 ≢ pair.1) leaf
-          (λ a b x y d i j e. d (same_event w (leaves o.resolution) a b x y i j e))
+          (λ a b x y d i j e. d (same_event w.labels (leaves o.resolution) a b x y i j e))
           (normal_form (all_of w.rules) true) o.order mw;
     }

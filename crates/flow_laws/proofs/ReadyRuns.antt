@@ -1,42 +1,34 @@
 -- Ready runs and the executions of an option, leaf by leaf.
-use Rattle.std.proofs.Common.{◌≡◌, ◌≢◌, ℕ, List, [], ◌∷◌, ◌++◌, refl, sym, ap, ◌∙◌, subst, inl, inr, ⊎_elim, append_assoc, append-nil}
-use Rattle.flow_model.specs.Lists.{◌∈◌, AreDistinct, AreInOrder, StandsBefore, Begins}
-use Rattle.flow_model.specs.Process.{Process, Empty, Task, Sequence, Parallel, Choice, Isolated, leaves}
+use Rattle.std.proofs.Common.{◌≡◌, ◌≢◌, ℕ, List, [], ◌∷◌, ◌++◌, ◌↔◌, refl, sym, ap, ◌∙◌, subst, inl, inr, ⊎_elim, append_assoc, append-nil}
+use Rattle.flow_model.specs.Lists.{◌∈◌, AreDistinct, AreInOrder, StandsBefore, Begins, joined}
+use Rattle.flow_model.specs.Process.{Process, leaves, IsChoiceFree}
 use Rattle.flow_model.specs.Trace.{Trace}
 use Rattle.flow_model.specs.Ready.{InSequence, DirectlyBefore, isolated_parts, IsReady, DoneOr, IsReadyRunAfter, IsReadyRun, IsCompleteRun}
 use Rattle.flow_laws.specs.Words.{IsOrdered}
 use Rattle.flow_laws.specs.ReadyRuns.{CompleteRunsAreTraces, FrontsAreReady}
-use Rattle.flow_laws.proofs.ListLemmas1.{mem_here, each_at, split_at, distinct_left, distinct_right, distinct_apart, not_elsewhere, before_second, before_across, before_right, in_front, not_both_ways}
-use Rattle.flow_laws.proofs.ReadyRemains.{sequence_first, sequence_second, part_within}
-use Rattle.flow_laws.proofs.ReadyOrders.{IsOrdering, ordering_of_trace, trace_of_ordering}
-use Rattle.flow_laws.proofs.ListLemmas2.{mem-append, each_from_members}
+use Rattle.flow_laws.proofs.Members.{mem_here, each_member, split_at, not_elsewhere, before_members, before_across, before_right, in_front, not_before_itself, not_both_ways, mem-append, each_from_members}
+use Rattle.flow_laws.proofs.TraceLeaves.{some_blocks, distinct_blocks}
+use Rattle.flow_laws.proofs.GoalParts.{sequence_first, sequence_second, part_within, case_of}
+use Rattle.flow_laws.proofs.Orderings.{IsOrdering, before_in_blocks, ordering_of_trace, trace_of_ordering}
 
 -- what is directly before what
 
 pub direct_first : (q : Process) (pairs : List (ℕ × ℕ)) → IsOrdered q pairs → (x y : ℕ) → DirectlyBefore q pairs x y → x ∈ leaves q
 direct_first q pairs w x y (inl h) = sequence_first q x y h
-direct_first q pairs w x y (inr m) = (each_at (λ pair. (pair.0 ∈ leaves q) × (pair.1 ∈ leaves q)) pairs (x, y) w.of_leaves m).0
+direct_first q pairs w x y (inr m) = (each_member (λ pair. (pair.0 ∈ leaves q) × (pair.1 ∈ leaves q)) pairs w.of_leaves (x, y) m).0
 
 pub direct_second : (q : Process) (pairs : List (ℕ × ℕ)) → IsOrdered q pairs → (x y : ℕ) → DirectlyBefore q pairs x y → y ∈ leaves q
 direct_second q pairs w x y (inl h) = sequence_second q x y h
-direct_second q pairs w x y (inr m) = (each_at (λ pair. (pair.0 ∈ leaves q) × (pair.1 ∈ leaves q)) pairs (x, y) w.of_leaves m).1
+direct_second q pairs w x y (inr m) = (each_member (λ pair. (pair.0 ∈ leaves q) × (pair.1 ∈ leaves q)) pairs w.of_leaves (x, y) m).1
 
-sequence_other : (g : Process) (x : ℕ) → AreDistinct (leaves g) → ¬ (InSequence g x x)
-sequence_other Empty x d h = h
-sequence_other (Task n) x d h = h
-sequence_other (Sequence a b) x d (inl (inl h)) = distinct_apart (leaves a) (leaves b) d x h.0 h.1
-sequence_other (Sequence a b) x d (inl (inr h)) = sequence_other a x (distinct_left (leaves a) (leaves b) d) h
-sequence_other (Sequence a b) x d (inr h) = sequence_other b x (distinct_right (leaves a) (leaves b) d) h
-sequence_other (Parallel a b) x d (inl h) = sequence_other a x (distinct_left (leaves a) (leaves b) d) h
-sequence_other (Parallel a b) x d (inr h) = sequence_other b x (distinct_right (leaves a) (leaves b) d) h
-sequence_other (Choice a b) x d (inl h) = sequence_other a x (distinct_left (leaves a) (leaves b) d) h
-sequence_other (Choice a b) x d (inr h) = sequence_other b x (distinct_right (leaves a) (leaves b) d) h
-sequence_other (Isolated a) x d h = sequence_other a x d h
+sequence_other : (g : Process) (x : ℕ) → IsChoiceFree g → AreDistinct (leaves g) → ¬ (InSequence g x x)
+sequence_other g x f d h =
+    let (bs, b) = some_blocks g in not_before_itself x (joined bs) (distinct_blocks g d bs b) (before_in_blocks g f bs b x x h)
 
 -- no leaf is directly before itself
 pub direct_other : (q : Process) (pairs : List (ℕ × ℕ)) → IsOrdered q pairs → (x y : ℕ) → DirectlyBefore q pairs x y → x ≢ y
-direct_other q pairs w x y (inl h) e = sequence_other q y w.distinct (subst (λ z. InSequence q z y) e h)
-direct_other q pairs w x y (inr m) e = each_at (λ pair. pair.0 ≢ pair.1) pairs (x, y) w.different m e
+direct_other q pairs w x y (inl h) e = sequence_other q y w.choice_free w.distinct (subst (λ z. InSequence q z y) e h)
+direct_other q pairs w x y (inr m) e = each_member (λ pair. pair.0 ≢ pair.1) pairs w.different (x, y) m e
 
 -- the executions of an option
 
@@ -50,7 +42,7 @@ arrangement_of q pairs t w h k = record { ordering = ordering_of_trace t q w.cho
 
 pub direct_stands : (q : Process) (pairs : List (ℕ × ℕ)) (t : List ℕ) → IsArrangement q pairs t → (x y : ℕ) → DirectlyBefore q pairs x y → StandsBefore x y t
 direct_stands q pairs t a x y (inl h) = a.ordering.before x y h
-direct_stands q pairs t a x y (inr m) = each_at (λ pair. StandsBefore pair.0 pair.1 t) pairs (x, y) a.pairs_stand m
+direct_stands q pairs t a x y (inr m) = each_member (λ pair. StandsBefore pair.0 pair.1 t) pairs a.pairs_stand (x, y) m
 
 -- each leaf of an execution may come next after those before it
 pub ready_in_arrangement : (q : Process) (pairs : List (ℕ × ℕ)) (front : List ℕ) (n : ℕ) (back : List ℕ) → IsOrdered q pairs →
@@ -64,7 +56,7 @@ ready_in_arrangement q pairs front n back w a = record {
       (⊎_elim
       (λ e. absurd (l (subst (λ z. z ∈ leaves part) e p)))
       (λ i. absurd (o.together part m x n y k l p (before_across x n front (n ∷ back) h (inl refl)) (before_right n y front (n ∷ back) (inl (refl, i))))))
-      (mem-append y front (n ∷ back) (o.all y (part_within q part y m p)));
+      (mem-append y front (n ∷ back) (o.all y (part_within (case_of q) part y m p)));
   begins = λ part m k none x y l p b. ⊎_elim
       (λ i. i)
       (⊎_elim
@@ -94,39 +86,75 @@ same_run q pairs D E [] to from h = tt
 same_run q pairs D E (n ∷ run) to from h = (
   same_ready q pairs D E n to from h.0,
   same_run q pairs (DoneOr D (n ∷ [])) (DoneOr E (n ∷ [])) run
-      (λ x k. ⊎_elim (λ l. inl (to x l)) inr k) (λ x k. ⊎_elim (λ l. inl (from x l)) inr k) h.1,
+      (λ x. ⊎_elim (λ l. inl (to x l)) inr) (λ x. ⊎_elim (λ l. inl (from x l)) inr) h.1,
 )
 
+-- the same leaves are done
+abbrev pub AreSame : (ℕ → Type 0) → (ℕ → Type 0) → Type 0
+AreSame D E = (n : ℕ) → D n ↔ E n
+
+pub as_well : (q : Process) (pairs : List (ℕ × ℕ)) (D E : ℕ → Type 0) (run : List ℕ) → AreSame D E →
+    IsReadyRunAfter q pairs D run ↔ IsReadyRunAfter q pairs E run
+as_well q pairs D E run same =
+    (same_run q pairs D E run (λ n. (same n).0) (λ n. (same n).1), same_run q pairs E D run (λ n. (same n).1) (λ n. (same n).0))
+
 -- one more done leaf, told first or last
-done_join : (D : ℕ → Type 0) (m : ℕ) (more : List ℕ) (x : ℕ) → DoneOr (DoneOr D (m ∷ [])) more x → DoneOr D (m ∷ more) x
-done_join D m more x (inl (inl h)) = inl h
-done_join D m more x (inl (inr (inl e))) = inr (inl e)
-done_join D m more x (inl (inr (inr h))) = absurd h
-done_join D m more x (inr h) = inr (inr h)
+done_in_turn : (D : ℕ → Type 0) (n : ℕ) (run : List ℕ) → AreSame (DoneOr (DoneOr D (n ∷ [])) run) (DoneOr D (n ∷ run))
+done_in_turn D n run m = (
+  ⊎_elim (⊎_elim inl (λ l. inr (⊎_elim inl absurd l))) (λ l. inr (inr l)),
+  ⊎_elim (λ d. inl (inl d)) (⊎_elim (λ e. inl (inr (inl e))) inr),
+)
 
-done_part : (D : ℕ → Type 0) (m : ℕ) (more : List ℕ) (x : ℕ) → DoneOr D (m ∷ more) x → DoneOr (DoneOr D (m ∷ [])) more x
-done_part D m more x (inl h) = inl (inl h)
-done_part D m more x (inr (inl e)) = inl (inr (inl e))
-done_part D m more x (inr (inr h)) = inr h
+done_or_none : (D : ℕ → Type 0) → AreSame D (DoneOr D [])
+done_or_none D n = (inl, ⊎_elim (λ d. d) absurd)
 
--- each leaf of a ready run may come next after those before it
-pub run_at : (q : Process) (pairs : List (ℕ × ℕ)) (D : ℕ → Type 0) (front : List ℕ) (n : ℕ) (back : List ℕ) →
-    IsReadyRunAfter q pairs D (front ++ n ∷ back) → IsReady q pairs (DoneOr D front) n
-run_at q pairs D [] n back h = same_ready q pairs D (DoneOr D []) n (λ x k. inl k) (λ x k. ⊎_elim (λ l. l) absurd k) h.0
-run_at q pairs D (m ∷ front) n back h =
-    same_ready q pairs (DoneOr (DoneOr D (m ∷ [])) front) (DoneOr D (m ∷ front)) n (done_join D m front) (done_part D m front)
-    (run_at q pairs (DoneOr D (m ∷ [])) front n back h.1)
+-- two ready runs, one after the other, are one
+pub run-append : (q : Process) (pairs : List (ℕ × ℕ)) (D : ℕ → Type 0) (run more : List ℕ) →
+    IsReadyRunAfter q pairs D (run ++ more) ↔ (IsReadyRunAfter q pairs D run × IsReadyRunAfter q pairs (DoneOr D run) more)
+run-append q pairs D [] more =
+    let (there, back) = as_well q pairs D (DoneOr D []) more (done_or_none D) in
+    (λ h. (tt, there h), λ h. back h.1)
+run-append q pairs D (n ∷ run) more =
+    let (to, from) = run-append q pairs (DoneOr D (n ∷ [])) run more in
+    let (there, back) = as_well q pairs (DoneOr (DoneOr D (n ∷ [])) run) (DoneOr D (n ∷ run)) more (done_in_turn D n run) in
+    (λ h. let (k, l) = to h.1 in ((h.0, k), there l), λ h. (h.0.0, from (h.0.1, back h.1)))
 
--- and where this is so, the list is a ready run
+pub run_front : (q : Process) (pairs : List (ℕ × ℕ)) (D : ℕ → Type 0) (front back : List ℕ) → IsReadyRunAfter q pairs D (front ++ back) →
+    IsReadyRunAfter q pairs D front
+run_front q pairs D front back h = ((run-append q pairs D front back).0 h).0
+
+-- where each leaf of the list may come next after those before it, the list is a ready run
 pub run_of : (q : Process) (pairs : List (ℕ × ℕ)) (D : ℕ → Type 0) (run : List ℕ) →
     ((front : List ℕ) (n : ℕ) (back : List ℕ) → run ≡ front ++ n ∷ back → IsReady q pairs (DoneOr D front) n) → IsReadyRunAfter q pairs D run
 run_of q pairs D [] f = tt
 run_of q pairs D (n ∷ run) f = (
-  same_ready q pairs (DoneOr D []) D n (λ x k. ⊎_elim (λ l. l) absurd k) (λ x k. inl k) (f [] n run refl),
+  same_ready q pairs (DoneOr D []) D n (λ x. (done_or_none D x).1) (λ x. (done_or_none D x).0) (f [] n run refl),
   run_of q pairs (DoneOr D (n ∷ [])) run (λ front m back e.
-      same_ready q pairs (DoneOr D (n ∷ front)) (DoneOr (DoneOr D (n ∷ [])) front) m (done_part D n front) (done_join D n front)
+      let same = done_in_turn D n front in
+      same_ready q pairs (DoneOr D (n ∷ front)) (DoneOr (DoneOr D (n ∷ [])) front) m (λ x. (same x).1) (λ x. (same x).0)
       (f (n ∷ front) m back (ap (λ l. n ∷ l) e))),
 )
+
+-- nothing was done before the journal
+done_is_journal : (journal : List ℕ) → AreSame (DoneOr (λ n. ⊥) journal) (λ n. n ∈ journal)
+done_is_journal journal n = (⊎_elim absurd (λ m. m), inr)
+
+pub run_after_journal : (q : Process) (pairs : List (ℕ × ℕ)) (journal more : List ℕ) →
+    IsReadyRun q pairs (journal ++ more) ↔ (IsReadyRun q pairs journal × IsReadyRunAfter q pairs (λ n. n ∈ journal) more)
+run_after_journal q pairs journal more =
+    let (to, from) = run-append q pairs (λ n. ⊥) journal more in
+    let (there, back) = as_well q pairs (DoneOr (λ n. ⊥) journal) (λ n. n ∈ journal) more (done_is_journal journal) in
+    (λ h. let (k, l) = to h in (k, there l), λ h. from (h.0, back h.1))
+
+-- each leaf of a ready run may come next after those before it
+pub ready_at : (q : Process) (pairs : List (ℕ × ℕ)) (front : List ℕ) (n : ℕ) (back : List ℕ) → IsReadyRun q pairs (front ++ n ∷ back) →
+    IsReady q pairs (λ x. x ∈ front) n
+ready_at q pairs front n back h = ((run_after_journal q pairs front (n ∷ back)).0 h).1.0
+
+-- one more ready leaf
+pub run_grow : (q : Process) (pairs : List (ℕ × ℕ)) (run : List ℕ) (n : ℕ) → IsReadyRun q pairs run → IsReady q pairs (λ x. x ∈ run) n →
+    IsReadyRun q pairs (run ++ n ∷ [])
+run_grow q pairs run n h r = (run_after_journal q pairs run (n ∷ [])).1 (h, (r, tt))
 
 -- the leaves of a ready run are distinct and were not done
 pub run_distinct : (q : Process) (pairs : List (ℕ × ℕ)) (D : ℕ → Type 0) (run : List ℕ) → IsReadyRunAfter q pairs D run →
@@ -138,53 +166,14 @@ run_distinct q pairs D (n ∷ run) h =
       λ x k e. ⊎_elim (λ i. h.0.not_done (subst D i e)) (λ l. r.1 x l (inl e)) k,
     )
 
--- two ready runs, one after the other, are one
-pub run_join : (q : Process) (pairs : List (ℕ × ℕ)) (D : ℕ → Type 0) (front back : List ℕ) → IsReadyRunAfter q pairs D front →
-    IsReadyRunAfter q pairs (DoneOr D front) back → IsReadyRunAfter q pairs D (front ++ back)
-run_join q pairs D [] back h k = same_run q pairs (DoneOr D []) D back (λ x i. ⊎_elim (λ l. l) absurd i) (λ x i. inl i) k
-run_join q pairs D (n ∷ front) back h k = (
-  h.0,
-  run_join q pairs (DoneOr D (n ∷ [])) front back h.1
-      (same_run q pairs (DoneOr D (n ∷ front)) (DoneOr (DoneOr D (n ∷ [])) front) back (done_part D n front) (done_join D n front) k),
-)
-
-pub run_front : (q : Process) (pairs : List (ℕ × ℕ)) (D : ℕ → Type 0) (front back : List ℕ) → IsReadyRunAfter q pairs D (front ++ back) →
-    IsReadyRunAfter q pairs D front
-run_front q pairs D [] back h = tt
-run_front q pairs D (n ∷ front) back h = (h.0, run_front q pairs (DoneOr D (n ∷ [])) front back h.1)
-
-pub run_back : (q : Process) (pairs : List (ℕ × ℕ)) (D : ℕ → Type 0) (front back : List ℕ) → IsReadyRunAfter q pairs D (front ++ back) →
-    IsReadyRunAfter q pairs (DoneOr D front) back
-run_back q pairs D [] back h = same_run q pairs D (DoneOr D []) back (λ x i. inl i) (λ x i. ⊎_elim (λ l. l) absurd i) h
-run_back q pairs D (n ∷ front) back h =
-    same_run q pairs (DoneOr (DoneOr D (n ∷ [])) front) (DoneOr D (n ∷ front)) back (done_join D n front) (done_part D n front)
-    (run_back q pairs (DoneOr D (n ∷ [])) front back h.1)
-
--- the same where nothing was done at first
-pub ready_at : (q : Process) (pairs : List (ℕ × ℕ)) (front : List ℕ) (n : ℕ) (back : List ℕ) → IsReadyRun q pairs (front ++ n ∷ back) →
-    IsReady q pairs (λ x. x ∈ front) n
-ready_at q pairs front n back h =
-    same_ready q pairs (DoneOr (λ x. ⊥) front) (λ x. x ∈ front) n (λ x k. ⊎_elim absurd (λ l. l) k) (λ x k. inr k) (run_at q pairs (λ x. ⊥) front n back h)
-
-pub ready_run_of : (q : Process) (pairs : List (ℕ × ℕ)) (run : List ℕ) →
-    ((front : List ℕ) (n : ℕ) (back : List ℕ) → run ≡ front ++ n ∷ back → IsReady q pairs (λ x. x ∈ front) n) → IsReadyRun q pairs run
-ready_run_of q pairs run f = run_of q pairs (λ x. ⊥) run (λ front n back e.
-    same_ready q pairs (λ x. x ∈ front) (DoneOr (λ x. ⊥) front) n (λ x k. inr k) (λ x k. ⊎_elim absurd (λ l. l) k) (f front n back e))
-
--- one more ready leaf
-pub run_grow : (q : Process) (pairs : List (ℕ × ℕ)) (run : List ℕ) (n : ℕ) → IsReadyRun q pairs run → IsReady q pairs (λ x. x ∈ run) n →
-    IsReadyRun q pairs (run ++ n ∷ [])
-run_grow q pairs run n h r =
-    run_join q pairs (λ x. ⊥) run (n ∷ []) h
-    (same_ready q pairs (λ x. x ∈ run) (DoneOr (λ x. ⊥) run) n (λ x k. inr k) (λ x k. ⊎_elim absurd (λ l. l) k) r, tt)
-
 -- the two are one
 
 -- a front of an execution is a ready run
 pub front_ready : (q : Process) (pairs : List (ℕ × ℕ)) (t front : List ℕ) → IsOrdered q pairs → IsArrangement q pairs t → Begins t front → IsReadyRun q pairs front
-front_ready q pairs t front w a b = ready_run_of q pairs front (λ done n back e.
+front_ready q pairs t front w a b = run_of q pairs (λ x. ⊥) front (λ done n back e.
     let whole : t ≡ done ++ n ∷ (back ++ b.0) = b.1 ∙ ap (λ l. l ++ b.0) e ∙ append_assoc done (n ∷ back) b.0 in
-    ready_in_arrangement q pairs done n (back ++ b.0) w (subst (IsArrangement q pairs) whole a))
+    same_ready q pairs (λ x. x ∈ done) (DoneOr (λ x. ⊥) done) n (λ x. inr) (λ x. ⊎_elim absurd (λ l. l))
+    (ready_in_arrangement q pairs done n (back ++ b.0) w (subst (IsArrangement q pairs) whole a)))
 
 -- a complete ready run is an execution
 pub complete_arranged : (q : Process) (pairs : List (ℕ × ℕ)) (t : List ℕ) → IsOrdered q pairs → IsCompleteRun q pairs t → IsArrangement q pairs t
@@ -214,7 +203,7 @@ complete_arranged q pairs t w h = record {
     apart : (part : Process) → part ∈ isolated_parts q → (x y z : ℕ) → x ∈ leaves part → ¬ (y ∈ leaves part) → z ∈ leaves part →
         StandsBefore x y t → StandsBefore y z t → ⊥
     apart part m x y z k l p b c =
-        let s = split_at y t (before_second x y t b) in
+        let s = split_at y t ((before_members x y t b).1) in
         let x_in = in_front x y s.0 s.1 (subst AreDistinct s.2 d) (subst (StandsBefore x y) s.2 b) in
         let z_in = (ready_at q pairs s.0 y s.1 (subst (IsReadyRun q pairs) s.2 h.0)).outside part m l x z k x_in p in
         not_both_ways y z t d c (stands_at z y s.0 s.1 s.2 z_in)

@@ -14,10 +14,11 @@ use Rattle.flow_model.specs.Resolution.{ChoiceOption}
 use Rattle.flow_model.specs.Run.{Claim, RunState, first_state, current_leaves, is_current, claim_at, leaf_of_claim, IsCurrent, IsLapsed, database, IsFree, MayFollow, MayAllFollow, CanTake, CanDo, IsOpen, IsAllowed, answer, spare, with_new_epoch, next_state, state_after, IsLegalFrom}
 use Rattle.flow_laws.specs.Words.{IsWellFormed, IsConsistent}
 use Rattle.flow_laws.specs.Histories.{IsSound}
-use Rattle.flow_laws.proofs.ListLemmas2.{each-append, each_to, each_member, distinct-numbers_from, begins_front, begins_and_nothing, each-filter, order_of_none, order_with_last, numbers_from_more}
+use Rattle.flow_laws.proofs.Members.{each-append, each_to, each_member}
+use Rattle.flow_laws.proofs.MadeLists.{distinct-numbers_from, begins_front, begins_and_nothing, each-filter, order_of_none, order_with_last, numbers_from_more}
 use Rattle.flow_laws.proofs.GoodTraces.{option_of_good}
 use Rattle.flow_laws.proofs.RunLemmas.{runs-append, runs_front, event_holds}
-use Rattle.flow_laws.proofs.ClaimLemmas.{number_of, leaf_of, is_of, answer_keeps, numbers-answer, length-answer, taken_out, none_taken_out, leaf_of_claim_is, some_claim, lapsed_is_not_current, claim_in}
+use Rattle.flow_laws.proofs.ClaimLemmas.{number_of, leaf_of, is_of, answer_keeps, numbers-answer, taken_out, none_taken_out, leaf_of_claim_is, some_claim, lapsed_is_not_current, claim_in}
 use Rattle.flow_laws.proofs.SparedLemmas.{spare_keeps, numbers-spare, spared_are_current, spared_may_follow}
 
 -- A good execution that goes on from the journal
@@ -36,32 +37,35 @@ none_may_follow w f s t free =
       ),
     )
 
+-- the claims of a sound state
+record AreSoundClaims (w : Schema) (epoch : ℕ) (claims : List Claim) : Type 0 where
+  numbered : map number_of claims ≡ numbers_from 1 (length claims)
+  on_events : Each (λ (claim : Claim). IsEventLeaf w claim.leaf) claims
+  epochs : Each (λ (claim : Claim). claim.epoch ≤ epoch) claims
+
+sound_claims : (w : Schema) (s : RunState) → IsSound w s → AreSoundClaims w s.epoch s.claims
+sound_claims w s h = record { numbered = h.numbered; on_events = h.on_events; epochs = h.epochs }
+
+sound_with : (w : Schema) (s : RunState) → Runs w.labels (start_of w) s.journal → Each (λ ban. ban.0 ≤ length s.journal) s.bans →
+    AreSoundClaims w s.epoch s.claims → MayAllFollow w s (current_leaves s) → IsSound w s
+sound_with w s runs bans h extends =
+    record { runs = runs; bans = bans; numbered = h.numbered; on_events = h.on_events; epochs = h.epochs; extends = extends }
+
 pub first_is_kept : (w : Schema) → IsWellFormed w → IsConsistent w → IsSound w first_state
-first_is_kept w f (t, good) = record {
-  runs = tt;
-  bans = tt;
-  numbered = refl;
-  on_events = tt;
-  epochs = tt;
-  extends = none_may_follow w f first_state t (good, (t, refl), tt);
-}
+first_is_kept w f (t, good) = sound_with w first_state tt tt (record { numbered = refl; on_events = tt; epochs = tt })
+    (none_may_follow w f first_state t (good, (t, refl), tt))
 
 -- What an answer keeps
 
-pub answered_numbered : (s : RunState) (number : ℕ) → map number_of s.claims ≡ numbers_from 1 (length s.claims) →
-    map number_of (answer number s.claims) ≡ numbers_from 1 (length (answer number s.claims))
-answered_numbered s number e =
-    numbers-answer number s.claims ∙ (e ∙ ap (numbers_from 1) (sym (length-answer number s.claims)))
+answered_claims : (w : Schema) (epoch : ℕ) (claims : List Claim) → AreSoundClaims w epoch claims → (number : ℕ) →
+    AreSoundClaims w epoch (answer number claims)
+answered_claims w epoch claims h number = record {
+  numbered = numbers-answer number claims ∙ (h.numbered ∙ ap (numbers_from 1) (sym (length-map claims _)));
+  on_events = answer_keeps (λ (claim : Claim). IsEventLeaf w claim.leaf) (λ claim k. k) number claims h.on_events;
+  epochs = answer_keeps (λ (claim : Claim). claim.epoch ≤ epoch) (λ claim k. k) number claims h.epochs;
+}
 
-pub answered_on_events : (w : Schema) (s : RunState) (number : ℕ) → Each (λ (claim : Claim). IsEventLeaf w claim.leaf) s.claims →
-    Each (λ (claim : Claim). IsEventLeaf w claim.leaf) (answer number s.claims)
-answered_on_events w s number h = answer_keeps (λ (claim : Claim). IsEventLeaf w claim.leaf) (λ claim k. k) number s.claims h
-
-pub answered_epochs : (epoch : ℕ) (claims : List Claim) (number : ℕ) → Each (λ (claim : Claim). claim.epoch ≤ epoch) claims →
-    Each (λ (claim : Claim). claim.epoch ≤ epoch) (answer number claims)
-answered_epochs epoch claims number h = answer_keeps (λ (claim : Claim). claim.epoch ≤ epoch) (λ claim k. k) number claims h
-
-pub distinct_numbers : (s : RunState) → map number_of s.claims ≡ numbers_from 1 (length s.claims) → AreDistinct (map number_of s.claims)
+distinct_numbers : (s : RunState) → map number_of s.claims ≡ numbers_from 1 (length s.claims) → AreDistinct (map number_of s.claims)
 distinct_numbers s e = subst AreDistinct (sym e) (distinct-numbers_from 1 (length s.claims))
 
 -- a current claim: its leaf among the current ones, and those without it
@@ -110,34 +114,29 @@ follow_after w s o leaf claims more (t, trace, free, (rest, e)) =
 
 -- A new epoch
 
-later : (a b : ℕ) → a ≤ b → a ≤ b + 1
-later a b k = omega arith
-
 -- all but its claims is sound, and some free execution goes on
-pub kept_new_epoch : (w : Schema) → IsWellFormed w → (s : RunState) → Runs w.labels (start_of w) s.journal →
-    Each (λ ban. ban.0 ≤ length s.journal) s.bans → map number_of s.claims ≡ numbers_from 1 (length s.claims) →
-    Each (λ (claim : Claim). IsEventLeaf w claim.leaf) s.claims → Each (λ (claim : Claim). claim.epoch ≤ s.epoch) s.claims →
+kept_new_epoch : (w : Schema) → IsWellFormed w → (s : RunState) → Runs w.labels (start_of w) s.journal →
+    Each (λ ban. ban.0 ≤ length s.journal) s.bans → AreSoundClaims w s.epoch s.claims →
     (t : List ℕ) → IsFree w s t → IsSound w (with_new_epoch w s)
-kept_new_epoch w f s runs bans numbered on_events epochs t free =
+kept_new_epoch w f s runs bans h t free =
     let numbers = numbers-spare w s [] s.claims in
     let count : length s.claims ≡ length (spare w s [] s.claims) =
     sym (length-map s.claims number_of) ∙ (sym (ap length numbers) ∙ length-map (spare w s [] s.claims) number_of) in
-    record {
-      runs = runs;
-      bans = bans;
-      numbered = numbers ∙ (numbered ∙ ap (numbers_from 1) count);
-      on_events = spare_keeps (λ (claim : Claim). IsEventLeaf w claim.leaf) w s (λ claim k. k) [] s.claims on_events;
+    let later : (a : ℕ) → a ≤ s.epoch → a ≤ s.epoch + 1 = λ a k. omega arith in
+    let claims : AreSoundClaims w (s.epoch + 1) (spare w s [] s.claims) = record {
+      numbered = numbers ∙ (h.numbered ∙ ap (numbers_from 1) count);
+      on_events = spare_keeps (λ (claim : Claim). IsEventLeaf w claim.leaf) w s (λ claim k. k) [] s.claims h.on_events;
       epochs = spare_keeps (λ (claim : Claim). claim.epoch ≤ s.epoch + 1) w s (λ claim k. le_refl (s.epoch + 1)) [] s.claims
-          (each_to _ _ s.claims (λ (claim : Claim) k. later claim.epoch s.epoch k) epochs);
-      extends = subst (MayAllFollow w s) (sym (spared_are_current w s [] s.claims epochs))
-          (spared_may_follow w s [] s.claims (none_may_follow w f s t free));
-    }
+          (each_to _ _ s.claims (λ (claim : Claim) k. later claim.epoch k) h.epochs);
+    } in
+    sound_with w (with_new_epoch w s) runs bans claims
+    (subst (MayAllFollow w s) (sym (spared_are_current w s [] s.claims h.epochs)) (spared_may_follow w s [] s.claims (none_may_follow w f s t free)))
 
 -- Row by row
 
 pub kept_took : (w : Schema) (s : RunState) → IsSound w s → (claim leaf : ℕ) → claim ≡ length s.claims + 1 → CanTake w s leaf →
     IsSound w (next_state w s (Took claim leaf))
-kept_took w s h claim leaf e can =
+kept_took w s h claim leaf e (event, unclaimed, (o, m, follow)) =
     let new : Claim = record { number = claim; leaf = leaf; epoch = s.epoch; answered = false } in
     let count : suc (length s.claims) ≡ length (s.claims ++ new ∷ []) = omega (arith, length-append s.claims (new ∷ [])) in
     let next : claim ≡ 1 + length s.claims = omega arith in
@@ -145,98 +144,68 @@ kept_took w s h claim leaf e can =
     ap (map leaf_of) (filter-append (is_of s.epoch) s.claims (new ∷ []))
     ∙ (map-append leaf_of (filter (is_of s.epoch) s.claims) (filter (is_of s.epoch) (new ∷ []))
     ∙ ap (λ b. current_leaves s ++ map leaf_of (cond b (new ∷ []) [])) (eq-eqb s.epoch s.epoch refl)) in
-    let (event, unclaimed, (o, m, follow)) = can in
-    record {
-      runs = h.runs;
-      bans = h.bans;
+    let claims : AreSoundClaims w s.epoch (s.claims ++ new ∷ []) = record {
       numbered = map-append number_of s.claims (new ∷ [])
           ∙ (ap (λ w. w ++ claim ∷ []) h.numbered
           ∙ (ap (λ n. numbers_from 1 (length s.claims) ++ n ∷ []) next
           ∙ (sym (numbers_from_more 1 (length s.claims)) ∙ ap (numbers_from 1) count)));
       on_events = each-append _ s.claims (new ∷ []) h.on_events (event, tt);
-      extends = (o, m, λ order p. follow order (subst (IsOrderOf order) now p));
       epochs = each-append _ s.claims (new ∷ []) h.epochs (le_refl s.epoch, tt);
-    }
+    } in
+    sound_with w (next_state w s (Took claim leaf)) h.runs h.bans claims (o, m, λ order p. follow order (subst (IsOrderOf order) now p))
 
 pub kept_done : (w : Schema) (s : RunState) → IsSound w s → (claim : ℕ) → IsCurrent s claim → IsSound w (next_state w s (Done claim))
 kept_done w s h claim current =
     let leaf = leaf_of_claim s claim in
     let taken = taken_of_current w s h claim current in
     let (o, m, follow) = h.extends in
-    record {
-      runs = runs-append w.labels (start_of w) s.journal (leaf ∷ []) h.runs
-          (event_holds w (database w s) leaf (event_of_taken w s h claim taken), tt);
-      bans = longer_bans s.journal leaf s.bans h.bans;
-      numbered = answered_numbered s claim h.numbered;
-      on_events = answered_on_events w s claim h.on_events;
-      extends = (
-        o,
-        m,
-        λ order p. follow_after w s o leaf (answer claim s.claims) order
-            (follow (leaf ∷ order) (taken.front, taken.back, taken.whole, subst (IsOrderOf order) taken.left p)),
-      );
-      epochs = answered_epochs s.epoch s.claims claim h.epochs;
-    }
+    sound_with w (next_state w s (Done claim))
+    (runs-append w.labels (start_of w) s.journal (leaf ∷ []) h.runs (event_holds w (database w s) leaf (event_of_taken w s h claim taken), tt))
+    (longer_bans s.journal leaf s.bans h.bans) (answered_claims w s.epoch s.claims (sound_claims w s h) claim) (
+      o,
+      m,
+      λ order p. follow_after w s o leaf (answer claim s.claims) order
+          (follow (leaf ∷ order) (taken.front, taken.back, taken.whole, subst (IsOrderOf order) taken.left p)),
+    )
 
 pub kept_failed : (w : Schema) (s : RunState) → IsSound w s → (claim : ℕ) → IsCurrent s claim → IsSound w (next_state w s (Failed claim Kept))
 kept_failed w s h claim current =
     let leaf = leaf_of_claim s claim in
     let taken = taken_of_current w s h claim current in
     let (o, m, follow) = h.extends in
-    record {
-      runs = h.runs;
-      bans = h.bans;
-      numbered = answered_numbered s claim h.numbered;
-      on_events = answered_on_events w s claim h.on_events;
-      extends = (
-        o,
-        m,
-        λ order p.
-            let (t, trace, free, (rest, e)) = follow (order ++ leaf ∷ []) (subst (IsOrderOf (order ++ leaf ∷ [])) (sym taken.whole)
-            (order_with_last order leaf taken.front taken.back (subst (IsOrderOf order) taken.left p))) in (
-              t,
-              trace,
-              free,
-              begins_front t (s.journal ++ order) (leaf ∷ [])
-                  (rest, e ∙ ap (λ w. w ++ rest) (sym (append_assoc s.journal order (leaf ∷ [])))),
-            ),
-      );
-      epochs = answered_epochs s.epoch s.claims claim h.epochs;
-    }
+    sound_with w (next_state w s (Failed claim Kept)) h.runs h.bans (answered_claims w s.epoch s.claims (sound_claims w s h) claim) (
+      o,
+      m,
+      λ order p.
+          let (t, trace, free, (rest, e)) = follow (order ++ leaf ∷ []) (subst (IsOrderOf (order ++ leaf ∷ [])) (sym taken.whole)
+          (order_with_last order leaf taken.front taken.back (subst (IsOrderOf order) taken.left p))) in (
+            t,
+            trace,
+            free,
+            begins_front t (s.journal ++ order) (leaf ∷ []) (rest, e ∙ ap (λ w. w ++ rest) (sym (append_assoc s.journal order (leaf ∷ [])))),
+          ),
+    )
 
 pub kept_switched : (w : Schema) → IsWellFormed w → (s : RunState) → IsSound w s → (claim : ℕ) →
     (t : List ℕ) × IsFree w s t × ¬ (leaf_of_claim s claim ∈ t) → IsSound w (next_state w s (Failed claim Switched))
 kept_switched w f s h claim (t, free, lacks) =
-    let leaf = leaf_of_claim s claim in
-    let bans = s.bans ++ (length s.journal, leaf) ∷ [] in
-    kept_new_epoch w f (record s { bans = bans; claims = answer claim s.claims }) h.runs
-    (each-append _ s.bans ((length s.journal, leaf) ∷ []) h.bans (le_refl (length s.journal), tt))
-    (answered_numbered s claim h.numbered) (answered_on_events w s claim h.on_events) (answered_epochs s.epoch s.claims claim h.epochs)
-    t (free.0, free.1, each-append _ s.bans ((length s.journal, leaf) ∷ []) free.2 (lacks, tt))
+    let ban : ℕ × ℕ = (length s.journal, leaf_of_claim s claim) in
+    kept_new_epoch w f (record s { bans = s.bans ++ ban ∷ []; claims = answer claim s.claims }) h.runs
+    (each-append _ s.bans (ban ∷ []) h.bans (le_refl (length s.journal), tt)) (answered_claims w s.epoch s.claims (sound_claims w s h) claim)
+    t (free.0, free.1, each-append _ s.bans (ban ∷ []) free.2 (lacks, tt))
 
 pub kept_late : (w : Schema) (s : RunState) → IsSound w s → (claim : ℕ) → IsLapsed s claim → IsSound w (next_state w s (Late claim))
 kept_late w s h number lapsed =
     let (claim, e, k) = some_claim (λ claim. IsTrue (not claim.answered && nat_lt claim.epoch s.epoch)) (claim_at s number) lapsed in
     let same = none_taken_out s.epoch number s.claims claim (distinct_numbers s h.numbered) e (lapsed_is_not_current s.epoch claim k) in
     let (o, m, follow) = h.extends in
-    record {
-      runs = h.runs;
-      bans = h.bans;
-      numbered = answered_numbered s number h.numbered;
-      on_events = answered_on_events w s number h.on_events;
-      extends = (o, m, λ order p. follow order (subst (IsOrderOf order) (ap (map leaf_of) same) p));
-      epochs = answered_epochs s.epoch s.claims number h.epochs;
-    }
+    sound_with w (next_state w s (Late number)) h.runs h.bans (answered_claims w s.epoch s.claims (sound_claims w s h) number)
+    (o, m, λ order p. follow order (subst (IsOrderOf order) (ap (map leaf_of) same) p))
 
 pub kept_did : (w : Schema) (s : RunState) → IsSound w s → (leaf : ℕ) → CanDo w s leaf → IsSound w (next_state w s (Did leaf))
-kept_did w s h leaf ((other, (o, m, follow)), holds) = record {
-  runs = runs-append w.labels (start_of w) s.journal (leaf ∷ []) h.runs (holds, tt);
-  bans = longer_bans s.journal leaf s.bans h.bans;
-  numbered = h.numbered;
-  on_events = h.on_events;
-  extends = (o, m, λ order p. follow_after w s o leaf s.claims order (follow order p));
-  epochs = h.epochs;
-}
+kept_did w s h leaf ((other, (o, m, follow)), holds) =
+    sound_with w (next_state w s (Did leaf)) (runs-append w.labels (start_of w) s.journal (leaf ∷ []) h.runs (holds, tt))
+    (longer_bans s.journal leaf s.bans h.bans) (sound_claims w s h) (o, m, λ order p. follow_after w s o leaf s.claims order (follow order p))
 
 pub kept_rewound : (w : Schema) → IsWellFormed w → (s : RunState) → IsSound w s → (i : ℕ) → IsOpen w s i → IsSound w (next_state w s (Rewound i))
 kept_rewound w f s h i (below, (t, good, begins, unbanned, lacks)) =
@@ -250,23 +219,13 @@ kept_rewound w f s h i (below, (t, good, begins, unbanned, lacks)) =
     (each-filter _ _ (λ (ban : ℕ × ℕ). nat_le ban.0 i) s.bans
     (λ ban k _. subst (λ n. ban.0 ≤ n) (sym long) (leb-true ban.0 i k)) h.bans)
     (subst (λ n. i ≤ n) (sym long) (le_refl i), tt))
-    h.numbered h.on_events h.epochs t (
+    (sound_claims w s h) t (
       good,
       begins,
       each-append _ left (here ∷ [])
           (each-filter _ _ (λ (ban : ℕ × ℕ). nat_le ban.0 i) s.bans (λ ban k none. none (leb-true ban.0 i k)) unbanned)
           (lacks, tt),
     )
-
-pub kept_committed : (w : Schema) (s : RunState) → IsSound w s → IsSound w (next_state w s Committed)
-kept_committed w s h = record {
-  runs = h.runs;
-  bans = h.bans;
-  numbered = h.numbered;
-  on_events = h.on_events;
-  extends = h.extends;
-  epochs = h.epochs;
-}
 
 pub kept_next : (w : Schema) → IsWellFormed w → (s : RunState) → IsSound w s → (step : Step) → IsAllowed w s step → IsSound w (next_state w s step)
 kept_next w f s h (Took claim leaf) a = kept_took w s h claim leaf a.0 a.1
@@ -276,7 +235,7 @@ kept_next w f s h (Failed claim Kept) a = kept_failed w s h claim a.0
 kept_next w f s h (Late claim) a = kept_late w s h claim a
 kept_next w f s h (Did leaf) a = kept_did w s h leaf a
 kept_next w f s h (Rewound i) a = kept_rewound w f s h i a.0
-kept_next w f s h Committed a = kept_committed w s h
+kept_next w f s h Committed a = sound_with w (next_state w s Committed) h.runs h.bans (sound_claims w s h) h.extends
 
 pub kept_from : (w : Schema) → IsWellFormed w → (limit : ℕ) (s : RunState) (made : ℕ) → IsSound w s → (front later : List Entry) →
     IsLegalFrom w limit s made (front ++ later) → IsSound w (state_after w s front)

@@ -1,14 +1,14 @@
 -- On a list of distinct events, some way stands in order exactly where the normal form is met.
-use Rattle.std.proofs.Common.{◌≡◌, ◌≢◌, ℕ, ◌⊎◌, ◌↔◌, Bool, true, false, ◌==◌, ◌||◌, if◌then◌else◌, List, [], ◌∷◌, ◌++◌, refl, sym, subst, inl, inr, Option, Some, None}
+use Rattle.std.proofs.Common.{◌≡◌, ℕ, ◌⊎◌, ◌↔◌, Bool, true, false, ◌==◌, ◌||◌, if◌then◌else◌, List, [], ◌∷◌, ◌++◌, refl, sym, subst, inl, inr, Option, Some, None}
 use Rattle.std.proofs.lemmas.Bool.{eqb-true, eqb-false}
 use Rattle.flow_model.specs.declared.labels.Label.{Label}
 use Rattle.flow_model.specs.Lists.{◌∈◌, AreDistinct, AreInOrder, StandsBefore, each_with_each}
 use Rattle.flow_model.specs.Facts.{event_at, is_event, events_of}
 use Rattle.flow_model.specs.Ways.{Normal, always, impossible, must, never, before, not_before, both, either, ways, leaf_of_event, free_way, is_free, ways_of_must, ways_of_never, ways_of_before, ways_of_not_before}
-use Rattle.flow_laws.proofs.ListLemmas2.{mem_append_left, mem_append_right, mem-append, mem-each_with_each, of_each_with_each, each-append, each_parts, not_found, mem-filter_map, of_filter_map, before-filter_map, of_before-filter_map, same_source, before_members, not_both_before}
+use Rattle.flow_laws.proofs.Members.{mem_append_left, mem_append_right, mem-append, each-append, each_parts, before_members, not_both_ways, before_or_after}
+use Rattle.flow_laws.proofs.MadeLists.{mem-each_with_each, of_each_with_each, not_found, mem-filter_map, of_filter_map, before-filter_map, of_before-filter_map, same_source}
 use Rattle.flow_laws.proofs.NormalForms.{MeetsNormal}
-use Rattle.flow_laws.proofs.WaysLemmas.{test_of_event, leaf_of_event_is}
-use Rattle.flow_laws.proofs.ListLemmas1.{before_or_after}
+use Rattle.flow_laws.proofs.WaysLemmas.{test_of_event, leaf_of_event_is, same_event}
 
 -- some way of the list stands in order
 abbrev pub HasWay : List (List (ℕ × ℕ)) → List ℕ → Type 0
@@ -55,16 +55,6 @@ pub before_events : {labels : List Label} {t ls : List ℕ} → AreItsLeaves lab
 before_events {labels} {t} {ls} l a b x y i j s =
     before-filter_map (event_at labels) x y a b t s (leaf_is_there l a x i).1 (leaf_is_there l b y j).1
 
--- leaves of different events differ
-pub leaves_differ : {labels : List Label} {t ls : List ℕ} → AreItsLeaves labels t ls → (a b x y : ℕ) → a ≢ b →
-    leaf_of_event labels ls a ≡ Some x → leaf_of_event labels ls b ≡ Some y → x ≢ y
-leaves_differ {labels} {t} {ls} l a b x y d i j e =
-    let at_x : event_at labels x ≡ Some a = (leaf_is_there l a x i).1 in
-    let at_y : event_at labels y ≡ Some b = (leaf_is_there l b y j).1 in
-    let at_x_too : event_at labels x ≡ Some b = subst (λ n. event_at labels n ≡ Some b) (sym e) at_y in
-    let same : a ≡ b = cc in
-    d same
-
 -- The forms of one and two events
 
 pub free_has_way : (t : List ℕ) → HasWay free_way t
@@ -85,7 +75,7 @@ pub decide_before : {labels : List Label} {t ls : List ℕ} → AreItsLeaves lab
     StandsBefore a b (events_of labels t) ↔ HasWay (if same then [] else ways_of_before o p) t
 decide_before {labels} {t} l a b true e o i p j = (
   λ s. let r : StandsBefore b b (events_of labels t) = subst (λ x. StandsBefore x b (events_of labels t)) (eqb-true a b e) s in
-      absurd (not_both_before b b (events_of labels t) l.distinct r r),
+      absurd (not_both_ways b b (events_of labels t) l.distinct r r),
   λ k. absurd k.1,
 )
 decide_before {labels} {t} l a b false e None i p j =
@@ -106,19 +96,19 @@ pub decide_not_before : {labels : List Label} {t ls : List ℕ} → AreItsLeaves
 decide_not_before {labels} {t} l a b true e o i p j = (
   λ n. free_has_way t,
   λ k s. let r : StandsBefore b b (events_of labels t) = subst (λ x. StandsBefore x b (events_of labels t)) (eqb-true a b e) s in
-      not_both_before b b (events_of labels t) l.distinct r r,
+      not_both_ways b b (events_of labels t) l.distinct r r,
 )
 decide_not_before {labels} {t} l a b false e None i p j =
     (λ n. free_has_way t, λ k s. event_is_not_there l a i (before_members a b (events_of labels t) s).0)
 decide_not_before {labels} {t} l a b false e (Some x) i None j =
     (λ n. free_has_way t, λ k s. event_is_not_there l b j (before_members a b (events_of labels t) s).1)
-decide_not_before {labels} {t} l a b false e (Some x) i (Some y) j = (
-  λ n. elim (before_or_after x y t (leaf_is_there l a x i).0 (leaf_is_there l b y j).0 (leaves_differ l a b x y (eqb-false a b e) i j)) [
+decide_not_before {labels} {t} {ls} l a b false e (Some x) i (Some y) j = (
+  λ n. elim (before_or_after x y t (leaf_is_there l a x i).0 (leaf_is_there l b y j).0 (λ same. eqb-false a b e (same_event labels ls a b x y i j same))) [
     | inl s ↦ absurd (n (before_events l a b x y i j s))
     | inr s ↦ ((y, x) ∷ [], inl refl, (s, tt))
   ],
   λ (way, m, s) r. elim m [
-    | inl k ↦ not_both_before a b (events_of labels t) l.distinct r
+    | inl k ↦ not_both_ways a b (events_of labels t) l.distinct r
         (before_events l b a y x j i (subst (λ v. AreInOrder v t) k s).0)
     | inr k ↦ k
   ],

@@ -1,5 +1,5 @@
 /// What a token is.
-#[derive(Clone, Copy, Debug, PartialEq, Eq)]
+#[derive(Clone, Copy)]
 pub enum TokenKind {
     /// A reserved word or a name.
     Word,
@@ -10,7 +10,7 @@ pub enum TokenKind {
 }
 
 /// A token and where it stands: its text is the slice from `start` to `end`.
-#[derive(Clone, Copy, Debug, PartialEq, Eq)]
+#[derive(Clone, Copy)]
 pub struct Token {
     pub kind: TokenKind,
     pub start: usize,

@@ -47,7 +47,7 @@ pub struct Call {
 }
 
 /// What a gate answers.
-#[derive(Clone, Copy, Debug, PartialEq, Eq)]
+#[derive(Clone, Copy)]
 pub enum Outcome {
     Done,
     Failed,

@@ -1,5 +1,5 @@
 /// What is written at a leaf of a goal. Events and facts go by their numbers.
-#[derive(Clone, Copy, Debug, PartialEq, Eq)]
+#[derive(Clone, Copy)]
 pub enum Label {
     /// A task outside the engine.
     Event(u32),

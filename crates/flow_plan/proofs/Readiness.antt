@@ -7,7 +7,7 @@ use Rattle.flow_model.specs.Lists.{◌∈◌, Each, AreDistinct}
 use Rattle.flow_model.specs.Process.{leaves, IsChoiceFree}
 use Rattle.flow_model.specs.Ready.{DirectlyBefore, IsReady}
 use Rattle.flow_laws.specs.Words.{AreOfLeaves, IsOrdered}
-use Rattle.flow_laws.proofs.ListLemmas2.{each_member, each_from_members}
+use Rattle.flow_laws.proofs.Members.{each_member, each_from_members}
 use Rattle.flow_laws.proofs.ReadyRuns.{direct_second}
 use Rattle.flow_plan.specs.declared.part_row.PartRow.{PartRow}
 use Rattle.flow_plan.specs.Planned.{Planned, pairs_of}

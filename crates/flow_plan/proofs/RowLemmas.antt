@@ -8,8 +8,8 @@ use Rattle.flow_model.specs.Lists.{◌∈◌, Each, AreDistinct}
 use Rattle.flow_model.specs.Process.{Process, Sequence, leaves}
 use Rattle.flow_model.specs.Ready.{InSequence, DirectlyBefore}
 use Rattle.flow_laws.specs.Words.{AreOfLeaves}
-use Rattle.flow_laws.proofs.ListLemmas2.{mem_append_left, mem_append_right, mem-append, each_parts, each_member, distinct_parts}
-use Rattle.flow_laws.proofs.ReadyRemains.{sequence_second}
+use Rattle.flow_laws.proofs.Members.{mem_append_left, mem_append_right, mem-append, each_parts, each_member, distinct_parts}
+use Rattle.flow_laws.proofs.GoalParts.{sequence_second}
 use Rattle.flow_plan.specs.declared.token.OrderToken.{OrderToken}
 use Rattle.flow_plan.specs.Planned.{pairs_of}
 use Rattle.flow_plan.specs.Rows.{IsRowOf, AreRowsOf, has_at, FitsRows, AddsRows}

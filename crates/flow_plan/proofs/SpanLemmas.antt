@@ -3,7 +3,8 @@ use Rattle.std.proofs.Common.{◌≡◌, ◌≢◌, ℕ, ◌+◌, ◌-◌, ◌<�
 use Rattle.std.proofs.lemmas.Bool.{cases_eq, and_parts, and_from}
 use Rattle.flow_model.specs.Lists.{◌∈◌}
 use Rattle.flow_model.specs.Process.{Process, Isolated, leaves}
-use Rattle.flow_laws.proofs.ListLemmas2.{mem_append_left, mem_append_right, mem-append, each_member, each-append, some_same}
+use Rattle.flow_laws.proofs.Members.{mem_append_left, mem_append_right, mem-append, each_member, each-append}
+use Rattle.flow_laws.proofs.MadeLists.{some_same}
 use Rattle.flow_plan.specs.declared.span.Span.{Span}
 use Rattle.flow_plan.specs.Spans.{placed_parts, IsSpanOf, IsEarlier, IsNotAfter, AreRising, AddsSpan, AddsSpans}
 

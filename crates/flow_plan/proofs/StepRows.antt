@@ -6,8 +6,8 @@ use Rattle.leaf_rows.specs.Leaves.{has_leaf}
 use Rattle.leaf_rows.specs.declared.leaf_set.LeafSet.{LeafSet}
 use Rattle.flow_model.specs.Lists.{◌∈◌, Each, AreDistinct}
 use Rattle.flow_model.specs.Ready.{DirectlyBefore, DoneOr}
-use Rattle.flow_laws.proofs.ListLemmas1.{split_at}
-use Rattle.flow_laws.proofs.ListLemmas2.{each_member, each_from_members, each_parts, each-append, same_order}
+use Rattle.flow_laws.proofs.Members.{split_at, each_member, each_from_members, each_parts, each-append}
+use Rattle.flow_laws.proofs.MadeLists.{same_order}
 use Rattle.flow_laws.proofs.ReadyRuns.{same_ready, same_run}
 use Rattle.flow_plan.specs.declared.part_row.PartRow.{PartRow}
 use Rattle.flow_plan.specs.declared.progress.Progress.{Progress}

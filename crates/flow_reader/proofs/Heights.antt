@@ -1,5 +1,5 @@
 -- How many parentheses and nots are open, as the stack keeps it.
-use Rattle.std.proofs.Common.{◌≡◌, ℕ, ◌+◌, ◌-◌, ◌≤◌, List, [], ◌∷◌, ◌++◌, map, reverse, ap, ◌∙◌, arith}
+use Rattle.std.proofs.Common.{◌≡◌, ℕ, ◌+◌, List, [], ◌∷◌, ◌++◌, map, reverse, ap, ◌∙◌, arith}
 use Rattle.std.proofs.lemmas.List.{reverse-append, map-append}
 use Rattle.flow_grammar.specs.Machine.{rule_height}
 use Rattle.flow_reader.specs.declared.rule_levels.RuleFrame.{RuleFrame}
@@ -19,7 +19,5 @@ height_more outer inner =
 
 -- what is left of the height without the innermost
 pub height_less : (frames outer : List RuleFrame) (inner : RuleFrame) (h : ℕ) → frames ≡ outer ++ inner ∷ [] → h ≡ rule_height (rule_frames_of frames) →
-    (inner.nots + 1 ≤ h) × (h - inner.nots - 1 ≡ rule_height (rule_frames_of outer))
-height_less frames outer inner h cut known =
-    let whole : h ≡ rule_height (rule_frames_of outer) + inner.nots + 1 = known ∙ ap (λ fs. rule_height (rule_frames_of fs)) cut ∙ height_more outer inner in
-    (omega (arith, whole), omega (arith, whole))
+    h ≡ rule_height (rule_frames_of outer) + inner.nots + 1
+height_less frames outer inner h cut known = known ∙ ap (λ fs. rule_height (rule_frames_of fs)) cut ∙ height_more outer inner

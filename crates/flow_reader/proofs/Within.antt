@@ -109,12 +109,12 @@ abbrev pub Within : {S : Type 0} → (S → ℕ) → Option S → ℕ → Type 0
 Within depth None d = Unit {0}
 Within depth (Some s) d = depth s ≤ suc d
 
-fact_within : (ds : List Declared) (t : Symbol) (d : ℕ) → Within machine.depth_script (machine.join_fact ds t) d
+fact_within : (ds : List Declared) (t : Symbol) (d : ℕ) → Within machine.depth_script (machine.join_item machine.fact_to_declare ds t) d
 fact_within ds comma d = omega arith
 fact_within ds semicolon d = omega arith
 fact_within ds _ d = tt
 
-event_within : (ds : List Declared) (t : Symbol) (d : ℕ) → Within machine.depth_script (machine.join_event ds t) d
+event_within : (ds : List Declared) (t : Symbol) (d : ℕ) → Within machine.depth_script (machine.join_item machine.event_to_declare ds t) d
 event_within ds comma d = omega arith
 event_within ds semicolon d = omega arith
 event_within ds _ d = tt
@@ -126,15 +126,15 @@ start_declaration_within ds flow_word d = omega arith
 start_declaration_within ds goal_word d = omega arith
 start_declaration_within ds _ d = tt
 
-name_fact_within : (ds : List Declared) (t : Symbol) (d : ℕ) → Within machine.depth_script (machine.name_declared_fact ds t) d
+name_fact_within : (ds : List Declared) (t : Symbol) (d : ℕ) → Within machine.depth_script (machine.with_name (machine.after_declared_relation ds) t) d
 name_fact_within ds (a_name n) d = omega arith
 name_fact_within ds _ d = tt
 
-name_event_within : (ds : List Declared) (t : Symbol) (d : ℕ) → Within machine.depth_script (machine.name_event ds t) d
+name_event_within : (ds : List Declared) (t : Symbol) (d : ℕ) → Within machine.depth_script (machine.with_name (machine.after_event ds) t) d
 name_event_within ds (a_name n) d = omega arith
 name_event_within ds _ d = tt
 
-name_flow_within : (ds : List Declared) (t : Symbol) (d : ℕ) → Within machine.depth_script (machine.name_flow ds t) d
+name_flow_within : (ds : List Declared) (t : Symbol) (d : ℕ) → Within machine.depth_script (machine.with_name (machine.equals_needed ds) t) d
 name_flow_within ds (a_name n) d = omega arith
 name_flow_within ds _ d = tt
 

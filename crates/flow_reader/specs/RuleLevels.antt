@@ -1,15 +1,16 @@
 -- The lists and parentheses of a rule that the code has read, as the machine's.
 use Rattle.std.specs.Prelude.{List, map, reverse}
-use Rattle.flow_form.specs.RuleForm.{RuleShape, RuleShapes, all, any, rule_shape_of}
+use Rattle.flow_form.specs.RuleForm.{RuleShape, rule_shape_of}
+use Rattle.flow_grammar.specs.Grammar as grammar
 use Rattle.flow_grammar.specs.Machine as machine
-use Rattle.flow_reader.specs.declared.rule_levels.RuleJoin as code_join
-use Rattle.flow_reader.specs.declared.rule_levels.RuleJoin.TheVariants as join
+use Rattle.flow_reader.specs.declared.rule_levels.RuleList as code_list
+use Rattle.flow_reader.specs.declared.rule_levels.RuleList.TheVariants as list
 use Rattle.flow_reader.specs.declared.rule_levels.RuleLevel as code_level
 use Rattle.flow_reader.specs.declared.rule_levels.RuleFrame as code_frame
 
-abbrev pub rule_list_of : code_join.RuleJoin → RuleShapes → RuleShape
-rule_list_of join.And = all
-rule_list_of join.Or = any
+abbrev pub rule_list : code_list.RuleList → List RuleShape → RuleShape
+rule_list list.And = grammar.list grammar.rules 0
+rule_list list.Or = grammar.list grammar.rules 1
 
 abbrev pub rule_level_of : code_level.RuleLevel → machine.RuleLevel
 rule_level_of l = machine.rule_level (map rule_shape_of l.anys.items) (map rule_shape_of l.alls.items)

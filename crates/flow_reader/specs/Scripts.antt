@@ -1,30 +1,46 @@
--- What the code has read of a text or a query, as states of the machine.
+-- What the code has read of a text, as states of the machine.
 use Rattle.std.specs.Prelude.{List, map}
 use Rattle.flow_form.specs.Script.{Declared, declared, said}
-use Rattle.flow_form.specs.declared.script.Decl as code_decl
 use Rattle.flow_grammar.specs.Machine as machine
 use Rattle.flow_reader.specs.Readers.{arg_state}
 use Rattle.flow_reader.specs.Goals.{goal_state}
 use Rattle.flow_reader.specs.Rules.{rule_state}
-use Rattle.flow_reader.specs.declared.scripts.ScriptReader as code_reader
-use Rattle.flow_reader.specs.declared.scripts.ScriptReader.TheVariants as reader
+use Rattle.flow_reader.specs.declared.levels.Stack.{Stack}
+use Rattle.flow_reader.specs.declared.scripts.ScriptParts.{ScriptParts}
+use Rattle.flow_reader.specs.declared.scripts.FactPlace as code_fact
+use Rattle.flow_reader.specs.declared.scripts.FactPlace.TheVariants as in_fact
+use Rattle.flow_reader.specs.declared.scripts.EventPlace as code_event
+use Rattle.flow_reader.specs.declared.scripts.EventPlace.TheVariants as in_event
+use Rattle.flow_reader.specs.declared.scripts.FlowPlace as code_flow
+use Rattle.flow_reader.specs.declared.scripts.FlowPlace.TheVariants as in_flow
+use Rattle.flow_reader.specs.declared.scripts.ScriptPlace as code_place
+use Rattle.flow_reader.specs.declared.scripts.ScriptPlace.TheVariants as place
 
-abbrev pub declared_of : List code_decl.Decl → List Declared
-declared_of decls = map declared decls
+abbrev pub decls_of : ScriptParts → List Declared
+decls_of p = map declared p.script.decls.items
 
-abbrev pub script_state : code_reader.ScriptReader → machine.State
-script_state (reader.DeclarationNeeded ds) = machine.declaration_needed (declared_of ds.items)
-script_state (reader.FactToDeclare ds) = machine.fact_to_declare (declared_of ds.items)
-script_state (reader.AfterRelation ds n) = machine.after_declared_relation (declared_of ds.items) n
-script_state (reader.InArgs ds a) = machine.in_declared_args (declared_of ds.items) (arg_state a)
-script_state (reader.AfterFact ds) = machine.after_fact (declared_of ds.items)
-script_state (reader.EventToDeclare ds) = machine.event_to_declare (declared_of ds.items)
-script_state (reader.AfterEvent ds n) = machine.after_event (declared_of ds.items) n
-script_state (reader.AfterFail ds n) = machine.after_fail (declared_of ds.items) n
-script_state (reader.AfterNoted ds) = machine.after_noted (declared_of ds.items)
-script_state (reader.FlowToDeclare ds) = machine.flow_to_declare (declared_of ds.items)
-script_state (reader.EqualsNeeded ds n) = machine.equals_needed (declared_of ds.items) n
-script_state (reader.InFlow ds n g) = machine.in_flow (declared_of ds.items) n (goal_state g)
-script_state (reader.InGoal ds g) = machine.in_goal (declared_of ds.items) (goal_state g)
-script_state (reader.ConstraintNeeded s) = machine.constraint_needed (said s).decls (said s).goal (said s).rules
-script_state (reader.InConstraint s r) = machine.in_constraint (said s).decls (said s).goal (said s).rules (rule_state r)
+abbrev pub fact_state : List Declared → code_fact.FactPlace → machine.State
+fact_state ds in_fact.FactNeeded = machine.fact_to_declare ds
+fact_state ds (in_fact.AfterRelation n) = machine.after_declared_relation ds n
+fact_state ds (in_fact.InArgs a) = machine.in_declared_args ds (arg_state a)
+fact_state ds in_fact.AfterFact = machine.after_fact ds
+
+abbrev pub event_state : List Declared → code_event.EventPlace → machine.State
+event_state ds in_event.NameNeeded = machine.event_to_declare ds
+event_state ds (in_event.AfterName n) = machine.after_event ds n
+event_state ds (in_event.AfterFail n) = machine.after_fail ds n
+event_state ds in_event.AfterNote = machine.after_noted ds
+
+abbrev pub flow_state : List Declared → Stack → code_flow.FlowPlace → machine.State
+flow_state ds s in_flow.NameNeeded = machine.flow_to_declare ds
+flow_state ds s (in_flow.EqualsNeeded n) = machine.equals_needed ds n
+flow_state ds s (in_flow.InGoal n g) = machine.in_flow ds n (goal_state s g)
+
+abbrev pub script_state : ScriptParts → code_place.ScriptPlace → machine.State
+script_state p place.DeclarationNeeded = machine.declaration_needed (decls_of p)
+script_state p (place.InFact f) = fact_state (decls_of p) f
+script_state p (place.InEvent e) = event_state (decls_of p) e
+script_state p (place.InFlow f) = flow_state (decls_of p) p.goals f
+script_state p (place.InGoal g) = machine.in_goal (decls_of p) (goal_state p.goals g)
+script_state p place.ConstraintNeeded = machine.constraint_needed (decls_of p) (said p.script).goal (said p.script).rules
+script_state p (place.InConstraint r) = machine.in_constraint (decls_of p) (said p.script).goal (said p.script).rules (rule_state p.rules r)

@@ -4,33 +4,33 @@ ghost use Rattle.flow_form.specs.Form.{shape_of};
 ghost use Rattle.flow_grammar.specs.Grammar as grammar;
 ghost use Rattle.flow_grammar.specs.Machine as machine;
 ghost use Rattle.flow_reader.specs.Readers.{kind_of};
-ghost use Rattle.flow_reader.specs.Goals.{list_of, frame_of, frames_of, level_of};
+ghost use Rattle.flow_reader.specs.Goals.{goal_list, frame, frames_of, level_of};
 
 use flow_form::{Form, Wanted};
 use std::alloc::{AllocError, Global};
 use std::mem;
 
-/// How members of a list are joined.
+/// Which list of a goal some members stand in.
 #[derive(Clone, Copy)]
-enum Join {
+enum GoalList {
     Serial,
     Beside,
     Either,
 }
 
 /// The list of the members; of one member, that member.
-fn gathered(join: Join, mut members: Vec<Form>) -> Form
-    ensures { shape_of result ≡ grammar.gather (list_of join) (map shape_of members.items) }
+fn gathered(list: GoalList, mut members: Vec<Form>) -> Form
+    ensures { shape_of result ≡ grammar.gather (goal_list list) (map shape_of members.items) }
 {
     if members.len() == 1 {
         if let Some(only) = members.pop() {
             return only;
         }
     }
-    match join {
-        Join::Serial => Form::Serial(members),
-        Join::Beside => Form::Beside(members),
-        Join::Either => Form::Either(members),
+    match list {
+        GoalList::Serial => Form::Serial(members),
+        GoalList::Beside => Form::Beside(members),
+        GoalList::Either => Form::Either(members),
     }
 }
 
@@ -64,7 +64,7 @@ impl Level {
         ensures { OnOk result (level_of self.new ≡ machine.close_serial (level_of self.old)) }
     {
         let serials = mem::replace(&mut self.serials, Vec::new(alloc));
-        self.besides.push(gathered(Join::Serial, serials))?;
+        self.besides.push(gathered(GoalList::Serial, serials))?;
         Ok(())
     }
 
@@ -73,7 +73,7 @@ impl Level {
     {
         self.close_serial(alloc)?;
         let besides = mem::replace(&mut self.besides, Vec::new(alloc));
-        self.eithers.push(gathered(Join::Beside, besides))?;
+        self.eithers.push(gathered(GoalList::Beside, besides))?;
         Ok(())
     }
 
@@ -81,33 +81,15 @@ impl Level {
         ensures { IfOk result (λ form. shape_of form ≡ machine.close (level_of self)) }
     {
         self.close_beside(alloc)?;
-        Ok(gathered(Join::Either, self.eithers))
+        Ok(gathered(GoalList::Either, self.eithers))
     }
 }
 
-/// An open parenthesis, with what stands outside it.
+/// An open parenthesis, with what stands outside it, and whether it isolates what stands inside.
 #[derive(Drop)]
-pub enum Frame {
-    Parenthesis(Level),
-    Isolation(Level),
-}
-
-impl Frame {
-    /// What stands outside, with the goal inside as its last member.
-    pub fn wrapped(self, alloc: Global, form: Form) -> Result<Level, AllocError>
-        ensures { IfOk result (λ level. level_of level ≡ machine.wrap (frame_of self) (shape_of form)) }
-    {
-        match self {
-            Frame::Parenthesis(mut level) => {
-                level.push(form)?;
-                Ok(level)
-            }
-            Frame::Isolation(mut level) => {
-                level.push(Form::Iso(Box::new(alloc, form)?))?;
-                Ok(level)
-            }
-        }
-    }
+pub struct Frame {
+    pub level: Level,
+    pub isolates: bool,
 }
 
 /// The open parentheses, the innermost last, and what stands in it.
@@ -128,32 +110,23 @@ impl Stack {
         }
     }
 
-    /// Inside a further parenthesis.
-    pub fn parenthesized(mut self, alloc: Global) -> Result<Stack, AllocError>
-        ensures frames { IfOk result (λ stack. frames_of stack.frames.items
-            ≡ machine.parenthesis (level_of self.level) ∷ frames_of self.frames.items) }
-        ensures level { IfOk result (λ stack. level_of stack.level ≡ machine.level [] [] []) }
+    /// Begins anew, with nothing open and nothing read.
+    pub fn restart(&mut self, alloc: Global)
+        ensures frames { frames_of self.new.frames.items ≡ [] }
+        ensures level { level_of self.new.level ≡ machine.level [] [] [] }
     {
-        let frame = Frame::Parenthesis(self.level);
-        self.frames.push(frame)?;
-        Ok(Stack {
-            frames: self.frames,
-            level: Level::new(alloc),
-        })
+        drop(mem::replace(self, Stack::new(alloc)));
     }
 
-    /// Inside the parenthesis of an isolation.
-    pub fn isolated(mut self, alloc: Global) -> Result<Stack, AllocError>
-        ensures frames { IfOk result (λ stack. frames_of stack.frames.items
-            ≡ machine.isolation (level_of self.level) ∷ frames_of self.frames.items) }
-        ensures level { IfOk result (λ stack. level_of stack.level ≡ machine.level [] [] []) }
+    /// Goes inside a further parenthesis.
+    pub fn open(&mut self, alloc: Global, isolates: bool) -> Result<(), AllocError>
+        ensures frames { OnOk result (frames_of self.new.frames.items
+            ≡ frame isolates (level_of self.old.level) ∷ frames_of self.old.frames.items) }
+        ensures level { OnOk result (level_of self.new.level ≡ machine.level [] [] []) }
     {
-        let frame = Frame::Isolation(self.level);
-        self.frames.push(frame)?;
-        Ok(Stack {
-            frames: self.frames,
-            level: Level::new(alloc),
-        })
+        let level = mem::replace(&mut self.level, Level::new(alloc));
+        self.frames.push(Frame { level, isolates })?;
+        Ok(())
     }
 
     /// What could come after an atom.

@@ -2,31 +2,31 @@ ghost use Rattle.std.specs.Prelude.{◌≡◌, [], map, IfOk, OnOk};
 ghost use Rattle.flow_form.specs.RuleForm.{rule_shape_of, negated};
 ghost use Rattle.flow_grammar.specs.Grammar as grammar;
 ghost use Rattle.flow_grammar.specs.Machine as machine;
-ghost use Rattle.flow_reader.specs.RuleLevels.{rule_list_of, rule_frame_of, rule_level_of};
+ghost use Rattle.flow_reader.specs.RuleLevels.{rule_list, rule_level_of};
 
 use flow_form::RuleForm;
 use std::alloc::{AllocError, Global};
 use std::mem;
 
-/// How members of a list are joined.
+/// Which list of a rule some members stand in.
 #[derive(Clone, Copy)]
-enum RuleJoin {
+enum RuleList {
     And,
     Or,
 }
 
 /// The list of the members; of one member, that member.
-fn gathered(join: RuleJoin, mut members: Vec<RuleForm>) -> RuleForm
-    ensures { rule_shape_of result ≡ grammar.gather_rules (rule_list_of join) (map rule_shape_of members.items) }
+fn gathered(list: RuleList, mut members: Vec<RuleForm>) -> RuleForm
+    ensures { rule_shape_of result ≡ grammar.gather (rule_list list) (map rule_shape_of members.items) }
 {
     if members.len() == 1 {
         if let Some(only) = members.pop() {
             return only;
         }
     }
-    match join {
-        RuleJoin::And => RuleForm::And(members),
-        RuleJoin::Or => RuleForm::Or(members),
+    match list {
+        RuleList::And => RuleForm::And(members),
+        RuleList::Or => RuleForm::Or(members),
     }
 }
 
@@ -37,7 +37,7 @@ fn not(alloc: Global, rule: RuleForm) -> Result<RuleForm, AllocError>
 }
 
 /// The rule under so many nots.
-pub fn negated(alloc: Global, nots: usize, rule: RuleForm) -> Result<RuleForm, AllocError>
+fn negated(alloc: Global, nots: usize, rule: RuleForm) -> Result<RuleForm, AllocError>
     ensures { IfOk result (λ form. rule_shape_of form ≡ machine.negate nots (rule_shape_of rule)) }
 {
     if nots == 0 {
@@ -64,10 +64,12 @@ impl RuleLevel {
         }
     }
 
-    pub fn push(&mut self, rule: RuleForm) -> Result<(), AllocError>
-        ensures { OnOk result (rule_level_of self.new ≡ machine.push_rule (rule_level_of self.old) (rule_shape_of rule)) }
+    /// Adds the rule under so many nots.
+    pub fn push(&mut self, alloc: Global, nots: usize, rule: RuleForm) -> Result<(), AllocError>
+        ensures { OnOk result (rule_level_of self.new
+            ≡ machine.push_rule (rule_level_of self.old) (machine.negate nots (rule_shape_of rule))) }
     {
-        self.alls.push(rule)?;
+        self.alls.push(negated(alloc, nots, rule)?)?;
         Ok(())
     }
 
@@ -75,7 +77,7 @@ impl RuleLevel {
         ensures { OnOk result (rule_level_of self.new ≡ machine.close_all (rule_level_of self.old)) }
     {
         let alls = mem::replace(&mut self.alls, Vec::new(alloc));
-        self.anys.push(gathered(RuleJoin::And, alls))?;
+        self.anys.push(gathered(RuleList::And, alls))?;
         Ok(())
     }
 
@@ -83,7 +85,7 @@ impl RuleLevel {
         ensures { IfOk result (λ rule. rule_shape_of rule ≡ machine.close_rule (rule_level_of self)) }
     {
         self.close_all(alloc)?;
-        Ok(gathered(RuleJoin::Or, self.anys))
+        Ok(gathered(RuleList::Or, self.anys))
     }
 }
 
@@ -92,15 +94,4 @@ impl RuleLevel {
 pub struct RuleFrame {
     pub level: RuleLevel,
     pub nots: usize,
-}
-
-impl RuleFrame {
-    /// What stands outside, with the rule inside as its last member.
-    pub fn wrapped(self, alloc: Global, rule: RuleForm) -> Result<RuleLevel, AllocError>
-        ensures { IfOk result (λ level. rule_level_of level ≡ machine.wrap_rule (rule_frame_of self) (rule_shape_of rule)) }
-    {
-        let mut level = self.level;
-        level.push(negated(alloc, self.nots, rule)?)?;
-        Ok(level)
-    }
 }

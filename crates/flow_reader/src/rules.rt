@@ -1,35 +1,24 @@
-ghost use Rattle.std.specs.Prelude.{◌≡◌, ◌+◌, ◌-◌, ◌^◌, ◌<◌, map, IfOk};
+ghost use Rattle.std.specs.Prelude.{◌≡◌, ◌+◌, ◌-◌, ◌^◌, ◌<◌, IfOk};
 ghost use Rattle.flow_form.specs.RuleForm.{rule_shape_of};
-ghost use Rattle.flow_grammar.specs.Grammar as grammar;
 ghost use Rattle.flow_grammar.specs.Machine as machine;
 ghost use Rattle.flow_grammar.specs.Symbol as grammar_symbol;
 ghost use Rattle.flow_reader.specs.Symbols.{meant};
 ghost use Rattle.flow_reader.specs.Readers.{kind_of};
 ghost use Rattle.flow_reader.specs.RuleLevels.{rule_frames_of, rule_level_of};
-ghost use Rattle.flow_reader.specs.Rules.{single_of, pair_of, names_of, rule_state, rule_step};
+ghost use Rattle.flow_reader.specs.Rules.{missing_names, rule_state, rule_step};
 
-use crate::rule_levels::negated;
+use crate::rule_levels::RuleLevel;
 use crate::rule_stack::RuleStack;
 use crate::symbol::Symbol;
 use flow_form::{Name, RuleForm, Wanted};
 use std::alloc::{AllocError, Global};
+use std::mem;
 
 /// A rule on one event.
 #[derive(Clone, Copy)]
 pub enum Single {
     Must,
     Never,
-}
-
-impl Single {
-    fn rule(self, name: Name) -> RuleForm
-        ensures { rule_shape_of result ≡ grammar.single (single_of self) name }
-    {
-        match self {
-            Single::Must => RuleForm::Must(name),
-            Single::Never => RuleForm::Never(name),
-        }
-    }
 }
 
 /// A rule on two events.
@@ -39,20 +28,9 @@ pub enum Pair {
     Needs,
 }
 
-impl Pair {
-    fn rule(self, first: Name, second: Name) -> RuleForm
-        ensures { rule_shape_of result ≡ grammar.paired (pair_of self) first second }
-    {
-        match self {
-            Pair::Precedes => RuleForm::Precedes(first, second),
-            Pair::Needs => RuleForm::Needs(first, second),
-        }
-    }
-}
-
 /// The names that must still come.
 #[derive(Drop)]
-pub enum Names {
+pub enum MissingNames {
     One(Single),
     Two(Pair),
     Second(Pair, Name),
@@ -60,88 +38,86 @@ pub enum Names {
     OneOrMore(Name),
 }
 
-/// Where the reading of a rule stands. The number is that of the nots directly before.
+/// Where the reading of a rule stands, beside its stack. The number is that of the nots directly before.
 #[derive(Drop)]
-pub enum RuleReader {
-    UnitNeeded(RuleStack, usize),
-    AfterUnit(RuleStack),
-    NameNeeded(Names, RuleStack, usize),
-    AfterNames(Vec<Name>, RuleStack, usize),
+pub enum RulePlace {
+    UnitNeeded(usize),
+    AfterUnit,
+    NameNeeded(MissingNames, usize),
+    AfterNames(Vec<Name>, usize),
 }
 
 /// What a symbol makes of it.
 #[derive(Drop)]
 pub enum RuleStep {
-    Reading(RuleReader),
+    Reading(RulePlace),
     Whole(RuleForm),
     Stuck,
 }
 
 fn start_unit(
     alloc: Global,
-    stack: RuleStack,
+    stack: &mut RuleStack,
     nots: usize,
     symbol: Symbol<'_>,
 ) -> Result<RuleStep, AllocError>
-    requires { stack.height + nots < 2 ^ 64 - 1 }
-    ensures { IfOk result (λ step. rule_step step
-        ≡ machine.start_unit (rule_frames_of stack.frames.items) (rule_level_of stack.level) nots (meant symbol.entry)) }
+    requires { stack.old.height + nots < 2 ^ 64 - 1 }
+    ensures { IfOk result (λ step. rule_step stack.new step
+        ≡ machine.start_unit (rule_frames_of stack.old.frames.items) (rule_level_of stack.old.level) nots (meant symbol.entry)) }
 {
     let names = match symbol {
-        Symbol::Not => return Ok(RuleStep::Reading(RuleReader::UnitNeeded(stack, nots + 1))),
+        Symbol::Not => return Ok(RuleStep::Reading(RulePlace::UnitNeeded(nots + 1))),
         Symbol::Opening => {
-            let inside = stack.parenthesized(alloc, nots)?;
-            return Ok(RuleStep::Reading(RuleReader::UnitNeeded(inside, 0)));
+            stack.open(alloc, nots)?;
+            return Ok(RuleStep::Reading(RulePlace::UnitNeeded(0)));
         }
-        Symbol::Must => Names::One(Single::Must),
-        Symbol::Never => Names::One(Single::Never),
-        Symbol::Order => Names::TwoOrMore,
-        Symbol::Precedes => Names::Two(Pair::Precedes),
-        Symbol::Needs => Names::Two(Pair::Needs),
+        Symbol::Must => MissingNames::One(Single::Must),
+        Symbol::Never => MissingNames::One(Single::Never),
+        Symbol::Order => MissingNames::TwoOrMore,
+        Symbol::Precedes => MissingNames::Two(Pair::Precedes),
+        Symbol::Needs => MissingNames::Two(Pair::Needs),
         _ => return Ok(RuleStep::Stuck),
     };
-    Ok(RuleStep::Reading(RuleReader::NameNeeded(names, stack, nots)))
+    Ok(RuleStep::Reading(RulePlace::NameNeeded(names, nots)))
 }
 
-fn end_rule(alloc: Global, stack: RuleStack) -> Result<RuleStep, AllocError>
-    ensures { IfOk result (λ step. rule_step step
-        ≡ machine.join_unit (rule_frames_of stack.frames.items) (rule_level_of stack.level) grammar_symbol.semicolon) }
+fn end_rule(alloc: Global, stack: &mut RuleStack) -> Result<RuleStep, AllocError>
+    ensures { IfOk result (λ step. rule_step stack.new step
+        ≡ machine.join_unit (rule_frames_of stack.old.frames.items) (rule_level_of stack.old.level) grammar_symbol.semicolon) }
 {
-    if stack.frames.is_empty() {
-        Ok(RuleStep::Whole(stack.level.closed(alloc)?))
-    } else {
-        Ok(RuleStep::Stuck)
+    if !stack.frames.is_empty() {
+        return Ok(RuleStep::Stuck);
     }
+    let level = mem::replace(&mut stack.level, RuleLevel::new(alloc));
+    Ok(RuleStep::Whole(level.closed(alloc)?))
 }
 
-fn close_parenthesis(alloc: Global, stack: RuleStack) -> Result<RuleStep, AllocError>
-    ensures { IfOk result (λ step. rule_step step
-        ≡ machine.join_unit (rule_frames_of stack.frames.items) (rule_level_of stack.level) grammar_symbol.closing) }
+fn close_parenthesis(alloc: Global, stack: &mut RuleStack) -> Result<RuleStep, AllocError>
+    ensures { IfOk result (λ step. rule_step stack.new step
+        ≡ machine.join_unit (rule_frames_of stack.old.frames.items) (rule_level_of stack.old.level) grammar_symbol.closing) }
 {
-    let mut frames = stack.frames;
-    let Some(frame) = frames.pop() else {
+    let Some(frame) = stack.frames.pop() else {
         return Ok(RuleStep::Stuck);
     };
-    let height = stack.height - frame.nots - 1;
-    let rule = stack.level.closed(alloc)?;
-    let level = frame.wrapped(alloc, rule)?;
-    let stack = RuleStack {
-        frames,
-        level,
-        height,
-    };
-    Ok(RuleStep::Reading(RuleReader::AfterUnit(stack)))
+    stack.height = stack.height - frame.nots - 1;
+    let inside = mem::replace(&mut stack.level, frame.level).closed(alloc)?;
+    stack.level.push(alloc, frame.nots, inside)?;
+    Ok(RuleStep::Reading(RulePlace::AfterUnit))
 }
 
-fn join_unit(alloc: Global, stack: RuleStack, symbol: Symbol<'_>) -> Result<RuleStep, AllocError>
-    ensures { IfOk result (λ step. rule_step step
-        ≡ machine.join_unit (rule_frames_of stack.frames.items) (rule_level_of stack.level) (meant symbol.entry)) }
+fn join_unit(
+    alloc: Global,
+    stack: &mut RuleStack,
+    symbol: Symbol<'_>,
+) -> Result<RuleStep, AllocError>
+    ensures { IfOk result (λ step. rule_step stack.new step
+        ≡ machine.join_unit (rule_frames_of stack.old.frames.items) (rule_level_of stack.old.level) (meant symbol.entry)) }
 {
     match symbol {
-        Symbol::And => Ok(RuleStep::Reading(RuleReader::UnitNeeded(stack, 0))),
+        Symbol::And => Ok(RuleStep::Reading(RulePlace::UnitNeeded(0))),
         Symbol::Or => {
-            let stack = stack.all_closed(alloc)?;
-            Ok(RuleStep::Reading(RuleReader::UnitNeeded(stack, 0)))
+            stack.level.close_all(alloc)?;
+            Ok(RuleStep::Reading(RulePlace::UnitNeeded(0)))
         }
         Symbol::Semicolon => end_rule(alloc, stack),
         Symbol::Closing => close_parenthesis(alloc, stack),
@@ -149,130 +125,133 @@ fn join_unit(alloc: Global, stack: RuleStack, symbol: Symbol<'_>) -> Result<Rule
     }
 }
 
-/// The rule under its nots, as a unit that is whole.
+/// A rule under its nots, as a unit that is whole.
 fn after_rule(
     alloc: Global,
-    stack: RuleStack,
+    stack: &mut RuleStack,
     nots: usize,
     rule: RuleForm,
-) -> Result<RuleReader, AllocError>
-    ensures { IfOk result (λ reader. rule_state reader ≡ machine.after_unit (rule_frames_of stack.frames.items)
-        (machine.push_rule (rule_level_of stack.level) (machine.negate nots (rule_shape_of rule)))) }
+) -> Result<RulePlace, AllocError>
+    ensures { IfOk result (λ place. rule_state stack.new place ≡ machine.after_unit (rule_frames_of stack.old.frames.items)
+        (machine.push_rule (rule_level_of stack.old.level) (machine.negate nots (rule_shape_of rule)))) }
 {
-    let unit = negated(alloc, nots, rule)?;
-    Ok(RuleReader::AfterUnit(stack.push(unit)?))
+    stack.level.push(alloc, nots, rule)?;
+    Ok(RulePlace::AfterUnit)
 }
 
 fn take_name(
     alloc: Global,
-    names: Names,
-    stack: RuleStack,
+    stack: &mut RuleStack,
+    names: MissingNames,
     nots: usize,
     name: Name,
-) -> Result<RuleReader, AllocError>
-    ensures { IfOk result (λ reader. rule_state reader
-        ≡ machine.take_name (names_of names) (rule_frames_of stack.frames.items) (rule_level_of stack.level) nots name) }
+) -> Result<RulePlace, AllocError>
+    ensures { IfOk result (λ place. rule_state stack.new place
+        ≡ machine.take_name (missing_names names) (rule_frames_of stack.old.frames.items) (rule_level_of stack.old.level) nots name) }
 {
     match names {
-        Names::One(single) => after_rule(alloc, stack, nots, single.rule(name)),
-        Names::Two(pair) => Ok(RuleReader::NameNeeded(Names::Second(pair, name), stack, nots)),
-        Names::Second(pair, first) => after_rule(alloc, stack, nots, pair.rule(first, name)),
-        Names::TwoOrMore => Ok(RuleReader::NameNeeded(Names::OneOrMore(name), stack, nots)),
-        Names::OneOrMore(first) => {
+        MissingNames::One(Single::Must) => after_rule(alloc, stack, nots, RuleForm::Must(name)),
+        MissingNames::One(Single::Never) => after_rule(alloc, stack, nots, RuleForm::Never(name)),
+        MissingNames::Two(pair) => {
+            Ok(RulePlace::NameNeeded(MissingNames::Second(pair, name), nots))
+        }
+        MissingNames::Second(Pair::Precedes, first) => {
+            after_rule(alloc, stack, nots, RuleForm::Precedes(first, name))
+        }
+        MissingNames::Second(Pair::Needs, first) => {
+            after_rule(alloc, stack, nots, RuleForm::Needs(first, name))
+        }
+        MissingNames::TwoOrMore => Ok(RulePlace::NameNeeded(MissingNames::OneOrMore(name), nots)),
+        MissingNames::OneOrMore(first) => {
             let both = vec![in alloc; first, name]?;
-            Ok(RuleReader::AfterNames(both, stack, nots))
+            Ok(RulePlace::AfterNames(both, nots))
         }
     }
 }
 
 fn read_name(
     alloc: Global,
-    names: Names,
-    stack: RuleStack,
+    stack: &mut RuleStack,
+    names: MissingNames,
     nots: usize,
     symbol: Symbol<'_>,
 ) -> Result<RuleStep, AllocError>
-    ensures { IfOk result (λ step. rule_step step
-        ≡ machine.read_name (names_of names) (rule_frames_of stack.frames.items) (rule_level_of stack.level) nots (meant symbol.entry)) }
+    ensures { IfOk result (λ step. rule_step stack.new step
+        ≡ machine.read_name (missing_names names) (rule_frames_of stack.old.frames.items) (rule_level_of stack.old.level) nots (meant symbol.entry)) }
 {
     match symbol {
         Symbol::Name(name) => {
             let name = Name::new(alloc, name)?;
-            Ok(RuleStep::Reading(take_name(alloc, names, stack, nots, name)?))
+            Ok(RuleStep::Reading(take_name(alloc, stack, names, nots, name)?))
         }
-        _ => Ok(RuleStep::Stuck),
+        _ => {
+            drop(names);
+            Ok(RuleStep::Stuck)
+        }
     }
 }
 
 fn more_names(
     alloc: Global,
+    stack: &mut RuleStack,
     mut names: Vec<Name>,
-    stack: RuleStack,
     nots: usize,
     symbol: Symbol<'_>,
 ) -> Result<RuleStep, AllocError>
-    ensures { IfOk result (λ step. rule_step step
-        ≡ machine.more_names names.items (rule_frames_of stack.frames.items) (rule_level_of stack.level) nots (meant symbol.entry)) }
+    ensures { IfOk result (λ step. rule_step stack.new step
+        ≡ machine.more_names names.items (rule_frames_of stack.old.frames.items) (rule_level_of stack.old.level) nots (meant symbol.entry)) }
 {
     match symbol {
         Symbol::Name(name) => {
             names.push(Name::new(alloc, name)?)?;
-            Ok(RuleStep::Reading(RuleReader::AfterNames(names, stack, nots)))
+            Ok(RuleStep::Reading(RulePlace::AfterNames(names, nots)))
         }
         _ => {
-            let unit = negated(alloc, nots, RuleForm::Order(names))?;
-            join_unit(alloc, stack.push(unit)?, symbol)
+            stack.level.push(alloc, nots, RuleForm::Order(names))?;
+            join_unit(alloc, stack, symbol)
         }
     }
 }
 
-impl RuleReader {
-    /// Before the first symbol of a rule.
-    pub fn new(alloc: Global) -> RuleReader
-        ensures { rule_state result ≡ machine.rule_start }
-    {
-        RuleReader::UnitNeeded(RuleStack::new(alloc), 0)
-    }
-
+impl RulePlace {
     #[tactic(auto, using(crate::proofs::Depths::nots_added))]
-    pub fn step(self, alloc: Global, symbol: Symbol<'_>) -> Result<RuleStep, AllocError>
-        requires { machine.depth_rule (rule_state self) < 2 ^ 64 - 1 }
-        ensures { IfOk result (λ step. rule_step step ≡ machine.step_rule (rule_state self) (meant symbol.entry)) }
+    pub fn step(
+        self,
+        alloc: Global,
+        stack: &mut RuleStack,
+        symbol: Symbol<'_>,
+    ) -> Result<RuleStep, AllocError>
+        requires { machine.depth_rule (rule_state stack.old self) < 2 ^ 64 - 1 }
+        ensures { IfOk result (λ step. rule_step stack.new step ≡ machine.step_rule (rule_state stack.old self) (meant symbol.entry)) }
     {
         match self {
-            RuleReader::UnitNeeded(stack, nots) => start_unit(alloc, stack, nots, symbol),
-            RuleReader::AfterUnit(stack) => join_unit(alloc, stack, symbol),
-            RuleReader::NameNeeded(names, stack, nots) => {
-                read_name(alloc, names, stack, nots, symbol)
-            }
-            RuleReader::AfterNames(names, stack, nots) => {
-                more_names(alloc, names, stack, nots, symbol)
-            }
+            RulePlace::UnitNeeded(nots) => start_unit(alloc, stack, nots, symbol),
+            RulePlace::AfterUnit => join_unit(alloc, stack, symbol),
+            RulePlace::NameNeeded(names, nots) => read_name(alloc, stack, names, nots, symbol),
+            RulePlace::AfterNames(names, nots) => more_names(alloc, stack, names, nots, symbol),
         }
     }
 
     /// What could come next.
-    pub fn wanted(&self) -> Wanted
-        ensures { kind_of result ≡ machine.wanted_rule (rule_state self.now) }
+    pub fn wanted(&self, stack: &RuleStack) -> Wanted
+        ensures { kind_of result ≡ machine.wanted_rule (rule_state stack.now self.now) }
     {
         match self {
-            RuleReader::UnitNeeded(..) => Wanted::Rule,
-            RuleReader::NameNeeded(..) => Wanted::Name,
-            RuleReader::AfterUnit(stack) | RuleReader::AfterNames(_, stack, _) => stack.wanted(),
+            RulePlace::UnitNeeded(_) => Wanted::Rule,
+            RulePlace::NameNeeded(..) => Wanted::Name,
+            RulePlace::AfterUnit | RulePlace::AfterNames(..) => stack.wanted(),
         }
     }
 
     /// In how many parentheses and nots the next symbol stands.
     #[tactic(auto, using(crate::proofs::Depths::nots_added))]
-    pub fn depth(&self) -> usize
-        requires { machine.depth_rule (rule_state self.now) < 2 ^ 64 - 1 }
-        ensures { result ≡ machine.depth_rule (rule_state self.now) }
+    pub fn depth(&self, stack: &RuleStack) -> usize
+        requires { machine.depth_rule (rule_state stack.now self.now) < 2 ^ 64 - 1 }
+        ensures { result ≡ machine.depth_rule (rule_state stack.now self.now) }
     {
         match self {
-            RuleReader::UnitNeeded(stack, nots) | RuleReader::NameNeeded(_, stack, nots) => {
-                stack.height + *nots
-            }
-            RuleReader::AfterUnit(stack) | RuleReader::AfterNames(_, stack, _) => stack.height,
+            RulePlace::UnitNeeded(nots) | RulePlace::NameNeeded(_, nots) => stack.height + *nots,
+            RulePlace::AfterUnit | RulePlace::AfterNames(..) => stack.height,
         }
     }
 }

@@ -1,372 +1,392 @@
-ghost use Rattle.std.specs.Prelude.{◌≡◌, ◌∷◌, ◌++◌, ◌-◌, ◌^◌, ◌<◌, [], map, option_map, IfOk};
+ghost use Rattle.std.specs.Prelude.{◌≡◌, ◌∷◌, ◌++◌, ◌-◌, ◌^◌, ◌<◌, [], option_map, if◌then◌else◌, IfOk};
 ghost use Rattle.flow_facts.specs.Atom.{atom};
 ghost use Rattle.flow_form.specs.Form.{shape_of};
 ghost use Rattle.flow_form.specs.Script as form;
 ghost use Rattle.flow_form.specs.Script.{said};
 ghost use Rattle.flow_grammar.specs.Machine as machine;
 ghost use Rattle.flow_reader.specs.Symbols.{meant};
-ghost use Rattle.flow_reader.specs.Readers.{kind_of, arg_step};
+ghost use Rattle.flow_reader.specs.Readers.{kind_of};
 ghost use Rattle.flow_reader.specs.Goals.{goal_step};
 ghost use Rattle.flow_reader.specs.Rules.{rule_step};
-ghost use Rattle.flow_reader.specs.Scripts.{declared_of, script_state};
+ghost use Rattle.flow_reader.specs.Scripts.{decls_of, fact_state, event_state, flow_state, script_state};
 
 use crate::arguments::{ArgReader, ArgStep};
-use crate::goals::{GoalReader, GoalStep};
-use crate::rules::{RuleReader, RuleStep};
+use crate::goals::{GoalPlace, GoalStep};
+use crate::levels::Stack;
+use crate::rule_stack::RuleStack;
+use crate::rules::{RulePlace, RuleStep};
 use crate::symbol::Symbol;
-use flow_form::{Decl, Fact, Name, Note, Script, Wanted};
+use flow_form::{Decl, Fact, Form, Name, Note, Script, Wanted};
 use std::alloc::{AllocError, Global};
+use std::mem;
 
-/// Where the reading of a text stands, with the declarations so far.
+/// What a text has said so far, and the stacks of the goal and of the rule that are being read.
 #[derive(Drop)]
-pub enum ScriptReader {
-    DeclarationNeeded(Vec<Decl>),
-    FactToDeclare(Vec<Decl>),
-    AfterRelation(Vec<Decl>, Name),
-    InArgs(Vec<Decl>, ArgReader),
-    AfterFact(Vec<Decl>),
-    EventToDeclare(Vec<Decl>),
-    AfterEvent(Vec<Decl>, Name),
-    AfterFail(Vec<Decl>, Name),
-    AfterNoted(Vec<Decl>),
-    FlowToDeclare(Vec<Decl>),
-    EqualsNeeded(Vec<Decl>, Name),
-    InFlow(Vec<Decl>, Name, GoalReader),
-    InGoal(Vec<Decl>, GoalReader),
-    ConstraintNeeded(Script),
-    InConstraint(Script, RuleReader),
+pub struct ScriptParts {
+    pub script: Script,
+    pub goals: Stack,
+    pub rules: RuleStack,
 }
 
-fn start_declaration(alloc: Global, decls: Vec<Decl>, symbol: Symbol<'_>) -> Option<ScriptReader>
-    ensures { option_map script_state result ≡ machine.start_declaration (declared_of decls.items) (meant symbol.entry) }
-{
-    match symbol {
-        Symbol::Fact => Some(ScriptReader::FactToDeclare(decls)),
-        Symbol::Event => Some(ScriptReader::EventToDeclare(decls)),
-        Symbol::Flow => Some(ScriptReader::FlowToDeclare(decls)),
-        Symbol::Goal => Some(ScriptReader::InGoal(decls, GoalReader::new(alloc))),
-        _ => None,
-    }
+/// Where the reading of declared facts stands.
+#[derive(Drop)]
+pub enum FactPlace {
+    FactNeeded,
+    AfterRelation(Name),
+    InArgs(ArgReader),
+    AfterFact,
 }
 
-fn name_fact(
-    alloc: Global,
-    decls: Vec<Decl>,
-    symbol: Symbol<'_>,
-) -> Result<Option<ScriptReader>, AllocError>
-    ensures { IfOk result (λ step. option_map script_state step
-        ≡ machine.name_declared_fact (declared_of decls.items) (meant symbol.entry)) }
-{
-    match symbol {
-        Symbol::Name(name) => {
-            let relation = Name::new(alloc, name)?;
-            Ok(Some(ScriptReader::AfterRelation(decls, relation)))
-        }
-        _ => Ok(None),
-    }
+/// Where the reading of declared events stands.
+#[derive(Drop)]
+pub enum EventPlace {
+    NameNeeded,
+    AfterName(Name),
+    AfterFail(Name),
+    AfterNote,
 }
 
-fn join_fact(decls: Vec<Decl>, symbol: Symbol<'_>) -> Option<ScriptReader>
-    ensures { option_map script_state result ≡ machine.join_fact (declared_of decls.items) (meant symbol.entry) }
-{
-    match symbol {
-        Symbol::Comma => Some(ScriptReader::FactToDeclare(decls)),
-        Symbol::Semicolon => Some(ScriptReader::DeclarationNeeded(decls)),
-        _ => None,
-    }
+/// Where the reading of a sub-workflow stands.
+#[derive(Drop)]
+pub enum FlowPlace {
+    NameNeeded,
+    EqualsNeeded(Name),
+    InGoal(Name, GoalPlace),
 }
 
-/// A fact with no arguments, and then what may follow it.
-fn end_bare_fact(
-    alloc: Global,
-    mut decls: Vec<Decl>,
-    relation: Name,
-    symbol: Symbol<'_>,
-) -> Result<Option<ScriptReader>, AllocError>
-    ensures { IfOk result (λ step. option_map script_state step
-        ≡ machine.join_fact (declared_of decls.items ++ form.fact (atom relation []) ∷ []) (meant symbol.entry)) }
-{
-    let fact = Fact::new(relation, Vec::new(alloc));
-    decls.push(Decl::Fact(fact))?;
-    Ok(join_fact(decls, symbol))
+/// Where the reading of a text stands, beside its parts.
+#[derive(Drop)]
+pub enum ScriptPlace {
+    DeclarationNeeded,
+    InFact(FactPlace),
+    InEvent(EventPlace),
+    InFlow(FlowPlace),
+    InGoal(GoalPlace),
+    ConstraintNeeded,
+    InConstraint(RulePlace),
 }
 
-fn open_args(
-    alloc: Global,
-    decls: Vec<Decl>,
-    relation: Name,
-    symbol: Symbol<'_>,
-) -> Result<Option<ScriptReader>, AllocError>
-    ensures { IfOk result (λ step. option_map script_state step
-        ≡ machine.open_declared_args (declared_of decls.items) relation (meant symbol.entry)) }
-{
-    match symbol {
-        Symbol::Opening => {
-            let args = ArgReader::ConstantNeeded(relation, Vec::new(alloc));
-            Ok(Some(ScriptReader::InArgs(decls, args)))
-        }
-        _ => end_bare_fact(alloc, decls, relation, symbol),
-    }
-}
-
-fn after_arg(mut decls: Vec<Decl>, step: ArgStep) -> Result<Option<ScriptReader>, AllocError>
-    ensures { IfOk result (λ made. option_map script_state made
-        ≡ machine.after_declared_arg (declared_of decls.items) (arg_step step)) }
-{
-    match step {
-        ArgStep::Reading(args) => Ok(Some(ScriptReader::InArgs(decls, args))),
-        ArgStep::Whole(fact) => {
-            decls.push(Decl::Fact(fact))?;
-            Ok(Some(ScriptReader::AfterFact(decls)))
-        }
-        ArgStep::Stuck => Ok(None),
-    }
-}
-
-fn name_event(
-    alloc: Global,
-    decls: Vec<Decl>,
-    symbol: Symbol<'_>,
-) -> Result<Option<ScriptReader>, AllocError>
-    ensures { IfOk result (λ step. option_map script_state step
-        ≡ machine.name_event (declared_of decls.items) (meant symbol.entry)) }
-{
-    match symbol {
-        Symbol::Name(name) => {
-            let event = Name::new(alloc, name)?;
-            Ok(Some(ScriptReader::AfterEvent(decls, event)))
-        }
-        _ => Ok(None),
-    }
-}
-
-fn join_event(decls: Vec<Decl>, symbol: Symbol<'_>) -> Option<ScriptReader>
-    ensures { option_map script_state result ≡ machine.join_event (declared_of decls.items) (meant symbol.entry) }
-{
-    match symbol {
-        Symbol::Comma => Some(ScriptReader::EventToDeclare(decls)),
-        Symbol::Semicolon => Some(ScriptReader::DeclarationNeeded(decls)),
-        _ => None,
-    }
-}
-
-fn note_event(
-    mut decls: Vec<Decl>,
-    event: Name,
-    symbol: Symbol<'_>,
-) -> Result<Option<ScriptReader>, AllocError>
-    ensures { IfOk result (λ step. option_map script_state step
-        ≡ machine.note_event (declared_of decls.items) event (meant symbol.entry)) }
-{
-    match symbol {
-        Symbol::Done => {
-            decls.push(Decl::Event(event, Note::Done))?;
-            Ok(Some(ScriptReader::AfterNoted(decls)))
-        }
-        Symbol::Fail => Ok(Some(ScriptReader::AfterFail(decls, event))),
-        Symbol::Comma | Symbol::Semicolon => {
-            decls.push(Decl::Event(event, Note::Done))?;
-            Ok(join_event(decls, symbol))
-        }
-        _ => Ok(None),
-    }
-}
-
-fn count_failures(
-    mut decls: Vec<Decl>,
-    event: Name,
-    symbol: Symbol<'_>,
-) -> Result<Option<ScriptReader>, AllocError>
-    ensures { IfOk result (λ step. option_map script_state step
-        ≡ machine.count_failures (declared_of decls.items) event (meant symbol.entry)) }
-{
-    match symbol {
-        Symbol::Number(count) => {
-            decls.push(Decl::Event(event, Note::FailFirst(count)))?;
-            Ok(Some(ScriptReader::AfterNoted(decls)))
-        }
-        Symbol::Comma | Symbol::Semicolon => {
-            decls.push(Decl::Event(event, Note::Fail))?;
-            Ok(join_event(decls, symbol))
-        }
-        _ => Ok(None),
-    }
-}
-
-fn name_flow(
-    alloc: Global,
-    decls: Vec<Decl>,
-    symbol: Symbol<'_>,
-) -> Result<Option<ScriptReader>, AllocError>
-    ensures { IfOk result (λ step. option_map script_state step
-        ≡ machine.name_flow (declared_of decls.items) (meant symbol.entry)) }
-{
-    match symbol {
-        Symbol::Name(name) => {
-            let flow = Name::new(alloc, name)?;
-            Ok(Some(ScriptReader::EqualsNeeded(decls, flow)))
-        }
-        _ => Ok(None),
-    }
-}
-
-fn begin_flow(
-    alloc: Global,
-    decls: Vec<Decl>,
-    flow: Name,
-    symbol: Symbol<'_>,
-) -> Option<ScriptReader>
-    ensures { option_map script_state result ≡ machine.begin_flow (declared_of decls.items) flow (meant symbol.entry) }
-{
-    match symbol {
-        Symbol::Equals => Some(ScriptReader::InFlow(decls, flow, GoalReader::new(alloc))),
-        _ => None,
-    }
-}
-
-fn after_flow(
-    mut decls: Vec<Decl>,
-    flow: Name,
-    step: GoalStep,
-) -> Result<Option<ScriptReader>, AllocError>
-    ensures { IfOk result (λ made. option_map script_state made
-        ≡ machine.after_flow_step (declared_of decls.items) flow (goal_step step)) }
-{
-    match step {
-        GoalStep::Reading(goal) => Ok(Some(ScriptReader::InFlow(decls, flow, goal))),
-        GoalStep::Whole(form) => {
-            decls.push(Decl::Flow(flow, form))?;
-            Ok(Some(ScriptReader::DeclarationNeeded(decls)))
-        }
-        GoalStep::Stuck => Ok(None),
-    }
-}
-
-fn after_goal(alloc: Global, decls: Vec<Decl>, step: GoalStep) -> Option<ScriptReader>
-    ensures { option_map script_state result ≡ machine.after_goal_step (declared_of decls.items) (goal_step step) }
-{
-    match step {
-        GoalStep::Reading(goal) => Some(ScriptReader::InGoal(decls, goal)),
-        GoalStep::Whole(goal) => {
-            let rules = Vec::new(alloc);
-            Some(ScriptReader::ConstraintNeeded(Script { decls, goal, rules }))
-        }
-        GoalStep::Stuck => None,
-    }
-}
-
-fn start_constraint(alloc: Global, script: Script, symbol: Symbol<'_>) -> Option<ScriptReader>
-    ensures { option_map script_state result ≡ machine.start_constraint
-        (said script).decls (said script).goal (said script).rules (meant symbol.entry) }
-{
-    match symbol {
-        Symbol::Constraint => Some(ScriptReader::InConstraint(script, RuleReader::new(alloc))),
-        _ => {
-            drop(script);
-            None
-        }
-    }
-}
-
-fn after_constraint(mut script: Script, step: RuleStep) -> Result<Option<ScriptReader>, AllocError>
-    ensures { IfOk result (λ made. option_map script_state made ≡ machine.after_rule_step
-        (said script).decls (said script).goal (said script).rules (rule_step step)) }
-{
-    match step {
-        RuleStep::Reading(rule) => Ok(Some(ScriptReader::InConstraint(script, rule))),
-        RuleStep::Whole(rule) => {
-            script.rules.push(rule)?;
-            Ok(Some(ScriptReader::ConstraintNeeded(script)))
-        }
-        RuleStep::Stuck => {
-            drop(script);
-            Ok(None)
-        }
-    }
-}
-
-impl ScriptReader {
-    /// Before the first symbol of a text.
-    pub fn new(alloc: Global) -> ScriptReader
-        ensures { script_state result ≡ machine.script_start }
+impl ScriptParts {
+    /// Nothing yet.
+    pub fn new(alloc: Global) -> ScriptParts
+        ensures { decls_of result ≡ [] }
     {
-        ScriptReader::DeclarationNeeded(Vec::new(alloc))
+        ScriptParts {
+            script: Script {
+                decls: Vec::new(alloc),
+                goal: Form::Nop,
+                rules: Vec::new(alloc),
+            },
+            goals: Stack::new(alloc),
+            rules: RuleStack::new(alloc),
+        }
+    }
+
+    fn start_declaration(&mut self, alloc: Global, symbol: Symbol<'_>) -> Option<ScriptPlace>
+        ensures { option_map (script_state self.new) result ≡ machine.start_declaration (decls_of self.old) (meant symbol.entry) }
+    {
+        match symbol {
+            Symbol::Fact => Some(ScriptPlace::InFact(FactPlace::FactNeeded)),
+            Symbol::Event => Some(ScriptPlace::InEvent(EventPlace::NameNeeded)),
+            Symbol::Flow => Some(ScriptPlace::InFlow(FlowPlace::NameNeeded)),
+            Symbol::Goal => {
+                self.goals.restart(alloc);
+                Some(ScriptPlace::InGoal(GoalPlace::AtomNeeded))
+            }
+            _ => None,
+        }
+    }
+
+    fn join_fact(&self, symbol: Symbol<'_>) -> Option<ScriptPlace>
+        ensures { option_map (script_state self.now) result ≡ machine.join_item machine.fact_to_declare (decls_of self.now) (meant symbol.entry) }
+    {
+        match symbol {
+            Symbol::Comma => Some(ScriptPlace::InFact(FactPlace::FactNeeded)),
+            Symbol::Semicolon => Some(ScriptPlace::DeclarationNeeded),
+            _ => None,
+        }
+    }
+
+    fn open_args(
+        &mut self,
+        alloc: Global,
+        relation: Name,
+        symbol: Symbol<'_>,
+    ) -> Result<Option<ScriptPlace>, AllocError>
+        ensures { IfOk result (λ step. option_map (script_state self.new) step
+            ≡ machine.open_declared_args (decls_of self.old) relation (meant symbol.entry)) }
+    {
+        match symbol {
+            Symbol::Opening => {
+                let args = ArgReader::ConstantNeeded(relation, Vec::new(alloc));
+                Ok(Some(ScriptPlace::InFact(FactPlace::InArgs(args))))
+            }
+            _ => {
+                let fact = Fact::new(relation, Vec::new(alloc));
+                self.script.decls.push(Decl::Fact(fact))?;
+                Ok(self.join_fact(symbol))
+            }
+        }
+    }
+
+    fn step_fact(
+        &mut self,
+        alloc: Global,
+        place: FactPlace,
+        symbol: Symbol<'_>,
+    ) -> Result<Option<ScriptPlace>, AllocError>
+        ensures { IfOk result (λ step. option_map (script_state self.new) step
+            ≡ machine.step_script (fact_state (decls_of self.old) place) (meant symbol.entry)) }
+    {
+        match place {
+            FactPlace::FactNeeded => match symbol {
+                Symbol::Name(name) => {
+                    let relation = Name::new(alloc, name)?;
+                    Ok(Some(ScriptPlace::InFact(FactPlace::AfterRelation(relation))))
+                }
+                _ => Ok(None),
+            },
+            FactPlace::AfterRelation(relation) => self.open_args(alloc, relation, symbol),
+            FactPlace::InArgs(args) => match args.step(alloc, symbol)? {
+                ArgStep::Reading(args) => Ok(Some(ScriptPlace::InFact(FactPlace::InArgs(args)))),
+                ArgStep::Whole(fact) => {
+                    self.script.decls.push(Decl::Fact(fact))?;
+                    Ok(Some(ScriptPlace::InFact(FactPlace::AfterFact)))
+                }
+                ArgStep::Stuck => Ok(None),
+            },
+            FactPlace::AfterFact => Ok(self.join_fact(symbol)),
+        }
+    }
+
+    fn join_event(&self, symbol: Symbol<'_>) -> Option<ScriptPlace>
+        ensures { option_map (script_state self.now) result ≡ machine.join_item machine.event_to_declare (decls_of self.now) (meant symbol.entry) }
+    {
+        match symbol {
+            Symbol::Comma => Some(ScriptPlace::InEvent(EventPlace::NameNeeded)),
+            Symbol::Semicolon => Some(ScriptPlace::DeclarationNeeded),
+            _ => None,
+        }
+    }
+
+    fn note_event(
+        &mut self,
+        event: Name,
+        symbol: Symbol<'_>,
+    ) -> Result<Option<ScriptPlace>, AllocError>
+        ensures { IfOk result (λ step. option_map (script_state self.new) step
+            ≡ machine.note_event (decls_of self.old) event (meant symbol.entry)) }
+    {
+        match symbol {
+            Symbol::Done => {
+                self.script.decls.push(Decl::Event(event, Note::Done))?;
+                Ok(Some(ScriptPlace::InEvent(EventPlace::AfterNote)))
+            }
+            Symbol::Fail => Ok(Some(ScriptPlace::InEvent(EventPlace::AfterFail(event)))),
+            _ => {
+                self.script.decls.push(Decl::Event(event, Note::Done))?;
+                Ok(self.join_event(symbol))
+            }
+        }
+    }
+
+    fn count_failures(
+        &mut self,
+        event: Name,
+        symbol: Symbol<'_>,
+    ) -> Result<Option<ScriptPlace>, AllocError>
+        ensures { IfOk result (λ step. option_map (script_state self.new) step
+            ≡ machine.count_failures (decls_of self.old) event (meant symbol.entry)) }
+    {
+        match symbol {
+            Symbol::Number(count) => {
+                let note = Note::FailFirst(count);
+                self.script.decls.push(Decl::Event(event, note))?;
+                Ok(Some(ScriptPlace::InEvent(EventPlace::AfterNote)))
+            }
+            _ => {
+                self.script.decls.push(Decl::Event(event, Note::Fail))?;
+                Ok(self.join_event(symbol))
+            }
+        }
+    }
+
+    fn step_event(
+        &mut self,
+        alloc: Global,
+        place: EventPlace,
+        symbol: Symbol<'_>,
+    ) -> Result<Option<ScriptPlace>, AllocError>
+        ensures { IfOk result (λ step. option_map (script_state self.new) step
+            ≡ machine.step_script (event_state (decls_of self.old) place) (meant symbol.entry)) }
+    {
+        match place {
+            EventPlace::NameNeeded => match symbol {
+                Symbol::Name(name) => {
+                    let event = Name::new(alloc, name)?;
+                    Ok(Some(ScriptPlace::InEvent(EventPlace::AfterName(event))))
+                }
+                _ => Ok(None),
+            },
+            EventPlace::AfterName(event) => self.note_event(event, symbol),
+            EventPlace::AfterFail(event) => self.count_failures(event, symbol),
+            EventPlace::AfterNote => Ok(self.join_event(symbol)),
+        }
+    }
+
+    fn after_flow(&mut self, flow: Name, step: GoalStep) -> Result<Option<ScriptPlace>, AllocError>
+        ensures { IfOk result (λ made. option_map (script_state self.new) made
+            ≡ machine.after_flow_step (decls_of self.old) flow (goal_step self.old.goals step)) }
+    {
+        match step {
+            GoalStep::Reading(goal) => Ok(Some(ScriptPlace::InFlow(FlowPlace::InGoal(flow, goal)))),
+            GoalStep::Whole(form) => {
+                self.script.decls.push(Decl::Flow(flow, form))?;
+                Ok(Some(ScriptPlace::DeclarationNeeded))
+            }
+            GoalStep::Stuck => Ok(None),
+        }
+    }
+
+    fn step_flow(
+        &mut self,
+        alloc: Global,
+        place: FlowPlace,
+        symbol: Symbol<'_>,
+    ) -> Result<Option<ScriptPlace>, AllocError>
+        ensures { IfOk result (λ step. option_map (script_state self.new) step
+            ≡ machine.step_script (flow_state (decls_of self.old) self.old.goals place) (meant symbol.entry)) }
+    {
+        match place {
+            FlowPlace::NameNeeded => match symbol {
+                Symbol::Name(name) => {
+                    let flow = Name::new(alloc, name)?;
+                    Ok(Some(ScriptPlace::InFlow(FlowPlace::EqualsNeeded(flow))))
+                }
+                _ => Ok(None),
+            },
+            FlowPlace::EqualsNeeded(flow) => match symbol {
+                Symbol::Equals => {
+                    self.goals.restart(alloc);
+                    Ok(Some(ScriptPlace::InFlow(FlowPlace::InGoal(flow, GoalPlace::AtomNeeded))))
+                }
+                _ => Ok(None),
+            },
+            FlowPlace::InGoal(flow, goal) => {
+                let step = goal.step(alloc, &mut self.goals, symbol)?;
+                self.after_flow(flow, step)
+            }
+        }
+    }
+
+    fn after_goal(&mut self, alloc: Global, step: GoalStep) -> Option<ScriptPlace>
+        ensures { option_map (script_state self.new) result
+            ≡ machine.after_goal_step (decls_of self.old) (goal_step self.old.goals step) }
+    {
+        match step {
+            GoalStep::Reading(goal) => Some(ScriptPlace::InGoal(goal)),
+            GoalStep::Whole(form) => {
+                drop(mem::replace(&mut self.script.goal, form));
+                drop(mem::replace(&mut self.script.rules, Vec::new(alloc)));
+                Some(ScriptPlace::ConstraintNeeded)
+            }
+            GoalStep::Stuck => None,
+        }
+    }
+
+    fn after_constraint(&mut self, step: RuleStep) -> Result<Option<ScriptPlace>, AllocError>
+        ensures { IfOk result (λ made. option_map (script_state self.new) made ≡ machine.after_rule_step
+            (decls_of self.old) (said self.old.script).goal (said self.old.script).rules (rule_step self.old.rules step)) }
+    {
+        match step {
+            RuleStep::Reading(rule) => Ok(Some(ScriptPlace::InConstraint(rule))),
+            RuleStep::Whole(rule) => {
+                self.script.rules.push(rule)?;
+                Ok(Some(ScriptPlace::ConstraintNeeded))
+            }
+            RuleStep::Stuck => Ok(None),
+        }
     }
 
     /// What a symbol makes of it. `None` where no text goes on with it.
-    pub fn step(self, alloc: Global, symbol: Symbol<'_>) -> Result<Option<ScriptReader>, AllocError>
-        requires { machine.depth_script (script_state self) < 2 ^ 64 - 1 }
-        ensures { IfOk result (λ step. option_map script_state step ≡ machine.step_script (script_state self) (meant symbol.entry)) }
+    pub fn step(
+        &mut self,
+        alloc: Global,
+        place: ScriptPlace,
+        symbol: Symbol<'_>,
+    ) -> Result<Option<ScriptPlace>, AllocError>
+        requires { machine.depth_script (script_state self.old place) < 2 ^ 64 - 1 }
+        ensures { IfOk result (λ step. option_map (script_state self.new) step
+            ≡ machine.step_script (script_state self.old place) (meant symbol.entry)) }
     {
-        match self {
-            ScriptReader::DeclarationNeeded(decls) => Ok(start_declaration(alloc, decls, symbol)),
-            ScriptReader::FactToDeclare(decls) => name_fact(alloc, decls, symbol),
-            ScriptReader::AfterRelation(decls, name) => open_args(alloc, decls, name, symbol),
-            ScriptReader::InArgs(decls, args) => after_arg(decls, args.step(alloc, symbol)?),
-            ScriptReader::AfterFact(decls) => Ok(join_fact(decls, symbol)),
-            ScriptReader::EventToDeclare(decls) => name_event(alloc, decls, symbol),
-            ScriptReader::AfterEvent(decls, event) => note_event(decls, event, symbol),
-            ScriptReader::AfterFail(decls, event) => count_failures(decls, event, symbol),
-            ScriptReader::AfterNoted(decls) => Ok(join_event(decls, symbol)),
-            ScriptReader::FlowToDeclare(decls) => name_flow(alloc, decls, symbol),
-            ScriptReader::EqualsNeeded(decls, flow) => Ok(begin_flow(alloc, decls, flow, symbol)),
-            ScriptReader::InFlow(decls, flow, goal) => {
-                after_flow(decls, flow, goal.step(alloc, symbol)?)
+        match place {
+            ScriptPlace::DeclarationNeeded => Ok(self.start_declaration(alloc, symbol)),
+            ScriptPlace::InFact(place) => self.step_fact(alloc, place, symbol),
+            ScriptPlace::InEvent(place) => self.step_event(alloc, place, symbol),
+            ScriptPlace::InFlow(place) => self.step_flow(alloc, place, symbol),
+            ScriptPlace::InGoal(goal) => {
+                let step = goal.step(alloc, &mut self.goals, symbol)?;
+                Ok(self.after_goal(alloc, step))
             }
-            ScriptReader::InGoal(decls, goal) => {
-                Ok(after_goal(alloc, decls, goal.step(alloc, symbol)?))
-            }
-            ScriptReader::ConstraintNeeded(script) => Ok(start_constraint(alloc, script, symbol)),
-            ScriptReader::InConstraint(script, rule) => {
-                after_constraint(script, rule.step(alloc, symbol)?)
-            }
-        }
-    }
-
-    /// What the text says if it ends here.
-    pub fn finish(self) -> Option<Script>
-        ensures { option_map said result ≡ machine.finish_script (script_state self) }
-    {
-        match self {
-            ScriptReader::ConstraintNeeded(script) => Some(script),
-            unfinished => {
-                drop(unfinished);
-                None
+            ScriptPlace::ConstraintNeeded => match symbol {
+                Symbol::Constraint => {
+                    self.rules.restart(alloc);
+                    Ok(Some(ScriptPlace::InConstraint(RulePlace::UnitNeeded(0))))
+                }
+                _ => Ok(None),
+            },
+            ScriptPlace::InConstraint(rule) => {
+                let step = rule.step(alloc, &mut self.rules, symbol)?;
+                self.after_constraint(step)
             }
         }
     }
 
     /// What could come next.
-    pub fn wanted(&self) -> Wanted
-        ensures { kind_of result ≡ machine.wanted_script (script_state self.now) }
+    pub fn wanted(&self, place: &ScriptPlace) -> Wanted
+        ensures { kind_of result ≡ machine.wanted_script (script_state self.now place.now) }
     {
-        match self {
-            ScriptReader::DeclarationNeeded(_) => Wanted::Declaration,
-            ScriptReader::FactToDeclare(_) => Wanted::Fact,
-            ScriptReader::InArgs(_, args) => args.wanted(),
-            ScriptReader::EventToDeclare(_) | ScriptReader::FlowToDeclare(_) => Wanted::Name,
-            ScriptReader::AfterRelation(..)
-            | ScriptReader::AfterFact(_)
-            | ScriptReader::AfterEvent(..)
-            | ScriptReader::AfterFail(..)
-            | ScriptReader::AfterNoted(_) => Wanted::Semicolon,
-            ScriptReader::EqualsNeeded(..) => Wanted::Equals,
-            ScriptReader::InFlow(_, _, goal) | ScriptReader::InGoal(_, goal) => goal.wanted(),
-            ScriptReader::ConstraintNeeded(..) => Wanted::Constraint,
-            ScriptReader::InConstraint(_, rule) => rule.wanted(),
+        match place {
+            ScriptPlace::DeclarationNeeded => Wanted::Declaration,
+            ScriptPlace::InFact(FactPlace::FactNeeded) => Wanted::Fact,
+            ScriptPlace::InFact(FactPlace::InArgs(args)) => args.wanted(),
+            ScriptPlace::InEvent(EventPlace::NameNeeded)
+            | ScriptPlace::InFlow(FlowPlace::NameNeeded) => Wanted::Name,
+            ScriptPlace::InFact(_) | ScriptPlace::InEvent(_) => Wanted::Semicolon,
+            ScriptPlace::InFlow(FlowPlace::EqualsNeeded(_)) => Wanted::Equals,
+            ScriptPlace::InFlow(FlowPlace::InGoal(_, goal)) | ScriptPlace::InGoal(goal) => {
+                goal.wanted(&self.goals)
+            }
+            ScriptPlace::ConstraintNeeded => Wanted::Constraint,
+            ScriptPlace::InConstraint(rule) => rule.wanted(&self.rules),
         }
     }
 
     /// In how many parentheses and nots the next symbol stands.
-    pub fn depth(&self) -> usize
-        requires { machine.depth_script (script_state self.now) < 2 ^ 64 - 1 }
-        ensures { result ≡ machine.depth_script (script_state self.now) }
+    pub fn depth(&self, place: &ScriptPlace) -> usize
+        requires { machine.depth_script (script_state self.now place.now) < 2 ^ 64 - 1 }
+        ensures { result ≡ machine.depth_script (script_state self.now place.now) }
     {
-        match self {
-            ScriptReader::InArgs(..) => 1,
-            ScriptReader::InFlow(_, _, goal) | ScriptReader::InGoal(_, goal) => goal.depth(),
-            ScriptReader::InConstraint(_, rule) => rule.depth(),
+        match place {
+            ScriptPlace::InFact(FactPlace::InArgs(_)) => 1,
+            ScriptPlace::InFlow(FlowPlace::InGoal(_, goal)) | ScriptPlace::InGoal(goal) => {
+                goal.depth(&self.goals)
+            }
+            ScriptPlace::InConstraint(rule) => rule.depth(&self.rules),
             _ => 0,
+        }
+    }
+
+    /// Whether a text may end here. It drops the place.
+    pub fn is_whole(&self, place: ScriptPlace) -> bool
+        ensures { machine.finish_script (script_state self.now place) ≡ (if result then Some (said self.now.script) else None) }
+    {
+        match place {
+            ScriptPlace::ConstraintNeeded => true,
+            unfinished => {
+                drop(unfinished);
+                false
+            }
         }
     }
 }

@@ -79,27 +79,20 @@ fn word_of_constraints(word: &[u8]) -> Option<Symbol<'static>>
     }
 }
 
-/// The reserved word that it is, if any.
-fn reserved(word: &[u8]) -> Option<Symbol<'static>>
-    ensures { option_map meant result ≡ Symbols.reserved word.now }
-{
-    if let Some(symbol) = word_of_declarations(word) {
-        return Some(symbol);
-    }
-    if let Some(symbol) = word_of_goals(word) {
-        return Some(symbol);
-    }
-    word_of_constraints(word)
-}
-
-/// A word as its symbol.
+/// A word as its symbol: the reserved word that it is, or else a name.
 pub fn word_symbol(word: &[u8]) -> Symbol<'_>
     ensures { meant result ≡ Symbols.word_symbol word.now }
 {
-    match reserved(word) {
-        Some(symbol) => symbol,
-        None => Symbol::Name(word),
+    if let Some(symbol) = word_of_declarations(word) {
+        return symbol;
     }
+    if let Some(symbol) = word_of_goals(word) {
+        return symbol;
+    }
+    if let Some(symbol) = word_of_constraints(word) {
+        return symbol;
+    }
+    Symbol::Name(word)
 }
 
 /// A mark as its symbol; every other byte counts as an exclamation mark.

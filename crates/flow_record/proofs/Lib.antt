@@ -1,3 +1,4 @@
+pub mod Cutting
 pub mod FirstLine
 pub mod FirstWord
 pub mod Histories

@@ -1,5 +1,5 @@
 /// One line of a session. Leaves and claims go by their numbers.
-#[derive(Clone, Copy, Debug, PartialEq, Eq)]
+#[derive(Clone, Copy)]
 pub enum Command {
     /// Take a claim on a leaf.
     Take(u32),

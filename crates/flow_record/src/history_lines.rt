@@ -71,9 +71,10 @@ fn read_step(words: &[u8]) -> Option<Step>
 fn lone_step(word: &[u8]) -> Option<Step>
     ensures { result ≡ lone_step word.now }
 {
-    match word {
-        b"committed" => Some(Step::Committed),
-        _ => None,
+    if is_word(word, b"committed") {
+        Some(Step::Committed)
+    } else {
+        None
     }
 }
 
@@ -120,10 +121,12 @@ fn read_failed(text: &[u8]) -> Option<Step>
 fn read_effect(word: &[u8]) -> Option<FailEffect>
     ensures { result ≡ effect_of word.now }
 {
-    match word {
-        b"switched" => Some(FailEffect::Switched),
-        b"kept" => Some(FailEffect::Kept),
-        _ => None,
+    if is_word(word, b"switched") {
+        Some(FailEffect::Switched)
+    } else if is_word(word, b"kept") {
+        Some(FailEffect::Kept)
+    } else {
+        None
     }
 }
 
@@ -131,11 +134,15 @@ fn read_effect(word: &[u8]) -> Option<FailEffect>
 fn numbered_step(word: &[u8], number: u32) -> Option<Step>
     ensures { result ≡ numbered_step word.now number }
 {
-    match word {
-        b"done" => Some(Step::Done { claim: number }),
-        b"late" => Some(Step::Late { claim: number }),
-        b"did" => Some(Step::Did { leaf: number }),
-        b"rewound" => Some(Step::Rewound { index: number }),
-        _ => None,
+    if is_word(word, b"done") {
+        Some(Step::Done { claim: number })
+    } else if is_word(word, b"late") {
+        Some(Step::Late { claim: number })
+    } else if is_word(word, b"did") {
+        Some(Step::Did { leaf: number })
+    } else if is_word(word, b"rewound") {
+        Some(Step::Rewound { index: number })
+    } else {
+        None
     }
 }

@@ -8,16 +8,6 @@ use flow_workflow::Workflow;
 use itoa::Buffer;
 use std::alloc::{AllocError, Global};
 
-/// Prints the label of a leaf: an event's name, or what is asked of a fact or done to it.
-pub fn print_label(alloc: Global, workflow: &Workflow, leaf: u32) -> Result<Vec<u8>, AllocError>
-    requires { IsLeaf workflow.now leaf }
-    ensures { IfOk result (λ text. text.items ≡ leaf_text workflow.now leaf) }
-{
-    let mut text = Vec::new(alloc);
-    push_leaf_label(&mut text, workflow, leaf)?;
-    Ok(text)
-}
-
 /// Prints the lines of a journal.
 pub fn print_journal(
     alloc: Global,
@@ -29,13 +19,13 @@ pub fn print_journal(
 {
     let mut text = Vec::new(alloc);
     for leaf in leaves {
-        push_leaf(&mut text, workflow, *leaf)?;
+        push_leaf_line(&mut text, workflow, *leaf)?;
     }
     Ok(text)
 }
 
 /// Adds the line of a leaf to a text.
-fn push_leaf(text: &mut Vec<u8>, workflow: &Workflow, leaf: u32) -> Result<(), AllocError>
+pub fn push_leaf_line(text: &mut Vec<u8>, workflow: &Workflow, leaf: u32) -> Result<(), AllocError>
     requires { IsLeaf workflow.now leaf }
     ensures { OnOk result (text.new.items ≡ text.old.items ++ leaf_line workflow.now leaf) }
 {
@@ -46,8 +36,8 @@ fn push_leaf(text: &mut Vec<u8>, workflow: &Workflow, leaf: u32) -> Result<(), A
     text.extend_from_slice(b"\n")
 }
 
-/// Adds the label of a leaf to a text.
-fn push_leaf_label(text: &mut Vec<u8>, workflow: &Workflow, leaf: u32) -> Result<(), AllocError>
+/// Adds the label of a leaf to a text: an event's name, or what is asked of a fact or done to it.
+pub(crate) fn push_leaf_label(text: &mut Vec<u8>, workflow: &Workflow, leaf: u32) -> Result<(), AllocError>
     requires { IsLeaf workflow.now leaf }
     ensures { OnOk result (text.new.items ≡ text.old.items ++ leaf_text workflow.now leaf) }
 {

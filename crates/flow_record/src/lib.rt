@@ -1,4 +1,4 @@
-//! Histories, journals and sessions as text.
+//! Histories, journals and sessions as text, and where a source is cut before them.
 #![tactic(auto)]
 
 mod command;
@@ -11,14 +11,15 @@ mod lines;
 mod number;
 mod refusal;
 mod session;
+mod source;
 mod words;
 
 pub use command::Command;
 pub use history::print_history;
 pub use history_lines::read_history;
-pub use journal::{print_journal, print_label};
+pub use journal::{print_journal, push_leaf_line};
 pub use journal_lines::read_journal;
-pub use lines::place_of_feed;
 pub use number::read_number;
 pub use refusal::RecordRefusal;
 pub use session::read_session;
+pub use source::cut;

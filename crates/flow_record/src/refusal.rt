@@ -1,18 +1,14 @@
 ghost use Rattle.std.specs.Prelude.{◌≡◌};
 
 use std::alloc::{AllocError, AllocFailed};
-use thiserror::Error;
 
 /// Why a text is not read.
-#[derive(Clone, Copy, Debug, PartialEq, Eq, Error)]
+#[derive(Clone, Copy, Debug, PartialEq, Eq)]
 pub enum RecordRefusal {
     /// The least line that is not as it must be, counted from 0.
-    #[error("line {line} is not as it must be")]
     BadLine { line: u32 },
     /// All lines are as they must be: the least line whose label is not that of its leaf, counted from 0.
-    #[error("line {line} does not have the label of its leaf")]
     Label { line: u32 },
-    #[error("there is no memory")]
     NoMemory,
 }
 

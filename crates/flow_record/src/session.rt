@@ -5,7 +5,7 @@ ghost use Rattle.flow_record.specs.Session.{bare_command, numbered_command, line
 
 use crate::command::Command;
 use crate::line::Line;
-use crate::lines::{END, split_line};
+use crate::lines::{END, is_word, split_line};
 use crate::number::read_number;
 use crate::refusal::RecordRefusal;
 use crate::words::split_word;
@@ -62,14 +62,20 @@ fn read_line(line: &[u8]) -> Line
 fn bare_command(word: &[u8]) -> Option<Command>
     ensures { result ≡ bare_command word.now }
 {
-    match word {
-        b"rewind" => Some(Command::Rewind),
-        b"commit" => Some(Command::Commit),
-        b"next" => Some(Command::Next),
-        b"enabled" => Some(Command::Enabled),
-        b"journal" => Some(Command::Journal),
-        b"facts" => Some(Command::Facts),
-        _ => None,
+    if is_word(word, b"rewind") {
+        Some(Command::Rewind)
+    } else if is_word(word, b"commit") {
+        Some(Command::Commit)
+    } else if is_word(word, b"next") {
+        Some(Command::Next)
+    } else if is_word(word, b"enabled") {
+        Some(Command::Enabled)
+    } else if is_word(word, b"journal") {
+        Some(Command::Journal)
+    } else if is_word(word, b"facts") {
+        Some(Command::Facts)
+    } else {
+        None
     }
 }
 
@@ -78,11 +84,15 @@ fn numbered_command(word: &[u8], number: &[u8]) -> Option<Command>
     ensures { result ≡ numbered_command word.now number.now }
 {
     let number = read_number(number)?;
-    match word {
-        b"take" => Some(Command::Take(number)),
-        b"do" => Some(Command::Do(number)),
-        b"done" => Some(Command::Done(number)),
-        b"fail" => Some(Command::Fail(number)),
-        _ => None,
+    if is_word(word, b"take") {
+        Some(Command::Take(number))
+    } else if is_word(word, b"do") {
+        Some(Command::Do(number))
+    } else if is_word(word, b"done") {
+        Some(Command::Done(number))
+    } else if is_word(word, b"fail") {
+        Some(Command::Fail(number))
+    } else {
+        None
     }
 }

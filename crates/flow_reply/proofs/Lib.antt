@@ -1,4 +1,3 @@
-pub mod Cutting
 pub mod Tables
 mod Verdicts
 pub mod Runs

@@ -1,4 +1,3 @@
-pub mod Cut
 pub mod Reply
 pub mod Report
 pub mod Refusing

@@ -131,12 +131,16 @@ commit_text (Err refusal) = commit_refused refusal
 abbrev pub numbers_text : List ℕ → List ℕ → List ℕ
 numbers_text word numbers = word ++ spaced_numbers numbers
 
+-- all leaves that wait
+abbrev pub IsStuckText : Run → List ℕ → Type 0
+IsStuckText r text = (leaves : List ℕ) × AreJust (IsWaiting r) leaves × (text ≡ numbers_text (codes "stuck") leaves)
+
 -- what can be done next; where the run is stuck, all leaves that wait
 abbrev pub IsNextText : Run → Next → List ℕ → Type 0
 IsNextText r (next.Act leaf) text = text ≡ codes "act " ++ decimal leaf
 IsNextText r (next.Wait claim) text = text ≡ codes "wait " ++ decimal claim
 IsNextText r next.Finished text = text ≡ codes "finished"
-IsNextText r (next.Stuck least) text = (leaves : List ℕ) × AreJust (IsWaiting r) leaves × (text ≡ numbers_text (codes "stuck") leaves)
+IsNextText r (next.Stuck least) text = IsStuckText r text
 IsNextText r next.Ended text = text ≡ codes "ended"
 
 -- the fact of that number holds now

@@ -4,7 +4,7 @@ ghost use Rattle.flow_record.specs.Journal.{IsLeaf, leaf_line};
 ghost use Rattle.flow_reply.specs.Checking.{leaf_table, counts_text, check_text};
 
 use flow_excise::Counts;
-use flow_record::print_label;
+use flow_record::push_leaf_line;
 use flow_workflow::Workflow;
 use std::alloc::{AllocError, Global};
 
@@ -18,44 +18,37 @@ pub fn print_check(
 {
     let leaves = workflow.tree().leaves();
     let mut text = format!(in alloc; "leaves {leaves}\n")?.into_bytes();
-    push_leaves(alloc, &mut text, workflow)?;
+    push_leaves(&mut text, workflow)?;
     text.extend_from_slice(print_counts(alloc, counts)?.as_bytes())?;
-    text.extend_from_slice(b"consistent\n")?;
     Ok(text)
 }
 
 /// Adds a line a leaf.
-fn push_leaves(alloc: Global, text: &mut Vec<u8>, workflow: &Workflow) -> Result<(), AllocError>
+fn push_leaves(text: &mut Vec<u8>, workflow: &Workflow) -> Result<(), AllocError>
     ensures { OnOk result (text.new.items ≡ text.old.items ++ leaf_table workflow.now) }
 {
     for leaf in 0..workflow.tree().leaves() {
-        push_leaf(alloc, text, workflow, leaf)?;
+        push_leaf(text, workflow, leaf)?;
     }
     Ok(())
 }
 
 /// Adds the line of a leaf.
-fn push_leaf(
-    alloc: Global,
-    text: &mut Vec<u8>,
-    workflow: &Workflow,
-    leaf: u32,
-) -> Result<(), AllocError>
+fn push_leaf(text: &mut Vec<u8>, workflow: &Workflow, leaf: u32) -> Result<(), AllocError>
     requires { IsLeaf workflow.now leaf }
     ensures { OnOk result (text.new.items ≡ text.old.items ++ (codes "leaf " ++ leaf_line workflow.now leaf)) }
 {
-    text.extend_from_slice(format!(in alloc; "leaf {leaf} ")?.as_bytes())?;
-    text.extend_from_slice(&print_label(alloc, workflow, leaf)?)?;
-    text.extend_from_slice(b"\n")
+    text.extend_from_slice(b"leaf ")?;
+    push_leaf_line(text, workflow, leaf)
 }
 
-/// Prints how many choices there are, and how large all are together.
+/// Prints how many choices there are, how large all are together, and that some execution is free.
 fn print_counts(alloc: Global, counts: &Counts) -> Result<String, AllocError>
-    ensures { IfOk result (λ text. string_bytes text ≡ counts_text counts.now) }
+    ensures { IfOk result (λ text. string_bytes text ≡ counts_text counts.now ++ codes "consistent\n") }
 {
     let resolutions = counts.resolutions;
     let options = counts.options;
     let bulk = counts.bulk;
     let live = counts.live;
-    format!(in alloc; "resolutions {resolutions}\noptions {options}\nbulk {bulk}\nlive {live}\n")
+    format!(in alloc; "resolutions {resolutions}\noptions {options}\nbulk {bulk}\nlive {live}\nconsistent\n")
 }

@@ -2,10 +2,12 @@ ghost use Rattle.std.specs.Prelude.{◌≡◌, ◌++◌, IfOk};
 ghost use Rattle.flow_record.specs.Journal.{AreLeaves};
 ghost use Rattle.flow_reply.specs.Judging.{checked_text, counted_journal, verified_text, redundancy_text, HasLabels, NeedHasLabels};
 
+use crate::pieces::print_pieces;
 use flow_record::print_journal;
 use flow_trace::Checked;
 use flow_verify::{Redundancy, Verified};
 use flow_workflow::Workflow;
+use itoa::Buffer;
 use std::alloc::{AllocError, Global};
 
 /// Prints what a list of leaves is of a workflow.
@@ -64,9 +66,8 @@ fn print_with_journal(
     requires { AreLeaves workflow.now leaves.now }
     ensures { IfOk result (λ text. text.items ≡ head.now ++ counted_journal workflow.now leaves.now) }
 {
-    let count = leaves.len();
-    let mut text = Vec::from_slice(alloc, head)?;
-    text.extend_from_slice(format!(in alloc; "journal {count}\n")?.as_bytes())?;
-    text.extend_from_slice(&print_journal(alloc, workflow, leaves)?)?;
-    Ok(text)
+    let mut digits = Buffer::new();
+    let count = digits.format(leaves.len());
+    let journal = print_journal(alloc, workflow, leaves)?;
+    print_pieces(alloc, &[head, b"journal ", count.as_bytes(), b"\n", &journal])
 }

@@ -3,9 +3,9 @@ ghost use Rattle.std.specs.String.{string_bytes};
 ghost use Rattle.flow_model.specs.Run.{CanDoAside, IsStuck};
 ghost use Rattle.flow_model.specs.Verdict.{AreJust};
 ghost use Rattle.flow_core.specs.Run.{schema, now};
-ghost use Rattle.flow_core.specs.Looks.{CanAct, IsWaiting};
+ghost use Rattle.flow_core.specs.Looks.{CanAct};
 ghost use Rattle.flow_reply.specs.Refusing.{spaced_numbers};
-ghost use Rattle.flow_reply.specs.Reply.{numbers_text, HoldsNow};
+ghost use Rattle.flow_reply.specs.Reply.{numbers_text, HoldsNow, IsStuckText};
 
 use flow_core::{Core, Next};
 use std::alloc::{AllocError, Global};
@@ -55,21 +55,21 @@ fn left(alloc: Global, core: &Core) -> Result<Vec<u32>, AllocError>
     Ok(leaves)
 }
 
-/// The leaves that wait where the run is stuck, rising.
-pub fn stuck_at(alloc: Global, core: &Core) -> Result<Vec<u32>, AllocError>
+/// Prints the leaves that wait where the run is stuck, rising.
+pub fn print_stuck_at(alloc: Global, core: &Core) -> Result<String, AllocError>
     requires { IsStuck (schema core.now) (now core.now) }
-    ensures { IfOk result (λ leaves. AreJust (IsWaiting core.now) leaves.items) }
+    ensures { IfOk result (λ text. IsStuckText core.now (string_bytes text)) }
 {
-    left(alloc, core)
+    print_numbers(alloc, "stuck", &left(alloc, core)?)
 }
 
-/// The leaves that wait, rising: none where the run is not stuck.
-pub fn waiting(alloc: Global, core: &Core) -> Result<Vec<u32>, AllocError>
-    ensures { IfOk result (λ leaves. AreJust (IsWaiting core.now) leaves.items) }
+/// Prints the leaves that wait, rising: none where the run is not stuck.
+pub fn print_stuck(alloc: Global, core: &Core) -> Result<String, AllocError>
+    ensures { IfOk result (λ text. IsStuckText core.now (string_bytes text)) }
 {
     match core.next() {
-        Next::Stuck(_) => stuck_at(alloc, core),
-        _ => Ok(Vec::new(alloc)),
+        Next::Stuck(_) => print_stuck_at(alloc, core),
+        _ => print_numbers(alloc, "stuck", &[]),
     }
 }
 

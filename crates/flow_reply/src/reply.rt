@@ -40,18 +40,18 @@ fn print_answer(
 {
     let text = match (*command, *answer) {
         (Command::Take(leaf), Answer::Took(came)) => return print_take(alloc, core, leaf, came),
-        (Command::Do(leaf), Answer::Did(came)) => print_do(alloc, leaf, came)?,
-        (Command::Done(claim), Answer::Done(came)) => print_done(alloc, claim, came)?,
-        (Command::Fail(claim), Answer::Failed(came)) => print_fail(alloc, claim, came)?,
-        (Command::Rewind, Answer::Rewound(came)) => print_rewind(alloc, came)?,
-        (Command::Commit, Answer::Committed(came)) => print_commit(alloc, came)?,
-        (Command::Next, Answer::Shown) => show_next(alloc, core)?,
-        (Command::Enabled, Answer::Shown) => show_enabled(alloc, core)?,
-        (Command::Journal, Answer::Shown) => show_journal(alloc, core)?,
+        (Command::Do(leaf), Answer::Did(came)) => print_do(alloc, leaf, came),
+        (Command::Done(claim), Answer::Done(came)) => print_done(alloc, claim, came),
+        (Command::Fail(claim), Answer::Failed(came)) => print_fail(alloc, claim, came),
+        (Command::Rewind, Answer::Rewound(came)) => print_rewind(alloc, came),
+        (Command::Commit, Answer::Committed(came)) => print_commit(alloc, came),
+        (Command::Next, Answer::Shown) => show_next(alloc, core),
+        (Command::Enabled, Answer::Shown) => show_enabled(alloc, core),
+        (Command::Journal, Answer::Shown) => show_journal(alloc, core),
         (Command::Facts, Answer::Shown) => return show_facts(alloc, core),
         _ => unreachable!(),
     };
-    Ok(text.into_bytes())
+    Ok(text?.into_bytes())
 }
 
 /// Prints what came of a `take`.

@@ -4,10 +4,12 @@ ghost use Rattle.flow_core.specs.Run.{now};
 ghost use Rattle.flow_record.specs.Journal.{AreLeaves};
 ghost use Rattle.flow_reply.specs.Report.{IsVerdictText, IsReport, report_text};
 
-use crate::listed::{print_numbers, waiting};
+use crate::listed::print_stuck;
+use crate::pieces::print_pieces;
 use crate::verdict::Verdict;
 use flow_core::Core;
 use flow_record::{print_history, print_journal};
+use itoa::Buffer;
 use std::alloc::{AllocError, Global};
 
 /// Prints the report of a run that came to the verdict.
@@ -23,18 +25,27 @@ fn print_with(alloc: Global, core: &Core, words: &[u8]) -> Result<Vec<u8>, Alloc
     ensures { IfOk result (λ text.
         text.items ≡ report_text core.now.definition core.now.history (now core.now).journal words.now) }
 {
-    let history = core.history();
-    let journal = journal_of(core);
-    let entries = history.len();
-    let leaves = journal.len();
-    let mut text = format!(in alloc; "history {entries}\n")?.into_bytes();
-    text.extend_from_slice(&print_history(alloc, history)?)?;
-    text.extend_from_slice(format!(in alloc; "journal {leaves}\n")?.as_bytes())?;
-    text.extend_from_slice(&print_journal(alloc, core.workflow(), journal)?)?;
-    text.extend_from_slice(b"verdict ")?;
-    text.extend_from_slice(words)?;
-    text.extend_from_slice(b"\n")?;
-    Ok(text)
+    let leaves = journal_of(core);
+    let mut entries = Buffer::new();
+    let mut places = Buffer::new();
+    let history = print_history(alloc, core.history())?;
+    let journal = print_journal(alloc, core.workflow(), leaves)?;
+    print_pieces(
+        alloc,
+        &[
+            b"history ",
+            entries.format(core.history().len()).as_bytes(),
+            b"\n",
+            &history,
+            b"journal ",
+            places.format(leaves.len()).as_bytes(),
+            b"\n",
+            &journal,
+            b"verdict ",
+            words,
+            b"\n",
+        ],
+    )
 }
 
 /// The leaves of the journal, each of which has a label.
@@ -56,7 +67,7 @@ pub fn print_verdict(alloc: Global, core: &Core, verdict: &Verdict) -> Result<St
         Verdict::Committed => format!(in alloc; "committed"),
         Verdict::Spent => format!(in alloc; "spent"),
         Verdict::NoOther(leaf) => format!(in alloc; "no-other {leaf}"),
-        Verdict::Stuck => print_numbers(alloc, "stuck", &waiting(alloc, core)?),
+        Verdict::Stuck => print_stuck(alloc, core),
         Verdict::Unfinished => format!(in alloc; "unfinished"),
     }
 }

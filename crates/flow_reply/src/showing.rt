@@ -5,7 +5,7 @@ ghost use Rattle.flow_record.specs.declared.command.Command.TheVariants as comma
 ghost use Rattle.flow_reply.specs.Reply.{IsReply, spaced_facts};
 ghost use Rattle.flow_reply.specs.declared.answer.Answer.TheVariants.{Shown};
 
-use crate::listed::{enabled, held, print_numbers, stuck_at};
+use crate::listed::{enabled, held, print_numbers, print_stuck_at};
 use flow_core::{Core, Next};
 use flow_facts::push_fact;
 use flow_workflow::Workflow;
@@ -19,7 +19,7 @@ pub fn show_next(alloc: Global, core: &Core) -> Result<String, AllocError>
         Next::Act(leaf) => format!(in alloc; "act {leaf}"),
         Next::Wait(claim) => format!(in alloc; "wait {claim}"),
         Next::Finished => format!(in alloc; "finished"),
-        Next::Stuck(_) => print_numbers(alloc, "stuck", &stuck_at(alloc, core)?),
+        Next::Stuck(_) => print_stuck_at(alloc, core),
         Next::Ended => format!(in alloc; "ended"),
     }
 }

@@ -1,7 +1,10 @@
 ghost use Rattle.std.specs.Prelude.{◌≡◌, IfOk};
+ghost use Rattle.std.specs.String.{string_bytes};
 ghost use Rattle.serde_json.specs.View.{view};
+ghost use Rattle.serde_json.specs.Written.{compact_text};
 ghost use Rattle.flow_reply.specs.Summary.{summary_object, IsSummary};
 
+use crate::pieces::print_pieces;
 use crate::report::print_verdict;
 use crate::verdict::Verdict;
 use flow_core::Core;
@@ -31,10 +34,18 @@ pub fn print_summary(alloc: Global, core: &Core, summary: &Summary) -> Result<Ve
     ensures { IfOk result (λ text. IsSummary core.now summary.now text.items) }
 {
     let words = print_verdict(alloc, core, &summary.verdict)?;
-    let object = summary_value(alloc, summary, &words)?;
-    let mut line = object.to_string(alloc)?.into_bytes();
-    line.extend_from_slice(b"\n")?;
-    Ok(line)
+    let object = print_object(alloc, summary, &words)?;
+    print_pieces(alloc, &[object.as_bytes(), b"\n"])
+}
+
+/// Prints the summary as an object of JSON, its verdict in these words.
+fn print_object(alloc: Global, summary: &Summary, words: &str) -> Result<String, AllocError>
+    ensures { IfOk result (λ text. string_bytes text ≡ compact_text (summary_object summary.now words.now)) }
+{
+    let object = summary_value(alloc, summary, words)?;
+    let text = object.to_string(alloc);
+    drop(object);
+    text
 }
 
 /// The summary as an object of JSON, its verdict in these words.

@@ -6,10 +6,12 @@ ghost use Rattle.flow_form.specs.Names.{event_names};
 ghost use Rattle.flow_reply.specs.Refusing.{named_by, spaced, expand_refusal, IsOfWorkflow};
 
 use crate::numbered::print_numbered;
+use crate::pieces::print_pieces;
 use flow_expand::{ExpandRefusal, Part};
 use flow_facts::Name;
 use flow_form::{Decl, Script};
 use flow_goal::Twice;
+use itoa::Buffer;
 use std::alloc::{AllocError, Global};
 
 /// Prints the line that says why a workflow is not expanded. An event goes by the name that the script declares.
@@ -58,12 +60,20 @@ fn print_twice(alloc: Global, name: &[u8], found: &Twice) -> Result<Vec<u8>, All
     ensures { IfOk result (λ line. line.items ≡ codes "refused: " ++ (codes "twice " ++ name.now ++ codes " "
         ++ decimal found.now.first ++ codes " " ++ decimal found.now.second) ++ codes "\n") }
 {
-    let first = found.first;
-    let second = found.second;
-    let mut line = Vec::from_slice(alloc, b"refused: twice ")?;
-    line.extend_from_slice(name)?;
-    line.extend_from_slice(format!(in alloc; " {first} {second}\n")?.as_bytes())?;
-    Ok(line)
+    let mut first = Buffer::new();
+    let mut second = Buffer::new();
+    print_pieces(
+        alloc,
+        &[
+            b"refused: twice ",
+            name,
+            b" ",
+            first.format(found.first).as_bytes(),
+            b" ",
+            second.format(found.second).as_bytes(),
+            b"\n",
+        ],
+    )
 }
 
 /// The name of the event of that number.

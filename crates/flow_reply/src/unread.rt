@@ -3,9 +3,11 @@ ghost use Rattle.std.specs.Fmt.{decimal};
 ghost use Rattle.flow_reply.specs.Refusing.{kind_text, text_refusal, line_refusal, IsOfText, IsOfLines};
 
 use crate::numbered::print_numbered;
+use crate::pieces::print_pieces;
 use flow_facts::Name;
 use flow_form::{TextRefusal, Wanted};
 use flow_record::RecordRefusal;
+use itoa::Buffer;
 use std::alloc::{AllocError, Global};
 
 /// Prints the line that says why a text says nothing, after its head.
@@ -17,10 +19,8 @@ pub fn print_text_refusal(
     requires { IsOfText refusal.now }
     ensures { IfOk result (λ line. line.items ≡ head.now ++ text_refusal refusal.now ++ codes "\n") }
 {
-    let mut line = Vec::from_slice(alloc, head)?;
-    line.extend_from_slice(&print_reason(alloc, refusal)?)?;
-    line.extend_from_slice(b"\n")?;
-    Ok(line)
+    let reason = print_reason(alloc, refusal)?;
+    print_pieces(alloc, &[head, &reason, b"\n"])
 }
 
 /// Prints the line that says which line of a session or a journal is refused.
@@ -55,27 +55,26 @@ fn print_reason(alloc: Global, refusal: &TextRefusal) -> Result<Vec<u8>, AllocEr
 fn print_placed(alloc: Global, word: &str, place: usize) -> Result<Vec<u8>, AllocError>
     ensures { IfOk result (λ text. text.items ≡ word.now ++ codes " " ++ decimal place) }
 {
-    let text = format!(in alloc; "{word} {place}")?;
-    Ok(text.into_bytes())
+    let mut digits = Buffer::new();
+    print_pieces(alloc, &[word.as_bytes(), b" ", digits.format(place).as_bytes()])
 }
 
 /// Prints what was expected at a place.
 fn print_expected(alloc: Global, kind: Wanted, place: usize) -> Result<Vec<u8>, AllocError>
     ensures { IfOk result (λ text. text.items ≡ codes "expected " ++ kind_text kind ++ codes " " ++ decimal place) }
 {
-    let wanted = kind_text(kind);
-    let text = format!(in alloc; "expected {wanted} {place}")?;
-    Ok(text.into_bytes())
+    let mut digits = Buffer::new();
+    let place = digits.format(place);
+    print_pieces(alloc, &[b"expected ", kind_text(kind).as_bytes(), b" ", place.as_bytes()])
 }
 
 /// Prints what is wrong with the name at a place.
 fn print_named(alloc: Global, word: &str, name: &Name, place: usize) -> Result<Vec<u8>, AllocError>
     ensures { IfOk result (λ text. text.items ≡ word.now ++ codes " " ++ name.now ++ codes " " ++ decimal place) }
 {
-    let mut text = format!(in alloc; "{word} ")?.into_bytes();
-    text.extend_from_slice(name.bytes())?;
-    text.extend_from_slice(format!(in alloc; " {place}")?.as_bytes())?;
-    Ok(text)
+    let mut digits = Buffer::new();
+    let place = digits.format(place);
+    print_pieces(alloc, &[word.as_bytes(), b" ", name.bytes(), b" ", place.as_bytes()])
 }
 
 /// What a text needs, in words.

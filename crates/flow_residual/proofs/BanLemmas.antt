@@ -7,7 +7,8 @@ use Rattle.std.proofs.lemmas.Option.{slice_get_within, slice_get-get_or}
 use Rattle.flow_model.specs.Lists.{◌∈◌, Each}
 use Rattle.flow_model.specs.Process.{leaves}
 use Rattle.flow_model.specs.Resolution.{ChoiceOption}
-use Rattle.flow_laws.proofs.ListLemmas2.{each-append, each_to, each-filter, each_member, mem_append_left, mem_append_right}
+use Rattle.flow_laws.proofs.Members.{each-append, each_to, each_member, mem_append_left, mem_append_right}
+use Rattle.flow_laws.proofs.MadeLists.{each-filter}
 use Rattle.flow_residual.specs.Bans.{IsLeastBan, AreLeastBans}
 
 -- ---- one ban more

@@ -4,7 +4,8 @@ use Rattle.flow_model.specs.Lists.{◌∈◌, Each, AreDistinct}
 use Rattle.flow_model.specs.Process.{Process, leaves}
 use Rattle.flow_model.specs.Ready.{DoneOr, IsReadyRunAfter}
 use Rattle.flow_model.specs.Resolution.{ChoiceOption}
-use Rattle.flow_laws.proofs.ListLemmas2.{each_member, each_to, each_parts, distinct_parts, same_order}
+use Rattle.flow_laws.proofs.Members.{each_member, each_to, each_parts, distinct_parts}
+use Rattle.flow_laws.proofs.MadeLists.{same_order}
 use Rattle.flow_residual.specs.Kept.{HasSmallLeaves}
 use Rattle.flow_residual.specs.Remaining.{Remaining}
 use Rattle.flow_residual.specs.Possible.{TakesAll, TakesFirst}

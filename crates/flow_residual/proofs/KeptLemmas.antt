@@ -4,7 +4,8 @@ use Rattle.std.specs.List.{filter}
 use Rattle.std.proofs.lemmas.List.{map-append, take-append-drop}
 use Rattle.flow_model.specs.Lists.{◌∈◌, Each, AreDistinct}
 use Rattle.flow_model.specs.Process.{leaves}
-use Rattle.flow_laws.proofs.ListLemmas2.{of_map, mem-append, mem_append_left, each-append, each_parts, each_member, each_from_members, distinct_parts, distinct-append}
+use Rattle.flow_laws.proofs.MadeLists.{of_map}
+use Rattle.flow_laws.proofs.Members.{mem-append, mem_append_left, each-append, each_parts, each_member, each_from_members, distinct_parts, distinct-append}
 use Rattle.flow_plan.proofs.PlaceLemmas.{read_member}
 use Rattle.flow_excise.proofs.RingLemmas.{at_most}
 use Rattle.flow_residual.specs.declared.ban.Ban.{Ban}

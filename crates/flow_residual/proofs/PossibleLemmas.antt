@@ -7,8 +7,8 @@ use Rattle.flow_model.specs.Resolution.{ChoiceOption, OptionTrace, options}
 use Rattle.flow_model.specs.Ready.{IsReady, IsReadyRun, IsReadyRunAfter, DoneOr}
 use Rattle.flow_model.specs.Run.{RunState, IsFree, MayFollow, IsOpen, MayAllFollow, MayFollowFirst}
 use Rattle.flow_laws.specs.Orders.{IsAlive}
-use Rattle.flow_laws.proofs.ListLemmas1.{order_member}
-use Rattle.flow_laws.proofs.ListLemmas2.{same_order, order_with_last, order_of_none, each_member, each_to, each_from_members}
+use Rattle.flow_laws.proofs.Members.{each_member, each_to, each_from_members}
+use Rattle.flow_laws.proofs.MadeLists.{order_member, same_order, order_with_last, order_of_none}
 use Rattle.flow_laws.proofs.TraceLeaves.{leaf_of_trace, leaf_in_trace}
 use Rattle.flow_laws.proofs.OptionsLemmas.{option_is_ordered}
 use Rattle.flow_laws.proofs.GoodTraces.{option_of_good, option_trace_is_good}

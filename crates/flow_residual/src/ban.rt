@@ -11,7 +11,7 @@ use flow_plan::{KnotFree, Plan};
 use std::alloc::{AllocError, Global};
 
 /// A leaf that no longer may be in the run.
-#[derive(Clone, Copy, Debug, PartialEq, Eq)]
+#[derive(Clone, Copy)]
 pub(crate) struct Ban {
     /// How long the journal was when it was banned.
     pub(crate) index: u32,

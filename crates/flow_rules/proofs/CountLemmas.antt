@@ -1,14 +1,15 @@
 -- How many ways lists have that are put together, and how many pairs.
-use Rattle.std.proofs.Common.{◌≡◌, ℕ, zero, suc, ◌+◌, ◌*◌, ◌-◌, ◌^◌, ◌≤◌, ◌==◌, min, Bool, true, false, ◌||◌, ◌&&◌, if◌then◌else◌, List, [], ◌∷◌, ◌++◌, length, map, take, fold, refl, sym, ap, ◌∙◌, ◌⊎◌, inl, inr, arith}
+use Rattle.std.proofs.Common.{◌≡◌, ℕ, zero, suc, ◌+◌, ◌*◌, ◌-◌, ◌^◌, ◌≤◌, ◌==◌, min, Bool, true, false, ◌||◌, ◌&&◌, if◌then◌else◌, List, [], ◌∷◌, ◌++◌, length, map, refl, sym, ap, ◌∙◌, ◌⊎◌, inl, inr, arith}
 use Rattle.std.proofs.Math.Nat.{min-eq_left, min-eq_right, zero-mul, mul-zero, suc-mul, mul-suc, add-mul, mul_comm, zero-add}
-use Rattle.std.proofs.lemmas.Bool.{cases_lt, eq-eqb, ne_eqb}
+use Rattle.std.proofs.lemmas.Bool.{cases_lt, ne_eqb}
 use Rattle.std.proofs.lemmas.List.{length-append}
 use Rattle.flow_model.specs.Lists.{joined}
 use Rattle.flow_model.specs.Ways.{free_way, is_free}
 use Rattle.flow_rules.specs.declared.counting.WayCount.{WayCount}
-use Rattle.flow_rules.specs.Counts.{kept, count_of, is_free_count, counts_of_both, counts_of_either}
-use Rattle.flow_rules.specs.WayLists.{both_ways, either_way, is_none}
-use Rattle.flow_rules.proofs.WayListLemmas.{free_is, free_of_either, from_none, none_is}
+use Rattle.flow_rules.specs.declared.connective.Connective.{Connective}
+use Rattle.flow_rules.specs.declared.connective.Connective.TheVariants.{And, Or}
+use Rattle.flow_rules.specs.Counts.{kept, count_of, counts_by, counts_of_both, counts_of_either, is_decided_count, is_free_count}
+use Rattle.flow_rules.specs.WayLists.{both_ways, either_way, is_decided, is_none, joined_by}
 
 -- numbers that are kept at a greatest one
 
@@ -160,24 +161,10 @@ pub none_left : (ws : List (List (ℕ × ℕ))) → ((count_of ws).ways == 0) �
 none_left [] = refl
 none_left (w ∷ ws) = some_left (length ws)
 
--- where the first lists decide, all together are so
+pub counts_joined : (c : Connective) (vs ws : List (List (ℕ × ℕ))) → count_of (joined_by c vs ws) ≡ counts_by c (count_of vs) (count_of ws)
+counts_joined And vs ws = count_both vs ws
+counts_joined Or vs ws = count_either vs ws
 
-pub ends_none : {A : Type 0} (f : A → List (List (ℕ × ℕ))) (xs : List A) (i : ℕ) (us : List (List (ℕ × ℕ))) →
-    is_none (fold (λ vs x. both_ways vs (f x)) us (take i xs)) ≡ true → fold (λ vs x. both_ways vs (f x)) us xs ≡ []
-ends_none f xs zero us h = ap (λ ws. fold (λ vs x. both_ways vs (f x)) ws xs) (none_is us h) ∙ from_none f xs
-ends_none f [] (suc i) us h = none_is us h
-ends_none f (x ∷ xs) (suc i) us h = ends_none f xs i (both_ways us (f x)) h
-
-stays_free : {A : Type 0} (f : A → List (List (ℕ × ℕ))) (xs : List A) (us : List (List (ℕ × ℕ))) → is_free us ≡ true →
-    is_free (fold (λ vs x. either_way vs (f x)) us xs) ≡ true
-stays_free f [] us h = h
-stays_free f (x ∷ xs) us h = stays_free f xs (either_way us (f x)) (free_of_either us (f x) ∙ ap (λ b. b || is_free (f x)) h)
-
-pub ends_free : {A : Type 0} (f : A → List (List (ℕ × ℕ))) (xs : List A) (i : ℕ) (us : List (List (ℕ × ℕ))) →
-    is_free (fold (λ vs x. either_way vs (f x)) us (take i xs)) ≡ true → fold (λ vs x. either_way vs (f x)) us xs ≡ free_way
-ends_free f xs zero us h = free_is (fold (λ vs x. either_way vs (f x)) us xs) (stays_free f xs us h)
-ends_free f [] (suc i) us h = free_is us h
-ends_free f (x ∷ xs) (suc i) us h = ends_free f xs i (either_way us (f x)) h
-
-pub counts_none : (count : WayCount) (ws : List (List (ℕ × ℕ))) → count ≡ count_of ws → count.ways ≡ 0 → is_none ws ≡ true
-counts_none count ws e none = sym (none_left ws) ∙ eq-eqb (count_of ws).ways 0 ((λ k. (sym e k).ways) ∙ none)
+pub decided_count : (met : Bool) (ws : List (List (ℕ × ℕ))) → is_decided_count met (count_of ws) ≡ is_decided met ws
+decided_count true ws = free_count ws
+decided_count false ws = none_left ws

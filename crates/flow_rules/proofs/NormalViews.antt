@@ -6,7 +6,10 @@ use Rattle.flow_rules.specs.declared.normal.Nnf.TheOpen as open_nnf
 use Rattle.flow_rules.specs.declared.normal.Nnf.TheVariants.{rolls-Must, rolls-Never, rolls-Before, rolls-NotBefore, rolls-And, rolls-Or}
 use Rattle.flow_rules.specs.declared.normal.Nnf.TheFolds.{fold-roll-Nnf}
 use Rattle.flow_rules.specs.Normal.{all_normals, any_normals, normal_of, normal_step, normals_of}
-use Rattle.flow_rules.specs.WayLists.{all_ways, any_ways, both_ways, either_way}
+use Rattle.flow_rules.specs.declared.connective.Connective.{Connective}
+use Rattle.flow_rules.specs.declared.connective.Connective.TheVariants as connective
+use Rattle.flow_rules.specs.WayLists.{both_ways, either_way, ways_of_parts}
+use Rattle.flow_rules.proofs.WayListLemmas.{both_free, either_nothing}
 
 normal_of-And : (parts : Vec Nnf Global) → normal_of (And parts) ≡ all_normals (normals_of parts.items)
 normal_of-And parts = ap normal_of (sym (rolls-And parts)) ∙ fold-roll-Nnf Normal normal_step (open_nnf.And parts)
@@ -24,18 +27,22 @@ any_from : (leaf : ℕ → Option ℕ) (ns : List Nnf) (n : Normal) →
 any_from leaf [] n = refl
 any_from leaf (m ∷ ns) n = any_from leaf ns (either n (normal_of m))
 
-pub ways_of_all : (leaf : ℕ → Option ℕ) (ns : List Nnf) → ways (all_normals (normals_of ns)) leaf ≡ all_ways leaf ns
+pub ways_of_all : (leaf : ℕ → Option ℕ) (ns : List Nnf) → ways (all_normals (normals_of ns)) leaf ≡ ways_of_parts connective.And leaf ns
 ways_of_all leaf ns = all_from leaf ns always
 
 pub ways_of_and : (leaf : ℕ → Option ℕ) (n : Nnf) (parts : Vec Nnf Global) → n ≡ And parts →
-    all_ways leaf parts.items ≡ ways (normal_of n) leaf
+    ways_of_parts connective.And leaf parts.items ≡ ways (normal_of n) leaf
 ways_of_and leaf n parts e =
     sym (ap (λ m. ways (normal_of m) leaf) e ∙ ap (λ m. ways m leaf) (normal_of-And parts) ∙ all_from leaf parts.items always)
 
 pub ways_of_or : (leaf : ℕ → Option ℕ) (n : Nnf) (parts : Vec Nnf Global) → n ≡ Or parts →
-    any_ways leaf parts.items ≡ ways (normal_of n) leaf
+    ways_of_parts connective.Or leaf parts.items ≡ ways (normal_of n) leaf
 ways_of_or leaf n parts e =
     sym (ap (λ m. ways (normal_of m) leaf) e ∙ ap (λ m. ways m leaf) (normal_of-Or parts) ∙ any_from leaf parts.items impossible)
+
+pub ways_of_one : (c : Connective) (leaf : ℕ → Option ℕ) (n : Nnf) → ways_of_parts c leaf (n ∷ []) ≡ ways (normal_of n) leaf
+ways_of_one connective.And leaf n = both_free (ways (normal_of n) leaf)
+ways_of_one connective.Or leaf n = either_nothing (ways (normal_of n) leaf)
 
 -- the ways of a normal form with no other in it
 

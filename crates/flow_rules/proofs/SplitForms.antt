@@ -1,66 +1,51 @@
 -- The normal forms that the code makes have the ways of those of the definitions.
 use Rattle.std.proofs.Common.{◌≡◌, ℕ, Bool, true, false, not, List, [], ◌∷◌, Vec, Global, map, fold, refl, sym, ap, ◌∙◌, Option, Result, Ok, Err, IfOk}
 use Rattle.std.specs.declared.alloc.AllocError.{AllocError}
-use Rattle.flow_model.specs.Constraint.{Constraint, Always, Impossible, Must, Never, Order, Not, And, Or}
+use Rattle.flow_model.specs.Constraint.{Constraint, Always, Impossible, Must, Never, Order, Not, And, Or, all_of}
 use Rattle.flow_model.specs.Ways.{Normal, both, either, before, not_before, normal_form, chain, broken_chain, ways}
 use Rattle.flow_rules.specs.declared.normal.Nnf.{Nnf}
 use Rattle.flow_rules.specs.declared.rule.Rule as rule
 use Rattle.flow_rules.specs.declared.rule.Rule.{Rule}
-use Rattle.flow_rules.specs.Normal.{normal_of, all_form, pair_form, chain_form, split_form, linked}
-use Rattle.flow_rules.specs.Rule.{rule_of, rules_of}
+use Rattle.flow_rules.specs.Normal.{normal_of, all_form, pair_form, split_chain, split_form, linked}
+use Rattle.flow_rules.specs.Rule.{any_of, rule_of, rules_of}
 use Rattle.flow_rules.specs.WayLists.{both_ways, either_way}
 use Rattle.flow_rules.proofs.RuleViews.{rule_of-And, rule_of-Or}
 use Rattle.flow_rules.proofs.WayListLemmas.{both_free, both_assoc, either_nothing, either_assoc}
 
 -- rules joined from the left
 
--- the constraint, and each of the list, joined to it from the left
-abbrev pub conjoined : Constraint → List Constraint → Constraint
-conjoined c [] = c
-conjoined c (d ∷ ds) = conjoined (And c d) ds
-
--- the constraint, or one of the list, joined to it from the left
-abbrev pub disjoined : Constraint → List Constraint → Constraint
-disjoined c [] = c
-disjoined c (d ∷ ds) = disjoined (Or c d) ds
+abbrev joined_with : (Constraint → Constraint → Constraint) → Constraint → List Constraint → Constraint
+joined_with op c [] = c
+joined_with op c (d ∷ ds) = joined_with op (op c d) ds
 
 -- each rule, or its negation where it is not wanted
 abbrev pub split_rules : Bool → List Rule → List Normal
 split_rules wanted rules = map (λ r. split_form (rule_of r) wanted) rules
 
-conjoined_met : (rules : List Rule) (c : Constraint) →
-    split_form (conjoined c (rules_of rules)) true ≡ fold both (split_form c true) (split_rules true rules)
-conjoined_met [] c = refl
-conjoined_met (r ∷ rules) c = conjoined_met rules (And c (rule_of r))
+split_joined : (op : Constraint → Constraint → Constraint) (f : Normal → Normal → Normal) (wanted : Bool) →
+    ((c d : Constraint) → split_form (op c d) wanted ≡ f (split_form c wanted) (split_form d wanted)) →
+    (rules : List Rule) (c : Constraint) → split_form (joined_with op c (rules_of rules)) wanted ≡ fold f (split_form c wanted) (split_rules wanted rules)
+split_joined op f wanted h [] c = refl
+split_joined op f wanted h (r ∷ rules) c =
+    split_joined op f wanted h rules (op c (rule_of r)) ∙ ap (λ n. fold f n (split_rules wanted rules)) (h c (rule_of r))
 
-conjoined_unmet : (rules : List Rule) (c : Constraint) →
-    split_form (conjoined c (rules_of rules)) false ≡ fold either (split_form c false) (split_rules false rules)
-conjoined_unmet [] c = refl
-conjoined_unmet (r ∷ rules) c = conjoined_unmet rules (And c (rule_of r))
+split_all : (wanted : Bool) (rules : List Rule) → split_form (all_of (rules_of rules)) wanted ≡ all_form wanted (split_rules wanted rules)
+split_all true rules = split_joined And both true (λ c d. refl) rules Always
+split_all false rules = split_joined And either false (λ c d. refl) rules Always
 
-disjoined_met : (rules : List Rule) (c : Constraint) →
-    split_form (disjoined c (rules_of rules)) true ≡ fold either (split_form c true) (split_rules true rules)
-disjoined_met [] c = refl
-disjoined_met (r ∷ rules) c = disjoined_met rules (Or c (rule_of r))
-
-disjoined_unmet : (rules : List Rule) (c : Constraint) →
-    split_form (disjoined c (rules_of rules)) false ≡ fold both (split_form c false) (split_rules false rules)
-disjoined_unmet [] c = refl
-disjoined_unmet (r ∷ rules) c = disjoined_unmet rules (Or c (rule_of r))
+split_any : (wanted : Bool) (rules : List Rule) → split_form (any_of (rules_of rules)) wanted ≡ all_form (not wanted) (split_rules wanted rules)
+split_any true rules = split_joined Or either true (λ c d. refl) rules Impossible
+split_any false rules = split_joined Or both false (λ c d. refl) rules Impossible
 
 pub split_and : (wanted : Bool) (r : Rule) (parts : Vec Rule Global) → r ≡ rule.And parts →
     all_form wanted (split_rules wanted parts.items) ≡ split_form (rule_of r) wanted
-split_and true r parts e =
-    sym (ap (λ x. split_form (rule_of x) true) e ∙ ap (λ c. split_form c true) (rule_of-And parts) ∙ conjoined_met parts.items Always)
-split_and false r parts e =
-    sym (ap (λ x. split_form (rule_of x) false) e ∙ ap (λ c. split_form c false) (rule_of-And parts) ∙ conjoined_unmet parts.items Always)
+split_and wanted r parts e =
+    sym (ap (λ x. split_form (rule_of x) wanted) e ∙ ap (λ c. split_form c wanted) (rule_of-And parts) ∙ split_all wanted parts.items)
 
 pub split_or : (wanted : Bool) (r : Rule) (parts : Vec Rule Global) → r ≡ rule.Or parts →
     all_form (not wanted) (split_rules wanted parts.items) ≡ split_form (rule_of r) wanted
-split_or true r parts e =
-    sym (ap (λ x. split_form (rule_of x) true) e ∙ ap (λ c. split_form c true) (rule_of-Or parts) ∙ disjoined_met parts.items Impossible)
-split_or false r parts e =
-    sym (ap (λ x. split_form (rule_of x) false) e ∙ ap (λ c. split_form c false) (rule_of-Or parts) ∙ disjoined_unmet parts.items Impossible)
+split_or wanted r parts e =
+    sym (ap (λ x. split_form (rule_of x) wanted) e ∙ ap (λ c. split_form c wanted) (rule_of-Or parts) ∙ split_any wanted parts.items)
 
 -- orders
 
@@ -80,7 +65,7 @@ linked_unmet leaf (c ∷ more) n a b =
     ∙ either_assoc (ways n leaf) (ways (not_before a b) leaf) (ways (broken_chain (b ∷ c ∷ more)) leaf)
 
 order_same : (leaf : ℕ → Option ℕ) (es : List ℕ) (wanted : Bool) →
-    ways (chain_form wanted es) leaf ≡ ways (normal_form (Order es) wanted) leaf
+    ways (split_chain wanted es) leaf ≡ ways (normal_form (Order es) wanted) leaf
 order_same leaf [] true = refl
 order_same leaf [] false = refl
 order_same leaf (e ∷ []) true = refl

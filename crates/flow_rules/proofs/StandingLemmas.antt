@@ -1,18 +1,18 @@
 -- The lanes of words put together, and what they say of ways put together.
-use Rattle.std.proofs.Common.{◌≡◌, ℕ, ◌-◌, ◌^◌, ◌<◌, min, Bool, true, false, not, ◌==◌, ◌||◌, ◌&&◌, if◌then◌else◌, List, [], ◌∷◌, ◌++◌, Option, Some, None, refl, sym, ap, ◌∙◌, arith, bit_and, bit_or, w64}
+use Rattle.std.proofs.Common.{◌≡◌, ℕ, ◌-◌, ◌^◌, ◌<◌, min, Bool, true, false, not, ◌==◌, ◌||◌, ◌&&◌, if◌then◌else◌, List, [], Option, Some, None, refl, sym, ap, ◌∙◌, arith, bit_and, bit_or, w64}
 use Rattle.std.specs.Int.{bit_at}
 use Rattle.std.specs.Option.{is_some}
 use Rattle.std.proofs.lemmas.Bool.Decides.{nat_tests}
 use Rattle.std.proofs.lemmas.Nat.Bits.{bit_at_and, bit_at_or, bit_at_not, bit_at_ones, bit_at-lt, bit_at-zero}
 use Rattle.leaf_rows.proofs.Rows.{one_or}
-use Rattle.flow_model.specs.Ways.{free_way, is_free, before, must, never, not_before, ways, ways_of_before, ways_of_must, ways_of_never, ways_of_not_before}
+use Rattle.flow_model.specs.Ways.{free_way, before, must, never, not_before, ways, ways_of_before, ways_of_must, ways_of_never, ways_of_not_before}
 use Rattle.flow_rules.specs.declared.lanes.Lanes.{Lanes}
 use Rattle.flow_rules.specs.declared.standing.Standing.{Standing}
 use Rattle.flow_rules.specs.Lanes.{Shows, word_of}
-use Rattle.flow_rules.specs.Standing.{Stands, StandsIn, has_lane}
-use Rattle.flow_rules.specs.WayLists.{both_ways, either_way, is_none}
-use Rattle.flow_rules.proofs.AskedLemmas.{two_open}
-use Rattle.flow_rules.proofs.WayListLemmas.{both_free, both_none, either_nothing, free_of_either}
+use Rattle.flow_rules.specs.declared.connective.Connective.{Connective}
+use Rattle.flow_rules.specs.Standing.{Stands, StandsIn, has_lane, lanes_where}
+use Rattle.flow_rules.specs.WayLists.{decided, decider, is_decided, joined_by}
+use Rattle.flow_rules.proofs.WayListLemmas.{decided_by_both, decided_by_one}
 
 -- lanes of words
 
@@ -37,153 +37,112 @@ lane_none lane = ap (λ (d : ℕ). d == 1) (bit_at-zero lane)
 pub lane_all : (lane : ℕ) → lane < 64 → has_lane (2 ^ 64 - 1) lane ≡ true
 lane_all lane within = ap (λ (d : ℕ). d == 1) (bit_at_ones 64 lane within)
 
--- lists with no way, and the one that asks for nothing
-
-pub free_of_both : (vs ws : List (List (ℕ × ℕ))) → is_free (both_ways vs ws) ≡ (is_free vs && is_free ws)
-free_of_both [] ws = refl
-free_of_both ([] ∷ []) ws = ap is_free (both_free ws)
-free_of_both ((pair ∷ pairs) ∷ vs) [] = ap is_free (both_none vs)
-free_of_both ((pair ∷ pairs) ∷ vs) (w ∷ ws) = refl
-free_of_both ([] ∷ v ∷ vs) [] = ap is_free (both_none vs)
-free_of_both ([] ∷ v ∷ vs) (w ∷ []) = two_open w (v ++ w) _
-free_of_both ([] ∷ v ∷ vs) (w ∷ x ∷ ws) = two_open w x _
-
-pub none_of_both : (vs ws : List (List (ℕ × ℕ))) → is_none (both_ways vs ws) ≡ (is_none vs || is_none ws)
-none_of_both [] ws = refl
-none_of_both (v ∷ vs) [] = ap is_none (both_none vs)
-none_of_both (v ∷ vs) (w ∷ ws) = refl
-
-pub none_of_either : (vs ws : List (List (ℕ × ℕ))) → is_none (either_way vs ws) ≡ (is_none vs && is_none ws)
-none_of_either [] [] = refl
-none_of_either [] (w ∷ ws) = ap is_none (either_nothing (w ∷ ws))
-none_of_either (v ∷ vs) ws = at (is_free (v ∷ vs) || is_free ws)
-  where
-    at : (b : Bool) → is_none (if b then free_way else (v ∷ vs) ++ ws) ≡ false
-    at true = refl
-    at false = refl
-
 -- two standings as one
 
-pub stand_both : (a b : Standing) (lane : ℕ) (vs ws : List (List (ℕ × ℕ))) → StandsIn a lane vs → StandsIn b lane ws →
-    StandsIn record { free = bit_and a.free b.free; unmet = bit_or a.unmet b.unmet } lane (both_ways vs ws)
-stand_both a b lane vs ws p q = record {
-  free = lane_and a.free b.free lane ∙ (λ k. p.free k && q.free k) ∙ sym (free_of_both vs ws);
-  unmet = lane_or a.unmet b.unmet lane ∙ (λ k. p.unmet k || q.unmet k) ∙ sym (none_of_both vs ws);
-}
+pub stand_with : (c : Connective) (a b new : Standing) (lane : ℕ) (vs ws : List (List (ℕ × ℕ))) →
+    lanes_where new (decider c) ≡ bit_or (lanes_where a (decider c)) (lanes_where b (decider c)) →
+    lanes_where new (not (decider c)) ≡ bit_and (lanes_where a (not (decider c))) (lanes_where b (not (decider c))) →
+    StandsIn a lane vs → StandsIn b lane ws → StandsIn new lane (joined_by c vs ws)
+stand_with c a b new lane vs ws one both p q = either_met (decider c)
+    (ap (λ (w : ℕ). has_lane w lane) one ∙ lane_or (lanes_where a (decider c)) (lanes_where b (decider c)) lane
+    ∙ (λ k. p (decider c) k || q (decider c) k) ∙ sym (decided_by_one c vs ws))
+    (ap (λ (w : ℕ). has_lane w lane) both ∙ lane_and (lanes_where a (not (decider c))) (lanes_where b (not (decider c))) lane
+    ∙ (λ k. p (not (decider c)) k && q (not (decider c)) k) ∙ sym (decided_by_both c vs ws))
+  where
+    either_met : (d : Bool) → has_lane (lanes_where new d) lane ≡ is_decided d (joined_by c vs ws) →
+        has_lane (lanes_where new (not d)) lane ≡ is_decided (not d) (joined_by c vs ws) → StandsIn new lane (joined_by c vs ws)
+    either_met true h n true = h
+    either_met true h n false = n
+    either_met false h n true = n
+    either_met false h n false = h
 
-pub stand_either : (a b : Standing) (lane : ℕ) (vs ws : List (List (ℕ × ℕ))) → StandsIn a lane vs → StandsIn b lane ws →
-    StandsIn record { free = bit_or a.free b.free; unmet = bit_and a.unmet b.unmet } lane (either_way vs ws)
-stand_either a b lane vs ws p q = record {
-  free = lane_or a.free b.free lane ∙ (λ k. p.free k || q.free k) ∙ sym (free_of_either vs ws);
-  unmet = lane_and a.unmet b.unmet lane ∙ (λ k. p.unmet k && q.unmet k) ∙ sym (none_of_either vs ws);
-}
-
-pub stand_free : (lane : ℕ) → lane < 64 → StandsIn record { free = 2 ^ 64 - 1; unmet = 0 } lane free_way
-stand_free lane within = record { free = lane_all lane within; unmet = lane_none lane }
-
-pub stand_unmet : (lane : ℕ) → lane < 64 → StandsIn record { free = 0; unmet = 2 ^ 64 - 1 } lane []
-stand_unmet lane within = record { free = lane_none lane; unmet = lane_all lane within }
+pub stand_everywhere : (s : Standing) (met : Bool) → lanes_where s met ≡ 2 ^ 64 - 1 → lanes_where s (not met) ≡ 0 → (lane : ℕ) → lane < 64 → StandsIn s lane (decided met)
+stand_everywhere s true all none lane within true = ap (λ (w : ℕ). has_lane w lane) all ∙ lane_all lane within
+stand_everywhere s true all none lane within false = ap (λ (w : ℕ). has_lane w lane) none ∙ lane_none lane
+stand_everywhere s false all none lane within true = ap (λ (w : ℕ). has_lane w lane) none ∙ lane_none lane
+stand_everywhere s false all none lane within false = ap (λ (w : ℕ). has_lane w lane) all ∙ lane_all lane within
 
 -- one event
 
-free_must : (o : Option ℕ) → is_some o ≡ is_free (ways_of_must o)
-free_must None = refl
-free_must (Some x) = refl
+must_decided : (o : Option ℕ) (met : Bool) → is_decided met (ways_of_must o) ≡ (if met then is_some o else not (is_some o))
+must_decided None true = refl
+must_decided None false = refl
+must_decided (Some x) true = refl
+must_decided (Some x) false = refl
 
-none_must : (o : Option ℕ) → not (is_some o) ≡ is_none (ways_of_must o)
-none_must None = refl
-none_must (Some x) = refl
-
-free_never : (o : Option ℕ) → not (is_some o) ≡ is_free (ways_of_never o)
-free_never None = refl
-free_never (Some x) = refl
-
-none_never : (o : Option ℕ) → is_some o ≡ is_none (ways_of_never o)
-none_never None = refl
-none_never (Some x) = refl
+never_decided : (o : Option ℕ) (met : Bool) → is_decided met (ways_of_never o) ≡ (if met then not (is_some o) else is_some o)
+never_decided None true = refl
+never_decided None false = refl
+never_decided (Some x) true = refl
+never_decided (Some x) false = refl
 
 here : (lanes : Lanes) (event word lane : ℕ) (leaf : ℕ → Option ℕ) → word ≡ word_of lanes event → Shows lanes lane leaf →
     has_lane word lane ≡ is_some (leaf event)
 here lanes event word lane leaf is shows = ap (λ (w : ℕ). has_lane w lane) is ∙ shows event
 
-pub stand_must : (lanes : Lanes) (event word : ℕ) → word ≡ word_of lanes event → word < 2 ^ 64 →
-    Stands record { free = word; unmet = 2 ^ 64 - 1 - word } lanes (ways (must event))
-stand_must lanes event word is fits = λ lane leaf within shows.
-    let there = here lanes event word lane leaf is shows in
-    record {
-      free = there ∙ free_must (leaf event);
-      unmet = lane_not word lane fits within ∙ ap not there ∙ none_must (leaf event);
-    }
+module _ (lanes : Lanes) (event word : ℕ) (is : word ≡ word_of lanes event) (fits : word < 2 ^ 64) where
+  pub stand_must : Stands record { free = word; unmet = 2 ^ 64 - 1 - word } lanes (ways (must event))
+  stand_must lane leaf within shows true = here lanes event word lane leaf is shows ∙ sym (must_decided (leaf event) true)
+  stand_must lane leaf within shows false =
+      lane_not word lane fits within ∙ ap not (here lanes event word lane leaf is shows) ∙ sym (must_decided (leaf event) false)
 
-pub stand_never : (lanes : Lanes) (event word : ℕ) → word ≡ word_of lanes event → word < 2 ^ 64 →
-    Stands record { free = 2 ^ 64 - 1 - word; unmet = word } lanes (ways (never event))
-stand_never lanes event word is fits = λ lane leaf within shows.
-    let there = here lanes event word lane leaf is shows in
-    record {
-      free = lane_not word lane fits within ∙ ap not there ∙ free_never (leaf event);
-      unmet = there ∙ none_never (leaf event);
-    }
+  pub stand_never : Stands record { free = 2 ^ 64 - 1 - word; unmet = word } lanes (ways (never event))
+  stand_never lane leaf within shows true =
+      lane_not word lane fits within ∙ ap not (here lanes event word lane leaf is shows) ∙ sym (never_decided (leaf event) true)
+  stand_never lane leaf within shows false = here lanes event word lane leaf is shows ∙ sym (never_decided (leaf event) false)
 
 -- two events
 
-free_before : (o p : Option ℕ) → false ≡ is_free (ways_of_before o p)
-free_before None p = refl
-free_before (Some x) None = refl
-free_before (Some x) (Some y) = refl
+before_decided : (o p : Option ℕ) (met : Bool) → is_decided met (ways_of_before o p) ≡ (if met then false else not (is_some o && is_some p))
+before_decided None p true = refl
+before_decided None p false = refl
+before_decided (Some x) None true = refl
+before_decided (Some x) None false = refl
+before_decided (Some x) (Some y) true = refl
+before_decided (Some x) (Some y) false = refl
 
-none_before : (o p : Option ℕ) → not (is_some o && is_some p) ≡ is_none (ways_of_before o p)
-none_before None p = refl
-none_before (Some x) None = refl
-none_before (Some x) (Some y) = refl
-
-free_not_before : (o p : Option ℕ) → not (is_some o && is_some p) ≡ is_free (ways_of_not_before o p)
-free_not_before None p = refl
-free_not_before (Some x) None = refl
-free_not_before (Some x) (Some y) = refl
-
-none_not_before : (o p : Option ℕ) → false ≡ is_none (ways_of_not_before o p)
-none_not_before None p = refl
-none_not_before (Some x) None = refl
-none_not_before (Some x) (Some y) = refl
+not_before_decided : (o p : Option ℕ) (met : Bool) → is_decided met (ways_of_not_before o p) ≡ (if met then not (is_some o && is_some p) else false)
+not_before_decided None p true = refl
+not_before_decided None p false = refl
+not_before_decided (Some x) None true = refl
+not_before_decided (Some x) None false = refl
+not_before_decided (Some x) (Some y) true = refl
+not_before_decided (Some x) (Some y) false = refl
 
 module _ (lanes : Lanes) (a b v w : ℕ) (is_a : v ≡ word_of lanes a) (is_b : w ≡ word_of lanes b) (fits : bit_and v w < 2 ^ 64) (apart : (a == b) ≡ false) where
-  both_here : (lane : ℕ) (leaf : ℕ → Option ℕ) → Shows lanes lane leaf → has_lane (bit_and v w) lane ≡ (is_some (leaf a) && is_some (leaf b))
-  both_here lane leaf shows =
-      lane_and v w lane ∙ (λ k. here lanes a v lane leaf is_a shows k && here lanes b w lane leaf is_b shows k)
-
   not_both : (lane : ℕ) (leaf : ℕ → Option ℕ) → lane < 64 → Shows lanes lane leaf → has_lane (2 ^ 64 - 1 - bit_and v w) lane ≡ not (is_some (leaf a) && is_some (leaf b))
-  not_both lane leaf within shows = lane_not (bit_and v w) lane fits within ∙ ap not (both_here lane leaf shows)
+  not_both lane leaf within shows =
+      lane_not (bit_and v w) lane fits within
+      ∙ ap not (lane_and v w lane ∙ (λ k. here lanes a v lane leaf is_a shows k && here lanes b w lane leaf is_b shows k))
 
   pub stand_before : Stands record { free = 0; unmet = 2 ^ 64 - 1 - bit_and v w } lanes (ways (before a b))
-  stand_before = λ lane leaf within shows.
-      let these : ways_of_before (leaf a) (leaf b) ≡ ways (before a b) leaf = sym (λ k. if apart k then [] else ways_of_before (leaf a) (leaf b)) in
-      record {
-        free = lane_none lane ∙ free_before (leaf a) (leaf b) ∙ ap is_free these;
-        unmet = not_both lane leaf within shows ∙ none_before (leaf a) (leaf b) ∙ ap is_none these;
-      }
+  stand_before lane leaf within shows met =
+      at met ∙ sym (ap (λ (same : Bool). is_decided met (if same then [] else ways_of_before (leaf a) (leaf b))) apart ∙ before_decided (leaf a) (leaf b) met)
+    where
+      at : (met : Bool) → has_lane (lanes_where record { free = 0; unmet = 2 ^ 64 - 1 - bit_and v w } met) lane
+          ≡ (if met then false else not (is_some (leaf a) && is_some (leaf b)))
+      at true = lane_none lane
+      at false = not_both lane leaf within shows
 
   pub stand_not_before : Stands record { free = 2 ^ 64 - 1 - bit_and v w; unmet = 0 } lanes (ways (not_before a b))
-  stand_not_before = λ lane leaf within shows.
-      let these : ways_of_not_before (leaf a) (leaf b) ≡ ways (not_before a b) leaf = sym (λ k. if apart k then free_way else ways_of_not_before (leaf a) (leaf b)) in
-      record {
-        free = not_both lane leaf within shows ∙ free_not_before (leaf a) (leaf b) ∙ ap is_free these;
-        unmet = lane_none lane ∙ none_not_before (leaf a) (leaf b) ∙ ap is_none these;
-      }
+  stand_not_before lane leaf within shows met =
+      at met ∙ sym (ap (λ (same : Bool). is_decided met (if same then free_way else ways_of_not_before (leaf a) (leaf b))) apart ∙ not_before_decided (leaf a) (leaf b) met)
+    where
+      at : (met : Bool) → has_lane (lanes_where record { free = 2 ^ 64 - 1 - bit_and v w; unmet = 0 } met) lane
+          ≡ (if met then not (is_some (leaf a) && is_some (leaf b)) else false)
+      at true = not_both lane leaf within shows
+      at false = lane_none lane
 
-module _ (lanes : Lanes) (a b : ℕ) (same : (a == b) ≡ true) where
-  pub stand_before_same : Stands record { free = 0; unmet = 2 ^ 64 - 1 } lanes (ways (before a b))
-  stand_before_same = λ lane leaf within shows.
-      let these : [] ≡ ways (before a b) leaf = sym (λ k. if same k then [] else ways_of_before (leaf a) (leaf b)) in
-      let there = stand_unmet lane within in
-      record { free = there.free ∙ ap is_free these; unmet = there.unmet ∙ ap is_none these }
+module _ (lanes : Lanes) (a b : ℕ) (same : (a == b) ≡ true) (s : Standing) where
+  pub stand_before_same : ((lane : ℕ) → lane < 64 → StandsIn s lane []) → Stands s lanes (ways (before a b))
+  stand_before_same none lane leaf within shows met =
+      none lane within met ∙ sym (ap (λ (t : Bool). is_decided met (if t then [] else ways_of_before (leaf a) (leaf b))) same)
 
-  pub stand_not_before_same : Stands record { free = 2 ^ 64 - 1; unmet = 0 } lanes (ways (not_before a b))
-  stand_not_before_same = λ lane leaf within shows.
-      let these : free_way ≡ ways (not_before a b) leaf = sym (λ k. if same k then free_way else ways_of_not_before (leaf a) (leaf b)) in
-      let there = stand_free lane within in
-      record { free = there.free ∙ ap is_free these; unmet = there.unmet ∙ ap is_none these }
+  pub stand_not_before_same : ((lane : ℕ) → lane < 64 → StandsIn s lane free_way) → Stands s lanes (ways (not_before a b))
+  stand_not_before_same free lane leaf within shows met =
+      free lane within met ∙ sym (ap (λ (t : Bool). is_decided met (if t then free_way else ways_of_not_before (leaf a) (leaf b))) same)
 
 -- other ways that are the same
 
 pub stand_as : (s : Standing) (lane : ℕ) (vs ws : List (List (ℕ × ℕ))) → vs ≡ ws → StandsIn s lane vs → StandsIn s lane ws
-stand_as s lane vs ws same p = record { free = p.free ∙ ap is_free same; unmet = p.unmet ∙ ap is_none same }
+stand_as s lane vs ws same p = λ met. p met ∙ ap (is_decided met) same

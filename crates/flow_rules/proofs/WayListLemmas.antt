@@ -1,11 +1,14 @@
 -- Lists of ways put together.
-use Rattle.std.proofs.Common.{◌≡◌, ℕ, ◌+◌, ◌<◌, Bool, true, false, ◌||◌, if◌then◌else◌, List, [], ◌∷◌, ◌++◌, length, take, get_or, map, fold, refl, sym, ap, ◌∙◌, append_assoc, append-nil, true≢false}
-use Rattle.std.specs.List.{list_any}
+use Rattle.std.proofs.Common.{◌≡◌, ℕ, zero, suc, ◌+◌, ◌<◌, Bool, true, false, not, ◌||◌, ◌&&◌, if◌then◌else◌, Option, List, [], ◌∷◌, ◌++◌, length, take, get_or, map, fold, refl, sym, ap, ◌∙◌, append_assoc, append-nil, true≢false}
 use Rattle.std.proofs.lemmas.List.{take_more, map-append}
 use Rattle.flow_model.specs.Lists.{each_with_each, joined}
-use Rattle.flow_model.specs.Ways.{free_way, is_free}
+use Rattle.flow_model.specs.Ways.{free_way, is_free, ways}
 pub use Rattle.flow_laws.proofs.WaysDecide.{free_is}
-use Rattle.flow_rules.specs.WayLists.{both_ways, either_way, is_none}
+use Rattle.flow_rules.specs.declared.connective.Connective.{Connective}
+use Rattle.flow_rules.specs.declared.connective.Connective.TheVariants.{And, Or}
+use Rattle.flow_rules.specs.declared.normal.Nnf.{Nnf}
+use Rattle.flow_rules.specs.Normal.{normal_of}
+use Rattle.flow_rules.specs.WayLists.{both_ways, decided, decider, either_way, is_decided, is_none, joined_by, ways_of_parts}
 
 -- one member more
 
@@ -65,26 +68,33 @@ pub both_none : (vs : List (List (ℕ × ℕ))) → both_ways vs [] ≡ []
 both_none [] = refl
 both_none (v ∷ vs) = both_none vs
 
-pub from_none : {A : Type 0} (f : A → List (List (ℕ × ℕ))) (xs : List A) → fold (λ vs x. both_ways vs (f x)) [] xs ≡ []
-from_none f [] = refl
-from_none f (x ∷ xs) = from_none f xs
-
 pub none_is : (ws : List (List (ℕ × ℕ))) → is_none ws ≡ true → ws ≡ []
 none_is [] h = refl
 none_is (w ∷ ws) h = absurd (true≢false (sym h))
 
--- where one of the lists has no way, all together have none
-pub all_none : {A : Type 0} (f : A → List (List (ℕ × ℕ))) (xs : List A) (us : List (List (ℕ × ℕ))) →
-    list_any (λ x. is_none (f x)) xs ≡ true → fold (λ vs x. both_ways vs (f x)) us xs ≡ []
-all_none f [] us h = absurd (true≢false (sym h))
-all_none {A} f (x ∷ xs) us h = at (is_none (f x)) refl (all_none f xs (both_ways us (f x)))
-  where
-    at : (b : Bool) → is_none (f x) ≡ b →
-        (list_any (λ y. is_none (f y)) xs ≡ true → fold (λ vs y. both_ways vs (f y)) (both_ways us (f x)) xs ≡ []) →
-        fold (λ vs y. both_ways vs (f y)) (both_ways us (f x)) xs ≡ []
-    at true e next =
-        ap (λ t. fold (λ vs y. both_ways vs (f y)) t xs) (ap (both_ways us) (none_is (f x) e) ∙ both_none us) ∙ from_none f xs
-    at false e next = next (sym (ap (λ b. b || list_any (λ y. is_none (f y)) xs) e) ∙ h)
+pub none_of_both : (vs ws : List (List (ℕ × ℕ))) → is_none (both_ways vs ws) ≡ (is_none vs || is_none ws)
+none_of_both [] ws = refl
+none_of_both (v ∷ vs) [] = ap is_none (both_none vs)
+none_of_both (v ∷ vs) (w ∷ ws) = refl
+
+-- the one way that asks for nothing
+
+pub both_free_right : (ws : List (List (ℕ × ℕ))) → both_ways ws free_way ≡ ws
+both_free_right [] = refl
+both_free_right (w ∷ ws) = λ k. append-nil w k ∷ both_free_right ws k
+
+two_open : (v w : List (ℕ × ℕ)) (ws : List (List (ℕ × ℕ))) → is_free (v ∷ w ∷ ws) ≡ false
+two_open [] w ws = refl
+two_open (p ∷ v) w ws = refl
+
+free_of_both : (vs ws : List (List (ℕ × ℕ))) → is_free (both_ways vs ws) ≡ (is_free vs && is_free ws)
+free_of_both [] ws = refl
+free_of_both ([] ∷ []) ws = ap is_free (both_free ws)
+free_of_both ((pair ∷ pairs) ∷ vs) [] = ap is_free (both_none vs)
+free_of_both ((pair ∷ pairs) ∷ vs) (w ∷ ws) = refl
+free_of_both ([] ∷ v ∷ vs) [] = ap is_free (both_none vs)
+free_of_both ([] ∷ v ∷ vs) (w ∷ []) = two_open w (v ++ w) _
+free_of_both ([] ∷ v ∷ vs) (w ∷ x ∷ ws) = two_open w x _
 
 -- the ways of one or the other
 
@@ -122,26 +132,21 @@ either_assoc us vs ws =
     at false false true = refl
     at false false false = append_assoc us vs ws
 
--- one list after another, where none of them is free
-pub either_joined : {A : Type 0} (f : A → List (List (ℕ × ℕ))) (xs : List A) (us : List (List (ℕ × ℕ))) →
-    fold (λ vs x. either_way vs (f x)) us xs
-    ≡ (if is_free us || list_any (λ x. is_free (f x)) xs then free_way else us ++ joined (map f xs))
-either_joined f [] us = at (is_free us) refl
+either_none : (ws : List (List (ℕ × ℕ))) → either_way ws [] ≡ ws
+either_none ws = at (is_free ws) refl
   where
-    at : (b : Bool) → is_free us ≡ b → us ≡ (if b || false then free_way else us ++ [])
-    at true e = free_is us e
-    at false e = sym (append-nil us)
-either_joined {A} f (x ∷ xs) us =
-    either_joined f xs (either_way us (f x))
-    ∙ ap (λ b. if b || list_any (λ y. is_free (f y)) xs then free_way else either_way us (f x) ++ joined (map f xs)) (free_of_either us (f x))
-    ∙ at (is_free us) (is_free (f x)) (list_any (λ y. is_free (f y)) xs)
+    at : (b : Bool) → is_free ws ≡ b → (if b || false then free_way else ws ++ []) ≡ ws
+    at true e = sym (free_is ws e)
+    at false e = append-nil ws
+
+none_of_either : (vs ws : List (List (ℕ × ℕ))) → is_none (either_way vs ws) ≡ (is_none vs && is_none ws)
+none_of_either [] [] = refl
+none_of_either [] (w ∷ ws) = ap is_none (either_nothing (w ∷ ws))
+none_of_either (v ∷ vs) ws = at (is_free (v ∷ vs) || is_free ws)
   where
-    at : (b c d : Bool) → (if (b || c) || d then free_way else (if b || c then free_way else us ++ f x) ++ joined (map f xs))
-        ≡ (if b || (c || d) then free_way else us ++ (f x ++ joined (map f xs)))
-    at true c d = refl
-    at false true d = refl
-    at false false true = refl
-    at false false false = append_assoc us (f x) (joined (map f xs))
+    at : (b : Bool) → is_none (if b then free_way else (v ∷ vs) ++ ws) ≡ false
+    at true = refl
+    at false = refl
 
 pub joined_more : {A : Type 0} (f : A → List (List (ℕ × ℕ))) (xs : List A) (i : ℕ) (x : A) → i < length xs → x ≡ get_or xs i x →
     joined (map f (take (i + 1) xs)) ≡ joined (map f (take i xs)) ++ f x
@@ -149,8 +154,60 @@ joined_more f xs i x h e =
     ap (λ t. joined (map f t)) (take_more xs i x h) ∙ ap joined (map-append f (take i xs) (get_or xs i x ∷ []))
     ∙ joined_push (map f (take i xs)) (f (get_or xs i x)) ∙ ap (λ y. joined (map f (take i xs)) ++ f y) (sym e)
 
--- where one of the lists is free, so are all together, and else they follow one another
+-- parts that are joined
 
-pub any_free : {A : Type 0} (f : A → List (List (ℕ × ℕ))) (xs : List A) → list_any (λ x. is_free (f x)) xs ≡ true →
-    fold (λ vs x. either_way vs (f x)) [] xs ≡ free_way
-any_free f xs h = either_joined f xs [] ∙ ap (λ b. if b then free_way else joined (map f xs)) h
+pub decided_is : (met : Bool) (ws : List (List (ℕ × ℕ))) → is_decided met ws ≡ true → ws ≡ decided met
+decided_is true ws h = free_is ws h
+decided_is false ws h = none_is ws h
+
+pub joined_idle : (c : Connective) (ws : List (List (ℕ × ℕ))) → joined_by c ws (decided (not (decider c))) ≡ ws
+joined_idle And ws = both_free_right ws
+joined_idle Or ws = either_none ws
+
+pub decided_by_one : (c : Connective) (vs ws : List (List (ℕ × ℕ))) →
+    is_decided (decider c) (joined_by c vs ws) ≡ (is_decided (decider c) vs || is_decided (decider c) ws)
+decided_by_one And vs ws = none_of_both vs ws
+decided_by_one Or vs ws = free_of_either vs ws
+
+pub decided_by_both : (c : Connective) (vs ws : List (List (ℕ × ℕ))) →
+    is_decided (not (decider c)) (joined_by c vs ws) ≡ (is_decided (not (decider c)) vs && is_decided (not (decider c)) ws)
+decided_by_both And vs ws = free_of_both vs ws
+decided_by_both Or vs ws = none_of_either vs ws
+
+pub parts_more : (c : Connective) (leaf : ℕ → Option ℕ) (parts : List Nnf) (i : ℕ) (part : Nnf) → i < length parts → part ≡ get_or parts i part →
+    ways_of_parts c leaf (take (i + 1) parts) ≡ joined_by c (ways_of_parts c leaf (take i parts)) (ways (normal_of part) leaf)
+parts_more c leaf parts i part h e = fold_more (λ vs p. joined_by c vs (ways (normal_of p) leaf)) (decided (not (decider c))) parts i part h e
+
+-- where the first of them decide, so do all
+
+module _ (c : Connective) (leaf : ℕ → Option ℕ) where
+  abbrev joined_on : List (List (ℕ × ℕ)) → List Nnf → List (List (ℕ × ℕ))
+  joined_on us parts = fold (λ vs part. joined_by c vs (ways (normal_of part) leaf)) us parts
+
+  stays_decided : (parts : List Nnf) (us : List (List (ℕ × ℕ))) → is_decided (decider c) us ≡ true → joined_on us parts ≡ decided (decider c)
+  stays_decided [] us h = decided_is (decider c) us h
+  stays_decided (p ∷ parts) us h =
+      stays_decided parts (joined_by c us (ways (normal_of p) leaf))
+      (decided_by_one c us (ways (normal_of p) leaf) ∙ ap (λ b. b || is_decided (decider c) (ways (normal_of p) leaf)) h)
+
+  ends_decided : (parts : List Nnf) (i : ℕ) (us : List (List (ℕ × ℕ))) → is_decided (decider c) (joined_on us (take i parts)) ≡ true →
+      joined_on us parts ≡ decided (decider c)
+  ends_decided parts zero us h = stays_decided parts us h
+  ends_decided [] (suc i) us h = decided_is (decider c) us h
+  ends_decided (p ∷ parts) (suc i) us h = ends_decided parts i (joined_by c us (ways (normal_of p) leaf)) h
+
+  pub parts_decided : (parts : List Nnf) (i : ℕ) → is_decided (decider c) (ways_of_parts c leaf (take i parts)) ≡ true → ways_of_parts c leaf parts ≡ decided (decider c)
+  parts_decided parts i h = ends_decided parts i (decided (not (decider c))) h
+
+  pub part_decides : (parts : List Nnf) (i : ℕ) (part : Nnf) → i < length parts → part ≡ get_or parts i part → ways (normal_of part) leaf ≡ decided (decider c) →
+      ways_of_parts c leaf parts ≡ decided (decider c)
+  part_decides parts i part h e decides =
+      parts_decided parts (i + 1)
+      (ap (is_decided (decider c)) (parts_more c leaf parts i part h e) ∙ decided_by_one c (ways_of_parts c leaf (take i parts)) (ways (normal_of part) leaf)
+      ∙ (λ k. is_decided (decider c) (ways_of_parts c leaf (take i parts)) || is_decided (decider c) (decides k)) ∙ one (decider c) _)
+    where
+      one : (d b : Bool) → (b || is_decided d (decided d)) ≡ true
+      one true true = refl
+      one true false = refl
+      one false true = refl
+      one false false = refl

@@ -1,38 +1,49 @@
 -- What a rule asks of some leaves.
-use Rattle.std.specs.Prelude.{◌≡◌, ℕ, false, List, [], ◌∷◌, map, fold}
+use Rattle.std.specs.Prelude.{◌≡◌, ℕ, Bool, true, false, not, List, [], ◌∷◌, map, fold}
 use Rattle.flow_model.specs.Lists.{joined}
-use Rattle.flow_model.specs.Ways.{free_way, is_free}
+use Rattle.flow_model.specs.Ways.{free_way}
 use Rattle.flow_rules.specs.declared.asked.Asked.{Asked}
 use Rattle.flow_rules.specs.declared.asked.Asked.TheOpen as open_asked
 use Rattle.flow_rules.specs.declared.asked.Asked.TheOpen.{Asked-F}
 use Rattle.flow_rules.specs.declared.asked.Asked.TheFolds.{fold-Asked}
 use Rattle.flow_rules.specs.declared.asked.Found.{Found}
-use Rattle.flow_rules.specs.declared.asked.Found.TheVariants.{Met, Unmet, Open}
-use Rattle.flow_rules.specs.WayLists.{both_ways, is_none}
+use Rattle.flow_rules.specs.declared.asked.Found.TheVariants.{Decided, Open}
+use Rattle.flow_rules.specs.declared.connective.Connective.{Connective}
+use Rattle.flow_rules.specs.declared.connective.Connective.TheVariants.{And, Or}
+use Rattle.flow_rules.specs.WayLists.{both_ways, decided, decider, is_decided}
+
+-- the ways of parts that each ask for an order
+abbrev pub open_ways_by : Connective → List (List (List (ℕ × ℕ))) → List (List (ℕ × ℕ))
+open_ways_by And parts = fold both_ways free_way parts
+open_ways_by Or parts = joined parts
 
 -- the ways in which it is met, with those of each part in its place
 abbrev pub asked_step : Asked-F (List (List (ℕ × ℕ))) → List (List (ℕ × ℕ))
 asked_step (open_asked.Pair x y) = ((x, y) ∷ []) ∷ []
-asked_step (open_asked.All parts) = fold both_ways free_way parts.items
-asked_step (open_asked.Any parts) = joined parts.items
+asked_step (open_asked.Parts c parts) = open_ways_by c parts.items
 
 abbrev pub ways_asked : Asked → List (List (ℕ × ℕ))
 ways_asked = fold-Asked (List (List (ℕ × ℕ))) asked_step
 
--- the ways of those of which all are asked, and of those of which one is asked
-abbrev pub ways_of_all : List Asked → List (List (ℕ × ℕ))
-ways_of_all parts = fold both_ways free_way (map ways_asked parts)
-
-abbrev pub ways_of_any : List Asked → List (List (ℕ × ℕ))
-ways_of_any parts = joined (map ways_asked parts)
+-- the ways of those that are asked together
+abbrev pub ways_asked_by : Connective → List Asked → List (List (ℕ × ℕ))
+ways_asked_by c parts = open_ways_by c (map ways_asked parts)
 
 -- there is a way, and they are not the one that asks for nothing
-pub record AreOpen (ways : List (List (ℕ × ℕ))) : Type 0 where
-  pub some : is_none ways ≡ false
-  pub pairs : is_free ways ≡ false
+abbrev pub AreOpen : List (List (ℕ × ℕ)) → Type 0
+AreOpen ways = (met : Bool) → is_decided met ways ≡ false
 
 -- what is found is a rule with these ways
 abbrev pub Finds : Found → List (List (ℕ × ℕ)) → Type 0
-Finds Met ways = ways ≡ free_way
-Finds Unmet ways = ways ≡ []
+Finds (Decided met) ways = ways ≡ decided met
 Finds (Open asked) ways = (ways_asked asked ≡ ways) × AreOpen ways
+
+abbrev pub is_nil : List Asked → Bool
+is_nil [] = true
+is_nil (part ∷ parts) = false
+
+-- what is kept of parts with these ways: none of them decides the whole, and those that are left out add nothing
+pub record HasKept (c : Connective) (kept : List Asked) (ways : List (List (ℕ × ℕ))) : Type 0 where
+  pub same : ways_asked_by c kept ≡ ways
+  pub undecided : is_decided (decider c) ways ≡ false
+  pub none : is_decided (not (decider c)) ways ≡ is_nil kept

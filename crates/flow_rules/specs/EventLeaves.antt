@@ -1,27 +1,23 @@
 -- The leaf of each event.
-use Rattle.std.specs.Prelude.{◌≡◌, ℕ, ◌==◌, if◌then◌else◌, List, Option, Some, None, get_or}
-use Rattle.std.specs.Option.{option_or}
+use Rattle.std.specs.Prelude.{◌≡◌, ℕ, if◌then◌else◌, Option, Some, None, get_or}
+use Rattle.flow_model.specs.Facts.{is_event}
 use Rattle.flow_rules.specs.declared.leaf_table.LeafEvents.{LeafEvents}
-
--- the leaf at an event's place
-abbrev pub leaf_at : List (Option ℕ) → ℕ → Option ℕ
-leaf_at leaves event = get_or leaves event None
 
 -- the leaf that an event has, if it has one
 abbrev pub leaf_in : LeafEvents → ℕ → Option ℕ
-leaf_in table event = leaf_at table.leaves.items event
+leaf_in table event = get_or table.leaves.items event None
 
 -- no event has a leaf
 abbrev pub IsBlank : LeafEvents → Type 0
 IsBlank table = (event : ℕ) → leaf_in table event ≡ None
 
--- the leaf of `q`, where the leaf given is its leaf if it has no other
-abbrev pub with_leaf : ℕ → ℕ → Option ℕ → ℕ → Option ℕ
-with_leaf event leaf before q = option_or before (if event == q then Some leaf else None)
+-- the leaf, if that is its event
+abbrev pub if_on : ℕ → ℕ → Option ℕ → Option ℕ
+if_on q leaf event = if is_event q event then Some leaf else None
 
 -- the leaf of `q`, where that of the event is forgotten
-abbrev pub without_leaf : ℕ → Option ℕ → ℕ → Option ℕ
-without_leaf event before q = if event == q then None else before
+abbrev pub without_leaf : Option ℕ → Option ℕ → ℕ → Option ℕ
+without_leaf event before q = if is_event q event then None else before
 
 -- the leaf, unless there is another
 abbrev pub unless : Option ℕ → Option ℕ → Option ℕ

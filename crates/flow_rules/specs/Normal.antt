@@ -46,19 +46,19 @@ all_form true ns = all_normals ns
 all_form false ns = any_normals ns
 
 -- an order of events, or its negation where it is not wanted
-abbrev pub chain_form : Bool → List ℕ → Normal
-chain_form wanted [] = all_form wanted []
-chain_form true (e ∷ []) = must e
-chain_form false (e ∷ []) = never e
-chain_form wanted (a ∷ b ∷ more) = all_form wanted (linked (pair_form wanted) a (b ∷ more))
+abbrev pub split_chain : Bool → List ℕ → Normal
+split_chain wanted [] = all_form wanted []
+split_chain true (e ∷ []) = must e
+split_chain false (e ∷ []) = never e
+split_chain wanted (a ∷ b ∷ more) = all_form wanted (linked (pair_form wanted) a (b ∷ more))
 
 -- the normal form of a constraint, or of its negation where it is not wanted, its orders lists of pairs
 abbrev pub split_form : Constraint → Bool → Normal
 split_form Always wanted = all_form wanted []
 split_form Impossible wanted = all_form (not wanted) []
-split_form (Must e) wanted = chain_form wanted (e ∷ [])
-split_form (Never e) wanted = chain_form (not wanted) (e ∷ [])
-split_form (Order es) wanted = chain_form wanted es
+split_form (Must e) wanted = split_chain wanted (e ∷ [])
+split_form (Never e) wanted = split_chain (not wanted) (e ∷ [])
+split_form (Order es) wanted = split_chain wanted es
 split_form (Not c) wanted = split_form c (not wanted)
 split_form (And c d) true = both (split_form c true) (split_form d true)
 split_form (And c d) false = either (split_form c false) (split_form d false)

@@ -69,13 +69,13 @@ chain_form wanted (a ∷ []) = event_form wanted a
 chain_form wanted (a ∷ b ∷ more) = list_form wanted (neighbours wanted (a ∷ b ∷ more))
 
 -- a rule, with what each part is in the place of the part
-abbrev pub rule_step : Rule-F (Bool → NormalForm) → Bool → NormalForm
-rule_step (open_rule.Must e) wanted = event_form wanted e
-rule_step (open_rule.Never e) wanted = event_form (not wanted) e
-rule_step (open_rule.Order es) wanted = chain_form wanted es.items
-rule_step (open_rule.Not r) wanted = r.value (not wanted)
-rule_step (open_rule.And rs) wanted = list_form wanted (map (λ r. r wanted) rs.items)
-rule_step (open_rule.Or rs) wanted = list_form (not wanted) (map (λ r. r wanted) rs.items)
+abbrev pub rule_form_step : Rule-F (Bool → NormalForm) → Bool → NormalForm
+rule_form_step (open_rule.Must e) wanted = event_form wanted e
+rule_form_step (open_rule.Never e) wanted = event_form (not wanted) e
+rule_form_step (open_rule.Order es) wanted = chain_form wanted es.items
+rule_form_step (open_rule.Not r) wanted = r.value (not wanted)
+rule_form_step (open_rule.And rs) wanted = list_form wanted (map (λ r. r wanted) rs.items)
+rule_form_step (open_rule.Or rs) wanted = list_form (not wanted) (map (λ r. r wanted) rs.items)
 
-abbrev pub normal_form : Rule → Bool → NormalForm
-normal_form = fold-Rule (Bool → NormalForm) rule_step
+abbrev pub rule_form : Rule → Bool → NormalForm
+rule_form = fold-Rule (Bool → NormalForm) rule_form_step

@@ -1,20 +1,23 @@
 -- In which lanes a rule is met in any order, and in which in none.
-use Rattle.std.specs.Prelude.{◌≡◌, ◌<◌, ℕ, ◌==◌, Bool, List, Option}
+use Rattle.std.specs.Prelude.{◌≡◌, ◌<◌, ℕ, ◌==◌, Bool, true, false, List, Option}
 use Rattle.std.specs.Int.{bit_at}
-use Rattle.flow_model.specs.Ways.{is_free}
 use Rattle.flow_rules.specs.declared.lanes.Lanes.{Lanes}
 use Rattle.flow_rules.specs.declared.standing.Standing.{Standing}
 use Rattle.flow_rules.specs.Lanes.{Shows}
-use Rattle.flow_rules.specs.WayLists.{is_none}
+use Rattle.flow_rules.specs.WayLists.{is_decided}
 
 -- the word has the lane
 abbrev pub has_lane : ℕ → ℕ → Bool
 has_lane word lane = bit_at word lane == 1
 
+-- the lanes in which the rule is met in any order where the flag is true, and else those in which it is met in none
+abbrev pub lanes_where : Standing → Bool → ℕ
+lanes_where s true = s.free
+lanes_where s false = s.unmet
+
 -- what it says of a lane, where the rule has these ways there
-pub record StandsIn (s : Standing) (lane : ℕ) (ways : List (List (ℕ × ℕ))) : Type 0 where
-  pub free : has_lane s.free lane ≡ is_free ways
-  pub unmet : has_lane s.unmet lane ≡ is_none ways
+abbrev pub StandsIn : Standing → ℕ → List (List (ℕ × ℕ)) → Type 0
+StandsIn s lane ways = (met : Bool) → has_lane (lanes_where s met) lane ≡ is_decided met ways
 
 -- so it is in each lane, where the rule has ways by the map of the lane
 abbrev pub Stands : Standing → Lanes → ((ℕ → Option ℕ) → List (List (ℕ × ℕ))) → Type 0

@@ -1,19 +1,30 @@
 -- Lists of ways put together.
-use Rattle.std.specs.Prelude.{ℕ, Bool, true, false, ◌||◌, if◌then◌else◌, List, [], ◌∷◌, ◌++◌, Option, map, fold}
+use Rattle.std.specs.Prelude.{ℕ, Bool, true, false, not, ◌||◌, if◌then◌else◌, List, [], ◌∷◌, ◌++◌, Option, map, fold}
 use Rattle.flow_model.specs.Lists.{each_with_each}
 use Rattle.flow_model.specs.Ways.{free_way, is_free, ways}
+use Rattle.flow_rules.specs.declared.connective.Connective.{Connective}
+use Rattle.flow_rules.specs.declared.connective.Connective.TheVariants.{And, Or}
 use Rattle.flow_rules.specs.declared.normal.Nnf.{Nnf}
 use Rattle.flow_rules.specs.declared.order_set.OrderSet.{OrderSet}
 use Rattle.flow_rules.specs.Normal.{normal_of}
 
 -- the pairs of each set
-abbrev pub pairs_of : List OrderSet → List (List (ℕ × ℕ))
-pairs_of sets = map (λ (s : OrderSet). s.pairs.items) sets
+abbrev pub ways_of_sets : List OrderSet → List (List (ℕ × ℕ))
+ways_of_sets sets = map (λ (s : OrderSet). s.pairs.items) sets
 
 -- there is no way
 abbrev pub is_none : List (List (ℕ × ℕ)) → Bool
 is_none [] = true
 is_none (way ∷ ways) = false
+
+-- the ways of a rule that is met in any order where the flag is true, and else of one that cannot be met
+abbrev pub decided : Bool → List (List (ℕ × ℕ))
+decided true = free_way
+decided false = []
+
+abbrev pub is_decided : Bool → List (List (ℕ × ℕ)) → Bool
+is_decided true ways = is_free ways
+is_decided false ways = is_none ways
 
 -- each of the first ways with each of the others
 abbrev pub both_ways : List (List (ℕ × ℕ)) → List (List (ℕ × ℕ)) → List (List (ℕ × ℕ))
@@ -23,10 +34,16 @@ both_ways vs ws = each_with_each (λ v w. v ++ w) vs ws
 abbrev pub either_way : List (List (ℕ × ℕ)) → List (List (ℕ × ℕ)) → List (List (ℕ × ℕ))
 either_way vs ws = if is_free vs || is_free ws then free_way else vs ++ ws
 
--- the ways in which each of the rules is met
-abbrev pub all_ways : (ℕ → Option ℕ) → List Nnf → List (List (ℕ × ℕ))
-all_ways leaf rules = fold (λ vs rule. both_ways vs (ways (normal_of rule) leaf)) free_way rules
+-- the ways of two parts
+abbrev pub joined_by : Connective → List (List (ℕ × ℕ)) → List (List (ℕ × ℕ)) → List (List (ℕ × ℕ))
+joined_by And vs ws = both_ways vs ws
+joined_by Or vs ws = either_way vs ws
 
--- the ways in which one of the rules is met
-abbrev pub any_ways : (ℕ → Option ℕ) → List Nnf → List (List (ℕ × ℕ))
-any_ways leaf rules = fold (λ vs rule. either_way vs (ways (normal_of rule) leaf)) [] rules
+-- what one part decides of the whole
+abbrev pub decider : Connective → Bool
+decider And = false
+decider Or = true
+
+-- the ways in which the parts are met
+abbrev pub ways_of_parts : Connective → (ℕ → Option ℕ) → List Nnf → List (List (ℕ × ℕ))
+ways_of_parts c leaf parts = fold (λ vs part. joined_by c vs (ways (normal_of part) leaf)) (decided (not (decider c))) parts

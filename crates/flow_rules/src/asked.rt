@@ -1,10 +1,12 @@
-ghost use Rattle.std.specs.Prelude.{◌≡◌, IfOk};
+ghost use Rattle.std.specs.Prelude.{◌≡◌, ℕ, List, IfOk};
 ghost use Rattle.flow_model.specs.Ways as model;
-ghost use Rattle.flow_rules.specs.Asked.{Finds};
+ghost use Rattle.flow_rules.specs.Asked.{Finds, HasKept};
 ghost use Rattle.flow_rules.specs.EventLeaves.{leaf_in};
+ghost use Rattle.flow_rules.specs.Kept.{HoldsMore, items_of};
 ghost use Rattle.flow_rules.specs.Normal.{normal_of};
-ghost use Rattle.flow_rules.specs.WayLists.{all_ways, any_ways};
+ghost use Rattle.flow_rules.specs.WayLists.{ways_of_parts};
 
+use crate::connective::Connective;
 use crate::kept::Kept;
 use crate::leaf_table::LeafEvents;
 use crate::normal::Nnf;
@@ -15,17 +17,14 @@ use std::alloc::{AllocError, Global};
 pub(crate) enum Asked {
     /// The first leaf is to stand before the second.
     Pair(u32, u32),
-    All(Vec<Asked>),
-    Any(Vec<Asked>),
+    Parts(Connective, Vec<Asked>),
 }
 
 /// What is found when a rule is looked at with some leaves.
 #[derive(Drop)]
 pub(crate) enum Found {
-    /// The leaves meet it in any order.
-    Met,
-    /// They meet it in none.
-    Unmet,
+    /// The leaves meet it in any order (`true`), or in none.
+    Decided(bool),
     Open(Asked),
 }
 
@@ -33,8 +32,8 @@ fn must(leaf: Option<u32>) -> Found
     ensures { Finds result (model.ways_of_must leaf) }
 {
     match leaf {
-        Some(_) => Found::Met,
-        None => Found::Unmet,
+        Some(_) => Found::Decided(true),
+        None => Found::Decided(false),
     }
 }
 
@@ -42,8 +41,8 @@ fn never(leaf: Option<u32>) -> Found
     ensures { Finds result (model.ways_of_never leaf) }
 {
     match leaf {
-        Some(_) => Found::Unmet,
-        None => Found::Met,
+        Some(_) => Found::Decided(false),
+        None => Found::Decided(true),
     }
 }
 
@@ -51,11 +50,11 @@ fn before(events: &LeafEvents, first: u32, second: u32) -> Found
     ensures { Finds result (model.ways (model.before first second) (leaf_in events.now)) }
 {
     if first == second {
-        return Found::Unmet;
+        return Found::Decided(false);
     }
     match (events.leaf_of(first), events.leaf_of(second)) {
         (Some(x), Some(y)) => Found::Open(Asked::Pair(x, y)),
-        _ => Found::Unmet,
+        _ => Found::Decided(false),
     }
 }
 
@@ -63,52 +62,50 @@ fn not_before(events: &LeafEvents, first: u32, second: u32) -> Found
     ensures { Finds result (model.ways (model.not_before first second) (leaf_in events.now)) }
 {
     if first == second {
-        return Found::Met;
+        return Found::Decided(true);
     }
     match (events.leaf_of(first), events.leaf_of(second)) {
         (Some(x), Some(y)) => Found::Open(Asked::Pair(y, x)),
-        _ => Found::Met,
+        _ => Found::Decided(true),
     }
 }
 
-/// What all parts ask together. Those that ask for nothing are left out; an only one stands for itself.
+/// What the parts that are kept ask together, of which one alone stands for itself.
+fn kept_asked(connective: Connective, kept: Kept<Asked>) -> Found
+    requires { HoldsMore kept }
+    ensures { (ways : List (List (ℕ × ℕ))) → HasKept connective (items_of kept) ways → Finds result ways }
+{
+    match kept {
+        Kept::Nothing => Found::Decided(!connective.decides()),
+        Kept::One(only) => Found::Open(only),
+        Kept::More(parts) => Found::Open(Asked::Parts(connective, parts)),
+    }
+}
+
+/// What the parts ask together. Those that ask for nothing, or of an `Or` those that can't be met, are
+/// left out.
 #[cycle(asking)]
-fn all_asked(alloc: Global, parts: &[Nnf], events: &LeafEvents) -> Result<Found, AllocError>
-    ensures { IfOk result (λ found. Finds found (all_ways (leaf_in events.now) parts.now)) }
+fn parts_asked(
+    alloc: Global,
+    connective: Connective,
+    parts: &[Nnf],
+    events: &LeafEvents,
+) -> Result<Found, AllocError>
+    ensures { IfOk result (λ found. Finds found (ways_of_parts connective (leaf_in events.now) parts.now)) }
 {
     let mut kept = Kept::Nothing;
     for part in parts {
         match asked_of(alloc, part, events)? {
-            Found::Met => {}
-            Found::Unmet => return Ok(Found::Unmet),
+            Found::Decided(met) => {
+                if met == connective.decides() {
+                    drop(kept);
+                    return Ok(Found::Decided(met));
+                }
+            }
             Found::Open(more) => kept = kept.with(alloc, more)?,
         }
     }
-    match kept {
-        Kept::Nothing => Ok(Found::Met),
-        Kept::One(only) => Ok(Found::Open(only)),
-        Kept::More(all) => Ok(Found::Open(Asked::All(all))),
-    }
-}
-
-/// What one of the parts asks. Those that can't be met are left out; an only one stands for itself.
-#[cycle(asking)]
-fn any_asked(alloc: Global, parts: &[Nnf], events: &LeafEvents) -> Result<Found, AllocError>
-    ensures { IfOk result (λ found. Finds found (any_ways (leaf_in events.now) parts.now)) }
-{
-    let mut kept = Kept::Nothing;
-    for part in parts {
-        match asked_of(alloc, part, events)? {
-            Found::Met => return Ok(Found::Met),
-            Found::Unmet => {}
-            Found::Open(more) => kept = kept.with(alloc, more)?,
-        }
-    }
-    match kept {
-        Kept::Nothing => Ok(Found::Unmet),
-        Kept::One(only) => Ok(Found::Open(only)),
-        Kept::More(any) => Ok(Found::Open(Asked::Any(any))),
-    }
+    Ok(kept_asked(connective, kept))
 }
 
 /// What the rule asks of the leaves. Each part is looked at once.
@@ -121,7 +118,7 @@ pub(crate) fn asked_of(alloc: Global, rule: &Nnf, events: &LeafEvents) -> Result
         Nnf::Never(event) => Ok(never(events.leaf_of(*event))),
         Nnf::Before(first, second) => Ok(before(events, *first, *second)),
         Nnf::NotBefore(first, second) => Ok(not_before(events, *first, *second)),
-        Nnf::And(parts) => all_asked(alloc, parts, events),
-        Nnf::Or(parts) => any_asked(alloc, parts, events),
+        Nnf::And(parts) => parts_asked(alloc, Connective::And, parts, events),
+        Nnf::Or(parts) => parts_asked(alloc, Connective::Or, parts, events),
     }
 }

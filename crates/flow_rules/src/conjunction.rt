@@ -10,7 +10,7 @@ use crate::rule::Rule;
 use std::alloc::{AllocError, Global};
 
 /// Rules that are all to be met.
-#[derive(Debug, Drop)]
+#[derive(Drop)]
 pub struct Conjunction {
     rules: Vec<Nnf>,
 }

@@ -1,16 +1,17 @@
 ghost use Rattle.std.specs.Prelude.{◌≡◌};
 ghost use Rattle.flow_model.specs.Ways as model;
-ghost use Rattle.flow_rules.specs.Counts.{count_of, counts_of_both, counts_of_either, is_free_count};
+ghost use Rattle.flow_rules.specs.Counts.{count_of, counts_by, counts_of_both, counts_of_either, is_decided_count, is_free_count};
 ghost use Rattle.flow_rules.specs.EventLeaves.{leaf_in};
 ghost use Rattle.flow_rules.specs.Normal.{normal_of};
-ghost use Rattle.flow_rules.specs.WayLists.{all_ways, any_ways};
+ghost use Rattle.flow_rules.specs.WayLists.{decided, ways_of_parts};
 
+use crate::connective::Connective;
 use crate::leaf_table::LeafEvents;
 use crate::normal::Nnf;
 
 /// How many ways there are, and how many pairs in all of them. What would pass the greatest number
 /// is kept at it.
-#[derive(Clone, Copy, Debug, PartialEq, Eq)]
+#[derive(Clone, Copy)]
 pub struct WayCount {
     pub ways: u64,
     pub pairs: u64,
@@ -57,6 +58,30 @@ impl WayCount {
             pairs: self.pairs.saturating_add(other.pairs),
         }
     }
+
+    /// The ways of two parts.
+    fn with(self, other: WayCount, connective: Connective) -> WayCount
+        ensures { result ≡ counts_by connective self other }
+    {
+        match connective {
+            Connective::And => self.both(other),
+            Connective::Or => self.either(other),
+        }
+    }
+
+    /// The one way that asks for nothing, or none.
+    fn decided(met: bool) -> WayCount
+        ensures { result ≡ count_of (decided met) }
+    {
+        if met { FREE } else { NONE }
+    }
+
+    /// Whether that is all.
+    fn is_decided(self, met: bool) -> bool
+        ensures { result ≡ is_decided_count met self }
+    {
+        if met { self.is_free() } else { self.ways == 0 }
+    }
 }
 
 fn must(leaf: Option<u32>) -> WayCount
@@ -101,29 +126,16 @@ fn not_before(events: &LeafEvents, first: u32, second: u32) -> WayCount
     }
 }
 
+/// How many ways the parts have. It ends where one of them decides it.
 #[cycle(counting)]
-fn count_all(parts: &[Nnf], events: &LeafEvents) -> WayCount
-    ensures { result ≡ count_of (all_ways (leaf_in events.now) parts.now) }
+fn count_parts(connective: Connective, parts: &[Nnf], events: &LeafEvents) -> WayCount
+    ensures { result ≡ count_of (ways_of_parts connective (leaf_in events.now) parts.now) }
 {
-    let mut count = FREE;
+    let mut count = WayCount::decided(!connective.decides());
     for part in parts {
-        count = count.both(count_ways(part, events));
-        if count.ways == 0 {
-            return NONE;
-        }
-    }
-    count
-}
-
-#[cycle(counting)]
-fn count_any(parts: &[Nnf], events: &LeafEvents) -> WayCount
-    ensures { result ≡ count_of (any_ways (leaf_in events.now) parts.now) }
-{
-    let mut count = NONE;
-    for part in parts {
-        count = count.either(count_ways(part, events));
-        if count.is_free() {
-            return FREE;
+        count = count.with(count_ways(part, events), connective);
+        if count.is_decided(connective.decides()) {
+            return count;
         }
     }
     count
@@ -139,7 +151,7 @@ pub fn count_ways(rule: &Nnf, events: &LeafEvents) -> WayCount
         Nnf::Never(event) => never(events.leaf_of(*event)),
         Nnf::Before(first, second) => before(events, *first, *second),
         Nnf::NotBefore(first, second) => not_before(events, *first, *second),
-        Nnf::And(parts) => count_all(parts, events),
-        Nnf::Or(parts) => count_any(parts, events),
+        Nnf::And(parts) => count_parts(Connective::And, parts, events),
+        Nnf::Or(parts) => count_parts(Connective::Or, parts, events),
     }
 }

@@ -17,9 +17,7 @@ pub fn note_events(tree: &Tree, leaves: &[u32], events: &mut LeafEvents) -> Resu
 {
     events.make_room(room_for(tree, leaves))?;
     for leaf in leaves {
-        if let Some(event) = event_at(tree, *leaf) {
-            events.note(event, *leaf);
-        }
+        events.note(event_at(tree, *leaf), *leaf);
     }
     Ok(())
 }
@@ -30,8 +28,6 @@ pub fn forget_events(tree: &Tree, leaves: &[u32], events: &mut LeafEvents)
         leaf_in events.new event ≡ unless (model.leaf_of_event tree.now.labels leaves.now event) (leaf_in events.old event) }
 {
     for leaf in leaves {
-        if let Some(event) = event_at(tree, *leaf) {
-            events.forget(event);
-        }
+        events.forget(event_at(tree, *leaf));
     }
 }

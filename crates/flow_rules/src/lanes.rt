@@ -1,4 +1,5 @@
-ghost use Rattle.std.specs.Prelude.{◌≡◌, ◌<◌, ◌==◌, ◌&&◌, ◌||◌, ℕ, false, is_some, length, OnErr, OnOk};
+ghost use Rattle.std.specs.Prelude.{◌≡◌, ◌<◌, ◌==◌, ◌&&◌, ◌||◌, ℕ, false, is_some, length, IfSome, OnErr, OnOk};
+ghost use Rattle.flow_model.specs.Facts.{is_event};
 ghost use Rattle.flow_model.specs.Ways as model;
 
 use crate::room::{event_at, make_room, room_for};
@@ -34,14 +35,15 @@ impl Lanes {
         }
     }
 
-    /// Marks the event in a lane.
-    fn mark(&mut self, event: u32, lane: u32)
-        requires room { event < length self.old.words.items }
+    /// Marks the event in a lane, if there is one.
+    fn mark(&mut self, event: Option<u32>, lane: u32)
+        requires room { IfSome event (λ event. event < length self.old.words.items) }
         requires lane { lane < 64 }
         ensures marked { (other q : ℕ) →
-            has_event self.new other q ≡ (other == lane && event == q || has_event self.old other q) }
+            has_event self.new other q ≡ (other == lane && is_event q event || has_event self.old other q) }
         ensures room { length self.new.words.items ≡ length self.old.words.items }
     {
+        let Some(event) = event else { return };
         self.words[event as usize] |= 1 << lane;
     }
 
@@ -56,9 +58,7 @@ impl Lanes {
     {
         make_room(&mut self.words, room_for(tree, leaves), 0)?;
         for leaf in leaves {
-            if let Some(event) = event_at(tree, *leaf) {
-                self.mark(event, lane);
-            }
+            self.mark(event_at(tree, *leaf), lane);
         }
         Ok(())
     }

@@ -1,4 +1,5 @@
-ghost use Rattle.std.specs.Prelude.{◌≡◌, ◌<◌, ◌≤◌, ℕ, length, OnOk};
+ghost use Rattle.std.specs.Option.{option_or};
+ghost use Rattle.std.specs.Prelude.{◌≡◌, ◌<◌, ◌≤◌, ℕ, length, IfSome, OnOk};
 
 use crate::room::make_room;
 use std::alloc::{AllocError, Global};
@@ -10,7 +11,7 @@ pub struct LeafEvents {
 }
 
 impl LeafEvents {
-    ghost use Rattle.flow_rules.specs.EventLeaves.{IsBlank, leaf_in, with_leaf, without_leaf};
+    ghost use Rattle.flow_rules.specs.EventLeaves.{IsBlank, if_on, leaf_in, without_leaf};
 
     /// No event has a leaf.
     pub fn new(alloc: Global) -> LeafEvents
@@ -39,21 +40,23 @@ impl LeafEvents {
         make_room(&mut self.leaves, room, None)
     }
 
-    /// Notes the event with its leaf, unless it has one.
-    pub(crate) fn note(&mut self, event: u32, leaf: u32)
-        requires { event < length self.old.leaves.items }
-        ensures noted { (q : ℕ) → leaf_in self.new q ≡ with_leaf event leaf (leaf_in self.old q) q }
+    /// Notes the leaf of an event, unless the event has one. Where there is no event nothing is noted.
+    pub(crate) fn note(&mut self, event: Option<u32>, leaf: u32)
+        requires { IfSome event (λ event. event < length self.old.leaves.items) }
+        ensures noted { (q : ℕ) → leaf_in self.new q ≡ option_or (leaf_in self.old q) (if_on q leaf event) }
         ensures room { length self.new.leaves.items ≡ length self.old.leaves.items }
     {
+        let Some(event) = event else { return };
         if self.leaves[event as usize].is_none() {
             self.leaves[event as usize] = Some(leaf);
         }
     }
 
     /// Takes the event's leaf away, if it has one.
-    pub(crate) fn forget(&mut self, event: u32)
+    pub(crate) fn forget(&mut self, event: Option<u32>)
         ensures { (q : ℕ) → leaf_in self.new q ≡ without_leaf event (leaf_in self.old q) q }
     {
+        let Some(event) = event else { return };
         if (event as usize) < self.leaves.len() {
             self.leaves[event as usize] = None;
         }

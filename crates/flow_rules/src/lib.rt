@@ -3,6 +3,7 @@
 
 mod asked;
 mod conjunction;
+mod connective;
 mod counting;
 mod event_leaves;
 mod kept;

@@ -1,11 +1,13 @@
 ghost use Rattle.std.specs.Prelude.{◌≡◌, ◌++◌, IfOk, OnOk, map};
 ghost use Rattle.flow_model.specs.Ways as model;
-ghost use Rattle.flow_rules.specs.Asked.{ways_asked, ways_of_all, ways_of_any};
+ghost use Rattle.flow_rules.specs.declared.connective.Connective.TheVariants.{And, Or};
+ghost use Rattle.flow_rules.specs.Asked.{ways_asked, ways_asked_by};
 ghost use Rattle.flow_rules.specs.EventLeaves.{leaf_in};
 ghost use Rattle.flow_rules.specs.Normal.{normal_of};
-ghost use Rattle.flow_rules.specs.WayLists.{both_ways, pairs_of};
+ghost use Rattle.flow_rules.specs.WayLists.{both_ways, decided, ways_of_sets};
 
 use crate::asked::{Asked, Found, asked_of};
+use crate::connective::Connective;
 use crate::leaf_table::LeafEvents;
 use crate::normal::Nnf;
 use crate::order_set::OrderSet;
@@ -13,11 +15,22 @@ use std::alloc::{AllocError, Global};
 
 /// The one way that asks for nothing.
 pub(crate) fn free_way(alloc: Global) -> Result<Vec<OrderSet>, AllocError>
-    ensures { IfOk result (λ all. pairs_of all.items ≡ model.free_way) }
+    ensures { IfOk result (λ all. ways_of_sets all.items ≡ model.free_way) }
 {
     let mut all = Vec::new(alloc);
     all.push(OrderSet::new(Vec::new(alloc)))?;
     Ok(all)
+}
+
+/// The one way that asks for nothing, or none.
+fn decided(alloc: Global, met: bool) -> Result<Vec<OrderSet>, AllocError>
+    ensures { IfOk result (λ all. ways_of_sets all.items ≡ decided met) }
+{
+    if met {
+        free_way(alloc)
+    } else {
+        Ok(Vec::new(alloc))
+    }
 }
 
 /// Puts the others behind the ways.
@@ -33,7 +46,7 @@ fn add(others: Vec<OrderSet>, all: &mut Vec<OrderSet>) -> Result<(), AllocError>
 /// Each of the ways, with each way in which the rule is met behind it.
 #[cycle(listing)]
 fn extended(alloc: Global, ways: Vec<OrderSet>, rule: &Asked) -> Result<Vec<OrderSet>, AllocError>
-    ensures { IfOk result (λ all. pairs_of all.items ≡ both_ways (pairs_of ways.items) (ways_asked rule.now)) }
+    ensures { IfOk result (λ all. ways_of_sets all.items ≡ both_ways (ways_of_sets ways.items) (ways_asked rule.now)) }
 {
     let mut all = Vec::with_capacity(alloc, ways.len())?;
     for way in ways {
@@ -50,7 +63,7 @@ fn extend_by_all(
     parts: &[Asked],
     all: &mut Vec<OrderSet>,
 ) -> Result<(), AllocError>
-    ensures { OnOk result (pairs_of all.new.items ≡ pairs_of all.old.items ++ map (λ w. way.pairs.items ++ w) (ways_of_all parts.now)) }
+    ensures { OnOk result (ways_of_sets all.new.items ≡ ways_of_sets all.old.items ++ map (λ w. way.pairs.items ++ w) (ways_asked_by And parts.now)) }
 {
     let mut ways = Vec::new(alloc);
     ways.push(way)?;
@@ -68,7 +81,7 @@ fn extend_by_any(
     parts: &[Asked],
     all: &mut Vec<OrderSet>,
 ) -> Result<(), AllocError>
-    ensures { OnOk result (pairs_of all.new.items ≡ pairs_of all.old.items ++ map (λ w. way.now.pairs.items ++ w) (ways_of_any parts.now)) }
+    ensures { OnOk result (ways_of_sets all.new.items ≡ ways_of_sets all.old.items ++ map (λ w. way.now.pairs.items ++ w) (ways_asked_by Or parts.now)) }
 {
     for part in parts {
         extend(alloc, way.copy(alloc)?, part, all)?;
@@ -84,21 +97,21 @@ fn extend(
     rule: &Asked,
     all: &mut Vec<OrderSet>,
 ) -> Result<(), AllocError>
-    ensures { OnOk result (pairs_of all.new.items ≡ pairs_of all.old.items ++ map (λ w. way.pairs.items ++ w) (ways_asked rule.now)) }
+    ensures { OnOk result (ways_of_sets all.new.items ≡ ways_of_sets all.old.items ++ map (λ w. way.pairs.items ++ w) (ways_asked rule.now)) }
 {
     match rule {
         Asked::Pair(first, second) => {
             all.push(way.with(*first, *second)?)?;
             Ok(())
         }
-        Asked::All(parts) => extend_by_all(alloc, way, parts, all),
-        Asked::Any(parts) => extend_by_any(alloc, &way, parts, all),
+        Asked::Parts(Connective::And, parts) => extend_by_all(alloc, way, parts, all),
+        Asked::Parts(Connective::Or, parts) => extend_by_any(alloc, &way, parts, all),
     }
 }
 
 /// The ways in which the rule is met. No list that is formed has more ways than the answer.
 fn listed(alloc: Global, rule: &Asked) -> Result<Vec<OrderSet>, AllocError>
-    ensures { IfOk result (λ all. pairs_of all.items ≡ ways_asked rule.now) }
+    ensures { IfOk result (λ all. ways_of_sets all.items ≡ ways_asked rule.now) }
 {
     let mut all = Vec::new(alloc);
     extend(alloc, OrderSet::new(Vec::new(alloc)), rule, &mut all)?;
@@ -108,11 +121,10 @@ fn listed(alloc: Global, rule: &Asked) -> Result<Vec<OrderSet>, AllocError>
 /// The ways in which the leaves meet the rule, in order. What can't be met is found before any list is
 /// formed.
 pub fn ways(alloc: Global, rule: &Nnf, events: &LeafEvents) -> Result<Vec<OrderSet>, AllocError>
-    ensures { IfOk result (λ all. pairs_of all.items ≡ model.ways (normal_of rule.now) (leaf_in events.now)) }
+    ensures { IfOk result (λ all. ways_of_sets all.items ≡ model.ways (normal_of rule.now) (leaf_in events.now)) }
 {
     match asked_of(alloc, rule, events)? {
-        Found::Met => free_way(alloc),
-        Found::Unmet => Ok(Vec::new(alloc)),
+        Found::Decided(met) => decided(alloc, met),
         Found::Open(asked) => listed(alloc, &asked),
     }
 }
@@ -124,12 +136,15 @@ pub(crate) fn with_rule(
     rule: &Nnf,
     events: &LeafEvents,
 ) -> Result<Vec<OrderSet>, AllocError>
-    ensures { IfOk result (λ all. pairs_of all.items ≡
-        both_ways (pairs_of ways.items) (model.ways (normal_of rule.now) (leaf_in events.now))) }
+    ensures { IfOk result (λ all. ways_of_sets all.items ≡
+        both_ways (ways_of_sets ways.items) (model.ways (normal_of rule.now) (leaf_in events.now))) }
 {
     match asked_of(alloc, rule, events)? {
-        Found::Met => Ok(ways),
-        Found::Unmet => Ok(Vec::new(alloc)),
+        Found::Decided(true) => Ok(ways),
+        Found::Decided(false) => {
+            drop(ways);
+            Ok(Vec::new(alloc))
+        }
         Found::Open(asked) => extended(alloc, ways, &asked),
     }
 }

@@ -1,11 +1,13 @@
 ghost use Rattle.std.specs.Prelude.{◌≡◌, ◌<◌, ℕ, Option, IfOk};
+ghost use Rattle.flow_rules.specs.declared.connective.Connective.TheVariants.{And};
 ghost use Rattle.flow_rules.specs.Counts.{count_of};
 ghost use Rattle.flow_rules.specs.EventLeaves.{leaf_in};
 ghost use Rattle.flow_rules.specs.Lanes.{Shows};
 ghost use Rattle.flow_rules.specs.Narrowed.{open_ways, ways_in};
 ghost use Rattle.flow_rules.specs.Standing.{has_lane};
-ghost use Rattle.flow_rules.specs.WayLists.{all_ways, pairs_of};
+ghost use Rattle.flow_rules.specs.WayLists.{ways_of_sets, ways_of_parts};
 
+use crate::connective::Connective;
 use crate::counting::{FREE, NONE, WayCount, count_ways};
 use crate::lanes::Lanes;
 use crate::leaf_table::LeafEvents;
@@ -13,7 +15,7 @@ use crate::listing::{free_way, with_rule};
 use crate::narrow::narrow_rule;
 use crate::normal::Nnf;
 use crate::order_set::OrderSet;
-use crate::standing::{all_standing, standing_of};
+use crate::standing::{parts_standing, standing_of};
 use std::alloc::{AllocError, Global};
 
 /// What is left of a rule in the lanes in which it asks for an order.
@@ -45,9 +47,9 @@ pub(crate) fn narrow_each(
     lanes: &Lanes,
 ) -> Result<Narrowed, AllocError>
     ensures { IfOk result (λ narrowed. (lane : ℕ) (leaf : ℕ → Option ℕ) → lane < 64 → Shows lanes.now lane leaf →
-        ways_in narrowed lane leaf ≡ all_ways leaf rules.now) }
+        ways_in narrowed lane leaf ≡ ways_of_parts And leaf rules.now) }
 {
-    let unmet = all_standing(rules, lanes).unmet;
+    let unmet = parts_standing(Connective::And, rules, lanes).unmet;
     let mut left = Vec::new(alloc);
     for rule in rules {
         let open = !(standing_of(rule, lanes).free | unmet);
@@ -82,7 +84,7 @@ fn list_open(
     events: &LeafEvents,
 ) -> Result<Vec<OrderSet>, AllocError>
     requires { lane < 64 }
-    ensures { IfOk result (λ all. pairs_of all.items ≡ open_ways lane (leaf_in events.now) rules.now) }
+    ensures { IfOk result (λ all. ways_of_sets all.items ≡ open_ways lane (leaf_in events.now) rules.now) }
 {
     let mut ways = free_way(alloc)?;
     for rule in rules {
@@ -113,7 +115,7 @@ impl Narrowed {
         events: &LeafEvents,
     ) -> Result<Vec<OrderSet>, AllocError>
         requires { lane < 64 }
-        ensures { IfOk result (λ all. pairs_of all.items ≡ ways_in self.now lane (leaf_in events.now)) }
+        ensures { IfOk result (λ all. ways_of_sets all.items ≡ ways_in self.now lane (leaf_in events.now)) }
     {
         if has_lane(self.unmet, lane) {
             return Ok(Vec::new(alloc));

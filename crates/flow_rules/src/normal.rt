@@ -1,5 +1,5 @@
 /// A rule with its orders split into pairs, and negation carried inward. Events go by their numbers.
-#[derive(Debug, Drop)]
+#[derive(Drop)]
 pub enum Nnf {
     /// The event happens.
     Must(u32),

@@ -3,7 +3,7 @@ ghost use Rattle.flow_model.specs.Ways as model;
 ghost use Rattle.flow_rules.specs.Rule.{rule_of};
 ghost use Rattle.flow_rules.specs.NormalForm as tree;
 ghost use Rattle.flow_rules.specs.NormalForm.{form_of};
-ghost use Rattle.flow_rules.specs.Normal.{normal_of, normals_of, linked, pair_form, all_form, chain_form, split_form};
+ghost use Rattle.flow_rules.specs.Normal.{normal_of, normals_of, linked, pair_form, all_form, split_chain, split_form};
 
 use crate::normal::Nnf;
 use crate::rule::Rule;
@@ -38,7 +38,7 @@ fn pairs(alloc: Global, first: u32, rest: &[u32], wanted: bool) -> Result<Vec<Nn
 /// An order of one event or of none, or its negation where it is not wanted.
 fn single(event: u32, wanted: bool) -> Nnf
     ensures tree { form_of result ≡ tree.event_form wanted event }
-    ensures normal { normal_of result ≡ chain_form wanted (event ∷ []) }
+    ensures normal { normal_of result ≡ split_chain wanted (event ∷ []) }
 {
     if wanted {
         Nnf::Must(event)
@@ -62,7 +62,7 @@ fn all(parts: Vec<Nnf>, wanted: bool) -> Nnf
 /// An order of events, or its negation where it is not wanted.
 fn chain(alloc: Global, events: &[u32], wanted: bool) -> Result<Nnf, AllocError>
     ensures tree { IfOk result (λ normal. form_of normal ≡ tree.chain_form wanted events.now) }
-    ensures normal { IfOk result (λ normal. normal_of normal ≡ chain_form wanted events.now) }
+    ensures normal { IfOk result (λ normal. normal_of normal ≡ split_chain wanted events.now) }
 {
     match events {
         [] => Ok(all(Vec::new(alloc), wanted)),
@@ -74,7 +74,7 @@ fn chain(alloc: Global, events: &[u32], wanted: bool) -> Result<Nnf, AllocError>
 /// Each of the rules, or its negation where it is not wanted.
 #[cycle(normalizing)]
 fn parts(alloc: Global, rules: &[Rule], wanted: bool) -> Result<Vec<Nnf>, AllocError>
-    ensures tree { IfOk result (λ parts. map form_of parts.items ≡ map (λ rule. tree.normal_form rule wanted) rules.now) }
+    ensures tree { IfOk result (λ parts. map form_of parts.items ≡ map (λ rule. tree.rule_form rule wanted) rules.now) }
     ensures normal { IfOk result (λ parts. normals_of parts.items ≡ map (λ rule. split_form (rule_of rule) wanted) rules.now) }
 {
     let mut parts = Vec::new(alloc);
@@ -87,7 +87,7 @@ fn parts(alloc: Global, rules: &[Rule], wanted: bool) -> Result<Vec<Nnf>, AllocE
 /// The rule, or its negation where it is not wanted.
 #[cycle(normalizing)]
 fn normal(alloc: Global, rule: &Rule, wanted: bool) -> Result<Nnf, AllocError>
-    ensures tree { IfOk result (λ normal. form_of normal ≡ tree.normal_form rule.now wanted) }
+    ensures tree { IfOk result (λ normal. form_of normal ≡ tree.rule_form rule.now wanted) }
     ensures normal { IfOk result (λ normal. normal_of normal ≡ split_form (rule_of rule.now) wanted) }
 {
     match rule {
@@ -102,7 +102,7 @@ fn normal(alloc: Global, rule: &Rule, wanted: bool) -> Result<Nnf, AllocError>
 
 /// The rule with its orders split into pairs, and negation carried inward.
 pub fn nnf(alloc: Global, rule: &Rule) -> Result<Nnf, AllocError>
-    ensures tree { IfOk result (λ normal. form_of normal ≡ tree.normal_form rule.now true) }
+    ensures tree { IfOk result (λ normal. form_of normal ≡ tree.rule_form rule.now true) }
     ensures ways { IfOk result (λ normal. (leaf : ℕ → Option ℕ) →
         model.ways (normal_of normal) leaf ≡ model.ways (model.normal_form (rule_of rule.now) true) leaf) }
 {

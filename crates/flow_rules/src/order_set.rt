@@ -4,7 +4,7 @@ use std::alloc::{AllocError, Global};
 
 /// Pairs of leaves, of which the first is to stand before the second: one way in which leaves meet a
 /// rule.
-#[derive(Debug, PartialEq, Eq, Drop)]
+#[derive(Drop)]
 pub struct OrderSet {
     pairs: Vec<(u32, u32)>,
 }

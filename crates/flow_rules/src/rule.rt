@@ -5,7 +5,7 @@ use std::alloc::{AllocError, Global};
 
 /// A rule on the events of an execution (Davulcu, Kifer, Ramakrishnan and Ramakrishnan 1998).
 /// Events go by their numbers.
-#[derive(Debug, Drop)]
+#[derive(Drop)]
 pub enum Rule {
     /// The event happens.
     Must(u32),

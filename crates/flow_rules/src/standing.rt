@@ -1,10 +1,10 @@
 ghost use Rattle.std.specs.Prelude.{◌≡◌, ◌<◌, ℕ, List, Option};
-ghost use Rattle.std.specs.Option.{is_some};
 ghost use Rattle.flow_model.specs.Ways as model;
 ghost use Rattle.flow_rules.specs.Normal.{normal_of};
-ghost use Rattle.flow_rules.specs.Standing.{Stands, StandsIn, has_lane};
-ghost use Rattle.flow_rules.specs.WayLists.{all_ways, any_ways, both_ways, either_way};
+ghost use Rattle.flow_rules.specs.Standing.{Stands, StandsIn, lanes_where};
+ghost use Rattle.flow_rules.specs.WayLists.{decided, joined_by, ways_of_parts};
 
+use crate::connective::Connective;
 use crate::lanes::Lanes;
 use crate::normal::Nnf;
 
@@ -15,38 +15,45 @@ pub(crate) struct Standing {
     pub(crate) unmet: u64,
 }
 
-/// Met in any order in each lane.
-pub(crate) const FREE: Standing = Standing {
-    free: u64::MAX,
-    unmet: 0,
-};
-
-/// Met in no lane.
-pub(crate) const UNMET: Standing = Standing {
-    free: 0,
-    unmet: u64::MAX,
-};
-
 impl Standing {
-    /// Where both are to be met.
-    pub(crate) fn both(self, other: Standing) -> Standing
-        ensures { (lane : ℕ) (vs ws : List (List (ℕ × ℕ))) →
-            StandsIn self lane vs → StandsIn other lane ws → StandsIn result lane (both_ways vs ws) }
+    /// Met in any order in each lane, or in none.
+    pub(crate) fn everywhere(met: bool) -> Standing
+        ensures { (lane : ℕ) → lane < 64 → StandsIn result lane (decided met) }
     {
-        Standing {
-            free: self.free & other.free,
-            unmet: self.unmet | other.unmet,
+        if met {
+            Standing {
+                free: u64::MAX,
+                unmet: 0,
+            }
+        } else {
+            Standing {
+                free: 0,
+                unmet: u64::MAX,
+            }
         }
     }
 
-    /// Where one of the two is to be met.
-    pub(crate) fn either(self, other: Standing) -> Standing
-        ensures { (lane : ℕ) (vs ws : List (List (ℕ × ℕ))) →
-            StandsIn self lane vs → StandsIn other lane ws → StandsIn result lane (either_way vs ws) }
+    /// The lanes in which the rule is met in any order, or those in which it is met in none.
+    pub(crate) fn lanes_where(self, met: bool) -> u64
+        ensures { result ≡ lanes_where self met }
     {
-        Standing {
-            free: self.free | other.free,
-            unmet: self.unmet & other.unmet,
+        if met { self.free } else { self.unmet }
+    }
+
+    /// Where the two parts are met that are joined so.
+    pub(crate) fn with(self, other: Standing, connective: Connective) -> Standing
+        ensures { (lane : ℕ) (vs ws : List (List (ℕ × ℕ))) →
+            StandsIn self lane vs → StandsIn other lane ws → StandsIn result lane (joined_by connective vs ws) }
+    {
+        match connective {
+            Connective::And => Standing {
+                free: self.free & other.free,
+                unmet: self.unmet | other.unmet,
+            },
+            Connective::Or => Standing {
+                free: self.free | other.free,
+                unmet: self.unmet & other.unmet,
+            },
         }
     }
 }
@@ -72,7 +79,7 @@ fn before(lanes: &Lanes, first: u32, second: u32) -> Standing
     ensures { Stands result lanes.now (model.ways (model.before first second)) }
 {
     if first == second {
-        return UNMET;
+        return Standing::everywhere(false);
     }
     let both = lanes.lanes_of(first) & lanes.lanes_of(second);
     Standing {
@@ -85,7 +92,7 @@ fn not_before(lanes: &Lanes, first: u32, second: u32) -> Standing
     ensures { Stands result lanes.now (model.ways (model.not_before first second)) }
 {
     if first == second {
-        return FREE;
+        return Standing::everywhere(true);
     }
     let both = lanes.lanes_of(first) & lanes.lanes_of(second);
     Standing {
@@ -94,28 +101,16 @@ fn not_before(lanes: &Lanes, first: u32, second: u32) -> Standing
     }
 }
 
-/// Where all of the parts are to be met.
+/// Where the parts are met.
 #[cycle(standing)]
-pub(crate) fn all_standing(parts: &[Nnf], lanes: &Lanes) -> Standing
-    ensures { Stands result lanes.now (λ leaf. all_ways leaf parts.now) }
+pub(crate) fn parts_standing(connective: Connective, parts: &[Nnf], lanes: &Lanes) -> Standing
+    ensures { Stands result lanes.now (λ leaf. ways_of_parts connective leaf parts.now) }
 {
-    let mut all = FREE;
+    let mut standing = Standing::everywhere(!connective.decides());
     for part in parts {
-        all = all.both(standing_of(part, lanes));
+        standing = standing.with(standing_of(part, lanes), connective);
     }
-    all
-}
-
-/// Where one of the parts is to be met.
-#[cycle(standing)]
-fn any_standing(parts: &[Nnf], lanes: &Lanes) -> Standing
-    ensures { Stands result lanes.now (λ leaf. any_ways leaf parts.now) }
-{
-    let mut any = UNMET;
-    for part in parts {
-        any = any.either(standing_of(part, lanes));
-    }
-    any
+    standing
 }
 
 /// Where the rule stands, in 64 lanes in one walk.
@@ -128,7 +123,7 @@ pub(crate) fn standing_of(rule: &Nnf, lanes: &Lanes) -> Standing
         Nnf::Never(event) => never(lanes, *event),
         Nnf::Before(first, second) => before(lanes, *first, *second),
         Nnf::NotBefore(first, second) => not_before(lanes, *first, *second),
-        Nnf::And(parts) => all_standing(parts, lanes),
-        Nnf::Or(parts) => any_standing(parts, lanes),
+        Nnf::And(parts) => parts_standing(Connective::And, parts, lanes),
+        Nnf::Or(parts) => parts_standing(Connective::Or, parts, lanes),
     }
 }

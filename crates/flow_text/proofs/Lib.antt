@@ -1,4 +1,15 @@
+pub mod KnownNames
+pub mod ListedNames
+pub mod NamePasses
+pub mod FirstNames
+pub mod OneFirstName
 pub mod NamesLeft
 pub mod Parsed
+pub mod PrintedMembers
+pub mod PrintedPieces
+pub mod Digits
+pub mod PrintedTexts
+pub mod Writable
+pub mod SaidPrintable
 pub mod SaidLaws
 pub mod OneAnswer

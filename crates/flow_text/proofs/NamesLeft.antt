@@ -6,7 +6,7 @@ use Rattle.flow_lex.specs.declared.token.Token.{Token}
 use Rattle.flow_lex.specs.Tokens.{AreSpans, IsSmall}
 use Rattle.flow_reader.specs.Symbols.{symbol_of}
 use Rattle.flow_reader.proofs.Loops.{spans_end}
-use Rattle.flow_text.specs.Parsing.{name_in, with_name, named_places}
+use Rattle.flow_text.specs.Parsing.{name_in, with_place, named_places}
 
 -- the name that is looked for is number `left` of those in the rest
 pub record IsLeft (text : List ℕ) (tokens : List Token) (number left : ℕ) (rest : List Token) : Type 0 where
@@ -28,10 +28,10 @@ left_within text tokens number left rest more t e h =
 
 module _ (text : List ℕ) (tokens : List Token) (number left : ℕ) (t : Token) (more : List Token) where
   named-none : name_in (symbol_of text t) ≡ None → named_places text (t ∷ more) ≡ named_places text more
-  named-none e = ap (λ o. with_name t.start o (named_places text more)) e
+  named-none e = ap (λ o. with_place t.start o (named_places text more)) e
 
   named-some : (n : List ℕ) → name_in (symbol_of text t) ≡ Some n → named_places text (t ∷ more) ≡ (t.start, n) ∷ named_places text more
-  named-some n e = ap (λ o. with_name t.start o (named_places text more)) e
+  named-some n e = ap (λ o. with_place t.start o (named_places text more)) e
 
   pub left_other : name_in (symbol_of text t) ≡ None → IsLeft text tokens number left (t ∷ more) → IsLeft text tokens number left more
   left_other e h = record {

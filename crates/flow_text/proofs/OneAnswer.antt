@@ -9,18 +9,16 @@ use Rattle.flow_form.specs.Script.{Said, Asked}
 use Rattle.flow_lex.specs.declared.token.Token.{Token}
 use Rattle.flow_lex.specs.Tokens.{Lexed, lexed, IsAscii, IsFirstNotAscii}
 use Rattle.flow_grammar.specs.Symbol.{Symbol, Placed}
-use Rattle.flow_grammar.specs.Machine.{Wanted, a_declaration, a_constraint, the_name, a_fact, a_constant, an_atom, a_rule, an_opening, a_closing, an_equals, a_semicolon, a_query, the_number, the_end, Reading, gives, expected, too_deep, read_script, read_query, script_wants, query_wants}
-use Rattle.flow_grammar.specs.Texts.{SpellsScript, SpellsQuery}
-use Rattle.flow_grammar.specs.Laws.{ReadsJustThese, IsStuckJustThere, IsTooDeepJustThere, TellsWhatIsWanted}
+use Rattle.flow_grammar.specs.Machine.{Wanted, a_declaration, a_constraint, the_name, a_fact, a_constant, an_atom, a_rule, an_opening, a_closing, an_equals, a_semicolon, a_query, the_number, the_end, Reading, gives, expected, too_deep, read_script, read_query}
 use Rattle.flow_grammar.specs.Roles.{script_roles, query_roles, Role}
-use Rattle.flow_grammar.proofs.Reading.{script_reads, script_is_stuck, script_is_too_deep, script_tells_what_is_wanted, query_reads, query_is_stuck, query_is_too_deep, query_tells_what_is_wanted}
 use Rattle.flow_reader.specs.Symbols.{symbols_of}
 use Rattle.flow_reader.specs.Readers.{kind_of}
 use Rattle.flow_reader.specs.Reading.{place_of}
-use Rattle.flow_names.specs.Good.{HasGoodNames, IsUnknown, IsRepeated, IsFirstRepeated, IsFirstUnknown, AsksOfEvents, AsksFirstOfOther}
-use Rattle.flow_names.proofs.OneFirst.{one_first, once_is_not_repeated, good_has_no_other, events_have_no_other}
+use Rattle.flow_text.specs.GoodNames.{HasGoodNames, IsUnknown, IsRepeated, IsFirstRepeated, IsFirstUnknown, AsksOfEvents, AsksFirstOfOther}
+use Rattle.flow_text.proofs.OneFirstName.{one_first, once_is_not_repeated, good_has_no_other, events_have_no_other}
 use Rattle.flow_text.specs.Saying.{HasTokens, Writes, Says, Asks}
-use Rattle.flow_text.specs.Parsing.{IsExpected, IsTooDeep, IsNameAt, named_places, IsParseRefusal, IsQueryRefusal}
+use Rattle.flow_text.specs.Parsing.{IsExpected, IsTooDeep, IsNameAt, IsFirstNameAt, named_places, IsTextRefusal, IsParseRefusal, IsQueryRefusal}
+use Rattle.flow_text.proofs.Parsed.{IsMachine, scripts, queries}
 use Rattle.flow_text.specs.Laws.{IsAnswer, TextsHaveOneAnswer, QueriesHaveOneAnswer}
 use Rattle.std.proofs.lemmas.Option.{same_Some}
 
@@ -162,9 +160,8 @@ has_these text tokens has = ap (λ (l : Lexed). l.tokens) (sym has.lexed)
 has_none_bad : (text : List ℕ) (tokens : List Token) → HasTokens text tokens → (lexed text).bad ≡ None
 has_none_bad text tokens has = ap (λ (l : Lexed). l.bad) has.lexed
 
-module _ {V : Type 0} (Spells : List Placed → V → Type 0) (wants : List Symbol → Option Wanted) (read : List Symbol → Reading V) (judge : V → Naming → Type 0)
-    (reads : ReadsJustThese Spells read) (is_stuck : IsStuckJustThere Spells read) (is_too_deep : IsTooDeepJustThere Spells read)
-    (tells : TellsWhatIsWanted wants read) (text : List ℕ) where
+module _ {V : Type 0} {Spells : List Placed → V → Type 0} {wants : List Symbol → Option Wanted} {read : List Symbol → Reading V} (m : IsMachine Spells wants read)
+    (judge : V → Naming → Type 0) (text : List ℕ) where
   abbrev Known : Result V TextRefusal → Type 0
   Known a = Accounts read judge text a
 
@@ -173,18 +170,12 @@ module _ {V : Type 0} (Spells : List Placed → V → Type 0) (wants : List Symb
       (has.ascii, has_none_bad text tokens has, subst (λ ts. read (symbols_of text ts) ≡ r) (has_these text tokens has) e)
 
   written : (x : V) → Writes Spells text x → Finds read text (read_as (gives x))
-  written x h = found h.tokens (gives x) h.has_tokens ((reads (symbols_of text h.tokens) x).1 h.derives)
-
-  no_ascii_there : (p : ℕ) → IsFirstNotAscii text p → Known (Err (NotAscii p))
-  no_ascii_there p h = record { finding = no_ascii p; naming = good; finds = h; judged = refl; is = refl }
-
-  bad_there : (p : ℕ) → IsAscii text × ((lexed text).bad ≡ Some p) → Known (Err (BadToken p))
-  bad_there p h = record { finding = bad_token p; naming = good; finds = h; judged = refl; is = refl }
+  written x h = found h.tokens (gives x) h.has_tokens ((m.reads (symbols_of text h.tokens) x).1 h.derives)
 
   expected_there : (place : ℕ) (kind : told.Wanted) → IsExpected Spells wants text place kind → Known (Err (Expected place kind))
   expected_there place kind h =
-      let (found_kind, e) = (is_stuck (symbols_of text h.tokens) h.number).1 (h.stuck, h.none_deep) in
-      let same : found_kind ≡ kind_of kind = same_Some _ _ (sym (tells (symbols_of text h.tokens) found_kind h.number e) ∙ h.wanted) in
+      let (found_kind, e) = (m.is_stuck (symbols_of text h.tokens) h.number).1 (h.stuck, h.none_deep) in
+      let same : found_kind ≡ kind_of kind = same_Some _ _ (sym (m.tells_what_is_wanted (symbols_of text h.tokens) found_kind h.number e) ∙ h.wanted) in
       record {
         finding = read_as (expected (kind_of kind) h.number);
         naming = good;
@@ -198,7 +189,7 @@ module _ {V : Type 0} (Spells : List Placed → V → Type 0) (wants : List Symb
   deep_there place h = record {
     finding = read_as (too_deep h.number);
     naming = good;
-    finds = found h.tokens (too_deep h.number) h.has_tokens ((is_too_deep (symbols_of text h.tokens) h.number).1 (h.deep, h.none_before));
+    finds = found h.tokens (too_deep h.number) h.has_tokens ((m.is_too_deep (symbols_of text h.tokens) h.number).1 (h.deep, h.none_before));
     judged = refl;
     is = ap (λ p. Err (TooDeep p)) (h.there ∙ ap (λ ts. place_of text ts h.number) (has_these text h.tokens h.has_tokens));
   }
@@ -211,25 +202,36 @@ module _ {V : Type 0} (Spells : List Placed → V → Type 0) (wants : List Symb
   named_there why roles k place name h =
       ap (refused_at why) (sym (ap (λ ts. slice_get (named_places text ts) k) (sym (has_these text h.tokens h.has_tokens)) ∙ h.there))
 
-  again_there : (x : V) (roles : List Role) (k place : ℕ) (name : List ℕ) → Writes Spells text x → judge x (again k) →
-      IsNameAt text roles k place name → Known (Err (Repeated place name))
-  again_there x roles k place name h j there = record {
-    finding = read_as (gives x);
-    naming = again k;
-    finds = written x h;
-    judged = j;
-    is = named_there (λ place name. Repeated place name) roles k place name there;
+  again_there : (roles : V → List Role) (place : ℕ) (name : List ℕ) → IsFirstNameAt Spells roles (λ x k. judge x (again k)) text place name → Known (Err (Repeated place name))
+  again_there roles place name h = record {
+    finding = read_as (gives h.value);
+    naming = again h.number;
+    finds = written h.value h.writes;
+    judged = h.first;
+    is = named_there (λ place name. Repeated place name) (roles h.value) h.number place name h.there;
   }
 
-  other_there : (x : V) (roles : List Role) (k place : ℕ) (name : List ℕ) → Writes Spells text x → judge x (other k) →
-      IsNameAt text roles k place name → Known (Err (Unknown place name))
-  other_there x roles k place name h j there = record {
-    finding = read_as (gives x);
-    naming = other k;
-    finds = written x h;
-    judged = j;
-    is = named_there (λ place name. Unknown place name) roles k place name there;
+  other_there : (roles : V → List Role) (place : ℕ) (name : List ℕ) → IsFirstNameAt Spells roles (λ x k. judge x (other k)) text place name → Known (Err (Unknown place name))
+  other_there roles place name h = record {
+    finding = read_as (gives h.value);
+    naming = other h.number;
+    finds = written h.value h.writes;
+    judged = h.first;
+    is = named_there (λ place name. Unknown place name) (roles h.value) h.number place name h.there;
   }
+
+  known : (Good : V → Type 0) (repeated unknown : ℕ → List ℕ → Type 0) → ((x : V) → Good x → Known (Ok x)) →
+      ((place : ℕ) (name : List ℕ) → repeated place name → Known (Err (Repeated place name))) →
+      ((place : ℕ) (name : List ℕ) → unknown place name → Known (Err (Unknown place name))) →
+      (a : Result V TextRefusal) → IsAnswer Good (IsTextRefusal Spells wants repeated unknown text) a → Known a
+  known Good repeated unknown says repeats knows_not (Ok x) h = says x h
+  known Good repeated unknown says repeats knows_not (Err (NotAscii p)) (h, tells) = record { finding = no_ascii p; naming = good; finds = h; judged = refl; is = refl }
+  known Good repeated unknown says repeats knows_not (Err (BadToken p)) (h, tells) = record { finding = bad_token p; naming = good; finds = h; judged = refl; is = refl }
+  known Good repeated unknown says repeats knows_not (Err (Expected p kind)) (h, tells) = expected_there p kind h
+  known Good repeated unknown says repeats knows_not (Err (TooDeep p)) (h, tells) = deep_there p h
+  known Good repeated unknown says repeats knows_not (Err (Repeated p name)) (h, tells) = repeats p name h
+  known Good repeated unknown says repeats knows_not (Err (Unknown p name)) (h, tells) = knows_not p name h
+  known Good repeated unknown says repeats knows_not (Err NoMemory) (h, tells) = absurd (tells refl)
 
 -- Scripts
 
@@ -250,23 +252,11 @@ one_script_naming s (other k) (again j) h g = absurd (once_is_not_repeated s j h
 one_script_naming s (other k) (other j) h g = ap other (one_first (λ front role. IsUnknown s.decls role) (script_roles s) k j h.first g.first)
 
 script_known : (text : List ℕ) (a : Result Said TextRefusal) → IsAnswer (Says text) (IsParseRefusal text) a → Accounts read_script judge_script text a
-script_known text (Ok s) h =
-    said_there SpellsScript script_wants read_script judge_script script_reads script_is_stuck script_is_too_deep script_tells_what_is_wanted text s h.writes h.named
-script_known text (Err (NotAscii p)) (h, tells) =
-    no_ascii_there SpellsScript script_wants read_script judge_script script_reads script_is_stuck script_is_too_deep script_tells_what_is_wanted text p h
-script_known text (Err (BadToken p)) (h, tells) =
-    bad_there SpellsScript script_wants read_script judge_script script_reads script_is_stuck script_is_too_deep script_tells_what_is_wanted text p h
-script_known text (Err (Expected p kind)) (h, tells) =
-    expected_there SpellsScript script_wants read_script judge_script script_reads script_is_stuck script_is_too_deep script_tells_what_is_wanted text p kind h
-script_known text (Err (TooDeep p)) (h, tells) =
-    deep_there SpellsScript script_wants read_script judge_script script_reads script_is_stuck script_is_too_deep script_tells_what_is_wanted text p h
-script_known text (Err (Repeated p name)) (h, tells) =
-    again_there SpellsScript script_wants read_script judge_script script_reads script_is_stuck script_is_too_deep script_tells_what_is_wanted text
-    h.said (script_roles h.said) h.number p name h.writes h.first h.there
-script_known text (Err (Unknown p name)) (h, tells) =
-    other_there SpellsScript script_wants read_script judge_script script_reads script_is_stuck script_is_too_deep script_tells_what_is_wanted text
-    h.said (script_roles h.said) h.number p name h.writes h.first h.there
-script_known text (Err NoMemory) (h, tells) = absurd (tells refl)
+script_known text =
+    known scripts judge_script text (Says text) _ _
+    (λ s h. said_there scripts judge_script text s h.writes h.named)
+    (again_there scripts judge_script text script_roles)
+    (other_there scripts judge_script text script_roles)
 
 pub texts_have_one_answer : TextsHaveOneAnswer
 texts_have_one_answer text a b one two =
@@ -289,21 +279,10 @@ one_query_naming s q v (again k) h g = absurd g
 
 query_known : (text : List ℕ) (s : Said) (a : Result Asked TextRefusal) → IsAnswer (Asks text s) (IsQueryRefusal text s) a →
     Accounts read_query (judge_query s) text a
-query_known text s (Ok q) h =
-    said_there SpellsQuery query_wants read_query (judge_query s) query_reads query_is_stuck query_is_too_deep query_tells_what_is_wanted text q h.writes h.of_events
-query_known text s (Err (NotAscii p)) (h, tells) =
-    no_ascii_there SpellsQuery query_wants read_query (judge_query s) query_reads query_is_stuck query_is_too_deep query_tells_what_is_wanted text p h
-query_known text s (Err (BadToken p)) (h, tells) =
-    bad_there SpellsQuery query_wants read_query (judge_query s) query_reads query_is_stuck query_is_too_deep query_tells_what_is_wanted text p h
-query_known text s (Err (Expected p kind)) (h, tells) =
-    expected_there SpellsQuery query_wants read_query (judge_query s) query_reads query_is_stuck query_is_too_deep query_tells_what_is_wanted text p kind h
-query_known text s (Err (TooDeep p)) (h, tells) =
-    deep_there SpellsQuery query_wants read_query (judge_query s) query_reads query_is_stuck query_is_too_deep query_tells_what_is_wanted text p h
-query_known text s (Err (Repeated p name)) (h, tells) = absurd h
-query_known text s (Err (Unknown p name)) (h, tells) =
-    other_there SpellsQuery query_wants read_query (judge_query s) query_reads query_is_stuck query_is_too_deep query_tells_what_is_wanted text
-    h.query (query_roles h.query) h.number p name h.writes h.first h.there
-query_known text s (Err NoMemory) (h, tells) = absurd (tells refl)
+query_known text s =
+    known queries (judge_query s) text (Asks text s) _ _
+    (λ q h. said_there queries (judge_query s) text q h.writes h.of_events) (λ place name h. absurd h)
+    (other_there queries (judge_query s) text query_roles)
 
 pub queries_have_one_answer : QueriesHaveOneAnswer
 queries_have_one_answer text s a b one two =

@@ -7,9 +7,9 @@ use Rattle.flow_grammar.proofs.Reading.{script_says_one_thing}
 use Rattle.flow_grammar.proofs.PrintedTexts.{print_says_it, print_is_no_deeper}
 use Rattle.flow_grammar.proofs.MadeTexts.{scripts_are_well_made}
 use Rattle.flow_reader.specs.Symbols.{symbols_of}
-use Rattle.flow_print.specs.Printed.{printed}
-use Rattle.flow_print.proofs.PrintedTexts.{prints_ascii, prints_cut, prints_symbols}
-use Rattle.flow_print.proofs.SaidPrintable.{said_is_printable}
+use Rattle.flow_text.specs.Printed.{printed}
+use Rattle.flow_text.proofs.PrintedTexts.{prints_ascii, prints_cut, prints_symbols}
+use Rattle.flow_text.proofs.SaidPrintable.{said_is_printable}
 use Rattle.flow_text.specs.Laws.{TextsSayOneThing, PrintsSayIt, PrintsAreReadBack}
 
 pub texts_say_one_thing : TextsSayOneThing

@@ -1,18 +1,38 @@
 -- A text says one thing, and what is printed is read back.
-use Rattle.std.specs.Prelude.{◌≡◌, ℕ, List, Result, Ok, Err}
+use Rattle.std.specs.Prelude.{◌≡◌, ℕ, List, None, Result, Ok, Err}
 use Rattle.flow_form.specs.declared.refusal.TextRefusal.{TextRefusal}
 use Rattle.flow_form.specs.declared.refusal.TextRefusal.TheVariants.{NoMemory}
 use Rattle.flow_form.specs.Script.{Said, Asked}
+use Rattle.flow_lex.specs.declared.token.Token.{Token}
+use Rattle.flow_lex.specs.Tokens.{lexed, IsAscii}
 use Rattle.flow_grammar.specs.Made.{IsWellMade}
-use Rattle.flow_grammar.specs.Print.{IsWithin}
-use Rattle.flow_names.specs.Good.{HasGoodNames}
-use Rattle.flow_print.specs.Printed.{printed}
-use Rattle.flow_print.specs.Printable.{IsPrintable}
+use Rattle.flow_grammar.specs.Print.{IsWithin, print_script}
+use Rattle.flow_grammar.specs.Texts.{Derives, SpellsScript}
+use Rattle.flow_reader.specs.Symbols.{symbols_of}
+use Rattle.flow_text.specs.GoodNames.{HasGoodNames}
+use Rattle.flow_text.specs.Printed.{printed}
+use Rattle.flow_text.specs.Printable.{IsPrintable}
 use Rattle.flow_text.specs.Saying.{Says, Asks}
 use Rattle.flow_text.specs.Parsing.{IsParseRefusal, IsQueryRefusal}
 
 abbrev pub TextsSayOneThing : Type 0
 TextsSayOneThing = (text : List ℕ) (a b : Said) → Says text a → Says text b → a ≡ b
+
+abbrev pub PrintsAreAscii : Type 0
+PrintsAreAscii = (s : Said) → IsPrintable s → IsAscii (printed s)
+
+-- each of its bytes is of a token or between tokens
+abbrev pub PrintsAreCut : Type 0
+PrintsAreCut = (s : Said) → IsPrintable s → (lexed (printed s)).bad ≡ None
+
+-- its tokens are the symbols of the grammar's print
+abbrev pub PrintsAreSymbols : Type 0
+PrintsAreSymbols = (s : Said) → IsPrintable s → symbols_of (printed s) (lexed (printed s)).tokens ≡ print_script s
+
+-- whatever the tokens of a text derive can be printed
+abbrev pub SaidIsPrintable : Type 0
+SaidIsPrintable = (text : List ℕ) (tokens : List Token) (s : Said) → lexed text ≡ record { tokens = tokens; bad = None } →
+    Derives SpellsScript (symbols_of text tokens) s → IsPrintable s
 
 -- whatever is well made, of names and numbers that can be written, and not nested too deep, is said by its print
 abbrev pub PrintsSayIt : Type 0

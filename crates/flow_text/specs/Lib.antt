@@ -1,3 +1,9 @@
+pub mod ListedNames
+pub mod KnownNames
+pub mod GoodNames
 pub mod Saying
 pub mod Parsing
+pub mod Printed
+pub mod Joins
+pub mod Printable
 pub mod Laws

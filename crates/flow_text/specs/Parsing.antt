@@ -4,7 +4,7 @@ use Rattle.std.proofs.Common.{Bor}
 use Rattle.flow_form.specs.declared.refusal.Wanted as told
 use Rattle.flow_form.specs.declared.refusal.TextRefusal.{TextRefusal}
 use Rattle.flow_form.specs.declared.refusal.TextRefusal.TheVariants.{NotAscii, BadToken, Expected, Unknown, Repeated, TooDeep, NoMemory}
-use Rattle.flow_form.specs.Script.{Said, Asked}
+use Rattle.flow_form.specs.Script.{Said}
 use Rattle.flow_lex.specs.declared.token.Token.{Token}
 use Rattle.flow_lex.specs.Tokens.{lexed, IsAscii, IsFirstNotAscii}
 use Rattle.flow_grammar.specs.Symbol.{Symbol, a_name, Placed}
@@ -15,7 +15,7 @@ use Rattle.flow_grammar.specs.Texts.{IsStuckAt, NoneDeepBefore, StandsDeep, IsVi
 use Rattle.flow_reader.specs.Symbols.{symbol_of, symbols_of}
 use Rattle.flow_reader.specs.Readers.{kind_of}
 use Rattle.flow_reader.specs.Reading.{place_of}
-use Rattle.flow_names.specs.Good.{IsFirstRepeated, IsFirstUnknown, AsksFirstOfOther}
+use Rattle.flow_text.specs.GoodNames.{IsFirstRepeated, IsFirstUnknown, AsksFirstOfOther}
 use Rattle.flow_text.specs.Saying.{HasTokens, Writes}
 
 -- at the place stands the first token with which no text goes on, or the end of a text that ends too early; the kind is
@@ -50,14 +50,14 @@ abbrev pub name_in : Symbol → Option (List ℕ)
 name_in (a_name n) = Some n
 name_in _ = None
 
-abbrev pub with_name : ℕ → Option (List ℕ) → List (ℕ × List ℕ) → List (ℕ × List ℕ)
-with_name place None names = names
-with_name place (Some n) names = (place, n) ∷ names
+abbrev pub with_place : ℕ → Option (List ℕ) → List (ℕ × List ℕ) → List (ℕ × List ℕ)
+with_place place None names = names
+with_place place (Some n) names = (place, n) ∷ names
 
 -- the names among the tokens, each with its place
 abbrev pub named_places : List ℕ → List Token → List (ℕ × List ℕ)
 named_places text [] = []
-named_places text (t ∷ ts) = with_name t.start (name_in (symbol_of text t)) (named_places text ts)
+named_places text (t ∷ ts) = with_place t.start (name_in (symbol_of text t)) (named_places text ts)
 
 -- that name stands at the place as name number k of the text
 pub record IsNameAt (text : List ℕ) (roles : List Role) (k place : ℕ) (name : List ℕ) : Type 0 where
@@ -66,46 +66,32 @@ pub record IsNameAt (text : List ℕ) (roles : List Role) (k place : ℕ) (name 
   pub there : slice_get (named_places text tokens) k ≡ Some (place, name)
   pub named : slice_get (map role_name roles) k ≡ Some name
 
--- the name there is the first that is declared a second time
-pub record IsRepeatedAt (text : List ℕ) (place : ℕ) (name : List ℕ) : Type 0 where
-  pub said : Said
-  pub writes : Writes SpellsScript text said
+-- the grammar derives something of the text, and the name there is the first of its names that is so
+pub record IsFirstNameAt {V : Type 0} (Spells : List Placed → V → Type 0) (roles : V → List Role) (IsSo : V → ℕ → Type 0) (text : List ℕ) (place : ℕ) (name : List ℕ) : Type 0 where
+  pub value : V
+  pub writes : Writes Spells text value
   pub number : ℕ
-  pub first : IsFirstRepeated said number
-  pub there : IsNameAt text (script_roles said) number place name
+  pub first : IsSo value number
+  pub there : IsNameAt text (roles value) number place name
 
--- no name is declared a second time, and the name there is the first that is not declared as it must be
-pub record IsUnknownAt (text : List ℕ) (place : ℕ) (name : List ℕ) : Type 0 where
-  pub said : Said
-  pub writes : Writes SpellsScript text said
-  pub number : ℕ
-  pub first : IsFirstUnknown said number
-  pub there : IsNameAt text (script_roles said) number place name
+-- the refusal is the first that applies to the text; want of memory says nothing of it
+abbrev pub IsTextRefusal : {V : Type 0} → (List Placed → V → Type 0) → (List Symbol → Option Wanted) → (ℕ → List ℕ → Type 0) → (ℕ → List ℕ → Type 0)
+    → List ℕ → TextRefusal → Type 0
+IsTextRefusal Spells wants again unknown text (NotAscii place) = IsFirstNotAscii text place
+IsTextRefusal Spells wants again unknown text (BadToken place) = IsAscii text × ((lexed text).bad ≡ Some place)
+IsTextRefusal Spells wants again unknown text (Expected place kind) = IsExpected Spells wants text place kind
+IsTextRefusal Spells wants again unknown text (TooDeep place) = IsTooDeep Spells text place
+IsTextRefusal Spells wants again unknown text (Repeated place name) = again place name
+IsTextRefusal Spells wants again unknown text (Unknown place name) = unknown place name
+IsTextRefusal Spells wants again unknown text NoMemory = Unit {0}
 
--- the name there is the query's first that is not that of an event
-pub record AsksUnknownAt (text : List ℕ) (s : Said) (place : ℕ) (name : List ℕ) : Type 0 where
-  pub query : Asked
-  pub writes : Writes SpellsQuery text query
-  pub number : ℕ
-  pub first : AsksFirstOfOther query s number
-  pub there : IsNameAt text (query_roles query) number place name
-
--- The refusal is the first that applies to the text; want of memory says nothing of it.
+-- of a workflow: a name that is declared a second time, and only where there is none, one that is not declared as it must be
 abbrev pub IsParseRefusal : List ℕ → TextRefusal → Type 0
-IsParseRefusal text (NotAscii place) = IsFirstNotAscii text place
-IsParseRefusal text (BadToken place) = IsAscii text × ((lexed text).bad ≡ Some place)
-IsParseRefusal text (Expected place kind) = IsExpected SpellsScript script_wants text place kind
-IsParseRefusal text (TooDeep place) = IsTooDeep SpellsScript text place
-IsParseRefusal text (Repeated place name) = IsRepeatedAt text place name
-IsParseRefusal text (Unknown place name) = IsUnknownAt text place name
-IsParseRefusal text NoMemory = Unit {0}
+IsParseRefusal text =
+    IsTextRefusal SpellsScript script_wants (IsFirstNameAt SpellsScript script_roles IsFirstRepeated text)
+    (IsFirstNameAt SpellsScript script_roles IsFirstUnknown text) text
 
--- the same for a query to a workflow
+-- of a query to a workflow: a name that is not that of an event
 abbrev pub IsQueryRefusal : List ℕ → Said → TextRefusal → Type 0
-IsQueryRefusal text s (NotAscii place) = IsFirstNotAscii text place
-IsQueryRefusal text s (BadToken place) = IsAscii text × ((lexed text).bad ≡ Some place)
-IsQueryRefusal text s (Expected place kind) = IsExpected SpellsQuery query_wants text place kind
-IsQueryRefusal text s (TooDeep place) = IsTooDeep SpellsQuery text place
-IsQueryRefusal text s (Repeated place name) = ⊥
-IsQueryRefusal text s (Unknown place name) = AsksUnknownAt text s place name
-IsQueryRefusal text s NoMemory = Unit {0}
+IsQueryRefusal text s =
+    IsTextRefusal SpellsQuery query_wants (λ place name. ⊥) (IsFirstNameAt SpellsQuery query_roles (λ q k. AsksFirstOfOther q s k) text) text

@@ -11,7 +11,8 @@ use Rattle.flow_model.specs.Resolution.{ChoiceOption, options}
 use Rattle.flow_model.specs.Run.{RunState, first_state}
 use Rattle.flow_model.specs.Verdict.{IsPossible}
 use Rattle.flow_laws.specs.Words.{IsWellFormed, IsConsistent}
-use Rattle.flow_laws.proofs.ListLemmas2.{mem_append_left, mem_append_right, each_member, each_from_members, numbers_from_below, begins_front}
+use Rattle.flow_laws.proofs.Members.{mem_append_left, mem_append_right, each_member, each_from_members}
+use Rattle.flow_laws.proofs.MadeLists.{numbers_from_below, begins_front}
 use Rattle.flow_laws.proofs.RunLemmas.{runs-append, runs_front}
 use Rattle.flow_laws.proofs.TraceLeaves.{leaf_of_trace, distinct_trace}
 use Rattle.flow_laws.proofs.OptionsLemmas.{option_is_ordered, distinct_leaves}

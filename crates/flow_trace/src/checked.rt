@@ -1,5 +1,5 @@
 /// What a list of leaves is of a workflow. Its own tests and absences are asked of the state, in turn.
-#[derive(Clone, Copy, Debug, PartialEq, Eq)]
+#[derive(Clone, Copy)]
 pub enum Checked {
     /// A whole execution.
     Execution,

@@ -5,7 +5,7 @@ use Rattle.flow_model.specs.Facts.{events_of}
 use Rattle.flow_model.specs.Constraint.{Constraint, Not, Meets}
 use Rattle.flow_model.specs.Schema.{Schema, IsGood}
 use Rattle.flow_laws.specs.Words.{IsConsistent}
-use Rattle.flow_laws.proofs.ListLemmas2.{each-append, each_parts}
+use Rattle.flow_laws.proofs.Members.{each-append, each_parts}
 use Rattle.flow_model.specs.Decided.{decide_meets}
 use Rattle.flow_laws.proofs.NormalForms.{not_not}
 use Rattle.flow_rules.specs.declared.rule.Rule as rule

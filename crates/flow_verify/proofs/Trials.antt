@@ -3,7 +3,7 @@ use Rattle.std.proofs.Common.{◌≡◌, ℕ, List, [], Vec, Global, slice_get, 
 use Rattle.flow_model.specs.Facts.{events_of}
 use Rattle.flow_model.specs.Constraint.{Constraint, Meets}
 use Rattle.flow_model.specs.Schema.{Schema, IsGood}
-use Rattle.flow_laws.proofs.ListLemmas2.{each_member}
+use Rattle.flow_laws.proofs.Members.{each_member}
 use Rattle.flow_facts.proofs.Places.{mem-slice_get}
 use Rattle.flow_excise.specs.Compilation.{IsWithinLimits}
 use Rattle.flow_verify.specs.declared.answers.Verified.TheVariants.{Holds, Fails}

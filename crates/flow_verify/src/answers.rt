@@ -1,5 +1,5 @@
 /// Whether every execution meets a property.
-#[derive(Debug, PartialEq, Eq, Drop)]
+#[derive(Drop)]
 pub enum Verified {
     Holds,
     /// An execution, in event order, that does not meet the property.
@@ -7,7 +7,7 @@ pub enum Verified {
 }
 
 /// Whether a constraint follows from the others.
-#[derive(Debug, PartialEq, Eq, Drop)]
+#[derive(Drop)]
 pub enum Redundancy {
     Redundant,
     /// An execution, in event order, that meets the other constraints and not this one.

@@ -4,7 +4,7 @@ ghost use Rattle.flow_model.specs.Ready.{IsCompleteRun};
 ghost use Rattle.flow_model.specs.Resolution.{OptionTrace};
 ghost use Rattle.flow_laws.specs.Words.{AreOfLeaves};
 ghost use Rattle.flow_plan.specs.Planned.{pairs_of};
-ghost use Rattle.flow_weave.specs.Woven.{option_of, token_numbers};
+ghost use Rattle.flow_weave.specs.Woven.{option_with, token_numbers};
 
 use flow_goal::Choiceless;
 use flow_plan::{OrderToken, Plan};
@@ -42,7 +42,7 @@ pub fn weave(alloc: Global, goal: &Choiceless, order: &OrderSet) -> Result<Plan,
     // a run that goes by the plan to its end is an execution of the option
     ensures traces { IfOk result (λ plan. (t : List ℕ) →
         IsCompleteRun plan.process (pairs_of plan.tokens) t
-        ↔ OptionTrace (option_of goal.now order.now) t) }
+        ↔ OptionTrace (option_with goal.now.process order.now) t) }
 {
     let tokens = tokens_of(alloc, order.pairs())?;
     let plan = Plan::new(alloc, goal, tokens)?;

@@ -10,7 +10,7 @@ use clap::error::ErrorKind;
 use std::alloc::{AllocError, Global};
 
 /// What the program does.
-#[derive(Clone, Copy, Debug, PartialEq, Eq)]
+#[derive(Clone, Copy)]
 pub enum Mode {
     /// Drive a workflow by a session.
     Drive,
@@ -29,7 +29,7 @@ pub enum Mode {
 }
 
 /// What a call is for. A mode uses the numbers that concern it.
-#[derive(Clone, Copy, Debug, PartialEq, Eq)]
+#[derive(Clone, Copy)]
 pub struct Request {
     pub mode: Mode,
     /// The greatest length of a history.

@@ -6,7 +6,7 @@ use flow_facts::Database;
 use flow_model::Label;
 
 /// A label that was performed, and whether it changed what holds.
-#[derive(Clone, Copy, Debug, PartialEq, Eq)]
+#[derive(Clone, Copy)]
 pub(crate) struct Update {
     pub(crate) label: Label,
     pub(crate) changed: bool,

@@ -8,7 +8,7 @@ macro_rules! each_word {
 }
 
 /// A set of numbers below `64 * W`.
-#[derive(Clone, Copy, Debug, PartialEq, Eq)]
+#[derive(Clone, Copy)]
 pub struct LeafSet<const W: usize> {
     words: [u64; W],
     ghost sized: { W ≤ 64 },

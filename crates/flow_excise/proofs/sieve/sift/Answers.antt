@@ -1,15 +1,16 @@
-use Rattle.std.proofs.Common.{ap, ◌∙◌, subst, sym, ◌≡◌, ◌++◌, [], ◌∷◌, ℕ, zero, suc, Bool, true, false, cond, is_ok, List, All, length, refl, arith}
+use Rattle.std.proofs.Common.{ap, ◌∙◌, subst, sym, ◌≡◌, ◌++◌, [], ◌∷◌, ℕ, Bool, true, false, cond, is_ok, List, All, length, refl}
+use Rattle.std.proofs.lemmas.List.{length-map}
+use Rattle.std.proofs.lemmas.List.Elements.{All-push}
 use Rattle.flow_model.specs.Lists.{numbers_from}
 use Rattle.flow_plan.specs.declared.token.OrderToken.{OrderToken}
-use Rattle.flow_plan.specs.Planned.{Planned, pairs_of}
+use Rattle.flow_plan.specs.Planned.{Planned}
 use Rattle.flow_plan.specs.Sampled.{Sampled}
-use Rattle.flow_weave.specs.Woven.{AreNumbered}
+use Rattle.flow_weave.specs.Woven.{option_with, AreNumbered}
 use Rattle.flow_model.specs.Circle.{IsCircle}
 use Rattle.flow_model.specs.Resolution.{ChoiceOption}
 use Rattle.flow_excise.specs.Compilation.{options_of}
 use Rattle.flow_excise.specs.Executions.{HasExecution}
 use Rattle.flow_excise.specs.Plans.{option_of}
-use Rattle.flow_excise.specs.Sieves.{option_with}
 use Rattle.flow_excise.proofs.SiftingLemmas.{numbered}
 use Rattle.flow_excise.proofs.SieveLemmas.{sift_kept, sift_dropped}
 use Rattle.flow_excise.proofs.sieve.sift.Goals as goal
@@ -37,26 +38,15 @@ returns-in_ok-push-in-Err-Circle c =
     })
 
 -- one plan more, or none for want of memory
-all_push : (old : List Sampled) (x : Sampled) → All (λ (s : Sampled). AreNumbered s.plan.tokens) old → AreNumbered x.plan.tokens →
-    All (λ (s : Sampled). AreNumbered s.plan.tokens) (old ++ x ∷ [])
-all_push [] x all here zero d within = here
-all_push [] x all here (suc k) d within = absurd (omega (arith, within))
-all_push (y ∷ old) x all here zero d within = all zero d (omega arith)
-all_push (y ∷ old) x all here (suc k) d within = all_push old x (λ j e w. all (suc j) e (omega (arith, w))) here k d (omega (arith, within))
-
 all_tried : (old new : List Sampled) (x : Sampled) (b : Bool) → new ≡ cond b (old ++ x ∷ []) old → All (λ (s : Sampled). AreNumbered s.plan.tokens) old →
     AreNumbered x.plan.tokens → All (λ (s : Sampled). AreNumbered s.plan.tokens) new
-all_tried old new x true is all here = subst (All (λ (s : Sampled). AreNumbered s.plan.tokens)) (sym is) (all_push old x all here)
+all_tried old new x true is all here = subst (All (λ (s : Sampled). AreNumbered s.plan.tokens)) (sym is) (All-push (λ (s : Sampled). AreNumbered s.plan.tokens) old x all here)
 all_tried old new x false is all here = subst (All (λ (s : Sampled). AreNumbered s.plan.tokens)) (sym is) all
-
-long_pairs : (tokens : List OrderToken) → length (pairs_of tokens) ≡ length tokens
-long_pairs [] = refl
-long_pairs (t ∷ tokens) = ap suc (long_pairs tokens)
 
 pub invariant_of-sieve : goal.invariant_of-sieve
 invariant_of-sieve c =
     let tokens : List OrderToken = c.in_ok-plan.plan.tokens in
-    let long : length c.args.order.now.pairs.items ≡ length tokens = ap length (sym c.in_ok-plan.ensures.pairs) ∙ long_pairs tokens in
+    let long : length c.args.order.now.pairs.items ≡ length tokens = ap length (sym c.in_ok-plan.ensures.pairs) ∙ length-map tokens (λ (t : OrderToken). (t.sender, t.receiver)) in
     let numbered : AreNumbered tokens = c.in_ok-plan.ensures.numbers ∙ ap (λ (n : ℕ). numbers_from 0 n) long in
     record {
       numbered = all_tried c.args.sieve.now.kept.items c.push.new.self.items c.in-Ok.plan (is_ok c.push.result) c.push.ensures.items c.args.sieve.now.numbered

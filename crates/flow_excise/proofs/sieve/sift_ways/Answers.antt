@@ -1,5 +1,5 @@
-use Rattle.flow_laws.proofs.ListLemmas2.{mem-map}
-use Rattle.flow_excise.specs.Sieves.{option_with}
+use Rattle.flow_laws.proofs.MadeLists.{mem-map}
+use Rattle.flow_weave.specs.Woven.{option_with}
 use Rattle.flow_excise.proofs.SieveLemmas.{mem_read, sift_more_ways}
 use Rattle.flow_excise.proofs.sieve.sift_ways.Goals as goal
 

@@ -6,5 +6,5 @@ use Rattle.flow_excise.proofs.written.circle_of.Goals as goal
 pub returns : goal.returns
 returns c =
     turned_list (map (least_at c.args.items.now) c.args.ring.now) c.in_ok-leaves.leaves.items c.deref.result.now
-    c.new.result.leaves.items c.place_of_least-place.result c.in_ok-leaves.ensures c.deref.ensures.value
-    (ap (λ (v : Vec ℕ Global). v.items) c.new.ensures ∙ c.rotate_left.ensures.items) c.place_of_least-place.ensures.within c.place_of_least-place.ensures.least
+    c.new.result.leaves.items c.least_place-place.result c.in_ok-leaves.ensures c.deref.ensures.value
+    (ap (λ (v : Vec ℕ Global). v.items) c.new.ensures ∙ c.rotate_left.ensures.items) c.least_place-place.ensures.within c.least_place-place.ensures.least

@@ -6,4 +6,4 @@ use Rattle.flow_expand.proofs.calls.+calling.Given as goal
 
 abbrev pub invariant-push_all_calls-loop-form : goal.invariant-push_all_calls-loop-form
 invariant-push_all_calls-loop-form l =
-    l.calls.items ≡ l.fn.calls.items ++ calls_in l.names (names_in_each (shapes (map shape_of (take l.form-index l.forms))))
+    l.calls.items ≡ l.fn.calls.items ++ calls_in l.directory.flows (names_in_each (shapes (map shape_of (take l.form-index l.forms))))

@@ -1,15 +1,15 @@
 use Rattle.std.proofs.Common.{subst, refl}
 use Rattle.flow_form.specs.Names.{event_names}
 use Rattle.flow_expand.specs.Expansion.{nothing}
-use Rattle.flow_expand.specs.Laid.{IsBegun}
+use Rattle.flow_expand.specs.Laid.{IsFront}
 use Rattle.flow_expand.proofs.LayLemmas.{end_some, end_none, ok_to}
 use Rattle.flow_expand.proofs.lay.lay_end.Goals as goal
 
 pub returns-in-Some-clause-ok : goal.returns-in-Some-clause-ok
 returns-in-Some-clause-ok c = λ decls ss h.
-    end_some decls c.args.plan.now.items c.args.how ss c.in-Some.whole (subst (IsBegun decls c.args.plan.now.items c.args.how ss) c.in-Some.is h)
+    end_some decls c.args.layout.now.items c.args.how ss c.in-Some.whole (subst (IsFront decls c.args.layout.now.items c.args.how ss) c.in-Some.is h)
 
 pub returns-in-None-clause-ok : goal.returns-in-None-clause-ok
 returns-in-None-clause-ok c = ok_to c.put_end.result _ _
-    (λ whole put decls ss h. end_none decls c.put_end.new.plan.items c.args.how ss whole (subst (IsBegun decls c.args.plan.now.items c.args.how ss) c.in-None.is h) (put (event_names decls) nothing refl))
+    (λ whole put decls ss h. end_none decls c.put_end.new.layout.items c.args.how ss whole (subst (IsFront decls c.args.layout.now.items c.args.how ss) c.in-None.is h) (put (event_names decls) nothing refl))
     c.put_end.ensures.ok

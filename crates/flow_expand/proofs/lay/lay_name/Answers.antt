@@ -1,20 +1,20 @@
-use Rattle.std.proofs.Common.{ap, Some, refl, sym, ◌∙◌}
+use Rattle.std.proofs.Common.{◌≡◌, ap, sym, refl, Some, slice_get, ◌∙◌}
 use Rattle.flow_form.specs.Form.{named}
 use Rattle.flow_form.specs.Names.{event_names}
-use Rattle.flow_expand.specs.Expansion.{happens}
-use Rattle.flow_expand.specs.Index.{decls_of}
-use Rattle.flow_expand.proofs.LayLemmas.{goes_as, goes_flow, event_becomes}
+use Rattle.flow_expand.specs.Expansion.{happens, becomes_event}
+use Rattle.flow_expand.specs.Directory.{decls_of}
+use Rattle.flow_expand.proofs.Members.{mem_at}
+use Rattle.flow_expand.proofs.LayLemmas.{goes_flow, goes_plain}
 use Rattle.flow_expand.proofs.lay.lay_name.Goals as goal
 
-pub returns-in_ok-put_end-in-Some-Event-clause-ok : goal.returns-in_ok-put_end-in-Some-Event-clause-ok
-returns-in_ok-put_end-in-Some-Event-clause-ok c = λ laid.
-    let e = sym c.in-Some-Event.ensures ∙ ap Some c.in-Some-Event.field-0-is in
-    goes_as (decls_of c.args.names.now) c.put_end.new.plan.items (named c.args.name.now) (named c.args.name.now) (happens c.args.name.now) c.in_ok-put_end-in-Some-Event.field-0
-    refl (event_becomes c.args.names.now c.args.name.now c.in-Some-Event.number laid.index e)
-    (c.in_ok-put_end-in-Some-Event.ensures.ok (event_names (decls_of c.args.names.now)) (happens c.args.name.now)
-    (c.in-Some-Event.number, refl, laid.index.event c.args.name.now c.in-Some-Event.number e))
+pub returns-in-Some-clause-ok : goal.returns-in-Some-clause-ok
+returns-in-Some-clause-ok c =
+    goes_flow c.args.directory.now c.args.laid.now c.args.layout.now.items c.args.name.now c.in-Some.flow c.root_of.result c.requires.laid (sym c.flow.ensures ∙ c.in-Some.is) c.root_of.ensures
 
-pub returns-in-Some-Laid-clause-ok : goal.returns-in-Some-Laid-clause-ok
-returns-in-Some-Laid-clause-ok c = λ laid.
-    goes_flow c.args.names.now c.args.laid.now c.args.plan.now.items c.args.name.now c.in-Some-Flow.flow c.in-Some-Laid.root laid (sym c.in-Some-Flow.ensures ∙ ap Some c.in-Some-Flow.field-0-is)
-    (λ s e. laid.flows c.in-Some-Flow.flow c.in-Some-Laid.root c.args.name.now s (sym c.in-Some-Laid.ensures ∙ ap Some c.in-Some-Laid.field-0-is) e)
+pub returns-clause-ok : goal.returns-clause-ok
+returns-clause-ok c =
+    let events = event_names (decls_of c.args.directory.now) in
+    let n = c.args.name.now in
+    let at : slice_get events c.in-Some-number_of.number ≡ Some n = ap (λ l. slice_get l c.in-Some-number_of.number) (sym c.requires.laid.directory.events) ∙ c.in-Some-number_of.ensures.found in
+    goes_plain c.put_end.result _ (decls_of c.args.directory.now) c.put_end.new.layout.items (named n) (named n) (happens n) refl (becomes_event (mem_at events c.in-Some-number_of.number n at))
+    (λ root put. put events (happens n) (n, refl, at)) c.put_end.ensures.ok

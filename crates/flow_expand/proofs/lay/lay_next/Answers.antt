@@ -1,14 +1,14 @@
 use Rattle.std.proofs.Common.{subst}
-use Rattle.flow_expand.specs.Laid.{IsBegun}
+use Rattle.flow_expand.specs.Laid.{IsFront}
 use Rattle.flow_expand.proofs.LayLemmas.{next_first, next_more, ok_to}
 use Rattle.flow_expand.proofs.lay.lay_next.Goals as goal
 
 pub returns-in-Some-clause-ok : goal.returns-in-Some-clause-ok
 returns-in-Some-clause-ok c = ok_to c.put_both.result _ _
-    (λ whole put decls ss s h g. next_more decls c.args.plan.now.items c.put_both.new.plan.items c.args.how ss s c.in-Some.left c.args.next whole
-    (subst (IsBegun decls c.args.plan.now.items c.args.how ss) c.in-Some.is h) g put)
+    (λ whole put decls ss s h g. next_more decls c.args.layout.now.items c.put_both.new.layout.items c.args.how ss s c.in-Some.left c.args.next whole
+    (subst (IsFront decls c.args.layout.now.items c.args.how ss) c.in-Some.is h) g put)
     c.put_both.ensures.ok
 
 pub returns-in-None-clause-ok : goal.returns-in-None-clause-ok
 returns-in-None-clause-ok c = λ decls ss s h g.
-    next_first decls c.args.plan.now.items c.args.how ss s c.args.next (subst (IsBegun decls c.args.plan.now.items c.args.how ss) c.in-None.is h) g
+    next_first decls c.args.layout.now.items c.args.how ss s c.args.next (subst (IsFront decls c.args.layout.now.items c.args.how ss) c.in-None.is h) g

@@ -1,13 +1,13 @@
 use Rattle.flow_model.specs.Process.{Sequence, Parallel}
 use Rattle.flow_model.specs.Resolution.{resolutions}
-use Rattle.flow_laws.proofs.ListLemmas2.{slice_get_append_left}
+use Rattle.flow_laws.proofs.MadeLists.{slice_get_append_left}
 use Rattle.flow_laws.proofs.TraceLeaves.{leaf_of_trace, leaf_in_trace}
 use Rattle.flow_laws.proofs.ResolutionsLemmas.{blocks_of_a_resolution, blocks_of_goal, resolves_of, mem-resolutions, length-resolutions, number_of_both, number_of_right, goal_trace, resolution_trace, choice_free_resolution}
 use Rattle.flow_laws.proofs.OptionsLemmas.{option_is_ordered}
 use Rattle.flow_laws.proofs.resolutions.law_traces_are_of_resolutions.Goals as goal
 
 pub returns-clause-blocks : goal.returns-clause-blocks
-returns-clause-blocks c = λ g bs. (blocks_of_a_resolution g bs, λ (q, m, h). blocks_of_goal g q bs m h)
+returns-clause-blocks c = λ g bs. (blocks_of_a_resolution g bs, λ (q, m, h). blocks_of_goal g q bs (resolves_of g q m) h)
 
 pub returns-clause-just_these : goal.returns-clause-just_these
 returns-clause-just_these c = λ g q. (resolves_of g q, mem-resolutions g q)

@@ -2,7 +2,7 @@ use Rattle.std.proofs.Common.{◌∷◌, [], IsTrue}
 use Rattle.leaf_rows.specs.Leaves.{has_leaf}
 use Rattle.flow_model.specs.Lists.{◌∈◌}
 use Rattle.flow_model.specs.Ready.{DoneOr}
-use Rattle.flow_laws.proofs.ListLemmas2.{each_member}
+use Rattle.flow_laws.proofs.Members.{each_member}
 use Rattle.flow_plan.specs.declared.part_row.PartRow.{PartRow}
 use Rattle.flow_plan.specs.Parts.{PartAllows}
 use Rattle.flow_plan.proofs.StepRows.{part_at}

@@ -7,7 +7,7 @@ use Rattle.flow_reader.proofs.reading.read_query.Given as goal
 
 abbrev pub invariant-loop-token : goal.invariant-loop-token
 invariant-loop-token l =
-    Stands l.text (l.tokens) (machine.read_query (symbols_of l.text l.tokens)) machine.run_query machine.depth_query (query_state l.reader) l.rest
+    Stands l.text (l.tokens) (machine.read_query (symbols_of l.text l.tokens)) machine.run_query machine.depth_query (query_state l.stack l.reached) l.rest
 
 abbrev pub decreases-loop-token : goal.decreases-loop-token
 decreases-loop-token l = length l.rest

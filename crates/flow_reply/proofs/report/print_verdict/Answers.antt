@@ -1,6 +1,4 @@
-use Rattle.std.proofs.Common.{◌≡◌, ◌∙◌, ap, codes}
 use Rattle.std.proofs.lemmas.Result.{IfOk-weaker}
-use Rattle.flow_reply.specs.Reply.{numbers_text}
 use Rattle.flow_reply.proofs.Verdicts.{no_other_text, stuck_text}
 use Rattle.flow_reply.proofs.report.print_verdict.Goals as goal
 
@@ -9,9 +7,6 @@ returns-in-NoOther c =
     IfOk-weaker c.format-in-NoOther.result _ _
     (λ text is. no_other_text c.args.core.now c.args.verdict.now c.in-NoOther.leaf _ c.in-NoOther.is is) c.format-in-NoOther.ensures.ok
 
-pub returns-in_ok-waiting-in-Stuck : goal.returns-in_ok-waiting-in-Stuck
-returns-in_ok-waiting-in-Stuck c =
-    IfOk-weaker c.print_numbers.result _ _
-    (λ text is. stuck_text c.args.core.now c.args.verdict.now c.in_ok-waiting-in-Stuck.field-0.items _ c.in-Stuck.is c.in_ok-waiting-in-Stuck.ensures
-    (is ∙ ap (numbers_text (codes "stuck")) c.deref.ensures.value))
-    c.print_numbers.ensures
+pub returns-in-Stuck : goal.returns-in-Stuck
+returns-in-Stuck c =
+    IfOk-weaker c.print_stuck.result _ _ (λ text is. stuck_text c.args.core.now c.args.verdict.now _ c.in-Stuck.is is) c.print_stuck.ensures

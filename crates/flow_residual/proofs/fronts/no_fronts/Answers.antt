@@ -1,7 +1,7 @@
 use Rattle.std.proofs.Common.{[], ◌∷◌, ◌++◌, List, ℕ, sym, subst, take}
 use Rattle.flow_model.specs.Lists.{Each}
 use Rattle.flow_model.specs.Resolution.{ChoiceOption}
-use Rattle.flow_laws.proofs.ListLemmas2.{each-append}
+use Rattle.flow_laws.proofs.Members.{each-append}
 use Rattle.flow_plan.specs.Planned.{Planned}
 use Rattle.flow_excise.specs.Compilation.{options_of}
 use Rattle.flow_excise.specs.Plans.{option_of}

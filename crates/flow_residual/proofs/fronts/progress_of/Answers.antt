@@ -1,5 +1,5 @@
 use Rattle.std.proofs.Common.{◌<◌, ◌∙◌, arith, get_or}
-use Rattle.flow_laws.proofs.ListLemmas2.{each_member}
+use Rattle.flow_laws.proofs.Members.{each_member}
 use Rattle.flow_plan.proofs.PlaceLemmas.{read_member}
 use Rattle.flow_residual.proofs.DoneLemmas.{done_more}
 use Rattle.flow_residual.proofs.fronts.progress_of.Goals as goal

@@ -1,125 +1,69 @@
-use Rattle.std.proofs.Common.{◌≡◌, ◌∙◌, ℕ, ◌+◌, [], List, length, take, sym, ap, subst}
-use Rattle.std.proofs.lemmas.List.{take_all}
-use Rattle.flow_model.specs.Ways.{free_way, ways}
-use Rattle.flow_rules.specs.declared.normal.Nnf.{Nnf}
+use Rattle.std.proofs.Common.{◌≡◌, ◌∙◌, ◌+◌, Bool, true, false, not, take, refl, sym, ap, subst, true≢false}
+use Rattle.std.proofs.Math.Bool.{beq}
+use Rattle.flow_model.specs.Ways.{ways}
 use Rattle.flow_rules.specs.declared.asked.Asked.{Asked}
 use Rattle.flow_rules.specs.declared.asked.Found.{Found}
 use Rattle.flow_rules.specs.declared.kept.Kept.{Kept}
-use Rattle.flow_rules.specs.Asked.{Finds, ways_of_all, ways_of_any}
+use Rattle.flow_rules.specs.Asked.{Finds, HasKept}
 use Rattle.flow_rules.specs.EventLeaves.{leaf_in}
 use Rattle.flow_rules.specs.Kept.{HoldsMore, items_of}
 use Rattle.flow_rules.specs.Normal.{normal_of}
-use Rattle.flow_rules.specs.WayLists.{all_ways, any_ways, both_ways, either_way}
-use Rattle.flow_rules.proofs.AskedLemmas.{IsProduct, IsSum, asked_all, asked_any, asked_more, choice_more, met_any, met_more, none_of_all, none_of_any, ok_finds, only_of_all, only_of_any, unmet_all, unmet_more, whole_product, whole_sum}
+use Rattle.flow_rules.specs.declared.connective.Connective.TheVariants.{And, Or}
+use Rattle.flow_rules.specs.WayLists.{decided, ways_of_parts}
+use Rattle.flow_rules.proofs.AskedLemmas.{kept_idle, kept_more, ok_finds}
 use Rattle.flow_rules.proofs.NormalViews.{ways_of_and, ways_of_or}
-use Rattle.flow_rules.proofs.WayListLemmas.{fold_more}
+use Rattle.flow_rules.proofs.WayListLemmas.{part_decides, parts_more}
 use Rattle.flow_rules.proofs.asked.+asking.Goals as goal
-use Rattle.flow_rules.proofs.asked.+asking.Goals.{all_asked-in-Met, all_asked-in-Open+in_ok-kept-in-Open, any_asked-in-Unmet, any_asked-in-Open+in_ok-kept-in-Open}
+use Rattle.flow_rules.proofs.asked.+asking.Goals.{parts_asked-in-Decided+else-met-decides, parts_asked-in-Open+in_ok-kept-in-Open}
+
+same_flag : (a b : Bool) → beq a b ≡ true → a ≡ b
+same_flag true true e = refl
+same_flag true false e = absurd (true≢false (sym e))
+same_flag false true e = absurd (true≢false (sym e))
+same_flag false false e = refl
+
+other_flag : (a b : Bool) → beq a b ≡ false → a ≡ not b
+other_flag true true e = absurd (true≢false e)
+other_flag true false e = refl
+other_flag false true e = refl
+other_flag false false e = absurd (true≢false e)
 
 pub asked_of-returns-in-And : goal.asked_of-returns-in-And
 asked_of-returns-in-And t c =
     let leaf = leaf_in c.args.events.now in
-    ok_finds c.all_asked.result _ _
-    (ap (all_ways leaf) c.deref.ensures.value ∙ ways_of_and leaf c.args.rule.now c.in-And.parts c.in-And.is) c.all_asked.ensures
+    ok_finds c.parts_asked.result _ _
+    (ap (ways_of_parts And leaf) c.deref.ensures.value ∙ ways_of_and leaf c.args.rule.now c.in-And.parts c.in-And.is) c.parts_asked.ensures
 
 pub asked_of-returns-in-Or : goal.asked_of-returns-in-Or
 asked_of-returns-in-Or t c =
     let leaf = leaf_in c.args.events.now in
-    ok_finds c.any_asked.result _ _
-    (ap (any_ways leaf) c.deref-in-Or.ensures.value ∙ ways_of_or leaf c.args.rule.now c.in-Or.parts c.in-Or.is) c.any_asked.ensures
+    ok_finds c.parts_asked-in-Or.result _ _
+    (ap (ways_of_parts Or leaf) c.deref-in-Or.ensures.value ∙ ways_of_or leaf c.args.rule.now c.in-Or.parts c.in-Or.is) c.parts_asked-in-Or.ensures
 
-pub all_asked-returns-in-Unmet : goal.all_asked-returns-in-Unmet
-all_asked-returns-in-Unmet t c =
-    let f : Nnf → List (List (ℕ × ℕ)) = λ (part : Nnf). ways (normal_of part) (leaf_in c.args.events.now) in
-    unmet_all f c.args.parts.now c.loop-part.part-index c.part-item.result c.loop-part-test.true c.part-item.is
-    (subst (λ (o : Found). Finds o (f c.part-item.result)) c.in-Unmet.is c.in_ok-asked_of.ensures)
+pub parts_asked-returns-then-met-decides : goal.parts_asked-returns-then-met-decides
+parts_asked-returns-then-met-decides t c =
+    let j = c.args.connective in
+    let leaf = leaf_in c.args.events.now in
+    let met = same_flag c.in-Decided.met c.decides.result c.if-met-decides.true ∙ c.decides.ensures in
+    part_decides j leaf c.args.parts.now c.loop-part.part-index c.part-item.result c.loop-part-test.true c.part-item.is
+    (subst (λ (o : Found). Finds o (ways (normal_of c.part-item.result) leaf)) c.in-Decided.is c.in_ok-met.ensures ∙ ap decided met) ∙ ap decided (sym met)
 
-pub all_asked-loop-part-preserved : goal.all_asked-loop-part-preserved
-all_asked-loop-part-preserved t c =
-    let f : Nnf → List (List (ℕ × ℕ)) = λ (part : Nnf). ways (normal_of part) (leaf_in c.args.events.now) in
-    let parts = c.args.parts.now in
-    let part = c.part-item.result in
-    let more = fold_more (λ vs r. both_ways vs (f r)) free_way parts c.loop-part.part-index part c.loop-part-test.true c.part-item.is in
-    let finds : Found → Type 0 = λ (o : Found). Finds o (f part) in
+pub parts_asked-loop-part-preserved : goal.parts_asked-loop-part-preserved
+parts_asked-loop-part-preserved t c =
+    let j = c.args.connective in
+    let leaf = leaf_in c.args.events.now in
+    let these = ways (normal_of c.part-item.result) leaf in
+    let finds : Found → Type 0 = λ (o : Found). Finds o these in
     let kept = items_of c.loop-part.kept in
+    let Kept_so : Kept Asked → Type 0 = λ (k : Kept Asked). HasKept j (items_of k) (ways_of_parts j leaf (take (c.loop-part.part-index + 1) c.args.parts.now)) × HoldsMore k in
+    let more = parts_more j leaf c.args.parts.now c.loop-part.part-index c.part-item.result c.loop-part-test.true c.part-item.is in
     elim c.match-branch-2.branch [
-      | all_asked-in-Met w ↦
-          subst (λ (k : Kept Asked). IsProduct (items_of k) (all_ways (leaf_in c.args.events.now) (take (c.loop-part.part-index + 1) parts)) × HoldsMore k) (sym w.kept-is)
-          (met_more kept _ (f part) _ more (subst finds w.in-Met.is c.in_ok-asked_of.ensures) c.loop-part.invariant.0, c.loop-part.invariant.1)
-      | all_asked-in-Open+in_ok-kept-in-Open w ↦
-          let found = subst finds w.in-Open.is c.in_ok-asked_of.ensures in
-          subst (λ (k : Kept Asked). IsProduct (items_of k) (all_ways (leaf_in c.args.events.now) (take (c.loop-part.part-index + 1) parts)) × HoldsMore k) (sym w.kept-is)
-          (asked_more kept _ w.in-Open.more _ (f part) _ w.in_ok-kept-in-Open.ensures.items more found.0 found.1 c.loop-part.invariant.0, w.in_ok-kept-in-Open.ensures.more)
+      | parts_asked-in-Decided+else-met-decides w ↦
+          subst Kept_so (sym w.kept-is) (
+            kept_idle j kept _ these _ more (subst finds w.in-Decided.is c.in_ok-met.ensures ∙ ap decided (other_flag w.in-Decided.met w.decides.result w.if-met-decides.false ∙ ap not w.decides.ensures)) c.loop-part.invariant.0,
+            c.loop-part.invariant.1,
+          )
+      | parts_asked-in-Open+in_ok-kept-in-Open w ↦
+          subst Kept_so (sym w.kept-is)
+          (kept_more j kept _ w.in-Open.more _ these _ w.in_ok-kept-in-Open.ensures.items more (subst finds w.in-Open.is c.in_ok-met.ensures) c.loop-part.invariant.0, w.in_ok-kept-in-Open.ensures.more)
     ]
-
-pub all_asked-returns-in-Nothing : goal.all_asked-returns-in-Nothing
-all_asked-returns-in-Nothing t c =
-    let whole = ap (all_ways (leaf_in c.args.events.now)) (take_all c.loop-part.part-index c.args.parts.now c.loop-part-test.false) in
-    let kept = items_of c.loop-part.kept in
-    let h : IsProduct kept (all_ways (leaf_in c.args.events.now) c.args.parts.now) = subst (IsProduct kept) whole c.loop-part.invariant.0 in
-    none_of_all kept _ (ap (λ (k : Kept Asked). items_of k) c.in-Nothing.is) h
-
-pub all_asked-returns-in-One : goal.all_asked-returns-in-One
-all_asked-returns-in-One t c =
-    let whole = ap (all_ways (leaf_in c.args.events.now)) (take_all c.loop-part.part-index c.args.parts.now c.loop-part-test.false) in
-    let kept = items_of c.loop-part.kept in
-    let h : IsProduct kept (all_ways (leaf_in c.args.events.now) c.args.parts.now) = subst (IsProduct kept) whole c.loop-part.invariant.0 in
-    only_of_all kept c.in-One.only _ (ap (λ (k : Kept Asked). items_of k) c.in-One.is) h
-
-pub all_asked-returns-in-More : goal.all_asked-returns-in-More
-all_asked-returns-in-More t c =
-    let whole = ap (all_ways (leaf_in c.args.events.now)) (take_all c.loop-part.part-index c.args.parts.now c.loop-part-test.false) in
-    let kept = items_of c.loop-part.kept in
-    let h : IsProduct kept (all_ways (leaf_in c.args.events.now) c.args.parts.now) = subst (IsProduct kept) whole c.loop-part.invariant.0 in
-    let same : kept ≡ c.in-More.all.items = ap (λ (k : Kept Asked). items_of k) c.in-More.is in (
-      asked_all c.in-More.all ∙ ap ways_of_all (sym same) ∙ h.same,
-      whole_product kept _ (λ none. subst (λ (k : Kept Asked). HoldsMore k) c.in-More.is c.loop-part.invariant.1 (ap length (sym same) ∙ none)) h,
-    )
-
-pub any_asked-returns-in-Met : goal.any_asked-returns-in-Met
-any_asked-returns-in-Met t c =
-    let f : Nnf → List (List (ℕ × ℕ)) = λ (part : Nnf). ways (normal_of part) (leaf_in c.args.events.now) in
-    met_any f c.args.parts.now c.loop-part.part-index c.part-item.result c.loop-part-test.true c.part-item.is
-    (subst (λ (o : Found). Finds o (f c.part-item.result)) c.in-Met.is c.in_ok-asked_of.ensures)
-
-pub any_asked-loop-part-preserved : goal.any_asked-loop-part-preserved
-any_asked-loop-part-preserved t c =
-    let f : Nnf → List (List (ℕ × ℕ)) = λ (part : Nnf). ways (normal_of part) (leaf_in c.args.events.now) in
-    let parts = c.args.parts.now in
-    let part = c.part-item.result in
-    let more = fold_more (λ vs r. either_way vs (f r)) [] parts c.loop-part.part-index part c.loop-part-test.true c.part-item.is in
-    let finds : Found → Type 0 = λ (o : Found). Finds o (f part) in
-    let kept = items_of c.loop-part.kept in
-    elim c.match-branch-2.branch [
-      | any_asked-in-Unmet w ↦
-          subst (λ (k : Kept Asked). IsSum (items_of k) (any_ways (leaf_in c.args.events.now) (take (c.loop-part.part-index + 1) parts)) × HoldsMore k) (sym w.kept-is)
-          (unmet_more kept _ (f part) _ more (subst finds w.in-Unmet.is c.in_ok-asked_of.ensures) c.loop-part.invariant.0, c.loop-part.invariant.1)
-      | any_asked-in-Open+in_ok-kept-in-Open w ↦
-          let found = subst finds w.in-Open.is c.in_ok-asked_of.ensures in
-          subst (λ (k : Kept Asked). IsSum (items_of k) (any_ways (leaf_in c.args.events.now) (take (c.loop-part.part-index + 1) parts)) × HoldsMore k) (sym w.kept-is)
-          (choice_more kept _ w.in-Open.more _ (f part) _ w.in_ok-kept-in-Open.ensures.items more found.0 found.1 c.loop-part.invariant.0, w.in_ok-kept-in-Open.ensures.more)
-    ]
-
-pub any_asked-returns-in-Nothing : goal.any_asked-returns-in-Nothing
-any_asked-returns-in-Nothing t c =
-    let whole = ap (any_ways (leaf_in c.args.events.now)) (take_all c.loop-part.part-index c.args.parts.now c.loop-part-test.false) in
-    let kept = items_of c.loop-part.kept in
-    let h : IsSum kept (any_ways (leaf_in c.args.events.now) c.args.parts.now) = subst (IsSum kept) whole c.loop-part.invariant.0 in
-    none_of_any kept _ (ap (λ (k : Kept Asked). items_of k) c.in-Nothing.is) h
-
-pub any_asked-returns-in-One : goal.any_asked-returns-in-One
-any_asked-returns-in-One t c =
-    let whole = ap (any_ways (leaf_in c.args.events.now)) (take_all c.loop-part.part-index c.args.parts.now c.loop-part-test.false) in
-    let kept = items_of c.loop-part.kept in
-    let h : IsSum kept (any_ways (leaf_in c.args.events.now) c.args.parts.now) = subst (IsSum kept) whole c.loop-part.invariant.0 in
-    only_of_any kept c.in-One.only _ (ap (λ (k : Kept Asked). items_of k) c.in-One.is) h
-
-pub any_asked-returns-in-More : goal.any_asked-returns-in-More
-any_asked-returns-in-More t c =
-    let whole = ap (any_ways (leaf_in c.args.events.now)) (take_all c.loop-part.part-index c.args.parts.now c.loop-part-test.false) in
-    let kept = items_of c.loop-part.kept in
-    let h : IsSum kept (any_ways (leaf_in c.args.events.now) c.args.parts.now) = subst (IsSum kept) whole c.loop-part.invariant.0 in
-    let same : kept ≡ c.in-More.any.items = ap (λ (k : Kept Asked). items_of k) c.in-More.is in (
-      asked_any c.in-More.any ∙ ap ways_of_any (sym same) ∙ h.same,
-      whole_sum kept _ (λ none. subst (λ (k : Kept Asked). HoldsMore k) c.in-More.is c.loop-part.invariant.1 (ap length (sym same) ∙ none)) h,
-    )

@@ -1,6 +1,6 @@
 use Rattle.std.proofs.Common.{◌∙◌, ◌++◌, ℕ, Vec, Global, ap, map}
 use Rattle.flow_rules.specs.Asked.{ways_asked}
-use Rattle.flow_rules.specs.WayLists.{pairs_of}
+use Rattle.flow_rules.specs.WayLists.{ways_of_sets}
 use Rattle.flow_rules.proofs.WayListLemmas.{map_nothing}
 use Rattle.flow_rules.proofs.listing.listed.Goals as goal
 
@@ -8,5 +8,5 @@ pub returns : goal.returns
 returns c =
     let nothing = ap (λ (v : Vec (ℕ × ℕ) Global). v.items) c.new-2.ensures ∙ c.new.ensures.items in
     c.in_ok-extend.ensures
-    ∙ (λ k. pairs_of (c.new-all.ensures.items k) ++ map (λ w. nothing k ++ w) (ways_asked c.args.rule.now))
+    ∙ (λ k. ways_of_sets (c.new-all.ensures.items k) ++ map (λ w. nothing k ++ w) (ways_asked c.args.rule.now))
     ∙ map_nothing (ways_asked c.args.rule.now)

@@ -14,9 +14,9 @@ loop-rule-preserved c =
     let i = c.loop-rule.rule-index in
     let rule = c.rule-item.result in
     let standing = c.standing_of.result in
-    let unmet = c.all_standing-unmet.result.unmet in
+    let unmet = c.parts_standing-unmet.result.unmet in
     let left = c.loop-rule.left.items in
-    let fits : bit_or standing.free unmet < 2 ^ 64 = or_lt 64 standing.free unmet (omega (arith, c.standing_of.type_inv)) (omega (arith, c.all_standing-unmet.type_inv)) in
+    let fits : bit_or standing.free unmet < 2 ^ 64 = or_lt 64 standing.free unmet (omega (arith, c.standing_of.type_inv)) (omega (arith, c.parts_standing-unmet.type_inv)) in
     elim c.if-open-ne0.branch [
       | then-open-ne0+in_ok-narrow+in_ok-push w ↦
           left_in unmet lanes rules i rule c.loop-rule-test.true c.rule-item.is standing c.standing_of.ensures fits left c.if-open-ne0.left.items
@@ -29,7 +29,7 @@ loop-rule-preserved c =
 
 pub returns : goal.returns
 returns c =
-    let unmet = c.all_standing-unmet.result in
-    ways_of_left unmet c.args.lanes.now c.loop-rule.left.items c.args.rules.now c.all_standing-unmet.ensures
+    let unmet = c.parts_standing-unmet.result in
+    ways_of_left unmet c.args.lanes.now c.loop-rule.left.items c.args.rules.now c.parts_standing-unmet.ensures
     (subst (λ (l : List Nnf). LeftOf unmet.unmet c.args.lanes.now c.loop-rule.left.items l)
     (take_all c.loop-rule.rule-index c.args.rules.now c.loop-rule-test.false) c.loop-rule.invariant)

@@ -1,10 +1,10 @@
 use Rattle.std.proofs.Common.{◌≡◌, take, map}
-use Rattle.flow_rules.specs.NormalForm.{form_of, normal_form}
+use Rattle.flow_rules.specs.NormalForm.{form_of, rule_form}
 use Rattle.flow_rules.specs.Rule.{rule_of}
 use Rattle.flow_rules.specs.Normal.{normals_of, split_form}
 use Rattle.flow_rules.proofs.normalizing.+normalizing.Given as goal
 
 abbrev pub invariant-parts-loop-rule : goal.invariant-parts-loop-rule
 invariant-parts-loop-rule l =
-    (map form_of l.parts.items ≡ map (λ rule. normal_form rule l.wanted) (take l.rule-index l.rules)) ×
+    (map form_of l.parts.items ≡ map (λ rule. rule_form rule l.wanted) (take l.rule-index l.rules)) ×
     (normals_of l.parts.items ≡ map (λ rule. split_form (rule_of rule) l.wanted) (take l.rule-index l.rules))

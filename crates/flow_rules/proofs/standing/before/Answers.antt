@@ -5,7 +5,8 @@ use Rattle.flow_rules.proofs.StandingLemmas.{stand_before, stand_before_same}
 use Rattle.flow_rules.proofs.standing.before.Goals as goal
 
 pub returns-then-first-second : goal.returns-then-first-second
-returns-then-first-second c = stand_before_same c.args.lanes.now c.args.first c.args.second (eq-eqb c.args.first c.args.second c.if-first-second.true)
+returns-then-first-second c =
+    stand_before_same c.args.lanes.now c.args.first c.args.second (eq-eqb c.args.first c.args.second c.if-first-second.true) c.everywhere.result c.everywhere.ensures
 
 pub returns : goal.returns
 returns c =

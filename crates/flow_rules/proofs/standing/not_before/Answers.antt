@@ -5,7 +5,8 @@ use Rattle.flow_rules.proofs.StandingLemmas.{stand_not_before, stand_not_before_
 use Rattle.flow_rules.proofs.standing.not_before.Goals as goal
 
 pub returns-then-first-second : goal.returns-then-first-second
-returns-then-first-second c = stand_not_before_same c.args.lanes.now c.args.first c.args.second (eq-eqb c.args.first c.args.second c.if-first-second.true)
+returns-then-first-second c =
+    stand_not_before_same c.args.lanes.now c.args.first c.args.second (eq-eqb c.args.first c.args.second c.if-first-second.true) c.everywhere.result c.everywhere.ensures
 
 pub returns : goal.returns
 returns c =

@@ -1,6 +1,6 @@
 use Rattle.std.proofs.Common.{◌<◌}
 use Rattle.flow_model.specs.Process.{leaves}
-use Rattle.flow_laws.proofs.ListLemmas2.{each_member}
+use Rattle.flow_laws.proofs.Members.{each_member}
 use Rattle.flow_plan.specs.Progress.{bound_of}
 use Rattle.flow_plan.proofs.plan.Plan.is_unblocked.Goals as goal
 

@@ -1,7 +1,7 @@
 use Rattle.std.proofs.Common.{ℕ, ◌<◌, ◌↔◌, IsTrue, List, subst, sym, ◌∙◌}
 use Rattle.leaf_rows.specs.Leaves.{has_leaf}
 use Rattle.flow_model.specs.Lists.{◌∈◌, Each}
-use Rattle.flow_laws.proofs.ListLemmas2.{each_member}
+use Rattle.flow_laws.proofs.Members.{each_member}
 use Rattle.flow_laws.proofs.ReadyRuns.{same_ready}
 use Rattle.flow_plan.specs.declared.part_row.PartRow.{PartRow}
 use Rattle.flow_plan.specs.Planned.{Planned, planned, pairs_of}

@@ -1,6 +1,6 @@
 use Rattle.std.proofs.Common.{◌<◌, subst, sym, arith}
 use Rattle.std.proofs.lemmas.Bool.{ltb-true}
-use Rattle.flow_laws.proofs.ListLemmas2.{each_member}
+use Rattle.flow_laws.proofs.Members.{each_member}
 use Rattle.flow_model.specs.Lists.{◌∈◌}
 use Rattle.flow_residual.specs.Remaining.{Remaining}
 use Rattle.flow_residual.proofs.residual.Residual.is_done.Goals as goal

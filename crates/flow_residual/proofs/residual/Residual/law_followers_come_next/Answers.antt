@@ -1,4 +1,4 @@
-use Rattle.flow_laws.proofs.ListLemmas2.{each_member}
+use Rattle.flow_laws.proofs.Members.{each_member}
 use Rattle.flow_residual.specs.Remaining.{MayComeNext}
 use Rattle.flow_residual.proofs.PossibleLemmas.{may_all_follow, may_follow_first, each_comes_next, first_comes_next}
 use Rattle.flow_residual.proofs.residual.Residual.law_followers_come_next.Goals as goal

@@ -2,7 +2,7 @@ use Rattle.std.proofs.Common.{◌<◌, length, List, sym, subst}
 use Rattle.flow_model.specs.Lists.{◌∈◌}
 use Rattle.flow_model.specs.Resolution.{ChoiceOption}
 use Rattle.flow_plan.specs.Planned.{Planned}
-use Rattle.flow_laws.proofs.ListLemmas2.{each_member}
+use Rattle.flow_laws.proofs.Members.{each_member}
 use Rattle.flow_excise.specs.Compilation.{options_of}
 use Rattle.flow_excise.specs.Plans.{option_of}
 use Rattle.flow_residual.specs.Kept.{HasSmallLeaves}

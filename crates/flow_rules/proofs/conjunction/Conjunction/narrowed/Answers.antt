@@ -2,9 +2,10 @@ use Rattle.std.proofs.Common.{◌≡◌, ◌<◌, ◌∙◌, ℕ, List, Option, 
 use Rattle.std.specs.declared.alloc.AllocError.{AllocError}
 use Rattle.flow_rules.specs.declared.lanes.Lanes.{Lanes}
 use Rattle.flow_rules.specs.declared.narrowed.Narrowed.{Narrowed}
+use Rattle.flow_rules.specs.declared.connective.Connective.TheVariants.{And}
 use Rattle.flow_rules.specs.Lanes.{Shows}
 use Rattle.flow_rules.specs.Narrowed.{ways_in}
-use Rattle.flow_rules.specs.WayLists.{all_ways}
+use Rattle.flow_rules.specs.WayLists.{ways_of_parts}
 use Rattle.flow_rules.proofs.NormalViews.{ways_of_all}
 use Rattle.flow_rules.proofs.conjunction.Conjunction.narrowed.Goals as goal
 
@@ -16,5 +17,5 @@ ok_ways (Err refusal) lanes v w same h = h
 
 pub returns : goal.returns
 returns c =
-    ok_ways c.narrow_each.result c.args.lanes.now (λ leaf. all_ways leaf c.deref.result.now) _
-    (λ leaf. ap (all_ways leaf) c.deref.ensures.value ∙ sym (ways_of_all leaf c.args.self.now.rules.items)) c.narrow_each.ensures
+    ok_ways c.narrow_each.result c.args.lanes.now (λ leaf. ways_of_parts And leaf c.deref.result.now) _
+    (λ leaf. ap (ways_of_parts And leaf) c.deref.ensures.value ∙ sym (ways_of_all leaf c.args.self.now.rules.items)) c.narrow_each.ensures

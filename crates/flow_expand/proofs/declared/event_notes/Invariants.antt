@@ -1,7 +1,0 @@
-use Rattle.std.proofs.Common.{◌≡◌, map, take}
-use Rattle.flow_form.specs.Script.{declared}
-use Rattle.flow_expand.specs.Numbers.{notes_of}
-use Rattle.flow_expand.proofs.declared.event_notes.Given as goal
-
-abbrev pub invariant-loop-decl : goal.invariant-loop-decl
-invariant-loop-decl l = l.notes.items ≡ notes_of (map declared (take l.decl-index l.decls))

@@ -1,0 +1,5 @@
+use Rattle.flow_expand.proofs.LayoutLemmas.{isolated_root}
+use Rattle.flow_expand.proofs.layout.put_isolated.Goals as goal
+
+pub returns-clause-ok : goal.returns-clause-ok
+returns-clause-ok c = isolated_root _ _ c.args.root _ c.in_ok-place.ensures.items c.in_ok-place.ensures.at c.isolated.ensures

@@ -1,5 +1,0 @@
-use Rattle.flow_expand.proofs.PlanLemmas.{isolated_root}
-use Rattle.flow_expand.proofs.plan.put_isolated.Goals as goal
-
-pub returns-clause-ok : goal.returns-clause-ok
-returns-clause-ok c = isolated_root _ _ c.args.root _ c.in_ok-place.ensures.items c.in_ok-place.ensures.at c.isolated.ensures

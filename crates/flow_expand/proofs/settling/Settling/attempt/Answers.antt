@@ -1,0 +1,75 @@
+use Rattle.std.proofs.Common.{rules, arith, ◌≡◌, ◌<◌, ℕ, length, slice_get, Option, Some, None, refl, sym, subst, ap, ◌∙◌}
+use Rattle.flow_model.specs.Lists.{◌∈◌, Each}
+use Rattle.std.specs.Prelude.{IfSome}
+use Rattle.std.proofs.lemmas.Option.{slice_get-get_or}
+use Rattle.flow_form.specs.Form.{shape_of}
+use Rattle.flow_form.specs.Names.{names_in}
+use Rattle.flow_expand.specs.Laid.{IsLaidAt, IsReady}
+use Rattle.flow_expand.proofs.DirectoryLemmas.{flow_at}
+use Rattle.flow_expand.proofs.LayLemmas.{ready}
+use Rattle.flow_expand.proofs.SettleLemmas.{laid_set}
+use Rattle.flow_expand.proofs.CallLemmas.{calls_at, calls_many, calls_found, named_call, all_laid, seen_to, seen_moved, seen_laid}
+use Rattle.flow_expand.proofs.settling.Settling.attempt.Goals as goal
+
+some_to : (o : Option ℕ) (P : ℕ → Type 0) → ((k : ℕ) → o ≡ Some k → P k) → IfSome o P
+some_to None P f = tt
+some_to (Some k) P f = f k refl
+
+pub returns-then-is_some-clause-waits : goal.returns-then-is_some-clause-waits
+returns-then-is_some-clause-waits c =
+    let d = c.args.directory.now in
+    let s = c.args.self.now in
+    let within : c.args.flow < length d.goals.items = search rules in
+    let few : c.args.flow < length s.calls.items = omega (arith, within, calls_many d s.calls.items c.requires.settling.calls) in
+    let list = c.index.result.now in
+    let at = slice_get-get_or s.calls.items c.args.flow list few ∙ ap Some (sym c.index.ensures) in
+    some_to c.call_at-next.result _ (λ k e.
+    let there = ap (λ l. slice_get l c.first_unlaid-ahead.result) (sym c.as_slice-named.ensures.value) ∙ sym c.call_at-next.ensures ∙ e in (
+      calls_found d s.calls.items c.args.flow c.first_unlaid-ahead.result k list c.requires.settling.laid.directory c.requires.settling.calls within at there,
+      λ laid. c.first_unlaid-ahead.ensures.next k (sym c.call_at-next.ensures ∙ e) (subst (λ l. IsLaidAt l k) (sym c.deref.ensures.value) laid),
+    ))
+
+pub lay-requires-clause-ready : goal.lay-requires-clause-ready
+lay-requires-clause-ready c =
+    let d = c.args.directory.now in
+    let s = c.args.self.now in
+    let within : c.args.flow < length d.goals.items = search rules in
+    let few : c.args.flow < length s.calls.items = omega (arith, within, calls_many d s.calls.items c.requires.settling.calls) in
+    let list = c.index.result.now in
+    let at = slice_get-get_or s.calls.items c.args.flow list few ∙ ap Some (sym c.index.ensures) in
+    let counted : c.args.flow < length s.seen.items = search rules in
+    let from = slice_get-get_or s.seen.items c.args.flow c.index-2.result.now counted ∙ ap Some (sym c.index-2.ensures) in
+    let passed = seen_to s.calls.items s.seen.items s.laid.items c.args.flow c.index-2.result.now c.first_unlaid-ahead.result list at from c.requires.settling.seen
+    (λ i j a b e. subst (λ l. IsLaidAt l j) c.deref.ensures.value (c.first_unlaid-ahead.ensures.passed i j a b (ap (λ l. slice_get l i) c.as_slice-named.ensures.value ∙ e))) in
+    let f = c.index-3.result.now in
+    let h = c.requires.settling.laid.directory in
+    let (n, there) = flow_at d h c.args.flow f within c.index-3.ensures in
+    let none : c.call_at-next.result ≡ None = search rules in
+    let ends = ap (λ l. slice_get l c.first_unlaid-ahead.result) (sym c.as_slice-named.ensures.value) ∙ sym c.call_at-next.ensures ∙ none in
+    let is = calls_at d s.calls.items c.args.flow list f c.requires.settling.calls at within c.index-3.ensures in
+    subst (λ l. Each (IsReady d l) (names_in (shape_of f.now))) (sym c.deref-2.ensures.value)
+    (ready d s.laid.items (names_in (shape_of f.now)) h (h.closed c.args.flow n (shape_of f.now) there)
+    (λ m k used e. all_laid s.laid.items c.first_unlaid-ahead.result list.items ends passed k (subst (λ l. k ∈ l) (sym is) (named_call d.flows (names_in (shape_of f.now)) m k used e))))
+
+pub returns-clause-settling : goal.returns-clause-settling
+returns-clause-settling c =
+    let d = c.args.directory.now in
+    let s = c.args.self.now in
+    let within : c.args.flow < length d.goals.items = search rules in
+    let few : c.args.flow < length s.calls.items = omega (arith, within, calls_many d s.calls.items c.requires.settling.calls) in
+    let list = c.index.result.now in
+    let at = slice_get-get_or s.calls.items c.args.flow list few ∙ ap Some (sym c.index.ensures) in
+    let counted : c.args.flow < length s.seen.items = search rules in
+    let from = slice_get-get_or s.seen.items c.args.flow c.index-2.result.now counted ∙ ap Some (sym c.index-2.ensures) in
+    let passed = seen_to s.calls.items s.seen.items s.laid.items c.args.flow c.index-2.result.now c.first_unlaid-ahead.result list at from c.requires.settling.seen
+    (λ i j a b e. subst (λ l. IsLaidAt l j) c.deref.ensures.value (c.first_unlaid-ahead.ensures.passed i j a b (ap (λ l. slice_get l i) c.as_slice-named.ensures.value ∙ e))) in
+    let f = c.index-3.result.now in
+    let (n, there) = flow_at d c.requires.settling.laid.directory c.args.flow f within c.index-3.ensures in
+    record {
+      laid = laid_set d s.laid.items s.layout.items c.lay.new.layout.items c.args.flow n (shape_of f.now) c.in_ok-root.root c.requires.settling.laid c.in_ok-root.ensures.grown there c.in_ok-root.ensures.ok;
+      many = c.requires.settling.many;
+      calls = c.requires.settling.calls;
+      counted = c.requires.settling.counted;
+      seen = seen_laid s.calls.items _ s.laid.items c.args.flow c.in_ok-root.root
+          (seen_moved s.calls.items s.seen.items s.laid.items c.args.flow c.first_unlaid-ahead.result list at c.requires.settling.seen passed);
+    }

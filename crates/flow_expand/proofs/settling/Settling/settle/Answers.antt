@@ -1,0 +1,67 @@
+use Rattle.std.proofs.Common.{◌∙◌, ◌≡◌, ◌<◌, ℕ, List, [], ◌∷◌, Option, Some, set, slice_get, subst, sym, inl, ⊎_elim, length}
+use Rattle.std.proofs.lemmas.Option.{slice_get_within}
+use Rattle.flow_model.specs.Lists.{◌∈◌}
+use Rattle.flow_form.specs.Script.{Declared}
+use Rattle.flow_expand.specs.declared.lay.Stage.{Stage}
+use Rattle.flow_expand.specs.declared.lay.Stage.TheVariants as stage
+use Rattle.flow_expand.specs.Waiting.{IsPath, IsIdle}
+use Rattle.flow_expand.specs.Directory.{decls_of}
+use Rattle.flow_expand.proofs.SettleLemmas.{start_laid, last_none, stays_begun, stays_twice, laid_begun, get_set_same, get_set_cases}
+use Rattle.flow_expand.proofs.CallLemmas.{seen_stays}
+use Rattle.flow_expand.proofs.settling.Settling.settle.Goals as goal
+
+-- where none waits, the one that begins to wait is the whole path
+path_first : (decls : List Declared) (laid : List Stage) (k : ℕ) (path : List ℕ) → IsIdle laid → k < length laid → path ≡ k ∷ [] → IsPath decls (set laid k stage.Begun) path
+path_first decls laid k path idle lt is = subst (IsPath decls (set laid k stage.Begun)) (sym is) alone
+  where
+    alone : IsPath decls (set laid k stage.Begun) (k ∷ [])
+    alone = record {
+      steps = tt;
+      distinct = ((λ m. absurd m), tt);
+      begun = λ j m. ⊎_elim (λ e. subst (λ i. slice_get (set laid k stage.Begun) i ≡ Some stage.Begun) (sym e) (get_set_same laid k stage.Begun lt)) (λ n. absurd n) m;
+      only = λ j at. ⊎_elim (λ p. inl p.0) (λ old. absurd (idle j old)) (get_set_cases laid k j stage.Begun stage.Begun at);
+    }
+
+not_both : (o : Option Stage) → o ≡ Some stage.Begun → o ≡ Some stage.Unlaid → ⊥
+not_both o e f =
+    let both : Some stage.Begun ≡ Some stage.Unlaid = sym e ∙ f in
+    cc
+
+pub loop-flow-init : goal.loop-flow-init
+loop-flow-init c =
+    let s = c.args.self.now in
+    let laid = s.laid.items in
+    let start = c.args.start in
+    let lt : start < length laid = slice_get_within laid start stage.Unlaid c.requires.unlaid in
+    record {
+      settling = record {
+        laid = laid_begun c.args.directory.now laid s.layout.items start c.requires.settling.laid;
+        many = c.requires.settling.many;
+        calls = c.requires.settling.calls;
+        counted = c.requires.settling.counted;
+        seen = seen_stays s.calls.items s.seen.items laid (set laid start stage.Begun) (stays_begun laid start c.requires.unlaid) c.requires.settling.seen;
+      };
+      path = path_first (decls_of c.args.directory.now) laid start c.in_ok-path.path.items c.requires.idle lt c.in_ok-path.ensures.items;
+      stays = stays_begun laid start c.requires.unlaid;
+      begun = not_both (slice_get (set laid start stage.Begun) start) (get_set_same laid start stage.Begun lt);
+    }
+
+pub loop-flow-preserved : goal.loop-flow-preserved
+loop-flow-preserved c = record {
+  settling = c.in_ok-advance.ensures.settling;
+  path = c.in_ok-advance.ensures.path;
+  stays = stays_twice c.args.self.now.laid.items c.loop-flow.self.laid.items c.advance.new.self.laid.items c.loop-flow.invariant.stays c.in_ok-advance.ensures.stays;
+  begun = λ e. c.loop-flow.invariant.begun (c.in_ok-advance.ensures.stays.unlaid c.args.start e);
+}
+
+pub returns-clause-idle : goal.returns-clause-idle
+returns-clause-idle c =
+    let none : c.loop-flow.path.items ≡ [] = sym c.deref.ensures.value ∙ last_none c.deref.result.now (sym c.last.ensures.value ∙ sym c.in_default.ensures) in
+    λ k at. absurd (subst (λ path. k ∈ path) none (c.loop-flow.invariant.path.only k at))
+
+pub returns-clause-start : goal.returns-clause-start
+returns-clause-start c =
+    let none : c.loop-flow.path.items ≡ [] = sym c.deref.ensures.value ∙ last_none c.deref.result.now (sym c.last.ensures.value ∙ sym c.in_default.ensures) in
+    let lt : c.args.start < length c.loop-flow.self.laid.items =
+    subst (λ n. c.args.start < n) (sym c.loop-flow.invariant.stays.as_many) (slice_get_within c.args.self.now.laid.items c.args.start stage.Unlaid c.requires.unlaid) in
+    start_laid (decls_of c.args.directory.now) c.loop-flow.self.laid.items c.loop-flow.path.items c.args.start c.loop-flow.invariant.path none lt c.loop-flow.invariant.begun

@@ -1,0 +1,205 @@
+-- Members of lists: what each has, and where they stand.
+use Rattle.std.proofs.Common.{◌≡◌, ◌≢◌, ℕ, zero, suc, List, [], ◌∷◌, ◌++◌, ◌⊎◌, length, length-append, arith, refl, sym, ap, ◌∙◌, subst, inl, inr, ⊎_elim}
+use Rattle.flow_model.specs.Lists.{◌∈◌, Each, AreDistinct, StandsBefore}
+pub use Rattle.flow_model.specs.Decided.{Decided, decide_eq, decide_list_eq, decide_mem, decide_in, decide_not, decide_both, decide_either, decide_some, cons_same, not_empty}
+pub use Rattle.flow_model.proofs.Lists.{each-append, each_parts}
+
+pub mem_append_left : {A : Type 0} (x : A) (a b : List A) → x ∈ a → x ∈ (a ++ b)
+mem_append_left x [] b h = absurd h
+mem_append_left x (y ∷ a) b (inl e) = inl e
+mem_append_left x (y ∷ a) b (inr h) = inr (mem_append_left x a b h)
+
+pub mem_append_right : {A : Type 0} (x : A) (a b : List A) → x ∈ b → x ∈ (a ++ b)
+mem_append_right x [] b h = h
+mem_append_right x (y ∷ a) b h = inr (mem_append_right x a b h)
+
+pub mem-append : {A : Type 0} (x : A) (a b : List A) → x ∈ (a ++ b) → (x ∈ a) ⊎ (x ∈ b)
+mem-append x [] b h = inr h
+mem-append x (y ∷ a) b (inl e) = inl (inl e)
+mem-append x (y ∷ a) b (inr h) = ⊎_elim (λ m. inl (inr m)) inr (mem-append x a b h)
+
+pub mem_swap : {A : Type 0} (x : A) (a b : List A) → x ∈ (a ++ b) → x ∈ (b ++ a)
+mem_swap x a b m = ⊎_elim (mem_append_right x b a) (mem_append_left x b a) (mem-append x a b m)
+
+-- members of two lists that go into two lists
+pub mem_both : {A : Type 0} (x : A) (a b c d : List A) → (x ∈ a → x ∈ c) → (x ∈ b → x ∈ d) → x ∈ (a ++ b) → x ∈ (c ++ d)
+mem_both x a b c d f g m = ⊎_elim (λ k. mem_append_left x c d (f k)) (λ k. mem_append_right x c d (g k)) (mem-append x a b m)
+
+-- the member in the middle
+pub mem_here : {A : Type 0} (x : A) (a b : List A) → x ∈ (a ++ x ∷ b)
+mem_here x a b = mem_append_right x a (x ∷ b) (inl refl)
+
+-- a member of the list without that place is one of the whole
+pub mem_without : {A : Type 0} (x y : A) (a b : List A) → x ∈ (a ++ b) → x ∈ (a ++ y ∷ b)
+mem_without x y a b h = ⊎_elim (λ k. mem_append_left x a (y ∷ b) k) (λ k. mem_append_right x a (y ∷ b) (inr k)) (mem-append x a b h)
+
+-- and a member of the whole is that one or in the rest
+pub mem_with : {A : Type 0} (x y : A) (a b : List A) → x ∈ (a ++ y ∷ b) → (x ≡ y) ⊎ (x ∈ (a ++ b))
+mem_with x y a b h =
+    ⊎_elim (λ k. inr (mem_append_left x a b k)) (⊎_elim inl (λ k. inr (mem_append_right x a b k))) (mem-append x a (y ∷ b) h)
+
+pub no_members : {A : Type 0} (list : List A) → ((x : A) → ¬ (x ∈ list)) → list ≡ []
+no_members [] h = refl
+no_members (x ∷ list) h = absurd (h x (inl refl))
+
+-- the place of a member
+pub split_at : {A : Type 0} (x : A) (list : List A) → x ∈ list → (front back : List A) × (list ≡ front ++ x ∷ back)
+split_at x [] h = absurd h
+split_at x (y ∷ list) (inl e) = ([], list, ap (λ z. z ∷ list) (sym e))
+split_at x (y ∷ list) (inr h) = let s = split_at x list h in (y ∷ s.0, s.1, ap (λ l. y ∷ l) s.2)
+
+pub only_one : {A : Type 0} (x y : A) → x ∈ (y ∷ []) → x ≡ y
+only_one x y = ⊎_elim (λ e. e) absurd
+
+-- P of the list with any one member left out
+abbrev pub LeavingOut : {A : Type 0} → (List A → Type 0) → List A → Type 0
+LeavingOut {A} P list = (front : List A) (x : A) (back : List A) → list ≡ front ++ x ∷ back → P (front ++ back)
+
+-- what holds of a list if it does with any one member left out holds of each list
+pub by_leaving_out : {A : Type 0} (P : List A → Type 0) → ((list : List A) → LeavingOut P list → P list) → (list : List A) → P list
+by_leaving_out {A} P step list = down (length list) list refl
+  where
+    shorter : (k : ℕ) (l front : List A) (x : A) (back : List A) → length l ≡ k → l ≡ front ++ x ∷ back → suc (length (front ++ back)) ≡ k
+    shorter k l front x back e f = omega (arith, ap length f, length-append front (x ∷ back), length-append front back)
+
+    down : (k : ℕ) (l : List A) → length l ≡ k → P l
+    down zero l e = step l (λ front x back f. absurd (omega (arith, shorter zero l front x back e f)))
+    down (suc k) l e = step l (λ front x back f. down k (front ++ back) (omega (arith, shorter (suc k) l front x back e f)))
+
+-- what each member has
+
+pub each_member : {A : Type 0} (P : A → Type 0) (xs : List A) → Each P xs → (x : A) → x ∈ xs → P x
+each_member P [] h x m = absurd m
+each_member P (y ∷ ys) (h, t) x (inl e) = subst P (sym e) h
+each_member P (y ∷ ys) (h, t) x (inr m) = each_member P ys t x m
+
+pub each_from_members : {A : Type 0} (P : A → Type 0) (xs : List A) → ((x : A) → x ∈ xs → P x) → Each P xs
+each_from_members P [] h = tt
+each_from_members P (y ∷ ys) h = (h y (inl refl), each_from_members P ys (λ x m. h x (inr m)))
+
+pub each_to : {A : Type 0} (P Q : A → Type 0) (xs : List A) → ((x : A) → P x → Q x) → Each P xs → Each Q xs
+each_to P Q [] to h = tt
+each_to P Q (x ∷ xs) to (h, t) = (to x h, each_to P Q xs to t)
+
+-- a member with P is found, or each member lacks it
+pub find_member : {A : Type 0} (P : A → Type 0) → ((x : A) → Decided (P x)) → (list : List A) →
+    ((x : A) × (x ∈ list) × P x) ⊎ ((x : A) → x ∈ list → ¬ (P x))
+find_member P d list = ⊎_elim inl (λ n. inr (λ x m p. n (x, m, p))) (decide_some P d list)
+
+-- the first member with P, and what stands around it
+pub first_member : {A : Type 0} (P : A → Type 0) → ((x : A) → Decided (P x)) → (list : List A) (x : A) → x ∈ list → P x →
+    (front : List A) × (first : A) × (back : List A) × (list ≡ front ++ first ∷ back) × P first × ((z : A) → z ∈ front → ¬ (P z))
+first_member P d [] x m p = absurd m
+first_member P d (y ∷ list) x m p = elim (d y) [
+  | inl q ↦ ([], y, list, refl, q, λ z h. absurd h)
+  | inr n ↦ (let (front, first, back, e, q, none) = first_member P d list x (⊎_elim (λ e. absurd (n (subst P e p))) (λ k. k) m) p in
+      (y ∷ front, first, back, ap (λ l. y ∷ l) e, q, λ z h. ⊎_elim (λ e r. n (subst P e r)) (none z) h))
+]
+
+-- no member has P, or one of those that have it is the least of them
+abbrev pub HasLeast : {A : Type 0} → (A → Type 0) → (A → A → Type 0) → List A → Type 0
+HasLeast {A} P R list =
+    ((x : A) → x ∈ list → ¬ (P x)) ⊎ ((x : A) × (x ∈ list) × P x × ((y : A) → y ∈ list → P y → R x y))
+
+-- where of two members with P one is at most the other
+pub least_in : {A : Type 0} (P : A → Type 0) (R : A → A → Type 0) → ((x : A) → Decided (P x)) → ((x : A) → R x x) → ((x y z : A) → R x y → R y z → R x z) →
+    (list : List A) → ((x y : A) → x ∈ list → y ∈ list → P x → P y → R x y ⊎ R y x) → HasLeast P R list
+least_in P R d same on [] either = inl (λ x m. absurd m)
+least_in {A} P R d same on (y ∷ list) either = at (d y) (least_in P R d same on list (λ u v m n. either u v (inr m) (inr n)))
+  where
+    at : Decided (P y) → HasLeast P R list → HasLeast P R (y ∷ list)
+    at (inr n) (inl f) = inl (λ x m. ⊎_elim (λ e p. n (subst P e p)) (f x) m)
+    at (inr n) (inr (x, m, p, l)) = inr (x, inr m, p, λ z k q. ⊎_elim (λ e. absurd (n (subst P e q))) (λ i. l z i q) k)
+    at (inl p) (inl f) = inr (y, inl refl, p, λ z k q. ⊎_elim (λ e. subst (R y) (sym e) (same y)) (λ i. absurd (f z i q)) k)
+    at (inl p) (inr (x, m, q, l)) = ⊎_elim
+        (λ r. inr (y, inl refl, p, λ z k s. ⊎_elim (λ e. subst (R y) (sym e) (same y)) (λ i. on y x z r (l z i s)) k))
+        (λ r. inr (x, inr m, q, λ z k s. ⊎_elim (λ e. subst (R x) (sym e) r) (λ i. l z i s) k))
+        (either y x (inl refl) (inr m) p q)
+
+-- the last member of a list that has one
+pub last_of : {A : Type 0} (list : List A) (x : A) → x ∈ list → (front : List A) × (last : A) × (list ≡ front ++ last ∷ [])
+last_of [] x m = absurd m
+last_of (y ∷ []) x m = ([], y, refl)
+last_of (y ∷ z ∷ list) x m = let r = last_of (z ∷ list) z (inl refl) in (y ∷ r.0, r.1, ap (λ l. y ∷ l) r.2)
+
+-- distinct members
+
+-- the lists have no member in common
+abbrev pub Apart : {A : Type 0} → List A → List A → Type 0
+Apart {A} a b = (x : A) → x ∈ a → x ∈ b → ⊥
+
+pub distinct_left : {A : Type 0} (a b : List A) → AreDistinct (a ++ b) → AreDistinct a
+distinct_left [] b d = tt
+distinct_left (x ∷ a) b d = (λ h. d.0 (mem_append_left x a b h), distinct_left a b d.1)
+
+pub distinct_right : {A : Type 0} (a b : List A) → AreDistinct (a ++ b) → AreDistinct b
+distinct_right [] b d = d
+distinct_right (x ∷ a) b d = distinct_right a b d.1
+
+pub distinct_apart : {A : Type 0} (a b : List A) → AreDistinct (a ++ b) → Apart a b
+distinct_apart [] b d x h k = h
+distinct_apart (y ∷ a) b d x (inl e) k = d.0 (mem_append_right y a b (subst (λ z. z ∈ b) e k))
+distinct_apart (y ∷ a) b d x (inr h) k = distinct_apart a b d.1 x h k
+
+pub distinct-append : {A : Type 0} (a b : List A) → AreDistinct a → AreDistinct b → Apart a b → AreDistinct (a ++ b)
+distinct-append [] b d e f = e
+distinct-append (x ∷ a) b d e f =
+    (λ h. ⊎_elim d.0 (f x (inl refl)) (mem-append x a b h), distinct-append a b d.1 e (λ y k. f y (inr k)))
+
+pub distinct_parts : {A : Type 0} (a b : List A) → AreDistinct (a ++ b) → AreDistinct a × AreDistinct b × Apart a b
+distinct_parts a b d = (distinct_left a b d, distinct_right a b d, distinct_apart a b d)
+
+pub distinct_swap : {A : Type 0} (a b : List A) → AreDistinct (a ++ b) → AreDistinct (b ++ a)
+distinct_swap a b d = distinct-append b a (distinct_right a b d) (distinct_left a b d) (λ x h k. distinct_apart a b d x k h)
+
+-- the member in the middle stands nowhere else
+pub not_elsewhere : {A : Type 0} (a b : List A) (x : A) → AreDistinct (a ++ x ∷ b) → ¬ (x ∈ a) × ¬ (x ∈ b)
+not_elsewhere a b x d = (λ h. distinct_apart a (x ∷ b) d x h (inl refl), (distinct_right a (x ∷ b) d).0)
+
+-- which stands before which
+
+pub before_members : {A : Type 0} (x y : A) (t : List A) → StandsBefore x y t → (x ∈ t) × (y ∈ t)
+before_members x y [] h = absurd h
+before_members x y (z ∷ t) (inl h) = (inl h.0, inr h.1)
+before_members x y (z ∷ t) (inr h) = let (m, k) = before_members x y t h in (inr m, inr k)
+
+pub before_across : {A : Type 0} (x y : A) (a b : List A) → x ∈ a → y ∈ b → StandsBefore x y (a ++ b)
+before_across x y [] b h k = absurd h
+before_across x y (z ∷ a) b (inl e) k = inl (e, mem_append_right y a b k)
+before_across x y (z ∷ a) b (inr h) k = inr (before_across x y a b h k)
+
+pub before_right : {A : Type 0} (x y : A) (a b : List A) → StandsBefore x y b → StandsBefore x y (a ++ b)
+before_right x y [] b h = h
+before_right x y (z ∷ a) b h = inr (before_right x y a b h)
+
+-- of two different members one stands before the other
+pub before_or_after : {A : Type 0} (x y : A) (list : List A) → x ∈ list → y ∈ list → x ≢ y → StandsBefore x y list ⊎ StandsBefore y x list
+before_or_after x y [] h k n = absurd h
+before_or_after x y (z ∷ list) (inl e) (inl f) n = absurd (n (e ∙ sym f))
+before_or_after x y (z ∷ list) (inl e) (inr k) n = inl (inl (e, k))
+before_or_after x y (z ∷ list) (inr h) (inl f) n = inr (inl (f, h))
+before_or_after x y (z ∷ list) (inr h) (inr k) n = ⊎_elim (λ l. inl (inr l)) (λ l. inr (inr l)) (before_or_after x y list h k n)
+
+-- none stands before itself
+pub not_before_itself : {A : Type 0} (x : A) (list : List A) → AreDistinct list → ¬ (StandsBefore x x list)
+not_before_itself x [] d h = h
+not_before_itself x (z ∷ list) d (inl h) = d.0 (subst (λ u. u ∈ list) h.0 h.1)
+not_before_itself x (z ∷ list) d (inr h) = not_before_itself x list d.1 h
+
+pub before_trans : {A : Type 0} (x y z : A) (list : List A) → AreDistinct list → StandsBefore x y list → StandsBefore y z list → StandsBefore x z list
+before_trans x y z [] d h k = h
+before_trans x y z (u ∷ list) d (inl h) (inl k) = inl (h.0, k.1)
+before_trans x y z (u ∷ list) d (inl h) (inr k) = inl (h.0, (before_members y z list k).1)
+before_trans x y z (u ∷ list) d (inr h) (inl k) = absurd (d.0 (subst (λ v. v ∈ list) k.0 (before_members x y list h).1))
+before_trans x y z (u ∷ list) d (inr h) (inr k) = inr (before_trans x y z list d.1 h k)
+
+-- not both ways
+pub not_both_ways : {A : Type 0} (x y : A) (list : List A) → AreDistinct list → StandsBefore x y list → StandsBefore y x list → ⊥
+not_both_ways x y list d h k = not_before_itself x list d (before_trans x y x list d h k)
+
+-- what stands before the member in the middle is in the front
+pub in_front : {A : Type 0} (x y : A) (a b : List A) → AreDistinct (a ++ y ∷ b) → StandsBefore x y (a ++ y ∷ b) → x ∈ a
+in_front x y [] b d (inl h) = absurd (d.0 h.1)
+in_front x y [] b d (inr h) = absurd (d.0 (before_members x y b h).1)
+in_front x y (z ∷ a) b d (inl h) = inl h.0
+in_front x y (z ∷ a) b d (inr h) = inr (in_front x y a b d.1 h)

@@ -1,0 +1,273 @@
+-- The executions of a goal without choices, as orders of its leaves.
+use Rattle.std.proofs.Common.{◌≡◌, ℕ, ◌↔◌, List, [], ◌∷◌, ◌++◌, ◌⊎◌, refl, sym, ap, ap₂, ◌∙◌, subst, subst₂, inl, inr, ⊎_elim, append_assoc, append-nil}
+use Rattle.flow_model.specs.Lists.{◌∈◌, AreDistinct, StandsBefore, joined}
+use Rattle.flow_model.specs.Process.{Process, Empty, Task, Sequence, Parallel, Choice, Isolated, leaves, IsChoiceFree}
+use Rattle.flow_model.specs.Trace.{Shuffle, Blocks, Trace, as_one}
+use Rattle.flow_model.specs.Ready.{InSequence, isolated_parts}
+use Rattle.flow_laws.proofs.Members.{only_one, no_members, distinct_left, distinct_right, distinct_apart, before_members, before_across, before_right, before_or_after, not_before_itself, not_both_ways, mem_append_left, mem_append_right, mem-append}
+use Rattle.flow_laws.proofs.MadeLists.{joined-append}
+use Rattle.flow_laws.proofs.Shuffles.{shuffle-joined, shuffle_swap, of_shuffle, mem_shuffle_left, before_in_shuffle, distinct_in_shuffle, shuffle_of, front_first, shuffle_nothing, AreUnbroken, shuffle_blocks}
+use Rattle.flow_laws.proofs.GoalParts.{sequence_first, sequence_second, part_within, case_of}
+use Rattle.flow_laws.proofs.TraceLeaves.{joined-as_one, beside, leaf_of_blocks, leaf_in_blocks, distinct_trace, leaf_of_trace, leaf_in_trace}
+
+-- the list holds each leaf once, in the goal's sequence, and nothing stands between two leaves of an isolated part
+pub record IsOrdering (g : Process) (t : List ℕ) : Type 0 where
+  pub leaf : (x : ℕ) → x ∈ t → x ∈ leaves g
+  pub all : (x : ℕ) → x ∈ leaves g → x ∈ t
+  pub distinct : AreDistinct t
+  pub before : (x y : ℕ) → InSequence g x y → StandsBefore x y t
+  pub together : (part : Process) → part ∈ isolated_parts g → (x y z : ℕ) → x ∈ leaves part → ¬ (y ∈ leaves part) → z ∈ leaves part →
+      StandsBefore x y t → StandsBefore y z t → ⊥
+
+-- Executions are orderings
+
+-- what stands in the goal's sequence stands so in each execution
+abbrev pub KeepsSequence : Process → Type 0
+KeepsSequence g = (bs : List (List ℕ)) → Blocks g bs → (x y : ℕ) → InSequence g x y → StandsBefore x y (joined bs)
+
+halves_keep : (a b : Process) → KeepsSequence a → KeepsSequence b → KeepsSequence (Parallel a b)
+halves_keep a b in_a in_b bs (u, v, ha, hb, s) x y (inl k) = before_in_shuffle (shuffle-joined s) x y (in_a u ha x y k)
+halves_keep a b in_a in_b bs (u, v, ha, hb, s) x y (inr k) = before_in_shuffle (shuffle_swap (shuffle-joined s)) x y (in_b v hb x y k)
+
+pub before_in_blocks : (g : Process) → IsChoiceFree g → KeepsSequence g
+before_in_blocks Empty f bs h x y k = absurd k
+before_in_blocks (Task n) f bs h x y k = absurd k
+before_in_blocks (Sequence a b) (fa, fb) bs (u, v, ha, hb, e) x y (inl (inl k)) =
+    subst (StandsBefore x y) (sym (ap joined e ∙ joined-append u v))
+    (before_across x y (joined u) (joined v) (leaf_in_blocks a fa u ha x k.0) (leaf_in_blocks b fb v hb y k.1))
+before_in_blocks (Sequence a b) (fa, fb) bs h x y (inl (inr k)) =
+    halves_keep a b (before_in_blocks a fa) (before_in_blocks b fb) bs (beside a b bs h) x y (inl k)
+before_in_blocks (Sequence a b) (fa, fb) bs h x y (inr k) =
+    halves_keep a b (before_in_blocks a fa) (before_in_blocks b fb) bs (beside a b bs h) x y (inr k)
+before_in_blocks (Parallel a b) (fa, fb) bs h x y k = halves_keep a b (before_in_blocks a fa) (before_in_blocks b fb) bs h x y k
+before_in_blocks (Choice a b) f bs h x y k = absurd f
+before_in_blocks (Isolated a) f bs (u, h, e) x y k =
+    subst (StandsBefore x y) (sym (ap joined e ∙ joined-as_one u)) (before_in_blocks a f u h x y k)
+
+-- the list has that piece
+abbrev HasPiece : List ℕ → List ℕ → Type 0
+HasPiece piece list = (front back : List ℕ) × (list ≡ front ++ (piece ++ back))
+
+piece_of_joined : (bs : List (List ℕ)) (block piece : List ℕ) → block ∈ bs → HasPiece piece block → HasPiece piece (joined bs)
+piece_of_joined [] block piece m h = absurd m
+piece_of_joined (b ∷ bs) block piece (inl e) (front, back, h) =
+    (front, back ++ joined bs, ap (λ l. l ++ joined bs) (sym e ∙ h) ∙ simp append_assoc)
+piece_of_joined (b ∷ bs) block piece (inr m) h =
+    let (front, back, k) = piece_of_joined bs block piece m h in
+    (b ++ front, back, ap (λ l. b ++ l) k ∙ sym (append_assoc b front (piece ++ back)))
+
+-- some block has the leaves of the part as a piece
+abbrev StandsIn : Process → List (List ℕ) → Type 0
+StandsIn part bs = (block piece : List ℕ) × (block ∈ bs) × HasPiece piece block × ((x : ℕ) → (x ∈ piece) ↔ (x ∈ leaves part))
+
+-- each isolated part that has a leaf stands in one block
+abbrev KeepsTogether : Process → Type 0
+KeepsTogether g = (bs : List (List ℕ)) → Blocks g bs → (part : Process) → part ∈ isolated_parts g → (n : ℕ) → n ∈ leaves part → StandsIn part bs
+
+halves_together : (a b : Process) → KeepsTogether a → KeepsTogether b → KeepsTogether (Parallel a b)
+halves_together a b in_a in_b bs (x, y, ha, hb, s) part m n k = elim (mem-append part (isolated_parts a) (isolated_parts b) m) [
+  | inl l ↦ (let (block, piece, i, r, same) = in_a x ha part l n k in (block, piece, mem_shuffle_left s block i, r, same))
+  | inr l ↦ (let (block, piece, i, r, same) = in_b y hb part l n k in (block, piece, mem_shuffle_left (shuffle_swap s) block i, r, same))
+]
+
+whole_block : (x : List (List ℕ)) (n : ℕ) → n ∈ joined x → joined x ∈ as_one x
+whole_block [] n m = absurd m
+whole_block (b ∷ x) n m = inl refl
+
+part_in_block : (g : Process) → IsChoiceFree g → KeepsTogether g
+part_in_block Empty f bs h part m n k = absurd m
+part_in_block (Task i) f bs h part m n k = absurd m
+part_in_block (Sequence a b) (fa, fb) bs h part m n k =
+    halves_together a b (part_in_block a fa) (part_in_block b fb) bs (beside a b bs h) part m n k
+part_in_block (Parallel a b) (fa, fb) bs h part m n k = halves_together a b (part_in_block a fa) (part_in_block b fb) bs h part m n k
+part_in_block (Choice a b) f bs h part m n k = absurd f
+part_in_block (Isolated a) f bs (x, h, e) part (inl i) n k =
+    let all = leaf_in_blocks a f x h in (
+      joined x,
+      joined x,
+      subst (λ l. joined x ∈ l) (sym e) (whole_block x n (all n (subst (λ p. n ∈ leaves p) i k))),
+      ([], [], sym (append-nil (joined x))),
+      λ y. (λ l. subst (λ p. y ∈ leaves p) (sym i) (leaf_of_blocks a x h y l), λ l. all y (subst (λ p. y ∈ leaves p) i l)),
+    )
+part_in_block (Isolated a) f bs (x, h, e) part (inr i) n k =
+    let (block, piece, l, r, same) = part_in_block a f x h part i n k in (
+      joined x,
+      piece,
+      subst (λ l. joined x ∈ l) (sym e) (whole_block x n (leaf_in_blocks a f x h n (part_within (case_of a) part n i k))),
+      piece_of_joined x block piece l r,
+      same,
+    )
+
+-- nothing stands between two members of a piece
+piece_unbroken : (list piece : List ℕ) → AreDistinct list → HasPiece piece list → (x y z : ℕ) → x ∈ piece → ¬ (y ∈ piece) → z ∈ piece →
+    StandsBefore x y list → StandsBefore y z list → ⊥
+piece_unbroken list piece d (front, back, e) x y z k l p b c =
+    ⊎_elim
+    (λ m. not_both_ways x y list d b (from y x (before_across y x front (piece ++ back) m (mem_append_left x piece back k))))
+    (λ m. ⊎_elim l
+    (λ i. not_both_ways y z list d c (from z y (before_right z y front (piece ++ back) (before_across z y piece back p i))))
+    (mem-append y piece back m))
+    (mem-append y front (piece ++ back) (subst (λ w. y ∈ w) e (before_members x y list b).1))
+  where
+    from : (u v : ℕ) → StandsBefore u v (front ++ (piece ++ back)) → StandsBefore u v list
+    from u v h = subst (StandsBefore u v) (sym e) h
+
+pub ordering_of_trace : (t : List ℕ) (g : Process) → IsChoiceFree g → AreDistinct (leaves g) → Trace g t → IsOrdering g t
+ordering_of_trace t g f d (bs, h, e) = record {
+  leaf = leaf_of_trace g t (bs, h, e);
+  all = leaf_in_trace g f t (bs, h, e);
+  distinct = once;
+  before = λ x y k. subst (StandsBefore x y) (sym e) (before_in_blocks g f bs h x y k);
+  together = λ part m x y z k l p b c.
+      let (block, piece, i, r, same) = part_in_block g f bs h part m x k in
+      piece_unbroken t piece once (subst (HasPiece piece) (sym e) (piece_of_joined bs block piece i r))
+      x y z ((same x).1 k) (λ q. l ((same y).0 q)) ((same z).1 p) b c;
+}
+  where
+    once : AreDistinct t
+    once = distinct_trace g d t (bs, h, e)
+
+-- Orderings are executions
+
+-- the one goal stands in the other
+record IsHalf (a g : Process) : Type 0 where
+  leaf : (x : ℕ) → x ∈ leaves a → x ∈ leaves g
+  sequence : (x y : ℕ) → InSequence a x y → InSequence g x y
+  part : (part : Process) → part ∈ isolated_parts a → part ∈ isolated_parts g
+
+left_half : (a b : Process) → IsHalf a (Parallel a b)
+left_half a b = record {
+  leaf = λ x. mem_append_left x (leaves a) (leaves b);
+  sequence = λ x y. inl;
+  part = λ p. mem_append_left p (isolated_parts a) (isolated_parts b);
+}
+
+right_half : (a b : Process) → IsHalf b (Parallel a b)
+right_half a b = record {
+  leaf = λ x. mem_append_right x (leaves a) (leaves b);
+  sequence = λ x y. inr;
+  part = λ p. mem_append_right p (isolated_parts a) (isolated_parts b);
+}
+
+-- a block of an execution is one leaf, or has the leaves of an isolated part
+abbrev IsBlockOf : Process → List ℕ → Type 0
+IsBlockOf g block =
+    ((n : ℕ) × (block ≡ n ∷ [])) ⊎ ((part : Process) × (part ∈ isolated_parts g) × ((x : ℕ) → (x ∈ block) ↔ (x ∈ leaves part)))
+
+block_of_half : (a g : Process) (block : List ℕ) → IsHalf a g → IsBlockOf a block → IsBlockOf g block
+block_of_half a g block half = ⊎_elim inl (λ (part, m, same). inr (part, half.part part m, same))
+
+abbrev HasBlocks : Process → Type 0
+HasBlocks g = (bs : List (List ℕ)) → Blocks g bs → (block : List ℕ) → block ∈ bs → IsBlockOf g block
+
+blocks_of_halves : (a b : Process) → HasBlocks a → HasBlocks b → HasBlocks (Parallel a b)
+blocks_of_halves a b of_a of_b bs (x, y, ha, hb, s) block m = ⊎_elim
+    (λ k. block_of_half a (Parallel a b) block (left_half a b) (of_a x ha block k))
+    (λ k. block_of_half b (Parallel a b) block (right_half a b) (of_b y hb block k))
+    (of_shuffle s block m)
+
+as_one_is : (x : List (List ℕ)) (block : List ℕ) → block ∈ as_one x → block ≡ joined x
+as_one_is [] block m = absurd m
+as_one_is (b ∷ x) block (inl e) = e
+as_one_is (b ∷ x) block (inr m) = absurd m
+
+block_kind : (g : Process) → IsChoiceFree g → HasBlocks g
+block_kind Empty f bs h block m = absurd (subst (λ l. block ∈ l) h m)
+block_kind (Task n) f bs h block m = inl (n, only_one block (n ∷ []) (subst (λ l. block ∈ l) h m))
+block_kind (Sequence a b) (fa, fb) bs h block m = blocks_of_halves a b (block_kind a fa) (block_kind b fb) bs (beside a b bs h) block m
+block_kind (Parallel a b) (fa, fb) bs h block m = blocks_of_halves a b (block_kind a fa) (block_kind b fb) bs h block m
+block_kind (Choice a b) f bs h block m = absurd f
+block_kind (Isolated a) f bs (x, h, e) block m =
+    let is : block ≡ joined x = as_one_is x block (subst (λ l. block ∈ l) e m) in
+    inr (a, inl refl, λ y. (λ k. leaf_of_blocks a x h y (subst (λ l. y ∈ l) is k), λ k. subst (λ l. y ∈ l) (sym is) (leaf_in_blocks a f x h y k)))
+
+-- the members of a half, in their order
+half_ordering : (a g : Process) (u v t : List ℕ) → IsHalf a g → IsOrdering g t → Shuffle u v t → ((x : ℕ) → x ∈ u → x ∈ leaves a) →
+    ((x : ℕ) → x ∈ v → ¬ (x ∈ leaves a)) → IsOrdering a u
+half_ordering a g u v t half o s of_a others = record {
+  leaf = of_a;
+  all = there;
+  distinct = distinct_in_shuffle s o.distinct;
+  before = λ x y k.
+      let b = o.before x y (half.sequence x y k) in
+      let differ = λ (e : x ≡ y). not_before_itself y t o.distinct (subst (λ z. StandsBefore z y t) e b) in
+      ⊎_elim (λ h. h) (λ h. absurd (not_both_ways x y t o.distinct b (before_in_shuffle s y x h)))
+      (before_or_after x y u (there x (sequence_first a x y k)) (there y (sequence_second a x y k)) differ);
+  together = λ p m x y z k l q b c. o.together p (half.part p m) x y z k l q (before_in_shuffle s x y b) (before_in_shuffle s y z c);
+}
+  where
+    there : (x : ℕ) → x ∈ leaves a → x ∈ u
+    there x k = ⊎_elim (λ m. m) (λ m. absurd (others x m k)) (of_shuffle s x (o.all x (half.leaf x k)))
+
+-- no block of a half is broken by the other
+half_unbroken : (a g : Process) (bs : List (List ℕ)) (other t : List ℕ) → IsChoiceFree a → Blocks a bs → IsHalf a g → IsOrdering g t →
+    ((x : ℕ) → x ∈ other → ¬ (x ∈ leaves a)) → AreUnbroken bs other t
+half_unbroken a g bs other t f h half o others block m x y z k l p b c = ⊎_elim
+    (λ (n, e).
+    let is = λ (u : ℕ) (i : u ∈ block). only_one u n (subst (λ w. u ∈ w) e i) in
+    not_both_ways x y t o.distinct b (subst (λ u. StandsBefore y u t) (is z p ∙ sym (is x k)) c))
+    (λ (part, i, same).
+    o.together part (half.part part i) x y z ((same x).0 k) (λ j. others y l (part_within (case_of a) part y i j)) ((same z).0 p) b c)
+    (block_kind a f bs h block m)
+
+-- the ordering of a sequence as one of its halves beside one another
+ordering_beside : (a b : Process) (t : List ℕ) → IsOrdering (Sequence a b) t → IsOrdering (Parallel a b) t
+ordering_beside a b t o = record {
+  leaf = o.leaf;
+  all = o.all;
+  distinct = o.distinct;
+  before = λ x y k. o.before x y (⊎_elim (λ l. inl (inr l)) inr k);
+  together = o.together;
+}
+
+-- an ordering of two halves, by these
+halve : (a b : Process) (t : List ℕ) → AreDistinct (leaves (Parallel a b)) → IsOrdering (Parallel a b) t →
+    (left right : List ℕ) × Shuffle left right t × IsOrdering a left × IsOrdering b right
+halve a b t d o =
+    let off = distinct_apart (leaves a) (leaves b) d in
+    let (u, v, s, of_a, of_b) = shuffle_of (leaves a) (leaves b) t (λ x m. mem-append x (leaves a) (leaves b) (o.leaf x m)) in (
+      u,
+      v,
+      s,
+      half_ordering a (Parallel a b) u v t (left_half a b) o s of_a (λ x m k. off x k (of_b x m)),
+      half_ordering b (Parallel a b) v u t (right_half a b) o (shuffle_swap s) of_b (λ x m k. off x (of_a x m) k),
+    )
+
+only_member : (n : ℕ) (t : List ℕ) → AreDistinct t → ((x : ℕ) → x ∈ t → x ∈ (n ∷ [])) → n ∈ t → t ≡ n ∷ []
+only_member n [] d f m = absurd m
+only_member n (y ∷ []) d f m = ap (λ z. z ∷ []) (only_one y n (f y (inl refl)))
+only_member n (y ∷ z ∷ t) d f m =
+    absurd (d.0 (inl (only_one y n (f y (inl refl)) ∙ sym (only_one z n (f z (inr (inl refl)))))))
+
+blocks_of_ordering : (g : Process) (t : List ℕ) → IsChoiceFree g → AreDistinct (leaves g) → IsOrdering g t → Trace g t
+blocks_of_ordering Empty t f d o = ([], refl, no_members t o.leaf)
+blocks_of_ordering (Task n) t f d o = ((n ∷ []) ∷ [], refl, only_member n t o.distinct o.leaf (o.all n (inl refl)))
+blocks_of_ordering (Sequence a b) t (fa, fb) d o =
+    let (u, v, s, in_a, in_b) = halve a b t d (ordering_beside a b t o) in
+    let (x, hx, ex) = blocks_of_ordering a u fa (distinct_left (leaves a) (leaves b) d) in_a in
+    let (y, hy, ey) = blocks_of_ordering b v fb (distinct_right (leaves a) (leaves b) d) in_b in
+    let (more, e, r) = front_first u [] v t (subst (λ l. Shuffle l v t) (sym (append-nil u)) s)
+    (λ m n i j k. not_both_ways m n t o.distinct (o.before m n (inl (inl (in_a.leaf m i, in_b.leaf n j)))) k) in
+    (x ++ y, (x, y, hx, hy, refl), e ∙ (ap₂ ◌++◌ ex (shuffle_nothing r ∙ ey) ∙ sym (joined-append x y)))
+blocks_of_ordering (Parallel a b) t (fa, fb) d o =
+    let (u, v, s, in_a, in_b) = halve a b t d o in
+    let off = distinct_apart (leaves a) (leaves b) d in
+    let (x, hx, ex) = blocks_of_ordering a u fa (distinct_left (leaves a) (leaves b) d) in_a in
+    let (y, hy, ey) = blocks_of_ordering b v fb (distinct_right (leaves a) (leaves b) d) in_b in
+    let (c, r, e) = shuffle_blocks x y t (subst₂ (λ u v. Shuffle u v t) ex ey s)
+    (half_unbroken a (Parallel a b) x (joined y) t fa hx (left_half a b) o (λ n m k. off n k (leaf_of_blocks b y hy n m)))
+    (half_unbroken b (Parallel a b) y (joined x) t fb hy (right_half a b) o (λ n m k. off n (leaf_of_blocks a x hx n m) k)) in
+    (c, (x, y, hx, hy, r), e)
+blocks_of_ordering (Choice a b) t f d o = absurd f
+blocks_of_ordering (Isolated a) t f d o =
+    let inner : IsOrdering a t = record {
+      leaf = o.leaf;
+      all = o.all;
+      distinct = o.distinct;
+      before = o.before;
+      together = λ part m. o.together part (inr m);
+    } in
+    let (x, h, e) = blocks_of_ordering a t f d inner in (as_one x, (x, h, refl), e ∙ sym (joined-as_one x))
+
+pub trace_of_ordering : (t : List ℕ) (g : Process) → IsChoiceFree g → AreDistinct (leaves g) → IsOrdering g t → Trace g t
+trace_of_ordering t g = blocks_of_ordering g t

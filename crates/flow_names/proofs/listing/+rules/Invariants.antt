@@ -1,9 +1,0 @@
-use Rattle.std.proofs.Common.{take, map}
-use Rattle.flow_form.specs.RuleForm.{rule_shape_of, rule_shapes}
-use Rattle.flow_form.specs.Names.{names_in_rules}
-use Rattle.flow_grammar.specs.Roles.{in_rule}
-use Rattle.flow_names.specs.Listed.{Adds}
-use Rattle.flow_names.proofs.listing.+rules.Given as goal
-
-abbrev pub invariant-list_rules-loop-rule : goal.invariant-list_rules-loop-rule
-invariant-list_rules-loop-rule l = Adds l.fn.list.items l.list.items (map in_rule (names_in_rules (rule_shapes (map rule_shape_of (take l.rule-index l.rules)))))

@@ -1,7 +1,0 @@
-use Rattle.std.proofs.Common.{take}
-use Rattle.flow_grammar.specs.Roles.{constant_roles}
-use Rattle.flow_names.specs.Listed.{Adds}
-use Rattle.flow_names.proofs.listing.list_constants.Given as goal
-
-abbrev pub invariant-loop-constant : goal.invariant-loop-constant
-invariant-loop-constant l = Adds l.fn.list.items l.list.items (constant_roles (take l.constant-index l.constants))

@@ -1,9 +1,0 @@
-use Rattle.flow_print.specs.Joins.{mark_of, parted}
-use Rattle.flow_print.proofs.Members.{member_pushed}
-use Rattle.flow_print.proofs.goals.+goals.Goals as goal
-
-pub push_list-loop-member-preserved : goal.push_list-loop-member-preserved
-push_list-loop-member-preserved t c =
-    member_pushed (mark_of c.args.join) (parted c.args.join) c.loop-member.is_first c.args.members.now c.loop-member.member-index c.member-item.result
-    c.loop-member.text.items c.push_mark.new.text.items c.push_member.new.text.items _
-    c.loop-member-test.true c.member-item.is c.in_ok-push_mark.ensures c.in_ok-push_member.ensures c.loop-member.invariant

@@ -1,6 +1,0 @@
-use Rattle.std.proofs.Common.{◌≡◌, ◌++◌, drop}
-use Rattle.flow_print.specs.Printed.{names_text}
-use Rattle.flow_print.proofs.rules.push_names.Given as goal
-
-abbrev pub invariant-loop-name : goal.invariant-loop-name
-invariant-loop-name l = l.text.items ++ names_text (drop l.name-index l.names) ≡ l.initial.text.items ++ names_text l.names

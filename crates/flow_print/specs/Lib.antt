@@ -1,4 +1,0 @@
-pub mod Printed
-pub mod Joins
-pub mod Printable
-pub mod PrintedLaws

@@ -1,0 +1,21 @@
+ghost use Rattle.std.specs.Prelude.{◌≡◌};
+ghost use Rattle.flow_rules.specs.WayLists.{decider};
+
+/// How the parts of a rule are joined: all of them are to be met, or one.
+#[derive(Clone, Copy)]
+pub(crate) enum Connective {
+    And,
+    Or,
+}
+
+impl Connective {
+    /// What one part decides of the whole: that it is met in any order (`true`), or in none.
+    pub(crate) fn decides(self) -> bool
+        ensures { result ≡ decider self }
+    {
+        match self {
+            Connective::And => false,
+            Connective::Or => true,
+        }
+    }
+}

@@ -1,0 +1,102 @@
+-- The tokens of a text are symbols that can be written.
+use Rattle.std.proofs.Common.{◌≡◌, ℕ, ◌<◌, ◌^◌, Bool, true, false, nat_eq, if◌then◌else◌, List, [], ◌∷◌, refl, sym, ap, subst, ◌∙◌}
+use Rattle.std.specs.Prelude.{Option, Some, None, codes, slice_index_or}
+use Rattle.std.proofs.lemmas.List.{append-nil}
+use Rattle.flow_model.specs.Lists.{Each}
+use Rattle.flow_lex.specs.declared.token.Token.{Token}
+use Rattle.flow_lex.specs.declared.token.TokenKind.{TokenKind}
+use Rattle.flow_lex.specs.declared.token.TokenKind.TheVariants.{Word, Number, Mark}
+use Rattle.flow_lex.specs.Bytes.{number_value}
+use Rattle.flow_lex.specs.Tokens.{lexed, bytes_of, IsSmall}
+use Rattle.flow_lex.proofs.EachToken.{Has, each-read}
+use Rattle.flow_lex.proofs.Small.{IsWord, piece-is-word, small-front}
+use Rattle.flow_grammar.specs.Symbol.{Symbol, a_name, a_number, star, bar, plus, opening, closing, comma, semicolon, equals, question, exclamation, event_word, fact_word, flow_word, goal_word, constraint_word, done_word, fail_word, nop_word, iso_word, ins_word, del_word, holds_word, redundant_word, must_word, never_word, order_word, precedes_word, needs_word, not_word, and_word, or_word}
+use Rattle.flow_reader.specs.Symbols.{is, or_else, word_of_declarations, word_of_goals, word_of_constraints, reserved, word_symbol, mark_symbol, symbol_of, symbols_of}
+use Rattle.flow_text.specs.Printable.{IsName}
+
+-- a name is one, a number has 32 bits
+abbrev pub IsWritable : Symbol → Type 0
+IsWritable (a_name n) = IsName n
+IsWritable (a_number n) = n < 2 ^ 32
+IsWritable _ = Unit {0}
+
+abbrev MayBeWritable : Option Symbol → Type 0
+MayBeWritable None = Unit {0}
+MayBeWritable (Some s) = IsWritable s
+
+or-if : (t : Bool) (s : Symbol) (o : Option Symbol) → IsWritable s → MayBeWritable o → MayBeWritable (if t then Some s else o)
+or-if true s o h k = h
+or-if false s o h k = k
+
+declaring : (w : List ℕ) → MayBeWritable (word_of_declarations w)
+declaring w =
+    or-if (is w (codes "event")) event_word _ tt (or-if (is w (codes "fact")) fact_word _ tt (or-if (is w (codes "flow")) flow_word _ tt
+    (or-if (is w (codes "goal")) goal_word _ tt (or-if (is w (codes "constraint")) constraint_word _ tt (or-if (is w (codes "done")) done_word _ tt
+    (or-if (is w (codes "fail")) fail_word None tt tt))))))
+
+of_goals : (w : List ℕ) → MayBeWritable (word_of_goals w)
+of_goals w =
+    or-if (is w (codes "nop")) nop_word _ tt (or-if (is w (codes "iso")) iso_word _ tt (or-if (is w (codes "ins")) ins_word _ tt
+    (or-if (is w (codes "del")) del_word _ tt (or-if (is w (codes "holds")) holds_word _ tt (or-if (is w (codes "redundant")) redundant_word None tt tt)))))
+
+of_constraints : (w : List ℕ) → MayBeWritable (word_of_constraints w)
+of_constraints w =
+    or-if (is w (codes "must")) must_word _ tt (or-if (is w (codes "never")) never_word _ tt (or-if (is w (codes "order")) order_word _ tt
+    (or-if (is w (codes "precedes")) precedes_word _ tt (or-if (is w (codes "needs")) needs_word _ tt (or-if (is w (codes "not")) not_word _ tt
+    (or-if (is w (codes "and")) and_word _ tt (or-if (is w (codes "or")) or_word None tt tt)))))))
+
+either-writable : (o p : Option Symbol) → MayBeWritable o → MayBeWritable p → MayBeWritable (or_else o p)
+either-writable None p h k = k
+either-writable (Some s) p h k = h
+
+reserved-writable : (w : List ℕ) → MayBeWritable (reserved w)
+reserved-writable w =
+    either-writable (word_of_declarations w) (or_else (word_of_goals w) (word_of_constraints w)) (declaring w)
+    (either-writable (word_of_goals w) (word_of_constraints w) (of_goals w) (of_constraints w))
+
+is-name : (w : List ℕ) → IsWord Word w → reserved w ≡ None → IsName w
+is-name [] h e = h refl
+is-name (b ∷ bs) h e = let (letter, more) = h refl in (letter, more, e)
+
+word-writable : (w : List ℕ) → IsWord Word w → IsWritable (word_symbol w)
+word-writable w h = from (reserved w) refl (reserved-writable w)
+  where
+    symbol : Option Symbol → Symbol
+    symbol (Some s) = s
+    symbol None = a_name w
+
+    from : (o : Option Symbol) → reserved w ≡ o → MayBeWritable o → IsWritable (symbol o)
+    from (Some s) e k = k
+    from None e k = is-name w h e
+
+mark-if : (t : Bool) (s other : Symbol) → IsWritable s → IsWritable other → IsWritable (if t then s else other)
+mark-if true s other h k = h
+mark-if false s other h k = k
+
+mark-writable : (b : ℕ) → IsWritable (mark_symbol b)
+mark-writable b =
+    mark-if (nat_eq b 42) star _ tt (mark-if (nat_eq b 124) bar _ tt (mark-if (nat_eq b 43) plus _ tt (mark-if (nat_eq b 40) opening _ tt
+    (mark-if (nat_eq b 41) closing _ tt (mark-if (nat_eq b 44) comma _ tt (mark-if (nat_eq b 59) semicolon _ tt (mark-if (nat_eq b 61) equals _ tt
+    (mark-if (nat_eq b 63) question exclamation tt tt))))))))
+
+token-writable : (text : List ℕ) (t : Token) → Has IsWord text t → IsSmall text t → IsWritable (symbol_of text t)
+token-writable text t word small = from t.kind refl
+  where
+    symbol : TokenKind → Symbol
+    symbol Word = word_symbol (bytes_of text t)
+    symbol Number = a_number (number_value (bytes_of text t))
+    symbol Mark = mark_symbol (slice_index_or text t.start 0)
+
+    from : (kind : TokenKind) → t.kind ≡ kind → IsWritable (symbol kind)
+    from Word e = word-writable (bytes_of text t) (subst (λ kind. IsWord kind (bytes_of text t)) e word)
+    from Number e = small e
+    from Mark e = mark-writable (slice_index_or text t.start 0)
+
+all-writable : (text : List ℕ) (ts : List Token) → Each (Has IsWord text) ts → Each (IsSmall text) ts → Each IsWritable (symbols_of text ts)
+all-writable text [] words smalls = tt
+all-writable text (t ∷ ts) (word, words) (small, smalls) = (token-writable text t word small, all-writable text ts words smalls)
+
+pub tokens-writable : (text : List ℕ) (tokens : List Token) → lexed text ≡ record { tokens = tokens; bad = None } → Each IsWritable (symbols_of text tokens)
+tokens-writable text tokens e =
+    all-writable text tokens (each-read IsWord piece-is-word text tokens e)
+    (small-front text tokens (record { tokens = []; bad = None }) (e ∙ ap (λ ts. record { tokens = ts; bad = None }) (sym (append-nil tokens))))

@@ -1,7 +1,0 @@
-use Rattle.std.proofs.Common.{rules}
-use Rattle.flow_text.proofs.NamesLeft.{left_within}
-use Rattle.flow_text.proofs.places.name_at.Goals as goal
-
-pub symbol_of-requires-clause-within : goal.symbol_of-requires-clause-within
-symbol_of-requires-clause-within c =
-    left_within _ c.args.tokens.now c.args.number c.loop-token.left c.loop-token.rest.now c.in-Some.more.now c.in-Some.token.now (search rules) c.loop-token.invariant

@@ -1,0 +1,34 @@
+-- The kinds of lists.
+use Rattle.std.specs.Prelude.{ℕ, Bool, true, false, List, [], codes}
+use Rattle.flow_form.specs.Form.{Shape}
+use Rattle.flow_form.specs.RuleForm.{RuleShape}
+use Rattle.flow_grammar.specs.Print.{in_serial, in_beside, in_either, in_all, in_any}
+use Rattle.flow_text.specs.declared.print_goals.Join.{Join}
+use Rattle.flow_text.specs.declared.print_goals.Join.TheVariants.{Serial, Beside, Either}
+use Rattle.flow_text.specs.declared.print_rules.Linking.{Linking}
+use Rattle.flow_text.specs.declared.print_rules.Linking.TheVariants.{And, Or}
+
+-- what stands between two members
+abbrev pub mark_of : Join → List ℕ
+mark_of Serial = codes " * "
+mark_of Beside = codes " | "
+mark_of Either = codes " + "
+
+-- whether a member stands in parentheses
+abbrev pub parted : Join → Shape → Bool
+parted Serial = in_serial
+parted Beside = in_beside
+parted Either = in_either
+
+abbrev pub word_of : Linking → List ℕ
+word_of And = codes " and "
+word_of Or = codes " or "
+
+abbrev pub parted_rule : Linking → RuleShape → Bool
+parted_rule And = in_all
+parted_rule Or = in_any
+
+-- what stands before a member, but for the first
+abbrev pub before : Bool → List ℕ → List ℕ
+before true mark = []
+before false mark = mark

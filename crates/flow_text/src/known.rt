@@ -1,0 +1,77 @@
+ghost use Rattle.std.specs.Prelude.{◌≡◌, ◌++◌, ◌∷◌, [], IfOk, OnOk, List, map};
+ghost use Rattle.flow_form.specs.Script.{Declared, declared};
+ghost use Rattle.flow_text.specs.ListedNames.{role_of};
+ghost use Rattle.flow_text.specs.KnownNames.{has, has_as_event, is_unknown, KnowsThose};
+
+use crate::listing::Named;
+use flow_form::Decl;
+use std::alloc::{AllocError, Global};
+use std::collections::BTreeMap;
+
+/// What a name is declared as.
+#[derive(Clone, Copy)]
+pub(crate) enum DeclaredAs {
+    Event,
+    Flow,
+}
+
+/// The names that declarations make known.
+#[derive(Drop)]
+pub(crate) struct Known<'a> {
+    /// What each is declared as: an event, if it is declared as both.
+    pub(crate) names: BTreeMap<&'a [u8], DeclaredAs>,
+    /// Whether one is declared a second time.
+    pub(crate) is_again: bool,
+}
+
+impl<'a> Known<'a> {
+    pub(crate) fn of(alloc: Global, decls: &'a [Decl]) -> Result<Known<'a>, AllocError>
+        ensures { IfOk result (λ known. KnowsThose (map declared decls.now) known) }
+    {
+        let mut known = Known {
+            names: BTreeMap::new(alloc),
+            is_again: false,
+        };
+        for decl in decls {
+            known.add(decl)?;
+        }
+        Ok(known)
+    }
+
+    fn add(&mut self, decl: &'a Decl) -> Result<(), AllocError>
+        ensures { (ds : List Declared) → KnowsThose ds self.old → OnOk result (KnowsThose (ds ++ declared decl.now ∷ []) self.new) }
+    {
+        match decl {
+            Decl::Fact(_) => {}
+            Decl::Event(name, _) => {
+                let earlier = self.names.insert(name.bytes(), DeclaredAs::Event)?;
+                self.is_again |= earlier.is_some();
+            }
+            Decl::Flow(name, _) => {
+                if self.names.contains_key(name.bytes()) {
+                    self.is_again = true;
+                } else {
+                    self.names.insert(name.bytes(), DeclaredAs::Flow)?;
+                }
+            }
+        }
+        Ok(())
+    }
+
+    fn has_as_event(&self, name: &[u8]) -> bool
+        ensures { result ≡ has_as_event self.now.names name.now }
+    {
+        matches!(self.names.get(name), Some(DeclaredAs::Event))
+    }
+
+    /// The name is not declared as it must be where it stands.
+    pub(crate) fn lacks(&self, named: &Named<'_>) -> bool
+        ensures { result ≡ is_unknown (has self.now.names) (has_as_event self.now.names) (role_of named.now) }
+    {
+        match named {
+            Named::InGoal(name) => !self.names.contains_key(name.bytes()),
+            Named::InRule(name) => !self.has_as_event(name.bytes()),
+            Named::Declares(_) | Named::InFact(_) => false,
+        }
+    }
+}

@@ -1,0 +1,111 @@
+ghost use Rattle.std.specs.Prelude.{◌≡◌, ◌++◌, OnOk, map};
+ghost use Rattle.flow_form.specs.Form.{shape_of, shapes};
+ghost use Rattle.flow_text.specs.Joins.{before, mark_of, parted};
+ghost use Rattle.flow_text.specs.Printed.{bracketed, goal_text, list_text};
+
+use flow_facts::push_fact;
+use flow_form::Form;
+use std::alloc::AllocError;
+
+/// A kind of list.
+#[derive(Clone, Copy)]
+pub(crate) enum Join {
+    Serial,
+    Beside,
+    Either,
+}
+
+impl Join {
+    /// What stands between two members.
+    fn mark(self) -> &'static [u8]
+        ensures { result.now ≡ mark_of self }
+    {
+        match self {
+            Join::Serial => b" * ",
+            Join::Beside => b" | ",
+            Join::Either => b" + ",
+        }
+    }
+
+    /// Whether a member stands in parentheses.
+    fn parts(self, member: &Form) -> bool
+        ensures { result ≡ parted self (shape_of member.now) }
+    {
+        match member {
+            Form::Serial(_) => self == Join::Serial,
+            Form::Beside(_) => self != Join::Either,
+            Form::Either(_) => true,
+            _ => false,
+        }
+    }
+}
+
+/// What stands before a member of a list: the mark, but for the first.
+pub(crate) fn push_mark(text: &mut Vec<u8>, mark: &[u8], is_first: bool) -> Result<(), AllocError>
+    ensures { OnOk result (text.new.items ≡ text.old.items ++ before is_first mark.now) }
+{
+    if is_first {
+        return Ok(());
+    }
+    text.extend_from_slice(mark)
+}
+
+#[cycle(goals)]
+fn push_member(text: &mut Vec<u8>, join: Join, member: &Form) -> Result<(), AllocError>
+    ensures { OnOk result (text.new.items ≡ text.old.items ++ bracketed (parted join (shape_of member.now)) (goal_text (shape_of member.now))) }
+{
+    if join.parts(member) {
+        text.extend_from_slice(b"(")?;
+        push_goal(text, member)?;
+        text.extend_from_slice(b")")
+    } else {
+        push_goal(text, member)
+    }
+}
+
+#[cycle(goals)]
+fn push_list(text: &mut Vec<u8>, join: Join, members: &[Form]) -> Result<(), AllocError>
+    ensures { OnOk result (text.new.items ≡ text.old.items ++ list_text (mark_of join) (parted join) (shapes (map shape_of members.now))) }
+{
+    let mut is_first = true;
+    for member in members {
+        push_mark(text, join.mark(), is_first)?;
+        push_member(text, join, member)?;
+        is_first = false;
+    }
+    Ok(())
+}
+
+#[cycle(goals)]
+pub(crate) fn push_goal(text: &mut Vec<u8>, goal: &Form) -> Result<(), AllocError>
+    ensures { OnOk result (text.new.items ≡ text.old.items ++ goal_text (shape_of goal.now)) }
+{
+    match goal {
+        Form::Nop => text.extend_from_slice(b"nop"),
+        Form::Name(name) => text.extend_from_slice(name.bytes()),
+        Form::Test(fact) => {
+            text.extend_from_slice(b"?")?;
+            push_fact(text, fact)
+        }
+        Form::Absent(fact) => {
+            text.extend_from_slice(b"!")?;
+            push_fact(text, fact)
+        }
+        Form::Ins(fact) => {
+            text.extend_from_slice(b"ins ")?;
+            push_fact(text, fact)
+        }
+        Form::Del(fact) => {
+            text.extend_from_slice(b"del ")?;
+            push_fact(text, fact)
+        }
+        Form::Iso(part) => {
+            text.extend_from_slice(b"iso(")?;
+            push_goal(text, part)?;
+            text.extend_from_slice(b")")
+        }
+        Form::Serial(members) => push_list(text, Join::Serial, members),
+        Form::Beside(members) => push_list(text, Join::Beside, members),
+        Form::Either(members) => push_list(text, Join::Either, members),
+    }
+}

@@ -1,0 +1,118 @@
+ghost use Rattle.std.specs.Prelude.{◌≡◌, ◌++◌, OnOk, map, codes};
+ghost use Rattle.flow_form.specs.RuleForm.{rule_shape_of, rule_shapes};
+ghost use Rattle.flow_text.specs.Joins.{word_of, parted_rule};
+ghost use Rattle.flow_text.specs.Printed.{bracketed, names_text, rule_text, rules_text};
+
+use crate::print_goals::push_mark;
+use flow_form::{Name, RuleForm};
+use std::alloc::AllocError;
+
+/// A kind of list.
+#[derive(Clone, Copy)]
+pub(crate) enum Linking {
+    And,
+    Or,
+}
+
+impl Linking {
+    /// What stands between two members.
+    fn word(self) -> &'static [u8]
+        ensures { result.now ≡ word_of self }
+    {
+        match self {
+            Linking::And => b" and ",
+            Linking::Or => b" or ",
+        }
+    }
+
+    /// Whether a member stands in parentheses.
+    fn parts(self, member: &RuleForm) -> bool
+        ensures { result ≡ parted_rule self (rule_shape_of member.now) }
+    {
+        match member {
+            RuleForm::And(_) => self == Linking::And,
+            RuleForm::Or(_) => true,
+            _ => false,
+        }
+    }
+}
+
+/// Each of them after a blank.
+fn push_names(text: &mut Vec<u8>, names: &[Name]) -> Result<(), AllocError>
+    ensures { OnOk result (text.new.items ≡ text.old.items ++ names_text names.now) }
+{
+    for name in names {
+        text.extend_from_slice(b" ")?;
+        text.extend_from_slice(name.bytes())?;
+    }
+    Ok(())
+}
+
+fn push_two(text: &mut Vec<u8>, first: &Name, second: &Name) -> Result<(), AllocError>
+    ensures { OnOk result (text.new.items ≡ text.old.items ++ first.now ++ codes " " ++ second.now) }
+{
+    text.extend_from_slice(first.bytes())?;
+    text.extend_from_slice(b" ")?;
+    text.extend_from_slice(second.bytes())
+}
+
+/// A member of a list of that kind.
+#[cycle(rules)]
+fn push_member(text: &mut Vec<u8>, linking: Linking, member: &RuleForm) -> Result<(), AllocError>
+    ensures { OnOk result (text.new.items ≡ text.old.items ++ bracketed (parted_rule linking (rule_shape_of member.now)) (rule_text (rule_shape_of member.now))) }
+{
+    if linking.parts(member) {
+        text.extend_from_slice(b"(")?;
+        push_rule(text, member)?;
+        text.extend_from_slice(b")")
+    } else {
+        push_rule(text, member)
+    }
+}
+
+#[cycle(rules)]
+fn push_list(text: &mut Vec<u8>, linking: Linking, members: &[RuleForm]) -> Result<(), AllocError>
+    ensures { OnOk result (text.new.items ≡ text.old.items ++ rules_text (word_of linking) (parted_rule linking) (rule_shapes (map rule_shape_of members.now))) }
+{
+    let mut is_first = true;
+    for member in members {
+        push_mark(text, linking.word(), is_first)?;
+        push_member(text, linking, member)?;
+        is_first = false;
+    }
+    Ok(())
+}
+
+#[cycle(rules)]
+pub(crate) fn push_rule(text: &mut Vec<u8>, rule: &RuleForm) -> Result<(), AllocError>
+    ensures { OnOk result (text.new.items ≡ text.old.items ++ rule_text (rule_shape_of rule.now)) }
+{
+    match rule {
+        RuleForm::Must(name) => {
+            text.extend_from_slice(b"must ")?;
+            text.extend_from_slice(name.bytes())
+        }
+        RuleForm::Never(name) => {
+            text.extend_from_slice(b"never ")?;
+            text.extend_from_slice(name.bytes())
+        }
+        RuleForm::Order(names) => {
+            text.extend_from_slice(b"order")?;
+            push_names(text, names)
+        }
+        RuleForm::Precedes(first, second) => {
+            text.extend_from_slice(b"precedes ")?;
+            push_two(text, first, second)
+        }
+        RuleForm::Needs(first, second) => {
+            text.extend_from_slice(b"needs ")?;
+            push_two(text, first, second)
+        }
+        RuleForm::Not(part) => {
+            text.extend_from_slice(b"not ")?;
+            push_member(text, Linking::And, part)
+        }
+        RuleForm::And(members) => push_list(text, Linking::And, members),
+        RuleForm::Or(members) => push_list(text, Linking::Or, members),
+    }
+}
