@@ -4,7 +4,7 @@ ghost use Rattle.flow_form.specs.Script.{said, asked};
 ghost use Rattle.flow_lex.specs.Tokens.{AreSpans, IsSmall};
 ghost use Rattle.flow_grammar.specs.Machine as machine;
 ghost use Rattle.flow_reader.specs.Symbols.{meant, symbols_of};
-ghost use Rattle.flow_reader.specs.Scripts.{decls_of, script_state};
+ghost use Rattle.flow_reader.specs.Scripts.{declared_so_far, script_state};
 ghost use Rattle.flow_reader.specs.Queries.{query_state};
 ghost use Rattle.flow_reader.specs.Reading.{IsReadRefusal, StepsTo, IsStepRefusal, settled};
 
@@ -60,7 +60,7 @@ fn read_parts(
     text: &[u8],
     tokens: &[Token],
 ) -> Result<(), TextRefusal>
-    requires fresh { decls_of parts.old ≡ [] }
+    requires fresh { declared_so_far parts.old ≡ [] }
     requires spans { AreSpans 0 (length text.now) tokens.now }
     requires small { Each (IsSmall text.now) tokens.now }
     ensures ok { OnOk result (machine.read_script (symbols_of text.now tokens.now) ≡ machine.gives (said parts.new.script)) }
