@@ -13,14 +13,14 @@ use Rattle.flow_grammar.specs.Machine.{Wanted, Reading, gives, expected, is_too_
 use Rattle.flow_grammar.specs.Steps.{GoesByStep}
 use Rattle.flow_reader.specs.Symbols.{symbol_of, symbols_of}
 use Rattle.flow_reader.specs.Readers.{kind_of}
-use Rattle.flow_reader.specs.Reading.{place_of, settled, LeadsOn, IsStepRefusal, IsReadRefusal}
+use Rattle.flow_reader.specs.Reading.{place_of, settled, StepsTo, IsStepRefusal, IsReadRefusal}
 use Rattle.flow_reader.proofs.Within.{Within}
 
 -- what a step of the code comes to, in the machine's terms
 pub settled_step : {R E S : Type 0} (view : R → S) (step : S → Symbol → Option S) (depth : S → ℕ) (s : S) (t : Symbol)
     (made : Result (Option R) E) (deep : Bool) (place : ℕ) (kind : told.Wanted) (result : Result R TextRefusal) →
     IfOk made (λ next. option_map view next ≡ step s t) → deep ≡ is_too_deep t (depth s) → result ≡ settled made deep place kind →
-    IfOk result (λ r. LeadsOn step depth s t (view r))
+    IfOk result (λ r. StepsTo step depth s t (view r))
 settled_step view step depth s t (Err error) deep place kind result led counted e = rw e tt
 settled_step view step depth s t (Ok None) deep place kind result led counted e = rw e tt
 settled_step view step depth s t (Ok (Some r)) true place kind result led counted e = rw e tt
@@ -79,7 +79,7 @@ module _ {S V : Type 0} (step : S → Symbol → Option S) (finish : S → Optio
   deeper : (s next : S) (t : Symbol) → step s t ≡ Some next → depth next ≤ suc (depth s)
   deeper s next t e = subst (λ o. Within depth o (depth s)) e (within s t)
 
-  pub stands_next : (s next : S) (t : Token) (more : List Token) → LeadsOn step depth s (symbol_of text t) next → Here s (t ∷ more) → Here next more
+  pub stands_next : (s next : S) (t : Token) (more : List Token) → StepsTo step depth s (symbol_of text t) next → Here s (t ∷ more) → Here next more
   stands_next s next t more (led, shallow) h = record {
     passed = h.passed + 1;
     so_far = sym (by_step.at_step s next (symbol_of text t) (symbols_of text more) h.passed led shallow) ∙ h.so_far;

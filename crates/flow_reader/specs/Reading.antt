@@ -34,8 +34,8 @@ settled (Ok (Some next)) true place kind = Err (TooDeep place)
 settled (Ok (Some next)) false place kind = Ok next
 
 -- the symbol leads on, and does not stand too deep
-abbrev pub LeadsOn : {S : Type 0} → (S → Symbol → Option S) → (S → ℕ) → S → Symbol → S → Type 0
-LeadsOn step depth s t next = (step s t ≡ Some next) × (is_too_deep t (depth s) ≡ false)
+abbrev pub StepsTo : {S : Type 0} → (S → Symbol → Option S) → (S → ℕ) → S → Symbol → S → Type 0
+StepsTo step depth s t next = (step s t ≡ Some next) × (is_too_deep t (depth s) ≡ false)
 
 -- the refusal says why the symbol at the place does not
 abbrev pub IsStepRefusal : {S : Type 0} → (S → Symbol → Option S) → (S → Wanted) → (S → ℕ) → S → Symbol → ℕ → TextRefusal → Type 0

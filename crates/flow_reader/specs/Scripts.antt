@@ -16,8 +16,8 @@ use Rattle.flow_reader.specs.declared.scripts.FlowPlace.TheVariants as in_flow
 use Rattle.flow_reader.specs.declared.scripts.ScriptPlace as code_place
 use Rattle.flow_reader.specs.declared.scripts.ScriptPlace.TheVariants as place
 
-abbrev pub decls_of : ScriptParts → List Declared
-decls_of p = map declared p.script.decls.items
+abbrev pub declared_so_far : ScriptParts → List Declared
+declared_so_far p = map declared p.script.decls.items
 
 abbrev pub fact_state : List Declared → code_fact.FactPlace → machine.State
 fact_state ds in_fact.FactNeeded = machine.fact_to_declare ds
@@ -37,10 +37,10 @@ flow_state ds s (in_flow.EqualsNeeded n) = machine.equals_needed ds n
 flow_state ds s (in_flow.InGoal n g) = machine.in_flow ds n (goal_state s g)
 
 abbrev pub script_state : ScriptParts → code_place.ScriptPlace → machine.State
-script_state p place.DeclarationNeeded = machine.declaration_needed (decls_of p)
-script_state p (place.InFact f) = fact_state (decls_of p) f
-script_state p (place.InEvent e) = event_state (decls_of p) e
-script_state p (place.InFlow f) = flow_state (decls_of p) p.goals f
-script_state p (place.InGoal g) = machine.in_goal (decls_of p) (goal_state p.goals g)
-script_state p place.ConstraintNeeded = machine.constraint_needed (decls_of p) (said p.script).goal (said p.script).rules
-script_state p (place.InConstraint r) = machine.in_constraint (decls_of p) (said p.script).goal (said p.script).rules (rule_state p.rules r)
+script_state p place.DeclarationNeeded = machine.declaration_needed (declared_so_far p)
+script_state p (place.InFact f) = fact_state (declared_so_far p) f
+script_state p (place.InEvent e) = event_state (declared_so_far p) e
+script_state p (place.InFlow f) = flow_state (declared_so_far p) p.goals f
+script_state p (place.InGoal g) = machine.in_goal (declared_so_far p) (goal_state p.goals g)
+script_state p place.ConstraintNeeded = machine.constraint_needed (declared_so_far p) (said p.script).goal (said p.script).rules
+script_state p (place.InConstraint r) = machine.in_constraint (declared_so_far p) (said p.script).goal (said p.script).rules (rule_state p.rules r)

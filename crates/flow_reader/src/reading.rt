@@ -4,9 +4,9 @@ ghost use Rattle.flow_form.specs.Script.{said, asked};
 ghost use Rattle.flow_lex.specs.Tokens.{AreSpans, IsSmall};
 ghost use Rattle.flow_grammar.specs.Machine as machine;
 ghost use Rattle.flow_reader.specs.Symbols.{meant, symbols_of};
-ghost use Rattle.flow_reader.specs.Scripts.{decls_of, script_state};
+ghost use Rattle.flow_reader.specs.Scripts.{declared_so_far, script_state};
 ghost use Rattle.flow_reader.specs.Queries.{query_state};
-ghost use Rattle.flow_reader.specs.Reading.{IsReadRefusal, LeadsOn, IsStepRefusal, settled};
+ghost use Rattle.flow_reader.specs.Reading.{IsReadRefusal, StepsTo, IsStepRefusal, settled};
 
 use crate::queries::QueryPlace;
 use crate::rule_stack::RuleStack;
@@ -43,7 +43,7 @@ fn step_script(
     place: usize,
 ) -> Result<ScriptPlace, TextRefusal>
     requires { machine.depth_script (script_state parts.old reached) < 2 ^ 64 - 1 }
-    ensures ok { IfOk result (λ next. LeadsOn machine.step_script machine.depth_script
+    ensures ok { IfOk result (λ next. StepsTo machine.step_script machine.depth_script
         (script_state parts.old reached) (meant symbol.entry) (script_state parts.new next)) }
     ensures refused { IfErr result (λ refusal. IsStepRefusal machine.step_script machine.wanted_script machine.depth_script
         (script_state parts.old reached) (meant symbol.entry) place refusal) }
@@ -60,7 +60,7 @@ fn read_parts(
     text: &[u8],
     tokens: &[Token],
 ) -> Result<(), TextRefusal>
-    requires fresh { decls_of parts.old ≡ [] }
+    requires fresh { declared_so_far parts.old ≡ [] }
     requires spans { AreSpans 0 (length text.now) tokens.now }
     requires small { Each (IsSmall text.now) tokens.now }
     ensures ok { OnOk result (machine.read_script (symbols_of text.now tokens.now) ≡ machine.gives (said parts.new.script)) }
@@ -120,7 +120,7 @@ fn step_query(
     place: usize,
 ) -> Result<QueryPlace, TextRefusal>
     requires { machine.depth_query (query_state stack.old reached) < 2 ^ 64 - 1 }
-    ensures ok { IfOk result (λ next. LeadsOn machine.step_query machine.depth_query
+    ensures ok { IfOk result (λ next. StepsTo machine.step_query machine.depth_query
         (query_state stack.old reached) (meant symbol.entry) (query_state stack.new next)) }
     ensures refused { IfErr result (λ refusal. IsStepRefusal machine.step_query machine.wanted_query machine.depth_query
         (query_state stack.old reached) (meant symbol.entry) place refusal) }

@@ -92,6 +92,7 @@ fn end_rule(alloc: Global, stack: &mut RuleStack) -> Result<RuleStep, AllocError
     Ok(RuleStep::Whole(level.closed(alloc)?))
 }
 
+#[tactic(auto, using(crate::proofs::Heights::height_less))]
 fn close_parenthesis(alloc: Global, stack: &mut RuleStack) -> Result<RuleStep, AllocError>
     ensures { IfOk result (λ step. rule_step stack.new step
         ≡ machine.join_unit (rule_frames_of stack.old.frames.items) (rule_level_of stack.old.level) grammar_symbol.closing) }

@@ -8,7 +8,7 @@ ghost use Rattle.flow_reader.specs.Symbols.{meant};
 ghost use Rattle.flow_reader.specs.Readers.{kind_of};
 ghost use Rattle.flow_reader.specs.Goals.{goal_step};
 ghost use Rattle.flow_reader.specs.Rules.{rule_step};
-ghost use Rattle.flow_reader.specs.Scripts.{decls_of, fact_state, event_state, flow_state, script_state};
+ghost use Rattle.flow_reader.specs.Scripts.{declared_so_far, fact_state, event_state, flow_state, script_state};
 
 use crate::arguments::{ArgReader, ArgStep};
 use crate::goals::{GoalPlace, GoalStep};
@@ -69,7 +69,7 @@ pub enum ScriptPlace {
 impl ScriptParts {
     /// Nothing yet.
     pub fn new(alloc: Global) -> ScriptParts
-        ensures { decls_of result ≡ [] }
+        ensures { declared_so_far result ≡ [] }
     {
         ScriptParts {
             script: Script {
@@ -83,7 +83,7 @@ impl ScriptParts {
     }
 
     fn start_declaration(&mut self, alloc: Global, symbol: Symbol<'_>) -> Option<ScriptPlace>
-        ensures { option_map (script_state self.new) result ≡ machine.start_declaration (decls_of self.old) (meant symbol.entry) }
+        ensures { option_map (script_state self.new) result ≡ machine.start_declaration (declared_so_far self.old) (meant symbol.entry) }
     {
         match symbol {
             Symbol::Fact => Some(ScriptPlace::InFact(FactPlace::FactNeeded)),
@@ -98,7 +98,7 @@ impl ScriptParts {
     }
 
     fn join_fact(&self, symbol: Symbol<'_>) -> Option<ScriptPlace>
-        ensures { option_map (script_state self.now) result ≡ machine.join_item machine.fact_to_declare (decls_of self.now) (meant symbol.entry) }
+        ensures { option_map (script_state self.now) result ≡ machine.join_item machine.fact_to_declare (declared_so_far self.now) (meant symbol.entry) }
     {
         match symbol {
             Symbol::Comma => Some(ScriptPlace::InFact(FactPlace::FactNeeded)),
@@ -114,7 +114,7 @@ impl ScriptParts {
         symbol: Symbol<'_>,
     ) -> Result<Option<ScriptPlace>, AllocError>
         ensures { IfOk result (λ step. option_map (script_state self.new) step
-            ≡ machine.open_declared_args (decls_of self.old) relation (meant symbol.entry)) }
+            ≡ machine.open_declared_args (declared_so_far self.old) relation (meant symbol.entry)) }
     {
         match symbol {
             Symbol::Opening => {
@@ -136,7 +136,7 @@ impl ScriptParts {
         symbol: Symbol<'_>,
     ) -> Result<Option<ScriptPlace>, AllocError>
         ensures { IfOk result (λ step. option_map (script_state self.new) step
-            ≡ machine.step_script (fact_state (decls_of self.old) place) (meant symbol.entry)) }
+            ≡ machine.step_script (fact_state (declared_so_far self.old) place) (meant symbol.entry)) }
     {
         match place {
             FactPlace::FactNeeded => match symbol {
@@ -160,7 +160,7 @@ impl ScriptParts {
     }
 
     fn join_event(&self, symbol: Symbol<'_>) -> Option<ScriptPlace>
-        ensures { option_map (script_state self.now) result ≡ machine.join_item machine.event_to_declare (decls_of self.now) (meant symbol.entry) }
+        ensures { option_map (script_state self.now) result ≡ machine.join_item machine.event_to_declare (declared_so_far self.now) (meant symbol.entry) }
     {
         match symbol {
             Symbol::Comma => Some(ScriptPlace::InEvent(EventPlace::NameNeeded)),
@@ -175,7 +175,7 @@ impl ScriptParts {
         symbol: Symbol<'_>,
     ) -> Result<Option<ScriptPlace>, AllocError>
         ensures { IfOk result (λ step. option_map (script_state self.new) step
-            ≡ machine.note_event (decls_of self.old) event (meant symbol.entry)) }
+            ≡ machine.note_event (declared_so_far self.old) event (meant symbol.entry)) }
     {
         if let Symbol::Fail = symbol {
             return Ok(Some(ScriptPlace::InEvent(EventPlace::AfterFail(event))));
@@ -193,7 +193,7 @@ impl ScriptParts {
         symbol: Symbol<'_>,
     ) -> Result<Option<ScriptPlace>, AllocError>
         ensures { IfOk result (λ step. option_map (script_state self.new) step
-            ≡ machine.count_failures (decls_of self.old) event (meant symbol.entry)) }
+            ≡ machine.count_failures (declared_so_far self.old) event (meant symbol.entry)) }
     {
         match symbol {
             Symbol::Number(count) => {
@@ -215,7 +215,7 @@ impl ScriptParts {
         symbol: Symbol<'_>,
     ) -> Result<Option<ScriptPlace>, AllocError>
         ensures { IfOk result (λ step. option_map (script_state self.new) step
-            ≡ machine.step_script (event_state (decls_of self.old) place) (meant symbol.entry)) }
+            ≡ machine.step_script (event_state (declared_so_far self.old) place) (meant symbol.entry)) }
     {
         match place {
             EventPlace::NameNeeded => match symbol {
@@ -233,7 +233,7 @@ impl ScriptParts {
 
     fn after_flow(&mut self, flow: Name, step: GoalStep) -> Result<Option<ScriptPlace>, AllocError>
         ensures { IfOk result (λ made. option_map (script_state self.new) made
-            ≡ machine.after_flow_step (decls_of self.old) flow (goal_step self.old.goals step)) }
+            ≡ machine.after_flow_step (declared_so_far self.old) flow (goal_step self.old.goals step)) }
     {
         match step {
             GoalStep::Reading(goal) => Ok(Some(ScriptPlace::InFlow(FlowPlace::InGoal(flow, goal)))),
@@ -252,7 +252,7 @@ impl ScriptParts {
         symbol: Symbol<'_>,
     ) -> Result<Option<ScriptPlace>, AllocError>
         ensures { IfOk result (λ step. option_map (script_state self.new) step
-            ≡ machine.step_script (flow_state (decls_of self.old) self.old.goals place) (meant symbol.entry)) }
+            ≡ machine.step_script (flow_state (declared_so_far self.old) self.old.goals place) (meant symbol.entry)) }
     {
         match place {
             FlowPlace::NameNeeded => match symbol {
@@ -278,7 +278,7 @@ impl ScriptParts {
 
     fn after_goal(&mut self, alloc: Global, step: GoalStep) -> Option<ScriptPlace>
         ensures { option_map (script_state self.new) result
-            ≡ machine.after_goal_step (decls_of self.old) (goal_step self.old.goals step) }
+            ≡ machine.after_goal_step (declared_so_far self.old) (goal_step self.old.goals step) }
     {
         match step {
             GoalStep::Reading(goal) => Some(ScriptPlace::InGoal(goal)),
@@ -293,7 +293,7 @@ impl ScriptParts {
 
     fn after_constraint(&mut self, step: RuleStep) -> Result<Option<ScriptPlace>, AllocError>
         ensures { IfOk result (λ made. option_map (script_state self.new) made ≡ machine.after_rule_step
-            (decls_of self.old) (said self.old.script).goal (said self.old.script).rules (rule_step self.old.rules step)) }
+            (declared_so_far self.old) (said self.old.script).goal (said self.old.script).rules (rule_step self.old.rules step)) }
     {
         match step {
             RuleStep::Reading(rule) => Ok(Some(ScriptPlace::InConstraint(rule))),

@@ -11,13 +11,3 @@ pub overflow_sub-stack-2 : goal.overflow_sub-stack-2
 overflow_sub-stack-2 c =
     let cut : c.args.stack.now.frames.items ≡ c.pop.new.self.items ++ c.in-Some.frame ∷ [] = search rules in
     omega (arith, height_less c.args.stack.now.frames.items c.pop.new.self.items c.in-Some.frame c.args.stack.now.height cut c.args.stack.now.counted)
-
-pub invariant_of-stack-in-Break-1 : goal.invariant_of-stack-in-Break-1
-invariant_of-stack-in-Break-1 c =
-    let cut : c.args.stack.now.frames.items ≡ c.pop.new.self.items ++ c.in-Some.frame ∷ [] = search rules in
-    record { counted = omega (arith, height_less c.args.stack.now.frames.items c.pop.new.self.items c.in-Some.frame c.args.stack.now.height cut c.args.stack.now.counted) }
-
-pub invariant_of-stack-2 : goal.invariant_of-stack-2
-invariant_of-stack-2 c =
-    let cut : c.args.stack.now.frames.items ≡ c.pop.new.self.items ++ c.in-Some.frame ∷ [] = search rules in
-    record { counted = omega (arith, height_less c.args.stack.now.frames.items c.pop.new.self.items c.in-Some.frame c.args.stack.now.height cut c.args.stack.now.counted) }
