@@ -1,5 +1,5 @@
 -- The steps of building a goal of the pieces of a layout.
-use Rattle.std.proofs.Common.{◌≡◌, ℕ, ◌+◌, ◌<◌, List, [], ◌∷◌, ◌++◌, length, get_or, slice_get, Result, Ok, Err, IfOk, OnOk, Some, Bor, refl, sym, ap, ◌∙◌, subst}
+use Rattle.std.proofs.Common.{◌≡◌, ℕ, ◌<◌, List, [], ◌∷◌, ◌++◌, length, get_or, slice_get, Result, Ok, Err, IfOk, OnOk, Some, Bor, refl, sym, ap, ◌∙◌, subst}
 use Rattle.flow_model.specs.declared.labels.Label.TheVariants.{Event}
 use Rattle.flow_model.specs.Process.{Process, Empty, Task, Isolated}
 use Rattle.flow_facts.specs.Atom.{Atom}

@@ -6,7 +6,7 @@ use Rattle.std.proofs.lemmas.List.{append_assoc, map_more}
 use Rattle.flow_model.specs.Lists.{◌∈◌, Begins, Each}
 use Rattle.flow_laws.proofs.Members.{each_member, each_from_members}
 use Rattle.flow_facts.specs.Atom.{Atom}
-use Rattle.flow_form.specs.declared.form.Form.{Form, Nop, Test, Absent, Ins, Del, Iso, Serial, Beside, Either}
+use Rattle.flow_form.specs.declared.form.Form.{Form, Nop, Test, Absent, Ins, Del, Iso}
 use Rattle.flow_form.specs.declared.form.Form.TheOpen as open_form
 use Rattle.flow_form.specs.declared.form.Form.TheVariants.{rolls-Nop, rolls-Test, rolls-Absent, rolls-Ins, rolls-Del, rolls-Iso}
 use Rattle.flow_form.specs.declared.form.Form.TheFolds.{fold-roll-Form}

@@ -8,7 +8,7 @@ use Rattle.flow_form.specs.declared.rule_form.RuleForm.{RuleForm}
 use Rattle.flow_form.specs.Form.{Shape}
 use Rattle.flow_form.specs.RuleForm.{RuleShape, rule_shapes, rule_shape_of}
 use Rattle.flow_form.specs.Script.{Declared, flow, Said}
-use Rattle.flow_form.specs.Names.{names_in_rule, names_in_rules, declared_names, IsClosed}
+use Rattle.flow_form.specs.Names.{names_in_rule, names_in_rules, declared_names, event_names, IsClosed}
 use Rattle.flow_expand.specs.declared.directory.Directory.{Directory}
 use Rattle.flow_expand.specs.declared.layout.Piece.{Piece}
 use Rattle.flow_expand.specs.declared.layout.Root.{Root}
@@ -20,7 +20,9 @@ use Rattle.flow_expand.specs.Expansion.{Expansion, Becomes, ends_in, isolations_
 use Rattle.flow_expand.specs.Directory.{decls_of}
 use Rattle.flow_expand.specs.Laid.{IsLaid, IsLaidAt, IsReady, Goes}
 use Rattle.flow_expand.specs.Waiting.{IsFound}
-use Rattle.flow_expand.specs.Refusals.{flow_count, rule_name_count, IsFinite, IsFitting, IsRefusal, IsMeasured}
+use Rattle.flow_expand.specs.Refusals.{flow_count, rule_name_count, IsFinite, IsFitting, IsRefusal}
+use Rattle.flow_expand.specs.Layout.{IsPlaced}
+use Rattle.flow_expand.specs.Prepared.{IsPrepared}
 use Rattle.flow_expand.proofs.DirectoryLemmas.{flow_found, flows_below}
 use Rattle.flow_expand.proofs.LayLemmas.{ready}
 use Rattle.flow_expand.proofs.Declarations.{flow_place}
@@ -60,18 +62,48 @@ module _ (d : Directory) (laid : List Stage) (layout : List Piece) (h : IsLaid d
   pub all_ready : (ns : List (List ℕ)) → Each (λ n. n ∈ declared_names (decls_of d)) ns → Each (IsReady d laid) ns
   all_ready ns declared = ready d laid ns h.directory declared (λ n k m e. let (s, at) = flow_found d h.directory n k e in all k (flows_below d h.directory k n s at))
 
-  pub finite : (s : Said) → IsClosed s → decls_of d ≡ s.decls → flow_count s ≤ 256 → IsFinite s
-  finite s closed same few = record {
-    few = few;
-    ending = no_recursion s.decls closed.once (λ n t m. subst (λ ds. flow n t ∈ ds → (e : Expansion) × Becomes ds t e) same (becomes n t) m);
-  }
-    where
-      becomes : (n : List ℕ) (t : Shape) → flow n t ∈ decls_of d → (e : Expansion) × Becomes (decls_of d) t e
-      becomes n t m =
-          let (k, at) = flow_place (decls_of d) n t m in
-          let (root, there) = all k (flows_below d h.directory k n t at) in
-          let g = h.flows k root n t there at in
-          (g.expansion, g.becomes)
+  becomes : (n : List ℕ) (t : Shape) → flow n t ∈ decls_of d → (e : Expansion) × Becomes (decls_of d) t e
+  becomes n t m =
+      let (k, at) = flow_place (decls_of d) n t m in
+      let (root, there) = all k (flows_below d h.directory k n t at) in
+      let g = h.flows k root n t there at in
+      (g.expansion, g.becomes)
+
+  -- what the size and the count say of a goal that was laid
+  module _ (s : Said) (closed : IsClosed s) (same : decls_of d ≡ s.decls) (few : flow_count s ≤ 256) (after : List Piece) (root : Root) (g : Goes (decls_of d) after s.goal root)
+      (most : ℕ) (sized : most ≡ max root.size.ends root.size.isolations) where
+    finite : IsFinite s
+    finite = record {
+      few = few;
+      ending = no_recursion s.decls closed.once (λ n t m. subst (λ ds. flow n t ∈ ds → (e : Expansion) × Becomes ds t e) same (becomes n t) m);
+    }
+
+    goal_becomes : Becomes s.decls s.goal g.expansion
+    goal_becomes = subst (λ ds. Becomes ds s.goal g.expansion) same g.becomes
+
+    size : most ≡ capped (size_of g.expansion)
+    size = sized ∙ (λ t. max (g.is_root.sized t).ends (g.is_root.sized t).isolations) ∙ greater (ends_in g.expansion) (isolations_in g.expansion)
+      where
+        greater : (a b : ℕ) → max (capped a) (capped b) ≡ capped (max a b)
+        greater a b = omega arith
+
+    pub goal_refusal : (e : ExpandRefusal) → (1024 < most) × (e ≡ refusal.TooLarge part.Goal most) → IsRefusal s e
+    goal_refusal e (many, is) = subst (IsRefusal s) (sym is)
+        (record { finite = finite; expansion = g.expansion; becomes = goal_becomes; large = omega (arith, size, many); counted = size })
+
+    module _ (fits : most ≤ 1024) (count : ℕ) (counted : count ≡ capped (rule_name_count s)) where
+      fitting : IsFitting s g.expansion
+      fitting = record { finite = finite; becomes = goal_becomes; fits = omega (arith, size, fits) }
+
+      pub rules_refusal : (e : ExpandRefusal) → (8192 < count) × (e ≡ refusal.TooLarge part.Rules count) → IsRefusal s e
+      rules_refusal e (many, is) = subst (IsRefusal s) (sym is) (record { expansion = g.expansion; fitting = fitting; many = omega (arith, counted, many); counted = counted })
+
+      pub prepared : count ≤ 8192 → IsPrepared s after root
+      prepared few_names = record {
+        expansion = g.expansion;
+        measured = record { fitting = fitting; few_names = omega (arith, counted, few_names) };
+        placed = subst (λ ds. IsPlaced after (event_names ds) g.expansion root.place) same g.is_root.placed;
+      }
 
 -- refusals
 
@@ -81,43 +113,5 @@ found_refusal s decls (refusal.Recursive chain) same few h = record { few = few;
 found_refusal s decls (refusal.Twice found) same few h = absurd h
 found_refusal s decls refusal.NoMemory same few h = tt
 
--- a size that is capped is that of the goal
-abbrev pub IsSizeOf : Said → Expansion → ℕ → Type 0
-IsSizeOf s e most = Becomes s.decls s.goal e × (most ≡ capped (size_of e))
-
-pub goal_size : (s : Said) (decls : List Declared) (layout : List Piece) (root : Root) → decls ≡ s.decls → (g : Goes decls layout s.goal root) →
-    IsSizeOf s g.expansion (max root.size.ends root.size.isolations)
-goal_size s decls layout root same g = (
-  subst (λ ds. Becomes ds s.goal g.expansion) same g.becomes,
-  (λ t. max (g.is_root.sized t).ends (g.is_root.sized t).isolations) ∙ most (ends_in g.expansion) (isolations_in g.expansion),
-)
-  where
-    most : (a b : ℕ) → max (capped a) (capped b) ≡ capped (max a b)
-    most a b = omega arith
-
 pub flows_refusal : (s : Said) (count : ℕ) (e : ExpandRefusal) → count ≡ flow_count s → (256 < count) × (e ≡ refusal.TooLarge part.Flows count) → IsRefusal s e
 flows_refusal s count e same (many, is) = subst (IsRefusal s) (sym is) (record { many = subst (λ n. 256 < n) same many; counted = same })
-
-capped_over : (n most : ℕ) → most < capped n → most < n
-capped_over n most lt = omega arith
-
-capped_within : (n : ℕ) → capped n ≤ 1024 → n ≤ 1024
-capped_within n le = omega arith
-
-capped_names : (n : ℕ) → capped n ≤ 8192 → n ≤ 8192
-capped_names n le = omega arith
-
-pub goal_refusal : (s : Said) (g : Expansion) (count : ℕ) (e : ExpandRefusal) → IsFinite s → IsSizeOf s g count → (1024 < count) × (e ≡ refusal.TooLarge part.Goal count) → IsRefusal s e
-goal_refusal s g count e f (becomes, same) (many, is) = subst (IsRefusal s) (sym is)
-    (record { finite = f; expansion = g; becomes = becomes; large = capped_over (size_of g) 1024 (subst (λ n. 1024 < n) same many); counted = same })
-
-pub fitting : (s : Said) (g : Expansion) (most : ℕ) → IsFinite s → IsSizeOf s g most → most ≤ 1024 → IsFitting s g
-fitting s g most f (becomes, same) fits = record { finite = f; becomes = becomes; fits = capped_within (size_of g) (subst (λ n. n ≤ 1024) same fits) }
-
-pub rules_refusal : (s : Said) (g : Expansion) (count : ℕ) (e : ExpandRefusal) → IsFitting s g → count ≡ capped (rule_name_count s) →
-    (8192 < count) × (e ≡ refusal.TooLarge part.Rules count) → IsRefusal s e
-rules_refusal s g count e f counted (many, is) = subst (IsRefusal s) (sym is)
-    (record { expansion = g; fitting = f; many = capped_over (rule_name_count s) 8192 (subst (λ n. 8192 < n) counted many); counted = counted })
-
-pub measured : (s : Said) (g : Expansion) (count : ℕ) → IsFitting s g → count ≡ capped (rule_name_count s) → count ≤ 8192 → IsMeasured s g
-measured s g count f counted few = record { fitting = f; few_names = capped_names (rule_name_count s) (subst (λ n. n ≤ 8192) counted few) }
