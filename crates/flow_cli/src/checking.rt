@@ -15,14 +15,10 @@ fn check_workflow(alloc: Global, workflow: &Workflow) -> Result<Output, AllocErr
     ensures { IfOk result (λ output. ChecksWorkflow workflow.now output.status output.text.items) }
 {
     match compile(alloc, workflow.tree(), workflow.rules()) {
-        Ok(compiled) => {
-            let text = print_check(alloc, workflow, &compiled.counts());
-            drop(compiled);
-            Ok(Output {
-                status: Status::Fine,
-                text: text?,
-            })
-        }
+        Ok(compiled) => Ok(Output {
+            status: Status::Fine,
+            text: print_check(alloc, workflow, &compiled.counts())?,
+        }),
         Err(refusal) => refuse_workflow(alloc, refusal),
     }
 }

@@ -1,7 +1,7 @@
 -- The first line of a source, byte for byte.
 use Rattle.std.proofs.Common.{◌≡◌, ℕ, ◌+◌, ◌-◌, ◌≤◌, ◌<◌, suc, min, Bool, true, false, not, ltb, List, [], ◌∷◌, length, take, drop, refl, sym, ◌∙◌, ap, length-drop, one-add, arith, None, if◌then◌else◌}
 use Rattle.std.specs.Prelude.{◌==◌}
-use Rattle.std.specs.List.{position_or_len, position}
+use Rattle.std.specs.List.{position}
 use Rattle.std.proofs.lemmas.List.{take_rest, drop-drop}
 use Rattle.std.proofs.lemmas.List.Sums.{prefix_len-le-length}
 use Rattle.std.proofs.lemmas.List.Folds.{length-prefix_len}

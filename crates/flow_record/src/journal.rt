@@ -37,7 +37,11 @@ pub fn push_leaf_line(text: &mut Vec<u8>, workflow: &Workflow, leaf: u32) -> Res
 }
 
 /// Adds the label of a leaf to a text: an event's name, or what is asked of a fact or done to it.
-pub(crate) fn push_leaf_label(text: &mut Vec<u8>, workflow: &Workflow, leaf: u32) -> Result<(), AllocError>
+pub(crate) fn push_leaf_label(
+    text: &mut Vec<u8>,
+    workflow: &Workflow,
+    leaf: u32,
+) -> Result<(), AllocError>
     requires { IsLeaf workflow.now leaf }
     ensures { OnOk result (text.new.items ≡ text.old.items ++ leaf_text workflow.now leaf) }
 {

@@ -1,5 +1,5 @@
 -- What is listed of a run.
-use Rattle.std.proofs.Common.{◌≡◌, ◌∙◌, ℕ, zero, suc, ◌+◌, ◌<◌, ◌||◌, Bool, true, false, ◌==◌, if◌then◌else◌, List, [], ◌∷◌, length, Option, Some, None, slice_get, refl, sym, ap, inl, inr, subst, arith, true≢false}
+use Rattle.std.proofs.Common.{◌≡◌, ℕ, zero, suc, ◌+◌, ◌<◌, ◌||◌, Bool, true, false, ◌==◌, if◌then◌else◌, List, [], ◌∷◌, length, Option, Some, None, slice_get, refl, sym, inl, inr, subst, arith, true≢false}
 use Rattle.std.specs.Prelude.{All}
 use Rattle.std.specs.List.{list_any}
 use Rattle.std.proofs.lemmas.Bool.{eqb-true}
@@ -7,7 +7,7 @@ use Rattle.flow_model.specs.declared.labels.Label.{Label}
 use Rattle.flow_model.specs.declared.labels.Label.TheVariants.{Event, Test, Absent, Ins, Del}
 use Rattle.flow_model.specs.Facts.{State, state_with, after, after_leaf, replay}
 use Rattle.flow_model.specs.Lists.{◌∈◌, Each}
-use Rattle.flow_model.specs.Run.{CanTake, CanDoAside, IsStuck, Waits, RunState, current_leaves}
+use Rattle.flow_model.specs.Run.{CanDoAside, IsStuck, RunState, current_leaves}
 use Rattle.flow_model.specs.Schema.{Schema}
 use Rattle.flow_model.specs.Trace.{Trace}
 use Rattle.flow_model.specs.Verdict.{AreJust}

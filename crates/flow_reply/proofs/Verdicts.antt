@@ -6,7 +6,7 @@ use Rattle.flow_core.specs.Run.{Run}
 use Rattle.flow_reply.specs.declared.verdict.Verdict.{Verdict}
 use Rattle.flow_reply.specs.declared.verdict.Verdict.TheVariants.{NoOther, Stuck}
 use Rattle.flow_reply.specs.Reply.{IsStuckText}
-use Rattle.flow_reply.specs.Report.{Means, IsVerdictText}
+use Rattle.flow_reply.specs.Report.{IsVerdictText}
 
 pub no_other_text : (r : Run) (v : Verdict) (leaf : ℕ) (text : List ℕ) → v ≡ NoOther leaf → text ≡ codes "no-other " ++ decimal leaf → IsVerdictText r v text
 no_other_text r v leaf text is t = subst (λ v. IsVerdictText r v text) (sym is) (model.no_other leaf, refl, t)

@@ -50,5 +50,7 @@ fn print_counts(alloc: Global, counts: &Counts) -> Result<String, AllocError>
     let options = counts.options;
     let bulk = counts.bulk;
     let live = counts.live;
-    format!(in alloc; "resolutions {resolutions}\noptions {options}\nbulk {bulk}\nlive {live}\nconsistent\n")
+    format!(in alloc;
+        "resolutions {resolutions}\noptions {options}\nbulk {bulk}\nlive {live}\nconsistent\n"
+    )
 }

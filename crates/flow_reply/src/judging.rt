@@ -69,5 +69,8 @@ fn print_with_journal(
     let mut digits = Buffer::new();
     let count = digits.format(leaves.len());
     let journal = print_journal(alloc, workflow, leaves)?;
-    print_pieces(alloc, &[head, b"journal ", count.as_bytes(), b"\n", &journal])
+    print_pieces(
+        alloc,
+        &[head, b"journal ", count.as_bytes(), b"\n", &journal],
+    )
 }

@@ -11,5 +11,14 @@ pub fn print_numbered(alloc: Global, word: &str, number: u64) -> Result<Vec<u8>,
 {
     let mut digits = Buffer::new();
     let number = digits.format(number);
-    print_pieces(alloc, &[b"refused: ", word.as_bytes(), b" ", number.as_bytes(), b"\n"])
+    print_pieces(
+        alloc,
+        &[
+            b"refused: ",
+            word.as_bytes(),
+            b" ",
+            number.as_bytes(),
+            b"\n",
+        ],
+    )
 }

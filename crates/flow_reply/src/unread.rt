@@ -56,7 +56,10 @@ fn print_placed(alloc: Global, word: &str, place: usize) -> Result<Vec<u8>, Allo
     ensures { IfOk result (λ text. text.items ≡ word.now ++ codes " " ++ decimal place) }
 {
     let mut digits = Buffer::new();
-    print_pieces(alloc, &[word.as_bytes(), b" ", digits.format(place).as_bytes()])
+    print_pieces(
+        alloc,
+        &[word.as_bytes(), b" ", digits.format(place).as_bytes()],
+    )
 }
 
 /// Prints what was expected at a place.
@@ -65,7 +68,15 @@ fn print_expected(alloc: Global, kind: Wanted, place: usize) -> Result<Vec<u8>, 
 {
     let mut digits = Buffer::new();
     let place = digits.format(place);
-    print_pieces(alloc, &[b"expected ", kind_text(kind).as_bytes(), b" ", place.as_bytes()])
+    print_pieces(
+        alloc,
+        &[
+            b"expected ",
+            kind_text(kind).as_bytes(),
+            b" ",
+            place.as_bytes(),
+        ],
+    )
 }
 
 /// Prints what is wrong with the name at a place.
@@ -74,7 +85,10 @@ fn print_named(alloc: Global, word: &str, name: &Name, place: usize) -> Result<V
 {
     let mut digits = Buffer::new();
     let place = digits.format(place);
-    print_pieces(alloc, &[word.as_bytes(), b" ", name.bytes(), b" ", place.as_bytes()])
+    print_pieces(
+        alloc,
+        &[word.as_bytes(), b" ", name.bytes(), b" ", place.as_bytes()],
+    )
 }
 
 /// What a text needs, in words.

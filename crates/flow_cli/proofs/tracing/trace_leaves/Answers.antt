@@ -4,8 +4,8 @@ use Rattle.flow_rules.specs.Rule.{rules_of}
 use Rattle.flow_cli.proofs.Compiled.{refused_of_parts, compiled_of_parts}
 use Rattle.flow_cli.proofs.tracing.trace_leaves.Goals as goal
 
-pub check_trace-requires : goal.check_trace-requires
-check_trace-requires c =
+pub check_trace-checked-requires : goal.check_trace-checked-requires
+check_trace-checked-requires c =
     compiled_of_parts c.args.workflow.now c.tree.result.now (rules_of c.rules.result.now) c.tree.ensures.tree c.rules.ensures c.in-Ok.compiled c.in-Ok.ensures.ok
 
 pub returns-in_ok-print_checked-in-Ok : goal.returns-in_ok-print_checked-in-Ok

@@ -4,4 +4,4 @@ use Rattle.flow_cli.proofs.verifying.verify_script.Goals as goal
 
 pub returns-in-Ok : goal.returns-in-Ok
 returns-in-Ok c =
-    IfOk-weaker c.verify_workflow.result _ _ (λ output answers. inr (c.in-Ok.workflow, c.in-Ok.ensures.ok, answers)) c.verify_workflow.ensures
+    IfOk-weaker c.verify_workflow-output.result _ _ (λ output answers. inr (c.in-Ok.workflow, c.in-Ok.ensures.ok, answers)) c.verify_workflow-output.ensures

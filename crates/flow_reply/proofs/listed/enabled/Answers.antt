@@ -1,4 +1,4 @@
-use Rattle.std.proofs.Common.{◌≡◌, ◌<◌, ◌+◌, ℕ, [], ◌∷◌, ◌++◌, ◌∙◌, length, sym, subst, true≢false, arith, rules}
+use Rattle.std.proofs.Common.{◌≡◌, ◌<◌, ◌+◌, [], ◌∷◌, ◌++◌, ◌∙◌, length, sym, subst, true≢false, arith, rules}
 use Rattle.flow_model.specs.Verdict.{AreJust}
 use Rattle.flow_core.specs.Looks.{CanAct}
 use Rattle.flow_reply.proofs.Runs.{act_within}

@@ -1,4 +1,4 @@
-use Rattle.std.proofs.Common.{◌≡◌, ◌<◌, ◌+◌, ℕ, [], ◌∷◌, ◌++◌, length, subst, true≢false, sym, ◌∙◌, arith, rules}
+use Rattle.std.proofs.Common.{◌≡◌, ◌<◌, ◌+◌, [], ◌∷◌, ◌++◌, length, subst, true≢false, sym, ◌∙◌, arith, rules}
 use Rattle.flow_model.specs.Lists.{Each}
 use Rattle.flow_model.specs.Verdict.{AreJust}
 use Rattle.flow_workflow.specs.Definition.{Definition}

@@ -1,8 +1,6 @@
 use Rattle.std.proofs.Common.{◌<◌, ℕ, List, [], length, subst, sym}
 use Rattle.std.proofs.Common.{append-nil}
 use Rattle.std.specs.Prelude.{All}
-use Rattle.flow_model.specs.declared.history.Entry.{Entry}
-use Rattle.flow_model.specs.Run.{state_of}
 use Rattle.flow_laws.specs.Histories.{IsSound}
 use Rattle.flow_laws.specs.Words.{IsWellFormed}
 use Rattle.flow_core.specs.Run.{schema, now}

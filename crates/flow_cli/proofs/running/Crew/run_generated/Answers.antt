@@ -8,9 +8,9 @@ pub returns-clause-writes : goal.returns-clause-writes
 returns-clause-writes g c = (
   c.in_ok-workflow.workflow,
   c.in_ok-workflow.ensures,
-  summarizes g.G.Gate.gives c.in_ok-workflow.workflow c.args.seed c.args.size c.args.self.now.steps c.args.self.now.workers c.in_ok-compiled.compiled
+  summarizes g.G.Gate.gives c.in_ok-workflow.workflow c.args.seed c.args.size c.args.self.now.steps c.args.self.now.workers c.in-Ok.compiled
       c.in_ok-core.core c.in_ok-core.verdict c.counts-counts.result c.summary_of-summary.result c.status_of.result
-      c.in_ok-text.field-0.items c.in_ok-compiled.ensures c.counts-counts.ensures.live c.in_ok-core.ensures
+      c.in_ok-text.field-0.items c.in-Ok.ensures c.counts-counts.ensures.live c.in_ok-core.ensures
       c.counts-counts.ensures.counts c.summary_of-summary.ensures c.status_of.ensures c.in_ok-text.ensures,
 )
 

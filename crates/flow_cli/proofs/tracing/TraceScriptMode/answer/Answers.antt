@@ -5,8 +5,8 @@ use Rattle.flow_cli.proofs.tracing.TraceScriptMode.answer.Goals as goal
 
 pub returns-in-Ok-clause-writes : goal.returns-in-Ok-clause-writes
 returns-in-Ok-clause-writes c =
-    IfOk-weaker c.trace_workflow.result _ _ (λ output traces. inr (c.in-Ok.workflow, c.in-Ok.ensures.ok, traces)) c.trace_workflow.ensures
+    IfOk-weaker c.trace_workflow-output.result _ _ (λ output traces. inr (c.in-Ok.workflow, c.in-Ok.ensures.ok, traces)) c.trace_workflow-output.ensures
 
 pub returns-in-Ok-clause-of_input : goal.returns-in-Ok-clause-of_input
 returns-in-Ok-clause-of_input c =
-    IfOk-weaker c.trace_workflow.result _ _ (λ output. traces_of_input c.in-Ok.workflow c.args.text.now output.status output.text.items) c.trace_workflow.ensures
+    IfOk-weaker c.trace_workflow-output.result _ _ (λ output. traces_of_input c.in-Ok.workflow c.args.text.now output.status output.text.items) c.trace_workflow-output.ensures

@@ -6,8 +6,8 @@ use Rattle.flow_cli.proofs.verifying.VerifyScriptMode.answer.Goals as goal
 
 pub returns-in-Ok-clause-writes : goal.returns-in-Ok-clause-writes
 returns-in-Ok-clause-writes c =
-    IfOk-weaker c.verify_script.result _ _ (λ output answers. inr (asked c.in-Ok.query, c.in-Ok.ensures.ok, answers)) c.verify_script.ensures
+    IfOk-weaker c.verify_script-output.result _ _ (λ output answers. inr (asked c.in-Ok.query, c.in-Ok.ensures.ok, answers)) c.verify_script-output.ensures
 
 pub returns-in-Ok-clause-of_input : goal.returns-in-Ok-clause-of_input
 returns-in-Ok-clause-of_input c =
-    IfOk-weaker c.verify_script.result _ _ (λ output. verifies_of_input (said c.args.script.now) (asked c.in-Ok.query) output.status output.text.items) c.verify_script.ensures
+    IfOk-weaker c.verify_script-output.result _ _ (λ output. verifies_of_input (said c.args.script.now) (asked c.in-Ok.query) output.status output.text.items) c.verify_script-output.ensures
