@@ -32,7 +32,6 @@ use Rattle.flow_reply.specs.Judging.{checked_text}
 use Rattle.flow_reply.specs.Reply.{IsReply}
 use Rattle.flow_reply.specs.Report.{Means, IsReport}
 use Rattle.flow_reply.proofs.OneReply.{one_reply, one_report}
-use Rattle.flow_cli.specs.declared.status.Status.{Status}
 use Rattle.flow_cli.specs.Drive.{driver, Answers, RepliesTo, Drives}
 use Rattle.flow_cli.specs.Checking.{IsFoundConsistent}
 use Rattle.flow_cli.specs.Driving.{start_of, ended, Records}
