@@ -60,6 +60,7 @@ impl Compiled {
         ensures counts { result ≡ self.now.counts }
         ensures live { self.now.counts.live ≡ length self.now.plans }
     {
+        // what the type keeps of its plans
         let _plans = &self.plans;
         self.counts
     }

@@ -58,6 +58,7 @@ fn compile_by(
     ensures refused { (these : List Constraint) → HasWaysOf (normal_in rules.now) (all_of these) → IfErr result (IsRefused (schema_of tree.now these)) }
     ensures ok { (these : List Constraint) → HasWaysOf (normal_in rules.now) (all_of these) → IfOk result (IsCompiled (schema_of tree.now these)) }
 {
+    // what the type keeps of its leaves
     let _leaves = tree.leaves();
     let counted = match few_options(alloc, tree, choices, rules) {
         Ok(counted) => counted,

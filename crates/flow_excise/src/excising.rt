@@ -71,6 +71,7 @@ pub fn excise(alloc: Global, plan: Plan) -> Result<KnotFree, ExciseRefusal>
     ensures executed { IsOk result → HasExecution (option_of plan) }
     ensures circle { IfErr result (IsReasonAgainst (option_of plan)) }
 {
+    // what the type keeps of its tokens
     let _tokens = plan.tokens();
     match run_of_plan(alloc, &plan) {
         Ok(run) => Ok(KnotFree::new(plan, run)),

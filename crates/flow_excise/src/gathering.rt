@@ -68,6 +68,7 @@ impl Gathering {
             (λ _. ReadsMark plan.now Leaf self.old self.new)
             (TellsCircle plan.now.process (pairs_of plan.now.tokens)) }
     {
+        // what the type keeps of its tokens
         let _tokens = plan.tokens();
         if let Some(leaf) = leaf_in_place(plan, self.place) {
             self.items.push(Item::of_leaf(alloc, plan, leaf)?)?;

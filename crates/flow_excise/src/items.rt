@@ -15,6 +15,7 @@ pub(crate) fn items_of_plan(alloc: Global, plan: &Plan) -> Result<Vec<Item>, Exc
         (λ items. AreItemsOf plan.now.process (pairs_of plan.now.tokens) (items_of plan.now.process) items.items)
         (TellsCircle plan.now.process (pairs_of plan.now.tokens)) }
 {
+    // what the type keeps of its leaves and tokens
     let _leaves = plan.leaves();
     let _tokens = plan.tokens();
     let mut gathering = Gathering::new(alloc);

@@ -35,6 +35,7 @@ fn sift(
         (λ _. Sifts (record { resolution = number; way = way; option = option_with resolution.now.process order.now } ∷ []) sieve.old sieve.new)
         (λ e. e ≡ NoMemory) }
 {
+    // what the type keeps of its leaves
     let _leaves = resolution.leaves();
     let plan = weave(alloc, resolution, order)?;
     match excise(alloc, plan) {

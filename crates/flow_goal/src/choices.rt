@@ -230,6 +230,7 @@ impl Choices {
         ensures resolution { IfOk result (λ q. slice_get (Resolution.resolutions tree.now.process) number ≡ Some q.process) }
         ensures leaves { IfOk result (λ q. q.leaves ≡ Process.leaves q.process) }
     {
+        // what the type keeps of its leaves
         let _leaves = tree.leaves();
         resolved(alloc, &self.sides, tree.goal(), number)
     }

@@ -24,6 +24,7 @@ fn simplified(alloc: Global, goal: &Choiceless) -> Result<Choiceless, AllocError
     ensures process { IfOk result (λ new. IsSimplified goal.now.process new.process) }
     ensures leaves { IfOk result (λ new. new.leaves ≡ goal.now.leaves) }
 {
+    // what the type keeps of its leaves
     let _leaves = goal.leaves();
     let whole = goal.goal(alloc)?;
     let tree = shaped(alloc, Shape::Simple, &whole);

@@ -54,6 +54,7 @@ pub(crate) fn before_rows(
     ensures { IfOk result (λ rows.
         AreRowsOf (DirectlyBefore goal.now.process (pairs_of tokens.now)) goal.now.leaves rows.items) }
 {
+    // what the type keeps of its leaves
     let _leaves = goal.leaves();
     let mut rows = sequence_rows(alloc, goal)?;
     add_senders(goal, tokens, &mut rows);

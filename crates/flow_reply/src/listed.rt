@@ -79,6 +79,7 @@ pub fn held(alloc: Global, core: &Core) -> Result<Vec<u32>, AllocError>
 {
     // both together tell that no fact past the count holds
     let workflow = core.workflow();
+    // what the workflow keeps of its facts and leaves
     let _ = workflow.held();
     let _ = workflow.tree();
     let mut facts = Vec::new(alloc);

@@ -16,6 +16,7 @@ pub(crate) fn no_fronts(alloc: Global, plans: &[KnotFree]) -> Result<Vec<usize>,
 {
     let mut fronts = Vec::with_capacity(alloc, plans.len())?;
     for plan in plans {
+        // what the type keeps of its leaves
         let _leaves = plan.plan().leaves();
         fronts.push(0)?;
     }

@@ -18,6 +18,7 @@ pub fn all_live(alloc: Global, plans: &[KnotFree]) -> Result<Vec<bool>, AllocErr
 {
     let mut live = Vec::with_capacity(alloc, plans.len())?;
     for plan in plans {
+        // what the type keeps of its leaves
         let _leaves = plan.plan().leaves();
         live.push(true)?;
     }

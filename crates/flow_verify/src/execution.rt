@@ -37,6 +37,7 @@ pub(crate) fn good_execution(
     ensures within { OnOk result (IsWithinLimits (schema_of tree.now (rules_of rules.now))) }
     ensures refused { IfErr result (IsRefused (schema_of tree.now (rules_of rules.now))) }
 {
+    // what the type keeps of its leaves
     let _leaves = tree.leaves();
     match compile(alloc, tree, rules) {
         Ok(compiled) => Ok(Some(first_sample(alloc, &compiled)?)),

@@ -118,6 +118,7 @@ impl Workflow {
         ensures small { length self.now.tree.labels ≤ 1024 }
         ensures well_formed { IsWellFormed (schema_of self.now) }
     {
+        // what the type keeps of its leaves
         let _leaves = self.tree.leaves();
         &self.tree
     }
