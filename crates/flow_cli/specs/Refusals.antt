@@ -20,6 +20,7 @@ status_of_compiling (TooManyChoices count) = Input
 status_of_compiling (TooManyWays count) = Input
 status_of_compiling (TooBulky count) = Input
 status_of_compiling (Inconsistent dropped) = No
+-- (never told: want of memory has ended the call by then, with a status of its own)
 status_of_compiling NoMemory = Input
 
 abbrev pub status_of : Refused → Status

@@ -19,7 +19,7 @@ use Rattle.flow_core.specs.declared.refusal.RewindRefusal.{RewindRefusal}
 use Rattle.flow_core.specs.declared.refusal.RewindRefusal.TheVariants as rewind
 use Rattle.flow_core.specs.declared.refusal.CommitRefusal.{CommitRefusal}
 use Rattle.flow_core.specs.declared.refusal.CommitRefusal.TheVariants as commit
-use Rattle.flow_core.specs.Run.{Run, schema, now, with_entry, GoesOn}
+use Rattle.flow_core.specs.Run.{Run, schema, now, with_entry, IsUncommitted}
 use Rattle.flow_core.specs.Answers.{IsOver, next_claim, Takes, Performs, IsAnswered, IsUnanswered, IsLateOf, PostsDone, PostsFailed, Rewinds, Commits, IsLeastCurrent}
 use Rattle.flow_core.proofs.Calls.{event_below}
 use Rattle.flow_core.proofs.Standings.{unanswered_current}
@@ -27,7 +27,7 @@ use Rattle.flow_core.proofs.Waiting.{left_in}
 
 -- ---- what cannot be both
 
-pub not_over : (r : Run) → IsOver r → GoesOn r → ⊥
+pub not_over : (r : Run) → IsOver r → IsUncommitted r → ⊥
 not_over r over going = true≢false (sym over ∙ going)
 
 unit_same : (a b : Unit {0}) → a ≡ b

@@ -20,7 +20,7 @@ use Rattle.flow_core.specs.declared.refusal.RewindRefusal.{RewindRefusal}
 use Rattle.flow_core.specs.declared.refusal.RewindRefusal.TheVariants as rewind
 use Rattle.flow_core.specs.declared.refusal.CommitRefusal.{CommitRefusal}
 use Rattle.flow_core.specs.declared.refusal.CommitRefusal.TheVariants as commit
-use Rattle.flow_core.specs.Run.{Run, schema, now, with_entry, GoesOn, HasSteps}
+use Rattle.flow_core.specs.Run.{Run, schema, now, with_entry, IsUncommitted, HasEntryLeft}
 
 -- the run is over
 abbrev pub IsOver : Run → Type 0
@@ -28,7 +28,7 @@ IsOver r = (now r).committed ≡ true
 
 -- all steps are spent
 abbrev pub IsSpent : Run → ℕ → Type 0
-IsSpent r limit = ¬ (HasSteps r) × (limit ≡ r.limit)
+IsSpent r limit = ¬ (HasEntryLeft r) × (limit ≡ r.limit)
 
 -- the number of the next claim
 abbrev pub next_claim : Run → ℕ
@@ -37,27 +37,27 @@ next_claim r = length (now r).claims + 1
 -- a claim on the leaf is asked for
 abbrev pub Takes : Run → ℕ → ℕ → Result Call TakeRefusal → Run → Type 0
 Takes r leaf by (Err take.Closed) after = IsOver r × (after ≡ r)
-Takes r leaf by (Err take.NoLeaf) after = GoesOn r × (length (schema r).labels ≤ leaf) × (after ≡ r)
-Takes r leaf by (Err take.WrongKind) after = GoesOn r × IsOtherLeaf (schema r) leaf × (after ≡ r)
-Takes r leaf by (Err (take.Spent limit)) after = GoesOn r × IsEventLeaf (schema r) leaf × IsSpent r limit × (after ≡ r)
+Takes r leaf by (Err take.NoLeaf) after = IsUncommitted r × (length (schema r).labels ≤ leaf) × (after ≡ r)
+Takes r leaf by (Err take.WrongKind) after = IsUncommitted r × IsOtherLeaf (schema r) leaf × (after ≡ r)
+Takes r leaf by (Err (take.Spent limit)) after = IsUncommitted r × IsEventLeaf (schema r) leaf × IsSpent r limit × (after ≡ r)
 Takes r leaf by (Err take.NotEnabled) after =
-    GoesOn r × IsEventLeaf (schema r) leaf × HasSteps r × ¬ (CanTake (schema r) (now r) leaf) × (after ≡ r)
+    IsUncommitted r × IsEventLeaf (schema r) leaf × HasEntryLeft r × ¬ (CanTake (schema r) (now r) leaf) × (after ≡ r)
 Takes r leaf by (Ok call) after =
-    GoesOn r × HasSteps r × CanTake (schema r) (now r) leaf × (after ≡ with_entry r by (Took (next_claim r) leaf))
+    IsUncommitted r × HasEntryLeft r × CanTake (schema r) (now r) leaf × (after ≡ with_entry r by (Took (next_claim r) leaf))
     × (call ≡ call_of (schema r) (now after) (next_claim r))
 
 -- the leaf of a test, an absence, an insertion or a deletion is to be done
 abbrev pub Performs : Run → ℕ → ℕ → Result (Unit {0}) DoRefusal → Run → Type 0
 Performs r leaf by (Err perform.Closed) after = IsOver r × (after ≡ r)
-Performs r leaf by (Err perform.NoLeaf) after = GoesOn r × (length (schema r).labels ≤ leaf) × (after ≡ r)
-Performs r leaf by (Err perform.WrongKind) after = GoesOn r × IsEventLeaf (schema r) leaf × (after ≡ r)
-Performs r leaf by (Err (perform.Spent limit)) after = GoesOn r × IsOtherLeaf (schema r) leaf × IsSpent r limit × (after ≡ r)
+Performs r leaf by (Err perform.NoLeaf) after = IsUncommitted r × (length (schema r).labels ≤ leaf) × (after ≡ r)
+Performs r leaf by (Err perform.WrongKind) after = IsUncommitted r × IsEventLeaf (schema r) leaf × (after ≡ r)
+Performs r leaf by (Err (perform.Spent limit)) after = IsUncommitted r × IsOtherLeaf (schema r) leaf × IsSpent r limit × (after ≡ r)
 Performs r leaf by (Err perform.NotEnabled) after =
-    GoesOn r × IsOtherLeaf (schema r) leaf × HasSteps r × ¬ (CanDoAside (schema r) (now r) leaf) × (after ≡ r)
+    IsUncommitted r × IsOtherLeaf (schema r) leaf × HasEntryLeft r × ¬ (CanDoAside (schema r) (now r) leaf) × (after ≡ r)
 Performs r leaf by (Err perform.TestFalse) after =
-    GoesOn r × HasSteps r × CanDoAside (schema r) (now r) leaf × ¬ (HoldsAt (schema r).labels (database (schema r) (now r)) leaf) × (after ≡ r)
+    IsUncommitted r × HasEntryLeft r × CanDoAside (schema r) (now r) leaf × ¬ (HoldsAt (schema r).labels (database (schema r) (now r)) leaf) × (after ≡ r)
 Performs r leaf by (Ok _) after =
-    GoesOn r × HasSteps r × CanDoAside (schema r) (now r) leaf × HoldsAt (schema r).labels (database (schema r) (now r)) leaf
+    IsUncommitted r × HasEntryLeft r × CanDoAside (schema r) (now r) leaf × HoldsAt (schema r).labels (database (schema r) (now r)) leaf
     × (after ≡ with_entry r by (Did leaf))
 
 -- the claim was given and is answered
@@ -75,16 +75,16 @@ IsLateOf s number of = (of < s.epoch) × IsSomeAnd (claim_at s number) (λ (clai
 -- why no result is posted for the claim; one that comes too late is told, and counts for nothing
 abbrev pub PostIsRefused : Run → ℕ → ℕ → PostRefusal → Run → Type 0
 PostIsRefused r claim by post.Closed after = IsOver r × (after ≡ r)
-PostIsRefused r claim by post.NoClaim after = GoesOn r × (claim_at (now r) claim ≡ None) × (after ≡ r)
-PostIsRefused r claim by post.Answered after = GoesOn r × IsAnswered (now r) claim × (after ≡ r)
-PostIsRefused r claim by (post.Spent limit) after = GoesOn r × IsUnanswered (now r) claim × IsSpent r limit × (after ≡ r)
+PostIsRefused r claim by post.NoClaim after = IsUncommitted r × (claim_at (now r) claim ≡ None) × (after ≡ r)
+PostIsRefused r claim by post.Answered after = IsUncommitted r × IsAnswered (now r) claim × (after ≡ r)
+PostIsRefused r claim by (post.Spent limit) after = IsUncommitted r × IsUnanswered (now r) claim × IsSpent r limit × (after ≡ r)
 PostIsRefused r claim by (post.Late of at) after =
-    GoesOn r × HasSteps r × IsLateOf (now r) claim of × (at ≡ (now r).epoch) × (after ≡ with_entry r by (Late claim))
+    IsUncommitted r × HasEntryLeft r × IsLateOf (now r) claim of × (at ≡ (now r).epoch) × (after ≡ with_entry r by (Late claim))
 
 -- the claim's task succeeded
 abbrev pub PostsDone : Run → ℕ → ℕ → Result (Unit {0}) PostRefusal → Run → Type 0
 PostsDone r claim by (Err refusal) after = PostIsRefused r claim by refusal after
-PostsDone r claim by (Ok _) after = GoesOn r × HasSteps r × IsCurrent (now r) claim × (after ≡ with_entry r by (Done claim))
+PostsDone r claim by (Ok _) after = IsUncommitted r × HasEntryLeft r × IsCurrent (now r) claim × (after ≡ with_entry r by (Done claim))
 
 -- some execution goes on from the journal without the claim's leaf, or none does
 abbrev pub HasEffect : Run → ℕ → FailEffect → Type 0
@@ -95,14 +95,14 @@ HasEffect r claim Kept = (t : List ℕ) → IsFree (schema r) (now r) t → leaf
 abbrev pub PostsFailed : Run → ℕ → ℕ → Result FailEffect PostRefusal → Run → Type 0
 PostsFailed r claim by (Err refusal) after = PostIsRefused r claim by refusal after
 PostsFailed r claim by (Ok effect) after =
-    GoesOn r × HasSteps r × IsCurrent (now r) claim × HasEffect r claim effect × (after ≡ with_entry r by (Failed claim effect))
+    IsUncommitted r × HasEntryLeft r × IsCurrent (now r) claim × HasEffect r claim effect × (after ≡ with_entry r by (Failed claim effect))
 
 -- the run is to go back to the last place at which another choice is still free
 abbrev pub Rewinds : Run → ℕ → Result ℕ RewindRefusal → Run → Type 0
 Rewinds r by (Err rewind.Closed) after = IsOver r × (after ≡ r)
-Rewinds r by (Err (rewind.Spent limit)) after = GoesOn r × IsSpent r limit × (after ≡ r)
-Rewinds r by (Err rewind.NoChoice) after = GoesOn r × HasSteps r × ((i : ℕ) → ¬ (IsOpen (schema r) (now r) i)) × (after ≡ r)
-Rewinds r by (Ok index) after = GoesOn r × HasSteps r × IsOpenIndex (schema r) (now r) index × (after ≡ with_entry r by (Rewound index))
+Rewinds r by (Err (rewind.Spent limit)) after = IsUncommitted r × IsSpent r limit × (after ≡ r)
+Rewinds r by (Err rewind.NoChoice) after = IsUncommitted r × HasEntryLeft r × ((i : ℕ) → ¬ (IsOpen (schema r) (now r) i)) × (after ≡ r)
+Rewinds r by (Ok index) after = IsUncommitted r × HasEntryLeft r × IsOpenIndex (schema r) (now r) index × (after ≡ with_entry r by (Rewound index))
 
 -- it is the least of the current claims
 abbrev pub IsLeastCurrent : RunState → ℕ → Type 0
@@ -111,9 +111,9 @@ IsLeastCurrent s number = IsCurrent s number × ((other : ℕ) → IsCurrent s o
 -- the run is to end
 abbrev pub Commits : Run → ℕ → Result (Unit {0}) CommitRefusal → Run → Type 0
 Commits r by (Err commit.Closed) after = IsOver r × (after ≡ r)
-Commits r by (Err (commit.Spent limit)) after = GoesOn r × IsSpent r limit × (after ≡ r)
-Commits r by (Err (commit.ClaimsOut claim)) after = GoesOn r × HasSteps r × IsLeastCurrent (now r) claim × (after ≡ r)
+Commits r by (Err (commit.Spent limit)) after = IsUncommitted r × IsSpent r limit × (after ≡ r)
+Commits r by (Err (commit.ClaimsOut claim)) after = IsUncommitted r × HasEntryLeft r × IsLeastCurrent (now r) claim × (after ≡ r)
 Commits r by (Err commit.Unfinished) after =
-    GoesOn r × HasSteps r × (current_claims (now r) ≡ []) × ¬ (IsGood (schema r) (now r).journal) × (after ≡ r)
+    IsUncommitted r × HasEntryLeft r × (current_claims (now r) ≡ []) × ¬ (IsGood (schema r) (now r).journal) × (after ≡ r)
 Commits r by (Ok _) after =
-    GoesOn r × HasSteps r × (current_claims (now r) ≡ []) × IsGood (schema r) (now r).journal × (after ≡ with_entry r by Committed)
+    IsUncommitted r × HasEntryLeft r × (current_claims (now r) ≡ []) × IsGood (schema r) (now r).journal × (after ≡ with_entry r by Committed)

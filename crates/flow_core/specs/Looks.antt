@@ -4,7 +4,7 @@ use Rattle.flow_model.specs.Schema.{IsGood}
 use Rattle.flow_model.specs.Run.{current_claims, CanTake, CanDo, IsStuck, Waits}
 use Rattle.flow_core.specs.declared.next.Next.{Next}
 use Rattle.flow_core.specs.declared.next.Next.TheVariants.{Act, Wait, Finished, Stuck, Ended}
-use Rattle.flow_core.specs.Run.{Run, schema, now, GoesOn}
+use Rattle.flow_core.specs.Run.{Run, schema, now, IsUncommitted}
 use Rattle.flow_core.specs.Answers.{IsOver, IsLeastCurrent}
 
 -- it has P, and no lesser number has
@@ -17,7 +17,7 @@ CanStep r leaf = CanTake (schema r) (now r) leaf ⊎ CanDo (schema r) (now r) le
 
 -- the run is not over, and the leaf can be taken or done
 abbrev pub CanAct : Run → ℕ → Type 0
-CanAct r leaf = GoesOn r × CanStep r leaf
+CanAct r leaf = IsUncommitted r × CanStep r leaf
 
 -- nothing is left but tests and absences that are false now, and the leaf is one of them
 abbrev pub IsWaiting : Run → ℕ → Type 0
@@ -31,6 +31,6 @@ NoneCanAct r = (leaf : ℕ) → ¬ (CanAct r leaf)
 abbrev pub IsNext : Run → Next → Type 0
 IsNext r Ended = IsOver r
 IsNext r (Act leaf) = IsLeast (CanAct r) leaf
-IsNext r (Wait claim) = GoesOn r × NoneCanAct r × IsLeastCurrent (now r) claim
-IsNext r Finished = GoesOn r × NoneCanAct r × (current_claims (now r) ≡ []) × IsGood (schema r) (now r).journal
+IsNext r (Wait claim) = IsUncommitted r × NoneCanAct r × IsLeastCurrent (now r) claim
+IsNext r Finished = IsUncommitted r × NoneCanAct r × (current_claims (now r) ≡ []) × IsGood (schema r) (now r).journal
 IsNext r (Stuck leaf) = IsLeast (IsWaiting r) leaf

@@ -32,9 +32,9 @@ abbrev pub with_entry : Run → ℕ → Step → Run
 with_entry r by step = record r { history = r.history ++ record { by = by; step = step } ∷ [] }
 
 -- the run is not over
-abbrev pub GoesOn : Run → Type 0
-GoesOn r = (now r).committed ≡ false
+abbrev pub IsUncommitted : Run → Type 0
+IsUncommitted r = (now r).committed ≡ false
 
 -- there is room for one entry more
-abbrev pub HasSteps : Run → Type 0
-HasSteps r = length r.history < r.limit
+abbrev pub HasEntryLeft : Run → Type 0
+HasEntryLeft r = length r.history < r.limit

@@ -6,7 +6,7 @@ use Rattle.flow_model.specs.Verdict.{attempts}
 use Rattle.flow_claims.specs.declared.given.Given.{Given}
 use Rattle.flow_claims.specs.Given.{claim_of}
 use Rattle.flow_core.specs.declared.refusal.PostRefusal.{PostRefusal}
-use Rattle.flow_core.specs.Run.{Run, schema, now, GoesOn, HasSteps}
+use Rattle.flow_core.specs.Run.{Run, schema, now, IsUncommitted, HasEntryLeft}
 use Rattle.flow_core.specs.Answers.{PostIsRefused}
 
 -- the claim of that number, its event, and which attempt at it the claim is
@@ -19,4 +19,4 @@ pub record IsGiven (r : Run) (number : ℕ) (given : Given) : Type 0 where
 -- a result may be posted for the claim, or it is refused
 abbrev pub IsStanding : Run → ℕ → ℕ → Result Given PostRefusal → Run → Type 0
 IsStanding r claim by (Err refusal) after = PostIsRefused r claim by refusal after
-IsStanding r claim by (Ok given) after = GoesOn r × HasSteps r × IsCurrent (now r) claim × IsGiven r claim given × (after ≡ r)
+IsStanding r claim by (Ok given) after = IsUncommitted r × HasEntryLeft r × IsCurrent (now r) claim × IsGiven r claim given × (after ≡ r)

@@ -8,7 +8,7 @@ use crate::refusal::{CommitRefusal, RewindRefusal};
 use flow_model::{Entry, Step};
 
 impl Core {
-    ghost use Rattle.flow_core.specs.Run.{schema, now, with_entry, GoesOn, HasSteps};
+    ghost use Rattle.flow_core.specs.Run.{schema, now, with_entry, IsUncommitted, HasEntryLeft};
     ghost use Rattle.flow_core.specs.Answers.{IsLeastCurrent, Rewinds, Commits};
 
     /// Goes back to the last place at which another choice is still free, and answers that place.
@@ -29,8 +29,8 @@ impl Core {
     }
 
     fn record_rewound(&mut self, index: u32, by: u32)
-        requires open { GoesOn self.old }
-        requires steps { HasSteps self.old }
+        requires open { IsUncommitted self.old }
+        requires steps { HasEntryLeft self.old }
         requires last { IsOpenIndex (schema self.old) (now self.old) index }
         ensures { self.new ≡ with_entry self.old by (Rewound index) }
     {
@@ -79,8 +79,8 @@ impl Core {
     }
 
     fn record_commit(&mut self, by: u32)
-        requires open { GoesOn self.old }
-        requires steps { HasSteps self.old }
+        requires open { IsUncommitted self.old }
+        requires steps { HasEntryLeft self.old }
         requires no_claim { current_claims (now self.old) ≡ [] }
         requires good { IsGood (schema self.old) (now self.old).journal }
         ensures { self.new ≡ with_entry self.old by Committed }

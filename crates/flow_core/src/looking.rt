@@ -12,7 +12,7 @@ use crate::next::Next;
 use flow_model::{Call, Label};
 
 impl Core {
-    ghost use Rattle.flow_core.specs.Run.{schema, now, GoesOn};
+    ghost use Rattle.flow_core.specs.Run.{schema, now, IsUncommitted};
     ghost use Rattle.flow_core.specs.Answers.{IsUnanswered};
     ghost use Rattle.flow_core.specs.declared.next.Next.TheVariants.{Stuck};
     ghost use Rattle.flow_core.specs.Looks.{CanStep, CanAct, IsWaiting, IsLeast, IsNext};

@@ -9,7 +9,7 @@ use crate::refusal::DoRefusal;
 use flow_model::{Entry, Label, Step};
 
 impl Core {
-    ghost use Rattle.flow_core.specs.Run.{schema, now, with_entry, GoesOn, HasSteps};
+    ghost use Rattle.flow_core.specs.Run.{schema, now, with_entry, IsUncommitted, HasEntryLeft};
     ghost use Rattle.flow_core.specs.Answers.{Performs};
 
     /// Does a leaf that is no event: its test holds, or its update is made.
@@ -62,8 +62,8 @@ impl Core {
 
     /// Makes the entry of a leaf that may be done.
     fn record_did(&mut self, leaf: u32, label: Label, by: u32)
-        requires open { GoesOn self.old }
-        requires steps { HasSteps self.old }
+        requires open { IsUncommitted self.old }
+        requires steps { HasEntryLeft self.old }
         requires label { slice_get (schema self.old).labels leaf ≡ Some label }
         requires enabled { CanDoAside (schema self.old) (now self.old) leaf }
         requires holds { Holds (database (schema self.old) (now self.old)) label }

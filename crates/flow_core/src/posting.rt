@@ -12,7 +12,7 @@ use flow_claims::Given;
 use flow_model::{Entry, FailEffect, Label, Step};
 
 impl Core {
-    ghost use Rattle.flow_core.specs.Run.{schema, now, with_entry, GoesOn, HasSteps};
+    ghost use Rattle.flow_core.specs.Run.{schema, now, with_entry, IsUncommitted, HasEntryLeft};
     ghost use Rattle.flow_core.specs.Answers.{PostsDone, PostsFailed};
     ghost use Rattle.flow_core.specs.Standing.{IsGiven, IsStanding};
 
@@ -81,8 +81,8 @@ impl Core {
     }
 
     fn record_late(&mut self, claim: u32, by: u32)
-        requires open { GoesOn self.old }
-        requires steps { HasSteps self.old }
+        requires open { IsUncommitted self.old }
+        requires steps { HasEntryLeft self.old }
         requires lapsed { IsLapsed (now self.old) claim }
         ensures { self.new ≡ with_entry self.old by (Late claim) }
     {
@@ -95,8 +95,8 @@ impl Core {
     }
 
     fn record_done(&mut self, claim: u32, given: Given, by: u32)
-        requires open { GoesOn self.old }
-        requires steps { HasSteps self.old }
+        requires open { IsUncommitted self.old }
+        requires steps { HasEntryLeft self.old }
         requires current { IsCurrent (now self.old) claim }
         requires given { IsGiven self.old claim given }
         ensures { self.new ≡ with_entry self.old by (Done claim) }
@@ -112,8 +112,8 @@ impl Core {
     }
 
     fn record_switched(&mut self, claim: u32, leaf: u32, by: u32)
-        requires open { GoesOn self.old }
-        requires steps { HasSteps self.old }
+        requires open { IsUncommitted self.old }
+        requires steps { HasEntryLeft self.old }
         requires current { IsCurrent (now self.old) claim }
         requires leaf { leaf_of_claim (now self.old) claim ≡ leaf }
         requires avoidable { IsAvoidable (schema self.old) (now self.old) leaf }
@@ -133,8 +133,8 @@ impl Core {
     }
 
     fn record_kept(&mut self, claim: u32, by: u32)
-        requires open { GoesOn self.old }
-        requires steps { HasSteps self.old }
+        requires open { IsUncommitted self.old }
+        requires steps { HasEntryLeft self.old }
         requires current { IsCurrent (now self.old) claim }
         requires needed { (t : List ℕ) → IsFree (schema self.old) (now self.old) t → leaf_of_claim (now self.old) claim ∈ t }
         ensures { self.new ≡ with_entry self.old by (Failed claim effects.Kept) }

@@ -10,7 +10,7 @@ use crate::refusal::TakeRefusal;
 use flow_model::{Call, Entry, Label, Step};
 
 impl Core {
-    ghost use Rattle.flow_core.specs.Run.{schema, now, with_entry, GoesOn, HasSteps};
+    ghost use Rattle.flow_core.specs.Run.{schema, now, with_entry, IsUncommitted, HasEntryLeft};
     ghost use Rattle.flow_core.specs.Answers.{Takes, next_claim};
 
     /// Gives a claim on an event's leaf: leave to perform its task.
@@ -47,7 +47,7 @@ impl Core {
 
     /// Whether there is room for one entry more.
     pub(crate) fn has_steps(&self) -> bool
-        ensures { IsTrue result ↔ HasSteps self.now }
+        ensures { IsTrue result ↔ HasEntryLeft self.now }
     {
         self.history.len() < self.limit as usize
     }
@@ -62,8 +62,8 @@ impl Core {
 
     /// Makes the entry of a claim that may be given.
     fn give(&mut self, leaf: u32, event: u32, by: u32) -> Call
-        requires open { GoesOn self.old }
-        requires steps { HasSteps self.old }
+        requires open { IsUncommitted self.old }
+        requires steps { HasEntryLeft self.old }
         requires event { event_at (schema self.old).labels leaf ≡ Some event }
         requires enabled { CanTake (schema self.old) (now self.old) leaf }
         ensures entry { self.new ≡ with_entry self.old by (Took (next_claim self.old) leaf) }

@@ -21,7 +21,7 @@ use Rattle.flow_core.specs.declared.refusal.RewindRefusal.{RewindRefusal}
 use Rattle.flow_core.specs.declared.refusal.RewindRefusal.TheVariants as rewind
 use Rattle.flow_core.specs.declared.refusal.CommitRefusal.{CommitRefusal}
 use Rattle.flow_core.specs.declared.refusal.CommitRefusal.TheVariants as commit
-use Rattle.flow_core.specs.Run.{Run, schema, now, with_entry, HasSteps}
+use Rattle.flow_core.specs.Run.{Run, schema, now, with_entry, HasEntryLeft}
 use Rattle.flow_core.specs.Answers.{IsOver, IsAnswered, IsUnanswered, Takes, Performs, Commits, Rewinds, PostIsRefused, PostsDone, PostsFailed}
 use Rattle.flow_core.specs.Looks.{IsNext}
 use Rattle.flow_core.proofs.Calls.{event_below}
@@ -34,7 +34,7 @@ use Rattle.flow_crew.proofs.Histories.{not_last_kept}
 event_or_other : (w : Schema) (n : ℕ) → IsEventLeaf w n → ¬ (IsOtherLeaf w n)
 event_or_other w n event other = true≢false (sym event ∙ ap is_some other.1)
 
-module _ (r : Run) (none : HasNoEnd r) (steps : HasSteps r) where
+module _ (r : Run) (none : HasNoEnd r) (steps : HasEntryLeft r) where
   not_over : ¬ (IsOver r)
   not_over over = none end.Committed over
 

@@ -13,7 +13,7 @@ use Rattle.flow_laws.proofs.Members.{each-append}
 use Rattle.flow_core.specs.declared.next.Next.TheVariants as next
 use Rattle.flow_core.specs.declared.refusal.RewindRefusal.{RewindRefusal}
 use Rattle.flow_core.specs.declared.refusal.RewindRefusal.TheVariants as rewind
-use Rattle.flow_core.specs.Run.{Run, schema, now, with_entry, HasSteps}
+use Rattle.flow_core.specs.Run.{Run, schema, now, with_entry, HasEntryLeft}
 use Rattle.flow_core.specs.Answers.{IsUnanswered, Rewinds}
 use Rattle.flow_core.specs.Looks.{IsNext}
 use Rattle.flow_crew.specs.declared.ends.Move.{Move}
@@ -40,7 +40,7 @@ stays r by after is within = record {
 one_longer : (r : Run) (by : ℕ) (step : Step) → length (with_entry r by step).history ≡ length r.history + 1
 one_longer r by step = length-append r.history (entry_of by step ∷ [])
 
-goes_one : (r : Run) (by : ℕ) (step : Step) (after : Run) → after ≡ with_entry r by step → HasSteps r → Goes r by after
+goes_one : (r : Run) (by : ℕ) (step : Step) (after : Run) → after ≡ with_entry r by step → HasEntryLeft r → Goes r by after
 goes_one r by step after is room = record {
   continued = (entry_of by step ∷ [], is, (refl, tt));
   within = subst IsWithin (sym is) (let l = one_longer r by step in omega arith);
@@ -69,7 +69,7 @@ pub record GoesFurther (r : Run) (by : ℕ) (after : Run) : Type 0 where
   pub goes : Goes r by after
   pub longer : length r.history < length after.history
 
-further_one : (r : Run) (by : ℕ) (step : Step) (after : Run) → after ≡ with_entry r by step → HasSteps r → GoesFurther r by after
+further_one : (r : Run) (by : ℕ) (step : Step) (after : Run) → after ≡ with_entry r by step → HasEntryLeft r → GoesFurther r by after
 further_one r by step after is room = record {
   goes = goes_one r by step after is room;
   longer = (let l = ap (λ (a : Run). length a.history) is ∙ one_longer r by step in omega arith);
@@ -148,7 +148,7 @@ went_back r by (Err (rewind.Spent limit)) after within h = stays r by after h.2 
 went_back r by (Err rewind.NoChoice) after within h = stays r by after h.3 within
 went_back r by (Ok index) after within h = goes_one r by (Rewound index) after h.3 h.1
 
-told : (r : Run) (call : Call) (o : Outcome) (by : ℕ) (after : Run) → HasNoEnd r → HasSteps r → IsOut r call → Records r call o by after → GoesFurther r by after
+told : (r : Run) (call : Call) (o : Outcome) (by : ℕ) (after : Run) → HasNoEnd r → HasEntryLeft r → IsOut r call → Records r call o by after → GoesFurther r by after
 told r call outcome.Done by after none room out (Err refusal, h) =
     further_one r by (Late call.claim) after (refused_late r none room call out by refusal after h) room
 told r call outcome.Done by after none room out (Ok _, h) = further_one r by (Done call.claim) after h.3 room

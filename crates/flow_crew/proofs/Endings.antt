@@ -11,7 +11,7 @@ use Rattle.flow_model.specs.Verdict.{Verdict, EndsKept, HasNoOpenIndex, IsRunVer
 use Rattle.flow_model.specs.Decided.{Decided}
 use Rattle.flow_laws.proofs.Members.{last_of, not_empty}
 use Rattle.flow_laws.proofs.ClaimLemmas.{some_claim, claim_in}
-use Rattle.flow_core.specs.Run.{Run, schema, now, GoesOn, HasSteps}
+use Rattle.flow_core.specs.Run.{Run, schema, now, IsUncommitted, HasEntryLeft}
 use Rattle.flow_core.specs.declared.next.Next.{Next}
 use Rattle.flow_core.specs.declared.next.Next.TheVariants as next
 use Rattle.flow_core.specs.Answers.{IsLeastCurrent}
@@ -30,7 +30,7 @@ no_verdict r none (no_other leaf) h = none (end.NoOther leaf) h
 no_verdict r none (stuck waiting) h = none end.Stuck (waiting, h)
 no_verdict r none unfinished h = h
 
-pub goes_on : (r : Run) → HasNoEnd r → GoesOn r
+pub goes_on : (r : Run) → HasNoEnd r → IsUncommitted r
 goes_on r none = false_from_ne_true (now r).committed (none end.Committed)
 
 -- the history is no longer than the limit
@@ -42,12 +42,12 @@ legal_within r legal =
     let most : 0 + length r.history ≤ r.limit = legal_length (schema r) r.limit first_state 0 r.history legal (omega arith) in omega arith
 
 -- where no verdict stands there is room
-pub has_room : (r : Run) → HasNoEnd r → IsWithin r → HasSteps r
+pub has_room : (r : Run) → HasNoEnd r → IsWithin r → HasEntryLeft r
 has_room r none within =
     let other : length r.history ≢ r.limit = λ full. none end.Spent (goes_on r none, full) in
     omega arith
 
-pub has_steps : (r : Run) → HasNoEnd r → IsLegal (schema r) r.limit r.history → HasSteps r
+pub has_steps : (r : Run) → HasNoEnd r → IsLegal (schema r) r.limit r.history → HasEntryLeft r
 has_steps r none legal = has_room r none (legal_within r legal)
 
 -- whether a history ends with a kept failure can be told
@@ -77,12 +77,12 @@ decide_kept w (e ∷ es) =
     subst (DecidedKept w) (sym is) (decide_last w earlier last last.step refl)
 
 -- a stuck run that cannot go back has come to an end
-pub stuck_end : (r : Run) → GoesOn r → length r.history ≢ r.limit → ((leaf : ℕ) → ¬ (EndsKept (schema r) r.history leaf)) → HasNoOpenIndex (schema r) r.history →
+pub stuck_end : (r : Run) → IsUncommitted r → length r.history ≢ r.limit → ((leaf : ℕ) → ¬ (EndsKept (schema r) r.history leaf)) → HasNoOpenIndex (schema r) r.history →
     IsStuck (schema r) (now r) → IsEnd r end.Stuck
 stuck_end r going other none closed is =
     let (list, just) = waiting_of (schema r) (now r) is in (list, ((going, other), none, closed, is, just))
 
-pub stuck_ends : (r : Run) → GoesOn r → length r.history ≢ r.limit → HasNoOpenIndex (schema r) r.history → IsStuck (schema r) (now r) → HasEnd r
+pub stuck_ends : (r : Run) → IsUncommitted r → length r.history ≢ r.limit → HasNoOpenIndex (schema r) r.history → IsStuck (schema r) (now r) → HasEnd r
 stuck_ends r going other closed is = elim (decide_kept (schema r) r.history) [
   | inl kept ↦ (end.NoOther kept.0, ((going, other), kept.1, closed))
   | inr none ↦ (end.Stuck, stuck_end r going other (λ leaf kept. none (leaf, kept)) closed is)
@@ -126,7 +126,7 @@ not_stuck r (next.Stuck leaf) here other is = other leaf refl
 
 -- ---- which end, where the run is not committed and there is room
 
-module _ (r : Run) (going : GoesOn r) (other : length r.history ≢ r.limit) where
+module _ (r : Run) (going : IsUncommitted r) (other : length r.history ≢ r.limit) where
   abbrev Found : End → Option End → Type 0
   Found end o = MatchOption o ((i : ℕ) × IsOpenIndex (schema r) (now r) i) (λ found. (found ≡ end) × HasNoOpenIndex (schema r) r.history)
 

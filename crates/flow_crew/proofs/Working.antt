@@ -14,7 +14,7 @@ use Rattle.flow_core.specs.declared.refusal.PostRefusal.{PostRefusal}
 use Rattle.flow_core.specs.declared.refusal.PostRefusal.TheVariants as post
 use Rattle.flow_core.specs.declared.refusal.RewindRefusal.{RewindRefusal}
 use Rattle.flow_core.specs.declared.refusal.RewindRefusal.TheVariants as rewind
-use Rattle.flow_core.specs.Run.{Run, schema, now, with_entry, GoesOn, HasSteps}
+use Rattle.flow_core.specs.Run.{Run, schema, now, with_entry, IsUncommitted, HasEntryLeft}
 use Rattle.flow_core.specs.Answers.{PostIsRefused, Rewinds}
 use Rattle.flow_core.specs.Looks.{IsNext}
 use Rattle.flow_core.proofs.Steps.{state_after-append}
@@ -99,14 +99,14 @@ module _ (gives : Call → Outcome → Bool) where
   asked r call o out given = subst (λ (c : Call). gives c o ≡ true) out.1 given
 
   -- after a kept failure the run goes back, or it cannot
-  module _ (r : Run) (claim by : ℕ) (k : IsByWorkers gives r) (none : HasNoEnd r) (going : GoesOn r) (given : IsRunStep MayGive (schema r) r.history (Failed claim Kept)) where
+  module _ (r : Run) (claim by : ℕ) (k : IsByWorkers gives r) (none : HasNoEnd r) (going : IsUncommitted r) (given : IsRunStep MayGive (schema r) r.history (Failed claim Kept)) where
     abbrev failed : Run
     failed = with_entry r by (Failed claim Kept)
 
     failed_so_far : SoFar failed
     failed_so_far = one_more r by (Failed claim Kept) (begins r k) (no_verdict r none) given (λ leaf i kept free room. absurd (driven_settles (schema r) r.limit r.history k.driven leaf i kept free room))
 
-    still_going : GoesOn failed
+    still_going : IsUncommitted failed
     still_going = ap (λ s. s.committed) (state_after-append (schema r) first_state r.history (record { by = by; step = Failed claim Kept })) ∙ going
 
     stays : (after : Run) → after ≡ failed → IsSettled (schema r) r.limit failed.history → IsLegal (schema after) after.limit after.history → IsByWorkers gives after
@@ -114,7 +114,7 @@ module _ (gives : Call → Outcome → Bool) where
         subst (IsByWorkers gives) (sym is) (closes failed failed_so_far (subst (λ (a : Run). IsLegal (schema a) a.limit a.history) is legal) settled)
 
     -- it goes on: there is room, and a place to go back to
-    no_verdict_yet : (index : ℕ) → GoesOn failed → HasSteps failed → IsOpenIndex (schema r) (now failed) index → HasNoVerdict failed
+    no_verdict_yet : (index : ℕ) → IsUncommitted failed → HasEntryLeft failed → IsOpenIndex (schema r) (now failed) index → HasNoVerdict failed
     no_verdict_yet index going room free committed h = true≢false (sym h ∙ going)
     no_verdict_yet index going room free spent h = omega (arith, h.1, room)
     no_verdict_yet index going room free (no_other leaf) h = h.2 index free

@@ -22,10 +22,10 @@ use std::alloc::Global;
 const MOST_FLOWS: u64 = 256;
 
 /// How many leaves and nothings, or isolations, the expanded goal may have.
-const MOST_ENDS: u64 = 1024;
+const MOST_LEAVES: u64 = 1024;
 
 /// How many names of events may be written in constraints.
-const MOST_NAMES: u64 = 8192;
+const MOST_RULE_NAMES: u64 = 8192;
 
 /// A goal that stands in a layout.
 #[derive(Drop)]
@@ -67,8 +67,8 @@ fn lay_goal<'a>(
         &script.goal,
         &mut settling.layout,
     )?;
-    at_most(Part::Goal, root.size.most(), MOST_ENDS)?;
-    at_most(Part::Rules, count_names(&script.rules), MOST_NAMES)?;
+    at_most(Part::Goal, root.size.most(), MOST_LEAVES)?;
+    at_most(Part::Rules, count_names(&script.rules), MOST_RULE_NAMES)?;
     Ok(root)
 }
 

@@ -271,19 +271,19 @@ decide_free w s t =
     (decide_both (decide_begins t s.journal) (decide_each (λ ban. ¬ (ban.1 ∈ t)) (λ ban. decide_not (decide_in ban.1 t)) s.bans)))
 
 -- what besides a trace of the option's resolution must be
-abbrev GoesOn : Schema → RunState → ChoiceOption → List ℕ → List ℕ → Type 0
-GoesOn w s o next t = AreInOrder o.order t × (IsFree w s t × Begins t (s.journal ++ next))
+abbrev ContinuesJournal : Schema → RunState → ChoiceOption → List ℕ → List ℕ → Type 0
+ContinuesJournal w s o next t = AreInOrder o.order t × (IsFree w s t × Begins t (s.journal ++ next))
 
-decide_goes_on : (w : Schema) (s : RunState) (o : ChoiceOption) (next t : List ℕ) → Decided (GoesOn w s o next t)
-decide_goes_on w s o next t =
+decide_continues : (w : Schema) (s : RunState) (o : ChoiceOption) (next t : List ℕ) → Decided (ContinuesJournal w s o next t)
+decide_continues w s o next t =
     decide_both (decide_each (λ pair. StandsBefore pair.0 pair.1 t) (λ pair. decide_before pair.0 pair.1 t) o.order)
     (decide_both (decide_free w s t) (decide_begins t (s.journal ++ next)))
 
 pub decide_follow : (w : Schema) (s : RunState) (o : ChoiceOption) (next : List ℕ) → Decided (MayFollow w s o next)
 decide_follow w s o next =
     decide_as (λ (blocks, h, (order, (free, begins))). (joined blocks, ((blocks, h, refl), order), free, begins))
-    (λ (t, ((blocks, h, e), order), free, begins). (blocks, h, subst (GoesOn w s o next) e (order, (free, begins))))
-    (decide_blocks o.resolution (λ blocks. GoesOn w s o next (joined blocks)) (λ blocks. decide_goes_on w s o next (joined blocks)))
+    (λ (t, ((blocks, h, e), order), free, begins). (blocks, h, subst (ContinuesJournal w s o next) e (order, (free, begins))))
+    (decide_blocks o.resolution (λ blocks. ContinuesJournal w s o next (joined blocks)) (λ blocks. decide_continues w s o next (joined blocks)))
 
 -- a state of that journal and those bans: nothing else counts
 abbrev at : List ℕ → List (ℕ × ℕ) → RunState

@@ -91,16 +91,16 @@ abbrev pub HasNoOpenIndex : Schema → List Entry → Type 0
 HasNoOpenIndex w history = (i : ℕ) → ¬ (IsOpenIndex w (state_of w history) i)
 
 -- the history is neither committed nor as long as the limit
-abbrev pub GoesOn : Schema → ℕ → List Entry → Type 0
-GoesOn w limit history = ((state_of w history).committed ≡ false) × (length history ≢ limit)
+abbrev pub MayGrow : Schema → ℕ → List Entry → Type 0
+MayGrow w limit history = ((state_of w history).committed ≡ false) × (length history ≢ limit)
 
 -- the verdict of a run, the first that applies; a run that has none goes on
 abbrev pub IsRunVerdict : Schema → ℕ → List Entry → Verdict → Type 0
 IsRunVerdict w limit history committed = (state_of w history).committed ≡ true
 IsRunVerdict w limit history spent = ((state_of w history).committed ≡ false) × (length history ≡ limit)
-IsRunVerdict w limit history (no_other leaf) = GoesOn w limit history × EndsKept w history leaf × HasNoOpenIndex w history
+IsRunVerdict w limit history (no_other leaf) = MayGrow w limit history × EndsKept w history leaf × HasNoOpenIndex w history
 IsRunVerdict w limit history (stuck waiting) =
-    GoesOn w limit history × ((leaf : ℕ) → ¬ (EndsKept w history leaf)) × HasNoOpenIndex w history
+    MayGrow w limit history × ((leaf : ℕ) → ¬ (EndsKept w history leaf)) × HasNoOpenIndex w history
     × IsStuck w (state_of w history) × AreJust (Waits w (state_of w history)) waiting
 IsRunVerdict w limit history unfinished = ⊥
 

@@ -6,13 +6,13 @@ mod goals;
 mod levels;
 mod queries;
 mod reading;
+mod reserved_words;
 mod rule_levels;
 mod rule_stack;
 mod rules;
 mod scripts;
 mod symbol;
 mod tokens;
-mod words;
 
 pub use flow_form::{Query, Script, TextRefusal};
 pub use reading::{read_query, read_script};

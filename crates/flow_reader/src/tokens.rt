@@ -6,8 +6,8 @@ ghost use Rattle.flow_lex.specs.Bytes.{number_value};
 ghost use Rattle.flow_grammar.specs.Symbol.{a_number};
 ghost use Rattle.flow_lex.specs.Tokens.{IsSmall};
 
+use crate::reserved_words::{mark_symbol, word_symbol};
 use crate::symbol::Symbol;
-use crate::words::{mark_symbol, word_symbol};
 use flow_lex::{Token, TokenKind, number};
 
 /// A token of the text as its symbol.

@@ -3,7 +3,7 @@ ghost use Rattle.std.specs.Result.{IsErrOf};
 ghost use Rattle.flow_record.specs.Journal.{noted_leaf, is_label_of, JournalText, after_lines, with_noted, with_leaf_line, journal_of, journal, bad_line, wrong_label};
 
 use crate::journal::push_leaf_label;
-use crate::lines::{END, cut_at, split_line};
+use crate::lines::{MOST_LINES, cut_at, split_line};
 use crate::number::plain_number;
 use crate::refusal::RecordRefusal;
 use flow_workflow::Workflow;
@@ -26,7 +26,7 @@ pub fn read_journal(
     let mut rest = text;
     let mut number = 0;
     while !rest.is_empty() {
-        if number >= END {
+        if number >= MOST_LINES {
             return Err(RecordRefusal::BadLine { line: number });
         }
         let (line, more) = split_line(rest);

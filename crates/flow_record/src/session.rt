@@ -5,7 +5,7 @@ ghost use Rattle.flow_record.specs.Session.{bare_command, numbered_command, line
 
 use crate::command::Command;
 use crate::line::Line;
-use crate::lines::{END, is_word, split_line};
+use crate::lines::{MOST_LINES, is_word, split_line};
 use crate::number::read_number;
 use crate::refusal::RecordRefusal;
 use crate::words::split_word;
@@ -21,7 +21,7 @@ pub fn read_session(alloc: Global, text: &[u8]) -> Result<Vec<Command>, RecordRe
     let mut rest = text;
     let mut number = 0;
     while !rest.is_empty() {
-        if number >= END {
+        if number >= MOST_LINES {
             return Err(RecordRefusal::BadLine { line: number });
         }
         let (line, more) = split_line(rest);

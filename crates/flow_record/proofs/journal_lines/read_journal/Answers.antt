@@ -3,8 +3,8 @@ use Rattle.flow_record.specs.Journal.{bad_line}
 use Rattle.flow_record.proofs.Journals.{too_many}
 use Rattle.flow_record.proofs.journal_lines.read_journal.Goals as goal
 
-pub returns-then-number-ge-END-clause-bad : goal.returns-then-number-ge-END-clause-bad
-returns-then-number-ge-END-clause-bad c = λ line e.
+pub returns-then-number-ge-MOST_LINES-clause-bad : goal.returns-then-number-ge-MOST_LINES-clause-bad
+returns-then-number-ge-MOST_LINES-clause-bad c = λ line e.
     let some : 0 < length c.loop-rest.rest.now = search rules in
     let many : 16384 ≤ c.loop-rest.number = omega arith in
     let same : c.loop-rest.number ≡ line = cc in

@@ -3,8 +3,8 @@ use Rattle.flow_record.specs.Session.{bad_line}
 use Rattle.flow_record.proofs.Sessions.{too_many}
 use Rattle.flow_record.proofs.session.read_session.Goals as goal
 
-pub returns-then-number-ge-END-clause-bad : goal.returns-then-number-ge-END-clause-bad
-returns-then-number-ge-END-clause-bad c = λ line e.
+pub returns-then-number-ge-MOST_LINES-clause-bad : goal.returns-then-number-ge-MOST_LINES-clause-bad
+returns-then-number-ge-MOST_LINES-clause-bad c = λ line e.
     let some : 0 < length c.loop-rest.rest.now = search rules in
     let many : 16384 ≤ c.loop-rest.number = omega arith in
     let same : c.loop-rest.number ≡ line = cc in

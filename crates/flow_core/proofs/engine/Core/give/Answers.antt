@@ -12,7 +12,7 @@ use Rattle.flow_laws.proofs.ClaimLemmas.{number_of}
 use Rattle.flow_workflow.specs.Definition.{Definition, schema_of}
 use Rattle.flow_claims.specs.Claimed.{Claimed, count_of}
 use Rattle.flow_claims.proofs.Counting.{count-push}
-use Rattle.flow_core.specs.Run.{Run, schema, now, GoesOn, HasSteps}
+use Rattle.flow_core.specs.Run.{Run, schema, now, IsUncommitted, HasEntryLeft}
 use Rattle.flow_core.specs.Answers.{next_claim}
 use Rattle.flow_core.specs.Kept.{IsKept}
 use Rattle.flow_core.proofs.Steps.{sound_now, kept_took}
@@ -43,8 +43,8 @@ pub invariant_of-self : goal.invariant_of-self
 invariant_of-self c =
     let i = c.self.inside in
     let k = c.self.invariant.kept in
-    let going : (state_of (schema_of i.workflow) i.history.items).committed ≡ false = subst GoesOn (sym c.self.view_is) c.requires.open in
-    let room : length i.history.items < i.limit = subst HasSteps (sym c.self.view_is) c.requires.steps in
+    let going : (state_of (schema_of i.workflow) i.history.items).committed ≡ false = subst IsUncommitted (sym c.self.view_is) c.requires.open in
+    let room : length i.history.items < i.limit = subst HasEntryLeft (sym c.self.view_is) c.requires.steps in
     let at : event_at i.workflow.tree.labels c.args.leaf ≡ Some c.args.event =
     subst (λ (r : Run). event_at (schema r).labels c.args.leaf ≡ Some c.args.event) (sym c.self.view_is) c.requires.event in
     let can : CanTake (schema_of i.workflow) (state_of (schema_of i.workflow) i.history.items) c.args.leaf =

@@ -3,7 +3,7 @@ use Rattle.flow_model.specs.declared.history.Entry.{Entry}
 use Rattle.flow_model.specs.Schema.{IsGood}
 use Rattle.flow_model.specs.Run.{RunState, state_of, current_claims}
 use Rattle.flow_workflow.specs.Definition.{schema_of}
-use Rattle.flow_core.specs.Run.{Run, schema, now, GoesOn, HasSteps}
+use Rattle.flow_core.specs.Run.{Run, schema, now, IsUncommitted, HasEntryLeft}
 use Rattle.flow_core.specs.Kept.{IsKept}
 use Rattle.flow_core.proofs.Steps.{kept_committed}
 use Rattle.flow_core.proofs.engine.Core.record_commit.Goals as goal
@@ -13,8 +13,8 @@ invariant_of-self c =
     let i = c.self.inside in
     let k = c.self.invariant.kept in
     let s : RunState = state_of (schema_of i.workflow) i.history.items in
-    let going : s.committed ≡ false = subst GoesOn (sym c.self.view_is) c.requires.open in
-    let room : length i.history.items < i.limit = subst HasSteps (sym c.self.view_is) c.requires.steps in
+    let going : s.committed ≡ false = subst IsUncommitted (sym c.self.view_is) c.requires.open in
+    let room : length i.history.items < i.limit = subst HasEntryLeft (sym c.self.view_is) c.requires.steps in
     let none : current_claims s ≡ [] = subst (λ (r : Run). current_claims (now r) ≡ []) (sym c.self.view_is) c.requires.no_claim in
     let good : IsGood (schema_of i.workflow) s.journal = subst (λ (r : Run). IsGood (schema r) (now r).journal) (sym c.self.view_is) c.requires.good in
     record {

@@ -6,7 +6,7 @@ use Rattle.flow_model.specs.Run.{RunState, state_of, database, current_leaves, C
 use Rattle.flow_workflow.specs.Definition.{schema_of}
 use Rattle.flow_residual.specs.Remaining.{Remaining, MayComeNext}
 use Rattle.flow_world.specs.Course.{Course}
-use Rattle.flow_core.specs.Run.{Run, schema, now, GoesOn, HasSteps}
+use Rattle.flow_core.specs.Run.{Run, schema, now, IsUncommitted, HasEntryLeft}
 use Rattle.flow_core.specs.Kept.{IsKept}
 use Rattle.flow_core.proofs.Following.{next_of_first}
 use Rattle.flow_core.proofs.Steps.{longer, kept_did}
@@ -51,8 +51,8 @@ invariant_of-self c =
     let i = c.self.inside in
     let k = c.self.invariant.kept in
     let s : RunState = state_of (schema_of i.workflow) i.history.items in
-    let going : s.committed ≡ false = subst GoesOn (sym c.self.view_is) c.requires.open in
-    let room : length i.history.items < i.limit = subst HasSteps (sym c.self.view_is) c.requires.steps in
+    let going : s.committed ≡ false = subst IsUncommitted (sym c.self.view_is) c.requires.open in
+    let room : length i.history.items < i.limit = subst HasEntryLeft (sym c.self.view_is) c.requires.steps in
     let at : slice_get i.workflow.tree.labels c.args.leaf ≡ Some c.args.label =
     subst (λ (r : Run). slice_get (schema r).labels c.args.leaf ≡ Some c.args.label) (sym c.self.view_is) c.requires.label in
     let aside : CanDoAside (schema_of i.workflow) s c.args.leaf = subst (λ (r : Run). CanDoAside (schema r) (now r) c.args.leaf) (sym c.self.view_is) c.requires.enabled in

@@ -6,7 +6,7 @@ use Rattle.flow_workflow.specs.Definition.{schema_of}
 use Rattle.flow_residual.specs.Remaining.{Remaining, MayComeNext}
 use Rattle.flow_claims.specs.Claimed.{Claimed}
 use Rattle.flow_world.specs.Course.{Course}
-use Rattle.flow_core.specs.Run.{Run, now, GoesOn, HasSteps}
+use Rattle.flow_core.specs.Run.{Run, now, IsUncommitted, HasEntryLeft}
 use Rattle.flow_core.specs.Standing.{IsGiven}
 use Rattle.flow_core.specs.Kept.{IsKept}
 use Rattle.flow_core.proofs.Steps.{longer, kept_done}
@@ -46,8 +46,8 @@ invariant_of-self c =
     let i = c.self.inside in
     let k = c.self.invariant.kept in
     let s : RunState = state_of (schema_of i.workflow) i.history.items in
-    let going : s.committed ≡ false = subst GoesOn (sym c.self.view_is) c.requires.open in
-    let room : length i.history.items < i.limit = subst HasSteps (sym c.self.view_is) c.requires.steps in
+    let going : s.committed ≡ false = subst IsUncommitted (sym c.self.view_is) c.requires.open in
+    let room : length i.history.items < i.limit = subst HasEntryLeft (sym c.self.view_is) c.requires.steps in
     let current : IsCurrent s c.args.claim = subst (λ (r : Run). IsCurrent (now r) c.args.claim) (sym c.self.view_is) c.requires.current in
     let given : IsGiven (record { definition = i.workflow; limit = i.limit; history = i.history.items }) c.args.claim c.args.given =
     subst (λ (r : Run). IsGiven r c.args.claim c.args.given) (sym c.self.view_is) c.requires.given in

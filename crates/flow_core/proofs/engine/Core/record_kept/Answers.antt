@@ -4,7 +4,7 @@ use Rattle.flow_model.specs.Lists.{◌∈◌}
 use Rattle.flow_model.specs.Run.{RunState, state_of, leaf_of_claim, IsCurrent, IsFree}
 use Rattle.flow_workflow.specs.Definition.{schema_of}
 use Rattle.flow_claims.specs.Claimed.{Claimed}
-use Rattle.flow_core.specs.Run.{Run, schema, now, GoesOn, HasSteps}
+use Rattle.flow_core.specs.Run.{Run, schema, now, IsUncommitted, HasEntryLeft}
 use Rattle.flow_core.specs.Kept.{IsKept}
 use Rattle.flow_core.proofs.Steps.{kept_failed}
 use Rattle.flow_core.proofs.Tests.{unanswered_there}
@@ -24,8 +24,8 @@ invariant_of-self c =
     let i = c.self.inside in
     let k = c.self.invariant.kept in
     let s : RunState = state_of (schema_of i.workflow) i.history.items in
-    let going : s.committed ≡ false = subst GoesOn (sym c.self.view_is) c.requires.open in
-    let room : length i.history.items < i.limit = subst HasSteps (sym c.self.view_is) c.requires.steps in
+    let going : s.committed ≡ false = subst IsUncommitted (sym c.self.view_is) c.requires.open in
+    let room : length i.history.items < i.limit = subst HasEntryLeft (sym c.self.view_is) c.requires.steps in
     let current : IsCurrent s c.args.claim = subst (λ (r : Run). IsCurrent (now r) c.args.claim) (sym c.self.view_is) c.requires.current in
     let needed : (t : List ℕ) → IsFree (schema_of i.workflow) s t → leaf_of_claim s c.args.claim ∈ t =
     subst (λ (r : Run). (t : List ℕ) → IsFree (schema r) (now r) t → leaf_of_claim (now r) c.args.claim ∈ t) (sym c.self.view_is) c.requires.needed in

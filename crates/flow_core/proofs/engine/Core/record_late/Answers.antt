@@ -3,7 +3,7 @@ use Rattle.flow_model.specs.declared.history.Entry.{Entry}
 use Rattle.flow_model.specs.Run.{RunState, state_of, IsLapsed}
 use Rattle.flow_workflow.specs.Definition.{schema_of}
 use Rattle.flow_claims.specs.Claimed.{Claimed}
-use Rattle.flow_core.specs.Run.{Run, now, GoesOn, HasSteps}
+use Rattle.flow_core.specs.Run.{Run, now, IsUncommitted, HasEntryLeft}
 use Rattle.flow_core.specs.Kept.{IsKept}
 use Rattle.flow_core.proofs.Steps.{kept_late}
 use Rattle.flow_core.proofs.Tests.{unanswered_there}
@@ -23,8 +23,8 @@ invariant_of-self c =
     let i = c.self.inside in
     let k = c.self.invariant.kept in
     let s : RunState = state_of (schema_of i.workflow) i.history.items in
-    let going : s.committed ≡ false = subst GoesOn (sym c.self.view_is) c.requires.open in
-    let room : length i.history.items < i.limit = subst HasSteps (sym c.self.view_is) c.requires.steps in
+    let going : s.committed ≡ false = subst IsUncommitted (sym c.self.view_is) c.requires.open in
+    let room : length i.history.items < i.limit = subst HasEntryLeft (sym c.self.view_is) c.requires.steps in
     let lapsed : IsLapsed s c.args.claim = subst (λ (r : Run). IsLapsed (now r) c.args.claim) (sym c.self.view_is) c.requires.lapsed in
     record {
       kept = subst₂ (λ (h : List Entry) (claims : Claimed). IsKept i.workflow i.limit h i.residual claims i.world i.committed) (sym c.push_reserved.ensures.items) (sym c.answer.ensures)

@@ -5,7 +5,7 @@ use Rattle.flow_model.specs.Run.{RunState, state_of, IsOpenIndex}
 use Rattle.flow_workflow.specs.Definition.{schema_of}
 use Rattle.flow_residual.specs.Remaining.{Remaining, IsOf}
 use Rattle.flow_world.specs.Course.{Course}
-use Rattle.flow_core.specs.Run.{Run, schema, now, GoesOn, HasSteps}
+use Rattle.flow_core.specs.Run.{Run, schema, now, IsUncommitted, HasEntryLeft}
 use Rattle.flow_core.specs.Kept.{IsKept}
 use Rattle.flow_core.proofs.Steps.{longer, kept_rewound}
 use Rattle.flow_core.proofs.Standings.{course_length}
@@ -35,7 +35,7 @@ raise-requires c =
     let i = c.self.inside in
     let k = c.self.invariant.kept in
     let s : RunState = state_of (schema_of i.workflow) i.history.items in
-    let room : length i.history.items < i.limit = subst HasSteps (sym c.self.view_is) c.requires.steps in
+    let room : length i.history.items < i.limit = subst HasEntryLeft (sym c.self.view_is) c.requires.steps in
     let few : i.claims.epoch ≤ length i.history.items = k.few_epochs in
     let small : i.limit ≤ 1000000 = c.self.invariant.small in
     omega arith
@@ -45,8 +45,8 @@ invariant_of-self c =
     let i = c.self.inside in
     let k = c.self.invariant.kept in
     let s : RunState = state_of (schema_of i.workflow) i.history.items in
-    let going : s.committed ≡ false = subst GoesOn (sym c.self.view_is) c.requires.open in
-    let room : length i.history.items < i.limit = subst HasSteps (sym c.self.view_is) c.requires.steps in
+    let going : s.committed ≡ false = subst IsUncommitted (sym c.self.view_is) c.requires.open in
+    let room : length i.history.items < i.limit = subst HasEntryLeft (sym c.self.view_is) c.requires.steps in
     let open_index : IsOpenIndex (schema_of i.workflow) s c.args.index = subst (λ (r : Run). IsOpenIndex (schema r) (now r) c.args.index) (sym c.self.view_is) c.requires.last in
     record {
       kept = subst (λ (h : List Entry). IsKept i.workflow i.limit h c.rewind_to.new.self c.raise.new.self c.back_to.new.self i.committed) (sym c.push_reserved.ensures.items)

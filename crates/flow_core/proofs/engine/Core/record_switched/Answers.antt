@@ -5,7 +5,7 @@ use Rattle.flow_model.specs.Run.{RunState, state_of, leaf_of_claim, answer, with
 use Rattle.flow_workflow.specs.Definition.{schema_of}
 use Rattle.flow_residual.specs.Remaining.{Remaining, IsOf, MayComeNext, IsAvoidable}
 use Rattle.flow_claims.specs.Claimed.{Claimed}
-use Rattle.flow_core.specs.Run.{Run, schema, now, GoesOn, HasSteps}
+use Rattle.flow_core.specs.Run.{Run, schema, now, IsUncommitted, HasEntryLeft}
 use Rattle.flow_core.specs.Kept.{IsKept}
 use Rattle.flow_core.proofs.Steps.{kept_switched}
 use Rattle.flow_core.proofs.Tests.{unanswered_there}
@@ -34,7 +34,7 @@ raise-requires c =
     let i = c.self.inside in
     let k = c.self.invariant.kept in
     let s : RunState = state_of (schema_of i.workflow) i.history.items in
-    let room : length i.history.items < i.limit = subst HasSteps (sym c.self.view_is) c.requires.steps in
+    let room : length i.history.items < i.limit = subst HasEntryLeft (sym c.self.view_is) c.requires.steps in
     let few : i.claims.epoch ≤ length i.history.items = k.few_epochs in
     let small : i.limit ≤ 1000000 = c.self.invariant.small in
     let same : c.answer.new.self.epoch ≡ i.claims.epoch = ap (λ (x : Claimed). x.epoch) c.answer.ensures in
@@ -45,8 +45,8 @@ invariant_of-self c =
     let i = c.self.inside in
     let k = c.self.invariant.kept in
     let s : RunState = state_of (schema_of i.workflow) i.history.items in
-    let going : s.committed ≡ false = subst GoesOn (sym c.self.view_is) c.requires.open in
-    let room : length i.history.items < i.limit = subst HasSteps (sym c.self.view_is) c.requires.steps in
+    let going : s.committed ≡ false = subst IsUncommitted (sym c.self.view_is) c.requires.open in
+    let room : length i.history.items < i.limit = subst HasEntryLeft (sym c.self.view_is) c.requires.steps in
     let current : IsCurrent s c.args.claim = subst (λ (r : Run). IsCurrent (now r) c.args.claim) (sym c.self.view_is) c.requires.current in
     let on : leaf_of_claim s c.args.claim ≡ c.args.leaf = subst (λ (r : Run). leaf_of_claim (now r) c.args.claim ≡ c.args.leaf) (sym c.self.view_is) c.requires.leaf in
     let avoidable : IsAvoidable (schema_of i.workflow) s (leaf_of_claim s c.args.claim) =

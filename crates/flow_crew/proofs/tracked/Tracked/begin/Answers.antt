@@ -2,7 +2,7 @@ use Rattle.std.proofs.Common.{◌∙◌, MatchOption, refl, sym, subst, inl, inr
 use Rattle.flow_model.specs.Run.{IsLegal}
 use Rattle.flow_core.specs.declared.next.Next.TheVariants as next
 use Rattle.flow_core.specs.Looks.{IsNext}
-use Rattle.flow_core.specs.Run.{Run, schema, HasSteps}
+use Rattle.flow_core.specs.Run.{Run, schema, HasEntryLeft}
 use Rattle.flow_crew.specs.Ends.{IsEnd, HasEnd, HasNoEnd}
 use Rattle.flow_crew.specs.Moves.{Advances}
 use Rattle.flow_crew.proofs.Endings.{ends, ends_not, has_steps}
@@ -35,7 +35,7 @@ go_on-usual-requires c =
     let none : HasNoEnd i.core = ends_not i.core i.end c.self.invariant.ends (sym c.is_some.ensures ∙ c.if-is_some.false) in
     record {
       unfinished = subst HasNoEnd same none;
-      steps = subst HasSteps same (has_steps i.core none c.self.invariant.legal);
+      steps = subst HasEntryLeft same (has_steps i.core none c.self.invariant.legal);
       next = subst (λ (r : Run). IsNext r c.look-next.result) same c.look-next.ensures.next;
       moves = λ claim e. c.in_default.not-Wait claim e;
     }
