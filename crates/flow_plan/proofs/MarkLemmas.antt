@@ -13,7 +13,7 @@ use Rattle.flow_plan.specs.declared.outline.Outline.{Outline}
 use Rattle.flow_plan.specs.declared.span.Span.{Span}
 use Rattle.flow_plan.specs.declared.sweep.Sweep.{Sweep}
 use Rattle.flow_plan.specs.Rows.{IsRowOf, FitsRows, AddsRows}
-use Rattle.flow_plan.specs.RowMarks.{IsWith, IsUnion, MakesRows, Completes}
+use Rattle.flow_plan.specs.RowMarks.{IsWith, IsUnion, MakesRows, MakesRowsBy, Completes}
 use Rattle.flow_plan.specs.Spans.{AddsSpans}
 use Rattle.flow_plan.specs.SpanMarks.{MakesSpans, Outlines}
 use Rattle.flow_plan.proofs.RowLemmas.{either_true, first_true, second_true, fits_first, fits_second, adds_sequence, adds_beside, first_rows}
@@ -94,13 +94,15 @@ whole_rows q ns ahead free fits listed empty =
     (λ more new behind adds. first_rows q ahead ns [] new listed refl empty adds))
 
 pub begun_rows : (q : Process) (nodes : List Node) (ns : List ℕ) (s : Sweep) → IsChoiceFree q → FitsRows q → nodes ≡ nodes_of q → ns ≡ leaves q → s.place ≡ 0 →
-    ((x : ℕ) → has_leaf s.ahead x ≡ false) → s.forks.items ≡ [] → s.rows.items ≡ [] → Completes q nodes ns s
-begun_rows q nodes ns s free fits are listed place ahead forks rows =
-    subst (λ l. MakesRows q l ns s.place s.ahead (reverse s.forks.items) s.rows.items) (sym are)
-    (subst (λ (k : ℕ). MakesRows q (nodes_of q) ns k s.ahead (reverse s.forks.items) s.rows.items) (sym place)
-    (subst (λ (l : List (LeafSet 16)). MakesRows q (nodes_of q) ns 0 s.ahead (reverse l) s.rows.items) (sym forks)
-    (subst (λ (l : List (LeafSet 16)). MakesRows q (nodes_of q) ns 0 s.ahead [] l) (sym rows)
-    (whole_rows q ns s.ahead free fits listed ahead))))
+    (empty : LeafSet 16) × ((x : ℕ) → has_leaf empty x ≡ false) × (s.sets.items ≡ empty ∷ []) → s.ahead ≡ 0 → s.forks.items ≡ [] → s.rows.items ≡ [] → Completes q nodes ns s
+begun_rows q nodes ns s free fits are listed place (empty, none, sets) ahead forks rows =
+    subst (λ l. MakesRowsBy q l ns s.place s.sets.items s.ahead (reverse s.forks.items) s.rows.items) (sym are)
+    (subst (λ (k : ℕ). MakesRowsBy q (nodes_of q) ns k s.sets.items s.ahead (reverse s.forks.items) s.rows.items) (sym place)
+    (subst (λ (l : List (LeafSet 16)). MakesRowsBy q (nodes_of q) ns 0 l s.ahead (reverse s.forks.items) s.rows.items) (sym sets)
+    (subst (λ (i : ℕ). MakesRowsBy q (nodes_of q) ns 0 (empty ∷ []) i (reverse s.forks.items) s.rows.items) (sym ahead)
+    (subst (λ (l : List ℕ). MakesRowsBy q (nodes_of q) ns 0 (empty ∷ []) 0 (reverse l) s.rows.items) (sym forks)
+    (subst (λ (l : List (LeafSet 16)). MakesRowsBy q (nodes_of q) ns 0 (empty ∷ []) 0 [] l) (sym rows)
+    (empty, [], (refl, tt), whole_rows q ns empty free fits listed none))))))
 
 -- ---- spans
 

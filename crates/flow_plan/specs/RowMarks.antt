@@ -1,5 +1,5 @@
 -- Marks of a goal that are read for the rows of its leaves.
-use Rattle.std.specs.Prelude.{◌≡◌, ◌+◌, ◌==◌, ◌||◌, ℕ, List, [], ◌∷◌, ◌++◌, MatchOption, reverse, slice_get}
+use Rattle.std.specs.Prelude.{◌≡◌, ◌+◌, ◌==◌, ◌||◌, ℕ, List, [], ◌∷◌, ◌++◌, MatchOption, Some, length, reverse, slice_get}
 use Rattle.leaf_rows.specs.Leaves.{has_leaf}
 use Rattle.leaf_rows.specs.declared.leaf_set.LeafSet.{LeafSet}
 use Rattle.flow_model.specs.Process.{Process}
@@ -32,10 +32,30 @@ MakesRows q (Join ∷ nodes) ns k ahead forks rows = WithTop forks
 MakesRows q (Open ∷ nodes) ns k ahead forks rows = MakesRows q nodes ns k ahead forks rows
 MakesRows q (Close ∷ nodes) ns k ahead forks rows = MakesRows q nodes ns k ahead forks rows
 
--- so does the rest of the marks from a sweep on
+-- the sets of those numbers
+abbrev pub AreAt : List (LeafSet 16) → List ℕ → List (LeafSet 16) → Type 0
+AreAt sets [] [] = Unit {0}
+AreAt sets [] (set ∷ more) = ⊥
+AreAt sets (i ∷ is) [] = ⊥
+AreAt sets (i ∷ is) (set ∷ more) = (slice_get sets i ≡ Some set) × AreAt sets is more
+
+-- so does the rest with the sets of those numbers
+abbrev pub MakesRowsBy : Process → List Node → List ℕ → ℕ → List (LeafSet 16) → ℕ → List ℕ → List (LeafSet 16) → Type 0
+MakesRowsBy q nodes ns k sets i is rows = (ahead : LeafSet 16) × (forks : List (LeafSet 16)) ×
+    AreAt sets (i ∷ is) (ahead ∷ forks) × MakesRows q nodes ns k ahead forks rows
+
+-- and from a sweep on
 abbrev pub Completes : Process → List Node → List ℕ → Sweep → Type 0
-Completes q nodes ns s = MakesRows q nodes ns s.place s.ahead (reverse s.forks.items) s.rows.items
+Completes q nodes ns s = MakesRowsBy q nodes ns s.place s.sets.items s.ahead (reverse s.forks.items) s.rows.items
 
 -- the mark was read
 abbrev pub Passes : Node → List ℕ → Sweep → Sweep → Type 0
 Passes node ns old new = (q : Process) (nodes : List Node) → Completes q (node ∷ nodes) ns old → Completes q nodes ns new
+
+-- the set is one more, and what is ahead
+pub record GoesOn (set : LeafSet 16) (old new : Sweep) : Type 0 where
+  pub place : new.place ≡ old.place
+  pub sets : new.sets.items ≡ old.sets.items ++ set ∷ []
+  pub ahead : new.ahead ≡ length old.sets.items
+  pub forks : new.forks.items ≡ old.forks.items
+  pub rows : new.rows.items ≡ old.rows.items
