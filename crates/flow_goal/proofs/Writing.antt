@@ -20,13 +20,15 @@ ok_taken (Err e) P Q p f = p
 -- what is put later stands to the left
 pub puts_more : (marks more : List Node) (ns ms : List ℕ) (old mid new : Backwards) → Puts marks ns old mid → Puts more ms mid new → Puts (more ++ marks) (ms ++ ns) old new
 puts_more marks more ns ms old mid new p q = record {
-  nodes_are = q.nodes_are ∙ ap (λ l. more ++ l) p.nodes_are ∙ sym (append_assoc more marks (reverse old.nodes.items));
+  same_marked = q.same_marked ∙ p.same_marked;
+  nodes_are = λ m. q.nodes_are (p.same_marked ∙ m) ∙ ap (λ l. more ++ l) (p.nodes_are m) ∙ sym (append_assoc more marks (reverse old.nodes.items));
   leaves_are = q.leaves_are ∙ ap (λ l. ms ++ l) p.leaves_are ∙ sym (append_assoc ms ns (reverse old.leaves.items));
 }
 
 puts_as : (marks more : List Node) (ns ms : List ℕ) (old new : Backwards) → marks ≡ more → ns ≡ ms → Puts marks ns old new → Puts more ms old new
 puts_as marks more ns ms old new e f p = record {
-  nodes_are = p.nodes_are ∙ ap (λ l. l ++ reverse old.nodes.items) e;
+  same_marked = p.same_marked;
+  nodes_are = λ m. p.nodes_are m ∙ ap (λ l. l ++ reverse old.nodes.items) e;
   leaves_are = p.leaves_are ∙ ap (λ l. l ++ reverse old.leaves.items) f;
 }
 
@@ -86,10 +88,10 @@ written_right a b number within old new digit le (q, is, p) = (q, of_right a b q
 
 -- the whole, where nothing was written before
 pub written_whole : (g : Process) (number : ℕ) (old new : Backwards) → number < resolution_count g → old.nodes.items ≡ [] → old.leaves.items ≡ [] →
-    PutsResolution g number old new → IsBackwardsOf g number new
+    PutsResolution g number old new → IsBackwardsOf g number old.marked new
 written_whole g number old new lt no_nodes no_leaves (q, is, p) = (
   q,
   ap (slice_get (resolutions g)) (sym (mod-eq_of_lt lt)) ∙ is,
-  p.nodes_are ∙ ap (λ l. nodes_of q ++ reverse l) no_nodes ∙ append-nil (nodes_of q),
+  λ m. p.nodes_are m ∙ ap (λ l. nodes_of q ++ reverse l) no_nodes ∙ append-nil (nodes_of q),
   p.leaves_are ∙ ap (λ l. leaves q ++ reverse l) no_leaves ∙ append-nil (leaves q),
 )

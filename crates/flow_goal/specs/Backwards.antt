@@ -1,5 +1,5 @@
 -- A goal that is written from right to left.
-use Rattle.std.specs.Prelude.{◌≡◌, ℕ, List, [], ◌∷◌, ◌++◌, reverse, Some, slice_get}
+use Rattle.std.specs.Prelude.{◌≡◌, ℕ, Bool, IsTrue, List, [], ◌∷◌, ◌++◌, reverse, Some, slice_get}
 use Rattle.flow_model.specs.Process.{Process, leaves}
 use Rattle.flow_model.specs.Resolution.{resolutions}
 use Rattle.flow_goal.specs.declared.node.Node.{Node}
@@ -9,9 +9,10 @@ use Rattle.std.specs.Option.{option_to_list}
 use Rattle.flow_goal.specs.Written.{nodes_of}
 use Rattle.flow_goal.specs.Sides.{IsResolutionOf, AreResolutionsOf, IsResolutionOfEither}
 
--- marks and leaves were put to the left of those that were there
+-- leaves were put to the left of those that were there, and marks where they are written
 pub record Puts (marks : List Node) (ns : List ℕ) (old new : Backwards) : Type 0 where
-  pub nodes_are : reverse new.nodes.items ≡ marks ++ reverse old.nodes.items
+  pub same_marked : new.marked ≡ old.marked
+  pub nodes_are : IsTrue old.marked → reverse new.nodes.items ≡ marks ++ reverse old.nodes.items
   pub leaves_are : reverse new.leaves.items ≡ ns ++ reverse old.leaves.items
 
 -- a resolution was written
@@ -28,7 +29,7 @@ PutsBoth a b number marks old new = (x : Process) × (y : Process) × AreResolut
     Puts (option_to_list marks.first ++ (nodes_of x ++ (option_to_list marks.between ++ (nodes_of y ++ marks.last ∷ []))))
     (leaves x ++ leaves y) old new
 
--- the resolution of that number is written, and nothing else
-abbrev pub IsBackwardsOf : Process → ℕ → Backwards → Type 0
-IsBackwardsOf g number out = (q : Process) × (slice_get (resolutions g) number ≡ Some q) ×
-    (reverse out.nodes.items ≡ nodes_of q) × (reverse out.leaves.items ≡ leaves q)
+-- the resolution of that number is written, with its marks or without them, and nothing else
+abbrev pub IsBackwardsOf : Process → ℕ → Bool → Backwards → Type 0
+IsBackwardsOf g number marked out = (q : Process) × (slice_get (resolutions g) number ≡ Some q) ×
+    (IsTrue marked → reverse out.nodes.items ≡ nodes_of q) × (reverse out.leaves.items ≡ leaves q)

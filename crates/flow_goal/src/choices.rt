@@ -78,6 +78,7 @@ fn skip(count: usize, list: &mut Vec<Sides>)
 
 /// Writes a resolution of two parts that both stay, with the marks around them.
 #[cycle(writing)]
+#[inline(always)]
 fn write_both(
     left: &Goal,
     right: &Goal,
@@ -102,6 +103,7 @@ fn write_both(
 
 /// Writes a resolution of one of two parts.
 #[cycle(writing)]
+#[inline(always)]
 fn write_either(
     left: &Goal,
     right: &Goal,
@@ -160,34 +162,36 @@ fn write(
     }
 }
 
-/// The resolution of that number, from right to left, where the sides of the goal's choices are counted.
+/// The resolution of that number, from right to left, where the sides of the goal's choices are counted: its
+/// leaves, and its marks where `marked`. There is room for so many leaves at first.
 fn written(
     alloc: Global,
     sides: &[Sides],
     goal: &Goal,
     number: u64,
+    marked: bool,
+    room: u32,
 ) -> Result<Backwards, AllocError>
     requires choices { sides.now ≡ sides_in (process_of goal.now) }
     requires numbered { number < Resolution.resolution_count (process_of goal.now) }
     requires exact { Resolution.resolution_count (process_of goal.now) < 2 ^ 64 - 1 }
-    ensures { IfOk result (IsBackwardsOf (process_of goal.now) number) }
+    ensures { IfOk result (IsBackwardsOf (process_of goal.now) number marked) }
 {
     let mut sides = Vec::from_slice(alloc, sides)?;
     let mut rest = number;
-    let mut out = Backwards {
-        nodes: Vec::new(alloc),
-        leaves: Vec::new(alloc),
-    };
+    let mut out = Backwards::new(alloc, marked, room)?;
     write(goal, &mut rest, &mut sides, &mut out)?;
     Ok(out)
 }
 
-/// The resolution of that number, where the sides of the goal's choices are counted.
+/// The resolution of that number, where the sides of the goal's choices are counted. There is room for so many
+/// leaves at first.
 pub(crate) fn resolved(
     alloc: Global,
     sides: &[Sides],
     goal: &Goal,
     number: u64,
+    room: u32,
 ) -> Result<Choiceless, AllocError>
     requires choices { sides.now ≡ sides_in (process_of goal.now) }
     requires numbered { number < Resolution.resolution_count (process_of goal.now) }
@@ -197,7 +201,7 @@ pub(crate) fn resolved(
     ensures resolution { IfOk result (λ q. slice_get (Resolution.resolutions (process_of goal.now)) number ≡ Some q.process) }
     ensures leaves { IfOk result (λ q. q.leaves ≡ Process.leaves q.process) }
 {
-    let mut out = written(alloc, sides, goal, number)?;
+    let mut out = written(alloc, sides, goal, number, true, room)?;
     out.nodes.reverse();
     out.leaves.reverse();
     Ok(Choiceless::new(out.nodes, out.leaves))
@@ -230,9 +234,8 @@ impl Choices {
         ensures resolution { IfOk result (λ q. slice_get (Resolution.resolutions tree.now.process) number ≡ Some q.process) }
         ensures leaves { IfOk result (λ q. q.leaves ≡ Process.leaves q.process) }
     {
-        // what the type keeps of its leaves
-        let _leaves = tree.leaves();
-        resolved(alloc, &self.sides, tree.goal(), number)
+        let leaves = tree.leaves();
+        resolved(alloc, &self.sides, tree.goal(), number, leaves)
     }
 
     /// The leaves of the resolution of that number, from left to right, by a walk of leaves and choices alone.
@@ -248,7 +251,8 @@ impl Choices {
         ensures { IfOk result (λ list. (q : Process.Process) × (slice_get (Resolution.resolutions tree.now.process) number ≡ Some q) ×
             (list.items ≡ Process.leaves q)) }
     {
-        let mut out = written(alloc, &self.sides, &self.skeleton, number)?;
+        let room = tree.leaves();
+        let mut out = written(alloc, &self.sides, &self.skeleton, number, false, room)?;
         out.leaves.reverse();
         Ok(out.leaves)
     }

@@ -30,7 +30,7 @@ fn simplified(alloc: Global, goal: &Choiceless) -> Result<Choiceless, AllocError
     let tree = shaped(alloc, Shape::Simple, &whole);
     drop(whole);
     let tree = tree?;
-    let new = resolved(alloc, &[], &tree, 0);
+    let new = resolved(alloc, &[], &tree, 0, 0);
     drop(tree);
     new
 }
