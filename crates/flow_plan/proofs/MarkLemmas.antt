@@ -1,5 +1,5 @@
 -- What is read from the marks of a goal.
-use Rattle.std.proofs.Common.{◌≡◌, ℕ, ◌+◌, ◌==◌, false, IsTrue, eq-eqb, eqb-true, List, [], ◌∷◌, ◌++◌, length, MatchOption, inl, inr, ◌⊎◌, ⊎_elim, refl, sym, ◌∙◌, subst, append-nil, reverse, arith}
+use Rattle.std.proofs.Common.{◌≡◌, ℕ, ◌+◌, ◌==◌, ◌||◌, Bool, true, false, IsTrue, eq-eqb, eqb-true, List, [], ◌∷◌, ◌++◌, length, MatchOption, inl, inr, ◌⊎◌, ⊎_elim, refl, sym, ap, ◌∙◌, subst, append-nil, reverse, arith}
 use Rattle.leaf_rows.specs.Leaves.{has_leaf}
 use Rattle.leaf_rows.specs.declared.leaf_set.LeafSet.{LeafSet}
 use Rattle.flow_model.specs.Lists.{◌∈◌}
@@ -13,7 +13,7 @@ use Rattle.flow_plan.specs.declared.outline.Outline.{Outline}
 use Rattle.flow_plan.specs.declared.span.Span.{Span}
 use Rattle.flow_plan.specs.declared.sweep.Sweep.{Sweep}
 use Rattle.flow_plan.specs.Rows.{IsRowOf, FitsRows, AddsRows}
-use Rattle.flow_plan.specs.RowMarks.{IsWith, IsUnion, MakesRows, MakesRowsBy, Completes}
+use Rattle.flow_plan.specs.RowMarks.{IsWith, IsJoined, IsUnion, MakesRows, MakesRowsBy, Completes}
 use Rattle.flow_plan.specs.Spans.{AddsSpans}
 use Rattle.flow_plan.specs.SpanMarks.{MakesSpans, Outlines}
 use Rattle.flow_plan.proofs.RowLemmas.{either_true, first_true, second_true, fits_first, fits_second, adds_sequence, adds_beside, first_rows}
@@ -24,6 +24,16 @@ use Rattle.flow_plan.proofs.SpanLemmas.{spans_of_none, spans_of_both, spans_of_i
 -- what is ahead of what follows a goal
 abbrev pub IsBehind : Process → LeafSet 16 → LeafSet 16 → Type 0
 IsBehind g ahead more = IsRowOf (λ x. IsTrue (has_leaf ahead x) ⊎ (x ∈ leaves g)) more
+
+-- one test that follows from the other
+covered : (s t : Bool) → (IsTrue s → IsTrue t) → t ≡ (s || t)
+covered true t h = h refl
+covered false t h = refl
+
+covering : (s t : Bool) → (IsTrue t → IsTrue s) → s ≡ (s || t)
+covering true t h = refl
+covering false true h = h refl
+covering false false h = refl
 
 behind_leaf : (n : ℕ) (ahead more : LeafSet 16) → IsWith n ahead more → IsBehind (Task n) ahead more
 behind_leaf n ahead more is x = (
@@ -51,6 +61,13 @@ behind_parallel a b ahead one two all first second is x = (
       (λ in_b. first_true (has_leaf two x) (has_leaf one x) ((second x).1 (inr in_b))) (mem-append x (leaves a) (leaves b) m)) either,
 )
 
+joined_is : (a b : Process) (ahead one two all : LeafSet 16) → IsBehind a ahead one → IsBehind b ahead two → IsJoined ahead one two all → IsUnion two one all
+joined_is a b ahead one two all first second (inl (none, same)) x =
+    ap (λ (s : LeafSet 16). has_leaf s x) same ∙ covered (has_leaf two x) (has_leaf one x) (λ h. (first x).1 (inl (subst (λ (s : LeafSet 16). IsTrue (has_leaf s x)) none h)))
+joined_is a b ahead one two all first second (inr (inl (none, same))) x =
+    ap (λ (s : LeafSet 16). has_leaf s x) same ∙ covering (has_leaf two x) (has_leaf one x) (λ h. (second x).1 (inl (subst (λ (s : LeafSet 16). IsTrue (has_leaf s x)) none h)))
+joined_is a b ahead one two all first second (inr (inr is)) x = is x
+
 -- the marks of a goal make the rows of its leaves
 module _ (q : Process) (ns : List ℕ) where
   pub goal_rows : (g : Process) (nodes : List Node) (k : ℕ) (ahead : LeafSet 16) (forks rows : List (LeafSet 16)) → IsChoiceFree g → FitsRows g → StandAt ns k (leaves g) →
@@ -75,9 +92,9 @@ module _ (q : Process) (ns : List ℕ) where
   goal_rows (Parallel a b) nodes k ahead forks rows free fits at then =
       subst (λ l. MakesRows q l ns k ahead forks rows) (sym (parallel_nodes a b nodes))
       (goal_rows a (Split ∷ (nodes_of b ++ (Join ∷ nodes))) k ahead (ahead ∷ forks) rows free.0 (fits_first (Parallel a b) a b refl fits) (first_stand ns k (leaves a) (leaves b) at)
-      (λ one mid behind_a adds_a. goal_rows b (Join ∷ nodes) (k + length (leaves a)) ahead (one ∷ forks) mid free.1 (fits_second (Parallel a b) a b refl fits) (second_stand ns k (leaves a) (leaves b) at)
+      (λ one mid behind_a adds_a. goal_rows b (Join ∷ nodes) (k + length (leaves a)) ahead (one ∷ ahead ∷ forks) mid free.1 (fits_second (Parallel a b) a b refl fits) (second_stand ns k (leaves a) (leaves b) at)
       (λ two new behind_b adds_b. λ all is. subst (λ (j : ℕ). MakesRows q nodes ns j all forks new) (sym (both_long k (leaves a) (leaves b)))
-      (then all new (behind_parallel a b ahead one two all behind_a behind_b is)
+      (then all new (behind_parallel a b ahead one two all behind_a behind_b (joined_is a b ahead one two all behind_a behind_b is))
       (adds_beside (Parallel a b) a b ahead rows mid new refl fits.distinct (λ x n. (λ h. h, λ h. h)) adds_a adds_b)))))
   goal_rows (Choice a b) nodes k ahead forks rows free fits at then = absurd free
   goal_rows (Isolated a) nodes k ahead forks rows free fits at then =

@@ -1,5 +1,5 @@
 -- Marks of a goal that are read for the rows of its leaves.
-use Rattle.std.specs.Prelude.{◌≡◌, ◌+◌, ◌==◌, ◌||◌, ℕ, List, [], ◌∷◌, ◌++◌, MatchOption, Some, length, reverse, slice_get}
+use Rattle.std.specs.Prelude.{◌≡◌, ◌+◌, ◌==◌, ◌||◌, ℕ, List, [], ◌∷◌, ◌++◌, ◌⊎◌, MatchOption, Some, length, reverse, slice_get}
 use Rattle.leaf_rows.specs.Leaves.{has_leaf}
 use Rattle.leaf_rows.specs.declared.leaf_set.LeafSet.{LeafSet}
 use Rattle.flow_model.specs.Process.{Process}
@@ -17,6 +17,11 @@ IsWith n old new = (x : ℕ) → has_leaf new x ≡ (x == n || has_leaf old x)
 abbrev pub IsUnion : LeafSet 16 → LeafSet 16 → LeafSet 16 → Type 0
 IsUnion one two all = (x : ℕ) → has_leaf all x ≡ (has_leaf one x || has_leaf two x)
 
+-- what is ahead of what follows two goals beside one another, by what is ahead of both and behind each: one of
+-- these where the other goal adds no leaf
+abbrev pub IsJoined : LeafSet 16 → LeafSet 16 → LeafSet 16 → LeafSet 16 → Type 0
+IsJoined both one two all = ((two ≡ both) × (all ≡ one)) ⊎ (((one ≡ both) × (all ≡ two)) ⊎ IsUnion two one all)
+
 -- whatever the sets that come are, the rest of the marks makes the rows of what is in sequence in q: with the
 -- leaves from that place on, what is ahead of the next of them, a stack of sets, and the rows so far
 abbrev pub MakesRows : Process → List Node → List ℕ → ℕ → LeafSet 16 → List (LeafSet 16) → List (LeafSet 16) → Type 0
@@ -26,9 +31,9 @@ MakesRows q (Leaf ∷ nodes) ns k ahead forks rows = MatchOption (slice_get ns k
     (λ n. (more : LeafSet 16) → IsWith n ahead more → MakesRows q nodes ns (k + 1) more forks (rows ++ ahead ∷ []))
 MakesRows q (Serial ∷ nodes) ns k ahead forks rows = MakesRows q nodes ns k ahead forks rows
 MakesRows q (Fork ∷ nodes) ns k ahead forks rows = MakesRows q nodes ns k ahead (ahead ∷ forks) rows
-MakesRows q (Split ∷ nodes) ns k ahead forks rows = WithTop forks (λ side more. MakesRows q nodes ns k side (ahead ∷ more) rows)
-MakesRows q (Join ∷ nodes) ns k ahead forks rows = WithTop forks
-    (λ side more. (all : LeafSet 16) → IsUnion ahead side all → MakesRows q nodes ns k all more rows)
+MakesRows q (Split ∷ nodes) ns k ahead forks rows = WithTop forks (λ both more. MakesRows q nodes ns k both (ahead ∷ both ∷ more) rows)
+MakesRows q (Join ∷ nodes) ns k ahead forks rows = WithTop forks (λ side more. WithTop more
+    (λ both rest. (all : LeafSet 16) → IsJoined both side ahead all → MakesRows q nodes ns k all rest rows))
 MakesRows q (Open ∷ nodes) ns k ahead forks rows = MakesRows q nodes ns k ahead forks rows
 MakesRows q (Close ∷ nodes) ns k ahead forks rows = MakesRows q nodes ns k ahead forks rows
 

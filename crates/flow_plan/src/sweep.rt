@@ -20,7 +20,7 @@ pub(crate) struct Sweep {
     /// The leaves before the next one.
     pub(crate) ahead: usize,
     /// Of each two goals beside one another that are being read: what is ahead of both, and from the
-    /// second on what is behind the first.
+    /// second on, above it, what is behind the first.
     pub(crate) forks: Vec<usize>,
     pub(crate) rows: Vec<LeafSet<16>>,
 }
@@ -100,21 +100,30 @@ impl Sweep {
     fn split(&mut self, leaves: &[u32]) -> Result<(), AllocError>
         ensures { OnOk result (Passes Split leaves.now self.old self.new) }
     {
-        let Some(side) = self.forks.pop() else {
+        let Some(both) = self.forks.pop() else {
             return Ok(());
         };
+        self.forks.push(both)?;
         self.forks.push(self.ahead)?;
-        self.ahead = side;
+        self.ahead = both;
         Ok(())
     }
 
+    /// What is ahead of what follows. Where one of the two goals has no leaf, it is what is behind the other.
     fn join(&mut self, leaves: &[u32]) -> Result<(), AllocError>
         ensures { OnOk result (Passes Join leaves.now self.old self.new) }
     {
         let Some(side) = self.forks.pop() else {
             return Ok(());
         };
-        if side == self.ahead {
+        let Some(both) = self.forks.pop() else {
+            return Ok(());
+        };
+        if self.ahead == both {
+            self.ahead = side;
+            return Ok(());
+        }
+        if side == both {
             return Ok(());
         }
         let (Some(one), Some(two)) = (self.set(self.ahead), self.set(side)) else {
