@@ -69,10 +69,10 @@ bit_of-put_other words n v k within other keeps = ⊎_elim
     (cases_eq (k / 64) (n / 64))
 
 -- after `insert`
-pub has_bit-insert : (w : ℕ) (words : List ℕ) (n k : ℕ) → length words ≡ w → n < 64 * w
+pub has_bit_insert : (w : ℕ) (words : List ℕ) (n k : ℕ) → length words ≡ w → n < 64 * w
     → has_bit w (set words (n / 64) (bit_or (get_or words (n / 64) 0) (1 * 2 ^ (n % 64) % 2 ^ 64))) k
     ≡ (k == n || has_bit w words k)
-has_bit-insert w words n k long within =
+has_bit_insert w words n k long within =
     let v : ℕ = bit_or (get_or words (n / 64) 0) (1 * 2 ^ (n % 64) % 2 ^ 64) in
     let in_words : n / 64 < length words = omega arith in
     let in_word : n % 64 < 64 = omega arith in
@@ -86,10 +86,10 @@ has_bit-insert w words n k long within =
     (cases_eq k n)
 
 -- after `remove`
-pub has_bit-remove : (w : ℕ) (words : List ℕ) (n k : ℕ) → length words ≡ w → n < 64 * w
+pub has_bit_remove : (w : ℕ) (words : List ℕ) (n k : ℕ) → length words ≡ w → n < 64 * w
     → has_bit w (set words (n / 64) (bit_and (get_or words (n / 64) 0) (2 ^ 64 - 1 - 1 * 2 ^ (n % 64) % 2 ^ 64))) k
     ≡ (not (k == n) && has_bit w words k)
-has_bit-remove w words n k long within =
+has_bit_remove w words n k long within =
     let v : ℕ = bit_and (get_or words (n / 64) 0) (2 ^ 64 - 1 - 1 * 2 ^ (n % 64) % 2 ^ 64) in
     let in_words : n / 64 < length words = omega arith in
     let in_word : n % 64 < 64 = omega arith in
@@ -153,16 +153,16 @@ has_bit-without w words other left n cleared fits = ⊎_elim
     (cases_lt n (64 * w))
 
 -- what `has` computes
-pub has_bit-shift : (w : ℕ) (words : List ℕ) (n : ℕ) → n < 64 * w
+pub has_bit_shift : (w : ℕ) (words : List ℕ) (n : ℕ) → n < 64 * w
     → (bit_and (get_or words (n / 64) 0 / 2 ^ (n % 64)) 1 == 1) ≡ has_bit w words n
 unfolding has_bit
-has_bit-shift w words n within =
+has_bit_shift w words n within =
     ap (λ b. b == 1) (shr_and_one (get_or words (n / 64) 0) (n % 64))
     ∙ sym (ap (λ t. t && (bit_of words n == 1)) (lt-ltb n (64 * w) within))
 
 -- what `new` makes
-pub has_bit-empty : (w n : ℕ) → has_bit w (replicate w 0) n ≡ false
-has_bit-empty w n = ⊎_elim
+pub has_bit_empty : (w n : ℕ) → has_bit w (replicate w 0) n ≡ false
+has_bit_empty w n = ⊎_elim
     (λ within. has_bit-zero w (replicate w 0) n
     (ap (λ word. bit_at word (n % 64)) (get_or-replicate w (n / 64) 0 0 (omega arith)) ∙ bit_at-zero (n % 64)))
     (λ past. has_bit-past w (replicate w 0) n past)
@@ -225,14 +225,6 @@ least_common w words other i within fits not_zero =
       has_bit-one w words _ (omega (arith, least.0)) (bit_of-place words i at least.0 ∙ omega arith),
       has_bit-one w other _ (omega (arith, least.0)) (bit_of-place other i at least.0 ∙ omega arith),
     )
-
--- a common bit of two words is one that both rows have
-pub common_bit : (w : ℕ) (words other : List ℕ) (i : ℕ) → i < w → get_or words i 0 < 2 ^ 64
-    → bit_and (get_or words i 0) (get_or other i 0) ≢ 0
-    → (k : ℕ) × (has_bit w words k ≡ true) × (has_bit w other k ≡ true)
-common_bit w words other i within fits not_zero =
-    let least = least_common w words other i within fits not_zero in
-    (64 * i + trailing_zeros w64 (bit_and (get_or words i 0) (get_or other i 0)), least.0, least.1)
 
 -- where no words have a common bit, no bit is common
 pub no_common_bit : (w : ℕ) (words other : List ℕ)

@@ -20,6 +20,7 @@ impl<const W: usize> LeafSet<W> {
     ghost use Rattle.leaf_rows.specs.Leaves.{has_leaf, members};
 
     /// The empty set.
+    #[tactic(auto, using(crate::proofs::Rows::has_bit_empty), unfolding(crate::specs::Leaves::has_leaf))]
     pub fn new() -> Self
         requires { W ≤ 64 }
         ensures { (n : ℕ) → has_leaf result n ≡ false }
@@ -27,6 +28,7 @@ impl<const W: usize> LeafSet<W> {
         LeafSet { words: [0; W] }
     }
 
+    #[tactic(auto, using(crate::proofs::Rows::has_bit_shift), unfolding(crate::specs::Leaves::has_leaf))]
     pub fn has(&self, n: u32) -> bool
         requires { n < 64 * W }
         ensures { result ≡ has_leaf self.now n }
@@ -34,6 +36,7 @@ impl<const W: usize> LeafSet<W> {
         self.words[(n / 64) as usize] >> (n % 64) & 1 == 1
     }
 
+    #[tactic(auto, using(crate::proofs::Rows::has_bit_insert), unfolding(crate::specs::Leaves::has_leaf))]
     pub fn insert(&mut self, n: u32)
         requires { n < 64 * W }
         ensures { (k : ℕ) → has_leaf self.new k ≡ (k == n || has_leaf self.old k) }
@@ -41,6 +44,7 @@ impl<const W: usize> LeafSet<W> {
         self.words[(n / 64) as usize] |= 1 << (n % 64);
     }
 
+    #[tactic(auto, using(crate::proofs::Rows::has_bit_remove), unfolding(crate::specs::Leaves::has_leaf))]
     pub fn remove(&mut self, n: u32)
         requires { n < 64 * W }
         ensures { (k : ℕ) → has_leaf self.new k ≡ (not (k == n) && has_leaf self.old k) }
@@ -79,12 +83,7 @@ impl<const W: usize> LeafSet<W> {
     pub fn meets(&self, other: &Self) -> bool
         ensures { IsTrue result ↔ ((k : ℕ) × IsTrue (has_leaf self.now k) × IsTrue (has_leaf other.now k)) }
     {
-        each_word!(i => {
-            if self.words[i] & other.words[i] != 0 {
-                return true;
-            }
-        });
-        false
+        self.first_common(other).is_some()
     }
 
     /// The least common member of the two.
