@@ -1,18 +1,34 @@
 -- Blocks of 64 resolutions, and the lanes in them.
-use Rattle.std.proofs.Common.{◌≡◌, ◌==◌, false, ℕ, ◌+◌, ◌*◌, ◌/◌, ◌<◌, ◌≤◌, min, List, length, take, map, sym, ap, ◌∙◌, subst, inl, inr, arith, Some, slice_get}
+use Rattle.std.proofs.Common.{◌≡◌, ◌==◌, false, ℕ, ◌+◌, ◌*◌, ◌/◌, ◌<◌, ◌≤◌, min, List, [], ◌∷◌, ◌++◌, Vec, Global, get_or, length, length-append, take, map, sym, ap, ◌∙◌, subst, inl, inr, arith, Some, slice_get}
 use Rattle.std.proofs.lemmas.Bool.{cases_lt, ne_eqb}
 use Rattle.std.proofs.lemmas.List.{take_all, take_min}
+use Rattle.std.proofs.lemmas.Option.{slice_get-get_or, slice_get_within}
 use Rattle.flow_model.specs.Process.{Process, leaves}
 use Rattle.flow_model.specs.Resolution.{resolution_count, resolutions}
 use Rattle.flow_model.specs.Ways.{Normal, leaf_of_event}
-use Rattle.flow_laws.proofs.MadeLists.{some_same}
+use Rattle.flow_laws.proofs.MadeLists.{slice_get_append_left, slice_get_append_right, some_same}
 use Rattle.flow_laws.proofs.ResolutionsLemmas.{length-resolutions}
 use Rattle.flow_goal.specs.Labelled.{Labelled}
 use Rattle.flow_rules.specs.declared.lanes.Lanes.{Lanes}
 use Rattle.flow_rules.specs.Lanes.{Shows, has_event}
 use Rattle.flow_excise.specs.declared.block.Block.{Block}
-use Rattle.flow_excise.specs.Blocks.{AreShown, HasWays, IsBlock, options_in}
+use Rattle.flow_excise.specs.Blocks.{AreLeavesOf, AreShown, HasWays, IsBlock, options_in}
 use Rattle.flow_excise.specs.Options.{options_by}
+
+-- one list more
+pub listed_more : (t : Labelled) (first : ℕ) (old : List (Vec ℕ Global)) (list : Vec ℕ Global) (q : Process) →
+    slice_get (resolutions t.process) (first + length old) ≡ Some q → list.items ≡ leaves q → AreLeavesOf t first old → AreLeavesOf t first (old ++ list ∷ [])
+listed_more t first old list q there listed so_far lane l read = elim (cases_lt lane (length old)) [
+  | inl h ↦
+      let before = slice_get-get_or old lane list h in
+      so_far lane l (before ∙ sym (slice_get_append_left old (list ∷ []) lane (get_or old lane list) before) ∙ read)
+  | inr h ↦
+      let within = slice_get_within (old ++ list ∷ []) lane l read in
+      let last : length old + 0 ≡ lane = omega (arith, length-append old (list ∷ []), within, h) in
+      let place : first + length old ≡ first + lane = omega (arith, last) in
+      let same = some_same list l (sym (slice_get_append_right old (list ∷ []) 0) ∙ ap (slice_get (old ++ list ∷ [])) last ∙ read) in
+      (q, sym (ap (slice_get (resolutions t.process)) place) ∙ there, sym (ap (λ (v : Vec ℕ Global). v.items) same) ∙ listed)
+]
 
 -- one lane more
 pub shown_more : (t : Labelled) (first lane : ℕ) (p : Process) (ls : List ℕ) (old new : Lanes) → slice_get (resolutions t.process) (first + lane) ≡ Some p → ls ≡ leaves p →

@@ -1,8 +1,8 @@
-ghost use Rattle.std.specs.Prelude.{◌≡◌, ◌<◌, ◌≤◌, ◌*◌, ◌+◌, ◌-◌, ◌/◌, min, IfOk, OnOk};
+ghost use Rattle.std.specs.Prelude.{◌≡◌, ◌<◌, ◌≤◌, ◌*◌, ◌+◌, ◌-◌, ◌/◌, min, IfOk, length};
 ghost use Rattle.flow_model.specs.Resolution.{resolution_count};
 ghost use Rattle.flow_goal.specs.Choices.{AreChoicesOf};
 ghost use Rattle.flow_rules.specs.Conjunction.{normal_in};
-ghost use Rattle.flow_excise.specs.Blocks.{AreShown, IsBlock};
+ghost use Rattle.flow_excise.specs.Blocks.{AreLeavesOf, AreShown, IsBlock};
 
 use flow_goal::{Choices, Tree, resolutions};
 use flow_rules::{Conjunction, Lanes, Narrowed};
@@ -15,6 +15,8 @@ pub(crate) struct Block {
     pub(crate) first: u64,
     /// How many they are.
     pub(crate) size: u32,
+    /// The leaves of each of them.
+    pub(crate) leaves: Vec<Vec<u32>>,
     pub(crate) narrowed: Narrowed,
 }
 
@@ -28,27 +30,31 @@ fn size_of(tree: &Tree, number: u64) -> u32
     left.min(64) as u32
 }
 
-/// Notes the leaves of each resolution from a number on in a lane of its own.
-fn block_lanes(
+/// The leaves of so many resolutions from a number on. They are noted in a lane of its own for each.
+fn block_leaves(
     alloc: Global,
     tree: &Tree,
     choices: &Choices,
     first: u64,
     size: u32,
     lanes: &mut Lanes,
-) -> Result<(), AllocError>
+) -> Result<Vec<Vec<u32>>, AllocError>
     requires choices { AreChoicesOf tree.now.process choices.now }
     requires exact { resolution_count tree.now.process ≤ 4096 }
     requires within { first + size ≤ resolution_count tree.now.process }
     requires few { size ≤ 64 }
-    ensures { OnOk result (AreShown tree.now first size lanes.new) }
+    ensures leaves { IfOk result (λ lists. AreLeavesOf tree.now first lists.items) }
+    ensures size { IfOk result (λ lists. length lists.items ≡ size) }
+    ensures shown { IfOk result (λ _. AreShown tree.now first size lanes.new) }
 {
     lanes.clear();
+    let mut lists = Vec::new(alloc);
     for lane in 0..size {
         let leaves = choices.resolution_leaves(alloc, tree, first + lane as u64)?;
         lanes.note(tree, &leaves, lane)?;
+        lists.push(leaves)?;
     }
-    Ok(())
+    Ok(lists)
 }
 
 impl Block {
@@ -68,11 +74,12 @@ impl Block {
     {
         let first = 64 * number;
         let size = size_of(tree, number);
-        block_lanes(alloc, tree, choices, first, size, lanes)?;
+        let leaves = block_leaves(alloc, tree, choices, first, size, lanes)?;
         let narrowed = rules.narrowed(alloc, lanes)?;
         Ok(Block {
             first,
             size,
+            leaves,
             narrowed,
         })
     }

@@ -1,4 +1,4 @@
-ghost use Rattle.std.specs.Prelude.{◌≡◌, ◌<◌, ◌≤◌, ◌+◌, ◌==◌, ◌++◌, ◌∷◌, [], not, IfOk, OnOk, map};
+ghost use Rattle.std.specs.Prelude.{◌≡◌, ◌<◌, ◌≤◌, ◌+◌, ◌==◌, ◌++◌, ◌∷◌, [], not, IfOk, OnOk, length, map};
 ghost use Rattle.flow_model.specs.Resolution.{resolution_count, resolutions as all_resolutions};
 ghost use Rattle.flow_model.specs.Ways.{Normal, leaf_of_event};
 ghost use Rattle.flow_goal.specs.Choices.{AreChoicesOf};
@@ -6,7 +6,7 @@ ghost use Rattle.flow_rules.specs.Conjunction.{normal_in};
 ghost use Rattle.flow_rules.specs.Counts.{count_of};
 ghost use Rattle.flow_rules.specs.EventLeaves.{IsBlank};
 ghost use Rattle.flow_rules.specs.Narrowed.{ways_in};
-ghost use Rattle.flow_excise.specs.Blocks.{HasWays};
+ghost use Rattle.flow_excise.specs.Blocks.{AreLeavesOf, HasWays};
 ghost use Rattle.flow_excise.specs.Options.{all_options_by, has_ways};
 ghost use Rattle.flow_excise.specs.Tallies.{IsCountedTo, added, tally_by, tally_of};
 
@@ -91,18 +91,15 @@ fn count_in(
     Ok(count)
 }
 
-/// Counts the resolutions of a block behind those before it. The leaves of one at a time are in memory.
+/// Counts the resolutions of a block behind those before it.
 fn tally_block(
-    alloc: Global,
     tree: &Tree,
-    choices: &Choices,
     block: &Block,
     events: &mut LeafEvents,
     counted: &mut Counted,
 ) -> Result<(), AllocError>
-    requires choices { AreChoicesOf tree.now.process choices.now }
-    requires exact { resolution_count tree.now.process ≤ 4096 }
-    requires within { block.now.first + block.now.size ≤ resolution_count tree.now.process }
+    requires leaves { AreLeavesOf tree.now block.now.first block.now.leaves.items }
+    requires size { length block.now.leaves.items ≡ block.now.size }
     requires few { block.now.size ≤ 64 }
     requires blank { IsBlank events.old }
     ensures counted { OnOk result ((normal : Normal) → HasWays tree.now normal block.now →
@@ -110,8 +107,8 @@ fn tally_block(
     ensures blank { OnOk result (IsBlank events.new) }
 {
     for lane in 0..block.size {
-        let leaves = choices.resolution_leaves(alloc, tree, block.first + lane as u64)?;
-        let count = count_in(tree, &block.narrowed, lane, &leaves, events)?;
+        let leaves = &block.leaves[lane as usize];
+        let count = count_in(tree, &block.narrowed, lane, leaves, events)?;
         counted.add(leaves.len() as u64, count)?;
     }
     Ok(())
@@ -137,7 +134,7 @@ pub(crate) fn whole_tally(
     let mut events = LeafEvents::new(alloc);
     for number in 0..blocks(tree) {
         let block = Block::new(alloc, tree, choices, rules, number, &mut lanes)?;
-        tally_block(alloc, tree, choices, &block, &mut events, &mut counted)?;
+        tally_block(tree, &block, &mut events, &mut counted)?;
     }
     Ok(counted)
 }

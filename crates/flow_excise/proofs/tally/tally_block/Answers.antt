@@ -1,4 +1,5 @@
-use Rattle.std.proofs.Common.{◌≡◌, ◌+◌, ◌∙◌, ℕ, List, length, ap, arith, subst}
+use Rattle.std.proofs.Common.{◌≡◌, ◌+◌, ◌∙◌, ℕ, List, Some, length, ap, arith, subst, sym}
+use Rattle.std.proofs.lemmas.Option.{slice_get-get_or}
 use Rattle.flow_model.specs.Ways.{leaf_of_event}
 use Rattle.flow_rules.specs.Counts.{count_of}
 use Rattle.flow_rules.specs.Narrowed.{ways_in}
@@ -16,13 +17,14 @@ loop-lane-init c = record {
 
 pub loop-lane-preserved : goal.loop-lane-preserved
 loop-lane-preserved c =
-    let (q, there, listed) = c.in_ok-leaves.ensures in
     let tree = c.args.tree.now in
     let block = c.args.block.now in
     let lane = c.loop-lane.lane in
+    let list = c.index-leaves.result.now in
+    let (q, there, listed) = c.requires.leaves lane list (slice_get-get_or block.leaves.items lane list (omega (arith, c.requires.size)) ∙ ap Some (sym c.index-leaves.ensures)) in
     let leaves = c.deref.result.now in
     let same = c.deref.ensures.value ∙ listed in
-    let long : c.len.result ≡ length leaves = grind (arith, c.len.ensures, c.deref.ensures.len, c.deref.ensures.value, c.in_ok-leaves.leaves.ok) in
+    let long : c.len.result ≡ length leaves = grind (arith, c.len.ensures, c.deref.ensures.len, c.deref.ensures.value, list.ok) in
     record {
       blank = c.in_ok-count.ensures.blank;
       counted = λ normal ways so_far.

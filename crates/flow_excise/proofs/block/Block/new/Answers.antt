@@ -7,6 +7,8 @@ pub returns : goal.returns
 returns c = record {
   first = refl;
   size = c.size_of-size.ensures;
+  leaves = c.in_ok-leaves.ensures.leaves;
+  listed = c.in_ok-leaves.ensures.size;
   ways = λ lane q h there.
-      c.in_ok-narrowed.ensures lane (leaf_of_event c.args.tree.now.labels (leaves q)) (omega (arith, h, c.size_of-size.ensures)) (c.in_ok-block_lanes.ensures lane q h there);
+      c.in_ok-narrowed.ensures lane (leaf_of_event c.args.tree.now.labels (leaves q)) (omega (arith, h, c.size_of-size.ensures)) (c.in_ok-leaves.ensures.shown lane q h there);
 }
