@@ -27,8 +27,8 @@ use Rattle.flow_reply.specs.declared.answer.Answer.{Answer}
 use Rattle.flow_reply.specs.declared.answer.Answer.TheVariants as answer
 use Rattle.flow_reply.specs.declared.verdict.Verdict.{Verdict}
 use Rattle.flow_reply.specs.declared.verdict.Verdict.TheVariants as verdict
-use Rattle.flow_reply.specs.Checking.{check_text}
-use Rattle.flow_reply.specs.Judging.{checked_text}
+use Rattle.flow_findings.specs.Checking.{check_text}
+use Rattle.flow_findings.specs.Judging.{checked_text}
 use Rattle.flow_reply.specs.Reply.{IsReply}
 use Rattle.flow_reply.specs.Report.{Means, IsReport}
 use Rattle.flow_reply.proofs.OneReply.{one_reply, one_report}

@@ -20,8 +20,8 @@ use Rattle.flow_expand.specs.declared.refusal.Part.TheVariants as part
 use Rattle.flow_excise.specs.declared.refusal.Dropped.{Dropped}
 use Rattle.flow_excise.specs.declared.refusal.CompileRefusal.{CompileRefusal}
 use Rattle.flow_excise.specs.declared.refusal.CompileRefusal.TheVariants as compilation
-use Rattle.flow_reply.specs.declared.refused.Refused.{Refused}
-use Rattle.flow_reply.specs.declared.refused.Refused.TheVariants.{Words, Read, TooLong, Text, Query, Record, Expand, NoRule, Compile}
+use Rattle.flow_findings.specs.declared.refused.Refused.{Refused}
+use Rattle.flow_findings.specs.declared.refused.Refused.TheVariants.{Words, Read, TooLong, Text, Query, Record, Expand, NoRule, Compile}
 
 -- how the program is called
 abbrev pub usage_text : List ℕ

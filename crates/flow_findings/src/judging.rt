@@ -1,6 +1,6 @@
 ghost use Rattle.std.specs.Prelude.{◌≡◌, ◌++◌, IfOk};
 ghost use Rattle.flow_record.specs.Journal.{AreLeaves};
-ghost use Rattle.flow_reply.specs.Judging.{checked_text, counted_journal, verified_text, redundancy_text, HasLabels, NeedHasLabels};
+ghost use Rattle.flow_findings.specs.Judging.{checked_text, counted_journal, verified_text, redundancy_text, HasLabels, NeedHasLabels};
 
 use crate::pieces::print_pieces;
 use flow_record::print_journal;

@@ -1,8 +1,8 @@
 ghost use Rattle.std.specs.Prelude.{◌≡◌, ◌++◌, IfOk, OnOk};
 ghost use Rattle.std.specs.String.{string_bytes};
-ghost use Rattle.flow_reply.specs.Refusing.{compile_refusal, dropped_line, inconsistent_text, IsOfOptions};
+ghost use Rattle.flow_findings.specs.Refusing.{compile_refusal, dropped_line, inconsistent_text, IsOfOptions};
 
-use crate::listed::push_numbers;
+use crate::spaced::push_numbers;
 use crate::numbered::print_numbered;
 use flow_excise::{CompileRefusal, Dropped};
 use std::alloc::{AllocError, Global};

@@ -1,6 +1,6 @@
 ghost use Rattle.std.specs.Prelude.{◌≡◌, ◌++◌, codes, IfOk};
 ghost use Rattle.std.specs.Fmt.{decimal};
-ghost use Rattle.flow_reply.specs.Refusing.{kind_text, text_refusal, line_refusal, IsOfText, IsOfLines};
+ghost use Rattle.flow_findings.specs.Refusing.{kind_text, text_refusal, line_refusal, IsOfText, IsOfLines};
 
 use crate::numbered::print_numbered;
 use crate::pieces::print_pieces;

@@ -1,5 +1,5 @@
 ghost use Rattle.std.specs.Prelude.{◌≡◌, IfOk};
-ghost use Rattle.flow_reply.specs.Refusing.{refused_text, named_by, IsTold};
+ghost use Rattle.flow_findings.specs.Refusing.{refused_text, named_by, IsTold};
 
 use crate::numbered::print_numbered;
 use crate::uncompiled::print_compile_refusal;

@@ -1,5 +1,5 @@
-use Rattle.flow_reply.proofs.Tables.{one_more}
-use Rattle.flow_reply.proofs.checking.push_leaves.Goals as goal
+use Rattle.flow_findings.proofs.Tables.{one_more}
+use Rattle.flow_findings.proofs.checking.push_leaves.Goals as goal
 
 pub loop-leaf-preserved : goal.loop-leaf-preserved
 loop-leaf-preserved c =

@@ -3,7 +3,7 @@ ghost use Rattle.std.specs.Option.{option_copied, unwrap_or};
 ghost use Rattle.std.specs.Fmt.{decimal};
 ghost use Rattle.flow_form.specs.Script.{declared};
 ghost use Rattle.flow_form.specs.Names.{event_names};
-ghost use Rattle.flow_reply.specs.Refusing.{named_by, spaced, expand_refusal, IsOfWorkflow};
+ghost use Rattle.flow_findings.specs.Refusing.{named_by, spaced, expand_refusal, IsOfWorkflow};
 
 use crate::numbered::print_numbered;
 use crate::pieces::print_pieces;

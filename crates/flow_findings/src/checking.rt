@@ -1,7 +1,7 @@
 ghost use Rattle.std.specs.Prelude.{◌≡◌, ◌++◌, codes, IfOk, OnOk};
 ghost use Rattle.std.specs.String.{string_bytes};
 ghost use Rattle.flow_record.specs.Journal.{IsLeaf, leaf_line};
-ghost use Rattle.flow_reply.specs.Checking.{leaf_table, counts_text, check_text};
+ghost use Rattle.flow_findings.specs.Checking.{leaf_table, counts_text, check_text};
 
 use flow_excise::Counts;
 use flow_record::push_leaf_line;

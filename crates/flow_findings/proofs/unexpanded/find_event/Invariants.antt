@@ -1,7 +1,7 @@
 use Rattle.std.proofs.Common.{◌≡◌, slice_get, map, drop}
 use Rattle.flow_form.specs.Script.{declared}
 use Rattle.flow_form.specs.Names.{event_names}
-use Rattle.flow_reply.proofs.unexpanded.find_event.Given as goal
+use Rattle.flow_findings.proofs.unexpanded.find_event.Given as goal
 
 abbrev pub invariant-loop-decl : goal.invariant-loop-decl
 invariant-loop-decl l =
