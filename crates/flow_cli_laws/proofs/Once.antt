@@ -9,8 +9,9 @@ use Rattle.flow_model.specs.Verdict as model
 use Rattle.flow_workflow.specs.Definition.{Definition, schema_of}
 use Rattle.flow_excise.specs.declared.counts.Counts.{Counts}
 use Rattle.flow_excise.specs.Compilation.{Compilation, IsLive, IsCompiled, options_of}
-use Rattle.flow_excise.specs.Executions.{HasExecution, AreJustThose}
-use Rattle.flow_excise.specs.Plans.{option_of}
+use Rattle.flow_sample.specs.Excised.{HasExecution}
+use Rattle.flow_excise.specs.Executions.{AreJustThose}
+use Rattle.flow_sample.specs.Plans.{option_of}
 use Rattle.flow_plan.specs.Sampled.{Sampled}
 use Rattle.flow_trace.proofs.TraceLemmas.{tells_once}
 use Rattle.flow_core.specs.declared.refusal.TakeRefusal.{TakeRefusal}
