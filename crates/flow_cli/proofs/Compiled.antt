@@ -9,9 +9,9 @@ use Rattle.flow_excise.specs.declared.refusal.CompileRefusal.{CompileRefusal}
 use Rattle.flow_excise.specs.declared.refusal.CompileRefusal.TheVariants.{TooManyChoices, TooManyWays, TooBulky, Inconsistent, NoMemory}
 use Rattle.flow_excise.specs.Compilation.{Compilation, IsLive, IsCompiled, IsRefused}
 use Rattle.flow_core.proofs.Compiled.{within, compiled, of_parts}
-use Rattle.flow_reply.specs.declared.refused.Refused.TheVariants as refused
-use Rattle.flow_reply.specs.Refusing.{IsOfOptions}
-use Rattle.flow_reply.specs.Checking.{check_text}
+use Rattle.flow_findings.specs.declared.refused.Refused.TheVariants as refused
+use Rattle.flow_findings.specs.Refusing.{IsOfOptions}
+use Rattle.flow_findings.specs.Checking.{check_text}
 use Rattle.flow_cli.specs.declared.status.Status.{Status}
 use Rattle.flow_cli.specs.declared.status.Status.TheVariants.{Fine}
 use Rattle.flow_cli.specs.Refusals.{Tells}

@@ -3,7 +3,7 @@ use Rattle.std.proofs.Common.{◌≡◌, ◌≤◌, ℕ, List, [], length, inl, 
 use Rattle.std.specs.Prelude.{◌<◌}
 use Rattle.flow_form.specs.Script.{Said}
 use Rattle.flow_io.specs.Source.{IsAllOf}
-use Rattle.flow_reply.specs.declared.refused.Refused.TheVariants as refused
+use Rattle.flow_findings.specs.declared.refused.Refused.TheVariants as refused
 use Rattle.flow_cli.specs.declared.status.Status.{Status}
 use Rattle.flow_cli.specs.Refusals.{Tells}
 use Rattle.flow_cli.specs.Output.{greatest_input, WritesFor, WritesRead, WritesIn}

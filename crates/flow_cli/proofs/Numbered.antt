@@ -18,7 +18,7 @@ use Rattle.flow_expand.specs.declared.refusal.ExpandRefusal.TheVariants as refus
 use Rattle.flow_expand.specs.Expansion.{Expansion, in_turn, at_once, one_of, joined, Becomes, AllBecome, becomes_nop, becomes_event, becomes_flow, becomes_test, becomes_absent, becomes_ins, becomes_del, becomes_iso, becomes_serial, becomes_beside, becomes_either, none_becomes, more_become}
 use Rattle.flow_expand.specs.Numbers.{labels_of, facts_of}
 use Rattle.flow_expand.specs.Refusals.{IsRefusal}
-use Rattle.flow_reply.specs.Refusing.{IsOfWorkflow}
+use Rattle.flow_findings.specs.Refusing.{IsOfWorkflow}
 
 -- the label's event, if it has one, has a number below the count
 abbrev IsBelow : ℕ → Label → Type 0

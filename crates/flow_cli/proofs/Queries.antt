@@ -24,8 +24,8 @@ use Rattle.flow_verify.specs.declared.answers.Redundancy.TheVariants.{Redundant,
 use Rattle.flow_verify.specs.declared.refusal.VerifyRefusal.{VerifyRefusal}
 use Rattle.flow_verify.specs.declared.refusal.VerifyRefusal.TheVariants.{NoRule}
 use Rattle.flow_verify.specs.Verification.{against, without, TellsOfProperty, TellsOfConstraint, IsRefused}
-use Rattle.flow_reply.specs.declared.refused.Refused.TheVariants as refused
-use Rattle.flow_reply.specs.Judging.{redundancy_text, HasLabels, NeedHasLabels}
+use Rattle.flow_findings.specs.declared.refused.Refused.TheVariants as refused
+use Rattle.flow_findings.specs.Judging.{redundancy_text, HasLabels, NeedHasLabels}
 use Rattle.flow_reply.proofs.Runs.{trace_within}
 use Rattle.flow_cli.specs.declared.output.Output.{Output}
 use Rattle.flow_cli.specs.declared.status.Status.{Status}

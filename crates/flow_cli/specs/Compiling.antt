@@ -8,8 +8,8 @@ use Rattle.flow_excise.specs.declared.refusal.CompileRefusal.TheVariants.{TooMan
 use Rattle.flow_excise.specs.declared.refusal.Dropped.{Dropped}
 use Rattle.flow_excise.specs.Executions.{TellOfAll}
 use Rattle.flow_excise.specs.Compilation.{IsWithinLimits, IsRefused, all_numbered}
-use Rattle.flow_reply.specs.declared.refused.Refused.TheVariants as refused
-use Rattle.flow_reply.specs.Refusing.{inconsistent_text}
+use Rattle.flow_findings.specs.declared.refused.Refused.TheVariants as refused
+use Rattle.flow_findings.specs.Refusing.{inconsistent_text}
 use Rattle.flow_cli.specs.declared.status.Status.{Status}
 use Rattle.flow_cli.specs.declared.status.Status.TheVariants.{No}
 use Rattle.flow_cli.specs.Refusals.{Tells}

@@ -9,7 +9,7 @@ use Rattle.flow_excise.specs.Compilation.{IsWithinLimits}
 use Rattle.flow_record.specs.declared.command.Command.{Command}
 use Rattle.flow_record.specs.declared.refusal.RecordRefusal.TheVariants.{BadLine}
 use Rattle.flow_record.specs.Session.{session_of, commands, bad_line}
-use Rattle.flow_reply.specs.declared.refused.Refused.TheVariants as refused
+use Rattle.flow_findings.specs.declared.refused.Refused.TheVariants as refused
 use Rattle.flow_reply.specs.declared.verdict.Verdict.{Verdict}
 use Rattle.flow_reply.specs.declared.verdict.Verdict.TheVariants as verdict
 use Rattle.flow_reply.specs.Report.{Means, IsReport}

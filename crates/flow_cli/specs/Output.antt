@@ -6,9 +6,9 @@ use Rattle.flow_form.specs.declared.refusal.TextRefusal.{TextRefusal}
 use Rattle.flow_form.specs.Script.{Said}
 use Rattle.flow_text.specs.Saying.{Says}
 use Rattle.flow_text.specs.Parsing.{IsParseRefusal}
-use Rattle.flow_reply.specs.declared.refused.Refused.TheVariants as refused
+use Rattle.flow_findings.specs.declared.refused.Refused.TheVariants as refused
 use Rattle.flow_record.specs.Cut.{cut_of}
-use Rattle.flow_reply.specs.Refusing.{IsOfText}
+use Rattle.flow_findings.specs.Refusing.{IsOfText}
 use Rattle.flow_words.specs.declared.request.Mode.{Mode}
 use Rattle.flow_words.specs.declared.request.Mode.TheVariants.{Drive, Run, Check, Verify, Trace, Gen, Large}
 use Rattle.flow_words.specs.declared.request.Request.{Request}

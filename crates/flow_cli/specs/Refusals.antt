@@ -8,9 +8,9 @@ use Rattle.flow_expand.specs.Refusals.{IsRefusal}
 use Rattle.flow_expand.specs.Workflows.{IsExpanded}
 use Rattle.flow_excise.specs.declared.refusal.CompileRefusal.{CompileRefusal}
 use Rattle.flow_excise.specs.declared.refusal.CompileRefusal.TheVariants.{TooManyChoices, TooManyWays, TooBulky, Inconsistent, NoMemory}
-use Rattle.flow_reply.specs.declared.refused.Refused.{Refused}
-use Rattle.flow_reply.specs.declared.refused.Refused.TheVariants as refused
-use Rattle.flow_reply.specs.Refusing.{refused_text, IsOfWorkflow}
+use Rattle.flow_findings.specs.declared.refused.Refused.{Refused}
+use Rattle.flow_findings.specs.declared.refused.Refused.TheVariants as refused
+use Rattle.flow_findings.specs.Refusing.{refused_text, IsOfWorkflow}
 use Rattle.flow_cli.specs.declared.status.Status.{Status}
 use Rattle.flow_cli.specs.declared.status.Status.TheVariants.{No, Words, Input, ReadFault}
 

@@ -9,8 +9,8 @@ use Rattle.flow_record.specs.Journal.{journal_of, journal, bad_line, wrong_label
 use Rattle.flow_trace.specs.declared.checked.Checked.{Checked}
 use Rattle.flow_trace.specs.declared.checked.Checked.TheVariants.{Execution, Prefix, Bad}
 use Rattle.flow_trace.specs.Traces.{TellsOfTrace}
-use Rattle.flow_reply.specs.declared.refused.Refused.TheVariants as refused
-use Rattle.flow_reply.specs.Judging.{checked_text}
+use Rattle.flow_findings.specs.declared.refused.Refused.TheVariants as refused
+use Rattle.flow_findings.specs.Judging.{checked_text}
 use Rattle.flow_cli.specs.declared.status.Status.{Status}
 use Rattle.flow_cli.specs.declared.status.Status.TheVariants.{Fine, No}
 use Rattle.flow_cli.specs.Refusals.{Tells, IsNotExpanded, OfWorkflow}

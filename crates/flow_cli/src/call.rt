@@ -18,7 +18,7 @@ use crate::tracing::Trace;
 use crate::verifying::Verify;
 use flow_gate::Gate;
 use flow_io::{Sink, Source, write_all};
-use flow_reply::Refused;
+use flow_findings::Refused;
 use flow_words::{Mode, Request, law_one_request, request_of};
 use std::alloc::{AllocError, Global};
 use std::sync::Wait;

@@ -7,7 +7,7 @@ use crate::status::Status;
 use flow_excise::compile;
 use flow_expand::{Workflow, expand};
 use flow_form::Script;
-use flow_reply::print_check;
+use flow_findings::print_check;
 use std::alloc::{AllocError, Global};
 
 /// Checks a workflow: its leaves and counts, or why it is not compiled.

@@ -10,7 +10,8 @@ use flow_excise::compile;
 use flow_expand::{Workflow, expand};
 use flow_form::Script;
 use flow_record::{RecordRefusal, read_session};
-use flow_reply::{Command, Refused};
+use flow_findings::Refused;
+use flow_reply::Command;
 use std::alloc::{AllocError, Global};
 
 /// Drives a workflow by a session, where it is compiled.

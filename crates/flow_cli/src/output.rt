@@ -1,7 +1,7 @@
 ghost use Rattle.std.specs.Prelude.{◌≡◌, IfOk};
 ghost use Rattle.flow_form.specs.Script.{said};
 ghost use Rattle.flow_expand.specs.Refusals.{IsRefusal};
-ghost use Rattle.flow_reply.specs.Refusing.{named_by, IsTold};
+ghost use Rattle.flow_findings.specs.Refusing.{named_by, IsTold};
 ghost use Rattle.flow_workflow.specs.Definition.{Definition, schema_of};
 ghost use Rattle.flow_excise.specs.Compilation.{IsRefused};
 ghost use Rattle.flow_cli.specs.Refusals.{status_of, status_of_compiling, Tells, IsNotExpanded};
@@ -11,7 +11,7 @@ use crate::status::Status;
 use flow_excise::CompileRefusal;
 use flow_expand::ExpandRefusal;
 use flow_form::Script;
-use flow_reply::{Refused, print_refused};
+use flow_findings::{Refused, print_refused};
 use std::alloc::{AllocError, Global};
 
 /// What is written, and the status that goes with it.

@@ -10,7 +10,7 @@ use crate::status::Status;
 use flow_form::Script;
 use flow_io::{ReadRefusal, Source, read_all};
 use flow_record::cut;
-use flow_reply::Refused;
+use flow_findings::Refused;
 use flow_text::{TextRefusal, parse};
 use std::alloc::{AllocError, Global};
 

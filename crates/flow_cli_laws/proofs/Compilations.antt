@@ -6,9 +6,9 @@ use Rattle.flow_workflow.specs.Definition.{Definition, schema_of}
 use Rattle.flow_excise.specs.declared.refusal.CompileRefusal.{CompileRefusal}
 use Rattle.flow_excise.specs.declared.refusal.CompileRefusal.TheVariants.{TooManyChoices, TooManyWays, TooBulky, Inconsistent, NoMemory}
 use Rattle.flow_excise.specs.Compilation.{IsWithinLimits, IsRefused}
-use Rattle.flow_reply.specs.declared.refused.Refused.{Refused}
-use Rattle.flow_reply.specs.declared.refused.Refused.TheVariants as refused
-use Rattle.flow_reply.specs.Refusing.{refused_text}
+use Rattle.flow_findings.specs.declared.refused.Refused.{Refused}
+use Rattle.flow_findings.specs.declared.refused.Refused.TheVariants as refused
+use Rattle.flow_findings.specs.Refusing.{refused_text}
 use Rattle.flow_cli.specs.declared.status.Status.{Status}
 use Rattle.flow_cli.specs.Refusals.{status_of, Tells}
 use Rattle.flow_cli.specs.Compiling.{IsOfCounts, IsTooLarge, IsNotCompiled}

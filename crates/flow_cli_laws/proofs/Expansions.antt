@@ -21,8 +21,8 @@ use Rattle.flow_expand.specs.Workflows.{definition_of, IsExpanded}
 use Rattle.flow_expand.proofs.Endings.{becomes_one}
 use Rattle.flow_expand.proofs.BuildLemmas.{labels_counted}
 use Rattle.flow_expand.proofs.NumberingLemmas.{leaves_in_row}
-use Rattle.flow_reply.specs.declared.refused.Refused.TheVariants as refused
-use Rattle.flow_reply.specs.Refusing.{refused_text, IsOfWorkflow}
+use Rattle.flow_findings.specs.declared.refused.Refused.TheVariants as refused
+use Rattle.flow_findings.specs.Refusing.{refused_text, IsOfWorkflow}
 use Rattle.flow_cli.specs.declared.status.Status.{Status}
 use Rattle.flow_cli.specs.Refusals.{IsNotExpanded, OfWorkflow}
 use Rattle.flow_cli_laws.specs.Single.{ShowsChain}

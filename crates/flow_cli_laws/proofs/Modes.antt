@@ -19,7 +19,7 @@ use Rattle.flow_record.specs.Session as session_text
 use Rattle.flow_trace.specs.declared.checked.Checked.{Checked}
 use Rattle.flow_trace.specs.declared.checked.Checked.TheVariants.{Execution, Prefix, Bad}
 use Rattle.flow_trace.specs.Traces.{TellsOfTrace}
-use Rattle.flow_reply.specs.declared.refused.Refused.TheVariants as refused
+use Rattle.flow_findings.specs.declared.refused.Refused.TheVariants as refused
 use Rattle.flow_cli.specs.declared.status.Status.{Status}
 use Rattle.flow_cli.specs.Compiling.{IsNotCompiled}
 use Rattle.flow_cli.specs.Checking.{IsFoundConsistent, ChecksWorkflow, Checks}

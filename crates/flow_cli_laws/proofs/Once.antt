@@ -9,8 +9,9 @@ use Rattle.flow_model.specs.Verdict as model
 use Rattle.flow_workflow.specs.Definition.{Definition, schema_of}
 use Rattle.flow_excise.specs.declared.counts.Counts.{Counts}
 use Rattle.flow_excise.specs.Compilation.{Compilation, IsLive, IsCompiled, options_of}
-use Rattle.flow_excise.specs.Executions.{HasExecution, AreJustThose}
-use Rattle.flow_excise.specs.Plans.{option_of}
+use Rattle.flow_sample.specs.Excised.{HasExecution}
+use Rattle.flow_excise.specs.Executions.{AreJustThose}
+use Rattle.flow_sample.specs.Plans.{option_of}
 use Rattle.flow_plan.specs.Sampled.{Sampled}
 use Rattle.flow_trace.proofs.TraceLemmas.{tells_once}
 use Rattle.flow_core.specs.declared.refusal.TakeRefusal.{TakeRefusal}
@@ -27,8 +28,8 @@ use Rattle.flow_reply.specs.declared.answer.Answer.{Answer}
 use Rattle.flow_reply.specs.declared.answer.Answer.TheVariants as answer
 use Rattle.flow_reply.specs.declared.verdict.Verdict.{Verdict}
 use Rattle.flow_reply.specs.declared.verdict.Verdict.TheVariants as verdict
-use Rattle.flow_reply.specs.Checking.{check_text}
-use Rattle.flow_reply.specs.Judging.{checked_text}
+use Rattle.flow_findings.specs.Checking.{check_text}
+use Rattle.flow_findings.specs.Judging.{checked_text}
 use Rattle.flow_reply.specs.Reply.{IsReply}
 use Rattle.flow_reply.specs.Report.{Means, IsReport}
 use Rattle.flow_reply.proofs.OneReply.{one_reply, one_report}

@@ -3,7 +3,7 @@ use Rattle.std.proofs.Common.{◌≡◌, Ok, Err, subst}
 use Rattle.std.specs.Prelude.{Result}
 use Rattle.flow_form.specs.declared.refusal.TextRefusal.{TextRefusal}
 use Rattle.flow_form.specs.declared.refusal.TextRefusal.TheVariants.{NoMemory}
-use Rattle.flow_reply.specs.Refusing.{IsOfText}
+use Rattle.flow_findings.specs.Refusing.{IsOfText}
 
 -- a refusal of a text is not for want of memory
 pub of_text : (r : TextRefusal) → IsOfText r → ¬ (r ≡ NoMemory)

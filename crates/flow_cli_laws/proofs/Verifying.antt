@@ -15,8 +15,8 @@ use Rattle.flow_verify.specs.declared.answers.Verified.TheVariants.{Holds, Fails
 use Rattle.flow_verify.specs.declared.answers.Redundancy.{Redundancy}
 use Rattle.flow_verify.specs.declared.answers.Redundancy.TheVariants.{Redundant, Needed}
 use Rattle.flow_verify.specs.Verification.{against, without, TellsOfProperty, TellsOfConstraint}
-use Rattle.flow_reply.specs.declared.refused.Refused.TheVariants as refused
-use Rattle.flow_reply.specs.Judging.{verified_text, redundancy_text}
+use Rattle.flow_findings.specs.declared.refused.Refused.TheVariants as refused
+use Rattle.flow_findings.specs.Judging.{verified_text, redundancy_text}
 use Rattle.flow_cli.specs.declared.status.Status.{Status}
 use Rattle.flow_cli.specs.Compiling.{IsTooLarge}
 use Rattle.flow_cli.specs.Verifying.{OfQuery, status_of_verified, status_of_redundancy, VerifiesProperty, TellsConstraint, VerifiesConstraint, VerifiesWorkflow, VerifiesSaid, VerifiesText}

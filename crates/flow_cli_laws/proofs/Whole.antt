@@ -5,7 +5,7 @@ use Rattle.flow_model.specs.declared.history.Outcome.{Outcome}
 use Rattle.flow_form.specs.Script.{Said}
 use Rattle.flow_text.specs.Saying.{Says}
 use Rattle.flow_text.proofs.OneAnswer.{texts_have_one_answer}
-use Rattle.flow_reply.specs.declared.refused.Refused.TheVariants as refused
+use Rattle.flow_findings.specs.declared.refused.Refused.TheVariants as refused
 use Rattle.flow_words.specs.declared.request.Mode.{Mode}
 use Rattle.flow_words.specs.declared.request.Mode.TheVariants.{Drive, Run, Check, Verify, Trace, Gen, Large}
 use Rattle.flow_words.specs.declared.request.Request.{Request}

@@ -16,9 +16,9 @@ use Rattle.flow_record.specs.declared.command.Command.{Command}
 use Rattle.flow_verify.specs.declared.answers.Verified.TheVariants.{Fails}
 use Rattle.flow_verify.specs.declared.answers.Redundancy.TheVariants.{Needed}
 use Rattle.flow_verify.specs.Verification.{TellsOfProperty, TellsOfConstraint}
-use Rattle.flow_reply.specs.declared.refused.Refused.TheVariants as refused
-use Rattle.flow_reply.specs.Refusing.{refused_text, inconsistent_text}
-use Rattle.flow_reply.specs.Judging.{verified_text, redundancy_text}
+use Rattle.flow_findings.specs.declared.refused.Refused.TheVariants as refused
+use Rattle.flow_findings.specs.Refusing.{refused_text, inconsistent_text}
+use Rattle.flow_findings.specs.Judging.{verified_text, redundancy_text}
 use Rattle.flow_words.specs.declared.request.Mode.{Mode}
 use Rattle.flow_words.specs.declared.request.Mode.TheVariants.{Drive, Run, Check, Verify, Trace, Gen, Large}
 use Rattle.flow_words.specs.declared.request.Request.{Request}

@@ -8,7 +8,7 @@ use Rattle.flow_laws.specs.Histories.{IsSound}
 use Rattle.flow_laws.proofs.Members.{split_at, mem_append_left, each_from_members}
 use Rattle.flow_laws.proofs.MadeLists.{distinct-numbers_from, numbers_from_below, same_order, begins_front}
 use Rattle.flow_laws.proofs.TraceLeaves.{leaf_of_trace, distinct_trace}
-use Rattle.flow_excise.proofs.RingLemmas.{at_most}
+use Rattle.flow_sample.proofs.RingLemmas.{at_most}
 use Rattle.flow_residual.specs.Remaining.{Remaining, IsOf, MayComeNext}
 use Rattle.flow_residual.proofs.PossibleLemmas.{run_of_follow, follow_of_run}
 

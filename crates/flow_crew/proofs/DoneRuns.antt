@@ -27,7 +27,7 @@ use Rattle.flow_laws.proofs.OptionsLemmas.{distinct_leaves}
 use Rattle.flow_laws.proofs.ClaimLemmas.{leaf_of, is_of, and_parts, some_claim, leaf_of_claim_is}
 use Rattle.flow_laws.proofs.SoundStates.{taken_of_current}
 use Rattle.flow_laws.proofs.NeverAtALoss.{sound_state, never_stuck}
-use Rattle.flow_excise.proofs.RingLemmas.{at_most}
+use Rattle.flow_sample.proofs.RingLemmas.{at_most}
 use Rattle.flow_core.specs.Run.{Run, schema, now}
 use Rattle.flow_core.proofs.Steps.{state_after-append}
 use Rattle.flow_core.proofs.Following.{within_free}

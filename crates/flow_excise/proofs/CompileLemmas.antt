@@ -22,14 +22,15 @@ use Rattle.flow_plan.specs.Sampled.{Sampled}
 use Rattle.flow_excise.specs.declared.refusal.Dropped.{Dropped}
 use Rattle.flow_excise.specs.declared.refusal.CompileRefusal.{CompileRefusal}
 use Rattle.flow_excise.specs.declared.refusal.CompileRefusal.TheVariants.{TooManyChoices, TooManyWays, TooBulky, Inconsistent, NoMemory}
-use Rattle.flow_excise.specs.Executions.{HasExecution, AreJustThose, NumberedOption, numbered_ways, numbered_options, TellOfAll, AreSifted}
+use Rattle.flow_sample.specs.Excised.{HasExecution}
+use Rattle.flow_excise.specs.Executions.{AreJustThose, NumberedOption, numbered_ways, numbered_options, TellOfAll, AreSifted}
 use Rattle.flow_excise.specs.declared.counts.Counts.{Counts}
 use Rattle.flow_excise.specs.declared.sifted.Sieve.{Sieve}
 use Rattle.flow_excise.specs.declared.tally.Tally.{Tally}
 use Rattle.flow_excise.specs.Compilation.{Compilation, options_of, all_numbered, IsCompiled, IsWithinLimits, IsRefused}
 use Rattle.flow_excise.specs.Limits.{AreFew, bulk_of, IsTooMany}
 use Rattle.flow_excise.specs.Options.{schema_of, options_by, all_options_by}
-use Rattle.flow_excise.specs.Plans.{option_of}
+use Rattle.flow_sample.specs.Plans.{option_of}
 use Rattle.flow_excise.specs.Sieves.{ArePlannable, HasSifted}
 use Rattle.flow_rules.specs.Conjunction.{HasWaysOf}
 use Rattle.flow_excise.proofs.SiftingLemmas.{options_told, told_ways, just_those, all_dropped, some_kept, kept_has}
@@ -154,9 +155,6 @@ module _ (t : Labelled) (these : List Constraint) (n : Normal) (same : HasWaysOf
   }
 
 -- vectors with nothing in them
-
-pub is_empty : {A : Type 0} (xs : List A) (n : ℕ) → n ≡ length xs → (n == 0) ≡ true → xs ≡ []
-is_empty xs n e t = nil_from_length xs (sym e ∙ eqb-true n 0 t)
 
 pub is_not_empty : {A : Type 0} (xs : List A) (n : ℕ) → n ≡ length xs → (n == 0) ≡ false → xs ≢ []
 is_not_empty xs n e t f = true≢false (sym (eq-eqb n 0 (e ∙ ap length f)) ∙ t)

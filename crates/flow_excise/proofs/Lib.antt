@@ -1,13 +1,5 @@
 pub mod BlockLemmas
 pub mod TallyLemmas
-pub mod RingLemmas
-pub mod OrderLemmas
-pub mod ForwardLemmas
-pub mod ItemLemmas
-pub mod LaidLemmas
-pub mod PieceLemmas
-pub mod GatheringLemmas
-pub mod TurningLemmas
 pub mod SiftingLemmas
 pub mod SieveLemmas
 pub mod CompileLemmas

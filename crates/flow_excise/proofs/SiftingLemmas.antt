@@ -6,7 +6,8 @@ use Rattle.flow_laws.specs.Words.{IsOrdered}
 use Rattle.flow_laws.proofs.CircleExcludes.{circles_exclude_traces}
 use Rattle.flow_laws.proofs.Members.{not_empty}
 use Rattle.flow_excise.specs.declared.refusal.Dropped.{Dropped}
-use Rattle.flow_excise.specs.Executions.{HasExecution, AreJustThose, NumberedOption, numbered_ways, numbered_options, TellsOf, TellOfAll, AreSifted}
+use Rattle.flow_sample.specs.Excised.{HasExecution}
+use Rattle.flow_excise.specs.Executions.{AreJustThose, NumberedOption, numbered_ways, numbered_options, TellsOf, TellOfAll, AreSifted}
 
 -- one option more
 

@@ -12,8 +12,9 @@ use Rattle.flow_excise.specs.declared.counts.Counts.{Counts}
 use Rattle.flow_excise.specs.contracts.counts.Counts as counts
 use Rattle.flow_excise.specs.declared.refusal.CompileRefusal.{CompileRefusal}
 use Rattle.flow_excise.specs.declared.refusal.CompileRefusal.TheVariants.{TooManyChoices, TooManyWays, TooBulky, Inconsistent, NoMemory}
-use Rattle.flow_excise.specs.Executions.{HasExecution, AreJustThose, NumberedOption, numbered_options, TellOfAll}
-use Rattle.flow_excise.specs.Plans.{option_of}
+use Rattle.flow_sample.specs.Excised.{HasExecution}
+use Rattle.flow_excise.specs.Executions.{AreJustThose, NumberedOption, numbered_options, TellOfAll}
+use Rattle.flow_sample.specs.Plans.{option_of}
 
 pub record Compilation : Type 0 where
   pub plans : List Sampled

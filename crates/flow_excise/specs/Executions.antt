@@ -1,11 +1,9 @@
 -- Options that have an execution are kept, the others are dropped.
 use Rattle.std.specs.Prelude.{◌≡◌, ℕ, ◌+◌, ◌⊎◌, List, [], ◌∷◌, ◌++◌}
 use Rattle.flow_model.specs.Circle.{IsCircle}
-use Rattle.flow_model.specs.Resolution.{ChoiceOption, OptionTrace}
+use Rattle.flow_model.specs.Resolution.{ChoiceOption}
+use Rattle.flow_sample.specs.Excised.{HasExecution}
 use Rattle.flow_excise.specs.declared.refusal.Dropped.{Dropped}
-
-abbrev pub HasExecution : ChoiceOption → Type 0
-HasExecution o = (t : List ℕ) × OptionTrace o t
 
 -- the second list has, in order, just those members of the first that have P
 abbrev pub AreJustThose : {A : Type 0} → (A → Type 0) → List A → List A → Type 0

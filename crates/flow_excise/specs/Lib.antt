@@ -2,13 +2,6 @@ pub mod Options
 pub mod Blocks
 pub mod Tallies
 pub mod Limits
-pub mod Rows
-pub mod Turned
-pub mod Arranged
-pub mod ItemMarks
-pub mod Items
 pub mod Executions
-pub mod Plans
-pub mod Excised
 pub mod Compilation
 pub mod Sieves

@@ -3,25 +3,17 @@
 #![tactic(auto)]
 
 mod block;
-mod circle;
 mod compiled;
 mod compiling;
 mod counts;
-mod excising;
-mod gathering;
-mod item;
-mod items;
 mod limits;
-mod order;
 mod refusal;
 mod sieve;
 mod sifted;
 mod tally;
-mod written;
 
-pub use circle::Circle;
 pub use compiled::Compiled;
 pub use compiling::compile;
 pub use counts::Counts;
-pub use excising::{ExciseRefusal, excise};
+pub use flow_sample::{Circle, ExciseRefusal, excise};
 pub use refusal::{CompileRefusal, Dropped};

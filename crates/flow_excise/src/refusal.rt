@@ -1,7 +1,7 @@
 ghost use Rattle.std.specs.Prelude.{◌≡◌};
 ghost use Rattle.flow_excise.specs.declared.refusal.CompileRefusal.TheVariants.{NoMemory};
 
-use crate::circle::Circle;
+use flow_sample::Circle;
 use std::alloc::{AllocError, AllocFailed};
 
 /// An option that has no execution.

@@ -13,7 +13,7 @@ ghost use Rattle.flow_excise.specs.Sieves.{ArePlannable, HasSifted, HasSiftedTo,
 ghost use Rattle.flow_weave.specs.Woven.{option_with};
 
 use crate::block::{Block, blocks};
-use crate::excising::{ExciseRefusal, excise};
+use flow_sample::{ExciseRefusal, excise};
 use crate::refusal::{CompileRefusal, Dropped};
 use crate::sifted::Sieve;
 use flow_goal::{Choiceless, Choices, Tree};

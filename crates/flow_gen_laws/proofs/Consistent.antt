@@ -23,7 +23,7 @@ use Rattle.flow_gen_laws.proofs.SaidTexts.{names_are_good}
 use Rattle.flow_gen_laws.proofs.Rows.{IsRow}
 use Rattle.flow_gen_laws.proofs.Expanded.{whole_row, leaf_event}
 use Rattle.flow_gen_laws.proofs.Precedences.{precedence, IsPrecedence, rules_are}
-use Rattle.flow_excise.proofs.ForwardLemmas.{straight, rising_before}
+use Rattle.flow_sample.proofs.ForwardLemmas.{straight, rising_before}
 use Rattle.flow_gen_laws.proofs.Straight.{some_resolution, own_values}
 
 met_by : (low high : ℕ) (t : List ℕ) → Rises low t high → (x y : ℕ) → x < y → Decided (x ∈ t) → Decided (y ∈ t) → Meets (precedence x y) t

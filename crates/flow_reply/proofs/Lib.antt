@@ -1,4 +1,3 @@
-pub mod Tables
 mod Verdicts
 pub mod Runs
 pub mod OneReply

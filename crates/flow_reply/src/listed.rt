@@ -1,13 +1,13 @@
-ghost use Rattle.std.specs.Prelude.{◌≡◌, ◌++◌, IfOk, OnOk};
+ghost use Rattle.std.specs.Prelude.{◌≡◌, IfOk};
 ghost use Rattle.std.specs.String.{string_bytes};
 ghost use Rattle.flow_model.specs.Run.{CanDoAside, IsStuck};
 ghost use Rattle.flow_model.specs.Verdict.{AreJust};
 ghost use Rattle.flow_core.specs.Run.{schema, now};
 ghost use Rattle.flow_core.specs.Looks.{CanAct};
-ghost use Rattle.flow_reply.specs.Refusing.{spaced_numbers};
 ghost use Rattle.flow_reply.specs.Reply.{numbers_text, HoldsNow, IsStuckText};
 
 use flow_core::{Core, Next};
+use flow_findings::push_numbers;
 use std::alloc::{AllocError, Global};
 
 /// Prints a word, and the numbers after it.
@@ -17,16 +17,6 @@ pub fn print_numbers(alloc: Global, word: &str, numbers: &[u32]) -> Result<Strin
     let mut text = format!(in alloc; "{word}")?;
     push_numbers(&mut text, numbers)?;
     Ok(text)
-}
-
-/// Adds the numbers, each after a blank.
-pub fn push_numbers(text: &mut String, numbers: &[u32]) -> Result<(), AllocError>
-    ensures { OnOk result (string_bytes text.new ≡ string_bytes text.old ++ spaced_numbers numbers.now) }
-{
-    for number in numbers {
-        write!(text, " {number}")?;
-    }
-    Ok(())
 }
 
 /// The leaves that can act, rising.

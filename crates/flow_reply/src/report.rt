@@ -5,9 +5,9 @@ ghost use Rattle.flow_record.specs.Journal.{AreLeaves};
 ghost use Rattle.flow_reply.specs.Report.{IsVerdictText, IsReport, report_text};
 
 use crate::listed::print_stuck;
-use crate::pieces::print_pieces;
 use crate::verdict::Verdict;
 use flow_core::Core;
+use flow_findings::print_pieces;
 use flow_record::{print_history, print_journal};
 use itoa::Buffer;
 use std::alloc::{AllocError, Global};

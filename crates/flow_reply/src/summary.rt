@@ -4,10 +4,10 @@ ghost use Rattle.serde_json.specs.View.{view};
 ghost use Rattle.serde_json.specs.Written.{compact_text};
 ghost use Rattle.flow_reply.specs.Summary.{summary_object, IsSummary};
 
-use crate::pieces::print_pieces;
 use crate::report::print_verdict;
 use crate::verdict::Verdict;
 use flow_core::Core;
+use flow_findings::print_pieces;
 use serde_json::{Value, json};
 use std::alloc::{AllocError, Global};
 

@@ -20,8 +20,9 @@ use Rattle.flow_plan.specs.Planned.{Planned, pairs_of}
 use Rattle.flow_plan.specs.Progress.{IsDone}
 use Rattle.flow_plan.specs.Orders.{MayComeNext as MayComeNextIn, MayFollowInEveryOrder}
 use Rattle.flow_plan.specs.declared.progress.Progress.{Progress}
-use Rattle.flow_excise.specs.Executions.{HasExecution, AreJustThose}
-use Rattle.flow_excise.specs.Plans.{option_of}
+use Rattle.flow_sample.specs.Excised.{HasExecution}
+use Rattle.flow_excise.specs.Executions.{AreJustThose}
+use Rattle.flow_sample.specs.Plans.{option_of}
 use Rattle.flow_excise.proofs.SiftingLemmas.{kept_has}
 use Rattle.flow_residual.specs.Remaining.{Remaining, IsOf, IsLive, MayComeNext, IsAvoidable}
 use Rattle.flow_residual.specs.Possible.{SomeOption, TakesAll, TakesFirst, LeavesOut, IsFinished, IsOpenFor}

@@ -4,7 +4,7 @@ ghost use Rattle.flow_model.specs.Lists.{◌∈◌, Each};
 ghost use Rattle.flow_model.specs.Process.{leaves};
 ghost use Rattle.flow_model.specs.Resolution.{ChoiceOption};
 ghost use Rattle.flow_excise.specs.Compilation.{options_of};
-ghost use Rattle.flow_excise.specs.Plans.{option_of};
+ghost use Rattle.flow_sample.specs.Plans.{option_of};
 ghost use Rattle.flow_residual.specs.Bans.{IsLeastBan, AreLeastBans};
 
 use flow_plan::{KnotFree, Plan};

@@ -7,7 +7,7 @@ ghost use Rattle.flow_plan.specs.Rows.{IsRowOf};
 ghost use Rattle.flow_model.specs.Resolution.{ChoiceOption};
 ghost use Rattle.flow_plan.specs.Progress.{IsDone, bound_of};
 ghost use Rattle.flow_excise.specs.Compilation.{options_of};
-ghost use Rattle.flow_excise.specs.Plans.{option_of};
+ghost use Rattle.flow_sample.specs.Plans.{option_of};
 ghost use Rattle.flow_residual.specs.Fronts.{AreFronts};
 ghost use Rattle.flow_residual.specs.Kept.{HasSmallLeaves};
 ghost use Rattle.flow_model.specs.Lists.{AreDistinct};

@@ -19,8 +19,9 @@ use Rattle.flow_laws.proofs.OptionsLemmas.{option_is_ordered, distinct_leaves}
 use Rattle.flow_laws.proofs.GoodTraces.{option_of_good, option_trace_is_good}
 use Rattle.flow_laws.proofs.ReadyRuns.{fronts_are_ready}
 use Rattle.flow_laws.proofs.CircleOrTrace.{ready_runs_extend}
-use Rattle.flow_excise.specs.Executions.{HasExecution, AreJustThose}
-use Rattle.flow_excise.proofs.RingLemmas.{at_most}
+use Rattle.flow_sample.specs.Excised.{HasExecution}
+use Rattle.flow_excise.specs.Executions.{AreJustThose}
+use Rattle.flow_sample.proofs.RingLemmas.{at_most}
 use Rattle.flow_excise.proofs.SiftingLemmas.{kept_has}
 use Rattle.flow_workflow.specs.Definition.{Definition, schema_of}
 use Rattle.flow_world.specs.Course.{Course, state_of_world}

@@ -3,7 +3,7 @@ ghost use Rattle.flow_model.specs.Lists.{◌∈◌, Each};
 ghost use Rattle.flow_plan.specs.Orders.{Fits, MayComeNext};
 ghost use Rattle.flow_plan.specs.Progress.{IsDone, bound_of};
 ghost use Rattle.flow_excise.specs.Compilation.{options_of};
-ghost use Rattle.flow_excise.specs.Plans.{option_of};
+ghost use Rattle.flow_sample.specs.Plans.{option_of};
 ghost use Rattle.flow_residual.specs.Kept.{HasSmallLeaves};
 ghost use Rattle.flow_residual.specs.Possible.{SomeOption};
 ghost use Rattle.flow_trace.specs.Live.{Follows, Finishes, AreLive};

@@ -1,6 +1,6 @@
 use Rattle.std.proofs.Common.{rules}
 use Rattle.std.proofs.lemmas.Result.{IfOk-weaker}
-use Rattle.flow_reply.specs.Refusing.{IsOfOptions}
+use Rattle.flow_findings.specs.Refusing.{IsOfOptions}
 use Rattle.flow_cli.proofs.Compiled.{not_compiled}
 use Rattle.flow_cli.proofs.output.refuse_workflow.Goals as goal
 

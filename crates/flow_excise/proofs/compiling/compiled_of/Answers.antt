@@ -1,5 +1,6 @@
 use Rattle.std.proofs.Common.{◌∙◌, refl, sym}
-use Rattle.flow_excise.proofs.CompileLemmas.{is_empty, is_not_empty}
+use Rattle.flow_excise.proofs.CompileLemmas.{is_not_empty}
+use Rattle.flow_sample.proofs.GatheringLemmas.{is_empty}
 use Rattle.flow_excise.proofs.compiling.compiled_of.Goals as goal
 
 pub returns-clause-ok : goal.returns-clause-ok

@@ -9,8 +9,8 @@ use Rattle.flow_weave.specs.Woven.{option_with, AreNumbered}
 use Rattle.flow_model.specs.Circle.{IsCircle}
 use Rattle.flow_model.specs.Resolution.{ChoiceOption}
 use Rattle.flow_excise.specs.Compilation.{options_of}
-use Rattle.flow_excise.specs.Executions.{HasExecution}
-use Rattle.flow_excise.specs.Plans.{option_of}
+use Rattle.flow_sample.specs.Excised.{HasExecution}
+use Rattle.flow_sample.specs.Plans.{option_of}
 use Rattle.flow_excise.proofs.SiftingLemmas.{numbered}
 use Rattle.flow_excise.proofs.SieveLemmas.{sift_kept, sift_dropped}
 use Rattle.flow_excise.proofs.sieve.sift.Goals as goal

@@ -2,7 +2,7 @@ use Rattle.std.proofs.Common.{◌≤◌, ◌<◌, ◌++◌, [], ◌∷◌, None,
 use Rattle.flow_model.specs.Resolution.{ChoiceOption}
 use Rattle.flow_plan.specs.Planned.{Planned}
 use Rattle.flow_excise.specs.Compilation.{options_of}
-use Rattle.flow_excise.specs.Plans.{option_of}
+use Rattle.flow_sample.specs.Plans.{option_of}
 use Rattle.flow_residual.specs.Bans.{IsLeastBan}
 use Rattle.flow_residual.proofs.BanLemmas.{changed_none, changed_set, changed_all}
 use Rattle.flow_residual.proofs.OptionLemmas.{same_plan}

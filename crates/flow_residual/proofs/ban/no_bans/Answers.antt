@@ -1,7 +1,7 @@
 use Rattle.std.proofs.Common.{[], ◌∷◌, ◌++◌, List, Option, ℕ, sym, subst, take}
 use Rattle.flow_model.specs.Resolution.{ChoiceOption}
 use Rattle.flow_excise.specs.Compilation.{options_of}
-use Rattle.flow_excise.specs.Plans.{option_of}
+use Rattle.flow_sample.specs.Plans.{option_of}
 use Rattle.flow_residual.specs.Bans.{AreLeastBans}
 use Rattle.flow_residual.proofs.BanLemmas.{least_more}
 use Rattle.flow_residual.proofs.OptionLemmas.{options_more}

@@ -4,7 +4,7 @@ use Rattle.flow_model.specs.Resolution.{ChoiceOption}
 use Rattle.flow_laws.proofs.Members.{each-append}
 use Rattle.flow_plan.specs.Planned.{Planned}
 use Rattle.flow_excise.specs.Compilation.{options_of}
-use Rattle.flow_excise.specs.Plans.{option_of}
+use Rattle.flow_sample.specs.Plans.{option_of}
 use Rattle.flow_residual.specs.Fronts.{AreFronts}
 use Rattle.flow_residual.specs.Kept.{HasSmallLeaves}
 use Rattle.flow_residual.proofs.FrontLemmas.{no_front, fronts_more}

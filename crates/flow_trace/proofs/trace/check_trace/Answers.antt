@@ -3,7 +3,8 @@ use Rattle.std.proofs.lemmas.List.{with_items_is, length-take-le}
 use Rattle.flow_model.specs.Resolution.{options}
 use Rattle.flow_plan.specs.Sampled.{Sampled}
 use Rattle.flow_workflow.specs.Definition.{schema_of}
-use Rattle.flow_excise.specs.Executions.{HasExecution, AreJustThose}
+use Rattle.flow_sample.specs.Excised.{HasExecution}
+use Rattle.flow_excise.specs.Executions.{AreJustThose}
 use Rattle.flow_excise.specs.Compilation.{options_of}
 use Rattle.flow_residual.proofs.DoneLemmas.{done_more}
 use Rattle.flow_trace.specs.declared.checked.Checked.TheVariants.{Execution, Prefix, Bad}

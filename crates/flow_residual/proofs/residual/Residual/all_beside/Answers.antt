@@ -6,7 +6,7 @@ use Rattle.flow_model.specs.Run.{MayAllFollow}
 use Rattle.flow_plan.specs.Progress.{IsDone}
 use Rattle.flow_plan.specs.Rows.{IsRowOf}
 use Rattle.flow_plan.specs.Orders.{MayComeNext}
-use Rattle.flow_excise.specs.Plans.{option_of}
+use Rattle.flow_sample.specs.Plans.{option_of}
 use Rattle.flow_residual.specs.Possible.{SomeOption, SomeBelow, TakesAll}
 use Rattle.flow_residual.proofs.OptionLemmas.{some_more, some_still, some_all, adds_live, none_at_all}
 use Rattle.flow_residual.proofs.PossibleLemmas.{all_come_next, may_all_follow, next_of_option, in_words}

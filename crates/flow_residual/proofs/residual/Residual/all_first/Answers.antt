@@ -3,7 +3,7 @@ use Rattle.leaf_rows.specs.Leaves.{has_leaf}
 use Rattle.leaf_rows.specs.declared.leaf_set.LeafSet.{LeafSet}
 use Rattle.flow_model.specs.Resolution.{ChoiceOption}
 use Rattle.flow_model.specs.Run.{MayFollowFirst}
-use Rattle.flow_excise.specs.Plans.{option_of}
+use Rattle.flow_sample.specs.Plans.{option_of}
 use Rattle.flow_residual.specs.Possible.{SomeOption, SomeBelow, TakesFirst}
 use Rattle.flow_residual.proofs.OptionLemmas.{some_more, some_still, some_all, adds_first, none_at_all}
 use Rattle.flow_residual.proofs.PossibleLemmas.{takes_first_after, may_follow_first, next_of_option, in_words}

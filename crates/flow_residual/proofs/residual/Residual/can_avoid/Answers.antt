@@ -1,5 +1,5 @@
 use Rattle.std.proofs.Common.{◌≤◌, true, false, length, arith}
-use Rattle.flow_excise.specs.Plans.{option_of}
+use Rattle.flow_sample.specs.Plans.{option_of}
 use Rattle.flow_residual.specs.Remaining.{IsAvoidable}
 use Rattle.flow_residual.specs.Possible.{SomeOption, LeavesOut}
 use Rattle.flow_residual.proofs.OptionLemmas.{some_found, none_found}

@@ -1,6 +1,6 @@
 use Rattle.std.proofs.Common.{◌≤◌, true, false, length, arith}
 use Rattle.flow_model.specs.Schema.{IsGood}
-use Rattle.flow_excise.specs.Plans.{option_of}
+use Rattle.flow_sample.specs.Plans.{option_of}
 use Rattle.flow_residual.specs.Possible.{SomeOption, IsFinished}
 use Rattle.flow_residual.proofs.OptionLemmas.{none_more, none_there, some_found, none_found}
 use Rattle.flow_residual.proofs.PossibleLemmas.{is_good, in_words}

@@ -3,7 +3,7 @@ use Rattle.flow_model.specs.Lists.{◌∈◌}
 use Rattle.flow_model.specs.Process.{leaves}
 use Rattle.flow_model.specs.Resolution.{ChoiceOption}
 use Rattle.flow_plan.specs.Planned.{Planned}
-use Rattle.flow_excise.specs.Plans.{option_of}
+use Rattle.flow_sample.specs.Plans.{option_of}
 use Rattle.flow_residual.specs.Remaining.{Remaining}
 use Rattle.flow_residual.specs.Fronts.{IsFront}
 use Rattle.flow_residual.specs.Possible.{IsOpenFor}

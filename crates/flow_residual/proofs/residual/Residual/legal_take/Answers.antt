@@ -1,6 +1,6 @@
 use Rattle.std.proofs.Common.{◌≤◌, ℕ, List, true, false, [], ◌∷◌, ◌++◌, length, arith}
 use Rattle.flow_model.specs.Resolution.{ChoiceOption}
-use Rattle.flow_excise.specs.Plans.{option_of}
+use Rattle.flow_sample.specs.Plans.{option_of}
 use Rattle.flow_model.specs.Run.{MayAllFollow}
 use Rattle.flow_residual.specs.Possible.{SomeOption, TakesAll}
 use Rattle.flow_residual.proofs.OptionLemmas.{option_at, none_more, none_there, some_found, none_found}

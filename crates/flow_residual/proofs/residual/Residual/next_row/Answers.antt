@@ -4,7 +4,7 @@ use Rattle.flow_model.specs.Lists.{◌∈◌}
 use Rattle.flow_model.specs.Ready.{IsReady, IsReadyRun}
 use Rattle.flow_model.specs.Resolution.{ChoiceOption}
 use Rattle.flow_excise.specs.Compilation.{options_of}
-use Rattle.flow_excise.specs.Plans.{option_of}
+use Rattle.flow_sample.specs.Plans.{option_of}
 use Rattle.flow_plan.proofs.PartLemmas.{has_at_is}
 use Rattle.flow_residual.specs.Remaining.{Remaining}
 use Rattle.flow_residual.proofs.OptionLemmas.{length-options}

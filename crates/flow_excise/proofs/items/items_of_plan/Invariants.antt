@@ -1,6 +1,0 @@
-use Rattle.std.proofs.Common.{drop}
-use Rattle.flow_excise.specs.ItemMarks.{Gathers}
-use Rattle.flow_excise.proofs.items.items_of_plan.Given as goal
-
-abbrev pub invariant-loop-node : goal.invariant-loop-node
-invariant-loop-node l = Gathers l.plan (drop l.node-index l.node-items) l.gathering

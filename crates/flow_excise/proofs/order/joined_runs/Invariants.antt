@@ -1,6 +1,0 @@
-use Rattle.std.proofs.Common.{◌≡◌, take}
-use Rattle.flow_excise.specs.Rows.{runs}
-use Rattle.flow_excise.proofs.order.joined_runs.Given as goal
-
-abbrev pub invariant-loop-number : goal.invariant-loop-number
-invariant-loop-number l = l.run.items ≡ runs l.items (take l.number-index l.order)

@@ -1,0 +1,3 @@
+pub mod Refusing
+pub mod Checking
+pub mod Judging

@@ -1,0 +1,115 @@
+-- Items that are made of the marks of a goal.
+use Rattle.std.proofs.Common.{◌≡◌, ℕ, ◌+◌, List, [], ◌∷◌, ◌++◌, length, map, reverse, Some, None, MatchOption, slice_get, inl, refl, sym, ◌∙◌, ap, subst, append-nil, arith, Vec, Global, ◌==◌, true}
+use Rattle.std.proofs.lemmas.List.{map-append, reverse-append, nil_from_length}
+use Rattle.std.proofs.lemmas.Bool.{eqb-true}
+use Rattle.flow_plan.specs.Stacks.{WithTop}
+use Rattle.flow_sample.specs.Arranged.{AddsOneOf}
+use Rattle.flow_model.specs.Process.{Process, Empty, Task, Sequence, Parallel, Choice, Isolated, leaves, IsChoiceFree}
+use Rattle.flow_model.specs.Circle.{items_of}
+use Rattle.flow_laws.specs.Words.{IsOrdered}
+use Rattle.flow_goal.specs.declared.node.Node.{Node}
+use Rattle.flow_goal.specs.declared.node.Node.TheVariants.{Leaf, Serial, Split, Join, Close}
+use Rattle.flow_goal.specs.Written.{nodes_of}
+use Rattle.flow_goal.proofs.WrittenLemmas.{StandAt, first_stand, second_stand, sequence_nodes, parallel_nodes, isolated_nodes, both_long, leaf_stands}
+use Rattle.flow_plan.specs.Planned.{Planned, pairs_of}
+use Rattle.flow_sample.specs.declared.gathering.Gathering.{Gathering}
+use Rattle.flow_sample.specs.declared.item.Item.{Item}
+use Rattle.flow_sample.specs.Items.{IsItemOf, AreItemsOf, AddsItems, IsPieceOf}
+use Rattle.flow_sample.specs.ItemMarks.{CanClose, MakesItems, Gathers, ReadsMark, stack_of}
+use Rattle.flow_sample.proofs.PieceLemmas.{join_sequence, join_parallel, whole_piece, piece_left, piece_right, piece_inside, adds_both, adds_none, adds_one, can_close}
+
+module _ (q : Process) (pairs : List (ℕ × ℕ)) (o : IsOrdered q pairs) (ns : List ℕ) where
+  -- the marks of a goal make its items
+  goal_items : (g : Process) (nodes : List Node) (k : ℕ) (items : List Item) (outer : List (List Item)) → IsChoiceFree g → IsPieceOf q g → StandAt ns k (leaves g) →
+      ((new : List Item) → AddsItems q pairs g items new → MakesItems q pairs nodes ns (k + length (leaves g)) new outer) →
+      MakesItems q pairs (nodes_of g ++ nodes) ns k items outer
+  goal_items Empty nodes k items outer free piece at then =
+      subst (λ (j : ℕ). MakesItems q pairs nodes ns j items outer) (omega arith) (then items (adds_none q pairs Empty items refl))
+  goal_items (Task n) nodes k items outer free piece at then =
+      subst (λ p. MatchOption p ⊥ (λ n. (item : Item) → IsItemOf q pairs (n ∷ []) item → MakesItems q pairs nodes ns (k + 1) (items ++ item ∷ []) outer))
+      (sym (leaf_stands ns k n at.0 at.1))
+      (λ item is. then (items ++ item ∷ []) (adds_one q pairs (Task n) (n ∷ []) items (items ++ item ∷ []) item refl refl is))
+  goal_items (Sequence a b) nodes k items outer free piece at then =
+      subst (λ l. MakesItems q pairs l ns k items outer) (sym (sequence_nodes a b nodes))
+      (goal_items a (nodes_of b ++ (Serial ∷ nodes)) k items outer free.0 (piece_left q (Sequence a b) a b (join_sequence a b) piece) (first_stand ns k (leaves a) (leaves b) at)
+      (λ mid adds_a. goal_items b (Serial ∷ nodes) (k + length (leaves a)) mid outer free.1 (piece_right q (Sequence a b) a b (join_sequence a b) piece) (second_stand ns k (leaves a) (leaves b) at)
+      (λ new adds_b. subst (λ (j : ℕ). MakesItems q pairs nodes ns j new outer) (sym (both_long k (leaves a) (leaves b)))
+      (then new (adds_both q pairs (Sequence a b) a b items mid new (join_sequence a b) adds_a adds_b)))))
+  goal_items (Parallel a b) nodes k items outer free piece at then =
+      subst (λ l. MakesItems q pairs l ns k items outer) (sym (parallel_nodes a b nodes))
+      (goal_items a (Split ∷ (nodes_of b ++ (Join ∷ nodes))) k items outer free.0 (piece_left q (Parallel a b) a b (join_parallel a b) piece) (first_stand ns k (leaves a) (leaves b) at)
+      (λ mid adds_a. goal_items b (Join ∷ nodes) (k + length (leaves a)) mid outer free.1 (piece_right q (Parallel a b) a b (join_parallel a b) piece) (second_stand ns k (leaves a) (leaves b) at)
+      (λ new adds_b. subst (λ (j : ℕ). MakesItems q pairs nodes ns j new outer) (sym (both_long k (leaves a) (leaves b)))
+      (then new (adds_both q pairs (Parallel a b) a b items mid new (join_parallel a b) adds_a adds_b)))))
+  goal_items (Choice a b) nodes k items outer free piece at then = absurd free
+  goal_items (Isolated a) nodes k items outer free piece at then =
+      subst (λ l. MakesItems q pairs l ns k items outer) (sym (isolated_nodes a nodes))
+      (goal_items a (Close ∷ nodes) k [] (items ∷ outer) free (piece_inside q (Isolated a) a refl piece) at
+      (λ inner adds. can_close q pairs o a inner (piece.part a (inl refl)) adds items
+      (λ new. MakesItems q pairs nodes ns (k + length (leaves a)) new outer) then))
+
+  -- and those of the whole goal its items
+  whole_items : ns ≡ leaves q → MakesItems q pairs (nodes_of q) ns 0 [] []
+  whole_items listed =
+      subst (λ l. MakesItems q pairs l ns 0 [] []) (append-nil (nodes_of q))
+      (goal_items q [] 0 [] [] o.choice_free (whole_piece q) ([], listed ∙ sym (append-nil (leaves q)))
+      (λ new adds. subst (AreItemsOf q pairs (items_of q)) (sym adds.is) adds.items))
+
+pub begun_items : (p : Planned) (nodes : List Node) (g : Gathering) → IsOrdered p.process (pairs_of p.tokens) → nodes ≡ nodes_of p.process → p.leaves ≡ leaves p.process →
+    g.place ≡ 0 → g.items.items ≡ [] → g.outer.items ≡ [] → Gathers p nodes g
+begun_items p nodes g o are listed place items outer =
+    let q : Process = p.process in
+    let pairs : List (ℕ × ℕ) = pairs_of p.tokens in
+    subst (λ l. MakesItems q pairs l p.leaves g.place g.items.items (stack_of g.outer.items)) (sym are)
+    (subst (λ (k : ℕ). MakesItems q pairs (nodes_of q) p.leaves k g.items.items (stack_of g.outer.items)) (sym place)
+    (subst (λ (l : List Item). MakesItems q pairs (nodes_of q) p.leaves 0 l (stack_of g.outer.items)) (sym items)
+    (subst (λ l. MakesItems q pairs (nodes_of q) p.leaves 0 [] (stack_of l)) (sym outer) (whole_items q pairs o p.leaves listed))))
+
+-- ---- one mark
+
+pub leaf_read : (p : Planned) (leaf : ℕ) (item : Item) (old new : Gathering) → slice_get p.leaves old.place ≡ Some leaf → IsItemOf p.process (pairs_of p.tokens) (leaf ∷ []) item →
+    new.place ≡ old.place + 1 → new.items.items ≡ old.items.items ++ item ∷ [] → new.outer ≡ old.outer → ReadsMark p Leaf old new
+leaf_read p leaf item old new at is place items outer nodes h =
+    let q : Process = p.process in
+    let pairs : List (ℕ × ℕ) = pairs_of p.tokens in
+    subst (λ (k : ℕ). MakesItems q pairs nodes p.leaves k new.items.items (stack_of new.outer.items)) (sym place)
+    (subst (λ (l : List Item). MakesItems q pairs nodes p.leaves (old.place + 1) l (stack_of new.outer.items)) (sym items)
+    (subst (λ (v : Vec (Vec Item Global) Global). MakesItems q pairs nodes p.leaves (old.place + 1) (old.items.items ++ item ∷ []) (stack_of v.items)) (sym outer)
+    (subst (λ o. MatchOption o ⊥ (λ n. (item : Item) → IsItemOf q pairs (n ∷ []) item →
+    MakesItems q pairs nodes p.leaves (old.place + 1) (old.items.items ++ item ∷ []) (stack_of old.outer.items))) at h item is)))
+
+pub leaf_missed : (p : Planned) (old new : Gathering) → slice_get p.leaves old.place ≡ None → ReadsMark p Leaf old new
+leaf_missed p old new at nodes h =
+    absurd (subst (λ o. MatchOption o ⊥ (λ n. (item : Item) → IsItemOf p.process (pairs_of p.tokens) (n ∷ []) item →
+    MakesItems p.process (pairs_of p.tokens) nodes p.leaves (old.place + 1) (old.items.items ++ item ∷ []) (stack_of old.outer.items))) at h)
+
+-- what stands on the stack
+stack_top : (lists more : List (Vec Item Global)) (last : Vec Item Global) → lists ≡ more ++ last ∷ [] → stack_of lists ≡ last.items ∷ stack_of more
+stack_top lists more last e =
+    ap stack_of e ∙ ap reverse (map-append (λ (v : Vec Item Global). v.items) more (last ∷ [])) ∙ reverse-append (map (λ (v : Vec Item Global). v.items) more) (last.items ∷ [])
+
+module _ (p : Planned) (before : Vec Item Global) (old new : Gathering) (on : old.outer.items ≡ new.outer.items ++ before ∷ []) (same : new.place ≡ old.place) where
+  closing : (nodes : List Node) → Gathers p (Close ∷ nodes) old →
+      CanClose p.process (pairs_of p.tokens) old.items.items before.items (λ items. MakesItems p.process (pairs_of p.tokens) nodes p.leaves new.place items (stack_of new.outer.items))
+  closing nodes h =
+      subst (λ (k : ℕ). CanClose p.process (pairs_of p.tokens) old.items.items before.items (λ items. MakesItems p.process (pairs_of p.tokens) nodes p.leaves k items (stack_of new.outer.items))) (sym same)
+      (subst (λ l. WithTop l (λ before more. CanClose p.process (pairs_of p.tokens) old.items.items before (λ items. MakesItems p.process (pairs_of p.tokens) nodes p.leaves old.place items more)))
+      (stack_top old.outer.items new.outer.items before on) h)
+
+  pub part_read : (seen made : List Item) → seen ≡ old.items.items → new.items.items ≡ made → AddsOneOf seen before.items made → ReadsMark p Close old new
+  part_read seen made is kept adds nodes h =
+      subst (λ (l : List Item). MakesItems p.process (pairs_of p.tokens) nodes p.leaves new.place l (stack_of new.outer.items)) (sym kept)
+      ((closing nodes h).one made (subst (λ l. AddsOneOf l before.items made) is adds))
+
+  pub none_read : old.items.items ≡ [] → new.items.items ≡ before.items → ReadsMark p Close old new
+  none_read none kept nodes h =
+      subst (λ (l : List Item). MakesItems p.process (pairs_of p.tokens) nodes p.leaves new.place l (stack_of new.outer.items)) (sym kept) ((closing nodes h).none none)
+
+pub none_missed : (p : Planned) (old new : Gathering) → old.outer.items ≡ [] → ReadsMark p Close old new
+none_missed p old new none nodes h =
+    absurd (subst (λ (l : List (Vec Item Global)). WithTop (stack_of l) (λ before more. CanClose p.process (pairs_of p.tokens) old.items.items before
+    (λ items. MakesItems p.process (pairs_of p.tokens) nodes p.leaves old.place items more))) none h)
+
+-- a vector of no length
+pub is_empty : {A : Type 0} (xs : List A) (n : ℕ) → n ≡ length xs → (n == 0) ≡ true → xs ≡ []
+is_empty xs n e t = nil_from_length xs (sym e ∙ eqb-true n 0 t)

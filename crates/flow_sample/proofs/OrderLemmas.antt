@@ -1,0 +1,236 @@
+-- An order of items that grows, and the walk to the next of them.
+use Rattle.std.proofs.Common.{◌≡◌, ℕ, zero, suc, ◌+◌, ◌-◌, ◌<◌, ◌≤◌, Bool, true, false, not, ◌&&◌, IsTrue, List, [], ◌∷◌, ◌++◌, ◌↔◌, ◌⊎◌, length, get_or, map, refl, sym, ap, ◌∙◌, subst, inl, inr, ⊎_elim, arith, length-append, true≢false, Some, Option, slice_get, take, remove, append-nil}
+use Rattle.std.proofs.lemmas.List.{take_more, map-append}
+use Rattle.std.proofs.lemmas.Bool.{cases_lt}
+use Rattle.std.proofs.lemmas.Option.{slice_get_past, slice_get_read}
+use Rattle.leaf_rows.specs.declared.leaf_set.LeafSet.{LeafSet}
+use Rattle.leaf_rows.specs.Leaves.{has_leaf}
+use Rattle.flow_model.specs.Lists.{◌∈◌, Each, AreDistinct, StandsBefore, joined}
+use Rattle.flow_laws.proofs.Members.{each_member, decide_in, distinct-append, before_across, each_from_members, mem_append_left, mem_append_right, mem-append}
+use Rattle.flow_laws.proofs.MadeLists.{some_same, joined-append}
+use Rattle.flow_plan.proofs.PlaceLemmas.{read_member}
+use Rattle.flow_sample.specs.declared.item.Item.{Item}
+use Rattle.flow_sample.specs.Rows.{has_inside, has_waits, run_in, runs, least_in, least_at, IsIn, WaitsFor, IsEdge, AreApart}
+use Rattle.flow_sample.specs.Arranged.{IsArranged, IsWholeOrder, IsCycle, LeadsOn, TakesIn}
+use Rattle.flow_sample.proofs.RingLemmas.{at_most, IsTrail, trail_end}
+
+-- tests
+
+pub not_true : (b : Bool) → b ≡ false → ¬ (IsTrue b)
+not_true b e h = true≢false (sym h ∙ e)
+
+pub not_and : (a b : Bool) → IsTrue (not a && b) ↔ (¬ (IsTrue a) × IsTrue b)
+not_and true b = (λ h. absurd (true≢false (sym h)), λ h. absurd (h.0 refl))
+not_and false b = (λ h. (not_true false refl, h), λ h. h.1)
+
+-- lists
+
+pub before_left : {A : Type 0} (x y : A) (a b : List A) → StandsBefore x y a → StandsBefore x y (a ++ b)
+before_left x y [] b h = absurd h
+before_left x y (z ∷ a) b (inl h) = inl (h.0, mem_append_left y a b h.1)
+before_left x y (z ∷ a) b (inr h) = inr (before_left x y a b h)
+
+pub is_within : (items : List Item) (n x : ℕ) → IsIn items n x → n < length items
+is_within items n x h = ⊎_elim (λ l. l)
+    (λ l. absurd (not_true false refl (subst (λ o. IsTrue (has_inside o x)) (slice_get_past items n l) h)))
+    (cases_lt n (length items))
+
+pub waits_within : (items : List Item) (n x : ℕ) → WaitsFor items n x → n < length items
+waits_within items n x h = ⊎_elim (λ l. l)
+    (λ l. absurd (not_true false refl (subst (λ o. IsTrue (has_waits o x)) (slice_get_past items n l) h)))
+    (cases_lt n (length items))
+
+-- distinct items, each before the next, that are not in the order yet
+pub record IsPath (items : List Item) (order path : List ℕ) : Type 0 where
+  pub distinct : AreDistinct path
+  pub within : (n : ℕ) → n ∈ path → n < length items
+  pub fresh : (n : ℕ) → n ∈ path → ¬ (n ∈ order)
+  pub trail : IsTrail items path
+
+-- how many steps a walk may still take
+abbrev pub steps : List Item → List ℕ → List ℕ → ℕ
+steps items order path = (length items - length order) + (length items - length order) + (length items - length path)
+
+module _ (items : List Item) (w : AreApart items) where
+  pub begun : (left : LeafSet 16) → ((x : ℕ) → IsTrue (has_leaf left x) ↔ ((n : ℕ) × IsIn items n x)) → IsArranged items left []
+  begun left all = record {
+    distinct = tt;
+    within = λ n m. absurd m;
+    rest = λ x. (λ h. let r = (all x).0 h in (r.0, r.1, λ m. m), λ r. (all x).1 (r.0, r.1));
+    behind = λ m n k e. absurd k;
+  }
+
+  -- an item that waits for none that is left goes behind the order
+  pub grown : (left new : LeafSet 16) (order longer : List ℕ) (top : ℕ) → IsArranged items left order → top < length items → ¬ (top ∈ order) →
+      ((x : ℕ) → WaitsFor items top x → ¬ (IsTrue (has_leaf left x))) →
+      ((x : ℕ) → has_leaf new x ≡ (not (has_inside (slice_get items top) x) && has_leaf left x)) → longer ≡ order ++ top ∷ [] → IsArranged items new longer
+  grown left new order longer top a there fresh free cleared e = subst (IsArranged items new) (sym e) (record {
+    distinct = distinct-append order (top ∷ []) a.distinct ((λ m. m), tt)
+        (λ x m k. ⊎_elim (λ i. fresh (subst (λ z. z ∈ order) i m)) (λ f. absurd f) k);
+    within = λ n m. ⊎_elim (a.within n) (⊎_elim (λ i. subst (λ z. z < length items) (sym i) there) (λ f. absurd f)) (mem-append n order (top ∷ []) m);
+    rest = λ x. (still x, was x);
+    behind = λ m n k edge. ⊎_elim (λ i. before_left m n order (top ∷ []) (a.behind m n i edge)) (last m n edge) (mem-append n order (top ∷ []) k);
+  })
+    where
+      still : (x : ℕ) → IsTrue (has_leaf new x) → (n : ℕ) × IsIn items n x × ¬ (n ∈ (order ++ top ∷ []))
+      still x h =
+          let both = (not_and (has_inside (slice_get items top) x) (has_leaf left x)).0 (sym (cleared x) ∙ h) in
+          let r = (a.rest x).0 both.1 in
+          (r.0, r.1, λ m. ⊎_elim r.2 (⊎_elim (λ i. both.0 (subst (λ z. IsIn items z x) i r.1)) (λ f. absurd f)) (mem-append r.0 order (top ∷ []) m))
+
+      was : (x : ℕ) → (n : ℕ) × IsIn items n x × ¬ (n ∈ (order ++ top ∷ [])) → IsTrue (has_leaf new x)
+      was x (n, i, f) =
+          cleared x ∙ (not_and (has_inside (slice_get items top) x) (has_leaf left x)).1 (
+            (λ t. f (mem_append_right n order (top ∷ []) (inl (w.apart n top x i t)))),
+            (a.rest x).1 (n, i, λ m. f (mem_append_left n order (top ∷ []) m)),
+          )
+
+      last : (m n : ℕ) → IsEdge items m n → n ∈ (top ∷ []) → StandsBefore m n (order ++ top ∷ [])
+      last m n (x, i, v) (inr k) = absurd k
+      last m n (x, i, v) (inl same) = ⊎_elim
+          (λ k. before_across m n order (top ∷ []) k (inl same))
+          (λ k. absurd (free x (subst (λ z. WaitsFor items z x) same v) ((a.rest x).1 (m, i, k))))
+          (decide_in m order)
+
+  -- an item that is left is not in the order
+  pub left_out : (left : LeafSet 16) (order : List ℕ) (n x : ℕ) → IsArranged items left order → IsIn items n x → IsTrue (has_leaf left x) → ¬ (n ∈ order)
+  left_out left order n x a i h m =
+      let r = (a.rest x).0 h in
+      r.2 (subst (λ z. z ∈ order) (w.apart n r.0 x i r.1) m)
+
+  -- and one of which no leaf is left is in it
+  pub not_left : (left : LeafSet 16) (order : List ℕ) (n : ℕ) → IsArranged items left order → n < length items →
+      ((x : ℕ) → IsIn items n x → ¬ (IsTrue (has_leaf left x))) → n ∈ order
+  not_left left order n a l h = ⊎_elim (λ k. k)
+      (λ k. let x = w.some n l in absurd (h x.0 x.1 ((a.rest x.0).1 (n, x.1, k))))
+      (decide_in n order)
+
+  pub whole_order : (left : LeafSet 16) (order : List ℕ) → IsArranged items left order → ((n : ℕ) → n < length items → n ∈ order) → IsWholeOrder items order
+  whole_order left order a all = record {
+    distinct = a.distinct;
+    within = a.within;
+    all = all;
+    behind = λ m n e. a.behind m n (all n (waits_within items n e.0 e.2)) e;
+  }
+
+  -- walks
+
+  pub path_on : (left : LeafSet 16) (order path new : List ℕ) (top next : ℕ) (more : List ℕ) → path ≡ top ∷ more → IsArranged items left order → IsPath items order path →
+      ((x : ℕ) × IsIn items next x × WaitsFor items top x × IsTrue (has_leaf left x)) → ¬ (next ∈ path) → new ≡ next ∷ path → IsPath items order new
+  path_on left order path new top next more e a p (x, i, v, h) fresh f = subst (IsPath items order) (sym f) (record {
+    distinct = (fresh, p.distinct);
+    within = λ n m. ⊎_elim (λ s. subst (λ z. z < length items) (sym s) (is_within items next x i)) (p.within n) m;
+    fresh = λ n m. ⊎_elim {C = ¬ (n ∈ order)} (λ s. subst (λ z. ¬ (z ∈ order)) (sym s) (left_out left order next x a i h)) (p.fresh n) m;
+    trail = subst (λ z. IsTrail items (next ∷ z)) (sym e) ((x, i, v), subst (IsTrail items) e p.trail);
+  })
+
+  pub path_back : (order longer path : List ℕ) (top : ℕ) (more : List ℕ) → path ≡ top ∷ more → IsPath items order path → longer ≡ order ++ top ∷ [] →
+      IsPath items longer more
+  path_back order longer path top more e p f =
+      let d = subst AreDistinct e p.distinct in
+      record {
+        distinct = d.1;
+        within = λ n m. p.within n (subst (λ z. n ∈ z) (sym e) (inr m));
+        fresh = λ n m k. ⊎_elim (p.fresh n (subst (λ z. n ∈ z) (sym e) (inr m)))
+            (⊎_elim (λ i. d.0 (subst (λ z. z ∈ more) i m)) (λ f. absurd f))
+            (mem-append n order (top ∷ []) (subst (λ z. n ∈ z) f k));
+        trail = trail_end items top more (subst (IsTrail items) e p.trail);
+      }
+
+  -- fewer steps are left
+
+  pub fewer_on : (order path new : List ℕ) (next : ℕ) → IsPath items order new → new ≡ next ∷ path → steps items order new < steps items order path
+  fewer_on order path new next p e =
+      let most = at_most (length items) new p.distinct p.within in
+      omega (arith, most, ap length e)
+
+  pub fewer_back : (left : LeafSet 16) (order longer path : List ℕ) (top : ℕ) (more : List ℕ) → path ≡ top ∷ more → IsPath items order path → longer ≡ order ++ top ∷ [] →
+      IsArranged items left longer → steps items longer more < steps items order path
+  fewer_back left order longer path top more e p f a =
+      let one = at_most (length items) path p.distinct p.within in
+      let two = at_most (length items) longer a.distinct a.within in
+      omega (arith, one, two, ap length e, ap length f, length-append order (top ∷ []))
+
+-- the top of a path
+
+pub top_of : (path seen : List ℕ) (top : ℕ) (o p : Option ℕ) → seen ≡ path → o ≡ slice_get seen 0 → p ≡ o → p ≡ Some top → (more : List ℕ) × (path ≡ top ∷ more)
+top_of path seen top o p e f g h = at path (sym (ap (λ (z : List ℕ). slice_get z 0) e) ∙ sym f ∙ sym g ∙ h)
+  where
+    at : (list : List ℕ) → slice_get list 0 ≡ Some top → (more : List ℕ) × (list ≡ top ∷ more)
+    at [] k = absurd (cc)
+    at (x ∷ more) k = (more, ap (λ z. z ∷ more) (some_same x top k))
+
+pub rest_of : (path new : List ℕ) (top : ℕ) (more : List ℕ) → path ≡ top ∷ more → new ≡ remove path 0 → new ≡ more
+rest_of path new top more e f = f ∙ ap (λ (z : List ℕ). remove z 0) e
+
+-- what is held goes on
+
+pub holds_on : (old order longer : List ℕ) (top : ℕ) → longer ≡ order ++ top ∷ [] → ((m : ℕ) → m ∈ old → m ∈ order) → (m : ℕ) → m ∈ old → m ∈ longer
+holds_on old order longer top e kept m k = subst (λ z. m ∈ z) (sym e) (mem_append_left m order (top ∷ []) (kept m k))
+
+pub start_on : (start : ℕ) (order longer path : List ℕ) (top : ℕ) (more : List ℕ) → path ≡ top ∷ more → longer ≡ order ++ top ∷ [] →
+    (start ∈ order) ⊎ (start ∈ path) → (start ∈ longer) ⊎ (start ∈ more)
+start_on start order longer path top more e f (inl m) = inl (subst (λ z. start ∈ z) (sym f) (mem_append_left start order (top ∷ []) m))
+start_on start order longer path top more e f (inr m) = ⊎_elim
+    (λ i. inl (subst (λ z. start ∈ z) (sym f) (mem_append_right start order (top ∷ []) (inl i))))
+    inr
+    (subst (λ z. start ∈ z) e m)
+
+-- rings
+
+on_within : (items : List Item) (first n : ℕ) (more : List ℕ) → LeadsOn items first n more → (m : ℕ) → m ∈ (n ∷ more) → m < length items
+on_within items first n [] h m (inl e) = subst (λ z. z < length items) (sym e) (is_within items n h.0 h.1)
+on_within items first n [] h m (inr k) = absurd k
+on_within items first n (next ∷ more) h m (inl e) = subst (λ z. z < length items) (sym e) (is_within items n h.0.0 h.0.1)
+on_within items first n (next ∷ more) h m (inr k) = on_within items first next more h.1 m k
+
+pub ring_within : (items : List Item) (ring : List ℕ) → IsCycle items ring → (m : ℕ) → m ∈ ring → m < length items
+ring_within items [] h m k = absurd h
+ring_within items (n ∷ more) h m k = on_within items n n more h m k
+
+pub each_within : (items : List Item) (order seen : List ℕ) → seen ≡ order → ((n : ℕ) → n ∈ order → n < length items) → Each (λ n. n < length items) seen
+each_within items order seen e h = each_from_members (λ n. n < length items) seen (λ n m. h n (subst (λ z. n ∈ z) e m))
+
+-- one more place passed
+pub passed_more : (old new : List ℕ) (start : ℕ) → ((n : ℕ) → n < start → n ∈ old) → TakesIn start old new → (n : ℕ) → n < start + 1 → n ∈ new
+passed_more old new start h k n l = ⊎_elim (λ i. k.kept n (h n i)) (λ e. subst (λ z. z ∈ new) (sym e) k.here) (at (cases_lt n start))
+  where
+    at : (n < start) ⊎ (start ≤ n) → (n < start) ⊎ (n ≡ start)
+    at (inl i) = inl i
+    at (inr i) = inr (omega arith)
+
+-- the union of rows of items
+abbrev pub IsUnion : (Option Item → ℕ → Bool) → List Item → ℕ → (ℕ → Bool) → Type 0
+IsUnion test items k all = (x : ℕ) → IsTrue (all x) ↔ ((n : ℕ) × (n < k) × IsTrue (test (slice_get items n) x))
+
+-- the item at a place
+pub item_there : (items : List Item) (n : ℕ) (item : Item) → n < length items → item ≡ get_or items n item → slice_get items n ≡ Some item
+item_there items n item l e = slice_get_read items (length items) n item refl l e
+
+pub seen_in : (items : List Item) (n x : ℕ) (item : Item) → n < length items → item ≡ get_or items n item → IsTrue (has_leaf (get_or items n item).inside x) → IsIn items n x
+seen_in items n x item l e h = subst (λ o. IsTrue (has_inside o x)) (sym (item_there items n item l e)) (subst (λ (i : Item). IsTrue (has_leaf i.inside x)) (sym e) h)
+
+pub in_seen : (items : List Item) (n x : ℕ) (item : Item) → n < length items → item ≡ get_or items n item → IsIn items n x → IsTrue (has_leaf (get_or items n item).inside x)
+in_seen items n x item l e h = subst (λ (i : Item). IsTrue (has_leaf i.inside x)) e (subst (λ o. IsTrue (has_inside o x)) (item_there items n item l e) h)
+
+-- the runs of one item more
+pub runs_more : (items : List Item) (order : List ℕ) (k : ℕ) (item : Item) → k < length order → Each (λ n. n < length items) order → item ≡ get_or items (get_or order k 0) item →
+    runs items (take (k + 1) order) ≡ runs items (take k order) ++ (get_or items (get_or order k 0) item).run.items
+runs_more items order k item l w e =
+    let f : ℕ → List ℕ = λ n. run_in (slice_get items n) in
+    let n : ℕ = get_or order k 0 in
+    let there = item_there items n item (each_member (λ m. m < length items) order w n (read_member order k l)) e in
+    ap (λ z. joined (map f z)) (take_more order k 0 l)
+    ∙ ap joined (map-append f (take k order) (n ∷ []))
+    ∙ joined-append (map f (take k order)) (f n ∷ [])
+    ∙ ap (λ z. runs items (take k order) ++ z) (append-nil (f n) ∙ ap run_in there ∙ ap (λ (i : Item). i.run.items) e)
+
+-- and the least leaf of one item more
+pub leasts_more : (items : List Item) (order : List ℕ) (k : ℕ) (item : Item) → k < length order → Each (λ n. n < length items) order → item ≡ get_or items (get_or order k 0) item →
+    map (least_at items) (take (k + 1) order) ≡ map (least_at items) (take k order) ++ (get_or items (get_or order k 0) item).least ∷ []
+leasts_more items order k item l w e =
+    let n : ℕ = get_or order k 0 in
+    let there = item_there items n item (each_member (λ m. m < length items) order w n (read_member order k l)) e in
+    ap (map (least_at items)) (take_more order k 0 l)
+    ∙ map-append (least_at items) (take k order) (n ∷ [])
+    ∙ ap (λ z. map (least_at items) (take k order) ++ z ∷ []) (ap least_in there ∙ ap (λ (i : Item). i.least) e)

@@ -1,0 +1,24 @@
+use Rattle.std.proofs.Common.{rules, ap, sym, ◌∙◌, [], ◌∷◌, ◌++◌, Vec, Global}
+use Rattle.flow_sample.specs.declared.gathering.Gathering.{Gathering}
+use Rattle.flow_sample.specs.declared.item.Item.{Item}
+use Rattle.flow_sample.proofs.GatheringLemmas.{part_read, none_read, none_missed, is_empty}
+use Rattle.flow_sample.proofs.gathering.Gathering.close.Goals as goal
+use Rattle.flow_sample.proofs.gathering.Gathering.close.Goals.{in-Some, then-not-is_empty+in_ok-add_part, else-not-is_empty, in_default}
+
+pub returns : goal.returns
+returns c = elim c.match-pop.branch [
+  | in-Some w ↦
+      let on = w.in-Some.ensures.items ∙ ap (λ (g : Gathering). g.outer.items ++ w.in-Some.before ∷ []) (sym w.self-is) in
+      let same = ap (λ (g : Gathering). g.place) w.self-is in
+      let left = ap (λ (g : Gathering). g.items.items) w.self-is in
+      elim w.if-not-is_empty.branch [
+        | then-not-is_empty+in_ok-add_part v ↦
+            part_read c.args.plan.now w.in-Some.before c.args.self.now c.match-pop.self on same v.deref.result.now v.add_part.new.items.items v.deref.ensures.value
+            (left ∙ ap (λ (l : Vec Item Global). l.items) v.before-is) v.in_ok-add_part.ensures
+        | else-not-is_empty v ↦
+            none_read c.args.plan.now w.in-Some.before c.args.self.now c.match-pop.self on same
+            (is_empty c.args.self.now.items.items c.args.self.now.items.len c.args.self.now.items.ok.0 (sym w.is_empty.ensures ∙ v.if-not-is_empty.false))
+            (left ∙ ap (λ (l : Vec Item Global). l.items) v.before-is)
+      ]
+  | in_default w ↦ none_missed c.args.plan.now c.args.self.now c.match-pop.self (search rules)
+]

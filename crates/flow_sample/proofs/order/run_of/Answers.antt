@@ -1,0 +1,60 @@
+use Rattle.std.proofs.Common.{◌<◌, ◌+◌, ℕ, subst, sym, ◌∙◌, ap, arith}
+use Rattle.flow_model.specs.Lists.{◌∈◌}
+use Rattle.flow_sample.specs.Rows.{runs}
+use Rattle.flow_sample.specs.Arranged.{IsArranged}
+use Rattle.flow_sample.proofs.OrderLemmas.{begun, left_out, not_left, whole_order, each_within, ring_within, passed_more, seen_in, in_seen, not_true}
+use Rattle.flow_sample.proofs.order.run_of.Goals as goal
+use Rattle.flow_sample.proofs.order.run_of.Goals.{then-meets+in_ok-put_in_order+in-None, else-meets}
+
+pub loop-start-init : goal.loop-start-init
+loop-start-init c = record {
+  arranged = subst (IsArranged c.args.items.now c.all_inside-left.result) (sym c.in_ok-order.ensures.items) (begun c.args.items.now c.requires c.all_inside-left.result c.all_inside-left.ensures);
+  passed = λ n l. absurd (omega arith);
+}
+
+pub put_in_order-requires-clause-fresh : goal.put_in_order-requires-clause-fresh
+put_in_order-requires-clause-fresh c =
+    let m = c.meets.ensures.0 c.if-meets.true in
+    left_out c.args.items.now c.requires c.loop-start.left c.loop-start.order.items c.loop-start.start m.0 c.loop-start.invariant.arranged
+    (seen_in c.args.items.now c.loop-start.start m.0 c.index-items-start.result c.loop-start-test.true c.index-items-start.is m.1) m.2
+
+pub circle_of-requires-clause-within : goal.circle_of-requires-clause-within
+circle_of-requires-clause-within c =
+    let r = rw c.in-Some.is at c.in_ok-put_in_order.ensures in
+    each_within c.args.items.now c.in-Some.ring.items c.deref.result.now c.deref.ensures.value (ring_within c.args.items.now c.in-Some.ring.items r.cycle)
+
+pub joined_runs-requires : goal.joined_runs-requires
+joined_runs-requires c =
+    each_within c.args.items.now c.loop-start.order.items c.deref-2.result.now c.deref-2.ensures.value c.loop-start.invariant.arranged.within
+
+pub loop-start-preserved : goal.loop-start-preserved
+loop-start-preserved c =
+    let i = c.loop-start.invariant in
+    elim c.if-meets.branch [
+      | then-meets+in_ok-put_in_order+in-None w ↦
+          let r = rw w.in-None.is at w.in_ok-put_in_order.ensures in
+          record {
+            arranged = subst (λ z. IsArranged c.args.items.now z c.if-meets.order.items) (sym w.left-is)
+                (subst (λ z. IsArranged c.args.items.now w.put_in_order.new.left z.items) (sym w.order-is) r.0);
+            passed = subst (λ z. (n : ℕ) → n < c.loop-start.start + 1 → n ∈ z.items) (sym w.order-is)
+                (passed_more c.loop-start.order.items w.put_in_order.new.order.items c.loop-start.start i.passed r.1);
+          }
+      | else-meets w ↦
+          let here = not_left c.args.items.now c.requires c.loop-start.left c.loop-start.order.items c.loop-start.start i.arranged c.loop-start-test.true
+          (λ x m h. not_true c.meets.result w.if-meets.false
+          (c.meets.ensures.1 (x, in_seen c.args.items.now c.loop-start.start x c.index-items-start.result c.loop-start-test.true c.index-items-start.is m, h))) in
+          record {
+            arranged = subst (λ z. IsArranged c.args.items.now z c.if-meets.order.items) (sym w.left-is)
+                (subst (λ z. IsArranged c.args.items.now c.loop-start.left z.items) (sym w.order-is) i.arranged);
+            passed = subst (λ z. (n : ℕ) → n < c.loop-start.start + 1 → n ∈ z.items) (sym w.order-is)
+                (passed_more c.loop-start.order.items c.loop-start.order.items c.loop-start.start i.passed (record { here = here; kept = λ m k. k }));
+          }
+    ]
+
+pub returns-clause-ok : goal.returns-clause-ok
+returns-clause-ok c =
+    let i = c.loop-start.invariant in (
+      c.loop-start.order.items,
+      whole_order c.args.items.now c.requires c.loop-start.left c.loop-start.order.items i.arranged (λ n l. i.passed n (omega (arith, c.loop-start-test.false))),
+      c.in_ok-joined_runs.ensures ∙ ap (runs c.args.items.now) c.deref-2.ensures.value,
+    )

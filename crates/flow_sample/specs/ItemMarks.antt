@@ -1,0 +1,50 @@
+-- Marks of a goal that are read for the items of its parts.
+use Rattle.std.specs.Prelude.{◌≡◌, ◌<◌, ◌+◌, ℕ, List, [], ◌∷◌, ◌++◌, MatchOption, length, map, reverse, slice_get}
+use Rattle.std.proofs.Common.{Vec, Global}
+use Rattle.flow_model.specs.Process.{Process}
+use Rattle.flow_model.specs.Circle.{items_of}
+use Rattle.flow_goal.specs.declared.node.Node.{Node}
+use Rattle.flow_goal.specs.declared.node.Node.TheVariants.{Nop, Leaf, Serial, Fork, Split, Join, Open, Close}
+use Rattle.flow_plan.specs.Planned.{Planned, pairs_of}
+use Rattle.flow_plan.specs.Stacks.{WithTop}
+use Rattle.flow_sample.specs.declared.excising.ExciseRefusal.{ExciseRefusal}
+use Rattle.flow_sample.specs.declared.gathering.Gathering.{Gathering}
+use Rattle.flow_sample.specs.declared.item.Item.{Item}
+use Rattle.flow_sample.specs.Arranged.{AddsOneOf, TellsRing}
+use Rattle.flow_sample.specs.Items.{IsItemOf, AreItemsOf, TellsCircle}
+use Rattle.flow_sample.specs.Rows.{AreApart, HasSome}
+
+-- the inner items may become one item behind those before it, of which Then holds: unless there are none, or some
+-- are in a ring, which is then a circle of the goal
+pub record CanClose (q : Process) (pairs : List (ℕ × ℕ)) (inner before : List Item) (Then : List Item → Type 0) : Type 0 where
+  pub apart : AreApart inner
+  pub some : 0 < length inner → HasSome inner
+  pub none : inner ≡ [] → Then before
+  pub one : (new : List Item) → AddsOneOf inner before new → Then new
+  pub ring : (refusal : ExciseRefusal) → TellsRing inner refusal → TellsCircle q pairs refusal
+
+-- whatever the items that come are, the rest of the marks makes the items of q: with the leaves from that place on,
+-- the items so far of the innermost part that has begun, and a stack of those of the parts around it
+abbrev pub MakesItems : Process → List (ℕ × ℕ) → List Node → List ℕ → ℕ → List Item → List (List Item) → Type 0
+MakesItems q pairs [] ns k items outer = AreItemsOf q pairs (items_of q) items
+MakesItems q pairs (Nop ∷ nodes) ns k items outer = MakesItems q pairs nodes ns k items outer
+MakesItems q pairs (Leaf ∷ nodes) ns k items outer = MatchOption (slice_get ns k) ⊥
+    (λ n. (item : Item) → IsItemOf q pairs (n ∷ []) item → MakesItems q pairs nodes ns (k + 1) (items ++ item ∷ []) outer)
+MakesItems q pairs (Serial ∷ nodes) ns k items outer = MakesItems q pairs nodes ns k items outer
+MakesItems q pairs (Fork ∷ nodes) ns k items outer = MakesItems q pairs nodes ns k items outer
+MakesItems q pairs (Split ∷ nodes) ns k items outer = MakesItems q pairs nodes ns k items outer
+MakesItems q pairs (Join ∷ nodes) ns k items outer = MakesItems q pairs nodes ns k items outer
+MakesItems q pairs (Open ∷ nodes) ns k items outer = MakesItems q pairs nodes ns k [] (items ∷ outer)
+MakesItems q pairs (Close ∷ nodes) ns k items outer = WithTop outer
+    (λ before more. CanClose q pairs items before (λ new. MakesItems q pairs nodes ns k new more))
+
+abbrev pub stack_of : List (Vec Item Global) → List (List Item)
+stack_of lists = reverse (map (λ (list : Vec Item Global). list.items) lists)
+
+-- so do the marks from a gathering on
+abbrev pub Gathers : Planned → List Node → Gathering → Type 0
+Gathers p nodes g = MakesItems p.process (pairs_of p.tokens) nodes p.leaves g.place g.items.items (stack_of g.outer.items)
+
+-- the mark was read
+abbrev pub ReadsMark : Planned → Node → Gathering → Gathering → Type 0
+ReadsMark p node old new = (nodes : List Node) → Gathers p (node ∷ nodes) old → Gathers p nodes new

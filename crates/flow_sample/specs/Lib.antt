@@ -1,0 +1,7 @@
+pub mod Rows
+pub mod Turned
+pub mod Arranged
+pub mod ItemMarks
+pub mod Items
+pub mod Plans
+pub mod Excised

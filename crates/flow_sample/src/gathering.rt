@@ -1,0 +1,126 @@
+ghost use Rattle.std.specs.Prelude.{◌≡◌, ◌<◌, ◌+◌, ◌^◌, [], ◌∷◌, List, IfSome, MatchResult, slice_get};
+ghost use Rattle.flow_plan.specs.Planned.{pairs_of};
+ghost use Rattle.flow_goal.specs.declared.node.Node.{Node};
+ghost use Rattle.flow_goal.specs.declared.node.Node.TheVariants.{Leaf, Open, Close};
+ghost use Rattle.flow_sample.specs.Rows.{AreApart, HasSome};
+ghost use Rattle.flow_sample.specs.Arranged.{AddsOneOf, TellsRing};
+ghost use Rattle.flow_sample.specs.Items.{TellsCircle};
+ghost use Rattle.flow_sample.specs.ItemMarks.{Gathers, ReadsMark};
+
+use crate::excising::ExciseRefusal;
+use crate::item::Item;
+use crate::order::run_of;
+use flow_goal::Node;
+use flow_plan::Plan;
+use std::alloc::{AllocError, Global};
+use std::mem;
+
+/// The items of a goal that is read from left to right.
+#[derive(Drop)]
+pub(crate) struct Gathering {
+    /// The place of the next leaf.
+    pub(crate) place: usize,
+    /// Those of the innermost isolated part that has begun.
+    pub(crate) items: Vec<Item>,
+    /// Those of each part around it.
+    pub(crate) outer: Vec<Vec<Item>>,
+}
+
+/// Puts the items of an isolated part behind the list, as one.
+fn add_part(alloc: Global, inner: &[Item], items: &mut Vec<Item>) -> Result<(), ExciseRefusal>
+    requires apart { AreApart inner.now }
+    requires some { HasSome inner.now }
+    ensures { MatchResult result
+        (λ _. AddsOneOf inner.now items.old.items items.new.items)
+        (TellsRing inner.now) }
+{
+    let run = run_of(alloc, inner)?;
+    items.push(Item::of_part(inner, run))?;
+    Ok(())
+}
+
+/// The leaf at that place.
+fn leaf_in_place(plan: &Plan, place: usize) -> Option<u32>
+    ensures leaf { result ≡ slice_get plan.now.leaves place }
+    ensures small { IfSome result (λ leaf. leaf < 1024) }
+    ensures next { IfSome result (λ _. place + 1 < 2 ^ 64) }
+{
+    plan.leaves().get(place).copied()
+}
+
+impl Gathering {
+    /// Nothing is read yet.
+    pub(crate) fn new(alloc: Global) -> Gathering
+        ensures place { result.place ≡ 0 }
+        ensures items { result.items.items ≡ [] }
+        ensures outer { result.outer.items ≡ [] }
+    {
+        Gathering {
+            place: 0,
+            items: Vec::new(alloc),
+            outer: Vec::new(alloc),
+        }
+    }
+
+    /// A leaf is an item.
+    fn leaf(&mut self, alloc: Global, plan: &Plan) -> Result<(), ExciseRefusal>
+        ensures { MatchResult result
+            (λ _. ReadsMark plan.now Leaf self.old self.new)
+            (TellsCircle plan.now.process (pairs_of plan.now.tokens)) }
+    {
+        // what the type keeps of its tokens
+        let _tokens = plan.tokens();
+        if let Some(leaf) = leaf_in_place(plan, self.place) {
+            self.items.push(Item::of_leaf(alloc, plan, leaf)?)?;
+            self.place += 1;
+        }
+        Ok(())
+    }
+
+    /// A part begins.
+    fn open(&mut self, alloc: Global, plan: &Plan) -> Result<(), ExciseRefusal>
+        ensures { MatchResult result
+            (λ _. ReadsMark plan.now Open self.old self.new)
+            (TellsCircle plan.now.process (pairs_of plan.now.tokens)) }
+    {
+        let around = mem::replace(&mut self.items, Vec::new(alloc));
+        self.outer.push(around)?;
+        Ok(())
+    }
+
+    /// A part ends: its items are one, unless they wait for each other.
+    fn close(&mut self, alloc: Global, plan: &Plan) -> Result<(), ExciseRefusal>
+        requires { (nodes : List Node) × Gathers plan.now (Close ∷ nodes) self.old }
+        ensures { MatchResult result
+            (λ _. ReadsMark plan.now Close self.old self.new)
+            (TellsCircle plan.now.process (pairs_of plan.now.tokens)) }
+    {
+        if let Some(mut before) = self.outer.pop() {
+            if !self.items.is_empty() {
+                add_part(alloc, &self.items, &mut before)?;
+            }
+            self.items = before;
+        }
+        Ok(())
+    }
+
+    /// ReadsMark one mark, unless the items of a part that ends wait for each other.
+    pub(crate) fn read(
+        &mut self,
+        alloc: Global,
+        plan: &Plan,
+        node: &Node,
+    ) -> Result<(), ExciseRefusal>
+        requires { (nodes : List Node) × Gathers plan.now (node.now ∷ nodes) self.old }
+        ensures { MatchResult result
+            (λ _. ReadsMark plan.now node.now self.old self.new)
+            (TellsCircle plan.now.process (pairs_of plan.now.tokens)) }
+    {
+        match node {
+            Node::Nop | Node::Serial | Node::Fork | Node::Split | Node::Join => Ok(()),
+            Node::Leaf => self.leaf(alloc, plan),
+            Node::Open => self.open(alloc, plan),
+            Node::Close => self.close(alloc, plan),
+        }
+    }
+}

@@ -1,0 +1,14 @@
+//! Whether an option has an execution: one as its sample, or a circle as the reason why there is none (Excise,
+//! after Davulcu, Kifer, Ramakrishnan and Ramakrishnan 1998).
+#![tactic(auto)]
+
+mod circle;
+mod excising;
+mod gathering;
+mod item;
+mod items;
+mod order;
+mod written;
+
+pub use circle::Circle;
+pub use excising::{ExciseRefusal, excise};

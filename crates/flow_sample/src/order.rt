@@ -1,0 +1,130 @@
+ghost use Rattle.std.specs.Prelude.{◌≡◌, ◌<◌, ◌&&◌, ℕ, IsTrue, IfOk, IfErr, MatchOption, length, not, slice_get, slice_index};
+ghost use Rattle.flow_model.specs.Lists.{◌∈◌, Each};
+ghost use Rattle.leaf_rows.specs.Leaves.{has_leaf};
+ghost use Rattle.flow_sample.specs.Rows.{AreApart, IsIn, WaitsFor, has_inside, runs};
+ghost use Rattle.flow_sample.specs.Arranged.{TakesIn, IsArranged, IsNodeRing, IsRunOf, TellsRing};
+
+use crate::excising::ExciseRefusal;
+use crate::item::{Item, all_inside};
+use crate::written::circle_of;
+use leaf_rows::LeafSet;
+use std::alloc::{AllocError, Global};
+
+/// The item that the leaf is in.
+fn item_with(items: &[Item], leaf: u32) -> usize
+    requires small { leaf < 1024 }
+    requires some { (n : ℕ) × IsIn items.now n leaf }
+    ensures { IsIn items.now result leaf }
+{
+    for (number, item) in items.iter().enumerate() {
+        if item.inside.has(leaf) {
+            return number;
+        }
+    }
+    unreachable!()
+}
+
+/// An item that the one of that number waits for, and that is left.
+fn blocker(items: &[Item], left: &LeafSet<16>, number: usize) -> Option<usize>
+    requires there { number < length items.now }
+    requires within { (x : ℕ) → IsTrue (has_leaf left.now x) → (n : ℕ) × IsIn items.now n x }
+    ensures { MatchOption result
+        ((x : ℕ) → WaitsFor items.now number x → ¬ IsTrue (has_leaf left.now x))
+        (λ next. (x : ℕ) × IsIn items.now next x × WaitsFor items.now number x × IsTrue (has_leaf left.now x)) }
+{
+    match items[number].waits.first_common(left) {
+        Some(leaf) => Some(item_with(items, leaf)),
+        None => None,
+    }
+}
+
+/// Takes the leaves of an item out of those that are left.
+fn take_out(items: &[Item], number: usize, left: &mut LeafSet<16>)
+    requires { number < length items.now }
+    ensures { (x : ℕ) → has_leaf left.new x ≡ (not (has_inside (slice_get items.now number) x) && has_leaf left.old x) }
+{
+    left.remove_all(&items[number].inside);
+}
+
+/// The first place of a number in a path.
+fn place_in_path(path: &[usize], number: usize) -> Option<usize>
+    ensures { MatchOption result (¬ (number ∈ path.now))
+        (λ place. (place < length path.now) × (slice_index path.now place ≡ number)) }
+{
+    for (place, seen) in path.iter().enumerate() {
+        if *seen == number {
+            return Some(place);
+        }
+    }
+    None
+}
+
+/// Puts the item behind the order, and before it those that it waits for, as far as they are left. If
+/// they wait for each other, a ring of them is returned.
+fn put_in_order(
+    alloc: Global,
+    items: &[Item],
+    start: usize,
+    left: &mut LeafSet<16>,
+    order: &mut Vec<usize>,
+) -> Result<Option<Vec<usize>>, AllocError>
+    requires apart { AreApart items.now }
+    requires there { start < length items.now }
+    requires fresh { ¬ (start ∈ order.old.items) }
+    requires arranged { IsArranged items.now left.old order.old.items }
+    ensures { IfOk result (λ found. MatchOption found
+        (IsArranged items.now left.new order.new.items × TakesIn start order.old.items order.new.items)
+        (λ ring. IsNodeRing items.now ring.items)) }
+{
+    let mut path = Vec::with_capacity(alloc, 1)?;
+    path.push(start)?;
+    while let Some(top) = path.first().copied() {
+        match blocker(items, left, top) {
+            None => {
+                take_out(items, top, left);
+                order.push(top)?;
+                path.remove(0);
+            }
+            Some(next) => match place_in_path(&path, next) {
+                Some(place) => {
+                    path.truncate(place + 1);
+                    return Ok(Some(path));
+                }
+                None => path.insert(0, next)?,
+            },
+        }
+    }
+    Ok(None)
+}
+
+/// The runs of the items in that order.
+fn joined_runs(alloc: Global, items: &[Item], order: &[usize]) -> Result<Vec<u32>, AllocError>
+    requires { Each (λ n. n < length items.now) order.now }
+    ensures { IfOk result (λ run. run.items ≡ runs items.now order.now) }
+{
+    let mut run = Vec::new(alloc);
+    for number in order {
+        run.extend_from_slice(&items[*number].run)?;
+    }
+    Ok(run)
+}
+
+/// The runs of the items one after another, each after those that it waits for. If they wait for each
+/// other, a circle of them is the refusal.
+pub(crate) fn run_of(alloc: Global, items: &[Item]) -> Result<Vec<u32>, ExciseRefusal>
+    requires { AreApart items.now }
+    ensures ok { IfOk result (λ run. IsRunOf items.now run.items) }
+    ensures ring { IfErr result (TellsRing items.now) }
+{
+    let mut left = all_inside(items);
+    let mut order = Vec::with_capacity(alloc, items.len())?;
+    for start in 0..items.len() {
+        if items[start].inside.meets(&left) {
+            match put_in_order(alloc, items, start, &mut left, &mut order)? {
+                None => {}
+                Some(ring) => return Err(ExciseRefusal::Circle(circle_of(alloc, items, &ring)?)),
+            }
+        }
+    }
+    Ok(joined_runs(alloc, items, &order)?)
+}
