@@ -26,7 +26,7 @@ use Rattle.flow_world.specs.Course.{Course}
 use Rattle.flow_world.proofs.JournalLabels.{length-labels_at}
 use Rattle.flow_core.specs.Answers.{IsUnanswered, IsLeastCurrent}
 use Rattle.flow_core.specs.Standing.{IsGiven}
-use Rattle.flow_core.specs.Kept.{IsKept}
+use Rattle.flow_core.specs.Invariant.{IsKept}
 use Rattle.flow_core.proofs.Following.{next_of_all, next_of_first, journal_within, next_room}
 use Rattle.flow_core.proofs.Steps.{events_at, sound_now}
 use Rattle.flow_core.proofs.Calls.{attempts_are}

@@ -11,7 +11,7 @@ use Rattle.flow_claims.specs.declared.given.Given.{Given}
 use Rattle.flow_claims.specs.Given.{claim_of}
 use Rattle.flow_claims.specs.Claimed.{Claimed, run_of, IsUnanswered}
 use Rattle.flow_core.specs.Answers.{IsAnswered, IsUnanswered as IsUnansweredIn, IsLateOf}
-use Rattle.flow_core.specs.Kept.{AreClaimsOf}
+use Rattle.flow_core.specs.Invariant.{AreClaimsOf}
 
 module _ (w : Definition) (s : RunState) (c : Claimed) (are : AreClaimsOf w s c) where
   pub leaves_are : current_leaves (run_of c) ≡ current_leaves s

@@ -14,7 +14,7 @@ use Rattle.flow_claims.specs.Claimed.{Claimed, count_of}
 use Rattle.flow_claims.proofs.Counting.{count-push}
 use Rattle.flow_core.specs.Run.{Run, schema, now, IsUncommitted, HasEntryLeft}
 use Rattle.flow_core.specs.Answers.{next_claim}
-use Rattle.flow_core.specs.Kept.{IsKept}
+use Rattle.flow_core.specs.Invariant.{IsKept}
 use Rattle.flow_core.proofs.Steps.{sound_now, kept_took}
 use Rattle.flow_core.proofs.Calls.{known_event, find_last, call_is}
 use Rattle.flow_core.proofs.engine.Core.give.Goals as goal

@@ -2,7 +2,7 @@ use Rattle.std.proofs.Common.{◌↔◌, inl, inr, ℕ, IsTrue, Bool, subst, sym
 use Rattle.flow_model.specs.Lists.{◌∈◌}
 use Rattle.flow_model.specs.Run.{CanDoAside}
 use Rattle.flow_core.specs.declared.engine.Core.TheInside.{Inside}
-use Rattle.flow_core.specs.Fields.{run_by, IsRunning}
+use Rattle.flow_core.specs.Invariant.{run_by, IsRunning}
 use Rattle.flow_core.specs.Looks.{CanStep}
 use Rattle.flow_core.specs.Run.{Run, schema, now}
 use Rattle.flow_core.proofs.Standings.{done_cannot, taken_comes_next, left_comes_next}

@@ -4,7 +4,7 @@ use Rattle.flow_model.specs.Schema.{IsGood}
 use Rattle.flow_model.specs.Run.{RunState, state_of, current_claims}
 use Rattle.flow_workflow.specs.Definition.{schema_of}
 use Rattle.flow_core.specs.Run.{Run, schema, now, IsUncommitted, HasEntryLeft}
-use Rattle.flow_core.specs.Kept.{IsKept}
+use Rattle.flow_core.specs.Invariant.{IsKept}
 use Rattle.flow_core.proofs.Steps.{kept_committed}
 use Rattle.flow_core.proofs.engine.Core.record_commit.Goals as goal
 

@@ -7,7 +7,7 @@ use Rattle.flow_workflow.specs.Definition.{schema_of}
 use Rattle.flow_residual.specs.Remaining.{Remaining, MayComeNext}
 use Rattle.flow_world.specs.Course.{Course}
 use Rattle.flow_core.specs.Run.{Run, schema, now, IsUncommitted, HasEntryLeft}
-use Rattle.flow_core.specs.Kept.{IsKept}
+use Rattle.flow_core.specs.Invariant.{IsKept}
 use Rattle.flow_core.proofs.Following.{next_of_first}
 use Rattle.flow_core.proofs.Steps.{longer, kept_did}
 use Rattle.flow_core.proofs.Standings.{course_room, known_fact}

@@ -8,7 +8,7 @@ use Rattle.flow_claims.specs.Claimed.{Claimed}
 use Rattle.flow_world.specs.Course.{Course}
 use Rattle.flow_core.specs.Run.{Run, now, IsUncommitted, HasEntryLeft}
 use Rattle.flow_core.specs.Standing.{IsGiven}
-use Rattle.flow_core.specs.Kept.{IsKept}
+use Rattle.flow_core.specs.Invariant.{IsKept}
 use Rattle.flow_core.proofs.Steps.{longer, kept_done}
 use Rattle.flow_core.proofs.Tests.{unanswered_there, leaf_is}
 use Rattle.flow_core.proofs.Standings.{unanswered_current, next_of_current, course_room}

@@ -4,7 +4,7 @@ use Rattle.flow_model.specs.Run.{RunState, state_of, IsLapsed}
 use Rattle.flow_workflow.specs.Definition.{schema_of}
 use Rattle.flow_claims.specs.Claimed.{Claimed}
 use Rattle.flow_core.specs.Run.{Run, now, IsUncommitted, HasEntryLeft}
-use Rattle.flow_core.specs.Kept.{IsKept}
+use Rattle.flow_core.specs.Invariant.{IsKept}
 use Rattle.flow_core.proofs.Steps.{kept_late}
 use Rattle.flow_core.proofs.Tests.{unanswered_there}
 use Rattle.flow_core.proofs.Standings.{unanswered_lapsed}

@@ -6,7 +6,7 @@ use Rattle.flow_workflow.specs.Definition.{schema_of}
 use Rattle.flow_residual.specs.Remaining.{Remaining, IsOf}
 use Rattle.flow_world.specs.Course.{Course}
 use Rattle.flow_core.specs.Run.{Run, schema, now, IsUncommitted, HasEntryLeft}
-use Rattle.flow_core.specs.Kept.{IsKept}
+use Rattle.flow_core.specs.Invariant.{IsKept}
 use Rattle.flow_core.proofs.Steps.{longer, kept_rewound}
 use Rattle.flow_core.proofs.Standings.{course_length}
 use Rattle.flow_core.proofs.engine.Core.record_rewound.Goals as goal

@@ -6,7 +6,7 @@ use Rattle.flow_workflow.specs.Definition.{schema_of}
 use Rattle.flow_residual.specs.Remaining.{Remaining, IsOf, MayComeNext, IsAvoidable}
 use Rattle.flow_claims.specs.Claimed.{Claimed}
 use Rattle.flow_core.specs.Run.{Run, schema, now, IsUncommitted, HasEntryLeft}
-use Rattle.flow_core.specs.Kept.{IsKept}
+use Rattle.flow_core.specs.Invariant.{IsKept}
 use Rattle.flow_core.proofs.Steps.{kept_switched}
 use Rattle.flow_core.proofs.Tests.{unanswered_there}
 use Rattle.flow_core.proofs.Standings.{unanswered_current, next_of_current}
