@@ -64,18 +64,6 @@ impl Residual {
         self.follows(place) && self.is_unbanned(place)
     }
 
-    /// The leaves that may come next in the plan at that place.
-    fn next_row(&self, place: usize) -> LeafSet<16>
-        requires { place < length self.now.options }
-        ensures { (o : ChoiceOption) → slice_get self.now.options place ≡ Some o →
-            IsRowOf (IsReady o.resolution o.order (λ n. n ∈ self.now.journal)) result }
-    {
-        match self.track(place).row {
-            Some(row) => row,
-            None => self.plan(place).next_row(self.done()),
-        }
-    }
-
     /// Whether the plan at that place is live, and the leaf may follow so.
     fn takes(&self, place: usize, claims: &[u32], stand: Stand, leaf: u32) -> bool
         requires { place < length self.now.options }

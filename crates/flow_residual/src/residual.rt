@@ -6,13 +6,13 @@ ghost use Rattle.flow_plan.specs.Progress.{IsDone, bound_of};
 ghost use Rattle.flow_excise.specs.Compilation.{options_of};
 ghost use Rattle.flow_excise.specs.Plans.{option_of};
 ghost use Rattle.flow_residual.specs.Options.{EachHas, HasSmallLeaves};
-ghost use Rattle.flow_residual.specs.Tracks.{IsTrack};
+ghost use Rattle.flow_residual.specs.Tracks.{IsNextRow, IsTrack};
 ghost use Rattle.flow_residual.specs.Possible.{Takes};
 ghost use Rattle.leaf_rows.specs.Leaves.{has_leaf};
 
 use crate::asking::Stand;
 use crate::ban::Ban;
-use crate::track::{Change, Track, fit_rows, follow, progress_of};
+use crate::track::{Change, Track, fit_rows, follow, look, progress_of};
 use flow_excise::Compiled;
 use flow_plan::{KnotFree, Plan, Progress};
 use leaf_rows::LeafSet;
@@ -23,6 +23,7 @@ use std::marker::Model;
 #[derive(Drop)]
 struct Room {
     tracks: Vec<Track>,
+    rows: Vec<LeafSet<16>>,
     journal: Vec<u32>,
     bans: Vec<Ban>,
 }
@@ -33,6 +34,7 @@ impl Room {
     /// For so many plans, where no leaf is done and none is banned.
     fn new(alloc: Global, plans: &[KnotFree]) -> Result<Room, AllocError>
         ensures tracks { IfOk result (λ room. EachHas (IsTrack [] []) (options_of plans.now) room.tracks.items) }
+        ensures rows { IfOk result (λ room. length room.rows.items ≡ length (options_of plans.now)) }
         ensures journal { IfOk result (λ room. room.journal.items ≡ []) }
         ensures journal_room { IfOk result (λ room. 1024 ≤ vec_capacity room.journal) }
         ensures bans { IfOk result (λ room. room.bans.items ≡ []) }
@@ -41,10 +43,10 @@ impl Room {
         let start = Track {
             front: 0,
             banned: None,
-            row: None,
         };
         Ok(Room {
             tracks: vec![in alloc; start; plans.len()]?,
+            rows: vec![in alloc; LeafSet::new(); plans.len()]?,
             journal: Vec::with_capacity(alloc, 1024)?,
             bans: Vec::with_capacity(alloc, 1024)?,
         })
@@ -61,6 +63,9 @@ pub struct Residual {
     /// The leaves of the journal.
     done: Progress,
     bans: Vec<Ban>,
+    /// Of each plan that follows the journal, the leaves that may come next, where `fresh`.
+    rows: Vec<LeafSet<16>>,
+    fresh: bool,
 }
 
 impl Model for Residual {
@@ -89,6 +94,7 @@ impl Residual {
     {
         let Room {
             tracks,
+            rows,
             journal,
             bans,
         } = Room::new(alloc, compiled.plans())?;
@@ -99,6 +105,8 @@ impl Residual {
             journal,
             done: Progress::new(1024),
             bans,
+            rows,
+            fresh: false,
         })
     }
 
@@ -174,6 +182,7 @@ impl Residual {
         );
         self.journal.push_reserved(leaf);
         self.done.note(leaf);
+        self.fresh = false;
     }
 
     /// The leaf may no longer be in the run.
@@ -214,18 +223,34 @@ impl Residual {
         self.bans.push_reserved(ban);
         self.journal.truncate(index as usize);
         self.done = progress_of(&self.journal);
+        self.fresh = false;
     }
 
     /// Finds for each plan what may come next, so that the questions about this journal need not.
     pub fn look_ahead(&mut self)
         ensures { self.new ≡ self.old }
     {
-        follow(
-            &self.plans,
-            &mut self.tracks,
-            &self.journal,
-            &self.done,
-            Change::Looked,
-        );
+        if !self.fresh {
+            look(
+                &self.plans,
+                &self.tracks,
+                &self.journal,
+                &self.done,
+                &mut self.rows,
+            );
+            self.fresh = true;
+        }
+    }
+
+    /// The leaves that may come next in the plan at that place, where it follows the journal.
+    pub(crate) fn next_row(&self, place: usize) -> LeafSet<16>
+        requires { place < length self.now.options }
+        ensures { (o : ChoiceOption) → slice_get self.now.options place ≡ Some o → IsNextRow self.now.journal o result }
+    {
+        if self.fresh {
+            self.rows[place]
+        } else {
+            self.plan(place).next_row(self.done())
+        }
     }
 }

@@ -1,4 +1,4 @@
-ghost use Rattle.std.specs.Prelude.{◌≡◌, ◌<◌, ◌↔◌, ℕ, List, [], ◌∷◌, ◌++◌, IfSome, length};
+ghost use Rattle.std.specs.Prelude.{◌≡◌, ◌<◌, ◌↔◌, ℕ, List, [], ◌∷◌, ◌++◌, length};
 ghost use Rattle.flow_model.specs.Lists.{◌∈◌, Each};
 ghost use Rattle.flow_plan.specs.Orders.{Fits};
 ghost use Rattle.flow_plan.specs.Progress.{IsDone, bound_of};
@@ -18,8 +18,6 @@ pub(crate) struct Track {
     pub(crate) front: usize,
     /// The least index of a ban of one of its leaves.
     pub(crate) banned: Option<u32>,
-    /// The leaves that may come next, where they were looked for.
-    pub(crate) row: Option<LeafSet<16>>,
 }
 
 /// What happens to the journal and the bans.
@@ -31,8 +29,6 @@ pub(crate) enum Change {
     Banned(Ban),
     /// The journal ends before the index of the ban, later bans are lifted, and it comes to them.
     Back(Ban),
-    /// Nothing: what may come next is looked for.
-    Looked,
 }
 
 /// Brings what the type of each plan keeps of its leaves to the caller.
@@ -72,37 +68,61 @@ fn after(track: Track, plan: &Plan, journal: &[u32], done: &Progress, change: Ch
         Change::Done(leaf) => Track {
             front: lengthened(plan, track.front, journal, done, leaf),
             banned: track.banned,
-            row: None,
         },
         Change::Banned(ban) => Track {
             front: track.front,
             banned: with_ban(plan, track.banned, ban),
-            row: track.row,
         },
         Change::Back(ban) => Track {
             front: track.front.min(ban.index as usize),
             banned: with_ban(plan, cut_ban(track.banned, ban.index), ban),
-            row: None,
-        },
-        Change::Looked => Track {
-            front: track.front,
-            banned: track.banned,
-            row: looked(track, plan, journal, done),
         },
     }
 }
 
-/// The row of the leaves that may come next, which is made only where the plan follows the whole journal.
-fn looked(track: Track, plan: &Plan, journal: &[u32], done: &Progress) -> Option<LeafSet<16>>
+/// The leaves that may come next, where the plan follows the whole journal; else the row as it was.
+fn looked(
+    plan: &Plan,
+    front: usize,
+    journal: &[u32],
+    done: &Progress,
+    row: LeafSet<16>,
+) -> LeafSet<16>
     requires fits { Fits plan.now done.now }
     requires done { (n : ℕ) → IsDone done.now n ↔ (n ∈ journal.now) }
-    ensures { IfSome track.row (IsNextRow journal.now (option_of plan.now)) →
-        IfSome result (IsNextRow journal.now (option_of plan.now)) }
+    requires front { IsFront (option_of plan.now) journal.now front }
+    ensures { IsNextRow journal.now (option_of plan.now) result }
 {
-    if track.row.is_some() || track.front != journal.len() {
-        return track.row;
+    if front != journal.len() {
+        return row;
     }
-    Some(plan.next_row(done))
+    plan.next_row(done)
+}
+
+/// Makes the rows of the plans that follow the whole journal.
+pub(crate) fn look(
+    plans: &[KnotFree],
+    tracks: &[Track],
+    journal: &[u32],
+    done: &Progress,
+    rows: &mut [LeafSet<16>],
+)
+    requires fits { Each HasSmallLeaves (options_of plans.now) }
+    requires bound { bound_of done.now ≡ 1024 }
+    requires done { (n : ℕ) → IsDone done.now n ↔ (n ∈ journal.now) }
+    requires fronts { EachHas (λ o track. IsFront o journal.now track.front) (options_of plans.now) tracks.now }
+    requires one_each { length rows.old ≡ length (options_of plans.now) }
+    ensures { EachHas (IsNextRow journal.now) (options_of plans.now) rows.new }
+{
+    for (place, row) in rows.iter_mut().enumerate() {
+        *row = looked(
+            plans[place].plan(),
+            tracks[place].front,
+            journal,
+            done,
+            *row,
+        );
+    }
 }
 
 /// Makes the change for each plan.

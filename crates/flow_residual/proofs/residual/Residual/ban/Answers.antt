@@ -43,6 +43,8 @@ invariant_of-self c =
       kept = subst (λ (bans : List (ℕ × ℕ)). IsKept (record r { bans = bans })) more (kept_ban r k.kept c.args.leaf next c.len-index.result);
       tracks = subst (λ (bans : List (ℕ × ℕ)). EachHas (IsTrack i.journal.items bans) r.options (with_items i.tracks c.follow.new.tracks).items) more
           (followed i (Banned (record { index = c.len-index.result; leaf = c.args.leaf })) _ _ _ _ k c.deref.ensures.value c.deref-2.ensures.value c.deref_mut.ensures.value c.follow.ensures);
+      rows_one_each = c.self.invariant.rows_one_each;
+      rows_are = c.self.invariant.rows_are;
       done_bound = k.done_bound;
       done_are = k.done_are;
       journal_room = k.journal_room;

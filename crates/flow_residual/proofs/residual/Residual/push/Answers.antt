@@ -1,4 +1,4 @@
-use Rattle.std.proofs.Common.{◌≡◌, ◌≤◌, ◌<◌, ℕ, List, length, sym, ◌∙◌, subst, arith}
+use Rattle.std.proofs.Common.{true≢false, ◌≡◌, ◌≤◌, ◌<◌, ℕ, List, length, sym, ◌∙◌, subst, arith}
 use Rattle.std.specs.Vec.{vec_len, vec_capacity, with_items}
 use Rattle.flow_residual.specs.declared.track.Change.TheVariants.{Done}
 use Rattle.flow_residual.specs.Remaining.{Remaining, MayComeNext}
@@ -43,6 +43,8 @@ invariant_of-self c =
       kept = subst (λ (journal : List ℕ). IsKept (record r { journal = journal })) more (kept_push r k.kept c.args.leaf next);
       tracks = subst (λ (journal : List ℕ). EachHas (IsTrack journal r.bans) r.options (with_items i.tracks c.follow.new.tracks).items) more
           (followed i (Done c.args.leaf) _ _ _ _ k c.deref.ensures.value c.deref-2.ensures.value c.deref_mut.ensures.value c.follow.ensures);
+      rows_one_each = c.self.invariant.rows_one_each;
+      rows_are = λ fresh. absurd (true≢false (sym fresh));
       done_bound = c.note.ensures.bound ∙ k.done_bound;
       done_are = done_push i.done c.note.new.self i.journal.items c.push_reserved.new.self.items c.args.leaf c.note.ensures.noted c.push_reserved.ensures.items k.done_are;
       journal_room = let same : vec_capacity c.push_reserved.new.self ≡ vec_capacity i.journal = c.push_reserved.ensures.capacity in

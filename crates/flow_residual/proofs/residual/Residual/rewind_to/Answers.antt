@@ -1,4 +1,4 @@
-use Rattle.std.proofs.Common.{◌≡◌, ◌≤◌, ◌<◌, ◌++◌, [], ◌∷◌, ℕ, List, length, take, nat_le, slice_index, rules, sym, ap, ◌∙◌, subst, subst₂, arith}
+use Rattle.std.proofs.Common.{true≢false, ◌≡◌, ◌≤◌, ◌<◌, ◌++◌, [], ◌∷◌, ℕ, List, length, take, nat_le, slice_index, rules, sym, ap, ◌∙◌, subst, subst₂, arith}
 use Rattle.std.specs.List.{filter}
 use Rattle.std.specs.Vec.{vec_len, vec_capacity, with_items}
 use Rattle.std.proofs.lemmas.Fn.{filter_same}
@@ -57,6 +57,8 @@ invariant_of-self c =
       kept = subst₂ (λ (journal : List ℕ) (bans : List (ℕ × ℕ)). IsKept (record r { journal = journal; bans = bans })) journal bans made;
       tracks = subst₂ (λ (journal : List ℕ) (bans : List (ℕ × ℕ)). EachHas (IsTrack journal bans) r.options (with_items i.tracks c.follow.new.tracks).items) journal bans
           (followed i (Back (record { index = index; leaf = leaf })) _ _ _ _ k c.deref.ensures.value c.deref-2.ensures.value c.deref_mut.ensures.value c.follow.ensures);
+      rows_one_each = c.self.invariant.rows_one_each;
+      rows_are = λ fresh. absurd (true≢false (sym fresh));
       done_bound = c.progress_of-self-inside.ensures.bound;
       done_are = subst (AreDone c.progress_of-self-inside.result) c.deref-3.ensures.value c.progress_of-self-inside.ensures.same;
       journal_room = let same : vec_capacity c.truncate.new.self ≡ vec_capacity i.journal = c.truncate.ensures.capacity in
