@@ -1,18 +1,19 @@
 -- The events of claims and their attempts, as one is given and as one is answered.
-use Rattle.std.proofs.Common.{◌≡◌, ◌≤◌, ◌<◌, ◌+◌, ◌-◌, ℕ, zero, suc, Bool, true, false, cond, nat_eq, ◌==◌, List, [], ◌∷◌, ◌++◌, length, set, take, replicate, slice_index, Option, Some, None, slice_get, inl, inr, refl, sym, ap, ◌∙◌, subst, subst₂, arith, append-nil, append_assoc, length-set, MatchOption}
+use Rattle.std.proofs.Common.{◌≡◌, ◌≤◌, ◌<◌, ◌+◌, ◌-◌, ℕ, zero, suc, Bool, true, false, cond, nat_eq, ◌==◌, List, [], ◌∷◌, ◌++◌, length, map, set, take, replicate, slice_index, Option, Some, None, slice_get, inl, inr, refl, sym, ap, ◌∙◌, subst, subst₂, arith, append-nil, append_assoc, length-set, MatchOption}
 use Rattle.std.specs.List.{remove, position_from}
 use Rattle.std.proofs.lemmas.Bool.{eq-eqb}
 use Rattle.std.proofs.lemmas.Bool.Decides.{eqb_tells}
 use Rattle.std.proofs.lemmas.List.Sums.{sum_by_push, count_by-le-length}
 use Rattle.std.proofs.lemmas.List.{get_or-set_same, get_or-set_other, get_or-replicate, length-replicate, length-map, map-append}
 use Rattle.flow_model.specs.Lists.{Each}
+use Rattle.flow_laws.proofs.Members.{cons_same}
 use Rattle.flow_claims.specs.declared.given.Given.{Given}
 use Rattle.flow_model.specs.Run.{claim_at, answer}
 use Rattle.flow_claims.specs.Given.{claim_of, claims_from, is_out, out_places, out_leaves}
 use Rattle.flow_claims.specs.Claimed.{run_of, count_of, IsGivenAt}
 use Rattle.flow_claims.specs.Fields.{events_of, claimed, AreCounted, IsKept}
 use Rattle.flow_claims.proofs.Numbering.{answered, length-claims_from, claims_from-append, answer-claims_from, claim_in, none_past, claim_there}
-use Rattle.flow_claims.proofs.Outstanding.{place_given, leaf_given, found, not_found, answer_out, answer_other}
+use Rattle.flow_claims.proofs.Outstanding.{out_given, found, not_found, answer_out, answer_other}
 
 abbrev one_if : Bool → ℕ
 one_if b = cond b 1 0
@@ -28,6 +29,18 @@ counted_more before (x ∷ gs) g (h, t) is = (
   counted_more (before ++ x.event ∷ []) gs g t
       (subst (λ l. g.attempt ≡ count_of g.event (l ++ g.event ∷ [])) (sym (append_assoc before (x.event ∷ []) (events_of gs))) is),
 )
+
+-- only events and attempts count
+abbrev pub counts_of : Given → ℕ × ℕ
+counts_of g = (g.attempt, g.event)
+
+pub counted_alike : (before : List ℕ) (gs new : List Given) → map counts_of new ≡ map counts_of gs → AreCounted before gs → AreCounted before new
+counted_alike before [] [] same h = tt
+counted_alike before [] (x ∷ new) same h = cc
+counted_alike before (g ∷ gs) [] same h = cc
+counted_alike before (g ∷ gs) (x ∷ new) same (h, t) =
+    let both = cons_same (counts_of x) (counts_of g) (map counts_of new) (map counts_of gs) same in
+    subst (λ (p : ℕ × ℕ). (p.0 ≡ count_of p.1 (before ++ p.1 ∷ [])) × AreCounted (before ++ p.1 ∷ []) new) (sym both.0) (h, counted_alike (before ++ g.event ∷ []) gs new both.1 t)
 
 -- the attempt of the claim at a place
 pub attempt_at : (before : List ℕ) (gs : List Given) (i : ℕ) (g : Given) → AreCounted before gs → slice_get gs i ≡ Some g →
@@ -92,8 +105,8 @@ kept_give gs current leaves attempts e leaf event attempt k within is =
     let same = length-set attempts event attempt in
     record {
       epochs = each_push (λ (g : Given). g.epoch ≤ e) gs g k.epochs (omega arith);
-      current_are = ap (λ l. l ++ length gs ∷ []) k.current_are ∙ ap (λ n. out_places e 0 gs ++ n ∷ []) (omega arith) ∙ sym (place_given e 0 gs g out);
-      leaves_are = ap (λ l. l ++ leaf ∷ []) k.leaves_are ∙ sym (leaf_given e gs g out);
+      current_are = ap (λ l. l ++ length gs ∷ []) k.current_are ∙ ap (λ n. out_places e 0 gs ++ n ∷ []) (omega arith) ∙ sym (out_given (λ place g. place) e 0 gs g out);
+      leaves_are = ap (λ l. l ++ leaf ∷ []) k.leaves_are ∙ sym (out_given (λ place g. g.leaf) e 0 gs g out);
       counted = counted_more [] gs g k.counted count;
       totals = λ other h. totals_more (events_of gs) attempts event attempt k.totals within is other (omega arith)
           ∙ ap (count_of other) (sym (map-append (λ (g : Given). g.event) gs (g ∷ [])));
@@ -107,26 +120,22 @@ epochs_answered P keeps [] i g at h = cc
 epochs_answered P keeps (x ∷ gs) zero g at (h, t) = let e : x ≡ g = cc in (keeps g (subst P e h), t)
 epochs_answered P keeps (x ∷ gs) (suc i) g at (h, t) = (h, epochs_answered P keeps gs i g at t)
 
-pub events_answered : (gs : List Given) (i : ℕ) (g : Given) → slice_get gs i ≡ Some g → events_of (set gs i (answered g)) ≡ events_of gs
-events_answered [] i g at = cc
-events_answered (x ∷ gs) zero g at = let e : g ≡ x = cc in ap (λ (y : Given). y.event ∷ events_of gs) e
-events_answered (x ∷ gs) (suc i) g at = ap (λ l. x.event ∷ l) (events_answered gs i g at)
+pub map-answered : {A : Type 0} (f : Given → A) → ((g : Given) → f (answered g) ≡ f g) → (gs : List Given) (i : ℕ) (g : Given) → slice_get gs i ≡ Some g → map f (set gs i (answered g)) ≡ map f gs
+map-answered f same [] i g at = cc
+map-answered f same (x ∷ gs) zero g at = let e : g ≡ x = cc in ap (λ z. z ∷ map f gs) (same g ∙ ap f e)
+map-answered f same (x ∷ gs) (suc i) g at = ap (λ l. f x ∷ l) (map-answered f same gs i g at)
 
-pub counted_answered : (before : List ℕ) (gs : List Given) (i : ℕ) (g : Given) → slice_get gs i ≡ Some g → AreCounted before gs → AreCounted before (set gs i (answered g))
-counted_answered before [] i g at h = cc
-counted_answered before (x ∷ gs) zero g at h =
-    let e : x ≡ g = cc in
-    subst (λ (y : Given). (y.attempt ≡ count_of y.event (before ++ y.event ∷ [])) × AreCounted (before ++ y.event ∷ []) gs) e h
-counted_answered before (x ∷ gs) (suc i) g at (h, t) = (h, counted_answered (before ++ x.event ∷ []) gs i g at t)
+pub events_answered : (gs : List Given) (i : ℕ) (g : Given) → slice_get gs i ≡ Some g → events_of (set gs i (answered g)) ≡ events_of gs
+events_answered = map-answered (λ g. g.event) (λ g. refl)
 
 module _ (gs : List Given) (current leaves attempts : List ℕ) (e : ℕ) (k : IsKept gs current leaves attempts e) (place : ℕ) (g : Given) (at : slice_get gs place ≡ Some g) where
-  with_lists : (new_current new_leaves : List ℕ) → new_current ≡ out_places e 0 (set gs place (answered g)) → new_leaves ≡ out_leaves e (set gs place (answered g)) →
+  with_lists : (new_current new_leaves : List ℕ) → new_current ≡ out_places e 0 (set gs place (answered g)) → new_leaves ≡ out_leaves e 0 (set gs place (answered g)) →
       IsKept (set gs place (answered g)) new_current new_leaves attempts e
   with_lists new_current new_leaves p l = record {
     epochs = epochs_answered (λ (g : Given). g.epoch ≤ e) (λ g h. h) gs place g at k.epochs;
     current_are = p;
     leaves_are = l;
-    counted = counted_answered [] gs place g at k.counted;
+    counted = counted_alike [] gs (set gs place (answered g)) (map-answered counts_of (λ g. refl) gs place g at) k.counted;
     totals = λ event h. k.totals event h ∙ ap (count_of event) (sym (events_answered gs place g at));
   }
 
@@ -137,14 +146,14 @@ module _ (gs : List Given) (current leaves attempts : List ℕ) (e : ℕ) (k : I
       let i : index ≡ j = omega arith in
       let there : slice_get (out_places e 0 gs) index ≡ Some (0 + place) =
       ap (λ l. slice_get l index) (sym k.current_are) ∙ ap (slice_get current) i ∙ there ∙ ap Some (omega arith) in
-      let out = answer_out e 0 gs place index g at there in
-      with_lists (remove current index) (remove leaves index) (ap (λ l. remove l index) k.current_are ∙ sym out.places) (ap (λ l. remove l index) k.leaves_are ∙ sym out.leaves)
+      let out = λ (f : ℕ → Given → ℕ). answer_out f e 0 gs place index g at there in
+      with_lists (remove current index) (remove leaves index) (ap (λ l. remove l index) k.current_are ∙ sym (out (λ place g. place))) (ap (λ l. remove l index) k.leaves_are ∙ sym (out (λ place g. g.leaf)))
 
   pub kept_late : position_from (λ other. other == place) 0 current ≡ None → IsKept (set gs place (answered g)) current leaves attempts e
   kept_late is =
-      let same = answer_other e 0 gs place g at
+      let same = λ (f : ℕ → Given → ℕ). answer_other f e 0 gs place g at
       (λ j there. not_found place 0 current is j (ap (λ l. slice_get l j) k.current_are ∙ there ∙ ap Some (omega arith))) in
-      with_lists current leaves (k.current_are ∙ sym same.0) (k.leaves_are ∙ sym same.1)
+      with_lists current leaves (k.current_are ∙ sym (same (λ place g. place))) (k.leaves_are ∙ sym (same (λ place g. g.leaf)))
 
 -- ---- the value
 

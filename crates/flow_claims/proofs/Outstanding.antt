@@ -6,26 +6,25 @@ use Rattle.std.proofs.lemmas.Option.{slice_get_within}
 use Rattle.flow_model.specs.Lists.{◌∈◌, Each}
 use Rattle.flow_model.specs.Run.{Claim, RunState, is_current}
 use Rattle.flow_claims.specs.declared.given.Given.{Given}
-use Rattle.flow_claims.specs.Given.{claim_of, claims_from, is_out, out_places, out_leaves}
+use Rattle.flow_claims.specs.Given.{claim_of, claims_from, is_out, out_by, out_places}
 use Rattle.flow_claims.proofs.Numbering.{answered}
 
 -- ---- how many, and which
 
-pub length-out_leaves : (e k : ℕ) (gs : List Given) → length (out_leaves e gs) ≡ length (out_places e k gs)
-length-out_leaves e k [] = refl
-length-out_leaves e k (g ∷ gs) = step (is_out e g) (length-out_leaves e (k + 1) gs)
+pub length-out : {A B : Type 0} (f : ℕ → Given → A) (h : ℕ → Given → B) (e k : ℕ) (gs : List Given) → length (out_by f e k gs) ≡ length (out_by h e k gs)
+length-out f h e k [] = refl
+length-out f h e k (g ∷ gs) = step (is_out e g) (length-out f h e (k + 1) gs)
   where
-    step : (out : Bool) → length (out_leaves e gs) ≡ length (out_places e (k + 1) gs) →
-        length (cond out (g.leaf ∷ out_leaves e gs) (out_leaves e gs)) ≡ length (cond out (k ∷ out_places e (k + 1) gs) (out_places e (k + 1) gs))
-    step true h = ap suc h
-    step false h = h
+    step : (out : Bool) → length (out_by f e (k + 1) gs) ≡ length (out_by h e (k + 1) gs) →
+        length (cond out (f k g ∷ out_by f e (k + 1) gs) (out_by f e (k + 1) gs)) ≡ length (cond out (h k g ∷ out_by h e (k + 1) gs) (out_by h e (k + 1) gs))
+    step true same = ap suc same
+    step false same = same
 
-pub few_out : (e k : ℕ) (gs : List Given) → length (out_places e k gs) ≤ length gs
-few_out e k [] = omega arith
-few_out e k (g ∷ gs) = step (is_out e g) (few_out e (k + 1) gs)
+pub few_out : {A : Type 0} (f : ℕ → Given → A) (e k : ℕ) (gs : List Given) → length (out_by f e k gs) ≤ length gs
+few_out f e k [] = omega arith
+few_out f e k (g ∷ gs) = step (is_out e g) (few_out f e (k + 1) gs)
   where
-    step : (out : Bool) → length (out_places e (k + 1) gs) ≤ length gs →
-        length (cond out (k ∷ out_places e (k + 1) gs) (out_places e (k + 1) gs)) ≤ suc (length gs)
+    step : (out : Bool) → length (out_by f e (k + 1) gs) ≤ length gs → length (cond out (f k g ∷ out_by f e (k + 1) gs) (out_by f e (k + 1) gs)) ≤ suc (length gs)
     step true h = omega arith
     step false h = omega arith
 
@@ -51,34 +50,38 @@ no_place_before e k n i (g ∷ gs) less h = step (is_out e g) i (λ j. no_place_
 
 -- ---- in the words of the definitions
 
-pub leaves_of_current : (s : RunState) (k : ℕ) (gs : List Given) →
-    map (λ (claim : Claim). claim.leaf) (filter (is_current s) (claims_from k gs)) ≡ out_leaves s.epoch gs
-leaves_of_current s k [] = refl
-leaves_of_current s k (g ∷ gs) = step (is_out s.epoch g) (leaves_of_current s (k + 1) gs)
+pub current_told : {A : Type 0} (h : Claim → A) (s : RunState) (k : ℕ) (gs : List Given) →
+    map h (filter (is_current s) (claims_from (k + 1) gs)) ≡ out_by (λ place g. h (claim_of (place + 1) g)) s.epoch k gs
+current_told h s k [] = refl
+current_told {A} h s k (g ∷ gs) = step (is_out s.epoch g) (current_told h s (k + 1) gs)
   where
-    step : (out : Bool) → map (λ (claim : Claim). claim.leaf) (filter (is_current s) (claims_from (k + 1) gs)) ≡ out_leaves s.epoch gs →
-        map (λ (claim : Claim). claim.leaf) (cond out (claim_of k g ∷ filter (is_current s) (claims_from (k + 1) gs)) (filter (is_current s) (claims_from (k + 1) gs)))
-        ≡ cond out (g.leaf ∷ out_leaves s.epoch gs) (out_leaves s.epoch gs)
-    step true h = ap (λ l. g.leaf ∷ l) h
-    step false h = h
+    rest : List A
+    rest = out_by (λ place g. h (claim_of (place + 1) g)) s.epoch (k + 1) gs
+
+    step : (out : Bool) → map h (filter (is_current s) (claims_from (k + 1 + 1) gs)) ≡ rest →
+        map h (cond out (claim_of (k + 1) g ∷ filter (is_current s) (claims_from (k + 1 + 1) gs)) (filter (is_current s) (claims_from (k + 1 + 1) gs)))
+        ≡ cond out (h (claim_of (k + 1) g) ∷ rest) rest
+    step true same = ap (λ l. h (claim_of (k + 1) g) ∷ l) same
+    step false same = same
 
 -- the number of the claim at a place
 abbrev pub next : Option ℕ → Option ℕ
 next None = None
 next (Some place) = Some (place + 1)
 
--- the first number is that of the first place
-pub least_is : (s : RunState) (k : ℕ) (gs : List Given) →
-    slice_get (map (λ (claim : Claim). claim.number) (filter (is_current s) (claims_from (k + 1) gs))) 0 ≡ next (slice_get (out_places s.epoch k gs) 0)
-least_is s k [] = refl
-least_is s k (g ∷ gs) = step (is_out s.epoch g) (least_is s (k + 1) gs)
+first_next : (e k : ℕ) (gs : List Given) → slice_get (out_by (λ place g. place + 1) e k gs) 0 ≡ next (slice_get (out_places e k gs) 0)
+first_next e k [] = refl
+first_next e k (g ∷ gs) = step (is_out e g) (first_next e (k + 1) gs)
   where
-    step : (out : Bool) →
-        slice_get (map (λ (claim : Claim). claim.number) (filter (is_current s) (claims_from (k + 1 + 1) gs))) 0 ≡ next (slice_get (out_places s.epoch (k + 1) gs) 0) →
-        slice_get (map (λ (claim : Claim). claim.number) (cond out (claim_of (k + 1) g ∷ filter (is_current s) (claims_from (k + 1 + 1) gs)) (filter (is_current s) (claims_from (k + 1 + 1) gs)))) 0
-        ≡ next (slice_get (cond out (k ∷ out_places s.epoch (k + 1) gs) (out_places s.epoch (k + 1) gs)) 0)
-    step true h = refl
-    step false h = h
+    step : (out : Bool) → slice_get (out_by (λ place g. place + 1) e (k + 1) gs) 0 ≡ next (slice_get (out_places e (k + 1) gs) 0) →
+        slice_get (cond out ((k + 1) ∷ out_by (λ place g. place + 1) e (k + 1) gs) (out_by (λ place g. place + 1) e (k + 1) gs)) 0
+        ≡ next (slice_get (cond out (k ∷ out_places e (k + 1) gs) (out_places e (k + 1) gs)) 0)
+    step true same = refl
+    step false same = same
+
+-- the first number is that of the first place
+pub least_is : (s : RunState) (gs : List Given) → slice_get (map (λ (claim : Claim). claim.number) (filter (is_current s) (claims_from 1 gs))) 0 ≡ next (slice_get (out_places s.epoch 0 gs) 0)
+least_is s gs = ap (λ l. slice_get l 0) (current_told (λ (claim : Claim). claim.number) s 0 gs) ∙ first_next s.epoch 0 gs
 
 pub among : (x : ℕ) (list : List ℕ) → (list_any (λ y. nat_eq y x) list ≡ true) ↔ (x ∈ list)
 among x [] = (λ e. absurd (true≢false (sym e)), λ m. absurd m)
@@ -109,24 +112,15 @@ each_at P (y ∷ xs) (suc i) x (h, t) at = each_at P xs i x t at
 
 -- ---- one more is given
 
-pub place_given : (e k : ℕ) (gs : List Given) (g : Given) → is_out e g ≡ true → out_places e k (gs ++ g ∷ []) ≡ out_places e k gs ++ (k + length gs) ∷ []
-place_given e k [] g h = ap (λ b. cond b (k ∷ []) []) h ∙ ap (λ n. n ∷ []) (omega arith)
-place_given e k (x ∷ gs) g h =
-    step (is_out e x) (place_given e (k + 1) gs g h ∙ ap (λ n. out_places e (k + 1) gs ++ n ∷ []) (omega arith))
+pub out_given : {A : Type 0} (f : ℕ → Given → A) (e k : ℕ) (gs : List Given) (g : Given) → is_out e g ≡ true → out_by f e k (gs ++ g ∷ []) ≡ out_by f e k gs ++ f (k + length gs) g ∷ []
+out_given f e k [] g h = ap (λ b. cond b (f k g ∷ []) []) h ∙ ap (λ n. f n g ∷ []) (omega arith)
+out_given f e k (x ∷ gs) g h =
+    step (is_out e x) (out_given f e (k + 1) gs g h ∙ ap (λ n. out_by f e (k + 1) gs ++ f n g ∷ []) (omega arith))
   where
-    step : (out : Bool) → out_places e (k + 1) (gs ++ g ∷ []) ≡ out_places e (k + 1) gs ++ (k + suc (length gs)) ∷ [] →
-        cond out (k ∷ out_places e (k + 1) (gs ++ g ∷ [])) (out_places e (k + 1) (gs ++ g ∷ []))
-        ≡ cond out (k ∷ out_places e (k + 1) gs) (out_places e (k + 1) gs) ++ (k + suc (length gs)) ∷ []
-    step true i = ap (λ l. k ∷ l) i
-    step false i = i
-
-pub leaf_given : (e : ℕ) (gs : List Given) (g : Given) → is_out e g ≡ true → out_leaves e (gs ++ g ∷ []) ≡ out_leaves e gs ++ g.leaf ∷ []
-leaf_given e [] g h = ap (λ b. cond b (g.leaf ∷ []) []) h
-leaf_given e (x ∷ gs) g h = step (is_out e x) (leaf_given e gs g h)
-  where
-    step : (out : Bool) → out_leaves e (gs ++ g ∷ []) ≡ out_leaves e gs ++ g.leaf ∷ [] →
-        cond out (x.leaf ∷ out_leaves e (gs ++ g ∷ [])) (out_leaves e (gs ++ g ∷ [])) ≡ cond out (x.leaf ∷ out_leaves e gs) (out_leaves e gs) ++ g.leaf ∷ []
-    step true i = ap (λ l. x.leaf ∷ l) i
+    step : (out : Bool) → out_by f e (k + 1) (gs ++ g ∷ []) ≡ out_by f e (k + 1) gs ++ f (k + suc (length gs)) g ∷ [] →
+        cond out (f k x ∷ out_by f e (k + 1) (gs ++ g ∷ [])) (out_by f e (k + 1) (gs ++ g ∷ []))
+        ≡ cond out (f k x ∷ out_by f e (k + 1) gs) (out_by f e (k + 1) gs) ++ f (k + suc (length gs)) g ∷ []
+    step true i = ap (λ l. f k x ∷ l) i
     step false i = i
 
 -- ---- one is answered
@@ -158,59 +152,47 @@ found_within p list i h =
     let within = slice_get_within list j p there in
     omega arith
 
--- the one at the place is taken out of the current ones where it stands among them
-pub record IsAnswered (e k : ℕ) (gs : List Given) (place index : ℕ) (g : Given) : Type 0 where
-  pub places : out_places e k (set gs place (answered g)) ≡ remove (out_places e k gs) index
-  pub leaves : out_leaves e (set gs place (answered g)) ≡ remove (out_leaves e gs) index
-
-pub answer_out : (e k : ℕ) (gs : List Given) (place index : ℕ) (g : Given) → slice_get gs place ≡ Some g →
-    slice_get (out_places e k gs) index ≡ Some (k + place) → IsAnswered e k gs place index g
-answer_out e k [] place index g at there = cc
-answer_out e k (x ∷ gs) zero index g at there =
-    let (p, l) = first (is_out e x) index there (λ j. no_place_before e (k + 1) (k + 0) j gs (omega arith)) in record { places = p; leaves = l }
+-- the one at the place is taken out of those that are out where it stands among them
+pub answer_out : {A : Type 0} (f : ℕ → Given → A) (e k : ℕ) (gs : List Given) (place index : ℕ) (g : Given) → slice_get gs place ≡ Some g →
+    slice_get (out_places e k gs) index ≡ Some (k + place) → out_by f e k (set gs place (answered g)) ≡ remove (out_by f e k gs) index
+answer_out f e k [] place index g at there = cc
+answer_out f e k (x ∷ gs) zero index g at there = first (is_out e x) index there (λ j. no_place_before e (k + 1) (k + 0) j gs (omega arith))
   where
     first : (out : Bool) (index : ℕ) → slice_get (cond out (k ∷ out_places e (k + 1) gs) (out_places e (k + 1) gs)) index ≡ Some (k + 0) →
-        ((j : ℕ) → ¬ (slice_get (out_places e (k + 1) gs) j ≡ Some (k + 0))) →
-        (out_places e (k + 1) gs ≡ remove (cond out (k ∷ out_places e (k + 1) gs) (out_places e (k + 1) gs)) index)
-        × (out_leaves e gs ≡ remove (cond out (x.leaf ∷ out_leaves e gs) (out_leaves e gs)) index)
-    first true zero h none = (refl, refl)
+        ((j : ℕ) → ¬ (slice_get (out_places e (k + 1) gs) j ≡ Some (k + 0))) → out_by f e (k + 1) gs ≡ remove (cond out (f k x ∷ out_by f e (k + 1) gs) (out_by f e (k + 1) gs)) index
+    first true zero h none = refl
     first true (suc i) h none = absurd (none i h)
     first false i h none = absurd (none i h)
-answer_out e k (x ∷ gs) (suc place) index g at there =
-    let (p, l) = step (is_out e x) index there (λ j h. answer_out e (k + 1) gs place j g at (h ∙ ap Some (omega arith))) in
-    record { places = p; leaves = l }
+answer_out {A} f e k (x ∷ gs) (suc place) index g at there = step (is_out e x) index there (λ j h. answer_out f e (k + 1) gs place j g at (h ∙ ap Some (omega arith)))
   where
+    rest : List A
+    rest = out_by f e (k + 1) (set gs place (answered g))
+
     step : (out : Bool) (index : ℕ) → slice_get (cond out (k ∷ out_places e (k + 1) gs) (out_places e (k + 1) gs)) index ≡ Some (k + suc place) →
-        ((j : ℕ) → slice_get (out_places e (k + 1) gs) j ≡ Some (k + suc place) → IsAnswered e (k + 1) gs place j g) →
-        (cond out (k ∷ out_places e (k + 1) (set gs place (answered g))) (out_places e (k + 1) (set gs place (answered g)))
-        ≡ remove (cond out (k ∷ out_places e (k + 1) gs) (out_places e (k + 1) gs)) index)
-        × (cond out (x.leaf ∷ out_leaves e (set gs place (answered g))) (out_leaves e (set gs place (answered g)))
-        ≡ remove (cond out (x.leaf ∷ out_leaves e gs) (out_leaves e gs)) index)
+        ((j : ℕ) → slice_get (out_places e (k + 1) gs) j ≡ Some (k + suc place) → rest ≡ remove (out_by f e (k + 1) gs) j) →
+        cond out (f k x ∷ rest) rest ≡ remove (cond out (f k x ∷ out_by f e (k + 1) gs) (out_by f e (k + 1) gs)) index
     step true zero h more = absurd (let same : k ≡ k + suc place = cc in omega arith)
-    step true (suc i) h more = (ap (λ l. k ∷ l) (more i h).places, ap (λ l. x.leaf ∷ l) (more i h).leaves)
-    step false i h more = ((more i h).places, (more i h).leaves)
+    step true (suc i) h more = ap (λ l. f k x ∷ l) (more i h)
+    step false i h more = more i h
 
 -- and leaves them where it does not
-pub answer_other : (e k : ℕ) (gs : List Given) (place : ℕ) (g : Given) → slice_get gs place ≡ Some g →
-    ((j : ℕ) → ¬ (slice_get (out_places e k gs) j ≡ Some (k + place))) →
-    (out_places e k (set gs place (answered g)) ≡ out_places e k gs) × (out_leaves e (set gs place (answered g)) ≡ out_leaves e gs)
-answer_other e k [] place g at none = cc
-answer_other e k (x ∷ gs) zero g at none = first (is_out e x) none
+pub answer_other : {A : Type 0} (f : ℕ → Given → A) (e k : ℕ) (gs : List Given) (place : ℕ) (g : Given) → slice_get gs place ≡ Some g →
+    ((j : ℕ) → ¬ (slice_get (out_places e k gs) j ≡ Some (k + place))) → out_by f e k (set gs place (answered g)) ≡ out_by f e k gs
+answer_other f e k [] place g at none = cc
+answer_other f e k (x ∷ gs) zero g at none = first (is_out e x) none
   where
     first : (out : Bool) → ((j : ℕ) → ¬ (slice_get (cond out (k ∷ out_places e (k + 1) gs) (out_places e (k + 1) gs)) j ≡ Some (k + 0))) →
-        (out_places e (k + 1) gs ≡ cond out (k ∷ out_places e (k + 1) gs) (out_places e (k + 1) gs))
-        × (out_leaves e gs ≡ cond out (x.leaf ∷ out_leaves e gs) (out_leaves e gs))
+        out_by f e (k + 1) gs ≡ cond out (f k x ∷ out_by f e (k + 1) gs) (out_by f e (k + 1) gs)
     first true none = absurd (none 0 (ap Some (omega arith)))
-    first false none = (refl, refl)
-answer_other e k (x ∷ gs) (suc place) g at none =
-    step (is_out e x) none
-    (λ h. answer_other e (k + 1) gs place g at (λ j there. h j (there ∙ ap Some (omega arith))))
+    first false none = refl
+answer_other {A} f e k (x ∷ gs) (suc place) g at none =
+    step (is_out e x) none (λ h. answer_other f e (k + 1) gs place g at (λ j there. h j (there ∙ ap Some (omega arith))))
   where
+    rest : List A
+    rest = out_by f e (k + 1) (set gs place (answered g))
+
     step : (out : Bool) → ((j : ℕ) → ¬ (slice_get (cond out (k ∷ out_places e (k + 1) gs) (out_places e (k + 1) gs)) j ≡ Some (k + suc place))) →
-        (((j : ℕ) → ¬ (slice_get (out_places e (k + 1) gs) j ≡ Some (k + suc place))) →
-        (out_places e (k + 1) (set gs place (answered g)) ≡ out_places e (k + 1) gs) × (out_leaves e (set gs place (answered g)) ≡ out_leaves e gs)) →
-        (cond out (k ∷ out_places e (k + 1) (set gs place (answered g))) (out_places e (k + 1) (set gs place (answered g)))
-        ≡ cond out (k ∷ out_places e (k + 1) gs) (out_places e (k + 1) gs))
-        × (cond out (x.leaf ∷ out_leaves e (set gs place (answered g))) (out_leaves e (set gs place (answered g))) ≡ cond out (x.leaf ∷ out_leaves e gs) (out_leaves e gs))
-    step true none more = let (p, l) = more (λ j h. none (suc j) h) in (ap (λ l. k ∷ l) p, ap (λ m. x.leaf ∷ m) l)
+        (((j : ℕ) → ¬ (slice_get (out_places e (k + 1) gs) j ≡ Some (k + suc place))) → rest ≡ out_by f e (k + 1) gs) →
+        cond out (f k x ∷ rest) rest ≡ cond out (f k x ∷ out_by f e (k + 1) gs) (out_by f e (k + 1) gs)
+    step true none more = ap (λ l. f k x ∷ l) (more (λ j h. none (suc j) h))
     step false none more = more none

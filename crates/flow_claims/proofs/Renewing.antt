@@ -1,16 +1,17 @@
 -- What a new epoch does to the claims as the code keeps them.
-use Rattle.std.proofs.Common.{◌≡◌, ◌≤◌, ◌<◌, ◌+◌, ℕ, zero, suc, Bool, true, false, ◌&&◌, not, cond, if◌then◌else◌, ◌==◌, List, [], ◌∷◌, ◌++◌, length, set, drop, get_or, refl, sym, ap, ◌∙◌, subst, subst₂, arith, append_assoc}
+use Rattle.std.proofs.Common.{◌≡◌, ◌≤◌, ◌<◌, ◌+◌, ℕ, zero, suc, Bool, true, false, ◌&&◌, not, cond, if◌then◌else◌, ◌==◌, List, [], ◌∷◌, ◌++◌, length, map, set, drop, get_or, refl, sym, ap, ◌∙◌, subst, subst₂, arith, append_assoc}
 use Rattle.std.proofs.lemmas.Bool.{eq-eqb, ne_eqb}
-use Rattle.std.proofs.lemmas.List.{at_drop_more}
+use Rattle.std.proofs.lemmas.List.{at_drop_more, length-map}
 use Rattle.flow_model.specs.Lists.{Each}
 use Rattle.flow_model.specs.Schema.{Schema}
 use Rattle.flow_model.specs.Decided.{can_all_follow}
 use Rattle.flow_model.specs.Run.{RunState, spare}
 use Rattle.flow_laws.proofs.ClaimLemmas.{and_false}
 use Rattle.flow_claims.specs.declared.given.Given.{Given}
-use Rattle.flow_claims.specs.Given.{claim_of, claims_from, is_out, out_places, out_leaves, with_epoch, renewed_at}
+use Rattle.flow_claims.specs.Given.{claim_of, claims_from, is_out, out_by, out_places, out_leaves, with_epoch, renewed_at}
 use Rattle.flow_claims.specs.Claimed.{count_of}
-use Rattle.flow_claims.specs.Fields.{events_of, claimed, AreCounted, IsKept}
+use Rattle.flow_claims.specs.Fields.{events_of, claimed, IsKept}
+use Rattle.flow_claims.proofs.Counting.{counts_of, counted_alike}
 use Rattle.flow_claims.specs.Sparing.{staying, head, tail, picked}
 
 -- of the next epoch where the bit says so
@@ -75,56 +76,38 @@ renewed_is_out e true g h out = unanswered g.answered out
     unanswered false k = eq-eqb (e + 1) (e + 1) refl
 renewed_is_out e false g h out = old_is_not_out e g h
 
-pub places_renewed : (e k : ℕ) (bits : List Bool) (gs : List Given) → Each (λ (g : Given). g.epoch ≤ e) gs →
-    out_places (e + 1) k (renew e bits gs) ≡ picked bits (out_places e k gs)
-places_renewed e k bits [] h = refl
-places_renewed e k bits (g ∷ gs) (h, t) = step (is_out e g) refl (λ bits. places_renewed e (k + 1) bits gs t)
+-- f tells the same of a claim, whatever its epoch
+pub out_renewed : (f : ℕ → Given → ℕ) → ((k e : ℕ) (bit : Bool) (g : Given) → f k (renewed e bit g) ≡ f k g) → (e k : ℕ) (bits : List Bool) (gs : List Given) → Each (λ (g : Given). g.epoch ≤ e) gs →
+    out_by f (e + 1) k (renew e bits gs) ≡ picked bits (out_by f e k gs)
+out_renewed f same e k bits [] h = refl
+out_renewed f same e k bits (g ∷ gs) (h, t) = step (is_out e g) refl (λ bits. out_renewed f same e (k + 1) bits gs t)
   where
-    step : (out : Bool) → is_out e g ≡ out → ((bits : List Bool) → out_places (e + 1) (k + 1) (renew e bits gs) ≡ picked bits (out_places e (k + 1) gs)) →
-        out_places (e + 1) k (cond out (renewed e (head bits) g ∷ renew e (tail bits) gs) (g ∷ renew e bits gs))
-        ≡ picked bits (cond out (k ∷ out_places e (k + 1) gs) (out_places e (k + 1) gs))
+    step : (out : Bool) → is_out e g ≡ out → ((bits : List Bool) → out_by f (e + 1) (k + 1) (renew e bits gs) ≡ picked bits (out_by f e (k + 1) gs)) →
+        out_by f (e + 1) k (cond out (renewed e (head bits) g ∷ renew e (tail bits) gs) (g ∷ renew e bits gs))
+        ≡ picked bits (cond out (f k g ∷ out_by f e (k + 1) gs) (out_by f e (k + 1) gs))
     step true o more =
-        let rest = out_places (e + 1) (k + 1) (renew e (tail bits) gs) in
-        ap (λ b. cond b (k ∷ rest) rest) (renewed_is_out e (head bits) g h o)
-        ∙ ap (λ l. cond (head bits) (k ∷ l) l) (more (tail bits))
+        let rest = out_by f (e + 1) (k + 1) (renew e (tail bits) gs) in
+        ap (λ n. cond (is_out (e + 1) (renewed e (head bits) g)) (n ∷ rest) rest) (same k e (head bits) g)
+        ∙ ap (λ b. cond b (f k g ∷ rest) rest) (renewed_is_out e (head bits) g h o)
+        ∙ ap (λ l. cond (head bits) (f k g ∷ l) l) (more (tail bits))
     step false o more =
-        let rest = out_places (e + 1) (k + 1) (renew e bits gs) in
-        ap (λ b. cond b (k ∷ rest) rest) (old_is_not_out e g h) ∙ more bits
+        let rest = out_by f (e + 1) (k + 1) (renew e bits gs) in
+        ap (λ b. cond b (f k g ∷ rest) rest) (old_is_not_out e g h) ∙ more bits
 
-same_leaf : (e : ℕ) (bit : Bool) (g : Given) → (renewed e bit g).leaf ≡ g.leaf
-same_leaf e true g = refl
-same_leaf e false g = refl
-
-same_event : (e : ℕ) (bit : Bool) (g : Given) → (renewed e bit g).event ≡ g.event
-same_event e true g = refl
-same_event e false g = refl
-
-pub leaves_renewed : (e : ℕ) (bits : List Bool) (gs : List Given) → Each (λ (g : Given). g.epoch ≤ e) gs →
-    out_leaves (e + 1) (renew e bits gs) ≡ picked bits (out_leaves e gs)
-leaves_renewed e bits [] h = refl
-leaves_renewed e bits (g ∷ gs) (h, t) = step (is_out e g) refl (λ bits. leaves_renewed e bits gs t)
-  where
-    step : (out : Bool) → is_out e g ≡ out → ((bits : List Bool) → out_leaves (e + 1) (renew e bits gs) ≡ picked bits (out_leaves e gs)) →
-        out_leaves (e + 1) (cond out (renewed e (head bits) g ∷ renew e (tail bits) gs) (g ∷ renew e bits gs))
-        ≡ picked bits (cond out (g.leaf ∷ out_leaves e gs) (out_leaves e gs))
-    step true o more =
-        let rest = out_leaves (e + 1) (renew e (tail bits) gs) in
-        ap (λ n. cond (is_out (e + 1) (renewed e (head bits) g)) (n ∷ rest) rest) (same_leaf e (head bits) g)
-        ∙ ap (λ b. cond b (g.leaf ∷ rest) rest) (renewed_is_out e (head bits) g h o)
-        ∙ ap (λ l. cond (head bits) (g.leaf ∷ l) l) (more (tail bits))
-    step false o more =
-        let rest = out_leaves (e + 1) (renew e bits gs) in
-        ap (λ b. cond b (g.leaf ∷ rest) rest) (old_is_not_out e g h) ∙ more bits
+same_leaf : (k e : ℕ) (bit : Bool) (g : Given) → (renewed e bit g).leaf ≡ g.leaf
+same_leaf k e true g = refl
+same_leaf k e false g = refl
 
 -- ---- what stays
 
-pub events_renewed : (e : ℕ) (bits : List Bool) (gs : List Given) → events_of (renew e bits gs) ≡ events_of gs
-events_renewed e bits [] = refl
-events_renewed e bits (g ∷ gs) = step (is_out e g) (λ bits. events_renewed e bits gs)
+pub map-renew : {A : Type 0} (f : Given → A) → ((e : ℕ) (g : Given) → f (record g { epoch = e }) ≡ f g) → (e : ℕ) (bits : List Bool) (gs : List Given) → map f (renew e bits gs) ≡ map f gs
+map-renew f same e bits [] = refl
+map-renew f same e bits (g ∷ gs) = step (is_out e g) (head bits) (λ bits. map-renew f same e bits gs)
   where
-    step : (out : Bool) → ((bits : List Bool) → events_of (renew e bits gs) ≡ events_of gs) → events_of (cond out (renewed e (head bits) g ∷ renew e (tail bits) gs) (g ∷ renew e bits gs)) ≡ g.event ∷ events_of gs
-    step true more = ap (λ n. n ∷ events_of (renew e (tail bits) gs)) (same_event e (head bits) g) ∙ ap (λ l. g.event ∷ l) (more (tail bits))
-    step false more = ap (λ l. g.event ∷ l) (more bits)
+    step : (out bit : Bool) → ((bits : List Bool) → map f (renew e bits gs) ≡ map f gs) → map f (cond out (renewed e bit g ∷ renew e (tail bits) gs) (g ∷ renew e bits gs)) ≡ f g ∷ map f gs
+    step true true more = (λ i. same (e + 1) g i ∷ more (tail bits) i)
+    step true false more = ap (λ l. f g ∷ l) (more (tail bits))
+    step false bit more = ap (λ l. f g ∷ l) (more bits)
 
 epochs_renewed : (e : ℕ) (bits : List Bool) (gs : List Given) → Each (λ (g : Given). g.epoch ≤ e) gs → Each (λ (g : Given). g.epoch ≤ e + 1) (renew e bits gs)
 epochs_renewed e bits [] h = tt
@@ -139,36 +122,18 @@ epochs_renewed e bits (g ∷ gs) (h, t) = step (is_out e g) (λ bits. epochs_ren
     step true more = (one (head bits), more (tail bits))
     step false more = (omega arith, more bits)
 
-counted_renewed : (before : List ℕ) (e : ℕ) (bits : List Bool) (gs : List Given) → AreCounted before gs → AreCounted before (renew e bits gs)
-counted_renewed before e bits [] h = tt
-counted_renewed before e bits (g ∷ gs) (h, t) = step (is_out e g) (λ bits. counted_renewed (before ++ g.event ∷ []) e bits gs t)
-  where
-    one : (bit : Bool) → AreCounted (before ++ g.event ∷ []) (renew e (tail bits) gs) → AreCounted before (renewed e bit g ∷ renew e (tail bits) gs)
-    one true more = (h, more)
-    one false more = (h, more)
-
-    step : (out : Bool) → ((bits : List Bool) → AreCounted (before ++ g.event ∷ []) (renew e bits gs)) →
-        AreCounted before (cond out (renewed e (head bits) g ∷ renew e (tail bits) gs) (g ∷ renew e bits gs))
-    step true more = one (head bits) (more (tail bits))
-    step false more = (h, more bits)
-
 pub kept_renew : (gs : List Given) (current leaves attempts : List ℕ) (e : ℕ) (bits : List Bool) → IsKept gs current leaves attempts e →
     IsKept (renew e bits gs) (picked bits current) (picked bits leaves) attempts (e + 1)
 kept_renew gs current leaves attempts e bits k = record {
   epochs = epochs_renewed e bits gs k.epochs;
-  current_are = ap (picked bits) k.current_are ∙ sym (places_renewed e 0 bits gs k.epochs);
-  leaves_are = ap (picked bits) k.leaves_are ∙ sym (leaves_renewed e bits gs k.epochs);
-  counted = counted_renewed [] e bits gs k.counted;
-  totals = λ event h. k.totals event h ∙ ap (count_of event) (sym (events_renewed e bits gs));
+  current_are = ap (picked bits) k.current_are ∙ sym (out_renewed (λ place g. place) (λ k e bit g. refl) e 0 bits gs k.epochs);
+  leaves_are = ap (picked bits) k.leaves_are ∙ sym (out_renewed (λ place g. g.leaf) same_leaf e 0 bits gs k.epochs);
+  counted = counted_alike [] gs (renew e bits gs) (map-renew counts_of (λ e g. refl) e bits gs) k.counted;
+  totals = λ event h. k.totals event h ∙ ap (count_of event) (sym (map-renew (λ g. g.event) (λ e g. refl) e bits gs));
 }
 
 pub length-renew : (e : ℕ) (bits : List Bool) (gs : List Given) → length (renew e bits gs) ≡ length gs
-length-renew e bits [] = refl
-length-renew e bits (g ∷ gs) = step (is_out e g) (λ bits. length-renew e bits gs)
-  where
-    step : (out : Bool) → ((bits : List Bool) → length (renew e bits gs) ≡ length gs) → length (cond out (renewed e (head bits) g ∷ renew e (tail bits) gs) (g ∷ renew e bits gs)) ≡ suc (length gs)
-    step true more = ap suc (more (tail bits))
-    step false more = ap suc (more bits)
+length-renew e bits gs = sym (length-map (renew e bits gs) (λ (g : Given). g.leaf)) ∙ ap length (map-renew (λ (g : Given). g.leaf) (λ e g. refl) e bits gs) ∙ length-map gs (λ (g : Given). g.leaf)
 
 pub each_picked : (P : ℕ → Type 0) (bits : List Bool) (xs : List ℕ) → Each P xs → Each P (picked bits xs)
 each_picked P bits [] h = tt
@@ -180,25 +145,25 @@ each_picked P bits (x ∷ xs) (h, t) = step (head bits) (each_picked P (tail bit
 
 -- ---- just those are spared
 
-pub spare_is : (w : Schema) (s : RunState) (before : List ℕ) (k : ℕ) (gs : List Given) →
-    spare w s before (claims_from k gs) ≡ claims_from k (renew s.epoch (staying w s before (out_leaves s.epoch gs)) gs)
-spare_is w s before k [] = refl
-spare_is w s before k (g ∷ gs) = step (is_out s.epoch g) (λ before. spare_is w s before (k + 1) gs)
+pub spare_is : (w : Schema) (s : RunState) (before : List ℕ) (k j : ℕ) (gs : List Given) →
+    spare w s before (claims_from k gs) ≡ claims_from k (renew s.epoch (staying w s before (out_leaves s.epoch j gs)) gs)
+spare_is w s before k j [] = refl
+spare_is w s before k j (g ∷ gs) = step (is_out s.epoch g) (λ before. spare_is w s before (k + 1) (j + 1) gs)
   where
-    chosen : (test : Bool) → ((before : List ℕ) → spare w s before (claims_from (k + 1) gs) ≡ claims_from (k + 1) (renew s.epoch (staying w s before (out_leaves s.epoch gs)) gs)) →
+    chosen : (test : Bool) → ((before : List ℕ) → spare w s before (claims_from (k + 1) gs) ≡ claims_from (k + 1) (renew s.epoch (staying w s before (out_leaves s.epoch (j + 1) gs)) gs)) →
         (if test then record (claim_of k g) { epoch = s.epoch + 1 } ∷ spare w s (before ++ g.leaf ∷ []) (claims_from (k + 1) gs) else claim_of k g ∷ spare w s before (claims_from (k + 1) gs))
-        ≡ claims_from k (renewed s.epoch test g ∷ renew s.epoch (staying w s (if test then before ++ g.leaf ∷ [] else before) (out_leaves s.epoch gs)) gs)
+        ≡ claims_from k (renewed s.epoch test g ∷ renew s.epoch (staying w s (if test then before ++ g.leaf ∷ [] else before) (out_leaves s.epoch (j + 1) gs)) gs)
     chosen true more = ap (λ l. record (claim_of k g) { epoch = s.epoch + 1 } ∷ l) (more (before ++ g.leaf ∷ []))
     chosen false more = ap (λ l. claim_of k g ∷ l) (more before)
 
-    step : (out : Bool) → ((before : List ℕ) → spare w s before (claims_from (k + 1) gs) ≡ claims_from (k + 1) (renew s.epoch (staying w s before (out_leaves s.epoch gs)) gs)) →
+    step : (out : Bool) → ((before : List ℕ) → spare w s before (claims_from (k + 1) gs) ≡ claims_from (k + 1) (renew s.epoch (staying w s before (out_leaves s.epoch (j + 1) gs)) gs)) →
         (if out && can_all_follow w s (before ++ g.leaf ∷ [])
         then record (claim_of k g) { epoch = s.epoch + 1 } ∷ spare w s (before ++ g.leaf ∷ []) (claims_from (k + 1) gs)
         else claim_of k g ∷ spare w s before (claims_from (k + 1) gs))
         ≡ claims_from k (cond out
-        (renewed s.epoch (head (staying w s before (cond out (g.leaf ∷ out_leaves s.epoch gs) (out_leaves s.epoch gs)))) g
-        ∷ renew s.epoch (tail (staying w s before (cond out (g.leaf ∷ out_leaves s.epoch gs) (out_leaves s.epoch gs)))) gs)
-        (g ∷ renew s.epoch (staying w s before (cond out (g.leaf ∷ out_leaves s.epoch gs) (out_leaves s.epoch gs))) gs))
+        (renewed s.epoch (head (staying w s before (cond out (g.leaf ∷ out_leaves s.epoch (j + 1) gs) (out_leaves s.epoch (j + 1) gs)))) g
+        ∷ renew s.epoch (tail (staying w s before (cond out (g.leaf ∷ out_leaves s.epoch (j + 1) gs) (out_leaves s.epoch (j + 1) gs)))) gs)
+        (g ∷ renew s.epoch (staying w s before (cond out (g.leaf ∷ out_leaves s.epoch (j + 1) gs) (out_leaves s.epoch (j + 1) gs))) gs))
     step true more = chosen (can_all_follow w s (before ++ g.leaf ∷ [])) more
     step false more = ap (λ l. claim_of k g ∷ l) (more before)
 
@@ -228,14 +193,14 @@ kept_renewed gs new current new_current leaves new_leaves attempts e bits k is p
 
 -- just those are spared
 pub spared_claims : (w : Schema) (s : RunState) (gs new : List Given) (e : ℕ) (leaves was : List ℕ) (bits : List Bool) → s.claims ≡ claims_from 1 gs → s.epoch ≡ e →
-    leaves ≡ out_leaves e gs → was ≡ leaves → bits ≡ staying w s [] was → new ≡ renew e bits gs → claims_from 1 new ≡ spare w s [] s.claims
+    leaves ≡ out_leaves e 0 gs → was ≡ leaves → bits ≡ staying w s [] was → new ≡ renew e bits gs → claims_from 1 new ≡ spare w s [] s.claims
 spared_claims w s gs new e leaves was bits claims epoch are same stay is =
-    let all : bits ≡ staying w s [] (out_leaves s.epoch gs) = stay ∙ ap (staying w s []) (same ∙ are ∙ ap (λ n. out_leaves n gs) (sym epoch)) in
+    let all : bits ≡ staying w s [] (out_leaves s.epoch 0 gs) = stay ∙ ap (staying w s []) (same ∙ are ∙ ap (λ n. out_leaves n 0 gs) (sym epoch)) in
     ap (claims_from 1) is ∙ ap (λ n. claims_from 1 (renew n bits gs)) (sym epoch) ∙ ap (λ b. claims_from 1 (renew s.epoch b gs)) all
-    ∙ sym (spare_is w s [] 1 gs) ∙ ap (spare w s []) (sym claims)
+    ∙ sym (spare_is w s [] 1 0 gs) ∙ ap (spare w s []) (sym claims)
 
 pub renewed_value : (gs new : List Given) (e room kinds : ℕ) (bits : List Bool) → new ≡ renew e bits gs →
     claimed new (e + 1) room kinds ≡ record (claimed gs e room kinds) { claims = claims_from 1 new; epoch = e + 1 }
 renewed_value gs new e room kinds bits is =
-    let events : events_of new ≡ events_of gs = ap events_of is ∙ events_renewed e bits gs in
+    let events : events_of new ≡ events_of gs = ap events_of is ∙ map-renew (λ g. g.event) (λ e g. refl) e bits gs in
     λ i. record { claims = claims_from 1 new; events = events i; epoch = e + 1; room = room; kinds = kinds }

@@ -27,7 +27,7 @@ AreCounted before (given ∷ more) =
 pub record IsKept (given : List Given) (current leaves attempts : List ℕ) (epoch : ℕ) : Type 0 where
   pub epochs : Each (λ (g : Given). g.epoch ≤ epoch) given
   pub current_are : current ≡ out_places epoch 0 given
-  pub leaves_are : leaves ≡ out_leaves epoch given
+  pub leaves_are : leaves ≡ out_leaves epoch 0 given
   pub counted : AreCounted [] given
   pub totals : (event : ℕ) → event < length attempts → slice_index attempts event ≡ count_of event (events_of given)
 

@@ -16,16 +16,19 @@ claims_from number (given ∷ more) = claim_of number given ∷ claims_from (num
 abbrev pub is_out : ℕ → Given → Bool
 is_out epoch given = not given.answered && (given.epoch == epoch)
 
--- the places of those that are out, where the first of the list has that place
+-- what f tells of those that are out, where the first of the list has that place
+abbrev pub out_by : {A : Type 0} → (ℕ → Given → A) → ℕ → ℕ → List Given → List A
+out_by f epoch place [] = []
+out_by f epoch place (given ∷ more) =
+    if is_out epoch given then f place given ∷ out_by f epoch (place + 1) more else out_by f epoch (place + 1) more
+
+-- their places
 abbrev pub out_places : ℕ → ℕ → List Given → List ℕ
-out_places epoch place [] = []
-out_places epoch place (given ∷ more) =
-    if is_out epoch given then place ∷ out_places epoch (place + 1) more else out_places epoch (place + 1) more
+out_places epoch place given = out_by (λ place given. place) epoch place given
 
 -- their leaves
-abbrev pub out_leaves : ℕ → List Given → List ℕ
-out_leaves epoch [] = []
-out_leaves epoch (given ∷ more) = if is_out epoch given then given.leaf ∷ out_leaves epoch more else out_leaves epoch more
+abbrev pub out_leaves : ℕ → ℕ → List Given → List ℕ
+out_leaves epoch place given = out_by (λ place given. given.leaf) epoch place given
 
 -- the one at the place is of the epoch
 abbrev pub with_epoch : ℕ → ℕ → List Given → List Given

@@ -12,7 +12,7 @@ pub(crate) fn thin(residual: &Residual, places: &mut [u32], leaves: &mut [u32]) 
     let mut kept = 0;
     for index in 0..leaves.len() {
         let leaf = leaves[index];
-        if residual.legal_take(&leaves[..kept], leaf) {
+        if residual.may_all_follow(&leaves[..kept], leaf) {
             places[kept] = places[index];
             leaves[kept] = leaf;
             kept += 1;

@@ -18,7 +18,7 @@ use Rattle.flow_workflow.specs.Definition.{Definition, schema_of}
 use Rattle.flow_workflow.specs.Numbers.{IsKnown}
 use Rattle.flow_claims.specs.Claimed.{Claimed, count_of}
 use Rattle.flow_claims.proofs.Outstanding.{each_at}
-use Rattle.flow_core.specs.Kept.{AreClaimsOf}
+use Rattle.flow_core.specs.Invariant.{AreClaimsOf}
 use Rattle.flow_core.proofs.Steps.{events_at, label_of_event}
 
 -- the event of a known label is known

@@ -2,29 +2,23 @@
 use Rattle.std.proofs.Common.{◌≡◌, ◌<◌, ◌≤◌, ◌+◌, ℕ, List, [], ◌∷◌, ◌++◌, length, sym, ap, ◌∙◌, subst, arith, length-append}
 use Rattle.flow_model.specs.Lists.{◌∈◌, Each, AreDistinct, numbers_from}
 use Rattle.flow_model.specs.Schema.{Schema}
-use Rattle.flow_model.specs.Run.{RunState, current_leaves, IsFree, MayFollow, MayAllFollow, MayFollowFirst}
+use Rattle.flow_model.specs.Run.{RunState, current_leaves, IsFree, MayAllFollow, MayFollowFirst}
 use Rattle.flow_laws.specs.Words.{IsWellFormed}
 use Rattle.flow_laws.specs.Histories.{IsSound}
-use Rattle.flow_laws.proofs.Members.{split_at, mem_append_left, each_from_members}
+use Rattle.flow_laws.proofs.Members.{mem_append_left, each_member, each_from_members}
 use Rattle.flow_laws.proofs.MadeLists.{distinct-numbers_from, numbers_from_below, same_order, begins_front}
 use Rattle.flow_laws.proofs.TraceLeaves.{leaf_of_trace, distinct_trace}
 use Rattle.flow_sample.proofs.RingLemmas.{at_most}
 use Rattle.flow_residual.specs.Remaining.{Remaining, IsOf, MayComeNext}
-use Rattle.flow_residual.proofs.PossibleLemmas.{run_of_follow, follow_of_run}
+use Rattle.flow_residual.proofs.PossibleLemmas.{follow_of_run, may_all_follow, may_follow_first, each_comes_next, first_comes_next}
 
 -- of leaves that may all follow, each may come next
 pub next_of_all : (w : Schema) (s : RunState) (r : Remaining) → IsOf w s r → (list : List ℕ) (n : ℕ) → MayAllFollow w s list → n ∈ list → MayComeNext r n
-next_of_all w s r f list n (o, m, all) there =
-    let (front, back, is) = split_at n list there in
-    let follows : MayFollow w s o (n ∷ (front ++ back)) = all (n ∷ (front ++ back)) (front, back, is, same_order (front ++ back)) in
-    let run = run_of_follow w s r f o m (n ∷ (front ++ back)) follows in
-    (o, run.0, run.1.0)
+next_of_all w s r f list n may there = each_member (MayComeNext r) list (each_comes_next r list ((may_all_follow w s r f list).1 may)) n there
 
 -- a leaf that may follow first may come next
 pub next_of_first : (w : Schema) (s : RunState) (r : Remaining) → IsOf w s r → (list : List ℕ) (n : ℕ) → MayFollowFirst w s n list → MayComeNext r n
-next_of_first w s r f list n (o, m, all) =
-    let run = run_of_follow w s r f o m (n ∷ list) (all list (same_order list)) in
-    (o, run.0, run.1.0)
+next_of_first w s r f list n may = first_comes_next r n list ((may_follow_first w s r f n list).1 may)
 
 -- the leaves of a free trace have labels
 pub within_free : (w : Schema) → IsWellFormed w → (s : RunState) (t : List ℕ) → IsFree w s t → (n : ℕ) → n ∈ t → n < length w.labels

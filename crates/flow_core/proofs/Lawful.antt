@@ -13,7 +13,7 @@ use Rattle.flow_residual.specs.Remaining.{Remaining}
 use Rattle.flow_claims.specs.Claimed.{Claimed}
 use Rattle.flow_world.specs.Course.{Course, after_all, state_of_world}
 use Rattle.flow_world.proofs.JournalLabels.{replay-labels_at}
-use Rattle.flow_core.specs.Kept.{IsCourseOf, IsKept}
+use Rattle.flow_core.specs.Invariant.{IsCourseOf, IsKept}
 use Rattle.flow_core.specs.Lawful.{IsLawful}
 
 false_is_not : false ≡ true → ⊥

@@ -1,5 +1,6 @@
 pub mod Following
 pub mod Steps
+pub mod Entries
 pub mod Lawful
 pub mod Calls
 pub mod Tests

@@ -63,28 +63,19 @@ one_found P i list just has = record {
           mem_append_left n list (i ∷ []) ((just.exact n).1 (omega arith, below.1)))
     ]
 
--- the next number lacks P
-pub one_passed : (P : ℕ → Type 0) (i : ℕ) (list : List ℕ) → AreJust (Below P i) list → ¬ (P i) → AreJust (Below P (i + 1)) list
-one_passed P i list just lacks = record {
-  rising = just.rising;
-  exact = λ n. (to n, from n);
-}
-  where
-    to : (n : ℕ) → n ∈ list → Below P (i + 1) n
-    to n member = let low : n < i = ((just.exact n).0 member).0 in (omega arith, ((just.exact n).0 member).1)
-
-    from : (n : ℕ) → Below P (i + 1) n → n ∈ list
-    from n below = elim (decide_eq n i) [
-      | inl same ↦ absurd (lacks (subst P same below.1))
-      | inr other ↦ (let ne : n ≢ i = other in let low : n < i + 1 = below.0 in (just.exact n).1 (omega arith, below.1))
-    ]
-
 -- the same list, for properties that are had by the same numbers
 pub just_as : (P Q : ℕ → Type 0) (list : List ℕ) → AreJust P list → ((n : ℕ) → P n → Q n) → ((n : ℕ) → Q n → P n) → AreJust Q list
 just_as P Q list just to from = record {
   rising = just.rising;
   exact = λ n. (λ member. to n ((just.exact n).0 member), λ has. (just.exact n).1 (from n has));
 }
+
+-- the next number lacks P
+pub one_passed : (P : ℕ → Type 0) (i : ℕ) (list : List ℕ) → AreJust (Below P i) list → ¬ (P i) → AreJust (Below P (i + 1)) list
+one_passed P i list just lacks = just_as (Below P i) (Below P (i + 1)) list just (λ n below. let low : n < i = below.0 in (omega arith, below.1)) (λ n below. elim (decide_eq n i) [
+  | inl same ↦ absurd (lacks (subst P same below.1))
+  | inr other ↦ (let ne : n ≢ i = other in let low : n < i + 1 = below.0 in (omega arith, below.1))
+])
 
 -- no number past the bound has P
 pub all_found : (P : ℕ → Type 0) (bound : ℕ) (list : List ℕ) → AreJust (Below P bound) list → ((n : ℕ) → P n → n < bound) → AreJust P list

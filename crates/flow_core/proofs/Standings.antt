@@ -1,5 +1,5 @@
 -- Claims that were given, and the least that is current.
-use Rattle.std.proofs.Common.{◌≡◌, ◌≤◌, ◌<◌, ◌+◌, ◌-◌, ℕ, zero, suc, Bool, true, false, not, cond, nat_eq, nat_lt, List, [], ◌∷◌, ◌++◌, map, length, Option, Some, None, slice_get, MatchOption, IsTrue, IsSomeAnd, refl, sym, ap, ◌∙◌, subst, inl, inr, arith, true≢false}
+use Rattle.std.proofs.Common.{◌≡◌, ◌≤◌, ◌<◌, ◌+◌, ◌-◌, ℕ, zero, suc, Bool, true, false, not, ◌&&◌, cond, nat_eq, nat_lt, List, [], ◌∷◌, ◌++◌, map, length, Option, Some, None, slice_get, MatchOption, IsTrue, IsSomeAnd, refl, sym, ap, ◌∙◌, subst, inl, inr, arith, true≢false}
 use Rattle.std.specs.List.{filter, find}
 use Rattle.std.proofs.lemmas.Bool.{eq-eqb, ne_eqb, eqb-true}
 use Rattle.flow_model.specs.declared.history.Entry.{Entry}
@@ -8,7 +8,7 @@ use Rattle.flow_model.specs.declared.labels.Label.TheVariants.{Event, Test, Abse
 use Rattle.flow_model.specs.Lists.{◌∈◌, numbers_from}
 use Rattle.flow_model.specs.Facts.{event_at}
 use Rattle.flow_model.specs.Schema.{Schema}
-use Rattle.flow_model.specs.Run.{Claim, RunState, state_of, claim_at, current_claims, current_leaves, leaf_of_claim, is_current, is_lapsed, IsCurrent, IsLapsed, IsFree, CanTake, CanDoAside}
+use Rattle.flow_model.specs.Run.{Claim, RunState, state_of, claim_at, current_claims, current_leaves, leaf_of_claim, is_current, IsCurrent, IsLapsed, IsFree, CanTake, CanDoAside}
 use Rattle.flow_laws.specs.Histories.{IsSound}
 use Rattle.flow_laws.proofs.Members.{mem_here, decide_in, cons_same, each_member}
 use Rattle.flow_laws.proofs.MadeLists.{some_same}
@@ -26,7 +26,7 @@ use Rattle.flow_world.specs.Course.{Course}
 use Rattle.flow_world.proofs.JournalLabels.{length-labels_at}
 use Rattle.flow_core.specs.Answers.{IsUnanswered, IsLeastCurrent}
 use Rattle.flow_core.specs.Standing.{IsGiven}
-use Rattle.flow_core.specs.Kept.{IsKept}
+use Rattle.flow_core.specs.Invariant.{IsKept}
 use Rattle.flow_core.proofs.Following.{next_of_all, next_of_first, journal_within, next_room}
 use Rattle.flow_core.proofs.Steps.{events_at, sound_now}
 use Rattle.flow_core.proofs.Calls.{attempts_are}
@@ -103,23 +103,20 @@ least_is w s sound None h = none_of (current_claims s) (sym h)
 least_is w s sound (Some n) h = least_of 1 (is_current s) s.claims n sound.numbered (sym h)
 
 -- a claim without an answer
-pub unanswered_current : (s : RunState) (n : ℕ) → IsCurrent s n → IsUnanswered s n
-unanswered_current s n current =
-    let (claim, found, told) = some_claim (λ claim. IsTrue (is_current s claim)) (claim_at s n) current in
-    subst (λ o. IsSomeAnd o (λ (claim : Claim). claim.answered ≡ false)) (sym found) (not_true claim.answered (and_parts (not claim.answered) (nat_eq claim.epoch s.epoch) told).0)
+unanswered : (s : RunState) (n : ℕ) (test : Claim → Bool) → IsSomeAnd (claim_at s n) (λ claim. IsTrue (not claim.answered && test claim)) → IsUnanswered s n
+unanswered s n test has =
+    let (claim, found, told) = some_claim (λ claim. IsTrue (not claim.answered && test claim)) (claim_at s n) has in
+    subst (λ o. IsSomeAnd o (λ (claim : Claim). claim.answered ≡ false)) (sym found) (not_true claim.answered (and_parts (not claim.answered) (test claim) told).0)
   where
     not_true : (b : Bool) → not b ≡ true → b ≡ false
     not_true true e = cc
     not_true false e = refl
 
+pub unanswered_current : (s : RunState) (n : ℕ) → IsCurrent s n → IsUnanswered s n
+unanswered_current s n = unanswered s n (λ (claim : Claim). nat_eq claim.epoch s.epoch)
+
 pub unanswered_lapsed : (s : RunState) (n : ℕ) → IsLapsed s n → IsUnanswered s n
-unanswered_lapsed s n lapsed =
-    let (claim, found, told) = some_claim (λ claim. IsTrue (is_lapsed s claim)) (claim_at s n) lapsed in
-    subst (λ o. IsSomeAnd o (λ (claim : Claim). claim.answered ≡ false)) (sym found) (not_true claim.answered (and_parts (not claim.answered) (nat_lt claim.epoch s.epoch) told).0)
-  where
-    not_true : (b : Bool) → not b ≡ true → b ≡ false
-    not_true true e = cc
-    not_true false e = refl
+unanswered_lapsed s n = unanswered s n (λ (claim : Claim). nat_lt claim.epoch s.epoch)
 
 -- a leaf that no execution goes on without
 pub needed : (w : Schema) (s : RunState) (leaf : ℕ) → ¬ (IsAvoidable w s leaf) → (t : List ℕ) → IsFree w s t → leaf ∈ t

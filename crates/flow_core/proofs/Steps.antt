@@ -23,7 +23,7 @@ use Rattle.flow_claims.specs.Claimed.{Claimed}
 use Rattle.flow_world.specs.Course.{Course}
 use Rattle.flow_world.specs.Journals.{labels_at}
 use Rattle.flow_world.proofs.JournalLabels.{labels_at-push, labels_at-take}
-use Rattle.flow_core.specs.Kept.{AreClaimsOf, IsCourseOf, IsKept}
+use Rattle.flow_core.specs.Invariant.{AreClaimsOf, IsCourseOf, IsKept}
 use Rattle.flow_core.proofs.Following.{journal_within}
 
 -- the state after one entry more
@@ -130,7 +130,7 @@ module _ (w : Definition) (limit : ℕ) (history : List Entry) (r : Remaining) (
           claims = subst (λ (s : RunState). AreClaimsOf w s c') (sym same) claims;
           course = subst (λ (s : RunState). IsCourseOf w s v') (sym same) course;
           committed_is = ap (λ (s : RunState). s.committed) same ∙ closed;
-          spent = omega arith;
+          within_limit = omega arith;
           claims_room = let h : limit ≤ c.room = k.claims_room in omega arith;
           few_claims = let h : length c.claims ≤ length history = k.few_claims in omega arith;
           few_epochs = let h : c.epoch ≤ length history = k.few_epochs in omega arith;

@@ -1,5 +1,5 @@
 -- What the claims of a core, its residual and its world say of the state.
-use Rattle.std.proofs.Common.{◌≡◌, ◌<◌, ℕ, Bool, true, false, not, ◌&&◌, nat_eq, nat_lt, List, [], ◌∷◌, ◌++◌, Some, ◌↔◌, IsTrue, IsSomeAnd, refl, sym, ap, ◌∙◌, subst, true≢false}
+use Rattle.std.proofs.Common.{◌≡◌, ◌<◌, ℕ, Bool, true, false, not, ◌&&◌, nat_eq, nat_lt, List, [], ◌∷◌, ◌++◌, map, Some, ◌↔◌, IsTrue, IsSomeAnd, refl, sym, ap, ◌∙◌, subst, true≢false}
 use Rattle.std.proofs.lemmas.Bool.{eq-eqb, lt-ltb}
 use Rattle.flow_model.specs.Lists.{◌∈◌}
 use Rattle.flow_model.specs.Schema.{Schema}
@@ -11,18 +11,16 @@ use Rattle.flow_claims.specs.declared.given.Given.{Given}
 use Rattle.flow_claims.specs.Given.{claim_of}
 use Rattle.flow_claims.specs.Claimed.{Claimed, run_of, IsUnanswered}
 use Rattle.flow_core.specs.Answers.{IsAnswered, IsUnanswered as IsUnansweredIn, IsLateOf}
-use Rattle.flow_core.specs.Kept.{AreClaimsOf}
+use Rattle.flow_core.specs.Invariant.{AreClaimsOf}
 
 module _ (w : Definition) (s : RunState) (c : Claimed) (are : AreClaimsOf w s c) where
-  pub leaves_are : current_leaves (run_of c) ≡ current_leaves s
-  leaves_are =
-      ap (λ (cs : List Claim). current_leaves (record first_state { claims = cs; epoch = c.epoch })) (sym are.claims_are)
-      ∙ ap (λ e. current_leaves (record first_state { claims = s.claims; epoch = e })) (sym are.epoch_is)
-
   pub claims_are : current_claims (run_of c) ≡ current_claims s
   claims_are =
       ap (λ (cs : List Claim). current_claims (record first_state { claims = cs; epoch = c.epoch })) (sym are.claims_are)
       ∙ ap (λ e. current_claims (record first_state { claims = s.claims; epoch = e })) (sym are.epoch_is)
+
+  pub leaves_are : current_leaves (run_of c) ≡ current_leaves s
+  leaves_are = ap (map (λ (claim : Claim). claim.leaf)) claims_are
 
   pub claim_is : (number : ℕ) → claim_at (run_of c) number ≡ claim_at s number
   claim_is number = ap (λ (cs : List Claim). claim_at (record first_state { claims = cs }) number) (sym are.claims_are)

@@ -5,5 +5,4 @@ pub mod Single
 pub mod Standing
 pub mod Looks
 pub mod Played
-pub mod Kept
-pub mod Fields
+pub mod Invariant

@@ -12,31 +12,31 @@ impl Core {
     {
         if !self.looked {
             self.residual.look_ahead();
-            self.beside = self.residual.all_beside(self.claims.leaves());
-            self.first = self.residual.all_first(self.claims.leaves());
+            self.beside = self.residual.all_that_follow(self.claims.leaves());
+            self.first = self.residual.all_that_follow_first(self.claims.leaves());
             self.looked = true;
         }
     }
 
     /// Whether, in some one option, the leaf and those of the claims may follow in every order.
-    pub(crate) fn may_stand_beside(&self, leaf: u32) -> bool
+    pub(crate) fn may_all_follow(&self, leaf: u32) -> bool
         ensures { IsTrue result ↔ MayAllFollow (schema self.now) (now self.now) (current_leaves (now self.now) ++ leaf ∷ []) }
     {
         if self.looked && leaf < 1024 {
             self.beside.has(leaf)
         } else {
-            self.residual.legal_take(self.claims.leaves(), leaf)
+            self.residual.may_all_follow(self.claims.leaves(), leaf)
         }
     }
 
     /// Whether, in some one option, the leaf may come next, and those of the claims then in every order.
-    pub(crate) fn may_come_first(&self, leaf: u32) -> bool
+    pub(crate) fn may_follow_first(&self, leaf: u32) -> bool
         ensures { IsTrue result ↔ MayFollowFirst (schema self.now) (now self.now) leaf (current_leaves (now self.now)) }
     {
         if self.looked && leaf < 1024 {
             self.first.has(leaf)
         } else {
-            self.residual.legal_do(self.claims.leaves(), leaf)
+            self.residual.may_follow_first(self.claims.leaves(), leaf)
         }
     }
 }

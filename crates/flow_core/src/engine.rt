@@ -25,7 +25,7 @@ struct Parts {
 
 impl Parts {
     ghost use Rattle.std.specs.Vec.{vec_capacity};
-    ghost use Rattle.flow_core.specs.Kept.{IsKept};
+    ghost use Rattle.flow_core.specs.Invariant.{IsKept};
 
     /// The parts of a run with no entry yet, of at most so many.
     fn new(
@@ -80,7 +80,7 @@ impl Model for Core {
 
     ghost coded = { run_code };
 
-    ghost use Rattle.flow_core.specs.Fields.{run_by, IsRunning};
+    ghost use Rattle.flow_core.specs.Invariant.{run_by, IsRunning};
 
     ghost view = { run_by };
 

@@ -57,7 +57,7 @@ impl Core {
         requires { IsOtherLeaf (schema self.now) leaf }
         ensures { IsTrue result ↔ CanDoAside (schema self.now) (now self.now) leaf }
     {
-        self.may_come_first(leaf)
+        self.may_follow_first(leaf)
     }
 
     /// Makes the entry of a leaf that may be done.

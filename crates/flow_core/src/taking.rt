@@ -57,7 +57,7 @@ impl Core {
         requires { IsEventLeaf (schema self.now) leaf }
         ensures { IsTrue result ↔ CanTake (schema self.now) (now self.now) leaf }
     {
-        !self.claims.has_leaf(leaf) && self.may_stand_beside(leaf)
+        !self.claims.has_leaf(leaf) && self.may_all_follow(leaf)
     }
 
     /// Makes the entry of a claim that may be given.

@@ -1,15 +1,13 @@
 -- The least bans that options hold.
-use Rattle.std.proofs.Common.{◌≡◌, ◌≢◌, ℕ, zero, suc, ◌+◌, ◌<◌, ◌≤◌, nat_le, min, not, is_some, Bool, true, false, cond, ◌↔◌, IsTrue, List, [], ◌∷◌, ◌++◌, length, get_or, set, Option, None, Some, slice_get, refl, sym, ◌∙◌, subst, inl, inr, ⊎_elim, arith, get_or-set_same, get_or-set_other, below_more, length-append}
+use Rattle.std.proofs.Common.{◌≡◌, ℕ, ◌<◌, ◌≤◌, nat_le, min, not, is_some, Bool, true, false, cond, ◌↔◌, IsTrue, List, [], ◌∷◌, ◌++◌, Option, None, Some, refl, sym, subst, inl, inr, ⊎_elim, arith}
 use Rattle.std.specs.List.{filter}
-use Rattle.std.proofs.Math.ListN.{length-set}
 use Rattle.std.proofs.lemmas.Bool.{cases_lt, le-leb, leb-true}
-use Rattle.std.proofs.lemmas.Option.{slice_get_within, slice_get-get_or}
 use Rattle.flow_model.specs.Lists.{◌∈◌, Each}
 use Rattle.flow_model.specs.Process.{leaves}
 use Rattle.flow_model.specs.Resolution.{ChoiceOption}
 use Rattle.flow_laws.proofs.Members.{each-append, each_to, each_member, mem_append_left, mem_append_right}
 use Rattle.flow_laws.proofs.MadeLists.{each-filter}
-use Rattle.flow_residual.specs.Bans.{IsLeastBan, AreLeastBans}
+use Rattle.flow_residual.specs.Tracks.{IsLeastBan}
 
 -- ---- one ban more
 
@@ -101,56 +99,3 @@ none_held o bans None true e is = (λ h. is, λ none. refl)
 none_held o bans None false e is = absurd (cc)
 none_held o bans (Some i) true e is = absurd (cc)
 none_held o bans (Some i) false e is = (λ wrong. absurd (cc), λ none. absurd (held_some o bans i is none))
-
--- what was read at the place of an option is its least ban
-pub least_read : {os : List ChoiceOption} {bans : List (ℕ × ℕ)} {least : List (Option ℕ)} → AreLeastBans os bans least → (k : ℕ) (o : ChoiceOption) (b : Option ℕ) →
-    slice_get os k ≡ Some o → b ≡ get_or least k b → IsLeastBan o bans b
-least_read {os} {bans} {least} are k o b at is =
-    let within : k < length least = omega (arith, are.one_each, slice_get_within os k o at) in
-    let here : slice_get least k ≡ Some (get_or least k b) = slice_get-get_or least k b within in
-    let there : slice_get least k ≡ Some (get_or least k None) = slice_get-get_or least k None within in
-    subst (IsLeastBan o bans) (let same : get_or least k None ≡ b = cc in same) (are.each k o at)
-
--- ---- least bans that are changed in turn
-
--- the first so many are those of the new bans, the others still of the old ones
-pub record AreChanged (os : List ChoiceOption) (old new : List (ℕ × ℕ)) (i : ℕ) (least : List (Option ℕ)) : Type 0 where
-  pub one_each : length least ≡ length os
-  pub changed : (k : ℕ) → k < i → (o : ChoiceOption) → slice_get os k ≡ Some o → IsLeastBan o new (get_or least k None)
-  pub still : (k : ℕ) → i ≤ k → (o : ChoiceOption) → slice_get os k ≡ Some o → IsLeastBan o old (get_or least k None)
-
-module _ (os : List ChoiceOption) (old new : List (ℕ × ℕ)) where
-  pub changed_none : (least : List (Option ℕ)) → AreLeastBans os old least → AreChanged os old new 0 least
-  changed_none least are = record { one_each = are.one_each; changed = λ k h. absurd (omega arith); still = λ k h o at. are.each k o at }
-
-  pub changed_set : (i : ℕ) (v : Option ℕ) (least : List (Option ℕ)) → i < length least → AreChanged os old new i least →
-      ((o : ChoiceOption) → slice_get os i ≡ Some o → IsLeastBan o new v) → AreChanged os old new (i + 1) (set least i v)
-  changed_set i v least within are here = record {
-    one_each = length-set least i v ∙ are.one_each;
-    changed = below_more (λ k. (o : ChoiceOption) → slice_get os k ≡ Some o → IsLeastBan o new (get_or (set least i v) k None)) i
-        (λ k h o at. let ne : k ≢ i = omega arith in rw get_or-set_other (are.changed k h o at))
-        (λ o at. rw get_or-set_same (here o at));
-    still = λ k h o at. let ne : k ≢ i = omega arith in rw get_or-set_other (are.still k (omega arith) o at);
-  }
-
-  pub changed_all : (n : ℕ) (least : List (Option ℕ)) → length least ≤ n → AreChanged os old new n least → AreLeastBans os new least
-  changed_all n least past are = record {
-    one_each = are.one_each;
-    each = λ k o at. let within = slice_get_within os k o at in are.changed k (omega (arith, are.one_each)) o at;
-  }
-
--- no plan holds a ban of none
-pub least_more : (os : List ChoiceOption) (o : ChoiceOption) (least : List (Option ℕ)) → AreLeastBans os [] least → AreLeastBans (os ++ o ∷ []) [] (least ++ None ∷ [])
-least_more os o least are = record {
-  one_each = omega (arith, are.one_each, length-append os (o ∷ []), length-append least (None ∷ []));
-  each = more os least are.one_each are.each;
-}
-  where
-    more : (os : List ChoiceOption) (least : List (Option ℕ)) → length least ≡ length os → ((k : ℕ) (p : ChoiceOption) → slice_get os k ≡ Some p → IsLeastBan p [] (get_or least k None)) →
-        (k : ℕ) (p : ChoiceOption) → slice_get (os ++ o ∷ []) k ≡ Some p → IsLeastBan p [] (get_or (least ++ None ∷ []) k None)
-    more [] [] e each zero p at = tt
-    more [] [] e each (suc k) p at = absurd (cc)
-    more [] (b ∷ least) e each k p at = absurd (omega (arith, e))
-    more (q ∷ os) [] e each k p at = absurd (omega (arith, e))
-    more (q ∷ os) (b ∷ least) e each zero p at = each zero p at
-    more (q ∷ os) (b ∷ least) e each (suc k) p at = more os least (omega (arith, e)) (λ j r. each (suc j) r) k p at

@@ -6,9 +6,11 @@ use Rattle.flow_model.specs.Ready.{DoneOr, IsReadyRunAfter}
 use Rattle.flow_model.specs.Resolution.{ChoiceOption}
 use Rattle.flow_laws.proofs.Members.{each_member, each_to, each_parts, distinct_parts}
 use Rattle.flow_laws.proofs.MadeLists.{same_order}
-use Rattle.flow_residual.specs.Kept.{HasSmallLeaves}
+use Rattle.flow_residual.specs.Options.{HasSmallLeaves}
 use Rattle.flow_residual.specs.Remaining.{Remaining}
-use Rattle.flow_residual.specs.Possible.{TakesAll, TakesFirst}
+use Rattle.flow_residual.specs.Possible.{Takes}
+use Rattle.flow_residual.specs.declared.asking.Stand.{Stand}
+use Rattle.flow_residual.specs.declared.asking.Stand.TheVariants.{Among, First}
 
 fresh : (q : Process) (pairs : List (ℕ × ℕ)) (D : ℕ → Type 0) (run : List ℕ) (x : ℕ) → IsReadyRunAfter q pairs D run → x ∈ run → ¬ D x
 fresh q pairs D [] x run member done = member
@@ -30,13 +32,11 @@ small_run o D run fits ready = (
   run_distinct o.resolution o.order D run ready,
 )
 
-pub few_beside : (r : Remaining) → Each HasSmallLeaves r.options → (claims : List ℕ) → ¬ (Each (λ n. n < 1024) claims × AreDistinct claims) →
-    (o : ChoiceOption) (leaf : ℕ) → ¬ (TakesAll r (claims ++ leaf ∷ []) o)
-few_beside r fits claims many o leaf takes =
-    let few = small_run o (λ n. n ∈ r.journal) (claims ++ leaf ∷ []) (each_member HasSmallLeaves r.options fits o takes.0.among) (takes.1 (claims ++ leaf ∷ []) (same_order (claims ++ leaf ∷ []))) in
+-- nothing is taken with claims that are not few
+pub none_taken : (r : Remaining) → Each HasSmallLeaves r.options → (claims : List ℕ) → ¬ (Each (λ n. n < 1024) claims × AreDistinct claims) →
+    (o : ChoiceOption) (stand : Stand) (leaf : ℕ) → ¬ (Takes r claims stand leaf o)
+none_taken r fits claims many o Among leaf (live, all) =
+    let few = small_run o (λ n. n ∈ r.journal) (claims ++ leaf ∷ []) (each_member HasSmallLeaves r.options fits o live.among) (all (claims ++ leaf ∷ []) (same_order (claims ++ leaf ∷ []))) in
     many ((each_parts (λ n. n < 1024) claims (leaf ∷ []) few.0).0, (distinct_parts claims (leaf ∷ []) few.1).0)
-
-pub few_first : (r : Remaining) → Each HasSmallLeaves r.options → (claims : List ℕ) → ¬ (Each (λ n. n < 1024) claims × AreDistinct claims) →
-    (o : ChoiceOption) (leaf : ℕ) → ¬ (TakesFirst r leaf claims o)
-few_first r fits claims many o leaf takes =
-    many (small_run o (DoneOr (λ n. n ∈ r.journal) (leaf ∷ [])) claims (each_member HasSmallLeaves r.options fits o takes.0.among) (takes.2 claims (same_order claims)))
+none_taken r fits claims many o First leaf (live, (ready, all)) =
+    many (small_run o (DoneOr (λ n. n ∈ r.journal) (leaf ∷ [])) claims (each_member HasSmallLeaves r.options fits o live.among) (all claims (same_order claims)))

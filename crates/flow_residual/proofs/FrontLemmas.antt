@@ -1,27 +1,12 @@
 -- How far options follow a journal.
-use Rattle.std.proofs.Common.{◌≡◌, ◌≢◌, ℕ, zero, suc, ◌+◌, ◌<◌, ◌≤◌, ◌↔◌, List, [], ◌∷◌, ◌++◌, length, take, drop, get_or, set, min, Some, slice_get, refl, sym, ap, ◌∙◌, subst, ⊎_elim, below_more, get_or-set_other, get_or-set_same, arith, length-append}
-use Rattle.std.proofs.Math.ListN.{length-set}
+use Rattle.std.proofs.Common.{◌≡◌, ℕ, zero, suc, ◌+◌, ◌<◌, ◌≤◌, ◌↔◌, List, [], ◌∷◌, ◌++◌, length, take, drop, min, refl, sym, ap, ◌∙◌, subst, subst₂, ⊎_elim, arith, length-append}
 use Rattle.std.proofs.lemmas.Bool.{cases_lt}
-use Rattle.std.proofs.lemmas.Option.{slice_get_within, slice_get-get_or}
 use Rattle.std.proofs.lemmas.List.{take_all, take-append-drop, take-append-le, length-take-le}
 use Rattle.flow_model.specs.Lists.{◌∈◌}
 use Rattle.flow_model.specs.Resolution.{ChoiceOption}
 use Rattle.flow_model.specs.Ready.{IsReady, IsReadyRun}
 use Rattle.flow_laws.proofs.ReadyRuns.{run_front, run_grow, ready_at}
-use Rattle.flow_residual.specs.Fronts.{IsBegun, IsFront, AreFronts}
-
--- ---- options by their places
-
--- what holds of each place, and of one more
-holds_more : (P : ChoiceOption → ℕ → Type 0) (os : List ChoiceOption) (o : ChoiceOption) (fronts : List ℕ) (f : ℕ) → length fronts ≡ length os → P o f →
-    ((k : ℕ) (p : ChoiceOption) → slice_get os k ≡ Some p → P p (get_or fronts k 0)) →
-    (k : ℕ) (p : ChoiceOption) → slice_get (os ++ o ∷ []) k ≡ Some p → P p (get_or (fronts ++ f ∷ []) k 0)
-holds_more P [] o [] f e h each zero p at = let same : o ≡ p = cc in subst (λ q. P q f) same h
-holds_more P [] o [] f e h each (suc k) p at = absurd (cc)
-holds_more P [] o (g ∷ fronts) f e h each k p at = absurd (omega arith)
-holds_more P (q ∷ os) o [] f e h each k p at = absurd (omega arith)
-holds_more P (q ∷ os) o (g ∷ fronts) f e h each zero p at = each zero p at
-holds_more P (q ∷ os) o (g ∷ fronts) f e h each (suc k) p at = holds_more P os o fronts f (omega arith) h (λ j r. each (suc j) r) k p at
+use Rattle.flow_residual.specs.Tracks.{IsBegun, IsFront}
 
 -- a shorter front of a front
 take_twice : (xs : List ℕ) (k m : ℕ) → m ≤ k → take m (take k xs) ≡ take m xs
@@ -99,7 +84,7 @@ module _ (o : ChoiceOption) (journal : List ℕ) (leaf : ℕ) where
 
 -- ---- a cut journal
 
-pub front_shorter : (o : ChoiceOption) (journal : List ℕ) (f i : ℕ) → IsFront o journal f → i ≤ length journal → IsFront o (take i journal) (min f i)
+front_shorter : (o : ChoiceOption) (journal : List ℕ) (f i : ℕ) → IsFront o journal f → i ≤ length journal → IsFront o (take i journal) (min f i)
 front_shorter o journal f i is within = record {
   within = let l = length-take-le i journal within in omega arith;
   begun = begun_cut (min f i) (omega arith) (begun_before o journal f (min f i) is.within (omega arith) is.begun);
@@ -114,65 +99,8 @@ front_shorter o journal f i is within = record {
     begun_whole : (m : ℕ) → m ≤ i → IsBegun o (take i journal) m → IsBegun o journal m
     begun_whole m h = subst (IsReadyRun o.resolution o.order) (take_twice journal i m h)
 
--- ---- the fronts of options
-
-pub fronts_more : (os : List ChoiceOption) (o : ChoiceOption) (journal fronts : List ℕ) (f : ℕ) → AreFronts os journal fronts → IsFront o journal f →
-    AreFronts (os ++ o ∷ []) journal (fronts ++ f ∷ [])
-fronts_more os o journal fronts f are is = record {
-  one_each = let a = are.one_each in omega (arith, length-append os (o ∷ []), length-append fronts (f ∷ []));
-  each = holds_more (λ p k. IsFront p journal k) os o fronts f are.one_each is are.each;
-}
-
--- what was read at the place of an option is its front
-pub front_read : {os : List ChoiceOption} {journal fronts : List ℕ} → AreFronts os journal fronts → (k : ℕ) (o : ChoiceOption) (f : ℕ) → slice_get os k ≡ Some o →
-    f ≡ get_or fronts k f → IsFront o journal f
-front_read {os} {journal} {fronts} are k o f at is =
-    let within : k < length fronts = omega (arith, are.one_each, slice_get_within os k o at) in
-    let here : slice_get fronts k ≡ Some (get_or fronts k f) = slice_get-get_or fronts k f within in
-    let there : slice_get fronts k ≡ Some (get_or fronts k 0) = slice_get-get_or fronts k 0 within in
-    subst (IsFront o journal) (let same : get_or fronts k 0 ≡ f = cc in same) (are.each k o at)
-
--- ---- fronts that are lengthened in turn
-
--- the first so many are fronts of the journal with the leaf, the others still of the journal
-pub record AreLonger (os : List ChoiceOption) (journal : List ℕ) (leaf i : ℕ) (fronts : List ℕ) : Type 0 where
-  pub one_each : length fronts ≡ length os
-  pub longer : (k : ℕ) → k < i → (o : ChoiceOption) → slice_get os k ≡ Some o → IsFront o (journal ++ leaf ∷ []) (get_or fronts k 0)
-  pub still : (k : ℕ) → i ≤ k → (o : ChoiceOption) → slice_get os k ≡ Some o → IsFront o journal (get_or fronts k 0)
-
-module _ (os : List ChoiceOption) (journal : List ℕ) (leaf : ℕ) where
-  pub longer_none : (fronts : List ℕ) → AreFronts os journal fronts → AreLonger os journal leaf 0 fronts
-  longer_none fronts are = record { one_each = are.one_each; longer = λ k h. absurd (omega arith); still = λ k h o at. are.each k o at }
-
-  pub longer_set : (i v : ℕ) (fronts : List ℕ) → i < length fronts → AreLonger os journal leaf i fronts →
-      ((o : ChoiceOption) → slice_get os i ≡ Some o → IsFront o (journal ++ leaf ∷ []) v) → AreLonger os journal leaf (i + 1) (set fronts i v)
-  longer_set i v fronts within are here = record {
-    one_each = length-set fronts i v ∙ are.one_each;
-    longer = below_more (λ k. (o : ChoiceOption) → slice_get os k ≡ Some o → IsFront o (journal ++ leaf ∷ []) (get_or (set fronts i v) k 0)) i
-        (λ k h o at. let ne : k ≢ i = omega arith in rw get_or-set_other (are.longer k h o at))
-        (λ o at. rw get_or-set_same (here o at));
-    still = λ k h o at. let ne : k ≢ i = omega arith in rw get_or-set_other (are.still k (omega arith) o at);
-  }
-
-  pub longer_all : (n : ℕ) (fronts : List ℕ) → length fronts ≤ n → AreLonger os journal leaf n fronts → AreFronts os (journal ++ leaf ∷ []) fronts
-  longer_all n fronts past are = record {
-    one_each = are.one_each;
-    each = λ k o at. let within = slice_get_within os k o at in are.longer k (omega (arith, are.one_each)) o at;
-  }
-
--- ---- fronts that are cut
-
-pub shorter_all : (os : List ChoiceOption) (journal old new : List ℕ) (most : ℕ) → most ≤ length journal → length new ≡ length old →
-    ((k : ℕ) → k < length old → get_or new k 0 ≡ min (get_or old k 0) most) → AreFronts os journal old → AreFronts os (take most journal) new
-shorter_all os journal old new most within same cut are = record {
-  one_each = same ∙ are.one_each;
-  each = λ k o at.
-      let here : k < length old = omega (arith, are.one_each, slice_get_within os k o at) in
-      subst (IsFront o (take most journal)) (sym (cut k here)) (front_shorter o journal (get_or old k 0) most (are.each k o at) within);
-}
-
--- what was read at a place, told with 0 past the end
-pub read_at : (xs : List ℕ) (k x : ℕ) → k < length xs → x ≡ get_or xs k x → x ≡ get_or xs k 0
-read_at xs k x within is =
-    let here : slice_get xs k ≡ Some (get_or xs k x) = slice_get-get_or xs k x within in
-    let there : slice_get xs k ≡ Some (get_or xs k 0) = slice_get-get_or xs k 0 within in cc
+-- past its end nothing is cut
+pub front_cut : (o : ChoiceOption) (journal : List ℕ) (f i : ℕ) → IsFront o journal f → IsFront o (take i journal) (min f i)
+front_cut o journal f i is = ⊎_elim
+    (λ past. subst₂ (IsFront o) (sym (take_all i journal (let b : length journal ≤ i = omega (arith, past) in b))) (let w = is.within in let same : f ≡ min f i = omega (arith, w, past) in same) is)
+    (λ within. front_shorter o journal f i is within) (cases_lt (length journal) i)

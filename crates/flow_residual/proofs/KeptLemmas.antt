@@ -1,7 +1,8 @@
 -- What is kept when a leaf is done or banned, and when a run goes back.
-use Rattle.std.proofs.Common.{◌≡◌, ℕ, zero, suc, ◌<◌, ◌≤◌, nat_le, Bool, true, false, cond, List, [], ◌∷◌, ◌++◌, length, take, drop, get_or, refl, sym, ap, subst, inl, inr, ⊎_elim, arith, length-append}
+use Rattle.std.proofs.Common.{◌≡◌, ℕ, zero, suc, ◌<◌, ◌≤◌, nat_le, Bool, true, false, cond, List, [], ◌∷◌, ◌++◌, length, take, drop, get_or, refl, sym, ap, ◌∙◌, subst, subst₂, inl, inr, ⊎_elim, arith, length-append}
 use Rattle.std.specs.List.{filter}
-use Rattle.std.proofs.lemmas.List.{map-append, take-append-drop}
+use Rattle.std.specs.Vec.{with_items}
+use Rattle.std.proofs.lemmas.List.{map-append, take-append-drop, with_items_is}
 use Rattle.flow_model.specs.Lists.{◌∈◌, Each, AreDistinct}
 use Rattle.flow_model.specs.Process.{leaves}
 use Rattle.flow_laws.proofs.MadeLists.{of_map}
@@ -9,10 +10,16 @@ use Rattle.flow_laws.proofs.Members.{mem-append, mem_append_left, each-append, e
 use Rattle.flow_plan.proofs.PlaceLemmas.{read_member}
 use Rattle.flow_sample.proofs.RingLemmas.{at_most}
 use Rattle.flow_residual.specs.declared.ban.Ban.{Ban}
+use Rattle.flow_plan.specs.Sampled.{Sampled}
+use Rattle.flow_excise.specs.Compilation.{options_of}
 use Rattle.flow_residual.specs.Remaining.{Remaining, MayComeNext}
 use Rattle.flow_residual.specs.View.{pairs_of_bans}
-use Rattle.flow_residual.specs.Fronts.{AreFronts}
-use Rattle.flow_residual.specs.Kept.{HasSmallLeaves, banned, AreFew, IsKept}
+use Rattle.flow_residual.specs.Options.{HasSmallLeaves, EachHas}
+use Rattle.flow_residual.specs.Invariant.{banned, AreFew, IsKept, IsRoomy}
+use Rattle.flow_residual.specs.declared.track.Track.{Track}
+use Rattle.flow_residual.specs.declared.track.Change.{Change}
+use Rattle.flow_residual.specs.declared.residual.Residual.TheInside.{Inside}
+use Rattle.flow_residual.specs.Tracks.{IsTrack, journal_after, bans_after}
 
 -- ---- few numbers
 
@@ -51,7 +58,7 @@ not_in_front (x ∷ list) (suc i) d h (inr m) = not_in_front list i d.1 (omega a
 
 -- ---- the leaf that may come next
 
-module _ (r : Remaining) (fronts : List ℕ) (k : IsKept r fronts) (leaf : ℕ) (next : MayComeNext r leaf) where
+module _ (r : Remaining) (k : IsKept r) (leaf : ℕ) (next : MayComeNext r leaf) where
   pub next_small : leaf < 1024
   next_small =
       let fit = each_member HasSmallLeaves r.options k.fits next.0 next.1.among in
@@ -65,10 +72,9 @@ module _ (r : Remaining) (fronts : List ℕ) (k : IsKept r fronts) (leaf : ℕ) 
       let (ban, there, is) = of_map (λ (ban : ℕ × ℕ). ban.1) leaf r.bans m in
       each_member (λ (b : ℕ × ℕ). ¬ (b.1 ∈ leaves next.0.resolution)) r.bans next.1.unbanned ban there (subst (λ n. n ∈ leaves next.0.resolution) is next.2.leaf)
 
-  pub kept_push : (longer : List ℕ) → AreFronts r.options (r.journal ++ leaf ∷ []) longer → IsKept (record r { journal = r.journal ++ leaf ∷ [] }) longer
-  kept_push longer are = record {
+  pub kept_push : IsKept (record r { journal = r.journal ++ leaf ∷ [] })
+  kept_push = record {
     fits = k.fits;
-    fronts_are = are;
     done = one_more r.journal leaf k.done next_small next_fresh;
     bans_few = k.bans_few;
     apart = each_from_members (λ n. ¬ (n ∈ (r.journal ++ leaf ∷ []))) (banned r.bans) (λ n m there. ⊎_elim
@@ -77,11 +83,10 @@ module _ (r : Remaining) (fronts : List ℕ) (k : IsKept r fronts) (leaf : ℕ) 
         (mem-append n r.journal (leaf ∷ []) there));
   }
 
-  pub kept_ban : (i : ℕ) → IsKept (record r { bans = r.bans ++ (i, leaf) ∷ [] }) fronts
+  pub kept_ban : (i : ℕ) → IsKept (record r { bans = r.bans ++ (i, leaf) ∷ [] })
   kept_ban i =
       let more : banned (r.bans ++ (i, leaf) ∷ []) ≡ banned r.bans ++ leaf ∷ [] = map-append (λ (ban : ℕ × ℕ). ban.1) r.bans ((i, leaf) ∷ []) in record {
         fits = k.fits;
-        fronts_are = k.fronts_are;
         done = k.done;
         bans_few = subst AreFew (sym more) (one_more (banned r.bans) leaf k.bans_few next_small next_free);
         apart = subst (Each (λ n. ¬ (n ∈ r.journal))) (sym more) (each-append (λ n. ¬ (n ∈ r.journal)) (banned r.bans) (leaf ∷ []) k.apart (next_fresh, tt));
@@ -106,7 +111,7 @@ distinct_left_over p (ban ∷ bans) d = step (p ban) (distinct_left_over p bans 
     step true rest = ((λ m. d.0 (left_over p bans ban.1 m)), rest)
     step false rest = rest
 
-module _ (r : Remaining) (fronts : List ℕ) (k : IsKept r fronts) (i : ℕ) (within : i < length r.journal) where
+module _ (r : Remaining) (k : IsKept r) (i : ℕ) (within : i < length r.journal) where
   -- the leaf that is taken back
   abbrev pub back : ℕ
   back = get_or r.journal i 0
@@ -124,9 +129,8 @@ module _ (r : Remaining) (fronts : List ℕ) (k : IsKept r fronts) (i : ℕ) (wi
   rewind_room = room_left (banned r.bans) back k.bans_few (each_member (λ n. n < 1024) r.journal k.done.small back back_done)
       (λ m. each_member (λ n. ¬ (n ∈ r.journal)) (banned r.bans) k.apart back m back_done)
 
-  pub kept_rewind : (shorter : List ℕ) → AreFronts r.options (take i r.journal) shorter →
-      IsKept (record r { journal = take i r.journal; bans = filter stays r.bans ++ (i, back) ∷ [] }) shorter
-  kept_rewind shorter are =
+  pub kept_rewind : IsKept (record r { journal = take i r.journal; bans = filter stays r.bans ++ (i, back) ∷ [] })
+  kept_rewind =
       let more : banned (filter stays r.bans ++ (i, back) ∷ []) ≡ banned (filter stays r.bans) ++ back ∷ [] =
       map-append (λ (ban : ℕ × ℕ). ban.1) (filter stays r.bans) ((i, back) ∷ []) in
       let left : AreFew (banned (filter stays r.bans)) = record {
@@ -135,7 +139,6 @@ module _ (r : Remaining) (fronts : List ℕ) (k : IsKept r fronts) (i : ℕ) (wi
         distinct = distinct_left_over stays r.bans k.bans_few.distinct;
       } in record {
         fits = k.fits;
-        fronts_are = are;
         done = few_front r.journal i k.done;
         bans_few = subst AreFew (sym more)
             (one_more (banned (filter stays r.bans)) back left (each_member (λ n. n < 1024) r.journal k.done.small back back_done) back_free);
@@ -164,3 +167,20 @@ pairs_of_left i (ban ∷ bans) = step (nat_le ban.index i) (pairs_of_left i bans
 pub length-pairs : (bans : List Ban) → length (banned (pairs_of_bans bans)) ≡ length bans
 length-pairs [] = refl
 length-pairs (ban ∷ bans) = ap suc (length-pairs bans)
+
+-- ---- tracks after a change
+
+-- the vector that was lent has what was made of its tracks
+pub followed : (i : Inside) (change : Change) (plans : List Sampled) (journal : List ℕ) (lent new : List Track) → IsRoomy i → plans ≡ i.plans.items → journal ≡ i.journal.items →
+    lent ≡ i.tracks.items → ((bans : List (ℕ × ℕ)) → EachHas (IsTrack journal bans) (options_of plans) lent →
+    EachHas (IsTrack (journal_after change journal) (bans_after change bans)) (options_of plans) new) →
+    EachHas (IsTrack (journal_after change i.journal.items) (bans_after change (pairs_of_bans i.bans.items))) (options_of i.plans.items) (with_items i.tracks new).items
+followed i change plans journal lent new roomy same_plans same_journal same_tracks makes =
+    let bans = pairs_of_bans i.bans.items in
+    let before : EachHas (IsTrack journal bans) (options_of plans) lent =
+    subst (EachHas (IsTrack journal bans) (options_of plans)) (sym same_tracks)
+    (subst₂ (λ (ps : List Sampled) (j : List ℕ). EachHas (IsTrack j bans) (options_of ps) i.tracks.items) (sym same_plans) (sym same_journal) roomy.tracks) in
+    let made : EachHas (IsTrack (journal_after change i.journal.items) (bans_after change bans)) (options_of i.plans.items) new =
+    subst₂ (λ (ps : List Sampled) (j : List ℕ). EachHas (IsTrack (journal_after change j) (bans_after change bans)) (options_of ps) new) same_plans same_journal (makes bans before) in
+    subst (EachHas (IsTrack (journal_after change i.journal.items) (bans_after change bans)) (options_of i.plans.items))
+    (sym (with_items_is i.tracks new (made.one_each ∙ sym roomy.tracks.one_each ∙ sym i.tracks.ok.0))) made

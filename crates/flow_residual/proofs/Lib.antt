@@ -1,8 +1,7 @@
-pub mod BanLemmas
-pub mod DoneLemmas
-pub mod FrontLemmas
-pub mod KeptLemmas
 pub mod OptionLemmas
-pub mod PossibleLemmas
+pub mod BanLemmas
+pub mod FrontLemmas
+pub mod DoneLemmas
+pub mod KeptLemmas
 pub mod FewLemmas
-pub mod RowLemmas
+pub mod PossibleLemmas

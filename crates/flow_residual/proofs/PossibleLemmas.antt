@@ -1,5 +1,5 @@
 -- What is possible, by the options that remain and by the workflow.
-use Rattle.std.proofs.Common.{◌≡◌, ◌<◌, ◌≤◌, ℕ, Bool, ◌↔◌, IsTrue, List, [], ◌∷◌, ◌++◌, length, take, slice_index, refl, sym, subst, subst₂, inl, inr, ⊎_elim, append-nil}
+use Rattle.std.proofs.Common.{◌≡◌, ◌<◌, ◌≤◌, ℕ, Bool, true, false, not, ◌↔◌, IsTrue, List, [], ◌∷◌, ◌++◌, length, take, slice_index, refl, sym, subst, subst₂, inl, inr, ◌⊎◌, ⊎_elim, append-nil}
 use Rattle.flow_model.specs.Lists.{◌∈◌, Each, Begins, IsOrderOf}
 use Rattle.flow_model.specs.Process.{Process, leaves}
 use Rattle.flow_model.specs.Schema.{Schema, IsGood}
@@ -25,7 +25,8 @@ use Rattle.flow_excise.specs.Executions.{AreJustThose}
 use Rattle.flow_sample.specs.Plans.{option_of}
 use Rattle.flow_excise.proofs.SiftingLemmas.{kept_has}
 use Rattle.flow_residual.specs.Remaining.{Remaining, IsOf, IsLive, MayComeNext, IsAvoidable}
-use Rattle.flow_residual.specs.Possible.{SomeOption, TakesAll, TakesFirst, LeavesOut, IsFinished, IsOpenFor}
+use Rattle.flow_residual.specs.Options.{SomeOption}
+use Rattle.flow_residual.specs.Possible.{AllFollow, FollowsFirst, TakesAll, TakesFirst, LeavesOut, IsFinished, IsOpenFor}
 use Rattle.flow_residual.proofs.DoneLemmas.{AreDone}
 
 -- ---- the options that have an execution
@@ -78,9 +79,9 @@ module _ (w : Schema) (s : RunState) (r : Remaining) (f : IsOf w s r) where
 
   pub may_follow_first : (first : ℕ) (list : List ℕ) → SomeOption (TakesFirst r first list) r.options ↔ MayFollowFirst w s first list
   may_follow_first first list = (
-    λ (o, m, (live, ready, all)). (o, (option_of_live o live.among).0, λ order is. follow_of_run o live (first ∷ order) (ready, all order is)),
+    λ (o, m, (live, (ready, all))). (o, (option_of_live o live.among).0, λ order is. follow_of_run o live (first ∷ order) (ready, all order is)),
     λ (o, m, all). let there = run_of_follow o m (first ∷ list) (all list (same_order list)) in
-        (o, there.0.among, (there.0, there.1.0, λ order is. (run_of_follow o m (first ∷ order) (all order is)).1.1)),
+        (o, there.0.among, (there.0, (there.1.0, λ order is. (run_of_follow o m (first ∷ order) (all order is)).1.1))),
   )
 
   -- a free trace is one of some live option
@@ -117,12 +118,12 @@ module _ (w : Schema) (s : RunState) (r : Remaining) (f : IsOf w s r) where
   Opens journal bans i = (i < length journal) × ((t : List ℕ) × IsGood w t × Begins t (take i journal) ×
       Each (λ ban. ban.0 ≤ i → ¬ (ban.1 ∈ t)) bans × ¬ (slice_index journal i ∈ t))
 
-  opens : (i : ℕ) → i < length r.journal → SomeOption (IsOpenFor r i) r.options → Opens r.journal r.bans i
-  opens i within (o, m, opening) =
+  opens : (i : ℕ) → SomeOption (IsOpenFor r i) r.options → Opens r.journal r.bans i
+  opens i (o, m, opening) =
       let (there, (sample, trace)) = option_of_live o m in
       let ordered = option_is_ordered w f.well_formed o there in
       let (t, run, pairs, begins) = ready_runs_extend o.resolution o.order ordered (sample, trace.0, trace.1) (take i r.journal) opening.begun in (
-        within,
+        opening.within,
         (
           t,
           option_trace_is_good w f.well_formed t o there (run, pairs),
@@ -139,19 +140,18 @@ module _ (w : Schema) (s : RunState) (r : Remaining) (f : IsOf w s r) where
         o,
         has_kept (options w) r.options f.options_are o m (t, trace),
         record {
+          within = within;
           begun = fronts_are_ready o.resolution o.order ordered t (take i r.journal) trace.0 trace.1 begins;
           without = λ l. lacks (leaf_in_trace o.resolution ordered.choice_free t trace.0 (slice_index r.journal i) l);
           unbanned = each_to _ _ r.bans (λ ban not h l. not h (leaf_in_trace o.resolution ordered.choice_free t trace.0 ban.1 l)) none;
         },
       )
 
-  pub is_open : (i : ℕ) → i < length r.journal → SomeOption (IsOpenFor r i) r.options → IsOpen w s i
-  is_open i within some = subst₂ (λ journal bans. Opens journal bans i) (sym f.journal_is) (sym f.bans_are) (opens i within some)
-
-  pub of_open : (i : ℕ) → IsOpen w s i → (i < length r.journal) × SomeOption (IsOpenFor r i) r.options
-  of_open i opening =
-      let there : Opens r.journal r.bans i = subst₂ (λ journal bans. Opens journal bans i) f.journal_is f.bans_are opening in
-      (there.0, opened i there)
+  pub is_open : (i : ℕ) → SomeOption (IsOpenFor r i) r.options ↔ IsOpen w s i
+  is_open i = (
+    λ some. subst₂ (λ journal bans. Opens journal bans i) (sym f.journal_is) (sym f.bans_are) (opens i some),
+    λ opening. opened i (subst₂ (λ journal bans. Opens journal bans i) f.journal_is f.bans_are opening),
+  )
 
 -- ---- what plans say of their options
 
@@ -188,31 +188,31 @@ module _ (p : Planned) (done : Progress) (journal : List ℕ) (same : AreDone do
   next_of_option o is n =
       subst (λ (q : ChoiceOption). MayComeNextIn p (IsDone done) n ↔ IsReady q.resolution q.order (λ x. x ∈ journal) n) is (comes_next n)
 
-  pub all_come_next : (claims : List ℕ) (leaf : ℕ) → MayFollowInEveryOrder p (IsDone done) (leaf ∷ claims)
-      ↔ ((order : List ℕ) → IsOrderOf order (claims ++ leaf ∷ []) → IsReadyRunAfter p.process (pairs_of p.tokens) (λ x. x ∈ journal) order)
-  all_come_next claims leaf = (
+  pub all_come_next : (claims : List ℕ) (leaf : ℕ) (o : ChoiceOption) → option_of p ≡ o → MayFollowInEveryOrder p (IsDone done) (leaf ∷ claims) ↔ AllFollow journal (claims ++ leaf ∷ []) o
+  all_come_next claims leaf o is = subst (λ (q : ChoiceOption). MayFollowInEveryOrder p (IsDone done) (leaf ∷ claims) ↔ AllFollow journal (claims ++ leaf ∷ []) q) is (
     λ all order is. same_run p.process (pairs_of p.tokens) (IsDone done) (λ x. x ∈ journal) order to_journal from_journal
         (orders_moved p.process (pairs_of p.tokens) (IsDone done) (leaf ∷ claims) (claims ++ leaf ∷ []) (first_last leaf claims) all order is),
     λ all order is. same_run p.process (pairs_of p.tokens) (λ x. x ∈ journal) (IsDone done) order from_journal to_journal
         (orders_moved p.process (pairs_of p.tokens) (λ x. x ∈ journal) (claims ++ leaf ∷ []) (leaf ∷ claims) (last_first leaf claims) all order is),
   )
 
-  all_come_after : (first : ℕ) (claims : List ℕ) → MayFollowInEveryOrder p (DoneOr (IsDone done) (first ∷ [])) claims
-      ↔ ((order : List ℕ) → IsOrderOf order claims → IsReadyRunAfter p.process (pairs_of p.tokens) (DoneOr (λ x. x ∈ journal) (first ∷ [])) order)
-  all_come_after first claims = (
-    λ all order is. same_run p.process (pairs_of p.tokens) (DoneOr (IsDone done) (first ∷ [])) (DoneOr (λ x. x ∈ journal) (first ∷ [])) order
-        (λ n. ⊎_elim (λ d. inl (to_journal n d)) inr) (λ n. ⊎_elim (λ d. inl (from_journal n d)) inr) (all order is),
-    λ all order is. same_run p.process (pairs_of p.tokens) (DoneOr (λ x. x ∈ journal) (first ∷ [])) (DoneOr (IsDone done) (first ∷ [])) order
-        (λ n. ⊎_elim (λ d. inl (from_journal n d)) inr) (λ n. ⊎_elim (λ d. inl (to_journal n d)) inr) (all order is),
-  )
-
-  pub takes_first_after : (first : ℕ) (claims : List ℕ) → (MayComeNextIn p (IsDone done) first × MayFollowInEveryOrder p (DoneOr (IsDone done) (first ∷ [])) claims)
-      ↔ (IsReady p.process (pairs_of p.tokens) (λ x. x ∈ journal) first
-      × ((order : List ℕ) → IsOrderOf order claims → IsReadyRunAfter p.process (pairs_of p.tokens) (DoneOr (λ x. x ∈ journal) (first ∷ [])) order))
-  takes_first_after first claims = (
-    λ both. ((comes_next first).0 both.0, (all_come_after first claims).0 both.1),
-    λ both. ((comes_next first).1 both.0, (all_come_after first claims).1 both.1),
-  )
+  pub follows_first : (first : ℕ) (claims : List ℕ) (o : ChoiceOption) → option_of p ≡ o →
+      (MayComeNextIn p (IsDone done) first × MayFollowInEveryOrder p (DoneOr (IsDone done) (first ∷ [])) claims) ↔ FollowsFirst journal first claims o
+  follows_first first claims o is =
+      subst (λ (q : ChoiceOption). (MayComeNextIn p (IsDone done) first × MayFollowInEveryOrder p (DoneOr (IsDone done) (first ∷ [])) claims) ↔ FollowsFirst journal first claims q) is (
+        λ both. (
+          (comes_next first).0 both.0,
+          λ order is.
+              same_run p.process (pairs_of p.tokens) (DoneOr (IsDone done) (first ∷ [])) (DoneOr (λ x. x ∈ journal) (first ∷ [])) order
+              (λ n. ⊎_elim (λ d. inl (to_journal n d)) inr) (λ n. ⊎_elim (λ d. inl (from_journal n d)) inr) (both.1 order is),
+        ),
+        λ both. (
+          (comes_next first).1 both.0,
+          λ order is.
+              same_run p.process (pairs_of p.tokens) (DoneOr (λ x. x ∈ journal) (first ∷ [])) (DoneOr (IsDone done) (first ∷ [])) order
+              (λ n. ⊎_elim (λ d. inl (from_journal n d)) inr) (λ n. ⊎_elim (λ d. inl (to_journal n d)) inr) (both.1 order is),
+        ),
+      )
 
 -- ---- answers
 
@@ -226,21 +226,43 @@ each_comes_next r list (o, m, (live, all)) = each_from_members (MayComeNext r) l
     (o, live, each_member (IsReady o.resolution o.order (λ x. x ∈ r.journal)) list (side_by_side_of o.resolution o.order (λ x. x ∈ r.journal) list all).each n member))
 
 pub first_comes_next : (r : Remaining) (first : ℕ) (list : List ℕ) → SomeOption (TakesFirst r first list) r.options → MayComeNext r first
-first_comes_next r first list (o, m, (live, ready, all)) = (o, live, ready)
+first_comes_next r first list (o, m, (live, (ready, all))) = (o, live, ready)
 
 -- with no other leaf
 pub comes_alone : (r : Remaining) (leaf : ℕ) (list : List ℕ) → list ≡ [] → SomeOption (TakesFirst r leaf list) r.options ↔ MayComeNext r leaf
 comes_alone r leaf list none = (
-  λ (o, m, (live, ready, all)). (o, live, ready),
+  λ (o, m, (live, (ready, all))). (o, live, ready),
   λ (o, live, ready). (
     o,
     live.among,
     (
       live,
-      ready,
-      λ order is.
-          subst (λ (l : List ℕ). IsReadyRunAfter o.resolution o.order (DoneOr (λ n. n ∈ r.journal) (leaf ∷ [])) l)
-          (sym (order_of_none order (subst (IsOrderOf order) none is))) tt,
+      (
+        ready,
+        λ order is.
+            subst (IsReadyRunAfter o.resolution o.order (DoneOr (λ n. n ∈ r.journal) (leaf ∷ []))) (sym (order_of_none order (subst (IsOrderOf order) none is))) tt,
+      ),
     ),
   ),
 )
+
+-- ---- what is asked of a live option
+
+pub where_live : (b : Bool) (L F Q : Type 0) → L → (IsTrue b ↔ F) → (F ↔ Q) → IsTrue b ↔ (L × Q)
+where_live b L F Q live says same = (λ yes. (live, same.0 (says.0 yes)), λ both. says.1 (same.1 both.1))
+
+pub where_not_live : (live : Bool) (L Q : Type 0) → (IsTrue live ↔ L) → live ≡ false → IsTrue false ↔ (L × Q)
+where_not_live live L Q says not = (λ wrong. absurd (cc), λ both. let yes = says.1 both.0 in absurd (cc))
+
+pub adds_live : (new now : Bool) (L F Q : Type 0) → L → (IsTrue new ↔ (IsTrue now ⊎ F)) → (F ↔ Q) → IsTrue new ↔ (IsTrue now ⊎ (L × Q))
+adds_live new now L F Q live adds same = (
+  λ h. ⊎_elim inl (λ f. inr (live, same.0 f)) (adds.0 h),
+  λ either. adds.1 (⊎_elim inl (λ both. inr (same.1 both.1)) either),
+)
+
+pub adds_none : (now live : Bool) (L Q : Type 0) → (IsTrue live ↔ L) → live ≡ false → IsTrue now ↔ (IsTrue now ⊎ (L × Q))
+adds_none now live L Q says not = (inl, ⊎_elim (λ old. old) (λ both. let yes = says.1 both.0 in absurd (cc)))
+
+pub lacks_live : (has : Bool) (L M : Type 0) → L → (IsTrue has ↔ M) → IsTrue (not has) ↔ (L × ¬ M)
+lacks_live true L M live says = (λ wrong. absurd (cc), λ both. absurd (both.1 (says.0 refl)))
+lacks_live false L M live says = (λ _. (live, λ m. let has = says.1 m in absurd (cc)), λ _. refl)

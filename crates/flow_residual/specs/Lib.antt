@@ -1,7 +1,6 @@
 pub mod Remaining
 pub mod View
-pub mod Fronts
-pub mod Bans
-pub mod Kept
-pub mod Fields
+pub mod Options
+pub mod Tracks
+pub mod Invariant
 pub mod Possible

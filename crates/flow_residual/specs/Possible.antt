@@ -1,28 +1,38 @@
 -- What is possible after the journal, by the options that remain.
-use Rattle.std.specs.Prelude.{◌≡◌, ◌<◌, ◌≤◌, ℕ, List, [], ◌∷◌, Some, slice_get, slice_index}
+use Rattle.std.specs.Prelude.{◌<◌, ◌≤◌, ℕ, List, [], ◌∷◌, ◌++◌, length, slice_index}
 use Rattle.flow_model.specs.Lists.{◌∈◌, Each, IsOrderOf}
 use Rattle.flow_model.specs.Process.{leaves}
 use Rattle.flow_model.specs.Resolution.{ChoiceOption}
 use Rattle.flow_model.specs.Ready.{IsReady, IsReadyRunAfter, IsCompleteRun, DoneOr}
+use Rattle.flow_residual.specs.declared.asking.Stand.{Stand}
+use Rattle.flow_residual.specs.declared.asking.Stand.TheVariants.{Among, First}
+use Rattle.flow_residual.specs.declared.asking.Question.{Question}
+use Rattle.flow_residual.specs.declared.asking.Question.TheVariants as ask
 use Rattle.flow_residual.specs.Remaining.{Remaining, IsLive}
-use Rattle.flow_residual.specs.Fronts.{IsBegun}
+use Rattle.flow_residual.specs.Tracks.{IsBegun}
 
--- some option of the list has P
-abbrev pub SomeOption : (ChoiceOption → Type 0) → List ChoiceOption → Type 0
-SomeOption P os = (o : ChoiceOption) × (o ∈ os) × P o
+-- the leaves may come next in every order
+abbrev pub AllFollow : List ℕ → List ℕ → ChoiceOption → Type 0
+AllFollow journal list o = (order : List ℕ) → IsOrderOf order list → IsReadyRunAfter o.resolution o.order (λ n. n ∈ journal) order
 
--- none of the first so many options of the list has P
-abbrev pub NoneBelow : (ChoiceOption → Type 0) → List ChoiceOption → ℕ → Type 0
-NoneBelow P os k = (j : ℕ) → j < k → (o : ChoiceOption) → slice_get os j ≡ Some o → ¬ (P o)
+-- the leaf may come next, and then the others in every order
+abbrev pub FollowsFirst : List ℕ → ℕ → List ℕ → ChoiceOption → Type 0
+FollowsFirst journal first list o = IsReady o.resolution o.order (λ n. n ∈ journal) first
+    × ((order : List ℕ) → IsOrderOf order list → IsReadyRunAfter o.resolution o.order (DoneOr (λ n. n ∈ journal) (first ∷ [])) order)
 
--- the option is live, and the leaves may come next in every order
+-- the option is live, and the leaves may follow so
 abbrev pub TakesAll : Remaining → List ℕ → ChoiceOption → Type 0
-TakesAll r list o = IsLive r o × ((order : List ℕ) → IsOrderOf order list → IsReadyRunAfter o.resolution o.order (λ n. n ∈ r.journal) order)
+TakesAll r list o = IsLive r o × AllFollow r.journal list o
 
--- the option is live, the leaf may come next, and then the others in every order
 abbrev pub TakesFirst : Remaining → ℕ → List ℕ → ChoiceOption → Type 0
-TakesFirst r first list o = IsLive r o × IsReady o.resolution o.order (λ n. n ∈ r.journal) first ×
-    ((order : List ℕ) → IsOrderOf order list → IsReadyRunAfter o.resolution o.order (DoneOr (λ n. n ∈ r.journal) (first ∷ [])) order)
+TakesFirst r first list o = IsLive r o × FollowsFirst r.journal first list o
+
+abbrev pub FollowsSo : List ℕ → List ℕ → Stand → ℕ → ChoiceOption → Type 0
+FollowsSo journal claims Among leaf o = AllFollow journal (claims ++ leaf ∷ []) o
+FollowsSo journal claims First leaf o = FollowsFirst journal leaf claims o
+
+abbrev pub Takes : Remaining → List ℕ → Stand → ℕ → ChoiceOption → Type 0
+Takes r claims stand leaf o = IsLive r o × FollowsSo r.journal claims stand leaf o
 
 -- the option is live and lacks the leaf
 abbrev pub LeavesOut : Remaining → ℕ → ChoiceOption → Type 0
@@ -34,10 +44,14 @@ IsFinished r o = IsCompleteRun o.resolution o.order r.journal
 
 -- the option follows the journal up to the place, goes on without the leaf there, and lacks each leaf banned up to there
 pub record IsOpenFor (r : Remaining) (i : ℕ) (o : ChoiceOption) : Type 0 where
+  pub within : i < length r.journal
   pub begun : IsBegun o r.journal i
   pub without : ¬ (slice_index r.journal i ∈ leaves o.resolution)
   pub unbanned : Each (λ ban. ban.0 ≤ i → ¬ (ban.1 ∈ leaves o.resolution)) r.bans
 
--- some of the first so many options of the list has P
-abbrev pub SomeBelow : (ChoiceOption → Type 0) → List ChoiceOption → ℕ → Type 0
-SomeBelow P os k = (j : ℕ) × (j < k) × (o : ChoiceOption) × (slice_get os j ≡ Some o) × P o
+-- what is asked of each option
+abbrev pub Has : Remaining → List ℕ → Question → ChoiceOption → Type 0
+Has r claims (ask.Takes stand leaf) o = Takes r claims stand leaf o
+Has r claims (ask.Without leaf) o = LeavesOut r leaf o
+Has r claims ask.Finished o = IsFinished r o
+Has r claims (ask.Open i) o = IsOpenFor r i o

@@ -1,14 +1,12 @@
-ghost use Rattle.std.specs.Prelude.{◌≡◌, ◌≤◌, ◌↔◌, ℕ, List, [], ◌∷◌, ◌++◌, IsTrue, IfOk, length, nat_le};
+ghost use Rattle.std.specs.Prelude.{◌≤◌, ◌↔◌, ℕ, List, [], ◌∷◌, ◌++◌, IsTrue, nat_le};
 ghost use Rattle.std.specs.List.{filter};
 ghost use Rattle.flow_model.specs.Lists.{◌∈◌, Each};
 ghost use Rattle.flow_model.specs.Process.{leaves};
 ghost use Rattle.flow_model.specs.Resolution.{ChoiceOption};
-ghost use Rattle.flow_excise.specs.Compilation.{options_of};
 ghost use Rattle.flow_sample.specs.Plans.{option_of};
-ghost use Rattle.flow_residual.specs.Bans.{IsLeastBan, AreLeastBans};
+ghost use Rattle.flow_residual.specs.Tracks.{IsLeastBan};
 
-use flow_plan::{KnotFree, Plan};
-use std::alloc::{AllocError, Global};
+use flow_plan::Plan;
 
 /// A leaf that no longer may be in the run.
 #[derive(Clone, Copy)]
@@ -25,19 +23,8 @@ pub(crate) fn holds(plan: &Plan, leaf: u32) -> bool
     plan.leaves().binary_search(&leaf).is_ok()
 }
 
-/// No plan holds a ban yet.
-pub(crate) fn no_bans(alloc: Global, plans: &[KnotFree]) -> Result<Vec<Option<u32>>, AllocError>
-    ensures { IfOk result (λ least. AreLeastBans (options_of plans.now) [] least.items) }
-{
-    let mut least = Vec::with_capacity(alloc, plans.len())?;
-    for _plan in plans {
-        least.push(None)?;
-    }
-    Ok(least)
-}
-
 /// The least index of a ban that the plan holds, after one ban more.
-fn with_ban(plan: &Plan, least: Option<u32>, ban: Ban) -> Option<u32>
+pub(crate) fn with_ban(plan: &Plan, least: Option<u32>, ban: Ban) -> Option<u32>
     ensures { (bans : List (ℕ × ℕ)) → IsLeastBan (option_of plan.now) bans least →
         IsLeastBan (option_of plan.now) (bans ++ (ban.index, ban.leaf) ∷ []) result }
 {
@@ -51,7 +38,7 @@ fn with_ban(plan: &Plan, least: Option<u32>, ban: Ban) -> Option<u32>
 }
 
 /// The least index where only bans up to that index stay.
-fn cut_ban(least: Option<u32>, index: u32) -> Option<u32>
+pub(crate) fn cut_ban(least: Option<u32>, index: u32) -> Option<u32>
     ensures { (o : ChoiceOption) (bans : List (ℕ × ℕ)) → IsLeastBan o bans least →
         IsLeastBan o (filter (λ ban. nat_le ban.0 index) bans) result }
 {
@@ -69,28 +56,5 @@ pub(crate) fn is_above(least: Option<u32>, index: u32) -> bool
     match least {
         Some(first) => index < first,
         None => true,
-    }
-}
-
-/// One ban more for all plans.
-pub(crate) fn add_ban(plans: &[KnotFree], least: &mut [Option<u32>], ban: Ban)
-    requires { length least.old ≡ length plans.now }
-    ensures { (bans : List (ℕ × ℕ)) → AreLeastBans (options_of plans.now) bans least.old →
-        AreLeastBans (options_of plans.now) (bans ++ (ban.index, ban.leaf) ∷ []) least.new }
-{
-    for (place, first) in least.iter_mut().enumerate() {
-        *first = with_ban(plans[place].plan(), *first, ban);
-    }
-}
-
-/// Only bans up to the index of this one stay, and it comes to them.
-pub(crate) fn rewind_bans(plans: &[KnotFree], least: &mut [Option<u32>], ban: Ban)
-    requires { length least.old ≡ length plans.now }
-    ensures { (bans : List (ℕ × ℕ)) → AreLeastBans (options_of plans.now) bans least.old →
-        AreLeastBans (options_of plans.now)
-        (filter (λ other. nat_le other.0 ban.index) bans ++ (ban.index, ban.leaf) ∷ []) least.new }
-{
-    for (place, first) in least.iter_mut().enumerate() {
-        *first = with_ban(plans[place].plan(), cut_ban(*first, ban.index), ban);
     }
 }

@@ -1,11 +1,12 @@
 //! What is still possible in a run: the options, how far each of them follows the journal, and the bans.
 #![tactic(auto)]
 
+mod asking;
 mod ban;
-mod fronts;
-mod possible;
+mod following;
 mod residual;
-mod rows;
-mod steps;
+mod row;
+mod track;
 
 pub use residual::Residual;
+pub use track::fit_rows;

@@ -1,36 +1,64 @@
 ghost use Rattle.std.specs.Prelude.{◌≡◌, ◌<◌, ◌≤◌, ◌↔◌, ℕ, [], ◌∷◌, ◌++◌, IfOk, IsTrue, length, take, nat_le, false, Some, slice_get, slice_index};
 ghost use Rattle.std.specs.List.{filter};
-ghost use Rattle.flow_model.specs.Lists.{◌∈◌, Each};
-ghost use Rattle.flow_model.specs.Process.{leaves};
-ghost use Rattle.flow_model.specs.Ready.{IsReady, IsReadyRun};
-ghost use Rattle.flow_plan.specs.Rows.{IsRowOf};
+ghost use Rattle.flow_model.specs.Lists.{◌∈◌, Each, AreDistinct};
 ghost use Rattle.flow_model.specs.Resolution.{ChoiceOption};
 ghost use Rattle.flow_plan.specs.Progress.{IsDone, bound_of};
 ghost use Rattle.flow_excise.specs.Compilation.{options_of};
 ghost use Rattle.flow_sample.specs.Plans.{option_of};
-ghost use Rattle.flow_residual.specs.Fronts.{AreFronts};
-ghost use Rattle.flow_residual.specs.Kept.{HasSmallLeaves};
-ghost use Rattle.flow_model.specs.Lists.{AreDistinct};
+ghost use Rattle.flow_residual.specs.Options.{EachHas, HasSmallLeaves};
+ghost use Rattle.flow_residual.specs.Tracks.{IsNextRow, IsTrack};
+ghost use Rattle.flow_residual.specs.Possible.{Takes};
 ghost use Rattle.leaf_rows.specs.Leaves.{has_leaf};
-ghost use Rattle.flow_residual.specs.Possible.{TakesAll, TakesFirst};
 
-use crate::ban::{Ban, add_ban, holds, is_above, no_bans, rewind_bans};
-use crate::fronts::{lengthen, no_fronts, progress_of, shorten};
-use crate::rows::{fill_rows, no_rows};
+use crate::asking::Stand;
+use crate::ban::Ban;
+use crate::track::{Change, Track, fit_rows, follow, look, progress_of};
 use flow_excise::Compiled;
 use flow_plan::{KnotFree, Plan, Progress};
 use leaf_rows::LeafSet;
 use std::alloc::{AllocError, Global};
 use std::marker::Model;
 
+/// The memory of a residual.
+#[derive(Drop)]
+struct Room {
+    tracks: Vec<Track>,
+    rows: Vec<LeafSet<16>>,
+    journal: Vec<u32>,
+    bans: Vec<Ban>,
+}
+
+impl Room {
+    ghost use Rattle.std.specs.Vec.{vec_capacity};
+
+    /// For so many plans, where no leaf is done and none is banned.
+    fn new(alloc: Global, plans: &[KnotFree]) -> Result<Room, AllocError>
+        ensures tracks { IfOk result (λ room. EachHas (IsTrack [] []) (options_of plans.now) room.tracks.items) }
+        ensures rows { IfOk result (λ room. length room.rows.items ≡ length (options_of plans.now)) }
+        ensures journal { IfOk result (λ room. room.journal.items ≡ []) }
+        ensures journal_room { IfOk result (λ room. 1024 ≤ vec_capacity room.journal) }
+        ensures bans { IfOk result (λ room. room.bans.items ≡ []) }
+        ensures bans_room { IfOk result (λ room. 1024 ≤ vec_capacity room.bans) }
+    {
+        let start = Track {
+            front: 0,
+            banned: None,
+        };
+        Ok(Room {
+            tracks: vec![in alloc; start; plans.len()]?,
+            rows: vec![in alloc; LeafSet::new(); plans.len()]?,
+            journal: Vec::with_capacity(alloc, 1024)?,
+            bans: Vec::with_capacity(alloc, 1024)?,
+        })
+    }
+}
+
 /// What is still possible in a run. All memory is taken when it is made.
 #[derive(Drop)]
 pub struct Residual {
     plans: Vec<KnotFree>,
-    /// Of each plan, how much of the journal is a ready run of it.
-    fronts: Vec<usize>,
-    /// Of each plan, the least index of a ban of one of its leaves.
-    banned: Vec<Option<u32>>,
+    /// How each of the plans stands to the journal and the bans.
+    tracks: Vec<Track>,
     journal: Vec<u32>,
     /// The leaves of the journal.
     done: Progress,
@@ -48,7 +76,7 @@ impl Model for Residual {
     ghost coded = { remaining_code };
 
     ghost use Rattle.flow_residual.specs.View.{remaining};
-    ghost use Rattle.flow_residual.specs.Fields.{IsRoomy};
+    ghost use Rattle.flow_residual.specs.Invariant.{IsRoomy};
 
     ghost view = { λ r. remaining r.plans.items r.journal.items r.bans.items };
 
@@ -56,8 +84,7 @@ impl Model for Residual {
 }
 
 impl Residual {
-    ghost use Rattle.flow_residual.specs.Remaining.{IsLive, MayComeNext};
-    ghost use Rattle.flow_residual.specs.Possible.{IsOpenFor};
+    ghost use Rattle.flow_residual.specs.Remaining.{MayComeNext};
 
     /// What is possible at the start.
     pub fn new(alloc: Global, compiled: Compiled) -> Result<Residual, AllocError>
@@ -65,17 +92,19 @@ impl Residual {
         ensures journal { IfOk result (λ r. r.journal ≡ []) }
         ensures bans { IfOk result (λ r. r.bans ≡ []) }
     {
-        let plans = compiled.into_plans();
-        let fronts = no_fronts(alloc, &plans)?;
-        let banned = no_bans(alloc, &plans)?;
-        let rows = no_rows(alloc, &plans)?;
+        let Room {
+            tracks,
+            rows,
+            journal,
+            bans,
+        } = Room::new(alloc, compiled.plans())?;
+        fit_rows(compiled.plans());
         Ok(Residual {
-            journal: Vec::with_capacity(alloc, 1024)?,
+            plans: compiled.into_plans(),
+            tracks,
+            journal,
             done: Progress::new(1024),
-            bans: Vec::with_capacity(alloc, 1024)?,
-            plans,
-            fronts,
-            banned,
+            bans,
             rows,
             fresh: false,
         })
@@ -104,18 +133,6 @@ impl Residual {
         &self.done
     }
 
-    /// Nothing may follow with claims that have a leaf twice, or one that has no place in a row.
-    pub(crate) fn none_found(&self, claims: &[u32]) -> LeafSet<16>
-        requires { ¬ (Each (λ n. n < 1024) claims.now × AreDistinct claims.now) }
-        ensures none { (n : ℕ) → has_leaf result n ≡ false }
-        ensures beside { (o : ChoiceOption) (leaf : ℕ) → ¬ (TakesAll self.now (claims.now ++ leaf ∷ []) o) }
-        ensures first { (o : ChoiceOption) (leaf : ℕ) → ¬ (TakesFirst self.now leaf claims.now o) }
-    {
-        // what the fields keep says that the leaves of options have a place
-        let _ = &self.plans;
-        LeafSet::new()
-    }
-
     /// How many plans there are.
     pub(crate) fn count(&self) -> usize
         ensures { result ≡ length self.now.options }
@@ -132,44 +149,23 @@ impl Residual {
         self.plans[place].plan()
     }
 
-    /// Whether the journal is a ready run of the plan at that place.
-    pub(crate) fn follows(&self, place: usize) -> bool
+    /// How the plan at that place stands to the journal and the bans.
+    pub(crate) fn track(&self, place: usize) -> &Track
         requires { place < length self.now.options }
-        ensures { (o : ChoiceOption) → slice_get self.now.options place ≡ Some o →
-            IsTrue result ↔ IsReadyRun o.resolution o.order self.now.journal }
+        ensures { (o : ChoiceOption) → slice_get self.now.options place ≡ Some o → IsTrack self.now.journal self.now.bans o result.now }
     {
-        self.fronts[place] == self.journal.len()
+        &self.tracks[place]
     }
 
-    /// Whether the plan holds no banned leaf.
-    fn is_unbanned(&self, place: usize) -> bool
-        requires { place < length self.now.options }
-        ensures { (o : ChoiceOption) → slice_get self.now.options place ≡ Some o →
-            IsTrue result ↔ Each (λ ban. ¬ (ban.1 ∈ leaves o.resolution)) self.now.bans }
+    /// Nothing may follow with claims that have a leaf twice, or one that has no place in a row.
+    pub(crate) fn none_taken(&self, claims: &[u32]) -> LeafSet<16>
+        requires { ¬ (Each (λ n. n < 1024) claims.now × AreDistinct claims.now) }
+        ensures none { (n : ℕ) → has_leaf result n ≡ false }
+        ensures taken { (o : ChoiceOption) (stand : Stand) (leaf : ℕ) → ¬ (Takes self.now claims.now stand leaf o) }
     {
-        self.banned[place].is_none()
-    }
-
-    /// Whether the plan at that place is live.
-    pub(crate) fn is_live(&self, place: usize) -> bool
-        requires { place < length self.now.options }
-        ensures { (o : ChoiceOption) → slice_get self.now.options place ≡ Some o → IsTrue result ↔ IsLive self.now o }
-    {
-        self.follows(place) && self.is_unbanned(place)
-    }
-
-    /// Whether the plan at that place lets a run leave out what the journal has at the index, and keep all before it.
-    pub(crate) fn is_open_for(&self, place: usize, index: u32) -> bool
-        requires place { place < length self.now.options }
-        requires index { index < length self.now.journal }
-        ensures { (o : ChoiceOption) → slice_get self.now.options place ≡ Some o →
-            IsTrue result ↔ IsOpenFor self.now index o }
-    {
-        if self.fronts[place] < index as usize {
-            return false;
-        }
-        let plan = self.plans[place].plan();
-        !holds(plan, self.journal[index as usize]) && is_above(self.banned[place], index)
+        // what the fields keep says that the leaves of options have a place
+        let _ = &self.plans;
+        LeafSet::new()
     }
 
     /// The leaf is done.
@@ -177,12 +173,12 @@ impl Residual {
         requires { MayComeNext self.old leaf }
         ensures { self.new ≡ record self.old { journal = self.old.journal ++ leaf ∷ [] } }
     {
-        lengthen(
+        follow(
             &self.plans,
-            &mut self.fronts,
+            &mut self.tracks,
             &self.journal,
             &self.done,
-            leaf,
+            Change::Done(leaf),
         );
         self.journal.push_reserved(leaf);
         self.done.note(leaf);
@@ -195,8 +191,15 @@ impl Residual {
         ensures { self.new ≡ record self.old { bans = self.old.bans ++ (length self.old.journal, leaf) ∷ [] } }
     {
         let index = self.journal.len() as u32;
-        self.bans.push_reserved(Ban { index, leaf });
-        add_ban(&self.plans, &mut self.banned, Ban { index, leaf });
+        let ban = Ban { index, leaf };
+        follow(
+            &self.plans,
+            &mut self.tracks,
+            &self.journal,
+            &self.done,
+            Change::Banned(ban),
+        );
+        self.bans.push_reserved(ban);
     }
 
     /// The journal ends before the index, and the leaf that it had there is banned. Later bans are lifted.
@@ -208,11 +211,17 @@ impl Residual {
         } }
     {
         let leaf = self.journal[index as usize];
+        let ban = Ban { index, leaf };
+        follow(
+            &self.plans,
+            &mut self.tracks,
+            &self.journal,
+            &self.done,
+            Change::Back(ban),
+        );
         self.bans.retain(|ban| ban.index <= index);
-        self.bans.push_reserved(Ban { index, leaf });
+        self.bans.push_reserved(ban);
         self.journal.truncate(index as usize);
-        shorten(&mut self.fronts, index as usize);
-        rewind_bans(&self.plans, &mut self.banned, Ban { index, leaf });
         self.done = progress_of(&self.journal);
         self.fresh = false;
     }
@@ -222,9 +231,9 @@ impl Residual {
         ensures { self.new ≡ self.old }
     {
         if !self.fresh {
-            fill_rows(
+            look(
                 &self.plans,
-                &self.fronts,
+                &self.tracks,
                 &self.journal,
                 &self.done,
                 &mut self.rows,
@@ -234,17 +243,14 @@ impl Residual {
     }
 
     /// The leaves that may come next in the plan at that place, where it follows the journal.
-    pub(crate) fn next_row(&self, place: usize, done: &Progress) -> LeafSet<16>
-        requires place { place < length self.now.options }
-        requires bound { bound_of done.now ≡ 1024 }
-        requires same { (n : ℕ) → IsDone done.now n ↔ (n ∈ self.now.journal) }
-        ensures { (o : ChoiceOption) → slice_get self.now.options place ≡ Some o → IsReadyRun o.resolution o.order self.now.journal →
-            IsRowOf (IsReady o.resolution o.order (λ n. n ∈ self.now.journal)) result }
+    pub(crate) fn next_row(&self, place: usize) -> LeafSet<16>
+        requires { place < length self.now.options }
+        ensures { (o : ChoiceOption) → slice_get self.now.options place ≡ Some o → IsNextRow self.now.journal o result }
     {
         if self.fresh {
             self.rows[place]
         } else {
-            self.plan(place).next_row(done)
+            self.plan(place).next_row(self.done())
         }
     }
 }

@@ -27,13 +27,13 @@ use Rattle.flow_workflow.specs.Definition.{Definition, schema_of}
 use Rattle.flow_world.specs.Course.{Course, state_of_world}
 use Rattle.flow_world.specs.Journals.{labels_at}
 use Rattle.flow_world.proofs.JournalLabels.{replay-labels_at, length-labels_at}
-use Rattle.flow_residual.specs.Possible.{SomeOption}
+use Rattle.flow_residual.specs.Options.{SomeOption}
 use Rattle.flow_residual.specs.Remaining.{Remaining, IsOf}
 use Rattle.flow_residual.proofs.PossibleLemmas.{has_kept, is_good}
 use Rattle.flow_trace.specs.declared.checked.Checked.{Checked}
 use Rattle.flow_trace.specs.declared.checked.Checked.TheVariants.{Execution, Prefix, Bad}
 use Rattle.flow_trace.specs.Live.{Follows, Finishes}
-use Rattle.flow_trace.specs.Traces.{TellsOfTrace}
+use Rattle.flow_trace.specs.Traces.{TellsOfTrace, course_at}
 
 -- the list begins some good trace
 abbrev pub BeginsGood : Schema → List ℕ → Type 0
@@ -170,23 +170,15 @@ module _ (w : Schema) (f : IsWellFormed w) (os : List ChoiceOption) (are : AreJu
       each_member (λ n. n < length w.labels) more (begun_within w f more begun) leaf (mem_append_right leaf (take i leaves) (leaf ∷ []) (inl refl))
 
   -- no option is followed any more
-  pub bad_order : (b : Bool) → (IsTrue b ↔ SomeOption (Follows more) os) → b ≡ false → TellsOfTrace w leaves (Bad i)
-  bad_order b says none = (
-    possible,
-    λ longer.
-        let begun : BeginsGood w more = subst (BeginsGood w) more_is longer.0 in
-        let yes = says.1 ((followed w f os are more).1 begun) in cc,
-  )
+  pub bad_order : (b : Bool) → (IsTrue b ↔ SomeOption (Follows more) os) → b ≡ false → ¬ (IsPossible w (take (i + 1) leaves))
+  bad_order b says none longer = let told = says.1 ((followed w f os are more).1 (subst (BeginsGood w) more_is longer.0)) in cc
 
   pub begun_more : (b : Bool) → (IsTrue b ↔ SomeOption (Follows more) os) → b ≡ true → BeginsGood w more
   begun_more b says some = (followed w f os are more).0 (says.0 some)
 
   -- the label does not hold
-  pub bad_state : (b : Bool) → (IsTrue b ↔ HoldsAt w.labels (replay w.labels (start_of w) (take i leaves)) leaf) → b ≡ false → TellsOfTrace w leaves (Bad i)
-  bad_state b says none = (
-    possible,
-    λ longer. let yes = says.1 (holds_next w (take i leaves) leaf (subst (IsPossible w) more_is longer)) in cc,
-  )
+  pub bad_state : (b : Bool) → (IsTrue b ↔ HoldsAt w.labels (replay w.labels (start_of w) (take i leaves)) leaf) → b ≡ false → ¬ (IsPossible w (take (i + 1) leaves))
+  bad_state b says none longer = let told = says.1 (holds_next w (take i leaves) leaf (subst (IsPossible w) more_is longer)) in cc
 
   pub good_state : (b : Bool) → (IsTrue b ↔ HoldsAt w.labels (replay w.labels (start_of w) (take i leaves)) leaf) → b ≡ true → BeginsGood w more →
       IsPossible w (take (i + 1) leaves)
@@ -211,10 +203,6 @@ module _ (w : Schema) (f : IsWellFormed w) (os : List ChoiceOption) (are : AreJu
   told_prefix b says part = (subst (IsPossible w) all_is possible, λ good. let yes = (says_of b says).1 good in cc)
 
 -- ---- the state after the leaves
-
--- what the workflow's facts have come to
-abbrev pub course_at : Definition → List ℕ → Course
-course_at d list = record { held = d.held; count = length d.facts; labels = labels_at d.tree.labels list; room = length d.tree.labels }
 
 pub course_state : (d : Definition) (list : List ℕ) (v : Course) → v ≡ course_at d list →
     state_of_world v ≡ replay d.tree.labels (start_of (schema_of d)) list

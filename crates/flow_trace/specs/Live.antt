@@ -1,7 +1,8 @@
 -- Which options a list of leaves follows.
-use Rattle.std.specs.Prelude.{◌≡◌, ℕ, Bool, false, IsTrue, List, length, Some, slice_get, slice_index_or, ◌↔◌}
+use Rattle.std.specs.Prelude.{ℕ, Bool, IsTrue, List, ◌↔◌}
 use Rattle.flow_model.specs.Resolution.{ChoiceOption}
 use Rattle.flow_model.specs.Ready.{IsReadyRun, IsCompleteRun}
+use Rattle.flow_residual.specs.Options.{EachHas}
 
 -- the list is a ready run of the option
 abbrev pub Follows : List ℕ → ChoiceOption → Type 0
@@ -11,7 +12,10 @@ Follows list o = IsReadyRun o.resolution o.order list
 abbrev pub Finishes : List ℕ → ChoiceOption → Type 0
 Finishes list o = IsCompleteRun o.resolution o.order list
 
--- one answer for each option, in order: whether the list follows it
-pub record AreLive (os : List ChoiceOption) (list : List ℕ) (live : List Bool) : Type 0 where
-  pub one_each : length live ≡ length os
-  pub each : (k : ℕ) (o : ChoiceOption) → slice_get os k ≡ Some o → IsTrue (slice_index_or live k false) ↔ Follows list o
+-- it is told whether the list follows the option
+abbrev pub IsLive : List ℕ → ChoiceOption → Bool → Type 0
+IsLive list o alive = IsTrue alive ↔ Follows list o
+
+-- of each option, in order
+abbrev pub AreLive : List ChoiceOption → List ℕ → List Bool → Type 0
+AreLive os list live = EachHas (IsLive list) os live

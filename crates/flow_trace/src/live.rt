@@ -4,24 +4,17 @@ ghost use Rattle.flow_plan.specs.Orders.{Fits, MayComeNext};
 ghost use Rattle.flow_plan.specs.Progress.{IsDone, bound_of};
 ghost use Rattle.flow_excise.specs.Compilation.{options_of};
 ghost use Rattle.flow_sample.specs.Plans.{option_of};
-ghost use Rattle.flow_residual.specs.Kept.{HasSmallLeaves};
-ghost use Rattle.flow_residual.specs.Possible.{SomeOption};
+ghost use Rattle.flow_residual.specs.Options.{SomeOption, HasSmallLeaves};
 ghost use Rattle.flow_trace.specs.Live.{Follows, Finishes, AreLive};
 
 use flow_plan::{KnotFree, Plan, Progress};
 use std::alloc::{AllocError, Global};
 
 /// Each plan is live before the first leaf.
-pub fn all_live(alloc: Global, plans: &[KnotFree]) -> Result<Vec<bool>, AllocError>
-    ensures live { IfOk result (λ live. AreLive (options_of plans.now) [] live.items) }
-    ensures fits { IfOk result (λ live. Each HasSmallLeaves (options_of plans.now)) }
+pub(crate) fn all_live(alloc: Global, plans: &[KnotFree]) -> Result<Vec<bool>, AllocError>
+    ensures { IfOk result (λ live. AreLive (options_of plans.now) [] live.items) }
 {
-    let mut live = Vec::with_capacity(alloc, plans.len())?;
-    for plan in plans {
-        // what the type keeps of its leaves
-        let _leaves = plan.plan().leaves();
-        live.push(true)?;
-    }
+    let live = vec![in alloc; true; plans.len()]?;
     Ok(live)
 }
 
@@ -37,7 +30,7 @@ fn stays_live(plan: &Plan, alive: bool, done: &Progress, leaf: u32) -> bool
 }
 
 /// Only those plans stay live of which the leaf may come next.
-pub fn keep_live(plans: &[KnotFree], live: &mut [bool], done: &Progress, leaf: u32)
+pub(crate) fn keep_live(plans: &[KnotFree], live: &mut [bool], done: &Progress, leaf: u32)
     requires fits { Each HasSmallLeaves (options_of plans.now) }
     requires bound { bound_of done.now ≡ 1024 }
     requires one_each { length live.old ≡ length plans.now }
@@ -50,7 +43,7 @@ pub fn keep_live(plans: &[KnotFree], live: &mut [bool], done: &Progress, leaf: u
 }
 
 /// Whether some plan is live.
-pub fn some_live(plans: &[KnotFree], live: &[bool]) -> bool
+pub(crate) fn some_live(plans: &[KnotFree], live: &[bool]) -> bool
     requires { length live.now ≡ length plans.now }
     ensures { (list : List ℕ) → AreLive (options_of plans.now) list live.now →
         IsTrue result ↔ SomeOption (Follows list) (options_of plans.now) }
@@ -64,7 +57,7 @@ pub fn some_live(plans: &[KnotFree], live: &[bool]) -> bool
 }
 
 /// Whether the done leaves are a whole execution of some live plan.
-pub fn some_complete(plans: &[KnotFree], live: &[bool], done: &Progress) -> bool
+pub(crate) fn some_complete(plans: &[KnotFree], live: &[bool], done: &Progress) -> bool
     requires fits { Each HasSmallLeaves (options_of plans.now) }
     requires bound { bound_of done.now ≡ 1024 }
     requires one_each { length live.now ≡ length plans.now }

@@ -1,14 +1,19 @@
-ghost use Rattle.std.specs.Prelude.{◌≡◌, IfOk};
+ghost use Rattle.std.specs.Prelude.{◌≡◌, ◌+◌, ◌<◌, ◌↔◌, [], IfOk, IsTrue, length, take};
+ghost use Rattle.std.specs.Bool.{OnTrue};
+ghost use Rattle.flow_model.specs.Verdict.{IsPossible};
+ghost use Rattle.flow_laws.specs.Words.{IsConsistent};
 ghost use Rattle.flow_workflow.specs.Definition.{schema_of};
-ghost use Rattle.flow_excise.specs.Compilation.{IsCompiled};
+ghost use Rattle.flow_excise.specs.Compilation.{IsCompiled, options_of};
 ghost use Rattle.flow_trace.specs.declared.checked.Checked.{Checked};
-ghost use Rattle.flow_trace.specs.Traces.{TellsOfTrace};
+ghost use Rattle.flow_trace.specs.Live.{AreLive};
+ghost use Rattle.flow_trace.specs.Traces.{TellsOfTrace, AreOptionsOf, HasReached, course_at};
 
 use crate::checked::Checked;
 use crate::labels::perform;
 use crate::live::{all_live, keep_live, some_complete, some_live};
 use flow_excise::Compiled;
-use flow_plan::Progress;
+use flow_plan::{KnotFree, Progress};
+use flow_residual::fit_rows;
 use flow_workflow::Workflow;
 use flow_world::World;
 use std::alloc::{AllocError, Global};
@@ -26,23 +31,65 @@ pub fn check_trace(
     ensures only { IfOk result (λ checked. (other : Checked) → TellsOfTrace (schema_of workflow.now) leaves.now other → checked ≡ other) }
 {
     let plans = compiled.plans();
+    fit_rows(plans);
     let room = workflow.tree().leaves();
     let mut live = all_live(alloc, plans)?;
     let mut world = World::new(alloc, workflow.facts().count(), workflow.held(), room)?;
+    Ok(walk(workflow, plans, leaves, &mut live, &mut world))
+}
+
+/// Goes through the leaves as far as they are possible.
+fn walk(
+    workflow: &Workflow,
+    plans: &[KnotFree],
+    leaves: &[u32],
+    live: &mut [bool],
+    world: &mut World,
+) -> Checked
+    requires options { AreOptionsOf workflow.now (options_of plans.now) }
+    requires consistent { IsConsistent (schema_of workflow.now) }
+    requires live { AreLive (options_of plans.now) [] live.old }
+    requires world { world.old ≡ course_at workflow.now [] }
+    ensures { TellsOfTrace (schema_of workflow.now) leaves.now result }
+{
     let mut done = Progress::new(1024);
-    for (place, leaf) in leaves.iter().enumerate() {
-        keep_live(plans, &mut live, &done, *leaf);
-        if !some_live(plans, &live) {
-            return Ok(Checked::Bad(place as u32));
+    for place in 0..leaves.len() {
+        if !goes_on(workflow, plans, leaves, place, live, world, &mut done) {
+            return Checked::Bad(place as u32);
         }
-        if !perform(workflow, &mut world, *leaf) {
-            return Ok(Checked::Bad(place as u32));
-        }
-        done.note(*leaf);
     }
-    if some_complete(plans, &live, &done) {
-        Ok(Checked::Execution)
+    if some_complete(plans, live, &done) {
+        Checked::Execution
     } else {
-        Ok(Checked::Prefix)
+        Checked::Prefix
     }
+}
+
+/// Goes on by the leaf at the place, if that is possible.
+fn goes_on(
+    workflow: &Workflow,
+    plans: &[KnotFree],
+    leaves: &[u32],
+    place: usize,
+    live: &mut [bool],
+    world: &mut World,
+    done: &mut Progress,
+) -> bool
+    requires options { AreOptionsOf workflow.now (options_of plans.now) }
+    requires within { place < length leaves.now }
+    requires reached { HasReached workflow.now (options_of plans.now) (take place leaves.now) live.old world.old done.old }
+    ensures possible { IsTrue result ↔ IsPossible (schema_of workflow.now) (take (place + 1) leaves.now) }
+    ensures reached { OnTrue result
+        (HasReached workflow.now (options_of plans.now) (take (place + 1) leaves.now) live.new world.new done.new) }
+{
+    let leaf = leaves[place];
+    keep_live(plans, live, done, leaf);
+    if !some_live(plans, live) {
+        return false;
+    }
+    if !perform(workflow, world, leaf) {
+        return false;
+    }
+    done.note(leaf);
+    true
 }

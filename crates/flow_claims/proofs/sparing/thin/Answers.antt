@@ -5,7 +5,7 @@ use Rattle.flow_model.specs.Run.{RunState, MayAllFollow}
 use Rattle.flow_residual.specs.Remaining.{IsOf}
 use Rattle.flow_claims.proofs.Thinning.{none_moved, moved_one, moved_past, moved_as, all_moved}
 use Rattle.flow_claims.proofs.sparing.thin.Goals as goal
-use Rattle.flow_claims.proofs.sparing.thin.Goals.{then-legal_take, else-legal_take}
+use Rattle.flow_claims.proofs.sparing.thin.Goals.{then-may_all_follow, else-may_all_follow}
 
 pub loop-index-init : goal.loop-index-init
 loop-index-init c = none_moved c.args.residual.now c.args.places.now c.args.leaves.now
@@ -23,13 +23,13 @@ loop-index-preserved c =
     let inside : i < length ps = omega arith in
     let is : leaf ≡ get_or ls i leaf = get_or_default ls i 0 leaf within in
     let at : place ≡ get_or ps i place = get_or_default ps i 0 place inside in
-    let says : (w : Schema) (s : RunState) → IsOf w s r → IsTrue c.legal_take.result ↔ MayAllFollow w s (take kept ls ++ leaf ∷ []) =
-    c.legal_take.ensures.follow in
-    elim c.if-legal_take.branch [
-      | then-legal_take b ↦ moved_as r c.args.places.now c.args.leaves.now (i + 1) (kept + 1) c.if-legal_take.kept _ c.if-legal_take.places _ c.if-legal_take.leaves b.kept-is b.places-is b.leaves-is
-          (moved_one r c.args.places.now c.args.leaves.now i kept ps ls c.loop-index.invariant within c.requires leaf is place at c.legal_take.result says b.if-legal_take.true)
-      | else-legal_take b ↦ moved_as r c.args.places.now c.args.leaves.now (i + 1) kept c.if-legal_take.kept ps c.if-legal_take.places ls c.if-legal_take.leaves b.kept-is b.places-is b.leaves-is
-          (moved_past r c.args.places.now c.args.leaves.now i kept ps ls c.loop-index.invariant within c.requires leaf is place at c.legal_take.result says b.if-legal_take.false)
+    let says : (w : Schema) (s : RunState) → IsOf w s r → IsTrue c.may_all_follow.result ↔ MayAllFollow w s (take kept ls ++ leaf ∷ []) =
+    c.may_all_follow.ensures.follow in
+    elim c.if-may_all_follow.branch [
+      | then-may_all_follow b ↦ moved_as r c.args.places.now c.args.leaves.now (i + 1) (kept + 1) c.if-may_all_follow.kept _ c.if-may_all_follow.places _ c.if-may_all_follow.leaves b.kept-is b.places-is b.leaves-is
+          (moved_one r c.args.places.now c.args.leaves.now i kept ps ls c.loop-index.invariant within c.requires leaf is place at c.may_all_follow.result says b.if-may_all_follow.true)
+      | else-may_all_follow b ↦ moved_as r c.args.places.now c.args.leaves.now (i + 1) kept c.if-may_all_follow.kept ps c.if-may_all_follow.places ls c.if-may_all_follow.leaves b.kept-is b.places-is b.leaves-is
+          (moved_past r c.args.places.now c.args.leaves.now i kept ps ls c.loop-index.invariant within c.requires leaf is place at c.may_all_follow.result says b.if-may_all_follow.false)
     ]
 
 pub returns : goal.returns

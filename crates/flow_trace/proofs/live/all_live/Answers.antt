@@ -1,26 +1,11 @@
-use Rattle.std.proofs.Common.{Bool, [], ◌∷◌, ◌++◌, List, sym, subst, take}
-use Rattle.flow_model.specs.Lists.{Each}
-use Rattle.flow_model.specs.Resolution.{ChoiceOption}
-use Rattle.flow_laws.proofs.Members.{each-append}
-use Rattle.flow_plan.specs.Planned.{Planned}
+use Rattle.std.proofs.Common.{[], true, refl, sym, subst}
 use Rattle.flow_excise.specs.Compilation.{options_of}
-use Rattle.flow_sample.specs.Plans.{option_of}
-use Rattle.flow_residual.specs.Kept.{HasSmallLeaves}
-use Rattle.flow_residual.proofs.OptionLemmas.{options_more, small_leaves}
-use Rattle.flow_trace.specs.Live.{AreLive}
-use Rattle.flow_trace.proofs.LiveLemmas.{live_more}
+use Rattle.flow_residual.proofs.OptionLemmas.{each_alike, length-options}
+use Rattle.flow_trace.specs.Live.{IsLive, AreLive}
 use Rattle.flow_trace.proofs.live.all_live.Goals as goal
 
-pub loop-plan-preserved : goal.loop-plan-preserved
-loop-plan-preserved c =
-    let o : ChoiceOption = option_of c.plan-item.result.plan in
-    let fit : HasSmallLeaves o = subst (λ (p : Planned). HasSmallLeaves (option_of p)) c.plan.ensures
-    (small_leaves c.plan.result.now c.leaves-leaves.ensures.listed c.leaves-leaves.ensures.small) in
-    let i = c.loop-plan.invariant in
-    let before : List ChoiceOption = options_of (take c.loop-plan.plan-index c.args.plans.now) in
-    let more = options_more c.args.plans.now c.loop-plan.plan-index c.plan-item.result c.loop-plan-test.true c.plan-item.is in record {
-      live = subst (λ (os : List ChoiceOption). AreLive os [] c.push.new.self.items) (sym more)
-          (subst (λ (bs : List Bool). AreLive (before ++ o ∷ []) [] bs) (sym c.in_ok-push.ensures.items)
-          (live_more before o c.loop-plan.live.items i.live));
-      fits = subst (λ (os : List ChoiceOption). Each HasSmallLeaves os) (sym more) (each-append HasSmallLeaves before (o ∷ []) i.fits (fit, tt));
-    }
+pub returns : goal.returns
+returns c =
+    let os = options_of c.args.plans.now in
+    subst (AreLive os []) (sym (c.in_ok-live.ensures.items_if_clones_equal (λ y same. same)))
+    (each_alike (IsLive []) os _ true (sym (length-options c.args.plans.now)) (λ o. (λ _. tt, λ _. refl)))

@@ -1,11 +1,10 @@
-use Rattle.std.proofs.Common.{ℕ, List, ◌↔◌}
-use Rattle.flow_model.specs.Lists.{◌∈◌}
-use Rattle.flow_plan.specs.Progress.{IsDone}
+use Rattle.std.proofs.Common.{ℕ, List, [], ◌∷◌, ◌++◌}
 use Rattle.flow_excise.specs.Compilation.{options_of}
-use Rattle.flow_trace.specs.Live.{AreLive}
-use Rattle.flow_trace.proofs.LiveLemmas.{AreNext}
+use Rattle.flow_residual.proofs.OptionLemmas.{AreTurned}
+use Rattle.flow_residual.proofs.DoneLemmas.{AreDone}
+use Rattle.flow_trace.specs.Live.{IsLive, AreLive}
 use Rattle.flow_trace.proofs.live.keep_live.Given as goal
 
 abbrev pub invariant-loop-place : goal.invariant-loop-place
-invariant-loop-place l = (list : List ℕ) → ((n : ℕ) → IsDone l.done n ↔ (n ∈ list)) → AreLive (options_of l.plans) list l.initial.live →
-    AreNext (options_of l.plans) list l.leaf l.place l.live
+invariant-loop-place l = (list : List ℕ) → AreDone l.done list → AreLive (options_of l.plans) list l.initial.live →
+    AreTurned l.place (IsLive list) (IsLive (list ++ l.leaf ∷ [])) (options_of l.plans) l.live

@@ -1,6 +1,6 @@
 use Rattle.std.proofs.Common.{ℕ, List}
 use Rattle.flow_excise.specs.Compilation.{options_of}
-use Rattle.flow_residual.specs.Possible.{NoneBelow}
+use Rattle.flow_residual.specs.Options.{NoneBelow}
 use Rattle.flow_trace.specs.Live.{Follows, AreLive}
 use Rattle.flow_trace.proofs.live.some_live.Given as goal
 

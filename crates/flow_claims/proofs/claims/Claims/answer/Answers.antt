@@ -8,7 +8,7 @@ use Rattle.flow_claims.specs.declared.claims.Claims.TheInside.{Inside}
 use Rattle.flow_claims.specs.Claimed.{Claimed, IsUnanswered}
 use Rattle.flow_claims.specs.Fields.{claimed, claimed_by, IsKept}
 use Rattle.flow_claims.proofs.Numbering.{answered, IsThere, there}
-use Rattle.flow_claims.proofs.Outstanding.{found_within, length-out_leaves}
+use Rattle.flow_claims.proofs.Outstanding.{found_within, length-out}
 use Rattle.flow_claims.proofs.Counting.{kept_answer, kept_late, answered_value}
 use Rattle.flow_claims.proofs.claims.Claims.answer.Goals as goal
 
@@ -52,7 +52,7 @@ remove-requires-in-Some c =
     let within = found_within (c.args.claim - 1) i.current.items c.in-Some.index is in
     let len : vec_len i.leaves ≡ length i.leaves.items = i.leaves.ok.0 in
     let same : length i.leaves.items ≡ length i.current.items =
-    ap length c.self.invariant.kept.leaves_are ∙ length-out_leaves i.epoch 0 i.given.items ∙ ap length (sym c.self.invariant.kept.current_are) in
+    ap length c.self.invariant.kept.leaves_are ∙ length-out (λ place g. g.leaf) (λ place g. place) i.epoch 0 i.given.items ∙ ap length (sym c.self.invariant.kept.current_are) in
     omega arith
 
 pub invariant_of-self : goal.invariant_of-self

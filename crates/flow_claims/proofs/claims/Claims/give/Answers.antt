@@ -3,9 +3,9 @@ use Rattle.std.specs.Vec.{vec_len, vec_capacity}
 use Rattle.std.proofs.lemmas.List.{get_or_read}
 use Rattle.flow_claims.specs.Claimed.{Claimed}
 use Rattle.flow_claims.specs.Fields.{claimed}
-use Rattle.flow_claims.specs.Given.{out_places}
+use Rattle.flow_claims.specs.Given.{out_places, out_leaves}
 use Rattle.flow_claims.proofs.Numbering.{length-claims_from}
-use Rattle.flow_claims.proofs.Outstanding.{few_out, length-out_leaves}
+use Rattle.flow_claims.proofs.Outstanding.{few_out}
 use Rattle.flow_claims.proofs.Counting.{few_attempts, kept_given, given_value}
 use Rattle.flow_claims.proofs.claims.Claims.give.Goals as goal
 
@@ -32,24 +32,22 @@ push_reserved-requires c =
 pub push_reserved-requires-2 : goal.push_reserved-requires-2
 push_reserved-requires-2 c =
     let i = c.self.inside in
-    let more : length i.given.items < vec_capacity i.given =
     let h = subst (λ (v : Claimed). length v.claims < v.room) (sym c.self.view_is) c.requires.room in
-    let same = length-claims_from 1 i.given.items in omega arith in
+    let given = length-claims_from 1 i.given.items in
     let len : vec_len i.current ≡ length i.current.items = i.current.ok.0 in
     let same : length i.current.items ≡ length (out_places i.epoch 0 i.given.items) = ap length c.self.invariant.kept.current_are in
-    let few = few_out i.epoch 0 i.given.items in
+    let few = few_out (λ place g. place) i.epoch 0 i.given.items in
     let room = c.self.invariant.current_room in
     omega arith
 
 pub push_reserved-requires-3 : goal.push_reserved-requires-3
 push_reserved-requires-3 c =
     let i = c.self.inside in
-    let more : length i.given.items < vec_capacity i.given =
     let h = subst (λ (v : Claimed). length v.claims < v.room) (sym c.self.view_is) c.requires.room in
-    let same = length-claims_from 1 i.given.items in omega arith in
+    let given = length-claims_from 1 i.given.items in
     let len : vec_len i.leaves ≡ length i.leaves.items = i.leaves.ok.0 in
-    let same : length i.leaves.items ≡ length (out_places i.epoch 0 i.given.items) = ap length c.self.invariant.kept.leaves_are ∙ length-out_leaves i.epoch 0 i.given.items in
-    let few = few_out i.epoch 0 i.given.items in
+    let same : length i.leaves.items ≡ length (out_leaves i.epoch 0 i.given.items) = ap length c.self.invariant.kept.leaves_are in
+    let few = few_out (λ place g. g.leaf) i.epoch 0 i.given.items in
     let room = c.self.invariant.leaves_room in
     omega arith
 

@@ -1,9 +1,9 @@
 use Rattle.std.proofs.Common.{◌↔◌, IsTrue, sym, ◌∙◌, subst}
 use Rattle.flow_model.specs.Lists.{◌∈◌}
-use Rattle.flow_model.specs.Run.{current_leaves}
+use Rattle.flow_model.specs.Run.{Claim, current_leaves}
 use Rattle.flow_claims.specs.Claimed.{Claimed, run_of}
 use Rattle.flow_claims.specs.Fields.{claimed_by}
-use Rattle.flow_claims.proofs.Outstanding.{leaves_of_current, is_among}
+use Rattle.flow_claims.proofs.Outstanding.{current_told, is_among}
 use Rattle.flow_claims.proofs.claims.Claims.has_leaf.Goals as goal
 
 pub returns : goal.returns
@@ -11,4 +11,4 @@ returns c =
     let i = c.self.inside in
     subst (λ (v : Claimed). IsTrue c.contains.result ↔ (c.args.leaf ∈ current_leaves (run_of v))) c.self.view_is
     (is_among c.contains.result c.args.leaf c.deref.result.now (current_leaves (run_of (claimed_by i))) c.contains.ensures.value
-    (c.deref.ensures.value ∙ c.self.invariant.kept.leaves_are ∙ sym (leaves_of_current (run_of (claimed_by i)) 1 i.given.items)))
+    (c.deref.ensures.value ∙ c.self.invariant.kept.leaves_are ∙ sym (current_told (λ (claim : Claim). claim.leaf) (run_of (claimed_by i)) 0 i.given.items)))

@@ -23,7 +23,7 @@ returns-in-Some c =
     let at : slice_get (out_places i.epoch 0 i.given.items) 0 ≡ Some c.in-Some.place.now =
     ap (λ l. slice_get l 0) (sym (c.deref.ensures.value ∙ c.self.invariant.kept.current_are)) ∙ sym c.in-Some.ensures.value in
     subst (λ (v : Claimed). Some (c.in-Some.place.now + 1) ≡ slice_get (map (λ (claim : Claim). claim.number) (current_claims (run_of v))) 0) c.self.view_is
-    (sym (least_is (run_of (claimed_by i)) 0 i.given.items ∙ ap next at))
+    (sym (least_is (run_of (claimed_by i)) i.given.items ∙ ap next at))
 
 pub returns-in-None : goal.returns-in-None
 returns-in-None c =
@@ -31,4 +31,4 @@ returns-in-None c =
     let at : slice_get (out_places i.epoch 0 i.given.items) 0 ≡ None =
     ap (λ l. slice_get l 0) (sym (c.deref.ensures.value ∙ c.self.invariant.kept.current_are)) ∙ sym c.in-None.ensures.value in
     subst (λ (v : Claimed). None ≡ slice_get (map (λ (claim : Claim). claim.number) (current_claims (run_of v))) 0) c.self.view_is
-    (sym (least_is (run_of (claimed_by i)) 0 i.given.items ∙ ap next at))
+    (sym (least_is (run_of (claimed_by i)) i.given.items ∙ ap next at))

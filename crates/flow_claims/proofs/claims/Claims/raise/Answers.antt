@@ -7,7 +7,7 @@ use Rattle.flow_claims.specs.Claimed.{Claimed}
 use Rattle.flow_claims.specs.Fields.{claimed, IsKept}
 use Rattle.flow_claims.specs.Given.{claims_from, renewed_at}
 use Rattle.flow_claims.specs.Sparing.{picked}
-use Rattle.flow_claims.proofs.Outstanding.{places_within, length-out_leaves}
+use Rattle.flow_claims.proofs.Outstanding.{places_within, length-out}
 use Rattle.flow_claims.proofs.Renewing.{renew, each_picked, length-renew, renewed_is, kept_renewed, spared_claims, renewed_value}
 use Rattle.flow_claims.proofs.claims.Claims.raise.Goals as goal
 
@@ -15,7 +15,7 @@ pub thin-kept-requires : goal.thin-kept-requires
 thin-kept-requires c =
     let i = c.self.inside in
     let k = c.self.invariant.kept in
-    ap length (c.deref_mut.ensures.value ∙ k.current_are) ∙ sym (length-out_leaves i.epoch 0 i.given.items) ∙ ap length (sym (c.deref_mut-2.ensures.value ∙ k.leaves_are))
+    ap length (c.deref_mut.ensures.value ∙ k.current_are) ∙ sym (length-out (λ place g. g.leaf) (λ place g. place) i.epoch 0 i.given.items) ∙ ap length (sym (c.deref_mut-2.ensures.value ∙ k.leaves_are))
 
 -- what is left of a vector that was lent, thinned and cut
 cut_is : {Z : Type 0} (v : Vec ℕ Z) (was new cut : List ℕ) (bits : List Bool) (kept : ℕ) → was ≡ v.items → length new ≡ length was →

@@ -12,7 +12,7 @@ returns-then-not-has_leaf c =
     let k = c.self.invariant.kept in
     let free : ¬ (c.args.leaf ∈ current_leaves (now c.args.self.now)) = subst (λ (r : Run). ¬ (c.args.leaf ∈ current_leaves (now r))) c.self.view_is
     (none_among i.workflow (state_of (schema_of i.workflow) i.history.items) i.claims k.claims c.args.leaf c.has_leaf.result c.has_leaf.ensures c.if-not-has_leaf.true) in
-    (λ yes. (c.requires, free, c.may_stand_beside.ensures.0 yes), λ can. c.may_stand_beside.ensures.1 can.2)
+    (λ yes. (c.requires, free, c.may_all_follow.ensures.0 yes), λ can. c.may_all_follow.ensures.1 can.2)
 
 pub returns-else-not-has_leaf : goal.returns-else-not-has_leaf
 returns-else-not-has_leaf c =

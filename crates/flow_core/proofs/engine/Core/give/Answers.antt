@@ -1,9 +1,11 @@
-use Rattle.std.proofs.Common.{◌≡◌, ◌<◌, ◌≤◌, ◌+◌, ℕ, cond, nat_eq, false, List, [], ◌∷◌, ◌++◌, length, map, take, Some, slice_get, slice_index_or, subst, subst₂, sym, ap, ◌∙◌, refl, arith, length-append, true≢false}
+use Rattle.std.proofs.Common.{◌≡◌, ◌<◌, ◌≤◌, ◌+◌, ℕ, cond, nat_eq, false, List, [], ◌∷◌, ◌++◌, length, map, take, Some, slice_get, slice_index_or, subst, sym, ap, ◌∙◌, refl, arith, length-append}
 use Rattle.std.proofs.lemmas.Bool.{eq-eqb}
 use Rattle.std.proofs.lemmas.List.{take_all, length-map}
 use Rattle.std.proofs.lemmas.Option.{slice_get-get_or}
 use Rattle.flow_model.specs.declared.history.Entry.{Entry}
 use Rattle.flow_model.specs.declared.labels.Note.TheVariants as note
+use Rattle.flow_model.specs.declared.history.Step.{Step}
+use Rattle.flow_model.specs.declared.history.Step.TheVariants.{Took}
 use Rattle.flow_model.specs.Facts.{event_at}
 use Rattle.flow_model.specs.Lists.{numbers_from}
 use Rattle.flow_model.specs.Run.{Claim, RunState, state_of, claim_at, CanTake}
@@ -12,51 +14,42 @@ use Rattle.flow_laws.proofs.ClaimLemmas.{number_of}
 use Rattle.flow_workflow.specs.Definition.{Definition, schema_of}
 use Rattle.flow_claims.specs.Claimed.{Claimed, count_of}
 use Rattle.flow_claims.proofs.Counting.{count-push}
-use Rattle.flow_core.specs.Run.{Run, schema, now, IsUncommitted, HasEntryLeft}
+use Rattle.flow_core.specs.Run.{schema, now}
 use Rattle.flow_core.specs.Answers.{next_claim}
-use Rattle.flow_core.specs.Kept.{IsKept}
-use Rattle.flow_core.proofs.Steps.{sound_now, kept_took}
+use Rattle.flow_core.specs.Invariant.{IsKept, IsRunning}
+use Rattle.flow_core.specs.declared.engine.Core.TheInside.{Inside}
+use Rattle.flow_core.proofs.Steps.{longer, sound_now, kept_took}
+use Rattle.flow_core.proofs.Entries.{inside, entered}
 use Rattle.flow_core.proofs.Calls.{known_event, find_last, call_is}
 use Rattle.flow_core.proofs.engine.Core.give.Goals as goal
 
+-- the event has a kind
+kind_below : (i : Inside) → IsRunning i → (leaf event : ℕ) → event_at i.workflow.tree.labels leaf ≡ Some event → event < length i.workflow.events
+kind_below i k leaf event at = known_event i.workflow.tree.labels (length i.workflow.events) (length i.workflow.facts) k.kept.known leaf event at
+
 pub give-attempt-requires-clause-kind : goal.give-attempt-requires-clause-kind
 give-attempt-requires-clause-kind c =
-    let i = c.self.inside in
-    let k = c.self.invariant.kept in
-    let at : event_at i.workflow.tree.labels c.args.leaf ≡ Some c.args.event =
-    subst (λ (r : Run). event_at (schema r).labels c.args.leaf ≡ Some c.args.event) (sym c.self.view_is) c.requires.event in
-    let l : c.args.event < length i.workflow.events = known_event i.workflow.tree.labels (length i.workflow.events) (length i.workflow.facts) k.known c.args.leaf c.args.event at in
-    let e : i.claims.kinds ≡ length i.workflow.events = k.claims.kinds in
+    let at = inside c.self.inside c.self.invariant c.args.self.now c.self.view_is (λ r. event_at (schema r).labels c.args.leaf ≡ Some c.args.event) c.requires.event in
+    let below = kind_below c.self.inside c.self.invariant c.args.leaf c.args.event at in
+    let kinds = c.self.invariant.kept.claims.kinds in
     omega arith
 
 pub bounds-notes-event : goal.bounds-notes-event
 bounds-notes-event c =
-    let i = c.self.inside in
-    let k = c.self.invariant.kept in
-    let at : event_at i.workflow.tree.labels c.args.leaf ≡ Some c.args.event =
-    subst (λ (r : Run). event_at (schema r).labels c.args.leaf ≡ Some c.args.event) (sym c.self.view_is) c.requires.event in
-    let l : c.args.event < length i.workflow.events = known_event i.workflow.tree.labels (length i.workflow.events) (length i.workflow.facts) k.known c.args.leaf c.args.event at in
-    let e : length c.notes.result.now ≡ length i.workflow.events = ap length c.notes.ensures.notes ∙ k.noted in
+    let at = inside c.self.inside c.self.invariant c.args.self.now c.self.view_is (λ r. event_at (schema r).labels c.args.leaf ≡ Some c.args.event) c.requires.event in
+    let below = kind_below c.self.inside c.self.invariant c.args.leaf c.args.event at in
+    let as_many = ap length c.notes.ensures.notes ∙ c.self.invariant.kept.noted in
     omega arith
 
 pub invariant_of-self : goal.invariant_of-self
 invariant_of-self c =
     let i = c.self.inside in
-    let k = c.self.invariant.kept in
-    let going : (state_of (schema_of i.workflow) i.history.items).committed ≡ false = subst IsUncommitted (sym c.self.view_is) c.requires.open in
-    let room : length i.history.items < i.limit = subst HasEntryLeft (sym c.self.view_is) c.requires.steps in
-    let at : event_at i.workflow.tree.labels c.args.leaf ≡ Some c.args.event =
-    subst (λ (r : Run). event_at (schema r).labels c.args.leaf ≡ Some c.args.event) (sym c.self.view_is) c.requires.event in
-    let can : CanTake (schema_of i.workflow) (state_of (schema_of i.workflow) i.history.items) c.args.leaf =
-    subst (λ (r : Run). CanTake (schema r) (now r) c.args.leaf) (sym c.self.view_is) c.requires.enabled in
-    let number : c.count-claim.result + 1 ≡ length i.claims.claims + 1 = ap (λ n. n + 1) c.count-claim.ensures.given in
-    record {
-      kept = subst₂ (λ (h : List Entry) (claims : Claimed). IsKept i.workflow i.limit h i.residual claims i.world i.committed) (sym c.push_reserved.ensures.items) (sym c.give-attempt.ensures.value)
-          (kept_took i.workflow i.limit i.history.items i.residual i.claims i.world i.committed k going room c.args.by c.args.leaf c.args.event (c.count-claim.result + 1) number at can);
-      room = subst (λ n. i.limit ≤ n) (sym c.push_reserved.ensures.capacity) c.self.invariant.room;
-      small = c.self.invariant.small;
-      ahead = λ looked. absurd (true≢false (sym looked));
-    }
+    let step : Step = Took (c.count-claim.result + 1) c.args.leaf in
+    entered c.self.inside c.self.invariant c.args.self.now c.self.view_is _ c.args.by step refl refl refl c.push_reserved.ensures.items c.push_reserved.ensures.capacity c.requires.open c.requires.steps (λ going room.
+    subst (λ (claims : Claimed). IsKept i.workflow i.limit (longer i.history.items c.args.by step) i.residual claims i.world i.committed) (sym c.give-attempt.ensures.value)
+    (kept_took i.workflow i.limit i.history.items i.residual i.claims i.world i.committed c.self.invariant.kept going room c.args.by c.args.leaf c.args.event (c.count-claim.result + 1)
+    (ap (λ n. n + 1) c.count-claim.ensures.given) (inside c.self.inside c.self.invariant c.args.self.now c.self.view_is (λ r. event_at (schema r).labels c.args.leaf ≡ Some c.args.event) c.requires.event)
+    (inside c.self.inside c.self.invariant c.args.self.now c.self.view_is (λ r. CanTake (schema r) (now r) c.args.leaf) c.requires.enabled)))
 
 -- the claim given last, and what the gate is asked for it
 last_call : (w : Definition) (limit : ℕ) (history : List Entry) (r : _) (old : Claimed) (v : _) (committed : _) (k : IsKept w limit history r old v committed) →
@@ -88,10 +81,9 @@ pub returns-clause-call : goal.returns-clause-call
 returns-clause-call c =
     let i = c.self.inside in
     let k = c.self.invariant.kept in
-    let at : event_at i.workflow.tree.labels c.args.leaf ≡ Some c.args.event =
-    subst (λ (r : Run). event_at (schema r).labels c.args.leaf ≡ Some c.args.event) (sym c.self.view_is) c.requires.event in
+    let at = inside c.self.inside c.self.invariant c.args.self.now c.self.view_is (λ r. event_at (schema r).labels c.args.leaf ≡ Some c.args.event) c.requires.event in
     let noted = slice_index_or c.notes.result.now c.args.event note.Done in
-    let known : c.args.event < length i.workflow.events = known_event i.workflow.tree.labels (length i.workflow.events) (length i.workflow.facts) k.known c.args.leaf c.args.event at in
+    let below = kind_below i c.self.invariant c.args.leaf c.args.event at in
     let as_many : length c.notes.result.now ≡ length i.workflow.events = ap length c.notes.ensures.notes ∙ k.noted in
     let note_is : slice_get i.workflow.notes c.args.event ≡ Some noted =
     sym (ap (λ (ns : List Rattle.flow_model.specs.declared.labels.Note.Note). slice_get ns c.args.event) c.notes.ensures.notes)

@@ -2,25 +2,23 @@ use Rattle.std.proofs.Common.{◌↔◌, inl, inr, ℕ, IsTrue, Bool, subst, sym
 use Rattle.flow_model.specs.Lists.{◌∈◌}
 use Rattle.flow_model.specs.Run.{CanDoAside}
 use Rattle.flow_core.specs.declared.engine.Core.TheInside.{Inside}
-use Rattle.flow_core.specs.Fields.{run_by, IsRunning}
+use Rattle.flow_core.specs.Invariant.{run_by, IsRunning}
 use Rattle.flow_core.specs.Looks.{CanStep}
 use Rattle.flow_core.specs.Run.{Run, schema, now}
 use Rattle.flow_core.proofs.Standings.{done_cannot, taken_comes_next, left_comes_next}
 use Rattle.flow_core.proofs.engine.Core.is_done.Goals as goal
 
--- a leaf of the journal can neither be taken nor be done
-no_step : (i : Inside) → IsRunning i → (leaf : ℕ) → leaf ∈ (now (run_by i)).journal → ¬ (CanStep (run_by i) leaf)
-no_step i k leaf done (inl can) =
-    done_cannot i.workflow i.limit i.history.items i.residual i.claims i.world i.committed k.kept leaf done
-    (taken_comes_next i.workflow i.limit i.history.items i.residual i.claims i.world i.committed k.kept leaf can)
-no_step i k leaf done (inr can) =
-    done_cannot i.workflow i.limit i.history.items i.residual i.claims i.world i.committed k.kept leaf done
-    (left_comes_next i.workflow i.limit i.history.items i.residual i.claims i.world i.committed k.kept leaf can.0)
-
+-- a leaf of the journal can neither be done nor be taken
 not_left : (i : Inside) → IsRunning i → (leaf : ℕ) → leaf ∈ (now (run_by i)).journal → ¬ (CanDoAside (schema (run_by i)) (now (run_by i)) leaf)
 not_left i k leaf done aside =
     done_cannot i.workflow i.limit i.history.items i.residual i.claims i.world i.committed k.kept leaf done
     (left_comes_next i.workflow i.limit i.history.items i.residual i.claims i.world i.committed k.kept leaf aside)
+
+no_step : (i : Inside) → IsRunning i → (leaf : ℕ) → leaf ∈ (now (run_by i)).journal → ¬ (CanStep (run_by i) leaf)
+no_step i k leaf done (inl can) =
+    done_cannot i.workflow i.limit i.history.items i.residual i.claims i.world i.committed k.kept leaf done
+    (taken_comes_next i.workflow i.limit i.history.items i.residual i.claims i.world i.committed k.kept leaf can)
+no_step i k leaf done (inr can) = not_left i k leaf done can.0
 
 -- what the residual tells of its journal, it tells of the run's
 done_told : (i : Inside) → IsRunning i → (leaf : ℕ) (told : Bool) → IsTrue told ↔ (leaf ∈ i.residual.journal) →

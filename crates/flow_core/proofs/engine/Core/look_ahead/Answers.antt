@@ -3,7 +3,7 @@ use Rattle.leaf_rows.specs.Leaves.{has_leaf}
 use Rattle.flow_model.specs.Run.{RunState, state_of}
 use Rattle.flow_workflow.specs.Definition.{schema_of}
 use Rattle.flow_residual.specs.Remaining.{Remaining, IsOf}
-use Rattle.flow_core.specs.Kept.{IsKept}
+use Rattle.flow_core.specs.Invariant.{IsKept}
 use Rattle.flow_core.proofs.Tests.{told_beside, told_first}
 use Rattle.flow_core.proofs.engine.Core.look_ahead.Goals as goal
 
@@ -18,9 +18,9 @@ invariant_of-self c =
       room = c.self.invariant.room;
       small = c.self.invariant.small;
       ahead = λ looked. record {
-        all = λ leaf. told_beside i.workflow s i.claims k.claims c.look_ahead.new.self remains leaf (has_leaf c.all_beside-self-inside.result leaf) c.leaves.result.now c.leaves.ensures
-            (λ w t of. c.all_beside-self-inside.ensures w t of leaf);
-        one = λ leaf. told_first i.workflow s i.claims k.claims c.look_ahead.new.self remains leaf (has_leaf c.all_first-self-inside.result leaf) c.leaves-then-not-self.result.now c.leaves-then-not-self.ensures
-            (λ w t of. c.all_first-self-inside.ensures w t of leaf);
+        all = λ leaf. told_beside i.workflow s i.claims k.claims c.look_ahead.new.self remains leaf (has_leaf c.all_that_follow-self-inside.result leaf) c.leaves.result.now c.leaves.ensures
+            (λ w t of. c.all_that_follow-self-inside.ensures w t of leaf);
+        one = λ leaf. told_first i.workflow s i.claims k.claims c.look_ahead.new.self remains leaf (has_leaf c.all_that_follow_first-self-inside.result leaf) c.leaves-then-not-self.result.now c.leaves-then-not-self.ensures
+            (λ w t of. c.all_that_follow_first-self-inside.ensures w t of leaf);
       };
     }

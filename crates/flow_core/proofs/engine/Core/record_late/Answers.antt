@@ -1,13 +1,14 @@
-use Rattle.std.proofs.Common.{◌≡◌, ◌<◌, ◌≤◌, false, List, length, subst, subst₂, sym, true≢false}
-use Rattle.flow_model.specs.declared.history.Entry.{Entry}
+use Rattle.std.proofs.Common.{subst, sym, refl}
+use Rattle.flow_model.specs.declared.history.Step.TheVariants.{Late}
 use Rattle.flow_model.specs.Run.{RunState, state_of, IsLapsed}
 use Rattle.flow_workflow.specs.Definition.{schema_of}
 use Rattle.flow_claims.specs.Claimed.{Claimed}
-use Rattle.flow_core.specs.Run.{Run, now, IsUncommitted, HasEntryLeft}
-use Rattle.flow_core.specs.Kept.{IsKept}
-use Rattle.flow_core.proofs.Steps.{kept_late}
+use Rattle.flow_core.specs.Run.{Run, now}
+use Rattle.flow_core.specs.Invariant.{IsKept}
+use Rattle.flow_core.proofs.Steps.{longer, kept_late}
 use Rattle.flow_core.proofs.Tests.{unanswered_there}
 use Rattle.flow_core.proofs.Standings.{unanswered_lapsed}
+use Rattle.flow_core.proofs.Entries.{inside, entered}
 use Rattle.flow_core.proofs.engine.Core.record_late.Goals as goal
 
 pub answer-requires : goal.answer-requires
@@ -21,15 +22,6 @@ answer-requires c =
 pub invariant_of-self : goal.invariant_of-self
 invariant_of-self c =
     let i = c.self.inside in
-    let k = c.self.invariant.kept in
-    let s : RunState = state_of (schema_of i.workflow) i.history.items in
-    let going : s.committed ≡ false = subst IsUncommitted (sym c.self.view_is) c.requires.open in
-    let room : length i.history.items < i.limit = subst HasEntryLeft (sym c.self.view_is) c.requires.steps in
-    let lapsed : IsLapsed s c.args.claim = subst (λ (r : Run). IsLapsed (now r) c.args.claim) (sym c.self.view_is) c.requires.lapsed in
-    record {
-      kept = subst₂ (λ (h : List Entry) (claims : Claimed). IsKept i.workflow i.limit h i.residual claims i.world i.committed) (sym c.push_reserved.ensures.items) (sym c.answer.ensures)
-          (kept_late i.workflow i.limit i.history.items i.residual i.claims i.world i.committed k going room c.args.by c.args.claim lapsed);
-      room = subst (λ n. i.limit ≤ n) (sym c.push_reserved.ensures.capacity) c.self.invariant.room;
-      small = c.self.invariant.small;
-      ahead = λ looked. absurd (true≢false (sym looked));
-    }
+    entered c.self.inside c.self.invariant c.args.self.now c.self.view_is _ c.args.by (Late c.args.claim) refl refl refl c.push_reserved.ensures.items c.push_reserved.ensures.capacity c.requires.open c.requires.steps (λ going room.
+    subst (λ (claims : Claimed). IsKept i.workflow i.limit (longer i.history.items c.args.by (Late c.args.claim)) i.residual claims i.world i.committed) (sym c.answer.ensures)
+    (kept_late i.workflow i.limit i.history.items i.residual i.claims i.world i.committed c.self.invariant.kept going room c.args.by c.args.claim (inside c.self.inside c.self.invariant c.args.self.now c.self.view_is (λ r. IsLapsed (now r) c.args.claim) c.requires.lapsed)))

@@ -1,17 +1,10 @@
-use Rattle.std.proofs.Common.{◌≡◌, ◌↔◌, IsTrue, length, Some, slice_get, eqb-true, eq-eqb, nat_eq, sym, ◌∙◌, subst}
-use Rattle.flow_model.specs.Ready.{IsReadyRun}
-use Rattle.flow_residual.specs.Remaining.{Remaining}
-use Rattle.flow_residual.specs.Fronts.{IsFront}
-use Rattle.flow_residual.proofs.FrontLemmas.{ready_whole, front_read}
+use Rattle.std.proofs.Common.{length, eqb-true, eq-eqb, sym, ap, ◌∙◌}
+use Rattle.flow_residual.proofs.FrontLemmas.{ready_whole}
 use Rattle.flow_residual.proofs.residual.Residual.follows.Goals as goal
 
 pub returns : goal.returns
 returns c o at =
-    let i = c.self.inside in
-    let kept = c.self.invariant.kept in
-    let there = subst (λ (r : Remaining). slice_get r.options c.args.place ≡ Some o) (sym c.self.view_is) at in
-    let front : IsFront o i.journal.items c.index.result.now = front_read kept.fronts_are c.args.place o c.index.result.now there c.index.ensures in
-    let whole = ready_whole o i.journal.items c.index.result.now front in
-    let len : c.len.result ≡ length i.journal.items = c.len.ensures ∙ i.journal.ok.0 in
-    subst (λ (r : Remaining). IsTrue (nat_eq c.index.result.now c.len.result) ↔ IsReadyRun o.resolution o.order r.journal) c.self.view_is
-    (λ yes. whole.0 (eqb-true c.index.result.now c.len.result yes ∙ len), λ ready. eq-eqb c.index.result.now c.len.result (whole.1 ready ∙ sym len))
+    let front = c.track.result.now.front in
+    let whole = ready_whole o c.args.self.now.journal front (c.track.ensures o at).front in
+    let len = ap length c.journal.ensures.leaves in
+    (λ told. whole.0 (eqb-true front (length c.journal.result.now) told ∙ len), λ ready. eq-eqb front (length c.journal.result.now) (whole.1 ready ∙ sym len))

@@ -1,10 +1,10 @@
-use Rattle.flow_residual.proofs.OptionLemmas.{option_at}
+use Rattle.flow_model.proofs.Lists.{mem-slice_get}
 use Rattle.flow_residual.proofs.residual.Residual.is_live.Goals as goal
 
 pub returns-then-follows : goal.returns-then-follows
 returns-then-follows c o at = (
   λ yes. record {
-    among = option_at c.args.self.now.options c.args.place o at;
+    among = mem-slice_get c.args.self.now.options c.args.place o at;
     unbanned = (c.is_unbanned.ensures o at).0 yes;
     journal_ready = (c.follows.ensures o at).0 c.if-follows.true;
   },

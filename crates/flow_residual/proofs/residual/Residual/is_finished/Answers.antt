@@ -1,0 +1,17 @@
+use Rattle.std.proofs.Common.{◌≡◌, sym, subst, ◌∙◌, IsTrue, ◌↔◌}
+use Rattle.flow_model.specs.Resolution.{ChoiceOption}
+use Rattle.flow_sample.specs.Plans.{option_of}
+use Rattle.flow_residual.specs.Possible.{IsFinished}
+use Rattle.flow_residual.proofs.residual.Residual.is_finished.Goals as goal
+
+pub returns-then-follows : goal.returns-then-follows
+returns-then-follows c o at =
+    let same : option_of c.plan.result.now ≡ o = (let e = sym c.plan.ensures.at ∙ at in cc) in
+    let ready = (c.follows.ensures (option_of c.plan.result.now) c.plan.ensures.at).0 c.if-follows.true in
+    subst (λ (q : ChoiceOption). IsTrue c.complete.result ↔ IsFinished c.args.self.now q) same (c.complete.ensures.of_run c.args.self.now.journal ready c.done-done.ensures.same)
+
+pub returns-else-follows : goal.returns-else-follows
+returns-else-follows c o at = (
+  λ wrong. absurd (cc),
+  λ run. let follows = (c.follows.ensures o at).1 run.0 in let not = c.if-follows.false in absurd (cc),
+)

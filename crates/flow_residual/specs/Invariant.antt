@@ -1,0 +1,37 @@
+-- What a residual keeps.
+use Rattle.std.specs.Prelude.{◌≡◌, ◌≤◌, ◌<◌, ◌↔◌, ℕ, IsTrue, List, length, map}
+use Rattle.std.specs.Vec.{vec_capacity}
+use Rattle.flow_model.specs.Lists.{◌∈◌, Each, AreDistinct}
+use Rattle.flow_plan.specs.Progress.{IsDone, bound_of}
+use Rattle.flow_excise.specs.Compilation.{options_of}
+use Rattle.flow_residual.specs.declared.residual.Residual.TheInside.{Inside}
+use Rattle.flow_residual.specs.Remaining.{Remaining}
+use Rattle.flow_residual.specs.View.{remaining, pairs_of_bans}
+use Rattle.flow_residual.specs.Options.{EachHas, HasSmallLeaves}
+use Rattle.flow_residual.specs.Tracks.{IsNextRow, IsTrack}
+
+-- the leaves that are banned
+abbrev pub banned : List (ℕ × ℕ) → List ℕ
+banned bans = map (λ ban. ban.1) bans
+
+-- numbers with a place in a row, none of them twice
+pub record AreFew (list : List ℕ) : Type 0 where
+  pub small : Each (λ n. n < 1024) list
+  pub distinct : AreDistinct list
+
+pub record IsKept (r : Remaining) : Type 0 where
+  pub fits : Each HasSmallLeaves r.options
+  pub done : AreFew r.journal
+  pub bans_few : AreFew (banned r.bans)
+  pub apart : Each (λ n. ¬ (n ∈ r.journal)) (banned r.bans)
+
+-- the tracks and fresh rows are those of the plans, the done leaves are those of the journal, and there is room for each leaf in the journal and among the bans
+pub record IsRoomy (r : Inside) : Type 0 where
+  pub kept : IsKept (remaining r.plans.items r.journal.items r.bans.items)
+  pub tracks : EachHas (IsTrack r.journal.items (pairs_of_bans r.bans.items)) (options_of r.plans.items) r.tracks.items
+  pub rows_one_each : length r.rows.items ≡ length (options_of r.plans.items)
+  pub rows_are : IsTrue r.fresh → EachHas (IsNextRow r.journal.items) (options_of r.plans.items) r.rows.items
+  pub done_bound : bound_of r.done ≡ 1024
+  pub done_are : (n : ℕ) → IsDone r.done n ↔ (n ∈ r.journal.items)
+  pub journal_room : 1024 ≤ vec_capacity r.journal
+  pub bans_room : 1024 ≤ vec_capacity r.bans
