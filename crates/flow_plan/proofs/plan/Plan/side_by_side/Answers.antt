@@ -1,10 +1,10 @@
-use Rattle.std.proofs.Common.{ℕ, List, ◌∷◌, inl, inr, ⊎_elim, sym, ◌∙◌, eq-eqb, eqb-true, lit<}
+use Rattle.std.proofs.Common.{ℕ, List, ◌∷◌, inl, inr, ⊎_elim, sym, ◌∙◌, eq-eqb, eqb-true}
 use Rattle.flow_model.specs.Lists.{◌∈◌, Each, AreDistinct}
 use Rattle.flow_plan.specs.Progress.{IsDone}
 use Rattle.flow_plan.specs.Orders.{MayComeNext}
 use Rattle.flow_plan.specs.Rows.{IsRowOf}
 use Rattle.flow_plan.proofs.RowLemmas.{either_true, first_true, second_true}
-use Rattle.flow_plan.proofs.Following.{next_small, all_small, every_order, by_two}
+use Rattle.flow_plan.proofs.Following.{every_order, by_two}
 use Rattle.flow_plan.proofs.Together.{distinct_by_two}
 use Rattle.flow_plan.proofs.plan.Plan.side_by_side.Goals as goal
 use Rattle.flow_plan.proofs.plan.Plan.side_by_side.Goals.{then-not-ready-via-then-not-ready, then-not-ready-via-else-not-ready+then-not-each_ready}
@@ -19,21 +19,12 @@ returns-then-not-ready c = (
       ],
 )
 
-pub distinct-requires : goal.distinct-requires
-distinct-requires c = all_small c.args.self.now c.args.done.now c.args.claims.now c.requires (c.each_ready.ensures.0 c.if-not-each_ready.false)
-
 pub returns-in_default : goal.returns-in_default
 returns-in_default c = (
   λ wrong. absurd (cc),
   λ all. absurd (c.in_default.ensures.none
       (distinct_by_two c.args.self.now (IsDone c.args.done.now) (c.args.leaf ∷ c.args.claims.now) (by_two c.args.self.now c.args.done.now (c.args.leaf ∷ c.args.claims.now) all).1).1),
 )
-
-pub has-requires : goal.has-requires
-has-requires c = (lit< tt, next_small c.args.self.now c.args.done.now c.args.leaf c.requires (c.ready.ensures.0 c.if-not-ready.false))
-
-pub with-requires : goal.with-requires
-with-requires c = next_small c.args.self.now c.args.done.now c.args.leaf c.requires (c.ready.ensures.0 c.if-not-ready.false)
 
 pub returns-then-not-has : goal.returns-then-not-has
 returns-then-not-has c =
