@@ -4,7 +4,7 @@ use Rattle.std.proofs.lemmas.Bool.{cases_lt, ne_eqb}
 use Rattle.std.proofs.lemmas.List.{get_or_past, get_or_default, length-replicate}
 use Rattle.std.proofs.lemmas.List.FromFn.{get_or-map-range_with_len, length-map-range_with_len}
 use Rattle.leaf_rows.specs.Leaves.{has_bit}
-use Rattle.leaf_rows.proofs.Rows.{has_bit-empty, has_bit-insert, has_bit-remove, has_bit-shift}
+use Rattle.leaf_rows.proofs.Rows.{has_bit_empty, has_bit_insert, has_bit_remove, has_bit_shift}
 use Rattle.flow_facts.specs.Held.{is_held, flags_of}
 
 pub length-flags_of : (count : ℕ) (words : List ℕ) → length (flags_of count words) ≡ count
@@ -20,7 +20,7 @@ is_held-past count words n past = get_or_past (flags_of count words) n false (om
 
 pub is_held-empty : (count size n : ℕ) → is_held (flags_of count (replicate size 0)) n ≡ false
 is_held-empty count size n = ⊎_elim
-    (λ within. is_held-within count (replicate size 0) n within ∙ ap (λ w. has_bit w (replicate size 0) n) (length-replicate size 0) ∙ has_bit-empty size n)
+    (λ within. is_held-within count (replicate size 0) n within ∙ ap (λ w. has_bit w (replicate size 0) n) (length-replicate size 0) ∙ has_bit_empty size n)
     (λ past. is_held-past count (replicate size 0) n past)
     (cases_lt n count)
 
@@ -56,7 +56,7 @@ is_held-insert count words flags fact word n are room within is =
     let at_zero : word ≡ get_or words (fact / 64) 0 = is ∙ get_or_default words (fact / 64) word 0 (omega arith) in
     is_held-changed count words _ flags fact n true are (length-set words (fact / 64) _) within
     (λ _. ap (λ v. has_bit (length words) (set words (fact / 64) (bit_or v (1 * 2 ^ (fact % 64) % 2 ^ 64))) n) at_zero
-    ∙ has_bit-insert (length words) words fact n refl (omega arith) ∙ or_chosen (n == fact) _)
+    ∙ has_bit_insert (length words) words fact n refl (omega arith) ∙ or_chosen (n == fact) _)
 
 -- after `delete`
 pub is_held-delete : (count : ℕ) (words : List ℕ) (flags : List Bool) (fact word n : ℕ)
@@ -68,7 +68,7 @@ is_held-delete count words flags fact word n are room within is =
     let at_zero : word ≡ get_or words (fact / 64) 0 = is ∙ get_or_default words (fact / 64) word 0 (omega arith) in
     is_held-changed count words _ flags fact n false are (length-set words (fact / 64) _) within
     (λ _. ap (λ v. has_bit (length words) (set words (fact / 64) (bit_and v (2 ^ 64 - 1 - 1 * 2 ^ (fact % 64) % 2 ^ 64))) n) at_zero
-    ∙ has_bit-remove (length words) words fact n refl (omega arith) ∙ and_chosen (n == fact) _)
+    ∙ has_bit_remove (length words) words fact n refl (omega arith) ∙ and_chosen (n == fact) _)
 
 -- what `has` computes
 pub is_held-shift : (count : ℕ) (words : List ℕ) (flags : List Bool) (fact word : ℕ)
@@ -77,5 +77,5 @@ pub is_held-shift : (count : ℕ) (words : List ℕ) (flags : List Bool) (fact w
 is_held-shift count words flags fact word are room within is =
     let as_many : length flags ≡ count = ap length (sym are) ∙ length-flags_of count words in
     let at_zero : word ≡ get_or words (fact / 64) 0 = is ∙ get_or_default words (fact / 64) word 0 (omega arith) in
-    ap (λ v. bit_and (v / 2 ^ (fact % 64)) 1 == 1) at_zero ∙ has_bit-shift (length words) words fact (omega arith)
+    ap (λ v. bit_and (v / 2 ^ (fact % 64)) 1 == 1) at_zero ∙ has_bit_shift (length words) words fact (omega arith)
     ∙ sym (is_held-within count words fact (omega arith)) ∙ ap (λ f. is_held f fact) are
