@@ -51,7 +51,7 @@ impl Sweep {
             place: 0,
             sets,
             ahead: 0,
-            forks: Vec::new(alloc),
+            forks: Vec::with_capacity(alloc, leaves)?,
             rows: Vec::with_capacity(alloc, leaves)?,
         })
     }
