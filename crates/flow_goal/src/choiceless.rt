@@ -35,6 +35,7 @@ impl Model for Choiceless {
 
 impl Choiceless {
     /// The goal with those marks and leaves.
+    #[tactic(auto, using(crate::proofs::WrittenLemmas::read_resolved, crate::proofs::WrittenLemmas::read_whole))]
     pub(crate) fn new(nodes: Vec<Node>, leaves: Vec<u32>) -> Choiceless
         requires written { (q : Process.Process) × IsChoiceFree q × (nodes.items ≡ nodes_of q) × (leaves.items ≡ Process.leaves q) }
         requires rising { IsStrictlyIncreasing leaves.items }

@@ -40,6 +40,7 @@ pub fn resolutions(tree: &Tree) -> u64
 
 /// Puts what each choice of a goal has on its sides behind the list, inner choices before outer ones
 /// and left ones before right ones. The answer is what `count_of` gives.
+#[tactic(auto, using(crate::proofs::Counting::product_kept, crate::proofs::Counting::some_resolution))]
 fn count_sides(goal: &Goal, list: &mut Vec<Sides>) -> Result<u64, AllocError>
     ensures count { IfOk result (λ count. count ≡ kept_count (process_of goal.now)) }
     ensures sides { OnOk result (list.new.items ≡ list.old.items ++ sides_in (process_of goal.now)) }
@@ -69,6 +70,7 @@ fn count_sides(goal: &Goal, list: &mut Vec<Sides>) -> Result<u64, AllocError>
 }
 
 /// Takes so many choices from the end of the list.
+#[tactic(auto, using(crate::proofs::Counting::took))]
 fn skip(count: usize, list: &mut Vec<Sides>)
     requires { (back : List Sides) × Ends list.old.items back × (count ≡ length back) }
     ensures { (back : List Sides) → count ≡ length back → IsTaken list.old.items back list.new.items }
@@ -186,6 +188,7 @@ fn written(
 
 /// The resolution of that number, where the sides of the goal's choices are counted. There is room for so many
 /// leaves at first.
+#[tactic(auto, using(crate::proofs::Rising::choice_free_at))]
 pub(crate) fn resolved(
     alloc: Global,
     sides: &[Sides],
@@ -239,6 +242,7 @@ impl Choices {
     }
 
     /// The leaves of the resolution of that number, from left to right, by a walk of leaves and choices alone.
+    #[tactic(auto, using(crate::proofs::Skeletons::same_count, crate::proofs::Skeletons::same_sides))]
     pub fn resolution_leaves(
         &self,
         alloc: Global,

@@ -18,6 +18,7 @@ pub(crate) enum Partner {
 }
 
 /// The first leaf of a goal that has the event.
+#[tactic(auto, using(crate::proofs::FirstPartner::found_left, crate::proofs::FirstPartner::found_right))]
 fn first_with(goal: &Goal, tree: &Tree, event: u32) -> Option<u32>
     ensures { result ≡ find (λ n. is_event event (event_at tree.now.labels n)) (leaves (process_of goal.now)) }
 {

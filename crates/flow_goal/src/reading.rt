@@ -9,6 +9,7 @@ use crate::node::Node;
 use std::alloc::{AllocError, Global};
 
 /// The leaf at that place, or nothing.
+#[tactic(auto, using(crate::proofs::WrittenLemmas::leaf_found, crate::proofs::WrittenLemmas::leaf_missing))]
 fn leaf_at(leaves: &[u32], place: usize) -> Goal
     ensures { process_of result ≡ leaf_of leaves.now place }
 {

@@ -61,6 +61,7 @@ fn number_after(goal: &Goal, next: u32, end: u32) -> Option<u32>
 }
 
 /// Whether the leaves from left to right are 0, 1, .. below the count.
+#[tactic(auto, using(crate::proofs::Numbers::stopped, crate::proofs::Numbers::failed))]
 fn is_numbered(goal: &Goal, count: u32) -> bool
     ensures { IsTrue result ↔ IsNumbered (process_of goal.now) count }
 {

@@ -1,5 +1,5 @@
 -- What may follow the done leaves, one by one and two by two.
-use Rattle.std.proofs.Common.{◌≡◌, ℕ, ◌<◌, ◌≤◌, Bool, true, false, ◌==◌, ◌||◌, ◌↔◌, IsTrue, eq-eqb, eqb-true, List, [], ◌∷◌, length, get_or, take, inl, inr, ⊎_elim, refl, sym, ◌∙◌, subst, arith}
+use Rattle.std.proofs.Common.{◌≡◌, ℕ, ◌<◌, ◌≤◌, Bool, true, false, ◌==◌, ◌||◌, ◌↔◌, IsTrue, List, [], ◌∷◌, length, get_or, take, refl, sym, ◌∙◌, subst, arith}
 use Rattle.std.proofs.lemmas.List.{take_all}
 use Rattle.flow_model.specs.Lists.{◌∈◌, Each}
 use Rattle.flow_model.specs.Ready.{DoneOr, IsReadyRun, IsCompleteRun}
@@ -13,18 +13,15 @@ use Rattle.flow_plan.specs.Planned.{Planned, pairs_of}
 use Rattle.flow_plan.specs.Progress.{is_done, IsDone, bound_of}
 use Rattle.flow_plan.specs.Orders.{Fits, MayComeNext, MayComeAfter, MayFollowInEveryOrder}
 use Rattle.flow_plan.proofs.PlaceLemmas.{read_member}
-use Rattle.flow_plan.proofs.RowLemmas.{either_true, first_true, second_true}
+use Rattle.flow_plan.proofs.RowLemmas.{one_more}
 
 -- ---- one leaf more is done
 
 pub noted_to : (old new : Progress) (leaf : ℕ) → ((n : ℕ) → is_done new n ≡ (n == leaf || is_done old n)) → (n : ℕ) → IsDone new n → DoneOr (IsDone old) (leaf ∷ []) n
-noted_to old new leaf noted n done = ⊎_elim (λ same. inr (inl (eqb-true n leaf same))) (λ h. inl h)
-    (either_true (n == leaf) (is_done old n) (sym (noted n) ∙ done))
+noted_to old new leaf noted n done = (one_more n leaf (is_done old n)).0 (sym (noted n) ∙ done)
 
 pub noted_from : (old new : Progress) (leaf : ℕ) → ((n : ℕ) → is_done new n ≡ (n == leaf || is_done old n)) → (n : ℕ) → DoneOr (IsDone old) (leaf ∷ []) n → IsDone new n
-noted_from old new leaf noted n either = noted n ∙ ⊎_elim
-    (λ h. second_true (n == leaf) (is_done old n) h)
-    (λ last. ⊎_elim (λ same. first_true (n == leaf) (is_done old n) (eq-eqb n leaf same)) (λ none. absurd none) last) either
+noted_from old new leaf noted n either = noted n ∙ (one_more n leaf (is_done old n)).1 either
 
 pub orders_after : (p : Planned) (old new : Progress) (first : ℕ) (list : List ℕ) → ((n : ℕ) → is_done new n ≡ (n == first || is_done old n)) →
     MayFollowInEveryOrder p (IsDone new) list ↔ MayFollowInEveryOrder p (DoneOr (IsDone old) (first ∷ [])) list

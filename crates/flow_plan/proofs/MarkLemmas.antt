@@ -1,5 +1,6 @@
 -- What is read from the marks of a goal.
-use Rattle.std.proofs.Common.{◌≡◌, ℕ, ◌+◌, ◌==◌, ◌||◌, Bool, true, false, IsTrue, eq-eqb, eqb-true, List, [], ◌∷◌, ◌++◌, length, MatchOption, inl, inr, ◌⊎◌, ⊎_elim, refl, sym, ap, ◌∙◌, subst, append-nil, reverse, arith}
+use Rattle.std.proofs.lemmas.Bool.{or_cases, or_left, or_right}
+use Rattle.std.proofs.Common.{◌≡◌, ℕ, ◌+◌, ◌||◌, Bool, true, false, IsTrue, List, [], ◌∷◌, ◌++◌, length, MatchOption, inl, inr, ◌⊎◌, ⊎_elim, refl, sym, ap, ◌∙◌, subst, append-nil, reverse, arith}
 use Rattle.leaf_rows.specs.Leaves.{has_leaf}
 use Rattle.leaf_rows.specs.declared.leaf_set.LeafSet.{LeafSet}
 use Rattle.flow_model.specs.Lists.{◌∈◌}
@@ -16,7 +17,7 @@ use Rattle.flow_plan.specs.Rows.{IsRowOf, FitsRows, AddsRows}
 use Rattle.flow_plan.specs.RowMarks.{IsWith, IsJoined, IsUnion, MakesRows, MakesRowsBy, Completes}
 use Rattle.flow_plan.specs.Spans.{AddsSpans}
 use Rattle.flow_plan.specs.SpanMarks.{MakesSpans, Outlines}
-use Rattle.flow_plan.proofs.RowLemmas.{either_true, first_true, second_true, fits_first, fits_second, adds_sequence, adds_beside, first_rows}
+use Rattle.flow_plan.proofs.RowLemmas.{fits_first, fits_second, adds_sequence, adds_beside, first_rows, one_more}
 use Rattle.flow_plan.proofs.SpanLemmas.{spans_of_none, spans_of_both, spans_of_isolated}
 
 -- ---- rows
@@ -36,11 +37,7 @@ covering false true h = h refl
 covering false false h = refl
 
 behind_leaf : (n : ℕ) (ahead more : LeafSet 16) → IsWith n ahead more → IsBehind (Task n) ahead more
-behind_leaf n ahead more is x = (
-  λ has. ⊎_elim (λ same. inr (inl (eqb-true x n same))) (λ h. inl h) (either_true (x == n) (has_leaf ahead x) (sym (is x) ∙ has)),
-  λ either. is x ∙ ⊎_elim (λ h. second_true (x == n) (has_leaf ahead x) h)
-      (λ member. ⊎_elim (λ same. first_true (x == n) (has_leaf ahead x) (eq-eqb x n same)) (λ none. absurd none) member) either,
-)
+behind_leaf n ahead more is x = let one = one_more x n (has_leaf ahead x) in (λ has. one.0 (sym (is x) ∙ has), λ either. is x ∙ one.1 either)
 
 behind_sequence : (a b : Process) (ahead middle more : LeafSet 16) → IsBehind a ahead middle → IsBehind b middle more → IsBehind (Sequence a b) ahead more
 behind_sequence a b ahead middle more first second x = (
@@ -55,10 +52,10 @@ behind_parallel a b ahead one two all first second is x = (
   λ has. ⊎_elim
       (λ h. ⊎_elim (λ before. inl before) (λ m. inr (mem_append_right x (leaves a) (leaves b) m)) ((second x).0 h))
       (λ h. ⊎_elim (λ before. inl before) (λ m. inr (mem_append_left x (leaves a) (leaves b) m)) ((first x).0 h))
-      (either_true (has_leaf two x) (has_leaf one x) (sym (is x) ∙ has)),
-  λ either. is x ∙ ⊎_elim (λ h. first_true (has_leaf two x) (has_leaf one x) ((second x).1 (inl h)))
-      (λ m. ⊎_elim (λ in_a. second_true (has_leaf two x) (has_leaf one x) ((first x).1 (inr in_a)))
-      (λ in_b. first_true (has_leaf two x) (has_leaf one x) ((second x).1 (inr in_b))) (mem-append x (leaves a) (leaves b) m)) either,
+      (or_cases (has_leaf two x) (has_leaf one x) (sym (is x) ∙ has)),
+  λ either. is x ∙ ⊎_elim (λ h. or_left (has_leaf two x) (has_leaf one x) ((second x).1 (inl h)))
+      (λ m. ⊎_elim (λ in_a. or_right (has_leaf two x) (has_leaf one x) ((first x).1 (inr in_a)))
+      (λ in_b. or_left (has_leaf two x) (has_leaf one x) ((second x).1 (inr in_b))) (mem-append x (leaves a) (leaves b) m)) either,
 )
 
 joined_is : (a b : Process) (ahead one two all : LeafSet 16) → IsBehind a ahead one → IsBehind b ahead two → IsJoined ahead one two all → IsUnion two one all

@@ -1,8 +1,8 @@
 -- What the rows of isolated parts say.
-use Rattle.std.proofs.Common.{◌≡◌, ◌≢◌, ℕ, ◌+◌, ◌-◌, ◌<◌, ◌≤◌, zero, suc, Bool, true, false, not, ◌==◌, ◌&&◌, ◌||◌, ◌↔◌, IsTrue, eq-eqb, eqb-true, List, [], ◌∷◌, ◌++◌, length, take, drop, get_or, inl, inr, ◌↔◌, ⊎_elim, refl, sym, ◌∙◌, ap, subst, arith, append-nil, min}
+use Rattle.std.proofs.Common.{◌≡◌, ◌≢◌, ℕ, ◌+◌, ◌-◌, ◌<◌, ◌≤◌, zero, suc, Bool, true, false, not, ◌==◌, ◌&&◌, ◌||◌, ◌↔◌, IsTrue, List, [], ◌∷◌, ◌++◌, length, take, drop, get_or, inl, inr, ◌↔◌, ⊎_elim, refl, sym, ◌∙◌, ap, subst, arith, append-nil, min}
 use Rattle.std.proofs.lemmas.List.{take_more, length-take, length-drop, get_or-take, get_or-drop}
 use Rattle.std.proofs.Math.Seq.{take-append_seam}
-use Rattle.std.proofs.lemmas.Bool.{cases_lt, cases_eq}
+use Rattle.std.proofs.lemmas.Bool.{cases_lt, cases_eq, or_cases, or_left, or_right}
 use Rattle.std.specs.List.Sorted.{IsStrictlyIncreasing}
 use Rattle.leaf_rows.specs.Leaves.{has_leaf}
 use Rattle.leaf_rows.specs.declared.leaf_set.LeafSet.{LeafSet}
@@ -19,7 +19,7 @@ use Rattle.flow_plan.specs.Parts.{IsOneAtMost, at_span, IsPartFor, ArePartsFor, 
 use Rattle.flow_plan.proofs.PlaceLemmas.{place_of_member, read_member}
 use Rattle.std.proofs.lemmas.List.Kept.{AllPairs-from_increasing}
 use Rattle.flow_goal.proofs.WrittenLemmas.{StandAt, first_stand, second_stand}
-use Rattle.flow_plan.proofs.RowLemmas.{row_same, either_true, first_true, second_true}
+use Rattle.flow_plan.proofs.RowLemmas.{row_same, one_more}
 
 pub has_at_is : (rows : List (LeafSet 16)) (k : ℕ) (row d : LeafSet 16) → k < length rows → row ≡ get_or rows k d → (x : ℕ) → has_at rows k x ≡ has_leaf row x
 has_at_is [] k row d within is x = absurd (omega arith)
@@ -33,12 +33,10 @@ pub leaf_more : (ns : List ℕ) (i : ℕ) (now new : LeafSet 16) → i < length 
 leaf_more ns i now new within is noted =
     let n : ℕ = get_or ns i 0 in
     subst (λ (l : List ℕ). IsRowOf (λ x. x ∈ l) new) (sym (take_more ns i 0 within))
-    (λ x. (
-      λ has. ⊎_elim (λ same. mem_append_right x (take i ns) (n ∷ []) (inl (eqb-true x n same))) (λ h. mem_append_left x (take i ns) (n ∷ []) ((is x).0 h))
-          (either_true (x == n) (has_leaf now x) (sym (noted x) ∙ has)),
-      λ member. noted x ∙ ⊎_elim (λ h. second_true (x == n) (has_leaf now x) ((is x).1 h))
-          (λ last. ⊎_elim (λ same. first_true (x == n) (has_leaf now x) (eq-eqb x n same)) (λ none. absurd none) last)
-          (mem-append x (take i ns) (n ∷ []) member),
+    (λ x.
+    let one = one_more x n (has_leaf now x) in (
+      λ has. ⊎_elim (λ h. mem_append_left x (take i ns) (n ∷ []) ((is x).0 h)) (λ last. mem_append_right x (take i ns) (n ∷ []) last) (one.0 (sym (noted x) ∙ has)),
+      λ member. noted x ∙ one.1 (⊎_elim (λ h. inl ((is x).1 h)) (λ last. inr last) (mem-append x (take i ns) (n ∷ []) member)),
     ))
 
 pub row_more : (rows : List (LeafSet 16)) (i : ℕ) (now new row : LeafSet 16) → i < length rows → row ≡ get_or rows i row → IsRowOf (IsInSome (take i rows)) now →
@@ -49,9 +47,9 @@ row_more rows i now new row within at is union =
     (λ x. (
       λ has. ⊎_elim (λ h. let found = (is x).0 h in (found.0, mem_append_left found.0 (take i rows) (row ∷ []) found.1, found.2))
           (λ h. (row, mem_append_right row (take i rows) (row ∷ []) (inl refl), h))
-          (either_true (has_leaf now x) (has_leaf row x) (sym (union x) ∙ has)),
-      λ found. union x ∙ ⊎_elim (λ h. first_true (has_leaf now x) (has_leaf row x) ((is x).1 (found.0, h, found.2)))
-          (λ last. ⊎_elim (λ (equal : found.0 ≡ row). second_true (has_leaf now x) (has_leaf row x) (subst (λ (r : LeafSet 16). IsTrue (has_leaf r x)) equal found.2)) (λ none. absurd none) last)
+          (or_cases (has_leaf now x) (has_leaf row x) (sym (union x) ∙ has)),
+      λ found. union x ∙ ⊎_elim (λ h. or_left (has_leaf now x) (has_leaf row x) ((is x).1 (found.0, h, found.2)))
+          (λ last. ⊎_elim (λ (equal : found.0 ≡ row). or_right (has_leaf now x) (has_leaf row x) (subst (λ (r : LeafSet 16). IsTrue (has_leaf r x)) equal found.2)) (λ none. absurd none) last)
           (mem-append found.0 (take i rows) (row ∷ []) found.1),
     ))
 

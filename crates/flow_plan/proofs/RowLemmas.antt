@@ -1,5 +1,6 @@
 -- What rows of bits say.
-use Rattle.std.proofs.Common.{◌≡◌, ◌≢◌, ℕ, ◌+◌, ◌<◌, zero, suc, Bool, true, false, ◌==◌, ◌||◌, IsTrue, eq-eqb, eqb-true, take, get_or, List, [], ◌∷◌, ◌++◌, length, set, Some, slice_get, inl, inr, ◌⊎◌, ◌↔◌, ⊎_elim, refl, sym, ◌∙◌, ap, subst, append_assoc, arith}
+use Rattle.std.proofs.lemmas.Bool.{or_cases, or_left, or_right}
+use Rattle.std.proofs.Common.{◌≡◌, ◌≢◌, ℕ, ◌+◌, ◌<◌, zero, suc, Bool, false, ◌==◌, ◌||◌, IsTrue, eq-eqb, eqb-true, take, get_or, List, [], ◌∷◌, ◌++◌, length, set, Some, slice_get, inl, inr, ◌⊎◌, ◌↔◌, ⊎_elim, refl, sym, ◌∙◌, ap, subst, append_assoc, arith}
 use Rattle.std.proofs.lemmas.List.{take_more, map-append}
 use Rattle.std.specs.List.Sorted.{IsStrictlyIncreasing}
 use Rattle.leaf_rows.specs.Leaves.{has_leaf}
@@ -16,17 +17,12 @@ use Rattle.flow_plan.specs.Rows.{IsRowOf, AreRowsOf, has_at, FitsRows, AddsRows}
 use Rattle.flow_plan.proofs.PlaceLemmas.{distinct_of_rising}
 use Rattle.flow_model.proofs.Lists.{mem-slice_get}
 
-pub either_true : (a b : Bool) → IsTrue (a || b) → IsTrue a ⊎ IsTrue b
-either_true true b h = inl refl
-either_true false b h = inr h
-
-pub first_true : (a b : Bool) → IsTrue a → IsTrue (a || b)
-first_true true b h = refl
-first_true false b h = absurd (cc)
-
-pub second_true : (a b : Bool) → IsTrue b → IsTrue (a || b)
-second_true true b h = refl
-second_true false b h = h
+-- a test of one number more
+pub one_more : (x n : ℕ) (b : Bool) → IsTrue (x == n || b) ↔ (IsTrue b ⊎ (x ∈ (n ∷ [])))
+one_more x n b = (
+  λ h. ⊎_elim (λ same. inr (inl (eqb-true x n same))) (λ d. inl d) (or_cases (x == n) b h),
+  λ either. ⊎_elim (λ d. or_right (x == n) b d) (λ last. ⊎_elim (λ same. or_left (x == n) b (eq-eqb x n same)) (λ none. absurd none) last) either,
+)
 
 -- ---- one row
 
@@ -200,9 +196,9 @@ rows_with_sender q pairs s r ns rows k row new at distinct are is noted =
     rows_set (DirectlyBefore q pairs) (DirectlyBefore q (pairs ++ (s, r) ∷ [])) ns rows k r new at distinct are
     (λ x. (
       λ has. ⊎_elim (λ same. direct_last q pairs s r x r (eqb-true x s same) refl) (λ h. direct_still q pairs s r x r ((old x).0 h))
-          (either_true (x == s) (has_leaf row x) (sym (noted x) ∙ has)),
-      λ direct. noted x ∙ ⊎_elim (λ h. second_true (x == s) (has_leaf row x) ((old x).1 h))
-          (λ (same : (x ≡ s) × (r ≡ r)). first_true (x == s) (has_leaf row x) (eq-eqb x s same.0))
+          (or_cases (x == s) (has_leaf row x) (sym (noted x) ∙ has)),
+      λ direct. noted x ∙ ⊎_elim (λ h. or_right (x == s) (has_leaf row x) ((old x).1 h))
+          (λ (same : (x ≡ s) × (r ≡ r)). or_left (x == s) (has_leaf row x) (eq-eqb x s same.0))
           (direct_more q pairs s r x r direct),
     ))
     (λ m other x direct. direct_still q pairs s r x m direct)

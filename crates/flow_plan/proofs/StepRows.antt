@@ -1,7 +1,7 @@
 -- What may come next in a plan, for all its leaves at once.
 use Rattle.std.proofs.Common.{◌≡◌, ℕ, ◌+◌, ◌<◌, zero, suc, Bool, true, false, not, ◌==◌, ◌&&◌, ◌||◌, ◌↔◌, IsTrue, eq-eqb, eqb-true, List, [], ◌∷◌, ◌++◌, length, take, get_or, Some, slice_get, inl, inr, ◌⊎◌, ⊎_elim, refl, sym, ap, ◌∙◌, subst, arith}
 use Rattle.std.proofs.lemmas.List.{take_more}
-use Rattle.std.proofs.lemmas.Bool.{cases_lt}
+use Rattle.std.proofs.lemmas.Bool.{cases_lt, or_cases, or_left, or_right}
 use Rattle.leaf_rows.specs.Leaves.{has_leaf}
 use Rattle.leaf_rows.specs.declared.leaf_set.LeafSet.{LeafSet}
 use Rattle.flow_model.specs.Lists.{◌∈◌, Each, AreDistinct}
@@ -19,7 +19,7 @@ use Rattle.flow_plan.specs.Parts.{PartAllows, KeepsBeside, KeepsAfter}
 use Rattle.flow_plan.specs.Fields.{AreFieldsOf}
 use Rattle.flow_plan.proofs.PlaceLemmas.{place_of_member}
 use Rattle.std.proofs.lemmas.Option.{slice_get-get_or}
-use Rattle.flow_plan.proofs.RowLemmas.{either_true, first_true, second_true}
+use Rattle.flow_plan.proofs.RowLemmas.{one_more}
 use Rattle.flow_plan.proofs.Readiness.{free_by_row, row_of_free, free_of_ready, ready_of_free, parts_of_ready}
 use Rattle.flow_plan.proofs.Following.{every_order, by_two}
 use Rattle.flow_plan.proofs.Together.{together_beside, distinct_by_two, after_keeps, keeps_after}
@@ -70,10 +70,10 @@ module _ (ns : List ℕ) (rows : List (LeafSet 16)) (D : ℕ → Type 0) (i : �
         (λ same. let is : x ≡ n = eqb-true x n same in
         (i, (let b : i < i + 1 = omega arith in b), here ∙ ap Some (sym is), (λ done. fresh (subst D is done)), ready))
         (λ old. later x ((before x).0 old))
-        (either_true (x == n) (has_leaf now x) (sym (noted x) ∙ has)),
+        (or_cases (x == n) (has_leaf now x) (sym (noted x) ∙ has)),
     λ found. noted x ∙ ⊎_elim
-        (λ old. second_true (x == n) (has_leaf now x) ((before x).1 old))
-        (λ last. first_true (x == n) (has_leaf now x) (eq-eqb x n last.0))
+        (λ old. or_right (x == n) (has_leaf now x) ((before x).1 old))
+        (λ last. or_left (x == n) (has_leaf now x) (eq-eqb x n last.0))
         (earlier n x here found),
   )
 
@@ -206,7 +206,7 @@ module _ (p : Planned) (done : Progress) (list : List ℕ) (next claims found re
           let ready = (next_is n).0 mine.0 in
           inr (
             ready,
-            orders_at (λ x. x == n || is_done done x) (done_to n) (done_from n)
+            orders_at (λ x. x == n || is_done done x) (λ x. (one_more x n (is_done done x)).0) (λ x. (one_more x n (is_done done x)).1)
                 (after_keeps p before parts kept (is_done done) claims list n claims_are (λ m. mine.1 ((claims_are n).1 m)) distinct ready (each_next within) both.1),
           ))
           ((new_is n).0 has),
@@ -216,19 +216,12 @@ module _ (p : Planned) (done : Progress) (list : List ℕ) (next claims found re
           ⊎_elim (λ r. inr ((keep_is n).1 (
             r,
             keeps_after p before parts kept (is_done done) claims list n claims_are other distinct both.0 (each_next within)
-                (λ order is. same_run p.process (pairs_of p.tokens) (DoneOr (IsDone done) (n ∷ [])) (λ x. IsTrue (x == n || is_done done x)) order (done_from n) (done_to n) (both.1 order is)),
+                (λ order is. same_run p.process (pairs_of p.tokens) (DoneOr (IsDone done) (n ∷ [])) (λ x. IsTrue (x == n || is_done done x)) order (λ x. (one_more x n (is_done done x)).1) (λ x. (one_more x n (is_done done x)).0) (both.1 order is)),
           )))
           (λ f. inl f) (first_or_found n both.0 other))
           either),
     )
       where
-        done_to : (n x : ℕ) → IsTrue (x == n || is_done done x) → DoneOr (IsDone done) (n ∷ []) x
-        done_to n x h = ⊎_elim (λ same. inr (inl (eqb-true x n same))) (λ d. inl d) (either_true (x == n) (is_done done x) h)
-
-        done_from : (n x : ℕ) → DoneOr (IsDone done) (n ∷ []) x → IsTrue (x == n || is_done done x)
-        done_from n x either = ⊎_elim (λ d. second_true (x == n) (is_done done x) d)
-            (λ last. ⊎_elim (λ same. first_true (x == n) (is_done done x) (eq-eqb x n same)) (λ none. absurd none) last) either
-
         orders_at : {n : ℕ} (after : ℕ → Bool) → ((x : ℕ) → IsTrue (after x) → DoneOr (IsDone done) (n ∷ []) x) → ((x : ℕ) → DoneOr (IsDone done) (n ∷ []) x → IsTrue (after x)) →
             MayFollowInEveryOrder p (λ x. IsTrue (after x)) list → MayFollowInEveryOrder p (DoneOr (IsDone done) (n ∷ [])) list
         orders_at {n} after to from all order is = same_run p.process (pairs_of p.tokens) (λ x. IsTrue (after x)) (DoneOr (IsDone done) (n ∷ [])) order to from (all order is)

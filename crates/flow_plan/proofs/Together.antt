@@ -1,5 +1,5 @@
 -- Leaves that may come next, beside one another.
-use Rattle.std.proofs.Common.{◌≡◌, ◌≢◌, ◌+◌, ◌<◌, ℕ, Bool, ◌==◌, ◌||◌, eq-eqb, eqb-true, ◌↔◌, IsTrue, List, [], ◌∷◌, ◌++◌, length, take, drop, get_or, ap, inl, inr, ◌⊎◌, ⊎_elim, refl, sym, ◌∙◌, subst}
+use Rattle.std.proofs.Common.{◌≡◌, ◌≢◌, ◌+◌, ◌<◌, ℕ, Bool, ◌==◌, ◌||◌, ◌↔◌, IsTrue, List, [], ◌∷◌, ◌++◌, length, take, drop, get_or, ap, inl, inr, ◌⊎◌, ⊎_elim, refl, sym, ◌∙◌, subst}
 use Rattle.std.proofs.lemmas.Bool.{cases_Bool}
 use Rattle.std.proofs.lemmas.List.{take-append-drop, take_more, drop_more}
 use Rattle.leaf_rows.specs.Leaves.{has_leaf}
@@ -17,7 +17,7 @@ use Rattle.flow_plan.specs.Orders.{MayComeNext, MayComeAfter, MayFollowInEveryOr
 use Rattle.flow_plan.specs.Rows.{IsRowOf}
 use Rattle.flow_plan.specs.Parts.{KeepsTogether, KeepsBeside, KeepsAfter}
 use Rattle.flow_plan.specs.Fields.{AreFieldsOf}
-use Rattle.flow_plan.proofs.RowLemmas.{either_true, first_true, second_true}
+use Rattle.flow_plan.proofs.RowLemmas.{one_more}
 
 module _ (p : Planned) (before : List (LeafSet 16)) (parts : List PartRow) (kept : AreFieldsOf p before parts) (D : ℕ → Type 0) where
   -- the one may come after the other where no part has it alone
@@ -120,11 +120,10 @@ module _ (p : Planned) (before : List (LeafSet 16)) (parts : List PartRow) (kept
   Keeps row = KeepsAfter row (λ x. IsTrue (has_leaf claims x)) n
 
   to_either : (x : ℕ) → E x → DoneOr D (n ∷ []) x
-  to_either x h = ⊎_elim (λ same. inr (inl (eqb-true x n same))) (λ d. inl d) (either_true (x == n) (done x) h)
+  to_either x = (one_more x n (done x)).0
 
   from_either : (x : ℕ) → DoneOr D (n ∷ []) x → E x
-  from_either x either = ⊎_elim (λ d. second_true (x == n) (done x) d)
-      (λ last. ⊎_elim (λ same. first_true (x == n) (done x) (eq-eqb x n same)) (λ none. absurd none) last) either
+  from_either x = (one_more x n (done x)).1
 
   pub after_keeps : Each Keeps parts → MayFollowInEveryOrder p E list
   after_keeps keeps =

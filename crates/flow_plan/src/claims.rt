@@ -13,6 +13,7 @@ use crate::progress::Progress;
 use leaf_rows::LeafSet;
 
 /// The leaves as a set, where none of them stands twice.
+#[tactic(auto, using(crate::proofs::Together::twice_there))]
 pub fn distinct(list: &[u32]) -> Option<LeafSet<16>>
     requires { Each (λ n. n < 1024) list.now }
     ensures some { IfSome result (λ set. AreDistinct list.now × IsRowOf (λ x. x ∈ list.now) set) }
@@ -52,6 +53,7 @@ impl Plan {
     }
 
     /// Whether the leaves may follow the done ones in every order.
+    #[tactic(auto, using(crate::proofs::Following::all_small, crate::proofs::Following::every_order, crate::proofs::Following::by_two, crate::proofs::Together::distinct_by_two))]
     fn in_every_order(&self, done: &Progress, list: &[u32]) -> bool
         requires { Fits self.now done.now }
         ensures { IsTrue result ↔ MayFollowInEveryOrder self.now (IsDone done.now) list.now }
@@ -66,6 +68,7 @@ impl Plan {
     }
 
     /// Whether the leaf and the claimed ones may follow the done ones in every order. It takes no memory.
+    #[tactic(auto, using(crate::proofs::Following::next_small, crate::proofs::Following::all_small))]
     pub fn side_by_side(&self, done: &Progress, claims: &[u32], leaf: u32) -> bool
         requires { Fits self.now done.now }
         ensures { IsTrue result ↔ MayFollowInEveryOrder self.now (IsDone done.now) (leaf ∷ claims.now) }
@@ -80,6 +83,7 @@ impl Plan {
     }
 
     /// Whether the leaf may come next, and then the claimed ones in every order. It takes no memory.
+    #[tactic(auto, using(crate::proofs::Following::next_fits))]
     pub fn may_follow(&self, done: &Progress, first: u32, claims: &[u32]) -> bool
         requires { Fits self.now done.now }
         ensures { IsTrue result ↔ (MayComeNext self.now (IsDone done.now) first
@@ -94,6 +98,7 @@ impl Plan {
     }
 
     /// Whether each leaf of the plan is done.
+    #[tactic(auto, using(crate::proofs::Following::complete_run, crate::proofs::Following::not_complete))]
     pub fn complete(&self, done: &Progress) -> bool
         requires { Fits self.now done.now }
         ensures all_done { IsTrue result

@@ -23,6 +23,7 @@ pub(crate) struct Outline {
 ///
 /// Of parts with the same leaves nothing but parts with no leaf comes in between, so that the last span
 /// alone may be one that comes again.
+#[tactic(auto, using(crate::proofs::SpanLemmas::test_same, crate::proofs::SpanLemmas::adds_again))]
 fn add_span(span: Span, spans: &mut Vec<Span>) -> Result<(), AllocError>
     ensures { OnOk result (AddsSpan span spans.old.items spans.new.items) }
 {

@@ -14,6 +14,7 @@ use leaf_rows::LeafSet;
 use std::alloc::{AllocError, Global};
 
 /// The spans of the isolated parts of the goal with two or more leaves, inner parts first.
+#[tactic(auto, using(crate::proofs::MarkLemmas::begun_spans))]
 fn spans_of(alloc: Global, goal: &Choiceless) -> Result<Vec<Span>, AllocError>
     ensures { IfOk result (λ spans. AddsSpans goal.now.process 0 [] spans.items) }
 {
@@ -49,6 +50,7 @@ fn rows_of_spans(
 }
 
 /// The isolated parts of the goal with two or more leaves, once for each set of leaves.
+#[tactic(auto, using(crate::proofs::PartLemmas::spans_long, crate::proofs::PartLemmas::spans_fit))]
 pub(crate) fn part_rows(
     alloc: Global,
     goal: &Choiceless,

@@ -80,6 +80,7 @@ impl Plan {
     ghost use Rattle.flow_plan.specs.Progress.{IsDone};
 
     /// A plan for the goal, in which each token's sender is done before its receiver.
+    #[tactic(auto, using(crate::proofs::RowLemmas::rows_length))]
     pub fn new(
         alloc: Global,
         goal: &Choiceless,
@@ -161,6 +162,7 @@ impl Plan {
     }
 
     /// Whether the leaf is not done, and all that is directly before it is.
+    #[tactic(auto, using(flow_laws::proofs::Members::each_member))]
     fn is_unblocked(&self, done: &Progress, leaf: u32) -> bool
         requires { Fits self.now done.now }
         ensures { IsTrue result ↔ IsUnblocked self.now (IsDone done.now) leaf }
@@ -182,6 +184,7 @@ impl Plan {
     }
 
     /// Whether the leaf may come next after the done ones.
+    #[tactic(auto, using(flow_laws::proofs::Members::each_member, crate::proofs::Readiness::free_of_ready))]
     pub fn ready(&self, done: &Progress, leaf: u32) -> bool
         requires { Fits self.now done.now }
         ensures { IsTrue result ↔ MayComeNext self.now (IsDone done.now) leaf }

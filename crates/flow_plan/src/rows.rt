@@ -14,6 +14,7 @@ use leaf_rows::LeafSet;
 use std::alloc::{AllocError, Global};
 
 /// For each leaf of the goal, in order, the leaves before it in the goal.
+#[tactic(auto, using(crate::proofs::RowLemmas::fits_rows, crate::proofs::MarkLemmas::begun_rows))]
 fn sequence_rows(alloc: Global, goal: &Choiceless) -> Result<Vec<LeafSet<16>>, AllocError>
     requires { Each (λ n. n < 1024) goal.now.leaves }
     ensures { IfOk result (λ rows. AreRowsOf (InSequence goal.now.process) goal.now.leaves rows.items) }
@@ -27,6 +28,7 @@ fn sequence_rows(alloc: Global, goal: &Choiceless) -> Result<Vec<LeafSet<16>>, A
 }
 
 /// Puts the sender of each token into the row of its receiver.
+#[tactic(auto, using(crate::proofs::RowLemmas::rows_unpaired))]
 fn add_senders(goal: &Choiceless, tokens: &[OrderToken], rows: &mut [LeafSet<16>])
     requires senders { All (λ (t : OrderToken). t.sender < 1024) tokens.now }
     requires one_each { length rows.old ≡ length goal.now.leaves }
@@ -44,6 +46,7 @@ fn add_senders(goal: &Choiceless, tokens: &[OrderToken], rows: &mut [LeafSet<16>
 }
 
 /// For each leaf of the goal, in order, the leaves directly before it.
+#[tactic(auto, using(crate::proofs::RowLemmas::rows_length, crate::proofs::RowLemmas::senders_small))]
 pub(crate) fn before_rows(
     alloc: Global,
     goal: &Choiceless,

@@ -89,6 +89,7 @@ impl Plan {
     ghost use Rattle.flow_plan.specs.declared.progress.Progress.{Progress};
 
     /// The leaves that may come next after the done ones.
+    #[tactic(auto, using(crate::proofs::Readiness::row_within))]
     pub fn next_row(&self, done: &Progress) -> LeafSet<16>
         requires { Fits self.now done.now }
         ensures { IsRowOf (MayComeNext self.now (IsDone done.now)) result }

@@ -44,13 +44,14 @@ impl Sweep {
         ensures forks { IfOk result (λ new. new.forks.items ≡ []) }
         ensures rows { IfOk result (λ new. new.rows.items ≡ []) }
     {
-        let mut sets = Vec::new(alloc);
+        // the empty one, one a leaf, and fewer than leaves for goals beside one another
+        let mut sets = Vec::with_capacity(alloc, leaves.saturating_mul(2))?;
         sets.push(LeafSet::new())?;
         Ok(Sweep {
             place: 0,
             sets,
             ahead: 0,
-            forks: Vec::new(alloc),
+            forks: Vec::with_capacity(alloc, leaves)?,
             rows: Vec::with_capacity(alloc, leaves)?,
         })
     }

@@ -9,13 +9,13 @@ use Rattle.leaf_rows.specs.Leaves.{has_bit, passing_below}
 use Rattle.leaf_rows.proofs.Rows.{bit_of-place, has_bit-is}
 
 -- at most n numbers are below n
-pub length-passing_below : (test : ℕ → Bool) (n : ℕ) → length (passing_below test n) ≤ n
+pub passing_length : (test : ℕ → Bool) (n : ℕ) → length (passing_below test n) ≤ n
 unfolding passing_below
-length-passing_below test zero = omega arith
-length-passing_below test (suc n) =
+passing_length test zero = omega arith
+passing_length test (suc n) =
     elim (test n) as (λ b. length (passing_below test n ++ cond b (n ∷ []) []) ≤ suc n) [
-      | true ↦ omega (arith, length-append (passing_below test n) (n ∷ []), length-passing_below test n)
-      | false ↦ omega (arith, length-append {A = ℕ} (passing_below test n) [], length-passing_below test n)
+      | true ↦ omega (arith, length-append (passing_below test n) (n ∷ []), passing_length test n)
+      | false ↦ omega (arith, length-append {A = ℕ} (passing_below test n) [], passing_length test n)
     ]
 
 -- one more number counts where it passes

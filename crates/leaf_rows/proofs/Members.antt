@@ -46,9 +46,9 @@ passing_below-lists test (suc bound) n below passes = ⊎_elim
     (cases_eq n bound)
 
 -- exactly the members are listed
-pub Contains-members : {w : ℕ} (set : LeafSet w) (n : ℕ) → Contains (members set) n ↔ IsTrue (has_leaf set n)
+pub contains_members : {w : ℕ} (set : LeafSet w) (n : ℕ) → Contains (members set) n ↔ IsTrue (has_leaf set n)
 unfolding members
-Contains-members {w} set n = (
+contains_members {w} set n = (
   (λ listed. (passing_below-listed (has_leaf set) (64 * w) n listed).1),
   (λ has. passing_below-lists (has_leaf set) (64 * w) n (has_leaf-within set n has) has),
 )
@@ -74,6 +74,6 @@ passing_below-rises test (suc bound) = ⊎_elim
     (cases_Bool (test bound))
 
 -- the members rise
-pub members-rise : {w : ℕ} (set : LeafSet w) → IsStrictlyIncreasing (members set)
+pub members_rise : {w : ℕ} (set : LeafSet w) → IsStrictlyIncreasing (members set)
 unfolding members
-members-rise {w} set = passing_below-rises (has_leaf set) (64 * w)
+members_rise {w} set = passing_below-rises (has_leaf set) (64 * w)

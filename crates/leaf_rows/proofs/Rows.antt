@@ -113,11 +113,11 @@ within_or true a b = refl
 within_or false a b = refl
 
 -- after `union_with`
-pub has_bit-union : (w : ℕ) (words other both : List ℕ) (n : ℕ)
+pub has_bit_union : (w : ℕ) (words other both : List ℕ) (n : ℕ)
     → (n < 64 * w → get_or both (n / 64) 0 ≡ bit_or (get_or words (n / 64) 0) (get_or other (n / 64) 0))
     → has_bit w both n ≡ (has_bit w words n || has_bit w other n)
 unfolding has_bit
-has_bit-union w words other both n joined = ⊎_elim
+has_bit_union w words other both n joined = ⊎_elim
     (λ within.
     ap (λ b. nat_lt n (64 * w) && (b == 1))
     (ap (λ word. bit_at word (n % 64)) (joined within) ∙ bit_at_or (get_or words (n / 64) 0) (get_or other (n / 64) 0) (n % 64))
@@ -135,12 +135,12 @@ within_not true a b = refl
 within_not false a b = refl
 
 -- after `remove_all`
-pub has_bit-without : (w : ℕ) (words other left : List ℕ) (n : ℕ)
+pub has_bit_without : (w : ℕ) (words other left : List ℕ) (n : ℕ)
     → (n < 64 * w → get_or left (n / 64) 0 ≡ bit_and (get_or words (n / 64) 0) (bit_not w64 (get_or other (n / 64) 0)))
     → (n < 64 * w → get_or other (n / 64) 0 < 2 ^ 64)
     → has_bit w left n ≡ (not (has_bit w other n) && has_bit w words n)
 unfolding has_bit
-has_bit-without w words other left n cleared fits = ⊎_elim
+has_bit_without w words other left n cleared fits = ⊎_elim
     (λ within.
     let there : n % 64 < 64 = omega arith in
     ap (λ b. nat_lt n (64 * w) && (b == 1))
@@ -178,9 +178,9 @@ bit_of-place words i j within =
     rw (word_is, place_is) refl
 
 -- the least bit of a word is one that the row has
-pub has_bit-least : (w : ℕ) (words : List ℕ) (i : ℕ) → i < w → get_or words i 0 ≢ 0 → get_or words i 0 < 2 ^ 64
+pub has_bit_least : (w : ℕ) (words : List ℕ) (i : ℕ) → i < w → get_or words i 0 ≢ 0 → get_or words i 0 < 2 ^ 64
     → has_bit w words (64 * i + trailing_zeros w64 (get_or words i 0)) ≡ true
-has_bit-least w words i within not_zero fits =
+has_bit_least w words i within not_zero fits =
     let least = bit_at-trailing_zeros w64 (get_or words i 0) (omega arith) fits in
     has_bit-one w words _ (omega (arith, least.0)) (bit_of-place words i _ least.0 ∙ least.1)
 
@@ -189,10 +189,10 @@ pub bit_of-zero_word : (words : List ℕ) (k : ℕ) → get_or words (k / 64) 0 
 bit_of-zero_word words k zero_word = ap (λ word. bit_at word (k % 64)) zero_word ∙ bit_at-zero (k % 64)
 
 -- no bit stands before the least one
-pub has_bit-before_least : (w : ℕ) (words : List ℕ) (i : ℕ) → get_or words i 0 ≢ 0 → get_or words i 0 < 2 ^ 64
+pub has_bit_before_least : (w : ℕ) (words : List ℕ) (i : ℕ) → get_or words i 0 ≢ 0 → get_or words i 0 < 2 ^ 64
     → ((k : ℕ) → k < i → get_or words k 0 ≡ 0)
     → (k : ℕ) → k < 64 * i + trailing_zeros w64 (get_or words i 0) → has_bit w words k ≡ false
-has_bit-before_least w words i not_zero fits zero_words k before =
+has_bit_before_least w words i not_zero fits zero_words k before =
     let least = bit_at-trailing_zeros w64 (get_or words i 0) (omega arith) fits in
     has_bit-zero w words k (⊎_elim
     (λ lower. bit_of-zero_word words k (zero_words (k / 64) lower))
@@ -202,9 +202,9 @@ has_bit-before_least w words i not_zero fits zero_words k before =
     (cases_lt (k / 64) i))
 
 -- no bit stands in words that are zero
-pub has_bit-none : (w : ℕ) (words : List ℕ) → ((k : ℕ) → k < w → get_or words k 0 ≡ 0)
+pub has_bit_none : (w : ℕ) (words : List ℕ) → ((k : ℕ) → k < w → get_or words k 0 ≡ 0)
     → (k : ℕ) → has_bit w words k ≡ false
-has_bit-none w words zero_words k = ⊎_elim
+has_bit_none w words zero_words k = ⊎_elim
     (λ within. has_bit-zero w words k (bit_of-zero_word words k (zero_words (k / 64) (omega arith))))
     (λ past. has_bit-past w words k past)
     (cases_lt k (64 * w))

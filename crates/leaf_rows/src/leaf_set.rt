@@ -52,6 +52,7 @@ impl<const W: usize> LeafSet<W> {
         self.words[(n / 64) as usize] &= !(1 << (n % 64));
     }
 
+    #[tactic(auto, using(crate::proofs::Rows::has_bit_union), unfolding(crate::specs::Leaves::has_leaf))]
     pub fn union_with(&mut self, other: &Self)
         ensures { (k : ℕ) → has_leaf self.new k ≡ (has_leaf self.old k || has_leaf other.now k) }
     {
@@ -60,6 +61,7 @@ impl<const W: usize> LeafSet<W> {
         });
     }
 
+    #[tactic(auto, using(crate::proofs::Rows::has_bit_without), unfolding(crate::specs::Leaves::has_leaf))]
     pub fn remove_all(&mut self, other: &Self)
         ensures { (k : ℕ) → has_leaf self.new k ≡ (not (has_leaf other.now k) && has_leaf self.old k) }
     {
@@ -68,6 +70,7 @@ impl<const W: usize> LeafSet<W> {
         }
     }
 
+    #[tactic(auto, using(crate::proofs::Rows::part_has, crate::proofs::Rows::part_more), unfolding(crate::specs::Leaves::has_leaf))]
     pub fn is_subset(&self, other: &Self) -> bool
         ensures { IsTrue result ↔ ((k : ℕ) → IsTrue (has_leaf self.now k) → IsTrue (has_leaf other.now k)) }
     {
@@ -87,6 +90,7 @@ impl<const W: usize> LeafSet<W> {
     }
 
     /// The least common member of the two.
+    #[tactic(auto, using(crate::proofs::Rows::no_common_bit), unfolding(crate::specs::Leaves::has_leaf))]
     pub fn first_common(&self, other: &Self) -> Option<u32>
         ensures none { IfNone result ((k : ℕ) → IsTrue (has_leaf self.now k) → ¬ IsTrue (has_leaf other.now k)) }
         ensures member { IfSome result (λ n. IsTrue (has_leaf self.now n) × IsTrue (has_leaf other.now n)) }
@@ -102,6 +106,7 @@ impl<const W: usize> LeafSet<W> {
     }
 
     /// The least member.
+    #[tactic(auto, using(crate::proofs::Rows::has_bit_before_least, crate::proofs::Rows::has_bit_least, crate::proofs::Rows::has_bit_none), unfolding(crate::specs::Leaves::has_leaf))]
     pub fn first(&self) -> Option<u32>
         ensures none { IfNone result ((k : ℕ) → has_leaf self.now k ≡ false) }
         ensures member { IfSome result (λ n. IsTrue (has_leaf self.now n)) }
@@ -117,6 +122,7 @@ impl<const W: usize> LeafSet<W> {
         None
     }
 
+    #[tactic(auto, using(crate::proofs::Members::contains_members, crate::proofs::Members::members_rise), unfolding(crate::specs::Leaves::has_leaf, crate::specs::Leaves::members, crate::specs::Leaves::passing_below))]
     pub fn count(&self) -> u32
         ensures counted { result ≡ length (members self.now) }
         ensures listed { (n : ℕ) → Contains (members self.now) n ↔ IsTrue (has_leaf self.now n) }

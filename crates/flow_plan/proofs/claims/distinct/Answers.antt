@@ -1,11 +1,7 @@
-use Rattle.std.proofs.Common.{sym, ◌∙◌}
+use Rattle.std.proofs.Common.{◌∙◌}
 use Rattle.flow_plan.proofs.PartLemmas.{leaf_more}
-use Rattle.flow_plan.proofs.Together.{twice_there, distinct_more}
+use Rattle.flow_plan.proofs.Together.{distinct_more}
 use Rattle.flow_plan.proofs.claims.distinct.Goals as goal
-
-pub returns-then-has-clause-none : goal.returns-then-has-clause-none
-returns-then-has-clause-none c =
-    twice_there c.args.list.now c.loop-leaf.leaf-index c.loop-leaf-test.true ((c.loop-leaf.invariant.set _).0 (sym c.has.ensures ∙ c.if-has.true))
 
 pub loop-leaf-preserved : goal.loop-leaf-preserved
 loop-leaf-preserved c = record {

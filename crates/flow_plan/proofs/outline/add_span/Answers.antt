@@ -1,13 +1,8 @@
 use Rattle.std.proofs.Common.{◌≡◌, ◌-◌, List, Some, None, slice_get, length, subst, arith}
 use Rattle.flow_plan.specs.declared.span.Span.{Span}
-use Rattle.flow_plan.proofs.SpanLemmas.{test_same, test_other, adds_again, adds_behind, earlier_of_last, earlier_of_none, end_of_last}
+use Rattle.flow_plan.proofs.SpanLemmas.{test_other, adds_behind, earlier_of_last, earlier_of_none, end_of_last}
 use Rattle.flow_plan.proofs.outline.add_span.Goals as goal
 use Rattle.flow_plan.proofs.outline.add_span.Goals.{in-Some+else-eq, in_default}
-
-pub returns-then-eq : goal.returns-then-eq
-returns-then-eq c =
-    rw (← c.deref.ensures.value) (adds_again c.args.span c.in-Some.last.now c.deref.result.now (length c.deref.result.now - 1) c.in-Some.ensures.value
-    (test_same c.in-Some.last.now c.args.span c.if-eq.ensures))
 
 pub returns : goal.returns
 returns c =

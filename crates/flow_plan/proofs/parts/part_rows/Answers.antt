@@ -1,14 +1,8 @@
 use Rattle.std.proofs.Common.{refl, subst, [], ℕ, List}
 use Rattle.flow_plan.specs.declared.span.Span.{Span}
 use Rattle.flow_plan.specs.Parts.{ArePartsFor}
-use Rattle.flow_plan.proofs.PartLemmas.{spans_long, spans_fit, parts_of_spans}
+use Rattle.flow_plan.proofs.PartLemmas.{parts_of_spans}
 use Rattle.flow_plan.proofs.parts.part_rows.Goals as goal
-
-pub rows_of_spans-requires-clause-within : goal.rows_of_spans-requires-clause-within
-rows_of_spans-requires-clause-within c =
-    let long = spans_long c.args.goal.now.process c.args.goal.now.leaves [] c.in_ok-spans.spans.items refl c.leaves-leaves.ensures.listed c.in_ok-spans.ensures in
-    let fit = spans_fit c.args.goal.now.leaves c.in_ok-spans.spans.items long in
-    rw c.deref.ensures.value (rw c.leaves-leaves.ensures.leaves fit)
 
 pub returns : goal.returns
 returns c = λ pairs rows.

@@ -7,12 +7,9 @@ use Rattle.flow_plan.specs.declared.token.OrderToken.{OrderToken}
 use Rattle.flow_plan.specs.Planned.{pairs_of}
 use Rattle.flow_plan.specs.Rows.{AreRowsOf}
 use Rattle.flow_plan.proofs.PlaceLemmas.{distinct_of_rising}
-use Rattle.flow_plan.proofs.RowLemmas.{rows_with_sender, rows_without, rows_unpaired, pairs_more}
+use Rattle.flow_plan.proofs.RowLemmas.{rows_with_sender, rows_without, pairs_more}
 use Rattle.flow_plan.proofs.rows.add_senders.Goals as goal
 use Rattle.flow_plan.proofs.rows.add_senders.Goals.{in-Some, in_default}
-
-pub loop-token-init : goal.loop-token-init
-loop-token-init c = rows_unpaired c.args.goal.now.process c.args.goal.now.leaves c.args.rows.now c.requires.rows
 
 pub loop-token-preserved : goal.loop-token-preserved
 loop-token-preserved c =

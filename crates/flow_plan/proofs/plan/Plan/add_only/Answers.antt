@@ -1,9 +1,9 @@
+use Rattle.std.proofs.lemmas.Bool.{or_cases, or_left, or_right}
 use Rattle.std.proofs.Common.{◌≡◌, ℕ, ◌<◌, ◌==◌, ◌∷◌, [], IsTrue, Option, Some, true≢false, inl, inr, ⊎_elim, eq-eqb, eqb-true, subst, sym, ◌∙◌, arith}
 use Rattle.leaf_rows.specs.Leaves.{has_leaf}
 use Rattle.flow_model.specs.Ready.{DoneOr}
 use Rattle.flow_plan.specs.Progress.{IsDone}
 use Rattle.flow_plan.specs.Orders.{MayComeNext, MayFollowInEveryOrder}
-use Rattle.flow_plan.proofs.RowLemmas.{either_true, first_true, second_true}
 use Rattle.flow_plan.proofs.Following.{next_small}
 use Rattle.flow_plan.proofs.StepRows.{each_of_orders, first_is_other}
 use Rattle.flow_plan.proofs.plan.Plan.add_only.Goals as goal
@@ -24,13 +24,13 @@ returns-then-may_follow c n among = (
       (λ same. inr (subst (λ (m : ℕ). MayComeNext c.args.self.now (IsDone c.args.done.now) m × MayFollowInEveryOrder c.args.self.now (DoneOr (IsDone c.args.done.now) (m ∷ [])) c.args.list.now)
       (sym (eqb-true n c.in-Some.first same)) (c.may_follow.ensures.0 c.if-may_follow.true)))
       (λ found. inl found)
-      (either_true (n == c.in-Some.first) (has_leaf c.args.found n) (sym (c.with.ensures n) ∙ has)),
+      (or_cases (n == c.in-Some.first) (has_leaf c.args.found n) (sym (c.with.ensures n) ∙ has)),
   λ either. c.with.ensures n ∙ ⊎_elim
-      (λ found. second_true (n == c.in-Some.first) (has_leaf c.args.found n) found)
+      (λ found. or_right (n == c.in-Some.first) (has_leaf c.args.found n) found)
       (λ both.
       let told = c.only_before.ensures n c.requires.waits both.0 (each_of_orders c.args.self.now (DoneOr (IsDone c.args.done.now) (n ∷ [])) c.args.list.now c.args.leaf both.1 c.requires.claimed) in
       let same : n ≡ c.in-Some.first = (let e = sym told ∙ c.in-Some.is in cc) in
-      first_true (n == c.in-Some.first) (has_leaf c.args.found n) (eq-eqb n c.in-Some.first same))
+      or_left (n == c.in-Some.first) (has_leaf c.args.found n) (eq-eqb n c.in-Some.first same))
       either,
 )
 

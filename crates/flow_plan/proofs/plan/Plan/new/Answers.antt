@@ -1,4 +1,4 @@
-use Rattle.std.proofs.Common.{◌<◌, List, length, ap, subst, ◌∙◌, sym}
+use Rattle.std.proofs.Common.{◌<◌, List, subst, sym}
 use Rattle.leaf_rows.specs.declared.leaf_set.LeafSet.{LeafSet}
 use Rattle.flow_model.specs.Lists.{Each}
 use Rattle.flow_model.specs.Ready.{DirectlyBefore}
@@ -8,14 +8,8 @@ use Rattle.flow_plan.specs.declared.token.OrderToken.{OrderToken}
 use Rattle.flow_plan.specs.Rows.{AreRowsOf}
 use Rattle.flow_plan.specs.Parts.{ArePartsOf}
 use Rattle.flow_plan.specs.Planned.{planned, pairs_of}
-use Rattle.flow_plan.proofs.RowLemmas.{rows_length}
 use Rattle.flow_plan.proofs.Readiness.{new_is_kept, new_is_ordered}
 use Rattle.flow_plan.proofs.plan.Plan.new.Goals as goal
-
-pub part_rows-requires-clause-one_each : goal.part_rows-requires-clause-one_each
-part_rows-requires-clause-one_each c =
-    ap length c.deref-2.ensures.value
-    ∙ rows_length (DirectlyBefore c.args.goal.now.process (pairs_of c.deref.result.now)) c.args.goal.now.leaves c.in_ok-before.before.items c.in_ok-before.ensures
 
 pub returns-clause-ordered : goal.returns-clause-ordered
 returns-clause-ordered c =

@@ -8,16 +8,8 @@ use Rattle.flow_plan.specs.Progress.{IsDone}
 use Rattle.flow_plan.specs.Orders.{MayComeNext}
 use Rattle.flow_plan.specs.Rows.{IsRowOf, IsUnblockedAt}
 use Rattle.flow_plan.specs.Parts.{PartAllows}
-use Rattle.flow_plan.proofs.Readiness.{row_within}
 use Rattle.flow_plan.proofs.StepRows.{next_by_rows}
 use Rattle.flow_plan.proofs.plan.Plan.next_row.Goals as goal
-
-pub free_row-free-requires-clause-one_each : goal.free_row-free-requires-clause-one_each
-free_row-free-requires-clause-one_each c =
-    let i = c.self.inside in
-    let p : Planned = planned i.goal i.tokens.items in
-    ap length c.deref.ensures.value ∙ row_within p i.before.items i.parts.items c.self.invariant
-    ∙ ap length (ap (λ (p : Planned). p.leaves) c.self.view_is ∙ sym c.leaves.ensures.leaves)
 
 pub returns : goal.returns
 returns c =

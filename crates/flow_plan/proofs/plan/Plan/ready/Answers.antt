@@ -1,21 +1,14 @@
-use Rattle.std.proofs.Common.{ℕ, ◌<◌, ◌↔◌, IsTrue, List, subst, sym, ◌∙◌}
+use Rattle.std.proofs.Common.{ℕ, ◌↔◌, IsTrue, List, subst, sym, ◌∙◌}
 use Rattle.leaf_rows.specs.Leaves.{has_leaf}
-use Rattle.flow_model.specs.Lists.{◌∈◌, Each}
-use Rattle.flow_laws.proofs.Members.{each_member}
+use Rattle.flow_model.specs.Lists.{Each}
 use Rattle.flow_laws.proofs.ReadyRuns.{same_ready}
 use Rattle.flow_plan.specs.declared.part_row.PartRow.{PartRow}
 use Rattle.flow_plan.specs.Planned.{Planned, planned, pairs_of}
 use Rattle.flow_plan.specs.Progress.{IsDone}
 use Rattle.flow_plan.specs.Orders.{IsUnblocked}
 use Rattle.flow_plan.specs.Parts.{PartAllows}
-use Rattle.flow_plan.proofs.Readiness.{Ready, ready_of_free, free_of_ready, parts_of_ready}
+use Rattle.flow_plan.proofs.Readiness.{Ready, ready_of_free, parts_of_ready}
 use Rattle.flow_plan.proofs.plan.Plan.ready.Goals as goal
-
-pub parts_allow-requires : goal.parts_allow-requires
-parts_allow-requires c =
-    let i = c.self.inside in
-    let free = subst (λ (p : Planned). IsUnblocked p (IsDone c.args.done.now) c.args.leaf) (sym c.self.view_is) (c.is_unblocked.ensures.0 c.if-is_unblocked.true) in
-    each_member (λ n. n < 1024) i.goal.leaves c.self.invariant.small c.args.leaf (subst (λ (ns : List ℕ). c.args.leaf ∈ ns) (sym c.self.invariant.listed) free.leaf)
 
 pub returns-then-is_unblocked : goal.returns-then-is_unblocked
 returns-then-is_unblocked c =
@@ -34,9 +27,3 @@ returns-then-is_unblocked c =
       λ ready. says.1 (parts_of_ready p i.before.items i.parts.items Here c.args.leaf c.self.invariant
           (same_ready p.process (pairs_of p.tokens) (IsDone c.args.done.now) Here c.args.leaf from to ready)),
     )
-
-pub returns-else-is_unblocked : goal.returns-else-is_unblocked
-returns-else-is_unblocked c = (
-  λ wrong. let fails = c.if-is_unblocked.false in absurd (cc),
-  λ ready. c.is_unblocked.ensures.1 (free_of_ready c.args.self.now (IsDone c.args.done.now) c.args.leaf ready),
-)

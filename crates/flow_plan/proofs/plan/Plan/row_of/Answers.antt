@@ -28,11 +28,6 @@ returns-in-Some-clause-row c =
     (λ x. before_at_row p i.before.items i.parts.items c.in-Some.place x c.args.leaf c.index.result.now c.self.invariant
     (subst (λ (ns : List ℕ). slice_get ns c.in-Some.place ≡ Some c.args.leaf) c.leaves.ensures.leaves c.in-Some.ensures.found) c.index.ensures)
 
-pub returns-in-None-clause-missing : goal.returns-in-None-clause-missing
-returns-in-None-clause-missing c = λ member. c.in-None.ensures.missing
-    (subst (λ (ns : List ℕ). c.args.leaf ∈ ns) (sym (c.leaves.ensures.leaves ∙ c.self.invariant.listed))
-    (subst (λ (p : Planned). c.args.leaf ∈ leaves p.process) (sym c.self.view_is) member))
-
 pub returns-in-None-clause-none : goal.returns-in-None-clause-none
 returns-in-None-clause-none c = λ x direct. c.in-None.ensures.missing
     (subst (λ (ns : List ℕ). c.args.leaf ∈ ns) (sym (c.leaves.ensures.leaves ∙ c.self.invariant.listed))

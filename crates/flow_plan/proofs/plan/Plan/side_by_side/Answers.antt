@@ -1,10 +1,10 @@
-use Rattle.std.proofs.Common.{ℕ, List, ◌∷◌, inl, inr, ⊎_elim, sym, ◌∙◌, eq-eqb, eqb-true, lit<}
+use Rattle.std.proofs.lemmas.Bool.{or_cases, or_left, or_right}
+use Rattle.std.proofs.Common.{ℕ, List, ◌∷◌, inl, inr, ⊎_elim, sym, ◌∙◌, eq-eqb, eqb-true}
 use Rattle.flow_model.specs.Lists.{◌∈◌, Each, AreDistinct}
 use Rattle.flow_plan.specs.Progress.{IsDone}
 use Rattle.flow_plan.specs.Orders.{MayComeNext}
 use Rattle.flow_plan.specs.Rows.{IsRowOf}
-use Rattle.flow_plan.proofs.RowLemmas.{either_true, first_true, second_true}
-use Rattle.flow_plan.proofs.Following.{next_small, all_small, every_order, by_two}
+use Rattle.flow_plan.proofs.Following.{every_order, by_two}
 use Rattle.flow_plan.proofs.Together.{distinct_by_two}
 use Rattle.flow_plan.proofs.plan.Plan.side_by_side.Goals as goal
 use Rattle.flow_plan.proofs.plan.Plan.side_by_side.Goals.{then-not-ready-via-then-not-ready, then-not-ready-via-else-not-ready+then-not-each_ready}
@@ -19,21 +19,12 @@ returns-then-not-ready c = (
       ],
 )
 
-pub distinct-requires : goal.distinct-requires
-distinct-requires c = all_small c.args.self.now c.args.done.now c.args.claims.now c.requires (c.each_ready.ensures.0 c.if-not-each_ready.false)
-
 pub returns-in_default : goal.returns-in_default
 returns-in_default c = (
   λ wrong. absurd (cc),
   λ all. absurd (c.in_default.ensures.none
       (distinct_by_two c.args.self.now (IsDone c.args.done.now) (c.args.leaf ∷ c.args.claims.now) (by_two c.args.self.now c.args.done.now (c.args.leaf ∷ c.args.claims.now) all).1).1),
 )
-
-pub has-requires : goal.has-requires
-has-requires c = (lit< tt, next_small c.args.self.now c.args.done.now c.args.leaf c.requires (c.ready.ensures.0 c.if-not-ready.false))
-
-pub with-requires : goal.with-requires
-with-requires c = next_small c.args.self.now c.args.done.now c.args.leaf c.requires (c.ready.ensures.0 c.if-not-ready.false)
 
 pub returns-then-not-has : goal.returns-then-not-has
 returns-then-not-has c =
@@ -42,8 +33,8 @@ returns-then-not-has c =
     let set_is = c.in-Some.ensures.some.1 in
     let distinct : AreDistinct list = (λ member. let yes = c.has.ensures ∙ (set_is c.args.leaf).1 member in let no = c.if-not-has.true in absurd (cc), c.in-Some.ensures.some.0) in
     let row : IsRowOf (λ x. x ∈ list) c.with.result = λ x. (
-      λ has. ⊎_elim (λ same. inl (eqb-true x c.args.leaf same)) (λ h. inr ((set_is x).0 h)) (either_true _ _ (sym (c.with.ensures x) ∙ has)),
-      λ member. c.with.ensures x ∙ ⊎_elim (λ same. first_true _ _ (eq-eqb x c.args.leaf same)) (λ h. second_true _ _ ((set_is x).1 h)) member,
+      λ has. ⊎_elim (λ same. inl (eqb-true x c.args.leaf same)) (λ h. inr ((set_is x).0 h)) (or_cases _ _ (sym (c.with.ensures x) ∙ has)),
+      λ member. c.with.ensures x ∙ ⊎_elim (λ same. or_left _ _ (eq-eqb x c.args.leaf same)) (λ h. or_right _ _ ((set_is x).1 h)) member,
     ) in
     let two = c.keeps_together.ensures c.args.done.now list row distinct each in (
       λ yes. every_order c.args.self.now c.args.done.now list each (two.0 yes),

@@ -1,13 +1,9 @@
 use Rattle.std.proofs.Common.{arith}
 use Rattle.leaf_rows.specs.Leaves.{has_leaf}
-use Rattle.leaf_rows.proofs.Rows.{least_common, no_common_bit}
+use Rattle.leaf_rows.proofs.Rows.{least_common}
 use Rattle.leaf_rows.proofs.leaf_set.LeafSet.first_common.Goals as goal
 
 pub returns-then-common-ne0-clause-member : goal.returns-then-common-ne0-clause-member
 unfolding has_leaf
 returns-then-common-ne0-clause-member g c =
     least_common _ _ _ c.loop-i.i (omega arith) (omega arith) c.if-common-ne0.true
-
-pub returns-clause-none : goal.returns-clause-none
-unfolding has_leaf
-returns-clause-none g c = λ k. no_common_bit _ _ _ (λ i within. c.loop-i.invariant i (omega arith)) k
