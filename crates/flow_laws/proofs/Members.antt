@@ -168,6 +168,11 @@ before_across x y [] b h k = absurd h
 before_across x y (z ∷ a) b (inl e) k = inl (e, mem_append_right y a b k)
 before_across x y (z ∷ a) b (inr h) k = inr (before_across x y a b h k)
 
+pub before_left : {A : Type 0} (x y : A) (a b : List A) → StandsBefore x y a → StandsBefore x y (a ++ b)
+before_left x y [] b h = absurd h
+before_left x y (z ∷ a) b (inl h) = inl (h.0, mem_append_left y a b h.1)
+before_left x y (z ∷ a) b (inr h) = inr (before_left x y a b h)
+
 pub before_right : {A : Type 0} (x y : A) (a b : List A) → StandsBefore x y b → StandsBefore x y (a ++ b)
 before_right x y [] b h = h
 before_right x y (z ∷ a) b h = inr (before_right x y a b h)

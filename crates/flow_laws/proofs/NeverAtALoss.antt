@@ -10,8 +10,7 @@ use Rattle.flow_laws.specs.Histories.{IsSound, NeverWaits}
 use Rattle.flow_laws.proofs.Members.{mem_append_right}
 use Rattle.flow_laws.proofs.MadeLists.{order_of_none, order_of_one, numbers_from_below}
 use Rattle.flow_laws.proofs.TraceLeaves.{leaf_of_trace}
-use Rattle.flow_laws.proofs.RunLemmas.{always_holds}
-use Rattle.flow_laws.proofs.SoundStates.{free_may_follow, first_is_kept, kept_from}
+use Rattle.flow_laws.proofs.SoundStates.{always_holds, free_may_follow, first_is_kept, kept_from}
 
 pub sound_state : (w : Schema) → IsWellFormed w → IsConsistent w → (limit : ℕ) (history : List Entry) → IsLegal w limit history →
     (front : List Entry) → Begins history front → IsSound w (state_of w front)

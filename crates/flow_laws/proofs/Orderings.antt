@@ -7,7 +7,7 @@ use Rattle.flow_model.specs.Ready.{InSequence, isolated_parts}
 use Rattle.flow_laws.proofs.Members.{only_one, no_members, distinct_left, distinct_right, distinct_apart, before_members, before_across, before_right, before_or_after, not_before_itself, not_both_ways, mem_append_left, mem_append_right, mem-append}
 use Rattle.flow_laws.proofs.MadeLists.{joined-append}
 use Rattle.flow_laws.proofs.Shuffles.{shuffle-joined, shuffle_swap, of_shuffle, mem_shuffle_left, before_in_shuffle, distinct_in_shuffle, shuffle_of, front_first, shuffle_nothing, AreUnbroken, shuffle_blocks}
-use Rattle.flow_laws.proofs.GoalParts.{sequence_first, sequence_second, part_within, case_of}
+use Rattle.flow_laws.proofs.GoalParts.{sequence_first, sequence_second, part_within}
 use Rattle.flow_laws.proofs.TraceLeaves.{joined-as_one, beside, leaf_of_blocks, leaf_in_blocks, distinct_trace, leaf_of_trace, leaf_in_trace}
 
 -- the list holds each leaf once, in the goal's sequence, and nothing stands between two leaves of an isolated part
@@ -93,7 +93,7 @@ part_in_block (Isolated a) f bs (x, h, e) part (inr i) n k =
     let (block, piece, l, r, same) = part_in_block a f x h part i n k in (
       joined x,
       piece,
-      subst (λ l. joined x ∈ l) (sym e) (whole_block x n (leaf_in_blocks a f x h n (part_within (case_of a) part n i k))),
+      subst (λ l. joined x ∈ l) (sym e) (whole_block x n (leaf_in_blocks a f x h n (part_within a part n i k))),
       piece_of_joined x block piece l r,
       same,
     )
@@ -207,7 +207,7 @@ half_unbroken a g bs other t f h half o others block m x y z k l p b c = ⊎_eli
     let is = λ (u : ℕ) (i : u ∈ block). only_one u n (subst (λ w. u ∈ w) e i) in
     not_both_ways x y t o.distinct b (subst (λ u. StandsBefore y u t) (is z p ∙ sym (is x k)) c))
     (λ (part, i, same).
-    o.together part (half.part part i) x y z ((same x).0 k) (λ j. others y l (part_within (case_of a) part y i j)) ((same z).0 p) b c)
+    o.together part (half.part part i) x y z ((same x).0 k) (λ j. others y l (part_within a part y i j)) ((same z).0 p) b c)
     (block_kind a f bs h block m)
 
 -- the ordering of a sequence as one of its halves beside one another

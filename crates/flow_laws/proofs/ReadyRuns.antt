@@ -1,15 +1,14 @@
 -- Ready runs and the executions of an option, leaf by leaf.
 use Rattle.std.proofs.Common.{◌≡◌, ◌≢◌, ℕ, List, [], ◌∷◌, ◌++◌, ◌↔◌, refl, sym, ap, ◌∙◌, subst, inl, inr, ⊎_elim, append_assoc, append-nil}
-use Rattle.flow_model.specs.Lists.{◌∈◌, AreDistinct, AreInOrder, StandsBefore, Begins, joined}
-use Rattle.flow_model.specs.Process.{Process, leaves, IsChoiceFree}
+use Rattle.flow_model.specs.Lists.{◌∈◌, AreDistinct, AreInOrder, StandsBefore, Begins}
+use Rattle.flow_model.specs.Process.{Process, leaves}
 use Rattle.flow_model.specs.Trace.{Trace}
 use Rattle.flow_model.specs.Ready.{InSequence, DirectlyBefore, isolated_parts, IsReady, DoneOr, IsReadyRunAfter, IsReadyRun, IsCompleteRun}
 use Rattle.flow_laws.specs.Words.{IsOrdered}
 use Rattle.flow_laws.specs.ReadyRuns.{CompleteRunsAreTraces, FrontsAreReady}
-use Rattle.flow_laws.proofs.Members.{mem_here, each_member, split_at, not_elsewhere, before_members, before_across, before_right, in_front, not_before_itself, not_both_ways, mem-append, each_from_members}
-use Rattle.flow_laws.proofs.TraceLeaves.{some_blocks, distinct_blocks}
-use Rattle.flow_laws.proofs.GoalParts.{sequence_first, sequence_second, part_within, case_of}
-use Rattle.flow_laws.proofs.Orderings.{IsOrdering, before_in_blocks, ordering_of_trace, trace_of_ordering}
+use Rattle.flow_laws.proofs.Members.{mem_here, each_member, split_at, not_elsewhere, before_members, before_across, before_right, in_front, not_both_ways, mem-append, each_from_members}
+use Rattle.flow_laws.proofs.GoalParts.{sequence_first, sequence_second, sequence_other, part_within}
+use Rattle.flow_laws.proofs.Orderings.{IsOrdering, ordering_of_trace, trace_of_ordering}
 
 -- what is directly before what
 
@@ -21,13 +20,9 @@ pub direct_second : (q : Process) (pairs : List (ℕ × ℕ)) → IsOrdered q pa
 direct_second q pairs w x y (inl h) = sequence_second q x y h
 direct_second q pairs w x y (inr m) = (each_member (λ pair. (pair.0 ∈ leaves q) × (pair.1 ∈ leaves q)) pairs w.of_leaves (x, y) m).1
 
-sequence_other : (g : Process) (x : ℕ) → IsChoiceFree g → AreDistinct (leaves g) → ¬ (InSequence g x x)
-sequence_other g x f d h =
-    let (bs, b) = some_blocks g in not_before_itself x (joined bs) (distinct_blocks g d bs b) (before_in_blocks g f bs b x x h)
-
 -- no leaf is directly before itself
 pub direct_other : (q : Process) (pairs : List (ℕ × ℕ)) → IsOrdered q pairs → (x y : ℕ) → DirectlyBefore q pairs x y → x ≢ y
-direct_other q pairs w x y (inl h) e = sequence_other q y w.choice_free w.distinct (subst (λ z. InSequence q z y) e h)
+direct_other q pairs w x y (inl h) e = sequence_other q y w.distinct (subst (λ z. InSequence q z y) e h)
 direct_other q pairs w x y (inr m) e = each_member (λ pair. pair.0 ≢ pair.1) pairs w.different (x, y) m e
 
 -- the executions of an option
@@ -56,7 +51,7 @@ ready_in_arrangement q pairs front n back w a = record {
       (⊎_elim
       (λ e. absurd (l (subst (λ z. z ∈ leaves part) e p)))
       (λ i. absurd (o.together part m x n y k l p (before_across x n front (n ∷ back) h (inl refl)) (before_right n y front (n ∷ back) (inl (refl, i))))))
-      (mem-append y front (n ∷ back) (o.all y (part_within (case_of q) part y m p)));
+      (mem-append y front (n ∷ back) (o.all y (part_within q part y m p)));
   begins = λ part m k none x y l p b. ⊎_elim
       (λ i. i)
       (⊎_elim

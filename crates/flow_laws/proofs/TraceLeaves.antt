@@ -1,5 +1,5 @@
 -- What the executions of a goal hold.
-use Rattle.std.proofs.Common.{◌≡◌, ℕ, List, [], ◌∷◌, ◌++◌, refl, sym, ap, ap₂, ◌∙◌, subst, inl, inr, ⊎_elim, append-nil}
+use Rattle.std.proofs.Common.{◌≡◌, ℕ, List, [], ◌∷◌, ◌++◌, refl, sym, ap, ◌∙◌, subst, inl, inr, ⊎_elim, append-nil}
 use Rattle.flow_model.specs.Lists.{◌∈◌, AreDistinct, joined}
 use Rattle.flow_model.specs.Process.{Process, Empty, Task, Sequence, Parallel, Choice, Isolated, leaves, IsChoiceFree}
 use Rattle.flow_model.specs.Trace.{Blocks, Trace, Shuffle, both_end, from_left, from_right, as_one}
@@ -70,35 +70,28 @@ leaf_of_trace g t (bs, h, e) n m = leaf_of_blocks g bs h n (subst (λ w. n ∈ w
 pub leaf_in_trace : (q : Process) → IsChoiceFree q → (t : List ℕ) → Trace q t → (n : ℕ) → n ∈ leaves q → n ∈ t
 leaf_in_trace q f t (bs, h, e) n m = subst (λ w. n ∈ w) (sym e) (leaf_in_blocks q f bs h n m)
 
--- A goal with no leaf
-
-abbrev HasNoLeaf : Process → Type 0
-HasNoLeaf g = (n : ℕ) → ¬ (n ∈ leaves g)
-
-none_left : (a b : Process) → HasNoLeaf (Parallel a b) → HasNoLeaf a
-none_left a b none n m = none n (mem_append_left n (leaves a) (leaves b) m)
-
-none_right : (a b : Process) → HasNoLeaf (Parallel a b) → HasNoLeaf b
-none_right a b none n m = none n (mem_append_right n (leaves a) (leaves b) m)
+-- Blocks with no leaf
 
 no_shuffle : {a b c : List (List ℕ)} → Shuffle a b c → a ≡ [] → b ≡ [] → c ≡ []
 no_shuffle both_end e k = refl
 no_shuffle (from_left s) e k = cc
 no_shuffle (from_right s) e k = cc
 
-pub blocks_of_no_leaf : (g : Process) → HasNoLeaf g → (bs : List (List ℕ)) → Blocks g bs → bs ≡ []
-blocks_of_no_leaf Empty none bs h = h
-blocks_of_no_leaf (Task k) none bs h = absurd (none k (inl refl))
-blocks_of_no_leaf (Sequence a b) none bs (x, y, ha, hb, e) =
-    e ∙ ap₂ ◌++◌ (blocks_of_no_leaf a (none_left a b none) x ha) (blocks_of_no_leaf b (none_right a b none) y hb)
-blocks_of_no_leaf (Parallel a b) none bs (x, y, ha, hb, s) =
-    no_shuffle s (blocks_of_no_leaf a (none_left a b none) x ha) (blocks_of_no_leaf b (none_right a b none) y hb)
-blocks_of_no_leaf (Choice a b) none bs (inl h) = blocks_of_no_leaf a (none_left a b none) bs h
-blocks_of_no_leaf (Choice a b) none bs (inr h) = blocks_of_no_leaf b (none_right a b none) bs h
-blocks_of_no_leaf (Isolated a) none bs (x, h, e) = e ∙ ap as_one (blocks_of_no_leaf a none x h)
+abbrev IsNoneWithout : Process → Type 0
+IsNoneWithout g = (bs : List (List ℕ)) → Blocks g bs → ((n : ℕ) → ¬ (n ∈ joined bs)) → bs ≡ []
 
-pub no_leaf_has_no_blocks : (g : Process) → HasNoLeaf g → Blocks g []
-no_leaf_has_no_blocks g none = let (bs, h) = some_blocks g in subst (Blocks g) (blocks_of_no_leaf g none bs h) h
+none_in_halves : (a b : Process) → IsNoneWithout a → IsNoneWithout b → IsNoneWithout (Parallel a b)
+none_in_halves a b of_a of_b bs (x, y, ha, hb, s) none = no_shuffle s
+    (of_a x ha (λ n m. none n (mem_shuffle_left (shuffle-joined s) n m))) (of_b y hb (λ n m. none n (mem_shuffle_right (shuffle-joined s) n m)))
+
+pub blocks_of_none : (g : Process) → IsNoneWithout g
+blocks_of_none Empty bs h none = h
+blocks_of_none (Task k) bs h none = absurd (none k (subst (λ w. k ∈ joined w) (sym h) (inl refl)))
+blocks_of_none (Sequence a b) bs h none = none_in_halves a b (blocks_of_none a) (blocks_of_none b) bs (beside a b bs h) none
+blocks_of_none (Parallel a b) bs h none = none_in_halves a b (blocks_of_none a) (blocks_of_none b) bs h none
+blocks_of_none (Choice a b) bs h none = ⊎_elim (λ k. blocks_of_none a bs k none) (λ k. blocks_of_none b bs k none) h
+blocks_of_none (Isolated a) bs (x, h, e) none =
+    e ∙ ap as_one (blocks_of_none a x h (λ n m. none n (subst (λ w. n ∈ w) (sym (ap joined e ∙ joined-as_one x)) m)))
 
 -- No leaf stands twice
 

@@ -1,12 +1,14 @@
--- The ways of a constraint: of which leaves their pairs are, and what they decide.
-use Rattle.std.proofs.Common.{◌≡◌, ◌≢◌, ℕ, ◌⊎◌, Bool, true, false, ◌==◌, ◌||◌, if◌then◌else◌, List, [], ◌∷◌, ◌++◌, refl, sym, ap, ◌∙◌, subst, inl, inr, ⊎_elim, Option, Some, None}
+-- Constraints, their normal forms and their ways: of which leaves the pairs are, and what is decided by them.
+use Rattle.std.proofs.Common.{◌≡◌, ◌≢◌, ℕ, ◌⊎◌, Bool, true, false, ◌==◌, ◌||◌, if◌then◌else◌, List, [], ◌∷◌, ◌++◌, refl, sym, ap, ◌∙◌, subst, inl, inr, ⊎_elim, Option, Some, None, ◌↔◌}
 use Rattle.std.proofs.lemmas.Bool.{eqb-true, eqb-false, eq-eqb}
 use Rattle.flow_model.specs.declared.labels.Label.{Label}
-use Rattle.flow_model.specs.Lists.{◌∈◌, Each}
-use Rattle.flow_model.specs.Facts.{event_at, is_event}
-use Rattle.flow_model.specs.Ways.{Normal, always, impossible, must, never, before, not_before, both, either, ways, leaf_of_event, free_way, is_free, ways_of_must, ways_of_never, ways_of_before, ways_of_not_before}
-use Rattle.flow_laws.proofs.Members.{mem-append, each-append}
-use Rattle.flow_laws.proofs.MadeLists.{of_each_with_each, of_find, some_same}
+use Rattle.flow_model.specs.Lists.{◌∈◌, Each, StandsBefore, AreDistinct, AreInOrder, each_with_each}
+use Rattle.flow_model.specs.Facts.{event_at, is_event, events_of}
+use Rattle.flow_model.specs.Ways.{Normal, always, impossible, must, never, before, not_before, both, either, ways, leaf_of_event, free_way, is_free, ways_of_must, ways_of_never, ways_of_before, ways_of_not_before, normal_form, chain, broken_chain}
+use Rattle.flow_model.specs.Constraint.{Constraint, Always, Impossible, Must, Never, Order, Not, And, Or, Meets, HappenInOrder}
+use Rattle.flow_model.specs.Decided.{decide_in, decide_before, decide_meets}
+use Rattle.flow_laws.proofs.Members.{mem-append, each-append, before_members, mem_append_left, mem_append_right, each_parts, not_both_ways, before_or_after}
+use Rattle.flow_laws.proofs.MadeLists.{of_each_with_each, of_find, some_same, mem-each_with_each, not_found, mem-filter_map, of_filter_map, before-filter_map, of_before-filter_map, same_source}
 
 -- The leaf of an event
 
@@ -81,3 +83,228 @@ each_pair P leaf h (both x y) way m =
 each_pair P leaf h (either x y) way m = ⊎_elim
     (λ e. subst (Each P) (sym e) tt) (⊎_elim (each_pair P leaf h x way) (each_pair P leaf h y way))
     (of_either (is_free (ways x leaf) || is_free (ways y leaf)) (ways x leaf) (ways y leaf) way m)
+
+-- the normal form is true of the whole list of an execution's events
+abbrev pub MeetsNormal : Normal → List ℕ → Type 0
+MeetsNormal always events = Unit {0}
+MeetsNormal impossible events = ⊥
+MeetsNormal (must e) events = e ∈ events
+MeetsNormal (never e) events = ¬ (e ∈ events)
+MeetsNormal (before a b) events = StandsBefore a b events
+MeetsNormal (not_before a b) events = ¬ (StandsBefore a b events)
+MeetsNormal (both x y) events = MeetsNormal x events × MeetsNormal y events
+MeetsNormal (either x y) events = MeetsNormal x events ⊎ MeetsNormal y events
+
+-- Whether or not
+
+pub not_not : {A : Type 0} → A ⊎ ¬ A → ¬ (¬ A) → A
+not_not (inl a) h = a
+not_not (inr n) h = absurd (h n)
+
+-- not both: one of them not
+pub one_not : {A B : Type 0} → A ⊎ ¬ A → ¬ (A × B) → (¬ A) ⊎ (¬ B)
+one_not (inl a) h = inr (λ b. h (a, b))
+one_not (inr n) h = inl n
+
+-- Chains
+
+pub chain_is : (es events : List ℕ) → HappenInOrder es events ↔ MeetsNormal (chain es) events
+chain_is [] events = (λ h. h, λ h. h)
+chain_is (a ∷ []) events = (λ h. h, λ h. h)
+chain_is (a ∷ b ∷ []) events = (λ h. h.0, λ h. (h, (before_members a b events h).1))
+chain_is (a ∷ b ∷ c ∷ more) events =
+    let (to, from) = chain_is (b ∷ c ∷ more) events in
+    (λ h. (h.0, to h.1), λ h. (h.0, from h.1))
+
+pub broken_chain_is : (es events : List ℕ) → (¬ (HappenInOrder es events)) ↔ MeetsNormal (broken_chain es) events
+broken_chain_is [] events = (λ h. h tt, λ h k. h)
+broken_chain_is (a ∷ []) events = (λ h. h, λ h. h)
+broken_chain_is (a ∷ b ∷ []) events = (λ h k. h (k, (before_members a b events k).1), λ h k. h k.0)
+broken_chain_is (a ∷ b ∷ c ∷ more) events =
+    let (to, from) = broken_chain_is (b ∷ c ∷ more) events in (
+      λ h. elim (one_not (decide_before a b events) h) [ inl n ↦ inl n | inr n ↦ inr (to n) ],
+      λ h k. elim h [ inl n ↦ n k.0 | inr n ↦ from n k.1 ],
+    )
+
+-- a constraint and its normal form; its negation and that one's
+pub normal_form_is : (c : Constraint) (events : List ℕ) →
+    (Meets c events ↔ MeetsNormal (normal_form c true) events)
+    × ((¬ (Meets c events)) ↔ MeetsNormal (normal_form c false) events)
+normal_form_is Always events = ((λ h. h, λ h. h), (λ h. h tt, λ h k. h))
+normal_form_is Impossible events = ((λ h. h, λ h. h), (λ h. tt, λ h k. k))
+normal_form_is (Must e) events = ((λ h. h, λ h. h), (λ h. h, λ h. h))
+normal_form_is (Never e) events = ((λ h. h, λ h. h), (not_not (decide_in e events), λ h n. n h))
+normal_form_is (Order es) events = (chain_is es events, broken_chain_is es events)
+normal_form_is (Not c) events =
+    let ((to, from), negated) = normal_form_is c events in
+    (negated, (λ h. to (not_not (decide_meets c events) h), λ h n. n (from h)))
+normal_form_is (And c d) events =
+    let ((to_c, from_c), (to_not_c, from_not_c)) = normal_form_is c events in
+    let ((to_d, from_d), (to_not_d, from_not_d)) = normal_form_is d events in (
+      (λ h. (to_c h.0, to_d h.1), λ h. (from_c h.0, from_d h.1)),
+      (
+        λ h. elim (one_not (decide_meets c events) h) [ inl n ↦ inl (to_not_c n) | inr n ↦ inr (to_not_d n) ],
+        λ h k. elim h [ inl n ↦ from_not_c n k.0 | inr n ↦ from_not_d n k.1 ],
+      ),
+    )
+normal_form_is (Or c d) events =
+    let ((to_c, from_c), (to_not_c, from_not_c)) = normal_form_is c events in
+    let ((to_d, from_d), (to_not_d, from_not_d)) = normal_form_is d events in (
+      (λ h. elim h [ inl k ↦ inl (to_c k) | inr k ↦ inr (to_d k) ], λ h. elim h [ inl k ↦ inl (from_c k) | inr k ↦ inr (from_d k) ]),
+      (
+        λ h. (to_not_c (λ k. h (inl k)), to_not_d (λ k. h (inr k))),
+        λ h k. elim k [ inl l ↦ from_not_c h.0 l | inr l ↦ from_not_d h.1 l ],
+      ),
+    )
+
+-- some way of the list stands in order
+abbrev pub HasWay : List (List (ℕ × ℕ)) → List ℕ → Type 0
+HasWay vs t = (way : List (ℕ × ℕ)) × (way ∈ vs) × AreInOrder way t
+
+-- the leaves of a list of distinct events
+pub record AreItsLeaves (labels : List Label) (t ls : List ℕ) : Type 0 where
+  pub distinct : AreDistinct (events_of labels t)
+  pub same : (n : ℕ) → (n ∈ t) ↔ (n ∈ ls)
+
+-- The leaf of an event
+
+pub leaf_is_there : {labels : List Label} {t ls : List ℕ} → AreItsLeaves labels t ls → (e n : ℕ) →
+    leaf_of_event labels ls e ≡ Some n → (n ∈ t) × (event_at labels n ≡ Some e)
+leaf_is_there {labels} {t} {ls} l e n h = let (m, k) = leaf_of_event_is labels ls e n h in ((l.same n).1 m, k)
+
+pub event_is_not_there : {labels : List Label} {t ls : List ℕ} → AreItsLeaves labels t ls → (e : ℕ) →
+    leaf_of_event labels ls e ≡ None → ¬ (e ∈ events_of labels t)
+event_is_not_there {labels} {t} {ls} l e h m =
+    let (n, k, i) = of_filter_map (event_at labels) e t m in
+    not_found (λ x. is_event e (event_at labels x)) ls n h ((l.same n).0 k) (test_of_event e (event_at labels n) i)
+
+pub event_is_there : {labels : List Label} {t ls : List ℕ} → AreItsLeaves labels t ls → (e n : ℕ) →
+    leaf_of_event labels ls e ≡ Some n → e ∈ events_of labels t
+event_is_there {labels} {t} {ls} l e n h =
+    let (m, k) = leaf_is_there l e n h in mem-filter_map (event_at labels) n e t m k
+
+-- the events stand as their leaves do
+pub before_leaves : {labels : List Label} {t ls : List ℕ} → AreItsLeaves labels t ls → (a b x y : ℕ) →
+    leaf_of_event labels ls a ≡ Some x → leaf_of_event labels ls b ≡ Some y →
+    StandsBefore a b (events_of labels t) → StandsBefore x y t
+before_leaves {labels} {t} {ls} l a b x y i j s =
+    let (u, (v, r, k, h)) = of_before-filter_map (event_at labels) a b t s in
+    let (mx, ex) = leaf_is_there l a x i in
+    let (my, ey) = leaf_is_there l b y j in
+    let (mu, mv) = before_members u v t r in
+    let same_x : u ≡ x = same_source (event_at labels) t l.distinct u x a mu mx k ex in
+    let same_y : v ≡ y = same_source (event_at labels) t l.distinct v y b mv my h ey in
+    subst (λ w. StandsBefore w y t) same_x (subst (λ w. StandsBefore u w t) same_y r)
+
+pub before_events : {labels : List Label} {t ls : List ℕ} → AreItsLeaves labels t ls → (a b x y : ℕ) →
+    leaf_of_event labels ls a ≡ Some x → leaf_of_event labels ls b ≡ Some y →
+    StandsBefore x y t → StandsBefore a b (events_of labels t)
+before_events {labels} {t} {ls} l a b x y i j s =
+    before-filter_map (event_at labels) x y a b t s (leaf_is_there l a x i).1 (leaf_is_there l b y j).1
+
+-- The forms of one and two events
+
+pub free_has_way : (t : List ℕ) → HasWay free_way t
+free_has_way t = ([], inl refl, tt)
+
+pub must_by_way : {labels : List Label} {t ls : List ℕ} → AreItsLeaves labels t ls → (e : ℕ) (o : Option ℕ) →
+    leaf_of_event labels ls e ≡ o → (e ∈ events_of labels t) ↔ HasWay (ways_of_must o) t
+must_by_way {t = t} l e None h = (λ m. absurd (event_is_not_there l e h m), λ k. absurd k.1)
+must_by_way {t = t} l e (Some x) h = (λ m. free_has_way t, λ k. event_is_there l e x h)
+
+pub never_by_way : {labels : List Label} {t ls : List ℕ} → AreItsLeaves labels t ls → (e : ℕ) (o : Option ℕ) →
+    leaf_of_event labels ls e ≡ o → (¬ (e ∈ events_of labels t)) ↔ HasWay (ways_of_never o) t
+never_by_way {t = t} l e None h = (λ m. free_has_way t, λ k. event_is_not_there l e h)
+never_by_way {t = t} l e (Some x) h = (λ m. absurd (m (event_is_there l e x h)), λ k. absurd k.1)
+
+pub before_by_way : {labels : List Label} {t ls : List ℕ} → AreItsLeaves labels t ls → (a b : ℕ) →
+    (same : Bool) → (a == b) ≡ same → (o : Option ℕ) → leaf_of_event labels ls a ≡ o → (p : Option ℕ) → leaf_of_event labels ls b ≡ p →
+    StandsBefore a b (events_of labels t) ↔ HasWay (if same then [] else ways_of_before o p) t
+before_by_way {labels} {t} l a b true e o i p j = (
+  λ s. let r : StandsBefore b b (events_of labels t) = subst (λ x. StandsBefore x b (events_of labels t)) (eqb-true a b e) s in
+      absurd (not_both_ways b b (events_of labels t) l.distinct r r),
+  λ k. absurd k.1,
+)
+before_by_way {labels} {t} l a b false e None i p j =
+    (λ s. absurd (event_is_not_there l a i (before_members a b (events_of labels t) s).0), λ k. absurd k.1)
+before_by_way {labels} {t} l a b false e (Some x) i None j =
+    (λ s. absurd (event_is_not_there l b j (before_members a b (events_of labels t) s).1), λ k. absurd k.1)
+before_by_way {labels} {t} l a b false e (Some x) i (Some y) j = (
+  λ s. ((x, y) ∷ [], inl refl, (before_leaves l a b x y i j s, tt)),
+  λ (way, m, s). before_events l a b x y i j (elim m [
+    | inl k ↦ (subst (λ v. AreInOrder v t) k s).0
+    | inr k ↦ absurd k
+  ]),
+)
+
+pub not_before_by_way : {labels : List Label} {t ls : List ℕ} → AreItsLeaves labels t ls → (a b : ℕ) →
+    (same : Bool) → (a == b) ≡ same → (o : Option ℕ) → leaf_of_event labels ls a ≡ o → (p : Option ℕ) → leaf_of_event labels ls b ≡ p →
+    (¬ (StandsBefore a b (events_of labels t))) ↔ HasWay (if same then free_way else ways_of_not_before o p) t
+not_before_by_way {labels} {t} l a b true e o i p j = (
+  λ n. free_has_way t,
+  λ k s. let r : StandsBefore b b (events_of labels t) = subst (λ x. StandsBefore x b (events_of labels t)) (eqb-true a b e) s in
+      not_both_ways b b (events_of labels t) l.distinct r r,
+)
+not_before_by_way {labels} {t} l a b false e None i p j =
+    (λ n. free_has_way t, λ k s. event_is_not_there l a i (before_members a b (events_of labels t) s).0)
+not_before_by_way {labels} {t} l a b false e (Some x) i None j =
+    (λ n. free_has_way t, λ k s. event_is_not_there l b j (before_members a b (events_of labels t) s).1)
+not_before_by_way {labels} {t} {ls} l a b false e (Some x) i (Some y) j = (
+  λ n. elim (before_or_after x y t (leaf_is_there l a x i).0 (leaf_is_there l b y j).0 (λ same. eqb-false a b e (same_event labels ls a b x y i j same))) [
+    | inl s ↦ absurd (n (before_events l a b x y i j s))
+    | inr s ↦ ((y, x) ∷ [], inl refl, (s, tt))
+  ],
+  λ (way, m, s) r. elim m [
+    | inl k ↦ not_both_ways a b (events_of labels t) l.distinct r
+        (before_events l b a y x j i (subst (λ v. AreInOrder v t) k s).0)
+    | inr k ↦ k
+  ],
+)
+
+-- The joined forms
+
+pub free_is : (vs : List (List (ℕ × ℕ))) → is_free vs ≡ true → vs ≡ free_way
+free_is [] e = cc
+free_is ((pair ∷ pairs) ∷ vs) e = cc
+free_is ([] ∷ []) e = refl
+free_is ([] ∷ way ∷ vs) e = cc
+
+pub both_by_way : (t : List ℕ) (X Y : Type 0) (vs ws : List (List (ℕ × ℕ))) → X ↔ HasWay vs t → Y ↔ HasWay ws t →
+    (X × Y) ↔ HasWay (each_with_each (λ v w. v ++ w) vs ws) t
+both_by_way t X Y vs ws (to_x, from_x) (to_y, from_y) = (
+  λ h. let (v, mv, sv) = to_x h.0 in let (w, mw, sw) = to_y h.1 in
+      (v ++ w, mem-each_with_each (λ v w. v ++ w) v w vs ws mv mw, each-append _ v w sv sw),
+  λ (way, m, s).
+      let (v, (w, mv, mw, e)) = of_each_with_each (λ v w. v ++ w) way vs ws m in
+      let (sv, sw) = each_parts (λ (pair : ℕ × ℕ). StandsBefore pair.0 pair.1 t) v w (subst (λ u. AreInOrder u t) e s) in
+      (from_x (v, mv, sv), from_y (w, mw, sw)),
+)
+
+pub either_by_way : (t : List ℕ) (X Y : Type 0) (vs ws : List (List (ℕ × ℕ))) → X ↔ HasWay vs t → Y ↔ HasWay ws t →
+    (f g : Bool) → is_free vs ≡ f → is_free ws ≡ g →
+    (X ⊎ Y) ↔ HasWay (if f || g then free_way else vs ++ ws) t
+either_by_way t X Y vs ws x y true g e i =
+    (λ h. free_has_way t, λ k. inl (x.1 (subst (λ u. HasWay u t) (sym (free_is vs e)) (free_has_way t))))
+either_by_way t X Y vs ws x y false true e i =
+    (λ h. free_has_way t, λ k. inr (y.1 (subst (λ u. HasWay u t) (sym (free_is ws i)) (free_has_way t))))
+either_by_way t X Y vs ws x y false false e i = (
+  λ h. elim h [
+    | inl k ↦ (let (v, m, s) = x.0 k in (v, mem_append_left v vs ws m, s))
+    | inr k ↦ (let (v, m, s) = y.0 k in (v, mem_append_right v vs ws m, s))
+  ],
+  λ (way, m, s). elim (mem-append way vs ws m) [
+    | inl k ↦ inl (x.1 (way, k, s))
+    | inr k ↦ inr (y.1 (way, k, s))
+  ],
+)
+
+pub ways_decide : {labels : List Label} {t ls : List ℕ} → AreItsLeaves labels t ls → (n : Normal) →
+    MeetsNormal n (events_of labels t) ↔ HasWay (ways n (leaf_of_event labels ls)) t
+ways_decide {t = t} l always = (λ h. free_has_way t, λ h. tt)
+ways_decide l impossible = (λ h. absurd h, λ h. h.1)
+ways_decide l (must e) = must_by_way l e _ refl
+ways_decide l (never e) = never_by_way l e _ refl
+ways_decide l (before a b) = before_by_way l a b _ refl _ refl _ refl
+ways_decide l (not_before a b) = not_before_by_way l a b _ refl _ refl _ refl
+ways_decide {t = t} l (both x y) = both_by_way t _ _ _ _ (ways_decide l x) (ways_decide l y)
+ways_decide {t = t} l (either x y) = either_by_way t _ _ _ _ (ways_decide l x) (ways_decide l y) _ _ refl refl
