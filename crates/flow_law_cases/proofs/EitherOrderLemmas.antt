@@ -8,7 +8,7 @@ use Rattle.flow_laws.specs.Orders.{AreSideBySide}
 use Rattle.flow_laws.proofs.OrdersByTwo.{orders_may_follow}
 use Rattle.flow_laws.proofs.NeverAtALoss.{take_next}
 use Rattle.flow_law_cases.specs.EitherOrder.{either_way, one_out, EitherWayIsWellFormed, BothOrdersAreGood, EitherCanBeTaken, NoOptionHasBothOrders, OneOutIsLegal, OtherCannotBeTaken}
-use Rattle.flow_law_cases.proofs.TogetherLemmas.{well_formed}
+use Rattle.flow_law_cases.proofs.WellFormed.{well_formed}
 use Rattle.flow_law_cases.proofs.TakingLemmas.{side_by_side_of_take}
 
 pub either_way_is_well_formed : EitherWayIsWellFormed
