@@ -1,14 +1,15 @@
 -- Two leaves stand in one execution exactly where the least goal above them is no choice.
-use Rattle.std.proofs.Common.{◌≡◌, ◌≢◌, ℕ, ◌⊎◌, List, [], ◌∷◌, ◌++◌, length, refl, sym, ap, ◌∙◌, subst, inl, inr, ⊎_elim, Some}
-use Rattle.flow_model.specs.Lists.{◌∈◌, Each, AreDistinct, joined}
+use Rattle.std.proofs.Common.{◌≡◌, ◌≢◌, ℕ, ◌⊎◌, List, [], ◌∷◌, ◌++◌, length, refl, sym, ap, ◌∙◌, subst, inl, inr, ⊎_elim, Some, arith}
+use Rattle.flow_model.specs.Lists.{◌∈◌, Each, AreDistinct, joined, StandsBefore}
 use Rattle.flow_model.specs.Process.{Process, Empty, Task, Sequence, Parallel, Choice, Isolated, leaves, IsNumbered}
 use Rattle.flow_model.specs.Trace.{Blocks, as_one}
 use Rattle.flow_model.specs.Facts.{event_at}
 use Rattle.flow_model.specs.Schema.{Schema, HasUniqueEvents}
 use Rattle.flow_laws.specs.Events.{AreTogether}
-use Rattle.flow_laws.proofs.Members.{only_one, each-append, each_to, mem-append, distinct_parts}
+use Rattle.flow_laws.proofs.Members.{only_one, each-append, each_to, mem-append, not_before_itself}
 use Rattle.flow_laws.proofs.MadeLists.{distinct-filter_map, distinct-numbers_from, same_source}
 use Rattle.flow_laws.proofs.Shuffles.{shuffle-append, shuffle-joined, of_shuffle, mem_shuffle_left, mem_shuffle_right}
+use Rattle.flow_laws.proofs.GoalParts.{case_of, together_before}
 use Rattle.flow_laws.proofs.TraceLeaves.{joined-as_one, beside, some_blocks, leaf_of_blocks, distinct_trace}
 
 -- Executions that hold given leaves
@@ -68,19 +69,8 @@ pub blocks_with_both : (g : Process) (m n : ℕ) → AreTogether g m n →
 blocks_with_both g m n h = let (bs, b, all) = may_do_two g m n h in (bs, b, all.0, all.1.0)
 
 pub together_differ : (g : Process) → AreDistinct (leaves g) → (m n : ℕ) → AreTogether g m n → m ≢ n
-together_differ Empty d m n h = absurd h
-together_differ (Task k) d m n h = absurd h
-together_differ (Sequence a b) d m n (inl (inl h)) =
-    λ e. (distinct_parts (leaves a) (leaves b) d).2 n (subst (λ w. w ∈ leaves a) e h.0) h.1
-together_differ (Sequence a b) d m n (inl (inr h)) = together_differ a (distinct_parts (leaves a) (leaves b) d).0 m n h
-together_differ (Sequence a b) d m n (inr h) = together_differ b (distinct_parts (leaves a) (leaves b) d).1 m n h
-together_differ (Parallel a b) d m n (inl (inl h)) =
-    λ e. (distinct_parts (leaves a) (leaves b) d).2 n (subst (λ w. w ∈ leaves a) e h.0) h.1
-together_differ (Parallel a b) d m n (inl (inr h)) = together_differ a (distinct_parts (leaves a) (leaves b) d).0 m n h
-together_differ (Parallel a b) d m n (inr h) = together_differ b (distinct_parts (leaves a) (leaves b) d).1 m n h
-together_differ (Choice a b) d m n (inl h) = together_differ a (distinct_parts (leaves a) (leaves b) d).0 m n h
-together_differ (Choice a b) d m n (inr h) = together_differ b (distinct_parts (leaves a) (leaves b) d).1 m n h
-together_differ (Isolated a) d m n h = together_differ a d m n h
+together_differ g d m n h e =
+    not_before_itself n (leaves g) d (subst (λ x. StandsBefore x n (leaves g)) e (together_before (case_of g) m n h))
 
 -- Leaves of one execution
 
@@ -90,13 +80,17 @@ AreAllTogether g = (bs : List (List ℕ)) → Blocks g bs → (m n : ℕ) → m 
 
 together_in_halves : (a b : Process) → AreAllTogether a → AreAllTogether b → AreAllTogether (Parallel a b)
 together_in_halves a b in_a in_b bs (x, y, hx, hy, s) m n i j d =
-    cases (of_shuffle (shuffle-joined s) m i) (of_shuffle (shuffle-joined s) n j)
-  where
-    cases : (m ∈ joined x) ⊎ (m ∈ joined y) → (n ∈ joined x) ⊎ (n ∈ joined y) → AreTogether (Parallel a b) m n ⊎ AreTogether (Parallel a b) n m
-    cases (inl k) (inl l) = ⊎_elim (λ t. inl (inl (inr t))) (λ t. inr (inl (inr t))) (in_a x hx m n k l d)
-    cases (inl k) (inr l) = inl (inl (inl (leaf_of_blocks a x hx m k, leaf_of_blocks b y hy n l)))
-    cases (inr k) (inl l) = inr (inl (inl (leaf_of_blocks a x hx n l, leaf_of_blocks b y hy m k)))
-    cases (inr k) (inr l) = ⊎_elim (λ t. inl (inr t)) (λ t. inr (inr t)) (in_b y hy m n k l d)
+    grind (
+      arith,
+      of_shuffle (shuffle-joined s) m i,
+      of_shuffle (shuffle-joined s) n j,
+      λ (k : m ∈ joined x) (l : n ∈ joined x). in_a x hx m n k l d,
+      λ (k : m ∈ joined y) (l : n ∈ joined y). in_b y hy m n k l d,
+      leaf_of_blocks a x hx m,
+      leaf_of_blocks a x hx n,
+      leaf_of_blocks b y hy m,
+      leaf_of_blocks b y hy n,
+    )
 
 pub are_together : (g : Process) (bs : List (List ℕ)) → Blocks g bs → (m n : ℕ) → m ∈ joined bs → n ∈ joined bs → m ≢ n →
     AreTogether g m n ⊎ AreTogether g n m

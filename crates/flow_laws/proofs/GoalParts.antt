@@ -4,6 +4,7 @@ use Rattle.flow_model.specs.Lists.{◌∈◌, AreDistinct, StandsBefore, joined}
 use Rattle.flow_model.specs.Process.{Process, Empty, Task, Sequence, Parallel, Choice, Isolated, leaves}
 use Rattle.flow_model.specs.Ready.{InSequence, isolated_parts}
 use Rattle.flow_model.specs.Circle.{item_of, items_of}
+use Rattle.flow_laws.specs.Events.{AreTogether}
 use Rattle.flow_laws.proofs.Members.{distinct_parts, mem_append_left, mem_append_right, mem-append, before_members, before_across, before_left, before_right, not_before_itself}
 use Rattle.flow_laws.proofs.MadeLists.{mem_joined, list_having, joined_apart, joined-append}
 
@@ -27,6 +28,7 @@ pub record AreHalves (a b g : Process) : Type 0 where
   pub parts_are : IsJoined (isolated_parts g) (isolated_parts a) (isolated_parts b)
   pub items_are : IsJoined (items_of g) (items_of a) (items_of b)
   pub size_is : goal_size g ≡ suc (goal_size a + goal_size b)
+  pub together : (x y : ℕ) → AreTogether g x y → ((x ∈ leaves a) × (y ∈ leaves b)) ⊎ (AreTogether a x y ⊎ AreTogether b x y)
   pub in_sequence : (x y : ℕ) → InSequence g x y → ((x ∈ leaves a) × (y ∈ leaves b)) ⊎ (InSequence a x y ⊎ InSequence b x y)
 
 pub data Case : Process → Type 0 where
@@ -42,13 +44,13 @@ pub case_of : (g : Process) → Case g
 case_of Empty = empty
 case_of (Task n) = task
 case_of (Sequence a b) = halves
-    (record { leaves_are = whole; parts_are = whole; items_are = whole; size_is = refl; in_sequence = λ x y. ⊎_elim (⊎_elim inl (λ h. inr (inl h))) (λ h. inr (inr h)) })
+    (record { leaves_are = whole; parts_are = whole; items_are = whole; size_is = refl; together = λ x y. grind arith; in_sequence = λ x y. grind arith })
     (case_of a) (case_of b)
 case_of (Parallel a b) = halves
-    (record { leaves_are = whole; parts_are = whole; items_are = whole; size_is = refl; in_sequence = λ x y. inr })
+    (record { leaves_are = whole; parts_are = whole; items_are = whole; size_is = refl; together = λ x y. grind arith; in_sequence = λ x y. inr })
     (case_of a) (case_of b)
 case_of (Choice a b) = halves
-    (record { leaves_are = whole; parts_are = whole; items_are = whole; size_is = refl; in_sequence = λ x y. inr })
+    (record { leaves_are = whole; parts_are = whole; items_are = whole; size_is = refl; together = λ x y. inr; in_sequence = λ x y. inr })
     (case_of a) (case_of b)
 case_of (Isolated a) = isolated (case_of a)
 
@@ -64,16 +66,25 @@ in_right x {a} {b} e m = subst (λ l. x ∈ l) (sym e.is) (mem_append_right x a 
 
 -- Order
 
+-- both stand in the halves, across them or in one
+before_by_halves : {P Q : Type 0} (a b : Process) (x y : ℕ) → ((x ∈ leaves a) × (y ∈ leaves b)) ⊎ (P ⊎ Q) →
+    (P → StandsBefore x y (leaves a)) → (Q → StandsBefore x y (leaves b)) → StandsBefore x y (leaves a ++ leaves b)
+before_by_halves a b x y h in_a in_b = ⊎_elim (λ (m, k). before_across x y (leaves a) (leaves b) m k)
+    (⊎_elim (λ k. before_left x y (leaves a) (leaves b) (in_a k)) (λ k. before_right x y (leaves a) (leaves b) (in_b k))) h
+
 sequence_before : {g : Process} → Case g → (x y : ℕ) → InSequence g x y → StandsBefore x y (leaves g)
 sequence_before empty x y h = absurd h
 sequence_before task x y h = absurd h
-sequence_before (halves {a = u} {b = v} r a b) x y h = subst (StandsBefore x y) (sym r.leaves_are.is) (⊎_elim
-    (λ k. before_across x y (leaves u) (leaves v) k.0 k.1)
-    (⊎_elim
-    (λ k. before_left x y (leaves u) (leaves v) (sequence_before a x y k))
-    (λ k. before_right x y (leaves u) (leaves v) (sequence_before b x y k)))
-    (r.in_sequence x y h))
+sequence_before (halves {a = u} {b = v} r a b) x y h = subst (StandsBefore x y) (sym r.leaves_are.is)
+    (before_by_halves u v x y (r.in_sequence x y h) (sequence_before a x y) (sequence_before b x y))
 sequence_before (isolated a) x y h = sequence_before a x y h
+
+pub together_before : {g : Process} → Case g → (x y : ℕ) → AreTogether g x y → StandsBefore x y (leaves g)
+together_before empty x y h = absurd h
+together_before task x y h = absurd h
+together_before (halves {a = u} {b = v} r a b) x y h = subst (StandsBefore x y) (sym r.leaves_are.is)
+    (before_by_halves u v x y (r.together x y h) (together_before a x y) (together_before b x y))
+together_before (isolated a) x y h = together_before a x y h
 
 pub sequence_first : (g : Process) (x y : ℕ) → InSequence g x y → x ∈ leaves g
 sequence_first g x y h = (before_members x y (leaves g) (sequence_before (case_of g) x y h)).0
@@ -143,14 +154,20 @@ nested c one two n d m (inl f) h k = inl (subst (λ p. one ∈ regions p) (sym f
 nested empty one two n d (inr m) (inr l) h k = absurd m
 nested task one two n d (inr m) (inr l) h k = absurd m
 nested (halves {a = x} {b = y} r a b) one two n d (inr m) (inr l) h k =
-    let (dx, dy, off) = distinct_parts (leaves x) (leaves y) (subst AreDistinct r.leaves_are.is d) in ⊎_elim
-    (λ i. ⊎_elim
-    (λ j. nested a one two n dx (inr i) (inr j) h k) (λ j. absurd (off n (part_within x one n i h) (part_within y two n j k)))
-    (of_halves two r.parts_are l))
-    (λ i. ⊎_elim
-    (λ j. absurd (off n (part_within x two n j k) (part_within y one n i h))) (λ j. nested b one two n dy (inr i) (inr j) h k)
-    (of_halves two r.parts_are l))
-    (of_halves one r.parts_are m)
+    let (dx, dy, off) = distinct_parts (leaves x) (leaves y) (subst AreDistinct r.leaves_are.is d) in
+    let across = λ (p o : Process) (i : p ∈ isolated_parts x) (j : o ∈ isolated_parts y) (f : n ∈ leaves p) (g : n ∈ leaves o).
+    off n (part_within x p n i f) (part_within y o n j g) in
+    grind (
+      arith,
+      of_halves one r.parts_are m,
+      of_halves two r.parts_are l,
+      h,
+      k,
+      across one two,
+      across two one,
+      λ (i : one ∈ isolated_parts x) (j : two ∈ isolated_parts x). nested a one two n dx (inr i) (inr j) h k,
+      λ (i : one ∈ isolated_parts y) (j : two ∈ isolated_parts y). nested b one two n dy (inr i) (inr j) h k,
+    )
 nested (isolated a) one two n d (inr m) (inr l) h k = nested a one two n d m l h k
 
 pub part_smaller : {q : Process} → Case q → (part : Process) → part ∈ isolated_parts q → goal_size part < goal_size q

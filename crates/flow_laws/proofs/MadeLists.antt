@@ -1,5 +1,5 @@
 -- Lists made of others: mapped, joined, filtered, numbered, reordered.
-use Rattle.std.proofs.Common.{◌≡◌, ◌≢◌, ℕ, zero, suc, ◌+◌, ◌*◌, ◌<◌, ◌≤◌, ◌⊎◌, List, [], ◌∷◌, ◌++◌, map, length, refl, sym, ap, ◌∙◌, subst, inl, inr, ⊎_elim, append_assoc, append-nil, flat_map, arith, slice_get, Option, Some, None, option_map, zero-add, suc-add, zero-mul, length-append, le_of_eq, Bool, true, find, filter_map, filter, true≢false}
+use Rattle.std.proofs.Common.{◌≡◌, ◌≢◌, ℕ, zero, suc, ◌+◌, ◌*◌, ◌<◌, ◌≤◌, ◌⊎◌, List, [], ◌∷◌, ◌++◌, map, length, refl, sym, ap, ◌∙◌, subst, inl, inr, ⊎_elim, append_assoc, append-nil, flat_map, arith, slice_get, Option, Some, None, option_map, zero-add, suc-add, zero-mul, length-append, Bool, true, find, filter_map, filter, true≢false}
 use Rattle.std.specs.List.{cons_option}
 use Rattle.std.proofs.lemmas.Bool.{cases_Bool}
 use Rattle.std.proofs.lemmas.List.{length-map}
@@ -7,7 +7,7 @@ use Rattle.std.proofs.lemmas.Option.{slice_get-map}
 use Rattle.flow_model.specs.Lists.{◌∈◌, Each, AreDistinct, Begins, StandsBefore, IsOrderOf, joined, numbers_from, each_with_each}
 pub use Rattle.flow_model.specs.Decided.{order_of_none}
 pub use Rattle.flow_model.proofs.Lists.{slice_get_append_left}
-use Rattle.flow_laws.proofs.Members.{mem_append_left, mem_append_right, mem-append, mem_without, distinct_apart, distinct_right, cons_same, not_empty}
+use Rattle.flow_laws.proofs.Members.{mem_append_left, mem_append_right, mem-append, mem_here, mem_without, distinct_apart, distinct_right, cons_same, not_empty}
 
 -- Mapped
 
@@ -84,8 +84,7 @@ joined-append (x ∷ xs) ys = ap (λ w. x ++ w) (joined-append xs ys) ∙ sym (a
 
 pub mem_joined : {A : Type 0} (x : A) (list : List (List A)) (item : List A) → item ∈ list → x ∈ item → x ∈ joined list
 mem_joined x [] item m h = absurd m
-mem_joined x (y ∷ list) item (inl e) h = mem_append_left x y (joined list) (subst (λ l. x ∈ l) e h)
-mem_joined x (y ∷ list) item (inr m) h = mem_append_right x y (joined list) (mem_joined x list item m h)
+mem_joined x (y ∷ list) item m h = grind (arith, m, h, mem_append_left x y (joined list), mem_append_right x y (joined list), mem_joined x list item)
 
 -- the list in which a member of the joined lists stands
 pub list_having : {A : Type 0} (x : A) (list : List (List A)) → x ∈ joined list → (item : List A) × (item ∈ list) × (x ∈ item)
@@ -98,30 +97,22 @@ list_having x (y ∷ list) h = ⊎_elim
 -- where the joined lists are distinct, two with a common member are one
 pub joined_apart : {A : Type 0} (list : List (List A)) (a b : List A) (x : A) → AreDistinct (joined list) → a ∈ list → b ∈ list → x ∈ a → x ∈ b → a ≡ b
 joined_apart [] a b x d m l h k = absurd m
-joined_apart (y ∷ list) a b x d (inl e) (inl f) h k = e ∙ sym f
-joined_apart (y ∷ list) a b x d (inl e) (inr l) h k =
-    absurd (distinct_apart y (joined list) d x (subst (λ z. x ∈ z) e h) (mem_joined x list b l k))
-joined_apart (y ∷ list) a b x d (inr m) (inl f) h k =
-    absurd (distinct_apart y (joined list) d x (subst (λ z. x ∈ z) f k) (mem_joined x list a m h))
-joined_apart (y ∷ list) a b x d (inr m) (inr l) h k = joined_apart list a b x (distinct_right y (joined list) d) m l h k
+joined_apart (y ∷ list) a b x d m l h k =
+    grind (arith, m, l, h, k, distinct_apart y (joined list) d x, mem_joined x list a, mem_joined x list b, joined_apart list a b x (distinct_right y (joined list) d))
 
 -- Numbers in a row
 
 pub numbers_from_least : (first count n : ℕ) → n ∈ numbers_from first count → first ≤ n
 numbers_from_least first zero n h = absurd h
-numbers_from_least first (suc count) n (inl e) = le_of_eq (sym e)
-numbers_from_least first (suc count) n (inr h) = omega (arith, numbers_from_least (first + 1) count n h)
+numbers_from_least first (suc count) n h = grind (arith, h, numbers_from_least (first + 1) count n)
 
 pub numbers_from_below : (first count n : ℕ) → n ∈ numbers_from first count → n < first + count
 numbers_from_below first zero n h = absurd h
-numbers_from_below first (suc count) n (inl e) = omega arith
-numbers_from_below first (suc count) n (inr h) = omega (arith, numbers_from_below (first + 1) count n h)
+numbers_from_below first (suc count) n h = grind (arith, h, numbers_from_below (first + 1) count n)
 
 pub numbers_from_more : (first count : ℕ) → numbers_from first (suc count) ≡ numbers_from first count ++ (first + count) ∷ []
-numbers_from_more first zero = let e : first ≡ first + zero = omega arith in ap (λ n. n ∷ []) e
-numbers_from_more first (suc count) =
-    let e : (first + 1) + count ≡ first + suc count = omega arith in
-    ap (λ w. first ∷ w) (numbers_from_more (first + 1) count ∙ ap (λ n. numbers_from (first + 1) count ++ n ∷ []) e)
+numbers_from_more first zero = grind arith
+numbers_from_more first (suc count) = grind (arith, numbers_from_more (first + 1) count)
 
 pub distinct-numbers_from : (first count : ℕ) → AreDistinct (numbers_from first count)
 distinct-numbers_from first zero = tt
@@ -218,12 +209,11 @@ of_before-filter_map h a b (z ∷ t) s =
 pub same_source : {A B : Type 0} (h : A → Option B) (t : List A) → AreDistinct (filter_map h t) →
     (x y : A) (a : B) → x ∈ t → y ∈ t → h x ≡ Some a → h y ≡ Some a → x ≡ y
 same_source h [] d x y a m k i j = absurd m
-same_source h (z ∷ t) d x y a (inl p) (inl q) i j = p ∙ sym q
-same_source h (z ∷ t) d x y a (inl p) (inr q) i j =
-    let d' = rw (ap h (sym p) ∙ i) at d in absurd (d'.0 (mem-filter_map h y a t q j))
-same_source h (z ∷ t) d x y a (inr p) (inl q) i j =
-    let d' = rw (ap h (sym q) ∙ j) at d in absurd (d'.0 (mem-filter_map h x a t p i))
-same_source h (z ∷ t) d x y a (inr p) (inr q) i j = same_source h t (distinct_cons_option (h z) (filter_map h t) d) x y a p q i j
+same_source h (z ∷ t) d x y a m k i j = elim (kept_first h z t) [
+  | inl e ↦ grind (arith, m, k, same_source h t (subst AreDistinct e d) x y a, mem-filter_map h x a t, mem-filter_map h y a t)
+  | inr (w, f, e) ↦ (let d' : AreDistinct (w ∷ filter_map h t) = subst AreDistinct e d in
+      grind (arith, m, k, d'.0, same_source h t d'.1 x y a, mem-filter_map h x a t, mem-filter_map h y a t))
+]
 
 -- where no two different members map to the same, what is kept is distinct
 pub distinct-filter_map : {A B : Type 0} (h : A → Option B) (t : List A) → AreDistinct t →
@@ -262,24 +252,16 @@ order_of_one (y ∷ order) x (z ∷ front, back, e, h) =
 
 pub order_member : {A : Type 0} (x : A) (order list : List A) → IsOrderOf order list → x ∈ order → x ∈ list
 order_member x [] list o m = absurd m
-order_member x (y ∷ order) list o (inl e) =
-    subst (λ l. x ∈ l) (sym o.2) (mem_append_right x o.0 (y ∷ o.1) (inl e))
-order_member x (y ∷ order) list o (inr m) =
-    subst (λ l. x ∈ l) (sym o.2) (mem_without x y o.0 o.1 (order_member x order (o.0 ++ o.1) o.3 m))
+order_member x (y ∷ order) list (a, b, e, o) m =
+    subst (λ l. x ∈ l) (sym e) (grind (arith, m, mem_here x a b, mem_without x y a b, order_member x order (a ++ b) o))
 
 -- one list cut in two ways: the marked member is in the first half or in the second
 pub two_cuts : {A : Type 0} (a b front : List A) (y : A) (back : List A) → a ++ b ≡ front ++ y ∷ back →
     ((m : List A) × (a ≡ front ++ y ∷ m) × (back ≡ m ++ b)) ⊎ ((m : List A) × (front ≡ a ++ m) × (b ≡ m ++ y ∷ back))
 two_cuts [] b front y back e = inr (front, refl, e)
-two_cuts (x ∷ a) b [] y back e =
-    let (h, t) = cons_same x y (a ++ b) back e in
-    inl (a, ap (λ w. w ∷ a) h, sym t)
+two_cuts (x ∷ a) b [] y back e = inl (a, cc, cc)
 two_cuts (x ∷ a) b (z ∷ front) y back e =
-    let (h, t) = cons_same x z (a ++ b) (front ++ y ∷ back) e in
-    elim (two_cuts a b front y back t) [
-      | inl k ↦ inl (k.0, ap (λ w. x ∷ w) k.1 ∙ ap (λ w. w ∷ (front ++ y ∷ k.0)) h, k.2)
-      | inr k ↦ inr (k.0, ap (λ w. z ∷ w) k.1 ∙ ap (λ w. w ∷ (a ++ k.0)) (sym h), k.2)
-    ]
+    ⊎_elim (λ (m, p, q). inl (m, cc, q)) (λ (m, p, q). inr (m, cc, q)) (two_cuts a b front y back (cons_same x z (a ++ b) (front ++ y ∷ back) e).1)
 
 -- one more member, last in the order and anywhere in the list
 pub order_with_last : {A : Type 0} (order : List A) (x : A) (a b : List A) → IsOrderOf order (a ++ b) →

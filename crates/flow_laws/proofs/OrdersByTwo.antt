@@ -1,5 +1,5 @@
 -- Two at a time suffice for every order, for any set of done leaves; what may follow a journal.
-use Rattle.std.proofs.Common.{ℕ, List, [], ◌∷◌, ◌++◌, IsTrue, refl, sym, ap, subst, inl, inr, ⊎_elim}
+use Rattle.std.proofs.Common.{ℕ, List, [], ◌∷◌, ◌++◌, IsTrue, refl, sym, ap, subst, inl, inr, ⊎_elim, arith}
 use Rattle.flow_model.specs.Lists.{◌∈◌, Each, IsOrderOf}
 use Rattle.flow_model.specs.Process.{Process}
 use Rattle.flow_model.specs.Ready.{IsReady, DoneOr, IsReadyRunAfter}
@@ -39,9 +39,9 @@ each_two_order R (y ∷ order) list o h =
 
 pub each_two_at : {A : Type 0} (R : A → A → Type 0) (front : List A) (n : A) (back : List A) → EachTwo R (front ++ n ∷ back) → (x : A) → x ∈ front → R x n
 each_two_at R [] n back h x m = absurd m
-each_two_at R (y ∷ front) n back h x (inl e) =
-    subst (λ z. R z n) (sym e) (each_member (λ z. R y z × R z y) (front ++ n ∷ back) h.0 n (mem_here n front back)).0
-each_two_at R (y ∷ front) n back h x (inr m) = each_two_at R front n back h.1 x m
+each_two_at R (y ∷ front) n back h x m =
+    let k = (each_member (λ z. R y z × R z y) (front ++ n ∷ back) h.0 n (mem_here n front back)).0 in
+    ⊎_elim (λ e. subst (λ z. R z n) (sym e) k) (each_two_at R front n back h.1 x) m
 
 -- ready leaves
 
@@ -138,10 +138,7 @@ orders_may_follow w f s o m list = (
 
 -- done, or the one leaf: done at the end of the journal
 pub done_or_one : (journal : List ℕ) (first : ℕ) → AreSame (DoneOr (λ n. n ∈ journal) (first ∷ [])) (λ n. n ∈ (journal ++ first ∷ []))
-done_or_one journal first n = (
-  λ h. elim h [ inl m ↦ mem_append_left n journal (first ∷ []) m | inr m ↦ mem_append_right n journal (first ∷ []) m ],
-  λ m. mem-append n journal (first ∷ []) m,
-)
+done_or_one journal first n = (grind (arith, mem_append_left n journal (first ∷ []), mem_append_right n journal (first ∷ [])), mem-append n journal (first ∷ []))
 
 pub orders_may_follow_one : OrdersMayFollowOne
 orders_may_follow_one w f s o m first list =

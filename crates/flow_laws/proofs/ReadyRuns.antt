@@ -1,5 +1,5 @@
 -- Ready runs and the executions of an option, leaf by leaf.
-use Rattle.std.proofs.Common.{◌≡◌, ◌≢◌, ℕ, List, [], ◌∷◌, ◌++◌, ◌↔◌, refl, sym, ap, ◌∙◌, subst, inl, inr, ⊎_elim, append_assoc, append-nil}
+use Rattle.std.proofs.Common.{◌≡◌, ◌≢◌, ℕ, List, [], ◌∷◌, ◌++◌, ◌↔◌, refl, sym, ap, ◌∙◌, subst, inl, inr, ⊎_elim, append_assoc, append-nil, arith}
 use Rattle.flow_model.specs.Lists.{◌∈◌, AreDistinct, AreInOrder, StandsBefore, Begins}
 use Rattle.flow_model.specs.Process.{Process, leaves}
 use Rattle.flow_model.specs.Trace.{Trace}
@@ -95,13 +95,10 @@ as_well q pairs D E run same =
 
 -- one more done leaf, told first or last
 done_in_turn : (D : ℕ → Type 0) (n : ℕ) (run : List ℕ) → AreSame (DoneOr (DoneOr D (n ∷ [])) run) (DoneOr D (n ∷ run))
-done_in_turn D n run m = (
-  ⊎_elim (⊎_elim inl (λ l. inr (⊎_elim inl absurd l))) (λ l. inr (inr l)),
-  ⊎_elim (λ d. inl (inl d)) (⊎_elim (λ e. inl (inr (inl e))) inr),
-)
+done_in_turn D n run m = grind arith
 
 done_or_none : (D : ℕ → Type 0) → AreSame D (DoneOr D [])
-done_or_none D n = (inl, ⊎_elim (λ d. d) absurd)
+done_or_none D n = grind arith
 
 -- two ready runs, one after the other, are one
 pub run-append : (q : Process) (pairs : List (ℕ × ℕ)) (D : ℕ → Type 0) (run more : List ℕ) →

@@ -1,14 +1,14 @@
 -- Resolutions: whose executions they have, which they are, and what their leaves are.
-use Rattle.std.proofs.Common.{◌≡◌, ℕ, ◌+◌, ◌*◌, ◌↔◌, List, [], ◌++◌, length, refl, sym, ap, ap₂, ◌∙◌, subst, inl, inr, ⊎_elim, slice_get, Some, length-append}
+use Rattle.std.proofs.Common.{◌≡◌, ℕ, ◌+◌, ◌*◌, ◌↔◌, List, [], ◌++◌, length, refl, sym, ap, ap₂, ◌∙◌, subst, inl, inr, ⊎_elim, slice_get, Some, length-append, arith}
 use Rattle.std.proofs.lemmas.List.{length-map}
 use Rattle.flow_model.specs.Lists.{◌∈◌, AreDistinct, each_with_each, joined}
 use Rattle.flow_model.specs.Process.{Process, Empty, Task, Sequence, Parallel, Choice, Isolated, leaves, IsChoiceFree}
 use Rattle.flow_model.specs.Trace.{Shuffle, Blocks, Trace}
 use Rattle.flow_model.specs.Resolution.{resolutions, resolution_count}
 use Rattle.flow_laws.specs.Resolutions.{Resolves}
-use Rattle.flow_laws.proofs.Members.{mem_append_left, mem_append_right, mem-append, mem_both, mem_swap, distinct_left, distinct_right, distinct_apart, distinct_parts, distinct-append, Apart}
+use Rattle.flow_laws.proofs.Members.{mem_append_left, mem_append_right, mem-append, mem_both, distinct_left, distinct_right, distinct_apart, distinct_parts, distinct-append}
 use Rattle.flow_laws.proofs.MadeLists.{mem-map, of_map, mem-each_with_each, of_each_with_each, length-each_with_each, slice_get-each_with_each, slice_get_append_right}
-use Rattle.flow_laws.proofs.Shuffles.{shuffle_swap, shuffle-append, shuffle-joined, of_shuffle, mem_shuffle_left}
+use Rattle.flow_laws.proofs.Shuffles.{shuffle-append, shuffle-joined, of_shuffle, mem_shuffle_left, mem_shuffle_right}
 use Rattle.flow_laws.proofs.TraceLeaves.{joined-as_one, some_blocks, leaf_of_blocks, blocks_of_none}
 
 -- Executions
@@ -154,23 +154,26 @@ no_common_leaf p q bs apart h just =
     let empty : cs ≡ [] = blocks_of_none q cs k (λ n m. none n ((just n).1 (leaf_of_blocks q cs k n m))) in
     subst (Blocks q) (empty ∙ sym (blocks_of_none p bs h none)) k
 
--- the blocks of a left half hold just the leaves of its own resolution
-left_has : (a b u v : Process) (x y bs : List (List ℕ)) → Apart (leaves a) (leaves b) → Resolves a u → Resolves b v → Blocks a x → Blocks b y →
-    Shuffle x y bs → HasJust (Parallel u v) bs → HasJust u x
-left_has a b u v x y bs off hu hv hx hy s just n = (
-  λ m. ⊎_elim (λ k. k) (λ k. absurd (off n (leaf_of_blocks a x hx n m) (mem-leaves_of_goal b v hv n k)))
-      (mem-append n (leaves u) (leaves v) ((just n).0 (mem_shuffle_left (shuffle-joined s) n m))),
-  λ k. ⊎_elim (λ m. m) (λ m. absurd (off n (mem-leaves_of_goal a u hu n k) (leaf_of_blocks b y hy n m)))
-      (of_shuffle (shuffle-joined s) n ((just n).1 (mem_append_left n (leaves u) (leaves v) k))),
-)
-
+-- of two halves the blocks hold just the leaves of their own resolutions
 halves_have : (a b u v : Process) (x y bs : List (List ℕ)) → AreDistinct (leaves (Parallel a b)) → Resolves a u → Resolves b v → Blocks a x → Blocks b y →
     Shuffle x y bs → HasJust (Parallel u v) bs → HasJust u x × HasJust v y
-halves_have a b u v x y bs d hu hv hx hy s just =
-    let off = distinct_apart (leaves a) (leaves b) d in (
-      left_has a b u v x y bs off hu hv hx hy s just,
-      left_has b a v u y x bs (λ n m k. off n k m) hv hu hy hx (shuffle_swap s)
-          (λ n. (λ m. mem_swap n (leaves u) (leaves v) ((just n).0 m), λ m. (just n).1 (mem_swap n (leaves v) (leaves u) m))),
+halves_have a b u v x y bs d hu hv hx hy s just = (λ n. (at n).0, λ n. (at n).1)
+  where
+    at : (n : ℕ) → ((n ∈ joined x) ↔ (n ∈ leaves u)) × ((n ∈ joined y) ↔ (n ∈ leaves v))
+    at n = grind (
+      arith,
+      just n,
+      distinct_apart (leaves a) (leaves b) d n,
+      mem-leaves_of_goal a u hu n,
+      mem-leaves_of_goal b v hv n,
+      leaf_of_blocks a x hx n,
+      leaf_of_blocks b y hy n,
+      mem-append n (leaves u) (leaves v),
+      mem_append_left n (leaves u) (leaves v),
+      mem_append_right n (leaves u) (leaves v),
+      of_shuffle (shuffle-joined s) n,
+      mem_shuffle_left (shuffle-joined s) n,
+      mem_shuffle_right (shuffle-joined s) n,
     )
 
 blocks_by_leaves : (g q : Process) → AreDistinct (leaves g) → Resolves g q → (bs : List (List ℕ)) → Blocks g bs → HasJust q bs → Blocks q bs

@@ -1,5 +1,5 @@
 -- Constraints, their normal forms and their ways: of which leaves the pairs are, and what is decided by them.
-use Rattle.std.proofs.Common.{◌≡◌, ◌≢◌, ℕ, ◌⊎◌, Bool, true, false, ◌==◌, ◌||◌, if◌then◌else◌, List, [], ◌∷◌, ◌++◌, refl, sym, ap, ◌∙◌, subst, inl, inr, ⊎_elim, Option, Some, None, ◌↔◌}
+use Rattle.std.proofs.Common.{◌≡◌, ◌≢◌, ℕ, ◌⊎◌, Bool, true, false, ◌==◌, ◌||◌, if◌then◌else◌, List, [], ◌∷◌, ◌++◌, refl, sym, ap, ◌∙◌, subst, inl, inr, ⊎_elim, Option, Some, None, ◌↔◌, arith}
 use Rattle.std.proofs.lemmas.Bool.{eqb-true, eqb-false, eq-eqb}
 use Rattle.flow_model.specs.declared.labels.Label.{Label}
 use Rattle.flow_model.specs.Lists.{◌∈◌, Each, StandsBefore, AreDistinct, AreInOrder, each_with_each}
@@ -7,7 +7,7 @@ use Rattle.flow_model.specs.Facts.{event_at, is_event, events_of}
 use Rattle.flow_model.specs.Ways.{Normal, always, impossible, must, never, before, not_before, both, either, ways, leaf_of_event, free_way, is_free, ways_of_must, ways_of_never, ways_of_before, ways_of_not_before, normal_form, chain, broken_chain}
 use Rattle.flow_model.specs.Constraint.{Constraint, Always, Impossible, Must, Never, Order, Not, And, Or, Meets, HappenInOrder}
 use Rattle.flow_model.specs.Decided.{decide_in, decide_before, decide_meets}
-use Rattle.flow_laws.proofs.Members.{mem-append, each-append, before_members, mem_append_left, mem_append_right, each_parts, not_both_ways, before_or_after}
+use Rattle.flow_laws.proofs.Members.{mem-append, each-append, before_members, mem_append_left, mem_append_right, each_parts, not_both_ways, before_or_after, not_before_itself}
 use Rattle.flow_laws.proofs.MadeLists.{of_each_with_each, of_find, some_same, mem-each_with_each, not_found, mem-filter_map, of_filter_map, before-filter_map, of_before-filter_map, same_source}
 
 -- The leaf of an event
@@ -101,61 +101,32 @@ pub not_not : {A : Type 0} → A ⊎ ¬ A → ¬ (¬ A) → A
 not_not (inl a) h = a
 not_not (inr n) h = absurd (h n)
 
--- not both: one of them not
-pub one_not : {A B : Type 0} → A ⊎ ¬ A → ¬ (A × B) → (¬ A) ⊎ (¬ B)
-one_not (inl a) h = inr (λ b. h (a, b))
-one_not (inr n) h = inl n
-
 -- Chains
 
 pub chain_is : (es events : List ℕ) → HappenInOrder es events ↔ MeetsNormal (chain es) events
 chain_is [] events = (λ h. h, λ h. h)
 chain_is (a ∷ []) events = (λ h. h, λ h. h)
-chain_is (a ∷ b ∷ []) events = (λ h. h.0, λ h. (h, (before_members a b events h).1))
-chain_is (a ∷ b ∷ c ∷ more) events =
-    let (to, from) = chain_is (b ∷ c ∷ more) events in
-    (λ h. (h.0, to h.1), λ h. (h.0, from h.1))
+chain_is (a ∷ b ∷ []) events = grind (arith, before_members a b events)
+chain_is (a ∷ b ∷ c ∷ more) events = grind (arith, chain_is (b ∷ c ∷ more) events)
 
 pub broken_chain_is : (es events : List ℕ) → (¬ (HappenInOrder es events)) ↔ MeetsNormal (broken_chain es) events
-broken_chain_is [] events = (λ h. h tt, λ h k. h)
+broken_chain_is [] events = grind arith
 broken_chain_is (a ∷ []) events = (λ h. h, λ h. h)
-broken_chain_is (a ∷ b ∷ []) events = (λ h k. h (k, (before_members a b events k).1), λ h k. h k.0)
-broken_chain_is (a ∷ b ∷ c ∷ more) events =
-    let (to, from) = broken_chain_is (b ∷ c ∷ more) events in (
-      λ h. elim (one_not (decide_before a b events) h) [ inl n ↦ inl n | inr n ↦ inr (to n) ],
-      λ h k. elim h [ inl n ↦ n k.0 | inr n ↦ from n k.1 ],
-    )
+broken_chain_is (a ∷ b ∷ []) events = grind (arith, before_members a b events)
+broken_chain_is (a ∷ b ∷ c ∷ more) events = grind (arith, broken_chain_is (b ∷ c ∷ more) events, decide_before a b events)
 
 -- a constraint and its normal form; its negation and that one's
 pub normal_form_is : (c : Constraint) (events : List ℕ) →
     (Meets c events ↔ MeetsNormal (normal_form c true) events)
     × ((¬ (Meets c events)) ↔ MeetsNormal (normal_form c false) events)
-normal_form_is Always events = ((λ h. h, λ h. h), (λ h. h tt, λ h k. h))
-normal_form_is Impossible events = ((λ h. h, λ h. h), (λ h. tt, λ h k. k))
-normal_form_is (Must e) events = ((λ h. h, λ h. h), (λ h. h, λ h. h))
-normal_form_is (Never e) events = ((λ h. h, λ h. h), (not_not (decide_in e events), λ h n. n h))
+normal_form_is Always events = grind arith
+normal_form_is Impossible events = grind arith
+normal_form_is (Must e) events = grind arith
+normal_form_is (Never e) events = grind (arith, decide_in e events)
 normal_form_is (Order es) events = (chain_is es events, broken_chain_is es events)
-normal_form_is (Not c) events =
-    let ((to, from), negated) = normal_form_is c events in
-    (negated, (λ h. to (not_not (decide_meets c events) h), λ h n. n (from h)))
-normal_form_is (And c d) events =
-    let ((to_c, from_c), (to_not_c, from_not_c)) = normal_form_is c events in
-    let ((to_d, from_d), (to_not_d, from_not_d)) = normal_form_is d events in (
-      (λ h. (to_c h.0, to_d h.1), λ h. (from_c h.0, from_d h.1)),
-      (
-        λ h. elim (one_not (decide_meets c events) h) [ inl n ↦ inl (to_not_c n) | inr n ↦ inr (to_not_d n) ],
-        λ h k. elim h [ inl n ↦ from_not_c n k.0 | inr n ↦ from_not_d n k.1 ],
-      ),
-    )
-normal_form_is (Or c d) events =
-    let ((to_c, from_c), (to_not_c, from_not_c)) = normal_form_is c events in
-    let ((to_d, from_d), (to_not_d, from_not_d)) = normal_form_is d events in (
-      (λ h. elim h [ inl k ↦ inl (to_c k) | inr k ↦ inr (to_d k) ], λ h. elim h [ inl k ↦ inl (from_c k) | inr k ↦ inr (from_d k) ]),
-      (
-        λ h. (to_not_c (λ k. h (inl k)), to_not_d (λ k. h (inr k))),
-        λ h k. elim k [ inl l ↦ from_not_c h.0 l | inr l ↦ from_not_d h.1 l ],
-      ),
-    )
+normal_form_is (Not c) events = grind (arith, normal_form_is c events, decide_meets c events)
+normal_form_is (And c d) events = grind (arith, normal_form_is c events, normal_form_is d events, decide_meets c events)
+normal_form_is (Or c d) events = grind (arith, normal_form_is c events, normal_form_is d events)
 
 -- some way of the list stands in order
 abbrev pub HasWay : List (List (ℕ × ℕ)) → List ℕ → Type 0
@@ -207,59 +178,55 @@ before_events {labels} {t} {ls} l a b x y i j s =
 pub free_has_way : (t : List ℕ) → HasWay free_way t
 free_has_way t = ([], inl refl, tt)
 
-pub must_by_way : {labels : List Label} {t ls : List ℕ} → AreItsLeaves labels t ls → (e : ℕ) (o : Option ℕ) →
+-- what never is has no way, what always is the free one, and what is where a pair stands in order the way of that pair
+never_is : {P : Type 0} (t : List ℕ) → ¬ P → P ↔ HasWay [] t
+never_is t n = (λ h. absurd (n h), λ k. absurd k.1)
+
+always_is : {P : Type 0} (t : List ℕ) → P → P ↔ HasWay free_way t
+always_is t p = (λ h. free_has_way t, λ k. p)
+
+pair_is : {P : Type 0} (t : List ℕ) (x y : ℕ) → (P → StandsBefore x y t) → (StandsBefore x y t → P) → P ↔ HasWay (((x, y) ∷ []) ∷ []) t
+pair_is t x y to from = (
+  λ h. ((x, y) ∷ [], inl refl, (to h, tt)),
+  λ (way, m, s). ⊎_elim (λ (e : way ≡ (x, y) ∷ []). from (subst (λ v. AreInOrder v t) e s).0) absurd m,
+)
+
+must_by_way : {labels : List Label} {t ls : List ℕ} → AreItsLeaves labels t ls → (e : ℕ) (o : Option ℕ) →
     leaf_of_event labels ls e ≡ o → (e ∈ events_of labels t) ↔ HasWay (ways_of_must o) t
-must_by_way {t = t} l e None h = (λ m. absurd (event_is_not_there l e h m), λ k. absurd k.1)
-must_by_way {t = t} l e (Some x) h = (λ m. free_has_way t, λ k. event_is_there l e x h)
+must_by_way {t = t} l e None h = never_is t (event_is_not_there l e h)
+must_by_way {t = t} l e (Some x) h = always_is t (event_is_there l e x h)
 
-pub never_by_way : {labels : List Label} {t ls : List ℕ} → AreItsLeaves labels t ls → (e : ℕ) (o : Option ℕ) →
+never_by_way : {labels : List Label} {t ls : List ℕ} → AreItsLeaves labels t ls → (e : ℕ) (o : Option ℕ) →
     leaf_of_event labels ls e ≡ o → (¬ (e ∈ events_of labels t)) ↔ HasWay (ways_of_never o) t
-never_by_way {t = t} l e None h = (λ m. free_has_way t, λ k. event_is_not_there l e h)
-never_by_way {t = t} l e (Some x) h = (λ m. absurd (m (event_is_there l e x h)), λ k. absurd k.1)
+never_by_way {t = t} l e None h = always_is t (event_is_not_there l e h)
+never_by_way {t = t} l e (Some x) h = never_is t (λ n. n (event_is_there l e x h))
 
-pub before_by_way : {labels : List Label} {t ls : List ℕ} → AreItsLeaves labels t ls → (a b : ℕ) →
+-- where one event is not there, or the two are one, they do not stand in order
+not_in_order : {labels : List Label} {t ls : List ℕ} → AreItsLeaves labels t ls → (a b : ℕ) →
+    ((a == b) ≡ true) ⊎ ((leaf_of_event labels ls a ≡ None) ⊎ (leaf_of_event labels ls b ≡ None)) → ¬ (StandsBefore a b (events_of labels t))
+not_in_order {labels} {t} l a b (inl e) s =
+    not_before_itself b (events_of labels t) l.distinct (subst (λ x. StandsBefore x b (events_of labels t)) (eqb-true a b e) s)
+not_in_order {labels} {t} l a b (inr (inl i)) s = event_is_not_there l a i (before_members a b (events_of labels t) s).0
+not_in_order {labels} {t} l a b (inr (inr j)) s = event_is_not_there l b j (before_members a b (events_of labels t) s).1
+
+before_by_way : {labels : List Label} {t ls : List ℕ} → AreItsLeaves labels t ls → (a b : ℕ) →
     (same : Bool) → (a == b) ≡ same → (o : Option ℕ) → leaf_of_event labels ls a ≡ o → (p : Option ℕ) → leaf_of_event labels ls b ≡ p →
     StandsBefore a b (events_of labels t) ↔ HasWay (if same then [] else ways_of_before o p) t
-before_by_way {labels} {t} l a b true e o i p j = (
-  λ s. let r : StandsBefore b b (events_of labels t) = subst (λ x. StandsBefore x b (events_of labels t)) (eqb-true a b e) s in
-      absurd (not_both_ways b b (events_of labels t) l.distinct r r),
-  λ k. absurd k.1,
-)
-before_by_way {labels} {t} l a b false e None i p j =
-    (λ s. absurd (event_is_not_there l a i (before_members a b (events_of labels t) s).0), λ k. absurd k.1)
-before_by_way {labels} {t} l a b false e (Some x) i None j =
-    (λ s. absurd (event_is_not_there l b j (before_members a b (events_of labels t) s).1), λ k. absurd k.1)
-before_by_way {labels} {t} l a b false e (Some x) i (Some y) j = (
-  λ s. ((x, y) ∷ [], inl refl, (before_leaves l a b x y i j s, tt)),
-  λ (way, m, s). before_events l a b x y i j (elim m [
-    | inl k ↦ (subst (λ v. AreInOrder v t) k s).0
-    | inr k ↦ absurd k
-  ]),
-)
+before_by_way {t = t} l a b true e o i p j = never_is t (not_in_order l a b (inl e))
+before_by_way {t = t} l a b false e None i p j = never_is t (not_in_order l a b (inr (inl i)))
+before_by_way {t = t} l a b false e (Some x) i None j = never_is t (not_in_order l a b (inr (inr j)))
+before_by_way {t = t} l a b false e (Some x) i (Some y) j = pair_is t x y (before_leaves l a b x y i j) (before_events l a b x y i j)
 
-pub not_before_by_way : {labels : List Label} {t ls : List ℕ} → AreItsLeaves labels t ls → (a b : ℕ) →
+not_before_by_way : {labels : List Label} {t ls : List ℕ} → AreItsLeaves labels t ls → (a b : ℕ) →
     (same : Bool) → (a == b) ≡ same → (o : Option ℕ) → leaf_of_event labels ls a ≡ o → (p : Option ℕ) → leaf_of_event labels ls b ≡ p →
     (¬ (StandsBefore a b (events_of labels t))) ↔ HasWay (if same then free_way else ways_of_not_before o p) t
-not_before_by_way {labels} {t} l a b true e o i p j = (
-  λ n. free_has_way t,
-  λ k s. let r : StandsBefore b b (events_of labels t) = subst (λ x. StandsBefore x b (events_of labels t)) (eqb-true a b e) s in
-      not_both_ways b b (events_of labels t) l.distinct r r,
-)
-not_before_by_way {labels} {t} l a b false e None i p j =
-    (λ n. free_has_way t, λ k s. event_is_not_there l a i (before_members a b (events_of labels t) s).0)
-not_before_by_way {labels} {t} l a b false e (Some x) i None j =
-    (λ n. free_has_way t, λ k s. event_is_not_there l b j (before_members a b (events_of labels t) s).1)
-not_before_by_way {labels} {t} {ls} l a b false e (Some x) i (Some y) j = (
-  λ n. elim (before_or_after x y t (leaf_is_there l a x i).0 (leaf_is_there l b y j).0 (λ same. eqb-false a b e (same_event labels ls a b x y i j same))) [
-    | inl s ↦ absurd (n (before_events l a b x y i j s))
-    | inr s ↦ ((y, x) ∷ [], inl refl, (s, tt))
-  ],
-  λ (way, m, s) r. elim m [
-    | inl k ↦ not_both_ways a b (events_of labels t) l.distinct r
-        (before_events l b a y x j i (subst (λ v. AreInOrder v t) k s).0)
-    | inr k ↦ k
-  ],
-)
+not_before_by_way {t = t} l a b true e o i p j = always_is t (not_in_order l a b (inl e))
+not_before_by_way {t = t} l a b false e None i p j = always_is t (not_in_order l a b (inr (inl i)))
+not_before_by_way {t = t} l a b false e (Some x) i None j = always_is t (not_in_order l a b (inr (inr j)))
+not_before_by_way {labels} {t} {ls} l a b false e (Some x) i (Some y) j = pair_is t y x
+    (λ n. ⊎_elim (λ s. absurd (n (before_events l a b x y i j s))) (λ s. s)
+    (before_or_after x y t (leaf_is_there l a x i).0 (leaf_is_there l b y j).0 (λ same. eqb-false a b e (same_event labels ls a b x y i j same))))
+    (λ s r. not_both_ways a b (events_of labels t) l.distinct r (before_events l b a y x j i s))
 
 -- The joined forms
 
