@@ -40,14 +40,18 @@ module _ (q : Process) (pairs : List (ℕ × ℕ)) (t : List ℕ) (w : IsOrdered
       differ i j p r e = apart j (subst (λ s. s ∈ one) e p) r
 
       u_before_y : StandsBefore u y t
-      u_before_y = ⊎_elim (λ h. h)
-          (λ h. absurd (item_together one x y u k x_in (λ i. apart y i y_in) u_in (direct_stands q pairs t a x y b) h))
-          (before_or_after u y t (item_stands_in one u k u_in) (item_stands_in two y l y_in) (differ u y u_in y_in))
+      u_before_y = grind (
+        arith,
+        before_or_after u y t (item_stands_in one u k u_in) (item_stands_in two y l y_in) (differ u y u_in y_in),
+        item_together one x y u k x_in (λ i. apart y i y_in) u_in (direct_stands q pairs t a x y b),
+      )
 
       u_before_v : StandsBefore u v t
-      u_before_v = ⊎_elim (λ h. h)
-          (λ h. absurd (item_together two v u y l v_in (λ i. apart u u_in i) y_in h u_before_y))
-          (before_or_after u v t (item_stands_in one u k u_in) (item_stands_in two v l v_in) (differ u v u_in v_in))
+      u_before_v = grind (
+        arith,
+        before_or_after u v t (item_stands_in one u k u_in) (item_stands_in two v l v_in) (differ u v u_in v_in),
+        λ (h : StandsBefore v u t). item_together two v u y l v_in (λ i. apart u u_in i) y_in h u_before_y,
+      )
 
   -- from an item behind u no way leads back to the item of u
   no_way_back : (first : List ℕ) (u : ℕ) → first ∈ items_of part → u ∈ first → (item : List ℕ) (more : List (List ℕ)) → item ∈ items_of part →

@@ -148,12 +148,9 @@ decide_sequence (Choice a b) x y = decide_either (decide_sequence a x y) (decide
 decide_sequence (Isolated a) x y = decide_sequence a x y
 
 decide_pair_eq : (x y : ℕ × ℕ) → Decided (x ≡ y)
-decide_pair_eq x y = at (decide_eq x.0 y.0) (decide_eq x.1 y.1)
-  where
-    at : Decided (x.0 ≡ y.0) → Decided (x.1 ≡ y.1) → Decided (x ≡ y)
-    at (inl p) (inl r) = inl (λ i. (p i, r i))
-    at (inl p) (inr n) = inr (λ e. n (ap (λ (z : ℕ × ℕ). z.1) e))
-    at (inr n) r = inr (λ e. n (ap (λ (z : ℕ × ℕ). z.0) e))
+decide_pair_eq x y = ⊎_elim
+    (λ (p, r). inl (λ i. (p i, r i))) (λ n. inr (λ e. n (ap (λ (z : ℕ × ℕ). z.0) e, ap (λ (z : ℕ × ℕ). z.1) e)))
+    (decide_both (decide_eq x.0 y.0) (decide_eq x.1 y.1))
 
 pub decide_direct : (q : Process) (pairs : List (ℕ × ℕ)) (x y : ℕ) → Decided (DirectlyBefore q pairs x y)
 decide_direct q pairs x y = decide_either (decide_sequence q x y) (decide_mem decide_pair_eq (x, y) pairs)
@@ -208,17 +205,19 @@ module _ (q : Process) (pairs : List (ℕ × ℕ)) (w : IsOrdered q pairs) (run 
       at (front, last, e) = ⊎_elim (λ k. inl (region_within two one k)) (λ k. inr (region_within one two k))
           (nested (case_of q) one two last w.distinct (inr m) (inr l) (has one m c) (has two l d))
         where
-          in_front : (x : ℕ) → x ∈ run → x ≢ last → x ∈ front
-          in_front x k n = ⊎_elim (λ h. h) (⊎_elim (λ h. absurd (n h)) absurd) (mem-append x front (last ∷ []) (subst (λ z. x ∈ z) e k))
-
           has : (part : Process) → part ∈ isolated_parts q → IsCaught run part → last ∈ leaves part
-          has part i ((x, x_in, x_done), (y, y_in, y_fresh)) = ⊎_elim (λ h. h)
-              (λ no.
+          has part i ((x, x_in, x_done), (y, y_in, y_fresh)) =
               let r = ready_at q pairs front last [] (subst (IsReadyRun q pairs) e ready) in
-              let x_front = in_front x x_done (λ h. no (subst (λ z. z ∈ leaves part) h x_in)) in
-              let y_front = r.outside part i no x y x_in x_front y_in in
-              absurd (y_fresh (subst (λ z. y ∈ z) (sym e) (mem_append_left y front (last ∷ []) y_front))))
-              (decide_in last (leaves part))
+              grind (
+                arith,
+                decide_in last (leaves part),
+                x_in,
+                y_in,
+                mem-append x front (last ∷ []) (subst (λ z. x ∈ z) e x_done),
+                subst (λ z. ¬ (y ∈ z)) e y_fresh,
+                mem_append_left y front (last ∷ []),
+                λ (no : ¬ (last ∈ leaves part)). r.outside part i no x y x_in,
+              )
 
   -- a region that may go on by itself: it is unfinished, lies in each caught part, and all around it are open
   record IsFree (part : Process) : Type 0 where

@@ -36,10 +36,7 @@ answer_keeps P keeps number (x ∷ xs) (h, t) = elim (cases_Bool (x.number == nu
 
 pub numbers-answer : (number : ℕ) (claims : List Claim) → map number_of (answer number claims) ≡ map number_of claims
 numbers-answer number [] = refl
-numbers-answer number (x ∷ xs) = elim (cases_Bool (x.number == number)) [
-  | inl e ↦ rw e (ap (λ w. x.number ∷ w) (numbers-answer number xs))
-  | inr e ↦ rw e (ap (λ w. x.number ∷ w) (numbers-answer number xs))
-]
+numbers-answer number (x ∷ xs) = grind (arith, cases_Bool (x.number == number), numbers-answer number xs)
 
 answer_of_none : (number : ℕ) (claims : List Claim) → ¬ (number ∈ map number_of claims) → answer number claims ≡ claims
 answer_of_none number [] none = refl
@@ -75,11 +72,8 @@ pub none_taken_out : (epoch number : ℕ) (claims : List Claim) (claim : Claim) 
     find (λ (x : Claim). x.number == number) claims ≡ Some claim → is_of epoch claim ≡ false →
     filter (is_of epoch) (answer number claims) ≡ filter (is_of epoch) claims
 none_taken_out epoch number [] claim d e h = refl
-none_taken_out epoch number (x ∷ xs) claim (new, d) e h = elim (cases_Bool (x.number == number)) [
-  | inl i ↦ (let past : is_of epoch x ≡ false = ap (is_of epoch) (some_same x claim (rw i at e)) ∙ h in
-      rw (i, past, answer_of_first x xs number new i) refl)
-  | inr i ↦ rw (i, none_taken_out epoch number xs claim d (rw i at e) h) refl
-]
+none_taken_out epoch number (x ∷ xs) claim (new, d) e h =
+    grind (arith, cases_Bool (x.number == number), e, h, answer_of_first x xs number new, none_taken_out epoch number xs claim d)
 
 -- a claim of another epoch is not of that one
 not_of_other : (epoch : ℕ) (claim : Claim) → claim.epoch ≢ epoch → is_of epoch claim ≡ false

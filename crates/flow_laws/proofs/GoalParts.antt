@@ -173,10 +173,8 @@ nested (isolated a) one two n d (inr m) (inr l) h k = nested a one two n d m l h
 pub part_smaller : {q : Process} → Case q → (part : Process) → part ∈ isolated_parts q → goal_size part < goal_size q
 part_smaller empty part m = absurd m
 part_smaller task part m = absurd m
-part_smaller (halves r a b) part m = ⊎_elim
-    (λ k. omega (arith, part_smaller a part k)) (λ k. omega (arith, part_smaller b part k)) (of_halves part r.parts_are m)
-part_smaller (isolated a) part (inl e) = omega (arith, ap goal_size e)
-part_smaller (isolated a) part (inr m) = omega (arith, part_smaller a part m)
+part_smaller (halves r a b) part m = grind (arith, of_halves part r.parts_are m, part_smaller a part, part_smaller b part, r.size_is)
+part_smaller (isolated a) part m = grind (arith, m, part_smaller a part)
 
 -- Items
 

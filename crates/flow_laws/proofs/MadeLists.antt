@@ -126,17 +126,11 @@ some_same a b e = cc
 
 pub of_find : {A : Type 0} (p : A → Bool) (xs : List A) (x : A) → find p xs ≡ Some x → (x ∈ xs) × (p x ≡ true)
 of_find p [] x e = cc
-of_find p (y ∷ ys) x e = elim (cases_Bool (p y)) [
-  | inl h ↦ (let same = some_same y x (rw h at e) in (inl (sym same), subst (λ z. p z ≡ true) same h))
-  | inr h ↦ (let (m, i) = of_find p ys x (rw h at e) in (inr m, i))
-]
+of_find p (y ∷ ys) x e = grind (arith, cases_Bool (p y), e, of_find p ys x)
 
 pub not_found : {A : Type 0} (p : A → Bool) (xs : List A) (x : A) → find p xs ≡ None → x ∈ xs → ¬ (p x ≡ true)
 not_found p [] x e m h = m
-not_found p (y ∷ ys) x e m h = elim (cases_Bool (p y)) [
-  | inl k ↦ (let bad = rw k at e in cc)
-  | inr k ↦ ⊎_elim (λ same. true≢false (sym h ∙ (ap p same ∙ k))) (λ l. not_found p ys x (rw k at e) l h) m
-]
+not_found p (y ∷ ys) x e m h = grind (arith, cases_Bool (p y), e, m, h, not_found p ys x)
 
 -- what has Q and passes the test has P
 pub each-filter : {A : Type 0} (P Q : A → Type 0) (p : A → Bool) (xs : List A) → ((x : A) → p x ≡ true → Q x → P x) →
@@ -267,21 +261,19 @@ two_cuts (x ∷ a) b (z ∷ front) y back e =
 pub order_with_last : {A : Type 0} (order : List A) (x : A) (a b : List A) → IsOrderOf order (a ++ b) →
     IsOrderOf (order ++ x ∷ []) (a ++ x ∷ b)
 order_with_last [] x a b h = (a, b, refl, h)
-order_with_last (y ∷ order) x a b (front, back, e, h) = elim (two_cuts a b front y back e) [
-  | inl k ↦ (
-    front,
-    k.0 ++ x ∷ b,
-    ap (λ w. w ++ x ∷ b) k.1 ∙ append_assoc front (y ∷ k.0) (x ∷ b),
-    subst (IsOrderOf (order ++ x ∷ [])) (append_assoc front k.0 (x ∷ b))
-        (order_with_last order x (front ++ k.0) b
-        (subst (IsOrderOf order) (ap (λ w. front ++ w) k.2 ∙ sym (append_assoc front k.0 b)) h)),
-  )
-  | inr k ↦ (
-    a ++ x ∷ k.0,
-    back,
-    ap (λ w. a ++ x ∷ w) k.2 ∙ sym (append_assoc a (x ∷ k.0) (y ∷ back)),
-    subst (IsOrderOf (order ++ x ∷ [])) (sym (append_assoc a (x ∷ k.0) back))
-        (order_with_last order x a (k.0 ++ back)
-        (subst (IsOrderOf order) (ap (λ w. w ++ back) k.1 ∙ append_assoc a k.0 back) h)),
-  )
-]
+order_with_last (y ∷ order) x a b (front, back, e, h) = ⊎_elim
+    (λ (m, p, q). (
+      front,
+      m ++ x ∷ b,
+      ap (λ w. w ++ x ∷ b) p ∙ append_assoc front (y ∷ m) (x ∷ b),
+      subst (IsOrderOf (order ++ x ∷ [])) (append_assoc front m (x ∷ b))
+          (order_with_last order x (front ++ m) b (subst (IsOrderOf order) (grind (arith, append_assoc front m b)) h)),
+    ))
+    (λ (m, p, q). (
+      a ++ x ∷ m,
+      back,
+      grind (arith, append_assoc a (x ∷ m) (y ∷ back)),
+      subst (IsOrderOf (order ++ x ∷ [])) (sym (append_assoc a (x ∷ m) back))
+          (order_with_last order x a (m ++ back) (subst (IsOrderOf order) (grind (arith, append_assoc a m back)) h)),
+    ))
+    (two_cuts a b front y back e)

@@ -1,5 +1,5 @@
 -- The executions of a goal without choices, as orders of its leaves.
-use Rattle.std.proofs.Common.{◌≡◌, ℕ, ◌↔◌, List, [], ◌∷◌, ◌++◌, ◌⊎◌, refl, sym, ap, ap₂, ◌∙◌, subst, subst₂, inl, inr, ⊎_elim, append_assoc, append-nil}
+use Rattle.std.proofs.Common.{◌≡◌, ℕ, ◌↔◌, List, [], ◌∷◌, ◌++◌, ◌⊎◌, refl, sym, ap, ap₂, ◌∙◌, subst, subst₂, inl, inr, ⊎_elim, append_assoc, append-nil, arith}
 use Rattle.flow_model.specs.Lists.{◌∈◌, AreDistinct, StandsBefore, joined}
 use Rattle.flow_model.specs.Process.{Process, Empty, Task, Sequence, Parallel, Choice, Isolated, leaves, IsChoiceFree}
 use Rattle.flow_model.specs.Trace.{Shuffle, Blocks, Trace, as_one}
@@ -102,15 +102,15 @@ part_in_block (Isolated a) f bs (x, h, e) part (inr i) n k =
 piece_unbroken : (list piece : List ℕ) → AreDistinct list → HasPiece piece list → (x y z : ℕ) → x ∈ piece → ¬ (y ∈ piece) → z ∈ piece →
     StandsBefore x y list → StandsBefore y z list → ⊥
 piece_unbroken list piece d (front, back, e) x y z k l p b c =
-    ⊎_elim
-    (λ m. not_both_ways x y list d b (from y x (before_across y x front (piece ++ back) m (mem_append_left x piece back k))))
-    (λ m. ⊎_elim l
-    (λ i. not_both_ways y z list d c (from z y (before_right z y front (piece ++ back) (before_across z y piece back p i))))
-    (mem-append y piece back m))
-    (mem-append y front (piece ++ back) (subst (λ w. y ∈ w) e (before_members x y list b).1))
-  where
-    from : (u v : ℕ) → StandsBefore u v (front ++ (piece ++ back)) → StandsBefore u v list
-    from u v h = subst (StandsBefore u v) (sym e) h
+    let from = λ (u v : ℕ) (h : StandsBefore u v (front ++ (piece ++ back))). subst (StandsBefore u v) (sym e) h in
+    grind (
+      arith,
+      l,
+      mem-append y piece back,
+      mem-append y front (piece ++ back) (subst (λ w. y ∈ w) e (before_members x y list b).1),
+      λ (m : y ∈ front). not_both_ways x y list d b (from y x (before_across y x front (piece ++ back) m (mem_append_left x piece back k))),
+      λ (m : y ∈ back). not_both_ways y z list d c (from z y (before_right z y front (piece ++ back) (before_across z y piece back p m))),
+    )
 
 pub ordering_of_trace : (t : List ℕ) (g : Process) → IsChoiceFree g → AreDistinct (leaves g) → Trace g t → IsOrdering g t
 ordering_of_trace t g f d (bs, h, e) = record {

@@ -46,18 +46,20 @@ ready_in_arrangement q pairs front n back w a = record {
   leaf = o.leaf n (mem_here n front back);
   not_done = (not_elsewhere front back n o.distinct).0;
   before = λ x b. in_front x n front back o.distinct (direct_stands q pairs (front ++ n ∷ back) a x n b);
-  outside = λ part m l x y k h p. ⊎_elim
-      (λ i. i)
-      (⊎_elim
-      (λ e. absurd (l (subst (λ z. z ∈ leaves part) e p)))
-      (λ i. absurd (o.together part m x n y k l p (before_across x n front (n ∷ back) h (inl refl)) (before_right n y front (n ∷ back) (inl (refl, i))))))
-      (mem-append y front (n ∷ back) (o.all y (part_within q part y m p)));
-  begins = λ part m k none x y l p b. ⊎_elim
-      (λ i. i)
-      (⊎_elim
-      (λ e. absurd (l (subst (λ z. z ∈ leaves part) (sym e) k)))
-      (λ i. absurd (o.together part m n x y k l p (before_right n x front (n ∷ back) (inl (refl, i))) (direct_stands q pairs (front ++ n ∷ back) a x y b))))
-      (mem-append x front (n ∷ back) (o.all x (direct_first q pairs w x y b)));
+  outside = λ part m l x y k h p. grind (
+    arith,
+    l,
+    p,
+    mem-append y front (n ∷ back) (o.all y (part_within q part y m p)),
+    λ (i : y ∈ back). o.together part m x n y k l p (before_across x n front (n ∷ back) h (inl refl)) (before_right n y front (n ∷ back) (inl (refl, i))),
+  );
+  begins = λ part m k none x y l p b. grind (
+    arith,
+    l,
+    k,
+    mem-append x front (n ∷ back) (o.all x (direct_first q pairs w x y b)),
+    λ (i : x ∈ back). o.together part m n x y k l p (before_right n x front (n ∷ back) (inl (refl, i))) (direct_stands q pairs (front ++ n ∷ back) a x y b),
+  );
 }
   where
     open a use {ordering as o}

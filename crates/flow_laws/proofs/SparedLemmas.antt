@@ -1,5 +1,5 @@
 -- What a new epoch does to the claims.
-use Rattle.std.proofs.Common.{◌≡◌, ℕ, ◌+◌, ◌≤◌, ◌↔◌, Bool, true, false, not, ◌&&◌, ◌==◌, IsTrue, List, [], ◌∷◌, ◌++◌, map, filter, refl, sym, ap, ◌∙◌, subst, inl, inr, append_assoc, append-nil, true≢false}
+use Rattle.std.proofs.Common.{◌≡◌, ℕ, ◌+◌, ◌≤◌, ◌↔◌, Bool, true, false, not, ◌&&◌, ◌==◌, IsTrue, List, [], ◌∷◌, ◌++◌, map, filter, refl, sym, ap, ◌∙◌, subst, inl, inr, append_assoc, append-nil, true≢false, arith}
 use Rattle.std.proofs.lemmas.Bool.{and_from, eq-eqb, cases_Bool, false_from_ne_true}
 use Rattle.flow_model.specs.Lists.{Each}
 use Rattle.flow_model.specs.Schema.{Schema}
@@ -57,10 +57,8 @@ spare_keeps P w s keeps before (x ∷ xs) (h, t) = elim (cases_Bool (is_spared w
 
 pub numbers-spare : (w : Schema) (s : RunState) (before : List ℕ) (claims : List Claim) → map number_of (spare w s before claims) ≡ map number_of claims
 numbers-spare w s before [] = refl
-numbers-spare w s before (x ∷ xs) = elim (cases_Bool (is_spared w s before x)) [
-  | inl e ↦ rw e (ap (λ l. x.number ∷ l) (numbers-spare w s (before ++ x.leaf ∷ []) xs))
-  | inr e ↦ rw e (ap (λ l. x.number ∷ l) (numbers-spare w s before xs))
-]
+numbers-spare w s before (x ∷ xs) =
+    grind (arith, cases_Bool (is_spared w s before x), numbers-spare w s (before ++ x.leaf ∷ []) xs, numbers-spare w s before xs)
 
 -- The claims that are current in the new epoch
 
@@ -80,21 +78,24 @@ spared_are_current w s before (x ∷ xs) (h, t) = elim (cases_Bool (is_spared w 
 pub spare-append : (w : Schema) (s : RunState) (before : List ℕ) (a b : List Claim) →
     spare w s before (a ++ b) ≡ spare w s before a ++ spare w s (before ++ spared_leaves w s before a) b
 spare-append w s before [] b = ap (λ l. spare w s l b) (sym (append-nil before))
-spare-append w s before (x ∷ xs) b = elim (cases_Bool (is_spared w s before x)) [
-  | inl e ↦ rw e (ap (λ l. renewed s x ∷ l) (spare-append w s (before ++ x.leaf ∷ []) xs b
-      ∙ ap (λ l. spare w s (before ++ x.leaf ∷ []) xs ++ spare w s l b) (append_assoc before (x.leaf ∷ []) (spared_leaves w s (before ++ x.leaf ∷ []) xs))))
-  | inr e ↦ rw e (ap (λ l. x ∷ l) (spare-append w s before xs b))
-]
+spare-append w s before (x ∷ xs) b = let next = before ++ x.leaf ∷ [] in grind (
+  arith,
+  cases_Bool (is_spared w s before x),
+  spare-append w s next xs b,
+  spare-append w s before xs b,
+  append_assoc before (x.leaf ∷ []) (spared_leaves w s next xs),
+)
 
 pub spared_leaves-append : (w : Schema) (s : RunState) (before : List ℕ) (a b : List Claim) →
     spared_leaves w s before (a ++ b) ≡ spared_leaves w s before a ++ spared_leaves w s (before ++ spared_leaves w s before a) b
 spared_leaves-append w s before [] b = ap (λ l. spared_leaves w s l b) (sym (append-nil before))
-spared_leaves-append w s before (x ∷ xs) b = elim (cases_Bool (is_spared w s before x)) [
-  | inl e ↦ (let l = spared_leaves w s (before ++ x.leaf ∷ []) xs in
-      rw e (ap (λ l. x.leaf ∷ l) (spared_leaves-append w s (before ++ x.leaf ∷ []) xs b
-      ∙ ap (λ m. l ++ spared_leaves w s m b) (append_assoc before (x.leaf ∷ []) l))))
-  | inr e ↦ rw e (spared_leaves-append w s before xs b)
-]
+spared_leaves-append w s before (x ∷ xs) b = let next = before ++ x.leaf ∷ [] in grind (
+  arith,
+  cases_Bool (is_spared w s before x),
+  spared_leaves-append w s next xs b,
+  spared_leaves-append w s before xs b,
+  append_assoc before (x.leaf ∷ []) (spared_leaves w s next xs),
+)
 
 -- where none is current, all stay as they are
 pub spare_of_none : OthersStay
