@@ -153,22 +153,13 @@ kept_first {A} {B} h z zs = step (h z) refl
     step None k = inl (rw k refl)
     step (Some w) k = inr (w, k, rw k refl)
 
-mem-cons_option : {A : Type 0} (o : Option A) (y : A) (ys : List A) → y ∈ ys → y ∈ cons_option o ys
-mem-cons_option None y ys h = h
-mem-cons_option (Some x) y ys h = inr h
-
-before-cons_option : {A : Type 0} (o : Option A) (x y : A) (ys : List A) → StandsBefore x y ys → StandsBefore x y (cons_option o ys)
-before-cons_option None x y ys h = h
-before-cons_option (Some w) x y ys h = inr h
-
 distinct_cons_option : {A : Type 0} (o : Option A) (ys : List A) → AreDistinct (cons_option o ys) → AreDistinct ys
 distinct_cons_option None ys d = d
 distinct_cons_option (Some x) ys d = d.1
 
 pub mem-filter_map : {A B : Type 0} (h : A → Option B) (x : A) (y : B) (xs : List A) → x ∈ xs → h x ≡ Some y → y ∈ filter_map h xs
 mem-filter_map h x y [] m k = absurd m
-mem-filter_map h x y (z ∷ zs) (inl e) k = rw (ap h (sym e) ∙ k) (inl refl)
-mem-filter_map h x y (z ∷ zs) (inr m) k = mem-cons_option (h z) y (filter_map h zs) (mem-filter_map h x y zs m k)
+mem-filter_map h x y (z ∷ zs) m k = grind (arith, m, k, kept_first h z zs, mem-filter_map h x y zs)
 
 pub of_filter_map : {A B : Type 0} (h : A → Option B) (y : B) (xs : List A) → y ∈ filter_map h xs → (x : A) × (x ∈ xs) × (h x ≡ Some y)
 of_filter_map h y [] m = absurd m
@@ -182,9 +173,8 @@ of_filter_map h y (z ∷ zs) m =
 pub before-filter_map : {A B : Type 0} (h : A → Option B) (x y : A) (a b : B) (t : List A) →
     StandsBefore x y t → h x ≡ Some a → h y ≡ Some b → StandsBefore a b (filter_map h t)
 before-filter_map h x y a b [] s i j = absurd s
-before-filter_map h x y a b (z ∷ t) (inl s) i j = rw (ap h (sym s.0) ∙ i) (inl (refl, mem-filter_map h y b t s.1 j))
-before-filter_map h x y a b (z ∷ t) (inr s) i j =
-    before-cons_option (h z) a b (filter_map h t) (before-filter_map h x y a b t s i j)
+before-filter_map h x y a b (z ∷ t) s i j =
+    grind (arith, s, i, j, kept_first h z t, mem-filter_map h y b t, before-filter_map h x y a b t)
 
 pub of_before-filter_map : {A B : Type 0} (h : A → Option B) (a b : B) (t : List A) → StandsBefore a b (filter_map h t) →
     (x : A) × ((y : A) × StandsBefore x y t × (h x ≡ Some a) × (h y ≡ Some b))

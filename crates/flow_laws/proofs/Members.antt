@@ -20,9 +20,9 @@ mem-append x (y ∷ a) b h = grind (arith, h, mem-append x a b)
 pub mem_swap : {A : Type 0} (x : A) (a b : List A) → x ∈ (a ++ b) → x ∈ (b ++ a)
 mem_swap x a b m = ⊎_elim (mem_append_right x b a) (mem_append_left x b a) (mem-append x a b m)
 
--- members of two lists that go into two lists
-pub mem_both : {A : Type 0} (x : A) (a b c d : List A) → (x ∈ a → x ∈ c) → (x ∈ b → x ∈ d) → x ∈ (a ++ b) → x ∈ (c ++ d)
-mem_both x a b c d f g m = ⊎_elim (λ k. mem_append_left x c d (f k)) (λ k. mem_append_right x c d (g k)) (mem-append x a b m)
+-- a member of one of two lists, whichever it is
+pub mem_by_halves : {A P Q : Type 0} (x : A) (a b : List A) → (P → x ∈ a) → (Q → x ∈ b) → P ⊎ Q → x ∈ (a ++ b)
+mem_by_halves x a b f g = ⊎_elim (λ p. mem_append_left x a b (f p)) (λ q. mem_append_right x a b (g q))
 
 -- the member in the middle
 pub mem_here : {A : Type 0} (x : A) (a b : List A) → x ∈ (a ++ x ∷ b)

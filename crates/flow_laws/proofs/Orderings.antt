@@ -190,14 +190,13 @@ half_ordering a g u v t half o s of_a others = record {
   distinct = distinct_in_shuffle s o.distinct;
   before = λ x y k.
       let b = o.before x y (half.sequence x y k) in
-      let differ = λ (e : x ≡ y). not_before_itself y t o.distinct (subst (λ z. StandsBefore z y t) e b) in
-      ⊎_elim (λ h. h) (λ h. absurd (not_both_ways x y t o.distinct b (before_in_shuffle s y x h)))
-      (before_or_after x y u (there x (sequence_first a x y k)) (there y (sequence_second a x y k)) differ);
+      grind (arith, before_or_after x y u (there x (sequence_first a x y k)) (there y (sequence_second a x y k)), b,
+      not_before_itself y t o.distinct, λ (h : StandsBefore y x u). not_both_ways x y t o.distinct b (before_in_shuffle s y x h));
   together = λ p m x y z k l q b c. o.together p (half.part p m) x y z k l q (before_in_shuffle s x y b) (before_in_shuffle s y z c);
 }
   where
     there : (x : ℕ) → x ∈ leaves a → x ∈ u
-    there x k = ⊎_elim (λ m. m) (λ m. absurd (others x m k)) (of_shuffle s x (o.all x (half.leaf x k)))
+    there x k = grind (arith, others x, k, of_shuffle s x (o.all x (half.leaf x k)))
 
 -- no block of a half is broken by the other
 half_unbroken : (a g : Process) (bs : List (List ℕ)) (other t : List ℕ) → IsChoiceFree a → Blocks a bs → IsHalf a g → IsOrdering g t →

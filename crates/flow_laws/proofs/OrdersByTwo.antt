@@ -8,7 +8,7 @@ use Rattle.flow_model.specs.Resolution.{ChoiceOption, options}
 use Rattle.flow_model.specs.Run.{RunState, MayFollow}
 use Rattle.flow_laws.specs.Words.{EachTwo, IsWellFormed}
 use Rattle.flow_laws.specs.Orders.{AreSideBySide, PairsSufficeForOrders, IsAlive, OrdersMayFollow, OrdersMayFollowOne}
-use Rattle.flow_laws.proofs.Members.{mem_here, mem_without, each_member, split_at, each_from_members, each_to, mem_append_left, mem_append_right, mem-append}
+use Rattle.flow_laws.proofs.Members.{mem_here, each_member, each_parts, each-append, split_at, each_from_members, each_to, mem_append_left, mem_append_right, mem-append}
 use Rattle.flow_laws.proofs.MadeLists.{order_with_last, order_member, same_order, begins_front}
 use Rattle.flow_laws.proofs.ReadyRuns.{run_of, run_front, AreSame, as_well, run_after_journal, fronts_are_ready}
 use Rattle.flow_laws.proofs.TraceLeaves.{leaf_of_trace, leaf_in_trace}
@@ -21,12 +21,10 @@ use Rattle.flow_laws.proofs.CircleOrTrace.{ready_runs_extend}
 pub each_two_out : {A : Type 0} (R : A → A → Type 0) (front : List A) (y : A) (back : List A) → EachTwo R (front ++ y ∷ back) →
     Each (λ z. R y z × R z y) (front ++ back) × EachTwo R (front ++ back)
 each_two_out R [] y back h = h
-each_two_out R (x ∷ front) y back h =
-    let r = each_two_out R front y back h.1 in
-    let k = each_member (λ z. R x z × R z x) (front ++ y ∷ back) h.0 y (mem_here y front back) in (
-      ((k.1, k.0), r.0),
-      (each_from_members (λ z. R x z × R z x) (front ++ back) (λ z m. each_member (λ u. R x u × R u x) (front ++ y ∷ back) h.0 z (mem_without z y front back m)), r.1),
-    )
+each_two_out R (x ∷ front) y back (h, two) =
+    let (in_front, (k, in_back)) = each_parts (λ z. R x z × R z x) front (y ∷ back) h in
+    let (r, others) = each_two_out R front y back two in
+    (((k.1, k.0), r), (each-append (λ z. R x z × R z x) front back in_front in_back, others))
 
 -- the order does not matter
 pub each_two_order : {A : Type 0} (R : A → A → Type 0) (order list : List A) → IsOrderOf order list → EachTwo R list → EachTwo R order

@@ -6,7 +6,7 @@ use Rattle.flow_model.specs.Process.{Process, Empty, Task, Sequence, Parallel, C
 use Rattle.flow_model.specs.Trace.{Shuffle, Blocks, Trace}
 use Rattle.flow_model.specs.Resolution.{resolutions, resolution_count}
 use Rattle.flow_laws.specs.Resolutions.{Resolves}
-use Rattle.flow_laws.proofs.Members.{mem_append_left, mem_append_right, mem-append, mem_both, distinct_left, distinct_right, distinct_apart, distinct_parts, distinct-append}
+use Rattle.flow_laws.proofs.Members.{mem_append_left, mem_append_right, mem-append, mem_by_halves, distinct_left, distinct_right, distinct_apart, distinct_parts, distinct-append}
 use Rattle.flow_laws.proofs.MadeLists.{mem-map, of_map, mem-each_with_each, of_each_with_each, length-each_with_each, slice_get-each_with_each, slice_get_append_right}
 use Rattle.flow_laws.proofs.Shuffles.{shuffle-append, shuffle-joined, of_shuffle, mem_shuffle_left, mem_shuffle_right}
 use Rattle.flow_laws.proofs.TraceLeaves.{joined-as_one, some_blocks, leaf_of_blocks, blocks_of_none}
@@ -100,45 +100,38 @@ number_of_right a b x i e =
 pub choice_free_resolution : (g q : Process) → Resolves g q → IsChoiceFree q
 choice_free_resolution Empty q e = subst IsChoiceFree (sym e) tt
 choice_free_resolution (Task n) q e = subst IsChoiceFree (sym e) tt
-choice_free_resolution (Sequence a b) q (x, y, hx, hy, e) =
-    subst IsChoiceFree (sym e) (choice_free_resolution a x hx, choice_free_resolution b y hy)
-choice_free_resolution (Parallel a b) q (x, y, hx, hy, e) =
-    subst IsChoiceFree (sym e) (choice_free_resolution a x hx, choice_free_resolution b y hy)
-choice_free_resolution (Choice a b) q (inl h) = choice_free_resolution a q h
-choice_free_resolution (Choice a b) q (inr h) = choice_free_resolution b q h
+choice_free_resolution (Sequence a b) q (x, y, hx, hy, e) = subst IsChoiceFree (sym e) (choice_free_resolution a x hx, choice_free_resolution b y hy)
+choice_free_resolution (Parallel a b) q (x, y, hx, hy, e) = subst IsChoiceFree (sym e) (choice_free_resolution a x hx, choice_free_resolution b y hy)
+choice_free_resolution (Choice a b) q h = ⊎_elim (choice_free_resolution a q) (choice_free_resolution b q) h
 choice_free_resolution (Isolated a) q (x, h, e) = subst IsChoiceFree (sym e) (choice_free_resolution a x h)
 
 pub mem-leaves_of_goal : (g q : Process) → Resolves g q → (n : ℕ) → n ∈ leaves q → n ∈ leaves g
 mem-leaves_of_goal Empty q e n m = subst (λ p. n ∈ leaves p) e m
 mem-leaves_of_goal (Task k) q e n m = subst (λ p. n ∈ leaves p) e m
-mem-leaves_of_goal (Sequence a b) q (x, y, hx, hy, e) n m = mem_both n (leaves x) (leaves y) (leaves a) (leaves b)
-    (mem-leaves_of_goal a x hx n) (mem-leaves_of_goal b y hy n) (subst (λ p. n ∈ leaves p) e m)
-mem-leaves_of_goal (Parallel a b) q (x, y, hx, hy, e) n m = mem_both n (leaves x) (leaves y) (leaves a) (leaves b)
-    (mem-leaves_of_goal a x hx n) (mem-leaves_of_goal b y hy n) (subst (λ p. n ∈ leaves p) e m)
-mem-leaves_of_goal (Choice a b) q (inl h) n m = mem_append_left n (leaves a) (leaves b) (mem-leaves_of_goal a q h n m)
-mem-leaves_of_goal (Choice a b) q (inr h) n m = mem_append_right n (leaves a) (leaves b) (mem-leaves_of_goal b q h n m)
+mem-leaves_of_goal (Sequence a b) q (x, y, hx, hy, e) n m = mem_by_halves n (leaves a) (leaves b)
+    (mem-leaves_of_goal a x hx n) (mem-leaves_of_goal b y hy n) (mem-append n (leaves x) (leaves y) (subst (λ p. n ∈ leaves p) e m))
+mem-leaves_of_goal (Parallel a b) q (x, y, hx, hy, e) n m = mem_by_halves n (leaves a) (leaves b)
+    (mem-leaves_of_goal a x hx n) (mem-leaves_of_goal b y hy n) (mem-append n (leaves x) (leaves y) (subst (λ p. n ∈ leaves p) e m))
+mem-leaves_of_goal (Choice a b) q h n m = mem_by_halves n (leaves a) (leaves b) (λ k. mem-leaves_of_goal a q k n m) (λ k. mem-leaves_of_goal b q k n m) h
 mem-leaves_of_goal (Isolated a) q (x, h, e) n m = mem-leaves_of_goal a x h n (subst (λ p. n ∈ leaves p) e m)
 
-abbrev KeepsDistinct : Process → Process → Type 0
-KeepsDistinct g q = AreDistinct (leaves g) → AreDistinct (leaves q)
-
-halves_keep_distinct : (a b x y : Process) → Resolves a x → Resolves b y → KeepsDistinct a x → KeepsDistinct b y → KeepsDistinct (Parallel a b) (Parallel x y)
-halves_keep_distinct a b x y hx hy in_a in_b d =
-    let (da, db, apart) = distinct_parts (leaves a) (leaves b) d in
-    distinct-append (leaves x) (leaves y) (in_a da) (in_b db)
+halves_distinct : (a b x y : Process) → Resolves a x → Resolves b y → (AreDistinct (leaves a) → AreDistinct (leaves x)) →
+    (AreDistinct (leaves b) → AreDistinct (leaves y)) → AreDistinct (leaves (Parallel a b)) → AreDistinct (leaves (Parallel x y))
+halves_distinct a b x y hx hy in_a in_b d =
+    let (da, db, apart) = distinct_parts (leaves a) (leaves b) d in distinct-append (leaves x) (leaves y) (in_a da) (in_b db)
     (λ n h k. apart n (mem-leaves_of_goal a x hx n h) (mem-leaves_of_goal b y hy n k))
 
-pub distinct_leaves_of_resolution : (g q : Process) → Resolves g q → KeepsDistinct g q
+pub distinct_leaves_of_resolution : (g q : Process) → Resolves g q → AreDistinct (leaves g) → AreDistinct (leaves q)
 distinct_leaves_of_resolution Empty q e d = subst (λ p. AreDistinct (leaves p)) (sym e) d
 distinct_leaves_of_resolution (Task n) q e d = subst (λ p. AreDistinct (leaves p)) (sym e) d
 distinct_leaves_of_resolution (Sequence a b) q (x, y, hx, hy, e) d = subst (λ p. AreDistinct (leaves p)) (sym e)
-    (halves_keep_distinct a b x y hx hy (distinct_leaves_of_resolution a x hx) (distinct_leaves_of_resolution b y hy) d)
+    (halves_distinct a b x y hx hy (distinct_leaves_of_resolution a x hx) (distinct_leaves_of_resolution b y hy) d)
 distinct_leaves_of_resolution (Parallel a b) q (x, y, hx, hy, e) d = subst (λ p. AreDistinct (leaves p)) (sym e)
-    (halves_keep_distinct a b x y hx hy (distinct_leaves_of_resolution a x hx) (distinct_leaves_of_resolution b y hy) d)
-distinct_leaves_of_resolution (Choice a b) q (inl h) d = distinct_leaves_of_resolution a q h (distinct_left (leaves a) (leaves b) d)
-distinct_leaves_of_resolution (Choice a b) q (inr h) d = distinct_leaves_of_resolution b q h (distinct_right (leaves a) (leaves b) d)
-distinct_leaves_of_resolution (Isolated a) q (x, h, e) d =
-    subst (λ p. AreDistinct (leaves p)) (sym e) (distinct_leaves_of_resolution a x h d)
+    (halves_distinct a b x y hx hy (distinct_leaves_of_resolution a x hx) (distinct_leaves_of_resolution b y hy) d)
+distinct_leaves_of_resolution (Choice a b) q h d =
+    let (da, db, _) = distinct_parts (leaves a) (leaves b) d in
+    ⊎_elim (λ k. distinct_leaves_of_resolution a q k da) (λ k. distinct_leaves_of_resolution b q k db) h
+distinct_leaves_of_resolution (Isolated a) q (x, h, e) d = subst (λ p. AreDistinct (leaves p)) (sym e) (distinct_leaves_of_resolution a x h d)
 
 -- Executions by their leaves
 

@@ -37,6 +37,9 @@ mem_shuffle_left (from_right s) x h = inr (mem_shuffle_left s x h)
 pub mem_shuffle_right : {A : Type 0} {a b c : List A} → Shuffle a b c → (x : A) → x ∈ b → x ∈ c
 mem_shuffle_right s x m = mem_shuffle_left (shuffle_swap s) x m
 
+pub mem_shuffle : {A P Q : Type 0} {a b c : List A} → Shuffle a b c → (x : A) → (P → x ∈ a) → (Q → x ∈ b) → P ⊎ Q → x ∈ c
+mem_shuffle s x f g = ⊎_elim (λ p. mem_shuffle_left s x (f p)) (λ q. mem_shuffle_right s x (g q))
+
 pub before_in_shuffle : {A : Type 0} {a b c : List A} → Shuffle a b c → (x y : A) → StandsBefore x y a → StandsBefore x y c
 before_in_shuffle both_end x y h = h
 before_in_shuffle (from_left s) x y h = grind (arith, h, before_in_shuffle s x y, mem_shuffle_left s y)
