@@ -11,7 +11,7 @@ use Rattle.flow_laws.proofs.Members.{distinct-append, before_across, before_righ
 use Rattle.flow_laws.proofs.MadeLists.{mem_joined, list_having, mem-map, of_map}
 use Rattle.flow_laws.proofs.Orderings.{trace_of_ordering}
 use Rattle.flow_laws.proofs.ReadyRuns.{direct_first, direct_second, arrangement_of}
-use Rattle.flow_laws.proofs.CircleExcludes.{circle_excludes}
+use Rattle.flow_laws.proofs.CircleOrTrace.{circle_excludes}
 use Rattle.flow_laws.proofs.GoalParts.{regions, item_within, item_having, part_or_region}
 use Rattle.flow_excise.specs.declared.item.Item.{Item}
 use Rattle.flow_excise.specs.Rows.{run_in, IsIn, IsOneOf}

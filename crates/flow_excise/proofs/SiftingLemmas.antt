@@ -3,7 +3,7 @@ use Rattle.std.proofs.Common.{◌≡◌, ◌≢◌, ℕ, suc, ◌+◌, List, [],
 use Rattle.flow_model.specs.Lists.{◌∈◌}
 use Rattle.flow_model.specs.Resolution.{ChoiceOption}
 use Rattle.flow_laws.specs.Words.{IsOrdered}
-use Rattle.flow_laws.proofs.CircleExcludes.{circles_exclude_traces}
+use Rattle.flow_laws.proofs.CircleOrTrace.{circles_exclude_traces}
 use Rattle.flow_laws.proofs.Members.{not_empty}
 use Rattle.flow_excise.specs.declared.refusal.Dropped.{Dropped}
 use Rattle.flow_excise.specs.Executions.{HasExecution, AreJustThose, NumberedOption, numbered_ways, numbered_options, TellsOf, TellOfAll, AreSifted}

@@ -10,9 +10,7 @@ pub mod GoalParts
 pub mod Orderings
 pub mod ReadyRuns
 pub mod OrdersByTwo
-pub mod CircleExcludes
 pub mod CircleOrTrace
 pub mod ClaimLemmas
-pub mod SparedLemmas
 pub mod SoundStates
 pub mod NeverAtALoss

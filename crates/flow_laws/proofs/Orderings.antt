@@ -190,8 +190,13 @@ half_ordering a g u v t half o s of_a others = record {
   distinct = distinct_in_shuffle s o.distinct;
   before = λ x y k.
       let b = o.before x y (half.sequence x y k) in
-      grind (arith, before_or_after x y u (there x (sequence_first a x y k)) (there y (sequence_second a x y k)), b,
-      not_before_itself y t o.distinct, λ (h : StandsBefore y x u). not_both_ways x y t o.distinct b (before_in_shuffle s y x h));
+      grind (
+        arith,
+        before_or_after x y u (there x (sequence_first a x y k)) (there y (sequence_second a x y k)),
+        b,
+        not_before_itself y t o.distinct,
+        λ (h : StandsBefore y x u). not_both_ways x y t o.distinct b (before_in_shuffle s y x h),
+      );
   together = λ p m x y z k l q b c. o.together p (half.part p m) x y z k l q (before_in_shuffle s x y b) (before_in_shuffle s y z c);
 }
   where

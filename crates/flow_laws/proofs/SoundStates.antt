@@ -19,8 +19,7 @@ use Rattle.flow_laws.specs.Words.{IsWellFormed, IsConsistent}
 use Rattle.flow_laws.proofs.Members.{each-append, each_to, each_member}
 use Rattle.flow_laws.proofs.MadeLists.{distinct-numbers_from, begins_front, begins_and_nothing, each-filter, order_of_none, order_with_last, numbers_from_more}
 use Rattle.flow_laws.proofs.OptionsLemmas.{option_of_good}
-use Rattle.flow_laws.proofs.ClaimLemmas.{number_of, leaf_of, is_of, answer_keeps, numbers-answer, taken_out, none_taken_out, leaf_of_claim_is, some_claim, lapsed_is_not_current, claim_in}
-use Rattle.flow_laws.proofs.SparedLemmas.{spare_keeps, numbers-spare, spared_are_current, spared_may_follow}
+use Rattle.flow_laws.proofs.ClaimLemmas.{number_of, leaf_of, is_of, answer_keeps, numbers-answer, taken_out, none_taken_out, leaf_of_claim_is, some_claim, lapsed_is_not_current, claim_in, spare_keeps, numbers-spare, spared_are_current, spared_may_follow}
 
 pub runs-append : (labels : List Label) (s : State) (a b : List ℕ) → Runs labels s a → Runs labels (replay labels s a) b → Runs labels s (a ++ b)
 runs-append labels s [] b ha hb = hb

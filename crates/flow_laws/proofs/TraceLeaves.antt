@@ -1,9 +1,9 @@
 -- What the executions of a goal hold.
-use Rattle.std.proofs.Common.{◌≡◌, ℕ, List, [], ◌∷◌, ◌++◌, refl, sym, ap, ◌∙◌, subst, inl, inr, ⊎_elim, append-nil}
+use Rattle.std.proofs.Common.{◌≡◌, ℕ, List, [], ◌∷◌, ◌++◌, refl, sym, ap, ◌∙◌, subst, inl, ⊎_elim, append-nil}
 use Rattle.flow_model.specs.Lists.{◌∈◌, AreDistinct, joined}
 use Rattle.flow_model.specs.Process.{Process, Empty, Task, Sequence, Parallel, Choice, Isolated, leaves, IsChoiceFree}
 use Rattle.flow_model.specs.Trace.{Blocks, Trace, Shuffle, both_end, from_left, from_right, as_one}
-use Rattle.flow_laws.proofs.Members.{mem_append_left, mem_append_right, mem-append, distinct_parts, mem_by_halves}
+use Rattle.flow_laws.proofs.Members.{mem-append, distinct_parts, mem_by_halves}
 use Rattle.flow_laws.proofs.Shuffles.{shuffle-append, shuffle-joined, of_shuffle, mem_shuffle_left, mem_shuffle_right, distinct-shuffle, mem_shuffle}
 
 pub joined-as_one : (bs : List (List ℕ)) → joined (as_one bs) ≡ joined bs

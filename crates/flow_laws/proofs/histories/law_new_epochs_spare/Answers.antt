@@ -1,5 +1,5 @@
 use Rattle.std.proofs.Common.{[]}
-use Rattle.flow_laws.proofs.SparedLemmas.{spared_are_current, spare-append, spared_leaves-append, spare_of_none}
+use Rattle.flow_laws.proofs.ClaimLemmas.{spared_are_current, spare-append, spared_leaves-append, spare_of_none}
 use Rattle.flow_laws.proofs.histories.law_new_epochs_spare.Goals as goal
 
 pub returns-clause-current : goal.returns-clause-current
