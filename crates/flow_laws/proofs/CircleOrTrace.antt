@@ -333,12 +333,13 @@ module _ (q : Process) (pairs : List (ℕ × ℕ)) (w : IsOrdered q pairs) (run 
   -- what is directly before an item that is not blocked is done
   item_waits : (part : Process) → IsFree part → (item : List ℕ) → item ∈ items_of part → ¬ (IsBlocked part item) →
       (x y : ℕ) → ¬ (x ∈ item) → y ∈ item → DirectlyBefore q pairs x y → x ∈ run
-  item_waits part r item m n x y a b c = ⊎_elim (λ k. k)
-      (λ fresh. ⊎_elim
-      (λ i. absurd (n (x, i, ((fresh, a), (y, b, c)))))
-      (λ no. r.around part r.is_part (λ z i. i) x y no (item_within part item y m b) c)
-      (decide_in x (leaves part)))
-      (decide_in x run)
+  item_waits part r item m n x y a b c = grind (
+    arith,
+    decide_in x run,
+    decide_in x (leaves part),
+    λ (fresh : ¬ (x ∈ run)) (i : x ∈ leaves part). n (x, i, ((fresh, a), (y, b, c))),
+    λ (no : ¬ (x ∈ leaves part)). r.around part r.is_part (λ z i. i) x y no (item_within part item y m b) c,
+  )
 
   -- and so is what is directly before a part that has the item
   item_open : (part : Process) → IsFree part → (item : List ℕ) → item ∈ items_of part → ¬ (IsBlocked part item) → (other : Process) → other ∈ regions q →
@@ -457,14 +458,11 @@ module _ (q : Process) (pairs : List (ℕ × ℕ)) (w : IsOrdered q pairs) where
     where
       next : (n : ℕ) → IsReady q pairs (λ x. x ∈ run) n → (front back : List ℕ) × (left ≡ front ++ n ∷ back) → GoesOnOrCircle run
       next n r (front, back, e) =
-          let still = λ (x : ℕ) (k : x ∈ leaves q). ⊎_elim {C = (x ∈ (front ++ back)) ⊎ (x ∈ (run ++ n ∷ []))}
-          (λ l. ⊎_elim (λ f. inr (mem_append_right x run (n ∷ []) (inl f))) inl (mem_with x n front back (subst (λ z. x ∈ z) e l)))
-          (λ l. inr (mem_append_left x run (n ∷ []) l))
-          (all x k) in
           ⊎_elim
           (λ c. inl (c.0, c.1, (n ∷ c.2.0, c.2.1 ∙ append_assoc run (n ∷ []) c.2.0)))
           inr
-          (on front n back e (run ++ n ∷ []) (run_grow q pairs run n h r) still)
+          (on front n back e (run ++ n ∷ []) (run_grow q pairs run n h r)
+          (λ x k. grind (arith, all x k, mem_with x n front back, e, mem_append_left x run (n ∷ []), mem_append_right x run (n ∷ []))))
 
   run_or_circle : (run : List ℕ) → IsReadyRun q pairs run → GoesOnOrCircle run
   run_or_circle run h = by_leaving_out Completes complete_step (leaves q) run h (λ x k. inl k)

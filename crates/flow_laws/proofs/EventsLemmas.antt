@@ -36,18 +36,15 @@ do_isolated a done (x, h, m) = (as_one x, (x, h, refl), each_to _ _ done (λ n k
 may_do_one : (g : Process) (n : ℕ) → n ∈ leaves g → MayDo g (n ∷ [])
 may_do_one Empty n m = absurd m
 may_do_one (Task k) n m = ((k ∷ []) ∷ [], refl, (m, tt))
-may_do_one (Sequence a b) n m = elim (mem-append n (leaves a) (leaves b) m) [
-  | inl l ↦ (do_both a b (n ∷ []) [] (may_do_one a n l) (may_do_nothing b)).0
-  | inr l ↦ (do_both a b [] (n ∷ []) (may_do_nothing a) (may_do_one b n l)).0
-]
-may_do_one (Parallel a b) n m = elim (mem-append n (leaves a) (leaves b) m) [
-  | inl l ↦ (do_both a b (n ∷ []) [] (may_do_one a n l) (may_do_nothing b)).1
-  | inr l ↦ (do_both a b [] (n ∷ []) (may_do_nothing a) (may_do_one b n l)).1
-]
-may_do_one (Choice a b) n m = elim (mem-append n (leaves a) (leaves b) m) [
-  | inl l ↦ (let (x, h, k) = may_do_one a n l in (x, inl h, k))
-  | inr l ↦ (let (x, h, k) = may_do_one b n l in (x, inr h, k))
-]
+may_do_one (Sequence a b) n m = ⊎_elim
+    (λ l. (do_both a b (n ∷ []) [] (may_do_one a n l) (may_do_nothing b)).0) (λ l. (do_both a b [] (n ∷ []) (may_do_nothing a) (may_do_one b n l)).0)
+    (mem-append n (leaves a) (leaves b) m)
+may_do_one (Parallel a b) n m = ⊎_elim
+    (λ l. (do_both a b (n ∷ []) [] (may_do_one a n l) (may_do_nothing b)).1) (λ l. (do_both a b [] (n ∷ []) (may_do_nothing a) (may_do_one b n l)).1)
+    (mem-append n (leaves a) (leaves b) m)
+may_do_one (Choice a b) n m = ⊎_elim
+    (λ l. let (x, h, k) = may_do_one a n l in (x, inl h, k)) (λ l. let (x, h, k) = may_do_one b n l in (x, inr h, k))
+    (mem-append n (leaves a) (leaves b) m)
 may_do_one (Isolated a) n m = do_isolated a (n ∷ []) (may_do_one a n m)
 
 may_do_two : (g : Process) (m n : ℕ) → AreTogether g m n → MayDo g (m ∷ n ∷ [])

@@ -1,5 +1,5 @@
 -- Options: what each has, and that their executions are the good traces.
-use Rattle.std.proofs.Common.{◌≡◌, ◌≢◌, ℕ, List, length, sym, ap, subst, subst₂, true, ◌↔◌, [], ◌∷◌}
+use Rattle.std.proofs.Common.{◌≢◌, ℕ, List, length, sym, subst, true, ◌↔◌, [], ◌∷◌}
 use Rattle.flow_model.specs.declared.labels.Label.{Label}
 use Rattle.flow_model.specs.Lists.{◌∈◌, AreDistinct, Each}
 use Rattle.flow_model.specs.Process.{Process, leaves}
@@ -19,11 +19,7 @@ pub option_parts : (w : Schema) (o : ChoiceOption) → o ∈ options w → (o.re
 option_parts w o m =
     let (q, mq, mo) = of_flat_map (options_in w) o (resolutions w.goal) m in
     let (way, mw, e) = of_map (λ (way : List (ℕ × ℕ)). let x : ChoiceOption = record { resolution = q; order = way } in x) o (ways_in w q) mo in
-    let is_q : o.resolution ≡ q = ap (λ (p : ChoiceOption). p.resolution) e in
-    let is_way : o.order ≡ way = ap (λ (p : ChoiceOption). p.order) e in (
-      subst (λ p. p ∈ resolutions w.goal) (sym is_q) mq,
-      subst₂ (λ p v. v ∈ ways_in w p) (sym is_q) (sym is_way) mw,
-    )
+    subst (λ (p : ChoiceOption). (p.resolution ∈ resolutions w.goal) × (p.order ∈ ways_in w p.resolution)) (sym e) (mq, mw)
 
 pub mem-options : (w : Schema) (q : Process) (way : List (ℕ × ℕ)) → q ∈ resolutions w.goal → way ∈ ways_in w q →
     record { resolution = q; order = way } ∈ options w

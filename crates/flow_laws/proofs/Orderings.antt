@@ -65,10 +65,10 @@ abbrev KeepsTogether : Process → Type 0
 KeepsTogether g = (bs : List (List ℕ)) → Blocks g bs → (part : Process) → part ∈ isolated_parts g → (n : ℕ) → n ∈ leaves part → StandsIn part bs
 
 halves_together : (a b : Process) → KeepsTogether a → KeepsTogether b → KeepsTogether (Parallel a b)
-halves_together a b in_a in_b bs (x, y, ha, hb, s) part m n k = elim (mem-append part (isolated_parts a) (isolated_parts b) m) [
-  | inl l ↦ (let (block, piece, i, r, same) = in_a x ha part l n k in (block, piece, mem_shuffle_left s block i, r, same))
-  | inr l ↦ (let (block, piece, i, r, same) = in_b y hb part l n k in (block, piece, mem_shuffle_left (shuffle_swap s) block i, r, same))
-]
+halves_together a b in_a in_b bs (x, y, ha, hb, s) part m n k = ⊎_elim
+    (λ l. let (block, piece, i, r, same) = in_a x ha part l n k in (block, piece, mem_shuffle_left s block i, r, same))
+    (λ l. let (block, piece, i, r, same) = in_b y hb part l n k in (block, piece, mem_shuffle_left (shuffle_swap s) block i, r, same))
+    (mem-append part (isolated_parts a) (isolated_parts b) m)
 
 whole_block : (x : List (List ℕ)) (n : ℕ) → n ∈ joined x → joined x ∈ as_one x
 whole_block [] n m = absurd m

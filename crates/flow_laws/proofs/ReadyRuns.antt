@@ -105,13 +105,12 @@ done_or_none D n = grind arith
 -- two ready runs, one after the other, are one
 pub run-append : (q : Process) (pairs : List (ℕ × ℕ)) (D : ℕ → Type 0) (run more : List ℕ) →
     IsReadyRunAfter q pairs D (run ++ more) ↔ (IsReadyRunAfter q pairs D run × IsReadyRunAfter q pairs (DoneOr D run) more)
-run-append q pairs D [] more =
-    let (there, back) = as_well q pairs D (DoneOr D []) more (done_or_none D) in
-    (λ h. (tt, there h), λ h. back h.1)
-run-append q pairs D (n ∷ run) more =
-    let (to, from) = run-append q pairs (DoneOr D (n ∷ [])) run more in
-    let (there, back) = as_well q pairs (DoneOr (DoneOr D (n ∷ [])) run) (DoneOr D (n ∷ run)) more (done_in_turn D n run) in
-    (λ h. let (k, l) = to h.1 in ((h.0, k), there l), λ h. (h.0.0, from (h.0.1, back h.1)))
+run-append q pairs D [] more = grind (arith, as_well q pairs D (DoneOr D []) more (done_or_none D))
+run-append q pairs D (n ∷ run) more = grind (
+  arith,
+  run-append q pairs (DoneOr D (n ∷ [])) run more,
+  as_well q pairs (DoneOr (DoneOr D (n ∷ [])) run) (DoneOr D (n ∷ run)) more (done_in_turn D n run),
+)
 
 pub run_front : (q : Process) (pairs : List (ℕ × ℕ)) (D : ℕ → Type 0) (front back : List ℕ) → IsReadyRunAfter q pairs D (front ++ back) →
     IsReadyRunAfter q pairs D front
@@ -129,16 +128,13 @@ run_of q pairs D (n ∷ run) f = (
       (f (n ∷ front) m back (ap (λ l. n ∷ l) e))),
 )
 
--- nothing was done before the journal
-done_is_journal : (journal : List ℕ) → AreSame (DoneOr (λ n. ⊥) journal) (λ n. n ∈ journal)
-done_is_journal journal n = (⊎_elim absurd (λ m. m), inr)
-
 pub run_after_journal : (q : Process) (pairs : List (ℕ × ℕ)) (journal more : List ℕ) →
     IsReadyRun q pairs (journal ++ more) ↔ (IsReadyRun q pairs journal × IsReadyRunAfter q pairs (λ n. n ∈ journal) more)
-run_after_journal q pairs journal more =
-    let (to, from) = run-append q pairs (λ n. ⊥) journal more in
-    let (there, back) = as_well q pairs (DoneOr (λ n. ⊥) journal) (λ n. n ∈ journal) more (done_is_journal journal) in
-    (λ h. let (k, l) = to h in (k, there l), λ h. from (h.0, back h.1))
+run_after_journal q pairs journal more = grind (
+  arith,
+  run-append q pairs (λ n. ⊥) journal more,
+  as_well q pairs (DoneOr (λ n. ⊥) journal) (λ n. n ∈ journal) more (λ n. grind arith),
+)
 
 -- each leaf of a ready run may come next after those before it
 pub ready_at : (q : Process) (pairs : List (ℕ × ℕ)) (front : List ℕ) (n : ℕ) (back : List ℕ) → IsReadyRun q pairs (front ++ n ∷ back) →

@@ -7,7 +7,7 @@ use Rattle.flow_model.specs.Facts.{event_at, is_event, events_of}
 use Rattle.flow_model.specs.Ways.{Normal, always, impossible, must, never, before, not_before, both, either, ways, leaf_of_event, free_way, is_free, ways_of_must, ways_of_never, ways_of_before, ways_of_not_before, normal_form, chain, broken_chain}
 use Rattle.flow_model.specs.Constraint.{Constraint, Always, Impossible, Must, Never, Order, Not, And, Or, Meets, HappenInOrder}
 use Rattle.flow_model.specs.Decided.{decide_in, decide_before, decide_meets}
-use Rattle.flow_laws.proofs.Members.{mem-append, each-append, before_members, mem_append_left, mem_append_right, each_parts, not_both_ways, before_or_after, not_before_itself}
+use Rattle.flow_laws.proofs.Members.{mem-append, each-append, before_members, mem_append_left, mem_append_right, each_parts, not_both_ways, before_or_after, not_before_itself, each_from_members, each_member}
 use Rattle.flow_laws.proofs.MadeLists.{of_each_with_each, of_find, some_same, mem-each_with_each, not_found, mem-filter_map, of_filter_map, before-filter_map, of_before-filter_map, same_source}
 
 -- The leaf of an event
@@ -33,56 +33,43 @@ same_event labels ls a b x y i j e =
 
 -- Pairs
 
--- a free list of ways, or the members of two lists
-of_either : (free : Bool) (vs ws : List (List (ℕ × ℕ))) (way : List (ℕ × ℕ)) →
-    way ∈ (if free then free_way else vs ++ ws) → (way ≡ []) ⊎ ((way ∈ vs) ⊎ (way ∈ ws))
-of_either true vs ws way m = ⊎_elim inl absurd m
-of_either false vs ws way m = inr (mem-append way vs ws m)
+-- what holds of two leaves of different events holds of each pair of each way
+each_way : (P : ℕ × ℕ → Type 0) (leaf : ℕ → Option ℕ) →
+    ((a b x y : ℕ) → a ≢ b → leaf a ≡ Some x → leaf b ≡ Some y → P (x, y)) → (n : Normal) → Each (Each P) (ways n leaf)
+each_way P leaf h always = (tt, tt)
+each_way P leaf h impossible = tt
+each_way P leaf h (must e) = elim (leaf e) as (λ o. Each (Each P) (ways_of_must o)) [ None ↦ tt | Some x ↦ (tt, tt) ]
+each_way P leaf h (never e) = elim (leaf e) as (λ o. Each (Each P) (ways_of_never o)) [ None ↦ (tt, tt) | Some x ↦ tt ]
+each_way P leaf h (before a b) = of_before (a == b) refl (leaf a) refl (leaf b) refl
+  where
+    of_before : (t : Bool) → (a == b) ≡ t → (o : Option ℕ) → leaf a ≡ o → (p : Option ℕ) → leaf b ≡ p →
+        Each (Each P) (if t then [] else ways_of_before o p)
+    of_before true i o j p k = tt
+    of_before false i None j p k = tt
+    of_before false i (Some x) j None k = tt
+    of_before false i (Some x) j (Some y) k = ((h a b x y (eqb-false a b i) j k, tt), tt)
+each_way P leaf h (not_before a b) = of_not_before (a == b) refl (leaf a) refl (leaf b) refl
+  where
+    of_not_before : (t : Bool) → (a == b) ≡ t → (o : Option ℕ) → leaf a ≡ o → (p : Option ℕ) → leaf b ≡ p →
+        Each (Each P) (if t then free_way else ways_of_not_before o p)
+    of_not_before true i o j p k = (tt, tt)
+    of_not_before false i None j p k = (tt, tt)
+    of_not_before false i (Some x) j None k = (tt, tt)
+    of_not_before false i (Some x) j (Some y) k = ((h b a y x (λ e. eqb-false a b i (sym e)) k j, tt), tt)
+each_way P leaf h (both x y) = each_from_members (Each P) (ways (both x y) leaf) (λ way m.
+    let (v, (w, mv, mw, e)) = of_each_with_each (λ v w. v ++ w) way (ways x leaf) (ways y leaf) m in
+    subst (Each P) (sym e) (each-append P v w
+    (each_member (Each P) (ways x leaf) (each_way P leaf h x) v mv) (each_member (Each P) (ways y leaf) (each_way P leaf h y) w mw)))
+each_way P leaf h (either x y) =
+    elim (is_free (ways x leaf) || is_free (ways y leaf)) as (λ t. Each (Each P) (if t then free_way else ways x leaf ++ ways y leaf)) [
+      | true ↦ (tt, tt)
+      | false ↦ each-append (Each P) (ways x leaf) (ways y leaf) (each_way P leaf h x) (each_way P leaf h y)
+    ]
 
-each_free : (P : ℕ × ℕ → Type 0) (way : List (ℕ × ℕ)) → way ∈ free_way → Each P way
-each_free P way = ⊎_elim (λ e. subst (Each P) (sym e) tt) absurd
-
-each_of_one : (P : ℕ × ℕ → Type 0) (pair : ℕ × ℕ) (way : List (ℕ × ℕ)) → P pair → way ∈ ((pair ∷ []) ∷ []) → Each P way
-each_of_one P pair way h = ⊎_elim (λ e. subst (Each P) (sym e) (h, tt)) absurd
-
--- what holds of two leaves of different events holds of each pair of a way
 pub each_pair : (P : ℕ × ℕ → Type 0) (leaf : ℕ → Option ℕ) →
     ((a b x y : ℕ) → a ≢ b → leaf a ≡ Some x → leaf b ≡ Some y → P (x, y)) →
     (n : Normal) (way : List (ℕ × ℕ)) → way ∈ ways n leaf → Each P way
-each_pair P leaf h always way m = each_free P way m
-each_pair P leaf h impossible way m = absurd m
-each_pair P leaf h (must e) way m = of_must (leaf e) m
-  where
-    of_must : (o : Option ℕ) → way ∈ ways_of_must o → Each P way
-    of_must None k = absurd k
-    of_must (Some x) k = each_free P way k
-each_pair P leaf h (never e) way m = of_never (leaf e) m
-  where
-    of_never : (o : Option ℕ) → way ∈ ways_of_never o → Each P way
-    of_never (Some x) k = absurd k
-    of_never None k = each_free P way k
-each_pair P leaf h (before a b) way m = of_before (a == b) refl (leaf a) refl (leaf b) refl m
-  where
-    of_before : (t : Bool) → (a == b) ≡ t → (o : Option ℕ) → leaf a ≡ o → (p : Option ℕ) → leaf b ≡ p →
-        way ∈ (if t then [] else ways_of_before o p) → Each P way
-    of_before true i o j p k l = absurd l
-    of_before false i None j p k l = absurd l
-    of_before false i (Some x) j None k l = absurd l
-    of_before false i (Some x) j (Some y) k l = each_of_one P (x, y) way (h a b x y (eqb-false a b i) j k) l
-each_pair P leaf h (not_before a b) way m = of_not_before (a == b) refl (leaf a) refl (leaf b) refl m
-  where
-    of_not_before : (t : Bool) → (a == b) ≡ t → (o : Option ℕ) → leaf a ≡ o → (p : Option ℕ) → leaf b ≡ p →
-        way ∈ (if t then free_way else ways_of_not_before o p) → Each P way
-    of_not_before true i o j p k l = each_free P way l
-    of_not_before false i None j p k l = each_free P way l
-    of_not_before false i (Some x) j None k l = each_free P way l
-    of_not_before false i (Some x) j (Some y) k l = each_of_one P (y, x) way (h b a y x (λ e. eqb-false a b i (sym e)) k j) l
-each_pair P leaf h (both x y) way m =
-    let (v, (w, mv, mw, e)) = of_each_with_each (λ v w. v ++ w) way (ways x leaf) (ways y leaf) m in
-    subst (Each P) (sym e) (each-append P v w (each_pair P leaf h x v mv) (each_pair P leaf h y w mw))
-each_pair P leaf h (either x y) way m = ⊎_elim
-    (λ e. subst (Each P) (sym e) tt) (⊎_elim (each_pair P leaf h x way) (each_pair P leaf h y way))
-    (of_either (is_free (ways x leaf) || is_free (ways y leaf)) (ways x leaf) (ways y leaf) way m)
+each_pair P leaf h n = each_member (Each P) (ways n leaf) (each_way P leaf h n)
 
 -- the normal form is true of the whole list of an execution's events
 abbrev pub MeetsNormal : Normal → List ℕ → Type 0
@@ -255,14 +242,8 @@ either_by_way t X Y vs ws x y true g e i =
 either_by_way t X Y vs ws x y false true e i =
     (λ h. free_has_way t, λ k. inr (y.1 (subst (λ u. HasWay u t) (sym (free_is ws i)) (free_has_way t))))
 either_by_way t X Y vs ws x y false false e i = (
-  λ h. elim h [
-    | inl k ↦ (let (v, m, s) = x.0 k in (v, mem_append_left v vs ws m, s))
-    | inr k ↦ (let (v, m, s) = y.0 k in (v, mem_append_right v vs ws m, s))
-  ],
-  λ (way, m, s). elim (mem-append way vs ws m) [
-    | inl k ↦ inl (x.1 (way, k, s))
-    | inr k ↦ inr (y.1 (way, k, s))
-  ],
+  ⊎_elim (λ k. let (v, m, s) = x.0 k in (v, mem_append_left v vs ws m, s)) (λ k. let (v, m, s) = y.0 k in (v, mem_append_right v vs ws m, s)),
+  λ (way, m, s). ⊎_elim (λ k. inl (x.1 (way, k, s))) (λ k. inr (y.1 (way, k, s))) (mem-append way vs ws m),
 )
 
 pub ways_decide : {labels : List Label} {t ls : List ℕ} → AreItsLeaves labels t ls → (n : Normal) →
