@@ -32,10 +32,7 @@ and_false false = refl
 pub answer_keeps : (P : Claim → Type 0) → ((claim : Claim) → P claim → P (answered claim)) → (number : ℕ) (claims : List Claim) →
     Each P claims → Each P (answer number claims)
 answer_keeps P keeps number [] h = tt
-answer_keeps P keeps number (x ∷ xs) (h, t) = elim (cases_Bool (x.number == number)) [
-  | inl e ↦ rw e (keeps x h, answer_keeps P keeps number xs t)
-  | inr e ↦ rw e (h, answer_keeps P keeps number xs t)
-]
+answer_keeps P keeps number (x ∷ xs) (h, t) = grind (arith, cases_Bool (x.number == number), h, keeps x h, answer_keeps P keeps number xs t)
 
 pub numbers-answer : (number : ℕ) (claims : List Claim) → map number_of (answer number claims) ≡ map number_of claims
 numbers-answer number [] = refl
@@ -146,10 +143,8 @@ renewed s claim = record claim { epoch = s.epoch + 1 }
 pub spare_keeps : (P : Claim → Type 0) (w : Schema) (s : RunState) → ((claim : Claim) → P claim → P (renewed s claim)) →
     (before : List ℕ) (claims : List Claim) → Each P claims → Each P (spare w s before claims)
 spare_keeps P w s keeps before [] h = tt
-spare_keeps P w s keeps before (x ∷ xs) (h, t) = elim (cases_Bool (is_spared w s before x)) [
-  | inl e ↦ rw e (keeps x h, spare_keeps P w s keeps (before ++ x.leaf ∷ []) xs t)
-  | inr e ↦ rw e (h, spare_keeps P w s keeps before xs t)
-]
+spare_keeps P w s keeps before (x ∷ xs) (h, t) = grind (arith, cases_Bool (is_spared w s before x), h, keeps x h,
+    spare_keeps P w s keeps (before ++ x.leaf ∷ []) xs t, spare_keeps P w s keeps before xs t)
 
 pub numbers-spare : (w : Schema) (s : RunState) (before : List ℕ) (claims : List Claim) → map number_of (spare w s before claims) ≡ map number_of claims
 numbers-spare w s before [] = refl
@@ -196,20 +191,14 @@ spared_leaves-append w s before (x ∷ xs) b = let next = before ++ x.leaf ∷ [
 -- where none is current, all stay as they are
 pub spare_of_none : OthersStay
 spare_of_none w s before [] e = (refl, refl)
-spare_of_none w s before (x ∷ xs) e = elim (cases_Bool (is_current s x)) [
-  | inl k ↦ (let f = rw k at e in cc)
-  | inr k ↦ (let (h, i) = spare_of_none w s before xs (rw k at e) in rw k (ap (λ l. x ∷ l) h, i))
-]
+spare_of_none w s before (x ∷ xs) e = grind (arith, cases_Bool (is_current s x), e, spare_of_none w s before xs)
 
 -- what is spared may follow what was spared before
 pub spared_may_follow : (w : Schema) (s : RunState) (before : List ℕ) (claims : List Claim) → MayAllFollow w s before →
     MayAllFollow w s (before ++ spared_leaves w s before claims)
 spared_may_follow w s before [] may = subst (MayAllFollow w s) (sym (append-nil before)) may
-spared_may_follow w s before (x ∷ xs) may = elim (cases_Bool (is_spared w s before x)) [
-  | inl e ↦ rw e (subst (MayAllFollow w s) (append_assoc before (x.leaf ∷ []) (spared_leaves w s (before ++ x.leaf ∷ []) xs))
-      (spared_may_follow w s (before ++ x.leaf ∷ []) xs ((spared_told w s before x).0 e).1))
-  | inr e ↦ rw e (spared_may_follow w s before xs may)
-]
+spared_may_follow w s before (x ∷ xs) may = let next = before ++ x.leaf ∷ [] in grind (arith, cases_Bool (is_spared w s before x),
+    (spared_told w s before x).0, spared_may_follow w s next xs, spared_may_follow w s before xs may, append_assoc before (x.leaf ∷ []) (spared_leaves w s next xs))
 
 -- Just those
 

@@ -31,10 +31,7 @@ mem-each_with_each f x y (z ∷ xs) ys (inr h) k = mem_append_right _ (map (f z)
 pub of_each_with_each : {A B C : Type 0} (f : A → B → C) (z : C) (xs : List A) (ys : List B) →
     z ∈ each_with_each f xs ys → (x : A) × ((y : B) × (x ∈ xs) × (y ∈ ys) × (z ≡ f x y))
 of_each_with_each f z [] ys h = absurd h
-of_each_with_each f z (x ∷ xs) ys h = elim (mem-append z (map (f x) ys) _ h) [
-  | inl m ↦ (let (y, k, e) = of_map (f x) z ys m in (x, (y, inl refl, k, e)))
-  | inr m ↦ (let (u, (v, a, b, e)) = of_each_with_each f z xs ys m in (u, (v, inr a, b, e)))
-]
+of_each_with_each f z (x ∷ xs) ys h = grind (arith, mem-append z (map (f x) ys) _ h, of_map (f x) z ys, of_each_with_each f z xs ys)
 
 pub mem-flat_map : {A B : Type 0} (f : A → List B) (x : A) (y : B) (xs : List A) → x ∈ xs → y ∈ f x → y ∈ flat_map f xs
 mem-flat_map f x y [] h k = absurd h
@@ -43,10 +40,7 @@ mem-flat_map f x y (z ∷ xs) (inr h) k = mem_append_right y (f z) _ (mem-flat_m
 
 pub of_flat_map : {A B : Type 0} (f : A → List B) (y : B) (xs : List A) → y ∈ flat_map f xs → (x : A) × (x ∈ xs) × (y ∈ f x)
 of_flat_map f y [] h = absurd h
-of_flat_map f y (z ∷ xs) h = elim (mem-append y (f z) _ h) [
-  | inl m ↦ (z, inl refl, m)
-  | inr m ↦ (let (x, a, b) = of_flat_map f y xs m in (x, inr a, b))
-]
+of_flat_map f y (z ∷ xs) h = grind (arith, mem-append y (f z) _ h, of_flat_map f y xs)
 
 -- Places
 
@@ -89,10 +83,7 @@ mem_joined x (y ∷ list) item m h = grind (arith, m, h, mem_append_left x y (jo
 -- the list in which a member of the joined lists stands
 pub list_having : {A : Type 0} (x : A) (list : List (List A)) → x ∈ joined list → (item : List A) × (item ∈ list) × (x ∈ item)
 list_having x [] h = absurd h
-list_having x (y ∷ list) h = ⊎_elim
-    (λ k. (y, inl refl, k))
-    (λ k. let r = list_having x list k in (r.0, inr r.1, r.2))
-    (mem-append x y (joined list) h)
+list_having x (y ∷ list) h = grind (arith, mem-append x y (joined list) h, list_having x list)
 
 -- where the joined lists are distinct, two with a common member are one
 pub joined_apart : {A : Type 0} (list : List (List A)) (a b : List A) (x : A) → AreDistinct (joined list) → a ∈ list → b ∈ list → x ∈ a → x ∈ b → a ≡ b
@@ -136,10 +127,7 @@ not_found p (y ∷ ys) x e m h = grind (arith, cases_Bool (p y), e, m, h, not_fo
 pub each-filter : {A : Type 0} (P Q : A → Type 0) (p : A → Bool) (xs : List A) → ((x : A) → p x ≡ true → Q x → P x) →
     Each Q xs → Each P (filter p xs)
 each-filter P Q p [] to h = tt
-each-filter P Q p (x ∷ xs) to (h, t) = elim (cases_Bool (p x)) [
-  | inl e ↦ rw e (to x e h, each-filter P Q p xs to t)
-  | inr e ↦ rw e (each-filter P Q p xs to t)
-]
+each-filter P Q p (x ∷ xs) to (h, t) = grind (arith, cases_Bool (p x), h, to x, each-filter P Q p xs to t)
 
 -- What a filter that maps keeps
 
