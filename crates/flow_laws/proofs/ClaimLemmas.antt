@@ -156,14 +156,11 @@ numbers-spare w s before (x ∷ xs) =
 pub spared_are_current : (w : Schema) (s : RunState) (before : List ℕ) (claims : List Claim) → Each (λ (claim : Claim). claim.epoch ≤ s.epoch) claims →
     map leaf_of (filter (is_of (s.epoch + 1)) (spare w s before claims)) ≡ spared_leaves w s before claims
 spared_are_current w s before [] h = refl
-spared_are_current w s before (x ∷ xs) (h, t) = elim (cases_Bool (is_spared w s before x)) [
-  | inl e ↦ (let current = ((spared_told w s before x).0 e).0 in
-      let new : is_of (s.epoch + 1) (renewed s x) ≡ true =
-      and_from (not x.answered) ((s.epoch + 1) == (s.epoch + 1)) (and_parts (not x.answered) (x.epoch == s.epoch) current).0
-      (eq-eqb (s.epoch + 1) (s.epoch + 1) refl) in
-      rw (e, new) (ap (λ l. x.leaf ∷ l) (spared_are_current w s (before ++ x.leaf ∷ []) xs t)))
-  | inr e ↦ rw (e, is_not_of_later s.epoch x h) (spared_are_current w s before xs t)
-]
+spared_are_current w s before (x ∷ xs) (h, t) =
+    let new = λ (e : is_spared w s before x ≡ true). and_from (not x.answered) ((s.epoch + 1) == (s.epoch + 1))
+    (and_parts (not x.answered) (x.epoch == s.epoch) ((spared_told w s before x).0 e).0).0 (eq-eqb (s.epoch + 1) (s.epoch + 1) refl) in
+    grind (arith, cases_Bool (is_spared w s before x), new, is_not_of_later s.epoch x h,
+    spared_are_current w s (before ++ x.leaf ∷ []) xs t, spared_are_current w s before xs t)
 
 -- in two pieces: the second is looked at after what is spared of the first
 pub spare-append : (w : Schema) (s : RunState) (before : List ℕ) (a b : List Claim) →

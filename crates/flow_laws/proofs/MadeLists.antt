@@ -13,20 +13,17 @@ use Rattle.flow_laws.proofs.Members.{mem_append_left, mem_append_right, mem-appe
 
 pub mem-map : {A B : Type 0} (f : A → B) (x : A) (xs : List A) → x ∈ xs → f x ∈ map f xs
 mem-map f x [] h = absurd h
-mem-map f x (y ∷ ys) (inl e) = inl (ap f e)
-mem-map f x (y ∷ ys) (inr h) = inr (mem-map f x ys h)
+mem-map f x (y ∷ ys) h = grind (arith, h, mem-map f x ys)
 
 pub of_map : {A B : Type 0} (f : A → B) (y : B) (xs : List A) → y ∈ map f xs → (x : A) × (x ∈ xs) × (y ≡ f x)
 of_map f y [] h = absurd h
-of_map f y (x ∷ xs) (inl e) = (x, inl refl, e)
-of_map f y (x ∷ xs) (inr h) = let (z, m, e) = of_map f y xs h in (z, inr m, e)
+of_map f y (x ∷ xs) h = grind (arith, h, of_map f y xs)
 
 pub mem-each_with_each : {A B C : Type 0} (f : A → B → C) (x : A) (y : B) (xs : List A) (ys : List B) →
     x ∈ xs → y ∈ ys → f x y ∈ each_with_each f xs ys
 mem-each_with_each f x y [] ys h k = absurd h
-mem-each_with_each f x y (z ∷ xs) ys (inl e) k =
-    mem_append_left _ (map (f z) ys) _ (subst (λ w. f w y ∈ map (f z) ys) (sym e) (mem-map (f z) y ys k))
-mem-each_with_each f x y (z ∷ xs) ys (inr h) k = mem_append_right _ (map (f z) ys) _ (mem-each_with_each f x y xs ys h k)
+mem-each_with_each f x y (z ∷ xs) ys h k = grind (arith, h, k, mem-map (f z) y ys, mem-each_with_each f x y xs ys,
+    mem_append_left (f x y) (map (f z) ys), mem_append_right (f x y) (map (f z) ys))
 
 pub of_each_with_each : {A B C : Type 0} (f : A → B → C) (z : C) (xs : List A) (ys : List B) →
     z ∈ each_with_each f xs ys → (x : A) × ((y : B) × (x ∈ xs) × (y ∈ ys) × (z ≡ f x y))
@@ -35,8 +32,7 @@ of_each_with_each f z (x ∷ xs) ys h = grind (arith, mem-append z (map (f x) ys
 
 pub mem-flat_map : {A B : Type 0} (f : A → List B) (x : A) (y : B) (xs : List A) → x ∈ xs → y ∈ f x → y ∈ flat_map f xs
 mem-flat_map f x y [] h k = absurd h
-mem-flat_map f x y (z ∷ xs) (inl e) k = mem_append_left y (f z) _ (subst (λ w. y ∈ f w) e k)
-mem-flat_map f x y (z ∷ xs) (inr h) k = mem_append_right y (f z) _ (mem-flat_map f x y xs h k)
+mem-flat_map f x y (z ∷ xs) h k = grind (arith, h, k, mem-flat_map f x y xs, mem_append_left y (f z), mem_append_right y (f z))
 
 pub of_flat_map : {A B : Type 0} (f : A → List B) (y : B) (xs : List A) → y ∈ flat_map f xs → (x : A) × (x ∈ xs) × (y ∈ f x)
 of_flat_map f y [] h = absurd h
@@ -151,12 +147,7 @@ mem-filter_map h x y (z ∷ zs) m k = grind (arith, m, k, kept_first h z zs, mem
 
 pub of_filter_map : {A B : Type 0} (h : A → Option B) (y : B) (xs : List A) → y ∈ filter_map h xs → (x : A) × (x ∈ xs) × (h x ≡ Some y)
 of_filter_map h y [] m = absurd m
-of_filter_map h y (z ∷ zs) m =
-    let in_rest = λ (l : y ∈ filter_map h zs). let (x, a, b) = of_filter_map h y zs l in let r : (x : _) × (x ∈ (z ∷ zs)) × (h x ≡ Some y) = (x, inr a, b) in r in
-    elim (kept_first h z zs) [
-      | inl e ↦ in_rest (subst (λ l. y ∈ l) e m)
-      | inr (w, k, e) ↦ ⊎_elim (λ f. (z, inl refl, k ∙ ap Some (sym f))) in_rest (subst (λ l. y ∈ l) e m)
-    ]
+of_filter_map h y (z ∷ zs) m = grind (arith, m, kept_first h z zs, of_filter_map h y zs)
 
 pub before-filter_map : {A B : Type 0} (h : A → Option B) (x y : A) (a b : B) (t : List A) →
     StandsBefore x y t → h x ≡ Some a → h y ≡ Some b → StandsBefore a b (filter_map h t)
@@ -167,25 +158,14 @@ before-filter_map h x y a b (z ∷ t) s i j =
 pub of_before-filter_map : {A B : Type 0} (h : A → Option B) (a b : B) (t : List A) → StandsBefore a b (filter_map h t) →
     (x : A) × ((y : A) × StandsBefore x y t × (h x ≡ Some a) × (h y ≡ Some b))
 of_before-filter_map h a b [] s = absurd s
-of_before-filter_map h a b (z ∷ t) s =
-    let in_rest = λ (l : StandsBefore a b (filter_map h t)). let (x, (y, c, i, j)) = of_before-filter_map h a b t l in
-    let r : (x : _) × ((y : _) × StandsBefore x y (z ∷ t) × (h x ≡ Some a) × (h y ≡ Some b)) = (x, (y, inr c, i, j)) in r in
-    elim (kept_first h z t) [
-      | inl e ↦ in_rest (subst (StandsBefore a b) e s)
-      | inr (w, k, e) ↦ ⊎_elim
-          (λ l. let (y, m, j) = of_filter_map h b t l.1 in (z, (y, inl (refl, m), k ∙ ap Some (sym l.0), j)))
-          in_rest (subst (StandsBefore a b) e s)
-    ]
+of_before-filter_map h a b (z ∷ t) s = grind (arith, s, kept_first h z t, of_filter_map h b t, of_before-filter_map h a b t)
 
 -- where what it keeps is distinct, two members that map to the same are one
 pub same_source : {A B : Type 0} (h : A → Option B) (t : List A) → AreDistinct (filter_map h t) →
     (x y : A) (a : B) → x ∈ t → y ∈ t → h x ≡ Some a → h y ≡ Some a → x ≡ y
 same_source h [] d x y a m k i j = absurd m
-same_source h (z ∷ t) d x y a m k i j = elim (kept_first h z t) [
-  | inl e ↦ grind (arith, m, k, same_source h t (subst AreDistinct e d) x y a, mem-filter_map h x a t, mem-filter_map h y a t)
-  | inr (w, f, e) ↦ (let d' : AreDistinct (w ∷ filter_map h t) = subst AreDistinct e d in
-      grind (arith, m, k, d'.0, same_source h t d'.1 x y a, mem-filter_map h x a t, mem-filter_map h y a t))
-]
+same_source h (z ∷ t) d x y a m k i j =
+    grind (arith, m, k, kept_first h z t, d, same_source h t, mem-filter_map h x a t, mem-filter_map h y a t)
 
 -- where no two different members map to the same, what is kept is distinct
 pub distinct-filter_map : {A B : Type 0} (h : A → Option B) (t : List A) → AreDistinct t →
@@ -216,11 +196,8 @@ same_order (x ∷ xs) = ([], xs, refl, same_order xs)
 
 pub order_of_one : {A : Type 0} (order : List A) (x : A) → IsOrderOf order (x ∷ []) → order ≡ x ∷ []
 order_of_one [] x h = absurd (not_empty [] x [] (sym h))
-order_of_one (y ∷ order) x ([], back, e, h) =
-    let (same, none) = cons_same x y [] back e in
-    ap (λ w. y ∷ w) (order_of_none order (subst (IsOrderOf order) (sym none) h)) ∙ ap (λ z. z ∷ []) (sym same)
-order_of_one (y ∷ order) x (z ∷ front, back, e, h) =
-    absurd (not_empty front y back (cons_same x z [] (front ++ y ∷ back) e).1)
+order_of_one (y ∷ order) x ([], back, e, h) = grind (arith, e, order_of_none order, h)
+order_of_one (y ∷ order) x (z ∷ front, back, e, h) = absurd (not_empty front y back (cons_same x z [] (front ++ y ∷ back) e).1)
 
 pub order_member : {A : Type 0} (x : A) (order list : List A) → IsOrderOf order list → x ∈ order → x ∈ list
 order_member x [] list o m = absurd m

@@ -150,11 +150,7 @@ run_grow q pairs run n h r = (run_after_journal q pairs run (n ∷ [])).1 (h, (r
 pub run_distinct : (q : Process) (pairs : List (ℕ × ℕ)) (D : ℕ → Type 0) (run : List ℕ) → IsReadyRunAfter q pairs D run →
     AreDistinct run × ((x : ℕ) → x ∈ run → ¬ (D x))
 run_distinct q pairs D [] h = (tt, λ x k. absurd k)
-run_distinct q pairs D (n ∷ run) h =
-    let r = run_distinct q pairs (DoneOr D (n ∷ [])) run h.1 in (
-      (λ k. r.1 n k (inr (inl refl)), r.0),
-      λ x k e. ⊎_elim (λ i. h.0.not_done (subst D i e)) (λ l. r.1 x l (inl e)) k,
-    )
+run_distinct q pairs D (n ∷ run) h = grind (arith, run_distinct q pairs (DoneOr D (n ∷ [])) run h.1, h.0.not_done)
 
 -- the two are one
 
