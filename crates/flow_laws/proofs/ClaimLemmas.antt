@@ -41,8 +41,7 @@ numbers-answer number (x ∷ xs) = grind (arith, cases_Bool (x.number == number)
 answer_of_none : (number : ℕ) (claims : List Claim) → ¬ (number ∈ map number_of claims) → answer number claims ≡ claims
 answer_of_none number [] none = refl
 answer_of_none number (x ∷ xs) none =
-    rw (false_from_ne_true (x.number == number) (λ e. none (inl (sym (eqb-true x.number number e)))))
-    (ap (λ w. x ∷ w) (answer_of_none number xs (λ m. none (inr m))))
+    grind (arith, cases_Bool (x.number == number), eqb-true x.number number, none, answer_of_none number xs)
 
 -- nothing else is answered by the number of the first claim
 answer_of_first : (x : Claim) (xs : List Claim) (number : ℕ) → ¬ (x.number ∈ map number_of xs) → (x.number == number) ≡ true → answer number xs ≡ xs
@@ -82,7 +81,7 @@ not_of_other epoch claim n =
 
 -- a claim of the present epoch or of an older one is not of the next
 pub is_not_of_later : (epoch : ℕ) (claim : Claim) → claim.epoch ≤ epoch → is_of (epoch + 1) claim ≡ false
-is_not_of_later epoch claim h = not_of_other (epoch + 1) claim (λ e. omega (arith, e, h))
+is_not_of_later epoch claim h = not_of_other (epoch + 1) claim (omega arith)
 
 pub lapsed_is_not_current : (epoch : ℕ) (claim : Claim) → (not claim.answered && nat_lt claim.epoch epoch) ≡ true → is_of epoch claim ≡ false
 lapsed_is_not_current epoch claim h =
@@ -143,8 +142,14 @@ renewed s claim = record claim { epoch = s.epoch + 1 }
 pub spare_keeps : (P : Claim → Type 0) (w : Schema) (s : RunState) → ((claim : Claim) → P claim → P (renewed s claim)) →
     (before : List ℕ) (claims : List Claim) → Each P claims → Each P (spare w s before claims)
 spare_keeps P w s keeps before [] h = tt
-spare_keeps P w s keeps before (x ∷ xs) (h, t) = grind (arith, cases_Bool (is_spared w s before x), h, keeps x h,
-    spare_keeps P w s keeps (before ++ x.leaf ∷ []) xs t, spare_keeps P w s keeps before xs t)
+spare_keeps P w s keeps before (x ∷ xs) (h, t) = grind (
+  arith,
+  cases_Bool (is_spared w s before x),
+  h,
+  keeps x h,
+  spare_keeps P w s keeps (before ++ x.leaf ∷ []) xs t,
+  spare_keeps P w s keeps before xs t,
+)
 
 pub numbers-spare : (w : Schema) (s : RunState) (before : List ℕ) (claims : List Claim) → map number_of (spare w s before claims) ≡ map number_of claims
 numbers-spare w s before [] = refl
@@ -159,8 +164,14 @@ spared_are_current w s before [] h = refl
 spared_are_current w s before (x ∷ xs) (h, t) =
     let new = λ (e : is_spared w s before x ≡ true). and_from (not x.answered) ((s.epoch + 1) == (s.epoch + 1))
     (and_parts (not x.answered) (x.epoch == s.epoch) ((spared_told w s before x).0 e).0).0 (eq-eqb (s.epoch + 1) (s.epoch + 1) refl) in
-    grind (arith, cases_Bool (is_spared w s before x), new, is_not_of_later s.epoch x h,
-    spared_are_current w s (before ++ x.leaf ∷ []) xs t, spared_are_current w s before xs t)
+    grind (
+      arith,
+      cases_Bool (is_spared w s before x),
+      new,
+      is_not_of_later s.epoch x h,
+      spared_are_current w s (before ++ x.leaf ∷ []) xs t,
+      spared_are_current w s before xs t,
+    )
 
 -- in two pieces: the second is looked at after what is spared of the first
 pub spare-append : (w : Schema) (s : RunState) (before : List ℕ) (a b : List Claim) →
@@ -194,8 +205,14 @@ spare_of_none w s before (x ∷ xs) e = grind (arith, cases_Bool (is_current s x
 pub spared_may_follow : (w : Schema) (s : RunState) (before : List ℕ) (claims : List Claim) → MayAllFollow w s before →
     MayAllFollow w s (before ++ spared_leaves w s before claims)
 spared_may_follow w s before [] may = subst (MayAllFollow w s) (sym (append-nil before)) may
-spared_may_follow w s before (x ∷ xs) may = let next = before ++ x.leaf ∷ [] in grind (arith, cases_Bool (is_spared w s before x),
-    (spared_told w s before x).0, spared_may_follow w s next xs, spared_may_follow w s before xs may, append_assoc before (x.leaf ∷ []) (spared_leaves w s next xs))
+spared_may_follow w s before (x ∷ xs) may = let next = before ++ x.leaf ∷ [] in grind (
+  arith,
+  cases_Bool (is_spared w s before x),
+  (spared_told w s before x).0,
+  spared_may_follow w s next xs,
+  spared_may_follow w s before xs may,
+  append_assoc before (x.leaf ∷ []) (spared_leaves w s next xs),
+)
 
 -- Just those
 
@@ -211,8 +228,11 @@ spare_is w s before (x ∷ xs) = elim (cases_Bool (is_spared w s before x)) [
 
 pub spare_only : (w : Schema) (s : RunState) (before : List ℕ) (claims left : List Claim) → AreSpared w s before claims left → left ≡ spare w s before claims
 spare_only w s before [] left h = h
-spare_only w s before (x ∷ xs) left (rest, inl (spared, e, h)) =
-    rw ((spared_told w s before x).1 spared) (e ∙ ap (λ l. renewed s x ∷ l) (spare_only w s (before ++ x.leaf ∷ []) xs rest h))
-spare_only w s before (x ∷ xs) left (rest, inr (lapses, e, h)) =
-    let not_spared = false_from_ne_true (is_spared w s before x) (λ k. lapses ((spared_told w s before x).0 k)) in
-    rw not_spared (e ∙ ap (λ l. x ∷ l) (spare_only w s before xs rest h))
+spare_only w s before (x ∷ xs) left (rest, h) = grind (
+  arith,
+  h,
+  cases_Bool (is_spared w s before x),
+  spared_told w s before x,
+  spare_only w s (before ++ x.leaf ∷ []) xs rest,
+  spare_only w s before xs rest,
+)

@@ -116,8 +116,11 @@ pub unique_events : (w : Schema) → IsNumbered w.goal (length w.labels) →
 unique_events w numbered apart t (bs, h, k) =
     let d : AreDistinct (leaves w.goal) = subst AreDistinct (sym numbered) (distinct-numbers_from 0 (length w.labels)) in
     distinct-filter_map (event_at w.labels) t (distinct_trace w.goal d t (bs, h, k))
-    (λ x y e mx my differ i j.
-    elim (are_together w.goal bs h x y (subst (λ v. x ∈ v) k mx) (subst (λ v. y ∈ v) k my) differ) [
-      | inl l ↦ apart x y e l i j
-      | inr l ↦ apart y x e l j i
-    ])
+    (λ x y e mx my differ i j. grind (
+      arith,
+      apart x y e,
+      apart y x e,
+      i,
+      j,
+      are_together w.goal bs h x y (subst (λ v. x ∈ v) k mx) (subst (λ v. y ∈ v) k my) differ,
+    ))

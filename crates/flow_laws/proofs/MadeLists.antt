@@ -22,8 +22,15 @@ of_map f y (x ∷ xs) h = grind (arith, h, of_map f y xs)
 pub mem-each_with_each : {A B C : Type 0} (f : A → B → C) (x : A) (y : B) (xs : List A) (ys : List B) →
     x ∈ xs → y ∈ ys → f x y ∈ each_with_each f xs ys
 mem-each_with_each f x y [] ys h k = absurd h
-mem-each_with_each f x y (z ∷ xs) ys h k = grind (arith, h, k, mem-map (f z) y ys, mem-each_with_each f x y xs ys,
-    mem_append_left (f x y) (map (f z) ys), mem_append_right (f x y) (map (f z) ys))
+mem-each_with_each f x y (z ∷ xs) ys h k = grind (
+  arith,
+  h,
+  k,
+  mem-map (f z) y ys,
+  mem-each_with_each f x y xs ys,
+  mem_append_left (f x y) (map (f z) ys),
+  mem_append_right (f x y) (map (f z) ys),
+)
 
 pub of_each_with_each : {A B C : Type 0} (f : A → B → C) (z : C) (xs : List A) (ys : List B) →
     z ∈ each_with_each f xs ys → (x : A) × ((y : B) × (x ∈ xs) × (y ∈ ys) × (z ≡ f x y))
@@ -70,7 +77,7 @@ slice_get-each_with_each f (z ∷ xs) ys (suc i) j x y e k =
 
 pub joined-append : {A : Type 0} (xs ys : List (List A)) → joined (xs ++ ys) ≡ joined xs ++ joined ys
 joined-append [] ys = refl
-joined-append (x ∷ xs) ys = ap (λ w. x ++ w) (joined-append xs ys) ∙ sym (append_assoc x (joined xs) (joined ys))
+joined-append (x ∷ xs) ys = grind (arith, joined-append xs ys, append_assoc x (joined xs) (joined ys))
 
 pub mem_joined : {A : Type 0} (x : A) (list : List (List A)) (item : List A) → item ∈ list → x ∈ item → x ∈ joined list
 mem_joined x [] item m h = absurd m

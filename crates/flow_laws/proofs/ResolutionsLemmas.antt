@@ -47,15 +47,10 @@ blocks_of_goal (Isolated a) q bs (p, r, e) h = let (x, hx, k) = subst (λ s. Blo
 pub resolves_of : (g q : Process) → q ∈ resolutions g → Resolves g q
 resolves_of Empty q m = ⊎_elim (λ e. e) absurd m
 resolves_of (Task n) q m = ⊎_elim (λ e. e) absurd m
-resolves_of (Sequence a b) q m =
-    let (p, (r, ma, mb, e)) = of_each_with_each Sequence q (resolutions a) (resolutions b) m in
-    (p, r, resolves_of a p ma, resolves_of b r mb, e)
-resolves_of (Parallel a b) q m =
-    let (p, (r, ma, mb, e)) = of_each_with_each Parallel q (resolutions a) (resolutions b) m in
-    (p, r, resolves_of a p ma, resolves_of b r mb, e)
-resolves_of (Choice a b) q m =
-    ⊎_elim (λ k. inl (resolves_of a q k)) (λ k. inr (resolves_of b q k)) (mem-append q (resolutions a) (resolutions b) m)
-resolves_of (Isolated a) q m = let (p, k, e) = of_map Isolated q (resolutions a) m in (p, resolves_of a p k, e)
+resolves_of (Sequence a b) q m = grind (arith, of_each_with_each Sequence q (resolutions a) (resolutions b) m, resolves_of a, resolves_of b)
+resolves_of (Parallel a b) q m = grind (arith, of_each_with_each Parallel q (resolutions a) (resolutions b) m, resolves_of a, resolves_of b)
+resolves_of (Choice a b) q m = grind (arith, mem-append q (resolutions a) (resolutions b) m, resolves_of a q, resolves_of b q)
+resolves_of (Isolated a) q m = grind (arith, of_map Isolated q (resolutions a) m, resolves_of a)
 
 pub mem-resolutions : (g q : Process) → Resolves g q → q ∈ resolutions g
 mem-resolutions Empty q e = inl e

@@ -150,9 +150,7 @@ before_leaves {labels} {t} {ls} l a b x y i j s =
     let (mx, ex) = leaf_is_there l a x i in
     let (my, ey) = leaf_is_there l b y j in
     let (mu, mv) = before_members u v t r in
-    let same_x : u ≡ x = same_source (event_at labels) t l.distinct u x a mu mx k ex in
-    let same_y : v ≡ y = same_source (event_at labels) t l.distinct v y b mv my h ey in
-    subst (λ w. StandsBefore w y t) same_x (subst (λ w. StandsBefore u w t) same_y r)
+    grind (arith, r, same_source (event_at labels) t l.distinct u x a mu mx k ex, same_source (event_at labels) t l.distinct v y b mv my h ey)
 
 pub before_events : {labels : List Label} {t ls : List ℕ} → AreItsLeaves labels t ls → (a b x y : ℕ) →
     leaf_of_event labels ls a ≡ Some x → leaf_of_event labels ls b ≡ Some y →
