@@ -43,18 +43,14 @@ module _ (q : Process) (pairs : List (ℕ × ℕ)) (t : List ℕ) (w : IsOrdered
       differ i j p r e = apart j (subst (λ s. s ∈ one) e p) r
 
       u_before_y : StandsBefore u y t
-      u_before_y = grind (
-        arith,
-        before_or_after u y t (item_stands_in one u k u_in) (item_stands_in two y l y_in) (differ u y u_in y_in),
-        item_together one x y u k x_in (λ i. apart y i y_in) u_in (direct_stands q pairs t a x y b),
-      )
+      u_before_y =
+          let fact = before_or_after u y t (item_stands_in one u k u_in) (item_stands_in two y l y_in) (differ u y u_in y_in) in
+          grind (arith, item_together one x y u k x_in (λ i. apart y i y_in) u_in (direct_stands q pairs t a x y b))
 
       u_before_v : StandsBefore u v t
-      u_before_v = grind (
-        arith,
-        before_or_after u v t (item_stands_in one u k u_in) (item_stands_in two v l v_in) (differ u v u_in v_in),
-        λ (h : StandsBefore v u t). item_together two v u y l v_in (λ i. apart u u_in i) y_in h u_before_y,
-      )
+      u_before_v =
+          let fact = before_or_after u v t (item_stands_in one u k u_in) (item_stands_in two v l v_in) (differ u v u_in v_in) in
+          grind (arith, λ (h : StandsBefore v u t). item_together two v u y l v_in (λ i. apart u u_in i) y_in h u_before_y)
 
   -- from an item behind u no way leads back to the item of u
   no_way_back : (first : List ℕ) (u : ℕ) → first ∈ items_of part → u ∈ first → (item : List ℕ) (more : List (List ℕ)) → item ∈ items_of part →
@@ -281,16 +277,9 @@ module _ (q : Process) (pairs : List (ℕ × ℕ)) (w : IsOrdered q pairs) (run 
           has : (part : Process) → part ∈ isolated_parts q → IsCaught run part → last ∈ leaves part
           has part i ((x, x_in, x_done), (y, y_in, y_fresh)) =
               let r = ready_at q pairs front last [] (subst (IsReadyRun q pairs) e ready) in
-              grind (
-                arith,
-                decide_in last (leaves part),
-                x_in,
-                y_in,
-                mem-append x front (last ∷ []) (subst (λ z. x ∈ z) e x_done),
-                subst (λ z. ¬ (y ∈ z)) e y_fresh,
-                mem_append_left y front (last ∷ []),
-                λ (no : ¬ (last ∈ leaves part)). r.outside part i no x y x_in,
-              )
+              let fact = mem-append x front (last ∷ []) (subst (λ z. x ∈ z) e x_done) in
+              let other_fact = λ (no : ¬ (last ∈ leaves part)). r.outside part i no x y x_in in
+              grind (arith, x_in, y_in, decide_in last (leaves part), subst (λ z. ¬ (y ∈ z)) e y_fresh, mem_append_left y front (last ∷ []))
 
   -- a region that may go on by itself: it is unfinished, lies in each caught part, and all around it are open
   record IsFree (part : Process) : Type 0 where
@@ -333,13 +322,9 @@ module _ (q : Process) (pairs : List (ℕ × ℕ)) (w : IsOrdered q pairs) (run 
   -- what is directly before an item that is not blocked is done
   item_waits : (part : Process) → IsFree part → (item : List ℕ) → item ∈ items_of part → ¬ (IsBlocked part item) →
       (x y : ℕ) → ¬ (x ∈ item) → y ∈ item → DirectlyBefore q pairs x y → x ∈ run
-  item_waits part r item m n x y a b c = grind (
-    arith,
-    decide_in x run,
-    decide_in x (leaves part),
-    λ (fresh : ¬ (x ∈ run)) (i : x ∈ leaves part). n (x, i, ((fresh, a), (y, b, c))),
-    λ (no : ¬ (x ∈ leaves part)). r.around part r.is_part (λ z i. i) x y no (item_within part item y m b) c,
-  )
+  item_waits part r item m n x y a b c =
+      let fact = λ (no : ¬ (x ∈ leaves part)). r.around part r.is_part (λ z i. i) x y no (item_within part item y m b) c in
+      grind (arith, decide_in x run, decide_in x (leaves part), λ (fresh : ¬ (x ∈ run)) (i : x ∈ leaves part). n (x, i, ((fresh, a), (y, b, c))))
 
   -- and so is what is directly before a part that has the item
   item_open : (part : Process) → IsFree part → (item : List ℕ) → item ∈ items_of part → ¬ (IsBlocked part item) → (other : Process) → other ∈ regions q →

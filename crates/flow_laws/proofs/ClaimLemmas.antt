@@ -142,14 +142,9 @@ renewed s claim = record claim { epoch = s.epoch + 1 }
 pub spare_keeps : (P : Claim → Type 0) (w : Schema) (s : RunState) → ((claim : Claim) → P claim → P (renewed s claim)) →
     (before : List ℕ) (claims : List Claim) → Each P claims → Each P (spare w s before claims)
 spare_keeps P w s keeps before [] h = tt
-spare_keeps P w s keeps before (x ∷ xs) (h, t) = grind (
-  arith,
-  cases_Bool (is_spared w s before x),
-  h,
-  keeps x h,
-  spare_keeps P w s keeps (before ++ x.leaf ∷ []) xs t,
-  spare_keeps P w s keeps before xs t,
-)
+spare_keeps P w s keeps before (x ∷ xs) (h, t) =
+    let fact = spare_keeps P w s keeps (before ++ x.leaf ∷ []) xs t in
+    grind (arith, h, keeps x h, cases_Bool (is_spared w s before x), spare_keeps P w s keeps before xs t)
 
 pub numbers-spare : (w : Schema) (s : RunState) (before : List ℕ) (claims : List Claim) → map number_of (spare w s before claims) ≡ map number_of claims
 numbers-spare w s before [] = refl
@@ -164,37 +159,23 @@ spared_are_current w s before [] h = refl
 spared_are_current w s before (x ∷ xs) (h, t) =
     let new = λ (e : is_spared w s before x ≡ true). and_from (not x.answered) ((s.epoch + 1) == (s.epoch + 1))
     (and_parts (not x.answered) (x.epoch == s.epoch) ((spared_told w s before x).0 e).0).0 (eq-eqb (s.epoch + 1) (s.epoch + 1) refl) in
-    grind (
-      arith,
-      cases_Bool (is_spared w s before x),
-      new,
-      is_not_of_later s.epoch x h,
-      spared_are_current w s (before ++ x.leaf ∷ []) xs t,
-      spared_are_current w s before xs t,
-    )
+    let fact = spared_are_current w s (before ++ x.leaf ∷ []) xs t in
+    grind (arith, new, is_not_of_later s.epoch x h, spared_are_current w s before xs t, cases_Bool (is_spared w s before x))
 
 -- in two pieces: the second is looked at after what is spared of the first
 pub spare-append : (w : Schema) (s : RunState) (before : List ℕ) (a b : List Claim) →
     spare w s before (a ++ b) ≡ spare w s before a ++ spare w s (before ++ spared_leaves w s before a) b
 spare-append w s before [] b = ap (λ l. spare w s l b) (sym (append-nil before))
-spare-append w s before (x ∷ xs) b = let next = before ++ x.leaf ∷ [] in grind (
-  arith,
-  cases_Bool (is_spared w s before x),
-  spare-append w s next xs b,
-  spare-append w s before xs b,
-  append_assoc before (x.leaf ∷ []) (spared_leaves w s next xs),
-)
+spare-append w s before (x ∷ xs) b = let next = before ++ x.leaf ∷ [] in
+    let fact = append_assoc before (x.leaf ∷ []) (spared_leaves w s next xs) in
+    grind (arith, spare-append w s next xs b, spare-append w s before xs b, cases_Bool (is_spared w s before x))
 
 pub spared_leaves-append : (w : Schema) (s : RunState) (before : List ℕ) (a b : List Claim) →
     spared_leaves w s before (a ++ b) ≡ spared_leaves w s before a ++ spared_leaves w s (before ++ spared_leaves w s before a) b
 spared_leaves-append w s before [] b = ap (λ l. spared_leaves w s l b) (sym (append-nil before))
-spared_leaves-append w s before (x ∷ xs) b = let next = before ++ x.leaf ∷ [] in grind (
-  arith,
-  cases_Bool (is_spared w s before x),
-  spared_leaves-append w s next xs b,
-  spared_leaves-append w s before xs b,
-  append_assoc before (x.leaf ∷ []) (spared_leaves w s next xs),
-)
+spared_leaves-append w s before (x ∷ xs) b = let next = before ++ x.leaf ∷ [] in
+    let fact = append_assoc before (x.leaf ∷ []) (spared_leaves w s next xs) in
+    grind (arith, spared_leaves-append w s next xs b, cases_Bool (is_spared w s before x), spared_leaves-append w s before xs b)
 
 -- where none is current, all stay as they are
 pub spare_of_none : OthersStay
@@ -205,14 +186,9 @@ spare_of_none w s before (x ∷ xs) e = grind (arith, cases_Bool (is_current s x
 pub spared_may_follow : (w : Schema) (s : RunState) (before : List ℕ) (claims : List Claim) → MayAllFollow w s before →
     MayAllFollow w s (before ++ spared_leaves w s before claims)
 spared_may_follow w s before [] may = subst (MayAllFollow w s) (sym (append-nil before)) may
-spared_may_follow w s before (x ∷ xs) may = let next = before ++ x.leaf ∷ [] in grind (
-  arith,
-  cases_Bool (is_spared w s before x),
-  (spared_told w s before x).0,
-  spared_may_follow w s next xs,
-  spared_may_follow w s before xs may,
-  append_assoc before (x.leaf ∷ []) (spared_leaves w s next xs),
-)
+spared_may_follow w s before (x ∷ xs) may = let next = before ++ x.leaf ∷ [] in
+    let fact = spared_may_follow w s before xs may in let other_fact = append_assoc before (x.leaf ∷ []) (spared_leaves w s next xs) in
+    grind (arith, (spared_told w s before x).0, spared_may_follow w s next xs, cases_Bool (is_spared w s before x))
 
 -- Just those
 
@@ -228,11 +204,6 @@ spare_is w s before (x ∷ xs) = elim (cases_Bool (is_spared w s before x)) [
 
 pub spare_only : (w : Schema) (s : RunState) (before : List ℕ) (claims left : List Claim) → AreSpared w s before claims left → left ≡ spare w s before claims
 spare_only w s before [] left h = h
-spare_only w s before (x ∷ xs) left (rest, h) = grind (
-  arith,
-  h,
-  cases_Bool (is_spared w s before x),
-  spared_told w s before x,
-  spare_only w s (before ++ x.leaf ∷ []) xs rest,
-  spare_only w s before xs rest,
-)
+spare_only w s before (x ∷ xs) left (rest, h) =
+    let fact = spare_only w s (before ++ x.leaf ∷ []) xs rest in
+    grind (arith, h, spared_told w s before x, spare_only w s before xs rest, cases_Bool (is_spared w s before x))

@@ -77,17 +77,10 @@ AreAllTogether g = (bs : List (List ℕ)) → Blocks g bs → (m n : ℕ) → m 
 
 together_in_halves : (a b : Process) → AreAllTogether a → AreAllTogether b → AreAllTogether (Parallel a b)
 together_in_halves a b in_a in_b bs (x, y, hx, hy, s) m n i j d =
-    grind (
-      arith,
-      of_shuffle (shuffle-joined s) m i,
-      of_shuffle (shuffle-joined s) n j,
-      λ (k : m ∈ joined x) (l : n ∈ joined x). in_a x hx m n k l d,
-      λ (k : m ∈ joined y) (l : n ∈ joined y). in_b y hy m n k l d,
-      leaf_of_blocks a x hx m,
-      leaf_of_blocks a x hx n,
-      leaf_of_blocks b y hy m,
-      leaf_of_blocks b y hy n,
-    )
+    let fact = of_shuffle (shuffle-joined s) m i in let other_fact = of_shuffle (shuffle-joined s) n j in
+    let third_fact = λ (k : m ∈ joined x) (l : n ∈ joined x). in_a x hx m n k l d in
+    let fourth_fact = λ (k : m ∈ joined y) (l : n ∈ joined y). in_b y hy m n k l d in
+    grind (arith, leaf_of_blocks a x hx m, leaf_of_blocks a x hx n, leaf_of_blocks b y hy m, leaf_of_blocks b y hy n)
 
 pub are_together : (g : Process) (bs : List (List ℕ)) → Blocks g bs → (m n : ℕ) → m ∈ joined bs → n ∈ joined bs → m ≢ n →
     AreTogether g m n ⊎ AreTogether g n m
@@ -116,11 +109,5 @@ pub unique_events : (w : Schema) → IsNumbered w.goal (length w.labels) →
 unique_events w numbered apart t (bs, h, k) =
     let d : AreDistinct (leaves w.goal) = subst AreDistinct (sym numbered) (distinct-numbers_from 0 (length w.labels)) in
     distinct-filter_map (event_at w.labels) t (distinct_trace w.goal d t (bs, h, k))
-    (λ x y e mx my differ i j. grind (
-      arith,
-      apart x y e,
-      apart y x e,
-      i,
-      j,
-      are_together w.goal bs h x y (subst (λ v. x ∈ v) k mx) (subst (λ v. y ∈ v) k my) differ,
-    ))
+    (λ x y e mx my differ i j.
+    grind (arith, i, j, apart x y e, apart y x e, are_together w.goal bs h x y (subst (λ v. x ∈ v) k mx) (subst (λ v. y ∈ v) k my) differ))

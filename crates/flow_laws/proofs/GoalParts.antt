@@ -157,17 +157,9 @@ nested (halves {a = x} {b = y} r a b) one two n d (inr m) (inr l) h k =
     let (dx, dy, off) = distinct_parts (leaves x) (leaves y) (subst AreDistinct r.leaves_are.is d) in
     let across = λ (p o : Process) (i : p ∈ isolated_parts x) (j : o ∈ isolated_parts y) (f : n ∈ leaves p) (g : n ∈ leaves o).
     off n (part_within x p n i f) (part_within y o n j g) in
-    grind (
-      arith,
-      of_halves one r.parts_are m,
-      of_halves two r.parts_are l,
-      h,
-      k,
-      across one two,
-      across two one,
-      λ (i : one ∈ isolated_parts x) (j : two ∈ isolated_parts x). nested a one two n dx (inr i) (inr j) h k,
-      λ (i : one ∈ isolated_parts y) (j : two ∈ isolated_parts y). nested b one two n dy (inr i) (inr j) h k,
-    )
+    let fact = λ (i : one ∈ isolated_parts x) (j : two ∈ isolated_parts x). nested a one two n dx (inr i) (inr j) h k in
+    let other_fact = λ (i : one ∈ isolated_parts y) (j : two ∈ isolated_parts y). nested b one two n dy (inr i) (inr j) h k in
+    grind (arith, h, k, across one two, across two one, of_halves one r.parts_are m, of_halves two r.parts_are l)
 nested (isolated a) one two n d (inr m) (inr l) h k = nested a one two n d m l h k
 
 pub part_smaller : {q : Process} → Case q → (part : Process) → part ∈ isolated_parts q → goal_size part < goal_size q

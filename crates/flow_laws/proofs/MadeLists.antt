@@ -22,15 +22,9 @@ of_map f y (x ∷ xs) h = grind (arith, h, of_map f y xs)
 pub mem-each_with_each : {A B C : Type 0} (f : A → B → C) (x : A) (y : B) (xs : List A) (ys : List B) →
     x ∈ xs → y ∈ ys → f x y ∈ each_with_each f xs ys
 mem-each_with_each f x y [] ys h k = absurd h
-mem-each_with_each f x y (z ∷ xs) ys h k = grind (
-  arith,
-  h,
-  k,
-  mem-map (f z) y ys,
-  mem-each_with_each f x y xs ys,
-  mem_append_left (f x y) (map (f z) ys),
-  mem_append_right (f x y) (map (f z) ys),
-)
+mem-each_with_each f x y (z ∷ xs) ys h k =
+    let fact = mem_append_right (f x y) (map (f z) ys) in
+    grind (arith, h, k, mem-map (f z) y ys, mem-each_with_each f x y xs ys, mem_append_left (f x y) (map (f z) ys))
 
 pub of_each_with_each : {A B C : Type 0} (f : A → B → C) (z : C) (xs : List A) (ys : List B) →
     z ∈ each_with_each f xs ys → (x : A) × ((y : B) × (x ∈ xs) × (y ∈ ys) × (z ≡ f x y))

@@ -103,14 +103,9 @@ piece_unbroken : (list piece : List ℕ) → AreDistinct list → HasPiece piece
     StandsBefore x y list → StandsBefore y z list → ⊥
 piece_unbroken list piece d (front, back, e) x y z k l p b c =
     let from = λ (u v : ℕ) (h : StandsBefore u v (front ++ (piece ++ back))). subst (StandsBefore u v) (sym e) h in
-    grind (
-      arith,
-      l,
-      mem-append y piece back,
-      mem-append y front (piece ++ back) (subst (λ w. y ∈ w) e (before_members x y list b).1),
-      λ (m : y ∈ front). not_both_ways x y list d b (from y x (before_across y x front (piece ++ back) m (mem_append_left x piece back k))),
-      λ (m : y ∈ back). not_both_ways y z list d c (from z y (before_right z y front (piece ++ back) (before_across z y piece back p m))),
-    )
+    let fact = λ (m : y ∈ front). not_both_ways x y list d b (from y x (before_across y x front (piece ++ back) m (mem_append_left x piece back k))) in
+    let other_fact = λ (m : y ∈ back). not_both_ways y z list d c (from z y (before_right z y front (piece ++ back) (before_across z y piece back p m))) in
+    grind (arith, l, mem-append y piece back, mem-append y front (piece ++ back) (subst (λ w. y ∈ w) e (before_members x y list b).1))
 
 pub ordering_of_trace : (t : List ℕ) (g : Process) → IsChoiceFree g → AreDistinct (leaves g) → Trace g t → IsOrdering g t
 ordering_of_trace t g f d (bs, h, e) = record {
@@ -190,13 +185,8 @@ half_ordering a g u v t half o s of_a others = record {
   distinct = distinct_in_shuffle s o.distinct;
   before = λ x y k.
       let b = o.before x y (half.sequence x y k) in
-      grind (
-        arith,
-        before_or_after x y u (there x (sequence_first a x y k)) (there y (sequence_second a x y k)),
-        b,
-        not_before_itself y t o.distinct,
-        λ (h : StandsBefore y x u). not_both_ways x y t o.distinct b (before_in_shuffle s y x h),
-      );
+      let fact = before_or_after x y u (there x (sequence_first a x y k)) (there y (sequence_second a x y k)) in
+      grind (arith, b, not_before_itself y t o.distinct, λ (h : StandsBefore y x u). not_both_ways x y t o.distinct b (before_in_shuffle s y x h));
   together = λ p m x y z k l q b c. o.together p (half.part p m) x y z k l q (before_in_shuffle s x y b) (before_in_shuffle s y z c);
 }
   where

@@ -51,12 +51,8 @@ module _ (q : Process) (pairs : List (ℕ × ℕ)) (Done : ℕ → Type 0) where
     leaf = h.leaf;
     not_done = λ e. ⊎_elim h.not_done (λ k. (f n k).not_done (inr (inl refl))) e;
     before = λ x b. inl (h.before x b);
-    outside = λ part m l x y k e p. grind (
-      arith,
-      e,
-      λ (d : Done x). h.outside part m l x y k d p,
-      λ (i : x ∈ front). (f x i).outside part m l x y k (inr (inl refl)) p,
-    );
+    outside = λ part m l x y k e p.
+        grind (arith, e, λ (d : Done x). h.outside part m l x y k d p, λ (i : x ∈ front). (f x i).outside part m l x y k (inr (inl refl)) p);
     begins = λ part m k none x y l p b. inl (h.begins part m k (λ z i d. none z i (inl d)) x y l p b);
   }
 

@@ -46,20 +46,12 @@ ready_in_arrangement q pairs front n back w a = record {
   leaf = o.leaf n (mem_here n front back);
   not_done = (not_elsewhere front back n o.distinct).0;
   before = λ x b. in_front x n front back o.distinct (direct_stands q pairs (front ++ n ∷ back) a x n b);
-  outside = λ part m l x y k h p. grind (
-    arith,
-    l,
-    p,
-    mem-append y front (n ∷ back) (o.all y (part_within q part y m p)),
-    λ (i : y ∈ back). o.together part m x n y k l p (before_across x n front (n ∷ back) h (inl refl)) (before_right n y front (n ∷ back) (inl (refl, i))),
-  );
-  begins = λ part m k none x y l p b. grind (
-    arith,
-    l,
-    k,
-    mem-append x front (n ∷ back) (o.all x (direct_first q pairs w x y b)),
-    λ (i : x ∈ back). o.together part m n x y k l p (before_right n x front (n ∷ back) (inl (refl, i))) (direct_stands q pairs (front ++ n ∷ back) a x y b),
-  );
+  outside = λ part m l x y k h p.
+      let fact = λ (i : y ∈ back). o.together part m x n y k l p (before_across x n front (n ∷ back) h (inl refl)) (before_right n y front (n ∷ back) (inl (refl, i))) in
+      grind (arith, l, p, mem-append y front (n ∷ back) (o.all y (part_within q part y m p)));
+  begins = λ part m k none x y l p b.
+      let fact = λ (i : x ∈ back). o.together part m n x y k l p (before_right n x front (n ∷ back) (inl (refl, i))) (direct_stands q pairs (front ++ n ∷ back) a x y b) in
+      grind (arith, l, k, mem-append x front (n ∷ back) (o.all x (direct_first q pairs w x y b)));
 }
   where
     open a use {ordering as o}
@@ -106,11 +98,9 @@ done_or_none D n = grind arith
 pub run-append : (q : Process) (pairs : List (ℕ × ℕ)) (D : ℕ → Type 0) (run more : List ℕ) →
     IsReadyRunAfter q pairs D (run ++ more) ↔ (IsReadyRunAfter q pairs D run × IsReadyRunAfter q pairs (DoneOr D run) more)
 run-append q pairs D [] more = grind (arith, as_well q pairs D (DoneOr D []) more (done_or_none D))
-run-append q pairs D (n ∷ run) more = grind (
-  arith,
-  run-append q pairs (DoneOr D (n ∷ [])) run more,
-  as_well q pairs (DoneOr (DoneOr D (n ∷ [])) run) (DoneOr D (n ∷ run)) more (done_in_turn D n run),
-)
+run-append q pairs D (n ∷ run) more =
+    let fact = as_well q pairs (DoneOr (DoneOr D (n ∷ [])) run) (DoneOr D (n ∷ run)) more (done_in_turn D n run) in
+    grind (arith, run-append q pairs (DoneOr D (n ∷ [])) run more)
 
 pub run_front : (q : Process) (pairs : List (ℕ × ℕ)) (D : ℕ → Type 0) (front back : List ℕ) → IsReadyRunAfter q pairs D (front ++ back) →
     IsReadyRunAfter q pairs D front
@@ -130,11 +120,8 @@ run_of q pairs D (n ∷ run) f = (
 
 pub run_after_journal : (q : Process) (pairs : List (ℕ × ℕ)) (journal more : List ℕ) →
     IsReadyRun q pairs (journal ++ more) ↔ (IsReadyRun q pairs journal × IsReadyRunAfter q pairs (λ n. n ∈ journal) more)
-run_after_journal q pairs journal more = grind (
-  arith,
-  run-append q pairs (λ n. ⊥) journal more,
-  as_well q pairs (DoneOr (λ n. ⊥) journal) (λ n. n ∈ journal) more (λ n. grind arith),
-)
+run_after_journal q pairs journal more =
+    grind (arith, run-append q pairs (λ n. ⊥) journal more, as_well q pairs (DoneOr (λ n. ⊥) journal) (λ n. n ∈ journal) more (λ n. grind arith))
 
 -- each leaf of a ready run may come next after those before it
 pub ready_at : (q : Process) (pairs : List (ℕ × ℕ)) (front : List ℕ) (n : ℕ) (back : List ℕ) → IsReadyRun q pairs (front ++ n ∷ back) →

@@ -148,21 +148,12 @@ halves_have : (a b u v : Process) (x y bs : List (List ℕ)) → AreDistinct (le
 halves_have a b u v x y bs d hu hv hx hy s just = (λ n. (at n).0, λ n. (at n).1)
   where
     at : (n : ℕ) → ((n ∈ joined x) ↔ (n ∈ leaves u)) × ((n ∈ joined y) ↔ (n ∈ leaves v))
-    at n = grind (
-      arith,
-      just n,
-      distinct_apart (leaves a) (leaves b) d n,
-      mem-leaves_of_goal a u hu n,
-      mem-leaves_of_goal b v hv n,
-      leaf_of_blocks a x hx n,
-      leaf_of_blocks b y hy n,
-      mem-append n (leaves u) (leaves v),
-      mem_append_left n (leaves u) (leaves v),
-      mem_append_right n (leaves u) (leaves v),
-      of_shuffle (shuffle-joined s) n,
-      mem_shuffle_left (shuffle-joined s) n,
-      mem_shuffle_right (shuffle-joined s) n,
-    )
+    at n =
+        let fact = distinct_apart (leaves a) (leaves b) d n in let other_fact = mem-append n (leaves u) (leaves v) in
+        let third_fact = mem_append_left n (leaves u) (leaves v) in let fourth_fact = mem_append_right n (leaves u) (leaves v) in
+        let fifth_fact = of_shuffle (shuffle-joined s) n in let sixth_fact = mem_shuffle_left (shuffle-joined s) n in
+        let fact_7 = mem_shuffle_right (shuffle-joined s) n in
+        grind (arith, just n, leaf_of_blocks a x hx n, leaf_of_blocks b y hy n, mem-leaves_of_goal a u hu n, mem-leaves_of_goal b v hv n)
 
 blocks_by_leaves : (g q : Process) → AreDistinct (leaves g) → Resolves g q → (bs : List (List ℕ)) → Blocks g bs → HasJust q bs → Blocks q bs
 blocks_by_leaves Empty q d r bs h just = subst (λ s. Blocks s bs) (sym r) h
