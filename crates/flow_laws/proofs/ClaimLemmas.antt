@@ -110,13 +110,7 @@ pub can_follow : (w : Schema) (s : RunState) (list : List ℕ) → IsTrue (can_a
 can_follow w s list = told_true (decide_all_follow w s.journal s.bans list)
 
 pub same_tests : {P : Type 0} (a b : Bool) → IsTrue a ↔ P → (IsTrue b ↔ P) ↔ (a ≡ b)
-same_tests {P} a b (to, from) = (there a b to from, λ e. subst (λ c. IsTrue c ↔ P) e (to, from))
-  where
-    there : (a b : Bool) → (IsTrue a → P) → (P → IsTrue a) → (IsTrue b ↔ P) → a ≡ b
-    there true true to from k = refl
-    there true false to from k = absurd (true≢false (sym (k.1 (to refl))))
-    there false true to from k = absurd (true≢false (sym (from (k.0 refl))))
-    there false false to from k = refl
+same_tests a b h = grind (arith, h, cases_Bool a, cases_Bool b)
 
 pub answers_are_the_test : AnswersAreTheTest
 answers_are_the_test w s list answer = same_tests (can_all_follow w s list) answer (can_follow w s list)
@@ -128,10 +122,7 @@ is_spared w s before claim = is_current s claim && can_all_follow w s (before ++
 pub spared_told : (w : Schema) (s : RunState) (before : List ℕ) (claim : Claim) → is_spared w s before claim ≡ true ↔ IsSpared w s before claim
 spared_told w s before claim =
     let test = can_all_follow w s (before ++ claim.leaf ∷ []) in
-    let (to, from) = can_follow w s (before ++ claim.leaf ∷ []) in (
-      λ e. let (current, can) = and_parts (is_current s claim) test e in (current, to can),
-      λ h. and_from (is_current s claim) test h.0 (from h.1),
-    )
+    grind (arith, can_follow w s (before ++ claim.leaf ∷ []), and_parts (is_current s claim) test, and_from (is_current s claim) test)
 
 -- What sparing keeps
 

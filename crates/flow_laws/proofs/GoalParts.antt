@@ -5,7 +5,7 @@ use Rattle.flow_model.specs.Process.{Process, Empty, Task, Sequence, Parallel, C
 use Rattle.flow_model.specs.Ready.{InSequence, isolated_parts}
 use Rattle.flow_model.specs.Circle.{item_of, items_of}
 use Rattle.flow_laws.specs.Events.{AreTogether}
-use Rattle.flow_laws.proofs.Members.{distinct_parts, mem_append_left, mem_append_right, mem-append, before_members, before_across, before_left, before_right, not_before_itself}
+use Rattle.flow_laws.proofs.Members.{only_one, distinct_parts, mem_append_left, mem_append_right, mem-append, before_members, before_across, before_left, before_right, not_before_itself}
 use Rattle.flow_laws.proofs.MadeLists.{mem_joined, list_having, joined_apart, joined-append}
 
 -- Cases
@@ -172,8 +172,7 @@ part_smaller (isolated a) part m = grind (arith, m, part_smaller a part)
 
 item_of_is : (item list : List ℕ) → item ∈ item_of list → item ≡ list
 item_of_is item [] h = absurd h
-item_of_is item (n ∷ ns) (inl e) = e
-item_of_is item (n ∷ ns) (inr h) = absurd h
+item_of_is item (n ∷ ns) h = only_one item (n ∷ ns) h
 
 -- an item is one leaf, or the leaves of an isolated part
 pub item_kind : {g : Process} → Case g → (item : List ℕ) → item ∈ items_of g →
@@ -186,18 +185,14 @@ item_kind (halves r a b) item m = ⊎_elim
     (of_halves item r.items_are m)
 item_kind (isolated {a} c) item m = inr (a, inl refl, item_of_is item (leaves a) m)
 
-has_first : (n : ℕ) (ns item : List ℕ) → item ∈ ((n ∷ ns) ∷ []) → (x : ℕ) × (x ∈ item)
-has_first n ns item (inl e) = (n, subst (λ l. n ∈ l) (sym e) (inl refl))
-has_first n ns item (inr m) = absurd m
-
 item_of_has : (item list : List ℕ) → item ∈ item_of list → (x : ℕ) × (x ∈ item)
 item_of_has item [] h = absurd h
-item_of_has item (n ∷ ns) h = has_first n ns item h
+item_of_has item (n ∷ ns) h = (n, subst (λ l. n ∈ l) (sym (only_one item (n ∷ ns) h)) (inl refl))
 
 -- each item has a leaf
 pub item_has : (g : Process) (item : List ℕ) → item ∈ items_of g → (x : ℕ) × (x ∈ item)
 item_has Empty item m = absurd m
-item_has (Task n) item m = has_first n [] item m
+item_has (Task n) item m = item_of_has item (n ∷ []) m
 item_has (Sequence a b) item m = ⊎_elim (item_has a item) (item_has b item) (mem-append item (items_of a) (items_of b) m)
 item_has (Parallel a b) item m = ⊎_elim (item_has a item) (item_has b item) (mem-append item (items_of a) (items_of b) m)
 item_has (Choice a b) item m = ⊎_elim (item_has a item) (item_has b item) (mem-append item (items_of a) (items_of b) m)
