@@ -10,7 +10,7 @@ use Rattle.flow_model.specs.Constraint.{Constraint, all_of}
 use Rattle.flow_model.specs.Ways.{Normal, leaf_of_event}
 use Rattle.flow_model.specs.Schema.{Schema}
 use Rattle.flow_model.specs.Resolution.{ChoiceOption, options, options_in, option_size, resolutions, resolution_count}
-use Rattle.flow_laws.specs.Words.{IsWellFormed, IsConsistent}
+use Rattle.flow_laws.specs.WellFormed.{IsWellFormed, IsConsistent}
 use Rattle.flow_laws.proofs.Members.{each_from_members}
 use Rattle.flow_laws.proofs.MadeLists.{mem-map, numbers_from_below}
 use Rattle.flow_laws.proofs.ResolutionsLemmas.{resolves_of, mem-leaves_of_goal}

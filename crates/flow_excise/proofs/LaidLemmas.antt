@@ -6,7 +6,7 @@ use Rattle.flow_model.specs.Process.{Process, leaves}
 use Rattle.flow_model.specs.Trace.{Trace}
 use Rattle.flow_model.specs.Ready.{DirectlyBefore, isolated_parts}
 use Rattle.flow_model.specs.Circle.{items_of}
-use Rattle.flow_laws.specs.Words.{IsOrdered}
+use Rattle.flow_laws.specs.WellFormed.{IsOrdered}
 use Rattle.flow_laws.proofs.Members.{distinct-append, before_across, before_right, before_or_after, not_both_ways, decide_eq, before_members, each_from_members}
 use Rattle.flow_laws.proofs.MadeLists.{mem_joined, list_having, mem-map, of_map}
 use Rattle.flow_laws.proofs.Orderings.{trace_of_ordering}

@@ -4,7 +4,7 @@ use Rattle.flow_model.specs.Lists.{◌∈◌, IsOrderOf}
 use Rattle.flow_model.specs.Schema.{Schema}
 use Rattle.flow_model.specs.Resolution.{ChoiceOption, options}
 use Rattle.flow_model.specs.Run.{RunState, current_leaves, CanTake, MayFollow}
-use Rattle.flow_laws.specs.Words.{IsWellFormed}
+use Rattle.flow_laws.specs.WellFormed.{IsWellFormed}
 use Rattle.flow_laws.specs.Orders.{AreSideBySide}
 use Rattle.flow_laws.proofs.OrdersByTwo.{alive_of_follow, orders_may_follow}
 

@@ -7,7 +7,7 @@ use Rattle.flow_model.specs.Process.{leaves, IsNumbered}
 use Rattle.flow_model.specs.Facts.{event_at, events_of}
 use Rattle.flow_model.specs.Schema.{Schema, HasUniqueEvents}
 use Rattle.flow_model.specs.Resolution.{resolutions}
-use Rattle.flow_laws.specs.Words.{IsWellFormed}
+use Rattle.flow_laws.specs.WellFormed.{IsWellFormed}
 use Rattle.flow_laws.proofs.MadeLists.{distinct-filter_map, distinct-numbers_from, same_source}
 use Rattle.flow_laws.proofs.TraceLeaves.{leaf_of_trace, distinct_trace}
 use Rattle.flow_laws.proofs.ResolutionsLemmas.{blocks_of_a_resolution}

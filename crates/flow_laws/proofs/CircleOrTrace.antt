@@ -6,7 +6,7 @@ use Rattle.flow_model.specs.Lists.{◌∈◌, Each, AreDistinct, StandsBefore, B
 use Rattle.flow_model.specs.Process.{Process, leaves, Empty, Task, Sequence, Parallel, Choice, Isolated}
 use Rattle.flow_model.specs.Ready.{isolated_parts, InSequence, DirectlyBefore, IsReady, IsReadyRun, IsCompleteRun}
 use Rattle.flow_model.specs.Circle.{items_of, ItemBefore, LeadsBackTo, IsRing, IsCircle, least_of, BeginsWithLeast}
-use Rattle.flow_laws.specs.Words.{IsOrdered}
+use Rattle.flow_laws.specs.WellFormed.{IsOrdered}
 use Rattle.flow_laws.specs.Circles.{CirclesExcludeTraces, TraceOrCircle}
 use Rattle.flow_laws.specs.ReadyRuns.{ReadyRunsExtend}
 use Rattle.flow_laws.proofs.Members.{only_one, before_or_after, before_trans, not_both_ways, decide_mem, decide_list_eq, LeavingOut, by_leaving_out, least_in, mem_with, split_at, distinct_left, distinct_swap, mem_swap, mem_append_left, Decided, decide_eq, decide_in, decide_not, decide_both, decide_either, decide_some, find_member, first_member, last_of, mem-append, mem_append_right, each_from_members}

@@ -6,7 +6,7 @@ use Rattle.flow_model.specs.Ready.{IsReady, DoneOr, IsReadyRunAfter}
 use Rattle.flow_model.specs.Schema.{Schema}
 use Rattle.flow_model.specs.Resolution.{ChoiceOption, options}
 use Rattle.flow_model.specs.Run.{RunState, MayFollow}
-use Rattle.flow_laws.specs.Words.{EachTwo, IsWellFormed}
+use Rattle.flow_laws.specs.WellFormed.{EachTwo, IsWellFormed}
 use Rattle.flow_laws.specs.Orders.{AreSideBySide, PairsSufficeForOrders, IsAlive, OrdersMayFollow, OrdersMayFollowOne}
 use Rattle.flow_laws.proofs.Members.{mem_here, each_member, each_parts, each-append, split_at, each_from_members, each_to, mem_append_left, mem_append_right, mem-append}
 use Rattle.flow_laws.proofs.MadeLists.{order_with_last, order_member, same_order, begins_front}

@@ -15,7 +15,7 @@ use Rattle.flow_model.specs.Schema.{Schema, IsEventLeaf, start_of}
 use Rattle.flow_model.specs.Resolution.{ChoiceOption, options}
 use Rattle.flow_model.specs.Run.{Claim, RunState, first_state, current_leaves, is_current, claim_at, leaf_of_claim, IsCurrent, IsLapsed, database, IsFree, MayFollow, MayAllFollow, CanTake, CanDo, IsOpen, IsAllowed, answer, spare, with_new_epoch, next_state, state_after, IsLegalFrom}
 use Rattle.flow_laws.specs.Histories.{NeverWaits, IsSound}
-use Rattle.flow_laws.specs.Words.{IsWellFormed, IsConsistent}
+use Rattle.flow_laws.specs.WellFormed.{IsWellFormed, IsConsistent}
 use Rattle.flow_laws.proofs.Members.{each-append, each_to, each_member}
 use Rattle.flow_laws.proofs.MadeLists.{distinct-numbers_from, begins_front, begins_and_nothing, each-filter, order_of_none, order_with_last, numbers_from_more}
 use Rattle.flow_laws.proofs.OptionsLemmas.{option_of_good}

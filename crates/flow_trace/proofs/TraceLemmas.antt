@@ -10,7 +10,7 @@ use Rattle.flow_model.specs.Schema.{Schema, start_of, IsGood}
 use Rattle.flow_model.specs.Resolution.{ChoiceOption, options}
 use Rattle.flow_model.specs.Run.{RunState, first_state}
 use Rattle.flow_model.specs.Verdict.{IsPossible}
-use Rattle.flow_laws.specs.Words.{IsWellFormed, IsConsistent}
+use Rattle.flow_laws.specs.WellFormed.{IsWellFormed, IsConsistent}
 use Rattle.flow_laws.proofs.Members.{mem_append_left, mem_append_right, each_member, each_from_members}
 use Rattle.flow_laws.proofs.MadeLists.{numbers_from_below, begins_front}
 use Rattle.flow_laws.proofs.SoundStates.{runs-append, runs_front}
