@@ -4,7 +4,7 @@ use Rattle.std.proofs.lemmas.List.{take_more_set, drop_more, drop-set-lt, drop-d
 use Rattle.flow_model.specs.Schema.{Schema}
 use Rattle.flow_model.specs.Decided.{can_all_follow}
 use Rattle.flow_model.specs.Run.{RunState, MayAllFollow}
-use Rattle.flow_laws.proofs.SparedLemmas.{answers_are_the_test}
+use Rattle.flow_laws.proofs.ClaimLemmas.{answers_are_the_test}
 use Rattle.flow_residual.specs.Remaining.{Remaining, IsOf}
 use Rattle.flow_claims.specs.Sparing.{staying, picked, AreThinned}
 

@@ -6,7 +6,7 @@ use Rattle.std.proofs.lemmas.Result.{IfOk-weaker}
 use Rattle.flow_model.specs.Lists.{Each}
 use Rattle.flow_model.specs.Constraint.{Constraint}
 use Rattle.flow_model.specs.Schema.{Schema}
-use Rattle.flow_laws.specs.Words.{IsWellFormed}
+use Rattle.flow_laws.specs.WellFormed.{IsWellFormed}
 use Rattle.flow_form.specs.declared.query.Query.{Query}
 use Rattle.flow_form.specs.declared.query.Query.TheVariants as query
 use Rattle.flow_form.specs.declared.rule_form.RuleForm.{RuleForm}

@@ -1,7 +1,7 @@
 -- Workflows that are not compiled.
 use Rattle.std.specs.Prelude.{◌≡◌, ℕ, List, [], ◌⊎◌}
 use Rattle.flow_model.specs.Schema.{Schema}
-use Rattle.flow_laws.specs.Words.{IsConsistent}
+use Rattle.flow_laws.specs.WellFormed.{IsConsistent}
 use Rattle.flow_workflow.specs.Definition.{Definition, schema_of}
 use Rattle.flow_excise.specs.declared.refusal.CompileRefusal.{CompileRefusal}
 use Rattle.flow_excise.specs.declared.refusal.CompileRefusal.TheVariants.{TooManyChoices, TooManyWays, TooBulky, Inconsistent, NoMemory}

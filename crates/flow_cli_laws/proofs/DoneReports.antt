@@ -5,7 +5,7 @@ use Rattle.flow_model.specs.declared.history.Outcome.{Outcome}
 use Rattle.flow_model.specs.Lists.{Each}
 use Rattle.flow_model.specs.Schema.{Schema}
 use Rattle.flow_model.specs.Verdict as model
-use Rattle.flow_laws.specs.Words.{IsWellFormed, IsConsistent}
+use Rattle.flow_laws.specs.WellFormed.{IsWellFormed, IsConsistent}
 use Rattle.flow_laws.specs.Histories.{NeverWaits}
 use Rattle.flow_core.specs.Run.{Run, schema}
 use Rattle.flow_crew.specs.declared.ends.End.{End}

@@ -3,7 +3,7 @@ use Rattle.std.proofs.Common.{◌≡◌, ℕ, List, [], inl, inr, ◌⊎◌, ref
 use Rattle.flow_model.specs.Lists.{AreDistinct}
 use Rattle.flow_model.specs.Schema.{Schema}
 use Rattle.flow_model.specs.declared.history.Entry.{Entry}
-use Rattle.flow_laws.specs.Words.{IsConsistent}
+use Rattle.flow_laws.specs.WellFormed.{IsConsistent}
 use Rattle.flow_form.specs.Script.{Said}
 use Rattle.flow_form.specs.Names.{declared_names}
 use Rattle.flow_workflow.specs.Definition.{Definition, schema_of}

@@ -3,7 +3,7 @@ use Rattle.std.proofs.Common.{◌≡◌, ◌<◌, ◌≤◌, ◌+◌, ℕ, List,
 use Rattle.flow_model.specs.Lists.{◌∈◌, Each, AreDistinct, numbers_from}
 use Rattle.flow_model.specs.Schema.{Schema}
 use Rattle.flow_model.specs.Run.{RunState, current_leaves, IsFree, MayAllFollow, MayFollowFirst}
-use Rattle.flow_laws.specs.Words.{IsWellFormed}
+use Rattle.flow_laws.specs.WellFormed.{IsWellFormed}
 use Rattle.flow_laws.specs.Histories.{IsSound}
 use Rattle.flow_laws.proofs.Members.{mem_append_left, each_member, each_from_members}
 use Rattle.flow_laws.proofs.MadeLists.{distinct-numbers_from, numbers_from_below, same_order, begins_front}

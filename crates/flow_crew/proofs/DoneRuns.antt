@@ -18,7 +18,7 @@ use Rattle.flow_model.specs.Facts.{event_at, is_event}
 use Rattle.flow_model.specs.Schema.{Schema, IsEventLeaf}
 use Rattle.flow_model.specs.Run.{Claim, RunState, first_state, state_of, next_state, current_leaves, claim_at, leaf_of_claim, IsCurrent, IsAllowed, IsLegal, IsLegalFrom, is_current}
 use Rattle.flow_model.specs.Verdict.{EndsKept, IsRunStep, call_of, attempts, event_of_claim}
-use Rattle.flow_laws.specs.Words.{IsWellFormed, IsConsistent}
+use Rattle.flow_laws.specs.WellFormed.{IsWellFormed, IsConsistent}
 use Rattle.flow_laws.specs.Histories.{IsSound, NeverWaits}
 use Rattle.flow_laws.proofs.Members.{each-append, each_parts, each_member}
 use Rattle.flow_laws.proofs.MadeLists.{of_find, same_order}

@@ -12,7 +12,7 @@ use Rattle.flow_model.specs.Lists.{Each}
 use Rattle.flow_model.specs.Facts.{event_at}
 use Rattle.flow_model.specs.Schema.{Schema}
 use Rattle.flow_model.specs.Verdict.{note_of}
-use Rattle.flow_laws.specs.Words.{IsWellFormed, IsConsistent}
+use Rattle.flow_laws.specs.WellFormed.{IsWellFormed, IsConsistent}
 use Rattle.flow_laws.specs.Histories.{NeverWaits}
 use Rattle.flow_core.specs.Run.{Run, schema}
 use Rattle.flow_gate.specs.Outcomes.{is_same, announced}

@@ -10,12 +10,11 @@ use Rattle.flow_model.specs.Constraint.{Constraint, all_of}
 use Rattle.flow_model.specs.Ways.{Normal, leaf_of_event}
 use Rattle.flow_model.specs.Schema.{Schema}
 use Rattle.flow_model.specs.Resolution.{ChoiceOption, options, options_in, option_size, resolutions, resolution_count}
-use Rattle.flow_laws.specs.Words.{IsWellFormed, IsConsistent}
+use Rattle.flow_laws.specs.WellFormed.{IsWellFormed, IsConsistent}
 use Rattle.flow_laws.proofs.Members.{each_from_members}
 use Rattle.flow_laws.proofs.MadeLists.{mem-map, numbers_from_below}
 use Rattle.flow_laws.proofs.ResolutionsLemmas.{resolves_of, mem-leaves_of_goal}
-use Rattle.flow_laws.proofs.OptionsLemmas.{option_parts, option_is_ordered}
-use Rattle.flow_laws.proofs.GoodTraces.{option_of_good, option_trace_is_good}
+use Rattle.flow_laws.proofs.OptionsLemmas.{option_parts, option_is_ordered, option_of_good, option_trace_is_good}
 use Rattle.flow_goal.specs.Labelled.{Labelled}
 use Rattle.flow_rules.specs.Counts.{kept}
 use Rattle.flow_plan.specs.Sampled.{Sampled}

@@ -2,8 +2,8 @@
 use Rattle.std.proofs.Common.{◌≡◌, ◌≢◌, ℕ, suc, ◌+◌, List, [], ◌∷◌, ◌++◌, length, map, refl, sym, ap, ◌∙◌, subst, ◌⊎◌, inl, inr, ⊎_elim, arith, append-nil, append_assoc, add-zero}
 use Rattle.flow_model.specs.Lists.{◌∈◌}
 use Rattle.flow_model.specs.Resolution.{ChoiceOption}
-use Rattle.flow_laws.specs.Words.{IsOrdered}
-use Rattle.flow_laws.proofs.CircleExcludes.{circles_exclude_traces}
+use Rattle.flow_laws.specs.WellFormed.{IsOrdered}
+use Rattle.flow_laws.proofs.CircleOrTrace.{circles_exclude_traces}
 use Rattle.flow_laws.proofs.Members.{not_empty}
 use Rattle.flow_excise.specs.declared.refusal.Dropped.{Dropped}
 use Rattle.flow_sample.specs.Excised.{HasExecution}

@@ -5,7 +5,7 @@ use Rattle.flow_model.specs.Process.{Process, leaves}
 use Rattle.flow_model.specs.Resolution.{ChoiceOption, resolutions}
 use Rattle.flow_model.specs.Ways.{Normal}
 use Rattle.flow_goal.specs.Labelled.{Labelled}
-use Rattle.flow_laws.specs.Words.{IsOrdered}
+use Rattle.flow_laws.specs.WellFormed.{IsOrdered}
 use Rattle.flow_rules.specs.declared.order_set.OrderSet.{OrderSet}
 use Rattle.flow_weave.specs.Woven.{option_with}
 use Rattle.flow_excise.specs.declared.sifted.Sieve.{Sieve}

@@ -6,7 +6,7 @@ use Rattle.flow_model.specs.Lists.{◌∈◌, numbers_from}
 use Rattle.flow_model.specs.Process.{Process, leaves}
 use Rattle.flow_model.specs.Resolution.{resolutions, resolution_count, ways_in, bulk}
 use Rattle.flow_model.specs.Schema.{Schema}
-use Rattle.flow_laws.specs.Words.{IsConsistent}
+use Rattle.flow_laws.specs.WellFormed.{IsConsistent}
 use Rattle.flow_laws.proofs.ResolutionsLemmas.{resolves_of, length-resolutions}
 use Rattle.flow_goal.proofs.Rising.{Rises, resolution_rises}
 use Rattle.flow_workflow.specs.Definition.{Definition, schema_of}

@@ -4,7 +4,7 @@ use Rattle.flow_model.specs.Lists.{◌∈◌}
 use Rattle.flow_model.specs.Process.{Process, leaves}
 use Rattle.flow_model.specs.Resolution.{resolutions, resolution_count, ways_in, options, bulk}
 use Rattle.flow_model.specs.Schema.{IsGood}
-use Rattle.flow_laws.specs.Words.{IsConsistent}
+use Rattle.flow_laws.specs.WellFormed.{IsConsistent}
 use Rattle.flow_form.specs.declared.refusal.TextRefusal.{TextRefusal}
 use Rattle.flow_form.specs.declared.refusal.TextRefusal.TheVariants.{NoMemory}
 use Rattle.flow_form.specs.Names.{IsClosed}

@@ -5,10 +5,10 @@ use Rattle.flow_model.specs.Trace.{both_end, from_left, from_right}
 use Rattle.flow_model.specs.Resolution.{ChoiceOption, options}
 use Rattle.flow_model.specs.Run.{first_state, state_of}
 use Rattle.flow_laws.specs.Orders.{AreSideBySide}
-use Rattle.flow_laws.proofs.FollowingLemmas.{orders_may_follow}
+use Rattle.flow_laws.proofs.OrdersByTwo.{orders_may_follow}
 use Rattle.flow_laws.proofs.NeverAtALoss.{take_next}
 use Rattle.flow_law_cases.specs.EitherOrder.{either_way, one_out, EitherWayIsWellFormed, BothOrdersAreGood, EitherCanBeTaken, NoOptionHasBothOrders, OneOutIsLegal, OtherCannotBeTaken}
-use Rattle.flow_law_cases.proofs.TogetherLemmas.{well_formed}
+use Rattle.flow_law_cases.proofs.WellFormed.{well_formed}
 use Rattle.flow_law_cases.proofs.TakingLemmas.{side_by_side_of_take}
 
 pub either_way_is_well_formed : EitherWayIsWellFormed

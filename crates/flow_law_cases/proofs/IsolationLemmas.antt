@@ -1,11 +1,10 @@
 -- The isolated part and the task between: a circle of two items.
 use Rattle.std.proofs.Common.{◌≡◌, [], ◌∷◌, refl, inl, inr, arith, subst}
 use Rattle.flow_model.specs.Resolution.{OptionTrace}
-use Rattle.flow_laws.proofs.OptionsLemmas.{option_is_ordered}
-use Rattle.flow_laws.proofs.CircleExcludes.{circles_exclude_traces}
-use Rattle.flow_laws.proofs.GoodTraces.{option_of_good}
+use Rattle.flow_laws.proofs.OptionsLemmas.{option_is_ordered, option_of_good}
+use Rattle.flow_laws.proofs.CircleOrTrace.{circles_exclude_traces}
 use Rattle.flow_law_cases.specs.Isolation.{broken_into, only_option, BrokenIntoIsWellFormed, OnlyOptionHasACircle, NoTraceBreaksIn}
-use Rattle.flow_law_cases.proofs.TogetherLemmas.{well_formed}
+use Rattle.flow_law_cases.proofs.WellFormed.{well_formed}
 
 pub broken_into_is_well_formed : BrokenIntoIsWellFormed
 broken_into_is_well_formed = well_formed broken_into refl refl

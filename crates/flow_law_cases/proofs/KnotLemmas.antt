@@ -2,12 +2,11 @@
 use Rattle.std.proofs.Common.{[], ◌∷◌, refl, inl, inr, append-nil, sym, arith}
 use Rattle.flow_model.specs.Trace.{both_end, from_left, from_right}
 use Rattle.flow_model.specs.Schema.{IsGood}
-use Rattle.flow_laws.proofs.OptionsLemmas.{option_is_ordered}
-use Rattle.flow_laws.proofs.CircleExcludes.{circles_exclude_traces}
-use Rattle.flow_laws.proofs.GoodTraces.{option_trace_is_good}
+use Rattle.flow_laws.proofs.OptionsLemmas.{option_is_ordered, option_trace_is_good}
+use Rattle.flow_laws.proofs.CircleOrTrace.{circles_exclude_traces}
 use Rattle.flow_laws.proofs.NeverAtALoss.{sound_state}
 use Rattle.flow_law_cases.specs.Knot.{knot, tied, loose, KnotIsWellFormed, TiedHasACircle, TiedHasNoTrace, LooseHasATrace, KnotIsConsistent, LegalKnotStatesAreSound}
-use Rattle.flow_law_cases.proofs.TogetherLemmas.{well_formed}
+use Rattle.flow_law_cases.proofs.WellFormed.{well_formed}
 
 pub knot_is_well_formed : KnotIsWellFormed
 knot_is_well_formed = well_formed knot refl refl

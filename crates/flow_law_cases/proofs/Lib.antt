@@ -1,4 +1,4 @@
-pub mod TogetherLemmas
+pub mod WellFormed
 pub mod TakingLemmas
 pub mod KnotLemmas
 pub mod IsolationLemmas

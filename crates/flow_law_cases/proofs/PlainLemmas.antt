@@ -1,7 +1,7 @@
 -- One leaf at first, and then two side by side.
-use Rattle.std.proofs.Common.{◌≡◌, ℕ, ◌⊎◌, [], ◌∷◌, ◌++◌, refl, inl, inr, arith, sym, subst}
-use Rattle.flow_model.specs.Lists.{◌∈◌}
-use Rattle.flow_model.specs.Trace.{both_end, from_left, from_right}
+use Rattle.std.proofs.Common.{◌≡◌, ℕ, ◌⊎◌, List, [], ◌∷◌, ◌++◌, refl, inl, inr, ⊎_elim, arith, sym, subst}
+use Rattle.flow_model.specs.Lists.{◌∈◌, joined}
+use Rattle.flow_model.specs.Trace.{Shuffle, both_end, from_left, from_right}
 use Rattle.flow_model.specs.Schema.{IsGood}
 use Rattle.flow_model.specs.Resolution.{ChoiceOption, options}
 use Rattle.flow_model.specs.Ready.{IsReady}
@@ -9,43 +9,21 @@ use Rattle.flow_laws.specs.Orders.{AreSideBySide}
 use Rattle.flow_model.specs.Run.{RunState, CanTake, current_leaves, first_state, state_of}
 use Rattle.flow_laws.proofs.NeverAtALoss.{take_next}
 use Rattle.flow_law_cases.specs.Plain.{plain, a_done, b_out, PlainIsWellFormed, FirstOnlyA, ThenBOrC, CBesideB, BothOutIsLegal}
-use Rattle.flow_law_cases.proofs.TogetherLemmas.{well_formed}
+use Rattle.flow_law_cases.proofs.WellFormed.{well_formed}
 use Rattle.flow_law_cases.proofs.TakingLemmas.{side_by_side_of_take, follow_in_every_order}
 
 pub plain_is_well_formed : PlainIsWellFormed
 plain_is_well_formed = well_formed plain refl refl
 
+-- a, and then b and c in one order or the other
+good : (rest : List (List ℕ)) → Shuffle ((1 ∷ []) ∷ []) ((2 ∷ []) ∷ []) rest → IsGood plain (0 ∷ joined rest)
+good rest s = (((0 ∷ []) ∷ rest, ((0 ∷ []) ∷ [], rest, refl, ((1 ∷ []) ∷ [], (2 ∷ []) ∷ [], refl, refl, s), refl), refl), tt)
+
 b_first : IsGood plain (0 ∷ 1 ∷ 2 ∷ [])
-b_first = (
-  (
-    (0 ∷ []) ∷ (1 ∷ []) ∷ (2 ∷ []) ∷ [],
-    (
-      (0 ∷ []) ∷ [],
-      (1 ∷ []) ∷ (2 ∷ []) ∷ [],
-      refl,
-      ((1 ∷ []) ∷ [], (2 ∷ []) ∷ [], refl, refl, from_left (from_right both_end)),
-      refl,
-    ),
-    refl,
-  ),
-  tt,
-)
+b_first = good ((1 ∷ []) ∷ (2 ∷ []) ∷ []) (from_left (from_right both_end))
 
 c_first : IsGood plain (0 ∷ 2 ∷ 1 ∷ [])
-c_first = (
-  (
-    (0 ∷ []) ∷ (2 ∷ []) ∷ (1 ∷ []) ∷ [],
-    (
-      (0 ∷ []) ∷ [],
-      (2 ∷ []) ∷ (1 ∷ []) ∷ [],
-      refl,
-      ((1 ∷ []) ∷ [], (2 ∷ []) ∷ [], refl, refl, from_right (from_left both_end)),
-      refl,
-    ),
-    refl,
-  ),
-  tt,
-)
+c_first = good ((2 ∷ []) ∷ (1 ∷ []) ∷ []) (from_right (from_left both_end))
 
 -- What can be taken, by the good traces
 
@@ -80,13 +58,7 @@ only_a_is_ready : (n : ℕ) → IsReady plain.goal [] (λ x. x ∈ []) n → n �
 only_a_is_ready n ready = elim ready.leaf [ inl e ↦ e | inr later ↦ absurd (ready.before 0 (inl (inl (inl (inl refl, later))))) ]
 
 b_or_c_is_ready : (n : ℕ) → IsReady plain.goal [] (λ x. x ∈ (0 ∷ [])) n → (n ≡ 1) ⊎ (n ≡ 2)
-b_or_c_is_ready n ready = of_three ready.leaf
-  where
-    of_three : n ∈ (0 ∷ 1 ∷ 2 ∷ []) → (n ≡ 1) ⊎ (n ≡ 2)
-    of_three (inl e) = absurd (ready.not_done (inl e))
-    of_three (inr (inl e)) = inl e
-    of_three (inr (inr (inl e))) = inr e
-    of_three (inr (inr (inr none))) = absurd none
+b_or_c_is_ready n ready = ⊎_elim (λ e. absurd (ready.not_done (inl e))) (⊎_elim inl (⊎_elim inr absurd)) ready.leaf
 
 pub first_only_a : FirstOnlyA
 first_only_a n = (
@@ -95,13 +67,11 @@ first_only_a n = (
 )
 
 pub then_b_or_c : ThenBOrC
-then_b_or_c n = (
-  λ h. b_or_c_is_ready n (ready_of_take (state_of plain a_done) n refl h),
-  λ h. elim h [
-    | inl e ↦ subst (CanTake plain (state_of plain a_done)) (sym e) b_after_a
-    | inr e ↦ subst (CanTake plain (state_of plain a_done)) (sym e) c_after_a
-  ],
-)
+then_b_or_c n =
+    let can = CanTake plain (state_of plain a_done) in (
+      λ h. b_or_c_is_ready n (ready_of_take (state_of plain a_done) n refl h),
+      ⊎_elim (λ e. subst can (sym e) b_after_a) (λ e. subst can (sym e) c_after_a),
+    )
 
 -- Both claims out
 

@@ -4,9 +4,9 @@ use Rattle.flow_model.specs.Lists.{◌∈◌, IsOrderOf}
 use Rattle.flow_model.specs.Schema.{Schema}
 use Rattle.flow_model.specs.Resolution.{ChoiceOption, options}
 use Rattle.flow_model.specs.Run.{RunState, current_leaves, CanTake, MayFollow}
-use Rattle.flow_laws.specs.Words.{IsWellFormed}
+use Rattle.flow_laws.specs.WellFormed.{IsWellFormed}
 use Rattle.flow_laws.specs.Orders.{AreSideBySide}
-use Rattle.flow_laws.proofs.FollowingLemmas.{alive_of_follow, orders_may_follow}
+use Rattle.flow_laws.proofs.OrdersByTwo.{alive_of_follow, orders_may_follow}
 
 -- the leaf stands side by side with the claims' leaves in some option
 pub side_by_side_of_take : (w : Schema) → IsWellFormed w → (s : RunState) (n : ℕ) → CanTake w s n →

@@ -10,7 +10,7 @@ use Rattle.flow_model.specs.Constraint.{Order, Or}
 use Rattle.flow_model.specs.Schema.{Schema, IsGood}
 use Rattle.flow_model.specs.Resolution.{ChoiceOption, options, bulk}
 use Rattle.flow_model.specs.Run.{IsLegal, CanTake, MayFollow, first_state, state_of}
-use Rattle.flow_laws.specs.Words.{IsWellFormed}
+use Rattle.flow_laws.specs.WellFormed.{IsWellFormed}
 
 -- a | b, with a before b or b before a; the events a, b are 0, 1
 abbrev pub either_way : Schema

@@ -7,7 +7,7 @@ use Rattle.flow_model.specs.Constraint.{Order}
 use Rattle.flow_model.specs.Schema.{Schema, IsGood}
 use Rattle.flow_model.specs.Resolution.{ChoiceOption, options}
 use Rattle.flow_model.specs.Circle.{IsCircle}
-use Rattle.flow_laws.specs.Words.{IsWellFormed}
+use Rattle.flow_laws.specs.WellFormed.{IsWellFormed}
 
 -- iso(a * b) | c, with a before c and c before b; the events a, b, c are 0, 1, 2
 abbrev pub broken_into : Schema

@@ -10,7 +10,7 @@ use Rattle.flow_model.specs.Schema.{Schema, IsGood}
 use Rattle.flow_model.specs.Resolution.{ChoiceOption, OptionTrace, resolutions, resolution_count, options, bulk}
 use Rattle.flow_model.specs.Circle.{IsCircle}
 use Rattle.flow_model.specs.Run.{IsLegal, state_of}
-use Rattle.flow_laws.specs.Words.{IsWellFormed, IsConsistent}
+use Rattle.flow_laws.specs.WellFormed.{IsWellFormed, IsConsistent}
 use Rattle.flow_laws.specs.Histories.{IsSound}
 
 -- (a * c + c * a) | (b * d + d * b), with c before b and d before a; the events a, b, c, d are 0, 1, 2, 3

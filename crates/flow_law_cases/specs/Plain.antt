@@ -7,7 +7,7 @@ use Rattle.flow_model.specs.declared.history.Step.TheVariants.{Took, Done}
 use Rattle.flow_model.specs.Process.{Task, Sequence, Parallel}
 use Rattle.flow_model.specs.Schema.{Schema}
 use Rattle.flow_model.specs.Run.{IsLegal, CanTake, first_state, state_of}
-use Rattle.flow_laws.specs.Words.{IsWellFormed}
+use Rattle.flow_laws.specs.WellFormed.{IsWellFormed}
 
 -- a * (b | c); the events a, b, c are 0, 1, 2
 abbrev pub plain : Schema

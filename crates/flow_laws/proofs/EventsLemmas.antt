@@ -1,14 +1,15 @@
 -- Two leaves stand in one execution exactly where the least goal above them is no choice.
-use Rattle.std.proofs.Common.{◌≡◌, ◌≢◌, ℕ, ◌⊎◌, List, [], ◌∷◌, ◌++◌, length, refl, sym, ap, ◌∙◌, subst, inl, inr, ⊎_elim, Some}
-use Rattle.flow_model.specs.Lists.{◌∈◌, Each, AreDistinct, joined}
+use Rattle.std.proofs.Common.{◌≡◌, ◌≢◌, ℕ, ◌⊎◌, List, [], ◌∷◌, ◌++◌, length, refl, sym, ap, ◌∙◌, subst, inl, inr, ⊎_elim, Some, arith}
+use Rattle.flow_model.specs.Lists.{◌∈◌, Each, AreDistinct, joined, StandsBefore}
 use Rattle.flow_model.specs.Process.{Process, Empty, Task, Sequence, Parallel, Choice, Isolated, leaves, IsNumbered}
 use Rattle.flow_model.specs.Trace.{Blocks, as_one}
 use Rattle.flow_model.specs.Facts.{event_at}
 use Rattle.flow_model.specs.Schema.{Schema, HasUniqueEvents}
 use Rattle.flow_laws.specs.Events.{AreTogether}
-use Rattle.flow_laws.proofs.Members.{only_one, each-append, each_to, mem-append, distinct_parts}
+use Rattle.flow_laws.proofs.Members.{only_one, each-append, each_to, mem-append, not_before_itself}
 use Rattle.flow_laws.proofs.MadeLists.{distinct-filter_map, distinct-numbers_from, same_source}
 use Rattle.flow_laws.proofs.Shuffles.{shuffle-append, shuffle-joined, of_shuffle, mem_shuffle_left, mem_shuffle_right}
+use Rattle.flow_laws.proofs.GoalParts.{case_of, together_before}
 use Rattle.flow_laws.proofs.TraceLeaves.{joined-as_one, beside, some_blocks, leaf_of_blocks, distinct_trace}
 
 -- Executions that hold given leaves
@@ -35,18 +36,15 @@ do_isolated a done (x, h, m) = (as_one x, (x, h, refl), each_to _ _ done (λ n k
 may_do_one : (g : Process) (n : ℕ) → n ∈ leaves g → MayDo g (n ∷ [])
 may_do_one Empty n m = absurd m
 may_do_one (Task k) n m = ((k ∷ []) ∷ [], refl, (m, tt))
-may_do_one (Sequence a b) n m = elim (mem-append n (leaves a) (leaves b) m) [
-  | inl l ↦ (do_both a b (n ∷ []) [] (may_do_one a n l) (may_do_nothing b)).0
-  | inr l ↦ (do_both a b [] (n ∷ []) (may_do_nothing a) (may_do_one b n l)).0
-]
-may_do_one (Parallel a b) n m = elim (mem-append n (leaves a) (leaves b) m) [
-  | inl l ↦ (do_both a b (n ∷ []) [] (may_do_one a n l) (may_do_nothing b)).1
-  | inr l ↦ (do_both a b [] (n ∷ []) (may_do_nothing a) (may_do_one b n l)).1
-]
-may_do_one (Choice a b) n m = elim (mem-append n (leaves a) (leaves b) m) [
-  | inl l ↦ (let (x, h, k) = may_do_one a n l in (x, inl h, k))
-  | inr l ↦ (let (x, h, k) = may_do_one b n l in (x, inr h, k))
-]
+may_do_one (Sequence a b) n m = ⊎_elim
+    (λ l. (do_both a b (n ∷ []) [] (may_do_one a n l) (may_do_nothing b)).0) (λ l. (do_both a b [] (n ∷ []) (may_do_nothing a) (may_do_one b n l)).0)
+    (mem-append n (leaves a) (leaves b) m)
+may_do_one (Parallel a b) n m = ⊎_elim
+    (λ l. (do_both a b (n ∷ []) [] (may_do_one a n l) (may_do_nothing b)).1) (λ l. (do_both a b [] (n ∷ []) (may_do_nothing a) (may_do_one b n l)).1)
+    (mem-append n (leaves a) (leaves b) m)
+may_do_one (Choice a b) n m = ⊎_elim
+    (λ l. let (x, h, k) = may_do_one a n l in (x, inl h, k)) (λ l. let (x, h, k) = may_do_one b n l in (x, inr h, k))
+    (mem-append n (leaves a) (leaves b) m)
 may_do_one (Isolated a) n m = do_isolated a (n ∷ []) (may_do_one a n m)
 
 may_do_two : (g : Process) (m n : ℕ) → AreTogether g m n → MayDo g (m ∷ n ∷ [])
@@ -68,19 +66,8 @@ pub blocks_with_both : (g : Process) (m n : ℕ) → AreTogether g m n →
 blocks_with_both g m n h = let (bs, b, all) = may_do_two g m n h in (bs, b, all.0, all.1.0)
 
 pub together_differ : (g : Process) → AreDistinct (leaves g) → (m n : ℕ) → AreTogether g m n → m ≢ n
-together_differ Empty d m n h = absurd h
-together_differ (Task k) d m n h = absurd h
-together_differ (Sequence a b) d m n (inl (inl h)) =
-    λ e. (distinct_parts (leaves a) (leaves b) d).2 n (subst (λ w. w ∈ leaves a) e h.0) h.1
-together_differ (Sequence a b) d m n (inl (inr h)) = together_differ a (distinct_parts (leaves a) (leaves b) d).0 m n h
-together_differ (Sequence a b) d m n (inr h) = together_differ b (distinct_parts (leaves a) (leaves b) d).1 m n h
-together_differ (Parallel a b) d m n (inl (inl h)) =
-    λ e. (distinct_parts (leaves a) (leaves b) d).2 n (subst (λ w. w ∈ leaves a) e h.0) h.1
-together_differ (Parallel a b) d m n (inl (inr h)) = together_differ a (distinct_parts (leaves a) (leaves b) d).0 m n h
-together_differ (Parallel a b) d m n (inr h) = together_differ b (distinct_parts (leaves a) (leaves b) d).1 m n h
-together_differ (Choice a b) d m n (inl h) = together_differ a (distinct_parts (leaves a) (leaves b) d).0 m n h
-together_differ (Choice a b) d m n (inr h) = together_differ b (distinct_parts (leaves a) (leaves b) d).1 m n h
-together_differ (Isolated a) d m n h = together_differ a d m n h
+together_differ g d m n h e =
+    not_before_itself n (leaves g) d (subst (λ x. StandsBefore x n (leaves g)) e (together_before (case_of g) m n h))
 
 -- Leaves of one execution
 
@@ -90,13 +77,10 @@ AreAllTogether g = (bs : List (List ℕ)) → Blocks g bs → (m n : ℕ) → m 
 
 together_in_halves : (a b : Process) → AreAllTogether a → AreAllTogether b → AreAllTogether (Parallel a b)
 together_in_halves a b in_a in_b bs (x, y, hx, hy, s) m n i j d =
-    cases (of_shuffle (shuffle-joined s) m i) (of_shuffle (shuffle-joined s) n j)
-  where
-    cases : (m ∈ joined x) ⊎ (m ∈ joined y) → (n ∈ joined x) ⊎ (n ∈ joined y) → AreTogether (Parallel a b) m n ⊎ AreTogether (Parallel a b) n m
-    cases (inl k) (inl l) = ⊎_elim (λ t. inl (inl (inr t))) (λ t. inr (inl (inr t))) (in_a x hx m n k l d)
-    cases (inl k) (inr l) = inl (inl (inl (leaf_of_blocks a x hx m k, leaf_of_blocks b y hy n l)))
-    cases (inr k) (inl l) = inr (inl (inl (leaf_of_blocks a x hx n l, leaf_of_blocks b y hy m k)))
-    cases (inr k) (inr l) = ⊎_elim (λ t. inl (inr t)) (λ t. inr (inr t)) (in_b y hy m n k l d)
+    let fact = of_shuffle (shuffle-joined s) m i in let other_fact = of_shuffle (shuffle-joined s) n j in
+    let third_fact = λ (k : m ∈ joined x) (l : n ∈ joined x). in_a x hx m n k l d in
+    let fourth_fact = λ (k : m ∈ joined y) (l : n ∈ joined y). in_b y hy m n k l d in
+    grind (arith, leaf_of_blocks a x hx m, leaf_of_blocks a x hx n, leaf_of_blocks b y hy m, leaf_of_blocks b y hy n)
 
 pub are_together : (g : Process) (bs : List (List ℕ)) → Blocks g bs → (m n : ℕ) → m ∈ joined bs → n ∈ joined bs → m ≢ n →
     AreTogether g m n ⊎ AreTogether g n m
@@ -126,7 +110,4 @@ unique_events w numbered apart t (bs, h, k) =
     let d : AreDistinct (leaves w.goal) = subst AreDistinct (sym numbered) (distinct-numbers_from 0 (length w.labels)) in
     distinct-filter_map (event_at w.labels) t (distinct_trace w.goal d t (bs, h, k))
     (λ x y e mx my differ i j.
-    elim (are_together w.goal bs h x y (subst (λ v. x ∈ v) k mx) (subst (λ v. y ∈ v) k my) differ) [
-      | inl l ↦ apart x y e l i j
-      | inr l ↦ apart y x e l j i
-    ])
+    grind (arith, i, j, apart x y e, apart y x e, are_together w.goal bs h x y (subst (λ v. x ∈ v) k mx) (subst (λ v. y ∈ v) k my) differ))

@@ -1,10 +1,11 @@
 -- Goals by cases: their leaves, their order, their isolated parts and the items of these.
-use Rattle.std.proofs.Common.{◌≡◌, ℕ, suc, ◌+◌, ◌<◌, List, [], ◌∷◌, ◌++◌, ◌⊎◌, refl, sym, ap, ap₂, ◌∙◌, subst, inl, inr, ⊎_elim, arith, append-nil}
-use Rattle.flow_model.specs.Lists.{◌∈◌, AreDistinct, joined}
+use Rattle.std.proofs.Common.{◌≡◌, ℕ, suc, ◌+◌, ◌<◌, List, [], ◌∷◌, ◌++◌, ◌⊎◌, refl, sym, ap₂, ◌∙◌, subst, inl, inr, ⊎_elim, arith, append-nil}
+use Rattle.flow_model.specs.Lists.{◌∈◌, AreDistinct, StandsBefore, joined}
 use Rattle.flow_model.specs.Process.{Process, Empty, Task, Sequence, Parallel, Choice, Isolated, leaves}
 use Rattle.flow_model.specs.Ready.{InSequence, isolated_parts}
 use Rattle.flow_model.specs.Circle.{item_of, items_of}
-use Rattle.flow_laws.proofs.Members.{distinct_left, distinct_right, distinct_apart, mem_append_left, mem_append_right, mem-append}
+use Rattle.flow_laws.specs.Events.{AreTogether}
+use Rattle.flow_laws.proofs.Members.{only_one, distinct_parts, mem_append_left, mem_append_right, mem-append, before_members, before_across, before_left, before_right, not_before_itself}
 use Rattle.flow_laws.proofs.MadeLists.{mem_joined, list_having, joined_apart, joined-append}
 
 -- Cases
@@ -27,6 +28,7 @@ pub record AreHalves (a b g : Process) : Type 0 where
   pub parts_are : IsJoined (isolated_parts g) (isolated_parts a) (isolated_parts b)
   pub items_are : IsJoined (items_of g) (items_of a) (items_of b)
   pub size_is : goal_size g ≡ suc (goal_size a + goal_size b)
+  pub together : (x y : ℕ) → AreTogether g x y → ((x ∈ leaves a) × (y ∈ leaves b)) ⊎ (AreTogether a x y ⊎ AreTogether b x y)
   pub in_sequence : (x y : ℕ) → InSequence g x y → ((x ∈ leaves a) × (y ∈ leaves b)) ⊎ (InSequence a x y ⊎ InSequence b x y)
 
 pub data Case : Process → Type 0 where
@@ -42,13 +44,13 @@ pub case_of : (g : Process) → Case g
 case_of Empty = empty
 case_of (Task n) = task
 case_of (Sequence a b) = halves
-    (record { leaves_are = whole; parts_are = whole; items_are = whole; size_is = refl; in_sequence = λ x y. ⊎_elim (⊎_elim inl (λ h. inr (inl h))) (λ h. inr (inr h)) })
+    (record { leaves_are = whole; parts_are = whole; items_are = whole; size_is = refl; together = λ x y. grind arith; in_sequence = λ x y. grind arith })
     (case_of a) (case_of b)
 case_of (Parallel a b) = halves
-    (record { leaves_are = whole; parts_are = whole; items_are = whole; size_is = refl; in_sequence = λ x y. inr })
+    (record { leaves_are = whole; parts_are = whole; items_are = whole; size_is = refl; together = λ x y. grind arith; in_sequence = λ x y. inr })
     (case_of a) (case_of b)
 case_of (Choice a b) = halves
-    (record { leaves_are = whole; parts_are = whole; items_are = whole; size_is = refl; in_sequence = λ x y. inr })
+    (record { leaves_are = whole; parts_are = whole; items_are = whole; size_is = refl; together = λ x y. inr; in_sequence = λ x y. inr })
     (case_of a) (case_of b)
 case_of (Isolated a) = isolated (case_of a)
 
@@ -64,34 +66,36 @@ in_right x {a} {b} e m = subst (λ l. x ∈ l) (sym e.is) (mem_append_right x a 
 
 -- Order
 
-sequence_leaves : {g : Process} → Case g → (x y : ℕ) → InSequence g x y → (x ∈ leaves g) × (y ∈ leaves g)
-sequence_leaves empty x y h = absurd h
-sequence_leaves task x y h = absurd h
-sequence_leaves (halves r a b) x y h = ⊎_elim
-    (λ k. (in_left x r.leaves_are k.0, in_right y r.leaves_are k.1))
-    (⊎_elim
-    (λ k. let m = sequence_leaves a x y k in (in_left x r.leaves_are m.0, in_left y r.leaves_are m.1))
-    (λ k. let m = sequence_leaves b x y k in (in_right x r.leaves_are m.0, in_right y r.leaves_are m.1)))
-    (r.in_sequence x y h)
-sequence_leaves (isolated a) x y h = sequence_leaves a x y h
+-- both stand in the halves, across them or in one
+before_by_halves : {P Q : Type 0} (a b : Process) (x y : ℕ) → ((x ∈ leaves a) × (y ∈ leaves b)) ⊎ (P ⊎ Q) →
+    (P → StandsBefore x y (leaves a)) → (Q → StandsBefore x y (leaves b)) → StandsBefore x y (leaves a ++ leaves b)
+before_by_halves a b x y h in_a in_b = ⊎_elim (λ (m, k). before_across x y (leaves a) (leaves b) m k)
+    (⊎_elim (λ k. before_left x y (leaves a) (leaves b) (in_a k)) (λ k. before_right x y (leaves a) (leaves b) (in_b k))) h
+
+sequence_before : {g : Process} → Case g → (x y : ℕ) → InSequence g x y → StandsBefore x y (leaves g)
+sequence_before empty x y h = absurd h
+sequence_before task x y h = absurd h
+sequence_before (halves {a = u} {b = v} r a b) x y h = subst (StandsBefore x y) (sym r.leaves_are.is)
+    (before_by_halves u v x y (r.in_sequence x y h) (sequence_before a x y) (sequence_before b x y))
+sequence_before (isolated a) x y h = sequence_before a x y h
+
+pub together_before : {g : Process} → Case g → (x y : ℕ) → AreTogether g x y → StandsBefore x y (leaves g)
+together_before empty x y h = absurd h
+together_before task x y h = absurd h
+together_before (halves {a = u} {b = v} r a b) x y h = subst (StandsBefore x y) (sym r.leaves_are.is)
+    (before_by_halves u v x y (r.together x y h) (together_before a x y) (together_before b x y))
+together_before (isolated a) x y h = together_before a x y h
 
 pub sequence_first : (g : Process) (x y : ℕ) → InSequence g x y → x ∈ leaves g
-sequence_first g x y h = (sequence_leaves (case_of g) x y h).0
+sequence_first g x y h = (before_members x y (leaves g) (sequence_before (case_of g) x y h)).0
 
 pub sequence_second : (g : Process) (x y : ℕ) → InSequence g x y → y ∈ leaves g
-sequence_second g x y h = (sequence_leaves (case_of g) x y h).1
+sequence_second g x y h = (before_members x y (leaves g) (sequence_before (case_of g) x y h)).1
+
+pub sequence_other : (g : Process) (x : ℕ) → AreDistinct (leaves g) → ¬ (InSequence g x x)
+sequence_other g x d h = not_before_itself x (leaves g) d (sequence_before (case_of g) x x h)
 
 -- Parts
-
--- the leaves of an isolated part are leaves of the goal
-pub part_within : {g : Process} → Case g → (part : Process) (x : ℕ) → part ∈ isolated_parts g → x ∈ leaves part → x ∈ leaves g
-part_within empty part x m h = absurd m
-part_within task part x m h = absurd m
-part_within (halves r a b) part x m h = ⊎_elim
-    (λ k. in_left x r.leaves_are (part_within a part x k h)) (λ k. in_right x r.leaves_are (part_within b part x k h))
-    (of_halves part r.parts_are m)
-part_within (isolated a) part x (inl e) h = subst (λ p. x ∈ leaves p) e h
-part_within (isolated a) part x (inr m) h = part_within a part x m h
 
 -- the whole goal, and the bodies of its isolated parts
 abbrev pub regions : Process → List Process
@@ -101,75 +105,74 @@ regions q = q ∷ isolated_parts q
 abbrev pub IsWithin : Process → Process → Type 0
 IsWithin a b = (x : ℕ) → x ∈ leaves a → x ∈ leaves b
 
-pub region_within : (q part : Process) → part ∈ regions q → IsWithin part q
-region_within q part (inl e) x h = subst (λ p. x ∈ leaves p) e h
-region_within q part (inr m) x h = part_within (case_of q) part x m h
+-- P of a goal and each of its regions, where it holds of a goal and itself and goes on from a half and from a body
+record GoesUp (P : Process → Process → Type 0) : Type 0 where
+  itself : (g : Process) → P g g
+  half : (a b g part : Process) → AreHalves a b g → P a part ⊎ P b part → P g part
+  body : (a part : Process) → P a part → P (Isolated a) part
 
-part_of_part : {q : Process} → Case q → (part inner : Process) → part ∈ isolated_parts q → inner ∈ isolated_parts part → inner ∈ isolated_parts q
-part_of_part empty part inner m k = absurd m
-part_of_part task part inner m k = absurd m
-part_of_part (halves r a b) part inner m k = ⊎_elim
-    (λ l. in_left inner r.parts_are (part_of_part a part inner l k)) (λ l. in_right inner r.parts_are (part_of_part b part inner l k))
-    (of_halves part r.parts_are m)
-part_of_part (isolated a) part inner (inl e) k = inr (subst (λ p. inner ∈ isolated_parts p) e k)
-part_of_part (isolated a) part inner (inr m) k = inr (part_of_part a part inner m k)
+of_regions : (P : Process → Process → Type 0) → GoesUp P → {g : Process} → Case g → (part : Process) → part ∈ regions g → P g part
+of_regions P up {g} c part (inl e) = subst (P g) (sym e) (up.itself g)
+of_regions P up empty part (inr m) = absurd m
+of_regions P up task part (inr m) = absurd m
+of_regions P up (halves {a = u} {b = v} {g = g} r a b) part (inr m) = up.half u v g part r
+    (⊎_elim (λ k. inl (of_regions P up a part (inr k))) (λ k. inr (of_regions P up b part (inr k))) (of_halves part r.parts_are m))
+of_regions P up (isolated {a = a} c) part (inr m) = up.body a part (of_regions P up c part m)
+
+-- the leaves of a region are leaves of the goal
+pub region_within : (q part : Process) → part ∈ regions q → IsWithin part q
+region_within q = of_regions (λ g part. IsWithin part g) (record {
+  itself = λ g x m. m;
+  half = λ a b g part r h x m. ⊎_elim (λ k. in_left x r.leaves_are (k x m)) (λ k. in_right x r.leaves_are (k x m)) h;
+  body = λ a part h. h;
+}) (case_of q)
+
+pub part_within : (q part : Process) (x : ℕ) → part ∈ isolated_parts q → x ∈ leaves part → x ∈ leaves q
+part_within q part x m = region_within q part (inr m) x
 
 -- a part of a region is a part of the goal
 pub part_of_region : (q part inner : Process) → part ∈ regions q → inner ∈ isolated_parts part → inner ∈ isolated_parts q
-part_of_region q part inner (inl e) k = subst (λ p. inner ∈ isolated_parts p) e k
-part_of_region q part inner (inr m) k = part_of_part (case_of q) part inner m k
-
-part_distinct : {q : Process} → Case q → (part : Process) → AreDistinct (leaves q) → part ∈ isolated_parts q → AreDistinct (leaves part)
-part_distinct empty part d m = absurd m
-part_distinct task part d m = absurd m
-part_distinct (halves {a = l} {b = r} h a b) part d m =
-    let d' = subst AreDistinct h.leaves_are.is d in
-    ⊎_elim (part_distinct a part (distinct_left (leaves l) (leaves r) d')) (part_distinct b part (distinct_right (leaves l) (leaves r) d'))
-    (of_halves part h.parts_are m)
-part_distinct (isolated a) part d (inl e) = subst (λ p. AreDistinct (leaves p)) (sym e) d
-part_distinct (isolated a) part d (inr m) = part_distinct a part d m
+part_of_region q part inner = of_regions (λ g part. inner ∈ isolated_parts part → inner ∈ isolated_parts g) (record {
+  itself = λ g m. m;
+  half = λ a b g part r h m. ⊎_elim (λ k. in_left inner r.parts_are (k m)) (λ k. in_right inner r.parts_are (k m)) h;
+  body = λ a part h m. inr (h m);
+}) (case_of q) part
 
 pub region_distinct : (q part : Process) → AreDistinct (leaves q) → part ∈ regions q → AreDistinct (leaves part)
-region_distinct q part d (inl e) = subst (λ p. AreDistinct (leaves p)) (sym e) d
-region_distinct q part d (inr m) = part_distinct (case_of q) part d m
+region_distinct q part d m = of_regions (λ g part. AreDistinct (leaves g) → AreDistinct (leaves part)) (record {
+  itself = λ g d. d;
+  half = λ a b g part r h d. let (da, db, _) = distinct_parts (leaves a) (leaves b) (subst AreDistinct r.leaves_are.is d) in
+      ⊎_elim (λ k. k da) (λ k. k db) h;
+  body = λ a part h. h;
+}) (case_of q) part m d
 
--- of two parts with a common leaf, one lies in the other
-pub nested : {q : Process} → Case q → (one two : Process) (n : ℕ) → AreDistinct (leaves q) → one ∈ isolated_parts q → two ∈ isolated_parts q →
+-- of two regions with a common leaf, one lies in the other
+pub nested : {q : Process} → Case q → (one two : Process) (n : ℕ) → AreDistinct (leaves q) → one ∈ regions q → two ∈ regions q →
     n ∈ leaves one → n ∈ leaves two → (one ∈ regions two) ⊎ (two ∈ regions one)
-nested empty one two n d m l h k = absurd m
-nested task one two n d m l h k = absurd m
-nested (halves {a = x} {b = y} r a b) one two n d m l h k =
-    let d' = subst AreDistinct r.leaves_are.is d in
-    let off = distinct_apart (leaves x) (leaves y) d' n in
-    ⊎_elim
-    (λ i. ⊎_elim
-    (λ j. nested a one two n (distinct_left (leaves x) (leaves y) d') i j h k)
-    (λ j. absurd (off (part_within a one n i h) (part_within b two n j k)))
-    (of_halves two r.parts_are l))
-    (λ i. ⊎_elim
-    (λ j. absurd (off (part_within a two n j k) (part_within b one n i h)))
-    (λ j. nested b one two n (distinct_right (leaves x) (leaves y) d') i j h k)
-    (of_halves two r.parts_are l))
-    (of_halves one r.parts_are m)
-nested (isolated a) one two n d (inl e) (inl f) h k = inl (inl (e ∙ sym f))
-nested (isolated a) one two n d (inl e) (inr l) h k = inr (inr (subst (λ p. two ∈ isolated_parts p) (sym e) l))
-nested (isolated a) one two n d (inr m) (inl f) h k = inl (inr (subst (λ p. one ∈ isolated_parts p) (sym f) m))
+nested c one two n d (inl e) l h k = inr (subst (λ p. two ∈ regions p) (sym e) l)
+nested c one two n d m (inl f) h k = inl (subst (λ p. one ∈ regions p) (sym f) m)
+nested empty one two n d (inr m) (inr l) h k = absurd m
+nested task one two n d (inr m) (inr l) h k = absurd m
+nested (halves {a = x} {b = y} r a b) one two n d (inr m) (inr l) h k =
+    let (dx, dy, off) = distinct_parts (leaves x) (leaves y) (subst AreDistinct r.leaves_are.is d) in
+    let across = λ (p o : Process) (i : p ∈ isolated_parts x) (j : o ∈ isolated_parts y) (f : n ∈ leaves p) (g : n ∈ leaves o).
+    off n (part_within x p n i f) (part_within y o n j g) in
+    let fact = λ (i : one ∈ isolated_parts x) (j : two ∈ isolated_parts x). nested a one two n dx (inr i) (inr j) h k in
+    let other_fact = λ (i : one ∈ isolated_parts y) (j : two ∈ isolated_parts y). nested b one two n dy (inr i) (inr j) h k in
+    grind (arith, h, k, across one two, across two one, of_halves one r.parts_are m, of_halves two r.parts_are l)
 nested (isolated a) one two n d (inr m) (inr l) h k = nested a one two n d m l h k
 
 pub part_smaller : {q : Process} → Case q → (part : Process) → part ∈ isolated_parts q → goal_size part < goal_size q
 part_smaller empty part m = absurd m
 part_smaller task part m = absurd m
-part_smaller (halves r a b) part m = ⊎_elim
-    (λ k. omega (arith, part_smaller a part k)) (λ k. omega (arith, part_smaller b part k)) (of_halves part r.parts_are m)
-part_smaller (isolated a) part (inl e) = omega (arith, ap goal_size e)
-part_smaller (isolated a) part (inr m) = omega (arith, part_smaller a part m)
+part_smaller (halves r a b) part m = grind (arith, of_halves part r.parts_are m, part_smaller a part, part_smaller b part, r.size_is)
+part_smaller (isolated a) part m = grind (arith, m, part_smaller a part)
 
 -- Items
 
 item_of_is : (item list : List ℕ) → item ∈ item_of list → item ≡ list
 item_of_is item [] h = absurd h
-item_of_is item (n ∷ ns) (inl e) = e
-item_of_is item (n ∷ ns) (inr h) = absurd h
+item_of_is item (n ∷ ns) h = only_one item (n ∷ ns) h
 
 -- an item is one leaf, or the leaves of an isolated part
 pub item_kind : {g : Process} → Case g → (item : List ℕ) → item ∈ items_of g →
@@ -182,18 +185,14 @@ item_kind (halves r a b) item m = ⊎_elim
     (of_halves item r.items_are m)
 item_kind (isolated {a} c) item m = inr (a, inl refl, item_of_is item (leaves a) m)
 
-has_first : (n : ℕ) (ns item : List ℕ) → item ∈ ((n ∷ ns) ∷ []) → (x : ℕ) × (x ∈ item)
-has_first n ns item (inl e) = (n, subst (λ l. n ∈ l) (sym e) (inl refl))
-has_first n ns item (inr m) = absurd m
-
 item_of_has : (item list : List ℕ) → item ∈ item_of list → (x : ℕ) × (x ∈ item)
 item_of_has item [] h = absurd h
-item_of_has item (n ∷ ns) h = has_first n ns item h
+item_of_has item (n ∷ ns) h = (n, subst (λ l. n ∈ l) (sym (only_one item (n ∷ ns) h)) (inl refl))
 
 -- each item has a leaf
 pub item_has : (g : Process) (item : List ℕ) → item ∈ items_of g → (x : ℕ) × (x ∈ item)
 item_has Empty item m = absurd m
-item_has (Task n) item m = has_first n [] item m
+item_has (Task n) item m = item_of_has item (n ∷ []) m
 item_has (Sequence a b) item m = ⊎_elim (item_has a item) (item_has b item) (mem-append item (items_of a) (items_of b) m)
 item_has (Parallel a b) item m = ⊎_elim (item_has a item) (item_has b item) (mem-append item (items_of a) (items_of b) m)
 item_has (Choice a b) item m = ⊎_elim (item_has a item) (item_has b item) (mem-append item (items_of a) (items_of b) m)
@@ -222,35 +221,37 @@ item_having g x h = list_having x (items_of g) (subst (λ l. x ∈ l) (sym (join
 pub items_apart : (g : Process) (one two : List ℕ) (x : ℕ) → AreDistinct (leaves g) → one ∈ items_of g → two ∈ items_of g → x ∈ one → x ∈ two → one ≡ two
 items_apart g one two x d m l h k = joined_apart (items_of g) one two x (subst AreDistinct (sym (joined_items g)) d) m l h k
 
--- a part with a leaf of an item lies in that item
-part_in_item : {g : Process} → Case g → (part : Process) (item : List ℕ) (n : ℕ) → AreDistinct (leaves g) → part ∈ isolated_parts g → n ∈ leaves part →
-    item ∈ items_of g → n ∈ item → (y : ℕ) → y ∈ leaves part → y ∈ item
-part_in_item empty part item n d m h l k y p = absurd m
-part_in_item task part item n d m h l k y p = absurd m
-part_in_item (halves {a = u} {b = v} r a b) part item n d m h l k y p =
-    let d' = subst AreDistinct r.leaves_are.is d in
-    let off = distinct_apart (leaves u) (leaves v) d' n in
-    ⊎_elim
-    (λ i. ⊎_elim
-    (λ j. part_in_item a part item n (distinct_left (leaves u) (leaves v) d') i h j k y p)
-    (λ j. absurd (off (part_within a part n i h) (item_within v item n j k)))
-    (of_halves item r.items_are l))
-    (λ i. ⊎_elim
-    (λ j. absurd (off (item_within u item n j k) (part_within b part n i h)))
-    (λ j. part_in_item b part item n (distinct_right (leaves u) (leaves v) d') i h j k y p)
-    (of_halves item r.items_are l))
+item_of_leaf : (n : ℕ) (list : List ℕ) → n ∈ list → list ∈ item_of list
+item_of_leaf n [] m = absurd m
+item_of_leaf n (i ∷ list) m = inl refl
+
+-- a part with a leaf lies in an item
+item_around : {g : Process} → Case g → (part : Process) (n : ℕ) → part ∈ isolated_parts g → n ∈ leaves part →
+    (item : List ℕ) × (item ∈ items_of g) × ((y : ℕ) → y ∈ leaves part → y ∈ item)
+item_around empty part n m h = absurd m
+item_around task part n m h = absurd m
+item_around (halves r a b) part n m h = ⊎_elim
+    (λ k. let (item, i, f) = item_around a part n k h in (item, in_left item r.items_are i, f))
+    (λ k. let (item, i, f) = item_around b part n k h in (item, in_right item r.items_are i, f))
     (of_halves part r.parts_are m)
-part_in_item (isolated {a} c) part item n d m h l k y p =
-    subst (λ z. y ∈ z) (sym (item_of_is item (leaves a) l)) (part_within (isolated c) part y m p)
+item_around (isolated {a} c) part n m h =
+    let within = part_within (Isolated a) part in (leaves a, item_of_leaf n (leaves a) (within n m h), λ y. within y m)
+
+-- and in each item of which it has a leaf
+part_in_item : (g part : Process) (item : List ℕ) (n : ℕ) → AreDistinct (leaves g) → part ∈ isolated_parts g → n ∈ leaves part →
+    item ∈ items_of g → n ∈ item → (y : ℕ) → y ∈ leaves part → y ∈ item
+part_in_item g part item n d m h l k =
+    let (other, i, f) = item_around (case_of g) part n m h in
+    subst (λ z. (y : ℕ) → y ∈ leaves part → y ∈ z) (items_apart g other item n d i l (f n h) k) f
 
 -- a part with a leaf of an item of a region lies in the item, or has all of the region
 pub part_or_region : (q region part : Process) (item : List ℕ) (n : ℕ) → AreDistinct (leaves q) → region ∈ regions q → item ∈ items_of region → n ∈ item →
     part ∈ isolated_parts q → n ∈ leaves part → ((y : ℕ) → y ∈ leaves part → y ∈ item) ⊎ IsWithin region part
 part_or_region q region part item n d (inl e) l k m h =
-    inl (part_in_item (case_of region) part item n (subst (λ p. AreDistinct (leaves p)) (sym e) d) (subst (λ p. part ∈ isolated_parts p) (sym e) m) h l k)
+    inl (part_in_item region part item n (subst (λ p. AreDistinct (leaves p)) (sym e) d) (subst (λ p. part ∈ isolated_parts p) (sym e) m) h l k)
 part_or_region q region part item n d (inr r) l k m h = ⊎_elim
     (⊎_elim
     (λ e. inr (λ y p. subst (λ z. y ∈ leaves z) (sym e) p))
-    (λ i. inl (part_in_item (case_of region) part item n (region_distinct q region d (inr r)) i h l k)))
+    (λ i. inl (part_in_item region part item n (region_distinct q region d (inr r)) i h l k)))
     (λ i. inr (region_within part region i))
-    (nested (case_of q) part region n d m r h (item_within region item n l k))
+    (nested (case_of q) part region n d (inr m) (inr r) h (item_within region item n l k))

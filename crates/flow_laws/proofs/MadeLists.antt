@@ -1,5 +1,5 @@
 -- Lists made of others: mapped, joined, filtered, numbered, reordered.
-use Rattle.std.proofs.Common.{◌≡◌, ◌≢◌, ℕ, zero, suc, ◌+◌, ◌*◌, ◌<◌, ◌≤◌, ◌⊎◌, List, [], ◌∷◌, ◌++◌, map, length, refl, sym, ap, ◌∙◌, subst, inl, inr, ⊎_elim, append_assoc, append-nil, flat_map, arith, slice_get, Option, Some, None, option_map, zero-add, suc-add, zero-mul, length-append, le_of_eq, Bool, true, find, filter_map, filter, true≢false}
+use Rattle.std.proofs.Common.{◌≡◌, ◌≢◌, ℕ, zero, suc, ◌+◌, ◌*◌, ◌<◌, ◌≤◌, ◌⊎◌, List, [], ◌∷◌, ◌++◌, map, length, refl, sym, ap, ◌∙◌, subst, inl, inr, ⊎_elim, append_assoc, append-nil, flat_map, arith, slice_get, Option, Some, None, option_map, zero-add, suc-add, zero-mul, length-append, Bool, true, find, filter_map, filter}
 use Rattle.std.specs.List.{cons_option}
 use Rattle.std.proofs.lemmas.Bool.{cases_Bool}
 use Rattle.std.proofs.lemmas.List.{length-map}
@@ -7,46 +7,37 @@ use Rattle.std.proofs.lemmas.Option.{slice_get-map}
 use Rattle.flow_model.specs.Lists.{◌∈◌, Each, AreDistinct, Begins, StandsBefore, IsOrderOf, joined, numbers_from, each_with_each}
 pub use Rattle.flow_model.specs.Decided.{order_of_none}
 pub use Rattle.flow_model.proofs.Lists.{slice_get_append_left}
-use Rattle.flow_laws.proofs.Members.{mem_append_left, mem_append_right, mem-append, mem_without, distinct_apart, distinct_right, cons_same, not_empty}
+use Rattle.flow_laws.proofs.Members.{mem_append_left, mem_append_right, mem-append, mem_here, mem_without, distinct_apart, distinct_right, cons_same, not_empty}
 
 -- Mapped
 
 pub mem-map : {A B : Type 0} (f : A → B) (x : A) (xs : List A) → x ∈ xs → f x ∈ map f xs
 mem-map f x [] h = absurd h
-mem-map f x (y ∷ ys) (inl e) = inl (ap f e)
-mem-map f x (y ∷ ys) (inr h) = inr (mem-map f x ys h)
+mem-map f x (y ∷ ys) h = grind (arith, h, mem-map f x ys)
 
 pub of_map : {A B : Type 0} (f : A → B) (y : B) (xs : List A) → y ∈ map f xs → (x : A) × (x ∈ xs) × (y ≡ f x)
 of_map f y [] h = absurd h
-of_map f y (x ∷ xs) (inl e) = (x, inl refl, e)
-of_map f y (x ∷ xs) (inr h) = let (z, m, e) = of_map f y xs h in (z, inr m, e)
+of_map f y (x ∷ xs) h = grind (arith, h, of_map f y xs)
 
 pub mem-each_with_each : {A B C : Type 0} (f : A → B → C) (x : A) (y : B) (xs : List A) (ys : List B) →
     x ∈ xs → y ∈ ys → f x y ∈ each_with_each f xs ys
 mem-each_with_each f x y [] ys h k = absurd h
-mem-each_with_each f x y (z ∷ xs) ys (inl e) k =
-    mem_append_left _ (map (f z) ys) _ (subst (λ w. f w y ∈ map (f z) ys) (sym e) (mem-map (f z) y ys k))
-mem-each_with_each f x y (z ∷ xs) ys (inr h) k = mem_append_right _ (map (f z) ys) _ (mem-each_with_each f x y xs ys h k)
+mem-each_with_each f x y (z ∷ xs) ys h k =
+    let fact = mem_append_right (f x y) (map (f z) ys) in
+    grind (arith, h, k, mem-map (f z) y ys, mem-each_with_each f x y xs ys, mem_append_left (f x y) (map (f z) ys))
 
 pub of_each_with_each : {A B C : Type 0} (f : A → B → C) (z : C) (xs : List A) (ys : List B) →
     z ∈ each_with_each f xs ys → (x : A) × ((y : B) × (x ∈ xs) × (y ∈ ys) × (z ≡ f x y))
 of_each_with_each f z [] ys h = absurd h
-of_each_with_each f z (x ∷ xs) ys h = elim (mem-append z (map (f x) ys) _ h) [
-  | inl m ↦ (let (y, k, e) = of_map (f x) z ys m in (x, (y, inl refl, k, e)))
-  | inr m ↦ (let (u, (v, a, b, e)) = of_each_with_each f z xs ys m in (u, (v, inr a, b, e)))
-]
+of_each_with_each f z (x ∷ xs) ys h = grind (arith, mem-append z (map (f x) ys) _ h, of_map (f x) z ys, of_each_with_each f z xs ys)
 
 pub mem-flat_map : {A B : Type 0} (f : A → List B) (x : A) (y : B) (xs : List A) → x ∈ xs → y ∈ f x → y ∈ flat_map f xs
 mem-flat_map f x y [] h k = absurd h
-mem-flat_map f x y (z ∷ xs) (inl e) k = mem_append_left y (f z) _ (subst (λ w. y ∈ f w) e k)
-mem-flat_map f x y (z ∷ xs) (inr h) k = mem_append_right y (f z) _ (mem-flat_map f x y xs h k)
+mem-flat_map f x y (z ∷ xs) h k = grind (arith, h, k, mem-flat_map f x y xs, mem_append_left y (f z), mem_append_right y (f z))
 
 pub of_flat_map : {A B : Type 0} (f : A → List B) (y : B) (xs : List A) → y ∈ flat_map f xs → (x : A) × (x ∈ xs) × (y ∈ f x)
 of_flat_map f y [] h = absurd h
-of_flat_map f y (z ∷ xs) h = elim (mem-append y (f z) _ h) [
-  | inl m ↦ (z, inl refl, m)
-  | inr m ↦ (let (x, a, b) = of_flat_map f y xs m in (x, inr a, b))
-]
+of_flat_map f y (z ∷ xs) h = grind (arith, mem-append y (f z) _ h, of_flat_map f y xs)
 
 -- Places
 
@@ -80,48 +71,36 @@ slice_get-each_with_each f (z ∷ xs) ys (suc i) j x y e k =
 
 pub joined-append : {A : Type 0} (xs ys : List (List A)) → joined (xs ++ ys) ≡ joined xs ++ joined ys
 joined-append [] ys = refl
-joined-append (x ∷ xs) ys = ap (λ w. x ++ w) (joined-append xs ys) ∙ sym (append_assoc x (joined xs) (joined ys))
+joined-append (x ∷ xs) ys = grind (arith, joined-append xs ys, append_assoc x (joined xs) (joined ys))
 
 pub mem_joined : {A : Type 0} (x : A) (list : List (List A)) (item : List A) → item ∈ list → x ∈ item → x ∈ joined list
 mem_joined x [] item m h = absurd m
-mem_joined x (y ∷ list) item (inl e) h = mem_append_left x y (joined list) (subst (λ l. x ∈ l) e h)
-mem_joined x (y ∷ list) item (inr m) h = mem_append_right x y (joined list) (mem_joined x list item m h)
+mem_joined x (y ∷ list) item m h = grind (arith, m, h, mem_append_left x y (joined list), mem_append_right x y (joined list), mem_joined x list item)
 
 -- the list in which a member of the joined lists stands
 pub list_having : {A : Type 0} (x : A) (list : List (List A)) → x ∈ joined list → (item : List A) × (item ∈ list) × (x ∈ item)
 list_having x [] h = absurd h
-list_having x (y ∷ list) h = ⊎_elim
-    (λ k. (y, inl refl, k))
-    (λ k. let r = list_having x list k in (r.0, inr r.1, r.2))
-    (mem-append x y (joined list) h)
+list_having x (y ∷ list) h = grind (arith, mem-append x y (joined list) h, list_having x list)
 
 -- where the joined lists are distinct, two with a common member are one
 pub joined_apart : {A : Type 0} (list : List (List A)) (a b : List A) (x : A) → AreDistinct (joined list) → a ∈ list → b ∈ list → x ∈ a → x ∈ b → a ≡ b
 joined_apart [] a b x d m l h k = absurd m
-joined_apart (y ∷ list) a b x d (inl e) (inl f) h k = e ∙ sym f
-joined_apart (y ∷ list) a b x d (inl e) (inr l) h k =
-    absurd (distinct_apart y (joined list) d x (subst (λ z. x ∈ z) e h) (mem_joined x list b l k))
-joined_apart (y ∷ list) a b x d (inr m) (inl f) h k =
-    absurd (distinct_apart y (joined list) d x (subst (λ z. x ∈ z) f k) (mem_joined x list a m h))
-joined_apart (y ∷ list) a b x d (inr m) (inr l) h k = joined_apart list a b x (distinct_right y (joined list) d) m l h k
+joined_apart (y ∷ list) a b x d m l h k =
+    grind (arith, m, l, h, k, distinct_apart y (joined list) d x, mem_joined x list a, mem_joined x list b, joined_apart list a b x (distinct_right y (joined list) d))
 
 -- Numbers in a row
 
 pub numbers_from_least : (first count n : ℕ) → n ∈ numbers_from first count → first ≤ n
 numbers_from_least first zero n h = absurd h
-numbers_from_least first (suc count) n (inl e) = le_of_eq (sym e)
-numbers_from_least first (suc count) n (inr h) = omega (arith, numbers_from_least (first + 1) count n h)
+numbers_from_least first (suc count) n h = grind (arith, h, numbers_from_least (first + 1) count n)
 
 pub numbers_from_below : (first count n : ℕ) → n ∈ numbers_from first count → n < first + count
 numbers_from_below first zero n h = absurd h
-numbers_from_below first (suc count) n (inl e) = omega arith
-numbers_from_below first (suc count) n (inr h) = omega (arith, numbers_from_below (first + 1) count n h)
+numbers_from_below first (suc count) n h = grind (arith, h, numbers_from_below (first + 1) count n)
 
 pub numbers_from_more : (first count : ℕ) → numbers_from first (suc count) ≡ numbers_from first count ++ (first + count) ∷ []
-numbers_from_more first zero = let e : first ≡ first + zero = omega arith in ap (λ n. n ∷ []) e
-numbers_from_more first (suc count) =
-    let e : (first + 1) + count ≡ first + suc count = omega arith in
-    ap (λ w. first ∷ w) (numbers_from_more (first + 1) count ∙ ap (λ n. numbers_from (first + 1) count ++ n ∷ []) e)
+numbers_from_more first zero = grind arith
+numbers_from_more first (suc count) = grind (arith, numbers_from_more (first + 1) count)
 
 pub distinct-numbers_from : (first count : ℕ) → AreDistinct (numbers_from first count)
 distinct-numbers_from first zero = tt
@@ -135,26 +114,17 @@ some_same a b e = cc
 
 pub of_find : {A : Type 0} (p : A → Bool) (xs : List A) (x : A) → find p xs ≡ Some x → (x ∈ xs) × (p x ≡ true)
 of_find p [] x e = cc
-of_find p (y ∷ ys) x e = elim (cases_Bool (p y)) [
-  | inl h ↦ (let same = some_same y x (rw h at e) in (inl (sym same), subst (λ z. p z ≡ true) same h))
-  | inr h ↦ (let (m, i) = of_find p ys x (rw h at e) in (inr m, i))
-]
+of_find p (y ∷ ys) x e = grind (arith, cases_Bool (p y), e, of_find p ys x)
 
 pub not_found : {A : Type 0} (p : A → Bool) (xs : List A) (x : A) → find p xs ≡ None → x ∈ xs → ¬ (p x ≡ true)
 not_found p [] x e m h = m
-not_found p (y ∷ ys) x e m h = elim (cases_Bool (p y)) [
-  | inl k ↦ (let bad = rw k at e in cc)
-  | inr k ↦ ⊎_elim (λ same. true≢false (sym h ∙ (ap p same ∙ k))) (λ l. not_found p ys x (rw k at e) l h) m
-]
+not_found p (y ∷ ys) x e m h = grind (arith, cases_Bool (p y), e, m, h, not_found p ys x)
 
 -- what has Q and passes the test has P
 pub each-filter : {A : Type 0} (P Q : A → Type 0) (p : A → Bool) (xs : List A) → ((x : A) → p x ≡ true → Q x → P x) →
     Each Q xs → Each P (filter p xs)
 each-filter P Q p [] to h = tt
-each-filter P Q p (x ∷ xs) to (h, t) = elim (cases_Bool (p x)) [
-  | inl e ↦ rw e (to x e h, each-filter P Q p xs to t)
-  | inr e ↦ rw e (each-filter P Q p xs to t)
-]
+each-filter P Q p (x ∷ xs) to (h, t) = grind (arith, cases_Bool (p x), h, to x, each-filter P Q p xs to t)
 
 -- What a filter that maps keeps
 
@@ -168,62 +138,35 @@ kept_first {A} {B} h z zs = step (h z) refl
     step None k = inl (rw k refl)
     step (Some w) k = inr (w, k, rw k refl)
 
-mem-cons_option : {A : Type 0} (o : Option A) (y : A) (ys : List A) → y ∈ ys → y ∈ cons_option o ys
-mem-cons_option None y ys h = h
-mem-cons_option (Some x) y ys h = inr h
-
-before-cons_option : {A : Type 0} (o : Option A) (x y : A) (ys : List A) → StandsBefore x y ys → StandsBefore x y (cons_option o ys)
-before-cons_option None x y ys h = h
-before-cons_option (Some w) x y ys h = inr h
-
 distinct_cons_option : {A : Type 0} (o : Option A) (ys : List A) → AreDistinct (cons_option o ys) → AreDistinct ys
 distinct_cons_option None ys d = d
 distinct_cons_option (Some x) ys d = d.1
 
 pub mem-filter_map : {A B : Type 0} (h : A → Option B) (x : A) (y : B) (xs : List A) → x ∈ xs → h x ≡ Some y → y ∈ filter_map h xs
 mem-filter_map h x y [] m k = absurd m
-mem-filter_map h x y (z ∷ zs) (inl e) k = rw (ap h (sym e) ∙ k) (inl refl)
-mem-filter_map h x y (z ∷ zs) (inr m) k = mem-cons_option (h z) y (filter_map h zs) (mem-filter_map h x y zs m k)
+mem-filter_map h x y (z ∷ zs) m k = grind (arith, m, k, kept_first h z zs, mem-filter_map h x y zs)
 
 pub of_filter_map : {A B : Type 0} (h : A → Option B) (y : B) (xs : List A) → y ∈ filter_map h xs → (x : A) × (x ∈ xs) × (h x ≡ Some y)
 of_filter_map h y [] m = absurd m
-of_filter_map h y (z ∷ zs) m =
-    let in_rest = λ (l : y ∈ filter_map h zs). let (x, a, b) = of_filter_map h y zs l in let r : (x : _) × (x ∈ (z ∷ zs)) × (h x ≡ Some y) = (x, inr a, b) in r in
-    elim (kept_first h z zs) [
-      | inl e ↦ in_rest (subst (λ l. y ∈ l) e m)
-      | inr (w, k, e) ↦ ⊎_elim (λ f. (z, inl refl, k ∙ ap Some (sym f))) in_rest (subst (λ l. y ∈ l) e m)
-    ]
+of_filter_map h y (z ∷ zs) m = grind (arith, m, kept_first h z zs, of_filter_map h y zs)
 
 pub before-filter_map : {A B : Type 0} (h : A → Option B) (x y : A) (a b : B) (t : List A) →
     StandsBefore x y t → h x ≡ Some a → h y ≡ Some b → StandsBefore a b (filter_map h t)
 before-filter_map h x y a b [] s i j = absurd s
-before-filter_map h x y a b (z ∷ t) (inl s) i j = rw (ap h (sym s.0) ∙ i) (inl (refl, mem-filter_map h y b t s.1 j))
-before-filter_map h x y a b (z ∷ t) (inr s) i j =
-    before-cons_option (h z) a b (filter_map h t) (before-filter_map h x y a b t s i j)
+before-filter_map h x y a b (z ∷ t) s i j =
+    grind (arith, s, i, j, kept_first h z t, mem-filter_map h y b t, before-filter_map h x y a b t)
 
 pub of_before-filter_map : {A B : Type 0} (h : A → Option B) (a b : B) (t : List A) → StandsBefore a b (filter_map h t) →
     (x : A) × ((y : A) × StandsBefore x y t × (h x ≡ Some a) × (h y ≡ Some b))
 of_before-filter_map h a b [] s = absurd s
-of_before-filter_map h a b (z ∷ t) s =
-    let in_rest = λ (l : StandsBefore a b (filter_map h t)). let (x, (y, c, i, j)) = of_before-filter_map h a b t l in
-    let r : (x : _) × ((y : _) × StandsBefore x y (z ∷ t) × (h x ≡ Some a) × (h y ≡ Some b)) = (x, (y, inr c, i, j)) in r in
-    elim (kept_first h z t) [
-      | inl e ↦ in_rest (subst (StandsBefore a b) e s)
-      | inr (w, k, e) ↦ ⊎_elim
-          (λ l. let (y, m, j) = of_filter_map h b t l.1 in (z, (y, inl (refl, m), k ∙ ap Some (sym l.0), j)))
-          in_rest (subst (StandsBefore a b) e s)
-    ]
+of_before-filter_map h a b (z ∷ t) s = grind (arith, s, kept_first h z t, of_filter_map h b t, of_before-filter_map h a b t)
 
 -- where what it keeps is distinct, two members that map to the same are one
 pub same_source : {A B : Type 0} (h : A → Option B) (t : List A) → AreDistinct (filter_map h t) →
     (x y : A) (a : B) → x ∈ t → y ∈ t → h x ≡ Some a → h y ≡ Some a → x ≡ y
 same_source h [] d x y a m k i j = absurd m
-same_source h (z ∷ t) d x y a (inl p) (inl q) i j = p ∙ sym q
-same_source h (z ∷ t) d x y a (inl p) (inr q) i j =
-    let d' = rw (ap h (sym p) ∙ i) at d in absurd (d'.0 (mem-filter_map h y a t q j))
-same_source h (z ∷ t) d x y a (inr p) (inl q) i j =
-    let d' = rw (ap h (sym q) ∙ j) at d in absurd (d'.0 (mem-filter_map h x a t p i))
-same_source h (z ∷ t) d x y a (inr p) (inr q) i j = same_source h t (distinct_cons_option (h z) (filter_map h t) d) x y a p q i j
+same_source h (z ∷ t) d x y a m k i j =
+    grind (arith, m, k, kept_first h z t, d, same_source h t, mem-filter_map h x a t, mem-filter_map h y a t)
 
 -- where no two different members map to the same, what is kept is distinct
 pub distinct-filter_map : {A B : Type 0} (h : A → Option B) (t : List A) → AreDistinct t →
@@ -254,52 +197,39 @@ same_order (x ∷ xs) = ([], xs, refl, same_order xs)
 
 pub order_of_one : {A : Type 0} (order : List A) (x : A) → IsOrderOf order (x ∷ []) → order ≡ x ∷ []
 order_of_one [] x h = absurd (not_empty [] x [] (sym h))
-order_of_one (y ∷ order) x ([], back, e, h) =
-    let (same, none) = cons_same x y [] back e in
-    ap (λ w. y ∷ w) (order_of_none order (subst (IsOrderOf order) (sym none) h)) ∙ ap (λ z. z ∷ []) (sym same)
-order_of_one (y ∷ order) x (z ∷ front, back, e, h) =
-    absurd (not_empty front y back (cons_same x z [] (front ++ y ∷ back) e).1)
+order_of_one (y ∷ order) x ([], back, e, h) = grind (arith, e, order_of_none order, h)
+order_of_one (y ∷ order) x (z ∷ front, back, e, h) = absurd (not_empty front y back (cons_same x z [] (front ++ y ∷ back) e).1)
 
 pub order_member : {A : Type 0} (x : A) (order list : List A) → IsOrderOf order list → x ∈ order → x ∈ list
 order_member x [] list o m = absurd m
-order_member x (y ∷ order) list o (inl e) =
-    subst (λ l. x ∈ l) (sym o.2) (mem_append_right x o.0 (y ∷ o.1) (inl e))
-order_member x (y ∷ order) list o (inr m) =
-    subst (λ l. x ∈ l) (sym o.2) (mem_without x y o.0 o.1 (order_member x order (o.0 ++ o.1) o.3 m))
+order_member x (y ∷ order) list (a, b, e, o) m =
+    subst (λ l. x ∈ l) (sym e) (grind (arith, m, mem_here x a b, mem_without x y a b, order_member x order (a ++ b) o))
 
 -- one list cut in two ways: the marked member is in the first half or in the second
 pub two_cuts : {A : Type 0} (a b front : List A) (y : A) (back : List A) → a ++ b ≡ front ++ y ∷ back →
     ((m : List A) × (a ≡ front ++ y ∷ m) × (back ≡ m ++ b)) ⊎ ((m : List A) × (front ≡ a ++ m) × (b ≡ m ++ y ∷ back))
 two_cuts [] b front y back e = inr (front, refl, e)
-two_cuts (x ∷ a) b [] y back e =
-    let (h, t) = cons_same x y (a ++ b) back e in
-    inl (a, ap (λ w. w ∷ a) h, sym t)
+two_cuts (x ∷ a) b [] y back e = inl (a, cc, cc)
 two_cuts (x ∷ a) b (z ∷ front) y back e =
-    let (h, t) = cons_same x z (a ++ b) (front ++ y ∷ back) e in
-    elim (two_cuts a b front y back t) [
-      | inl k ↦ inl (k.0, ap (λ w. x ∷ w) k.1 ∙ ap (λ w. w ∷ (front ++ y ∷ k.0)) h, k.2)
-      | inr k ↦ inr (k.0, ap (λ w. z ∷ w) k.1 ∙ ap (λ w. w ∷ (a ++ k.0)) (sym h), k.2)
-    ]
+    ⊎_elim (λ (m, p, q). inl (m, cc, q)) (λ (m, p, q). inr (m, cc, q)) (two_cuts a b front y back (cons_same x z (a ++ b) (front ++ y ∷ back) e).1)
 
 -- one more member, last in the order and anywhere in the list
 pub order_with_last : {A : Type 0} (order : List A) (x : A) (a b : List A) → IsOrderOf order (a ++ b) →
     IsOrderOf (order ++ x ∷ []) (a ++ x ∷ b)
 order_with_last [] x a b h = (a, b, refl, h)
-order_with_last (y ∷ order) x a b (front, back, e, h) = elim (two_cuts a b front y back e) [
-  | inl k ↦ (
-    front,
-    k.0 ++ x ∷ b,
-    ap (λ w. w ++ x ∷ b) k.1 ∙ append_assoc front (y ∷ k.0) (x ∷ b),
-    subst (IsOrderOf (order ++ x ∷ [])) (append_assoc front k.0 (x ∷ b))
-        (order_with_last order x (front ++ k.0) b
-        (subst (IsOrderOf order) (ap (λ w. front ++ w) k.2 ∙ sym (append_assoc front k.0 b)) h)),
-  )
-  | inr k ↦ (
-    a ++ x ∷ k.0,
-    back,
-    ap (λ w. a ++ x ∷ w) k.2 ∙ sym (append_assoc a (x ∷ k.0) (y ∷ back)),
-    subst (IsOrderOf (order ++ x ∷ [])) (sym (append_assoc a (x ∷ k.0) back))
-        (order_with_last order x a (k.0 ++ back)
-        (subst (IsOrderOf order) (ap (λ w. w ++ back) k.1 ∙ append_assoc a k.0 back) h)),
-  )
-]
+order_with_last (y ∷ order) x a b (front, back, e, h) = ⊎_elim
+    (λ (m, p, q). (
+      front,
+      m ++ x ∷ b,
+      ap (λ w. w ++ x ∷ b) p ∙ append_assoc front (y ∷ m) (x ∷ b),
+      subst (IsOrderOf (order ++ x ∷ [])) (append_assoc front m (x ∷ b))
+          (order_with_last order x (front ++ m) b (subst (IsOrderOf order) (grind (arith, append_assoc front m b)) h)),
+    ))
+    (λ (m, p, q). (
+      a ++ x ∷ m,
+      back,
+      grind (arith, append_assoc a (x ∷ m) (y ∷ back)),
+      subst (IsOrderOf (order ++ x ∷ [])) (sym (append_assoc a (x ∷ m) back))
+          (order_with_last order x a (m ++ back) (subst (IsOrderOf order) (grind (arith, append_assoc a m back)) h)),
+    ))
+    (two_cuts a b front y back e)

@@ -1,5 +1,5 @@
 -- Members of lists: what each has, and where they stand.
-use Rattle.std.proofs.Common.{◌≡◌, ◌≢◌, ℕ, zero, suc, List, [], ◌∷◌, ◌++◌, ◌⊎◌, length, length-append, arith, refl, sym, ap, ◌∙◌, subst, inl, inr, ⊎_elim}
+use Rattle.std.proofs.Common.{◌≡◌, ◌≢◌, ℕ, zero, suc, List, [], ◌∷◌, ◌++◌, ◌⊎◌, length, length-append, arith, refl, sym, ap, subst, inl, inr, ⊎_elim}
 use Rattle.flow_model.specs.Lists.{◌∈◌, Each, AreDistinct, StandsBefore}
 pub use Rattle.flow_model.specs.Decided.{Decided, decide_eq, decide_list_eq, decide_mem, decide_in, decide_not, decide_both, decide_either, decide_some, cons_same, not_empty}
 pub use Rattle.flow_model.proofs.Lists.{each-append, each_parts}
@@ -15,15 +15,14 @@ mem_append_right x (y ∷ a) b h = inr (mem_append_right x a b h)
 
 pub mem-append : {A : Type 0} (x : A) (a b : List A) → x ∈ (a ++ b) → (x ∈ a) ⊎ (x ∈ b)
 mem-append x [] b h = inr h
-mem-append x (y ∷ a) b (inl e) = inl (inl e)
-mem-append x (y ∷ a) b (inr h) = ⊎_elim (λ m. inl (inr m)) inr (mem-append x a b h)
+mem-append x (y ∷ a) b h = grind (arith, h, mem-append x a b)
 
 pub mem_swap : {A : Type 0} (x : A) (a b : List A) → x ∈ (a ++ b) → x ∈ (b ++ a)
 mem_swap x a b m = ⊎_elim (mem_append_right x b a) (mem_append_left x b a) (mem-append x a b m)
 
--- members of two lists that go into two lists
-pub mem_both : {A : Type 0} (x : A) (a b c d : List A) → (x ∈ a → x ∈ c) → (x ∈ b → x ∈ d) → x ∈ (a ++ b) → x ∈ (c ++ d)
-mem_both x a b c d f g m = ⊎_elim (λ k. mem_append_left x c d (f k)) (λ k. mem_append_right x c d (g k)) (mem-append x a b m)
+-- a member of one of two lists, whichever it is
+pub mem_by_halves : {A P Q : Type 0} (x : A) (a b : List A) → (P → x ∈ a) → (Q → x ∈ b) → P ⊎ Q → x ∈ (a ++ b)
+mem_by_halves x a b f g = ⊎_elim (λ p. mem_append_left x a b (f p)) (λ q. mem_append_right x a b (g q))
 
 -- the member in the middle
 pub mem_here : {A : Type 0} (x : A) (a b : List A) → x ∈ (a ++ x ∷ b)
@@ -138,8 +137,7 @@ distinct_right (x ∷ a) b d = distinct_right a b d.1
 
 pub distinct_apart : {A : Type 0} (a b : List A) → AreDistinct (a ++ b) → Apart a b
 distinct_apart [] b d x h k = h
-distinct_apart (y ∷ a) b d x (inl e) k = d.0 (mem_append_right y a b (subst (λ z. z ∈ b) e k))
-distinct_apart (y ∷ a) b d x (inr h) k = distinct_apart a b d.1 x h k
+distinct_apart (y ∷ a) b d x h k = grind (arith, h, k, d.0, distinct_apart a b d.1 x, mem_append_right x a b)
 
 pub distinct-append : {A : Type 0} (a b : List A) → AreDistinct a → AreDistinct b → ((x : A) → x ∈ a → ¬ (x ∈ b)) → AreDistinct (a ++ b)
 distinct-append [] b d e f = e
@@ -160,13 +158,15 @@ not_elsewhere a b x d = (λ h. distinct_apart a (x ∷ b) d x h (inl refl), (dis
 
 pub before_members : {A : Type 0} (x y : A) (t : List A) → StandsBefore x y t → (x ∈ t) × (y ∈ t)
 before_members x y [] h = absurd h
-before_members x y (z ∷ t) (inl h) = (inl h.0, inr h.1)
-before_members x y (z ∷ t) (inr h) = let (m, k) = before_members x y t h in (inr m, inr k)
+before_members x y (z ∷ t) h = grind (arith, h, before_members x y t)
 
 pub before_across : {A : Type 0} (x y : A) (a b : List A) → x ∈ a → y ∈ b → StandsBefore x y (a ++ b)
 before_across x y [] b h k = absurd h
-before_across x y (z ∷ a) b (inl e) k = inl (e, mem_append_right y a b k)
-before_across x y (z ∷ a) b (inr h) k = inr (before_across x y a b h k)
+before_across x y (z ∷ a) b h k = grind (arith, h, k, before_across x y a b, mem_append_right y a b)
+
+pub before_left : {A : Type 0} (x y : A) (a b : List A) → StandsBefore x y a → StandsBefore x y (a ++ b)
+before_left x y [] b h = absurd h
+before_left x y (z ∷ a) b h = grind (arith, h, before_left x y a b, mem_append_left y a b)
 
 pub before_right : {A : Type 0} (x y : A) (a b : List A) → StandsBefore x y b → StandsBefore x y (a ++ b)
 before_right x y [] b h = h
@@ -175,23 +175,16 @@ before_right x y (z ∷ a) b h = inr (before_right x y a b h)
 -- of two different members one stands before the other
 pub before_or_after : {A : Type 0} (x y : A) (list : List A) → x ∈ list → y ∈ list → x ≢ y → StandsBefore x y list ⊎ StandsBefore y x list
 before_or_after x y [] h k n = absurd h
-before_or_after x y (z ∷ list) (inl e) (inl f) n = absurd (n (e ∙ sym f))
-before_or_after x y (z ∷ list) (inl e) (inr k) n = inl (inl (e, k))
-before_or_after x y (z ∷ list) (inr h) (inl f) n = inr (inl (f, h))
-before_or_after x y (z ∷ list) (inr h) (inr k) n = ⊎_elim (λ l. inl (inr l)) (λ l. inr (inr l)) (before_or_after x y list h k n)
+before_or_after x y (z ∷ list) h k n = grind (arith, h, k, before_or_after x y list)
 
 -- none stands before itself
 pub not_before_itself : {A : Type 0} (x : A) (list : List A) → AreDistinct list → ¬ (StandsBefore x x list)
 not_before_itself x [] d h = h
-not_before_itself x (z ∷ list) d (inl h) = d.0 (subst (λ u. u ∈ list) h.0 h.1)
-not_before_itself x (z ∷ list) d (inr h) = not_before_itself x list d.1 h
+not_before_itself x (z ∷ list) d h = grind (arith, h, d.0, not_before_itself x list d.1)
 
 pub before_trans : {A : Type 0} (x y z : A) (list : List A) → AreDistinct list → StandsBefore x y list → StandsBefore y z list → StandsBefore x z list
 before_trans x y z [] d h k = h
-before_trans x y z (u ∷ list) d (inl h) (inl k) = inl (h.0, k.1)
-before_trans x y z (u ∷ list) d (inl h) (inr k) = inl (h.0, (before_members y z list k).1)
-before_trans x y z (u ∷ list) d (inr h) (inl k) = absurd (d.0 (subst (λ v. v ∈ list) k.0 (before_members x y list h).1))
-before_trans x y z (u ∷ list) d (inr h) (inr k) = inr (before_trans x y z list d.1 h k)
+before_trans x y z (u ∷ list) d h k = grind (arith, h, k, d.0, before_trans x y z list d.1, before_members x y list, before_members y z list)
 
 -- not both ways
 pub not_both_ways : {A : Type 0} (x y : A) (list : List A) → AreDistinct list → StandsBefore x y list → StandsBefore y x list → ⊥
@@ -199,7 +192,5 @@ not_both_ways x y list d h k = not_before_itself x list d (before_trans x y x li
 
 -- what stands before the member in the middle is in the front
 pub in_front : {A : Type 0} (x y : A) (a b : List A) → AreDistinct (a ++ y ∷ b) → StandsBefore x y (a ++ y ∷ b) → x ∈ a
-in_front x y [] b d (inl h) = absurd (d.0 h.1)
-in_front x y [] b d (inr h) = absurd (d.0 (before_members x y b h).1)
-in_front x y (z ∷ a) b d (inl h) = inl h.0
-in_front x y (z ∷ a) b d (inr h) = inr (in_front x y a b d.1 h)
+in_front x y [] b d h = absurd (grind (arith, h, d.0, before_members x y b))
+in_front x y (z ∷ a) b d h = grind (arith, h, in_front x y a b d.1)

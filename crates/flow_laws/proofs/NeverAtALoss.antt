@@ -5,13 +5,12 @@ use Rattle.flow_model.specs.Lists.{◌∈◌, Each, Begins, IsOrderOf, numbers_f
 use Rattle.flow_model.specs.Facts.{event_at}
 use Rattle.flow_model.specs.Schema.{Schema, IsEventLeaf, IsGood}
 use Rattle.flow_model.specs.Run.{Claim, RunState, first_state, state_of, current_claims, current_leaves, database, IsFree, CanTake, CanDoAside, IsLegal, IsStuck}
-use Rattle.flow_laws.specs.Words.{IsWellFormed, IsConsistent}
+use Rattle.flow_laws.specs.WellFormed.{IsWellFormed, IsConsistent}
 use Rattle.flow_laws.specs.Histories.{IsSound, NeverWaits}
 use Rattle.flow_laws.proofs.Members.{mem_append_right}
 use Rattle.flow_laws.proofs.MadeLists.{order_of_none, order_of_one, numbers_from_below}
 use Rattle.flow_laws.proofs.TraceLeaves.{leaf_of_trace}
-use Rattle.flow_laws.proofs.RunLemmas.{always_holds}
-use Rattle.flow_laws.proofs.SoundStates.{free_may_follow, first_is_kept, kept_from}
+use Rattle.flow_laws.proofs.SoundStates.{always_holds, free_may_follow, first_is_kept, kept_from}
 
 pub sound_state : (w : Schema) → IsWellFormed w → IsConsistent w → (limit : ℕ) (history : List Entry) → IsLegal w limit history →
     (front : List Entry) → Begins history front → IsSound w (state_of w front)

@@ -1,5 +1,5 @@
 -- The executions of a goal without choices, as orders of its leaves.
-use Rattle.std.proofs.Common.{◌≡◌, ℕ, ◌↔◌, List, [], ◌∷◌, ◌++◌, ◌⊎◌, refl, sym, ap, ap₂, ◌∙◌, subst, subst₂, inl, inr, ⊎_elim, append_assoc, append-nil}
+use Rattle.std.proofs.Common.{◌≡◌, ℕ, ◌↔◌, List, [], ◌∷◌, ◌++◌, ◌⊎◌, refl, sym, ap, ap₂, ◌∙◌, subst, subst₂, inl, inr, ⊎_elim, append_assoc, append-nil, arith}
 use Rattle.flow_model.specs.Lists.{◌∈◌, AreDistinct, StandsBefore, joined}
 use Rattle.flow_model.specs.Process.{Process, Empty, Task, Sequence, Parallel, Choice, Isolated, leaves, IsChoiceFree}
 use Rattle.flow_model.specs.Trace.{Shuffle, Blocks, Trace, as_one}
@@ -7,7 +7,7 @@ use Rattle.flow_model.specs.Ready.{InSequence, isolated_parts}
 use Rattle.flow_laws.proofs.Members.{only_one, no_members, distinct_left, distinct_right, distinct_apart, before_members, before_across, before_right, before_or_after, not_before_itself, not_both_ways, mem_append_left, mem_append_right, mem-append}
 use Rattle.flow_laws.proofs.MadeLists.{joined-append}
 use Rattle.flow_laws.proofs.Shuffles.{shuffle-joined, shuffle_swap, of_shuffle, mem_shuffle_left, before_in_shuffle, distinct_in_shuffle, shuffle_of, front_first, shuffle_nothing, AreUnbroken, shuffle_blocks}
-use Rattle.flow_laws.proofs.GoalParts.{sequence_first, sequence_second, part_within, case_of}
+use Rattle.flow_laws.proofs.GoalParts.{sequence_first, sequence_second, part_within}
 use Rattle.flow_laws.proofs.TraceLeaves.{joined-as_one, beside, leaf_of_blocks, leaf_in_blocks, distinct_trace, leaf_of_trace, leaf_in_trace}
 
 -- the list holds each leaf once, in the goal's sequence, and nothing stands between two leaves of an isolated part
@@ -65,10 +65,10 @@ abbrev KeepsTogether : Process → Type 0
 KeepsTogether g = (bs : List (List ℕ)) → Blocks g bs → (part : Process) → part ∈ isolated_parts g → (n : ℕ) → n ∈ leaves part → StandsIn part bs
 
 halves_together : (a b : Process) → KeepsTogether a → KeepsTogether b → KeepsTogether (Parallel a b)
-halves_together a b in_a in_b bs (x, y, ha, hb, s) part m n k = elim (mem-append part (isolated_parts a) (isolated_parts b) m) [
-  | inl l ↦ (let (block, piece, i, r, same) = in_a x ha part l n k in (block, piece, mem_shuffle_left s block i, r, same))
-  | inr l ↦ (let (block, piece, i, r, same) = in_b y hb part l n k in (block, piece, mem_shuffle_left (shuffle_swap s) block i, r, same))
-]
+halves_together a b in_a in_b bs (x, y, ha, hb, s) part m n k = ⊎_elim
+    (λ l. let (block, piece, i, r, same) = in_a x ha part l n k in (block, piece, mem_shuffle_left s block i, r, same))
+    (λ l. let (block, piece, i, r, same) = in_b y hb part l n k in (block, piece, mem_shuffle_left (shuffle_swap s) block i, r, same))
+    (mem-append part (isolated_parts a) (isolated_parts b) m)
 
 whole_block : (x : List (List ℕ)) (n : ℕ) → n ∈ joined x → joined x ∈ as_one x
 whole_block [] n m = absurd m
@@ -93,7 +93,7 @@ part_in_block (Isolated a) f bs (x, h, e) part (inr i) n k =
     let (block, piece, l, r, same) = part_in_block a f x h part i n k in (
       joined x,
       piece,
-      subst (λ l. joined x ∈ l) (sym e) (whole_block x n (leaf_in_blocks a f x h n (part_within (case_of a) part n i k))),
+      subst (λ l. joined x ∈ l) (sym e) (whole_block x n (leaf_in_blocks a f x h n (part_within a part n i k))),
       piece_of_joined x block piece l r,
       same,
     )
@@ -102,15 +102,10 @@ part_in_block (Isolated a) f bs (x, h, e) part (inr i) n k =
 piece_unbroken : (list piece : List ℕ) → AreDistinct list → HasPiece piece list → (x y z : ℕ) → x ∈ piece → ¬ (y ∈ piece) → z ∈ piece →
     StandsBefore x y list → StandsBefore y z list → ⊥
 piece_unbroken list piece d (front, back, e) x y z k l p b c =
-    ⊎_elim
-    (λ m. not_both_ways x y list d b (from y x (before_across y x front (piece ++ back) m (mem_append_left x piece back k))))
-    (λ m. ⊎_elim l
-    (λ i. not_both_ways y z list d c (from z y (before_right z y front (piece ++ back) (before_across z y piece back p i))))
-    (mem-append y piece back m))
-    (mem-append y front (piece ++ back) (subst (λ w. y ∈ w) e (before_members x y list b).1))
-  where
-    from : (u v : ℕ) → StandsBefore u v (front ++ (piece ++ back)) → StandsBefore u v list
-    from u v h = subst (StandsBefore u v) (sym e) h
+    let from = λ (u v : ℕ) (h : StandsBefore u v (front ++ (piece ++ back))). subst (StandsBefore u v) (sym e) h in
+    let fact = λ (m : y ∈ front). not_both_ways x y list d b (from y x (before_across y x front (piece ++ back) m (mem_append_left x piece back k))) in
+    let other_fact = λ (m : y ∈ back). not_both_ways y z list d c (from z y (before_right z y front (piece ++ back) (before_across z y piece back p m))) in
+    grind (arith, l, mem-append y piece back, mem-append y front (piece ++ back) (subst (λ w. y ∈ w) e (before_members x y list b).1))
 
 pub ordering_of_trace : (t : List ℕ) (g : Process) → IsChoiceFree g → AreDistinct (leaves g) → Trace g t → IsOrdering g t
 ordering_of_trace t g f d (bs, h, e) = record {
@@ -190,14 +185,13 @@ half_ordering a g u v t half o s of_a others = record {
   distinct = distinct_in_shuffle s o.distinct;
   before = λ x y k.
       let b = o.before x y (half.sequence x y k) in
-      let differ = λ (e : x ≡ y). not_before_itself y t o.distinct (subst (λ z. StandsBefore z y t) e b) in
-      ⊎_elim (λ h. h) (λ h. absurd (not_both_ways x y t o.distinct b (before_in_shuffle s y x h)))
-      (before_or_after x y u (there x (sequence_first a x y k)) (there y (sequence_second a x y k)) differ);
+      let fact = before_or_after x y u (there x (sequence_first a x y k)) (there y (sequence_second a x y k)) in
+      grind (arith, b, not_before_itself y t o.distinct, λ (h : StandsBefore y x u). not_both_ways x y t o.distinct b (before_in_shuffle s y x h));
   together = λ p m x y z k l q b c. o.together p (half.part p m) x y z k l q (before_in_shuffle s x y b) (before_in_shuffle s y z c);
 }
   where
     there : (x : ℕ) → x ∈ leaves a → x ∈ u
-    there x k = ⊎_elim (λ m. m) (λ m. absurd (others x m k)) (of_shuffle s x (o.all x (half.leaf x k)))
+    there x k = grind (arith, others x, k, of_shuffle s x (o.all x (half.leaf x k)))
 
 -- no block of a half is broken by the other
 half_unbroken : (a g : Process) (bs : List (List ℕ)) (other t : List ℕ) → IsChoiceFree a → Blocks a bs → IsHalf a g → IsOrdering g t →
@@ -207,7 +201,7 @@ half_unbroken a g bs other t f h half o others block m x y z k l p b c = ⊎_eli
     let is = λ (u : ℕ) (i : u ∈ block). only_one u n (subst (λ w. u ∈ w) e i) in
     not_both_ways x y t o.distinct b (subst (λ u. StandsBefore y u t) (is z p ∙ sym (is x k)) c))
     (λ (part, i, same).
-    o.together part (half.part part i) x y z ((same x).0 k) (λ j. others y l (part_within (case_of a) part y i j)) ((same z).0 p) b c)
+    o.together part (half.part part i) x y z ((same x).0 k) (λ j. others y l (part_within a part y i j)) ((same z).0 p) b c)
     (block_kind a f bs h block m)
 
 -- the ordering of a sequence as one of its halves beside one another

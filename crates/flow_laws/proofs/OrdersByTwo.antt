@@ -1,13 +1,19 @@
--- Two at a time suffice for every order, for any set of done leaves.
-use Rattle.std.proofs.Common.{ℕ, List, [], ◌∷◌, ◌++◌, IsTrue, refl, sym, ap, subst, inl, inr, ⊎_elim}
+-- Two at a time suffice for every order, for any set of done leaves; what may follow a journal.
+use Rattle.std.proofs.Common.{ℕ, List, [], ◌∷◌, ◌++◌, IsTrue, refl, sym, ap, subst, inl, inr, ⊎_elim, arith}
 use Rattle.flow_model.specs.Lists.{◌∈◌, Each, IsOrderOf}
 use Rattle.flow_model.specs.Process.{Process}
 use Rattle.flow_model.specs.Ready.{IsReady, DoneOr, IsReadyRunAfter}
-use Rattle.flow_laws.specs.Words.{EachTwo}
-use Rattle.flow_laws.specs.Orders.{AreSideBySide, PairsSufficeForOrders}
-use Rattle.flow_laws.proofs.Members.{mem_here, mem_without, each_member, split_at, each_from_members}
-use Rattle.flow_laws.proofs.MadeLists.{order_with_last, order_member, same_order}
-use Rattle.flow_laws.proofs.ReadyRuns.{run_of, run_front}
+use Rattle.flow_model.specs.Schema.{Schema}
+use Rattle.flow_model.specs.Resolution.{ChoiceOption, options}
+use Rattle.flow_model.specs.Run.{RunState, MayFollow}
+use Rattle.flow_laws.specs.WellFormed.{EachTwo, IsWellFormed}
+use Rattle.flow_laws.specs.Orders.{AreSideBySide, PairsSufficeForOrders, IsAlive, OrdersMayFollow, OrdersMayFollowOne}
+use Rattle.flow_laws.proofs.Members.{mem_here, each_member, each_parts, each-append, split_at, each_from_members, each_to, mem_append_left, mem_append_right, mem-append}
+use Rattle.flow_laws.proofs.MadeLists.{order_with_last, order_member, same_order, begins_front}
+use Rattle.flow_laws.proofs.ReadyRuns.{run_of, run_front, AreSame, as_well, run_after_journal, fronts_are_ready}
+use Rattle.flow_laws.proofs.TraceLeaves.{leaf_of_trace, leaf_in_trace}
+use Rattle.flow_laws.proofs.OptionsLemmas.{option_is_ordered, option_trace_is_good}
+use Rattle.flow_laws.proofs.CircleOrTrace.{ready_runs_extend}
 
 -- each two members of a list
 
@@ -15,12 +21,10 @@ use Rattle.flow_laws.proofs.ReadyRuns.{run_of, run_front}
 pub each_two_out : {A : Type 0} (R : A → A → Type 0) (front : List A) (y : A) (back : List A) → EachTwo R (front ++ y ∷ back) →
     Each (λ z. R y z × R z y) (front ++ back) × EachTwo R (front ++ back)
 each_two_out R [] y back h = h
-each_two_out R (x ∷ front) y back h =
-    let r = each_two_out R front y back h.1 in
-    let k = each_member (λ z. R x z × R z x) (front ++ y ∷ back) h.0 y (mem_here y front back) in (
-      ((k.1, k.0), r.0),
-      (each_from_members (λ z. R x z × R z x) (front ++ back) (λ z m. each_member (λ u. R x u × R u x) (front ++ y ∷ back) h.0 z (mem_without z y front back m)), r.1),
-    )
+each_two_out R (x ∷ front) y back (h, two) =
+    let (in_front, (k, in_back)) = each_parts (λ z. R x z × R z x) front (y ∷ back) h in
+    let (r, others) = each_two_out R front y back two in
+    (((k.1, k.0), r), (each-append (λ z. R x z × R z x) front back in_front in_back, others))
 
 -- the order does not matter
 pub each_two_order : {A : Type 0} (R : A → A → Type 0) (order list : List A) → IsOrderOf order list → EachTwo R list → EachTwo R order
@@ -33,9 +37,9 @@ each_two_order R (y ∷ order) list o h =
 
 pub each_two_at : {A : Type 0} (R : A → A → Type 0) (front : List A) (n : A) (back : List A) → EachTwo R (front ++ n ∷ back) → (x : A) → x ∈ front → R x n
 each_two_at R [] n back h x m = absurd m
-each_two_at R (y ∷ front) n back h x (inl e) =
-    subst (λ z. R z n) (sym e) (each_member (λ z. R y z × R z y) (front ++ n ∷ back) h.0 n (mem_here n front back)).0
-each_two_at R (y ∷ front) n back h x (inr m) = each_two_at R front n back h.1 x m
+each_two_at R (y ∷ front) n back h x m =
+    let k = (each_member (λ z. R y z × R z y) (front ++ n ∷ back) h.0 n (mem_here n front back)).0 in
+    ⊎_elim (λ e. subst (λ z. R z n) (sym e) k) (each_two_at R front n back h.1 x) m
 
 -- ready leaves
 
@@ -47,10 +51,8 @@ module _ (q : Process) (pairs : List (ℕ × ℕ)) (Done : ℕ → Type 0) where
     leaf = h.leaf;
     not_done = λ e. ⊎_elim h.not_done (λ k. (f n k).not_done (inr (inl refl))) e;
     before = λ x b. inl (h.before x b);
-    outside = λ part m l x y k e p. ⊎_elim
-        (λ d. inl (h.outside part m l x y k d p))
-        (λ i. ⊎_elim inl (⊎_elim (λ s. inr (subst (λ z. z ∈ front) (sym s) i)) absurd) ((f x i).outside part m l x y k (inr (inl refl)) p))
-        e;
+    outside = λ part m l x y k e p.
+        grind (arith, e, λ (d : Done x). h.outside part m l x y k d p, λ (i : x ∈ front). (f x i).outside part m l x y k (inr (inl refl)) p);
     begins = λ part m k none x y l p b. inl (h.begins part m k (λ z i d. none z i (inl d)) x y l p b);
   }
 
@@ -87,3 +89,65 @@ module _ (q : Process) (pairs : List (ℕ × ℕ)) (Done : ℕ → Type 0) where
 pub pairs_suffice_for_orders : PairsSufficeForOrders
 pairs_suffice_for_orders q pairs done list =
     (side_by_side_of q pairs (λ n. IsTrue (done n)) list, λ s order o. orders_ready q pairs (λ n. IsTrue (done n)) list s order o)
+
+-- in an option that is alive just what is a ready run after the journal
+pub alive_of_follow : (w : Schema) → IsWellFormed w → (s : RunState) (o : ChoiceOption) → o ∈ options w →
+    (next : List ℕ) → MayFollow w s o next → IsAlive s o × IsReadyRunAfter o.resolution o.order (λ n. n ∈ s.journal) next
+alive_of_follow w f s o m next (t, trace, free, begins) =
+    let ordered = option_is_ordered w f o m in
+    let ready = fronts_are_ready o.resolution o.order ordered t (s.journal ++ next) trace.0 trace.1 begins in
+    let (journal, after) = (run_after_journal o.resolution o.order s.journal next).0 ready in (
+      record {
+        has_trace = (t, trace);
+        unbanned = each_to _ _ s.bans (λ ban none l. none (leaf_in_trace o.resolution ordered.choice_free t trace.0 ban.1 l)) free.2;
+        journal = journal;
+      },
+      after,
+    )
+
+pub follow_of_alive : (w : Schema) → IsWellFormed w → (s : RunState) (o : ChoiceOption) → o ∈ options w →
+    (next : List ℕ) → IsAlive s o → IsReadyRunAfter o.resolution o.order (λ n. n ∈ s.journal) next → MayFollow w s o next
+follow_of_alive w f s o m next alive after =
+    let ordered = option_is_ordered w f o m in
+    let (sample, trace) = alive.has_trace in
+    let ready = (run_after_journal o.resolution o.order s.journal next).1 (alive.journal, after) in
+    let (t, h, k, begins) = ready_runs_extend o.resolution o.order ordered (sample, trace.0, trace.1) (s.journal ++ next) ready in (
+      t,
+      (h, k),
+      (
+        option_trace_is_good w f t o m (h, k),
+        begins_front t s.journal next begins,
+        each_to _ _ s.bans (λ ban none l. none (leaf_of_trace o.resolution t h ban.1 l)) alive.unbanned,
+      ),
+      begins,
+    )
+
+pub orders_may_follow : OrdersMayFollow
+orders_may_follow w f s o m list = (
+  λ h. (
+    (alive_of_follow w f s o m list (h list (same_order list))).0,
+    side_by_side_of o.resolution o.order (λ n. n ∈ s.journal) list (λ order p. (alive_of_follow w f s o m order (h order p)).1),
+  ),
+  λ h order p. follow_of_alive w f s o m order h.0
+      (orders_ready o.resolution o.order (λ n. n ∈ s.journal) list h.1 order p),
+)
+
+-- done, or the one leaf: done at the end of the journal
+pub done_or_one : (journal : List ℕ) (first : ℕ) → AreSame (DoneOr (λ n. n ∈ journal) (first ∷ [])) (λ n. n ∈ (journal ++ first ∷ []))
+done_or_one journal first n = (grind (arith, mem_append_left n journal (first ∷ []), mem_append_right n journal (first ∷ [])), mem-append n journal (first ∷ []))
+
+pub orders_may_follow_one : OrdersMayFollowOne
+orders_may_follow_one w f s o m first list =
+    let then = λ (order : List ℕ). as_well o.resolution o.order (DoneOr (λ n. n ∈ s.journal) (first ∷ []))
+    (λ n. n ∈ (s.journal ++ first ∷ [])) order (done_or_one s.journal first) in (
+      λ h. let (alive, (ready, after)) = alive_of_follow w f s o m (first ∷ list) (h list (same_order list)) in (
+        alive,
+        ready,
+        side_by_side_of o.resolution o.order (λ n. n ∈ (s.journal ++ first ∷ [])) list
+            (λ order p. (then order).0 (alive_of_follow w f s o m (first ∷ order) (h order p)).1.1),
+      ),
+      λ (alive, ready, side) order p. follow_of_alive w f s o m (first ∷ order) alive (
+        ready,
+        (then order).1 (orders_ready o.resolution o.order (λ n. n ∈ (s.journal ++ first ∷ [])) list side order p),
+      ),
+    )

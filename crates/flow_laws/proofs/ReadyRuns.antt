@@ -1,15 +1,14 @@
 -- Ready runs and the executions of an option, leaf by leaf.
-use Rattle.std.proofs.Common.{◌≡◌, ◌≢◌, ℕ, List, [], ◌∷◌, ◌++◌, ◌↔◌, refl, sym, ap, ◌∙◌, subst, inl, inr, ⊎_elim, append_assoc, append-nil}
-use Rattle.flow_model.specs.Lists.{◌∈◌, AreDistinct, AreInOrder, StandsBefore, Begins, joined}
-use Rattle.flow_model.specs.Process.{Process, leaves, IsChoiceFree}
+use Rattle.std.proofs.Common.{◌≡◌, ◌≢◌, ℕ, List, [], ◌∷◌, ◌++◌, ◌↔◌, refl, sym, ap, ◌∙◌, subst, inl, inr, ⊎_elim, append_assoc, append-nil, arith}
+use Rattle.flow_model.specs.Lists.{◌∈◌, AreDistinct, AreInOrder, StandsBefore, Begins}
+use Rattle.flow_model.specs.Process.{Process, leaves}
 use Rattle.flow_model.specs.Trace.{Trace}
 use Rattle.flow_model.specs.Ready.{InSequence, DirectlyBefore, isolated_parts, IsReady, DoneOr, IsReadyRunAfter, IsReadyRun, IsCompleteRun}
-use Rattle.flow_laws.specs.Words.{IsOrdered}
+use Rattle.flow_laws.specs.WellFormed.{IsOrdered}
 use Rattle.flow_laws.specs.ReadyRuns.{CompleteRunsAreTraces, FrontsAreReady}
-use Rattle.flow_laws.proofs.Members.{mem_here, each_member, split_at, not_elsewhere, before_members, before_across, before_right, in_front, not_before_itself, not_both_ways, mem-append, each_from_members}
-use Rattle.flow_laws.proofs.TraceLeaves.{some_blocks, distinct_blocks}
-use Rattle.flow_laws.proofs.GoalParts.{sequence_first, sequence_second, part_within, case_of}
-use Rattle.flow_laws.proofs.Orderings.{IsOrdering, before_in_blocks, ordering_of_trace, trace_of_ordering}
+use Rattle.flow_laws.proofs.Members.{mem_here, each_member, split_at, not_elsewhere, before_members, before_across, before_right, in_front, not_both_ways, mem-append, each_from_members}
+use Rattle.flow_laws.proofs.GoalParts.{sequence_first, sequence_second, sequence_other, part_within}
+use Rattle.flow_laws.proofs.Orderings.{IsOrdering, ordering_of_trace, trace_of_ordering}
 
 -- what is directly before what
 
@@ -21,13 +20,9 @@ pub direct_second : (q : Process) (pairs : List (ℕ × ℕ)) → IsOrdered q pa
 direct_second q pairs w x y (inl h) = sequence_second q x y h
 direct_second q pairs w x y (inr m) = (each_member (λ pair. (pair.0 ∈ leaves q) × (pair.1 ∈ leaves q)) pairs w.of_leaves (x, y) m).1
 
-sequence_other : (g : Process) (x : ℕ) → IsChoiceFree g → AreDistinct (leaves g) → ¬ (InSequence g x x)
-sequence_other g x f d h =
-    let (bs, b) = some_blocks g in not_before_itself x (joined bs) (distinct_blocks g d bs b) (before_in_blocks g f bs b x x h)
-
 -- no leaf is directly before itself
 pub direct_other : (q : Process) (pairs : List (ℕ × ℕ)) → IsOrdered q pairs → (x y : ℕ) → DirectlyBefore q pairs x y → x ≢ y
-direct_other q pairs w x y (inl h) e = sequence_other q y w.choice_free w.distinct (subst (λ z. InSequence q z y) e h)
+direct_other q pairs w x y (inl h) e = sequence_other q y w.distinct (subst (λ z. InSequence q z y) e h)
 direct_other q pairs w x y (inr m) e = each_member (λ pair. pair.0 ≢ pair.1) pairs w.different (x, y) m e
 
 -- the executions of an option
@@ -51,18 +46,12 @@ ready_in_arrangement q pairs front n back w a = record {
   leaf = o.leaf n (mem_here n front back);
   not_done = (not_elsewhere front back n o.distinct).0;
   before = λ x b. in_front x n front back o.distinct (direct_stands q pairs (front ++ n ∷ back) a x n b);
-  outside = λ part m l x y k h p. ⊎_elim
-      (λ i. i)
-      (⊎_elim
-      (λ e. absurd (l (subst (λ z. z ∈ leaves part) e p)))
-      (λ i. absurd (o.together part m x n y k l p (before_across x n front (n ∷ back) h (inl refl)) (before_right n y front (n ∷ back) (inl (refl, i))))))
-      (mem-append y front (n ∷ back) (o.all y (part_within (case_of q) part y m p)));
-  begins = λ part m k none x y l p b. ⊎_elim
-      (λ i. i)
-      (⊎_elim
-      (λ e. absurd (l (subst (λ z. z ∈ leaves part) (sym e) k)))
-      (λ i. absurd (o.together part m n x y k l p (before_right n x front (n ∷ back) (inl (refl, i))) (direct_stands q pairs (front ++ n ∷ back) a x y b))))
-      (mem-append x front (n ∷ back) (o.all x (direct_first q pairs w x y b)));
+  outside = λ part m l x y k h p.
+      let fact = λ (i : y ∈ back). o.together part m x n y k l p (before_across x n front (n ∷ back) h (inl refl)) (before_right n y front (n ∷ back) (inl (refl, i))) in
+      grind (arith, l, p, mem-append y front (n ∷ back) (o.all y (part_within q part y m p)));
+  begins = λ part m k none x y l p b.
+      let fact = λ (i : x ∈ back). o.together part m n x y k l p (before_right n x front (n ∷ back) (inl (refl, i))) (direct_stands q pairs (front ++ n ∷ back) a x y b) in
+      grind (arith, l, k, mem-append x front (n ∷ back) (o.all x (direct_first q pairs w x y b)));
 }
   where
     open a use {ordering as o}
@@ -100,24 +89,18 @@ as_well q pairs D E run same =
 
 -- one more done leaf, told first or last
 done_in_turn : (D : ℕ → Type 0) (n : ℕ) (run : List ℕ) → AreSame (DoneOr (DoneOr D (n ∷ [])) run) (DoneOr D (n ∷ run))
-done_in_turn D n run m = (
-  ⊎_elim (⊎_elim inl (λ l. inr (⊎_elim inl absurd l))) (λ l. inr (inr l)),
-  ⊎_elim (λ d. inl (inl d)) (⊎_elim (λ e. inl (inr (inl e))) inr),
-)
+done_in_turn D n run m = grind arith
 
 done_or_none : (D : ℕ → Type 0) → AreSame D (DoneOr D [])
-done_or_none D n = (inl, ⊎_elim (λ d. d) absurd)
+done_or_none D n = grind arith
 
 -- two ready runs, one after the other, are one
 pub run-append : (q : Process) (pairs : List (ℕ × ℕ)) (D : ℕ → Type 0) (run more : List ℕ) →
     IsReadyRunAfter q pairs D (run ++ more) ↔ (IsReadyRunAfter q pairs D run × IsReadyRunAfter q pairs (DoneOr D run) more)
-run-append q pairs D [] more =
-    let (there, back) = as_well q pairs D (DoneOr D []) more (done_or_none D) in
-    (λ h. (tt, there h), λ h. back h.1)
+run-append q pairs D [] more = grind (arith, as_well q pairs D (DoneOr D []) more (done_or_none D))
 run-append q pairs D (n ∷ run) more =
-    let (to, from) = run-append q pairs (DoneOr D (n ∷ [])) run more in
-    let (there, back) = as_well q pairs (DoneOr (DoneOr D (n ∷ [])) run) (DoneOr D (n ∷ run)) more (done_in_turn D n run) in
-    (λ h. let (k, l) = to h.1 in ((h.0, k), there l), λ h. (h.0.0, from (h.0.1, back h.1)))
+    let fact = as_well q pairs (DoneOr (DoneOr D (n ∷ [])) run) (DoneOr D (n ∷ run)) more (done_in_turn D n run) in
+    grind (arith, run-append q pairs (DoneOr D (n ∷ [])) run more)
 
 pub run_front : (q : Process) (pairs : List (ℕ × ℕ)) (D : ℕ → Type 0) (front back : List ℕ) → IsReadyRunAfter q pairs D (front ++ back) →
     IsReadyRunAfter q pairs D front
@@ -135,16 +118,10 @@ run_of q pairs D (n ∷ run) f = (
       (f (n ∷ front) m back (ap (λ l. n ∷ l) e))),
 )
 
--- nothing was done before the journal
-done_is_journal : (journal : List ℕ) → AreSame (DoneOr (λ n. ⊥) journal) (λ n. n ∈ journal)
-done_is_journal journal n = (⊎_elim absurd (λ m. m), inr)
-
 pub run_after_journal : (q : Process) (pairs : List (ℕ × ℕ)) (journal more : List ℕ) →
     IsReadyRun q pairs (journal ++ more) ↔ (IsReadyRun q pairs journal × IsReadyRunAfter q pairs (λ n. n ∈ journal) more)
 run_after_journal q pairs journal more =
-    let (to, from) = run-append q pairs (λ n. ⊥) journal more in
-    let (there, back) = as_well q pairs (DoneOr (λ n. ⊥) journal) (λ n. n ∈ journal) more (done_is_journal journal) in
-    (λ h. let (k, l) = to h in (k, there l), λ h. from (h.0, back h.1))
+    grind (arith, run-append q pairs (λ n. ⊥) journal more, as_well q pairs (DoneOr (λ n. ⊥) journal) (λ n. n ∈ journal) more (λ n. grind arith))
 
 -- each leaf of a ready run may come next after those before it
 pub ready_at : (q : Process) (pairs : List (ℕ × ℕ)) (front : List ℕ) (n : ℕ) (back : List ℕ) → IsReadyRun q pairs (front ++ n ∷ back) →
@@ -160,11 +137,7 @@ run_grow q pairs run n h r = (run_after_journal q pairs run (n ∷ [])).1 (h, (r
 pub run_distinct : (q : Process) (pairs : List (ℕ × ℕ)) (D : ℕ → Type 0) (run : List ℕ) → IsReadyRunAfter q pairs D run →
     AreDistinct run × ((x : ℕ) → x ∈ run → ¬ (D x))
 run_distinct q pairs D [] h = (tt, λ x k. absurd k)
-run_distinct q pairs D (n ∷ run) h =
-    let r = run_distinct q pairs (DoneOr D (n ∷ [])) run h.1 in (
-      (λ k. r.1 n k (inr (inl refl)), r.0),
-      λ x k e. ⊎_elim (λ i. h.0.not_done (subst D i e)) (λ l. r.1 x l (inl e)) k,
-    )
+run_distinct q pairs D (n ∷ run) h = grind (arith, run_distinct q pairs (DoneOr D (n ∷ [])) run h.1, h.0.not_done)
 
 -- the two are one
 

@@ -1,14 +1,15 @@
 -- Resolutions: whose executions they have, which they are, and what their leaves are.
-use Rattle.std.proofs.Common.{◌≡◌, ℕ, ◌+◌, ◌*◌, ◌↔◌, List, ◌++◌, length, refl, sym, ap₂, ◌∙◌, subst, subst₂, inl, inr, ⊎_elim, slice_get, Some, length-append}
+use Rattle.std.proofs.Common.{◌≡◌, ℕ, ◌+◌, ◌*◌, ◌↔◌, List, [], ◌++◌, length, refl, sym, ap, ap₂, ◌∙◌, subst, inl, inr, ⊎_elim, slice_get, Some, length-append, arith}
 use Rattle.std.proofs.lemmas.List.{length-map}
-use Rattle.flow_model.specs.Lists.{◌∈◌, AreDistinct, each_with_each}
+use Rattle.flow_model.specs.Lists.{◌∈◌, AreDistinct, each_with_each, joined}
 use Rattle.flow_model.specs.Process.{Process, Empty, Task, Sequence, Parallel, Choice, Isolated, leaves, IsChoiceFree}
 use Rattle.flow_model.specs.Trace.{Shuffle, Blocks, Trace}
 use Rattle.flow_model.specs.Resolution.{resolutions, resolution_count}
 use Rattle.flow_laws.specs.Resolutions.{Resolves}
-use Rattle.flow_laws.proofs.Members.{mem_append_left, mem_append_right, mem-append, mem_both, distinct_left, distinct_right, distinct_apart, distinct_parts, distinct-append, Apart}
+use Rattle.flow_laws.proofs.Members.{mem_append_left, mem_append_right, mem-append, mem_by_halves, distinct_left, distinct_right, distinct_apart, distinct_parts, distinct-append}
 use Rattle.flow_laws.proofs.MadeLists.{mem-map, of_map, mem-each_with_each, of_each_with_each, length-each_with_each, slice_get-each_with_each, slice_get_append_right}
-use Rattle.flow_laws.proofs.TraceLeaves.{blocks_of_no_leaf, no_leaf_has_no_blocks, leaf_of_trace, leaf_in_trace}
+use Rattle.flow_laws.proofs.Shuffles.{shuffle-append, shuffle-joined, of_shuffle, mem_shuffle_left, mem_shuffle_right}
+use Rattle.flow_laws.proofs.TraceLeaves.{joined-as_one, some_blocks, leaf_of_blocks, blocks_of_none}
 
 -- Executions
 
@@ -46,15 +47,10 @@ blocks_of_goal (Isolated a) q bs (p, r, e) h = let (x, hx, k) = subst (λ s. Blo
 pub resolves_of : (g q : Process) → q ∈ resolutions g → Resolves g q
 resolves_of Empty q m = ⊎_elim (λ e. e) absurd m
 resolves_of (Task n) q m = ⊎_elim (λ e. e) absurd m
-resolves_of (Sequence a b) q m =
-    let (p, (r, ma, mb, e)) = of_each_with_each Sequence q (resolutions a) (resolutions b) m in
-    (p, r, resolves_of a p ma, resolves_of b r mb, e)
-resolves_of (Parallel a b) q m =
-    let (p, (r, ma, mb, e)) = of_each_with_each Parallel q (resolutions a) (resolutions b) m in
-    (p, r, resolves_of a p ma, resolves_of b r mb, e)
-resolves_of (Choice a b) q m =
-    ⊎_elim (λ k. inl (resolves_of a q k)) (λ k. inr (resolves_of b q k)) (mem-append q (resolutions a) (resolutions b) m)
-resolves_of (Isolated a) q m = let (p, k, e) = of_map Isolated q (resolutions a) m in (p, resolves_of a p k, e)
+resolves_of (Sequence a b) q m = grind (arith, of_each_with_each Sequence q (resolutions a) (resolutions b) m, resolves_of a, resolves_of b)
+resolves_of (Parallel a b) q m = grind (arith, of_each_with_each Parallel q (resolutions a) (resolutions b) m, resolves_of a, resolves_of b)
+resolves_of (Choice a b) q m = grind (arith, mem-append q (resolutions a) (resolutions b) m, resolves_of a q, resolves_of b q)
+resolves_of (Isolated a) q m = grind (arith, of_map Isolated q (resolutions a) m, resolves_of a)
 
 pub mem-resolutions : (g q : Process) → Resolves g q → q ∈ resolutions g
 mem-resolutions Empty q e = inl e
@@ -99,117 +95,90 @@ number_of_right a b x i e =
 pub choice_free_resolution : (g q : Process) → Resolves g q → IsChoiceFree q
 choice_free_resolution Empty q e = subst IsChoiceFree (sym e) tt
 choice_free_resolution (Task n) q e = subst IsChoiceFree (sym e) tt
-choice_free_resolution (Sequence a b) q (x, y, hx, hy, e) =
-    subst IsChoiceFree (sym e) (choice_free_resolution a x hx, choice_free_resolution b y hy)
-choice_free_resolution (Parallel a b) q (x, y, hx, hy, e) =
-    subst IsChoiceFree (sym e) (choice_free_resolution a x hx, choice_free_resolution b y hy)
-choice_free_resolution (Choice a b) q (inl h) = choice_free_resolution a q h
-choice_free_resolution (Choice a b) q (inr h) = choice_free_resolution b q h
+choice_free_resolution (Sequence a b) q (x, y, hx, hy, e) = subst IsChoiceFree (sym e) (choice_free_resolution a x hx, choice_free_resolution b y hy)
+choice_free_resolution (Parallel a b) q (x, y, hx, hy, e) = subst IsChoiceFree (sym e) (choice_free_resolution a x hx, choice_free_resolution b y hy)
+choice_free_resolution (Choice a b) q h = ⊎_elim (choice_free_resolution a q) (choice_free_resolution b q) h
 choice_free_resolution (Isolated a) q (x, h, e) = subst IsChoiceFree (sym e) (choice_free_resolution a x h)
 
 pub mem-leaves_of_goal : (g q : Process) → Resolves g q → (n : ℕ) → n ∈ leaves q → n ∈ leaves g
 mem-leaves_of_goal Empty q e n m = subst (λ p. n ∈ leaves p) e m
 mem-leaves_of_goal (Task k) q e n m = subst (λ p. n ∈ leaves p) e m
-mem-leaves_of_goal (Sequence a b) q (x, y, hx, hy, e) n m = mem_both n (leaves x) (leaves y) (leaves a) (leaves b)
-    (mem-leaves_of_goal a x hx n) (mem-leaves_of_goal b y hy n) (subst (λ p. n ∈ leaves p) e m)
-mem-leaves_of_goal (Parallel a b) q (x, y, hx, hy, e) n m = mem_both n (leaves x) (leaves y) (leaves a) (leaves b)
-    (mem-leaves_of_goal a x hx n) (mem-leaves_of_goal b y hy n) (subst (λ p. n ∈ leaves p) e m)
-mem-leaves_of_goal (Choice a b) q (inl h) n m = mem_append_left n (leaves a) (leaves b) (mem-leaves_of_goal a q h n m)
-mem-leaves_of_goal (Choice a b) q (inr h) n m = mem_append_right n (leaves a) (leaves b) (mem-leaves_of_goal b q h n m)
+mem-leaves_of_goal (Sequence a b) q (x, y, hx, hy, e) n m = mem_by_halves n (leaves a) (leaves b)
+    (mem-leaves_of_goal a x hx n) (mem-leaves_of_goal b y hy n) (mem-append n (leaves x) (leaves y) (subst (λ p. n ∈ leaves p) e m))
+mem-leaves_of_goal (Parallel a b) q (x, y, hx, hy, e) n m = mem_by_halves n (leaves a) (leaves b)
+    (mem-leaves_of_goal a x hx n) (mem-leaves_of_goal b y hy n) (mem-append n (leaves x) (leaves y) (subst (λ p. n ∈ leaves p) e m))
+mem-leaves_of_goal (Choice a b) q h n m = mem_by_halves n (leaves a) (leaves b) (λ k. mem-leaves_of_goal a q k n m) (λ k. mem-leaves_of_goal b q k n m) h
 mem-leaves_of_goal (Isolated a) q (x, h, e) n m = mem-leaves_of_goal a x h n (subst (λ p. n ∈ leaves p) e m)
 
-abbrev KeepsDistinct : Process → Process → Type 0
-KeepsDistinct g q = AreDistinct (leaves g) → AreDistinct (leaves q)
-
-halves_keep_distinct : (a b x y : Process) → Resolves a x → Resolves b y → KeepsDistinct a x → KeepsDistinct b y → KeepsDistinct (Parallel a b) (Parallel x y)
-halves_keep_distinct a b x y hx hy in_a in_b d =
-    let (da, db, apart) = distinct_parts (leaves a) (leaves b) d in
-    distinct-append (leaves x) (leaves y) (in_a da) (in_b db)
+halves_distinct : (a b x y : Process) → Resolves a x → Resolves b y → (AreDistinct (leaves a) → AreDistinct (leaves x)) →
+    (AreDistinct (leaves b) → AreDistinct (leaves y)) → AreDistinct (leaves (Parallel a b)) → AreDistinct (leaves (Parallel x y))
+halves_distinct a b x y hx hy in_a in_b d =
+    let (da, db, apart) = distinct_parts (leaves a) (leaves b) d in distinct-append (leaves x) (leaves y) (in_a da) (in_b db)
     (λ n h k. apart n (mem-leaves_of_goal a x hx n h) (mem-leaves_of_goal b y hy n k))
 
-pub distinct_leaves_of_resolution : (g q : Process) → Resolves g q → KeepsDistinct g q
+pub distinct_leaves_of_resolution : (g q : Process) → Resolves g q → AreDistinct (leaves g) → AreDistinct (leaves q)
 distinct_leaves_of_resolution Empty q e d = subst (λ p. AreDistinct (leaves p)) (sym e) d
 distinct_leaves_of_resolution (Task n) q e d = subst (λ p. AreDistinct (leaves p)) (sym e) d
 distinct_leaves_of_resolution (Sequence a b) q (x, y, hx, hy, e) d = subst (λ p. AreDistinct (leaves p)) (sym e)
-    (halves_keep_distinct a b x y hx hy (distinct_leaves_of_resolution a x hx) (distinct_leaves_of_resolution b y hy) d)
+    (halves_distinct a b x y hx hy (distinct_leaves_of_resolution a x hx) (distinct_leaves_of_resolution b y hy) d)
 distinct_leaves_of_resolution (Parallel a b) q (x, y, hx, hy, e) d = subst (λ p. AreDistinct (leaves p)) (sym e)
-    (halves_keep_distinct a b x y hx hy (distinct_leaves_of_resolution a x hx) (distinct_leaves_of_resolution b y hy) d)
-distinct_leaves_of_resolution (Choice a b) q (inl h) d = distinct_leaves_of_resolution a q h (distinct_left (leaves a) (leaves b) d)
-distinct_leaves_of_resolution (Choice a b) q (inr h) d = distinct_leaves_of_resolution b q h (distinct_right (leaves a) (leaves b) d)
-distinct_leaves_of_resolution (Isolated a) q (x, h, e) d =
-    subst (λ p. AreDistinct (leaves p)) (sym e) (distinct_leaves_of_resolution a x h d)
-
--- Resolutions with the same leaves
-
-abbrev pub HaveSameLeaves : Process → Process → Type 0
-HaveSameLeaves p q = (n : ℕ) → (n ∈ leaves p) ↔ (n ∈ leaves q)
-
-no_common_leaf : (p q : Process) → Apart (leaves p) (leaves q) → HaveSameLeaves p q → (bs : List (List ℕ)) → Blocks p bs → Blocks q bs
-no_common_leaf p q apart same bs h =
-    let none : (n : ℕ) → ¬ (n ∈ leaves p) = λ n m. apart n m ((same n).0 m) in
-    subst (Blocks q) (sym (blocks_of_no_leaf p none bs h)) (no_leaf_has_no_blocks q (λ n m. none n ((same n).1 m)))
-
--- of two lists that are apart, a leaf of two goals within them is in the one goal if it is in the one list
-half_of : (a b : List ℕ) (u v : Process) → Apart a b → ((n : ℕ) → n ∈ leaves u → n ∈ a) → ((n : ℕ) → n ∈ leaves v → n ∈ b) →
-    (n : ℕ) → n ∈ leaves (Sequence u v) → (n ∈ a → n ∈ leaves u) × (n ∈ b → n ∈ leaves v)
-half_of a b u v apart of_u of_v n m = ⊎_elim
-    (λ k. (λ i. k, λ i. absurd (apart n (of_u n k) i))) (λ k. (λ i. absurd (apart n i (of_v n k)), λ i. k))
-    (mem-append n (leaves u) (leaves v) m)
-
--- two resolutions of two parts that both stay
-same_halves : (a b x y u v : Process) → AreDistinct (leaves a ++ leaves b) →
-    Resolves a x → Resolves b y → Resolves a u → Resolves b v →
-    HaveSameLeaves (Sequence x y) (Sequence u v) → HaveSameLeaves x u × HaveSameLeaves y v
-same_halves a b x y u v d hx hy hu hv same =
-    let of_x = mem-leaves_of_goal a x hx in
-    let of_y = mem-leaves_of_goal b y hy in
-    let of_u = mem-leaves_of_goal a u hu in
-    let of_v = mem-leaves_of_goal b v hv in
-    let there = λ (n : ℕ) (m : n ∈ leaves (Sequence x y)). half_of (leaves a) (leaves b) u v (distinct_apart (leaves a) (leaves b) d) of_u of_v n ((same n).0 m) in
-    let back = λ (n : ℕ) (m : n ∈ leaves (Sequence u v)). half_of (leaves a) (leaves b) x y (distinct_apart (leaves a) (leaves b) d) of_x of_y n ((same n).1 m) in (
-      λ n. (λ k. (there n (mem_append_left n (leaves x) (leaves y) k)).0 (of_x n k), λ k. (back n (mem_append_left n (leaves u) (leaves v) k)).0 (of_u n k)),
-      λ n. (λ k. (there n (mem_append_right n (leaves x) (leaves y) k)).1 (of_y n k), λ k. (back n (mem_append_right n (leaves u) (leaves v) k)).1 (of_v n k)),
-    )
-
--- two resolutions with the same leaves have the same blocks
-abbrev pub HaveSameBlocks : Process → Type 0
-HaveSameBlocks g = (p q : Process) → Resolves g p → Resolves g q → HaveSameLeaves p q → (bs : List (List ℕ)) → Blocks p bs → Blocks q bs
-
--- halves with a relation between their blocks
-abbrev HaveBlocks : Process → Process → (List (List ℕ) → List (List ℕ) → Type 0) → Type 0
-HaveBlocks a b R = (xs ys : List (List ℕ)) × Blocks a xs × Blocks b ys × R xs ys
-
-same_blocks_of_halves : (a b x y u v : Process) (R : List (List ℕ) → List (List ℕ) → Type 0) → HaveSameBlocks a → HaveSameBlocks b →
-    AreDistinct (leaves a ++ leaves b) → Resolves a x → Resolves b y → Resolves a u → Resolves b v →
-    HaveSameLeaves (Sequence x y) (Sequence u v) → HaveBlocks x y R → HaveBlocks u v R
-same_blocks_of_halves a b x y u v R in_a in_b d hx hy hu hv same (xs, ys, kx, ky, r) =
-    let (first, second) = same_halves a b x y u v d hx hy hu hv same in
-    (xs, ys, in_a x u hx hu first xs kx, in_b y v hy hv second ys ky, r)
-
-pub same_blocks : (g : Process) → AreDistinct (leaves g) → HaveSameBlocks g
-same_blocks Empty d p q e i same bs h = subst (λ s. Blocks s bs) (e ∙ sym i) h
-same_blocks (Task n) d p q e i same bs h = subst (λ s. Blocks s bs) (e ∙ sym i) h
-same_blocks (Sequence a b) d p q (x, y, hx, hy, e) (u, v, hu, hv, i) same bs h =
-    let (da, db, apart) = distinct_parts (leaves a) (leaves b) d in
-    subst (λ s. Blocks s bs) (sym i) (same_blocks_of_halves a b x y u v (λ xs ys. bs ≡ xs ++ ys) (same_blocks a da) (same_blocks b db)
-    d hx hy hu hv (subst₂ HaveSameLeaves e i same) (subst (λ s. Blocks s bs) e h))
-same_blocks (Parallel a b) d p q (x, y, hx, hy, e) (u, v, hu, hv, i) same bs h =
-    let (da, db, apart) = distinct_parts (leaves a) (leaves b) d in
-    subst (λ s. Blocks s bs) (sym i) (same_blocks_of_halves a b x y u v (λ xs ys. Shuffle xs ys bs) (same_blocks a da) (same_blocks b db)
-    d hx hy hu hv (subst₂ HaveSameLeaves e i same) (subst (λ s. Blocks s bs) e h))
-same_blocks (Choice a b) d p q (inl e) (inl i) same bs h = same_blocks a (distinct_left (leaves a) (leaves b) d) p q e i same bs h
-same_blocks (Choice a b) d p q (inr e) (inr i) same bs h = same_blocks b (distinct_right (leaves a) (leaves b) d) p q e i same bs h
-same_blocks (Choice a b) d p q (inl e) (inr i) same bs h =
-    let off = distinct_apart (leaves a) (leaves b) d in
-    no_common_leaf p q (λ n m k. off n (mem-leaves_of_goal a p e n m) (mem-leaves_of_goal b q i n k)) same bs h
-same_blocks (Choice a b) d p q (inr e) (inl i) same bs h =
-    let off = distinct_apart (leaves a) (leaves b) d in
-    no_common_leaf p q (λ n m k. off n (mem-leaves_of_goal a q i n k) (mem-leaves_of_goal b p e n m)) same bs h
-same_blocks (Isolated a) d p q (x, h, e) (u, k, i) same bs m =
-    let (xs, kx, j) = subst (λ s. Blocks s bs) e m in
-    subst (λ s. Blocks s bs) (sym i) (xs, same_blocks a d x u h k (subst₂ HaveSameLeaves e i same) xs kx, j)
+    (halves_distinct a b x y hx hy (distinct_leaves_of_resolution a x hx) (distinct_leaves_of_resolution b y hy) d)
+distinct_leaves_of_resolution (Choice a b) q h d =
+    let (da, db, _) = distinct_parts (leaves a) (leaves b) d in
+    ⊎_elim (λ k. distinct_leaves_of_resolution a q k da) (λ k. distinct_leaves_of_resolution b q k db) h
+distinct_leaves_of_resolution (Isolated a) q (x, h, e) d = subst (λ p. AreDistinct (leaves p)) (sym e) (distinct_leaves_of_resolution a x h d)
 
 -- Executions by their leaves
+
+-- the blocks hold just the leaves of the goal
+abbrev HasJust : Process → List (List ℕ) → Type 0
+HasJust q bs = (n : ℕ) → (n ∈ joined bs) ↔ (n ∈ leaves q)
+
+-- where the goals have no leaf in common, there are none
+no_common_leaf : (p q : Process) (bs : List (List ℕ)) → ((n : ℕ) → n ∈ joined bs → ¬ (n ∈ leaves q)) → Blocks p bs → HasJust q bs → Blocks q bs
+no_common_leaf p q bs apart h just =
+    let none : (n : ℕ) → ¬ (n ∈ joined bs) = λ n m. apart n m ((just n).0 m) in
+    let (cs, k) = some_blocks q in
+    let empty : cs ≡ [] = blocks_of_none q cs k (λ n m. none n ((just n).1 (leaf_of_blocks q cs k n m))) in
+    subst (Blocks q) (empty ∙ sym (blocks_of_none p bs h none)) k
+
+-- of two halves the blocks hold just the leaves of their own resolutions
+halves_have : (a b u v : Process) (x y bs : List (List ℕ)) → AreDistinct (leaves (Parallel a b)) → Resolves a u → Resolves b v → Blocks a x → Blocks b y →
+    Shuffle x y bs → HasJust (Parallel u v) bs → HasJust u x × HasJust v y
+halves_have a b u v x y bs d hu hv hx hy s just = (λ n. (at n).0, λ n. (at n).1)
+  where
+    at : (n : ℕ) → ((n ∈ joined x) ↔ (n ∈ leaves u)) × ((n ∈ joined y) ↔ (n ∈ leaves v))
+    at n =
+        let fact = distinct_apart (leaves a) (leaves b) d n in let other_fact = mem-append n (leaves u) (leaves v) in
+        let third_fact = mem_append_left n (leaves u) (leaves v) in let fourth_fact = mem_append_right n (leaves u) (leaves v) in
+        let fifth_fact = of_shuffle (shuffle-joined s) n in let sixth_fact = mem_shuffle_left (shuffle-joined s) n in
+        let fact_7 = mem_shuffle_right (shuffle-joined s) n in
+        grind (arith, just n, leaf_of_blocks a x hx n, leaf_of_blocks b y hy n, mem-leaves_of_goal a u hu n, mem-leaves_of_goal b v hv n)
+
+blocks_by_leaves : (g q : Process) → AreDistinct (leaves g) → Resolves g q → (bs : List (List ℕ)) → Blocks g bs → HasJust q bs → Blocks q bs
+blocks_by_leaves Empty q d r bs h just = subst (λ s. Blocks s bs) (sym r) h
+blocks_by_leaves (Task n) q d r bs h just = subst (λ s. Blocks s bs) (sym r) h
+blocks_by_leaves (Sequence a b) q d (u, v, hu, hv, e) bs (x, y, hx, hy, i) just =
+    let s = subst (Shuffle x y) (sym i) (shuffle-append x y) in
+    let (first, second) = halves_have a b u v x y bs d hu hv hx hy s (subst (λ s. HasJust s bs) e just) in
+    let (da, db, _) = distinct_parts (leaves a) (leaves b) d in
+    subst (λ s. Blocks s bs) (sym e) (x, y, blocks_by_leaves a u da hu x hx first, blocks_by_leaves b v db hv y hy second, i)
+blocks_by_leaves (Parallel a b) q d (u, v, hu, hv, e) bs (x, y, hx, hy, s) just =
+    let (first, second) = halves_have a b u v x y bs d hu hv hx hy s (subst (λ s. HasJust s bs) e just) in
+    let (da, db, _) = distinct_parts (leaves a) (leaves b) d in
+    subst (λ s. Blocks s bs) (sym e) (x, y, blocks_by_leaves a u da hu x hx first, blocks_by_leaves b v db hv y hy second, s)
+blocks_by_leaves (Choice a b) q d (inl r) bs (inl h) just = blocks_by_leaves a q (distinct_left (leaves a) (leaves b) d) r bs h just
+blocks_by_leaves (Choice a b) q d (inr r) bs (inr h) just = blocks_by_leaves b q (distinct_right (leaves a) (leaves b) d) r bs h just
+blocks_by_leaves (Choice a b) q d (inl r) bs (inr h) just = no_common_leaf b q bs
+    (λ n m k. distinct_apart (leaves a) (leaves b) d n (mem-leaves_of_goal a q r n k) (leaf_of_blocks b bs h n m)) h just
+blocks_by_leaves (Choice a b) q d (inr r) bs (inl h) just = no_common_leaf a q bs
+    (λ n m k. distinct_apart (leaves a) (leaves b) d n (leaf_of_blocks a bs h n m) (mem-leaves_of_goal b q r n k)) h just
+blocks_by_leaves (Isolated a) q d (u, r, e) bs (x, h, i) just = subst (λ s. Blocks s bs) (sym e) (
+  x,
+  blocks_by_leaves a u d r x h
+      (subst (λ l. (n : ℕ) → (n ∈ l) ↔ (n ∈ leaves u)) (ap joined i ∙ joined-as_one x) (subst (λ s. HasJust s bs) e just)),
+  i,
+)
 
 pub goal_trace : (g q : Process) → q ∈ resolutions g → (t : List ℕ) → Trace q t → Trace g t
 goal_trace g q m t (bs, h, e) = (bs, blocks_of_goal g q bs (resolves_of g q m) h, e)
@@ -217,12 +186,4 @@ goal_trace g q m t (bs, h, e) = (bs, blocks_of_goal g q bs (resolves_of g q m) h
 pub resolution_trace : (g q : Process) → AreDistinct (leaves g) → q ∈ resolutions g → (t : List ℕ) →
     Trace g t → ((n : ℕ) → (n ∈ t) ↔ (n ∈ leaves q)) → Trace q t
 resolution_trace g q d m t (bs, h, e) same =
-    let (p, k, hp) = blocks_of_a_resolution g bs h in
-    let of_p : (n : ℕ) → n ∈ t → n ∈ leaves p = leaf_of_trace p t (bs, hp, e) in
-    let in_p : (n : ℕ) → n ∈ leaves p → n ∈ t =
-    leaf_in_trace p (choice_free_resolution g p (resolves_of g p k)) t (bs, hp, e) in (
-      bs,
-      same_blocks g d p q (resolves_of g p k) (resolves_of g q m)
-          (λ n. (λ l. (same n).0 (in_p n l), λ l. of_p n ((same n).1 l))) bs hp,
-      e,
-    )
+    (bs, blocks_by_leaves g q d (resolves_of g q m) bs h (subst (λ l. (n : ℕ) → (n ∈ l) ↔ (n ∈ leaves q)) e same), e)

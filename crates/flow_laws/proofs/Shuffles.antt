@@ -1,5 +1,5 @@
 -- Lists that interleave: their members, and the order of these.
-use Rattle.std.proofs.Common.{◌≡◌, List, [], ◌∷◌, ◌++◌, ◌⊎◌, refl, sym, ap, ◌∙◌, subst, inl, inr, ⊎_elim}
+use Rattle.std.proofs.Common.{◌≡◌, List, [], ◌∷◌, ◌++◌, ◌⊎◌, refl, sym, ap, ◌∙◌, subst, inl, inr, ⊎_elim, arith}
 use Rattle.flow_model.specs.Lists.{◌∈◌, AreDistinct, StandsBefore, joined}
 use Rattle.flow_model.specs.Trace.{Shuffle, both_end, from_left, from_right}
 use Rattle.flow_model.specs.Decided.{shuffle_right}
@@ -26,24 +26,23 @@ shuffle-joined (from_right {x = x} s) = shuffle_swap (shuffle_front x (shuffle_s
 
 pub of_shuffle : {A : Type 0} {a b c : List A} → Shuffle a b c → (x : A) → x ∈ c → (x ∈ a) ⊎ (x ∈ b)
 of_shuffle both_end x h = inl h
-of_shuffle (from_left s) x (inl e) = inl (inl e)
-of_shuffle (from_left s) x (inr m) = ⊎_elim (λ k. inl (inr k)) inr (of_shuffle s x m)
-of_shuffle (from_right s) x (inl e) = inr (inl e)
-of_shuffle (from_right s) x (inr m) = ⊎_elim inl (λ k. inr (inr k)) (of_shuffle s x m)
+of_shuffle (from_left s) x h = grind (arith, h, of_shuffle s x)
+of_shuffle (from_right s) x h = grind (arith, h, of_shuffle s x)
 
 pub mem_shuffle_left : {A : Type 0} {a b c : List A} → Shuffle a b c → (x : A) → x ∈ a → x ∈ c
 mem_shuffle_left both_end x h = h
-mem_shuffle_left (from_left s) x (inl e) = inl e
-mem_shuffle_left (from_left s) x (inr m) = inr (mem_shuffle_left s x m)
-mem_shuffle_left (from_right s) x m = inr (mem_shuffle_left s x m)
+mem_shuffle_left (from_left s) x h = grind (arith, h, mem_shuffle_left s x)
+mem_shuffle_left (from_right s) x h = inr (mem_shuffle_left s x h)
 
 pub mem_shuffle_right : {A : Type 0} {a b c : List A} → Shuffle a b c → (x : A) → x ∈ b → x ∈ c
 mem_shuffle_right s x m = mem_shuffle_left (shuffle_swap s) x m
 
+pub mem_shuffle : {A P Q : Type 0} {a b c : List A} → Shuffle a b c → (x : A) → (P → x ∈ a) → (Q → x ∈ b) → P ⊎ Q → x ∈ c
+mem_shuffle s x f g = ⊎_elim (λ p. mem_shuffle_left s x (f p)) (λ q. mem_shuffle_right s x (g q))
+
 pub before_in_shuffle : {A : Type 0} {a b c : List A} → Shuffle a b c → (x y : A) → StandsBefore x y a → StandsBefore x y c
 before_in_shuffle both_end x y h = h
-before_in_shuffle (from_left s) x y (inl h) = inl (h.0, mem_shuffle_left s y h.1)
-before_in_shuffle (from_left s) x y (inr h) = inr (before_in_shuffle s x y h)
+before_in_shuffle (from_left s) x y h = grind (arith, h, before_in_shuffle s x y, mem_shuffle_left s y)
 before_in_shuffle (from_right s) x y h = inr (before_in_shuffle s x y h)
 
 pub distinct-shuffle : {A : Type 0} {a b c : List A} → Shuffle a b c → AreDistinct a → AreDistinct b → Apart a b → AreDistinct c

@@ -1,25 +1,62 @@
 -- Each entry that may be made keeps the state sound.
-use Rattle.std.proofs.Common.{◌≡◌, ℕ, suc, ◌+◌, ◌≤◌, false, not, ◌&&◌, nat_le, nat_lt, cond, IsTrue, List, [], ◌∷◌, ◌++◌, map, length, take, drop, filter, slice_index, refl, sym, ap, ◌∙◌, subst, append_assoc, length-append, take-append-drop, arith, le_refl}
+use Rattle.std.proofs.Common.{◌≡◌, ℕ, zero, suc, true, List, [], ◌∷◌, ◌++◌, is_some, MatchOption, slice_get, Option, Some, None, sym, true≢false, ◌+◌, ◌≤◌, false, not, ◌&&◌, nat_le, nat_lt, cond, IsTrue, map, length, take, drop, filter, slice_index, refl, ap, ◌∙◌, subst, append_assoc, length-append, take-append-drop, arith, le_refl}
 use Rattle.std.proofs.lemmas.Bool.{eq-eqb, leb-true}
 use Rattle.std.proofs.lemmas.List.{length-take-le, length-map, map-append}
 use Rattle.std.proofs.lemmas.List.Elements.{filter-append}
+use Rattle.flow_model.specs.declared.labels.Label.{Label}
+use Rattle.flow_model.specs.declared.labels.Label.TheVariants.{Event, Test, Absent, Ins, Del}
 use Rattle.flow_model.specs.declared.history.Entry.{Entry}
 use Rattle.flow_model.specs.declared.history.Step.{Step}
 use Rattle.flow_model.specs.declared.history.Step.TheVariants.{Took, Done, Failed, Late, Did, Rewound, Committed}
 use Rattle.flow_model.specs.declared.history.FailEffect.TheVariants.{Switched, Kept}
-use Rattle.flow_model.specs.Lists.{◌∈◌, Each, AreDistinct, Begins, IsOrderOf, numbers_from}
-use Rattle.flow_model.specs.Facts.{Runs}
-use Rattle.flow_model.specs.Schema.{Schema, start_of, IsEventLeaf}
+use Rattle.flow_model.specs.Lists.{Each, ◌∈◌, AreDistinct, Begins, IsOrderOf, numbers_from}
+use Rattle.flow_model.specs.Facts.{State, Holds, HoldsAt, after_leaf, replay, Runs, event_in}
+use Rattle.flow_model.specs.Schema.{Schema, IsEventLeaf, start_of}
 use Rattle.flow_model.specs.Resolution.{ChoiceOption, options}
 use Rattle.flow_model.specs.Run.{Claim, RunState, first_state, current_leaves, is_current, claim_at, leaf_of_claim, IsCurrent, IsLapsed, database, IsFree, MayFollow, MayAllFollow, CanTake, CanDo, IsOpen, IsAllowed, answer, spare, with_new_epoch, next_state, state_after, IsLegalFrom}
-use Rattle.flow_laws.specs.Words.{IsWellFormed, IsConsistent}
-use Rattle.flow_laws.specs.Histories.{IsSound}
+use Rattle.flow_laws.specs.Histories.{NeverWaits, IsSound}
+use Rattle.flow_laws.specs.WellFormed.{IsWellFormed, IsConsistent}
 use Rattle.flow_laws.proofs.Members.{each-append, each_to, each_member}
 use Rattle.flow_laws.proofs.MadeLists.{distinct-numbers_from, begins_front, begins_and_nothing, each-filter, order_of_none, order_with_last, numbers_from_more}
-use Rattle.flow_laws.proofs.GoodTraces.{option_of_good}
-use Rattle.flow_laws.proofs.RunLemmas.{runs-append, runs_front, event_holds}
-use Rattle.flow_laws.proofs.ClaimLemmas.{number_of, leaf_of, is_of, answer_keeps, numbers-answer, taken_out, none_taken_out, leaf_of_claim_is, some_claim, lapsed_is_not_current, claim_in}
-use Rattle.flow_laws.proofs.SparedLemmas.{spare_keeps, numbers-spare, spared_are_current, spared_may_follow}
+use Rattle.flow_laws.proofs.OptionsLemmas.{option_of_good}
+use Rattle.flow_laws.proofs.ClaimLemmas.{number_of, leaf_of, is_of, answer_keeps, numbers-answer, taken_out, none_taken_out, leaf_of_claim_is, some_claim, lapsed_is_not_current, claim_in, spare_keeps, numbers-spare, spared_are_current, spared_may_follow}
+
+pub runs-append : (labels : List Label) (s : State) (a b : List ℕ) → Runs labels s a → Runs labels (replay labels s a) b → Runs labels s (a ++ b)
+runs-append labels s [] b ha hb = hb
+runs-append labels s (n ∷ a) b (h, ha) hb = (h, runs-append labels (after_leaf labels s n) a b ha hb)
+
+pub runs_front : (labels : List Label) (s : State) (a b : List ℕ) → Runs labels s (a ++ b) → Runs labels s a
+runs_front labels s [] b h = tt
+runs_front labels s (n ∷ a) b (h, t) = (h, runs_front labels (after_leaf labels s n) a b t)
+
+-- the event of the label, if there is one
+abbrev pub event_if : Option Label → Option ℕ
+event_if None = None
+event_if (Some label) = event_in label
+
+pub holds_with_event : (s : State) (o : Option Label) → is_some (event_if o) ≡ true → MatchOption o (Unit {0}) (Holds s)
+holds_with_event s None h = tt
+holds_with_event s (Some (Event e)) h = tt
+holds_with_event s (Some (Test f)) h = absurd (true≢false (sym h))
+holds_with_event s (Some (Absent f)) h = absurd (true≢false (sym h))
+holds_with_event s (Some (Ins f)) h = tt
+holds_with_event s (Some (Del f)) h = tt
+
+-- an event may be performed in every state
+pub event_holds : (w : Schema) (s : State) (n : ℕ) → IsEventLeaf w n → HoldsAt w.labels s n
+event_holds w s n h = holds_with_event s (slice_get w.labels n) h
+
+pub holds_that_never_waits : (s : State) (label : Label) → NeverWaits label → Holds s label
+holds_that_never_waits s (Event e) h = tt
+holds_that_never_waits s (Test f) h = absurd h
+holds_that_never_waits s (Absent f) h = absurd h
+holds_that_never_waits s (Ins f) h = tt
+holds_that_never_waits s (Del f) h = tt
+
+pub always_holds : (labels : List Label) → Each NeverWaits labels → (s : State) (n : ℕ) → HoldsAt labels s n
+always_holds [] h s n = tt
+always_holds (label ∷ labels) (h, t) s zero = holds_that_never_waits s label h
+always_holds (label ∷ labels) (h, t) s (suc n) = always_holds labels t s n
 
 -- A good execution that goes on from the journal
 

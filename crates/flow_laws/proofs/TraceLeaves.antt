@@ -1,10 +1,10 @@
 -- What the executions of a goal hold.
-use Rattle.std.proofs.Common.{◌≡◌, ℕ, List, [], ◌∷◌, ◌++◌, refl, sym, ap, ap₂, ◌∙◌, subst, inl, inr, ⊎_elim, append-nil}
+use Rattle.std.proofs.Common.{◌≡◌, ℕ, List, [], ◌∷◌, ◌++◌, refl, sym, ap, ◌∙◌, subst, inl, ⊎_elim, append-nil}
 use Rattle.flow_model.specs.Lists.{◌∈◌, AreDistinct, joined}
 use Rattle.flow_model.specs.Process.{Process, Empty, Task, Sequence, Parallel, Choice, Isolated, leaves, IsChoiceFree}
 use Rattle.flow_model.specs.Trace.{Blocks, Trace, Shuffle, both_end, from_left, from_right, as_one}
-use Rattle.flow_laws.proofs.Members.{mem_append_left, mem_append_right, mem-append, distinct_parts}
-use Rattle.flow_laws.proofs.Shuffles.{shuffle-append, shuffle-joined, of_shuffle, mem_shuffle_left, mem_shuffle_right, distinct-shuffle}
+use Rattle.flow_laws.proofs.Members.{mem-append, distinct_parts, mem_by_halves}
+use Rattle.flow_laws.proofs.Shuffles.{shuffle-append, shuffle-joined, of_shuffle, mem_shuffle_left, mem_shuffle_right, distinct-shuffle, mem_shuffle}
 
 pub joined-as_one : (bs : List (List ℕ)) → joined (as_one bs) ≡ joined bs
 joined-as_one [] = refl
@@ -27,42 +27,37 @@ some_blocks (Isolated a) = let (x, hx) = some_blocks a in (as_one x, (x, hx, ref
 
 -- Members of an execution
 
+-- the leaves of an execution of two halves are those of executions of the halves, interleaved
+pub in_halves : (a b : Process) (bs : List (List ℕ)) → Blocks (Parallel a b) bs →
+    (x y : List (List ℕ)) × Blocks a x × Blocks b y × Shuffle (joined x) (joined y) (joined bs)
+in_halves a b bs (x, y, ha, hb, s) = (x, y, ha, hb, shuffle-joined s)
+
 -- each leaf that is done is one of the goal
-abbrev IsWithinLeaves : Process → Type 0
-IsWithinLeaves g = (bs : List (List ℕ)) → Blocks g bs → (n : ℕ) → n ∈ joined bs → n ∈ leaves g
-
-within_halves : (a b : Process) → IsWithinLeaves a → IsWithinLeaves b → IsWithinLeaves (Parallel a b)
-within_halves a b of_a of_b bs (x, y, ha, hb, s) n m = ⊎_elim
-    (λ k. mem_append_left n (leaves a) (leaves b) (of_a x ha n k)) (λ k. mem_append_right n (leaves a) (leaves b) (of_b y hb n k))
-    (of_shuffle (shuffle-joined s) n m)
-
-pub leaf_of_blocks : (g : Process) → IsWithinLeaves g
+pub leaf_of_blocks : (g : Process) (bs : List (List ℕ)) → Blocks g bs → (n : ℕ) → n ∈ joined bs → n ∈ leaves g
 leaf_of_blocks Empty bs h n m = subst (λ w. n ∈ joined w) h m
 leaf_of_blocks (Task k) bs h n m = subst (λ w. n ∈ joined w) h m
-leaf_of_blocks (Sequence a b) bs h n m = within_halves a b (leaf_of_blocks a) (leaf_of_blocks b) bs (beside a b bs h) n m
-leaf_of_blocks (Parallel a b) bs h n m = within_halves a b (leaf_of_blocks a) (leaf_of_blocks b) bs h n m
-leaf_of_blocks (Choice a b) bs (inl h) n m = mem_append_left n (leaves a) (leaves b) (leaf_of_blocks a bs h n m)
-leaf_of_blocks (Choice a b) bs (inr h) n m = mem_append_right n (leaves a) (leaves b) (leaf_of_blocks b bs h n m)
-leaf_of_blocks (Isolated a) bs (x, h, e) n m =
-    leaf_of_blocks a x h n (subst (λ w. n ∈ w) (ap joined e ∙ joined-as_one x) m)
+leaf_of_blocks (Sequence a b) bs h n m =
+    let (x, y, ha, hb, s) = in_halves a b bs (beside a b bs h) in
+    mem_by_halves n (leaves a) (leaves b) (leaf_of_blocks a x ha n) (leaf_of_blocks b y hb n) (of_shuffle s n m)
+leaf_of_blocks (Parallel a b) bs h n m =
+    let (x, y, ha, hb, s) = in_halves a b bs h in
+    mem_by_halves n (leaves a) (leaves b) (leaf_of_blocks a x ha n) (leaf_of_blocks b y hb n) (of_shuffle s n m)
+leaf_of_blocks (Choice a b) bs h n m =
+    mem_by_halves n (leaves a) (leaves b) (λ k. leaf_of_blocks a bs k n m) (λ k. leaf_of_blocks b bs k n m) h
+leaf_of_blocks (Isolated a) bs (x, h, e) n m = leaf_of_blocks a x h n (subst (λ w. n ∈ w) (ap joined e ∙ joined-as_one x) m)
 
 -- each leaf of the goal is done
-abbrev HasAllLeaves : Process → Type 0
-HasAllLeaves g = (bs : List (List ℕ)) → Blocks g bs → (n : ℕ) → n ∈ leaves g → n ∈ joined bs
-
-all_of_halves : (a b : Process) → HasAllLeaves a → HasAllLeaves b → HasAllLeaves (Parallel a b)
-all_of_halves a b in_a in_b bs (x, y, ha, hb, s) n m = ⊎_elim
-    (λ k. mem_shuffle_left (shuffle-joined s) n (in_a x ha n k)) (λ k. mem_shuffle_right (shuffle-joined s) n (in_b y hb n k))
-    (mem-append n (leaves a) (leaves b) m)
-
-pub leaf_in_blocks : (q : Process) → IsChoiceFree q → HasAllLeaves q
+pub leaf_in_blocks : (q : Process) → IsChoiceFree q → (bs : List (List ℕ)) → Blocks q bs → (n : ℕ) → n ∈ leaves q → n ∈ joined bs
 leaf_in_blocks Empty f bs h n m = absurd m
 leaf_in_blocks (Task k) f bs h n m = subst (λ w. n ∈ joined w) (sym h) m
-leaf_in_blocks (Sequence a b) (fa, fb) bs h n m = all_of_halves a b (leaf_in_blocks a fa) (leaf_in_blocks b fb) bs (beside a b bs h) n m
-leaf_in_blocks (Parallel a b) (fa, fb) bs h n m = all_of_halves a b (leaf_in_blocks a fa) (leaf_in_blocks b fb) bs h n m
+leaf_in_blocks (Sequence a b) (fa, fb) bs h n m =
+    let (x, y, ha, hb, s) = in_halves a b bs (beside a b bs h) in
+    mem_shuffle s n (leaf_in_blocks a fa x ha n) (leaf_in_blocks b fb y hb n) (mem-append n (leaves a) (leaves b) m)
+leaf_in_blocks (Parallel a b) (fa, fb) bs h n m =
+    let (x, y, ha, hb, s) = in_halves a b bs h in
+    mem_shuffle s n (leaf_in_blocks a fa x ha n) (leaf_in_blocks b fb y hb n) (mem-append n (leaves a) (leaves b) m)
 leaf_in_blocks (Choice a b) f bs h n m = absurd f
-leaf_in_blocks (Isolated a) f bs (x, h, e) n m =
-    subst (λ w. n ∈ w) (sym (ap joined e ∙ joined-as_one x)) (leaf_in_blocks a f x h n m)
+leaf_in_blocks (Isolated a) f bs (x, h, e) n m = subst (λ w. n ∈ w) (sym (ap joined e ∙ joined-as_one x)) (leaf_in_blocks a f x h n m)
 
 pub leaf_of_trace : (g : Process) (t : List ℕ) → Trace g t → (n : ℕ) → n ∈ t → n ∈ leaves g
 leaf_of_trace g t (bs, h, e) n m = leaf_of_blocks g bs h n (subst (λ w. n ∈ w) e m)
@@ -70,56 +65,45 @@ leaf_of_trace g t (bs, h, e) n m = leaf_of_blocks g bs h n (subst (λ w. n ∈ w
 pub leaf_in_trace : (q : Process) → IsChoiceFree q → (t : List ℕ) → Trace q t → (n : ℕ) → n ∈ leaves q → n ∈ t
 leaf_in_trace q f t (bs, h, e) n m = subst (λ w. n ∈ w) (sym e) (leaf_in_blocks q f bs h n m)
 
--- A goal with no leaf
-
-abbrev HasNoLeaf : Process → Type 0
-HasNoLeaf g = (n : ℕ) → ¬ (n ∈ leaves g)
-
-none_left : (a b : Process) → HasNoLeaf (Parallel a b) → HasNoLeaf a
-none_left a b none n m = none n (mem_append_left n (leaves a) (leaves b) m)
-
-none_right : (a b : Process) → HasNoLeaf (Parallel a b) → HasNoLeaf b
-none_right a b none n m = none n (mem_append_right n (leaves a) (leaves b) m)
+-- Blocks with no leaf
 
 no_shuffle : {a b c : List (List ℕ)} → Shuffle a b c → a ≡ [] → b ≡ [] → c ≡ []
 no_shuffle both_end e k = refl
 no_shuffle (from_left s) e k = cc
 no_shuffle (from_right s) e k = cc
 
-pub blocks_of_no_leaf : (g : Process) → HasNoLeaf g → (bs : List (List ℕ)) → Blocks g bs → bs ≡ []
-blocks_of_no_leaf Empty none bs h = h
-blocks_of_no_leaf (Task k) none bs h = absurd (none k (inl refl))
-blocks_of_no_leaf (Sequence a b) none bs (x, y, ha, hb, e) =
-    e ∙ ap₂ ◌++◌ (blocks_of_no_leaf a (none_left a b none) x ha) (blocks_of_no_leaf b (none_right a b none) y hb)
-blocks_of_no_leaf (Parallel a b) none bs (x, y, ha, hb, s) =
-    no_shuffle s (blocks_of_no_leaf a (none_left a b none) x ha) (blocks_of_no_leaf b (none_right a b none) y hb)
-blocks_of_no_leaf (Choice a b) none bs (inl h) = blocks_of_no_leaf a (none_left a b none) bs h
-blocks_of_no_leaf (Choice a b) none bs (inr h) = blocks_of_no_leaf b (none_right a b none) bs h
-blocks_of_no_leaf (Isolated a) none bs (x, h, e) = e ∙ ap as_one (blocks_of_no_leaf a none x h)
+abbrev IsNoneWithout : Process → Type 0
+IsNoneWithout g = (bs : List (List ℕ)) → Blocks g bs → ((n : ℕ) → ¬ (n ∈ joined bs)) → bs ≡ []
 
-pub no_leaf_has_no_blocks : (g : Process) → HasNoLeaf g → Blocks g []
-no_leaf_has_no_blocks g none = let (bs, h) = some_blocks g in subst (Blocks g) (blocks_of_no_leaf g none bs h) h
+none_in_halves : (a b : Process) → IsNoneWithout a → IsNoneWithout b → IsNoneWithout (Parallel a b)
+none_in_halves a b of_a of_b bs (x, y, ha, hb, s) none = no_shuffle s
+    (of_a x ha (λ n m. none n (mem_shuffle_left (shuffle-joined s) n m))) (of_b y hb (λ n m. none n (mem_shuffle_right (shuffle-joined s) n m)))
+
+pub blocks_of_none : (g : Process) → IsNoneWithout g
+blocks_of_none Empty bs h none = h
+blocks_of_none (Task k) bs h none = absurd (none k (subst (λ w. k ∈ joined w) (sym h) (inl refl)))
+blocks_of_none (Sequence a b) bs h none = none_in_halves a b (blocks_of_none a) (blocks_of_none b) bs (beside a b bs h) none
+blocks_of_none (Parallel a b) bs h none = none_in_halves a b (blocks_of_none a) (blocks_of_none b) bs h none
+blocks_of_none (Choice a b) bs h none = ⊎_elim (λ k. blocks_of_none a bs k none) (λ k. blocks_of_none b bs k none) h
+blocks_of_none (Isolated a) bs (x, h, e) none =
+    e ∙ ap as_one (blocks_of_none a x h (λ n m. none n (subst (λ w. n ∈ w) (sym (ap joined e ∙ joined-as_one x)) m)))
 
 -- No leaf stands twice
 
-abbrev IsOnceEach : Process → Type 0
-IsOnceEach g = AreDistinct (leaves g) → (bs : List (List ℕ)) → Blocks g bs → AreDistinct (joined bs)
-
-once_in_halves : (a b : Process) → IsOnceEach a → IsOnceEach b → IsOnceEach (Parallel a b)
-once_in_halves a b in_a in_b d bs (x, y, ha, hb, s) =
-    let (da, db, apart) = distinct_parts (leaves a) (leaves b) d in
-    distinct-shuffle (shuffle-joined s) (in_a da x ha) (in_b db y hb)
-    (λ n m k. apart n (leaf_of_blocks a x ha n m) (leaf_of_blocks b y hb n k))
-
-pub distinct_blocks : (g : Process) → IsOnceEach g
+pub distinct_blocks : (g : Process) → AreDistinct (leaves g) → (bs : List (List ℕ)) → Blocks g bs → AreDistinct (joined bs)
 distinct_blocks Empty d bs h = subst (λ w. AreDistinct (joined w)) (sym h) tt
 distinct_blocks (Task k) d bs h = subst (λ w. AreDistinct (joined w)) (sym h) d
-distinct_blocks (Sequence a b) d bs h = once_in_halves a b (distinct_blocks a) (distinct_blocks b) d bs (beside a b bs h)
-distinct_blocks (Parallel a b) d bs h = once_in_halves a b (distinct_blocks a) (distinct_blocks b) d bs h
-distinct_blocks (Choice a b) d bs (inl h) = distinct_blocks a (distinct_parts (leaves a) (leaves b) d).0 bs h
-distinct_blocks (Choice a b) d bs (inr h) = distinct_blocks b (distinct_parts (leaves a) (leaves b) d).1 bs h
-distinct_blocks (Isolated a) d bs (x, h, e) =
-    subst AreDistinct (sym (ap joined e ∙ joined-as_one x)) (distinct_blocks a d x h)
+distinct_blocks (Sequence a b) d bs h =
+    let (da, db, apart) = distinct_parts (leaves a) (leaves b) d in
+    let (x, y, ha, hb, s) = in_halves a b bs (beside a b bs h) in distinct-shuffle s (distinct_blocks a da x ha) (distinct_blocks b db y hb)
+    (λ n m k. apart n (leaf_of_blocks a x ha n m) (leaf_of_blocks b y hb n k))
+distinct_blocks (Parallel a b) d bs h =
+    let (da, db, apart) = distinct_parts (leaves a) (leaves b) d in
+    let (x, y, ha, hb, s) = in_halves a b bs h in distinct-shuffle s (distinct_blocks a da x ha) (distinct_blocks b db y hb)
+    (λ n m k. apart n (leaf_of_blocks a x ha n m) (leaf_of_blocks b y hb n k))
+distinct_blocks (Choice a b) d bs h =
+    let (da, db, _) = distinct_parts (leaves a) (leaves b) d in ⊎_elim (distinct_blocks a da bs) (distinct_blocks b db bs) h
+distinct_blocks (Isolated a) d bs (x, h, e) = subst AreDistinct (sym (ap joined e ∙ joined-as_one x)) (distinct_blocks a d x h)
 
 pub distinct_trace : (g : Process) → AreDistinct (leaves g) → (t : List ℕ) → Trace g t → AreDistinct t
 distinct_trace g d t (bs, h, e) = subst AreDistinct (sym e) (distinct_blocks g d bs h)

@@ -1,12 +1,14 @@
--- The ways of a constraint: of which leaves their pairs are, and what they decide.
-use Rattle.std.proofs.Common.{◌≡◌, ◌≢◌, ℕ, ◌⊎◌, Bool, true, false, ◌==◌, ◌||◌, if◌then◌else◌, List, [], ◌∷◌, ◌++◌, refl, sym, ap, ◌∙◌, subst, inl, inr, ⊎_elim, Option, Some, None}
+-- Constraints, their normal forms and their ways: of which leaves the pairs are, and what is decided by them.
+use Rattle.std.proofs.Common.{◌≡◌, ◌≢◌, ℕ, ◌⊎◌, Bool, true, false, ◌==◌, ◌||◌, if◌then◌else◌, List, [], ◌∷◌, ◌++◌, refl, sym, ap, ◌∙◌, subst, inl, inr, ⊎_elim, Option, Some, None, ◌↔◌, arith}
 use Rattle.std.proofs.lemmas.Bool.{eqb-true, eqb-false, eq-eqb}
 use Rattle.flow_model.specs.declared.labels.Label.{Label}
-use Rattle.flow_model.specs.Lists.{◌∈◌, Each}
-use Rattle.flow_model.specs.Facts.{event_at, is_event}
-use Rattle.flow_model.specs.Ways.{Normal, always, impossible, must, never, before, not_before, both, either, ways, leaf_of_event, free_way, is_free, ways_of_must, ways_of_never, ways_of_before, ways_of_not_before}
-use Rattle.flow_laws.proofs.Members.{mem-append, each-append}
-use Rattle.flow_laws.proofs.MadeLists.{of_each_with_each, of_find, some_same}
+use Rattle.flow_model.specs.Lists.{◌∈◌, Each, StandsBefore, AreDistinct, AreInOrder, each_with_each}
+use Rattle.flow_model.specs.Facts.{event_at, is_event, events_of}
+use Rattle.flow_model.specs.Ways.{Normal, always, impossible, must, never, before, not_before, both, either, ways, leaf_of_event, free_way, is_free, ways_of_must, ways_of_never, ways_of_before, ways_of_not_before, normal_form, chain, broken_chain}
+use Rattle.flow_model.specs.Constraint.{Constraint, Always, Impossible, Must, Never, Order, Not, And, Or, Meets, HappenInOrder}
+use Rattle.flow_model.specs.Decided.{decide_in, decide_before, decide_meets}
+use Rattle.flow_laws.proofs.Members.{mem-append, each-append, before_members, mem_append_left, mem_append_right, each_parts, not_both_ways, before_or_after, not_before_itself, each_from_members, each_member}
+use Rattle.flow_laws.proofs.MadeLists.{of_each_with_each, of_find, some_same, mem-each_with_each, not_found, mem-filter_map, of_filter_map, before-filter_map, of_before-filter_map, same_source}
 
 -- The leaf of an event
 
@@ -31,53 +33,224 @@ same_event labels ls a b x y i j e =
 
 -- Pairs
 
--- a free list of ways, or the members of two lists
-of_either : (free : Bool) (vs ws : List (List (ℕ × ℕ))) (way : List (ℕ × ℕ)) →
-    way ∈ (if free then free_way else vs ++ ws) → (way ≡ []) ⊎ ((way ∈ vs) ⊎ (way ∈ ws))
-of_either true vs ws way m = ⊎_elim inl absurd m
-of_either false vs ws way m = inr (mem-append way vs ws m)
+-- what holds of two leaves of different events holds of each pair of each way
+each_way : (P : ℕ × ℕ → Type 0) (leaf : ℕ → Option ℕ) →
+    ((a b x y : ℕ) → a ≢ b → leaf a ≡ Some x → leaf b ≡ Some y → P (x, y)) → (n : Normal) → Each (Each P) (ways n leaf)
+each_way P leaf h always = (tt, tt)
+each_way P leaf h impossible = tt
+each_way P leaf h (must e) = elim (leaf e) as (λ o. Each (Each P) (ways_of_must o)) [ None ↦ tt | Some x ↦ (tt, tt) ]
+each_way P leaf h (never e) = elim (leaf e) as (λ o. Each (Each P) (ways_of_never o)) [ None ↦ (tt, tt) | Some x ↦ tt ]
+each_way P leaf h (before a b) = of_before (a == b) refl (leaf a) refl (leaf b) refl
+  where
+    of_before : (t : Bool) → (a == b) ≡ t → (o : Option ℕ) → leaf a ≡ o → (p : Option ℕ) → leaf b ≡ p →
+        Each (Each P) (if t then [] else ways_of_before o p)
+    of_before true i o j p k = tt
+    of_before false i None j p k = tt
+    of_before false i (Some x) j None k = tt
+    of_before false i (Some x) j (Some y) k = ((h a b x y (eqb-false a b i) j k, tt), tt)
+each_way P leaf h (not_before a b) = of_not_before (a == b) refl (leaf a) refl (leaf b) refl
+  where
+    of_not_before : (t : Bool) → (a == b) ≡ t → (o : Option ℕ) → leaf a ≡ o → (p : Option ℕ) → leaf b ≡ p →
+        Each (Each P) (if t then free_way else ways_of_not_before o p)
+    of_not_before true i o j p k = (tt, tt)
+    of_not_before false i None j p k = (tt, tt)
+    of_not_before false i (Some x) j None k = (tt, tt)
+    of_not_before false i (Some x) j (Some y) k = ((h b a y x (λ e. eqb-false a b i (sym e)) k j, tt), tt)
+each_way P leaf h (both x y) = each_from_members (Each P) (ways (both x y) leaf) (λ way m.
+    let (v, (w, mv, mw, e)) = of_each_with_each (λ v w. v ++ w) way (ways x leaf) (ways y leaf) m in
+    subst (Each P) (sym e) (each-append P v w
+    (each_member (Each P) (ways x leaf) (each_way P leaf h x) v mv) (each_member (Each P) (ways y leaf) (each_way P leaf h y) w mw)))
+each_way P leaf h (either x y) =
+    elim (is_free (ways x leaf) || is_free (ways y leaf)) as (λ t. Each (Each P) (if t then free_way else ways x leaf ++ ways y leaf)) [
+      | true ↦ (tt, tt)
+      | false ↦ each-append (Each P) (ways x leaf) (ways y leaf) (each_way P leaf h x) (each_way P leaf h y)
+    ]
 
-each_free : (P : ℕ × ℕ → Type 0) (way : List (ℕ × ℕ)) → way ∈ free_way → Each P way
-each_free P way = ⊎_elim (λ e. subst (Each P) (sym e) tt) absurd
-
-each_of_one : (P : ℕ × ℕ → Type 0) (pair : ℕ × ℕ) (way : List (ℕ × ℕ)) → P pair → way ∈ ((pair ∷ []) ∷ []) → Each P way
-each_of_one P pair way h = ⊎_elim (λ e. subst (Each P) (sym e) (h, tt)) absurd
-
--- what holds of two leaves of different events holds of each pair of a way
 pub each_pair : (P : ℕ × ℕ → Type 0) (leaf : ℕ → Option ℕ) →
     ((a b x y : ℕ) → a ≢ b → leaf a ≡ Some x → leaf b ≡ Some y → P (x, y)) →
     (n : Normal) (way : List (ℕ × ℕ)) → way ∈ ways n leaf → Each P way
-each_pair P leaf h always way m = each_free P way m
-each_pair P leaf h impossible way m = absurd m
-each_pair P leaf h (must e) way m = of_must (leaf e) m
-  where
-    of_must : (o : Option ℕ) → way ∈ ways_of_must o → Each P way
-    of_must None k = absurd k
-    of_must (Some x) k = each_free P way k
-each_pair P leaf h (never e) way m = of_never (leaf e) m
-  where
-    of_never : (o : Option ℕ) → way ∈ ways_of_never o → Each P way
-    of_never (Some x) k = absurd k
-    of_never None k = each_free P way k
-each_pair P leaf h (before a b) way m = of_before (a == b) refl (leaf a) refl (leaf b) refl m
-  where
-    of_before : (t : Bool) → (a == b) ≡ t → (o : Option ℕ) → leaf a ≡ o → (p : Option ℕ) → leaf b ≡ p →
-        way ∈ (if t then [] else ways_of_before o p) → Each P way
-    of_before true i o j p k l = absurd l
-    of_before false i None j p k l = absurd l
-    of_before false i (Some x) j None k l = absurd l
-    of_before false i (Some x) j (Some y) k l = each_of_one P (x, y) way (h a b x y (eqb-false a b i) j k) l
-each_pair P leaf h (not_before a b) way m = of_not_before (a == b) refl (leaf a) refl (leaf b) refl m
-  where
-    of_not_before : (t : Bool) → (a == b) ≡ t → (o : Option ℕ) → leaf a ≡ o → (p : Option ℕ) → leaf b ≡ p →
-        way ∈ (if t then free_way else ways_of_not_before o p) → Each P way
-    of_not_before true i o j p k l = each_free P way l
-    of_not_before false i None j p k l = each_free P way l
-    of_not_before false i (Some x) j None k l = each_free P way l
-    of_not_before false i (Some x) j (Some y) k l = each_of_one P (y, x) way (h b a y x (λ e. eqb-false a b i (sym e)) k j) l
-each_pair P leaf h (both x y) way m =
-    let (v, (w, mv, mw, e)) = of_each_with_each (λ v w. v ++ w) way (ways x leaf) (ways y leaf) m in
-    subst (Each P) (sym e) (each-append P v w (each_pair P leaf h x v mv) (each_pair P leaf h y w mw))
-each_pair P leaf h (either x y) way m = ⊎_elim
-    (λ e. subst (Each P) (sym e) tt) (⊎_elim (each_pair P leaf h x way) (each_pair P leaf h y way))
-    (of_either (is_free (ways x leaf) || is_free (ways y leaf)) (ways x leaf) (ways y leaf) way m)
+each_pair P leaf h n = each_member (Each P) (ways n leaf) (each_way P leaf h n)
+
+-- the normal form is true of the whole list of an execution's events
+abbrev pub MeetsNormal : Normal → List ℕ → Type 0
+MeetsNormal always events = Unit {0}
+MeetsNormal impossible events = ⊥
+MeetsNormal (must e) events = e ∈ events
+MeetsNormal (never e) events = ¬ (e ∈ events)
+MeetsNormal (before a b) events = StandsBefore a b events
+MeetsNormal (not_before a b) events = ¬ (StandsBefore a b events)
+MeetsNormal (both x y) events = MeetsNormal x events × MeetsNormal y events
+MeetsNormal (either x y) events = MeetsNormal x events ⊎ MeetsNormal y events
+
+-- Whether or not
+
+pub not_not : {A : Type 0} → A ⊎ ¬ A → ¬ (¬ A) → A
+not_not (inl a) h = a
+not_not (inr n) h = absurd (h n)
+
+-- Chains
+
+pub chain_is : (es events : List ℕ) → HappenInOrder es events ↔ MeetsNormal (chain es) events
+chain_is [] events = (λ h. h, λ h. h)
+chain_is (a ∷ []) events = (λ h. h, λ h. h)
+chain_is (a ∷ b ∷ []) events = grind (arith, before_members a b events)
+chain_is (a ∷ b ∷ c ∷ more) events = grind (arith, chain_is (b ∷ c ∷ more) events)
+
+pub broken_chain_is : (es events : List ℕ) → (¬ (HappenInOrder es events)) ↔ MeetsNormal (broken_chain es) events
+broken_chain_is [] events = grind arith
+broken_chain_is (a ∷ []) events = (λ h. h, λ h. h)
+broken_chain_is (a ∷ b ∷ []) events = grind (arith, before_members a b events)
+broken_chain_is (a ∷ b ∷ c ∷ more) events = grind (arith, broken_chain_is (b ∷ c ∷ more) events, decide_before a b events)
+
+-- a constraint and its normal form; its negation and that one's
+pub normal_form_is : (c : Constraint) (events : List ℕ) →
+    (Meets c events ↔ MeetsNormal (normal_form c true) events)
+    × ((¬ (Meets c events)) ↔ MeetsNormal (normal_form c false) events)
+normal_form_is Always events = grind arith
+normal_form_is Impossible events = grind arith
+normal_form_is (Must e) events = grind arith
+normal_form_is (Never e) events = grind (arith, decide_in e events)
+normal_form_is (Order es) events = (chain_is es events, broken_chain_is es events)
+normal_form_is (Not c) events = grind (arith, normal_form_is c events, decide_meets c events)
+normal_form_is (And c d) events = grind (arith, normal_form_is c events, normal_form_is d events, decide_meets c events)
+normal_form_is (Or c d) events = grind (arith, normal_form_is c events, normal_form_is d events)
+
+-- some way of the list stands in order
+abbrev pub HasWay : List (List (ℕ × ℕ)) → List ℕ → Type 0
+HasWay vs t = (way : List (ℕ × ℕ)) × (way ∈ vs) × AreInOrder way t
+
+-- the leaves of a list of distinct events
+pub record AreItsLeaves (labels : List Label) (t ls : List ℕ) : Type 0 where
+  pub distinct : AreDistinct (events_of labels t)
+  pub same : (n : ℕ) → (n ∈ t) ↔ (n ∈ ls)
+
+-- The leaf of an event
+
+pub leaf_is_there : {labels : List Label} {t ls : List ℕ} → AreItsLeaves labels t ls → (e n : ℕ) →
+    leaf_of_event labels ls e ≡ Some n → (n ∈ t) × (event_at labels n ≡ Some e)
+leaf_is_there {labels} {t} {ls} l e n h = let (m, k) = leaf_of_event_is labels ls e n h in ((l.same n).1 m, k)
+
+pub event_is_not_there : {labels : List Label} {t ls : List ℕ} → AreItsLeaves labels t ls → (e : ℕ) →
+    leaf_of_event labels ls e ≡ None → ¬ (e ∈ events_of labels t)
+event_is_not_there {labels} {t} {ls} l e h m =
+    let (n, k, i) = of_filter_map (event_at labels) e t m in
+    not_found (λ x. is_event e (event_at labels x)) ls n h ((l.same n).0 k) (test_of_event e (event_at labels n) i)
+
+pub event_is_there : {labels : List Label} {t ls : List ℕ} → AreItsLeaves labels t ls → (e n : ℕ) →
+    leaf_of_event labels ls e ≡ Some n → e ∈ events_of labels t
+event_is_there {labels} {t} {ls} l e n h =
+    let (m, k) = leaf_is_there l e n h in mem-filter_map (event_at labels) n e t m k
+
+-- the events stand as their leaves do
+pub before_leaves : {labels : List Label} {t ls : List ℕ} → AreItsLeaves labels t ls → (a b x y : ℕ) →
+    leaf_of_event labels ls a ≡ Some x → leaf_of_event labels ls b ≡ Some y →
+    StandsBefore a b (events_of labels t) → StandsBefore x y t
+before_leaves {labels} {t} {ls} l a b x y i j s =
+    let (u, (v, r, k, h)) = of_before-filter_map (event_at labels) a b t s in
+    let (mx, ex) = leaf_is_there l a x i in
+    let (my, ey) = leaf_is_there l b y j in
+    let (mu, mv) = before_members u v t r in
+    grind (arith, r, same_source (event_at labels) t l.distinct u x a mu mx k ex, same_source (event_at labels) t l.distinct v y b mv my h ey)
+
+pub before_events : {labels : List Label} {t ls : List ℕ} → AreItsLeaves labels t ls → (a b x y : ℕ) →
+    leaf_of_event labels ls a ≡ Some x → leaf_of_event labels ls b ≡ Some y →
+    StandsBefore x y t → StandsBefore a b (events_of labels t)
+before_events {labels} {t} {ls} l a b x y i j s =
+    before-filter_map (event_at labels) x y a b t s (leaf_is_there l a x i).1 (leaf_is_there l b y j).1
+
+-- The forms of one and two events
+
+pub free_has_way : (t : List ℕ) → HasWay free_way t
+free_has_way t = ([], inl refl, tt)
+
+-- what never is has no way, what always is the free one, and what is where a pair stands in order the way of that pair
+never_is : {P : Type 0} (t : List ℕ) → ¬ P → P ↔ HasWay [] t
+never_is t n = (λ h. absurd (n h), λ k. absurd k.1)
+
+always_is : {P : Type 0} (t : List ℕ) → P → P ↔ HasWay free_way t
+always_is t p = (λ h. free_has_way t, λ k. p)
+
+pair_is : {P : Type 0} (t : List ℕ) (x y : ℕ) → (P → StandsBefore x y t) → (StandsBefore x y t → P) → P ↔ HasWay (((x, y) ∷ []) ∷ []) t
+pair_is t x y to from = (
+  λ h. ((x, y) ∷ [], inl refl, (to h, tt)),
+  λ (way, m, s). ⊎_elim (λ (e : way ≡ (x, y) ∷ []). from (subst (λ v. AreInOrder v t) e s).0) absurd m,
+)
+
+must_by_way : {labels : List Label} {t ls : List ℕ} → AreItsLeaves labels t ls → (e : ℕ) (o : Option ℕ) →
+    leaf_of_event labels ls e ≡ o → (e ∈ events_of labels t) ↔ HasWay (ways_of_must o) t
+must_by_way {t = t} l e None h = never_is t (event_is_not_there l e h)
+must_by_way {t = t} l e (Some x) h = always_is t (event_is_there l e x h)
+
+never_by_way : {labels : List Label} {t ls : List ℕ} → AreItsLeaves labels t ls → (e : ℕ) (o : Option ℕ) →
+    leaf_of_event labels ls e ≡ o → (¬ (e ∈ events_of labels t)) ↔ HasWay (ways_of_never o) t
+never_by_way {t = t} l e None h = always_is t (event_is_not_there l e h)
+never_by_way {t = t} l e (Some x) h = never_is t (λ n. n (event_is_there l e x h))
+
+-- where one event is not there, or the two are one, they do not stand in order
+not_in_order : {labels : List Label} {t ls : List ℕ} → AreItsLeaves labels t ls → (a b : ℕ) →
+    ((a == b) ≡ true) ⊎ ((leaf_of_event labels ls a ≡ None) ⊎ (leaf_of_event labels ls b ≡ None)) → ¬ (StandsBefore a b (events_of labels t))
+not_in_order {labels} {t} l a b (inl e) s =
+    not_before_itself b (events_of labels t) l.distinct (subst (λ x. StandsBefore x b (events_of labels t)) (eqb-true a b e) s)
+not_in_order {labels} {t} l a b (inr (inl i)) s = event_is_not_there l a i (before_members a b (events_of labels t) s).0
+not_in_order {labels} {t} l a b (inr (inr j)) s = event_is_not_there l b j (before_members a b (events_of labels t) s).1
+
+before_by_way : {labels : List Label} {t ls : List ℕ} → AreItsLeaves labels t ls → (a b : ℕ) →
+    (same : Bool) → (a == b) ≡ same → (o : Option ℕ) → leaf_of_event labels ls a ≡ o → (p : Option ℕ) → leaf_of_event labels ls b ≡ p →
+    StandsBefore a b (events_of labels t) ↔ HasWay (if same then [] else ways_of_before o p) t
+before_by_way {t = t} l a b true e o i p j = never_is t (not_in_order l a b (inl e))
+before_by_way {t = t} l a b false e None i p j = never_is t (not_in_order l a b (inr (inl i)))
+before_by_way {t = t} l a b false e (Some x) i None j = never_is t (not_in_order l a b (inr (inr j)))
+before_by_way {t = t} l a b false e (Some x) i (Some y) j = pair_is t x y (before_leaves l a b x y i j) (before_events l a b x y i j)
+
+not_before_by_way : {labels : List Label} {t ls : List ℕ} → AreItsLeaves labels t ls → (a b : ℕ) →
+    (same : Bool) → (a == b) ≡ same → (o : Option ℕ) → leaf_of_event labels ls a ≡ o → (p : Option ℕ) → leaf_of_event labels ls b ≡ p →
+    (¬ (StandsBefore a b (events_of labels t))) ↔ HasWay (if same then free_way else ways_of_not_before o p) t
+not_before_by_way {t = t} l a b true e o i p j = always_is t (not_in_order l a b (inl e))
+not_before_by_way {t = t} l a b false e None i p j = always_is t (not_in_order l a b (inr (inl i)))
+not_before_by_way {t = t} l a b false e (Some x) i None j = always_is t (not_in_order l a b (inr (inr j)))
+not_before_by_way {labels} {t} {ls} l a b false e (Some x) i (Some y) j = pair_is t y x
+    (λ n. ⊎_elim (λ s. absurd (n (before_events l a b x y i j s))) (λ s. s)
+    (before_or_after x y t (leaf_is_there l a x i).0 (leaf_is_there l b y j).0 (λ same. eqb-false a b e (same_event labels ls a b x y i j same))))
+    (λ s r. not_both_ways a b (events_of labels t) l.distinct r (before_events l b a y x j i s))
+
+-- The joined forms
+
+pub free_is : (vs : List (List (ℕ × ℕ))) → is_free vs ≡ true → vs ≡ free_way
+free_is [] e = cc
+free_is ((pair ∷ pairs) ∷ vs) e = cc
+free_is ([] ∷ []) e = refl
+free_is ([] ∷ way ∷ vs) e = cc
+
+pub both_by_way : (t : List ℕ) (X Y : Type 0) (vs ws : List (List (ℕ × ℕ))) → X ↔ HasWay vs t → Y ↔ HasWay ws t →
+    (X × Y) ↔ HasWay (each_with_each (λ v w. v ++ w) vs ws) t
+both_by_way t X Y vs ws (to_x, from_x) (to_y, from_y) = (
+  λ h. let (v, mv, sv) = to_x h.0 in let (w, mw, sw) = to_y h.1 in
+      (v ++ w, mem-each_with_each (λ v w. v ++ w) v w vs ws mv mw, each-append _ v w sv sw),
+  λ (way, m, s).
+      let (v, (w, mv, mw, e)) = of_each_with_each (λ v w. v ++ w) way vs ws m in
+      let (sv, sw) = each_parts (λ (pair : ℕ × ℕ). StandsBefore pair.0 pair.1 t) v w (subst (λ u. AreInOrder u t) e s) in
+      (from_x (v, mv, sv), from_y (w, mw, sw)),
+)
+
+pub either_by_way : (t : List ℕ) (X Y : Type 0) (vs ws : List (List (ℕ × ℕ))) → X ↔ HasWay vs t → Y ↔ HasWay ws t →
+    (f g : Bool) → is_free vs ≡ f → is_free ws ≡ g →
+    (X ⊎ Y) ↔ HasWay (if f || g then free_way else vs ++ ws) t
+either_by_way t X Y vs ws x y true g e i =
+    (λ h. free_has_way t, λ k. inl (x.1 (subst (λ u. HasWay u t) (sym (free_is vs e)) (free_has_way t))))
+either_by_way t X Y vs ws x y false true e i =
+    (λ h. free_has_way t, λ k. inr (y.1 (subst (λ u. HasWay u t) (sym (free_is ws i)) (free_has_way t))))
+either_by_way t X Y vs ws x y false false e i = (
+  ⊎_elim (λ k. let (v, m, s) = x.0 k in (v, mem_append_left v vs ws m, s)) (λ k. let (v, m, s) = y.0 k in (v, mem_append_right v vs ws m, s)),
+  λ (way, m, s). ⊎_elim (λ k. inl (x.1 (way, k, s))) (λ k. inr (y.1 (way, k, s))) (mem-append way vs ws m),
+)
+
+pub ways_decide : {labels : List Label} {t ls : List ℕ} → AreItsLeaves labels t ls → (n : Normal) →
+    MeetsNormal n (events_of labels t) ↔ HasWay (ways n (leaf_of_event labels ls)) t
+ways_decide {t = t} l always = (λ h. free_has_way t, λ h. tt)
+ways_decide l impossible = (λ h. absurd h, λ h. h.1)
+ways_decide l (must e) = must_by_way l e _ refl
+ways_decide l (never e) = never_by_way l e _ refl
+ways_decide l (before a b) = before_by_way l a b _ refl _ refl _ refl
+ways_decide l (not_before a b) = not_before_by_way l a b _ refl _ refl _ refl
+ways_decide {t = t} l (both x y) = both_by_way t _ _ _ _ (ways_decide l x) (ways_decide l y)
+ways_decide {t = t} l (either x y) = either_by_way t _ _ _ _ (ways_decide l x) (ways_decide l y) _ _ refl refl

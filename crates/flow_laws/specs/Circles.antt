@@ -4,7 +4,7 @@ use Rattle.flow_model.specs.Lists.{AreInOrder}
 use Rattle.flow_model.specs.Process.{Process}
 use Rattle.flow_model.specs.Trace.{Trace}
 use Rattle.flow_model.specs.Circle.{IsCircle}
-use Rattle.flow_laws.specs.Words.{IsOrdered}
+use Rattle.flow_laws.specs.WellFormed.{IsOrdered}
 
 abbrev pub CirclesExcludeTraces : Type 0
 CirclesExcludeTraces = (q : Process) (pairs : List (ℕ × ℕ)) → IsOrdered q pairs → (circle : List ℕ) → IsCircle q pairs circle →

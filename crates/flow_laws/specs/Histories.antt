@@ -7,7 +7,7 @@ use Rattle.flow_model.specs.Lists.{◌∈◌, Each, Begins, numbers_from}
 use Rattle.flow_model.specs.Facts.{Runs}
 use Rattle.flow_model.specs.Schema.{Schema, start_of, IsEventLeaf, IsGood}
 use Rattle.flow_model.specs.Run.{Claim, RunState, current_claims, current_leaves, MayAllFollow, CanTake, CanDoAside, IsLegal, IsStuck, state_of}
-use Rattle.flow_laws.specs.Words.{IsWellFormed, IsConsistent}
+use Rattle.flow_laws.specs.WellFormed.{IsWellFormed, IsConsistent}
 
 -- what the state of a legal history is
 pub record IsSound (w : Schema) (s : RunState) : Type 0 where

@@ -1,4 +1,4 @@
-pub mod Words
+pub mod WellFormed
 pub mod Resolutions
 pub mod ReadyRuns
 pub mod Orders

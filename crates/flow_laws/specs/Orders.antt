@@ -6,7 +6,7 @@ use Rattle.flow_model.specs.Schema.{Schema}
 use Rattle.flow_model.specs.Resolution.{ChoiceOption, OptionTrace, options}
 use Rattle.flow_model.specs.Ready.{IsReady, IsReadyRun, IsReadyRunAfter, DoneOr}
 use Rattle.flow_model.specs.Run.{RunState, MayFollow}
-use Rattle.flow_laws.specs.Words.{IsWellFormed, EachTwo}
+use Rattle.flow_laws.specs.WellFormed.{IsWellFormed, EachTwo}
 
 -- each may come next after the done leaves, and also after them and each other one
 pub record AreSideBySide (q : Process) (pairs : List (ℕ × ℕ)) (Done : ℕ → Type 0) (list : List ℕ) : Type 0 where

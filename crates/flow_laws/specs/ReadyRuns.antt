@@ -4,7 +4,7 @@ use Rattle.flow_model.specs.Lists.{AreInOrder, Begins}
 use Rattle.flow_model.specs.Process.{Process}
 use Rattle.flow_model.specs.Trace.{Trace}
 use Rattle.flow_model.specs.Ready.{IsReadyRun, IsCompleteRun}
-use Rattle.flow_laws.specs.Words.{IsOrdered}
+use Rattle.flow_laws.specs.WellFormed.{IsOrdered}
 
 abbrev pub CompleteRunsAreTraces : Type 0
 CompleteRunsAreTraces = (q : Process) (pairs : List (ℕ × ℕ)) → IsOrdered q pairs → (t : List ℕ) →

@@ -5,7 +5,7 @@ use Rattle.flow_model.specs.Process.{Process, Empty, Task, Sequence, Parallel, C
 use Rattle.flow_model.specs.Trace.{Blocks, Trace}
 use Rattle.flow_model.specs.Schema.{Schema}
 use Rattle.flow_model.specs.Resolution.{ChoiceOption, options, resolutions, resolution_count}
-use Rattle.flow_laws.specs.Words.{IsWellFormed, IsOrdered}
+use Rattle.flow_laws.specs.WellFormed.{IsWellFormed, IsOrdered}
 
 -- the second goal is the first with one side taken at each choice
 abbrev pub Resolves : Process → Process → Type 0

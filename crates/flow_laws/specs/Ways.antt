@@ -7,7 +7,7 @@ use Rattle.flow_model.specs.Constraint.{Constraint, Meets}
 use Rattle.flow_model.specs.Ways.{ways_of}
 use Rattle.flow_model.specs.Schema.{Schema, IsGood}
 use Rattle.flow_model.specs.Resolution.{ChoiceOption, options, OptionTrace}
-use Rattle.flow_laws.specs.Words.{IsWellFormed}
+use Rattle.flow_laws.specs.WellFormed.{IsWellFormed}
 
 -- on a list of distinct events with these leaves
 abbrev pub WaysDecideConstraints : Type 0

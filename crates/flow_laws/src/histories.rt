@@ -13,6 +13,7 @@ pub fn law_never_at_a_loss()
 {}
 
 /// A new epoch spares each claim in turn that may follow in every order with those spared before it, and no other.
+#[tactic(auto, using(crate::proofs::ClaimLemmas::answers_are_the_test, crate::proofs::ClaimLemmas::spare_is, crate::proofs::ClaimLemmas::spare_only))]
 pub fn law_new_epochs_spare()
     ensures just_these { JustTheseAreSpared }
     ensures current { JustTheSparedAreCurrent }

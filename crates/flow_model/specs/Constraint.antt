@@ -34,13 +34,14 @@ Meets (Not c) events = ¬ (Meets c events)
 Meets (And c d) events = Meets c events × Meets d events
 Meets (Or c d) events = Meets c events ⊎ Meets d events
 
--- one constraint for a list of them, joined from the left
+-- the constraint, and those of the list joined to it from the left
+abbrev pub conjoined : Constraint → List Constraint → Constraint
+conjoined c [] = c
+conjoined c (d ∷ ds) = conjoined (And c d) ds
+
+-- one constraint for a list of them
 abbrev pub all_of : List Constraint → Constraint
 all_of cs = conjoined Always cs
-  where
-    conjoined : Constraint → List Constraint → Constraint
-    conjoined c [] = c
-    conjoined c (d ∷ ds) = conjoined (And c d) ds
 
 -- if a happens and b happens, then a before b
 abbrev pub precedes : ℕ → ℕ → Constraint

@@ -1,7 +1,8 @@
--- Whether leaves may follow a journal in every order can be told: a workflow has few options, a goal few executions and a
--- list few orders, and all of them are gone through. Nothing is known of such an answer but what its type says.
+-- Whether leaves may follow a journal in every order, as a test. A reader needs `Decided`, `told` and, at the end,
+-- `can_all_follow`: nothing is known of the answer but what its type says. Between them stands why it can be told: a workflow
+-- has few options, a goal few executions and a list few orders, and all of them are gone through.
 use Rattle.std.specs.Prelude.{◌≡◌, ℕ, zero, suc, Bool, true, false, List, [], ◌∷◌, ◌++◌, length, ◌⊎◌}
-use Rattle.std.proofs.Common.{refl, sym, ap, ◌∙◌, subst, inl, inr}
+use Rattle.std.proofs.Common.{refl, sym, ap, ◌∙◌, subst, inl, inr, ⊎_elim}
 use Rattle.std.proofs.lemmas.Bool.{cases_eq}
 use mathlib.Core.List.{List-discrete}
 use native.Mathlib.Decide.{ℕ_discrete}
@@ -23,9 +24,9 @@ abbrev pub told : {P : Type 0} → Decided P → Bool
 told (inl p) = true
 told (inr n) = false
 
-decide_as : {P Q : Type 0} → (P → Q) → (Q → P) → Decided P → Decided Q
-decide_as to from (inl p) = inl (to p)
-decide_as to from (inr n) = inr (λ q. n (from q))
+decide_as : {P Q : Type 0} → Decided P → (P → Q) → (Q → P) → Decided Q
+decide_as (inl p) to from = inl (to p)
+decide_as (inr n) to from = inr (λ q. n (from q))
 
 pub decide_not : {P : Type 0} → Decided P → Decided (¬ P)
 decide_not (inl p) = inr (λ n. n p)
@@ -39,11 +40,7 @@ decide_both (inr n) q = inr (λ h. n h.0)
 pub decide_either : {P Q : Type 0} → Decided P → Decided Q → Decided (P ⊎ Q)
 decide_either (inl p) q = inl (inl p)
 decide_either (inr n) (inl q) = inl (inr q)
-decide_either {P} {Q} (inr n) (inr k) = inr neither
-  where
-    neither : ¬ (P ⊎ Q)
-    neither (inl p) = n p
-    neither (inr q) = k q
+decide_either (inr n) (inr k) = inr (⊎_elim n k)
 
 -- Numbers and lists
 
@@ -64,21 +61,15 @@ pub decide_before : (x y : ℕ) (list : List ℕ) → Decided (StandsBefore x y 
 decide_before x y [] = inr (λ h. h)
 decide_before x y (z ∷ list) = decide_either (decide_both (decide_eq x z) (decide_in y list)) (decide_before x y list)
 
-pub decide_each : {A : Type 0} (P : A → Type 0) → ((x : A) → Decided (P x)) → (list : List A) → Decided (Each P list)
+decide_each : {A : Type 0} (P : A → Type 0) → ((x : A) → Decided (P x)) → (list : List A) → Decided (Each P list)
 decide_each P d [] = inl tt
 decide_each P d (x ∷ list) = decide_both (d x) (decide_each P d list)
 
 pub decide_some : {A : Type 0} (P : A → Type 0) → ((x : A) → Decided (P x)) → (list : List A) → Decided ((x : A) × (x ∈ list) × P x)
 decide_some P d [] = inr (λ h. h.1)
-decide_some {A} P d (y ∷ list) = decide_as to from (decide_either (d y) (decide_some P d list))
-  where
-    to : P y ⊎ ((x : A) × (x ∈ list) × P x) → (x : A) × (x ∈ (y ∷ list)) × P x
-    to (inl p) = (y, inl refl, p)
-    to (inr (x, m, p)) = (x, inr m, p)
-
-    from : (x : A) × (x ∈ (y ∷ list)) × P x → P y ⊎ ((x : A) × (x ∈ list) × P x)
-    from (x, inl e, p) = inl (subst P e p)
-    from (x, inr m, p) = inr (x, m, p)
+decide_some P d (y ∷ list) = decide_as (decide_either (d y) (decide_some P d list))
+    (⊎_elim (λ p. (y, inl refl, p)) (λ (x, m, p). (x, inr m, p)))
+    (λ (x, m, p). ⊎_elim (λ e. inl (subst P e p)) (λ k. inr (x, k, p)) m)
 
 abbrev IsEmpty : {A : Type 0} → List A → Type 0
 IsEmpty [] = Unit {0}
@@ -92,26 +83,19 @@ abbrev but_first : {A : Type 0} → List A → List A
 but_first [] = []
 but_first (x ∷ list) = list
 
-some_is_not_none : {A : Type 0} (x : A) (list : List A) → ¬ (x ∷ list ≡ [])
-some_is_not_none x list e = subst IsEmpty (sym e) tt
-
 pub cons_same : {A : Type 0} (x y : A) (xs ys : List A) → x ∷ xs ≡ y ∷ ys → (x ≡ y) × (xs ≡ ys)
 cons_same x y xs ys e = (ap (first_or x) e, ap but_first e)
 
 pub not_empty : {A : Type 0} (front : List A) (x : A) (back : List A) → ¬ ([] ≡ front ++ x ∷ back)
-not_empty [] x back e = some_is_not_none x back (sym e)
-not_empty (y ∷ front) x back e = some_is_not_none y (front ++ x ∷ back) (sym e)
+not_empty [] x back e = subst IsEmpty e tt
+not_empty (y ∷ front) x back e = subst IsEmpty e tt
 
-pub decide_begins : (list front : List ℕ) → Decided (Begins list front)
+decide_begins : (list front : List ℕ) → Decided (Begins list front)
 decide_begins list [] = inl (list, refl)
-decide_begins [] (x ∷ front) = inr (λ (rest, e). some_is_not_none x (front ++ rest) (sym e))
-decide_begins (y ∷ list) (x ∷ front) = decide_as to from (decide_both (decide_eq y x) (decide_begins list front))
-  where
-    to : (y ≡ x) × Begins list front → Begins (y ∷ list) (x ∷ front)
-    to (e, (rest, h)) = (rest, ap (λ l. y ∷ l) h ∙ ap (λ n. n ∷ (front ++ rest)) e)
-
-    from : Begins (y ∷ list) (x ∷ front) → (y ≡ x) × Begins list front
-    from (rest, h) = let (e, k) = cons_same y x list (front ++ rest) h in (e, (rest, k))
+decide_begins [] (x ∷ front) = inr (λ (rest, e). not_empty [] x (front ++ rest) e)
+decide_begins (y ∷ list) (x ∷ front) = decide_as (decide_both (decide_eq y x) (decide_begins list front))
+    (λ (e, (rest, h)). (rest, λ i. e i ∷ h i))
+    (λ (rest, h). let (e, k) = cons_same y x list (front ++ rest) h in (e, (rest, k)))
 
 -- Orders of a list
 
@@ -122,10 +106,10 @@ EachCut {A} list P = (front back : List A) (x : A) → list ≡ front ++ x ∷ b
 decide_cuts : {A : Type 0} (members : List A) (P : List A → List A → A → Type 0) →
     EachCut members (λ front back x. Decided (P front back x)) → Decided (EachCut members P)
 decide_cuts [] P d = inl (λ front back x e. absurd (not_empty front x back e))
-decide_cuts {A} (m ∷ members) P d =
-    decide_as to from
+decide_cuts {A} (m ∷ members) P d = decide_as
     (decide_both (d [] members m refl)
     (decide_cuts members (λ front back x. P (m ∷ front) back x) (λ front back x e. d (m ∷ front) back x (ap (λ l. m ∷ l) e))))
+    to (λ f. (f [] members m refl, λ front back x e. f (m ∷ front) back x (ap (λ l. m ∷ l) e)))
   where
     to : P [] members m × EachCut members (λ front back x. P (m ∷ front) back x) → EachCut (m ∷ members) P
     to (h, k) [] back x e =
@@ -133,9 +117,6 @@ decide_cuts {A} (m ∷ members) P d =
     to (h, k) (y ∷ front) back x e =
         let (same, rest) = cons_same m y members (front ++ x ∷ back) e in
         subst (λ z. P (z ∷ front) back x) same (k front back x rest)
-
-    from : EachCut (m ∷ members) P → P [] members m × EachCut members (λ front back x. P (m ∷ front) back x)
-    from f = (f [] members m refl, λ front back x e. f (m ∷ front) back x (ap (λ l. m ∷ l) e))
 
 abbrev one_less : ℕ → ℕ
 one_less zero = zero
@@ -158,21 +139,18 @@ ByFirst {A} P front back x = (order : List A) → IsOrderOf order (front ++ back
 
 decide_orders : {A : Type 0} (count : ℕ) (members : List A) (P : List A → Type 0) → length members ≡ count →
     ((order : List A) → Decided (P order)) → Decided ((order : List A) → IsOrderOf order members → P order)
-decide_orders zero [] P e d = decide_as (λ p order h. subst P (sym (order_of_none order h)) p) (λ f. f [] refl) (d [])
+decide_orders zero [] P e d = decide_as (d []) (λ p order h. subst P (sym (order_of_none order h)) p) (λ f. f [] refl)
 decide_orders zero (m ∷ members) P e d = absurd (subst IsNone (sym e) tt)
 decide_orders (suc count) [] P e d = absurd (subst IsNone e tt)
-decide_orders {A} (suc count) (m ∷ members) P e d =
-    decide_as to from
+decide_orders {A} (suc count) (m ∷ members) P e d = decide_as
     (decide_cuts (m ∷ members) (ByFirst P)
     (λ front back x cut. decide_orders count (front ++ back) (λ order. P (x ∷ order))
     (ap one_less (sym (length-cut front back x) ∙ (sym (ap length cut) ∙ e))) (λ order. d (x ∷ order))))
+    to (λ f front back x cut order h. f (x ∷ order) (front, back, cut, h))
   where
     to : EachCut (m ∷ members) (ByFirst P) → (order : List A) → IsOrderOf order (m ∷ members) → P order
-    to k [] h = absurd (some_is_not_none m members h)
+    to k [] h = absurd (not_empty [] m members (sym h))
     to k (x ∷ order) (front, back, cut, h) = k front back x cut order h
-
-    from : ((order : List A) → IsOrderOf order (m ∷ members) → P order) → EachCut (m ∷ members) (ByFirst P)
-    from f front back x cut order h = f (x ∷ order) (front, back, cut, h)
 
 -- Executions
 
@@ -191,60 +169,46 @@ shuffled_with_none P (from_right {x} s) p = shuffled_with_none (λ c. P (x ∷ c
 decide_after : {A : Type 0} (x : A) (a : List A) →
     ((b : List A) (P : List A → Type 0) → ((c : List A) → Decided (P c)) → Decided (SomeShuffle a b P)) →
     (b : List A) (P : List A → Type 0) → ((c : List A) → Decided (P c)) → Decided (SomeShuffle (x ∷ a) b P)
-decide_after {A} x a left [] P d = decide_as to from (left [] (λ c. P (x ∷ c)) (λ c. d (x ∷ c)))
+decide_after {A} x a left [] P d = decide_as (left [] (λ c. P (x ∷ c)) (λ c. d (x ∷ c))) (λ (c, s, p). (x ∷ c, from_left s, p)) from
   where
-    to : SomeShuffle a [] (λ c. P (x ∷ c)) → SomeShuffle (x ∷ a) [] P
-    to (c, s, p) = (x ∷ c, from_left s, p)
-
     from : SomeShuffle (x ∷ a) [] P → SomeShuffle a [] (λ c. P (x ∷ c))
     from (all, from_left {c = c} s, p) = (c, s, p)
-decide_after {A} x a left (y ∷ b) P d =
-    decide_as to from
+decide_after {A} x a left (y ∷ b) P d = decide_as
     (decide_either (left (y ∷ b) (λ c. P (x ∷ c)) (λ c. d (x ∷ c))) (decide_after x a left b (λ c. P (y ∷ c)) (λ c. d (y ∷ c))))
+    (⊎_elim (λ (c, s, p). (x ∷ c, from_left s, p)) (λ (c, s, p). (y ∷ c, from_right s, p))) from
   where
-    to : SomeShuffle a (y ∷ b) (λ c. P (x ∷ c)) ⊎ SomeShuffle (x ∷ a) b (λ c. P (y ∷ c)) → SomeShuffle (x ∷ a) (y ∷ b) P
-    to (inl (c, s, p)) = (x ∷ c, from_left s, p)
-    to (inr (c, s, p)) = (y ∷ c, from_right s, p)
-
     from : SomeShuffle (x ∷ a) (y ∷ b) P → SomeShuffle a (y ∷ b) (λ c. P (x ∷ c)) ⊎ SomeShuffle (x ∷ a) b (λ c. P (y ∷ c))
     from (all, from_left {c = c} s, p) = inl (c, s, p)
     from (all, from_right {c = c} s, p) = inr (c, s, p)
 
 decide_shuffles : {A : Type 0} (a b : List A) (P : List A → Type 0) → ((c : List A) → Decided (P c)) → Decided (SomeShuffle a b P)
-decide_shuffles [] b P d = decide_as (λ p. (b, shuffle_right b, p)) (λ (c, s, p). shuffled_with_none P s p) (d b)
+decide_shuffles [] b P d = decide_as (d b) (λ p. (b, shuffle_right b, p)) (λ (c, s, p). shuffled_with_none P s p)
 decide_shuffles (x ∷ a) b P d = decide_after x a (decide_shuffles a) b P d
 
 abbrev SomeBlocks : Process → (List (List ℕ) → Type 0) → Type 0
 SomeBlocks g P = (blocks : List (List ℕ)) × Blocks g blocks × P blocks
 
 decide_blocks : (g : Process) (P : List (List ℕ) → Type 0) → ((blocks : List (List ℕ)) → Decided (P blocks)) → Decided (SomeBlocks g P)
-decide_blocks Empty P d = decide_as (λ p. ([], refl, p)) (λ (blocks, e, p). subst P e p) (d [])
-decide_blocks (Task n) P d = decide_as (λ p. ((n ∷ []) ∷ [], refl, p)) (λ (blocks, e, p). subst P e p) (d ((n ∷ []) ∷ []))
-decide_blocks (Sequence a b) P d =
-    decide_as (λ (x, h, (y, k, p)). (x ++ y, (x, y, h, k, refl), p)) (λ (blocks, (x, y, h, k, e), p). (x, h, (y, k, subst P e p)))
+decide_blocks Empty P d = decide_as (d []) (λ p. ([], refl, p)) (λ (blocks, e, p). subst P e p)
+decide_blocks (Task n) P d = decide_as (d ((n ∷ []) ∷ [])) (λ p. ((n ∷ []) ∷ [], refl, p)) (λ (blocks, e, p). subst P e p)
+decide_blocks (Sequence a b) P d = decide_as
     (decide_blocks a (λ x. SomeBlocks b (λ y. P (x ++ y))) (λ x. decide_blocks b (λ y. P (x ++ y)) (λ y. d (x ++ y))))
-decide_blocks (Parallel a b) P d =
-    decide_as (λ (x, h, (y, k, (blocks, s, p))). (blocks, (x, y, h, k, s), p)) (λ (blocks, (x, y, h, k, s), p). (x, h, (y, k, (blocks, s, p))))
+    (λ (x, h, (y, k, p)). (x ++ y, (x, y, h, k, refl), p)) (λ (blocks, (x, y, h, k, e), p). (x, h, (y, k, subst P e p)))
+decide_blocks (Parallel a b) P d = decide_as
     (decide_blocks a (λ x. SomeBlocks b (λ y. SomeShuffle x y P)) (λ x. decide_blocks b (λ y. SomeShuffle x y P) (λ y. decide_shuffles x y P d)))
-decide_blocks (Choice a b) P d = decide_as to from (decide_either (decide_blocks a P d) (decide_blocks b P d))
-  where
-    to : SomeBlocks a P ⊎ SomeBlocks b P → SomeBlocks (Choice a b) P
-    to (inl (blocks, h, p)) = (blocks, inl h, p)
-    to (inr (blocks, h, p)) = (blocks, inr h, p)
+    (λ (x, h, (y, k, (blocks, s, p))). (blocks, (x, y, h, k, s), p)) (λ (blocks, (x, y, h, k, s), p). (x, h, (y, k, (blocks, s, p))))
+decide_blocks (Choice a b) P d = decide_as (decide_either (decide_blocks a P d) (decide_blocks b P d))
+    (⊎_elim (λ (blocks, h, p). (blocks, inl h, p)) (λ (blocks, h, p). (blocks, inr h, p)))
+    (λ (blocks, h, p). ⊎_elim (λ k. inl (blocks, k, p)) (λ k. inr (blocks, k, p)) h)
+decide_blocks (Isolated a) P d = decide_as (decide_blocks a (λ x. P (as_one x)) (λ x. d (as_one x)))
+    (λ (x, h, p). (as_one x, (x, h, refl), p)) (λ (blocks, (x, h, e), p). (x, h, subst P e p))
 
-    from : SomeBlocks (Choice a b) P → SomeBlocks a P ⊎ SomeBlocks b P
-    from (blocks, inl h, p) = inl (blocks, h, p)
-    from (blocks, inr h, p) = inr (blocks, h, p)
-decide_blocks (Isolated a) P d =
-    decide_as (λ (x, h, p). (as_one x, (x, h, refl), p)) (λ (blocks, (x, h, e), p). (x, h, subst P e p))
-    (decide_blocks a (λ x. P (as_one x)) (λ x. d (as_one x)))
-
-pub decide_trace : (g : Process) (t : List ℕ) → Decided (Trace g t)
+decide_trace : (g : Process) (t : List ℕ) → Decided (Trace g t)
 decide_trace g t = decide_blocks g (λ blocks. t ≡ joined blocks) (λ blocks. decide_list_eq t (joined blocks))
 
 -- Constraints
 
-pub decide_in_order : (order events : List ℕ) → Decided (HappenInOrder order events)
+decide_in_order : (order events : List ℕ) → Decided (HappenInOrder order events)
 decide_in_order [] events = inl tt
 decide_in_order (a ∷ []) events = decide_in a events
 decide_in_order (a ∷ b ∷ more) events = decide_both (decide_before a b events) (decide_in_order (b ∷ more) events)
@@ -259,31 +223,28 @@ decide_meets (Not c) events = decide_not (decide_meets c events)
 decide_meets (And c d) events = decide_both (decide_meets c events) (decide_meets d events)
 decide_meets (Or c d) events = decide_either (decide_meets c events) (decide_meets d events)
 
-pub decide_good : (w : Schema) (t : List ℕ) → Decided (IsGood w t)
+decide_good : (w : Schema) (t : List ℕ) → Decided (IsGood w t)
 decide_good w t = decide_both (decide_trace w.goal t) (decide_each (λ rule. Meets rule (events_of w.labels t)) (λ rule. decide_meets rule (events_of w.labels t)) w.rules)
 
 -- What may follow
 
 decide_free : (w : Schema) (s : RunState) (t : List ℕ) → Decided (IsFree w s t)
-decide_free w s t =
-    decide_as (λ (good, (begins, none)). (good, begins, none)) (λ (good, begins, none). (good, (begins, none)))
+decide_free w s t = decide_as
     (decide_both (decide_good w t)
     (decide_both (decide_begins t s.journal) (decide_each (λ ban. ¬ (ban.1 ∈ t)) (λ ban. decide_not (decide_in ban.1 t)) s.bans)))
+    (λ (good, (begins, none)). (good, begins, none)) (λ (good, begins, none). (good, (begins, none)))
 
 -- what besides a trace of the option's resolution must be
 abbrev ContinuesJournal : Schema → RunState → ChoiceOption → List ℕ → List ℕ → Type 0
 ContinuesJournal w s o next t = AreInOrder o.order t × (IsFree w s t × Begins t (s.journal ++ next))
 
-decide_continues : (w : Schema) (s : RunState) (o : ChoiceOption) (next t : List ℕ) → Decided (ContinuesJournal w s o next t)
-decide_continues w s o next t =
+decide_follow : (w : Schema) (s : RunState) (o : ChoiceOption) (next : List ℕ) → Decided (MayFollow w s o next)
+decide_follow w s o next = decide_as
+    (decide_blocks o.resolution (λ blocks. ContinuesJournal w s o next (joined blocks)) (λ blocks. let t = joined blocks in
     decide_both (decide_each (λ pair. StandsBefore pair.0 pair.1 t) (λ pair. decide_before pair.0 pair.1 t) o.order)
-    (decide_both (decide_free w s t) (decide_begins t (s.journal ++ next)))
-
-pub decide_follow : (w : Schema) (s : RunState) (o : ChoiceOption) (next : List ℕ) → Decided (MayFollow w s o next)
-decide_follow w s o next =
-    decide_as (λ (blocks, h, (order, (free, begins))). (joined blocks, ((blocks, h, refl), order), free, begins))
+    (decide_both (decide_free w s t) (decide_begins t (s.journal ++ next)))))
+    (λ (blocks, h, (order, (free, begins))). (joined blocks, ((blocks, h, refl), order), free, begins))
     (λ (t, ((blocks, h, e), order), free, begins). (blocks, h, subst (ContinuesJournal w s o next) e (order, (free, begins))))
-    (decide_blocks o.resolution (λ blocks. ContinuesJournal w s o next (joined blocks)) (λ blocks. decide_continues w s o next (joined blocks)))
 
 -- a state of that journal and those bans: nothing else counts
 abbrev at : List ℕ → List (ℕ × ℕ) → RunState

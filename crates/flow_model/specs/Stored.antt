@@ -5,14 +5,11 @@ use Rattle.std.proofs.Common.{refl, sym, ◌∙◌, ap}
 use Rattle.std.specs.Coded.{Coded, code_by, coded×, coded_ℕ, coded_list}
 use base.Stored.{Gv, gnil, gnum, gcons}
 use Rattle.flow_model.specs.declared.labels.Label.{Label}
-use Rattle.flow_model.specs.declared.labels.Note.{Note}
 use Rattle.flow_model.specs.contracts.labels.Label as label
-use Rattle.flow_model.specs.contracts.labels.Note as note
 use Rattle.flow_model.specs.declared.history.Entry.{Entry}
 use Rattle.flow_model.specs.contracts.history.Entry as entry
 use Rattle.flow_model.specs.Process.{Process, Empty, Task, Sequence, Parallel, Choice, Isolated}
 use Rattle.flow_model.specs.Constraint.{Constraint, Always, Impossible, Must, Never, Order, Not, And, Or}
-use Rattle.flow_model.specs.Schema.{Schema}
 use Rattle.flow_model.specs.Resolution.{ChoiceOption}
 
 abbrev process_value : Process → Gv
@@ -102,10 +99,3 @@ labels_code = coded_list label.the_row.coded
 
 abbrev pub history_code : Coded (List Entry)
 history_code = coded_list entry.the_row.coded
-
-abbrev pub schema_code : Coded Schema
-schema_code = code_by (Process × (List Label × (List Constraint × (List ℕ × List Note))))
-    (coded× process_code (coded× labels_code (coded× (coded_list constraint_code) (coded× (coded_list coded_ℕ) (coded_list note.the_row.coded)))))
-    (λ w. (w.goal, (w.labels, (w.rules, (w.facts, w.notes)))))
-    (λ p. record { goal = p.0; labels = p.1.0; rules = p.1.1.0; facts = p.1.1.1.0; notes = p.1.1.1.1 })
-    (λ _. refl)

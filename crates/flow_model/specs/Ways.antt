@@ -2,7 +2,7 @@
 use Rattle.std.specs.Prelude.{ℕ, Bool, true, false, ◌==◌, ◌||◌, if◌then◌else◌, List, [], ◌∷◌, ◌++◌, Option, Some, None}
 use Rattle.std.specs.List.{find}
 use Rattle.flow_model.specs.declared.labels.Label.{Label}
-use Rattle.flow_model.specs.Facts.{event_at}
+use Rattle.flow_model.specs.Facts.{event_at, is_event}
 use Rattle.flow_model.specs.Lists.{each_with_each}
 use Rattle.flow_model.specs.Constraint.{Constraint, Always, Impossible, Must, Never, Order, Not, And, Or}
 
@@ -53,11 +53,7 @@ normal_form (Or c d) false = both (normal_form c false) (normal_form d false)
 
 -- the leaf of an event among these leaves
 abbrev pub leaf_of_event : List Label → List ℕ → ℕ → Option ℕ
-leaf_of_event labels ls e = find (λ n. is_event (event_at labels n)) ls
-  where
-    is_event : Option ℕ → Bool
-    is_event None = false
-    is_event (Some x) = x == e
+leaf_of_event labels ls e = find (λ n. is_event e (event_at labels n)) ls
 
 -- the one way that asks for nothing
 abbrev pub free_way : List (List (ℕ × ℕ))

@@ -6,7 +6,7 @@ use Rattle.leaf_rows.specs.declared.leaf_set.LeafSet.{LeafSet}
 use Rattle.flow_model.specs.Lists.{◌∈◌, Each, AreDistinct}
 use Rattle.flow_model.specs.Process.{leaves, IsChoiceFree}
 use Rattle.flow_model.specs.Ready.{DirectlyBefore, IsReady}
-use Rattle.flow_laws.specs.Words.{AreOfLeaves, IsOrdered}
+use Rattle.flow_laws.specs.WellFormed.{AreOfLeaves, IsOrdered}
 use Rattle.flow_laws.proofs.Members.{each_member, each_from_members}
 use Rattle.flow_laws.proofs.ReadyRuns.{direct_second}
 use Rattle.flow_plan.specs.declared.part_row.PartRow.{PartRow}

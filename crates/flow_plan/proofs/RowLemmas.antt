@@ -8,7 +8,7 @@ use Rattle.leaf_rows.specs.declared.leaf_set.LeafSet.{LeafSet}
 use Rattle.flow_model.specs.Lists.{◌∈◌, Each, AreDistinct}
 use Rattle.flow_model.specs.Process.{Process, Sequence, leaves}
 use Rattle.flow_model.specs.Ready.{InSequence, DirectlyBefore}
-use Rattle.flow_laws.specs.Words.{AreOfLeaves}
+use Rattle.flow_laws.specs.WellFormed.{AreOfLeaves}
 use Rattle.flow_laws.proofs.Members.{mem_append_left, mem_append_right, mem-append, each_parts, each_member, distinct_parts}
 use Rattle.flow_laws.proofs.GoalParts.{sequence_second}
 use Rattle.flow_plan.specs.declared.token.OrderToken.{OrderToken}

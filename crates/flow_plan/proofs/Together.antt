@@ -7,7 +7,7 @@ use Rattle.leaf_rows.specs.declared.leaf_set.LeafSet.{LeafSet}
 use Rattle.flow_model.specs.Lists.{◌∈◌, Each, AreDistinct}
 use Rattle.flow_model.specs.Process.{leaves}
 use Rattle.flow_model.specs.Ready.{DoneOr}
-use Rattle.flow_laws.specs.Words.{EachTwo}
+use Rattle.flow_laws.specs.WellFormed.{EachTwo}
 use Rattle.flow_laws.proofs.OrdersByTwo.{pairs_suffice_for_orders}
 use Rattle.flow_laws.proofs.ReadyRuns.{same_ready}
 use Rattle.flow_laws.proofs.Members.{each_member, each_from_members, distinct_parts, distinct-append}

@@ -3,7 +3,7 @@ ghost use Rattle.std.specs.List.Sorted.{IsStrictlyIncreasing};
 ghost use Rattle.flow_model.specs.Lists.{◌∈◌, Each, AreDistinct};
 ghost use Rattle.flow_model.specs.Process;
 ghost use Rattle.flow_model.specs.Ready.{DirectlyBefore};
-ghost use Rattle.flow_laws.specs.Words.{AreOfLeaves, IsOrdered, EachTwo};
+ghost use Rattle.flow_laws.specs.WellFormed.{AreOfLeaves, IsOrdered, EachTwo};
 ghost use Rattle.flow_goal.specs.Goal.{process_of};
 ghost use Rattle.flow_goal.specs.Written.{nodes_of};
 ghost use Rattle.leaf_rows.specs.Leaves.{has_leaf};

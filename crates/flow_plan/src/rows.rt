@@ -1,7 +1,7 @@
 ghost use Rattle.std.specs.Prelude.{◌≡◌, ◌<◌, length, All, IfOk};
 ghost use Rattle.flow_model.specs.Lists.{Each};
 ghost use Rattle.flow_model.specs.Ready.{InSequence, DirectlyBefore};
-ghost use Rattle.flow_laws.specs.Words.{AreOfLeaves};
+ghost use Rattle.flow_laws.specs.WellFormed.{AreOfLeaves};
 ghost use Rattle.flow_plan.specs.declared.token.OrderToken.{OrderToken};
 ghost use Rattle.flow_plan.specs.Planned.{pairs_of};
 ghost use Rattle.flow_plan.specs.Rows.{AreRowsOf};

@@ -12,7 +12,7 @@ use Rattle.flow_model.specs.Schema.{Schema}
 use Rattle.flow_model.specs.Trace.{Trace}
 use Rattle.flow_model.specs.Verdict.{AreJust}
 use Rattle.flow_laws.specs.Histories.{IsSound}
-use Rattle.flow_laws.specs.Words.{IsWellFormed}
+use Rattle.flow_laws.specs.WellFormed.{IsWellFormed}
 use Rattle.flow_laws.proofs.Members.{mem_append_left}
 use Rattle.flow_laws.proofs.MadeLists.{same_order, numbers_from_below}
 use Rattle.flow_laws.proofs.TraceLeaves.{leaf_of_trace}

@@ -10,12 +10,10 @@ use Rattle.flow_laws.specs.Orders.{IsAlive}
 use Rattle.flow_laws.proofs.Members.{each_member, each_to, each_from_members}
 use Rattle.flow_laws.proofs.MadeLists.{order_member, same_order, order_with_last, order_of_none}
 use Rattle.flow_laws.proofs.TraceLeaves.{leaf_of_trace, leaf_in_trace}
-use Rattle.flow_laws.proofs.OptionsLemmas.{option_is_ordered}
-use Rattle.flow_laws.proofs.GoodTraces.{option_of_good, option_trace_is_good}
-use Rattle.flow_laws.proofs.OrdersByTwo.{each_two_order, side_by_side_of, orders_ready}
+use Rattle.flow_laws.proofs.OptionsLemmas.{option_is_ordered, option_of_good, option_trace_is_good}
+use Rattle.flow_laws.proofs.OrdersByTwo.{each_two_order, side_by_side_of, orders_ready, alive_of_follow, follow_of_alive}
 use Rattle.flow_laws.proofs.ReadyRuns.{same_ready, same_run, complete_runs_are_traces, fronts_are_ready}
 use Rattle.flow_laws.proofs.CircleOrTrace.{ready_runs_extend}
-use Rattle.flow_laws.proofs.FollowingLemmas.{alive_of_follow, follow_of_alive}
 use Rattle.flow_plan.specs.Planned.{Planned, pairs_of}
 use Rattle.flow_plan.specs.Progress.{IsDone}
 use Rattle.flow_plan.specs.Orders.{MayComeNext as MayComeNextIn, MayFollowInEveryOrder}

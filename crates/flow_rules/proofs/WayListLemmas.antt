@@ -3,7 +3,7 @@ use Rattle.std.proofs.Common.{◌≡◌, ℕ, zero, suc, ◌+◌, ◌<◌, Bool,
 use Rattle.std.proofs.lemmas.List.{take_more, map-append}
 use Rattle.flow_model.specs.Lists.{each_with_each, joined}
 use Rattle.flow_model.specs.Ways.{free_way, is_free, ways}
-pub use Rattle.flow_laws.proofs.WaysDecide.{free_is}
+pub use Rattle.flow_laws.proofs.WaysLemmas.{free_is}
 use Rattle.flow_rules.specs.declared.connective.Connective.{Connective}
 use Rattle.flow_rules.specs.declared.connective.Connective.TheVariants.{And, Or}
 use Rattle.flow_rules.specs.declared.normal.Nnf.{Nnf}

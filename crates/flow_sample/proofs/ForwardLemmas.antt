@@ -7,7 +7,7 @@ use Rattle.flow_model.specs.Lists.{◌∈◌, Each, AreInOrder, StandsBefore, jo
 use Rattle.flow_model.specs.Process.{Process, Empty, Task, Sequence, Parallel, Choice, Isolated, leaves, IsChoiceFree}
 use Rattle.flow_model.specs.Resolution.{OptionTrace}
 use Rattle.flow_model.specs.Trace.{as_one, Trace}
-use Rattle.flow_laws.specs.Words.{AreOfLeaves, IsOrdered}
+use Rattle.flow_laws.specs.WellFormed.{AreOfLeaves, IsOrdered}
 use Rattle.flow_laws.proofs.Shuffles.{shuffle-append}
 use Rattle.flow_laws.proofs.Members.{before_or_after}
 use Rattle.flow_laws.proofs.MadeLists.{joined-append}

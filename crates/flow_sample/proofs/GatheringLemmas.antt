@@ -6,7 +6,7 @@ use Rattle.flow_plan.specs.Stacks.{WithTop}
 use Rattle.flow_sample.specs.Arranged.{AddsOneOf}
 use Rattle.flow_model.specs.Process.{Process, Empty, Task, Sequence, Parallel, Choice, Isolated, leaves, IsChoiceFree}
 use Rattle.flow_model.specs.Circle.{items_of}
-use Rattle.flow_laws.specs.Words.{IsOrdered}
+use Rattle.flow_laws.specs.WellFormed.{IsOrdered}
 use Rattle.flow_goal.specs.declared.node.Node.{Node}
 use Rattle.flow_goal.specs.declared.node.Node.TheVariants.{Leaf, Serial, Split, Join, Close}
 use Rattle.flow_goal.specs.Written.{nodes_of}

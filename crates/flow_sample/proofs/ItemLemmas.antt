@@ -5,7 +5,7 @@ use Rattle.flow_model.specs.Lists.{◌∈◌, Each, AreDistinct, joined}
 use Rattle.flow_model.specs.Process.{Process, leaves}
 use Rattle.flow_model.specs.Ready.{DirectlyBefore}
 use Rattle.flow_model.specs.Circle.{items_of, ItemBefore, LeadsBackTo, IsRing, least_of}
-use Rattle.flow_laws.specs.Words.{IsOrdered}
+use Rattle.flow_laws.specs.WellFormed.{IsOrdered}
 use Rattle.flow_laws.proofs.Members.{distinct_apart, distinct_right}
 use Rattle.flow_laws.proofs.MadeLists.{mem_joined}
 use Rattle.flow_laws.proofs.GoalParts.{regions, region_distinct, item_has, items_apart, joined_items}

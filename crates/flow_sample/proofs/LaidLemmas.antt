@@ -6,12 +6,12 @@ use Rattle.flow_model.specs.Process.{Process, leaves}
 use Rattle.flow_model.specs.Trace.{Trace}
 use Rattle.flow_model.specs.Ready.{DirectlyBefore, isolated_parts}
 use Rattle.flow_model.specs.Circle.{items_of}
-use Rattle.flow_laws.specs.Words.{IsOrdered}
+use Rattle.flow_laws.specs.WellFormed.{IsOrdered}
 use Rattle.flow_laws.proofs.Members.{distinct-append, before_across, before_right, before_or_after, not_both_ways, decide_eq, before_members, each_from_members}
 use Rattle.flow_laws.proofs.MadeLists.{mem_joined, list_having, mem-map, of_map}
 use Rattle.flow_laws.proofs.Orderings.{trace_of_ordering}
 use Rattle.flow_laws.proofs.ReadyRuns.{direct_first, direct_second, arrangement_of}
-use Rattle.flow_laws.proofs.CircleExcludes.{circle_excludes}
+use Rattle.flow_laws.proofs.CircleOrTrace.{circle_excludes}
 use Rattle.flow_laws.proofs.GoalParts.{regions, item_within, item_having, part_or_region}
 use Rattle.flow_sample.specs.declared.item.Item.{Item}
 use Rattle.flow_sample.specs.Rows.{run_in, IsIn, IsOneOf}

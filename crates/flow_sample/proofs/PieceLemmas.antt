@@ -6,7 +6,7 @@ use Rattle.flow_model.specs.Lists.{◌∈◌, joined}
 use Rattle.flow_model.specs.Process.{Process, Sequence, Parallel, Isolated, leaves}
 use Rattle.flow_model.specs.Ready.{DirectlyBefore, isolated_parts}
 use Rattle.flow_model.specs.Circle.{items_of, item_of}
-use Rattle.flow_laws.specs.Words.{IsOrdered}
+use Rattle.flow_laws.specs.WellFormed.{IsOrdered}
 use Rattle.flow_laws.proofs.ReadyRuns.{direct_other}
 use Rattle.flow_laws.proofs.GoalParts.{joined_items}
 use Rattle.flow_sample.specs.declared.item.Item.{Item}

@@ -10,13 +10,12 @@ use Rattle.flow_model.specs.Schema.{Schema, start_of, IsGood}
 use Rattle.flow_model.specs.Resolution.{ChoiceOption, options}
 use Rattle.flow_model.specs.Run.{RunState, first_state}
 use Rattle.flow_model.specs.Verdict.{IsPossible}
-use Rattle.flow_laws.specs.Words.{IsWellFormed, IsConsistent}
+use Rattle.flow_laws.specs.WellFormed.{IsWellFormed, IsConsistent}
 use Rattle.flow_laws.proofs.Members.{mem_append_left, mem_append_right, each_member, each_from_members}
 use Rattle.flow_laws.proofs.MadeLists.{numbers_from_below, begins_front}
-use Rattle.flow_laws.proofs.RunLemmas.{runs-append, runs_front}
+use Rattle.flow_laws.proofs.SoundStates.{runs-append, runs_front}
 use Rattle.flow_laws.proofs.TraceLeaves.{leaf_of_trace, distinct_trace}
-use Rattle.flow_laws.proofs.OptionsLemmas.{option_is_ordered, distinct_leaves}
-use Rattle.flow_laws.proofs.GoodTraces.{option_of_good, option_trace_is_good}
+use Rattle.flow_laws.proofs.OptionsLemmas.{option_is_ordered, distinct_leaves, option_of_good, option_trace_is_good}
 use Rattle.flow_laws.proofs.ReadyRuns.{fronts_are_ready}
 use Rattle.flow_laws.proofs.CircleOrTrace.{ready_runs_extend}
 use Rattle.flow_sample.specs.Excised.{HasExecution}

@@ -4,7 +4,7 @@ use Rattle.flow_model.specs.Lists.{◌∈◌, Each}
 use Rattle.flow_model.specs.Resolution.{ChoiceOption, options}
 use Rattle.flow_model.specs.Schema.{Schema, IsGood}
 use Rattle.flow_model.specs.Verdict.{IsPossible}
-use Rattle.flow_laws.specs.Words.{IsWellFormed}
+use Rattle.flow_laws.specs.WellFormed.{IsWellFormed}
 use Rattle.flow_workflow.specs.Definition.{Definition, schema_of}
 use Rattle.flow_plan.specs.Progress.{IsDone, bound_of}
 use Rattle.flow_plan.specs.declared.progress.Progress.{Progress}

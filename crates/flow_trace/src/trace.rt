@@ -1,7 +1,7 @@
 ghost use Rattle.std.specs.Prelude.{◌≡◌, ◌+◌, ◌<◌, ◌↔◌, [], IfOk, IsTrue, length, take};
 ghost use Rattle.std.specs.Bool.{OnTrue};
 ghost use Rattle.flow_model.specs.Verdict.{IsPossible};
-ghost use Rattle.flow_laws.specs.Words.{IsConsistent};
+ghost use Rattle.flow_laws.specs.WellFormed.{IsConsistent};
 ghost use Rattle.flow_workflow.specs.Definition.{schema_of};
 ghost use Rattle.flow_excise.specs.Compilation.{IsCompiled, options_of};
 ghost use Rattle.flow_trace.specs.declared.checked.Checked.{Checked};

@@ -3,8 +3,8 @@ use Rattle.std.proofs.Common.{◌≡◌, ◌≢◌, ℕ, List, [], ◌∷◌, ge
 use Rattle.flow_model.specs.Lists.{◌∈◌}
 use Rattle.flow_model.specs.Resolution.{ChoiceOption, OptionTrace, options}
 use Rattle.flow_model.specs.Schema.{Schema, IsGood}
-use Rattle.flow_laws.specs.Words.{IsWellFormed}
-use Rattle.flow_laws.proofs.GoodTraces.{option_trace_is_good}
+use Rattle.flow_laws.specs.WellFormed.{IsWellFormed}
+use Rattle.flow_laws.proofs.OptionsLemmas.{option_trace_is_good}
 use Rattle.flow_plan.specs.Sampled.{Sampled}
 use Rattle.flow_sample.specs.Plans.{option_of}
 use Rattle.flow_excise.specs.Compilation.{Compilation, IsCompiled, options_of}

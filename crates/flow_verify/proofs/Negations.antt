@@ -4,10 +4,10 @@ use Rattle.std.proofs.lemmas.List.{map-append}
 use Rattle.flow_model.specs.Facts.{events_of}
 use Rattle.flow_model.specs.Constraint.{Constraint, Not, Meets}
 use Rattle.flow_model.specs.Schema.{Schema, IsGood}
-use Rattle.flow_laws.specs.Words.{IsConsistent}
+use Rattle.flow_laws.specs.WellFormed.{IsConsistent}
 use Rattle.flow_laws.proofs.Members.{each-append, each_parts}
 use Rattle.flow_model.specs.Decided.{decide_meets}
-use Rattle.flow_laws.proofs.NormalForms.{not_not}
+use Rattle.flow_laws.proofs.WaysLemmas.{not_not}
 use Rattle.flow_rules.specs.declared.rule.Rule as rule
 use Rattle.flow_rules.specs.declared.rule.Rule.{Rule}
 use Rattle.flow_rules.specs.declared.rule.Rule.TheOpen as open_rule

@@ -3,7 +3,7 @@ ghost use Rattle.flow_goal.specs.Repeated.{HoldsNoneTwice};
 ghost use Rattle.flow_model.specs.Lists.{◌∈◌};
 ghost use Rattle.flow_model.specs.Resolution.{ChoiceOption, OptionTrace};
 ghost use Rattle.flow_model.specs.Schema.{IsGood};
-ghost use Rattle.flow_laws.specs.Words.{IsConsistent};
+ghost use Rattle.flow_laws.specs.WellFormed.{IsConsistent};
 ghost use Rattle.flow_rules.specs.Rule.{rules_of};
 ghost use Rattle.flow_excise.specs.Compilation.{IsWithinLimits, options_of};
 ghost use Rattle.flow_excise.specs.Options.{schema_of};

@@ -5,7 +5,7 @@ use Rattle.flow_model.specs.Lists.{numbers_from}
 use Rattle.flow_model.specs.Process.{Process}
 use Rattle.flow_model.specs.Ready.{IsCompleteRun}
 use Rattle.flow_model.specs.Resolution.{OptionTrace}
-use Rattle.flow_laws.specs.Words.{IsOrdered}
+use Rattle.flow_laws.specs.WellFormed.{IsOrdered}
 use Rattle.flow_laws.proofs.ReadyRuns.{complete_runs_are_traces}
 use Rattle.flow_laws.proofs.MadeLists.{numbers_from_more}
 use Rattle.flow_plan.specs.declared.token.OrderToken.{OrderToken}

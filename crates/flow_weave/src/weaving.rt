@@ -2,7 +2,7 @@ ghost use Rattle.std.specs.Prelude.{◌≡◌, ◌≢◌, ◌<◌, ◌^◌, ◌�
 ghost use Rattle.flow_model.specs.Lists.{Each, numbers_from};
 ghost use Rattle.flow_model.specs.Ready.{IsCompleteRun};
 ghost use Rattle.flow_model.specs.Resolution.{OptionTrace};
-ghost use Rattle.flow_laws.specs.Words.{AreOfLeaves};
+ghost use Rattle.flow_laws.specs.WellFormed.{AreOfLeaves};
 ghost use Rattle.flow_plan.specs.Planned.{pairs_of};
 ghost use Rattle.flow_weave.specs.Woven.{option_with, token_numbers};
 

@@ -1,7 +1,7 @@
 use Rattle.std.proofs.Common.{◌≡◌, ◌≢◌, List, [], IfOk, length, subst}
 use Rattle.flow_model.specs.Constraint.{Constraint}
 use Rattle.flow_model.specs.Process.{IsNumbered}
-use Rattle.flow_laws.specs.Words.{IsWellFormed}
+use Rattle.flow_laws.specs.WellFormed.{IsWellFormed}
 use Rattle.flow_goal.specs.Labelled.{Labelled}
 use Rattle.flow_goal.specs.Repeated.{HoldsNoneTwice}
 use Rattle.flow_rules.specs.Conjunction.{normal_in}

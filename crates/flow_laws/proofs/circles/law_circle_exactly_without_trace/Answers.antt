@@ -1,9 +1,5 @@
-use Rattle.flow_laws.proofs.CircleExcludes.{circles_exclude_traces}
-use Rattle.flow_laws.proofs.CircleOrTrace.{trace_or_circle}
+use Rattle.flow_laws.proofs.CircleOrTrace.{circles_exclude_traces}
 use Rattle.flow_laws.proofs.circles.law_circle_exactly_without_trace.Goals as goal
 
 pub returns-clause-excludes : goal.returns-clause-excludes
 returns-clause-excludes c = circles_exclude_traces
-
-pub returns-clause-one_of_the_two : goal.returns-clause-one_of_the_two
-returns-clause-one_of_the_two c = trace_or_circle

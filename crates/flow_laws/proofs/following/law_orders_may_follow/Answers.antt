@@ -1,4 +1,4 @@
-use Rattle.flow_laws.proofs.FollowingLemmas.{orders_may_follow, orders_may_follow_one}
+use Rattle.flow_laws.proofs.OrdersByTwo.{orders_may_follow, orders_may_follow_one}
 use Rattle.flow_laws.proofs.following.law_orders_may_follow.Goals as goal
 
 pub returns-clause-every_order : goal.returns-clause-every_order

@@ -1,4 +1,4 @@
-use Rattle.flow_laws.proofs.GoodTraces.{option_of_good, option_trace_is_good}
+use Rattle.flow_laws.proofs.OptionsLemmas.{option_of_good, option_trace_is_good}
 use Rattle.flow_laws.proofs.ways.law_options_cover_good_traces.Goals as goal
 
 pub returns : goal.returns

@@ -1,4 +1,4 @@
-use Rattle.flow_laws.proofs.GoodTraces.{constraint_by_ways}
+use Rattle.flow_laws.proofs.OptionsLemmas.{constraint_by_ways}
 use Rattle.flow_laws.proofs.ways.law_ways_decide_constraints.Goals as goal
 
 pub returns : goal.returns

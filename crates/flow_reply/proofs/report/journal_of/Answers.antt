@@ -2,7 +2,7 @@ use Rattle.std.proofs.Common.{◌<◌, ℕ, List, [], length, subst, sym}
 use Rattle.std.proofs.Common.{append-nil}
 use Rattle.std.specs.Prelude.{All}
 use Rattle.flow_laws.specs.Histories.{IsSound}
-use Rattle.flow_laws.specs.Words.{IsWellFormed}
+use Rattle.flow_laws.specs.WellFormed.{IsWellFormed}
 use Rattle.flow_core.specs.Run.{schema, now}
 use Rattle.flow_workflow.specs.Definition.{Definition, schema_of}
 use Rattle.flow_reply.proofs.Runs.{journal_within}

@@ -1,7 +1,7 @@
 use Rattle.std.proofs.Common.{ℕ, ◌↔◌, IsTrue, List, subst}
 use Rattle.leaf_rows.specs.Leaves.{has_leaf}
 use Rattle.flow_model.specs.Lists.{◌∈◌, Each, AreDistinct}
-use Rattle.flow_laws.specs.Words.{EachTwo}
+use Rattle.flow_laws.specs.WellFormed.{EachTwo}
 use Rattle.flow_plan.specs.declared.progress.Progress.{Progress}
 use Rattle.flow_plan.specs.declared.part_row.PartRow.{PartRow}
 use Rattle.flow_plan.specs.Planned.{Planned, planned}

@@ -2,7 +2,7 @@ use Rattle.std.proofs.Common.{◌<◌, List, subst, sym}
 use Rattle.leaf_rows.specs.declared.leaf_set.LeafSet.{LeafSet}
 use Rattle.flow_model.specs.Lists.{Each}
 use Rattle.flow_model.specs.Ready.{DirectlyBefore}
-use Rattle.flow_laws.specs.Words.{AreOfLeaves}
+use Rattle.flow_laws.specs.WellFormed.{AreOfLeaves}
 use Rattle.flow_goal.specs.Resolved.{Resolved}
 use Rattle.flow_plan.specs.declared.token.OrderToken.{OrderToken}
 use Rattle.flow_plan.specs.Rows.{AreRowsOf}

@@ -1,6 +1,6 @@
 use Rattle.std.proofs.Common.{subst}
 use Rattle.flow_model.specs.Process.{IsNumbered}
-use Rattle.flow_laws.specs.Words.{IsWellFormed}
+use Rattle.flow_laws.specs.WellFormed.{IsWellFormed}
 use Rattle.flow_workflow.specs.Definition.{Definition, schema_of}
 use Rattle.flow_workflow.proofs.workflow.Workflow.tree.Goals as goal
 

@@ -1,4 +1,4 @@
--- Words that several laws share.
+-- What the laws ask of workflows and options: well-formed, consistent, ordered.
 use Rattle.std.specs.Prelude.{◌≢◌, ℕ, List, [], ◌∷◌, length}
 use Rattle.flow_model.specs.Lists.{◌∈◌, Each, AreDistinct}
 use Rattle.flow_model.specs.Process.{Process, leaves, IsChoiceFree, IsNumbered}
