@@ -21,7 +21,7 @@ use Rattle.flow_core.proofs.Steps.{state_after-append}
 use Rattle.flow_crew.specs.declared.ends.Move.{Move}
 use Rattle.flow_crew.specs.Ends.{HasNoEnd}
 use Rattle.flow_crew.specs.Moves.{IsNextStep, Advances, IsBegun, IsOut, IsPosted, Records}
-use Rattle.flow_crew.specs.Kept.{IsByWorkers}
+use Rattle.flow_crew.specs.Invariant.{IsByWorkers}
 use Rattle.flow_crew.proofs.Histories.{AreRunSteps, one_step_more, not_last_kept, IsDrivenSoFar, IsSettled, so_far, driven_settles, driven_of, one_driven_more}
 use Rattle.flow_crew.proofs.Endings.{no_verdict}
 
