@@ -7,7 +7,6 @@ use Rattle.flow_model.specs.declared.history.Outcome.{Outcome}
 use Rattle.flow_model.specs.declared.history.Outcome.TheVariants as outcome
 use Rattle.flow_model.specs.declared.history.Step.{Step}
 use Rattle.flow_model.specs.declared.history.Step.TheVariants.{Took, Done, Failed, Late, Did, Rewound, Committed}
-use Rattle.flow_model.specs.Lists.{Each}
 use Rattle.flow_model.specs.Verdict.{call_of}
 use Rattle.flow_laws.proofs.Members.{each-append}
 use Rattle.flow_core.specs.declared.next.Next.TheVariants as next
