@@ -13,7 +13,7 @@ use Rattle.flow_core.specs.Looks.{IsWaiting}
 use Rattle.flow_crew.specs.declared.ends.End.{End}
 use Rattle.flow_crew.specs.declared.ends.End.TheVariants as end
 use Rattle.flow_crew.specs.Ends.{IsEnd}
-use Rattle.flow_crew.specs.Kept.{IsByWorkers}
+use Rattle.flow_crew.specs.Invariant.{IsByWorkers}
 use Rattle.flow_excise.specs.declared.counts.Counts.{Counts}
 use Rattle.flow_excise.specs.Compilation.{Compilation, IsCompiled}
 use Rattle.flow_reply.specs.declared.summary.Summary.{Summary}

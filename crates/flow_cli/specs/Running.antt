@@ -9,7 +9,7 @@ use Rattle.flow_core.specs.Run.{Run}
 use Rattle.flow_core.specs.Lawful.{IsLawful}
 use Rattle.flow_crew.specs.declared.ends.End.{End}
 use Rattle.flow_crew.specs.declared.ends.End.TheVariants as end
-use Rattle.flow_crew.specs.Kept.{IsByWorkers}
+use Rattle.flow_crew.specs.Invariant.{IsByWorkers}
 use Rattle.flow_form.specs.Script.{Said}
 use Rattle.flow_workflow.specs.Definition.{Definition, schema_of}
 use Rattle.flow_excise.specs.Compilation.{IsWithinLimits}

@@ -1,5 +1,5 @@
 -- What a caller does adds entries of its own to a history.
-use Rattle.std.proofs.Common.{◌≡◌, ◌≤◌, ◌<◌, ◌+◌, ◌-◌, ℕ, List, [], ◌∷◌, ◌++◌, length, Result, Ok, Err, refl, sym, ap, ◌∙◌, subst, inl, inr, arith, append-nil, append_assoc, length-append}
+use Rattle.std.proofs.Common.{◌≡◌, ◌≤◌, ◌<◌, ◌+◌, ◌-◌, ℕ, Bool, true, false, true≢false, List, [], ◌∷◌, ◌++◌, length, Result, Ok, Err, refl, sym, ap, ◌∙◌, subst, inl, inr, arith, append-nil, append_assoc, length-append}
 use Rattle.flow_model.specs.declared.history.Call.{Call}
 use Rattle.flow_model.specs.declared.history.Entry.{Entry}
 use Rattle.flow_model.specs.declared.history.FailEffect.TheVariants.{Switched, Kept}
@@ -7,7 +7,6 @@ use Rattle.flow_model.specs.declared.history.Outcome.{Outcome}
 use Rattle.flow_model.specs.declared.history.Outcome.TheVariants as outcome
 use Rattle.flow_model.specs.declared.history.Step.{Step}
 use Rattle.flow_model.specs.declared.history.Step.TheVariants.{Took, Done, Failed, Late, Did, Rewound, Committed}
-use Rattle.flow_model.specs.Lists.{Each}
 use Rattle.flow_model.specs.Verdict.{call_of}
 use Rattle.flow_laws.proofs.Members.{each-append}
 use Rattle.flow_core.specs.declared.next.Next.TheVariants as next
@@ -17,7 +16,7 @@ use Rattle.flow_core.specs.Run.{Run, schema, now, with_entry, HasEntryLeft}
 use Rattle.flow_core.specs.Answers.{IsUnanswered, Rewinds}
 use Rattle.flow_core.specs.Looks.{IsNext}
 use Rattle.flow_crew.specs.declared.ends.Move.{Move}
-use Rattle.flow_crew.specs.declared.ends.Move.TheVariants.{Wait, Over}
+use Rattle.flow_crew.specs.declared.ends.Move.TheVariants.{Perform, Went, Wait, Over}
 use Rattle.flow_crew.specs.Ends.{HasEnd, HasNoEnd}
 use Rattle.flow_crew.specs.Moves.{move_after, IsBegun, IsOut, Records, IsPosted, IsContinued}
 use Rattle.flow_crew.proofs.Acting.{refused_late}
@@ -101,14 +100,21 @@ begun_further r by move after within (inl h) other waits = absurd (other h.1)
 begun_further r by move after within (inr (inl h)) other waits = absurd (waits h.0 h.3)
 begun_further r by move after within (inr (inr h)) other waits = further_one r by h.0 after h.2.3 (has_room r h.1 within)
 
-no_wait : (after : Run) (step : Step) (claim : ℕ) → ¬ (Wait claim ≡ move_after after step)
-no_wait after (Took c leaf) claim e = cc
-no_wait after (Done c) claim e = cc
-no_wait after (Failed c effect) claim e = cc
-no_wait after (Late c) claim e = cc
-no_wait after (Did leaf) claim e = cc
-no_wait after (Rewound index) claim e = cc
-no_wait after Committed claim e = cc
+-- the caller asks again at once, or performs a task
+abbrev goes : Move → Bool
+goes (Perform call) = true
+goes Went = true
+goes (Wait claim) = false
+goes Over = false
+
+goes_after : (after : Run) (step : Step) → goes (move_after after step) ≡ true
+goes_after after (Took c leaf) = refl
+goes_after after (Done c) = refl
+goes_after after (Failed c effect) = refl
+goes_after after (Late c) = refl
+goes_after after (Did leaf) = refl
+goes_after after (Rewound index) = refl
+goes_after after Committed = refl
 
 -- a claim is waited for where nothing was done
 pub begun_waits : (r : Run) (by claim : ℕ) (after : Run) → IsBegun r by (Wait claim) after → HasNoEnd r × IsNext r (next.Wait claim) × (after ≡ r)
@@ -119,7 +125,7 @@ begun_waits r by claim after (inr (inl h)) =
     (h.1, subst (λ n. IsNext r (next.Wait n)) same h.2, h.4)
 begun_waits r by claim after (inr (inr h)) = elim h.3 [
   | inl k ↦ (let e : Wait claim ≡ Over = k.1 in absurd cc)
-  | inr k ↦ absurd (no_wait after h.0 claim k.1)
+  | inr k ↦ absurd (true≢false (sym (goes_after after h.0) ∙ ap goes (sym k.1)))
 ]
 
 -- it is over where a verdict stands
@@ -128,17 +134,8 @@ begun_over r by after (inl h) = subst HasEnd (sym h.2) h.0
 begun_over r by after (inr (inl h)) = let e : Over ≡ Wait h.0 = h.3 in absurd cc
 begun_over r by after (inr (inr h)) = elim h.3 [
   | inl k ↦ k.0
-  | inr k ↦ absurd (no_over after h.0 k.1)
+  | inr k ↦ absurd (true≢false (sym (goes_after after h.0) ∙ ap goes (sym k.1)))
 ]
-  where
-    no_over : (after : Run) (step : Step) → ¬ (Over ≡ move_after after step)
-    no_over after (Took c leaf) e = cc
-    no_over after (Done c) e = cc
-    no_over after (Failed c effect) e = cc
-    no_over after (Late c) e = cc
-    no_over after (Did leaf) e = cc
-    no_over after (Rewound index) e = cc
-    no_over after Committed e = cc
 
 -- ---- what `post` does
 
@@ -174,8 +171,3 @@ pub out_by_claim : (r : Run) (claim : ℕ) (call : Call) → IsUnanswered (now r
 out_by_claim r claim call unanswered is =
     let same : claim ≡ call.claim = ap (λ (c : Call). c.claim) (sym is) in
     (subst (IsUnanswered (now r)) same unanswered, is ∙ ap (call_of (schema r) (now r)) same)
-
--- ---- as entries added to a list
-
-pub grows : (r : Run) (by : ℕ) (after : Run) → Goes r by after → (added : List Entry) × (after.history ≡ r.history ++ added) × Each (λ (e : Entry). e.by ≡ by) added
-grows r by after g = let (added, is, own) = g.continued in (added, ap (λ (a : Run). a.history) is, own)

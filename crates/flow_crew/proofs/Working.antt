@@ -10,20 +10,19 @@ use Rattle.flow_model.specs.Run.{first_state, IsOpenIndex, IsLegal, leaf_of_clai
 use Rattle.flow_model.specs.Verdict.{Verdict, EndsKept, IsRunStep, IsRunVerdict, call_of, committed, spent, no_other, stuck, unfinished}
 use Rattle.flow_core.specs.declared.next.Next.{Next}
 use Rattle.flow_core.specs.declared.next.Next.TheVariants as next
-use Rattle.flow_core.specs.declared.refusal.PostRefusal.{PostRefusal}
-use Rattle.flow_core.specs.declared.refusal.PostRefusal.TheVariants as post
 use Rattle.flow_core.specs.declared.refusal.RewindRefusal.{RewindRefusal}
 use Rattle.flow_core.specs.declared.refusal.RewindRefusal.TheVariants as rewind
 use Rattle.flow_core.specs.Run.{Run, schema, now, with_entry, IsUncommitted, HasEntryLeft}
-use Rattle.flow_core.specs.Answers.{PostIsRefused, Rewinds}
+use Rattle.flow_core.specs.Answers.{Rewinds}
 use Rattle.flow_core.specs.Looks.{IsNext}
 use Rattle.flow_core.proofs.Steps.{state_after-append}
 use Rattle.flow_crew.specs.declared.ends.Move.{Move}
 use Rattle.flow_crew.specs.Ends.{HasNoEnd}
 use Rattle.flow_crew.specs.Moves.{IsNextStep, Advances, IsBegun, IsOut, IsPosted, Records}
-use Rattle.flow_crew.specs.Kept.{IsByWorkers}
+use Rattle.flow_crew.specs.Invariant.{IsByWorkers}
 use Rattle.flow_crew.proofs.Histories.{AreRunSteps, one_step_more, not_last_kept, IsDrivenSoFar, IsSettled, so_far, driven_settles, driven_of, one_driven_more}
-use Rattle.flow_crew.proofs.Endings.{no_verdict}
+use Rattle.flow_crew.proofs.Acting.{refused_late}
+use Rattle.flow_crew.proofs.Endings.{has_steps, no_verdict}
 
 -- a step by which a run goes on is no failure
 pub not_failed : (r : Run) (next : Next) (step : Step) → IsNextStep r next step → (claim : ℕ) → ¬ (step ≡ Failed claim Kept)
@@ -85,15 +84,6 @@ module _ (gives : Call → Outcome → Bool) where
   advanced r by step after k none (next, n, s, is) legal =
       one_entry r by step after k none (next_may r next n step s) (not_failed r next step s) is legal
 
-  -- a refusal leaves the run as it was, or a late result on record
-  refused : (r : Run) (claim by : ℕ) (refusal : PostRefusal) (after : Run) → IsByWorkers gives r → HasNoEnd r → PostIsRefused r claim by refusal after →
-      IsLegal (schema after) after.limit after.history → IsByWorkers gives after
-  refused r claim by post.Closed after k none h legal = subst (IsByWorkers gives) (sym h.1) k
-  refused r claim by post.NoClaim after k none h legal = subst (IsByWorkers gives) (sym h.2) k
-  refused r claim by post.Answered after k none h legal = subst (IsByWorkers gives) (sym h.2) k
-  refused r claim by (post.Spent limit) after k none h legal = subst (IsByWorkers gives) (sym h.3) k
-  refused r claim by (post.Late of at) after k none h legal = one_entry r by (Late claim) after k none tt (λ c e. cc) h.4 legal
-
   -- the call is what the gate was asked
   asked : (r : Run) (call : Call) (o : Outcome) → IsOut r call → gives call o ≡ true → gives (call_of (schema r) (now r) call.claim) o ≡ true
   asked r call o out given = subst (λ (c : Call). gives c o ≡ true) out.1 given
@@ -141,11 +131,12 @@ module _ (gives : Call → Outcome → Bool) where
   -- a result is told
   pub recorded : (r : Run) (call : Call) (o : Outcome) (by : ℕ) (after : Run) → IsByWorkers gives r → HasNoEnd r → IsOut r call → gives call o ≡ true →
       Records r call o by after → IsLegal (schema after) after.limit after.history → IsByWorkers gives after
-  recorded r call outcome.Done by after k none out given (Err refusal, h) legal = refused r call.claim by refusal after k none h legal
+  recorded r call outcome.Done by after k none out given (Err refusal, h) legal =
+      one_entry r by (Late call.claim) after k none tt (λ c e. cc) (refused_late r none (has_steps r none k.run_legal.0) call out by refusal after h) legal
   recorded r call outcome.Done by after k none out given (Ok _, h) legal =
       one_entry r by (Done call.claim) after k none (asked r call outcome.Done out given) (λ c e. cc) h.3 legal
   recorded r call outcome.Failed by after k none out given (Err refusal, (failed, h, is)) legal =
-      subst (IsByWorkers gives) (sym is) (refused r call.claim by refusal failed k none h (subst (λ (a : Run). IsLegal (schema a) a.limit a.history) is legal))
+      one_entry r by (Late call.claim) after k none tt (λ c e. cc) (is ∙ refused_late r none (has_steps r none k.run_legal.0) call out by refusal failed h) legal
   recorded r call outcome.Failed by after k none out given (Ok Switched, (failed, h, is)) legal =
       one_entry r by (Failed call.claim Switched) after k none (asked r call outcome.Failed out given) (λ c e. cc) (is ∙ h.4) legal
   recorded r call outcome.Failed by after k none out given (Ok Kept, (failed, h, (answer, back))) legal =

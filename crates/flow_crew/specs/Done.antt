@@ -19,7 +19,7 @@ use Rattle.flow_gate.specs.Outcomes.{is_same, announced}
 use Rattle.flow_crew.specs.declared.ends.End.{End}
 use Rattle.flow_crew.specs.declared.ends.End.TheVariants as end
 use Rattle.flow_crew.specs.Ends.{IsEnd}
-use Rattle.flow_crew.specs.Kept.{IsByWorkers}
+use Rattle.flow_crew.specs.Invariant.{IsByWorkers}
 
 -- nothing failed, nothing came late, and the run did not go back
 abbrev pub IsPlainStep : Step → Type 0

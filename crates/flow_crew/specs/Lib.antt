@@ -1,4 +1,4 @@
 pub mod Ends
 pub mod Moves
-pub mod Kept
+pub mod Invariant
 pub mod Done

@@ -1,6 +1,6 @@
 ghost use Rattle.std.specs.Prelude.{◌≡◌, true, [], MatchOption};
 ghost use Rattle.flow_crew.specs.Ends.{IsEnd, HasNoEnd};
-ghost use Rattle.flow_crew.specs.Kept.{IsByWorkers};
+ghost use Rattle.flow_crew.specs.Invariant.{IsByWorkers};
 ghost use Rattle.flow_crew.specs.Moves.{IsBegun, IsPosted, IsContinued};
 
 use crate::ends::{End, Move};

@@ -1,6 +1,6 @@
 ghost use Rattle.std.specs.Prelude.{◌≡◌, true, [], MatchOption};
 ghost use Rattle.flow_crew.specs.Ends.{IsEnd, HasNoEnd};
-ghost use Rattle.flow_crew.specs.Kept.{IsByWorkers};
+ghost use Rattle.flow_crew.specs.Invariant.{IsByWorkers};
 ghost use Rattle.flow_crew.specs.Moves.{IsBegun, IsPosted};
 
 use crate::ends::{End, Move};
@@ -24,7 +24,7 @@ impl<G: Gate> Model for Held<G> {
 
     ghost coded = { run_code };
 
-    ghost use Rattle.flow_crew.specs.Kept.{IsByWorkers};
+    ghost use Rattle.flow_crew.specs.Invariant.{IsByWorkers};
 
     ghost view = { λ held. held.tracked };
 

@@ -5,10 +5,10 @@ mod book;
 mod crew;
 mod done;
 mod ends;
+mod entries;
 mod held;
 mod jobs;
 mod standing;
-mod steps;
 mod tracked;
 
 pub use book::Book;

@@ -5,8 +5,8 @@ ghost use Rattle.flow_crew.specs.Ends.{IsEnd, HasNoEnd};
 ghost use Rattle.flow_crew.specs.Moves.{IsBegun, IsPosted, IsOut};
 
 use crate::ends::{End, Move};
+use crate::entries::{go_on, tell};
 use crate::standing::{look, stand};
-use crate::steps::{go_on, tell};
 use flow_core::{Core, Next};
 use flow_model::{Call, Outcome};
 use std::marker::Model;
@@ -27,7 +27,7 @@ impl Model for Tracked {
 
     ghost coded = { run_code };
 
-    ghost use Rattle.flow_crew.specs.Kept.{IsTracked};
+    ghost use Rattle.flow_crew.specs.Invariant.{IsTracked};
 
     ghost view = { λ tracked. tracked.core };
 

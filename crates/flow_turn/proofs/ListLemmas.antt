@@ -33,10 +33,6 @@ module _ {A : Type 0} (f : A → ℕ) where
   total-le (x ∷ xs) most = let here = most x in let rest = total-le xs most in omega arith
 
 module _ {A : Type 0} where
-  pub Each-append : (P : A → Type 0) (xs ys : List A) → Each P xs → Each P ys → Each P (xs ++ ys)
-  Each-append P [] ys a b = b
-  Each-append P (x ∷ xs) ys a b = (a.0, Each-append P xs ys a.1 b)
-
   pub Each-map : (P Q : A → Type 0) (xs : List A) → ((x : A) → P x → Q x) → Each P xs → Each Q xs
   Each-map P Q [] f a = tt
   Each-map P Q (x ∷ xs) f a = (f x a.0, Each-map P Q xs f a.1)

@@ -4,6 +4,7 @@ use mathlib.Core.Option.{none, some, some-injective}
 use mathlib.Core.Option as maybe
 use lib.ListN.{get_elem?}
 use Rattle.flow_model.specs.Lists.{Begins, Each}
+use Rattle.flow_model.proofs.Lists.{each-append}
 use Rattle.atomic_table.specs.Table.{State, opening, Final, Seen, Splits, Joins}
 use Rattle.atomic_table.proofs.Lists.{at_set, set_here, set_else, at_longer}
 use Rattle.atomic_table.specs.declared.shared.Seat.{Seat}
@@ -14,7 +15,7 @@ use Rattle.flow_turn.specs.Turns.{tickets_at, living_at, tickets_of, living_of, 
 use Rattle.flow_turn.specs.Steps.{giving, given_view, taking, joined_view}
 use Rattle.flow_turn.specs.Passes.{Knowledge, IsAtRest, known_of, split_pass}
 use Rattle.flow_turn.proofs.TurnLemmas.{value_in, known_by}
-use Rattle.flow_turn.proofs.ListLemmas.{total-set, total-append, total-two, Each-append, Each-map, at_below, at_more, made_by-none}
+use Rattle.flow_turn.proofs.ListLemmas.{total-set, total-append, total-two, Each-map, at_below, at_more, made_by-none}
 use Rattle.flow_turn.proofs.RuleLemmas.{serving_at, not_serving, each_set, stays, gone_elsewhere, IsGone-set}
 
 module _ {T E F : Type 0} (entries : T → List E) (caller : E → ℕ) (fixed : T → F) (part : F) where
@@ -172,7 +173,7 @@ module _ {T E F : Type 0} (entries : T → List E) (caller : E → ℕ) (fixed :
       let still_gone = (λ (number : ℕ) (g : IsGone s.views number).
       let h = IsGone-set entries caller fixed part s.views id v x at lives number g in
       let g' : IsGone after number = (h.0, set_else first_set other number gone (gone_elsewhere entries caller fixed part s.views other w there_before lives_too number g) ∙ h.1, h.2) in g') in
-      let joined : AreMade caller x.joined r.log = Each-append (λ c. made_by caller c.0 r.log ≡ c.1) v.joined ((w.number, w.mine) ∷ []) k.joined (ap (λ (n : ℕ). made_by caller n r.log) known.named ∙ known.mine, tt) in
+      let joined : AreMade caller x.joined r.log = each-append (λ c. made_by caller c.0 r.log ≡ c.1) v.joined ((w.number, w.mine) ∷ []) k.joined (ap (λ (n : ℕ). made_by caller n r.log) known.named ∙ known.mine, tt) in
       let two = total-two living_of s.views id other v w (λ e. apart (sym e)) at there_before in
       let living = total-set living_of s.views id v x at in
       let living_too = total-set living_of first_set other w gone there in
@@ -200,7 +201,7 @@ module _ {T E F : Type 0} (entries : T → List E) (caller : E → ℕ) (fixed :
             (λ i z _ before. r.knows i z before) j u here);
         gone = each_set entries caller fixed part (λ j u. Each (λ c. IsGone after c.0) u.joined) first_set other gone tt
             (λ j u _ here. each_set entries caller fixed part (λ i z. Each (λ c. IsGone after c.0) z.joined) s.views id x
-            (Each-append (λ c. IsGone after c.0) v.joined ((w.number, w.mine) ∷ []) (Each-map (λ c. IsGone s.views c.0) (λ c. IsGone after c.0) v.joined (λ c. still_gone c.0) (r.gone id v at))
+            (each-append (λ c. IsGone after c.0) v.joined ((w.number, w.mine) ∷ []) (Each-map (λ c. IsGone s.views c.0) (λ c. IsGone after c.0) v.joined (λ c. still_gone c.0) (r.gone id v at))
             (subst (IsGone after) (sym known.named) (gone, set_here first_set other gone (at_below first_set other w there), refl), tt))
             (λ i z _ before. Each-map (λ c. IsGone s.views c.0) (λ c. IsGone after c.0) z.joined (λ c. still_gone c.0) (r.gone i z before)) j u here);
         apart = λ i j a b here there_now one two_too same.

@@ -10,6 +10,7 @@ use mathlib.Core.Option as maybe
 use native.Mathlib.Decide.{ℕ_discrete}
 use lib.ListN.{get_elem?}
 use Rattle.flow_model.specs.Lists.{Begins, Each}
+use Rattle.flow_model.proofs.Lists.{each-append}
 use Rattle.atomic_table.specs.Table.{State, Me, keeps, takes, gives, put_back, rest, Allows}
 use Rattle.atomic_table.proofs.Lists.{at_set, set_here, set_else, one_turn}
 use Rattle.flow_turn.specs.declared.view.View.{View}
@@ -18,7 +19,7 @@ use Rattle.flow_turn.specs.declared.view.Stage.TheVariants.{Idle, Waiting, Servi
 use Rattle.flow_turn.specs.Entries.{made_by, AreMade}
 use Rattle.flow_turn.specs.Turns.{tickets_at, living_at, tickets_of, living_of, Stands, Knows, IsGone, IsHome, IsOut, IsInTurns}
 use Rattle.flow_turn.specs.Steps.{drew, looked, list_in, counted, passed, settled}
-use Rattle.flow_turn.proofs.ListLemmas.{total-set, total-at, total-le, Each-append, Each-map, at_below, made_by-own, made_by-none}
+use Rattle.flow_turn.proofs.ListLemmas.{total-set, total-at, total-le, Each-map, at_below, made_by-own, made_by-none}
 
 -- 1 where it is the caller's turn
 abbrev pub serving_at : Stage → ℕ
@@ -147,7 +148,7 @@ module _ {T E F : Type 0} (entries : T → List E) (caller : E → ℕ) (fixed :
         (at_set s.views id 0 w u there);
     few = (let few = r.few in let long = length-set s.views id w in omega arith);
     callers = subst (λ (n : ℕ). Each (λ e. caller e < n) log') (sym (length-set s.views id w))
-        (subst (Each (λ e. caller e < length s.views)) (sym grown) (Each-append (λ e. caller e < length s.views) r.log added r.callers named));
+        (subst (Each (λ e. caller e < length s.views)) (sym grown) (each-append (λ e. caller e < length s.views) r.log added r.callers named));
     knows = each_set (λ j u. living_of u ≡ 1 → Known drawn' served' log' j u) s.views id w mine
         (λ j u other there alive. subst (λ (l : List E). Known drawn' served' l j u) (sym grown)
         (still r.drawn r.served drawn' served' r.log added j u (r.knows j u there alive) (foreign j other)

@@ -1,4 +1,5 @@
 //! The lock, and all that is done with it.
+use crate::doors::Doors;
 use crate::kept::{Job, Kept};
 use crate::pass::Pass;
 use crate::rule::{Cut, Mend, Settle, TurnRule};
@@ -23,6 +24,7 @@ type Desk<T> = Table<
 #[derive(Drop)]
 pub struct TurnLock<T: Kept> {
     table: Desk<T>,
+    doors: Doors,
 }
 
 impl<T: Kept> Model for TurnLock<T> {
@@ -65,7 +67,10 @@ impl<T: Kept> TurnLock<T> {
         }
         match Table::new(alloc, &[0, 0, 0], slots, &key) {
             Ok((table, seat)) => Ok((
-                TurnLock { table },
+                TurnLock {
+                    table,
+                    doors: Doors::new(),
+                },
                 Pass {
                     seat,
                     number: 0,
@@ -104,7 +109,8 @@ impl<T: Kept> TurnLock<T> {
         requires { pass.old.lock ≡ self.now }
         ensures { Turned T.entries T.caller T.fixed (J.does job) pass.old result pass.new }
     {
-        take_turn(rt, &self.table.shared, &mut pass.seat, pass.number, job)
+        let top = &self.table.shared;
+        take_turn(rt, top, &self.doors, &mut pass.seat, pass.number, job)
     }
 
     /// Ends a pass, and the root has seen what it had.
@@ -147,7 +153,7 @@ impl<T: Kept> TurnLock<T> {
         ensures found { Finds T.entries T.caller T.fixed root.number root.seen root.mine root.joined root.part result }
         ensures callers { Each (λ entry. T.caller entry ≤ root.given) (T.entries result) }
     {
-        let TurnLock { table } = self;
+        let TurnLock { table, doors: _ } = self;
         let mut closed = table.close_with(root.into_seat());
         let value = closed.take(0).unwrap();
         closed.free();

@@ -5,10 +5,12 @@ ghost use Rattle.flow_turn.specs.declared.view.Stage.TheVariants.{Waiting};
 ghost use Rattle.flow_turn.specs.Steps.{drew, Takes};
 ghost use Rattle.flow_turn.specs.Passes.{IsAtRest, IsSameSeat, IsOfTable, HasTurn, known_of, Works, Turned};
 
+use crate::doors::Doors;
 use crate::kept::{Job, Kept};
 use crate::rule::{Count, Draw, Look, PassOn, TurnRule};
 use crate::view::View;
 use atomic_table::{Seat, Shared};
+use crossbeam_utils::sync::EventCount;
 use std::snapshot::Snapshot;
 use std::sync::Wait;
 use std::thread;
@@ -53,20 +55,20 @@ fn is_served<T: Kept>(top: &Top<T>, seat: &mut Chair<T>, ticket: u64) -> bool
     top.load::<Look>(seat, SERVED) == ticket
 }
 
-// Lets other threads run. While it is still another's turn then, it sleeps until the turn is passed on, since with many
-// callers a mere yield would often give the processor to one whose turn is far off.
-fn step_aside<T: Kept, R: Wait>(rt: &R, top: &Top<T>, ticket: u64)
+// Lets other threads run. While it is still another's turn then, it sleeps at its door, since with many callers a mere yield
+// would often give the processor to one whose turn is far off. It is counted at the door before it looks, so that it misses no call.
+fn step_aside<T: Kept, R: Wait>(rt: &R, top: &Top<T>, door: &EventCount, ticket: u64)
     requires { top.now.table_id.words ≡ 3 }
 {
     thread::yield_now();
-    let served = top.peek(SERVED);
-    if served != ticket {
-        top.park(rt, SERVED, (served % (1 << 32)) as u32);
+    let key = door.prepare_wait();
+    if top.peek(SERVED) != ticket {
+        key.wait(rt);
     }
 }
 
 // Waits until the ticket is served. While it is another's turn, other threads run.
-fn wait<T: Kept, R: Wait>(rt: &R, top: &Top<T>, seat: &mut Chair<T>, ticket: u64)
+fn wait<T: Kept, R: Wait>(rt: &R, top: &Top<T>, doors: &Doors, seat: &mut Chair<T>, ticket: u64)
     requires table { IsOfTable top.now.table_id seat.old }
     requires waits { (seat.old.me.0.stage ≡ Waiting) × (ticket ≡ seat.old.me.0.ticket % 2 ^ 64) }
     ensures same { IsSameSeat seat.old seat.new }
@@ -76,7 +78,7 @@ fn wait<T: Kept, R: Wait>(rt: &R, top: &Top<T>, seat: &mut Chair<T>, ticket: u64
         if is_served(top, seat, ticket) {
             return;
         }
-        step_aside(rt, top, ticket);
+        step_aside(rt, top, doors.of(ticket), ticket);
     }
     unreachable!()
 }
@@ -99,22 +101,23 @@ fn work<T: Kept, J: Job<T>>(top: &Top<T>, seat: &mut Chair<T>, by: u32, job: J) 
     answer
 }
 
-// Gives the value back and passes the turn on. Who sleeps looks again.
-fn pass_on<T: Kept>(top: &Top<T>, seat: &mut Chair<T>)
+// Gives the value back and passes the turn on. Who sleeps at the door of the next ticket looks again.
+fn pass_on<T: Kept>(top: &Top<T>, doors: &Doors, seat: &mut Chair<T>)
     requires table { IsOfTable top.now.table_id seat.old }
     requires turn { HasTurn T.entries T.fixed seat.old }
     ensures same { IsSameSeat seat.old seat.new }
     ensures rest { IsAtRest seat.new }
     ensures known { known_of seat.new ≡ known_of seat.old }
 {
-    top.fetch_add::<PassOn>(seat, SERVED, 1);
-    top.wake_all(SERVED);
+    let served = top.fetch_add::<PassOn>(seat, SERVED, 1);
+    doors.of(served.wrapping_add(1)).notify_all();
 }
 
 // One turn, of the caller with the number `by`.
 pub(crate) fn take_turn<T: Kept, J: Job<T>, R: Wait>(
     rt: &R,
     top: &Top<T>,
+    doors: &Doors,
     seat: &mut Chair<T>,
     by: u32,
     job: J,
@@ -127,8 +130,8 @@ pub(crate) fn take_turn<T: Kept, J: Job<T>, R: Wait>(
     ensures turned { Turned T.entries T.caller T.fixed (J.does job) (known_of seat.old) result (known_of seat.new) }
 {
     let ticket = draw(top, seat);
-    wait(rt, top, seat, ticket);
+    wait(rt, top, doors, seat, ticket);
     let answer = work(top, seat, by, job);
-    pass_on(top, seat);
+    pass_on(top, doors, seat);
     answer
 }

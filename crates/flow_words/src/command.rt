@@ -1,5 +1,5 @@
 ghost use Rattle.std.specs.Prelude.{◌≡◌, IfOk, false};
-ghost use Rattle.clap.specs.Words.{app_of, rule_of};
+ghost use Rattle.clap.specs.Words.{app_of, rule_of, with_rule};
 ghost use Rattle.flow_words.specs.Command.{flow_app, mode_rule, number_rule};
 
 use clap::builder::ValueParser;
@@ -10,17 +10,11 @@ use std::alloc::{AllocError, Global};
 pub(crate) fn flow_command<'a>(alloc: Global) -> Result<Command<'a>, AllocError>
     ensures { IfOk result (λ command. app_of command ≡ flow_app) }
 {
-    let mode = mode_argument(alloc);
-    let steps = number_option(alloc, "steps", 1, 1_000_000, "65536");
-    let workers = number_option(alloc, "workers", 1, 64, "4");
-    let seed = number_option(alloc, "seed", 0, 65_536, "1");
-    let size = number_option(alloc, "size", 1, 128, "16");
-    Command::new(alloc, "flow")
-        .arg(mode)?
-        .arg(steps)?
-        .arg(workers)?
-        .arg(seed)?
-        .arg(size)
+    let command = Command::new(alloc, "flow").arg(mode_argument(alloc))?;
+    let command = with_number(alloc, command, "steps", 1, 1_000_000, "65536")?;
+    let command = with_number(alloc, command, "workers", 1, 64, "4")?;
+    let command = with_number(alloc, command, "seed", 0, 65_536, "1")?;
+    with_number(alloc, command, "size", 1, 128, "16")
 }
 
 /// The one word that stands for itself.
@@ -31,6 +25,21 @@ fn mode_argument<'a>(alloc: Global) -> Arg<'a>
     Arg::new(alloc, "mode")
         .required(true)
         .action(ArgAction::Set)
+}
+
+/// The command with a further option of one number.
+fn with_number<'a>(
+    alloc: Global,
+    command: Command<'a>,
+    name: &'a str,
+    least: u32,
+    greatest: u32,
+    default: &'a str,
+) -> Result<Command<'a>, AllocError>
+    ensures { IfOk result (λ new. app_of new
+        ≡ with_rule (app_of command.entry) (number_rule name.entry.now least greatest default.entry.now)) }
+{
+    command.arg(number_option(alloc, name, least, greatest, default))
 }
 
 /// An option with one number, which is the default where the option is not used.

@@ -1,6 +1,3 @@
-use Rattle.std.proofs.Common.{subst}
-use Rattle.flow_core.specs.Run.{Run}
-use Rattle.flow_crew.specs.Moves.{IsBegun}
 use Rattle.flow_crew.proofs.Working.{begun_by_workers}
 use Rattle.flow_crew.proofs.held.Held.begin.Goals as goal
 
@@ -9,4 +6,4 @@ invariant_of-self g c =
     begun_by_workers g.G.Gate.gives c.self.inside.tracked c.args.by c.begin.result c.begin.new.self c.self.invariant c.begin.ensures.begun c.begin.ensures.legal
 
 pub returns : goal.returns
-returns g c = subst (λ (r : Run). IsBegun r c.args.by c.begin.result c.begin.new.self) c.self.view_is c.begin.ensures.begun
+returns g c = rw (← c.self.view_is) c.begin.ensures.begun

@@ -1,6 +1,3 @@
-use Rattle.std.proofs.Common.{subst}
-use Rattle.flow_core.specs.Run.{Run}
-use Rattle.flow_crew.specs.Moves.{IsPosted}
 use Rattle.flow_crew.proofs.Working.{posted_by_workers}
 use Rattle.flow_crew.proofs.held.Held.post.Goals as goal
 
@@ -9,4 +6,4 @@ invariant_of-self g c =
     posted_by_workers g.G.Gate.gives c.self.inside.tracked c.args.call c.args.outcome c.args.by c.post.new.self c.self.invariant c.requires c.post.ensures.posted c.post.ensures.legal
 
 pub returns : goal.returns
-returns g c = subst (λ (r : Run). IsPosted r c.args.call c.args.outcome c.args.by c.post.new.self) c.self.view_is c.post.ensures.posted
+returns g c = rw (← c.self.view_is) c.post.ensures.posted

@@ -1,6 +1,3 @@
-use Rattle.std.proofs.Common.{subst}
-use Rattle.flow_core.specs.Run.{Run}
-use Rattle.flow_crew.specs.Moves.{IsBegun}
 use Rattle.flow_crew.proofs.Working.{begun_by_workers}
 use Rattle.flow_crew.proofs.jobs.BeginJobHeld.run.Goals as goal
 
@@ -9,4 +6,4 @@ invariant_of-held g c =
     begun_by_workers g.G.Gate.gives c.held.inside.tracked c.args.by c.begin.result c.begin.new.self c.held.invariant c.begin.ensures.begun c.begin.ensures.legal
 
 pub returns-clause-does : goal.returns-clause-does
-returns-clause-does g c = subst (λ (r : Run). IsBegun r c.args.by c.begin.result c.begin.new.self) c.held.view_is c.begin.ensures.begun
+returns-clause-does g c = rw (← c.held.view_is) c.begin.ensures.begun

@@ -1,6 +1,6 @@
 use Rattle.std.proofs.Common.{Err}
 use Rattle.flow_crew.proofs.Acting.{done_not_kept, failed_not_kept}
-use Rattle.flow_crew.proofs.steps.tell.Goals as goal
+use Rattle.flow_crew.proofs.entries.tell.Goals as goal
 
 pub returns-in-Done-clause-failed : goal.returns-in-Done-clause-failed
 returns-in-Done-clause-failed c =

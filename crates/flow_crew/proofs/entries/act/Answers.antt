@@ -7,7 +7,7 @@ use Rattle.flow_core.specs.Answers.{next_claim}
 use Rattle.flow_core.specs.Run.{schema, now}
 use Rattle.flow_crew.specs.declared.ends.Move.TheVariants.{Perform}
 use Rattle.flow_crew.proofs.Acting.{done_instead}
-use Rattle.flow_crew.proofs.steps.act.Goals as goal
+use Rattle.flow_crew.proofs.entries.act.Goals as goal
 
 pub unwrap-requires : goal.unwrap-requires
 unwrap-requires c =
