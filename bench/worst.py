@@ -5,6 +5,8 @@ It needs GNU time (/usr/bin/time). Usage: bench/worst.py [PROGRAM] [WORD ..]   t
 The program is crates/flow/out/flow where none is named (`rt run` of the README makes it). Each text is checked five times,
 and the least time counts; the ratios are to the generated text of seed 3 and size 128 in the same run.
 """
+import random
+
 from generated import text as generated
 from measuring import arguments, measured
 
@@ -28,6 +30,13 @@ def as_many(head, member, between, tail):
         members.append(member(len(members)))
         room -= len(members[-1]) + len(between)
     return head + between.join(members[:-1]) + tail
+
+
+def in_no_order(head, member, tail):
+    """As many members as fit, each made of its number, in an order that tells nothing."""
+    members = as_many("", member, ", ", " " * (len(head) + len(tail))).rstrip(" ").split(", ")
+    random.Random(1).shuffle(members)
+    return head + ", ".join(members) + tail
 
 
 def row(goal_between, count=1024):
@@ -76,6 +85,26 @@ def many_facts():
 @text
 def many_facts_with_one_argument():
     return as_many("fact ", lambda n: f"p({n})", ", ", "; goal nop;")
+
+
+@text
+def events_in_no_order():
+    return in_no_order("event ", lambda n: f"e{n}", "; goal nop;")
+
+
+@text
+def long_events_in_no_order():
+    return in_no_order("event ", lambda n: f"{'x' * 16}{n}", "; goal nop;")
+
+
+@text
+def facts_in_no_order():
+    return in_no_order("fact ", lambda n: f"p({n})", "; goal nop;")
+
+
+@text
+def facts_with_words_in_no_order():
+    return in_no_order("fact ", lambda n: f"p(a{n})", "; goal nop;")
 
 
 @text
