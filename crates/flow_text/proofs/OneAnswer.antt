@@ -18,7 +18,7 @@ use Rattle.flow_text.specs.GoodNames.{HasGoodNames, IsUnknown, IsRepeated, IsFir
 use Rattle.flow_text.proofs.OneFirstName.{one_first, once_is_not_repeated, good_has_no_other, events_have_no_other}
 use Rattle.flow_text.specs.Saying.{HasTokens, Writes, Says, Asks}
 use Rattle.flow_text.specs.Parsing.{IsExpected, IsTooDeep, IsNameAt, IsFirstNameAt, named_places, IsTextRefusal, IsParseRefusal, IsQueryRefusal}
-use Rattle.flow_text.proofs.Parsed.{IsMachine, scripts, queries}
+use Rattle.flow_grammar.proofs.Reading.{IsMachine, scripts_are_read, queries_are_read}
 use Rattle.flow_text.specs.Laws.{IsAnswer, TextsHaveOneAnswer, QueriesHaveOneAnswer}
 use Rattle.std.proofs.lemmas.Option.{same_Some}
 
@@ -253,10 +253,10 @@ one_script_naming s (other k) (other j) h g = ap other (one_first (λ front role
 
 script_known : (text : List ℕ) (a : Result Said TextRefusal) → IsAnswer (Says text) (IsParseRefusal text) a → Accounts read_script judge_script text a
 script_known text =
-    known scripts judge_script text (Says text) _ _
-    (λ s h. said_there scripts judge_script text s h.writes h.named)
-    (again_there scripts judge_script text script_roles)
-    (other_there scripts judge_script text script_roles)
+    known scripts_are_read judge_script text (Says text) _ _
+    (λ s h. said_there scripts_are_read judge_script text s h.writes h.named)
+    (again_there scripts_are_read judge_script text script_roles)
+    (other_there scripts_are_read judge_script text script_roles)
 
 pub texts_have_one_answer : TextsHaveOneAnswer
 texts_have_one_answer text a b one two =
@@ -280,9 +280,9 @@ one_query_naming s q v (again k) h g = absurd g
 query_known : (text : List ℕ) (s : Said) (a : Result Asked TextRefusal) → IsAnswer (Asks text s) (IsQueryRefusal text s) a →
     Accounts read_query (judge_query s) text a
 query_known text s =
-    known queries (judge_query s) text (Asks text s) _ _
-    (λ q h. said_there queries (judge_query s) text q h.writes h.of_events) (λ place name h. absurd h)
-    (other_there queries (judge_query s) text query_roles)
+    known queries_are_read (judge_query s) text (Asks text s) _ _
+    (λ q h. said_there queries_are_read (judge_query s) text q h.writes h.of_events) (λ place name h. absurd h)
+    (other_there queries_are_read (judge_query s) text query_roles)
 
 pub queries_have_one_answer : QueriesHaveOneAnswer
 queries_have_one_answer text s a b one two =

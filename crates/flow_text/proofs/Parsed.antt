@@ -9,11 +9,10 @@ use Rattle.flow_lex.specs.declared.token.Token.{Token}
 use Rattle.flow_lex.specs.Tokens.{AreSpans}
 use Rattle.flow_lex.specs.Refusals.{IsRefused}
 use Rattle.flow_grammar.specs.Symbol.{Symbol, Placed, at, symbols, a_name}
-use Rattle.flow_grammar.specs.Machine.{Wanted, Reading, gives, read_script, read_query, script_wants, query_wants}
-use Rattle.flow_grammar.specs.Laws.{ReadsJustThese, IsStuckJustThere, IsTooDeepJustThere, WantsWhatCouldCome, TellsWhatIsWanted}
-use Rattle.flow_grammar.specs.Texts.{Derives, SpellsScript, SpellsQuery}
+use Rattle.flow_grammar.specs.Machine.{Wanted, Reading, gives}
+use Rattle.flow_grammar.specs.Texts.{Derives, SpellsScript}
 use Rattle.flow_grammar.specs.Roles.{Role, role_name, names_of, NamesHaveRoles}
-use Rattle.flow_grammar.proofs.Reading.{script_reads, script_is_stuck, script_is_too_deep, script_wants_what_could_come, script_tells_what_is_wanted, query_reads, query_is_stuck, query_is_too_deep, query_wants_what_could_come, query_tells_what_is_wanted}
+use Rattle.flow_grammar.proofs.Reading.{IsMachine}
 use Rattle.flow_grammar.proofs.MadeTexts.{scripts_are_well_made}
 use Rattle.flow_reader.specs.Symbols.{symbol_of, symbols_of}
 use Rattle.flow_reader.specs.Readers.{kind_of}
@@ -23,32 +22,6 @@ use Rattle.flow_text.specs.Saying.{HasTokens, IsLexed, TextInTokens, Writes}
 use Rattle.flow_text.specs.Parsing.{name_in, with_place, named_places, IsFirstNameAt, IsTextRefusal}
 use Rattle.std.proofs.lemmas.List.{length-map}
 use Rattle.std.proofs.lemmas.Option.{slice_get-map}
-
--- the machine is that of the grammar
-pub record IsMachine {V : Type 0} (Spells : List Placed → V → Type 0) (wants : List Symbol → Option Wanted) (read : List Symbol → Reading V) : Type 0 where
-  pub reads : ReadsJustThese Spells read
-  pub is_stuck : IsStuckJustThere Spells read
-  pub is_too_deep : IsTooDeepJustThere Spells read
-  pub wants_what_could_come : WantsWhatCouldCome Spells read
-  pub tells_what_is_wanted : TellsWhatIsWanted wants read
-
-pub scripts : IsMachine SpellsScript script_wants read_script
-scripts = record {
-  reads = script_reads;
-  is_stuck = script_is_stuck;
-  is_too_deep = script_is_too_deep;
-  wants_what_could_come = script_wants_what_could_come;
-  tells_what_is_wanted = script_tells_what_is_wanted;
-}
-
-pub queries : IsMachine SpellsQuery query_wants read_query
-queries = record {
-  reads = query_reads;
-  is_stuck = query_is_stuck;
-  is_too_deep = query_is_too_deep;
-  wants_what_could_come = query_wants_what_could_come;
-  tells_what_is_wanted = query_tells_what_is_wanted;
-}
 
 module _ {V : Type 0} (Spells : List Placed → V → Type 0) (wants : List Symbol → Option Wanted) (again unknown : ℕ → List ℕ → Type 0) (text : List ℕ) where
   pub lex_refused : (refusal : TextRefusal) → IsRefused text refusal → IsTextRefusal Spells wants again unknown text refusal
