@@ -79,7 +79,7 @@ module _ {S V : Type 0} (step : S → Symbol → Option S) (finish : S → Optio
   deeper : (s next : S) (t : Symbol) → step s t ≡ Some next → depth next ≤ suc (depth s)
   deeper s next t e = subst (λ o. Within depth o (depth s)) e (within s t)
 
-  pub stands_next : (s next : S) (t : Token) (more : List Token) → StepsTo step depth s (symbol_of text t) next → Here s (t ∷ more) → Here next more
+  stands_next : (s next : S) (t : Token) (more : List Token) → StepsTo step depth s (symbol_of text t) next → Here s (t ∷ more) → Here next more
   stands_next s next t more (led, shallow) h = record {
     passed = h.passed + 1;
     so_far = sym (by_step.at_step s next (symbol_of text t) (symbols_of text more) h.passed led shallow) ∙ h.so_far;
@@ -90,6 +90,11 @@ module _ {S V : Type 0} (step : S → Symbol → Option S) (finish : S → Optio
     spans = h.spans.2;
     small = h.small.1;
   }
+
+  -- the first of the tokens that are left has been read
+  pub stands_after : (s next : S) (symbol : Symbol) (t : Token) (rest more : List Token) → rest ≡ t ∷ more → symbol ≡ symbol_of text t → StepsTo step depth s symbol next →
+      Here s rest → Here next more
+  stands_after s next symbol t rest more cut is led h = stands_next s next t more (subst (λ y. StepsTo step depth s y next) is led) (subst (Here s) cut h)
 
   here : (s : S) (rest : List Token) (h : Here s rest) → place_of text tokens h.passed ≡ place_of text rest 0
   here s rest h =

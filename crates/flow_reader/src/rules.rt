@@ -215,7 +215,7 @@ fn more_names(
 }
 
 impl RulePlace {
-    #[tactic(auto, using(crate::proofs::Depths::nots_added))]
+    #[tactic(auto, using(crate::proofs::Heights::nots_added))]
     pub fn step(
         self,
         alloc: Global,
@@ -245,7 +245,7 @@ impl RulePlace {
     }
 
     /// In how many parentheses and nots the next symbol stands.
-    #[tactic(auto, using(crate::proofs::Depths::nots_added))]
+    #[tactic(auto, using(crate::proofs::Heights::nots_added))]
     pub fn depth(&self, stack: &RuleStack) -> usize
         requires { machine.depth_rule (rule_state stack.now self.now) < 2 ^ 64 - 1 }
         ensures { result ≡ machine.depth_rule (rule_state stack.now self.now) }
