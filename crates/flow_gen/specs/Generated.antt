@@ -72,12 +72,9 @@ events count = map (λ k. event (event_name k) Done) (numbers_from 0 count)
 abbrev pub all_draws : ℕ → ℕ → List ℕ
 all_draws seed size = draws seed (size + 2 * (size - 1))
 
-abbrev pub made_by : List ℕ → ℕ → Said
-made_by ds size = record {
-  decls = events (8 * size);
-  goal = in_turn (pairs 0 (kinds 0 (take size ds)));
-  rules = constraints 0 (drop size ds);
-}
-
 abbrev pub generated : ℕ → ℕ → Said
-generated seed size = made_by (all_draws seed size) size
+generated seed size = record {
+  decls = events (8 * size);
+  goal = in_turn (pairs 0 (kinds 0 (take size (all_draws seed size))));
+  rules = constraints 0 (drop size (all_draws seed size));
+}

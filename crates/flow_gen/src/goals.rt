@@ -1,8 +1,8 @@
 ghost use Rattle.std.specs.Prelude.{◌≡◌, ◌+◌, ◌*◌, ◌≤◌, ◌^◌, ◌<◌, [], ◌∷◌, IfOk, map, length};
-ghost use Rattle.flow_form.specs.Form.{shape_of, shapes, named, iso, beside};
-ghost use Rattle.flow_gen.specs.Generated.{event_name, series, block, kinds, pairs, in_turn};
+ghost use Rattle.flow_form.specs.Form.{shape_of, shapes, named, beside};
+ghost use Rattle.flow_gen.specs.Generated.{event_name, series, block, pairs, in_turn};
 
-use crate::kind::{Kind, kinds_of};
+use crate::kind::Kind;
 use crate::names::name_of;
 use flow_form::Form;
 use std::alloc::{AllocError, Global};
@@ -33,41 +33,22 @@ fn two(alloc: Global, left: Form, right: Form) -> Result<Vec<Form>, AllocError>
     Ok(forms)
 }
 
-fn isolated(alloc: Global, form: Form) -> Result<Form, AllocError>
-    ensures { IfOk result (λ alone. shape_of alone ≡ iso (shape_of form)) }
-{
-    Ok(Form::Iso(Box::new(alloc, form)?))
-}
-
-/// Four events in series, and the four after them.
-fn halves_of(alloc: Global, first: u32) -> Result<Vec<Form>, AllocError>
-    requires { first + 8 < 2 ^ 32 }
-    ensures { IfOk result (λ forms. map shape_of forms.items ≡ series first 4 ∷ series (first + 4) 4 ∷ []) }
-{
-    let left = series_of(alloc, first, 4)?;
-    let right = series_of(alloc, first + 4, 4)?;
-    two(alloc, left, right)
-}
-
-/// The same, and the first four isolated.
-fn isolated_halves_of(alloc: Global, first: u32) -> Result<Vec<Form>, AllocError>
-    requires { first + 8 < 2 ^ 32 }
-    ensures { IfOk result (λ forms. map shape_of forms.items ≡ iso (series first 4) ∷ series (first + 4) 4 ∷ []) }
-{
-    let left = isolated(alloc, series_of(alloc, first, 4)?)?;
-    let right = series_of(alloc, first + 4, 4)?;
-    two(alloc, left, right)
-}
-
 fn block_of(alloc: Global, first: u32, kind: Kind) -> Result<Form, AllocError>
     requires { first + 8 < 2 ^ 32 }
     ensures { IfOk result (λ form. shape_of form ≡ block first kind) }
 {
+    if kind == Kind::Series {
+        return series_of(alloc, first, 8);
+    }
+    let left = series_of(alloc, first, 4)?;
+    let right = series_of(alloc, first + 4, 4)?;
     match kind {
-        Kind::Series => series_of(alloc, first, 8),
-        Kind::Beside => Ok(Form::Beside(halves_of(alloc, first)?)),
-        Kind::IsolatedBeside => Ok(Form::Beside(isolated_halves_of(alloc, first)?)),
-        Kind::Either => Ok(Form::Either(halves_of(alloc, first)?)),
+        Kind::IsolatedBeside => {
+            let isolated = Form::Iso(Box::new(alloc, left)?);
+            Ok(Form::Beside(two(alloc, isolated, right)?))
+        }
+        Kind::Either => Ok(Form::Either(two(alloc, left, right)?)),
+        Kind::Series | Kind::Beside => Ok(Form::Beside(two(alloc, left, right)?)),
     }
 }
 
@@ -100,7 +81,7 @@ fn pairs_of(alloc: Global, kinds: &[Kind]) -> Result<Vec<Form>, AllocError>
 }
 
 /// The goal of blocks of these kinds.
-fn goal_of(alloc: Global, kinds: &[Kind]) -> Result<Form, AllocError>
+pub(crate) fn goal_of(alloc: Global, kinds: &[Kind]) -> Result<Form, AllocError>
     requires { length kinds.now ≤ 128 }
     ensures { IfOk result (λ form. shape_of form ≡ in_turn (pairs 0 kinds.now)) }
 {
@@ -111,14 +92,4 @@ fn goal_of(alloc: Global, kinds: &[Kind]) -> Result<Form, AllocError>
         return Ok(only);
     }
     Ok(Form::Serial(forms))
-}
-
-/// The goal of a block for each draw.
-#[tactic(auto, using(crate::proofs::Steps::kinds_length))]
-pub(crate) fn goal_by(alloc: Global, draws: &[u32]) -> Result<Form, AllocError>
-    requires { length draws.now ≤ 128 }
-    ensures { IfOk result (λ form. shape_of form ≡ in_turn (pairs 0 (kinds 0 draws.now))) }
-{
-    let kinds = kinds_of(alloc, draws)?;
-    goal_of(alloc, &kinds)
 }

@@ -1,9 +1,10 @@
-ghost use Rattle.std.specs.Prelude.{◌≡◌, ◌+◌, ◌-◌, ◌*◌, ◌≤◌, ◌<◌, IfOk, map, length};
+ghost use Rattle.std.specs.Prelude.{◌≡◌, ◌+◌, ◌*◌, ◌≤◌, ◌<◌, IfOk, map, length};
 ghost use Rattle.flow_form.specs.Script.{said, declared, event};
-ghost use Rattle.flow_gen.specs.Generated.{event_name, made_by, generated, events};
+ghost use Rattle.flow_gen.specs.Generated.{event_name, generated, events};
 
 use crate::draws::draw_all;
-use crate::goals::goal_by;
+use crate::goals::goal_of;
+use crate::kind::kinds_of;
 use crate::names::name_of;
 use crate::rules::rules_of;
 use flow_form::{Decl, Note, Script};
@@ -25,23 +26,8 @@ fn events_of(alloc: Global, count: u32) -> Result<Vec<Decl>, AllocError>
     Ok(decls)
 }
 
-/// The workflow of those draws: one for each block, and two for each two blocks that follow each other.
-fn script_by(alloc: Global, draws: &[u32], size: u32) -> Result<Script, AllocError>
-    requires some { 1 ≤ size }
-    requires few { size ≤ 128 }
-    requires drawn { length draws.now ≡ size + 2 * (size - 1) }
-    ensures { IfOk result (λ script. said script ≡ made_by draws.now size) }
-{
-    let (of_blocks, of_rules) = draws.split_at(size as usize);
-    Ok(Script {
-        decls: events_of(alloc, 8 * size)?,
-        goal: goal_by(alloc, of_blocks)?,
-        rules: rules_of(alloc, of_rules)?,
-    })
-}
-
 /// The workflow of that seed and size, of eight events a block.
-#[tactic(auto, using(crate::proofs::Steps::draws_length))]
+#[tactic(auto, using(crate::proofs::Steps::draws_length, crate::proofs::Steps::kinds_length))]
 pub(crate) fn script_of(alloc: Global, seed: u32, size: u32) -> Result<Script, AllocError>
     requires seed { seed ≤ 65536 }
     requires some { 1 ≤ size }
@@ -50,5 +36,11 @@ pub(crate) fn script_of(alloc: Global, seed: u32, size: u32) -> Result<Script, A
 {
     let blocks = size as usize;
     let draws = draw_all(alloc, seed, blocks + 2 * (blocks - 1))?;
-    script_by(alloc, &draws, size)
+    let (of_blocks, of_rules) = draws.split_at(blocks);
+    let kinds = kinds_of(alloc, of_blocks)?;
+    Ok(Script {
+        decls: events_of(alloc, 8 * size)?,
+        goal: goal_of(alloc, &kinds)?,
+        rules: rules_of(alloc, of_rules)?,
+    })
 }

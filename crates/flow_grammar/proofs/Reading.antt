@@ -1,8 +1,9 @@
 -- The laws of reading, of a machine whose states know what may follow them.
 use Rattle.std.proofs.Common.{ℕ, Some, List}
 use Rattle.std.specs.Prelude.{Option, option_map}
+use Rattle.flow_form.specs.declared.refusal.Wanted.{Wanted}
 use Rattle.flow_grammar.specs.Symbol.{Symbol, Placed}
-use Rattle.flow_grammar.specs.Machine.{Wanted, Reading, run, standing, step_script, finish_script, wanted_script, depth_script, script_start, read_script, step_query, finish_query, wanted_query, depth_query, query_needed, read_query, script_wants, query_wants}
+use Rattle.flow_grammar.specs.Machine.{Reading, run, standing, step_script, finish_script, wanted_script, depth_script, script_start, read_script, step_query, finish_query, wanted_query, depth_query, query_needed, read_query, script_wants, query_wants}
 use Rattle.flow_grammar.specs.Texts.{SpellsScript, SpellsQuery}
 use Rattle.flow_grammar.specs.Laws.{ReadsJustThese, SaysOneThing, IsStuckJustThere, IsTooDeepJustThere, WantsWhatCouldCome, TellsWhatIsWanted}
 use Rattle.flow_grammar.proofs.Runs.{Knows, Wants, derived, given, stuck_where, stuck_there, deep_where, deep_then, one_meaning, could_come, wanted_there}

@@ -1,8 +1,9 @@
 -- What a run finds is so, and it finds what is so, where each state knows what may follow it.
 use Rattle.std.proofs.Common.{◌≡◌, ℕ, zero, suc, ◌<◌, ◌≤◌, ◌⊎◌, Bool, true, false, Option, Some, None, List, [], ◌∷◌, ◌++◌, take, refl, sym, ap, subst, inl, inr, arith, le-leb, leb-true, leb-false}
 use Rattle.std.specs.Prelude.{option_map}
+use Rattle.flow_form.specs.declared.refusal.Wanted.{Wanted}
 use Rattle.flow_grammar.specs.Symbol.{Symbol, Placed, at, symbols, Deepens, opening, not_word}
-use Rattle.flow_grammar.specs.Machine.{Reading, gives, expected, too_deep, later, deepest, is_too_deep, at_end, go_on, run, Wanted, standing}
+use Rattle.flow_grammar.specs.Machine.{Reading, gives, expected, too_deep, later, deepest, is_too_deep, at_end, go_on, run, standing}
 use Rattle.flow_grammar.specs.Laws.{StandsFor, MayEnd}
 use Rattle.flow_grammar.specs.Texts.{IsShallow, IsDeepAt, Derives, IsWhole, IsViable, StandsDeep, IsStuckAt, NoneDeepBefore}
 use Rattle.std.proofs.lemmas.Bool.{false_from_ne_true}

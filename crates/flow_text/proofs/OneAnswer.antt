@@ -1,18 +1,16 @@
 -- A text has one answer: what it comes to is one thing, and says which.
 use Rattle.std.proofs.Common.{◌≡◌, ℕ, zero, suc, ◌<◌, ◌≤◌, List, [], ◌∷◌, length, take, slice_get, refl, sym, ap, subst, ◌∙◌, arith}
 use Rattle.std.specs.Prelude.{Option, Some, None, Result, Ok, Err, slice_index}
-use Rattle.flow_form.specs.declared.refusal.Wanted as told
-use Rattle.flow_form.specs.declared.refusal.Wanted.TheVariants as code
+use Rattle.flow_form.specs.declared.refusal.Wanted.{Wanted}
 use Rattle.flow_form.specs.declared.refusal.TextRefusal.{TextRefusal}
 use Rattle.flow_form.specs.declared.refusal.TextRefusal.TheVariants.{NotAscii, BadToken, Expected, Unknown, Repeated, TooDeep, NoMemory}
 use Rattle.flow_form.specs.Script.{Said, Asked}
 use Rattle.flow_lex.specs.declared.token.Token.{Token}
 use Rattle.flow_lex.specs.Tokens.{Lexed, lexed, IsAscii, IsFirstNotAscii}
 use Rattle.flow_grammar.specs.Symbol.{Symbol, Placed}
-use Rattle.flow_grammar.specs.Machine.{Wanted, a_declaration, a_constraint, the_name, a_fact, a_constant, an_atom, a_rule, an_opening, a_closing, an_equals, a_semicolon, a_query, the_number, the_end, Reading, gives, expected, too_deep, read_script, read_query}
+use Rattle.flow_grammar.specs.Machine.{Reading, gives, expected, too_deep, read_script, read_query}
 use Rattle.flow_grammar.specs.Roles.{script_roles, query_roles, Role}
 use Rattle.flow_reader.specs.Symbols.{symbols_of}
-use Rattle.flow_reader.specs.Readers.{kind_of}
 use Rattle.flow_reader.specs.Reading.{place_of}
 use Rattle.flow_text.specs.GoodNames.{HasGoodNames, IsUnknown, IsRepeated, IsFirstRepeated, IsFirstUnknown, AsksOfEvents, AsksFirstOfOther}
 use Rattle.flow_text.proofs.OneFirstName.{one_first, once_is_not_repeated, good_has_no_other, events_have_no_other}
@@ -78,38 +76,6 @@ one_finding read text (read_as r) (read_as s) (ascii, bad, e) (ascii', bad', e')
 
 -- The answer that says it
 
-abbrev told_of : Wanted → told.Wanted
-told_of a_declaration = code.Declaration
-told_of a_constraint = code.Constraint
-told_of the_name = code.Name
-told_of a_fact = code.Fact
-told_of a_constant = code.Constant
-told_of an_atom = code.Atom
-told_of a_rule = code.Rule
-told_of an_opening = code.Opening
-told_of a_closing = code.Closing
-told_of an_equals = code.Equals
-told_of a_semicolon = code.Semicolon
-told_of a_query = code.Query
-told_of the_number = code.Number
-told_of the_end = code.End
-
-told_back : (kind : told.Wanted) → told_of (kind_of kind) ≡ kind
-told_back code.Declaration = refl
-told_back code.Constraint = refl
-told_back code.Name = refl
-told_back code.Fact = refl
-told_back code.Constant = refl
-told_back code.Atom = refl
-told_back code.Rule = refl
-told_back code.Opening = refl
-told_back code.Closing = refl
-told_back code.Equals = refl
-told_back code.Semicolon = refl
-told_back code.Query = refl
-told_back code.Number = refl
-told_back code.End = refl
-
 abbrev refused_at : {V : Type 0} → (ℕ → List ℕ → TextRefusal) → Option (ℕ × List ℕ) → Result V TextRefusal
 refused_at why None = Err NoMemory
 refused_at why (Some (place, name)) = Err (why place name)
@@ -117,7 +83,7 @@ refused_at why (Some (place, name)) = Err (why place name)
 abbrev answer : {V : Type 0} → List ℕ → Finding V → Naming → Result V TextRefusal
 answer text (no_ascii p) v = Err (NotAscii p)
 answer text (bad_token p) v = Err (BadToken p)
-answer text (read_as (expected kind k)) v = Err (Expected (place_of text (tokens_in text) k) (told_of kind))
+answer text (read_as (expected kind k)) v = Err (Expected (place_of text (tokens_in text) k) kind)
 answer text (read_as (too_deep k)) v = Err (TooDeep (place_of text (tokens_in text) k))
 answer text (read_as (gives x)) good = Ok x
 answer text (read_as (gives x)) (again k) = refused_at (λ place name. Repeated place name) (slice_get (named_places text (tokens_in text)) k)
@@ -172,17 +138,16 @@ module _ {V : Type 0} {Spells : List Placed → V → Type 0} {wants : List Symb
   written : (x : V) → Writes Spells text x → Finds read text (read_as (gives x))
   written x h = found h.tokens (gives x) h.has_tokens ((m.reads (symbols_of text h.tokens) x).1 h.derives)
 
-  expected_there : (place : ℕ) (kind : told.Wanted) → IsExpected Spells wants text place kind → Known (Err (Expected place kind))
+  expected_there : (place : ℕ) (kind : Wanted) → IsExpected Spells wants text place kind → Known (Err (Expected place kind))
   expected_there place kind h =
       let (found_kind, e) = (m.is_stuck (symbols_of text h.tokens) h.number).1 (h.stuck, h.none_deep) in
-      let same : found_kind ≡ kind_of kind = same_Some _ _ (sym (m.tells_what_is_wanted (symbols_of text h.tokens) found_kind h.number e) ∙ h.wanted) in
+      let same : found_kind ≡ kind = same_Some _ _ (sym (m.tells_what_is_wanted (symbols_of text h.tokens) found_kind h.number e) ∙ h.wanted) in
       record {
-        finding = read_as (expected (kind_of kind) h.number);
+        finding = read_as (expected kind h.number);
         naming = good;
-        finds = found h.tokens (expected (kind_of kind) h.number) h.has_tokens (e ∙ ap (λ k. expected k h.number) same);
+        finds = found h.tokens (expected kind h.number) h.has_tokens (e ∙ ap (λ k. expected k h.number) same);
         judged = refl;
-        is = ap (λ p. Err (Expected p kind)) (h.there ∙ ap (λ ts. place_of text ts h.number) (has_these text h.tokens h.has_tokens))
-            ∙ ap (λ k. Err (Expected (place_of text (tokens_in text) h.number) k)) (sym (told_back kind));
+        is = ap (λ p. Err (Expected p kind)) (h.there ∙ ap (λ ts. place_of text ts h.number) (has_these text h.tokens h.has_tokens));
       }
 
   deep_there : (place : ℕ) → IsTooDeep Spells text place → Known (Err (TooDeep place))

@@ -1,6 +1,7 @@
 -- What reading gives, in the words of the grammar.
 use Rattle.std.proofs.Common.{◌≡◌, ℕ, suc, ◌+◌, ◌≤◌, ◌<◌, ◌^◌, List, [], ◌∷◌, length, length-append, map, slice_get, refl, sym, ap, subst, ◌∙◌, arith}
 use Rattle.std.specs.Prelude.{Option, Some, option_map}
+use Rattle.flow_form.specs.declared.refusal.Wanted.{Wanted}
 use Rattle.flow_form.specs.declared.refusal.TextRefusal.{TextRefusal}
 use Rattle.flow_form.specs.declared.refusal.TextRefusal.TheVariants.{NotAscii, BadToken, Expected, Unknown, Repeated, TooDeep, NoMemory}
 use Rattle.flow_form.specs.Script.{Said}
@@ -9,13 +10,12 @@ use Rattle.flow_lex.specs.declared.token.Token.{Token}
 use Rattle.flow_lex.specs.Tokens.{AreSpans}
 use Rattle.flow_lex.specs.Refusals.{IsRefused}
 use Rattle.flow_grammar.specs.Symbol.{Symbol, Placed, at, symbols, a_name}
-use Rattle.flow_grammar.specs.Machine.{Wanted, Reading, gives}
+use Rattle.flow_grammar.specs.Machine.{Reading, gives}
 use Rattle.flow_grammar.specs.Texts.{Derives, SpellsScript}
 use Rattle.flow_grammar.specs.Roles.{Role, role_name, names_of, NamesHaveRoles}
 use Rattle.flow_grammar.proofs.Reading.{IsMachine}
 use Rattle.flow_grammar.proofs.MadeTexts.{scripts_are_well_made}
 use Rattle.flow_reader.specs.Symbols.{symbol_of, symbols_of}
-use Rattle.flow_reader.specs.Readers.{kind_of}
 use Rattle.flow_reader.specs.Reading.{IsReadRefusal}
 use Rattle.flow_text.specs.GoodNames.{IsFirst, HasGoodNames}
 use Rattle.flow_text.specs.Saying.{HasTokens, IsLexed, TextInTokens, Writes}
@@ -38,8 +38,8 @@ module _ {V : Type 0} (Spells : List Placed → V → Type 0) (wants : List Symb
   read_refused read m tokens (NotAscii place) has h = absurd h
   read_refused read m tokens (BadToken place) has h = absurd h
   read_refused read m tokens (Expected place kind) has (k, e, there) =
-      let (stuck, none) = (m.is_stuck (symbols_of text tokens) k).0 (kind_of kind, e) in
-      let (come, end) = m.wants_what_could_come (symbols_of text tokens) (kind_of kind) k e in
+      let (stuck, none) = (m.is_stuck (symbols_of text tokens) k).0 (kind, e) in
+      let (come, end) = m.wants_what_could_come (symbols_of text tokens) kind k e in
       record {
         tokens = tokens;
         has_tokens = has;
@@ -47,7 +47,7 @@ module _ {V : Type 0} (Spells : List Placed → V → Type 0) (wants : List Symb
         there = there;
         stuck = stuck;
         none_deep = none;
-        wanted = m.tells_what_is_wanted (symbols_of text tokens) (kind_of kind) k e;
+        wanted = m.tells_what_is_wanted (symbols_of text tokens) kind k e;
         could_come = come;
         could_end = end;
       }
