@@ -1,5 +1,5 @@
 -- What each state wants could come.
-use Rattle.std.proofs.Common.{ℕ, List, [], ◌∷◌, subst, sym}
+use Rattle.std.proofs.Common.{rules, ℕ, List, [], ◌∷◌, subst, sym}
 use Rattle.flow_facts.specs.declared.constant.Const.{Const}
 use Rattle.flow_facts.specs.Atom.{Atom}
 use Rattle.flow_form.specs.Script.{Declared}
@@ -15,28 +15,17 @@ Moves (whole x) = Unit {0}
 Moves stuck = ⊥
 
 constant_comes : (n : List ℕ) (args : List Const) (t : Symbol) → IsAConstant t → Moves (step_arg (constant_needed n args) t)
-constant_comes n args (a_name m) h = tt
-constant_comes n args (a_number m) h = tt
-constant_comes n args _ h = absurd h
+constant_comes n args _ h = search rules
 
 arg_comes : (a : ArgState) (t : Symbol) → StandsFor (wanted_arg a) t → Moves (step_arg a t)
 arg_comes (constant_needed n args) t h = constant_comes n args t h
 arg_comes (after_constant n args) t h = subst (λ y. Moves (step_arg (after_constant n args) y)) (sym h) tt
 
 atom_comes : (fs : List Frame) (l : Level) (t : Symbol) → BeginsAtom t → Moves (step_goal (atom_needed fs l) t)
-atom_comes fs l nop_word h = tt
-atom_comes fs l (a_name n) h = tt
-atom_comes fs l question h = tt
-atom_comes fs l exclamation h = tt
-atom_comes fs l ins_word h = tt
-atom_comes fs l del_word h = tt
-atom_comes fs l iso_word h = tt
-atom_comes fs l opening h = tt
-atom_comes fs l _ h = absurd h
+atom_comes fs l _ h = search rules
 
 relation_comes : (p : Prefix) (fs : List Frame) (l : Level) (t : Symbol) → IsAName t → Moves (step_goal (fact_needed p fs l) t)
-relation_comes p fs l (a_name n) h = tt
-relation_comes p fs l _ h = absurd h
+relation_comes p fs l _ h = search rules
 
 arg_moves : (p : Prefix) (fs : List Frame) (l : Level) (o : Step ArgState Atom) → Moves o → Moves (after_arg p fs l o)
 arg_moves p fs l (reading a) h = h
@@ -54,18 +43,10 @@ goal_comes (after_relation p n (f ∷ fs) l) t h = rw h tt
 goal_comes (in_args p a fs l) t h = arg_moves p fs l (step_arg a t) (arg_comes a t h)
 
 unit_comes : (fs : List RuleFrame) (l : RuleLevel) (k : ℕ) (t : Symbol) → BeginsUnit t → Moves (step_rule (unit_needed fs l k) t)
-unit_comes fs l k not_word h = tt
-unit_comes fs l k opening h = tt
-unit_comes fs l k must_word h = tt
-unit_comes fs l k never_word h = tt
-unit_comes fs l k order_word h = tt
-unit_comes fs l k precedes_word h = tt
-unit_comes fs l k needs_word h = tt
-unit_comes fs l k _ h = absurd h
+unit_comes fs l k _ h = search rules
 
 name_comes : (names : Names) (fs : List RuleFrame) (l : RuleLevel) (k : ℕ) (t : Symbol) → IsAName t → Moves (step_rule (name_needed names fs l k) t)
-name_comes names fs l k (a_name n) h = tt
-name_comes names fs l k _ h = absurd h
+name_comes names fs l k _ h = search rules
 
 rule_comes : (r : RuleState) (t : Symbol) → StandsFor (wanted_rule r) t → Moves (step_rule r t)
 rule_comes (unit_needed fs l k) t h = unit_comes fs l k t h
@@ -81,15 +62,10 @@ carry_goes within after (whole x) h = h
 carry_goes within after stuck h = h
 
 named_goes : {T : Type 0} (next : List ℕ → T) (t : Symbol) → IsAName t → Goes (with_name next t)
-named_goes next (a_name n) h = tt
-named_goes next _ h = absurd h
+named_goes next _ h = search rules
 
 declaration_comes : (ds : List Declared) (t : Symbol) → BeginsDeclaration t → Goes (step_script (declaration_needed ds) t)
-declaration_comes ds fact_word h = tt
-declaration_comes ds event_word h = tt
-declaration_comes ds flow_word h = tt
-declaration_comes ds goal_word h = tt
-declaration_comes ds _ h = absurd h
+declaration_comes ds _ h = search rules
 
 script_comes : (s : State) (t : Symbol) → StandsFor (wanted_script s) t → Goes (step_script s t)
 script_comes (declaration_needed ds) t h = declaration_comes ds t h
@@ -131,13 +107,10 @@ pub script_wants : Wants step_script finish_script wanted_script
 script_wants = record { comes = script_comes; ends = script_ends }
 
 start_comes : (t : Symbol) → BeginsQuery t → Goes (step_query query_needed t)
-start_comes holds_word h = tt
-start_comes redundant_word h = tt
-start_comes _ h = absurd h
+start_comes _ h = search rules
 
 number_comes : (t : Symbol) → IsANumber t → Goes (step_query number_needed t)
-number_comes (a_number n) h = tt
-number_comes _ h = absurd h
+number_comes _ h = search rules
 
 query_comes : (s : QueryState) (t : Symbol) → StandsFor (wanted_query s) t → Goes (step_query s t)
 query_comes query_needed t h = start_comes t h

@@ -102,21 +102,18 @@ module _ {S V : Type 0} (step : S → Symbol → Option S) (finish : S → Optio
 
   pub stands_refused : (s : S) (t : Token) (more : List Token) (place : ℕ) (refusal : TextRefusal) → place ≡ t.start →
       IsStepRefusal step wanted depth s (symbol_of text t) place refusal → Here s (t ∷ more) → IsReadRefusal text tokens read refusal
-  stands_refused s t more place (NotAscii p) at refused h = refused
-  stands_refused s t more place (BadToken p) at refused h = refused
   stands_refused s t more place (Expected p kind) at (stuck, wants, there) h = (
     h.passed,
     sym h.so_far ∙ by_step.where_stuck s (symbol_of text t) (symbols_of text more) h.passed stuck ∙ ap (λ k. expected k h.passed) (sym wants),
     there ∙ at ∙ sym (here s (t ∷ more) h),
   )
-  stands_refused s t more place (Unknown p name) at refused h = refused
-  stands_refused s t more place (Repeated p name) at refused h = refused
   stands_refused s t more place (TooDeep p) at ((next, led), deep, there) h = (
     h.passed,
     sym h.so_far ∙ by_step.where_deep s next (symbol_of text t) (symbols_of text more) h.passed led deep,
     there ∙ at ∙ sym (here s (t ∷ more) h),
   )
   stands_refused s t more place NoMemory at refused h = tt
+  stands_refused s t more place _ at refused h = refused
 
   pub stands_value : (s : S) (v : V) → finish s ≡ Some v → Here s [] → read ≡ gives v
   stands_value s v e h = sym h.so_far ∙ by_step.at_value s v h.passed e

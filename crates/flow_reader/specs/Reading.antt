@@ -15,13 +15,10 @@ place_of text (t ∷ ts) (suc k) = place_of text ts k
 
 -- the refusal says what reading comes to; want of memory says nothing of it
 abbrev pub IsReadRefusal : {V : Type 0} → List ℕ → List Token → Reading V → TextRefusal → Type 0
-IsReadRefusal text tokens read (NotAscii place) = ⊥
-IsReadRefusal text tokens read (BadToken place) = ⊥
 IsReadRefusal text tokens read (Expected place kind) = (k : ℕ) × (read ≡ expected kind k) × (place ≡ place_of text tokens k)
-IsReadRefusal text tokens read (Unknown place name) = ⊥
-IsReadRefusal text tokens read (Repeated place name) = ⊥
 IsReadRefusal text tokens read (TooDeep place) = (k : ℕ) × (read ≡ too_deep k) × (place ≡ place_of text tokens k)
 IsReadRefusal text tokens read NoMemory = Unit {0}
+IsReadRefusal text tokens read _ = ⊥
 
 -- One step of a machine
 
@@ -38,10 +35,7 @@ StepsTo step depth s t next = (step s t ≡ Some next) × (is_too_deep t (depth 
 
 -- the refusal says why the symbol at the place does not
 abbrev pub IsStepRefusal : {S : Type 0} → (S → Symbol → Option S) → (S → Wanted) → (S → ℕ) → S → Symbol → ℕ → TextRefusal → Type 0
-IsStepRefusal step wanted depth s t place (NotAscii p) = ⊥
-IsStepRefusal step wanted depth s t place (BadToken p) = ⊥
 IsStepRefusal step wanted depth s t place (Expected p kind) = (step s t ≡ None) × (kind ≡ wanted s) × (p ≡ place)
-IsStepRefusal step wanted depth s t place (Unknown p name) = ⊥
-IsStepRefusal step wanted depth s t place (Repeated p name) = ⊥
 IsStepRefusal {S} step wanted depth s t place (TooDeep p) = ((next : S) × (step s t ≡ Some next)) × (is_too_deep t (depth s) ≡ true) × (p ≡ place)
 IsStepRefusal step wanted depth s t place NoMemory = Unit {0}
+IsStepRefusal step wanted depth s t place _ = ⊥

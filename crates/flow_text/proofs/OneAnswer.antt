@@ -92,10 +92,7 @@ answer text (read_as (gives x)) (other k) = refused_at (λ place name. Unknown p
 -- what is found of names, where there is a value
 abbrev Judged : {V : Type 0} → (V → Naming → Type 0) → Finding V → Naming → Type 0
 Judged judge (read_as (gives x)) v = judge x v
-Judged judge (no_ascii p) v = v ≡ good
-Judged judge (bad_token p) v = v ≡ good
-Judged judge (read_as (expected kind k)) v = v ≡ good
-Judged judge (read_as (too_deep k)) v = v ≡ good
+Judged judge _ v = v ≡ good
 
 record Accounts {V : Type 0} (read : List Symbol → Reading V) (judge : V → Naming → Type 0) (text : List ℕ) (a : Result V TextRefusal) : Type 0 where
   finding : Finding V
@@ -106,11 +103,8 @@ record Accounts {V : Type 0} (read : List Symbol → Reading V) (judge : V → N
 
 module _ {V : Type 0} (judge : V → Naming → Type 0) (one_naming : (x : V) (v u : Naming) → judge x v → judge x u → v ≡ u) where
   one_judged : (f : Finding V) (v u : Naming) → Judged judge f v → Judged judge f u → v ≡ u
-  one_judged (no_ascii p) v u h g = h ∙ sym g
-  one_judged (bad_token p) v u h g = h ∙ sym g
   one_judged (read_as (gives x)) v u h g = one_naming x v u h g
-  one_judged (read_as (expected kind k)) v u h g = h ∙ sym g
-  one_judged (read_as (too_deep k)) v u h g = h ∙ sym g
+  one_judged _ v u h g = h ∙ sym g
 
   one_answer : (read : List Symbol → Reading V) (text : List ℕ) (a b : Result V TextRefusal) → Accounts read judge text a → Accounts read judge text b → a ≡ b
   one_answer read text a b h g =

@@ -27,16 +27,11 @@ module _ {V : Type 0} (Spells : List Placed → V → Type 0) (wants : List Symb
   pub lex_refused : (refusal : TextRefusal) → IsRefused text refusal → IsTextRefusal Spells wants again unknown text refusal
   lex_refused (NotAscii place) h = h
   lex_refused (BadToken place) h = h
-  lex_refused (Expected place kind) h = absurd h
-  lex_refused (Unknown place name) h = absurd h
-  lex_refused (Repeated place name) h = absurd h
-  lex_refused (TooDeep place) h = absurd h
   lex_refused NoMemory h = tt
+  lex_refused _ h = absurd h
 
   pub read_refused : (read : List Symbol → Reading V) → IsMachine Spells wants read → (tokens : List Token) (refusal : TextRefusal) → HasTokens text tokens
       → IsReadRefusal text tokens (read (symbols_of text tokens)) refusal → IsTextRefusal Spells wants again unknown text refusal
-  read_refused read m tokens (NotAscii place) has h = absurd h
-  read_refused read m tokens (BadToken place) has h = absurd h
   read_refused read m tokens (Expected place kind) has (k, e, there) =
       let (stuck, none) = (m.is_stuck (symbols_of text tokens) k).0 (kind, e) in
       let (come, end) = m.wants_what_could_come (symbols_of text tokens) kind k e in
@@ -51,12 +46,11 @@ module _ {V : Type 0} (Spells : List Placed → V → Type 0) (wants : List Symb
         could_come = come;
         could_end = end;
       }
-  read_refused read m tokens (Unknown place name) has h = absurd h
-  read_refused read m tokens (Repeated place name) has h = absurd h
   read_refused read m tokens (TooDeep place) has (k, e, there) =
       let (deep, none) = (m.is_too_deep (symbols_of text tokens) k).0 e in
       record { tokens = tokens; has_tokens = has; number = k; there = there; deep = deep; none_before = none }
   read_refused read m tokens NoMemory has h = tt
+  read_refused read m tokens _ has h = absurd h
 
 -- The names
 
