@@ -1,5 +1,5 @@
 -- A goal: what may follow each state, up to its semicolon.
-use Rattle.std.proofs.Common.{◌≡◌, ℕ, suc, ◌⊎◌, List, [], ◌∷◌, ◌++◌, refl, sym, ap, ◌∙◌, subst, inl, inr, append_assoc, append-nil}
+use Rattle.std.proofs.Common.{rules, ◌≡◌, ℕ, suc, ◌⊎◌, List, [], ◌∷◌, ◌++◌, refl, sym, ap, ◌∙◌, subst, inl, inr, append_assoc, append-nil}
 use Rattle.flow_facts.specs.Atom.{Atom, atom}
 use Rattle.flow_form.specs.Form.{Shape, iso}
 use Rattle.flow_grammar.specs.Symbol.{Symbol, Placed, at, nop_word, iso_word, ins_word, del_word, a_name, star, bar, plus, opening, closing, semicolon, question, exclamation}
@@ -101,21 +101,15 @@ start_forth K fs l (group_text g) v t =
 
 relation_front : (K : Follow Shape) (p : Prefix) (n : List ℕ) (fs : List Frame) (l : Level) (w : List Placed) →
     GoalFront (after_atom fs (push l (prefixed p (atom n [])))) w K → GoalFront (after_relation p n fs l) w K
-relation_front K p n fs l [] h = h
-relation_front K p n fs l (at m opening ∷ w) h = absurd h.1
-relation_front K p n fs l (at m _ ∷ w) h = h
+relation_front K p n fs l w h = search rules
 
 of_arg : (K : Follow Shape) (p : Prefix) (fs : List Frame) (l : Level) (o : Step ArgState Atom) (w : List Placed) →
     StepNext (ArgRest (suc (height fs))) o w (AfterFact K fs l p) → StepNext GoalRest (after_arg p fs l o) w K
-of_arg K p fs l (reading a) w h = h
-of_arg K p fs l (whole f) w h = h
-of_arg K p fs l stuck w h = h
+of_arg K p fs l o w h = search rules
 
 to_arg : (K : Follow Shape) (p : Prefix) (fs : List Frame) (l : Level) (o : Step ArgState Atom) (w : List Placed) →
     StepNext GoalRest (after_arg p fs l o) w K → StepNext (ArgRest (suc (height fs))) o w (AfterFact K fs l p)
-to_arg K p fs l (reading a) w h = h
-to_arg K p fs l (whole f) w h = h
-to_arg K p fs l stuck w h = h
+to_arg K p fs l o w h = search rules
 
 args_front : (K : Follow Shape) (p : Prefix) (a : ArgState) (fs : List Frame) (l : Level) (w : List Placed) →
     StepFront step_arg (λ a'. suc (height fs)) (ArgRest (suc (height fs))) a w (AfterFact K fs l p) → GoalFront (in_args p a fs l) w K

@@ -18,8 +18,7 @@ constant_comes : (n : List ℕ) (args : List Const) (t : Symbol) → IsAConstant
 constant_comes n args _ h = search rules
 
 arg_comes : (a : ArgState) (t : Symbol) → StandsFor (wanted_arg a) t → Moves (step_arg a t)
-arg_comes (constant_needed n args) t h = constant_comes n args t h
-arg_comes (after_constant n args) t h = subst (λ y. Moves (step_arg (after_constant n args) y)) (sym h) tt
+arg_comes _ t h = search rules
 
 atom_comes : (fs : List Frame) (l : Level) (t : Symbol) → BeginsAtom t → Moves (step_goal (atom_needed fs l) t)
 atom_comes fs l _ h = search rules
@@ -28,9 +27,7 @@ relation_comes : (p : Prefix) (fs : List Frame) (l : Level) (t : Symbol) → IsA
 relation_comes p fs l _ h = search rules
 
 arg_moves : (p : Prefix) (fs : List Frame) (l : Level) (o : Step ArgState Atom) → Moves o → Moves (after_arg p fs l o)
-arg_moves p fs l (reading a) h = h
-arg_moves p fs l (whole f) h = h
-arg_moves p fs l stuck h = h
+arg_moves p fs l _ h = search rules
 
 goal_comes : (g : GoalState) (t : Symbol) → StandsFor (wanted_goal g) t → Moves (step_goal g t)
 goal_comes (atom_needed fs l) t h = atom_comes fs l t h
@@ -49,17 +46,10 @@ name_comes : (names : Names) (fs : List RuleFrame) (l : RuleLevel) (k : ℕ) (t 
 name_comes names fs l k _ h = search rules
 
 rule_comes : (r : RuleState) (t : Symbol) → StandsFor (wanted_rule r) t → Moves (step_rule r t)
-rule_comes (unit_needed fs l k) t h = unit_comes fs l k t h
-rule_comes (after_unit [] l) t h = rw h tt
-rule_comes (after_unit (f ∷ fs) l) t h = rw h tt
-rule_comes (name_needed names fs l k) t h = name_comes names fs l k t h
-rule_comes (after_names ns [] l k) t h = rw h tt
-rule_comes (after_names ns (f ∷ fs) l k) t h = rw h tt
+rule_comes r t h = search (rules, unit_comes, name_comes)
 
 carry_goes : {S V T : Type 0} (within : S → T) (after : V → T) (o : Step S V) → Moves o → Goes (carry within after o)
-carry_goes within after (reading s) h = h
-carry_goes within after (whole x) h = h
-carry_goes within after stuck h = h
+carry_goes within after _ h = search rules
 
 named_goes : {T : Type 0} (next : List ℕ → T) (t : Symbol) → IsAName t → Goes (with_name next t)
 named_goes next _ h = search rules
@@ -79,20 +69,10 @@ script_comes (in_constraint ds s rs r) t h = carry_goes (in_constraint ds s rs) 
 script_comes _ t h = rw h tt
 
 goal_goes_on : (g : GoalState) → ¬ MayEnd (wanted_goal g)
-goal_goes_on (after_atom [] l) h = h
-goal_goes_on (after_atom (f ∷ fs) l) h = h
-goal_goes_on (after_relation p n [] l) h = h
-goal_goes_on (after_relation p n (f ∷ fs) l) h = h
-goal_goes_on (in_args p (constant_needed n args) fs l) h = h
-goal_goes_on (in_args p (after_constant n args) fs l) h = h
-goal_goes_on _ h = h
+goal_goes_on g h = search rules
 
 rule_goes_on : (r : RuleState) → ¬ MayEnd (wanted_rule r)
-rule_goes_on (after_unit [] l) h = h
-rule_goes_on (after_unit (f ∷ fs) l) h = h
-rule_goes_on (after_names ns [] l k) h = h
-rule_goes_on (after_names ns (f ∷ fs) l k) h = h
-rule_goes_on _ h = h
+rule_goes_on r h = search rules
 
 script_ends : (s : State) → MayEnd (wanted_script s) → Goes (finish_script s)
 script_ends (constraint_needed ds s rs) h = tt
@@ -120,9 +100,7 @@ query_comes (after_number n) t h = rw h tt
 query_comes (query_read q) t h = absurd h
 
 query_ends : (s : QueryState) → MayEnd (wanted_query s) → Goes (finish_query s)
-query_ends (query_read q) h = tt
-query_ends (in_property r) h = rule_goes_on r h
-query_ends _ h = h
+query_ends s h = search (rules, rule_goes_on)
 
 pub query_wants : Wants step_query finish_query wanted_query
 query_wants = record { comes = query_comes; ends = query_ends }
