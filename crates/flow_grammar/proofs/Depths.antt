@@ -1,5 +1,5 @@
 -- What a text means is printed no deeper than the text.
-use Rattle.std.proofs.Common.{ℕ, zero, suc, ◌+◌, ◌<◌, ◌≤◌, Bool, true, false, List, [], ◌∷◌, arith}
+use Rattle.std.proofs.Common.{rules as std_rules, ℕ, zero, suc, ◌+◌, ◌<◌, ◌≤◌, Bool, true, false, List, [], ◌∷◌, arith}
 use Rattle.flow_model.specs.Lists.{Each}
 use Rattle.flow_facts.specs.declared.constant.Const.{Const}
 use Rattle.flow_form.specs.Form.{Shape, serial, beside, either, shapes}
@@ -81,10 +81,7 @@ after_fact d (applied n c cs) r l (h, (k, (j, more))) =
     (omega arith, (after_constants (suc d) cs (at (suc d) closing ∷ r) more).1)
 
 fact_within : (d : ℕ) (p : Prefix) (f : FactText) → d + arguments_nesting (mean_fact f).args ≤ deepest → Holds goals 0 d (prefixed p (mean_fact f))
-fact_within d asking f h = h
-fact_within d denying f h = h
-fact_within d adding f h = h
-fact_within d taking f h = h
+fact_within d p f h = search std_rules
 
 after_names : (d : ℕ) (ns : List (List ℕ)) (r : List Placed) → IsShallow (spell_names d ns r) → IsShallow r
 after_names d [] r h = h

@@ -1,5 +1,5 @@
 -- What a text says is well made.
-use Rattle.std.proofs.Common.{◌≡◌, ℕ, zero, suc, ◌<◌, ◌≤◌, List, [], ◌∷◌, ◌++◌, map, flat_map, length, subst, ap, ◌∙◌, arith, length-append}
+use Rattle.std.proofs.Common.{rules as std_rules, ◌≡◌, ℕ, zero, suc, ◌<◌, ◌≤◌, List, [], ◌∷◌, ◌++◌, map, flat_map, length, subst, ap, ◌∙◌, arith, length-append}
 use Rattle.std.proofs.lemmas.Grind.{flat_map-append}
 use Rattle.std.proofs.lemmas.List.{length-map}
 use Rattle.flow_model.specs.Lists.{Each}
@@ -47,17 +47,12 @@ mutual
   grouped (group_text t) = grouped t
   grouped nop_text = tt
   grouped (name_text n) = tt
-  grouped (fact_text asking f) = tt
-  grouped (fact_text denying f) = tt
-  grouped (fact_text adding f) = tt
-  grouped (fact_text taking f) = tt
+  grouped (fact_text p f) = search std_rules
   grouped (iso_text g) = grouped g
   grouped (not_text u) = grouped u
-  grouped (single_text must_come n) = tt
-  grouped (single_text never_come n) = tt
+  grouped (single_text s n) = search std_rules
   grouped (order_text a b ns) = omega arith
-  grouped (pair_text preceding a b) = tt
-  grouped (pair_text needing a b) = tt
+  grouped (pair_text p a b) = search std_rules
 
   grouped_more : {k : Kind} {n : ℕ} (ms : More k n) → Each (Grouped k) (mean_more ms)
   grouped_more no_more_text = tt

@@ -75,13 +75,7 @@ rule_goes_on : (r : RuleState) → ¬ MayEnd (wanted_rule r)
 rule_goes_on r h = search rules
 
 script_ends : (s : State) → MayEnd (wanted_script s) → Goes (finish_script s)
-script_ends (constraint_needed ds s rs) h = tt
-script_ends (in_declared_args ds (constant_needed n args)) h = h
-script_ends (in_declared_args ds (after_constant n args)) h = h
-script_ends (in_flow ds n g) h = goal_goes_on g h
-script_ends (in_goal ds g) h = goal_goes_on g h
-script_ends (in_constraint ds s rs r) h = rule_goes_on r h
-script_ends _ h = h
+script_ends s h = search (rules, goal_goes_on, rule_goes_on)
 
 pub script_wants : Wants step_script finish_script wanted_script
 script_wants = record { comes = script_comes; ends = script_ends }
