@@ -5,7 +5,7 @@ use Rattle.std.specs.Prelude.{Option, Some, None}
 use Rattle.flow_form.specs.declared.refusal.Wanted.{Wanted}
 use Rattle.flow_model.specs.Lists.{Each}
 use Rattle.flow_form.specs.declared.refusal.TextRefusal.{TextRefusal}
-use Rattle.flow_form.specs.declared.refusal.TextRefusal.TheVariants.{NotAscii, BadToken, Expected, Unknown, Repeated, TooDeep, NoMemory}
+use Rattle.flow_form.specs.declared.refusal.TextRefusal.TheVariants.{Expected, TooDeep, NoMemory}
 use Rattle.flow_lex.specs.declared.token.Token.{Token}
 use Rattle.flow_lex.specs.Tokens.{AreSpans, IsSmall}
 use Rattle.flow_grammar.specs.Symbol.{Symbol}

@@ -1,7 +1,7 @@
 -- A symbol leads at most one deeper.
-use Rattle.std.proofs.Common.{◌≡◌, ℕ, suc, ◌≤◌, List, [], ◌∷◌, ◌++◌, refl, arith}
+use Rattle.std.proofs.Common.{rules, ◌≡◌, ℕ, suc, ◌≤◌, List, [], ◌∷◌, ◌++◌, refl, arith}
 use Rattle.std.specs.Prelude.{Option, Some, None}
-use Rattle.flow_grammar.specs.Symbol.{Symbol, nop_word, iso_word, ins_word, del_word, must_word, never_word, order_word, precedes_word, needs_word, not_word, and_word, or_word, a_name, star, bar, plus, opening, closing, semicolon, question, exclamation, fact_word, event_word, flow_word, goal_word, constraint_word, comma, equals, done_word, fail_word, a_number, holds_word, redundant_word}
+use Rattle.flow_grammar.specs.Symbol.{Symbol, and_word, or_word, a_name, star, bar, plus, opening, closing, semicolon, comma, done_word, fail_word, a_number}
 use Rattle.flow_grammar.specs.Machine.{Step, reading, whole, stuck, carry, Level, Frame, parenthesis, isolation, GoalState, atom_needed, after_atom, opening_needed, fact_needed, after_relation, in_args, GoalStep, step_goal, start_atom, join_atom, open_iso, name_relation, open_args, after_arg, step_arg, ArgState, height, depth_goal, RuleFrame, rule_parenthesis, RuleLevel, RuleState, unit_needed, after_unit, name_needed, after_names, Names, one, two, second, two_or_more, one_or_more, RuleStep, step_rule, start_unit, join_unit, take_name, read_name, more_names, rule_height, nots_in, depth_rule, push, push_rule}
 use Rattle.flow_grammar.specs.Machine as machine
 use Rattle.flow_facts.specs.Atom.{Atom, atom}
@@ -12,6 +12,15 @@ use Rattle.flow_form.specs.Form.{Shape}
 use Rattle.flow_form.specs.RuleForm.{RuleShape, order}
 use Rattle.flow_reader.proofs.Heights.{nots_added}
 
+least : (n : ℕ) → 0 ≤ n
+least n = omega arith
+
+no_deeper : (n : ℕ) → n ≤ suc n
+no_deeper n = omega arith
+
+as_deep : (n : ℕ) → n ≤ n
+as_deep n = omega arith
+
 abbrev StepWithin : {S V : Type 0} → (S → ℕ) → Step S V → ℕ → Type 0
 StepWithin depth (reading s) d = depth s ≤ suc d
 StepWithin depth (whole x) d = Unit {0}
@@ -21,15 +30,7 @@ abbrev GoalWithin : GoalStep → ℕ → Type 0
 GoalWithin = StepWithin depth_goal
 
 start_within : (fs : List Frame) (l : Level) (t : Symbol) → GoalWithin (start_atom fs l t) (height fs)
-start_within fs l nop_word = omega arith
-start_within fs l (a_name n) = omega arith
-start_within fs l question = omega arith
-start_within fs l exclamation = omega arith
-start_within fs l ins_word = omega arith
-start_within fs l del_word = omega arith
-start_within fs l iso_word = omega arith
-start_within fs l opening = omega arith
-start_within fs l _ = tt
+start_within fs l t = search (rules, least, no_deeper, as_deep)
 
 join_within : (fs : List Frame) (l : Level) (t : Symbol) → GoalWithin (join_atom fs l t) (height fs)
 join_within fs l star = omega arith
@@ -41,12 +42,10 @@ join_within [] l _ = tt
 join_within (f ∷ fs) l _ = tt
 
 open_within : (fs : List Frame) (l : Level) (t : Symbol) → GoalWithin (open_iso fs l t) (height fs)
-open_within fs l opening = omega arith
-open_within fs l _ = tt
+open_within fs l t = search (rules, least, no_deeper, as_deep)
 
 relation_within : (p : Prefix) (fs : List Frame) (l : Level) (t : Symbol) → GoalWithin (name_relation p fs l t) (height fs)
-relation_within p fs l (a_name n) = omega arith
-relation_within p fs l _ = tt
+relation_within p fs l t = search (rules, least, no_deeper, as_deep)
 
 args_within : (p : Prefix) (n : List ℕ) (fs : List Frame) (l : Level) (t : Symbol) → GoalWithin (open_args p n fs l t) (height fs)
 args_within p n fs l opening = omega arith
@@ -69,14 +68,7 @@ abbrev RuleWithin : RuleStep → ℕ → Type 0
 RuleWithin = StepWithin depth_rule
 
 unit_within : (fs : List RuleFrame) (l : RuleLevel) (k : ℕ) (t : Symbol) → RuleWithin (start_unit fs l k t) (nots_in k (rule_height fs))
-unit_within fs l k not_word = omega arith
-unit_within fs l k opening = omega arith
-unit_within fs l k must_word = omega arith
-unit_within fs l k never_word = omega arith
-unit_within fs l k order_word = omega arith
-unit_within fs l k precedes_word = omega arith
-unit_within fs l k needs_word = omega arith
-unit_within fs l k _ = tt
+unit_within fs l k t = search (rules, least, no_deeper, as_deep)
 
 joined_within : (fs : List RuleFrame) (l : RuleLevel) (t : Symbol) → RuleWithin (join_unit fs l t) (rule_height fs)
 joined_within fs l and_word = omega arith
@@ -130,11 +122,7 @@ item_within again ds none semicolon d = omega arith
 item_within again ds none _ d = tt
 
 start_declaration_within : (ds : List Declared) (t : Symbol) (d : ℕ) → Within machine.depth_script (machine.start_declaration ds t) d
-start_declaration_within ds fact_word d = omega arith
-start_declaration_within ds event_word d = omega arith
-start_declaration_within ds flow_word d = omega arith
-start_declaration_within ds goal_word d = omega arith
-start_declaration_within ds _ d = tt
+start_declaration_within ds t d = search (rules, least, no_deeper, as_deep)
 
 declared_args_within : (ds : List Declared) (n : List ℕ) (t : Symbol) (d : ℕ) → Within machine.depth_script (machine.open_declared_args ds n t) d
 declared_args_within ds n opening d = omega arith
@@ -155,12 +143,10 @@ failures_within ds n (a_number m) d = omega arith
 failures_within ds n t d = item_within machine.event_to_declare (ds ++ event n Fail ∷ []) refl t d
 
 begin_within : (ds : List Declared) (n : List ℕ) (t : Symbol) (d : ℕ) → Within machine.depth_script (machine.begin_flow ds n t) d
-begin_within ds n equals d = omega arith
-begin_within ds n _ d = tt
+begin_within ds n t d = search (rules, least, no_deeper, as_deep)
 
 constraint_within : (ds : List Declared) (s : Shape) (rs : List RuleShape) (t : Symbol) (d : ℕ) → Within machine.depth_script (machine.start_constraint ds s rs t) d
-constraint_within ds s rs constraint_word d = omega arith
-constraint_within ds s rs _ d = tt
+constraint_within ds s rs t d = search (rules, least, no_deeper, as_deep)
 
 pub script_within : (s : machine.State) (t : Symbol) → Within machine.depth_script (machine.step_script s t) (machine.depth_script s)
 script_within (machine.declaration_needed ds) t = start_declaration_within ds t 0
@@ -180,17 +166,13 @@ script_within (machine.constraint_needed ds s rs) t = constraint_within ds s rs 
 script_within (machine.in_constraint ds s rs r) t = carried_within depth_rule machine.depth_script (machine.in_constraint ds s rs) _ (λ s. refl) (λ x. refl) (step_rule r t) (depth_rule r) (rule_within r t)
 
 start_query_within : (t : Symbol) (d : ℕ) → Within machine.depth_query (machine.start_query t) d
-start_query_within holds_word d = omega arith
-start_query_within redundant_word d = omega arith
-start_query_within _ d = tt
+start_query_within t d = search (rules, least, no_deeper, as_deep)
 
 number_within : (t : Symbol) (d : ℕ) → Within machine.depth_query (machine.read_number t) d
-number_within (a_number n) d = omega arith
-number_within _ d = tt
+number_within t d = search (rules, least, no_deeper, as_deep)
 
 end_within : (n : ℕ) (t : Symbol) (d : ℕ) → Within machine.depth_query (machine.end_number n t) d
-end_within n semicolon d = omega arith
-end_within n _ d = tt
+end_within n t d = search (rules, least, no_deeper, as_deep)
 
 pub query_within : (s : machine.QueryState) (t : Symbol) → Within machine.depth_query (machine.step_query s t) (machine.depth_query s)
 query_within machine.query_needed t = start_query_within t 0
