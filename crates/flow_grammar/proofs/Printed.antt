@@ -1,7 +1,6 @@
 -- A goal and a rule have a derivation that spells their print, no deeper than the print.
-use Rattle.std.proofs.Common.{rules as std_rules, ◌≡◌, ℕ, suc, ◌+◌, ◌≤◌, max, Bool, true, false, zero, List, [], ◌∷◌, length, refl, ap, ◌∙◌, arith}
+use Rattle.std.proofs.Common.{rules as std_rules, ◌≡◌, ℕ, suc, ◌+◌, ◌≤◌, max, Bool, true, false, List, [], ◌∷◌, length, refl, ap, ◌∙◌, arith}
 use Rattle.flow_facts.specs.declared.constant.Const.{Const}
-use Rattle.flow_facts.specs.declared.constant.Const.TheVariants.{Word, Number}
 use Rattle.flow_facts.specs.Atom.{Atom, atom}
 use Rattle.flow_form.specs.Form.{Shape, Shapes, nop, named, test, absent, ins, del, iso, serial, beside, either, no_more, followed, shapes, members, IsGrouped, AreGrouped}
 use Rattle.flow_form.specs.RuleForm.{RuleShape, RuleShapes, must, never, order, precedes, needs, negated, all, any, rule_shapes, rule_members, IsGroupedRule, AreGroupedRules}

@@ -1,11 +1,11 @@
 -- What each state wants could come.
-use Rattle.std.proofs.Common.{rules, ℕ, List, [], ◌∷◌, subst, sym}
+use Rattle.std.proofs.Common.{rules, ℕ, List, [], ◌∷◌}
 use Rattle.flow_facts.specs.declared.constant.Const.{Const}
 use Rattle.flow_facts.specs.Atom.{Atom}
 use Rattle.flow_form.specs.Script.{Declared}
-use Rattle.flow_grammar.specs.Symbol.{Symbol, fact_word, event_word, flow_word, goal_word, nop_word, iso_word, ins_word, del_word, must_word, never_word, order_word, precedes_word, needs_word, not_word, holds_word, redundant_word, a_name, a_number, opening, question, exclamation}
+use Rattle.flow_grammar.specs.Symbol.{Symbol}
 use Rattle.flow_grammar.specs.Grammar.{Prefix}
-use Rattle.flow_grammar.specs.Machine.{Step, reading, whole, stuck, carry, with_name, ArgState, constant_needed, after_constant, step_arg, wanted_arg, Level, Frame, GoalState, atom_needed, after_atom, opening_needed, fact_needed, after_relation, in_args, after_arg, step_goal, wanted_goal, RuleLevel, RuleFrame, Names, RuleState, unit_needed, after_unit, name_needed, after_names, step_rule, wanted_rule, State, declaration_needed, fact_to_declare, after_declared_relation, in_declared_args, event_to_declare, after_event, flow_to_declare, equals_needed, in_flow, in_goal, constraint_needed, in_constraint, step_script, finish_script, wanted_script, QueryState, query_needed, in_property, number_needed, after_number, query_read, step_query, finish_query, wanted_query}
+use Rattle.flow_grammar.specs.Machine.{Step, reading, whole, stuck, carry, with_name, ArgState, constant_needed, step_arg, wanted_arg, Level, Frame, GoalState, atom_needed, after_atom, opening_needed, fact_needed, after_relation, in_args, after_arg, step_goal, wanted_goal, RuleLevel, RuleFrame, Names, RuleState, unit_needed, name_needed, step_rule, wanted_rule, State, declaration_needed, fact_to_declare, after_declared_relation, in_declared_args, event_to_declare, after_event, flow_to_declare, equals_needed, in_flow, in_goal, in_constraint, step_script, finish_script, wanted_script, QueryState, query_needed, in_property, number_needed, after_number, query_read, step_query, finish_query, wanted_query}
 use Rattle.flow_grammar.specs.Laws.{StandsFor, MayEnd, BeginsDeclaration, IsAName, IsAConstant, BeginsAtom, BeginsUnit, BeginsQuery, IsANumber}
 use Rattle.flow_grammar.proofs.Runs.{Goes, Wants}
 
