@@ -29,8 +29,8 @@ use Rattle.flow_expand.proofs.Endings.{no_recursion, becomes_one}
 use Rattle.flow_gen.specs.Generated.{event_name, all_draws, kinds, constraints, generated}
 use Rattle.flow_gen_laws.specs.Laws.{WorkflowsAreExpanded, ExpansionsAreNotRefused}
 use Rattle.flow_gen_laws.proofs.EventNames.{distinct_names}
-use Rattle.flow_gen_laws.proofs.Parts.{declares_events, event_there, some_pair}
-use Rattle.flow_gen_laws.proofs.SaidTexts.{kind_count, rule_draws, names_are_good}
+use Rattle.flow_gen_laws.proofs.Parts.{declares_events, some_pair}
+use Rattle.flow_gen_laws.proofs.SaidTexts.{kind_count, rule_draws, event_declared, names_are_good}
 use Rattle.flow_gen_laws.proofs.Rows.{IsRow, HasRow, goal_row}
 
 -- No sub-workflow is declared
@@ -50,15 +50,12 @@ not_recursive seed size some few =
 
 -- The expanded goal
 
-there : (seed size k : ℕ) → k < 8 * size → event_name k ∈ event_names (generated seed size).decls
-there seed size k h = subst (λ names. event_name k ∈ names) (sym (declares_events (numbers_from 0 (8 * size)))) (event_there k (8 * size) h)
-
 pub whole_row : (seed size : ℕ) → 1 ≤ size → HasRow (generated seed size).decls 0 (8 * size) (8 * size) (generated seed size).goal
 whole_row seed size some =
     let ks = kinds 0 (take size (all_draws seed size)) in
     let many : length ks ≡ size = kind_count seed size in
     subst (λ n. HasRow (generated seed size).decls 0 (8 * n) (8 * n) (generated seed size).goal) many
-    (goal_row (generated seed size).decls (8 * size) (there seed size) ks (some_pair 0 ks (omega (arith, many, some))) (omega (arith, many)))
+    (goal_row (generated seed size).decls (8 * size) (λ k h. event_declared seed size (event_name k) (k, (h, refl))) ks (some_pair 0 ks (omega (arith, many, some))) (omega (arith, many)))
 
 names_count : (first : ℕ) (ds : List ℕ) → length (flat_map names_in_rule (constraints first ds)) ≤ length ds
 names_count first [] = omega arith

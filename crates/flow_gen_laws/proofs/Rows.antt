@@ -45,32 +45,27 @@ leaves_joined next m n c a b same e f =
 abbrev pub Joins : List (List ℕ) → (Expansion → Expansion → Expansion) → Type 0
 Joins events join = (first m n i j : ℕ) (a b : Expansion) → IsRow events first m i a → IsRow events (first + m) n j b → IsRow events first (m + n) (i + j) (join a b)
 
-pub turn_joins : (events : List (List ℕ)) → Joins events in_turn
-turn_joins events first m n i j a b p q = record {
-  labels = λ facts. labels_joined events first m n (labels_of events facts a) (labels_of events facts b) (p.labels facts) (q.labels facts);
-  ends = omega (arith, p.ends, q.ends);
-  leaf_count = omega (arith, p.leaf_count, q.leaf_count);
-  leaves = λ next. leaves_joined next m n (leaf_count a) (leaves (numbered next a)) (leaves (numbered (next + leaf_count a) b)) p.leaf_count (p.leaves next) (q.leaves (next + leaf_count a));
-  isolations = omega (arith, p.isolations, q.isolations);
+row_joined : (events : List (List ℕ)) (first m n i j : ℕ) (a b e : Expansion) → ((facts : List Atom) → labels_of events facts e ≡ labels_of events facts a ++ labels_of events facts b) →
+    ends_in e ≡ ends_in a + ends_in b → leaf_count e ≡ leaf_count a + leaf_count b →
+    ((next : ℕ) → leaves (numbered next e) ≡ leaves (numbered next a) ++ leaves (numbered (next + leaf_count a) b)) → isolations_in e ≡ isolations_in a + isolations_in b →
+    IsRow events first m i a → IsRow events (first + m) n j b → IsRow events first (m + n) (i + j) e
+row_joined events first m n i j a b e labels ends count numbers isolations p q = record {
+  labels = λ facts. labels facts ∙ labels_joined events first m n (labels_of events facts a) (labels_of events facts b) (p.labels facts) (q.labels facts);
+  ends = omega (arith, ends, p.ends, q.ends);
+  leaf_count = omega (arith, count, p.leaf_count, q.leaf_count);
+  leaves = λ next. numbers next
+      ∙ leaves_joined next m n (leaf_count a) (leaves (numbered next a)) (leaves (numbered (next + leaf_count a) b)) p.leaf_count (p.leaves next) (q.leaves (next + leaf_count a));
+  isolations = omega (arith, isolations, p.isolations, q.isolations);
 }
+
+pub turn_joins : (events : List (List ℕ)) → Joins events in_turn
+turn_joins events first m n i j a b = row_joined events first m n i j a b (in_turn a b) (λ facts. refl) refl refl (λ next. refl) refl
 
 pub once_joins : (events : List (List ℕ)) → Joins events at_once
-once_joins events first m n i j a b p q = record {
-  labels = λ facts. labels_joined events first m n (labels_of events facts a) (labels_of events facts b) (p.labels facts) (q.labels facts);
-  ends = omega (arith, p.ends, q.ends);
-  leaf_count = omega (arith, p.leaf_count, q.leaf_count);
-  leaves = λ next. leaves_joined next m n (leaf_count a) (leaves (numbered next a)) (leaves (numbered (next + leaf_count a) b)) p.leaf_count (p.leaves next) (q.leaves (next + leaf_count a));
-  isolations = omega (arith, p.isolations, q.isolations);
-}
+once_joins events first m n i j a b = row_joined events first m n i j a b (at_once a b) (λ facts. refl) refl refl (λ next. refl) refl
 
 pub one_joins : (events : List (List ℕ)) → Joins events one_of
-one_joins events first m n i j a b p q = record {
-  labels = λ facts. labels_joined events first m n (labels_of events facts a) (labels_of events facts b) (p.labels facts) (q.labels facts);
-  ends = omega (arith, p.ends, q.ends);
-  leaf_count = omega (arith, p.leaf_count, q.leaf_count);
-  leaves = λ next. leaves_joined next m n (leaf_count a) (leaves (numbered next a)) (leaves (numbered (next + leaf_count a) b)) p.leaf_count (p.leaves next) (q.leaves (next + leaf_count a));
-  isolations = omega (arith, p.isolations, q.isolations);
-}
+one_joins events first m n i j a b = row_joined events first m n i j a b (one_of a b) (λ facts. refl) refl refl (λ next. refl) refl
 
 alone_row : (events : List (List ℕ)) (first count most : ℕ) (e : Expansion) → IsRow events first count most e → IsRow events first count (most + 1) (alone e)
 alone_row events first count most e r = record {

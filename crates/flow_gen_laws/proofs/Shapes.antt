@@ -29,17 +29,13 @@ made_deeper count depth deeper s h m = record { names = m.names; grouped = m.gro
 pub made_iso : (count depth : ℕ) (s : Shape) → IsMade count depth s → IsMade count (suc depth) (iso s)
 made_iso count depth s m = record { names = m.names; grouped = m.grouped; printable = m.printable; shallow = omega (arith, m.shallow) }
 
-names_each : (count depth : ℕ) (ss : List Shape) → Each (IsMade count depth) ss → Each (IsEvent count) (names_in_each (shapes ss))
-names_each count depth [] h = tt
-names_each count depth (s ∷ ss) (m, h) = each-append (IsEvent count) (names_in s) (names_in_each (shapes ss)) m.names (names_each count depth ss h)
-
-grouped_each : (count depth : ℕ) (ss : List Shape) → Each (IsMade count depth) ss → AreGrouped (shapes ss)
-grouped_each count depth [] h = tt
-grouped_each count depth (s ∷ ss) (m, h) = (m.grouped, grouped_each count depth ss h)
-
-printable_each : (count depth : ℕ) (ss : List Shape) → Each (IsMade count depth) ss → ArePrintableGoals (shapes ss)
-printable_each count depth [] h = tt
-printable_each count depth (s ∷ ss) (m, h) = (m.printable, printable_each count depth ss h)
+-- what holds of each is held by the list
+each_made : (count depth : ℕ) (ss : List Shape) → Each (IsMade count depth) ss →
+    Each (IsEvent count) (names_in_each (shapes ss)) × (AreGrouped (shapes ss) × ArePrintableGoals (shapes ss))
+each_made count depth [] h = (tt, (tt, tt))
+each_made count depth (s ∷ ss) (m, h) =
+    let (names, (grouped, printable)) = each_made count depth ss h in
+    (each-append (IsEvent count) (names_in s) (names_in_each (shapes ss)) m.names names, ((m.grouped, grouped), (m.printable, printable)))
 
 nest_le : (b : Bool) (n depth : ℕ) → n ≤ depth → nest b n ≤ suc depth
 nest_le true n depth h = omega arith
@@ -55,25 +51,16 @@ member_count [] = refl
 member_count (s ∷ ss) = ap (λ n. suc n) (member_count ss)
 
 pub made_serial : (count depth : ℕ) (ss : List Shape) → 2 ≤ length ss → Each (IsMade count depth) ss → IsMade count (suc depth) (serial (shapes ss))
-made_serial count depth ss two h = record {
-  names = names_each count depth ss h;
-  grouped = (omega (arith, two, member_count ss), grouped_each count depth ss h);
-  printable = printable_each count depth ss h;
-  shallow = shallow_each in_serial count depth ss h;
-}
+made_serial count depth ss two h =
+    let (n, (g, p)) = each_made count depth ss h in
+    record { names = n; grouped = (omega (arith, two, member_count ss), g); printable = p; shallow = shallow_each in_serial count depth ss h }
 
 pub made_beside : (count depth : ℕ) (ss : List Shape) → 2 ≤ length ss → Each (IsMade count depth) ss → IsMade count (suc depth) (beside (shapes ss))
-made_beside count depth ss two h = record {
-  names = names_each count depth ss h;
-  grouped = (omega (arith, two, member_count ss), grouped_each count depth ss h);
-  printable = printable_each count depth ss h;
-  shallow = shallow_each in_beside count depth ss h;
-}
+made_beside count depth ss two h =
+    let (n, (g, p)) = each_made count depth ss h in
+    record { names = n; grouped = (omega (arith, two, member_count ss), g); printable = p; shallow = shallow_each in_beside count depth ss h }
 
 pub made_either : (count depth : ℕ) (ss : List Shape) → 2 ≤ length ss → Each (IsMade count depth) ss → IsMade count (suc depth) (either (shapes ss))
-made_either count depth ss two h = record {
-  names = names_each count depth ss h;
-  grouped = (omega (arith, two, member_count ss), grouped_each count depth ss h);
-  printable = printable_each count depth ss h;
-  shallow = shallow_each in_either count depth ss h;
-}
+made_either count depth ss two h =
+    let (n, (g, p)) = each_made count depth ss h in
+    record { names = n; grouped = (omega (arith, two, member_count ss), g); printable = p; shallow = shallow_each in_either count depth ss h }

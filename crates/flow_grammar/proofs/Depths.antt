@@ -1,11 +1,11 @@
 -- What a text means is printed no deeper than the text.
-use Rattle.std.proofs.Common.{ℕ, zero, suc, ◌+◌, ◌<◌, ◌≤◌, Bool, true, false, List, [], ◌∷◌, arith}
+use Rattle.std.proofs.Common.{rules as std_rules, ℕ, zero, suc, ◌+◌, ◌<◌, ◌≤◌, Bool, true, false, List, [], ◌∷◌, arith}
 use Rattle.flow_model.specs.Lists.{Each}
 use Rattle.flow_facts.specs.declared.constant.Const.{Const}
 use Rattle.flow_form.specs.Form.{Shape, serial, beside, either, shapes}
 use Rattle.flow_form.specs.RuleForm.{RuleShape, all, any, rule_shapes}
 use Rattle.flow_grammar.specs.Symbol.{Placed, at, closing}
-use Rattle.flow_grammar.specs.Grammar.{FactText, bare, applied, spell_constants, spell_fact, mean_fact, Prefix, asking, denying, adding, taking, prefixed, must_come, never_come, preceding, needing, spell_names, Kind, goals, rules, Meaning, top, list, Text, joined, group_text, nop_text, name_text, fact_text, iso_text, not_text, single_text, order_text, pair_text, More, no_more_text, then_text, spell, spell_more, mean, mean_more}
+use Rattle.flow_grammar.specs.Grammar.{FactText, bare, applied, spell_constants, spell_fact, mean_fact, Prefix, prefixed, must_come, never_come, preceding, needing, spell_names, Kind, goals, rules, Meaning, top, list, Text, joined, group_text, nop_text, name_text, fact_text, iso_text, not_text, single_text, order_text, pair_text, More, no_more_text, then_text, spell, spell_more, mean, mean_more}
 use Rattle.flow_grammar.specs.Machine.{deepest}
 use Rattle.flow_grammar.specs.Texts.{IsShallow}
 use Rattle.flow_grammar.specs.Print.{in_serial, in_beside, in_either, in_all, in_any, nest, arguments_nesting, nesting, nesting_list, rule_nesting, rules_nesting}
@@ -81,10 +81,7 @@ after_fact d (applied n c cs) r l (h, (k, (j, more))) =
     (omega arith, (after_constants (suc d) cs (at (suc d) closing ∷ r) more).1)
 
 fact_within : (d : ℕ) (p : Prefix) (f : FactText) → d + arguments_nesting (mean_fact f).args ≤ deepest → Holds goals 0 d (prefixed p (mean_fact f))
-fact_within d asking f h = h
-fact_within d denying f h = h
-fact_within d adding f h = h
-fact_within d taking f h = h
+fact_within d p f h = search std_rules
 
 after_names : (d : ℕ) (ns : List (List ℕ)) (r : List Placed) → IsShallow (spell_names d ns r) → IsShallow r
 after_names d [] r h = h

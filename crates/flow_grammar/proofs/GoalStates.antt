@@ -1,10 +1,10 @@
 -- A goal: what may follow each state, up to its semicolon.
-use Rattle.std.proofs.Common.{◌≡◌, ℕ, suc, ◌⊎◌, List, [], ◌∷◌, ◌++◌, refl, sym, ap, ◌∙◌, subst, inl, inr, append_assoc, append-nil}
+use Rattle.std.proofs.Common.{rules, ◌≡◌, ℕ, suc, ◌⊎◌, List, [], ◌∷◌, ◌++◌, refl, sym, ap, ◌∙◌, subst, inl, inr, append_assoc, append-nil}
 use Rattle.flow_facts.specs.Atom.{Atom, atom}
 use Rattle.flow_form.specs.Form.{Shape, iso}
 use Rattle.flow_grammar.specs.Symbol.{Symbol, Placed, at, nop_word, iso_word, ins_word, del_word, a_name, star, bar, plus, opening, closing, semicolon, question, exclamation}
 use Rattle.flow_grammar.specs.Grammar.{FactText, bare, applied, asking, denying, adding, taking, prefixed, spell_fact, mean_fact, Prefix, goals, list, gather, Text, joined, group_text, nop_text, name_text, fact_text, iso_text, More, no_more_text, then_text, spell, spell_more, mean, mean_more}
-use Rattle.flow_grammar.specs.Machine.{Step, reading, whole, stuck, ArgState, constant_needed, step_arg, Level, level, push, close_serial, close_beside, close, Frame, parenthesis, isolation, wrap, GoalState, atom_needed, after_atom, opening_needed, fact_needed, after_relation, in_args, after_arg, step_goal, height, depth_goal}
+use Rattle.flow_grammar.specs.Machine.{Step, ArgState, constant_needed, step_arg, Level, level, push, close_serial, close_beside, close, Frame, parenthesis, isolation, wrap, GoalState, atom_needed, after_atom, opening_needed, fact_needed, after_relation, in_args, after_arg, step_goal, height, depth_goal}
 use Rattle.flow_grammar.proofs.Parts.{Follow, StepNext, StepFront}
 use Rattle.flow_grammar.proofs.Parts as parts
 use Rattle.flow_grammar.proofs.ArgStates.{ArgRest, arg_forth, arg_back, arg_completes}
@@ -101,21 +101,15 @@ start_forth K fs l (group_text g) v t =
 
 relation_front : (K : Follow Shape) (p : Prefix) (n : List ℕ) (fs : List Frame) (l : Level) (w : List Placed) →
     GoalFront (after_atom fs (push l (prefixed p (atom n [])))) w K → GoalFront (after_relation p n fs l) w K
-relation_front K p n fs l [] h = h
-relation_front K p n fs l (at m opening ∷ w) h = absurd h.1
-relation_front K p n fs l (at m _ ∷ w) h = h
+relation_front K p n fs l w h = search rules
 
 of_arg : (K : Follow Shape) (p : Prefix) (fs : List Frame) (l : Level) (o : Step ArgState Atom) (w : List Placed) →
     StepNext (ArgRest (suc (height fs))) o w (AfterFact K fs l p) → StepNext GoalRest (after_arg p fs l o) w K
-of_arg K p fs l (reading a) w h = h
-of_arg K p fs l (whole f) w h = h
-of_arg K p fs l stuck w h = h
+of_arg K p fs l o w h = search rules
 
 to_arg : (K : Follow Shape) (p : Prefix) (fs : List Frame) (l : Level) (o : Step ArgState Atom) (w : List Placed) →
     StepNext GoalRest (after_arg p fs l o) w K → StepNext (ArgRest (suc (height fs))) o w (AfterFact K fs l p)
-to_arg K p fs l (reading a) w h = h
-to_arg K p fs l (whole f) w h = h
-to_arg K p fs l stuck w h = h
+to_arg K p fs l o w h = search rules
 
 args_front : (K : Follow Shape) (p : Prefix) (a : ArgState) (fs : List Frame) (l : Level) (w : List Placed) →
     StepFront step_arg (λ a'. suc (height fs)) (ArgRest (suc (height fs))) a w (AfterFact K fs l p) → GoalFront (in_args p a fs l) w K

@@ -1,14 +1,16 @@
 -- What a text says is well made.
-use Rattle.std.proofs.Common.{◌≡◌, ℕ, zero, suc, ◌+◌, ◌<◌, ◌≤◌, List, [], ◌∷◌, ◌++◌, map, flat_map, length, subst, arith, length-append}
+use Rattle.std.proofs.Common.{rules as std_rules, ◌≡◌, ℕ, zero, suc, ◌<◌, ◌≤◌, List, [], ◌∷◌, ◌++◌, map, flat_map, length, subst, ap, ◌∙◌, arith, length-append}
 use Rattle.std.proofs.lemmas.Grind.{flat_map-append}
+use Rattle.std.proofs.lemmas.List.{length-map}
 use Rattle.flow_model.specs.Lists.{Each}
 use Rattle.flow_form.specs.Form.{Shape, shapes, IsGrouped, AreGrouped}
 use Rattle.flow_form.specs.RuleForm.{RuleShape, rule_shapes, IsGroupedRule, AreGroupedRules}
-use Rattle.flow_form.specs.Script.{Declared}
-use Rattle.flow_form.specs.Names.{flow_goal}
-use Rattle.flow_facts.specs.declared.constant.Const.{Const}
-use Rattle.flow_grammar.specs.Symbol.{Placed, at, closing, semicolon, goal_word}
-use Rattle.flow_grammar.specs.Grammar.{FactText, bare, applied, spell_constants, spell_fact, asking, denying, adding, taking, must_come, never_come, preceding, needing, spell_names, Kind, goals, rules, Meaning, list, gather, Text, joined, group_text, nop_text, name_text, fact_text, iso_text, not_text, single_text, order_text, pair_text, More, no_more_text, then_text, spell, spell_more, mean, mean_more, silent_text, done_text, fail_text, fail_first_text, NotedText, noted_text, spell_noted, mean_noted, DeclText, facts_text, events_text, flow_text, spell_items, declared_fact, spell_decl, mean_decl, ScriptText, script_text, spell_decls, spell_constraints, mean_rule, spell_script, mean_script, QueryText, holds_text, redundant_text, mean_query}
+use Rattle.flow_form.specs.Script.{Declared, fact, event, flow}
+use Rattle.flow_form.specs.Names.{flow_goal, names_in_rule}
+use Rattle.flow_grammar.specs.Symbol.{Placed, at, symbols, a_name, semicolon, equals}
+use Rattle.flow_grammar.specs.Grammar.{FactText, Kind, goals, rules, Meaning, list, gather, Text, joined, group_text, nop_text, name_text, fact_text, iso_text, not_text, single_text, order_text, pair_text, More, no_more_text, then_text, spell, mean, mean_more, NotedText, noted_text, mean_noted, DeclText, facts_text, events_text, flow_text, declared_fact, mean_decl, ScriptText, script_text, mean_rule, spell_script, mean_script, QueryText, holds_text, redundant_text, mean_query}
+use Rattle.flow_grammar.specs.Roles.{in_rule, role_name, fact_roles, goal_roles, declared_roles, script_roles, names_of}
+use Rattle.flow_grammar.proofs.RolesOfNames.{scripts_have_roles}
 use Rattle.flow_grammar.specs.Made.{IsWellMade, IsWellAsked, ScriptsAreWellMade, QueriesAreWellMade}
 use Rattle.flow_model.proofs.Lists.{each-append}
 
@@ -45,17 +47,12 @@ mutual
   grouped (group_text t) = grouped t
   grouped nop_text = tt
   grouped (name_text n) = tt
-  grouped (fact_text asking f) = tt
-  grouped (fact_text denying f) = tt
-  grouped (fact_text adding f) = tt
-  grouped (fact_text taking f) = tt
+  grouped (fact_text p f) = search std_rules
   grouped (iso_text g) = grouped g
   grouped (not_text u) = grouped u
-  grouped (single_text must_come n) = tt
-  grouped (single_text never_come n) = tt
+  grouped (single_text s n) = search std_rules
   grouped (order_text a b ns) = omega arith
-  grouped (pair_text preceding a b) = tt
-  grouped (pair_text needing a b) = tt
+  grouped (pair_text p a b) = search std_rules
 
   grouped_more : {k : Kind} {n : ℕ} (ms : More k n) → Each (Grouped k) (mean_more ms)
   grouped_more no_more_text = tt
@@ -95,72 +92,31 @@ query_made : (d : QueryText) → IsWellAsked (mean_query d)
 query_made (holds_text x) = grouped x
 query_made (redundant_text n) = tt
 
--- Declarations take symbols
+-- Each declaration has a name, and the first symbol of a text is none
 
-constants_long : (d : ℕ) (cs : List Const) (r : List Placed) → length r ≤ length (spell_constants d cs r)
-constants_long d [] r = omega arith
-constants_long d (c ∷ cs) r = let h = constants_long d cs r in omega arith
+roles_of_each : (ds : List Declared) → length ds ≤ length (flat_map declared_roles ds)
+roles_of_each [] = omega arith
+roles_of_each (fact a ∷ ds) = let h = roles_of_each ds in omega (arith, length-append (fact_roles a) (flat_map declared_roles ds))
+roles_of_each (event n note ∷ ds) = let h = roles_of_each ds in omega arith
+roles_of_each (flow n s ∷ ds) = let h = roles_of_each ds in omega (arith, length-append (goal_roles s) (flat_map declared_roles ds))
 
-fact_long : (d : ℕ) (f : FactText) (r : List Placed) → length r ≤ length (spell_fact d f r)
-fact_long d (bare n) r = omega arith
-fact_long d (applied n c cs) r = let h = constants_long (suc d) cs (at (suc d) closing ∷ r) in omega arith
+few_names : (w : List Placed) → length (names_of (symbols w)) < suc (length w)
+few_names [] = omega arith
+few_names (at d (a_name n) ∷ w) = let h = few_names w in omega arith
+few_names (at d _ ∷ w) = let h = few_names w in omega arith
 
-noted_long : (e : NotedText) (r : List Placed) → length r ≤ length (spell_noted e r)
-noted_long (noted_text n silent_text) r = omega arith
-noted_long (noted_text n done_text) r = omega arith
-noted_long (noted_text n fail_text) r = omega arith
-noted_long (noted_text n (fail_first_text m)) r = omega arith
-
-items_long : {A : Type 0} (spell_item : A → List Placed → List Placed) (f : A → Declared) → ((x : A) (r : List Placed) → length r ≤ length (spell_item x r)) →
-    (xs : List A) (r : List Placed) → length (map f xs) + length r ≤ length (spell_items spell_item xs r)
-items_long spell_item f long [] r = omega arith
-items_long spell_item f long (x ∷ xs) r =
-    let h = items_long spell_item f long xs r in
-    let k = long x (spell_items spell_item xs r) in
-    omega arith
-
-names_long : (d : ℕ) (ns : List (List ℕ)) (r : List Placed) → length r ≤ length (spell_names d ns r)
-names_long d [] r = omega arith
-names_long d (n ∷ ns) r = let h = names_long d ns r in omega arith
-
-mutual
-  long : {k : Kind} {n : ℕ} (t : Text k n) (d : ℕ) (r : List Placed) → length r ≤ length (spell d t r)
-  long (joined m ms) d r = let h = long m d (spell_more d ms r) in let j = more_long ms d r in omega arith
-  long (group_text t) d r = let h = long t (suc d) (at (suc d) closing ∷ r) in omega arith
-  long (fact_text p f) d r = let h = fact_long d f r in omega arith
-  long (iso_text g) d r = let h = long g (suc d) (at (suc d) closing ∷ r) in omega arith
-  long (not_text u) d r = let h = long u (suc d) r in omega arith
-  long (order_text a b ns) d r = let h = names_long d ns r in omega arith
-  long _ d r = omega arith
-
-  more_long : {k : Kind} {n : ℕ} (ms : More k n) (d : ℕ) (r : List Placed) → length r ≤ length (spell_more d ms r)
-  more_long no_more_text d r = omega arith
-  more_long (then_text m ms) d r = let h = long m d (spell_more d ms r) in let j = more_long ms d r in omega arith
-
-decl_long : (d : DeclText) (r : List Placed) → length (mean_decl d) + length r ≤ length (spell_decl d r)
-decl_long (facts_text f fs) r =
-    let h = fact_long 0 f (spell_items (spell_fact 0) fs (at 0 semicolon ∷ r)) in
-    let k = items_long (spell_fact 0) declared_fact (fact_long 0) fs (at 0 semicolon ∷ r) in
-    omega arith
-decl_long (events_text e es) r =
-    let h = noted_long e (spell_items spell_noted es (at 0 semicolon ∷ r)) in
-    let k = items_long spell_noted mean_noted noted_long es (at 0 semicolon ∷ r) in
-    omega arith
-decl_long (flow_text n g) r = let h = long g 0 (at 0 semicolon ∷ r) in omega arith
-
-decls_long : (ds : List DeclText) (r : List Placed) → length (flat_map mean_decl ds) + length r ≤ length (spell_decls ds r)
-decls_long [] r = omega arith
-decls_long (d ∷ ds) r =
-    let h = decl_long d (spell_decls ds r) in
-    let k = decls_long ds r in
-    let e : length (mean_decl d ++ flat_map mean_decl ds) ≡ length (mean_decl d) + length (flat_map mean_decl ds) = length-append (mean_decl d) (flat_map mean_decl ds) in
-    omega arith
+fewer_names : (d : ScriptText) → length (names_of (symbols (spell_script d))) < length (spell_script d)
+fewer_names (script_text [] g cs) = few_names _
+fewer_names (script_text (facts_text f fs ∷ ds) g cs) = few_names _
+fewer_names (script_text (events_text e es ∷ ds) g cs) = few_names _
+fewer_names (script_text (flow_text n f ∷ ds) g cs) = few_names (at 0 (a_name n) ∷ at 0 equals ∷ spell 0 f (at 0 semicolon ∷ spell_script (script_text ds g cs)))
 
 pub scripts_are_well_made : ScriptsAreWellMade
-scripts_are_well_made w x (script_text ds g cs, e, ex) =
-    let h = decls_long ds (at 0 goal_word ∷ spell 0 g (at 0 semicolon ∷ spell_constraints cs)) in
-    let few : length (flat_map mean_decl ds) < length (spell_script (script_text ds g cs)) = omega arith in
-    (subst IsWellMade ex (script_made (script_text ds g cs)), subst (λ y. length y.decls < length w) ex (subst (λ y. length (flat_map mean_decl ds) < length y) e few))
+scripts_are_well_made w x (d, e, ex) =
+    let declared = flat_map declared_roles x.decls in
+    let names : length (names_of (symbols w)) ≡ length (script_roles x) = ap length (scripts_have_roles w x (d, e, ex)) ∙ length-map (script_roles x) role_name in
+    let fewer = subst (λ y. length (names_of (symbols y)) < length y) e (fewer_names d) in
+    (subst IsWellMade ex (script_made d), omega (arith, names, fewer, roles_of_each x.decls, length-append declared (goal_roles x.goal ++ map in_rule (flat_map names_in_rule x.rules))))
 
 pub queries_are_well_made : QueriesAreWellMade
 queries_are_well_made w x (d, e, ex) = subst IsWellAsked ex (query_made d)

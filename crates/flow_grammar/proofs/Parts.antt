@@ -1,5 +1,5 @@
 -- A part of a text with a machine of its own: what may follow its states, where it is said what may follow its value.
-use Rattle.std.proofs.Common.{◌≡◌, ℕ, List, [], ◌∷◌, Option, ◌∙◌, subst}
+use Rattle.std.proofs.Common.{rules, ◌≡◌, ℕ, List, [], ◌∷◌, Option, ◌∙◌, subst}
 use Rattle.flow_grammar.specs.Symbol.{Symbol, Placed, at, Deepens, closing, semicolon}
 use Rattle.flow_grammar.specs.Machine.{Step, reading, whole, stuck, carry}
 use Rattle.flow_grammar.proofs.Runs.{OnNext, Front}
@@ -30,14 +30,10 @@ module _ {S V T X : Type 0} (R : S → List Placed → Follow V → Type 0) (R' 
   K v r = R' (after v) r x
 
   carried : ((s : S) (w : List Placed) → R s w K → R' (within s) w x) → (o : Step S V) (w : List Placed) → StepNext R o w K → OnNext R' (carry within after o) w x
-  carried same (reading s) w h = same s w h
-  carried same (whole v) w h = h
-  carried same stuck w h = h
+  carried same o w h = search rules
 
   pub carried_back : ((s : S) (w : List Placed) → R' (within s) w x → R s w K) → (o : Step S V) (w : List Placed) → OnNext R' (carry within after o) w x → StepNext R o w K
-  carried_back same (reading s) w h = same s w h
-  carried_back same (whole v) w h = h
-  carried_back same stuck w h = h
+  carried_back same o w h = search rules
 
   pub carried_forth : (step : S → Symbol → Step S V) (depth : S → ℕ) (step' : T → Symbol → Option T) (finish : T → Option X) (depth' : T → ℕ) →
       ((s : S) (w : List Placed) → R s w K → R' (within s) w x) → (s : S) (w : List Placed) → depth s ≡ depth' (within s) →

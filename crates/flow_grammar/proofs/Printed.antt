@@ -1,7 +1,6 @@
 -- A goal and a rule have a derivation that spells their print, no deeper than the print.
-use Rattle.std.proofs.Common.{◌≡◌, ℕ, suc, ◌+◌, ◌≤◌, max, Bool, true, false, zero, List, [], ◌∷◌, length, refl, ap, ◌∙◌, arith}
+use Rattle.std.proofs.Common.{rules as std_rules, ◌≡◌, ℕ, suc, ◌+◌, ◌≤◌, max, Bool, true, false, List, [], ◌∷◌, length, refl, ap, ◌∙◌, arith}
 use Rattle.flow_facts.specs.declared.constant.Const.{Const}
-use Rattle.flow_facts.specs.declared.constant.Const.TheVariants.{Word, Number}
 use Rattle.flow_facts.specs.Atom.{Atom, atom}
 use Rattle.flow_form.specs.Form.{Shape, Shapes, nop, named, test, absent, ins, del, iso, serial, beside, either, no_more, followed, shapes, members, IsGrouped, AreGrouped}
 use Rattle.flow_form.specs.RuleForm.{RuleShape, RuleShapes, must, never, order, precedes, needs, negated, all, any, rule_shapes, rule_members, IsGroupedRule, AreGroupedRules}
@@ -19,8 +18,7 @@ constants_print d [] r = refl
 constants_print d (c ∷ cs) r = ap (λ y. comma ∷ constant_symbol c ∷ y) (constants_print d cs r)
 
 constant_flat : (c : Const) → ¬ Deepens (constant_symbol c)
-constant_flat (Word n) h = h
-constant_flat (Number n) h = h
+constant_flat c h = search std_rules
 
 constants_shallow : (d : ℕ) (cs : List Const) (r : List Placed) → IsShallow r → IsShallow (spell_constants d cs r)
 constants_shallow d [] r h = h
@@ -63,11 +61,7 @@ record SpelledMore (k : Kind) (n : ℕ) (xs : List (Meaning k)) (print : List Sy
   pub shallow : (d : ℕ) (r : List Placed) → d + depth ≤ deepest → IsShallow r → IsShallow (spell_more d more r)
 
 join_flat : (k : Kind) (n : ℕ) → ¬ Deepens (join k n)
-join_flat goals zero h = h
-join_flat goals (suc zero) h = h
-join_flat goals (suc (suc n)) h = h
-join_flat rules zero h = h
-join_flat rules (suc n) h = h
+join_flat k n h = search std_rules
 
 -- as the only member of a level above
 alone : {k : Kind} {n : ℕ} {x : Meaning k} {print : List Symbol → List Symbol} {depth : ℕ} → Spelled k n x print depth → Spelled k (suc n) x print depth
@@ -125,10 +119,7 @@ module _ {s : Shape} {print : List Symbol → List Symbol} {depth : ℕ} where
   of_either t = let g = in_group t in record { as_atom = g; as_serial = alone g; as_beside = alone (alone g); as_goal = t }
 
 prefix_flat : (p : Prefix) → ¬ Deepens (prefix_symbol p)
-prefix_flat asking h = h
-prefix_flat denying h = h
-prefix_flat adding h = h
-prefix_flat taking h = h
+prefix_flat p h = search std_rules
 
 with_prefix : (p : Prefix) (a : Atom) → Spelled goals 0 (prefixed p a) (λ r. prefix_symbol p ∷ print_fact a r) (arguments_nesting a.args)
 with_prefix p a = let f = fact_printed a in record {

@@ -10,13 +10,12 @@ use Rattle.flow_form.specs.Script.{Declared, fact, event, flow}
 use Rattle.flow_form.specs.Names.{flow_goal}
 use Rattle.flow_grammar.specs.Symbol.{Placed, at, symbols, fact_word, event_word, flow_word, goal_word, constraint_word, a_name, equals, semicolon}
 use Rattle.flow_grammar.specs.Grammar.{FactText, rules, Text, spell, mean, NoteText, silent_text, done_text, fail_text, fail_first_text, spell_note, mean_note, NotedText, noted_text, spell_noted, DeclText, facts_text, events_text, flow_text, spell_fact, spell_items, spell_decl, mean_decl, mean_rule, ScriptText, script_text, spell_decls, spell_constraints, spell_script, mean_script}
-use Rattle.flow_grammar.specs.Machine.{deepest, step_script, finish_script, wanted_script, depth_script, script_start}
+use Rattle.flow_grammar.specs.Machine.{deepest}
 use Rattle.flow_grammar.specs.Texts.{IsShallow, Derives, SpellsScript}
 use Rattle.flow_grammar.specs.Made.{IsWellMade}
 use Rattle.flow_grammar.specs.Print.{print_goal, print_rule, print_note, print_declared, print_declarations, print_constraints, print_script, arguments_nesting, nesting, rule_nesting, IsWithin}
 use Rattle.flow_grammar.specs.PrintLaws.{PrintSaysIt, PrintIsNoDeeper, PrintIsReadBack}
-use Rattle.flow_grammar.proofs.Runs.{derived, given}
-use Rattle.flow_grammar.proofs.ScriptStates.{Rest, script_knows}
+use Rattle.flow_grammar.proofs.Reading.{scripts_are_read}
 use Rattle.flow_grammar.proofs.MadeTexts.{scripts_are_well_made, goals_append, facts_goals, events_goals}
 use Rattle.flow_grammar.proofs.Printed.{fact_printed, goal_printed, rule_printed}
 use Rattle.flow_grammar.proofs.Depths.{after_fact, within}
@@ -143,7 +142,6 @@ print_is_no_deeper ts s (w, e, sh, (d, ew, es)) = subst IsWithin es (script_with
 
 pub print_is_read_back : PrintIsReadBack
 print_is_read_back ts s e =
-    let h : Derives SpellsScript ts s = derived step_script finish_script wanted_script depth_script Rest script_knows ts script_start s e in
+    let h : Derives SpellsScript ts s = (scripts_are_read.reads ts s).0 e in
     let made : IsWellMade s = (scripts_are_well_made h.0 s h.3).0 in
-    given step_script finish_script wanted_script depth_script Rest script_knows (print_script s) script_start s
-    (print_says_it s made (print_is_no_deeper ts s h))
+    (scripts_are_read.reads (print_script s) s).1 (print_says_it s made (print_is_no_deeper ts s h))

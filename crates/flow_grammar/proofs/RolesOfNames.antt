@@ -1,5 +1,5 @@
 -- The names of a text are those of what it says.
-use Rattle.std.proofs.Common.{◌≡◌, ℕ, zero, suc, List, [], ◌∷◌, ◌++◌, map, flat_map, refl, sym, ap, ◌∙◌, append_assoc, append-nil}
+use Rattle.std.proofs.Common.{rules as std_rules, ◌≡◌, ℕ, zero, suc, List, [], ◌∷◌, ◌++◌, map, flat_map, refl, sym, ap, ◌∙◌, append_assoc, append-nil}
 use Rattle.std.proofs.lemmas.Grind.{flat_map-append}
 use Rattle.std.proofs.lemmas.List.{map-append}
 use Rattle.flow_facts.specs.declared.constant.Const.{Const}
@@ -9,7 +9,7 @@ use Rattle.flow_form.specs.RuleForm.{RuleShape, rule_shapes}
 use Rattle.flow_form.specs.Script.{Declared, fact, event, flow}
 use Rattle.flow_form.specs.Names.{declared_name, names_in, names_in_each, names_in_rule, names_in_rules, flow_goal}
 use Rattle.flow_grammar.specs.Symbol.{Symbol, Placed, at, symbols, closing, semicolon, goal_word}
-use Rattle.flow_grammar.specs.Grammar.{FactText, bare, applied, spell_constants, spell_fact, mean_fact, asking, denying, adding, taking, must_come, never_come, preceding, needing, spell_names, Kind, goals, rules, Meaning, join, list, gather, Text, joined, group_text, nop_text, name_text, fact_text, iso_text, not_text, single_text, order_text, pair_text, More, no_more_text, then_text, spell, spell_more, mean, mean_more, silent_text, done_text, fail_text, fail_first_text, NotedText, noted_text, spell_noted, mean_noted, DeclText, facts_text, events_text, flow_text, spell_items, declared_fact, spell_decl, mean_decl, ScriptText, script_text, spell_decls, spell_constraints, mean_rule, spell_script, mean_script, QueryText, holds_text, redundant_text, spell_query, mean_query}
+use Rattle.flow_grammar.specs.Grammar.{FactText, bare, applied, spell_constants, spell_fact, mean_fact, spell_names, Kind, goals, rules, Meaning, join, list, gather, Text, joined, group_text, nop_text, name_text, fact_text, iso_text, not_text, single_text, order_text, pair_text, More, no_more_text, then_text, spell, spell_more, mean, mean_more, NotedText, spell_noted, mean_noted, DeclText, facts_text, events_text, flow_text, spell_items, declared_fact, spell_decl, mean_decl, ScriptText, script_text, spell_decls, spell_constraints, mean_rule, spell_script, mean_script, QueryText, holds_text, redundant_text, spell_query, mean_query}
 use Rattle.flow_grammar.specs.Texts.{SpellsScript, SpellsQuery}
 use Rattle.flow_grammar.specs.Roles.{Role, in_rule, role_name, constant_roles, fact_roles, goal_roles, roles_in_each, declared_roles, script_roles, query_roles, names_of, NamesHaveRoles, declared_by, goal_name, rule_name, declaring, used_in_goals, used_in_rules, RolesAreTheNames}
 
@@ -62,11 +62,7 @@ names_have d [] r = refl
 names_have d (n ∷ ns) r = ap (λ z. n ∷ z) (names_have d ns r)
 
 join_unnamed : (k : Kind) (n : ℕ) (ts : List Symbol) → names_of (join k n ∷ ts) ≡ names_of ts
-join_unnamed goals zero ts = refl
-join_unnamed goals (suc zero) ts = refl
-join_unnamed goals (suc (suc n)) ts = refl
-join_unnamed rules zero ts = refl
-join_unnamed rules (suc n) ts = refl
+join_unnamed k n ts = search std_rules
 
 mutual
   text_has : {k : Kind} {n : ℕ} (t : Text k n) (d : ℕ) (r : List Placed) → Has (spell d t r) (names k (mean t)) r
@@ -76,17 +72,12 @@ mutual
   text_has {k} (group_text t) d r = text_has t (suc d) (at (suc d) closing ∷ r)
   text_has nop_text d r = refl
   text_has (name_text n) d r = refl
-  text_has (fact_text asking f) d r = fact_has d f r
-  text_has (fact_text denying f) d r = fact_has d f r
-  text_has (fact_text adding f) d r = fact_has d f r
-  text_has (fact_text taking f) d r = fact_has d f r
+  text_has (fact_text p f) d r = search (std_rules, fact_has)
   text_has (iso_text g) d r = text_has g (suc d) (at (suc d) closing ∷ r)
   text_has (not_text u) d r = text_has u (suc d) r
-  text_has (single_text must_come n) d r = refl
-  text_has (single_text never_come n) d r = refl
+  text_has (single_text s n) d r = search std_rules
   text_has (order_text a b ns) d r = ap (λ z. a ∷ b ∷ z) (names_have d ns r)
-  text_has (pair_text preceding a b) d r = refl
-  text_has (pair_text needing a b) d r = refl
+  text_has (pair_text p a b) d r = search std_rules
 
   more_has : {k : Kind} {n : ℕ} (ms : More k n) (d : ℕ) (r : List Placed) → Has (spell_more d ms r) (flat_map (names k) (mean_more ms)) r
   more_has no_more_text d r = refl
@@ -106,10 +97,7 @@ items_have spell_item meant has (x ∷ xs) r =
     (has x (spell_items spell_item xs r)) (items_have spell_item meant has xs r))
 
 noted_has : (e : NotedText) (r : List Placed) → Has (spell_noted e r) (map role_name (declared_roles (mean_noted e))) r
-noted_has (noted_text n silent_text) r = refl
-noted_has (noted_text n done_text) r = refl
-noted_has (noted_text n fail_text) r = refl
-noted_has (noted_text n (fail_first_text m)) r = refl
+noted_has e r = search std_rules
 
 decl_has : (d : DeclText) (r : List Placed) → Has (spell_decl d r) (map role_name (flat_map declared_roles (mean_decl d))) r
 decl_has (facts_text f fs) r = items_have (spell_fact 0) declared_fact (fact_has 0) (f ∷ fs) (at 0 semicolon ∷ r)

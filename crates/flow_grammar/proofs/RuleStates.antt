@@ -1,5 +1,5 @@
 -- A rule: what may follow each state, up to its semicolon.
-use Rattle.std.proofs.Common.{◌≡◌, ℕ, suc, List, [], ◌∷◌, ◌++◌, refl, sym, ap, ◌∙◌, subst, append_assoc, append-nil}
+use Rattle.std.proofs.Common.{rules as std_rules, ◌≡◌, ℕ, suc, List, [], ◌∷◌, ◌++◌, refl, sym, ap, ◌∙◌, subst, append_assoc, append-nil}
 use Rattle.flow_form.specs.RuleForm.{RuleShape, order}
 use Rattle.flow_grammar.specs.Symbol.{Symbol, Placed, at, Deepens, must_word, never_word, order_word, precedes_word, needs_word, not_word, and_word, or_word, a_name, opening, closing, semicolon}
 use Rattle.flow_grammar.specs.Grammar.{must_come, never_come, single, preceding, needing, paired, rules, list, gather, Text, joined, group_text, not_text, single_text, order_text, pair_text, More, no_more_text, then_text, spell_names, spell, spell_more, mean, mean_more}
@@ -103,9 +103,7 @@ names_forth K (one_or_more a) fs l k w (b, ns, v, e, t) = subst (λ y. RuleFront
 
 more_front : (K : Follow RuleShape) (ms : List (List ℕ)) (fs : List RuleFrame) (l : RuleLevel) (k : ℕ) (w : List Placed) →
     RuleFront (after_unit fs (push_rule l (negate k (order ms)))) w K → RuleFront (after_names ms fs l k) w K
-more_front K ms fs l k [] h = h
-more_front K ms fs l k (at n (a_name m) ∷ w) h = absurd h.1
-more_front K ms fs l k (at n _ ∷ w) h = h
+more_front K ms fs l k w h = search std_rules
 
 more_forth : (K : Follow RuleShape) (ms : List (List ℕ)) (fs : List RuleFrame) (l : RuleLevel) (k : ℕ) (w : List Placed) →
     RuleRest (after_names ms fs l k) w K → RuleFront (after_names ms fs l k) w K

@@ -1,7 +1,8 @@
 -- A run, a symbol at a time.
 use Rattle.std.proofs.Common.{◌≡◌, ℕ, suc, ◌+◌, Option, refl, ap, arith}
+use Rattle.flow_form.specs.declared.refusal.Wanted.{Wanted}
 use Rattle.flow_grammar.specs.Symbol.{Symbol}
-use Rattle.flow_grammar.specs.Machine.{Wanted, Reading, gives, expected, too_deep, later, shifted, run}
+use Rattle.flow_grammar.specs.Machine.{Reading, gives, expected, too_deep, later, shifted, run}
 use Rattle.flow_grammar.specs.Steps.{GoesByStep}
 
 shifted_zero : {V : Type 0} (r : Reading V) → shifted 0 r ≡ r

@@ -1,8 +1,9 @@
 -- What a run finds is so, and it finds what is so, where each state knows what may follow it.
-use Rattle.std.proofs.Common.{◌≡◌, ℕ, zero, suc, ◌<◌, ◌≤◌, ◌⊎◌, Bool, true, false, Option, Some, None, List, [], ◌∷◌, ◌++◌, take, refl, sym, ap, subst, inl, inr, arith, le-leb, leb-true, leb-false}
+use Rattle.std.proofs.Common.{rules, ◌≡◌, ℕ, zero, suc, ◌<◌, ◌≤◌, ◌⊎◌, Bool, true, false, Option, Some, None, List, [], ◌∷◌, ◌++◌, take, refl, sym, ap, subst, inl, inr, arith, le-leb, leb-true, leb-false}
 use Rattle.std.specs.Prelude.{option_map}
+use Rattle.flow_form.specs.declared.refusal.Wanted.{Wanted}
 use Rattle.flow_grammar.specs.Symbol.{Symbol, Placed, at, symbols, Deepens, opening, not_word}
-use Rattle.flow_grammar.specs.Machine.{Reading, gives, expected, too_deep, later, deepest, is_too_deep, at_end, go_on, run, Wanted, standing}
+use Rattle.flow_grammar.specs.Machine.{Reading, gives, expected, too_deep, later, deepest, is_too_deep, at_end, go_on, run, standing}
 use Rattle.flow_grammar.specs.Laws.{StandsFor, MayEnd}
 use Rattle.flow_grammar.specs.Texts.{IsShallow, IsDeepAt, Derives, IsWhole, IsViable, StandsDeep, IsStuckAt, NoneDeepBefore}
 use Rattle.std.proofs.lemmas.Bool.{false_from_ne_true}
@@ -13,14 +14,10 @@ uncons [] t ts e = cc
 uncons (at n u ∷ v) t ts e = let same : u ≡ t = cc in (n, v, ap (λ y. at n y ∷ v) same, cc)
 
 is_deep : (t : Symbol) (d : ℕ) → Deepens t → deepest ≤ d → is_too_deep t d ≡ true
-is_deep opening d h l = le-leb deepest d l
-is_deep not_word d h l = le-leb deepest d l
-is_deep _ d h l = absurd h
+is_deep t d h l = search (rules, le-leb)
 
 not_deep : (t : Symbol) (d : ℕ) → is_too_deep t d ≡ false → Deepens t → d < deepest
-not_deep opening d e h = leb-false deepest d e
-not_deep not_word d e h = leb-false deepest d e
-not_deep _ d e h = absurd h
+not_deep t d e h = search (rules, leb-false)
 
 deep_of : (t : Symbol) (d : ℕ) → is_too_deep t d ≡ true → Deepens t × (deepest ≤ d)
 deep_of opening d e = (tt, leb-true deepest d e)

@@ -1,5 +1,5 @@
 -- A whole text: what may follow each state.
-use Rattle.std.proofs.Common.{◌≡◌, ℕ, ◌⊎◌, Some, List, [], ◌∷◌, ◌++◌, map, refl, sym, ap, ◌∙◌, subst, inl, inr, append_assoc, append-nil}
+use Rattle.std.proofs.Common.{rules as std_rules, ◌≡◌, ℕ, ◌⊎◌, Some, List, [], ◌∷◌, ◌++◌, map, refl, sym, ap, ◌∙◌, subst, inl, inr, append_assoc, append-nil}
 use Rattle.flow_model.specs.declared.labels.Note.TheVariants.{Done, Fail, FailFirst}
 use Rattle.flow_facts.specs.Atom.{atom}
 use Rattle.flow_form.specs.Form.{Shape}
@@ -123,22 +123,15 @@ events_forth ds w x h =
 
 relation_ahead : (ds : List Declared) (n : List ℕ) (w : List Placed) (x : Said) → Ahead (after_fact (ds ++ fact (atom n []) ∷ [])) w x →
     Ahead (after_declared_relation ds n) w x
-relation_ahead ds n [] x h = h
-relation_ahead ds n (at m opening ∷ w) x h = absurd h.1
-relation_ahead ds n (at m _ ∷ w) x h = h
+relation_ahead ds n w x h = search std_rules
 
 event_ahead : (ds : List Declared) (n : List ℕ) (w : List Placed) (x : Said) → Ahead (after_noted (ds ++ event n Done ∷ [])) w x →
     Ahead (after_event ds n) w x
-event_ahead ds n [] x h = h
-event_ahead ds n (at m done_word ∷ w) x h = absurd h.1
-event_ahead ds n (at m fail_word ∷ w) x h = absurd h.1
-event_ahead ds n (at m _ ∷ w) x h = h
+event_ahead ds n w x h = search std_rules
 
 fail_ahead : (ds : List Declared) (n : List ℕ) (w : List Placed) (x : Said) → Ahead (after_noted (ds ++ event n Fail ∷ [])) w x →
     Ahead (after_fail ds n) w x
-fail_ahead ds n [] x h = h
-fail_ahead ds n (at m (a_number k) ∷ w) x h = absurd h.1
-fail_ahead ds n (at m _ ∷ w) x h = h
+fail_ahead ds n w x h = search std_rules
 
 note_forth : (ds : List Declared) (n : List ℕ) (w : List Placed) (x : Said) → Rest (after_event ds n) w x → Ahead (after_event ds n) w x
 note_forth ds n w x (silent_text, v, e, h) =

@@ -1,11 +1,11 @@
 -- What each state wants could come.
-use Rattle.std.proofs.Common.{ℕ, List, [], ◌∷◌, subst, sym}
+use Rattle.std.proofs.Common.{rules, ℕ, List, [], ◌∷◌}
 use Rattle.flow_facts.specs.declared.constant.Const.{Const}
 use Rattle.flow_facts.specs.Atom.{Atom}
 use Rattle.flow_form.specs.Script.{Declared}
-use Rattle.flow_grammar.specs.Symbol.{Symbol, fact_word, event_word, flow_word, goal_word, nop_word, iso_word, ins_word, del_word, must_word, never_word, order_word, precedes_word, needs_word, not_word, holds_word, redundant_word, a_name, a_number, opening, question, exclamation}
+use Rattle.flow_grammar.specs.Symbol.{Symbol}
 use Rattle.flow_grammar.specs.Grammar.{Prefix}
-use Rattle.flow_grammar.specs.Machine.{Step, reading, whole, stuck, carry, with_name, ArgState, constant_needed, after_constant, step_arg, wanted_arg, Level, Frame, GoalState, atom_needed, after_atom, opening_needed, fact_needed, after_relation, in_args, after_arg, step_goal, wanted_goal, RuleLevel, RuleFrame, Names, RuleState, unit_needed, after_unit, name_needed, after_names, step_rule, wanted_rule, State, declaration_needed, fact_to_declare, after_declared_relation, in_declared_args, event_to_declare, after_event, flow_to_declare, equals_needed, in_flow, in_goal, constraint_needed, in_constraint, step_script, finish_script, wanted_script, QueryState, query_needed, in_property, number_needed, after_number, query_read, step_query, finish_query, wanted_query}
+use Rattle.flow_grammar.specs.Machine.{Step, reading, whole, stuck, carry, with_name, ArgState, constant_needed, step_arg, wanted_arg, Level, Frame, GoalState, atom_needed, after_atom, opening_needed, fact_needed, after_relation, in_args, after_arg, step_goal, wanted_goal, RuleLevel, RuleFrame, Names, RuleState, unit_needed, name_needed, step_rule, wanted_rule, State, declaration_needed, fact_to_declare, after_declared_relation, in_declared_args, event_to_declare, after_event, flow_to_declare, equals_needed, in_flow, in_goal, in_constraint, step_script, finish_script, wanted_script, QueryState, query_needed, in_property, number_needed, after_number, query_read, step_query, finish_query, wanted_query}
 use Rattle.flow_grammar.specs.Laws.{StandsFor, MayEnd, BeginsDeclaration, IsAName, IsAConstant, BeginsAtom, BeginsUnit, BeginsQuery, IsANumber}
 use Rattle.flow_grammar.proofs.Runs.{Goes, Wants}
 
@@ -15,33 +15,19 @@ Moves (whole x) = Unit {0}
 Moves stuck = ⊥
 
 constant_comes : (n : List ℕ) (args : List Const) (t : Symbol) → IsAConstant t → Moves (step_arg (constant_needed n args) t)
-constant_comes n args (a_name m) h = tt
-constant_comes n args (a_number m) h = tt
-constant_comes n args _ h = absurd h
+constant_comes n args _ h = search rules
 
 arg_comes : (a : ArgState) (t : Symbol) → StandsFor (wanted_arg a) t → Moves (step_arg a t)
-arg_comes (constant_needed n args) t h = constant_comes n args t h
-arg_comes (after_constant n args) t h = subst (λ y. Moves (step_arg (after_constant n args) y)) (sym h) tt
+arg_comes _ t h = search rules
 
 atom_comes : (fs : List Frame) (l : Level) (t : Symbol) → BeginsAtom t → Moves (step_goal (atom_needed fs l) t)
-atom_comes fs l nop_word h = tt
-atom_comes fs l (a_name n) h = tt
-atom_comes fs l question h = tt
-atom_comes fs l exclamation h = tt
-atom_comes fs l ins_word h = tt
-atom_comes fs l del_word h = tt
-atom_comes fs l iso_word h = tt
-atom_comes fs l opening h = tt
-atom_comes fs l _ h = absurd h
+atom_comes fs l _ h = search rules
 
 relation_comes : (p : Prefix) (fs : List Frame) (l : Level) (t : Symbol) → IsAName t → Moves (step_goal (fact_needed p fs l) t)
-relation_comes p fs l (a_name n) h = tt
-relation_comes p fs l _ h = absurd h
+relation_comes p fs l _ h = search rules
 
 arg_moves : (p : Prefix) (fs : List Frame) (l : Level) (o : Step ArgState Atom) → Moves o → Moves (after_arg p fs l o)
-arg_moves p fs l (reading a) h = h
-arg_moves p fs l (whole f) h = h
-arg_moves p fs l stuck h = h
+arg_moves p fs l _ h = search rules
 
 goal_comes : (g : GoalState) (t : Symbol) → StandsFor (wanted_goal g) t → Moves (step_goal g t)
 goal_comes (atom_needed fs l) t h = atom_comes fs l t h
@@ -54,42 +40,22 @@ goal_comes (after_relation p n (f ∷ fs) l) t h = rw h tt
 goal_comes (in_args p a fs l) t h = arg_moves p fs l (step_arg a t) (arg_comes a t h)
 
 unit_comes : (fs : List RuleFrame) (l : RuleLevel) (k : ℕ) (t : Symbol) → BeginsUnit t → Moves (step_rule (unit_needed fs l k) t)
-unit_comes fs l k not_word h = tt
-unit_comes fs l k opening h = tt
-unit_comes fs l k must_word h = tt
-unit_comes fs l k never_word h = tt
-unit_comes fs l k order_word h = tt
-unit_comes fs l k precedes_word h = tt
-unit_comes fs l k needs_word h = tt
-unit_comes fs l k _ h = absurd h
+unit_comes fs l k _ h = search rules
 
 name_comes : (names : Names) (fs : List RuleFrame) (l : RuleLevel) (k : ℕ) (t : Symbol) → IsAName t → Moves (step_rule (name_needed names fs l k) t)
-name_comes names fs l k (a_name n) h = tt
-name_comes names fs l k _ h = absurd h
+name_comes names fs l k _ h = search rules
 
 rule_comes : (r : RuleState) (t : Symbol) → StandsFor (wanted_rule r) t → Moves (step_rule r t)
-rule_comes (unit_needed fs l k) t h = unit_comes fs l k t h
-rule_comes (after_unit [] l) t h = rw h tt
-rule_comes (after_unit (f ∷ fs) l) t h = rw h tt
-rule_comes (name_needed names fs l k) t h = name_comes names fs l k t h
-rule_comes (after_names ns [] l k) t h = rw h tt
-rule_comes (after_names ns (f ∷ fs) l k) t h = rw h tt
+rule_comes r t h = search (rules, unit_comes, name_comes)
 
 carry_goes : {S V T : Type 0} (within : S → T) (after : V → T) (o : Step S V) → Moves o → Goes (carry within after o)
-carry_goes within after (reading s) h = h
-carry_goes within after (whole x) h = h
-carry_goes within after stuck h = h
+carry_goes within after _ h = search rules
 
 named_goes : {T : Type 0} (next : List ℕ → T) (t : Symbol) → IsAName t → Goes (with_name next t)
-named_goes next (a_name n) h = tt
-named_goes next _ h = absurd h
+named_goes next _ h = search rules
 
 declaration_comes : (ds : List Declared) (t : Symbol) → BeginsDeclaration t → Goes (step_script (declaration_needed ds) t)
-declaration_comes ds fact_word h = tt
-declaration_comes ds event_word h = tt
-declaration_comes ds flow_word h = tt
-declaration_comes ds goal_word h = tt
-declaration_comes ds _ h = absurd h
+declaration_comes ds _ h = search rules
 
 script_comes : (s : State) (t : Symbol) → StandsFor (wanted_script s) t → Goes (step_script s t)
 script_comes (declaration_needed ds) t h = declaration_comes ds t h
@@ -103,41 +69,22 @@ script_comes (in_constraint ds s rs r) t h = carry_goes (in_constraint ds s rs) 
 script_comes _ t h = rw h tt
 
 goal_goes_on : (g : GoalState) → ¬ MayEnd (wanted_goal g)
-goal_goes_on (after_atom [] l) h = h
-goal_goes_on (after_atom (f ∷ fs) l) h = h
-goal_goes_on (after_relation p n [] l) h = h
-goal_goes_on (after_relation p n (f ∷ fs) l) h = h
-goal_goes_on (in_args p (constant_needed n args) fs l) h = h
-goal_goes_on (in_args p (after_constant n args) fs l) h = h
-goal_goes_on _ h = h
+goal_goes_on g h = search rules
 
 rule_goes_on : (r : RuleState) → ¬ MayEnd (wanted_rule r)
-rule_goes_on (after_unit [] l) h = h
-rule_goes_on (after_unit (f ∷ fs) l) h = h
-rule_goes_on (after_names ns [] l k) h = h
-rule_goes_on (after_names ns (f ∷ fs) l k) h = h
-rule_goes_on _ h = h
+rule_goes_on r h = search rules
 
 script_ends : (s : State) → MayEnd (wanted_script s) → Goes (finish_script s)
-script_ends (constraint_needed ds s rs) h = tt
-script_ends (in_declared_args ds (constant_needed n args)) h = h
-script_ends (in_declared_args ds (after_constant n args)) h = h
-script_ends (in_flow ds n g) h = goal_goes_on g h
-script_ends (in_goal ds g) h = goal_goes_on g h
-script_ends (in_constraint ds s rs r) h = rule_goes_on r h
-script_ends _ h = h
+script_ends s h = search (rules, goal_goes_on, rule_goes_on)
 
 pub script_wants : Wants step_script finish_script wanted_script
 script_wants = record { comes = script_comes; ends = script_ends }
 
 start_comes : (t : Symbol) → BeginsQuery t → Goes (step_query query_needed t)
-start_comes holds_word h = tt
-start_comes redundant_word h = tt
-start_comes _ h = absurd h
+start_comes _ h = search rules
 
 number_comes : (t : Symbol) → IsANumber t → Goes (step_query number_needed t)
-number_comes (a_number n) h = tt
-number_comes _ h = absurd h
+number_comes _ h = search rules
 
 query_comes : (s : QueryState) (t : Symbol) → StandsFor (wanted_query s) t → Goes (step_query s t)
 query_comes query_needed t h = start_comes t h
@@ -147,9 +94,7 @@ query_comes (after_number n) t h = rw h tt
 query_comes (query_read q) t h = absurd h
 
 query_ends : (s : QueryState) → MayEnd (wanted_query s) → Goes (finish_query s)
-query_ends (query_read q) h = tt
-query_ends (in_property r) h = rule_goes_on r h
-query_ends _ h = h
+query_ends s h = search (rules, rule_goes_on)
 
 pub query_wants : Wants step_query finish_query wanted_query
 query_wants = record { comes = query_comes; ends = query_ends }

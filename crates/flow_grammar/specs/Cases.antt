@@ -1,11 +1,12 @@
 -- A few texts as symbols, and what the machine makes of them.
 use Rattle.std.specs.Prelude.{◌≡◌, List, [], ◌∷◌, ◌++◌, replicate}
+use Rattle.flow_form.specs.declared.refusal.Wanted.TheVariants as want
 use Rattle.flow_model.specs.declared.labels.Note.TheVariants.{Done, FailFirst}
 use Rattle.flow_form.specs.Form.{named}
 use Rattle.flow_form.specs.RuleForm.{must, never, negated, all, any, followed, no_more}
 use Rattle.flow_form.specs.Script.{Said, event}
 use Rattle.flow_grammar.specs.Symbol.{Symbol, event_word, goal_word, constraint_word, holds_word, redundant_word, must_word, never_word, order_word, not_word, and_word, or_word, iso_word, fail_word, star, a_name, a_number, opening, closing, comma, semicolon}
-use Rattle.flow_grammar.specs.Machine.{gives, expected, too_deep, read_script, read_query, an_atom, a_rule, a_declaration, a_semicolon, a_closing, an_opening, the_name, the_end}
+use Rattle.flow_grammar.specs.Machine.{gives, expected, too_deep, read_script, read_query}
 use Rattle.flow_grammar.specs.Print.{print_script}
 
 abbrev pub a : Symbol
@@ -43,24 +44,24 @@ ItIsPrinted = print_script said_there ≡ printed
 
 -- nothing at all
 abbrev pub NothingThere : Type 0
-NothingThere = read_script [] ≡ expected a_declaration 0
+NothingThere = read_script [] ≡ expected want.Declaration 0
 
 -- event a, b; goal a * (b
 abbrev pub OpenParenthesis : Type 0
 OpenParenthesis =
-    read_script (event_word ∷ a ∷ comma ∷ b ∷ semicolon ∷ goal_word ∷ a ∷ star ∷ opening ∷ b ∷ []) ≡ expected a_closing 10
+    read_script (event_word ∷ a ∷ comma ∷ b ∷ semicolon ∷ goal_word ∷ a ∷ star ∷ opening ∷ b ∷ []) ≡ expected want.Closing 10
 
 -- event a 1;
 abbrev pub NumberAfterEvent : Type 0
-NumberAfterEvent = read_script (event_word ∷ a ∷ a_number 1 ∷ semicolon ∷ []) ≡ expected a_semicolon 2
+NumberAfterEvent = read_script (event_word ∷ a ∷ a_number 1 ∷ semicolon ∷ []) ≡ expected want.Semicolon 2
 
 -- goal a * ;
 abbrev pub NothingAfterStar : Type 0
-NothingAfterStar = read_script (goal_word ∷ a ∷ star ∷ semicolon ∷ []) ≡ expected an_atom 3
+NothingAfterStar = read_script (goal_word ∷ a ∷ star ∷ semicolon ∷ []) ≡ expected want.Atom 3
 
 -- goal a; constraint order a;
 abbrev pub OrderOfOne : Type 0
-OrderOfOne = read_script (goal_word ∷ a ∷ semicolon ∷ constraint_word ∷ order_word ∷ a ∷ semicolon ∷ []) ≡ expected the_name 6
+OrderOfOne = read_script (goal_word ∷ a ∷ semicolon ∷ constraint_word ∷ order_word ∷ a ∷ semicolon ∷ []) ≡ expected want.Name 6
 
 -- goal, and 201 open parentheses
 abbrev pub TooManyParentheses : Type 0
@@ -71,23 +72,23 @@ abbrev pub IsoTooDeep : Type 0
 IsoTooDeep = read_script (goal_word ∷ replicate 200 opening ++ iso_word ∷ opening ∷ []) ≡ too_deep 202
 
 abbrev pub IsoWithNothing : Type 0
-IsoWithNothing = read_script (goal_word ∷ replicate 200 opening ++ iso_word ∷ semicolon ∷ []) ≡ expected an_opening 202
+IsoWithNothing = read_script (goal_word ∷ replicate 200 opening ++ iso_word ∷ semicolon ∷ []) ≡ expected want.Opening 202
 
 -- a parenthesis that is too deep, where none may come
 abbrev pub NoParenthesis : Type 0
-NoParenthesis = read_script (goal_word ∷ replicate 200 opening ++ a ∷ opening ∷ []) ≡ expected a_closing 202
+NoParenthesis = read_script (goal_word ∷ replicate 200 opening ++ a ∷ opening ∷ []) ≡ expected want.Closing 202
 
 -- holds, 200 nots and must a; and holds, and 201 nots
 abbrev pub ManyNots : Type 0
-ManyNots = read_query (holds_word ∷ replicate 200 not_word) ≡ expected a_rule 201
+ManyNots = read_query (holds_word ∷ replicate 200 not_word) ≡ expected want.Rule 201
 
 abbrev pub TooManyNots : Type 0
 TooManyNots = read_query (holds_word ∷ replicate 201 not_word) ≡ too_deep 201
 
 -- holds must a
 abbrev pub UnfinishedQuery : Type 0
-UnfinishedQuery = read_query (holds_word ∷ must_word ∷ a ∷ []) ≡ expected a_semicolon 3
+UnfinishedQuery = read_query (holds_word ∷ must_word ∷ a ∷ []) ≡ expected want.Semicolon 3
 
 -- redundant 3; 4
 abbrev pub MoreAfterQuery : Type 0
-MoreAfterQuery = read_query (redundant_word ∷ a_number 3 ∷ semicolon ∷ a_number 4 ∷ []) ≡ expected the_end 3
+MoreAfterQuery = read_query (redundant_word ∷ a_number 3 ∷ semicolon ∷ a_number 4 ∷ []) ≡ expected want.End 3

@@ -1,7 +1,9 @@
 -- What reading finds, in the grammar's terms. `Spells` says which texts there are.
 use Rattle.std.specs.Prelude.{◌≡◌, ℕ, Option, Some, List, [], ◌∷◌, ◌++◌, ◌↔◌, take}
+use Rattle.flow_form.specs.declared.refusal.Wanted.{Wanted}
+use Rattle.flow_form.specs.declared.refusal.Wanted.TheVariants as want
 use Rattle.flow_grammar.specs.Symbol.{Symbol, Placed, symbols, fact_word, event_word, flow_word, goal_word, constraint_word, nop_word, iso_word, ins_word, del_word, must_word, never_word, order_word, precedes_word, needs_word, not_word, holds_word, redundant_word, a_name, a_number, opening, closing, semicolon, equals, question, exclamation}
-use Rattle.flow_grammar.specs.Machine.{Wanted, a_declaration, a_constraint, the_name, a_fact, a_constant, an_atom, a_rule, an_opening, a_closing, an_equals, a_semicolon, a_query, the_number, the_end, Reading, gives, expected, too_deep}
+use Rattle.flow_grammar.specs.Machine.{Reading, gives, expected, too_deep}
 use Rattle.flow_grammar.specs.Texts.{Derives, IsWhole, IsViable, StandsDeep, IsStuckAt, NoneDeepBefore}
 
 -- a value is read exactly where the symbols say it
@@ -72,25 +74,25 @@ IsANumber _ = ⊥
 
 -- the symbol is of that kind
 abbrev pub StandsFor : Wanted → Symbol → Type 0
-StandsFor a_declaration t = BeginsDeclaration t
-StandsFor a_constraint t = t ≡ constraint_word
-StandsFor the_name t = IsAName t
-StandsFor a_fact t = IsAName t
-StandsFor a_constant t = IsAConstant t
-StandsFor an_atom t = BeginsAtom t
-StandsFor a_rule t = BeginsUnit t
-StandsFor an_opening t = t ≡ opening
-StandsFor a_closing t = t ≡ closing
-StandsFor an_equals t = t ≡ equals
-StandsFor a_semicolon t = t ≡ semicolon
-StandsFor a_query t = BeginsQuery t
-StandsFor the_number t = IsANumber t
-StandsFor the_end t = ⊥
+StandsFor want.Declaration t = BeginsDeclaration t
+StandsFor want.Constraint t = t ≡ constraint_word
+StandsFor want.Name t = IsAName t
+StandsFor want.Fact t = IsAName t
+StandsFor want.Constant t = IsAConstant t
+StandsFor want.Atom t = BeginsAtom t
+StandsFor want.Rule t = BeginsUnit t
+StandsFor want.Opening t = t ≡ opening
+StandsFor want.Closing t = t ≡ closing
+StandsFor want.Equals t = t ≡ equals
+StandsFor want.Semicolon t = t ≡ semicolon
+StandsFor want.Query t = BeginsQuery t
+StandsFor want.Number t = IsANumber t
+StandsFor want.End t = ⊥
 
 -- the end is of that kind
 abbrev pub MayEnd : Wanted → Type 0
-MayEnd a_constraint = Unit {0}
-MayEnd the_end = Unit {0}
+MayEnd want.Constraint = Unit {0}
+MayEnd want.End = Unit {0}
 MayEnd _ = ⊥
 
 -- where a kind is expected, each symbol of that kind could come, and the end if it is of that kind

@@ -1,5 +1,7 @@
 -- The push-down machine that reads a workflow text or a query, a symbol a step.
 use Rattle.std.specs.Prelude.{ℕ, zero, suc, ◌+◌, Bool, true, false, nat_le, Option, Some, None, option_map, List, [], ◌∷◌, ◌++◌}
+use Rattle.flow_form.specs.declared.refusal.Wanted.{Wanted}
+use Rattle.flow_form.specs.declared.refusal.Wanted.TheVariants as want
 use Rattle.flow_model.specs.declared.labels.Note.TheVariants.{Done, Fail, FailFirst}
 use Rattle.flow_facts.specs.declared.constant.Const.{Const}
 use Rattle.flow_facts.specs.declared.constant.Const.TheVariants.{Word, Number}
@@ -9,11 +11,6 @@ use Rattle.flow_form.specs.RuleForm.{RuleShape, order, negated}
 use Rattle.flow_form.specs.Script.{Declared, fact, event, flow, Said, Asked, holds, redundant}
 use Rattle.flow_grammar.specs.Symbol.{Symbol, fact_word, event_word, flow_word, goal_word, constraint_word, nop_word, iso_word, ins_word, del_word, must_word, never_word, order_word, precedes_word, needs_word, not_word, and_word, or_word, done_word, fail_word, holds_word, redundant_word, a_name, a_number, star, bar, plus, opening, closing, comma, semicolon, equals, question, exclamation}
 use Rattle.flow_grammar.specs.Grammar.{Prefix, asking, denying, adding, taking, prefixed, Single, must_come, never_come, single, Pair, preceding, needing, paired, goals, rules, list, gather}
-
--- what could come, where a symbol or the end came with which no text goes on
-pub data Wanted : Type 0 where
-  a_declaration a_constraint the_name a_fact a_constant an_atom a_rule an_opening a_closing : Wanted
-  an_equals a_semicolon a_query the_number the_end : Wanted
 
 -- what one symbol makes of a part that is being read
 pub data Step (S V : Type 0) : Type 0 where
@@ -401,22 +398,22 @@ depth_query _ = 0
 
 abbrev pub wanted_arg : ArgState → Wanted
 -- a constant is needed
-wanted_arg (constant_needed n args) = a_constant
+wanted_arg (constant_needed n args) = want.Constant
 -- inside the parentheses of a fact, after a constant
-wanted_arg (after_constant n args) = a_closing
+wanted_arg (after_constant n args) = want.Closing
 
 -- after a complete member: inside parentheses or not
 abbrev pub wanted_join : {F : Type 0} → List F → Wanted
-wanted_join [] = a_semicolon
-wanted_join (f ∷ fs) = a_closing
+wanted_join [] = want.Semicolon
+wanted_join (f ∷ fs) = want.Closing
 
 abbrev pub wanted_goal : GoalState → Wanted
 -- an atom is needed
-wanted_goal (atom_needed fs l) = an_atom
+wanted_goal (atom_needed fs l) = want.Atom
 -- after `iso`
-wanted_goal (opening_needed fs l) = an_opening
+wanted_goal (opening_needed fs l) = want.Opening
 -- the relation of a fact is needed
-wanted_goal (fact_needed p fs l) = a_fact
+wanted_goal (fact_needed p fs l) = want.Fact
 wanted_goal (in_args p a fs l) = wanted_arg a
 -- after a complete member
 wanted_goal (after_atom fs l) = wanted_join fs
@@ -424,45 +421,45 @@ wanted_goal (after_relation p n fs l) = wanted_join fs
 
 abbrev pub wanted_rule : RuleState → Wanted
 -- a unit of a rule is needed
-wanted_rule (unit_needed fs l k) = a_rule
+wanted_rule (unit_needed fs l k) = want.Rule
 -- the name of an event is needed: for `order` the first two
-wanted_rule (name_needed names fs l k) = the_name
+wanted_rule (name_needed names fs l k) = want.Name
 -- after a complete member
 wanted_rule (after_unit fs l) = wanted_join fs
 wanted_rule (after_names ns fs l k) = wanted_join fs
 
 abbrev pub wanted_script : State → Wanted
 -- a declaration or the goal must begin
-wanted_script (declaration_needed ds) = a_declaration
+wanted_script (declaration_needed ds) = want.Declaration
 -- after the goal, or a constraint
-wanted_script (constraint_needed ds s rs) = a_constraint
+wanted_script (constraint_needed ds s rs) = want.Constraint
 -- the name of an event or sub-workflow is needed
-wanted_script (event_to_declare ds) = the_name
-wanted_script (flow_to_declare ds) = the_name
+wanted_script (event_to_declare ds) = want.Name
+wanted_script (flow_to_declare ds) = want.Name
 -- the relation of a fact is needed
-wanted_script (fact_to_declare ds) = a_fact
+wanted_script (fact_to_declare ds) = want.Fact
 wanted_script (in_declared_args ds a) = wanted_arg a
 -- after the name of a sub-workflow
-wanted_script (equals_needed ds n) = an_equals
+wanted_script (equals_needed ds n) = want.Equals
 -- after a complete fact or event
-wanted_script (after_declared_relation ds n) = a_semicolon
-wanted_script (after_fact ds) = a_semicolon
-wanted_script (after_event ds n) = a_semicolon
-wanted_script (after_fail ds n) = a_semicolon
-wanted_script (after_noted ds) = a_semicolon
+wanted_script (after_declared_relation ds n) = want.Semicolon
+wanted_script (after_fact ds) = want.Semicolon
+wanted_script (after_event ds n) = want.Semicolon
+wanted_script (after_fail ds n) = want.Semicolon
+wanted_script (after_noted ds) = want.Semicolon
 wanted_script (in_flow ds n g) = wanted_goal g
 wanted_script (in_goal ds g) = wanted_goal g
 wanted_script (in_constraint ds s rs r) = wanted_rule r
 
 abbrev pub wanted_query : QueryState → Wanted
 -- a query must begin
-wanted_query query_needed = a_query
+wanted_query query_needed = want.Query
 -- after `redundant`
-wanted_query number_needed = the_number
-wanted_query (after_number n) = a_semicolon
+wanted_query number_needed = want.Number
+wanted_query (after_number n) = want.Semicolon
 wanted_query (in_property r) = wanted_rule r
 -- after a query
-wanted_query (query_read q) = the_end
+wanted_query (query_read q) = want.End
 
 -- where the reading stands that goes on over these symbols, if each of them leads on
 abbrev pub standing : {S : Type 0} → (S → Symbol → Option S) → Option S → List Symbol → Option S

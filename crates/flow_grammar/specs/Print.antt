@@ -151,14 +151,10 @@ abbrev mutual
 
 abbrev mutual
   pub rule_nesting : RuleShape → ℕ
-  rule_nesting (must n) = 0
-  rule_nesting (never n) = 0
-  rule_nesting (order ns) = 0
-  rule_nesting (precedes a b) = 0
-  rule_nesting (needs a b) = 0
   rule_nesting (negated x) = suc (nest (in_all x) (rule_nesting x))
   rule_nesting (all xs) = rules_nesting in_all xs
   rule_nesting (any xs) = rules_nesting in_any xs
+  rule_nesting _ = 0
 
   pub rules_nesting : (RuleShape → Bool) → RuleShapes → ℕ
   rules_nesting parted rule.no_more = 0

@@ -1,7 +1,8 @@
 -- A run, a symbol at a time: what a loop that holds a state and a place keeps.
 use Rattle.std.specs.Prelude.{◌≡◌, ℕ, ◌+◌, true, false, Option, Some, None, List, [], ◌∷◌}
+use Rattle.flow_form.specs.declared.refusal.Wanted.{Wanted}
 use Rattle.flow_grammar.specs.Symbol.{Symbol}
-use Rattle.flow_grammar.specs.Machine.{Wanted, Reading, gives, expected, too_deep, is_too_deep, shifted, run}
+use Rattle.flow_grammar.specs.Machine.{Reading, gives, expected, too_deep, is_too_deep, shifted, run}
 
 pub record GoesByStep {S V : Type 0} (step : S → Symbol → Option S) (finish : S → Option V) (wanted : S → Wanted) (depth : S → ℕ) : Type 0 where
   pub at_start : (r : Reading V) → shifted 0 r ≡ r

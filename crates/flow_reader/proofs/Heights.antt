@@ -1,10 +1,20 @@
 -- How many parentheses and nots are open, as the stack keeps it.
-use Rattle.std.proofs.Common.{◌≡◌, ℕ, ◌+◌, List, [], ◌∷◌, ◌++◌, map, reverse, ap, ◌∙◌, arith}
+use Rattle.std.proofs.Common.{◌≡◌, ℕ, zero, suc, ◌+◌, ◌-◌, ◌<◌, List, [], ◌∷◌, ◌++◌, map, reverse, ap, ◌∙◌, arith}
 use Rattle.std.proofs.lemmas.List.{reverse-append, map-append}
-use Rattle.flow_grammar.specs.Machine.{rule_height}
+use Rattle.flow_form.specs.RuleForm.{RuleShape, negated}
+use Rattle.flow_grammar.specs.Machine.{nots_in, negate, rule_height}
 use Rattle.flow_reader.specs.declared.rule_levels.RuleFrame.{RuleFrame}
 use Rattle.flow_reader.specs.RuleLevels.{rule_frame_of, rule_frames_of}
-use Rattle.flow_reader.proofs.Depths.{nots_added}
+
+pub nots_added : (k d : ℕ) → nots_in k d ≡ k + d
+nots_added zero d = omega arith
+nots_added (suc k) d = omega (arith, nots_added k d)
+
+pub negate_more : (k : ℕ) (r : RuleShape) → 0 < k → negate k r ≡ negate (k - 1) (negated r)
+negate_more zero r h = absurd (omega arith)
+negate_more (suc k) r h =
+    let same : k ≡ suc k - 1 = omega arith in
+    ap (λ n. negate n (negated r)) same
 
 -- the last frame of the code is the first of the machine
 pub frames_last : (outer : List RuleFrame) (inner : RuleFrame) → rule_frames_of (outer ++ inner ∷ []) ≡ rule_frame_of inner ∷ rule_frames_of outer

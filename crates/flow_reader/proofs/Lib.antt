@@ -1,4 +1,3 @@
-pub mod Depths
 pub mod Heights
 pub mod Within
 pub mod Loops

@@ -2,23 +2,22 @@
 use Rattle.std.proofs.Common.{◌≡◌, ℕ, suc, ◌+◌, ◌≤◌, List, [], ◌∷◌, length, refl, sym, ap, subst, ◌∙◌, arith}
 use Rattle.std.specs.Prelude.{Bool, true, false, option_map, Result, Ok, Err, IfOk, IfErr}
 use Rattle.std.specs.Prelude.{Option, Some, None}
+use Rattle.flow_form.specs.declared.refusal.Wanted.{Wanted}
 use Rattle.flow_model.specs.Lists.{Each}
-use Rattle.flow_form.specs.declared.refusal.Wanted as told
 use Rattle.flow_form.specs.declared.refusal.TextRefusal.{TextRefusal}
-use Rattle.flow_form.specs.declared.refusal.TextRefusal.TheVariants.{NotAscii, BadToken, Expected, Unknown, Repeated, TooDeep, NoMemory}
+use Rattle.flow_form.specs.declared.refusal.TextRefusal.TheVariants.{Expected, TooDeep, NoMemory}
 use Rattle.flow_lex.specs.declared.token.Token.{Token}
 use Rattle.flow_lex.specs.Tokens.{AreSpans, IsSmall}
 use Rattle.flow_grammar.specs.Symbol.{Symbol}
-use Rattle.flow_grammar.specs.Machine.{Wanted, Reading, gives, expected, is_too_deep, shifted, run}
+use Rattle.flow_grammar.specs.Machine.{Reading, gives, expected, is_too_deep, shifted, run}
 use Rattle.flow_grammar.specs.Steps.{GoesByStep}
 use Rattle.flow_reader.specs.Symbols.{symbol_of, symbols_of}
-use Rattle.flow_reader.specs.Readers.{kind_of}
 use Rattle.flow_reader.specs.Reading.{place_of, settled, StepsTo, IsStepRefusal, IsReadRefusal}
 use Rattle.flow_reader.proofs.Within.{Within}
 
 -- what a step of the code comes to, in the machine's terms
 pub settled_step : {R E S : Type 0} (view : R → S) (step : S → Symbol → Option S) (depth : S → ℕ) (s : S) (t : Symbol)
-    (made : Result (Option R) E) (deep : Bool) (place : ℕ) (kind : told.Wanted) (result : Result R TextRefusal) →
+    (made : Result (Option R) E) (deep : Bool) (place : ℕ) (kind : Wanted) (result : Result R TextRefusal) →
     IfOk made (λ next. option_map view next ≡ step s t) → deep ≡ is_too_deep t (depth s) → result ≡ settled made deep place kind →
     IfOk result (λ r. StepsTo step depth s t (view r))
 settled_step view step depth s t (Err error) deep place kind result led counted e = rw e tt
@@ -27,8 +26,8 @@ settled_step view step depth s t (Ok (Some r)) true place kind result led counte
 settled_step view step depth s t (Ok (Some r)) false place kind result led counted e = rw e (sym led, sym counted)
 
 pub settled_refusal : {R E S : Type 0} (view : R → S) (step : S → Symbol → Option S) (wanted : S → Wanted) (depth : S → ℕ) (s : S) (t : Symbol)
-    (made : Result (Option R) E) (deep : Bool) (place : ℕ) (kind : told.Wanted) (result : Result R TextRefusal) →
-    IfOk made (λ next. option_map view next ≡ step s t) → deep ≡ is_too_deep t (depth s) → kind_of kind ≡ wanted s →
+    (made : Result (Option R) E) (deep : Bool) (place : ℕ) (kind : Wanted) (result : Result R TextRefusal) →
+    IfOk made (λ next. option_map view next ≡ step s t) → deep ≡ is_too_deep t (depth s) → kind ≡ wanted s →
     result ≡ settled made deep place kind → IfErr result (λ refusal. IsStepRefusal step wanted depth s t place refusal)
 settled_refusal view step wanted depth s t (Err error) deep place kind result led counted wants e = rw e tt
 settled_refusal view step wanted depth s t (Ok None) deep place kind result led counted wants e = rw e (sym led, wants, refl)
@@ -79,7 +78,7 @@ module _ {S V : Type 0} (step : S → Symbol → Option S) (finish : S → Optio
   deeper : (s next : S) (t : Symbol) → step s t ≡ Some next → depth next ≤ suc (depth s)
   deeper s next t e = subst (λ o. Within depth o (depth s)) e (within s t)
 
-  pub stands_next : (s next : S) (t : Token) (more : List Token) → StepsTo step depth s (symbol_of text t) next → Here s (t ∷ more) → Here next more
+  stands_next : (s next : S) (t : Token) (more : List Token) → StepsTo step depth s (symbol_of text t) next → Here s (t ∷ more) → Here next more
   stands_next s next t more (led, shallow) h = record {
     passed = h.passed + 1;
     so_far = sym (by_step.at_step s next (symbol_of text t) (symbols_of text more) h.passed led shallow) ∙ h.so_far;
@@ -91,6 +90,11 @@ module _ {S V : Type 0} (step : S → Symbol → Option S) (finish : S → Optio
     small = h.small.1;
   }
 
+  -- the first of the tokens that are left has been read
+  pub stands_after : (s next : S) (symbol : Symbol) (t : Token) (rest more : List Token) → rest ≡ t ∷ more → symbol ≡ symbol_of text t → StepsTo step depth s symbol next →
+      Here s rest → Here next more
+  stands_after s next symbol t rest more cut is led h = stands_next s next t more (subst (λ y. StepsTo step depth s y next) is led) (subst (Here s) cut h)
+
   here : (s : S) (rest : List Token) (h : Here s rest) → place_of text tokens h.passed ≡ place_of text rest 0
   here s rest h =
       let same : h.passed ≡ h.passed + 0 = omega arith in
@@ -98,26 +102,23 @@ module _ {S V : Type 0} (step : S → Symbol → Option S) (finish : S → Optio
 
   pub stands_refused : (s : S) (t : Token) (more : List Token) (place : ℕ) (refusal : TextRefusal) → place ≡ t.start →
       IsStepRefusal step wanted depth s (symbol_of text t) place refusal → Here s (t ∷ more) → IsReadRefusal text tokens read refusal
-  stands_refused s t more place (NotAscii p) at refused h = refused
-  stands_refused s t more place (BadToken p) at refused h = refused
   stands_refused s t more place (Expected p kind) at (stuck, wants, there) h = (
     h.passed,
     sym h.so_far ∙ by_step.where_stuck s (symbol_of text t) (symbols_of text more) h.passed stuck ∙ ap (λ k. expected k h.passed) (sym wants),
     there ∙ at ∙ sym (here s (t ∷ more) h),
   )
-  stands_refused s t more place (Unknown p name) at refused h = refused
-  stands_refused s t more place (Repeated p name) at refused h = refused
   stands_refused s t more place (TooDeep p) at ((next, led), deep, there) h = (
     h.passed,
     sym h.so_far ∙ by_step.where_deep s next (symbol_of text t) (symbols_of text more) h.passed led deep,
     there ∙ at ∙ sym (here s (t ∷ more) h),
   )
   stands_refused s t more place NoMemory at refused h = tt
+  stands_refused s t more place _ at refused h = refused
 
   pub stands_value : (s : S) (v : V) → finish s ≡ Some v → Here s [] → read ≡ gives v
   stands_value s v e h = sym h.so_far ∙ by_step.at_value s v h.passed e
 
-  pub stands_no_value : (s : S) (kind : told.Wanted) (place : ℕ) → finish s ≡ None → kind_of kind ≡ wanted s → place ≡ length text → Here s [] →
+  pub stands_no_value : (s : S) (kind : Wanted) (place : ℕ) → finish s ≡ None → kind ≡ wanted s → place ≡ length text → Here s [] →
       IsReadRefusal text tokens read (Expected place kind)
   stands_no_value s kind place none wants at h = (
     h.passed,

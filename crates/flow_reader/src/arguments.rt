@@ -1,7 +1,7 @@
 ghost use Rattle.std.specs.Prelude.{◌≡◌, IfOk};
 ghost use Rattle.flow_grammar.specs.Machine as machine;
 ghost use Rattle.flow_reader.specs.Symbols.{meant};
-ghost use Rattle.flow_reader.specs.Readers.{arg_state, arg_step, kind_of};
+ghost use Rattle.flow_reader.specs.Readers.{arg_state, arg_step};
 
 use crate::symbol::Symbol;
 use flow_form::{Const, Fact, Name, Wanted};
@@ -63,7 +63,7 @@ impl ArgReader {
 
     /// What could come next.
     pub fn wanted(&self) -> Wanted
-        ensures { kind_of result ≡ machine.wanted_arg (arg_state self.now) }
+        ensures { result ≡ machine.wanted_arg (arg_state self.now) }
     {
         match self {
             ArgReader::ConstantNeeded(..) => Wanted::Constant,

@@ -4,7 +4,6 @@ ghost use Rattle.flow_grammar.specs.Grammar as grammar;
 ghost use Rattle.flow_grammar.specs.Machine as machine;
 ghost use Rattle.flow_grammar.specs.Symbol as grammar_symbol;
 ghost use Rattle.flow_reader.specs.Symbols.{meant};
-ghost use Rattle.flow_reader.specs.Readers.{kind_of};
 ghost use Rattle.flow_reader.specs.Goals.{prefix_of, frames_of, level_of, goal_state, goal_step};
 
 use crate::arguments::{ArgReader, ArgStep};
@@ -192,7 +191,7 @@ impl GoalPlace {
 
     /// What could come next.
     pub fn wanted(&self, stack: &Stack) -> Wanted
-        ensures { kind_of result ≡ machine.wanted_goal (goal_state stack.now self.now) }
+        ensures { result ≡ machine.wanted_goal (goal_state stack.now self.now) }
     {
         match self {
             GoalPlace::AtomNeeded => Wanted::Atom,

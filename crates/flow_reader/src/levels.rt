@@ -3,7 +3,6 @@ ghost use Rattle.flow_form.specs.Form as form;
 ghost use Rattle.flow_form.specs.Form.{shape_of};
 ghost use Rattle.flow_grammar.specs.Grammar as grammar;
 ghost use Rattle.flow_grammar.specs.Machine as machine;
-ghost use Rattle.flow_reader.specs.Readers.{kind_of};
 ghost use Rattle.flow_reader.specs.Goals.{goal_list, frame, frames_of, level_of};
 
 use flow_form::{Form, Wanted};
@@ -131,7 +130,7 @@ impl Stack {
 
     /// What could come after an atom.
     pub fn wanted(&self) -> Wanted
-        ensures { kind_of result ≡ machine.wanted_join (frames_of self.now.frames.items) }
+        ensures { result ≡ machine.wanted_join (frames_of self.now.frames.items) }
     {
         if self.frames.is_empty() {
             Wanted::Semicolon

@@ -2,7 +2,6 @@ ghost use Rattle.std.specs.Prelude.{◌≡◌, ◌-◌, ◌^◌, ◌<◌, option
 ghost use Rattle.flow_form.specs.Script.{asked};
 ghost use Rattle.flow_grammar.specs.Machine as machine;
 ghost use Rattle.flow_reader.specs.Symbols.{meant};
-ghost use Rattle.flow_reader.specs.Readers.{kind_of};
 ghost use Rattle.flow_reader.specs.Rules.{rule_step};
 ghost use Rattle.flow_reader.specs.declared.rule_stack.RuleStack.{RuleStack};
 ghost use Rattle.flow_reader.specs.Queries.{query_state};
@@ -94,7 +93,7 @@ impl QueryPlace {
 
     /// What could come next.
     pub fn wanted(&self, stack: &RuleStack) -> Wanted
-        ensures { kind_of result ≡ machine.wanted_query (query_state stack.now self.now) }
+        ensures { result ≡ machine.wanted_query (query_state stack.now self.now) }
     {
         match self {
             QueryPlace::QueryNeeded => Wanted::Query,

@@ -1,6 +1,5 @@
 ghost use Rattle.std.specs.Prelude.{◌≡◌, ◌∷◌, ◌+◌, ◌-◌, ◌<◌, ◌^◌, [], OnOk};
 ghost use Rattle.flow_grammar.specs.Machine as machine;
-ghost use Rattle.flow_reader.specs.Readers.{kind_of};
 ghost use Rattle.flow_reader.specs.RuleLevels.{rule_frames_of, rule_level_of};
 
 use crate::rule_levels::{RuleFrame, RuleLevel};
@@ -54,7 +53,7 @@ impl RuleStack {
 
     /// What could come after a unit.
     pub fn wanted(&self) -> Wanted
-        ensures { kind_of result ≡ machine.wanted_join (rule_frames_of self.now.frames.items) }
+        ensures { result ≡ machine.wanted_join (rule_frames_of self.now.frames.items) }
     {
         if self.frames.is_empty() {
             Wanted::Semicolon

@@ -3,7 +3,6 @@ ghost use Rattle.flow_form.specs.RuleForm.{rule_shape_of};
 ghost use Rattle.flow_grammar.specs.Machine as machine;
 ghost use Rattle.flow_grammar.specs.Symbol as grammar_symbol;
 ghost use Rattle.flow_reader.specs.Symbols.{meant};
-ghost use Rattle.flow_reader.specs.Readers.{kind_of};
 ghost use Rattle.flow_reader.specs.RuleLevels.{rule_frames_of, rule_level_of};
 ghost use Rattle.flow_reader.specs.Rules.{missing_names, rule_state, rule_step};
 
@@ -215,7 +214,7 @@ fn more_names(
 }
 
 impl RulePlace {
-    #[tactic(auto, using(crate::proofs::Depths::nots_added))]
+    #[tactic(auto, using(crate::proofs::Heights::nots_added))]
     pub fn step(
         self,
         alloc: Global,
@@ -235,7 +234,7 @@ impl RulePlace {
 
     /// What could come next.
     pub fn wanted(&self, stack: &RuleStack) -> Wanted
-        ensures { kind_of result ≡ machine.wanted_rule (rule_state stack.now self.now) }
+        ensures { result ≡ machine.wanted_rule (rule_state stack.now self.now) }
     {
         match self {
             RulePlace::UnitNeeded(_) => Wanted::Rule,
@@ -245,7 +244,7 @@ impl RulePlace {
     }
 
     /// In how many parentheses and nots the next symbol stands.
-    #[tactic(auto, using(crate::proofs::Depths::nots_added))]
+    #[tactic(auto, using(crate::proofs::Heights::nots_added))]
     pub fn depth(&self, stack: &RuleStack) -> usize
         requires { machine.depth_rule (rule_state stack.now self.now) < 2 ^ 64 - 1 }
         ensures { result ≡ machine.depth_rule (rule_state stack.now self.now) }

@@ -5,7 +5,6 @@ ghost use Rattle.flow_form.specs.Script as form;
 ghost use Rattle.flow_form.specs.Script.{said};
 ghost use Rattle.flow_grammar.specs.Machine as machine;
 ghost use Rattle.flow_reader.specs.Symbols.{meant};
-ghost use Rattle.flow_reader.specs.Readers.{kind_of};
 ghost use Rattle.flow_reader.specs.Goals.{goal_step};
 ghost use Rattle.flow_reader.specs.Rules.{rule_step};
 ghost use Rattle.flow_reader.specs.Scripts.{declared_so_far, fact_state, event_state, flow_state, script_state};
@@ -341,7 +340,7 @@ impl ScriptParts {
 
     /// What could come next.
     pub fn wanted(&self, place: &ScriptPlace) -> Wanted
-        ensures { kind_of result ≡ machine.wanted_script (script_state self.now place.now) }
+        ensures { result ≡ machine.wanted_script (script_state self.now place.now) }
     {
         match place {
             ScriptPlace::DeclarationNeeded => Wanted::Declaration,

@@ -10,6 +10,9 @@ use crate::reserved_words::{mark_symbol, word_symbol};
 use crate::symbol::Symbol;
 use flow_lex::{Token, TokenKind, number};
 
+/// The machine's `deepest`: the clause of `is_too_deep` says that the two are one.
+const DEEPEST: usize = 200;
+
 /// A token of the text as its symbol.
 pub fn symbol_of(text: &[u8], token: Token) -> Symbol<'_>
     requires rising { token.start < token.end }
@@ -41,7 +44,7 @@ pub fn is_too_deep(symbol: Symbol<'_>, depth: usize) -> bool
     ensures { result ≡ machine.is_too_deep (meant symbol.entry) depth }
 {
     match symbol {
-        Symbol::Opening | Symbol::Not => depth >= 200,
+        Symbol::Opening | Symbol::Not => depth >= DEEPEST,
         _ => false,
     }
 }

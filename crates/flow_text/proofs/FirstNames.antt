@@ -87,21 +87,15 @@ held_after set front r h = subst (HasJust (after set r)) (sym (flat_map-append d
   where
     more : (r : Role) → HasJust (after set r) (declaring front ++ declaring (r ∷ []))
     more (declares n) = held_more set (declaring front) n h
-    more (in_goal n) = held_none set (declaring front) h
-    more (in_rule n) = held_none set (declaring front) h
-    more (in_fact n) = held_none set (declaring front) h
+    more _ = held_none set (declaring front) h
 
 again_is : (set : NameSet) (front : List Role) (r : Role) → HasJust set (declaring front) → is_again set r ≡ true → IsRepeated front r
 again_is set front (declares n) h e = (h n).0 e
-again_is set front (in_goal n) h e = absurd (cc)
-again_is set front (in_rule n) h e = absurd (cc)
-again_is set front (in_fact n) h e = absurd (cc)
+again_is set front _ h e = absurd (cc)
 
 again_is_not : (set : NameSet) (front : List Role) (r : Role) → HasJust set (declaring front) → is_again set r ≡ false → IsRepeated front r → ⊥
 again_is_not set front (declares n) h e member = let t = (h n).1 member in cc
-again_is_not set front (in_goal n) h e member = member
-again_is_not set front (in_rule n) h e member = member
-again_is_not set front (in_fact n) h e member = member
+again_is_not set front _ h e member = member
 
 repeated_first : (set : NameSet) (front : List Role) (start : ℕ) (roles : List Role) (k : ℕ) → HasJust set (declaring front)
     → repeated_from set start roles ≡ Some k → Cut IsRepeated front start roles k
@@ -127,24 +121,20 @@ once_all front (r ∷ rs) distinct (new, none) =
 
     more : (r : Role) → (IsRepeated front r → ⊥) → AreDistinct (declaring front ++ declaring (r ∷ []))
     more (declares n) new = distinct_more (declaring front) n distinct new
-    more (in_goal n) new = same
-    more (in_rule n) new = same
-    more (in_fact n) new = same
+    more _ new = same
 
 -- Names that are not declared as they must be
 
 -- the role is as it must be
 abbrev pub IsWell : List Declared → Role → Type 0
-IsWell decls (declares n) = Unit {0}
 IsWell decls (in_goal n) = n ∈ declared_names decls
 IsWell decls (in_rule n) = n ∈ event_names decls
-IsWell decls (in_fact n) = Unit {0}
+IsWell decls _ = Unit {0}
 
 pub well_is_known : (decls : List Declared) (r : Role) → IsWell decls r → IsUnknown decls r → ⊥
-well_is_known decls (declares n) w u = u
 well_is_known decls (in_goal n) w u = u w
 well_is_known decls (in_rule n) w u = u w
-well_is_known decls (in_fact n) w u = u
+well_is_known decls _ w u = u
 
 -- as the code tests it
 abbrev pub is_other : Known → Role → Bool
@@ -152,16 +142,14 @@ is_other known = is_unknown (has known.names) (has_as_event known.names)
 
 module _ (decls : List Declared) (known : Known) (knows : KnowsThose decls known) where
   other_is : (r : Role) → is_other known r ≡ true → IsUnknown decls r
-  other_is (declares n) e = absurd (cc)
   other_is (in_goal n) e = λ member. let t = (knows.declared n).1 member in let u : not (has known.names n) ≡ not true = ap not t in cc
   other_is (in_rule n) e = λ member. let t = (knows.events n).1 member in let u : not (has_as_event known.names n) ≡ not true = ap not t in cc
-  other_is (in_fact n) e = absurd (cc)
+  other_is _ e = absurd (cc)
 
   well_is : (r : Role) → is_other known r ≡ false → IsWell decls r
-  well_is (declares n) e = tt
   well_is (in_goal n) e = (knows.declared n).0 (not-false (has known.names n) e)
   well_is (in_rule n) e = (knows.events n).0 (not-false (has_as_event known.names n) e)
-  well_is (in_fact n) e = tt
+  well_is _ e = tt
 
   other_first : (front : List Role) (start : ℕ) (roles : List Role) (k : ℕ) → position_from (is_other known) start roles ≡ Some k
       → Cut (λ front role. IsUnknown decls role) front start roles k
@@ -178,17 +166,13 @@ module _ (decls : List Declared) (known : Known) (knows : KnowsThose decls known
 
 well_in_goals : (decls : List Declared) (roles : List Role) → Each (IsWell decls) roles → Each (λ n. n ∈ declared_names decls) (used_in_goals roles)
 well_in_goals decls [] w = tt
-well_in_goals decls (declares n ∷ rs) (w, ws) = well_in_goals decls rs ws
 well_in_goals decls (in_goal n ∷ rs) (w, ws) = (w, well_in_goals decls rs ws)
-well_in_goals decls (in_rule n ∷ rs) (w, ws) = well_in_goals decls rs ws
-well_in_goals decls (in_fact n ∷ rs) (w, ws) = well_in_goals decls rs ws
+well_in_goals decls (_ ∷ rs) (w, ws) = well_in_goals decls rs ws
 
 well_in_rules : (decls : List Declared) (roles : List Role) → Each (IsWell decls) roles → Each (λ n. n ∈ event_names decls) (used_in_rules roles)
 well_in_rules decls [] w = tt
-well_in_rules decls (declares n ∷ rs) (w, ws) = well_in_rules decls rs ws
-well_in_rules decls (in_goal n ∷ rs) (w, ws) = well_in_rules decls rs ws
 well_in_rules decls (in_rule n ∷ rs) (w, ws) = (w, well_in_rules decls rs ws)
-well_in_rules decls (in_fact n ∷ rs) (w, ws) = well_in_rules decls rs ws
+well_in_rules decls (_ ∷ rs) (w, ws) = well_in_rules decls rs ws
 
 -- Scripts and queries
 

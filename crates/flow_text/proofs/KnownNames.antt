@@ -1,6 +1,6 @@
 -- Sets of names: what one more name does to them, and what one more declaration makes known.
 use Rattle.std.proofs.Common.{◌≡◌, ℕ, List, [], ◌∷◌, ◌++◌, Bool, true, false, cond, refl, sym, ap, subst, ◌∙◌, ◌⊎◌, inl, inr, Bor, append-nil}
-use Rattle.std.specs.Prelude.{Option, Some, None, is_some, ◌||◌}
+use Rattle.std.specs.Prelude.{Option, Some, None, is_some, not, ◌||◌}
 use Rattle.std.specs.BTreeMap.{BTreeMap, get_by}
 use Rattle.std.specs.Ordering.{nat_cmp}
 use Rattle.std.specs.Cmp.Lexicographic.{slice_cmp, bytes_decides}
@@ -16,7 +16,10 @@ use Rattle.flow_form.specs.Names.{declared_name, declared_names, event_name, eve
 use Rattle.flow_text.specs.declared.known.DeclaredAs.{DeclaredAs}
 use Rattle.flow_text.specs.declared.known.DeclaredAs.TheVariants.{Flow}
 use Rattle.flow_text.specs.declared.known.Known.{Known}
-use Rattle.flow_text.specs.KnownNames.{NameSet, no_names, with_name, HasJust, has, as_event, has_as_event, KnowsThose}
+use Rattle.flow_text.specs.KnownNames.{NameSet, no_names, with_name, HasJust, has, as_event, has_as_event, is_unknown, KnowsThose}
+use Rattle.flow_text.specs.declared.listing.Named.{Named}
+use Rattle.flow_text.specs.declared.listing.Named.TheVariants.{InRule}
+use Rattle.flow_text.specs.ListedNames.{role_of}
 
 abbrev looked_up : {X : Type 0} → BTreeMap (Bor (List ℕ)) X → List ℕ → Option X
 looked_up m name = get_by (λ key. slice_cmp nat_cmp name key.now) m
@@ -126,3 +129,9 @@ flow_again ds d n s old new is h there names again =
     (grown ds (flow n s) new (subst (λ z. HasJust (has z) (declared_names ds ++ n ∷ [])) (sym names) (held_again (has old.names) (declared_names ds) n there h.declared))
     (subst (λ z. HasJust (has_as_event z) (event_names ds ++ [])) (sym names) (held_none (has_as_event old.names) (event_names ds) h.events))
     (λ e. absurd (cc)))
+
+-- A name that is used in a constraint
+
+pub lacked_in_rule : (declared events : NameSet) (named : Named) (n : Bor (List ℕ)) (bytes : List ℕ) (found : Bool) → named ≡ InRule n → bytes ≡ n.now → found ≡ events bytes →
+    not found ≡ is_unknown declared events (role_of named)
+lacked_in_rule declared events named n bytes found is same e = ap not (e ∙ ap events same) ∙ ap (λ r. is_unknown declared events (role_of r)) (sym is)

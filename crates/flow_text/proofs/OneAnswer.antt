@@ -1,24 +1,22 @@
 -- A text has one answer: what it comes to is one thing, and says which.
 use Rattle.std.proofs.Common.{◌≡◌, ℕ, zero, suc, ◌<◌, ◌≤◌, List, [], ◌∷◌, length, take, slice_get, refl, sym, ap, subst, ◌∙◌, arith}
 use Rattle.std.specs.Prelude.{Option, Some, None, Result, Ok, Err, slice_index}
-use Rattle.flow_form.specs.declared.refusal.Wanted as told
-use Rattle.flow_form.specs.declared.refusal.Wanted.TheVariants as code
+use Rattle.flow_form.specs.declared.refusal.Wanted.{Wanted}
 use Rattle.flow_form.specs.declared.refusal.TextRefusal.{TextRefusal}
 use Rattle.flow_form.specs.declared.refusal.TextRefusal.TheVariants.{NotAscii, BadToken, Expected, Unknown, Repeated, TooDeep, NoMemory}
 use Rattle.flow_form.specs.Script.{Said, Asked}
 use Rattle.flow_lex.specs.declared.token.Token.{Token}
 use Rattle.flow_lex.specs.Tokens.{Lexed, lexed, IsAscii, IsFirstNotAscii}
 use Rattle.flow_grammar.specs.Symbol.{Symbol, Placed}
-use Rattle.flow_grammar.specs.Machine.{Wanted, a_declaration, a_constraint, the_name, a_fact, a_constant, an_atom, a_rule, an_opening, a_closing, an_equals, a_semicolon, a_query, the_number, the_end, Reading, gives, expected, too_deep, read_script, read_query}
+use Rattle.flow_grammar.specs.Machine.{Reading, gives, expected, too_deep, read_script, read_query}
 use Rattle.flow_grammar.specs.Roles.{script_roles, query_roles, Role}
 use Rattle.flow_reader.specs.Symbols.{symbols_of}
-use Rattle.flow_reader.specs.Readers.{kind_of}
 use Rattle.flow_reader.specs.Reading.{place_of}
 use Rattle.flow_text.specs.GoodNames.{HasGoodNames, IsUnknown, IsRepeated, IsFirstRepeated, IsFirstUnknown, AsksOfEvents, AsksFirstOfOther}
 use Rattle.flow_text.proofs.OneFirstName.{one_first, once_is_not_repeated, good_has_no_other, events_have_no_other}
 use Rattle.flow_text.specs.Saying.{HasTokens, Writes, Says, Asks}
 use Rattle.flow_text.specs.Parsing.{IsExpected, IsTooDeep, IsNameAt, IsFirstNameAt, named_places, IsTextRefusal, IsParseRefusal, IsQueryRefusal}
-use Rattle.flow_text.proofs.Parsed.{IsMachine, scripts, queries}
+use Rattle.flow_grammar.proofs.Reading.{IsMachine, scripts_are_read, queries_are_read}
 use Rattle.flow_text.specs.Laws.{IsAnswer, TextsHaveOneAnswer, QueriesHaveOneAnswer}
 use Rattle.std.proofs.lemmas.Option.{same_Some}
 
@@ -78,38 +76,6 @@ one_finding read text (read_as r) (read_as s) (ascii, bad, e) (ascii', bad', e')
 
 -- The answer that says it
 
-abbrev told_of : Wanted → told.Wanted
-told_of a_declaration = code.Declaration
-told_of a_constraint = code.Constraint
-told_of the_name = code.Name
-told_of a_fact = code.Fact
-told_of a_constant = code.Constant
-told_of an_atom = code.Atom
-told_of a_rule = code.Rule
-told_of an_opening = code.Opening
-told_of a_closing = code.Closing
-told_of an_equals = code.Equals
-told_of a_semicolon = code.Semicolon
-told_of a_query = code.Query
-told_of the_number = code.Number
-told_of the_end = code.End
-
-told_back : (kind : told.Wanted) → told_of (kind_of kind) ≡ kind
-told_back code.Declaration = refl
-told_back code.Constraint = refl
-told_back code.Name = refl
-told_back code.Fact = refl
-told_back code.Constant = refl
-told_back code.Atom = refl
-told_back code.Rule = refl
-told_back code.Opening = refl
-told_back code.Closing = refl
-told_back code.Equals = refl
-told_back code.Semicolon = refl
-told_back code.Query = refl
-told_back code.Number = refl
-told_back code.End = refl
-
 abbrev refused_at : {V : Type 0} → (ℕ → List ℕ → TextRefusal) → Option (ℕ × List ℕ) → Result V TextRefusal
 refused_at why None = Err NoMemory
 refused_at why (Some (place, name)) = Err (why place name)
@@ -117,7 +83,7 @@ refused_at why (Some (place, name)) = Err (why place name)
 abbrev answer : {V : Type 0} → List ℕ → Finding V → Naming → Result V TextRefusal
 answer text (no_ascii p) v = Err (NotAscii p)
 answer text (bad_token p) v = Err (BadToken p)
-answer text (read_as (expected kind k)) v = Err (Expected (place_of text (tokens_in text) k) (told_of kind))
+answer text (read_as (expected kind k)) v = Err (Expected (place_of text (tokens_in text) k) kind)
 answer text (read_as (too_deep k)) v = Err (TooDeep (place_of text (tokens_in text) k))
 answer text (read_as (gives x)) good = Ok x
 answer text (read_as (gives x)) (again k) = refused_at (λ place name. Repeated place name) (slice_get (named_places text (tokens_in text)) k)
@@ -126,10 +92,7 @@ answer text (read_as (gives x)) (other k) = refused_at (λ place name. Unknown p
 -- what is found of names, where there is a value
 abbrev Judged : {V : Type 0} → (V → Naming → Type 0) → Finding V → Naming → Type 0
 Judged judge (read_as (gives x)) v = judge x v
-Judged judge (no_ascii p) v = v ≡ good
-Judged judge (bad_token p) v = v ≡ good
-Judged judge (read_as (expected kind k)) v = v ≡ good
-Judged judge (read_as (too_deep k)) v = v ≡ good
+Judged judge _ v = v ≡ good
 
 record Accounts {V : Type 0} (read : List Symbol → Reading V) (judge : V → Naming → Type 0) (text : List ℕ) (a : Result V TextRefusal) : Type 0 where
   finding : Finding V
@@ -140,11 +103,8 @@ record Accounts {V : Type 0} (read : List Symbol → Reading V) (judge : V → N
 
 module _ {V : Type 0} (judge : V → Naming → Type 0) (one_naming : (x : V) (v u : Naming) → judge x v → judge x u → v ≡ u) where
   one_judged : (f : Finding V) (v u : Naming) → Judged judge f v → Judged judge f u → v ≡ u
-  one_judged (no_ascii p) v u h g = h ∙ sym g
-  one_judged (bad_token p) v u h g = h ∙ sym g
   one_judged (read_as (gives x)) v u h g = one_naming x v u h g
-  one_judged (read_as (expected kind k)) v u h g = h ∙ sym g
-  one_judged (read_as (too_deep k)) v u h g = h ∙ sym g
+  one_judged _ v u h g = h ∙ sym g
 
   one_answer : (read : List Symbol → Reading V) (text : List ℕ) (a b : Result V TextRefusal) → Accounts read judge text a → Accounts read judge text b → a ≡ b
   one_answer read text a b h g =
@@ -172,17 +132,16 @@ module _ {V : Type 0} {Spells : List Placed → V → Type 0} {wants : List Symb
   written : (x : V) → Writes Spells text x → Finds read text (read_as (gives x))
   written x h = found h.tokens (gives x) h.has_tokens ((m.reads (symbols_of text h.tokens) x).1 h.derives)
 
-  expected_there : (place : ℕ) (kind : told.Wanted) → IsExpected Spells wants text place kind → Known (Err (Expected place kind))
+  expected_there : (place : ℕ) (kind : Wanted) → IsExpected Spells wants text place kind → Known (Err (Expected place kind))
   expected_there place kind h =
       let (found_kind, e) = (m.is_stuck (symbols_of text h.tokens) h.number).1 (h.stuck, h.none_deep) in
-      let same : found_kind ≡ kind_of kind = same_Some _ _ (sym (m.tells_what_is_wanted (symbols_of text h.tokens) found_kind h.number e) ∙ h.wanted) in
+      let same : found_kind ≡ kind = same_Some _ _ (sym (m.tells_what_is_wanted (symbols_of text h.tokens) found_kind h.number e) ∙ h.wanted) in
       record {
-        finding = read_as (expected (kind_of kind) h.number);
+        finding = read_as (expected kind h.number);
         naming = good;
-        finds = found h.tokens (expected (kind_of kind) h.number) h.has_tokens (e ∙ ap (λ k. expected k h.number) same);
+        finds = found h.tokens (expected kind h.number) h.has_tokens (e ∙ ap (λ k. expected k h.number) same);
         judged = refl;
-        is = ap (λ p. Err (Expected p kind)) (h.there ∙ ap (λ ts. place_of text ts h.number) (has_these text h.tokens h.has_tokens))
-            ∙ ap (λ k. Err (Expected (place_of text (tokens_in text) h.number) k)) (sym (told_back kind));
+        is = ap (λ p. Err (Expected p kind)) (h.there ∙ ap (λ ts. place_of text ts h.number) (has_these text h.tokens h.has_tokens));
       }
 
   deep_there : (place : ℕ) → IsTooDeep Spells text place → Known (Err (TooDeep place))
@@ -253,10 +212,10 @@ one_script_naming s (other k) (other j) h g = ap other (one_first (λ front role
 
 script_known : (text : List ℕ) (a : Result Said TextRefusal) → IsAnswer (Says text) (IsParseRefusal text) a → Accounts read_script judge_script text a
 script_known text =
-    known scripts judge_script text (Says text) _ _
-    (λ s h. said_there scripts judge_script text s h.writes h.named)
-    (again_there scripts judge_script text script_roles)
-    (other_there scripts judge_script text script_roles)
+    known scripts_are_read judge_script text (Says text) _ _
+    (λ s h. said_there scripts_are_read judge_script text s h.writes h.named)
+    (again_there scripts_are_read judge_script text script_roles)
+    (other_there scripts_are_read judge_script text script_roles)
 
 pub texts_have_one_answer : TextsHaveOneAnswer
 texts_have_one_answer text a b one two =
@@ -280,9 +239,9 @@ one_query_naming s q v (again k) h g = absurd g
 query_known : (text : List ℕ) (s : Said) (a : Result Asked TextRefusal) → IsAnswer (Asks text s) (IsQueryRefusal text s) a →
     Accounts read_query (judge_query s) text a
 query_known text s =
-    known queries (judge_query s) text (Asks text s) _ _
-    (λ q h. said_there queries (judge_query s) text q h.writes h.of_events) (λ place name h. absurd h)
-    (other_there queries (judge_query s) text query_roles)
+    known queries_are_read (judge_query s) text (Asks text s) _ _
+    (λ q h. said_there queries_are_read (judge_query s) text q h.writes h.of_events) (λ place name h. absurd h)
+    (other_there queries_are_read (judge_query s) text query_roles)
 
 pub queries_have_one_answer : QueriesHaveOneAnswer
 queries_have_one_answer text s a b one two =

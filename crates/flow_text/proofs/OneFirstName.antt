@@ -38,9 +38,7 @@ one_first P roles k j h g = elim (cuts h.front h.back g.front g.back h.role g.ro
 not_again : (front back : List Role) (role : Role) → AreDistinct (declaring (front ++ role ∷ back)) → IsRepeated front role → ⊥
 not_again front back (declares n) d here =
     (distinct_parts (declaring front) (n ∷ declaring back) (subst AreDistinct (flat_map-append declared_by front (declares n ∷ back)) d)).2 n here (inl refl)
-not_again front back (in_goal n) d here = here
-not_again front back (in_rule n) d here = here
-not_again front back (in_fact n) d here = here
+not_again front back _ d here = here
 
 pub once_is_not_repeated : (s : Said) (k : ℕ) → AreDistinct (declared_names s.decls) → IsFirstRepeated s k → ⊥
 once_is_not_repeated s k once h =
@@ -51,10 +49,9 @@ once_is_not_repeated s k once h =
 all_well : (decls : List Declared) (roles : List Role) → Each (λ n. n ∈ declared_names decls) (used_in_goals roles) →
     Each (λ n. n ∈ event_names decls) (used_in_rules roles) → Each (IsWell decls) roles
 all_well decls [] g r = tt
-all_well decls (declares n ∷ rs) g r = (tt, all_well decls rs g r)
 all_well decls (in_goal n ∷ rs) (m, g) r = (m, all_well decls rs g r)
 all_well decls (in_rule n ∷ rs) g (m, r) = (m, all_well decls rs g r)
-all_well decls (in_fact n ∷ rs) g r = (tt, all_well decls rs g r)
+all_well decls (_ ∷ rs) g r = (tt, all_well decls rs g r)
 
 well_has_no_other : (decls : List Declared) (roles : List Role) (k : ℕ) → Each (IsWell decls) roles → IsFirst (λ front role. IsUnknown decls role) roles k → ⊥
 well_has_no_other decls roles k well h =

@@ -1,6 +1,7 @@
 -- What reading gives, in the words of the grammar.
 use Rattle.std.proofs.Common.{◌≡◌, ℕ, suc, ◌+◌, ◌≤◌, ◌<◌, ◌^◌, List, [], ◌∷◌, length, length-append, map, slice_get, refl, sym, ap, subst, ◌∙◌, arith}
 use Rattle.std.specs.Prelude.{Option, Some, option_map}
+use Rattle.flow_form.specs.declared.refusal.Wanted.{Wanted}
 use Rattle.flow_form.specs.declared.refusal.TextRefusal.{TextRefusal}
 use Rattle.flow_form.specs.declared.refusal.TextRefusal.TheVariants.{NotAscii, BadToken, Expected, Unknown, Repeated, TooDeep, NoMemory}
 use Rattle.flow_form.specs.Script.{Said}
@@ -9,14 +10,12 @@ use Rattle.flow_lex.specs.declared.token.Token.{Token}
 use Rattle.flow_lex.specs.Tokens.{AreSpans}
 use Rattle.flow_lex.specs.Refusals.{IsRefused}
 use Rattle.flow_grammar.specs.Symbol.{Symbol, Placed, at, symbols, a_name}
-use Rattle.flow_grammar.specs.Machine.{Wanted, Reading, gives, read_script, read_query, script_wants, query_wants}
-use Rattle.flow_grammar.specs.Laws.{ReadsJustThese, IsStuckJustThere, IsTooDeepJustThere, WantsWhatCouldCome, TellsWhatIsWanted}
-use Rattle.flow_grammar.specs.Texts.{Derives, SpellsScript, SpellsQuery}
+use Rattle.flow_grammar.specs.Machine.{Reading, gives}
+use Rattle.flow_grammar.specs.Texts.{Derives, SpellsScript}
 use Rattle.flow_grammar.specs.Roles.{Role, role_name, names_of, NamesHaveRoles}
-use Rattle.flow_grammar.proofs.Reading.{script_reads, script_is_stuck, script_is_too_deep, script_wants_what_could_come, script_tells_what_is_wanted, query_reads, query_is_stuck, query_is_too_deep, query_wants_what_could_come, query_tells_what_is_wanted}
+use Rattle.flow_grammar.proofs.Reading.{IsMachine}
 use Rattle.flow_grammar.proofs.MadeTexts.{scripts_are_well_made}
 use Rattle.flow_reader.specs.Symbols.{symbol_of, symbols_of}
-use Rattle.flow_reader.specs.Readers.{kind_of}
 use Rattle.flow_reader.specs.Reading.{IsReadRefusal}
 use Rattle.flow_text.specs.GoodNames.{IsFirst, HasGoodNames}
 use Rattle.flow_text.specs.Saying.{HasTokens, IsLexed, TextInTokens, Writes}
@@ -24,49 +23,18 @@ use Rattle.flow_text.specs.Parsing.{name_in, with_place, named_places, IsFirstNa
 use Rattle.std.proofs.lemmas.List.{length-map}
 use Rattle.std.proofs.lemmas.Option.{slice_get-map}
 
--- the machine is that of the grammar
-pub record IsMachine {V : Type 0} (Spells : List Placed → V → Type 0) (wants : List Symbol → Option Wanted) (read : List Symbol → Reading V) : Type 0 where
-  pub reads : ReadsJustThese Spells read
-  pub is_stuck : IsStuckJustThere Spells read
-  pub is_too_deep : IsTooDeepJustThere Spells read
-  pub wants_what_could_come : WantsWhatCouldCome Spells read
-  pub tells_what_is_wanted : TellsWhatIsWanted wants read
-
-pub scripts : IsMachine SpellsScript script_wants read_script
-scripts = record {
-  reads = script_reads;
-  is_stuck = script_is_stuck;
-  is_too_deep = script_is_too_deep;
-  wants_what_could_come = script_wants_what_could_come;
-  tells_what_is_wanted = script_tells_what_is_wanted;
-}
-
-pub queries : IsMachine SpellsQuery query_wants read_query
-queries = record {
-  reads = query_reads;
-  is_stuck = query_is_stuck;
-  is_too_deep = query_is_too_deep;
-  wants_what_could_come = query_wants_what_could_come;
-  tells_what_is_wanted = query_tells_what_is_wanted;
-}
-
 module _ {V : Type 0} (Spells : List Placed → V → Type 0) (wants : List Symbol → Option Wanted) (again unknown : ℕ → List ℕ → Type 0) (text : List ℕ) where
   pub lex_refused : (refusal : TextRefusal) → IsRefused text refusal → IsTextRefusal Spells wants again unknown text refusal
   lex_refused (NotAscii place) h = h
   lex_refused (BadToken place) h = h
-  lex_refused (Expected place kind) h = absurd h
-  lex_refused (Unknown place name) h = absurd h
-  lex_refused (Repeated place name) h = absurd h
-  lex_refused (TooDeep place) h = absurd h
   lex_refused NoMemory h = tt
+  lex_refused _ h = absurd h
 
   pub read_refused : (read : List Symbol → Reading V) → IsMachine Spells wants read → (tokens : List Token) (refusal : TextRefusal) → HasTokens text tokens
       → IsReadRefusal text tokens (read (symbols_of text tokens)) refusal → IsTextRefusal Spells wants again unknown text refusal
-  read_refused read m tokens (NotAscii place) has h = absurd h
-  read_refused read m tokens (BadToken place) has h = absurd h
   read_refused read m tokens (Expected place kind) has (k, e, there) =
-      let (stuck, none) = (m.is_stuck (symbols_of text tokens) k).0 (kind_of kind, e) in
-      let (come, end) = m.wants_what_could_come (symbols_of text tokens) (kind_of kind) k e in
+      let (stuck, none) = (m.is_stuck (symbols_of text tokens) k).0 (kind, e) in
+      let (come, end) = m.wants_what_could_come (symbols_of text tokens) kind k e in
       record {
         tokens = tokens;
         has_tokens = has;
@@ -74,16 +42,15 @@ module _ {V : Type 0} (Spells : List Placed → V → Type 0) (wants : List Symb
         there = there;
         stuck = stuck;
         none_deep = none;
-        wanted = m.tells_what_is_wanted (symbols_of text tokens) (kind_of kind) k e;
+        wanted = m.tells_what_is_wanted (symbols_of text tokens) kind k e;
         could_come = come;
         could_end = end;
       }
-  read_refused read m tokens (Unknown place name) has h = absurd h
-  read_refused read m tokens (Repeated place name) has h = absurd h
   read_refused read m tokens (TooDeep place) has (k, e, there) =
       let (deep, none) = (m.is_too_deep (symbols_of text tokens) k).0 e in
       record { tokens = tokens; has_tokens = has; number = k; there = there; deep = deep; none_before = none }
   read_refused read m tokens NoMemory has h = tt
+  read_refused read m tokens _ has h = absurd h
 
 -- The names
 

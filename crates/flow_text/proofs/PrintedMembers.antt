@@ -1,5 +1,5 @@
 -- The members of a list that are left.
-use Rattle.std.proofs.Common.{◌≡◌, ℕ, ◌+◌, ◌<◌, Bool, true, false, List, [], ◌∷◌, ◌++◌, length, map, get_or, drop, refl, sym, ap, ◌∙◌, append_assoc}
+use Rattle.std.proofs.Common.{rules, ◌≡◌, ℕ, ◌+◌, ◌<◌, Bool, true, false, List, [], ◌∷◌, ◌++◌, length, map, get_or, drop, refl, sym, ap, ◌∙◌, append_assoc}
 use Rattle.std.proofs.lemmas.List.{drop_more}
 use Rattle.flow_form.specs.declared.rule_form.RuleForm.{RuleForm}
 use Rattle.flow_form.specs.Form.{Shape, no_more}
@@ -14,12 +14,10 @@ left all more true xs = all xs
 left all more false xs = more xs
 
 pub left_none : (mark : List ℕ) (parted : Shape → Bool) (first : Bool) → left (list_text mark parted) (more_text mark parted) first no_more ≡ []
-left_none mark parted true = refl
-left_none mark parted false = refl
+left_none mark parted first = search rules
 
 pub rules_left_none : (word : List ℕ) (parted : RuleShape → Bool) (first : Bool) → left (rules_text word parted) (more_rules word parted) first rule.no_more ≡ []
-rules_left_none word parted true = refl
-rules_left_none word parted false = refl
+rules_left_none word parted first = search rules
 
 -- two pieces go onto the text, and the rest is what was left without them
 pushed_two : (text text' text'' x y rest : List ℕ) → text' ≡ text ++ x → text'' ≡ text' ++ y → text'' ++ rest ≡ text ++ (x ++ y ++ rest)

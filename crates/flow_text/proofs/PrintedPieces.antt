@@ -1,5 +1,5 @@
 -- Pieces of a text, and the symbols that they are read as.
-use Rattle.std.proofs.Common.{◌≡◌, ℕ, zero, ◌+◌, ◌-◌, ◌<◌, ◌≤◌, ◌^◌, Bool, true, false, ◌||◌, List, [], ◌∷◌, ◌++◌, length, length-append, take, drop, map, refl, sym, ap, subst, ◌∙◌, arith, append_assoc}
+use Rattle.std.proofs.Common.{rules, ◌≡◌, ℕ, zero, ◌+◌, ◌-◌, ◌<◌, ◌≤◌, ◌^◌, Bool, true, false, ◌||◌, List, [], ◌∷◌, ◌++◌, length, length-append, take, drop, map, refl, sym, ap, subst, ◌∙◌, arith, append_assoc}
 use Rattle.std.specs.Prelude.{slice_index_or, nat_eq, None, Some}
 use Rattle.std.specs.List.{list_all}
 use Rattle.std.specs.Fmt.{decimal}
@@ -76,10 +76,7 @@ Begins false [] = ⊥
 Begins d (b ∷ bs) = is_in_word b ≡ false
 
 stops_there : (d : Bool) (y : List ℕ) → Begins d y → (rest : List ℕ) → Stops d rest → Stops true (y ++ rest)
-stops_there true [] h rest stop = stop
-stops_there false [] h rest stop = absurd h
-stops_there true (b ∷ bs) h rest stop = h
-stops_there false (b ∷ bs) h rest stop = h
+stops_there d y h rest stop = search rules
 
 pub ended_by : {d : Bool} {x y : List ℕ} {f g : List Symbol → List Symbol} → Reads true x f → Reads d y g → Begins d y → Reads d (x ++ y) (λ r. f (g r))
 ended_by {d} {x} {y} {f} {g} a b h = both true d x y f g (stops_there d y h) a b

@@ -3,7 +3,7 @@ use Rattle.std.proofs.Common.{◌≡◌, sym, ap, subst, ◌∙◌}
 use Rattle.std.specs.Prelude.{None}
 use Rattle.flow_lex.specs.Tokens.{Lexed, lexed}
 use Rattle.flow_grammar.specs.Texts.{Derives, SpellsScript}
-use Rattle.flow_grammar.proofs.Reading.{script_says_one_thing}
+use Rattle.flow_grammar.proofs.Reading.{scripts_are_read}
 use Rattle.flow_grammar.proofs.PrintedTexts.{print_says_it, print_is_no_deeper}
 use Rattle.flow_grammar.proofs.MadeTexts.{scripts_are_well_made}
 use Rattle.flow_reader.specs.Symbols.{symbols_of}
@@ -18,7 +18,7 @@ texts_say_one_thing text a b one two =
     = ap (λ (l : Lexed). l.tokens) (sym one.writes.has_tokens.lexed ∙ two.writes.has_tokens.lexed) in
     let (w, e, shallow, spells) = one.writes.derives in
     let (v, e', shallow', spells') = two.writes.derives in
-    script_says_one_thing w v a b (e ∙ ap (symbols_of text) same ∙ sym e') spells spells'
+    scripts_are_read.says_one_thing w v a b (e ∙ ap (symbols_of text) same ∙ sym e') spells spells'
 
 whole : (l : Lexed) → l.bad ≡ None → l ≡ record { tokens = l.tokens; bad = None }
 whole l e = ap (λ bad. record { tokens = l.tokens; bad = bad }) e

@@ -1,5 +1,5 @@
 -- What is derived from symbols that can be written can be printed.
-use Rattle.std.proofs.Common.{ℕ, zero, suc, List, [], ◌∷◌, map, flat_map, sym, subst}
+use Rattle.std.proofs.Common.{rules as std_rules, ℕ, zero, suc, List, [], ◌∷◌, map, flat_map, sym, subst}
 use Rattle.flow_model.specs.Lists.{Each}
 use Rattle.flow_facts.specs.declared.constant.Const.{Const}
 use Rattle.flow_facts.specs.declared.constant.Const.TheVariants as const
@@ -19,8 +19,7 @@ abbrev W : List Placed → Type 0
 W w = Each (λ p. IsWritable (symbol p)) w
 
 constant : (c : Const) → IsWritable (constant_symbol c) → IsPrintableConstant c
-constant (const.Word n) h = h
-constant (const.Number n) h = h
+constant c h = search std_rules
 
 constants : (cs : List Const) (d : ℕ) (r : List Placed) → W (spell_constants d cs r) → Each IsPrintableConstant cs × W r
 constants [] d r h = (tt, h)
@@ -33,10 +32,7 @@ a-fact (applied n c cs) d r (n', (opened, (c', h))) =
     ((n', (constant c c', cs')), r')
 
 prefix-printable : (p : Prefix) (f : FactText) → IsPrintableFact (mean_fact f) → IsPrintableGoal (prefixed p (mean_fact f))
-prefix-printable asking f h = h
-prefix-printable denying f h = h
-prefix-printable adding f h = h
-prefix-printable taking f h = h
+prefix-printable p f h = search std_rules
 
 goals-listed : (ss : List Shape) → Each IsPrintableGoal ss → ArePrintableGoals (shapes ss)
 goals-listed [] h = tt
@@ -58,12 +54,10 @@ listed rules zero rs h = rules-listed rs h
 listed rules (suc n) rs h = rules-listed rs h
 
 single-printable : (s : Single) (n : List ℕ) → IsName n → IsPrintableRule (single s n)
-single-printable must_come n h = h
-single-printable never_come n h = h
+single-printable s n h = search std_rules
 
 pair-printable : (p : Pair) (a b : List ℕ) → IsName a → IsName b → IsPrintableRule (paired p a b)
-pair-printable preceding a b h k = (h, k)
-pair-printable needing a b h k = (h, k)
+pair-printable p a b h k = search std_rules
 
 names : (ns : List (List ℕ)) (d : ℕ) (r : List Placed) → W (spell_names d ns r) → Each IsName ns × W r
 names [] d r h = (tt, h)

@@ -1,5 +1,5 @@
 -- The tokens of a text are symbols that can be written.
-use Rattle.std.proofs.Common.{◌≡◌, ℕ, ◌<◌, ◌^◌, Bool, true, false, nat_eq, if◌then◌else◌, List, [], ◌∷◌, refl, sym, ap, subst, ◌∙◌}
+use Rattle.std.proofs.Common.{rules, ◌≡◌, ℕ, ◌<◌, ◌^◌, Bool, true, false, nat_eq, if◌then◌else◌, List, [], ◌∷◌, refl, sym, ap, subst, ◌∙◌}
 use Rattle.std.specs.Prelude.{Option, Some, None, codes, slice_index_or}
 use Rattle.std.proofs.lemmas.List.{append-nil}
 use Rattle.flow_model.specs.Lists.{Each}
@@ -25,8 +25,7 @@ MayBeWritable None = Unit {0}
 MayBeWritable (Some s) = IsWritable s
 
 or-if : (t : Bool) (s : Symbol) (o : Option Symbol) → IsWritable s → MayBeWritable o → MayBeWritable (if t then Some s else o)
-or-if true s o h k = h
-or-if false s o h k = k
+or-if t s o h k = search rules
 
 declaring : (w : List ℕ) → MayBeWritable (word_of_declarations w)
 declaring w =
@@ -46,8 +45,7 @@ of_constraints w =
     (or-if (is w (codes "and")) and_word _ tt (or-if (is w (codes "or")) or_word None tt tt)))))))
 
 either-writable : (o p : Option Symbol) → MayBeWritable o → MayBeWritable p → MayBeWritable (or_else o p)
-either-writable None p h k = k
-either-writable (Some s) p h k = h
+either-writable o p h k = search rules
 
 reserved-writable : (w : List ℕ) → MayBeWritable (reserved w)
 reserved-writable w =
@@ -70,8 +68,7 @@ word-writable w h = from (reserved w) refl (reserved-writable w)
     from None e k = is-name w h e
 
 mark-if : (t : Bool) (s other : Symbol) → IsWritable s → IsWritable other → IsWritable (if t then s else other)
-mark-if true s other h k = h
-mark-if false s other h k = k
+mark-if t s other h k = search rules
 
 mark-writable : (b : ℕ) → IsWritable (mark_symbol b)
 mark-writable b =

@@ -9,16 +9,13 @@ use Rattle.flow_grammar.specs.Roles.{Role, declares, in_goal, in_rule, in_fact, 
 -- after those roles, the role declares a name that one of them declares
 abbrev pub IsRepeated : List Role → Role → Type 0
 IsRepeated front (declares n) = n ∈ declaring front
-IsRepeated front (in_goal n) = ⊥
-IsRepeated front (in_rule n) = ⊥
-IsRepeated front (in_fact n) = ⊥
+IsRepeated front _ = ⊥
 
 -- the role uses a name that is not declared, or in a constraint one that is not an event
 abbrev pub IsUnknown : List Declared → Role → Type 0
-IsUnknown decls (declares n) = ⊥
 IsUnknown decls (in_goal n) = ¬ (n ∈ declared_names decls)
 IsUnknown decls (in_rule n) = ¬ (n ∈ event_names decls)
-IsUnknown decls (in_fact n) = ⊥
+IsUnknown decls _ = ⊥
 
 -- counted from 0, role number k has P after those before it, and no earlier role has it
 pub record IsFirst (P : List Role → Role → Type 0) (roles : List Role) (k : ℕ) : Type 0 where

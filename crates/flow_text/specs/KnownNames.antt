@@ -42,16 +42,12 @@ has_as_event m name = as_event (get_by (λ key. slice_cmp nat_cmp name key.now) 
 -- the role declares a name of the set
 abbrev pub is_again : NameSet → Role → Bool
 is_again set (declares n) = set n
-is_again set (in_goal n) = false
-is_again set (in_rule n) = false
-is_again set (in_fact n) = false
+is_again set _ = false
 
 -- the set with what the role declares
 abbrev pub after : NameSet → Role → NameSet
 after set (declares n) = with_name set n
-after set (in_goal n) = set
-after set (in_rule n) = set
-after set (in_fact n) = set
+after set _ = set
 
 -- the first role that declares a name of the set or of a role before it; the list's first role is number `place`
 abbrev pub repeated_from : NameSet → ℕ → List Role → Option ℕ
@@ -60,10 +56,9 @@ repeated_from set place (r ∷ roles) = cond (is_again set r) (Some place) (repe
 
 -- the role uses a name that is not among the declared, or in a constraint not among the events
 abbrev pub is_unknown : NameSet → NameSet → Role → Bool
-is_unknown declared events (declares n) = false
 is_unknown declared events (in_goal n) = not (declared n)
 is_unknown declared events (in_rule n) = not (events n)
-is_unknown declared events (in_fact n) = false
+is_unknown declared events _ = false
 
 -- the names and events are those of the declarations, and where it does not tell so, none is declared a second time
 pub record KnowsThose (decls : List Declared) (known : Known) : Type 0 where

@@ -1,19 +1,18 @@
 -- Why a text says nothing, and where.
 use Rattle.std.specs.Prelude.{◌≡◌, ℕ, List, [], ◌∷◌, ◌++◌, take, map, Option, Some, None, slice_get}
 use Rattle.std.proofs.Common.{Bor}
-use Rattle.flow_form.specs.declared.refusal.Wanted as told
+use Rattle.flow_form.specs.declared.refusal.Wanted.{Wanted}
 use Rattle.flow_form.specs.declared.refusal.TextRefusal.{TextRefusal}
 use Rattle.flow_form.specs.declared.refusal.TextRefusal.TheVariants.{NotAscii, BadToken, Expected, Unknown, Repeated, TooDeep, NoMemory}
 use Rattle.flow_form.specs.Script.{Said}
 use Rattle.flow_lex.specs.declared.token.Token.{Token}
 use Rattle.flow_lex.specs.Tokens.{lexed, IsAscii, IsFirstNotAscii}
 use Rattle.flow_grammar.specs.Symbol.{Symbol, a_name, Placed}
-use Rattle.flow_grammar.specs.Machine.{Wanted, script_wants, query_wants}
+use Rattle.flow_grammar.specs.Machine.{script_wants, query_wants}
 use Rattle.flow_grammar.specs.Laws.{StandsFor, MayEnd}
 use Rattle.flow_grammar.specs.Roles.{Role, role_name, script_roles, query_roles}
 use Rattle.flow_grammar.specs.Texts.{IsStuckAt, NoneDeepBefore, StandsDeep, IsViable, IsWhole, SpellsScript, SpellsQuery}
 use Rattle.flow_reader.specs.Symbols.{symbol_of, symbols_of}
-use Rattle.flow_reader.specs.Readers.{kind_of}
 use Rattle.flow_reader.specs.Reading.{place_of}
 use Rattle.flow_text.specs.GoodNames.{IsFirstRepeated, IsFirstUnknown, AsksFirstOfOther}
 use Rattle.flow_text.specs.Saying.{HasTokens, Writes}
@@ -21,16 +20,16 @@ use Rattle.flow_text.specs.Saying.{HasTokens, Writes}
 -- at the place stands the first token with which no text goes on, or the end of a text that ends too early; the kind is
 -- that which the table has for where the reading stands after the tokens before, and each token of that kind could come
 -- there, and the end if it is of that kind
-pub record IsExpected {V : Type 0} (Spells : List Placed → V → Type 0) (wants : List Symbol → Option Wanted) (text : List ℕ) (place : ℕ) (kind : told.Wanted) : Type 0 where
+pub record IsExpected {V : Type 0} (Spells : List Placed → V → Type 0) (wants : List Symbol → Option Wanted) (text : List ℕ) (place : ℕ) (kind : Wanted) : Type 0 where
   pub tokens : List Token
   pub has_tokens : HasTokens text tokens
   pub number : ℕ
   pub there : place ≡ place_of text tokens number
   pub stuck : IsStuckAt Spells (symbols_of text tokens) number
   pub none_deep : NoneDeepBefore Spells (symbols_of text tokens) number
-  pub wanted : wants (take number (symbols_of text tokens)) ≡ Some (kind_of kind)
-  pub could_come : (t : Symbol) → StandsFor (kind_of kind) t → IsViable Spells (take number (symbols_of text tokens) ++ t ∷ [])
-  pub could_end : MayEnd (kind_of kind) → IsWhole Spells (take number (symbols_of text tokens))
+  pub wanted : wants (take number (symbols_of text tokens)) ≡ Some kind
+  pub could_come : (t : Symbol) → StandsFor kind t → IsViable Spells (take number (symbols_of text tokens) ++ t ∷ [])
+  pub could_end : MayEnd kind → IsWhole Spells (take number (symbols_of text tokens))
 
 -- at the place stands the first parenthesis or `not` that is inside 200 others, with which a text could go on
 pub record IsTooDeep {V : Type 0} (Spells : List Placed → V → Type 0) (text : List ℕ) (place : ℕ) : Type 0 where

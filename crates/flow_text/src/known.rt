@@ -65,6 +65,7 @@ impl<'a> Known<'a> {
     }
 
     /// The name is not declared as it must be where it stands.
+    #[tactic(auto, using(crate::proofs::KnownNames::lacked_in_rule))]
     pub(crate) fn lacks(&self, named: &Named<'_>) -> bool
         ensures { result ≡ is_unknown (has self.now.names) (has_as_event self.now.names) (role_of named.now) }
     {

@@ -2,7 +2,7 @@ use Rattle.std.proofs.Common.{◌≡◌, ◌-◌, sym, ap, subst, ◌∙◌, ari
 use Rattle.std.specs.Prelude.{IfOk}
 use Rattle.flow_form.specs.RuleForm.{rule_shape_of}
 use Rattle.flow_grammar.specs.Machine as machine
-use Rattle.flow_reader.proofs.Depths.{negate_more}
+use Rattle.flow_reader.proofs.Heights.{negate_more}
 use Rattle.flow_reader.proofs.rule_levels.+negated.Goals as goal
 
 pub returns : goal.returns

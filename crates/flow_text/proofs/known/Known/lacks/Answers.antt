@@ -8,8 +8,3 @@ pub returns-in-InGoal : goal.returns-in-InGoal
 returns-in-InGoal c =
     ap not (c.contains_key.ensures ∙ ap (has c.args.self.now.names) c.bytes.ensures)
     ∙ ap (λ r. is_unknown (has c.args.self.now.names) (has_as_event c.args.self.now.names) (role_of r)) (sym c.in-InGoal.is)
-
-pub returns-in-InRule : goal.returns-in-InRule
-returns-in-InRule c =
-    ap not (c.has_as_event.ensures ∙ ap (has_as_event c.args.self.now.names) c.bytes-in-InRule.ensures)
-    ∙ ap (λ r. is_unknown (has c.args.self.now.names) (has_as_event c.args.self.now.names) (role_of r)) (sym c.in-InRule.is)
