@@ -4,7 +4,7 @@ ghost use Rattle.flow_rules.specs.Asked.{Finds, HasKept};
 ghost use Rattle.flow_rules.specs.EventLeaves.{leaf_in};
 ghost use Rattle.flow_rules.specs.Kept.{HoldsMore, items_of};
 ghost use Rattle.flow_rules.specs.Normal.{normal_of};
-ghost use Rattle.flow_rules.specs.WayLists.{ways_of_parts};
+ghost use Rattle.flow_rules.specs.WayLists.{ways_of_pair, ways_of_parts};
 
 use crate::connective::Connective;
 use crate::kept::Kept;
@@ -28,45 +28,13 @@ pub(crate) enum Found {
     Open(Asked),
 }
 
-fn must(leaf: Option<u32>) -> Found
-    ensures { Finds result (model.ways_of_must leaf) }
+/// The pair is asked for, or where there is none it is decided.
+fn order(wanted: bool, pair: Option<(u32, u32)>) -> Found
+    ensures { Finds result (ways_of_pair wanted pair) }
 {
-    match leaf {
-        Some(_) => Found::Decided(true),
-        None => Found::Decided(false),
-    }
-}
-
-fn never(leaf: Option<u32>) -> Found
-    ensures { Finds result (model.ways_of_never leaf) }
-{
-    match leaf {
-        Some(_) => Found::Decided(false),
-        None => Found::Decided(true),
-    }
-}
-
-fn before(events: &LeafEvents, first: u32, second: u32) -> Found
-    ensures { Finds result (model.ways (model.before first second) (leaf_in events.now)) }
-{
-    if first == second {
-        return Found::Decided(false);
-    }
-    match (events.leaf_of(first), events.leaf_of(second)) {
-        (Some(x), Some(y)) => Found::Open(Asked::Pair(x, y)),
-        _ => Found::Decided(false),
-    }
-}
-
-fn not_before(events: &LeafEvents, first: u32, second: u32) -> Found
-    ensures { Finds result (model.ways (model.not_before first second) (leaf_in events.now)) }
-{
-    if first == second {
-        return Found::Decided(true);
-    }
-    match (events.leaf_of(first), events.leaf_of(second)) {
-        (Some(x), Some(y)) => Found::Open(Asked::Pair(y, x)),
-        _ => Found::Decided(true),
+    match pair {
+        Some((x, y)) => Found::Open(Asked::Pair(x, y)),
+        None => Found::Decided(!wanted),
     }
 }
 
@@ -114,11 +82,10 @@ pub(crate) fn asked_of(alloc: Global, rule: &Nnf, events: &LeafEvents) -> Result
     ensures { IfOk result (λ found. Finds found (model.ways (normal_of rule.now) (leaf_in events.now))) }
 {
     match rule {
-        Nnf::Must(event) => Ok(must(events.leaf_of(*event))),
-        Nnf::Never(event) => Ok(never(events.leaf_of(*event))),
-        Nnf::Before(first, second) => Ok(before(events, *first, *second)),
-        Nnf::NotBefore(first, second) => Ok(not_before(events, *first, *second)),
-        Nnf::And(parts) => parts_asked(alloc, Connective::And, parts, events),
-        Nnf::Or(parts) => parts_asked(alloc, Connective::Or, parts, events),
+        Nnf::Event(wanted, event) => Ok(Found::Decided(events.meets(*wanted, *event))),
+        Nnf::Order(wanted, first, second) => {
+            Ok(order(*wanted, events.pair(*wanted, *first, *second)))
+        }
+        Nnf::Parts(connective, parts) => parts_asked(alloc, *connective, parts, events),
     }
 }

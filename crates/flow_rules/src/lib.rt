@@ -21,6 +21,7 @@ mod shorthands;
 mod standing;
 
 pub use conjunction::Conjunction;
+pub use connective::Connective;
 pub use counting::{WayCount, count_ways};
 pub use event_leaves::{forget_events, note_events};
 pub use lanes::Lanes;

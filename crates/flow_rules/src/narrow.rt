@@ -27,24 +27,15 @@ fn covers(word: u64, wanted: u64) -> bool
     wanted & !word == 0
 }
 
-/// The rule as it is.
-fn whole(rule: Nnf, lanes: &Lanes) -> Narrow
-    ensures standing { Stands result.standing lanes.now (model.ways (normal_of rule)) }
-    ensures rule { result.rule ≡ rule }
+/// The rule as it is, by a copy of it.
+fn whole(rule: &Nnf, copy: Nnf, lanes: &Lanes) -> Narrow
+    requires { copy ≡ rule.now }
+    ensures standing { Stands result.standing lanes.now (model.ways (normal_of rule.now)) }
+    ensures rule { result.rule ≡ rule.now }
 {
     Narrow {
-        standing: standing_of(&rule, lanes),
-        rule,
-    }
-}
-
-/// The parts as one rule.
-fn rule_of(connective: Connective, parts: Vec<Nnf>) -> Nnf
-    ensures { (leaf : ℕ → Option ℕ) → model.ways (normal_of result) leaf ≡ ways_of_parts connective leaf parts.items }
-{
-    match connective {
-        Connective::And => Nnf::And(parts),
-        Connective::Or => Nnf::Or(parts),
+        standing: standing_of(rule, lanes),
+        rule: copy,
     }
 }
 
@@ -53,9 +44,9 @@ fn kept_rule(alloc: Global, connective: Connective, kept: Kept<Nnf>) -> Nnf
     ensures { (leaf : ℕ → Option ℕ) → model.ways (normal_of result) leaf ≡ ways_of_parts connective leaf (items_of kept) }
 {
     match kept {
-        Kept::Nothing => rule_of(connective, Vec::new(alloc)),
+        Kept::Nothing => Nnf::Parts(connective, Vec::new(alloc)),
         Kept::One(part) => part,
-        Kept::More(parts) => rule_of(connective, parts),
+        Kept::More(parts) => Nnf::Parts(connective, parts),
     }
 }
 
@@ -101,11 +92,10 @@ pub(crate) fn narrow_rule(
     ensures ways { IfOk result (λ narrow. HasWaysIn narrow.rule wanted lanes.now (model.ways (normal_of rule.now))) }
 {
     match rule {
-        Nnf::Must(event) => Ok(whole(Nnf::Must(*event), lanes)),
-        Nnf::Never(event) => Ok(whole(Nnf::Never(*event), lanes)),
-        Nnf::Before(first, second) => Ok(whole(Nnf::Before(*first, *second), lanes)),
-        Nnf::NotBefore(first, second) => Ok(whole(Nnf::NotBefore(*first, *second), lanes)),
-        Nnf::And(parts) => narrow_parts(alloc, Connective::And, parts, lanes, wanted),
-        Nnf::Or(parts) => narrow_parts(alloc, Connective::Or, parts, lanes, wanted),
+        Nnf::Event(met, event) => Ok(whole(rule, Nnf::Event(*met, *event), lanes)),
+        Nnf::Order(met, first, second) => {
+            Ok(whole(rule, Nnf::Order(*met, *first, *second), lanes))
+        }
+        Nnf::Parts(connective, parts) => narrow_parts(alloc, *connective, parts, lanes, wanted),
     }
 }

@@ -1,5 +1,6 @@
 use Rattle.std.proofs.Common.{◌≡◌, ◌∙◌, ◌+◌, Bool, true, false, not, take, refl, sym, ap, subst, true≢false}
 use Rattle.std.proofs.Math.Bool.{beq}
+use Rattle.std.proofs.lemmas.Result.{IfOk-weaker}
 use Rattle.flow_model.specs.Ways.{ways}
 use Rattle.flow_rules.specs.declared.asked.Asked.{Asked}
 use Rattle.flow_rules.specs.declared.asked.Found.{Found}
@@ -8,10 +9,9 @@ use Rattle.flow_rules.specs.Asked.{Finds, HasKept}
 use Rattle.flow_rules.specs.EventLeaves.{leaf_in}
 use Rattle.flow_rules.specs.Kept.{HoldsMore, items_of}
 use Rattle.flow_rules.specs.Normal.{normal_of}
-use Rattle.flow_rules.specs.declared.connective.Connective.TheVariants.{And, Or}
-use Rattle.flow_rules.specs.WayLists.{decided, ways_of_parts}
-use Rattle.flow_rules.proofs.AskedLemmas.{kept_idle, kept_more, ok_finds}
-use Rattle.flow_rules.proofs.NormalViews.{ways_of_and, ways_of_or}
+use Rattle.flow_rules.specs.WayLists.{decided, ways_of_pair, ways_of_parts}
+use Rattle.flow_rules.proofs.AskedLemmas.{kept_idle, kept_more}
+use Rattle.flow_rules.proofs.NormalViews.{ways_at_event, ways_at_order, ways_at_parts}
 use Rattle.flow_rules.proofs.WayListLemmas.{part_decides, parts_more}
 use Rattle.flow_rules.proofs.asked.+asking.Goals as goal
 use Rattle.flow_rules.proofs.asked.+asking.Goals.{parts_asked-in-Decided+else-met-decides, parts_asked-in-Open+in_ok-kept-in-Open}
@@ -28,17 +28,22 @@ other_flag true false e = refl
 other_flag false true e = refl
 other_flag false false e = absurd (true≢false e)
 
-pub asked_of-returns-in-And : goal.asked_of-returns-in-And
-asked_of-returns-in-And t c =
-    let leaf = leaf_in c.args.events.now in
-    ok_finds c.parts_asked.result _ _
-    (ap (ways_of_parts And leaf) c.deref.ensures.value ∙ ways_of_and leaf c.args.rule.now c.in-And.parts c.in-And.is) c.parts_asked.ensures
+pub asked_of-returns-in-Event : goal.asked_of-returns-in-Event
+asked_of-returns-in-Event t c =
+    sym (c.meets.ensures ∙ ways_at_event (leaf_in c.args.events.now) c.args.rule.now c.in-Event.wanted c.in-Event.event c.in-Event.is)
 
-pub asked_of-returns-in-Or : goal.asked_of-returns-in-Or
-asked_of-returns-in-Or t c =
+pub asked_of-returns-in-Order : goal.asked_of-returns-in-Order
+asked_of-returns-in-Order t c =
     let leaf = leaf_in c.args.events.now in
-    ok_finds c.parts_asked-in-Or.result _ _
-    (ap (ways_of_parts Or leaf) c.deref-in-Or.ensures.value ∙ ways_of_or leaf c.args.rule.now c.in-Or.parts c.in-Or.is) c.parts_asked-in-Or.ensures
+    subst (Finds c.order.result)
+    (ap (ways_of_pair c.in-Order.wanted) c.pair.ensures ∙ ways_at_order leaf c.args.rule.now c.in-Order.wanted c.in-Order.first c.in-Order.second c.in-Order.is) c.order.ensures
+
+pub asked_of-returns-in-Parts : goal.asked_of-returns-in-Parts
+asked_of-returns-in-Parts t c =
+    let leaf = leaf_in c.args.events.now in
+    IfOk-weaker c.parts_asked.result _ _
+    (λ found. subst (Finds found) (ap (ways_of_parts c.in-Parts.connective leaf) c.deref.ensures.value ∙ ways_at_parts leaf c.args.rule.now c.in-Parts.connective c.in-Parts.parts c.in-Parts.is))
+    c.parts_asked.ensures
 
 pub parts_asked-returns-then-met-decides : goal.parts_asked-returns-then-met-decides
 parts_asked-returns-then-met-decides t c =
