@@ -51,13 +51,6 @@ blank_more lane old new others blank other event h =
 
 -- where a block ends
 
-pub block_within : (t : Labelled) (n : Normal) (number : ℕ) (block : Block) → IsBlock t n number block → 64 * number < resolution_count t.process →
-    block.first + block.size ≤ resolution_count t.process
-block_within t n number block b h = omega (arith, b.first, b.size, h)
-
-pub block_few : (t : Labelled) (n : Normal) (number : ℕ) (block : Block) → IsBlock t n number block → block.size ≤ 64
-block_few t n number block b = omega (arith, b.size)
-
 pub block_end : (t : Labelled) (n : Normal) (number : ℕ) (block : Block) → IsBlock t n number block → 64 * number < resolution_count t.process →
     take (block.first + block.size) (resolutions t.process) ≡ take (64 * (number + 1)) (resolutions t.process)
 block_end t n number block b h =

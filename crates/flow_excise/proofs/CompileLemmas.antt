@@ -17,14 +17,14 @@ use Rattle.flow_laws.proofs.ResolutionsLemmas.{resolves_of, mem-leaves_of_goal}
 use Rattle.flow_laws.proofs.OptionsLemmas.{option_parts, option_is_ordered}
 use Rattle.flow_laws.proofs.GoodTraces.{option_of_good, option_trace_is_good}
 use Rattle.flow_goal.specs.Labelled.{Labelled}
-use Rattle.flow_rules.specs.Counts.{kept}
+use Rattle.flow_rules.specs.Counts.{capped}
 use Rattle.flow_plan.specs.Sampled.{Sampled}
 use Rattle.flow_excise.specs.declared.refusal.Dropped.{Dropped}
 use Rattle.flow_excise.specs.declared.refusal.CompileRefusal.{CompileRefusal}
 use Rattle.flow_excise.specs.declared.refusal.CompileRefusal.TheVariants.{TooManyChoices, TooManyWays, TooBulky, Inconsistent, NoMemory}
 use Rattle.flow_excise.specs.Executions.{HasExecution, AreJustThose, NumberedOption, numbered_ways, numbered_options, TellOfAll, AreSifted}
 use Rattle.flow_excise.specs.declared.counts.Counts.{Counts}
-use Rattle.flow_excise.specs.declared.sifted.Sieve.{Sieve}
+use Rattle.flow_excise.specs.declared.sieve.Sieve.{Sieve}
 use Rattle.flow_excise.specs.declared.tally.Tally.{Tally}
 use Rattle.flow_excise.specs.Compilation.{Compilation, options_of, all_numbered, IsCompiled, IsWithinLimits, IsRefused}
 use Rattle.flow_excise.specs.Limits.{AreFew, bulk_of, IsTooMany}
@@ -83,9 +83,9 @@ plannable w os f small e light o m =
 pub too_many : (w : Schema) (os : List ChoiceOption) (e : CompileRefusal) → os ≡ options w → resolution_count w.goal ≤ 4096 → IsTooMany os e → IsRefused w e
 too_many w os (TooManyChoices count) s r h = absurd h
 too_many w os (TooManyWays count) s r h =
-    (r, (subst (λ (l : List ChoiceOption). 4096 < length l) s h.0, h.1 ∙ ap (λ (l : List ChoiceOption). kept (length l)) s))
+    (r, (subst (λ (l : List ChoiceOption). 4096 < length l) s h.0, h.1 ∙ ap (λ (l : List ChoiceOption). capped (length l)) s))
 too_many w os (TooBulky count) s r h =
-    (r, (subst (λ (l : List ChoiceOption). length l ≤ 4096) s h.0, (subst (λ (l : List ChoiceOption). 262144 < bulk_of l) s h.1.0, h.1.1 ∙ ap (λ (l : List ChoiceOption). kept (bulk_of l)) s)))
+    (r, (subst (λ (l : List ChoiceOption). length l ≤ 4096) s h.0, (subst (λ (l : List ChoiceOption). 262144 < bulk_of l) s h.1.0, h.1.1 ∙ ap (λ (l : List ChoiceOption). capped (bulk_of l)) s)))
 too_many w os (Inconsistent dropped) s r h = absurd h
 too_many w os NoMemory s r h = tt
 

@@ -1,5 +1,5 @@
 -- Resolutions side by side: one a lane, and 64 of them a block.
-use Rattle.std.specs.Prelude.{◌≡◌, ◌<◌, ℕ, ◌+◌, ◌-◌, ◌*◌, min, List, Some, Vec, length, map, slice_get}
+use Rattle.std.specs.Prelude.{◌≡◌, ◌<◌, ◌≤◌, ℕ, ◌+◌, ◌-◌, ◌*◌, min, List, Some, Vec, length, map, slice_get}
 use Rattle.std.specs.Global.{Global}
 use Rattle.flow_model.specs.Process.{Process, leaves}
 use Rattle.flow_model.specs.Resolution.{ChoiceOption, resolution_count, resolutions}
@@ -30,6 +30,8 @@ HasWays t n block = (lane : ℕ) (q : Process) → lane < block.size → slice_g
 pub record IsBlock (t : Labelled) (n : Normal) (number : ℕ) (block : Block) : Type 0 where
   pub first : block.first ≡ 64 * number
   pub size : block.size ≡ min 64 (resolution_count t.process - 64 * number)
+  pub few : block.size ≤ 64
+  pub within : block.first + block.size ≤ resolution_count t.process
   pub leaves : AreLeavesOf t block.first block.leaves.items
   pub listed : length block.leaves.items ≡ block.size
   pub ways : HasWays t n block

@@ -17,7 +17,6 @@ mod refusal;
 mod sieve;
 mod sifted;
 mod tally;
-mod written;
 
 pub use circle::Circle;
 pub use compiled::Compiled;

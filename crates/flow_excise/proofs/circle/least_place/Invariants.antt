@@ -1,5 +1,5 @@
 use Rattle.std.proofs.Common.{ℕ, ◌<◌, ◌≤◌, get_or, length}
-use Rattle.flow_excise.proofs.written.least_place.Given as goal
+use Rattle.flow_excise.proofs.circle.least_place.Given as goal
 
 abbrev pub invariant-loop-other : goal.invariant-loop-other
 invariant-loop-other l = record {

@@ -4,26 +4,18 @@ use Rattle.flow_laws.proofs.ResolutionsLemmas.{length-resolutions}
 use Rattle.flow_rules.specs.Conjunction.{normal_in}
 use Rattle.flow_rules.specs.EventLeaves.{IsBlank}
 use Rattle.flow_rules.specs.declared.leaf_table.LeafEvents.{LeafEvents}
-use Rattle.flow_excise.specs.declared.sifted.Sieve.{Sieve}
+use Rattle.flow_excise.specs.declared.sieve.Sieve.{Sieve}
 use Rattle.flow_excise.specs.Executions.{numbered_options}
 use Rattle.flow_excise.specs.Options.{options_by}
 use Rattle.flow_excise.specs.Sieves.{HasSifted, HasSiftedTo}
-use Rattle.flow_excise.proofs.BlockLemmas.{block_end, block_few, block_within, last_block, more_blocks, options_found}
+use Rattle.flow_excise.proofs.BlockLemmas.{block_end, last_block, more_blocks, options_found}
 use Rattle.flow_excise.proofs.SieveLemmas.{met_length, none_sifted, plannable_ways}
-use Rattle.flow_excise.proofs.sieve.sift_all.Goals as goal
-use Rattle.flow_excise.proofs.sieve.sift_all.Goals.{then-has_option+in_ok-block+in_ok-sift_block, else-has_option}
+use Rattle.flow_excise.proofs.sifted.sift_all.Goals as goal
+use Rattle.flow_excise.proofs.sifted.sift_all.Goals.{then-has_option+in_ok-block+in_ok-sift_block, else-has_option}
 
 pub new-requires-then-has_option-clause-numbered : goal.new-requires-then-has_option-clause-numbered
 new-requires-then-has_option-clause-numbered c =
     more_blocks (resolution_count c.args.tree.now.process) c.loop-number.number c.blocks-number-end.result c.blocks-number-end.ensures c.loop-number-test.true
-
-pub sift_block-requires-clause-within : goal.sift_block-requires-clause-within
-sift_block-requires-clause-within c =
-    block_within c.args.tree.now (normal_in c.args.rules.now) c.loop-number.number c.in_ok-block.block c.in_ok-block.ensures
-    (more_blocks (resolution_count c.args.tree.now.process) c.loop-number.number c.blocks-number-end.result c.blocks-number-end.ensures c.loop-number-test.true)
-
-pub sift_block-requires-clause-few : goal.sift_block-requires-clause-few
-sift_block-requires-clause-few c = block_few c.args.tree.now (normal_in c.args.rules.now) c.loop-number.number c.in_ok-block.block c.in_ok-block.ensures
 
 pub sift_block-requires-clause-long : goal.sift_block-requires-clause-long
 sift_block-requires-clause-long c =

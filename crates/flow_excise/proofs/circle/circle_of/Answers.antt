@@ -1,7 +1,7 @@
 use Rattle.std.proofs.Common.{ap, ◌∙◌, map, Vec, Global, ℕ}
 use Rattle.flow_excise.specs.Rows.{least_at}
 use Rattle.flow_excise.proofs.TurningLemmas.{turned_list}
-use Rattle.flow_excise.proofs.written.circle_of.Goals as goal
+use Rattle.flow_excise.proofs.circle.circle_of.Goals as goal
 
 pub returns : goal.returns
 returns c =

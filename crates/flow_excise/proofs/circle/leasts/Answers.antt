@@ -1,6 +1,6 @@
 use Rattle.std.proofs.Common.{List, ℕ, ◌++◌, ◌∷◌, [], ◌∙◌, ap, sym, get_or}
 use Rattle.flow_excise.proofs.OrderLemmas.{leasts_more}
-use Rattle.flow_excise.proofs.written.leasts.Goals as goal
+use Rattle.flow_excise.proofs.circle.leasts.Goals as goal
 
 pub loop-number-preserved : goal.loop-number-preserved
 loop-number-preserved c =

@@ -13,7 +13,7 @@ use Rattle.flow_excise.specs.Executions.{HasExecution}
 use Rattle.flow_excise.specs.Plans.{option_of}
 use Rattle.flow_excise.proofs.SiftingLemmas.{numbered}
 use Rattle.flow_excise.proofs.SieveLemmas.{sift_kept, sift_dropped}
-use Rattle.flow_excise.proofs.sieve.sift.Goals as goal
+use Rattle.flow_excise.proofs.sifted.sift.Goals as goal
 
 pub returns-in_ok-push-in-Ok : goal.returns-in_ok-push-in-Ok
 returns-in_ok-push-in-Ok c =

@@ -1,7 +1,7 @@
 use Rattle.flow_laws.proofs.MadeLists.{mem-map}
 use Rattle.flow_weave.specs.Woven.{option_with}
 use Rattle.flow_excise.proofs.SieveLemmas.{mem_read, sift_more_ways}
-use Rattle.flow_excise.proofs.sieve.sift_ways.Goals as goal
+use Rattle.flow_excise.proofs.sifted.sift_ways.Goals as goal
 
 pub sift-requires : goal.sift-requires
 sift-requires c =

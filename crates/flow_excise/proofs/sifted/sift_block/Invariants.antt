@@ -5,7 +5,7 @@ use Rattle.flow_rules.specs.EventLeaves.{IsBlank}
 use Rattle.flow_excise.specs.Blocks.{HasWays}
 use Rattle.flow_excise.specs.Options.{has_ways}
 use Rattle.flow_excise.specs.Sieves.{HasSiftedTo}
-use Rattle.flow_excise.proofs.sieve.sift_block.Given as goal
+use Rattle.flow_excise.proofs.sifted.sift_block.Given as goal
 
 abbrev pub invariant-loop-lane : goal.invariant-loop-lane
 invariant-loop-lane l = record {

@@ -2,7 +2,7 @@ use Rattle.std.proofs.Common.{◌*◌}
 use Rattle.flow_rules.specs.Conjunction.{normal_in}
 use Rattle.flow_rules.specs.EventLeaves.{IsBlank}
 use Rattle.flow_excise.specs.Sieves.{HasSiftedTo}
-use Rattle.flow_excise.proofs.sieve.sift_all.Given as goal
+use Rattle.flow_excise.proofs.sifted.sift_all.Given as goal
 
 abbrev pub invariant-loop-number : goal.invariant-loop-number
 invariant-loop-number l = record {

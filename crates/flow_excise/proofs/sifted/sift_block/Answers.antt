@@ -3,13 +3,13 @@ use Rattle.flow_model.specs.Resolution.{resolutions}
 use Rattle.flow_laws.proofs.ResolutionsLemmas.{length-resolutions}
 use Rattle.flow_rules.specs.declared.leaf_table.LeafEvents.{LeafEvents}
 use Rattle.flow_rules.specs.EventLeaves.{IsBlank}
-use Rattle.flow_excise.specs.declared.sifted.Sieve.{Sieve}
+use Rattle.flow_excise.specs.declared.sieve.Sieve.{Sieve}
 use Rattle.flow_excise.specs.Executions.{numbered_ways}
 use Rattle.flow_excise.specs.Sieves.{HasSiftedTo, Sifts}
 use Rattle.flow_excise.proofs.BlockLemmas.{options_found}
 use Rattle.flow_excise.proofs.SieveLemmas.{met_at, none_found, sift_more, sift_none}
-use Rattle.flow_excise.proofs.sieve.sift_block.Goals as goal
-use Rattle.flow_excise.proofs.sieve.sift_block.Goals.{then-has_options+in_ok-sift_resolution, else-has_options}
+use Rattle.flow_excise.proofs.sifted.sift_block.Goals as goal
+use Rattle.flow_excise.proofs.sifted.sift_block.Goals.{then-has_options+in_ok-sift_resolution, else-has_options}
 
 pub sift_resolution-requires-clause-plannable : goal.sift_resolution-requires-clause-plannable
 sift_resolution-requires-clause-plannable c = λ q there. c.requires.plannable c.loop-lane.lane q c.loop-lane-test.true there
