@@ -1,5 +1,4 @@
 mod AskedLemmas
-pub mod ConjunctionLemmas
 pub mod CountLemmas
 mod FormViews
 mod LaneLemmas

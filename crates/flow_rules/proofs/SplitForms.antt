@@ -27,7 +27,7 @@ split_joined op f wanted h [] c = refl
 split_joined op f wanted h (r ∷ rules) c =
     split_joined op f wanted h rules (op c (rule_of r)) ∙ ap (λ n. fold f n (split_rules wanted rules)) (h c (rule_of r))
 
-split_all : (wanted : Bool) (rules : List Rule) → split_form (all_of (rules_of rules)) wanted ≡ all_form wanted (split_rules wanted rules)
+pub split_all : (wanted : Bool) (rules : List Rule) → split_form (all_of (rules_of rules)) wanted ≡ all_form wanted (split_rules wanted rules)
 split_all true rules = split_joined And both true (λ c d. refl) rules Always
 split_all false rules = split_joined And either false (λ c d. refl) rules Always
 

@@ -10,7 +10,7 @@ use Rattle.flow_rules.specs.declared.rule.Rule.{Rule}
 use Rattle.flow_rules.specs.declared.rule.Rule.TheOpen as open_rule
 use Rattle.flow_rules.specs.declared.rule.Rule.TheOpen.{Rule-F}
 use Rattle.flow_rules.specs.declared.rule.Rule.TheFolds.{fold-Rule}
-use Rattle.flow_rules.specs.Normal.{joining}
+use Rattle.flow_rules.specs.Normal.{joining, linked}
 
 mutual
   pub data NormalForm : Type 0 where
@@ -60,17 +60,11 @@ form_step (open_nnf.Parts c fs) = joined_form c fs.items
 abbrev pub form_of : Nnf → NormalForm
 form_of = fold-Nnf NormalForm form_step
 
--- each event before the next one
-abbrev pub neighbours : Bool → List ℕ → List NormalForm
-neighbours wanted [] = []
-neighbours wanted (a ∷ []) = []
-neighbours wanted (a ∷ b ∷ more) = order_form wanted a b ∷ neighbours wanted (b ∷ more)
-
 -- a chain of events
 abbrev pub chain_form : Bool → List ℕ → NormalForm
 chain_form wanted [] = list_form wanted []
 chain_form wanted (a ∷ []) = event_form wanted a
-chain_form wanted (a ∷ b ∷ more) = list_form wanted (neighbours wanted (a ∷ b ∷ more))
+chain_form wanted (a ∷ b ∷ more) = list_form wanted (linked (order_form wanted) a (b ∷ more))
 
 -- a rule, with what each part is in the place of the part
 abbrev pub rule_form_step : Rule-F (Bool → NormalForm) → Bool → NormalForm

@@ -2,14 +2,13 @@ ghost use Rattle.std.specs.Prelude.{◌≡◌, ℕ, List, IfOk};
 ghost use Rattle.flow_model.specs.Ways as model;
 ghost use Rattle.flow_rules.specs.Asked.{Finds, HasKept};
 ghost use Rattle.flow_rules.specs.EventLeaves.{leaf_in};
-ghost use Rattle.flow_rules.specs.Kept.{HoldsMore, items_of};
 ghost use Rattle.flow_rules.specs.Normal.{normal_of};
 ghost use Rattle.flow_rules.specs.WayLists.{ways_of_pair, ways_of_parts};
 
 use crate::connective::Connective;
-use crate::kept::Kept;
 use crate::leaf_table::LeafEvents;
 use crate::normal::Nnf;
+use crate::only::only;
 use std::alloc::{AllocError, Global};
 
 /// What a rule asks of some leaves.
@@ -39,14 +38,15 @@ fn order(wanted: bool, pair: Option<(u32, u32)>) -> Found
 }
 
 /// What the parts that are kept ask together, of which one alone stands for itself.
-fn kept_asked(connective: Connective, kept: Kept<Asked>) -> Found
-    requires { HoldsMore kept }
-    ensures { (ways : List (List (ℕ × ℕ))) → HasKept connective (items_of kept) ways → Finds result ways }
+fn kept_asked(connective: Connective, mut kept: Vec<Asked>) -> Found
+    ensures { (ways : List (List (ℕ × ℕ))) → HasKept connective kept.items ways → Finds result ways }
 {
-    match kept {
-        Kept::Nothing => Found::Decided(!connective.decides()),
-        Kept::One(only) => Found::Open(only),
-        Kept::More(parts) => Found::Open(Asked::Parts(connective, parts)),
+    if kept.is_empty() {
+        return Found::Decided(!connective.decides());
+    }
+    match only(&mut kept) {
+        Some(part) => Found::Open(part),
+        None => Found::Open(Asked::Parts(connective, kept)),
     }
 }
 
@@ -61,7 +61,7 @@ fn parts_asked(
 ) -> Result<Found, AllocError>
     ensures { IfOk result (λ found. Finds found (ways_of_parts connective (leaf_in events.now) parts.now)) }
 {
-    let mut kept = Kept::Nothing;
+    let mut kept = Vec::new(alloc);
     for part in parts {
         match asked_of(alloc, part, events)? {
             Found::Decided(met) => {
@@ -70,7 +70,7 @@ fn parts_asked(
                     return Ok(Found::Decided(met));
                 }
             }
-            Found::Open(more) => kept = kept.with(alloc, more)?,
+            Found::Open(more) => kept.push(more)?,
         }
     }
     Ok(kept_asked(connective, kept))

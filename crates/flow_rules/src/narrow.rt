@@ -1,15 +1,14 @@
 ghost use Rattle.std.specs.Prelude.{◌≡◌, ◌<◌, ◌↔◌, ℕ, List, Option, IfOk, IsTrue};
 ghost use Rattle.flow_model.specs.Ways as model;
-ghost use Rattle.flow_rules.specs.Kept.{items_of};
 ghost use Rattle.flow_rules.specs.Narrow.{HasWaysIn};
 ghost use Rattle.flow_rules.specs.Normal.{normal_of};
 ghost use Rattle.flow_rules.specs.Standing.{Stands, has_lane};
 ghost use Rattle.flow_rules.specs.WayLists.{ways_of_parts};
 
 use crate::connective::Connective;
-use crate::kept::Kept;
 use crate::lanes::Lanes;
 use crate::normal::Nnf;
+use crate::only::only;
 use crate::standing::{Standing, standing_of};
 use std::alloc::{AllocError, Global};
 
@@ -40,13 +39,12 @@ fn whole(rule: &Nnf, copy: Nnf, lanes: &Lanes) -> Narrow
 }
 
 /// What is kept of parts as one rule. One alone stands for itself.
-fn kept_rule(alloc: Global, connective: Connective, kept: Kept<Nnf>) -> Nnf
-    ensures { (leaf : ℕ → Option ℕ) → model.ways (normal_of result) leaf ≡ ways_of_parts connective leaf (items_of kept) }
+fn kept_rule(connective: Connective, mut kept: Vec<Nnf>) -> Nnf
+    ensures { (leaf : ℕ → Option ℕ) → model.ways (normal_of result) leaf ≡ ways_of_parts connective leaf kept.items }
 {
-    match kept {
-        Kept::Nothing => Nnf::Parts(connective, Vec::new(alloc)),
-        Kept::One(part) => part,
-        Kept::More(parts) => Nnf::Parts(connective, parts),
+    match only(&mut kept) {
+        Some(part) => part,
+        None => Nnf::Parts(connective, kept),
     }
 }
 
@@ -64,19 +62,19 @@ fn narrow_parts(
 {
     let idle = !connective.decides();
     let mut standing = Standing::everywhere(idle);
-    let mut kept = Kept::Nothing;
+    let mut kept = Vec::new(alloc);
     for part in parts {
         let narrow = narrow_rule(alloc, part, lanes, wanted)?;
         standing = standing.with(narrow.standing, connective);
         if covers(narrow.standing.lanes_where(idle), wanted) {
             drop(narrow);
         } else {
-            kept = kept.with(alloc, narrow.rule)?;
+            kept.push(narrow.rule)?;
         }
     }
     Ok(Narrow {
         standing,
-        rule: kept_rule(alloc, connective, kept),
+        rule: kept_rule(connective, kept),
     })
 }
 

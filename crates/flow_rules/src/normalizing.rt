@@ -1,4 +1,4 @@
-ghost use Rattle.std.specs.Prelude.{◌≡◌, ◌∷◌, ℕ, Option, true, IfOk, map};
+ghost use Rattle.std.specs.Prelude.{◌≡◌, ℕ, Option, true, IfOk, map};
 ghost use Rattle.flow_model.specs.Ways as model;
 ghost use Rattle.flow_rules.specs.Rule.{rule_of};
 ghost use Rattle.flow_rules.specs.NormalForm as tree;
@@ -12,7 +12,7 @@ use std::alloc::{AllocError, Global};
 
 /// Each event with the next one.
 fn pairs(alloc: Global, first: u32, rest: &[u32], wanted: bool) -> Result<Vec<Nnf>, AllocError>
-    ensures tree { IfOk result (λ pairs. map form_of pairs.items ≡ tree.neighbours wanted (first ∷ rest.now)) }
+    ensures tree { IfOk result (λ pairs. map form_of pairs.items ≡ linked (tree.order_form wanted) first rest.now) }
     ensures normal { IfOk result (λ pairs. normals_of pairs.items ≡ linked (pair_form wanted) first rest.now) }
 {
     let mut pairs = Vec::new(alloc);
@@ -46,15 +46,19 @@ fn chain(alloc: Global, events: &[u32], wanted: bool) -> Result<Nnf, AllocError>
 
 /// Each of the rules, or its negation where it is not wanted.
 #[cycle(normalizing)]
-fn parts(alloc: Global, rules: &[Rule], wanted: bool) -> Result<Vec<Nnf>, AllocError>
-    ensures tree { IfOk result (λ parts. map form_of parts.items ≡ map (λ rule. tree.rule_form rule wanted) rules.now) }
-    ensures normal { IfOk result (λ parts. normals_of parts.items ≡ map (λ rule. split_form (rule_of rule) wanted) rules.now) }
+pub(crate) fn normal_forms(
+    alloc: Global,
+    rules: &[Rule],
+    wanted: bool,
+) -> Result<Vec<Nnf>, AllocError>
+    ensures tree { IfOk result (λ forms. map form_of forms.items ≡ map (λ rule. tree.rule_form rule wanted) rules.now) }
+    ensures normal { IfOk result (λ forms. normals_of forms.items ≡ map (λ rule. split_form (rule_of rule) wanted) rules.now) }
 {
-    let mut parts = Vec::new(alloc);
+    let mut forms = Vec::new(alloc);
     for rule in rules {
-        parts.push(normal(alloc, rule, wanted)?)?;
+        forms.push(normal(alloc, rule, wanted)?)?;
     }
-    Ok(parts)
+    Ok(forms)
 }
 
 /// The rule, or its negation where it is not wanted.
@@ -68,8 +72,8 @@ fn normal(alloc: Global, rule: &Rule, wanted: bool) -> Result<Nnf, AllocError>
         Rule::Never(event) => Ok(Nnf::Event(!wanted, *event)),
         Rule::Order(events) => chain(alloc, events, wanted),
         Rule::Not(part) => normal(alloc, part, !wanted),
-        Rule::And(rules) => Ok(all(parts(alloc, rules, wanted)?, wanted)),
-        Rule::Or(rules) => Ok(all(parts(alloc, rules, wanted)?, !wanted)),
+        Rule::And(rules) => Ok(all(normal_forms(alloc, rules, wanted)?, wanted)),
+        Rule::Or(rules) => Ok(all(normal_forms(alloc, rules, wanted)?, !wanted)),
     }
 }
 

@@ -1,20 +1,18 @@
-use Rattle.std.proofs.Common.{◌≡◌, ◌∙◌, ◌+◌, Bool, true, false, not, take, refl, sym, ap, subst, true≢false}
+use Rattle.std.proofs.Common.{◌≡◌, ◌∙◌, ◌+◌, Bool, true, false, not, take, refl, sym, ap, subst, true≢false, Vec, Global}
 use Rattle.std.proofs.Math.Bool.{beq}
 use Rattle.std.proofs.lemmas.Result.{IfOk-weaker}
 use Rattle.flow_model.specs.Ways.{ways}
 use Rattle.flow_rules.specs.declared.asked.Asked.{Asked}
 use Rattle.flow_rules.specs.declared.asked.Found.{Found}
-use Rattle.flow_rules.specs.declared.kept.Kept.{Kept}
 use Rattle.flow_rules.specs.Asked.{Finds, HasKept}
 use Rattle.flow_rules.specs.EventLeaves.{leaf_in}
-use Rattle.flow_rules.specs.Kept.{HoldsMore, items_of}
 use Rattle.flow_rules.specs.Normal.{normal_of}
 use Rattle.flow_rules.specs.WayLists.{decided, ways_of_pair, ways_of_parts}
 use Rattle.flow_rules.proofs.AskedLemmas.{kept_idle, kept_more}
 use Rattle.flow_rules.proofs.NormalViews.{ways_at_event, ways_at_order, ways_at_parts}
 use Rattle.flow_rules.proofs.WayListLemmas.{part_decides, parts_more}
 use Rattle.flow_rules.proofs.asked.+asking.Goals as goal
-use Rattle.flow_rules.proofs.asked.+asking.Goals.{parts_asked-in-Decided+else-met-decides, parts_asked-in-Open+in_ok-kept-in-Open}
+use Rattle.flow_rules.proofs.asked.+asking.Goals.{parts_asked-in-Decided+else-met-decides, parts_asked-in-Open+in_ok-push-in-Open}
 
 same_flag : (a b : Bool) → beq a b ≡ true → a ≡ b
 same_flag true true e = refl
@@ -59,16 +57,15 @@ parts_asked-loop-part-preserved t c =
     let leaf = leaf_in c.args.events.now in
     let these = ways (normal_of c.part-item.result) leaf in
     let finds : Found → Type 0 = λ (o : Found). Finds o these in
-    let kept = items_of c.loop-part.kept in
-    let Kept_so : Kept Asked → Type 0 = λ (k : Kept Asked). HasKept j (items_of k) (ways_of_parts j leaf (take (c.loop-part.part-index + 1) c.args.parts.now)) × HoldsMore k in
+    let kept = c.loop-part.kept.items in
+    let Kept_so : Vec Asked Global → Type 0 = λ (k : Vec Asked Global). HasKept j k.items (ways_of_parts j leaf (take (c.loop-part.part-index + 1) c.args.parts.now)) in
     let more = parts_more j leaf c.args.parts.now c.loop-part.part-index c.part-item.result c.loop-part-test.true c.part-item.is in
     elim c.match-branch-2.branch [
       | parts_asked-in-Decided+else-met-decides w ↦
-          subst Kept_so (sym w.kept-is) (
-            kept_idle j kept _ these _ more (subst finds w.in-Decided.is c.in_ok-met.ensures ∙ ap decided (other_flag w.in-Decided.met w.decides.result w.if-met-decides.false ∙ ap not w.decides.ensures)) c.loop-part.invariant.0,
-            c.loop-part.invariant.1,
-          )
-      | parts_asked-in-Open+in_ok-kept-in-Open w ↦
           subst Kept_so (sym w.kept-is)
-          (kept_more j kept _ w.in-Open.more _ these _ w.in_ok-kept-in-Open.ensures.items more (subst finds w.in-Open.is c.in_ok-met.ensures) c.loop-part.invariant.0, w.in_ok-kept-in-Open.ensures.more)
+          (kept_idle j kept _ these _ more (subst finds w.in-Decided.is c.in_ok-met.ensures ∙ ap decided (other_flag w.in-Decided.met w.decides.result w.if-met-decides.false ∙ ap not w.decides.ensures))
+          c.loop-part.invariant)
+      | parts_asked-in-Open+in_ok-push-in-Open w ↦
+          subst Kept_so (sym w.kept-is)
+          (kept_more j kept _ w.in-Open.more _ these _ w.in_ok-push-in-Open.ensures.items more (subst finds w.in-Open.is c.in_ok-met.ensures) c.loop-part.invariant)
     ]

@@ -1,10 +1,8 @@
-use Rattle.std.proofs.Common.{◌∙◌, ◌+◌, ℕ, not, take, sym, ap, subst}
+use Rattle.std.proofs.Common.{◌∙◌, ◌+◌, ℕ, not, take, sym, ap, subst, Vec, Global}
 use Rattle.std.proofs.lemmas.Result.{IfOk-weaker}
 use Rattle.std.proofs.lemmas.List.{take_all}
 use Rattle.flow_model.specs.Ways.{ways}
-use Rattle.flow_rules.specs.declared.kept.Kept.{Kept}
 use Rattle.flow_rules.specs.declared.normal.Nnf.{Nnf}
-use Rattle.flow_rules.specs.Kept.{items_of}
 use Rattle.flow_rules.specs.Normal.{normal_of}
 use Rattle.flow_rules.specs.Standing.{has_lane, lanes_where}
 use Rattle.flow_rules.specs.WayLists.{joined_by, ways_of_parts}
@@ -13,7 +11,7 @@ use Rattle.flow_rules.proofs.NormalViews.{ways_at_parts}
 use Rattle.flow_rules.proofs.StandingLemmas.{stand_as, stand_with}
 use Rattle.flow_rules.proofs.WayListLemmas.{parts_more}
 use Rattle.flow_rules.proofs.narrow.+narrowing.Goals as goal
-use Rattle.flow_rules.proofs.narrow.+narrowing.Goals.{narrow_parts-then-covers, narrow_parts-else-covers+in_ok-kept}
+use Rattle.flow_rules.proofs.narrow.+narrowing.Goals.{narrow_parts-then-covers, narrow_parts-else-covers+in_ok-push}
 
 pub narrow_parts-loop-part-preserved : goal.narrow_parts-loop-part-preserved
 narrow_parts-loop-part-preserved t c =
@@ -33,12 +31,12 @@ narrow_parts-loop-part-preserved t c =
       elim c.if-covers.branch [
         | narrow_parts-then-covers w ↦
             let same = c.lanes_where.ensures ∙ ap (λ b. lanes_where narrow.standing (not b)) c.decides-idle.ensures in
-            subst (λ (k : Kept Nnf). KeepsWays j wanted lanes (items_of k) (take (i + 1) parts)) (sym w.kept-is)
-            (keeps_without j wanted lanes parts i part c.loop-part-test.true c.part-item.is (items_of c.loop-part.kept) narrow.standing stands
+            subst (λ (k : Vec Nnf Global). KeepsWays j wanted lanes k.items (take (i + 1) parts)) (sym w.kept-is)
+            (keeps_without j wanted lanes parts i part c.loop-part-test.true c.part-item.is c.loop-part.kept.items narrow.standing stands
             (λ lane within has. ap (λ (word : ℕ). has_lane word lane) (sym same) ∙ c.covers.ensures.0 w.if-covers.true lane within has) c.loop-part.invariant.1)
-        | narrow_parts-else-covers+in_ok-kept w ↦
-            keeps_with j wanted lanes parts i part c.loop-part-test.true c.part-item.is (items_of c.loop-part.kept) (items_of c.if-covers.kept) narrow.rule
-            (ap (λ (k : Kept Nnf). items_of k) w.kept-is ∙ w.in_ok-kept.ensures.items) c.in_ok-narrow.ensures.ways c.loop-part.invariant.1
+        | narrow_parts-else-covers+in_ok-push w ↦
+            keeps_with j wanted lanes parts i part c.loop-part-test.true c.part-item.is c.loop-part.kept.items c.if-covers.kept.items narrow.rule
+            (ap (λ (k : Vec Nnf Global). k.items) w.kept-is ∙ w.in_ok-push.ensures.items) c.in_ok-narrow.ensures.ways c.loop-part.invariant.1
       ],
     )
 
