@@ -1,6 +1,6 @@
 -- What the parts of a rule ask together.
-use Rattle.std.proofs.Common.{◌≡◌, ℕ, true, false, not, ◌||◌, ◌&&◌, if◌then◌else◌, List, [], ◌∷◌, ◌++◌, length, map, refl, sym, ap, subst, ◌∙◌, Vec, Global}
-use Rattle.std.proofs.lemmas.List.{map-append}
+use Rattle.std.proofs.Common.{◌≡◌, ℕ, true, false, not, ◌||◌, ◌&&◌, if◌then◌else◌, ◌+◌, ◌<◌, List, [], ◌∷◌, ◌++◌, length, take, get_or, map, refl, sym, ap, subst, ◌∙◌, append_assoc, append-nil, Vec, Global}
+use Rattle.std.proofs.lemmas.List.{map-append, take_more}
 use Rattle.std.proofs.lemmas.List.Sums.{fold-append}
 use Rattle.flow_model.specs.Ways.{free_way}
 use Rattle.flow_rules.specs.declared.asked.Asked.{Asked}
@@ -8,11 +8,12 @@ use Rattle.flow_rules.specs.declared.asked.Asked.TheOpen as open_asked
 use Rattle.flow_rules.specs.declared.asked.Asked.TheVariants.{rolls-Parts}
 use Rattle.flow_rules.specs.declared.asked.Asked.TheFolds.{fold-roll-Asked}
 use Rattle.flow_rules.specs.declared.asked.Asked as asked
+use Rattle.flow_rules.specs.declared.order_set.OrderSet.{OrderSet}
 use Rattle.flow_rules.specs.declared.connective.Connective.{Connective}
 use Rattle.flow_rules.specs.declared.connective.Connective.TheVariants.{And, Or}
 use Rattle.flow_rules.specs.Asked.{AreOpen, HasKept, asked_step, is_nil, open_joined, open_ways_by, ways_asked, ways_asked_by}
-use Rattle.flow_rules.specs.WayLists.{decided, decider, is_decided, joined_by}
-use Rattle.flow_rules.proofs.WayListLemmas.{both_free, decided_by_both, decided_by_one, joined_idle}
+use Rattle.flow_rules.specs.WayLists.{both_ways, decided, decider, is_decided, joined_by, ways_of_sets}
+use Rattle.flow_rules.proofs.WayListLemmas.{both_free, both_front, each_with_each-append, decided_by_both, decided_by_one, joined_idle}
 
 pub asked_parts : (c : Connective) (parts : Vec Asked Global) → ways_asked (asked.Parts c parts) ≡ ways_asked_by c parts.items
 asked_parts c parts = ap ways_asked (sym (rolls-Parts c parts)) ∙ fold-roll-Asked (List (List (ℕ × ℕ))) asked_step (open_asked.Parts c parts)
@@ -27,7 +28,7 @@ nil_push : (kept : List Asked) (a : Asked) → (is_nil kept && false) ≡ is_nil
 nil_push [] a = refl
 nil_push (k ∷ kept) a = refl
 
-pub asked_more : (c : Connective) (kept : List Asked) (a : Asked) → ways_asked_by c (kept ++ a ∷ []) ≡ open_joined c (ways_asked_by c kept) (ways_asked a)
+asked_more : (c : Connective) (kept : List Asked) (a : Asked) → ways_asked_by c (kept ++ a ∷ []) ≡ open_joined c (ways_asked_by c kept) (ways_asked a)
 asked_more c kept a =
     ap (open_ways_by c) (map-append ways_asked kept (a ∷ [])) ∙ fold-append (open_joined c) (decided (not (decider c))) (map ways_asked kept) (ways_asked a ∷ [])
 
@@ -76,3 +77,37 @@ module _ (c : Connective) (kept : List Asked) (ways : List (List (ℕ × ℕ))) 
       not_nil : (list : List Asked) → ¬ (length list ≡ 0) → is_nil list ≡ false
       not_nil [] n = absurd (n refl)
       not_nil (a ∷ list) n = refl
+
+-- ways that are put behind others, one part more
+
+pub way_more : (yielded : List OrderSet) (way : OrderSet) (xs old new : List (List (ℕ × ℕ))) → old ≡ both_ways (ways_of_sets yielded) xs →
+    new ≡ old ++ map (λ w. way.pairs.items ++ w) xs → new ≡ both_ways (ways_of_sets (yielded ++ way ∷ [])) xs
+way_more yielded way xs old new so_far added =
+    added ∙ ap (λ t. t ++ map (λ w. way.pairs.items ++ w) xs) so_far
+    ∙ sym (ap (λ t. both_ways t xs) (map-append (λ (s : OrderSet). s.pairs.items) yielded (way ∷ []))
+    ∙ each_with_each-append (λ v w. v ++ w) (ways_of_sets yielded) (way.pairs.items ∷ []) xs
+    ∙ ap (λ t. both_ways (ways_of_sets yielded) xs ++ t) (append-nil (map (λ w. way.pairs.items ++ w) xs)))
+
+one_more : (c : Connective) (parts : List Asked) (i : ℕ) (part : Asked) → i < length parts → part ≡ get_or parts i part →
+    ways_asked_by c (take (i + 1) parts) ≡ open_joined c (ways_asked_by c (take i parts)) (ways_asked part)
+one_more c parts i part lt e =
+    ap (ways_asked_by c) (take_more parts i part lt) ∙ asked_more c (take i parts) (get_or parts i part)
+    ∙ ap (λ (a : Asked). open_joined c (ways_asked_by c (take i parts)) (ways_asked a)) (sym e)
+
+pub product_more : (u : List (ℕ × ℕ)) (parts : List Asked) (i : ℕ) (part : Asked) (old new : List (List (ℕ × ℕ))) →
+    i < length parts → part ≡ get_or parts i part → old ≡ map (λ w. u ++ w) (ways_asked_by And (take i parts)) →
+    new ≡ both_ways old (ways_asked part) → new ≡ map (λ w. u ++ w) (ways_asked_by And (take (i + 1) parts))
+product_more u parts i part old new lt e so_far added =
+    added ∙ ap (λ t. both_ways t (ways_asked part)) so_far
+    ∙ both_front u (ways_asked_by And (take i parts)) (ways_asked part)
+    ∙ sym (ap (map (λ w. u ++ w)) (one_more And parts i part lt e))
+
+pub sum_more : (u v : List (ℕ × ℕ)) (parts : List Asked) (i : ℕ) (part : Asked) (start old new : List (List (ℕ × ℕ))) →
+    i < length parts → part ≡ get_or parts i part → v ≡ u → old ≡ start ++ map (λ w. u ++ w) (ways_asked_by Or (take i parts)) →
+    new ≡ old ++ map (λ w. v ++ w) (ways_asked part) → new ≡ start ++ map (λ w. u ++ w) (ways_asked_by Or (take (i + 1) parts))
+sum_more u v parts i part start old new lt e same so_far added =
+    added ∙ (λ k. so_far k ++ map (λ w. same k ++ w) (ways_asked part))
+    ∙ append_assoc start (map (λ w. u ++ w) (ways_asked_by Or (take i parts))) (map (λ w. u ++ w) (ways_asked part))
+    ∙ ap (λ t. start ++ t)
+    (sym (ap (map (λ w. u ++ w)) (one_more Or parts i part lt e)
+    ∙ map-append (λ w. u ++ w) (ways_asked_by Or (take i parts)) (ways_asked part)))

@@ -12,8 +12,7 @@ use Rattle.flow_rules.specs.declared.narrowed.LaneRule.{LaneRule}
 use Rattle.flow_rules.specs.declared.normal.Nnf.{Nnf}
 use Rattle.flow_rules.specs.declared.standing.Standing.{Standing}
 use Rattle.flow_rules.specs.Lanes.{Shows}
-use Rattle.flow_rules.specs.Narrow.{HasWaysIn}
-use Rattle.flow_rules.specs.Narrowed.{open_ways, with_open}
+use Rattle.flow_rules.specs.Narrowed.{HasWaysIn, open_ways, with_open}
 use Rattle.flow_rules.specs.Normal.{normal_of}
 use Rattle.flow_rules.specs.declared.connective.Connective.{Connective}
 use Rattle.flow_rules.specs.declared.connective.Connective.TheVariants.{And}

@@ -3,7 +3,6 @@ pub mod Conjunction
 pub mod Counts
 pub mod EventLeaves
 pub mod Lanes
-pub mod Narrow
 pub mod Narrowed
 pub mod Normal
 pub mod NormalForm

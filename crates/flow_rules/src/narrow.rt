@@ -1,6 +1,6 @@
 ghost use Rattle.std.specs.Prelude.{◌≡◌, ◌<◌, ◌↔◌, ℕ, List, Option, IfOk, IsTrue};
 ghost use Rattle.flow_model.specs.Ways as model;
-ghost use Rattle.flow_rules.specs.Narrow.{HasWaysIn};
+ghost use Rattle.flow_rules.specs.Narrowed.{HasWaysIn};
 ghost use Rattle.flow_rules.specs.Normal.{normal_of};
 ghost use Rattle.flow_rules.specs.Standing.{Stands, has_lane};
 ghost use Rattle.flow_rules.specs.WayLists.{ways_of_parts};

@@ -1,5 +1,6 @@
 use Rattle.std.proofs.Common.{◌≡◌, ◌∙◌, ◌+◌, Bool, true, false, not, take, refl, sym, ap, subst, true≢false, Vec, Global}
 use Rattle.std.proofs.Math.Bool.{beq}
+use Rattle.std.specs.Cmp.{booleans_Decides}
 use Rattle.std.proofs.lemmas.Result.{IfOk-weaker}
 use Rattle.flow_model.specs.Ways.{ways}
 use Rattle.flow_rules.specs.declared.asked.Asked.{Asked}
@@ -13,12 +14,6 @@ use Rattle.flow_rules.proofs.NormalViews.{ways_at_event, ways_at_order, ways_at_
 use Rattle.flow_rules.proofs.WayListLemmas.{part_decides, parts_more}
 use Rattle.flow_rules.proofs.asked.+asking.Goals as goal
 use Rattle.flow_rules.proofs.asked.+asking.Goals.{parts_asked-in-Decided+else-met-decides, parts_asked-in-Open+in_ok-push-in-Open}
-
-same_flag : (a b : Bool) → beq a b ≡ true → a ≡ b
-same_flag true true e = refl
-same_flag true false e = absurd (true≢false (sym e))
-same_flag false true e = absurd (true≢false (sym e))
-same_flag false false e = refl
 
 other_flag : (a b : Bool) → beq a b ≡ false → a ≡ not b
 other_flag true true e = absurd (true≢false e)
@@ -47,7 +42,7 @@ pub parts_asked-returns-then-met-decides : goal.parts_asked-returns-then-met-dec
 parts_asked-returns-then-met-decides t c =
     let j = c.args.connective in
     let leaf = leaf_in c.args.events.now in
-    let met = same_flag c.in-Decided.met c.decides.result c.if-met-decides.true ∙ c.decides.ensures in
+    let met = (booleans_Decides c.in-Decided.met c.decides.result).0 c.if-met-decides.true ∙ c.decides.ensures in
     part_decides j leaf c.args.parts.now c.loop-part.part-index c.part-item.result c.loop-part-test.true c.part-item.is
     (subst (λ (o : Found). Finds o (ways (normal_of c.part-item.result) leaf)) c.in-Decided.is c.in_ok-met.ensures ∙ ap decided met) ∙ ap decided (sym met)
 

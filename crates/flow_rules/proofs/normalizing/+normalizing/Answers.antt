@@ -2,7 +2,7 @@ use Rattle.std.proofs.Common.{not, ap, map, List, ◌∙◌}
 use Rattle.flow_rules.specs.declared.rule.Rule.{Rule}
 use Rattle.flow_rules.specs.Normal.{all_form}
 use Rattle.flow_rules.specs.NormalForm.{list_form, rule_form}
-use Rattle.flow_rules.proofs.FormViews.{form_and, form_or}
+use Rattle.flow_rules.proofs.RuleViews.{form_and, form_or}
 use Rattle.flow_rules.proofs.SplitForms.{split_and, split_or, split_rules}
 use Rattle.flow_rules.proofs.normalizing.+normalizing.Goals as goal
 
