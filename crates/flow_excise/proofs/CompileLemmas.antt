@@ -28,7 +28,7 @@ use Rattle.flow_excise.specs.declared.sieve.Sieve.{Sieve}
 use Rattle.flow_excise.specs.declared.tally.Tally.{Tally}
 use Rattle.flow_excise.specs.Compilation.{Compilation, options_of, all_numbered, IsCompiled, IsWithinLimits, IsRefused}
 use Rattle.flow_excise.specs.Limits.{AreFew, bulk_of, IsTooMany}
-use Rattle.flow_excise.specs.Options.{schema_of, options_by, all_options_by}
+use Rattle.flow_excise.specs.Options.{schema_of, option_by, options_by, all_options_by}
 use Rattle.flow_excise.specs.Plans.{option_of}
 use Rattle.flow_excise.specs.Sieves.{ArePlannable, HasSifted}
 use Rattle.flow_rules.specs.Conjunction.{HasWaysOf}
@@ -37,18 +37,15 @@ use Rattle.flow_excise.proofs.TallyLemmas.{bulk-cons}
 
 -- the options by the normal form are those of the workflow
 
+same_in : (t : Labelled) (rules : List Constraint) (n : Normal) → HasWaysOf n (all_of rules) → options_by t n ≡ options_in (schema_of t rules)
+same_in t rules n h = λ i q. map (λ way. option_by q way) (h (leaf_of_event t.labels (leaves q)) i)
+
 pub same_options : (t : Labelled) (rules : List Constraint) (n : Normal) → HasWaysOf n (all_of rules) → all_options_by t n ≡ options (schema_of t rules)
-same_options t rules n h = λ i. flat_map (λ q. map (λ way. way_option q way) (h (leaf_of_event t.labels (leaves q)) i)) (resolutions t.process)
-  where
-    way_option : Process → List (ℕ × ℕ) → ChoiceOption
-    way_option q way = record { resolution = q; order = way }
+same_options t rules n h = λ i. flat_map (same_in t rules n h i) (resolutions t.process)
 
 pub same_numbered : (t : Labelled) (rules : List Constraint) (n : Normal) → HasWaysOf n (all_of rules) →
     numbered_options 0 (map (options_by t n) (resolutions t.process)) ≡ all_numbered (schema_of t rules)
-same_numbered t rules n h = λ i. numbered_options 0 (map (λ q. map (λ way. way_option q way) (h (leaf_of_event t.labels (leaves q)) i)) (resolutions t.process))
-  where
-    way_option : Process → List (ℕ × ℕ) → ChoiceOption
-    way_option q way = record { resolution = q; order = way }
+same_numbered t rules n h = λ i. numbered_options 0 (map (same_in t rules n h i) (resolutions t.process))
 
 told_all : (r : ℕ) (f : Process → List ChoiceOption) (qs : List Process) → options_told (numbered_options r (map f qs)) ≡ flat_map f qs
 told_all r f [] = refl

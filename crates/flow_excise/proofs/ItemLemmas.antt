@@ -1,6 +1,8 @@
 -- The items of a part by their rows: rings of them are circles.
 use Rattle.std.proofs.Common.{◌≡◌, ℕ, zero, suc, ◌<◌, ◌≤◌, IsTrue, List, [], ◌∷◌, map, min, length, refl, sym, ap, ◌∙◌, subst, inl, inr, ⊎_elim, arith, Some, slice_get}
 use Rattle.std.proofs.lemmas.Bool.{cases_lt}
+use Rattle.std.proofs.lemmas.Option.{slice_get-get_or}
+use Rattle.flow_model.proofs.Lists.{mem-slice_get}
 use Rattle.flow_model.specs.Lists.{◌∈◌, Each, AreDistinct, joined}
 use Rattle.flow_model.specs.Process.{Process, leaves}
 use Rattle.flow_model.specs.Ready.{DirectlyBefore}
@@ -35,9 +37,7 @@ distinct_items g d = distinct_lists (items_of g) (subst AreDistinct (sym (joined
 -- items by their numbers
 
 pub mem-item_at : (items : List (List ℕ)) (n : ℕ) → n < length items → item_at items n ∈ items
-mem-item_at [] n l = omega arith
-mem-item_at (i ∷ items) zero l = inl refl
-mem-item_at (i ∷ items) (suc n) l = inr (mem-item_at items n (omega arith))
+mem-item_at items n l = mem-slice_get items n (item_at items n) (slice_get-get_or items n [] l)
 
 pub number_of : (items : List (List ℕ)) (item : List ℕ) → item ∈ items → (n : ℕ) × (n < length items) × (item_at items n ≡ item)
 number_of [] item m = absurd m

@@ -1,11 +1,12 @@
 -- Walks from each item to one that is before it.
-use Rattle.std.proofs.Common.{◌≡◌, ℕ, suc, ◌+◌, ◌<◌, ◌≤◌, Bool, true, false, ◌||◌, eqb, true≢false, List, [], ◌∷◌, ◌++◌, length, get_or, take, drop, refl, sym, ap, ◌∙◌, subst, inl, inr, arith}
+use Rattle.std.proofs.Common.{◌≡◌, ℕ, ◌+◌, ◌<◌, ◌≤◌, Bool, true, false, ◌||◌, eqb, true≢false, List, [], ◌∷◌, ◌++◌, length, get_or, take, drop, refl, sym, ap, ◌∙◌, subst, inl, inr}
 use Rattle.std.specs.List.{AllByRecursion, IsDistinct, list_any}
 use Rattle.std.proofs.lemmas.Bool.{eqb-true, ne_eqb}
 use Rattle.std.proofs.lemmas.Map.Steps.{length-le_from_distinct_below}
 use Rattle.std.proofs.lemmas.List.{take_more, take-append-drop}
 use Rattle.flow_model.specs.Lists.{◌∈◌, AreDistinct}
 use Rattle.flow_laws.proofs.Members.{distinct_left, cons_same}
+use Rattle.flow_plan.proofs.PlaceLemmas.{place_of_member}
 use Rattle.flow_excise.specs.declared.item.Item.{Item}
 use Rattle.flow_excise.specs.Rows.{IsEdge}
 use Rattle.flow_excise.specs.Arranged.{LeadsOn, IsCycle, IsNodeRing}
@@ -35,9 +36,7 @@ at_most n xs d h = length-le_from_distinct_below xs n (told_apart xs d) (λ x k.
 -- members by places
 
 pub not_there : (xs : List ℕ) (x : ℕ) → ((k : ℕ) → k < length xs → get_or xs k 0 ≡ x → ⊥) → ¬ (x ∈ xs)
-not_there [] x h m = m
-not_there (y ∷ xs) x h (inl e) = h 0 (omega arith) (sym e)
-not_there (y ∷ xs) x h (inr m) = not_there xs x (λ k l e. h (suc k) (omega arith) e) m
+not_there xs x h m = let (k, within, is) = place_of_member xs x m in h k within is
 
 module _ (items : List Item) where
   -- each item is before the next
@@ -79,10 +78,6 @@ module _ (items : List Item) where
       round [] same t = subst (IsEdge items other) same b
       round (f ∷ middle) same t = chain_back f f middle other back t (subst (IsEdge items other) same b)
 
-  -- the path up to a place
-  up_to : (xs : List ℕ) (i x : ℕ) → i < length xs → get_or xs i 0 ≡ x → take (i + 1) xs ≡ take i xs ++ x ∷ []
-  up_to xs i x l e = take_more xs i 0 l ∙ ap (λ y. take i xs ++ y ∷ []) e
-
   -- a walk that has come back, by the place where
   pub ring_at : (path seen final : List ℕ) (node : ℕ) (more : List ℕ) (place other : ℕ) →
       path ≡ node ∷ more → AreDistinct path → IsTrail path → seen ≡ path → place < length seen → get_or seen place 0 ≡ other →
@@ -90,7 +85,7 @@ module _ (items : List Item) where
   ring_at path seen final node more place other e d w s l is b t =
       let l' = subst (λ (z : List ℕ). place < length z) s l in
       let is' = subst (λ (z : List ℕ). get_or z place 0 ≡ other) s is in
-      let laid : take (place + 1) path ≡ take place path ++ other ∷ [] = up_to path place other l' is' in
+      let laid : take (place + 1) path ≡ take place path ++ other ∷ [] = take_more path place 0 l' ∙ ap (λ y. take place path ++ y ∷ []) is' in
       let all : node ∷ more ≡ (take place path ++ other ∷ []) ++ drop (place + 1) path =
       sym e ∙ sym (take-append-drop (place + 1) path) ∙ ap (λ z. z ++ drop (place + 1) path) laid in
       subst (IsNodeRing items) (sym (t ∙ laid)) (come_back (take place path) (drop (place + 1) path) other node more all (subst AreDistinct e d) (subst IsTrail e w) b)

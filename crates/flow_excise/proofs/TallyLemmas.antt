@@ -18,7 +18,7 @@ use Rattle.flow_goal.specs.Labelled.{Labelled}
 use Rattle.flow_excise.specs.declared.tally.Counted.{Counted}
 use Rattle.flow_excise.specs.declared.tally.Tally.{Tally}
 use Rattle.flow_excise.specs.Tallies.{IsCountedTo, tally_of, added, tally_by}
-use Rattle.flow_excise.specs.Options.{has_ways, options_by, ways_by}
+use Rattle.flow_excise.specs.Options.{has_ways, option_by, options_by, ways_by}
 
 -- two lists of options
 
@@ -39,28 +39,25 @@ tally-append a b =
 
 -- one resolution
 
-abbrev option_of : Process → List (ℕ × ℕ) → ChoiceOption
-option_of q way = record { resolution = q; order = way }
-
 sizes_by : (q : Process) (ws : List (List (ℕ × ℕ))) →
-    sum (map option_size (map (λ way. option_of q way) ws)) ≡ length ws * length (leaves q) + length (joined ws)
+    sum (map option_size (map (option_by q) ws)) ≡ length ws * length (leaves q) + length (joined ws)
 sizes_by q [] = sym (add-zero (0 * length (leaves q)) ∙ zero-mul (length (leaves q)))
 sizes_by q (w ∷ ws) =
     let e = sizes_by q ws in
     let f = suc-mul (length ws) (length (leaves q)) in
     let g = length-append w (joined ws) in
-    let h = bulk-cons (option_of q w) (map (λ way. option_of q way) ws) in
+    let h = bulk-cons (option_by q w) (map (option_by q) ws) in
     omega arith
 
-tally_of_ways : (q : Process) (ws : List (List (ℕ × ℕ))) → tally_of (map (λ way. option_of q way) ws) ≡ tally_by (length (leaves q)) (count_of ws)
+tally_of_ways : (q : Process) (ws : List (List (ℕ × ℕ))) → tally_of (map (option_by q) ws) ≡ tally_by (length (leaves q)) (count_of ws)
 tally_of_ways q ws =
     let m : ℕ = 2 ^ 64 - 1 in
     let l : ℕ = length (leaves q) in
     let held : capped (length ws * l) ≡ capped (capped (length ws) * l) =
     ap capped (mul_comm (length ws) l) ∙ sym (product_right m l (length ws)) ∙ ap capped (mul_comm l (capped (length ws))) in
-    let size : capped (sum (map option_size (map (λ way. option_of q way) ws))) ≡ capped (capped (capped (length ws) * l) + capped (length (joined ws))) =
+    let size : capped (sum (map option_size (map (option_by q) ws))) ≡ capped (capped (capped (length ws) * l) + capped (length (joined ws))) =
     ap capped (sizes_by q ws) ∙ sym (sum_capped m (length ws * l) (length (joined ws))) ∙ ap (λ n. capped (n + capped (length (joined ws)))) held in
-    λ k. record { options = capped (length-map ws (λ way. option_of q way) k); bulk = size k }
+    λ k. record { options = capped (length-map ws (option_by q) k); bulk = size k }
 
 tally_found : (t : Labelled) (n : Normal) (q : Process) (ls : List ℕ) (count : WayCount) → ls ≡ leaves q → count ≡ count_of (ways_by t n q) →
     tally_by (length ls) count ≡ tally_of (options_by t n q)

@@ -9,7 +9,7 @@ use Rattle.flow_rules.specs.declared.lanes.Lanes.{Lanes}
 use Rattle.flow_rules.specs.Lanes.{Shows}
 use Rattle.flow_rules.specs.Narrowed.{ways_in}
 use Rattle.flow_excise.specs.declared.block.Block.{Block}
-use Rattle.flow_excise.specs.Options.{ways_by}
+use Rattle.flow_excise.specs.Options.{option_by, ways_by}
 
 -- each lane below a bound shows the leaves of its resolution, the first lane those of the resolution of that number
 abbrev pub AreShown : Labelled → ℕ → ℕ → Lanes → Type 0
@@ -38,4 +38,4 @@ pub record IsBlock (t : Labelled) (n : Normal) (number : ℕ) (block : Block) : 
 
 -- the options of a resolution in a lane, by the rules of the block
 abbrev pub options_in : Labelled → Block → ℕ → Process → List ChoiceOption
-options_in t block lane q = map (λ way. record { resolution = q; order = way }) (ways_in block.narrowed lane (leaf_of_event t.labels (leaves q)))
+options_in t block lane q = map (option_by q) (ways_in block.narrowed lane (leaf_of_event t.labels (leaves q)))
