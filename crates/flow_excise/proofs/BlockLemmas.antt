@@ -13,7 +13,7 @@ use Rattle.flow_rules.specs.declared.lanes.Lanes.{Lanes}
 use Rattle.flow_rules.specs.Lanes.{Shows, has_event}
 use Rattle.flow_excise.specs.declared.block.Block.{Block}
 use Rattle.flow_excise.specs.Blocks.{AreLeavesOf, AreShown, HasWays, IsBlock, options_in}
-use Rattle.flow_excise.specs.Options.{options_by}
+use Rattle.flow_excise.specs.Options.{option_by, options_by}
 
 -- one list more
 pub listed_more : (t : Labelled) (first : ℕ) (old : List (Vec ℕ Global)) (list : Vec ℕ Global) (q : Process) →
@@ -51,13 +51,6 @@ blank_more lane old new others blank other event h =
 
 -- where a block ends
 
-pub block_within : (t : Labelled) (n : Normal) (number : ℕ) (block : Block) → IsBlock t n number block → 64 * number < resolution_count t.process →
-    block.first + block.size ≤ resolution_count t.process
-block_within t n number block b h = omega (arith, b.first, b.size, h)
-
-pub block_few : (t : Labelled) (n : Normal) (number : ℕ) (block : Block) → IsBlock t n number block → block.size ≤ 64
-block_few t n number block b = omega (arith, b.size)
-
 pub block_end : (t : Labelled) (n : Normal) (number : ℕ) (block : Block) → IsBlock t n number block → 64 * number < resolution_count t.process →
     take (block.first + block.size) (resolutions t.process) ≡ take (64 * (number + 1)) (resolutions t.process)
 block_end t n number block b h =
@@ -77,4 +70,4 @@ last_block t number blocks e h =
 -- the options in a lane
 pub options_found : (t : Labelled) (n : Normal) (block : Block) (lane : ℕ) (q : Process) → HasWays t n block → lane < block.size →
     slice_get (resolutions t.process) (block.first + lane) ≡ Some q → options_in t block lane q ≡ options_by t n q
-options_found t n block lane q ways h there = ap (map (λ way. record { resolution = q; order = way })) (ways lane q h there)
+options_found t n block lane q ways h there = ap (map (option_by q)) (ways lane q h there)

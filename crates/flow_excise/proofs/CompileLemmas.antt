@@ -14,9 +14,10 @@ use Rattle.flow_laws.specs.WellFormed.{IsWellFormed, IsConsistent}
 use Rattle.flow_laws.proofs.Members.{each_from_members}
 use Rattle.flow_laws.proofs.MadeLists.{mem-map, numbers_from_below}
 use Rattle.flow_laws.proofs.ResolutionsLemmas.{resolves_of, mem-leaves_of_goal}
-use Rattle.flow_laws.proofs.OptionsLemmas.{option_parts, option_is_ordered, option_of_good, option_trace_is_good}
+use Rattle.flow_laws.proofs.OptionsLemmas.{option_parts, option_is_ordered}
+use Rattle.flow_laws.proofs.OptionsLemmas.{option_of_good, option_trace_is_good}
 use Rattle.flow_goal.specs.Labelled.{Labelled}
-use Rattle.flow_rules.specs.Counts.{kept}
+use Rattle.flow_rules.specs.Counts.{capped}
 use Rattle.flow_plan.specs.Sampled.{Sampled}
 use Rattle.flow_excise.specs.declared.refusal.Dropped.{Dropped}
 use Rattle.flow_excise.specs.declared.refusal.CompileRefusal.{CompileRefusal}
@@ -24,11 +25,11 @@ use Rattle.flow_excise.specs.declared.refusal.CompileRefusal.TheVariants.{TooMan
 use Rattle.flow_sample.specs.Excised.{HasExecution}
 use Rattle.flow_excise.specs.Executions.{AreJustThose, NumberedOption, numbered_ways, numbered_options, TellOfAll, AreSifted}
 use Rattle.flow_excise.specs.declared.counts.Counts.{Counts}
-use Rattle.flow_excise.specs.declared.sifted.Sieve.{Sieve}
+use Rattle.flow_excise.specs.declared.sieve.Sieve.{Sieve}
 use Rattle.flow_excise.specs.declared.tally.Tally.{Tally}
 use Rattle.flow_excise.specs.Compilation.{Compilation, options_of, all_numbered, IsCompiled, IsWithinLimits, IsRefused}
 use Rattle.flow_excise.specs.Limits.{AreFew, bulk_of, IsTooMany}
-use Rattle.flow_excise.specs.Options.{schema_of, options_by, all_options_by}
+use Rattle.flow_excise.specs.Options.{schema_of, option_by, options_by, all_options_by}
 use Rattle.flow_sample.specs.Plans.{option_of}
 use Rattle.flow_excise.specs.Sieves.{ArePlannable, HasSifted}
 use Rattle.flow_rules.specs.Conjunction.{HasWaysOf}
@@ -37,18 +38,15 @@ use Rattle.flow_excise.proofs.TallyLemmas.{bulk-cons}
 
 -- the options by the normal form are those of the workflow
 
+same_in : (t : Labelled) (rules : List Constraint) (n : Normal) → HasWaysOf n (all_of rules) → options_by t n ≡ options_in (schema_of t rules)
+same_in t rules n h = λ i q. map (λ way. option_by q way) (h (leaf_of_event t.labels (leaves q)) i)
+
 pub same_options : (t : Labelled) (rules : List Constraint) (n : Normal) → HasWaysOf n (all_of rules) → all_options_by t n ≡ options (schema_of t rules)
-same_options t rules n h = λ i. flat_map (λ q. map (λ way. way_option q way) (h (leaf_of_event t.labels (leaves q)) i)) (resolutions t.process)
-  where
-    way_option : Process → List (ℕ × ℕ) → ChoiceOption
-    way_option q way = record { resolution = q; order = way }
+same_options t rules n h = λ i. flat_map (same_in t rules n h i) (resolutions t.process)
 
 pub same_numbered : (t : Labelled) (rules : List Constraint) (n : Normal) → HasWaysOf n (all_of rules) →
     numbered_options 0 (map (options_by t n) (resolutions t.process)) ≡ all_numbered (schema_of t rules)
-same_numbered t rules n h = λ i. numbered_options 0 (map (λ q. map (λ way. way_option q way) (h (leaf_of_event t.labels (leaves q)) i)) (resolutions t.process))
-  where
-    way_option : Process → List (ℕ × ℕ) → ChoiceOption
-    way_option q way = record { resolution = q; order = way }
+same_numbered t rules n h = λ i. numbered_options 0 (map (same_in t rules n h i) (resolutions t.process))
 
 told_all : (r : ℕ) (f : Process → List ChoiceOption) (qs : List Process) → options_told (numbered_options r (map f qs)) ≡ flat_map f qs
 told_all r f [] = refl
@@ -83,9 +81,9 @@ plannable w os f small e light o m =
 pub too_many : (w : Schema) (os : List ChoiceOption) (e : CompileRefusal) → os ≡ options w → resolution_count w.goal ≤ 4096 → IsTooMany os e → IsRefused w e
 too_many w os (TooManyChoices count) s r h = absurd h
 too_many w os (TooManyWays count) s r h =
-    (r, (subst (λ (l : List ChoiceOption). 4096 < length l) s h.0, h.1 ∙ ap (λ (l : List ChoiceOption). kept (length l)) s))
+    (r, (subst (λ (l : List ChoiceOption). 4096 < length l) s h.0, h.1 ∙ ap (λ (l : List ChoiceOption). capped (length l)) s))
 too_many w os (TooBulky count) s r h =
-    (r, (subst (λ (l : List ChoiceOption). length l ≤ 4096) s h.0, (subst (λ (l : List ChoiceOption). 262144 < bulk_of l) s h.1.0, h.1.1 ∙ ap (λ (l : List ChoiceOption). kept (bulk_of l)) s)))
+    (r, (subst (λ (l : List ChoiceOption). length l ≤ 4096) s h.0, (subst (λ (l : List ChoiceOption). 262144 < bulk_of l) s h.1.0, h.1.1 ∙ ap (λ (l : List ChoiceOption). capped (bulk_of l)) s)))
 too_many w os (Inconsistent dropped) s r h = absurd h
 too_many w os NoMemory s r h = tt
 

@@ -1,25 +1,32 @@
 -- Options that are looked at one by one.
 use Rattle.std.proofs.Common.{◌≡◌, Bool, false, not, true≢false, append-nil, ℕ, zero, suc, ◌+◌, ◌<◌, ◌≤◌, List, [], ◌∷◌, ◌++◌, length, take, get_or, map, refl, sym, ap, ◌∙◌, subst, inl, inr, arith, append_assoc, Some, slice_get, Result, Ok, Err, MatchResult}
+use Rattle.std.specs.Option.{option_or}
 use Rattle.std.proofs.lemmas.Bool.{cases_lt}
 use Rattle.std.proofs.lemmas.List.{get_or-map, length-map, length-take-le, map-append, take_all, take_more}
 use Rattle.std.proofs.lemmas.Option.{slice_get_within, slice_get-get_or, get_or_from_slice_get}
 use Rattle.flow_model.specs.Lists.{◌∈◌}
-use Rattle.flow_model.specs.Process.{Process, Empty}
-use Rattle.flow_model.specs.Ways.{Normal, ways}
+use Rattle.flow_model.specs.Process.{Process, Empty, leaves}
+use Rattle.flow_model.specs.Ways.{Normal, leaf_of_event}
 use Rattle.flow_model.specs.Resolution.{ChoiceOption, resolutions}
 use Rattle.flow_laws.proofs.MadeLists.{mem-flat_map, some_same}
 use Rattle.flow_goal.specs.Labelled.{Labelled}
+use Rattle.flow_rules.specs.declared.leaf_table.LeafEvents.{LeafEvents}
 use Rattle.flow_rules.specs.declared.order_set.OrderSet.{OrderSet}
+use Rattle.flow_rules.specs.EventLeaves.{IsBlank, leaf_in}
+use Rattle.flow_rules.specs.Narrowed.{ways_in}
+use Rattle.flow_rules.proofs.LeafLemmas.{noted_leaves}
+use Rattle.flow_excise.specs.declared.block.Block.{Block}
+use Rattle.flow_excise.specs.Blocks.{options_in}
 use Rattle.flow_rules.specs.WayLists.{is_none, ways_of_sets}
 use Rattle.flow_plan.specs.Sampled.{Sampled}
 use Rattle.flow_excise.specs.declared.refusal.Dropped.{Dropped}
 use Rattle.flow_excise.specs.declared.refusal.CompileRefusal.{CompileRefusal}
 use Rattle.flow_excise.specs.declared.refusal.CompileRefusal.TheVariants.{NoMemory}
-use Rattle.flow_excise.specs.declared.sifted.Sieve.{Sieve}
+use Rattle.flow_excise.specs.declared.sieve.Sieve.{Sieve}
 use Rattle.flow_sample.specs.Excised.{HasExecution}
 use Rattle.flow_excise.specs.Executions.{NumberedOption, numbered_ways, numbered_options, TellsOf, AreSifted}
 use Rattle.flow_excise.specs.Compilation.{options_of}
-use Rattle.flow_excise.specs.Options.{all_options_by, has_ways, options_by, ways_by}
+use Rattle.flow_excise.specs.Options.{all_options_by, has_ways, option_by, options_by, ways_by}
 use Rattle.flow_sample.specs.Plans.{option_of}
 use Rattle.flow_excise.specs.Sieves.{ArePlannable, options_with, HasSifted, HasSiftedTo, Sifts}
 use Rattle.flow_weave.specs.Woven.{option_with}
@@ -43,14 +50,9 @@ sift_dropped n kept old new d e t done s = subst (AreSifted (done ++ n ∷ []) k
 -- members by places
 
 pub mem_read : {A : Type 0} (xs : List A) (i : ℕ) (x : A) → i < length xs → x ≡ get_or xs i x → x ∈ xs
-mem_read [] i x l e = absurd (omega arith)
-mem_read (y ∷ xs) zero x l e = inl e
-mem_read (y ∷ xs) (suc i) x l e = inr (mem_read xs i x (omega arith) e)
+mem_read xs i x l e = mem-slice_get xs i x (slice_get-get_or xs i x l ∙ ap Some (sym e))
 
 -- the ways of a resolution
-
-abbrev way_option : Process → List (ℕ × ℕ) → ChoiceOption
-way_option q way = record { resolution = q; order = way }
 
 ways_more : (r : ℕ) (q : Process) (orders : List OrderSet) (i : ℕ) (order : OrderSet) → i < length orders → order ≡ get_or orders i order →
     numbered_ways r 0 (options_with q (take (i + 1) orders)) ≡ numbered_ways r 0 (options_with q (take i orders)) ++ numbered r i (option_with q order) ∷ []
@@ -71,20 +73,26 @@ sift_more_ways r q orders i order first old new l e so_far this done s =
     (append_assoc done (numbered_ways r 0 (options_with q (take i orders))) (numbered r i (option_with q order) ∷ []) ∙ ap (λ ns. done ++ ns) (sym (ways_more r q orders i order l e)))
     (this (done ++ numbered_ways r 0 (options_with q (take i orders))) (so_far done s))
 
-options_found : (q : Process) (orders : List OrderSet) → options_with q orders ≡ map (λ way. way_option q way) (ways_of_sets orders)
+options_found : (q : Process) (orders : List OrderSet) → options_with q orders ≡ map (option_by q) (ways_of_sets orders)
 options_found q [] = refl
 options_found q (o ∷ orders) = ap (λ (l : List ChoiceOption). option_with q o ∷ l) (options_found q orders)
 
-pub ways_found : (q : Process) (orders seen : List OrderSet) (ways : List (List (ℕ × ℕ))) → seen ≡ orders → ways_of_sets orders ≡ ways →
-    options_with q seen ≡ map (λ way. way_option q way) ways
-ways_found q orders seen ways e ways_are = ap (options_with q) e ∙ options_found q orders ∙ ap (map (λ way. way_option q way)) ways_are
+-- the ways that are listed by the leaves noted are those of the lane
+pub ways_found : (t : Labelled) (block : Block) (lane : ℕ) (q : Process) (ls : List ℕ) (old noted : LeafEvents) (orders seen : List OrderSet) → IsBlank old →
+    ((event : ℕ) → leaf_in noted event ≡ option_or (leaf_in old event) (leaf_of_event t.labels ls event)) → ls ≡ leaves q → seen ≡ orders →
+    ways_of_sets orders ≡ ways_in block.narrowed lane (leaf_in noted) → options_with q seen ≡ options_in t block lane q
+ways_found t block lane q ls old noted orders seen blank notes listed e ways =
+    ap (options_with q) e ∙ options_found q orders
+    ∙ ap (map (option_by q))
+    (ways ∙ (λ k. ways_in block.narrowed lane (λ event. noted_leaves t.labels ls old noted blank notes event k))
+    ∙ ap (λ (l : List ℕ). ways_in block.narrowed lane (leaf_of_event t.labels l)) listed)
 
 -- whether a resolution has an option
 
 pub none_found : (t : Labelled) (n : Normal) (q : Process) → has_ways t n q ≡ false → options_by t n q ≡ []
 none_found t n q h = at (ways_by t n q) h
   where
-    at : (ws : List (List (ℕ × ℕ))) → not (is_none ws) ≡ false → map (λ way. way_option q way) ws ≡ []
+    at : (ws : List (List (ℕ × ℕ))) → not (is_none ws) ≡ false → map (option_by q) ws ≡ []
     at [] h = refl
     at (w ∷ ws) h = absurd (true≢false h)
 

@@ -12,13 +12,13 @@ use Rattle.flow_model.specs.Process.{Process, leaves}
 use Rattle.flow_model.specs.Ways.{Normal}
 use Rattle.flow_model.specs.Resolution.{ChoiceOption, option_size, resolutions}
 use Rattle.flow_rules.specs.declared.counting.WayCount.{WayCount}
-use Rattle.flow_rules.specs.Counts.{kept, count_of}
-use Rattle.flow_rules.proofs.CountLemmas.{none_left, sum_kept, product_right}
+use Rattle.flow_rules.specs.Counts.{capped, count_of}
+use Rattle.flow_rules.proofs.CountLemmas.{none_left, sum_capped, product_right}
 use Rattle.flow_goal.specs.Labelled.{Labelled}
 use Rattle.flow_excise.specs.declared.tally.Counted.{Counted}
 use Rattle.flow_excise.specs.declared.tally.Tally.{Tally}
 use Rattle.flow_excise.specs.Tallies.{IsCountedTo, tally_of, added, tally_by}
-use Rattle.flow_excise.specs.Options.{has_ways, options_by, ways_by}
+use Rattle.flow_excise.specs.Options.{has_ways, option_by, options_by, ways_by}
 
 -- two lists of options
 
@@ -33,37 +33,31 @@ bulk-cons o os =
 pub tally-append : (a b : List ChoiceOption) → tally_of (a ++ b) ≡ added (tally_of a) (tally_of b)
 tally-append a b =
     let m : ℕ = 2 ^ 64 - 1 in
-    let options : kept (length (a ++ b)) ≡ kept (kept (length a) + kept (length b)) =
-    ap kept (length-append a b) ∙ sym (sum_kept m (length a) (length b)) in
-    let size : kept (sum (map option_size (a ++ b))) ≡ kept (kept (sum (map option_size a)) + kept (sum (map option_size b))) =
-    ap kept (bulk-append a b)
-    ∙ sym (sum_kept m (sum (map option_size a)) (sum (map option_size b))) in
+    let options = ap capped (length-append a b) ∙ sym (sum_capped m (length a) (length b)) in
+    let size = ap capped (bulk-append a b) ∙ sym (sum_capped m (sum (map option_size a)) (sum (map option_size b))) in
     λ k. record { options = options k; bulk = size k }
 
 -- one resolution
 
-abbrev option_of : Process → List (ℕ × ℕ) → ChoiceOption
-option_of q way = record { resolution = q; order = way }
-
 sizes_by : (q : Process) (ws : List (List (ℕ × ℕ))) →
-    sum (map option_size (map (λ way. option_of q way) ws)) ≡ length ws * length (leaves q) + length (joined ws)
+    sum (map option_size (map (option_by q) ws)) ≡ length ws * length (leaves q) + length (joined ws)
 sizes_by q [] = sym (add-zero (0 * length (leaves q)) ∙ zero-mul (length (leaves q)))
 sizes_by q (w ∷ ws) =
     let e = sizes_by q ws in
     let f = suc-mul (length ws) (length (leaves q)) in
     let g = length-append w (joined ws) in
-    let h = bulk-cons (option_of q w) (map (λ way. option_of q way) ws) in
+    let h = bulk-cons (option_by q w) (map (option_by q) ws) in
     omega arith
 
-tally_of_ways : (q : Process) (ws : List (List (ℕ × ℕ))) → tally_of (map (λ way. option_of q way) ws) ≡ tally_by (length (leaves q)) (count_of ws)
+tally_of_ways : (q : Process) (ws : List (List (ℕ × ℕ))) → tally_of (map (option_by q) ws) ≡ tally_by (length (leaves q)) (count_of ws)
 tally_of_ways q ws =
     let m : ℕ = 2 ^ 64 - 1 in
     let l : ℕ = length (leaves q) in
-    let held : kept (length ws * l) ≡ kept (kept (length ws) * l) =
-    ap kept (mul_comm (length ws) l) ∙ sym (product_right m l (length ws)) ∙ ap kept (mul_comm l (kept (length ws))) in
-    let size : kept (sum (map option_size (map (λ way. option_of q way) ws))) ≡ kept (kept (kept (length ws) * l) + kept (length (joined ws))) =
-    ap kept (sizes_by q ws) ∙ sym (sum_kept m (length ws * l) (length (joined ws))) ∙ ap (λ n. kept (n + kept (length (joined ws)))) held in
-    λ k. record { options = kept (length-map ws (λ way. option_of q way) k); bulk = size k }
+    let held : capped (length ws * l) ≡ capped (capped (length ws) * l) =
+    ap capped (mul_comm (length ws) l) ∙ sym (product_right m l (length ws)) ∙ ap capped (mul_comm l (capped (length ws))) in
+    let size : capped (sum (map option_size (map (option_by q) ws))) ≡ capped (capped (capped (length ws) * l) + capped (length (joined ws))) =
+    ap capped (sizes_by q ws) ∙ sym (sum_capped m (length ws * l) (length (joined ws))) ∙ ap (λ n. capped (n + capped (length (joined ws)))) held in
+    λ k. record { options = capped (length-map ws (option_by q) k); bulk = size k }
 
 tally_found : (t : Labelled) (n : Normal) (q : Process) (ls : List ℕ) (count : WayCount) → ls ≡ leaves q → count ≡ count_of (ways_by t n q) →
     tally_by (length ls) count ≡ tally_of (options_by t n q)

@@ -1,5 +1,5 @@
 -- Resolutions side by side: one a lane, and 64 of them a block.
-use Rattle.std.specs.Prelude.{◌≡◌, ◌<◌, ℕ, ◌+◌, ◌-◌, ◌*◌, min, List, Some, Vec, length, map, slice_get}
+use Rattle.std.specs.Prelude.{◌≡◌, ◌<◌, ◌≤◌, ℕ, ◌+◌, ◌-◌, ◌*◌, min, List, Some, Vec, length, map, slice_get}
 use Rattle.std.specs.Global.{Global}
 use Rattle.flow_model.specs.Process.{Process, leaves}
 use Rattle.flow_model.specs.Resolution.{ChoiceOption, resolution_count, resolutions}
@@ -9,7 +9,7 @@ use Rattle.flow_rules.specs.declared.lanes.Lanes.{Lanes}
 use Rattle.flow_rules.specs.Lanes.{Shows}
 use Rattle.flow_rules.specs.Narrowed.{ways_in}
 use Rattle.flow_excise.specs.declared.block.Block.{Block}
-use Rattle.flow_excise.specs.Options.{ways_by}
+use Rattle.flow_excise.specs.Options.{option_by, ways_by}
 
 -- each lane below a bound shows the leaves of its resolution, the first lane those of the resolution of that number
 abbrev pub AreShown : Labelled → ℕ → ℕ → Lanes → Type 0
@@ -30,10 +30,12 @@ HasWays t n block = (lane : ℕ) (q : Process) → lane < block.size → slice_g
 pub record IsBlock (t : Labelled) (n : Normal) (number : ℕ) (block : Block) : Type 0 where
   pub first : block.first ≡ 64 * number
   pub size : block.size ≡ min 64 (resolution_count t.process - 64 * number)
+  pub few : block.size ≤ 64
+  pub within : block.first + block.size ≤ resolution_count t.process
   pub leaves : AreLeavesOf t block.first block.leaves.items
   pub listed : length block.leaves.items ≡ block.size
   pub ways : HasWays t n block
 
 -- the options of a resolution in a lane, by the rules of the block
 abbrev pub options_in : Labelled → Block → ℕ → Process → List ChoiceOption
-options_in t block lane q = map (λ way. record { resolution = q; order = way }) (ways_in block.narrowed lane (leaf_of_event t.labels (leaves q)))
+options_in t block lane q = map (option_by q) (ways_in block.narrowed lane (leaf_of_event t.labels (leaves q)))

@@ -5,7 +5,7 @@ use Rattle.std.specs.Coded.{Coded, code_by, coded×, coded_list}
 use Rattle.flow_model.specs.Schema.{Schema}
 use Rattle.flow_model.specs.Resolution.{ChoiceOption, options, options_in, resolutions, resolution_count, bulk}
 use Rattle.flow_laws.specs.WellFormed.{IsConsistent}
-use Rattle.flow_rules.specs.Counts.{kept}
+use Rattle.flow_rules.specs.Counts.{capped}
 use Rattle.flow_plan.specs.Sampled.{Sampled, sampled_code}
 use Rattle.flow_weave.specs.Woven.{AreNumbered}
 use Rattle.flow_excise.specs.declared.counts.Counts.{Counts}
@@ -58,9 +58,9 @@ all_numbered w = numbered_options 0 (map (options_in w) (resolutions w.goal))
 
 -- why the workflow is not compiled; of want of memory nothing is said
 abbrev pub IsRefused : Schema → CompileRefusal → Type 0
-IsRefused w (TooManyChoices count) = (4096 < resolution_count w.goal) × (count ≡ kept (resolution_count w.goal))
-IsRefused w (TooManyWays count) = (resolution_count w.goal ≤ 4096) × ((4096 < length (options w)) × (count ≡ kept (length (options w))))
+IsRefused w (TooManyChoices count) = (4096 < resolution_count w.goal) × (count ≡ capped (resolution_count w.goal))
+IsRefused w (TooManyWays count) = (resolution_count w.goal ≤ 4096) × ((4096 < length (options w)) × (count ≡ capped (length (options w))))
 IsRefused w (TooBulky count) =
-    (resolution_count w.goal ≤ 4096) × ((length (options w) ≤ 4096) × ((262144 < bulk w) × (count ≡ kept (bulk w))))
+    (resolution_count w.goal ≤ 4096) × ((length (options w) ≤ 4096) × ((262144 < bulk w) × (count ≡ capped (bulk w))))
 IsRefused w (Inconsistent dropped) = IsWithinLimits w × (¬ (IsConsistent w) × TellOfAll (all_numbered w) dropped.items)
 IsRefused w NoMemory = Unit {0}

@@ -1,7 +1,7 @@
 -- How many options there may be, and how large.
 use Rattle.std.specs.Prelude.{◌≡◌, ◌<◌, ◌≤◌, ℕ, List, length, map, sum}
 use Rattle.flow_model.specs.Resolution.{ChoiceOption, option_size}
-use Rattle.flow_rules.specs.Counts.{kept}
+use Rattle.flow_rules.specs.Counts.{capped}
 use Rattle.flow_excise.specs.declared.refusal.CompileRefusal.{CompileRefusal}
 use Rattle.flow_excise.specs.declared.refusal.CompileRefusal.TheVariants.{TooManyChoices, TooManyWays, TooBulky, Inconsistent, NoMemory}
 use Rattle.flow_excise.specs.declared.tally.Tally.{Tally}
@@ -20,7 +20,7 @@ pub record AreFew (os : List ChoiceOption) (tally : Tally) : Type 0 where
 -- the options are too many, or too large in all, or nothing is said
 abbrev pub IsTooMany : List ChoiceOption → CompileRefusal → Type 0
 IsTooMany os (TooManyChoices count) = ⊥
-IsTooMany os (TooManyWays count) = (4096 < length os) × (count ≡ kept (length os))
-IsTooMany os (TooBulky count) = (length os ≤ 4096) × ((262144 < bulk_of os) × (count ≡ kept (bulk_of os)))
+IsTooMany os (TooManyWays count) = (4096 < length os) × (count ≡ capped (length os))
+IsTooMany os (TooBulky count) = (length os ≤ 4096) × ((262144 < bulk_of os) × (count ≡ capped (bulk_of os)))
 IsTooMany os (Inconsistent dropped) = ⊥
 IsTooMany os NoMemory = Unit {0}

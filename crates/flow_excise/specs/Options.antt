@@ -21,9 +21,13 @@ ways_by t normal q = ways normal (leaf_of_event t.labels (leaves q))
 abbrev pub has_ways : Labelled → Normal → Process → Bool
 has_ways t normal q = not (is_none (ways_by t normal q))
 
+-- a resolution with a way
+abbrev pub option_by : Process → List (ℕ × ℕ) → ChoiceOption
+option_by q way = record { resolution = q; order = way }
+
 -- the options of one resolution
 abbrev pub options_by : Labelled → Normal → Process → List ChoiceOption
-options_by t normal q = map (λ way. record { resolution = q; order = way }) (ways_by t normal q)
+options_by t normal q = map (option_by q) (ways_by t normal q)
 
 -- all options in order: by resolutions, and then by ways
 abbrev pub all_options_by : Labelled → Normal → List ChoiceOption

@@ -8,7 +8,7 @@ use Rattle.flow_goal.specs.Labelled.{Labelled}
 use Rattle.flow_laws.specs.WellFormed.{IsOrdered}
 use Rattle.flow_rules.specs.declared.order_set.OrderSet.{OrderSet}
 use Rattle.flow_weave.specs.Woven.{option_with}
-use Rattle.flow_excise.specs.declared.sifted.Sieve.{Sieve}
+use Rattle.flow_excise.specs.declared.sieve.Sieve.{Sieve}
 use Rattle.flow_excise.specs.Executions.{NumberedOption, AreSifted, numbered_options}
 use Rattle.flow_excise.specs.Options.{options_by}
 use Rattle.flow_excise.specs.Compilation.{options_of}

@@ -5,22 +5,22 @@ use Rattle.flow_model.specs.Resolution.{ChoiceOption, option_size, resolutions}
 use Rattle.flow_model.specs.Ways.{Normal}
 use Rattle.flow_goal.specs.Labelled.{Labelled}
 use Rattle.flow_rules.specs.declared.counting.WayCount.{WayCount}
-use Rattle.flow_rules.specs.Counts.{kept}
+use Rattle.flow_rules.specs.Counts.{capped}
 use Rattle.flow_excise.specs.declared.tally.Counted.{Counted}
 use Rattle.flow_excise.specs.declared.tally.Tally.{Tally}
 use Rattle.flow_excise.specs.Options.{has_ways, options_by}
 
 -- the tally of a list of options
 abbrev pub tally_of : List ChoiceOption → Tally
-tally_of os = record { options = kept (length os); bulk = kept (sum (map option_size os)) }
+tally_of os = record { options = capped (length os); bulk = capped (sum (map option_size os)) }
 
 -- two tallies as one
 abbrev pub added : Tally → Tally → Tally
-added a b = record { options = kept (a.options + b.options); bulk = kept (a.bulk + b.bulk) }
+added a b = record { options = capped (a.options + b.options); bulk = capped (a.bulk + b.bulk) }
 
 -- the tally of a resolution with so many leaves, by its ways
 abbrev pub tally_by : ℕ → WayCount → Tally
-tally_by leaves count = record { options = count.ways; bulk = kept (kept (count.ways * leaves) + count.pairs) }
+tally_by leaves count = record { options = count.ways; bulk = capped (capped (count.ways * leaves) + count.pairs) }
 
 -- the first so many resolutions are counted
 pub record IsCountedTo (t : Labelled) (n : Normal) (count : ℕ) (counted : Counted) : Type 0 where

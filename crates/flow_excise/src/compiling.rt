@@ -5,7 +5,7 @@ ghost use Rattle.flow_model.specs.Constraint.{Constraint, all_of};
 ghost use Rattle.flow_model.specs.Resolution.{resolution_count};
 ghost use Rattle.flow_rules.specs.Conjunction.{HasWaysOf, normal_in};
 ghost use Rattle.flow_rules.specs.Rule.{rules_of};
-ghost use Rattle.flow_rules.specs.Counts as way_counts;
+ghost use Rattle.flow_rules.specs.Counts.{capped};
 ghost use Rattle.flow_excise.specs.declared.refusal.CompileRefusal.TheVariants.{Inconsistent, TooManyChoices};
 ghost use Rattle.flow_excise.specs.Options.{schema_of};
 ghost use Rattle.flow_excise.specs.Compilation.{IsCompiled, IsRefused};
@@ -14,8 +14,8 @@ use crate::compiled::Compiled;
 use crate::counts::Counts;
 use crate::limits::{few_options, few_resolutions};
 use crate::refusal::CompileRefusal;
-use crate::sieve::sift_all;
-use crate::sifted::Sieve;
+use crate::sieve::Sieve;
+use crate::sifted::sift_all;
 use crate::tally::Tally;
 use flow_goal::{Choices, Tree};
 use flow_rules::{Conjunction, Rule};
@@ -74,7 +74,7 @@ pub fn compile(alloc: Global, tree: &Tree, rules: &[Rule]) -> Result<Compiled, C
     requires unique { HoldsNoneTwice tree.now }
     requires small { length tree.now.labels ≤ 1024 }
     ensures choices { 4096 < resolution_count tree.now.process →
-        result ≡ Err (TooManyChoices (way_counts.kept (resolution_count tree.now.process))) }
+        result ≡ Err (TooManyChoices (capped (resolution_count tree.now.process))) }
     ensures refused { IfErr result (IsRefused (schema_of tree.now (rules_of rules.now))) }
     ensures ok { IfOk result (IsCompiled (schema_of tree.now (rules_of rules.now))) }
 {

@@ -3,7 +3,7 @@ ghost use Rattle.flow_model.specs.Resolution.{resolution_count, resolutions as a
 ghost use Rattle.flow_goal.specs.Choices.{AreChoicesOf};
 ghost use Rattle.flow_rules.specs.Conjunction.{normal_in};
 ghost use Rattle.flow_excise.specs.Options.{all_options_by, has_ways};
-ghost use Rattle.flow_rules.specs.Counts.{kept};
+ghost use Rattle.flow_rules.specs.Counts.{capped};
 ghost use Rattle.flow_excise.specs.declared.refusal.CompileRefusal.TheVariants.{TooManyChoices};
 ghost use Rattle.flow_excise.specs.Limits.{AreFew, IsTooMany};
 
@@ -23,7 +23,7 @@ const GREATEST_BULK: u64 = 262_144;
 pub(crate) fn few_resolutions(tree: &Tree) -> Result<u64, CompileRefusal>
     ensures { MatchResult result
         (λ count. (resolution_count tree.now.process ≤ 4096) × (count ≡ resolution_count tree.now.process))
-        (λ refusal. (4096 < resolution_count tree.now.process) × (refusal ≡ TooManyChoices (kept (resolution_count tree.now.process)))) }
+        (λ refusal. (4096 < resolution_count tree.now.process) × (refusal ≡ TooManyChoices (capped (resolution_count tree.now.process)))) }
 {
     let count = resolutions(tree);
     if count > MOST_OPTIONS {

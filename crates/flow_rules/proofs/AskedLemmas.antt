@@ -1,20 +1,19 @@
 -- What the parts of a rule ask together.
-use Rattle.std.proofs.Common.{◌≡◌, ℕ, true, false, not, ◌||◌, ◌&&◌, if◌then◌else◌, List, [], ◌∷◌, ◌++◌, length, map, fold, refl, sym, ap, subst, ◌∙◌, append-nil, Vec, Global, Result, Ok, Err, IfOk}
-use Rattle.std.specs.declared.alloc.AllocError.{AllocError}
-use Rattle.std.proofs.lemmas.List.{map-append}
-use Rattle.flow_model.specs.Lists.{joined}
-use Rattle.flow_model.specs.Ways.{free_way, is_free}
+use Rattle.std.proofs.Common.{◌≡◌, ℕ, true, false, not, ◌||◌, ◌&&◌, if◌then◌else◌, ◌+◌, ◌<◌, List, [], ◌∷◌, ◌++◌, length, take, get_or, map, refl, sym, ap, subst, ◌∙◌, append_assoc, append-nil, Vec, Global}
+use Rattle.std.proofs.lemmas.List.{map-append, take_more}
+use Rattle.std.proofs.lemmas.List.Sums.{fold-append}
+use Rattle.flow_model.specs.Ways.{free_way}
 use Rattle.flow_rules.specs.declared.asked.Asked.{Asked}
 use Rattle.flow_rules.specs.declared.asked.Asked.TheOpen as open_asked
 use Rattle.flow_rules.specs.declared.asked.Asked.TheVariants.{rolls-Parts}
 use Rattle.flow_rules.specs.declared.asked.Asked.TheFolds.{fold-roll-Asked}
 use Rattle.flow_rules.specs.declared.asked.Asked as asked
-use Rattle.flow_rules.specs.declared.asked.Found.{Found}
+use Rattle.flow_rules.specs.declared.order_set.OrderSet.{OrderSet}
 use Rattle.flow_rules.specs.declared.connective.Connective.{Connective}
 use Rattle.flow_rules.specs.declared.connective.Connective.TheVariants.{And, Or}
-use Rattle.flow_rules.specs.Asked.{AreOpen, Finds, HasKept, asked_step, is_nil, ways_asked, ways_asked_by}
-use Rattle.flow_rules.specs.WayLists.{both_ways, decided, decider, either_way, is_decided, joined_by}
-use Rattle.flow_rules.proofs.WayListLemmas.{both_free, decided_by_both, decided_by_one, fold_push, joined_idle, joined_push}
+use Rattle.flow_rules.specs.Asked.{AreOpen, HasKept, asked_step, is_nil, open_joined, open_ways_by, ways_asked, ways_asked_by}
+use Rattle.flow_rules.specs.WayLists.{both_ways, decided, decider, is_decided, joined_by, ways_of_sets}
+use Rattle.flow_rules.proofs.WayListLemmas.{both_free, both_front, each_with_each-append, decided_by_both, decided_by_one, joined_idle}
 
 pub asked_parts : (c : Connective) (parts : Vec Asked Global) → ways_asked (asked.Parts c parts) ≡ ways_asked_by c parts.items
 asked_parts c parts = ap ways_asked (sym (rolls-Parts c parts)) ∙ fold-roll-Asked (List (List (ℕ × ℕ))) asked_step (open_asked.Parts c parts)
@@ -29,15 +28,13 @@ nil_push : (kept : List Asked) (a : Asked) → (is_nil kept && false) ≡ is_nil
 nil_push [] a = refl
 nil_push (k ∷ kept) a = refl
 
-either_open : (vs ws : List (List (ℕ × ℕ))) → is_free vs ≡ false → is_free ws ≡ false → either_way vs ws ≡ vs ++ ws
-either_open vs ws p q = λ k. if p k || q k then free_way else vs ++ ws
+asked_more : (c : Connective) (kept : List Asked) (a : Asked) → ways_asked_by c (kept ++ a ∷ []) ≡ open_joined c (ways_asked_by c kept) (ways_asked a)
+asked_more c kept a =
+    ap (open_ways_by c) (map-append ways_asked kept (a ∷ [])) ∙ fold-append (open_joined c) (decided (not (decider c))) (map ways_asked kept) (ways_asked a ∷ [])
 
-asked_push : (c : Connective) (kept : List Asked) (a : Asked) → is_decided (decider c) (ways_asked_by c kept) ≡ false → AreOpen (ways_asked a) →
-    ways_asked_by c (kept ++ a ∷ []) ≡ joined_by c (ways_asked_by c kept) (ways_asked a)
-asked_push And kept a u o = ap (fold both_ways free_way) (map-append ways_asked kept (a ∷ [])) ∙ fold_push both_ways (map ways_asked kept) free_way (ways_asked a)
-asked_push Or kept a u o =
-    ap joined (map-append ways_asked kept (a ∷ [])) ∙ joined_push (map ways_asked kept) (ways_asked a)
-    ∙ sym (either_open (joined (map ways_asked kept)) (ways_asked a) u (o true))
+open_is : (c : Connective) (vs ws : List (List (ℕ × ℕ))) → is_decided (decider c) vs ≡ false → is_decided (decider c) ws ≡ false → open_joined c vs ws ≡ joined_by c vs ws
+open_is And vs ws p q = refl
+open_is Or vs ws p q = sym (λ k. if p k || q k then free_way else vs ++ ws)
 
 pub kept_more : (c : Connective) (kept pushed : List Asked) (a : Asked) (ways more new : List (List (ℕ × ℕ))) → pushed ≡ kept ++ a ∷ [] → new ≡ joined_by c ways more →
     (ways_asked a ≡ more) × AreOpen more → HasKept c kept ways → HasKept c pushed new
@@ -45,7 +42,8 @@ kept_more c kept pushed a ways more new p n (e, o) h =
     subst (λ k. HasKept c k new) (sym p)
     (subst (HasKept c (kept ++ a ∷ [])) (sym n) record {
       same =
-          asked_push c kept a (ap (is_decided (decider c)) h.same ∙ h.undecided) (subst (λ ws. AreOpen ws) (sym e) o)
+          asked_more c kept a
+          ∙ open_is c (ways_asked_by c kept) (ways_asked a) (ap (is_decided (decider c)) h.same ∙ h.undecided) (ap (is_decided (decider c)) e ∙ o (decider c))
           ∙ (λ k. joined_by c (h.same k) (e k));
       undecided = decided_by_one c ways more ∙ (λ k. h.undecided k || o (decider c) k);
       none = decided_by_both c ways more ∙ (λ k. h.none k && o (not (decider c)) k) ∙ nil_push kept a;
@@ -53,13 +51,9 @@ kept_more c kept pushed a ways more new p n (e, o) h =
 
 -- all parts
 
-none_asked : (c : Connective) → ways_asked_by c [] ≡ decided (not (decider c))
-none_asked And = refl
-none_asked Or = refl
-
 one_asked : (c : Connective) (a : Asked) → ways_asked_by c (a ∷ []) ≡ ways_asked a
 one_asked And a = both_free (ways_asked a)
-one_asked Or a = append-nil (ways_asked a)
+one_asked Or a = refl
 
 open_by : (c : Connective) (ways : List (List (ℕ × ℕ))) → is_decided (decider c) ways ≡ false → is_decided (not (decider c)) ways ≡ false → AreOpen ways
 open_by And ways p q true = q
@@ -69,7 +63,7 @@ open_by Or ways p q false = q
 
 module _ (c : Connective) (kept : List Asked) (ways : List (List (ℕ × ℕ))) (h : HasKept c kept ways) where
   pub none_kept : kept ≡ [] → ways ≡ decided (not (decider c))
-  none_kept e = sym h.same ∙ ap (ways_asked_by c) e ∙ none_asked c
+  none_kept e = sym h.same ∙ ap (ways_asked_by c) e
 
   pub one_kept : (a : Asked) → kept ≡ a ∷ [] → (ways_asked a ≡ ways) × AreOpen ways
   one_kept a e = (sym (one_asked c a) ∙ sym (ap (ways_asked_by c) e) ∙ h.same, open_by c ways h.undecided (h.none ∙ ap is_nil e))
@@ -84,6 +78,36 @@ module _ (c : Connective) (kept : List Asked) (ways : List (List (ℕ × ℕ))) 
       not_nil [] n = absurd (n refl)
       not_nil (a ∷ list) n = refl
 
-pub ok_finds : (r : Result Found AllocError) (vs ws : List (List (ℕ × ℕ))) → vs ≡ ws → IfOk r (λ found. Finds found vs) → IfOk r (λ found. Finds found ws)
-ok_finds (Ok found) vs ws e h = subst (Finds found) e h
-ok_finds (Err e) vs ws k h = h
+-- ways that are put behind others, one part more
+
+pub way_more : (yielded : List OrderSet) (way : OrderSet) (xs old new : List (List (ℕ × ℕ))) → old ≡ both_ways (ways_of_sets yielded) xs →
+    new ≡ old ++ map (λ w. way.pairs.items ++ w) xs → new ≡ both_ways (ways_of_sets (yielded ++ way ∷ [])) xs
+way_more yielded way xs old new so_far added =
+    added ∙ ap (λ t. t ++ map (λ w. way.pairs.items ++ w) xs) so_far
+    ∙ sym (ap (λ t. both_ways t xs) (map-append (λ (s : OrderSet). s.pairs.items) yielded (way ∷ []))
+    ∙ each_with_each-append (λ v w. v ++ w) (ways_of_sets yielded) (way.pairs.items ∷ []) xs
+    ∙ ap (λ t. both_ways (ways_of_sets yielded) xs ++ t) (append-nil (map (λ w. way.pairs.items ++ w) xs)))
+
+one_more : (c : Connective) (parts : List Asked) (i : ℕ) (part : Asked) → i < length parts → part ≡ get_or parts i part →
+    ways_asked_by c (take (i + 1) parts) ≡ open_joined c (ways_asked_by c (take i parts)) (ways_asked part)
+one_more c parts i part lt e =
+    ap (ways_asked_by c) (take_more parts i part lt) ∙ asked_more c (take i parts) (get_or parts i part)
+    ∙ ap (λ (a : Asked). open_joined c (ways_asked_by c (take i parts)) (ways_asked a)) (sym e)
+
+pub product_more : (u : List (ℕ × ℕ)) (parts : List Asked) (i : ℕ) (part : Asked) (old new : List (List (ℕ × ℕ))) →
+    i < length parts → part ≡ get_or parts i part → old ≡ map (λ w. u ++ w) (ways_asked_by And (take i parts)) →
+    new ≡ both_ways old (ways_asked part) → new ≡ map (λ w. u ++ w) (ways_asked_by And (take (i + 1) parts))
+product_more u parts i part old new lt e so_far added =
+    added ∙ ap (λ t. both_ways t (ways_asked part)) so_far
+    ∙ both_front u (ways_asked_by And (take i parts)) (ways_asked part)
+    ∙ sym (ap (map (λ w. u ++ w)) (one_more And parts i part lt e))
+
+pub sum_more : (u v : List (ℕ × ℕ)) (parts : List Asked) (i : ℕ) (part : Asked) (start old new : List (List (ℕ × ℕ))) →
+    i < length parts → part ≡ get_or parts i part → v ≡ u → old ≡ start ++ map (λ w. u ++ w) (ways_asked_by Or (take i parts)) →
+    new ≡ old ++ map (λ w. v ++ w) (ways_asked part) → new ≡ start ++ map (λ w. u ++ w) (ways_asked_by Or (take (i + 1) parts))
+sum_more u v parts i part start old new lt e same so_far added =
+    added ∙ (λ k. so_far k ++ map (λ w. same k ++ w) (ways_asked part))
+    ∙ append_assoc start (map (λ w. u ++ w) (ways_asked_by Or (take i parts))) (map (λ w. u ++ w) (ways_asked part))
+    ∙ ap (λ t. start ++ t)
+    (sym (ap (map (λ w. u ++ w)) (one_more Or parts i part lt e)
+    ∙ map-append (λ w. u ++ w) (ways_asked_by Or (take i parts)) (ways_asked part)))

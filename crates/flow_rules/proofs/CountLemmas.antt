@@ -1,17 +1,18 @@
 -- How many ways lists have that are put together, and how many pairs.
 use Rattle.std.proofs.Common.{◌≡◌, ℕ, zero, suc, ◌+◌, ◌*◌, ◌-◌, ◌^◌, ◌≤◌, ◌==◌, min, Bool, true, false, ◌||◌, ◌&&◌, if◌then◌else◌, List, [], ◌∷◌, ◌++◌, length, map, refl, sym, ap, ◌∙◌, ◌⊎◌, inl, inr, arith}
-use Rattle.std.proofs.Math.Nat.{min-eq_left, min-eq_right, zero-mul, mul-zero, suc-mul, mul-suc, add-mul, mul_comm, zero-add}
+use Rattle.std.proofs.Math.Nat.{min-eq_left, min-eq_right, zero-mul, mul-zero, suc-mul, mul-suc, add-mul, mul_comm}
 use Rattle.std.proofs.lemmas.Bool.{cases_lt, ne_eqb}
 use Rattle.std.proofs.lemmas.List.{length-append}
+use Rattle.flow_laws.proofs.MadeLists.{joined-append, length-each_with_each}
 use Rattle.flow_model.specs.Lists.{joined}
 use Rattle.flow_model.specs.Ways.{free_way, is_free}
 use Rattle.flow_rules.specs.declared.counting.WayCount.{WayCount}
 use Rattle.flow_rules.specs.declared.connective.Connective.{Connective}
 use Rattle.flow_rules.specs.declared.connective.Connective.TheVariants.{And, Or}
-use Rattle.flow_rules.specs.Counts.{kept, count_of, counts_by, counts_of_both, counts_of_either, is_decided_count, is_free_count}
+use Rattle.flow_rules.specs.Counts.{capped, count_of, counts_by, counts_of_both, counts_of_either, is_decided_count, is_free_count}
 use Rattle.flow_rules.specs.WayLists.{both_ways, either_way, is_decided, is_none, joined_by}
 
--- numbers that are kept at a greatest one
+-- numbers that are capped at a greatest one
 
 min_cases : (x m : ℕ) → ((x ≤ m) × (min x m ≡ x)) ⊎ ((m ≤ x) × (min x m ≡ m))
 min_cases x m = elim (cases_lt x m) [
@@ -19,20 +20,8 @@ min_cases x m = elim (cases_lt x m) [
   | inr h ↦ inr (h, min-eq_right h)
 ]
 
-pub sum_kept : (m x y : ℕ) → min (min x m + min y m) m ≡ min (x + y) m
-sum_kept m x y = at (min_cases x m) (min_cases y m)
-  where
-    at : ((x ≤ m) × (min x m ≡ x)) ⊎ ((m ≤ x) × (min x m ≡ m)) → ((y ≤ m) × (min y m ≡ y)) ⊎ ((m ≤ y) × (min y m ≡ m)) →
-        min (min x m + min y m) m ≡ min (x + y) m
-    at (inl (p, e)) (inl (q, f)) = λ k. min (e k + f k) m
-    at (inr (p, e)) g =
-        let one : m ≤ min x m + min y m = omega arith in
-        let other : m ≤ x + y = omega arith in
-        min-eq_right one ∙ sym (min-eq_right other)
-    at (inl (p, e)) (inr (q, f)) =
-        let one : m ≤ min x m + min y m = omega arith in
-        let other : m ≤ x + y = omega arith in
-        min-eq_right one ∙ sym (min-eq_right other)
+pub sum_capped : (m x y : ℕ) → min (min x m + min y m) m ≡ min (x + y) m
+sum_capped m x y = omega arith
 
 reaches : (m x y : ℕ) → m ≤ y → min (x * m) m ≡ min (x * y) m
 reaches m zero y h = ap (λ t. min t m) (zero-mul m ∙ sym (zero-mul y))
@@ -47,24 +36,15 @@ product_right m x y = elim (min_cases y m) [
   | inr (p, e) ↦ ap (λ t. min (x * t) m) e ∙ reaches m x y p
 ]
 
-product_kept : (m x y : ℕ) → min (min x m * min y m) m ≡ min (x * y) m
-product_kept m x y =
+product_capped : (m x y : ℕ) → min (min x m * min y m) m ≡ min (x * y) m
+product_capped m x y =
     product_right m (min x m) y ∙ ap (λ t. min t m) (mul_comm (min x m) y)
     ∙ product_right m y x ∙ ap (λ t. min t m) (mul_comm y x)
 
 -- lengths
 
 joined_length : (vs ws : List (List (ℕ × ℕ))) → length (joined (vs ++ ws)) ≡ length (joined vs) + length (joined ws)
-joined_length [] ws = sym (zero-add (length (joined ws)))
-joined_length (v ∷ vs) ws =
-    let e = joined_length vs ws in
-    let f = length-append v (joined (vs ++ ws)) in
-    let g = length-append v (joined vs) in
-    omega arith
-
-front_length : (v : List (ℕ × ℕ)) (ws : List (List (ℕ × ℕ))) → length (map (λ w. v ++ w) ws) ≡ length ws
-front_length v [] = refl
-front_length v (w ∷ ws) = ap suc (front_length v ws)
+joined_length vs ws = ap length (joined-append vs ws) ∙ length-append (joined vs) (joined ws)
 
 front_pairs : (v : List (ℕ × ℕ)) (ws : List (List (ℕ × ℕ))) →
     length (joined (map (λ w. v ++ w) ws)) ≡ length v * length ws + length (joined ws)
@@ -75,15 +55,6 @@ front_pairs v (w ∷ ws) =
     let g = length-append v w in
     let h = length-append w (joined ws) in
     let i = mul-suc (length v) (length ws) in
-    omega arith
-
-both_length : (vs ws : List (List (ℕ × ℕ))) → length (both_ways vs ws) ≡ length vs * length ws
-both_length [] ws = sym (zero-mul (length ws))
-both_length (v ∷ vs) ws =
-    let e = both_length vs ws in
-    let f = length-append (map (λ w. v ++ w) ws) (both_ways vs ws) in
-    let g = front_length v ws in
-    let h = suc-mul (length vs) (length ws) in
     omega arith
 
 both_pairs : (vs ws : List (List (ℕ × ℕ))) →
@@ -104,26 +75,20 @@ both_pairs (v ∷ vs) ws =
 pub count_both : (vs ws : List (List (ℕ × ℕ))) → count_of (both_ways vs ws) ≡ counts_of_both (count_of vs) (count_of ws)
 count_both vs ws =
     let m : ℕ = 2 ^ 64 - 1 in
-    let ways : kept (length (both_ways vs ws)) ≡ kept (kept (length vs) * kept (length ws)) =
-    ap kept (both_length vs ws) ∙ sym (product_kept m (length vs) (length ws)) in
-    let front : kept (length (joined vs) * length ws) ≡ kept (kept (length (joined vs)) * kept (length ws)) =
-    sym (product_kept m (length (joined vs)) (length ws)) in
-    let back : kept (length vs * length (joined ws)) ≡ kept (kept (length vs) * kept (length (joined ws))) =
-    sym (product_kept m (length vs) (length (joined ws))) in
-    let whole : kept (length (joined vs) * length ws + length vs * length (joined ws))
-    ≡ kept (kept (length (joined vs) * length ws) + kept (length vs * length (joined ws))) =
-    sym (sum_kept m (length (joined vs) * length ws) (length vs * length (joined ws))) in
-    let pairs : kept (length (joined (both_ways vs ws)))
-    ≡ kept (kept (kept (length (joined vs)) * kept (length ws)) + kept (kept (length vs) * kept (length (joined ws)))) =
-    ap kept (both_pairs vs ws) ∙ whole ∙ (λ k. kept (front k + back k)) in
+    let ways = ap capped (length-each_with_each (λ v w. v ++ w) vs ws) ∙ sym (product_capped m (length vs) (length ws)) in
+    let front = product_capped m (length (joined vs)) (length ws) in
+    let back = product_capped m (length vs) (length (joined ws)) in
+    let pairs =
+    ap capped (both_pairs vs ws) ∙ sym (sum_capped m (length (joined vs) * length ws) (length vs * length (joined ws)))
+    ∙ sym (λ k. capped (front k + back k)) in
     λ k. record { ways = ways k; pairs = pairs k }
 
-some_left : (n : ℕ) → (kept (suc n) == 0) ≡ false
-some_left n = ne_eqb (kept (suc n)) 0 (λ e. elim (min_cases (suc n) (2 ^ 64 - 1)) [ inl (p, f) ↦ omega arith | inr (p, f) ↦ omega arith ])
+some_left : (n : ℕ) → (capped (suc n) == 0) ≡ false
+some_left n = ne_eqb (capped (suc n)) 0 (λ e. elim (min_cases (suc n) (2 ^ 64 - 1)) [ inl (p, f) ↦ omega arith | inr (p, f) ↦ omega arith ])
 
-two_left : (n : ℕ) → (kept (suc (suc n)) == 1) ≡ false
+two_left : (n : ℕ) → (capped (suc (suc n)) == 1) ≡ false
 two_left n =
-    ne_eqb (kept (suc (suc n))) 1
+    ne_eqb (capped (suc (suc n))) 1
     (λ e. elim (min_cases (suc (suc n)) (2 ^ 64 - 1)) [ inl (p, f) ↦ omega arith | inr (p, f) ↦ omega arith ])
 
 and_false : (b c : Bool) → c ≡ false → (b && c) ≡ false
@@ -132,9 +97,9 @@ and_false false c e = refl
 
 pub free_count : (ws : List (List (ℕ × ℕ))) → is_free_count (count_of ws) ≡ is_free ws
 free_count [] = refl
-free_count ((pair ∷ pairs) ∷ ws) = and_false (kept (suc (length ws)) == 1) _ (some_left (length (pairs ++ joined ws)))
+free_count ((pair ∷ pairs) ∷ ws) = and_false (capped (suc (length ws)) == 1) _ (some_left (length (pairs ++ joined ws)))
 free_count ([] ∷ []) = refl
-free_count ([] ∷ w ∷ ws) = ap (λ b. b && (kept (length (joined (w ∷ ws))) == 0)) (two_left (length ws))
+free_count ([] ∷ w ∷ ws) = ap (λ b. b && (capped (length (joined (w ∷ ws))) == 0)) (two_left (length ws))
 
 pub count_either : (vs ws : List (List (ℕ × ℕ))) → count_of (either_way vs ws) ≡ counts_of_either (count_of vs) (count_of ws)
 count_either vs ws =
@@ -143,18 +108,16 @@ count_either vs ws =
   where
     total : WayCount
     total = record {
-      ways = kept (kept (length vs) + kept (length ws));
-      pairs = kept (kept (length (joined vs)) + kept (length (joined ws)));
+      ways = capped (capped (length vs) + capped (length ws));
+      pairs = capped (capped (length (joined vs)) + capped (length (joined ws)));
     }
 
     at : (b : Bool) → count_of (if b then free_way else vs ++ ws) ≡ (if b then record { ways = 1; pairs = 0 } else total)
     at true = refl
     at false =
         let m : ℕ = 2 ^ 64 - 1 in
-        let ways : kept (length (vs ++ ws)) ≡ kept (kept (length vs) + kept (length ws)) =
-        ap kept (length-append vs ws) ∙ sym (sum_kept m (length vs) (length ws)) in
-        let pairs : kept (length (joined (vs ++ ws))) ≡ kept (kept (length (joined vs)) + kept (length (joined ws))) =
-        ap kept (joined_length vs ws) ∙ sym (sum_kept m (length (joined vs)) (length (joined ws))) in
+        let ways = ap capped (length-append vs ws) ∙ sym (sum_capped m (length vs) (length ws)) in
+        let pairs = ap capped (joined_length vs ws) ∙ sym (sum_capped m (length (joined vs)) (length (joined ws))) in
         λ k. record { ways = ways k; pairs = pairs k }
 
 pub none_left : (ws : List (List (ℕ × ℕ))) → ((count_of ws).ways == 0) ≡ is_none ws

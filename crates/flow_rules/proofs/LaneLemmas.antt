@@ -1,14 +1,9 @@
 -- A word of a table in which one lane is marked.
-use Rattle.std.proofs.Common.{◌≡◌, ◌≢◌, ℕ, ◌*◌, ◌%◌, ◌^◌, ◌<◌, ◌==◌, ◌&&◌, ◌||◌, Bool, true, false, zero, suc, List, [], ◌∷◌, length, get_or, set, refl, sym, ap, ◌∙◌, ⊎_elim, arith, bit_or, w64, get_or-set_same, get_or-set_other}
+use Rattle.std.proofs.Common.{◌≡◌, ◌≢◌, ℕ, ◌*◌, ◌%◌, ◌^◌, ◌<◌, ◌==◌, ◌&&◌, ◌||◌, Bool, true, false, List, length, get_or, set, refl, sym, ap, ◌∙◌, ⊎_elim, bit_or, w64, get_or-set_same, get_or-set_other}
 use Rattle.std.proofs.lemmas.Bool.{cases_eq, eq-eqb, ne_eqb}
+use Rattle.std.proofs.lemmas.List.{get_or_read}
 use Rattle.std.proofs.lemmas.Nat.Bits.{bit_at_set_same, bit_at_set_other}
 use Rattle.std.specs.Int.{bit_at}
-
--- an item within the list is the same whatever stands for those beyond it
-same_item : (xs : List ℕ) (i a b : ℕ) → i < length xs → get_or xs i a ≡ get_or xs i b
-same_item [] i a b h = absurd (omega arith)
-same_item (x ∷ xs) zero a b h = refl
-same_item (x ∷ xs) (suc i) a b h = same_item xs i a b (omega arith)
 
 nowhere : (b x : Bool) → (b && false || x) ≡ x
 nowhere true x = refl
@@ -38,7 +33,7 @@ marked_word words event lane other q word within low read =
     ap (λ e. bit_at (get_or (set words event v) e 0) other == 1) here
     ∙ ap (λ w. bit_at w other == 1) (get_or-set_same words event v 0 within)
     ∙ marked_lane word lane other low
-    ∙ ap (λ w. other == lane && true || bit_at w other == 1) (read ∙ same_item words event word 0 within ∙ ap (λ e. get_or words e 0) (sym here))
+    ∙ ap (λ w. other == lane && true || bit_at w other == 1) (get_or_read words event word within read 0 ∙ ap (λ e. get_or words e 0) (sym here))
     ∙ sym (ap (λ b. other == lane && b || old) (eq-eqb event q (sym here))))
     (λ (apart : q ≢ event).
     ap (λ w. bit_at w other == 1) (get_or-set_other words event q v 0 apart)

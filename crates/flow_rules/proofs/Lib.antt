@@ -1,10 +1,7 @@
 mod AskedLemmas
-pub mod ConjunctionLemmas
 pub mod CountLemmas
-mod FormViews
 mod LaneLemmas
 pub mod LeafLemmas
-mod ListingLemmas
 mod NarrowLemmas
 mod NormalViews
 pub mod RuleViews

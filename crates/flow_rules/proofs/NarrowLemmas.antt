@@ -5,21 +5,21 @@ use Rattle.std.proofs.lemmas.Bool.Decides.{nat_tests}
 use Rattle.std.proofs.lemmas.Nat.{and_le_l}
 use Rattle.std.proofs.lemmas.Nat.Bits.{bit_at-lt, bit_at-zero, same_from_bits_below}
 use Rattle.std.specs.Int.{bit_at}
+use Rattle.std.proofs.lemmas.List.Sums.{fold-append}
 use Rattle.flow_model.specs.Ways.{free_way, ways}
 use Rattle.flow_rules.specs.declared.lanes.Lanes.{Lanes}
 use Rattle.flow_rules.specs.declared.narrowed.LaneRule.{LaneRule}
 use Rattle.flow_rules.specs.declared.normal.Nnf.{Nnf}
 use Rattle.flow_rules.specs.declared.standing.Standing.{Standing}
 use Rattle.flow_rules.specs.Lanes.{Shows}
-use Rattle.flow_rules.specs.Narrow.{HasWaysIn}
-use Rattle.flow_rules.specs.Narrowed.{open_ways, with_open}
+use Rattle.flow_rules.specs.Narrowed.{HasWaysIn, open_ways, with_open}
 use Rattle.flow_rules.specs.Normal.{normal_of}
 use Rattle.flow_rules.specs.declared.connective.Connective.{Connective}
 use Rattle.flow_rules.specs.declared.connective.Connective.TheVariants.{And}
 use Rattle.flow_rules.specs.Standing.{Stands, has_lane, lanes_where}
 use Rattle.flow_rules.specs.WayLists.{both_ways, decided, decider, joined_by, ways_of_parts}
 use Rattle.flow_rules.proofs.StandingLemmas.{lane_and, lane_none, lane_not, lane_or}
-use Rattle.flow_rules.proofs.WayListLemmas.{decided_is, fold_push, joined_idle, parts_more}
+use Rattle.flow_rules.proofs.WayListLemmas.{decided_is, joined_idle, parts_more}
 
 -- a word that covers the lanes of another
 
@@ -66,7 +66,7 @@ module _ (c : Connective) (wanted : ℕ) (lanes : Lanes) (parts : List Nnf) (i :
   pub keeps_with : (kept new : List Nnf) (rule : Nnf) → new ≡ kept ++ rule ∷ [] → HasWaysIn rule wanted lanes (ways (normal_of part)) →
       KeepsWays c wanted lanes kept (take i parts) → KeepsWays c wanted lanes new (take (i + 1) parts)
   keeps_with kept new rule pushed same so_far = λ lane leaf within shows has.
-      ap (ways_of_parts c leaf) pushed ∙ fold_push (λ vs r. joined_by c vs (ways (normal_of r) leaf)) kept (decided (not (decider c))) rule
+      ap (ways_of_parts c leaf) pushed ∙ fold-append (λ vs r. joined_by c vs (ways (normal_of r) leaf)) (decided (not (decider c))) kept (rule ∷ [])
       ∙ (λ k. joined_by c (so_far lane leaf within shows has k) (same lane leaf within shows has k)) ∙ sym (parts_more c leaf parts i part inside is)
 
   pub keeps_without : (kept : List Nnf) (s : Standing) → Stands s lanes (ways (normal_of part)) →
@@ -116,7 +116,7 @@ module _ (unmet : ℕ) (lanes : Lanes) (rules : List Nnf) (i : ℕ) (rule : Nnf)
   left_in left new r pushed opens same so_far = λ lane leaf within shows met.
       let this : (b : Bool) → has_lane r.lanes lane ≡ b → (if b then both_ways (open_ways lane leaf left) (ways (normal_of r.rule) leaf) else open_ways lane leaf left) ≡ ways_of_parts And leaf (take (i + 1) rules) =
       at lane leaf within shows met in
-      ap (open_ways lane leaf) pushed ∙ fold_push (with_open lane leaf) left free_way r ∙ this (has_lane r.lanes lane) refl
+      ap (open_ways lane leaf) pushed ∙ fold-append (with_open lane leaf) free_way left (r ∷ []) ∙ this (has_lane r.lanes lane) refl
     where
       at : (lane : ℕ) (leaf : ℕ → Option ℕ) → lane < 64 → Shows lanes lane leaf → has_lane unmet lane ≡ false → (b : Bool) → has_lane r.lanes lane ≡ b →
           (if b then both_ways (open_ways lane leaf left) (ways (normal_of r.rule) leaf) else open_ways lane leaf left) ≡ ways_of_parts And leaf (take (i + 1) rules)

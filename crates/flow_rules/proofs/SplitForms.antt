@@ -1,12 +1,10 @@
 -- The normal forms that the code makes have the ways of those of the definitions.
-use Rattle.std.proofs.Common.{◌≡◌, ℕ, Bool, true, false, not, List, [], ◌∷◌, Vec, Global, map, fold, refl, sym, ap, ◌∙◌, Option, Result, Ok, Err, IfOk}
-use Rattle.std.specs.declared.alloc.AllocError.{AllocError}
+use Rattle.std.proofs.Common.{◌≡◌, ℕ, Bool, true, false, not, List, [], ◌∷◌, Vec, Global, map, fold, refl, sym, ap, ◌∙◌, Option}
 use Rattle.flow_model.specs.Constraint.{Constraint, Always, Impossible, Must, Never, Order, Not, And, Or, all_of}
 use Rattle.flow_model.specs.Ways.{Normal, both, either, before, not_before, normal_form, chain, broken_chain, ways}
-use Rattle.flow_rules.specs.declared.normal.Nnf.{Nnf}
 use Rattle.flow_rules.specs.declared.rule.Rule as rule
 use Rattle.flow_rules.specs.declared.rule.Rule.{Rule}
-use Rattle.flow_rules.specs.Normal.{normal_of, all_form, pair_form, split_chain, split_form, linked}
+use Rattle.flow_rules.specs.Normal.{all_form, pair_form, split_chain, split_form, linked}
 use Rattle.flow_rules.specs.Rule.{any_of, rule_of, rules_of}
 use Rattle.flow_rules.specs.WayLists.{both_ways, either_way}
 use Rattle.flow_rules.proofs.RuleViews.{rule_of-And, rule_of-Or}
@@ -29,7 +27,7 @@ split_joined op f wanted h [] c = refl
 split_joined op f wanted h (r ∷ rules) c =
     split_joined op f wanted h rules (op c (rule_of r)) ∙ ap (λ n. fold f n (split_rules wanted rules)) (h c (rule_of r))
 
-split_all : (wanted : Bool) (rules : List Rule) → split_form (all_of (rules_of rules)) wanted ≡ all_form wanted (split_rules wanted rules)
+pub split_all : (wanted : Bool) (rules : List Rule) → split_form (all_of (rules_of rules)) wanted ≡ all_form wanted (split_rules wanted rules)
 split_all true rules = split_joined And both true (λ c d. refl) rules Always
 split_all false rules = split_joined And either false (λ c d. refl) rules Always
 
@@ -92,8 +90,3 @@ same_ways leaf (And c d) true = λ k. both_ways (same_ways leaf c true k) (same_
 same_ways leaf (And c d) false = λ k. either_way (same_ways leaf c false k) (same_ways leaf d false k)
 same_ways leaf (Or c d) true = λ k. either_way (same_ways leaf c true k) (same_ways leaf d true k)
 same_ways leaf (Or c d) false = λ k. both_ways (same_ways leaf c false k) (same_ways leaf d false k)
-
-pub ok_same_ways : (r : Result Nnf AllocError) (c : Constraint) → IfOk r (λ n. normal_of n ≡ split_form c true) →
-    IfOk r (λ n. (leaf : ℕ → Option ℕ) → ways (normal_of n) leaf ≡ ways (normal_form c true) leaf)
-ok_same_ways (Ok n) c h = λ leaf. ap (λ x. ways x leaf) h ∙ same_ways leaf c true
-ok_same_ways (Err f) c h = h

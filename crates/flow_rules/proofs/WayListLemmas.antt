@@ -1,7 +1,8 @@
 -- Lists of ways put together.
 use Rattle.std.proofs.Common.{◌≡◌, ℕ, zero, suc, ◌+◌, ◌<◌, Bool, true, false, not, ◌||◌, ◌&&◌, if◌then◌else◌, Option, List, [], ◌∷◌, ◌++◌, length, take, get_or, map, fold, refl, sym, ap, ◌∙◌, append_assoc, append-nil, true≢false}
-use Rattle.std.proofs.lemmas.List.{take_more, map-append}
-use Rattle.flow_model.specs.Lists.{each_with_each, joined}
+use Rattle.std.proofs.lemmas.List.{map-append, map-id, take_more}
+use Rattle.std.proofs.lemmas.List.Sums.{fold-append}
+use Rattle.flow_model.specs.Lists.{each_with_each}
 use Rattle.flow_model.specs.Ways.{free_way, is_free, ways}
 pub use Rattle.flow_laws.proofs.WaysLemmas.{free_is}
 use Rattle.flow_rules.specs.declared.connective.Connective.{Connective}
@@ -10,41 +11,23 @@ use Rattle.flow_rules.specs.declared.normal.Nnf.{Nnf}
 use Rattle.flow_rules.specs.Normal.{normal_of}
 use Rattle.flow_rules.specs.WayLists.{both_ways, decided, decider, either_way, is_decided, is_none, joined_by, ways_of_parts}
 
--- one member more
-
-pub fold_push : {A B : Type 0} (f : B → A → B) (xs : List A) (z : B) (x : A) → fold f z (xs ++ x ∷ []) ≡ f (fold f z xs) x
-fold_push f [] z x = refl
-fold_push f (y ∷ ys) z x = fold_push f ys (f z y) x
-
 -- a fold over one member more of a list
 pub fold_more : {A B : Type 0} (f : B → A → B) (z : B) (xs : List A) (i : ℕ) (x : A) → i < length xs → x ≡ get_or xs i x →
     fold f z (take (i + 1) xs) ≡ f (fold f z (take i xs)) x
 fold_more f z xs i x h e =
-    ap (fold f z) (take_more xs i x h) ∙ fold_push f (take i xs) z (get_or xs i x) ∙ ap (f (fold f z (take i xs))) (sym e)
-
-pub joined_push : {A : Type 0} (xs : List (List A)) (x : List A) → joined (xs ++ x ∷ []) ≡ joined xs ++ x
-joined_push [] x = append-nil x
-joined_push (y ∷ ys) x = ap (λ t. y ++ t) (joined_push ys x) ∙ sym (append_assoc y (joined ys) x)
-
-pub each_push : {A B C : Type 0} (f : A → B → C) (xs : List A) (x : A) (ys : List B) →
-    each_with_each f (xs ++ x ∷ []) ys ≡ each_with_each f xs ys ++ map (f x) ys
-each_push f [] x ys = append-nil (map (f x) ys)
-each_push f (z ∷ xs) x ys = ap (λ w. map (f z) ys ++ w) (each_push f xs x ys) ∙ sym (append_assoc (map (f z) ys) _ (map (f x) ys))
+    ap (fold f z) (take_more xs i x h) ∙ fold-append f z (take i xs) (get_or xs i x ∷ []) ∙ ap (f (fold f z (take i xs))) (sym e)
 
 -- each of the first ways with each of the others
 
-pub map_nothing : (ws : List (List (ℕ × ℕ))) → map (λ w. [] ++ w) ws ≡ ws
-map_nothing [] = refl
-map_nothing (w ∷ ws) = ap (λ t. w ∷ t) (map_nothing ws)
-
 pub both_free : (ws : List (List (ℕ × ℕ))) → both_ways free_way ws ≡ ws
-both_free ws = append-nil (map (λ w. [] ++ w) ws) ∙ map_nothing ws
+both_free ws = append-nil (map (λ w. [] ++ w) ws) ∙ map-id ws
 
-both_split : (us vs ws : List (List (ℕ × ℕ))) → both_ways (us ++ vs) ws ≡ both_ways us ws ++ both_ways vs ws
-both_split [] vs ws = refl
-both_split (u ∷ us) vs ws =
-    ap (λ t. map (λ w. u ++ w) ws ++ t) (both_split us vs ws)
-    ∙ sym (append_assoc (map (λ w. u ++ w) ws) (both_ways us ws) (both_ways vs ws))
+pub each_with_each-append : {A B C : Type 0} (f : A → B → C) (xs ys : List A) (zs : List B) →
+    each_with_each f (xs ++ ys) zs ≡ each_with_each f xs zs ++ each_with_each f ys zs
+each_with_each-append f [] ys zs = refl
+each_with_each-append f (x ∷ xs) ys zs =
+    ap (λ w. map (f x) zs ++ w) (each_with_each-append f xs ys zs)
+    ∙ sym (append_assoc (map (f x) zs) (each_with_each f xs zs) (each_with_each f ys zs))
 
 map_twice : (u v : List (ℕ × ℕ)) (ws : List (List (ℕ × ℕ))) → map (λ w. (u ++ v) ++ w) ws ≡ map (λ w. u ++ w) (map (λ w. v ++ w) ws)
 map_twice u v [] = refl
@@ -59,7 +42,7 @@ both_front u (v ∷ vs) ws =
 pub both_assoc : (us vs ws : List (List (ℕ × ℕ))) → both_ways (both_ways us vs) ws ≡ both_ways us (both_ways vs ws)
 both_assoc [] vs ws = refl
 both_assoc (u ∷ us) vs ws =
-    both_split (map (λ v. u ++ v) vs) (both_ways us vs) ws
+    each_with_each-append (λ v w. v ++ w) (map (λ v. u ++ v) vs) (both_ways us vs) ws
     ∙ (λ k. both_front u vs ws k ++ both_assoc us vs ws k)
 
 -- a list with no way in it
@@ -147,12 +130,6 @@ none_of_either (v ∷ vs) ws = at (is_free (v ∷ vs) || is_free ws)
     at : (b : Bool) → is_none (if b then free_way else (v ∷ vs) ++ ws) ≡ false
     at true = refl
     at false = refl
-
-pub joined_more : {A : Type 0} (f : A → List (List (ℕ × ℕ))) (xs : List A) (i : ℕ) (x : A) → i < length xs → x ≡ get_or xs i x →
-    joined (map f (take (i + 1) xs)) ≡ joined (map f (take i xs)) ++ f x
-joined_more f xs i x h e =
-    ap (λ t. joined (map f t)) (take_more xs i x h) ∙ ap joined (map-append f (take i xs) (get_or xs i x ∷ []))
-    ∙ joined_push (map f (take i xs)) (f (get_or xs i x)) ∙ ap (λ y. joined (map f (take i xs)) ++ f y) (sym e)
 
 -- parts that are joined
 

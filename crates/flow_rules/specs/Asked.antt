@@ -1,7 +1,5 @@
 -- What a rule asks of some leaves.
-use Rattle.std.specs.Prelude.{◌≡◌, ℕ, Bool, true, false, not, List, [], ◌∷◌, map, fold}
-use Rattle.flow_model.specs.Lists.{joined}
-use Rattle.flow_model.specs.Ways.{free_way}
+use Rattle.std.specs.Prelude.{◌≡◌, ℕ, Bool, true, false, not, List, [], ◌∷◌, ◌++◌, map, fold}
 use Rattle.flow_rules.specs.declared.asked.Asked.{Asked}
 use Rattle.flow_rules.specs.declared.asked.Asked.TheOpen as open_asked
 use Rattle.flow_rules.specs.declared.asked.Asked.TheOpen.{Asked-F}
@@ -12,10 +10,14 @@ use Rattle.flow_rules.specs.declared.connective.Connective.{Connective}
 use Rattle.flow_rules.specs.declared.connective.Connective.TheVariants.{And, Or}
 use Rattle.flow_rules.specs.WayLists.{both_ways, decided, decider, is_decided}
 
--- the ways of parts that each ask for an order
+-- the ways of two parts that each ask for an order
+abbrev pub open_joined : Connective → List (List (ℕ × ℕ)) → List (List (ℕ × ℕ)) → List (List (ℕ × ℕ))
+open_joined And vs ws = both_ways vs ws
+open_joined Or vs ws = vs ++ ws
+
+-- the ways of such parts
 abbrev pub open_ways_by : Connective → List (List (List (ℕ × ℕ))) → List (List (ℕ × ℕ))
-open_ways_by And parts = fold both_ways free_way parts
-open_ways_by Or parts = joined parts
+open_ways_by c parts = fold (open_joined c) (decided (not (decider c))) parts
 
 -- the ways in which it is met, with those of each part in its place
 abbrev pub asked_step : Asked-F (List (List (ℕ × ℕ))) → List (List (ℕ × ℕ))

@@ -6,12 +6,12 @@ use Rattle.flow_rules.specs.declared.connective.Connective.TheVariants.{And, Or}
 use Rattle.flow_rules.specs.declared.counting.WayCount.{WayCount}
 
 -- the number, or the greatest one of 64 bits
-abbrev pub kept : ℕ → ℕ
-kept n = min n (2 ^ 64 - 1)
+abbrev pub capped : ℕ → ℕ
+capped n = min n (2 ^ 64 - 1)
 
 -- how many ways the list has, and how many pairs in all of them
 abbrev pub count_of : List (List (ℕ × ℕ)) → WayCount
-count_of ways = record { ways = kept (length ways); pairs = kept (length (joined ways)) }
+count_of ways = record { ways = capped (length ways); pairs = capped (length (joined ways)) }
 
 -- the one way that asks for nothing is all
 abbrev pub is_free_count : WayCount → Bool
@@ -20,15 +20,15 @@ is_free_count c = c.ways == 1 && c.pairs == 0
 -- the counts of each way with each of others
 abbrev pub counts_of_both : WayCount → WayCount → WayCount
 counts_of_both c d = record {
-  ways = kept (c.ways * d.ways);
-  pairs = kept (kept (c.pairs * d.ways) + kept (c.ways * d.pairs));
+  ways = capped (c.ways * d.ways);
+  pairs = capped (capped (c.pairs * d.ways) + capped (c.ways * d.pairs));
 }
 
 -- the counts of ways and others, or of the one that asks for nothing
 abbrev pub counts_of_either : WayCount → WayCount → WayCount
 counts_of_either c d =
     if is_free_count c || is_free_count d then record { ways = 1; pairs = 0 }
-    else record { ways = kept (c.ways + d.ways); pairs = kept (c.pairs + d.pairs) }
+    else record { ways = capped (c.ways + d.ways); pairs = capped (c.pairs + d.pairs) }
 
 abbrev pub counts_by : Connective → WayCount → WayCount → WayCount
 counts_by And c d = counts_of_both c d

@@ -2,9 +2,7 @@ pub mod Asked
 pub mod Conjunction
 pub mod Counts
 pub mod EventLeaves
-pub mod Kept
 pub mod Lanes
-pub mod Narrow
 pub mod Narrowed
 pub mod Normal
 pub mod NormalForm

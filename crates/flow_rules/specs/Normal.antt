@@ -2,6 +2,8 @@
 use Rattle.std.specs.Prelude.{ℕ, Bool, true, false, not, List, [], ◌∷◌, map, fold}
 use Rattle.flow_model.specs.Constraint.{Constraint, Always, Impossible, Must, Never, Order, Not, And, Or}
 use Rattle.flow_model.specs.Ways.{Normal, always, impossible, must, never, before, not_before, both, either}
+use Rattle.flow_rules.specs.declared.connective.Connective.{Connective}
+use Rattle.flow_rules.specs.declared.connective.Connective.TheVariants as connective
 use Rattle.flow_rules.specs.declared.normal.Nnf.{Nnf}
 use Rattle.flow_rules.specs.declared.normal.Nnf.TheOpen as open_nnf
 use Rattle.flow_rules.specs.declared.normal.Nnf.TheOpen.{Nnf-F}
@@ -11,18 +13,26 @@ use Rattle.flow_rules.specs.declared.normal.Nnf.TheFolds.{fold-Nnf}
 abbrev pub all_normals : List Normal → Normal
 all_normals ns = fold both always ns
 
--- one of them, joined from the left
-abbrev pub any_normals : List Normal → Normal
-any_normals ns = fold either impossible ns
+-- normal forms that are joined so, from the left
+abbrev pub joined_normals : Connective → List Normal → Normal
+joined_normals connective.And ns = all_normals ns
+joined_normals connective.Or ns = fold either impossible ns
+
+-- one event where it is wanted, and else not
+abbrev pub event_form : Bool → ℕ → Normal
+event_form true e = must e
+event_form false e = never e
+
+-- one event before another where it is wanted, and else not
+abbrev pub pair_form : Bool → ℕ → ℕ → Normal
+pair_form true a b = before a b
+pair_form false a b = not_before a b
 
 -- one normal form, with that of the definitions in place of each inner one
 abbrev pub normal_step : Nnf-F Normal → Normal
-normal_step (open_nnf.Must e) = must e
-normal_step (open_nnf.Never e) = never e
-normal_step (open_nnf.Before a b) = before a b
-normal_step (open_nnf.NotBefore a b) = not_before a b
-normal_step (open_nnf.And ns) = all_normals ns.items
-normal_step (open_nnf.Or ns) = any_normals ns.items
+normal_step (open_nnf.Event wanted e) = event_form wanted e
+normal_step (open_nnf.Order wanted a b) = pair_form wanted a b
+normal_step (open_nnf.Parts c ns) = joined_normals c ns.items
 
 abbrev pub normal_of : Nnf → Normal
 normal_of = fold-Nnf Normal normal_step
@@ -35,21 +45,19 @@ abbrev pub linked : {A : Type 0} → (ℕ → ℕ → A) → ℕ → List ℕ �
 linked f first [] = []
 linked f first (next ∷ more) = f first next ∷ linked f next more
 
--- one event before another where it is wanted, and else not
-abbrev pub pair_form : Bool → ℕ → ℕ → Normal
-pair_form true a b = before a b
-pair_form false a b = not_before a b
+-- how parts are joined of which all are wanted, or of whose negations one is
+abbrev pub joining : Bool → Connective
+joining true = connective.And
+joining false = connective.Or
 
 -- all of them where they are wanted, and else one of them
 abbrev pub all_form : Bool → List Normal → Normal
-all_form true ns = all_normals ns
-all_form false ns = any_normals ns
+all_form wanted ns = joined_normals (joining wanted) ns
 
 -- an order of events, or its negation where it is not wanted
 abbrev pub split_chain : Bool → List ℕ → Normal
 split_chain wanted [] = all_form wanted []
-split_chain true (e ∷ []) = must e
-split_chain false (e ∷ []) = never e
+split_chain wanted (e ∷ []) = event_form wanted e
 split_chain wanted (a ∷ b ∷ more) = all_form wanted (linked (pair_form wanted) a (b ∷ more))
 
 -- the normal form of a constraint, or of its negation where it is not wanted, its orders lists of pairs

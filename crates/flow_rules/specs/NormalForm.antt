@@ -1,5 +1,7 @@
 -- The normal form of a rule: its orders split into pairs, negation carried inward, its lists kept.
 use Rattle.std.specs.Prelude.{ℕ, Bool, true, false, not, List, [], ◌∷◌, map}
+use Rattle.flow_rules.specs.declared.connective.Connective.{Connective}
+use Rattle.flow_rules.specs.declared.connective.Connective.TheVariants.{And, Or}
 use Rattle.flow_rules.specs.declared.normal.Nnf.{Nnf}
 use Rattle.flow_rules.specs.declared.normal.Nnf.TheOpen as open_nnf
 use Rattle.flow_rules.specs.declared.normal.Nnf.TheOpen.{Nnf-F}
@@ -8,6 +10,7 @@ use Rattle.flow_rules.specs.declared.rule.Rule.{Rule}
 use Rattle.flow_rules.specs.declared.rule.Rule.TheOpen as open_rule
 use Rattle.flow_rules.specs.declared.rule.Rule.TheOpen.{Rule-F}
 use Rattle.flow_rules.specs.declared.rule.Rule.TheFolds.{fold-Rule}
+use Rattle.flow_rules.specs.Normal.{joining, linked}
 
 mutual
   pub data NormalForm : Type 0 where
@@ -27,18 +30,6 @@ abbrev pub listed : List NormalForm → NormalForms
 listed [] = no_more
 listed (f ∷ fs) = followed f (listed fs)
 
--- a normal form of the code, with that of each part in its place
-abbrev pub form_step : Nnf-F NormalForm → NormalForm
-form_step (open_nnf.Must e) = must e
-form_step (open_nnf.Never e) = never e
-form_step (open_nnf.Before a b) = before a b
-form_step (open_nnf.NotBefore a b) = not_before a b
-form_step (open_nnf.And fs) = all (listed fs.items)
-form_step (open_nnf.Or fs) = any (listed fs.items)
-
-abbrev pub form_of : Nnf → NormalForm
-form_of = fold-Nnf NormalForm form_step
-
 -- Each of these says what is wanted of it where the flag is true, and else the negation.
 
 -- an event
@@ -51,22 +42,29 @@ abbrev pub order_form : Bool → ℕ → ℕ → NormalForm
 order_form true a b = before a b
 order_form false a b = not_before a b
 
+-- the parts that are joined so
+abbrev pub joined_form : Connective → List NormalForm → NormalForm
+joined_form And fs = all (listed fs)
+joined_form Or fs = any (listed fs)
+
 -- all of these, where negations of parts stand in the place of parts
 abbrev pub list_form : Bool → List NormalForm → NormalForm
-list_form true fs = all (listed fs)
-list_form false fs = any (listed fs)
+list_form wanted fs = joined_form (joining wanted) fs
 
--- each event before the next one
-abbrev pub neighbours : Bool → List ℕ → List NormalForm
-neighbours wanted [] = []
-neighbours wanted (a ∷ []) = []
-neighbours wanted (a ∷ b ∷ more) = order_form wanted a b ∷ neighbours wanted (b ∷ more)
+-- a normal form of the code, with that of each part in its place
+abbrev pub form_step : Nnf-F NormalForm → NormalForm
+form_step (open_nnf.Event wanted e) = event_form wanted e
+form_step (open_nnf.Order wanted a b) = order_form wanted a b
+form_step (open_nnf.Parts c fs) = joined_form c fs.items
+
+abbrev pub form_of : Nnf → NormalForm
+form_of = fold-Nnf NormalForm form_step
 
 -- a chain of events
 abbrev pub chain_form : Bool → List ℕ → NormalForm
 chain_form wanted [] = list_form wanted []
 chain_form wanted (a ∷ []) = event_form wanted a
-chain_form wanted (a ∷ b ∷ more) = list_form wanted (neighbours wanted (a ∷ b ∷ more))
+chain_form wanted (a ∷ b ∷ more) = list_form wanted (linked (order_form wanted) a (b ∷ more))
 
 -- a rule, with what each part is in the place of the part
 abbrev pub rule_form_step : Rule-F (Bool → NormalForm) → Bool → NormalForm

@@ -1,5 +1,5 @@
 -- Lists of ways put together.
-use Rattle.std.specs.Prelude.{ℕ, Bool, true, false, not, ◌||◌, if◌then◌else◌, List, [], ◌∷◌, ◌++◌, Option, map, fold}
+use Rattle.std.specs.Prelude.{ℕ, Bool, true, false, not, ◌||◌, if◌then◌else◌, ◌==◌, List, [], ◌∷◌, ◌++◌, Option, Some, None, map, fold}
 use Rattle.flow_model.specs.Lists.{each_with_each}
 use Rattle.flow_model.specs.Ways.{free_way, is_free, ways}
 use Rattle.flow_rules.specs.declared.connective.Connective.{Connective}
@@ -25,6 +25,22 @@ decided false = []
 abbrev pub is_decided : Bool → List (List (ℕ × ℕ)) → Bool
 is_decided true ways = is_free ways
 is_decided false ways = is_none ways
+
+-- two leaves, the first before the second where it is wanted so, and else the other way round
+abbrev pub pair_of : Bool → Option ℕ → Option ℕ → Option (ℕ × ℕ)
+pair_of wanted None y = None
+pair_of wanted (Some x) None = None
+pair_of true (Some x) (Some y) = Some (x, y)
+pair_of false (Some x) (Some y) = Some (y, x)
+
+-- the leaves of two events
+abbrev pub pair_in : (ℕ → Option ℕ) → Bool → ℕ → ℕ → Option (ℕ × ℕ)
+pair_in leaf wanted a b = if a == b then None else pair_of wanted (leaf a) (leaf b)
+
+-- the way with that pair, or what is decided where there is none
+abbrev pub ways_of_pair : Bool → Option (ℕ × ℕ) → List (List (ℕ × ℕ))
+ways_of_pair wanted None = decided (not wanted)
+ways_of_pair wanted (Some pair) = (pair ∷ []) ∷ []
 
 -- each of the first ways with each of the others
 abbrev pub both_ways : List (List (ℕ × ℕ)) → List (List (ℕ × ℕ)) → List (List (ℕ × ℕ))

@@ -2,14 +2,13 @@ ghost use Rattle.std.specs.Prelude.{◌≡◌, ℕ, List, IfOk};
 ghost use Rattle.flow_model.specs.Ways as model;
 ghost use Rattle.flow_rules.specs.Asked.{Finds, HasKept};
 ghost use Rattle.flow_rules.specs.EventLeaves.{leaf_in};
-ghost use Rattle.flow_rules.specs.Kept.{HoldsMore, items_of};
 ghost use Rattle.flow_rules.specs.Normal.{normal_of};
-ghost use Rattle.flow_rules.specs.WayLists.{ways_of_parts};
+ghost use Rattle.flow_rules.specs.WayLists.{ways_of_pair, ways_of_parts};
 
 use crate::connective::Connective;
-use crate::kept::Kept;
 use crate::leaf_table::LeafEvents;
 use crate::normal::Nnf;
+use crate::only::only;
 use std::alloc::{AllocError, Global};
 
 /// What a rule asks of some leaves.
@@ -28,57 +27,26 @@ pub(crate) enum Found {
     Open(Asked),
 }
 
-fn must(leaf: Option<u32>) -> Found
-    ensures { Finds result (model.ways_of_must leaf) }
+/// The pair is asked for, or where there is none it is decided.
+fn order(wanted: bool, pair: Option<(u32, u32)>) -> Found
+    ensures { Finds result (ways_of_pair wanted pair) }
 {
-    match leaf {
-        Some(_) => Found::Decided(true),
-        None => Found::Decided(false),
-    }
-}
-
-fn never(leaf: Option<u32>) -> Found
-    ensures { Finds result (model.ways_of_never leaf) }
-{
-    match leaf {
-        Some(_) => Found::Decided(false),
-        None => Found::Decided(true),
-    }
-}
-
-fn before(events: &LeafEvents, first: u32, second: u32) -> Found
-    ensures { Finds result (model.ways (model.before first second) (leaf_in events.now)) }
-{
-    if first == second {
-        return Found::Decided(false);
-    }
-    match (events.leaf_of(first), events.leaf_of(second)) {
-        (Some(x), Some(y)) => Found::Open(Asked::Pair(x, y)),
-        _ => Found::Decided(false),
-    }
-}
-
-fn not_before(events: &LeafEvents, first: u32, second: u32) -> Found
-    ensures { Finds result (model.ways (model.not_before first second) (leaf_in events.now)) }
-{
-    if first == second {
-        return Found::Decided(true);
-    }
-    match (events.leaf_of(first), events.leaf_of(second)) {
-        (Some(x), Some(y)) => Found::Open(Asked::Pair(y, x)),
-        _ => Found::Decided(true),
+    match pair {
+        Some((x, y)) => Found::Open(Asked::Pair(x, y)),
+        None => Found::Decided(!wanted),
     }
 }
 
 /// What the parts that are kept ask together, of which one alone stands for itself.
-fn kept_asked(connective: Connective, kept: Kept<Asked>) -> Found
-    requires { HoldsMore kept }
-    ensures { (ways : List (List (ℕ × ℕ))) → HasKept connective (items_of kept) ways → Finds result ways }
+fn kept_asked(connective: Connective, mut kept: Vec<Asked>) -> Found
+    ensures { (ways : List (List (ℕ × ℕ))) → HasKept connective kept.items ways → Finds result ways }
 {
-    match kept {
-        Kept::Nothing => Found::Decided(!connective.decides()),
-        Kept::One(only) => Found::Open(only),
-        Kept::More(parts) => Found::Open(Asked::Parts(connective, parts)),
+    if kept.is_empty() {
+        return Found::Decided(!connective.decides());
+    }
+    match only(&mut kept) {
+        Some(part) => Found::Open(part),
+        None => Found::Open(Asked::Parts(connective, kept)),
     }
 }
 
@@ -93,7 +61,7 @@ fn parts_asked(
 ) -> Result<Found, AllocError>
     ensures { IfOk result (λ found. Finds found (ways_of_parts connective (leaf_in events.now) parts.now)) }
 {
-    let mut kept = Kept::Nothing;
+    let mut kept = Vec::new(alloc);
     for part in parts {
         match asked_of(alloc, part, events)? {
             Found::Decided(met) => {
@@ -102,7 +70,7 @@ fn parts_asked(
                     return Ok(Found::Decided(met));
                 }
             }
-            Found::Open(more) => kept = kept.with(alloc, more)?,
+            Found::Open(more) => kept.push(more)?,
         }
     }
     Ok(kept_asked(connective, kept))
@@ -114,11 +82,10 @@ pub(crate) fn asked_of(alloc: Global, rule: &Nnf, events: &LeafEvents) -> Result
     ensures { IfOk result (λ found. Finds found (model.ways (normal_of rule.now) (leaf_in events.now))) }
 {
     match rule {
-        Nnf::Must(event) => Ok(must(events.leaf_of(*event))),
-        Nnf::Never(event) => Ok(never(events.leaf_of(*event))),
-        Nnf::Before(first, second) => Ok(before(events, *first, *second)),
-        Nnf::NotBefore(first, second) => Ok(not_before(events, *first, *second)),
-        Nnf::And(parts) => parts_asked(alloc, Connective::And, parts, events),
-        Nnf::Or(parts) => parts_asked(alloc, Connective::Or, parts, events),
+        Nnf::Event(wanted, event) => Ok(Found::Decided(events.meets(*wanted, *event))),
+        Nnf::Order(wanted, first, second) => {
+            Ok(order(*wanted, events.pair(*wanted, *first, *second)))
+        }
+        Nnf::Parts(connective, parts) => parts_asked(alloc, *connective, parts, events),
     }
 }

@@ -5,7 +5,7 @@ ghost use Rattle.flow_model.specs.Ways as model;
 use crate::lanes::Lanes;
 use crate::narrowed::{Narrowed, narrow_each};
 use crate::normal::Nnf;
-use crate::normalizing::nnf;
+use crate::normalizing::normal_forms;
 use crate::rule::Rule;
 use std::alloc::{AllocError, Global};
 
@@ -25,11 +25,8 @@ impl Conjunction {
     pub fn new(alloc: Global, rules: &[Rule]) -> Result<Conjunction, AllocError>
         ensures { IfOk result (λ all. HasWaysOf (normal_in all) (all_of (rules_of rules.now))) }
     {
-        let mut normals = Vec::new(alloc);
-        for rule in rules {
-            normals.push(nnf(alloc, rule)?)?;
-        }
-        Ok(Conjunction { rules: normals })
+        let rules = normal_forms(alloc, rules, true)?;
+        Ok(Conjunction { rules })
     }
 
     /// What the rules ask in each of 64 lanes. Each rule is walked so often for all of them, and not for

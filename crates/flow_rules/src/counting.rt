@@ -3,7 +3,7 @@ ghost use Rattle.flow_model.specs.Ways as model;
 ghost use Rattle.flow_rules.specs.Counts.{count_of, counts_by, counts_of_both, counts_of_either, is_decided_count, is_free_count};
 ghost use Rattle.flow_rules.specs.EventLeaves.{leaf_in};
 ghost use Rattle.flow_rules.specs.Normal.{normal_of};
-ghost use Rattle.flow_rules.specs.WayLists.{decided, ways_of_parts};
+ghost use Rattle.flow_rules.specs.WayLists.{decided, ways_of_pair, ways_of_parts};
 
 use crate::connective::Connective;
 use crate::leaf_table::LeafEvents;
@@ -84,45 +84,13 @@ impl WayCount {
     }
 }
 
-fn must(leaf: Option<u32>) -> WayCount
-    ensures { result ≡ count_of (model.ways_of_must leaf) }
+/// One way with the pair, or where there is none what is decided of it.
+fn order(wanted: bool, pair: Option<(u32, u32)>) -> WayCount
+    ensures { result ≡ count_of (ways_of_pair wanted pair) }
 {
-    match leaf {
-        Some(_) => FREE,
-        None => NONE,
-    }
-}
-
-fn never(leaf: Option<u32>) -> WayCount
-    ensures { result ≡ count_of (model.ways_of_never leaf) }
-{
-    match leaf {
-        Some(_) => NONE,
-        None => FREE,
-    }
-}
-
-fn before(events: &LeafEvents, first: u32, second: u32) -> WayCount
-    ensures { result ≡ count_of (model.ways (model.before first second) (leaf_in events.now)) }
-{
-    if first == second {
-        return NONE;
-    }
-    match (events.leaf_of(first), events.leaf_of(second)) {
-        (Some(_), Some(_)) => PAIR,
-        _ => NONE,
-    }
-}
-
-fn not_before(events: &LeafEvents, first: u32, second: u32) -> WayCount
-    ensures { result ≡ count_of (model.ways (model.not_before first second) (leaf_in events.now)) }
-{
-    if first == second {
-        return FREE;
-    }
-    match (events.leaf_of(first), events.leaf_of(second)) {
-        (Some(_), Some(_)) => PAIR,
-        _ => FREE,
+    match pair {
+        Some(_) => PAIR,
+        None => WayCount::decided(!wanted),
     }
 }
 
@@ -147,11 +115,8 @@ pub fn count_ways(rule: &Nnf, events: &LeafEvents) -> WayCount
     ensures { result ≡ count_of (model.ways (normal_of rule.now) (leaf_in events.now)) }
 {
     match rule {
-        Nnf::Must(event) => must(events.leaf_of(*event)),
-        Nnf::Never(event) => never(events.leaf_of(*event)),
-        Nnf::Before(first, second) => before(events, *first, *second),
-        Nnf::NotBefore(first, second) => not_before(events, *first, *second),
-        Nnf::And(parts) => count_parts(Connective::And, parts, events),
-        Nnf::Or(parts) => count_parts(Connective::Or, parts, events),
+        Nnf::Event(wanted, event) => WayCount::decided(events.meets(*wanted, *event)),
+        Nnf::Order(wanted, first, second) => order(*wanted, events.pair(*wanted, *first, *second)),
+        Nnf::Parts(connective, parts) => count_parts(*connective, parts, events),
     }
 }

@@ -1,5 +1,6 @@
 ghost use Rattle.std.specs.Option.{option_or};
 ghost use Rattle.std.specs.Prelude.{◌≡◌, ◌<◌, ◌≤◌, ℕ, length, IfSome, OnOk};
+ghost use Rattle.flow_model.specs.Ways as model;
 
 use crate::room::make_room;
 use std::alloc::{AllocError, Global};
@@ -12,6 +13,8 @@ pub struct LeafEvents {
 
 impl LeafEvents {
     ghost use Rattle.flow_rules.specs.EventLeaves.{IsBlank, if_on, leaf_in, without_leaf};
+    ghost use Rattle.flow_rules.specs.Normal.{event_form};
+    ghost use Rattle.flow_rules.specs.WayLists.{decided, pair_in};
 
     /// No event has a leaf.
     pub fn new(alloc: Global) -> LeafEvents
@@ -29,6 +32,28 @@ impl LeafEvents {
         match self.leaves.get(event as usize) {
             Some(leaf) => *leaf,
             None => None,
+        }
+    }
+
+    /// Whether the event happens, or does not where that is wanted.
+    pub(crate) fn meets(&self, wanted: bool, event: u32) -> bool
+        ensures { decided result ≡ model.ways (event_form wanted event) (leaf_in self.now) }
+    {
+        self.leaf_of(event).is_some() == wanted
+    }
+
+    /// The leaves of two events, if both have one: the first before the second, or the other way round
+    /// where that is not wanted.
+    pub(crate) fn pair(&self, wanted: bool, first: u32, second: u32) -> Option<(u32, u32)>
+        ensures { result ≡ pair_in (leaf_in self.now) wanted first second }
+    {
+        if first == second {
+            return None;
+        }
+        match (self.leaf_of(first), self.leaf_of(second)) {
+            (Some(x), Some(y)) if wanted => Some((x, y)),
+            (Some(x), Some(y)) => Some((y, x)),
+            _ => None,
         }
     }
 

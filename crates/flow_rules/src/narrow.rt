@@ -1,15 +1,14 @@
 ghost use Rattle.std.specs.Prelude.{◌≡◌, ◌<◌, ◌↔◌, ℕ, List, Option, IfOk, IsTrue};
 ghost use Rattle.flow_model.specs.Ways as model;
-ghost use Rattle.flow_rules.specs.Kept.{items_of};
-ghost use Rattle.flow_rules.specs.Narrow.{HasWaysIn};
+ghost use Rattle.flow_rules.specs.Narrowed.{HasWaysIn};
 ghost use Rattle.flow_rules.specs.Normal.{normal_of};
 ghost use Rattle.flow_rules.specs.Standing.{Stands, has_lane};
 ghost use Rattle.flow_rules.specs.WayLists.{ways_of_parts};
 
 use crate::connective::Connective;
-use crate::kept::Kept;
 use crate::lanes::Lanes;
 use crate::normal::Nnf;
+use crate::only::only;
 use crate::standing::{Standing, standing_of};
 use std::alloc::{AllocError, Global};
 
@@ -27,35 +26,25 @@ fn covers(word: u64, wanted: u64) -> bool
     wanted & !word == 0
 }
 
-/// The rule as it is.
-fn whole(rule: Nnf, lanes: &Lanes) -> Narrow
-    ensures standing { Stands result.standing lanes.now (model.ways (normal_of rule)) }
-    ensures rule { result.rule ≡ rule }
+/// The rule as it is, by a copy of it.
+fn whole(rule: &Nnf, copy: Nnf, lanes: &Lanes) -> Narrow
+    requires { copy ≡ rule.now }
+    ensures standing { Stands result.standing lanes.now (model.ways (normal_of rule.now)) }
+    ensures rule { result.rule ≡ rule.now }
 {
     Narrow {
-        standing: standing_of(&rule, lanes),
-        rule,
-    }
-}
-
-/// The parts as one rule.
-fn rule_of(connective: Connective, parts: Vec<Nnf>) -> Nnf
-    ensures { (leaf : ℕ → Option ℕ) → model.ways (normal_of result) leaf ≡ ways_of_parts connective leaf parts.items }
-{
-    match connective {
-        Connective::And => Nnf::And(parts),
-        Connective::Or => Nnf::Or(parts),
+        standing: standing_of(rule, lanes),
+        rule: copy,
     }
 }
 
 /// What is kept of parts as one rule. One alone stands for itself.
-fn kept_rule(alloc: Global, connective: Connective, kept: Kept<Nnf>) -> Nnf
-    ensures { (leaf : ℕ → Option ℕ) → model.ways (normal_of result) leaf ≡ ways_of_parts connective leaf (items_of kept) }
+fn kept_rule(connective: Connective, mut kept: Vec<Nnf>) -> Nnf
+    ensures { (leaf : ℕ → Option ℕ) → model.ways (normal_of result) leaf ≡ ways_of_parts connective leaf kept.items }
 {
-    match kept {
-        Kept::Nothing => rule_of(connective, Vec::new(alloc)),
-        Kept::One(part) => part,
-        Kept::More(parts) => rule_of(connective, parts),
+    match only(&mut kept) {
+        Some(part) => part,
+        None => Nnf::Parts(connective, kept),
     }
 }
 
@@ -73,19 +62,19 @@ fn narrow_parts(
 {
     let idle = !connective.decides();
     let mut standing = Standing::everywhere(idle);
-    let mut kept = Kept::Nothing;
+    let mut kept = Vec::new(alloc);
     for part in parts {
         let narrow = narrow_rule(alloc, part, lanes, wanted)?;
         standing = standing.with(narrow.standing, connective);
         if covers(narrow.standing.lanes_where(idle), wanted) {
             drop(narrow);
         } else {
-            kept = kept.with(alloc, narrow.rule)?;
+            kept.push(narrow.rule)?;
         }
     }
     Ok(Narrow {
         standing,
-        rule: kept_rule(alloc, connective, kept),
+        rule: kept_rule(connective, kept),
     })
 }
 
@@ -101,11 +90,10 @@ pub(crate) fn narrow_rule(
     ensures ways { IfOk result (λ narrow. HasWaysIn narrow.rule wanted lanes.now (model.ways (normal_of rule.now))) }
 {
     match rule {
-        Nnf::Must(event) => Ok(whole(Nnf::Must(*event), lanes)),
-        Nnf::Never(event) => Ok(whole(Nnf::Never(*event), lanes)),
-        Nnf::Before(first, second) => Ok(whole(Nnf::Before(*first, *second), lanes)),
-        Nnf::NotBefore(first, second) => Ok(whole(Nnf::NotBefore(*first, *second), lanes)),
-        Nnf::And(parts) => narrow_parts(alloc, Connective::And, parts, lanes, wanted),
-        Nnf::Or(parts) => narrow_parts(alloc, Connective::Or, parts, lanes, wanted),
+        Nnf::Event(met, event) => Ok(whole(rule, Nnf::Event(*met, *event), lanes)),
+        Nnf::Order(met, first, second) => {
+            Ok(whole(rule, Nnf::Order(*met, *first, *second), lanes))
+        }
+        Nnf::Parts(connective, parts) => narrow_parts(alloc, *connective, parts, lanes, wanted),
     }
 }

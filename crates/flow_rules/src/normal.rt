@@ -1,14 +1,12 @@
-/// A rule with its orders split into pairs, and negation carried inward. Events go by their numbers.
+use crate::connective::Connective;
+
+/// A rule with its orders split into pairs, and negation carried inward. Events go by their numbers. An
+/// event and an order are as they are said where the flag is true, and else the negation.
 #[derive(Drop)]
 pub enum Nnf {
     /// The event happens.
-    Must(u32),
-    /// The event does not happen.
-    Never(u32),
+    Event(bool, u32),
     /// Both happen, the first before the second.
-    Before(u32, u32),
-    /// They do not both happen with the first before the second.
-    NotBefore(u32, u32),
-    And(Vec<Nnf>),
-    Or(Vec<Nnf>),
+    Order(bool, u32, u32),
+    Parts(Connective, Vec<Nnf>),
 }

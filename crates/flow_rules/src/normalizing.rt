@@ -1,50 +1,27 @@
-ghost use Rattle.std.specs.Prelude.{◌≡◌, ◌∷◌, [], ℕ, Option, true, IfOk, map};
+ghost use Rattle.std.specs.Prelude.{◌≡◌, ℕ, Option, true, IfOk, map};
 ghost use Rattle.flow_model.specs.Ways as model;
 ghost use Rattle.flow_rules.specs.Rule.{rule_of};
 ghost use Rattle.flow_rules.specs.NormalForm as tree;
 ghost use Rattle.flow_rules.specs.NormalForm.{form_of};
 ghost use Rattle.flow_rules.specs.Normal.{normal_of, normals_of, linked, pair_form, all_form, split_chain, split_form};
 
+use crate::connective::Connective;
 use crate::normal::Nnf;
 use crate::rule::Rule;
 use std::alloc::{AllocError, Global};
 
-/// One event before another, or the negation where it is not wanted.
-fn pair(first: u32, second: u32, wanted: bool) -> Nnf
-    ensures tree { form_of result ≡ tree.order_form wanted first second }
-    ensures normal { normal_of result ≡ pair_form wanted first second }
-{
-    if wanted {
-        Nnf::Before(first, second)
-    } else {
-        Nnf::NotBefore(first, second)
-    }
-}
-
 /// Each event with the next one.
 fn pairs(alloc: Global, first: u32, rest: &[u32], wanted: bool) -> Result<Vec<Nnf>, AllocError>
-    ensures tree { IfOk result (λ pairs. map form_of pairs.items ≡ tree.neighbours wanted (first ∷ rest.now)) }
+    ensures tree { IfOk result (λ pairs. map form_of pairs.items ≡ linked (tree.order_form wanted) first rest.now) }
     ensures normal { IfOk result (λ pairs. normals_of pairs.items ≡ linked (pair_form wanted) first rest.now) }
 {
     let mut pairs = Vec::new(alloc);
     let mut earlier = first;
     for event in rest {
-        pairs.push(pair(earlier, *event, wanted))?;
+        pairs.push(Nnf::Order(wanted, earlier, *event))?;
         earlier = *event;
     }
     Ok(pairs)
-}
-
-/// An order of one event or of none, or its negation where it is not wanted.
-fn single(event: u32, wanted: bool) -> Nnf
-    ensures tree { form_of result ≡ tree.event_form wanted event }
-    ensures normal { normal_of result ≡ split_chain wanted (event ∷ []) }
-{
-    if wanted {
-        Nnf::Must(event)
-    } else {
-        Nnf::Never(event)
-    }
 }
 
 /// All of the parts, or one of them where they are parts of a negation.
@@ -52,11 +29,7 @@ fn all(parts: Vec<Nnf>, wanted: bool) -> Nnf
     ensures tree { form_of result ≡ tree.list_form wanted (map form_of parts.items) }
     ensures normal { normal_of result ≡ all_form wanted (normals_of parts.items) }
 {
-    if wanted {
-        Nnf::And(parts)
-    } else {
-        Nnf::Or(parts)
-    }
+    Nnf::Parts(Connective::joining(wanted), parts)
 }
 
 /// An order of events, or its negation where it is not wanted.
@@ -66,22 +39,26 @@ fn chain(alloc: Global, events: &[u32], wanted: bool) -> Result<Nnf, AllocError>
 {
     match events {
         [] => Ok(all(Vec::new(alloc), wanted)),
-        [only] => Ok(single(*only, wanted)),
+        [only] => Ok(Nnf::Event(wanted, *only)),
         [first, rest @ ..] => Ok(all(pairs(alloc, *first, rest, wanted)?, wanted)),
     }
 }
 
 /// Each of the rules, or its negation where it is not wanted.
 #[cycle(normalizing)]
-fn parts(alloc: Global, rules: &[Rule], wanted: bool) -> Result<Vec<Nnf>, AllocError>
-    ensures tree { IfOk result (λ parts. map form_of parts.items ≡ map (λ rule. tree.rule_form rule wanted) rules.now) }
-    ensures normal { IfOk result (λ parts. normals_of parts.items ≡ map (λ rule. split_form (rule_of rule) wanted) rules.now) }
+pub(crate) fn normal_forms(
+    alloc: Global,
+    rules: &[Rule],
+    wanted: bool,
+) -> Result<Vec<Nnf>, AllocError>
+    ensures tree { IfOk result (λ forms. map form_of forms.items ≡ map (λ rule. tree.rule_form rule wanted) rules.now) }
+    ensures normal { IfOk result (λ forms. normals_of forms.items ≡ map (λ rule. split_form (rule_of rule) wanted) rules.now) }
 {
-    let mut parts = Vec::new(alloc);
+    let mut forms = Vec::new(alloc);
     for rule in rules {
-        parts.push(normal(alloc, rule, wanted)?)?;
+        forms.push(normal(alloc, rule, wanted)?)?;
     }
-    Ok(parts)
+    Ok(forms)
 }
 
 /// The rule, or its negation where it is not wanted.
@@ -91,12 +68,12 @@ fn normal(alloc: Global, rule: &Rule, wanted: bool) -> Result<Nnf, AllocError>
     ensures normal { IfOk result (λ normal. normal_of normal ≡ split_form (rule_of rule.now) wanted) }
 {
     match rule {
-        Rule::Must(event) => Ok(single(*event, wanted)),
-        Rule::Never(event) => Ok(single(*event, !wanted)),
+        Rule::Must(event) => Ok(Nnf::Event(wanted, *event)),
+        Rule::Never(event) => Ok(Nnf::Event(!wanted, *event)),
         Rule::Order(events) => chain(alloc, events, wanted),
         Rule::Not(part) => normal(alloc, part, !wanted),
-        Rule::And(rules) => Ok(all(parts(alloc, rules, wanted)?, wanted)),
-        Rule::Or(rules) => Ok(all(parts(alloc, rules, wanted)?, !wanted)),
+        Rule::And(rules) => Ok(all(normal_forms(alloc, rules, wanted)?, wanted)),
+        Rule::Or(rules) => Ok(all(normal_forms(alloc, rules, wanted)?, !wanted)),
     }
 }
 

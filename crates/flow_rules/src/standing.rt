@@ -1,8 +1,9 @@
-ghost use Rattle.std.specs.Prelude.{◌≡◌, ◌<◌, ℕ, List, Option};
+ghost use Rattle.std.specs.Prelude.{◌≡◌, ◌<◌, ℕ, Bool, not, Option, bit_and, bit_or, is_some};
 ghost use Rattle.flow_model.specs.Ways as model;
-ghost use Rattle.flow_rules.specs.Normal.{normal_of};
-ghost use Rattle.flow_rules.specs.Standing.{Stands, StandsIn, lanes_where};
-ghost use Rattle.flow_rules.specs.WayLists.{decided, joined_by, ways_of_parts};
+ghost use Rattle.flow_rules.specs.Lanes.{Shows};
+ghost use Rattle.flow_rules.specs.Normal.{event_form, normal_of, pair_form};
+ghost use Rattle.flow_rules.specs.Standing.{Stands, StandsIn, has_lane, lanes_where};
+ghost use Rattle.flow_rules.specs.WayLists.{decided, decider, pair_in, ways_of_parts};
 
 use crate::connective::Connective;
 use crate::lanes::Lanes;
@@ -16,21 +17,27 @@ pub(crate) struct Standing {
 }
 
 impl Standing {
+    /// By the lanes in which it is met in any order and those in which it is in none, or of its negation
+    /// where that is wanted.
+    fn of(wanted: bool, free: u64, unmet: u64) -> Standing
+        ensures free { lanes_where result wanted ≡ free }
+        ensures unmet { lanes_where result (not wanted) ≡ unmet }
+    {
+        if wanted {
+            Standing { free, unmet }
+        } else {
+            Standing {
+                free: unmet,
+                unmet: free,
+            }
+        }
+    }
+
     /// Met in any order in each lane, or in none.
     pub(crate) fn everywhere(met: bool) -> Standing
         ensures { (lane : ℕ) → lane < 64 → StandsIn result lane (decided met) }
     {
-        if met {
-            Standing {
-                free: u64::MAX,
-                unmet: 0,
-            }
-        } else {
-            Standing {
-                free: 0,
-                unmet: u64::MAX,
-            }
-        }
+        Standing::of(met, u64::MAX, 0)
     }
 
     /// The lanes in which the rule is met in any order, or those in which it is met in none.
@@ -42,8 +49,10 @@ impl Standing {
 
     /// Where the two parts are met that are joined so.
     pub(crate) fn with(self, other: Standing, connective: Connective) -> Standing
-        ensures { (lane : ℕ) (vs ws : List (List (ℕ × ℕ))) →
-            StandsIn self lane vs → StandsIn other lane ws → StandsIn result lane (joined_by connective vs ws) }
+        ensures one { lanes_where result (decider connective) ≡
+            bit_or (lanes_where self (decider connective)) (lanes_where other (decider connective)) }
+        ensures both { lanes_where result (not (decider connective)) ≡
+            bit_and (lanes_where self (not (decider connective))) (lanes_where other (not (decider connective))) }
     {
         match connective {
             Connective::And => Standing {
@@ -58,47 +67,30 @@ impl Standing {
     }
 }
 
-fn must(lanes: &Lanes, event: u32) -> Standing
-    ensures { Stands result lanes.now (model.ways (model.must event)) }
+/// Where the event happens, or does not where that is wanted.
+fn event(lanes: &Lanes, wanted: bool, event: u32) -> Standing
+    ensures { Stands result lanes.now (model.ways (event_form wanted event)) }
 {
-    let free = lanes.lanes_of(event);
-    Standing { free, unmet: !free }
+    let here = lanes.lanes_of(event);
+    Standing::of(wanted, here, !here)
 }
 
-fn never(lanes: &Lanes, event: u32) -> Standing
-    ensures { Stands result lanes.now (model.ways (model.never event)) }
-{
-    let unmet = lanes.lanes_of(event);
-    Standing {
-        free: !unmet,
-        unmet,
-    }
-}
-
-fn before(lanes: &Lanes, first: u32, second: u32) -> Standing
-    ensures { Stands result lanes.now (model.ways (model.before first second)) }
+/// The lanes in which two events have a leaf each.
+fn lanes_of_both(lanes: &Lanes, first: u32, second: u32) -> u64
+    ensures { (lane : ℕ) (leaf : ℕ → Option ℕ) (wanted : Bool) → Shows lanes.now lane leaf →
+        has_lane result lane ≡ is_some (pair_in leaf wanted first second) }
 {
     if first == second {
-        return Standing::everywhere(false);
+        return 0;
     }
-    let both = lanes.lanes_of(first) & lanes.lanes_of(second);
-    Standing {
-        free: 0,
-        unmet: !both,
-    }
+    lanes.lanes_of(first) & lanes.lanes_of(second)
 }
 
-fn not_before(lanes: &Lanes, first: u32, second: u32) -> Standing
-    ensures { Stands result lanes.now (model.ways (model.not_before first second)) }
+/// Where an order of two events stands, or its negation where that is wanted.
+fn order(lanes: &Lanes, wanted: bool, first: u32, second: u32) -> Standing
+    ensures { Stands result lanes.now (model.ways (pair_form wanted first second)) }
 {
-    if first == second {
-        return Standing::everywhere(true);
-    }
-    let both = lanes.lanes_of(first) & lanes.lanes_of(second);
-    Standing {
-        free: !both,
-        unmet: 0,
-    }
+    Standing::of(wanted, 0, !lanes_of_both(lanes, first, second))
 }
 
 /// Where the parts are met.
@@ -119,11 +111,8 @@ pub(crate) fn standing_of(rule: &Nnf, lanes: &Lanes) -> Standing
     ensures { Stands result lanes.now (model.ways (normal_of rule.now)) }
 {
     match rule {
-        Nnf::Must(event) => must(lanes, *event),
-        Nnf::Never(event) => never(lanes, *event),
-        Nnf::Before(first, second) => before(lanes, *first, *second),
-        Nnf::NotBefore(first, second) => not_before(lanes, *first, *second),
-        Nnf::And(parts) => parts_standing(Connective::And, parts, lanes),
-        Nnf::Or(parts) => parts_standing(Connective::Or, parts, lanes),
+        Nnf::Event(wanted, number) => event(lanes, *wanted, *number),
+        Nnf::Order(wanted, first, second) => order(lanes, *wanted, *first, *second),
+        Nnf::Parts(connective, parts) => parts_standing(*connective, parts, lanes),
     }
 }

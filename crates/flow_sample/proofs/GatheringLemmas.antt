@@ -1,11 +1,14 @@
 -- Items that are made of the marks of a goal.
-use Rattle.std.proofs.Common.{◌≡◌, ℕ, ◌+◌, List, [], ◌∷◌, ◌++◌, length, map, reverse, Some, None, MatchOption, slice_get, inl, refl, sym, ◌∙◌, ap, subst, append-nil, arith, Vec, Global, ◌==◌, true}
+use Rattle.std.proofs.Common.{◌≡◌, ℕ, ◌+◌, List, [], ◌∷◌, ◌++◌, length, map, reverse, Some, None, MatchOption, slice_get, inl, inr, refl, sym, ◌∙◌, ap, subst, append-nil, arith, Vec, Global, ◌==◌, true}
 use Rattle.std.proofs.lemmas.List.{map-append, reverse-append, nil_from_length}
 use Rattle.std.proofs.lemmas.Bool.{eqb-true}
 use Rattle.flow_plan.specs.Stacks.{WithTop}
 use Rattle.flow_sample.specs.Arranged.{AddsOneOf}
 use Rattle.flow_model.specs.Process.{Process, Empty, Task, Sequence, Parallel, Choice, Isolated, leaves, IsChoiceFree}
+use Rattle.flow_model.specs.Lists.{◌∈◌}
+use Rattle.flow_model.specs.Ready.{isolated_parts}
 use Rattle.flow_model.specs.Circle.{items_of}
+use Rattle.flow_laws.proofs.Members.{mem_append_left, mem_append_right}
 use Rattle.flow_laws.specs.WellFormed.{IsOrdered}
 use Rattle.flow_goal.specs.declared.node.Node.{Node}
 use Rattle.flow_goal.specs.declared.node.Node.TheVariants.{Leaf, Serial, Split, Join, Close}
@@ -14,45 +17,45 @@ use Rattle.flow_goal.proofs.WrittenLemmas.{StandAt, first_stand, second_stand, s
 use Rattle.flow_plan.specs.Planned.{Planned, pairs_of}
 use Rattle.flow_sample.specs.declared.gathering.Gathering.{Gathering}
 use Rattle.flow_sample.specs.declared.item.Item.{Item}
-use Rattle.flow_sample.specs.Items.{IsItemOf, AreItemsOf, AddsItems, IsPieceOf}
+use Rattle.flow_sample.specs.Items.{IsItemOf, AreItemsOf, AddsItems}
 use Rattle.flow_sample.specs.ItemMarks.{CanClose, MakesItems, Gathers, ReadsMark, stack_of}
-use Rattle.flow_sample.proofs.PieceLemmas.{join_sequence, join_parallel, whole_piece, piece_left, piece_right, piece_inside, adds_both, adds_none, adds_one, can_close}
+use Rattle.flow_sample.proofs.PieceLemmas.{adds_both, adds_none, adds_one, can_close}
 
 module _ (q : Process) (pairs : List (ℕ × ℕ)) (o : IsOrdered q pairs) (ns : List ℕ) where
   -- the marks of a goal make its items
-  goal_items : (g : Process) (nodes : List Node) (k : ℕ) (items : List Item) (outer : List (List Item)) → IsChoiceFree g → IsPieceOf q g → StandAt ns k (leaves g) →
+  goal_items : (g : Process) (nodes : List Node) (k : ℕ) (items : List Item) (outer : List (List Item)) → IsChoiceFree g → ((p : Process) → p ∈ isolated_parts g → p ∈ isolated_parts q) → StandAt ns k (leaves g) →
       ((new : List Item) → AddsItems q pairs g items new → MakesItems q pairs nodes ns (k + length (leaves g)) new outer) →
       MakesItems q pairs (nodes_of g ++ nodes) ns k items outer
-  goal_items Empty nodes k items outer free piece at then =
+  goal_items Empty nodes k items outer free parts at then =
       subst (λ (j : ℕ). MakesItems q pairs nodes ns j items outer) (omega arith) (then items (adds_none q pairs Empty items refl))
-  goal_items (Task n) nodes k items outer free piece at then =
+  goal_items (Task n) nodes k items outer free parts at then =
       subst (λ p. MatchOption p ⊥ (λ n. (item : Item) → IsItemOf q pairs (n ∷ []) item → MakesItems q pairs nodes ns (k + 1) (items ++ item ∷ []) outer))
       (sym (leaf_stands ns k n at.0 at.1))
       (λ item is. then (items ++ item ∷ []) (adds_one q pairs (Task n) (n ∷ []) items (items ++ item ∷ []) item refl refl is))
-  goal_items (Sequence a b) nodes k items outer free piece at then =
+  goal_items (Sequence a b) nodes k items outer free parts at then =
       subst (λ l. MakesItems q pairs l ns k items outer) (sym (sequence_nodes a b nodes))
-      (goal_items a (nodes_of b ++ (Serial ∷ nodes)) k items outer free.0 (piece_left q (Sequence a b) a b (join_sequence a b) piece) (first_stand ns k (leaves a) (leaves b) at)
-      (λ mid adds_a. goal_items b (Serial ∷ nodes) (k + length (leaves a)) mid outer free.1 (piece_right q (Sequence a b) a b (join_sequence a b) piece) (second_stand ns k (leaves a) (leaves b) at)
+      (goal_items a (nodes_of b ++ (Serial ∷ nodes)) k items outer free.0 (λ p m. parts p (mem_append_left p (isolated_parts a) (isolated_parts b) m)) (first_stand ns k (leaves a) (leaves b) at)
+      (λ mid adds_a. goal_items b (Serial ∷ nodes) (k + length (leaves a)) mid outer free.1 (λ p m. parts p (mem_append_right p (isolated_parts a) (isolated_parts b) m)) (second_stand ns k (leaves a) (leaves b) at)
       (λ new adds_b. subst (λ (j : ℕ). MakesItems q pairs nodes ns j new outer) (sym (both_long k (leaves a) (leaves b)))
-      (then new (adds_both q pairs (Sequence a b) a b items mid new (join_sequence a b) adds_a adds_b)))))
-  goal_items (Parallel a b) nodes k items outer free piece at then =
+      (then new (adds_both q pairs (Sequence a b) a b items mid new refl adds_a adds_b)))))
+  goal_items (Parallel a b) nodes k items outer free parts at then =
       subst (λ l. MakesItems q pairs l ns k items outer) (sym (parallel_nodes a b nodes))
-      (goal_items a (Split ∷ (nodes_of b ++ (Join ∷ nodes))) k items outer free.0 (piece_left q (Parallel a b) a b (join_parallel a b) piece) (first_stand ns k (leaves a) (leaves b) at)
-      (λ mid adds_a. goal_items b (Join ∷ nodes) (k + length (leaves a)) mid outer free.1 (piece_right q (Parallel a b) a b (join_parallel a b) piece) (second_stand ns k (leaves a) (leaves b) at)
+      (goal_items a (Split ∷ (nodes_of b ++ (Join ∷ nodes))) k items outer free.0 (λ p m. parts p (mem_append_left p (isolated_parts a) (isolated_parts b) m)) (first_stand ns k (leaves a) (leaves b) at)
+      (λ mid adds_a. goal_items b (Join ∷ nodes) (k + length (leaves a)) mid outer free.1 (λ p m. parts p (mem_append_right p (isolated_parts a) (isolated_parts b) m)) (second_stand ns k (leaves a) (leaves b) at)
       (λ new adds_b. subst (λ (j : ℕ). MakesItems q pairs nodes ns j new outer) (sym (both_long k (leaves a) (leaves b)))
-      (then new (adds_both q pairs (Parallel a b) a b items mid new (join_parallel a b) adds_a adds_b)))))
-  goal_items (Choice a b) nodes k items outer free piece at then = absurd free
-  goal_items (Isolated a) nodes k items outer free piece at then =
+      (then new (adds_both q pairs (Parallel a b) a b items mid new refl adds_a adds_b)))))
+  goal_items (Choice a b) nodes k items outer free parts at then = absurd free
+  goal_items (Isolated a) nodes k items outer free parts at then =
       subst (λ l. MakesItems q pairs l ns k items outer) (sym (isolated_nodes a nodes))
-      (goal_items a (Close ∷ nodes) k [] (items ∷ outer) free (piece_inside q (Isolated a) a refl piece) at
-      (λ inner adds. can_close q pairs o a inner (piece.part a (inl refl)) adds items
+      (goal_items a (Close ∷ nodes) k [] (items ∷ outer) free (λ p m. parts p (inr m)) at
+      (λ inner adds. can_close q pairs o a inner (parts a (inl refl)) adds items
       (λ new. MakesItems q pairs nodes ns (k + length (leaves a)) new outer) then))
 
   -- and those of the whole goal its items
   whole_items : ns ≡ leaves q → MakesItems q pairs (nodes_of q) ns 0 [] []
   whole_items listed =
       subst (λ l. MakesItems q pairs l ns 0 [] []) (append-nil (nodes_of q))
-      (goal_items q [] 0 [] [] o.choice_free (whole_piece q) ([], listed ∙ sym (append-nil (leaves q)))
+      (goal_items q [] 0 [] [] o.choice_free (λ p m. m) ([], listed ∙ sym (append-nil (leaves q)))
       (λ new adds. subst (AreItemsOf q pairs (items_of q)) (sym adds.is) adds.items))
 
 pub begun_items : (p : Planned) (nodes : List Node) (g : Gathering) → IsOrdered p.process (pairs_of p.tokens) → nodes ≡ nodes_of p.process → p.leaves ≡ leaves p.process →

@@ -1,10 +1,12 @@
 -- The items of a part by their rows: rings of them are circles.
 use Rattle.std.proofs.Common.{◌≡◌, ℕ, zero, suc, ◌<◌, ◌≤◌, IsTrue, List, [], ◌∷◌, map, min, length, refl, sym, ap, ◌∙◌, subst, inl, inr, ⊎_elim, arith, Some, slice_get}
 use Rattle.std.proofs.lemmas.Bool.{cases_lt}
+use Rattle.std.proofs.lemmas.Option.{slice_get-get_or}
+use Rattle.flow_model.proofs.Lists.{mem-slice_get}
 use Rattle.flow_model.specs.Lists.{◌∈◌, Each, AreDistinct, joined}
 use Rattle.flow_model.specs.Process.{Process, leaves}
 use Rattle.flow_model.specs.Ready.{DirectlyBefore}
-use Rattle.flow_model.specs.Circle.{items_of, ItemBefore, LeadsBackTo, IsRing, least_of}
+use Rattle.flow_model.specs.Circle.{items_of, ItemBefore, LeadsBackTo, IsCircle, IsRing, least_of}
 use Rattle.flow_laws.specs.WellFormed.{IsOrdered}
 use Rattle.flow_laws.proofs.Members.{distinct_apart, distinct_right}
 use Rattle.flow_laws.proofs.MadeLists.{mem_joined}
@@ -15,7 +17,7 @@ use Rattle.flow_sample.specs.declared.excising.ExciseRefusal.TheVariants.{Circle
 use Rattle.flow_sample.specs.Rows.{has_inside, has_waits, run_in, least_in, least_at, IsIn, WaitsFor, IsEdge, AreApart}
 use Rattle.flow_sample.specs.Turned.{IsTurned}
 use Rattle.flow_sample.specs.Arranged.{LeadsOn, IsCycle, IsNodeRing, TellsRing}
-use Rattle.flow_sample.specs.Items.{item_at, IsLinedUp, IsItemOf, AreItemsOf, IsPartCircle, TellsCircle}
+use Rattle.flow_sample.specs.Items.{item_at, IsLinedUp, IsItemOf, AreItemsOf, TellsCircle}
 use Rattle.flow_sample.proofs.OrderLemmas.{is_within, waits_within, ring_within}
 use Rattle.flow_sample.proofs.TurningLemmas.{circle_from_ring}
 
@@ -35,9 +37,7 @@ distinct_items g d = distinct_lists (items_of g) (subst AreDistinct (sym (joined
 -- items by their numbers
 
 pub mem-item_at : (items : List (List ℕ)) (n : ℕ) → n < length items → item_at items n ∈ items
-mem-item_at [] n l = omega arith
-mem-item_at (i ∷ items) zero l = inl refl
-mem-item_at (i ∷ items) (suc n) l = inr (mem-item_at items n (omega arith))
+mem-item_at items n l = mem-slice_get items n (item_at items n) (slice_get-get_or items n [] l)
 
 pub number_of : (items : List (List ℕ)) (item : List ℕ) → item ∈ items → (n : ℕ) × (n < length items) × (item_at items n ≡ item)
 number_of [] item m = absurd m
@@ -156,10 +156,10 @@ module _ (q : Process) (pairs : List (ℕ × ℕ)) (o : IsOrdered q pairs) (part
     others = λ n x v i. (waits_list q pairs (items_of part) items a n x v).1.1 (in_list q pairs (items_of part) items a n x i).1;
   }
 
-  circle_of_ring : (ring circle : List ℕ) → IsNodeRing items ring → IsTurned (map (least_at items) ring) circle → IsPartCircle q pairs part circle
+  circle_of_ring : (ring circle : List ℕ) → IsNodeRing items ring → IsTurned (map (least_at items) ring) circle → IsCircle q pairs circle
   circle_of_ring ring circle r t =
       let w = λ (n : ℕ) (m : n ∈ ring). let l : n < length (items_of part) = omega (arith, ring_within items ring r.cycle n m, same_length q pairs (items_of part) items a) in l in
-      circle_from_ring q pairs part (map (item_at (items_of part)) ring) circle
+      circle_from_ring q pairs part (map (item_at (items_of part)) ring) circle p
       (named_items q pairs (items_of part) items a ring w)
       (named_distinct q pairs (items_of part) items a ring (distinct_items part part_is_distinct) w r.distinct)
       (ring_of_two q pairs (items_of part) items a ring r.cycle)
@@ -167,19 +167,7 @@ module _ (q : Process) (pairs : List (ℕ × ℕ)) (o : IsOrdered q pairs) (part
       (subst (λ l. IsTurned l circle) (leasts_are q pairs (items_of part) items a ring w) t)
 
   pub tells_circle : (e : ExciseRefusal) → TellsRing items e → TellsCircle q pairs e
-  tells_circle (Circle circle) (ring, r, t) =
-      let c = circle_of_ring ring circle.leaves.items r t in
-      record {
-        part = part;
-        is_part = p;
-        ring = c.ring;
-        items = c.items;
-        distinct = c.distinct;
-        two = c.two;
-        closed = c.closed;
-        written = c.written;
-        from_least = c.from_least;
-      }
+  tells_circle (Circle circle) (ring, r, t) = circle_of_ring ring circle.leaves.items r t
   tells_circle NoMemory h = tt
 
 -- the least leaf of a list

@@ -1,5 +1,5 @@
 -- An order of items that grows, and the walk to the next of them.
-use Rattle.std.proofs.Common.{◌≡◌, ℕ, zero, suc, ◌+◌, ◌-◌, ◌<◌, ◌≤◌, Bool, true, false, not, ◌&&◌, IsTrue, List, [], ◌∷◌, ◌++◌, ◌↔◌, ◌⊎◌, length, get_or, map, refl, sym, ap, ◌∙◌, subst, inl, inr, ⊎_elim, arith, length-append, true≢false, Some, Option, slice_get, take, remove, append-nil}
+use Rattle.std.proofs.Common.{◌≡◌, ℕ, ◌+◌, ◌-◌, ◌<◌, Bool, true, false, not, ◌&&◌, IsTrue, List, [], ◌∷◌, ◌++◌, ◌↔◌, ◌⊎◌, length, get_or, map, refl, sym, ap, ◌∙◌, subst, inl, inr, ⊎_elim, arith, length-append, true≢false, Some, Option, slice_get, take, remove, append-nil}
 use Rattle.std.proofs.lemmas.List.{take_more, map-append}
 use Rattle.std.proofs.lemmas.Bool.{cases_lt}
 use Rattle.std.proofs.lemmas.Option.{slice_get_past, slice_get_read}
@@ -193,11 +193,8 @@ each_within items order seen e h = each_from_members (λ n. n < length items) se
 
 -- one more place passed
 pub passed_more : (old new : List ℕ) (start : ℕ) → ((n : ℕ) → n < start → n ∈ old) → TakesIn start old new → (n : ℕ) → n < start + 1 → n ∈ new
-passed_more old new start h k n l = ⊎_elim (λ i. k.kept n (h n i)) (λ e. subst (λ z. z ∈ new) (sym e) k.here) (at (cases_lt n start))
-  where
-    at : (n < start) ⊎ (start ≤ n) → (n < start) ⊎ (n ≡ start)
-    at (inl i) = inl i
-    at (inr i) = inr (omega arith)
+passed_more old new start h k n l =
+    elim (cases_lt n start) [ inl i ↦ k.kept n (h n i) | inr i ↦ let e : n ≡ start = omega arith in subst (λ z. z ∈ new) (sym e) k.here ]
 
 -- the union of rows of items
 abbrev pub IsUnion : (Option Item → ℕ → Bool) → List Item → ℕ → (ℕ → Bool) → Type 0

@@ -1,53 +1,21 @@
--- Pieces of a goal, and their items one side after the other.
+-- The items of the sides of a goal, one side after the other.
 use Rattle.std.proofs.Common.{◌≡◌, ℕ, IsTrue, List, [], ◌∷◌, ◌++◌, ◌↔◌, length, refl, sym, ap, ◌∙◌, subst, inl, inr, ⊎_elim, append_assoc, append-nil}
 use Rattle.std.proofs.lemmas.List.{nil_from_length}
 use Rattle.leaf_rows.specs.Leaves.{has_leaf}
 use Rattle.flow_model.specs.Lists.{◌∈◌, joined}
-use Rattle.flow_model.specs.Process.{Process, Sequence, Parallel, Isolated, leaves}
+use Rattle.flow_model.specs.Process.{Process, Isolated, leaves}
 use Rattle.flow_model.specs.Ready.{DirectlyBefore, isolated_parts}
 use Rattle.flow_model.specs.Circle.{items_of, item_of}
 use Rattle.flow_laws.specs.WellFormed.{IsOrdered}
+use Rattle.flow_laws.proofs.Members.{only_one}
 use Rattle.flow_laws.proofs.ReadyRuns.{direct_other}
 use Rattle.flow_laws.proofs.GoalParts.{joined_items}
 use Rattle.flow_sample.specs.declared.item.Item.{Item}
 use Rattle.flow_sample.specs.Rows.{AreApart}
-use Rattle.flow_sample.specs.Items.{IsLinedUp, IsItemOf, AreItemsOf, AddsItems, IsPieceOf}
+use Rattle.flow_sample.specs.Items.{IsLinedUp, IsItemOf, AreItemsOf, AddsItems}
 use Rattle.flow_sample.specs.ItemMarks.{CanClose}
 use Rattle.flow_sample.proofs.ItemLemmas.{same_length, are_apart, tells_circle}
 use Rattle.flow_sample.proofs.LaidLemmas.{part_item}
-use Rattle.flow_laws.proofs.Members.{mem_append_left, mem_append_right}
-
--- the goal is made of two sides
-pub record IsJoin (whole a b : Process) : Type 0 where
-  pub leaves_are : leaves whole ≡ leaves a ++ leaves b
-  pub parts_are : isolated_parts whole ≡ isolated_parts a ++ isolated_parts b
-  pub items_are : items_of whole ≡ items_of a ++ items_of b
-
-pub join_sequence : (a b : Process) → IsJoin (Sequence a b) a b
-join_sequence a b = record { leaves_are = refl; parts_are = refl; items_are = refl }
-
-pub join_parallel : (a b : Process) → IsJoin (Parallel a b) a b
-join_parallel a b = record { leaves_are = refl; parts_are = refl; items_are = refl }
-
-pub whole_piece : (q : Process) → IsPieceOf q q
-whole_piece q = record { leaf = λ x m. m; part = λ p m. m }
-
-pub piece_left : (q whole a b : Process) → IsJoin whole a b → IsPieceOf q whole → IsPieceOf q a
-piece_left q whole a b j p = record {
-  leaf = λ x m. p.leaf x (subst (λ z. x ∈ z) (sym j.leaves_are) (mem_append_left x (leaves a) (leaves b) m));
-  part = λ x m. p.part x (subst (λ z. x ∈ z) (sym j.parts_are) (mem_append_left x (isolated_parts a) (isolated_parts b) m));
-}
-
-pub piece_right : (q whole a b : Process) → IsJoin whole a b → IsPieceOf q whole → IsPieceOf q b
-piece_right q whole a b j p = record {
-  leaf = λ x m. p.leaf x (subst (λ z. x ∈ z) (sym j.leaves_are) (mem_append_right x (leaves a) (leaves b) m));
-  part = λ x m. p.part x (subst (λ z. x ∈ z) (sym j.parts_are) (mem_append_right x (isolated_parts a) (isolated_parts b) m));
-}
-
-pub piece_inside : (q whole body : Process) → whole ≡ Isolated body → IsPieceOf q whole → IsPieceOf q body
-piece_inside q whole body e p =
-    let h = subst (IsPieceOf q) e p in
-    record { leaf = h.leaf; part = λ x m. h.part x (inr m) }
 
 item_of_some : (l : List ℕ) (x : ℕ) → x ∈ l → item_of l ≡ l ∷ []
 item_of_some [] x m = absurd m
@@ -60,12 +28,12 @@ module _ (q : Process) (pairs : List (ℕ × ℕ)) where
   are_append (l ∷ ls) ks [] ys a b = absurd a
   are_append (l ∷ ls) ks (x ∷ xs) ys a b = (a.0, are_append ls ks xs ys a.1 b)
 
-  pub adds_both : (whole a b : Process) (old mid new : List Item) → IsJoin whole a b → AddsItems q pairs a old mid → AddsItems q pairs b mid new →
+  pub adds_both : (whole a b : Process) (old mid new : List Item) → items_of whole ≡ items_of a ++ items_of b → AddsItems q pairs a old mid → AddsItems q pairs b mid new →
       AddsItems q pairs whole old new
-  adds_both whole a b old mid new j s t = record {
+  adds_both whole a b old mid new e s t = record {
     added = s.added ++ t.added;
     is = t.is ∙ ap (λ z. z ++ t.added) s.is ∙ append_assoc old s.added t.added;
-    items = subst (λ z. AreItemsOf q pairs z (s.added ++ t.added)) (sym j.items_are) (are_append (items_of a) (items_of b) s.added t.added s.items t.items);
+    items = subst (λ z. AreItemsOf q pairs z (s.added ++ t.added)) (sym e) (are_append (items_of a) (items_of b) s.added t.added s.items t.items);
   }
 
   pub adds_none : (g : Process) (old : List Item) → items_of g ≡ [] → AddsItems q pairs g old old
@@ -86,24 +54,20 @@ module _ (q : Process) (pairs : List (ℕ × ℕ)) where
   pub leaf_item : IsOrdered q pairs → (leaf : ℕ) (item : Item) → ((x : ℕ) → IsTrue (has_leaf item.inside x) ↔ (x ≡ leaf)) →
       ((x : ℕ) → IsTrue (has_leaf item.waits x) ↔ DirectlyBefore q pairs x leaf) → item.least ≡ leaf → item.run.items ≡ leaf ∷ [] → IsItemOf q pairs (leaf ∷ []) item
   leaf_item o leaf item inside waits least run = record {
-    inside = λ x. (λ h. inl ((inside x).0 h), λ m. (inside x).1 (is x m));
+    inside = λ x. (λ h. inl ((inside x).0 h), λ m. (inside x).1 (only_one x leaf m));
     waits = λ x. (
-      λ h. let b = (waits x).0 h in ((leaf, inl refl, b), λ m. direct_other q pairs o x leaf b (is x m)),
-      λ h. (waits x).1 (subst (λ z. DirectlyBefore q pairs x z) (is h.0.0 h.0.1) h.0.2),
+      λ h. let b = (waits x).0 h in ((leaf, inl refl, b), λ m. direct_other q pairs o x leaf b (only_one x leaf m)),
+      λ h. (waits x).1 (subst (λ z. DirectlyBefore q pairs x z) (only_one h.0.0 leaf h.0.1) h.0.2),
     );
     least = least;
     run = subst (IsLinedUp q pairs (leaf ∷ [])) (sym run) (record {
       leaf = λ x m. m;
       all = λ x m. m;
       distinct = ((λ m. m), tt);
-      before = λ x y m k b. absurd (direct_other q pairs o x y b (is x m ∙ sym (is y k)));
+      before = λ x y m k b. absurd (direct_other q pairs o x y b (only_one x leaf m ∙ sym (only_one y leaf k)));
       together = λ part m x y z a b c h k. ⊎_elim (λ i. i.1) (λ i. i) h;
     });
   }
-    where
-      is : (x : ℕ) → x ∈ (leaf ∷ []) → x ≡ leaf
-      is x (inl e) = e
-      is x (inr m) = absurd m
 
   -- an isolated part with no leaf
   pub no_item : (body : Process) (old inner : List Item) → AddsItems q pairs body [] inner → inner ≡ [] → AddsItems q pairs (Isolated body) old old

@@ -1,12 +1,12 @@
 -- Rings begun at another of their members.
-use Rattle.std.proofs.Common.{◌≡◌, ℕ, suc, ◌+◌, ◌<◌, ◌≤◌, List, ◌++◌, map, length, get_or, take, drop, sym, ap, ◌∙◌, subst, inr, arith, length-append, drop-cons}
+use Rattle.std.proofs.Common.{◌≡◌, ℕ, suc, ◌+◌, ◌<◌, ◌≤◌, List, ◌∷◌, ◌++◌, map, length, get_or, take, drop, sym, ap, ◌∙◌, subst, inr, arith, length-append, drop-cons}
 use Rattle.std.proofs.lemmas.List.{take-append-drop, map-append, take-map, drop-map}
 use Rattle.flow_model.specs.Lists.{◌∈◌, Each, AreDistinct}
 use Rattle.flow_model.specs.Process.{Process}
-use Rattle.flow_model.specs.Circle.{items_of, IsRing, least_of, BeginsWithLeast}
+use Rattle.flow_model.specs.Ready.{isolated_parts}
+use Rattle.flow_model.specs.Circle.{items_of, IsCircle, IsRing, least_of, BeginsWithLeast}
 use Rattle.flow_laws.proofs.Members.{distinct_swap, each_member, mem_swap, each_from_members}
 use Rattle.flow_laws.proofs.CircleOrTrace.{turn}
-use Rattle.flow_sample.specs.Items.{IsPartCircle}
 use Rattle.flow_sample.specs.Turned.{IsTurned}
 use Rattle.flow_plan.proofs.PlaceLemmas.{place_of_member}
 
@@ -24,14 +24,16 @@ begins_with_least xs p l h =
     subst (λ n. get_or xs p 0 ≤ n) r.2 (h r.0 r.1)))
 
 -- a ring of items, written and turned, is a circle
-pub circle_from_ring : (q : Process) (pairs : List (ℕ × ℕ)) (part : Process) (ring : List (List ℕ)) (circle : List ℕ) →
+pub circle_from_ring : (q : Process) (pairs : List (ℕ × ℕ)) (part : Process) (ring : List (List ℕ)) (circle : List ℕ) → part ∈ (q ∷ isolated_parts q) →
     Each (λ item. item ∈ items_of part) ring → AreDistinct ring → 2 ≤ length ring → IsRing q pairs ring →
-    IsTurned (map least_of ring) circle → IsPartCircle q pairs part circle
-circle_from_ring q pairs part ring circle items distinct two closed t =
+    IsTurned (map least_of ring) circle → IsCircle q pairs circle
+circle_from_ring q pairs part ring circle is_part items distinct two closed t =
     let whole : take t.place ring ++ drop t.place ring ≡ ring = take-append-drop t.place ring in
     let long : length (take t.place ring) + length (drop t.place ring) ≡ length ring =
     sym (length-append (take t.place ring) (drop t.place ring)) ∙ ap length whole in
     record {
+      part = part;
+      is_part = is_part;
       ring = drop t.place ring ++ take t.place ring;
       items = each_from_members (λ item. item ∈ items_of part) (drop t.place ring ++ take t.place ring)
           (λ item m. each_member (λ i. i ∈ items_of part) ring items item (mem_turned t.place ring item m));
@@ -50,7 +52,6 @@ turned_list old list seen new place e f g l h =
     let is : new ≡ drop place seen ++ take place seen = g ∙ sym (ap (λ (z : List ℕ). drop place z ++ take place z) f) in
     record {
       place = place;
-      within = subst (λ (z : List ℕ). place < length z) (f ∙ e) l;
       turned = g ∙ ap (λ (z : List ℕ). drop place z ++ take place z) e;
       from_least = subst BeginsWithLeast (sym is) begun;
     }

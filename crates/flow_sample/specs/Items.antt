@@ -1,10 +1,10 @@
--- The items of a part by their rows, and its circles.
-use Rattle.std.specs.Prelude.{◌≡◌, ◌≤◌, ℕ, IsTrue, List, [], ◌∷◌, ◌++◌, ◌↔◌, length, map, slice_index_or}
+-- The items of a part by their rows.
+use Rattle.std.specs.Prelude.{◌≡◌, ℕ, IsTrue, List, [], ◌∷◌, ◌++◌, ◌↔◌, slice_index_or}
 use Rattle.leaf_rows.specs.Leaves.{has_leaf}
-use Rattle.flow_model.specs.Lists.{◌∈◌, Each, AreDistinct, StandsBefore}
+use Rattle.flow_model.specs.Lists.{◌∈◌, AreDistinct, StandsBefore}
 use Rattle.flow_model.specs.Process.{Process, leaves}
 use Rattle.flow_model.specs.Ready.{DirectlyBefore, isolated_parts}
-use Rattle.flow_model.specs.Circle.{items_of, IsRing, least_of, BeginsWithLeast, IsCircle}
+use Rattle.flow_model.specs.Circle.{items_of, least_of, IsCircle}
 use Rattle.flow_sample.specs.declared.item.Item.{Item}
 use Rattle.flow_sample.specs.declared.excising.ExciseRefusal.{ExciseRefusal}
 use Rattle.flow_sample.specs.declared.excising.ExciseRefusal.TheVariants.{Circle, NoMemory}
@@ -41,21 +41,6 @@ pub record AddsItems (q : Process) (pairs : List (ℕ × ℕ)) (g : Process) (ol
   pub added : List Item
   pub is : new ≡ old ++ added
   pub items : AreItemsOf q pairs (items_of g) added
-
--- the goal stands somewhere in the whole
-pub record IsPieceOf (q g : Process) : Type 0 where
-  pub leaf : (x : ℕ) → x ∈ leaves g → x ∈ leaves q
-  pub part : (part : Process) → part ∈ isolated_parts g → part ∈ isolated_parts q
-
--- a circle of the items of that part
-pub record IsPartCircle (q : Process) (pairs : List (ℕ × ℕ)) (part : Process) (circle : List ℕ) : Type 0 where
-  pub ring : List (List ℕ)
-  pub items : Each (λ item. item ∈ items_of part) ring
-  pub distinct : AreDistinct ring
-  pub two : 2 ≤ length ring
-  pub closed : IsRing q pairs ring
-  pub written : circle ≡ map least_of ring
-  pub from_least : BeginsWithLeast circle
 
 -- a circle of the option; or nothing is said
 abbrev pub TellsCircle : Process → List (ℕ × ℕ) → ExciseRefusal → Type 0

@@ -1,4 +1,10 @@
-ghost use Rattle.std.specs.Prelude.{◌≡◌};
+ghost use Rattle.std.specs.Prelude.{◌≡◌, ◌<◌, ◌≤◌, ℕ, IfOk, length, map, slice_index};
+ghost use Rattle.flow_model.specs.Lists.{Each};
+ghost use Rattle.flow_sample.specs.Rows.{least_at};
+ghost use Rattle.flow_sample.specs.Turned.{IsTurned};
+
+use crate::item::Item;
+use std::alloc::{AllocError, Global};
 
 /// Why an option has no execution: two or more items of one part wait for each other in a ring. Each is
 /// written as its least leaf, the least of all first.
@@ -8,7 +14,7 @@ pub struct Circle {
 }
 
 impl Circle {
-    pub(crate) fn new(leaves: Vec<u32>) -> Circle
+    fn new(leaves: Vec<u32>) -> Circle
         ensures { result.leaves ≡ leaves }
     {
         Circle { leaves }
@@ -20,4 +26,43 @@ impl Circle {
     {
         &self.leaves
     }
+}
+
+/// The least leaves of those items.
+fn leasts(alloc: Global, items: &[Item], numbers: &[usize]) -> Result<Vec<u32>, AllocError>
+    requires { Each (λ number. number < length items.now) numbers.now }
+    ensures { IfOk result (λ leaves. leaves.items ≡ map (least_at items.now) numbers.now) }
+{
+    let mut leaves = Vec::with_capacity(alloc, numbers.len())?;
+    for number in numbers {
+        leaves.push(items[*number].least)?;
+    }
+    Ok(leaves)
+}
+
+/// The first place of the least number.
+fn least_place(list: &[u32]) -> usize
+    requires { 0 < length list.now }
+    ensures within { result < length list.now }
+    ensures least { (k : ℕ) → k < length list.now → slice_index list.now result ≤ slice_index list.now k }
+{
+    let mut place = 0;
+    for (other, number) in list.iter().enumerate() {
+        if *number < list[place] {
+            place = other;
+        }
+    }
+    place
+}
+
+/// The items of a ring as a circle.
+pub(crate) fn circle_of(alloc: Global, items: &[Item], ring: &[usize]) -> Result<Circle, AllocError>
+    requires within { Each (λ number. number < length items.now) ring.now }
+    requires some { 0 < length ring.now }
+    ensures { IfOk result (λ circle. IsTurned (map (least_at items.now) ring.now) circle.leaves.items) }
+{
+    let mut leaves = leasts(alloc, items, ring)?;
+    let place = least_place(&leaves);
+    leaves.rotate_left(place);
+    Ok(Circle::new(leaves))
 }

@@ -104,7 +104,7 @@ impl Gathering {
         Ok(())
     }
 
-    /// ReadsMark one mark, unless the items of a part that ends wait for each other.
+    /// Reads one mark, unless the items of a part that ends wait for each other.
     pub(crate) fn read(
         &mut self,
         alloc: Global,

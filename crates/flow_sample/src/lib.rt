@@ -8,7 +8,6 @@ mod gathering;
 mod item;
 mod items;
 mod order;
-mod written;
 
 pub use circle::Circle;
 pub use excising::{ExciseRefusal, excise};

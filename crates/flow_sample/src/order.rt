@@ -4,9 +4,9 @@ ghost use Rattle.leaf_rows.specs.Leaves.{has_leaf};
 ghost use Rattle.flow_sample.specs.Rows.{AreApart, IsIn, WaitsFor, has_inside, runs};
 ghost use Rattle.flow_sample.specs.Arranged.{TakesIn, IsArranged, IsNodeRing, IsRunOf, TellsRing};
 
+use crate::circle::circle_of;
 use crate::excising::ExciseRefusal;
 use crate::item::{Item, all_inside};
-use crate::written::circle_of;
 use leaf_rows::LeafSet;
 use std::alloc::{AllocError, Global};
 

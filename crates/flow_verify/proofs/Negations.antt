@@ -10,10 +10,8 @@ use Rattle.flow_model.specs.Decided.{decide_meets}
 use Rattle.flow_laws.proofs.WaysLemmas.{not_not}
 use Rattle.flow_rules.specs.declared.rule.Rule as rule
 use Rattle.flow_rules.specs.declared.rule.Rule.{Rule}
-use Rattle.flow_rules.specs.declared.rule.Rule.TheOpen as open_rule
-use Rattle.flow_rules.specs.declared.rule.Rule.TheVariants.{rolls-Not}
-use Rattle.flow_rules.specs.declared.rule.Rule.TheFolds.{fold-roll-Rule}
-use Rattle.flow_rules.specs.Rule.{rule_step, rule_of, rules_of}
+use Rattle.flow_rules.specs.Rule.{rule_of, rules_of}
+use Rattle.flow_rules.proofs.RuleViews.{rule_of-Not}
 use Rattle.flow_excise.specs.Compilation.{IsWithinLimits}
 use Rattle.flow_excise.specs.Options.{schema_of}
 use Rattle.flow_goal.specs.Labelled.{Labelled}
@@ -34,9 +32,6 @@ holds_where_none w p none t (trace, met) =
     (λ n. none (t, (trace, each-append (λ c. Meets c (events_of w.labels t)) w.rules (Not p ∷ []) met (n, tt))))
 
 -- The constraints where a rule is negated and put last
-
-rule_of-Not : (part : Box Rule Global) → rule_of (rule.Not part) ≡ Not (rule_of part.value)
-rule_of-Not part = ap rule_of (sym (rolls-Not part)) ∙ fold-roll-Rule Constraint rule_step (open_rule.Not part)
 
 pub negated_last : (rules more : List Rule) (part : Box Rule Global) (property : Rule) →
     more ≡ rules ++ rule.Not part ∷ [] → part.value ≡ property → rules_of more ≡ rules_of rules ++ Not (rule_of property) ∷ []

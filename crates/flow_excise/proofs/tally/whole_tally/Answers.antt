@@ -4,19 +4,13 @@ use Rattle.flow_model.specs.Resolution.{resolution_count}
 use Rattle.flow_rules.specs.Conjunction.{normal_in}
 use Rattle.flow_excise.specs.Options.{has_ways, options_by}
 use Rattle.flow_excise.specs.Tallies.{IsCountedTo, tally_of}
-use Rattle.flow_excise.proofs.BlockLemmas.{block_end, block_few, last_block, more_blocks}
+use Rattle.flow_excise.proofs.BlockLemmas.{block_end, last_block, more_blocks}
 use Rattle.flow_excise.proofs.TallyLemmas.{counted_same}
 use Rattle.flow_excise.proofs.tally.whole_tally.Goals as goal
 
 pub new-requires-in-loop-number-clause-numbered : goal.new-requires-in-loop-number-clause-numbered
 new-requires-in-loop-number-clause-numbered c =
     more_blocks (resolution_count c.args.tree.now.process) c.loop-number.number c.blocks-number-end.result c.blocks-number-end.ensures c.loop-number-test.true
-
-pub tally_block-requires-clause-leaves : goal.tally_block-requires-clause-leaves
-tally_block-requires-clause-leaves c = c.in_ok-block.ensures.leaves
-
-pub tally_block-requires-clause-few : goal.tally_block-requires-clause-few
-tally_block-requires-clause-few c = block_few c.args.tree.now (normal_in c.args.rules.now) c.loop-number.number c.in_ok-block.block c.in_ok-block.ensures
 
 pub loop-number-preserved : goal.loop-number-preserved
 loop-number-preserved c =

@@ -1,15 +1,14 @@
 use Rattle.std.proofs.Common.{◌≡◌, ◌+◌, ◌<◌, ◌∙◌, ℕ, List, Option, length, take, get_or, ap, sym, true}
 use Rattle.flow_model.specs.Ways.{ways}
 use Rattle.flow_rules.specs.declared.connective.Connective.{Connective}
-use Rattle.flow_rules.specs.declared.connective.Connective.TheVariants.{And, Or}
 use Rattle.flow_rules.specs.declared.counting.WayCount.{WayCount}
 use Rattle.flow_rules.specs.declared.normal.Nnf.{Nnf}
 use Rattle.flow_rules.specs.Counts.{count_of, counts_by, is_decided_count}
 use Rattle.flow_rules.specs.EventLeaves.{leaf_in}
 use Rattle.flow_rules.specs.Normal.{normal_of}
-use Rattle.flow_rules.specs.WayLists.{decider, is_decided, ways_of_parts}
+use Rattle.flow_rules.specs.WayLists.{decider, is_decided, ways_of_pair, ways_of_parts}
 use Rattle.flow_rules.proofs.CountLemmas.{counts_joined, decided_count}
-use Rattle.flow_rules.proofs.NormalViews.{ways_of_and, ways_of_or}
+use Rattle.flow_rules.proofs.NormalViews.{ways_at_event, ways_at_order, ways_at_parts}
 use Rattle.flow_rules.proofs.WayListLemmas.{decided_is, parts_decided, parts_more}
 use Rattle.flow_rules.proofs.counting.+counting.Goals as goal
 
@@ -41,14 +40,18 @@ count_parts-returns-then-is_decided t c =
     ∙ ap (λ met. is_decided_count met c.with-count.result) (sym c.decides-in-loop-part.ensures) ∙ sym c.is_decided.ensures ∙ c.if-is_decided.true in
     here ∙ ap count_of (decided_is (decider j) so_far decides ∙ sym (parts_decided j leaf parts (i + 1) decides))
 
-pub count_ways-returns-in-And : goal.count_ways-returns-in-And
-count_ways-returns-in-And t c =
+pub count_ways-returns-in-Event : goal.count_ways-returns-in-Event
+count_ways-returns-in-Event t c =
+    c.decided.ensures ∙ ap count_of (c.meets.ensures ∙ ways_at_event (leaf_in c.args.events.now) c.args.rule.now c.in-Event.wanted c.in-Event.event c.in-Event.is)
+
+pub count_ways-returns-in-Order : goal.count_ways-returns-in-Order
+count_ways-returns-in-Order t c =
+    let leaf = leaf_in c.args.events.now in
+    c.order.ensures
+    ∙ ap count_of (ap (ways_of_pair c.in-Order.wanted) c.pair.ensures ∙ ways_at_order leaf c.args.rule.now c.in-Order.wanted c.in-Order.first c.in-Order.second c.in-Order.is)
+
+pub count_ways-returns-in-Parts : goal.count_ways-returns-in-Parts
+count_ways-returns-in-Parts t c =
     let leaf = leaf_in c.args.events.now in
     c.count_parts.ensures
-    ∙ ap count_of (ap (ways_of_parts And leaf) c.deref.ensures.value ∙ ways_of_and leaf c.args.rule.now c.in-And.parts c.in-And.is)
-
-pub count_ways-returns-in-Or : goal.count_ways-returns-in-Or
-count_ways-returns-in-Or t c =
-    let leaf = leaf_in c.args.events.now in
-    c.count_parts-in-Or.ensures
-    ∙ ap count_of (ap (ways_of_parts Or leaf) c.deref-in-Or.ensures.value ∙ ways_of_or leaf c.args.rule.now c.in-Or.parts c.in-Or.is)
+    ∙ ap count_of (ap (ways_of_parts c.in-Parts.connective leaf) c.deref.ensures.value ∙ ways_at_parts leaf c.args.rule.now c.in-Parts.connective c.in-Parts.parts c.in-Parts.is)

@@ -1,6 +1,6 @@
 use Rattle.flow_rules.specs.Asked.{ways_asked}
 use Rattle.flow_rules.specs.WayLists.{ways_of_sets}
-use Rattle.flow_rules.proofs.ListingLemmas.{product_more, sum_more, way_more}
+use Rattle.flow_rules.proofs.AskedLemmas.{product_more, sum_more, way_more}
 use Rattle.flow_rules.proofs.listing.+listing.Goals as goal
 
 pub extended-loop-way-preserved : goal.extended-loop-way-preserved

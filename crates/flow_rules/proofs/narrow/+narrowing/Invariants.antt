@@ -1,5 +1,4 @@
 use Rattle.std.proofs.Common.{take}
-use Rattle.flow_rules.specs.Kept.{items_of}
 use Rattle.flow_rules.specs.Standing.{Stands}
 use Rattle.flow_rules.specs.WayLists.{ways_of_parts}
 use Rattle.flow_rules.proofs.NarrowLemmas.{KeepsWays}
@@ -8,4 +7,4 @@ use Rattle.flow_rules.proofs.narrow.+narrowing.Given as goal
 abbrev pub invariant-narrow_parts-loop-part : goal.invariant-narrow_parts-loop-part
 invariant-narrow_parts-loop-part l =
     Stands l.standing l.lanes (λ leaf. ways_of_parts l.connective leaf (take l.part-index l.parts))
-    × KeepsWays l.connective l.wanted l.lanes (items_of l.kept) (take l.part-index l.parts)
+    × KeepsWays l.connective l.wanted l.lanes l.kept.items (take l.part-index l.parts)

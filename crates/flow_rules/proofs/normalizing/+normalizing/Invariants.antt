@@ -4,7 +4,7 @@ use Rattle.flow_rules.specs.Rule.{rule_of}
 use Rattle.flow_rules.specs.Normal.{normals_of, split_form}
 use Rattle.flow_rules.proofs.normalizing.+normalizing.Given as goal
 
-abbrev pub invariant-parts-loop-rule : goal.invariant-parts-loop-rule
-invariant-parts-loop-rule l =
-    (map form_of l.parts.items ≡ map (λ rule. rule_form rule l.wanted) (take l.rule-index l.rules)) ×
-    (normals_of l.parts.items ≡ map (λ rule. split_form (rule_of rule) l.wanted) (take l.rule-index l.rules))
+abbrev pub invariant-normal_forms-loop-rule : goal.invariant-normal_forms-loop-rule
+invariant-normal_forms-loop-rule l =
+    (map form_of l.forms.items ≡ map (λ rule. rule_form rule l.wanted) (take l.rule-index l.rules)) ×
+    (normals_of l.forms.items ≡ map (λ rule. split_form (rule_of rule) l.wanted) (take l.rule-index l.rules))

@@ -7,6 +7,8 @@ pub returns : goal.returns
 returns c = record {
   first = refl;
   size = c.size_of-size.ensures;
+  few = omega (arith, c.size_of-size.ensures);
+  within = omega (arith, c.size_of-size.ensures, c.requires.numbered);
   leaves = c.in_ok-leaves.ensures.leaves;
   listed = c.in_ok-leaves.ensures.size;
   ways = λ lane q h there.

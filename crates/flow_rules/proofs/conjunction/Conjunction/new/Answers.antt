@@ -1,7 +1,12 @@
-use Rattle.flow_rules.proofs.ConjunctionLemmas.{one_more}
+use Rattle.std.proofs.Common.{◌∙◌, true, sym, ap}
+use Rattle.flow_model.specs.Constraint.{all_of}
+use Rattle.flow_model.specs.Ways.{ways}
+use Rattle.flow_rules.specs.Normal.{all_normals}
+use Rattle.flow_rules.specs.Rule.{rules_of}
+use Rattle.flow_rules.proofs.SplitForms.{same_ways, split_all}
 use Rattle.flow_rules.proofs.conjunction.Conjunction.new.Goals as goal
 
-pub loop-rule-preserved : goal.loop-rule-preserved
-loop-rule-preserved c =
-    one_more c.args.rules.now c.loop-rule.rule-index c.rule-item.result c.in_ok-nnf.field-0 c.loop-rule-test.true c.rule-item.is c.in_ok-nnf.ensures.ways
-    c.loop-rule.normals.items c.push.new.self.items c.in_ok-push.ensures.items c.loop-rule.invariant
+pub returns : goal.returns
+returns c = λ leaf.
+    let rules = c.args.rules.now in
+    ap (λ n. ways n leaf) (ap all_normals c.in_ok-rules.ensures.normal ∙ sym (split_all true rules)) ∙ same_ways leaf (all_of (rules_of rules)) true

@@ -1,0 +1,54 @@
+use Rattle.std.proofs.Common.{ap, ◌∙◌, subst, sym, ◌≡◌, ◌++◌, [], ◌∷◌, ℕ, Bool, true, false, cond, is_ok, List, All, length, refl}
+use Rattle.std.proofs.lemmas.List.{length-map}
+use Rattle.std.proofs.lemmas.List.Elements.{All-push}
+use Rattle.flow_model.specs.Lists.{numbers_from}
+use Rattle.flow_plan.specs.declared.token.OrderToken.{OrderToken}
+use Rattle.flow_plan.specs.Planned.{Planned}
+use Rattle.flow_plan.specs.Sampled.{Sampled}
+use Rattle.flow_weave.specs.Woven.{option_with, AreNumbered}
+use Rattle.flow_model.specs.Circle.{IsCircle}
+use Rattle.flow_model.specs.Resolution.{ChoiceOption}
+use Rattle.flow_excise.specs.Compilation.{options_of}
+use Rattle.flow_sample.specs.Excised.{HasExecution}
+use Rattle.flow_sample.specs.Plans.{option_of}
+use Rattle.flow_excise.proofs.SiftingLemmas.{numbered}
+use Rattle.flow_excise.proofs.SieveLemmas.{sift_kept, sift_dropped}
+use Rattle.flow_excise.proofs.sifted.sift.Goals as goal
+
+pub returns-in_ok-push-in-Ok : goal.returns-in_ok-push-in-Ok
+returns-in_ok-push-in-Ok c =
+    let same : option_of c.in_ok-plan.plan ≡ option_with c.args.resolution.now.process c.args.order.now =
+    λ i. record { resolution = c.in_ok-plan.ensures.process i; order = c.in_ok-plan.ensures.pairs i } in
+    sift_kept (numbered c.args.number c.args.way (option_with c.args.resolution.now.process c.args.order.now)) c.args.sieve.now.kept.items c.push.new.self.items
+    c.args.sieve.now.dropped.items c.in-Ok.plan c.in_ok-push-in-Ok.ensures.items (ap option_of c.in-Ok.ensures.ok ∙ same)
+    (subst HasExecution same (c.in-Ok.ensures.executed refl))
+
+pub returns-in_ok-push-in-Err-Circle : goal.returns-in_ok-push-in-Err-Circle
+returns-in_ok-push-in-Err-Circle c =
+    let same : option_of c.in_ok-plan.plan ≡ option_with c.args.resolution.now.process c.args.order.now =
+    λ i. record { resolution = c.in_ok-plan.ensures.process i; order = c.in_ok-plan.ensures.pairs i } in
+    let reason = (rw c.in-Err-Circle.field-0-is at c.in-Err-Circle.ensures.circle) in
+    sift_dropped (numbered c.args.number c.args.way (option_with c.args.resolution.now.process c.args.order.now)) (options_of c.args.sieve.now.kept.items)
+    c.args.sieve.now.dropped.items c.push-in-Err-Circle.new.self.items (record { resolution = c.args.number; way = c.args.way; circle = c.in-Err-Circle.circle })
+    c.in_ok-push-in-Err-Circle.ensures.items
+    (record {
+      resolution = refl;
+      way = refl;
+      circle = subst (λ (o : ChoiceOption). IsCircle o.resolution o.order c.in-Err-Circle.circle.leaves.items) same reason.1;
+    })
+
+-- one plan more, or none for want of memory
+all_tried : (old new : List Sampled) (x : Sampled) (b : Bool) → new ≡ cond b (old ++ x ∷ []) old → All (λ (s : Sampled). AreNumbered s.plan.tokens) old →
+    AreNumbered x.plan.tokens → All (λ (s : Sampled). AreNumbered s.plan.tokens) new
+all_tried old new x true is all here = subst (All (λ (s : Sampled). AreNumbered s.plan.tokens)) (sym is) (All-push (λ (s : Sampled). AreNumbered s.plan.tokens) old x all here)
+all_tried old new x false is all here = subst (All (λ (s : Sampled). AreNumbered s.plan.tokens)) (sym is) all
+
+pub invariant_of-sieve : goal.invariant_of-sieve
+invariant_of-sieve c =
+    let tokens : List OrderToken = c.in_ok-plan.plan.tokens in
+    let long : length c.args.order.now.pairs.items ≡ length tokens = ap length (sym c.in_ok-plan.ensures.pairs) ∙ length-map tokens (λ (t : OrderToken). (t.sender, t.receiver)) in
+    let numbered : AreNumbered tokens = c.in_ok-plan.ensures.numbers ∙ ap (λ (n : ℕ). numbers_from 0 n) long in
+    record {
+      numbered = all_tried c.args.sieve.now.kept.items c.push.new.self.items c.in-Ok.plan (is_ok c.push.result) c.push.ensures.items c.args.sieve.now.numbered
+          (subst (λ (p : Planned). AreNumbered p.tokens) (sym c.in-Ok.ensures.ok) numbered);
+    }
