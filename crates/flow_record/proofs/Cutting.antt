@@ -1,71 +1,36 @@
--- The first line of a source, byte for byte.
-use Rattle.std.proofs.Common.{◌≡◌, ℕ, ◌+◌, ◌-◌, ◌≤◌, ◌<◌, suc, min, Bool, true, false, not, ltb, List, [], ◌∷◌, length, take, drop, refl, sym, ◌∙◌, ap, length-drop, one-add, arith, None, if◌then◌else◌}
-use Rattle.std.specs.Prelude.{◌==◌}
-use Rattle.std.specs.List.{position}
-use Rattle.std.proofs.lemmas.List.{take_rest, drop-drop}
-use Rattle.std.proofs.lemmas.List.Sums.{prefix_len-le-length}
-use Rattle.std.proofs.lemmas.List.Folds.{length-prefix_len}
-use Rattle.flow_record.specs.Lines.{lines_of}
-use Rattle.flow_record.proofs.FirstLine.{feed, absent-cons}
-use Rattle.flow_record.specs.Cut.{is_mark, cut_from, cut_of, line_end}
+-- The first line of a source, byte for byte, and the cut at it.
+use Rattle.std.proofs.Common.{◌≡◌, ℕ, ◌+◌, ◌<◌, min, true, false, List, [], ◌∷◌, ◌++◌, length, refl, sym, ◌∙◌, ap, length-append, arith, Some, None}
+use Rattle.flow_record.specs.Lines.{lines_of, cut_at}
+use Rattle.flow_record.specs.Cut.{is_divider, cut_from, cut_of}
+use Rattle.flow_record.proofs.Pieces.{lacks, first_other, others_lack, parts_are, uncut_lacks}
 
--- a text is its first line and the lines after it
-abbrev Splits : List ℕ → Type 0
-Splits text = lines_of text ≡ take (feed text) text ∷ lines_of (drop (suc (feed text)) text)
+ended : (x y : List ℕ) → lacks 10 x ≡ true → lines_of (x ++ 10 ∷ y) ≡ x ∷ lines_of y
+ended [] y h = refl
+ended (b ∷ x) y h = rw (first_other 10 b x h, ended x y (others_lack 10 b x h)) refl
 
-inside : (b : ℕ) (bs : List ℕ) → (b == 10) ≡ false → (0 < length bs → Splits bs) → Splits (b ∷ bs)
-inside b [] e h = rw e refl
-inside b (c ∷ cs) e h = rw (e, one-add, h (omega arith)) refl
+whole : (text : List ℕ) → 0 < length text → lacks 10 text ≡ true → lines_of text ≡ text ∷ []
+whole [] some h = absurd (omega arith)
+whole (b ∷ []) some h = rw (first_other 10 b [] h) refl
+whole (b ∷ c ∷ cs) some h = rw (first_other 10 b (c ∷ cs) h, whole (c ∷ cs) (omega arith) (others_lack 10 b (c ∷ cs) h)) refl
 
-splits-cons : (t : Bool) (b : ℕ) (bs : List ℕ) → (b == 10) ≡ t → (0 < length bs → Splits bs) → Splits (b ∷ bs)
-splits-cons true b bs e h = rw e refl
-splits-cons false b bs e h = inside b bs e h
+-- the first line of a text that is cut at a line feed, and of one that is not
+pub line_ended : (text line more : List ℕ) → cut_at 10 text ≡ Some (line, more) →
+    (lines_of text ≡ line ∷ lines_of more) × (length line + 1 + length more ≡ length text)
+line_ended text line more cut =
+    let (parts, lack) = parts_are 10 text line more cut in
+    (ap lines_of parts ∙ ended line more lack, (let same = ap length parts in omega (arith, length-append line (10 ∷ more))))
 
-splits : (text : List ℕ) → 0 < length text → Splits text
-splits [] some = absurd (omega arith)
-splits (b ∷ bs) some = splits-cons (b == 10) b bs refl (splits bs)
+pub line_whole : (text : List ℕ) → 0 < length text → cut_at 10 text ≡ None → lines_of text ≡ text ∷ []
+line_whole text some none = whole text some (uncut_lacks 10 text none)
 
--- no line feed: the line ends with the source
-pub at_end : (source : List ℕ) (place : ℕ) → place < length source →
-    position (λ byte. byte == 10) (take (length source - place) (drop place source)) ≡ None →
-    length source ≡ line_end source place
-at_end source place small e =
-    let text : List ℕ = drop place source in
-    let past : length text ≤ feed text = absent-cons (ltb (feed text) (length text)) (λ byte. byte == 10) text refl (rw take_rest at e) in
-    omega (arith, past, prefix_len-le-length (λ byte. not (byte == 10)) text, length-drop place source)
+-- what is left to cut: the rest, which begins at the place
+abbrev pub IsCutFrom : List ℕ → ℕ → List ℕ → Type 0
+IsCutFrom source place rest = cut_of source ≡ cut_from (length source) place (lines_of rest)
 
--- what is left to cut from the place on
-abbrev pub IsCutFrom : List ℕ → ℕ → Type 0
-IsCutFrom source place = cut_of source ≡ cut_from (length source) place (lines_of (drop place source))
+-- the next line divides the source, or does not
+module _ (source rest line more : List ℕ) (place : ℕ) (left : IsCutFrom source place rest) (lines : lines_of rest ≡ line ∷ lines_of more) where
+  pub at_divider : is_divider line ≡ true → (place, min (place + length line + 1) (length source)) ≡ cut_of source
+  at_divider divides = sym (left ∙ rw (lines, divides) refl)
 
--- the cut by the first line from the place on
-abbrev by_line : List ℕ → ℕ → ℕ → Bool → ℕ × ℕ
-by_line source place stop mark =
-    if mark then (place, min (stop + 1) (length source))
-    else cut_from (length source) (stop + 1) (lines_of (drop (stop + 1) source))
-
-one_line : (source : List ℕ) (place stop : ℕ) → place < length source → stop ≡ line_end source place →
-    cut_from (length source) place (lines_of (drop place source))
-    ≡ by_line source place stop (is_mark (take (stop - place) (drop place source)))
-one_line source place stop small e =
-    let text : List ℕ = drop place source in
-    let some : 0 < length text = omega (arith, length-drop place source) in
-    let width : stop - place ≡ feed text = omega arith in
-    let end : place + length (take (feed text) text) + 1 ≡ stop + 1 =
-    omega (arith, length-prefix_len (λ byte. not (byte == 10)) text) in
-    let after : drop (suc (feed text)) text ≡ drop (stop + 1) source =
-    drop-drop (suc (feed text)) place source ∙ ap (λ n. drop n source) (omega arith) in
-    rw (splits text some, width, end, after) refl
-
--- the line from the place on is the mark
-pub at_mark : (source : List ℕ) (place stop second : ℕ) → IsCutFrom source place → place < length source →
-    stop ≡ line_end source place → true ≡ is_mark (take (stop - place) (drop place source)) →
-    second ≡ min (stop + 1) (length source) → (place, second) ≡ cut_of source
-at_mark source place stop second left small e mark same =
-    sym (left ∙ one_line source place stop small e ∙ rw (← mark, same) refl)
-
--- the line from the place on is another
-pub at_other : (source : List ℕ) (place stop : ℕ) → IsCutFrom source place → place < length source →
-    stop ≡ line_end source place → false ≡ is_mark (take (stop - place) (drop place source)) →
-    IsCutFrom source (stop + 1)
-at_other source place stop left small e mark = left ∙ one_line source place stop small e ∙ rw (← mark) refl
+  pub at_other : is_divider line ≡ false → IsCutFrom source (place + length line + 1) more
+  at_other other = left ∙ rw (lines, other) refl
