@@ -1,8 +1,6 @@
-ghost use Rattle.std.specs.Prelude.{◌≡◌, ◌++◌, codes, IfOk, OnOk};
-ghost use Rattle.std.specs.Fmt.{decimal};
+ghost use Rattle.std.specs.Prelude.{◌≡◌, ◌++◌, IfOk, OnOk};
 ghost use Rattle.std.specs.String.{string_bytes};
-ghost use Rattle.flow_model.specs.declared.history.Step.TheVariants.{Failed};
-ghost use Rattle.flow_record.specs.History.{IsSmall, step_text, entry_line, history_text, history_of, history};
+ghost use Rattle.flow_record.specs.History.{IsSmall, entry_line, history_text, history_of, history};
 
 use flow_model::{Entry, FailEffect, Step};
 use std::alloc::{AllocError, Global};
@@ -28,30 +26,18 @@ fn push_entry(text: &mut String, entry: &Entry) -> Result<(), AllocError>
     let by = entry.by;
     match entry.step {
         Step::Took { claim, leaf } => writeln!(text, "{by}: took {claim} {leaf}"),
-        Step::Done { claim } => push_numbered(text, by, "done", claim),
-        Step::Failed { claim, effect } => push_failed(text, by, claim, effect),
-        Step::Late { claim } => push_numbered(text, by, "late", claim),
-        Step::Did { leaf } => push_numbered(text, by, "did", leaf),
-        Step::Rewound { index } => push_numbered(text, by, "rewound", index),
+        Step::Done { claim } => writeln!(text, "{by}: done {claim}"),
+        Step::Failed {
+            claim,
+            effect: FailEffect::Switched,
+        } => writeln!(text, "{by}: failed {claim} switched"),
+        Step::Failed {
+            claim,
+            effect: FailEffect::Kept,
+        } => writeln!(text, "{by}: failed {claim} kept"),
+        Step::Late { claim } => writeln!(text, "{by}: late {claim}"),
+        Step::Did { leaf } => writeln!(text, "{by}: did {leaf}"),
+        Step::Rewound { index } => writeln!(text, "{by}: rewound {index}"),
         Step::Committed => writeln!(text, "{by}: committed"),
-    }
-}
-
-/// Adds the line of a word and one number.
-fn push_numbered(text: &mut String, by: u32, word: &str, number: u32) -> Result<(), AllocError>
-    ensures { OnOk result (string_bytes text.new
-        ≡ string_bytes text.old ++ (decimal by ++ codes ": " ++ (word.now ++ codes " " ++ decimal number) ++ codes "\n")) }
-{
-    writeln!(text, "{by}: {word} {number}")
-}
-
-/// Adds the line of a failure.
-fn push_failed(text: &mut String, by: u32, claim: u32, effect: FailEffect) -> Result<(), AllocError>
-    ensures { OnOk result (string_bytes text.new
-        ≡ string_bytes text.old ++ (decimal by ++ codes ": " ++ step_text (Failed claim effect) ++ codes "\n")) }
-{
-    match effect {
-        FailEffect::Switched => writeln!(text, "{by}: failed {claim} switched"),
-        FailEffect::Kept => writeln!(text, "{by}: failed {claim} kept"),
     }
 }

@@ -36,22 +36,12 @@ pub fn push_leaf_line(text: &mut Vec<u8>, workflow: &Workflow, leaf: u32) -> Res
     text.extend_from_slice(b"\n")
 }
 
-/// Prints the label of a leaf.
-pub(crate) fn print_leaf_label(
-    alloc: Global,
+/// Adds the label of a leaf to a text: an event's name, or what is asked of a fact or done to it.
+pub(crate) fn push_leaf_label(
+    text: &mut Vec<u8>,
     workflow: &Workflow,
     leaf: u32,
-) -> Result<Vec<u8>, AllocError>
-    requires { IsLeaf workflow.now leaf }
-    ensures { IfOk result (λ text. text.items ≡ leaf_text workflow.now leaf) }
-{
-    let mut text = Vec::new(alloc);
-    push_leaf_label(&mut text, workflow, leaf)?;
-    Ok(text)
-}
-
-/// Adds the label of a leaf to a text: an event's name, or what is asked of a fact or done to it.
-fn push_leaf_label(text: &mut Vec<u8>, workflow: &Workflow, leaf: u32) -> Result<(), AllocError>
+) -> Result<(), AllocError>
     requires { IsLeaf workflow.now leaf }
     ensures { OnOk result (text.new.items ≡ text.old.items ++ leaf_text workflow.now leaf) }
 {

@@ -2,7 +2,7 @@ ghost use Rattle.std.specs.Prelude.{◌≡◌, ℕ, [], Some, None, IfOk, OnOk, 
 ghost use Rattle.std.specs.Result.{IsErrOf};
 ghost use Rattle.flow_record.specs.Journal.{noted_leaf, is_label_of, JournalText, after_lines, with_noted, with_leaf_line, journal_of, journal, bad_line, wrong_label};
 
-use crate::journal::print_leaf_label;
+use crate::journal::push_leaf_label;
 use crate::lines::{MOST_LINES, cut_at, split_line};
 use crate::number::plain_number;
 use crate::refusal::RecordRefusal;
@@ -138,8 +138,7 @@ fn is_label_of(
     if leaf >= workflow.tree().leaves() {
         return Ok(false);
     }
-    let printed = print_leaf_label(alloc, workflow, leaf)?;
-    let is = printed.as_slice() == label;
-    drop(printed);
-    Ok(is)
+    let mut printed = Vec::new(alloc);
+    push_leaf_label(&mut printed, workflow, leaf)?;
+    Ok(printed.as_slice() == label)
 }
