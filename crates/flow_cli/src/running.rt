@@ -18,7 +18,7 @@ use flow_expand::{Workflow, expand};
 use flow_form::Script;
 use flow_gate::Gate;
 use flow_io::{ReadRefusal, Source, read_all};
-use flow_record::cut;
+use flow_record::cut_source;
 use flow_reply::{Refused, Verdict, print_report};
 use flow_text::{TextRefusal, parse};
 use std::alloc::{AllocError, Global};
@@ -119,7 +119,7 @@ impl<'a, R: Threads + Wait + Sync, G: Gate> Crew<'a, R, G> {
             output.status output.text.items) }
         ensures of_input { IfOk result (λ output. IsOfInput output.status) }
     {
-        let (end, _) = cut(input);
+        let (end, _) = cut_source(input);
         match parse(alloc, &input[..end]) {
             Ok(script) => {
                 let output = self.run_script(alloc, &script);
