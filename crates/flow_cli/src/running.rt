@@ -27,7 +27,7 @@ use std::thread::Threads;
 
 /// The workers that run a workflow, each in a thread of the runtime, and the gate that performs its tasks.
 #[derive(Drop)]
-pub(crate) struct Crew<'a, R, G: Gate> {
+pub(crate) struct RunMode<'a, R, G: Gate> {
     pub(crate) rt: &'a R,
     pub(crate) gate: &'a G,
     /// The greatest length of the history.
@@ -49,7 +49,7 @@ fn verdict_of(end: End) -> Verdict
     }
 }
 
-impl<'a, R: Threads + Wait + Sync, G: Gate> Crew<'a, R, G> {
+impl<'a, R: Threads + Wait + Sync, G: Gate> RunMode<'a, R, G> {
     /// Runs a compiled workflow to its end.
     pub(crate) fn run(
         &self,
