@@ -1,7 +1,8 @@
 -- What is asked of all executions, and what is told of them.
-use Rattle.std.proofs.Common.{◌≡◌, ◌≤◌, ℕ, zero, suc, List, [], ◌∷◌, length, slice_get, Some, Result, refl, subst, inl, inr, arith}
+use Rattle.std.proofs.Common.{◌≡◌, ◌≤◌, ℕ, List, [], length, slice_get, Some, Result, subst, inl, inr}
 use Rattle.std.specs.declared.alloc.AllocError.{AllocError}
 use Rattle.std.specs.Prelude.{IfOk, ◌⊎◌}
+use Rattle.std.proofs.lemmas.Option.{slice_get_cases}
 use Rattle.std.proofs.lemmas.Result.{IfOk-weaker}
 use Rattle.flow_model.specs.Lists.{Each}
 use Rattle.flow_model.specs.Constraint.{Constraint}
@@ -50,29 +51,15 @@ pub needs_labelled : (w : Definition) (index : ℕ) (r : Redundancy) → IsWellF
 needs_labelled w index Redundant formed told = tt
 needs_labelled w index (Needed t) formed told = trace_within (schema_of w) formed t.items told.0.0
 
--- a constraint stands at that place, or there are no more than that
-abbrev IsAtOrPast : List Constraint → ℕ → Type 0
-IsAtOrPast rules index = ((rule : Constraint) × (slice_get rules index ≡ Some rule)) ⊎ (length rules ≤ index)
-
-at_or_past : (rules : List Constraint) (index : ℕ) → IsAtOrPast rules index
-at_or_past [] index = inr (omega arith)
-at_or_past (rule ∷ rules) zero = inl (rule, refl)
-at_or_past (rule ∷ rules) (suc index) = later (at_or_past rules index)
-  where
-    later : IsAtOrPast rules index → IsAtOrPast (rule ∷ rules) (suc index)
-    later (inl (r, at)) = inl (r, at)
-    later (inr past) = inr (omega (arith, past))
-
 -- what is told of a constraint that there is
 pub tried : (w : Definition) (index : ℕ) (r : Redundancy) (status : Status) (output : List ℕ) → ¬ (length w.rules ≤ index) →
     ((rule : Constraint) → slice_get w.rules index ≡ Some rule → IsWithinLimits (against (without (schema_of w) index) rule)) →
     TellsOfConstraint (schema_of w) index r → status ≡ status_of_redundancy r → output ≡ redundancy_text w r → VerifiesConstraint w index status output
-tried w index r status output some within told status_is output_is = by_place (at_or_past w.rules index)
-  where
-    by_place : IsAtOrPast w.rules index → VerifiesConstraint w index status output
-    by_place (inl (rule, at)) =
-        inr (rule, at, inr (record { within = within rule at; redundancy = r; told = told; status_is = status_is; output_is = output_is }))
-    by_place (inr past) = absurd (some past)
+tried w index r status output some within told status_is output_is = elim (slice_get_cases w.rules index).1 [
+  | inl (rule, there, at, read) ↦
+      inr (rule, at, inr (record { within = within rule at; redundancy = r; told = told; status_is = status_is; output_is = output_is }))
+  | inr (past, none) ↦ absurd (some past)
+]
 
 -- why nothing is told of a constraint: there is none of that number, or the workflow is too large with its negation
 pub untried : (w : Definition) (index : ℕ) (refusal : VerifyRefusal) (result : Result Output AllocError) → (length w.rules ≤ index → refusal ≡ NoRule index) →
@@ -80,9 +67,8 @@ pub untried : (w : Definition) (index : ℕ) (refusal : VerifyRefusal) (result :
     IfOk result (λ output. (v : Schema) → IsRefused v refusal → IsTooLarge v output.status output.text.items) →
     IfOk result (λ output. (i : ℕ) → refusal ≡ NoRule i → Tells [] (refused.NoRule i) output.status output.text.items) →
     IfOk result (λ output. VerifiesConstraint w index output.status output.text.items)
-untried w index refusal result none why large no_rule = by_place (at_or_past w.rules index)
-  where
-    by_place : IsAtOrPast w.rules index → IfOk result (λ output. VerifiesConstraint w index output.status output.text.items)
-    by_place (inl (rule, at)) =
-        IfOk-weaker result _ _ (λ output tells. inr (rule, at, inl (tells (against (without (schema_of w) index) rule) (why rule at)))) large
-    by_place (inr past) = IfOk-weaker result _ _ (λ output tells. inl (record { none = past; told = tells index (none past) })) no_rule
+untried w index refusal result none why large no_rule = elim (slice_get_cases w.rules index).1 [
+  | inl (rule, there, at, read) ↦
+      IfOk-weaker result _ _ (λ output tells. inr (rule, at, inl (tells (against (without (schema_of w) index) rule) (why rule at)))) large
+  | inr (past, missing) ↦ IfOk-weaker result _ _ (λ output tells. inl (record { none = past; told = tells index (none past) })) no_rule
+]

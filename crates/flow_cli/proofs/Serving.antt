@@ -114,13 +114,11 @@ known_below events facts (label ∷ labels) (suc leaf) event h at = known_below 
 
 -- where a leaf is an event's there is an event
 some_below : (events facts : ℕ) (labels : List Label) (leaf : ℕ) → Each (IsKnown events facts) labels → IsSome (event_at labels leaf) → 0 < events
-some_below events facts [] leaf h some = let e : false ≡ true = some in cc
-some_below events facts (Event e ∷ labels) zero h some = let less : e < events = h.0 in omega arith
-some_below events facts (Test f ∷ labels) zero h some = let e : false ≡ true = some in cc
-some_below events facts (Absent f ∷ labels) zero h some = let e : false ≡ true = some in cc
-some_below events facts (Ins f ∷ labels) zero h some = let e : false ≡ true = some in cc
-some_below events facts (Del f ∷ labels) zero h some = let e : false ≡ true = some in cc
-some_below events facts (label ∷ labels) (suc leaf) h some = some_below events facts labels leaf h.1 some
+some_below events facts labels leaf h some = by_event (event_at labels leaf) refl some
+  where
+    by_event : (o : Option ℕ) → event_at labels leaf ≡ o → IsSome o → 0 < events
+    by_event None at some = let e : false ≡ true = some in cc
+    by_event (Some event) at some = let less = known_below events facts labels leaf event h at in omega arith
 
 event_named : (w : Definition) (s : RunState) (claim : ℕ) → Each (IsKnown (length w.events) (length w.facts)) w.tree.labels → 0 < length w.events →
     event_of_claim (schema_of w) s claim < length w.events

@@ -1,5 +1,6 @@
 -- Driven sessions, one command after another.
-use Rattle.std.proofs.Common.{◌≡◌, ◌<◌, ◌+◌, ℕ, zero, suc, List, [], ◌∷◌, ◌++◌, length, take, get_or, refl, sym, ap, ◌∙◌, subst, append_assoc, append-nil, arith}
+use Rattle.std.proofs.Common.{◌≡◌, ◌<◌, ◌+◌, ℕ, List, [], ◌∷◌, ◌++◌, length, take, get_or, refl, sym, ap, ◌∙◌, subst, append_assoc, append-nil}
+use Rattle.std.proofs.lemmas.List.{take_more}
 use Rattle.flow_model.specs.Verdict.{drive_verdict}
 use Rattle.flow_workflow.specs.Definition.{Definition, schema_of}
 use Rattle.flow_excise.specs.Compilation.{IsWithinLimits}
@@ -21,21 +22,13 @@ drives_more old middle new [] command text line d r =
 drives_more old middle new (c ∷ session) command text line (m, (l, (rest, first, later, e))) r =
     (m, (l, (rest ++ line, first, drives_more m middle new session command rest line later r, ap (λ t. t ++ line) e ∙ append_assoc l rest line)))
 
--- the front of a list with one member more
-front_more : {A : Type 0} (xs : List A) (i : ℕ) (d : A) → i < length xs → take (i + 1) xs ≡ take i xs ++ get_or xs i d ∷ []
-front_more [] i d h = absurd (omega arith)
-front_more (x ∷ xs) zero d h = refl
-front_more {A} (x ∷ xs) (suc i) d h =
-    let e : suc i + 1 ≡ suc (i + 1) = omega arith in
-    ap (λ n. take n (x ∷ xs)) e ∙ ap (λ ys. x ∷ ys) (front_more xs i d (let r : i < length xs = omega arith in r))
-
 -- the front of a session goes on with the next command
 pub drives_next : (old middle new : Run) (session : List Command) (i : ℕ) (d : Command) (text line both : List ℕ) → i < length session →
     Drives old (take i session) text middle → RepliesTo middle (get_or session i d) line new → both ≡ text ++ line →
     Drives old (take (i + 1) session) both new
 drives_next old middle new session i d text line both within driven reply is =
     subst (λ (t : List ℕ). Drives old (take (i + 1) session) t new) (sym is)
-    (subst (λ (front : List Command). Drives old front (text ++ line) new) (sym (front_more session i d within))
+    (subst (λ (front : List Command). Drives old front (text ++ line) new) (sym (take_more session i d within))
     (drives_more old middle new (take i session) (get_or session i d) text line driven reply))
 
 -- a session is of one workflow and one limit

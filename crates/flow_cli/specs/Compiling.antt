@@ -4,7 +4,7 @@ use Rattle.flow_model.specs.Schema.{Schema}
 use Rattle.flow_laws.specs.WellFormed.{IsConsistent}
 use Rattle.flow_workflow.specs.Definition.{Definition, schema_of}
 use Rattle.flow_excise.specs.declared.refusal.CompileRefusal.{CompileRefusal}
-use Rattle.flow_excise.specs.declared.refusal.CompileRefusal.TheVariants.{TooManyChoices, TooManyWays, TooBulky, Inconsistent, NoMemory}
+use Rattle.flow_excise.specs.declared.refusal.CompileRefusal.TheVariants.{Inconsistent, NoMemory}
 use Rattle.flow_excise.specs.declared.refusal.Dropped.{Dropped}
 use Rattle.flow_excise.specs.Executions.{TellOfAll}
 use Rattle.flow_excise.specs.Compilation.{IsWithinLimits, IsRefused, all_numbered}
@@ -16,11 +16,9 @@ use Rattle.flow_cli.specs.Refusals.{Tells}
 
 -- the refusal is that there is too much of something
 abbrev pub IsOfCounts : CompileRefusal → Type 0
-IsOfCounts (TooManyChoices count) = Unit {0}
-IsOfCounts (TooManyWays count) = Unit {0}
-IsOfCounts (TooBulky count) = Unit {0}
 IsOfCounts (Inconsistent dropped) = ⊥
 IsOfCounts NoMemory = ⊥
+IsOfCounts other = Unit {0}
 
 -- the workflow is too large to be compiled, and the output is the first count that is
 pub record IsTooLarge (w : Schema) (status : Status) (output : List ℕ) : Type 0 where

@@ -31,9 +31,7 @@ start_of w steps = record { definition = w; limit = steps; history = [] }
 abbrev pub ended : Verdict → Status
 ended verdict.Committed = Fine
 ended verdict.Spent = Spent
-ended (verdict.NoOther leaf) = No
-ended verdict.Stuck = No
-ended verdict.Unfinished = No
+ended other = No
 
 -- The workflow is not too large, and the output is that of a driven session of it, in so many steps at most, with this
 -- status: a reply to each command, and the report of the run so made. Of its history the headline holds: it is lawful.

@@ -14,7 +14,7 @@ use Rattle.flow_words.specs.declared.request.Mode.TheVariants.{Drive, Run, Check
 use Rattle.flow_words.specs.declared.request.Request.{Request}
 use Rattle.flow_words.specs.Words.{IsCall, IsNoCall}
 use Rattle.flow_cli.specs.declared.status.Status.{Status}
-use Rattle.flow_cli.specs.declared.status.Status.TheVariants.{Fine, No, Words, Input, ReadFault, WriteFault, Memory, Spent}
+use Rattle.flow_cli.specs.declared.status.Status.TheVariants.{Fine, No, Refused, WriteFault, Memory, Spent}
 use Rattle.flow_cli.specs.Refusals.{Tells}
 use Rattle.flow_cli.specs.Checking.{Checks}
 use Rattle.flow_cli.specs.Driving.{DrivesText}
@@ -97,33 +97,21 @@ Writes gives words source status output =
 
 -- the call wrote its whole output, and no fault and no want of memory ended it
 abbrev pub IsWhole : Status → Type 0
-IsWhole Words = Unit {0}
-IsWhole ReadFault = Unit {0}
-IsWhole Input = Unit {0}
-IsWhole Fine = Unit {0}
-IsWhole No = Unit {0}
-IsWhole Spent = Unit {0}
 IsWhole WriteFault = ⊥
 IsWhole Memory = ⊥
+IsWhole other = Unit {0}
 
 -- the answer to an input that was read
 abbrev pub IsOfInput : Status → Type 0
-IsOfInput Input = Unit {0}
+IsOfInput Refused = Unit {0}
 IsOfInput Fine = Unit {0}
 IsOfInput No = Unit {0}
 IsOfInput Spent = Unit {0}
-IsOfInput Words = ⊥
-IsOfInput ReadFault = ⊥
-IsOfInput WriteFault = ⊥
-IsOfInput Memory = ⊥
+IsOfInput other = ⊥
 
 -- the workflow was checked, the session gone through to its end, or the query or the journal answered
 abbrev pub IsOver : Status → Type 0
 IsOver Fine = Unit {0}
 IsOver No = Unit {0}
 IsOver Spent = Unit {0}
-IsOver Words = ⊥
-IsOver Input = ⊥
-IsOver ReadFault = ⊥
-IsOver WriteFault = ⊥
-IsOver Memory = ⊥
+IsOver other = ⊥

@@ -7,32 +7,23 @@ use Rattle.flow_expand.specs.declared.refusal.ExpandRefusal.{ExpandRefusal}
 use Rattle.flow_expand.specs.Refusals.{IsRefusal}
 use Rattle.flow_expand.specs.Workflows.{IsExpanded}
 use Rattle.flow_excise.specs.declared.refusal.CompileRefusal.{CompileRefusal}
-use Rattle.flow_excise.specs.declared.refusal.CompileRefusal.TheVariants.{TooManyChoices, TooManyWays, TooBulky, Inconsistent, NoMemory}
+use Rattle.flow_excise.specs.declared.refusal.CompileRefusal.TheVariants.{Inconsistent}
 use Rattle.flow_findings.specs.declared.refused.Refused.{Refused}
 use Rattle.flow_findings.specs.declared.refused.Refused.TheVariants as refused
 use Rattle.flow_findings.specs.Refusing.{refused_text, IsOfWorkflow}
 use Rattle.flow_cli.specs.declared.status.Status.{Status}
-use Rattle.flow_cli.specs.declared.status.Status.TheVariants.{No, Words, Input, ReadFault}
+use Rattle.flow_cli.specs.declared.status.Status.TheVariants as ending
 
 -- a workflow that no execution meets is an answer, and one that is too large is none
 abbrev pub status_of_compiling : CompileRefusal → Status
-status_of_compiling (TooManyChoices count) = Input
-status_of_compiling (TooManyWays count) = Input
-status_of_compiling (TooBulky count) = Input
-status_of_compiling (Inconsistent dropped) = No
--- (never told: want of memory has ended the call by then, with a status of its own)
-status_of_compiling NoMemory = Input
+status_of_compiling (Inconsistent dropped) = ending.No
+status_of_compiling other = ending.Refused
 
 abbrev pub status_of : Refused → Status
-status_of refused.Words = Words
-status_of refused.Read = ReadFault
-status_of refused.TooLong = Input
-status_of (refused.Text refusal) = Input
-status_of (refused.Query refusal) = Input
-status_of (refused.Record refusal) = Input
-status_of (refused.Expand refusal) = Input
-status_of (refused.NoRule index) = Input
+status_of refused.Words = ending.Words
+status_of refused.Read = ending.ReadFault
 status_of (refused.Compile refusal) = status_of_compiling refusal
+status_of other = ending.Refused
 
 -- the status and the output are those of the refusal, events by these names
 pub record Tells (events : List (List ℕ)) (r : Refused) (status : Status) (output : List ℕ) : Type 0 where

@@ -7,7 +7,7 @@ use Rattle.flow_record.specs.declared.refusal.RecordRefusal.{RecordRefusal}
 use Rattle.flow_record.specs.declared.refusal.RecordRefusal.TheVariants.{BadLine, Label, NoMemory}
 use Rattle.flow_record.specs.Journal.{journal_of, journal, bad_line, wrong_label}
 use Rattle.flow_trace.specs.declared.checked.Checked.{Checked}
-use Rattle.flow_trace.specs.declared.checked.Checked.TheVariants.{Execution, Prefix, Bad}
+use Rattle.flow_trace.specs.declared.checked.Checked.TheVariants.{Execution}
 use Rattle.flow_trace.specs.Traces.{TellsOfTrace}
 use Rattle.flow_findings.specs.declared.refused.Refused.TheVariants as refused
 use Rattle.flow_findings.specs.Judging.{checked_text}
@@ -19,8 +19,7 @@ use Rattle.flow_cli.specs.Compiling.{IsNotCompiled}
 -- the status that goes with what is told of a list of leaves
 abbrev pub status_of_checked : Checked → Status
 status_of_checked Execution = Fine
-status_of_checked Prefix = No
-status_of_checked (Bad k) = No
+status_of_checked other = No
 
 -- the workflow is not too large, and the output is what the leaves are of it
 pub record TellsOfLeaves (w : Definition) (leaves : List ℕ) (status : Status) (output : List ℕ) : Type 0 where

@@ -12,7 +12,7 @@ use crate::driving::Drive;
 use crate::generating::write_generated;
 use crate::output::{Output, refuse};
 use crate::reading::answer_source;
-use crate::running::Crew;
+use crate::running::RunMode;
 use crate::status::Status;
 use crate::tracing::Trace;
 use crate::verifying::Verify;
@@ -42,7 +42,7 @@ fn answer<R: Threads + Wait + Sync, S: Source, G: Gate>(
     ensures unread { ¬ (Reads request.mode) → source.new ≡ source.old }
 {
     let steps = request.steps;
-    let crew = Crew {
+    let run = RunMode {
         rt,
         gate,
         steps,
@@ -50,12 +50,12 @@ fn answer<R: Threads + Wait + Sync, S: Source, G: Gate>(
     };
     match request.mode {
         Mode::Drive => answer_source(alloc, &Drive { steps }, source),
-        Mode::Run => crew.run_source(alloc, source),
+        Mode::Run => run.run_source(alloc, source),
         Mode::Check => answer_source(alloc, &Check, source),
         Mode::Verify => answer_source(alloc, &Verify, source),
         Mode::Trace => answer_source(alloc, &Trace, source),
         Mode::Gen => write_generated(alloc, request.seed, request.size),
-        Mode::Large => crew.run_generated(alloc, request.seed, request.size),
+        Mode::Large => run.run_generated(alloc, request.seed, request.size),
     }
 }
 

@@ -5,7 +5,7 @@ ghost use Rattle.flow_cli.specs.Driving.{IsStepCount, DrivesWorkflow, DrivesSaid
 
 use crate::output::{Output, refuse, refuse_script, refuse_workflow};
 use crate::reading::ScriptMode;
-use crate::session::run;
+use crate::session::drive_compiled;
 use flow_excise::compile;
 use flow_expand::{Workflow, expand};
 use flow_form::Script;
@@ -25,7 +25,7 @@ fn drive_workflow(
     ensures { IfOk result (λ output. DrivesWorkflow workflow steps session.now output.status output.text.items) }
 {
     match compile(alloc, workflow.tree(), workflow.rules()) {
-        Ok(compiled) => run(alloc, workflow, compiled, session, steps),
+        Ok(compiled) => drive_compiled(alloc, workflow, compiled, session, steps),
         Err(refusal) => {
             drop(workflow);
             refuse_workflow(alloc, refusal)

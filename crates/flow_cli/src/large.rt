@@ -5,7 +5,7 @@ ghost use Rattle.flow_cli.specs.Large.{summary_of, RunsGenerated};
 
 use crate::generated::{compile_generated, generated_workflow};
 use crate::output::Output;
-use crate::running::Crew;
+use crate::running::RunMode;
 use crate::session::status_of;
 use flow_core::Core;
 use flow_excise::Counts;
@@ -33,7 +33,7 @@ fn summary_of(core: &Core, counts: &Counts, seed: u32, size: u32, verdict: Verdi
     }
 }
 
-impl<'a, R: Threads + Wait + Sync, G: Gate> Crew<'a, R, G> {
+impl<'a, R: Threads + Wait + Sync, G: Gate> RunMode<'a, R, G> {
     /// Runs the generated workflow of that seed and size, and tells the run in one line once it is over.
     pub(crate) fn run_generated(
         &self,

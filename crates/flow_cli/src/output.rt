@@ -30,7 +30,7 @@ fn status_of_compiling(refusal: &CompileRefusal) -> Status
         CompileRefusal::TooManyChoices { .. }
         | CompileRefusal::TooManyWays { .. }
         | CompileRefusal::TooBulky { .. }
-        | CompileRefusal::NoMemory => Status::Input,
+        | CompileRefusal::NoMemory => Status::Refused,
     }
 }
 
@@ -46,7 +46,7 @@ fn status_of(refused: &Refused) -> Status
         | Refused::Query(_)
         | Refused::Record(_)
         | Refused::Expand(_)
-        | Refused::NoRule(_) => Status::Input,
+        | Refused::NoRule(_) => Status::Refused,
         Refused::Compile(refusal) => status_of_compiling(refusal),
     }
 }

@@ -9,7 +9,7 @@ use crate::output::{Output, refuse};
 use crate::status::Status;
 use flow_form::Script;
 use flow_io::{ReadRefusal, Source, read_all};
-use flow_record::cut;
+use flow_record::cut_source;
 use flow_findings::Refused;
 use flow_text::{TextRefusal, parse};
 use std::alloc::{AllocError, Global};
@@ -38,7 +38,7 @@ fn answer_input<M: ScriptMode>(alloc: Global, mode: &M, input: &[u8]) -> Result<
     ensures writes { IfOk result (λ output. WritesFor (M.writes mode.now) input.now output.status output.text.items) }
     ensures of_input { IfOk result (λ output. IsOfInput output.status) }
 {
-    let (end, second) = cut(input);
+    let (end, second) = cut_source(input);
     match parse(alloc, &input[..end]) {
         Ok(script) => {
             let output = mode.answer(alloc, &script, &input[second..]);

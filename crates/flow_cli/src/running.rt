@@ -18,7 +18,7 @@ use flow_expand::{Workflow, expand};
 use flow_form::Script;
 use flow_gate::Gate;
 use flow_io::{ReadRefusal, Source, read_all};
-use flow_record::cut;
+use flow_record::cut_source;
 use flow_findings::Refused;
 use flow_reply::{Verdict, print_report};
 use flow_text::{TextRefusal, parse};
@@ -28,7 +28,7 @@ use std::thread::Threads;
 
 /// The workers that run a workflow, each in a thread of the runtime, and the gate that performs its tasks.
 #[derive(Drop)]
-pub(crate) struct Crew<'a, R, G: Gate> {
+pub(crate) struct RunMode<'a, R, G: Gate> {
     pub(crate) rt: &'a R,
     pub(crate) gate: &'a G,
     /// The greatest length of the history.
@@ -50,7 +50,7 @@ fn verdict_of(end: End) -> Verdict
     }
 }
 
-impl<'a, R: Threads + Wait + Sync, G: Gate> Crew<'a, R, G> {
+impl<'a, R: Threads + Wait + Sync, G: Gate> RunMode<'a, R, G> {
     /// Runs a compiled workflow to its end.
     pub(crate) fn run(
         &self,
@@ -120,7 +120,7 @@ impl<'a, R: Threads + Wait + Sync, G: Gate> Crew<'a, R, G> {
             output.status output.text.items) }
         ensures of_input { IfOk result (λ output. IsOfInput output.status) }
     {
-        let (end, _) = cut(input);
+        let (end, _) = cut_source(input);
         match parse(alloc, &input[..end]) {
             Ok(script) => {
                 let output = self.run_script(alloc, &script);

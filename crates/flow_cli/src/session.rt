@@ -101,8 +101,8 @@ fn record(alloc: Global, core: &mut Core, commands: &[Command]) -> Result<Output
     Ok(Output { status, text })
 }
 
-/// Runs a workflow by the commands, in so many steps at most.
-pub fn run(
+/// Drives a compiled workflow by the commands, in so many steps at most.
+pub fn drive_compiled(
     alloc: Global,
     workflow: Workflow,
     compiled: Compiled,

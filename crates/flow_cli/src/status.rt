@@ -13,7 +13,7 @@ pub enum Status {
     /// The words are no call of the program.
     Words,
     /// The input is not what the mode asks for, or too large.
-    Input,
+    Refused,
     /// The source failed.
     ReadFault,
     /// The sink failed.
@@ -33,7 +33,7 @@ impl Status {
             Status::Fine => 0,
             Status::No => 1,
             Status::Words => 2,
-            Status::Input => 3,
+            Status::Refused => 3,
             Status::ReadFault => 4,
             Status::WriteFault => 5,
             Status::Memory => 6,

@@ -20,26 +20,20 @@ pub told_once : (events : List (List ℕ)) (r q : Refused) (status other : Statu
 told_once events r q status other output text e p t =
     (p.status_is ∙ ap status_of e ∙ sym t.status_is, p.output_is ∙ ap (refused_text events) e ∙ sym t.output_is)
 
+apart : (n limit : ℕ) → limit < n → n ≤ limit → ⊥
+apart n limit many few = omega (arith, many, few)
+
 module _ (w : Schema) where
-  choices_apart : 4096 < resolution_count w.goal → resolution_count w.goal ≤ 4096 → ⊥
-  choices_apart many few = omega (arith, many, few)
-
-  ways_apart : 4096 < length (options w) → length (options w) ≤ 4096 → ⊥
-  ways_apart many few = omega (arith, many, few)
-
-  bulk_apart : 262144 < bulk w → bulk w ≤ 262144 → ⊥
-  bulk_apart many few = omega (arith, many, few)
-
   -- of the counts one is the first that is too large
   first_count : (r q : CompileRefusal) → IsOfCounts r → IsOfCounts q → IsRefused w r → IsRefused w q → r ≡ q
   first_count (TooManyChoices n) (TooManyChoices m) a b h g = ap (λ k. TooManyChoices k) (h.1 ∙ sym g.1)
-  first_count (TooManyChoices n) (TooManyWays m) a b h g = absurd (choices_apart h.0 g.0)
-  first_count (TooManyChoices n) (TooBulky m) a b h g = absurd (choices_apart h.0 g.0)
-  first_count (TooManyWays n) (TooManyChoices m) a b h g = absurd (choices_apart g.0 h.0)
+  first_count (TooManyChoices n) (TooManyWays m) a b h g = absurd (apart (resolution_count w.goal) 4096 h.0 g.0)
+  first_count (TooManyChoices n) (TooBulky m) a b h g = absurd (apart (resolution_count w.goal) 4096 h.0 g.0)
+  first_count (TooManyWays n) (TooManyChoices m) a b h g = absurd (apart (resolution_count w.goal) 4096 g.0 h.0)
   first_count (TooManyWays n) (TooManyWays m) a b h g = ap (λ k. TooManyWays k) (h.1.1 ∙ sym g.1.1)
-  first_count (TooManyWays n) (TooBulky m) a b h g = absurd (ways_apart h.1.0 g.1.0)
-  first_count (TooBulky n) (TooManyChoices m) a b h g = absurd (choices_apart g.0 h.0)
-  first_count (TooBulky n) (TooManyWays m) a b h g = absurd (ways_apart g.1.0 h.1.0)
+  first_count (TooManyWays n) (TooBulky m) a b h g = absurd (apart (length (options w)) 4096 h.1.0 g.1.0)
+  first_count (TooBulky n) (TooManyChoices m) a b h g = absurd (apart (resolution_count w.goal) 4096 g.0 h.0)
+  first_count (TooBulky n) (TooManyWays m) a b h g = absurd (apart (length (options w)) 4096 g.1.0 h.1.0)
   first_count (TooBulky n) (TooBulky m) a b h g = ap (λ k. TooBulky k) (h.1.1.1 ∙ sym g.1.1.1)
   first_count (Inconsistent d) q a b h g = absurd a
   first_count NoMemory q a b h g = absurd a
@@ -47,9 +41,9 @@ module _ (w : Schema) where
   first_count r NoMemory a b h g = absurd b
 
   none_too_large : (r : CompileRefusal) → IsOfCounts r → IsRefused w r → IsWithinLimits w → ⊥
-  none_too_large (TooManyChoices n) a h within = choices_apart h.0 within.resolutions
-  none_too_large (TooManyWays n) a h within = ways_apart h.1.0 within.options_few
-  none_too_large (TooBulky n) a h within = bulk_apart h.1.1.0 within.light
+  none_too_large (TooManyChoices n) a h within = apart (resolution_count w.goal) 4096 h.0 within.resolutions
+  none_too_large (TooManyWays n) a h within = apart (length (options w)) 4096 h.1.0 within.options_few
+  none_too_large (TooBulky n) a h within = apart (bulk w) 262144 h.1.1.0 within.light
   none_too_large (Inconsistent d) a h within = a
   none_too_large NoMemory a h within = a
 

@@ -10,35 +10,23 @@ use Rattle.flow_words.specs.declared.request.Mode.TheVariants.{Drive, Run, Check
 use Rattle.flow_words.specs.declared.request.Request.{Request}
 use Rattle.flow_cli.specs.declared.status.Status.{Status}
 use Rattle.flow_cli.specs.declared.status.Status.TheVariants.{ReadFault, Words}
-use Rattle.flow_cli.specs.Checking.{Checks}
+use Rattle.flow_cli.specs.Checking.{ChecksWorkflow, Checks}
 use Rattle.flow_cli.specs.Driving.{DrivesText}
-use Rattle.flow_cli.specs.Running.{Runs}
-use Rattle.flow_cli.specs.Tracing.{TracesText}
+use Rattle.flow_cli.specs.Running.{RunsWorkflow, Runs}
+use Rattle.flow_cli.specs.Tracing.{TracesWorkflow, TracesText}
 use Rattle.flow_cli.specs.Verifying.{VerifiesText}
 use Rattle.flow_cli.specs.Output.{second_part, WritesIn, WritesAs, IsOfInput}
-use Rattle.flow_cli.proofs.Statuses.{not_expanded, of_verdict, checks_of_input, drives_of_input, traces_of_input, verifies_of_input, runs_of_input}
+use Rattle.flow_cli.proofs.Statuses.{of_verdict, where_expanded, checks_of_input, drives_of_input, traces_of_input, verifies_of_input, runs_of_input}
 use Rattle.flow_cli_laws.specs.Single.{FaultsAreTold}
 
 module _ (status : Status) (output : List ℕ) where
-  check_status : (s : Said) → Checks s status output → IsOfInput status
-  check_status s (inl none) = not_expanded s status output none
-  check_status s (inr (w, x, h)) = checks_of_input w status output h
-
   drive_status : (s : Said) (steps : ℕ) (text : List ℕ) → DrivesText s steps text status output → IsOfInput status
   drive_status s steps text (inl bad) = subst IsOfInput (sym bad.told.status_is) tt
-  drive_status s steps text (inr (session, is, h)) = drives_of_input s steps session status output h
-
-  trace_status : (s : Said) (text : List ℕ) → TracesText s text status output → IsOfInput status
-  trace_status s text (inl none) = not_expanded s status output none
-  trace_status s text (inr (w, x, h)) = traces_of_input w text status output h
+  drive_status s steps text (inr (session, is, h)) = drives_of_input status output s steps session h
 
   verify_status : (s : Said) (text : List ℕ) → VerifiesText s text status output → IsOfInput status
   verify_status s text (inl none) = subst IsOfInput (sym none.told.status_is) tt
-  verify_status s text (inr (query, asks, h)) = verifies_of_input s query status output h
-
-  run_status : (gives : Call → Outcome → Bool) (s : Said) (steps workers : ℕ) → Runs gives s steps workers status output → IsOfInput status
-  run_status gives s steps workers (inl none) = not_expanded s status output none
-  run_status gives s steps workers (inr (w, x, h)) = runs_of_input gives w steps workers status output h
+  verify_status s text (inr (query, asks, h)) = verifies_of_input status output s query h
 
 module _ (input output : List ℕ) where
   -- the answer to what was read is no fault
@@ -51,13 +39,15 @@ module _ (input output : List ℕ) where
 
   mode_told : (gives : Call → Outcome → Bool) (mode : Mode) (request : Request) → WritesAs mode gives request (Some input) ReadFault output →
       output ≡ refused_text [] refused.Read
-  mode_told gives Drive request h =
-      read_told (λ s text st o. DrivesText s request.steps text st o) (λ s text p. drive_status ReadFault output s request.steps text p) h
+  mode_told gives Drive request h = read_told (λ s text st o. DrivesText s request.steps text st o) (λ s text. drive_status ReadFault output s request.steps text) h
   mode_told gives Run request h = read_told (λ s text st o. Runs gives s request.steps request.workers st o)
-      (λ s text p. run_status ReadFault output gives s request.steps request.workers p) h
-  mode_told gives Check request h = read_told (λ s text st o. Checks s st o) (λ s text p. check_status ReadFault output s p) h
-  mode_told gives Verify request h = read_told VerifiesText (λ s text p. verify_status ReadFault output s text p) h
-  mode_told gives Trace request h = read_told TracesText (λ s text p. trace_status ReadFault output s text p) h
+      (λ s text. where_expanded ReadFault output s (λ w. RunsWorkflow gives w request.steps request.workers ReadFault output)
+      (λ w. runs_of_input ReadFault output gives w request.steps request.workers)) h
+  mode_told gives Check request h = read_told (λ s text st o. Checks s st o)
+      (λ s text. where_expanded ReadFault output s (λ w. ChecksWorkflow w ReadFault output) (checks_of_input ReadFault output)) h
+  mode_told gives Verify request h = read_told VerifiesText (verify_status ReadFault output) h
+  mode_told gives Trace request h = read_told TracesText
+      (λ s text. where_expanded ReadFault output s (λ w. TracesWorkflow w text ReadFault output) (λ w. traces_of_input ReadFault output w text)) h
   mode_told gives Gen request h = absurd (subst IsOfInput (sym h.status_is) tt)
   mode_told gives Large request (w, x, h) = absurd (subst IsOfInput (sym h.status_is) (of_verdict h.verdict))
 

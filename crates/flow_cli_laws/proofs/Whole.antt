@@ -53,41 +53,29 @@ module _ (input : List ℕ) (status other : Status) (output text : List ℕ) whe
   abbrev Settled : Mode → Type 0
   Settled mode = (status ≡ other) × ((output ≡ text) ⊎ ((s : Said) × Says (workflow_part input) s × Shows mode s (second_part input) output text))
 
-  settled : (mode : Mode) (s : Said) → Says (workflow_part input) s → (status ≡ other) × ((output ≡ text) ⊎ Shows mode s (second_part input) output text) → Settled mode
-  settled mode s says (is, inl e) = (is, inl e)
-  settled mode s says (is, inr shows) = (is, inr (s, says, shows))
+  settled : (mode : Mode) (P : Said → List ℕ → Status → List ℕ → Type 0) → ((s : Said) → Says (workflow_part input) s →
+      P s (second_part input) status output → P s (second_part input) other text → (status ≡ other) × ((output ≡ text) ⊎ Shows mode s (second_part input) output text)) →
+      ((status ≡ other) × (output ≡ text)) ⊎ ((s : Said) × Says (workflow_part input) s × P s (second_part input) status output × P s (second_part input) other text) →
+      Settled mode
+  settled mode P agrees (inl (is, e)) = (is, inl e)
+  settled mode P agrees (inr (s, says, h, g)) = shown (agrees s says h g)
+    where
+      shown : (status ≡ other) × ((output ≡ text) ⊎ Shows mode s (second_part input) output text) → Settled mode
+      shown (is, inl e) = (is, inl e)
+      shown (is, inr shows) = (is, inr (s, says, shows))
 
   mode_once : (gives allows : Call → Outcome → Bool) (request : Request) (mode : Mode) → AsksNoGate mode → ¬ (status ≡ ReadFault) → ¬ (other ≡ ReadFault) →
       WritesAs mode gives request (Some input) status output → WritesAs mode allows request (Some input) other text → Settled mode
   mode_once gives allows request Drive asks fine also p q =
-      drive (read_once (λ s second st o. DrivesText s request.steps second st o) fine also p q)
-    where
-      drive : ((status ≡ other) × (output ≡ text)) ⊎ ((s : Said) × Says (workflow_part input) s × DrivesText s request.steps (second_part input) status output
-          × DrivesText s request.steps (second_part input) other text) → Settled Drive
-      drive (inl (is, e)) = (is, inl e)
-      drive (inr (s, says, h, g)) =
-          settled Drive s says (drive_agrees status other output text s says.named.once request.steps (second_part input) h g)
+      let P : Said → List ℕ → Status → List ℕ → Type 0 = λ s second st o. DrivesText s request.steps second st o in
+      settled Drive P (λ s says. drive_agrees status other output text s says.named.once request.steps (second_part input)) (read_once P fine also p q)
   mode_once gives allows request Check asks fine also p q =
-      check (read_once (λ s second st o. Checks s st o) fine also p q)
-    where
-      check : ((status ≡ other) × (output ≡ text)) ⊎ ((s : Said) × Says (workflow_part input) s × Checks s status output × Checks s other text) → Settled Check
-      check (inl (is, e)) = (is, inl e)
-      check (inr (s, says, h, g)) = settled Check s says (check_agrees status other output text s says.named.once h g)
+      let P : Said → List ℕ → Status → List ℕ → Type 0 = λ s second st o. Checks s st o in
+      settled Check P (λ s says. check_agrees status other output text s says.named.once) (read_once P fine also p q)
   mode_once gives allows request Verify asks fine also p q =
-      verify (read_once VerifiesText fine also p q)
-    where
-      verify : ((status ≡ other) × (output ≡ text)) ⊎ ((s : Said) × Says (workflow_part input) s × VerifiesText s (second_part input) status output
-          × VerifiesText s (second_part input) other text) → Settled Verify
-      verify (inl (is, e)) = (is, inl e)
-      verify (inr (s, says, h, g)) = settled Verify s says (verify_agrees status other output text s says.named.once (second_part input) h g)
+      settled Verify VerifiesText (λ s says. verify_agrees status other output text s says.named.once (second_part input)) (read_once VerifiesText fine also p q)
   mode_once gives allows request Trace asks fine also p q =
-      trace (read_once TracesText fine also p q)
-    where
-      trace : ((status ≡ other) × (output ≡ text)) ⊎ ((s : Said) × Says (workflow_part input) s × TracesText s (second_part input) status output
-          × TracesText s (second_part input) other text) → Settled Trace
-      trace (inl (is, e)) = (is, inl e)
-      trace (inr (s, says, h, g)) =
-          settled Trace s says (trace_agrees status other output text s says.named.once (second_part input) h g)
+      settled Trace TracesText (λ s says. trace_agrees status other output text s says.named.once (second_part input)) (read_once TracesText fine also p q)
   mode_once gives allows request Gen asks fine also p q = (p.status_is ∙ sym q.status_is, inl (p.output_is ∙ sym q.output_is))
   mode_once gives allows request Run asks fine also p q = absurd asks
   mode_once gives allows request Large asks fine also p q = absurd asks

@@ -1,71 +1,54 @@
--- The first line of a source, byte for byte.
-use Rattle.std.proofs.Common.{◌≡◌, ℕ, ◌+◌, ◌-◌, ◌≤◌, ◌<◌, suc, min, Bool, true, false, not, ltb, List, [], ◌∷◌, length, take, drop, refl, sym, ◌∙◌, ap, length-drop, one-add, arith, None, if◌then◌else◌}
-use Rattle.std.specs.Prelude.{◌==◌}
-use Rattle.std.specs.List.{position}
-use Rattle.std.proofs.lemmas.List.{take_rest, drop-drop}
-use Rattle.std.proofs.lemmas.List.Sums.{prefix_len-le-length}
-use Rattle.std.proofs.lemmas.List.Folds.{length-prefix_len}
-use Rattle.flow_record.specs.Lines.{lines_of}
-use Rattle.flow_record.proofs.FirstLine.{feed, absent-cons}
-use Rattle.flow_record.specs.Cut.{is_mark, cut_from, cut_of, line_end}
+-- A source cut at its first line that divides it.
+use Rattle.std.proofs.Common.{◌≡◌, ℕ, ◌+◌, min, true, false, List, [], ◌∷◌, ◌++◌, length, refl, sym, ◌∙◌, ap, length-append, arith, Some, None}
+use Rattle.flow_record.specs.Lines.{lines_of, cut_at}
+use Rattle.flow_record.specs.Cut.{is_divider, cut_from, cut_of}
+use Rattle.flow_record.proofs.Pieces.{lacks, first_other, others_lack, parts_are, uncut_lacks}
 
--- a text is its first line and the lines after it
-abbrev Splits : List ℕ → Type 0
-Splits text = lines_of text ≡ take (feed text) text ∷ lines_of (drop (suc (feed text)) text)
+ended : (x y : List ℕ) → lacks 10 x ≡ true → lines_of (x ++ 10 ∷ y) ≡ x ∷ lines_of y
+ended [] y h = refl
+ended (b ∷ x) y h = rw (first_other 10 b x h, ended x y (others_lack 10 b x h)) refl
 
-inside : (b : ℕ) (bs : List ℕ) → (b == 10) ≡ false → (0 < length bs → Splits bs) → Splits (b ∷ bs)
-inside b [] e h = rw e refl
-inside b (c ∷ cs) e h = rw (e, one-add, h (omega arith)) refl
+whole : (b : ℕ) (bs : List ℕ) → lacks 10 (b ∷ bs) ≡ true → lines_of (b ∷ bs) ≡ (b ∷ bs) ∷ []
+whole b [] h = rw (first_other 10 b [] h) refl
+whole b (c ∷ cs) h = rw (first_other 10 b (c ∷ cs) h, whole c cs (others_lack 10 b (c ∷ cs) h)) refl
 
-splits-cons : (t : Bool) (b : ℕ) (bs : List ℕ) → (b == 10) ≡ t → (0 < length bs → Splits bs) → Splits (b ∷ bs)
-splits-cons true b bs e h = rw e refl
-splits-cons false b bs e h = inside b bs e h
+-- a line is told apart from what stands after it
+pub fed : (text line more : List ℕ) → cut_at 10 text ≡ Some (line, more) → length line + 1 + length more ≡ length text
+fed text line more cut = let same = ap length (parts_are 10 text line more cut).0 in omega (arith, length-append line (10 ∷ more))
 
-splits : (text : List ℕ) → 0 < length text → Splits text
-splits [] some = absurd (omega arith)
-splits (b ∷ bs) some = splits-cons (b == 10) b bs refl (splits bs)
+-- what is left to cut: the rest, which begins at the place
+pub record IsCutFrom (source : List ℕ) (place : ℕ) (rest : List ℕ) : Type 0 where
+  pub left : cut_of source ≡ cut_from (length source) place (lines_of rest)
+  pub placed : place + length rest ≡ length source
 
--- no line feed: the line ends with the source
-pub at_end : (source : List ℕ) (place : ℕ) → place < length source →
-    position (λ byte. byte == 10) (take (length source - place) (drop place source)) ≡ None →
-    length source ≡ line_end source place
-at_end source place small e =
-    let text : List ℕ = drop place source in
-    let past : length text ≤ feed text = absent-cons (ltb (feed text) (length text)) (λ byte. byte == 10) text refl (rw take_rest at e) in
-    omega (arith, past, prefix_len-le-length (λ byte. not (byte == 10)) text, length-drop place source)
+module _ (source : List ℕ) (place : ℕ) (rest : List ℕ) (is : IsCutFrom source place rest) where
+  -- the next line divides the source, or does not
+  pub at_divider : (line more : List ℕ) → cut_at 10 rest ≡ Some (line, more) → is_divider line ≡ true → (place, place + length line + 1) ≡ cut_of source
+  at_divider line more cut divides =
+      let (parts, lack) = parts_are 10 rest line more cut in
+      let within : min (place + length line + 1) (length source) ≡ place + length line + 1 = omega (arith, is.placed, fed rest line more cut) in
+      sym (is.left ∙ ap (λ (t : List ℕ). cut_from (length source) place (lines_of t)) parts ∙ rw (ended line more lack, divides, within) refl)
 
--- what is left to cut from the place on
-abbrev pub IsCutFrom : List ℕ → ℕ → Type 0
-IsCutFrom source place = cut_of source ≡ cut_from (length source) place (lines_of (drop place source))
+  pub at_other : (line more : List ℕ) → cut_at 10 rest ≡ Some (line, more) → is_divider line ≡ false → IsCutFrom source (place + length line + 1) more
+  at_other line more cut other =
+      let (parts, lack) = parts_are 10 rest line more cut in record {
+        left = is.left ∙ ap (λ (t : List ℕ). cut_from (length source) place (lines_of t)) parts ∙ rw (ended line more lack, other) refl;
+        placed = omega (arith, is.placed, fed rest line more cut);
+      }
 
--- the cut by the first line from the place on
-abbrev by_line : List ℕ → ℕ → ℕ → Bool → ℕ × ℕ
-by_line source place stop mark =
-    if mark then (place, min (stop + 1) (length source))
-    else cut_from (length source) (stop + 1) (lines_of (drop (stop + 1) source))
+  -- so does the last line, or it does not
+  pub at_end : cut_at 10 rest ≡ None → is_divider rest ≡ true → (place, length source) ≡ cut_of source
+  at_end none divides = sym (is.left ∙ ends rest (uncut_lacks 10 rest none) divides is.placed)
+    where
+      ends : (rest : List ℕ) → lacks 10 rest ≡ true → is_divider rest ≡ true → place + length rest ≡ length source →
+          cut_from (length source) place (lines_of rest) ≡ (place, length source)
+      ends [] h divides placed = cc
+      ends (b ∷ bs) h divides placed =
+          let past : min (place + length (b ∷ bs) + 1) (length source) ≡ length source = omega (arith, placed) in rw (whole b bs h, divides, past) refl
 
-one_line : (source : List ℕ) (place stop : ℕ) → place < length source → stop ≡ line_end source place →
-    cut_from (length source) place (lines_of (drop place source))
-    ≡ by_line source place stop (is_mark (take (stop - place) (drop place source)))
-one_line source place stop small e =
-    let text : List ℕ = drop place source in
-    let some : 0 < length text = omega (arith, length-drop place source) in
-    let width : stop - place ≡ feed text = omega arith in
-    let end : place + length (take (feed text) text) + 1 ≡ stop + 1 =
-    omega (arith, length-prefix_len (λ byte. not (byte == 10)) text) in
-    let after : drop (suc (feed text)) text ≡ drop (stop + 1) source =
-    drop-drop (suc (feed text)) place source ∙ ap (λ n. drop n source) (omega arith) in
-    rw (splits text some, width, end, after) refl
-
--- the line from the place on is the mark
-pub at_mark : (source : List ℕ) (place stop second : ℕ) → IsCutFrom source place → place < length source →
-    stop ≡ line_end source place → true ≡ is_mark (take (stop - place) (drop place source)) →
-    second ≡ min (stop + 1) (length source) → (place, second) ≡ cut_of source
-at_mark source place stop second left small e mark same =
-    sym (left ∙ one_line source place stop small e ∙ rw (← mark, same) refl)
-
--- the line from the place on is another
-pub at_other : (source : List ℕ) (place stop : ℕ) → IsCutFrom source place → place < length source →
-    stop ≡ line_end source place → false ≡ is_mark (take (stop - place) (drop place source)) →
-    IsCutFrom source (stop + 1)
-at_other source place stop left small e mark = left ∙ one_line source place stop small e ∙ rw (← mark) refl
+  pub at_whole : cut_at 10 rest ≡ None → is_divider rest ≡ false → (length source, length source) ≡ cut_of source
+  at_whole none other = sym (is.left ∙ ends rest (uncut_lacks 10 rest none) other)
+    where
+      ends : (rest : List ℕ) → lacks 10 rest ≡ true → is_divider rest ≡ false → cut_from (length source) place (lines_of rest) ≡ (length source, length source)
+      ends [] h other = refl
+      ends (b ∷ bs) h other = rw (whole b bs h, other) refl

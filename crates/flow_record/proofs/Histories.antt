@@ -1,12 +1,15 @@
 -- A history as a text: what is printed is read, and what is read is printed.
-use Rattle.std.proofs.Common.{◌≡◌, ℕ, suc, ◌+◌, ◌<◌, ◌≤◌, ◌^◌, Bool, true, false, not, List, [], ◌∷◌, ◌++◌, length, refl, sym, ◌∙◌, ap, subst, subst₂, append_assoc, append-nil, length-append, if◌then◌else◌, arith, Option, Some, None}
+use Rattle.std.proofs.Common.{◌≡◌, ℕ, suc, ◌+◌, ◌<◌, ◌≤◌, ◌^◌, Bool, true, false, not, List, [], ◌∷◌, ◌++◌, length, refl, sym, ◌∙◌, ap, subst, append_assoc, append-nil, length-append, if◌then◌else◌, arith, Option, Some, None, IfSome}
 use Rattle.std.specs.Prelude.{codes, ◌==◌, All}
 use Rattle.std.specs.List.{list_all}
 use Rattle.std.specs.Fmt.{decimal}
 use Rattle.std.specs.Option.{option_map, option_and_then}
 use Rattle.std.specs.Str.{bytes_eq}
 use Rattle.std.proofs.lemmas.Bool.{and_parts, and_from, false≢true, eqb-true}
+use Rattle.std.proofs.lemmas.Grind.{flat_map-append}
+use Rattle.std.proofs.lemmas.List.Elements.{All-push}
 use Rattle.std.proofs.lemmas.List.Folds.{list_all-append}
+use Rattle.std.proofs.lemmas.Option.{IfSome_then}
 use Rattle.std.proofs.lemmas.Slice.Eq.{bytes_eq-Decides}
 use Rattle.flow_model.specs.declared.history.Entry.{Entry}
 use Rattle.flow_model.specs.declared.history.Step.{Step}
@@ -14,9 +17,9 @@ use Rattle.flow_model.specs.declared.history.Step.TheVariants.{Took, Done, Faile
 use Rattle.flow_model.specs.declared.history.FailEffect.{FailEffect}
 use Rattle.flow_model.specs.declared.history.FailEffect.TheVariants.{Switched, Kept}
 use Rattle.flow_record.specs.Lines.{is_digit, cut_at, pieces_of, plain_number}
-use Rattle.flow_record.specs.History.{step_text, entry_line, history_text, effect_of, took_of, failed_of, numbered_step, lone_step, step_with, step_by, step_of, number_alone, caller_of, made_by, entry_by, entry_of, HistoryText, HasSmallNumbers, IsSmall, history, bad_line, with_entry, with_entry_line, history_from, history_of}
+use Rattle.flow_record.specs.History.{step_text, entry_line, history_text, effect_of, took_of, failed_of, numbered_step, step_with, step_by, step_of, number_alone, caller_of, made_by, entry_by, entry_of, HistoryText, HasSmallNumbers, IsSmall, history, bad_line, with_entry, with_entry_line, history_from, history_of}
 use Rattle.flow_record.proofs.Numbers.{decimal_digits, number_there, number_back}
-use Rattle.flow_record.proofs.Pieces.{lacks, cut_back, cut_there, pieces_cut, pieces_whole, some_piece}
+use Rattle.flow_record.proofs.Pieces.{lacks, IsCut, cut_is, parts_are, uncut_lacks, cut_there, pieces_cut, pieces_whole, some_piece}
 
 -- ---- bytes that numbers lack
 
@@ -90,157 +93,122 @@ body_lacks entry (h, k) =
     both_lack 10 (decimal entry.by ++ codes ": ") (step_text entry.step)
     (both_lack 10 (decimal entry.by) (codes ": ") (decimal_lacks 10 entry.by refl h) refl) (step_lacks entry.step k)
 
--- ---- the words of a step that is read
+-- ---- what is read is printed
 
-words_there : (word other : List ℕ) → bytes_eq word other ≡ true → word ≡ other
-words_there word other e = (bytes_eq-Decides word other).0 e
-
-lone_back : (word : List ℕ) (s : Step) → lone_step word ≡ Some s → word ≡ step_text s
-lone_back word s e = step (bytes_eq word (codes "committed")) refl e
+-- what is read of a text where it is cut
+at_cut : {A : Type 0} (byte : ℕ) (text : List ℕ) (read : Option (List ℕ × List ℕ) → Option A) (P : A → Type 0) → IfSome (read None) P →
+    ((x y : List ℕ) → text ≡ x ++ byte ∷ y → IfSome (read (Some (x, y))) P) → IfSome (read (cut_at byte text)) P
+at_cut byte text read P whole cut = by_cut (cut_at byte text) (cut_is byte text)
   where
-    step : (t : Bool) → bytes_eq word (codes "committed") ≡ t → (if t then Some Committed else None) ≡ Some s → word ≡ step_text s
-    step true f h = let same : Committed ≡ s = cc in subst (λ (r : Step). word ≡ step_text r) same (words_there word (codes "committed") f)
-    step false f h = cc
+    by_cut : (o : Option (List ℕ × List ℕ)) → IsCut byte text o → IfSome (read o) P
+    by_cut None h = whole
+    by_cut (Some p) h = cut p.0 p.1 h.0
 
--- an answer by a test
-by_test : (t : Bool) (o p : Option Step) (s : Step) (Q : Type 0) → (if t then o else p) ≡ Some s →
-    (t ≡ true → o ≡ Some s → Q) → (p ≡ Some s → Q) → Q
-by_test true o p s Q e f g = f refl e
-by_test false o p s Q e f g = g e
+-- what is read by a word
+by_word : {A : Type 0} (word other : List ℕ) (o p : Option A) (P : A → Type 0) → (word ≡ other → IfSome o P) → IfSome p P →
+    IfSome (if bytes_eq word other then o else p) P
+by_word word other o p P same else_read = step (bytes_eq word other) refl
+  where
+    step : (t : Bool) → bytes_eq word other ≡ t → IfSome (if t then o else p) P
+    step true e = same ((bytes_eq-Decides word other).0 e)
+    step false e = else_read
+
+-- what is read of two parts
+of_both : {A B C : Type 0} (a : Option A) (b : Option B) (make : A → B → C) (P : A → Type 0) (Q : B → Type 0) (R : C → Type 0) → IfSome a P → IfSome b Q →
+    ((x : A) (y : B) → P x → Q y → R (make x y)) → IfSome (option_and_then (λ x. option_map (make x) b) a) R
+of_both None b make P Q R h k both = tt
+of_both (Some x) None make P Q R h k both = tt
+of_both (Some x) (Some y) make P Q R h k both = both x y h k
+
+-- the word is the number's, and the words are the step's
+abbrev IsOf : List ℕ → ℕ → Type 0
+IsOf word n = (word ≡ decimal n) × (n < 2 ^ 32)
+
+abbrev AreOf : List ℕ → Step → Type 0
+AreOf words s = (words ≡ step_text s) × HasSmallNumbers s
 
 abbrev effect_text : FailEffect → List ℕ
 effect_text Switched = codes "switched"
 effect_text Kept = codes "kept"
 
-effect_back : (word : List ℕ) (effect : FailEffect) → effect_of word ≡ Some effect → word ≡ effect_text effect
-effect_back word effect e = step (bytes_eq word (codes "switched")) (bytes_eq word (codes "kept")) refl refl e
-  where
-    step : (t u : Bool) → bytes_eq word (codes "switched") ≡ t → bytes_eq word (codes "kept") ≡ u →
-        (if t then Some Switched else if u then Some Kept else None) ≡ Some effect → word ≡ effect_text effect
-    step true u f g h = let same : Switched ≡ effect = cc in words_there word (codes "switched") f ∙ ap effect_text same
-    step false true f g h = let same : Kept ≡ effect = cc in words_there word (codes "kept") g ∙ ap effect_text same
-    step false false f g h = cc
+effect_back : (word : List ℕ) → IfSome (effect_of word) (λ effect. word ≡ effect_text effect)
+effect_back word =
+    let P : FailEffect → Type 0 = λ effect. word ≡ effect_text effect in
+    by_word word (codes "switched") (Some Switched) _ P (λ e. e) (by_word word (codes "kept") (Some Kept) None P (λ e. e) tt)
 
-took_parts : (x y : List ℕ) (a b : Option ℕ) (s : Step) → plain_number x ≡ a → plain_number y ≡ b →
-    option_and_then (λ claim. option_map (λ leaf. Took claim leaf) b) a ≡ Some s → codes "took " ++ (x ++ 32 ∷ y) ≡ step_text s
-took_parts x y None b s f g h = cc
-took_parts x y (Some claim) None s f g h = cc
-took_parts x y (Some claim) (Some leaf) s f g h =
-    let same : Took claim leaf ≡ s = cc in
-    subst₂ (λ (u v : List ℕ). codes "took " ++ (u ++ 32 ∷ v) ≡ step_text (Took claim leaf)) (sym (number_back x claim f).0) (sym (number_back y leaf g).0)
-    (ap (λ (r : List ℕ). codes "took " ++ r) (sym (append_assoc (decimal claim) (32 ∷ []) (decimal leaf))))
-    ∙ ap step_text same
-
-took_back : (rest : List ℕ) (s : Step) → took_of (cut_at 32 rest) ≡ Some s → codes "took " ++ rest ≡ step_text s
-took_back rest s e = by_cut (cut_at 32 rest) refl e
-  where
-    by_cut : (o : Option (List ℕ × List ℕ)) → cut_at 32 rest ≡ o → took_of o ≡ Some s → codes "took " ++ rest ≡ step_text s
-    by_cut None f h = cc
-    by_cut (Some p) f h =
-        ap (λ (r : List ℕ). codes "took " ++ r) (cut_back 32 rest p.0 p.1 f) ∙ took_parts p.0 p.1 (plain_number p.0) (plain_number p.1) s refl refl h
+took_back : (rest : List ℕ) → IfSome (took_of (cut_at 32 rest)) (AreOf (codes "took " ++ rest))
+took_back rest = at_cut 32 rest took_of (AreOf (codes "took " ++ rest)) tt (λ x y is.
+    of_both (plain_number x) (plain_number y) Took (IsOf x) (IsOf y) (AreOf (codes "took " ++ rest)) (number_back x) (number_back y) (λ claim leaf h k.
+    let text : rest ≡ decimal claim ++ 32 ∷ decimal leaf = cc in
+    (ap (λ (r : List ℕ). codes "took " ++ r) (text ∙ sym (append_assoc (decimal claim) (32 ∷ []) (decimal leaf))), (h.1, k.1))))
 
 failed_text : (claim : ℕ) (effect : FailEffect) → codes "failed " ++ (decimal claim ++ 32 ∷ effect_text effect) ≡ step_text (Failed claim effect)
 failed_text claim Switched = refl
 failed_text claim Kept = refl
 
-failed_parts : (x y : List ℕ) (a : Option ℕ) (b : Option FailEffect) (s : Step) → plain_number x ≡ a → effect_of y ≡ b →
-    option_and_then (λ claim. option_map (λ effect. Failed claim effect) b) a ≡ Some s → codes "failed " ++ (x ++ 32 ∷ y) ≡ step_text s
-failed_parts x y None b s f g h = cc
-failed_parts x y (Some claim) None s f g h = cc
-failed_parts x y (Some claim) (Some effect) s f g h =
-    let same : Failed claim effect ≡ s = cc in
-    subst₂ (λ (u v : List ℕ). codes "failed " ++ (u ++ 32 ∷ v) ≡ step_text (Failed claim effect)) (sym (number_back x claim f).0) (sym (effect_back y effect g))
-    (failed_text claim effect)
-    ∙ ap step_text same
+failed_back : (rest : List ℕ) → IfSome (failed_of (cut_at 32 rest)) (AreOf (codes "failed " ++ rest))
+failed_back rest = at_cut 32 rest failed_of (AreOf (codes "failed " ++ rest)) tt (λ x y is.
+    of_both (plain_number x) (effect_of y) Failed (IsOf x) (λ effect. y ≡ effect_text effect) (AreOf (codes "failed " ++ rest)) (number_back x) (effect_back y) (λ claim effect h k.
+    let text : rest ≡ decimal claim ++ 32 ∷ effect_text effect = cc in
+    (ap (λ (r : List ℕ). codes "failed " ++ r) text ∙ failed_text claim effect, h.1)))
 
-failed_back : (rest : List ℕ) (s : Step) → failed_of (cut_at 32 rest) ≡ Some s → codes "failed " ++ rest ≡ step_text s
-failed_back rest s e = by_cut (cut_at 32 rest) refl e
+-- a word and a number
+numbered_back : (word rest : List ℕ) (n : ℕ) → IsOf rest n → IfSome (numbered_step word n) (AreOf (word ++ 32 ∷ rest))
+numbered_back word rest n h =
+    let P : Step → Type 0 = AreOf (word ++ 32 ∷ rest) in
+    by_word word (codes "done") (Some (Done n)) _ P (λ e. (rw (e, h.0) refl, h.1))
+    (by_word word (codes "late") (Some (Late n)) _ P (λ e. (rw (e, h.0) refl, h.1))
+    (by_word word (codes "did") (Some (Did n)) _ P (λ e. (rw (e, h.0) refl, h.1))
+    (by_word word (codes "rewound") (Some (Rewound n)) None P (λ e. (rw (e, h.0) refl, h.1)) tt)))
+
+with_back : (word rest : List ℕ) → IfSome (step_with word rest) (AreOf (word ++ 32 ∷ rest))
+with_back word rest =
+    let P : Step → Type 0 = AreOf (word ++ 32 ∷ rest) in
+    by_word word (codes "took") (took_of (cut_at 32 rest)) _ P (λ e. rw e (took_back rest))
+    (by_word word (codes "failed") (failed_of (cut_at 32 rest)) _ P (λ e. rw e (failed_back rest)) (by_number (plain_number rest) (number_back rest)))
   where
-    by_cut : (o : Option (List ℕ × List ℕ)) → cut_at 32 rest ≡ o → failed_of o ≡ Some s → codes "failed " ++ rest ≡ step_text s
-    by_cut None f h = cc
-    by_cut (Some p) f h =
-        ap (λ (r : List ℕ). codes "failed " ++ r) (cut_back 32 rest p.0 p.1 f) ∙ failed_parts p.0 p.1 (plain_number p.0) (effect_of p.1) s refl refl h
+    by_number : (o : Option ℕ) → IfSome o (IsOf rest) → IfSome (option_and_then (numbered_step word) o) (AreOf (word ++ 32 ∷ rest))
+    by_number None h = tt
+    by_number (Some n) h = numbered_back word rest n h
 
-told : (word other : List ℕ) (n : ℕ) (r s : Step) → bytes_eq word other ≡ true → Some r ≡ Some s → other ++ 32 ∷ decimal n ≡ step_text r →
-    word ++ 32 ∷ decimal n ≡ step_text s
-told word other n r s is e text =
-    let same : r ≡ s = cc in
-    ap (λ (w : List ℕ). w ++ 32 ∷ decimal n) (words_there word other is) ∙ text ∙ ap step_text same
+step_back : (words : List ℕ) → IfSome (step_of words) (AreOf words)
+step_back words = at_cut 32 words (step_by words) (AreOf words)
+    (by_word words (codes "committed") (Some Committed) None (AreOf words) (λ e. (e, tt)) tt)
+    (λ x y is. subst (λ (w : List ℕ). IfSome (step_with x y) (AreOf w)) (sym is) (with_back x y))
 
-abbrev rewound_by : List ℕ → ℕ → Option Step
-rewound_by word n = if bytes_eq word (codes "rewound") then Some (Rewound n) else None
-
-abbrev did_by : List ℕ → ℕ → Option Step
-did_by word n = if bytes_eq word (codes "did") then Some (Did n) else rewound_by word n
-
-abbrev late_by : List ℕ → ℕ → Option Step
-late_by word n = if bytes_eq word (codes "late") then Some (Late n) else did_by word n
-
-named_back : (word : List ℕ) (n : ℕ) (s : Step) → numbered_step word n ≡ Some s → word ++ 32 ∷ decimal n ≡ step_text s
-named_back word n s e =
-    let Told : Type 0 = word ++ 32 ∷ decimal n ≡ step_text s in
-    by_test (bytes_eq word (codes "done")) (Some (Done n)) (late_by word n) s Told e (λ is h. told word (codes "done") n (Done n) s is h refl) (λ e.
-    by_test (bytes_eq word (codes "late")) (Some (Late n)) (did_by word n) s Told e (λ is h. told word (codes "late") n (Late n) s is h refl) (λ e.
-    by_test (bytes_eq word (codes "did")) (Some (Did n)) (rewound_by word n) s Told e (λ is h. told word (codes "did") n (Did n) s is h refl) (λ e.
-    by_test (bytes_eq word (codes "rewound")) (Some (Rewound n)) None s Told e (λ is h. told word (codes "rewound") n (Rewound n) s is h refl) (λ e. cc))))
-
-numbered_back : (word rest : List ℕ) (s : Step) → option_and_then (numbered_step word) (plain_number rest) ≡ Some s → word ++ 32 ∷ rest ≡ step_text s
-numbered_back word rest s e = by_number (plain_number rest) refl e
+caller_back : (text : List ℕ) → IfSome (caller_of text) (λ by. (text ≡ decimal by ++ 58 ∷ []) × (by < 2 ^ 32))
+caller_back text = at_cut 58 text number_alone (λ by. (text ≡ decimal by ++ 58 ∷ []) × (by < 2 ^ 32)) tt alone
   where
-    by_number : (o : Option ℕ) → plain_number rest ≡ o → option_and_then (numbered_step word) o ≡ Some s → word ++ 32 ∷ rest ≡ step_text s
-    by_number None f h = cc
-    by_number (Some n) f h = ap (λ (r : List ℕ). word ++ 32 ∷ r) (number_back rest n f).0 ∙ named_back word n s h
+    alone : (x y : List ℕ) → text ≡ x ++ 58 ∷ y → IfSome (number_alone (Some (x, y))) (λ by. (text ≡ decimal by ++ 58 ∷ []) × (by < 2 ^ 32))
+    alone x [] is = IfSome_then (plain_number x) (number_back x) (λ by h. (is ∙ ap (λ (ds : List ℕ). ds ++ 58 ∷ []) h.0, h.1))
+    alone x (b ∷ bs) is = tt
 
-abbrev numbered_by : List ℕ → List ℕ → Option Step
-numbered_by word rest = option_and_then (numbered_step word) (plain_number rest)
+-- the line is the entry's
+abbrev pub IsLineOf : List ℕ → Entry → Type 0
+IsLineOf line entry = (line ≡ body entry) × IsSmall entry
 
-abbrev failed_by : List ℕ → List ℕ → Option Step
-failed_by word rest = if bytes_eq word (codes "failed") then failed_of (cut_at 32 rest) else numbered_by word rest
-
-with_back : (word rest : List ℕ) (s : Step) → step_with word rest ≡ Some s → word ++ 32 ∷ rest ≡ step_text s
-with_back word rest s e =
-    let Told : Type 0 = word ++ 32 ∷ rest ≡ step_text s in
-    by_test (bytes_eq word (codes "took")) (took_of (cut_at 32 rest)) (failed_by word rest) s Told e
-    (λ is h. ap (λ (w : List ℕ). w ++ 32 ∷ rest) (words_there word (codes "took") is) ∙ took_back rest s h) (λ e.
-    by_test (bytes_eq word (codes "failed")) (failed_of (cut_at 32 rest)) (numbered_by word rest) s Told e
-    (λ is h. ap (λ (w : List ℕ). w ++ 32 ∷ rest) (words_there word (codes "failed") is) ∙ failed_back rest s h)
-    (λ e. numbered_back word rest s e))
-
-step_back : (words : List ℕ) (s : Step) → step_of words ≡ Some s → words ≡ step_text s
-step_back words s e = by_cut (cut_at 32 words) refl e
-  where
-    by_cut : (o : Option (List ℕ × List ℕ)) → cut_at 32 words ≡ o → step_by words o ≡ Some s → words ≡ step_text s
-    by_cut None f h = lone_back words s h
-    by_cut (Some p) f h = cut_back 32 words p.0 p.1 f ∙ with_back p.0 p.1 s h
-
-caller_back : (text : List ℕ) (by : ℕ) → caller_of text ≡ Some by → text ≡ decimal by ++ 58 ∷ []
-caller_back text by e = by_cut (cut_at 58 text) refl e
-  where
-    by_cut : (o : Option (List ℕ × List ℕ)) → cut_at 58 text ≡ o → number_alone o ≡ Some by → text ≡ decimal by ++ 58 ∷ []
-    by_cut None f h = cc
-    by_cut (Some (digits, [])) f h = cut_back 58 text digits [] f ∙ ap (λ (ds : List ℕ). ds ++ 58 ∷ []) (number_back digits by h).0
-    by_cut (Some (digits, b ∷ bs)) f h = cc
-
-entry_parts : (x y : List ℕ) (a : Option ℕ) (b : Option Step) (entry : Entry) → caller_of x ≡ a → step_of y ≡ b →
-    option_and_then (λ by. option_map (made_by by) b) a ≡ Some entry → x ++ 32 ∷ y ≡ body entry
-entry_parts x y None b entry f g h = cc
-entry_parts x y (Some by) None entry f g h = cc
-entry_parts x y (Some by) (Some step) entry f g h =
-    let same : made_by by step ≡ entry = cc in
-    subst₂ (λ (u v : List ℕ). u ++ 32 ∷ v ≡ body (made_by by step)) (sym (caller_back x by f)) (sym (step_back y step g)) (sym (body_is (made_by by step)))
-    ∙ ap body same
-
-entry_back : (line : List ℕ) (entry : Entry) → entry_of line ≡ Some entry → line ≡ body entry
-entry_back line entry e = by_cut (cut_at 32 line) refl e
-  where
-    by_cut : (o : Option (List ℕ × List ℕ)) → cut_at 32 line ≡ o → entry_by o ≡ Some entry → line ≡ body entry
-    by_cut None f h = cc
-    by_cut (Some p) f h = cut_back 32 line p.0 p.1 f ∙ entry_parts p.0 p.1 (caller_of p.0) (step_of p.1) entry refl refl h
+entry_back : (line : List ℕ) → IfSome (entry_of line) (IsLineOf line)
+entry_back line = at_cut 32 line entry_by (IsLineOf line) tt (λ x y is.
+    of_both (caller_of x) (step_of y) made_by (λ by. (x ≡ decimal by ++ 58 ∷ []) × (by < 2 ^ 32)) (AreOf y) (IsLineOf line) (caller_back x) (step_back y) (λ by s h k.
+    let text : line ≡ (decimal by ++ 58 ∷ []) ++ 32 ∷ step_text s = cc in (text ∙ sym (body_is (made_by by s)), (h.1, k.1))))
 
 -- ---- the lines of a history
 
+-- the entries before those of the history
+abbrev pub with_entries : List Entry → HistoryText → HistoryText
+with_entries front (history more) = history (front ++ more)
+with_entries front (bad_line line) = bad_line line
+
+no_entries : (said : HistoryText) → said ≡ with_entries [] said
+no_entries (history more) = refl
+no_entries (bad_line line) = refl
+
+one_entry : (entry : Entry) (front : List Entry) (said : HistoryText) → with_entry entry (with_entries front said) ≡ with_entries (entry ∷ front) said
+one_entry entry front (history more) = refl
+one_entry entry front (bad_line line) = refl
+
 -- a line before those of a text
-pub more_lines : (number : ℕ) (line text : List ℕ) →
+more_lines : (number : ℕ) (line text : List ℕ) →
     history_from number (line ∷ pieces_of 10 text) ≡ with_entry_line number (entry_of line) (history_from (number + 1) (pieces_of 10 text))
 more_lines number line text = let (piece, (pieces, is)) = some_piece 10 text in rw is (lines_are number line piece pieces)
   where
@@ -249,119 +217,75 @@ more_lines number line text = let (piece, (pieces, is)) = some_piece 10 text in 
     lines_are number [] piece pieces = refl
     lines_are number (b ∷ bs) piece pieces = refl
 
-line_is : (entry : Entry) (rest : List ℕ) → entry_line entry ++ rest ≡ body entry ++ 10 ∷ rest
-line_is entry rest = append_assoc (body entry) (10 ∷ []) rest
+-- the lines of entries before a text
+pub front_there : (front : List Entry) (number : ℕ) (rest : List ℕ) → All IsSmall front →
+    history_from number (pieces_of 10 (history_text front ++ rest)) ≡ with_entries front (history_from (number + length front) (pieces_of 10 rest))
+front_there [] number rest small = let same : number + 0 ≡ number = omega arith in rw same (no_entries (history_from number (pieces_of 10 rest)))
+front_there (entry ∷ front) number rest small =
+    let here : IsSmall entry = small 0 entry (omega arith) in
+    let others : All IsSmall front = λ k d h. small (suc k) d (omega arith) in
+    let text : history_text (entry ∷ front) ++ rest ≡ body entry ++ 10 ∷ (history_text front ++ rest) =
+    append_assoc (entry_line entry) (history_text front) rest ∙ append_assoc (body entry) (10 ∷ []) (history_text front ++ rest) in
+    let place : number + 1 + length front ≡ number + suc (length front) = omega arith in
+    ap (λ (t : List ℕ). history_from number (pieces_of 10 t)) text
+    ∙ ap (history_from number) (pieces_cut 10 (body entry) (history_text front ++ rest) (body_lacks entry here))
+    ∙ more_lines number (body entry) (history_text front ++ rest)
+    ∙ rw (entry_there entry here, front_there front (number + 1) rest others, place) (one_entry entry front (history_from (number + suc (length front)) (pieces_of 10 rest)))
 
 -- what is printed is read
-pub history_there : (entries : List Entry) (number : ℕ) → All IsSmall entries → history_from number (pieces_of 10 (history_text entries)) ≡ history entries
-history_there [] number small = refl
-history_there (entry ∷ entries) number small =
-    let here : IsSmall entry = small 0 entry (omega arith) in
-    let others : All IsSmall entries = λ k d h. small (suc k) d (omega arith) in
-    let cut = ap (cut_at 10) (line_is entry (history_text entries)) ∙ cut_there 10 (body entry) (history_text entries) (body_lacks entry here) in
-    rw (pieces_cut 10 (history_text (entry ∷ entries)) (body entry) (history_text entries) cut)
-    (more_lines number (body entry) (history_text entries)
-    ∙ rw (entry_there entry here, history_there entries (number + 1) others) refl)
+pub history_there : (entries : List Entry) → All IsSmall entries → history_of (history_text entries) ≡ history entries
+history_there entries small =
+    ap history_of (sym (append-nil (history_text entries))) ∙ front_there entries 0 [] small ∙ ap history (append-nil entries)
 
--- no text has no piece
-no_pieces : (byte : ℕ) (text : List ℕ) → pieces_of byte text ≡ [] → ⊥
-no_pieces byte text e = let (piece, (pieces, is)) = some_piece byte text in cc
+-- the text is that of so many entries, and what is left
+pub record IsReadTo (text : List ℕ) (front : List Entry) (number : ℕ) (rest : List ℕ) : Type 0 where
+  pub numbered : number ≡ length front
+  pub small : All IsSmall front
+  pub printed : text ≡ history_text front ++ rest
 
--- a text of one piece is that piece, and one of more is cut after the first
-one_piece : (text piece : List ℕ) → pieces_of 10 text ≡ piece ∷ [] → text ≡ piece
-one_piece text piece e = by_cut (cut_at 10 text) refl
-  where
-    by_cut : (o : Option (List ℕ × List ℕ)) → cut_at 10 text ≡ o → text ≡ piece
-    by_cut None f = let is = pieces_whole 10 text f in cc
-    by_cut (Some p) f = let is = pieces_cut 10 text p.0 p.1 f in absurd (no_pieces 10 p.1 (cc))
+module _ (text : List ℕ) (front : List Entry) (number : ℕ) (rest : List ℕ) (is : IsReadTo text front number rest) where
+  -- what is left says the rest
+  left : history_of text ≡ with_entries front (history_from number (pieces_of 10 rest))
+  left =
+      let count : 0 + length front ≡ number = omega (arith, is.numbered) in
+      ap history_of is.printed ∙ front_there front 0 rest is.small ∙ ap (λ n. with_entries front (history_from n (pieces_of 10 rest))) count
 
-first_piece : (text piece next : List ℕ) (pieces : List (List ℕ)) → pieces_of 10 text ≡ piece ∷ next ∷ pieces →
-    (rest : List ℕ) × (text ≡ piece ++ 10 ∷ rest) × (pieces_of 10 rest ≡ next ∷ pieces)
-first_piece text piece next pieces e = by_cut (cut_at 10 text) refl
-  where
-    by_cut : (o : Option (List ℕ × List ℕ)) → cut_at 10 text ≡ o → (rest : List ℕ) × (text ≡ piece ++ 10 ∷ rest) × (pieces_of 10 rest ≡ next ∷ pieces)
-    by_cut None f = let is = pieces_whole 10 text f in absurd (cc)
-    by_cut (Some p) f =
-        let is = pieces_cut 10 text p.0 p.1 f in
-        let same : p.0 ≡ piece = cc in
-        (p.1, cut_back 10 text p.0 p.1 f ∙ ap (λ (x : List ℕ). x ++ 10 ∷ p.1) same, (let more : pieces_of 10 p.1 ≡ next ∷ pieces = cc in more))
+  pub read_one : (line more : List ℕ) (entry : Entry) → cut_at 10 rest ≡ Some (line, more) → entry_of line ≡ Some entry →
+      IsReadTo text (front ++ entry ∷ []) (number + 1) more
+  read_one line more entry cut e =
+      let (parts, lack) = parts_are 10 rest line more cut in
+      let back : IsLineOf line entry = subst (λ (o : Option Entry). IfSome o (IsLineOf line)) e (entry_back line) in record {
+        numbered = omega (arith, is.numbered, length-append front (entry ∷ []));
+        small = All-push IsSmall front entry is.small back.1;
+        printed = is.printed ∙ rw (parts, back.0, flat_map-append) (simp (append_assoc, append-nil) refl);
+      }
 
--- and what is read is printed
-pub history_back : (pieces : List (List ℕ)) (text : List ℕ) (number : ℕ) (entries : List Entry) → pieces_of 10 text ≡ pieces →
-    history_from number pieces ≡ history entries → text ≡ history_text entries
-history_back [] text number entries e h = absurd (no_pieces 10 text e)
-history_back ([] ∷ []) text number entries e h = let none : [] ≡ entries = cc in one_piece text [] e ∙ ap history_text none
-history_back ((b ∷ bs) ∷ []) text number entries e h = cc
-history_back (line ∷ next ∷ lines) text number entries e h =
-    let (rest, is, more) = first_piece text line next lines e in
-    by_entry rest is (entry_of line) (history_from (number + 1) (next ∷ lines)) refl (λ others f. history_back (next ∷ lines) rest (number + 1) others more f)
-    (read line h)
-  where
-    read : (l : List ℕ) → history_from number (l ∷ next ∷ lines) ≡ history entries →
-        with_entry_line number (entry_of l) (history_from (number + 1) (next ∷ lines)) ≡ history entries
-    read [] h = h
-    read (b ∷ bs) h = h
+  pub read_all : length rest ≡ 0 → (history_of text ≡ history front) × (text ≡ history_text front)
+  read_all none = ends rest none is.printed
+    where
+      ends : (rest : List ℕ) → length rest ≡ 0 → text ≡ history_text front ++ rest → (history_of text ≡ history front) × (text ≡ history_text front)
+      ends [] e printed = let same = printed ∙ append-nil (history_text front) in (ap history_of same ∙ history_there front is.small, same)
+      ends (b ∷ bs) e printed = absurd (omega arith)
 
-    by_entry : (rest : List ℕ) → text ≡ line ++ 10 ∷ rest → (o : Option Entry) (said : HistoryText) → entry_of line ≡ o →
-        ((others : List Entry) → said ≡ history others → rest ≡ history_text others) →
-        with_entry_line number o said ≡ history entries → text ≡ history_text entries
-    by_entry rest is None said f back h = cc
-    by_entry rest is (Some entry) (bad_line number) f back h = cc
-    by_entry rest is (Some entry) (history others) f back h =
-        let same : entry ∷ others ≡ entries = cc in
-        is ∙ ap (λ (l : List ℕ). l ++ 10 ∷ rest) (entry_back line entry f)
-        ∙ ap (λ (r : List ℕ). body entry ++ 10 ∷ r) (back others refl)
-        ∙ sym (line_is entry (history_text others)) ∙ ap history_text same
+  pub read_no_entry : (line more : List ℕ) → cut_at 10 rest ≡ Some (line, more) → entry_of line ≡ None → history_of text ≡ bad_line number
+  read_no_entry line more cut e =
+      let (parts, lack) = parts_are 10 rest line more cut in
+      left ∙ ap (with_entries front) (ap (λ (t : List ℕ). history_from number (pieces_of 10 t)) parts ∙ ap (history_from number) (pieces_cut 10 line more lack)
+      ∙ more_lines number line more ∙ ap (λ o. with_entry_line number o (history_from (number + 1) (pieces_of 10 more))) e)
 
--- ---- a history read line by line
-
--- the entries before those of the history
-abbrev pub with_entries : List Entry → HistoryText → HistoryText
-with_entries front (history more) = history (front ++ more)
-with_entries front (bad_line line) = bad_line line
-
-one_entry : (front : List Entry) (entry : Entry) (said : HistoryText) → with_entries front (with_entry entry said) ≡ with_entries (front ++ entry ∷ []) said
-one_entry front entry (history more) = ap history (sym (append_assoc front (entry ∷ []) more))
-one_entry front entry (bad_line line) = refl
-
--- the history is what was read and what is left, from the line of that number on
-abbrev pub IsReadTo : List ℕ → List Entry → ℕ → List ℕ → Type 0
-IsReadTo text front number rest = history_of text ≡ with_entries front (history_from number (pieces_of 10 rest))
-
-pub read_none : (text : List ℕ) → IsReadTo text [] 0 text
-read_none text = step (history_of text)
-  where
-    step : (said : HistoryText) → said ≡ with_entries [] said
-    step (history more) = refl
-    step (bad_line line) = refl
-
-pub read_one : (text : List ℕ) (front : List Entry) (number : ℕ) (rest line more : List ℕ) (entry : Entry) → IsReadTo text front number rest →
-    cut_at 10 rest ≡ Some (line, more) → entry_of line ≡ Some entry → IsReadTo text (front ++ entry ∷ []) (number + 1) more
-read_one text front number rest line more entry is cut e =
-    is ∙ ap (with_entries front) (ap (history_from number) (pieces_cut 10 rest line more cut) ∙ more_lines number line more
-    ∙ ap (λ o. with_entry_line number o (history_from (number + 1) (pieces_of 10 more))) e)
-    ∙ one_entry front entry (history_from (number + 1) (pieces_of 10 more))
-
-pub read_all : (text : List ℕ) (front : List Entry) (number : ℕ) (rest : List ℕ) → IsReadTo text front number rest → length rest ≡ 0 → history_of text ≡ history front
-read_all text front number [] is none = is ∙ ap history (append-nil front)
-read_all text front number (b ∷ bs) is none = absurd (omega arith)
-
-pub read_no_entry : (text : List ℕ) (front : List Entry) (number : ℕ) (rest line more : List ℕ) → IsReadTo text front number rest →
-    cut_at 10 rest ≡ Some (line, more) → entry_of line ≡ None → history_of text ≡ bad_line number
-read_no_entry text front number rest line more is cut e =
-    is ∙ ap (with_entries front) (ap (history_from number) (pieces_cut 10 rest line more cut) ∙ more_lines number line more
-    ∙ ap (λ o. with_entry_line number o (history_from (number + 1) (pieces_of 10 more))) e)
-
-pub read_no_end : (text : List ℕ) (front : List Entry) (number : ℕ) (rest : List ℕ) → IsReadTo text front number rest → 0 < length rest →
-    cut_at 10 rest ≡ None → history_of text ≡ bad_line number
-read_no_end text front number [] is some none = absurd (omega arith)
-read_no_end text front number (b ∷ bs) is some none = is ∙ rw (pieces_whole 10 (b ∷ bs) none) refl
+  pub read_no_end : 0 < length rest → cut_at 10 rest ≡ None → history_of text ≡ bad_line number
+  read_no_end some none = left ∙ ap (λ pieces. with_entries front (history_from number pieces)) (pieces_whole 10 rest (uncut_lacks 10 rest none)) ∙ ends rest some
+    where
+      ends : (rest : List ℕ) → 0 < length rest → with_entries front (history_from number (rest ∷ [])) ≡ bad_line number
+      ends [] some = absurd (omega arith)
+      ends (b ∷ bs) some = refl
 
 -- so many lines are left
 pub lines_left : (rest line more : List ℕ) → cut_at 10 rest ≡ Some (line, more) →
     (length (pieces_of 10 rest) ≡ length (pieces_of 10 more) + 1) × (1 ≤ length (pieces_of 10 more)) × (length more < length rest)
-lines_left rest line more cut = (
-  let is = ap length (pieces_cut 10 rest line more cut) in omega arith,
-  (let (piece, (pieces, is)) = some_piece 10 more in let same = ap length is in omega arith),
-  (let same = ap length (cut_back 10 rest line more cut) in omega (arith, length-append line (10 ∷ more))),
-)
+lines_left rest line more cut =
+    let (parts, lack) = parts_are 10 rest line more cut in (
+      (let is = ap (λ (t : List ℕ). length (pieces_of 10 t)) parts ∙ ap length (pieces_cut 10 line more lack) in omega arith),
+      (let (piece, (pieces, is)) = some_piece 10 more in let same = ap length is in omega arith),
+      (let same = ap length parts in omega (arith, length-append line (10 ∷ more))),
+    )

@@ -1,5 +1,5 @@
 -- A number read digit by digit, and in its one spelling.
-use Rattle.std.proofs.Common.{◌≡◌, ℕ, ◌+◌, ◌-◌, ◌*◌, ◌^◌, ◌≤◌, ◌<◌, Bool, true, false, ◌&&◌, ltb, leb, List, [], ◌∷◌, length, refl, sym, ◌∙◌, arith, le_refl, le_trans, Option, Some, None, if◌then◌else◌, drop, get_or, lit<, subst, ⊎_elim, rules}
+use Rattle.std.proofs.Common.{◌≡◌, ℕ, ◌+◌, ◌-◌, ◌*◌, ◌^◌, ◌≤◌, ◌<◌, Bool, true, false, ◌&&◌, ltb, leb, List, [], ◌∷◌, length, refl, sym, ◌∙◌, arith, le_refl, le_trans, Option, Some, None, IfSome, if◌then◌else◌, drop, get_or, lit<, ⊎_elim, rules}
 use Rattle.std.proofs.lemmas.List.{drop_more}
 use Rattle.std.specs.List.{list_all}
 use Rattle.std.specs.Option.{option_and_then}
@@ -87,24 +87,18 @@ leads_alone (b ∷ []) e some first = refl
 leads_alone (b ∷ c ∷ bs) e some first = let yes = eq-eqb b 48 first in absurd (cc)
 
 -- and what is read is its digits
-pub number_back : (word : List ℕ) (n : ℕ) → plain_number word ≡ Some n → (word ≡ decimal n) × (n < 2 ^ 32)
-number_back word n e = by_zero (has_leading_zero word) refl e
+pub number_back : (word : List ℕ) → IfSome (plain_number word) (λ n. (word ≡ decimal n) × (n < 2 ^ 32))
+number_back word = step (has_leading_zero word) (is_numeral word) (ltb (value_after 0 word) (2 ^ 32)) refl refl refl
   where
-    spelled : has_leading_zero word ≡ false → is_numeral word ≡ true → ltb (value_after 0 word) (2 ^ 32) ≡ true → word ≡ decimal (value_after 0 word)
+    spelled : has_leading_zero word ≡ false → is_numeral word ≡ true → value_after 0 word < 2 ^ 32 → word ≡ decimal (value_after 0 word)
     spelled one numeral small =
         let parts = and_parts (list_all is_digit word) (ltb 0 (length word) && leb (length word) 10) numeral in
         let some = ltb-true 0 (length word) (and_parts (ltb 0 (length word)) (leb (length word) 10) parts.1).0 in
-        let below : value_after 0 word < 2 ^ 32 = ltb-true _ _ small in
         sym (decimal-digits_value digits_are word parts.0 some (leads_alone word one some) (omega arith))
 
-    by_value : (t u : Bool) → has_leading_zero word ≡ false → is_numeral word ≡ t → ltb (value_after 0 word) (2 ^ 32) ≡ u →
-        (if t && u then Some (value_after 0 word) else None) ≡ Some n → (word ≡ decimal n) × (n < 2 ^ 32)
-    by_value true true one f g h =
-        let same : value_after 0 word ≡ n = cc in
-        subst (λ m. (word ≡ decimal m) × (m < 2 ^ 32)) same (spelled one f g, ltb-true _ _ g)
-    by_value true false one f g h = cc
-    by_value false u one f g h = cc
-
-    by_zero : (t : Bool) → has_leading_zero word ≡ t → (if t then None else number_of word) ≡ Some n → (word ≡ decimal n) × (n < 2 ^ 32)
-    by_zero true f h = cc
-    by_zero false f h = by_value (is_numeral word) (ltb (value_after 0 word) (2 ^ 32)) f refl refl h
+    step : (t u v : Bool) → has_leading_zero word ≡ t → is_numeral word ≡ u → ltb (value_after 0 word) (2 ^ 32) ≡ v →
+        IfSome (if t then None else (if u && v then Some (value_after 0 word) else None)) (λ n. (word ≡ decimal n) × (n < 2 ^ 32))
+    step true u v e f g = tt
+    step false false v e f g = tt
+    step false true false e f g = tt
+    step false true true e f g = let small = ltb-true (value_after 0 word) (2 ^ 32) g in (spelled e f small, small)

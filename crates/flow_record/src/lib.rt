@@ -2,6 +2,7 @@
 #![tactic(auto)]
 
 mod command;
+mod cut;
 mod history;
 mod history_lines;
 mod journal;
@@ -11,10 +12,10 @@ mod lines;
 mod number;
 mod refusal;
 mod session;
-mod source;
 mod words;
 
 pub use command::Command;
+pub use cut::cut_source;
 pub use history::print_history;
 pub use history_lines::read_history;
 pub use journal::{print_journal, push_leaf_line};
@@ -22,4 +23,3 @@ pub use journal_lines::read_journal;
 pub use number::read_number;
 pub use refusal::RecordRefusal;
 pub use session::read_session;
-pub use source::cut;

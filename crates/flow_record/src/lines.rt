@@ -12,9 +12,9 @@ pub fn split_line(text: &[u8]) -> (&[u8], &[u8])
     ensures lines { lines_of (without_returns text.now) ≡ result.0.now ∷ lines_of (without_returns result.1.now) }
     ensures shorter { length result.1.now < length text.now }
 {
-    match place_of_feed(text) {
-        Some(end) => (without_return(&text[..end]), &text[end + 1..]),
-        None => text.split_at(text.len()),
+    match cut_at(text, b'\n') {
+        Some((line, more)) => (without_return(line), more),
+        None => (text, &[]),
     }
 }
 
@@ -23,13 +23,6 @@ fn place_of(text: &[u8], byte: u8) -> Option<usize>
     ensures { result ≡ position (λ b. b == byte) text.now }
 {
     text.iter().position(|b| *b == byte)
-}
-
-/// The place of the first line feed.
-pub fn place_of_feed(text: &[u8]) -> Option<usize>
-    ensures { result ≡ position (λ byte. byte == 10) text.now }
-{
-    place_of(text, b'\n')
 }
 
 /// A line without the carriage return at its end, if it has one.

@@ -1,5 +1,5 @@
 -- What is listed of a run.
-use Rattle.std.proofs.Common.{◌≡◌, ℕ, zero, suc, ◌+◌, ◌<◌, ◌||◌, Bool, true, false, ◌==◌, if◌then◌else◌, List, [], ◌∷◌, length, Option, Some, None, slice_get, refl, sym, inl, inr, subst, arith, true≢false}
+use Rattle.std.proofs.Common.{◌≡◌, ℕ, zero, suc, ◌+◌, ◌<◌, ◌||◌, Bool, true, false, ◌==◌, if◌then◌else◌, List, [], ◌∷◌, ◌++◌, length, Option, Some, None, slice_get, refl, sym, inl, inr, subst, arith, true≢false}
 use Rattle.std.specs.Prelude.{All}
 use Rattle.std.specs.List.{list_any}
 use Rattle.std.proofs.lemmas.Bool.{eqb-true}
@@ -21,7 +21,13 @@ use Rattle.flow_core.specs.Looks.{CanAct, IsWaiting}
 use Rattle.flow_core.proofs.Calls.{event_below}
 use Rattle.flow_workflow.specs.Numbers.{IsKnown}
 use Rattle.flow_reply.specs.Reply.{HoldsNow}
-use Rattle.flow_core.proofs.Rising.{just_as}
+use Rattle.flow_core.proofs.Rising.{Below, one_found, one_passed, just_as}
+
+-- those that have P among the numbers so far, with the next one where it has
+pub one_listed : (P : ℕ → Type 0) (n : ℕ) (list longer : List ℕ) (has : Bool) → (has ≡ true → P n) → (P n → has ≡ true) → AreJust (Below P n) list →
+    longer ≡ (if has then list ++ n ∷ [] else list) → AreJust (Below P (n + 1)) longer
+one_listed P n list longer true only every just is = subst (λ l. AreJust (Below P (n + 1)) l) (sym is) (one_found P n list just (only refl))
+one_listed P n list longer false only every just is = subst (λ l. AreJust (Below P (n + 1)) l) (sym is) (one_passed P n list just (λ has. true≢false (sym (every has))))
 
 -- what can act is a leaf of the goal
 pub act_within : (r : Run) (leaf : ℕ) → CanAct r leaf → leaf < length (schema r).labels

@@ -20,14 +20,6 @@ Means r (NoOther leaf) meant = meant ≡ model.no_other leaf
 Means r Stuck meant = (leaves : List ℕ) × model.AreJust (IsWaiting r) leaves × (meant ≡ model.stuck leaves)
 Means r Unfinished meant = meant ≡ model.unfinished
 
--- a driven session may come to the verdict
-abbrev pub IsOfDrive : Verdict → Type 0
-IsOfDrive Committed = Unit {0}
-IsOfDrive Spent = Unit {0}
-IsOfDrive (NoOther leaf) = ⊥
-IsOfDrive Stuck = ⊥
-IsOfDrive Unfinished = Unit {0}
-
 -- a verdict in words
 abbrev pub verdict_text : model.Verdict → List ℕ
 verdict_text model.committed = codes "committed"

@@ -1,4 +1,4 @@
-ghost use Rattle.std.specs.Prelude.{◌≡◌, IfOk};
+ghost use Rattle.std.specs.Prelude.{◌≡◌, [], ◌∷◌, ◌++◌, if◌then◌else◌, IfOk, OnOk};
 ghost use Rattle.std.specs.String.{string_bytes};
 ghost use Rattle.flow_model.specs.Run.{CanDoAside, IsStuck};
 ghost use Rattle.flow_model.specs.Verdict.{AreJust};
@@ -19,15 +19,23 @@ pub fn print_numbers(alloc: Global, word: &str, numbers: &[u32]) -> Result<Strin
     Ok(text)
 }
 
+/// Adds the number to the list, if it is to be told.
+fn list_where(list: &mut Vec<u32>, number: u32, is_told: bool) -> Result<(), AllocError>
+    ensures { OnOk result (list.new.items ≡ (if is_told then list.old.items ++ number ∷ [] else list.old.items)) }
+{
+    if is_told {
+        list.push(number)?;
+    }
+    Ok(())
+}
+
 /// The leaves that can act, rising.
 pub fn enabled(alloc: Global, core: &Core) -> Result<Vec<u32>, AllocError>
     ensures { IfOk result (λ leaves. AreJust (CanAct core.now) leaves.items) }
 {
     let mut leaves = Vec::new(alloc);
     for leaf in 0..core.workflow().tree().leaves() {
-        if core.can_act(leaf) {
-            leaves.push(leaf)?;
-        }
+        list_where(&mut leaves, leaf, core.can_act(leaf))?;
     }
     Ok(leaves)
 }
@@ -38,9 +46,7 @@ fn left(alloc: Global, core: &Core) -> Result<Vec<u32>, AllocError>
 {
     let mut leaves = Vec::new(alloc);
     for leaf in 0..core.workflow().tree().leaves() {
-        if core.is_left(leaf) {
-            leaves.push(leaf)?;
-        }
+        list_where(&mut leaves, leaf, core.is_left(leaf))?;
     }
     Ok(leaves)
 }
@@ -74,9 +80,7 @@ pub fn held(alloc: Global, core: &Core) -> Result<Vec<u32>, AllocError>
     let _ = workflow.tree();
     let mut facts = Vec::new(alloc);
     for fact in 0..workflow.facts().count() {
-        if core.holds(fact) {
-            facts.push(fact)?;
-        }
+        list_where(&mut facts, fact, core.holds(fact))?;
     }
     Ok(facts)
 }

@@ -1,14 +1,15 @@
-ghost use Rattle.std.specs.Prelude.{◌≡◌, IfOk};
+ghost use Rattle.std.specs.Prelude.{◌≡◌, IfOk, fold};
 ghost use Rattle.std.specs.String.{string_bytes};
-ghost use Rattle.serde_json.specs.View.{view};
+ghost use Rattle.serde_json.specs.Data.{no_members, put};
+ghost use Rattle.serde_json.specs.View.{view, members_view};
 ghost use Rattle.serde_json.specs.Written.{compact_text};
-ghost use Rattle.flow_reply.specs.Summary.{summary_object, IsSummary};
+ghost use Rattle.flow_reply.specs.Summary.{count, summary_object, IsSummary};
 
 use crate::report::print_verdict;
 use crate::verdict::Verdict;
 use flow_core::Core;
 use flow_findings::print_pieces;
-use serde_json::{Value, json};
+use serde_json::{Map, Value, put};
 use std::alloc::{AllocError, Global};
 
 /// What is told of a run of a generated workflow.
@@ -52,16 +53,37 @@ fn print_object(alloc: Global, summary: &Summary, words: &str) -> Result<String,
 fn summary_value(alloc: Global, summary: &Summary, words: &str) -> Result<Value, AllocError>
     ensures { IfOk result (λ value. view value ≡ summary_object summary.now words.now) }
 {
-    json!(in alloc; {
-        "bulk": summary.bulk,
-        "history": summary.history,
-        "journal": summary.journal,
-        "leaves": summary.leaves,
-        "live": summary.live,
-        "options": summary.options,
-        "resolutions": summary.resolutions,
-        "seed": summary.seed,
-        "size": summary.size,
-        "verdict": words
-    })
+    let mut members = counted_members(
+        alloc,
+        &[
+            ("bulk", summary.bulk),
+            ("history", summary.history),
+            ("journal", summary.journal),
+            ("leaves", summary.leaves),
+            ("live", summary.live),
+            ("options", summary.options),
+            ("resolutions", summary.resolutions),
+            ("seed", summary.seed),
+            ("size", summary.size),
+        ],
+    )?;
+    put(
+        &mut members,
+        alloc,
+        "verdict",
+        Value::try_from_str(alloc, words)?,
+    )?;
+    Ok(Value::Object(members))
+}
+
+/// The members of an object: keys, each with its number.
+fn counted_members(alloc: Global, counts: &[(&str, u64)]) -> Result<Map<String, Value>, AllocError>
+    ensures { IfOk result (λ members. members_view members.entries
+        ≡ fold (λ others pair. put pair.0.now (count pair.1) others) no_members counts.now) }
+{
+    let mut members = Map::new(alloc);
+    for (key, number) in counts {
+        put(&mut members, alloc, key, Value::from(*number))?;
+    }
+    Ok(members)
 }

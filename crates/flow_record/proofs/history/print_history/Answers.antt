@@ -25,4 +25,4 @@ pub returns-clause-read_back : goal.returns-clause-read_back
 returns-clause-read_back c =
     let small : All IsSmall c.args.entries.now = λ k d h. c.loop-entry.invariant.small k (omega arith) d in
     let text : c.into_bytes.result.items ≡ history_text c.args.entries.now = grind (arith, common_steps) in
-    ap history_of text ∙ history_there c.args.entries.now 0 small
+    ap history_of text ∙ history_there c.args.entries.now small

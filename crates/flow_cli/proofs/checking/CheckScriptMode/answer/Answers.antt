@@ -9,4 +9,4 @@ returns-in-Ok-clause-writes c =
 
 pub returns-in-Ok-clause-of_input : goal.returns-in-Ok-clause-of_input
 returns-in-Ok-clause-of_input c =
-    IfOk-weaker c.check_workflow-output.result _ _ (λ output. checks_of_input c.in-Ok.workflow output.status output.text.items) c.check_workflow-output.ensures
+    IfOk-weaker c.check_workflow-output.result _ _ (λ output. checks_of_input output.status output.text.items c.in-Ok.workflow) c.check_workflow-output.ensures

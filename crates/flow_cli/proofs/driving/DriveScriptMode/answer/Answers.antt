@@ -5,4 +5,4 @@ use Rattle.flow_cli.proofs.driving.DriveScriptMode.answer.Goals as goal
 
 pub returns-in-Ok-clause-of_input : goal.returns-in-Ok-clause-of_input
 returns-in-Ok-clause-of_input c =
-    IfOk-weaker c.drive_script.result _ _ (λ output. drives_of_input (said c.args.script.now) c.args.self.now.steps c.deref.result.now output.status output.text.items) c.drive_script.ensures
+    IfOk-weaker c.drive_script.result _ _ (λ output. drives_of_input output.status output.text.items (said c.args.script.now) c.args.self.now.steps c.deref.result.now) c.drive_script.ensures

@@ -9,4 +9,4 @@ returns-in-Ok-clause-writes c =
 
 pub returns-in-Ok-clause-of_input : goal.returns-in-Ok-clause-of_input
 returns-in-Ok-clause-of_input c =
-    IfOk-weaker c.trace_workflow-output.result _ _ (λ output. traces_of_input c.in-Ok.workflow c.args.text.now output.status output.text.items) c.trace_workflow-output.ensures
+    IfOk-weaker c.trace_workflow-output.result _ _ (λ output. traces_of_input output.status output.text.items c.in-Ok.workflow c.args.text.now) c.trace_workflow-output.ensures

@@ -10,4 +10,4 @@ returns-in-Ok-clause-writes c =
 
 pub returns-in-Ok-clause-of_input : goal.returns-in-Ok-clause-of_input
 returns-in-Ok-clause-of_input c =
-    IfOk-weaker c.verify_script-output.result _ _ (λ output. verifies_of_input (said c.args.script.now) (asked c.in-Ok.query) output.status output.text.items) c.verify_script-output.ensures
+    IfOk-weaker c.verify_script-output.result _ _ (λ output. verifies_of_input output.status output.text.items (said c.args.script.now) (asked c.in-Ok.query)) c.verify_script-output.ensures

@@ -2,7 +2,7 @@ use Rattle.std.proofs.Common.{sym, subst}
 use Rattle.flow_cli.specs.Output.{IsOfInput}
 use Rattle.flow_cli.proofs.Runs.{summarizes}
 use Rattle.flow_cli.proofs.Statuses.{of_verdict}
-use Rattle.flow_cli.proofs.running.Crew.run_generated.Goals as goal
+use Rattle.flow_cli.proofs.running.RunMode.run_generated.Goals as goal
 
 pub returns-clause-writes : goal.returns-clause-writes
 returns-clause-writes g c = (

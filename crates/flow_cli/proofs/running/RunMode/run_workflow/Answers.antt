@@ -4,7 +4,7 @@ use Rattle.flow_rules.specs.Rule.{rules_of}
 use Rattle.flow_workflow.specs.Definition.{schema_of}
 use Rattle.flow_excise.specs.Compilation.{IsCompiled}
 use Rattle.flow_cli.proofs.Compiled.{refused_of_parts, compiled_of_parts}
-use Rattle.flow_cli.proofs.running.Crew.run_workflow.Goals as goal
+use Rattle.flow_cli.proofs.running.RunMode.run_workflow.Goals as goal
 
 pub report-requires : goal.report-requires
 report-requires g c =

@@ -4,7 +4,7 @@ use Rattle.flow_cli.specs.Running.{Runs}
 use Rattle.flow_cli.specs.Output.{greatest_input}
 use Rattle.flow_cli.proofs.Inputs.{writes_read, writes_long}
 use Rattle.flow_cli.proofs.Statuses.{input_whole, input_no_words}
-use Rattle.flow_cli.proofs.running.Crew.run_source.Goals as goal
+use Rattle.flow_cli.proofs.running.RunMode.run_source.Goals as goal
 
 pub returns-in-Ok-clause-writes : goal.returns-in-Ok-clause-writes
 returns-in-Ok-clause-writes g c =

@@ -4,7 +4,7 @@ use Rattle.flow_core.specs.Lawful.{IsLawful}
 use Rattle.flow_reply.specs.declared.verdict.Verdict.{Verdict}
 use Rattle.flow_cli.specs.Running.{verdict_of, IsRunOf}
 use Rattle.flow_cli.proofs.Runs.{run_of}
-use Rattle.flow_cli.proofs.running.Crew.run.Goals as goal
+use Rattle.flow_cli.proofs.running.RunMode.run.Goals as goal
 
 pub returns : goal.returns
 returns g c =
