@@ -1,6 +1,7 @@
 -- The value and the invariant of claims, over the fields.
 use Rattle.std.specs.Prelude.{◌≡◌, ◌≤◌, ◌<◌, ℕ, List, [], ◌∷◌, ◌++◌, length, map, slice_index}
 use Rattle.std.specs.Vec.{vec_capacity}
+use Rattle.flow_model.specs.declared.limits.TheConstants.{MOST_ENTRIES}
 use Rattle.flow_model.specs.Lists.{Each}
 use Rattle.flow_claims.specs.declared.given.Given.{Given}
 use Rattle.flow_claims.specs.declared.claims.Claims.TheInside.{Inside}
@@ -35,6 +36,6 @@ pub record IsKept (given : List Given) (current leaves attempts : List ℕ) (epo
 pub record AreInStep (c : Inside) : Type 0 where
   pub kept : IsKept c.given.items c.current.items c.leaves.items c.attempts.items c.epoch
   pub few : length c.given.items ≤ vec_capacity c.given
-  pub room : vec_capacity c.given ≤ 1000000
+  pub room : vec_capacity c.given ≤ MOST_ENTRIES
   pub current_room : vec_capacity c.given ≤ vec_capacity c.current
   pub leaves_room : vec_capacity c.given ≤ vec_capacity c.leaves

@@ -1,4 +1,5 @@
 ghost use Rattle.std.specs.Prelude.{◌≡◌, ◌+◌, ◌^◌, ◌<◌, ◌≤◌, ◌↔◌, IsTrue, IfOk, MatchOption, None, false, [], ◌∷◌, ◌++◌, length, map, slice_get};
+ghost use Rattle.flow_model.specs.declared.limits.TheConstants.{MOST_ENTRIES};
 ghost use Rattle.flow_model.specs.Lists.{◌∈◌};
 ghost use Rattle.flow_model.specs.Schema.{Schema};
 ghost use Rattle.flow_model.specs.Run.{Claim, RunState, current_claims, current_leaves, claim_at, IsCurrent, answer, with_new_epoch};
@@ -41,7 +42,7 @@ impl Model for Claims {
 impl Claims {
     /// None given yet, and room for so many, on events below the number of kinds.
     pub fn new(alloc: Global, kinds: u32, room: u32) -> Result<Claims, AllocError>
-        requires { room ≤ 1000000 }
+        requires { room ≤ MOST_ENTRIES }
         ensures { IfOk result (λ claims. claims ≡ record { claims = []; events = []; epoch = 0; room = room; kinds = kinds }) }
     {
         Ok(Claims {

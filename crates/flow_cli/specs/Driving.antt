@@ -1,5 +1,6 @@
 -- What `drive` writes.
 use Rattle.std.specs.Prelude.{◌≡◌, ◌≤◌, ℕ, List, [], ◌++◌, ◌⊎◌}
+use Rattle.flow_model.specs.declared.limits.TheConstants.{MOST_ENTRIES}
 use Rattle.flow_model.specs.Verdict.{drive_verdict}
 use Rattle.flow_core.specs.Run.{Run}
 use Rattle.flow_core.specs.Lawful.{IsLawful}
@@ -21,7 +22,7 @@ use Rattle.flow_cli.specs.Drive.{Drives}
 
 -- so many steps a history can be limited to
 abbrev pub IsStepCount : ℕ → Type 0
-IsStepCount steps = (1 ≤ steps) × (steps ≤ 1000000)
+IsStepCount steps = (1 ≤ steps) × (steps ≤ MOST_ENTRIES)
 
 -- before the first command
 abbrev pub start_of : Definition → ℕ → Run

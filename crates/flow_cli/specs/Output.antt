@@ -1,5 +1,6 @@
 -- What a call writes, and with which status it ends.
 use Rattle.std.specs.Prelude.{◌<◌, ◌≤◌, ℕ, Bool, List, [], length, take, drop, Option, IfSome, ◌⊎◌}
+use Rattle.flow_model.specs.declared.limits.TheConstants.{GREATEST_INPUT}
 use Rattle.flow_model.specs.declared.history.Call.{Call}
 use Rattle.flow_model.specs.declared.history.Outcome.{Outcome}
 use Rattle.flow_form.specs.declared.refusal.TextRefusal.{TextRefusal}
@@ -26,7 +27,7 @@ use Rattle.flow_cli.specs.Verifying.{VerifiesText}
 
 -- the greatest number of bytes that are read
 abbrev pub greatest_input : ℕ
-greatest_input = 1048576
+greatest_input = GREATEST_INPUT
 
 -- the text of the workflow in an input
 abbrev pub workflow_part : List ℕ → List ℕ

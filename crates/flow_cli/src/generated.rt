@@ -1,5 +1,6 @@
 //! The generated workflow of a seed and a size, which is never refused.
 ghost use Rattle.std.specs.Prelude.{◌≡◌, ◌≤◌, IfOk};
+ghost use Rattle.flow_model.specs.declared.limits.TheConstants.{GREATEST_SEED};
 ghost use Rattle.flow_form.specs.Script.{said};
 ghost use Rattle.flow_workflow.specs.Definition.{schema_of};
 ghost use Rattle.flow_expand.specs.Workflows.{IsExpanded};
@@ -19,7 +20,7 @@ use std::alloc::{AllocError, Global};
 
 /// The script that the generated text says.
 fn generated_script(alloc: Global, seed: u32, size: u32) -> Result<Script, AllocError>
-    requires seed { seed ≤ 65536 }
+    requires seed { seed ≤ GREATEST_SEED }
     requires some { 1 ≤ size }
     requires few { size ≤ 128 }
     ensures { IfOk result (λ script. said script ≡ generated seed size) }
@@ -42,7 +43,7 @@ pub(crate) fn generated_workflow(
     seed: u32,
     size: u32,
 ) -> Result<Workflow, AllocError>
-    requires seed { seed ≤ 65536 }
+    requires seed { seed ≤ GREATEST_SEED }
     requires some { 1 ≤ size }
     requires few { size ≤ 128 }
     ensures { IfOk result (IsExpanded (generated seed size)) }

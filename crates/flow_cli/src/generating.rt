@@ -1,4 +1,5 @@
 ghost use Rattle.std.specs.Prelude.{◌≤◌, IfOk};
+ghost use Rattle.flow_model.specs.declared.limits.TheConstants.{GREATEST_SEED};
 ghost use Rattle.flow_cli.specs.Generating.{Generates};
 
 use crate::output::Output;
@@ -8,7 +9,7 @@ use std::alloc::{AllocError, Global};
 
 /// The generated workflow of that seed and size, as output.
 pub(crate) fn write_generated(alloc: Global, seed: u32, size: u32) -> Result<Output, AllocError>
-    requires seed { seed ≤ 65536 }
+    requires seed { seed ≤ GREATEST_SEED }
     requires some { 1 ≤ size }
     requires few { size ≤ 128 }
     ensures { IfOk result (λ output. Generates seed size output.status output.text.items) }

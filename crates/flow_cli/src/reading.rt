@@ -9,13 +9,11 @@ use crate::output::{Output, refuse};
 use crate::status::Status;
 use flow_form::Script;
 use flow_io::{ReadRefusal, Source, read_all};
+use flow_model::GREATEST_INPUT;
 use flow_record::cut_source;
 use flow_findings::Refused;
 use flow_text::{TextRefusal, parse};
 use std::alloc::{AllocError, Global};
-
-/// The greatest number of bytes that are read.
-pub(crate) const GREATEST_INPUT: usize = 1_048_576;
 
 /// What is done with a script and the text that follows it.
 pub(crate) trait ScriptMode {

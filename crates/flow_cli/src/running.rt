@@ -8,7 +8,7 @@ ghost use Rattle.flow_cli.specs.Output.{greatest_input, WritesFor, WritesIn, IsO
 ghost use Rattle.flow_cli.specs.Running.{IsCrew, verdict_of, IsRunOf, Reports, RunsWorkflow, Runs};
 
 use crate::output::{Output, refuse, refuse_script, refuse_workflow};
-use crate::reading::GREATEST_INPUT;
+use flow_model::GREATEST_INPUT;
 use crate::session::status_of;
 use crate::status::Status;
 use flow_core::Core;

@@ -1,5 +1,6 @@
 -- A workflow is refused for one count, or for circles of the same options, or it is not refused.
 use Rattle.std.proofs.Common.{◌≡◌, ◌<◌, ◌≤◌, ℕ, List, [], length, inl, inr, ◌⊎◌, sym, ap, ◌∙◌, arith}
+use Rattle.flow_model.specs.declared.limits.TheConstants.{GREATEST_BULK, MOST_OPTIONS, MOST_RESOLUTIONS}
 use Rattle.flow_model.specs.Schema.{Schema}
 use Rattle.flow_model.specs.Resolution.{resolution_count, options, bulk}
 use Rattle.flow_workflow.specs.Definition.{Definition, schema_of}
@@ -27,13 +28,13 @@ module _ (w : Schema) where
   -- of the counts one is the first that is too large
   first_count : (r q : CompileRefusal) → IsOfCounts r → IsOfCounts q → IsRefused w r → IsRefused w q → r ≡ q
   first_count (TooManyChoices n) (TooManyChoices m) a b h g = ap (λ k. TooManyChoices k) (h.1 ∙ sym g.1)
-  first_count (TooManyChoices n) (TooManyWays m) a b h g = absurd (apart (resolution_count w.goal) 4096 h.0 g.0)
-  first_count (TooManyChoices n) (TooBulky m) a b h g = absurd (apart (resolution_count w.goal) 4096 h.0 g.0)
-  first_count (TooManyWays n) (TooManyChoices m) a b h g = absurd (apart (resolution_count w.goal) 4096 g.0 h.0)
+  first_count (TooManyChoices n) (TooManyWays m) a b h g = absurd (apart (resolution_count w.goal) MOST_RESOLUTIONS h.0 g.0)
+  first_count (TooManyChoices n) (TooBulky m) a b h g = absurd (apart (resolution_count w.goal) MOST_RESOLUTIONS h.0 g.0)
+  first_count (TooManyWays n) (TooManyChoices m) a b h g = absurd (apart (resolution_count w.goal) MOST_RESOLUTIONS g.0 h.0)
   first_count (TooManyWays n) (TooManyWays m) a b h g = ap (λ k. TooManyWays k) (h.1.1 ∙ sym g.1.1)
-  first_count (TooManyWays n) (TooBulky m) a b h g = absurd (apart (length (options w)) 4096 h.1.0 g.1.0)
-  first_count (TooBulky n) (TooManyChoices m) a b h g = absurd (apart (resolution_count w.goal) 4096 g.0 h.0)
-  first_count (TooBulky n) (TooManyWays m) a b h g = absurd (apart (length (options w)) 4096 g.1.0 h.1.0)
+  first_count (TooManyWays n) (TooBulky m) a b h g = absurd (apart (length (options w)) MOST_OPTIONS h.1.0 g.1.0)
+  first_count (TooBulky n) (TooManyChoices m) a b h g = absurd (apart (resolution_count w.goal) MOST_RESOLUTIONS g.0 h.0)
+  first_count (TooBulky n) (TooManyWays m) a b h g = absurd (apart (length (options w)) MOST_OPTIONS g.1.0 h.1.0)
   first_count (TooBulky n) (TooBulky m) a b h g = ap (λ k. TooBulky k) (h.1.1.1 ∙ sym g.1.1.1)
   first_count (Inconsistent d) q a b h g = absurd a
   first_count NoMemory q a b h g = absurd a
@@ -41,9 +42,9 @@ module _ (w : Schema) where
   first_count r NoMemory a b h g = absurd b
 
   none_too_large : (r : CompileRefusal) → IsOfCounts r → IsRefused w r → IsWithinLimits w → ⊥
-  none_too_large (TooManyChoices n) a h within = apart (resolution_count w.goal) 4096 h.0 within.resolutions
-  none_too_large (TooManyWays n) a h within = apart (length (options w)) 4096 h.1.0 within.options_few
-  none_too_large (TooBulky n) a h within = apart (bulk w) 262144 h.1.1.0 within.light
+  none_too_large (TooManyChoices n) a h within = apart (resolution_count w.goal) MOST_RESOLUTIONS h.0 within.resolutions
+  none_too_large (TooManyWays n) a h within = apart (length (options w)) MOST_OPTIONS h.1.0 within.options_few
+  none_too_large (TooBulky n) a h within = apart (bulk w) GREATEST_BULK h.1.1.0 within.light
   none_too_large (Inconsistent d) a h within = a
   none_too_large NoMemory a h within = a
 

@@ -1,5 +1,6 @@
 -- What is said has one workflow, or one reason why it has none.
 use Rattle.std.proofs.Common.{◌≡◌, ◌<◌, ◌≤◌, ℕ, List, length, Some, inl, inr, ◌⊎◌, sym, ap, subst, ◌∙◌, arith, le_antisymm}
+use Rattle.flow_model.specs.declared.limits.TheConstants.{MOST_FLOWS, MOST_LEAVES, MOST_RULE_NAMES}
 use Rattle.flow_model.specs.Lists.{AreDistinct, numbers_from}
 use Rattle.flow_model.specs.Facts.{event_at}
 use Rattle.flow_model.specs.Process.{IsNumbered}
@@ -57,8 +58,8 @@ twice_once t a b p q = λ i. record { event = event i; first = first i; second =
 module _ (s : Said) (once : AreDistinct (declared_names s.decls)) where
   -- ---- each refusal excludes those that are tested before it
 
-  many_flows : (n : ℕ) → HasManyFlows s n → flow_count s ≤ 256 → ⊥
-  many_flows n h few = let many : 256 < flow_count s = h.many in omega (arith, many, few)
+  many_flows : (n : ℕ) → HasManyFlows s n → flow_count s ≤ MOST_FLOWS → ⊥
+  many_flows n h few = let many : MOST_FLOWS < flow_count s = h.many in omega (arith, many, few)
 
   recursive : (chain : List (List ℕ)) → HasRecursion s chain → IsFinite s → ⊥
   recursive chain h finite = finite.ending (h.recursive.first, (h.recursive.between, h.recursive.steps))
@@ -66,11 +67,11 @@ module _ (s : Said) (once : AreDistinct (declared_names s.decls)) where
   large_goal : (n : ℕ) (e : Expansion) → HasLargeGoal s n → IsFitting s e → ⊥
   large_goal n e h fitting =
       let same : h.expansion ≡ e = becomes_one s.decls once s.goal h.expansion e h.becomes fitting.becomes in
-      let large : 1024 < size_of e = subst (λ (f : Expansion). 1024 < size_of f) same h.large in
-      let fits : size_of e ≤ 1024 = fitting.fits in omega (arith, large, fits)
+      let large : MOST_LEAVES < size_of e = subst (λ (f : Expansion). MOST_LEAVES < size_of f) same h.large in
+      let fits : size_of e ≤ MOST_LEAVES = fitting.fits in omega (arith, large, fits)
 
-  many_names : (n : ℕ) → HasManyRuleNames s n → rule_name_count s ≤ 8192 → ⊥
-  many_names n h few = let many : 8192 < rule_name_count s = h.many in omega (arith, many, few)
+  many_names : (n : ℕ) → HasManyRuleNames s n → rule_name_count s ≤ MOST_RULE_NAMES → ⊥
+  many_names n h few = let many : MOST_RULE_NAMES < rule_name_count s = h.many in omega (arith, many, few)
 
   repeats : (found : Twice) (w : Definition) → HasRepetition s found → IsExpanded s w → ⊥
   repeats found w h expanded =

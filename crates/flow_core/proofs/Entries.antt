@@ -1,6 +1,7 @@
 -- What the calls that make an entry owe, told of the fields of a core.
 use Rattle.std.proofs.Common.{◌≡◌, ◌≤◌, ℕ, false, List, subst, subst₂, sym, ◌∙◌, true≢false}
 use Rattle.std.specs.Vec.{vec_capacity}
+use Rattle.flow_model.specs.declared.limits.TheConstants.{MOST_ENTRIES}
 use Rattle.flow_model.specs.declared.history.Entry.{Entry}
 use Rattle.flow_model.specs.declared.history.Step.{Step}
 use Rattle.flow_model.specs.Run.{leaf_of_claim, IsCurrent}
@@ -35,6 +36,6 @@ module _ (i : Inside) (k : IsRunning i) (v : Run) (view : run_by i ≡ v) where
     kept = subst (λ w. IsKept w i'.limit i'.history.items i'.residual i'.claims i'.world i'.committed) (sym workflow)
         (subst₂ (λ n (h : List Entry). IsKept i.workflow n h i'.residual i'.claims i'.world i'.committed) (sym limit) (sym items) (made (inside IsUncommitted open_now) (inside HasEntryLeft steps)));
     room = subst₂ (λ n m. n ≤ m) (sym limit) (sym capacity) k.room;
-    small = subst (λ n. n ≤ 1000000) (sym limit) k.small;
+    small = subst (λ n. n ≤ MOST_ENTRIES) (sym limit) k.small;
     ahead = λ looked. absurd (true≢false (sym looked ∙ unlooked));
   }

@@ -1,5 +1,6 @@
 -- What a core keeps: its history is legal, and all else is its state.
 use Rattle.std.specs.Prelude.{◌≡◌, ◌≤◌, ℕ, Bool, List, length, map, Some, ◌↔◌, IsTrue, [], ◌∷◌, ◌++◌}
+use Rattle.flow_model.specs.declared.limits.TheConstants.{MOST_ENTRIES}
 use Rattle.flow_model.specs.declared.history.Entry.{Entry}
 use Rattle.flow_model.specs.Facts.{event_at}
 use Rattle.flow_model.specs.Lists.{Each}
@@ -58,5 +59,5 @@ pub record IsAhead (w : Schema) (s : RunState) (beside first : LeafSet 16) : Typ
 pub record IsRunning (c : Inside) : Type 0 where
   pub kept : IsKept c.workflow c.limit c.history.items c.residual c.claims c.world c.committed
   pub room : c.limit ≤ vec_capacity c.history
-  pub small : c.limit ≤ 1000000
+  pub small : c.limit ≤ MOST_ENTRIES
   pub ahead : IsTrue c.looked → IsAhead (schema_of c.workflow) (state_of (schema_of c.workflow) c.history.items) c.beside c.first

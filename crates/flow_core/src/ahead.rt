@@ -2,6 +2,7 @@ ghost use Rattle.std.specs.Prelude.{◌≡◌, ◌↔◌, IsTrue, [], ◌∷◌,
 ghost use Rattle.flow_model.specs.Run.{current_leaves, MayAllFollow, MayFollowFirst};
 
 use crate::engine::Core;
+use flow_model::MOST_LEAVES;
 
 impl Core {
     ghost use Rattle.flow_core.specs.Run.{schema, now};
@@ -22,7 +23,7 @@ impl Core {
     pub(crate) fn may_all_follow(&self, leaf: u32) -> bool
         ensures { IsTrue result ↔ MayAllFollow (schema self.now) (now self.now) (current_leaves (now self.now) ++ leaf ∷ []) }
     {
-        if self.looked && leaf < 1024 {
+        if self.looked && leaf < MOST_LEAVES {
             self.beside.has(leaf)
         } else {
             self.residual.may_all_follow(self.claims.leaves(), leaf)
@@ -33,7 +34,7 @@ impl Core {
     pub(crate) fn may_follow_first(&self, leaf: u32) -> bool
         ensures { IsTrue result ↔ MayFollowFirst (schema self.now) (now self.now) leaf (current_leaves (now self.now)) }
     {
-        if self.looked && leaf < 1024 {
+        if self.looked && leaf < MOST_LEAVES {
             self.first.has(leaf)
         } else {
             self.residual.may_follow_first(self.claims.leaves(), leaf)

@@ -1,5 +1,6 @@
 ghost use Rattle.std.specs.Prelude.{◌≡◌, ◌≤◌, ◌↔◌, [], length, false, IsTrue, IfOk, MatchOption, ℕ};
 ghost use Rattle.flow_excise.specs.Compilation.{IsCompiled};
+ghost use Rattle.flow_model.specs.declared.limits.TheConstants.{MOST_ENTRIES};
 ghost use Rattle.flow_model.specs.Run.{database, IsCurrent, IsOpen, IsOpenIndex};
 ghost use Rattle.flow_workflow.specs.Definition.{schema_of};
 
@@ -35,7 +36,7 @@ impl Parts {
         limit: u32,
     ) -> Result<Parts, AllocError>
         requires compiled { IsCompiled (schema_of workflow.now) compiled }
-        requires few { limit ≤ 1000000 }
+        requires few { limit ≤ MOST_ENTRIES }
         ensures kept { IfOk result (λ p. IsKept workflow.now limit [] p.residual p.claims p.world false) }
         ensures none { IfOk result (λ p. p.history.items ≡ []) }
         ensures room { IfOk result (λ p. limit ≤ vec_capacity p.history) }
@@ -100,7 +101,7 @@ impl Core {
     ) -> Result<Core, AllocError>
         requires compiled { IsCompiled (schema_of workflow) compiled }
         requires some { 1 ≤ limit }
-        requires few { limit ≤ 1000000 }
+        requires few { limit ≤ MOST_ENTRIES }
         ensures { IfOk result (λ core. core ≡ record { definition = workflow; limit = limit; history = [] }) }
     {
         let Parts {

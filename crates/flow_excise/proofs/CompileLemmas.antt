@@ -4,6 +4,7 @@ use Rattle.std.proofs.Common.{true≢false, ◌==◌, ◌≡◌, ◌≢◌, ℕ,
 use Rattle.std.specs.List.{flat_map}
 use Rattle.std.proofs.lemmas.List.{map-append, nil_from_length}
 use Rattle.std.proofs.lemmas.List.Concat.{flat_map-cons}
+use Rattle.flow_model.specs.declared.limits.TheConstants.{GREATEST_BULK, MOST_LEAVES, MOST_OPTIONS, MOST_RESOLUTIONS}
 use Rattle.flow_model.specs.Lists.{◌∈◌}
 use Rattle.flow_model.specs.Process.{Process, leaves}
 use Rattle.flow_model.specs.Constraint.{Constraint, all_of}
@@ -64,12 +65,12 @@ size_within [] o m = absurd m
 size_within (p ∷ os) o (inl e) = omega (arith, bulk-cons p os, ap option_size e)
 size_within (p ∷ os) o (inr m) = omega (arith, bulk-cons p os, size_within os o m)
 
-pub plannable : (w : Schema) (os : List ChoiceOption) → IsWellFormed w → length w.labels ≤ 1024 → os ≡ options w → bulk_of os ≤ 262144 → ArePlannable os
+pub plannable : (w : Schema) (os : List ChoiceOption) → IsWellFormed w → length w.labels ≤ MOST_LEAVES → os ≡ options w → bulk_of os ≤ GREATEST_BULK → ArePlannable os
 plannable w os f small e light o m =
     let there : o ∈ options w = subst (λ l. o ∈ l) e m in
     let parts = option_parts w o there in record {
       ordered = option_is_ordered w f o there;
-      small = each_from_members (λ n. n < 1024) (leaves o.resolution) (λ n k.
+      small = each_from_members (λ n. n < MOST_LEAVES) (leaves o.resolution) (λ n k.
           let in_goal = mem-leaves_of_goal w.goal o.resolution (resolves_of w.goal o.resolution parts.0) n k in
           let below = numbers_from_below 0 (length w.labels) n (subst (λ l. n ∈ l) f.numbered in_goal) in
           omega arith);
@@ -78,12 +79,12 @@ plannable w os f small e light o m =
 
 -- the answers
 
-pub too_many : (w : Schema) (os : List ChoiceOption) (e : CompileRefusal) → os ≡ options w → resolution_count w.goal ≤ 4096 → IsTooMany os e → IsRefused w e
+pub too_many : (w : Schema) (os : List ChoiceOption) (e : CompileRefusal) → os ≡ options w → resolution_count w.goal ≤ MOST_RESOLUTIONS → IsTooMany os e → IsRefused w e
 too_many w os (TooManyChoices count) s r h = absurd h
 too_many w os (TooManyWays count) s r h =
-    (r, (subst (λ (l : List ChoiceOption). 4096 < length l) s h.0, h.1 ∙ ap (λ (l : List ChoiceOption). capped (length l)) s))
+    (r, (subst (λ (l : List ChoiceOption). MOST_OPTIONS < length l) s h.0, h.1 ∙ ap (λ (l : List ChoiceOption). capped (length l)) s))
 too_many w os (TooBulky count) s r h =
-    (r, (subst (λ (l : List ChoiceOption). length l ≤ 4096) s h.0, (subst (λ (l : List ChoiceOption). 262144 < bulk_of l) s h.1.0, h.1.1 ∙ ap (λ (l : List ChoiceOption). capped (bulk_of l)) s)))
+    (r, (subst (λ (l : List ChoiceOption). length l ≤ MOST_OPTIONS) s h.0, (subst (λ (l : List ChoiceOption). GREATEST_BULK < bulk_of l) s h.1.0, h.1.1 ∙ ap (λ (l : List ChoiceOption). capped (bulk_of l)) s)))
 too_many w os (Inconsistent dropped) s r h = absurd h
 too_many w os NoMemory s r h = tt
 
@@ -114,7 +115,7 @@ module _ (w : Schema) (f : IsWellFormed w) (plans : List Sampled) (dropped : Lis
 -- the answers where the options are counted and sifted, by a normal form of the constraints
 
 module _ (t : Labelled) (these : List Constraint) (n : Normal) (same : HasWaysOf n (all_of these)) (f : IsWellFormed (schema_of t these))
-    (few : resolution_count t.process ≤ 4096) (tally : Tally) (counted : AreFew (all_options_by t n) tally) (sieve : Sieve)
+    (few : resolution_count t.process ≤ MOST_RESOLUTIONS) (tally : Tally) (counted : AreFew (all_options_by t n) tally) (sieve : Sieve)
     (sifted : HasSifted (numbered_options 0 (map (options_by t n) (resolutions t.process))) sieve) where
   all_sifted : AreSifted (all_numbered (schema_of t these)) (options_of sieve.kept.items) sieve.dropped.items
   all_sifted = subst (λ ns. AreSifted ns (options_of sieve.kept.items) sieve.dropped.items) (same_numbered t these n same) sifted
@@ -122,8 +123,8 @@ module _ (t : Labelled) (these : List Constraint) (n : Normal) (same : HasWaysOf
   within : IsWithinLimits (schema_of t these)
   within = record {
     resolutions = few;
-    options_few = subst (λ (l : List ChoiceOption). length l ≤ 4096) (same_options t these n same) counted.few;
-    light = subst (λ (l : List ChoiceOption). bulk_of l ≤ 262144) (same_options t these n same) counted.light;
+    options_few = subst (λ (l : List ChoiceOption). length l ≤ MOST_OPTIONS) (same_options t these n same) counted.few;
+    light = subst (λ (l : List ChoiceOption). bulk_of l ≤ GREATEST_BULK) (same_options t these n same) counted.light;
   }
 
   pub refused_by : (r : Result Compilation CompileRefusal) → IfErr r (λ e. (sieve.kept.items ≡ []) × (e ≡ Inconsistent sieve.dropped)) → IfErr r (IsRefused (schema_of t these))

@@ -2,6 +2,7 @@
 use Rattle.std.specs.Prelude.{◌≡◌, ◌≢◌, ◌<◌, ◌≤◌, List, [], length, map, All}
 use Rattle.std.proofs.Common.{refl}
 use Rattle.std.specs.Coded.{Coded, code_by, coded×, coded_list}
+use Rattle.flow_model.specs.declared.limits.TheConstants.{GREATEST_BULK, MOST_OPTIONS, MOST_RESOLUTIONS}
 use Rattle.flow_model.specs.Schema.{Schema}
 use Rattle.flow_model.specs.Resolution.{ChoiceOption, options, options_in, resolutions, resolution_count, bulk}
 use Rattle.flow_laws.specs.WellFormed.{IsConsistent}
@@ -39,9 +40,9 @@ options_of plans = map (λ (s : Sampled). option_of s.plan) plans
 
 -- resolutions, options and bulk are within the limits
 pub record IsWithinLimits (w : Schema) : Type 0 where
-  pub resolutions : resolution_count w.goal ≤ 4096
-  pub options_few : length (options w) ≤ 4096
-  pub light : bulk w ≤ 262144
+  pub resolutions : resolution_count w.goal ≤ MOST_RESOLUTIONS
+  pub options_few : length (options w) ≤ MOST_OPTIONS
+  pub light : bulk w ≤ GREATEST_BULK
 
 -- the plans of the options that have an execution, and how large the workflow is
 pub record IsCompiled (w : Schema) (c : Compilation) : Type 0 where
@@ -58,9 +59,9 @@ all_numbered w = numbered_options 0 (map (options_in w) (resolutions w.goal))
 
 -- why the workflow is not compiled; of want of memory nothing is said
 abbrev pub IsRefused : Schema → CompileRefusal → Type 0
-IsRefused w (TooManyChoices count) = (4096 < resolution_count w.goal) × (count ≡ capped (resolution_count w.goal))
-IsRefused w (TooManyWays count) = (resolution_count w.goal ≤ 4096) × ((4096 < length (options w)) × (count ≡ capped (length (options w))))
+IsRefused w (TooManyChoices count) = (MOST_RESOLUTIONS < resolution_count w.goal) × (count ≡ capped (resolution_count w.goal))
+IsRefused w (TooManyWays count) = (resolution_count w.goal ≤ MOST_RESOLUTIONS) × ((MOST_OPTIONS < length (options w)) × (count ≡ capped (length (options w))))
 IsRefused w (TooBulky count) =
-    (resolution_count w.goal ≤ 4096) × ((length (options w) ≤ 4096) × ((262144 < bulk w) × (count ≡ capped (bulk w))))
+    (resolution_count w.goal ≤ MOST_RESOLUTIONS) × ((length (options w) ≤ MOST_OPTIONS) × ((GREATEST_BULK < bulk w) × (count ≡ capped (bulk w))))
 IsRefused w (Inconsistent dropped) = IsWithinLimits w × (¬ (IsConsistent w) × TellOfAll (all_numbered w) dropped.items)
 IsRefused w NoMemory = Unit {0}

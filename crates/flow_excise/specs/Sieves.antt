@@ -1,5 +1,6 @@
 -- Options that can be made plans of, and those that were looked at.
 use Rattle.std.specs.Prelude.{◌<◌, ◌^◌, ℕ, List, ◌++◌, length, map, take}
+use Rattle.flow_model.specs.declared.limits.TheConstants.{MOST_LEAVES}
 use Rattle.flow_model.specs.Lists.{◌∈◌, Each}
 use Rattle.flow_model.specs.Process.{Process, leaves}
 use Rattle.flow_model.specs.Resolution.{ChoiceOption, resolutions}
@@ -15,7 +16,7 @@ use Rattle.flow_excise.specs.Compilation.{options_of}
 
 pub record IsPlannable (o : ChoiceOption) : Type 0 where
   pub ordered : IsOrdered o.resolution o.order
-  pub small : Each (λ n. n < 1024) (leaves o.resolution)
+  pub small : Each (λ n. n < MOST_LEAVES) (leaves o.resolution)
   pub few : length o.order < 2 ^ 32
 
 abbrev pub ArePlannable : List ChoiceOption → Type 0

@@ -1,4 +1,5 @@
 ghost use Rattle.std.specs.Prelude.{◌≡◌, ◌<◌, ◌≤◌, ◌*◌, ◌+◌, ◌-◌, ◌/◌, min, IfOk, length};
+ghost use Rattle.flow_model.specs.declared.limits.TheConstants.{MOST_RESOLUTIONS};
 ghost use Rattle.flow_model.specs.Resolution.{resolution_count};
 ghost use Rattle.flow_goal.specs.Choices.{AreChoicesOf};
 ghost use Rattle.flow_rules.specs.Conjunction.{normal_in};
@@ -22,7 +23,7 @@ pub(crate) struct Block {
 
 /// How many resolutions the block of that number has. Each but the last one has 64.
 fn size_of(tree: &Tree, number: u64) -> u32
-    requires exact { resolution_count tree.now.process ≤ 4096 }
+    requires exact { resolution_count tree.now.process ≤ MOST_RESOLUTIONS }
     requires numbered { 64 * number < resolution_count tree.now.process }
     ensures { result ≡ min 64 (resolution_count tree.now.process - 64 * number) }
 {
@@ -40,7 +41,7 @@ fn block_leaves(
     lanes: &mut Lanes,
 ) -> Result<Vec<Vec<u32>>, AllocError>
     requires choices { AreChoicesOf tree.now.process choices.now }
-    requires exact { resolution_count tree.now.process ≤ 4096 }
+    requires exact { resolution_count tree.now.process ≤ MOST_RESOLUTIONS }
     requires within { first + size ≤ resolution_count tree.now.process }
     requires few { size ≤ 64 }
     ensures leaves { IfOk result (λ lists. AreLeavesOf tree.now first lists.items) }
@@ -68,7 +69,7 @@ impl Block {
         lanes: &mut Lanes,
     ) -> Result<Block, AllocError>
         requires choices { AreChoicesOf tree.now.process choices.now }
-        requires exact { resolution_count tree.now.process ≤ 4096 }
+        requires exact { resolution_count tree.now.process ≤ MOST_RESOLUTIONS }
         requires numbered { 64 * number < resolution_count tree.now.process }
         ensures { IfOk result (IsBlock tree.now (normal_in rules.now) number) }
     {
@@ -87,7 +88,7 @@ impl Block {
 
 /// How many blocks the resolutions of a tree make.
 pub(crate) fn blocks(tree: &Tree) -> u64
-    requires { resolution_count tree.now.process ≤ 4096 }
+    requires { resolution_count tree.now.process ≤ MOST_RESOLUTIONS }
     ensures { result ≡ (resolution_count tree.now.process + 63) / 64 }
 {
     (resolutions(tree) + 63) / 64

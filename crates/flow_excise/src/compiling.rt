@@ -1,6 +1,7 @@
 ghost use Rattle.std.specs.Prelude.{◌≡◌, ◌≢◌, ◌<◌, ◌≤◌, [], List, IfOk, IfErr, length};
 ghost use Rattle.flow_goal.specs.Repeated.{HoldsNoneTwice};
 ghost use Rattle.flow_goal.specs.Choices.{AreChoicesOf};
+ghost use Rattle.flow_model.specs.declared.limits.TheConstants.{MOST_LEAVES, MOST_RESOLUTIONS};
 ghost use Rattle.flow_model.specs.Constraint.{Constraint, all_of};
 ghost use Rattle.flow_model.specs.Resolution.{resolution_count};
 ghost use Rattle.flow_rules.specs.Conjunction.{HasWaysOf, normal_in};
@@ -50,9 +51,9 @@ fn compile_by(
     resolutions: u64,
 ) -> Result<Compiled, CompileRefusal>
     requires unique { HoldsNoneTwice tree.now }
-    requires small { length tree.now.labels ≤ 1024 }
+    requires small { length tree.now.labels ≤ MOST_LEAVES }
     requires choices { AreChoicesOf tree.now.process choices.now }
-    requires exact { resolution_count tree.now.process ≤ 4096 }
+    requires exact { resolution_count tree.now.process ≤ MOST_RESOLUTIONS }
     requires counted { resolutions ≡ resolution_count tree.now.process }
     requires made { (these : List Constraint) × HasWaysOf (normal_in rules.now) (all_of these) }
     ensures refused { (these : List Constraint) → HasWaysOf (normal_in rules.now) (all_of these) → IfErr result (IsRefused (schema_of tree.now these)) }
@@ -72,8 +73,8 @@ fn compile_by(
 /// before the options are counted and within the limits.
 pub fn compile(alloc: Global, tree: &Tree, rules: &[Rule]) -> Result<Compiled, CompileRefusal>
     requires unique { HoldsNoneTwice tree.now }
-    requires small { length tree.now.labels ≤ 1024 }
-    ensures choices { 4096 < resolution_count tree.now.process →
+    requires small { length tree.now.labels ≤ MOST_LEAVES }
+    ensures choices { MOST_RESOLUTIONS < resolution_count tree.now.process →
         result ≡ Err (TooManyChoices (capped (resolution_count tree.now.process))) }
     ensures refused { IfErr result (IsRefused (schema_of tree.now (rules_of rules.now))) }
     ensures ok { IfOk result (IsCompiled (schema_of tree.now (rules_of rules.now))) }

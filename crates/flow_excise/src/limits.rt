@@ -10,23 +10,18 @@ ghost use Rattle.flow_excise.specs.Limits.{AreFew, IsTooMany};
 use crate::refusal::CompileRefusal;
 use crate::tally::{Counted, whole_tally};
 use flow_goal::{Choices, Tree, resolutions};
+use flow_model::{GREATEST_BULK, MOST_OPTIONS, MOST_RESOLUTIONS};
 use flow_rules::Conjunction;
 use std::alloc::Global;
-
-/// How many resolutions there may be, and how many options.
-const MOST_OPTIONS: u64 = 4096;
-
-/// How many leaves and pairs there may be in all options.
-const GREATEST_BULK: u64 = 262_144;
 
 /// How many resolutions the tree has, if they are not too many.
 pub(crate) fn few_resolutions(tree: &Tree) -> Result<u64, CompileRefusal>
     ensures { MatchResult result
-        (λ count. (resolution_count tree.now.process ≤ 4096) × (count ≡ resolution_count tree.now.process))
-        (λ refusal. (4096 < resolution_count tree.now.process) × (refusal ≡ TooManyChoices (capped (resolution_count tree.now.process)))) }
+        (λ count. (resolution_count tree.now.process ≤ MOST_RESOLUTIONS) × (count ≡ resolution_count tree.now.process))
+        (λ refusal. (MOST_RESOLUTIONS < resolution_count tree.now.process) × (refusal ≡ TooManyChoices (capped (resolution_count tree.now.process)))) }
 {
     let count = resolutions(tree);
-    if count > MOST_OPTIONS {
+    if count > MOST_RESOLUTIONS {
         Err(CompileRefusal::TooManyChoices { count })
     } else {
         Ok(count)
@@ -41,7 +36,7 @@ pub(crate) fn few_options(
     rules: &Conjunction,
 ) -> Result<Counted, CompileRefusal>
     requires choices { AreChoicesOf tree.now.process choices.now }
-    requires exact { resolution_count tree.now.process ≤ 4096 }
+    requires exact { resolution_count tree.now.process ≤ MOST_RESOLUTIONS }
     ensures options { MatchResult result
         (λ counted. AreFew (all_options_by tree.now (normal_in rules.now)) counted.tally)
         (IsTooMany (all_options_by tree.now (normal_in rules.now))) }

@@ -1,4 +1,5 @@
 ghost use Rattle.std.specs.Prelude.{◌≡◌, ◌<◌, ◌≤◌, ◌↔◌, ◌+◌, ◌*◌, ◌∷◌, [], ℕ, false, get_or, IsTrue, MatchResult, OnOk, length, map, slice_get};
+ghost use Rattle.flow_model.specs.declared.limits.TheConstants.{MOST_RESOLUTIONS};
 ghost use Rattle.flow_model.specs.Process.{Process};
 ghost use Rattle.flow_model.specs.Resolution.{resolution_count, resolutions as all_resolutions};
 ghost use Rattle.flow_model.specs.Ways.{Normal};
@@ -86,7 +87,7 @@ fn sift_resolution(
     sieve: &mut Sieve,
 ) -> Result<(), CompileRefusal>
     requires choices { AreChoicesOf tree.now.process choices.now }
-    requires exact { resolution_count tree.now.process ≤ 4096 }
+    requires exact { resolution_count tree.now.process ≤ MOST_RESOLUTIONS }
     requires numbered { block.now.first + lane < resolution_count tree.now.process }
     requires lane { lane < 64 }
     requires plannable { (q : Process) → slice_get (all_resolutions tree.now.process) (block.now.first + lane) ≡ Some q →
@@ -118,7 +119,7 @@ fn sift_block(
     sieve: &mut Sieve,
 ) -> Result<(), CompileRefusal>
     requires choices { AreChoicesOf tree.now.process choices.now }
-    requires exact { resolution_count tree.now.process ≤ 4096 }
+    requires exact { resolution_count tree.now.process ≤ MOST_RESOLUTIONS }
     requires within { block.now.first + block.now.size ≤ resolution_count tree.now.process }
     requires few { block.now.size ≤ 64 }
     requires long { length met.now ≡ resolution_count tree.now.process }
@@ -165,7 +166,7 @@ pub(crate) fn sift_all(
     met: &[bool],
 ) -> Result<Sieve, CompileRefusal>
     requires choices { AreChoicesOf tree.now.process choices.now }
-    requires exact { resolution_count tree.now.process ≤ 4096 }
+    requires exact { resolution_count tree.now.process ≤ MOST_RESOLUTIONS }
     requires plannable { ArePlannable (all_options_by tree.now (normal_in rules.now)) }
     requires met { met.now ≡ map (has_ways tree.now (normal_in rules.now)) (all_resolutions tree.now.process) }
     ensures { MatchResult result

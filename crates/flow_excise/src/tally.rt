@@ -1,4 +1,5 @@
 ghost use Rattle.std.specs.Prelude.{◌≡◌, ◌<◌, ◌≤◌, ◌+◌, ◌==◌, ◌++◌, ◌∷◌, [], not, IfOk, OnOk, length, map};
+ghost use Rattle.flow_model.specs.declared.limits.TheConstants.{MOST_RESOLUTIONS};
 ghost use Rattle.flow_model.specs.Resolution.{resolution_count, resolutions as all_resolutions};
 ghost use Rattle.flow_model.specs.Ways.{Normal, leaf_of_event};
 ghost use Rattle.flow_goal.specs.Choices.{AreChoicesOf};
@@ -122,7 +123,7 @@ pub(crate) fn whole_tally(
     rules: &Conjunction,
 ) -> Result<Counted, AllocError>
     requires choices { AreChoicesOf tree.now.process choices.now }
-    requires exact { resolution_count tree.now.process ≤ 4096 }
+    requires exact { resolution_count tree.now.process ≤ MOST_RESOLUTIONS }
     ensures tally { IfOk result (λ counted. counted.tally ≡ tally_of (all_options_by tree.now (normal_in rules.now))) }
     ensures met { IfOk result (λ counted. counted.met.items ≡ map (has_ways tree.now (normal_in rules.now)) (all_resolutions tree.now.process)) }
 {

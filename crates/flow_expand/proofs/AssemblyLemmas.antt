@@ -2,6 +2,7 @@
 use Rattle.std.proofs.Common.{◌≡◌, ℕ, ◌<◌, ◌≤◌, List, [], length, map, sym, ap, ◌∙◌, subst, arith}
 use Rattle.std.specs.List.{flat_map}
 use Rattle.std.proofs.lemmas.List.Sums.{fold-append}
+use Rattle.flow_model.specs.declared.limits.TheConstants.{MOST_LEAVES}
 use Rattle.flow_model.specs.declared.labels.Note.{Note}
 use Rattle.flow_model.specs.Constraint.{Constraint}
 use Rattle.flow_model.specs.Lists.{◌∈◌, Each, AreDistinct}
@@ -45,7 +46,7 @@ module _ (s : Said) (n : NumberedGoal) (closed : IsClosed s) (numbered : IsNumbe
         (length_fold (firsts (declared_facts s.decls)) (facts_in numbered.expansion)).0,
       )))
 
-  labels_within : length n.tree.labels ≤ 1024
+  labels_within : length n.tree.labels ≤ MOST_LEAVES
   labels_within =
       omega (
         arith,

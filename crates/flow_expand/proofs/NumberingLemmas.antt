@@ -3,6 +3,7 @@ use Rattle.std.proofs.Common.{◌≡◌, ℕ, zero, suc, ◌+◌, ◌<◌, ◌�
 use Rattle.std.specs.Str.{bytes_eq}
 use Rattle.std.specs.Cmp.Lexicographic.{bytes_decides}
 use Rattle.std.proofs.lemmas.List.Sums.{fold-append}
+use Rattle.flow_model.specs.declared.limits.TheConstants.{MOST_LEAVES}
 use Rattle.flow_model.specs.Lists.{◌∈◌, Each, numbers_from}
 use Rattle.flow_model.specs.Process.{Process, IsNumbered, leaves}
 use Rattle.flow_facts.specs.Atom.{Atom, atom_eq}
@@ -101,7 +102,7 @@ pub record IsStart (s : Said) (leaves : Leaves) : Type 0 where
 declared_firsts_few : (s : Said) → IsClosed s → length (firsts (declared_facts s.decls)) < 2 ^ 31
 declared_firsts_few s closed = omega (arith, (length_fold [] (declared_facts s.decls)).1, facts_few s.decls, closed.few)
 
-pub leaves_few : (s : Said) (e : Expansion) → IsMeasured s e → leaf_count e ≤ 1024
+pub leaves_few : (s : Said) (e : Expansion) → IsMeasured s e → leaf_count e ≤ MOST_LEAVES
 leaves_few s e h = omega (arith, leaves_are_ends e, h.fitting.fits)
 
 pub start_room : (s : Said) (e : Expansion) (leaves : Leaves) → IsClosed s → IsMeasured s e → IsStart s leaves → HasRoom leaves (leaf_count e)

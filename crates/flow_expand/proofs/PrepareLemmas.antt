@@ -3,6 +3,7 @@ use Rattle.std.proofs.Common.{◌≡◌, ℕ, ◌+◌, ◌<◌, ◌≤◌, max, 
 use Rattle.std.specs.List.{flat_map}
 use Rattle.std.specs.Result.{IfErr}
 use Rattle.std.proofs.lemmas.List.{length-append, map_more}
+use Rattle.flow_model.specs.declared.limits.TheConstants.{MOST_FLOWS, MOST_LEAVES, MOST_RULE_NAMES}
 use Rattle.flow_model.specs.Lists.{◌∈◌, Each}
 use Rattle.flow_form.specs.declared.rule_form.RuleForm.{RuleForm}
 use Rattle.flow_form.specs.Form.{Shape}
@@ -70,7 +71,7 @@ module _ (d : Directory) (laid : List Stage) (layout : List Piece) (h : IsLaid d
       (g.expansion, g.becomes)
 
   -- what the size and the count say of a goal that was laid
-  module _ (s : Said) (closed : IsClosed s) (same : decls_of d ≡ s.decls) (few : flow_count s ≤ 256) (after : List Piece) (root : Root) (g : Goes (decls_of d) after s.goal root)
+  module _ (s : Said) (closed : IsClosed s) (same : decls_of d ≡ s.decls) (few : flow_count s ≤ MOST_FLOWS) (after : List Piece) (root : Root) (g : Goes (decls_of d) after s.goal root)
       (most : ℕ) (sized : most ≡ max root.size.ends root.size.isolations) where
     finite : IsFinite s
     finite = record {
@@ -87,18 +88,18 @@ module _ (d : Directory) (laid : List Stage) (layout : List Piece) (h : IsLaid d
         greater : (a b : ℕ) → max (capped a) (capped b) ≡ capped (max a b)
         greater a b = omega arith
 
-    pub goal_refusal : (e : ExpandRefusal) → (1024 < most) × (e ≡ refusal.TooLarge part.Goal most) → IsRefusal s e
+    pub goal_refusal : (e : ExpandRefusal) → (MOST_LEAVES < most) × (e ≡ refusal.TooLarge part.Goal most) → IsRefusal s e
     goal_refusal e (many, is) = subst (IsRefusal s) (sym is)
         (record { finite = finite; expansion = g.expansion; becomes = goal_becomes; large = omega (arith, size, many); counted = size })
 
-    module _ (fits : most ≤ 1024) (count : ℕ) (counted : count ≡ capped (rule_name_count s)) where
+    module _ (fits : most ≤ MOST_LEAVES) (count : ℕ) (counted : count ≡ capped (rule_name_count s)) where
       fitting : IsFitting s g.expansion
       fitting = record { finite = finite; becomes = goal_becomes; fits = omega (arith, size, fits) }
 
-      pub rules_refusal : (e : ExpandRefusal) → (8192 < count) × (e ≡ refusal.TooLarge part.Rules count) → IsRefusal s e
+      pub rules_refusal : (e : ExpandRefusal) → (MOST_RULE_NAMES < count) × (e ≡ refusal.TooLarge part.Rules count) → IsRefusal s e
       rules_refusal e (many, is) = subst (IsRefusal s) (sym is) (record { expansion = g.expansion; fitting = fitting; many = omega (arith, counted, many); counted = counted })
 
-      pub prepared : count ≤ 8192 → IsPrepared s after root
+      pub prepared : count ≤ MOST_RULE_NAMES → IsPrepared s after root
       prepared few_names = record {
         expansion = g.expansion;
         measured = record { fitting = fitting; few_names = omega (arith, counted, few_names) };
@@ -107,11 +108,11 @@ module _ (d : Directory) (laid : List Stage) (layout : List Piece) (h : IsLaid d
 
 -- refusals
 
-pub found_refusal : (s : Said) (decls : List Declared) (e : ExpandRefusal) → decls ≡ s.decls → flow_count s ≤ 256 → IsFound decls e → IsRefusal s e
+pub found_refusal : (s : Said) (decls : List Declared) (e : ExpandRefusal) → decls ≡ s.decls → flow_count s ≤ MOST_FLOWS → IsFound decls e → IsRefusal s e
 found_refusal s decls (refusal.TooLarge p count) same few h = absurd h
 found_refusal s decls (refusal.Recursive chain) same few h = record { few = few; recursive = subst (λ ds. IsFound ds (refusal.Recursive chain)) same h }
 found_refusal s decls (refusal.Twice found) same few h = absurd h
 found_refusal s decls refusal.NoMemory same few h = tt
 
-pub flows_refusal : (s : Said) (count : ℕ) (e : ExpandRefusal) → count ≡ flow_count s → (256 < count) × (e ≡ refusal.TooLarge part.Flows count) → IsRefusal s e
-flows_refusal s count e same (many, is) = subst (IsRefusal s) (sym is) (record { many = subst (λ n. 256 < n) same many; counted = same })
+pub flows_refusal : (s : Said) (count : ℕ) (e : ExpandRefusal) → count ≡ flow_count s → (MOST_FLOWS < count) × (e ≡ refusal.TooLarge part.Flows count) → IsRefusal s e
+flows_refusal s count e same (many, is) = subst (IsRefusal s) (sym is) (record { many = subst (λ n. MOST_FLOWS < n) same many; counted = same })

@@ -1,6 +1,7 @@
 -- Why a workflow is not expanded.
 use Rattle.std.specs.Prelude.{◌≡◌, ℕ, ◌<◌, ◌≤◌, List, length}
 use Rattle.std.specs.List.{flat_map}
+use Rattle.flow_model.specs.declared.limits.TheConstants.{MOST_FLOWS, MOST_LEAVES, MOST_RULE_NAMES}
 use Rattle.flow_goal.specs.declared.repeats.Twice.{Twice}
 use Rattle.flow_goal.specs.Repeated.{IsFirstTwice}
 use Rattle.flow_form.specs.Script.{Said}
@@ -22,39 +23,39 @@ rule_name_count s = length (flat_map names_in_rule s.rules)
 
 -- no more sub-workflows are declared than may be, and none names itself
 pub record IsFinite (s : Said) : Type 0 where
-  pub few : flow_count s ≤ 256
+  pub few : flow_count s ≤ MOST_FLOWS
   pub ending : ¬ (IsRecursive s.decls)
 
 -- the goal becomes that one, which is no larger than it may be
 pub record IsFitting (s : Said) (e : Expansion) : Type 0 where
   pub finite : IsFinite s
   pub becomes : Becomes s.decls s.goal e
-  pub fits : size_of e ≤ 1024
+  pub fits : size_of e ≤ MOST_LEAVES
 
 -- and the constraints are no more than may be
 pub record IsMeasured (s : Said) (e : Expansion) : Type 0 where
   pub fitting : IsFitting s e
-  pub few_names : rule_name_count s ≤ 8192
+  pub few_names : rule_name_count s ≤ MOST_RULE_NAMES
 
 pub record HasManyFlows (s : Said) (count : ℕ) : Type 0 where
-  pub many : 256 < flow_count s
+  pub many : MOST_FLOWS < flow_count s
   pub counted : count ≡ flow_count s
 
 pub record HasRecursion (s : Said) (chain : List (List ℕ)) : Type 0 where
-  pub few : flow_count s ≤ 256
+  pub few : flow_count s ≤ MOST_FLOWS
   pub recursive : IsRecursion s.decls chain
 
 pub record HasLargeGoal (s : Said) (count : ℕ) : Type 0 where
   pub finite : IsFinite s
   pub expansion : Expansion
   pub becomes : Becomes s.decls s.goal expansion
-  pub large : 1024 < size_of expansion
+  pub large : MOST_LEAVES < size_of expansion
   pub counted : count ≡ capped (size_of expansion)
 
 pub record HasManyRuleNames (s : Said) (count : ℕ) : Type 0 where
   pub expansion : Expansion
   pub fitting : IsFitting s expansion
-  pub many : 8192 < rule_name_count s
+  pub many : MOST_RULE_NAMES < rule_name_count s
   pub counted : count ≡ capped (rule_name_count s)
 
 -- two leaves of one event stand in one execution, and those are the first such

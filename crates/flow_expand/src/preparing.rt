@@ -16,16 +16,8 @@ use crate::rule_names::count_names;
 use crate::settling::Settling;
 use flow_facts::{Name, Numbered};
 use flow_form::Script;
+use flow_model::{MOST_FLOWS, MOST_LEAVES, MOST_RULE_NAMES};
 use std::alloc::Global;
-
-/// How many sub-workflows may be declared.
-const MOST_FLOWS: u64 = 256;
-
-/// How many leaves and nothings, or isolations, the expanded goal may have.
-const MOST_LEAVES: u64 = 1024;
-
-/// How many names of events may be written in constraints.
-const MOST_RULE_NAMES: u64 = 8192;
 
 /// A goal that stands in a layout.
 #[derive(Drop)]
@@ -54,7 +46,7 @@ fn lay_goal<'a>(
 ) -> Result<Root, ExpandRefusal>
     requires closed { IsClosed (said script.now) }
     requires decls { decls_of directory.now ≡ (said script.now).decls }
-    requires few { flow_count (said script.now) ≤ 256 }
+    requires few { flow_count (said script.now) ≤ MOST_FLOWS }
     requires settling { IsSettling directory.now settling.old }
     requires idle { IsIdle settling.old.laid.items }
     ensures refused { IfErr result (IsRefusal (said script.now)) }
@@ -67,7 +59,7 @@ fn lay_goal<'a>(
         &script.goal,
         &mut settling.layout,
     )?;
-    at_most(Part::Goal, root.size.most(), MOST_LEAVES)?;
+    at_most(Part::Goal, root.size.most(), u64::from(MOST_LEAVES))?;
     at_most(Part::Rules, count_names(&script.rules), MOST_RULE_NAMES)?;
     Ok(root)
 }

@@ -1,4 +1,5 @@
 ghost use Rattle.std.specs.Prelude.{◌≡◌, ◌+◌, ◌*◌, ◌≤◌, ◌<◌, IfOk, map, length};
+ghost use Rattle.flow_model.specs.declared.limits.TheConstants.{GREATEST_SEED};
 ghost use Rattle.flow_form.specs.Script.{said, declared, event};
 ghost use Rattle.flow_gen.specs.Generated.{event_name, generated, events};
 
@@ -29,7 +30,7 @@ fn events_of(alloc: Global, count: u32) -> Result<Vec<Decl>, AllocError>
 /// The workflow of that seed and size, of eight events a block.
 #[tactic(auto, using(crate::proofs::Steps::draws_length, crate::proofs::Steps::kinds_length))]
 pub(crate) fn script_of(alloc: Global, seed: u32, size: u32) -> Result<Script, AllocError>
-    requires seed { seed ≤ 65536 }
+    requires seed { seed ≤ GREATEST_SEED }
     requires some { 1 ≤ size }
     requires few { size ≤ 128 }
     ensures { IfOk result (λ script. said script ≡ generated seed size) }

@@ -4,6 +4,7 @@ use Rattle.std.specs.List.{flat_map}
 use Rattle.std.specs.Str.{bytes_eq}
 use Rattle.std.specs.Cmp.Lexicographic.{bytes_decides}
 use Rattle.std.proofs.lemmas.Option.{same_Some}
+use Rattle.flow_model.specs.declared.limits.TheConstants.{MOST_RULE_NAMES}
 use Rattle.flow_model.specs.declared.labels.Note.TheVariants.{Done}
 use Rattle.flow_model.specs.declared.labels.Label.{Label}
 use Rattle.flow_model.specs.declared.labels.Label.TheVariants.{Event}
@@ -62,7 +63,7 @@ names_count first [] = omega arith
 names_count first (f ∷ []) = omega arith
 names_count first (f ∷ g ∷ ds) = omega (arith, names_count (first + 8) ds)
 
-few_rule_names : (seed size : ℕ) → size ≤ 128 → rule_name_count (generated seed size) ≤ 8192
+few_rule_names : (seed size : ℕ) → size ≤ 128 → rule_name_count (generated seed size) ≤ MOST_RULE_NAMES
 few_rule_names seed size few = omega (arith, names_count 0 (drop size (all_draws seed size)), rule_draws seed size, few)
 
 few_flows : (seed size : ℕ) → flow_count (generated seed size) ≡ 0

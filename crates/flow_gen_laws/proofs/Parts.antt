@@ -1,6 +1,7 @@
 -- The parts of a generated workflow.
 use Rattle.std.proofs.Common.{◌≡◌, ℕ, zero, suc, ◌+◌, ◌*◌, ◌%◌, ◌<◌, ◌≤◌, List, [], ◌∷◌, length, map, refl, ap, subst, inl, inr, arith}
 use Rattle.std.specs.List.{flat_map}
+use Rattle.flow_model.specs.declared.limits.TheConstants.{MOST_LEAVES}
 use Rattle.flow_model.specs.declared.labels.Note.TheVariants.{Done}
 use Rattle.flow_model.specs.Lists.{◌∈◌, Each, numbers_from}
 use Rattle.flow_laws.proofs.MadeLists.{mem-map}
@@ -19,15 +20,15 @@ use Rattle.flow_gen_laws.proofs.Shapes.{IsEvent, IsMade, made_named, made_deeper
 
 -- Goals
 
-events_made : (count first n : ℕ) → first + n ≤ count → count ≤ 1024 → Each (IsMade count 0) (map (λ k. named (made.event_name k)) (numbers_from first n))
+events_made : (count first n : ℕ) → first + n ≤ count → count ≤ MOST_LEAVES → Each (IsMade count 0) (map (λ k. named (made.event_name k)) (numbers_from first n))
 events_made count first zero fits few = tt
 events_made count first (suc n) fits few = (made_named count first (omega arith) few, events_made count (first + 1) n (omega arith) few)
 
-series_made : (count first n : ℕ) → first + suc (suc n) ≤ count → count ≤ 1024 → IsMade count 1 (series first (suc (suc n)))
+series_made : (count first n : ℕ) → first + suc (suc n) ≤ count → count ≤ MOST_LEAVES → IsMade count 1 (series first (suc (suc n)))
 series_made count first n fits few =
     made_serial count 0 (map (λ k. named (made.event_name k)) (numbers_from first (suc (suc n)))) (omega arith) (events_made count first (suc (suc n)) fits few)
 
-block_made : (count first : ℕ) (k : Kind) → first + 8 ≤ count → count ≤ 1024 → IsMade count 3 (block first k)
+block_made : (count first : ℕ) (k : Kind) → first + 8 ≤ count → count ≤ MOST_LEAVES → IsMade count 3 (block first k)
 block_made count first Series fits few = made_deeper count 1 3 (series first 8) (omega arith) (series_made count first 6 (omega arith) few)
 block_made count first Beside fits few =
     made_deeper count 2 3 (block first Beside) (omega arith) (
@@ -43,7 +44,7 @@ block_made count first Either fits few =
     made_either count 1 (series first 4 ∷ series (first + 4) 4 ∷ []) (omega arith) (series_made count first 2 (omega arith) few, (series_made count (first + 4) 2 (omega arith) few, tt))
     )
 
-pub pairs_made : (count first : ℕ) (ks : List Kind) → first + 8 * length ks ≤ count → count ≤ 1024 → Each (IsMade count 4) (pairs first ks)
+pub pairs_made : (count first : ℕ) (ks : List Kind) → first + 8 * length ks ≤ count → count ≤ MOST_LEAVES → Each (IsMade count 4) (pairs first ks)
 pairs_made count first [] fits few = tt
 pairs_made count first (a ∷ []) fits few = (made_deeper count 3 4 (block first a) (omega arith) (block_made count first a (omega arith) few), tt)
 pairs_made count first (a ∷ b ∷ ks) fits few = (
@@ -61,7 +62,7 @@ some_pair first [] some = some
 some_pair first (a ∷ []) some = omega arith
 some_pair first (a ∷ b ∷ ks) some = omega arith
 
-pub goal_made : (count : ℕ) (ks : List Kind) → 1 ≤ length ks → 8 * length ks ≤ count → count ≤ 1024 → IsMade count 5 (in_turn (pairs 0 ks))
+pub goal_made : (count : ℕ) (ks : List Kind) → 1 ≤ length ks → 8 * length ks ≤ count → count ≤ MOST_LEAVES → IsMade count 5 (in_turn (pairs 0 ks))
 goal_made count ks some fits few = turn_made count (pairs 0 ks) (some_pair 0 ks some) (pairs_made count 0 ks (omega arith) few)
 
 -- Constraints
@@ -72,7 +73,7 @@ pub record IsRuled (count : ℕ) (r : RuleShape) : Type 0 where
   pub printable : IsPrintableRule r
   pub shallow : rule_nesting r ≤ 200
 
-pub rules_made : (count first : ℕ) (ds : List ℕ) → first + 8 + 4 * length ds ≤ count → count ≤ 1024 → Each (IsRuled count) (constraints first ds)
+pub rules_made : (count first : ℕ) (ds : List ℕ) → first + 8 + 4 * length ds ≤ count → count ≤ MOST_LEAVES → Each (IsRuled count) (constraints first ds)
 rules_made count first [] fits few = tt
 rules_made count first (f ∷ []) fits few = tt
 rules_made count first (f ∷ g ∷ ds) fits few = (
@@ -99,7 +100,7 @@ pub declares_no_flow : (ns : List ℕ) → flat_map flow_goal (map (λ k. event 
 declares_no_flow [] = refl
 declares_no_flow (n ∷ ns) = declares_no_flow ns
 
-pub declared_printable : (first n : ℕ) → first + n ≤ 1024 → Each IsPrintableDeclaration (map (λ k. event (made.event_name k) Done) (numbers_from first n))
+pub declared_printable : (first n : ℕ) → first + n ≤ MOST_LEAVES → Each IsPrintableDeclaration (map (λ k. event (made.event_name k) Done) (numbers_from first n))
 declared_printable first zero few = tt
 declared_printable first (suc n) few = ((name_is first (omega arith), tt), declared_printable (first + 1) n (omega arith))
 

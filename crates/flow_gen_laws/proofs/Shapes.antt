@@ -1,5 +1,6 @@
 -- Goals made of generated events.
 use Rattle.std.proofs.Common.{◌≡◌, ℕ, suc, ◌<◌, ◌≤◌, Bool, true, false, List, [], ◌∷◌, length, refl, ap, arith}
+use Rattle.flow_model.specs.declared.limits.TheConstants.{MOST_LEAVES}
 use Rattle.flow_model.specs.Lists.{Each}
 use Rattle.flow_laws.proofs.Members.{each-append}
 use Rattle.flow_form.specs.Form.{Shape, named, iso, serial, beside, either, shapes, members, IsGrouped, AreGrouped}
@@ -20,7 +21,7 @@ pub record IsMade (count depth : ℕ) (s : Shape) : Type 0 where
   pub printable : IsPrintableGoal s
   pub shallow : nesting s ≤ depth
 
-pub made_named : (count k : ℕ) → k < count → count ≤ 1024 → IsMade count 0 (named (event_name k))
+pub made_named : (count k : ℕ) → k < count → count ≤ MOST_LEAVES → IsMade count 0 (named (event_name k))
 made_named count k h few = record { names = ((k, (h, refl)), tt); grouped = tt; printable = name_is k (omega arith); shallow = omega arith }
 
 pub made_deeper : (count depth deeper : ℕ) (s : Shape) → depth ≤ deeper → IsMade count depth s → IsMade count deeper s

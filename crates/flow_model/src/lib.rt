@@ -1,11 +1,16 @@
 //! What a workflow means: goals, executions, constraints, histories.
 //!
 //! The definitions stand in `specs/`, one module a concept. This crate has no logic: here are
-//! only the plain data types that the definitions share with the code.
+//! only the plain data types that the definitions share with the code, and the limits.
 #![tactic(auto)]
 
 mod history;
 mod labels;
+mod limits;
 
 pub use history::{Call, Entry, FailEffect, Outcome, Step};
 pub use labels::{Label, Note};
+pub use limits::{
+    GREATEST_BULK, GREATEST_INPUT, GREATEST_SEED, MOST_ENTRIES, MOST_FLOWS, MOST_LEAVES, MOST_LINES,
+    MOST_OPTIONS, MOST_RESOLUTIONS, MOST_RULE_NAMES,
+};

@@ -1,6 +1,7 @@
 -- What may follow the done leaves, one by one and two by two.
 use Rattle.std.proofs.Common.{◌≡◌, ℕ, ◌<◌, ◌≤◌, Bool, true, false, ◌==◌, ◌||◌, ◌↔◌, IsTrue, List, [], ◌∷◌, length, get_or, take, refl, sym, ◌∙◌, subst, arith}
 use Rattle.std.proofs.lemmas.List.{take_all}
+use Rattle.flow_model.specs.declared.limits.TheConstants.{MOST_LEAVES}
 use Rattle.flow_model.specs.Lists.{◌∈◌, Each}
 use Rattle.flow_model.specs.Ready.{DoneOr, IsReadyRun, IsCompleteRun}
 use Rattle.flow_model.specs.Process.{leaves}
@@ -38,10 +39,10 @@ orders_after p old new first list noted = (
 pub next_fits : (p : Planned) (done : Progress) (leaf : ℕ) → Fits p done → MayComeNext p (IsDone done) leaf → leaf < bound_of done
 next_fits p done leaf fits next = each_member (λ n. n < bound_of done) (leaves p.process) fits leaf next.leaf
 
-pub next_small : (p : Planned) (done : Progress) (leaf : ℕ) → Fits p done → MayComeNext p (IsDone done) leaf → leaf < 1024
+pub next_small : (p : Planned) (done : Progress) (leaf : ℕ) → Fits p done → MayComeNext p (IsDone done) leaf → leaf < MOST_LEAVES
 next_small p done leaf fits next = omega (arith, next_fits p done leaf fits next, done.small)
 
-pub all_small : (p : Planned) (done : Progress) (list : List ℕ) → Fits p done → Each (MayComeNext p (IsDone done)) list → Each (λ n. n < 1024) list
+pub all_small : (p : Planned) (done : Progress) (list : List ℕ) → Fits p done → Each (MayComeNext p (IsDone done)) list → Each (λ n. n < MOST_LEAVES) list
 all_small p done list fits all = each_to _ _ list (λ n next. next_small p done n fits next) all
 
 pub every_order : (p : Planned) (done : Progress) (list : List ℕ) → Each (MayComeNext p (IsDone done)) list → EachTwo (MayComeAfter p (IsDone done)) list →

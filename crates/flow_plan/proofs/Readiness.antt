@@ -3,6 +3,7 @@ use Rattle.std.proofs.Common.{◌≡◌, ◌≢◌, ℕ, ◌<◌, ◌↔◌, IsT
 use Rattle.std.specs.List.Sorted.{IsStrictlyIncreasing}
 use Rattle.leaf_rows.specs.Leaves.{has_leaf}
 use Rattle.leaf_rows.specs.declared.leaf_set.LeafSet.{LeafSet}
+use Rattle.flow_model.specs.declared.limits.TheConstants.{MOST_LEAVES}
 use Rattle.flow_model.specs.Lists.{◌∈◌, Each, AreDistinct}
 use Rattle.flow_model.specs.Process.{leaves, IsChoiceFree}
 use Rattle.flow_model.specs.Ready.{DirectlyBefore, IsReady}
@@ -31,7 +32,7 @@ new_is_ordered p choice_free listed rising of_leaves different = record {
 }
 
 pub new_is_kept : (p : Planned) (before : List (LeafSet 16)) (parts : List PartRow) → IsOrdered p.process (pairs_of p.tokens) → p.leaves ≡ leaves p.process → IsStrictlyIncreasing p.leaves →
-    Each (λ n. n < 1024) p.leaves → AreRowsOf (DirectlyBefore p.process (pairs_of p.tokens)) p.leaves before → ArePartsOf p.process (pairs_of p.tokens) parts → AreFieldsOf p before parts
+    Each (λ n. n < MOST_LEAVES) p.leaves → AreRowsOf (DirectlyBefore p.process (pairs_of p.tokens)) p.leaves before → ArePartsOf p.process (pairs_of p.tokens) parts → AreFieldsOf p before parts
 new_is_kept p before parts ordered listed rising small rows parts_are = record {
   ordered = ordered;
   listed = listed;

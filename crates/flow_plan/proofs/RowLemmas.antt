@@ -5,6 +5,7 @@ use Rattle.std.proofs.lemmas.List.{take_more, map-append}
 use Rattle.std.specs.List.Sorted.{IsStrictlyIncreasing}
 use Rattle.leaf_rows.specs.Leaves.{has_leaf}
 use Rattle.leaf_rows.specs.declared.leaf_set.LeafSet.{LeafSet}
+use Rattle.flow_model.specs.declared.limits.TheConstants.{MOST_LEAVES}
 use Rattle.flow_model.specs.Lists.{◌∈◌, Each, AreDistinct}
 use Rattle.flow_model.specs.Process.{Process, Sequence, leaves}
 use Rattle.flow_model.specs.Ready.{InSequence, DirectlyBefore}
@@ -87,21 +88,21 @@ rows_set P Q (m ∷ ns) (row ∷ rows) (suc k) n new at distinct are is to from 
 
 -- ---- the rows of a goal
 
-pub fits_rows : (q : Process) (ns : List ℕ) → ns ≡ leaves q → IsStrictlyIncreasing ns → Each (λ n. n < 1024) ns → FitsRows q
+pub fits_rows : (q : Process) (ns : List ℕ) → ns ≡ leaves q → IsStrictlyIncreasing ns → Each (λ n. n < MOST_LEAVES) ns → FitsRows q
 fits_rows q ns listed rising small = record {
-  small = subst (λ (l : List ℕ). Each (λ n. n < 1024) l) listed small;
+  small = subst (λ (l : List ℕ). Each (λ n. n < MOST_LEAVES) l) listed small;
   distinct = subst (λ (l : List ℕ). AreDistinct l) listed (distinct_of_rising ns rising);
 }
 
 pub fits_first : (g a b : Process) → leaves g ≡ leaves a ++ leaves b → FitsRows g → FitsRows a
 fits_first g a b same fits = record {
-  small = (each_parts (λ n. n < 1024) (leaves a) (leaves b) (subst (λ (ns : List ℕ). Each (λ n. n < 1024) ns) same fits.small)).0;
+  small = (each_parts (λ n. n < MOST_LEAVES) (leaves a) (leaves b) (subst (λ (ns : List ℕ). Each (λ n. n < MOST_LEAVES) ns) same fits.small)).0;
   distinct = (distinct_parts (leaves a) (leaves b) (subst (λ (ns : List ℕ). AreDistinct ns) same fits.distinct)).0;
 }
 
 pub fits_second : (g a b : Process) → leaves g ≡ leaves a ++ leaves b → FitsRows g → FitsRows b
 fits_second g a b same fits = record {
-  small = (each_parts (λ n. n < 1024) (leaves a) (leaves b) (subst (λ (ns : List ℕ). Each (λ n. n < 1024) ns) same fits.small)).1;
+  small = (each_parts (λ n. n < MOST_LEAVES) (leaves a) (leaves b) (subst (λ (ns : List ℕ). Each (λ n. n < MOST_LEAVES) ns) same fits.small)).1;
   distinct = (distinct_parts (leaves a) (leaves b) (subst (λ (ns : List ℕ). AreDistinct ns) same fits.distinct)).1;
 }
 
@@ -236,9 +237,9 @@ first_rows g ahead ns old new listed none empty adds =
     (subst (λ (rows : List (LeafSet 16)). AreRowsOf (InSequence g) (leaves g) rows) same are)
 
 -- the senders of pairs of leaves are as small as the leaves
-pub senders_small : (g : Process) (ns : List ℕ) (tokens : List OrderToken) → ns ≡ leaves g → Each (λ n. n < 1024) ns → AreOfLeaves g (pairs_of tokens) →
-    (k : ℕ) (d : OrderToken) → k < length tokens → (get_or tokens k d).sender < 1024
+pub senders_small : (g : Process) (ns : List ℕ) (tokens : List OrderToken) → ns ≡ leaves g → Each (λ n. n < MOST_LEAVES) ns → AreOfLeaves g (pairs_of tokens) →
+    (k : ℕ) (d : OrderToken) → k < length tokens → (get_or tokens k d).sender < MOST_LEAVES
 senders_small g ns [] listed small of_leaves k d within = absurd (omega arith)
 senders_small g ns (t ∷ ts) listed small of_leaves zero d within =
-    each_member (λ n. n < 1024) ns small t.sender (subst (λ (l : List ℕ). t.sender ∈ l) (sym listed) of_leaves.0.0)
+    each_member (λ n. n < MOST_LEAVES) ns small t.sender (subst (λ (l : List ℕ). t.sender ∈ l) (sym listed) of_leaves.0.0)
 senders_small g ns (t ∷ ts) listed small of_leaves (suc k) d within = senders_small g ns ts listed small of_leaves.1 k d (omega arith)

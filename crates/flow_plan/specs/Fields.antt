@@ -2,6 +2,7 @@
 use Rattle.std.specs.Prelude.{◌≡◌, ◌<◌, List}
 use Rattle.std.specs.List.Sorted.{IsStrictlyIncreasing}
 use Rattle.leaf_rows.specs.declared.leaf_set.LeafSet.{LeafSet}
+use Rattle.flow_model.specs.declared.limits.TheConstants.{MOST_LEAVES}
 use Rattle.flow_model.specs.Lists.{Each}
 use Rattle.flow_model.specs.Process as process
 use Rattle.flow_model.specs.Ready.{DirectlyBefore}
@@ -15,6 +16,6 @@ pub record AreFieldsOf (p : Planned) (before : List (LeafSet 16)) (parts : List 
   pub ordered : IsOrdered p.process (pairs_of p.tokens)
   pub listed : p.leaves ≡ process.leaves p.process
   pub rising : IsStrictlyIncreasing p.leaves
-  pub small : Each (λ n. n < 1024) p.leaves
+  pub small : Each (λ n. n < MOST_LEAVES) p.leaves
   pub rows : AreRowsOf (DirectlyBefore p.process (pairs_of p.tokens)) p.leaves before
   pub parts_are : ArePartsOf p.process (pairs_of p.tokens) parts

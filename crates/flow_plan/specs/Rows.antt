@@ -2,6 +2,7 @@
 use Rattle.std.specs.Prelude.{◌≡◌, ◌<◌, ℕ, zero, suc, Bool, false, IsTrue, List, [], ◌∷◌, ◌++◌, ◌⊎◌, ◌↔◌, Some, slice_get}
 use Rattle.leaf_rows.specs.Leaves.{has_leaf}
 use Rattle.leaf_rows.specs.declared.leaf_set.LeafSet.{LeafSet}
+use Rattle.flow_model.specs.declared.limits.TheConstants.{MOST_LEAVES}
 use Rattle.flow_model.specs.Lists.{Each, AreDistinct}
 use Rattle.flow_model.specs.Process.{Process, leaves}
 use Rattle.flow_model.specs.Ready.{InSequence}
@@ -25,7 +26,7 @@ has_at (row ∷ rows) (suc k) x = has_at rows k x
 
 -- no leaf stands twice, and each has a place in a row
 pub record FitsRows (g : Process) : Type 0 where
-  pub small : Each (λ n. n < 1024) (leaves g)
+  pub small : Each (λ n. n < MOST_LEAVES) (leaves g)
   pub distinct : AreDistinct (leaves g)
 
 -- a row more for each leaf of the goal: what is ahead of the whole goal, and what is before the leaf in it

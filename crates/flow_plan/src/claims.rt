@@ -1,4 +1,5 @@
 ghost use Rattle.std.specs.Prelude.{◌≡◌, ◌<◌, ◌==◌, ◌||◌, ◌↔◌, ℕ, List, IsTrue, [], ◌∷◌, IfSome, IfNone};
+ghost use Rattle.flow_model.specs.declared.limits.TheConstants.{MOST_LEAVES};
 ghost use Rattle.flow_model.specs.Lists.{◌∈◌, Each, AreDistinct};
 ghost use Rattle.flow_model.specs.Process;
 ghost use Rattle.flow_model.specs.Ready.{DoneOr, IsReadyRun, IsCompleteRun};
@@ -15,7 +16,7 @@ use leaf_rows::LeafSet;
 /// The leaves as a set, where none of them stands twice.
 #[tactic(auto, using(crate::proofs::Together::twice_there))]
 pub fn distinct(list: &[u32]) -> Option<LeafSet<16>>
-    requires { Each (λ n. n < 1024) list.now }
+    requires { Each (λ n. n < MOST_LEAVES) list.now }
     ensures some { IfSome result (λ set. AreDistinct list.now × IsRowOf (λ x. x ∈ list.now) set) }
     ensures none { IfNone result (¬ (AreDistinct list.now)) }
 {
@@ -31,7 +32,7 @@ pub fn distinct(list: &[u32]) -> Option<LeafSet<16>>
 
 /// The set with one leaf more.
 pub(crate) fn with(mut set: LeafSet<16>, leaf: u32) -> LeafSet<16>
-    requires { leaf < 1024 }
+    requires { leaf < MOST_LEAVES }
     ensures { (k : ℕ) → has_leaf result k ≡ (k == leaf || has_leaf set k) }
 {
     set.insert(leaf);

@@ -1,4 +1,5 @@
 ghost use Rattle.std.specs.Prelude.{◌≡◌, ◌<◌, ◌↔◌, ◌&&◌, if◌then◌else◌, ℕ, IsTrue, All, Some, [], ◌∷◌};
+ghost use Rattle.flow_model.specs.declared.limits.TheConstants.{MOST_LEAVES};
 ghost use Rattle.flow_model.specs.Ready.{DoneOr};
 ghost use Rattle.flow_model.specs.Lists.{◌∈◌};
 ghost use Rattle.leaf_rows.specs.Leaves.{has_leaf};
@@ -27,7 +28,7 @@ pub(crate) enum Use {
 
 /// The leaves as a set.
 fn set_of(leaves: &[u32]) -> LeafSet<16>
-    requires { All (λ n. n < 1024) leaves.now }
+    requires { All (λ n. n < MOST_LEAVES) leaves.now }
     ensures { IsRowOf (λ x. x ∈ leaves.now) result }
 {
     let mut set = LeafSet::new();
@@ -70,7 +71,7 @@ impl PartRow {
 
     /// The row of the part with those leaves, whose rows are these.
     pub(crate) fn new(leaves: &[u32], before: &[LeafSet<16>]) -> PartRow
-        requires { All (λ n. n < 1024) leaves.now }
+        requires { All (λ n. n < MOST_LEAVES) leaves.now }
         ensures inside { IsRowOf (λ x. x ∈ leaves.now) result.inside }
         ensures outside { IsRowOf (IsOutside leaves.now before.now) result.outside }
     {
@@ -83,7 +84,7 @@ impl PartRow {
     /// Whether the part lets the leaf come next: it must be finished once it is begun, and what is
     /// directly before it must be done before it is begun.
     pub(crate) fn allows(&self, done: &LeafSet<16>, leaf: u32) -> bool
-        requires { leaf < 1024 }
+        requires { leaf < MOST_LEAVES }
         ensures { IsTrue result ↔ PartAllows self.now (λ x. IsTrue (has_leaf done.now x)) leaf }
     {
         match (self.inside.meets(done), self.inside.has(leaf)) {
@@ -153,7 +154,7 @@ impl PartRow {
 
     /// The leaf that is missing where the part does not let the leaf come next, if one alone is.
     pub(crate) fn missing(&self, done: &LeafSet<16>, leaf: u32) -> Option<u32>
-        requires { leaf < 1024 }
+        requires { leaf < MOST_LEAVES }
         ensures { (first : ℕ) → ¬ (PartAllows self.now (λ x. IsTrue (has_leaf done.now x)) leaf) →
             PartAllows self.now (λ x. IsTrue (has_leaf done.now x)) first →
             PartAllows self.now (DoneOr (λ x. IsTrue (has_leaf done.now x)) (first ∷ [])) leaf → result ≡ Some first }

@@ -1,4 +1,5 @@
 ghost use Rattle.std.specs.Prelude.{◌≡◌, ◌<◌, ◌≤◌, ℕ, List, [], length, All, IfOk};
+ghost use Rattle.flow_model.specs.declared.limits.TheConstants.{MOST_LEAVES};
 ghost use Rattle.flow_model.specs.Lists.{Each};
 ghost use Rattle.flow_model.specs.Ready.{DirectlyBefore};
 ghost use Rattle.flow_plan.specs.Rows.{AreRowsOf};
@@ -36,7 +37,7 @@ fn rows_of_spans(
     leaves: &[u32],
     before: &[LeafSet<16>],
 ) -> Result<Vec<PartRow>, AllocError>
-    requires small { All (λ n. n < 1024) leaves.now }
+    requires small { All (λ n. n < MOST_LEAVES) leaves.now }
     requires one_each { length before.now ≡ length leaves.now }
     requires within { All (λ (s : Span). s.first ≤ s.end × s.end ≤ length leaves.now) spans.now }
     ensures { IfOk result (λ parts. ArePartsFor leaves.now before.now spans.now parts.items) }
@@ -56,7 +57,7 @@ pub(crate) fn part_rows(
     goal: &Choiceless,
     before: &[LeafSet<16>],
 ) -> Result<Vec<PartRow>, AllocError>
-    requires small { Each (λ n. n < 1024) goal.now.leaves }
+    requires small { Each (λ n. n < MOST_LEAVES) goal.now.leaves }
     requires one_each { length before.now ≡ length goal.now.leaves }
     ensures { IfOk result (λ parts. (pairs : List (ℕ × ℕ)) →
         AreRowsOf (DirectlyBefore goal.now.process pairs) goal.now.leaves before.now →

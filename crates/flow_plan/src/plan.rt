@@ -18,6 +18,7 @@ use crate::progress::Progress;
 use crate::rows::before_rows;
 use crate::token::OrderToken;
 use flow_goal::{Choiceless, Goal, Node};
+use flow_model::MOST_LEAVES;
 use leaf_rows::LeafSet;
 use std::alloc::{AllocError, Global};
 use std::marker::Model;
@@ -49,7 +50,7 @@ impl Model for Plan {
 
 /// Whether each part lets the leaf come next.
 fn parts_allow(parts: &[PartRow], done: &LeafSet<16>, leaf: u32) -> bool
-    requires { leaf < 1024 }
+    requires { leaf < MOST_LEAVES }
     ensures { IsTrue result
         ↔ Each (λ row. PartAllows row (λ x. IsTrue (has_leaf done.now x)) leaf) parts.now }
 {
@@ -86,7 +87,7 @@ impl Plan {
         goal: &Choiceless,
         tokens: Vec<OrderToken>,
     ) -> Result<Plan, AllocError>
-        requires small { Each (λ n. n < 1024) goal.now.leaves }
+        requires small { Each (λ n. n < MOST_LEAVES) goal.now.leaves }
         requires of_leaves { AreOfLeaves goal.now.process (pairs_of tokens.items) }
         requires different { Each (λ pair. pair.0 ≢ pair.1) (pairs_of tokens.items) }
         ensures process { IfOk result (λ plan. plan.process ≡ goal.now.process) }
@@ -125,7 +126,7 @@ impl Plan {
         ensures leaves { result.now ≡ self.now.leaves }
         ensures listed { self.now.leaves ≡ Process.leaves self.now.process }
         ensures rising { IsStrictlyIncreasing self.now.leaves }
-        ensures small { Each (λ n. n < 1024) self.now.leaves }
+        ensures small { Each (λ n. n < MOST_LEAVES) self.now.leaves }
     {
         self.goal.leaves()
     }
@@ -156,7 +157,7 @@ impl Plan {
         ensures { IsTrue result ↔ DirectlyBefore self.now.process (pairs_of self.now.tokens) first second }
     {
         match self.row_of(second) {
-            Some(row) => first < 1024 && row.has(first),
+            Some(row) => first < MOST_LEAVES && row.has(first),
             None => false,
         }
     }

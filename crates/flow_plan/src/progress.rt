@@ -1,4 +1,5 @@
 ghost use Rattle.std.specs.Prelude.{◌≤◌};
+ghost use Rattle.flow_model.specs.declared.limits.TheConstants.{MOST_LEAVES};
 
 use leaf_rows::LeafSet;
 
@@ -7,7 +8,7 @@ use leaf_rows::LeafSet;
 pub struct Progress {
     bound: u32,
     done: LeafSet<16>,
-    ghost small: { bound ≤ 1024 },
+    ghost small: { bound ≤ MOST_LEAVES },
 }
 
 impl Progress {
@@ -17,7 +18,7 @@ impl Progress {
 
     /// No leaf below `leaves` is done yet.
     pub fn new(leaves: u32) -> Progress
-        requires { leaves ≤ 1024 }
+        requires { leaves ≤ MOST_LEAVES }
         ensures bound { bound_of result ≡ leaves }
         ensures none { (n : ℕ) → is_done result n ≡ false }
     {

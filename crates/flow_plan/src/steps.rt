@@ -12,6 +12,7 @@ use crate::claims::with;
 use crate::part_row::{PartRow, Use};
 use crate::plan::Plan;
 use crate::progress::Progress;
+use flow_model::MOST_LEAVES;
 use leaf_rows::LeafSet;
 
 /// The leaves that are not done, and whose row is.
@@ -47,7 +48,7 @@ fn keep_for(
 
 /// The leaf that is missing where some part does not let the leaf come next, if one alone is.
 fn missing(parts: &[PartRow], done: &LeafSet<16>, leaf: u32) -> Option<u32>
-    requires { leaf < 1024 }
+    requires { leaf < MOST_LEAVES }
     ensures { (first : ℕ) → ¬ (Each (λ row. PartAllows row (λ x. IsTrue (has_leaf done.now x)) leaf) parts.now) →
         Each (λ row. PartAllows row (λ x. IsTrue (has_leaf done.now x)) first) parts.now →
         Each (λ row. PartAllows row (DoneOr (λ x. IsTrue (has_leaf done.now x)) (first ∷ [])) leaf) parts.now →
@@ -119,7 +120,7 @@ impl Plan {
 
     /// The only leaf after which that one may come next, where it may not come next yet.
     fn only_before(&self, done: &Progress, leaf: u32) -> Option<u32>
-        requires { leaf < 1024 }
+        requires { leaf < MOST_LEAVES }
         ensures { (first : ℕ) → ¬ (MayComeNext self.now (IsDone done.now) leaf) → MayComeNext self.now (IsDone done.now) first →
             MayComeNext self.now (DoneOr (IsDone done.now) (first ∷ [])) leaf → result ≡ Some first }
     {
@@ -168,7 +169,7 @@ impl Plan {
         found: LeafSet<16>,
     ) -> LeafSet<16>
         requires fits { Fits self.now done.now }
-        requires small { leaf < 1024 }
+        requires small { leaf < MOST_LEAVES }
         requires claimed { leaf ∈ list.now }
         requires waits { ¬ (MayComeNext self.now (IsDone done.now) leaf) }
         ensures { (n : ℕ) → (MayComeNext self.now (IsDone done.now) n → ¬ (n ∈ list.now) → IsTrue (has_leaf rest.now n) ⊎ IsTrue (has_leaf found n)) →
@@ -178,7 +179,7 @@ impl Plan {
         let Some(first) = self.only_before(done, leaf) else {
             return found;
         };
-        if first < 1024 && rest.has(first) && self.may_follow(done, first, list) {
+        if first < MOST_LEAVES && rest.has(first) && self.may_follow(done, first, list) {
             return with(found, first);
         }
         found
@@ -188,7 +189,7 @@ impl Plan {
 /// The least leaf of the one set that the other lacks.
 fn first_outside(one: &LeafSet<16>, other: &LeafSet<16>) -> Option<u32>
     ensures none { IfNone result ((n : ℕ) → IsTrue (has_leaf one.now n) → IsTrue (has_leaf other.now n)) }
-    ensures some { IfSome result (λ n. n < 1024 × IsTrue (has_leaf one.now n) × ¬ (IsTrue (has_leaf other.now n))) }
+    ensures some { IfSome result (λ n. n < MOST_LEAVES × IsTrue (has_leaf one.now n) × ¬ (IsTrue (has_leaf other.now n))) }
 {
     let mut outside = *one;
     outside.remove_all(other);

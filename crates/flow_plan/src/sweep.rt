@@ -1,5 +1,6 @@
 ghost use Rattle.std.specs.Prelude.{◌≡◌, ◌<◌, ◌+◌, ◌^◌, ◌∷◌, ℕ, [], false, slice_get, IfOk, IfSome, OnOk};
 ghost use Rattle.flow_goal.specs.declared.node.Node.TheVariants.{Leaf, Fork, Split, Join};
+ghost use Rattle.flow_model.specs.declared.limits.TheConstants.{MOST_LEAVES};
 ghost use Rattle.flow_model.specs.Lists.{Each};
 ghost use Rattle.leaf_rows.specs.Leaves.{has_leaf};
 ghost use Rattle.leaf_rows.specs.declared.leaf_set.LeafSet.{LeafSet};
@@ -27,9 +28,9 @@ pub(crate) struct Sweep {
 
 /// The leaf at that place.
 fn leaf_at(leaves: &[u32], place: usize) -> Option<u32>
-    requires { Each (λ n. n < 1024) leaves.now }
+    requires { Each (λ n. n < MOST_LEAVES) leaves.now }
     ensures leaf { result ≡ slice_get leaves.now place }
-    ensures small { IfSome result (λ leaf. leaf < 1024) }
+    ensures small { IfSome result (λ leaf. leaf < MOST_LEAVES) }
     ensures next { IfSome result (λ _. place + 1 < 2 ^ 64) }
 {
     leaves.get(place).copied()
@@ -74,7 +75,7 @@ impl Sweep {
 
     /// Reads a leaf: what is ahead is its row.
     fn pass_leaf(&mut self, leaves: &[u32]) -> Result<(), AllocError>
-        requires { Each (λ n. n < 1024) leaves.now }
+        requires { Each (λ n. n < MOST_LEAVES) leaves.now }
         ensures { OnOk result (Passes Leaf leaves.now self.old self.new) }
     {
         let Some(leaf) = leaf_at(leaves, self.place) else {
@@ -137,7 +138,7 @@ impl Sweep {
 
     /// Reads one mark.
     pub(crate) fn pass(&mut self, node: &Node, leaves: &[u32]) -> Result<(), AllocError>
-        requires { Each (λ n. n < 1024) leaves.now }
+        requires { Each (λ n. n < MOST_LEAVES) leaves.now }
         ensures { OnOk result (Passes node.now leaves.now self.old self.new) }
     {
         match node {

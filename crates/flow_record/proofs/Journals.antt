@@ -1,6 +1,7 @@
 -- A journal read line by line.
 use Rattle.std.proofs.Common.{◌≡◌, ℕ, ◌+◌, ◌≤◌, ◌<◌, List, [], ◌∷◌, ◌++◌, length, refl, sym, ◌∙◌, ap, append_assoc, arith, Option, Some, None}
 use Rattle.std.proofs.lemmas.Bool.{le-ltb, lt-ltb}
+use Rattle.flow_model.specs.declared.limits.TheConstants.{MOST_LINES}
 use Rattle.flow_workflow.specs.Definition.{Definition}
 use Rattle.flow_record.specs.Lines.{without_returns, lines_of}
 use Rattle.flow_record.specs.Journal.{JournalText, journal, bad_line, wrong_label, with_leaf, with_wrong, after_lines, with_leaf_line, journal_from, journal_of}
@@ -48,15 +49,15 @@ bad_told front (Some number) line = refl
 
 module _ (w : Definition) (text front : List ℕ) (wrong : Option ℕ) (number : ℕ) (rest : List ℕ) (is : IsReadTo w text front wrong number rest) where
   -- where so many lines were read, the next one is bad
-  pub too_many : 0 < length rest → 16384 ≤ number → journal_of w text ≡ bad_line number
+  pub too_many : 0 < length rest → MOST_LINES ≤ number → journal_of w text ≡ bad_line number
   too_many some many =
       let line = some_line rest some in
-      is ∙ rw (line.1.1, le-ltb number 16384 many) (bad_told front wrong number)
+      is ∙ rw (line.1.1, le-ltb number MOST_LINES many) (bad_told front wrong number)
 
   -- what is left before the next line
-  pub next_line : (line more : List ℕ) → number < 16384 → lines_of (without_returns rest) ≡ line ∷ lines_of (without_returns more) →
+  pub next_line : (line more : List ℕ) → number < MOST_LINES → lines_of (without_returns rest) ≡ line ∷ lines_of (without_returns more) →
       journal_of w text ≡ after_lines front wrong (with_leaf_line w number line (journal_from w (number + 1) (lines_of (without_returns more))))
-  next_line line more small lines = is ∙ rw (lines, lt-ltb number 16384 small) refl
+  next_line line more small lines = is ∙ rw (lines, lt-ltb number MOST_LINES small) refl
 
   pub read_all : length rest ≡ 0 → journal_of w text ≡ after_lines front wrong (journal [])
   read_all none = is ∙ empty rest none

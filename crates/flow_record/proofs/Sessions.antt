@@ -1,6 +1,7 @@
 -- A session read line by line.
 use Rattle.std.proofs.Common.{◌≡◌, ℕ, ◌≤◌, ◌<◌, List, ◌++◌, length, refl, ◌∙◌}
 use Rattle.std.proofs.lemmas.Bool.{le-ltb}
+use Rattle.flow_model.specs.declared.limits.TheConstants.{MOST_LINES}
 use Rattle.flow_record.specs.declared.command.Command.{Command}
 use Rattle.flow_record.specs.Lines.{without_returns, lines_of}
 use Rattle.flow_record.specs.Session.{SessionText, commands, bad_line, session_from}
@@ -18,7 +19,7 @@ IsReadTo session front number rest =
 
 -- where so many lines were read, the next one is bad
 pub too_many : (session : SessionText) (front : List Command) (number : ℕ) (rest : List ℕ) →
-    IsReadTo session front number rest → 0 < length rest → 16384 ≤ number → session ≡ bad_line number
+    IsReadTo session front number rest → 0 < length rest → MOST_LINES ≤ number → session ≡ bad_line number
 too_many session front number rest read some many =
     let line = some_line rest some in
-    read ∙ rw (line.1.1, le-ltb number 16384 many) refl
+    read ∙ rw (line.1.1, le-ltb number MOST_LINES many) refl

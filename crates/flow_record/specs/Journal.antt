@@ -4,6 +4,7 @@ use Rattle.std.specs.List.{flat_map}
 use Rattle.std.specs.Option.{unwrap_or, option_map}
 use Rattle.std.specs.Str.{bytes_eq}
 use Rattle.std.specs.Fmt.{decimal}
+use Rattle.flow_model.specs.declared.limits.TheConstants.{MOST_LINES}
 use Rattle.flow_model.specs.declared.labels.Label.{Label}
 use Rattle.flow_model.specs.declared.labels.Label.TheVariants.{Event, Test, Absent, Ins, Del}
 use Rattle.flow_facts.specs.Atom.{Atom}
@@ -103,7 +104,7 @@ with_leaf_line w number (b ∷ bs) rest = with_noted w number (noted_leaf (b ∷
 abbrev pub journal_from : Definition → ℕ → List (List ℕ) → JournalText
 journal_from w number [] = journal []
 journal_from w number (line ∷ lines) =
-    if nat_lt number 16384 then with_leaf_line w number line (journal_from w (number + 1) lines) else bad_line number
+    if nat_lt number MOST_LINES then with_leaf_line w number line (journal_from w (number + 1) lines) else bad_line number
 
 -- the journal that a text says
 abbrev pub journal_of : Definition → List ℕ → JournalText

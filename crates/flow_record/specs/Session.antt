@@ -2,6 +2,7 @@
 use Rattle.std.specs.Prelude.{ℕ, ◌+◌, nat_lt, if◌then◌else◌, List, [], ◌∷◌, Option, Some, None, codes}
 use Rattle.std.specs.Option.{option_and_then}
 use Rattle.std.specs.Str.{bytes_eq}
+use Rattle.flow_model.specs.declared.limits.TheConstants.{MOST_LINES}
 use Rattle.flow_record.specs.declared.command.Command.{Command}
 use Rattle.flow_record.specs.declared.command.Command.TheVariants.{Take, Do, Done, Fail, Rewind, Commit, Next, Enabled, Journal, Facts}
 use Rattle.flow_record.specs.declared.line.Line.{Line}
@@ -64,7 +65,7 @@ with_line number Bad rest = bad_line number
 abbrev pub session_from : ℕ → List (List ℕ) → SessionText
 session_from number [] = commands []
 session_from number (line ∷ lines) =
-    if nat_lt number 16384 then with_line number (line_of (words_of line)) (session_from (number + 1) lines)
+    if nat_lt number MOST_LINES then with_line number (line_of (words_of line)) (session_from (number + 1) lines)
     else bad_line number
 
 -- the text of a session

@@ -3,9 +3,10 @@ ghost use Rattle.std.specs.Result.{IsErrOf};
 ghost use Rattle.flow_record.specs.Journal.{noted_leaf, is_label_of, JournalText, after_lines, with_noted, with_leaf_line, journal_of, journal, bad_line, wrong_label};
 
 use crate::journal::push_leaf_label;
-use crate::lines::{MOST_LINES, cut_at, split_line};
+use crate::lines::{cut_at, split_line};
 use crate::number::plain_number;
 use crate::refusal::RecordRefusal;
+use flow_model::MOST_LINES;
 use flow_workflow::Workflow;
 use std::alloc::{AllocError, Global};
 

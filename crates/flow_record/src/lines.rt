@@ -3,9 +3,6 @@ ghost use Rattle.std.specs.List.{position};
 ghost use Rattle.flow_record.specs.Lines.{without_returns, lines_of, stripped, cut_at};
 ghost use Rattle.std.specs.Str.{bytes_eq};
 
-/// A line of that number or a greater one is bad.
-pub const MOST_LINES: u32 = 16_384;
-
 /// The first line of a text that is not empty, and the text after its line feed.
 pub fn split_line(text: &[u8]) -> (&[u8], &[u8])
     requires { 0 < length text.now }

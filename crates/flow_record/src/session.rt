@@ -5,10 +5,11 @@ ghost use Rattle.flow_record.specs.Session.{bare_command, numbered_command, line
 
 use crate::command::Command;
 use crate::line::Line;
-use crate::lines::{MOST_LINES, is_word, split_line};
+use crate::lines::{is_word, split_line};
 use crate::number::read_number;
 use crate::refusal::RecordRefusal;
 use crate::words::split_word;
+use flow_model::MOST_LINES;
 use std::alloc::Global;
 
 /// Reads the commands of a session.

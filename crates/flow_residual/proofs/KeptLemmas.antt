@@ -3,6 +3,7 @@ use Rattle.std.proofs.Common.{◌≡◌, ℕ, zero, suc, ◌<◌, ◌≤◌, nat
 use Rattle.std.specs.List.{filter}
 use Rattle.std.specs.Vec.{with_items}
 use Rattle.std.proofs.lemmas.List.{map-append, take-append-drop, with_items_is}
+use Rattle.flow_model.specs.declared.limits.TheConstants.{MOST_LEAVES}
 use Rattle.flow_model.specs.Lists.{◌∈◌, Each, AreDistinct}
 use Rattle.flow_model.specs.Process.{leaves}
 use Rattle.flow_laws.proofs.MadeLists.{of_map}
@@ -23,17 +24,17 @@ use Rattle.flow_residual.specs.Tracks.{IsTrack, journal_after, bans_after}
 
 -- ---- few numbers
 
-pub at_most_all : (list : List ℕ) → AreFew list → length list ≤ 1024
-at_most_all list few = at_most 1024 list few.distinct (λ x m. each_member (λ n. n < 1024) list few.small x m)
+pub at_most_all : (list : List ℕ) → AreFew list → length list ≤ MOST_LEAVES
+at_most_all list few = at_most MOST_LEAVES list few.distinct (λ x m. each_member (λ n. n < MOST_LEAVES) list few.small x m)
 
-pub one_more : (list : List ℕ) (n : ℕ) → AreFew list → n < 1024 → ¬ (n ∈ list) → AreFew (list ++ n ∷ [])
+pub one_more : (list : List ℕ) (n : ℕ) → AreFew list → n < MOST_LEAVES → ¬ (n ∈ list) → AreFew (list ++ n ∷ [])
 one_more list n few small fresh = record {
-  small = each-append (λ k. k < 1024) list (n ∷ []) few.small (small, tt);
+  small = each-append (λ k. k < MOST_LEAVES) list (n ∷ []) few.small (small, tt);
   distinct = distinct-append list (n ∷ []) few.distinct ((λ none. none), tt)
       (λ x m k. ⊎_elim (λ same. fresh (subst (λ z. z ∈ list) same m)) (λ none. none) k);
 }
 
-pub room_left : (list : List ℕ) (n : ℕ) → AreFew list → n < 1024 → ¬ (n ∈ list) → length list < 1024
+pub room_left : (list : List ℕ) (n : ℕ) → AreFew list → n < MOST_LEAVES → ¬ (n ∈ list) → length list < MOST_LEAVES
 room_left list n few small fresh =
     let most = at_most_all (list ++ n ∷ []) (one_more list n few small fresh) in
     omega (arith, most, length-append list (n ∷ []))
@@ -41,7 +42,7 @@ room_left list n few small fresh =
 pub few_front : (list : List ℕ) (i : ℕ) → AreFew list → AreFew (take i list)
 few_front list i few =
     let cut : list ≡ take i list ++ drop i list = sym (take-append-drop i list) in record {
-      small = (each_parts (λ n. n < 1024) (take i list) (drop i list) (subst (Each (λ n. n < 1024)) cut few.small)).0;
+      small = (each_parts (λ n. n < MOST_LEAVES) (take i list) (drop i list) (subst (Each (λ n. n < MOST_LEAVES)) cut few.small)).0;
       distinct = (distinct_parts (take i list) (drop i list) (subst AreDistinct cut few.distinct)).0;
     }
 
@@ -59,10 +60,10 @@ not_in_front (x ∷ list) (suc i) d h (inr m) = not_in_front list i d.1 (omega a
 -- ---- the leaf that may come next
 
 module _ (r : Remaining) (k : IsKept r) (leaf : ℕ) (next : MayComeNext r leaf) where
-  pub next_small : leaf < 1024
+  pub next_small : leaf < MOST_LEAVES
   next_small =
       let fit = each_member HasSmallLeaves r.options k.fits next.0 next.1.among in
-      each_member (λ n. n < 1024) (leaves next.0.resolution) fit leaf next.2.leaf
+      each_member (λ n. n < MOST_LEAVES) (leaves next.0.resolution) fit leaf next.2.leaf
 
   pub next_fresh : ¬ (leaf ∈ r.journal)
   next_fresh = next.2.not_done
@@ -125,8 +126,8 @@ module _ (r : Remaining) (k : IsKept r) (i : ℕ) (within : i < length r.journal
   back_free : ¬ (back ∈ banned (filter stays r.bans))
   back_free m = each_member (λ n. ¬ (n ∈ r.journal)) (banned r.bans) k.apart back (left_over stays r.bans back m) back_done
 
-  pub rewind_room : length (banned r.bans) < 1024
-  rewind_room = room_left (banned r.bans) back k.bans_few (each_member (λ n. n < 1024) r.journal k.done.small back back_done)
+  pub rewind_room : length (banned r.bans) < MOST_LEAVES
+  rewind_room = room_left (banned r.bans) back k.bans_few (each_member (λ n. n < MOST_LEAVES) r.journal k.done.small back back_done)
       (λ m. each_member (λ n. ¬ (n ∈ r.journal)) (banned r.bans) k.apart back m back_done)
 
   pub kept_rewind : IsKept (record r { journal = take i r.journal; bans = filter stays r.bans ++ (i, back) ∷ [] })
@@ -134,14 +135,14 @@ module _ (r : Remaining) (k : IsKept r) (i : ℕ) (within : i < length r.journal
       let more : banned (filter stays r.bans ++ (i, back) ∷ []) ≡ banned (filter stays r.bans) ++ back ∷ [] =
       map-append (λ (ban : ℕ × ℕ). ban.1) (filter stays r.bans) ((i, back) ∷ []) in
       let left : AreFew (banned (filter stays r.bans)) = record {
-        small = each_from_members (λ n. n < 1024) (banned (filter stays r.bans))
-            (λ n m. each_member (λ x. x < 1024) (banned r.bans) k.bans_few.small n (left_over stays r.bans n m));
+        small = each_from_members (λ n. n < MOST_LEAVES) (banned (filter stays r.bans))
+            (λ n m. each_member (λ x. x < MOST_LEAVES) (banned r.bans) k.bans_few.small n (left_over stays r.bans n m));
         distinct = distinct_left_over stays r.bans k.bans_few.distinct;
       } in record {
         fits = k.fits;
         done = few_front r.journal i k.done;
         bans_few = subst AreFew (sym more)
-            (one_more (banned (filter stays r.bans)) back left (each_member (λ n. n < 1024) r.journal k.done.small back back_done) back_free);
+            (one_more (banned (filter stays r.bans)) back left (each_member (λ n. n < MOST_LEAVES) r.journal k.done.small back back_done) back_free);
         apart = subst (Each (λ n. ¬ (n ∈ take i r.journal))) (sym more)
             (each-append (λ n. ¬ (n ∈ take i r.journal)) (banned (filter stays r.bans)) (back ∷ [])
             (each_from_members (λ n. ¬ (n ∈ take i r.journal)) (banned (filter stays r.bans))

@@ -4,6 +4,7 @@ use Rattle.std.proofs.Math.ListN.{length-set}
 use Rattle.std.proofs.lemmas.List.{get_or-replicate, length-replicate}
 use Rattle.std.proofs.lemmas.Bool.{cases_lt}
 use Rattle.std.proofs.lemmas.Option.{slice_get_within}
+use Rattle.flow_model.specs.declared.limits.TheConstants.{MOST_LEAVES}
 use Rattle.flow_model.proofs.Lists.{mem-slice_get}
 use Rattle.flow_model.specs.Lists.{◌∈◌, Each}
 use Rattle.flow_model.specs.Process.{leaves}
@@ -86,14 +87,14 @@ plan_at (q ∷ plans) (suc k) s within is = plan_at plans k s (omega arith) is
 
 -- its leaves may be noted
 pub fits_at : (plans : List Sampled) → Each HasSmallLeaves (options_of plans) → (k : ℕ) (s : Sampled) (p : Planned) (done : Progress) → k < length plans → s ≡ get_or plans k s → p ≡ s.plan →
-    bound_of done ≡ 1024 → Fits p done
+    bound_of done ≡ MOST_LEAVES → Fits p done
 fits_at plans fits k s p done within is same bound =
     let at = plan_at plans k s within is in
     subst₂ (λ (b : ℕ) (q : Planned). Each (λ n. n < b) (leaves q.process)) (sym bound) (sym same)
     (each_member HasSmallLeaves (options_of plans) fits (option_of s.plan) (mem-slice_get (options_of plans) k (option_of s.plan) at))
 
-pub small_leaves : (p : Planned) → p.leaves ≡ leaves p.process → Each (λ n. n < 1024) p.leaves → HasSmallLeaves (option_of p)
-small_leaves p listed small = subst (λ (l : List ℕ). Each (λ n. n < 1024) l) listed small
+pub small_leaves : (p : Planned) → p.leaves ≡ leaves p.process → Each (λ n. n < MOST_LEAVES) p.leaves → HasSmallLeaves (option_of p)
+small_leaves p listed small = subst (λ (l : List ℕ). Each (λ n. n < MOST_LEAVES) l) listed small
 
 -- ---- what stands beside the options
 

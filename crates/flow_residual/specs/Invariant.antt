@@ -1,6 +1,7 @@
 -- What a residual keeps.
 use Rattle.std.specs.Prelude.{◌≡◌, ◌≤◌, ◌<◌, ◌↔◌, ℕ, IsTrue, List, length, map}
 use Rattle.std.specs.Vec.{vec_capacity}
+use Rattle.flow_model.specs.declared.limits.TheConstants.{MOST_LEAVES}
 use Rattle.flow_model.specs.Lists.{◌∈◌, Each, AreDistinct}
 use Rattle.flow_plan.specs.Progress.{IsDone, bound_of}
 use Rattle.flow_excise.specs.Compilation.{options_of}
@@ -16,7 +17,7 @@ banned bans = map (λ ban. ban.1) bans
 
 -- numbers with a place in a row, none of them twice
 pub record AreFew (list : List ℕ) : Type 0 where
-  pub small : Each (λ n. n < 1024) list
+  pub small : Each (λ n. n < MOST_LEAVES) list
   pub distinct : AreDistinct list
 
 pub record IsKept (r : Remaining) : Type 0 where
@@ -31,7 +32,7 @@ pub record IsRoomy (r : Inside) : Type 0 where
   pub tracks : EachHas (IsTrack r.journal.items (pairs_of_bans r.bans.items)) (options_of r.plans.items) r.tracks.items
   pub rows_one_each : length r.rows.items ≡ length (options_of r.plans.items)
   pub rows_are : IsTrue r.fresh → EachHas (IsNextRow r.journal.items) (options_of r.plans.items) r.rows.items
-  pub done_bound : bound_of r.done ≡ 1024
+  pub done_bound : bound_of r.done ≡ MOST_LEAVES
   pub done_are : (n : ℕ) → IsDone r.done n ↔ (n ∈ r.journal.items)
-  pub journal_room : 1024 ≤ vec_capacity r.journal
-  pub bans_room : 1024 ≤ vec_capacity r.bans
+  pub journal_room : MOST_LEAVES ≤ vec_capacity r.journal
+  pub bans_room : MOST_LEAVES ≤ vec_capacity r.bans

@@ -14,6 +14,7 @@ use crate::asking::Stand;
 use crate::ban::Ban;
 use crate::track::{Change, Track, fit_rows, follow, look, progress_of};
 use flow_excise::Compiled;
+use flow_model::MOST_LEAVES;
 use flow_plan::{KnotFree, Plan, Progress};
 use leaf_rows::LeafSet;
 use std::alloc::{AllocError, Global};
@@ -36,9 +37,9 @@ impl Room {
         ensures tracks { IfOk result (λ room. EachHas (IsTrack [] []) (options_of plans.now) room.tracks.items) }
         ensures rows { IfOk result (λ room. length room.rows.items ≡ length (options_of plans.now)) }
         ensures journal { IfOk result (λ room. room.journal.items ≡ []) }
-        ensures journal_room { IfOk result (λ room. 1024 ≤ vec_capacity room.journal) }
+        ensures journal_room { IfOk result (λ room. MOST_LEAVES ≤ vec_capacity room.journal) }
         ensures bans { IfOk result (λ room. room.bans.items ≡ []) }
-        ensures bans_room { IfOk result (λ room. 1024 ≤ vec_capacity room.bans) }
+        ensures bans_room { IfOk result (λ room. MOST_LEAVES ≤ vec_capacity room.bans) }
     {
         let start = Track {
             front: 0,
@@ -47,8 +48,8 @@ impl Room {
         Ok(Room {
             tracks: vec![in alloc; start; plans.len()]?,
             rows: vec![in alloc; LeafSet::new(); plans.len()]?,
-            journal: Vec::with_capacity(alloc, 1024)?,
-            bans: Vec::with_capacity(alloc, 1024)?,
+            journal: Vec::with_capacity(alloc, MOST_LEAVES as usize)?,
+            bans: Vec::with_capacity(alloc, MOST_LEAVES as usize)?,
         })
     }
 }
@@ -103,7 +104,7 @@ impl Residual {
             plans: compiled.into_plans(),
             tracks,
             journal,
-            done: Progress::new(1024),
+            done: Progress::new(MOST_LEAVES),
             bans,
             rows,
             fresh: false,
@@ -113,7 +114,7 @@ impl Residual {
     /// The leaves that count, in order.
     pub fn journal(&self) -> &[u32]
         ensures leaves { result.now ≡ self.now.journal }
-        ensures few { length self.now.journal ≤ 1024 }
+        ensures few { length self.now.journal ≤ MOST_LEAVES }
     {
         &self.journal
     }
@@ -122,12 +123,12 @@ impl Residual {
     pub fn is_done(&self, leaf: u32) -> bool
         ensures { IsTrue result ↔ (leaf ∈ self.now.journal) }
     {
-        leaf < 1024 && self.done.has(leaf)
+        leaf < MOST_LEAVES && self.done.has(leaf)
     }
 
     /// The leaves of the journal.
     pub(crate) fn done(&self) -> &Progress
-        ensures bound { bound_of result.now ≡ 1024 }
+        ensures bound { bound_of result.now ≡ MOST_LEAVES }
         ensures same { (n : ℕ) → IsDone result.now n ↔ (n ∈ self.now.journal) }
     {
         &self.done
@@ -159,7 +160,7 @@ impl Residual {
 
     /// Nothing may follow with claims that have a leaf twice, or one that has no place in a row.
     pub(crate) fn none_taken(&self, claims: &[u32]) -> LeafSet<16>
-        requires { ¬ (Each (λ n. n < 1024) claims.now × AreDistinct claims.now) }
+        requires { ¬ (Each (λ n. n < MOST_LEAVES) claims.now × AreDistinct claims.now) }
         ensures none { (n : ℕ) → has_leaf result n ≡ false }
         ensures taken { (o : ChoiceOption) (stand : Stand) (leaf : ℕ) → ¬ (Takes self.now claims.now stand leaf o) }
     {

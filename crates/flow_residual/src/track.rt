@@ -8,6 +8,7 @@ ghost use Rattle.flow_residual.specs.Options.{EachHas, HasSmallLeaves};
 ghost use Rattle.flow_residual.specs.Tracks.{IsFront, IsNextRow, IsTrack, journal_after, bans_after};
 
 use crate::ban::{Ban, cut_ban, with_ban};
+use flow_model::MOST_LEAVES;
 use flow_plan::{KnotFree, Plan, Progress};
 use leaf_rows::LeafSet;
 
@@ -108,7 +109,7 @@ pub(crate) fn look(
     rows: &mut [LeafSet<16>],
 )
     requires fits { Each HasSmallLeaves (options_of plans.now) }
-    requires bound { bound_of done.now ≡ 1024 }
+    requires bound { bound_of done.now ≡ MOST_LEAVES }
     requires done { (n : ℕ) → IsDone done.now n ↔ (n ∈ journal.now) }
     requires fronts { EachHas (λ o track. IsFront o journal.now track.front) (options_of plans.now) tracks.now }
     requires one_each { length rows.old ≡ length (options_of plans.now) }
@@ -134,7 +135,7 @@ pub(crate) fn follow(
     change: Change,
 )
     requires fits { Each HasSmallLeaves (options_of plans.now) }
-    requires bound { bound_of done.now ≡ 1024 }
+    requires bound { bound_of done.now ≡ MOST_LEAVES }
     requires done { (n : ℕ) → IsDone done.now n ↔ (n ∈ journal.now) }
     requires one_each { length tracks.old ≡ length plans.now }
     ensures { (bans : List (ℕ × ℕ)) → EachHas (IsTrack journal.now bans) (options_of plans.now) tracks.old →
@@ -147,11 +148,11 @@ pub(crate) fn follow(
 
 /// The leaves as done ones.
 pub(crate) fn progress_of(leaves: &[u32]) -> Progress
-    requires { Each (λ n. n < 1024) leaves.now }
-    ensures bound { bound_of result ≡ 1024 }
+    requires { Each (λ n. n < MOST_LEAVES) leaves.now }
+    ensures bound { bound_of result ≡ MOST_LEAVES }
     ensures same { (n : ℕ) → IsDone result n ↔ (n ∈ leaves.now) }
 {
-    let mut done = Progress::new(1024);
+    let mut done = Progress::new(MOST_LEAVES);
     for leaf in leaves {
         done.note(*leaf);
     }

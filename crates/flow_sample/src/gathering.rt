@@ -1,4 +1,5 @@
 ghost use Rattle.std.specs.Prelude.{◌≡◌, ◌<◌, ◌+◌, ◌^◌, [], ◌∷◌, List, IfSome, MatchResult, slice_get};
+ghost use Rattle.flow_model.specs.declared.limits.TheConstants.{MOST_LEAVES};
 ghost use Rattle.flow_plan.specs.Planned.{pairs_of};
 ghost use Rattle.flow_goal.specs.declared.node.Node.{Node};
 ghost use Rattle.flow_goal.specs.declared.node.Node.TheVariants.{Leaf, Open, Close};
@@ -42,7 +43,7 @@ fn add_part(alloc: Global, inner: &[Item], items: &mut Vec<Item>) -> Result<(), 
 /// The leaf at that place.
 fn leaf_in_place(plan: &Plan, place: usize) -> Option<u32>
     ensures leaf { result ≡ slice_get plan.now.leaves place }
-    ensures small { IfSome result (λ leaf. leaf < 1024) }
+    ensures small { IfSome result (λ leaf. leaf < MOST_LEAVES) }
     ensures next { IfSome result (λ _. place + 1 < 2 ^ 64) }
 {
     plan.leaves().get(place).copied()

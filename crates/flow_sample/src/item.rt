@@ -1,5 +1,6 @@
 ghost use Rattle.std.specs.Prelude.{◌≡◌, ◌<◌, ◌↔◌, ◌∷◌, ℕ, [], IsTrue, IfOk, false};
 ghost use Rattle.leaf_rows.specs.Leaves.{has_leaf};
+ghost use Rattle.flow_model.specs.declared.limits.TheConstants.{MOST_LEAVES};
 ghost use Rattle.flow_model.specs.Ready.{DirectlyBefore};
 ghost use Rattle.flow_plan.specs.Planned.{pairs_of};
 ghost use Rattle.flow_sample.specs.Rows.{IsIn, WaitsFor};
@@ -46,7 +47,7 @@ impl Item {
 
     /// A leaf as an item.
     pub(crate) fn of_leaf(alloc: Global, plan: &Plan, leaf: u32) -> Result<Item, AllocError>
-        requires { leaf < 1024 }
+        requires { leaf < MOST_LEAVES }
         ensures inside { IfOk result (λ item. (x : ℕ) → IsTrue (has_leaf item.inside x) ↔ (x ≡ leaf)) }
         ensures waits { IfOk result (λ item. (x : ℕ) → IsTrue (has_leaf item.waits x)
             ↔ DirectlyBefore plan.now.process (pairs_of plan.now.tokens) x leaf) }

@@ -1,4 +1,5 @@
 ghost use Rattle.std.specs.Prelude.{◌≡◌, ◌<◌, ◌&&◌, ℕ, IsTrue, IfOk, IfErr, MatchOption, length, not, slice_get, slice_index};
+ghost use Rattle.flow_model.specs.declared.limits.TheConstants.{MOST_LEAVES};
 ghost use Rattle.flow_model.specs.Lists.{◌∈◌, Each};
 ghost use Rattle.leaf_rows.specs.Leaves.{has_leaf};
 ghost use Rattle.flow_sample.specs.Rows.{AreApart, IsIn, WaitsFor, has_inside, runs};
@@ -12,7 +13,7 @@ use std::alloc::{AllocError, Global};
 
 /// The item that the leaf is in.
 fn item_with(items: &[Item], leaf: u32) -> usize
-    requires small { leaf < 1024 }
+    requires small { leaf < MOST_LEAVES }
     requires some { (n : ℕ) × IsIn items.now n leaf }
     ensures { IsIn items.now result leaf }
 {

@@ -1,5 +1,6 @@
 -- What is told of a list of leaves.
 use Rattle.std.specs.Prelude.{◌≡◌, ◌≤◌, ◌↔◌, ℕ, ◌+◌, Bool, List, length, take}
+use Rattle.flow_model.specs.declared.limits.TheConstants.{MOST_LEAVES}
 use Rattle.flow_model.specs.Lists.{◌∈◌, Each}
 use Rattle.flow_model.specs.Resolution.{ChoiceOption, options}
 use Rattle.flow_model.specs.Schema.{Schema, IsGood}
@@ -26,7 +27,7 @@ TellsOfTrace w list (Bad k) = IsPossible w (take k list) × ¬ (IsPossible w (ta
 -- they are the options of the workflow that have an execution
 pub record AreOptionsOf (d : Definition) (os : List ChoiceOption) : Type 0 where
   pub formed : IsWellFormed (schema_of d)
-  pub small : length d.tree.labels ≤ 1024
+  pub small : length d.tree.labels ≤ MOST_LEAVES
   pub just_those : AreJustThose HasExecution (options (schema_of d)) os
   pub fits : Each HasSmallLeaves os
 
@@ -38,6 +39,6 @@ course_at d list = record { held = d.held; count = length d.facts; labels = labe
 pub record HasReached (d : Definition) (os : List ChoiceOption) (list : List ℕ) (live : List Bool) (world : Course) (done : Progress) : Type 0 where
   pub possible : IsPossible (schema_of d) list
   pub live_are : AreLive os list live
-  pub bound : bound_of done ≡ 1024
+  pub bound : bound_of done ≡ MOST_LEAVES
   pub done_are : (n : ℕ) → IsDone done n ↔ (n ∈ list)
   pub world_is : world ≡ course_at d list

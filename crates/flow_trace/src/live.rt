@@ -1,4 +1,5 @@
 ghost use Rattle.std.specs.Prelude.{◌≡◌, ◌↔◌, ℕ, List, [], ◌∷◌, ◌++◌, IfOk, IsTrue, length};
+ghost use Rattle.flow_model.specs.declared.limits.TheConstants.{MOST_LEAVES};
 ghost use Rattle.flow_model.specs.Lists.{◌∈◌, Each};
 ghost use Rattle.flow_plan.specs.Orders.{Fits, MayComeNext};
 ghost use Rattle.flow_plan.specs.Progress.{IsDone, bound_of};
@@ -32,7 +33,7 @@ fn stays_live(plan: &Plan, alive: bool, done: &Progress, leaf: u32) -> bool
 /// Only those plans stay live of which the leaf may come next.
 pub(crate) fn keep_live(plans: &[KnotFree], live: &mut [bool], done: &Progress, leaf: u32)
     requires fits { Each HasSmallLeaves (options_of plans.now) }
-    requires bound { bound_of done.now ≡ 1024 }
+    requires bound { bound_of done.now ≡ MOST_LEAVES }
     requires one_each { length live.old ≡ length plans.now }
     ensures { (list : List ℕ) → ((n : ℕ) → IsDone done.now n ↔ (n ∈ list)) →
         AreLive (options_of plans.now) list live.old → AreLive (options_of plans.now) (list ++ leaf ∷ []) live.new }
@@ -59,7 +60,7 @@ pub(crate) fn some_live(plans: &[KnotFree], live: &[bool]) -> bool
 /// Whether the done leaves are a whole execution of some live plan.
 pub(crate) fn some_complete(plans: &[KnotFree], live: &[bool], done: &Progress) -> bool
     requires fits { Each HasSmallLeaves (options_of plans.now) }
-    requires bound { bound_of done.now ≡ 1024 }
+    requires bound { bound_of done.now ≡ MOST_LEAVES }
     requires one_each { length live.now ≡ length plans.now }
     ensures { (list : List ℕ) → ((n : ℕ) → IsDone done.now n ↔ (n ∈ list)) →
         AreLive (options_of plans.now) list live.now → IsTrue result ↔ SomeOption (Finishes list) (options_of plans.now) }

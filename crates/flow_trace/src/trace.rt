@@ -12,6 +12,7 @@ use crate::checked::Checked;
 use crate::labels::perform;
 use crate::live::{all_live, keep_live, some_complete, some_live};
 use flow_excise::Compiled;
+use flow_model::MOST_LEAVES;
 use flow_plan::{KnotFree, Progress};
 use flow_residual::fit_rows;
 use flow_workflow::Workflow;
@@ -52,7 +53,7 @@ fn walk(
     requires world { world.old ≡ course_at workflow.now [] }
     ensures { TellsOfTrace (schema_of workflow.now) leaves.now result }
 {
-    let mut done = Progress::new(1024);
+    let mut done = Progress::new(MOST_LEAVES);
     for place in 0..leaves.len() {
         if !goes_on(workflow, plans, leaves, place, live, world, &mut done) {
             return Checked::Bad(place as u32);

@@ -1,5 +1,6 @@
 ghost use Rattle.std.specs.Prelude.{◌≤◌, IfOk, IfErr, OnOk, MatchOption, length};
 ghost use Rattle.flow_goal.specs.Repeated.{HoldsNoneTwice};
+ghost use Rattle.flow_model.specs.declared.limits.TheConstants.{MOST_LEAVES};
 ghost use Rattle.flow_model.specs.Lists.{◌∈◌};
 ghost use Rattle.flow_model.specs.Resolution.{ChoiceOption, OptionTrace};
 ghost use Rattle.flow_model.specs.Schema.{IsGood};
@@ -30,7 +31,7 @@ pub(crate) fn good_execution(
     rules: &[Rule],
 ) -> Result<Option<Vec<u32>>, VerifyRefusal>
     requires unique { HoldsNoneTwice tree.now }
-    requires small { length tree.now.labels ≤ 1024 }
+    requires small { length tree.now.labels ≤ MOST_LEAVES }
     ensures found { IfOk result (λ found. MatchOption found
         (¬ (IsConsistent (schema_of tree.now (rules_of rules.now))))
         (λ t. IsGood (schema_of tree.now (rules_of rules.now)) t.items)) }

@@ -1,5 +1,6 @@
 ghost use Rattle.std.specs.Prelude.{◌≡◌, ◌<◌, ◌≤◌, ◌↔◌, IfOk, IfErr, OnOk, Some, Err, length, slice_get, remove};
 ghost use Rattle.flow_goal.specs.Repeated.{HoldsNoneTwice};
+ghost use Rattle.flow_model.specs.declared.limits.TheConstants.{MOST_LEAVES};
 ghost use Rattle.flow_model.specs.Constraint.{Constraint};
 ghost use Rattle.flow_rules.specs.Rule.{rule_of, rules_of};
 ghost use Rattle.flow_workflow.specs.Definition.{schema_of};
@@ -56,7 +57,7 @@ fn verify_tree(
     property: Rule,
 ) -> Result<Verified, VerifyRefusal>
     requires unique { HoldsNoneTwice tree.now }
-    requires small { length tree.now.labels ≤ 1024 }
+    requires small { length tree.now.labels ≤ MOST_LEAVES }
     ensures told { IfOk result (TellsOfProperty (options.schema_of tree.now (rules_of rules.items)) (rule_of property)) }
     ensures within { OnOk result (IsWithinLimits (against (options.schema_of tree.now (rules_of rules.items)) (rule_of property))) }
     ensures refused { IfErr result (IsRefused (against (options.schema_of tree.now (rules_of rules.items)) (rule_of property))) }

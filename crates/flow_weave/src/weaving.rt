@@ -1,4 +1,5 @@
 ghost use Rattle.std.specs.Prelude.{◌≡◌, ◌≢◌, ◌<◌, ◌^◌, ◌↔◌, ℕ, List, IfOk, length, map};
+ghost use Rattle.flow_model.specs.declared.limits.TheConstants.{MOST_LEAVES};
 ghost use Rattle.flow_model.specs.Lists.{Each, numbers_from};
 ghost use Rattle.flow_model.specs.Ready.{IsCompleteRun};
 ghost use Rattle.flow_model.specs.Resolution.{OptionTrace};
@@ -32,7 +33,7 @@ fn tokens_of(alloc: Global, pairs: &[(u32, u32)]) -> Result<Vec<OrderToken>, All
 /// The plan of an option: the goal as it is, and a token for each pair of the order, numbered from 0.
 pub fn weave(alloc: Global, goal: &Choiceless, order: &OrderSet) -> Result<Plan, AllocError>
     requires few { length order.now.pairs.items < 2 ^ 32 }
-    requires small { Each (λ n. n < 1024) goal.now.leaves }
+    requires small { Each (λ n. n < MOST_LEAVES) goal.now.leaves }
     requires of_leaves { AreOfLeaves goal.now.process order.now.pairs.items }
     requires different { Each (λ pair. pair.0 ≢ pair.1) order.now.pairs.items }
     ensures process { IfOk result (λ plan. plan.process ≡ goal.now.process) }

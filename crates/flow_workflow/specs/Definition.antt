@@ -2,6 +2,7 @@
 use Rattle.std.specs.Prelude.{◌≡◌, ◌<◌, ◌≤◌, ◌^◌, ℕ, List, length}
 use Rattle.std.proofs.Common.{refl}
 use Rattle.std.specs.Coded.{Coded, code_by, coded×, coded_ℕ, coded_list}
+use Rattle.flow_model.specs.declared.limits.TheConstants.{MOST_LEAVES}
 use Rattle.flow_model.specs.declared.labels.Note.{Note}
 use Rattle.flow_model.specs.contracts.labels.Note as note
 use Rattle.flow_model.specs.Lists.{Each, AreDistinct}
@@ -54,4 +55,4 @@ pub record IsWorkflow (w : Definition) : Type 0 where
   pub known : Each (IsKnown (length w.events) (length w.facts)) w.tree.labels
   -- no execution holds an event twice
   pub unique : HoldsNoneTwice w.tree
-  pub small : length w.tree.labels ≤ 1024
+  pub small : length w.tree.labels ≤ MOST_LEAVES

@@ -1,4 +1,5 @@
 ghost use Rattle.std.specs.Prelude.{◌≡◌, ◌<◌, ◌≤◌, ◌^◌, ◌↔◌, [], length, None, IfSome, slice_get, Some};
+ghost use Rattle.flow_model.specs.declared.limits.TheConstants.{MOST_LEAVES};
 ghost use Rattle.flow_model.specs.Lists.{◌∈◌, Each, AreDistinct};
 ghost use Rattle.flow_goal.specs.Repeated.{HoldsNoneTwice};
 ghost use Rattle.flow_laws.specs.WellFormed.{IsWellFormed};
@@ -115,7 +116,7 @@ impl Workflow {
         ensures tree { result.now ≡ self.now.tree }
         ensures known { Each (IsKnown (length self.now.events) (length self.now.facts)) self.now.tree.labels }
         ensures unique { HoldsNoneTwice self.now.tree }
-        ensures small { length self.now.tree.labels ≤ 1024 }
+        ensures small { length self.now.tree.labels ≤ MOST_LEAVES }
         ensures well_formed { IsWellFormed (schema_of self.now) }
     {
         // what the type keeps of its leaves

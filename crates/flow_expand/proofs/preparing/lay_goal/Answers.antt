@@ -1,4 +1,5 @@
 use Rattle.std.proofs.Common.{rules, ℕ, ◌≡◌, ◌∙◌, ◌<◌, length, map, ap, sym, subst}
+use Rattle.flow_model.specs.declared.limits.TheConstants.{MOST_LEAVES, MOST_RULE_NAMES}
 use Rattle.flow_model.specs.Lists.{◌∈◌, Each}
 use Rattle.flow_form.specs.Script.{said}
 use Rattle.flow_form.specs.Names.{declared_names, names_in, names_in_rules}
@@ -34,7 +35,7 @@ returns-in_err-at_most-clause-refused c =
     let s = said c.args.script.now in
     let many : length d.goals.items ≡ d.goals.len = search rules in
     let all = λ (k : ℕ) (lt : k < length d.goals.items). c.in_ok-settle_all.ensures.all k (subst (λ n. k < n) many lt) in
-    err_to c.from_residual-in_err-at_most.result (λ e. (1024 < c.most.result) × (e ≡ refusal.TooLarge part.Goal c.most.result)) _
+    err_to c.from_residual-in_err-at_most.result (λ e. (MOST_LEAVES < c.most.result) × (e ≡ refusal.TooLarge part.Goal c.most.result)) _
     (goal_refusal d _ _ c.in_ok-settle_all.ensures.settling.laid all s c.requires.closed c.requires.decls c.requires.few c.lay.new.layout.items c.in_ok-root.root c.in_ok-root.ensures.ok c.most.result c.most.ensures)
     (search rules)
 
@@ -46,7 +47,7 @@ returns-in_err-at_most-2-clause-refused c =
     let all = λ (k : ℕ) (lt : k < length d.goals.items). c.in_ok-settle_all.ensures.all k (subst (λ n. k < n) many lt) in
     let written : c.count_names.result ≡ capped (rule_name_count s) =
     c.count_names.ensures ∙ ap (λ rs. capped (length (names_in_rules (rule_shapes (map rule_shape_of rs))))) c.deref-2.ensures.value ∙ ap (λ l. capped (length l)) (names_in_all s.rules) in
-    err_to c.from_residual-in_err-at_most-2.result (λ e. (8192 < c.count_names.result) × (e ≡ refusal.TooLarge part.Rules c.count_names.result)) _
+    err_to c.from_residual-in_err-at_most-2.result (λ e. (MOST_RULE_NAMES < c.count_names.result) × (e ≡ refusal.TooLarge part.Rules c.count_names.result)) _
     (rules_refusal d _ _ c.in_ok-settle_all.ensures.settling.laid all s c.requires.closed c.requires.decls c.requires.few c.lay.new.layout.items c.in_ok-root.root c.in_ok-root.ensures.ok c.most.result c.most.ensures
     c.in_ok-at_most.ensures.ok c.count_names.result written)
     (search rules)

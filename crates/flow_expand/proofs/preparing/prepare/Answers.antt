@@ -1,4 +1,5 @@
 use Rattle.std.proofs.Common.{rules, ◌≡◌, ◌∙◌, ◌<◌, ◌≤◌, length, map, ap, sym, subst}
+use Rattle.flow_model.specs.declared.limits.TheConstants.{MOST_FLOWS}
 use Rattle.flow_form.specs.Script.{declared, said}
 use Rattle.flow_expand.specs.declared.refusal.ExpandRefusal.TheVariants as refusal
 use Rattle.flow_expand.specs.declared.refusal.Part.TheVariants as part
@@ -19,7 +20,7 @@ returns-in_err-at_most-clause-refused c =
     let same : decls_of d ≡ (said c.args.script.now).decls = ap (map declared) (c.in_ok-directory.ensures.decls ∙ c.deref.ensures.value) in
     let many : d.goals.len ≡ length d.goals.items = search rules in
     let count : c.len.result ≡ flow_count (said c.args.script.now) = c.len.ensures ∙ many ∙ names_counted d c.in_ok-directory.ensures.directory ∙ ap (λ ds. length (flow_names ds)) same in
-    err_to c.from_residual-in_err-at_most.result (λ e. (256 < c.len.result) × (e ≡ refusal.TooLarge part.Flows c.len.result)) _ (λ e h. flows_refusal (said c.args.script.now) c.len.result e count h) (search rules)
+    err_to c.from_residual-in_err-at_most.result (λ e. (MOST_FLOWS < c.len.result) × (e ≡ refusal.TooLarge part.Flows c.len.result)) _ (λ e h. flows_refusal (said c.args.script.now) c.len.result e count h) (search rules)
 
 pub lay_goal-requires-clause-decls : goal.lay_goal-requires-clause-decls
 lay_goal-requires-clause-decls c = ap (map declared) (c.in_ok-directory.ensures.decls ∙ c.deref.ensures.value)
@@ -30,4 +31,4 @@ lay_goal-requires-clause-few c =
     let same : decls_of d ≡ (said c.args.script.now).decls = ap (map declared) (c.in_ok-directory.ensures.decls ∙ c.deref.ensures.value) in
     let many : d.goals.len ≡ length d.goals.items = search rules in
     let count : c.len.result ≡ flow_count (said c.args.script.now) = c.len.ensures ∙ many ∙ names_counted d c.in_ok-directory.ensures.directory ∙ ap (λ ds. length (flow_names ds)) same in
-    subst (λ n. n ≤ 256) count c.in_ok-at_most.ensures.ok
+    subst (λ n. n ≤ MOST_FLOWS) count c.in_ok-at_most.ensures.ok

@@ -1,4 +1,5 @@
 use Rattle.std.proofs.Common.{◌≤◌, length}
+use Rattle.flow_model.specs.declared.limits.TheConstants.{MOST_LINES}
 use Rattle.flow_record.proofs.Journals.{IsReadTo}
 use Rattle.flow_record.proofs.journal_lines.read_journal.Given as goal
 
@@ -7,6 +8,6 @@ decreases-loop-rest l = length l.rest
 
 abbrev pub invariant-loop-rest : goal.invariant-loop-rest
 invariant-loop-rest l = record {
-  small : l.number ≤ 16384;
+  small : l.number ≤ MOST_LINES;
   read : IsReadTo l.workflow l.text l.reading.leaves.items l.reading.wrong l.number l.rest;
 }

@@ -1,4 +1,5 @@
 use Rattle.std.proofs.Common.{◌<◌, ◌∙◌, arith, get_or}
+use Rattle.flow_model.specs.declared.limits.TheConstants.{MOST_LEAVES}
 use Rattle.flow_laws.proofs.Members.{each_member}
 use Rattle.flow_plan.proofs.PlaceLemmas.{read_member}
 use Rattle.flow_residual.proofs.DoneLemmas.{done_more}
@@ -7,7 +8,7 @@ use Rattle.flow_residual.proofs.track.progress_of.Goals as goal
 pub note-requires : goal.note-requires
 note-requires c =
     let xs = c.args.leaves.now in
-    let small : get_or xs c.loop-leaf.leaf-index 0 < 1024 = each_member (λ n. n < 1024) xs c.requires (get_or xs c.loop-leaf.leaf-index 0)
+    let small : get_or xs c.loop-leaf.leaf-index 0 < MOST_LEAVES = each_member (λ n. n < MOST_LEAVES) xs c.requires (get_or xs c.loop-leaf.leaf-index 0)
     (read_member xs c.loop-leaf.leaf-index c.loop-leaf-test.true) in
     omega (arith, c.loop-leaf.invariant.bound)
 

@@ -5,8 +5,8 @@ use Rattle.flow_core.specs.Run.{Run, schema, now}
 use Rattle.flow_core.proofs.Tests.{told_beside}
 use Rattle.flow_core.proofs.engine.Core.may_all_follow.Goals as goal
 
-pub returns-then-leaf-lt1024 : goal.returns-then-leaf-lt1024
-returns-then-leaf-lt1024 c =
+pub returns-then-leaf-lt-MOST_LEAVES : goal.returns-then-leaf-lt-MOST_LEAVES
+returns-then-leaf-lt-MOST_LEAVES c =
     subst (λ (r : Run). IsTrue c.has.result ↔ MayAllFollow (schema r) (now r) (current_leaves (now r) ++ c.args.leaf ∷ [])) c.self.view_is
     (subst (λ b. IsTrue b ↔ MayAllFollow (schema_of c.self.inside.workflow) (state_of (schema_of c.self.inside.workflow) c.self.inside.history.items) (current_leaves (state_of (schema_of c.self.inside.workflow) c.self.inside.history.items) ++ c.args.leaf ∷ [])) (sym c.has.ensures)
     ((c.self.invariant.ahead c.if-self.true).all c.args.leaf))

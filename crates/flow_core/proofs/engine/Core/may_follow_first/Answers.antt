@@ -5,8 +5,8 @@ use Rattle.flow_core.specs.Run.{Run, schema, now}
 use Rattle.flow_core.proofs.Tests.{told_first}
 use Rattle.flow_core.proofs.engine.Core.may_follow_first.Goals as goal
 
-pub returns-then-leaf-lt1024 : goal.returns-then-leaf-lt1024
-returns-then-leaf-lt1024 c =
+pub returns-then-leaf-lt-MOST_LEAVES : goal.returns-then-leaf-lt-MOST_LEAVES
+returns-then-leaf-lt-MOST_LEAVES c =
     subst (λ (r : Run). IsTrue c.has.result ↔ MayFollowFirst (schema r) (now r) c.args.leaf (current_leaves (now r))) c.self.view_is
     (subst (λ b. IsTrue b ↔ MayFollowFirst (schema_of c.self.inside.workflow) (state_of (schema_of c.self.inside.workflow) c.self.inside.history.items) c.args.leaf (current_leaves (state_of (schema_of c.self.inside.workflow) c.self.inside.history.items))) (sym c.has.ensures)
     ((c.self.invariant.ahead c.if-self.true).one c.args.leaf))

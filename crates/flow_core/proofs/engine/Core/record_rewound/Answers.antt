@@ -1,4 +1,5 @@
 use Rattle.std.proofs.Common.{◌<◌, ◌≤◌, ℕ, List, length, subst, subst₂, sym, arith, refl}
+use Rattle.flow_model.specs.declared.limits.TheConstants.{MOST_ENTRIES}
 use Rattle.flow_model.specs.declared.history.Step.{Step}
 use Rattle.flow_model.specs.declared.history.Step.TheVariants.{Rewound}
 use Rattle.flow_model.specs.Run.{RunState, state_of, IsOpenIndex}
@@ -31,7 +32,7 @@ raise-requires c =
     let s : RunState = state_of (schema_of i.workflow) i.history.items in
     let room : length i.history.items < i.limit = subst HasEntryLeft (sym c.self.view_is) c.requires.steps in
     let few : i.claims.epoch ≤ length i.history.items = k.few_epochs in
-    let small : i.limit ≤ 1000000 = c.self.invariant.small in
+    let small : i.limit ≤ MOST_ENTRIES = c.self.invariant.small in
     omega arith
 
 pub invariant_of-self : goal.invariant_of-self

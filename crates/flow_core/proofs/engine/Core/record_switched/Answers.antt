@@ -1,4 +1,5 @@
 use Rattle.std.proofs.Common.{◌≡◌, ◌<◌, ◌≤◌, ◌+◌, [], ◌∷◌, ◌++◌, length, subst, sym, ap, ◌∙◌, arith, refl}
+use Rattle.flow_model.specs.declared.limits.TheConstants.{MOST_ENTRIES}
 use Rattle.flow_model.specs.declared.history.Step.{Step}
 use Rattle.flow_model.specs.Schema.{Schema}
 use Rattle.flow_model.specs.declared.history.Step.TheVariants.{Failed}
@@ -26,7 +27,7 @@ raise-requires c =
     let s : RunState = state_of (schema_of i.workflow) i.history.items in
     let room : length i.history.items < i.limit = subst HasEntryLeft (sym c.self.view_is) c.requires.steps in
     let few : i.claims.epoch ≤ length i.history.items = k.few_epochs in
-    let small : i.limit ≤ 1000000 = c.self.invariant.small in
+    let small : i.limit ≤ MOST_ENTRIES = c.self.invariant.small in
     let same : c.answer.new.self.epoch ≡ i.claims.epoch = ap (λ (x : Claimed). x.epoch) c.answer.ensures in
     omega arith
 

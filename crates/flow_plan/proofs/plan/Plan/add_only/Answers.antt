@@ -1,13 +1,14 @@
 use Rattle.std.proofs.lemmas.Bool.{or_cases, or_left, or_right}
 use Rattle.std.proofs.Common.{◌≡◌, ℕ, ◌<◌, ◌==◌, ◌∷◌, [], IsTrue, Option, Some, true≢false, inl, inr, ⊎_elim, eq-eqb, eqb-true, subst, sym, ◌∙◌, arith}
 use Rattle.leaf_rows.specs.Leaves.{has_leaf}
+use Rattle.flow_model.specs.declared.limits.TheConstants.{MOST_LEAVES}
 use Rattle.flow_model.specs.Ready.{DoneOr}
 use Rattle.flow_plan.specs.Progress.{IsDone}
 use Rattle.flow_plan.specs.Orders.{MayComeNext, MayFollowInEveryOrder}
 use Rattle.flow_plan.proofs.Following.{next_small}
 use Rattle.flow_plan.proofs.StepRows.{each_of_orders, first_is_other}
 use Rattle.flow_plan.proofs.plan.Plan.add_only.Goals as goal
-use Rattle.flow_plan.proofs.plan.Plan.add_only.Goals.{else-first-lt1024-via-then-first-lt1024+then-has+else-may_follow, else-first-lt1024-via-then-first-lt1024+else-has, else-first-lt1024-via-else-first-lt1024}
+use Rattle.flow_plan.proofs.plan.Plan.add_only.Goals.{else-first-lt-MOST_LEAVES-via-then-first-lt-MOST_LEAVES+then-has+else-may_follow, else-first-lt-MOST_LEAVES-via-then-first-lt-MOST_LEAVES+else-has, else-first-lt-MOST_LEAVES-via-else-first-lt-MOST_LEAVES}
 
 pub returns-in_default : goal.returns-in_default
 returns-in_default c n among = (
@@ -47,13 +48,13 @@ returns c n among = (
     refused both =
         let told = c.only_before.ensures n c.requires.waits both.0 (each_of_orders c.args.self.now (DoneOr (IsDone c.args.done.now) (n ∷ [])) c.args.list.now c.args.leaf both.1 c.requires.claimed) in
         let same : n ≡ c.in-Some.first = same_leaf c.only_before.result n c.in-Some.first told c.in-Some.is in
-        elim c.else-first-lt1024.branch [
-          | else-first-lt1024-via-then-first-lt1024+then-has+else-may_follow w ↦
+        elim c.else-first-lt-MOST_LEAVES.branch [
+          | else-first-lt-MOST_LEAVES-via-then-first-lt-MOST_LEAVES+then-has+else-may_follow w ↦
               absurd (true≢false (sym (w.may_follow.ensures.1 (subst (λ (m : ℕ). MayComeNext c.args.self.now (IsDone c.args.done.now) m
               × MayFollowInEveryOrder c.args.self.now (DoneOr (IsDone c.args.done.now) (m ∷ [])) c.args.list.now) same both)) ∙ w.if-may_follow.false))
-          | else-first-lt1024-via-then-first-lt1024+else-has w ↦
+          | else-first-lt-MOST_LEAVES-via-then-first-lt-MOST_LEAVES+else-has w ↦
               ⊎_elim (λ rest. absurd (true≢false (sym (w.has.ensures ∙ subst (λ (m : ℕ). IsTrue (has_leaf c.args.rest.now m)) same rest) ∙ w.if-has.false))) (λ found. found)
               (among both.0 (first_is_other c.args.self.now (IsDone c.args.done.now) c.args.list.now n both.1))
-          | else-first-lt1024-via-else-first-lt1024 w ↦
-              let small : n < 1024 = next_small c.args.self.now c.args.done.now n c.requires.fits both.0 in let large = w.if-first-lt1024.false in absurd (omega (arith, small, large, same))
+          | else-first-lt-MOST_LEAVES-via-else-first-lt-MOST_LEAVES w ↦
+              let small : n < MOST_LEAVES = next_small c.args.self.now c.args.done.now n c.requires.fits both.0 in let large = w.if-first-lt-MOST_LEAVES.false in absurd (omega (arith, small, large, same))
         ]

@@ -1,5 +1,6 @@
 use Rattle.std.proofs.Common.{◌<◌, List, subst, sym}
 use Rattle.leaf_rows.specs.declared.leaf_set.LeafSet.{LeafSet}
+use Rattle.flow_model.specs.declared.limits.TheConstants.{MOST_LEAVES}
 use Rattle.flow_model.specs.Lists.{Each}
 use Rattle.flow_model.specs.Ready.{DirectlyBefore}
 use Rattle.flow_laws.specs.WellFormed.{AreOfLeaves}
@@ -29,6 +30,6 @@ invariant_of-result c =
     (new_is_ordered (planned c.in_ok-copy.field-0 c.args.tokens.items) r.choice_free r.listed r.rising
     (subst (λ (g : Resolved). AreOfLeaves g.process (pairs_of c.args.tokens.items)) (sym same) c.requires.of_leaves) c.requires.different)
     r.listed r.rising
-    (subst (λ (g : Resolved). Each (λ n. n < 1024) g.leaves) (sym same) c.requires.small)
+    (subst (λ (g : Resolved). Each (λ n. n < MOST_LEAVES) g.leaves) (sym same) c.requires.small)
     (subst (λ (g : Resolved). AreRowsOf (DirectlyBefore g.process (pairs_of c.args.tokens.items)) g.leaves c.in_ok-before.before.items) (sym same) rows)
     (subst (λ (g : Resolved). ArePartsOf g.process (pairs_of c.args.tokens.items) c.in_ok-parts.parts.items) (sym same) parts_are)

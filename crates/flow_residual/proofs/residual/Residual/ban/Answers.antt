@@ -1,5 +1,6 @@
 use Rattle.std.proofs.Common.{◌≡◌, ◌≤◌, ◌<◌, ◌++◌, [], ◌∷◌, ℕ, List, length, sym, ap, ◌∙◌, subst, arith}
 use Rattle.std.specs.Vec.{vec_len, vec_capacity, with_items}
+use Rattle.flow_model.specs.declared.limits.TheConstants.{MOST_LEAVES}
 use Rattle.flow_residual.specs.declared.track.Change.TheVariants.{Banned}
 use Rattle.flow_residual.specs.Remaining.{Remaining, MayComeNext}
 use Rattle.flow_residual.specs.View.{remaining, pairs_of_bans}
@@ -12,7 +13,7 @@ use Rattle.flow_residual.proofs.residual.Residual.ban.Goals as goal
 
 pub overflow_cast-index : goal.overflow_cast-index
 overflow_cast-index c =
-    let most : length c.self.inside.journal.items ≤ 1024 = at_most_all c.self.inside.journal.items c.self.invariant.kept.done in
+    let most : length c.self.inside.journal.items ≤ MOST_LEAVES = at_most_all c.self.inside.journal.items c.self.invariant.kept.done in
     let len : c.len-index.result ≡ length c.self.inside.journal.items = c.len-index.ensures ∙ c.self.inside.journal.ok.0 in
     omega arith
 
@@ -25,10 +26,10 @@ push_reserved-requires c =
     let k = c.self.invariant.kept in
     let r : Remaining = remaining i.plans.items i.journal.items i.bans.items in
     let next : MayComeNext r c.args.leaf = subst (λ (q : Remaining). MayComeNext q c.args.leaf) (sym c.self.view_is) c.requires in
-    let room : length (banned r.bans) < 1024 = room_left (banned r.bans) c.args.leaf k.bans_few (next_small r k c.args.leaf next) (next_free r k c.args.leaf next) in
+    let room : length (banned r.bans) < MOST_LEAVES = room_left (banned r.bans) c.args.leaf k.bans_few (next_small r k c.args.leaf next) (next_free r k c.args.leaf next) in
     let same : length (banned r.bans) ≡ length i.bans.items = length-pairs i.bans.items in
     let len : vec_len i.bans ≡ length i.bans.items = i.bans.ok.0 in
-    let capacity : 1024 ≤ vec_capacity i.bans = c.self.invariant.bans_room in
+    let capacity : MOST_LEAVES ≤ vec_capacity i.bans = c.self.invariant.bans_room in
     omega arith
 
 pub invariant_of-self : goal.invariant_of-self
@@ -49,5 +50,5 @@ invariant_of-self c =
       done_are = k.done_are;
       journal_room = k.journal_room;
       bans_room = let same : vec_capacity c.push_reserved.new.self ≡ vec_capacity i.bans = c.push_reserved.ensures.capacity in
-          let room : 1024 ≤ vec_capacity i.bans = k.bans_room in omega arith;
+          let room : MOST_LEAVES ≤ vec_capacity i.bans = k.bans_room in omega arith;
     }

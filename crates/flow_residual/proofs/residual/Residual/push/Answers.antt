@@ -1,5 +1,6 @@
 use Rattle.std.proofs.Common.{true≢false, ◌≡◌, ◌≤◌, ◌<◌, ℕ, List, length, sym, ◌∙◌, subst, arith}
 use Rattle.std.specs.Vec.{vec_len, vec_capacity, with_items}
+use Rattle.flow_model.specs.declared.limits.TheConstants.{MOST_LEAVES}
 use Rattle.flow_residual.specs.declared.track.Change.TheVariants.{Done}
 use Rattle.flow_residual.specs.Remaining.{Remaining, MayComeNext}
 use Rattle.flow_residual.specs.View.{remaining}
@@ -19,9 +20,9 @@ push_reserved-requires c =
     let k = c.self.invariant.kept in
     let r : Remaining = remaining i.plans.items i.journal.items i.bans.items in
     let next : MayComeNext r c.args.leaf = subst (λ (q : Remaining). MayComeNext q c.args.leaf) (sym c.self.view_is) c.requires in
-    let room : length i.journal.items < 1024 = room_left i.journal.items c.args.leaf k.done (next_small r k c.args.leaf next) (next_fresh r k c.args.leaf next) in
+    let room : length i.journal.items < MOST_LEAVES = room_left i.journal.items c.args.leaf k.done (next_small r k c.args.leaf next) (next_fresh r k c.args.leaf next) in
     let len : vec_len i.journal ≡ length i.journal.items = i.journal.ok.0 in
-    let capacity : 1024 ≤ vec_capacity i.journal = c.self.invariant.journal_room in
+    let capacity : MOST_LEAVES ≤ vec_capacity i.journal = c.self.invariant.journal_room in
     omega arith
 
 pub note-requires : goal.note-requires
@@ -29,7 +30,7 @@ note-requires c =
     let i = c.self.inside in
     let r : Remaining = remaining i.plans.items i.journal.items i.bans.items in
     let next : MayComeNext r c.args.leaf = subst (λ (q : Remaining). MayComeNext q c.args.leaf) (sym c.self.view_is) c.requires in
-    let small : c.args.leaf < 1024 = next_small r c.self.invariant.kept c.args.leaf next in
+    let small : c.args.leaf < MOST_LEAVES = next_small r c.self.invariant.kept c.args.leaf next in
     omega (arith, small, c.self.invariant.done_bound)
 
 pub invariant_of-self : goal.invariant_of-self
@@ -48,6 +49,6 @@ invariant_of-self c =
       done_bound = c.note.ensures.bound ∙ k.done_bound;
       done_are = done_push i.done c.note.new.self i.journal.items c.push_reserved.new.self.items c.args.leaf c.note.ensures.noted c.push_reserved.ensures.items k.done_are;
       journal_room = let same : vec_capacity c.push_reserved.new.self ≡ vec_capacity i.journal = c.push_reserved.ensures.capacity in
-          let room : 1024 ≤ vec_capacity i.journal = k.journal_room in omega arith;
+          let room : MOST_LEAVES ≤ vec_capacity i.journal = k.journal_room in omega arith;
       bans_room = k.bans_room;
     }

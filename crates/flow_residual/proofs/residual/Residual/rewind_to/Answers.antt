@@ -3,6 +3,7 @@ use Rattle.std.specs.List.{filter}
 use Rattle.std.specs.Vec.{vec_len, vec_capacity, with_items}
 use Rattle.std.proofs.lemmas.Fn.{filter_same}
 use Rattle.std.proofs.lemmas.List.{get_or_read}
+use Rattle.flow_model.specs.declared.limits.TheConstants.{MOST_LEAVES}
 use Rattle.flow_model.specs.Lists.{Each}
 use Rattle.flow_residual.specs.declared.ban.Ban.{Ban}
 use Rattle.flow_residual.specs.declared.track.Change.TheVariants.{Back}
@@ -23,12 +24,12 @@ push_reserved-requires c =
     let i = c.self.inside in
     let r : Remaining = remaining i.plans.items i.journal.items i.bans.items in
     let within : c.args.index < length i.journal.items = subst (λ (q : Remaining). c.args.index < length q.journal) (sym c.self.view_is) c.requires in
-    let room : length (banned r.bans) < 1024 = rewind_room r c.self.invariant.kept c.args.index within in
+    let room : length (banned r.bans) < MOST_LEAVES = rewind_room r c.self.invariant.kept c.args.index within in
     let same : length (banned r.bans) ≡ length i.bans.items = length-pairs i.bans.items in
     let len : vec_len i.bans ≡ length i.bans.items = i.bans.ok.0 in
     let fewer : vec_len c.retain.new.self ≤ vec_len i.bans = c.retain.ensures.bound in
     let capacity : vec_capacity c.retain.new.self ≡ vec_capacity i.bans = c.retain.ensures.capacity in
-    let enough : 1024 ≤ vec_capacity i.bans = c.self.invariant.bans_room in
+    let enough : MOST_LEAVES ≤ vec_capacity i.bans = c.self.invariant.bans_room in
     omega arith
 
 -- the bans that stay, and the one of the leaf that is taken back
@@ -62,10 +63,10 @@ invariant_of-self c =
       done_bound = c.progress_of-self-inside.ensures.bound;
       done_are = subst (AreDone c.progress_of-self-inside.result) c.deref-3.ensures.value c.progress_of-self-inside.ensures.same;
       journal_room = let same : vec_capacity c.truncate.new.self ≡ vec_capacity i.journal = c.truncate.ensures.capacity in
-          let room : 1024 ≤ vec_capacity i.journal = k.journal_room in omega arith;
+          let room : MOST_LEAVES ≤ vec_capacity i.journal = k.journal_room in omega arith;
       bans_room = let one : vec_capacity c.push_reserved.new.self ≡ vec_capacity c.retain.new.self = c.push_reserved.ensures.capacity in
           let two : vec_capacity c.retain.new.self ≡ vec_capacity i.bans = c.retain.ensures.capacity in
-          let room : 1024 ≤ vec_capacity i.bans = k.bans_room in omega arith;
+          let room : MOST_LEAVES ≤ vec_capacity i.bans = k.bans_room in omega arith;
     }
 
 pub returns : goal.returns
@@ -86,4 +87,4 @@ returns c =
 pub progress_of-self-inside-requires : goal.progress_of-self-inside-requires
 progress_of-self-inside-requires c =
     let i = c.self.inside in
-    subst (Each (λ n. n < 1024)) (sym (c.deref-3.ensures.value ∙ c.truncate.ensures.items)) (few_front i.journal.items c.args.index c.self.invariant.kept.done).small
+    subst (Each (λ n. n < MOST_LEAVES)) (sym (c.deref-3.ensures.value ∙ c.truncate.ensures.items)) (few_front i.journal.items c.args.index c.self.invariant.kept.done).small
