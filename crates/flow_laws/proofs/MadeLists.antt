@@ -58,14 +58,11 @@ slice_get-each_with_each f [] ys i j x y e k = cc
 slice_get-each_with_each f (z ∷ xs) ys zero j x y e k =
     let at : zero * length ys + j ≡ j = omega arith in
     let same : z ≡ x = cc in
-    ap (slice_get (map (f z) ys ++ each_with_each f xs ys)) at
-    ∙ slice_get_append_left (map (f z) ys) _ j (f x y)
-    (slice_get-map (f z) ys j ∙ (ap (option_map (f z)) k ∙ ap (λ w. Some (f w y)) same))
+    grind (arith, k, slice_get-map (f z) ys j, slice_get_append_left (map (f z) ys) (each_with_each f xs ys) j (f x y))
 slice_get-each_with_each f (z ∷ xs) ys (suc i) j x y e k =
     let at : suc i * length ys + j ≡ length (map (f z) ys) + (i * length ys + j) = omega (arith, length-map ys (f z)) in
-    ap (slice_get (map (f z) ys ++ each_with_each f xs ys)) at
-    ∙ (slice_get_append_right (map (f z) ys) _ (i * length ys + j)
-    ∙ slice_get-each_with_each f xs ys i j x y e k)
+    let fact = slice_get_append_right (map (f z) ys) (each_with_each f xs ys) (i * length ys + j) in
+    grind (arith, slice_get-each_with_each f xs ys i j x y e k)
 
 -- Joined
 

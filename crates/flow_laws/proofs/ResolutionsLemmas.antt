@@ -55,25 +55,19 @@ resolves_of (Isolated a) q m = grind (arith, of_map Isolated q (resolutions a) m
 pub mem-resolutions : (g q : Process) → Resolves g q → q ∈ resolutions g
 mem-resolutions Empty q e = inl e
 mem-resolutions (Task n) q e = inl e
-mem-resolutions (Sequence a b) q (x, y, hx, hy, e) = subst (λ s. s ∈ resolutions (Sequence a b)) (sym e)
-    (mem-each_with_each Sequence x y _ _ (mem-resolutions a x hx) (mem-resolutions b y hy))
-mem-resolutions (Parallel a b) q (x, y, hx, hy, e) = subst (λ s. s ∈ resolutions (Parallel a b)) (sym e)
-    (mem-each_with_each Parallel x y _ _ (mem-resolutions a x hx) (mem-resolutions b y hy))
-mem-resolutions (Choice a b) q (inl h) = mem_append_left q _ _ (mem-resolutions a q h)
-mem-resolutions (Choice a b) q (inr h) = mem_append_right q _ _ (mem-resolutions b q h)
-mem-resolutions (Isolated a) q (x, h, e) = subst (λ s. s ∈ resolutions (Isolated a)) (sym e) (mem-map Isolated x _ (mem-resolutions a x h))
+mem-resolutions (Sequence a b) q (x, y, hx, hy, e) = rw e (mem-each_with_each Sequence x y _ _ (mem-resolutions a x hx) (mem-resolutions b y hy))
+mem-resolutions (Parallel a b) q (x, y, hx, hy, e) = rw e (mem-each_with_each Parallel x y _ _ (mem-resolutions a x hx) (mem-resolutions b y hy))
+mem-resolutions (Choice a b) q h = mem_by_halves q (resolutions a) (resolutions b) (mem-resolutions a q) (mem-resolutions b q) h
+mem-resolutions (Isolated a) q (x, h, e) = rw e (mem-map Isolated x _ (mem-resolutions a x h))
 
 -- Their numbers
 
 pub length-resolutions : (g : Process) → length (resolutions g) ≡ resolution_count g
 length-resolutions Empty = refl
 length-resolutions (Task n) = refl
-length-resolutions (Sequence a b) =
-    length-each_with_each Sequence (resolutions a) (resolutions b) ∙ ap₂ ◌*◌ (length-resolutions a) (length-resolutions b)
-length-resolutions (Parallel a b) =
-    length-each_with_each Parallel (resolutions a) (resolutions b) ∙ ap₂ ◌*◌ (length-resolutions a) (length-resolutions b)
-length-resolutions (Choice a b) =
-    length-append (resolutions a) (resolutions b) ∙ ap₂ ◌+◌ (length-resolutions a) (length-resolutions b)
+length-resolutions (Sequence a b) = grind (arith, length-each_with_each Sequence (resolutions a) (resolutions b), length-resolutions a, length-resolutions b)
+length-resolutions (Parallel a b) = grind (arith, length-each_with_each Parallel (resolutions a) (resolutions b), length-resolutions a, length-resolutions b)
+length-resolutions (Choice a b) = grind (arith, length-append (resolutions a) (resolutions b), length-resolutions a, length-resolutions b)
 length-resolutions (Isolated a) = length-map (resolutions a) Isolated ∙ length-resolutions a
 
 -- the number of a resolution of two parts that both stay
@@ -119,14 +113,13 @@ halves_distinct a b x y hx hy in_a in_b d =
 pub distinct_leaves_of_resolution : (g q : Process) → Resolves g q → AreDistinct (leaves g) → AreDistinct (leaves q)
 distinct_leaves_of_resolution Empty q e d = subst (λ p. AreDistinct (leaves p)) (sym e) d
 distinct_leaves_of_resolution (Task n) q e d = subst (λ p. AreDistinct (leaves p)) (sym e) d
-distinct_leaves_of_resolution (Sequence a b) q (x, y, hx, hy, e) d = subst (λ p. AreDistinct (leaves p)) (sym e)
-    (halves_distinct a b x y hx hy (distinct_leaves_of_resolution a x hx) (distinct_leaves_of_resolution b y hy) d)
-distinct_leaves_of_resolution (Parallel a b) q (x, y, hx, hy, e) d = subst (λ p. AreDistinct (leaves p)) (sym e)
-    (halves_distinct a b x y hx hy (distinct_leaves_of_resolution a x hx) (distinct_leaves_of_resolution b y hy) d)
+distinct_leaves_of_resolution (Sequence a b) q (x, y, hx, hy, e) d =
+    rw e (halves_distinct a b x y hx hy (distinct_leaves_of_resolution a x hx) (distinct_leaves_of_resolution b y hy) d)
+distinct_leaves_of_resolution (Parallel a b) q (x, y, hx, hy, e) d =
+    rw e (halves_distinct a b x y hx hy (distinct_leaves_of_resolution a x hx) (distinct_leaves_of_resolution b y hy) d)
 distinct_leaves_of_resolution (Choice a b) q h d =
-    let (da, db, _) = distinct_parts (leaves a) (leaves b) d in
-    ⊎_elim (λ k. distinct_leaves_of_resolution a q k da) (λ k. distinct_leaves_of_resolution b q k db) h
-distinct_leaves_of_resolution (Isolated a) q (x, h, e) d = subst (λ p. AreDistinct (leaves p)) (sym e) (distinct_leaves_of_resolution a x h d)
+    grind (arith, h, distinct_parts (leaves a) (leaves b) d, distinct_leaves_of_resolution a q, distinct_leaves_of_resolution b q)
+distinct_leaves_of_resolution (Isolated a) q (x, h, e) d = rw e (distinct_leaves_of_resolution a x h d)
 
 -- Executions by their leaves
 

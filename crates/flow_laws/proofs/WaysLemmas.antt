@@ -1,6 +1,6 @@
 -- Constraints, their normal forms and their ways: of which leaves the pairs are, and what is decided by them.
 use Rattle.std.proofs.Common.{◌≡◌, ◌≢◌, ℕ, ◌⊎◌, Bool, true, false, ◌==◌, ◌||◌, if◌then◌else◌, List, [], ◌∷◌, ◌++◌, refl, sym, ap, ◌∙◌, subst, inl, inr, ⊎_elim, Option, Some, None, ◌↔◌, arith}
-use Rattle.std.proofs.lemmas.Bool.{eqb-true, eqb-false, eq-eqb}
+use Rattle.std.proofs.lemmas.Bool.{cases_Bool, eqb-true, eqb-false, eq-eqb}
 use Rattle.flow_model.specs.declared.labels.Label.{Label}
 use Rattle.flow_model.specs.Lists.{◌∈◌, Each, StandsBefore, AreDistinct, AreInOrder, each_with_each}
 use Rattle.flow_model.specs.Facts.{event_at, is_event, events_of}
@@ -9,6 +9,10 @@ use Rattle.flow_model.specs.Constraint.{Constraint, Always, Impossible, Must, Ne
 use Rattle.flow_model.specs.Decided.{decide_in, decide_before, decide_meets}
 use Rattle.flow_laws.proofs.Members.{mem-append, each-append, before_members, mem_append_left, mem_append_right, each_parts, not_both_ways, before_or_after, not_before_itself, each_from_members, each_member}
 use Rattle.flow_laws.proofs.MadeLists.{of_each_with_each, of_find, some_same, mem-each_with_each, not_found, mem-filter_map, of_filter_map, before-filter_map, of_before-filter_map, same_source}
+
+cases_option : (o : Option ℕ) → (o ≡ None) ⊎ ((x : ℕ) × (o ≡ Some x))
+cases_option None = inl refl
+cases_option (Some x) = inr (x, refl)
 
 -- The leaf of an event
 
@@ -40,31 +44,15 @@ each_way P leaf h always = (tt, tt)
 each_way P leaf h impossible = tt
 each_way P leaf h (must e) = elim (leaf e) as (λ o. Each (Each P) (ways_of_must o)) [ None ↦ tt | Some x ↦ (tt, tt) ]
 each_way P leaf h (never e) = elim (leaf e) as (λ o. Each (Each P) (ways_of_never o)) [ None ↦ (tt, tt) | Some x ↦ tt ]
-each_way P leaf h (before a b) = of_before (a == b) refl (leaf a) refl (leaf b) refl
-  where
-    of_before : (t : Bool) → (a == b) ≡ t → (o : Option ℕ) → leaf a ≡ o → (p : Option ℕ) → leaf b ≡ p →
-        Each (Each P) (if t then [] else ways_of_before o p)
-    of_before true i o j p k = tt
-    of_before false i None j p k = tt
-    of_before false i (Some x) j None k = tt
-    of_before false i (Some x) j (Some y) k = ((h a b x y (eqb-false a b i) j k, tt), tt)
-each_way P leaf h (not_before a b) = of_not_before (a == b) refl (leaf a) refl (leaf b) refl
-  where
-    of_not_before : (t : Bool) → (a == b) ≡ t → (o : Option ℕ) → leaf a ≡ o → (p : Option ℕ) → leaf b ≡ p →
-        Each (Each P) (if t then free_way else ways_of_not_before o p)
-    of_not_before true i o j p k = (tt, tt)
-    of_not_before false i None j p k = (tt, tt)
-    of_not_before false i (Some x) j None k = (tt, tt)
-    of_not_before false i (Some x) j (Some y) k = ((h b a y x (λ e. eqb-false a b i (sym e)) k j, tt), tt)
+each_way P leaf h (before a b) = grind (arith, h a b, eqb-false a b, cases_Bool (a == b), cases_option (leaf a), cases_option (leaf b))
+each_way P leaf h (not_before a b) = grind (arith, h b a, eqb-false a b, cases_Bool (a == b), cases_option (leaf a), cases_option (leaf b))
 each_way P leaf h (both x y) = each_from_members (Each P) (ways (both x y) leaf) (λ way m.
     let (v, (w, mv, mw, e)) = of_each_with_each (λ v w. v ++ w) way (ways x leaf) (ways y leaf) m in
     subst (Each P) (sym e) (each-append P v w
     (each_member (Each P) (ways x leaf) (each_way P leaf h x) v mv) (each_member (Each P) (ways y leaf) (each_way P leaf h y) w mw)))
 each_way P leaf h (either x y) =
-    elim (is_free (ways x leaf) || is_free (ways y leaf)) as (λ t. Each (Each P) (if t then free_way else ways x leaf ++ ways y leaf)) [
-      | true ↦ (tt, tt)
-      | false ↦ each-append (Each P) (ways x leaf) (ways y leaf) (each_way P leaf h x) (each_way P leaf h y)
-    ]
+    let fact = each-append (Each P) (ways x leaf) (ways y leaf) (each_way P leaf h x) (each_way P leaf h y) in
+    grind (arith, cases_Bool (is_free (ways x leaf) || is_free (ways y leaf)))
 
 pub each_pair : (P : ℕ × ℕ → Type 0) (leaf : ℕ → Option ℕ) →
     ((a b x y : ℕ) → a ≢ b → leaf a ≡ Some x → leaf b ≡ Some y → P (x, y)) →
