@@ -217,9 +217,7 @@ decide_sequence (Choice a b) x y = decide_either (decide_sequence a x y) (decide
 decide_sequence (Isolated a) x y = decide_sequence a x y
 
 decide_pair_eq : (x y : ℕ × ℕ) → Decided (x ≡ y)
-decide_pair_eq x y = ⊎_elim
-    (λ (p, r). inl (λ i. (p i, r i))) (λ n. inr (λ e. n (ap (λ (z : ℕ × ℕ). z.0) e, ap (λ (z : ℕ × ℕ). z.1) e)))
-    (decide_both (decide_eq x.0 y.0) (decide_eq x.1 y.1))
+decide_pair_eq (x, y) (u, v) = grind (arith, decide_eq x u, decide_eq y v)
 
 pub decide_direct : (q : Process) (pairs : List (ℕ × ℕ)) (x y : ℕ) → Decided (DirectlyBefore q pairs x y)
 decide_direct q pairs x y = decide_either (decide_sequence q x y) (decide_mem decide_pair_eq (x, y) pairs)

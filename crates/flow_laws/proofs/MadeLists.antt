@@ -1,6 +1,5 @@
 -- Lists made of others: mapped, joined, filtered, numbered, reordered.
 use Rattle.std.proofs.Common.{◌≡◌, ◌≢◌, ℕ, zero, suc, ◌+◌, ◌*◌, ◌<◌, ◌≤◌, ◌⊎◌, List, [], ◌∷◌, ◌++◌, map, length, refl, sym, ap, ◌∙◌, subst, inl, inr, ⊎_elim, append_assoc, append-nil, flat_map, arith, slice_get, Option, Some, None, option_map, zero-add, suc-add, zero-mul, length-append, Bool, true, find, filter_map, filter}
-use Rattle.std.specs.List.{cons_option}
 use Rattle.std.proofs.lemmas.Bool.{cases_Bool}
 use Rattle.std.proofs.lemmas.List.{length-map}
 use Rattle.std.proofs.lemmas.Option.{slice_get-map}
@@ -135,10 +134,6 @@ kept_first {A} {B} h z zs = step (h z) refl
     step None k = inl (rw k refl)
     step (Some w) k = inr (w, k, rw k refl)
 
-distinct_cons_option : {A : Type 0} (o : Option A) (ys : List A) → AreDistinct (cons_option o ys) → AreDistinct ys
-distinct_cons_option None ys d = d
-distinct_cons_option (Some x) ys d = d.1
-
 pub mem-filter_map : {A B : Type 0} (h : A → Option B) (x : A) (y : B) (xs : List A) → x ∈ xs → h x ≡ Some y → y ∈ filter_map h xs
 mem-filter_map h x y [] m k = absurd m
 mem-filter_map h x y (z ∷ zs) m k = grind (arith, m, k, kept_first h z zs, mem-filter_map h x y zs)
@@ -218,15 +213,13 @@ order_with_last (y ∷ order) x a b (front, back, e, h) = ⊎_elim
     (λ (m, p, q). (
       front,
       m ++ x ∷ b,
-      ap (λ w. w ++ x ∷ b) p ∙ append_assoc front (y ∷ m) (x ∷ b),
-      subst (IsOrderOf (order ++ x ∷ [])) (append_assoc front m (x ∷ b))
-          (order_with_last order x (front ++ m) b (subst (IsOrderOf order) (grind (arith, append_assoc front m b)) h)),
+      rw p (append_assoc front (y ∷ m) (x ∷ b)),
+      rw (← append_assoc front m (x ∷ b)) (order_with_last order x (front ++ m) b (rw (append_assoc front m b, ← q) h)),
     ))
     (λ (m, p, q). (
       a ++ x ∷ m,
       back,
-      grind (arith, append_assoc a (x ∷ m) (y ∷ back)),
-      subst (IsOrderOf (order ++ x ∷ [])) (sym (append_assoc a (x ∷ m) back))
-          (order_with_last order x a (m ++ back) (subst (IsOrderOf order) (grind (arith, append_assoc a m back)) h)),
+      rw (q, append_assoc a (x ∷ m) (y ∷ back)) refl,
+      rw (append_assoc a (x ∷ m) back) (order_with_last order x a (m ++ back) (rw (← append_assoc a m back, ← p) h)),
     ))
     (two_cuts a b front y back e)

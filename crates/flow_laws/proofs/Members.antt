@@ -91,8 +91,8 @@ pub first_member : {A : Type 0} (P : A → Type 0) → ((x : A) → Decided (P x
 first_member P d [] x m p = absurd m
 first_member P d (y ∷ list) x m p = elim (d y) [
   | inl q ↦ ([], y, list, refl, q, λ z h. absurd h)
-  | inr n ↦ (let (front, first, back, e, q, none) = first_member P d list x (⊎_elim (λ e. absurd (n (subst P e p))) (λ k. k) m) p in
-      (y ∷ front, first, back, ap (λ l. y ∷ l) e, q, λ z h. ⊎_elim (λ e r. n (subst P e r)) (none z) h))
+  | inr n ↦ (let (front, first, back, e, q, none) = first_member P d list x (grind (arith, m, n, p)) p in
+      (y ∷ front, first, back, ap (λ l. y ∷ l) e, q, λ z h. grind (arith, h, n, none z)))
 ]
 
 -- no member has P, or one of those that have it is the least of them
@@ -107,12 +107,12 @@ least_in P R d same on [] either = inl (λ x m. absurd m)
 least_in {A} P R d same on (y ∷ list) either = at (d y) (least_in P R d same on list (λ u v m n. either u v (inr m) (inr n)))
   where
     at : Decided (P y) → HasLeast P R list → HasLeast P R (y ∷ list)
-    at (inr n) (inl f) = inl (λ x m. ⊎_elim (λ e p. n (subst P e p)) (f x) m)
-    at (inr n) (inr (x, m, p, l)) = inr (x, inr m, p, λ z k q. ⊎_elim (λ e. absurd (n (subst P e q))) (λ i. l z i q) k)
-    at (inl p) (inl f) = inr (y, inl refl, p, λ z k q. ⊎_elim (λ e. subst (R y) (sym e) (same y)) (λ i. absurd (f z i q)) k)
+    at (inr n) (inl f) = inl (λ x. grind (arith, n, f x))
+    at (inr n) (inr (x, m, p, l)) = inr (x, inr m, p, λ z k q. grind (arith, n, k, q, l z))
+    at (inl p) (inl f) = inr (y, inl refl, p, λ z k q. grind (arith, k, q, f z, same y))
     at (inl p) (inr (x, m, q, l)) = ⊎_elim
-        (λ r. inr (y, inl refl, p, λ z k s. ⊎_elim (λ e. subst (R y) (sym e) (same y)) (λ i. on y x z r (l z i s)) k))
-        (λ r. inr (x, inr m, q, λ z k s. ⊎_elim (λ e. subst (R x) (sym e) r) (λ i. l z i s) k))
+        (λ r. inr (y, inl refl, p, λ z k s. grind (arith, k, s, r, l z, same y, on y x z)))
+        (λ r. inr (x, inr m, q, λ z k s. grind (arith, k, s, r, l z)))
         (either y x (inl refl) (inr m) p q)
 
 -- the last member of a list that has one
@@ -141,8 +141,7 @@ distinct_apart (y ∷ a) b d x h k = grind (arith, h, k, d.0, distinct_apart a b
 
 pub distinct-append : {A : Type 0} (a b : List A) → AreDistinct a → AreDistinct b → ((x : A) → x ∈ a → ¬ (x ∈ b)) → AreDistinct (a ++ b)
 distinct-append [] b d e f = e
-distinct-append (x ∷ a) b d e f =
-    (λ h. ⊎_elim d.0 (f x (inl refl)) (mem-append x a b h), distinct-append a b d.1 e (λ y k. f y (inr k)))
+distinct-append (x ∷ a) b d e f = grind (arith, d, e, f, mem-append x a b, distinct-append a b d.1 e)
 
 pub distinct_parts : {A : Type 0} (a b : List A) → AreDistinct (a ++ b) → AreDistinct a × AreDistinct b × ((x : A) → x ∈ a → ¬ (x ∈ b))
 distinct_parts a b d = (distinct_left a b d, distinct_right a b d, distinct_apart a b d)

@@ -1,5 +1,5 @@
 -- Options: what each has, and that their executions are the good traces.
-use Rattle.std.proofs.Common.{◌≢◌, ℕ, List, length, sym, subst, true, ◌↔◌, [], ◌∷◌}
+use Rattle.std.proofs.Common.{◌≢◌, ℕ, List, length, sym, subst, true, ◌↔◌, [], ◌∷◌, arith}
 use Rattle.flow_model.specs.declared.labels.Label.{Label}
 use Rattle.flow_model.specs.Lists.{◌∈◌, AreDistinct, Each}
 use Rattle.flow_model.specs.Process.{Process, leaves}
@@ -18,14 +18,11 @@ use Rattle.flow_laws.proofs.TraceLeaves.{leaf_of_trace, leaf_in_trace}
 pub option_parts : (w : Schema) (o : ChoiceOption) → o ∈ options w → (o.resolution ∈ resolutions w.goal) × (o.order ∈ ways_in w o.resolution)
 option_parts w o m =
     let (q, mq, mo) = of_flat_map (options_in w) o (resolutions w.goal) m in
-    let (way, mw, e) = of_map (λ (way : List (ℕ × ℕ)). let x : ChoiceOption = record { resolution = q; order = way } in x) o (ways_in w q) mo in
-    subst (λ (p : ChoiceOption). (p.resolution ∈ resolutions w.goal) × (p.order ∈ ways_in w p.resolution)) (sym e) (mq, mw)
+    let (way, mw, e) = of_map _ o (ways_in w q) mo in rw e (mq, mw)
 
 pub mem-options : (w : Schema) (q : Process) (way : List (ℕ × ℕ)) → q ∈ resolutions w.goal → way ∈ ways_in w q →
     record { resolution = q; order = way } ∈ options w
-mem-options w q way mq mw =
-    mem-flat_map (options_in w) q _ (resolutions w.goal) mq
-    (mem-map (λ (v : List (ℕ × ℕ)). let x : ChoiceOption = record { resolution = q; order = v } in x) way (ways_in w q) mw)
+mem-options w q way mq mw = mem-flat_map (options_in w) q _ (resolutions w.goal) mq (mem-map _ way (ways_in w q) mw)
 
 pub distinct_leaves : (w : Schema) → IsWellFormed w → AreDistinct (leaves w.goal)
 distinct_leaves w f = subst AreDistinct (sym f.numbered) (distinct-numbers_from 0 (length w.labels))

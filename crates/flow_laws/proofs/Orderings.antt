@@ -230,30 +230,29 @@ halve a b t d o =
 only_member : (n : ℕ) (t : List ℕ) → AreDistinct t → ((x : ℕ) → x ∈ t → x ∈ (n ∷ [])) → n ∈ t → t ≡ n ∷ []
 only_member n [] d f m = absurd m
 only_member n (y ∷ []) d f m = ap (λ z. z ∷ []) (only_one y n (f y (inl refl)))
-only_member n (y ∷ z ∷ t) d f m =
-    absurd (d.0 (inl (only_one y n (f y (inl refl)) ∙ sym (only_one z n (f z (inr (inl refl)))))))
+only_member n (y ∷ z ∷ t) d f m = grind (arith, f y, f z, d)
 
-blocks_of_ordering : (g : Process) (t : List ℕ) → IsChoiceFree g → AreDistinct (leaves g) → IsOrdering g t → Trace g t
-blocks_of_ordering Empty t f d o = ([], refl, no_members t o.leaf)
-blocks_of_ordering (Task n) t f d o = ((n ∷ []) ∷ [], refl, only_member n t o.distinct o.leaf (o.all n (inl refl)))
-blocks_of_ordering (Sequence a b) t (fa, fb) d o =
+pub trace_of_ordering : (t : List ℕ) (g : Process) → IsChoiceFree g → AreDistinct (leaves g) → IsOrdering g t → Trace g t
+trace_of_ordering t Empty f d o = ([], refl, no_members t o.leaf)
+trace_of_ordering t (Task n) f d o = ((n ∷ []) ∷ [], refl, only_member n t o.distinct o.leaf (o.all n (inl refl)))
+trace_of_ordering t (Sequence a b) (fa, fb) d o =
     let (u, v, s, in_a, in_b) = halve a b t d (ordering_beside a b t o) in
-    let (x, hx, ex) = blocks_of_ordering a u fa (distinct_left (leaves a) (leaves b) d) in_a in
-    let (y, hy, ey) = blocks_of_ordering b v fb (distinct_right (leaves a) (leaves b) d) in_b in
+    let (x, hx, ex) = trace_of_ordering u a fa (distinct_left (leaves a) (leaves b) d) in_a in
+    let (y, hy, ey) = trace_of_ordering v b fb (distinct_right (leaves a) (leaves b) d) in_b in
     let (more, e, r) = front_first u [] v t (subst (λ l. Shuffle l v t) (sym (append-nil u)) s)
     (λ m n i j k. not_both_ways m n t o.distinct (o.before m n (inl (inl (in_a.leaf m i, in_b.leaf n j)))) k) in
     (x ++ y, (x, y, hx, hy, refl), e ∙ (ap₂ ◌++◌ ex (shuffle_nothing r ∙ ey) ∙ sym (joined-append x y)))
-blocks_of_ordering (Parallel a b) t (fa, fb) d o =
+trace_of_ordering t (Parallel a b) (fa, fb) d o =
     let (u, v, s, in_a, in_b) = halve a b t d o in
     let off = distinct_apart (leaves a) (leaves b) d in
-    let (x, hx, ex) = blocks_of_ordering a u fa (distinct_left (leaves a) (leaves b) d) in_a in
-    let (y, hy, ey) = blocks_of_ordering b v fb (distinct_right (leaves a) (leaves b) d) in_b in
+    let (x, hx, ex) = trace_of_ordering u a fa (distinct_left (leaves a) (leaves b) d) in_a in
+    let (y, hy, ey) = trace_of_ordering v b fb (distinct_right (leaves a) (leaves b) d) in_b in
     let (c, r, e) = shuffle_blocks x y t (subst₂ (λ u v. Shuffle u v t) ex ey s)
     (half_unbroken a (Parallel a b) x (joined y) t fa hx (left_half a b) o (λ n m k. off n k (leaf_of_blocks b y hy n m)))
     (half_unbroken b (Parallel a b) y (joined x) t fb hy (right_half a b) o (λ n m k. off n (leaf_of_blocks a x hx n m) k)) in
     (c, (x, y, hx, hy, r), e)
-blocks_of_ordering (Choice a b) t f d o = absurd f
-blocks_of_ordering (Isolated a) t f d o =
+trace_of_ordering t (Choice a b) f d o = absurd f
+trace_of_ordering t (Isolated a) f d o =
     let inner : IsOrdering a t = record {
       leaf = o.leaf;
       all = o.all;
@@ -261,7 +260,4 @@ blocks_of_ordering (Isolated a) t f d o =
       before = o.before;
       together = λ part m. o.together part (inr m);
     } in
-    let (x, h, e) = blocks_of_ordering a t f d inner in (as_one x, (x, h, refl), e ∙ sym (joined-as_one x))
-
-pub trace_of_ordering : (t : List ℕ) (g : Process) → IsChoiceFree g → AreDistinct (leaves g) → IsOrdering g t → Trace g t
-trace_of_ordering t g = blocks_of_ordering g t
+    let (x, h, e) = trace_of_ordering t a f d inner in (as_one x, (x, h, refl), e ∙ sym (joined-as_one x))

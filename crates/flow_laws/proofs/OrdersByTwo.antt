@@ -134,7 +134,7 @@ orders_may_follow w f s o m list = (
 
 -- done, or the one leaf: done at the end of the journal
 pub done_or_one : (journal : List ℕ) (first : ℕ) → AreSame (DoneOr (λ n. n ∈ journal) (first ∷ [])) (λ n. n ∈ (journal ++ first ∷ []))
-done_or_one journal first n = (grind (arith, mem_append_left n journal (first ∷ []), mem_append_right n journal (first ∷ [])), mem-append n journal (first ∷ []))
+done_or_one journal first n = grind (arith, mem_append_left n journal (first ∷ []), mem_append_right n journal (first ∷ []), mem-append n journal (first ∷ []))
 
 pub orders_may_follow_one : OrdersMayFollowOne
 orders_may_follow_one w f s o m first list =

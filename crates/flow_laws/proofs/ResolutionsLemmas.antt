@@ -87,12 +87,12 @@ number_of_right a b x i e =
 -- Their leaves
 
 pub choice_free_resolution : (g q : Process) → Resolves g q → IsChoiceFree q
-choice_free_resolution Empty q e = subst IsChoiceFree (sym e) tt
-choice_free_resolution (Task n) q e = subst IsChoiceFree (sym e) tt
-choice_free_resolution (Sequence a b) q (x, y, hx, hy, e) = subst IsChoiceFree (sym e) (choice_free_resolution a x hx, choice_free_resolution b y hy)
-choice_free_resolution (Parallel a b) q (x, y, hx, hy, e) = subst IsChoiceFree (sym e) (choice_free_resolution a x hx, choice_free_resolution b y hy)
+choice_free_resolution Empty q e = rw e tt
+choice_free_resolution (Task n) q e = rw e tt
+choice_free_resolution (Sequence a b) q (x, y, hx, hy, e) = rw e (choice_free_resolution a x hx, choice_free_resolution b y hy)
+choice_free_resolution (Parallel a b) q (x, y, hx, hy, e) = rw e (choice_free_resolution a x hx, choice_free_resolution b y hy)
 choice_free_resolution (Choice a b) q h = ⊎_elim (choice_free_resolution a q) (choice_free_resolution b q) h
-choice_free_resolution (Isolated a) q (x, h, e) = subst IsChoiceFree (sym e) (choice_free_resolution a x h)
+choice_free_resolution (Isolated a) q (x, h, e) = rw e (choice_free_resolution a x h)
 
 pub mem-leaves_of_goal : (g q : Process) → Resolves g q → (n : ℕ) → n ∈ leaves q → n ∈ leaves g
 mem-leaves_of_goal Empty q e n m = subst (λ p. n ∈ leaves p) e m

@@ -1,5 +1,5 @@
 -- Each entry that may be made keeps the state sound.
-use Rattle.std.proofs.Common.{◌≡◌, ℕ, zero, suc, true, List, [], ◌∷◌, ◌++◌, is_some, MatchOption, slice_get, Option, Some, None, sym, true≢false, ◌+◌, ◌≤◌, false, not, ◌&&◌, nat_le, nat_lt, cond, IsTrue, map, length, take, drop, filter, slice_index, refl, ap, ◌∙◌, subst, append_assoc, length-append, take-append-drop, arith, le_refl}
+use Rattle.std.proofs.Common.{◌≡◌, ℕ, zero, suc, true, List, [], ◌∷◌, ◌++◌, is_some, MatchOption, slice_get, Option, Some, None, sym, true≢false, ◌+◌, ◌≤◌, false, not, ◌&&◌, nat_le, nat_lt, cond, IsTrue, map, length, take, drop, filter, slice_index, refl, ap, ◌∙◌, subst, append_assoc, length-append, take-append-drop, arith, le_refl, ◌⊎◌, inl, inr, ⊎_elim}
 use Rattle.std.proofs.lemmas.Bool.{eq-eqb, leb-true}
 use Rattle.std.proofs.lemmas.List.{length-take-le, length-map, map-append}
 use Rattle.std.proofs.lemmas.List.Elements.{filter-append}
@@ -34,28 +34,25 @@ abbrev pub event_if : Option Label → Option ℕ
 event_if None = None
 event_if (Some label) = event_in label
 
-pub holds_with_event : (s : State) (o : Option Label) → is_some (event_if o) ≡ true → MatchOption o (Unit {0}) (Holds s)
-holds_with_event s None h = tt
-holds_with_event s (Some (Event e)) h = tt
-holds_with_event s (Some (Test f)) h = absurd (true≢false (sym h))
-holds_with_event s (Some (Absent f)) h = absurd (true≢false (sym h))
-holds_with_event s (Some (Ins f)) h = tt
-holds_with_event s (Some (Del f)) h = tt
+-- a label that is an event's, or neither a test nor an absence, holds always
+holds_freely : (s : State) (label : Label) → NeverWaits label ⊎ (is_some (event_in label) ≡ true) → Holds s label
+holds_freely s (Event e) h = tt
+holds_freely s (Test f) h = ⊎_elim absurd (λ e. absurd (true≢false (sym e))) h
+holds_freely s (Absent f) h = ⊎_elim absurd (λ e. absurd (true≢false (sym e))) h
+holds_freely s (Ins f) h = tt
+holds_freely s (Del f) h = tt
 
 -- an event may be performed in every state
 pub event_holds : (w : Schema) (s : State) (n : ℕ) → IsEventLeaf w n → HoldsAt w.labels s n
-event_holds w s n h = holds_with_event s (slice_get w.labels n) h
-
-pub holds_that_never_waits : (s : State) (label : Label) → NeverWaits label → Holds s label
-holds_that_never_waits s (Event e) h = tt
-holds_that_never_waits s (Test f) h = absurd h
-holds_that_never_waits s (Absent f) h = absurd h
-holds_that_never_waits s (Ins f) h = tt
-holds_that_never_waits s (Del f) h = tt
+event_holds w s n h = holds (slice_get w.labels n) h
+  where
+    holds : (o : Option Label) → is_some (event_if o) ≡ true → MatchOption o (Unit {0}) (Holds s)
+    holds None h = tt
+    holds (Some label) h = holds_freely s label (inr h)
 
 pub always_holds : (labels : List Label) → Each NeverWaits labels → (s : State) (n : ℕ) → HoldsAt labels s n
 always_holds [] h s n = tt
-always_holds (label ∷ labels) (h, t) s zero = holds_that_never_waits s label h
+always_holds (label ∷ labels) (h, t) s zero = holds_freely s label (inl h)
 always_holds (label ∷ labels) (h, t) s (suc n) = always_holds labels t s n
 
 -- A good execution that goes on from the journal

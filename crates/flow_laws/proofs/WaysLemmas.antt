@@ -166,21 +166,24 @@ pair_is t x y to from = (
 
 must_by_way : {labels : List Label} {t ls : List ℕ} → AreItsLeaves labels t ls → (e : ℕ) (o : Option ℕ) →
     leaf_of_event labels ls e ≡ o → (e ∈ events_of labels t) ↔ HasWay (ways_of_must o) t
-must_by_way {t = t} l e None h = never_is t (event_is_not_there l e h)
-must_by_way {t = t} l e (Some x) h = always_is t (event_is_there l e x h)
+must_by_way {t = t} l e o h = grind (arith, h, cases_option o, event_is_not_there l e, event_is_there l e, free_has_way t)
 
 never_by_way : {labels : List Label} {t ls : List ℕ} → AreItsLeaves labels t ls → (e : ℕ) (o : Option ℕ) →
     leaf_of_event labels ls e ≡ o → (¬ (e ∈ events_of labels t)) ↔ HasWay (ways_of_never o) t
-never_by_way {t = t} l e None h = always_is t (event_is_not_there l e h)
-never_by_way {t = t} l e (Some x) h = never_is t (λ n. n (event_is_there l e x h))
+never_by_way {t = t} l e o h = grind (arith, h, cases_option o, event_is_not_there l e, event_is_there l e, free_has_way t)
 
 -- where one event is not there, or the two are one, they do not stand in order
 not_in_order : {labels : List Label} {t ls : List ℕ} → AreItsLeaves labels t ls → (a b : ℕ) →
     ((a == b) ≡ true) ⊎ ((leaf_of_event labels ls a ≡ None) ⊎ (leaf_of_event labels ls b ≡ None)) → ¬ (StandsBefore a b (events_of labels t))
-not_in_order {labels} {t} l a b (inl e) s =
-    not_before_itself b (events_of labels t) l.distinct (subst (λ x. StandsBefore x b (events_of labels t)) (eqb-true a b e) s)
-not_in_order {labels} {t} l a b (inr (inl i)) s = event_is_not_there l a i (before_members a b (events_of labels t) s).0
-not_in_order {labels} {t} l a b (inr (inr j)) s = event_is_not_there l b j (before_members a b (events_of labels t) s).1
+not_in_order {labels} {t} l a b h s = grind (
+  arith,
+  h,
+  eqb-true a b,
+  not_before_itself b (events_of labels t) l.distinct,
+  before_members a b (events_of labels t) s,
+  event_is_not_there l a,
+  event_is_not_there l b,
+)
 
 before_by_way : {labels : List Label} {t ls : List ℕ} → AreItsLeaves labels t ls → (a b : ℕ) →
     (same : Bool) → (a == b) ≡ same → (o : Option ℕ) → leaf_of_event labels ls a ≡ o → (p : Option ℕ) → leaf_of_event labels ls b ≡ p →
@@ -223,10 +226,8 @@ both_by_way t X Y vs ws (to_x, from_x) (to_y, from_y) = (
 pub either_by_way : (t : List ℕ) (X Y : Type 0) (vs ws : List (List (ℕ × ℕ))) → X ↔ HasWay vs t → Y ↔ HasWay ws t →
     (f g : Bool) → is_free vs ≡ f → is_free ws ≡ g →
     (X ⊎ Y) ↔ HasWay (if f || g then free_way else vs ++ ws) t
-either_by_way t X Y vs ws x y true g e i =
-    (λ h. free_has_way t, λ k. inl (x.1 (subst (λ u. HasWay u t) (sym (free_is vs e)) (free_has_way t))))
-either_by_way t X Y vs ws x y false true e i =
-    (λ h. free_has_way t, λ k. inr (y.1 (subst (λ u. HasWay u t) (sym (free_is ws i)) (free_has_way t))))
+either_by_way t X Y vs ws x y true g e i = grind (arith, x, e, free_is vs, free_has_way t)
+either_by_way t X Y vs ws x y false true e i = grind (arith, y, i, free_is ws, free_has_way t)
 either_by_way t X Y vs ws x y false false e i = (
   ⊎_elim (λ k. let (v, m, s) = x.0 k in (v, mem_append_left v vs ws m, s)) (λ k. let (v, m, s) = y.0 k in (v, mem_append_right v vs ws m, s)),
   λ (way, m, s). ⊎_elim (λ k. inl (x.1 (way, k, s))) (λ k. inr (y.1 (way, k, s))) (mem-append way vs ws m),
