@@ -31,7 +31,7 @@ do_both a b first second (x, hx, mx) (y, hy, my) =
     ((x ++ y, (x, y, hx, hy, refl), all), (x ++ y, (x, y, hx, hy, shuffle-append x y), all))
 
 do_isolated : (a : Process) (done : List ℕ) → MayDo a done → MayDo (Isolated a) done
-do_isolated a done (x, h, m) = (as_one x, (x, h, refl), each_to _ _ done (λ n k. subst (λ w. n ∈ w) (sym (joined-as_one x)) k) m)
+do_isolated a done (x, h, m) = (as_one x, (x, h, refl), rw (joined-as_one x) m)
 
 -- those of one half, the other being done with none of them
 one_in_halves : {P Q : Type 0} (a b : Process) (done : List ℕ) → (P → MayDo a done) → (Q → MayDo b done) → P ⊎ Q →
@@ -89,15 +89,12 @@ together_in_halves a b in_a in_b bs (x, y, hx, hy, s) m n i j d =
 
 pub are_together : (g : Process) (bs : List (List ℕ)) → Blocks g bs → (m n : ℕ) → m ∈ joined bs → n ∈ joined bs → m ≢ n →
     AreTogether g m n ⊎ AreTogether g n m
-are_together Empty bs h m n i j d = absurd (subst (λ w. m ∈ joined w) h i)
-are_together (Task k) bs h m n i j d =
-    absurd (d (only_one m k (subst (λ w. m ∈ joined w) h i) ∙ sym (only_one n k (subst (λ w. n ∈ joined w) h j))))
+are_together Empty bs h m n i j d = grind (arith, h, i)
+are_together (Task k) bs h m n i j d = grind (arith, h, i, j, d)
 are_together (Sequence a b) bs h m n i j d = together_in_halves a b (are_together a) (are_together b) bs (beside a b bs h) m n i j d
 are_together (Parallel a b) bs h m n i j d = together_in_halves a b (are_together a) (are_together b) bs h m n i j d
-are_together (Choice a b) bs (inl h) m n i j d = ⊎_elim (λ k. inl (inl k)) (λ k. inr (inl k)) (are_together a bs h m n i j d)
-are_together (Choice a b) bs (inr h) m n i j d = ⊎_elim (λ k. inl (inr k)) (λ k. inr (inr k)) (are_together b bs h m n i j d)
-are_together (Isolated a) bs (x, h, e) m n i j d = are_together a x h m n
-    (subst (λ w. m ∈ w) (ap joined e ∙ joined-as_one x) i) (subst (λ w. n ∈ w) (ap joined e ∙ joined-as_one x) j) d
+are_together (Choice a b) bs h m n i j d = grind (arith, h, i, j, d, are_together a bs, are_together b bs)
+are_together (Isolated a) bs (x, h, e) m n i j d = grind (arith, e, joined-as_one x, i, j, are_together a x h m n, d)
 
 -- The law
 

@@ -45,22 +45,15 @@ option_is_ordered w f o m =
 
 pub constraint_by_ways : (c : Constraint) (labels : List Label) (t ls : List ℕ) → AreItsLeaves labels t ls →
     Meets c (events_of labels t) ↔ HasWay (ways_of c labels ls) t
-constraint_by_ways c labels t ls l =
-    let (to, from) = (normal_form_is c (events_of labels t)).0 in
-    let (there, back) = ways_decide l (normal_form c true) in
-    (λ h. there (to h), λ k. from (back k))
+constraint_by_ways c labels t ls l = grind (arith, normal_form_is c (events_of labels t), ways_decide l (normal_form c true))
 
 pub conjoined_is : (c : Constraint) (ds : List Constraint) (events : List ℕ) →
     Meets (conjoined c ds) events ↔ (Meets c events × Each (λ d. Meets d events) ds)
-conjoined_is c [] events = (λ h. (h, tt), λ h. h.0)
-conjoined_is c (d ∷ ds) events =
-    let (to, from) = conjoined_is (And c d) ds events in
-    (λ h. let ((k, l), m) = to h in (k, (l, m)), λ (k, (l, m)). from ((k, l), m))
+conjoined_is c [] events = grind arith
+conjoined_is c (d ∷ ds) events = grind (arith, conjoined_is (And c d) ds events)
 
 pub all_of_is : (ds : List Constraint) (events : List ℕ) → Meets (all_of ds) events ↔ Each (λ d. Meets d events) ds
-all_of_is ds events =
-    let (to, from) = conjoined_is Always ds events in
-    (λ h. (to h).1, λ h. from (tt, h))
+all_of_is ds events = grind (arith, conjoined_is Always ds events)
 
 -- an execution of a resolution has its leaves, and no event twice
 has_its_leaves : (w : Schema) → IsWellFormed w → (q : Process) → q ∈ resolutions w.goal → (t : List ℕ) → Trace q t → AreItsLeaves w.labels t (leaves q)

@@ -26,19 +26,15 @@ abbrev pub KeepsSequence : Process → Type 0
 KeepsSequence g = (bs : List (List ℕ)) → Blocks g bs → (x y : ℕ) → InSequence g x y → StandsBefore x y (joined bs)
 
 halves_keep : (a b : Process) → KeepsSequence a → KeepsSequence b → KeepsSequence (Parallel a b)
-halves_keep a b in_a in_b bs (u, v, ha, hb, s) x y (inl k) = before_in_shuffle (shuffle-joined s) x y (in_a u ha x y k)
-halves_keep a b in_a in_b bs (u, v, ha, hb, s) x y (inr k) = before_in_shuffle (shuffle_swap (shuffle-joined s)) x y (in_b v hb x y k)
+halves_keep a b in_a in_b bs (u, v, ha, hb, s) x y k =
+    ⊎_elim (λ i. before_in_shuffle (shuffle-joined s) x y (in_a u ha x y i)) (λ i. before_in_shuffle (shuffle_swap (shuffle-joined s)) x y (in_b v hb x y i)) k
 
 pub before_in_blocks : (g : Process) → IsChoiceFree g → KeepsSequence g
 before_in_blocks Empty f bs h x y k = absurd k
 before_in_blocks (Task n) f bs h x y k = absurd k
-before_in_blocks (Sequence a b) (fa, fb) bs (u, v, ha, hb, e) x y (inl (inl k)) =
-    subst (StandsBefore x y) (sym (ap joined e ∙ joined-append u v))
-    (before_across x y (joined u) (joined v) (leaf_in_blocks a fa u ha x k.0) (leaf_in_blocks b fb v hb y k.1))
-before_in_blocks (Sequence a b) (fa, fb) bs h x y (inl (inr k)) =
-    halves_keep a b (before_in_blocks a fa) (before_in_blocks b fb) bs (beside a b bs h) x y (inl k)
-before_in_blocks (Sequence a b) (fa, fb) bs h x y (inr k) =
-    halves_keep a b (before_in_blocks a fa) (before_in_blocks b fb) bs (beside a b bs h) x y (inr k)
+before_in_blocks (Sequence a b) (fa, fb) bs (u, v, ha, hb, e) x y k =
+    let fact = λ (i : x ∈ leaves a) (j : y ∈ leaves b). before_across x y (joined u) (joined v) (leaf_in_blocks a fa u ha x i) (leaf_in_blocks b fb v hb y j) in
+    grind (arith, k, e, joined-append u v, halves_keep a b (before_in_blocks a fa) (before_in_blocks b fb) bs (beside a b bs (u, v, ha, hb, e)) x y)
 before_in_blocks (Parallel a b) (fa, fb) bs h x y k = halves_keep a b (before_in_blocks a fa) (before_in_blocks b fb) bs h x y k
 before_in_blocks (Choice a b) f bs h x y k = absurd f
 before_in_blocks (Isolated a) f bs (u, h, e) x y k =

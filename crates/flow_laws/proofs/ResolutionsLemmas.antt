@@ -38,8 +38,7 @@ blocks_of_goal (Sequence a b) q bs (p, r, hp, hr, e) h =
     let (x, y, hx, hy, k) = subst (λ s. Blocks s bs) e h in (x, y, blocks_of_goal a p x hp hx, blocks_of_goal b r y hr hy, k)
 blocks_of_goal (Parallel a b) q bs (p, r, hp, hr, e) h =
     let (x, y, hx, hy, k) = subst (λ s. Blocks s bs) e h in (x, y, blocks_of_goal a p x hp hx, blocks_of_goal b r y hr hy, k)
-blocks_of_goal (Choice a b) q bs (inl k) h = inl (blocks_of_goal a q bs k h)
-blocks_of_goal (Choice a b) q bs (inr k) h = inr (blocks_of_goal b q bs k h)
+blocks_of_goal (Choice a b) q bs k h = grind (arith, k, blocks_of_goal a q bs, blocks_of_goal b q bs, h)
 blocks_of_goal (Isolated a) q bs (p, r, e) h = let (x, hx, k) = subst (λ s. Blocks s bs) e h in (x, blocks_of_goal a p x r hx, k)
 
 -- Which they are

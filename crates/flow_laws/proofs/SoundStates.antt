@@ -174,14 +174,9 @@ kept_took w s h claim leaf e (event, unclaimed, (o, m, follow)) =
     let count : suc (length s.claims) ≡ length (s.claims ++ new ∷ []) = omega (arith, length-append s.claims (new ∷ [])) in
     let next : claim ≡ 1 + length s.claims = omega arith in
     let now : current_leaves (next_state w s (Took claim leaf)) ≡ current_leaves s ++ leaf ∷ [] =
-    ap (map leaf_of) (filter-append (is_of s.epoch) s.claims (new ∷ []))
-    ∙ (map-append leaf_of (filter (is_of s.epoch) s.claims) (filter (is_of s.epoch) (new ∷ []))
-    ∙ ap (λ b. current_leaves s ++ map leaf_of (cond b (new ∷ []) [])) (eq-eqb s.epoch s.epoch refl)) in
+    rw (filter-append (is_of s.epoch) s.claims (new ∷ []), map-append leaf_of (filter (is_of s.epoch) s.claims), eq-eqb s.epoch s.epoch refl) refl in
     let claims : AreSoundClaims w s.epoch (s.claims ++ new ∷ []) = record {
-      numbered = map-append number_of s.claims (new ∷ [])
-          ∙ (ap (λ w. w ++ claim ∷ []) h.numbered
-          ∙ (ap (λ n. numbers_from 1 (length s.claims) ++ n ∷ []) next
-          ∙ (sym (numbers_from_more 1 (length s.claims)) ∙ ap (numbers_from 1) count)));
+      numbered = rw (map-append number_of s.claims (new ∷ []), h.numbered, ← count, numbers_from_more 1 (length s.claims), ← next) refl;
       on_events = each-append _ s.claims (new ∷ []) h.on_events (event, tt);
       epochs = each-append _ s.claims (new ∷ []) h.epochs (le_refl s.epoch, tt);
     } in
