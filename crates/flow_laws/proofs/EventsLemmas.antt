@@ -83,9 +83,8 @@ AreAllTogether g = (bs : List (List ℕ)) → Blocks g bs → (m n : ℕ) → m 
 together_in_halves : (a b : Process) → AreAllTogether a → AreAllTogether b → AreAllTogether (Parallel a b)
 together_in_halves a b in_a in_b bs (x, y, hx, hy, s) m n i j d =
     let fact = of_shuffle (shuffle-joined s) m i in let other_fact = of_shuffle (shuffle-joined s) n j in
-    let third_fact = λ (k : m ∈ joined x) (l : n ∈ joined x). in_a x hx m n k l d in
-    let fourth_fact = λ (k : m ∈ joined y) (l : n ∈ joined y). in_b y hy m n k l d in
-    grind (arith, leaf_of_blocks a x hx m, leaf_of_blocks a x hx n, leaf_of_blocks b y hy m, leaf_of_blocks b y hy n)
+    let third_fact = leaf_of_blocks b y hy m in let fourth_fact = leaf_of_blocks b y hy n in
+    grind (arith, in_a x hx m n, in_b y hy m n, d, leaf_of_blocks a x hx m, leaf_of_blocks a x hx n)
 
 pub are_together : (g : Process) (bs : List (List ℕ)) → Blocks g bs → (m n : ℕ) → m ∈ joined bs → n ∈ joined bs → m ≢ n →
     AreTogether g m n ⊎ AreTogether g n m
@@ -102,8 +101,7 @@ pub events_apart : (w : Schema) → IsNumbered w.goal (length w.labels) → HasU
     (x y e : ℕ) → AreTogether w.goal x y → event_at w.labels x ≡ Some e → event_at w.labels y ≢ Some e
 events_apart w numbered unique x y e h i j =
     let (bs, b, mx, my) = blocks_with_both w.goal x y h in
-    let d : AreDistinct (leaves w.goal) = subst AreDistinct (sym numbered) (distinct-numbers_from 0 (length w.labels)) in
-    together_differ w.goal d x y h
+    together_differ w.goal (subst AreDistinct (sym numbered) (distinct-numbers_from 0 (length w.labels))) x y h
     (same_source (event_at w.labels) (joined bs) (unique (joined bs) (bs, b, refl)) x y e mx my i j)
 
 pub unique_events : (w : Schema) → IsNumbered w.goal (length w.labels) →

@@ -180,15 +180,12 @@ distinct-filter_map h (z ∷ t) (new, d) apart =
 pub begins_front : {A : Type 0} (t front more : List A) → Begins t (front ++ more) → Begins t front
 begins_front t front more (rest, e) = (more ++ rest, e ∙ append_assoc front more rest)
 
-pub begins_and_nothing : {A : Type 0} (t front : List A) → Begins t front → Begins t (front ++ [])
-begins_and_nothing t front (rest, e) = (rest, e ∙ ap (λ w. w ++ rest) (sym (append-nil front)))
-
 pub same_order : {A : Type 0} (xs : List A) → IsOrderOf xs xs
 same_order [] = refl
 same_order (x ∷ xs) = ([], xs, refl, same_order xs)
 
 pub order_of_one : {A : Type 0} (order : List A) (x : A) → IsOrderOf order (x ∷ []) → order ≡ x ∷ []
-order_of_one [] x h = absurd (not_empty [] x [] (sym h))
+order_of_one [] x h = cc
 order_of_one (y ∷ order) x ([], back, e, h) = grind (arith, e, order_of_none order, h)
 order_of_one (y ∷ order) x (z ∷ front, back, e, h) = absurd (not_empty front y back (cons_same x z [] (front ++ y ∷ back) e).1)
 

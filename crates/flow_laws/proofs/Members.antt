@@ -58,12 +58,9 @@ LeavingOut {A} P list = (front : List A) (x : A) (back : List A) → list ≡ fr
 pub by_leaving_out : {A : Type 0} (P : List A → Type 0) → ((list : List A) → LeavingOut P list → P list) → (list : List A) → P list
 by_leaving_out {A} P step list = down (length list) list refl
   where
-    shorter : (k : ℕ) (l front : List A) (x : A) (back : List A) → length l ≡ k → l ≡ front ++ x ∷ back → suc (length (front ++ back)) ≡ k
-    shorter k l front x back e f = omega (arith, ap length f, length-append front (x ∷ back), length-append front back)
-
     down : (k : ℕ) (l : List A) → length l ≡ k → P l
-    down zero l e = step l (λ front x back f. absurd (omega (arith, shorter zero l front x back e f)))
-    down (suc k) l e = step l (λ front x back f. down k (front ++ back) (omega (arith, shorter (suc k) l front x back e f)))
+    down zero l e = step l (λ front x back f. absurd (omega (arith, e, ap length f, length-append front (x ∷ back))))
+    down (suc k) l e = step l (λ front x back f. down k (front ++ back) (omega (arith, e, ap length f, length-append front (x ∷ back), length-append front back)))
 
 -- what each member has
 

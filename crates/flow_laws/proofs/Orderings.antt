@@ -46,11 +46,9 @@ HasPiece piece list = (front back : List ℕ) × (list ≡ front ++ (piece ++ ba
 
 piece_of_joined : (bs : List (List ℕ)) (block piece : List ℕ) → block ∈ bs → HasPiece piece block → HasPiece piece (joined bs)
 piece_of_joined [] block piece m h = absurd m
-piece_of_joined (b ∷ bs) block piece (inl e) (front, back, h) =
-    (front, back ++ joined bs, ap (λ l. l ++ joined bs) (sym e ∙ h) ∙ simp append_assoc)
+piece_of_joined (b ∷ bs) block piece (inl e) (front, back, h) = (front, back ++ joined bs, rw (← e, h) (simp append_assoc))
 piece_of_joined (b ∷ bs) block piece (inr m) h =
-    let (front, back, k) = piece_of_joined bs block piece m h in
-    (b ++ front, back, ap (λ l. b ++ l) k ∙ sym (append_assoc b front (piece ++ back)))
+    let (front, back, k) = piece_of_joined bs block piece m h in (b ++ front, back, rw k (simp append_assoc))
 
 -- some block has the leaves of the part as a piece
 abbrev StandsIn : Process → List (List ℕ) → Type 0

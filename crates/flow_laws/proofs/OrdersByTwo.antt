@@ -36,10 +36,8 @@ each_two_order R (y ∷ order) list o h =
     )
 
 pub each_two_at : {A : Type 0} (R : A → A → Type 0) (front : List A) (n : A) (back : List A) → EachTwo R (front ++ n ∷ back) → (x : A) → x ∈ front → R x n
-each_two_at R [] n back h x m = absurd m
-each_two_at R (y ∷ front) n back h x m =
-    let k = (each_member (λ z. R y z × R z y) (front ++ n ∷ back) h.0 n (mem_here n front back)).0 in
-    ⊎_elim (λ e. subst (λ z. R z n) (sym e) k) (each_two_at R front n back h.1 x) m
+each_two_at R front n back h x m =
+    (each_member (λ z. R n z × R z n) (front ++ back) (each_two_out R front n back h).0 x (mem_append_left x front back m)).1
 
 -- ready leaves
 

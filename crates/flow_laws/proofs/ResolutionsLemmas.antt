@@ -131,8 +131,7 @@ no_common_leaf : (p q : Process) (bs : List (List ℕ)) → ((n : ℕ) → n ∈
 no_common_leaf p q bs apart h just =
     let none : (n : ℕ) → ¬ (n ∈ joined bs) = λ n m. apart n m ((just n).0 m) in
     let (cs, k) = some_blocks q in
-    let empty : cs ≡ [] = blocks_of_none q cs k (λ n m. none n ((just n).1 (leaf_of_blocks q cs k n m))) in
-    subst (Blocks q) (empty ∙ sym (blocks_of_none p bs h none)) k
+    rw (blocks_of_none p bs h none) (subst (Blocks q) (blocks_of_none q cs k (λ n m. none n ((just n).1 (leaf_of_blocks q cs k n m)))) k)
 
 -- of two halves the blocks hold just the leaves of their own resolutions
 halves_have : (a b u v : Process) (x y bs : List (List ℕ)) → AreDistinct (leaves (Parallel a b)) → Resolves a u → Resolves b v → Blocks a x → Blocks b y →

@@ -101,15 +101,10 @@ take_block : {A : Type 0} (x : A) (block : List A) (a b : List (List A)) (rest :
 take_block {A} x block a b rest s h k left =
     let (more, e, r) = front_first block (joined a) (joined b) rest s
     (λ u v m l i. h (x ∷ block) (inl refl) x v u (inl refl) l (inr m) (inl (refl, mem_shuffle_right s v l)) (inr i)) in
-    done more e (left more r
-    (λ part m u v w l n o i j. h part (inr m) u v w l n o (back more e u v i) (back more e v w j))
-    (λ part m u v w l n o i j. k part m u v w l (mem_append_right v (x ∷ block) (joined a) n) o (back more e u v i) (back more e v w j)))
-  where
-    back : (more : List A) → rest ≡ block ++ more → (u v : A) → StandsBefore u v more → StandsBefore u v (x ∷ rest)
-    back more e u v i = inr (subst (StandsBefore u v) (sym e) (before_right u v block more i))
-
-    done : (more : List A) → rest ≡ block ++ more → BlocksShuffle a b more → BlocksShuffle ((x ∷ block) ∷ a) b (x ∷ rest)
-    done more e (c, s, f) = ((x ∷ block) ∷ c, from_left s, ap (λ l. x ∷ l) (e ∙ ap (λ l. block ++ l) f))
+    let back = λ (u v : A) (i : StandsBefore u v more). subst (StandsBefore u v) (sym e) (before_right u v block more i) in
+    let (c, j, f) = left more r (λ part m u v w l n o i j. h part (inr m) u v w l n o (inr (back u v i)) (inr (back v w j)))
+    (λ part m u v w l n o i j. k part m u v w l (mem_append_right v (x ∷ block) (joined a) n) o (inr (back u v i)) (inr (back v w j))) in
+    ((x ∷ block) ∷ c, from_left j, ap (λ l. x ∷ l) (e ∙ ap (λ l. block ++ l) f))
 
 -- where the members of blocks interleave and break no block, so do the blocks
 pub shuffle_blocks : {A : Type 0} (a b : List (List A)) (list : List A) → Shuffle (joined a) (joined b) list →

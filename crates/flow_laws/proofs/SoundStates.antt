@@ -1,5 +1,5 @@
 -- Each entry that may be made keeps the state sound.
-use Rattle.std.proofs.Common.{◌≡◌, ℕ, zero, suc, true, List, [], ◌∷◌, ◌++◌, is_some, MatchOption, slice_get, Option, Some, None, sym, true≢false, ◌+◌, ◌≤◌, false, not, ◌&&◌, nat_le, nat_lt, cond, IsTrue, map, length, take, drop, filter, slice_index, refl, ap, ◌∙◌, subst, append_assoc, length-append, take-append-drop, arith, le_refl, ◌⊎◌, inl, inr, ⊎_elim}
+use Rattle.std.proofs.Common.{◌≡◌, ℕ, zero, suc, true, List, [], ◌∷◌, ◌++◌, is_some, MatchOption, slice_get, Option, Some, None, sym, true≢false, ◌+◌, ◌≤◌, false, not, ◌&&◌, nat_le, nat_lt, cond, IsTrue, map, length, take, drop, filter, slice_index, refl, ap, ◌∙◌, subst, append_assoc, length-append, take-append-drop, arith, le_refl, append-nil, ◌⊎◌, inl, inr, ⊎_elim}
 use Rattle.std.proofs.lemmas.Bool.{eq-eqb, leb-true}
 use Rattle.std.proofs.lemmas.List.{length-take-le, length-map, map-append}
 use Rattle.std.proofs.lemmas.List.Elements.{filter-append}
@@ -17,7 +17,7 @@ use Rattle.flow_model.specs.Run.{Claim, RunState, first_state, current_leaves, i
 use Rattle.flow_laws.specs.Histories.{NeverWaits, IsSound}
 use Rattle.flow_laws.specs.WellFormed.{IsWellFormed, IsConsistent}
 use Rattle.flow_laws.proofs.Members.{each-append, each_to, each_member}
-use Rattle.flow_laws.proofs.MadeLists.{distinct-numbers_from, begins_front, begins_and_nothing, each-filter, order_of_none, order_with_last, numbers_from_more}
+use Rattle.flow_laws.proofs.MadeLists.{distinct-numbers_from, begins_front, each-filter, order_of_none, order_with_last, numbers_from_more}
 use Rattle.flow_laws.proofs.OptionsLemmas.{option_of_good}
 use Rattle.flow_laws.proofs.ClaimLemmas.{number_of, leaf_of, is_of, answer_keeps, numbers-answer, taken_out, none_taken_out, leaf_of_claim_is, some_claim, lapsed_is_not_current, claim_in, spare_keeps, numbers-spare, spared_are_current, spared_may_follow}
 
@@ -67,8 +67,7 @@ free_may_follow w f s t these free begins =
 -- where none is to follow, one free execution will do
 none_may_follow : (w : Schema) → IsWellFormed w → (s : RunState) (t : List ℕ) → IsFree w s t → MayAllFollow w s []
 none_may_follow w f s t free =
-    let (o, m, follows) = free_may_follow w f s t [] free (begins_and_nothing t s.journal free.1) in
-    (o, m, λ order p. follows order (order_of_none order p))
+    let (o, m, follows) = free_may_follow w f s t [] free (rw append-nil free.1) in (o, m, λ order p. follows order (order_of_none order p))
 
 -- the claims of a sound state
 record AreSoundClaims (w : Schema) (epoch : ℕ) (claims : List Claim) : Type 0 where
@@ -134,10 +133,7 @@ event_of_taken w s h number taken =
 
 pub longer_bans : (journal : List ℕ) (leaf : ℕ) (bans : List (ℕ × ℕ)) → Each (λ ban. ban.0 ≤ length journal) bans →
     Each (λ ban. ban.0 ≤ length (journal ++ leaf ∷ [])) bans
-longer_bans journal leaf bans h = each_to _ _ bans (λ ban k. longer ban.0 k) h
-  where
-    longer : (n : ℕ) → n ≤ length journal → n ≤ length (journal ++ leaf ∷ [])
-    longer n k = omega (arith, length-append journal (leaf ∷ []))
+longer_bans journal leaf bans h = each_to (λ (ban : ℕ × ℕ). ban.0 ≤ length journal) _ bans (λ ban k. omega (arith, k, length-append journal (leaf ∷ []))) h
 
 pub follow_after : (w : Schema) (s : RunState) (o : ChoiceOption) (leaf : ℕ) (claims : List Claim) (more : List ℕ) →
     MayFollow w s o (leaf ∷ more) → MayFollow w (record s { journal = s.journal ++ leaf ∷ []; claims = claims }) o more
@@ -154,13 +150,12 @@ kept_new_epoch : (w : Schema) → IsWellFormed w → (s : RunState) → Runs w.l
 kept_new_epoch w f s runs bans h t free =
     let numbers = numbers-spare w s [] s.claims in
     let count : length s.claims ≡ length (spare w s [] s.claims) =
-    sym (length-map s.claims number_of) ∙ (sym (ap length numbers) ∙ length-map (spare w s [] s.claims) number_of) in
-    let later : (a : ℕ) → a ≤ s.epoch → a ≤ s.epoch + 1 = λ a k. omega arith in
+    omega (arith, ap length numbers, length-map s.claims number_of, length-map (spare w s [] s.claims) number_of) in
     let claims : AreSoundClaims w (s.epoch + 1) (spare w s [] s.claims) = record {
       numbered = numbers ∙ (h.numbered ∙ ap (numbers_from 1) count);
       on_events = spare_keeps (λ (claim : Claim). IsEventLeaf w claim.leaf) w s (λ claim k. k) [] s.claims h.on_events;
       epochs = spare_keeps (λ (claim : Claim). claim.epoch ≤ s.epoch + 1) w s (λ claim k. le_refl (s.epoch + 1)) [] s.claims
-          (each_to _ _ s.claims (λ (claim : Claim) k. later claim.epoch k) h.epochs);
+          (each_to (λ (claim : Claim). claim.epoch ≤ s.epoch) _ s.claims (λ claim k. omega arith) h.epochs);
     } in
     sound_with w (with_new_epoch w s) runs bans claims
     (subst (MayAllFollow w s) (sym (spared_are_current w s [] s.claims h.epochs)) (spared_may_follow w s [] s.claims (none_may_follow w f s t free)))
@@ -187,14 +182,11 @@ kept_done w s h claim current =
     let leaf = leaf_of_claim s claim in
     let taken = taken_of_current w s h claim current in
     let (o, m, follow) = h.extends in
+    let next = λ (order : List ℕ) (p : IsOrderOf order (current_leaves (next_state w s (Done claim)))).
+    follow_after w s o leaf (answer claim s.claims) order (follow (leaf ∷ order) (taken.front, taken.back, taken.whole, subst (IsOrderOf order) taken.left p)) in
     sound_with w (next_state w s (Done claim))
     (runs-append w.labels (start_of w) s.journal (leaf ∷ []) h.runs (event_holds w (database w s) leaf (event_of_taken w s h claim taken), tt))
-    (longer_bans s.journal leaf s.bans h.bans) (answered_claims w s.epoch s.claims (sound_claims w s h) claim) (
-      o,
-      m,
-      λ order p. follow_after w s o leaf (answer claim s.claims) order
-          (follow (leaf ∷ order) (taken.front, taken.back, taken.whole, subst (IsOrderOf order) taken.left p)),
-    )
+    (longer_bans s.journal leaf s.bans h.bans) (answered_claims w s.epoch s.claims (sound_claims w s h) claim) (o, m, next)
 
 pub kept_failed : (w : Schema) (s : RunState) → IsSound w s → (claim : ℕ) → IsCurrent s claim → IsSound w (next_state w s (Failed claim Kept))
 kept_failed w s h claim current =

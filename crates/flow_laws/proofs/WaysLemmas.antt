@@ -199,9 +199,9 @@ not_before_by_way : {labels : List Label} {t ls : List ℕ} → AreItsLeaves lab
 not_before_by_way {t = t} l a b true e o i p j = always_is t (not_in_order l a b (inl e))
 not_before_by_way {t = t} l a b false e None i p j = always_is t (not_in_order l a b (inr (inl i)))
 not_before_by_way {t = t} l a b false e (Some x) i None j = always_is t (not_in_order l a b (inr (inr j)))
-not_before_by_way {labels} {t} {ls} l a b false e (Some x) i (Some y) j = pair_is t y x
-    (λ n. ⊎_elim (λ s. absurd (n (before_events l a b x y i j s))) (λ s. s)
-    (before_or_after x y t (leaf_is_there l a x i).0 (leaf_is_there l b y j).0 (λ same. eqb-false a b e (same_event labels ls a b x y i j same))))
+not_before_by_way {labels} {t} {ls} l a b false e (Some x) i (Some y) j =
+    let other : x ≢ y = λ same. eqb-false a b e (same_event labels ls a b x y i j same) in
+    pair_is t y x (λ n. grind (arith, n, before_events l a b x y i j, before_or_after x y t (leaf_is_there l a x i).0 (leaf_is_there l b y j).0 other))
     (λ s r. not_both_ways a b (events_of labels t) l.distinct r (before_events l b a y x j i s))
 
 -- The joined forms
