@@ -145,10 +145,9 @@ pub spared_are_current : (w : Schema) (s : RunState) (before : List ℕ) (claims
     map leaf_of (filter (is_of (s.epoch + 1)) (spare w s before claims)) ≡ spared_leaves w s before claims
 spared_are_current w s before [] h = refl
 spared_are_current w s before (x ∷ xs) (h, t) =
-    let new = λ (e : is_spared w s before x ≡ true). and_from (not x.answered) ((s.epoch + 1) == (s.epoch + 1))
-    (and_parts (not x.answered) (x.epoch == s.epoch) ((spared_told w s before x).0 e).0).0 (eq-eqb (s.epoch + 1) (s.epoch + 1) refl) in
     let fact = spared_are_current w s (before ++ x.leaf ∷ []) xs t in
-    grind (arith, new, is_not_of_later s.epoch x h, spared_are_current w s before xs t, cases_Bool (is_spared w s before x))
+    let other_fact = and_parts (not x.answered) (x.epoch == s.epoch) in
+    grind (arith, spared_told w s before x, eq-eqb (s.epoch + 1) (s.epoch + 1) refl, is_not_of_later s.epoch x h, spared_are_current w s before xs t, cases_Bool (is_spared w s before x))
 
 -- in two pieces: the second is looked at after what is spared of the first
 pub spared-append : SparedPieceByPiece

@@ -55,13 +55,11 @@ pub slice_get-each_with_each : {A B C : Type 0} (f : A → B → C) (xs : List A
     slice_get xs i ≡ Some x → slice_get ys j ≡ Some y → slice_get (each_with_each f xs ys) (i * length ys + j) ≡ Some (f x y)
 slice_get-each_with_each f [] ys i j x y e k = cc
 slice_get-each_with_each f (z ∷ xs) ys zero j x y e k =
-    let at : zero * length ys + j ≡ j = omega arith in
     let same : z ≡ x = cc in
     grind (arith, k, slice_get-map (f z) ys j, slice_get_append_left (map (f z) ys) (each_with_each f xs ys) j (f x y))
 slice_get-each_with_each f (z ∷ xs) ys (suc i) j x y e k =
-    let at : suc i * length ys + j ≡ length (map (f z) ys) + (i * length ys + j) = omega (arith, length-map ys (f z)) in
     let fact = slice_get_append_right (map (f z) ys) (each_with_each f xs ys) (i * length ys + j) in
-    grind (arith, slice_get-each_with_each f xs ys i j x y e k)
+    grind (arith, length-map ys (f z), slice_get-each_with_each f xs ys i j x y e k)
 
 -- Joined
 
@@ -129,8 +127,7 @@ kept_first : {A B : Type 0} (h : A → Option B) (z : A) (zs : List A) →
     (filter_map h (z ∷ zs) ≡ filter_map h zs) ⊎ ((w : B) × (h z ≡ Some w) × (filter_map h (z ∷ zs) ≡ w ∷ filter_map h zs))
 kept_first {A} {B} h z zs = step (h z) refl
   where
-    step : (o : Option B) → h z ≡ o →
-        (filter_map h (z ∷ zs) ≡ filter_map h zs) ⊎ ((w : B) × (h z ≡ Some w) × (filter_map h (z ∷ zs) ≡ w ∷ filter_map h zs))
+    step : (o : Option B) → h z ≡ o → (filter_map h (z ∷ zs) ≡ filter_map h zs) ⊎ ((w : B) × (h z ≡ Some w) × (filter_map h (z ∷ zs) ≡ w ∷ filter_map h zs))
     step None k = inl (rw k refl)
     step (Some w) k = inr (w, k, rw k refl)
 
@@ -167,12 +164,8 @@ distinct-filter_map h [] d apart = tt
 distinct-filter_map h (z ∷ t) (new, d) apart =
     let rest = distinct-filter_map h t d (λ x y e m k. apart x y e (inr m) (inr k)) in
     elim (kept_first h z t) [
-      | inl k ↦ subst AreDistinct (sym k) rest
-      | inr (e, k, l) ↦ subst AreDistinct (sym l) (
-        λ m. let (y, n, i) = of_filter_map h e t m in
-            apart z y e (inl refl) (inr n) (λ same. new (subst (λ w. w ∈ t) (sym same) n)) k i,
-        rest,
-      )
+      | inl k ↦ rw k rest
+      | inr (e, k, l) ↦ rw l (λ m. let (y, n, i) = of_filter_map h e t m in apart z y e (inl refl) (inr n) (λ same. new (rw same n)) k i, rest)
     ]
 
 -- Fronts and orders

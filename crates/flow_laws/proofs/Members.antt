@@ -30,12 +30,11 @@ mem_here x a b = mem_append_right x a (x ∷ b) (inl refl)
 
 -- a member of the list without that place is one of the whole
 pub mem_without : {A : Type 0} (x y : A) (a b : List A) → x ∈ (a ++ b) → x ∈ (a ++ y ∷ b)
-mem_without x y a b h = ⊎_elim (λ k. mem_append_left x a (y ∷ b) k) (λ k. mem_append_right x a (y ∷ b) (inr k)) (mem-append x a b h)
+mem_without x y a b h = grind (arith, mem-append x a b h, mem_append_left x a (y ∷ b), mem_append_right x a (y ∷ b))
 
 -- and a member of the whole is that one or in the rest
 pub mem_with : {A : Type 0} (x y : A) (a b : List A) → x ∈ (a ++ y ∷ b) → (x ≡ y) ⊎ (x ∈ (a ++ b))
-mem_with x y a b h =
-    ⊎_elim (λ k. inr (mem_append_left x a b k)) (⊎_elim inl (λ k. inr (mem_append_right x a b k))) (mem-append x a (y ∷ b) h)
+mem_with x y a b h = grind (arith, mem-append x a (y ∷ b) h, mem_append_left x a b, mem_append_right x a b)
 
 pub no_members : {A : Type 0} (list : List A) → ((x : A) → ¬ (x ∈ list)) → list ≡ []
 no_members [] h = refl

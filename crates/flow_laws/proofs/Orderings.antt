@@ -76,21 +76,12 @@ part_in_block (Sequence a b) (fa, fb) bs h part m n k =
 part_in_block (Parallel a b) (fa, fb) bs h part m n k = halves_together a b (part_in_block a fa) (part_in_block b fb) bs h part m n k
 part_in_block (Choice a b) f bs h part m n k = absurd f
 part_in_block (Isolated a) f bs (x, h, e) part (inl i) n k =
-    let all = leaf_in_blocks a f x h in (
-      joined x,
-      joined x,
-      subst (λ l. joined x ∈ l) (sym e) (whole_block x n (all n (subst (λ p. n ∈ leaves p) i k))),
-      ([], [], sym (append-nil (joined x))),
-      λ y. (λ l. subst (λ p. y ∈ leaves p) (sym i) (leaf_of_blocks a x h y l), λ l. all y (subst (λ p. y ∈ leaves p) i l)),
-    )
+    let all = leaf_in_blocks a f x h in
+    rw (e, i) (joined x, joined x, whole_block x n (all n (rw (← i) k)), ([], [], sym (append-nil (joined x))), λ y. (leaf_of_blocks a x h y, all y))
 part_in_block (Isolated a) f bs (x, h, e) part (inr i) n k =
-    let (block, piece, l, r, same) = part_in_block a f x h part i n k in (
-      joined x,
-      piece,
-      subst (λ l. joined x ∈ l) (sym e) (whole_block x n (leaf_in_blocks a f x h n (part_within a part n i k))),
-      piece_of_joined x block piece l r,
-      same,
-    )
+    let (block, piece, l, r, same) = part_in_block a f x h part i n k in
+    let there = whole_block x n (leaf_in_blocks a f x h n (part_within a part n i k)) in
+    rw e (joined x, piece, there, piece_of_joined x block piece l r, same)
 
 -- nothing stands between two members of a piece
 piece_unbroken : (list piece : List ℕ) → AreDistinct list → HasPiece piece list → (x y z : ℕ) → x ∈ piece → ¬ (y ∈ piece) → z ∈ piece →

@@ -29,10 +29,10 @@ each_two_out R (x ∷ front) y back (h, two) =
 -- the order does not matter
 pub each_two_order : {A : Type 0} (R : A → A → Type 0) (order list : List A) → IsOrderOf order list → EachTwo R list → EachTwo R order
 each_two_order R [] list o h = tt
-each_two_order R (y ∷ order) list o h =
-    let k = each_two_out R o.0 y o.1 (subst (EachTwo R) o.2 h) in (
-      each_from_members (λ z. R y z × R z y) order (λ z m. each_member (λ u. R y u × R u y) (o.0 ++ o.1) k.0 z (order_member z order (o.0 ++ o.1) o.3 m)),
-      each_two_order R order (o.0 ++ o.1) o.3 k.1,
+each_two_order R (y ∷ order) list (front, back, e, o) h =
+    let (apart, rest) = each_two_out R front y back (subst (EachTwo R) e h) in (
+      each_from_members (λ z. R y z × R z y) order (λ z m. each_member (λ u. R y u × R u y) (front ++ back) apart z (order_member z order (front ++ back) o m)),
+      each_two_order R order (front ++ back) o rest,
     )
 
 pub each_two_at : {A : Type 0} (R : A → A → Type 0) (front : List A) (n : A) (back : List A) → EachTwo R (front ++ n ∷ back) → (x : A) → x ∈ front → R x n

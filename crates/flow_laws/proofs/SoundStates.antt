@@ -197,13 +197,9 @@ kept_failed w s h claim current =
       o,
       m,
       λ order p.
-          let (t, trace, free, (rest, e)) = follow (order ++ leaf ∷ []) (subst (IsOrderOf (order ++ leaf ∷ [])) (sym taken.whole)
-          (order_with_last order leaf taken.front taken.back (subst (IsOrderOf order) taken.left p))) in (
-            t,
-            trace,
-            free,
-            begins_front t (s.journal ++ order) (leaf ∷ []) (rest, e ∙ ap (λ w. w ++ rest) (sym (append_assoc s.journal order (leaf ∷ [])))),
-          ),
+          let (t, trace, free, (rest, e)) = follow (order ++ leaf ∷ []) (rw taken.whole
+          (order_with_last order leaf taken.front taken.back (subst (IsOrderOf order) taken.left p))) in
+          (t, trace, free, begins_front t (s.journal ++ order) (leaf ∷ []) (rest, rw (append_assoc s.journal order (leaf ∷ [])) e)),
     )
 
 pub kept_switched : (w : Schema) → IsWellFormed w → (s : RunState) → IsSound w s → (claim : ℕ) →
