@@ -10,6 +10,7 @@ use Rattle.flow_laws.specs.WellFormed.{IsOrdered}
 use Rattle.flow_laws.specs.Circles.{CirclesExcludeTraces, TraceOrCircle}
 use Rattle.flow_laws.specs.ReadyRuns.{ReadyRunsExtend}
 use Rattle.flow_laws.proofs.Members.{only_one, before_or_after, before_trans, not_both_ways, decide_mem, decide_list_eq, LeavingOut, by_leaving_out, least_in, mem_with, split_at, distinct_left, distinct_swap, mem_swap, mem_append_left, Decided, decide_eq, decide_in, decide_not, decide_both, decide_either, decide_some, find_member, first_member, last_of, mem-append, mem_append_right, each_from_members}
+use Rattle.flow_laws.proofs.MadeLists.{of_map}
 use Rattle.flow_laws.proofs.ReadyRuns.{IsArrangement, arrangement_of, direct_stands, direct_first, direct_other, ready_at, run_grow, complete_runs_are_traces}
 use Rattle.flow_laws.proofs.GoalParts.{regions, region_within, region_distinct, part_of_region, item_kind, item_has, item_within, items_apart, case_of, part_within, IsWithin, nested, goal_size, part_smaller, item_having, part_or_region}
 
@@ -69,11 +70,10 @@ module _ (q : Process) (pairs : List (ℕ × ℕ)) (t : List ℕ) (w : IsOrdered
   no_ring : (ring : List (List ℕ)) → Each (λ i. i ∈ items_of part) ring → AreDistinct ring → 2 ≤ length ring → IsRing q pairs ring → ⊥
   no_ring [] e d n h = h
   no_ring (item ∷ []) e d n h = omega arith
-  no_ring (item ∷ next ∷ more) e d n h =
-      let u = item_has part item e.0 in
-      no_way_back item u.0 e.0 u.1 next more e.1.0 e.1.1 d.1 (λ i. d.0 (inl (sym i))) (λ i. d.0 (inr i))
-      (λ v v_in. item_order item next e.0 e.1.0 (λ i. d.0 (inl i)) h.0 u.0 v u.1 v_in)
-      h.1
+  no_ring (item ∷ next ∷ more) (m, (l, e)) d n h =
+      let (u, u_in) = item_has part item m in
+      no_way_back item u m u_in next more l e d.1 (λ i. d.0 (inl (sym i))) (λ i. d.0 (inr i))
+      (λ v. item_order item next m l (λ i. d.0 (inl i)) h.0 u v u_in) h.1
 
 pub circle_excludes : (q : Process) (pairs : List (ℕ × ℕ)) → IsOrdered q pairs → (circle : List ℕ) → IsCircle q pairs circle →
     (t : List ℕ) → IsArrangement q pairs t → ⊥
@@ -178,10 +178,6 @@ least_member f x list = ⊎_elim
     (least_in (λ z. Unit {0}) (λ a b. f a ≤ f b) (λ z. inl tt) (λ z. le_refl (f z)) (λ a b c h k. omega arith) (x ∷ list)
     (λ a b m n p r. ⊎_elim (λ h. inl (omega arith)) inr (cases_lt (f a) (f b))))
 
-each_least : (bound : ℕ) (list : List (List ℕ)) → ((z : List ℕ) → z ∈ list → bound ≤ least_of z) → Each (λ m. bound ≤ m) (map least_of list)
-each_least bound [] f = tt
-each_least bound (x ∷ list) f = (f x (inl refl), each_least bound list (λ z m. f z (inr m)))
-
 -- a ring that begins with the item of the least leaf
 pub ring_from_least : (q : Process) (pairs : List (ℕ × ℕ)) (items ring : List (List ℕ)) → RingAmong q pairs items ring →
     (turned : List (List ℕ)) × RingAmong q pairs items turned × BeginsWithLeast (map least_of turned)
@@ -202,7 +198,7 @@ ring_from_least q pairs items (x ∷ ring) r =
             two = omega (arith, r.two, ap length e, length-append front (item ∷ back), length-append back front);
             closed = turn q pairs front (item ∷ back) (subst (IsRing q pairs) e r.closed);
           },
-          each_least (least_of item) (back ++ front) (λ z m. least z (old z (inr m))),
+          each_from_members _ (map least_of (back ++ front)) (λ n m. let (z, k, e) = of_map least_of n (back ++ front) m in rw e (least z (old z (inr k)))),
         )
 
 -- decisions
@@ -217,17 +213,10 @@ decide_sequence (Choice a b) x y = decide_either (decide_sequence a x y) (decide
 decide_sequence (Isolated a) x y = decide_sequence a x y
 
 decide_pair_eq : (x y : ℕ × ℕ) → Decided (x ≡ y)
-decide_pair_eq x y = ⊎_elim
-    (λ (p, r). inl (λ i. (p i, r i))) (λ n. inr (λ e. n (ap (λ (z : ℕ × ℕ). z.0) e, ap (λ (z : ℕ × ℕ). z.1) e)))
-    (decide_both (decide_eq x.0 y.0) (decide_eq x.1 y.1))
+decide_pair_eq (x, y) (u, v) = grind (arith, decide_eq x u, decide_eq y v)
 
 pub decide_direct : (q : Process) (pairs : List (ℕ × ℕ)) (x y : ℕ) → Decided (DirectlyBefore q pairs x y)
 decide_direct q pairs x y = decide_either (decide_sequence q x y) (decide_mem decide_pair_eq (x, y) pairs)
-
--- a leaf of the list is not done, or all are
-pub some_or_all : (run list : List ℕ) → ((x : ℕ) × (x ∈ list) × ¬ (x ∈ run)) ⊎ ((x : ℕ) → x ∈ list → x ∈ run)
-some_or_all run list = ⊎_elim inl (λ f. inr (λ x m. ⊎_elim (λ k. k) (λ n. absurd (f x m n)) (decide_in x run)))
-    (find_member (λ x. ¬ (x ∈ run)) (λ x. decide_not (decide_in x run)) list)
 
 -- some leaf of the list is not done
 abbrev pub IsUnfinished : List ℕ → List ℕ → Type 0
@@ -235,6 +224,10 @@ IsUnfinished run list = (x : ℕ) × (x ∈ list) × ¬ (x ∈ run)
 
 decide_unfinished : (run list : List ℕ) → Decided (IsUnfinished run list)
 decide_unfinished run list = decide_some (λ x. ¬ (x ∈ run)) (λ x. decide_not (decide_in x run)) list
+
+-- a leaf of the list is not done, or all are
+pub some_or_all : (run list : List ℕ) → IsUnfinished run list ⊎ ((x : ℕ) → x ∈ list → x ∈ run)
+some_or_all run list = ⊎_elim inl (λ n. inr (λ x m. grind (arith, decide_in x run, λ (no : ¬ (x ∈ run)). n (x, m, no)))) (decide_unfinished run list)
 
 -- the part is begun and unfinished
 abbrev IsCaught : List ℕ → Process → Type 0
@@ -312,11 +305,8 @@ module _ (q : Process) (pairs : List (ℕ × ℕ)) (w : IsOrdered q pairs) (run 
   IsBlocked part item = (x : ℕ) × (x ∈ leaves part) × ((¬ (x ∈ run) × ¬ (x ∈ item)) × ((y : ℕ) × (y ∈ item) × DirectlyBefore q pairs x y))
 
   decide_blocked : (part : Process) (item : List ℕ) → Decided (IsBlocked part item)
-  decide_blocked part item = decide_some
-      (λ x. (¬ (x ∈ run) × ¬ (x ∈ item)) × ((y : ℕ) × (y ∈ item) × DirectlyBefore q pairs x y))
-      (λ x. decide_both
-      (decide_both (decide_not (decide_in x run)) (decide_not (decide_in x item)))
-      (decide_some (λ y. DirectlyBefore q pairs x y) (λ y. decide_direct q pairs x y) item))
+  decide_blocked part item = decide_some _
+      (λ x. decide_both (decide_both (decide_not (decide_in x run)) (decide_not (decide_in x item))) (decide_some _ (λ y. decide_direct q pairs x y) item))
       (leaves part)
 
   -- what is directly before an item that is not blocked is done

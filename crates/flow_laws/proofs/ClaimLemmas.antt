@@ -6,7 +6,7 @@ use Rattle.flow_model.specs.Lists.{◌∈◌, Each, AreDistinct}
 use Rattle.flow_model.specs.Run.{Claim, RunState, claim_at, leaf_of_claim, answer, is_current, MayAllFollow, spare}
 use Rattle.flow_model.specs.Schema.{Schema}
 use Rattle.flow_model.specs.Decided.{Decided, told, decide_all_follow, can_all_follow}
-use Rattle.flow_laws.specs.Spared.{IsSpared, AreSpared, spared_leaves, AnswersAreTheTest, OthersStay}
+use Rattle.flow_laws.specs.Spared.{IsSpared, AreSpared, spared_leaves, AnswersAreTheTest, OthersStay, SparedPieceByPiece}
 use Rattle.flow_laws.proofs.MadeLists.{some_same, of_find}
 
 abbrev pub number_of : Claim → ℕ
@@ -55,10 +55,7 @@ pub taken_out : (epoch number : ℕ) (claims : List Claim) (claim : Claim) → A
     × (map leaf_of (filter (is_of epoch) (answer number claims)) ≡ a ++ b)
 taken_out epoch number [] claim d e h = cc
 taken_out epoch number (x ∷ xs) claim (new, d) e h = elim (cases_Bool (x.number == number)) [
-  | inl i ↦ (let same : x ≡ claim = some_same x claim (rw i at e) in
-      let current : is_of epoch x ≡ true = ap (is_of epoch) same ∙ h in
-      rw (i, current, answer_of_first x xs number new i)
-      ([], map leaf_of (filter (is_of epoch) xs), ap (λ (c : Claim). c.leaf ∷ map leaf_of (filter (is_of epoch) xs)) same, refl))
+  | inl i ↦ ([], map leaf_of (filter (is_of epoch) xs), grind (arith, e, h, i), grind (arith, e, h, i, answer_of_first x xs number new))
   | inr i ↦ (let (a, b, j, k) = taken_out epoch number xs claim d (rw i at e) h in
       elim (cases_Bool (is_of epoch x)) [
         | inl current ↦ rw (i, current) (x.leaf ∷ a, b, ap (λ w. x.leaf ∷ w) j, ap (λ w. x.leaf ∷ w) k)
@@ -148,25 +145,16 @@ pub spared_are_current : (w : Schema) (s : RunState) (before : List ℕ) (claims
     map leaf_of (filter (is_of (s.epoch + 1)) (spare w s before claims)) ≡ spared_leaves w s before claims
 spared_are_current w s before [] h = refl
 spared_are_current w s before (x ∷ xs) (h, t) =
-    let new = λ (e : is_spared w s before x ≡ true). and_from (not x.answered) ((s.epoch + 1) == (s.epoch + 1))
-    (and_parts (not x.answered) (x.epoch == s.epoch) ((spared_told w s before x).0 e).0).0 (eq-eqb (s.epoch + 1) (s.epoch + 1) refl) in
     let fact = spared_are_current w s (before ++ x.leaf ∷ []) xs t in
-    grind (arith, new, is_not_of_later s.epoch x h, spared_are_current w s before xs t, cases_Bool (is_spared w s before x))
+    let other_fact = and_parts (not x.answered) (x.epoch == s.epoch) in
+    grind (arith, spared_told w s before x, eq-eqb (s.epoch + 1) (s.epoch + 1) refl, is_not_of_later s.epoch x h, spared_are_current w s before xs t, cases_Bool (is_spared w s before x))
 
 -- in two pieces: the second is looked at after what is spared of the first
-pub spare-append : (w : Schema) (s : RunState) (before : List ℕ) (a b : List Claim) →
-    spare w s before (a ++ b) ≡ spare w s before a ++ spare w s (before ++ spared_leaves w s before a) b
-spare-append w s before [] b = ap (λ l. spare w s l b) (sym (append-nil before))
-spare-append w s before (x ∷ xs) b = let next = before ++ x.leaf ∷ [] in
+pub spared-append : SparedPieceByPiece
+spared-append w s before [] b = (ap (λ l. spare w s l b) (sym (append-nil before)), ap (λ l. spared_leaves w s l b) (sym (append-nil before)))
+spared-append w s before (x ∷ xs) b = let next = before ++ x.leaf ∷ [] in
     let fact = append_assoc before (x.leaf ∷ []) (spared_leaves w s next xs) in
-    grind (arith, spare-append w s next xs b, spare-append w s before xs b, cases_Bool (is_spared w s before x))
-
-pub spared_leaves-append : (w : Schema) (s : RunState) (before : List ℕ) (a b : List Claim) →
-    spared_leaves w s before (a ++ b) ≡ spared_leaves w s before a ++ spared_leaves w s (before ++ spared_leaves w s before a) b
-spared_leaves-append w s before [] b = ap (λ l. spared_leaves w s l b) (sym (append-nil before))
-spared_leaves-append w s before (x ∷ xs) b = let next = before ++ x.leaf ∷ [] in
-    let fact = append_assoc before (x.leaf ∷ []) (spared_leaves w s next xs) in
-    grind (arith, spared_leaves-append w s next xs b, cases_Bool (is_spared w s before x), spared_leaves-append w s before xs b)
+    grind (arith, spared-append w s next xs b, spared-append w s before xs b, cases_Bool (is_spared w s before x))
 
 -- where none is current, all stay as they are
 pub spare_of_none : OthersStay
@@ -186,11 +174,8 @@ spared_may_follow w s before (x ∷ xs) may = let next = before ++ x.leaf ∷ []
 pub spare_is : (w : Schema) (s : RunState) (before : List ℕ) (claims : List Claim) → AreSpared w s before claims (spare w s before claims)
 spare_is w s before [] = refl
 spare_is w s before (x ∷ xs) = elim (cases_Bool (is_spared w s before x)) [
-  | inl e ↦ rw e (spare w s (before ++ x.leaf ∷ []) xs, inl ((spared_told w s before x).0 e, refl, spare_is w s (before ++ x.leaf ∷ []) xs))
-  | inr e ↦ rw e (
-    spare w s before xs,
-    inr ((λ h. true≢false (sym ((spared_told w s before x).1 h) ∙ e)), refl, spare_is w s before xs),
-  )
+  | inl e ↦ (spare w s (before ++ x.leaf ∷ []) xs, grind (arith, e, spared_told w s before x, spare_is w s (before ++ x.leaf ∷ []) xs))
+  | inr e ↦ (spare w s before xs, grind (arith, e, spared_told w s before x, spare_is w s before xs))
 ]
 
 pub spare_only : (w : Schema) (s : RunState) (before : List ℕ) (claims left : List Claim) → AreSpared w s before claims left → left ≡ spare w s before claims

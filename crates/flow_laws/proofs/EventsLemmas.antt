@@ -1,5 +1,5 @@
 -- Two leaves stand in one execution exactly where the least goal above them is no choice.
-use Rattle.std.proofs.Common.{◌≡◌, ◌≢◌, ℕ, ◌⊎◌, List, [], ◌∷◌, ◌++◌, length, refl, sym, ap, ◌∙◌, subst, inl, inr, ⊎_elim, Some, arith}
+use Rattle.std.proofs.Common.{◌≡◌, ◌≢◌, ℕ, ◌⊎◌, List, [], ◌∷◌, ◌++◌, length, refl, sym, ap, ◌∙◌, subst, inl, inr, ⊎_elim, Some, arith, append-nil}
 use Rattle.flow_model.specs.Lists.{◌∈◌, Each, AreDistinct, joined, StandsBefore}
 use Rattle.flow_model.specs.Process.{Process, Empty, Task, Sequence, Parallel, Choice, Isolated, leaves, IsNumbered}
 use Rattle.flow_model.specs.Trace.{Blocks, as_one}
@@ -31,33 +31,38 @@ do_both a b first second (x, hx, mx) (y, hy, my) =
     ((x ++ y, (x, y, hx, hy, refl), all), (x ++ y, (x, y, hx, hy, shuffle-append x y), all))
 
 do_isolated : (a : Process) (done : List ℕ) → MayDo a done → MayDo (Isolated a) done
-do_isolated a done (x, h, m) = (as_one x, (x, h, refl), each_to _ _ done (λ n k. subst (λ w. n ∈ w) (sym (joined-as_one x)) k) m)
+do_isolated a done (x, h, m) = (as_one x, (x, h, refl), rw (joined-as_one x) m)
+
+-- those of one half, the other being done with none of them
+one_in_halves : {P Q : Type 0} (a b : Process) (done : List ℕ) → (P → MayDo a done) → (Q → MayDo b done) → P ⊎ Q →
+    MayDo (Sequence a b) done × MayDo (Parallel a b) done
+one_in_halves a b done f g = ⊎_elim
+    (λ p. subst (λ l. MayDo (Sequence a b) l × MayDo (Parallel a b) l) (append-nil done) (do_both a b done [] (f p) (may_do_nothing b)))
+    (λ q. do_both a b [] done (may_do_nothing a) (g q))
+
+in_choice : {P Q : Type 0} (a b : Process) (done : List ℕ) → (P → MayDo a done) → (Q → MayDo b done) → P ⊎ Q → MayDo (Choice a b) done
+in_choice a b done f g = ⊎_elim (λ p. let (x, h, k) = f p in (x, inl h, k)) (λ q. let (x, h, k) = g q in (x, inr h, k))
 
 may_do_one : (g : Process) (n : ℕ) → n ∈ leaves g → MayDo g (n ∷ [])
 may_do_one Empty n m = absurd m
 may_do_one (Task k) n m = ((k ∷ []) ∷ [], refl, (m, tt))
-may_do_one (Sequence a b) n m = ⊎_elim
-    (λ l. (do_both a b (n ∷ []) [] (may_do_one a n l) (may_do_nothing b)).0) (λ l. (do_both a b [] (n ∷ []) (may_do_nothing a) (may_do_one b n l)).0)
-    (mem-append n (leaves a) (leaves b) m)
-may_do_one (Parallel a b) n m = ⊎_elim
-    (λ l. (do_both a b (n ∷ []) [] (may_do_one a n l) (may_do_nothing b)).1) (λ l. (do_both a b [] (n ∷ []) (may_do_nothing a) (may_do_one b n l)).1)
-    (mem-append n (leaves a) (leaves b) m)
-may_do_one (Choice a b) n m = ⊎_elim
-    (λ l. let (x, h, k) = may_do_one a n l in (x, inl h, k)) (λ l. let (x, h, k) = may_do_one b n l in (x, inr h, k))
-    (mem-append n (leaves a) (leaves b) m)
+may_do_one (Sequence a b) n m = (one_in_halves a b (n ∷ []) (may_do_one a n) (may_do_one b n) (mem-append n (leaves a) (leaves b) m)).0
+may_do_one (Parallel a b) n m = (one_in_halves a b (n ∷ []) (may_do_one a n) (may_do_one b n) (mem-append n (leaves a) (leaves b) m)).1
+may_do_one (Choice a b) n m = in_choice a b (n ∷ []) (may_do_one a n) (may_do_one b n) (mem-append n (leaves a) (leaves b) m)
 may_do_one (Isolated a) n m = do_isolated a (n ∷ []) (may_do_one a n m)
+
+two_in_halves : (a b : Process) (m n : ℕ) → (AreTogether a m n → MayDo a (m ∷ n ∷ [])) → (AreTogether b m n → MayDo b (m ∷ n ∷ [])) →
+    AreTogether (Parallel a b) m n → MayDo (Sequence a b) (m ∷ n ∷ []) × MayDo (Parallel a b) (m ∷ n ∷ [])
+two_in_halves a b m n f g (inl (inl h)) = do_both a b (m ∷ []) (n ∷ []) (may_do_one a m h.0) (may_do_one b n h.1)
+two_in_halves a b m n f g (inl (inr h)) = one_in_halves a b (m ∷ n ∷ []) f g (inl h)
+two_in_halves a b m n f g (inr h) = one_in_halves a b (m ∷ n ∷ []) f g (inr h)
 
 may_do_two : (g : Process) (m n : ℕ) → AreTogether g m n → MayDo g (m ∷ n ∷ [])
 may_do_two Empty m n h = absurd h
 may_do_two (Task k) m n h = absurd h
-may_do_two (Sequence a b) m n (inl (inl h)) = (do_both a b (m ∷ []) (n ∷ []) (may_do_one a m h.0) (may_do_one b n h.1)).0
-may_do_two (Sequence a b) m n (inl (inr h)) = (do_both a b (m ∷ n ∷ []) [] (may_do_two a m n h) (may_do_nothing b)).0
-may_do_two (Sequence a b) m n (inr h) = (do_both a b [] (m ∷ n ∷ []) (may_do_nothing a) (may_do_two b m n h)).0
-may_do_two (Parallel a b) m n (inl (inl h)) = (do_both a b (m ∷ []) (n ∷ []) (may_do_one a m h.0) (may_do_one b n h.1)).1
-may_do_two (Parallel a b) m n (inl (inr h)) = (do_both a b (m ∷ n ∷ []) [] (may_do_two a m n h) (may_do_nothing b)).1
-may_do_two (Parallel a b) m n (inr h) = (do_both a b [] (m ∷ n ∷ []) (may_do_nothing a) (may_do_two b m n h)).1
-may_do_two (Choice a b) m n (inl h) = let (x, k, all) = may_do_two a m n h in (x, inl k, all)
-may_do_two (Choice a b) m n (inr h) = let (x, k, all) = may_do_two b m n h in (x, inr k, all)
+may_do_two (Sequence a b) m n h = (two_in_halves a b m n (may_do_two a m n) (may_do_two b m n) h).0
+may_do_two (Parallel a b) m n h = (two_in_halves a b m n (may_do_two a m n) (may_do_two b m n) h).1
+may_do_two (Choice a b) m n h = in_choice a b (m ∷ n ∷ []) (may_do_two a m n) (may_do_two b m n) h
 may_do_two (Isolated a) m n h = do_isolated a (m ∷ n ∷ []) (may_do_two a m n h)
 
 -- the goal may be executed so that both leaves are done
@@ -78,21 +83,17 @@ AreAllTogether g = (bs : List (List ℕ)) → Blocks g bs → (m n : ℕ) → m 
 together_in_halves : (a b : Process) → AreAllTogether a → AreAllTogether b → AreAllTogether (Parallel a b)
 together_in_halves a b in_a in_b bs (x, y, hx, hy, s) m n i j d =
     let fact = of_shuffle (shuffle-joined s) m i in let other_fact = of_shuffle (shuffle-joined s) n j in
-    let third_fact = λ (k : m ∈ joined x) (l : n ∈ joined x). in_a x hx m n k l d in
-    let fourth_fact = λ (k : m ∈ joined y) (l : n ∈ joined y). in_b y hy m n k l d in
-    grind (arith, leaf_of_blocks a x hx m, leaf_of_blocks a x hx n, leaf_of_blocks b y hy m, leaf_of_blocks b y hy n)
+    let third_fact = leaf_of_blocks b y hy m in let fourth_fact = leaf_of_blocks b y hy n in
+    grind (arith, in_a x hx m n, in_b y hy m n, d, leaf_of_blocks a x hx m, leaf_of_blocks a x hx n)
 
 pub are_together : (g : Process) (bs : List (List ℕ)) → Blocks g bs → (m n : ℕ) → m ∈ joined bs → n ∈ joined bs → m ≢ n →
     AreTogether g m n ⊎ AreTogether g n m
-are_together Empty bs h m n i j d = absurd (subst (λ w. m ∈ joined w) h i)
-are_together (Task k) bs h m n i j d =
-    absurd (d (only_one m k (subst (λ w. m ∈ joined w) h i) ∙ sym (only_one n k (subst (λ w. n ∈ joined w) h j))))
+are_together Empty bs h m n i j d = grind (arith, h, i)
+are_together (Task k) bs h m n i j d = grind (arith, h, i, j, d)
 are_together (Sequence a b) bs h m n i j d = together_in_halves a b (are_together a) (are_together b) bs (beside a b bs h) m n i j d
 are_together (Parallel a b) bs h m n i j d = together_in_halves a b (are_together a) (are_together b) bs h m n i j d
-are_together (Choice a b) bs (inl h) m n i j d = ⊎_elim (λ k. inl (inl k)) (λ k. inr (inl k)) (are_together a bs h m n i j d)
-are_together (Choice a b) bs (inr h) m n i j d = ⊎_elim (λ k. inl (inr k)) (λ k. inr (inr k)) (are_together b bs h m n i j d)
-are_together (Isolated a) bs (x, h, e) m n i j d = are_together a x h m n
-    (subst (λ w. m ∈ w) (ap joined e ∙ joined-as_one x) i) (subst (λ w. n ∈ w) (ap joined e ∙ joined-as_one x) j) d
+are_together (Choice a b) bs h m n i j d = grind (arith, h, i, j, d, are_together a bs, are_together b bs)
+are_together (Isolated a) bs (x, h, e) m n i j d = grind (arith, e, joined-as_one x, i, j, are_together a x h m n, d)
 
 -- The law
 
@@ -100,8 +101,7 @@ pub events_apart : (w : Schema) → IsNumbered w.goal (length w.labels) → HasU
     (x y e : ℕ) → AreTogether w.goal x y → event_at w.labels x ≡ Some e → event_at w.labels y ≢ Some e
 events_apart w numbered unique x y e h i j =
     let (bs, b, mx, my) = blocks_with_both w.goal x y h in
-    let d : AreDistinct (leaves w.goal) = subst AreDistinct (sym numbered) (distinct-numbers_from 0 (length w.labels)) in
-    together_differ w.goal d x y h
+    together_differ w.goal (subst AreDistinct (sym numbered) (distinct-numbers_from 0 (length w.labels))) x y h
     (same_source (event_at w.labels) (joined bs) (unique (joined bs) (bs, b, refl)) x y e mx my i j)
 
 pub unique_events : (w : Schema) → IsNumbered w.goal (length w.labels) →

@@ -248,10 +248,8 @@ part_in_item g part item n d m h l k =
 pub part_or_region : (q region part : Process) (item : List ℕ) (n : ℕ) → AreDistinct (leaves q) → region ∈ regions q → item ∈ items_of region → n ∈ item →
     part ∈ isolated_parts q → n ∈ leaves part → ((y : ℕ) → y ∈ leaves part → y ∈ item) ⊎ IsWithin region part
 part_or_region q region part item n d (inl e) l k m h =
-    inl (part_in_item region part item n (subst (λ p. AreDistinct (leaves p)) (sym e) d) (subst (λ p. part ∈ isolated_parts p) (sym e) m) h l k)
+    inl (part_in_item region part item n (rw e d) (rw e m) h l k)
 part_or_region q region part item n d (inr r) l k m h = ⊎_elim
-    (⊎_elim
-    (λ e. inr (λ y p. subst (λ z. y ∈ leaves z) (sym e) p))
-    (λ i. inl (part_in_item region part item n (region_distinct q region d (inr r)) i h l k)))
+    (⊎_elim (λ e. inr (λ y p. rw e p)) (λ i. inl (part_in_item region part item n (region_distinct q region d (inr r)) i h l k)))
     (λ i. inr (region_within part region i))
     (nested (case_of q) part region n d (inr m) (inr r) h (item_within region item n l k))

@@ -1,6 +1,5 @@
 -- Lists made of others: mapped, joined, filtered, numbered, reordered.
 use Rattle.std.proofs.Common.{◌≡◌, ◌≢◌, ℕ, zero, suc, ◌+◌, ◌*◌, ◌<◌, ◌≤◌, ◌⊎◌, List, [], ◌∷◌, ◌++◌, map, length, refl, sym, ap, ◌∙◌, subst, inl, inr, ⊎_elim, append_assoc, append-nil, flat_map, arith, slice_get, Option, Some, None, option_map, zero-add, suc-add, zero-mul, length-append, Bool, true, find, filter_map, filter}
-use Rattle.std.specs.List.{cons_option}
 use Rattle.std.proofs.lemmas.Bool.{cases_Bool}
 use Rattle.std.proofs.lemmas.List.{length-map}
 use Rattle.std.proofs.lemmas.Option.{slice_get-map}
@@ -56,16 +55,11 @@ pub slice_get-each_with_each : {A B C : Type 0} (f : A → B → C) (xs : List A
     slice_get xs i ≡ Some x → slice_get ys j ≡ Some y → slice_get (each_with_each f xs ys) (i * length ys + j) ≡ Some (f x y)
 slice_get-each_with_each f [] ys i j x y e k = cc
 slice_get-each_with_each f (z ∷ xs) ys zero j x y e k =
-    let at : zero * length ys + j ≡ j = omega arith in
     let same : z ≡ x = cc in
-    ap (slice_get (map (f z) ys ++ each_with_each f xs ys)) at
-    ∙ slice_get_append_left (map (f z) ys) _ j (f x y)
-    (slice_get-map (f z) ys j ∙ (ap (option_map (f z)) k ∙ ap (λ w. Some (f w y)) same))
+    grind (arith, k, slice_get-map (f z) ys j, slice_get_append_left (map (f z) ys) (each_with_each f xs ys) j (f x y))
 slice_get-each_with_each f (z ∷ xs) ys (suc i) j x y e k =
-    let at : suc i * length ys + j ≡ length (map (f z) ys) + (i * length ys + j) = omega (arith, length-map ys (f z)) in
-    ap (slice_get (map (f z) ys ++ each_with_each f xs ys)) at
-    ∙ (slice_get_append_right (map (f z) ys) _ (i * length ys + j)
-    ∙ slice_get-each_with_each f xs ys i j x y e k)
+    let fact = slice_get_append_right (map (f z) ys) (each_with_each f xs ys) (i * length ys + j) in
+    grind (arith, length-map ys (f z), slice_get-each_with_each f xs ys i j x y e k)
 
 -- Joined
 
@@ -133,14 +127,9 @@ kept_first : {A B : Type 0} (h : A → Option B) (z : A) (zs : List A) →
     (filter_map h (z ∷ zs) ≡ filter_map h zs) ⊎ ((w : B) × (h z ≡ Some w) × (filter_map h (z ∷ zs) ≡ w ∷ filter_map h zs))
 kept_first {A} {B} h z zs = step (h z) refl
   where
-    step : (o : Option B) → h z ≡ o →
-        (filter_map h (z ∷ zs) ≡ filter_map h zs) ⊎ ((w : B) × (h z ≡ Some w) × (filter_map h (z ∷ zs) ≡ w ∷ filter_map h zs))
+    step : (o : Option B) → h z ≡ o → (filter_map h (z ∷ zs) ≡ filter_map h zs) ⊎ ((w : B) × (h z ≡ Some w) × (filter_map h (z ∷ zs) ≡ w ∷ filter_map h zs))
     step None k = inl (rw k refl)
     step (Some w) k = inr (w, k, rw k refl)
-
-distinct_cons_option : {A : Type 0} (o : Option A) (ys : List A) → AreDistinct (cons_option o ys) → AreDistinct ys
-distinct_cons_option None ys d = d
-distinct_cons_option (Some x) ys d = d.1
 
 pub mem-filter_map : {A B : Type 0} (h : A → Option B) (x : A) (y : B) (xs : List A) → x ∈ xs → h x ≡ Some y → y ∈ filter_map h xs
 mem-filter_map h x y [] m k = absurd m
@@ -175,12 +164,8 @@ distinct-filter_map h [] d apart = tt
 distinct-filter_map h (z ∷ t) (new, d) apart =
     let rest = distinct-filter_map h t d (λ x y e m k. apart x y e (inr m) (inr k)) in
     elim (kept_first h z t) [
-      | inl k ↦ subst AreDistinct (sym k) rest
-      | inr (e, k, l) ↦ subst AreDistinct (sym l) (
-        λ m. let (y, n, i) = of_filter_map h e t m in
-            apart z y e (inl refl) (inr n) (λ same. new (subst (λ w. w ∈ t) (sym same) n)) k i,
-        rest,
-      )
+      | inl k ↦ rw k rest
+      | inr (e, k, l) ↦ rw l (λ m. let (y, n, i) = of_filter_map h e t m in apart z y e (inl refl) (inr n) (λ same. new (rw same n)) k i, rest)
     ]
 
 -- Fronts and orders
@@ -188,15 +173,12 @@ distinct-filter_map h (z ∷ t) (new, d) apart =
 pub begins_front : {A : Type 0} (t front more : List A) → Begins t (front ++ more) → Begins t front
 begins_front t front more (rest, e) = (more ++ rest, e ∙ append_assoc front more rest)
 
-pub begins_and_nothing : {A : Type 0} (t front : List A) → Begins t front → Begins t (front ++ [])
-begins_and_nothing t front (rest, e) = (rest, e ∙ ap (λ w. w ++ rest) (sym (append-nil front)))
-
 pub same_order : {A : Type 0} (xs : List A) → IsOrderOf xs xs
 same_order [] = refl
 same_order (x ∷ xs) = ([], xs, refl, same_order xs)
 
 pub order_of_one : {A : Type 0} (order : List A) (x : A) → IsOrderOf order (x ∷ []) → order ≡ x ∷ []
-order_of_one [] x h = absurd (not_empty [] x [] (sym h))
+order_of_one [] x h = cc
 order_of_one (y ∷ order) x ([], back, e, h) = grind (arith, e, order_of_none order, h)
 order_of_one (y ∷ order) x (z ∷ front, back, e, h) = absurd (not_empty front y back (cons_same x z [] (front ++ y ∷ back) e).1)
 
@@ -221,15 +203,13 @@ order_with_last (y ∷ order) x a b (front, back, e, h) = ⊎_elim
     (λ (m, p, q). (
       front,
       m ++ x ∷ b,
-      ap (λ w. w ++ x ∷ b) p ∙ append_assoc front (y ∷ m) (x ∷ b),
-      subst (IsOrderOf (order ++ x ∷ [])) (append_assoc front m (x ∷ b))
-          (order_with_last order x (front ++ m) b (subst (IsOrderOf order) (grind (arith, append_assoc front m b)) h)),
+      rw p (append_assoc front (y ∷ m) (x ∷ b)),
+      rw (← append_assoc front m (x ∷ b)) (order_with_last order x (front ++ m) b (rw (append_assoc front m b, ← q) h)),
     ))
     (λ (m, p, q). (
       a ++ x ∷ m,
       back,
-      grind (arith, append_assoc a (x ∷ m) (y ∷ back)),
-      subst (IsOrderOf (order ++ x ∷ [])) (sym (append_assoc a (x ∷ m) back))
-          (order_with_last order x a (m ++ back) (subst (IsOrderOf order) (grind (arith, append_assoc a m back)) h)),
+      rw (q, append_assoc a (x ∷ m) (y ∷ back)) refl,
+      rw (append_assoc a (x ∷ m) back) (order_with_last order x a (m ++ back) (rw (← append_assoc a m back, ← p) h)),
     ))
     (two_cuts a b front y back e)

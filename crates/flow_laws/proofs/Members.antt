@@ -30,12 +30,11 @@ mem_here x a b = mem_append_right x a (x ∷ b) (inl refl)
 
 -- a member of the list without that place is one of the whole
 pub mem_without : {A : Type 0} (x y : A) (a b : List A) → x ∈ (a ++ b) → x ∈ (a ++ y ∷ b)
-mem_without x y a b h = ⊎_elim (λ k. mem_append_left x a (y ∷ b) k) (λ k. mem_append_right x a (y ∷ b) (inr k)) (mem-append x a b h)
+mem_without x y a b h = grind (arith, mem-append x a b h, mem_append_left x a (y ∷ b), mem_append_right x a (y ∷ b))
 
 -- and a member of the whole is that one or in the rest
 pub mem_with : {A : Type 0} (x y : A) (a b : List A) → x ∈ (a ++ y ∷ b) → (x ≡ y) ⊎ (x ∈ (a ++ b))
-mem_with x y a b h =
-    ⊎_elim (λ k. inr (mem_append_left x a b k)) (⊎_elim inl (λ k. inr (mem_append_right x a b k))) (mem-append x a (y ∷ b) h)
+mem_with x y a b h = grind (arith, mem-append x a (y ∷ b) h, mem_append_left x a b, mem_append_right x a b)
 
 pub no_members : {A : Type 0} (list : List A) → ((x : A) → ¬ (x ∈ list)) → list ≡ []
 no_members [] h = refl
@@ -58,12 +57,9 @@ LeavingOut {A} P list = (front : List A) (x : A) (back : List A) → list ≡ fr
 pub by_leaving_out : {A : Type 0} (P : List A → Type 0) → ((list : List A) → LeavingOut P list → P list) → (list : List A) → P list
 by_leaving_out {A} P step list = down (length list) list refl
   where
-    shorter : (k : ℕ) (l front : List A) (x : A) (back : List A) → length l ≡ k → l ≡ front ++ x ∷ back → suc (length (front ++ back)) ≡ k
-    shorter k l front x back e f = omega (arith, ap length f, length-append front (x ∷ back), length-append front back)
-
     down : (k : ℕ) (l : List A) → length l ≡ k → P l
-    down zero l e = step l (λ front x back f. absurd (omega (arith, shorter zero l front x back e f)))
-    down (suc k) l e = step l (λ front x back f. down k (front ++ back) (omega (arith, shorter (suc k) l front x back e f)))
+    down zero l e = step l (λ front x back f. absurd (omega (arith, e, ap length f, length-append front (x ∷ back))))
+    down (suc k) l e = step l (λ front x back f. down k (front ++ back) (omega (arith, e, ap length f, length-append front (x ∷ back), length-append front back)))
 
 -- what each member has
 
@@ -91,8 +87,8 @@ pub first_member : {A : Type 0} (P : A → Type 0) → ((x : A) → Decided (P x
 first_member P d [] x m p = absurd m
 first_member P d (y ∷ list) x m p = elim (d y) [
   | inl q ↦ ([], y, list, refl, q, λ z h. absurd h)
-  | inr n ↦ (let (front, first, back, e, q, none) = first_member P d list x (⊎_elim (λ e. absurd (n (subst P e p))) (λ k. k) m) p in
-      (y ∷ front, first, back, ap (λ l. y ∷ l) e, q, λ z h. ⊎_elim (λ e r. n (subst P e r)) (none z) h))
+  | inr n ↦ (let (front, first, back, e, q, none) = first_member P d list x (grind (arith, m, n, p)) p in
+      (y ∷ front, first, back, ap (λ l. y ∷ l) e, q, λ z h. grind (arith, h, n, none z)))
 ]
 
 -- no member has P, or one of those that have it is the least of them
@@ -107,12 +103,12 @@ least_in P R d same on [] either = inl (λ x m. absurd m)
 least_in {A} P R d same on (y ∷ list) either = at (d y) (least_in P R d same on list (λ u v m n. either u v (inr m) (inr n)))
   where
     at : Decided (P y) → HasLeast P R list → HasLeast P R (y ∷ list)
-    at (inr n) (inl f) = inl (λ x m. ⊎_elim (λ e p. n (subst P e p)) (f x) m)
-    at (inr n) (inr (x, m, p, l)) = inr (x, inr m, p, λ z k q. ⊎_elim (λ e. absurd (n (subst P e q))) (λ i. l z i q) k)
-    at (inl p) (inl f) = inr (y, inl refl, p, λ z k q. ⊎_elim (λ e. subst (R y) (sym e) (same y)) (λ i. absurd (f z i q)) k)
+    at (inr n) (inl f) = inl (λ x. grind (arith, n, f x))
+    at (inr n) (inr (x, m, p, l)) = inr (x, inr m, p, λ z k q. grind (arith, n, k, q, l z))
+    at (inl p) (inl f) = inr (y, inl refl, p, λ z k q. grind (arith, k, q, f z, same y))
     at (inl p) (inr (x, m, q, l)) = ⊎_elim
-        (λ r. inr (y, inl refl, p, λ z k s. ⊎_elim (λ e. subst (R y) (sym e) (same y)) (λ i. on y x z r (l z i s)) k))
-        (λ r. inr (x, inr m, q, λ z k s. ⊎_elim (λ e. subst (R x) (sym e) r) (λ i. l z i s) k))
+        (λ r. inr (y, inl refl, p, λ z k s. grind (arith, k, s, r, l z, same y, on y x z)))
+        (λ r. inr (x, inr m, q, λ z k s. grind (arith, k, s, r, l z)))
         (either y x (inl refl) (inr m) p q)
 
 -- the last member of a list that has one
@@ -141,8 +137,7 @@ distinct_apart (y ∷ a) b d x h k = grind (arith, h, k, d.0, distinct_apart a b
 
 pub distinct-append : {A : Type 0} (a b : List A) → AreDistinct a → AreDistinct b → ((x : A) → x ∈ a → ¬ (x ∈ b)) → AreDistinct (a ++ b)
 distinct-append [] b d e f = e
-distinct-append (x ∷ a) b d e f =
-    (λ h. ⊎_elim d.0 (f x (inl refl)) (mem-append x a b h), distinct-append a b d.1 e (λ y k. f y (inr k)))
+distinct-append (x ∷ a) b d e f = grind (arith, d, e, f, mem-append x a b, distinct-append a b d.1 e)
 
 pub distinct_parts : {A : Type 0} (a b : List A) → AreDistinct (a ++ b) → AreDistinct a × AreDistinct b × ((x : A) → x ∈ a → ¬ (x ∈ b))
 distinct_parts a b d = (distinct_left a b d, distinct_right a b d, distinct_apart a b d)

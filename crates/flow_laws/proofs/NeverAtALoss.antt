@@ -28,9 +28,7 @@ pub take_next : (w : Schema) → IsWellFormed w → (s : RunState) (n : ℕ) (t 
     IsFree w s t → Begins t (s.journal ++ n ∷ []) → CanTake w s n
 take_next w f s n t event none free begins =
     let (o, m, follows) = free_may_follow w f s t (n ∷ []) free begins in
-    let alone = λ (order : List ℕ) (p : IsOrderOf order (current_leaves s ++ n ∷ [])).
-    follows order (order_of_one order n (subst (λ l. IsOrderOf order (l ++ n ∷ [])) none p)) in
-    (event, λ l. subst (λ w. n ∈ w) none l, (o, m, alone))
+    (event, rw none (λ l. l), (o, m, λ order p. follows order (order_of_one order n (subst (λ l. IsOrderOf order (l ++ n ∷ [])) none p))))
 
 -- and else be done
 next_leaf : (w : Schema) → IsWellFormed w → (s : RunState) → current_leaves s ≡ [] →
@@ -70,7 +68,7 @@ not_at_a_loss w f s h unfinished = step (current_claims s) refl
   where
     step : (claims : List Claim) → current_claims s ≡ claims → ((claim : Claim) × (claim ∈ current_claims s)) ⊎ CanGoOn w s
     step [] e = inr (goes_on w f s h unfinished e)
-    step (claim ∷ claims) e = inl (claim, subst (λ l. claim ∈ l) (sym e) (inl refl))
+    step (claim ∷ claims) e = inl (claim, rw e (inl refl))
 
 -- where no label ever waits, nothing is stuck
 pub never_stuck : (w : Schema) → IsWellFormed w → Each NeverWaits w.labels → (s : RunState) → IsSound w s → ¬ (IsStuck w s)

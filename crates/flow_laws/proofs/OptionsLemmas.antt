@@ -1,5 +1,5 @@
 -- Options: what each has, and that their executions are the good traces.
-use Rattle.std.proofs.Common.{◌≢◌, ℕ, List, length, sym, subst, true, ◌↔◌, [], ◌∷◌}
+use Rattle.std.proofs.Common.{◌≢◌, ℕ, List, length, sym, subst, true, ◌↔◌, [], ◌∷◌, arith}
 use Rattle.flow_model.specs.declared.labels.Label.{Label}
 use Rattle.flow_model.specs.Lists.{◌∈◌, AreDistinct, Each}
 use Rattle.flow_model.specs.Process.{Process, leaves}
@@ -18,14 +18,11 @@ use Rattle.flow_laws.proofs.TraceLeaves.{leaf_of_trace, leaf_in_trace}
 pub option_parts : (w : Schema) (o : ChoiceOption) → o ∈ options w → (o.resolution ∈ resolutions w.goal) × (o.order ∈ ways_in w o.resolution)
 option_parts w o m =
     let (q, mq, mo) = of_flat_map (options_in w) o (resolutions w.goal) m in
-    let (way, mw, e) = of_map (λ (way : List (ℕ × ℕ)). let x : ChoiceOption = record { resolution = q; order = way } in x) o (ways_in w q) mo in
-    subst (λ (p : ChoiceOption). (p.resolution ∈ resolutions w.goal) × (p.order ∈ ways_in w p.resolution)) (sym e) (mq, mw)
+    let (way, mw, e) = of_map _ o (ways_in w q) mo in rw e (mq, mw)
 
 pub mem-options : (w : Schema) (q : Process) (way : List (ℕ × ℕ)) → q ∈ resolutions w.goal → way ∈ ways_in w q →
     record { resolution = q; order = way } ∈ options w
-mem-options w q way mq mw =
-    mem-flat_map (options_in w) q _ (resolutions w.goal) mq
-    (mem-map (λ (v : List (ℕ × ℕ)). let x : ChoiceOption = record { resolution = q; order = v } in x) way (ways_in w q) mw)
+mem-options w q way mq mw = mem-flat_map (options_in w) q _ (resolutions w.goal) mq (mem-map _ way (ways_in w q) mw)
 
 pub distinct_leaves : (w : Schema) → IsWellFormed w → AreDistinct (leaves w.goal)
 distinct_leaves w f = subst AreDistinct (sym f.numbered) (distinct-numbers_from 0 (length w.labels))
@@ -48,22 +45,15 @@ option_is_ordered w f o m =
 
 pub constraint_by_ways : (c : Constraint) (labels : List Label) (t ls : List ℕ) → AreItsLeaves labels t ls →
     Meets c (events_of labels t) ↔ HasWay (ways_of c labels ls) t
-constraint_by_ways c labels t ls l =
-    let (to, from) = (normal_form_is c (events_of labels t)).0 in
-    let (there, back) = ways_decide l (normal_form c true) in
-    (λ h. there (to h), λ k. from (back k))
+constraint_by_ways c labels t ls l = grind (arith, normal_form_is c (events_of labels t), ways_decide l (normal_form c true))
 
 pub conjoined_is : (c : Constraint) (ds : List Constraint) (events : List ℕ) →
     Meets (conjoined c ds) events ↔ (Meets c events × Each (λ d. Meets d events) ds)
-conjoined_is c [] events = (λ h. (h, tt), λ h. h.0)
-conjoined_is c (d ∷ ds) events =
-    let (to, from) = conjoined_is (And c d) ds events in
-    (λ h. let ((k, l), m) = to h in (k, (l, m)), λ (k, (l, m)). from ((k, l), m))
+conjoined_is c [] events = grind arith
+conjoined_is c (d ∷ ds) events = grind (arith, conjoined_is (And c d) ds events)
 
 pub all_of_is : (ds : List Constraint) (events : List ℕ) → Meets (all_of ds) events ↔ Each (λ d. Meets d events) ds
-all_of_is ds events =
-    let (to, from) = conjoined_is Always ds events in
-    (λ h. (to h).1, λ h. from (tt, h))
+all_of_is ds events = grind (arith, conjoined_is Always ds events)
 
 -- an execution of a resolution has its leaves, and no event twice
 has_its_leaves : (w : Schema) → IsWellFormed w → (q : Process) → q ∈ resolutions w.goal → (t : List ℕ) → Trace q t → AreItsLeaves w.labels t (leaves q)

@@ -26,19 +26,15 @@ abbrev pub KeepsSequence : Process → Type 0
 KeepsSequence g = (bs : List (List ℕ)) → Blocks g bs → (x y : ℕ) → InSequence g x y → StandsBefore x y (joined bs)
 
 halves_keep : (a b : Process) → KeepsSequence a → KeepsSequence b → KeepsSequence (Parallel a b)
-halves_keep a b in_a in_b bs (u, v, ha, hb, s) x y (inl k) = before_in_shuffle (shuffle-joined s) x y (in_a u ha x y k)
-halves_keep a b in_a in_b bs (u, v, ha, hb, s) x y (inr k) = before_in_shuffle (shuffle_swap (shuffle-joined s)) x y (in_b v hb x y k)
+halves_keep a b in_a in_b bs (u, v, ha, hb, s) x y k =
+    ⊎_elim (λ i. before_in_shuffle (shuffle-joined s) x y (in_a u ha x y i)) (λ i. before_in_shuffle (shuffle_swap (shuffle-joined s)) x y (in_b v hb x y i)) k
 
 pub before_in_blocks : (g : Process) → IsChoiceFree g → KeepsSequence g
 before_in_blocks Empty f bs h x y k = absurd k
 before_in_blocks (Task n) f bs h x y k = absurd k
-before_in_blocks (Sequence a b) (fa, fb) bs (u, v, ha, hb, e) x y (inl (inl k)) =
-    subst (StandsBefore x y) (sym (ap joined e ∙ joined-append u v))
-    (before_across x y (joined u) (joined v) (leaf_in_blocks a fa u ha x k.0) (leaf_in_blocks b fb v hb y k.1))
-before_in_blocks (Sequence a b) (fa, fb) bs h x y (inl (inr k)) =
-    halves_keep a b (before_in_blocks a fa) (before_in_blocks b fb) bs (beside a b bs h) x y (inl k)
-before_in_blocks (Sequence a b) (fa, fb) bs h x y (inr k) =
-    halves_keep a b (before_in_blocks a fa) (before_in_blocks b fb) bs (beside a b bs h) x y (inr k)
+before_in_blocks (Sequence a b) (fa, fb) bs (u, v, ha, hb, e) x y k =
+    let fact = λ (i : x ∈ leaves a) (j : y ∈ leaves b). before_across x y (joined u) (joined v) (leaf_in_blocks a fa u ha x i) (leaf_in_blocks b fb v hb y j) in
+    grind (arith, k, e, joined-append u v, halves_keep a b (before_in_blocks a fa) (before_in_blocks b fb) bs (beside a b bs (u, v, ha, hb, e)) x y)
 before_in_blocks (Parallel a b) (fa, fb) bs h x y k = halves_keep a b (before_in_blocks a fa) (before_in_blocks b fb) bs h x y k
 before_in_blocks (Choice a b) f bs h x y k = absurd f
 before_in_blocks (Isolated a) f bs (u, h, e) x y k =
@@ -50,11 +46,9 @@ HasPiece piece list = (front back : List ℕ) × (list ≡ front ++ (piece ++ ba
 
 piece_of_joined : (bs : List (List ℕ)) (block piece : List ℕ) → block ∈ bs → HasPiece piece block → HasPiece piece (joined bs)
 piece_of_joined [] block piece m h = absurd m
-piece_of_joined (b ∷ bs) block piece (inl e) (front, back, h) =
-    (front, back ++ joined bs, ap (λ l. l ++ joined bs) (sym e ∙ h) ∙ simp append_assoc)
+piece_of_joined (b ∷ bs) block piece (inl e) (front, back, h) = (front, back ++ joined bs, rw (← e, h) (simp append_assoc))
 piece_of_joined (b ∷ bs) block piece (inr m) h =
-    let (front, back, k) = piece_of_joined bs block piece m h in
-    (b ++ front, back, ap (λ l. b ++ l) k ∙ sym (append_assoc b front (piece ++ back)))
+    let (front, back, k) = piece_of_joined bs block piece m h in (b ++ front, back, rw k (simp append_assoc))
 
 -- some block has the leaves of the part as a piece
 abbrev StandsIn : Process → List (List ℕ) → Type 0
@@ -82,21 +76,12 @@ part_in_block (Sequence a b) (fa, fb) bs h part m n k =
 part_in_block (Parallel a b) (fa, fb) bs h part m n k = halves_together a b (part_in_block a fa) (part_in_block b fb) bs h part m n k
 part_in_block (Choice a b) f bs h part m n k = absurd f
 part_in_block (Isolated a) f bs (x, h, e) part (inl i) n k =
-    let all = leaf_in_blocks a f x h in (
-      joined x,
-      joined x,
-      subst (λ l. joined x ∈ l) (sym e) (whole_block x n (all n (subst (λ p. n ∈ leaves p) i k))),
-      ([], [], sym (append-nil (joined x))),
-      λ y. (λ l. subst (λ p. y ∈ leaves p) (sym i) (leaf_of_blocks a x h y l), λ l. all y (subst (λ p. y ∈ leaves p) i l)),
-    )
+    let all = leaf_in_blocks a f x h in
+    rw (e, i) (joined x, joined x, whole_block x n (all n (rw (← i) k)), ([], [], sym (append-nil (joined x))), λ y. (leaf_of_blocks a x h y, all y))
 part_in_block (Isolated a) f bs (x, h, e) part (inr i) n k =
-    let (block, piece, l, r, same) = part_in_block a f x h part i n k in (
-      joined x,
-      piece,
-      subst (λ l. joined x ∈ l) (sym e) (whole_block x n (leaf_in_blocks a f x h n (part_within a part n i k))),
-      piece_of_joined x block piece l r,
-      same,
-    )
+    let (block, piece, l, r, same) = part_in_block a f x h part i n k in
+    let there = whole_block x n (leaf_in_blocks a f x h n (part_within a part n i k)) in
+    rw e (joined x, piece, there, piece_of_joined x block piece l r, same)
 
 -- nothing stands between two members of a piece
 piece_unbroken : (list piece : List ℕ) → AreDistinct list → HasPiece piece list → (x y z : ℕ) → x ∈ piece → ¬ (y ∈ piece) → z ∈ piece →
@@ -230,30 +215,29 @@ halve a b t d o =
 only_member : (n : ℕ) (t : List ℕ) → AreDistinct t → ((x : ℕ) → x ∈ t → x ∈ (n ∷ [])) → n ∈ t → t ≡ n ∷ []
 only_member n [] d f m = absurd m
 only_member n (y ∷ []) d f m = ap (λ z. z ∷ []) (only_one y n (f y (inl refl)))
-only_member n (y ∷ z ∷ t) d f m =
-    absurd (d.0 (inl (only_one y n (f y (inl refl)) ∙ sym (only_one z n (f z (inr (inl refl)))))))
+only_member n (y ∷ z ∷ t) d f m = grind (arith, f y, f z, d)
 
-blocks_of_ordering : (g : Process) (t : List ℕ) → IsChoiceFree g → AreDistinct (leaves g) → IsOrdering g t → Trace g t
-blocks_of_ordering Empty t f d o = ([], refl, no_members t o.leaf)
-blocks_of_ordering (Task n) t f d o = ((n ∷ []) ∷ [], refl, only_member n t o.distinct o.leaf (o.all n (inl refl)))
-blocks_of_ordering (Sequence a b) t (fa, fb) d o =
+pub trace_of_ordering : (t : List ℕ) (g : Process) → IsChoiceFree g → AreDistinct (leaves g) → IsOrdering g t → Trace g t
+trace_of_ordering t Empty f d o = ([], refl, no_members t o.leaf)
+trace_of_ordering t (Task n) f d o = ((n ∷ []) ∷ [], refl, only_member n t o.distinct o.leaf (o.all n (inl refl)))
+trace_of_ordering t (Sequence a b) (fa, fb) d o =
     let (u, v, s, in_a, in_b) = halve a b t d (ordering_beside a b t o) in
-    let (x, hx, ex) = blocks_of_ordering a u fa (distinct_left (leaves a) (leaves b) d) in_a in
-    let (y, hy, ey) = blocks_of_ordering b v fb (distinct_right (leaves a) (leaves b) d) in_b in
+    let (x, hx, ex) = trace_of_ordering u a fa (distinct_left (leaves a) (leaves b) d) in_a in
+    let (y, hy, ey) = trace_of_ordering v b fb (distinct_right (leaves a) (leaves b) d) in_b in
     let (more, e, r) = front_first u [] v t (subst (λ l. Shuffle l v t) (sym (append-nil u)) s)
     (λ m n i j k. not_both_ways m n t o.distinct (o.before m n (inl (inl (in_a.leaf m i, in_b.leaf n j)))) k) in
     (x ++ y, (x, y, hx, hy, refl), e ∙ (ap₂ ◌++◌ ex (shuffle_nothing r ∙ ey) ∙ sym (joined-append x y)))
-blocks_of_ordering (Parallel a b) t (fa, fb) d o =
+trace_of_ordering t (Parallel a b) (fa, fb) d o =
     let (u, v, s, in_a, in_b) = halve a b t d o in
     let off = distinct_apart (leaves a) (leaves b) d in
-    let (x, hx, ex) = blocks_of_ordering a u fa (distinct_left (leaves a) (leaves b) d) in_a in
-    let (y, hy, ey) = blocks_of_ordering b v fb (distinct_right (leaves a) (leaves b) d) in_b in
+    let (x, hx, ex) = trace_of_ordering u a fa (distinct_left (leaves a) (leaves b) d) in_a in
+    let (y, hy, ey) = trace_of_ordering v b fb (distinct_right (leaves a) (leaves b) d) in_b in
     let (c, r, e) = shuffle_blocks x y t (subst₂ (λ u v. Shuffle u v t) ex ey s)
     (half_unbroken a (Parallel a b) x (joined y) t fa hx (left_half a b) o (λ n m k. off n k (leaf_of_blocks b y hy n m)))
     (half_unbroken b (Parallel a b) y (joined x) t fb hy (right_half a b) o (λ n m k. off n (leaf_of_blocks a x hx n m) k)) in
     (c, (x, y, hx, hy, r), e)
-blocks_of_ordering (Choice a b) t f d o = absurd f
-blocks_of_ordering (Isolated a) t f d o =
+trace_of_ordering t (Choice a b) f d o = absurd f
+trace_of_ordering t (Isolated a) f d o =
     let inner : IsOrdering a t = record {
       leaf = o.leaf;
       all = o.all;
@@ -261,7 +245,4 @@ blocks_of_ordering (Isolated a) t f d o =
       before = o.before;
       together = λ part m. o.together part (inr m);
     } in
-    let (x, h, e) = blocks_of_ordering a t f d inner in (as_one x, (x, h, refl), e ∙ sym (joined-as_one x))
-
-pub trace_of_ordering : (t : List ℕ) (g : Process) → IsChoiceFree g → AreDistinct (leaves g) → IsOrdering g t → Trace g t
-trace_of_ordering t g = blocks_of_ordering g t
+    let (x, h, e) = trace_of_ordering t a f d inner in (as_one x, (x, h, refl), e ∙ sym (joined-as_one x))

@@ -29,17 +29,15 @@ each_two_out R (x ∷ front) y back (h, two) =
 -- the order does not matter
 pub each_two_order : {A : Type 0} (R : A → A → Type 0) (order list : List A) → IsOrderOf order list → EachTwo R list → EachTwo R order
 each_two_order R [] list o h = tt
-each_two_order R (y ∷ order) list o h =
-    let k = each_two_out R o.0 y o.1 (subst (EachTwo R) o.2 h) in (
-      each_from_members (λ z. R y z × R z y) order (λ z m. each_member (λ u. R y u × R u y) (o.0 ++ o.1) k.0 z (order_member z order (o.0 ++ o.1) o.3 m)),
-      each_two_order R order (o.0 ++ o.1) o.3 k.1,
+each_two_order R (y ∷ order) list (front, back, e, o) h =
+    let (apart, rest) = each_two_out R front y back (subst (EachTwo R) e h) in (
+      each_from_members (λ z. R y z × R z y) order (λ z m. each_member (λ u. R y u × R u y) (front ++ back) apart z (order_member z order (front ++ back) o m)),
+      each_two_order R order (front ++ back) o rest,
     )
 
 pub each_two_at : {A : Type 0} (R : A → A → Type 0) (front : List A) (n : A) (back : List A) → EachTwo R (front ++ n ∷ back) → (x : A) → x ∈ front → R x n
-each_two_at R [] n back h x m = absurd m
-each_two_at R (y ∷ front) n back h x m =
-    let k = (each_member (λ z. R y z × R z y) (front ++ n ∷ back) h.0 n (mem_here n front back)).0 in
-    ⊎_elim (λ e. subst (λ z. R z n) (sym e) k) (each_two_at R front n back h.1 x) m
+each_two_at R front n back h x m =
+    (each_member (λ z. R n z × R z n) (front ++ back) (each_two_out R front n back h).0 x (mem_append_left x front back m)).1
 
 -- ready leaves
 
@@ -134,7 +132,7 @@ orders_may_follow w f s o m list = (
 
 -- done, or the one leaf: done at the end of the journal
 pub done_or_one : (journal : List ℕ) (first : ℕ) → AreSame (DoneOr (λ n. n ∈ journal) (first ∷ [])) (λ n. n ∈ (journal ++ first ∷ []))
-done_or_one journal first n = (grind (arith, mem_append_left n journal (first ∷ []), mem_append_right n journal (first ∷ [])), mem-append n journal (first ∷ []))
+done_or_one journal first n = grind (arith, mem_append_left n journal (first ∷ []), mem_append_right n journal (first ∷ []), mem-append n journal (first ∷ []))
 
 pub orders_may_follow_one : OrdersMayFollowOne
 orders_may_follow_one w f s o m first list =

@@ -113,8 +113,7 @@ run_of q pairs D [] f = tt
 run_of q pairs D (n ∷ run) f = (
   same_ready q pairs (DoneOr D []) D n (λ x. (done_or_none D x).1) (λ x. (done_or_none D x).0) (f [] n run refl),
   run_of q pairs (DoneOr D (n ∷ [])) run (λ front m back e.
-      let same = done_in_turn D n front in
-      same_ready q pairs (DoneOr D (n ∷ front)) (DoneOr (DoneOr D (n ∷ [])) front) m (λ x. (same x).1) (λ x. (same x).0)
+      same_ready q pairs (DoneOr D (n ∷ front)) (DoneOr (DoneOr D (n ∷ [])) front) m (λ x. grind arith) (λ x. grind arith)
       (f (n ∷ front) m back (ap (λ l. n ∷ l) e))),
 )
 

@@ -38,8 +38,7 @@ blocks_of_goal (Sequence a b) q bs (p, r, hp, hr, e) h =
     let (x, y, hx, hy, k) = subst (λ s. Blocks s bs) e h in (x, y, blocks_of_goal a p x hp hx, blocks_of_goal b r y hr hy, k)
 blocks_of_goal (Parallel a b) q bs (p, r, hp, hr, e) h =
     let (x, y, hx, hy, k) = subst (λ s. Blocks s bs) e h in (x, y, blocks_of_goal a p x hp hx, blocks_of_goal b r y hr hy, k)
-blocks_of_goal (Choice a b) q bs (inl k) h = inl (blocks_of_goal a q bs k h)
-blocks_of_goal (Choice a b) q bs (inr k) h = inr (blocks_of_goal b q bs k h)
+blocks_of_goal (Choice a b) q bs k h = grind (arith, k, blocks_of_goal a q bs, blocks_of_goal b q bs, h)
 blocks_of_goal (Isolated a) q bs (p, r, e) h = let (x, hx, k) = subst (λ s. Blocks s bs) e h in (x, blocks_of_goal a p x r hx, k)
 
 -- Which they are
@@ -55,25 +54,19 @@ resolves_of (Isolated a) q m = grind (arith, of_map Isolated q (resolutions a) m
 pub mem-resolutions : (g q : Process) → Resolves g q → q ∈ resolutions g
 mem-resolutions Empty q e = inl e
 mem-resolutions (Task n) q e = inl e
-mem-resolutions (Sequence a b) q (x, y, hx, hy, e) = subst (λ s. s ∈ resolutions (Sequence a b)) (sym e)
-    (mem-each_with_each Sequence x y _ _ (mem-resolutions a x hx) (mem-resolutions b y hy))
-mem-resolutions (Parallel a b) q (x, y, hx, hy, e) = subst (λ s. s ∈ resolutions (Parallel a b)) (sym e)
-    (mem-each_with_each Parallel x y _ _ (mem-resolutions a x hx) (mem-resolutions b y hy))
-mem-resolutions (Choice a b) q (inl h) = mem_append_left q _ _ (mem-resolutions a q h)
-mem-resolutions (Choice a b) q (inr h) = mem_append_right q _ _ (mem-resolutions b q h)
-mem-resolutions (Isolated a) q (x, h, e) = subst (λ s. s ∈ resolutions (Isolated a)) (sym e) (mem-map Isolated x _ (mem-resolutions a x h))
+mem-resolutions (Sequence a b) q (x, y, hx, hy, e) = rw e (mem-each_with_each Sequence x y _ _ (mem-resolutions a x hx) (mem-resolutions b y hy))
+mem-resolutions (Parallel a b) q (x, y, hx, hy, e) = rw e (mem-each_with_each Parallel x y _ _ (mem-resolutions a x hx) (mem-resolutions b y hy))
+mem-resolutions (Choice a b) q h = mem_by_halves q (resolutions a) (resolutions b) (mem-resolutions a q) (mem-resolutions b q) h
+mem-resolutions (Isolated a) q (x, h, e) = rw e (mem-map Isolated x _ (mem-resolutions a x h))
 
 -- Their numbers
 
 pub length-resolutions : (g : Process) → length (resolutions g) ≡ resolution_count g
 length-resolutions Empty = refl
 length-resolutions (Task n) = refl
-length-resolutions (Sequence a b) =
-    length-each_with_each Sequence (resolutions a) (resolutions b) ∙ ap₂ ◌*◌ (length-resolutions a) (length-resolutions b)
-length-resolutions (Parallel a b) =
-    length-each_with_each Parallel (resolutions a) (resolutions b) ∙ ap₂ ◌*◌ (length-resolutions a) (length-resolutions b)
-length-resolutions (Choice a b) =
-    length-append (resolutions a) (resolutions b) ∙ ap₂ ◌+◌ (length-resolutions a) (length-resolutions b)
+length-resolutions (Sequence a b) = grind (arith, length-each_with_each Sequence (resolutions a) (resolutions b), length-resolutions a, length-resolutions b)
+length-resolutions (Parallel a b) = grind (arith, length-each_with_each Parallel (resolutions a) (resolutions b), length-resolutions a, length-resolutions b)
+length-resolutions (Choice a b) = grind (arith, length-append (resolutions a) (resolutions b), length-resolutions a, length-resolutions b)
 length-resolutions (Isolated a) = length-map (resolutions a) Isolated ∙ length-resolutions a
 
 -- the number of a resolution of two parts that both stay
@@ -93,12 +86,12 @@ number_of_right a b x i e =
 -- Their leaves
 
 pub choice_free_resolution : (g q : Process) → Resolves g q → IsChoiceFree q
-choice_free_resolution Empty q e = subst IsChoiceFree (sym e) tt
-choice_free_resolution (Task n) q e = subst IsChoiceFree (sym e) tt
-choice_free_resolution (Sequence a b) q (x, y, hx, hy, e) = subst IsChoiceFree (sym e) (choice_free_resolution a x hx, choice_free_resolution b y hy)
-choice_free_resolution (Parallel a b) q (x, y, hx, hy, e) = subst IsChoiceFree (sym e) (choice_free_resolution a x hx, choice_free_resolution b y hy)
+choice_free_resolution Empty q e = rw e tt
+choice_free_resolution (Task n) q e = rw e tt
+choice_free_resolution (Sequence a b) q (x, y, hx, hy, e) = rw e (choice_free_resolution a x hx, choice_free_resolution b y hy)
+choice_free_resolution (Parallel a b) q (x, y, hx, hy, e) = rw e (choice_free_resolution a x hx, choice_free_resolution b y hy)
 choice_free_resolution (Choice a b) q h = ⊎_elim (choice_free_resolution a q) (choice_free_resolution b q) h
-choice_free_resolution (Isolated a) q (x, h, e) = subst IsChoiceFree (sym e) (choice_free_resolution a x h)
+choice_free_resolution (Isolated a) q (x, h, e) = rw e (choice_free_resolution a x h)
 
 pub mem-leaves_of_goal : (g q : Process) → Resolves g q → (n : ℕ) → n ∈ leaves q → n ∈ leaves g
 mem-leaves_of_goal Empty q e n m = subst (λ p. n ∈ leaves p) e m
@@ -119,14 +112,13 @@ halves_distinct a b x y hx hy in_a in_b d =
 pub distinct_leaves_of_resolution : (g q : Process) → Resolves g q → AreDistinct (leaves g) → AreDistinct (leaves q)
 distinct_leaves_of_resolution Empty q e d = subst (λ p. AreDistinct (leaves p)) (sym e) d
 distinct_leaves_of_resolution (Task n) q e d = subst (λ p. AreDistinct (leaves p)) (sym e) d
-distinct_leaves_of_resolution (Sequence a b) q (x, y, hx, hy, e) d = subst (λ p. AreDistinct (leaves p)) (sym e)
-    (halves_distinct a b x y hx hy (distinct_leaves_of_resolution a x hx) (distinct_leaves_of_resolution b y hy) d)
-distinct_leaves_of_resolution (Parallel a b) q (x, y, hx, hy, e) d = subst (λ p. AreDistinct (leaves p)) (sym e)
-    (halves_distinct a b x y hx hy (distinct_leaves_of_resolution a x hx) (distinct_leaves_of_resolution b y hy) d)
+distinct_leaves_of_resolution (Sequence a b) q (x, y, hx, hy, e) d =
+    rw e (halves_distinct a b x y hx hy (distinct_leaves_of_resolution a x hx) (distinct_leaves_of_resolution b y hy) d)
+distinct_leaves_of_resolution (Parallel a b) q (x, y, hx, hy, e) d =
+    rw e (halves_distinct a b x y hx hy (distinct_leaves_of_resolution a x hx) (distinct_leaves_of_resolution b y hy) d)
 distinct_leaves_of_resolution (Choice a b) q h d =
-    let (da, db, _) = distinct_parts (leaves a) (leaves b) d in
-    ⊎_elim (λ k. distinct_leaves_of_resolution a q k da) (λ k. distinct_leaves_of_resolution b q k db) h
-distinct_leaves_of_resolution (Isolated a) q (x, h, e) d = subst (λ p. AreDistinct (leaves p)) (sym e) (distinct_leaves_of_resolution a x h d)
+    grind (arith, h, distinct_parts (leaves a) (leaves b) d, distinct_leaves_of_resolution a q, distinct_leaves_of_resolution b q)
+distinct_leaves_of_resolution (Isolated a) q (x, h, e) d = rw e (distinct_leaves_of_resolution a x h d)
 
 -- Executions by their leaves
 
@@ -139,8 +131,7 @@ no_common_leaf : (p q : Process) (bs : List (List ℕ)) → ((n : ℕ) → n ∈
 no_common_leaf p q bs apart h just =
     let none : (n : ℕ) → ¬ (n ∈ joined bs) = λ n m. apart n m ((just n).0 m) in
     let (cs, k) = some_blocks q in
-    let empty : cs ≡ [] = blocks_of_none q cs k (λ n m. none n ((just n).1 (leaf_of_blocks q cs k n m))) in
-    subst (Blocks q) (empty ∙ sym (blocks_of_none p bs h none)) k
+    rw (blocks_of_none p bs h none) (subst (Blocks q) (blocks_of_none q cs k (λ n m. none n ((just n).1 (leaf_of_blocks q cs k n m)))) k)
 
 -- of two halves the blocks hold just the leaves of their own resolutions
 halves_have : (a b u v : Process) (x y bs : List (List ℕ)) → AreDistinct (leaves (Parallel a b)) → Resolves a u → Resolves b v → Blocks a x → Blocks b y →

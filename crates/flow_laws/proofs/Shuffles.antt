@@ -47,10 +47,10 @@ before_in_shuffle (from_right s) x y h = inr (before_in_shuffle s x y h)
 
 pub distinct-shuffle : {A : Type 0} {a b c : List A} → Shuffle a b c → AreDistinct a → AreDistinct b → Apart a b → AreDistinct c
 distinct-shuffle both_end d e apart = tt
-distinct-shuffle (from_left {x = x} s) (new, d) e apart =
-    (λ m. ⊎_elim new (apart x (inl refl)) (of_shuffle s x m), distinct-shuffle s d e (λ y k l. apart y (inr k) l))
-distinct-shuffle (from_right {x = x} s) d (new, e) apart =
-    (λ m. ⊎_elim (λ k. apart x k (inl refl)) new (of_shuffle s x m), distinct-shuffle s d e (λ y k l. apart y k (inr l)))
+distinct-shuffle (from_left {x = x} s) d e apart =
+    grind (arith, d, e, of_shuffle s x, apart x, distinct-shuffle s d.1 e (λ y k l. apart y (inr k) l))
+distinct-shuffle (from_right {x = x} s) d e apart =
+    grind (arith, d, e, of_shuffle s x, apart x, distinct-shuffle s d e.1 (λ y k l. apart y k (inr l)))
 
 pub distinct_in_shuffle : {A : Type 0} {a b c : List A} → Shuffle a b c → AreDistinct c → AreDistinct a
 distinct_in_shuffle both_end d = tt
@@ -64,8 +64,8 @@ shuffle_of a b [] f = ([], [], both_end, λ x h. absurd h, λ x h. absurd h)
 shuffle_of {A} a b (y ∷ list) f =
     let (u, v, s, of_a, of_b) = shuffle_of a b list (λ x m. f x (inr m)) in
     elim (f y (inl refl)) [
-      | inl k ↦ (y ∷ u, v, from_left s, λ x m. ⊎_elim (λ e. subst (λ z. z ∈ a) (sym e) k) (of_a x) m, of_b)
-      | inr k ↦ (u, y ∷ v, from_right s, of_a, λ x m. ⊎_elim (λ e. subst (λ z. z ∈ b) (sym e) k) (of_b x) m)
+      | inl k ↦ (y ∷ u, v, from_left s, λ x m. grind (arith, m, k, of_a x), of_b)
+      | inr k ↦ (u, y ∷ v, from_right s, of_a, λ x m. grind (arith, m, k, of_b x))
     ]
 
 -- where nothing of the other list stands before a member of the front, the front comes first
@@ -101,15 +101,10 @@ take_block : {A : Type 0} (x : A) (block : List A) (a b : List (List A)) (rest :
 take_block {A} x block a b rest s h k left =
     let (more, e, r) = front_first block (joined a) (joined b) rest s
     (λ u v m l i. h (x ∷ block) (inl refl) x v u (inl refl) l (inr m) (inl (refl, mem_shuffle_right s v l)) (inr i)) in
-    done more e (left more r
-    (λ part m u v w l n o i j. h part (inr m) u v w l n o (back more e u v i) (back more e v w j))
-    (λ part m u v w l n o i j. k part m u v w l (mem_append_right v (x ∷ block) (joined a) n) o (back more e u v i) (back more e v w j)))
-  where
-    back : (more : List A) → rest ≡ block ++ more → (u v : A) → StandsBefore u v more → StandsBefore u v (x ∷ rest)
-    back more e u v i = inr (subst (StandsBefore u v) (sym e) (before_right u v block more i))
-
-    done : (more : List A) → rest ≡ block ++ more → BlocksShuffle a b more → BlocksShuffle ((x ∷ block) ∷ a) b (x ∷ rest)
-    done more e (c, s, f) = ((x ∷ block) ∷ c, from_left s, ap (λ l. x ∷ l) (e ∙ ap (λ l. block ++ l) f))
+    let back = λ (u v : A) (i : StandsBefore u v more). subst (StandsBefore u v) (sym e) (before_right u v block more i) in
+    let (c, j, f) = left more r (λ part m u v w l n o i j. h part (inr m) u v w l n o (inr (back u v i)) (inr (back v w j)))
+    (λ part m u v w l n o i j. k part m u v w l (mem_append_right v (x ∷ block) (joined a) n) o (inr (back u v i)) (inr (back v w j))) in
+    ((x ∷ block) ∷ c, from_left j, ap (λ l. x ∷ l) (e ∙ ap (λ l. block ++ l) f))
 
 -- where the members of blocks interleave and break no block, so do the blocks
 pub shuffle_blocks : {A : Type 0} (a b : List (List A)) (list : List A) → Shuffle (joined a) (joined b) list →

@@ -1,5 +1,5 @@
 -- Each entry that may be made keeps the state sound.
-use Rattle.std.proofs.Common.{◌≡◌, ℕ, zero, suc, true, List, [], ◌∷◌, ◌++◌, is_some, MatchOption, slice_get, Option, Some, None, sym, true≢false, ◌+◌, ◌≤◌, false, not, ◌&&◌, nat_le, nat_lt, cond, IsTrue, map, length, take, drop, filter, slice_index, refl, ap, ◌∙◌, subst, append_assoc, length-append, take-append-drop, arith, le_refl}
+use Rattle.std.proofs.Common.{◌≡◌, ℕ, zero, suc, true, List, [], ◌∷◌, ◌++◌, is_some, MatchOption, slice_get, Option, Some, None, sym, true≢false, ◌+◌, ◌≤◌, false, not, ◌&&◌, nat_le, nat_lt, cond, IsTrue, map, length, take, drop, filter, slice_index, refl, ap, ◌∙◌, subst, append_assoc, length-append, take-append-drop, arith, le_refl, append-nil, ◌⊎◌, inl, inr, ⊎_elim}
 use Rattle.std.proofs.lemmas.Bool.{eq-eqb, leb-true}
 use Rattle.std.proofs.lemmas.List.{length-take-le, length-map, map-append}
 use Rattle.std.proofs.lemmas.List.Elements.{filter-append}
@@ -17,7 +17,7 @@ use Rattle.flow_model.specs.Run.{Claim, RunState, first_state, current_leaves, i
 use Rattle.flow_laws.specs.Histories.{NeverWaits, IsSound}
 use Rattle.flow_laws.specs.WellFormed.{IsWellFormed, IsConsistent}
 use Rattle.flow_laws.proofs.Members.{each-append, each_to, each_member}
-use Rattle.flow_laws.proofs.MadeLists.{distinct-numbers_from, begins_front, begins_and_nothing, each-filter, order_of_none, order_with_last, numbers_from_more}
+use Rattle.flow_laws.proofs.MadeLists.{distinct-numbers_from, begins_front, each-filter, order_of_none, order_with_last, numbers_from_more}
 use Rattle.flow_laws.proofs.OptionsLemmas.{option_of_good}
 use Rattle.flow_laws.proofs.ClaimLemmas.{number_of, leaf_of, is_of, answer_keeps, numbers-answer, taken_out, none_taken_out, leaf_of_claim_is, some_claim, lapsed_is_not_current, claim_in, spare_keeps, numbers-spare, spared_are_current, spared_may_follow}
 
@@ -34,28 +34,25 @@ abbrev pub event_if : Option Label → Option ℕ
 event_if None = None
 event_if (Some label) = event_in label
 
-pub holds_with_event : (s : State) (o : Option Label) → is_some (event_if o) ≡ true → MatchOption o (Unit {0}) (Holds s)
-holds_with_event s None h = tt
-holds_with_event s (Some (Event e)) h = tt
-holds_with_event s (Some (Test f)) h = absurd (true≢false (sym h))
-holds_with_event s (Some (Absent f)) h = absurd (true≢false (sym h))
-holds_with_event s (Some (Ins f)) h = tt
-holds_with_event s (Some (Del f)) h = tt
+-- a label that is an event's, or neither a test nor an absence, holds always
+holds_freely : (s : State) (label : Label) → NeverWaits label ⊎ (is_some (event_in label) ≡ true) → Holds s label
+holds_freely s (Event e) h = tt
+holds_freely s (Test f) h = ⊎_elim absurd (λ e. absurd (true≢false (sym e))) h
+holds_freely s (Absent f) h = ⊎_elim absurd (λ e. absurd (true≢false (sym e))) h
+holds_freely s (Ins f) h = tt
+holds_freely s (Del f) h = tt
 
 -- an event may be performed in every state
 pub event_holds : (w : Schema) (s : State) (n : ℕ) → IsEventLeaf w n → HoldsAt w.labels s n
-event_holds w s n h = holds_with_event s (slice_get w.labels n) h
-
-pub holds_that_never_waits : (s : State) (label : Label) → NeverWaits label → Holds s label
-holds_that_never_waits s (Event e) h = tt
-holds_that_never_waits s (Test f) h = absurd h
-holds_that_never_waits s (Absent f) h = absurd h
-holds_that_never_waits s (Ins f) h = tt
-holds_that_never_waits s (Del f) h = tt
+event_holds w s n h = holds (slice_get w.labels n) h
+  where
+    holds : (o : Option Label) → is_some (event_if o) ≡ true → MatchOption o (Unit {0}) (Holds s)
+    holds None h = tt
+    holds (Some label) h = holds_freely s label (inr h)
 
 pub always_holds : (labels : List Label) → Each NeverWaits labels → (s : State) (n : ℕ) → HoldsAt labels s n
 always_holds [] h s n = tt
-always_holds (label ∷ labels) (h, t) s zero = holds_that_never_waits s label h
+always_holds (label ∷ labels) (h, t) s zero = holds_freely s label (inl h)
 always_holds (label ∷ labels) (h, t) s (suc n) = always_holds labels t s n
 
 -- A good execution that goes on from the journal
@@ -70,8 +67,7 @@ free_may_follow w f s t these free begins =
 -- where none is to follow, one free execution will do
 none_may_follow : (w : Schema) → IsWellFormed w → (s : RunState) (t : List ℕ) → IsFree w s t → MayAllFollow w s []
 none_may_follow w f s t free =
-    let (o, m, follows) = free_may_follow w f s t [] free (begins_and_nothing t s.journal free.1) in
-    (o, m, λ order p. follows order (order_of_none order p))
+    let (o, m, follows) = free_may_follow w f s t [] free (rw append-nil free.1) in (o, m, λ order p. follows order (order_of_none order p))
 
 -- the claims of a sound state
 record AreSoundClaims (w : Schema) (epoch : ℕ) (claims : List Claim) : Type 0 where
@@ -137,10 +133,7 @@ event_of_taken w s h number taken =
 
 pub longer_bans : (journal : List ℕ) (leaf : ℕ) (bans : List (ℕ × ℕ)) → Each (λ ban. ban.0 ≤ length journal) bans →
     Each (λ ban. ban.0 ≤ length (journal ++ leaf ∷ [])) bans
-longer_bans journal leaf bans h = each_to _ _ bans (λ ban k. longer ban.0 k) h
-  where
-    longer : (n : ℕ) → n ≤ length journal → n ≤ length (journal ++ leaf ∷ [])
-    longer n k = omega (arith, length-append journal (leaf ∷ []))
+longer_bans journal leaf bans h = each_to (λ (ban : ℕ × ℕ). ban.0 ≤ length journal) _ bans (λ ban k. omega (arith, k, length-append journal (leaf ∷ []))) h
 
 pub follow_after : (w : Schema) (s : RunState) (o : ChoiceOption) (leaf : ℕ) (claims : List Claim) (more : List ℕ) →
     MayFollow w s o (leaf ∷ more) → MayFollow w (record s { journal = s.journal ++ leaf ∷ []; claims = claims }) o more
@@ -157,13 +150,12 @@ kept_new_epoch : (w : Schema) → IsWellFormed w → (s : RunState) → Runs w.l
 kept_new_epoch w f s runs bans h t free =
     let numbers = numbers-spare w s [] s.claims in
     let count : length s.claims ≡ length (spare w s [] s.claims) =
-    sym (length-map s.claims number_of) ∙ (sym (ap length numbers) ∙ length-map (spare w s [] s.claims) number_of) in
-    let later : (a : ℕ) → a ≤ s.epoch → a ≤ s.epoch + 1 = λ a k. omega arith in
+    omega (arith, ap length numbers, length-map s.claims number_of, length-map (spare w s [] s.claims) number_of) in
     let claims : AreSoundClaims w (s.epoch + 1) (spare w s [] s.claims) = record {
       numbered = numbers ∙ (h.numbered ∙ ap (numbers_from 1) count);
       on_events = spare_keeps (λ (claim : Claim). IsEventLeaf w claim.leaf) w s (λ claim k. k) [] s.claims h.on_events;
       epochs = spare_keeps (λ (claim : Claim). claim.epoch ≤ s.epoch + 1) w s (λ claim k. le_refl (s.epoch + 1)) [] s.claims
-          (each_to _ _ s.claims (λ (claim : Claim) k. later claim.epoch k) h.epochs);
+          (each_to (λ (claim : Claim). claim.epoch ≤ s.epoch) _ s.claims (λ claim k. omega arith) h.epochs);
     } in
     sound_with w (with_new_epoch w s) runs bans claims
     (subst (MayAllFollow w s) (sym (spared_are_current w s [] s.claims h.epochs)) (spared_may_follow w s [] s.claims (none_may_follow w f s t free)))
@@ -177,14 +169,9 @@ kept_took w s h claim leaf e (event, unclaimed, (o, m, follow)) =
     let count : suc (length s.claims) ≡ length (s.claims ++ new ∷ []) = omega (arith, length-append s.claims (new ∷ [])) in
     let next : claim ≡ 1 + length s.claims = omega arith in
     let now : current_leaves (next_state w s (Took claim leaf)) ≡ current_leaves s ++ leaf ∷ [] =
-    ap (map leaf_of) (filter-append (is_of s.epoch) s.claims (new ∷ []))
-    ∙ (map-append leaf_of (filter (is_of s.epoch) s.claims) (filter (is_of s.epoch) (new ∷ []))
-    ∙ ap (λ b. current_leaves s ++ map leaf_of (cond b (new ∷ []) [])) (eq-eqb s.epoch s.epoch refl)) in
+    rw (filter-append (is_of s.epoch) s.claims (new ∷ []), map-append leaf_of (filter (is_of s.epoch) s.claims), eq-eqb s.epoch s.epoch refl) refl in
     let claims : AreSoundClaims w s.epoch (s.claims ++ new ∷ []) = record {
-      numbered = map-append number_of s.claims (new ∷ [])
-          ∙ (ap (λ w. w ++ claim ∷ []) h.numbered
-          ∙ (ap (λ n. numbers_from 1 (length s.claims) ++ n ∷ []) next
-          ∙ (sym (numbers_from_more 1 (length s.claims)) ∙ ap (numbers_from 1) count)));
+      numbered = rw (map-append number_of s.claims (new ∷ []), h.numbered, ← count, numbers_from_more 1 (length s.claims), ← next) refl;
       on_events = each-append _ s.claims (new ∷ []) h.on_events (event, tt);
       epochs = each-append _ s.claims (new ∷ []) h.epochs (le_refl s.epoch, tt);
     } in
@@ -195,14 +182,11 @@ kept_done w s h claim current =
     let leaf = leaf_of_claim s claim in
     let taken = taken_of_current w s h claim current in
     let (o, m, follow) = h.extends in
+    let next = λ (order : List ℕ) (p : IsOrderOf order (current_leaves (next_state w s (Done claim)))).
+    follow_after w s o leaf (answer claim s.claims) order (follow (leaf ∷ order) (taken.front, taken.back, taken.whole, subst (IsOrderOf order) taken.left p)) in
     sound_with w (next_state w s (Done claim))
     (runs-append w.labels (start_of w) s.journal (leaf ∷ []) h.runs (event_holds w (database w s) leaf (event_of_taken w s h claim taken), tt))
-    (longer_bans s.journal leaf s.bans h.bans) (answered_claims w s.epoch s.claims (sound_claims w s h) claim) (
-      o,
-      m,
-      λ order p. follow_after w s o leaf (answer claim s.claims) order
-          (follow (leaf ∷ order) (taken.front, taken.back, taken.whole, subst (IsOrderOf order) taken.left p)),
-    )
+    (longer_bans s.journal leaf s.bans h.bans) (answered_claims w s.epoch s.claims (sound_claims w s h) claim) (o, m, next)
 
 pub kept_failed : (w : Schema) (s : RunState) → IsSound w s → (claim : ℕ) → IsCurrent s claim → IsSound w (next_state w s (Failed claim Kept))
 kept_failed w s h claim current =
@@ -213,13 +197,9 @@ kept_failed w s h claim current =
       o,
       m,
       λ order p.
-          let (t, trace, free, (rest, e)) = follow (order ++ leaf ∷ []) (subst (IsOrderOf (order ++ leaf ∷ [])) (sym taken.whole)
-          (order_with_last order leaf taken.front taken.back (subst (IsOrderOf order) taken.left p))) in (
-            t,
-            trace,
-            free,
-            begins_front t (s.journal ++ order) (leaf ∷ []) (rest, e ∙ ap (λ w. w ++ rest) (sym (append_assoc s.journal order (leaf ∷ [])))),
-          ),
+          let (t, trace, free, (rest, e)) = follow (order ++ leaf ∷ []) (rw taken.whole
+          (order_with_last order leaf taken.front taken.back (subst (IsOrderOf order) taken.left p))) in
+          (t, trace, free, begins_front t (s.journal ++ order) (leaf ∷ []) (rest, rw (append_assoc s.journal order (leaf ∷ [])) e)),
     )
 
 pub kept_switched : (w : Schema) → IsWellFormed w → (s : RunState) → IsSound w s → (claim : ℕ) →

@@ -1,6 +1,6 @@
 -- Constraints, their normal forms and their ways: of which leaves the pairs are, and what is decided by them.
 use Rattle.std.proofs.Common.{◌≡◌, ◌≢◌, ℕ, ◌⊎◌, Bool, true, false, ◌==◌, ◌||◌, if◌then◌else◌, List, [], ◌∷◌, ◌++◌, refl, sym, ap, ◌∙◌, subst, inl, inr, ⊎_elim, Option, Some, None, ◌↔◌, arith}
-use Rattle.std.proofs.lemmas.Bool.{eqb-true, eqb-false, eq-eqb}
+use Rattle.std.proofs.lemmas.Bool.{cases_Bool, eqb-true, eqb-false, eq-eqb}
 use Rattle.flow_model.specs.declared.labels.Label.{Label}
 use Rattle.flow_model.specs.Lists.{◌∈◌, Each, StandsBefore, AreDistinct, AreInOrder, each_with_each}
 use Rattle.flow_model.specs.Facts.{event_at, is_event, events_of}
@@ -9,6 +9,10 @@ use Rattle.flow_model.specs.Constraint.{Constraint, Always, Impossible, Must, Ne
 use Rattle.flow_model.specs.Decided.{decide_in, decide_before, decide_meets}
 use Rattle.flow_laws.proofs.Members.{mem-append, each-append, before_members, mem_append_left, mem_append_right, each_parts, not_both_ways, before_or_after, not_before_itself, each_from_members, each_member}
 use Rattle.flow_laws.proofs.MadeLists.{of_each_with_each, of_find, some_same, mem-each_with_each, not_found, mem-filter_map, of_filter_map, before-filter_map, of_before-filter_map, same_source}
+
+cases_option : (o : Option ℕ) → (o ≡ None) ⊎ ((x : ℕ) × (o ≡ Some x))
+cases_option None = inl refl
+cases_option (Some x) = inr (x, refl)
 
 -- The leaf of an event
 
@@ -40,31 +44,15 @@ each_way P leaf h always = (tt, tt)
 each_way P leaf h impossible = tt
 each_way P leaf h (must e) = elim (leaf e) as (λ o. Each (Each P) (ways_of_must o)) [ None ↦ tt | Some x ↦ (tt, tt) ]
 each_way P leaf h (never e) = elim (leaf e) as (λ o. Each (Each P) (ways_of_never o)) [ None ↦ (tt, tt) | Some x ↦ tt ]
-each_way P leaf h (before a b) = of_before (a == b) refl (leaf a) refl (leaf b) refl
-  where
-    of_before : (t : Bool) → (a == b) ≡ t → (o : Option ℕ) → leaf a ≡ o → (p : Option ℕ) → leaf b ≡ p →
-        Each (Each P) (if t then [] else ways_of_before o p)
-    of_before true i o j p k = tt
-    of_before false i None j p k = tt
-    of_before false i (Some x) j None k = tt
-    of_before false i (Some x) j (Some y) k = ((h a b x y (eqb-false a b i) j k, tt), tt)
-each_way P leaf h (not_before a b) = of_not_before (a == b) refl (leaf a) refl (leaf b) refl
-  where
-    of_not_before : (t : Bool) → (a == b) ≡ t → (o : Option ℕ) → leaf a ≡ o → (p : Option ℕ) → leaf b ≡ p →
-        Each (Each P) (if t then free_way else ways_of_not_before o p)
-    of_not_before true i o j p k = (tt, tt)
-    of_not_before false i None j p k = (tt, tt)
-    of_not_before false i (Some x) j None k = (tt, tt)
-    of_not_before false i (Some x) j (Some y) k = ((h b a y x (λ e. eqb-false a b i (sym e)) k j, tt), tt)
+each_way P leaf h (before a b) = grind (arith, h a b, eqb-false a b, cases_Bool (a == b), cases_option (leaf a), cases_option (leaf b))
+each_way P leaf h (not_before a b) = grind (arith, h b a, eqb-false a b, cases_Bool (a == b), cases_option (leaf a), cases_option (leaf b))
 each_way P leaf h (both x y) = each_from_members (Each P) (ways (both x y) leaf) (λ way m.
     let (v, (w, mv, mw, e)) = of_each_with_each (λ v w. v ++ w) way (ways x leaf) (ways y leaf) m in
     subst (Each P) (sym e) (each-append P v w
     (each_member (Each P) (ways x leaf) (each_way P leaf h x) v mv) (each_member (Each P) (ways y leaf) (each_way P leaf h y) w mw)))
 each_way P leaf h (either x y) =
-    elim (is_free (ways x leaf) || is_free (ways y leaf)) as (λ t. Each (Each P) (if t then free_way else ways x leaf ++ ways y leaf)) [
-      | true ↦ (tt, tt)
-      | false ↦ each-append (Each P) (ways x leaf) (ways y leaf) (each_way P leaf h x) (each_way P leaf h y)
-    ]
+    let fact = each-append (Each P) (ways x leaf) (ways y leaf) (each_way P leaf h x) (each_way P leaf h y) in
+    grind (arith, cases_Bool (is_free (ways x leaf) || is_free (ways y leaf)))
 
 pub each_pair : (P : ℕ × ℕ → Type 0) (leaf : ℕ → Option ℕ) →
     ((a b x y : ℕ) → a ≢ b → leaf a ≡ Some x → leaf b ≡ Some y → P (x, y)) →
@@ -178,21 +166,24 @@ pair_is t x y to from = (
 
 must_by_way : {labels : List Label} {t ls : List ℕ} → AreItsLeaves labels t ls → (e : ℕ) (o : Option ℕ) →
     leaf_of_event labels ls e ≡ o → (e ∈ events_of labels t) ↔ HasWay (ways_of_must o) t
-must_by_way {t = t} l e None h = never_is t (event_is_not_there l e h)
-must_by_way {t = t} l e (Some x) h = always_is t (event_is_there l e x h)
+must_by_way {t = t} l e o h = grind (arith, h, cases_option o, event_is_not_there l e, event_is_there l e, free_has_way t)
 
 never_by_way : {labels : List Label} {t ls : List ℕ} → AreItsLeaves labels t ls → (e : ℕ) (o : Option ℕ) →
     leaf_of_event labels ls e ≡ o → (¬ (e ∈ events_of labels t)) ↔ HasWay (ways_of_never o) t
-never_by_way {t = t} l e None h = always_is t (event_is_not_there l e h)
-never_by_way {t = t} l e (Some x) h = never_is t (λ n. n (event_is_there l e x h))
+never_by_way {t = t} l e o h = grind (arith, h, cases_option o, event_is_not_there l e, event_is_there l e, free_has_way t)
 
 -- where one event is not there, or the two are one, they do not stand in order
 not_in_order : {labels : List Label} {t ls : List ℕ} → AreItsLeaves labels t ls → (a b : ℕ) →
     ((a == b) ≡ true) ⊎ ((leaf_of_event labels ls a ≡ None) ⊎ (leaf_of_event labels ls b ≡ None)) → ¬ (StandsBefore a b (events_of labels t))
-not_in_order {labels} {t} l a b (inl e) s =
-    not_before_itself b (events_of labels t) l.distinct (subst (λ x. StandsBefore x b (events_of labels t)) (eqb-true a b e) s)
-not_in_order {labels} {t} l a b (inr (inl i)) s = event_is_not_there l a i (before_members a b (events_of labels t) s).0
-not_in_order {labels} {t} l a b (inr (inr j)) s = event_is_not_there l b j (before_members a b (events_of labels t) s).1
+not_in_order {labels} {t} l a b h s = grind (
+  arith,
+  h,
+  eqb-true a b,
+  not_before_itself b (events_of labels t) l.distinct,
+  before_members a b (events_of labels t) s,
+  event_is_not_there l a,
+  event_is_not_there l b,
+)
 
 before_by_way : {labels : List Label} {t ls : List ℕ} → AreItsLeaves labels t ls → (a b : ℕ) →
     (same : Bool) → (a == b) ≡ same → (o : Option ℕ) → leaf_of_event labels ls a ≡ o → (p : Option ℕ) → leaf_of_event labels ls b ≡ p →
@@ -208,9 +199,9 @@ not_before_by_way : {labels : List Label} {t ls : List ℕ} → AreItsLeaves lab
 not_before_by_way {t = t} l a b true e o i p j = always_is t (not_in_order l a b (inl e))
 not_before_by_way {t = t} l a b false e None i p j = always_is t (not_in_order l a b (inr (inl i)))
 not_before_by_way {t = t} l a b false e (Some x) i None j = always_is t (not_in_order l a b (inr (inr j)))
-not_before_by_way {labels} {t} {ls} l a b false e (Some x) i (Some y) j = pair_is t y x
-    (λ n. ⊎_elim (λ s. absurd (n (before_events l a b x y i j s))) (λ s. s)
-    (before_or_after x y t (leaf_is_there l a x i).0 (leaf_is_there l b y j).0 (λ same. eqb-false a b e (same_event labels ls a b x y i j same))))
+not_before_by_way {labels} {t} {ls} l a b false e (Some x) i (Some y) j =
+    let other : x ≢ y = λ same. eqb-false a b e (same_event labels ls a b x y i j same) in
+    pair_is t y x (λ n. grind (arith, n, before_events l a b x y i j, before_or_after x y t (leaf_is_there l a x i).0 (leaf_is_there l b y j).0 other))
     (λ s r. not_both_ways a b (events_of labels t) l.distinct r (before_events l b a y x j i s))
 
 -- The joined forms
@@ -235,10 +226,8 @@ both_by_way t X Y vs ws (to_x, from_x) (to_y, from_y) = (
 pub either_by_way : (t : List ℕ) (X Y : Type 0) (vs ws : List (List (ℕ × ℕ))) → X ↔ HasWay vs t → Y ↔ HasWay ws t →
     (f g : Bool) → is_free vs ≡ f → is_free ws ≡ g →
     (X ⊎ Y) ↔ HasWay (if f || g then free_way else vs ++ ws) t
-either_by_way t X Y vs ws x y true g e i =
-    (λ h. free_has_way t, λ k. inl (x.1 (subst (λ u. HasWay u t) (sym (free_is vs e)) (free_has_way t))))
-either_by_way t X Y vs ws x y false true e i =
-    (λ h. free_has_way t, λ k. inr (y.1 (subst (λ u. HasWay u t) (sym (free_is ws i)) (free_has_way t))))
+either_by_way t X Y vs ws x y true g e i = grind (arith, x, e, free_is vs, free_has_way t)
+either_by_way t X Y vs ws x y false true e i = grind (arith, y, i, free_is ws, free_has_way t)
 either_by_way t X Y vs ws x y false false e i = (
   ⊎_elim (λ k. let (v, m, s) = x.0 k in (v, mem_append_left v vs ws m, s)) (λ k. let (v, m, s) = y.0 k in (v, mem_append_right v vs ws m, s)),
   λ (way, m, s). ⊎_elim (λ k. inl (x.1 (way, k, s))) (λ k. inr (y.1 (way, k, s))) (mem-append way vs ws m),

@@ -1,5 +1,5 @@
 use Rattle.std.proofs.Common.{[]}
-use Rattle.flow_laws.proofs.ClaimLemmas.{spared_are_current, spare-append, spared_leaves-append, spare_of_none}
+use Rattle.flow_laws.proofs.ClaimLemmas.{spared_are_current, spared-append, spare_of_none}
 use Rattle.flow_laws.proofs.histories.law_new_epochs_spare.Goals as goal
 
 pub returns-clause-current : goal.returns-clause-current
@@ -9,4 +9,4 @@ pub returns-clause-others : goal.returns-clause-others
 returns-clause-others c = spare_of_none
 
 pub returns-clause-pieces : goal.returns-clause-pieces
-returns-clause-pieces c = λ w s before first second. (spare-append w s before first second, spared_leaves-append w s before first second)
+returns-clause-pieces c = spared-append
