@@ -1,14 +1,13 @@
 ghost use Rattle.std.specs.Prelude.{◌≡◌, IfOk};
 
-use smallvec::SmallVec;
 use std::alloc::{AllocError, Global};
 use std::cmp::Ordering;
 use std::marker::Model;
 
-/// A name, as the bytes that it is written in. Most names are short, and need no memory of their own.
+/// A name, as the bytes that it is written in.
 #[derive(Debug, Drop)]
 pub struct Name {
-    bytes: SmallVec<u8, 16>,
+    bytes: Vec<u8>,
 }
 
 impl Model for Name {
@@ -24,7 +23,7 @@ impl Name {
         ensures { IfOk result (λ name. name ≡ bytes.now) }
     {
         Ok(Name {
-            bytes: SmallVec::from_slice(alloc, bytes)?,
+            bytes: Vec::from_slice(alloc, bytes)?,
         })
     }
 
@@ -38,7 +37,7 @@ impl Name {
     pub fn bytes(&self) -> &[u8]
         ensures { result.now ≡ self.now }
     {
-        self.bytes.as_slice()
+        &self.bytes
     }
 }
 
