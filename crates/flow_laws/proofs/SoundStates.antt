@@ -228,14 +228,10 @@ kept_rewound w f s h i (below, (t, good, begins, unbanned, lacks)) =
     let left = filter (λ ban. nat_le ban.0 i) s.bans in
     let here : ℕ × ℕ = (i, slice_index s.journal i) in
     let long : length (take i s.journal) ≡ i = length-take-le i s.journal (omega arith) in
+    let bans = each-append (λ (ban : ℕ × ℕ). ban.0 ≤ length (take i s.journal)) left (here ∷ [])
+    (each-filter _ _ (λ (ban : ℕ × ℕ). nat_le ban.0 i) s.bans (λ ban k _. rw long (leb-true ban.0 i k)) h.bans) (rw long (le_refl i), tt) in
     kept_new_epoch w f (record s { journal = take i s.journal; bans = left ++ here ∷ [] })
-    (runs_front w.labels (start_of w) (take i s.journal) (drop i s.journal)
-    (subst (Runs w.labels (start_of w)) (sym (take-append-drop i s.journal)) h.runs))
-    (each-append _ left (here ∷ [])
-    (each-filter _ _ (λ (ban : ℕ × ℕ). nat_le ban.0 i) s.bans
-    (λ ban k _. subst (λ n. ban.0 ≤ n) (sym long) (leb-true ban.0 i k)) h.bans)
-    (subst (λ n. i ≤ n) (sym long) (le_refl i), tt))
-    (sound_claims w s h) t (
+    (runs_front w.labels (start_of w) (take i s.journal) (drop i s.journal) (rw (take-append-drop i s.journal) h.runs)) bans (sound_claims w s h) t (
       good,
       begins,
       each-append _ left (here ∷ [])
