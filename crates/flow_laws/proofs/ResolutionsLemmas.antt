@@ -1,5 +1,5 @@
 -- Resolutions: whose executions they have, which they are, and what their leaves are.
-use Rattle.std.proofs.Common.{◌≡◌, ℕ, ◌+◌, ◌*◌, ◌↔◌, List, [], ◌++◌, length, refl, sym, ap, ap₂, ◌∙◌, subst, inl, inr, ⊎_elim, slice_get, Some, length-append, arith}
+use Rattle.std.proofs.Common.{◌≡◌, ℕ, ◌+◌, ◌*◌, ◌↔◌, List, ◌++◌, length, refl, ap, ◌∙◌, subst, inl, inr, ⊎_elim, slice_get, Some, length-append, arith}
 use Rattle.std.proofs.lemmas.List.{length-map}
 use Rattle.flow_model.specs.Lists.{◌∈◌, AreDistinct, each_with_each, joined}
 use Rattle.flow_model.specs.Process.{Process, Empty, Task, Sequence, Parallel, Choice, Isolated, leaves, IsChoiceFree}
