@@ -214,9 +214,8 @@ pub kept_late : (w : Schema) (s : RunState) → IsSound w s → (claim : ℕ) �
 kept_late w s h number lapsed =
     let (claim, e, k) = some_claim (λ claim. IsTrue (not claim.answered && nat_lt claim.epoch s.epoch)) (claim_at s number) lapsed in
     let same = none_taken_out s.epoch number s.claims claim (distinct_numbers s h.numbered) e (lapsed_is_not_current s.epoch claim k) in
-    let (o, m, follow) = h.extends in
     sound_with w (next_state w s (Late number)) h.runs h.bans (answered_claims w s.epoch s.claims (sound_claims w s h) number)
-    (o, m, λ order p. follow order (subst (IsOrderOf order) (ap (map leaf_of) same) p))
+    (subst (MayAllFollow w s) (sym (ap (map leaf_of) same)) h.extends)
 
 pub kept_did : (w : Schema) (s : RunState) → IsSound w s → (leaf : ℕ) → CanDo w s leaf → IsSound w (next_state w s (Did leaf))
 kept_did w s h leaf ((other, (o, m, follow)), holds) =

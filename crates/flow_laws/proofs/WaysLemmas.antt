@@ -49,9 +49,11 @@ each_way P leaf h (not_before a b) = grind (arith, h b a, eqb-false a b, cases_B
 each_way P leaf h (both x y) = each_from_members (Each P) (ways (both x y) leaf) (λ way m.
     let (v, (w, mv, mw, e)) = of_each_with_each (λ v w. v ++ w) way (ways x leaf) (ways y leaf) m in
     rw e (each-append P v w (each_member _ (ways x leaf) (each_way P leaf h x) v mv) (each_member _ (ways y leaf) (each_way P leaf h y) w mw)))
-each_way P leaf h (either x y) =
-    let fact = each-append (Each P) (ways x leaf) (ways y leaf) (each_way P leaf h x) (each_way P leaf h y) in
-    grind (arith, cases_Bool (is_free (ways x leaf) || is_free (ways y leaf)))
+each_way P leaf h (either x y) = grind (
+  arith,
+  cases_Bool (is_free (ways x leaf) || is_free (ways y leaf)),
+  each-append (Each P) (ways x leaf) (ways y leaf) (each_way P leaf h x) (each_way P leaf h y),
+)
 
 pub each_pair : (P : ℕ × ℕ → Type 0) (leaf : ℕ → Option ℕ) →
     ((a b x y : ℕ) → a ≢ b → leaf a ≡ Some x → leaf b ≡ Some y → P (x, y)) →
