@@ -6,8 +6,7 @@ pub use Rattle.flow_model.proofs.Lists.{each-append, each_parts}
 
 pub mem_append_left : {A : Type 0} (x : A) (a b : List A) → x ∈ a → x ∈ (a ++ b)
 mem_append_left x [] b h = absurd h
-mem_append_left x (y ∷ a) b (inl e) = inl e
-mem_append_left x (y ∷ a) b (inr h) = inr (mem_append_left x a b h)
+mem_append_left x (y ∷ a) b h = grind (arith, h, mem_append_left x a b)
 
 pub mem_append_right : {A : Type 0} (x : A) (a b : List A) → x ∈ b → x ∈ (a ++ b)
 mem_append_right x [] b h = h

@@ -126,8 +126,7 @@ taken_of_current w s h number current =
 
 pub event_of_taken : (w : Schema) (s : RunState) → IsSound w s → (number : ℕ) → IsTaken s number → IsEventLeaf w (leaf_of_claim s number)
 event_of_taken w s h number taken =
-    subst (IsEventLeaf w) (sym taken.on_leaf)
-    (each_member (λ (claim : Claim). IsEventLeaf w claim.leaf) s.claims h.on_events taken.claim taken.given)
+    rw taken.on_leaf (each_member (λ (claim : Claim). IsEventLeaf w claim.leaf) s.claims h.on_events taken.claim taken.given)
 
 -- The journal with one more leaf
 

@@ -26,8 +26,7 @@ test_of_event e o h = ap (is_event e) h ∙ eq-eqb e e refl
 pub leaf_of_event_is : (labels : List Label) (ls : List ℕ) (e n : ℕ) → leaf_of_event labels ls e ≡ Some n →
     (n ∈ ls) × (event_at labels n ≡ Some e)
 leaf_of_event_is labels ls e n h =
-    let (m, k) = of_find (λ x. is_event e (event_at labels x)) ls n h in
-    (m, event_from_test e (event_at labels n) k)
+    let (m, k) = of_find (λ x. is_event e (event_at labels x)) ls n h in (m, event_from_test e (event_at labels n) k)
 
 -- one leaf has one event
 pub same_event : (labels : List Label) (ls : List ℕ) (a b x y : ℕ) →
