@@ -1,5 +1,5 @@
 -- Lists made of others: mapped, joined, filtered, numbered, reordered.
-use Rattle.std.proofs.Common.{◌≡◌, ◌≢◌, ℕ, zero, suc, ◌+◌, ◌*◌, ◌<◌, ◌≤◌, ◌⊎◌, List, [], ◌∷◌, ◌++◌, map, length, refl, sym, ap, ◌∙◌, subst, inl, inr, ⊎_elim, append_assoc, append-nil, flat_map, arith, slice_get, Option, Some, None, option_map, zero-add, suc-add, zero-mul, length-append, Bool, true, find, filter_map, filter}
+use Rattle.std.proofs.Common.{◌≡◌, ◌≢◌, ℕ, zero, suc, ◌+◌, ◌*◌, ◌<◌, ◌≤◌, ◌⊎◌, List, [], ◌∷◌, ◌++◌, map, length, refl, sym, ap, ◌∙◌, inl, inr, ⊎_elim, append_assoc, flat_map, arith, slice_get, Option, Some, None, zero-add, suc-add, zero-mul, length-append, Bool, true, find, filter_map, filter}
 use Rattle.std.proofs.lemmas.Bool.{cases_Bool}
 use Rattle.std.proofs.lemmas.List.{length-map}
 use Rattle.std.proofs.lemmas.Option.{slice_get-map}
@@ -184,8 +184,7 @@ order_of_one (y ∷ order) x (z ∷ front, back, e, h) = absurd (not_empty front
 
 pub order_member : {A : Type 0} (x : A) (order list : List A) → IsOrderOf order list → x ∈ order → x ∈ list
 order_member x [] list o m = absurd m
-order_member x (y ∷ order) list (a, b, e, o) m =
-    subst (λ l. x ∈ l) (sym e) (grind (arith, m, mem_here x a b, mem_without x y a b, order_member x order (a ++ b) o))
+order_member x (y ∷ order) list (a, b, e, o) m = rw e (grind (arith, m, mem_here x a b, mem_without x y a b, order_member x order (a ++ b) o))
 
 -- one list cut in two ways: the marked member is in the first half or in the second
 pub two_cuts : {A : Type 0} (a b front : List A) (y : A) (back : List A) → a ++ b ≡ front ++ y ∷ back →
@@ -200,16 +199,10 @@ pub order_with_last : {A : Type 0} (order : List A) (x : A) (a b : List A) → I
     IsOrderOf (order ++ x ∷ []) (a ++ x ∷ b)
 order_with_last [] x a b h = (a, b, refl, h)
 order_with_last (y ∷ order) x a b (front, back, e, h) = ⊎_elim
-    (λ (m, p, q). (
-      front,
-      m ++ x ∷ b,
-      rw p (append_assoc front (y ∷ m) (x ∷ b)),
-      rw (← append_assoc front m (x ∷ b)) (order_with_last order x (front ++ m) b (rw (append_assoc front m b, ← q) h)),
-    ))
-    (λ (m, p, q). (
-      a ++ x ∷ m,
-      back,
-      rw (q, append_assoc a (x ∷ m) (y ∷ back)) refl,
-      rw (append_assoc a (x ∷ m) back) (order_with_last order x a (m ++ back) (rw (← append_assoc a m back, ← p) h)),
-    ))
+    (λ (m, p, q).
+    let rest = order_with_last order x (front ++ m) b (rw (append_assoc front m b, ← q) h) in
+    (front, m ++ x ∷ b, rw p (append_assoc front (y ∷ m) (x ∷ b)), rw (← append_assoc front m (x ∷ b)) rest))
+    (λ (m, p, q).
+    let rest = order_with_last order x a (m ++ back) (rw (← append_assoc a m back, ← p) h) in
+    (a ++ x ∷ m, back, rw (q, append_assoc a (x ∷ m) (y ∷ back)) refl, rw (append_assoc a (x ∷ m) back) rest))
     (two_cuts a b front y back e)

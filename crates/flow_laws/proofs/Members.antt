@@ -1,13 +1,12 @@
 -- Members of lists: what each has, and where they stand.
-use Rattle.std.proofs.Common.{◌≡◌, ◌≢◌, ℕ, zero, suc, List, [], ◌∷◌, ◌++◌, ◌⊎◌, length, length-append, arith, refl, sym, ap, subst, inl, inr, ⊎_elim}
+use Rattle.std.proofs.Common.{◌≡◌, ◌≢◌, ℕ, zero, suc, List, [], ◌∷◌, ◌++◌, ◌⊎◌, length, length-append, arith, refl, sym, ap, inl, inr, ⊎_elim}
 use Rattle.flow_model.specs.Lists.{◌∈◌, Each, AreDistinct, StandsBefore}
 pub use Rattle.flow_model.specs.Decided.{Decided, decide_eq, decide_list_eq, decide_mem, decide_in, decide_not, decide_both, decide_either, decide_some, cons_same, not_empty}
 pub use Rattle.flow_model.proofs.Lists.{each-append, each_parts}
 
 pub mem_append_left : {A : Type 0} (x : A) (a b : List A) → x ∈ a → x ∈ (a ++ b)
 mem_append_left x [] b h = absurd h
-mem_append_left x (y ∷ a) b (inl e) = inl e
-mem_append_left x (y ∷ a) b (inr h) = inr (mem_append_left x a b h)
+mem_append_left x (y ∷ a) b h = grind (arith, h, mem_append_left x a b)
 
 pub mem_append_right : {A : Type 0} (x : A) (a b : List A) → x ∈ b → x ∈ (a ++ b)
 mem_append_right x [] b h = h
@@ -65,8 +64,7 @@ by_leaving_out {A} P step list = down (length list) list refl
 
 pub each_member : {A : Type 0} (P : A → Type 0) (xs : List A) → Each P xs → (x : A) → x ∈ xs → P x
 each_member P [] h x m = absurd m
-each_member P (y ∷ ys) (h, t) x (inl e) = subst P (sym e) h
-each_member P (y ∷ ys) (h, t) x (inr m) = each_member P ys t x m
+each_member P (y ∷ ys) h x m = grind (arith, h, m, each_member P ys)
 
 pub each_from_members : {A : Type 0} (P : A → Type 0) (xs : List A) → ((x : A) → x ∈ xs → P x) → Each P xs
 each_from_members P [] h = tt

@@ -65,10 +65,9 @@ pub option_of_good : (w : Schema) → IsWellFormed w → (t : List ℕ) → IsGo
     (o : ChoiceOption) × (o ∈ options w) × OptionTrace o t
 option_of_good w f t ((bs, h, e), met) =
     let (q, m, k) = blocks_of_a_resolution w.goal bs h in
-    let trace : Trace q t = (bs, k, e) in
-    let (way, mw, s) = (constraint_by_ways (all_of w.rules) w.labels t (leaves q) (has_its_leaves w f q m t trace)).0
+    let (way, mw, s) = (constraint_by_ways (all_of w.rules) w.labels t (leaves q) (has_its_leaves w f q m t (bs, k, e))).0
     ((all_of_is w.rules (events_of w.labels t)).1 met) in
-    (record { resolution = q; order = way }, mem-options w q way m mw, (trace, s))
+    (record { resolution = q; order = way }, mem-options w q way m mw, ((bs, k, e), s))
 
 pub option_trace_is_good : (w : Schema) → IsWellFormed w → (t : List ℕ) (o : ChoiceOption) → o ∈ options w → OptionTrace o t → IsGood w t
 option_trace_is_good w f t o m (h, s) =

@@ -214,7 +214,7 @@ halve a b t d o =
 
 only_member : (n : ℕ) (t : List ℕ) → AreDistinct t → ((x : ℕ) → x ∈ t → x ∈ (n ∷ [])) → n ∈ t → t ≡ n ∷ []
 only_member n [] d f m = absurd m
-only_member n (y ∷ []) d f m = ap (λ z. z ∷ []) (only_one y n (f y (inl refl)))
+only_member n (y ∷ []) d f m = grind (arith, m)
 only_member n (y ∷ z ∷ t) d f m = grind (arith, f y, f z, d)
 
 pub trace_of_ordering : (t : List ℕ) (g : Process) → IsChoiceFree g → AreDistinct (leaves g) → IsOrdering g t → Trace g t

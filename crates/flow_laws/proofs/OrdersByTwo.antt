@@ -22,9 +22,8 @@ pub each_two_out : {A : Type 0} (R : A → A → Type 0) (front : List A) (y : A
     Each (λ z. R y z × R z y) (front ++ back) × EachTwo R (front ++ back)
 each_two_out R [] y back h = h
 each_two_out R (x ∷ front) y back (h, two) =
-    let (in_front, (k, in_back)) = each_parts (λ z. R x z × R z x) front (y ∷ back) h in
-    let (r, others) = each_two_out R front y back two in
-    (((k.1, k.0), r), (each-append (λ z. R x z × R z x) front back in_front in_back, others))
+    let (in_front, ((k, l), in_back)) = each_parts (λ z. R x z × R z x) front (y ∷ back) h in
+    let (r, others) = each_two_out R front y back two in (((l, k), r), (each-append _ front back in_front in_back, others))
 
 -- the order does not matter
 pub each_two_order : {A : Type 0} (R : A → A → Type 0) (order list : List A) → IsOrderOf order list → EachTwo R list → EachTwo R order

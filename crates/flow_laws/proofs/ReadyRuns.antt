@@ -3,7 +3,7 @@ use Rattle.std.proofs.Common.{◌≡◌, ◌≢◌, ℕ, List, [], ◌∷◌, �
 use Rattle.flow_model.specs.Lists.{◌∈◌, AreDistinct, AreInOrder, StandsBefore, Begins}
 use Rattle.flow_model.specs.Process.{Process, leaves}
 use Rattle.flow_model.specs.Trace.{Trace}
-use Rattle.flow_model.specs.Ready.{InSequence, DirectlyBefore, isolated_parts, IsReady, DoneOr, IsReadyRunAfter, IsReadyRun, IsCompleteRun}
+use Rattle.flow_model.specs.Ready.{InSequence, DirectlyBefore, IsReady, DoneOr, IsReadyRunAfter, IsReadyRun, IsCompleteRun}
 use Rattle.flow_laws.specs.WellFormed.{IsOrdered}
 use Rattle.flow_laws.specs.ReadyRuns.{CompleteRunsAreTraces, FrontsAreReady}
 use Rattle.flow_laws.proofs.Members.{mem_here, each_member, split_at, not_elsewhere, before_members, before_across, before_right, in_front, not_both_ways, mem-append, each_from_members}
@@ -87,19 +87,12 @@ pub as_well : (q : Process) (pairs : List (ℕ × ℕ)) (D E : ℕ → Type 0) (
 as_well q pairs D E run same =
     (same_run q pairs D E run (λ n. (same n).0) (λ n. (same n).1), same_run q pairs E D run (λ n. (same n).1) (λ n. (same n).0))
 
--- one more done leaf, told first or last
-done_in_turn : (D : ℕ → Type 0) (n : ℕ) (run : List ℕ) → AreSame (DoneOr (DoneOr D (n ∷ [])) run) (DoneOr D (n ∷ run))
-done_in_turn D n run m = grind arith
-
-done_or_none : (D : ℕ → Type 0) → AreSame D (DoneOr D [])
-done_or_none D n = grind arith
-
 -- two ready runs, one after the other, are one
 pub run-append : (q : Process) (pairs : List (ℕ × ℕ)) (D : ℕ → Type 0) (run more : List ℕ) →
     IsReadyRunAfter q pairs D (run ++ more) ↔ (IsReadyRunAfter q pairs D run × IsReadyRunAfter q pairs (DoneOr D run) more)
-run-append q pairs D [] more = grind (arith, as_well q pairs D (DoneOr D []) more (done_or_none D))
+run-append q pairs D [] more = grind (arith, as_well q pairs D (DoneOr D []) more (λ n. grind arith))
 run-append q pairs D (n ∷ run) more =
-    let fact = as_well q pairs (DoneOr (DoneOr D (n ∷ [])) run) (DoneOr D (n ∷ run)) more (done_in_turn D n run) in
+    let fact = as_well q pairs (DoneOr (DoneOr D (n ∷ [])) run) (DoneOr D (n ∷ run)) more (λ m. grind arith) in
     grind (arith, run-append q pairs (DoneOr D (n ∷ [])) run more)
 
 pub run_front : (q : Process) (pairs : List (ℕ × ℕ)) (D : ℕ → Type 0) (front back : List ℕ) → IsReadyRunAfter q pairs D (front ++ back) →
@@ -111,7 +104,7 @@ pub run_of : (q : Process) (pairs : List (ℕ × ℕ)) (D : ℕ → Type 0) (run
     ((front : List ℕ) (n : ℕ) (back : List ℕ) → run ≡ front ++ n ∷ back → IsReady q pairs (DoneOr D front) n) → IsReadyRunAfter q pairs D run
 run_of q pairs D [] f = tt
 run_of q pairs D (n ∷ run) f = (
-  same_ready q pairs (DoneOr D []) D n (λ x. (done_or_none D x).1) (λ x. (done_or_none D x).0) (f [] n run refl),
+  same_ready q pairs (DoneOr D []) D n (λ x. grind arith) (λ x. inl) (f [] n run refl),
   run_of q pairs (DoneOr D (n ∷ [])) run (λ front m back e.
       same_ready q pairs (DoneOr D (n ∷ front)) (DoneOr (DoneOr D (n ∷ [])) front) m (λ x. grind arith) (λ x. grind arith)
       (f (n ∷ front) m back (ap (λ l. n ∷ l) e))),
@@ -151,11 +144,13 @@ front_ready q pairs t front w a b = run_of q pairs (λ x. ⊥) front (λ done n 
 pub complete_arranged : (q : Process) (pairs : List (ℕ × ℕ)) (t : List ℕ) → IsOrdered q pairs → IsCompleteRun q pairs t → IsArrangement q pairs t
 complete_arranged q pairs t w h = record {
   ordering = record {
-    leaf = λ x k. let s = split_at x t k in (ready_at q pairs s.0 x s.1 (subst (IsReadyRun q pairs) s.2 h.0)).leaf;
+    leaf = λ x k. (place x k).1.leaf;
     all = h.1;
     distinct = d;
     before = λ x y k. stands x y (inl k);
-    together = apart;
+    together = λ part m x y z k l p b c.
+        let (front, ready, same) = place y (before_members x y t b).1 in
+        not_both_ways y z t d c ((same z).0 (ready.outside part m l x z k ((same x).1 b) p));
   };
   pairs_stand = each_from_members (λ pair. StandsBefore pair.0 pair.1 t) pairs (λ pair m. stands pair.0 pair.1 (inr m));
 }
@@ -163,22 +158,15 @@ complete_arranged q pairs t w h = record {
     d : AreDistinct t
     d = (run_distinct q pairs (λ x. ⊥) t h.0).0
 
-    -- what stands in the front at its place stands before it
-    stands_at : (x y : ℕ) (front back : List ℕ) → t ≡ front ++ y ∷ back → x ∈ front → StandsBefore x y t
-    stands_at x y front back e k = subst (StandsBefore x y) (sym e) (before_across x y front (y ∷ back) k (inl refl))
+    -- what stands before a member, after which that one may come
+    place : (y : ℕ) → y ∈ t → (front : List ℕ) × IsReady q pairs (λ x. x ∈ front) y × ((x : ℕ) → (x ∈ front) ↔ StandsBefore x y t)
+    place y m =
+        let (front, back, e) = split_at y t m in
+        let at = λ (x : ℕ) (k : StandsBefore x y t). in_front x y front back (subst AreDistinct e d) (subst (StandsBefore x y) e k) in
+        (front, ready_at q pairs front y back (subst (IsReadyRun q pairs) e h.0), λ x. (λ k. rw e (before_across x y front (y ∷ back) k (inl refl)), at x))
 
     stands : (x y : ℕ) → DirectlyBefore q pairs x y → StandsBefore x y t
-    stands x y b =
-        let s = split_at y t (h.1 y (direct_second q pairs w x y b)) in
-        stands_at x y s.0 s.1 s.2 ((ready_at q pairs s.0 y s.1 (subst (IsReadyRun q pairs) s.2 h.0)).before x b)
-
-    apart : (part : Process) → part ∈ isolated_parts q → (x y z : ℕ) → x ∈ leaves part → ¬ (y ∈ leaves part) → z ∈ leaves part →
-        StandsBefore x y t → StandsBefore y z t → ⊥
-    apart part m x y z k l p b c =
-        let s = split_at y t ((before_members x y t b).1) in
-        let x_in = in_front x y s.0 s.1 (subst AreDistinct s.2 d) (subst (StandsBefore x y) s.2 b) in
-        let z_in = (ready_at q pairs s.0 y s.1 (subst (IsReadyRun q pairs) s.2 h.0)).outside part m l x z k x_in p in
-        not_both_ways y z t d c (stands_at z y s.0 s.1 s.2 z_in)
+    stands x y b = let (front, ready, same) = place y (h.1 y (direct_second q pairs w x y b)) in (same x).0 (ready.before x b)
 
 pub complete_runs_are_traces : CompleteRunsAreTraces
 complete_runs_are_traces q pairs w t = (

@@ -1,5 +1,5 @@
 -- Resolutions: whose executions they have, which they are, and what their leaves are.
-use Rattle.std.proofs.Common.{◌≡◌, ℕ, ◌+◌, ◌*◌, ◌↔◌, List, [], ◌++◌, length, refl, sym, ap, ap₂, ◌∙◌, subst, inl, inr, ⊎_elim, slice_get, Some, length-append, arith}
+use Rattle.std.proofs.Common.{◌≡◌, ℕ, ◌+◌, ◌*◌, ◌↔◌, List, ◌++◌, length, refl, ap, ◌∙◌, subst, inl, inr, ⊎_elim, slice_get, Some, length-append, arith}
 use Rattle.std.proofs.lemmas.List.{length-map}
 use Rattle.flow_model.specs.Lists.{◌∈◌, AreDistinct, each_with_each, joined}
 use Rattle.flow_model.specs.Process.{Process, Empty, Task, Sequence, Parallel, Choice, Isolated, leaves, IsChoiceFree}
@@ -110,8 +110,8 @@ halves_distinct a b x y hx hy in_a in_b d =
     (λ n h k. apart n (mem-leaves_of_goal a x hx n h) (mem-leaves_of_goal b y hy n k))
 
 pub distinct_leaves_of_resolution : (g q : Process) → Resolves g q → AreDistinct (leaves g) → AreDistinct (leaves q)
-distinct_leaves_of_resolution Empty q e d = subst (λ p. AreDistinct (leaves p)) (sym e) d
-distinct_leaves_of_resolution (Task n) q e d = subst (λ p. AreDistinct (leaves p)) (sym e) d
+distinct_leaves_of_resolution Empty q e d = rw e d
+distinct_leaves_of_resolution (Task n) q e d = rw e d
 distinct_leaves_of_resolution (Sequence a b) q (x, y, hx, hy, e) d =
     rw e (halves_distinct a b x y hx hy (distinct_leaves_of_resolution a x hx) (distinct_leaves_of_resolution b y hy) d)
 distinct_leaves_of_resolution (Parallel a b) q (x, y, hx, hy, e) d =
@@ -147,29 +147,25 @@ halves_have a b u v x y bs d hu hv hx hy s just = (λ n. (at n).0, λ n. (at n).
         grind (arith, just n, leaf_of_blocks a x hx n, leaf_of_blocks b y hy n, mem-leaves_of_goal a u hu n, mem-leaves_of_goal b v hv n)
 
 blocks_by_leaves : (g q : Process) → AreDistinct (leaves g) → Resolves g q → (bs : List (List ℕ)) → Blocks g bs → HasJust q bs → Blocks q bs
-blocks_by_leaves Empty q d r bs h just = subst (λ s. Blocks s bs) (sym r) h
-blocks_by_leaves (Task n) q d r bs h just = subst (λ s. Blocks s bs) (sym r) h
+blocks_by_leaves Empty q d r bs h just = rw r h
+blocks_by_leaves (Task n) q d r bs h just = rw r h
 blocks_by_leaves (Sequence a b) q d (u, v, hu, hv, e) bs (x, y, hx, hy, i) just =
-    let s = subst (Shuffle x y) (sym i) (shuffle-append x y) in
-    let (first, second) = halves_have a b u v x y bs d hu hv hx hy s (subst (λ s. HasJust s bs) e just) in
+    let (first, second) = halves_have a b u v x y bs d hu hv hx hy (rw i (shuffle-append x y)) (subst (λ s. HasJust s bs) e just) in
     let (da, db, _) = distinct_parts (leaves a) (leaves b) d in
-    subst (λ s. Blocks s bs) (sym e) (x, y, blocks_by_leaves a u da hu x hx first, blocks_by_leaves b v db hv y hy second, i)
+    rw e (x, y, blocks_by_leaves a u da hu x hx first, blocks_by_leaves b v db hv y hy second, i)
 blocks_by_leaves (Parallel a b) q d (u, v, hu, hv, e) bs (x, y, hx, hy, s) just =
     let (first, second) = halves_have a b u v x y bs d hu hv hx hy s (subst (λ s. HasJust s bs) e just) in
     let (da, db, _) = distinct_parts (leaves a) (leaves b) d in
-    subst (λ s. Blocks s bs) (sym e) (x, y, blocks_by_leaves a u da hu x hx first, blocks_by_leaves b v db hv y hy second, s)
+    rw e (x, y, blocks_by_leaves a u da hu x hx first, blocks_by_leaves b v db hv y hy second, s)
 blocks_by_leaves (Choice a b) q d (inl r) bs (inl h) just = blocks_by_leaves a q (distinct_left (leaves a) (leaves b) d) r bs h just
 blocks_by_leaves (Choice a b) q d (inr r) bs (inr h) just = blocks_by_leaves b q (distinct_right (leaves a) (leaves b) d) r bs h just
 blocks_by_leaves (Choice a b) q d (inl r) bs (inr h) just = no_common_leaf b q bs
     (λ n m k. distinct_apart (leaves a) (leaves b) d n (mem-leaves_of_goal a q r n k) (leaf_of_blocks b bs h n m)) h just
 blocks_by_leaves (Choice a b) q d (inr r) bs (inl h) just = no_common_leaf a q bs
     (λ n m k. distinct_apart (leaves a) (leaves b) d n (leaf_of_blocks a bs h n m) (mem-leaves_of_goal b q r n k)) h just
-blocks_by_leaves (Isolated a) q d (u, r, e) bs (x, h, i) just = subst (λ s. Blocks s bs) (sym e) (
-  x,
-  blocks_by_leaves a u d r x h
-      (subst (λ l. (n : ℕ) → (n ∈ l) ↔ (n ∈ leaves u)) (ap joined i ∙ joined-as_one x) (subst (λ s. HasJust s bs) e just)),
-  i,
-)
+blocks_by_leaves (Isolated a) q d (u, r, e) bs (x, h, i) just =
+    let inner = subst (λ l. (n : ℕ) → (n ∈ l) ↔ (n ∈ leaves u)) (ap joined i ∙ joined-as_one x) (subst (λ s. HasJust s bs) e just) in
+    rw e (x, blocks_by_leaves a u d r x h inner, i)
 
 pub goal_trace : (g q : Process) → q ∈ resolutions g → (t : List ℕ) → Trace q t → Trace g t
 goal_trace g q m t (bs, h, e) = (bs, blocks_of_goal g q bs (resolves_of g q m) h, e)

@@ -47,10 +47,8 @@ before_in_shuffle (from_right s) x y h = inr (before_in_shuffle s x y h)
 
 pub distinct-shuffle : {A : Type 0} {a b c : List A} → Shuffle a b c → AreDistinct a → AreDistinct b → Apart a b → AreDistinct c
 distinct-shuffle both_end d e apart = tt
-distinct-shuffle (from_left {x = x} s) d e apart =
-    grind (arith, d, e, of_shuffle s x, apart x, distinct-shuffle s d.1 e (λ y k l. apart y (inr k) l))
-distinct-shuffle (from_right {x = x} s) d e apart =
-    grind (arith, d, e, of_shuffle s x, apart x, distinct-shuffle s d e.1 (λ y k l. apart y k (inr l)))
+distinct-shuffle (from_left {x = x} s) d e apart = grind (arith, d, e, of_shuffle s x, apart x, distinct-shuffle s d.1 e (λ y k. apart y (inr k)))
+distinct-shuffle (from_right {x = x} s) d e apart = grind (arith, d, e, of_shuffle s x, apart x, distinct-shuffle s d e.1 (λ y k l. apart y k (inr l)))
 
 pub distinct_in_shuffle : {A : Type 0} {a b c : List A} → Shuffle a b c → AreDistinct c → AreDistinct a
 distinct_in_shuffle both_end d = tt

@@ -1,5 +1,5 @@
 -- Each entry that may be made keeps the state sound.
-use Rattle.std.proofs.Common.{◌≡◌, ℕ, zero, suc, true, List, [], ◌∷◌, ◌++◌, is_some, MatchOption, slice_get, Option, Some, None, sym, true≢false, ◌+◌, ◌≤◌, false, not, ◌&&◌, nat_le, nat_lt, cond, IsTrue, map, length, take, drop, filter, slice_index, refl, ap, ◌∙◌, subst, append_assoc, length-append, take-append-drop, arith, le_refl, append-nil, ◌⊎◌, inl, inr, ⊎_elim}
+use Rattle.std.proofs.Common.{◌≡◌, ℕ, zero, suc, true, List, [], ◌∷◌, ◌++◌, is_some, MatchOption, slice_get, Option, Some, None, sym, true≢false, ◌+◌, ◌≤◌, false, not, ◌&&◌, nat_le, nat_lt, IsTrue, map, length, take, drop, filter, slice_index, refl, ap, ◌∙◌, subst, append_assoc, length-append, take-append-drop, arith, le_refl, append-nil, ◌⊎◌, inl, inr, ⊎_elim}
 use Rattle.std.proofs.lemmas.Bool.{eq-eqb, leb-true}
 use Rattle.std.proofs.lemmas.List.{length-take-le, length-map, map-append}
 use Rattle.std.proofs.lemmas.List.Elements.{filter-append}
@@ -126,8 +126,7 @@ taken_of_current w s h number current =
 
 pub event_of_taken : (w : Schema) (s : RunState) → IsSound w s → (number : ℕ) → IsTaken s number → IsEventLeaf w (leaf_of_claim s number)
 event_of_taken w s h number taken =
-    subst (IsEventLeaf w) (sym taken.on_leaf)
-    (each_member (λ (claim : Claim). IsEventLeaf w claim.leaf) s.claims h.on_events taken.claim taken.given)
+    rw taken.on_leaf (each_member (λ (claim : Claim). IsEventLeaf w claim.leaf) s.claims h.on_events taken.claim taken.given)
 
 -- The journal with one more leaf
 
@@ -214,9 +213,8 @@ pub kept_late : (w : Schema) (s : RunState) → IsSound w s → (claim : ℕ) �
 kept_late w s h number lapsed =
     let (claim, e, k) = some_claim (λ claim. IsTrue (not claim.answered && nat_lt claim.epoch s.epoch)) (claim_at s number) lapsed in
     let same = none_taken_out s.epoch number s.claims claim (distinct_numbers s h.numbered) e (lapsed_is_not_current s.epoch claim k) in
-    let (o, m, follow) = h.extends in
     sound_with w (next_state w s (Late number)) h.runs h.bans (answered_claims w s.epoch s.claims (sound_claims w s h) number)
-    (o, m, λ order p. follow order (subst (IsOrderOf order) (ap (map leaf_of) same) p))
+    (subst (MayAllFollow w s) (sym (ap (map leaf_of) same)) h.extends)
 
 pub kept_did : (w : Schema) (s : RunState) → IsSound w s → (leaf : ℕ) → CanDo w s leaf → IsSound w (next_state w s (Did leaf))
 kept_did w s h leaf ((other, (o, m, follow)), holds) =
@@ -228,14 +226,10 @@ kept_rewound w f s h i (below, (t, good, begins, unbanned, lacks)) =
     let left = filter (λ ban. nat_le ban.0 i) s.bans in
     let here : ℕ × ℕ = (i, slice_index s.journal i) in
     let long : length (take i s.journal) ≡ i = length-take-le i s.journal (omega arith) in
+    let bans = each-append (λ (ban : ℕ × ℕ). ban.0 ≤ length (take i s.journal)) left (here ∷ [])
+    (each-filter _ _ (λ (ban : ℕ × ℕ). nat_le ban.0 i) s.bans (λ ban k _. rw long (leb-true ban.0 i k)) h.bans) (rw long (le_refl i), tt) in
     kept_new_epoch w f (record s { journal = take i s.journal; bans = left ++ here ∷ [] })
-    (runs_front w.labels (start_of w) (take i s.journal) (drop i s.journal)
-    (subst (Runs w.labels (start_of w)) (sym (take-append-drop i s.journal)) h.runs))
-    (each-append _ left (here ∷ [])
-    (each-filter _ _ (λ (ban : ℕ × ℕ). nat_le ban.0 i) s.bans
-    (λ ban k _. subst (λ n. ban.0 ≤ n) (sym long) (leb-true ban.0 i k)) h.bans)
-    (subst (λ n. i ≤ n) (sym long) (le_refl i), tt))
-    (sound_claims w s h) t (
+    (runs_front w.labels (start_of w) (take i s.journal) (drop i s.journal) (rw (take-append-drop i s.journal) h.runs)) bans (sound_claims w s h) t (
       good,
       begins,
       each-append _ left (here ∷ [])

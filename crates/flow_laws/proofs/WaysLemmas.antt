@@ -26,8 +26,7 @@ test_of_event e o h = ap (is_event e) h ∙ eq-eqb e e refl
 pub leaf_of_event_is : (labels : List Label) (ls : List ℕ) (e n : ℕ) → leaf_of_event labels ls e ≡ Some n →
     (n ∈ ls) × (event_at labels n ≡ Some e)
 leaf_of_event_is labels ls e n h =
-    let (m, k) = of_find (λ x. is_event e (event_at labels x)) ls n h in
-    (m, event_from_test e (event_at labels n) k)
+    let (m, k) = of_find (λ x. is_event e (event_at labels x)) ls n h in (m, event_from_test e (event_at labels n) k)
 
 -- one leaf has one event
 pub same_event : (labels : List Label) (ls : List ℕ) (a b x y : ℕ) →
@@ -42,17 +41,18 @@ each_way : (P : ℕ × ℕ → Type 0) (leaf : ℕ → Option ℕ) →
     ((a b x y : ℕ) → a ≢ b → leaf a ≡ Some x → leaf b ≡ Some y → P (x, y)) → (n : Normal) → Each (Each P) (ways n leaf)
 each_way P leaf h always = (tt, tt)
 each_way P leaf h impossible = tt
-each_way P leaf h (must e) = elim (leaf e) as (λ o. Each (Each P) (ways_of_must o)) [ None ↦ tt | Some x ↦ (tt, tt) ]
-each_way P leaf h (never e) = elim (leaf e) as (λ o. Each (Each P) (ways_of_never o)) [ None ↦ (tt, tt) | Some x ↦ tt ]
+each_way P leaf h (must e) = grind (arith, cases_option (leaf e))
+each_way P leaf h (never e) = grind (arith, cases_option (leaf e))
 each_way P leaf h (before a b) = grind (arith, h a b, eqb-false a b, cases_Bool (a == b), cases_option (leaf a), cases_option (leaf b))
 each_way P leaf h (not_before a b) = grind (arith, h b a, eqb-false a b, cases_Bool (a == b), cases_option (leaf a), cases_option (leaf b))
 each_way P leaf h (both x y) = each_from_members (Each P) (ways (both x y) leaf) (λ way m.
     let (v, (w, mv, mw, e)) = of_each_with_each (λ v w. v ++ w) way (ways x leaf) (ways y leaf) m in
-    subst (Each P) (sym e) (each-append P v w
-    (each_member (Each P) (ways x leaf) (each_way P leaf h x) v mv) (each_member (Each P) (ways y leaf) (each_way P leaf h y) w mw)))
-each_way P leaf h (either x y) =
-    let fact = each-append (Each P) (ways x leaf) (ways y leaf) (each_way P leaf h x) (each_way P leaf h y) in
-    grind (arith, cases_Bool (is_free (ways x leaf) || is_free (ways y leaf)))
+    rw e (each-append P v w (each_member _ (ways x leaf) (each_way P leaf h x) v mv) (each_member _ (ways y leaf) (each_way P leaf h y) w mw)))
+each_way P leaf h (either x y) = grind (
+  arith,
+  cases_Bool (is_free (ways x leaf) || is_free (ways y leaf)),
+  each-append (Each P) (ways x leaf) (ways y leaf) (each_way P leaf h x) (each_way P leaf h y),
+)
 
 pub each_pair : (P : ℕ × ℕ → Type 0) (leaf : ℕ → Option ℕ) →
     ((a b x y : ℕ) → a ≢ b → leaf a ≡ Some x → leaf b ≡ Some y → P (x, y)) →
