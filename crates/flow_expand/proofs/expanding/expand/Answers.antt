@@ -2,7 +2,7 @@ use Rattle.std.proofs.Common.{map, sym, subst}
 use Rattle.flow_model.specs.Lists.{AreDistinct}
 use Rattle.flow_form.specs.Script.{declared, said}
 use Rattle.flow_form.specs.Names.{event_names}
-use Rattle.flow_expand.proofs.DeclaredLemmas.{distinct_events}
+use Rattle.flow_expand.proofs.Declarations.{distinct_events}
 use Rattle.flow_expand.proofs.Endings.{becomes_one}
 use Rattle.flow_expand.proofs.expanding.expand.Goals as goal
 
