@@ -1,105 +1,149 @@
--- Goals that are built of the parts of a layout.
-use Rattle.std.proofs.Common.{◌≡◌, ℕ, ◌+◌, ◌≤◌, List, [], ◌∷◌, ◌++◌, fold, length, slice_get, Some, refl, sym, ap, ◌∙◌, subst, inl, arith}
+-- Goals that are built of the pieces of a layout, with their facts by numbers.
+use Rattle.std.proofs.Common.{◌≡◌, ℕ, Some, slice_get, ◌+◌, ◌≤◌, Bool, true, false, cond, List, [], ◌∷◌, ◌++◌, ◌⊎◌, fold, length, refl, sym, ap, ◌∙◌, subst, inl, inr, ⊎_elim, arith, ◌<◌, get_or, Result, Ok, Err, IfOk, OnOk, Bor}
+use Rattle.std.specs.Prelude.{not}
+use Rattle.std.specs.List.{list_any, position_or_len}
+use Rattle.std.proofs.lemmas.List.{length_push, append-nil, append_assoc, length-append}
 use Rattle.std.specs.Str.{bytes_eq}
 use Rattle.std.specs.Cmp.Lexicographic.{bytes_decides}
-use Rattle.std.proofs.lemmas.List.{append-nil, append_assoc, length-append}
 use Rattle.std.proofs.lemmas.List.Sums.{fold-append}
-use Rattle.flow_model.specs.declared.labels.Label.TheVariants.{Event, Test, Absent, Ins, Del}
 use Rattle.flow_model.specs.Lists.{◌∈◌, AreDistinct}
+use Rattle.flow_model.specs.declared.labels.Label.TheVariants.{Event, Test, Absent, Ins, Del}
 use Rattle.flow_model.specs.Process.{Process, Empty, Task, Isolated}
-use Rattle.flow_facts.specs.Atom.{Atom}
+use Rattle.flow_facts.specs.Atom.{Atom, atom_eq}
+use Rattle.flow_facts.specs.Same.{atom_eq-Decides}
+use Rattle.flow_facts.specs.Indexed.{IsAdded}
+use Rattle.flow_facts.proofs.Places.{slice_get_at}
 use Rattle.flow_workflow.proofs.FirstPlaces.{place_in}
+use Rattle.flow_expand.specs.Numbers.{with_fact, fact_number, facts_in, labels_of, leaf_count, numbered}
 use Rattle.flow_expand.specs.declared.layout.Deed.{Deed}
 use Rattle.flow_expand.specs.declared.layout.Pairing.{Pairing}
 use Rattle.flow_expand.specs.declared.building.Leaves.{Leaves}
 use Rattle.flow_expand.specs.Expansion.{Expansion, nothing, happens, holds, lacks, adds, takes, in_turn, at_once, one_of, alone, ends_in}
-use Rattle.flow_expand.specs.Numbers.{facts_in, with_fact, fact_number, labels_of, leaf_count, numbered}
 use Rattle.flow_expand.specs.Layout.{paired, fact_leaf, label_of}
-use Rattle.flow_expand.specs.Built.{HasRoom, IsBuilt, paired_process}
-use Rattle.flow_expand.proofs.LayoutLemmas.{IsFactLeaf, fact_kind, ArePaired, pair_kind}
-use Rattle.flow_expand.proofs.FactLemmas.{fact_there, number_kept, length_fold}
-use Rattle.flow_expand.proofs.Members.{mem_left, mem_right}
+use Rattle.flow_expand.specs.Built.{HasRoom, IsBuilt, paired_process, IsBuildable, IsBuiltAt}
+use Rattle.flow_expand.specs.declared.layout.Piece.{Piece}
+use Rattle.flow_expand.specs.declared.layout.Piece.TheVariants as piece
+use Rattle.flow_expand.proofs.Members.{mem_left, mem_right, any_member, member_any}
+use Rattle.flow_expand.proofs.LayLemmas.{IsFactLeaf, fact_kind, ArePaired, pair_kind, placed_below, goal_of}
+
+-- one more fact was there, or goes to the end
+with_cases : (facts : List Atom) (a : Atom) → ((a ∈ facts) × (with_fact facts a ≡ facts)) ⊎ (¬ (a ∈ facts) × (with_fact facts a ≡ facts ++ a ∷ []))
+with_cases facts a = go (list_any (atom_eq a) facts) refl
+  where
+    go : (t : Bool) → list_any (atom_eq a) facts ≡ t → ((a ∈ facts) × (with_fact facts a ≡ facts)) ⊎ (¬ (a ∈ facts) × (with_fact facts a ≡ facts ++ a ∷ []))
+    go true e = inl (any_member atom_eq atom_eq-Decides a facts e, ap (λ t. cond t facts (facts ++ a ∷ [])) e)
+    go false e = inr ((λ m. let f : true ≡ false = sym (member_any atom_eq atom_eq-Decides a facts m) ∙ e in absurd (cc)), ap (λ t. cond t facts (facts ++ a ∷ [])) e)
+
+pub added_with : (facts : List Atom) (a : Atom) (new : List Atom) → IsAdded facts a new → new ≡ with_fact facts a
+added_with facts a new h = ⊎_elim (λ p. h.there p.0 ∙ sym p.1) (λ p. h.missing p.0 ∙ sym p.1) (with_cases facts a)
+
+pub number_at : (facts : List Atom) (a : Atom) (n : ℕ) → AreDistinct facts → slice_get facts n ≡ Some a → n ≡ fact_number facts a
+number_at facts a n distinct at = sym (place_in atom_eq atom_eq-Decides facts n a distinct at)
+
+-- members
+
+with_there : (facts : List Atom) (a : Atom) → a ∈ with_fact facts a
+with_there facts a = ⊎_elim (λ h. subst (λ l. a ∈ l) (sym h.1) h.0) (λ h. subst (λ l. a ∈ l) (sym h.1) (mem_right a facts (a ∷ []) (inl refl))) (with_cases facts a)
+
+with_stays : (facts : List Atom) (a x : Atom) → x ∈ facts → x ∈ with_fact facts a
+with_stays facts a x m = ⊎_elim (λ h. subst (λ l. x ∈ l) (sym h.1) m) (λ h. subst (λ l. x ∈ l) (sym h.1) (mem_left x facts (a ∷ []) m)) (with_cases facts a)
+
+-- a fact that is there stays
+pub fact_stays : (facts more : List Atom) (x : Atom) → x ∈ facts → x ∈ fold with_fact facts more
+fact_stays facts [] x m = m
+fact_stays facts (a ∷ more) x m = fact_stays (with_fact facts a) more x (with_stays facts a x m)
+
+-- each fact that is put in is there
+pub fact_there : (facts more : List Atom) (x : Atom) → x ∈ more → x ∈ fold with_fact facts more
+fact_there facts [] x m = absurd m
+fact_there facts (a ∷ more) x (inl e) = fact_stays (with_fact facts a) more x (subst (λ z. z ∈ with_fact facts a) (sym e) (with_there facts a))
+fact_there facts (a ∷ more) x (inr m) = fact_there (with_fact facts a) more x m
+
+-- numbers
+
+number_left : (x : Atom) (facts rest : List Atom) → x ∈ facts → fact_number (facts ++ rest) x ≡ fact_number facts x
+number_left x [] rest m = absurd m
+number_left x (y ∷ facts) rest m = go (atom_eq x y) refl (number_left x facts rest) m
+  where
+    head : (xs : List Atom) (t : Bool) → atom_eq x y ≡ t → position_or_len (atom_eq x) (y ∷ xs) ≡ cond (not t) (1 + position_or_len (atom_eq x) xs) 0
+    head xs t e = ap (λ v. cond (not v) (1 + position_or_len (atom_eq x) xs) 0) e
+
+    go : (t : Bool) → atom_eq x y ≡ t → (x ∈ facts → fact_number (facts ++ rest) x ≡ fact_number facts x) → (x ≡ y) ⊎ (x ∈ facts) →
+        fact_number ((y ∷ facts) ++ rest) x ≡ fact_number (y ∷ facts) x
+    go true e same h = head (facts ++ rest) true e ∙ sym (head facts true e)
+    go false e same (inl h) = let f : true ≡ false = sym ((atom_eq-Decides x y).1 h) ∙ e in absurd (cc)
+    go false e same (inr h) = head (facts ++ rest) false e ∙ ap (λ n. 1 + n) (same h) ∙ sym (head facts false e)
+
+number_with : (facts : List Atom) (a x : Atom) → x ∈ facts → fact_number (with_fact facts a) x ≡ fact_number facts x
+number_with facts a x m = ⊎_elim (λ h. ap (λ l. fact_number l x) h.1) (λ h. ap (λ l. fact_number l x) h.1 ∙ number_left x facts (a ∷ []) m) (with_cases facts a)
+
+-- a fact keeps its number
+pub number_kept : (facts more : List Atom) (x : Atom) → x ∈ facts → fact_number (fold with_fact facts more) x ≡ fact_number facts x
+number_kept facts [] x m = refl
+number_kept facts (a ∷ more) x m = number_kept (with_fact facts a) more x (with_stays facts a x m) ∙ number_with facts a x m
+
+-- how many
+
+length_with : (facts : List Atom) (a : Atom) → (length facts ≤ length (with_fact facts a)) × (length (with_fact facts a) ≤ length facts + 1)
+length_with facts a =
+    ⊎_elim (λ h. let e = ap length h.1 in (omega (arith, e), omega (arith, e))) (λ h. let e = ap length h.1 ∙ length_push facts a in (omega (arith, e), omega (arith, e))) (with_cases facts a)
+
+-- facts are put in, and no more than there are
+pub length_fold : (facts more : List Atom) → (length facts ≤ length (fold with_fact facts more)) × (length (fold with_fact facts more) ≤ length facts + length more)
+length_fold facts [] = (omega arith, omega arith)
+length_fold facts (a ∷ more) =
+    let one = length_with facts a in
+    let rest = length_fold (with_fact facts a) more in
+    (omega (arith, one.0, rest.0), omega (arith, one.1, rest.1))
 
 -- counts
 
 pub labels_counted : (events : List (List ℕ)) (facts : List Atom) (e : Expansion) → length (labels_of events facts e) ≡ leaf_count e
-labels_counted events facts nothing = refl
-labels_counted events facts (happens n) = refl
-labels_counted events facts (holds a) = refl
-labels_counted events facts (lacks a) = refl
-labels_counted events facts (adds a) = refl
-labels_counted events facts (takes a) = refl
-labels_counted events facts (in_turn a b) =
-    length-append (labels_of events facts a) (labels_of events facts b) ∙ (λ i. labels_counted events facts a i + labels_counted events facts b i)
-labels_counted events facts (at_once a b) =
-    length-append (labels_of events facts a) (labels_of events facts b) ∙ (λ i. labels_counted events facts a i + labels_counted events facts b i)
-labels_counted events facts (one_of a b) =
-    length-append (labels_of events facts a) (labels_of events facts b) ∙ (λ i. labels_counted events facts a i + labels_counted events facts b i)
+labels_counted events facts (in_turn a b) = omega (arith, length-append (labels_of events facts a) (labels_of events facts b), labels_counted events facts a, labels_counted events facts b)
+labels_counted events facts (at_once a b) = omega (arith, length-append (labels_of events facts a) (labels_of events facts b), labels_counted events facts a, labels_counted events facts b)
+labels_counted events facts (one_of a b) = omega (arith, length-append (labels_of events facts a) (labels_of events facts b), labels_counted events facts a, labels_counted events facts b)
 labels_counted events facts (alone a) = labels_counted events facts a
-
-both_counted : (xs ys : List Atom) (m n : ℕ) → length xs ≤ m → length ys ≤ n → length (xs ++ ys) ≤ m + n
-both_counted xs ys m n h k = omega (arith, length-append xs ys)
+labels_counted events facts e = refl
 
 pub facts_counted : (e : Expansion) → length (facts_in e) ≤ leaf_count e
-facts_counted nothing = omega arith
-facts_counted (happens n) = omega arith
-facts_counted (holds a) = omega arith
-facts_counted (lacks a) = omega arith
-facts_counted (adds a) = omega arith
-facts_counted (takes a) = omega arith
-facts_counted (in_turn a b) = both_counted (facts_in a) (facts_in b) (leaf_count a) (leaf_count b) (facts_counted a) (facts_counted b)
-facts_counted (at_once a b) = both_counted (facts_in a) (facts_in b) (leaf_count a) (leaf_count b) (facts_counted a) (facts_counted b)
-facts_counted (one_of a b) = both_counted (facts_in a) (facts_in b) (leaf_count a) (leaf_count b) (facts_counted a) (facts_counted b)
+facts_counted (in_turn a b) = omega (arith, length-append (facts_in a) (facts_in b), facts_counted a, facts_counted b)
+facts_counted (at_once a b) = omega (arith, length-append (facts_in a) (facts_in b), facts_counted a, facts_counted b)
+facts_counted (one_of a b) = omega (arith, length-append (facts_in a) (facts_in b), facts_counted a, facts_counted b)
 facts_counted (alone a) = facts_counted a
-
-sums_at_most : (k l m n : ℕ) → k ≤ m → l ≤ n → k + l ≤ m + n
-sums_at_most k l m n h i = omega arith
+facts_counted e = omega arith
 
 pub leaves_are_ends : (e : Expansion) → leaf_count e ≤ ends_in e
-leaves_are_ends nothing = omega arith
-leaves_are_ends (happens n) = omega arith
-leaves_are_ends (holds a) = omega arith
-leaves_are_ends (lacks a) = omega arith
-leaves_are_ends (adds a) = omega arith
-leaves_are_ends (takes a) = omega arith
-leaves_are_ends (in_turn a b) = sums_at_most (leaf_count a) (leaf_count b) (ends_in a) (ends_in b) (leaves_are_ends a) (leaves_are_ends b)
-leaves_are_ends (at_once a b) = sums_at_most (leaf_count a) (leaf_count b) (ends_in a) (ends_in b) (leaves_are_ends a) (leaves_are_ends b)
-leaves_are_ends (one_of a b) = sums_at_most (leaf_count a) (leaf_count b) (ends_in a) (ends_in b) (leaves_are_ends a) (leaves_are_ends b)
+leaves_are_ends (in_turn a b) = omega (arith, leaves_are_ends a, leaves_are_ends b)
+leaves_are_ends (at_once a b) = omega (arith, leaves_are_ends a, leaves_are_ends b)
+leaves_are_ends (one_of a b) = omega (arith, leaves_are_ends a, leaves_are_ends b)
 leaves_are_ends (alone a) = leaves_are_ends a
+leaves_are_ends e = omega arith
 
 -- labels
 
 -- they stay as more facts are put in
-labels_kept : (events : List (List ℕ)) (facts more : List Atom) (e : Expansion) → ((x : Atom) → x ∈ facts_in e → x ∈ facts) →
-    labels_of events (fold with_fact facts more) e ≡ labels_of events facts e
-labels_kept events facts more nothing all = refl
-labels_kept events facts more (happens n) all = refl
+abbrev AreKept : List (List ℕ) → List Atom → List Atom → Expansion → Type 0
+AreKept events facts more e = ((x : Atom) → x ∈ facts_in e → x ∈ facts) → labels_of events (fold with_fact facts more) e ≡ labels_of events facts e
+
+both_kept : (events : List (List ℕ)) (facts more : List Atom) (a b : Expansion) → AreKept events facts more a → AreKept events facts more b → ((x : Atom) → x ∈ (facts_in a ++ facts_in b) → x ∈ facts) →
+    labels_of events (fold with_fact facts more) a ++ labels_of events (fold with_fact facts more) b ≡ labels_of events facts a ++ labels_of events facts b
+both_kept events facts more a b one two all = λ i. one (λ x m. all x (mem_left x (facts_in a) (facts_in b) m)) i ++ two (λ x m. all x (mem_right x (facts_in a) (facts_in b) m)) i
+
+labels_kept : (events : List (List ℕ)) (facts more : List Atom) (e : Expansion) → AreKept events facts more e
 labels_kept events facts more (holds a) all = ap (λ k. Test k ∷ []) (number_kept facts more a (all a (inl refl)))
 labels_kept events facts more (lacks a) all = ap (λ k. Absent k ∷ []) (number_kept facts more a (all a (inl refl)))
 labels_kept events facts more (adds a) all = ap (λ k. Ins k ∷ []) (number_kept facts more a (all a (inl refl)))
 labels_kept events facts more (takes a) all = ap (λ k. Del k ∷ []) (number_kept facts more a (all a (inl refl)))
-labels_kept events facts more (in_turn a b) all = λ i.
-    labels_kept events facts more a (λ x m. all x (mem_left x (facts_in a) (facts_in b) m)) i
-    ++ labels_kept events facts more b (λ x m. all x (mem_right x (facts_in a) (facts_in b) m)) i
-labels_kept events facts more (at_once a b) all = λ i.
-    labels_kept events facts more a (λ x m. all x (mem_left x (facts_in a) (facts_in b) m)) i
-    ++ labels_kept events facts more b (λ x m. all x (mem_right x (facts_in a) (facts_in b) m)) i
-labels_kept events facts more (one_of a b) all = λ i.
-    labels_kept events facts more a (λ x m. all x (mem_left x (facts_in a) (facts_in b) m)) i
-    ++ labels_kept events facts more b (λ x m. all x (mem_right x (facts_in a) (facts_in b) m)) i
+labels_kept events facts more (in_turn a b) all = both_kept events facts more a b (labels_kept events facts more a) (labels_kept events facts more b) all
+labels_kept events facts more (at_once a b) all = both_kept events facts more a b (labels_kept events facts more a) (labels_kept events facts more b) all
+labels_kept events facts more (one_of a b) all = both_kept events facts more a b (labels_kept events facts more a) (labels_kept events facts more b) all
 labels_kept events facts more (alone a) all = labels_kept events facts more a all
+labels_kept events facts more e all = refl
 
 -- what is built
 
 pub built_as : (events : List (List ℕ)) (e f : Expansion) (old new : Leaves) (goal : Process) → e ≡ f → IsBuilt events f old new goal → IsBuilt events e old new goal
 built_as events e f old new goal same h = subst (λ g. IsBuilt events g old new goal) (sym same) h
-
-pub built_nothing : (events : List (List ℕ)) (old new : Leaves) (goal : Process) → new ≡ old → goal ≡ Empty → IsBuilt events nothing old new goal
-built_nothing events old new goal same is = record {
-  process = is;
-  facts = ap (λ (l : Leaves). l.facts) same;
-  labels = ap (λ (l : Leaves). l.labels.items) same ∙ sym (append-nil old.labels.items);
-}
 
 pub built_event : (events : List (List ℕ)) (n : List ℕ) (k : ℕ) (old new : Leaves) (goal : Process) → AreDistinct events → slice_get events k ≡ Some n →
     new.facts ≡ old.facts → new.labels.items ≡ old.labels.items ++ Event k ∷ [] → goal ≡ Task (length old.labels.items) → IsBuilt events (happens n) old new goal
@@ -121,9 +165,6 @@ built_fact events d a number old new keys goal put is same grown at = record {
   where
     kind : IsFactLeaf d
     kind = fact_kind d
-
-pub built_alone : (events : List (List ℕ)) (a : Expansion) (old new : Leaves) (part whole : Process) → IsBuilt events a old new part → whole ≡ Isolated part → IsBuilt events (alone a) old new whole
-built_alone events a old new part whole h is = record { process = is ∙ ap Isolated h.process; facts = h.facts; labels = h.labels }
 
 -- what a goal that is built leaves for the next one
 
@@ -174,3 +215,80 @@ module _ (events : List (List ℕ)) (a b : Expansion) (old middle new : Leaves) 
     where
       kind : ArePaired by a b
       kind = pair_kind by a b
+
+-- where both outcomes of a call that went well are known
+pub ok_and : {T E : Type 0} (r : Result T E) (P : T → Type 0) (Q : Type 0) (R : T → Type 0) → ((x : T) → P x → Q → R x) → IfOk r P → OnOk r Q → IfOk r R
+ok_and (Ok x) P Q R f h k = f x h k
+ok_and (Err e) P Q R f h k = h
+
+module _ (layout : List Piece) (i : ℕ) where
+  pub piece_at : (leaves : Leaves) (found p : Piece) → IsBuildable layout i leaves → found ≡ get_or layout i found → found ≡ p → slice_get layout i ≡ Some p
+  piece_at leaves found p h is same = slice_get_at layout i found (placed_below layout h.events h.expansion i h.placed) ∙ ap Some (sym is ∙ same)
+
+  -- two goals together
+
+  -- both lie below the piece, and the first is to be built
+  pub buildable_first : (by : Pairing) (j k : ℕ) (leaves : Leaves) → IsBuildable layout i leaves → slice_get layout i ≡ Some (piece.Pair by j k) → (j < i) × (k < i) × IsBuildable layout j leaves
+  buildable_first by j k leaves h at =
+      let (a, b, is, l, m, (x, y)) = goal_of layout h.events i (piece.Pair by j k) h.expansion at h.placed in (
+        l,
+        m,
+        record {
+          events = h.events;
+          distinct = h.distinct;
+          expansion = a;
+          placed = x;
+          room = room_before leaves (leaf_count a) (leaf_count b) (subst (HasRoom leaves) (ap leaf_count is ∙ (pair_kind by a b).leaves) h.room);
+        },
+      )
+
+  -- and then the second
+  pub buildable_second : (by : Pairing) (j k : ℕ) (old middle : Leaves) (left : Process) → IsBuildable layout i old → slice_get layout i ≡ Some (piece.Pair by j k) →
+      IsBuiltAt layout j old middle left → IsBuildable layout k middle
+  buildable_second by j k old middle left h at built =
+      let (a, b, is, l, m, (x, y)) = goal_of layout h.events i (piece.Pair by j k) h.expansion at h.placed in
+      record {
+        events = h.events;
+        distinct = h.distinct;
+        expansion = b;
+        placed = y;
+        room = room_after h.events a (leaf_count b) old middle left (built h.events a h.distinct x) (subst (HasRoom old) (ap leaf_count is ∙ (pair_kind by a b).leaves) h.room);
+      }
+
+  pub built_pair_at : (by : Pairing) (j k : ℕ) (old middle new : Leaves) (left right goal : Process) → slice_get layout i ≡ Some (piece.Pair by j k) →
+      IsBuiltAt layout j old middle left → IsBuiltAt layout k middle new right → goal ≡ paired_process by left right → IsBuiltAt layout i old new goal
+  built_pair_at by j k old middle new left right goal at first second same = λ events e d s.
+      let (a, b, is, l, m, (x, y)) = goal_of layout events i (piece.Pair by j k) e at s in
+      built_as events e (paired by a b) old new goal is (built_both events a b old middle new left right (first events a d x) (second events b d y) by goal same)
+
+  -- isolated goals
+
+  pub buildable_inside : (j : ℕ) (leaves : Leaves) → IsBuildable layout i leaves → slice_get layout i ≡ Some (piece.Iso j) → (j < i) × IsBuildable layout j leaves
+  buildable_inside j leaves h at =
+      let (a, is, l, x) = goal_of layout h.events i (piece.Iso j) h.expansion at h.placed in
+      (l, record { events = h.events; distinct = h.distinct; expansion = a; placed = x; room = subst (HasRoom leaves) (ap leaf_count is) h.room })
+
+  pub built_inside_at : (j : ℕ) (old new : Leaves) (inside whole : Process) → slice_get layout i ≡ Some (piece.Iso j) → IsBuiltAt layout j old new inside →
+      whole ≡ Isolated inside → IsBuiltAt layout i old new whole
+  built_inside_at j old new inside whole at built same = λ events e d s.
+      let (a, is, l, x) = goal_of layout events i (piece.Iso j) e at s in
+      built_as events e (alone a) old new whole is (let h = built events a d x in record { process = same ∙ ap Isolated h.process; facts = h.facts; labels = h.labels })
+
+  -- leaves and nothing
+
+  pub built_nothing_at : (leaves : Leaves) → slice_get layout i ≡ Some piece.Nop → IsBuiltAt layout i leaves leaves Empty
+  built_nothing_at leaves at = λ events e d s.
+      built_as events e nothing leaves leaves Empty (goal_of layout events i piece.Nop e at s) (record { process = refl; facts = refl; labels = sym (append-nil leaves.labels.items) })
+
+  pub built_event_at : (k : ℕ) (old new : Leaves) (goal : Process) → slice_get layout i ≡ Some (piece.Event k) → new.facts ≡ old.facts →
+      goal ≡ Task (length old.labels.items) → new.labels.items ≡ old.labels.items ++ Event k ∷ [] → IsBuiltAt layout i old new goal
+  built_event_at k old new goal at same is grown = λ events e d s.
+      let (n, one, there) = goal_of layout events i (piece.Event k) e at s in
+      built_as events e (happens n) old new goal one (built_event events n k old new goal d there same grown is)
+
+  pub built_fact_at : (deed : Deed) (f : Bor Atom) (number : ℕ) (keys : List Atom) (old new : Leaves) (goal : Process) → slice_get layout i ≡ Some (piece.Fact deed f) →
+      keys ≡ with_fact old.facts f.now → number ≡ fact_number keys f.now → new.facts ≡ keys →
+      goal ≡ Task (length old.labels.items) → new.labels.items ≡ old.labels.items ++ label_of deed number ∷ [] → IsBuiltAt layout i old new goal
+  built_fact_at deed f number keys old new goal at put is same leaf grown = λ events e d s.
+      built_as events e (fact_leaf deed f.now) old new goal (goal_of layout events i (piece.Fact deed f) e at s)
+      (built_fact events deed f.now number old new keys goal put is same grown leaf)

@@ -16,21 +16,17 @@ data Ends (decls : List Declared) : List ℕ → Type 0 where
 module _ (decls : List Declared) (once : AreDistinct (declared_names decls)) where
   mutual
     names_end : (s : Shape) (e : Expansion) → Becomes decls s e → (m : List ℕ) → m ∈ names_in s → m ∈ flow_names decls → Ends decls m
-    names_end nop e becomes_nop m i f = absurd i
     names_end (named n) e (becomes_event there) m (inl same) f = absurd (not_both decls n once there (subst (λ z. z ∈ flow_names decls) same f))
     names_end (named n) e (becomes_event there) m (inr i) f = absurd i
     names_end (named n) e (becomes_flow {n = k} {s = t} {e = g} there b) m (inl same) f =
         ends (λ j step. names_end t g b j
         (subst (λ u. j ∈ names_in u) (same_goal decls n step.goal t once (subst (λ z. flow z step.goal ∈ decls) same step.is_goal) there) step.names) step.is_flow)
     names_end (named n) e (becomes_flow there b) m (inr i) f = absurd i
-    names_end (test a) e becomes_test m i f = absurd i
-    names_end (absent a) e becomes_absent m i f = absurd i
-    names_end (ins a) e becomes_ins m i f = absurd i
-    names_end (del a) e becomes_del m i f = absurd i
     names_end (iso s) e (becomes_iso {s = t} {e = g} b) m i f = names_end t g b m i f
     names_end (serial ss) e (becomes_serial {ss = us} {es = gs} b) m i f = all_end us gs b m i f
     names_end (beside ss) e (becomes_beside {ss = us} {es = gs} b) m i f = all_end us gs b m i f
     names_end (either ss) e (becomes_either {ss = us} {es = gs} b) m i f = all_end us gs b m i f
+    names_end s e b m i f = absurd i
 
     all_end : (ss : Shapes) (es : List Expansion) → AllBecome decls ss es → (m : List ℕ) → m ∈ names_in_each ss → m ∈ flow_names decls → Ends decls m
     all_end no_more es none_becomes m i f = absurd i

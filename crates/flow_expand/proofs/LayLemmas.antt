@@ -1,34 +1,176 @@
--- What is written, in a layout that grows.
-use Rattle.std.proofs.Common.{◌≡◌, ℕ, zero, suc, ◌+◌, ◌<◌, List, [], ◌∷◌, ◌++◌, length, map, fold, get_or, take, slice_get, Option, Some, None, refl, sym, ap, ◌∙◌, subst, inl, inr, ⊎_elim, arith, Box, Global, Result, Ok, Err}
+-- Goals in a layout that grows, and what is written there.
+use Rattle.std.proofs.Common.{◌≡◌, ℕ, ◌+◌, ◌<◌, List, [], ◌∷◌, ◌++◌, length, slice_get, Some, refl, sym, ap, ◌∙◌, subst, arith, zero, suc, map, fold, get_or, take, Option, None, inl, inr, ⊎_elim, Box, Global, Result, Ok, Err}
+use Rattle.std.proofs.lemmas.Option.{slice_get_within}
 use Rattle.std.specs.Prelude.{MatchOption}
 use Rattle.std.specs.Result.{IfOk}
 use Rattle.std.proofs.lemmas.List.{append_assoc, map_more}
+use Rattle.flow_model.specs.Process.{Task}
 use Rattle.flow_model.specs.Lists.{◌∈◌, Begins, Each}
 use Rattle.flow_laws.proofs.Members.{each_member, each_from_members}
 use Rattle.flow_facts.specs.Atom.{Atom}
+use Rattle.flow_facts.proofs.Places.{at_end}
 use Rattle.flow_form.specs.declared.form.Form.{Form, Nop, Test, Absent, Ins, Del, Iso}
-use Rattle.flow_form.specs.declared.form.Form.TheOpen as open_form
 use Rattle.flow_form.specs.declared.form.Form.TheVariants.{rolls-Nop, rolls-Test, rolls-Absent, rolls-Ins, rolls-Del, rolls-Iso}
 use Rattle.flow_form.specs.declared.form.Form.TheFolds.{fold-roll-Form}
 use Rattle.flow_form.specs.Form.{Shape, Shapes, shapes, shape_of, shape_step, no_more, nop, named, test, absent, ins, del, iso}
 use Rattle.flow_form.specs.Script.{Declared}
 use Rattle.flow_form.specs.Names.{names_in, names_in_each, event_names, declared_names}
-use Rattle.flow_expand.specs.declared.directory.Directory.{Directory}
-use Rattle.flow_expand.specs.declared.layout.Piece.{Piece}
+use Rattle.flow_form.specs.declared.form.Form.TheOpen as open_form
+use Rattle.flow_expand.specs.declared.layout.Deed.{Deed}
 use Rattle.flow_expand.specs.declared.layout.Pairing.{Pairing}
-use Rattle.flow_expand.specs.declared.layout.Pairing.TheVariants as how
+use Rattle.flow_expand.specs.declared.layout.Piece.{Piece}
 use Rattle.flow_expand.specs.declared.layout.Root.{Root}
+use Rattle.flow_expand.specs.Expansion.{Expansion, nothing, happens, alone, ends_in, isolations_in, capped, sizes_of, joined, Becomes, AllBecome, none_becomes, more_become, becomes_flow, becomes_iso, becomes_serial, becomes_beside, becomes_either}
+use Rattle.flow_expand.specs.Numbers.{facts_in, fact_number, labels_of, leaf_count, numbered}
+use Rattle.flow_expand.specs.Layout.{IsPlaced, placed_nothing, placed_event, placed_fact, placed_pair, placed_alone, IsPlain, IsRoot, paired, fact_leaf, label_of}
+use Rattle.flow_expand.specs.Built.{paired_process}
+use Rattle.flow_expand.specs.declared.directory.Directory.{Directory}
 use Rattle.flow_expand.specs.declared.lay.Stage.{Stage}
-use Rattle.flow_expand.specs.declared.lay.Stage.TheVariants as stage
-use Rattle.flow_expand.specs.Expansion.{Expansion, nothing, alone, joined, Becomes, AllBecome, none_becomes, more_become, becomes_flow, becomes_iso, becomes_serial, becomes_beside, becomes_either}
-use Rattle.flow_expand.specs.Layout.{IsRoot, IsPlaced, paired}
 use Rattle.flow_expand.specs.Steps.{flows_of}
 use Rattle.flow_expand.specs.Directory.{IsDirectory, decls_of, found_in}
 use Rattle.flow_expand.specs.Laid.{Goes, ListGoes, IsFront, IsLaid, IsLaidAt, IsReady, list_shape}
-use Rattle.flow_expand.proofs.Members.{mem_left, mem_right, mem_at}
-use Rattle.flow_expand.proofs.LayoutLemmas.{placed_more}
-use Rattle.flow_expand.proofs.Declarations.{in_flows, either_kind}
-use Rattle.flow_expand.proofs.DirectoryLemmas.{found_none, flow_found}
+use Rattle.flow_expand.specs.declared.layout.Deed.TheVariants as deed
+use Rattle.flow_expand.specs.declared.layout.Pairing.TheVariants as how
+use Rattle.flow_expand.specs.declared.layout.Piece.TheVariants as piece
+use Rattle.flow_expand.specs.declared.lay.Stage.TheVariants as stage
+use Rattle.flow_expand.proofs.Members.{get_left, mem_left, mem_right, mem_at}
+use Rattle.flow_expand.proofs.Declarations.{in_flows, either_kind, found_none, flow_found}
+
+-- a leaf with a fact, whichever it is
+pub record IsFactLeaf (d : Deed) : Type 0 where
+  pub sizes : (a : Atom) → sizes_of (fact_leaf d a) ≡ record { ends = 1; isolations = 0 }
+  pub facts : (a : Atom) → facts_in (fact_leaf d a) ≡ a ∷ []
+  pub labels : (events : List (List ℕ)) (facts : List Atom) (a : Atom) → labels_of events facts (fact_leaf d a) ≡ label_of d (fact_number facts a) ∷ []
+  pub task : (next : ℕ) (a : Atom) → numbered next (fact_leaf d a) ≡ Task next
+
+pub fact_kind : (d : Deed) → IsFactLeaf d
+fact_kind deed.Test = record { sizes = λ a. refl; facts = λ a. refl; labels = λ events facts a. refl; task = λ next a. refl }
+fact_kind deed.Absent = record { sizes = λ a. refl; facts = λ a. refl; labels = λ events facts a. refl; task = λ next a. refl }
+fact_kind deed.Ins = record { sizes = λ a. refl; facts = λ a. refl; labels = λ events facts a. refl; task = λ next a. refl }
+fact_kind deed.Del = record { sizes = λ a. refl; facts = λ a. refl; labels = λ events facts a. refl; task = λ next a. refl }
+
+-- two goals together, however they are
+pub record ArePaired (by : Pairing) (a b : Expansion) : Type 0 where
+  pub sizes : sizes_of (paired by a b) ≡ record { ends = capped (ends_in a + ends_in b); isolations = capped (isolations_in a + isolations_in b) }
+  pub facts : facts_in (paired by a b) ≡ facts_in a ++ facts_in b
+  pub labels : (events : List (List ℕ)) (facts : List Atom) → labels_of events facts (paired by a b) ≡ labels_of events facts a ++ labels_of events facts b
+  pub leaves : leaf_count (paired by a b) ≡ leaf_count a + leaf_count b
+  pub numbers : (next : ℕ) → numbered next (paired by a b) ≡ paired_process by (numbered next a) (numbered (next + leaf_count a) b)
+
+pub pair_kind : (by : Pairing) (a b : Expansion) → ArePaired by a b
+pair_kind how.Serial a b = record { sizes = refl; facts = refl; labels = λ events facts. refl; leaves = refl; numbers = λ next. refl }
+pair_kind how.Beside a b = record { sizes = refl; facts = refl; labels = λ events facts. refl; leaves = refl; numbers = λ next. refl }
+pair_kind how.Either a b = record { sizes = refl; facts = refl; labels = λ events facts. refl; leaves = refl; numbers = λ next. refl }
+
+-- what stands in a layout stands in a longer one
+pub placed_more : (layout more : List Piece) (events : List (List ℕ)) (e : Expansion) (i : ℕ) → IsPlaced layout events e i → IsPlaced (layout ++ more) events e i
+placed_more layout more events e i (placed_nothing {i = p} at) = placed_nothing (get_left layout more p piece.Nop at)
+placed_more layout more events e i (placed_event {i = p} {k = k} {n = n} at there) = placed_event (get_left layout more p (piece.Event k) at) there
+placed_more layout more events e i (placed_fact {i = p} {d = d} {f = f} at) = placed_fact (get_left layout more p (piece.Fact d f) at)
+placed_more layout more events e i (placed_pair {i = p} {j = j} {k = k} {by = by} {a = a} {b = b} at l m x y) =
+    placed_pair (get_left layout more p (piece.Pair by j k) at) l m (placed_more layout more events a j x) (placed_more layout more events b k y)
+placed_more layout more events e i (placed_alone {i = p} {j = j} {a = a} at l x) = placed_alone (get_left layout more p (piece.Iso j) at) l (placed_more layout more events a j x)
+
+-- what stands in a layout stands below its end
+pub placed_below : (layout : List Piece) (events : List (List ℕ)) (e : Expansion) (i : ℕ) → IsPlaced layout events e i → i < length layout
+placed_below layout events e i (placed_nothing {i = p} at) = slice_get_within layout p piece.Nop at
+placed_below layout events e i (placed_event {i = p} {k = k} {n = n} at there) = slice_get_within layout p (piece.Event k) at
+placed_below layout events e i (placed_fact {i = p} {d = d} {f = f} at) = slice_get_within layout p (piece.Fact d f) at
+placed_below layout events e i (placed_pair {i = p} {j = j} {k = k} {by = by} {a = a} {b = b} at l m x y) = slice_get_within layout p (piece.Pair by j k) at
+placed_below layout events e i (placed_alone {i = p} {j = j} {a = a} at l x) = slice_get_within layout p (piece.Iso j) at
+
+-- the goal that a piece stands for
+abbrev pub IsGoalOf : List Piece → List (List ℕ) → ℕ → Piece → Expansion → Type 0
+IsGoalOf layout events i piece.Nop e = IsPlain events piece.Nop e
+IsGoalOf layout events i (piece.Event k) e = IsPlain events (piece.Event k) e
+IsGoalOf layout events i (piece.Fact d f) e = IsPlain events (piece.Fact d f) e
+IsGoalOf layout events i (piece.Pair by j k) e = (a b : Expansion) × (e ≡ paired by a b) × (j < i) × (k < i) × (IsPlaced layout events a j × IsPlaced layout events b k)
+IsGoalOf layout events i (piece.Iso j) e = (a : Expansion) × (e ≡ alone a) × (j < i) × IsPlaced layout events a j
+
+module _ (layout : List Piece) (events : List (List ℕ)) where
+  same_piece : (i : ℕ) (q p : Piece) → slice_get layout i ≡ Some q → slice_get layout i ≡ Some p → q ≡ p
+  same_piece i q p e f = let g : Some q ≡ Some p = sym e ∙ f in cc
+
+  pub goal_of : (i : ℕ) (p : Piece) (e : Expansion) → slice_get layout i ≡ Some p → IsPlaced layout events e i → IsGoalOf layout events i p e
+  goal_of i p e at (placed_nothing {i = x} here) = subst (λ q. IsGoalOf layout events x q nothing) (same_piece x piece.Nop p here at) refl
+  goal_of i p e at (placed_event {i = x} {k = k} {n = n} here there) =
+      subst (λ q. IsGoalOf layout events x q (happens n)) (same_piece x (piece.Event k) p here at) (n, refl, there)
+  goal_of i p e at (placed_fact {i = x} {d = d} {f = f} here) =
+      subst (λ q. IsGoalOf layout events x q (fact_leaf d f.now)) (same_piece x (piece.Fact d f) p here at) refl
+  goal_of i p e at (placed_pair {i = x} {j = j} {k = k} {by = by} {a = a} {b = b} here l m y z) =
+      subst (λ q. IsGoalOf layout events x q (paired by a b)) (same_piece x (piece.Pair by j k) p here at) (a, b, refl, l, m, (y, z))
+  goal_of i p e at (placed_alone {i = x} {j = j} {a = a} here l y) =
+      subst (λ q. IsGoalOf layout events x q (alone a)) (same_piece x (piece.Iso j) p here at) (a, refl, l, y)
+
+-- the piece just put in
+
+put_at : (old : List Piece) (p : Piece) (i : ℕ) → i ≡ length old → slice_get (old ++ p ∷ []) i ≡ Some p
+put_at old p i at = ap (slice_get (old ++ p ∷ [])) at ∙ at_end old p
+
+plain_placed : (layout : List Piece) (events : List (List ℕ)) (p : Piece) (i : ℕ) (e : Expansion) → slice_get layout i ≡ Some p → IsPlain events p e → IsPlaced layout events e i
+plain_placed layout events piece.Nop i e at h = subst (λ g. IsPlaced layout events g i) (sym h) (placed_nothing at)
+plain_placed layout events (piece.Event k) i e at (n, h, there) = subst (λ g. IsPlaced layout events g i) (sym h) (placed_event at there)
+plain_placed layout events (piece.Fact d f) i e at h = subst (λ g. IsPlaced layout events g i) (sym h) (placed_fact at)
+plain_placed layout events (piece.Pair by j k) i e at h = absurd h
+plain_placed layout events (piece.Iso j) i e at h = absurd h
+
+plain_sized : (events : List (List ℕ)) (p : Piece) (e : Expansion) → IsPlain events p e → sizes_of e ≡ record { ends = 1; isolations = 0 }
+plain_sized events piece.Nop e h = ap sizes_of h
+plain_sized events (piece.Event k) e (n, h, there) = ap sizes_of h
+plain_sized events (piece.Fact d f) e h = ap sizes_of h ∙ (fact_kind d).sizes f.now
+plain_sized events (piece.Pair by j k) e h = absurd h
+plain_sized events (piece.Iso j) e h = absurd h
+
+pub end_root : (old new : List Piece) (p : Piece) (root : Root) → new ≡ old ++ p ∷ [] → root.place ≡ length old → root.size ≡ record { ends = 1; isolations = 0 } →
+    (events : List (List ℕ)) (e : Expansion) → IsPlain events p e → IsRoot new events e root
+end_root old new p root grown at size events e h = record {
+  placed = subst (λ l. IsPlaced l events e root.place) (sym grown) (plain_placed (old ++ p ∷ []) events p root.place e (put_at old p root.place at) h);
+  sized = size ∙ sym (plain_sized events p e h);
+}
+
+pub capped_sum : (m n : ℕ) → capped (capped m + capped n) ≡ capped (m + n)
+capped_sum m n = omega arith
+
+capped_more : (m : ℕ) → capped (capped m + 1) ≡ capped (m + 1)
+capped_more m = omega arith
+
+-- a goal that stands before the piece just put in
+module _ (old : List Piece) (p : Piece) (i : ℕ) (at : i ≡ length old) (events : List (List ℕ)) where
+  lower : (root : Root) (e : Expansion) → IsRoot old events e root → root.place < i
+  lower root e h = subst (λ m. root.place < m) (sym at) (placed_below old events e root.place h.placed)
+
+  still : (root : Root) (e : Expansion) → IsRoot old events e root → IsPlaced (old ++ p ∷ []) events e root.place
+  still root e h = placed_more old (p ∷ []) events e root.place h.placed
+
+pub joined_root : (old new : List Piece) (by : Pairing) (left right whole : Root) → new ≡ old ++ piece.Pair by left.place right.place ∷ [] → whole.place ≡ length old →
+    whole.size ≡ record { ends = capped (left.size.ends + right.size.ends); isolations = capped (left.size.isolations + right.size.isolations) } →
+    (events : List (List ℕ)) (a b : Expansion) → IsRoot old events a left → IsRoot old events b right → IsRoot new events (paired by a b) whole
+joined_root old new by left right whole grown at size events a b x y = record {
+  placed = subst (λ l. IsPlaced l events (paired by a b) whole.place) (sym grown)
+      (placed_pair (put_at old p whole.place at) (lower old p whole.place at events left a x) (lower old p whole.place at events right b y)
+      (still old p whole.place at events left a x) (still old p whole.place at events right b y));
+  sized = size
+      ∙ (λ t. record { ends = capped ((x.sized t).ends + (y.sized t).ends); isolations = capped ((x.sized t).isolations + (y.sized t).isolations) })
+      ∙ (λ t. record { ends = capped_sum (ends_in a) (ends_in b) t; isolations = capped_sum (isolations_in a) (isolations_in b) t })
+      ∙ sym (pair_kind by a b).sizes;
+}
+  where
+    p : Piece
+    p = piece.Pair by left.place right.place
+
+pub isolated_root : (old new : List Piece) (inner whole : Root) → new ≡ old ++ piece.Iso inner.place ∷ [] → whole.place ≡ length old →
+    whole.size ≡ record { ends = inner.size.ends; isolations = capped (inner.size.isolations + 1) } →
+    (events : List (List ℕ)) (e : Expansion) → IsRoot old events e inner → IsRoot new events (alone e) whole
+isolated_root old new inner whole grown at size events e x = record {
+  placed = subst (λ l. IsPlaced l events (alone e) whole.place) (sym grown)
+      (placed_alone (put_at old p whole.place at) (lower old p whole.place at events inner e x) (still old p whole.place at events inner e x));
+  sized = size
+      ∙ (λ t. record { ends = (x.sized t).ends; isolations = capped ((x.sized t).isolations + 1) })
+      ∙ (λ t. record { ends = capped (ends_in e); isolations = capped_more (isolations_in e) t });
+}
+  where
+    p : Piece
+    p = piece.Iso inner.place
 
 pub root_more : (old new : List Piece) (events : List (List ℕ)) (e : Expansion) (root : Root) → Begins new old → IsRoot old events e root → IsRoot new events e root
 root_more old new events e root (more, is) h = record {

@@ -1,6 +1,6 @@
--- Members of lists and their places.
-use Rattle.std.proofs.Common.{◌≡◌, ℕ, zero, suc, List, [], ◌∷◌, ◌++◌, ◌⊎◌, ◌||◌, Bool, true, false, map, slice_get, Some, refl, sym, ap, ◌∙◌, subst, inl, inr, option_map}
-use Rattle.std.proofs.lemmas.List.{append-nil}
+-- Members of lists and their places, and lists that are written out one by one.
+use Rattle.std.proofs.Common.{◌≡◌, ℕ, zero, suc, List, [], ◌∷◌, ◌++◌, ◌⊎◌, ◌||◌, Bool, true, false, map, slice_get, Some, refl, sym, ap, ◌∙◌, subst, inl, inr, option_map, ◌+◌, ◌<◌, length, get_or, take}
+use Rattle.std.proofs.lemmas.List.{append-nil, map_push, map_more}
 use Rattle.std.proofs.lemmas.List.Concat.{flat_map-append}
 use Rattle.std.specs.Bool.{Decides}
 use Rattle.std.specs.List.{flat_map, list_any}
@@ -52,3 +52,13 @@ module _ {A : Type 0} (E : A → A → Bool) (decides : (a b : A) → Decides (E
       go : (t : Bool) → list_any (E x) xs ≡ t → list_any (E x) xs ≡ false
       go true e = absurd (out (any_member x xs e))
       go false e = e
+
+pub one_more : {B C : Type 0} (g : B → C) (made new : List C) (x : C) (ys : List B) (i : ℕ) (y : B) → i < length ys → made ≡ map g (take i ys) →
+    x ≡ g (get_or ys i y) → new ≡ made ++ x ∷ [] → new ≡ map g (take (i + 1) ys)
+one_more g made new x ys i y lt before same grown = grown ∙ (λ t. before t ++ same t ∷ []) ∙ sym (map_more g ys i y lt)
+
+-- the same of what the elements stand for
+pub one_more_mapped : {A B C : Type 0} (f : A → C) (g : B → C) (made new : List A) (x : A) (ys : List B) (i : ℕ) (y : B) → i < length ys →
+    map f made ≡ map g (take i ys) → f x ≡ g (get_or ys i y) → new ≡ made ++ x ∷ [] → map f new ≡ map g (take (i + 1) ys)
+one_more_mapped f g made new x ys i y lt before same grown =
+    one_more g (map f made) (map f new) (f x) ys i y lt before same (ap (map f) grown ∙ map_push f made x)

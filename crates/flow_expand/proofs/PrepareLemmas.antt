@@ -24,11 +24,9 @@ use Rattle.flow_expand.specs.Waiting.{IsFound}
 use Rattle.flow_expand.specs.Refusals.{flow_count, rule_name_count, IsFinite, IsFitting, IsRefusal}
 use Rattle.flow_expand.specs.Layout.{IsPlaced}
 use Rattle.flow_expand.specs.Prepared.{IsPrepared}
-use Rattle.flow_expand.proofs.DirectoryLemmas.{flow_found, flows_below}
-use Rattle.flow_expand.proofs.LayLemmas.{ready}
-use Rattle.flow_expand.proofs.Declarations.{flow_place}
+use Rattle.flow_expand.proofs.Declarations.{flow_found, flows_below, flow_place}
+use Rattle.flow_expand.proofs.LayLemmas.{ready, capped_sum}
 use Rattle.flow_expand.proofs.Endings.{no_recursion}
-use Rattle.flow_expand.proofs.LayoutLemmas.{capped_sum}
 
 -- what an error says as well
 pub err_to : {T E : Type 0} (r : Result T E) (P Q : E → Type 0) → ((x : E) → P x → Q x) → IfErr r P → IfErr r Q
@@ -43,10 +41,7 @@ names_in_all (r ∷ rs) = ap (λ l. names_in_rule r ++ l) (names_in_all rs)
 
 rules_end : (rs : List RuleShape) (r : RuleShape) → length (names_in_rules (rule_shapes (rs ++ r ∷ []))) ≡ length (names_in_rules (rule_shapes rs)) + length (names_in_rule r)
 rules_end [] r = length-append (names_in_rule r) [] ∙ omega arith
-rules_end (q ∷ rs) r =
-    length-append (names_in_rule q) (names_in_rules (rule_shapes (rs ++ r ∷ []))) ∙ ap (λ n. length (names_in_rule q) + n) (rules_end rs r)
-    ∙ (let e : length (names_in_rule q) + (length (names_in_rules (rule_shapes rs)) + length (names_in_rule r)) ≡ (length (names_in_rule q) + length (names_in_rules (rule_shapes rs))) + length (names_in_rule r) = omega arith in e)
-    ∙ ap (λ n. n + length (names_in_rule r)) (sym (length-append (names_in_rule q) (names_in_rules (rule_shapes rs))))
+rules_end (q ∷ rs) r = omega (arith, rules_end rs r, length-append (names_in_rule q) (names_in_rules (rule_shapes (rs ++ r ∷ []))), length-append (names_in_rule q) (names_in_rules (rule_shapes rs)))
 
 pub count_more : (rules : List RuleForm) (i count one : ℕ) (item : RuleForm) → i < length rules → item ≡ get_or rules i item → count ≡ capped (length (names_in_rules (rule_shapes (map rule_shape_of (take i rules))))) →
     one ≡ capped (length (names_in_rule (rule_shape_of item))) → capped (count + one) ≡ capped (length (names_in_rules (rule_shapes (map rule_shape_of (take (i + 1) rules)))))

@@ -51,29 +51,19 @@ mutual
 
 -- its leaves and nothings
 abbrev pub ends_in : Expansion → ℕ
-ends_in nothing = 1
-ends_in (happens n) = 1
-ends_in (holds a) = 1
-ends_in (lacks a) = 1
-ends_in (adds a) = 1
-ends_in (takes a) = 1
 ends_in (in_turn a b) = ends_in a + ends_in b
 ends_in (at_once a b) = ends_in a + ends_in b
 ends_in (one_of a b) = ends_in a + ends_in b
 ends_in (alone a) = ends_in a
+ends_in e = 1
 
 -- its isolations
 abbrev pub isolations_in : Expansion → ℕ
-isolations_in nothing = 0
-isolations_in (happens n) = 0
-isolations_in (holds a) = 0
-isolations_in (lacks a) = 0
-isolations_in (adds a) = 0
-isolations_in (takes a) = 0
 isolations_in (in_turn a b) = isolations_in a + isolations_in b
 isolations_in (at_once a b) = isolations_in a + isolations_in b
 isolations_in (one_of a b) = isolations_in a + isolations_in b
 isolations_in (alone a) = isolations_in a + 1
+isolations_in e = 0
 
 -- its leaves and nothings, or its isolations where these are more
 abbrev pub size_of : Expansion → ℕ

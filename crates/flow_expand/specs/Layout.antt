@@ -46,8 +46,7 @@ abbrev pub IsPlain : List (List ℕ) → Piece → Expansion → Type 0
 IsPlain events piece.Nop e = e ≡ nothing
 IsPlain events (piece.Event k) e = (n : List ℕ) × (e ≡ happens n) × (slice_get events k ≡ Some n)
 IsPlain events (piece.Fact d f) e = e ≡ fact_leaf d f.now
-IsPlain events (piece.Pair by j k) e = ⊥
-IsPlain events (piece.Iso j) e = ⊥
+IsPlain events p e = ⊥
 
 -- the root is that of the goal, with its size
 pub record IsRoot (layout : List Piece) (events : List (List ℕ)) (e : Expansion) (root : Root) : Type 0 where

@@ -7,7 +7,7 @@ use Rattle.flow_model.specs.declared.labels.Note.{Note}
 use Rattle.flow_model.specs.Lists.{numbers_from}
 use Rattle.flow_model.specs.Process.{Process, Empty, Task, Sequence, Parallel, Choice, Isolated}
 use Rattle.flow_facts.specs.Atom.{Atom, atom_eq}
-use Rattle.flow_form.specs.Script.{Declared, fact, event, flow}
+use Rattle.flow_form.specs.Script.{Declared, fact, event}
 use Rattle.flow_form.specs.Names.{event_names}
 use Rattle.flow_goal.specs.Labelled.{Labelled}
 use Rattle.flow_workflow.specs.Numbers.{event_number}
@@ -15,8 +15,6 @@ use Rattle.flow_expand.specs.Expansion.{Expansion, nothing, happens, holds, lack
 
 -- the facts at its leaves, from left to right
 abbrev pub facts_in : Expansion → List Atom
-facts_in nothing = []
-facts_in (happens n) = []
 facts_in (holds a) = a ∷ []
 facts_in (lacks a) = a ∷ []
 facts_in (adds a) = a ∷ []
@@ -25,6 +23,7 @@ facts_in (in_turn a b) = facts_in a ++ facts_in b
 facts_in (at_once a b) = facts_in a ++ facts_in b
 facts_in (one_of a b) = facts_in a ++ facts_in b
 facts_in (alone a) = facts_in a
+facts_in e = []
 
 -- the list with one more fact, unless it is there
 abbrev pub with_fact : List Atom → Atom → List Atom
@@ -36,8 +35,7 @@ firsts facts = fold with_fact [] facts
 
 abbrev pub fact_of : Declared → List Atom
 fact_of (fact a) = a ∷ []
-fact_of (event n note) = []
-fact_of (flow n s) = []
+fact_of d = []
 
 -- the facts that are declared
 abbrev pub declared_facts : List Declared → List Atom
@@ -52,9 +50,8 @@ abbrev pub held_of : List Declared → List ℕ
 held_of decls = numbers_from 0 (length (firsts (declared_facts decls)))
 
 abbrev pub event_note : Declared → List Note
-event_note (fact a) = []
 event_note (event n note) = note ∷ []
-event_note (flow n s) = []
+event_note d = []
 
 -- the notes of events by their numbers
 abbrev pub notes_of : List Declared → List Note
@@ -80,28 +77,20 @@ labels_of events facts (alone a) = labels_of events facts a
 -- how many leaves it has
 abbrev pub leaf_count : Expansion → ℕ
 leaf_count nothing = 0
-leaf_count (happens n) = 1
-leaf_count (holds a) = 1
-leaf_count (lacks a) = 1
-leaf_count (adds a) = 1
-leaf_count (takes a) = 1
 leaf_count (in_turn a b) = leaf_count a + leaf_count b
 leaf_count (at_once a b) = leaf_count a + leaf_count b
 leaf_count (one_of a b) = leaf_count a + leaf_count b
 leaf_count (alone a) = leaf_count a
+leaf_count e = 1
 
 -- the goal with its leaves numbered from that number on, from the left
 abbrev pub numbered : ℕ → Expansion → Process
 numbered next nothing = Empty
-numbered next (happens n) = Task next
-numbered next (holds a) = Task next
-numbered next (lacks a) = Task next
-numbered next (adds a) = Task next
-numbered next (takes a) = Task next
 numbered next (in_turn a b) = Sequence (numbered next a) (numbered (next + leaf_count a) b)
 numbered next (at_once a b) = Parallel (numbered next a) (numbered (next + leaf_count a) b)
 numbered next (one_of a b) = Choice (numbered next a) (numbered (next + leaf_count a) b)
 numbered next (alone a) = Isolated (numbered next a)
+numbered next e = Task next
 
 -- the goal with labels at its leaves
 abbrev pub labelled_of : List Declared → Expansion → Labelled

@@ -3,22 +3,20 @@ use Rattle.std.specs.Prelude.{◌≡◌, ℕ, List, [], ◌∷◌, ◌++◌, Som
 use Rattle.std.specs.List.{flat_map}
 use Rattle.flow_model.specs.Lists.{◌∈◌, Each, AreDistinct, StandsBefore}
 use Rattle.flow_form.specs.Form.{Shape}
-use Rattle.flow_form.specs.Script.{Declared, fact, event, flow}
+use Rattle.flow_form.specs.Script.{Declared, flow}
 use Rattle.flow_form.specs.Names.{names_in, declared_names}
 
 abbrev pub flow_of : Declared → List (List ℕ × Shape)
-flow_of (fact a) = []
-flow_of (event n note) = []
 flow_of (flow n s) = (n, s) ∷ []
+flow_of d = []
 
 -- the sub-workflows with their goals, in order of declaration
 abbrev pub flows_of : List Declared → List (List ℕ × Shape)
 flows_of decls = flat_map flow_of decls
 
 abbrev pub flow_name : Declared → List (List ℕ)
-flow_name (fact a) = []
-flow_name (event n note) = []
 flow_name (flow n s) = n ∷ []
+flow_name d = []
 
 -- the names of the sub-workflows, in order of declaration
 abbrev pub flow_names : List Declared → List (List ℕ)

@@ -3,9 +3,8 @@ use Rattle.flow_model.specs.Process.{Isolated}
 use Rattle.flow_goal.specs.declared.goal.Goal.{Goal}
 use Rattle.flow_goal.specs.Goal.{process_of}
 use Rattle.flow_expand.specs.declared.layout.Piece.TheVariants as piece
-use Rattle.flow_expand.proofs.LayoutLemmas.{placed_below}
-use Rattle.flow_expand.proofs.LayLemmas.{ok_to}
-use Rattle.flow_expand.proofs.BuildingSteps.{ok_and, piece_at, buildable_first, buildable_second, built_pair_at, buildable_inside, built_inside_at, built_nothing_at, built_event_at, built_fact_at}
+use Rattle.flow_expand.proofs.LayLemmas.{placed_below, ok_to}
+use Rattle.flow_expand.proofs.BuildLemmas.{ok_and, piece_at, buildable_first, buildable_second, built_pair_at, buildable_inside, built_inside_at, built_nothing_at, built_event_at, built_fact_at}
 use Rattle.flow_expand.proofs.building.+build.Goals as goal
 
 pub index-requires : goal.index-requires

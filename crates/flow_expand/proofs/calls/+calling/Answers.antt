@@ -1,4 +1,4 @@
-use Rattle.flow_expand.proofs.CallLemmas.{calls_more}
+use Rattle.flow_expand.proofs.SettleLemmas.{calls_more}
 use Rattle.flow_expand.proofs.calls.+calling.Goals as goal
 
 pub push_all_calls-loop-form-preserved : goal.push_all_calls-loop-form-preserved

@@ -3,7 +3,7 @@ use Rattle.flow_form.specs.declared.form.Form.{Form}
 use Rattle.flow_form.specs.Form.{shape_of}
 use Rattle.flow_form.specs.Names.{names_in}
 use Rattle.flow_expand.specs.Calls.{calls_in}
-use Rattle.flow_expand.proofs.Pushes.{one_more_mapped}
+use Rattle.flow_expand.proofs.Members.{one_more_mapped}
 use Rattle.flow_expand.proofs.calls.calls_of.Goals as goal
 
 pub loop-goal-preserved : goal.loop-goal-preserved

@@ -1,11 +1,11 @@
-use Rattle.std.proofs.Common.{◌≡◌, ◌∷◌, [], ◌++◌, ◌<◌, ◌≤◌, ◌-◌, ℕ, zero, suc, List, length, map, take, drop, get_or, ap, sym, subst, ◌∙◌, arith}
+use Rattle.std.proofs.Common.{◌≡◌, [], ◌∷◌, ◌++◌, ◌<◌, ◌≤◌, ◌-◌, ℕ, zero, suc, List, length, map, take, drop, get_or, ap, sym, subst, ◌∙◌, arith}
 use Rattle.std.specs.Prelude.{All}
 use Rattle.std.proofs.lemmas.List.Elements.{All-take, All-drop, All-get_or}
 use Rattle.std.proofs.lemmas.List.{take_rest}
 use Rattle.flow_expand.specs.Directory.{decls_of}
 use Rattle.flow_expand.specs.Steps.{flow_names}
 use Rattle.flow_expand.proofs.Declarations.{distinct_flows}
-use Rattle.flow_expand.proofs.ChainLemmas.{path_chain, three_parts}
+use Rattle.flow_expand.proofs.SettleLemmas.{path_chain, three_parts}
 use Rattle.flow_expand.proofs.chain.chain_of.Goals as goal
 
 pub returns : goal.returns
@@ -26,45 +26,27 @@ returns c =
     (subst (λ (r : List ℕ). (k : ℕ) → k < length r → get_or r low 0 ≤ get_or r k 0) same c.place_of_least-least.ensures.least) c.push_names-3.new.chain.items
     (written ∙ (λ i. map (λ k. get_or (names i) k []) (drop low (same i)) ++ map (λ k. get_or (names i) k []) (take low (same i)) ++ map (λ k. get_or (names i) k []) (get_or (same i) low 0 ∷ [])))
 
-one_within : (x n : ℕ) → x < n → (k d : ℕ) → k < 1 → get_or (x ∷ []) k d < n
-one_within x n h zero d lt = h
-one_within x n h (suc k) d lt = absurd (omega arith)
+-- each number of what is left of the path has a name
+rest_within : (n : ℕ) (xs : List ℕ) (p : ℕ) → All (λ k. k < n) xs → All (λ k. k < n) (take (length xs - p) (drop p xs))
+rest_within n xs p h = All-take (λ k. k < n) (length xs - p) (drop p xs) (All-drop (λ k. k < n) p xs h)
+
+ring_within : (found names : List (List ℕ)) (path : List ℕ) (p : ℕ) → found ≡ names → All (λ k. k < length names) path → All (λ k. k < length found) (take (length path - p) (drop p path))
+ring_within found names path p same h = rest_within (length found) path p (subst (λ (l : List (List ℕ)). All (λ k. k < length l) path) (sym same) h)
+
+one_within : (n : ℕ) (xs : List ℕ) (low : ℕ) → low < length xs → All (λ k. k < n) xs → (k d : ℕ) → k < 1 → get_or (get_or xs low 0 ∷ []) k d < n
+one_within n xs low lt h zero d one = All-get_or (λ k. k < n) xs low 0 lt h
+one_within n xs low lt h (suc k) d one = absurd (omega arith)
 
 pub push_names-requires : goal.push_names-requires
 push_names-requires c =
-    let path = c.args.path.now in
-    let p = c.place_of.result in
-    let low = c.place_of_least-least.result in
-    let found = c.as_slice-names.result.now in
-    let P : ℕ → Type 0 = λ k. k < length found in
-    let within : All P path =
-    subst (λ (l : List (List ℕ)). All (λ k. k < length l) path) (sym (c.as_slice-names.ensures.keys ∙ c.requires.directory.flows)) c.requires.back.within in
-    let ring = take (length path - p) (drop p path) in
-    let inside : All P ring = All-take P (length path - p) (drop p path) (All-drop P p path within) in
-    All-take P (length ring - low) (drop low ring) (All-drop P low ring inside)
+    rest_within _ _ c.place_of_least-least.result (ring_within _ _ c.args.path.now c.place_of.result (c.as_slice-names.ensures.keys ∙ c.requires.directory.flows) c.requires.back.within)
 
 pub push_names-requires-2 : goal.push_names-requires-2
 push_names-requires-2 c =
-    let path = c.args.path.now in
-    let p = c.place_of.result in
-    let low = c.place_of_least-least.result in
-    let found = c.as_slice-names.result.now in
-    let P : ℕ → Type 0 = λ k. k < length found in
-    let within : All P path =
-    subst (λ (l : List (List ℕ)). All (λ k. k < length l) path) (sym (c.as_slice-names.ensures.keys ∙ c.requires.directory.flows)) c.requires.back.within in
-    let ring = take (length path - p) (drop p path) in
-    let inside : All P ring = All-take P (length path - p) (drop p path) (All-drop P p path within) in
-    All-take P low ring inside
+    All-take (λ k. k < length c.as_slice-names.result.now) c.place_of_least-least.result _
+    (ring_within _ _ c.args.path.now c.place_of.result (c.as_slice-names.ensures.keys ∙ c.requires.directory.flows) c.requires.back.within)
 
 pub push_names-requires-3 : goal.push_names-requires-3
 push_names-requires-3 c =
-    let path = c.args.path.now in
-    let p = c.place_of.result in
-    let low = c.place_of_least-least.result in
-    let found = c.as_slice-names.result.now in
-    let P : ℕ → Type 0 = λ k. k < length found in
-    let within : All P path =
-    subst (λ (l : List (List ℕ)). All (λ k. k < length l) path) (sym (c.as_slice-names.ensures.keys ∙ c.requires.directory.flows)) c.requires.back.within in
-    let ring = take (length path - p) (drop p path) in
-    let inside : All P ring = All-take P (length path - p) (drop p path) (All-drop P p path within) in
-    one_within (get_or ring low 0) (length found) (All-get_or P ring low 0 c.place_of_least-least.ensures.within inside)
+    one_within _ _ c.place_of_least-least.result c.place_of_least-least.ensures.within
+    (ring_within _ _ c.args.path.now c.place_of.result (c.as_slice-names.ensures.keys ∙ c.requires.directory.flows) c.requires.back.within)

@@ -1,4 +1,4 @@
-use Rattle.flow_expand.proofs.LayoutLemmas.{joined_root}
+use Rattle.flow_expand.proofs.LayLemmas.{joined_root}
 use Rattle.flow_expand.proofs.layout.put_both.Goals as goal
 
 pub returns-clause-ok : goal.returns-clause-ok

@@ -1,5 +1,5 @@
 use Rattle.std.proofs.Common.{refl}
-use Rattle.flow_expand.proofs.LayoutLemmas.{end_root}
+use Rattle.flow_expand.proofs.LayLemmas.{end_root}
 use Rattle.flow_expand.proofs.layout.put_end.Goals as goal
 
 pub returns-clause-ok : goal.returns-clause-ok

@@ -1,4 +1,4 @@
-use Rattle.flow_expand.proofs.LayoutLemmas.{isolated_root}
+use Rattle.flow_expand.proofs.LayLemmas.{isolated_root}
 use Rattle.flow_expand.proofs.layout.put_isolated.Goals as goal
 
 pub returns-clause-ok : goal.returns-clause-ok

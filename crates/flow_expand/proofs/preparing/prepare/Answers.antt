@@ -6,8 +6,7 @@ use Rattle.flow_expand.specs.declared.refusal.Part.TheVariants as part
 use Rattle.flow_expand.specs.Directory.{decls_of}
 use Rattle.flow_expand.specs.Steps.{flow_names, AreDeclared}
 use Rattle.flow_expand.specs.Refusals.{flow_count}
-use Rattle.flow_expand.proofs.Declarations.{goals_declared}
-use Rattle.flow_expand.proofs.DirectoryLemmas.{names_counted}
+use Rattle.flow_expand.proofs.Declarations.{goals_declared, names_counted}
 use Rattle.flow_expand.proofs.PrepareLemmas.{err_to, flows_refusal}
 use Rattle.flow_expand.proofs.preparing.prepare.Goals as goal
 

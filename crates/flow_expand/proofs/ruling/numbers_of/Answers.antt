@@ -1,6 +1,6 @@
 use Rattle.std.proofs.Common.{ap, ◌∙◌}
 use Rattle.flow_workflow.specs.Numbers.{event_number}
-use Rattle.flow_expand.proofs.Pushes.{one_more}
+use Rattle.flow_expand.proofs.Members.{one_more}
 use Rattle.flow_expand.proofs.ruling.numbers_of.Goals as goal
 
 pub loop-name-preserved : goal.loop-name-preserved

@@ -1,5 +1,5 @@
 use Rattle.std.proofs.Common.{sym, ◌∙◌}
-use Rattle.flow_expand.proofs.DirectoryLemmas.{found_is}
+use Rattle.flow_expand.proofs.Declarations.{found_is}
 use Rattle.flow_expand.proofs.directory.Directory.flow.Goals as goal
 
 pub returns-in-Some : goal.returns-in-Some

@@ -6,8 +6,7 @@ use Rattle.flow_form.specs.Form.{shape_of}
 use Rattle.flow_form.specs.Script.{declared}
 use Rattle.flow_form.specs.Names.{flow_goal}
 use Rattle.flow_expand.specs.Steps.{flow_name}
-use Rattle.flow_expand.proofs.Declarations.{distinct_flows}
-use Rattle.flow_expand.proofs.DeclaredLemmas.{part_put, part_passed, part_added, not_flow}
+use Rattle.flow_expand.proofs.Declarations.{distinct_flows, part_put, part_passed, part_added, not_flow}
 use Rattle.flow_expand.proofs.directory.Directory.new.Goals as goal
 use Rattle.flow_expand.proofs.directory.Directory.new.Goals.{in-Flow+in_ok-add+in_ok-push, in_default}
 

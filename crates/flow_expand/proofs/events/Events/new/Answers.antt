@@ -3,7 +3,7 @@ use Rattle.flow_facts.specs.Indexed.{IsAdded}
 use Rattle.flow_form.specs.Script.{declared}
 use Rattle.flow_form.specs.Names.{event_name}
 use Rattle.flow_expand.specs.Numbers.{event_note}
-use Rattle.flow_expand.proofs.DeclaredLemmas.{part_put, part_passed, part_added, not_event}
+use Rattle.flow_expand.proofs.Declarations.{part_put, part_passed, part_added, not_event}
 use Rattle.flow_expand.proofs.events.Events.new.Goals as goal
 use Rattle.flow_expand.proofs.events.Events.new.Goals.{in-Event+in_ok-add+in_ok-push, in_default}
 

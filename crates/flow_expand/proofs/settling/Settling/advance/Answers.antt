@@ -11,14 +11,8 @@ attempt-requires-clause-within c =
     slice_get_within c.args.self.now.laid.items c.args.flow stage.Begun (last_begun (decls_of c.args.directory.now) c.args.self.now.laid.items c.args.path.now.items _ c.args.flow c.requires.path c.requires.last) in
     search rules
 
-pub returns-in-None-clause-path : goal.returns-in-None-clause-path
-returns-in-None-clause-path c = (done (decls_of c.args.directory.now) c.args.self.now.laid.items c.attempt.new.self.laid.items c.args.path.now.items c.pop.new.self.items _ c.args.flow
-    (when_none c.in_ok-next.field-0 _ _ c.in-None.is c.in_ok-next.ensures.laid) c.requires.path c.requires.last c.pop.ensures.rest).path
-
-pub returns-in-None-clause-stays : goal.returns-in-None-clause-stays
-returns-in-None-clause-stays c = (done (decls_of c.args.directory.now) c.args.self.now.laid.items c.attempt.new.self.laid.items c.args.path.now.items c.pop.new.self.items _ c.args.flow
-    (when_none c.in_ok-next.field-0 _ _ c.in-None.is c.in_ok-next.ensures.laid) c.requires.path c.requires.last c.pop.ensures.rest).stays
-
-pub returns-in-None-clause-less : goal.returns-in-None-clause-less
-returns-in-None-clause-less c = (done (decls_of c.args.directory.now) c.args.self.now.laid.items c.attempt.new.self.laid.items c.args.path.now.items c.pop.new.self.items _ c.args.flow
-    (when_none c.in_ok-next.field-0 _ _ c.in-None.is c.in_ok-next.ensures.laid) c.requires.path c.requires.last c.pop.ensures.rest).less
+pub returns-in-None : goal.returns-in-None
+returns-in-None c =
+    let h = done (decls_of c.args.directory.now) c.args.self.now.laid.items c.attempt.new.self.laid.items c.args.path.now.items c.pop.new.self.items _ c.args.flow
+    (when_none c.in_ok-next.field-0 _ _ c.in-None.is c.in_ok-next.ensures.laid) c.requires.path c.requires.last c.pop.ensures.rest in
+    record { settling = c.in_ok-next.ensures.settling; path = h.path; stays = h.stays; less = h.less; found = tt }

@@ -1,14 +1,12 @@
-use Rattle.std.proofs.Common.{rules, arith, ◌≡◌, ◌<◌, ℕ, length, slice_get, Option, Some, None, refl, sym, subst, ap, ◌∙◌}
+use Rattle.std.proofs.Common.{rules, ◌≡◌, ◌<◌, ℕ, length, slice_get, Option, Some, None, refl, sym, subst, ap, ◌∙◌}
 use Rattle.flow_model.specs.Lists.{◌∈◌, Each}
 use Rattle.std.specs.Prelude.{IfSome}
-use Rattle.std.proofs.lemmas.Option.{slice_get-get_or}
 use Rattle.flow_form.specs.Form.{shape_of}
 use Rattle.flow_form.specs.Names.{names_in}
 use Rattle.flow_expand.specs.Laid.{IsLaidAt, IsReady}
-use Rattle.flow_expand.proofs.DirectoryLemmas.{flow_at}
+use Rattle.flow_expand.proofs.Declarations.{flow_at}
 use Rattle.flow_expand.proofs.LayLemmas.{ready}
-use Rattle.flow_expand.proofs.SettleLemmas.{laid_set}
-use Rattle.flow_expand.proofs.CallLemmas.{calls_at, calls_many, calls_found, named_call, all_laid, seen_to, seen_moved, seen_laid}
+use Rattle.flow_expand.proofs.SettleLemmas.{laid_set, list_at, calls_at, calls_found, named_call, all_laid, seen_to, seen_moved, seen_kept, laid_stays}
 use Rattle.flow_expand.proofs.settling.Settling.attempt.Goals as goal
 
 some_to : (o : Option ℕ) (P : ℕ → Type 0) → ((k : ℕ) → o ≡ Some k → P k) → IfSome o P
@@ -20,9 +18,8 @@ returns-then-is_some-clause-waits c =
     let d = c.args.directory.now in
     let s = c.args.self.now in
     let within : c.args.flow < length d.goals.items = search rules in
-    let few : c.args.flow < length s.calls.items = omega (arith, within, calls_many d s.calls.items c.requires.settling.calls) in
     let list = c.index.result.now in
-    let at = slice_get-get_or s.calls.items c.args.flow list few ∙ ap Some (sym c.index.ensures) in
+    let at = list_at d s c.args.flow list c.requires.settling within c.index.ensures in
     some_to c.call_at-next.result _ (λ k e.
     let there = ap (λ l. slice_get l c.first_unlaid-ahead.result) (sym c.as_slice-named.ensures.value) ∙ sym c.call_at-next.ensures ∙ e in (
       calls_found d s.calls.items c.args.flow c.first_unlaid-ahead.result k list c.requires.settling.laid.directory c.requires.settling.calls within at there,
@@ -34,13 +31,11 @@ lay-requires-clause-ready c =
     let d = c.args.directory.now in
     let s = c.args.self.now in
     let within : c.args.flow < length d.goals.items = search rules in
-    let few : c.args.flow < length s.calls.items = omega (arith, within, calls_many d s.calls.items c.requires.settling.calls) in
     let list = c.index.result.now in
-    let at = slice_get-get_or s.calls.items c.args.flow list few ∙ ap Some (sym c.index.ensures) in
+    let at = list_at d s c.args.flow list c.requires.settling within c.index.ensures in
     let counted : c.args.flow < length s.seen.items = search rules in
-    let from = slice_get-get_or s.seen.items c.args.flow c.index-2.result.now counted ∙ ap Some (sym c.index-2.ensures) in
-    let passed = seen_to s.calls.items s.seen.items s.laid.items c.args.flow c.index-2.result.now c.first_unlaid-ahead.result list at from c.requires.settling.seen
-    (λ i j a b e. subst (λ l. IsLaidAt l j) c.deref.ensures.value (c.first_unlaid-ahead.ensures.passed i j a b (ap (λ l. slice_get l i) c.as_slice-named.ensures.value ∙ e))) in
+    let passed = seen_to d s c.args.flow c.index-2.result.now c.first_unlaid-ahead.result list _ _ c.requires.settling at counted c.index-2.ensures c.as_slice-named.ensures.value c.deref.ensures.value
+    c.first_unlaid-ahead.ensures.passed in
     let f = c.index-3.result.now in
     let h = c.requires.settling.laid.directory in
     let (n, there) = flow_at d h c.args.flow f within c.index-3.ensures in
@@ -56,13 +51,11 @@ returns-clause-settling c =
     let d = c.args.directory.now in
     let s = c.args.self.now in
     let within : c.args.flow < length d.goals.items = search rules in
-    let few : c.args.flow < length s.calls.items = omega (arith, within, calls_many d s.calls.items c.requires.settling.calls) in
     let list = c.index.result.now in
-    let at = slice_get-get_or s.calls.items c.args.flow list few ∙ ap Some (sym c.index.ensures) in
+    let at = list_at d s c.args.flow list c.requires.settling within c.index.ensures in
     let counted : c.args.flow < length s.seen.items = search rules in
-    let from = slice_get-get_or s.seen.items c.args.flow c.index-2.result.now counted ∙ ap Some (sym c.index-2.ensures) in
-    let passed = seen_to s.calls.items s.seen.items s.laid.items c.args.flow c.index-2.result.now c.first_unlaid-ahead.result list at from c.requires.settling.seen
-    (λ i j a b e. subst (λ l. IsLaidAt l j) c.deref.ensures.value (c.first_unlaid-ahead.ensures.passed i j a b (ap (λ l. slice_get l i) c.as_slice-named.ensures.value ∙ e))) in
+    let passed = seen_to d s c.args.flow c.index-2.result.now c.first_unlaid-ahead.result list _ _ c.requires.settling at counted c.index-2.ensures c.as_slice-named.ensures.value c.deref.ensures.value
+    c.first_unlaid-ahead.ensures.passed in
     let f = c.index-3.result.now in
     let (n, there) = flow_at d c.requires.settling.laid.directory c.args.flow f within c.index-3.ensures in
     record {
@@ -70,6 +63,6 @@ returns-clause-settling c =
       many = c.requires.settling.many;
       calls = c.requires.settling.calls;
       counted = c.requires.settling.counted;
-      seen = seen_laid s.calls.items _ s.laid.items c.args.flow c.in_ok-root.root
+      seen = seen_kept s.calls.items _ s.laid.items _ (λ j. laid_stays s.laid.items c.args.flow j c.in_ok-root.root)
           (seen_moved s.calls.items s.seen.items s.laid.items c.args.flow c.first_unlaid-ahead.result list at c.requires.settling.seen passed);
     }

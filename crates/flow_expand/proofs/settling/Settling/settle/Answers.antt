@@ -6,8 +6,7 @@ use Rattle.flow_expand.specs.declared.lay.Stage.{Stage}
 use Rattle.flow_expand.specs.declared.lay.Stage.TheVariants as stage
 use Rattle.flow_expand.specs.Waiting.{IsPath, IsIdle}
 use Rattle.flow_expand.specs.Directory.{decls_of}
-use Rattle.flow_expand.proofs.SettleLemmas.{start_laid, last_none, stays_begun, stays_twice, laid_begun, get_set_same, get_set_cases}
-use Rattle.flow_expand.proofs.CallLemmas.{seen_stays}
+use Rattle.flow_expand.proofs.SettleLemmas.{start_laid, last_none, stays_begun, stays_twice, get_set_same, get_set_cases, laid_begun, seen_kept, stays_at}
 use Rattle.flow_expand.proofs.settling.Settling.settle.Goals as goal
 
 -- where none waits, the one that begins to wait is the whole path
@@ -39,7 +38,7 @@ loop-flow-init c =
         many = c.requires.settling.many;
         calls = c.requires.settling.calls;
         counted = c.requires.settling.counted;
-        seen = seen_stays s.calls.items s.seen.items laid (set laid start stage.Begun) (stays_begun laid start c.requires.unlaid) c.requires.settling.seen;
+        seen = seen_kept s.calls.items s.seen.items laid (set laid start stage.Begun) (λ j. stays_at laid (set laid start stage.Begun) j (stays_begun laid start c.requires.unlaid)) c.requires.settling.seen;
       };
       path = path_first (decls_of c.args.directory.now) laid start c.in_ok-path.path.items c.requires.idle lt c.in_ok-path.ensures.items;
       stays = stays_begun laid start c.requires.unlaid;
@@ -54,14 +53,16 @@ loop-flow-preserved c = record {
   begun = λ e. c.loop-flow.invariant.begun (c.in_ok-advance.ensures.stays.unlaid c.args.start e);
 }
 
-pub returns-clause-idle : goal.returns-clause-idle
-returns-clause-idle c =
+pub returns : goal.returns
+returns c =
+    let laid = c.loop-flow.self.laid.items in
     let none : c.loop-flow.path.items ≡ [] = sym c.deref.ensures.value ∙ last_none c.deref.result.now (sym c.last.ensures.value ∙ sym c.in_default.ensures) in
-    λ k at. absurd (subst (λ path. k ∈ path) none (c.loop-flow.invariant.path.only k at))
-
-pub returns-clause-start : goal.returns-clause-start
-returns-clause-start c =
-    let none : c.loop-flow.path.items ≡ [] = sym c.deref.ensures.value ∙ last_none c.deref.result.now (sym c.last.ensures.value ∙ sym c.in_default.ensures) in
-    let lt : c.args.start < length c.loop-flow.self.laid.items =
+    let lt : c.args.start < length laid =
     subst (λ n. c.args.start < n) (sym c.loop-flow.invariant.stays.as_many) (slice_get_within c.args.self.now.laid.items c.args.start stage.Unlaid c.requires.unlaid) in
-    start_laid (decls_of c.args.directory.now) c.loop-flow.self.laid.items c.loop-flow.path.items c.args.start c.loop-flow.invariant.path none lt c.loop-flow.invariant.begun
+    record {
+      settling = c.loop-flow.invariant.settling;
+      idle = λ k at. absurd (subst (λ path. k ∈ path) none (c.loop-flow.invariant.path.only k at));
+      stays = c.loop-flow.invariant.stays;
+      start = start_laid (decls_of c.args.directory.now) laid c.loop-flow.path.items c.args.start c.loop-flow.invariant.path none lt c.loop-flow.invariant.begun;
+      found = tt;
+    }

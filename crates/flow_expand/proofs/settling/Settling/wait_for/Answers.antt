@@ -3,37 +3,29 @@ use Rattle.std.proofs.lemmas.Option.{slice_get-get_or}
 use Rattle.flow_expand.specs.declared.lay.Stage.TheVariants as stage
 use Rattle.flow_expand.specs.Directory.{decls_of}
 use Rattle.flow_expand.specs.Waiting.{ComesBack}
-use Rattle.flow_expand.proofs.DirectoryLemmas.{names_counted, flows_below}
-use Rattle.flow_expand.proofs.SettleLemmas.{path_push, stays_begun, work_set, path_within, laid_begun}
-use Rattle.flow_expand.proofs.CallLemmas.{seen_stays}
+use Rattle.flow_expand.proofs.Declarations.{names_counted, flows_below}
+use Rattle.flow_expand.proofs.SettleLemmas.{path_push, stays_begun, work_set, path_within, laid_begun, seen_kept, stays_at}
 use Rattle.flow_expand.proofs.settling.Settling.wait_for.Goals as goal
 
-pub returns-in_ok-push-in-Some-Unlaid-clause-settling : goal.returns-in_ok-push-in-Some-Unlaid-clause-settling
-returns-in_ok-push-in-Some-Unlaid-clause-settling c =
+pub returns-in_ok-push-in-Some-Unlaid : goal.returns-in_ok-push-in-Some-Unlaid
+returns-in_ok-push-in-Some-Unlaid c =
+    let d = c.args.directory.now in
     let s = c.args.self.now in
     let at : slice_get s.laid.items c.args.next ≡ Some stage.Unlaid = ap (λ l. slice_get l c.args.next) (sym c.deref.ensures.value) ∙ sym c.in-Some-Unlaid.ensures ∙ ap Some c.in-Some-Unlaid.field-0-is in
     record {
-      laid = laid_begun c.args.directory.now s.laid.items s.layout.items c.args.next c.requires.settling.laid;
-      many = c.requires.settling.many;
-      calls = c.requires.settling.calls;
-      counted = c.requires.settling.counted;
-      seen = seen_stays s.calls.items s.seen.items s.laid.items (set s.laid.items c.args.next stage.Begun) (stays_begun s.laid.items c.args.next at) c.requires.settling.seen;
+      settling = record {
+        laid = laid_begun d s.laid.items s.layout.items c.args.next c.requires.settling.laid;
+        many = c.requires.settling.many;
+        calls = c.requires.settling.calls;
+        counted = c.requires.settling.counted;
+        seen = seen_kept s.calls.items s.seen.items s.laid.items (set s.laid.items c.args.next stage.Begun)
+            (λ j. stays_at s.laid.items (set s.laid.items c.args.next stage.Begun) j (stays_begun s.laid.items c.args.next at)) c.requires.settling.seen;
+      };
+      path = path_push (decls_of d) s.laid.items c.args.path.now.items c.push.new.self.items _ c.args.flow c.args.next c.requires.last c.requires.path c.requires.step at c.in_ok-push-in-Some-Unlaid.ensures.items;
+      stays = stays_begun s.laid.items c.args.next at;
+      less = omega (arith, work_set s.laid.items c.args.next stage.Unlaid stage.Begun at);
+      found = tt;
     }
-
-pub returns-in_ok-push-in-Some-Unlaid-clause-path : goal.returns-in_ok-push-in-Some-Unlaid-clause-path
-returns-in_ok-push-in-Some-Unlaid-clause-path c =
-    let at : slice_get c.args.self.now.laid.items c.args.next ≡ Some stage.Unlaid = ap (λ l. slice_get l c.args.next) (sym c.deref.ensures.value) ∙ sym c.in-Some-Unlaid.ensures ∙ ap Some c.in-Some-Unlaid.field-0-is in
-    path_push (decls_of c.args.directory.now) c.args.self.now.laid.items c.args.path.now.items c.push.new.self.items _ c.args.flow c.args.next c.requires.last c.requires.path c.requires.step at
-    c.in_ok-push-in-Some-Unlaid.ensures.items
-
-pub returns-in_ok-push-in-Some-Unlaid-clause-stays : goal.returns-in_ok-push-in-Some-Unlaid-clause-stays
-returns-in_ok-push-in-Some-Unlaid-clause-stays c =
-    stays_begun c.args.self.now.laid.items c.args.next (ap (λ l. slice_get l c.args.next) (sym c.deref.ensures.value) ∙ sym c.in-Some-Unlaid.ensures ∙ ap Some c.in-Some-Unlaid.field-0-is)
-
-pub returns-in_ok-push-in-Some-Unlaid-clause-less : goal.returns-in_ok-push-in-Some-Unlaid-clause-less
-returns-in_ok-push-in-Some-Unlaid-clause-less c =
-    let at : slice_get c.args.self.now.laid.items c.args.next ≡ Some stage.Unlaid = ap (λ l. slice_get l c.args.next) (sym c.deref.ensures.value) ∙ sym c.in-Some-Unlaid.ensures ∙ ap Some c.in-Some-Unlaid.field-0-is in
-    omega (arith, work_set c.args.self.now.laid.items c.args.next stage.Unlaid stage.Begun at)
 
 pub chain_of-requires-clause-back : goal.chain_of-requires-clause-back
 chain_of-requires-clause-back c =
