@@ -2,6 +2,8 @@ pub mod Atom
 pub mod Same
 pub mod Table
 pub mod Held
+pub mod NameMark
+pub mod Marks
 pub mod Ordered
 pub mod Indexed
 pub mod Text

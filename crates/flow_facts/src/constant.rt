@@ -1,4 +1,5 @@
 ghost use Rattle.std.specs.Prelude.{◌≡◌, IfOk};
+ghost use Rattle.flow_facts.specs.Marks.{const_mark};
 
 use crate::name::Name;
 use std::alloc::{AllocError, Global};
@@ -12,6 +13,15 @@ pub enum Const {
 }
 
 impl Const {
+    pub(crate) fn mark(&self) -> u64
+        ensures { result ≡ const_mark self.now }
+    {
+        match self {
+            Const::Word(word) => word.mark(),
+            Const::Number(number) => u64::from(*number),
+        }
+    }
+
     /// The same constant in memory of its own.
     pub fn copy(&self, alloc: Global) -> Result<Const, AllocError>
         ensures { IfOk result (λ constant. constant ≡ self.now) }

@@ -1,7 +1,9 @@
 ghost use Rattle.std.specs.Prelude.{◌≡◌, IfOk};
+ghost use Rattle.flow_facts.specs.Atom.{atom};
+ghost use Rattle.flow_facts.specs.Marks.{atom_mark};
 
 use crate::constant::Const;
-use crate::name::Name;
+use crate::name::{Name, marked_with};
 use std::alloc::{AllocError, Global};
 use std::cmp::Ordering;
 use std::marker::Model;
@@ -9,6 +11,8 @@ use std::marker::Model;
 /// A ground fact: a relation of constants.
 #[derive(Drop)]
 pub struct Fact {
+    /// Most facts differ in it, so to compare two of them seldom looks at their parts.
+    mark: u64,
     relation: Name,
     args: Vec<Const>,
 }
@@ -21,6 +25,22 @@ impl Model for Fact {
     ghost coded = { atom_code };
 
     ghost view = { λ f. atom f.relation f.args.items };
+
+    ghost use Rattle.std.specs.Prelude.{◌≡◌};
+    ghost use Rattle.flow_facts.specs.Marks.{atom_mark};
+
+    ghost invariant = { λ f. f.mark ≡ atom_mark (atom f.relation f.args.items) };
+}
+
+/// The mark of a fact with these parts.
+fn mark_of(relation: &Name, args: &[Const]) -> u64
+    ensures { result ≡ atom_mark (atom relation.now args.now) }
+{
+    let mut mark = relation.mark();
+    for arg in args {
+        mark = marked_with(mark, arg.mark());
+    }
+    mark
 }
 
 impl Fact {
@@ -28,7 +48,11 @@ impl Fact {
         ensures relation { result.relation ≡ relation }
         ensures args { result.args ≡ args.items }
     {
-        Fact { relation, args }
+        Fact {
+            mark: mark_of(&relation, &args),
+            relation,
+            args,
+        }
     }
 
     /// The same fact in memory of its own.
@@ -40,7 +64,17 @@ impl Fact {
         for arg in &self.args {
             args.push(arg.copy(alloc)?)?;
         }
-        Ok(Fact { relation, args })
+        Ok(Fact {
+            mark: self.mark,
+            relation,
+            args,
+        })
+    }
+
+    fn mark(&self) -> u64
+        ensures { result ≡ atom_mark self.now }
+    {
+        self.mark
     }
 
     pub fn relation(&self) -> &Name
@@ -101,8 +135,11 @@ impl Ord for Fact {
     ghost matches_eq = { atom_ties };
 
     fn cmp(&self, other: &Fact) -> Ordering {
-        match self.relation().cmp(other.relation()) {
-            Ordering::Equal => self.args().cmp(other.args()),
+        match self.mark().cmp(&other.mark()) {
+            Ordering::Equal => match self.relation().cmp(other.relation()) {
+                Ordering::Equal => self.args().cmp(other.args()),
+                unequal => unequal,
+            },
             unequal => unequal,
         }
     }

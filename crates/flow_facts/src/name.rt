@@ -1,4 +1,5 @@
 ghost use Rattle.std.specs.Prelude.{◌≡◌, IfOk};
+ghost use Rattle.flow_facts.specs.NameMark.{marked, name_mark};
 
 use std::alloc::{AllocError, Global};
 use std::cmp::Ordering;
@@ -7,7 +8,27 @@ use std::marker::Model;
 /// A name, as the bytes that it is written in.
 #[derive(Debug, Drop)]
 pub struct Name {
+    /// Most names differ in it, so to compare two of them seldom looks at their bytes.
+    mark: u64,
     bytes: Vec<u8>,
+}
+
+/// The mark of what has one number more.
+pub(crate) fn marked_with(mark: u64, number: u64) -> u64
+    ensures { result ≡ marked mark number }
+{
+    mark.wrapping_mul(1_099_511_628_211).wrapping_add(number)
+}
+
+/// The mark of these bytes.
+fn mark_of(bytes: &[u8]) -> u64
+    ensures { result ≡ name_mark bytes.now }
+{
+    let mut mark = 0;
+    for byte in bytes {
+        mark = marked_with(mark, u64::from(*byte));
+    }
+    mark
 }
 
 impl Model for Name {
@@ -16,6 +37,11 @@ impl Model for Name {
     ghost Value = { List ℕ };
 
     ghost view = { λ n. n.bytes.items };
+
+    ghost use Rattle.std.specs.Prelude.{◌≡◌};
+    ghost use Rattle.flow_facts.specs.NameMark.{name_mark};
+
+    ghost invariant = { λ n. n.mark ≡ name_mark n.bytes.items };
 }
 
 impl Name {
@@ -23,6 +49,7 @@ impl Name {
         ensures { IfOk result (λ name. name ≡ bytes.now) }
     {
         Ok(Name {
+            mark: mark_of(bytes),
             bytes: Vec::from_slice(alloc, bytes)?,
         })
     }
@@ -31,7 +58,16 @@ impl Name {
     pub fn copy(&self, alloc: Global) -> Result<Name, AllocError>
         ensures { IfOk result (λ name. name ≡ self.now) }
     {
-        Name::new(alloc, self.bytes())
+        Ok(Name {
+            mark: self.mark,
+            bytes: Vec::from_slice(alloc, &self.bytes)?,
+        })
+    }
+
+    pub(crate) fn mark(&self) -> u64
+        ensures { result ≡ name_mark self.now }
+    {
+        self.mark
     }
 
     pub fn bytes(&self) -> &[u8]
@@ -65,12 +101,11 @@ impl Eq for Name {
 
 impl PartialOrd for Name {
     ghost use Rattle.std.specs.Prelude.{Some};
-    ghost use Rattle.std.specs.Ordering.{nat_cmp};
-    ghost use Rattle.std.specs.Cmp.Lexicographic.{slice_cmp, texts_po};
+    ghost use Rattle.flow_facts.specs.Ordered.{name_cmp, name_order};
 
-    ghost partial_cmp = { λ x y. Some (slice_cmp nat_cmp x y) };
+    ghost partial_cmp = { λ x y. Some (name_cmp x y) };
 
-    ghost laws = { texts_po };
+    ghost laws = { name_order };
 
     fn partial_cmp(&self, other: &Name) -> Option<Ordering> {
         Some(self.cmp(other))
@@ -79,18 +114,20 @@ impl PartialOrd for Name {
 
 impl Ord for Name {
     ghost use Rattle.std.specs.Prelude.{refl};
-    ghost use Rattle.std.specs.Ordering.{nat_cmp};
-    ghost use Rattle.std.specs.Cmp.Lexicographic.{slice_cmp, nat_list_cmp_total, texts_ties};
+    ghost use Rattle.flow_facts.specs.Ordered.{name_cmp, name_total, name_ties};
 
-    ghost cmp = { slice_cmp nat_cmp };
+    ghost cmp = { name_cmp };
 
-    ghost total = { nat_list_cmp_total };
+    ghost total = { name_total };
 
     ghost matches_partial_cmp = { λ x y. refl };
 
-    ghost matches_eq = { texts_ties };
+    ghost matches_eq = { name_ties };
 
     fn cmp(&self, other: &Name) -> Ordering {
-        self.bytes().cmp(other.bytes())
+        match self.mark().cmp(&other.mark()) {
+            Ordering::Equal => self.bytes().cmp(other.bytes()),
+            unequal => unequal,
+        }
     }
 }
