@@ -6,8 +6,8 @@ use crate::reading::ScriptMode;
 use crate::status::Status;
 use flow_excise::compile;
 use flow_expand::{Workflow, expand};
-use flow_form::Script;
 use flow_findings::print_check;
+use flow_form::Script;
 use std::alloc::{AllocError, Global};
 
 /// Checks a workflow: its leaves and counts, or why it is not compiled.

@@ -8,9 +8,9 @@ use crate::reading::ScriptMode;
 use crate::session::drive_compiled;
 use flow_excise::compile;
 use flow_expand::{Workflow, expand};
+use flow_findings::Refused;
 use flow_form::Script;
 use flow_record::{RecordRefusal, read_session};
-use flow_findings::Refused;
 use flow_reply::Command;
 use std::alloc::{AllocError, Global};
 

@@ -10,8 +10,8 @@ ghost use Rattle.flow_cli.specs.Compiling.{IsNotCompiled};
 use crate::status::Status;
 use flow_excise::CompileRefusal;
 use flow_expand::ExpandRefusal;
-use flow_form::Script;
 use flow_findings::{Refused, print_refused};
+use flow_form::Script;
 use std::alloc::{AllocError, Global};
 
 /// What is written, and the status that goes with it.

@@ -7,11 +7,11 @@ ghost use Rattle.flow_cli.specs.Output.{greatest_input, WritesFor, WritesIn, IsO
 
 use crate::output::{Output, refuse};
 use crate::status::Status;
+use flow_findings::Refused;
 use flow_form::Script;
 use flow_io::{ReadRefusal, Source, read_all};
 use flow_model::GREATEST_INPUT;
 use flow_record::cut_source;
-use flow_findings::Refused;
 use flow_text::{TextRefusal, parse};
 use std::alloc::{AllocError, Global};
 

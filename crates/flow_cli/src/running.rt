@@ -8,18 +8,18 @@ ghost use Rattle.flow_cli.specs.Output.{greatest_input, WritesFor, WritesIn, IsO
 ghost use Rattle.flow_cli.specs.Running.{IsCrew, verdict_of, IsRunOf, Reports, RunsWorkflow, Runs};
 
 use crate::output::{Output, refuse, refuse_script, refuse_workflow};
-use flow_model::GREATEST_INPUT;
 use crate::session::status_of;
 use crate::status::Status;
 use flow_core::Core;
 use flow_crew::{Book, End, run_crew};
 use flow_excise::{Compiled, compile};
 use flow_expand::{Workflow, expand};
+use flow_findings::Refused;
 use flow_form::Script;
 use flow_gate::Gate;
 use flow_io::{ReadRefusal, Source, read_all};
+use flow_model::GREATEST_INPUT;
 use flow_record::cut_source;
-use flow_findings::Refused;
 use flow_reply::{Verdict, print_report};
 use flow_text::{TextRefusal, parse};
 use std::alloc::{AllocError, Global};

@@ -6,9 +6,9 @@ use crate::reading::ScriptMode;
 use crate::status::Status;
 use flow_excise::compile;
 use flow_expand::{Workflow, expand};
+use flow_findings::{Refused, print_checked};
 use flow_form::Script;
 use flow_record::{RecordRefusal, read_journal};
-use flow_findings::{Refused, print_checked};
 use flow_trace::{Checked, check_trace};
 use std::alloc::{AllocError, Global};
 

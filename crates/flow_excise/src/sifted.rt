@@ -14,11 +14,11 @@ ghost use Rattle.flow_excise.specs.Sieves.{ArePlannable, HasSifted, HasSiftedTo,
 ghost use Rattle.flow_weave.specs.Woven.{option_with};
 
 use crate::block::{Block, blocks};
-use flow_sample::{ExciseRefusal, excise};
 use crate::refusal::{CompileRefusal, Dropped};
 use crate::sieve::Sieve;
 use flow_goal::{Choiceless, Choices, Tree};
 use flow_rules::{Conjunction, Lanes, LeafEvents, OrderSet, forget_events, note_events};
+use flow_sample::{ExciseRefusal, excise};
 use flow_weave::weave;
 use std::alloc::Global;
 

@@ -2,8 +2,8 @@ ghost use Rattle.std.specs.Prelude.{◌≡◌, ◌++◌, IfOk, OnOk};
 ghost use Rattle.std.specs.String.{string_bytes};
 ghost use Rattle.flow_findings.specs.Refusing.{compile_refusal, dropped_line, inconsistent_text, IsOfOptions};
 
-use crate::spaced::push_numbers;
 use crate::numbered::print_numbered;
+use crate::spaced::push_numbers;
 use flow_excise::{CompileRefusal, Dropped};
 use std::alloc::{AllocError, Global};
 
