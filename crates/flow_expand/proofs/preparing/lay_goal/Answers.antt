@@ -1,4 +1,4 @@
-use Rattle.std.proofs.Common.{rules, ℕ, ◌≡◌, ◌∙◌, ◌<◌, length, map, ap, sym, subst}
+use Rattle.std.proofs.Common.{rules, ℕ, ◌≡◌, ◌∙◌, ◌<◌, ◌≤◌, length, map, ap, sym, subst}
 use Rattle.flow_model.specs.declared.limits.TheConstants.{MOST_LEAVES, MOST_RULE_NAMES}
 use Rattle.flow_model.specs.Lists.{◌∈◌, Each}
 use Rattle.flow_form.specs.Script.{said}
@@ -47,9 +47,10 @@ returns-in_err-at_most-2-clause-refused c =
     let all = λ (k : ℕ) (lt : k < length d.goals.items). c.in_ok-settle_all.ensures.all k (subst (λ n. k < n) many lt) in
     let written : c.count_names.result ≡ capped (rule_name_count s) =
     c.count_names.ensures ∙ ap (λ rs. capped (length (names_in_rules (rule_shapes (map rule_shape_of rs))))) c.deref-2.ensures.value ∙ ap (λ l. capped (length l)) (names_in_all s.rules) in
+    let fits : c.most.result ≤ MOST_LEAVES = search rules in
     err_to c.from_residual-in_err-at_most-2.result (λ e. (MOST_RULE_NAMES < c.count_names.result) × (e ≡ refusal.TooLarge part.Rules c.count_names.result)) _
     (rules_refusal d _ _ c.in_ok-settle_all.ensures.settling.laid all s c.requires.closed c.requires.decls c.requires.few c.lay.new.layout.items c.in_ok-root.root c.in_ok-root.ensures.ok c.most.result c.most.ensures
-    c.in_ok-at_most.ensures.ok c.count_names.result written)
+    fits c.count_names.result written)
     (search rules)
 
 pub returns-clause-ok : goal.returns-clause-ok
@@ -60,5 +61,6 @@ returns-clause-ok c =
     let all = λ (k : ℕ) (lt : k < length d.goals.items). c.in_ok-settle_all.ensures.all k (subst (λ n. k < n) many lt) in
     let written : c.count_names.result ≡ capped (rule_name_count s) =
     c.count_names.ensures ∙ ap (λ rs. capped (length (names_in_rules (rule_shapes (map rule_shape_of rs))))) c.deref-2.ensures.value ∙ ap (λ l. capped (length l)) (names_in_all s.rules) in
+    let fits : c.most.result ≤ MOST_LEAVES = search rules in
     prepared d _ _ c.in_ok-settle_all.ensures.settling.laid all s c.requires.closed c.requires.decls c.requires.few c.lay.new.layout.items c.in_ok-root.root c.in_ok-root.ensures.ok c.most.result c.most.ensures
-    c.in_ok-at_most.ensures.ok c.count_names.result written c.in_ok-at_most-2.ensures.ok
+    fits c.count_names.result written c.in_ok-at_most-2.ensures.ok
