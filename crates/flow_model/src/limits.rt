@@ -27,3 +27,12 @@ pub const GREATEST_INPUT: usize = 1_048_576;
 
 /// The greatest seed of a generated workflow.
 pub const GREATEST_SEED: u32 = 65_536;
+
+/// The greatest size of a generated workflow.
+pub const GREATEST_SIZE: u32 = 128;
+
+/// The most workers of a run.
+pub const MOST_WORKERS: u32 = 64;
+
+/// How deep parentheses and `not`s of a text may stand in one another.
+pub const GREATEST_DEPTH: usize = 200;
