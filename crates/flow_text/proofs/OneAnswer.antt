@@ -65,14 +65,9 @@ one_byte text p q h g =
 
 one_finding : {V : Type 0} (read : List Symbol → Reading V) (text : List ℕ) (f g : Finding V) → Finds read text f → Finds read text g → f ≡ g
 one_finding read text (no_ascii p) (no_ascii q) h k = ap no_ascii (one_byte text p q h k)
-one_finding read text (no_ascii p) (bad_token q) h (ascii, bad) = absurd (no_first text p ascii h)
-one_finding read text (no_ascii p) (read_as r) h (ascii, bad, e) = absurd (no_first text p ascii h)
-one_finding read text (bad_token p) (no_ascii q) (ascii, bad) k = absurd (no_first text q ascii k)
 one_finding read text (bad_token p) (bad_token q) (ascii, bad) (ascii', bad') = let same : p ≡ q = cc in ap bad_token same
-one_finding read text (bad_token p) (read_as r) (ascii, bad) (ascii', bad', e) = absurd (cc)
-one_finding read text (read_as r) (no_ascii q) (ascii, bad, e) k = absurd (no_first text q ascii k)
-one_finding read text (read_as r) (bad_token q) (ascii, bad, e) (ascii', bad') = absurd (cc)
 one_finding read text (read_as r) (read_as s) (ascii, bad, e) (ascii', bad', e') = ap read_as (sym e ∙ e')
+one_finding read text f g h k = absurd (first_of (cc, search no_first))
 
 -- The answer that says it
 
@@ -201,14 +196,9 @@ judge_script s (other k) = IsFirstUnknown s k
 
 one_script_naming : (s : Said) (v u : Naming) → judge_script s v → judge_script s u → v ≡ u
 one_script_naming s good good h g = refl
-one_script_naming s good (again k) h g = absurd (once_is_not_repeated s k h.once g)
-one_script_naming s good (other k) h g = absurd (good_has_no_other s k h g.first)
-one_script_naming s (again k) good h g = absurd (once_is_not_repeated s k g.once h)
 one_script_naming s (again k) (again j) h g = ap again (one_first IsRepeated (script_roles s) k j h g)
-one_script_naming s (again k) (other j) h g = absurd (once_is_not_repeated s k g.once h)
-one_script_naming s (other k) good h g = absurd (good_has_no_other s k g h.first)
-one_script_naming s (other k) (again j) h g = absurd (once_is_not_repeated s j h.once g)
 one_script_naming s (other k) (other j) h g = ap other (one_first (λ front role. IsUnknown s.decls role) (script_roles s) k j h.first g.first)
+one_script_naming s v u h g = absurd (search (once_is_not_repeated, good_has_no_other))
 
 script_known : (text : List ℕ) (a : Result Said TextRefusal) → IsAnswer (Says text) (IsParseRefusal text) a → Accounts read_script judge_script text a
 script_known text =
@@ -230,11 +220,8 @@ judge_query s q (other k) = AsksFirstOfOther q s k
 
 one_query_naming : (s : Said) (q : Asked) (v u : Naming) → judge_query s q v → judge_query s q u → v ≡ u
 one_query_naming s q good good h g = refl
-one_query_naming s q good (other k) h g = absurd (events_have_no_other q s k h g)
-one_query_naming s q (other k) good h g = absurd (events_have_no_other q s k g h)
 one_query_naming s q (other k) (other j) h g = ap other (one_first (λ front role. IsUnknown s.decls role) (query_roles q) k j h g)
-one_query_naming s q (again k) u h g = absurd h
-one_query_naming s q v (again k) h g = absurd g
+one_query_naming s q v u h g = absurd (search events_have_no_other)
 
 query_known : (text : List ℕ) (s : Said) (a : Result Asked TextRefusal) → IsAnswer (Asks text s) (IsQueryRefusal text s) a →
     Accounts read_query (judge_query s) text a

@@ -8,7 +8,6 @@ use Rattle.flow_form.specs.Script.{Said}
 use Rattle.flow_form.specs.Names.{IsClosed}
 use Rattle.flow_lex.specs.declared.token.Token.{Token}
 use Rattle.flow_lex.specs.Tokens.{AreSpans}
-use Rattle.flow_lex.specs.Refusals.{IsRefused}
 use Rattle.flow_grammar.specs.Symbol.{Symbol, Placed, at, symbols, a_name}
 use Rattle.flow_grammar.specs.Machine.{Reading, gives}
 use Rattle.flow_grammar.specs.Texts.{Derives, SpellsScript}
@@ -24,12 +23,6 @@ use Rattle.std.proofs.lemmas.List.{length-map}
 use Rattle.std.proofs.lemmas.Option.{slice_get-map}
 
 module _ {V : Type 0} (Spells : List Placed → V → Type 0) (wants : List Symbol → Option Wanted) (again unknown : ℕ → List ℕ → Type 0) (text : List ℕ) where
-  pub lex_refused : (refusal : TextRefusal) → IsRefused text refusal → IsTextRefusal Spells wants again unknown text refusal
-  lex_refused (NotAscii place) h = h
-  lex_refused (BadToken place) h = h
-  lex_refused NoMemory h = tt
-  lex_refused _ h = absurd h
-
   pub read_refused : (read : List Symbol → Reading V) → IsMachine Spells wants read → (tokens : List Token) (refusal : TextRefusal) → HasTokens text tokens
       → IsReadRefusal text tokens (read (symbols_of text tokens)) refusal → IsTextRefusal Spells wants again unknown text refusal
   read_refused read m tokens (Expected place kind) has (k, e, there) =

@@ -91,21 +91,6 @@ nothing d = record {
   cut = λ text front rest is stop. ([], (ap (λ p. lexed_after p zero rest) (omega arith), λ r. refl));
 }
 
-letter-ascii : (b : ℕ) → is_letter b ≡ true → b ≤ 127
-letter-ascii b h = grind arith
-
-in_word-ascii : (b : ℕ) → is_in_word b ≡ true → b ≤ 127
-in_word-ascii b h = grind arith
-
-digit-ascii : (b : ℕ) → is_digit b ≡ true → b ≤ 127
-digit-ascii b h = grind arith
-
-mark-ascii : (b : ℕ) → is_mark b ≡ true → b ≤ 127
-mark-ascii b h = grind arith
-
-space-ascii : (b : ℕ) → is_space b ≡ true → b ≤ 127
-space-ascii b h = grind arith
-
 all-ascii : (p : ℕ → Bool) → ((b : ℕ) → p b ≡ true → b ≤ 127) → (bs : List ℕ) → list_all p bs ≡ true → IsAscii bs
 all-ascii p small [] h = tt
 all-ascii p small (b ∷ bs) h = let parts = and_parts (p b) (list_all p bs) h in (small b parts.0, all-ascii p small bs parts.1)
@@ -122,7 +107,7 @@ byte_there (c ∷ front) rest b = byte_there front rest b
 
 pub word : (b : ℕ) (bs : List ℕ) → is_letter b ≡ true → list_all is_in_word bs ≡ true → Reads true (b ∷ bs) (λ r. word_symbol (b ∷ bs) ∷ r)
 word b bs first inside = record {
-  ascii = (letter-ascii b first, all-ascii is_in_word in_word-ascii bs inside);
+  ascii = (grind arith, all-ascii is_in_word (λ b in_word. grind arith) bs inside);
   cut = λ text front rest is stop. (
     spanning Word (length front) (length (b ∷ bs)) ∷ [],
     (
@@ -158,7 +143,7 @@ written n ds small (digit, (more, (is, first, inside, value))) =
 
     digits_read : number_value (digit ∷ more) < 2 ^ 32 → Reads true (digit ∷ more) (λ r. a_number (number_value (digit ∷ more)) ∷ r)
     digits_read fits = record {
-      ascii = (digit-ascii digit first, all-ascii is_digit digit-ascii more inside);
+      ascii = (grind arith, all-ascii is_digit (λ b is_one. grind arith) more inside);
       cut = λ text front rest at stop. (
         spanning Number (length front) (length (digit ∷ more)) ∷ [],
         (
@@ -176,7 +161,7 @@ space-piece b bs h = grind arith
 
 pub blank : (b : ℕ) → is_space b ≡ true → Reads false (b ∷ []) (λ r. r)
 blank b h = record {
-  ascii = (space-ascii b h, tt);
+  ascii = (grind arith, tt);
   cut = λ text front rest is stop.
       ([], (ap (λ piece. after_piece (length front) piece (λ n. lexed_after (length front + 1) n rest)) (space-piece b rest h), λ r. refl));
 }
@@ -187,7 +172,7 @@ IsMark b = (is_mark b ≡ true) × ((bs : List ℕ) → piece_at b bs ≡ Some (
 
 pub mark : (b : ℕ) → IsMark b → Reads false (b ∷ []) (λ r. mark_symbol b ∷ r)
 mark b h = record {
-  ascii = (mark-ascii b h.0, tt);
+  ascii = (let marks : is_mark b ≡ true = h.0 in grind arith, tt);
   cut = λ text front rest is stop. (
     spanning Mark (length front) 1 ∷ [],
     (

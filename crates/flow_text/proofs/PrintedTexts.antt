@@ -20,7 +20,7 @@ use Rattle.flow_grammar.specs.Symbol.{Symbol, constant_symbol, goal_word, constr
 use Rattle.flow_grammar.specs.Print.{bracket, print_constants, print_arguments, print_fact, in_serial, in_beside, in_either, in_all, in_any, print_goal, print_list, print_rest, print_names, print_rule, print_rules, print_more_rules, print_note, print_declared, print_declarations, print_constraints, print_script}
 use Rattle.flow_reader.specs.Symbols.{word_symbol, mark_symbol, symbol_of, symbols_of}
 use Rattle.flow_facts.specs.Text.{constant_text, more_constants, arguments_text, fact_text}
-use Rattle.flow_text.specs.Printed.{bracketed, goal_text, list_text, more_text, names_text, rule_text, rules_text, more_rules, note_text, declaration_line, declaration_lines, goal_line, constraint_lines, printed}
+use Rattle.flow_text.specs.Printed.{bracketed, goal_text, list_text, more_text, names_text, rule_text, rules_text, more_rules, note_text, declaration_line, declaration_lines, goal_line, constraint_line, constraint_lines, printed}
 use Rattle.flow_text.specs.Printable.{IsName, IsPrintableConstant, IsPrintableFact, IsPrintableGoal, ArePrintableGoals, IsPrintableRule, ArePrintableRules, IsPrintableNote, IsPrintableDeclaration, IsPrintable}
 use Rattle.flow_text.specs.Laws.{PrintsAreAscii, PrintsAreCut, PrintsAreSymbols}
 use Rattle.flow_text.proofs.PrintedPieces.{Reads, Begins, then, ended_by, opened, nothing, word, name, number, blank, IsMark, mark}
@@ -162,6 +162,7 @@ constraints_end [] = refl
 constraints_end (x ∷ xs) = ap (λ r. constraint_word ∷ print_rule x (semicolon ∷ r)) (constraints_end xs)
 
 constraints_read : (xs : List RuleShape) → Each IsPrintableRule xs → Reads false (constraint_lines xs) (constraints_then xs)
+unfolding constraint_line
 constraints_read [] h = nothing false
 constraints_read (x ∷ xs) (h, hs) =
     then (ended_by (then (word_blank 99 (codes "onstraint") refl refl) (rule_read x h)) line_end refl) (constraints_read xs hs)

@@ -1,6 +1,6 @@
 ghost use Rattle.std.specs.Prelude.{◌≡◌, ◌++◌, OnOk, map};
 ghost use Rattle.flow_form.specs.Form.{shape_of, shapes};
-ghost use Rattle.flow_text.specs.Joins.{before, mark_of, parted};
+ghost use Rattle.flow_text.specs.Joins.{mark_of, parted};
 ghost use Rattle.flow_text.specs.Printed.{bracketed, goal_text, list_text};
 
 use flow_facts::push_fact;
@@ -40,16 +40,6 @@ impl Join {
     }
 }
 
-/// What stands before a member of a list: the mark, but for the first.
-pub(crate) fn push_mark(text: &mut Vec<u8>, mark: &[u8], is_first: bool) -> Result<(), AllocError>
-    ensures { OnOk result (text.new.items ≡ text.old.items ++ before is_first mark.now) }
-{
-    if is_first {
-        return Ok(());
-    }
-    text.extend_from_slice(mark)
-}
-
 #[cycle(goals)]
 fn push_member(text: &mut Vec<u8>, join: Join, member: &Form) -> Result<(), AllocError>
     ensures { OnOk result (text.new.items ≡ text.old.items ++ bracketed (parted join (shape_of member.now)) (goal_text (shape_of member.now))) }
@@ -67,11 +57,13 @@ fn push_member(text: &mut Vec<u8>, join: Join, member: &Form) -> Result<(), Allo
 fn push_list(text: &mut Vec<u8>, join: Join, members: &[Form]) -> Result<(), AllocError>
     ensures { OnOk result (text.new.items ≡ text.old.items ++ list_text (mark_of join) (parted join) (shapes (map shape_of members.now))) }
 {
-    let mut is_first = true;
-    for member in members {
-        push_mark(text, join.mark(), is_first)?;
+    let [first, rest @ ..] = members else {
+        return Ok(());
+    };
+    push_member(text, join, first)?;
+    for member in rest {
+        text.extend_from_slice(join.mark())?;
         push_member(text, join, member)?;
-        is_first = false;
     }
     Ok(())
 }

@@ -3,7 +3,6 @@ ghost use Rattle.flow_form.specs.RuleForm.{rule_shape_of, rule_shapes};
 ghost use Rattle.flow_text.specs.Joins.{word_of, parted_rule};
 ghost use Rattle.flow_text.specs.Printed.{bracketed, names_text, rule_text, rules_text};
 
-use crate::print_goals::push_mark;
 use flow_form::{Name, RuleForm};
 use std::alloc::AllocError;
 
@@ -74,11 +73,13 @@ fn push_member(text: &mut Vec<u8>, linking: Linking, member: &RuleForm) -> Resul
 fn push_list(text: &mut Vec<u8>, linking: Linking, members: &[RuleForm]) -> Result<(), AllocError>
     ensures { OnOk result (text.new.items ≡ text.old.items ++ rules_text (word_of linking) (parted_rule linking) (rule_shapes (map rule_shape_of members.now))) }
 {
-    let mut is_first = true;
-    for member in members {
-        push_mark(text, linking.word(), is_first)?;
+    let [first, rest @ ..] = members else {
+        return Ok(());
+    };
+    push_member(text, linking, first)?;
+    for member in rest {
+        text.extend_from_slice(linking.word())?;
         push_member(text, linking, member)?;
-        is_first = false;
     }
     Ok(())
 }

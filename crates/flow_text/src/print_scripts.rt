@@ -74,6 +74,7 @@ fn push_goal_line(text: &mut Vec<u8>, goal: &Form) -> Result<(), AllocError>
     text.extend_from_slice(b";\n")
 }
 
+#[tactic(auto, unfolding(crate::specs::Printed::constraint_line))]
 fn push_constraint(text: &mut Vec<u8>, rule: &RuleForm) -> Result<(), AllocError>
     ensures { OnOk result (text.new.items ≡ text.old.items ++ constraint_line (rule_shape_of rule.now)) }
 {
