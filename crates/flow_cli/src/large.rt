@@ -1,6 +1,6 @@
 //! The mode `large`: workers make a run of a generated workflow.
 ghost use Rattle.std.specs.Prelude.{◌≡◌, ◌≤◌, IfOk};
-ghost use Rattle.flow_model.specs.declared.limits.TheConstants.{GREATEST_SEED};
+ghost use Rattle.flow_model.specs.declared.limits.TheConstants.{GREATEST_SEED, GREATEST_SIZE};
 ghost use Rattle.flow_cli.specs.Output.{IsOfInput};
 ghost use Rattle.flow_cli.specs.Large.{summary_of, RunsGenerated};
 
@@ -44,7 +44,7 @@ impl<'a, R: Threads + Wait + Sync, G: Gate> RunMode<'a, R, G> {
     ) -> Result<Output, AllocError>
         requires seed { seed ≤ GREATEST_SEED }
         requires some { 1 ≤ size }
-        requires few { size ≤ 128 }
+        requires few { size ≤ GREATEST_SIZE }
         ensures writes { IfOk result (λ output. RunsGenerated G.gives seed size self.now.steps self.now.workers output.status output.text.items) }
         ensures of_input { IfOk result (λ output. IsOfInput output.status) }
     {
