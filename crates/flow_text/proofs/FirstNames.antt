@@ -7,7 +7,7 @@ use Rattle.std.proofs.lemmas.Grind.{flat_map-append}
 use Rattle.flow_model.specs.Lists.{◌∈◌, Each, AreDistinct}
 use Rattle.flow_form.specs.Script.{Declared, Said, Asked}
 use Rattle.flow_form.specs.Names.{declared_names, event_names}
-use Rattle.flow_grammar.specs.Roles.{Role, declares, in_goal, in_rule, in_fact, declared_by, declaring, used_in_goals, used_in_rules, script_roles, query_roles}
+use Rattle.flow_grammar.specs.Roles.{Role, declares, in_goal, in_rule, declared_by, declaring, used_in_goals, used_in_rules, script_roles, query_roles}
 use Rattle.flow_grammar.proofs.RolesOfNames.{roles_are_the_names}
 use Rattle.flow_text.specs.declared.listing.Named.{Named}
 use Rattle.flow_text.specs.ListedNames.{role_of, roles_of}

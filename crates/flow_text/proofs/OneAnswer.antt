@@ -177,7 +177,7 @@ module _ {V : Type 0} {Spells : List Placed → V → Type 0} {wants : List Symb
   known : (Good : V → Type 0) (repeated unknown : ℕ → List ℕ → Type 0) → ((x : V) → Good x → Known (Ok x)) →
       ((place : ℕ) (name : List ℕ) → repeated place name → Known (Err (Repeated place name))) →
       ((place : ℕ) (name : List ℕ) → unknown place name → Known (Err (Unknown place name))) →
-      (a : Result V TextRefusal) → IsAnswer Good (IsTextRefusal Spells wants repeated unknown text) a → Known a
+      (a : Result V TextRefusal) → IsAnswer Good (IsTextRefusal (record { spells = Spells; wants = wants; again = repeated; unknown = unknown }) text) a → Known a
   known Good repeated unknown says repeats knows_not (Ok x) h = says x h
   known Good repeated unknown says repeats knows_not (Err (NotAscii p)) (h, tells) = record { finding = no_ascii p; naming = good; finds = h; judged = refl; is = refl }
   known Good repeated unknown says repeats knows_not (Err (BadToken p)) (h, tells) = record { finding = bad_token p; naming = good; finds = h; judged = refl; is = refl }

@@ -6,7 +6,7 @@ use Rattle.flow_model.proofs.Lists.{each_parts}
 use Rattle.flow_laws.proofs.Members.{distinct_parts}
 use Rattle.flow_form.specs.Script.{Declared, Said, Asked, holds, redundant}
 use Rattle.flow_form.specs.Names.{declared_names, event_names, names_in_rule}
-use Rattle.flow_grammar.specs.Roles.{Role, declares, in_goal, in_rule, in_fact, declared_by, declaring, used_in_goals, used_in_rules, script_roles, query_roles}
+use Rattle.flow_grammar.specs.Roles.{Role, declares, in_goal, in_rule, declared_by, declaring, used_in_goals, used_in_rules, script_roles, query_roles}
 use Rattle.flow_grammar.proofs.RolesOfNames.{roles_are_the_names, of_rules}
 use Rattle.flow_text.specs.GoodNames.{IsRepeated, IsUnknown, IsFirst, HasGoodNames, IsFirstRepeated, AsksOfEvents, AsksFirstOfOther}
 use Rattle.flow_text.proofs.FirstNames.{IsWell, well_is_known}

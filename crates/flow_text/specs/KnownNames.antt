@@ -7,7 +7,7 @@ use Rattle.flow_model.specs.Lists.{◌∈◌, AreDistinct}
 use Rattle.flow_facts.specs.Ordered.{name_cmp}
 use Rattle.flow_form.specs.Script.{Declared}
 use Rattle.flow_form.specs.Names.{declared_names, event_names}
-use Rattle.flow_grammar.specs.Roles.{Role, declares, in_goal, in_rule, in_fact}
+use Rattle.flow_grammar.specs.Roles.{Role, declares, in_goal, in_rule}
 use Rattle.flow_text.specs.declared.known.DeclaredAs.{DeclaredAs}
 use Rattle.flow_text.specs.declared.known.DeclaredAs.TheVariants.{Event}
 use Rattle.flow_text.specs.declared.known.Known.{Known}

@@ -1,9 +1,10 @@
 ghost use Rattle.std.specs.Prelude.{◌≡◌, ◌++◌, OnOk, map};
+ghost use Rattle.flow_facts.specs.Text.{fact_text};
 ghost use Rattle.flow_form.specs.Form.{shape_of, shapes};
 ghost use Rattle.flow_text.specs.Joins.{mark_of, parted};
 ghost use Rattle.flow_text.specs.Printed.{bracketed, goal_text, list_text};
 
-use flow_facts::push_fact;
+use flow_facts::{Fact, push_fact};
 use flow_form::Form;
 use std::alloc::AllocError;
 
@@ -38,6 +39,14 @@ impl Join {
             _ => false,
         }
     }
+}
+
+/// The fact behind a word or a mark.
+pub(crate) fn push_with_fact(text: &mut Vec<u8>, word: &[u8], fact: &Fact) -> Result<(), AllocError>
+    ensures { OnOk result (text.new.items ≡ text.old.items ++ (word.now ++ fact_text fact.now)) }
+{
+    text.extend_from_slice(word)?;
+    push_fact(text, fact)
 }
 
 #[cycle(goals)]
@@ -75,22 +84,10 @@ pub(crate) fn push_goal(text: &mut Vec<u8>, goal: &Form) -> Result<(), AllocErro
     match goal {
         Form::Nop => text.extend_from_slice(b"nop"),
         Form::Name(name) => text.extend_from_slice(name.bytes()),
-        Form::Test(fact) => {
-            text.extend_from_slice(b"?")?;
-            push_fact(text, fact)
-        }
-        Form::Absent(fact) => {
-            text.extend_from_slice(b"!")?;
-            push_fact(text, fact)
-        }
-        Form::Ins(fact) => {
-            text.extend_from_slice(b"ins ")?;
-            push_fact(text, fact)
-        }
-        Form::Del(fact) => {
-            text.extend_from_slice(b"del ")?;
-            push_fact(text, fact)
-        }
+        Form::Test(fact) => push_with_fact(text, b"?", fact),
+        Form::Absent(fact) => push_with_fact(text, b"!", fact),
+        Form::Ins(fact) => push_with_fact(text, b"ins ", fact),
+        Form::Del(fact) => push_with_fact(text, b"del ", fact),
         Form::Iso(part) => {
             text.extend_from_slice(b"iso(")?;
             push_goal(text, part)?;
