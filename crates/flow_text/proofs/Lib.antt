@@ -1,11 +1,8 @@
 pub mod KnownNames
 pub mod ListedNames
 pub mod FirstNames
-pub mod OneFirstName
-pub mod NamesLeft
 pub mod Parsed
 pub mod PrintedPieces
-pub mod Digits
 pub mod PrintedTexts
 pub mod Writable
 pub mod SaidPrintable

@@ -7,7 +7,7 @@ use Rattle.flow_form.specs.declared.refusal.TextRefusal.TheVariants.{Expected, T
 use Rattle.flow_form.specs.Script.{Said}
 use Rattle.flow_form.specs.Names.{IsClosed}
 use Rattle.flow_lex.specs.declared.token.Token.{Token}
-use Rattle.flow_lex.specs.Tokens.{AreSpans}
+use Rattle.flow_lex.specs.Tokens.{AreSpans, IsSmall}
 use Rattle.flow_grammar.specs.Symbol.{Symbol, Placed, at, symbols, a_name}
 use Rattle.flow_grammar.specs.Machine.{Reading, gives}
 use Rattle.flow_grammar.specs.Texts.{Derives, SpellsScript}
@@ -21,6 +21,8 @@ use Rattle.flow_text.specs.Saying.{HasTokens, IsLexed, TextInTokens, Writes}
 use Rattle.flow_text.specs.Parsing.{name_in, with_place, named_places, IsFirstNameAt, TextKind, IsTextRefusal}
 use Rattle.std.proofs.lemmas.List.{length-map}
 use Rattle.std.proofs.lemmas.Option.{slice_get-map}
+use Rattle.flow_model.specs.Lists.{Each}
+use Rattle.flow_reader.proofs.Loops.{spans_end}
 
 module _ {V : Type 0} (kind : TextKind V) (text : List ℕ) where
   pub read_refused : (read : List Symbol → Reading V) → IsMachine kind.spells kind.wants read → (tokens : List Token) (refusal : TextRefusal) → HasTokens text tokens
@@ -133,3 +135,19 @@ module _ {V : Type 0} {Spells : List Placed → V → Type 0} {wants : List Symb
   refused again unknown refusal is_lexed h =
       read_refused (record { spells = Spells; wants = wants; again = again; unknown = unknown }) lexed_text.text read m lexed_text.tokens refusal (lexed_of view is_lexed).has_tokens
       (subst (λ (s : TextInTokens). IsReadRefusal s.text s.tokens (read (symbols_of s.text s.tokens)) refusal) read_from h)
+
+-- The names among the tokens that are left
+
+-- the name that is looked for is number `left` of those in the rest
+pub record IsLeft (text : List ℕ) (tokens : List Token) (number left : ℕ) (rest : List Token) : Type 0 where
+  pub start : ℕ
+  pub spans : AreSpans start (length text) rest
+  pub small : Each (IsSmall text) rest
+  pub same : slice_get (named_places text tokens) number ≡ slice_get (named_places text rest) left
+  pub within : left < length (named_places text rest)
+
+pub left_within : (text : List ℕ) (tokens : List Token) (number left : ℕ) (rest more : List Token) (t : Token) → rest ≡ t ∷ more →
+    IsLeft text tokens number left rest → t.end ≤ length text
+left_within text tokens number left rest more t e h =
+    let (a, b, later) = subst (AreSpans h.start (length text)) e h.spans in
+    spans_end t.end (length text) more later

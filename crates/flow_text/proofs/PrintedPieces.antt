@@ -1,9 +1,9 @@
 -- Pieces of a text, and the symbols that they are read as.
-use Rattle.std.proofs.Common.{rules, ◌≡◌, ℕ, zero, ◌+◌, ◌-◌, ◌<◌, ◌≤◌, ◌^◌, Bool, true, false, ◌||◌, List, [], ◌∷◌, ◌++◌, length, length-append, take, drop, map, refl, sym, ap, subst, ◌∙◌, arith, append_assoc}
-use Rattle.std.specs.Prelude.{slice_index_or, nat_eq, None, Some}
+use Rattle.std.proofs.Common.{rules, ◌≡◌, ℕ, zero, ◌+◌, ◌-◌, ◌<◌, ◌≤◌, ◌^◌, Bool, true, false, ◌||◌, List, [], ◌∷◌, ◌++◌, length, length-append, take, drop, map, refl, sym, ap, subst, ◌∙◌, arith, append_assoc, ◌*◌, ◌/◌, ◌%◌}
+use Rattle.std.specs.Prelude.{slice_index_or, nat_eq, None, Some, nat_le}
 use Rattle.std.specs.List.{list_all}
 use Rattle.std.specs.Fmt.{decimal}
-use Rattle.std.proofs.lemmas.Bool.{and_parts}
+use Rattle.std.proofs.lemmas.Bool.{and_parts, and_from, le-leb}
 use Rattle.std.proofs.lemmas.List.{map-append}
 use Rattle.flow_lex.specs.declared.token.Token.{Token}
 use Rattle.flow_lex.specs.declared.token.TokenKind.{TokenKind}
@@ -15,9 +15,11 @@ use Rattle.flow_lex.proofs.Written.{words-read, numbers-read}
 use Rattle.flow_grammar.specs.Symbol.{Symbol, a_name, a_number}
 use Rattle.flow_reader.specs.Symbols.{reserved, word_symbol, mark_symbol, symbol_of}
 use Rattle.flow_text.specs.Printable.{IsName}
-use Rattle.flow_text.proofs.Digits.{Writes, decimal_writes}
 use Rattle.flow_model.proofs.Lists.{each-append}
 use Rattle.std.proofs.Math.Seq.{drop-append_seam, take-append_seam}
+use Rattle.std.proofs.lemmas.Fmt.{decimal_by_steps}
+use Rattle.std.proofs.lemmas.List.Folds.{list_all-append}
+use Rattle.std.proofs.lemmas.List.Sums.{fold-append}
 
 -- an open piece ends in a word or a number, and what follows does not go on with it
 abbrev pub Stops : Bool → List ℕ → Type 0
@@ -81,6 +83,13 @@ stops_there d y h rest stop = search rules
 pub ended_by : {d : Bool} {x y : List ℕ} {f g : List Symbol → List Symbol} → Reads true x f → Reads d y g → Begins d y → Reads d (x ++ y) (λ r. f (g r))
 ended_by {d} {x} {y} {f} {g} a b h = both true d x y f g (stops_there d y h) a b
 
+-- a piece that a word or a number may stand before
+abbrev pub Follows : Bool → List ℕ → (List Symbol → List Symbol) → Type 0
+Follows d y g = Reads d y g × Begins d y
+
+pub closed : {d : Bool} {x y : List ℕ} {f g : List Symbol → List Symbol} → Reads true x f → Follows d y g → Reads d (x ++ y) (λ r. f (g r))
+closed a (b, h) = ended_by a b h
+
 -- a piece that may be followed by anything may be followed by a mark or a blank
 pub opened : {x : List ℕ} {f : List Symbol → List Symbol} → Reads false x f → Reads true x f
 opened a = record { ascii = a.ascii; cut = λ text front rest is stop. a.cut text front rest is tt }
@@ -123,6 +132,34 @@ name (b ∷ bs) (first, inside, free) = subst (λ (s : Symbol). Reads true (b �
   where
     named_symbol : (w : List ℕ) → reserved w ≡ None → word_symbol w ≡ a_name w
     named_symbol w e = rw e refl
+
+-- the digits write the number
+abbrev Writes : ℕ → List ℕ → Type 0
+Writes n ds = (digit : ℕ) × ((more : List ℕ) × ((ds ≡ digit ∷ more) × (is_digit digit ≡ true) × (list_all is_digit more ≡ true) × (number_value ds ≡ n)))
+
+digit-is : (d : ℕ) → d < 10 → is_digit (48 + d) ≡ true
+digit-is d h = and_from (nat_le 48 (48 + d)) (nat_le (48 + d) 57) (le-leb 48 (48 + d) (omega arith)) (le-leb (48 + d) 57 (omega arith))
+
+one_digit : (n : ℕ) → n < 10 → Writes n ((48 + n) ∷ [])
+one_digit n h = (48 + n, ([], (refl, digit-is n h, refl, omega arith)))
+
+more_digits : (n : ℕ) (ds : List ℕ) → 10 ≤ n → Writes (n / 10) ds → Writes n (ds ++ ((48 + n % 10) ∷ []))
+more_digits n ds h (digit, (more, (is, first, inside, value))) =
+    let last : List ℕ = (48 + n % 10) ∷ [] in (
+      digit,
+      (
+        more ++ last,
+        (
+          ap (λ t. t ++ last) is,
+          first,
+          list_all-append is_digit more last ∙ and_from (list_all is_digit more) (list_all is_digit last) inside (and_from (is_digit (48 + n % 10)) true (digit-is (n % 10) (omega arith)) refl),
+          fold-append (λ value digit. 10 * value + (digit - 48)) 0 ds last ∙ ap (λ v. 10 * v + (48 + n % 10 - 48)) value ∙ omega arith,
+        ),
+      ),
+    )
+
+decimal_writes : (n : ℕ) → n < 2 ^ 64 → Writes n (decimal n)
+decimal_writes n h = decimal_by_steps Writes one_digit more_digits n h
 
 stops-digits : (rest : List ℕ) → BeginsWithout is_in_word rest → BeginsWithout is_digit rest
 stops-digits [] h = tt

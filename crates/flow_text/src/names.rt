@@ -47,7 +47,7 @@ fn first_repeated<'a>(
 
 /// The place of the first name that is not declared as it must be.
 fn first_unknown<'a>(list: &[Named<'a>], known: &Known<'a>) -> Option<usize>
-    ensures { result ≡ position_from (λ named. is_unknown (has known.now.names) (has_as_event known.now.names) (role_of named)) 0 list.now }
+    ensures { result ≡ position_from (is_unknown (has known.now.names) (has_as_event known.now.names)) 0 (roles_of list.now) }
 {
     for (place, named) in list.iter().enumerate() {
         if known.lacks(named) {
