@@ -40,15 +40,9 @@ renewed_at_places e k bits front (g ∷ gs) h =
     let after : (bits : List Bool) (x : Given) → renewed_at (e + 1) (picked bits (out_places e (k + 1) gs)) (front ++ x ∷ gs) ≡ front ++ x ∷ renew e bits gs = λ bits x.
     ap (renewed_at (e + 1) (picked bits (out_places e (k + 1) gs))) (sym (append_assoc front (x ∷ []) gs))
     ∙ renewed_at_places e (k + 1) bits (front ++ x ∷ []) gs (length_push front x ∙ ap (λ n. n + 1) h) ∙ append_assoc front (x ∷ []) (renew e bits gs) in
-    grind (
-      arith,
-      cases_Bool (is_out e g),
-      cases_Bool (head bits),
-      with_epoch_at (e + 1) k front g gs h,
-      after bits g,
-      after (tail bits) g,
-      after (tail bits) (record g { epoch = e + 1 }),
-    )
+    let here = with_epoch_at (e + 1) k front g gs h in
+    let renewed = after (tail bits) (record g { epoch = e + 1 }) in
+    grind (arith, cases_Bool (is_out e g), cases_Bool (head bits), here, after bits g, after (tail bits) g, renewed)
 
 -- ---- those that are out in the new epoch
 
@@ -64,16 +58,10 @@ pub out_renewed : (f : ℕ → Given → ℕ) → ((k e : ℕ) (bit : Bool) (g :
     out_by f (e + 1) k (renew e bits gs) ≡ picked bits (out_by f e k gs)
 out_renewed f same e k bits [] h = refl
 out_renewed f same e k bits (g ∷ gs) (h, t) =
-    grind (
-      arith,
-      cases_Bool (is_out e g),
-      cases_Bool (head bits),
-      renewed_is_out e (head bits) g h,
-      old_is_not_out e g h,
-      same k e (head bits) g,
-      out_renewed f same e (k + 1) bits gs t,
-      out_renewed f same e (k + 1) (tail bits) gs t,
-    )
+    let stays = renewed_is_out e (head bits) g h in
+    let goes = old_is_not_out e g h in
+    let rest = λ (bits : List Bool). out_renewed f same e (k + 1) bits gs t in
+    grind (arith, cases_Bool (is_out e g), cases_Bool (head bits), stays, goes, same k e (head bits) g, rest bits, rest (tail bits))
 
 same_leaf : (k e : ℕ) (bit : Bool) (g : Given) → (renewed e bit g).leaf ≡ g.leaf
 same_leaf k e true g = refl
@@ -92,15 +80,15 @@ epochs_renewed e bits (g ∷ gs) (h, t) =
     let later : g.epoch ≤ e + 1 = omega arith in
     grind (arith, cases_Bool (is_out e g), cases_Bool (head bits), later, epochs_renewed e bits gs t, epochs_renewed e (tail bits) gs t)
 
-pub kept_renew : (gs : List Given) (current leaves attempts : List ℕ) (e : ℕ) (bits : List Bool) → IsKept gs current leaves attempts e →
-    IsKept (renew e bits gs) (picked bits current) (picked bits leaves) attempts (e + 1)
-kept_renew gs current leaves attempts e bits k = record {
+pub kept_renewed : (gs new : List Given) (current new_current leaves new_leaves attempts : List ℕ) (e : ℕ) (bits : List Bool) → IsKept gs current leaves attempts e →
+    new ≡ renew e bits gs → new_current ≡ picked bits current → new_leaves ≡ picked bits leaves → IsKept new new_current new_leaves attempts (e + 1)
+kept_renewed gs new current new_current leaves new_leaves attempts e bits k is places stay = rw (is, places, stay) (record {
   epochs = epochs_renewed e bits gs k.epochs;
   current_are = ap (picked bits) k.current_are ∙ sym (out_renewed (λ place g. place) (λ k e bit g. refl) e 0 bits gs k.epochs);
   leaves_are = ap (picked bits) k.leaves_are ∙ sym (out_renewed (λ place g. g.leaf) same_leaf e 0 bits gs k.epochs);
   counted = counted_alike [] gs (renew e bits gs) (map-renew counts_of (λ e g. refl) e bits gs) k.counted;
   totals = λ event h. k.totals event h ∙ ap (count_of event) (sym (map-renew (λ g. g.event) (λ e g. refl) e bits gs));
-}
+})
 
 pub length-renew : (e : ℕ) (bits : List Bool) (gs : List Given) → length (renew e bits gs) ≡ length gs
 length-renew e bits gs = sym (length-map (renew e bits gs) (λ (g : Given). g.leaf)) ∙ ap length (map-renew (λ (g : Given). g.leaf) (λ e g. refl) e bits gs) ∙ length-map gs (λ (g : Given). g.leaf)
@@ -135,12 +123,6 @@ pub renewed_is : (e : ℕ) (bits : List Bool) (gs was new : List Given) (current
     new ≡ renewed_at (e + 1) places was → new ≡ renew e bits gs
 renewed_is e bits gs was new current places same are stay is =
     is ∙ ap (renewed_at (e + 1) places) same ∙ ap (λ l. renewed_at (e + 1) l gs) (stay ∙ ap (picked bits) are) ∙ renewed_at_places e 0 bits [] gs refl
-
-pub kept_renewed : (gs new : List Given) (current new_current leaves new_leaves attempts : List ℕ) (e : ℕ) (bits : List Bool) → IsKept gs current leaves attempts e →
-    new ≡ renew e bits gs → new_current ≡ picked bits current → new_leaves ≡ picked bits leaves → IsKept new new_current new_leaves attempts (e + 1)
-kept_renewed gs new current new_current leaves new_leaves attempts e bits k is places stay =
-    subst (λ l. IsKept l new_current new_leaves attempts (e + 1)) (sym is)
-    (subst₂ (λ c l. IsKept (renew e bits gs) c l attempts (e + 1)) (sym places) (sym stay) (kept_renew gs current leaves attempts e bits k))
 
 -- just those are spared
 pub spared_claims : (w : Schema) (s : RunState) (gs new : List Given) (e : ℕ) (leaves was : List ℕ) (bits : List Bool) → s.claims ≡ claims_from 1 gs → s.epoch ≡ e →
