@@ -1,18 +1,20 @@
 -- The events of claims and their attempts, as one is given and as one is answered.
-use Rattle.std.proofs.Common.{◌≡◌, ◌≤◌, ◌<◌, ◌+◌, ◌-◌, ℕ, zero, suc, Bool, true, false, cond, nat_eq, ◌==◌, List, [], ◌∷◌, ◌++◌, length, map, set, take, replicate, slice_index, Option, Some, None, slice_get, inl, inr, refl, sym, ap, ◌∙◌, subst, subst₂, arith, append-nil, append_assoc, length-set, MatchOption}
+use Rattle.std.proofs.Common.{◌≡◌, ◌≤◌, ◌<◌, ◌+◌, ◌-◌, ℕ, zero, suc, Bool, true, false, cond, nat_eq, ◌==◌, List, [], ◌∷◌, ◌++◌, length, map, set, take, slice_index, Option, Some, None, slice_get, refl, sym, ap, ◌∙◌, subst, arith, append-nil, append_assoc, length-set, MatchOption}
 use Rattle.std.specs.List.{remove, position_from}
+use Rattle.std.specs.Option.{option_map}
+use Rattle.std.proofs.lemmas.Option.{slice_get-map}
 use Rattle.std.proofs.lemmas.Bool.{eq-eqb}
 use Rattle.std.proofs.lemmas.Bool.Decides.{eqb_tells}
 use Rattle.std.proofs.lemmas.List.Sums.{sum_by_push, count_by-le-length}
-use Rattle.std.proofs.lemmas.List.{get_or-set_same, get_or-set_other, get_or-replicate, length-replicate, length-map, map-append}
+use Rattle.std.proofs.lemmas.List.{get_or-set_same, get_or-set_other, length-map, map-append}
 use Rattle.flow_model.specs.Lists.{Each}
-use Rattle.flow_laws.proofs.Members.{cons_same}
+use Rattle.flow_laws.proofs.Members.{cons_same, each-append}
 use Rattle.flow_claims.specs.declared.given.Given.{Given}
 use Rattle.flow_model.specs.Run.{claim_at, answer}
 use Rattle.flow_claims.specs.Given.{claim_of, claims_from, is_out, out_places, out_leaves}
 use Rattle.flow_claims.specs.Claimed.{run_of, count_of, IsGivenAt}
 use Rattle.flow_claims.specs.Fields.{events_of, claimed, AreCounted, IsKept}
-use Rattle.flow_claims.proofs.Numbering.{answered, length-claims_from, claims_from-append, answer-claims_from, claim_in, none_past, claim_there}
+use Rattle.flow_claims.proofs.Numbering.{answered, claims_counted, claims_from-append, answer-claims_from, told, claim_is}
 use Rattle.flow_claims.proofs.Outstanding.{out_given, found, not_found, answer_out, answer_other}
 
 abbrev one_if : Bool → ℕ
@@ -23,12 +25,9 @@ count-push event other events = sum_by_push (λ x. one_if (nat_eq x event)) even
 
 pub counted_more : (before : List ℕ) (gs : List Given) (g : Given) → AreCounted before gs →
     g.attempt ≡ count_of g.event ((before ++ events_of gs) ++ g.event ∷ []) → AreCounted before (gs ++ g ∷ [])
-counted_more before [] g h is = (subst (λ l. g.attempt ≡ count_of g.event (l ++ g.event ∷ [])) (append-nil before) is, tt)
-counted_more before (x ∷ gs) g (h, t) is = (
-  h,
-  counted_more (before ++ x.event ∷ []) gs g t
-      (subst (λ l. g.attempt ≡ count_of g.event (l ++ g.event ∷ [])) (sym (append_assoc before (x.event ∷ []) (events_of gs))) is),
-)
+counted_more before [] g h is = (rw (append-nil before) at is, tt)
+counted_more before (x ∷ gs) g (h, t) is =
+    (h, counted_more (before ++ x.event ∷ []) gs g t (rw (append_assoc before (x.event ∷ []) (events_of gs)) is))
 
 -- only events and attempts count
 abbrev pub counts_of : Given → ℕ × ℕ
@@ -51,66 +50,38 @@ attempt_at before (x ∷ gs) zero g h at =
 attempt_at before (x ∷ gs) (suc i) g h at =
     attempt_at (before ++ x.event ∷ []) gs i g h.1 at ∙ ap (count_of g.event) (append_assoc before (x.event ∷ []) (take (suc i) (events_of gs)))
 
-pub event_at : (gs : List Given) (i : ℕ) (g : Given) → slice_get gs i ≡ Some g → slice_get (events_of gs) i ≡ Some g.event
-event_at [] i g at = cc
-event_at (x ∷ gs) zero g at = let e : x ≡ g = cc in ap (λ (y : Given). Some y.event) e
-event_at (x ∷ gs) (suc i) g at = event_at gs i g at
-
--- ---- none is given
-
-pub kept_none : (kinds : ℕ) → IsKept [] [] [] (replicate kinds 0) 0
-kept_none kinds = record {
-  epochs = tt;
-  current_are = refl;
-  leaves_are = refl;
-  counted = tt;
-  totals = λ event h. get_or-replicate kinds event 0 0 (omega (arith, length-replicate {A = ℕ} kinds 0));
-}
-
 -- ---- one more is given
-
-each_push : {A : Type 0} (P : A → Type 0) (xs : List A) (x : A) → Each P xs → P x → Each P (xs ++ x ∷ [])
-each_push P [] x h p = (p, tt)
-each_push P (y ∷ xs) x (h, t) p = (h, each_push P xs x t p)
 
 totals_more : (events attempts : List ℕ) (event attempt : ℕ) → ((other : ℕ) → other < length attempts → slice_index attempts other ≡ count_of other events) →
     event < length attempts → attempt ≡ slice_index attempts event + 1 →
     (other : ℕ) → other < length attempts → slice_index (set attempts event attempt) other ≡ count_of other (events ++ event ∷ [])
 totals_more events attempts event attempt totals within is other h =
     let more = count-push other event events in
-    let total = totals other h in
-    elim (eqb_tells event other) [
-      | inl k ↦
-          let one : one_if (nat_eq event other) ≡ 1 = ap one_if k.0 in
-          let here : slice_index attempts event ≡ slice_index attempts other = ap (slice_index attempts) k.1 in
-          let count : attempt ≡ count_of other (events ++ event ∷ []) = omega arith in
-          ap (slice_index (set attempts event attempt)) (sym k.1) ∙ get_or-set_same attempts event attempt 0 within ∙ count
-      | inr k ↦
-          let none : one_if (nat_eq event other) ≡ 0 = ap one_if k.0 in
-          let count : slice_index attempts other ≡ count_of other (events ++ event ∷ []) = omega arith in
-          get_or-set_other attempts event other attempt 0 (λ e. k.1 (sym e)) ∙ count
-    ]
+    let same = get_or-set_same attempts event attempt 0 within in
+    let apart = get_or-set_other attempts event other attempt 0 in
+    grind (arith, eqb_tells event other, more, totals other h, same, apart)
 
-pub kept_give : (gs : List Given) (current leaves attempts : List ℕ) (e leaf event attempt : ℕ) → IsKept gs current leaves attempts e →
-    event < length attempts → attempt ≡ slice_index attempts event + 1 →
-    IsKept (gs ++ record { leaf = leaf; event = event; epoch = e; attempt = attempt; answered = false } ∷ []) (current ++ length gs ∷ []) (leaves ++ leaf ∷ [])
-    (set attempts event attempt) e
-kept_give gs current leaves attempts e leaf event attempt k within is =
-    let g : Given = record { leaf = leaf; event = event; epoch = e; attempt = attempt; answered = false } in
-    let out : is_out e g ≡ true = eq-eqb e e refl in
-    let once : one_if (nat_eq event event) ≡ 1 = ap one_if (eq-eqb event event refl) in
-    let before = k.totals event within in
-    let more = count-push event event (events_of gs) in
-    let count : attempt ≡ count_of event (events_of gs ++ event ∷ []) = omega arith in
-    let same = length-set attempts event attempt in
-    record {
-      epochs = each_push (λ (g : Given). g.epoch ≤ e) gs g k.epochs (omega arith);
-      current_are = ap (λ l. l ++ length gs ∷ []) k.current_are ∙ ap (λ n. out_places e 0 gs ++ n ∷ []) (omega arith) ∙ sym (out_given (λ place g. place) e 0 gs g out);
-      leaves_are = ap (λ l. l ++ leaf ∷ []) k.leaves_are ∙ sym (out_given (λ place g. g.leaf) e 0 gs g out);
-      counted = counted_more [] gs g k.counted count;
-      totals = λ other h. totals_more (events_of gs) attempts event attempt k.totals within is other (omega arith)
-          ∙ ap (count_of other) (sym (map-append (λ (g : Given). g.event) gs (g ∷ [])));
-    }
+module _ (gs new : List Given) (current new_current leaves new_leaves attempts : List ℕ) (e leaf event attempt place : ℕ) (k : IsKept gs current leaves attempts e)
+    (within : event < length attempts) (is : attempt ≡ slice_index attempts event + 1) (here : place ≡ length gs) where
+  abbrev g : Given
+  g = record { leaf = leaf; event = event; epoch = e; attempt = attempt; answered = false }
+
+  pub kept_given : new ≡ gs ++ g ∷ [] → new_current ≡ current ++ place ∷ [] → new_leaves ≡ leaves ++ leaf ∷ [] → IsKept new new_current new_leaves (set attempts event attempt) e
+  kept_given more more_current more_leaves =
+      let out : is_out e g ≡ true = eq-eqb e e refl in
+      let once : one_if (nat_eq event event) ≡ 1 = ap one_if (eq-eqb event event refl) in
+      let before = k.totals event within in
+      let counted = count-push event event (events_of gs) in
+      let count : attempt ≡ count_of event (events_of gs ++ event ∷ []) = omega arith in
+      let same = length-set attempts event attempt in
+      rw (more, more_current, more_leaves) (record {
+        epochs = each-append (λ (g : Given). g.epoch ≤ e) gs (g ∷ []) k.epochs (omega arith, tt);
+        current_are = ap (λ l. l ++ place ∷ []) k.current_are ∙ ap (λ n. out_places e 0 gs ++ n ∷ []) (omega arith) ∙ sym (out_given (λ place g. place) e 0 gs g out);
+        leaves_are = ap (λ l. l ++ leaf ∷ []) k.leaves_are ∙ sym (out_given (λ place g. g.leaf) e 0 gs g out);
+        counted = counted_more [] gs g k.counted count;
+        totals = λ other h. totals_more (events_of gs) attempts event attempt k.totals within is other (omega arith)
+            ∙ ap (count_of other) (sym (map-append (λ (g : Given). g.event) gs (g ∷ [])));
+      })
 
 -- ---- one is answered
 
@@ -144,31 +115,23 @@ module _ (gs : List Given) (current leaves attempts : List ℕ) (e : ℕ) (k : I
   kept_answer index is =
       let (j, same, there) = found place 0 current index is in
       let i : index ≡ j = omega arith in
-      let there : slice_get (out_places e 0 gs) index ≡ Some (0 + place) =
-      ap (λ l. slice_get l index) (sym k.current_are) ∙ ap (slice_get current) i ∙ there ∙ ap Some (omega arith) in
-      let out = λ (f : ℕ → Given → ℕ). answer_out f e 0 gs place index g at there in
+      let there : slice_get (out_places e 0 gs) index ≡ Some place = rw (i, ← k.current_are) there in
+      let out = λ (f : ℕ → Given → ℕ). answer_out f e 0 place gs place index g (omega arith) there in
       with_lists (remove current index) (remove leaves index) (ap (λ l. remove l index) k.current_are ∙ sym (out (λ place g. place))) (ap (λ l. remove l index) k.leaves_are ∙ sym (out (λ place g. g.leaf)))
 
   pub kept_late : position_from (λ other. other == place) 0 current ≡ None → IsKept (set gs place (answered g)) current leaves attempts e
   kept_late is =
-      let same = λ (f : ℕ → Given → ℕ). answer_other f e 0 gs place g at
-      (λ j there. not_found place 0 current is j (ap (λ l. slice_get l j) k.current_are ∙ there ∙ ap Some (omega arith))) in
+      let same = λ (f : ℕ → Given → ℕ). answer_other f e 0 place gs place g (omega arith) (λ m. not_found place 0 current is (rw k.current_are m)) in
       with_lists current leaves (k.current_are ∙ sym (same (λ place g. place))) (k.leaves_are ∙ sym (same (λ place g. g.leaf)))
 
 -- ---- the value
 
 pub found_claim : (gs : List Given) (e room kinds : ℕ) → AreCounted [] gs → (number place : ℕ) → number ≡ 1 + place → (r : Option Given) → r ≡ slice_get gs place →
     MatchOption r (claim_at (run_of (claimed gs e room kinds)) number ≡ None) (IsGivenAt (claimed gs e room kinds) number)
-found_claim gs e room kinds counted number place n None h =
-    subst (λ m. claim_in gs m ≡ None) (sym n) (none_past gs place (past gs place (sym h)))
-  where
-    past : (gs : List Given) (i : ℕ) → slice_get gs i ≡ None → length gs ≤ i
-    past [] i h = omega arith
-    past (x ∷ gs) zero h = cc
-    past (x ∷ gs) (suc i) h = let l = past gs i h in omega arith
+found_claim gs e room kinds counted number place n None h = claim_is gs number place n ∙ ap (told number) (sym h)
 found_claim gs e room kinds counted number place n (Some g) h = let back : number - 1 ≡ place = omega arith in let forth : suc place ≡ number = omega arith in record {
-  claim = claim_there gs number place g n (sym h);
-  event = ap (slice_get (events_of gs)) back ∙ event_at gs place g (sym h);
+  claim = claim_is gs number place n ∙ ap (told number) (sym h);
+  event = ap (slice_get (events_of gs)) back ∙ slice_get-map (λ (g : Given). g.event) gs place ∙ ap (option_map (λ (g : Given). g.event)) (sym h);
   attempt = attempt_at [] gs place g counted (sym h) ∙ ap (λ m. count_of g.event (take m (events_of gs))) forth;
 }
 
@@ -181,22 +144,12 @@ pub given_value : (gs new : List Given) (e leaf event attempt room new_room kind
     }
 given_value gs new e leaf event attempt room new_room kinds new_kinds more same_room same_kinds =
     let g : Given = record { leaf = leaf; event = event; epoch = e; attempt = attempt; answered = false } in
-    let len = length-claims_from 1 gs in
+    let len = claims_counted 1 gs in
     let number : 1 + length gs ≡ length (claims_from 1 gs) + 1 = omega arith in
     let claims : claims_from 1 new ≡ claims_from 1 gs ++ claim_of (length (claims_from 1 gs) + 1) g ∷ [] =
     ap (claims_from 1) more ∙ claims_from-append 1 gs g ∙ ap (λ n. claims_from 1 gs ++ claim_of n g ∷ []) number in
     let events : events_of new ≡ events_of gs ++ event ∷ [] = ap events_of more ∙ map-append (λ (g : Given). g.event) gs (g ∷ []) in
     λ i. record { claims = claims i; events = events i; epoch = e; room = same_room i; kinds = same_kinds i }
-
-pub kept_given : (gs new : List Given) (current new_current leaves new_leaves attempts : List ℕ) (e leaf event attempt place : ℕ) → IsKept gs current leaves attempts e →
-    event < length attempts → attempt ≡ slice_index attempts event + 1 → place ≡ length gs →
-    new ≡ gs ++ record { leaf = leaf; event = event; epoch = e; attempt = attempt; answered = false } ∷ [] → new_current ≡ current ++ place ∷ [] → new_leaves ≡ leaves ++ leaf ∷ [] →
-    IsKept new new_current new_leaves (set attempts event attempt) e
-kept_given gs new current new_current leaves new_leaves attempts e leaf event attempt place k within is here more more_current more_leaves =
-    let places : new_current ≡ current ++ length gs ∷ [] = more_current ∙ ap (λ n. current ++ n ∷ []) here in
-    subst (λ l. IsKept l new_current new_leaves (set attempts event attempt) e) (sym more)
-    (subst₂ (λ c l. IsKept (gs ++ record { leaf = leaf; event = event; epoch = e; attempt = attempt; answered = false } ∷ []) c l (set attempts event attempt) e) (sym places) (sym more_leaves)
-    (kept_give gs current leaves attempts e leaf event attempt k within is))
 
 pub few_attempts : (gs : List Given) (current leaves attempts : List ℕ) (e : ℕ) → IsKept gs current leaves attempts e → (event : ℕ) → event < length attempts →
     slice_index attempts event ≤ length gs
@@ -211,6 +164,6 @@ pub answered_value : (gs : List Given) (e room kinds number place : ℕ) (g : Gi
     claimed (set gs place (answered g)) e room kinds ≡ record (claimed gs e room kinds) { claims = answer number (claims_from 1 gs) }
 answered_value gs e room kinds number place g n at =
     let claims : claims_from 1 (set gs place (answered g)) ≡ answer number (claims_from 1 gs) =
-    sym (ap (λ m. answer m (claims_from 1 gs)) n ∙ answer-claims_from 1 place gs g at) in
+    sym (answer-claims_from 1 place number gs g n at) in
     let events = events_answered gs place g at in
     λ i. record { claims = claims i; events = events i; epoch = e; room = room; kinds = kinds }

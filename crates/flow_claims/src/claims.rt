@@ -55,6 +55,7 @@ impl Claims {
     }
 
     /// How many were given.
+    #[tactic(auto, using(crate::proofs::Numbering::claims_counted))]
     pub fn count(&self) -> u32
         ensures given { result ≡ length self.now.claims }
         ensures room { result ≤ self.now.room }

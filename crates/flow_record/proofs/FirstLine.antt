@@ -1,7 +1,7 @@
 -- The first line of a text, and what stands after it.
 use Rattle.std.proofs.Common.{◌≡◌, ℕ, ◌<◌, Bool, true, false, List, [], ◌∷◌, ◌++◌, length, refl, sym, ◌∙◌, ap, ne_eqb, length-append, if◌then◌else◌, arith, Option, Some, None}
 use Rattle.std.specs.Prelude.{◌==◌}
-use Rattle.std.proofs.lemmas.Bool.{and_right}
+use Rattle.std.proofs.lemmas.Bool.{and_right, cases_Bool}
 use Rattle.flow_record.specs.Lines.{stripped, without_returns, lines_of, cut_at}
 use Rattle.flow_record.proofs.Pieces.{lacks, first_other, others_lack, IsCut, cut_is, parts_are, uncut_lacks}
 
@@ -31,11 +31,7 @@ lines_in text = lines_of (without_returns text)
 -- a line that a line feed ends
 ended : (x y : List ℕ) → lacks 10 x ≡ true → lines_in (x ++ 10 ∷ y) ≡ stripped x ∷ lines_in y
 ended [] y h = refl
-ended (b ∷ []) y h = by_return (b == 13) refl
-  where
-    by_return : (t : Bool) → (b == 13) ≡ t → lines_in (b ∷ 10 ∷ y) ≡ stripped (b ∷ []) ∷ lines_in y
-    by_return true e = rw e refl
-    by_return false e = rw (e, first_other 10 b [] h) refl
+ended (b ∷ []) y h = grind (arith, cases_Bool (b == 13), first_other 10 b [] h)
 ended (b ∷ c ∷ bs) y h =
     let more = others_lack 10 b (c ∷ bs) h in
     rw (first_other 10 c bs more, and_right (b == 13) false refl, first_other 10 b (c ∷ bs) h, ended (c ∷ bs) y more) refl

@@ -1,8 +1,9 @@
 -- The first word of a line, and what stands after it.
-use Rattle.std.proofs.Common.{◌≡◌, ◌⊎◌, inl, inr, ℕ, ◌-◌, Bool, true, false, not, ltb, List, [], ◌∷◌, length, take, drop, refl, one-add, le_antisymm, sym, ◌∙◌, ap, subst, Option}
+use Rattle.std.proofs.Common.{◌≡◌, ◌⊎◌, inl, inr, ℕ, ◌-◌, Bool, true, false, not, ltb, List, [], ◌∷◌, length, take, drop, refl, one-add, sym, ◌∙◌, ap, subst, arith, Option}
 use Rattle.std.specs.List.{position_or_len, position}
 use Rattle.std.specs.Option.{unwrap_or}
-use Rattle.std.proofs.lemmas.Bool.{false≢true, ltb-false, not-true}
+use Rattle.std.proofs.lemmas.Bool.{false≢true, not-true, cases_Bool}
+use Rattle.std.proofs.lemmas.Bool.Decides.{nat_tests}
 use Rattle.std.proofs.lemmas.List.{take_rest}
 use Rattle.std.proofs.lemmas.List.Sums.{prefix_len-le-length}
 use Rattle.flow_record.specs.Lines.{is_blank, begins_in_word, words_of, with_word}
@@ -15,29 +16,24 @@ word_start line = position_or_len (λ b. not (is_blank b)) line
 abbrev pub word_end : List ℕ → ℕ
 word_end line = position_or_len is_blank line
 
-skipped-cons : (t : Bool) (b : ℕ) (bs : List ℕ) → is_blank b ≡ t →
-    words_of bs ≡ words_of (drop (word_start bs) bs) →
-    words_of (b ∷ bs) ≡ words_of (drop (word_start (b ∷ bs)) (b ∷ bs))
-skipped-cons true b bs e h = rw (e, one-add) h
-skipped-cons false b bs e h = rw (e, e) refl
-
 -- the blanks before the first word do not count
 skipped : (line : List ℕ) → words_of line ≡ words_of (drop (word_start line) line)
 skipped [] = refl
-skipped (b ∷ bs) = skipped-cons (is_blank b) b bs refl (skipped bs)
+skipped (b ∷ bs) = elim (cases_Bool (is_blank b)) [
+  | inl e ↦ rw (e, one-add) (skipped bs)
+  | inr e ↦ rw (e, e) refl
+]
 
 -- the text is empty or begins in a word
 abbrev AtWord : List ℕ → Type 0
 AtWord line = (line ≡ []) ⊎ (begins_in_word line ≡ true)
 
-begins-cons : (t : Bool) (b : ℕ) (bs : List ℕ) → is_blank b ≡ t →
-    AtWord (drop (word_start bs) bs) → AtWord (drop (word_start (b ∷ bs)) (b ∷ bs))
-begins-cons true b bs e h = rw (e, one-add) h
-begins-cons false b bs e h = rw e (inr (rw e refl))
-
 begins : (line : List ℕ) → AtWord (drop (word_start line) line)
 begins [] = inl refl
-begins (b ∷ bs) = begins-cons (is_blank b) b bs refl (begins bs)
+begins (b ∷ bs) = elim (cases_Bool (is_blank b)) [
+  | inl e ↦ rw (e, one-add) (begins bs)
+  | inr e ↦ rw e (inr (rw e refl))
+]
 
 none-left : (bs : List ℕ) → begins_in_word bs ≡ false → word_end bs ≡ 0
 none-left [] e = refl
@@ -47,14 +43,12 @@ none-left (b ∷ bs) e = rw e refl
 abbrev Splits : List ℕ → Type 0
 Splits line = words_of line ≡ take (word_end line) line ∷ words_of (drop (word_end line) line)
 
-splits-cons : (u : Bool) (b : ℕ) (bs : List ℕ) → is_blank b ≡ false → begins_in_word bs ≡ u →
-    (begins_in_word bs ≡ true → Splits bs) → Splits (b ∷ bs)
-splits-cons true b bs e f h = rw (e, f, one-add, h f) refl
-splits-cons false b bs e f h = rw (e, f, none-left bs f) refl
-
 splits : (line : List ℕ) → begins_in_word line ≡ true → Splits line
 splits [] e = absurd (false≢true e)
-splits (b ∷ bs) e = splits-cons (begins_in_word bs) b bs (not-true (is_blank b) e) refl (splits bs)
+splits (b ∷ bs) e = let here = not-true (is_blank b) e in elim (cases_Bool (begins_in_word bs)) [
+  | inl f ↦ rw (here, f, one-add, splits bs f) refl
+  | inr f ↦ rw (here, f, none-left bs f) refl
+]
 
 -- the word is not empty
 with_word-some : (line : List ℕ) (words : List (List ℕ)) → begins_in_word line ≡ true →
@@ -67,14 +61,9 @@ first : (line : List ℕ) → AtWord line →
 first line (inl e) = rw e refl
 first line (inr e) = splits line e ∙ sym (with_word-some line _ e)
 
-place-cons : {X : Type 0} (t : Bool) (p : X → Bool) (xs : List X) → ltb (position_or_len p xs) (length xs) ≡ t →
-    unwrap_or (position p xs) (length xs) ≡ position_or_len p xs
-place-cons true p xs e = rw e refl
-place-cons false p xs e = rw e (le_antisymm (ltb-false _ _ e) (prefix_len-le-length (λ x. not (p x)) xs))
-
 -- the first place, or the length
 place : {X : Type 0} (p : X → Bool) (xs : List X) → unwrap_or (position p xs) (length xs) ≡ position_or_len p xs
-place p xs = place-cons (ltb (position_or_len p xs) (length xs)) p xs refl
+place p xs = grind (arith, nat_tests, cases_Bool (ltb (position_or_len p xs) (length xs)), prefix_len-le-length (λ x. not (p x)) xs)
 
 -- the first word of a line by the places of its ends
 pub split_word : (line words front back : List ℕ) (begin finish : Option ℕ) (start stop : ℕ) →

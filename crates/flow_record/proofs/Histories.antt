@@ -1,11 +1,11 @@
 -- A history as a text: what is printed is read, and what is read is printed.
-use Rattle.std.proofs.Common.{◌≡◌, ℕ, suc, ◌+◌, ◌<◌, ◌≤◌, ◌^◌, Bool, true, false, not, List, [], ◌∷◌, ◌++◌, length, refl, sym, ◌∙◌, ap, subst, append_assoc, append-nil, length-append, if◌then◌else◌, arith, Option, Some, None, IfSome}
+use Rattle.std.proofs.Common.{◌≡◌, ℕ, suc, ◌+◌, ◌<◌, ◌≤◌, ◌^◌, true, false, not, List, [], ◌∷◌, ◌++◌, length, refl, sym, ◌∙◌, ap, subst, append_assoc, append-nil, length-append, if◌then◌else◌, arith, Option, Some, None, IfSome}
 use Rattle.std.specs.Prelude.{codes, ◌==◌, All}
 use Rattle.std.specs.List.{list_all}
 use Rattle.std.specs.Fmt.{decimal}
 use Rattle.std.specs.Option.{option_map, option_and_then}
 use Rattle.std.specs.Str.{bytes_eq}
-use Rattle.std.proofs.lemmas.Bool.{and_parts, and_from, false≢true, eqb-true}
+use Rattle.std.proofs.lemmas.Bool.{and_parts, and_from, eqb-true, cases_Bool}
 use Rattle.std.proofs.lemmas.Grind.{flat_map-append}
 use Rattle.std.proofs.lemmas.List.Elements.{All-push}
 use Rattle.std.proofs.lemmas.List.Folds.{list_all-append}
@@ -18,17 +18,13 @@ use Rattle.flow_model.specs.declared.history.FailEffect.{FailEffect}
 use Rattle.flow_model.specs.declared.history.FailEffect.TheVariants.{Switched, Kept}
 use Rattle.flow_record.specs.Lines.{is_digit, cut_at, pieces_of, plain_number}
 use Rattle.flow_record.specs.History.{step_text, entry_line, history_text, effect_of, took_of, failed_of, numbered_step, step_with, step_by, step_of, number_alone, caller_of, made_by, entry_by, entry_of, HistoryText, HasSmallNumbers, IsSmall, history, bad_line, with_entry, with_entry_line, history_from, history_of}
-use Rattle.flow_record.proofs.Numbers.{decimal_digits, number_there, number_back}
+use Rattle.flow_record.proofs.Numbers.{decimal_digits, number_there, by_test, number_back}
 use Rattle.flow_record.proofs.Pieces.{lacks, IsCut, cut_is, parts_are, uncut_lacks, cut_there, pieces_cut, pieces_whole, some_piece}
 
 -- ---- bytes that numbers lack
 
 digit_other : (byte b : ℕ) → is_digit byte ≡ false → is_digit b ≡ true → not (b == byte) ≡ true
-digit_other byte b other digit = step (b == byte) refl
-  where
-    step : (t : Bool) → (b == byte) ≡ t → not t ≡ true
-    step true e = let same = ap is_digit (eqb-true b byte e) in absurd (false≢true (sym other ∙ sym same ∙ digit))
-    step false e = refl
+digit_other byte b other digit = grind (arith, cases_Bool (b == byte), eqb-true b byte, other, digit)
 
 digits_lack : (byte : ℕ) (ds : List ℕ) → is_digit byte ≡ false → list_all is_digit ds ≡ true → lacks byte ds ≡ true
 digits_lack byte [] other all = refl
@@ -107,11 +103,7 @@ at_cut byte text read P whole cut = by_cut (cut_at byte text) (cut_is byte text)
 -- what is read by a word
 by_word : {A : Type 0} (word other : List ℕ) (o p : Option A) (P : A → Type 0) → (word ≡ other → IfSome o P) → IfSome p P →
     IfSome (if bytes_eq word other then o else p) P
-by_word word other o p P same else_read = step (bytes_eq word other) refl
-  where
-    step : (t : Bool) → bytes_eq word other ≡ t → IfSome (if t then o else p) P
-    step true e = same ((bytes_eq-Decides word other).0 e)
-    step false e = else_read
+by_word word other o p P same else_read = by_test (bytes_eq word other) o p P (λ e. same ((bytes_eq-Decides word other).0 e)) (λ _. else_read)
 
 -- what is read of two parts
 of_both : {A B C : Type 0} (a : Option A) (b : Option B) (make : A → B → C) (P : A → Type 0) (Q : B → Type 0) (R : C → Type 0) → IfSome a P → IfSome b Q →
@@ -142,15 +134,11 @@ took_back rest = at_cut 32 rest took_of (AreOf (codes "took " ++ rest)) tt (λ x
     let text : rest ≡ decimal claim ++ 32 ∷ decimal leaf = cc in
     (ap (λ (r : List ℕ). codes "took " ++ r) (text ∙ sym (append_assoc (decimal claim) (32 ∷ []) (decimal leaf))), (h.1, k.1))))
 
-failed_text : (claim : ℕ) (effect : FailEffect) → codes "failed " ++ (decimal claim ++ 32 ∷ effect_text effect) ≡ step_text (Failed claim effect)
-failed_text claim Switched = refl
-failed_text claim Kept = refl
-
 failed_back : (rest : List ℕ) → IfSome (failed_of (cut_at 32 rest)) (AreOf (codes "failed " ++ rest))
 failed_back rest = at_cut 32 rest failed_of (AreOf (codes "failed " ++ rest)) tt (λ x y is.
     of_both (plain_number x) (effect_of y) Failed (IsOf x) (λ effect. y ≡ effect_text effect) (AreOf (codes "failed " ++ rest)) (number_back x) (effect_back y) (λ claim effect h k.
     let text : rest ≡ decimal claim ++ 32 ∷ effect_text effect = cc in
-    (ap (λ (r : List ℕ). codes "failed " ++ r) text ∙ failed_text claim effect, h.1)))
+    (ap (λ (r : List ℕ). codes "failed " ++ r) text ∙ elim effect as (λ effect. codes "failed " ++ (decimal claim ++ 32 ∷ effect_text effect) ≡ step_text (Failed claim effect)) [ Switched ↦ refl | Kept ↦ refl ], h.1)))
 
 -- a word and a number
 numbered_back : (word rest : List ℕ) (n : ℕ) → IsOf rest n → IfSome (numbered_step word n) (AreOf (word ++ 32 ∷ rest))

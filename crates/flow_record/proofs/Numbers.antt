@@ -1,13 +1,14 @@
 -- A number read digit by digit, and in its one spelling.
-use Rattle.std.proofs.Common.{◌≡◌, ℕ, ◌+◌, ◌-◌, ◌*◌, ◌^◌, ◌≤◌, ◌<◌, Bool, true, false, ◌&&◌, ltb, leb, List, [], ◌∷◌, length, refl, sym, ◌∙◌, arith, le_refl, le_trans, Option, Some, None, IfSome, if◌then◌else◌, drop, get_or, lit<, ⊎_elim, rules}
+use Rattle.std.proofs.Common.{◌≡◌, ℕ, ◌+◌, ◌-◌, ◌*◌, ◌^◌, ◌≤◌, ◌<◌, Bool, true, false, ◌&&◌, ltb, leb, List, [], ◌∷◌, length, refl, sym, arith, le_refl, le_trans, Option, Some, None, IfSome, if◌then◌else◌, drop, get_or, lit<, ⊎_elim, rules}
 use Rattle.std.proofs.lemmas.List.{drop_more}
 use Rattle.std.specs.List.{list_all}
 use Rattle.std.specs.Option.{option_and_then}
-use Rattle.std.proofs.lemmas.Bool.{lt-ltb, le-ltb, le-leb, ltb-true, ltb-false, and_right, and_from}
+use Rattle.std.proofs.lemmas.Bool.{lt-ltb, le-leb, ltb-true}
 use Rattle.std.specs.Fmt.{decimal}
 use Rattle.std.proofs.lemmas.Fmt.{digits_decimal, digits_value-decimal, decimal_nonempty, length-decimal-le, decimal_digit, first_decimal, decimal-digits_value}
 use Rattle.std.proofs.lemmas.Str.Parse.{IsNumeralModel, numerals_by_fold}
-use Rattle.std.proofs.lemmas.Bool.{and_parts, eq-eqb, ne_eqb, cases_lt}
+use Rattle.std.proofs.lemmas.Bool.{and_parts, eq-eqb, ne_eqb, cases_lt, cases_Bool}
+use Rattle.std.proofs.lemmas.Bool.Decides.{nat_tests}
 use Rattle.flow_record.specs.Lines.{is_digit, value_after, is_numeral, number_of, has_leading_zero, plain_number, value_with}
 
 -- the digits after others of that value, as far as they are digits and the value stays below 2 ^ 32
@@ -23,31 +24,16 @@ grows value (b ∷ bs) = le_trans (omega arith) (grows (value * 10 + (b - 48)) b
 abbrev whole : ℕ → List ℕ → Option ℕ
 whole value bs = if list_all is_digit bs && ltb (value_after value bs) (2 ^ 32) then Some (value_after value bs) else None
 
-read-cons : (t u : Bool) (value b : ℕ) (bs : List ℕ) → is_digit b ≡ t → ltb (value * 10 + (b - 48)) (2 ^ 32) ≡ u →
-    (value * 10 + (b - 48) < 2 ^ 32 → read_from (value * 10 + (b - 48)) bs ≡ whole (value * 10 + (b - 48)) bs) →
-    read_from value (b ∷ bs) ≡ whole value (b ∷ bs)
-read-cons true true value b bs e f h = rw (e, f) (h (ltb-true _ _ f))
-read-cons true false value b bs e f h =
-    let above : ltb (value_after (value * 10 + (b - 48)) bs) (2 ^ 32) ≡ false =
-    le-ltb _ _ (le_trans (ltb-false _ _ f) (grows (value * 10 + (b - 48)) bs)) in
-    rw (e, f, above, and_right (list_all is_digit bs) false refl) refl
-read-cons false u value b bs e f h = rw e refl
-
 read : (value : ℕ) (bs : List ℕ) → value < 2 ^ 32 → read_from value bs ≡ whole value bs
 read value [] small = rw (lt-ltb value (2 ^ 32) small) refl
 read value (b ∷ bs) small =
-    read-cons (is_digit b) (ltb (value * 10 + (b - 48)) (2 ^ 32)) value b bs refl refl (read (value * 10 + (b - 48)) bs)
-
-numeral-cases : (t : Bool) (word : List ℕ) → list_all is_digit word ≡ t → (ltb 0 (length word) && leb (length word) 10) ≡ true →
-    number_of word ≡ whole 0 word
-numeral-cases true word e f = rw (e, f) refl
-numeral-cases false word e f = rw e refl
+    let next = value * 10 + (b - 48) in
+    grind (arith, nat_tests, cases_Bool (is_digit b), cases_Bool (ltb next (2 ^ 32)), grows next bs, read next bs, cases_Bool (list_all is_digit bs))
 
 -- a word of one to ten bytes read digit by digit
 pub read_number : (word : List ℕ) → 0 < length word → length word ≤ 10 → number_of word ≡ read_from 0 word
 read_number word some few =
-    numeral-cases (list_all is_digit word) word refl (and_from _ _ (lt-ltb _ _ some) (le-leb _ _ few))
-    ∙ sym (read 0 word (lit< tt))
+    grind (arith, cases_Bool (list_all is_digit word), read 0 word (lit< tt), lt-ltb 0 (length word) some, le-leb (length word) 10 few)
 
 -- one digit more
 pub read_more : (value : ℕ) (word : List ℕ) (i : ℕ) → i < length word →
@@ -86,19 +72,19 @@ leads_alone [] e some first = absurd (omega arith)
 leads_alone (b ∷ []) e some first = refl
 leads_alone (b ∷ c ∷ bs) e some first = let yes = eq-eqb b 48 first in absurd (cc)
 
+-- what is read where a test holds, and where it does not
+pub by_test : {A : Type 0} (t : Bool) (o p : Option A) (P : A → Type 0) → (t ≡ true → IfSome o P) → (t ≡ false → IfSome p P) → IfSome (if t then o else p) P
+by_test true o p P one other = one refl
+by_test false o p P one other = other refl
+
 -- and what is read is its digits
 pub number_back : (word : List ℕ) → IfSome (plain_number word) (λ n. (word ≡ decimal n) × (n < 2 ^ 32))
-number_back word = step (has_leading_zero word) (is_numeral word) (ltb (value_after 0 word) (2 ^ 32)) refl refl refl
-  where
-    spelled : has_leading_zero word ≡ false → is_numeral word ≡ true → value_after 0 word < 2 ^ 32 → word ≡ decimal (value_after 0 word)
-    spelled one numeral small =
-        let parts = and_parts (list_all is_digit word) (ltb 0 (length word) && leb (length word) 10) numeral in
-        let some = ltb-true 0 (length word) (and_parts (ltb 0 (length word)) (leb (length word) 10) parts.1).0 in
-        sym (decimal-digits_value digits_are word parts.0 some (leads_alone word one some) (omega arith))
-
-    step : (t u v : Bool) → has_leading_zero word ≡ t → is_numeral word ≡ u → ltb (value_after 0 word) (2 ^ 32) ≡ v →
-        IfSome (if t then None else (if u && v then Some (value_after 0 word) else None)) (λ n. (word ≡ decimal n) × (n < 2 ^ 32))
-    step true u v e f g = tt
-    step false false v e f g = tt
-    step false true false e f g = tt
-    step false true true e f g = let small = ltb-true (value_after 0 word) (2 ^ 32) g in (spelled e f small, small)
+number_back word =
+    let value = value_after 0 word in
+    let P : ℕ → Type 0 = λ n. (word ≡ decimal n) × (n < 2 ^ 32) in
+    by_test (has_leading_zero word) None _ P (λ e. tt) (λ e. by_test (is_numeral word && ltb value (2 ^ 32)) (Some value) None P (λ f.
+    let read = and_parts (is_numeral word) (ltb value (2 ^ 32)) f in
+    let parts = and_parts (list_all is_digit word) (ltb 0 (length word) && leb (length word) 10) read.0 in
+    let some = ltb-true 0 (length word) (and_parts (ltb 0 (length word)) (leb (length word) 10) parts.1).0 in
+    let small : value < 2 ^ 32 = ltb-true value (2 ^ 32) read.1 in
+    (sym (decimal-digits_value digits_are word parts.0 some (leads_alone word e some) (omega arith)), small)) (λ _. tt))

@@ -1,9 +1,9 @@
 -- Texts cut at a byte.
-use Rattle.std.proofs.Common.{◌≡◌, ℕ, suc, ltb, Bool, true, false, not, List, [], ◌∷◌, ◌++◌, length, take, drop, refl, ◌∙◌, ap, subst, one-add, eqb-true, eq-eqb, if◌then◌else◌, arith, Option, Some, None}
+use Rattle.std.proofs.Common.{◌≡◌, ℕ, suc, Bool, true, false, not, List, [], ◌∷◌, ◌++◌, length, take, drop, refl, ◌∙◌, ap, subst, one-add, eqb-true, eq-eqb, if◌then◌else◌, arith, Option, Some, None, inl, inr}
 use Rattle.std.specs.Prelude.{◌==◌}
 use Rattle.std.specs.List.{position, position_or_len, list_all}
 use Rattle.std.specs.Option.{option_map}
-use Rattle.std.proofs.lemmas.Bool.{and_parts, and_from, not-true, ltb-true, ltb-false, lt-ltb, le-ltb}
+use Rattle.std.proofs.lemmas.Bool.{and_parts, and_from, not-true, lt-ltb, le-ltb, cases_Bool, cases_lt}
 use Rattle.flow_record.specs.Lines.{with_byte, cut_at, pieces_of}
 
 -- no such byte stands in the text
@@ -41,18 +41,13 @@ uncut_lacks byte text e = subst (IsCut byte text) e (cut_is byte text)
 -- it is cut at the first place of the byte
 pub cut_at_place : (byte : ℕ) (text : List ℕ) → cut_at byte text ≡ option_map (λ n. (take n text, drop (suc n) text)) (position (λ b. b == byte) text)
 cut_at_place byte [] = refl
-cut_at_place byte (b ∷ bs) = step (b == byte) (ltb (position_or_len (λ c. c == byte) bs) (length bs)) refl refl (cut_at_place byte bs)
-  where
-    step : (t u : Bool) → (b == byte) ≡ t → ltb (position_or_len (λ c. c == byte) bs) (length bs) ≡ u →
-        cut_at byte bs ≡ option_map (λ n. (take n bs, drop (suc n) bs)) (position (λ c. c == byte) bs) →
-        cut_at byte (b ∷ bs) ≡ option_map (λ n. (take n (b ∷ bs), drop (suc n) (b ∷ bs))) (position (λ c. c == byte) (b ∷ bs))
-    step true u e f h = rw (e, lt-ltb 0 (suc (length bs)) (omega arith)) refl
-    step false true e f h =
-        let within = ltb-true _ _ f in
-        rw (e, one-add, h, f, lt-ltb (suc (position_or_len (λ c. c == byte) bs)) (suc (length bs)) (omega arith)) refl
-    step false false e f h =
-        let past = ltb-false _ _ f in
-        rw (e, one-add, h, f, le-ltb (suc (position_or_len (λ c. c == byte) bs)) (suc (length bs)) (omega arith)) refl
+cut_at_place byte (b ∷ bs) = elim (cases_Bool (b == byte)) [
+  | inl e ↦ rw (e, lt-ltb 0 (suc (length bs)) (omega arith)) refl
+  | inr e ↦ elim (cases_lt (position_or_len (λ c. c == byte) bs) (length bs)) [
+    | inl l ↦ rw (e, one-add, cut_at_place byte bs, lt-ltb _ _ l, lt-ltb (suc (position_or_len (λ c. c == byte) bs)) (suc (length bs)) (omega arith)) refl
+    | inr l ↦ rw (e, one-add, cut_at_place byte bs, le-ltb _ _ l, le-ltb (suc (position_or_len (λ c. c == byte) bs)) (suc (length bs)) (omega arith)) refl
+  ]
+]
 
 -- parts that are joined are cut again
 pub cut_there : (byte : ℕ) (x y : List ℕ) → lacks byte x ≡ true → cut_at byte (x ++ byte ∷ y) ≡ Some (x, y)

@@ -1,7 +1,7 @@
 -- The least bans that options hold.
-use Rattle.std.proofs.Common.{◌≡◌, ℕ, ◌<◌, ◌≤◌, nat_le, min, not, is_some, Bool, true, false, cond, ◌↔◌, IsTrue, List, [], ◌∷◌, ◌++◌, Option, None, Some, refl, sym, subst, inl, inr, ⊎_elim, arith}
+use Rattle.std.proofs.Common.{◌≡◌, ℕ, ◌<◌, ◌≤◌, nat_le, min, not, is_some, Bool, true, false, ◌↔◌, IsTrue, List, [], ◌∷◌, ◌++◌, Option, None, Some, refl, inl, inr, ⊎_elim, arith}
 use Rattle.std.specs.List.{filter}
-use Rattle.std.proofs.lemmas.Bool.{cases_lt, le-leb, leb-true}
+use Rattle.std.proofs.lemmas.Bool.{cases_Bool, cases_lt, le-leb, leb-true}
 use Rattle.flow_model.specs.Lists.{◌∈◌, Each}
 use Rattle.flow_model.specs.Process.{leaves}
 use Rattle.flow_model.specs.Resolution.{ChoiceOption}
@@ -30,31 +30,21 @@ ban_first o bans i leaf here is = (
 
 pub ban_lesser : (o : ChoiceOption) (bans : List (ℕ × ℕ)) (j i leaf : ℕ) → leaf ∈ leaves o.resolution → IsLeastBan o bans (Some j) →
     IsLeastBan o (bans ++ (i, leaf) ∷ []) (Some (min j i))
-ban_lesser o bans j i leaf here is = (
+ban_lesser o bans j i leaf here (least, (n, there, held)) = (
   each-append (λ ban. ban.1 ∈ leaves o.resolution → min j i ≤ ban.0) bans ((i, leaf) ∷ [])
-      (each_to (λ (ban : ℕ × ℕ). ban.1 ∈ leaves o.resolution → j ≤ ban.0) (λ (ban : ℕ × ℕ). ban.1 ∈ leaves o.resolution → min j i ≤ ban.0) bans (λ ban least h. let l = least h in omega (arith, l)) is.0)
+      (each_to (λ (ban : ℕ × ℕ). ban.1 ∈ leaves o.resolution → j ≤ ban.0) (λ (ban : ℕ × ℕ). ban.1 ∈ leaves o.resolution → min j i ≤ ban.0) bans (λ ban least h. let l = least h in omega (arith, l)) least)
       ((λ h. let b : min j i ≤ i = omega arith in b), tt),
-  ⊎_elim
-      (λ less. let same : j ≡ min j i = omega (arith, less) in
-      subst (λ (m : ℕ). (n : ℕ) × ((m, n) ∈ (bans ++ (i, leaf) ∷ [])) × (n ∈ leaves o.resolution)) same
-      (is.1.0, mem_append_left (j, is.1.0) bans ((i, leaf) ∷ []) is.1.1, is.1.2))
-      (λ more. let same : i ≡ min j i = omega (arith, more) in
-      subst (λ (m : ℕ). (n : ℕ) × ((m, n) ∈ (bans ++ (i, leaf) ∷ [])) × (n ∈ leaves o.resolution)) same
-      (leaf, mem_append_right (i, leaf) bans ((i, leaf) ∷ []) (inl refl), here))
-      (cases_lt j i),
+  elim (cases_lt j i) [
+    | inl less ↦ (let same : min j i ≡ j = omega arith in rw same (n, mem_append_left (j, n) bans ((i, leaf) ∷ []) there, held))
+    | inr more ↦ (let same : min j i ≡ i = omega arith in rw same (leaf, mem_append_right (i, leaf) bans ((i, leaf) ∷ []) (inl refl), here))
+  ],
 )
 
 -- ---- bans that are lifted
 
 member_filter : (p : ℕ × ℕ → Bool) (bans : List (ℕ × ℕ)) (ban : ℕ × ℕ) → p ban ≡ true → ban ∈ bans → ban ∈ filter p bans
 member_filter p [] ban stays member = member
-member_filter p (b ∷ bans) ban stays (inl same) = subst (λ (l : List (ℕ × ℕ)). ban ∈ l)
-    (λ k. cond (subst (λ (x : ℕ × ℕ). true ≡ p x) same (sym stays) k) (b ∷ filter p bans) (filter p bans)) (inl same)
-member_filter p (b ∷ bans) ban stays (inr member) = step (p b) (member_filter p bans ban stays member)
-  where
-    step : (t : Bool) → ban ∈ filter p bans → ban ∈ cond t (b ∷ filter p bans) (filter p bans)
-    step true h = inr h
-    step false h = h
+member_filter p (b ∷ bans) ban stays member = grind (arith, cases_Bool (p b), stays, member, member_filter p bans ban stays)
 
 abbrev pub up_to : ℕ → ℕ × ℕ → Bool
 up_to index ban = nat_le ban.0 index

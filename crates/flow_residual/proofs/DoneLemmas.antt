@@ -15,18 +15,6 @@ abbrev pub AreDone : Progress → List ℕ → Type 0
 AreDone done list = (n : ℕ) → IsDone done n ↔ (n ∈ list)
 
 -- one leaf more is done
-pub done_more : (old new : Progress) (xs : List ℕ) (i : ℕ) → i < length xs → ((n : ℕ) → is_done new n ≡ (n == get_or xs i 0 || is_done old n)) →
-    AreDone old (take i xs) → AreDone new (take (i + 1) xs)
-done_more old new xs i within noted same n =
-    let leaf = get_or xs i 0 in
-    let more : take (i + 1) xs ≡ take i xs ++ leaf ∷ [] = take_more xs i 0 within in (
-      λ done. subst (λ (l : List ℕ). n ∈ l) (sym more)
-          (⊎_elim (λ before. mem_append_left n (take i xs) (leaf ∷ []) ((same n).0 before)) (λ last. mem_append_right n (take i xs) (leaf ∷ []) last)
-          (noted_to old new leaf noted n done)),
-      λ member. noted_from old new leaf noted n
-          (⊎_elim (λ before. inl ((same n).1 before)) (λ last. inr last) (mem-append n (take i xs) (leaf ∷ []) (subst (λ (l : List ℕ). n ∈ l) more member))),
-    )
-
 pub done_push : (old new : Progress) (journal more : List ℕ) (leaf : ℕ) → ((n : ℕ) → is_done new n ≡ (n == leaf || is_done old n)) → more ≡ journal ++ leaf ∷ [] →
     AreDone old journal → AreDone new more
 done_push old new journal more leaf noted is same n = (
@@ -35,6 +23,10 @@ done_push old new journal more leaf noted is same n = (
   λ member. noted_from old new leaf noted n
       (⊎_elim (λ before. inl ((same n).1 before)) (λ last. inr last) (mem-append n journal (leaf ∷ []) (subst (λ (l : List ℕ). n ∈ l) is member))),
 )
+
+pub done_more : (old new : Progress) (xs : List ℕ) (i : ℕ) → i < length xs → ((n : ℕ) → is_done new n ≡ (n == get_or xs i 0 || is_done old n)) →
+    AreDone old (take i xs) → AreDone new (take (i + 1) xs)
+done_more old new xs i within noted same = done_push old new (take i xs) (take (i + 1) xs) (get_or xs i 0) noted (take_more xs i 0 within) same
 
 -- whether a leaf was found in a rising list
 pub found_there : (xs : List ℕ) (x : ℕ) (r : Result ℕ ℕ) → IsBinarySearchResult (λ y. nat_cmp y x) xs r → IsStrictlyIncreasing xs → IsTrue (is_ok r) ↔ (x ∈ xs)

@@ -18,9 +18,6 @@ take_twice (x ∷ xs) (suc k) (suc m) h = ap (λ (t : List ℕ). x ∷ t) (take_
 
 -- ---- the front of an option
 
-pub no_front : (o : ChoiceOption) → IsFront o [] 0
-no_front o = record { within = omega arith; begun = tt; longest = λ m h b. h }
-
 -- where a front is a ready run, so is each shorter one
 pub begun_before : (o : ChoiceOption) (journal : List ℕ) (k m : ℕ) → k ≤ length journal → m ≤ k → IsBegun o journal k → IsBegun o journal m
 begun_before o journal k m within below begun =

@@ -1,7 +1,8 @@
 -- What is kept when a leaf is done or banned, and when a run goes back.
-use Rattle.std.proofs.Common.{◌≡◌, ℕ, zero, suc, ◌<◌, ◌≤◌, nat_le, Bool, true, false, cond, List, [], ◌∷◌, ◌++◌, length, take, drop, get_or, refl, sym, ap, ◌∙◌, subst, subst₂, inl, inr, ⊎_elim, arith, length-append}
+use Rattle.std.proofs.Common.{◌≡◌, ℕ, zero, suc, ◌<◌, ◌≤◌, nat_le, Bool, List, [], ◌∷◌, ◌++◌, length, take, drop, get_or, refl, sym, ap, ◌∙◌, subst, subst₂, inl, inr, ⊎_elim, arith, length-append}
 use Rattle.std.specs.List.{filter}
 use Rattle.std.specs.Vec.{with_items}
+use Rattle.std.proofs.lemmas.Bool.{cases_Bool}
 use Rattle.std.proofs.lemmas.List.{map-append, take-append-drop, with_items_is}
 use Rattle.flow_model.specs.declared.limits.TheConstants.{MOST_LEAVES}
 use Rattle.flow_model.specs.Lists.{◌∈◌, Each, AreDistinct}
@@ -97,20 +98,12 @@ module _ (r : Remaining) (k : IsKept r) (leaf : ℕ) (next : MayComeNext r leaf)
 
 left_over : (p : ℕ × ℕ → Bool) (bans : List (ℕ × ℕ)) (n : ℕ) → n ∈ banned (filter p bans) → n ∈ banned bans
 left_over p [] n m = m
-left_over p (ban ∷ bans) n m = step (p ban) (left_over p bans n) m
-  where
-    step : (b : Bool) → (n ∈ banned (filter p bans) → n ∈ banned bans) → n ∈ banned (cond b (ban ∷ filter p bans) (filter p bans)) → n ∈ banned (ban ∷ bans)
-    step true rest (inl e) = inl e
-    step true rest (inr h) = inr (rest h)
-    step false rest h = inr (rest h)
+left_over p (ban ∷ bans) n m = grind (arith, cases_Bool (p ban), m, left_over p bans n)
 
 distinct_left_over : (p : ℕ × ℕ → Bool) (bans : List (ℕ × ℕ)) → AreDistinct (banned bans) → AreDistinct (banned (filter p bans))
 distinct_left_over p [] d = tt
-distinct_left_over p (ban ∷ bans) d = step (p ban) (distinct_left_over p bans d.1)
-  where
-    step : (b : Bool) → AreDistinct (banned (filter p bans)) → AreDistinct (banned (cond b (ban ∷ filter p bans) (filter p bans)))
-    step true rest = ((λ m. d.0 (left_over p bans ban.1 m)), rest)
-    step false rest = rest
+distinct_left_over p (ban ∷ bans) d =
+    grind (arith, cases_Bool (p ban), d, left_over p bans ban.1, distinct_left_over p bans d.1)
 
 module _ (r : Remaining) (k : IsKept r) (i : ℕ) (within : i < length r.journal) where
   -- the leaf that is taken back
@@ -157,13 +150,7 @@ pairs_of_more bans ban = map-append (λ (b : Ban). (b.index, b.leaf)) bans (ban 
 
 pub pairs_of_left : (i : ℕ) (bans : List Ban) → pairs_of_bans (filter (λ (ban : Ban). nat_le ban.index i) bans) ≡ filter (λ ban. nat_le ban.0 i) (pairs_of_bans bans)
 pairs_of_left i [] = refl
-pairs_of_left i (ban ∷ bans) = step (nat_le ban.index i) (pairs_of_left i bans)
-  where
-    step : (b : Bool) → pairs_of_bans (filter (λ (x : Ban). nat_le x.index i) bans) ≡ filter (λ x. nat_le x.0 i) (pairs_of_bans bans) →
-        pairs_of_bans (cond b (ban ∷ filter (λ (x : Ban). nat_le x.index i) bans) (filter (λ (x : Ban). nat_le x.index i) bans))
-        ≡ cond b ((ban.index, ban.leaf) ∷ filter (λ x. nat_le x.0 i) (pairs_of_bans bans)) (filter (λ x. nat_le x.0 i) (pairs_of_bans bans))
-    step true e = ap (λ (l : List (ℕ × ℕ)). (ban.index, ban.leaf) ∷ l) e
-    step false e = e
+pairs_of_left i (ban ∷ bans) = grind (arith, cases_Bool (nat_le ban.index i), pairs_of_left i bans)
 
 pub length-pairs : (bans : List Ban) → length (banned (pairs_of_bans bans)) ≡ length bans
 length-pairs [] = refl

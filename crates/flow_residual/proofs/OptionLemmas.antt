@@ -1,7 +1,7 @@
 -- Options that are looked through one by one, and what stands beside them.
 use Rattle.std.proofs.Common.{◌≡◌, ℕ, zero, suc, ◌+◌, ◌<◌, ◌≤◌, Bool, true, false, ◌↔◌, IsTrue, List, [], ◌∷◌, length, get_or, set, replicate, Some, slice_get, refl, sym, ap, ◌∙◌, subst, subst₂, inl, inr, ◌⊎◌, ⊎_elim, below_more, arith, get_or-set_same, get_or-set_other}
 use Rattle.std.proofs.Math.ListN.{length-set}
-use Rattle.std.proofs.lemmas.List.{get_or-replicate, length-replicate}
+use Rattle.std.proofs.lemmas.List.{get_or-replicate, get_or_default, length-replicate}
 use Rattle.std.proofs.lemmas.Bool.{cases_lt}
 use Rattle.std.proofs.lemmas.Option.{slice_get_within}
 use Rattle.flow_model.specs.declared.limits.TheConstants.{MOST_LEAVES}
@@ -130,6 +130,14 @@ module _ {A : Type 0} (R S : ChoiceOption → A → Type 0) (os : List ChoiceOpt
     one_each = are.one_each;
     each = λ k o x at. let within = slice_get_within os k o at in are.new k (omega (arith, are.one_each)) o x at;
   }
+
+-- one has changed by what its plan was asked
+pub turned_by : {A : Type 0} (R S : ChoiceOption → A → Type 0) (plans : List Sampled) (i : ℕ) (v d : A) (xs : List A) (s : Sampled) (p : Planned) → i < length xs → s ≡ get_or plans i s → p ≡ s.plan →
+    AreTurned i R S (options_of plans) xs → (R (option_of p) (get_or xs i d) → S (option_of p) v) → AreTurned (i + 1) R S (options_of plans) (set xs i v)
+turned_by R S plans i v d xs s p within is same are makes = turned_set R S (options_of plans) i v xs within are (λ o at.
+    let here : option_of p ≡ o = same_plan plans i s p o is same at in
+    let first : i ≤ i = omega arith in
+    subst (λ q. S q v) here (makes (subst (λ q. R q (get_or xs i d)) (sym here) (are.old i first o (get_or xs i d) at (get_or_default xs i d (get_or xs i d) within)))))
 
 pub small_by_places : (plans : List Sampled) → ((k : ℕ) (s : Sampled) → slice_get plans k ≡ Some s → HasSmallLeaves (option_of s.plan)) → Each HasSmallLeaves (options_of plans)
 small_by_places [] here = tt

@@ -197,19 +197,11 @@ module _ (p : Planned) (done : Progress) (journal : List ℕ) (same : AreDone do
   pub follows_first : (first : ℕ) (claims : List ℕ) (o : ChoiceOption) → option_of p ≡ o →
       (MayComeNextIn p (IsDone done) first × MayFollowInEveryOrder p (DoneOr (IsDone done) (first ∷ [])) claims) ↔ FollowsFirst journal first claims o
   follows_first first claims o is =
+      let to = λ (n : ℕ) (d : DoneOr (IsDone done) (first ∷ []) n). ⊎_elim (λ d. inl (to_journal n d)) inr d in
+      let from = λ (n : ℕ) (d : DoneOr (λ x. x ∈ journal) (first ∷ []) n). ⊎_elim (λ d. inl (from_journal n d)) inr d in
       subst (λ (q : ChoiceOption). (MayComeNextIn p (IsDone done) first × MayFollowInEveryOrder p (DoneOr (IsDone done) (first ∷ [])) claims) ↔ FollowsFirst journal first claims q) is (
-        λ both. (
-          (comes_next first).0 both.0,
-          λ order is.
-              same_run p.process (pairs_of p.tokens) (DoneOr (IsDone done) (first ∷ [])) (DoneOr (λ x. x ∈ journal) (first ∷ [])) order
-              (λ n. ⊎_elim (λ d. inl (to_journal n d)) inr) (λ n. ⊎_elim (λ d. inl (from_journal n d)) inr) (both.1 order is),
-        ),
-        λ both. (
-          (comes_next first).1 both.0,
-          λ order is.
-              same_run p.process (pairs_of p.tokens) (DoneOr (λ x. x ∈ journal) (first ∷ [])) (DoneOr (IsDone done) (first ∷ [])) order
-              (λ n. ⊎_elim (λ d. inl (from_journal n d)) inr) (λ n. ⊎_elim (λ d. inl (to_journal n d)) inr) (both.1 order is),
-        ),
+        λ both. ((comes_next first).0 both.0, λ order is. same_run p.process (pairs_of p.tokens) _ _ order to from (both.1 order is)),
+        λ both. ((comes_next first).1 both.0, λ order is. same_run p.process (pairs_of p.tokens) _ _ order from to (both.1 order is)),
       )
 
 -- ---- answers
@@ -230,18 +222,7 @@ first_comes_next r first list (o, m, (live, (ready, all))) = (o, live, ready)
 pub comes_alone : (r : Remaining) (leaf : ℕ) (list : List ℕ) → list ≡ [] → SomeOption (TakesFirst r leaf list) r.options ↔ MayComeNext r leaf
 comes_alone r leaf list none = (
   λ (o, m, (live, (ready, all))). (o, live, ready),
-  λ (o, live, ready). (
-    o,
-    live.among,
-    (
-      live,
-      (
-        ready,
-        λ order is.
-            subst (IsReadyRunAfter o.resolution o.order (DoneOr (λ n. n ∈ r.journal) (leaf ∷ []))) (sym (order_of_none order (subst (IsOrderOf order) none is))) tt,
-      ),
-    ),
-  ),
+  λ (o, live, ready). (o, live.among, (live, (ready, λ order is. rw (order_of_none order (rw none at is)) tt))),
 )
 
 -- ---- what is asked of a live option

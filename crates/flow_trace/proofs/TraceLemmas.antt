@@ -74,9 +74,6 @@ possible_none w (t, good) = ((t, good, (t, refl)), tt)
 pub possible_front : (w : Schema) (front rest : List ℕ) → IsPossible w (front ++ rest) → IsPossible w front
 possible_front w front rest ((t, good, begins), runs) = ((t, good, begins_front t front rest begins), runs_front w.labels (start_of w) front rest runs)
 
-pub possible_good : (w : Schema) (t : List ℕ) → IsGood w t → Runs w.labels (start_of w) t → IsPossible w t
-possible_good w t good runs = ((t, good, ([], sym (append-nil t))), runs)
-
 -- the leaves of what begins a good trace have labels, and are no more than these
 module _ (w : Schema) (f : IsWellFormed w) where
   within_good : (t : List ℕ) → IsGood w t → (n : ℕ) → n ∈ t → n < length w.labels

@@ -1,5 +1,5 @@
 -- A workflow with the negation of a property as one constraint more.
-use Rattle.std.proofs.Common.{◌≡◌, ℕ, List, [], ◌∷◌, ◌++◌, Vec, Box, Global, sym, ap, ◌∙◌, subst}
+use Rattle.std.proofs.Common.{◌≡◌, ℕ, List, [], ◌∷◌, ◌++◌, Vec, Box, Global, ap, ◌∙◌, subst}
 use Rattle.std.proofs.lemmas.List.{map-append}
 use Rattle.flow_model.specs.Facts.{events_of}
 use Rattle.flow_model.specs.Constraint.{Constraint, Not, Meets}

@@ -1,10 +1,7 @@
-use Rattle.std.proofs.Common.{◌≤◌, ◌<◌, length, None, get_or, sym, subst, arith}
-use Rattle.std.proofs.lemmas.List.{get_or_default}
-use Rattle.flow_residual.specs.declared.track.Track.{Track}
-use Rattle.flow_model.specs.Resolution.{ChoiceOption}
+use Rattle.std.proofs.Common.{◌≤◌, ◌<◌, length, None, arith}
 use Rattle.flow_excise.specs.Compilation.{options_of}
 use Rattle.flow_residual.specs.Tracks.{IsTrack, journal_after, bans_after}
-use Rattle.flow_residual.proofs.OptionLemmas.{fits_at, same_plan, turned_none, turned_set, turned_all}
+use Rattle.flow_residual.proofs.OptionLemmas.{fits_at, turned_none, turned_by, turned_all}
 use Rattle.flow_residual.proofs.track.follow.Goals as goal
 
 pub loop-place-init : goal.loop-place-init
@@ -17,16 +14,10 @@ after-requires-clause-fits c =
 
 pub loop-place-preserved : goal.loop-place-preserved
 loop-place-preserved c bans are =
-    let i = c.loop-place.place in
     let journal = c.args.journal.now in
-    let before = c.loop-place.invariant bans are in
-    let old : Track = get_or c.loop-place.tracks i (record { front = 0; banned = None }) in
-    let within : i < length c.loop-place.tracks = omega (arith, c.loop-place-test.true, c.loop-place.auto.tracks) in
-    turned_set (IsTrack journal bans) (IsTrack (journal_after c.args.change journal) (bans_after c.args.change bans)) (options_of c.args.plans.now) i c.after.result c.loop-place.tracks within before (λ o at.
-    let same = same_plan c.args.plans.now i c.index-plans-place.result c.plan.result.now o c.index-plans-place.is c.plan.ensures at in
-    subst (λ (q : ChoiceOption). IsTrack (journal_after c.args.change journal) (bans_after c.args.change bans) q c.after.result) same
-    (c.after.ensures bans (subst (λ (q : ChoiceOption). IsTrack journal bans q old) (sym same)
-    (before.old i (let b : i ≤ i = omega arith in b) o old at (get_or_default c.loop-place.tracks i (record { front = 0; banned = None }) old within)))))
+    let within : c.loop-place.place < length c.loop-place.tracks = omega (arith, c.loop-place-test.true, c.loop-place.auto.tracks) in
+    turned_by (IsTrack journal bans) (IsTrack (journal_after c.args.change journal) (bans_after c.args.change bans)) c.args.plans.now c.loop-place.place c.after.result
+    (record { front = 0; banned = None }) c.loop-place.tracks c.index-plans-place.result c.plan.result.now within c.index-plans-place.is c.plan.ensures (c.loop-place.invariant bans are) (c.after.ensures bans)
 
 pub returns : goal.returns
 returns c bans are =

@@ -2,11 +2,10 @@ use Rattle.std.proofs.Common.{◌≤◌, ◌<◌, None, length, get_or, sym, sub
 use Rattle.std.proofs.lemmas.List.{get_or_default}
 use Rattle.flow_plan.specs.Planned.{Planned}
 use Rattle.flow_residual.specs.declared.track.Track.{Track}
-use Rattle.flow_model.specs.Resolution.{ChoiceOption}
 use Rattle.flow_excise.specs.Compilation.{options_of}
 use Rattle.flow_sample.specs.Plans.{option_of}
 use Rattle.flow_residual.specs.Tracks.{IsFront, IsNextRow}
-use Rattle.flow_residual.proofs.OptionLemmas.{fits_at, plan_at, same_plan, length-options, turned_none, turned_set, turned_all}
+use Rattle.flow_residual.proofs.OptionLemmas.{fits_at, plan_at, length-options, turned_none, turned_by, turned_all}
 use Rattle.flow_residual.proofs.track.look.Goals as goal
 
 pub loop-place-init : goal.loop-place-init
@@ -31,11 +30,9 @@ looked-requires-clause-front c =
 
 pub loop-place-preserved : goal.loop-place-preserved
 loop-place-preserved c =
-    let i = c.loop-place.place in
-    let within : i < length c.loop-place.rows = omega (arith, c.loop-place-test.true, c.loop-place.auto.rows) in
-    turned_set (λ o row. Unit {0}) (IsNextRow c.args.journal.now) (options_of c.args.plans.now) i c.looked.result c.loop-place.rows within c.loop-place.invariant (λ o at.
-    subst (λ (q : ChoiceOption). IsNextRow c.args.journal.now q c.looked.result)
-    (same_plan c.args.plans.now i c.index-plans-place.result c.plan.result.now o c.index-plans-place.is c.plan.ensures at) c.looked.ensures)
+    let within : c.loop-place.place < length c.loop-place.rows = omega (arith, c.loop-place-test.true, c.loop-place.auto.rows) in
+    turned_by (λ o row. Unit {0}) (IsNextRow c.args.journal.now) c.args.plans.now c.loop-place.place c.looked.result c.looked.result c.loop-place.rows c.index-plans-place.result c.plan.result.now
+    within c.index-plans-place.is c.plan.ensures c.loop-place.invariant (λ _. c.looked.ensures)
 
 pub returns : goal.returns
 returns c =

@@ -1,9 +1,7 @@
-use Rattle.std.proofs.Common.{◌<◌, ◌≤◌, [], ◌∷◌, ◌++◌, false, ◌↔◌, IsTrue, length, get_or, arith}
-use Rattle.std.proofs.lemmas.List.{get_or_default}
-use Rattle.flow_model.specs.Lists.{◌∈◌}
-use Rattle.flow_model.specs.Ready.{IsReady}
+use Rattle.std.proofs.Common.{◌<◌, ◌≤◌, [], ◌∷◌, ◌++◌, false, length, get_or, arith}
 use Rattle.flow_excise.specs.Compilation.{options_of}
-use Rattle.flow_residual.proofs.OptionLemmas.{same_plan, fits_at, turned_none, turned_set, turned_all}
+use Rattle.flow_sample.specs.Plans.{option_of}
+use Rattle.flow_residual.proofs.OptionLemmas.{fits_at, turned_none, turned_by, turned_all}
 use Rattle.flow_residual.proofs.PossibleLemmas.{next_of_option}
 use Rattle.flow_trace.specs.Live.{IsLive}
 use Rattle.flow_trace.proofs.LiveLemmas.{follows_next}
@@ -20,19 +18,15 @@ stays_live-requires c =
 pub loop-place-preserved : goal.loop-place-preserved
 loop-place-preserved c list same are =
     let leaf = c.args.leaf in
-    let i = c.loop-place.place in
     let live = c.loop-place.live in
-    let before = c.loop-place.invariant list same are in
-    let within : i < length live = omega (arith, c.loop-place-test.true, c.loop-place.auto.live) in
-    turned_set (IsLive list) (IsLive (list ++ leaf ∷ [])) (options_of c.args.plans.now) i c.stays_live.result live within before (λ o at.
-    let is = same_plan c.args.plans.now i c.index-plans-place.result c.plan.result.now o c.index-plans-place.is c.plan.ensures at in
-    let next = next_of_option c.plan.result.now c.args.done.now list same o is leaf in
-    let now : IsTrue c.stays_live.result ↔ (IsTrue (get_or live i false) × IsReady o.resolution o.order (λ n. n ∈ list) leaf) = (
+    let plan = c.plan.result.now in
+    let within : c.loop-place.place < length live = omega (arith, c.loop-place-test.true, c.loop-place.auto.live) in
+    let next = next_of_option plan c.args.done.now list same (option_of plan) (λ _. option_of plan) leaf in
+    turned_by (IsLive list) (IsLive (list ++ leaf ∷ [])) c.args.plans.now c.loop-place.place c.stays_live.result false live c.index-plans-place.result plan within c.index-plans-place.is c.plan.ensures
+    (c.loop-place.invariant list same are) (λ before. follows_next (option_of plan) list leaf (get_or live c.loop-place.place false) c.stays_live.result before (
       λ told. let both = c.stays_live.ensures.0 told in (both.0, next.0 both.1),
       λ both. c.stays_live.ensures.1 (both.0, next.1 both.1),
-    ) in
-    follows_next o list leaf (get_or live i false) c.stays_live.result
-    (before.old i (let b : i ≤ i = omega arith in b) o (get_or live i false) at (get_or_default live i false (get_or live i false) within)) now)
+    ))
 
 pub returns : goal.returns
 returns c list same are =

@@ -37,49 +37,35 @@ index_mut-requires c =
 
 pub remove-requires : goal.remove-requires
 remove-requires c =
-    let i = c.self.inside in
-    let is : position_from (λ other. other == (c.args.claim - 1)) 0 i.current.items ≡ Some c.in-Some.index =
-    ap (position_from (λ other. other == (c.args.claim - 1)) 0) (sym c.deref.ensures.value) ∙ sym c.index_of.ensures ∙ c.in-Some.is in
-    let within = found_within (c.args.claim - 1) i.current.items c.in-Some.index is in
-    let len : vec_len i.current ≡ length i.current.items = i.current.ok.0 in
-    omega arith
+    let is : position_from (λ other. other == (c.args.claim - 1)) 0 c.self.inside.current.items ≡ Some c.in-Some.index = cc in
+    let within = found_within (c.args.claim - 1) c.self.inside.current.items c.in-Some.index is in
+    omega (arith, c.self.inside.current.ok.0)
 
 pub remove-requires-in-Some : goal.remove-requires-in-Some
 remove-requires-in-Some c =
     let i = c.self.inside in
-    let is : position_from (λ other. other == (c.args.claim - 1)) 0 i.current.items ≡ Some c.in-Some.index =
-    ap (position_from (λ other. other == (c.args.claim - 1)) 0) (sym c.deref.ensures.value) ∙ sym c.index_of.ensures ∙ c.in-Some.is in
+    let is : position_from (λ other. other == (c.args.claim - 1)) 0 i.current.items ≡ Some c.in-Some.index = cc in
     let within = found_within (c.args.claim - 1) i.current.items c.in-Some.index is in
-    let len : vec_len i.leaves ≡ length i.leaves.items = i.leaves.ok.0 in
-    let same : length i.leaves.items ≡ length i.current.items =
-    ap length c.self.invariant.kept.leaves_are ∙ length-out (λ place g. g.leaf) (λ place g. place) i.epoch 0 i.given.items ∙ ap length (sym c.self.invariant.kept.current_are) in
-    omega arith
+    let same = length-out (λ place g. g.leaf) (λ place g. place) i.epoch 0 i.given.items in
+    omega (arith, ap length c.self.invariant.kept.leaves_are, ap length c.self.invariant.kept.current_are, i.leaves.ok.0)
 
 pub invariant_of-self : goal.invariant_of-self
 invariant_of-self c =
     let i = c.self.inside in
-    let k = c.self.invariant.kept in
     let g : Given = c.index_mut.result.now in
     let place : ℕ = c.args.claim - 1 in
     let t = there_in i c.args.self.now c.args.claim c.self.view_is c.requires in
     let at : slice_get i.given.items place ≡ Some g = read_in i.given.items c.args.claim g t c.index_mut.ensures.value in
-    let is : position_from (λ other. other == place) 0 i.current.items ≡ Some c.in-Some.index =
-    ap (position_from (λ other. other == place) 0) (sym c.deref.ensures.value) ∙ sym c.index_of.ensures ∙ c.in-Some.is in
+    let is : position_from (λ other. other == place) 0 i.current.items ≡ Some c.in-Some.index = cc in
     let few = c.self.invariant.few in
-    let same : length (set i.given.items place (answered g)) ≡ length i.given.items = length-set i.given.items place (answered g) in
-    let one : vec_capacity c.remove.new.self ≡ vec_capacity i.current = c.remove.ensures.capacity in
-    let two : vec_capacity c.remove-in-Some.new.self ≡ vec_capacity i.leaves = c.remove-in-Some.ensures.capacity in
-    let current_room = c.self.invariant.current_room in
-    let leaves_room = c.self.invariant.leaves_room in
-    let new = set i.given.items place (answered g) in
+    let same = length-set i.given.items place (answered g) in
     record {
-      kept = subst (λ l. IsKept new l c.remove-in-Some.new.self.items i.attempts.items i.epoch) (sym c.remove.ensures.items)
-          (subst (λ l. IsKept new (remove i.current.items c.in-Some.index) l i.attempts.items i.epoch) (sym c.remove-in-Some.ensures.items)
-          (kept_answer i.given.items i.current.items i.leaves.items i.attempts.items i.epoch k place g at c.in-Some.index is));
+      kept = rw (c.remove.ensures.items, c.remove-in-Some.ensures.items)
+          (kept_answer i.given.items i.current.items i.leaves.items i.attempts.items i.epoch c.self.invariant.kept place g at c.in-Some.index is);
       few = omega arith;
       room = c.self.invariant.room;
-      current_room = omega arith;
-      leaves_room = omega arith;
+      current_room = omega (arith, c.remove.ensures.capacity, c.self.invariant.current_room);
+      leaves_room = omega (arith, c.remove-in-Some.ensures.capacity, c.self.invariant.leaves_room);
     }
 
 pub invariant_of-self-in_default : goal.invariant_of-self-in_default
@@ -89,10 +75,9 @@ invariant_of-self-in_default c =
     let place : ℕ = c.args.claim - 1 in
     let t = there_in i c.args.self.now c.args.claim c.self.view_is c.requires in
     let at : slice_get i.given.items place ≡ Some g = read_in i.given.items c.args.claim g t c.index_mut.ensures.value in
-    let is : position_from (λ other. other == place) 0 i.current.items ≡ None =
-    ap (position_from (λ other. other == place) 0) (sym c.deref.ensures.value) ∙ sym c.index_of.ensures ∙ c.in_default.is in
+    let is : position_from (λ other. other == place) 0 i.current.items ≡ None = cc in
     let few = c.self.invariant.few in
-    let same : length (set i.given.items place (answered g)) ≡ length i.given.items = length-set i.given.items place (answered g) in
+    let same = length-set i.given.items place (answered g) in
     record {
       kept = kept_late i.given.items i.current.items i.leaves.items i.attempts.items i.epoch c.self.invariant.kept place g at is;
       few = omega arith;

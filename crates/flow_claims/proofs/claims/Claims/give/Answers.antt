@@ -4,7 +4,7 @@ use Rattle.std.proofs.lemmas.List.{get_or_read}
 use Rattle.flow_claims.specs.Claimed.{Claimed}
 use Rattle.flow_claims.specs.Fields.{claimed}
 use Rattle.flow_claims.specs.Given.{out_places, out_leaves}
-use Rattle.flow_claims.proofs.Numbering.{length-claims_from}
+use Rattle.flow_claims.proofs.Numbering.{claims_counted}
 use Rattle.flow_claims.proofs.Outstanding.{few_out}
 use Rattle.flow_claims.proofs.Counting.{few_attempts, kept_given, given_value}
 use Rattle.flow_claims.proofs.claims.Claims.give.Goals as goal
@@ -22,60 +22,40 @@ overflow_add-attempt c =
 
 pub push_reserved-requires : goal.push_reserved-requires
 push_reserved-requires c =
-    let i = c.self.inside in
-    let more : length i.given.items < vec_capacity i.given =
     let h = subst (λ (v : Claimed). length v.claims < v.room) (sym c.self.view_is) c.requires.room in
-    let same = length-claims_from 1 i.given.items in omega arith in
-    let len : vec_len i.given ≡ length i.given.items = i.given.ok.0 in
-    omega arith
+    omega (arith, claims_counted 1 c.self.inside.given.items, c.self.inside.given.ok.0)
 
 pub push_reserved-requires-2 : goal.push_reserved-requires-2
 push_reserved-requires-2 c =
     let i = c.self.inside in
     let h = subst (λ (v : Claimed). length v.claims < v.room) (sym c.self.view_is) c.requires.room in
-    let given = length-claims_from 1 i.given.items in
-    let len : vec_len i.current ≡ length i.current.items = i.current.ok.0 in
-    let same : length i.current.items ≡ length (out_places i.epoch 0 i.given.items) = ap length c.self.invariant.kept.current_are in
     let few = few_out (λ place g. place) i.epoch 0 i.given.items in
-    let room = c.self.invariant.current_room in
-    omega arith
+    omega (arith, claims_counted 1 i.given.items, i.current.ok.0, ap length c.self.invariant.kept.current_are, c.self.invariant.current_room)
 
 pub push_reserved-requires-3 : goal.push_reserved-requires-3
 push_reserved-requires-3 c =
     let i = c.self.inside in
     let h = subst (λ (v : Claimed). length v.claims < v.room) (sym c.self.view_is) c.requires.room in
-    let given = length-claims_from 1 i.given.items in
-    let len : vec_len i.leaves ≡ length i.leaves.items = i.leaves.ok.0 in
-    let same : length i.leaves.items ≡ length (out_leaves i.epoch 0 i.given.items) = ap length c.self.invariant.kept.leaves_are in
     let few = few_out (λ place g. g.leaf) i.epoch 0 i.given.items in
-    let room = c.self.invariant.leaves_room in
-    omega arith
+    omega (arith, claims_counted 1 i.given.items, i.leaves.ok.0, ap length c.self.invariant.kept.leaves_are, c.self.invariant.leaves_room)
 
 pub invariant_of-self : goal.invariant_of-self
 invariant_of-self c =
     let i = c.self.inside in
     let within : c.args.event < length i.attempts.items = subst (λ (v : Claimed). c.args.event < v.kinds) (sym c.self.view_is) c.requires.kind in
     let is : c.index.result.now ≡ slice_index i.attempts.items c.args.event = get_or_read i.attempts.items c.args.event c.index.result.now within c.index.ensures 0 in
-    let more : length i.given.items < vec_capacity i.given =
     let h = subst (λ (v : Claimed). length v.claims < v.room) (sym c.self.view_is) c.requires.room in
-    let same = length-claims_from 1 i.given.items in omega arith in
+    let counted = claims_counted 1 i.given.items in
     let capacity : vec_capacity c.push_reserved.new.self ≡ vec_capacity i.given = c.push_reserved.ensures.capacity in
-    let current_capacity : vec_capacity c.push_reserved-2.new.self ≡ vec_capacity i.current = c.push_reserved-2.ensures.capacity in
-    let leaves_capacity : vec_capacity c.push_reserved-3.new.self ≡ vec_capacity i.leaves = c.push_reserved-3.ensures.capacity in
     let room = c.self.invariant.room in
-    let current_room = c.self.invariant.current_room in
-    let leaves_room = c.self.invariant.leaves_room in
-    let len : length c.push_reserved.new.self.items ≡ vec_len c.push_reserved.new.self = sym c.push_reserved.new.self.ok.0 in
-    let old_len : vec_len i.given ≡ length i.given.items = i.given.ok.0 in
-    let new_len : vec_len c.push_reserved.new.self ≡ vec_len i.given + 1 = c.push_reserved.ensures.len in
     record {
       kept = kept_given i.given.items c.push_reserved.new.self.items i.current.items c.push_reserved-2.new.self.items i.leaves.items c.push_reserved-3.new.self.items i.attempts.items
           i.epoch c.args.leaf c.args.event (c.index.result.now + 1) c.len-place.result c.self.invariant.kept within (ap (λ n. n + 1) is) (c.len-place.ensures ∙ i.given.ok.0)
           c.push_reserved.ensures.items c.push_reserved-2.ensures.items c.push_reserved-3.ensures.items;
-      few = omega arith;
+      few = omega (arith, c.push_reserved.new.self.ok.0, i.given.ok.0, c.push_reserved.ensures.len);
       room = omega arith;
-      current_room = omega arith;
-      leaves_room = omega arith;
+      current_room = omega (arith, c.push_reserved-2.ensures.capacity, c.self.invariant.current_room);
+      leaves_room = omega (arith, c.push_reserved-3.ensures.capacity, c.self.invariant.leaves_room);
     }
 
 pub returns-clause-value : goal.returns-clause-value

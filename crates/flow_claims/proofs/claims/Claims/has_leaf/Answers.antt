@@ -1,7 +1,6 @@
-use Rattle.std.proofs.Common.{◌↔◌, IsTrue, sym, ◌∙◌, subst}
-use Rattle.flow_model.specs.Lists.{◌∈◌}
+use Rattle.std.proofs.Common.{sym, ◌∙◌}
 use Rattle.flow_model.specs.Run.{Claim, current_leaves}
-use Rattle.flow_claims.specs.Claimed.{Claimed, run_of}
+use Rattle.flow_claims.specs.Claimed.{run_of}
 use Rattle.flow_claims.specs.Fields.{claimed_by}
 use Rattle.flow_claims.proofs.Outstanding.{current_told, is_among}
 use Rattle.flow_claims.proofs.claims.Claims.has_leaf.Goals as goal
@@ -9,6 +8,5 @@ use Rattle.flow_claims.proofs.claims.Claims.has_leaf.Goals as goal
 pub returns : goal.returns
 returns c =
     let i = c.self.inside in
-    subst (λ (v : Claimed). IsTrue c.contains.result ↔ (c.args.leaf ∈ current_leaves (run_of v))) c.self.view_is
-    (is_among c.contains.result c.args.leaf c.deref.result.now (current_leaves (run_of (claimed_by i))) c.contains.ensures.value
+    rw (← c.self.view_is) (is_among c.contains.result c.args.leaf c.deref.result.now (current_leaves (run_of (claimed_by i))) c.contains.ensures.value
     (c.deref.ensures.value ∙ c.self.invariant.kept.leaves_are ∙ sym (current_told (λ (claim : Claim). claim.leaf) (run_of (claimed_by i)) 0 i.given.items)))

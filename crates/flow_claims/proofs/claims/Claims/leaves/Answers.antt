@@ -1,6 +1,6 @@
-use Rattle.std.proofs.Common.{◌≡◌, sym, ◌∙◌, subst}
-use Rattle.flow_model.specs.Run.{Claim, current_leaves}
-use Rattle.flow_claims.specs.Claimed.{Claimed, run_of}
+use Rattle.std.proofs.Common.{sym, ◌∙◌}
+use Rattle.flow_model.specs.Run.{Claim}
+use Rattle.flow_claims.specs.Claimed.{run_of}
 use Rattle.flow_claims.specs.Fields.{claimed_by}
 use Rattle.flow_claims.proofs.Outstanding.{current_told}
 use Rattle.flow_claims.proofs.claims.Claims.leaves.Goals as goal
@@ -8,5 +8,4 @@ use Rattle.flow_claims.proofs.claims.Claims.leaves.Goals as goal
 pub returns : goal.returns
 returns c =
     let i = c.self.inside in
-    subst (λ (v : Claimed). c.deref.result.now ≡ current_leaves (run_of v)) c.self.view_is
-    (c.deref.ensures.value ∙ c.self.invariant.kept.leaves_are ∙ sym (current_told (λ (claim : Claim). claim.leaf) (run_of (claimed_by i)) 0 i.given.items))
+    rw (← c.self.view_is) (c.deref.ensures.value ∙ c.self.invariant.kept.leaves_are ∙ sym (current_told (λ (claim : Claim). claim.leaf) (run_of (claimed_by i)) 0 i.given.items))
