@@ -33,21 +33,6 @@ fn leaf_at(leaves: &[u32], place: usize) -> Option<u32>
 }
 
 impl Sweep {
-    /// Nothing is read yet.
-    pub(crate) fn new(alloc: Global, leaves: usize) -> Result<Sweep, AllocError>
-        ensures place { IfOk result (λ new. new.place ≡ 0) }
-        ensures ahead { IfOk result (λ new. (x : ℕ) → has_leaf new.ahead x ≡ false) }
-        ensures forks { IfOk result (λ new. new.forks.items ≡ []) }
-        ensures rows { IfOk result (λ new. new.rows.items ≡ []) }
-    {
-        Ok(Sweep {
-            place: 0,
-            ahead: LeafSet::new(),
-            forks: Vec::new(alloc),
-            rows: Vec::with_capacity(alloc, leaves)?,
-        })
-    }
-
     /// Reads a leaf: what is ahead is its row.
     fn pass_leaf(&mut self, leaves: &[u32]) -> Result<(), AllocError>
         requires { Each (λ n. n < MOST_LEAVES) leaves.now }
@@ -87,11 +72,11 @@ impl Sweep {
         ensures { OnOk result (Passes node.now leaves.now self.old self.new) }
     {
         match node {
-            Node::Nop | Node::Serial | Node::Open | Node::Close => {}
             Node::Leaf => self.pass_leaf(leaves)?,
             Node::Fork => self.forks.push(self.ahead)?,
             Node::Split => self.split()?,
             Node::Join => self.join(),
+            _ => {}
         }
         Ok(())
     }
