@@ -181,6 +181,10 @@ pub ring_within : (items : List Item) (ring : List ℕ) → IsCycle items ring �
 ring_within items [] h m k = absurd h
 ring_within items (n ∷ more) h m k = on_within items n n more h m k
 
+pub ring_some : (items : List Item) (ring : List ℕ) → IsCycle items ring → 0 < length ring
+ring_some items [] h = absurd h
+ring_some items (n ∷ more) h = omega arith
+
 pub each_within : (items : List Item) (order seen : List ℕ) → seen ≡ order → ((n : ℕ) → n ∈ order → n < length items) → Each (λ n. n < length items) seen
 each_within items order seen e h = each_from_members (λ n. n < length items) seen (λ n m. h n (subst (λ z. n ∈ z) e m))
 
