@@ -5,9 +5,9 @@ use Rattle.flow_plan.specs.Progress.{IsDone}
 use Rattle.flow_plan.specs.Orders.{MayComeNext}
 use Rattle.flow_plan.specs.Rows.{IsRowOf}
 use Rattle.flow_plan.proofs.Following.{every_order, by_two}
-use Rattle.flow_plan.proofs.Together.{distinct_by_two}
-use Rattle.flow_plan.proofs.plan.Plan.side_by_side.Goals as goal
-use Rattle.flow_plan.proofs.plan.Plan.side_by_side.Goals.{then-not-ready-via-then-not-ready, then-not-ready-via-else-not-ready+then-not-each_ready}
+use Rattle.flow_plan.proofs.StepRows.{orders_distinct}
+use Rattle.flow_plan.proofs.plan.Plan.may_all_follow.Goals as goal
+use Rattle.flow_plan.proofs.plan.Plan.may_all_follow.Goals.{then-not-ready-via-then-not-ready, then-not-ready-via-else-not-ready+then-not-each_ready}
 
 pub returns-then-not-ready : goal.returns-then-not-ready
 returns-then-not-ready c = (
@@ -22,8 +22,7 @@ returns-then-not-ready c = (
 pub returns-in_default : goal.returns-in_default
 returns-in_default c = (
   λ wrong. absurd (cc),
-  λ all. absurd (c.in_default.ensures.none
-      (distinct_by_two c.args.self.now (IsDone c.args.done.now) (c.args.leaf ∷ c.args.claims.now) (by_two c.args.self.now c.args.done.now (c.args.leaf ∷ c.args.claims.now) all).1).1),
+  λ all. absurd (c.in_default.ensures.none (orders_distinct c.args.self.now c.args.done.now (c.args.leaf ∷ c.args.claims.now) all).1),
 )
 
 pub returns-then-not-has : goal.returns-then-not-has
@@ -44,6 +43,6 @@ returns-then-not-has c =
 pub returns-else-not-has : goal.returns-else-not-has
 returns-else-not-has c = (
   λ wrong. let has = c.if-not-has.false in absurd (cc),
-  λ all. absurd ((distinct_by_two c.args.self.now (IsDone c.args.done.now) (c.args.leaf ∷ c.args.claims.now) (by_two c.args.self.now c.args.done.now (c.args.leaf ∷ c.args.claims.now) all).1).0
+  λ all. absurd ((orders_distinct c.args.self.now c.args.done.now (c.args.leaf ∷ c.args.claims.now) all).0
       ((c.in-Some.ensures.some.1 c.args.leaf).0 (let has = c.if-not-has.false in sym c.has.ensures ∙ has))),
 )
