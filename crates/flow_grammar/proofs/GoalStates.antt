@@ -92,9 +92,7 @@ start_forth : (K : Follow Shape) (fs : List Frame) (l : Level) (a : Text goals 0
 start_forth K fs l nop_text v t = (λ h. refl, t)
 start_forth K fs l (name_text n) v t = (λ h. refl, t)
 start_forth K fs l (fact_text asking f) v t = (λ h. refl, (f, v, refl, t))
-start_forth K fs l (fact_text denying f) v t = (λ h. refl, (f, v, refl, t))
-start_forth K fs l (fact_text adding f) v t = (λ h. refl, (f, v, refl, t))
-start_forth K fs l (fact_text taking f) v t = (λ h. refl, (f, v, refl, t))
+start_forth K fs l (fact_text _ f) v t = (λ h. refl, (f, v, refl, t))
 start_forth K fs l (iso_text g) v t = (λ h. refl, (g, v, refl, t))
 start_forth K fs l (group_text g) v t =
     (λ h. refl, need_of_goal (Closing K (parenthesis l ∷ fs)) (suc (height fs)) g (at (suc (height fs)) closing ∷ v) (v, refl, t))

@@ -30,14 +30,7 @@ arg_moves : (p : Prefix) (fs : List Frame) (l : Level) (o : Step ArgState Atom) 
 arg_moves p fs l _ h = search rules
 
 goal_comes : (g : GoalState) (t : Symbol) → StandsFor (wanted_goal g) t → Moves (step_goal g t)
-goal_comes (atom_needed fs l) t h = atom_comes fs l t h
-goal_comes (after_atom [] l) t h = rw h tt
-goal_comes (after_atom (f ∷ fs) l) t h = rw h tt
-goal_comes (opening_needed fs l) t h = rw h tt
-goal_comes (fact_needed p fs l) t h = relation_comes p fs l t h
-goal_comes (after_relation p n [] l) t h = rw h tt
-goal_comes (after_relation p n (f ∷ fs) l) t h = rw h tt
-goal_comes (in_args p a fs l) t h = arg_moves p fs l (step_arg a t) (arg_comes a t h)
+goal_comes g t h = search (rules, atom_comes, relation_comes, arg_moves, arg_comes)
 
 unit_comes : (fs : List RuleFrame) (l : RuleLevel) (k : ℕ) (t : Symbol) → BeginsUnit t → Moves (step_rule (unit_needed fs l k) t)
 unit_comes fs l k _ h = search rules
