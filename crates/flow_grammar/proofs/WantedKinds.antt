@@ -51,15 +51,7 @@ declaration_comes : (ds : List Declared) (t : Symbol) → BeginsDeclaration t �
 declaration_comes ds _ h = search rules
 
 script_comes : (s : State) (t : Symbol) → StandsFor (wanted_script s) t → Goes (step_script s t)
-script_comes (declaration_needed ds) t h = declaration_comes ds t h
-script_comes (fact_to_declare ds) t h = named_goes (after_declared_relation ds) t h
-script_comes (in_declared_args ds a) t h = carry_goes (in_declared_args ds) _ (step_arg a t) (arg_comes a t h)
-script_comes (event_to_declare ds) t h = named_goes (after_event ds) t h
-script_comes (flow_to_declare ds) t h = named_goes (equals_needed ds) t h
-script_comes (in_flow ds n g) t h = carry_goes (in_flow ds n) _ (step_goal g t) (goal_comes g t h)
-script_comes (in_goal ds g) t h = carry_goes (in_goal ds) _ (step_goal g t) (goal_comes g t h)
-script_comes (in_constraint ds s rs r) t h = carry_goes (in_constraint ds s rs) _ (step_rule r t) (rule_comes r t h)
-script_comes _ t h = rw h tt
+script_comes s t h = search (rules, declaration_comes, named_goes, carry_goes, arg_comes, goal_comes, rule_comes)
 
 goal_goes_on : (g : GoalState) → ¬ MayEnd (wanted_goal g)
 goal_goes_on g h = search rules
@@ -80,11 +72,7 @@ number_comes : (t : Symbol) → IsANumber t → Goes (step_query number_needed t
 number_comes _ h = search rules
 
 query_comes : (s : QueryState) (t : Symbol) → StandsFor (wanted_query s) t → Goes (step_query s t)
-query_comes query_needed t h = start_comes t h
-query_comes (in_property r) t h = carry_goes in_property _ (step_rule r t) (rule_comes r t h)
-query_comes number_needed t h = number_comes t h
-query_comes (after_number n) t h = rw h tt
-query_comes (query_read q) t h = absurd h
+query_comes s t h = search (rules, start_comes, number_comes, carry_goes, rule_comes)
 
 query_ends : (s : QueryState) → MayEnd (wanted_query s) → Goes (finish_query s)
 query_ends s h = search (rules, rule_goes_on)
