@@ -28,19 +28,15 @@ depth rules x = rule_nesting x
 abbrev Holds : (k : Kind) → ℕ → ℕ → Meaning k → Type 0
 Holds k n d m = d + nest (parted k n m) (depth k m) ≤ GREATEST_DEPTH
 
+one_less : (d n most : ℕ) → d + suc n ≤ most → d + n ≤ most
+one_less d n most h = omega arith
+
 looser : (k : Kind) (n d : ℕ) (m : Meaning k) → Holds k n d m → Holds k (suc n) d m
-looser goals zero d (serial ss) h = omega arith
-looser goals zero d _ h = h
-looser goals (suc zero) d (beside ss) h = omega arith
-looser goals (suc zero) d _ h = h
-looser goals (suc (suc zero)) d (either ss) h = omega arith
-looser goals (suc (suc zero)) d _ h = h
-looser goals (suc (suc (suc n))) d s h = h
-looser rules zero d (all xs) h = omega arith
-looser rules zero d _ h = h
-looser rules (suc zero) d (any xs) h = omega arith
-looser rules (suc zero) d _ h = h
-looser rules (suc (suc n)) d x h = h
+looser goals zero d s h = search (std_rules, one_less)
+looser goals (suc zero) d s h = search (std_rules, one_less)
+looser goals (suc (suc n)) d s h = search (std_rules, one_less)
+looser rules zero d x h = search (std_rules, one_less)
+looser rules (suc n) d x h = search (std_rules, one_less)
 
 goals_within : (part : Shape → Bool) (d : ℕ) (ss : List Shape) → d ≤ GREATEST_DEPTH → Each (λ s. d + nest (part s) (nesting s) ≤ GREATEST_DEPTH) ss → d + nesting_list part (shapes ss) ≤ GREATEST_DEPTH
 goals_within part d [] l h = omega arith
@@ -56,10 +52,9 @@ list_within : (k : Kind) (n d : ℕ) → suc n ≤ top k → d ≤ GREATEST_DEPT
 list_within goals zero d b l m m' ms h = goals_within in_serial d (m ∷ m' ∷ ms) l h
 list_within goals (suc zero) d b l m m' ms h = goals_within in_beside d (m ∷ m' ∷ ms) l h
 list_within goals (suc (suc zero)) d b l m m' ms h = goals_within in_either d (m ∷ m' ∷ ms) l h
-list_within goals (suc (suc (suc n))) d b l m m' ms h = absurd (omega arith)
 list_within rules zero d b l m m' ms h = rules_within in_all d (m ∷ m' ∷ ms) l h
 list_within rules (suc zero) d b l m m' ms h = rules_within in_any d (m ∷ m' ∷ ms) l h
-list_within rules (suc (suc n)) d b l m m' ms h = absurd (omega arith)
+list_within _ _ d b l m m' ms h = absurd (omega arith)
 
 nest_few : (b : Bool) (n : ℕ) → nest b n ≤ suc n
 nest_few true n = omega arith

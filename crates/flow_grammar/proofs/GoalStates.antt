@@ -97,10 +97,6 @@ start_forth K fs l (iso_text g) v t = (λ h. refl, (g, v, refl, t))
 start_forth K fs l (group_text g) v t =
     (λ h. refl, need_of_goal (Closing K (parenthesis l ∷ fs)) (suc (height fs)) g (at (suc (height fs)) closing ∷ v) (v, refl, t))
 
-relation_front : (K : Follow Shape) (p : Prefix) (n : List ℕ) (fs : List Frame) (l : Level) (w : List Placed) →
-    GoalFront (after_atom fs (push l (prefixed p (atom n [])))) w K → GoalFront (after_relation p n fs l) w K
-relation_front K p n fs l w h = search rules
-
 of_arg : (K : Follow Shape) (p : Prefix) (fs : List Frame) (l : Level) (o : Step ArgState Atom) (w : List Placed) →
     StepNext (ArgRest (suc (height fs))) o w (AfterFact K fs l p) → StepNext GoalRest (after_arg p fs l o) w K
 of_arg K p fs l o w h = search rules
@@ -124,7 +120,7 @@ goal_forth (fact_needed p fs l) w K (bare n, v, e, t) = subst (λ y. GoalFront (
 goal_forth (fact_needed p fs l) w K (applied n c cs, v, e, t) =
     subst (λ y. GoalFront (fact_needed p fs l) y K) e (λ h. refl, inr (_, refl, (c, cs, v, refl, t)))
 goal_forth (after_relation p n fs l) w K (inl t) =
-    relation_front K p n fs l w (join_forth K fs (push l (prefixed p (atom n []))) w t)
+    let front = join_forth K fs (push l (prefixed p (atom n []))) w t in search rules
 goal_forth (after_relation p n fs l) w K (inr (v, e, t)) = subst (λ y. GoalFront (after_relation p n fs l) y K) e (λ h. refl, t)
 goal_forth (in_args p a fs l) w K h = args_front K p a fs l w (arg_forth (suc (height fs)) a w (AfterFact K fs l p) h)
 

@@ -93,15 +93,11 @@ start_forth K fs l k (order_text a b ns) v t = (λ h. refl, (a, b, ns, v, refl, 
 start_forth K fs l k (pair_text preceding a b) v t = (λ h. refl, (a, b, v, refl, t))
 start_forth K fs l k (pair_text needing a b) v t = (λ h. refl, (a, b, v, refl, t))
 
-more_front : (K : Follow RuleShape) (ms : List (List ℕ)) (fs : List RuleFrame) (l : RuleLevel) (k : ℕ) (w : List Placed) →
-    RuleFront (after_unit fs (push_rule l (negate k (order ms)))) w K → RuleFront (after_names ms fs l k) w K
-more_front K ms fs l k w h = search std_rules
-
 more_forth : (K : Follow RuleShape) (ms : List (List ℕ)) (fs : List RuleFrame) (l : RuleLevel) (k : ℕ) (w : List Placed) →
     RuleRest (after_names ms fs l k) w K → RuleFront (after_names ms fs l k) w K
 more_forth K ms fs l k w ([], v, e, t) =
-    more_front K ms fs l k w (join_forth K fs (push_rule l (negate k (order ms))) w
-    (subst (After K fs l k (order ms)) e (subst (λ y. After K fs l k (order y) v) (append-nil ms) t)))
+    let after = subst (After K fs l k (order ms)) e (subst (λ y. After K fs l k (order y) v) (append-nil ms) t) in
+    let front = join_forth K fs (push_rule l (negate k (order ms))) w after in search std_rules
 more_forth K ms fs l k w (n ∷ ns, v, e, t) =
     subst (λ y. RuleFront (after_names ms fs l k) y K) e
     (λ h. absurd h, (ns, v, refl, subst (λ y. After K fs l k (order y) v) (sym (append_assoc ms (n ∷ []) ns)) t))

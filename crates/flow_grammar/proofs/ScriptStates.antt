@@ -121,21 +121,9 @@ events_forth ds w x h =
     let (t, v, e, k) = items_forth spell_noted mean_noted event_to_declare x (λ ds' v' k. k) ds w h in
     subst (λ y. Ahead (after_noted ds) y x) e (λ h'. refl, k)
 
-relation_ahead : (ds : List Declared) (n : List ℕ) (w : List Placed) (x : Said) → Ahead (after_fact (ds ++ fact (atom n []) ∷ [])) w x →
-    Ahead (after_declared_relation ds n) w x
-relation_ahead ds n w x h = search std_rules
-
-event_ahead : (ds : List Declared) (n : List ℕ) (w : List Placed) (x : Said) → Ahead (after_noted (ds ++ event n Done ∷ [])) w x →
-    Ahead (after_event ds n) w x
-event_ahead ds n w x h = search std_rules
-
-fail_ahead : (ds : List Declared) (n : List ℕ) (w : List Placed) (x : Said) → Ahead (after_noted (ds ++ event n Fail ∷ [])) w x →
-    Ahead (after_fail ds n) w x
-fail_ahead ds n w x h = search std_rules
-
 note_forth : (ds : List Declared) (n : List ℕ) (w : List Placed) (x : Said) → Rest (after_event ds n) w x → Ahead (after_event ds n) w x
 note_forth ds n w x (silent_text, v, e, h) =
-    event_ahead ds n w x (events_forth (ds ++ event n Done ∷ []) w x (subst (λ y. AfterNoted (ds ++ event n Done ∷ []) y x) e h))
+    let ahead = events_forth (ds ++ event n Done ∷ []) w x (subst (λ y. AfterNoted (ds ++ event n Done ∷ []) y x) e h) in search std_rules
 note_forth ds n w x (done_text, v, e, h) = subst (λ y. Ahead (after_event ds n) y x) e (λ h'. refl, h)
 note_forth ds n w x (fail_text, v, e, h) = subst (λ y. Ahead (after_event ds n) y x) e (λ h'. refl, inl h)
 note_forth ds n w x (fail_first_text m, v, e, h) = subst (λ y. Ahead (after_event ds n) y x) e (λ h'. refl, inr (m, v, refl, h))
@@ -155,7 +143,7 @@ script_forth (declaration_needed ds) w x h = declaration_forth ds w x h
 script_forth (fact_to_declare ds) w x (bare n, v, e, h) = subst (λ y. Ahead (fact_to_declare ds) y x) e (λ h'. refl, inl h)
 script_forth (fact_to_declare ds) w x (applied n c cs, v, e, h) =
     subst (λ y. Ahead (fact_to_declare ds) y x) e (λ h'. refl, inr (_, refl, (c, cs, v, refl, h)))
-script_forth (after_declared_relation ds n) w x (inl h) = relation_ahead ds n w x (facts_forth (ds ++ fact (atom n []) ∷ []) w x h)
+script_forth (after_declared_relation ds n) w x (inl h) = let ahead = facts_forth (ds ++ fact (atom n []) ∷ []) w x h in search std_rules
 script_forth (after_declared_relation ds n) w x (inr (v, e, h)) = subst (λ y. Ahead (after_declared_relation ds n) y x) e (λ h'. refl, h)
 script_forth (in_declared_args ds a) w x h =
     carried_forth (ArgRest 1) Rest (in_declared_args ds) (λ f. after_fact (ds ++ fact f ∷ [])) x step_arg (λ a'. 1) step_script finish_script depth_script (λ s v k. k)
@@ -163,7 +151,7 @@ script_forth (in_declared_args ds a) w x h =
 script_forth (after_fact ds) w x h = facts_forth ds w x h
 script_forth (event_to_declare ds) w x (noted_text n note, v, e, h) = subst (λ y. Ahead (event_to_declare ds) y x) e (λ h'. refl, (note, v, refl, h))
 script_forth (after_event ds n) w x h = note_forth ds n w x h
-script_forth (after_fail ds n) w x (inl h) = fail_ahead ds n w x (events_forth (ds ++ event n Fail ∷ []) w x h)
+script_forth (after_fail ds n) w x (inl h) = let ahead = events_forth (ds ++ event n Fail ∷ []) w x h in search std_rules
 script_forth (after_fail ds n) w x (inr (m, v, e, h)) = subst (λ y. Ahead (after_fail ds n) y x) e (λ h'. refl, h)
 script_forth (after_noted ds) w x h = events_forth ds w x h
 script_forth (flow_to_declare ds) w x (n, g, v, e, h) = subst (λ y. Ahead (flow_to_declare ds) y x) e (λ h'. refl, (g, v, refl, h))

@@ -14,9 +14,6 @@ Moves (reading s) = Unit {0}
 Moves (whole x) = Unit {0}
 Moves stuck = ⊥
 
-constant_comes : (n : List ℕ) (args : List Const) (t : Symbol) → IsAConstant t → Moves (step_arg (constant_needed n args) t)
-constant_comes n args _ h = search rules
-
 arg_comes : (a : ArgState) (t : Symbol) → StandsFor (wanted_arg a) t → Moves (step_arg a t)
 arg_comes _ t h = search rules
 
