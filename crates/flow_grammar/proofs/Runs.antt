@@ -29,25 +29,21 @@ deep_of _ d e = cc
 
 later_gives : {V : Type 0} (r : Reading V) (v : V) → later r ≡ gives v → r ≡ gives v
 later_gives (gives u) v e = e
-later_gives (expected kind k) v e = cc
-later_gives (too_deep k) v e = cc
+later_gives _ v e = cc
 
 later_expected : {V : Type 0} (r : Reading V) (kind : Wanted) (k : ℕ) → later r ≡ expected kind k →
     (j : ℕ) × (k ≡ suc j) × (r ≡ expected kind j)
-later_expected (gives u) kind k e = cc
 later_expected (expected kind' j) kind k e = (j, cc, cc)
-later_expected (too_deep j) kind k e = cc
+later_expected _ kind k e = cc
 
 later_deep : {V : Type 0} (r : Reading V) (k : ℕ) → later r ≡ too_deep k → (j : ℕ) × (k ≡ suc j) × (r ≡ too_deep j)
-later_deep (gives u) k e = cc
-later_deep (expected kind' j) k e = cc
 later_deep (too_deep j) k e = (j, cc, cc)
+later_deep _ k e = cc
 
 go_gives : {S V : Type 0} (o : Option S) (b : Bool) (kind : Wanted) (rest : S → Reading V) (v : V) →
     go_on o b kind rest ≡ gives v → (s : S) × (o ≡ Some s) × (b ≡ false) × (rest s ≡ gives v)
-go_gives None b kind rest v e = cc
-go_gives (Some s) true kind rest v e = cc
 go_gives (Some s) false kind rest v e = (s, refl, refl, later_gives (rest s) v e)
+go_gives _ _ kind rest v e = cc
 
 go_expected : {S V : Type 0} (o : Option S) (b : Bool) (kind : Wanted) (rest : S → Reading V) (kind' : Wanted) (k : ℕ) →
     go_on o b kind rest ≡ expected kind' k →
