@@ -1,5 +1,5 @@
 -- What a text says is well made.
-use Rattle.std.proofs.Common.{rules as std_rules, ◌≡◌, ℕ, zero, suc, ◌<◌, ◌≤◌, List, [], ◌∷◌, ◌++◌, map, flat_map, length, subst, ap, ◌∙◌, arith, length-append}
+use Rattle.std.proofs.Common.{rules as std_rules, ◌≡◌, ℕ, suc, ◌<◌, ◌≤◌, List, [], ◌∷◌, ◌++◌, map, flat_map, length, subst, ap, ◌∙◌, arith, length-append}
 use Rattle.std.proofs.lemmas.Grind.{flat_map-append}
 use Rattle.std.proofs.lemmas.List.{length-map}
 use Rattle.flow_model.specs.Lists.{Each}
@@ -13,7 +13,6 @@ use Rattle.flow_grammar.specs.Roles.{in_rule, role_name, fact_roles, goal_roles,
 use Rattle.flow_grammar.proofs.RolesOfNames.{scripts_have_roles}
 use Rattle.flow_grammar.specs.Made.{IsWellMade, IsWellAsked, ScriptsAreWellMade, QueriesAreWellMade}
 use Rattle.flow_model.proofs.Lists.{each-append}
-
 -- A list of several, and what is gathered
 
 pub gathered : {M : Type 0} (P Q : M → Type 0) (list : List M → M) → ((m : M) → P m → Q m) → ((m m' : M) (ms : List M) → Each P (m ∷ m' ∷ ms) → Q (list (m ∷ m' ∷ ms))) →
