@@ -7,6 +7,7 @@ use Rattle.flow_grammar.specs.Symbol.{Symbol, Placed, at, constant_symbol, a_nam
 use Rattle.flow_grammar.specs.Grammar.{spell_constants}
 use Rattle.flow_grammar.specs.Machine.{ArgState, constant_needed, after_constant, step_arg}
 use Rattle.flow_grammar.proofs.Parts.{Follow, StepNext, StepFront}
+
 abbrev pub ArgRest : ℕ → ArgState → List Placed → Follow Atom → Type 0
 ArgRest d (constant_needed n args) w K =
     (c : Const) × (cs : List Const) × (r : List Placed) × (at d (constant_symbol c) ∷ spell_constants d cs (at d closing ∷ r) ≡ w) × K (atom n (args ++ c ∷ cs)) r

@@ -10,6 +10,7 @@ use Rattle.flow_model.specs.declared.limits.TheConstants.{GREATEST_DEPTH}
 use Rattle.flow_grammar.specs.Texts.{IsShallow}
 use Rattle.flow_grammar.specs.Print.{in_serial, in_beside, in_either, in_all, in_any, nest, arguments_nesting, nesting, nesting_list, rule_nesting, rules_nesting}
 use Rattle.flow_grammar.proofs.MadeTexts.{gathered}
+
 -- whether it stands in parentheses as a member at that level, and how deep its print is
 abbrev parted : (k : Kind) → ℕ → Meaning k → Bool
 parted goals zero s = in_serial s

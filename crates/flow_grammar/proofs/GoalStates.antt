@@ -8,6 +8,7 @@ use Rattle.flow_grammar.specs.Machine.{Step, ArgState, constant_needed, step_arg
 use Rattle.flow_grammar.proofs.Parts.{Follow, StepNext, StepFront}
 use Rattle.flow_grammar.proofs.Parts as parts
 use Rattle.flow_grammar.proofs.ArgStates.{ArgRest, arg_forth, arg_back, arg_completes}
+
 -- the goal of a level, with the members that follow in each of its lists
 abbrev whole_of : Level → List Shape → List Shape → List Shape → Shape
 whole_of l more ss bs =

@@ -13,6 +13,7 @@ use Rattle.flow_grammar.specs.Roles.{in_rule, role_name, fact_roles, goal_roles,
 use Rattle.flow_grammar.proofs.RolesOfNames.{scripts_have_roles}
 use Rattle.flow_grammar.specs.Made.{IsWellMade, IsWellAsked, ScriptsAreWellMade, QueriesAreWellMade}
 use Rattle.flow_model.proofs.Lists.{each-append}
+
 -- A list of several, and what is gathered
 
 pub gathered : {M : Type 0} (P Q : M → Type 0) (list : List M → M) → ((m : M) → P m → Q m) → ((m m' : M) (ms : List M) → Each P (m ∷ m' ∷ ms) → Q (list (m ∷ m' ∷ ms))) →

@@ -3,6 +3,7 @@ use Rattle.std.proofs.Common.{rules, ◌≡◌, ℕ, List, [], ◌∷◌, Option
 use Rattle.flow_grammar.specs.Symbol.{Symbol, Placed, at, Deepens, closing, semicolon}
 use Rattle.flow_grammar.specs.Machine.{Step, reading, whole, stuck, carry}
 use Rattle.flow_grammar.proofs.Runs.{OnNext, Front}
+
 -- what may follow a value
 abbrev pub Follow : Type 0 → Type 1
 Follow V = V → List Placed → Type 0

@@ -10,6 +10,7 @@ use Rattle.flow_grammar.specs.Grammar.{FactText, bare, applied, spell_constants,
 use Rattle.flow_model.specs.declared.limits.TheConstants.{GREATEST_DEPTH}
 use Rattle.flow_grammar.specs.Texts.{IsShallow}
 use Rattle.flow_grammar.specs.Print.{bracket, print_constants, print_fact, in_serial, in_beside, in_either, in_all, in_any, print_goal, print_rest, print_names, print_rule, print_more_rules, nest, arguments_nesting, nesting, nesting_list, rule_nesting, rules_nesting}
+
 -- Facts
 
 constants_print : (d : ℕ) (cs : List Const) (r : List Placed) → symbols (spell_constants d cs r) ≡ print_constants cs (symbols r)

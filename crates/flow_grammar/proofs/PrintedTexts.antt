@@ -20,6 +20,7 @@ use Rattle.flow_grammar.proofs.MadeTexts.{scripts_are_well_made, goals_append, f
 use Rattle.flow_grammar.proofs.Printed.{fact_printed, goal_printed, rule_printed}
 use Rattle.flow_grammar.proofs.Depths.{after_fact, within}
 use Rattle.flow_model.proofs.Lists.{each-append, each_parts}
+
 -- Declarations have derivations that spell their print, and so have constraints
 
 note_printed : (note : Note) →

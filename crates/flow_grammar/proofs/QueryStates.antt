@@ -8,6 +8,7 @@ use Rattle.flow_grammar.specs.Texts.{SpellsQuery}
 use Rattle.flow_grammar.proofs.Runs.{OnNext, Front, Knows}
 use Rattle.flow_grammar.proofs.Parts.{carried_forth, carried_back}
 use Rattle.flow_grammar.proofs.RuleStates.{RuleRest, rule_forth, rule_back, rule_completes, need_of_rule, rule_of_need, Closing}
+
 abbrev pub Rest : QueryState → List Placed → Asked → Type 0
 Rest query_needed w x = SpellsQuery w x
 Rest (in_property r) w x = RuleRest r w (λ y v. ([] ≡ v) × (holds y ≡ x))

@@ -4,6 +4,7 @@ use Rattle.flow_form.specs.declared.refusal.Wanted.{Wanted}
 use Rattle.flow_grammar.specs.Symbol.{Symbol}
 use Rattle.flow_grammar.specs.Machine.{Reading, gives, expected, too_deep, later, shifted, run}
 use Rattle.flow_grammar.specs.Steps.{GoesByStep}
+
 shifted_zero : {V : Type 0} (r : Reading V) → shifted 0 r ≡ r
 shifted_zero (gives v) = refl
 shifted_zero (expected kind k) = let e : 0 + k ≡ k = omega arith in ap (expected kind) e

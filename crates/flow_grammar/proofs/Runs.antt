@@ -8,6 +8,7 @@ use Rattle.flow_grammar.specs.Machine.{Reading, gives, expected, too_deep, later
 use Rattle.flow_grammar.specs.Laws.{StandsFor, MayEnd}
 use Rattle.flow_grammar.specs.Texts.{IsShallow, IsDeepAt, Derives, IsWhole, IsViable, StandsDeep, IsStuckAt, NoneDeepBefore}
 use Rattle.std.proofs.lemmas.Bool.{false_from_ne_true}
+
 pub uncons : (w : List Placed) (t : Symbol) (ts : List Symbol) → symbols w ≡ t ∷ ts →
     (n : ℕ) × (v : List Placed) × (w ≡ at n t ∷ v) × (symbols v ≡ ts)
 uncons [] t ts e = cc

@@ -8,6 +8,7 @@ use Rattle.flow_form.specs.Script.{Said, event}
 use Rattle.flow_grammar.specs.Symbol.{Symbol, event_word, goal_word, constraint_word, holds_word, redundant_word, must_word, never_word, order_word, not_word, and_word, or_word, iso_word, fail_word, star, a_name, a_number, opening, closing, comma, semicolon}
 use Rattle.flow_grammar.specs.Machine.{gives, expected, too_deep, read_script, read_query}
 use Rattle.flow_grammar.specs.Print.{print_script}
+
 abbrev pub a : Symbol
 a = a_name (97 ∷ [])
 

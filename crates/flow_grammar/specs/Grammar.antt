@@ -10,6 +10,7 @@ use Rattle.flow_form.specs.Form.{Shape, nop, named, test, absent, ins, del, iso,
 use Rattle.flow_form.specs.RuleForm.{RuleShape, must, never, order, precedes, needs, negated, all, any, rule_shapes}
 use Rattle.flow_form.specs.Script.{Declared, fact, event, flow, Said, Asked, holds, redundant}
 use Rattle.flow_grammar.specs.Symbol.{Symbol, Placed, at, constant_symbol, fact_word, event_word, flow_word, goal_word, constraint_word, nop_word, iso_word, ins_word, del_word, must_word, never_word, order_word, precedes_word, needs_word, not_word, and_word, or_word, done_word, fail_word, holds_word, redundant_word, a_name, a_number, star, bar, plus, opening, closing, comma, semicolon, equals, question, exclamation}
+
 -- fact = name [ "(" constant { "," constant } ")" ]
 pub data FactText : Type 0 where
   bare : List ℕ → FactText

@@ -5,6 +5,7 @@ use Rattle.flow_form.specs.declared.refusal.Wanted.TheVariants as want
 use Rattle.flow_grammar.specs.Symbol.{Symbol, Placed, symbols, fact_word, event_word, flow_word, goal_word, constraint_word, nop_word, iso_word, ins_word, del_word, must_word, never_word, order_word, precedes_word, needs_word, not_word, holds_word, redundant_word, a_name, a_number, opening, closing, semicolon, equals, question, exclamation}
 use Rattle.flow_grammar.specs.Machine.{Reading, gives, expected, too_deep}
 use Rattle.flow_grammar.specs.Texts.{Derives, IsWhole, IsViable, StandsDeep, IsStuckAt, NoneDeepBefore}
+
 -- a value is read exactly where the symbols say it
 abbrev pub ReadsJustThese : {V : Type 0} → (List Placed → V → Type 0) → (List Symbol → Reading V) → Type 0
 ReadsJustThese {V} Spells read = (ts : List Symbol) (x : V) → (read ts ≡ gives x) ↔ Derives Spells ts x

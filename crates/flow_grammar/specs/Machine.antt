@@ -12,6 +12,7 @@ use Rattle.flow_form.specs.RuleForm.{RuleShape, order, negated}
 use Rattle.flow_form.specs.Script.{Declared, fact, event, flow, Said, Asked, holds, redundant}
 use Rattle.flow_grammar.specs.Symbol.{Symbol, fact_word, event_word, flow_word, goal_word, constraint_word, nop_word, iso_word, ins_word, del_word, must_word, never_word, order_word, precedes_word, needs_word, not_word, and_word, or_word, done_word, fail_word, holds_word, redundant_word, a_name, a_number, star, bar, plus, opening, closing, comma, semicolon, equals, question, exclamation}
 use Rattle.flow_grammar.specs.Grammar.{Prefix, asking, denying, adding, taking, prefixed, Single, must_come, never_come, single, Pair, preceding, needing, paired, goals, rules, list, gather}
+
 -- what one symbol makes of a part that is being read
 pub data Step (S V : Type 0) : Type 0 where
   reading : S → Step S V

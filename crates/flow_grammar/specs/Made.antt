@@ -7,6 +7,7 @@ use Rattle.flow_form.specs.Script.{Said, Asked, holds, redundant}
 use Rattle.flow_form.specs.Names.{goals_of}
 use Rattle.flow_grammar.specs.Symbol.{Placed}
 use Rattle.flow_grammar.specs.Texts.{SpellsScript, SpellsQuery}
+
 -- each list in its goals and constraints has two or more members
 abbrev pub IsWellMade : Said → Type 0
 IsWellMade s = Each IsGrouped (goals_of s) × Each IsGroupedRule s.rules

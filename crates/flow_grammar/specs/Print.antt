@@ -12,6 +12,7 @@ use Rattle.flow_form.specs.Script.{Declared, fact, event, flow, Said}
 use Rattle.flow_form.specs.Names.{goals_of}
 use Rattle.flow_grammar.specs.Symbol.{Symbol, constant_symbol, fact_word, event_word, flow_word, goal_word, constraint_word, nop_word, iso_word, ins_word, del_word, must_word, never_word, order_word, precedes_word, needs_word, not_word, and_word, or_word, fail_word, a_name, a_number, star, bar, plus, opening, closing, comma, semicolon, equals, question, exclamation}
 use Rattle.flow_model.specs.declared.limits.TheConstants.{GREATEST_DEPTH}
+
 -- what follows is the last argument, as in spelling
 
 abbrev pub bracket : Bool → (List Symbol → List Symbol) → List Symbol → List Symbol

@@ -6,6 +6,7 @@ use Rattle.flow_grammar.specs.Machine.{gives, read_script}
 use Rattle.flow_grammar.specs.Texts.{SpellsScript, Derives}
 use Rattle.flow_grammar.specs.Made.{IsWellMade}
 use Rattle.flow_grammar.specs.Print.{print_script, IsWithin}
+
 -- the print of what is well made, and not too deep, says it
 abbrev pub PrintSaysIt : Type 0
 PrintSaysIt = (s : Said) → IsWellMade s → IsWithin s → Derives SpellsScript (print_script s) s

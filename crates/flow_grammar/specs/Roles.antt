@@ -8,6 +8,7 @@ use Rattle.flow_form.specs.Form.{Shape, Shapes, nop, named, test, absent, ins, d
 use Rattle.flow_form.specs.Script.{Declared, fact, event, flow, Said, Asked, holds, redundant}
 use Rattle.flow_form.specs.Names.{declared_names, names_in, goals_of, names_in_rule}
 use Rattle.flow_grammar.specs.Symbol.{Symbol, Placed, symbols, a_name}
+
 pub data Role : Type 0 where
   -- it declares an event or a sub-workflow
   declares : List ℕ → Role

@@ -3,6 +3,7 @@ use Rattle.std.specs.Prelude.{◌≡◌, ℕ, ◌+◌, true, false, Option, Some
 use Rattle.flow_form.specs.declared.refusal.Wanted.{Wanted}
 use Rattle.flow_grammar.specs.Symbol.{Symbol}
 use Rattle.flow_grammar.specs.Machine.{Reading, gives, expected, too_deep, is_too_deep, shifted, run}
+
 pub record GoesByStep {S V : Type 0} (step : S → Symbol → Option S) (finish : S → Option V) (wanted : S → Wanted) (depth : S → ℕ) : Type 0 where
   pub at_start : (r : Reading V) → shifted 0 r ≡ r
   pub at_step : (s next : S) (t : Symbol) (ts : List Symbol) (i : ℕ) → step s t ≡ Some next → is_too_deep t (depth s) ≡ false →

@@ -2,6 +2,7 @@
 use Rattle.std.specs.Prelude.{◌≡◌, ℕ, List, [], ◌∷◌, ◌++◌}
 use Rattle.flow_facts.specs.declared.constant.Const.{Const}
 use Rattle.flow_facts.specs.declared.constant.Const.TheVariants.{Word, Number}
+
 pub data Symbol : Type 0 where
   fact_word event_word flow_word goal_word constraint_word : Symbol
   nop_word iso_word ins_word del_word : Symbol

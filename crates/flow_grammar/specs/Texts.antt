@@ -4,6 +4,7 @@ use Rattle.flow_form.specs.Script.{Said, Asked}
 use Rattle.flow_grammar.specs.Symbol.{Symbol, Placed, at, symbols, IsBegunBy, Deepens}
 use Rattle.flow_grammar.specs.Grammar.{ScriptText, spell_script, mean_script, QueryText, spell_query, mean_query}
 use Rattle.flow_model.specs.declared.limits.TheConstants.{GREATEST_DEPTH}
+
 -- some derivation spells w and means x
 abbrev pub SpellsScript : List Placed → Said → Type 0
 SpellsScript w x = (d : ScriptText) × (spell_script d ≡ w) × (mean_script d ≡ x)

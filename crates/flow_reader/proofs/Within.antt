@@ -1,8 +1,8 @@
 -- A symbol leads at most one deeper.
-use Rattle.std.proofs.Common.{rules, ◌≡◌, ℕ, suc, ◌≤◌, List, [], ◌∷◌, refl, arith}
+use Rattle.std.proofs.Common.{rules, ◌≡◌, ℕ, suc, ◌≤◌, refl, arith}
 use Rattle.std.specs.Prelude.{Option, Some, None}
 use Rattle.flow_grammar.specs.Symbol.{Symbol}
-use Rattle.flow_grammar.specs.Machine.{Step, reading, whole, stuck, carry, GoalState, step_goal, depth_goal, RuleState, RuleFrame, rule_parenthesis, RuleLevel, join_unit, rule_height, after_unit, after_names, step_rule, nots_in, depth_rule}
+use Rattle.flow_grammar.specs.Machine.{Step, reading, whole, stuck, carry, GoalState, step_goal, depth_goal, RuleState, step_rule, nots_in, depth_rule}
 use Rattle.flow_grammar.specs.Machine as machine
 use Rattle.flow_reader.proofs.Heights.{nots_added}
 
