@@ -2,8 +2,8 @@ pub mod Numbers
 pub mod Counting
 pub mod Rising
 pub mod Simpler
-pub mod Skeletons
 pub mod FirstPartner
 pub mod Repetitions
 pub mod Writing
+pub mod PatternLemmas
 pub mod WrittenLemmas
