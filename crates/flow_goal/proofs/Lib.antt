@@ -1,5 +1,6 @@
 pub mod Numbers
 pub mod Counting
+pub mod EachLists
 pub mod Rising
 pub mod Simpler
 pub mod FirstPartner

@@ -16,32 +16,10 @@ use Rattle.flow_goal.specs.declared.text.Text.{Text}
 use Rattle.flow_goal.specs.declared.pattern.Pattern.{Pattern, Fixed, Both', Either'}
 use Rattle.flow_goal.specs.declared.draft.Draft.{Draft}
 use Rattle.flow_goal.specs.Written.{nodes_of}
-use Rattle.flow_goal.specs.Patterns.{IsCounted, IsLineOf, Lays, Line, Writes, drafted, kept, line, line_of, lines_in, lines_of, nothing, then}
-use Rattle.flow_goal.proofs.Counting.{product_kept, some_product}
-
--- each of one list with each of another
-
-pub each_with_each-append : {A B C : Type 0} (f : A → B → C) (xs ys : List A) (zs : List B) →
-    each_with_each f (xs ++ ys) zs ≡ each_with_each f xs zs ++ each_with_each f ys zs
-each_with_each-append f [] ys zs = refl
-each_with_each-append f (x ∷ xs) ys zs =
-    ap (λ w. map (f x) zs ++ w) (each_with_each-append f xs ys zs)
-    ∙ sym (append_assoc (map (f x) zs) (each_with_each f xs zs) (each_with_each f ys zs))
-
-module _ {A : Type 0} (f : A → A → A) (assoc : (x y z : A) → f (f x y) z ≡ f x (f y z)) where
-  map_twice : (x y : A) (zs : List A) → map (f (f x y)) zs ≡ map (f x) (map (f y) zs)
-  map_twice x y [] = refl
-  map_twice x y (z ∷ zs) = λ i. assoc x y z i ∷ map_twice x y zs i
-
-  pub each_front : (x : A) (ys zs : List A) → each_with_each f (map (f x) ys) zs ≡ map (f x) (each_with_each f ys zs)
-  each_front x [] zs = refl
-  each_front x (y ∷ ys) zs =
-      (λ i. map_twice x y zs i ++ each_front x ys zs i) ∙ sym (map-append (f x) (map (f y) zs) (each_with_each f ys zs))
-
-  pub each_assoc : (xs ys zs : List A) → each_with_each f (each_with_each f xs ys) zs ≡ each_with_each f xs (each_with_each f ys zs)
-  each_assoc [] ys zs = refl
-  each_assoc (x ∷ xs) ys zs =
-      each_with_each-append f (map (f x) ys) (each_with_each f xs ys) zs ∙ (λ i. each_front x ys zs i ++ each_assoc xs ys zs i)
+use Rattle.flow_goal.specs.Patterns.{IsCounted, IsLineOf, Lays, Line, Writes, drafted, line, line_of, lines_in, lines_of, nothing, then}
+use Rattle.flow_goal.proofs.Counting.{product_capped}
+use Rattle.flow_goal.proofs.EachLists.{each_assoc}
+use Rattle.flow_goal.specs.Capped.{capped}
 
 -- lines after one another
 
@@ -185,18 +163,16 @@ pattern_size (Either' count p a q b) = pattern_size a + pattern_size b + 1
 
 -- the numbers of resolutions
 
-pub some_line : (p : Pattern) → 0 < length (lines_of p)
+some_line : (p : Pattern) → 0 < length (lines_of p)
 some_line (Fixed text) = omega arith
 some_line (Both' count p a q b) =
-    subst (λ n. 0 < n) (sym (length-each_with_each then (lines_of a) (lines_of b)))
-    (some_product (length (lines_of a)) (length (lines_of b)) (some_line a) (some_line b))
+    omega (arith, length-each_with_each then (lines_of a) (lines_of b), le-mul_of_pos_right (length (lines_of a)) (some_line b), some_line a)
 some_line (Either' count p a q b) = omega (arith, length-append (lines_of a) (lines_of b), some_line a)
 
-pub both_counted : (a b : Pattern) (m n : ℕ) → m ≡ kept (length (lines_of a)) → n ≡ kept (length (lines_of b)) →
-    min (m * n) (2 ^ 64 - 1) ≡ kept (length (lines_of a) * length (lines_of b))
+pub both_counted : (a b : Pattern) (m n : ℕ) → m ≡ capped (length (lines_of a)) → n ≡ capped (length (lines_of b)) →
+    capped (m * n) ≡ capped (length (lines_of a) * length (lines_of b))
 both_counted a b m n e f =
-    (λ i. min (e i * f i) (2 ^ 64 - 1))
-    ∙ product_kept (2 ^ 64 - 1) (length (lines_of a)) (length (lines_of b)) (omega arith) (some_line a) (some_line b)
+    (λ i. capped (e i * f i)) ∙ product_capped (2 ^ 64 - 1) (length (lines_of a)) (length (lines_of b))
 
 -- a number of both parts is a number of each
 pub record IsSplit (xs ys : List Line) (number count : ℕ) : Type 0 where
@@ -207,7 +183,7 @@ pub record IsSplit (xs ys : List Line) (number count : ℕ) : Type 0 where
   pub first_exact : length xs < 2 ^ 64 - 1
   pub second_exact : length ys < 2 ^ 64 - 1
 
-pub split : (ls : List Line) (a b : Pattern) (number count : ℕ) → ls ≡ both (lines_of a) (lines_of b) → count ≡ kept (length (lines_of b)) →
+pub split : (ls : List Line) (a b : Pattern) (number count : ℕ) → ls ≡ both (lines_of a) (lines_of b) → count ≡ capped (length (lines_of b)) →
     number < length ls → length ls < 2 ^ 64 - 1 → IsSplit (lines_of a) (lines_of b) number count
 split ls a b number count is kept_is below exact =
     let x = length (lines_of a) in
@@ -244,7 +220,7 @@ wrote_both ls xs ys number count old mid new is same (s, p, e) (t, q, f) = (
 pub wrote_left : (ls xs ys : List Line) (number : ℕ) (old new : Text) → ls ≡ xs ++ ys → Writes xs number old new → Writes ls number old new
 wrote_left ls xs ys number old new are (l, at, is) = (l, ap (λ l. slice_get l number) are ∙ slice_get_append_left xs ys number l at, is)
 
-pub wrote_right : (ls xs ys : List Line) (number count : ℕ) (old new : Text) → ls ≡ xs ++ ys → count ≡ kept (length xs) → length ls < 2 ^ 64 - 1 →
+pub wrote_right : (ls xs ys : List Line) (number count : ℕ) (old new : Text) → ls ≡ xs ++ ys → count ≡ capped (length xs) → length ls < 2 ^ 64 - 1 →
     count ≤ number → Writes ys (number - count) old new → Writes ls number old new
 wrote_right ls xs ys number count old new are kept_is exact le (l, at, is) =
     let all : length ls ≡ length xs + length ys = ap length are ∙ length-append xs ys in

@@ -1,3 +1,4 @@
+pub mod Capped
 pub mod Choices
 pub mod Goal
 pub mod Labelled

@@ -1,18 +1,15 @@
 -- The resolutions of a goal as texts, of which what they have in common is written once.
-use Rattle.std.specs.Prelude.{◌≡◌, ◌+◌, ◌-◌, ◌*◌, ◌^◌, ℕ, min, List, [], ◌∷◌, ◌++◌, length, map, Some, slice_get}
+use Rattle.std.specs.Prelude.{◌≡◌, ◌+◌, ◌*◌, ℕ, List, [], ◌∷◌, ◌++◌, length, map, Some, slice_get}
 use Rattle.flow_model.specs.Lists.{each_with_each}
 use Rattle.flow_model.specs.Process.{Process}
 use Rattle.flow_model.specs.Process as process
-use Rattle.flow_model.specs.Resolution.{resolutions, resolution_count}
+use Rattle.flow_model.specs.Resolution.{resolutions}
 use Rattle.flow_goal.specs.declared.node.Node.{Node}
 use Rattle.flow_goal.specs.declared.text.Text.{Text}
 use Rattle.flow_goal.specs.declared.pattern.Pattern.{Pattern, Fixed, Both', Either'}
 use Rattle.flow_goal.specs.declared.draft.Draft.{Draft}
+use Rattle.flow_goal.specs.Capped.{capped}
 use Rattle.flow_goal.specs.Written.{nodes_of}
-
--- a number in 64 bits
-abbrev pub kept : ℕ → ℕ
-kept n = min n (2 ^ 64 - 1)
 
 -- marks, and leaves
 pub record Line : Type 0 where
@@ -45,8 +42,8 @@ lines_of (Either' count p a q b) = lines_of a ++ lines_of b
 -- the numbers that the pattern keeps are right
 abbrev pub IsCounted : Pattern → Type 0
 IsCounted (Fixed text) = Unit {0}
-IsCounted (Both' count p a q b) = (count ≡ kept (length (lines_of a) * length (lines_of b))) × IsCounted a × IsCounted b
-IsCounted (Either' count p a q b) = (count ≡ kept (length (lines_of a) + length (lines_of b))) × IsCounted a × IsCounted b
+IsCounted (Both' count p a q b) = (count ≡ capped (length (lines_of a) * length (lines_of b))) × IsCounted a × IsCounted b
+IsCounted (Either' count p a q b) = (count ≡ capped (length (lines_of a) + length (lines_of b))) × IsCounted a × IsCounted b
 
 -- the line of that number was put behind what was written
 abbrev pub Writes : List Line → ℕ → Text → Text → Type 0

@@ -2,8 +2,9 @@ ghost use Rattle.std.specs.Prelude.{◌≡◌, ◌-◌, ◌^◌, ◌<◌, min, L
 ghost use Rattle.flow_model.specs.Resolution;
 ghost use Rattle.flow_model.specs.Process;
 ghost use Rattle.flow_goal.specs.Goal.{process_of};
+ghost use Rattle.flow_goal.specs.Capped.{capped};
 ghost use Rattle.flow_goal.specs.Choices.{AreChoicesOf};
-ghost use Rattle.flow_goal.specs.Patterns.{IsCounted, IsLineOf, kept, lines_in, lines_of};
+ghost use Rattle.flow_goal.specs.Patterns.{IsCounted, IsLineOf, lines_in, lines_of};
 
 use crate::choiceless::Choiceless;
 use crate::draft::pattern_of;
@@ -14,9 +15,9 @@ use crate::tree::Tree;
 use std::alloc::{AllocError, Global};
 
 /// How many resolutions a goal has, or the greatest `u64` where they are more.
-#[tactic(auto, using(crate::proofs::Counting::product_kept, crate::proofs::Counting::some_resolution))]
+#[tactic(auto, using(crate::proofs::Counting::product_capped))]
 fn count_of(goal: &Goal) -> u64
-    ensures { result ≡ kept (Resolution.resolution_count (process_of goal.now)) }
+    ensures { result ≡ capped (Resolution.resolution_count (process_of goal.now)) }
 {
     match goal {
         Goal::Nop | Goal::Leaf(_) => 1,

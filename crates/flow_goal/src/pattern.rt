@@ -1,5 +1,6 @@
 ghost use Rattle.std.specs.Prelude.{◌≡◌, ◌<◌, ◌-◌, ◌^◌, length, IfOk, OnOk};
-ghost use Rattle.flow_goal.specs.Patterns.{IsCounted, Writes, kept, lines_of};
+ghost use Rattle.flow_goal.specs.Capped.{capped};
+ghost use Rattle.flow_goal.specs.Patterns.{IsCounted, Writes, lines_of};
 
 use crate::text::Text;
 use std::alloc::{AllocError, Global};
@@ -20,7 +21,7 @@ impl Pattern {
     /// How many resolutions there are, or the greatest `u64` where they are more.
     pub(crate) fn count(&self) -> u64
         requires { IsCounted self.now }
-        ensures { result ≡ kept (length (lines_of self.now)) }
+        ensures { result ≡ capped (length (lines_of self.now)) }
     {
         match self {
             Pattern::Fixed(_) => 1,

@@ -1,6 +1,7 @@
 use Rattle.std.proofs.Common.{◌≡◌, ◌<◌, ◌-◌, ◌^◌, ◌++◌, [], ◌∷◌, slice_get, length, sym, ap, ◌∙◌, subst, refl, rules, arith}
 use Rattle.flow_model.specs.Lists.{each_with_each}
-use Rattle.flow_goal.specs.Patterns.{IsCounted, Writes, kept, line_of, lines_of, then}
+use Rattle.flow_goal.specs.Patterns.{IsCounted, Writes, line_of, lines_of, then}
+use Rattle.flow_goal.specs.Capped.{capped}
 use Rattle.flow_goal.proofs.PatternLemmas.{split, wrote_both, wrote_left, wrote_right}
 use Rattle.flow_goal.proofs.Writing.{ok_taken}
 use Rattle.flow_goal.proofs.pattern.+write.Goals as goal
@@ -28,7 +29,7 @@ write-requires-in-Both t c =
     let same = c.deref.ensures ∙ sym c.deref-in-Both-2.ensures in
     let s = split _ c.in-Both.first.value c.deref-in-Both-2.result.now c.args.number c.count-count.result
     (ap lines_of c.in-Both.is ∙ ap (λ p. each_with_each then (lines_of c.in-Both.first.value) (lines_of p)) (sym c.deref-in-Both-2.ensures))
-    (subst (λ p. c.count-count.result ≡ kept (length (lines_of p))) same c.count-count.ensures) c.requires.numbered c.requires.exact in
+    (subst (λ p. c.count-count.result ≡ capped (length (lines_of p))) same c.count-count.ensures) c.requires.numbered c.requires.exact in
     let k = subst IsCounted c.in-Both.is c.requires.counted in
     (search rules, (subst IsCounted (sym c.deref-in-Both-2.ensures) k.2, (s.second, s.second_exact)))
 
@@ -44,7 +45,7 @@ returns-in_ok-write-in-Both t c =
     let same = c.deref.ensures ∙ sym c.deref-in-Both-2.ensures in
     let are = ap lines_of c.in-Both.is ∙ (λ i. each_with_each then (lines_of (sym c.deref-in-Both.ensures i)) (lines_of (sym c.deref-in-Both-2.ensures i))) in
     let s = split _ c.deref-in-Both.result.now c.deref-in-Both-2.result.now c.args.number c.count-count.result are
-    (subst (λ p. c.count-count.result ≡ kept (length (lines_of p))) same c.count-count.ensures) c.requires.numbered c.requires.exact in
+    (subst (λ p. c.count-count.result ≡ capped (length (lines_of p))) same c.count-count.ensures) c.requires.numbered c.requires.exact in
     ok_taken c.write-in-Both.result _ _ c.write-in-Both.ensures
     (wrote_both _ _ _ c.args.number c.count-count.result c.args.out.now c.write.new.out c.write-in-Both.new.out are s.count_is c.in_ok-write-in-Both.ensures)
 
