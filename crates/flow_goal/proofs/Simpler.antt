@@ -85,11 +85,7 @@ isolated_again a blocks = (
 
 pub when_empty : (g : Process) → is_empty g ≡ true → g ≡ Empty
 when_empty Empty e = refl
-when_empty (Task n) e = cc
-when_empty (Sequence a b) e = cc
-when_empty (Parallel a b) e = cc
-when_empty (Choice a b) e = cc
-when_empty (Isolated a) e = cc
+when_empty g e = cc
 
 when_busy : (g : Process) → IsSimple g → is_empty g ≡ false → IsBusy g
 when_busy g (inl e) f = let h : true ≡ false = sym (ap is_empty e) ∙ f in cc
@@ -153,38 +149,23 @@ simplified_both f keeps a b x y p q false false e g = record {
 
 -- A part alone
 
+isolated_as : (a x y : Process) → SameBlocks y (Isolated x) → IsSimple y → leaves y ≡ leaves x → IsSimplified a x → IsChoiceFree y → IsSimplified (Isolated a) y
+isolated_as a x y same simple listed p free = record {
+  same = then y (Isolated x) (Isolated a) same (same_isolated a x p.same);
+  simple = simple;
+  leaves_kept = listed ∙ p.leaves_kept;
+  choice_free = free;
+}
+
 simplified_isolated : (a x : Process) → IsSimplified a x → IsSimplified (Isolated a) (isolated Simple x)
-simplified_isolated a Empty p = record {
-  same = then Empty (Isolated Empty) (Isolated a) isolated_nothing (same_isolated a Empty p.same);
-  simple = p.simple;
-  leaves_kept = p.leaves_kept;
-  choice_free = p.choice_free;
-}
-simplified_isolated a (Task n) p = record {
-  same = then (Task n) (Isolated (Task n)) (Isolated a) (isolated_leaf n) (same_isolated a (Task n) p.same);
-  simple = p.simple;
-  leaves_kept = p.leaves_kept;
-  choice_free = p.choice_free;
-}
-simplified_isolated a (Sequence x y) p = record {
-  same = same_isolated a (Sequence x y) p.same;
-  simple = inr (tt, when_busy (Sequence x y) p.simple refl);
-  leaves_kept = p.leaves_kept;
-  choice_free = p.choice_free;
-}
-simplified_isolated a (Parallel x y) p = record {
-  same = same_isolated a (Parallel x y) p.same;
-  simple = inr (tt, when_busy (Parallel x y) p.simple refl);
-  leaves_kept = p.leaves_kept;
-  choice_free = p.choice_free;
-}
+simplified_isolated a Empty p = isolated_as a Empty Empty isolated_nothing p.simple refl p tt
+simplified_isolated a (Task n) p = isolated_as a (Task n) (Task n) (isolated_leaf n) p.simple refl p tt
+simplified_isolated a (Sequence x y) p =
+    isolated_as a (Sequence x y) (Isolated (Sequence x y)) (λ blocks. ((λ h. h), (λ h. h))) (inr (tt, when_busy (Sequence x y) p.simple refl)) refl p p.choice_free
+simplified_isolated a (Parallel x y) p =
+    isolated_as a (Parallel x y) (Isolated (Parallel x y)) (λ blocks. ((λ h. h), (λ h. h))) (inr (tt, when_busy (Parallel x y) p.simple refl)) refl p p.choice_free
 simplified_isolated a (Choice x y) p = absurd p.choice_free
-simplified_isolated a (Isolated x) p = record {
-  same = then (Isolated x) (Isolated (Isolated x)) (Isolated a) (isolated_again x) (same_isolated a (Isolated x) p.same);
-  simple = p.simple;
-  leaves_kept = p.leaves_kept;
-  choice_free = p.choice_free;
-}
+simplified_isolated a (Isolated x) p = isolated_as a (Isolated x) (Isolated x) (isolated_again x) p.simple refl p p.choice_free
 
 -- The whole
 

@@ -10,27 +10,20 @@ use Rattle.flow_goal.specs.Goal.{together}
 -- it is nothing
 abbrev pub is_empty : Process → Bool
 is_empty Empty = true
-is_empty (Task n) = false
-is_empty (Sequence a b) = false
-is_empty (Parallel a b) = false
-is_empty (Choice a b) = false
-is_empty (Isolated a) = false
+is_empty g = false
 
 -- its isolation would say something
 abbrev pub is_several : Process → Bool
-is_several Empty = false
-is_several (Task n) = false
 is_several (Sequence a b) = true
 is_several (Parallel a b) = true
 is_several (Choice a b) = true
-is_several (Isolated a) = false
+is_several g = false
 
 -- one of two goals may be left out where it is nothing
 abbrev pub may_leave_out : Shape → Operator → Bool
-may_leave_out Whole operator = false
 may_leave_out Simple Serial = true
 may_leave_out Simple Beside = true
-may_leave_out Simple Either = false
+may_leave_out shape operator = false
 
 abbrev pub leaves_out : Shape → Operator → Process → Bool
 leaves_out shape operator a = may_leave_out shape operator && is_empty a
