@@ -104,24 +104,31 @@ impl Core {
         requires few { limit ≤ MOST_ENTRIES }
         ensures { IfOk result (λ core. core ≡ record { definition = workflow; limit = limit; history = [] }) }
     {
-        let Parts {
-            residual,
-            claims,
-            world,
-            history,
-        } = Parts::new(alloc, &workflow, compiled, limit)?;
-        Ok(Core {
-            workflow,
-            residual,
-            claims,
-            world,
-            limit,
-            history,
-            committed: false,
-            beside: LeafSet::new(),
-            first: LeafSet::new(),
-            looked: false,
-        })
+        match Parts::new(alloc, &workflow, compiled, limit) {
+            Ok(
+                Parts {
+                    residual,
+                    claims,
+                    world,
+                    history,
+                },
+            ) => Ok(Core {
+                workflow,
+                residual,
+                claims,
+                world,
+                limit,
+                history,
+                committed: false,
+                beside: LeafSet::new(),
+                first: LeafSet::new(),
+                looked: false,
+            }),
+            Err(error) => {
+                drop(workflow);
+                Err(error)
+            }
+        }
     }
 
     /// The workflow that is run.

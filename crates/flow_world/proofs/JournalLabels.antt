@@ -17,30 +17,14 @@ labels_at-cons : (labels : List Label) (leaf : ℕ) (leaves : List ℕ) (label :
     → labels_at labels (leaf ∷ leaves) ≡ label ∷ labels_at labels leaves
 labels_at-cons labels leaf leaves label at = rw at refl
 
-labels_at-none : (labels : List Label) (leaf : ℕ) (leaves : List ℕ) → slice_get labels leaf ≡ None
-    → labels_at labels (leaf ∷ leaves) ≡ labels_at labels leaves
-labels_at-none labels leaf leaves at = rw at refl
-
-after_leaf-some : (labels : List Label) (s : State) (leaf : ℕ) (label : Label) → slice_get labels leaf ≡ Some label → after_leaf labels s leaf ≡ after s label
-after_leaf-some labels s leaf label at = rw at refl
-
-after_leaf-none : (labels : List Label) (s : State) (leaf : ℕ) → slice_get labels leaf ≡ None → after_leaf labels s leaf ≡ s
-after_leaf-none labels s leaf at = rw at refl
-
-option_cases : {A : Type 0} (o : Option A) → ((a : A) × (o ≡ Some a)) ⊎ (o ≡ None)
-option_cases (Some a) = inl (a, refl)
-option_cases None = inr refl
-
 pub replay-labels_at : (labels : List Label) (s : State) (leaves : List ℕ) → replay labels s leaves ≡ after_all s (labels_at labels leaves)
 replay-labels_at labels s [] = refl
-replay-labels_at labels s (leaf ∷ leaves) = ⊎_elim
-    (λ (label, at). ap (λ (next : State). replay labels next leaves) (after_leaf-some labels s leaf label at)
-    ∙ replay-labels_at labels (after s label) leaves
-    ∙ ap (after_all s) (sym (labels_at-cons labels leaf leaves label at)))
-    (λ at. ap (λ (next : State). replay labels next leaves) (after_leaf-none labels s leaf at)
-    ∙ replay-labels_at labels s leaves
-    ∙ ap (after_all s) (sym (labels_at-none labels leaf leaves at)))
-    (option_cases (slice_get labels leaf))
+replay-labels_at labels s (leaf ∷ leaves) = step (slice_get labels leaf) refl (λ next. replay-labels_at labels next leaves)
+  where
+    step : (o : Option Label) → slice_get labels leaf ≡ o → ((next : State) → replay labels next leaves ≡ after_all next (labels_at labels leaves)) →
+        replay labels s (leaf ∷ leaves) ≡ after_all s (labels_at labels (leaf ∷ leaves))
+    step (Some label) at rest = rw at (rest (after s label))
+    step None at rest = rw at (rest s)
 
 -- one leaf more
 pub labels_at-push : (labels : List Label) (leaves : List ℕ) (leaf : ℕ) (label : Label) → slice_get labels leaf ≡ Some label

@@ -2,7 +2,7 @@
 use Rattle.std.proofs.Common.{◌≡◌, ◌==◌, ℕ, Bool, true, false, not, if◌then◌else◌, List, [], ◌∷◌, ◌++◌, length, refl, sym, ap, subst, ◌∙◌}
 use Rattle.std.proofs.lemmas.List.{map-append}
 use Rattle.flow_model.specs.declared.labels.Label.{Label}
-use Rattle.flow_model.specs.declared.labels.Label.TheVariants.{Event, Test, Absent, Ins, Del}
+use Rattle.flow_model.specs.declared.labels.Label.TheVariants.{Ins, Del}
 use Rattle.flow_model.specs.Facts.{State, state_with, after}
 use Rattle.flow_facts.specs.Held.{is_held}
 use Rattle.flow_world.specs.declared.update.Update.{Update}
@@ -16,18 +16,14 @@ after_all-append s (label ∷ a) b = after_all-append (after s label) a b
 
 -- states with the same facts change alike
 after-same : (s s' : State) (label : Label) → ((n : ℕ) → s n ≡ s' n) → (n : ℕ) → after s label n ≡ after s' label n
-after-same s s' (Event e) same n = same n
-after-same s s' (Test f) same n = same n
-after-same s s' (Absent f) same n = same n
 after-same s s' (Ins f) same n = ap (λ b. if n == f then true else b) (same n)
 after-same s s' (Del f) same n = ap (λ b. if n == f then false else b) (same n)
+after-same s s' other same n = same n
 
 changes-same : (s s' : State) (label : Label) → ((n : ℕ) → s n ≡ s' n) → changes s label ≡ changes s' label
-changes-same s s' (Event e) same = refl
-changes-same s s' (Test f) same = refl
-changes-same s s' (Absent f) same = refl
 changes-same s s' (Ins f) same = ap not (same f)
 changes-same s s' (Del f) same = same f
+changes-same s s' other same = refl
 
 labels_of-push : (trail : List Update) (u : Update) → labels_of (trail ++ u ∷ []) ≡ labels_of trail ++ u.label ∷ []
 labels_of-push trail u = map-append (λ (v : Update). v.label) trail (u ∷ [])

@@ -14,8 +14,6 @@ HasFactBelow count (Del f) = f < count
 
 -- the label leaves another state than it finds
 abbrev pub changes : State → Label → Bool
-changes s (Event e) = false
-changes s (Test f) = false
-changes s (Absent f) = false
 changes s (Ins f) = not (s f)
 changes s (Del f) = s f
+changes s other = false
