@@ -20,8 +20,7 @@ use Rattle.flow_expand.specs.Numbers.{facts_of, labelled_of}
 use Rattle.flow_expand.specs.Refusals.{flow_count, rule_name_count, IsFinite, IsFitting, HasManyFlows, HasRecursion, HasLargeGoal, HasManyRuleNames, HasRepetition, IsRefusal}
 use Rattle.flow_expand.specs.Workflows.{definition_of, IsExpanded}
 use Rattle.flow_expand.proofs.Endings.{becomes_one}
-use Rattle.flow_expand.proofs.BuildLemmas.{labels_counted}
-use Rattle.flow_expand.proofs.NumberingLemmas.{leaves_in_row}
+use Rattle.flow_expand.proofs.BuildLemmas.{labels_counted, leaves_in_row}
 use Rattle.flow_findings.specs.declared.refused.Refused.TheVariants as refused
 use Rattle.flow_findings.specs.Refusing.{refused_text, IsOfWorkflow}
 use Rattle.flow_cli.specs.declared.status.Status.{Status}
