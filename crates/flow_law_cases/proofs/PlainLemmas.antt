@@ -1,18 +1,19 @@
 -- One leaf at first, and then two side by side.
-use Rattle.std.proofs.Common.{◌≡◌, ℕ, ◌⊎◌, List, [], ◌∷◌, ◌++◌, refl, inl, inr, ⊎_elim, arith, sym, subst}
+use Rattle.std.proofs.Common.{◌≡◌, ℕ, ◌⊎◌, ◌↔◌, List, [], ◌∷◌, ◌++◌, refl, inl, inr, ⊎_elim, arith, sym, subst}
 use Rattle.flow_model.specs.Lists.{◌∈◌, joined}
 use Rattle.flow_model.specs.Trace.{Shuffle, both_end, from_left, from_right}
 use Rattle.flow_model.specs.Schema.{IsGood}
 use Rattle.flow_model.specs.Resolution.{ChoiceOption, options}
 use Rattle.flow_model.specs.Ready.{IsReady}
 use Rattle.flow_laws.specs.Orders.{AreSideBySide}
-use Rattle.flow_model.specs.Run.{RunState, CanTake, current_leaves, first_state, state_of}
+use Rattle.flow_model.specs.Run.{RunState, IsLegal, CanTake, current_leaves, first_state, state_of}
+use Rattle.flow_laws.specs.WellFormed.{IsWellFormed}
 use Rattle.flow_laws.proofs.NeverAtALoss.{take_next}
-use Rattle.flow_law_cases.specs.Plain.{plain, a_done, b_out, PlainIsWellFormed, FirstOnlyA, ThenBOrC, CBesideB, BothOutIsLegal}
+use Rattle.flow_law_cases.specs.Plain.{plain, a_done, b_out, both_out}
 use Rattle.flow_law_cases.proofs.WellFormed.{well_formed}
 use Rattle.flow_law_cases.proofs.TakingLemmas.{side_by_side_of_take, follow_in_every_order}
 
-pub plain_is_well_formed : PlainIsWellFormed
+pub plain_is_well_formed : IsWellFormed plain
 plain_is_well_formed = well_formed plain refl refl
 
 -- a, and then b and c in one order or the other
@@ -41,18 +42,11 @@ c_after_a = take_next plain plain_is_well_formed (state_of plain a_done) 2 (0 �
 
 -- What cannot, by the law of orders: a leaf that can be taken is ready in the only option
 
-abbrev IsAlone : (ℕ → Type 0) → ℕ → ChoiceOption → Type 0
-IsAlone Done n o = AreSideBySide o.resolution o.order Done (n ∷ [])
-
-ready_in_only : (Done : ℕ → Type 0) (n : ℕ) (o : ChoiceOption) → o ∈ options plain → IsAlone Done n o → IsReady plain.goal [] Done n
-ready_in_only Done n o (inl e) alone = (subst (IsAlone Done n) e alone).each.0
-ready_in_only Done n o (inr none) alone = absurd none
-
 ready_of_take : (s : RunState) (n : ℕ) → current_leaves s ≡ [] → CanTake plain s n → IsReady plain.goal [] (λ x. x ∈ s.journal) n
 ready_of_take s n none h =
     let (o, m, sides) = side_by_side_of_take plain plain_is_well_formed s n h in
-    ready_in_only (λ x. x ∈ s.journal) n o m
-    (subst (λ ls. AreSideBySide o.resolution o.order (λ x. x ∈ s.journal) (ls ++ n ∷ [])) none sides)
+    let alone = subst (λ ls. AreSideBySide o.resolution o.order (λ x. x ∈ s.journal) (ls ++ n ∷ [])) none sides in
+    elim m [ inl e ↦ subst (λ (o : ChoiceOption). IsReady o.resolution o.order (λ x. x ∈ s.journal) n) e alone.each.0 | inr nothing ↦ absurd nothing ]
 
 only_a_is_ready : (n : ℕ) → IsReady plain.goal [] (λ x. x ∈ []) n → n ≡ 0
 only_a_is_ready n ready = elim ready.leaf [ inl e ↦ e | inr later ↦ absurd (ready.before 0 (inl (inl (inl (inl refl, later))))) ]
@@ -60,13 +54,13 @@ only_a_is_ready n ready = elim ready.leaf [ inl e ↦ e | inr later ↦ absurd (
 b_or_c_is_ready : (n : ℕ) → IsReady plain.goal [] (λ x. x ∈ (0 ∷ [])) n → (n ≡ 1) ⊎ (n ≡ 2)
 b_or_c_is_ready n ready = ⊎_elim (λ e. absurd (ready.not_done (inl e))) (⊎_elim inl (⊎_elim inr absurd)) ready.leaf
 
-pub first_only_a : FirstOnlyA
+pub first_only_a : (n : ℕ) → CanTake plain first_state n ↔ (n ≡ 0)
 first_only_a n = (
   λ h. only_a_is_ready n (ready_of_take first_state n refl h),
   λ e. subst (CanTake plain first_state) (sym e) a_at_first,
 )
 
-pub then_b_or_c : ThenBOrC
+pub then_b_or_c : (n : ℕ) → CanTake plain (state_of plain a_done) n ↔ ((n ≡ 1) ⊎ (n ≡ 2))
 then_b_or_c n =
     let can = CanTake plain (state_of plain a_done) in (
       λ h. b_or_c_is_ready n (ready_of_take (state_of plain a_done) n refl h),
@@ -79,7 +73,7 @@ abbrev only : ChoiceOption
 only = record { resolution = plain.goal; order = [] }
 
 -- the second claim, while the first is out
-pub c_beside_b : CBesideB
+pub c_beside_b : CanTake plain (state_of plain b_out) 2
 c_beside_b = (
   refl,
   λ h. elim h [ inl e ↦ omega (arith, e) | inr none ↦ none ],
@@ -92,7 +86,7 @@ c_beside_b = (
   ),
 )
 
-pub both_out_is_legal : BothOutIsLegal
+pub both_out_is_legal : IsLegal plain 7 both_out
 both_out_is_legal = (
   refl,
   omega arith,

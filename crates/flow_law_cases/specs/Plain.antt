@@ -1,13 +1,11 @@
 -- One task, and then two beside one another.
-use Rattle.std.specs.Prelude.{◌≡◌, ℕ, List, [], ◌∷◌, ◌↔◌, ◌⊎◌}
+use Rattle.std.specs.Prelude.{List, [], ◌∷◌}
 use Rattle.flow_model.specs.declared.labels.Label.TheVariants.{Event}
 use Rattle.flow_model.specs.declared.labels.Note.TheVariants as note
 use Rattle.flow_model.specs.declared.history.Entry.{Entry}
 use Rattle.flow_model.specs.declared.history.Step.TheVariants.{Took, Done}
 use Rattle.flow_model.specs.Process.{Task, Sequence, Parallel}
 use Rattle.flow_model.specs.Schema.{Schema}
-use Rattle.flow_model.specs.Run.{IsLegal, CanTake, first_state, state_of}
-use Rattle.flow_laws.specs.WellFormed.{IsWellFormed}
 
 -- a * (b | c); the events a, b, c are 0, 1, 2
 abbrev pub plain : Schema
@@ -19,35 +17,15 @@ plain = record {
   notes = note.Done ∷ note.Done ∷ note.Done ∷ [];
 }
 
--- its leaves are numbered, and no execution holds an event twice
-abbrev pub PlainIsWellFormed : Type 0
-PlainIsWellFormed = IsWellFormed plain
-
--- at first just a can be taken
-abbrev pub FirstOnlyA : Type 0
-FirstOnlyA = (n : ℕ) → CanTake plain first_state n ↔ (n ≡ 0)
-
 -- a is done
 abbrev pub a_done : List Entry
 a_done = record { by = 0; step = Took 1 0 } ∷ record { by = 0; step = Done 1 } ∷ []
-
--- and then just b and c
-abbrev pub ThenBOrC : Type 0
-ThenBOrC = (n : ℕ) → CanTake plain (state_of plain a_done) n ↔ ((n ≡ 1) ⊎ (n ≡ 2))
 
 -- then a claim on b is given
 abbrev pub b_out : List Entry
 b_out = record { by = 0; step = Took 1 0 } ∷ record { by = 0; step = Done 1 } ∷ record { by = 0; step = Took 2 1 } ∷ []
 
--- c can be taken beside it
-abbrev pub CBesideB : Type 0
-CBesideB = CanTake plain (state_of plain b_out) 2
-
 -- and one on c, so that both are out together
 abbrev pub both_out : List Entry
 both_out = record { by = 0; step = Took 1 0 } ∷ record { by = 0; step = Done 1 }
     ∷ record { by = 0; step = Took 2 1 } ∷ record { by = 1; step = Took 3 2 } ∷ []
-
--- all these entries may be made in turn
-abbrev pub BothOutIsLegal : Type 0
-BothOutIsLegal = IsLegal plain 7 both_out
