@@ -204,13 +204,12 @@ ring_from_least q pairs items (x ∷ ring) r =
 -- decisions
 
 decide_sequence : (g : Process) (x y : ℕ) → Decided (InSequence g x y)
-decide_sequence Empty x y = inr (λ h. h)
-decide_sequence (Task n) x y = inr (λ h. h)
 decide_sequence (Sequence a b) x y =
     decide_either (decide_either (decide_both (decide_in x (leaves a)) (decide_in y (leaves b))) (decide_sequence a x y)) (decide_sequence b x y)
 decide_sequence (Parallel a b) x y = decide_either (decide_sequence a x y) (decide_sequence b x y)
 decide_sequence (Choice a b) x y = decide_either (decide_sequence a x y) (decide_sequence b x y)
 decide_sequence (Isolated a) x y = decide_sequence a x y
+decide_sequence leaf x y = inr (λ h. h)
 
 decide_pair_eq : (x y : ℕ × ℕ) → Decided (x ≡ y)
 decide_pair_eq (x, y) (u, v) = grind (arith, decide_eq x u, decide_eq y v)

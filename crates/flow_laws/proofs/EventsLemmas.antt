@@ -58,12 +58,11 @@ two_in_halves a b m n f g (inl (inr h)) = one_in_halves a b (m ∷ n ∷ []) f g
 two_in_halves a b m n f g (inr h) = one_in_halves a b (m ∷ n ∷ []) f g (inr h)
 
 may_do_two : (g : Process) (m n : ℕ) → AreTogether g m n → MayDo g (m ∷ n ∷ [])
-may_do_two Empty m n h = absurd h
-may_do_two (Task k) m n h = absurd h
 may_do_two (Sequence a b) m n h = (two_in_halves a b m n (may_do_two a m n) (may_do_two b m n) h).0
 may_do_two (Parallel a b) m n h = (two_in_halves a b m n (may_do_two a m n) (may_do_two b m n) h).1
 may_do_two (Choice a b) m n h = in_choice a b (m ∷ n ∷ []) (may_do_two a m n) (may_do_two b m n) h
 may_do_two (Isolated a) m n h = do_isolated a (m ∷ n ∷ []) (may_do_two a m n h)
+may_do_two leaf m n h = absurd h
 
 -- the goal may be executed so that both leaves are done
 pub blocks_with_both : (g : Process) (m n : ℕ) → AreTogether g m n →

@@ -34,8 +34,6 @@ in_halves a b bs (x, y, ha, hb, s) = (x, y, ha, hb, shuffle-joined s)
 
 -- each leaf that is done is one of the goal
 pub leaf_of_blocks : (g : Process) (bs : List (List ℕ)) → Blocks g bs → (n : ℕ) → n ∈ joined bs → n ∈ leaves g
-leaf_of_blocks Empty bs h n m = subst (λ w. n ∈ joined w) h m
-leaf_of_blocks (Task k) bs h n m = subst (λ w. n ∈ joined w) h m
 leaf_of_blocks (Sequence a b) bs h n m =
     let (x, y, ha, hb, s) = in_halves a b bs (beside a b bs h) in
     mem_by_halves n (leaves a) (leaves b) (leaf_of_blocks a x ha n) (leaf_of_blocks b y hb n) (of_shuffle s n m)
@@ -45,6 +43,7 @@ leaf_of_blocks (Parallel a b) bs h n m =
 leaf_of_blocks (Choice a b) bs h n m =
     mem_by_halves n (leaves a) (leaves b) (λ k. leaf_of_blocks a bs k n m) (λ k. leaf_of_blocks b bs k n m) h
 leaf_of_blocks (Isolated a) bs (x, h, e) n m = leaf_of_blocks a x h n (subst (λ w. n ∈ w) (ap joined e ∙ joined-as_one x) m)
+leaf_of_blocks leaf bs h n m = subst (λ w. n ∈ joined w) h m
 
 -- each leaf of the goal is done
 pub leaf_in_blocks : (q : Process) → IsChoiceFree q → (bs : List (List ℕ)) → Blocks q bs → (n : ℕ) → n ∈ leaves q → n ∈ joined bs

@@ -164,14 +164,6 @@ pair_is t x y to from = (
   λ (way, m, s). ⊎_elim (λ (e : way ≡ (x, y) ∷ []). from (subst (λ v. AreInOrder v t) e s).0) absurd m,
 )
 
-must_by_way : {labels : List Label} {t ls : List ℕ} → AreItsLeaves labels t ls → (e : ℕ) (o : Option ℕ) →
-    leaf_of_event labels ls e ≡ o → (e ∈ events_of labels t) ↔ HasWay (ways_of_must o) t
-must_by_way {t = t} l e o h = grind (arith, h, cases_option o, event_is_not_there l e, event_is_there l e, free_has_way t)
-
-never_by_way : {labels : List Label} {t ls : List ℕ} → AreItsLeaves labels t ls → (e : ℕ) (o : Option ℕ) →
-    leaf_of_event labels ls e ≡ o → (¬ (e ∈ events_of labels t)) ↔ HasWay (ways_of_never o) t
-never_by_way {t = t} l e o h = grind (arith, h, cases_option o, event_is_not_there l e, event_is_there l e, free_has_way t)
-
 -- where one event is not there, or the two are one, they do not stand in order
 not_in_order : {labels : List Label} {t ls : List ℕ} → AreItsLeaves labels t ls → (a b : ℕ) →
     ((a == b) ≡ true) ⊎ ((leaf_of_event labels ls a ≡ None) ⊎ (leaf_of_event labels ls b ≡ None)) → ¬ (StandsBefore a b (events_of labels t))
@@ -237,8 +229,10 @@ pub ways_decide : {labels : List Label} {t ls : List ℕ} → AreItsLeaves label
     MeetsNormal n (events_of labels t) ↔ HasWay (ways n (leaf_of_event labels ls)) t
 ways_decide {t = t} l always = (λ h. free_has_way t, λ h. tt)
 ways_decide l impossible = (λ h. absurd h, λ h. h.1)
-ways_decide l (must e) = must_by_way l e _ refl
-ways_decide l (never e) = never_by_way l e _ refl
+ways_decide {labels} {t} {ls} l (must e) =
+    grind (arith, cases_option (leaf_of_event labels ls e), event_is_not_there l e, event_is_there l e, free_has_way t)
+ways_decide {labels} {t} {ls} l (never e) =
+    grind (arith, cases_option (leaf_of_event labels ls e), event_is_not_there l e, event_is_there l e, free_has_way t)
 ways_decide l (before a b) = before_by_way l a b _ refl _ refl _ refl
 ways_decide l (not_before a b) = not_before_by_way l a b _ refl _ refl _ refl
 ways_decide {t = t} l (both x y) = both_by_way t _ _ _ _ (ways_decide l x) (ways_decide l y)
