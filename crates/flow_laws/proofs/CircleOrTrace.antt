@@ -3,7 +3,7 @@
 use Rattle.std.proofs.Common.{◌≡◌, ◌≢◌, ℕ, ◌≤◌, List, [], ◌∷◌, length, sym, ◌∙◌, subst, inl, inr, ⊎_elim, arith, ◌++◌, ◌⊎◌, map, refl, ap, le_refl, append_assoc, append-nil, length-append, zero, suc}
 use Rattle.std.proofs.lemmas.Bool.{cases_lt}
 use Rattle.flow_model.specs.Lists.{◌∈◌, Each, AreDistinct, StandsBefore, Begins}
-use Rattle.flow_model.specs.Process.{Process, leaves, Empty, Task, Sequence, Parallel, Choice, Isolated}
+use Rattle.flow_model.specs.Process.{Process, leaves, Sequence, Parallel, Choice, Isolated}
 use Rattle.flow_model.specs.Ready.{isolated_parts, InSequence, DirectlyBefore, IsReady, IsReadyRun, IsCompleteRun}
 use Rattle.flow_model.specs.Circle.{items_of, ItemBefore, LeadsBackTo, IsRing, IsCircle, least_of, BeginsWithLeast}
 use Rattle.flow_laws.specs.WellFormed.{IsOrdered}
