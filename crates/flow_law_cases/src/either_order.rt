@@ -4,10 +4,10 @@ ghost use Rattle.flow_model.specs.Schema.{IsGood};
 ghost use Rattle.flow_model.specs.Resolution.{ChoiceOption, options, bulk};
 ghost use Rattle.flow_model.specs.Run.{IsLegal, CanTake, MayFollow, first_state, state_of};
 ghost use Rattle.flow_laws.specs.WellFormed.{IsWellFormed};
-ghost use Rattle.flow_law_cases.specs.EitherOrder.{either_way, one_out};
+ghost use Rattle.flow_law_cases.specs.Workflows.{either_way, one_out};
 
 /// Each order is an option of its own, of two leaves and one pair.
-#[tactic(auto, using(crate::proofs::EitherOrderLemmas::either_way_is_well_formed, crate::proofs::EitherOrderLemmas::both_orders_are_good))]
+#[tactic(auto, using(crate::proofs::TakingLemmas::either_way_is_well_formed, crate::proofs::TakingLemmas::both_orders_are_good))]
 pub fn case_either_order_has_two_options()
     ensures well_formed { IsWellFormed either_way }
     ensures options { length (options either_way) ≡ 2 }
@@ -16,7 +16,7 @@ pub fn case_either_order_has_two_options()
 {}
 
 /// Either task may come first, and yet the two are never out together: no one option has both orders.
-#[tactic(auto, using(crate::proofs::EitherOrderLemmas::either_can_be_taken, crate::proofs::EitherOrderLemmas::no_option_has_both_orders, crate::proofs::EitherOrderLemmas::one_out_is_legal, crate::proofs::EitherOrderLemmas::other_cannot_be_taken))]
+#[tactic(auto, using(crate::proofs::TakingLemmas::either_can_be_taken, crate::proofs::TakingLemmas::no_option_has_both_orders, crate::proofs::TakingLemmas::one_out_is_legal, crate::proofs::TakingLemmas::other_cannot_be_taken))]
 pub fn case_either_order_one_at_a_time()
     ensures either { CanTake either_way first_state 0 × CanTake either_way first_state 1 }
     ensures no_option { (o : ChoiceOption) → o ∈ options either_way →
