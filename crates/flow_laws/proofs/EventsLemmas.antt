@@ -87,12 +87,11 @@ together_in_halves a b in_a in_b bs (x, y, hx, hy, s) m n i j d =
 
 pub are_together : (g : Process) (bs : List (List ℕ)) → Blocks g bs → (m n : ℕ) → m ∈ joined bs → n ∈ joined bs → m ≢ n →
     AreTogether g m n ⊎ AreTogether g n m
-are_together Empty bs h m n i j d = grind (arith, h, i)
-are_together (Task k) bs h m n i j d = grind (arith, h, i, j, d)
 are_together (Sequence a b) bs h m n i j d = together_in_halves a b (are_together a) (are_together b) bs (beside a b bs h) m n i j d
 are_together (Parallel a b) bs h m n i j d = together_in_halves a b (are_together a) (are_together b) bs h m n i j d
 are_together (Choice a b) bs h m n i j d = grind (arith, h, i, j, d, are_together a bs, are_together b bs)
 are_together (Isolated a) bs (x, h, e) m n i j d = grind (arith, e, joined-as_one x, i, j, are_together a x h m n, d)
+are_together leaf bs h m n i j d = grind (arith, h, i, j, d)
 
 -- The law
 

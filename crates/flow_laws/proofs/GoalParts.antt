@@ -12,12 +12,11 @@ use Rattle.flow_laws.proofs.MadeLists.{mem_joined, list_having, joined_apart, jo
 
 -- how many goals a goal is made of
 abbrev pub goal_size : Process → ℕ
-goal_size Empty = 1
-goal_size (Task n) = 1
 goal_size (Sequence a b) = suc (goal_size a + goal_size b)
 goal_size (Parallel a b) = suc (goal_size a + goal_size b)
 goal_size (Choice a b) = suc (goal_size a + goal_size b)
 goal_size (Isolated a) = suc (goal_size a)
+goal_size leaf = 1
 
 pub record IsJoined {A : Type 0} (whole a b : List A) : Type 0 where
   pub is : whole ≡ a ++ b

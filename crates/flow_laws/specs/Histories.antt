@@ -2,7 +2,7 @@
 use Rattle.std.specs.Prelude.{◌≡◌, ℕ, ◌≤◌, false, List, length, map, ◌⊎◌}
 use Rattle.flow_model.specs.declared.history.Entry.{Entry}
 use Rattle.flow_model.specs.declared.labels.Label.{Label}
-use Rattle.flow_model.specs.declared.labels.Label.TheVariants.{Event, Test, Absent, Ins, Del}
+use Rattle.flow_model.specs.declared.labels.Label.TheVariants.{Test, Absent}
 use Rattle.flow_model.specs.Lists.{◌∈◌, Each, Begins, numbers_from}
 use Rattle.flow_model.specs.Facts.{Runs}
 use Rattle.flow_model.specs.Schema.{Schema, start_of, IsEventLeaf, IsGood}
@@ -33,11 +33,9 @@ NeverAtALoss = (w : Schema) → IsWellFormed w → IsConsistent w → (limit : �
 
 -- the label is neither a test nor an absence
 abbrev pub NeverWaits : Label → Type 0
-NeverWaits (Event e) = Unit {0}
 NeverWaits (Test f) = ⊥
 NeverWaits (Absent f) = ⊥
-NeverWaits (Ins f) = Unit {0}
-NeverWaits (Del f) = Unit {0}
+NeverWaits other = Unit {0}
 
 abbrev pub NeverStuckWithoutTests : Type 0
 NeverStuckWithoutTests = (w : Schema) → IsWellFormed w → IsConsistent w → Each NeverWaits w.labels →
