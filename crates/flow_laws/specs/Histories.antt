@@ -3,7 +3,7 @@ use Rattle.std.specs.Prelude.{◌≡◌, ℕ, ◌≤◌, false, List, length, ma
 use Rattle.flow_model.specs.declared.history.Entry.{Entry}
 use Rattle.flow_model.specs.declared.labels.Label.{Label}
 use Rattle.flow_model.specs.declared.labels.Label.TheVariants.{Test, Absent}
-use Rattle.flow_model.specs.Lists.{◌∈◌, Each, Begins, numbers_from}
+use Rattle.flow_model.specs.Lists.{◌∈◌, Each, numbers_from}
 use Rattle.flow_model.specs.Facts.{Runs}
 use Rattle.flow_model.specs.Schema.{Schema, start_of, IsEventLeaf, IsGood}
 use Rattle.flow_model.specs.Run.{Claim, RunState, current_claims, current_leaves, MayAllFollow, CanTake, CanDoAside, IsLegal, IsStuck, state_of}
@@ -20,10 +20,6 @@ pub record IsSound (w : Schema) (s : RunState) : Type 0 where
   pub epochs : Each (λ (claim : Claim). claim.epoch ≤ s.epoch) s.claims
   -- in some one option the current claims' leaves may follow the journal in every order
   pub extends : MayAllFollow w s (current_leaves s)
-
-abbrev pub LegalStatesExtend : Type 0
-LegalStatesExtend = (w : Schema) → IsWellFormed w → IsConsistent w → (limit : ℕ) (history : List Entry) → IsLegal w limit history →
-    (front : List Entry) → Begins history front → IsSound w (state_of w front)
 
 -- a claim is out, or some leaf can be taken or, state aside, done
 abbrev pub NeverAtALoss : Type 0
