@@ -6,13 +6,13 @@ use Rattle.std.proofs.lemmas.Option.{slice_get_past, slice_get_read}
 use Rattle.leaf_rows.specs.declared.leaf_set.LeafSet.{LeafSet}
 use Rattle.leaf_rows.specs.Leaves.{has_leaf}
 use Rattle.flow_model.specs.Lists.{◌∈◌, Each, AreDistinct, StandsBefore, joined}
-use Rattle.flow_laws.proofs.Members.{each_member, decide_in, distinct-append, before_across, before_left, each_from_members, mem_append_left, mem_append_right, mem-append}
+use Rattle.flow_laws.proofs.Members.{each_member, decide_in, distinct-append, before_across, before_left, each_from_members, mem_append_left, mem_append_right, mem-append, at_most}
 use Rattle.flow_laws.proofs.MadeLists.{some_same, joined-append}
 use Rattle.flow_plan.proofs.PlaceLemmas.{read_member}
 use Rattle.flow_sample.specs.declared.item.Item.{Item}
 use Rattle.flow_sample.specs.Rows.{has_inside, has_waits, run_in, runs, least_in, least_at, IsIn, WaitsFor, IsEdge, AreApart}
 use Rattle.flow_sample.specs.Arranged.{IsArranged, IsWholeOrder, IsCycle, LeadsOn, TakesIn}
-use Rattle.flow_sample.proofs.RingLemmas.{at_most, IsTrail, trail_end}
+use Rattle.flow_sample.proofs.RingLemmas.{IsTrail, trail_end}
 
 -- tests
 
