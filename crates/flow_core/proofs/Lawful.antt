@@ -9,8 +9,8 @@ use Rattle.flow_model.specs.Schema.{Schema, IsGood}
 use Rattle.flow_model.specs.Run.{RunState, first_state, next_state, state_after, database, IsAllowed, IsLegalFrom}
 use Rattle.flow_laws.proofs.NeverAtALoss.{sound_state}
 use Rattle.flow_workflow.specs.Definition.{Definition, schema_of}
-use Rattle.flow_world.specs.Course.{Course, after_all, state_of_world}
-use Rattle.flow_world.proofs.JournalLabels.{replay-labels_at}
+use Rattle.flow_facts.specs.Course.{Course, after_all, state_of_world}
+use Rattle.flow_facts.proofs.JournalLabels.{replay-labels_at}
 use Rattle.flow_core.specs.declared.engine.Core.TheInside.{Inside}
 use Rattle.flow_core.specs.Invariant.{IsCourseOf, IsRunning}
 use Rattle.flow_core.proofs.Steps.{sound_now}

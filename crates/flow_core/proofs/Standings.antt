@@ -20,8 +20,8 @@ use Rattle.flow_claims.specs.declared.given.Given.{Given}
 use Rattle.flow_claims.specs.Given.{claim_of}
 use Rattle.flow_claims.specs.Claimed.{run_of, IsGivenAt}
 use Rattle.flow_claims.proofs.Outstanding.{each_at}
-use Rattle.flow_world.specs.Changes.{HasFactBelow}
-use Rattle.flow_world.proofs.JournalLabels.{length-labels_at}
+use Rattle.flow_facts.specs.Changes.{HasFactBelow}
+use Rattle.flow_facts.proofs.JournalLabels.{length-labels_at}
 use Rattle.flow_core.specs.Answers.{IsUnanswered, IsLeastCurrent}
 use Rattle.flow_core.specs.Standing.{IsGiven}
 use Rattle.flow_core.specs.declared.engine.Core.TheInside.{Inside}

@@ -20,9 +20,9 @@ use Rattle.flow_sample.specs.Excised.{HasExecution}
 use Rattle.flow_excise.specs.Executions.{AreJustThose}
 use Rattle.flow_residual.specs.Remaining.{Remaining, IsOf}
 use Rattle.flow_claims.specs.Claimed.{Claimed}
-use Rattle.flow_world.specs.Course.{Course}
-use Rattle.flow_world.specs.Journals.{labels_at}
-use Rattle.flow_world.proofs.JournalLabels.{labels_at-push, labels_at-take}
+use Rattle.flow_facts.specs.Course.{Course}
+use Rattle.flow_facts.specs.Journals.{labels_at}
+use Rattle.flow_facts.proofs.JournalLabels.{labels_at-push, labels_at-take}
 use Rattle.flow_core.specs.declared.engine.Core.TheInside.{Inside}
 use Rattle.flow_core.specs.Invariant.{AreClaimsOf, IsCourseOf, IsKept, IsRunning}
 use Rattle.flow_core.proofs.Following.{journal_within}

@@ -6,10 +6,10 @@ ghost use Rattle.flow_workflow.specs.Definition.{schema_of};
 
 use flow_claims::Claims;
 use flow_excise::Compiled;
+use flow_facts::World;
 use flow_model::Entry;
 use flow_residual::Residual;
 use flow_workflow::Workflow;
-use flow_world::World;
 use leaf_rows::LeafSet;
 use std::alloc::{AllocError, Global};
 use std::marker::Model;

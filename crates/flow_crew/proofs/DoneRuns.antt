@@ -31,7 +31,7 @@ use Rattle.flow_core.specs.Run.{Run, schema, now}
 use Rattle.flow_core.proofs.Steps.{state_after-append}
 use Rattle.flow_core.proofs.Following.{within_free}
 use Rattle.flow_core.proofs.Calls.{number_in, note_in}
-use Rattle.flow_gate.specs.Outcomes.{is_same, announced, outcome_by}
+use Rattle.flow_crew.specs.Outcomes.{is_same, announced, outcome_by}
 use Rattle.flow_crew.specs.declared.ends.End.{End}
 use Rattle.flow_crew.specs.declared.ends.End.TheVariants as end
 use Rattle.flow_crew.specs.Ends.{IsEnd}

@@ -22,9 +22,9 @@ use Rattle.flow_sample.specs.Excised.{HasExecution}
 use Rattle.flow_excise.specs.Executions.{AreJustThose}
 use Rattle.flow_excise.proofs.SiftingLemmas.{kept_has}
 use Rattle.flow_workflow.specs.Definition.{Definition, schema_of}
-use Rattle.flow_world.specs.Course.{Course, state_of_world}
-use Rattle.flow_world.specs.Journals.{labels_at}
-use Rattle.flow_world.proofs.JournalLabels.{replay-labels_at, length-labels_at}
+use Rattle.flow_facts.specs.Course.{Course, state_of_world}
+use Rattle.flow_facts.specs.Journals.{labels_at}
+use Rattle.flow_facts.proofs.JournalLabels.{replay-labels_at, length-labels_at}
 use Rattle.flow_residual.specs.Options.{SomeOption}
 use Rattle.flow_residual.specs.Remaining.{Remaining, IsOf}
 use Rattle.flow_residual.proofs.PossibleLemmas.{has_kept, is_good}

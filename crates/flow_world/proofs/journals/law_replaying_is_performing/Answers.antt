@@ -1,5 +1,0 @@
-use Rattle.flow_world.proofs.JournalLabels.{replay-labels_at, labels_at-take}
-use Rattle.flow_world.proofs.journals.law_replaying_is_performing.Goals as goal
-
-pub returns : goal.returns
-returns c = record { replaying = replay-labels_at; fronts = labels_at-take }
