@@ -15,6 +15,8 @@ use Rattle.flow_plan.specs.Rows.{IsRowOf, AreRowsOf}
 use Rattle.flow_plan.specs.Ahead.{IsInSome, IsOutside}
 use Rattle.flow_plan.specs.Spans.{at_span, IsEarlier, AreRising, AddsSpans}
 use Rattle.flow_plan.specs.Parts.{IsOneAtMost, IsPartFor, ArePartsFor, IsPartRow, HasTwo, HaveSameLeaves, HaveOtherLeaves, ArePartsOf, PartAllows}
+use Rattle.std.proofs.lemmas.Option.{slice_get-get_or}
+use Rattle.flow_model.proofs.Lists.{mem-slice_get}
 use Rattle.flow_plan.proofs.PlaceLemmas.{place_of_member, read_member}
 use Rattle.std.proofs.lemmas.List.Kept.{AllPairs-from_increasing}
 use Rattle.flow_plan.proofs.RowLemmas.{row_same, one_more, mem_more}
@@ -224,21 +226,10 @@ spans_long q ns none spans empty listed adds = each_from_members (IsLong ns) spa
       ⊎_elim (λ h. absurd (old h)) (λ inside. omega (arith, inside.1, ap length listed)) (adds.within s member),
     ))
 
--- a list of rising small numbers is short
-rises_from : (ns : List ℕ) → IsStrictlyIncreasing ns → (k : ℕ) → k < length ns → k ≤ get_or ns k 0
-rises_from ns rising zero within = omega arith
-rises_from ns rising (suc k) within =
-    omega (arith, rises_from ns rising k (omega (arith, within)), AllPairs-from_increasing ns rising k (suc k) 0 (omega arith) within)
-
--- a span at a place of the list
-long_at : (ns : List ℕ) (spans : List Span) (k : ℕ) (d : Span) → Each (IsLong ns) spans → k < length spans → IsLong ns (get_or spans k d)
-long_at ns [] k d all within = absurd (omega (arith, within))
-long_at ns (s ∷ spans) zero d all within = all.0
-long_at ns (s ∷ spans) (suc k) d all within = long_at ns spans k d all.1 (omega (arith, within))
-
 pub spans_fit : (ns : List ℕ) (spans : List Span) → Each (IsLong ns) spans → (k : ℕ) (d : Span) → k < length spans →
     ((get_or spans k d).first ≤ (get_or spans k d).end) × ((get_or spans k d).end ≤ length ns)
-spans_fit ns spans all k d within = let long = long_at ns spans k d all within in (omega (arith, long.0), long.1)
+spans_fit ns spans all k d within =
+    let long = each_member (IsLong ns) spans all (get_or spans k d) (mem-slice_get spans k (get_or spans k d) (slice_get-get_or spans k d within)) in (omega (arith, long.0), long.1)
 
 pub parts_of_spans : (q : Process) (pairs : List (ℕ × ℕ)) (ns : List ℕ) (before : List (LeafSet 16)) (none spans : List Span) (rows : List PartRow) → none ≡ [] → ns ≡ leaves q →
     IsStrictlyIncreasing ns → AreRowsOf (DirectlyBefore q pairs) ns before → AddsSpans q (leaves q) 0 none spans → ArePartsFor ns before spans rows → ArePartsOf q pairs rows

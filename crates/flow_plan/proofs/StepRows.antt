@@ -1,5 +1,5 @@
 -- What may come next in a plan, for all its leaves at once.
-use Rattle.std.proofs.Common.{◌≡◌, ℕ, ◌+◌, ◌<◌, zero, suc, Bool, true, false, not, ◌==◌, ◌&&◌, ◌||◌, ◌↔◌, IsTrue, eq-eqb, eqb-true, List, [], ◌∷◌, ◌++◌, length, take, get_or, inl, inr, ◌⊎◌, ⊎_elim, refl, sym, ap, ◌∙◌, subst, arith}
+use Rattle.std.proofs.Common.{◌≡◌, ℕ, ◌+◌, ◌<◌, Bool, true, false, not, ◌==◌, ◌&&◌, ◌||◌, ◌↔◌, IsTrue, eq-eqb, eqb-true, List, [], ◌∷◌, ◌++◌, length, take, get_or, inl, inr, ◌⊎◌, ⊎_elim, refl, sym, ap, ◌∙◌, subst}
 use Rattle.std.proofs.lemmas.List.{take_more}
 use Rattle.std.proofs.lemmas.Bool.{or_cases, or_left, or_right}
 use Rattle.leaf_rows.specs.Leaves.{has_leaf}
@@ -17,6 +17,8 @@ use Rattle.flow_plan.specs.Orders.{MayComeNext, MayFollowInEveryOrder}
 use Rattle.flow_plan.specs.Rows.{IsRowOf, IsFree}
 use Rattle.flow_plan.specs.Parts.{PartAllows, KeepsBeside, KeepsAfter}
 use Rattle.flow_plan.specs.Fields.{AreFieldsOf}
+use Rattle.std.proofs.lemmas.Option.{slice_get-get_or}
+use Rattle.flow_model.proofs.Lists.{mem-slice_get}
 use Rattle.flow_plan.proofs.RowLemmas.{one_more, mem_more}
 use Rattle.flow_plan.proofs.Readiness.{Before, ready_of_free, parts_of_ready}
 use Rattle.flow_plan.proofs.Following.{every_order, by_two}
@@ -25,9 +27,7 @@ use Rattle.flow_plan.proofs.Together.{together_beside, distinct_by_two, after_ke
 -- ---- part by part
 
 pub part_at : (parts : List PartRow) (i : ℕ) (row d : PartRow) → i < length parts → row ≡ get_or parts i d → row ∈ parts
-part_at [] i row d within is = absurd (omega arith)
-part_at (first ∷ parts) zero row d within is = inl is
-part_at (first ∷ parts) (suc i) row d within is = inr (part_at parts i row d (omega arith) is)
+part_at parts i row d within is = subst (λ (r : PartRow). r ∈ parts) (sym is) (mem-slice_get parts i (get_or parts i d) (slice_get-get_or parts i d within))
 
 pub kept_step : (P : PartRow → Type 0) (parts : List PartRow) (i : ℕ) (row : PartRow) (new now was : Bool) → i < length parts → row ≡ get_or parts i row →
     (IsTrue new ↔ (IsTrue now × P row)) → (IsTrue now ↔ (IsTrue was × Each P (take i parts))) → IsTrue new ↔ (IsTrue was × Each P (take (i + 1) parts))

@@ -105,10 +105,10 @@ impl Gathering {
             (TellsCircle plan.now.process (pairs_of plan.now.tokens)) }
     {
         match node {
-            Node::Nop | Node::Serial | Node::Fork | Node::Split | Node::Join => Ok(()),
             Node::Leaf => self.leaf(alloc, plan),
             Node::Open => self.open(alloc, plan),
             Node::Close => self.close(alloc, plan),
+            _ => Ok(()),
         }
     }
 }
