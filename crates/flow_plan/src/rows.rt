@@ -21,13 +21,7 @@ fn sequence_rows(alloc: Global, goal: &Choiceless) -> Result<Vec<LeafSet<16>>, A
     ensures { IfOk result (λ rows. AreRowsOf (InSequence goal.now.process) goal.now.leaves rows.items) }
 {
     let leaves = goal.leaves();
-    let rows = Vec::with_capacity(alloc, leaves.len())?;
-    let mut sweep = Sweep {
-        place: 0,
-        ahead: LeafSet::new(),
-        forks: Vec::new(alloc),
-        rows,
-    };
+    let mut sweep = Sweep::new(alloc, leaves.len())?;
     for node in goal.nodes() {
         sweep.pass(node, leaves)?;
     }
