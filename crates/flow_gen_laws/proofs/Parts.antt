@@ -89,23 +89,20 @@ module _ (count : ℕ) (few : count ≤ MOST_LEAVES) where
       (record { names = both.names; grouped = (omega arith, both.grouped); printable = both.printable; shallow = both.shallow in_beside })
       (pairs_made (first + 16) ks (omega arith))
 
-  turn_made : (ss : List Shape) → 1 ≤ length ss → AreMade count 4 ss → IsMade count 5 (in_turn ss)
-  turn_made [] some m = absurd (omega (arith, some))
-  turn_made (s ∷ []) some m = record {
+  turn_made : (s : Shape) (ss : List Shape) → AreMade count 4 (s ∷ ss) → IsMade count 5 (in_turn (s ∷ ss))
+  turn_made s [] m = record {
     names = rw (← append-nil (names_in s)) m.names;
     grouped = m.grouped.0;
     printable = m.printable.0;
     shallow = omega (arith, m.shallow (λ t. false));
   }
-  turn_made (s ∷ t ∷ ss) some m = record { names = m.names; grouped = (omega arith, m.grouped); printable = m.printable; shallow = m.shallow in_serial }
-
-some_pair : (first : ℕ) (ks : List Kind) → 1 ≤ length ks → 1 ≤ length (pairs first ks)
-some_pair first [] some = some
-some_pair first (a ∷ []) some = omega arith
-some_pair first (a ∷ b ∷ ks) some = omega arith
+  turn_made s (t ∷ ss) m = record { names = m.names; grouped = (omega arith, m.grouped); printable = m.printable; shallow = m.shallow in_serial }
 
 pub goal_made : (count : ℕ) (ks : List Kind) → 1 ≤ length ks → 8 * length ks ≤ count → count ≤ MOST_LEAVES → IsMade count 5 (in_turn (pairs 0 ks))
-goal_made count ks some fits few = turn_made count few (pairs 0 ks) (some_pair 0 ks some) (pairs_made count few 0 ks (omega arith))
+goal_made count [] some fits few = absurd (omega (arith, some))
+goal_made count (a ∷ []) some fits few = turn_made count few (block 0 a) [] (pairs_made count few 0 (a ∷ []) (omega arith))
+goal_made count (a ∷ b ∷ ks) some fits few =
+    turn_made count few (beside (shapes (block 0 a ∷ block 8 b ∷ []))) (pairs 16 ks) (pairs_made count few 0 (a ∷ b ∷ ks) (omega arith))
 
 -- Constraints
 
