@@ -5,12 +5,11 @@ use Rattle.std.proofs.lemmas.List.{drop_more, map-append}
 use Rattle.flow_model.specs.Lists.{numbers_from}
 use Rattle.flow_form.specs.declared.form.Form.{Form}
 use Rattle.flow_form.specs.declared.rule_form.RuleForm.{RuleForm}
-use Rattle.flow_form.specs.Form.{Shape, shape_of, serial, beside, shapes}
+use Rattle.flow_form.specs.Form.{Shape, shape_of, beside, shapes}
 use Rattle.flow_form.specs.RuleForm.{RuleShape, rule_shape_of, precedes}
-use Rattle.flow_form.specs.Script.{Declared, Said}
 use Rattle.flow_gen.specs.declared.kind.Kind.{Kind}
-use Rattle.flow_gen.specs.declared.kind.Kind.TheVariants.{Series, Beside, IsolatedBeside, Either}
-use Rattle.flow_gen.specs.Generated.{drawn, draws, kind, kinds, choices_in, event_name, block, pairs, in_turn, constraints}
+use Rattle.flow_gen.specs.declared.kind.Kind.TheVariants.{Either}
+use Rattle.flow_gen.specs.Generated.{drawn, draws, kind, kinds, choices_in, event_name, block, pairs, constraints}
 
 pub draws_step : (x x' i count : ℕ) (items items' whole : List ℕ) → x' ≡ drawn x → items' ≡ items ++ x' ∷ [] → i < count →
     items ++ draws x (count - i) ≡ whole → items' ++ draws x' (count - (i + 1)) ≡ whole
@@ -20,10 +19,8 @@ draws_step x x' i count items items' whole is pushed h so_far =
     ∙ ap (λ y. items ++ y ∷ draws y (count - (i + 1))) is ∙ ap (λ n. items ++ draws x n) (sym more) ∙ so_far
 
 pub choices_in_le : (k : Kind) → choices_in k ≤ 1
-choices_in_le Series = omega arith
-choices_in_le Beside = omega arith
-choices_in_le IsolatedBeside = omega arith
 choices_in_le Either = omega arith
+choices_in_le other = omega arith
 
 pub kinds_step : (choices choices' : ℕ) (k : Kind) (ds : List ℕ) (i : ℕ) (items items' whole : List Kind) → i < length ds → k ≡ kind choices (get_or ds i 0) →
     choices' ≡ choices + choices_in k → items' ≡ items ++ k ∷ [] → items ++ kinds choices (drop i ds) ≡ whole →
@@ -52,14 +49,6 @@ numbered f g n end xs xs' x whole h e is so_far =
     pushed f xs xs' x (g n) (map g (numbers_from (n + 1) (end - (n + 1)))) whole e is
     (ap (λ ns. map f xs ++ map g ns) (sym (next_number n end h)) ∙ so_far)
 
-pub in_turn_one : (ss : List Shape) (s : Shape) → ss ≡ s ∷ [] → in_turn ss ≡ s
-in_turn_one ss s e = ap in_turn e
-
-pub in_turn_many : (ss : List Shape) → ¬ (length ss ≡ 1) → in_turn ss ≡ serial (shapes ss)
-in_turn_many [] h = refl
-in_turn_many (s ∷ []) h = absurd (h refl)
-in_turn_many (s ∷ t ∷ ss) h = refl
-
 pub draws_length : (x n : ℕ) → length (draws x n) ≡ n
 draws_length x zero = refl
 draws_length x (suc n) = ap (λ m. suc m) (draws_length (drawn x) n)
@@ -67,11 +56,6 @@ draws_length x (suc n) = ap (λ m. suc m) (draws_length (drawn x) n)
 pub kinds_length : (choices : ℕ) (ds : List ℕ) → length (kinds choices ds) ≡ length ds
 kinds_length choices [] = refl
 kinds_length choices (d ∷ ds) = ap (λ m. suc m) (kinds_length (choices + choices_in (kind choices d)) ds)
-
-pub said_is : (s t : Said) → s.decls ≡ t.decls → s.goal ≡ t.goal → s.rules ≡ t.rules → s ≡ t
-said_is s t decls goal rules =
-    ap (λ (d : List Declared). record s { decls = d }) decls ∙ ap (λ (g : Shape). record t { goal = g; rules = s.rules }) goal
-    ∙ ap (λ (r : List RuleShape). record t { rules = r }) rules
 
 -- what is left after two members, as a slice has it
 pub after_two : {A : Type 0} (rest : List A) → take (length rest - 2) (drop 2 rest) ≡ drop 2 rest
@@ -83,17 +67,15 @@ after_two_length {A} rest = ap (λ (l : List A). length l) (after_two rest) ∙ 
 pub constraints_step : (first : ℕ) (rest more : List ℕ) (rules rules' : List RuleForm) (r : RuleForm) (whole : List RuleShape) → 2 ≤ length rest → more ≡ drop 2 rest →
     rule_shape_of r ≡ precedes (event_name (first + get_or rest 0 0 % 8)) (event_name (first + 8 + get_or rest 1 0 % 8)) → rules' ≡ rules ++ r ∷ [] →
     map rule_shape_of rules ++ constraints first rest ≡ whole → map rule_shape_of rules' ++ constraints (first + 8) more ≡ whole
-constraints_step first [] more rules rules' r whole h e is added so_far = absurd (omega (arith, h))
-constraints_step first (f ∷ []) more rules rules' r whole h e is added so_far = absurd (omega (arith, h))
 constraints_step first (f ∷ g ∷ ds) more rules rules' r whole h e is added so_far =
     ap (λ ds. map rule_shape_of rules' ++ constraints (first + 8) ds) e
     ∙ pushed rule_shape_of rules rules' r (precedes (event_name (first + f % 8)) (event_name (first + 8 + g % 8))) (constraints (first + 8) ds) whole added is so_far
+constraints_step first fewer more rules rules' r whole h e is added so_far = absurd (omega (arith, h))
 
 pub pairs_step : (first : ℕ) (rest more : List Kind) (d d' : Kind) (forms forms' : List Form) (form : Form) (whole : List Shape) → 2 ≤ length rest → more ≡ drop 2 rest →
     shape_of form ≡ beside (shapes (block first (get_or rest 0 d) ∷ block (first + 8) (get_or rest 1 d') ∷ [])) → forms' ≡ forms ++ form ∷ [] →
     map shape_of forms ++ pairs first rest ≡ whole → map shape_of forms' ++ pairs (first + 16) more ≡ whole
-pairs_step first [] more d d' forms forms' form whole h e is added so_far = absurd (omega (arith, h))
-pairs_step first (a ∷ []) more d d' forms forms' form whole h e is added so_far = absurd (omega (arith, h))
 pairs_step first (a ∷ b ∷ ks) more d d' forms forms' form whole h e is added so_far =
     ap (λ (ks : List Kind). map shape_of forms' ++ pairs (first + 16) ks) e
     ∙ pushed shape_of forms forms' form (beside (shapes (block first a ∷ block (first + 8) b ∷ []))) (pairs (first + 16) ks) whole added is so_far
+pairs_step first fewer more d d' forms forms' form whole h e is added so_far = absurd (omega (arith, h))

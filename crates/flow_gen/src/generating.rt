@@ -1,5 +1,5 @@
 ghost use Rattle.std.specs.Prelude.{◌≡◌, ◌≤◌, IfOk};
-ghost use Rattle.flow_model.specs.declared.limits.TheConstants.{GREATEST_SEED};
+ghost use Rattle.flow_model.specs.declared.limits.TheConstants.{GREATEST_SEED, GREATEST_SIZE};
 ghost use Rattle.flow_text.specs.Printed.{printed};
 ghost use Rattle.flow_gen.specs.Generated.{generated};
 
@@ -12,7 +12,7 @@ use std::alloc::{AllocError, Global};
 pub fn generate(alloc: Global, seed: u32, size: u32) -> Result<Vec<u8>, AllocError>
     requires seed { seed ≤ GREATEST_SEED }
     requires some { 1 ≤ size }
-    requires few { size ≤ 128 }
+    requires few { size ≤ GREATEST_SIZE }
     ensures { IfOk result (λ text. text.items ≡ printed (generated seed size)) }
 {
     let script = script_of(alloc, seed, size)?;

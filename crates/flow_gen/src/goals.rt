@@ -1,4 +1,5 @@
 ghost use Rattle.std.specs.Prelude.{◌≡◌, ◌+◌, ◌*◌, ◌≤◌, ◌^◌, ◌<◌, [], ◌∷◌, IfOk, map, length};
+ghost use Rattle.flow_model.specs.declared.limits.TheConstants.{GREATEST_SIZE};
 ghost use Rattle.flow_form.specs.Form.{shape_of, shapes, named, beside};
 ghost use Rattle.flow_gen.specs.Generated.{event_name, series, block, pairs, in_turn};
 
@@ -63,7 +64,7 @@ fn pair_of(alloc: Global, first: u32, left: Kind, right: Kind) -> Result<Form, A
 
 /// The blocks two by two beside each other.
 fn pairs_of(alloc: Global, kinds: &[Kind]) -> Result<Vec<Form>, AllocError>
-    requires { length kinds.now ≤ 128 }
+    requires { length kinds.now ≤ GREATEST_SIZE }
     ensures { IfOk result (λ forms. map shape_of forms.items ≡ pairs 0 kinds.now) }
 {
     let mut forms = Vec::new(alloc);
@@ -82,7 +83,7 @@ fn pairs_of(alloc: Global, kinds: &[Kind]) -> Result<Vec<Form>, AllocError>
 
 /// The goal of blocks of these kinds.
 pub(crate) fn goal_of(alloc: Global, kinds: &[Kind]) -> Result<Form, AllocError>
-    requires { length kinds.now ≤ 128 }
+    requires { length kinds.now ≤ GREATEST_SIZE }
     ensures { IfOk result (λ form. shape_of form ≡ in_turn (pairs 0 kinds.now)) }
 {
     let mut forms = pairs_of(alloc, kinds)?;

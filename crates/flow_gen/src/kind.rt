@@ -1,4 +1,5 @@
 ghost use Rattle.std.specs.Prelude.{◌≡◌, ◌+◌, ◌≤◌, ◌^◌, ◌<◌, IfOk, length};
+ghost use Rattle.flow_model.specs.declared.limits.TheConstants.{GREATEST_SIZE};
 ghost use Rattle.flow_gen.specs.Generated.{kind, kinds, choices_in};
 
 use std::alloc::{AllocError, Global};
@@ -43,7 +44,7 @@ fn choices_after(choices: u32, kind: Kind) -> u32
 
 /// The kind of each block by its draw.
 pub(crate) fn kinds_of(alloc: Global, draws: &[u32]) -> Result<Vec<Kind>, AllocError>
-    requires { length draws.now ≤ 128 }
+    requires { length draws.now ≤ GREATEST_SIZE }
     ensures { IfOk result (λ list. list.items ≡ kinds 0 draws.now) }
 {
     let mut list = Vec::new(alloc);

@@ -1,4 +1,5 @@
 ghost use Rattle.std.specs.Prelude.{◌≡◌, ◌+◌, ◌*◌, ◌≤◌, IfOk, map, length};
+ghost use Rattle.flow_model.specs.declared.limits.TheConstants.{GREATEST_SIZE};
 ghost use Rattle.flow_form.specs.RuleForm.{rule_shape_of, precedes};
 ghost use Rattle.flow_gen.specs.Generated.{event_name, constraints};
 
@@ -17,7 +18,7 @@ fn rule_of(alloc: Global, before: u32, after: u32) -> Result<RuleForm, AllocErro
 
 /// A constraint for each two blocks that follow each other, by two draws each.
 pub(crate) fn rules_of(alloc: Global, draws: &[u32]) -> Result<Vec<RuleForm>, AllocError>
-    requires { length draws.now ≤ 256 }
+    requires { length draws.now ≤ 2 * GREATEST_SIZE }
     ensures { IfOk result (λ rules. map rule_shape_of rules.items ≡ constraints 0 draws.now) }
 {
     let mut rules = Vec::new(alloc);

@@ -1,5 +1,5 @@
 ghost use Rattle.std.specs.Prelude.{◌≡◌, ◌+◌, ◌*◌, ◌≤◌, ◌<◌, IfOk, map, length};
-ghost use Rattle.flow_model.specs.declared.limits.TheConstants.{GREATEST_SEED};
+ghost use Rattle.flow_model.specs.declared.limits.TheConstants.{GREATEST_SEED, GREATEST_SIZE};
 ghost use Rattle.flow_form.specs.Script.{said, declared, event};
 ghost use Rattle.flow_gen.specs.Generated.{event_name, generated, events};
 
@@ -32,7 +32,7 @@ fn events_of(alloc: Global, count: u32) -> Result<Vec<Decl>, AllocError>
 pub(crate) fn script_of(alloc: Global, seed: u32, size: u32) -> Result<Script, AllocError>
     requires seed { seed ≤ GREATEST_SEED }
     requires some { 1 ≤ size }
-    requires few { size ≤ 128 }
+    requires few { size ≤ GREATEST_SIZE }
     ensures { IfOk result (λ script. said script ≡ generated seed size) }
 {
     let blocks = size as usize;

@@ -1,12 +1,8 @@
 pub mod EventNames
-pub mod Shapes
 pub mod Parts
 pub mod SaidTexts
 pub mod Rows
 pub mod Expanded
-pub mod Straight
 pub mod Precedences
 pub mod Consistent
-pub mod Choices
-pub mod OneWay
 pub mod Limits

@@ -1,8 +1,10 @@
 -- No count of a generated workflow is past its limit.
-use Rattle.std.proofs.Common.{◌≡◌, ℕ, ◌+◌, ◌-◌, ◌*◌, ◌^◌, ◌≤◌, List, [], ◌∷◌, length, take, refl, sym, ap, subst, ◌∙◌, arith}
+use Rattle.std.proofs.Common.{◌≡◌, ℕ, ◌+◌, ◌-◌, ◌*◌, ◌^◌, ◌%◌, ◌==◌, ◌≤◌, nat_lt, List, [], ◌∷◌, length, map, sum, take, refl, sym, ap, subst, ◌∙◌, arith}
 use Rattle.std.proofs.Math.Nat.{mul-le-mul_right}
 use Rattle.std.proofs.Math.Pow.{pow_mono}
-use Rattle.flow_model.specs.Lists.{◌∈◌, numbers_from}
+use Rattle.std.proofs.lemmas.Bool.{cases_Bool, ltb-true}
+use Rattle.flow_model.specs.declared.limits.TheConstants.{GREATEST_SIZE}
+use Rattle.flow_model.specs.Lists.{◌∈◌}
 use Rattle.flow_model.specs.Process.{Process, leaves}
 use Rattle.flow_model.specs.Resolution.{resolutions, resolution_count, ways_in, bulk}
 use Rattle.flow_model.specs.Schema.{Schema}
@@ -10,62 +12,62 @@ use Rattle.flow_laws.specs.WellFormed.{IsConsistent}
 use Rattle.flow_laws.proofs.ResolutionsLemmas.{resolves_of, length-resolutions}
 use Rattle.flow_goal.proofs.Rising.{Rises, resolution_rises}
 use Rattle.flow_workflow.specs.Definition.{Definition, schema_of}
-use Rattle.flow_expand.specs.Expansion.{Expansion}
 use Rattle.flow_expand.specs.Workflows.{IsExpanded, definition_of}
 use Rattle.flow_excise.specs.declared.refusal.CompileRefusal.{CompileRefusal}
 use Rattle.flow_excise.specs.declared.refusal.CompileRefusal.TheVariants as compile
 use Rattle.flow_excise.specs.Compilation.{IsWithinLimits, IsRefused}
 use Rattle.flow_excise.specs.Options as parts
-use Rattle.flow_gen.specs.Generated.{all_draws, kinds, generated}
+use Rattle.flow_gen.specs.Generated.{choices_in, kind, all_draws, kinds, generated}
 use Rattle.flow_gen_laws.specs.Laws.{choice_count, ChoicesAreFew, ChoicesDouble, WaysAreSingle, OptionsAreResolutions, BulkIsSmall, WorkflowsAreWithinLimits, CompilingIsNotRefused, CompilingPartsIsNotRefused}
-use Rattle.flow_gen_laws.proofs.Expanded.{whole_row, no_flow}
-use Rattle.flow_gen_laws.proofs.Consistent.{the_definition, workflows_are_consistent}
-use Rattle.flow_gen_laws.proofs.Precedences.{rules_are, few_rules}
-use Rattle.flow_gen_laws.proofs.Choices.{counted, goal_count, kinds_choose}
-use Rattle.flow_gen_laws.proofs.OneWay.{IsOneWay, one_way, AreSingle, are_single}
+use Rattle.flow_gen_laws.proofs.Rows.{choices_more}
+use Rattle.flow_gen_laws.proofs.Expanded.{expansion, row, leaves_are, the_definition}
+use Rattle.flow_gen_laws.proofs.Consistent.{workflows_are_consistent}
+use Rattle.flow_gen_laws.proofs.Precedences.{rules_are, few_rules, IsOneWay, one_way, AreSingle, are_single}
+
+-- Choices
+
+kind_fits : (choices d : ℕ) → choices ≤ 6 → choices + choices_in (kind choices d) ≤ 6
+kind_fits choices d h =
+    grind (arith, cases_Bool (d % 4 == 0), cases_Bool (d % 4 == 1), cases_Bool (d % 4 == 2), cases_Bool (nat_lt choices 6), ltb-true choices 6)
+
+kinds_choose : (choices : ℕ) (ds : List ℕ) → choices ≤ 6 → choices + sum (map choices_in (kinds choices ds)) ≤ 6
+kinds_choose choices [] h = omega (arith, h)
+kinds_choose choices (d ∷ ds) h =
+    let k = kind choices d in
+    omega (arith, choices_more k (kinds (choices + choices_in k) ds), kinds_choose (choices + choices_in k) ds (kind_fits choices d h))
 
 pub choices_are_few : ChoicesAreFew
 choices_are_few seed size = omega (arith, kinds_choose 0 (take size (all_draws seed size)) (omega arith))
 
 pub choices_double : ChoicesDouble
 choices_double seed size w some few h =
-    let s = generated seed size in
-    ap (λ (v : Definition). resolution_count v.tree.process) h.is
-    ∙ counted s.decls (no_flow (numbers_from 0 (8 * size))) s.goal h.expansion h.measured.fitting.becomes 0
-    ∙ goal_count (kinds 0 (take size (all_draws seed size)))
+    ap (λ (v : Definition). resolution_count v.tree.process) (the_definition seed size some few w h) ∙ (row seed size some few).resolutions 0
 
 -- Ways
 
-definition_way : (seed size : ℕ) (e : Expansion) → 1 ≤ size → size ≤ 128 → (q : Process) → IsOneWay (size - 1) (ways_in (schema_of (definition_of (generated seed size) e)) q)
-definition_way seed size e some few q =
-    let w = definition_of (generated seed size) e in
-    let one : IsOneWay (length w.rules) (ways_in (schema_of w) q) = one_way w.rules w.tree.labels (leaves q) (rules_are seed size some few) in
-    record { way = one.way; only = one.only; pairs = omega (arith, one.pairs, few_rules seed size) }
-
-its_way : (seed size : ℕ) (w : Definition) → 1 ≤ size → size ≤ 128 → IsExpanded (generated seed size) w → (q : Process) → IsOneWay (size - 1) (ways_in (schema_of w) q)
+its_way : (seed size : ℕ) (w : Definition) → 1 ≤ size → size ≤ GREATEST_SIZE → IsExpanded (generated seed size) w → (q : Process) → IsOneWay (size - 1) (ways_in (schema_of w) q)
 its_way seed size w some few h q =
-    subst (λ (v : Definition). IsOneWay (size - 1) (ways_in (schema_of v) q)) (sym h.is) (definition_way seed size h.expansion some few q)
+    let v = definition_of (generated seed size) (expansion seed size some few) in
+    let one : IsOneWay (length v.rules) (ways_in (schema_of v) q) = one_way v.rules v.tree.labels (leaves q) (rules_are seed size some few) in
+    subst (λ (v : Definition). IsOneWay (size - 1) (ways_in (schema_of v) q)) (sym (the_definition seed size some few w h))
+    (record { way = one.way; only = one.only; pairs = omega (arith, one.pairs, few_rules seed size) })
 
 pub ways_are_single : WaysAreSingle
 ways_are_single seed size w some few h q m = ap (λ (ws : List (List (ℕ × ℕ))). length ws) (its_way seed size w some few h q).only
 
--- Leaves
+-- Options
 
 rises_length : (low high : ℕ) (xs : List ℕ) → Rises low xs high → low + length xs ≤ high
 rises_length low high [] h = omega (arith, h)
 rises_length low high (x ∷ xs) h = omega (arith, h.0, rises_length (x + 1) high xs h.1)
 
-few_leaves : (seed size : ℕ) (w : Definition) → 1 ≤ size → size ≤ 128 → IsExpanded (generated seed size) w → (q : Process) → q ∈ resolutions w.tree.process → length (leaves q) ≤ 8 * size
-few_leaves seed size w some few h q m =
-    let row = whole_row seed size some in
-    let in_row = ap (λ (v : Definition). leaves v.tree.process) (the_definition seed size some few w h) ∙ row.1.1.leaves 0 in
-    omega (arith, rises_length 0 (0 + 8 * size) (leaves q) (resolution_rises w.tree.process q 0 (8 * size) in_row (resolves_of w.tree.process q m)))
-
--- Options
-
-single : (seed size : ℕ) (w : Definition) → 1 ≤ size → size ≤ 128 → IsExpanded (generated seed size) w → AreSingle (schema_of w) (resolutions w.tree.process) (8 * size + (size - 1))
-single seed size w some few h =
-    are_single (schema_of w) (resolutions w.tree.process) (8 * size) (size - 1) (few_leaves seed size w some few h) (its_way seed size w some few h)
+single : (seed size : ℕ) (w : Definition) → 1 ≤ size → size ≤ GREATEST_SIZE → IsExpanded (generated seed size) w → AreSingle (schema_of w) (resolutions w.tree.process) (8 * size + (size - 1))
+single seed size w some few h = are_single (schema_of w) (resolutions w.tree.process) (8 * size) (size - 1) few_leaves (its_way seed size w some few h)
+  where
+    few_leaves : (q : Process) → q ∈ resolutions w.tree.process → length (leaves q) ≤ 8 * size
+    few_leaves q m =
+        let in_row = ap (λ (v : Definition). leaves v.tree.process) (the_definition seed size some few w h) ∙ leaves_are seed size some few in
+        omega (arith, rises_length 0 (0 + 8 * size) (leaves q) (resolution_rises w.tree.process q 0 (8 * size) in_row (resolves_of w.tree.process q m)))
 
 pub options_are_resolutions : OptionsAreResolutions
 options_are_resolutions seed size w some few h = (single seed size w some few h).count ∙ length-resolutions w.tree.process

@@ -2,16 +2,16 @@
 use Rattle.std.proofs.Common.{◌≡◌, ℕ, zero, suc, ◌+◌, ◌-◌, ◌*◌, ◌≤◌, List, [], ◌∷◌, ◌++◌, length, map, take, drop, Ok, Err, refl, sym, ap, subst, ◌∙◌, arith, length-drop}
 use Rattle.std.specs.List.{flat_map}
 use Rattle.std.proofs.lemmas.List.{length-take-le, length-map}
+use Rattle.flow_model.specs.declared.limits.TheConstants.{GREATEST_DEPTH, GREATEST_SIZE}
 use Rattle.flow_model.specs.declared.labels.Note.TheVariants.{Done}
 use Rattle.flow_model.specs.Lists.{◌∈◌, Each, numbers_from, AreDistinct}
 use Rattle.flow_laws.proofs.Members.{each-append, each_to}
 use Rattle.flow_form.specs.declared.refusal.TextRefusal.{TextRefusal}
-use Rattle.flow_form.specs.declared.refusal.TextRefusal.TheVariants.{NotAscii, BadToken, Expected, Unknown, Repeated, TooDeep, NoMemory}
+use Rattle.flow_form.specs.declared.refusal.TextRefusal.TheVariants.{NoMemory}
 use Rattle.flow_form.specs.Form.{Shape, IsGrouped}
 use Rattle.flow_form.specs.RuleForm.{RuleShape, IsGroupedRule}
 use Rattle.flow_form.specs.Script.{event, Said}
 use Rattle.flow_form.specs.Names.{declared_names, event_names, goals_of, names_in, names_in_rule}
-use Rattle.flow_model.specs.declared.limits.TheConstants.{GREATEST_DEPTH}
 use Rattle.flow_grammar.specs.Print.{nesting, rule_nesting, IsWithin}
 use Rattle.flow_grammar.specs.Made.{IsWellMade}
 use Rattle.flow_text.specs.Printable.{IsPrintable, IsPrintableRule}
@@ -24,8 +24,7 @@ use Rattle.flow_gen.specs.Generated.{event_name, all_draws, kinds, generated}
 use Rattle.flow_gen.proofs.Steps.{draws_length, kinds_length}
 use Rattle.flow_gen_laws.specs.Laws.{TextsSayTheirWorkflow, TextsAreRead, WorkflowsAreClosed}
 use Rattle.flow_gen_laws.proofs.EventNames.{distinct_names}
-use Rattle.flow_gen_laws.proofs.Shapes.{IsEvent, IsMade}
-use Rattle.flow_gen_laws.proofs.Parts.{goal_made, IsRuled, rules_made, declares_names, declares_events, declares_no_flow, declared_printable, event_there}
+use Rattle.flow_gen_laws.proofs.Parts.{IsEvent, IsMade, goal_made, IsRuled, rules_made, declares, declared_printable, event_there}
 
 pub kind_count : (seed size : ℕ) → length (kinds 0 (take size (all_draws seed size))) ≡ size
 kind_count seed size =
@@ -37,66 +36,54 @@ rule_draws seed size =
     let all : length (all_draws seed size) ≡ size + 2 * (size - 1) = draws_length seed (size + 2 * (size - 1)) in
     length-drop size (all_draws seed size) ∙ omega (arith, all)
 
-goal_is : (seed size : ℕ) → 1 ≤ size → size ≤ 128 → IsMade (8 * size) 5 (generated seed size).goal
-goal_is seed size some few =
-    let e = kind_count seed size in
-    goal_made (8 * size) (kinds 0 (take size (all_draws seed size))) (omega (arith, e, some)) (omega (arith, e)) (omega (arith, few))
-
-rules_are : (seed size : ℕ) → 1 ≤ size → size ≤ 128 → Each (IsRuled (8 * size)) (generated seed size).rules
-rules_are seed size some few =
-    let e = rule_draws seed size in rules_made (8 * size) 0 (drop size (all_draws seed size)) (omega (arith, e, some)) (omega (arith, few))
-
-goals_are : (seed size : ℕ) → goals_of (generated seed size) ≡ (generated seed size).goal ∷ []
-goals_are seed size = ap (λ (gs : List Shape). gs ++ (generated seed size).goal ∷ []) (declares_no_flow (numbers_from 0 (8 * size)))
-
-rule_names : (count : ℕ) (rs : List RuleShape) → Each (IsRuled count) rs → Each (IsEvent count) (flat_map names_in_rule rs)
-rule_names count [] h = tt
-rule_names count (r ∷ rs) (m, h) = each-append (IsEvent count) (names_in_rule r) (flat_map names_in_rule rs) m.names (rule_names count rs h)
-
-declared_there : (seed size : ℕ) (n : List ℕ) → IsEvent (8 * size) n → n ∈ declared_names (generated seed size).decls
-declared_there seed size n (k, (h, e)) =
-    subst (λ names. n ∈ names) (sym (declares_names (numbers_from 0 (8 * size))))
-    (subst (λ m. m ∈ map event_name (numbers_from 0 (8 * size))) (sym e) (event_there k (8 * size) h))
-
-pub event_declared : (seed size : ℕ) (n : List ℕ) → IsEvent (8 * size) n → n ∈ event_names (generated seed size).decls
+pub event_declared : (seed size : ℕ) (n : List ℕ) → IsEvent (8 * size) n → (n ∈ event_names (generated seed size).decls) × (n ∈ declared_names (generated seed size).decls)
 event_declared seed size n (k, (h, e)) =
-    subst (λ names. n ∈ names) (sym (declares_events (numbers_from 0 (8 * size))))
-    (subst (λ m. m ∈ map event_name (numbers_from 0 (8 * size))) (sym e) (event_there k (8 * size) h))
+    let names = declares (numbers_from 0 (8 * size)) in
+    let there = subst (λ m. m ∈ map event_name (numbers_from 0 (8 * size))) (sym e) (event_there k (8 * size) h) in
+    (subst (λ ns. n ∈ ns) (sym names.events) there, subst (λ ns. n ∈ ns) (sym names.names) there)
 
-pub names_are_good : (seed size : ℕ) → 1 ≤ size → size ≤ 128 → HasGoodNames (generated seed size)
-names_are_good seed size some few =
-    let s = generated seed size in
-    let Declares : List ℕ → Type 0 = λ n. n ∈ declared_names s.decls in
-    let g = goal_is seed size some few in record {
-      in_goals = subst (λ (gs : List Shape). Each Declares (flat_map names_in gs)) (sym (goals_are seed size))
-          (each-append Declares (names_in s.goal) [] (each_to (IsEvent (8 * size)) Declares (names_in s.goal) (declared_there seed size) g.names) tt);
-      in_rules = each_to (IsEvent (8 * size)) (λ n. n ∈ event_names s.decls) (flat_map names_in_rule s.rules) (event_declared seed size)
-          (rule_names (8 * size) s.rules (rules_are seed size some few));
-      once = subst (λ (ns : List (List ℕ)). AreDistinct ns) (sym (declares_names (numbers_from 0 (8 * size)))) (distinct_names 0 (8 * size) (omega (arith, few)));
-    }
+-- what the only goal has
+of_goals : (P : Shape → Type 0) (seed size : ℕ) → P (generated seed size).goal → Each P (goals_of (generated seed size))
+of_goals P seed size h =
+    subst (Each P) (sym (ap (λ (gs : List Shape). gs ++ (generated seed size).goal ∷ []) (declares (numbers_from 0 (8 * size))).no_goal)) (h, tt)
 
-is_printable : (seed size : ℕ) → 1 ≤ size → size ≤ 128 → IsPrintable (generated seed size)
-is_printable seed size some few = record {
-  decls = declared_printable 0 (8 * size) (omega (arith, few));
-  goal = (goal_is seed size some few).printable;
-  rules = each_to (IsRuled (8 * size)) IsPrintableRule (generated seed size).rules (λ r m. m.printable) (rules_are seed size some few);
-}
+each-flat_map : {A B : Type 0} (P : B → Type 0) (f : A → List B) (xs : List A) → Each (λ x. Each P (f x)) xs → Each P (flat_map f xs)
+each-flat_map P f [] h = tt
+each-flat_map P f (x ∷ xs) (m, h) = each-append P (f x) (flat_map f xs) m (each-flat_map P f xs h)
 
-goals_grouped : (seed size : ℕ) → 1 ≤ size → size ≤ 128 → Each IsGrouped (goals_of (generated seed size))
-goals_grouped seed size some few =
-    subst (λ (gs : List Shape). Each IsGrouped gs) (sym (goals_are seed size)) ((goal_is seed size some few).grouped, tt)
+module _ (seed size : ℕ) (some : 1 ≤ size) (few : size ≤ GREATEST_SIZE) where
+  goal_is : IsMade (8 * size) 5 (generated seed size).goal
+  goal_is =
+      let e = kind_count seed size in
+      goal_made (8 * size) (kinds 0 (take size (all_draws seed size))) (omega (arith, e, some)) (omega (arith, e)) (omega (arith, few))
 
-is_well_made : (seed size : ℕ) → 1 ≤ size → size ≤ 128 → IsWellMade (generated seed size)
-is_well_made seed size some few = (
-  goals_grouped seed size some few,
-  each_to (IsRuled (8 * size)) IsGroupedRule (generated seed size).rules (λ r m. m.grouped) (rules_are seed size some few),
-)
+  rules_have : (P : RuleShape → Type 0) → ((r : RuleShape) → IsRuled (8 * size) r → P r) → Each P (generated seed size).rules
+  rules_have P to =
+      let e = rule_draws seed size in
+      each_to (IsRuled (8 * size)) P (generated seed size).rules to (rules_made (8 * size) 0 (drop size (all_draws seed size)) (omega (arith, e, some)) (omega (arith, few)))
 
-is_within : (seed size : ℕ) → 1 ≤ size → size ≤ 128 → IsWithin (generated seed size)
-is_within seed size some few = (
-  subst (λ (gs : List Shape). Each (λ g. nesting g ≤ GREATEST_DEPTH) gs) (sym (goals_are seed size)) (omega (arith, (goal_is seed size some few).shallow), tt),
-  each_to (IsRuled (8 * size)) (λ x. rule_nesting x ≤ GREATEST_DEPTH) (generated seed size).rules (λ r m. m.shallow) (rules_are seed size some few),
-)
+  pub names_are_good : HasGoodNames (generated seed size)
+  names_are_good =
+      let s = generated seed size in record {
+        in_goals = each-flat_map (λ n. n ∈ declared_names s.decls) names_in (goals_of s) (of_goals (λ g. Each (λ n. n ∈ declared_names s.decls) (names_in g)) seed size
+            (each_to (IsEvent (8 * size)) (λ n. n ∈ declared_names s.decls) (names_in s.goal) (λ n m. (event_declared seed size n m).1) goal_is.names));
+        in_rules = each-flat_map (λ n. n ∈ event_names s.decls) names_in_rule s.rules (rules_have (λ r. Each (λ n. n ∈ event_names s.decls) (names_in_rule r))
+            (λ r m. each_to (IsEvent (8 * size)) (λ n. n ∈ event_names s.decls) (names_in_rule r) (λ n i. (event_declared seed size n i).0) m.names));
+        once = subst (λ (ns : List (List ℕ)). AreDistinct ns) (sym (declares (numbers_from 0 (8 * size))).names) (distinct_names 0 (8 * size) (omega (arith, few)));
+      }
+
+  is_printable : IsPrintable (generated seed size)
+  is_printable = record {
+    decls = declared_printable 0 (8 * size) (omega (arith, few));
+    goal = goal_is.printable;
+    rules = rules_have IsPrintableRule (λ r m. m.printable);
+  }
+
+  is_well_made : IsWellMade (generated seed size)
+  is_well_made = (of_goals IsGrouped seed size goal_is.grouped, rules_have IsGroupedRule (λ r m. m.grouped))
+
+  is_within : IsWithin (generated seed size)
+  is_within = (of_goals (λ g. nesting g ≤ GREATEST_DEPTH) seed size (omega (arith, goal_is.shallow)), rules_have (λ r. rule_nesting r ≤ GREATEST_DEPTH) (λ r m. m.shallow))
 
 pub texts_say_it : TextsSayTheirWorkflow
 texts_say_it seed size some few =
@@ -107,18 +94,13 @@ clash text s refusal says h other =
     let e : Ok s ≡ Err refusal = texts_have_one_answer text (Ok s) (Err refusal) says (h, other) in cc
 
 none_refuses : (text : List ℕ) (s : Said) (refusal : TextRefusal) → Says text s → IsParseRefusal text refusal → refusal ≡ NoMemory
-none_refuses text s (NotAscii place) says h = absurd (clash text s (NotAscii place) says h (λ e. cc))
-none_refuses text s (BadToken place) says h = absurd (clash text s (BadToken place) says h (λ e. cc))
-none_refuses text s (Expected place kind) says h = absurd (clash text s (Expected place kind) says h (λ e. cc))
-none_refuses text s (Unknown place name) says h = absurd (clash text s (Unknown place name) says h (λ e. cc))
-none_refuses text s (Repeated place name) says h = absurd (clash text s (Repeated place name) says h (λ e. cc))
-none_refuses text s (TooDeep place) says h = absurd (clash text s (TooDeep place) says h (λ e. cc))
 none_refuses text s NoMemory says h = refl
+none_refuses text s refusal says h = absurd (clash text s refusal says h (λ e. cc))
 
 pub texts_are_read : TextsAreRead
 texts_are_read seed size refusal some few h = none_refuses _ (generated seed size) refusal (texts_say_it seed size some few) h
 
-numbers_length : (first count : ℕ) → length (numbers_from first count) ≡ count
+pub numbers_length : (first count : ℕ) → length (numbers_from first count) ≡ count
 numbers_length first zero = refl
 numbers_length first (suc count) = ap (λ n. suc n) (numbers_length (first + 1) count)
 
@@ -131,6 +113,6 @@ workflows_are_closed seed size some few =
       in_goals = names.in_goals;
       in_rules = names.in_rules;
       once = names.once;
-      grouped = goals_grouped seed size some few;
+      grouped = (is_well_made seed size some few).0;
       few = omega (arith, decl_count seed size, few);
     }

@@ -1,5 +1,6 @@
 -- A generated text is a text of its workflow.
 use Rattle.std.specs.Prelude.{◌≡◌, ℕ, ◌+◌, ◌-◌, ◌*◌, ◌^◌, ◌≤◌, length, map, sum, take}
+use Rattle.flow_model.specs.declared.limits.TheConstants.{GREATEST_SIZE}
 use Rattle.flow_model.specs.Lists.{◌∈◌}
 use Rattle.flow_model.specs.Process.{Process, leaves}
 use Rattle.flow_model.specs.Resolution.{resolutions, resolution_count, ways_in, options, bulk}
@@ -24,31 +25,31 @@ use Rattle.flow_gen.specs.Generated.{choices_in, kinds, all_draws, generated}
 
 -- it says the workflow
 abbrev pub TextsSayTheirWorkflow : Type 0
-TextsSayTheirWorkflow = (seed size : ℕ) → 1 ≤ size → size ≤ 128 → Says (printed (generated seed size)) (generated seed size)
+TextsSayTheirWorkflow = (seed size : ℕ) → 1 ≤ size → size ≤ GREATEST_SIZE → Says (printed (generated seed size)) (generated seed size)
 
 -- nothing is wrong with it
 abbrev pub TextsAreRead : Type 0
-TextsAreRead = (seed size : ℕ) (refusal : TextRefusal) → 1 ≤ size → size ≤ 128 → IsParseRefusal (printed (generated seed size)) refusal → refusal ≡ NoMemory
+TextsAreRead = (seed size : ℕ) (refusal : TextRefusal) → 1 ≤ size → size ≤ GREATEST_SIZE → IsParseRefusal (printed (generated seed size)) refusal → refusal ≡ NoMemory
 
 -- each name that the workflow uses is declared, once, and as it must be
 abbrev pub WorkflowsAreClosed : Type 0
-WorkflowsAreClosed = (seed size : ℕ) → 1 ≤ size → size ≤ 128 → IsClosed (generated seed size)
+WorkflowsAreClosed = (seed size : ℕ) → 1 ≤ size → size ≤ GREATEST_SIZE → IsClosed (generated seed size)
 
 -- it is expanded
 abbrev pub WorkflowsAreExpanded : Type 0
-WorkflowsAreExpanded = (seed size : ℕ) → 1 ≤ size → size ≤ 128 → (w : Definition) × IsExpanded (generated seed size) w
+WorkflowsAreExpanded = (seed size : ℕ) → 1 ≤ size → size ≤ GREATEST_SIZE → (w : Definition) × IsExpanded (generated seed size) w
 
 -- nothing is wrong with it
 abbrev pub ExpansionsAreNotRefused : Type 0
-ExpansionsAreNotRefused = (seed size : ℕ) (r : ExpandRefusal) → 1 ≤ size → size ≤ 128 → IsRefusal (generated seed size) r → r ≡ refusal.NoMemory
+ExpansionsAreNotRefused = (seed size : ℕ) (r : ExpandRefusal) → 1 ≤ size → size ≤ GREATEST_SIZE → IsRefusal (generated seed size) r → r ≡ refusal.NoMemory
 
 -- from left to right, the leaves of each of its resolutions are a good trace
 abbrev pub LeavesAreGoodTraces : Type 0
-LeavesAreGoodTraces = (seed size : ℕ) (w : Definition) → 1 ≤ size → size ≤ 128 → IsExpanded (generated seed size) w → (q : Process) →
+LeavesAreGoodTraces = (seed size : ℕ) (w : Definition) → 1 ≤ size → size ≤ GREATEST_SIZE → IsExpanded (generated seed size) w → (q : Process) →
     q ∈ resolutions w.tree.process → IsGood (schema_of w) (leaves q)
 
 abbrev pub WorkflowsAreConsistent : Type 0
-WorkflowsAreConsistent = (seed size : ℕ) (w : Definition) → 1 ≤ size → size ≤ 128 → IsExpanded (generated seed size) w → IsConsistent (schema_of w)
+WorkflowsAreConsistent = (seed size : ℕ) (w : Definition) → 1 ≤ size → size ≤ GREATEST_SIZE → IsExpanded (generated seed size) w → IsConsistent (schema_of w)
 
 -- so many of its blocks are choices
 abbrev pub choice_count : ℕ → ℕ → ℕ
@@ -59,33 +60,33 @@ ChoicesAreFew = (seed size : ℕ) → choice_count seed size ≤ 6
 
 -- each choice doubles the resolutions
 abbrev pub ChoicesDouble : Type 0
-ChoicesDouble = (seed size : ℕ) (w : Definition) → 1 ≤ size → size ≤ 128 → IsExpanded (generated seed size) w →
+ChoicesDouble = (seed size : ℕ) (w : Definition) → 1 ≤ size → size ≤ GREATEST_SIZE → IsExpanded (generated seed size) w →
     resolution_count w.tree.process ≡ 2 ^ choice_count seed size
 
 -- the leaves of a resolution meet the constraints in one way
 abbrev pub WaysAreSingle : Type 0
-WaysAreSingle = (seed size : ℕ) (w : Definition) → 1 ≤ size → size ≤ 128 → IsExpanded (generated seed size) w → (q : Process) →
+WaysAreSingle = (seed size : ℕ) (w : Definition) → 1 ≤ size → size ≤ GREATEST_SIZE → IsExpanded (generated seed size) w → (q : Process) →
     q ∈ resolutions w.tree.process → length (ways_in (schema_of w) q) ≡ 1
 
 -- so each resolution is one option
 abbrev pub OptionsAreResolutions : Type 0
-OptionsAreResolutions = (seed size : ℕ) (w : Definition) → 1 ≤ size → size ≤ 128 → IsExpanded (generated seed size) w →
+OptionsAreResolutions = (seed size : ℕ) (w : Definition) → 1 ≤ size → size ≤ GREATEST_SIZE → IsExpanded (generated seed size) w →
     length (options (schema_of w)) ≡ resolution_count w.tree.process
 
 -- and an option has no more leaves than there are events, and no more pairs than constraints
 abbrev pub BulkIsSmall : Type 0
-BulkIsSmall = (seed size : ℕ) (w : Definition) → 1 ≤ size → size ≤ 128 → IsExpanded (generated seed size) w →
+BulkIsSmall = (seed size : ℕ) (w : Definition) → 1 ≤ size → size ≤ GREATEST_SIZE → IsExpanded (generated seed size) w →
     bulk (schema_of w) ≤ resolution_count w.tree.process * (8 * size + (size - 1))
 
 abbrev pub WorkflowsAreWithinLimits : Type 0
-WorkflowsAreWithinLimits = (seed size : ℕ) (w : Definition) → 1 ≤ size → size ≤ 128 → IsExpanded (generated seed size) w → IsWithinLimits (schema_of w)
+WorkflowsAreWithinLimits = (seed size : ℕ) (w : Definition) → 1 ≤ size → size ≤ GREATEST_SIZE → IsExpanded (generated seed size) w → IsWithinLimits (schema_of w)
 
 -- nothing is wrong with it where it is compiled
 abbrev pub CompilingIsNotRefused : Type 0
-CompilingIsNotRefused = (seed size : ℕ) (w : Definition) (r : CompileRefusal) → 1 ≤ size → size ≤ 128 → IsExpanded (generated seed size) w →
+CompilingIsNotRefused = (seed size : ℕ) (w : Definition) (r : CompileRefusal) → 1 ≤ size → size ≤ GREATEST_SIZE → IsExpanded (generated seed size) w →
     IsRefused (schema_of w) r → r ≡ compile.NoMemory
 
 -- nor with its tree and its rules
 abbrev pub CompilingPartsIsNotRefused : Type 0
-CompilingPartsIsNotRefused = (seed size : ℕ) (w : Definition) (r : CompileRefusal) → 1 ≤ size → size ≤ 128 → IsExpanded (generated seed size) w →
+CompilingPartsIsNotRefused = (seed size : ℕ) (w : Definition) (r : CompileRefusal) → 1 ≤ size → size ≤ GREATEST_SIZE → IsExpanded (generated seed size) w →
     IsRefused (parts.schema_of w.tree w.rules) r → r ≡ compile.NoMemory
