@@ -10,7 +10,7 @@ use Rattle.flow_model.specs.Run.{RunState, first_state, next_state, state_after,
 use Rattle.flow_laws.proofs.NeverAtALoss.{sound_state}
 use Rattle.flow_workflow.specs.Definition.{Definition, schema_of}
 use Rattle.flow_residual.specs.Remaining.{Remaining}
-use Rattle.flow_claims.specs.Claimed.{Claimed}
+use Rattle.flow_residual.specs.Claimed.{Claimed}
 use Rattle.flow_world.specs.Course.{Course, after_all, state_of_world}
 use Rattle.flow_world.proofs.JournalLabels.{replay-labels_at}
 use Rattle.flow_core.specs.Invariant.{IsCourseOf, IsKept}

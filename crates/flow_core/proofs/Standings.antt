@@ -17,10 +17,10 @@ use Rattle.flow_laws.proofs.SoundStates.{taken_of_current}
 use Rattle.flow_workflow.specs.Definition.{Definition, schema_of}
 use Rattle.flow_workflow.specs.Numbers.{IsKnown}
 use Rattle.flow_residual.specs.Remaining.{Remaining, MayComeNext, IsAvoidable}
-use Rattle.flow_claims.specs.declared.given.Given.{Given}
-use Rattle.flow_claims.specs.Given.{claim_of}
-use Rattle.flow_claims.specs.Claimed.{Claimed, run_of, IsGivenAt}
-use Rattle.flow_claims.proofs.Outstanding.{each_at}
+use Rattle.flow_residual.specs.declared.given.Given.{Given}
+use Rattle.flow_residual.specs.Given.{claim_of}
+use Rattle.flow_residual.specs.Claimed.{Claimed, run_of, IsGivenAt}
+use Rattle.flow_residual.proofs.Outstanding.{each_at}
 use Rattle.flow_world.specs.Changes.{HasFactBelow}
 use Rattle.flow_world.specs.Course.{Course}
 use Rattle.flow_world.proofs.JournalLabels.{length-labels_at}

@@ -12,8 +12,8 @@ use Rattle.flow_model.specs.Run.{Claim, RunState, state_of, claim_at, CanTake}
 use Rattle.flow_model.specs.Verdict.{call_of}
 use Rattle.flow_laws.proofs.ClaimLemmas.{number_of}
 use Rattle.flow_workflow.specs.Definition.{Definition, schema_of}
-use Rattle.flow_claims.specs.Claimed.{Claimed, count_of}
-use Rattle.flow_claims.proofs.Counting.{count-push}
+use Rattle.flow_residual.specs.Claimed.{Claimed, count_of}
+use Rattle.flow_residual.proofs.Counting.{count-push}
 use Rattle.flow_core.specs.Run.{schema, now}
 use Rattle.flow_core.specs.Answers.{next_claim}
 use Rattle.flow_core.specs.Invariant.{IsKept, IsRunning}

@@ -4,7 +4,7 @@ use Rattle.flow_model.specs.declared.history.Step.TheVariants.{Done}
 use Rattle.flow_model.specs.Facts.{event_at}
 use Rattle.flow_model.specs.Run.{leaf_of_claim, IsCurrent}
 use Rattle.flow_residual.specs.Remaining.{Remaining}
-use Rattle.flow_claims.specs.Claimed.{Claimed}
+use Rattle.flow_residual.specs.Claimed.{Claimed}
 use Rattle.flow_world.specs.Course.{Course}
 use Rattle.flow_core.specs.Run.{schema, now}
 use Rattle.flow_core.specs.Invariant.{IsKept}

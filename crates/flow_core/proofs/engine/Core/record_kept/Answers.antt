@@ -3,7 +3,7 @@ use Rattle.flow_model.specs.Lists.{◌∈◌}
 use Rattle.flow_model.specs.declared.history.Step.TheVariants.{Failed}
 use Rattle.flow_model.specs.declared.history.FailEffect.TheVariants.{Kept}
 use Rattle.flow_model.specs.Run.{leaf_of_claim, IsCurrent, IsFree}
-use Rattle.flow_claims.specs.Claimed.{Claimed}
+use Rattle.flow_residual.specs.Claimed.{Claimed}
 use Rattle.flow_core.specs.Run.{schema, now}
 use Rattle.flow_core.specs.Invariant.{IsKept}
 use Rattle.flow_core.proofs.Steps.{longer, kept_failed}

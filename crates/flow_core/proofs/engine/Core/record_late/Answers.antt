@@ -2,7 +2,7 @@ use Rattle.std.proofs.Common.{subst, sym, refl}
 use Rattle.flow_model.specs.declared.history.Step.TheVariants.{Late}
 use Rattle.flow_model.specs.Run.{RunState, state_of, IsLapsed}
 use Rattle.flow_workflow.specs.Definition.{schema_of}
-use Rattle.flow_claims.specs.Claimed.{Claimed}
+use Rattle.flow_residual.specs.Claimed.{Claimed}
 use Rattle.flow_core.specs.Run.{Run, now}
 use Rattle.flow_core.specs.Invariant.{IsKept}
 use Rattle.flow_core.proofs.Steps.{longer, kept_late}

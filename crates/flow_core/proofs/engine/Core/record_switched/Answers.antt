@@ -7,7 +7,7 @@ use Rattle.flow_model.specs.declared.history.FailEffect.TheVariants.{Switched}
 use Rattle.flow_model.specs.Run.{RunState, state_of, leaf_of_claim, answer, with_new_epoch, IsCurrent}
 use Rattle.flow_workflow.specs.Definition.{schema_of}
 use Rattle.flow_residual.specs.Remaining.{Remaining, IsOf, IsAvoidable}
-use Rattle.flow_claims.specs.Claimed.{Claimed}
+use Rattle.flow_residual.specs.Claimed.{Claimed}
 use Rattle.flow_core.specs.Run.{schema, now, HasEntryLeft}
 use Rattle.flow_core.specs.Invariant.{run_by, IsKept}
 use Rattle.flow_core.proofs.Steps.{longer, kept_switched}
