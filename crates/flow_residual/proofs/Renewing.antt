@@ -1,5 +1,5 @@
 -- What a new epoch does to the claims as the code keeps them.
-use Rattle.std.proofs.Common.{◌≡◌, ◌≤◌, ◌<◌, ◌+◌, ℕ, zero, suc, Bool, true, false, ◌&&◌, not, cond, if◌then◌else◌, ◌==◌, List, [], ◌∷◌, ◌++◌, length, map, set, drop, get_or, refl, sym, ap, ◌∙◌, subst, subst₂, arith, append_assoc}
+use Rattle.std.proofs.Common.{◌≡◌, ◌≤◌, ◌<◌, ◌+◌, ℕ, zero, suc, Bool, true, false, ◌&&◌, not, cond, if◌then◌else◌, ◌==◌, List, [], ◌∷◌, ◌++◌, length, map, set, drop, get_or, refl, sym, ap, ◌∙◌, subst, arith, append_assoc}
 use Rattle.std.proofs.lemmas.Bool.{eq-eqb, ne_eqb, cases_Bool, and_parts}
 use Rattle.std.proofs.lemmas.List.{at_drop_more, length-map, length_push}
 use Rattle.flow_model.specs.Lists.{Each}

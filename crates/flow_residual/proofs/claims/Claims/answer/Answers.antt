@@ -1,12 +1,12 @@
-use Rattle.std.proofs.Common.{◌≡◌, ◌+◌, ◌-◌, ◌<◌, ℕ, ◌==◌, false, Some, None, List, length, set, get_or, slice_get, refl, sym, ap, ◌∙◌, subst, arith, length-set}
+use Rattle.std.proofs.Common.{◌≡◌, ◌+◌, ◌-◌, ◌<◌, ℕ, ◌==◌, false, Some, None, List, length, set, get_or, slice_get, refl, sym, ap, subst, arith, length-set}
 use Rattle.std.specs.Vec.{vec_len, vec_capacity}
-use Rattle.std.specs.List.{position_from, remove}
+use Rattle.std.specs.List.{position_from}
 use Rattle.std.proofs.lemmas.Option.{slice_get_read}
 use Rattle.flow_model.specs.Run.{Claim, answer}
 use Rattle.flow_residual.specs.declared.given.Given.{Given}
 use Rattle.flow_residual.specs.declared.claims.Claims.TheInside.{Inside}
 use Rattle.flow_residual.specs.Claimed.{Claimed, IsUnanswered}
-use Rattle.flow_residual.specs.Fields.{claimed, claimed_by, IsKept}
+use Rattle.flow_residual.specs.Fields.{claimed, claimed_by}
 use Rattle.flow_residual.proofs.Numbering.{answered, IsThere, there}
 use Rattle.flow_residual.proofs.Outstanding.{found_within, length-out}
 use Rattle.flow_residual.proofs.Counting.{kept_answer, kept_late, answered_value}

@@ -1,9 +1,8 @@
 use Rattle.std.proofs.Common.{◌≡◌, ◌+◌, ◌<◌, ◌≤◌, false, [], ◌∷◌, ◌++◌, length, set, slice_index, sym, ap, ◌∙◌, subst, arith, rules, length-set}
-use Rattle.std.specs.Vec.{vec_len, vec_capacity}
+use Rattle.std.specs.Vec.{vec_capacity}
 use Rattle.std.proofs.lemmas.List.{get_or_read}
 use Rattle.flow_residual.specs.Claimed.{Claimed}
 use Rattle.flow_residual.specs.Fields.{claimed}
-use Rattle.flow_residual.specs.Given.{out_places, out_leaves}
 use Rattle.flow_residual.proofs.Numbering.{claims_counted}
 use Rattle.flow_residual.proofs.Outstanding.{few_out}
 use Rattle.flow_residual.proofs.Counting.{few_attempts, kept_given, given_value}
