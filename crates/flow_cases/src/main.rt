@@ -7,7 +7,7 @@ mod rows;
 
 use anyhow::{Context, Result};
 use flow_cli::flow;
-use flow_gate::NoteGate;
+use flow_crew::NoteGate;
 use flow_io::{MemSink, MemSource};
 use rows::Row;
 use std::alloc::Global;

@@ -15,7 +15,7 @@ use Rattle.flow_workflow.specs.Numbers.{event_number}
 use Rattle.flow_workflow.proofs.FirstPlaces.{within}
 use Rattle.flow_expand.specs.declared.refusal.ExpandRefusal.{ExpandRefusal}
 use Rattle.flow_expand.specs.declared.refusal.ExpandRefusal.TheVariants as refusal
-use Rattle.flow_expand.specs.Expansion.{Expansion, in_turn, at_once, one_of, joined, Becomes, AllBecome, becomes_nop, becomes_event, becomes_flow, becomes_test, becomes_absent, becomes_ins, becomes_del, becomes_iso, becomes_serial, becomes_beside, becomes_either, none_becomes, more_become}
+use Rattle.flow_expand.specs.Expansion.{Expansion, in_turn, at_once, one_of, joined, Becomes, AllBecome, becomes_nop, becomes_event, becomes_flow, becomes_iso, becomes_serial, becomes_beside, becomes_either, none_becomes, more_become}
 use Rattle.flow_expand.specs.Numbers.{labels_of, facts_of}
 use Rattle.flow_expand.specs.Refusals.{IsRefusal}
 use Rattle.flow_findings.specs.Refusing.{IsOfWorkflow}
@@ -51,14 +51,11 @@ module _ (decls : List Declared) (facts : List Atom) where
       tt,
     )
     events_below s e (becomes_flow {n = n} {s = t} {e = f} there b) = events_below t f b
-    events_below s e becomes_test = ((λ event at. cc), tt)
-    events_below s e becomes_absent = ((λ event at. cc), tt)
-    events_below s e becomes_ins = ((λ event at. cc), tt)
-    events_below s e becomes_del = ((λ event at. cc), tt)
     events_below s e (becomes_iso {s = t} {e = f} b) = events_below t f b
     events_below s e (becomes_serial {ss = ss} {es = es} all) = list_below in_turn both_below es (all_below ss es all)
     events_below s e (becomes_beside {ss = ss} {es = es} all) = list_below at_once both_below es (all_below ss es all)
     events_below s e (becomes_either {ss = ss} {es = es} all) = list_below one_of both_below es (all_below ss es all)
+    events_below s e of_fact = ((λ event at. cc), tt)
 
     all_below : (ss : Shapes) (es : List Expansion) → AllBecome decls ss es → Each AreBelow es
     all_below ss es none_becomes = tt
@@ -71,9 +68,8 @@ below-at count (label ∷ labels) (suc leaf) event h at = below-at count labels 
 
 -- a refusal that is not for want of memory can be told: its event has a name
 pub tells_expansion : (s : Said) (r : ExpandRefusal) → IsRefusal s r → ¬ (r ≡ refusal.NoMemory) → IsOfWorkflow (event_names s.decls) r
-tells_expansion s (refusal.TooLarge part count) h memory = tt
-tells_expansion s (refusal.Recursive chain) h memory = tt
 tells_expansion s (refusal.Twice found) h memory =
     below-at (length (event_names s.decls)) (labels_of (event_names s.decls) (facts_of s.decls h.expansion) h.expansion) found.first found.event
     (events_below s.decls (facts_of s.decls h.expansion) s.goal h.expansion h.measured.fitting.becomes) h.first.twice.at_first
 tells_expansion s refusal.NoMemory h memory = absurd (memory refl)
+tells_expansion s r h memory = tt

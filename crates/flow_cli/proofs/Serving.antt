@@ -5,7 +5,7 @@ use Rattle.flow_model.specs.declared.history.FailEffect.{FailEffect}
 use Rattle.flow_model.specs.declared.history.Step.{Step}
 use Rattle.flow_model.specs.declared.history.Step.TheVariants as step
 use Rattle.flow_model.specs.declared.labels.Label.{Label}
-use Rattle.flow_model.specs.declared.labels.Label.TheVariants.{Event, Test, Absent, Ins, Del}
+use Rattle.flow_model.specs.declared.labels.Label.TheVariants.{Event}
 use Rattle.flow_model.specs.Lists.{Each}
 use Rattle.flow_model.specs.Facts.{event_at}
 use Rattle.flow_model.specs.Run.{RunState, leaf_of_claim}
@@ -44,27 +44,17 @@ goes_on r after by s e = (ap (λ (a : Run). a.definition) e, ap (λ (a : Run). a
 module _ (r after : Run) where
   takes_same : (leaf by : ℕ) (a : Result Call TakeRefusal) → Takes r leaf by a after → SameRun r after
   takes_same leaf by (Err take.Closed) h = is_same r after h.1
-  takes_same leaf by (Err take.NoLeaf) h = is_same r after h.2
-  takes_same leaf by (Err take.WrongKind) h = is_same r after h.2
-  takes_same leaf by (Err (take.Spent limit)) h = is_same r after h.3
-  takes_same leaf by (Err take.NotEnabled) h = is_same r after h.4
+  takes_same leaf by (Err refusal) h = is_same r after (assumption)
   takes_same leaf by (Ok call) h = goes_on r after by (step.Took (next_claim r) leaf) h.3
 
   performs_same : (leaf by : ℕ) (a : Result (Unit {0}) DoRefusal) → Performs r leaf by a after → SameRun r after
   performs_same leaf by (Err perform.Closed) h = is_same r after h.1
-  performs_same leaf by (Err perform.NoLeaf) h = is_same r after h.2
-  performs_same leaf by (Err perform.WrongKind) h = is_same r after h.2
-  performs_same leaf by (Err (perform.Spent limit)) h = is_same r after h.3
-  performs_same leaf by (Err perform.NotEnabled) h = is_same r after h.4
-  performs_same leaf by (Err perform.TestFalse) h = is_same r after h.4
+  performs_same leaf by (Err refusal) h = is_same r after (assumption)
   performs_same leaf by (Ok u) h = goes_on r after by (step.Did leaf) h.4
 
   refused_same : (claim by : ℕ) (refusal : PostRefusal) → PostIsRefused r claim by refusal after → SameRun r after
-  refused_same claim by post.Closed h = is_same r after h.1
-  refused_same claim by post.NoClaim h = is_same r after h.2
-  refused_same claim by post.Answered h = is_same r after h.2
-  refused_same claim by (post.Spent limit) h = is_same r after h.3
   refused_same claim by (post.Late of at) h = goes_on r after by (step.Late claim) h.4
+  refused_same claim by refusal h = is_same r after (assumption)
 
   done_same : (claim by : ℕ) (a : Result (Unit {0}) PostRefusal) → PostsDone r claim by a after → SameRun r after
   done_same claim by (Err refusal) h = refused_same claim by refusal h
@@ -76,15 +66,12 @@ module _ (r after : Run) where
 
   rewinds_same : (by : ℕ) (a : Result ℕ RewindRefusal) → Rewinds r by a after → SameRun r after
   rewinds_same by (Err rewind.Closed) h = is_same r after h.1
-  rewinds_same by (Err (rewind.Spent limit)) h = is_same r after h.2
-  rewinds_same by (Err rewind.NoChoice) h = is_same r after h.3
+  rewinds_same by (Err refusal) h = is_same r after (assumption)
   rewinds_same by (Ok index) h = goes_on r after by (step.Rewound index) h.3
 
   commits_same : (by : ℕ) (a : Result (Unit {0}) CommitRefusal) → Commits r by a after → SameRun r after
   commits_same by (Err commit.Closed) h = is_same r after h.1
-  commits_same by (Err (commit.Spent limit)) h = is_same r after h.2
-  commits_same by (Err (commit.ClaimsOut claim)) h = is_same r after h.3
-  commits_same by (Err commit.Unfinished) h = is_same r after h.4
+  commits_same by (Err refusal) h = is_same r after (assumption)
   commits_same by (Ok u) h = goes_on r after by step.Committed h.4
 
   pub answers_same : (c : Command) (a : Answer) → Answers r c a after → SameRun r after
@@ -106,10 +93,7 @@ module _ (r after : Run) where
 known_below : (events facts : ℕ) (labels : List Label) (leaf event : ℕ) → Each (IsKnown events facts) labels → event_at labels leaf ≡ Some event → event < events
 known_below events facts [] leaf event h at = cc
 known_below events facts (Event e ∷ labels) zero event h at = let same : e ≡ event = cc in let less : e < events = h.0 in omega arith
-known_below events facts (Test f ∷ labels) zero event h at = cc
-known_below events facts (Absent f ∷ labels) zero event h at = cc
-known_below events facts (Ins f ∷ labels) zero event h at = cc
-known_below events facts (Del f ∷ labels) zero event h at = cc
+known_below events facts (label ∷ labels) zero event h at = cc
 known_below events facts (label ∷ labels) (suc leaf) event h at = known_below events facts labels leaf event h.1 at
 
 -- where a leaf is an event's there is an event

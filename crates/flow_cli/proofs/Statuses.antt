@@ -19,7 +19,7 @@ use Rattle.flow_verify.specs.declared.answers.Redundancy.TheVariants.{Redundant,
 use Rattle.flow_reply.specs.declared.verdict.Verdict.{Verdict}
 use Rattle.flow_reply.specs.declared.verdict.Verdict.TheVariants as verdict
 use Rattle.flow_cli.specs.declared.status.Status.{Status}
-use Rattle.flow_cli.specs.declared.status.Status.TheVariants.{Words, ReadFault, WriteFault, Memory}
+use Rattle.flow_cli.specs.declared.status.Status.TheVariants.{Words, WriteFault, Memory}
 use Rattle.flow_cli.specs.Refusals.{status_of_compiling, IsNotExpanded, OfWorkflow}
 use Rattle.flow_cli.specs.Compiling.{IsOfCounts, IsTooLarge, IsNotCompiled}
 use Rattle.flow_cli.specs.Checking.{IsFoundConsistent, ChecksWorkflow}
@@ -36,7 +36,6 @@ of_counts other h = tt
 
 pub of_verdict : (v : Verdict) → IsOfInput (ended v)
 of_verdict verdict.Committed = tt
-of_verdict verdict.Spent = tt
 of_verdict other = tt
 
 of_checked : (checked : Checked) → IsOfInput (status_of_checked checked)
@@ -100,6 +99,3 @@ input_whole other h = tt
 
 pub input_no_words : (s : Status) → IsOfInput s → s ≢ Words
 input_no_words s h is = subst IsOfInput is h
-
-pub input_no_fault : (s : Status) → IsOfInput s → s ≢ ReadFault
-input_no_fault s h is = subst IsOfInput is h

@@ -1,5 +1,6 @@
 -- What `run` writes.
 use Rattle.std.specs.Prelude.{◌≡◌, ◌≤◌, ℕ, Bool, List, ◌⊎◌}
+use Rattle.flow_model.specs.declared.limits.TheConstants.{MOST_WORKERS}
 use Rattle.flow_model.specs.declared.history.Call.{Call}
 use Rattle.flow_model.specs.declared.history.Entry.{Entry}
 use Rattle.flow_model.specs.declared.history.Outcome.{Outcome}
@@ -23,7 +24,7 @@ use Rattle.flow_cli.specs.Compiling.{IsNotCompiled}
 
 -- so many workers can run a workflow
 abbrev pub IsWorkerCount : ℕ → Type 0
-IsWorkerCount workers = (1 ≤ workers) × (workers ≤ 64)
+IsWorkerCount workers = (1 ≤ workers) × (workers ≤ MOST_WORKERS)
 
 -- how a run is made: in so many steps at most, by so many workers
 pub record IsCrew (steps workers : ℕ) : Type 0 where

@@ -1,10 +1,10 @@
 ghost use Rattle.std.specs.Prelude.{IfOk};
 ghost use Rattle.flow_cli.specs.Checking.{ChecksWorkflow};
 
+use crate::compiling::compile_workflow;
 use crate::output::{Output, refuse_script, refuse_workflow};
 use crate::reading::ScriptMode;
 use crate::status::Status;
-use flow_excise::compile;
 use flow_expand::{Workflow, expand};
 use flow_findings::print_check;
 use flow_form::Script;
@@ -14,7 +14,7 @@ use std::alloc::{AllocError, Global};
 fn check_workflow(alloc: Global, workflow: &Workflow) -> Result<Output, AllocError>
     ensures { IfOk result (λ output. ChecksWorkflow workflow.now output.status output.text.items) }
 {
-    match compile(alloc, workflow.tree(), workflow.rules()) {
+    match compile_workflow(alloc, workflow) {
         Ok(compiled) => Ok(Output {
             status: Status::Fine,
             text: print_check(alloc, workflow, &compiled.counts())?,

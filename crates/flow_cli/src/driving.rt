@@ -3,10 +3,10 @@ ghost use Rattle.flow_form.specs.Script.{said};
 ghost use Rattle.flow_form.specs.Names.{IsClosed};
 ghost use Rattle.flow_cli.specs.Driving.{IsStepCount, DrivesWorkflow, DrivesSaid};
 
+use crate::compiling::compile_workflow;
 use crate::output::{Output, refuse, refuse_script, refuse_workflow};
 use crate::reading::ScriptMode;
 use crate::session::drive_compiled;
-use flow_excise::compile;
 use flow_expand::{Workflow, expand};
 use flow_findings::Refused;
 use flow_form::Script;
@@ -24,7 +24,7 @@ fn drive_workflow(
     requires steps { IsStepCount steps }
     ensures { IfOk result (λ output. DrivesWorkflow workflow steps session.now output.status output.text.items) }
 {
-    match compile(alloc, workflow.tree(), workflow.rules()) {
+    match compile_workflow(alloc, &workflow) {
         Ok(compiled) => drive_compiled(alloc, workflow, compiled, session, steps),
         Err(refusal) => {
             drop(workflow);

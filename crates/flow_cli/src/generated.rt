@@ -1,13 +1,14 @@
 //! The generated workflow of a seed and a size, which is never refused.
 ghost use Rattle.std.specs.Prelude.{◌≡◌, ◌≤◌, IfOk};
-ghost use Rattle.flow_model.specs.declared.limits.TheConstants.{GREATEST_SEED};
+ghost use Rattle.flow_model.specs.declared.limits.TheConstants.{GREATEST_SEED, GREATEST_SIZE};
 ghost use Rattle.flow_form.specs.Script.{said};
 ghost use Rattle.flow_workflow.specs.Definition.{schema_of};
 ghost use Rattle.flow_expand.specs.Workflows.{IsExpanded};
 ghost use Rattle.flow_excise.specs.Compilation.{IsCompiled};
 ghost use Rattle.flow_gen.specs.Generated.{generated};
 
-use flow_excise::{CompileRefusal, Compiled, compile};
+use crate::compiling::compile_workflow;
+use flow_excise::{CompileRefusal, Compiled};
 use flow_expand::{ExpandRefusal, Workflow, expand};
 use flow_form::{Script, TextRefusal};
 use flow_gen::generate;
@@ -22,7 +23,7 @@ use std::alloc::{AllocError, Global};
 fn generated_script(alloc: Global, seed: u32, size: u32) -> Result<Script, AllocError>
     requires seed { seed ≤ GREATEST_SEED }
     requires some { 1 ≤ size }
-    requires few { size ≤ 128 }
+    requires few { size ≤ GREATEST_SIZE }
     ensures { IfOk result (λ script. said script ≡ generated seed size) }
 {
     law_generated_texts_are_read();
@@ -45,7 +46,7 @@ pub(crate) fn generated_workflow(
 ) -> Result<Workflow, AllocError>
     requires seed { seed ≤ GREATEST_SEED }
     requires some { 1 ≤ size }
-    requires few { size ≤ 128 }
+    requires few { size ≤ GREATEST_SIZE }
     ensures { IfOk result (IsExpanded (generated seed size)) }
 {
     let script = generated_script(alloc, seed, size)?;
@@ -63,7 +64,7 @@ fn expand_generated(
 ) -> Result<Workflow, AllocError>
     requires script { said script.now ≡ generated seed size }
     requires some { 1 ≤ size }
-    requires few { size ≤ 128 }
+    requires few { size ≤ GREATEST_SIZE }
     ensures { IfOk result (IsExpanded (generated seed size)) }
 {
     law_generated_texts_are_read();
@@ -86,11 +87,11 @@ pub(crate) fn compile_generated(
 ) -> Result<Compiled, AllocError>
     requires expanded { IsExpanded (generated seed size) workflow.now }
     requires some { 1 ≤ size }
-    requires few { size ≤ 128 }
+    requires few { size ≤ GREATEST_SIZE }
     ensures { IfOk result (IsCompiled (schema_of workflow.now)) }
 {
     law_generated_workflows_are_compiled();
-    match compile(alloc, workflow.tree(), workflow.rules()) {
+    match compile_workflow(alloc, workflow) {
         Ok(compiled) => Ok(compiled),
         Err(refusal) => match refusal {
             CompileRefusal::NoMemory => Err(AllocError),

@@ -1,5 +1,5 @@
 ghost use Rattle.std.specs.Prelude.{◌≤◌, IfOk};
-ghost use Rattle.flow_model.specs.declared.limits.TheConstants.{GREATEST_SEED};
+ghost use Rattle.flow_model.specs.declared.limits.TheConstants.{GREATEST_SEED, GREATEST_SIZE};
 ghost use Rattle.flow_cli.specs.Generating.{Generates};
 
 use crate::output::Output;
@@ -11,7 +11,7 @@ use std::alloc::{AllocError, Global};
 pub(crate) fn write_generated(alloc: Global, seed: u32, size: u32) -> Result<Output, AllocError>
     requires seed { seed ≤ GREATEST_SEED }
     requires some { 1 ≤ size }
-    requires few { size ≤ 128 }
+    requires few { size ≤ GREATEST_SIZE }
     ensures { IfOk result (λ output. Generates seed size output.status output.text.items) }
 {
     Ok(Output {

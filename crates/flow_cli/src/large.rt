@@ -1,6 +1,6 @@
 //! The mode `large`: workers make a run of a generated workflow.
 ghost use Rattle.std.specs.Prelude.{◌≡◌, ◌≤◌, IfOk};
-ghost use Rattle.flow_model.specs.declared.limits.TheConstants.{GREATEST_SEED};
+ghost use Rattle.flow_model.specs.declared.limits.TheConstants.{GREATEST_SEED, GREATEST_SIZE};
 ghost use Rattle.flow_cli.specs.Output.{IsOfInput};
 ghost use Rattle.flow_cli.specs.Large.{summary_of, RunsGenerated};
 
@@ -9,8 +9,8 @@ use crate::output::Output;
 use crate::running::RunMode;
 use crate::session::status_of;
 use flow_core::Core;
+use flow_crew::Gate;
 use flow_excise::Counts;
-use flow_gate::Gate;
 use flow_reply::{Summary, Verdict, print_summary};
 use std::alloc::{AllocError, Global};
 use std::sync::Wait;
@@ -44,7 +44,7 @@ impl<'a, R: Threads + Wait + Sync, G: Gate> RunMode<'a, R, G> {
     ) -> Result<Output, AllocError>
         requires seed { seed ≤ GREATEST_SEED }
         requires some { 1 ≤ size }
-        requires few { size ≤ 128 }
+        requires few { size ≤ GREATEST_SIZE }
         ensures writes { IfOk result (λ output. RunsGenerated G.gives seed size self.now.steps self.now.workers output.status output.text.items) }
         ensures of_input { IfOk result (λ output. IsOfInput output.status) }
     {

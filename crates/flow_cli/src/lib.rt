@@ -3,6 +3,7 @@
 
 mod call;
 mod checking;
+mod compiling;
 mod driving;
 mod generated;
 mod generating;

@@ -7,16 +7,16 @@ ghost use Rattle.flow_excise.specs.Compilation.{IsCompiled};
 ghost use Rattle.flow_cli.specs.Output.{greatest_input, WritesFor, WritesIn, IsOfInput, IsWhole, IsOver};
 ghost use Rattle.flow_cli.specs.Running.{IsCrew, verdict_of, IsRunOf, Reports, RunsWorkflow, Runs};
 
+use crate::compiling::compile_workflow;
 use crate::output::{Output, refuse, refuse_script, refuse_workflow};
 use crate::session::status_of;
 use crate::status::Status;
 use flow_core::Core;
-use flow_crew::{Book, End, run_crew};
-use flow_excise::{Compiled, compile};
+use flow_crew::{Book, End, Gate, run_crew};
+use flow_excise::Compiled;
 use flow_expand::{Workflow, expand};
 use flow_findings::Refused;
 use flow_form::Script;
-use flow_gate::Gate;
 use flow_io::{ReadRefusal, Source, read_all};
 use flow_model::GREATEST_INPUT;
 use flow_record::cut_source;
@@ -92,7 +92,7 @@ impl<'a, R: Threads + Wait + Sync, G: Gate> RunMode<'a, R, G> {
     fn run_workflow(&self, alloc: Global, workflow: Workflow) -> Result<Output, AllocError>
         ensures { IfOk result (λ output. RunsWorkflow G.gives workflow self.now.steps self.now.workers output.status output.text.items) }
     {
-        match compile(alloc, workflow.tree(), workflow.rules()) {
+        match compile_workflow(alloc, &workflow) {
             Ok(compiled) => self.report(alloc, workflow, compiled),
             Err(refusal) => {
                 drop(workflow);

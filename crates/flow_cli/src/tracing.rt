@@ -1,10 +1,10 @@
 ghost use Rattle.std.specs.Prelude.{◌≡◌, IfOk};
 ghost use Rattle.flow_cli.specs.Tracing.{status_of_checked, TracesLeaves, TracesWorkflow};
 
+use crate::compiling::compile_workflow;
 use crate::output::{Output, refuse, refuse_script, refuse_workflow};
 use crate::reading::ScriptMode;
 use crate::status::Status;
-use flow_excise::compile;
 use flow_expand::{Workflow, expand};
 use flow_findings::{Refused, print_checked};
 use flow_form::Script;
@@ -26,7 +26,7 @@ fn status_of_checked(checked: Checked) -> Status
 fn trace_leaves(alloc: Global, workflow: &Workflow, leaves: &[u32]) -> Result<Output, AllocError>
     ensures { IfOk result (λ output. TracesLeaves workflow.now leaves.now output.status output.text.items) }
 {
-    match compile(alloc, workflow.tree(), workflow.rules()) {
+    match compile_workflow(alloc, workflow) {
         Ok(compiled) => {
             let checked = check_trace(alloc, workflow, &compiled, leaves);
             drop(compiled);

@@ -21,32 +21,18 @@ pub told_once : (events : List (List ℕ)) (r q : Refused) (status other : Statu
 told_once events r q status other output text e p t =
     (p.status_is ∙ ap status_of e ∙ sym t.status_is, p.output_is ∙ ap (refused_text events) e ∙ sym t.output_is)
 
-apart : (n limit : ℕ) → limit < n → n ≤ limit → ⊥
-apart n limit many few = omega (arith, many, few)
-
 module _ (w : Schema) where
   -- of the counts one is the first that is too large
   first_count : (r q : CompileRefusal) → IsOfCounts r → IsOfCounts q → IsRefused w r → IsRefused w q → r ≡ q
   first_count (TooManyChoices n) (TooManyChoices m) a b h g = ap (λ k. TooManyChoices k) (h.1 ∙ sym g.1)
-  first_count (TooManyChoices n) (TooManyWays m) a b h g = absurd (apart (resolution_count w.goal) MOST_RESOLUTIONS h.0 g.0)
-  first_count (TooManyChoices n) (TooBulky m) a b h g = absurd (apart (resolution_count w.goal) MOST_RESOLUTIONS h.0 g.0)
-  first_count (TooManyWays n) (TooManyChoices m) a b h g = absurd (apart (resolution_count w.goal) MOST_RESOLUTIONS g.0 h.0)
   first_count (TooManyWays n) (TooManyWays m) a b h g = ap (λ k. TooManyWays k) (h.1.1 ∙ sym g.1.1)
-  first_count (TooManyWays n) (TooBulky m) a b h g = absurd (apart (length (options w)) MOST_OPTIONS h.1.0 g.1.0)
-  first_count (TooBulky n) (TooManyChoices m) a b h g = absurd (apart (resolution_count w.goal) MOST_RESOLUTIONS g.0 h.0)
-  first_count (TooBulky n) (TooManyWays m) a b h g = absurd (apart (length (options w)) MOST_OPTIONS g.1.0 h.1.0)
   first_count (TooBulky n) (TooBulky m) a b h g = ap (λ k. TooBulky k) (h.1.1.1 ∙ sym g.1.1.1)
-  first_count (Inconsistent d) q a b h g = absurd a
-  first_count NoMemory q a b h g = absurd a
-  first_count r (Inconsistent d) a b h g = absurd b
-  first_count r NoMemory a b h g = absurd b
+  first_count r q a b h g = absurd (first_of (assumption, omega arith))
 
   none_too_large : (r : CompileRefusal) → IsOfCounts r → IsRefused w r → IsWithinLimits w → ⊥
-  none_too_large (TooManyChoices n) a h within = apart (resolution_count w.goal) MOST_RESOLUTIONS h.0 within.resolutions
-  none_too_large (TooManyWays n) a h within = apart (length (options w)) MOST_OPTIONS h.1.0 within.options_few
-  none_too_large (TooBulky n) a h within = apart (bulk w) GREATEST_BULK h.1.1.0 within.light
   none_too_large (Inconsistent d) a h within = a
   none_too_large NoMemory a h within = a
+  none_too_large r a h within = omega arith
 
   pub too_large_once : (status other : Status) (output text : List ℕ) → IsTooLarge w status output → IsTooLarge w other text → (status ≡ other) × (output ≡ text)
   too_large_once status other output text p q =

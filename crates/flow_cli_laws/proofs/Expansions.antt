@@ -20,8 +20,7 @@ use Rattle.flow_expand.specs.Numbers.{facts_of, labelled_of}
 use Rattle.flow_expand.specs.Refusals.{flow_count, rule_name_count, IsFinite, IsFitting, HasManyFlows, HasRecursion, HasLargeGoal, HasManyRuleNames, HasRepetition, IsRefusal}
 use Rattle.flow_expand.specs.Workflows.{definition_of, IsExpanded}
 use Rattle.flow_expand.proofs.Endings.{becomes_one}
-use Rattle.flow_expand.proofs.BuildLemmas.{labels_counted}
-use Rattle.flow_expand.proofs.NumberingLemmas.{leaves_in_row}
+use Rattle.flow_expand.proofs.BuildLemmas.{labels_counted, leaves_in_row}
 use Rattle.flow_findings.specs.declared.refused.Refused.TheVariants as refused
 use Rattle.flow_findings.specs.Refusing.{refused_text, IsOfWorkflow}
 use Rattle.flow_cli.specs.declared.status.Status.{Status}
@@ -120,35 +119,16 @@ module _ (s : Said) (once : AreDistinct (declared_names s.decls)) where
   refusals_are_one : (r q : ExpandRefusal) → IsRefusal s r → IsRefusal s q → IsOfWorkflow (event_names s.decls) r → IsOfWorkflow (event_names s.decls) q → AreOne r q
   refusals_are_one (refusal.TooLarge part.Flows n) (refusal.TooLarge part.Flows m) h g a b =
       same (refusal.TooLarge part.Flows n) (refusal.TooLarge part.Flows m) (ap (λ k. refusal.TooLarge part.Flows k) (h.counted ∙ sym g.counted))
-  refusals_are_one (refusal.TooLarge part.Flows n) (refusal.Recursive d) h g a b = absurd (many_flows n h g.few)
-  refusals_are_one (refusal.TooLarge part.Flows n) (refusal.TooLarge part.Goal m) h g a b = absurd (many_flows n h g.finite.few)
-  refusals_are_one (refusal.TooLarge part.Flows n) (refusal.TooLarge part.Rules m) h g a b = absurd (many_flows n h g.fitting.finite.few)
-  refusals_are_one (refusal.TooLarge part.Flows n) (refusal.Twice f) h g a b = absurd (many_flows n h g.measured.fitting.finite.few)
-  refusals_are_one (refusal.Recursive c) (refusal.TooLarge part.Flows m) h g a b = absurd (many_flows m g h.few)
   refusals_are_one (refusal.Recursive c) (refusal.Recursive d) h g a b =
       λ output text one two. inr (record { one = c; other = d; one_has = h; other_has = g; output_is = one; text_is = two })
-  refusals_are_one (refusal.Recursive c) (refusal.TooLarge part.Goal m) h g a b = absurd (recursive c.items h g.finite)
-  refusals_are_one (refusal.Recursive c) (refusal.TooLarge part.Rules m) h g a b = absurd (recursive c.items h g.fitting.finite)
-  refusals_are_one (refusal.Recursive c) (refusal.Twice f) h g a b = absurd (recursive c.items h g.measured.fitting.finite)
-  refusals_are_one (refusal.TooLarge part.Goal n) (refusal.TooLarge part.Flows m) h g a b = absurd (many_flows m g h.finite.few)
-  refusals_are_one (refusal.TooLarge part.Goal n) (refusal.Recursive d) h g a b = absurd (recursive d.items g h.finite)
   refusals_are_one (refusal.TooLarge part.Goal n) (refusal.TooLarge part.Goal m) h g a b =
       same (refusal.TooLarge part.Goal n) (refusal.TooLarge part.Goal m) (ap (λ k. refusal.TooLarge part.Goal k) (goals_counted n m h g))
-  refusals_are_one (refusal.TooLarge part.Goal n) (refusal.TooLarge part.Rules m) h g a b = absurd (large_goal n g.expansion h g.fitting)
-  refusals_are_one (refusal.TooLarge part.Goal n) (refusal.Twice f) h g a b = absurd (large_goal n g.expansion h g.measured.fitting)
-  refusals_are_one (refusal.TooLarge part.Rules n) (refusal.TooLarge part.Flows m) h g a b = absurd (many_flows m g h.fitting.finite.few)
-  refusals_are_one (refusal.TooLarge part.Rules n) (refusal.Recursive d) h g a b = absurd (recursive d.items g h.fitting.finite)
-  refusals_are_one (refusal.TooLarge part.Rules n) (refusal.TooLarge part.Goal m) h g a b = absurd (large_goal m h.expansion g h.fitting)
   refusals_are_one (refusal.TooLarge part.Rules n) (refusal.TooLarge part.Rules m) h g a b =
       same (refusal.TooLarge part.Rules n) (refusal.TooLarge part.Rules m) (ap (λ k. refusal.TooLarge part.Rules k) (h.counted ∙ sym g.counted))
-  refusals_are_one (refusal.TooLarge part.Rules n) (refusal.Twice f) h g a b = absurd (many_names n h g.measured.few_names)
-  refusals_are_one (refusal.Twice e) (refusal.TooLarge part.Flows m) h g a b = absurd (many_flows m g h.measured.fitting.finite.few)
-  refusals_are_one (refusal.Twice e) (refusal.Recursive d) h g a b = absurd (recursive d.items g h.measured.fitting.finite)
-  refusals_are_one (refusal.Twice e) (refusal.TooLarge part.Goal m) h g a b = absurd (large_goal m h.expansion g h.measured.fitting)
-  refusals_are_one (refusal.Twice e) (refusal.TooLarge part.Rules m) h g a b = absurd (many_names m g h.measured.few_names)
   refusals_are_one (refusal.Twice e) (refusal.Twice f) h g a b = same (refusal.Twice e) (refusal.Twice f) (ap refusal.Twice (pairs_found e f h g))
-  refusals_are_one refusal.NoMemory q h g a b = absurd a
-  refusals_are_one r refusal.NoMemory h g a b = absurd b
+  refusals_are_one (refusal.Recursive c) (refusal.TooLarge part.Flows m) h g a b = absurd (many_flows m g h.few)
+  refusals_are_one (refusal.Twice e) (refusal.TooLarge part.Flows m) h g a b = absurd (many_flows m g h.measured.fitting.finite.few)
+  refusals_are_one r q h g a b = absurd (first_of (assumption, search (many_flows, recursive, large_goal, many_names)))
 
   -- ---- two outputs of what is said
 

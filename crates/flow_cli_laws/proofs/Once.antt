@@ -1,26 +1,17 @@
 -- What is written of a workflow is settled.
-use Rattle.std.proofs.Common.{◌≡◌, ℕ, List, [], ◌∷◌, ◌++◌, Result, length, codes, inl, inr, refl, sym, ap, ◌∙◌, subst}
+use Rattle.std.proofs.Common.{◌≡◌, ℕ, List, [], ◌∷◌, ◌++◌, length, codes, inl, inr, refl, sym, ap, ◌∙◌, subst}
 use Rattle.std.proofs.lemmas.List.{length-map}
-use Rattle.flow_model.specs.declared.history.Call.{Call}
-use Rattle.flow_model.specs.declared.history.FailEffect.{FailEffect}
 use Rattle.flow_model.specs.Resolution.{options}
 use Rattle.flow_model.specs.Schema.{Schema}
 use Rattle.flow_model.specs.Verdict as model
 use Rattle.flow_workflow.specs.Definition.{Definition, schema_of}
-use Rattle.flow_excise.specs.declared.counts.Counts.{Counts}
 use Rattle.flow_excise.specs.Compilation.{Compilation, IsLive, IsCompiled, options_of}
 use Rattle.flow_sample.specs.Excised.{HasExecution}
 use Rattle.flow_excise.specs.Executions.{AreJustThose}
 use Rattle.flow_sample.specs.Plans.{option_of}
 use Rattle.flow_plan.specs.Sampled.{Sampled}
 use Rattle.flow_trace.proofs.TraceLemmas.{tells_once}
-use Rattle.flow_core.specs.declared.refusal.TakeRefusal.{TakeRefusal}
-use Rattle.flow_core.specs.declared.refusal.DoRefusal.{DoRefusal}
-use Rattle.flow_core.specs.declared.refusal.PostRefusal.{PostRefusal}
-use Rattle.flow_core.specs.declared.refusal.RewindRefusal.{RewindRefusal}
-use Rattle.flow_core.specs.declared.refusal.CommitRefusal.{CommitRefusal}
 use Rattle.flow_core.specs.Run.{Run}
-use Rattle.flow_core.specs.Answers.{Takes, Performs, PostsDone, PostsFailed, Rewinds, Commits}
 use Rattle.flow_core.proofs.OneAnswer.{takes_once, performs_once, posts_done_once, posts_failed_once, rewinds_once, commits_once}
 use Rattle.flow_record.specs.declared.command.Command.{Command}
 use Rattle.flow_record.specs.declared.command.Command.TheVariants as command
@@ -43,61 +34,19 @@ module _ (r after other : Run) where
   abbrev Once : Answer → Answer → Type 0
   Once a b = (a ≡ b) × (after ≡ other)
 
-  took_once : (leaf : ℕ) (x : Result Call TakeRefusal) (b : Answer) → Takes r leaf driver x after → Answers r (command.Take leaf) b other → Once (answer.Took x) b
-  took_once leaf x (answer.Took y) p q = let e = takes_once r leaf driver x y after other p q in (ap answer.Took e.0, e.1)
-  took_once leaf x b p q = absurd q
-
-  did_once : (leaf : ℕ) (x : Result (Unit {0}) DoRefusal) (b : Answer) → Performs r leaf driver x after → Answers r (command.Do leaf) b other →
-      Once (answer.Did x) b
-  did_once leaf x (answer.Did y) p q = let e = performs_once r leaf driver x y after other p q in (ap answer.Did e.0, e.1)
-  did_once leaf x b p q = absurd q
-
-  done_once : (claim : ℕ) (x : Result (Unit {0}) PostRefusal) (b : Answer) → PostsDone r claim driver x after → Answers r (command.Done claim) b other →
-      Once (answer.Done x) b
-  done_once claim x (answer.Done y) p q = let e = posts_done_once r claim driver x y after other p q in (ap answer.Done e.0, e.1)
-  done_once claim x b p q = absurd q
-
-  failed_once : (claim : ℕ) (x : Result FailEffect PostRefusal) (b : Answer) → PostsFailed r claim driver x after → Answers r (command.Fail claim) b other →
-      Once (answer.Failed x) b
-  failed_once claim x (answer.Failed y) p q = let e = posts_failed_once r claim driver x y after other p q in (ap answer.Failed e.0, e.1)
-  failed_once claim x b p q = absurd q
-
-  rewound_once : (x : Result ℕ RewindRefusal) (b : Answer) → Rewinds r driver x after → Answers r command.Rewind b other → Once (answer.Rewound x) b
-  rewound_once x (answer.Rewound y) p q = let e = rewinds_once r driver x y after other p q in (ap answer.Rewound e.0, e.1)
-  rewound_once x b p q = absurd q
-
-  committed_once : (x : Result (Unit {0}) CommitRefusal) (b : Answer) → Commits r driver x after → Answers r command.Commit b other → Once (answer.Committed x) b
-  committed_once x (answer.Committed y) p q = let e = commits_once r driver x y after other p q in (ap answer.Committed e.0, e.1)
-  committed_once x b p q = absurd q
-
-  next_once : (b : Answer) → after ≡ r → Answers r command.Next b other → Once answer.Shown b
-  next_once answer.Shown p q = (refl, p ∙ sym q)
-  next_once b p q = absurd q
-
-  enabled_once : (b : Answer) → after ≡ r → Answers r command.Enabled b other → Once answer.Shown b
-  enabled_once answer.Shown p q = (refl, p ∙ sym q)
-  enabled_once b p q = absurd q
-
-  journal_once : (b : Answer) → after ≡ r → Answers r command.Journal b other → Once answer.Shown b
-  journal_once answer.Shown p q = (refl, p ∙ sym q)
-  journal_once b p q = absurd q
-
-  facts_once : (b : Answer) → after ≡ r → Answers r command.Facts b other → Once answer.Shown b
-  facts_once answer.Shown p q = (refl, p ∙ sym q)
-  facts_once b p q = absurd q
-
+  -- a command and an answer of its kind leave one answer and one run
   answers_once : (c : Command) (a b : Answer) → Answers r c a after → Answers r c b other → Once a b
-  answers_once (command.Take leaf) (answer.Took x) b p q = took_once leaf x b p q
-  answers_once (command.Do leaf) (answer.Did x) b p q = did_once leaf x b p q
-  answers_once (command.Done claim) (answer.Done x) b p q = done_once claim x b p q
-  answers_once (command.Fail claim) (answer.Failed x) b p q = failed_once claim x b p q
-  answers_once command.Rewind (answer.Rewound x) b p q = rewound_once x b p q
-  answers_once command.Commit (answer.Committed x) b p q = committed_once x b p q
-  answers_once command.Next answer.Shown b p q = next_once b p q
-  answers_once command.Enabled answer.Shown b p q = enabled_once b p q
-  answers_once command.Journal answer.Shown b p q = journal_once b p q
-  answers_once command.Facts answer.Shown b p q = facts_once b p q
-  answers_once c a b p q = absurd p
+  answers_once (command.Take leaf) (answer.Took x) (answer.Took y) p q = let e = takes_once r leaf driver x y after other p q in (ap answer.Took e.0, e.1)
+  answers_once (command.Do leaf) (answer.Did x) (answer.Did y) p q = let e = performs_once r leaf driver x y after other p q in (ap answer.Did e.0, e.1)
+  answers_once (command.Done claim) (answer.Done x) (answer.Done y) p q = let e = posts_done_once r claim driver x y after other p q in (ap answer.Done e.0, e.1)
+  answers_once (command.Fail claim) (answer.Failed x) (answer.Failed y) p q = let e = posts_failed_once r claim driver x y after other p q in (ap answer.Failed e.0, e.1)
+  answers_once command.Rewind (answer.Rewound x) (answer.Rewound y) p q = let e = rewinds_once r driver x y after other p q in (ap answer.Rewound e.0, e.1)
+  answers_once command.Commit (answer.Committed x) (answer.Committed y) p q = let e = commits_once r driver x y after other p q in (ap answer.Committed e.0, e.1)
+  answers_once command.Next answer.Shown answer.Shown p q = (refl, p ∙ sym q)
+  answers_once command.Enabled answer.Shown answer.Shown p q = (refl, p ∙ sym q)
+  answers_once command.Journal answer.Shown answer.Shown p q = (refl, p ∙ sym q)
+  answers_once command.Facts answer.Shown answer.Shown p q = (refl, p ∙ sym q)
+  answers_once c a b p q = absurd (assumption)
 
   replies_once : (c : Command) (line text : List ℕ) → RepliesTo r c line after → RepliesTo r c text other → (line ≡ text) × (after ≡ other)
   replies_once c line text (a, answers, (one, is, line_is)) (b, answers', (two, is', text_is)) =
@@ -124,11 +73,8 @@ verdict_in model.unfinished = verdict.Unfinished
 
 meant_once : (r : Run) (v : Verdict) (meant : model.Verdict) → Means r v meant → verdict_in meant ≡ v
 unfolding verdict_in
-meant_once r verdict.Committed meant h = ap verdict_in h
-meant_once r verdict.Spent meant h = ap verdict_in h
-meant_once r (verdict.NoOther leaf) meant h = ap verdict_in h
 meant_once r verdict.Stuck meant (waiting, just, h) = ap verdict_in h
-meant_once r verdict.Unfinished meant h = ap verdict_in h
+meant_once r v meant h = ap verdict_in h
 
 -- a workflow that is driven by a session
 pub sessions_once : (w : Definition) (steps : ℕ) (session : List Command) → IsSingle (Records w steps session)
@@ -159,20 +105,18 @@ just_once P (x ∷ xs) ys zs (inl (has, others)) (inr (not, q)) = absurd (not ha
 just_once P (x ∷ xs) ys zs (inr (not, p)) (inl (has, others)) = absurd (not has)
 just_once P (x ∷ xs) ys zs (inr (not, p)) (inr (not', q)) = just_once P xs ys zs p q
 
-counts_same : (a b : Counts) → a.resolutions ≡ b.resolutions → a.options ≡ b.options → a.bulk ≡ b.bulk → a.live ≡ b.live → a ≡ b
-counts_same a b r o k l =
-    ap (λ n. record a { resolutions = n }) r ∙ ap (λ n. record a { resolutions = b.resolutions; options = n }) o
-    ∙ ap (λ n. record a { resolutions = b.resolutions; options = b.options; bulk = n }) k
-    ∙ ap (λ n. record b { live = n }) l
-
 -- a compiled workflow has one count of each kind
 counts_once : (w : Schema) (a b : Compilation) → IsCompiled w a → IsCompiled w b → IsLive a → IsLive b → a.counts ≡ b.counts
 counts_once w a b p q live live' =
     let plans : options_of a.plans ≡ options_of b.plans = just_once HasExecution (options w) (options_of a.plans) (options_of b.plans) p.plans q.plans in
     let many : length a.plans ≡ length b.plans =
     sym (length-map a.plans (λ (s : Sampled). option_of s.plan)) ∙ ap (λ os. length os) plans ∙ length-map b.plans (λ (s : Sampled). option_of s.plan) in
-    counts_same a.counts b.counts (p.resolutions ∙ sym q.resolutions) (p.options_counted ∙ sym q.options_counted) (p.bulk_counted ∙ sym q.bulk_counted)
-    (live.live ∙ many ∙ sym live'.live)
+    λ i. record {
+      resolutions = (p.resolutions ∙ sym q.resolutions) i;
+      options = (p.options_counted ∙ sym q.options_counted) i;
+      bulk = (p.bulk_counted ∙ sym q.bulk_counted) i;
+      live = (live.live ∙ many ∙ sym live'.live) i;
+    }
 
 -- a workflow that is checked and found consistent
 pub checks_once : (w : Definition) → IsSingle (IsFoundConsistent w)

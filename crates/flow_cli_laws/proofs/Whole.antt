@@ -21,8 +21,7 @@ use Rattle.flow_cli.specs.Output.{workflow_part, second_part, WritesIn, WritesAs
 use Rattle.flow_cli_laws.specs.Single.{Shows, Agree, AsksNoGate, OutputsAreSingle}
 use Rattle.flow_cli_laws.proofs.Compilations.{told_once}
 use Rattle.flow_cli_laws.proofs.TextAnswers.{of_text, one_refusal, one_value, not_both}
-use Rattle.flow_cli_laws.proofs.Modes.{check_agrees, drive_agrees, trace_agrees}
-use Rattle.flow_cli_laws.proofs.Verifying.{verify_agrees}
+use Rattle.flow_cli_laws.proofs.Modes.{check_agrees, drive_agrees, trace_agrees, verify_agrees}
 
 module _ (input : List ℕ) (status other : Status) (output text : List ℕ) where
   -- what is read is too long for both, refused for both, or says one thing for both

@@ -16,7 +16,7 @@ use Rattle.flow_core.proofs.Standings.{unanswered_current, next_of_current}
 
 module _ (i : Inside) (k : IsRunning i) (v : Run) (view : run_by i ≡ v) where
   -- what is told of the run, told of the fields
-  pub inside : (P : Run → Type 0) → P v → P (run_by i)
+  inside : (P : Run → Type 0) → P v → P (run_by i)
   inside P = subst P (sym view)
 
   pub unanswered_inside : (claim : ℕ) → IsCurrent (now v) claim → IsUnanswered i.claims claim
@@ -26,7 +26,7 @@ module _ (i : Inside) (k : IsRunning i) (v : Run) (view : run_by i ≡ v) where
   pub next_inside : (claim leaf : ℕ) → IsCurrent (now v) claim → leaf_of_claim (now v) claim ≡ leaf → MayComeNext i.residual leaf
   next_inside claim leaf current on =
       subst (MayComeNext i.residual) (inside (λ r. leaf_of_claim (now r) claim ≡ leaf) on)
-      (next_of_current i.workflow i.limit i.history.items i.residual i.claims i.world i.committed k.kept claim (inside (λ r. IsCurrent (now r) claim) current))
+      (next_of_current i k claim (inside (λ r. IsCurrent (now r) claim) current))
 
   -- with one entry more and nothing looked at
   pub entered : (i' : Inside) (by : ℕ) (step : Step) → i'.workflow ≡ i.workflow → i'.limit ≡ i.limit → i'.looked ≡ false → i'.history.items ≡ longer i.history.items by step →

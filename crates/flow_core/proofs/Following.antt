@@ -5,10 +5,9 @@ use Rattle.flow_model.specs.Schema.{Schema}
 use Rattle.flow_model.specs.Run.{RunState, current_leaves, IsFree, MayAllFollow, MayFollowFirst}
 use Rattle.flow_laws.specs.WellFormed.{IsWellFormed}
 use Rattle.flow_laws.specs.Histories.{IsSound}
-use Rattle.flow_laws.proofs.Members.{mem_append_left, each_member, each_from_members}
+use Rattle.flow_laws.proofs.Members.{mem_append_left, each_member, each_from_members, at_most}
 use Rattle.flow_laws.proofs.MadeLists.{distinct-numbers_from, numbers_from_below, same_order, begins_front}
 use Rattle.flow_laws.proofs.TraceLeaves.{leaf_of_trace, distinct_trace}
-use Rattle.flow_sample.proofs.RingLemmas.{at_most}
 use Rattle.flow_residual.specs.Remaining.{Remaining, IsOf, MayComeNext}
 use Rattle.flow_residual.proofs.PossibleLemmas.{follow_of_run, may_all_follow, may_follow_first, each_comes_next, first_comes_next}
 

@@ -1,34 +1,26 @@
 -- The history of a core is lawful, and its world is what its journal leaves.
-use Rattle.std.proofs.Common.{◌≡◌, ◌+◌, ℕ, Bool, true, false, List, [], ◌∷◌, sym, ap, ◌∙◌, append-nil}
+use Rattle.std.proofs.Common.{◌≡◌, ◌+◌, ℕ, true, false, true≢false, List, [], ◌∷◌, sym, ap, ◌∙◌}
 use Rattle.flow_model.specs.declared.history.Entry.{Entry}
 use Rattle.flow_model.specs.declared.history.Step.{Step}
-use Rattle.flow_model.specs.declared.history.Step.TheVariants.{Took, Done, Failed, Late, Did, Rewound, Committed}
-use Rattle.flow_model.specs.declared.history.FailEffect.TheVariants.{Switched, Kept}
+use Rattle.flow_model.specs.declared.history.Step.TheVariants.{Failed, Committed}
+use Rattle.flow_model.specs.declared.history.FailEffect.TheVariants.{Kept}
 use Rattle.flow_model.specs.Facts.{state_with}
 use Rattle.flow_model.specs.Schema.{Schema, IsGood}
 use Rattle.flow_model.specs.Run.{RunState, first_state, next_state, state_after, database, IsAllowed, IsLegalFrom}
 use Rattle.flow_laws.proofs.NeverAtALoss.{sound_state}
 use Rattle.flow_workflow.specs.Definition.{Definition, schema_of}
-use Rattle.flow_residual.specs.Remaining.{Remaining}
-use Rattle.flow_residual.specs.Claimed.{Claimed}
-use Rattle.flow_world.specs.Course.{Course, after_all, state_of_world}
-use Rattle.flow_world.proofs.JournalLabels.{replay-labels_at}
-use Rattle.flow_core.specs.Invariant.{IsCourseOf, IsKept}
+use Rattle.flow_facts.specs.Course.{Course, after_all, state_of_world}
+use Rattle.flow_facts.proofs.JournalLabels.{replay-labels_at}
+use Rattle.flow_core.specs.declared.engine.Core.TheInside.{Inside}
+use Rattle.flow_core.specs.Invariant.{IsCourseOf, IsRunning}
+use Rattle.flow_core.proofs.Steps.{sound_now}
 use Rattle.flow_core.specs.Lawful.{IsLawful}
-
-false_is_not : false ≡ true → ⊥
-false_is_not e = cc
 
 -- only a commit ends a run, and it finds the journal good
 good_step : (w : Schema) (s : RunState) (step : Step) → s.committed ≡ false → IsAllowed w s step → (next_state w s step).committed ≡ true → IsGood w (next_state w s step).journal
-good_step w s (Took claim leaf) going a c = absurd (false_is_not (sym going ∙ c))
-good_step w s (Done claim) going a c = absurd (false_is_not (sym going ∙ c))
-good_step w s (Failed claim Switched) going a c = absurd (false_is_not (sym going ∙ c))
-good_step w s (Failed claim Kept) going a c = absurd (false_is_not (sym going ∙ c))
-good_step w s (Late claim) going a c = absurd (false_is_not (sym going ∙ c))
-good_step w s (Did leaf) going a c = absurd (false_is_not (sym going ∙ c))
-good_step w s (Rewound index) going a c = absurd (false_is_not (sym going ∙ c))
 good_step w s Committed going a c = a.1
+good_step w s (Failed claim Kept) going a c = absurd (true≢false (sym c ∙ going))
+good_step w s other going a c = absurd (true≢false (sym c ∙ going))
 
 -- a legal history that is committed ends with a good journal
 good_end : (w : Schema) (limit : ℕ) (s : RunState) (made : ℕ) (history : List Entry) → IsLegalFrom w limit s made history →
@@ -37,16 +29,14 @@ good_end w limit s made [] legal so_far c = so_far c
 good_end w limit s made (entry ∷ entries) legal so_far c =
     good_end w limit (next_state w s entry.step) (made + 1) entries legal.3 (good_step w s entry.step legal.0 legal.2) c
 
-pub lawful : (w : Definition) (limit : ℕ) (history : List Entry) (r : Remaining) (c : Claimed) (v : Course) (committed : Bool) →
-    IsKept w limit history r c v committed → IsLawful (schema_of w) limit history
-lawful w limit history r c v committed k =
-    let sound = sound_state (schema_of w) k.remains.well_formed k.consistent limit history k.legal in
-    record {
+pub lawful : (i : Inside) → IsRunning i → IsLawful (schema_of i.workflow) i.limit i.history.items
+lawful i kept =
+    let k = kept.kept in record {
       legal = k.legal;
-      sound = sound;
+      sound = sound_state (schema_of i.workflow) k.remains.well_formed k.consistent i.limit i.history.items k.legal;
       executed = λ over. (
-        good_end (schema_of w) limit first_state 0 history k.legal (λ none. absurd (false_is_not none)) over,
-        (sound history ([], sym (append-nil history))).runs,
+        good_end (schema_of i.workflow) i.limit first_state 0 i.history.items k.legal (λ none. absurd (true≢false (sym none))) over,
+        (sound_now i kept).runs,
       );
     }
 

@@ -9,7 +9,7 @@ use Rattle.flow_model.specs.Schema.{Schema, IsEventLeaf, IsOtherLeaf, IsGood}
 use Rattle.flow_model.specs.Facts.{HoldsAt}
 use Rattle.flow_model.specs.Run.{Claim, RunState, claim_at, current_claims, database, is_current, IsCurrent, IsOpen, IsOpenIndex, CanTake, CanDoAside}
 use Rattle.flow_model.specs.Verdict.{call_of}
-use Rattle.flow_laws.proofs.ClaimLemmas.{some_claim, claim_in, and_parts}
+use Rattle.flow_laws.proofs.ClaimLemmas.{some_claim, and_parts}
 use Rattle.flow_core.specs.declared.refusal.TakeRefusal.{TakeRefusal}
 use Rattle.flow_core.specs.declared.refusal.TakeRefusal.TheVariants as take
 use Rattle.flow_core.specs.declared.refusal.DoRefusal.{DoRefusal}
@@ -24,7 +24,7 @@ use Rattle.flow_core.specs.Run.{Run, schema, now, with_entry, IsUncommitted, Has
 use Rattle.flow_core.specs.Answers.{IsOver, next_claim, Takes, Performs, IsAnswered, IsUnanswered, IsLateOf, PostIsRefused, HasEffect, PostsDone, PostsFailed, Rewinds, Commits, IsLeastCurrent}
 use Rattle.flow_core.proofs.Calls.{event_below}
 use Rattle.flow_core.proofs.Standings.{unanswered_current}
-use Rattle.flow_core.proofs.Waiting.{left_in}
+use Rattle.flow_core.proofs.Waiting.{none_current}
 
 -- ---- what cannot be both
 
@@ -37,7 +37,7 @@ none_other w n past other = omega (arith, other.0)
 none_event : (w : Schema) (n : ℕ) → length w.labels ≤ n → IsEventLeaf w n → ⊥
 none_event w n past event = omega (arith, event_below w.labels n event)
 
-other_event : (w : Schema) (n : ℕ) → IsOtherLeaf w n → IsEventLeaf w n → ⊥
+pub other_event : (w : Schema) (n : ℕ) → IsOtherLeaf w n → IsEventLeaf w n → ⊥
 other_event w n other event = true≢false (sym event ∙ ap is_some other.1)
 
 none_with : (s : RunState) (n : ℕ) (P : Claim → Type 0) → claim_at s n ≡ None → IsSomeAnd (claim_at s n) P → ⊥
@@ -49,7 +49,7 @@ both_of s n P Q p q =
     let (claim, found, has) = some_claim P (claim_at s n) p in
     (claim, has, subst (λ o. IsSomeAnd o Q) found q)
 
-not_both : (s : RunState) (n : ℕ) → IsAnswered s n → IsUnanswered s n → ⊥
+pub not_both : (s : RunState) (n : ℕ) → IsAnswered s n → IsUnanswered s n → ⊥
 not_both s n a u =
     let (claim, x, y) = both_of s n (λ (c : Claim). IsTrue c.answered) (λ (c : Claim). c.answered ≡ false) a u in true≢false (sym x ∙ y)
 
@@ -72,9 +72,7 @@ late_once s n of other a b =
     sym x.1 ∙ y.1
 
 pub none_out : (s : RunState) (n : ℕ) → current_claims s ≡ [] → IsLeastCurrent s n → ⊥
-none_out s n none least =
-    let (claim, found, told) = some_claim (λ c. IsTrue (is_current s c)) (claim_at s n) least.0 in
-    left_in (is_current s) s.claims claim (claim_in s.claims n claim found) told none
+none_out s n none least = none_current s n none least.0
 
 -- ---- the first of some causes
 

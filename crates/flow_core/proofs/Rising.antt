@@ -3,7 +3,7 @@ use Rattle.std.proofs.Common.{◌≡◌, ◌≢◌, ℕ, ◌+◌, ◌<◌, List,
 use Rattle.flow_model.specs.Lists.{◌∈◌}
 use Rattle.flow_model.specs.Decided.{decide_eq}
 use Rattle.flow_model.specs.Verdict.{AreJust}
-use Rattle.flow_laws.proofs.Members.{mem_append_left, mem_append_right, mem-append}
+use Rattle.flow_laws.proofs.Members.{mem_append_left, mem_append_right, mem-append, not_empty}
 
 -- it is below the bound, and has P
 abbrev pub Below : (ℕ → Type 0) → ℕ → ℕ → Type 0
@@ -13,13 +13,9 @@ Below P bound n = (n < bound) × P n
 abbrev pub Rises : List ℕ → Type 0
 Rises list = (front back : List ℕ) (x y : ℕ) → list ≡ front ++ x ∷ y ∷ back → x < y
 
-no_two : (front back : List ℕ) (x y : ℕ) → ¬ ([] ≡ front ++ x ∷ y ∷ back)
-no_two [] back x y e = cc
-no_two (a ∷ front) back x y e = cc
-
 not_one : (i : ℕ) (front back : List ℕ) (x y : ℕ) → ¬ (i ∷ [] ≡ front ++ x ∷ y ∷ back)
 not_one i [] back x y e = cc
-not_one i (a ∷ front) back x y e = let rest : [] ≡ front ++ x ∷ y ∷ back = cc in no_two front back x y rest
+not_one i (a ∷ front) back x y e = let rest : [] ≡ front ++ x ∷ y ∷ back = cc in not_empty front x (y ∷ back) rest
 
 -- a greater number at the end
 rises_more : (list : List ℕ) (i : ℕ) → Rises list → ((n : ℕ) → n ∈ list → n < i) → Rises (list ++ i ∷ [])
@@ -38,7 +34,7 @@ rises_more (m ∷ ms) i rises less (a ∷ front) back x y e =
 
 pub none_yet : (P : ℕ → Type 0) → AreJust (Below P 0) []
 none_yet P = record {
-  rising = λ front back x y e. absurd (no_two front back x y e);
+  rising = λ front back x y e. absurd (not_empty front x (y ∷ back) e);
   exact = λ n. (λ member. absurd member, λ below. let low : n < 0 = below.0 in absurd (omega arith));
 }
 

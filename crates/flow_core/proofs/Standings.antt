@@ -2,31 +2,31 @@
 use Rattle.std.proofs.Common.{◌≡◌, ◌≤◌, ◌<◌, ◌+◌, ◌-◌, ℕ, zero, suc, Bool, true, false, not, ◌&&◌, cond, nat_eq, nat_lt, List, [], ◌∷◌, ◌++◌, map, length, Option, Some, None, slice_get, MatchOption, IsTrue, IsSomeAnd, refl, sym, ap, ◌∙◌, subst, inl, inr, arith, true≢false}
 use Rattle.std.specs.List.{filter, find}
 use Rattle.std.proofs.lemmas.Bool.{eq-eqb, ne_eqb, eqb-true}
-use Rattle.flow_model.specs.declared.history.Entry.{Entry}
 use Rattle.flow_model.specs.declared.labels.Label.{Label}
-use Rattle.flow_model.specs.declared.labels.Label.TheVariants.{Event, Test, Absent, Ins, Del}
+use Rattle.flow_model.specs.declared.labels.Label.TheVariants.{Event}
 use Rattle.flow_model.specs.Lists.{◌∈◌, numbers_from}
 use Rattle.flow_model.specs.Facts.{event_at}
 use Rattle.flow_model.specs.Schema.{Schema}
-use Rattle.flow_model.specs.Run.{Claim, RunState, state_of, claim_at, current_claims, current_leaves, leaf_of_claim, is_current, IsCurrent, IsLapsed, IsFree, CanTake, CanDoAside}
+use Rattle.flow_model.specs.Run.{Claim, RunState, state_of, claim_at, current_claims, current_leaves, leaf_of_claim, is_current, IsCurrent, IsLapsed, IsFree, CanDoAside}
 use Rattle.flow_laws.specs.Histories.{IsSound}
 use Rattle.flow_laws.proofs.Members.{mem_here, decide_in, cons_same, each_member}
 use Rattle.flow_laws.proofs.MadeLists.{some_same}
 use Rattle.flow_laws.proofs.ClaimLemmas.{number_of, some_claim, claim_in, and_parts}
 use Rattle.flow_laws.proofs.SoundStates.{taken_of_current}
-use Rattle.flow_workflow.specs.Definition.{Definition, schema_of}
+use Rattle.flow_workflow.specs.Definition.{schema_of}
 use Rattle.flow_workflow.specs.Numbers.{IsKnown}
-use Rattle.flow_residual.specs.Remaining.{Remaining, MayComeNext, IsAvoidable}
+use Rattle.flow_residual.specs.Remaining.{MayComeNext, IsAvoidable}
 use Rattle.flow_residual.specs.declared.given.Given.{Given}
 use Rattle.flow_residual.specs.Given.{claim_of}
-use Rattle.flow_residual.specs.Claimed.{Claimed, run_of, IsGivenAt}
+use Rattle.flow_residual.specs.Claimed.{run_of, IsGivenAt}
 use Rattle.flow_residual.proofs.Outstanding.{each_at}
-use Rattle.flow_world.specs.Changes.{HasFactBelow}
-use Rattle.flow_world.specs.Course.{Course}
-use Rattle.flow_world.proofs.JournalLabels.{length-labels_at}
+use Rattle.flow_facts.specs.Changes.{HasFactBelow}
+use Rattle.flow_facts.proofs.JournalLabels.{length-labels_at}
 use Rattle.flow_core.specs.Answers.{IsUnanswered, IsLeastCurrent}
 use Rattle.flow_core.specs.Standing.{IsGiven}
-use Rattle.flow_core.specs.Invariant.{IsKept}
+use Rattle.flow_core.specs.declared.engine.Core.TheInside.{Inside}
+use Rattle.flow_core.specs.Looks.{CanStep}
+use Rattle.flow_core.specs.Invariant.{run_by, IsRunning}
 use Rattle.flow_core.proofs.Following.{next_of_all, next_of_first, journal_within, next_room}
 use Rattle.flow_core.proofs.Steps.{events_at, sound_now}
 use Rattle.flow_core.proofs.Calls.{attempts_are}
@@ -49,6 +49,12 @@ find_place first (x ∷ xs) n claim numbered found =
     step true e f rest here = let same : x.number ≡ n = eqb-true x.number n e in (0, omega arith, f)
     step false e f rest here = let (i, is, got) = rest f in (suc i, omega arith, got)
 
+-- and its number is none below the first
+no_less : (first : ℕ) (claims : List Claim) (n : ℕ) (P : Claim → Type 0) → map number_of claims ≡ numbers_from first (length claims) → IsSomeAnd (find (at n) claims) P → first ≤ n
+no_less first claims n P numbered has =
+    let (claim, found, told) = some_claim P (find (at n) claims) has in
+    let (i, is, got) = find_place first claims n claim numbered found in omega arith
+
 -- the first of the claims with p is the least
 least_of : (first : ℕ) (p : Claim → Bool) (claims : List Claim) (n : ℕ) → map number_of claims ≡ numbers_from first (length claims) →
     slice_get (map number_of (filter p claims)) 0 ≡ Some n →
@@ -58,19 +64,6 @@ least_of first p (x ∷ xs) n numbered h =
     let both = cons_same x.number first (map number_of xs) (numbers_from (first + 1) (length xs)) numbered in
     step (p x) refl h both.0 both.1 (λ got. least_of (first + 1) p xs n both.1 got)
   where
-    Has : ℕ → List Claim → Type 0
-    Has m cs = IsSomeAnd (find (at m) cs) (λ claim. IsTrue (p claim))
-
-    past : (m : ℕ) → map number_of xs ≡ numbers_from (first + 1) (length xs) → IsSomeAnd (find (at m) xs) (λ claim. IsTrue (p claim)) → first + 1 ≤ m
-    past m rest has =
-        let (claim, found, told) = some_claim (λ claim. IsTrue (p claim)) (find (at m) xs) has in
-        let (i, is, got) = find_place (first + 1) xs m claim rest found in omega arith
-
-    other_is : (m : ℕ) → map number_of (x ∷ xs) ≡ numbers_from first (length (x ∷ xs)) → IsSomeAnd (find (at m) (x ∷ xs)) (λ claim. IsTrue (p claim)) → first ≤ m
-    other_is m all has =
-        let (claim, found, told) = some_claim (λ claim. IsTrue (p claim)) (find (at m) (x ∷ xs)) has in
-        let (i, is, got) = find_place first (x ∷ xs) m claim all found in omega arith
-
     skipped : (m : ℕ) (b : Bool) → p x ≡ false → IsSomeAnd (cond b (Some x) (find (at m) xs)) (λ claim. IsTrue (p claim)) → IsSomeAnd (find (at m) xs) (λ claim. IsTrue (p claim))
     skipped m true lacks has = absurd (true≢false (sym has ∙ lacks))
     skipped m false lacks has = has
@@ -82,11 +75,11 @@ least_of first p (x ∷ xs) n numbered h =
     step true e got here rest more =
         let same : x.number ≡ n = some_same x.number n got in (
           subst (λ b. IsSomeAnd (cond b (Some x) (find (at n) xs)) (λ claim. IsTrue (p claim))) (sym (eq-eqb x.number n same)) e,
-          λ other has. let l : first ≤ other = other_is other numbered has in omega arith,
+          λ other has. let l = no_less first (x ∷ xs) other (λ claim. IsTrue (p claim)) numbered has in omega arith,
         )
     step false e got here rest more =
         let m = more got in
-        let l : first + 1 ≤ n = past n rest m.0 in
+        let l = no_less (first + 1) xs n (λ claim. IsTrue (p claim)) rest m.0 in
         let differs : nat_eq x.number n ≡ false = ne_eqb x.number n (omega arith) in (
           subst (λ b. IsSomeAnd (cond b (Some x) (find (at n) xs)) (λ claim. IsTrue (p claim))) (sym differs) m.0,
           λ other has. m.1 other (skipped other (nat_eq x.number other) e has),
@@ -124,10 +117,7 @@ needed w s leaf none t free = elim (decide_in leaf t) [ inl there ↦ there | in
 
 pub has_fact : (events facts count : ℕ) (label : Label) → count ≡ facts → IsKnown events facts label → HasFactBelow count label
 has_fact events facts count (Event e) same h = tt
-has_fact events facts count (Test f) same h = omega arith
-has_fact events facts count (Absent f) same h = omega arith
-has_fact events facts count (Ins f) same h = omega arith
-has_fact events facts count (Del f) same h = omega arith
+has_fact events facts count other same h = omega arith
 
 events_there : (labels : List Label) (claims : List Claim) (events : List ℕ) (i : ℕ) (claim : Claim) (event : ℕ) → events_at labels claims ≡ map Some events →
     slice_get claims i ≡ Some claim → slice_get events i ≡ Some event → event_at labels claim.leaf ≡ Some event
@@ -139,60 +129,66 @@ events_there labels (x ∷ xs) (y ∷ ys) zero claim event same at e =
 events_there labels (x ∷ xs) (y ∷ ys) (suc i) claim event same at e =
     events_there labels xs ys i claim event (cons_same (event_at labels x.leaf) (Some y) (events_at labels xs) (map Some ys) same).1 at e
 
-module _ (w : Definition) (limit : ℕ) (history : List Entry) (r : Remaining) (c : Claimed) (v : Course) (committed : Bool)
-    (k : IsKept w limit history r c v committed) where
-  abbrev s : RunState
-  s = state_of (schema_of w) history
+module _ (i : Inside) (kept : IsRunning i) where
+  abbrev w : Schema
+  w = schema_of i.workflow
 
-  pub given_is : (n : ℕ) (o : Option Given) → MatchOption o (claim_at (run_of c) n ≡ None) (IsGivenAt c n) →
-      MatchOption o (claim_at s n ≡ None) (IsGiven (record { definition = w; limit = limit; history = history }) n)
-  given_is n None h = sym (claim_is w s c k.claims n) ∙ h
+  abbrev s : RunState
+  s = state_of w i.history.items
+
+  pub given_is : (n : ℕ) (o : Option Given) → MatchOption o (claim_at (run_of i.claims) n ≡ None) (IsGivenAt i.claims n) →
+      MatchOption o (claim_at s n ≡ None) (IsGiven (run_by i) n)
+  given_is n None h = sym (claim_is i.workflow s i.claims kept.kept.claims n) ∙ h
   given_is n (Some g) h =
-      let sound = sound_now w limit history r c v committed k in
-      let found : claim_at s n ≡ Some (claim_of n g) = sym (claim_is w s c k.claims n) ∙ h.claim in
-      let (i, is, there) = find_place 1 s.claims n (claim_of n g) sound.numbered found in
-      let event : slice_get c.events i ≡ Some g.event = subst (λ m. slice_get c.events m ≡ Some g.event) (let e : n - 1 ≡ i = omega arith in e) h.event in
+      let k = kept.kept in
+      let sound = sound_now i kept in
+      let found : claim_at s n ≡ Some (claim_of n g) = sym (claim_is i.workflow s i.claims k.claims n) ∙ h.claim in
+      let (j, is, there) = find_place 1 s.claims n (claim_of n g) sound.numbered found in
+      let event : slice_get i.claims.events j ≡ Some g.event = subst (λ m. slice_get i.claims.events m ≡ Some g.event) (let e : n - 1 ≡ j = omega arith in e) h.event in
       record {
         claim = found;
         epoch = each_member (λ (claim : Claim). claim.epoch ≤ s.epoch) s.claims sound.epochs (claim_of n g) (claim_in s.claims n (claim_of n g) found);
-        event = events_there w.tree.labels s.claims c.events i (claim_of n g) g.event (ap (events_at w.tree.labels) k.claims.claims_are ∙ k.claims.events_are) there event;
-        attempt = h.attempt ∙ sym (attempts_are w s c k.claims sound g.event n);
+        event = events_there w.labels s.claims i.claims.events j (claim_of n g) g.event (ap (events_at w.labels) k.claims.claims_are ∙ k.claims.events_are) there event;
+        attempt = h.attempt ∙ sym (attempts_are i.workflow s i.claims k.claims sound g.event n);
       }
 
   -- the leaf of a current claim may come next
-  pub next_of_current : (n : ℕ) → IsCurrent s n → MayComeNext r (leaf_of_claim s n)
+  pub next_of_current : (n : ℕ) → IsCurrent s n → MayComeNext i.residual (leaf_of_claim s n)
   next_of_current n current =
-      let sound = sound_now w limit history r c v committed k in
-      let taken = taken_of_current (schema_of w) s sound n current in
-      next_of_all (schema_of w) s r k.remains (current_leaves s) (leaf_of_claim s n) sound.extends
+      let sound = sound_now i kept in
+      let taken = taken_of_current w s sound n current in
+      next_of_all w s i.residual kept.kept.remains (current_leaves s) (leaf_of_claim s n) sound.extends
       (subst (λ l. leaf_of_claim s n ∈ l) (sym taken.whole) (mem_here (leaf_of_claim s n) taken.front taken.back))
 
   -- what was performed is as long as the journal
-  pub course_length : length v.labels ≡ length s.journal
+  pub course_length : length i.world.labels ≡ length s.journal
   course_length =
-      ap length k.course.labels_are
-      ∙ length-labels_at w.tree.labels s.journal (journal_within (schema_of w) k.remains.well_formed s (sound_now w limit history r c v committed k))
+      ap length kept.kept.course.labels_are ∙ length-labels_at w.labels s.journal (journal_within w kept.kept.remains.well_formed s (sound_now i kept))
 
   -- there is room for the label of a leaf that may come next
-  pub course_room : (n : ℕ) → MayComeNext r n → length v.labels < v.room
+  pub course_room : (n : ℕ) → MayComeNext i.residual n → length i.world.labels < i.world.room
   course_room n next =
-      let a : length s.journal < length w.tree.labels = next_room (schema_of w) s r k.remains n next in
-      let b : length v.labels ≡ length s.journal = course_length in
-      let d : v.room ≡ length w.tree.labels = k.course.room in
+      let a : length s.journal < length w.labels = next_room w s i.residual kept.kept.remains n next in
+      let b : length i.world.labels ≡ length s.journal = course_length in
+      let d : i.world.room ≡ length w.labels = kept.kept.course.room in
       omega arith
 
-  pub known_fact : (leaf : ℕ) (label : Label) → slice_get w.tree.labels leaf ≡ Some label → HasFactBelow v.count label
+  pub known_fact : (leaf : ℕ) (label : Label) → slice_get w.labels leaf ≡ Some label → HasFactBelow i.world.count label
   known_fact leaf label at =
-      has_fact (length w.events) (length w.facts) v.count label k.course.count
-      (each_at (IsKnown (length w.events) (length w.facts)) w.tree.labels leaf label k.known at)
+      has_fact (length i.workflow.events) (length i.workflow.facts) i.world.count label kept.kept.course.count
+      (each_at (IsKnown (length i.workflow.events) (length i.workflow.facts)) w.labels leaf label kept.kept.known at)
 
-  -- a leaf of the journal is not taken or done again
-  pub done_cannot : (leaf : ℕ) → leaf ∈ s.journal → ¬ (MayComeNext r leaf)
-  done_cannot leaf done (o, live, ready) = ready.not_done (subst (λ j. leaf ∈ j) k.remains.journal_is done)
+  pub left_comes_next : (leaf : ℕ) → CanDoAside w s leaf → MayComeNext i.residual leaf
+  left_comes_next leaf aside = next_of_first w s i.residual kept.kept.remains (current_leaves s) leaf aside.1
 
-  pub taken_comes_next : (leaf : ℕ) → CanTake (schema_of w) s leaf → MayComeNext r leaf
-  taken_comes_next leaf can =
-      next_of_all (schema_of w) s r k.remains (current_leaves s ++ leaf ∷ []) leaf can.2 (mem_here leaf (current_leaves s) [])
+  -- a leaf of the journal is not done again, and not taken
+  done_cannot : (leaf : ℕ) → leaf ∈ s.journal → ¬ (MayComeNext i.residual leaf)
+  done_cannot leaf done (o, live, ready) = ready.not_done (subst (λ j. leaf ∈ j) kept.kept.remains.journal_is done)
 
-  pub left_comes_next : (leaf : ℕ) → CanDoAside (schema_of w) s leaf → MayComeNext r leaf
-  left_comes_next leaf aside = next_of_first (schema_of w) s r k.remains (current_leaves s) leaf aside.1
+  pub not_left : (leaf : ℕ) → leaf ∈ s.journal → ¬ (CanDoAside w s leaf)
+  not_left leaf done aside = done_cannot leaf done (left_comes_next leaf aside)
+
+  pub cannot_step : (leaf : ℕ) → leaf ∈ s.journal → ¬ (CanStep (run_by i) leaf)
+  cannot_step leaf done (inl can) =
+      done_cannot leaf done (next_of_all w s i.residual kept.kept.remains (current_leaves s ++ leaf ∷ []) leaf can.2 (mem_here leaf (current_leaves s) []))
+  cannot_step leaf done (inr can) = not_left leaf done can.0

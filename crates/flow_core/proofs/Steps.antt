@@ -4,26 +4,27 @@ use Rattle.std.specs.List.{filter}
 use Rattle.std.proofs.lemmas.List.{map-append, length-map}
 use Rattle.flow_model.specs.declared.history.Entry.{Entry}
 use Rattle.flow_model.specs.declared.history.Step.{Step}
-use Rattle.flow_model.specs.declared.history.Step.TheVariants.{Took, Done, Failed, Late, Did, Rewound, Committed}
-use Rattle.flow_model.specs.declared.history.FailEffect.TheVariants.{Switched, Kept}
+use Rattle.flow_model.specs.declared.history.Step.TheVariants.{Took, Done, Failed, Did, Rewound, Committed}
+use Rattle.flow_model.specs.declared.history.FailEffect.TheVariants.{Switched}
 use Rattle.flow_model.specs.declared.labels.Label.{Label}
-use Rattle.flow_model.specs.declared.labels.Label.TheVariants.{Event, Test, Absent, Ins, Del}
+use Rattle.flow_model.specs.declared.labels.Label.TheVariants.{Event}
 use Rattle.flow_model.specs.Facts.{event_at, event_in}
 use Rattle.flow_model.specs.Schema.{Schema, IsGood}
 use Rattle.flow_model.specs.Resolution.{options}
 use Rattle.flow_model.specs.Decided.{can_all_follow}
-use Rattle.flow_model.specs.Run.{Claim, RunState, first_state, next_state, state_after, state_of, current_claims, leaf_of_claim, is_current, IsCurrent, IsLapsed, IsOpenIndex, IsAllowed, IsLegalFrom, CanTake, CanDo, answer, spare, with_new_epoch}
+use Rattle.flow_model.specs.Run.{Claim, RunState, first_state, next_state, state_after, state_of, current_claims, leaf_of_claim, is_current, IsCurrent, IsOpenIndex, IsAllowed, IsLegalFrom, CanTake, CanDo, answer, spare, with_new_epoch}
 use Rattle.flow_laws.proofs.NeverAtALoss.{sound_state}
 use Rattle.flow_laws.specs.Histories.{IsSound}
-use Rattle.flow_workflow.specs.Definition.{Definition, schema_of}
+use Rattle.flow_workflow.specs.Definition.{schema_of}
 use Rattle.flow_sample.specs.Excised.{HasExecution}
 use Rattle.flow_excise.specs.Executions.{AreJustThose}
 use Rattle.flow_residual.specs.Remaining.{Remaining, IsOf}
 use Rattle.flow_residual.specs.Claimed.{Claimed}
-use Rattle.flow_world.specs.Course.{Course}
-use Rattle.flow_world.specs.Journals.{labels_at}
-use Rattle.flow_world.proofs.JournalLabels.{labels_at-push, labels_at-take}
-use Rattle.flow_core.specs.Invariant.{AreClaimsOf, IsCourseOf, IsKept}
+use Rattle.flow_facts.specs.Course.{Course}
+use Rattle.flow_facts.specs.Journals.{labels_at}
+use Rattle.flow_facts.proofs.JournalLabels.{labels_at-push, labels_at-take}
+use Rattle.flow_core.specs.declared.engine.Core.TheInside.{Inside}
+use Rattle.flow_core.specs.Invariant.{AreClaimsOf, IsCourseOf, IsKept, IsRunning}
 use Rattle.flow_core.proofs.Following.{journal_within}
 
 -- the state after one entry more
@@ -43,16 +44,6 @@ legal-append w limit s made (e ∷ history) entry (a, b, c, rest) going room all
 -- one entry more of the history
 abbrev pub longer : List Entry → ℕ → Step → List Entry
 longer history by step = history ++ record { by = by; step = step } ∷ []
-
--- ---- what remains
-
-remains : (w : Schema) (s s' : RunState) (r r' : Remaining) → IsOf w s r → r'.options ≡ r.options → s'.journal ≡ r'.journal → s'.bans ≡ r'.bans → IsOf w s' r'
-remains w s s' r r' f o j b = record {
-  well_formed = f.well_formed;
-  options_are = subst (AreJustThose HasExecution (options w)) (sym o) f.options_are;
-  journal_is = j;
-  bans_are = b;
-}
 
 -- ---- claims
 
@@ -90,247 +81,217 @@ event_of None = None
 event_of (Some label) = event_in label
 
 event_label : (o : Option Label) (event : ℕ) → event_of o ≡ Some event → o ≡ Some (Event event)
-event_label None event e = cc
 event_label (Some (Event x)) event e = let same : x ≡ event = cc in ap (λ n. Some (Event n)) same
-event_label (Some (Test f)) event e = cc
-event_label (Some (Absent f)) event e = cc
-event_label (Some (Ins f)) event e = cc
-event_label (Some (Del f)) event e = cc
+event_label other event e = cc
 
 pub label_of_event : (labels : List Label) (leaf event : ℕ) → event_at labels leaf ≡ Some event → slice_get labels leaf ≡ Some (Event event)
 label_of_event labels leaf event e = event_label (slice_get labels leaf) event e
 
 -- ---- the entries
 
-module _ (w : Definition) (limit : ℕ) (history : List Entry) (r : Remaining) (c : Claimed) (v : Course) (committed : Bool)
-    (k : IsKept w limit history r c v committed) where
+module _ (i : Inside) (kept : IsRunning i) where
+  abbrev w : Schema
+  w = schema_of i.workflow
+
   abbrev s : RunState
-  s = state_of (schema_of w) history
+  s = state_of w i.history.items
 
   -- the state is sound
-  pub sound_now : IsSound (schema_of w) s
-  sound_now = sound_state (schema_of w) k.remains.well_formed k.consistent limit history k.legal history ([], sym (append-nil history))
+  pub sound_now : IsSound w s
+  sound_now = sound_state w kept.kept.remains.well_formed kept.kept.consistent i.limit i.history.items kept.kept.legal i.history.items ([], sym (append-nil i.history.items))
 
-  module _ (going : s.committed ≡ false) (room : length history < limit) (by : ℕ) where
+  module _ (going : s.committed ≡ false) (room : length i.history.items < i.limit) (by : ℕ) where
+    -- what the fields keep after the step
+    abbrev Keeps : Step → Remaining → Claimed → Course → Bool → Type 0
+    Keeps step = IsKept i.workflow i.limit (longer i.history.items by step)
+
     -- what an entry owes
-    kept_longer : (step : Step) (r' : Remaining) (c' : Claimed) (v' : Course) (committed' : Bool) → IsAllowed (schema_of w) s step →
-        IsOf (schema_of w) (next_state (schema_of w) s step) r' → AreClaimsOf w (next_state (schema_of w) s step) c' →
-        IsCourseOf w (next_state (schema_of w) s step) v' → (next_state (schema_of w) s step).committed ≡ committed' →
-        c'.room ≡ c.room → length c'.claims ≤ length c.claims + 1 → c'.epoch ≤ c.epoch + 1 → IsKept w limit (longer history by step) r' c' v' committed'
-    kept_longer step r' c' v' committed' allowed remains claims course closed same_room more_claims more_epochs =
-        let same : state_of (schema_of w) (longer history by step) ≡ next_state (schema_of w) s step =
-        state_after-append (schema_of w) first_state history (record { by = by; step = step }) in
-        let count : length (longer history by step) ≡ length history + 1 = length-append history (record { by = by; step = step } ∷ []) in
+    kept_longer : (step : Step) (r : Remaining) (c : Claimed) (v : Course) (committed : Bool) → IsAllowed w s step →
+        IsOf w (next_state w s step) r → AreClaimsOf i.workflow (next_state w s step) c → IsCourseOf i.workflow (next_state w s step) v →
+        (next_state w s step).committed ≡ committed → c.room ≡ i.claims.room → length c.claims ≤ length i.claims.claims + 1 → c.epoch ≤ i.claims.epoch + 1 →
+        Keeps step r c v committed
+    kept_longer step r c v committed allowed remains claims course closed same_room more_claims more_epochs =
+        let k = kept.kept in
+        let entry : Entry = record { by = by; step = step } in
+        let same : state_of w (longer i.history.items by step) ≡ next_state w s step = state_after-append w first_state i.history.items entry in
+        let count : length (longer i.history.items by step) ≡ length i.history.items + 1 = length-append i.history.items (entry ∷ []) in
+        let enough : i.limit ≤ i.claims.room = k.claims_room in
+        let few : length i.claims.claims ≤ length i.history.items = k.few_claims in
+        let epochs : i.claims.epoch ≤ length i.history.items = k.few_epochs in
         record {
-          legal = legal-append (schema_of w) limit first_state 0 history (record { by = by; step = step }) k.legal going (let h : 0 + length history < limit = omega arith in h) allowed;
+          legal = legal-append w i.limit first_state 0 i.history.items entry k.legal going (let h : 0 + length i.history.items < i.limit = omega arith in h) allowed;
           consistent = k.consistent;
           known = k.known;
           noted = k.noted;
-          remains = subst (λ (s : RunState). IsOf (schema_of w) s r') (sym same) remains;
-          claims = subst (λ (s : RunState). AreClaimsOf w s c') (sym same) claims;
-          course = subst (λ (s : RunState). IsCourseOf w s v') (sym same) course;
+          remains = subst (λ (s : RunState). IsOf w s r) (sym same) remains;
+          claims = subst (λ (s : RunState). AreClaimsOf i.workflow s c) (sym same) claims;
+          course = subst (λ (s : RunState). IsCourseOf i.workflow s v) (sym same) course;
           committed_is = ap (λ (s : RunState). s.committed) same ∙ closed;
           within_limit = omega arith;
-          claims_room = let h : limit ≤ c.room = k.claims_room in omega arith;
-          few_claims = let h : length c.claims ≤ length history = k.few_claims in omega arith;
-          few_epochs = let h : c.epoch ≤ length history = k.few_epochs in omega arith;
+          claims_room = omega arith;
+          few_claims = omega arith;
+          few_epochs = omega arith;
         }
 
-    -- with the journal as it was
-    same_course : (s' : RunState) → s'.journal ≡ s.journal → IsCourseOf w s' v
-    same_course s' j = record {
-      held_is = k.course.held_is;
-      count = k.course.count;
-      labels_are = k.course.labels_are ∙ ap (labels_at w.tree.labels) (sym j);
-      room = k.course.room;
+    remains : (s' : RunState) (r : Remaining) → r.options ≡ i.residual.options → s'.journal ≡ r.journal → s'.bans ≡ r.bans → IsOf w s' r
+    remains s' r o j b = let f = kept.kept.remains in record {
+      well_formed = f.well_formed;
+      options_are = subst (AreJustThose HasExecution (options w)) (sym o) f.options_are;
+      journal_is = j;
+      bans_are = b;
     }
 
+    -- with the journal and the bans as they were
+    same_remains : (s' : RunState) → s'.journal ≡ s.journal → s'.bans ≡ s.bans → IsOf w s' i.residual
+    same_remains s' j b = remains s' i.residual refl (j ∙ kept.kept.remains.journal_is) (b ∙ kept.kept.remains.bans_are)
+
+    -- with the journal as it was
+    same_course : (s' : RunState) → s'.journal ≡ s.journal → IsCourseOf i.workflow s' i.world
+    same_course s' j = let c = kept.kept.course in
+        record { held_is = c.held_is; count = c.count; labels_are = c.labels_are ∙ ap (labels_at w.labels) (sym j); room = c.room }
+
     -- a leaf more of the journal
-    longer_course : (s' : RunState) (leaf : ℕ) (label : Label) → s'.journal ≡ s.journal ++ leaf ∷ [] → slice_get w.tree.labels leaf ≡ Some label →
-        IsCourseOf w s' (record v { labels = v.labels ++ label ∷ [] })
-    longer_course s' leaf label j at = record {
-      held_is = k.course.held_is;
-      count = k.course.count;
-      labels_are = ap (λ (l : List Label). l ++ label ∷ []) k.course.labels_are ∙ sym (labels_at-push w.tree.labels s.journal leaf label at) ∙ ap (labels_at w.tree.labels) (sym j);
-      room = k.course.room;
+    longer_course : (s' : RunState) (leaf : ℕ) (label : Label) → s'.journal ≡ s.journal ++ leaf ∷ [] → slice_get w.labels leaf ≡ Some label →
+        IsCourseOf i.workflow s' (record i.world { labels = i.world.labels ++ label ∷ [] })
+    longer_course s' leaf label j at = let c = kept.kept.course in record {
+      held_is = c.held_is;
+      count = c.count;
+      labels_are = ap (λ (l : List Label). l ++ label ∷ []) c.labels_are ∙ sym (labels_at-push w.labels s.journal leaf label at) ∙ ap (labels_at w.labels) (sym j);
+      room = c.room;
     }
 
     -- with the claims as they were
-    same_claims : (s' : RunState) → s'.claims ≡ s.claims → s'.epoch ≡ s.epoch → AreClaimsOf w s' c
-    same_claims s' a b = record {
-      claims_are = a ∙ k.claims.claims_are;
-      epoch_is = b ∙ k.claims.epoch_is;
-      events_are = k.claims.events_are;
-      kinds = k.claims.kinds;
-    }
+    same_claims : (s' : RunState) → s'.claims ≡ s.claims → s'.epoch ≡ s.epoch → AreClaimsOf i.workflow s' i.claims
+    same_claims s' a b = let c = kept.kept.claims in
+        record { claims_are = a ∙ c.claims_are; epoch_is = b ∙ c.epoch_is; events_are = c.events_are; kinds = c.kinds }
 
     -- with a claim answered
-    answered_claims : (s' : RunState) (claim : ℕ) → s'.claims ≡ answer claim s.claims → s'.epoch ≡ s.epoch → AreClaimsOf w s' (record c { claims = answer claim c.claims })
-    answered_claims s' claim a b = record {
-      claims_are = a ∙ ap (answer claim) k.claims.claims_are;
-      epoch_is = b ∙ k.claims.epoch_is;
-      events_are = events-answer w.tree.labels claim c.claims ∙ k.claims.events_are;
-      kinds = k.claims.kinds;
+    answered_claims : (s' : RunState) (claim : ℕ) → s'.claims ≡ answer claim s.claims → s'.epoch ≡ s.epoch →
+        AreClaimsOf i.workflow s' (record i.claims { claims = answer claim i.claims.claims })
+    answered_claims s' claim a b = let c = kept.kept.claims in record {
+      claims_are = a ∙ ap (answer claim) c.claims_are;
+      epoch_is = b ∙ c.epoch_is;
+      events_are = events-answer w.labels claim i.claims.claims ∙ c.events_are;
+      kinds = c.kinds;
     }
 
     -- as many claims, once one is answered
-    few_answered : (claim : ℕ) → length (answer claim c.claims) ≤ length c.claims + 1
-    few_answered claim = let e : length (answer claim c.claims) ≡ length c.claims = length-map c.claims _ in omega arith
-
-    same_epoch : c.epoch ≤ c.epoch + 1
-    same_epoch = omega arith
-
-    same_count : length c.claims ≤ length c.claims + 1
-    same_count = omega arith
+    few_answered : (claim : ℕ) → length (answer claim i.claims.claims) ≤ length i.claims.claims + 1
+    few_answered claim = let e : length (answer claim i.claims.claims) ≡ length i.claims.claims = length-map i.claims.claims _ in omega arith
 
     -- a claim is given
-    pub kept_took : (leaf event claim : ℕ) → claim ≡ length c.claims + 1 → event_at w.tree.labels leaf ≡ Some event → CanTake (schema_of w) s leaf →
-        IsKept w limit (longer history by (Took claim leaf)) r (record c {
-          claims = c.claims ++ record { number = length c.claims + 1; leaf = leaf; epoch = c.epoch; answered = false } ∷ [];
-          events = c.events ++ event ∷ [];
-        }) v committed
+    pub kept_took : (leaf event claim : ℕ) → claim ≡ length i.claims.claims + 1 → event_at w.labels leaf ≡ Some event → CanTake w s leaf →
+        Keeps (Took claim leaf) i.residual (record i.claims {
+          claims = i.claims.claims ++ record { number = length i.claims.claims + 1; leaf = leaf; epoch = i.claims.epoch; answered = false } ∷ [];
+          events = i.claims.events ++ event ∷ [];
+        }) i.world i.committed
     kept_took leaf event claim number at can =
-        let one : Claim = record { number = length c.claims + 1; leaf = leaf; epoch = c.epoch; answered = false } in
-        kept_longer (Took claim leaf) r _ v committed
-        (number ∙ ap (λ (cs : List Claim). length cs + 1) (sym k.claims.claims_are), can)
-        (remains (schema_of w) s (next_state (schema_of w) s (Took claim leaf)) r r k.remains refl k.remains.journal_is k.remains.bans_are)
+        let k = kept.kept in
+        let one : Claim = record { number = length i.claims.claims + 1; leaf = leaf; epoch = i.claims.epoch; answered = false } in
+        kept_longer (Took claim leaf) i.residual _ i.world i.committed (number ∙ ap (λ (cs : List Claim). length cs + 1) (sym k.claims.claims_are), can)
+        (same_remains (next_state w s (Took claim leaf)) refl refl)
         (record {
-          claims_are = ap (λ (cs : List Claim). cs ++ record { number = claim; leaf = leaf; epoch = s.epoch; answered = false } ∷ []) k.claims.claims_are
-              ∙ ap (λ n. c.claims ++ record { number = n; leaf = leaf; epoch = s.epoch; answered = false } ∷ []) number
-              ∙ ap (λ n. c.claims ++ record { number = length c.claims + 1; leaf = leaf; epoch = n; answered = false } ∷ []) k.claims.epoch_is;
+          claims_are = λ j. k.claims.claims_are j ++ record { number = number j; leaf = leaf; epoch = k.claims.epoch_is j; answered = false } ∷ [];
           epoch_is = k.claims.epoch_is;
-          events_are = map-append (λ (claim : Claim). event_at w.tree.labels claim.leaf) c.claims (one ∷ [])
-              ∙ ap (λ (es : List (Option ℕ)). es ++ event_at w.tree.labels leaf ∷ []) k.claims.events_are
-              ∙ ap (λ (e : Option ℕ). map Some c.events ++ e ∷ []) at
-              ∙ sym (map-append Some c.events (event ∷ []));
+          events_are = map-append (λ (claim : Claim). event_at w.labels claim.leaf) i.claims.claims (one ∷ [])
+              ∙ (λ j. k.claims.events_are j ++ at j ∷ []) ∙ sym (map-append Some i.claims.events (event ∷ []));
           kinds = k.claims.kinds;
         })
-        (same_course (next_state (schema_of w) s (Took claim leaf)) refl) k.committed_is refl
-        (let e : length (c.claims ++ one ∷ []) ≡ length c.claims + 1 = length-append c.claims (one ∷ []) in omega arith) same_epoch
+        (same_course (next_state w s (Took claim leaf)) refl) k.committed_is refl
+        (let e : length (i.claims.claims ++ one ∷ []) ≡ length i.claims.claims + 1 = length-append i.claims.claims (one ∷ []) in omega arith) (omega arith)
 
     -- a success is posted
-    pub kept_done : (claim leaf event : ℕ) → IsCurrent s claim → leaf_of_claim s claim ≡ leaf → event_at w.tree.labels leaf ≡ Some event →
-        IsKept w limit (longer history by (Done claim)) (record r { journal = r.journal ++ leaf ∷ [] }) (record c { claims = answer claim c.claims })
-        (record v { labels = v.labels ++ Event event ∷ [] }) committed
+    pub kept_done : (claim leaf event : ℕ) → IsCurrent s claim → leaf_of_claim s claim ≡ leaf → event_at w.labels leaf ≡ Some event →
+        Keeps (Done claim) (record i.residual { journal = i.residual.journal ++ leaf ∷ [] }) (record i.claims { claims = answer claim i.claims.claims })
+        (record i.world { labels = i.world.labels ++ Event event ∷ [] }) i.committed
     kept_done claim leaf event current on at =
+        let after : RunState = next_state w s (Done claim) in
         let j : s.journal ++ leaf_of_claim s claim ∷ [] ≡ s.journal ++ leaf ∷ [] = ap (λ n. s.journal ++ n ∷ []) on in
-        kept_longer (Done claim) (record r { journal = r.journal ++ leaf ∷ [] }) _ _ committed current
-        (remains (schema_of w) s (next_state (schema_of w) s (Done claim)) r (record r { journal = r.journal ++ leaf ∷ [] }) k.remains refl
-        (j ∙ ap (λ (j : List ℕ). j ++ leaf ∷ []) k.remains.journal_is) k.remains.bans_are)
-        (answered_claims (next_state (schema_of w) s (Done claim)) claim refl refl)
-        (longer_course (next_state (schema_of w) s (Done claim)) leaf (Event event) j (label_of_event w.tree.labels leaf event at)) k.committed_is refl
-        (few_answered claim) same_epoch
+        kept_longer (Done claim) _ _ _ i.committed current
+        (remains after (record i.residual { journal = i.residual.journal ++ leaf ∷ [] }) refl (j ∙ ap (λ (j : List ℕ). j ++ leaf ∷ []) kept.kept.remains.journal_is) kept.kept.remains.bans_are)
+        (answered_claims after claim refl refl) (longer_course after leaf (Event event) j (label_of_event w.labels leaf event at)) kept.kept.committed_is refl
+        (few_answered claim) (omega arith)
 
-    -- a result came too late
-    pub kept_late : (claim : ℕ) → IsLapsed s claim → IsKept w limit (longer history by (Late claim)) r (record c { claims = answer claim c.claims }) v committed
-    kept_late claim lapsed =
-        kept_longer (Late claim) r _ v committed lapsed
-        (remains (schema_of w) s (next_state (schema_of w) s (Late claim)) r r k.remains refl k.remains.journal_is k.remains.bans_are)
-        (answered_claims (next_state (schema_of w) s (Late claim)) claim refl refl)
-        (same_course (next_state (schema_of w) s (Late claim)) refl) k.committed_is refl (few_answered claim) same_epoch
-
-    -- a failure that every execution needs otherwise
-    pub kept_failed : (claim : ℕ) → IsAllowed (schema_of w) s (Failed claim Kept) →
-        IsKept w limit (longer history by (Failed claim Kept)) r (record c { claims = answer claim c.claims }) v committed
-    kept_failed claim allowed =
-        kept_longer (Failed claim Kept) r _ v committed allowed
-        (remains (schema_of w) s (next_state (schema_of w) s (Failed claim Kept)) r r k.remains refl k.remains.journal_is k.remains.bans_are)
-        (answered_claims (next_state (schema_of w) s (Failed claim Kept)) claim refl refl)
-        (same_course (next_state (schema_of w) s (Failed claim Kept)) refl) k.committed_is refl (few_answered claim) same_epoch
+    -- a claim is answered, and nothing else changes: a result that came too late, and a failure that every execution needs otherwise
+    pub kept_answered : (step : Step) (claim : ℕ) → IsAllowed w s step → next_state w s step ≡ record s { claims = answer claim s.claims } →
+        Keeps step i.residual (record i.claims { claims = answer claim i.claims.claims }) i.world i.committed
+    kept_answered step claim allowed is =
+        kept_longer step i.residual _ i.world i.committed allowed (same_remains _ (ap (λ (s : RunState). s.journal) is) (ap (λ (s : RunState). s.bans) is))
+        (answered_claims _ claim (ap (λ (s : RunState). s.claims) is) (ap (λ (s : RunState). s.epoch) is)) (same_course _ (ap (λ (s : RunState). s.journal) is))
+        (ap (λ (s : RunState). s.committed) is ∙ kept.kept.committed_is) refl (few_answered claim) (omega arith)
 
     -- a leaf is done that is no event's
-    pub kept_did : (leaf : ℕ) (label : Label) → slice_get w.tree.labels leaf ≡ Some label → CanDo (schema_of w) s leaf →
-        IsKept w limit (longer history by (Did leaf)) (record r { journal = r.journal ++ leaf ∷ [] }) c (record v { labels = v.labels ++ label ∷ [] }) committed
+    pub kept_did : (leaf : ℕ) (label : Label) → slice_get w.labels leaf ≡ Some label → CanDo w s leaf →
+        Keeps (Did leaf) (record i.residual { journal = i.residual.journal ++ leaf ∷ [] }) i.claims (record i.world { labels = i.world.labels ++ label ∷ [] }) i.committed
     kept_did leaf label at can =
-        kept_longer (Did leaf) (record r { journal = r.journal ++ leaf ∷ [] }) c _ committed can
-        (remains (schema_of w) s (next_state (schema_of w) s (Did leaf)) r (record r { journal = r.journal ++ leaf ∷ [] }) k.remains refl
-        (ap (λ (j : List ℕ). j ++ leaf ∷ []) k.remains.journal_is) k.remains.bans_are)
-        (same_claims (next_state (schema_of w) s (Did leaf)) refl refl)
-        (longer_course (next_state (schema_of w) s (Did leaf)) leaf label refl at) k.committed_is refl same_count same_epoch
+        let after : RunState = next_state w s (Did leaf) in
+        kept_longer (Did leaf) _ i.claims _ i.committed can
+        (remains after (record i.residual { journal = i.residual.journal ++ leaf ∷ [] }) refl (ap (λ (j : List ℕ). j ++ leaf ∷ []) kept.kept.remains.journal_is) kept.kept.remains.bans_are)
+        (same_claims after refl refl) (longer_course after leaf label refl at) kept.kept.committed_is refl (omega arith) (omega arith)
 
     -- the run is over
-    pub kept_committed : current_claims s ≡ [] → IsGood (schema_of w) s.journal → IsKept w limit (longer history by Committed) r c v true
+    pub kept_committed : current_claims s ≡ [] → IsGood w s.journal → Keeps Committed i.residual i.claims i.world true
     kept_committed none good =
-        kept_longer Committed r c v true (none, good)
-        (remains (schema_of w) s (next_state (schema_of w) s Committed) r r k.remains refl k.remains.journal_is k.remains.bans_are)
-        (same_claims (next_state (schema_of w) s Committed) refl refl)
-        (same_course (next_state (schema_of w) s Committed) refl) refl refl same_count same_epoch
+        let after : RunState = next_state w s Committed in
+        kept_longer Committed i.residual i.claims i.world true (none, good) (same_remains after refl refl) (same_claims after refl refl) (same_course after refl) refl refl (omega arith) (omega arith)
 
     -- ---- new epochs
 
     -- the claims are those that a new epoch leaves, once the residual is that of the state before it
     abbrev pub IsRaised : Remaining → List Claim → Claimed → Type 0
-    IsRaised r' claims c' = (w : Schema) (s : RunState) → s.claims ≡ claims → s.epoch ≡ c.epoch → IsOf w s r' → c'.claims ≡ (with_new_epoch w s).claims
+    IsRaised r claims c =
+        ((w : Schema) (s : RunState) → s.claims ≡ claims → s.epoch ≡ i.claims.epoch → IsOf w s r → c.claims ≡ (with_new_epoch w s).claims)
+        × (c ≡ record i.claims { claims = c.claims; epoch = i.claims.epoch + 1 })
 
-    raised_claims : (before : RunState) (r' : Remaining) (claims : List Claim) (c' : Claimed) → before.claims ≡ claims → before.epoch ≡ c.epoch →
-        IsOf (schema_of w) before r' → events_at w.tree.labels claims ≡ map Some c.events → IsRaised r' claims c' →
-        c' ≡ record c { claims = c'.claims; epoch = c.epoch + 1 } → AreClaimsOf w (with_new_epoch (schema_of w) before) c'
-    raised_claims before r' claims c' a b f events raised others =
-        let new : c'.claims ≡ (with_new_epoch (schema_of w) before).claims = raised (schema_of w) before a b f in
-        let same_events : c'.events ≡ c.events = ap (λ (x : Claimed). x.events) others in
-        record {
+    -- a step by which the epoch rises, after the state `before`
+    kept_raised : (step : Step) (before : RunState) (r : Remaining) (claims : List Claim) (c : Claimed) (v : Course) → IsAllowed w s step →
+        next_state w s step ≡ with_new_epoch w before → r.options ≡ i.residual.options → before.journal ≡ r.journal → before.bans ≡ r.bans →
+        before.claims ≡ claims → before.epoch ≡ s.epoch → before.committed ≡ s.committed → events_at w.labels claims ≡ map Some i.claims.events → length claims ≡ length i.claims.claims →
+        IsRaised r claims c → IsCourseOf i.workflow (next_state w s step) v → Keeps step r c v i.committed
+    kept_raised step before r claims c v allowed is options journal bans same epoch closed events count (raised, others) course =
+        let k = kept.kept in
+        let at_epoch : before.epoch ≡ i.claims.epoch = epoch ∙ k.claims.epoch_is in
+        let new : c.claims ≡ (with_new_epoch w before).claims = raised w before same at_epoch (remains before r options journal bans) in
+        let later : c.epoch ≡ i.claims.epoch + 1 = ap (λ (x : Claimed). x.epoch) others in
+        let as_many : length c.claims ≡ length i.claims.claims =
+        ap length new ∙ sym (length-events_at w.labels (spare w before [] before.claims)) ∙ ap length (events-spare w.labels w before [] before.claims)
+        ∙ length-events_at w.labels before.claims ∙ ap length same ∙ count in
+        kept_longer step r c v i.committed allowed (subst (λ (s : RunState). IsOf w s r) (sym is) (remains (with_new_epoch w before) r options journal bans))
+        (subst (λ (s : RunState). AreClaimsOf i.workflow s c) (sym is) record {
           claims_are = sym new;
-          epoch_is = ap (λ n. n + 1) b ∙ sym (ap (λ (x : Claimed). x.epoch) others);
-          events_are = ap (events_at w.tree.labels) new ∙ events-spare w.tree.labels (schema_of w) before [] before.claims ∙ ap (events_at w.tree.labels) a ∙ events
-              ∙ ap (map Some) (sym same_events);
+          epoch_is = ap (λ n. n + 1) at_epoch ∙ sym later;
+          events_are = ap (events_at w.labels) new ∙ events-spare w.labels w before [] before.claims ∙ ap (events_at w.labels) same ∙ events ∙ ap (λ (x : Claimed). map Some x.events) (sym others);
           kinds = ap (λ (x : Claimed). x.kinds) others ∙ k.claims.kinds;
-        }
-
-    -- as many claims as before
-    few_raised : (before : RunState) (claims : List Claim) (c' : Claimed) → before.claims ≡ claims → length claims ≡ length c.claims →
-        c'.claims ≡ (with_new_epoch (schema_of w) before).claims → length c'.claims ≤ length c.claims + 1
-    few_raised before claims c' a count new =
-        let e : length c'.claims ≡ length c.claims =
-        ap length new ∙ sym (length-events_at w.tree.labels (spare (schema_of w) before [] before.claims))
-        ∙ ap length (events-spare w.tree.labels (schema_of w) before [] before.claims) ∙ length-events_at w.tree.labels before.claims ∙ ap length a ∙ count in omega arith
+        })
+        course (ap (λ (s : RunState). s.committed) is ∙ closed ∙ k.committed_is) (ap (λ (x : Claimed). x.room) others) (omega arith) (omega arith)
 
     -- a failure after which an execution goes on without the leaf
-    pub kept_switched : (claim leaf : ℕ) (c' : Claimed) → IsAllowed (schema_of w) s (Failed claim Switched) → leaf_of_claim s claim ≡ leaf →
-        IsRaised (record r { bans = r.bans ++ (length r.journal, leaf) ∷ [] }) (answer claim c.claims) c' →
-        c' ≡ record c { claims = c'.claims; epoch = c.epoch + 1 } →
-        IsKept w limit (longer history by (Failed claim Switched)) (record r { bans = r.bans ++ (length r.journal, leaf) ∷ [] }) c' v committed
-    kept_switched claim leaf c' allowed on raised others =
-        let r' : Remaining = record r { bans = r.bans ++ (length r.journal, leaf) ∷ [] } in
-        let before : RunState = record s { bans = s.bans ++ (length s.journal, leaf_of_claim s claim) ∷ []; claims = answer claim s.claims } in
-        let bans : s.bans ++ (length s.journal, leaf_of_claim s claim) ∷ [] ≡ r'.bans =
-        ap (λ (b : List (ℕ × ℕ)). b ++ (length s.journal, leaf_of_claim s claim) ∷ []) k.remains.bans_are
-        ∙ ap (λ (j : List ℕ). r.bans ++ (length j, leaf_of_claim s claim) ∷ []) k.remains.journal_is ∙ ap (λ n. r.bans ++ (length r.journal, n) ∷ []) on in
-        let f : IsOf (schema_of w) before r' = remains (schema_of w) s before r r' k.remains refl k.remains.journal_is bans in
-        let claims : before.claims ≡ answer claim c.claims = ap (answer claim) k.claims.claims_are in
-        kept_longer (Failed claim Switched) r' c' v committed allowed
-        (remains (schema_of w) s (next_state (schema_of w) s (Failed claim Switched)) r r' k.remains refl k.remains.journal_is bans)
-        (raised_claims before r' (answer claim c.claims) c' claims k.claims.epoch_is f (events-answer w.tree.labels claim c.claims ∙ k.claims.events_are) raised others)
-        (same_course (next_state (schema_of w) s (Failed claim Switched)) refl) k.committed_is (ap (λ (x : Claimed). x.room) others)
-        (few_raised before (answer claim c.claims) c' claims (length-map c.claims _) (raised (schema_of w) before claims k.claims.epoch_is f))
-        (let e : c'.epoch ≡ c.epoch + 1 = ap (λ (x : Claimed). x.epoch) others in omega arith)
+    pub kept_switched : (claim leaf : ℕ) (c : Claimed) → IsAllowed w s (Failed claim Switched) → leaf_of_claim s claim ≡ leaf →
+        IsRaised (record i.residual { bans = i.residual.bans ++ (length i.residual.journal, leaf) ∷ [] }) (answer claim i.claims.claims) c →
+        Keeps (Failed claim Switched) (record i.residual { bans = i.residual.bans ++ (length i.residual.journal, leaf) ∷ [] }) c i.world i.committed
+    kept_switched claim leaf c allowed on raised =
+        let k = kept.kept in
+        kept_raised (Failed claim Switched) (record s { bans = s.bans ++ (length s.journal, leaf_of_claim s claim) ∷ []; claims = answer claim s.claims })
+        (record i.residual { bans = i.residual.bans ++ (length i.residual.journal, leaf) ∷ [] }) (answer claim i.claims.claims) c i.world allowed refl refl k.remains.journal_is
+        (λ j. k.remains.bans_are j ++ (length (k.remains.journal_is j), on j) ∷ []) (ap (answer claim) k.claims.claims_are) refl refl
+        (events-answer w.labels claim i.claims.claims ∙ k.claims.events_are) (length-map i.claims.claims _) raised (same_course (next_state w s (Failed claim Switched)) refl)
 
     -- the journal is cut
-    pub kept_rewound : (index : ℕ) (c' : Claimed) → IsOpenIndex (schema_of w) s index →
-        IsRaised (record r {
-          journal = take index r.journal;
-          bans = filter (λ ban. nat_le ban.0 index) r.bans ++ (index, slice_index r.journal index) ∷ [];
-        }) c.claims c' → c' ≡ record c { claims = c'.claims; epoch = c.epoch + 1 } →
-        IsKept w limit (longer history by (Rewound index)) (record r {
-          journal = take index r.journal;
-          bans = filter (λ ban. nat_le ban.0 index) r.bans ++ (index, slice_index r.journal index) ∷ [];
-        }) c' (record v { labels = take index v.labels }) committed
-    kept_rewound index c' allowed raised others =
-        let r' : Remaining = record r { journal = take index r.journal; bans = filter (λ ban. nat_le ban.0 index) r.bans ++ (index, slice_index r.journal index) ∷ [] } in
-        let before : RunState = record s { journal = take index s.journal; bans = filter (λ ban. nat_le ban.0 index) s.bans ++ (index, slice_index s.journal index) ∷ [] } in
-        let journal : take index s.journal ≡ r'.journal = ap (take index) k.remains.journal_is in
-        let bans : before.bans ≡ r'.bans =
-        ap (λ (b : List (ℕ × ℕ)). filter (λ ban. nat_le ban.0 index) b ++ (index, slice_index s.journal index) ∷ []) k.remains.bans_are
-        ∙ ap (λ (j : List ℕ). filter (λ ban. nat_le ban.0 index) r.bans ++ (index, slice_index j index) ∷ []) k.remains.journal_is in
-        let f : IsOf (schema_of w) before r' = remains (schema_of w) s before r r' k.remains refl journal bans in
-        kept_longer (Rewound index) r' c' (record v { labels = take index v.labels }) committed allowed
-        (remains (schema_of w) s (next_state (schema_of w) s (Rewound index)) r r' k.remains refl journal bans)
-        (raised_claims before r' c.claims c' k.claims.claims_are k.claims.epoch_is f k.claims.events_are raised others)
+    abbrev rewound : ℕ → Remaining
+    rewound index =
+        record i.residual { journal = take index i.residual.journal; bans = filter (λ ban. nat_le ban.0 index) i.residual.bans ++ (index, slice_index i.residual.journal index) ∷ [] }
+
+    pub kept_rewound : (index : ℕ) (c : Claimed) → IsOpenIndex w s index → IsRaised (rewound index) i.claims.claims c →
+        Keeps (Rewound index) (rewound index) c (record i.world { labels = take index i.world.labels }) i.committed
+    kept_rewound index c allowed raised =
+        let k = kept.kept in
+        let bans : List ℕ → List (ℕ × ℕ) → List (ℕ × ℕ) = λ journal bans. filter (λ ban. nat_le ban.0 index) bans ++ (index, slice_index journal index) ∷ [] in
+        kept_raised (Rewound index) (record s { journal = take index s.journal; bans = bans s.journal s.bans })
+        (rewound index) i.claims.claims c _ allowed refl refl (ap (take index) k.remains.journal_is)
+        (λ j. bans (k.remains.journal_is j) (k.remains.bans_are j)) k.claims.claims_are refl refl k.claims.events_are refl raised
         (record {
           held_is = k.course.held_is;
           count = k.course.count;
-          labels_are = ap (take index) k.course.labels_are ∙ sym (labels_at-take w.tree.labels s.journal index (journal_within (schema_of w) k.remains.well_formed s sound_now));
+          labels_are = ap (take index) k.course.labels_are ∙ sym (labels_at-take w.labels s.journal index (journal_within w k.remains.well_formed s sound_now));
           room = k.course.room;
         })
-        k.committed_is (ap (λ (x : Claimed). x.room) others)
-        (few_raised before c.claims c' k.claims.claims_are refl (raised (schema_of w) before k.claims.claims_are k.claims.epoch_is f))
-        (let e : c'.epoch ≡ c.epoch + 1 = ap (λ (x : Claimed). x.epoch) others in omega arith)

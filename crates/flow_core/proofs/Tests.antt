@@ -46,31 +46,3 @@ module _ (w : Definition) (s : RunState) (c : Claimed) (are : AreClaimsOf w s c)
     λ yes. absurd (true≢false (sym yes ∙ ap not some)),
     λ can. absurd (can.1 (subst (λ l. leaf ∈ l) leaves_are (among.0 some))),
   )
-
--- ---- a claim that was given
-
-module _ (s : RunState) (number : ℕ) (given : Given) (found : claim_at s number ≡ Some (claim_of number given)) where
-  found_has : (P : Claim → Type 0) → P (claim_of number given) → IsSomeAnd (claim_at s number) P
-  found_has P h = subst (λ o. IsSomeAnd o P) (sym found) h
-
-  pub is_answered : given.answered ≡ true → IsAnswered s number
-  is_answered a = found_has (λ (claim : Claim). IsTrue claim.answered) a
-
-  pub is_unanswered : given.answered ≡ false → IsUnansweredIn s number
-  is_unanswered a = found_has (λ (claim : Claim). claim.answered ≡ false) a
-
-  pub is_late : given.answered ≡ false → given.epoch < s.epoch → IsLateOf s number given.epoch
-  is_late a older = (older, found_has (λ (claim : Claim). (claim.answered ≡ false) × (claim.epoch ≡ given.epoch)) (a, refl))
-
-  and_true : (a b : Bool) → a ≡ false → b ≡ true → (not a && b) ≡ true
-  and_true true b h e = cc
-  and_true false b h e = e
-
-  pub lapsed : given.answered ≡ false → given.epoch < s.epoch → IsLapsed s number
-  lapsed a older = found_has (λ (claim : Claim). IsTrue (is_lapsed s claim)) (and_true given.answered (nat_lt given.epoch s.epoch) a (lt-ltb given.epoch s.epoch older))
-
-  pub current_now : given.answered ≡ false → given.epoch ≡ s.epoch → IsCurrent s number
-  current_now a same = found_has (λ (claim : Claim). IsTrue (is_current s claim)) (and_true given.answered (nat_eq given.epoch s.epoch) a (eq-eqb given.epoch s.epoch same))
-
-  pub leaf_is : leaf_of_claim s number ≡ given.leaf
-  leaf_is = leaf_of_claim_is s number (claim_of number given) found

@@ -10,8 +10,8 @@ use Rattle.flow_workflow.specs.Definition.{Definition, schema_of}
 use Rattle.flow_workflow.specs.Numbers.{IsKnown}
 use Rattle.flow_residual.specs.Remaining.{Remaining, IsOf}
 use Rattle.flow_residual.specs.Claimed.{Claimed}
-use Rattle.flow_world.specs.Course.{Course}
-use Rattle.flow_world.specs.Journals.{labels_at}
+use Rattle.flow_facts.specs.Course.{Course}
+use Rattle.flow_facts.specs.Journals.{labels_at}
 use Rattle.std.specs.Vec.{vec_capacity}
 use Rattle.flow_core.specs.declared.engine.Core.TheInside.{Inside}
 use Rattle.flow_core.specs.Run.{Run}

@@ -5,10 +5,10 @@ ghost use Rattle.flow_model.specs.Run.{database, IsCurrent, IsOpen, IsOpenIndex}
 ghost use Rattle.flow_workflow.specs.Definition.{schema_of};
 
 use flow_excise::Compiled;
+use flow_facts::World;
 use flow_model::Entry;
 use flow_residual::{Claims, Residual};
 use flow_workflow::Workflow;
-use flow_world::World;
 use leaf_rows::LeafSet;
 use std::alloc::{AllocError, Global};
 use std::marker::Model;
@@ -103,24 +103,31 @@ impl Core {
         requires few { limit ≤ MOST_ENTRIES }
         ensures { IfOk result (λ core. core ≡ record { definition = workflow; limit = limit; history = [] }) }
     {
-        let Parts {
-            residual,
-            claims,
-            world,
-            history,
-        } = Parts::new(alloc, &workflow, compiled, limit)?;
-        Ok(Core {
-            workflow,
-            residual,
-            claims,
-            world,
-            limit,
-            history,
-            committed: false,
-            beside: LeafSet::new(),
-            first: LeafSet::new(),
-            looked: false,
-        })
+        match Parts::new(alloc, &workflow, compiled, limit) {
+            Ok(
+                Parts {
+                    residual,
+                    claims,
+                    world,
+                    history,
+                },
+            ) => Ok(Core {
+                workflow,
+                residual,
+                claims,
+                world,
+                limit,
+                history,
+                committed: false,
+                beside: LeafSet::new(),
+                first: LeafSet::new(),
+                looked: false,
+            }),
+            Err(error) => {
+                drop(workflow);
+                Err(error)
+            }
+        }
     }
 
     /// The workflow that is run.

@@ -5,12 +5,12 @@ ghost use Rattle.flow_model.specs.declared.history.Entry.{Entry};
 ghost use Rattle.flow_model.specs.Lists.{Each};
 ghost use Rattle.flow_crew.specs.Ends.{IsEnd};
 
+use crate::Gate;
 use crate::book::Book;
 use crate::ends::{End, Move};
 use crate::held::Held;
 use crate::jobs::{Begin, Post};
 use crossbeam_utils::sync::EventCount;
-use flow_gate::Gate;
 use flow_turn::{NewRefusal, Pass, TurnLock};
 use std::alloc::Global;
 use std::sync::Wait;

@@ -18,7 +18,7 @@ use Rattle.flow_laws.proofs.ResolutionsLemmas.{resolves_of, mem-leaves_of_goal}
 use Rattle.flow_laws.proofs.OptionsLemmas.{option_parts, option_is_ordered}
 use Rattle.flow_laws.proofs.OptionsLemmas.{option_of_good, option_trace_is_good}
 use Rattle.flow_goal.specs.Labelled.{Labelled}
-use Rattle.flow_rules.specs.Counts.{capped}
+use Rattle.flow_goal.specs.Capped.{capped}
 use Rattle.flow_plan.specs.Sampled.{Sampled}
 use Rattle.flow_excise.specs.declared.refusal.Dropped.{Dropped}
 use Rattle.flow_excise.specs.declared.refusal.CompileRefusal.{CompileRefusal}

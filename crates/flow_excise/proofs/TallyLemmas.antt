@@ -12,8 +12,10 @@ use Rattle.flow_model.specs.Process.{Process, leaves}
 use Rattle.flow_model.specs.Ways.{Normal}
 use Rattle.flow_model.specs.Resolution.{ChoiceOption, option_size, resolutions}
 use Rattle.flow_rules.specs.declared.counting.WayCount.{WayCount}
-use Rattle.flow_rules.specs.Counts.{capped, count_of}
-use Rattle.flow_rules.proofs.CountLemmas.{none_left, sum_capped, product_right}
+use Rattle.flow_goal.specs.Capped.{capped}
+use Rattle.flow_rules.specs.Counts.{count_of}
+use Rattle.flow_goal.proofs.Counting.{product_right, sum_capped}
+use Rattle.flow_rules.proofs.CountLemmas.{none_left}
 use Rattle.flow_goal.specs.Labelled.{Labelled}
 use Rattle.flow_excise.specs.declared.tally.Counted.{Counted}
 use Rattle.flow_excise.specs.declared.tally.Tally.{Tally}

@@ -6,7 +6,7 @@ use Rattle.flow_model.specs.declared.limits.TheConstants.{GREATEST_BULK, MOST_OP
 use Rattle.flow_model.specs.Schema.{Schema}
 use Rattle.flow_model.specs.Resolution.{ChoiceOption, options, options_in, resolutions, resolution_count, bulk}
 use Rattle.flow_laws.specs.WellFormed.{IsConsistent}
-use Rattle.flow_rules.specs.Counts.{capped}
+use Rattle.flow_goal.specs.Capped.{capped}
 use Rattle.flow_plan.specs.Sampled.{Sampled, sampled_code}
 use Rattle.flow_weave.specs.Woven.{AreNumbered}
 use Rattle.flow_excise.specs.declared.counts.Counts.{Counts}

@@ -2,7 +2,7 @@
 use Rattle.std.specs.Prelude.{◌≡◌, ◌<◌, ◌≤◌, ℕ, List, length, map, sum}
 use Rattle.flow_model.specs.declared.limits.TheConstants.{GREATEST_BULK, MOST_OPTIONS}
 use Rattle.flow_model.specs.Resolution.{ChoiceOption, option_size}
-use Rattle.flow_rules.specs.Counts.{capped}
+use Rattle.flow_goal.specs.Capped.{capped}
 use Rattle.flow_excise.specs.declared.refusal.CompileRefusal.{CompileRefusal}
 use Rattle.flow_excise.specs.declared.refusal.CompileRefusal.TheVariants.{TooManyChoices, TooManyWays, TooBulky, Inconsistent, NoMemory}
 use Rattle.flow_excise.specs.declared.tally.Tally.{Tally}

@@ -5,7 +5,7 @@ use Rattle.flow_model.specs.Resolution.{ChoiceOption, option_size, resolutions}
 use Rattle.flow_model.specs.Ways.{Normal}
 use Rattle.flow_goal.specs.Labelled.{Labelled}
 use Rattle.flow_rules.specs.declared.counting.WayCount.{WayCount}
-use Rattle.flow_rules.specs.Counts.{capped}
+use Rattle.flow_goal.specs.Capped.{capped}
 use Rattle.flow_excise.specs.declared.tally.Counted.{Counted}
 use Rattle.flow_excise.specs.declared.tally.Tally.{Tally}
 use Rattle.flow_excise.specs.Options.{has_ways, options_by}

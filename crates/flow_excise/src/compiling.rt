@@ -6,7 +6,7 @@ ghost use Rattle.flow_model.specs.Constraint.{Constraint, all_of};
 ghost use Rattle.flow_model.specs.Resolution.{resolution_count};
 ghost use Rattle.flow_rules.specs.Conjunction.{HasWaysOf, normal_in};
 ghost use Rattle.flow_rules.specs.Rule.{rules_of};
-ghost use Rattle.flow_rules.specs.Counts.{capped};
+ghost use Rattle.flow_goal.specs.Capped.{capped};
 ghost use Rattle.flow_excise.specs.declared.refusal.CompileRefusal.TheVariants.{Inconsistent, TooManyChoices};
 ghost use Rattle.flow_excise.specs.Options.{schema_of};
 ghost use Rattle.flow_excise.specs.Compilation.{IsCompiled, IsRefused};

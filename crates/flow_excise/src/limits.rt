@@ -3,7 +3,7 @@ ghost use Rattle.flow_model.specs.Resolution.{resolution_count, resolutions as a
 ghost use Rattle.flow_goal.specs.Choices.{AreChoicesOf};
 ghost use Rattle.flow_rules.specs.Conjunction.{normal_in};
 ghost use Rattle.flow_excise.specs.Options.{all_options_by, has_ways};
-ghost use Rattle.flow_rules.specs.Counts.{capped};
+ghost use Rattle.flow_goal.specs.Capped.{capped};
 ghost use Rattle.flow_excise.specs.declared.refusal.CompileRefusal.TheVariants.{TooManyChoices};
 ghost use Rattle.flow_excise.specs.Limits.{AreFew, IsTooMany};
 

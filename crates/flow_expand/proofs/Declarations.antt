@@ -1,22 +1,25 @@
 -- What is declared, as it is gone through, and the names that are found there.
-use Rattle.std.proofs.Common.{◌≡◌, ℕ, List, [], ◌∷◌, Some, map, slice_get, refl, sym, ap, ◌∙◌, subst, inl, inr, ◌⊎◌, ⊎_elim, ◌+◌, ◌<◌, ◌≤◌, ◌++◌, length, get_or, take, drop, arith, zero, suc, Bool, true, false, cond, Option, None, Bor}
+use Rattle.std.proofs.Common.{◌≡◌, ℕ, List, [], ◌∷◌, Some, map, slice_get, refl, sym, ap, ◌∙◌, subst, inl, inr, ◌+◌, ◌<◌, ◌≤◌, ◌++◌, length, get_or, take, drop, arith, zero, suc, Bool, true, false, cond, Option, None, Bor}
 use Rattle.std.specs.List.{flat_map, list_any, position_or_len}
-use Rattle.std.proofs.lemmas.List.{append-nil, take-append-drop, drop_more, map-append, map_more, length-map}
+use Rattle.std.proofs.lemmas.List.{append-nil, take-append-drop, drop_more, map-append, length-map}
 use Rattle.std.proofs.lemmas.List.Concat.{flat_map-append}
 use Rattle.std.specs.Prelude.{◌↔◌, IsNone, IfSome}
 use Rattle.std.specs.Str.{bytes_eq}
 use Rattle.std.specs.Cmp.Lexicographic.{bytes_decides}
 use Rattle.std.proofs.lemmas.Option.{slice_get-get_or, slice_get_within}
 use Rattle.flow_model.specs.Lists.{◌∈◌, Each, AreDistinct}
+use Rattle.flow_model.specs.Trace.{Shuffle, both_end, from_left, from_right}
 use Rattle.flow_model.specs.declared.labels.Note.{Note}
 use Rattle.flow_laws.proofs.MadeLists.{mem-flat_map, some_same}
+use Rattle.flow_laws.proofs.Shuffles.{shuffle_swap, mem_shuffle_left, mem_shuffle_right, distinct_in_shuffle}
 use Rattle.flow_laws.proofs.Members.{each_from_members, each_member, not_elsewhere}
 use Rattle.flow_facts.specs.Indexed.{IsAdded}
 use Rattle.flow_facts.proofs.Places.{place_of}
 use Rattle.flow_workflow.proofs.FirstPlaces.{place_in}
-use Rattle.flow_form.specs.Form.{Shape, shape_of}
+use Rattle.flow_form.specs.Form.{Shape, shape_of, shapes}
+use Rattle.flow_form.specs.RuleForm.{RuleShape, rule_shapes}
 use Rattle.flow_form.specs.Script.{Declared, fact, event, flow, Said, declared}
-use Rattle.flow_form.specs.Names.{names_in, declared_names, event_names, flow_goal, goals_of, IsClosed, event_name}
+use Rattle.flow_form.specs.Names.{names_in, names_in_each, names_in_rule, names_in_rules, declared_names, event_names, flow_goal, goals_of, IsClosed, event_name}
 use Rattle.flow_form.specs.declared.form.Form.{Form}
 use Rattle.flow_form.specs.declared.script.Decl.{Decl}
 use Rattle.flow_form.specs.declared.script.Decl.TheVariants as decl
@@ -24,48 +27,29 @@ use Rattle.flow_expand.specs.Steps.{flow_of, flows_of, flow_name, flow_names, Ar
 use Rattle.flow_expand.specs.Numbers.{declared_facts, event_note, notes_of}
 use Rattle.flow_expand.specs.declared.directory.Directory.{Directory}
 use Rattle.flow_expand.specs.Directory.{found_in, decls_of, IsDirectory}
-use Rattle.flow_expand.proofs.Members.{mem_left, mem_right, mem_at, get_map, same_place, flat_map_end, any_member, member_any, never_any}
+use Rattle.flow_expand.proofs.Members.{mem_left, mem_right, mem_at, get_map, same_place, flat_more, any_member, member_any, never_any}
 
-pub flow_declared : (decls : List Declared) (n : List ℕ) → n ∈ flow_names decls → n ∈ declared_names decls
-flow_declared [] n m = m
-flow_declared (fact a ∷ ds) n m = flow_declared ds n m
-flow_declared (event k note ∷ ds) n m = inr (flow_declared ds n m)
-flow_declared (flow k s ∷ ds) n (inl e) = inl e
-flow_declared (flow k s ∷ ds) n (inr m) = inr (flow_declared ds n m)
-
-pub event_declared : (decls : List Declared) (n : List ℕ) → n ∈ event_names decls → n ∈ declared_names decls
-event_declared [] n m = m
-event_declared (fact a ∷ ds) n m = event_declared ds n m
-event_declared (event k note ∷ ds) n (inl e) = inl e
-event_declared (event k note ∷ ds) n (inr m) = inr (event_declared ds n m)
-event_declared (flow k s ∷ ds) n m = inr (event_declared ds n m)
+-- the names of events and those of sub-workflows among all
+pub names_split : (decls : List Declared) → Shuffle (event_names decls) (flow_names decls) (declared_names decls)
+names_split [] = both_end
+names_split (fact a ∷ ds) = names_split ds
+names_split (event n note ∷ ds) = from_left (names_split ds)
+names_split (flow n s ∷ ds) = from_right (names_split ds)
 
 pub flow_named : (decls : List Declared) (n : List ℕ) (s : Shape) → flow n s ∈ decls → n ∈ flow_names decls
 flow_named decls n s m = mem-flat_map flow_name (flow n s) n decls m (inl refl)
-
--- a name that was declared is an event's or a sub-workflow's
-pub either_kind : (decls : List Declared) (n : List ℕ) → n ∈ declared_names decls → (n ∈ event_names decls) ⊎ (n ∈ flow_names decls)
-either_kind [] n m = absurd m
-either_kind (fact a ∷ ds) n m = either_kind ds n m
-either_kind (event k note ∷ ds) n (inl e) = inl (inl e)
-either_kind (event k note ∷ ds) n (inr m) = ⊎_elim (λ h. inl (inr h)) (λ h. inr h) (either_kind ds n m)
-either_kind (flow k s ∷ ds) n (inl e) = inr (inl e)
-either_kind (flow k s ∷ ds) n (inr m) = ⊎_elim (λ h. inl h) (λ h. inr (inr h)) (either_kind ds n m)
 
 -- a name is not both an event's and a sub-workflow's
 pub not_both : (decls : List Declared) (n : List ℕ) → AreDistinct (declared_names decls) → n ∈ event_names decls → n ∈ flow_names decls → ⊥
 not_both [] n d e f = e
 not_both (fact a ∷ ds) n d e f = not_both ds n d e f
-not_both (event k note ∷ ds) n (out, d) (inl e) f = out (subst (λ z. z ∈ declared_names ds) e (flow_declared ds n f))
+not_both (event k note ∷ ds) n (out, d) (inl e) f = out (subst (λ z. z ∈ declared_names ds) e (mem_shuffle_right (names_split ds) n f))
 not_both (event k note ∷ ds) n (out, d) (inr e) f = not_both ds n d e f
-not_both (flow k s ∷ ds) n (out, d) e (inl f) = out (subst (λ z. z ∈ declared_names ds) f (event_declared ds n e))
+not_both (flow k s ∷ ds) n (out, d) e (inl f) = out (subst (λ z. z ∈ declared_names ds) f (mem_shuffle_left (names_split ds) n e))
 not_both (flow k s ∷ ds) n (out, d) e (inr f) = not_both ds n d e f
 
 pub distinct_flows : (decls : List Declared) → AreDistinct (declared_names decls) → AreDistinct (flow_names decls)
-distinct_flows [] d = tt
-distinct_flows (fact a ∷ ds) d = distinct_flows ds d
-distinct_flows (event k note ∷ ds) d = distinct_flows ds d.1
-distinct_flows (flow k s ∷ ds) d = ((λ m. d.0 (flow_declared ds k m)), distinct_flows ds d.1)
+distinct_flows decls d = distinct_in_shuffle (shuffle_swap (names_split decls)) d
 
 -- the places of sub-workflows
 pub flow_place : (decls : List Declared) (n : List ℕ) (s : Shape) → flow n s ∈ decls → (k : ℕ) × (slice_get (flows_of decls) k ≡ Some (n, s))
@@ -93,6 +77,16 @@ same_goal decls n s t d e f =
     let same : k ≡ j = same_place (flow_names decls) k j n (distinct_flows decls d) (name_there decls k n s one) (name_there decls j n t other) in
     ap (λ (p : List ℕ × Shape). p.1) (some_same (n, s) (n, t) (sym one ∙ ap (slice_get (flows_of decls)) same ∙ other))
 
+-- names in lists
+
+pub names_in_shapes : (ss : List Shape) → names_in_each (shapes ss) ≡ flat_map names_in ss
+names_in_shapes [] = refl
+names_in_shapes (s ∷ ss) = ap (λ l. names_in s ++ l) (names_in_shapes ss)
+
+pub names_in_all : (rs : List RuleShape) → names_in_rules (rule_shapes rs) ≡ flat_map names_in_rule rs
+names_in_all [] = refl
+names_in_all (r ∷ rs) = ap (λ l. names_in_rule r ++ l) (names_in_all rs)
+
 -- each name of a goal was declared
 
 goals_closed : (s : Said) (t : Shape) → IsClosed s → t ∈ goals_of s → Each (λ x. x ∈ declared_names s.decls) (names_in t)
@@ -111,10 +105,7 @@ goal_declared s h = goals_closed s s.goal h (mem_right s.goal (flat_map flow_goa
 -- names of events
 
 pub distinct_events : (decls : List Declared) → AreDistinct (declared_names decls) → AreDistinct (event_names decls)
-distinct_events [] d = tt
-distinct_events (fact a ∷ ds) d = distinct_events ds d
-distinct_events (event n note ∷ ds) d = ((λ m. d.0 (event_declared ds n m)), distinct_events ds d.1)
-distinct_events (flow n s ∷ ds) d = distinct_events ds d.1
+distinct_events decls d = distinct_in_shuffle (names_split decls) d
 
 pub events_few : (decls : List Declared) → length (event_names decls) ≤ length decls
 events_few [] = omega arith
@@ -135,18 +126,13 @@ events_noted (d ∷ ds) = events_noted ds
 -- what declarations hold of a kind, as they are gone through
 
 module _ {A : Type 0} (part : Declared → List A) (decls : List Decl) (i : ℕ) (item : Decl) (lt : i < length decls) (is : item ≡ get_or decls i item) where
-  pub part_more : flat_map part (map declared (take (i + 1) decls)) ≡ flat_map part (map declared (take i decls)) ++ part (declared item)
-  part_more =
-      ap (flat_map part) (map_more declared decls i item lt) ∙ flat_map_end part (map declared (take i decls)) (declared (get_or decls i item))
-      ∙ ap (λ d. flat_map part (map declared (take i decls)) ++ part (declared d)) (sym is)
-
   pub part_put : (x : A) (old new : List A) → part (declared item) ≡ x ∷ [] → old ≡ flat_map part (map declared (take i decls)) → new ≡ old ++ x ∷ [] →
       new ≡ flat_map part (map declared (take (i + 1) decls))
-  part_put x old new one before put = put ∙ ap (λ l. l ++ x ∷ []) before ∙ ap (λ l. flat_map part (map declared (take i decls)) ++ l) (sym one) ∙ sym part_more
+  part_put x old new one before put = put ∙ ap (λ l. l ++ x ∷ []) before ∙ ap (λ l. flat_map part (map declared (take i decls)) ++ l) (sym one) ∙ sym (flat_more part declared decls i item lt is)
 
   -- what is of another kind adds nothing
   pub part_passed : (old : List A) → part (declared item) ≡ [] → old ≡ flat_map part (map declared (take i decls)) → old ≡ flat_map part (map declared (take (i + 1) decls))
-  part_passed old none before = before ∙ sym (append-nil _) ∙ ap (λ l. flat_map part (map declared (take i decls)) ++ l) (sym none) ∙ sym part_more
+  part_passed old none before = before ∙ sym (append-nil _) ∙ ap (λ l. flat_map part (map declared (take i decls)) ++ l) (sym none) ∙ sym (flat_more part declared decls i item lt is)
 
   -- before it, its own, and after it
   part_split : flat_map part (map declared decls) ≡ flat_map part (map declared (take i decls)) ++ (part (declared item) ++ flat_map part (map declared (drop (i + 1) decls)))

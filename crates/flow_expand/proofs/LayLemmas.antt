@@ -1,12 +1,12 @@
 -- Goals in a layout that grows, and what is written there.
-use Rattle.std.proofs.Common.{◌≡◌, ℕ, ◌+◌, ◌<◌, List, [], ◌∷◌, ◌++◌, length, slice_get, Some, refl, sym, ap, ◌∙◌, subst, arith, zero, suc, map, fold, get_or, take, Option, None, inl, inr, ⊎_elim, Box, Global, Result, Ok, Err}
+use Rattle.std.proofs.Common.{◌≡◌, ℕ, ◌+◌, ◌<◌, List, [], ◌∷◌, ◌++◌, length, slice_get, Some, refl, sym, ap, ◌∙◌, subst, arith, map, fold, get_or, take, Option, None, inl, inr, ⊎_elim, Box, Global, Result, Ok, Err}
 use Rattle.std.proofs.lemmas.Option.{slice_get_within}
 use Rattle.std.specs.Prelude.{MatchOption}
 use Rattle.std.specs.Result.{IfOk}
 use Rattle.std.proofs.lemmas.List.{append_assoc, map_more}
 use Rattle.flow_model.specs.Process.{Task}
 use Rattle.flow_model.specs.Lists.{◌∈◌, Begins, Each}
-use Rattle.flow_laws.proofs.Members.{each_member, each_from_members}
+use Rattle.flow_laws.proofs.Shuffles.{of_shuffle}
 use Rattle.flow_facts.specs.Atom.{Atom}
 use Rattle.flow_facts.proofs.Places.{at_end}
 use Rattle.flow_form.specs.declared.form.Form.{Form, Nop, Test, Absent, Ins, Del, Iso}
@@ -14,7 +14,7 @@ use Rattle.flow_form.specs.declared.form.Form.TheVariants.{rolls-Nop, rolls-Test
 use Rattle.flow_form.specs.declared.form.Form.TheFolds.{fold-roll-Form}
 use Rattle.flow_form.specs.Form.{Shape, Shapes, shapes, shape_of, shape_step, no_more, nop, named, test, absent, ins, del, iso}
 use Rattle.flow_form.specs.Script.{Declared}
-use Rattle.flow_form.specs.Names.{names_in, names_in_each, event_names, declared_names}
+use Rattle.flow_form.specs.Names.{event_names, declared_names}
 use Rattle.flow_form.specs.declared.form.Form.TheOpen as open_form
 use Rattle.flow_expand.specs.declared.layout.Deed.{Deed}
 use Rattle.flow_expand.specs.declared.layout.Pairing.{Pairing}
@@ -33,8 +33,8 @@ use Rattle.flow_expand.specs.declared.layout.Deed.TheVariants as deed
 use Rattle.flow_expand.specs.declared.layout.Pairing.TheVariants as how
 use Rattle.flow_expand.specs.declared.layout.Piece.TheVariants as piece
 use Rattle.flow_expand.specs.declared.lay.Stage.TheVariants as stage
-use Rattle.flow_expand.proofs.Members.{get_left, mem_left, mem_right, mem_at}
-use Rattle.flow_expand.proofs.Declarations.{in_flows, either_kind, found_none, flow_found}
+use Rattle.flow_expand.proofs.Members.{get_left, mem_at}
+use Rattle.flow_expand.proofs.Declarations.{in_flows, names_split, found_none, flow_found}
 
 -- a leaf with a fact, whichever it is
 pub record IsFactLeaf (d : Deed) : Type 0 where
@@ -282,15 +282,6 @@ goes_plain (Err x) Q decls layout s t e same b put h = h
 
 -- which names are ready
 
-pub names_of_member : (forms : List Form) (i : ℕ) (item : Form) → i < length forms → item ≡ get_or forms i item → (n : List ℕ) → n ∈ names_in (shape_of item) → n ∈ names_in_each (shapes (map shape_of forms))
-names_of_member [] i item lt is n m = absurd (omega arith)
-names_of_member (f ∷ forms) zero item lt is n m = mem_left n (names_in (shape_of f)) (names_in_each (shapes (map shape_of forms))) (subst (λ g. n ∈ names_in (shape_of g)) is m)
-names_of_member (f ∷ forms) (suc i) item lt is n m = mem_right n (names_in (shape_of f)) (names_in_each (shapes (map shape_of forms))) (names_of_member forms i item (omega arith) is n m)
-
-pub ready_member : (P : List ℕ → Type 0) (forms : List Form) (i : ℕ) (item : Form) → i < length forms → item ≡ get_or forms i item → Each P (names_in_each (shapes (map shape_of forms))) → Each P (names_in (shape_of item))
-ready_member P forms i item lt is all =
-    each_from_members P (names_in (shape_of item)) (λ n m. each_member P (names_in_each (shapes (map shape_of forms))) all n (names_of_member forms i item lt is n m))
-
 -- where all sub-workflows among them were laid, all are
 pub ready : (d : Directory) (laid : List Stage) (ns : List (List ℕ)) → IsDirectory d → Each (λ n. n ∈ declared_names (decls_of d)) ns →
     ((n : List ℕ) (k : ℕ) → n ∈ ns → found_in d.flows n ≡ Some k → IsLaidAt laid k) → Each (IsReady d laid) ns
@@ -300,7 +291,7 @@ ready d laid (n ∷ ns) h (here, declared) all = (go (found_in d.flows n) refl, 
     go : (o : Option ℕ) → found_in d.flows n ≡ o → MatchOption o (n ∈ d.events.now) (IsLaidAt laid)
     go (Some k) e = all n k (inl refl) e
     go None e =
-        ⊎_elim (λ m. subst (λ l. n ∈ l) (sym h.events) m) (λ m. absurd (found_none d.flows n e (subst (λ l. n ∈ l) (sym h.flows) m))) (either_kind (decls_of d) n here)
+        ⊎_elim (λ m. subst (λ l. n ∈ l) (sym h.events) m) (λ m. absurd (found_none d.flows n e (subst (λ l. n ∈ l) (sym h.flows) m))) (of_shuffle (names_split (decls_of d)) n here)
 
 pub ok_to : {T E : Type 0} (r : Result T E) (P Q : T → Type 0) → ((x : T) → P x → Q x) → IfOk r P → IfOk r Q
 ok_to (Ok x) P Q f h = f x h

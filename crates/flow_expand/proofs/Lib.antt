@@ -6,4 +6,3 @@ pub mod Declarations
 pub mod Endings
 pub mod RulingLemmas
 pub mod BuildLemmas
-pub mod NumberingLemmas

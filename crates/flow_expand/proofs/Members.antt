@@ -1,11 +1,12 @@
 -- Members of lists and their places, and lists that are written out one by one.
 use Rattle.std.proofs.Common.{◌≡◌, ℕ, zero, suc, List, [], ◌∷◌, ◌++◌, ◌⊎◌, ◌||◌, Bool, true, false, map, slice_get, Some, refl, sym, ap, ◌∙◌, subst, inl, inr, option_map, ◌+◌, ◌<◌, length, get_or, take}
-use Rattle.std.proofs.lemmas.List.{append-nil, map_push, map_more}
-use Rattle.std.proofs.lemmas.List.Concat.{flat_map-append}
+use Rattle.std.proofs.lemmas.List.{map_push, map_more}
 use Rattle.std.specs.Bool.{Decides}
 use Rattle.std.specs.List.{flat_map, list_any}
-use Rattle.std.proofs.lemmas.Option.{slice_get-map}
-use Rattle.flow_model.specs.Lists.{◌∈◌, AreDistinct}
+use Rattle.std.proofs.lemmas.Option.{slice_get-map, slice_get-get_or}
+use Rattle.flow_model.specs.Lists.{◌∈◌, Each, AreDistinct}
+use Rattle.flow_laws.proofs.Members.{each_from_members, each_member}
+use Rattle.flow_laws.proofs.MadeLists.{flat_map_end, mem-flat_map, mem-map}
 pub use Rattle.flow_model.proofs.Lists.{mem-slice_get as mem_at, slice_get_append_left as get_left}
 pub use Rattle.flow_laws.proofs.Members.{mem_append_left as mem_left, mem_append_right as mem_right, mem-append as mem_either}
 
@@ -20,8 +21,18 @@ same_place (y ∷ xs) zero (suc j) x d e f = let g : Some y ≡ Some x = e in le
 same_place (y ∷ xs) (suc i) zero x d e f = let g : Some y ≡ Some x = f in let h : y ≡ x = cc in absurd (d.0 (subst (λ z. z ∈ xs) (sym h) (mem_at xs i x e)))
 same_place (y ∷ xs) (suc i) (suc j) x d e f = ap suc (same_place xs i j x d.1 e f)
 
-pub flat_map_end : {X A : Type 0} (f : X → List A) (xs : List X) (x : X) → flat_map f (xs ++ x ∷ []) ≡ flat_map f xs ++ f x
-flat_map_end f xs x = flat_map-append f xs (x ∷ []) ∙ ap (λ l. flat_map f xs ++ l) (append-nil (f x))
+-- a list of what the elements stand for, and one more
+pub flat_more : {X Y A : Type 0} (f : Y → List A) (g : X → Y) (xs : List X) (i : ℕ) (x : X) → i < length xs → x ≡ get_or xs i x →
+    flat_map f (map g (take (i + 1) xs)) ≡ flat_map f (map g (take i xs)) ++ f (g x)
+flat_more f g xs i x lt is =
+    ap (flat_map f) (map_more g xs i x lt) ∙ flat_map_end f (map g (take i xs)) (g (get_or xs i x)) ∙ ap (λ y. flat_map f (map g (take i xs)) ++ f (g y)) (sym is)
+
+-- what all of it meet, those of one element meet
+pub each_of_one : {X Y A : Type 0} (P : A → Type 0) (f : Y → List A) (g : X → Y) (xs : List X) (i : ℕ) (x : X) → i < length xs → x ≡ get_or xs i x →
+    Each P (flat_map f (map g xs)) → Each P (f (g x))
+each_of_one P f g xs i x lt is all =
+    each_from_members P (f (g x)) (λ a m. each_member P (flat_map f (map g xs)) all a
+    (mem-flat_map f (g x) a (map g xs) (mem-map g x xs (mem_at xs i x (slice_get-get_or xs i x lt ∙ ap Some (sym is)))) m))
 
 -- members found by a test of equality
 

@@ -1,13 +1,12 @@
 -- What a workflow that is laid says of the refusals.
-use Rattle.std.proofs.Common.{◌≡◌, ℕ, ◌+◌, ◌<◌, ◌≤◌, max, List, [], ◌∷◌, ◌++◌, length, map, get_or, take, refl, sym, ap, ◌∙◌, subst, arith, Result, Ok, Err}
-use Rattle.std.specs.List.{flat_map}
+use Rattle.std.proofs.Common.{◌≡◌, ℕ, ◌+◌, ◌<◌, ◌≤◌, max, List, ◌++◌, length, map, get_or, take, sym, ap, ◌∙◌, subst, arith, Result, Ok, Err}
 use Rattle.std.specs.Result.{IfErr}
-use Rattle.std.proofs.lemmas.List.{length-append, map_more}
+use Rattle.std.proofs.lemmas.List.{length-append}
 use Rattle.flow_model.specs.declared.limits.TheConstants.{MOST_FLOWS, MOST_LEAVES, MOST_RULE_NAMES}
 use Rattle.flow_model.specs.Lists.{◌∈◌, Each}
 use Rattle.flow_form.specs.declared.rule_form.RuleForm.{RuleForm}
 use Rattle.flow_form.specs.Form.{Shape}
-use Rattle.flow_form.specs.RuleForm.{RuleShape, rule_shapes, rule_shape_of}
+use Rattle.flow_form.specs.RuleForm.{rule_shapes, rule_shape_of}
 use Rattle.flow_form.specs.Script.{Declared, flow, Said}
 use Rattle.flow_form.specs.Names.{names_in_rule, names_in_rules, declared_names, event_names, IsClosed}
 use Rattle.flow_expand.specs.declared.directory.Directory.{Directory}
@@ -24,7 +23,8 @@ use Rattle.flow_expand.specs.Waiting.{IsFound}
 use Rattle.flow_expand.specs.Refusals.{flow_count, rule_name_count, IsFinite, IsFitting, IsRefusal}
 use Rattle.flow_expand.specs.Layout.{IsPlaced}
 use Rattle.flow_expand.specs.Prepared.{IsPrepared}
-use Rattle.flow_expand.proofs.Declarations.{flow_found, flows_below, flow_place}
+use Rattle.flow_expand.proofs.Members.{flat_more}
+use Rattle.flow_expand.proofs.Declarations.{flow_found, flows_below, flow_place, names_in_all}
 use Rattle.flow_expand.proofs.LayLemmas.{ready, capped_sum}
 use Rattle.flow_expand.proofs.Endings.{no_recursion}
 
@@ -33,24 +33,15 @@ pub err_to : {T E : Type 0} (r : Result T E) (P Q : E → Type 0) → ((x : E) �
 err_to (Ok x) P Q f h = h
 err_to (Err e) P Q f h = f e h
 
--- names in constraints
-
-pub names_in_all : (rs : List RuleShape) → names_in_rules (rule_shapes rs) ≡ flat_map names_in_rule rs
-names_in_all [] = refl
-names_in_all (r ∷ rs) = ap (λ l. names_in_rule r ++ l) (names_in_all rs)
-
-rules_end : (rs : List RuleShape) (r : RuleShape) → length (names_in_rules (rule_shapes (rs ++ r ∷ []))) ≡ length (names_in_rules (rule_shapes rs)) + length (names_in_rule r)
-rules_end [] r = length-append (names_in_rule r) [] ∙ omega arith
-rules_end (q ∷ rs) r = omega (arith, rules_end rs r, length-append (names_in_rule q) (names_in_rules (rule_shapes (rs ++ r ∷ []))), length-append (names_in_rule q) (names_in_rules (rule_shapes rs)))
-
 pub count_more : (rules : List RuleForm) (i count one : ℕ) (item : RuleForm) → i < length rules → item ≡ get_or rules i item → count ≡ capped (length (names_in_rules (rule_shapes (map rule_shape_of (take i rules))))) →
     one ≡ capped (length (names_in_rule (rule_shape_of item))) → capped (count + one) ≡ capped (length (names_in_rules (rule_shapes (map rule_shape_of (take (i + 1) rules)))))
 count_more rules i count one item lt is before one_is =
     (λ t. capped (before t + one_is t))
     ∙ capped_sum (length (names_in_rules (rule_shapes (map rule_shape_of (take i rules))))) (length (names_in_rule (rule_shape_of item)))
-    ∙ ap capped (sym (rules_end (map rule_shape_of (take i rules)) (rule_shape_of item)))
-    ∙ ap (λ r. capped (length (names_in_rules (rule_shapes (map rule_shape_of (take i rules) ++ rule_shape_of r ∷ []))))) is
-    ∙ ap (λ l. capped (length (names_in_rules (rule_shapes l)))) (sym (map_more rule_shape_of rules i item lt))
+    ∙ ap capped (sym (length-append (names_in_rules (rule_shapes (map rule_shape_of (take i rules)))) (names_in_rule (rule_shape_of item))))
+    ∙ ap (λ l. capped (length l))
+    (ap (λ l. l ++ names_in_rule (rule_shape_of item)) (names_in_all (map rule_shape_of (take i rules))) ∙ sym (flat_more names_in_rule rule_shape_of rules i item lt is)
+    ∙ sym (names_in_all (map rule_shape_of (take (i + 1) rules))))
 
 -- sub-workflows that are all laid
 

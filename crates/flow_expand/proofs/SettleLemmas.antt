@@ -2,7 +2,7 @@
 use Rattle.std.proofs.Common.{◌≡◌, ◌≢◌, ℕ, zero, suc, ◌+◌, ◌-◌, ◌<◌, List, [], ◌∷◌, ◌++◌, ◌⊎◌, length, get_or, set, slice_get, Option, Some, None, refl, sym, ap, ◌∙◌, subst, inl, inr, ⊎_elim, arith, ◌≤◌, map, take, Vec, Global, Bor, drop}
 use Rattle.std.specs.Prelude.{All, MatchOption}
 use Rattle.std.proofs.lemmas.Option.{slice_get-get_or, slice_get_within, get_or_from_slice_get}
-use Rattle.std.proofs.lemmas.List.{append_assoc, length-set, get_or-set_same, append-nil, length-map, map_more, map-append, take-append-drop, drop_more}
+use Rattle.std.proofs.lemmas.List.{append_assoc, length-set, get_or-set_same, append-nil, length-map, map-append, take-append-drop, drop_more, take_more}
 use Rattle.std.proofs.lemmas.Bool.Decides.{eqb_tells}
 use Rattle.std.specs.Option.{option_to_list}
 use Rattle.std.proofs.lemmas.Bool.{cases_lt}
@@ -26,9 +26,9 @@ use Rattle.flow_expand.specs.Waiting.{NumberStep, AreSteps, IsPath, Stays, weigh
 use Rattle.flow_expand.specs.declared.settling.Settling.{Settling}
 use Rattle.flow_expand.specs.Calls.{calls_in, AreCalls, AreSeen, IsSettling}
 use Rattle.flow_expand.specs.declared.lay.Stage.TheVariants as stage
-use Rattle.flow_expand.proofs.Members.{mem_left, mem_right, mem_either, mem_at, get_map, same_place}
+use Rattle.flow_expand.proofs.Members.{mem_left, mem_right, mem_either, mem_at, get_map, same_place, flat_more}
 use Rattle.flow_expand.proofs.LayLemmas.{laid_more}
-use Rattle.flow_expand.proofs.Declarations.{of_get_map, flow_of_goal, flow_found, in_flows, name_there}
+use Rattle.flow_expand.proofs.Declarations.{of_get_map, flow_of_goal, flow_found, in_flows, name_there, names_in_shapes}
 
 pub get_set_same : {A : Type 0} (xs : List A) (i : ℕ) (y : A) → i < length xs → slice_get (set xs i y) i ≡ Some y
 get_set_same xs i y lt = slice_get-get_or (set xs i y) i y (subst (λ n. i < n) (sym (length-set xs i y)) lt) ∙ ap Some (get_or-set_same xs i y y lt)
@@ -292,10 +292,6 @@ seen_kept calls seen old new kept h m i j n list there is lt e = kept j (h m i j
 
 -- the names of one more goal
 
-names_end : (ss : List Shape) (s : Shape) → names_in_each (shapes (ss ++ s ∷ [])) ≡ names_in_each (shapes ss) ++ names_in s
-names_end [] s = append-nil (names_in s)
-names_end (t ∷ ss) s = ap (λ l. names_in t ++ l) (names_end ss s) ∙ sym (append_assoc (names_in t) (names_in_each (shapes ss)) (names_in s))
-
 pub calls_more : (flows : List (List ℕ)) (forms : List Form) (i : ℕ) (item : Form) (old now new : List ℕ) → i < length forms → item ≡ get_or forms i item →
     now ≡ old ++ calls_in flows (names_in_each (shapes (map shape_of (take i forms)))) → new ≡ now ++ calls_in flows (names_in (shape_of item)) →
     new ≡ old ++ calls_in flows (names_in_each (shapes (map shape_of (take (i + 1) forms))))
@@ -303,8 +299,8 @@ calls_more flows forms i item old now new lt is before more =
     more ∙ ap (λ l. l ++ calls_in flows (names_in (shape_of item))) before
     ∙ append_assoc old (calls_in flows (names_in_each (shapes so_far))) (calls_in flows (names_in (shape_of item)))
     ∙ ap (λ l. old ++ l) (sym (flat_map-append (λ n. option_to_list (found_in flows n)) (names_in_each (shapes so_far)) (names_in (shape_of item))))
-    ∙ ap (λ ns. old ++ calls_in flows ns) (sym (names_end so_far (shape_of item)))
-    ∙ ap (λ l. old ++ calls_in flows (names_in_each (shapes l))) (ap (λ f. so_far ++ shape_of f ∷ []) is ∙ sym (map_more shape_of forms i item lt))
+    ∙ ap (λ ns. old ++ calls_in flows ns)
+    (ap (λ l. l ++ names_in (shape_of item)) (names_in_shapes so_far) ∙ sym (flat_more names_in shape_of forms i item lt is) ∙ sym (names_in_shapes (map shape_of (take (i + 1) forms))))
   where
     so_far : List Shape
     so_far = map shape_of (take i forms)
@@ -441,13 +437,9 @@ module _ (decls : List Declared) (path : List ℕ) (last next p low : ℕ) (once
         subst (λ z. z < length (flow_names decls)) (get_or_from_slice_get path q k 0 here) (back.within q 0 (slice_get_within path q k here)),
       )
 
-  pub path_chain : (chain : List (List ℕ)) →
-      chain ≡ map (name_at decls) (drop low (drop p path)) ++ map (name_at decls) (take low (drop p path)) ++ map (name_at decls) (get_or (drop p path) low 0 ∷ []) → IsRecursion decls chain
+  pub path_chain : (chain : List (List ℕ)) → chain ≡ map (name_at decls) (drop low (drop p path)) ++ map (name_at decls) (take (low + 1) (drop p path)) → IsRecursion decls chain
   path_chain chain written =
       ring_chain decls a m b next (drop (p + 1) path) chain once begins closed
       (subst AreDistinct laid_out (distinct_right (take p path) (drop p path) (subst AreDistinct (sym whole) back.distinct))) bounds
-      (written ∙ ap (λ l. map (name_at decls) l ++ map (name_at decls) a ++ map (name_at decls) (m ∷ [])) (drop_more ring low 0 lt)
-      ∙ sym (map-append (name_at decls) ((m ∷ b) ++ a) (m ∷ []) ∙ ap (λ l. l ++ map (name_at decls) (m ∷ [])) (map-append (name_at decls) (m ∷ b) a)))
-
-pub three_parts : {A : Type 0} (c0 c1 c2 c3 x y z : List A) → c0 ≡ [] → c1 ≡ c0 ++ x → c2 ≡ c1 ++ y → c3 ≡ c2 ++ z → c3 ≡ x ++ y ++ z
-three_parts c0 c1 c2 c3 x y z e f g h = h ∙ ap (λ l. l ++ z) (g ∙ ap (λ l. l ++ y) (f ∙ ap (λ l. l ++ x) e))
+      (written ∙ sym (map-append (name_at decls) (drop low ring) (take (low + 1) ring))
+      ∙ ap (map (name_at decls)) ((λ t. drop_more ring low 0 lt t ++ take_more ring low 0 lt t) ∙ sym (append_assoc (m ∷ b) a (m ∷ []))))

@@ -69,7 +69,6 @@ pub(crate) fn chain_of(
     let least = place_of_least(ring);
     let mut chain = Vec::new(alloc);
     push_names(alloc, names, &ring[least..], &mut chain)?;
-    push_names(alloc, names, &ring[..least], &mut chain)?;
-    push_names(alloc, names, &[ring[least]], &mut chain)?;
+    push_names(alloc, names, &ring[..least + 1], &mut chain)?;
     Ok(chain)
 }

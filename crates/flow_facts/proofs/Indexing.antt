@@ -1,93 +1,51 @@
--- Keys by their numbers, and the map that finds them.
-use Rattle.std.proofs.Common.{◌≡◌, ◌≢◌, ℕ, ◌+◌, ◌<◌, ◌^◌, Bool, true, false, cond, List, [], ◌∷◌, ◌++◌, length, slice_get, Option, Some, None, refl, sym, ap, ◌∙◌, subst, inl, inr, ◌⊎◌, arith}
-use Rattle.std.specs.Prelude.{◌↔◌, IsNone}
+-- Keys by their numbers, and the maps that lead to these.
+use Rattle.std.proofs.Common.{◌≡◌, ◌≢◌, ℕ, ◌+◌, ◌<◌, ◌^◌, List, [], ◌∷◌, ◌++◌, length, slice_get, Option, Some, None, refl, sym, ◌∙◌, subst, inl, inr, ◌⊎◌, Result, Ok, Err, OnOk, IfOk, arith}
+use Rattle.std.specs.Prelude.{◌↔◌, IsNone, IfSome, OnErr}
 use Rattle.std.specs.declared.cmp.Ordering.{Ordering}
-use Rattle.std.specs.declared.cmp.Ordering.TheVariants.{Equal}
-use Rattle.std.specs.Ordering.{is_eq}
-use Rattle.std.specs.Cmp.{IsTotalOrder, tied_itself, Equal-is}
-use Rattle.std.specs.BTreeMap.{BTreeMap, get, Updates}
-use Rattle.std.specs.Option.{unwrap_or}
+use Rattle.std.specs.BTreeMap.{BTreeMap}
 use Rattle.std.proofs.lemmas.List.{length-append}
-use Rattle.std.proofs.lemmas.Option.{slice_get_within}
 use Rattle.flow_model.specs.Lists.{◌∈◌}
-use Rattle.flow_facts.specs.Indexed.{IsIndexed}
-use Rattle.flow_facts.proofs.Places.{mem-slice_get, place_of, slice_get_append_left, at_end, at_more, distinct_more}
+use Rattle.flow_facts.specs.Indexed.{IsIndexed, IsAdded, Leads}
+use Rattle.flow_facts.proofs.Places.{mem-slice_get, place_of, at_end, at_more, distinct_more}
 
-module _ {K : Type 0} (cmp : K → K → Ordering) where
-  -- what is looked up is none just where the key is none of them
-  pub none_missing : (keys : List K) (numbers : BTreeMap K ℕ) (k : K) (r : Option ℕ) → IsIndexed cmp keys numbers → r ≡ get cmp numbers k → IsNone r ↔ ¬ (k ∈ keys)
-  none_missing keys numbers k None is e = ((λ none m. missing m), (λ other. refl))
-    where
-      missing : k ∈ keys → ⊥
-      missing m =
-          let (i, at) = place_of keys k m in
-          let f : None ≡ Some i = e ∙ (is.places k i).1 at in cc
-  none_missing keys numbers k (Some n) is e =
-      ((λ none. cc), (λ other. absurd (other (mem-slice_get keys n k ((is.places k n).0 (sym e))))))
+module _ {K : Type 0} (cmp : K → K → Ordering) (mark : K → ℕ) where
+  -- what is found is none just where the key is none of them
+  pub none_missing : (keys : List K) (by_mark : BTreeMap ℕ ℕ) (by_key : BTreeMap K ℕ) (k : K) (r : Option ℕ) → IsIndexed cmp mark keys by_mark by_key →
+      IfSome r (λ n. slice_get keys n ≡ Some k) → (r ≡ None → (n : ℕ) → slice_get keys n ≡ Some k → ¬ (Leads cmp mark by_mark by_key k n)) → IsNone r ↔ ¬ (k ∈ keys)
+  none_missing keys by_mark by_key k None is found lost =
+      ((λ none m. (let (i, at) = place_of keys k m in lost refl i at (is.led k i at))), (λ other. refl))
+  none_missing keys by_mark by_key k (Some n) is found lost = ((λ none. cc), (λ other. absurd (other (mem-slice_get keys n k found))))
 
-  -- where the map has nothing else for it, a key that gets the next number is new
-  pub new_key : (keys : List K) (numbers : BTreeMap K ℕ) (k : K) (number : ℕ) → IsIndexed cmp keys numbers → number ≡ unwrap_or (get cmp numbers k) number → number ≡ length keys → ¬ (k ∈ keys)
-  new_key keys numbers k number is found last = go (get cmp numbers k) refl
+  -- one more at the end, or the same keys with maps that lead from one more
+  pub put_indexed : {E : Type 0} (r : Result ℕ E) (old new : List K) (by_mark marks : BTreeMap ℕ ℕ) (by_key after : BTreeMap K ℕ) (key : K) →
+      IsIndexed cmp mark old by_mark by_key → ¬ (key ∈ old) → length old + 1 < 2 ^ 32 → OnOk r (new ≡ old ++ key ∷ []) → OnErr r (new ≡ old) →
+      OnOk r (Leads cmp mark marks after key (length old)) → ((k : K) (n : ℕ) → k ≢ key → Leads cmp mark by_mark by_key k n → Leads cmp mark marks after k n) →
+      IsIndexed cmp mark new marks after
+  put_indexed r old new by_mark marks by_key after key is other few = go r
     where
-      go : (o : Option ℕ) → get cmp numbers k ≡ o → ¬ (k ∈ keys)
-      go None e m = let (i, at) = place_of keys k m in let f : None ≡ Some i = sym e ∙ (is.places k i).1 at in cc
-      go (Some n) e m =
-          let within : n < length keys = slice_get_within keys n k ((is.places k n).0 e) in
-          let same : number ≡ n = found ∙ ap (λ o. unwrap_or o number) e in
-          omega (arith, within, same, last)
+      led : ((k : K) (n : ℕ) → k ≢ key → Leads cmp mark by_mark by_key k n → Leads cmp mark marks after k n) → (k : K) (n : ℕ) → slice_get old n ≡ Some k → Leads cmp mark marks after k n
+      led stay k n at = stay k n (λ e. other (subst (λ x. x ∈ old) e (mem-slice_get old n k at))) (is.led k n at)
 
-  -- and one that gets another number has a place
-  pub old_key : (keys : List K) (numbers : BTreeMap K ℕ) (k : K) (number n : ℕ) → IsIndexed cmp keys numbers → n ≡ unwrap_or (get cmp numbers k) number → n ≢ number → k ∈ keys
-  old_key keys numbers k number n is found other = go (get cmp numbers k) refl
-    where
-      go : (o : Option ℕ) → get cmp numbers k ≡ o → k ∈ keys
-      go None e = absurd (other (found ∙ ap (λ o. unwrap_or o number) e))
-      go (Some m) e = mem-slice_get keys m k ((is.places k m).0 e)
-
-  -- one more at the end
-  pub one_more : (total : IsTotalOrder cmp) (same : (one other : K) → cmp one other ≡ Equal → one ≡ other) (keys : List K) (numbers after : BTreeMap K ℕ) (k : K) →
-      IsIndexed cmp keys numbers → ¬ (k ∈ keys) → length keys + 1 < 2 ^ 32 → Updates cmp numbers after k (Some (length keys)) → IsIndexed cmp (keys ++ k ∷ []) after
-  one_more total same keys numbers after k is other few updates = record {
-    distinct = distinct_more keys k is.distinct other;
-    few = omega (arith, length-append keys (k ∷ []), few);
-    places = λ q n. at q n (is_eq (cmp k q)) refl;
-  }
-    where
-      at : (q : K) (n : ℕ) (b : Bool) → is_eq (cmp k q) ≡ b → (get cmp after q ≡ Some n) ↔ (slice_get (keys ++ k ∷ []) n ≡ Some q)
-      at q n true e = (to, back)
+      go : {E : Type 0} (r : Result ℕ E) → OnOk r (new ≡ old ++ key ∷ []) → OnErr r (new ≡ old) → OnOk r (Leads cmp mark marks after key (length old)) →
+          ((k : K) (n : ℕ) → k ≢ key → Leads cmp mark by_mark by_key k n → Leads cmp mark marks after k n) → IsIndexed cmp mark new marks after
+      go (Ok number) grown same leads stay = subst (λ l. IsIndexed cmp mark l marks after) (sym grown) (record {
+        distinct = distinct_more old key is.distinct other;
+        few = omega (arith, length-append old (key ∷ []), few);
+        led = λ k n at. more k n (at_more old key n k at);
+      })
         where
-          is_it : k ≡ q
-          is_it = same k q ((Equal-is (cmp k q)).0 e)
+          more : (k : K) (n : ℕ) → (slice_get old n ≡ Some k) ⊎ ((n ≡ length old) × (key ≡ k)) → Leads cmp mark marks after k n
+          more k n (inl at) = led stay k n at
+          more k n (inr (last, e)) = subst (λ x. Leads cmp mark marks after x n) e (subst (Leads cmp mark marks after key) (sym last) leads)
+      go (Err e) grown same leads stay =
+          subst (λ l. IsIndexed cmp mark l marks after) (sym same) (record { distinct = is.distinct; few = is.few; led = led stay })
 
-          found : get cmp after q ≡ Some (length keys)
-          found = updates.0 q ∙ ap (λ b. cond b (Some (length keys)) (get cmp numbers q)) e
+-- a key that was put in was added
+pub put_added : {K E : Type 0} (r : Result ℕ E) (old new : List K) (key : K) → ¬ (key ∈ old) → OnOk r (new ≡ old ++ key ∷ []) → OnOk r (IsAdded old key new)
+put_added (Ok n) old new key other grown = record { there = λ m. absurd (other m); missing = λ _. grown }
+put_added (Err e) old new key other grown = grown
 
-          to : get cmp after q ≡ Some n → slice_get (keys ++ k ∷ []) n ≡ Some q
-          to f =
-              let g : Some (length keys) ≡ Some n = sym found ∙ f in
-              let last : length keys ≡ n = cc in
-              subst (λ i. slice_get (keys ++ k ∷ []) i ≡ Some q) last (at_end keys k ∙ ap Some is_it)
-
-          go : (slice_get keys n ≡ Some q) ⊎ ((n ≡ length keys) × (k ≡ q)) → get cmp after q ≡ Some n
-          go (inl f) = absurd (other (subst (λ x. x ∈ keys) (sym is_it) (mem-slice_get keys n q f)))
-          go (inr (f, g)) = found ∙ ap Some (sym f)
-
-          back : slice_get (keys ++ k ∷ []) n ≡ Some q → get cmp after q ≡ Some n
-          back f = go (at_more keys k n q f)
-      at q n false e = (to, back)
-        where
-          stays : get cmp after q ≡ get cmp numbers q
-          stays = updates.0 q ∙ ap (λ b. cond b (Some (length keys)) (get cmp numbers q)) e
-
-          differs : k ≢ q
-          differs f = let g : true ≡ false = sym ((Equal-is (cmp k q)).1 (subst (λ x. cmp k x ≡ Equal) f (tied_itself total k))) ∙ e in cc
-
-          to : get cmp after q ≡ Some n → slice_get (keys ++ k ∷ []) n ≡ Some q
-          to f = slice_get_append_left keys (k ∷ []) n q ((is.places q n).0 (sym stays ∙ f))
-
-          go : (slice_get keys n ≡ Some q) ⊎ ((n ≡ length keys) × (k ≡ q)) → get cmp after q ≡ Some n
-          go (inl f) = stays ∙ (is.places q n).1 f
-          go (inr (f, g)) = absurd (differs g)
-
-          back : slice_get (keys ++ k ∷ []) n ≡ Some q → get cmp after q ≡ Some n
-          back f = go (at_more keys k n q f)
+-- its number is its place
+pub put_numbered : {K E : Type 0} (r : Result ℕ E) (old new : List K) (key : K) → OnOk r (new ≡ old ++ key ∷ []) → IfOk r (λ n. n ≡ length old) → IfOk r (λ n. slice_get new n ≡ Some key)
+put_numbered (Ok n) old new key grown last = (λ i. slice_get (grown i) (last i)) ∙ at_end old key
+put_numbered (Err e) old new key grown last = last

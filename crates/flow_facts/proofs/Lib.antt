@@ -1,3 +1,6 @@
 pub mod BitFlags
 pub mod Places
 pub mod Indexing
+pub mod JournalLabels
+pub mod Members
+pub mod Trails

@@ -7,3 +7,7 @@ pub mod Marks
 pub mod Ordered
 pub mod Indexed
 pub mod Text
+pub mod Changes
+pub mod Course
+pub mod Fields
+pub mod Journals

@@ -60,7 +60,7 @@ impl Fact {
         ensures { IfOk result (λ fact. fact ≡ self.now) }
     {
         let relation = self.relation.copy(alloc)?;
-        let mut args = Vec::new(alloc);
+        let mut args = Vec::with_capacity(alloc, self.args.len())?;
         for arg in &self.args {
             args.push(arg.copy(alloc)?)?;
         }
@@ -71,7 +71,7 @@ impl Fact {
         })
     }
 
-    fn mark(&self) -> u64
+    pub(crate) fn mark(&self) -> u64
         ensures { result ≡ atom_mark self.now }
     {
         self.mark

@@ -1,18 +1,23 @@
-//! Names, facts and sets of facts.
+//! Names, facts and sets of facts, and which facts hold as labels are performed.
 #![tactic(auto)]
 
 mod constant;
 mod database;
 mod fact;
+mod journals;
 mod name;
 mod numbered;
 mod table;
 mod text;
+mod update;
+mod world;
 
 pub use constant::Const;
 pub use database::Database;
 pub use fact::Fact;
+pub use journals::law_replaying_is_performing;
 pub use name::Name;
 pub use numbered::{Key, Numbered};
 pub use table::FactTable;
 pub use text::push_fact;
+pub use world::World;

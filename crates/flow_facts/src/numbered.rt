@@ -1,9 +1,10 @@
-ghost use Rattle.std.specs.Prelude.{◌≡◌, ◌∷◌, [], ◌++◌, ◌<◌, ◌≤◌, ◌+◌, ◌^◌, ◌↔◌, length, IfOk, OnOk, OnErr, IsNone, IfSome, slice_get, Some};
+ghost use Rattle.std.specs.Prelude.{◌≡◌, ◌≢◌, ◌∷◌, [], ◌++◌, ◌<◌, ◌≤◌, ◌+◌, ◌^◌, ◌↔◌, ℕ, length, IfOk, OnOk, OnErr, IsNone, IfSome, slice_get, Some};
 ghost use Rattle.std.specs.declared.cmp.Ordering.TheVariants.{Equal};
 ghost use Rattle.std.specs.Option.{unwrap_or};
+ghost use Rattle.std.specs.Ordering.{nat_cmp};
 ghost use Rattle.std.specs.BTreeMap.{get, Updates, IsUnchanged};
 ghost use Rattle.flow_model.specs.Lists.{◌∈◌, AreDistinct};
-ghost use Rattle.flow_facts.specs.Indexed.{IsAdded};
+ghost use Rattle.flow_facts.specs.Indexed.{IsAdded, Leads};
 
 use crate::fact::Fact;
 use crate::name::Name;
@@ -13,6 +14,12 @@ use std::marker::Model;
 
 /// What can be numbered: two keys that compare equal are the same.
 pub trait Key: Ord + Drop {
+    ghost mark: { Self → ℕ };
+
+    /// A number in which most keys differ.
+    fn key_mark(&self) -> u64
+        ensures { result ≡ mark self.now };
+
     /// The same key in memory of its own.
     fn twin(&self, alloc: Global) -> Result<Self, AllocError>
         ensures { IfOk result (λ key. key ≡ self.now) };
@@ -21,7 +28,14 @@ pub trait Key: Ord + Drop {
 }
 
 impl Key for Name {
+    ghost use Rattle.flow_facts.specs.NameMark.{name_mark};
     ghost use Rattle.flow_facts.specs.Ordered.{names_same};
+
+    ghost mark = { name_mark };
+
+    fn key_mark(&self) -> u64 {
+        self.mark()
+    }
 
     fn twin(&self, alloc: Global) -> Result<Name, AllocError> {
         self.copy(alloc)
@@ -31,7 +45,14 @@ impl Key for Name {
 }
 
 impl Key for Fact {
+    ghost use Rattle.flow_facts.specs.Marks.{atom_mark};
     ghost use Rattle.flow_facts.specs.Ordered.{atoms_same};
+
+    ghost mark = { atom_mark };
+
+    fn key_mark(&self) -> u64 {
+        self.mark()
+    }
 
     fn twin(&self, alloc: Global) -> Result<Fact, AllocError> {
         self.copy(alloc)
@@ -40,12 +61,16 @@ impl Key for Fact {
     ghost same = { atoms_same };
 }
 
-/// Keys by their numbers: each has its place in the order in which they were put in. They are found by an ordered
-/// map, so that no choice of keys makes that slow.
+/// Keys by their numbers: each has its place in the order in which they were put in. A key is found by its mark, and
+/// only one whose mark an earlier key has is kept a second time. Both maps are ordered, so no choice of keys makes
+/// that slow.
 #[derive(Drop)]
 pub struct Numbered<K: Key> {
     keys: Vec<K>,
-    numbers: BTreeMap<K, u32>,
+    /// The number of a key of that mark.
+    by_mark: BTreeMap<u64, u32>,
+    /// The numbers of the other keys of that mark.
+    by_key: BTreeMap<K, u32>,
 }
 
 impl<K: Key> Model for Numbered<K> {
@@ -56,20 +81,48 @@ impl<K: Key> Model for Numbered<K> {
 
     ghost view = { λ t. t.keys.items };
 
-    ghost invariant = { λ t. IsIndexed K.cmp t.keys.items t.numbers };
+    ghost invariant = { λ t. IsIndexed K.cmp K.mark t.keys.items t.by_mark t.by_key };
 }
 
-/// What the map has for the key. The number is put in where it has nothing.
-fn find_or_put<K: Key>(
-    numbers: &mut BTreeMap<K, u32>,
-    key: K,
-    number: u32,
-) -> Result<u32, AllocError>
-    ensures found { IfOk result (λ n. n ≡ unwrap_or (get K.cmp numbers.old key) number) }
-    ensures put { IfOk result (λ n. Updates K.cmp numbers.old numbers.new key (Some n)) }
+/// What the map has for the mark. The number is put in where it has nothing.
+fn find_or_put(numbers: &mut BTreeMap<u64, u32>, mark: u64, number: u32) -> Result<u32, AllocError>
+    ensures found { IfOk result (λ n. n ≡ unwrap_or (get nat_cmp numbers.old mark) number) }
+    ensures put { IfOk result (λ n. Updates nat_cmp numbers.old numbers.new mark (Some n)) }
     ensures err { OnErr result (IsUnchanged numbers.old numbers.new) }
 {
-    Ok(*numbers.entry(key)?.or_insert(number))
+    Ok(*numbers.entry(mark)?.or_insert(number))
+}
+
+/// Puts a key at the end, and lets the maps lead from it to its number. From other keys they lead where they did.
+fn put<K: Key>(
+    alloc: Global,
+    keys: &mut Vec<K>,
+    by_mark: &mut BTreeMap<u64, u32>,
+    by_key: &mut BTreeMap<K, u32>,
+    key: &K,
+) -> Result<u32, AllocError>
+    requires { length keys.old.items + 1 < 2 ^ 32 }
+    ensures keys { OnOk result (keys.new.items ≡ keys.old.items ++ key.now ∷ []) }
+    ensures number { IfOk result (λ n. n ≡ length keys.old.items) }
+    ensures leads { OnOk result (Leads K.cmp K.mark by_mark.new by_key.new key.now (length keys.old.items)) }
+    ensures stay { (k : K) (n : ℕ) → k ≢ key.now → Leads K.cmp K.mark by_mark.old by_key.old k n → Leads K.cmp K.mark by_mark.new by_key.new k n }
+    ensures err { OnErr result (keys.new.items ≡ keys.old.items) }
+{
+    let number = keys.len() as u32;
+    if find_or_put(by_mark, key.key_mark(), number)? != number {
+        by_key.insert(key.twin(alloc)?, number)?;
+    }
+    keys.push(key.twin(alloc)?)?;
+    Ok(number)
+}
+
+/// The number, if that is the key's.
+fn if_of<K: Key>(keys: &[K], number: Option<u32>, key: &K) -> Option<u32>
+    ensures found { IfSome result (λ n. slice_get keys.now n ≡ Some key.now) }
+    ensures kept { (n : ℕ) → number ≡ Some n → slice_get keys.now n ≡ Some key.now → result ≡ Some n }
+{
+    let there = keys.get(number? as usize)?;
+    if there == key { number } else { None }
 }
 
 impl<K: Key> Numbered<K> {
@@ -79,7 +132,8 @@ impl<K: Key> Numbered<K> {
     {
         Numbered {
             keys: Vec::new(alloc),
-            numbers: BTreeMap::new(alloc),
+            by_mark: BTreeMap::new(alloc),
+            by_key: BTreeMap::new(alloc),
         }
     }
 
@@ -88,7 +142,11 @@ impl<K: Key> Numbered<K> {
         ensures none { IsNone result ↔ ¬ (key.now ∈ self.now) }
         ensures found { IfSome result (λ n. slice_get self.now n ≡ Some key.now) }
     {
-        self.numbers.get(key).copied()
+        let by_mark = self.by_mark.get(&key.key_mark()).copied();
+        match if_of(&self.keys, by_mark, key) {
+            None => if_of(&self.keys, self.by_key.get(key).copied(), key),
+            found => found,
+        }
     }
 
     /// The number of the key, which is put in where it is new. There is room for as many keys as have numbers.
@@ -99,18 +157,19 @@ impl<K: Key> Numbered<K> {
         ensures few { length self.new ≤ length self.old + 1 }
         ensures err { OnErr result (self.new ≡ self.old) }
     {
-        if self.keys.len() >= u32::MAX as usize {
-            return self.number_of(key).ok_or(AllocError);
-        }
-        let number = self.keys.len() as u32;
-        let twin = key.twin(alloc)?;
-        self.keys.push(key.twin(alloc)?)?;
-        let found = find_or_put(&mut self.numbers, twin, number).ok();
-        if found == Some(number) {
+        if let Some(number) = self.number_of(key) {
             return Ok(number);
         }
-        self.keys.pop();
-        found.ok_or(AllocError)
+        if self.keys.len() >= u32::MAX as usize {
+            return Err(AllocError);
+        }
+        put(
+            alloc,
+            &mut self.keys,
+            &mut self.by_mark,
+            &mut self.by_key,
+            key,
+        )
     }
 
     pub fn count(&self) -> u32

@@ -52,16 +52,11 @@ shape_of = fold-Form Shape shape_step
 -- each list in it has two or more members
 abbrev mutual
   pub IsGrouped : Shape → Type 0
-  IsGrouped nop = Unit {0}
-  IsGrouped (named n) = Unit {0}
-  IsGrouped (test a) = Unit {0}
-  IsGrouped (absent a) = Unit {0}
-  IsGrouped (ins a) = Unit {0}
-  IsGrouped (del a) = Unit {0}
   IsGrouped (iso s) = IsGrouped s
   IsGrouped (serial ss) = (2 ≤ length (members ss)) × AreGrouped ss
   IsGrouped (beside ss) = (2 ≤ length (members ss)) × AreGrouped ss
   IsGrouped (either ss) = (2 ≤ length (members ss)) × AreGrouped ss
+  IsGrouped _ = Unit {0}
 
   pub AreGrouped : Shapes → Type 0
   AreGrouped no_more = Unit {0}

@@ -2,7 +2,7 @@
 use Rattle.std.specs.Prelude.{ℕ, ◌<◌, ◌^◌, List, [], ◌∷◌, ◌++◌, length}
 use Rattle.std.specs.List.{flat_map}
 use Rattle.flow_model.specs.Lists.{◌∈◌, Each, AreDistinct}
-use Rattle.flow_form.specs.Form.{Shape, Shapes, nop, named, test, absent, ins, del, iso, serial, beside, either, no_more, followed, IsGrouped}
+use Rattle.flow_form.specs.Form.{Shape, Shapes, named, iso, serial, beside, either, no_more, followed, IsGrouped}
 use Rattle.flow_form.specs.RuleForm.{RuleShape, RuleShapes, must, never, order, precedes, needs, negated, all, any}
 use Rattle.flow_form.specs.RuleForm as rule
 use Rattle.flow_form.specs.Script.{Declared, fact, event, flow, Said}
@@ -18,9 +18,8 @@ abbrev pub declared_names : List Declared → List (List ℕ)
 declared_names decls = flat_map declared_name decls
 
 abbrev pub event_name : Declared → List (List ℕ)
-event_name (fact a) = []
 event_name (event n note) = n ∷ []
-event_name (flow n s) = []
+event_name _ = []
 
 -- the names of events, in order of declaration: an event's number is its place here
 abbrev pub event_names : List Declared → List (List ℕ)
@@ -29,16 +28,12 @@ event_names decls = flat_map event_name decls
 -- the names of events and sub-workflows in a goal, from left to right
 abbrev mutual
   pub names_in : Shape → List (List ℕ)
-  names_in nop = []
   names_in (named n) = n ∷ []
-  names_in (test a) = []
-  names_in (absent a) = []
-  names_in (ins a) = []
-  names_in (del a) = []
   names_in (iso s) = names_in s
   names_in (serial ss) = names_in_each ss
   names_in (beside ss) = names_in_each ss
   names_in (either ss) = names_in_each ss
+  names_in _ = []
 
   pub names_in_each : Shapes → List (List ℕ)
   names_in_each no_more = []
@@ -62,9 +57,8 @@ abbrev mutual
 
 -- the goal of a sub-workflow
 abbrev pub flow_goal : Declared → List Shape
-flow_goal (fact a) = []
-flow_goal (event n note) = []
 flow_goal (flow n s) = s ∷ []
+flow_goal _ = []
 
 -- the goals that are written: those of sub-workflows in order of declaration, and then the goal
 abbrev pub goals_of : Said → List Shape

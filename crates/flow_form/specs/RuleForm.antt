@@ -46,14 +46,11 @@ rule_shape_of = fold-RuleForm RuleShape rule_step
 -- each list in it has two or more members
 abbrev mutual
   pub IsGroupedRule : RuleShape → Type 0
-  IsGroupedRule (must n) = Unit {0}
-  IsGroupedRule (never n) = Unit {0}
   IsGroupedRule (order ns) = 2 ≤ length ns
-  IsGroupedRule (precedes a b) = Unit {0}
-  IsGroupedRule (needs a b) = Unit {0}
   IsGroupedRule (negated r) = IsGroupedRule r
   IsGroupedRule (all rs) = (2 ≤ length (rule_members rs)) × AreGroupedRules rs
   IsGroupedRule (any rs) = (2 ≤ length (rule_members rs)) × AreGroupedRules rs
+  IsGroupedRule _ = Unit {0}
 
   pub AreGroupedRules : RuleShapes → Type 0
   AreGroupedRules no_more = Unit {0}

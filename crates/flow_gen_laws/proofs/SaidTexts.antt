@@ -11,7 +11,7 @@ use Rattle.flow_form.specs.Form.{Shape, IsGrouped}
 use Rattle.flow_form.specs.RuleForm.{RuleShape, IsGroupedRule}
 use Rattle.flow_form.specs.Script.{event, Said}
 use Rattle.flow_form.specs.Names.{declared_names, event_names, goals_of, names_in, names_in_rule}
-use Rattle.flow_grammar.specs.Machine.{deepest}
+use Rattle.flow_model.specs.declared.limits.TheConstants.{GREATEST_DEPTH}
 use Rattle.flow_grammar.specs.Print.{nesting, rule_nesting, IsWithin}
 use Rattle.flow_grammar.specs.Made.{IsWellMade}
 use Rattle.flow_text.specs.Printable.{IsPrintable, IsPrintableRule}
@@ -94,8 +94,8 @@ is_well_made seed size some few = (
 
 is_within : (seed size : ℕ) → 1 ≤ size → size ≤ 128 → IsWithin (generated seed size)
 is_within seed size some few = (
-  subst (λ (gs : List Shape). Each (λ g. nesting g ≤ deepest) gs) (sym (goals_are seed size)) (omega (arith, (goal_is seed size some few).shallow), tt),
-  each_to (IsRuled (8 * size)) (λ x. rule_nesting x ≤ deepest) (generated seed size).rules (λ r m. m.shallow) (rules_are seed size some few),
+  subst (λ (gs : List Shape). Each (λ g. nesting g ≤ GREATEST_DEPTH) gs) (sym (goals_are seed size)) (omega (arith, (goal_is seed size some few).shallow), tt),
+  each_to (IsRuled (8 * size)) (λ x. rule_nesting x ≤ GREATEST_DEPTH) (generated seed size).rules (λ r m. m.shallow) (rules_are seed size some few),
 )
 
 pub texts_say_it : TextsSayTheirWorkflow

@@ -85,23 +85,27 @@ ComeBefore a b = (m n : ℕ) → m ∈ leaves a → n ∈ leaves b → m < n
 not_in_second : (a b : Process) (x : ℕ) → ComeBefore a b → x ∈ leaves a → ¬ (x ∈ leaves b)
 not_in_second a b x apart m n = let h : x < x = apart x x m n in omega arith
 
+-- what is found in one list of leaves is found in another that has as many for x
+moved : (passes : ℕ → Bool) (l m : List ℕ) (S T : ℕ → Type 0) (x : ℕ) → ((y : ℕ) → S y → T y) → ((y : ℕ) → T y → S y) →
+    (x ∈ l → x ∈ m) → (¬ (x ∈ l) → ¬ (x ∈ m)) → (p : Partner) → IsPartner passes l S x p → IsPartner passes m T x p
+moved passes l m S T x to back into out Outside fails = out fails
+moved passes l m S T x to back into out Alone (i, none) = (into i, λ y t. none y (back y t))
+moved passes l m S T x to back into out (With y) (i, t, passed, least) = (into i, to y t, passed, λ z u. least z (back z u))
+
+not_in_either : (a b : Process) (x : ℕ) → ¬ (x ∈ leaves a) → ¬ (x ∈ leaves b) → ¬ (x ∈ leaves (Sequence a b))
+not_in_either a b x fails none m = elim (mem-append x (leaves a) (leaves b) m) [ inl i ↦ fails i | inr i ↦ none i ]
+
 both_is : (passes : ℕ → Bool) (a b : Process) (x : ℕ) (one two : Partner) (found : Option ℕ) → ComeBefore a b →
     IsPartner passes (leaves a) (AreTogether a x) x one → IsPartner passes (leaves b) (AreTogether b x) x two → IsFound passes (leaves b) found →
     IsPartner passes (leaves (Sequence a b)) (AreTogether (Sequence a b) x) x (partner_in_both one two found)
-both_is passes a b x Outside Outside found apart fails none f =
-    λ m. elim (mem-append x (leaves a) (leaves b) m) [ inl i ↦ fails i | inr i ↦ none i ]
-both_is passes a b x Outside Alone found apart fails (m, none) f = (mem_append_right x (leaves a) (leaves b) m, alone)
+both_is passes a b x Outside two found apart fails q f =
+    moved passes (leaves b) (leaves (Sequence a b)) (AreTogether b x) (AreTogether (Sequence a b) x) x (λ y t. inr t) back
+    (mem_append_right x (leaves a) (leaves b)) (not_in_either a b x fails) two q
   where
-    alone : (y : ℕ) → AreTogether (Sequence a b) x y → passes y ≡ false
-    alone y (inl (inl h)) = absurd (fails h.0)
-    alone y (inl (inr h)) = absurd (fails (together_first a x y h))
-    alone y (inr h) = none y h
-both_is passes a b x Outside (With y) found apart fails (m, t, passed, least) f = (mem_append_right x (leaves a) (leaves b) m, inr t, passed, least_of_all)
-  where
-    least_of_all : (z : ℕ) → AreTogether (Sequence a b) x z → passes z ≡ true → y ≤ z
-    least_of_all z (inl (inl h)) p = absurd (fails h.0)
-    least_of_all z (inl (inr h)) p = absurd (fails (together_first a x z h))
-    least_of_all z (inr h) p = least z h p
+    back : (y : ℕ) → AreTogether (Sequence a b) x y → AreTogether b x y
+    back y (inl (inl h)) = absurd (fails h.0)
+    back y (inl (inr h)) = absurd (fails (together_first a x y h))
+    back y (inr h) = h
 both_is passes a b x Alone two None apart (m, none) q f = (mem_append_left x (leaves a) (leaves b) m, alone)
   where
     alone : (y : ℕ) → AreTogether (Sequence a b) x y → passes y ≡ false
@@ -122,31 +126,28 @@ both_is passes a b x (With y) two found apart (m, t, passed, least) q f = (mem_a
     least_of_all z (inl (inr h)) p = least z h p
     least_of_all z (inr h) p = absurd (not_in_second a b x apart m (together_first b x z h))
 
+in_first : (passes : ℕ → Bool) (a b : Process) (x : ℕ) (one : Partner) → ComeBefore a b → x ∈ leaves a →
+    IsPartner passes (leaves a) (AreTogether a x) x one → IsPartner passes (leaves (Choice a b)) (AreTogether (Choice a b) x) x one
+in_first passes a b x one apart m p =
+    moved passes (leaves a) (leaves (Choice a b)) (AreTogether a x) (AreTogether (Choice a b) x) x (λ y t. inl t) back
+    (mem_append_left x (leaves a) (leaves b)) (λ out. absurd (out m)) one p
+  where
+    back : (y : ℕ) → AreTogether (Choice a b) x y → AreTogether a x y
+    back y (inl h) = h
+    back y (inr h) = absurd (not_in_second a b x apart m (together_first b x y h))
+
 either_is : (passes : ℕ → Bool) (a b : Process) (x : ℕ) (one two : Partner) → ComeBefore a b →
     IsPartner passes (leaves a) (AreTogether a x) x one → IsPartner passes (leaves b) (AreTogether b x) x two →
     IsPartner passes (leaves (Choice a b)) (AreTogether (Choice a b) x) x (partner_in_choice one two)
-either_is passes a b x Outside Outside apart fails none =
-    λ m. elim (mem-append x (leaves a) (leaves b) m) [ inl i ↦ fails i | inr i ↦ none i ]
-either_is passes a b x Outside Alone apart fails (m, none) = (mem_append_right x (leaves a) (leaves b) m, alone)
+either_is passes a b x Outside two apart fails q =
+    moved passes (leaves b) (leaves (Choice a b)) (AreTogether b x) (AreTogether (Choice a b) x) x (λ y t. inr t) back
+    (mem_append_right x (leaves a) (leaves b)) (not_in_either a b x fails) two q
   where
-    alone : (y : ℕ) → AreTogether (Choice a b) x y → passes y ≡ false
-    alone y (inl h) = absurd (fails (together_first a x y h))
-    alone y (inr h) = none y h
-either_is passes a b x Outside (With y) apart fails (m, t, passed, least) = (mem_append_right x (leaves a) (leaves b) m, inr t, passed, least_of_all)
-  where
-    least_of_all : (z : ℕ) → AreTogether (Choice a b) x z → passes z ≡ true → y ≤ z
-    least_of_all z (inl h) p = absurd (fails (together_first a x z h))
-    least_of_all z (inr h) p = least z h p
-either_is passes a b x Alone two apart (m, none) q = (mem_append_left x (leaves a) (leaves b) m, alone)
-  where
-    alone : (y : ℕ) → AreTogether (Choice a b) x y → passes y ≡ false
-    alone y (inl h) = none y h
-    alone y (inr h) = absurd (not_in_second a b x apart m (together_first b x y h))
-either_is passes a b x (With y) two apart (m, t, passed, least) q = (mem_append_left x (leaves a) (leaves b) m, inl t, passed, least_of_all)
-  where
-    least_of_all : (z : ℕ) → AreTogether (Choice a b) x z → passes z ≡ true → y ≤ z
-    least_of_all z (inl h) p = least z h p
-    least_of_all z (inr h) p = absurd (not_in_second a b x apart m (together_first b x z h))
+    back : (y : ℕ) → AreTogether (Choice a b) x y → AreTogether b x y
+    back y (inl h) = absurd (fails (together_first a x y h))
+    back y (inr h) = h
+either_is passes a b x Alone two apart p q = in_first passes a b x Alone apart p.0 p
+either_is passes a b x (With y) two apart p q = in_first passes a b x (With y) apart p.0 p
 
 task_is : (passes : ℕ → Bool) (n x : ℕ) (b : Bool) → nat_eq n x ≡ b → IsPartner passes (n ∷ []) (AreTogether (Task n) x) x (cond b Alone Outside)
 task_is passes n x true e = (inl (sym (eqb-true n x e)), λ y t. absurd t)

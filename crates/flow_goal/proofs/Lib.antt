@@ -1,9 +1,10 @@
 pub mod Numbers
 pub mod Counting
+pub mod EachLists
 pub mod Rising
 pub mod Simpler
-pub mod Skeletons
 pub mod FirstPartner
 pub mod Repetitions
 pub mod Writing
+pub mod PatternLemmas
 pub mod WrittenLemmas

@@ -6,9 +6,8 @@ use Rattle.std.proofs.lemmas.Option.{same_Some}
 use Rattle.flow_model.specs.Resolution.{resolutions, resolution_count}
 use Rattle.flow_laws.proofs.ResolutionsLemmas.{length-resolutions}
 use Rattle.flow_model.specs.Trace.{Blocks, Shuffle, both_end, from_left, from_right, as_one}
-use Rattle.flow_goal.specs.declared.shape.Shape.TheVariants.{Simple}
+use Rattle.flow_goal.specs.declared.shape.Shape.TheVariants.{Simple, Whole}
 use Rattle.flow_goal.specs.Shapes.{is_empty, isolated, shaped}
-use Rattle.flow_goal.specs.Sides.{sides_in}
 use Rattle.flow_goal.specs.Simple.{IsBusy, IsSimple, IsSimplified}
 
 abbrev SameBlocks : Process → Process → Type 0
@@ -86,11 +85,7 @@ isolated_again a blocks = (
 
 pub when_empty : (g : Process) → is_empty g ≡ true → g ≡ Empty
 when_empty Empty e = refl
-when_empty (Task n) e = cc
-when_empty (Sequence a b) e = cc
-when_empty (Parallel a b) e = cc
-when_empty (Choice a b) e = cc
-when_empty (Isolated a) e = cc
+when_empty g e = cc
 
 when_busy : (g : Process) → IsSimple g → is_empty g ≡ false → IsBusy g
 when_busy g (inl e) f = let h : true ≡ false = sym (ap is_empty e) ∙ f in cc
@@ -154,38 +149,23 @@ simplified_both f keeps a b x y p q false false e g = record {
 
 -- A part alone
 
+isolated_as : (a x y : Process) → SameBlocks y (Isolated x) → IsSimple y → leaves y ≡ leaves x → IsSimplified a x → IsChoiceFree y → IsSimplified (Isolated a) y
+isolated_as a x y same simple listed p free = record {
+  same = then y (Isolated x) (Isolated a) same (same_isolated a x p.same);
+  simple = simple;
+  leaves_kept = listed ∙ p.leaves_kept;
+  choice_free = free;
+}
+
 simplified_isolated : (a x : Process) → IsSimplified a x → IsSimplified (Isolated a) (isolated Simple x)
-simplified_isolated a Empty p = record {
-  same = then Empty (Isolated Empty) (Isolated a) isolated_nothing (same_isolated a Empty p.same);
-  simple = p.simple;
-  leaves_kept = p.leaves_kept;
-  choice_free = p.choice_free;
-}
-simplified_isolated a (Task n) p = record {
-  same = then (Task n) (Isolated (Task n)) (Isolated a) (isolated_leaf n) (same_isolated a (Task n) p.same);
-  simple = p.simple;
-  leaves_kept = p.leaves_kept;
-  choice_free = p.choice_free;
-}
-simplified_isolated a (Sequence x y) p = record {
-  same = same_isolated a (Sequence x y) p.same;
-  simple = inr (tt, when_busy (Sequence x y) p.simple refl);
-  leaves_kept = p.leaves_kept;
-  choice_free = p.choice_free;
-}
-simplified_isolated a (Parallel x y) p = record {
-  same = same_isolated a (Parallel x y) p.same;
-  simple = inr (tt, when_busy (Parallel x y) p.simple refl);
-  leaves_kept = p.leaves_kept;
-  choice_free = p.choice_free;
-}
+simplified_isolated a Empty p = isolated_as a Empty Empty isolated_nothing p.simple refl p tt
+simplified_isolated a (Task n) p = isolated_as a (Task n) (Task n) (isolated_leaf n) p.simple refl p tt
+simplified_isolated a (Sequence x y) p =
+    isolated_as a (Sequence x y) (Isolated (Sequence x y)) (λ blocks. ((λ h. h), (λ h. h))) (inr (tt, when_busy (Sequence x y) p.simple refl)) refl p p.choice_free
+simplified_isolated a (Parallel x y) p =
+    isolated_as a (Parallel x y) (Isolated (Parallel x y)) (λ blocks. ((λ h. h), (λ h. h))) (inr (tt, when_busy (Parallel x y) p.simple refl)) refl p p.choice_free
 simplified_isolated a (Choice x y) p = absurd p.choice_free
-simplified_isolated a (Isolated x) p = record {
-  same = then (Isolated x) (Isolated (Isolated x)) (Isolated a) (isolated_again x) (same_isolated a (Isolated x) p.same);
-  simple = p.simple;
-  leaves_kept = p.leaves_kept;
-  choice_free = p.choice_free;
-}
+simplified_isolated a (Isolated x) p = isolated_as a (Isolated x) (Isolated x) (isolated_again x) p.simple refl p p.choice_free
 
 -- The whole
 
@@ -202,7 +182,7 @@ simplified (Isolated a) free = simplified_isolated a (shaped Simple a) (simplifi
 pub simplified_as : {g old new : Process} → old ≡ g → IsChoiceFree g → new ≡ shaped Simple old → IsSimplified g new
 simplified_as {g} e free is = subst (IsSimplified g) (sym (is ∙ ap (shaped Simple) e)) (simplified g free)
 
--- A goal without choices has one resolution, which is the goal, and so no sides
+-- A goal without choices has one resolution, which is the goal
 
 pub only_resolution : (g : Process) → IsChoiceFree g → resolutions g ≡ g ∷ []
 only_resolution Empty free = refl
@@ -212,16 +192,17 @@ only_resolution (Parallel a b) free = λ i. each_with_each Parallel (only_resolu
 only_resolution (Choice a b) free = absurd free
 only_resolution (Isolated a) free = ap (map Isolated) (only_resolution a free)
 
-pub no_sides : (g : Process) → IsChoiceFree g → sides_in g ≡ []
-no_sides Empty free = refl
-no_sides (Task n) free = refl
-no_sides (Sequence a b) free = λ i. no_sides a free.0 i ++ no_sides b free.1 i
-no_sides (Parallel a b) free = λ i. no_sides a free.0 i ++ no_sides b free.1 i
-no_sides (Choice a b) free = absurd free
-no_sides (Isolated a) free = no_sides a free
-
 pub only_count : (g : Process) → IsChoiceFree g → resolution_count g ≡ 1
 only_count g free = sym (length-resolutions g) ∙ ap length (only_resolution g free)
 
 pub only_at : (g q : Process) → IsChoiceFree g → slice_get (resolutions g) 0 ≡ Some q → g ≡ q
 only_at g q free at = same_Some g q (sym (ap (λ l. slice_get l 0) (only_resolution g free)) ∙ at)
+
+-- a goal that is built anew as it is
+pub whole_is_same : (g : Process) → shaped Whole g ≡ g
+whole_is_same Empty = refl
+whole_is_same (Task n) = refl
+whole_is_same (Sequence a b) = λ i. Sequence (whole_is_same a i) (whole_is_same b i)
+whole_is_same (Parallel a b) = λ i. Parallel (whole_is_same a i) (whole_is_same b i)
+whole_is_same (Choice a b) = λ i. Choice (whole_is_same a i) (whole_is_same b i)
+whole_is_same (Isolated a) = ap Isolated (whole_is_same a)

@@ -1,12 +1,9 @@
--- The choices of a goal, counted.
+-- The resolutions of a goal, prepared.
 use Rattle.std.specs.Prelude.{◌≡◌}
 use Rattle.flow_model.specs.Process.{Process}
 use Rattle.flow_goal.specs.declared.choices.Choices.{Choices}
-use Rattle.flow_goal.specs.Goal.{process_of}
-use Rattle.flow_goal.specs.declared.shape.Shape.TheVariants.{Bare}
-use Rattle.flow_goal.specs.Shapes.{shaped}
-use Rattle.flow_goal.specs.Sides.{sides_in}
+use Rattle.flow_goal.specs.Patterns.{IsCounted, lines_in, lines_of}
 
 pub record AreChoicesOf (g : Process) (choices : Choices) : Type 0 where
-  pub counted : choices.sides.items ≡ sides_in g
-  pub bared : process_of choices.skeleton ≡ shaped Bare g
+  pub counted : IsCounted choices.pattern
+  pub listed : lines_of choices.pattern ≡ lines_in g

@@ -1,12 +1,12 @@
-pub mod Backwards
+pub mod Capped
 pub mod Choices
 pub mod Goal
 pub mod Labelled
 pub mod Numbering
 pub mod Resolved
-pub mod Sides
 pub mod Simple
 pub mod Shapes
 pub mod Partners
+pub mod Patterns
 pub mod Repeated
 pub mod Written

@@ -4,45 +4,29 @@ use Rattle.flow_model.specs.Process.{Process, Empty, Task, Sequence, Parallel, C
 use Rattle.flow_goal.specs.declared.goal.Operator.{Operator}
 use Rattle.flow_goal.specs.declared.goal.Operator.TheVariants.{Serial, Beside, Either}
 use Rattle.flow_goal.specs.declared.shape.Shape.{Shape}
-use Rattle.flow_goal.specs.declared.shape.Shape.TheVariants.{Whole, Simple, Bare}
+use Rattle.flow_goal.specs.declared.shape.Shape.TheVariants.{Whole, Simple}
 use Rattle.flow_goal.specs.Goal.{together}
 
 -- it is nothing
 abbrev pub is_empty : Process → Bool
 is_empty Empty = true
-is_empty (Task n) = false
-is_empty (Sequence a b) = false
-is_empty (Parallel a b) = false
-is_empty (Choice a b) = false
-is_empty (Isolated a) = false
+is_empty g = false
 
 -- its isolation would say something
 abbrev pub is_several : Process → Bool
-is_several Empty = false
-is_several (Task n) = false
 is_several (Sequence a b) = true
 is_several (Parallel a b) = true
 is_several (Choice a b) = true
-is_several (Isolated a) = false
+is_several g = false
 
 -- one of two goals may be left out where it is nothing
 abbrev pub may_leave_out : Shape → Operator → Bool
-may_leave_out Whole operator = false
 may_leave_out Simple Serial = true
 may_leave_out Simple Beside = true
-may_leave_out Simple Either = false
-may_leave_out Bare Serial = true
-may_leave_out Bare Beside = true
-may_leave_out Bare Either = false
+may_leave_out shape operator = false
 
 abbrev pub leaves_out : Shape → Operator → Process → Bool
 leaves_out shape operator a = may_leave_out shape operator && is_empty a
-
--- leaves alone are in turn
-abbrev pub beside : Shape → Operator
-beside Whole = Beside
-beside Simple = Beside
-beside Bare = Serial
 
 -- both goals, or the other one where one is left out
 abbrev pub joined : Shape → Operator → Process → Process → Process
@@ -53,12 +37,11 @@ joined shape operator a b =
 abbrev pub isolated : Shape → Process → Process
 isolated Whole a = Isolated a
 isolated Simple a = if is_several a then Isolated a else a
-isolated Bare a = a
 
 abbrev pub shaped : Shape → Process → Process
 shaped shape Empty = Empty
 shaped shape (Task n) = Task n
 shaped shape (Sequence a b) = joined shape Serial (shaped shape a) (shaped shape b)
-shaped shape (Parallel a b) = joined shape (beside shape) (shaped shape a) (shaped shape b)
+shaped shape (Parallel a b) = joined shape Beside (shaped shape a) (shaped shape b)
 shaped shape (Choice a b) = joined shape Either (shaped shape a) (shaped shape b)
 shaped shape (Isolated a) = isolated shape (shaped shape a)

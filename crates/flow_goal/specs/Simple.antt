@@ -5,12 +5,10 @@ use Rattle.flow_model.specs.Trace.{Blocks}
 
 -- it is neither nothing nor a leaf, and not isolated itself
 abbrev pub IsSeveral : Process → Type 0
-IsSeveral Empty = ⊥
-IsSeveral (Task n) = ⊥
 IsSeveral (Sequence a b) = Unit {0}
 IsSeveral (Parallel a b) = Unit {0}
 IsSeveral (Choice a b) = Unit {0}
-IsSeveral (Isolated a) = ⊥
+IsSeveral g = ⊥
 
 -- there is no nothing in it, and each isolation is of several
 abbrev pub IsBusy : Process → Type 0

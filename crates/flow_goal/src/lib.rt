@@ -1,18 +1,19 @@
 //! Goals with labelled leaves.
 #![tactic(auto)]
 
-mod backwards;
 mod choiceless;
 mod choices;
+mod draft;
 mod events;
 mod goal;
 mod node;
 mod partners;
+mod pattern;
 mod reading;
 mod repeats;
 mod shape;
-mod sides;
 mod simple;
+mod text;
 mod tree;
 
 pub use choiceless::Choiceless;

@@ -12,8 +12,6 @@ pub(crate) enum Shape {
     Whole,
     /// With no `Nop` below another goal but on the sides of choices, and no isolation of a leaf or of an isolation.
     Simple,
-    /// The leaves and the choices alone: the resolutions have the same leaves as those of the goal.
-    Bare,
 }
 
 /// Whether the isolation of the goal says something.
@@ -33,22 +31,12 @@ impl Shape {
     {
         let may = match self {
             Shape::Whole => false,
-            Shape::Simple | Shape::Bare => match operator {
+            Shape::Simple => match operator {
                 Operator::Serial | Operator::Beside => true,
                 Operator::Either => false,
             },
         };
         may && matches!(goal, Goal::Nop)
-    }
-
-    /// What joins two goals that are beside one another.
-    fn beside(self) -> Operator
-        ensures { result ≡ Shapes.beside self }
-    {
-        match self {
-            Shape::Whole | Shape::Simple => Operator::Beside,
-            Shape::Bare => Operator::Serial,
-        }
     }
 
     /// Two goals of the shape as one.
@@ -79,7 +67,6 @@ impl Shape {
         let stays = match self {
             Shape::Whole => true,
             Shape::Simple => is_several(&body),
-            Shape::Bare => false,
         };
         if stays {
             Ok(Goal::Iso(Box::new(alloc, body)?))
@@ -120,7 +107,7 @@ pub(crate) fn shaped(alloc: Global, shape: Shape, goal: &Goal) -> Result<Goal, A
         Goal::Nop => Ok(Goal::Nop),
         Goal::Leaf(n) => Ok(Goal::Leaf(*n)),
         Goal::Serial(left, right) => shaped_both(alloc, shape, Operator::Serial, left, right),
-        Goal::Beside(left, right) => shaped_both(alloc, shape, shape.beside(), left, right),
+        Goal::Beside(left, right) => shaped_both(alloc, shape, Operator::Beside, left, right),
         Goal::Either(left, right) => shaped_both(alloc, shape, Operator::Either, left, right),
         Goal::Iso(part) => shape.isolated(alloc, shaped(alloc, shape, part)?),
     }

@@ -3,7 +3,8 @@ ghost use Rattle.flow_model.specs.Trace.{Trace};
 ghost use Rattle.flow_goal.specs.Simple.{IsSimple, IsSimplified};
 
 use crate::choiceless::Choiceless;
-use crate::choices::resolved;
+use crate::choices::written;
+use crate::draft::pattern_of;
 use crate::shape::{Shape, shaped};
 use std::alloc::{AllocError, Global};
 
@@ -30,7 +31,11 @@ fn simplified(alloc: Global, goal: &Choiceless) -> Result<Choiceless, AllocError
     let tree = shaped(alloc, Shape::Simple, &whole);
     drop(whole);
     let tree = tree?;
-    let new = resolved(alloc, &[], &tree, 0, 0);
+    let pattern = pattern_of(alloc, &tree);
     drop(tree);
-    new
+    let pattern = pattern?;
+    let text = written(alloc, &pattern, 0, 0);
+    drop(pattern);
+    let text = text?;
+    Ok(Choiceless::new(text.nodes, text.leaves))
 }

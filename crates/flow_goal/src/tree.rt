@@ -88,7 +88,7 @@ impl Tree {
     }
 
     /// The same tree in memory of its own.
-    #[tactic(auto, using(crate::proofs::Skeletons::whole_is_same))]
+    #[tactic(auto, using(crate::proofs::Simpler::whole_is_same))]
     pub fn copy(&self, alloc: Global) -> Result<Tree, AllocError>
         ensures { IfOk result (λ tree. tree ≡ self.now) }
     {

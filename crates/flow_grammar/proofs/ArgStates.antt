@@ -29,23 +29,14 @@ arg_forth d (after_constant n args) w K ([], r, e, h) =
 arg_forth d (after_constant n args) w K (c ∷ cs, r, e, h) =
     subst (λ y. ArgFront d (after_constant n args) y K) e (λ k. refl, (c, cs, r, refl, h))
 
-needed_back : (n : List ℕ) (args : List Const) (t : Symbol) (d : ℕ) (w : List Placed) (K : Follow Atom) →
-    StepNext (ArgRest d) (step_arg (constant_needed n args) t) w K → ArgRest d (constant_needed n args) (at d t ∷ w) K
-needed_back n args (a_name m) d w K (cs, r, e, h) =
-    (Word m, cs, r, ap (λ y. at d (a_name m) ∷ y) e, subst (λ y. K (atom n y) r) (append_assoc args (Word m ∷ []) cs) h)
-needed_back n args (a_number m) d w K (cs, r, e, h) =
-    (Number m, cs, r, ap (λ y. at d (a_number m) ∷ y) e, subst (λ y. K (atom n y) r) (append_assoc args (Number m ∷ []) cs) h)
-needed_back n args _ d w K h = absurd h
-
-after_back : (n : List ℕ) (args : List Const) (t : Symbol) (d : ℕ) (w : List Placed) (K : Follow Atom) →
-    StepNext (ArgRest d) (step_arg (after_constant n args) t) w K → ArgRest d (after_constant n args) (at d t ∷ w) K
-after_back n args comma d w K (c, cs, r, e, h) = (c ∷ cs, r, ap (λ y. at d comma ∷ y) e, h)
-after_back n args closing d w K h = ([], w, refl, subst (λ y. K (atom n y) w) (sym (append-nil args)) h)
-after_back n args _ d w K h = absurd h
-
 pub arg_back : (d : ℕ) (a : ArgState) (t : Symbol) (w : List Placed) (K : Follow Atom) → StepNext (ArgRest d) (step_arg a t) w K → ArgRest d a (at d t ∷ w) K
-arg_back d (constant_needed n args) t w K h = needed_back n args t d w K h
-arg_back d (after_constant n args) t w K h = after_back n args t d w K h
+arg_back d (constant_needed n args) (a_name m) w K (cs, r, e, h) =
+    (Word m, cs, r, ap (λ y. at d (a_name m) ∷ y) e, subst (λ y. K (atom n y) r) (append_assoc args (Word m ∷ []) cs) h)
+arg_back d (constant_needed n args) (a_number m) w K (cs, r, e, h) =
+    (Number m, cs, r, ap (λ y. at d (a_number m) ∷ y) e, subst (λ y. K (atom n y) r) (append_assoc args (Number m ∷ []) cs) h)
+arg_back d (after_constant n args) comma w K (c, cs, r, e, h) = (c ∷ cs, r, ap (λ y. at d comma ∷ y) e, h)
+arg_back d (after_constant n args) closing w K h = ([], w, refl, subst (λ y. K (atom n y) w) (sym (append-nil args)) h)
+arg_back d _ _ w K h = absurd h
 
 pub arg_completes : {X : Type 0} (d : ℕ) (a : ArgState) (K : X → Follow Atom) → ((f : Atom) → (w : List Placed) × (x : X) × K x f w) →
     (w : List Placed) × (x : X) × ArgRest d a w (K x)

@@ -2,11 +2,11 @@
 use Rattle.std.proofs.Common.{rules as std_rules, ℕ, zero, suc, ◌+◌, ◌<◌, ◌≤◌, Bool, true, false, List, [], ◌∷◌, arith}
 use Rattle.flow_model.specs.Lists.{Each}
 use Rattle.flow_facts.specs.declared.constant.Const.{Const}
-use Rattle.flow_form.specs.Form.{Shape, serial, beside, either, shapes}
-use Rattle.flow_form.specs.RuleForm.{RuleShape, all, any, rule_shapes}
+use Rattle.flow_form.specs.Form.{Shape, shapes}
+use Rattle.flow_form.specs.RuleForm.{RuleShape, rule_shapes}
 use Rattle.flow_grammar.specs.Symbol.{Placed, at, closing}
 use Rattle.flow_grammar.specs.Grammar.{FactText, bare, applied, spell_constants, spell_fact, mean_fact, Prefix, prefixed, must_come, never_come, preceding, needing, spell_names, Kind, goals, rules, Meaning, top, list, Text, joined, group_text, nop_text, name_text, fact_text, iso_text, not_text, single_text, order_text, pair_text, More, no_more_text, then_text, spell, spell_more, mean, mean_more}
-use Rattle.flow_grammar.specs.Machine.{deepest}
+use Rattle.flow_model.specs.declared.limits.TheConstants.{GREATEST_DEPTH}
 use Rattle.flow_grammar.specs.Texts.{IsShallow}
 use Rattle.flow_grammar.specs.Print.{in_serial, in_beside, in_either, in_all, in_any, nest, arguments_nesting, nesting, nesting_list, rule_nesting, rules_nesting}
 use Rattle.flow_grammar.proofs.MadeTexts.{gathered}
@@ -26,40 +26,35 @@ depth rules x = rule_nesting x
 
 -- a member at that level, inside d others
 abbrev Holds : (k : Kind) → ℕ → ℕ → Meaning k → Type 0
-Holds k n d m = d + nest (parted k n m) (depth k m) ≤ deepest
+Holds k n d m = d + nest (parted k n m) (depth k m) ≤ GREATEST_DEPTH
+
+one_less : (d n most : ℕ) → d + suc n ≤ most → d + n ≤ most
+one_less d n most h = omega arith
 
 looser : (k : Kind) (n d : ℕ) (m : Meaning k) → Holds k n d m → Holds k (suc n) d m
-looser goals zero d (serial ss) h = omega arith
-looser goals zero d _ h = h
-looser goals (suc zero) d (beside ss) h = omega arith
-looser goals (suc zero) d _ h = h
-looser goals (suc (suc zero)) d (either ss) h = omega arith
-looser goals (suc (suc zero)) d _ h = h
-looser goals (suc (suc (suc n))) d s h = h
-looser rules zero d (all xs) h = omega arith
-looser rules zero d _ h = h
-looser rules (suc zero) d (any xs) h = omega arith
-looser rules (suc zero) d _ h = h
-looser rules (suc (suc n)) d x h = h
+looser goals zero d s h = search (std_rules, one_less)
+looser goals (suc zero) d s h = search (std_rules, one_less)
+looser goals (suc (suc n)) d s h = search (std_rules, one_less)
+looser rules zero d x h = search (std_rules, one_less)
+looser rules (suc n) d x h = search (std_rules, one_less)
 
-goals_within : (part : Shape → Bool) (d : ℕ) (ss : List Shape) → d ≤ deepest → Each (λ s. d + nest (part s) (nesting s) ≤ deepest) ss → d + nesting_list part (shapes ss) ≤ deepest
+goals_within : (part : Shape → Bool) (d : ℕ) (ss : List Shape) → d ≤ GREATEST_DEPTH → Each (λ s. d + nest (part s) (nesting s) ≤ GREATEST_DEPTH) ss → d + nesting_list part (shapes ss) ≤ GREATEST_DEPTH
 goals_within part d [] l h = omega arith
 goals_within part d (s ∷ ss) l (h, more) = let k = goals_within part d ss l more in omega arith
 
-rules_within : (part : RuleShape → Bool) (d : ℕ) (xs : List RuleShape) → d ≤ deepest → Each (λ x. d + nest (part x) (rule_nesting x) ≤ deepest) xs →
-    d + rules_nesting part (rule_shapes xs) ≤ deepest
+rules_within : (part : RuleShape → Bool) (d : ℕ) (xs : List RuleShape) → d ≤ GREATEST_DEPTH → Each (λ x. d + nest (part x) (rule_nesting x) ≤ GREATEST_DEPTH) xs →
+    d + rules_nesting part (rule_shapes xs) ≤ GREATEST_DEPTH
 rules_within part d [] l h = omega arith
 rules_within part d (x ∷ xs) l (h, more) = let k = rules_within part d xs l more in omega arith
 
-list_within : (k : Kind) (n d : ℕ) → suc n ≤ top k → d ≤ deepest → (m m' : Meaning k) (ms : List (Meaning k)) → Each (Holds k n d) (m ∷ m' ∷ ms) →
+list_within : (k : Kind) (n d : ℕ) → suc n ≤ top k → d ≤ GREATEST_DEPTH → (m m' : Meaning k) (ms : List (Meaning k)) → Each (Holds k n d) (m ∷ m' ∷ ms) →
     Holds k (suc n) d (list k n (m ∷ m' ∷ ms))
 list_within goals zero d b l m m' ms h = goals_within in_serial d (m ∷ m' ∷ ms) l h
 list_within goals (suc zero) d b l m m' ms h = goals_within in_beside d (m ∷ m' ∷ ms) l h
 list_within goals (suc (suc zero)) d b l m m' ms h = goals_within in_either d (m ∷ m' ∷ ms) l h
-list_within goals (suc (suc (suc n))) d b l m m' ms h = absurd (omega arith)
 list_within rules zero d b l m m' ms h = rules_within in_all d (m ∷ m' ∷ ms) l h
 list_within rules (suc zero) d b l m m' ms h = rules_within in_any d (m ∷ m' ∷ ms) l h
-list_within rules (suc (suc n)) d b l m m' ms h = absurd (omega arith)
+list_within _ _ d b l m m' ms h = absurd (omega arith)
 
 nest_few : (b : Bool) (n : ℕ) → nest b n ≤ suc n
 nest_few true n = omega arith
@@ -73,14 +68,14 @@ after_constants : (d : ℕ) (cs : List Const) (r : List Placed) → IsShallow (s
 after_constants d [] r h = h
 after_constants d (c ∷ cs) r (h, (k, more)) = after_constants d cs r more
 
-pub after_fact : (d : ℕ) (f : FactText) (r : List Placed) → d ≤ deepest → IsShallow (spell_fact d f r) →
-    (d + arguments_nesting (mean_fact f).args ≤ deepest) × IsShallow r
+pub after_fact : (d : ℕ) (f : FactText) (r : List Placed) → d ≤ GREATEST_DEPTH → IsShallow (spell_fact d f r) →
+    (d + arguments_nesting (mean_fact f).args ≤ GREATEST_DEPTH) × IsShallow r
 after_fact d (bare n) r l (h, more) = (omega arith, more)
 after_fact d (applied n c cs) r l (h, (k, (j, more))) =
-    let below : d < deepest = k tt in
+    let below : d < GREATEST_DEPTH = k tt in
     (omega arith, (after_constants (suc d) cs (at (suc d) closing ∷ r) more).1)
 
-fact_within : (d : ℕ) (p : Prefix) (f : FactText) → d + arguments_nesting (mean_fact f).args ≤ deepest → Holds goals 0 d (prefixed p (mean_fact f))
+fact_within : (d : ℕ) (p : Prefix) (f : FactText) → d + arguments_nesting (mean_fact f).args ≤ GREATEST_DEPTH → Holds goals 0 d (prefixed p (mean_fact f))
 fact_within d p f h = search std_rules
 
 after_names : (d : ℕ) (ns : List (List ℕ)) (r : List Placed) → IsShallow (spell_names d ns r) → IsShallow r
@@ -88,24 +83,24 @@ after_names d [] r h = h
 after_names d (n ∷ ns) r (h, more) = after_names d ns r more
 
 mutual
-  pub within : {k : Kind} {n : ℕ} (t : Text k n) (d : ℕ) (r : List Placed) → n ≤ top k → d ≤ deepest → IsShallow (spell d t r) → Holds k n d (mean t) × IsShallow r
+  pub within : {k : Kind} {n : ℕ} (t : Text k n) (d : ℕ) (r : List Placed) → n ≤ top k → d ≤ GREATEST_DEPTH → IsShallow (spell d t r) → Holds k n d (mean t) × IsShallow r
   within {k} (joined {n = n} m ms) d r b l h =
       let (x, j) = within m d (spell_more d ms r) (omega arith) l h in
       let (xs, i) = more_within ms d r (omega arith) l j in
       (gathered (Holds k n d) (Holds k (suc n) d) (list k n) (looser k n d) (list_within k n d b l) (mean m) (mean_more ms) x xs, i)
   within {k} (group_text t) d r b l (below, h) =
-      let m : d < deepest = below tt in
+      let m : d < GREATEST_DEPTH = below tt in
       let (x, j) = within t (suc d) (at (suc d) closing ∷ r) (omega arith) m h in
       (group_within k d (mean t) x, j.1)
   within nop_text d r b l (h', h) = (omega arith, h)
   within (name_text n) d r b l (h', h) = (omega arith, h)
   within (fact_text p f) d r b l (h', h) = let (x, j) = after_fact d f r l h in (fact_within d p f x, j)
   within (iso_text g) d r b l (h', (below, h)) =
-      let m : d < deepest = below tt in
+      let m : d < GREATEST_DEPTH = below tt in
       let (x, j) = within g (suc d) (at (suc d) closing ∷ r) (omega arith) m h in
       (omega arith, j.1)
   within (not_text u) d r b l (below, h) =
-      let m : d < deepest = below tt in
+      let m : d < GREATEST_DEPTH = below tt in
       let (x, j) = within u (suc d) r b m h in
       (omega arith, j)
   within (single_text must_come n) d r b l (h, (j, more)) = (omega arith, more)
@@ -114,7 +109,7 @@ mutual
   within (pair_text preceding x y) d r b l (h, (j, (i, more))) = (omega arith, more)
   within (pair_text needing x y) d r b l (h, (j, (i, more))) = (omega arith, more)
 
-  more_within : {k : Kind} {n : ℕ} (ms : More k n) (d : ℕ) (r : List Placed) → n ≤ top k → d ≤ deepest → IsShallow (spell_more d ms r) →
+  more_within : {k : Kind} {n : ℕ} (ms : More k n) (d : ℕ) (r : List Placed) → n ≤ top k → d ≤ GREATEST_DEPTH → IsShallow (spell_more d ms r) →
       Each (Holds k n d) (mean_more ms) × IsShallow r
   more_within no_more_text d r b l h = (tt, h)
   more_within (then_text m ms) d r b l (h', h) =

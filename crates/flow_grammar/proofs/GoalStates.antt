@@ -92,16 +92,10 @@ start_forth : (K : Follow Shape) (fs : List Frame) (l : Level) (a : Text goals 0
 start_forth K fs l nop_text v t = (λ h. refl, t)
 start_forth K fs l (name_text n) v t = (λ h. refl, t)
 start_forth K fs l (fact_text asking f) v t = (λ h. refl, (f, v, refl, t))
-start_forth K fs l (fact_text denying f) v t = (λ h. refl, (f, v, refl, t))
-start_forth K fs l (fact_text adding f) v t = (λ h. refl, (f, v, refl, t))
-start_forth K fs l (fact_text taking f) v t = (λ h. refl, (f, v, refl, t))
+start_forth K fs l (fact_text _ f) v t = (λ h. refl, (f, v, refl, t))
 start_forth K fs l (iso_text g) v t = (λ h. refl, (g, v, refl, t))
 start_forth K fs l (group_text g) v t =
     (λ h. refl, need_of_goal (Closing K (parenthesis l ∷ fs)) (suc (height fs)) g (at (suc (height fs)) closing ∷ v) (v, refl, t))
-
-relation_front : (K : Follow Shape) (p : Prefix) (n : List ℕ) (fs : List Frame) (l : Level) (w : List Placed) →
-    GoalFront (after_atom fs (push l (prefixed p (atom n [])))) w K → GoalFront (after_relation p n fs l) w K
-relation_front K p n fs l w h = search rules
 
 of_arg : (K : Follow Shape) (p : Prefix) (fs : List Frame) (l : Level) (o : Step ArgState Atom) (w : List Placed) →
     StepNext (ArgRest (suc (height fs))) o w (AfterFact K fs l p) → StepNext GoalRest (after_arg p fs l o) w K
@@ -126,7 +120,7 @@ goal_forth (fact_needed p fs l) w K (bare n, v, e, t) = subst (λ y. GoalFront (
 goal_forth (fact_needed p fs l) w K (applied n c cs, v, e, t) =
     subst (λ y. GoalFront (fact_needed p fs l) y K) e (λ h. refl, inr (_, refl, (c, cs, v, refl, t)))
 goal_forth (after_relation p n fs l) w K (inl t) =
-    relation_front K p n fs l w (join_forth K fs (push l (prefixed p (atom n []))) w t)
+    let front = join_forth K fs (push l (prefixed p (atom n []))) w t in search rules
 goal_forth (after_relation p n fs l) w K (inr (v, e, t)) = subst (λ y. GoalFront (after_relation p n fs l) y K) e (λ h. refl, t)
 goal_forth (in_args p a fs l) w K h = args_front K p a fs l w (arg_forth (suc (height fs)) a w (AfterFact K fs l p) h)
 
@@ -163,28 +157,19 @@ join_back K (f ∷ fs) l closing w t =
     (no_more_text, no_more_text, no_more_text, _, refl, (w, refl, subst (λ y. Tail (Closing K fs) (height fs) (wrap f y) w) (sym (close_more l)) t))
 join_back K _ l _ w h = absurd h
 
-relation_back : (K : Follow Shape) (p : Prefix) (n : List ℕ) (fs : List Frame) (l : Level) (t : Symbol) (w : List Placed) → Back (after_relation p n fs l) t w K
-relation_back K p n fs l opening w h = inr (w, refl, h)
-relation_back K p n fs l t w h = inl (join_back K fs (push l (prefixed p (atom n []))) t w h)
-
-fact_back : (K : Follow Shape) (p : Prefix) (fs : List Frame) (l : Level) (t : Symbol) (w : List Placed) → Back (fact_needed p fs l) t w K
-fact_back K p fs l (a_name n) w (inl t) = (bare n, w, refl, t)
-fact_back K p fs l (a_name n) w (inr (v, e, (c, cs, r, e', t))) =
-    (applied n c cs, r, ap (λ y. at (height fs) (a_name n) ∷ y) (ap (λ y. at (height fs) opening ∷ y) e' ∙ e), t)
-fact_back K p fs l _ w h = absurd h
-
-iso_back : (K : Follow Shape) (fs : List Frame) (l : Level) (t : Symbol) (w : List Placed) → Back (opening_needed fs l) t w K
-iso_back K fs l opening w h =
-    let (g, r, e, (v, e', t)) = goal_of_need (Closing K (isolation l ∷ fs)) (suc (height fs)) w h in
-    (g, v, ap (λ y. at (height fs) opening ∷ y) (ap (spell (suc (height fs)) g) e' ∙ e), t)
-iso_back K fs l _ w h = absurd h
-
 pub goal_back : (s : GoalState) (t : Symbol) (w : List Placed) (K : Follow Shape) → Back s t w K
 goal_back (atom_needed fs l) t w K h = start_back K fs l t w h
 goal_back (after_atom fs l) t w K h = join_back K fs l t w h
-goal_back (opening_needed fs l) t w K h = iso_back K fs l t w h
-goal_back (fact_needed p fs l) t w K h = fact_back K p fs l t w h
-goal_back (after_relation p n fs l) t w K h = relation_back K p n fs l t w h
+goal_back (opening_needed fs l) opening w K h =
+    let (g, r, e, (v, e', t)) = goal_of_need (Closing K (isolation l ∷ fs)) (suc (height fs)) w h in
+    (g, v, ap (λ y. at (height fs) opening ∷ y) (ap (spell (suc (height fs)) g) e' ∙ e), t)
+goal_back (opening_needed fs l) _ w K h = absurd h
+goal_back (fact_needed p fs l) (a_name n) w K (inl t) = (bare n, w, refl, t)
+goal_back (fact_needed p fs l) (a_name n) w K (inr (v, e, (c, cs, r, e', t))) =
+    (applied n c cs, r, ap (λ y. at (height fs) (a_name n) ∷ y) (ap (λ y. at (height fs) opening ∷ y) e' ∙ e), t)
+goal_back (fact_needed p fs l) _ w K h = absurd h
+goal_back (after_relation p n fs l) opening w K h = inr (w, refl, h)
+goal_back (after_relation p n fs l) t w K h = inl (join_back K fs (push l (prefixed p (atom n []))) t w h)
 goal_back (in_args p a fs l) t w K h = arg_back (suc (height fs)) a t w (AfterFact K fs l p) (to_arg K p fs l (step_arg a t) w h)
 
 -- Each state can be completed

@@ -1,5 +1,5 @@
 -- What a text says is well made.
-use Rattle.std.proofs.Common.{rules as std_rules, ◌≡◌, ℕ, zero, suc, ◌<◌, ◌≤◌, List, [], ◌∷◌, ◌++◌, map, flat_map, length, subst, ap, ◌∙◌, arith, length-append}
+use Rattle.std.proofs.Common.{rules as std_rules, ◌≡◌, ℕ, suc, ◌<◌, ◌≤◌, List, [], ◌∷◌, ◌++◌, map, flat_map, length, subst, ap, ◌∙◌, arith, length-append}
 use Rattle.std.proofs.lemmas.Grind.{flat_map-append}
 use Rattle.std.proofs.lemmas.List.{length-map}
 use Rattle.flow_model.specs.Lists.{Each}
@@ -33,12 +33,12 @@ are_grouped_rules : (rs : List RuleShape) → Each IsGroupedRule rs → AreGroup
 are_grouped_rules [] h = tt
 are_grouped_rules (r ∷ rs) (h, more) = (h, are_grouped_rules rs more)
 
+two_or_more : (n : ℕ) → 2 ≤ suc (suc n)
+two_or_more n = omega arith
+
 list_grouped : (k : Kind) (n : ℕ) (m m' : Meaning k) (ms : List (Meaning k)) → Each (Grouped k) (m ∷ m' ∷ ms) → Grouped k (list k n (m ∷ m' ∷ ms))
-list_grouped goals zero m m' ms h = (omega arith, are_grouped (m ∷ m' ∷ ms) h)
-list_grouped goals (suc zero) m m' ms h = (omega arith, are_grouped (m ∷ m' ∷ ms) h)
-list_grouped goals (suc (suc n)) m m' ms h = (omega arith, are_grouped (m ∷ m' ∷ ms) h)
-list_grouped rules zero m m' ms h = (omega arith, are_grouped_rules (m ∷ m' ∷ ms) h)
-list_grouped rules (suc n) m m' ms h = (omega arith, are_grouped_rules (m ∷ m' ∷ ms) h)
+list_grouped goals n m m' ms h = search (std_rules, two_or_more, are_grouped)
+list_grouped rules n m m' ms h = search (std_rules, two_or_more, are_grouped_rules)
 
 mutual
   grouped : {k : Kind} {n : ℕ} (t : Text k n) → Grouped k (mean t)

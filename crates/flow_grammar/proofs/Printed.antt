@@ -7,7 +7,7 @@ use Rattle.flow_form.specs.RuleForm.{RuleShape, RuleShapes, must, never, order, 
 use Rattle.flow_form.specs.RuleForm as rule
 use Rattle.flow_grammar.specs.Symbol.{Symbol, Placed, at, symbols, Deepens, constant_symbol, a_name, star, bar, plus, and_word, or_word, not_word, order_word, opening, closing, comma, iso_word}
 use Rattle.flow_grammar.specs.Grammar.{FactText, bare, applied, spell_constants, spell_fact, mean_fact, Prefix, asking, denying, adding, taking, prefix_symbol, prefixed, must_come, never_come, preceding, needing, spell_names, Kind, goals, rules, Meaning, top, join, list, gather, Text, joined, group_text, nop_text, name_text, fact_text, iso_text, not_text, single_text, order_text, pair_text, More, no_more_text, then_text, spell, spell_more, mean, mean_more}
-use Rattle.flow_grammar.specs.Machine.{deepest}
+use Rattle.flow_model.specs.declared.limits.TheConstants.{GREATEST_DEPTH}
 use Rattle.flow_grammar.specs.Texts.{IsShallow}
 use Rattle.flow_grammar.specs.Print.{bracket, print_constants, print_fact, in_serial, in_beside, in_either, in_all, in_any, print_goal, print_rest, print_names, print_rule, print_more_rules, nest, arguments_nesting, nesting, nesting_list, rule_nesting, rules_nesting}
 
@@ -29,7 +29,7 @@ pub record PrintedFact (a : Atom) : Type 0 where
   pub text : FactText
   pub means : mean_fact text ≡ a
   pub prints : (d : ℕ) (r : List Placed) → symbols (spell_fact d text r) ≡ print_fact a (symbols r)
-  pub shallow : (d : ℕ) (r : List Placed) → d + arguments_nesting a.args ≤ deepest → IsShallow r → IsShallow (spell_fact d text r)
+  pub shallow : (d : ℕ) (r : List Placed) → d + arguments_nesting a.args ≤ GREATEST_DEPTH → IsShallow r → IsShallow (spell_fact d text r)
 
 with_args : (n : List ℕ) (args : List Const) → PrintedFact (atom n args)
 with_args n [] = record { text = bare n; means = refl; prints = λ d r. refl; shallow = λ d r l h. (λ k. absurd k, h) }
@@ -51,14 +51,14 @@ pub record Spelled (k : Kind) (n : ℕ) (x : Meaning k) (print : List Symbol →
   pub text : Text k n
   pub means : mean text ≡ x
   pub prints : (d : ℕ) (r : List Placed) → symbols (spell d text r) ≡ print (symbols r)
-  pub shallow : (d : ℕ) (r : List Placed) → d + depth ≤ deepest → IsShallow r → IsShallow (spell d text r)
+  pub shallow : (d : ℕ) (r : List Placed) → d + depth ≤ GREATEST_DEPTH → IsShallow r → IsShallow (spell d text r)
 
 -- the same of the members that follow one
 record SpelledMore (k : Kind) (n : ℕ) (xs : List (Meaning k)) (print : List Symbol → List Symbol) (depth : ℕ) : Type 0 where
   pub more : More k n
   pub means : mean_more more ≡ xs
   pub prints : (d : ℕ) (r : List Placed) → symbols (spell_more d more r) ≡ print (symbols r)
-  pub shallow : (d : ℕ) (r : List Placed) → d + depth ≤ deepest → IsShallow r → IsShallow (spell_more d more r)
+  pub shallow : (d : ℕ) (r : List Placed) → d + depth ≤ GREATEST_DEPTH → IsShallow r → IsShallow (spell_more d more r)
 
 join_flat : (k : Kind) (n : ℕ) → ¬ Deepens (join k n)
 join_flat k n h = search std_rules

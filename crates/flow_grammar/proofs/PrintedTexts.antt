@@ -10,7 +10,7 @@ use Rattle.flow_form.specs.Script.{Declared, fact, event, flow}
 use Rattle.flow_form.specs.Names.{flow_goal}
 use Rattle.flow_grammar.specs.Symbol.{Placed, at, symbols, fact_word, event_word, flow_word, goal_word, constraint_word, a_name, equals, semicolon}
 use Rattle.flow_grammar.specs.Grammar.{FactText, rules, Text, spell, mean, NoteText, silent_text, done_text, fail_text, fail_first_text, spell_note, mean_note, NotedText, noted_text, spell_noted, DeclText, facts_text, events_text, flow_text, spell_fact, spell_items, spell_decl, mean_decl, mean_rule, ScriptText, script_text, spell_decls, spell_constraints, spell_script, mean_script}
-use Rattle.flow_grammar.specs.Machine.{deepest}
+use Rattle.flow_model.specs.declared.limits.TheConstants.{GREATEST_DEPTH}
 use Rattle.flow_grammar.specs.Texts.{IsShallow, Derives, SpellsScript}
 use Rattle.flow_grammar.specs.Made.{IsWellMade}
 use Rattle.flow_grammar.specs.Print.{print_goal, print_rule, print_note, print_declared, print_declarations, print_constraints, print_script, arguments_nesting, nesting, rule_nesting, IsWithin}
@@ -29,7 +29,7 @@ note_printed Done = (silent_text, refl, λ r. refl, λ r h. h)
 note_printed Fail = (fail_text, refl, λ r. refl, λ r h. (λ k. absurd k, h))
 note_printed (FailFirst n) = (fail_first_text n, refl, λ r. refl, λ r h. (λ k. absurd k, (λ k. absurd k, h)))
 
-args_few : (cs : List Const) → 0 + arguments_nesting cs ≤ deepest
+args_few : (cs : List Const) → 0 + arguments_nesting cs ≤ GREATEST_DEPTH
 args_few [] = omega arith
 args_few (c ∷ cs) = omega arith
 
@@ -37,7 +37,7 @@ record PrintedDecls (ds : List Declared) : Type 0 where
   pub texts : List DeclText
   pub means : flat_map mean_decl texts ≡ ds
   pub prints : (r : List Placed) → symbols (spell_decls texts r) ≡ print_declarations ds (symbols r)
-  pub shallow : Each (λ g. nesting g ≤ deepest) (flat_map flow_goal ds) → (r : List Placed) → IsShallow r → IsShallow (spell_decls texts r)
+  pub shallow : Each (λ g. nesting g ≤ GREATEST_DEPTH) (flat_map flow_goal ds) → (r : List Placed) → IsShallow r → IsShallow (spell_decls texts r)
 
 decls_printed : (ds : List Declared) → Each IsGrouped (flat_map flow_goal ds) → PrintedDecls ds
 decls_printed [] h = record { texts = []; means = refl; prints = λ r. refl; shallow = λ l r k. k }
@@ -65,7 +65,7 @@ record PrintedConstraints (xs : List RuleShape) : Type 0 where
   pub texts : List (Text rules 2)
   pub means : map mean_rule texts ≡ xs
   pub prints : symbols (spell_constraints texts) ≡ print_constraints xs
-  pub shallow : Each (λ x. rule_nesting x ≤ deepest) xs → IsShallow (spell_constraints texts)
+  pub shallow : Each (λ x. rule_nesting x ≤ GREATEST_DEPTH) xs → IsShallow (spell_constraints texts)
 
 constraints_printed : (xs : List RuleShape) → Each IsGroupedRule xs → PrintedConstraints xs
 constraints_printed [] h = record { texts = []; means = refl; prints = refl; shallow = λ l. tt }
@@ -79,8 +79,8 @@ constraints_printed (x ∷ xs) (h, hs) = let more = constraints_printed xs hs in
 pub print_says_it : PrintSaysIt
 print_says_it s (h, k) (l, m) =
     let made = each_parts IsGrouped (flat_map flow_goal s.decls) (s.goal ∷ []) h in
-    let within = each_parts (λ g. nesting g ≤ deepest) (flat_map flow_goal s.decls) (s.goal ∷ []) l in
-    let deep : nesting s.goal ≤ deepest = within.1.0 in
+    let within = each_parts (λ g. nesting g ≤ GREATEST_DEPTH) (flat_map flow_goal s.decls) (s.goal ∷ []) l in
+    let deep : nesting s.goal ≤ GREATEST_DEPTH = within.1.0 in
     let ds = decls_printed s.decls made.0 in
     let g = (goal_printed s.goal made.1.0).as_goal in
     let cs = constraints_printed s.rules k in
@@ -109,23 +109,23 @@ after_noted (noted_text n done_text) r (k, h) = h.1
 after_noted (noted_text n fail_text) r (k, h) = h.1
 after_noted (noted_text n (fail_first_text m)) r (k, h) = h.1.1
 
-decl_within : (d : DeclText) (r : List Placed) → IsShallow (spell_decl d r) → Each (λ g. nesting g ≤ deepest) (flat_map flow_goal (mean_decl d)) × IsShallow r
+decl_within : (d : DeclText) (r : List Placed) → IsShallow (spell_decl d r) → Each (λ g. nesting g ≤ GREATEST_DEPTH) (flat_map flow_goal (mean_decl d)) × IsShallow r
 decl_within (facts_text f fs) r h =
-    (facts_goals (λ g. nesting g ≤ deepest) fs, (after_item (spell_fact 0) after_a_fact (f ∷ fs) (at 0 semicolon ∷ r) h).1)
+    (facts_goals (λ g. nesting g ≤ GREATEST_DEPTH) fs, (after_item (spell_fact 0) after_a_fact (f ∷ fs) (at 0 semicolon ∷ r) h).1)
 decl_within (events_text e es) r h =
-    (events_goals (λ g. nesting g ≤ deepest) (e ∷ es), (after_item spell_noted after_noted (e ∷ es) (at 0 semicolon ∷ r) h).1)
+    (events_goals (λ g. nesting g ≤ GREATEST_DEPTH) (e ∷ es), (after_item spell_noted after_noted (e ∷ es) (at 0 semicolon ∷ r) h).1)
 decl_within (flow_text n g) r (h, (k, (j, more))) =
     let (x, rest) = within g 0 (at 0 semicolon ∷ r) (omega arith) (omega arith) more in
     ((omega arith, tt), rest.1)
 
-decls_within : (ds : List DeclText) (r : List Placed) → IsShallow (spell_decls ds r) → Each (λ g. nesting g ≤ deepest) (flat_map flow_goal (flat_map mean_decl ds)) × IsShallow r
+decls_within : (ds : List DeclText) (r : List Placed) → IsShallow (spell_decls ds r) → Each (λ g. nesting g ≤ GREATEST_DEPTH) (flat_map flow_goal (flat_map mean_decl ds)) × IsShallow r
 decls_within [] r h = (tt, h)
 decls_within (d ∷ ds) r h =
     let (x, k) = decl_within d (spell_decls ds r) h in
     let (xs, j) = decls_within ds r k in
-    (goals_append (λ g. nesting g ≤ deepest) (mean_decl d) (flat_map mean_decl ds) x xs, j)
+    (goals_append (λ g. nesting g ≤ GREATEST_DEPTH) (mean_decl d) (flat_map mean_decl ds) x xs, j)
 
-constraints_within : (cs : List (Text rules 2)) → IsShallow (spell_constraints cs) → Each (λ x. rule_nesting x ≤ deepest) (map mean_rule cs)
+constraints_within : (cs : List (Text rules 2)) → IsShallow (spell_constraints cs) → Each (λ x. rule_nesting x ≤ GREATEST_DEPTH) (map mean_rule cs)
 constraints_within [] h = tt
 constraints_within (c ∷ cs) (h, more) =
     let (x, k) = within c 0 (at 0 semicolon ∷ spell_constraints cs) (omega arith) (omega arith) more in
@@ -135,7 +135,7 @@ script_within : (d : ScriptText) → IsShallow (spell_script d) → IsWithin (me
 script_within (script_text ds g cs) h =
     let (xs, k) = decls_within ds (at 0 goal_word ∷ spell 0 g (at 0 semicolon ∷ spell_constraints cs)) h in
     let (x, j) = within g 0 (at 0 semicolon ∷ spell_constraints cs) (omega arith) (omega arith) k.1 in
-    (each-append (λ y. nesting y ≤ deepest) (flat_map flow_goal (flat_map mean_decl ds)) (mean g ∷ []) xs (omega arith, tt), constraints_within cs j.1)
+    (each-append (λ y. nesting y ≤ GREATEST_DEPTH) (flat_map flow_goal (flat_map mean_decl ds)) (mean g ∷ []) xs (omega arith, tt), constraints_within cs j.1)
 
 pub print_is_no_deeper : PrintIsNoDeeper
 print_is_no_deeper ts s (w, e, sh, (d, ew, es)) = subst IsWithin es (script_within d (subst IsShallow (sym ew) sh))

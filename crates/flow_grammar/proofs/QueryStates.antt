@@ -31,31 +31,19 @@ query_forth number_needed w x (n, e, ex) = subst (λ v. Ahead number_needed v x)
 query_forth (after_number n) w x (e, ex) = subst (λ v. Ahead (after_number n) v x) e (λ h. refl, (refl, ex))
 query_forth (query_read q) w x (e, ex) = subst (λ v. Ahead (query_read q) v x) e (ap Some ex)
 
-abbrev Back : QueryState → Symbol → List Placed → Asked → Type 0
-Back s t w x = OnNext Rest (step_query s t) w x → Rest s (at 0 t ∷ w) x
-
-start_back : (t : Symbol) (w : List Placed) (x : Asked) → Back query_needed t w x
-start_back holds_word w x h =
-    let (y, r, e, (v, e', (e2, ex))) = rule_of_need (Closing (λ z v. Rest (query_read (holds z)) v x) []) 0 w h in
-    (holds_text y, ap (λ z. at 0 holds_word ∷ z) (ap (spell 0 y) (ap (λ z. at 0 semicolon ∷ z) e2 ∙ e') ∙ e), ex)
-start_back redundant_word w x (n, e, ex) = (redundant_text n, ap (λ z. at 0 redundant_word ∷ z) e, ex)
-start_back _ w x h = absurd h
-
-number_back : (t : Symbol) (w : List Placed) (x : Asked) → Back number_needed t w x
-number_back (a_number n) w x (e, ex) = (n, ap (λ z. at 0 (a_number n) ∷ z) e, ex)
-number_back _ w x h = absurd h
-
-end_back : (n : ℕ) (t : Symbol) (w : List Placed) (x : Asked) → Back (after_number n) t w x
-end_back n semicolon w x (e, ex) = (ap (λ z. at 0 semicolon ∷ z) e, ex)
-end_back n _ w x h = absurd h
-
 query_back : (s : QueryState) (t : Symbol) (w : List Placed) (x : Asked) → OnNext Rest (step_query s t) w x →
     (n : ℕ) × (Deepens t → n ≡ depth_query s) × Rest s (at n t ∷ w) x
-query_back query_needed t w x h = (0, λ h'. refl, start_back t w x h)
+query_back query_needed holds_word w x h =
+    let (y, r, e, (v, e', (e2, ex))) = rule_of_need (Closing (λ z v. Rest (query_read (holds z)) v x) []) 0 w h in
+    (0, λ h'. refl, (holds_text y, ap (λ z. at 0 holds_word ∷ z) (ap (spell 0 y) (ap (λ z. at 0 semicolon ∷ z) e2 ∙ e') ∙ e), ex))
+query_back query_needed redundant_word w x (n, e, ex) = (0, λ h'. refl, (redundant_text n, ap (λ z. at 0 redundant_word ∷ z) e, ex))
+query_back query_needed _ w x h = absurd h
 query_back (in_property r) t w x h =
     rule_back r t w (λ y v. Rest (query_read (holds y)) v x) (carried_back RuleRest Rest in_property (λ y. query_read (holds y)) x (λ s v k. k) (step_rule r t) w h)
-query_back number_needed t w x h = (0, λ h'. refl, number_back t w x h)
-query_back (after_number n) t w x h = (0, λ h'. refl, end_back n t w x h)
+query_back number_needed (a_number n) w x (e, ex) = (0, λ h'. refl, (n, ap (λ z. at 0 (a_number n) ∷ z) e, ex))
+query_back number_needed _ w x h = absurd h
+query_back (after_number n) semicolon w x (e, ex) = (0, λ h'. refl, (ap (λ z. at 0 semicolon ∷ z) e, ex))
+query_back (after_number n) _ w x h = absurd h
 query_back (query_read q) t w x h = absurd h
 
 query_ended : (s : QueryState) (x : Asked) → finish_query s ≡ Some x → Rest s [] x

@@ -1,5 +1,5 @@
 -- The names of a text are those of what it says.
-use Rattle.std.proofs.Common.{rules as std_rules, ◌≡◌, ℕ, zero, suc, List, [], ◌∷◌, ◌++◌, map, flat_map, refl, sym, ap, ◌∙◌, append_assoc, append-nil}
+use Rattle.std.proofs.Common.{rules as std_rules, ◌≡◌, ℕ, suc, List, [], ◌∷◌, ◌++◌, map, flat_map, refl, sym, ap, ◌∙◌, append_assoc, append-nil}
 use Rattle.std.proofs.lemmas.Grind.{flat_map-append}
 use Rattle.std.proofs.lemmas.List.{map-append}
 use Rattle.flow_facts.specs.declared.constant.Const.{Const}
@@ -47,11 +47,8 @@ rules_named [] = refl
 rules_named (x ∷ xs) = rw (rules_named xs)
 
 list_named : (k : Kind) (n : ℕ) (ms : List (Meaning k)) → names k (list k n ms) ≡ flat_map (names k) ms
-list_named goals zero ss = goals_named ss
-list_named goals (suc zero) ss = goals_named ss
-list_named goals (suc (suc n)) ss = goals_named ss
-list_named rules zero xs = rules_named xs
-list_named rules (suc n) xs = rules_named xs
+list_named goals n ss = search (std_rules, goals_named)
+list_named rules n xs = search (std_rules, rules_named)
 
 gather_named : (k : Kind) (n : ℕ) (m : Meaning k) (ms : List (Meaning k)) → names k (gather (list k n) (m ∷ ms)) ≡ flat_map (names k) (m ∷ ms)
 gather_named k n m [] = sym (append-nil (names k m))

@@ -93,23 +93,11 @@ start_forth K fs l k (order_text a b ns) v t = (λ h. refl, (a, b, ns, v, refl, 
 start_forth K fs l k (pair_text preceding a b) v t = (λ h. refl, (a, b, v, refl, t))
 start_forth K fs l k (pair_text needing a b) v t = (λ h. refl, (a, b, v, refl, t))
 
-names_forth : (K : Follow RuleShape) (names : Names) (fs : List RuleFrame) (l : RuleLevel) (k : ℕ) (w : List Placed) →
-    RuleRest (name_needed names fs l k) w K → RuleFront (name_needed names fs l k) w K
-names_forth K (one s) fs l k w (n, v, e, t) = subst (λ y. RuleFront (name_needed (one s) fs l k) y K) e (λ h. refl, t)
-names_forth K (two p) fs l k w (a, b, v, e, t) = subst (λ y. RuleFront (name_needed (two p) fs l k) y K) e (λ h. refl, (b, v, refl, t))
-names_forth K (second p a) fs l k w (b, v, e, t) = subst (λ y. RuleFront (name_needed (second p a) fs l k) y K) e (λ h. refl, t)
-names_forth K two_or_more fs l k w (a, b, ns, v, e, t) = subst (λ y. RuleFront (name_needed two_or_more fs l k) y K) e (λ h. refl, (b, ns, v, refl, t))
-names_forth K (one_or_more a) fs l k w (b, ns, v, e, t) = subst (λ y. RuleFront (name_needed (one_or_more a) fs l k) y K) e (λ h. refl, (ns, v, refl, t))
-
-more_front : (K : Follow RuleShape) (ms : List (List ℕ)) (fs : List RuleFrame) (l : RuleLevel) (k : ℕ) (w : List Placed) →
-    RuleFront (after_unit fs (push_rule l (negate k (order ms)))) w K → RuleFront (after_names ms fs l k) w K
-more_front K ms fs l k w h = search std_rules
-
 more_forth : (K : Follow RuleShape) (ms : List (List ℕ)) (fs : List RuleFrame) (l : RuleLevel) (k : ℕ) (w : List Placed) →
     RuleRest (after_names ms fs l k) w K → RuleFront (after_names ms fs l k) w K
 more_forth K ms fs l k w ([], v, e, t) =
-    more_front K ms fs l k w (join_forth K fs (push_rule l (negate k (order ms))) w
-    (subst (After K fs l k (order ms)) e (subst (λ y. After K fs l k (order y) v) (append-nil ms) t)))
+    let after = subst (After K fs l k (order ms)) e (subst (λ y. After K fs l k (order y) v) (append-nil ms) t) in
+    let front = join_forth K fs (push_rule l (negate k (order ms))) w after in search std_rules
 more_forth K ms fs l k w (n ∷ ns, v, e, t) =
     subst (λ y. RuleFront (after_names ms fs l k) y K) e
     (λ h. absurd h, (ns, v, refl, subst (λ y. After K fs l k (order y) v) (sym (append_assoc ms (n ∷ []) ns)) t))
@@ -117,7 +105,13 @@ more_forth K ms fs l k w (n ∷ ns, v, e, t) =
 pub rule_forth : (s : RuleState) (w : List Placed) (K : Follow RuleShape) → RuleRest s w K → RuleFront s w K
 rule_forth (unit_needed fs l k) w K (u, v, e, t) = subst (λ y. RuleFront (unit_needed fs l k) y K) e (start_forth K fs l k u v t)
 rule_forth (after_unit fs l) w K h = join_forth K fs l w h
-rule_forth (name_needed names fs l k) w K h = names_forth K names fs l k w h
+rule_forth (name_needed (one s) fs l k) w K (n, v, e, t) = subst (λ y. RuleFront (name_needed (one s) fs l k) y K) e (λ h. refl, t)
+rule_forth (name_needed (two p) fs l k) w K (a, b, v, e, t) = subst (λ y. RuleFront (name_needed (two p) fs l k) y K) e (λ h. refl, (b, v, refl, t))
+rule_forth (name_needed (second p a) fs l k) w K (b, v, e, t) = subst (λ y. RuleFront (name_needed (second p a) fs l k) y K) e (λ h. refl, t)
+rule_forth (name_needed two_or_more fs l k) w K (a, b, ns, v, e, t) =
+    subst (λ y. RuleFront (name_needed two_or_more fs l k) y K) e (λ h. refl, (b, ns, v, refl, t))
+rule_forth (name_needed (one_or_more a) fs l k) w K (b, ns, v, e, t) =
+    subst (λ y. RuleFront (name_needed (one_or_more a) fs l k) y K) e (λ h. refl, (ns, v, refl, t))
 rule_forth (after_names ms fs l k) w K h = more_forth K ms fs l k w h
 
 -- Back: a step and what may follow it may follow the state
@@ -150,17 +144,13 @@ join_back K (f ∷ fs) l closing w t =
     (no_more_text, no_more_text, _, refl, (w, refl, subst (λ y. Tail (Closing K fs) (rule_height fs) (wrap_rule f y) w) (sym (close_more l)) t))
 join_back K _ l _ w h = absurd h
 
-names_back : (K : Follow RuleShape) (names : Names) (fs : List RuleFrame) (l : RuleLevel) (k : ℕ) (n : List ℕ) (w : List Placed) →
-    Back (name_needed names fs l k) (nots_in k (rule_height fs)) (a_name n) w K
-names_back K (one s) fs l k n w t = (n, w, refl, t)
-names_back K (two p) fs l k n w (b, v, e, t) = (n, b, v, ap (λ y. at (nots_in k (rule_height fs)) (a_name n) ∷ y) e, t)
-names_back K (second p a) fs l k n w t = (n, w, refl, t)
-names_back K two_or_more fs l k n w (b, ns, v, e, t) = (n, b, ns, v, ap (λ y. at (nots_in k (rule_height fs)) (a_name n) ∷ y) e, t)
-names_back K (one_or_more a) fs l k n w (ns, v, e, t) = (n, ns, v, ap (λ y. at (nots_in k (rule_height fs)) (a_name n) ∷ y) e, t)
-
 name_back : (K : Follow RuleShape) (names : Names) (fs : List RuleFrame) (l : RuleLevel) (k : ℕ) (t : Symbol) (w : List Placed) → Back (name_needed names fs l k) (nots_in k (rule_height fs)) t w K
-name_back K names fs l k (a_name n) w h = names_back K names fs l k n w h
-name_back K names fs l k _ w h = absurd h
+name_back K (one s) fs l k (a_name n) w t = (n, w, refl, t)
+name_back K (two p) fs l k (a_name n) w (b, v, e, t) = (n, b, v, ap (λ y. at (nots_in k (rule_height fs)) (a_name n) ∷ y) e, t)
+name_back K (second p a) fs l k (a_name n) w t = (n, w, refl, t)
+name_back K two_or_more fs l k (a_name n) w (b, ns, v, e, t) = (n, b, ns, v, ap (λ y. at (nots_in k (rule_height fs)) (a_name n) ∷ y) e, t)
+name_back K (one_or_more a) fs l k (a_name n) w (ns, v, e, t) = (n, ns, v, ap (λ y. at (nots_in k (rule_height fs)) (a_name n) ∷ y) e, t)
+name_back K _ fs l k _ w h = absurd h
 
 -- a further name stands inside the nots, what follows the unit outside
 more_back : (K : Follow RuleShape) (ms : List (List ℕ)) (fs : List RuleFrame) (l : RuleLevel) (k : ℕ) (t : Symbol) (w : List Placed) →

@@ -1,9 +1,10 @@
 -- What a run finds is so, and it finds what is so, where each state knows what may follow it.
 use Rattle.std.proofs.Common.{rules, ◌≡◌, ℕ, zero, suc, ◌<◌, ◌≤◌, ◌⊎◌, Bool, true, false, Option, Some, None, List, [], ◌∷◌, ◌++◌, take, refl, sym, ap, subst, inl, inr, arith, le-leb, leb-true, leb-false}
 use Rattle.std.specs.Prelude.{option_map}
+use Rattle.flow_model.specs.declared.limits.TheConstants.{GREATEST_DEPTH}
 use Rattle.flow_form.specs.declared.refusal.Wanted.{Wanted}
 use Rattle.flow_grammar.specs.Symbol.{Symbol, Placed, at, symbols, Deepens, opening, not_word}
-use Rattle.flow_grammar.specs.Machine.{Reading, gives, expected, too_deep, later, deepest, is_too_deep, at_end, go_on, run, standing}
+use Rattle.flow_grammar.specs.Machine.{Reading, gives, expected, too_deep, later, is_too_deep, at_end, go_on, run, standing}
 use Rattle.flow_grammar.specs.Laws.{StandsFor, MayEnd}
 use Rattle.flow_grammar.specs.Texts.{IsShallow, IsDeepAt, Derives, IsWhole, IsViable, StandsDeep, IsStuckAt, NoneDeepBefore}
 use Rattle.std.proofs.lemmas.Bool.{false_from_ne_true}
@@ -13,40 +14,36 @@ pub uncons : (w : List Placed) (t : Symbol) (ts : List Symbol) → symbols w ≡
 uncons [] t ts e = cc
 uncons (at n u ∷ v) t ts e = let same : u ≡ t = cc in (n, v, ap (λ y. at n y ∷ v) same, cc)
 
-is_deep : (t : Symbol) (d : ℕ) → Deepens t → deepest ≤ d → is_too_deep t d ≡ true
+is_deep : (t : Symbol) (d : ℕ) → Deepens t → GREATEST_DEPTH ≤ d → is_too_deep t d ≡ true
 is_deep t d h l = search (rules, le-leb)
 
-not_deep : (t : Symbol) (d : ℕ) → is_too_deep t d ≡ false → Deepens t → d < deepest
+not_deep : (t : Symbol) (d : ℕ) → is_too_deep t d ≡ false → Deepens t → d < GREATEST_DEPTH
 not_deep t d e h = search (rules, leb-false)
 
-deep_of : (t : Symbol) (d : ℕ) → is_too_deep t d ≡ true → Deepens t × (deepest ≤ d)
-deep_of opening d e = (tt, leb-true deepest d e)
-deep_of not_word d e = (tt, leb-true deepest d e)
+deep_of : (t : Symbol) (d : ℕ) → is_too_deep t d ≡ true → Deepens t × (GREATEST_DEPTH ≤ d)
+deep_of opening d e = (tt, leb-true GREATEST_DEPTH d e)
+deep_of not_word d e = (tt, leb-true GREATEST_DEPTH d e)
 deep_of _ d e = cc
 
 -- What one step of a run makes
 
 later_gives : {V : Type 0} (r : Reading V) (v : V) → later r ≡ gives v → r ≡ gives v
 later_gives (gives u) v e = e
-later_gives (expected kind k) v e = cc
-later_gives (too_deep k) v e = cc
+later_gives _ v e = cc
 
 later_expected : {V : Type 0} (r : Reading V) (kind : Wanted) (k : ℕ) → later r ≡ expected kind k →
     (j : ℕ) × (k ≡ suc j) × (r ≡ expected kind j)
-later_expected (gives u) kind k e = cc
 later_expected (expected kind' j) kind k e = (j, cc, cc)
-later_expected (too_deep j) kind k e = cc
+later_expected _ kind k e = cc
 
 later_deep : {V : Type 0} (r : Reading V) (k : ℕ) → later r ≡ too_deep k → (j : ℕ) × (k ≡ suc j) × (r ≡ too_deep j)
-later_deep (gives u) k e = cc
-later_deep (expected kind' j) k e = cc
 later_deep (too_deep j) k e = (j, cc, cc)
+later_deep _ k e = cc
 
 go_gives : {S V : Type 0} (o : Option S) (b : Bool) (kind : Wanted) (rest : S → Reading V) (v : V) →
     go_on o b kind rest ≡ gives v → (s : S) × (o ≡ Some s) × (b ≡ false) × (rest s ≡ gives v)
-go_gives None b kind rest v e = cc
-go_gives (Some s) true kind rest v e = cc
 go_gives (Some s) false kind rest v e = (s, refl, refl, later_gives (rest s) v e)
+go_gives _ _ kind rest v e = cc
 
 go_expected : {S V : Type 0} (o : Option S) (b : Bool) (kind : Wanted) (rest : S → Reading V) (kind' : Wanted) (k : ℕ) →
     go_on o b kind rest ≡ expected kind' k →
@@ -182,15 +179,15 @@ module _ {S V : Type 0} (step : S → Symbol → Option S) (finish : S → Optio
   deep_here : (s : S) (t : Symbol) (ts : List Symbol) → StandsDeep (R s) (t ∷ ts) 0 → is_too_deep t (depth s) ≡ true
   deep_here s t ts (l, (w, x, (rest, e), dp, r)) =
       let (n, v, ew, ev, d, r') = front s (step s t) t rest w x refl e r in
-      let here : Deepens t × (deepest ≤ n) = subst (λ y. IsDeepAt y 0) ew dp in
-      is_deep t (depth s) here.0 (subst (λ y. deepest ≤ y) (d here.0) here.1)
+      let here : Deepens t × (GREATEST_DEPTH ≤ n) = subst (λ y. IsDeepAt y 0) ew dp in
+      is_deep t (depth s) here.0 (subst (λ y. GREATEST_DEPTH ≤ y) (d here.0) here.1)
 
   deep_there : (s next : S) (t : Symbol) (ts : List Symbol) → step s t ≡ Some next → is_too_deep t (depth s) ≡ true → StandsDeep (R s) (t ∷ ts) 0
   deep_there s next t ts es b =
       let (w, x, r) = k.completes next in
       let (n, d, r') = behind s next t w x es r in
       let (dt, l) = deep_of t (depth s) b in
-      (omega arith, (at n t ∷ w, x, (symbols w, refl), (dt, subst (λ y. deepest ≤ y) (sym (d dt)) l), r'))
+      (omega arith, (at n t ∷ w, x, (symbols w, refl), (dt, subst (λ y. GREATEST_DEPTH ≤ y) (sym (d dt)) l), r'))
 
   none_before : (s next : S) (t : Symbol) (ts : List Symbol) (j : ℕ) → step s t ≡ Some next → is_too_deep t (depth s) ≡ false → NoneDeepBefore (R next) ts j →
       NoneDeepBefore (R s) (t ∷ ts) (suc j)
@@ -205,12 +202,12 @@ module _ {S V : Type 0} (step : S → Symbol → Option S) (finish : S → Optio
       let (next, es, eb, er) = go_gives (step s t) (is_too_deep t (depth s)) (wanted s) (λ y. reads y ts) x e in
       let (w, ew, sh, r) = derived ts next x er in
       let (n, d, r') = behind s next t w x es r in
-      (at n t ∷ w, ap (λ y. t ∷ y) ew, (λ h. subst (λ y. y < deepest) (sym (d h)) (not_deep t (depth s) eb h), sh), r')
+      (at n t ∷ w, ap (λ y. t ∷ y) ew, (λ h. subst (λ y. y < GREATEST_DEPTH) (sym (d h)) (not_deep t (depth s) eb h), sh), r')
 
-  not_too_deep : (s : S) (t : Symbol) (n : ℕ) → (Deepens t → n < deepest) → (Deepens t → n ≡ depth s) → is_too_deep t (depth s) ≡ false
+  not_too_deep : (s : S) (t : Symbol) (n : ℕ) → (Deepens t → n < GREATEST_DEPTH) → (Deepens t → n ≡ depth s) → is_too_deep t (depth s) ≡ false
   not_too_deep s t n sh d = false_from_ne_true (is_too_deep t (depth s)) λ e.
       let (dt, l) = deep_of t (depth s) e in
-      let below : n < deepest = sh dt in
+      let below : n < GREATEST_DEPTH = sh dt in
       let same : n ≡ depth s = d dt in
       omega arith
 

@@ -1,12 +1,8 @@
 -- What each state wants could come.
-use Rattle.std.proofs.Common.{rules, ℕ, List, [], ◌∷◌}
-use Rattle.flow_facts.specs.declared.constant.Const.{Const}
-use Rattle.flow_facts.specs.Atom.{Atom}
-use Rattle.flow_form.specs.Script.{Declared}
+use Rattle.std.proofs.Common.{rules}
 use Rattle.flow_grammar.specs.Symbol.{Symbol}
-use Rattle.flow_grammar.specs.Grammar.{Prefix}
-use Rattle.flow_grammar.specs.Machine.{Step, reading, whole, stuck, carry, with_name, ArgState, constant_needed, step_arg, wanted_arg, Level, Frame, GoalState, atom_needed, after_atom, opening_needed, fact_needed, after_relation, in_args, after_arg, step_goal, wanted_goal, RuleLevel, RuleFrame, Names, RuleState, unit_needed, name_needed, step_rule, wanted_rule, State, declaration_needed, fact_to_declare, after_declared_relation, in_declared_args, event_to_declare, after_event, flow_to_declare, equals_needed, in_flow, in_goal, in_constraint, step_script, finish_script, wanted_script, QueryState, query_needed, in_property, number_needed, after_number, query_read, step_query, finish_query, wanted_query}
-use Rattle.flow_grammar.specs.Laws.{StandsFor, MayEnd, BeginsDeclaration, IsAName, IsAConstant, BeginsAtom, BeginsUnit, BeginsQuery, IsANumber}
+use Rattle.flow_grammar.specs.Machine.{Step, reading, whole, stuck, carry, ArgState, step_arg, wanted_arg, GoalState, step_goal, wanted_goal, RuleState, step_rule, wanted_rule, State, step_script, finish_script, wanted_script, QueryState, step_query, finish_query, wanted_query}
+use Rattle.flow_grammar.specs.Laws.{StandsFor, MayEnd}
 use Rattle.flow_grammar.proofs.Runs.{Goes, Wants}
 
 abbrev Moves : {S V : Type 0} → Step S V → Type 0
@@ -14,59 +10,20 @@ Moves (reading s) = Unit {0}
 Moves (whole x) = Unit {0}
 Moves stuck = ⊥
 
-constant_comes : (n : List ℕ) (args : List Const) (t : Symbol) → IsAConstant t → Moves (step_arg (constant_needed n args) t)
-constant_comes n args _ h = search rules
-
 arg_comes : (a : ArgState) (t : Symbol) → StandsFor (wanted_arg a) t → Moves (step_arg a t)
 arg_comes _ t h = search rules
 
-atom_comes : (fs : List Frame) (l : Level) (t : Symbol) → BeginsAtom t → Moves (step_goal (atom_needed fs l) t)
-atom_comes fs l _ h = search rules
-
-relation_comes : (p : Prefix) (fs : List Frame) (l : Level) (t : Symbol) → IsAName t → Moves (step_goal (fact_needed p fs l) t)
-relation_comes p fs l _ h = search rules
-
-arg_moves : (p : Prefix) (fs : List Frame) (l : Level) (o : Step ArgState Atom) → Moves o → Moves (after_arg p fs l o)
-arg_moves p fs l _ h = search rules
-
 goal_comes : (g : GoalState) (t : Symbol) → StandsFor (wanted_goal g) t → Moves (step_goal g t)
-goal_comes (atom_needed fs l) t h = atom_comes fs l t h
-goal_comes (after_atom [] l) t h = rw h tt
-goal_comes (after_atom (f ∷ fs) l) t h = rw h tt
-goal_comes (opening_needed fs l) t h = rw h tt
-goal_comes (fact_needed p fs l) t h = relation_comes p fs l t h
-goal_comes (after_relation p n [] l) t h = rw h tt
-goal_comes (after_relation p n (f ∷ fs) l) t h = rw h tt
-goal_comes (in_args p a fs l) t h = arg_moves p fs l (step_arg a t) (arg_comes a t h)
-
-unit_comes : (fs : List RuleFrame) (l : RuleLevel) (k : ℕ) (t : Symbol) → BeginsUnit t → Moves (step_rule (unit_needed fs l k) t)
-unit_comes fs l k _ h = search rules
-
-name_comes : (names : Names) (fs : List RuleFrame) (l : RuleLevel) (k : ℕ) (t : Symbol) → IsAName t → Moves (step_rule (name_needed names fs l k) t)
-name_comes names fs l k _ h = search rules
+goal_comes g t h = search (rules, arg_comes)
 
 rule_comes : (r : RuleState) (t : Symbol) → StandsFor (wanted_rule r) t → Moves (step_rule r t)
-rule_comes r t h = search (rules, unit_comes, name_comes)
+rule_comes r t h = search rules
 
 carry_goes : {S V T : Type 0} (within : S → T) (after : V → T) (o : Step S V) → Moves o → Goes (carry within after o)
 carry_goes within after _ h = search rules
 
-named_goes : {T : Type 0} (next : List ℕ → T) (t : Symbol) → IsAName t → Goes (with_name next t)
-named_goes next _ h = search rules
-
-declaration_comes : (ds : List Declared) (t : Symbol) → BeginsDeclaration t → Goes (step_script (declaration_needed ds) t)
-declaration_comes ds _ h = search rules
-
 script_comes : (s : State) (t : Symbol) → StandsFor (wanted_script s) t → Goes (step_script s t)
-script_comes (declaration_needed ds) t h = declaration_comes ds t h
-script_comes (fact_to_declare ds) t h = named_goes (after_declared_relation ds) t h
-script_comes (in_declared_args ds a) t h = carry_goes (in_declared_args ds) _ (step_arg a t) (arg_comes a t h)
-script_comes (event_to_declare ds) t h = named_goes (after_event ds) t h
-script_comes (flow_to_declare ds) t h = named_goes (equals_needed ds) t h
-script_comes (in_flow ds n g) t h = carry_goes (in_flow ds n) _ (step_goal g t) (goal_comes g t h)
-script_comes (in_goal ds g) t h = carry_goes (in_goal ds) _ (step_goal g t) (goal_comes g t h)
-script_comes (in_constraint ds s rs r) t h = carry_goes (in_constraint ds s rs) _ (step_rule r t) (rule_comes r t h)
-script_comes _ t h = rw h tt
+script_comes s t h = search (rules, carry_goes, arg_comes, goal_comes, rule_comes)
 
 goal_goes_on : (g : GoalState) → ¬ MayEnd (wanted_goal g)
 goal_goes_on g h = search rules
@@ -80,18 +37,8 @@ script_ends s h = search (rules, goal_goes_on, rule_goes_on)
 pub script_wants : Wants step_script finish_script wanted_script
 script_wants = record { comes = script_comes; ends = script_ends }
 
-start_comes : (t : Symbol) → BeginsQuery t → Goes (step_query query_needed t)
-start_comes _ h = search rules
-
-number_comes : (t : Symbol) → IsANumber t → Goes (step_query number_needed t)
-number_comes _ h = search rules
-
 query_comes : (s : QueryState) (t : Symbol) → StandsFor (wanted_query s) t → Goes (step_query s t)
-query_comes query_needed t h = start_comes t h
-query_comes (in_property r) t h = carry_goes in_property _ (step_rule r t) (rule_comes r t h)
-query_comes number_needed t h = number_comes t h
-query_comes (after_number n) t h = rw h tt
-query_comes (query_read q) t h = absurd h
+query_comes s t h = search (rules, carry_goes, rule_comes)
 
 query_ends : (s : QueryState) → MayEnd (wanted_query s) → Goes (finish_query s)
 query_ends s h = search (rules, rule_goes_on)

@@ -3,6 +3,7 @@ use Rattle.std.specs.Prelude.{ℕ, zero, suc, ◌+◌, Bool, true, false, nat_le
 use Rattle.flow_form.specs.declared.refusal.Wanted.{Wanted}
 use Rattle.flow_form.specs.declared.refusal.Wanted.TheVariants as want
 use Rattle.flow_model.specs.declared.labels.Note.TheVariants.{Done, Fail, FailFirst}
+use Rattle.flow_model.specs.declared.limits.TheConstants.{GREATEST_DEPTH}
 use Rattle.flow_facts.specs.declared.constant.Const.{Const}
 use Rattle.flow_facts.specs.declared.constant.Const.TheVariants.{Word, Number}
 use Rattle.flow_facts.specs.Atom.{Atom, atom}
@@ -441,15 +442,11 @@ wanted_script (fact_to_declare ds) = want.Fact
 wanted_script (in_declared_args ds a) = wanted_arg a
 -- after the name of a sub-workflow
 wanted_script (equals_needed ds n) = want.Equals
--- after a complete fact or event
-wanted_script (after_declared_relation ds n) = want.Semicolon
-wanted_script (after_fact ds) = want.Semicolon
-wanted_script (after_event ds n) = want.Semicolon
-wanted_script (after_fail ds n) = want.Semicolon
-wanted_script (after_noted ds) = want.Semicolon
 wanted_script (in_flow ds n g) = wanted_goal g
 wanted_script (in_goal ds g) = wanted_goal g
 wanted_script (in_constraint ds s rs r) = wanted_rule r
+-- after a complete fact or event
+wanted_script _ = want.Semicolon
 
 abbrev pub wanted_query : QueryState → Wanted
 -- a query must begin
@@ -489,12 +486,9 @@ later (expected kind k) = expected kind (suc k)
 later (too_deep k) = too_deep (suc k)
 
 -- a `(` or `not` that stands inside so many others is too deep
-abbrev pub deepest : ℕ
-deepest = 200
-
 abbrev pub is_too_deep : Symbol → ℕ → Bool
-is_too_deep opening d = nat_le deepest d
-is_too_deep not_word d = nat_le deepest d
+is_too_deep opening d = nat_le GREATEST_DEPTH d
+is_too_deep not_word d = nat_le GREATEST_DEPTH d
 is_too_deep _ d = false
 
 -- what is read after the first i symbols, told from the beginning

@@ -11,7 +11,7 @@ use Rattle.flow_form.specs.RuleForm as rule
 use Rattle.flow_form.specs.Script.{Declared, fact, event, flow, Said}
 use Rattle.flow_form.specs.Names.{goals_of}
 use Rattle.flow_grammar.specs.Symbol.{Symbol, constant_symbol, fact_word, event_word, flow_word, goal_word, constraint_word, nop_word, iso_word, ins_word, del_word, must_word, never_word, order_word, precedes_word, needs_word, not_word, and_word, or_word, fail_word, a_name, a_number, star, bar, plus, opening, closing, comma, semicolon, equals, question, exclamation}
-use Rattle.flow_grammar.specs.Machine.{deepest}
+use Rattle.flow_model.specs.declared.limits.TheConstants.{GREATEST_DEPTH}
 
 -- what follows is the last argument, as in spelling
 
@@ -134,8 +134,6 @@ arguments_nesting (c ∷ cs) = 1
 
 abbrev mutual
   pub nesting : Shape → ℕ
-  nesting nop = 0
-  nesting (named n) = 0
   nesting (test a) = arguments_nesting a.args
   nesting (absent a) = arguments_nesting a.args
   nesting (ins a) = arguments_nesting a.args
@@ -144,6 +142,7 @@ abbrev mutual
   nesting (serial ss) = nesting_list in_serial ss
   nesting (beside ss) = nesting_list in_beside ss
   nesting (either ss) = nesting_list in_either ss
+  nesting _ = 0
 
   pub nesting_list : (Shape → Bool) → Shapes → ℕ
   nesting_list parted no_more = 0
@@ -162,4 +161,4 @@ abbrev mutual
 
 -- no goal and no constraint is printed too deep
 abbrev pub IsWithin : Said → Type 0
-IsWithin s = Each (λ g. nesting g ≤ deepest) (goals_of s) × Each (λ x. rule_nesting x ≤ deepest) s.rules
+IsWithin s = Each (λ g. nesting g ≤ GREATEST_DEPTH) (goals_of s) × Each (λ x. rule_nesting x ≤ GREATEST_DEPTH) s.rules

@@ -3,7 +3,7 @@ use Rattle.std.specs.Prelude.{◌≡◌, ℕ, zero, suc, ◌<◌, ◌≤◌, ◌
 use Rattle.flow_form.specs.Script.{Said, Asked}
 use Rattle.flow_grammar.specs.Symbol.{Symbol, Placed, at, symbols, IsBegunBy, Deepens}
 use Rattle.flow_grammar.specs.Grammar.{ScriptText, spell_script, mean_script, QueryText, spell_query, mean_query}
-use Rattle.flow_grammar.specs.Machine.{deepest}
+use Rattle.flow_model.specs.declared.limits.TheConstants.{GREATEST_DEPTH}
 
 -- some derivation spells w and means x
 abbrev pub SpellsScript : List Placed → Said → Type 0
@@ -15,12 +15,12 @@ SpellsQuery w x = (d : QueryText) × (spell_query d ≡ w) × (mean_query d ≡ 
 -- no `(` or `not` stands inside 200 others
 abbrev pub IsShallow : List Placed → Type 0
 IsShallow [] = Unit {0}
-IsShallow (at n t ∷ w) = (Deepens t → n < deepest) × IsShallow w
+IsShallow (at n t ∷ w) = (Deepens t → n < GREATEST_DEPTH) × IsShallow w
 
 -- at place k a `(` or `not` stands inside 200 others
 abbrev pub IsDeepAt : List Placed → ℕ → Type 0
 IsDeepAt [] k = ⊥
-IsDeepAt (at n t ∷ w) zero = Deepens t × (deepest ≤ n)
+IsDeepAt (at n t ∷ w) zero = Deepens t × (GREATEST_DEPTH ≤ n)
 IsDeepAt (at n t ∷ w) (suc k) = IsDeepAt w k
 
 -- The texts are those that `Spells` has: scripts, or queries

@@ -5,6 +5,7 @@ ghost use Rattle.flow_grammar.specs.Made.{QueriesAreWellMade};
 ghost use Rattle.flow_grammar.specs.Laws.{ReadsJustThese, SaysOneThing, IsStuckJustThere, IsTooDeepJustThere, WantsWhatCouldCome, TellsWhatIsWanted};
 
 /// What the machine finds in the symbols of a query, in the grammar's terms.
+#[tactic(auto, using(crate::proofs::Reading::queries_are_read, crate::proofs::RunSteps::goes_by_step))]
 pub fn law_queries_are_read()
     ensures reads { ReadsJustThese SpellsQuery read_query }
     ensures one_thing { SaysOneThing SpellsQuery }

@@ -5,6 +5,7 @@ ghost use Rattle.flow_grammar.specs.Made.{ScriptsAreWellMade};
 ghost use Rattle.flow_grammar.specs.Laws.{ReadsJustThese, SaysOneThing, IsStuckJustThere, IsTooDeepJustThere, WantsWhatCouldCome, TellsWhatIsWanted};
 
 /// What the machine finds in the symbols of a workflow text, in the grammar's terms.
+#[tactic(auto, using(crate::proofs::Reading::scripts_are_read, crate::proofs::RunSteps::goes_by_step))]
 pub fn law_scripts_are_read()
     ensures reads { ReadsJustThese SpellsScript read_script }
     ensures one_thing { SaysOneThing SpellsScript }

@@ -4,27 +4,18 @@ use Rattle.std.proofs.lemmas.List.{take-append-drop, take-append-le, drop-append
 use Rattle.std.specs.Io.KnownBytes.{Consumes}
 use Rattle.flow_io.specs.Source.{GivesNext, LosesCount}
 
--- a source over memory gives the next `count` bytes of those left
-pub gives_front : (left left' buffer buffer' : List ℕ) (count : ℕ)
-    → count ≤ length left → count ≤ length buffer' → (count ≡ 0 → 0 < length buffer → length left ≡ 0)
-    → left' ≡ drop count left → take count buffer' ≡ take count left → drop count buffer' ≡ drop count buffer
-    → GivesNext (Some left) (Some left') buffer buffer' count
-gives_front left left' buffer buffer' count in_left in_buffer none gone same rest = record {
-  fits = in_buffer;
-  next = rw (gone, same) (sym (take-append-drop count left));
-  rest = rest;
-  end = λ zero_count has_room. gone ∙ drop_all count left (let e : length left ≡ 0 = none zero_count has_room in omega arith);
-}
-
--- the same from a place `at` in all the bytes
+-- a source over memory gives the next `count` bytes of those left, from a place `at` in all the bytes
 pub gives_from : (bytes left buffer buffer' : List ℕ) (at count : ℕ)
     → drop at bytes ≡ left → count ≡ min (length left) (length buffer) → length buffer' ≡ length buffer
     → take count buffer' ≡ take count left → drop count buffer' ≡ drop count buffer
     → GivesNext (Some left) (Some (drop (at + count) bytes)) buffer buffer' count
 gives_from bytes left buffer buffer' at count here is_least same_length same rest =
-    gives_front left (drop (at + count) bytes) buffer buffer' count (omega arith) (omega arith)
-    (λ zero_count has_room. omega arith)
-    (sym (drop-drop count at bytes) ∙ ap (drop count) here) same rest
+    let gone : drop (at + count) bytes ≡ drop count left = sym (drop-drop count at bytes) ∙ ap (drop count) here in record {
+      fits = omega arith;
+      next = rw (gone, same) (sym (take-append-drop count left));
+      rest = rest;
+      end = λ zero_count has_room. gone ∙ drop_all count left (omega arith);
+    }
 
 -- one read after others: the bytes of both are gone
 pub consumes_more : (left left' left'' : Option (List ℕ)) (read piece : List ℕ)

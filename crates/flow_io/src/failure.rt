@@ -1,18 +1,15 @@
-use thiserror::Error;
-
 /// A read or a write that failed. What failed, and whether it would go better a second time, is
 /// not told.
-#[derive(Clone, Copy, Debug, Error)]
-#[error("the read or the write failed")]
+#[derive(Clone, Copy)]
 pub struct Failed;
 
 /// Why `read_all` gave no bytes.
-#[derive(Clone, Copy, Debug, Error)]
+#[derive(Clone, Copy)]
 pub enum ReadRefusal {
-    #[error("a read failed")]
+    /// A read failed.
     ReadFault,
-    #[error("there are too many bytes")]
+    /// There are more bytes than the limit.
     TooLong,
-    #[error("out of memory")]
+    /// There is no memory for them.
     NoMemory,
 }

@@ -1,4 +1,1 @@
-pub mod Knot
-pub mod Isolation
-pub mod EitherOrder
-pub mod Plain
+pub mod Workflows

@@ -3,7 +3,7 @@
 use Rattle.std.proofs.Common.{◌≡◌, ◌≢◌, ℕ, ◌≤◌, List, [], ◌∷◌, length, sym, ◌∙◌, subst, inl, inr, ⊎_elim, arith, ◌++◌, ◌⊎◌, map, refl, ap, le_refl, append_assoc, append-nil, length-append, zero, suc}
 use Rattle.std.proofs.lemmas.Bool.{cases_lt}
 use Rattle.flow_model.specs.Lists.{◌∈◌, Each, AreDistinct, StandsBefore, Begins}
-use Rattle.flow_model.specs.Process.{Process, leaves, Empty, Task, Sequence, Parallel, Choice, Isolated}
+use Rattle.flow_model.specs.Process.{Process, leaves, Sequence, Parallel, Choice, Isolated}
 use Rattle.flow_model.specs.Ready.{isolated_parts, InSequence, DirectlyBefore, IsReady, IsReadyRun, IsCompleteRun}
 use Rattle.flow_model.specs.Circle.{items_of, ItemBefore, LeadsBackTo, IsRing, IsCircle, least_of, BeginsWithLeast}
 use Rattle.flow_laws.specs.WellFormed.{IsOrdered}
@@ -204,13 +204,12 @@ ring_from_least q pairs items (x ∷ ring) r =
 -- decisions
 
 decide_sequence : (g : Process) (x y : ℕ) → Decided (InSequence g x y)
-decide_sequence Empty x y = inr (λ h. h)
-decide_sequence (Task n) x y = inr (λ h. h)
 decide_sequence (Sequence a b) x y =
     decide_either (decide_either (decide_both (decide_in x (leaves a)) (decide_in y (leaves b))) (decide_sequence a x y)) (decide_sequence b x y)
 decide_sequence (Parallel a b) x y = decide_either (decide_sequence a x y) (decide_sequence b x y)
 decide_sequence (Choice a b) x y = decide_either (decide_sequence a x y) (decide_sequence b x y)
 decide_sequence (Isolated a) x y = decide_sequence a x y
+decide_sequence leaf x y = inr (λ h. h)
 
 decide_pair_eq : (x y : ℕ × ℕ) → Decided (x ≡ y)
 decide_pair_eq (x, y) (u, v) = grind (arith, decide_eq x u, decide_eq y v)

@@ -58,12 +58,11 @@ two_in_halves a b m n f g (inl (inr h)) = one_in_halves a b (m ∷ n ∷ []) f g
 two_in_halves a b m n f g (inr h) = one_in_halves a b (m ∷ n ∷ []) f g (inr h)
 
 may_do_two : (g : Process) (m n : ℕ) → AreTogether g m n → MayDo g (m ∷ n ∷ [])
-may_do_two Empty m n h = absurd h
-may_do_two (Task k) m n h = absurd h
 may_do_two (Sequence a b) m n h = (two_in_halves a b m n (may_do_two a m n) (may_do_two b m n) h).0
 may_do_two (Parallel a b) m n h = (two_in_halves a b m n (may_do_two a m n) (may_do_two b m n) h).1
 may_do_two (Choice a b) m n h = in_choice a b (m ∷ n ∷ []) (may_do_two a m n) (may_do_two b m n) h
 may_do_two (Isolated a) m n h = do_isolated a (m ∷ n ∷ []) (may_do_two a m n h)
+may_do_two leaf m n h = absurd h
 
 -- the goal may be executed so that both leaves are done
 pub blocks_with_both : (g : Process) (m n : ℕ) → AreTogether g m n →
@@ -88,12 +87,11 @@ together_in_halves a b in_a in_b bs (x, y, hx, hy, s) m n i j d =
 
 pub are_together : (g : Process) (bs : List (List ℕ)) → Blocks g bs → (m n : ℕ) → m ∈ joined bs → n ∈ joined bs → m ≢ n →
     AreTogether g m n ⊎ AreTogether g n m
-are_together Empty bs h m n i j d = grind (arith, h, i)
-are_together (Task k) bs h m n i j d = grind (arith, h, i, j, d)
 are_together (Sequence a b) bs h m n i j d = together_in_halves a b (are_together a) (are_together b) bs (beside a b bs h) m n i j d
 are_together (Parallel a b) bs h m n i j d = together_in_halves a b (are_together a) (are_together b) bs h m n i j d
 are_together (Choice a b) bs h m n i j d = grind (arith, h, i, j, d, are_together a bs, are_together b bs)
 are_together (Isolated a) bs (x, h, e) m n i j d = grind (arith, e, joined-as_one x, i, j, are_together a x h m n, d)
+are_together leaf bs h m n i j d = grind (arith, h, i, j, d)
 
 -- The law
 

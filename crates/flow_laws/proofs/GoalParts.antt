@@ -12,12 +12,11 @@ use Rattle.flow_laws.proofs.MadeLists.{mem_joined, list_having, joined_apart, jo
 
 -- how many goals a goal is made of
 abbrev pub goal_size : Process → ℕ
-goal_size Empty = 1
-goal_size (Task n) = 1
 goal_size (Sequence a b) = suc (goal_size a + goal_size b)
 goal_size (Parallel a b) = suc (goal_size a + goal_size b)
 goal_size (Choice a b) = suc (goal_size a + goal_size b)
 goal_size (Isolated a) = suc (goal_size a)
+goal_size leaf = 1
 
 pub record IsJoined {A : Type 0} (whole a b : List A) : Type 0 where
   pub is : whole ≡ a ++ b
@@ -73,18 +72,16 @@ before_by_halves a b x y h in_a in_b = ⊎_elim (λ (m, k). before_across x y (l
     (⊎_elim (λ k. before_left x y (leaves a) (leaves b) (in_a k)) (λ k. before_right x y (leaves a) (leaves b) (in_b k))) h
 
 sequence_before : {g : Process} → Case g → (x y : ℕ) → InSequence g x y → StandsBefore x y (leaves g)
-sequence_before empty x y h = absurd h
-sequence_before task x y h = absurd h
 sequence_before (halves {a = u} {b = v} r a b) x y h = subst (StandsBefore x y) (sym r.leaves_are.is)
     (before_by_halves u v x y (r.in_sequence x y h) (sequence_before a x y) (sequence_before b x y))
 sequence_before (isolated a) x y h = sequence_before a x y h
+sequence_before none x y h = absurd h
 
 pub together_before : {g : Process} → Case g → (x y : ℕ) → AreTogether g x y → StandsBefore x y (leaves g)
-together_before empty x y h = absurd h
-together_before task x y h = absurd h
 together_before (halves {a = u} {b = v} r a b) x y h = subst (StandsBefore x y) (sym r.leaves_are.is)
     (before_by_halves u v x y (r.together x y h) (together_before a x y) (together_before b x y))
 together_before (isolated a) x y h = together_before a x y h
+together_before none x y h = absurd h
 
 pub sequence_first : (g : Process) (x y : ℕ) → InSequence g x y → x ∈ leaves g
 sequence_first g x y h = (before_members x y (leaves g) (sequence_before (case_of g) x y h)).0
@@ -113,11 +110,10 @@ record GoesUp (P : Process → Process → Type 0) : Type 0 where
 
 of_regions : (P : Process → Process → Type 0) → GoesUp P → {g : Process} → Case g → (part : Process) → part ∈ regions g → P g part
 of_regions P up {g} c part (inl e) = subst (P g) (sym e) (up.itself g)
-of_regions P up empty part (inr m) = absurd m
-of_regions P up task part (inr m) = absurd m
 of_regions P up (halves {a = u} {b = v} {g = g} r a b) part (inr m) = up.half u v g part r
     (⊎_elim (λ k. inl (of_regions P up a part (inr k))) (λ k. inr (of_regions P up b part (inr k))) (of_halves part r.parts_are m))
 of_regions P up (isolated {a = a} c) part (inr m) = up.body a part (of_regions P up c part m)
+of_regions P up none part (inr m) = absurd m
 
 -- the leaves of a region are leaves of the goal
 pub region_within : (q part : Process) → part ∈ regions q → IsWithin part q
@@ -151,8 +147,6 @@ pub nested : {q : Process} → Case q → (one two : Process) (n : ℕ) → AreD
     n ∈ leaves one → n ∈ leaves two → (one ∈ regions two) ⊎ (two ∈ regions one)
 nested c one two n d (inl e) l h k = inr (subst (λ p. two ∈ regions p) (sym e) l)
 nested c one two n d m (inl f) h k = inl (subst (λ p. one ∈ regions p) (sym f) m)
-nested empty one two n d (inr m) (inr l) h k = absurd m
-nested task one two n d (inr m) (inr l) h k = absurd m
 nested (halves {a = x} {b = y} r a b) one two n d (inr m) (inr l) h k =
     let (dx, dy, off) = distinct_parts (leaves x) (leaves y) (subst AreDistinct r.leaves_are.is d) in
     let across = λ (p o : Process) (i : p ∈ isolated_parts x) (j : o ∈ isolated_parts y) (f : n ∈ leaves p) (g : n ∈ leaves o).
@@ -161,12 +155,12 @@ nested (halves {a = x} {b = y} r a b) one two n d (inr m) (inr l) h k =
     let other_fact = λ (i : one ∈ isolated_parts y) (j : two ∈ isolated_parts y). nested b one two n dy (inr i) (inr j) h k in
     grind (arith, h, k, across one two, across two one, of_halves one r.parts_are m, of_halves two r.parts_are l)
 nested (isolated a) one two n d (inr m) (inr l) h k = nested a one two n d m l h k
+nested none one two n d (inr m) (inr l) h k = absurd m
 
 pub part_smaller : {q : Process} → Case q → (part : Process) → part ∈ isolated_parts q → goal_size part < goal_size q
-part_smaller empty part m = absurd m
-part_smaller task part m = absurd m
 part_smaller (halves r a b) part m = grind (arith, of_halves part r.parts_are m, part_smaller a part, part_smaller b part, r.size_is)
 part_smaller (isolated a) part m = grind (arith, m, part_smaller a part)
+part_smaller none part m = absurd m
 
 -- Items
 
@@ -203,12 +197,11 @@ joined_item [] = refl
 joined_item (n ∷ ns) = append-nil (n ∷ ns)
 
 pub joined_items : (g : Process) → joined (items_of g) ≡ leaves g
-joined_items Empty = refl
-joined_items (Task n) = refl
 joined_items (Sequence a b) = joined-append (items_of a) (items_of b) ∙ ap₂ ◌++◌ (joined_items a) (joined_items b)
 joined_items (Parallel a b) = joined-append (items_of a) (items_of b) ∙ ap₂ ◌++◌ (joined_items a) (joined_items b)
 joined_items (Choice a b) = joined-append (items_of a) (items_of b) ∙ ap₂ ◌++◌ (joined_items a) (joined_items b)
 joined_items (Isolated a) = joined_item (leaves a)
+joined_items leaf = refl
 
 pub item_within : (g : Process) (item : List ℕ) (x : ℕ) → item ∈ items_of g → x ∈ item → x ∈ leaves g
 item_within g item x m h = subst (λ l. x ∈ l) (joined_items g) (mem_joined x (items_of g) item m h)
@@ -228,14 +221,13 @@ item_of_leaf n (i ∷ list) m = inl refl
 -- a part with a leaf lies in an item
 item_around : {g : Process} → Case g → (part : Process) (n : ℕ) → part ∈ isolated_parts g → n ∈ leaves part →
     (item : List ℕ) × (item ∈ items_of g) × ((y : ℕ) → y ∈ leaves part → y ∈ item)
-item_around empty part n m h = absurd m
-item_around task part n m h = absurd m
 item_around (halves r a b) part n m h = ⊎_elim
     (λ k. let (item, i, f) = item_around a part n k h in (item, in_left item r.items_are i, f))
     (λ k. let (item, i, f) = item_around b part n k h in (item, in_right item r.items_are i, f))
     (of_halves part r.parts_are m)
 item_around (isolated {a} c) part n m h =
     let within = part_within (Isolated a) part in (leaves a, item_of_leaf n (leaves a) (within n m h), λ y. within y m)
+item_around none part n m h = absurd m
 
 -- and in each item of which it has a leaf
 part_in_item : (g part : Process) (item : List ℕ) (n : ℕ) → AreDistinct (leaves g) → part ∈ isolated_parts g → n ∈ leaves part →

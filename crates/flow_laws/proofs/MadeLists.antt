@@ -1,6 +1,7 @@
 -- Lists made of others: mapped, joined, filtered, numbered, reordered.
-use Rattle.std.proofs.Common.{◌≡◌, ◌≢◌, ℕ, zero, suc, ◌+◌, ◌*◌, ◌<◌, ◌≤◌, ◌⊎◌, List, [], ◌∷◌, ◌++◌, map, length, refl, sym, ap, ◌∙◌, inl, inr, ⊎_elim, append_assoc, flat_map, arith, slice_get, Option, Some, None, zero-add, suc-add, zero-mul, length-append, Bool, true, find, filter_map, filter}
+use Rattle.std.proofs.Common.{◌≡◌, ◌≢◌, ℕ, zero, suc, ◌+◌, ◌*◌, ◌<◌, ◌≤◌, ◌⊎◌, List, [], ◌∷◌, ◌++◌, map, length, refl, sym, ap, ◌∙◌, inl, inr, ⊎_elim, append_assoc, append-nil, flat_map, arith, slice_get, Option, Some, None, zero-add, suc-add, zero-mul, length-append, Bool, true, find, filter_map, filter}
 use Rattle.std.proofs.lemmas.Bool.{cases_Bool}
+use Rattle.std.proofs.lemmas.Grind.{flat_map-append}
 use Rattle.std.proofs.lemmas.List.{length-map}
 use Rattle.std.proofs.lemmas.Option.{slice_get-map}
 use Rattle.flow_model.specs.Lists.{◌∈◌, Each, AreDistinct, Begins, StandsBefore, IsOrderOf, joined, numbers_from, each_with_each}
@@ -33,6 +34,9 @@ of_each_with_each f z (x ∷ xs) ys h = grind (arith, mem-append z (map (f x) ys
 pub mem-flat_map : {A B : Type 0} (f : A → List B) (x : A) (y : B) (xs : List A) → x ∈ xs → y ∈ f x → y ∈ flat_map f xs
 mem-flat_map f x y [] h k = absurd h
 mem-flat_map f x y (z ∷ xs) h k = grind (arith, h, k, mem-flat_map f x y xs, mem_append_left y (f z), mem_append_right y (f z))
+
+pub flat_map_end : {A B : Type 0} (f : A → List B) (xs : List A) (x : A) → flat_map f (xs ++ x ∷ []) ≡ flat_map f xs ++ f x
+flat_map_end f xs x = flat_map-append f xs (x ∷ []) ∙ ap (λ l. flat_map f xs ++ l) (append-nil (f x))
 
 pub of_flat_map : {A B : Type 0} (f : A → List B) (y : B) (xs : List A) → y ∈ flat_map f xs → (x : A) × (x ∈ xs) × (y ∈ f x)
 of_flat_map f y [] h = absurd h

@@ -1,5 +1,5 @@
 -- Members of lists: what each has, and where they stand.
-use Rattle.std.proofs.Common.{◌≡◌, ◌≢◌, ℕ, zero, suc, List, [], ◌∷◌, ◌++◌, ◌⊎◌, length, length-append, arith, refl, sym, ap, inl, inr, ⊎_elim}
+use Rattle.std.proofs.Common.{◌≡◌, ◌≢◌, ◌<◌, ◌≤◌, ℕ, zero, suc, List, [], ◌∷◌, ◌++◌, ◌⊎◌, length, length-append, arith, refl, sym, ap, subst, inl, inr, ⊎_elim}
 use Rattle.flow_model.specs.Lists.{◌∈◌, Each, AreDistinct, StandsBefore}
 pub use Rattle.flow_model.specs.Decided.{Decided, decide_eq, decide_list_eq, decide_mem, decide_in, decide_not, decide_both, decide_either, decide_some, cons_same, not_empty}
 pub use Rattle.flow_model.proofs.Lists.{each-append, each_parts}
@@ -146,6 +146,20 @@ distinct_swap a b d = distinct-append b a (distinct_right a b d) (distinct_left 
 -- the member in the middle stands nowhere else
 pub not_elsewhere : {A : Type 0} (a b : List A) (x : A) → AreDistinct (a ++ x ∷ b) → ¬ (x ∈ a) × ¬ (x ∈ b)
 not_elsewhere a b x d = (λ h. distinct_apart a (x ∷ b) d x h (inl refl), (distinct_right a (x ∷ b) d).0)
+
+-- distinct numbers below n are at most n
+pub at_most : (n : ℕ) (xs : List ℕ) → AreDistinct xs → ((x : ℕ) → x ∈ xs → x < n) → length xs ≤ n
+at_most zero xs d h = omega (arith, ap length (no_members xs (λ x m. omega (arith, h x m))))
+at_most (suc n) xs d h = elim (decide_in n xs) [
+  | inl m ↦ (let (a, b, e) = split_at n xs m in
+      let (new, rest) = distinct_swap a (n ∷ b) (subst AreDistinct e d) in
+      let below = λ (x : ℕ) (k : x ∈ (b ++ a)). below_other n x (h x (rw e (mem_swap x (n ∷ b) a (inr k)))) (λ same. new (subst (λ z. z ∈ (b ++ a)) same k)) in
+      omega (arith, at_most n (b ++ a) rest below, ap length e, length-append a (n ∷ b), length-append b a))
+  | inr none ↦ (let most = at_most n xs d (λ x k. below_other n x (h x k) (λ same. none (subst (λ z. z ∈ xs) same k))) in omega (arith, most))
+]
+  where
+    below_other : (n x : ℕ) → x < suc n → x ≢ n → x < n
+    below_other n x less other = omega (arith, less, other)
 
 -- which stands before which
 

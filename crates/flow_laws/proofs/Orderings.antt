@@ -30,8 +30,6 @@ halves_keep a b in_a in_b bs (u, v, ha, hb, s) x y k =
     ⊎_elim (λ i. before_in_shuffle (shuffle-joined s) x y (in_a u ha x y i)) (λ i. before_in_shuffle (shuffle_swap (shuffle-joined s)) x y (in_b v hb x y i)) k
 
 pub before_in_blocks : (g : Process) → IsChoiceFree g → KeepsSequence g
-before_in_blocks Empty f bs h x y k = absurd k
-before_in_blocks (Task n) f bs h x y k = absurd k
 before_in_blocks (Sequence a b) (fa, fb) bs (u, v, ha, hb, e) x y k =
     let fact = λ (i : x ∈ leaves a) (j : y ∈ leaves b). before_across x y (joined u) (joined v) (leaf_in_blocks a fa u ha x i) (leaf_in_blocks b fb v hb y j) in
     grind (arith, k, e, joined-append u v, halves_keep a b (before_in_blocks a fa) (before_in_blocks b fb) bs (beside a b bs (u, v, ha, hb, e)) x y)
@@ -39,6 +37,7 @@ before_in_blocks (Parallel a b) (fa, fb) bs h x y k = halves_keep a b (before_in
 before_in_blocks (Choice a b) f bs h x y k = absurd f
 before_in_blocks (Isolated a) f bs (u, h, e) x y k =
     subst (StandsBefore x y) (sym (ap joined e ∙ joined-as_one u)) (before_in_blocks a f u h x y k)
+before_in_blocks leaf f bs h x y k = absurd k
 
 -- the list has that piece
 abbrev HasPiece : List ℕ → List ℕ → Type 0
@@ -69,8 +68,6 @@ whole_block [] n m = absurd m
 whole_block (b ∷ x) n m = inl refl
 
 part_in_block : (g : Process) → IsChoiceFree g → KeepsTogether g
-part_in_block Empty f bs h part m n k = absurd m
-part_in_block (Task i) f bs h part m n k = absurd m
 part_in_block (Sequence a b) (fa, fb) bs h part m n k =
     halves_together a b (part_in_block a fa) (part_in_block b fb) bs (beside a b bs h) part m n k
 part_in_block (Parallel a b) (fa, fb) bs h part m n k = halves_together a b (part_in_block a fa) (part_in_block b fb) bs h part m n k
@@ -82,6 +79,7 @@ part_in_block (Isolated a) f bs (x, h, e) part (inr i) n k =
     let (block, piece, l, r, same) = part_in_block a f x h part i n k in
     let there = whole_block x n (leaf_in_blocks a f x h n (part_within a part n i k)) in
     rw e (joined x, piece, there, piece_of_joined x block piece l r, same)
+part_in_block leaf f bs h part m n k = absurd m
 
 -- nothing stands between two members of a piece
 piece_unbroken : (list piece : List ℕ) → AreDistinct list → HasPiece piece list → (x y z : ℕ) → x ∈ piece → ¬ (y ∈ piece) → z ∈ piece →

@@ -32,42 +32,38 @@ blocks_of_a_resolution (Isolated a) bs (x, h, e) =
     let (q, m, k) = blocks_of_a_resolution a x h in (Isolated q, mem-map Isolated q _ m, (x, k, e))
 
 pub blocks_of_goal : (g q : Process) (bs : List (List ℕ)) → Resolves g q → Blocks q bs → Blocks g bs
-blocks_of_goal Empty q bs e h = subst (λ p. Blocks p bs) e h
-blocks_of_goal (Task n) q bs e h = subst (λ p. Blocks p bs) e h
 blocks_of_goal (Sequence a b) q bs (p, r, hp, hr, e) h =
     let (x, y, hx, hy, k) = subst (λ s. Blocks s bs) e h in (x, y, blocks_of_goal a p x hp hx, blocks_of_goal b r y hr hy, k)
 blocks_of_goal (Parallel a b) q bs (p, r, hp, hr, e) h =
     let (x, y, hx, hy, k) = subst (λ s. Blocks s bs) e h in (x, y, blocks_of_goal a p x hp hx, blocks_of_goal b r y hr hy, k)
 blocks_of_goal (Choice a b) q bs k h = grind (arith, k, blocks_of_goal a q bs, blocks_of_goal b q bs, h)
 blocks_of_goal (Isolated a) q bs (p, r, e) h = let (x, hx, k) = subst (λ s. Blocks s bs) e h in (x, blocks_of_goal a p x r hx, k)
+blocks_of_goal leaf q bs e h = subst (λ p. Blocks p bs) e h
 
 -- Which they are
 
 pub resolves_of : (g q : Process) → q ∈ resolutions g → Resolves g q
-resolves_of Empty q m = ⊎_elim (λ e. e) absurd m
-resolves_of (Task n) q m = ⊎_elim (λ e. e) absurd m
 resolves_of (Sequence a b) q m = grind (arith, of_each_with_each Sequence q (resolutions a) (resolutions b) m, resolves_of a, resolves_of b)
 resolves_of (Parallel a b) q m = grind (arith, of_each_with_each Parallel q (resolutions a) (resolutions b) m, resolves_of a, resolves_of b)
 resolves_of (Choice a b) q m = grind (arith, mem-append q (resolutions a) (resolutions b) m, resolves_of a q, resolves_of b q)
 resolves_of (Isolated a) q m = grind (arith, of_map Isolated q (resolutions a) m, resolves_of a)
+resolves_of leaf q m = ⊎_elim (λ e. e) absurd m
 
 pub mem-resolutions : (g q : Process) → Resolves g q → q ∈ resolutions g
-mem-resolutions Empty q e = inl e
-mem-resolutions (Task n) q e = inl e
 mem-resolutions (Sequence a b) q (x, y, hx, hy, e) = rw e (mem-each_with_each Sequence x y _ _ (mem-resolutions a x hx) (mem-resolutions b y hy))
 mem-resolutions (Parallel a b) q (x, y, hx, hy, e) = rw e (mem-each_with_each Parallel x y _ _ (mem-resolutions a x hx) (mem-resolutions b y hy))
 mem-resolutions (Choice a b) q h = mem_by_halves q (resolutions a) (resolutions b) (mem-resolutions a q) (mem-resolutions b q) h
 mem-resolutions (Isolated a) q (x, h, e) = rw e (mem-map Isolated x _ (mem-resolutions a x h))
+mem-resolutions leaf q e = inl e
 
 -- Their numbers
 
 pub length-resolutions : (g : Process) → length (resolutions g) ≡ resolution_count g
-length-resolutions Empty = refl
-length-resolutions (Task n) = refl
 length-resolutions (Sequence a b) = grind (arith, length-each_with_each Sequence (resolutions a) (resolutions b), length-resolutions a, length-resolutions b)
 length-resolutions (Parallel a b) = grind (arith, length-each_with_each Parallel (resolutions a) (resolutions b), length-resolutions a, length-resolutions b)
 length-resolutions (Choice a b) = grind (arith, length-append (resolutions a) (resolutions b), length-resolutions a, length-resolutions b)
 length-resolutions (Isolated a) = length-map (resolutions a) Isolated ∙ length-resolutions a
+length-resolutions leaf = refl
 
 -- the number of a resolution of two parts that both stay
 pub number_of_both : (f : Process → Process → Process) (a b x y : Process) (i j : ℕ) →
@@ -86,39 +82,38 @@ number_of_right a b x i e =
 -- Their leaves
 
 pub choice_free_resolution : (g q : Process) → Resolves g q → IsChoiceFree q
-choice_free_resolution Empty q e = rw e tt
-choice_free_resolution (Task n) q e = rw e tt
 choice_free_resolution (Sequence a b) q (x, y, hx, hy, e) = rw e (choice_free_resolution a x hx, choice_free_resolution b y hy)
 choice_free_resolution (Parallel a b) q (x, y, hx, hy, e) = rw e (choice_free_resolution a x hx, choice_free_resolution b y hy)
 choice_free_resolution (Choice a b) q h = ⊎_elim (choice_free_resolution a q) (choice_free_resolution b q) h
 choice_free_resolution (Isolated a) q (x, h, e) = rw e (choice_free_resolution a x h)
+choice_free_resolution leaf q e = rw e tt
+
+-- each leaf of the one is a leaf of the other, and stands once where it does there
+abbrev KeepsLeaves : Process → Process → Type 0
+KeepsLeaves g q = ((n : ℕ) → n ∈ leaves q → n ∈ leaves g) × (AreDistinct (leaves g) → AreDistinct (leaves q))
+
+halves_kept : (a b x y : Process) → KeepsLeaves a x → KeepsLeaves b y → KeepsLeaves (Parallel a b) (Parallel x y)
+halves_kept a b x y (of_a, in_a) (of_b, in_b) = (
+  λ n m. mem_by_halves n (leaves a) (leaves b) (of_a n) (of_b n) (mem-append n (leaves x) (leaves y) m),
+  λ d. let (da, db, apart) = distinct_parts (leaves a) (leaves b) d in
+      distinct-append (leaves x) (leaves y) (in_a da) (in_b db) (λ n h k. apart n (of_a n h) (of_b n k)),
+)
+
+kept_leaves : (g q : Process) → Resolves g q → KeepsLeaves g q
+kept_leaves (Sequence a b) q (x, y, hx, hy, e) = rw e (halves_kept a b x y (kept_leaves a x hx) (kept_leaves b y hy))
+kept_leaves (Parallel a b) q (x, y, hx, hy, e) = rw e (halves_kept a b x y (kept_leaves a x hx) (kept_leaves b y hy))
+kept_leaves (Choice a b) q (inl h) =
+    let (of_a, in_a) = kept_leaves a q h in (λ n m. mem_append_left n (leaves a) (leaves b) (of_a n m), λ d. in_a (distinct_left (leaves a) (leaves b) d))
+kept_leaves (Choice a b) q (inr h) =
+    let (of_b, in_b) = kept_leaves b q h in (λ n m. mem_append_right n (leaves a) (leaves b) (of_b n m), λ d. in_b (distinct_right (leaves a) (leaves b) d))
+kept_leaves (Isolated a) q (x, h, e) = rw e (kept_leaves a x h)
+kept_leaves leaf q e = rw e (λ n m. m, λ d. d)
 
 pub mem-leaves_of_goal : (g q : Process) → Resolves g q → (n : ℕ) → n ∈ leaves q → n ∈ leaves g
-mem-leaves_of_goal Empty q e n m = subst (λ p. n ∈ leaves p) e m
-mem-leaves_of_goal (Task k) q e n m = subst (λ p. n ∈ leaves p) e m
-mem-leaves_of_goal (Sequence a b) q (x, y, hx, hy, e) n m = mem_by_halves n (leaves a) (leaves b)
-    (mem-leaves_of_goal a x hx n) (mem-leaves_of_goal b y hy n) (mem-append n (leaves x) (leaves y) (subst (λ p. n ∈ leaves p) e m))
-mem-leaves_of_goal (Parallel a b) q (x, y, hx, hy, e) n m = mem_by_halves n (leaves a) (leaves b)
-    (mem-leaves_of_goal a x hx n) (mem-leaves_of_goal b y hy n) (mem-append n (leaves x) (leaves y) (subst (λ p. n ∈ leaves p) e m))
-mem-leaves_of_goal (Choice a b) q h n m = mem_by_halves n (leaves a) (leaves b) (λ k. mem-leaves_of_goal a q k n m) (λ k. mem-leaves_of_goal b q k n m) h
-mem-leaves_of_goal (Isolated a) q (x, h, e) n m = mem-leaves_of_goal a x h n (subst (λ p. n ∈ leaves p) e m)
-
-halves_distinct : (a b x y : Process) → Resolves a x → Resolves b y → (AreDistinct (leaves a) → AreDistinct (leaves x)) →
-    (AreDistinct (leaves b) → AreDistinct (leaves y)) → AreDistinct (leaves (Parallel a b)) → AreDistinct (leaves (Parallel x y))
-halves_distinct a b x y hx hy in_a in_b d =
-    let (da, db, apart) = distinct_parts (leaves a) (leaves b) d in distinct-append (leaves x) (leaves y) (in_a da) (in_b db)
-    (λ n h k. apart n (mem-leaves_of_goal a x hx n h) (mem-leaves_of_goal b y hy n k))
+mem-leaves_of_goal g q r = (kept_leaves g q r).0
 
 pub distinct_leaves_of_resolution : (g q : Process) → Resolves g q → AreDistinct (leaves g) → AreDistinct (leaves q)
-distinct_leaves_of_resolution Empty q e d = rw e d
-distinct_leaves_of_resolution (Task n) q e d = rw e d
-distinct_leaves_of_resolution (Sequence a b) q (x, y, hx, hy, e) d =
-    rw e (halves_distinct a b x y hx hy (distinct_leaves_of_resolution a x hx) (distinct_leaves_of_resolution b y hy) d)
-distinct_leaves_of_resolution (Parallel a b) q (x, y, hx, hy, e) d =
-    rw e (halves_distinct a b x y hx hy (distinct_leaves_of_resolution a x hx) (distinct_leaves_of_resolution b y hy) d)
-distinct_leaves_of_resolution (Choice a b) q h d =
-    grind (arith, h, distinct_parts (leaves a) (leaves b) d, distinct_leaves_of_resolution a q, distinct_leaves_of_resolution b q)
-distinct_leaves_of_resolution (Isolated a) q (x, h, e) d = rw e (distinct_leaves_of_resolution a x h d)
+distinct_leaves_of_resolution g q r = (kept_leaves g q r).1
 
 -- Executions by their leaves
 
@@ -147,8 +142,6 @@ halves_have a b u v x y bs d hu hv hx hy s just = (λ n. (at n).0, λ n. (at n).
         grind (arith, just n, leaf_of_blocks a x hx n, leaf_of_blocks b y hy n, mem-leaves_of_goal a u hu n, mem-leaves_of_goal b v hv n)
 
 blocks_by_leaves : (g q : Process) → AreDistinct (leaves g) → Resolves g q → (bs : List (List ℕ)) → Blocks g bs → HasJust q bs → Blocks q bs
-blocks_by_leaves Empty q d r bs h just = rw r h
-blocks_by_leaves (Task n) q d r bs h just = rw r h
 blocks_by_leaves (Sequence a b) q d (u, v, hu, hv, e) bs (x, y, hx, hy, i) just =
     let (first, second) = halves_have a b u v x y bs d hu hv hx hy (rw i (shuffle-append x y)) (subst (λ s. HasJust s bs) e just) in
     let (da, db, _) = distinct_parts (leaves a) (leaves b) d in
@@ -166,6 +159,7 @@ blocks_by_leaves (Choice a b) q d (inr r) bs (inl h) just = no_common_leaf a q b
 blocks_by_leaves (Isolated a) q d (u, r, e) bs (x, h, i) just =
     let inner = subst (λ l. (n : ℕ) → (n ∈ l) ↔ (n ∈ leaves u)) (ap joined i ∙ joined-as_one x) (subst (λ s. HasJust s bs) e just) in
     rw e (x, blocks_by_leaves a u d r x h inner, i)
+blocks_by_leaves leaf q d r bs h just = rw r h
 
 pub goal_trace : (g q : Process) → q ∈ resolutions g → (t : List ℕ) → Trace q t → Trace g t
 goal_trace g q m t (bs, h, e) = (bs, blocks_of_goal g q bs (resolves_of g q m) h, e)

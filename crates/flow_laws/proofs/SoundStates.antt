@@ -4,7 +4,7 @@ use Rattle.std.proofs.lemmas.Bool.{eq-eqb, leb-true}
 use Rattle.std.proofs.lemmas.List.{length-take-le, length-map, map-append}
 use Rattle.std.proofs.lemmas.List.Elements.{filter-append}
 use Rattle.flow_model.specs.declared.labels.Label.{Label}
-use Rattle.flow_model.specs.declared.labels.Label.TheVariants.{Event, Test, Absent, Ins, Del}
+use Rattle.flow_model.specs.declared.labels.Label.TheVariants.{Test, Absent}
 use Rattle.flow_model.specs.declared.history.Entry.{Entry}
 use Rattle.flow_model.specs.declared.history.Step.{Step}
 use Rattle.flow_model.specs.declared.history.Step.TheVariants.{Took, Done, Failed, Late, Did, Rewound, Committed}
@@ -36,11 +36,9 @@ event_if (Some label) = event_in label
 
 -- a label that is an event's, or neither a test nor an absence, holds always
 holds_freely : (s : State) (label : Label) → NeverWaits label ⊎ (is_some (event_in label) ≡ true) → Holds s label
-holds_freely s (Event e) h = tt
 holds_freely s (Test f) h = ⊎_elim absurd (λ e. absurd (true≢false (sym e))) h
 holds_freely s (Absent f) h = ⊎_elim absurd (λ e. absurd (true≢false (sym e))) h
-holds_freely s (Ins f) h = tt
-holds_freely s (Del f) h = tt
+holds_freely s other h = tt
 
 -- an event may be performed in every state
 pub event_holds : (w : Schema) (s : State) (n : ℕ) → IsEventLeaf w n → HoldsAt w.labels s n

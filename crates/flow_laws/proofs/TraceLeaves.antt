@@ -34,8 +34,6 @@ in_halves a b bs (x, y, ha, hb, s) = (x, y, ha, hb, shuffle-joined s)
 
 -- each leaf that is done is one of the goal
 pub leaf_of_blocks : (g : Process) (bs : List (List ℕ)) → Blocks g bs → (n : ℕ) → n ∈ joined bs → n ∈ leaves g
-leaf_of_blocks Empty bs h n m = subst (λ w. n ∈ joined w) h m
-leaf_of_blocks (Task k) bs h n m = subst (λ w. n ∈ joined w) h m
 leaf_of_blocks (Sequence a b) bs h n m =
     let (x, y, ha, hb, s) = in_halves a b bs (beside a b bs h) in
     mem_by_halves n (leaves a) (leaves b) (leaf_of_blocks a x ha n) (leaf_of_blocks b y hb n) (of_shuffle s n m)
@@ -45,11 +43,10 @@ leaf_of_blocks (Parallel a b) bs h n m =
 leaf_of_blocks (Choice a b) bs h n m =
     mem_by_halves n (leaves a) (leaves b) (λ k. leaf_of_blocks a bs k n m) (λ k. leaf_of_blocks b bs k n m) h
 leaf_of_blocks (Isolated a) bs (x, h, e) n m = leaf_of_blocks a x h n (subst (λ w. n ∈ w) (ap joined e ∙ joined-as_one x) m)
+leaf_of_blocks leaf bs h n m = subst (λ w. n ∈ joined w) h m
 
 -- each leaf of the goal is done
 pub leaf_in_blocks : (q : Process) → IsChoiceFree q → (bs : List (List ℕ)) → Blocks q bs → (n : ℕ) → n ∈ leaves q → n ∈ joined bs
-leaf_in_blocks Empty f bs h n m = absurd m
-leaf_in_blocks (Task k) f bs h n m = subst (λ w. n ∈ joined w) (sym h) m
 leaf_in_blocks (Sequence a b) (fa, fb) bs h n m =
     let (x, y, ha, hb, s) = in_halves a b bs (beside a b bs h) in
     mem_shuffle s n (leaf_in_blocks a fa x ha n) (leaf_in_blocks b fb y hb n) (mem-append n (leaves a) (leaves b) m)
@@ -58,6 +55,7 @@ leaf_in_blocks (Parallel a b) (fa, fb) bs h n m =
     mem_shuffle s n (leaf_in_blocks a fa x ha n) (leaf_in_blocks b fb y hb n) (mem-append n (leaves a) (leaves b) m)
 leaf_in_blocks (Choice a b) f bs h n m = absurd f
 leaf_in_blocks (Isolated a) f bs (x, h, e) n m = subst (λ w. n ∈ w) (sym (ap joined e ∙ joined-as_one x)) (leaf_in_blocks a f x h n m)
+leaf_in_blocks leaf f bs h n m = subst (λ w. n ∈ joined w) (sym h) m
 
 pub leaf_of_trace : (g : Process) (t : List ℕ) → Trace g t → (n : ℕ) → n ∈ t → n ∈ leaves g
 leaf_of_trace g t (bs, h, e) n m = leaf_of_blocks g bs h n (subst (λ w. n ∈ w) e m)
@@ -91,8 +89,6 @@ blocks_of_none (Isolated a) bs (x, h, e) none =
 -- No leaf stands twice
 
 pub distinct_blocks : (g : Process) → AreDistinct (leaves g) → (bs : List (List ℕ)) → Blocks g bs → AreDistinct (joined bs)
-distinct_blocks Empty d bs h = subst (λ w. AreDistinct (joined w)) (sym h) tt
-distinct_blocks (Task k) d bs h = subst (λ w. AreDistinct (joined w)) (sym h) d
 distinct_blocks (Sequence a b) d bs h =
     let (da, db, apart) = distinct_parts (leaves a) (leaves b) d in
     let (x, y, ha, hb, s) = in_halves a b bs (beside a b bs h) in distinct-shuffle s (distinct_blocks a da x ha) (distinct_blocks b db y hb)
@@ -104,6 +100,7 @@ distinct_blocks (Parallel a b) d bs h =
 distinct_blocks (Choice a b) d bs h =
     let (da, db, _) = distinct_parts (leaves a) (leaves b) d in ⊎_elim (distinct_blocks a da bs) (distinct_blocks b db bs) h
 distinct_blocks (Isolated a) d bs (x, h, e) = subst AreDistinct (sym (ap joined e ∙ joined-as_one x)) (distinct_blocks a d x h)
+distinct_blocks leaf d bs h = subst (λ w. AreDistinct (joined w)) (sym h) d
 
 pub distinct_trace : (g : Process) → AreDistinct (leaves g) → (t : List ℕ) → Trace g t → AreDistinct t
 distinct_trace g d t (bs, h, e) = subst AreDistinct (sym e) (distinct_blocks g d bs h)

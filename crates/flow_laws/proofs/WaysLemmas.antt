@@ -4,7 +4,7 @@ use Rattle.std.proofs.lemmas.Bool.{cases_Bool, eqb-true, eqb-false, eq-eqb}
 use Rattle.flow_model.specs.declared.labels.Label.{Label}
 use Rattle.flow_model.specs.Lists.{◌∈◌, Each, StandsBefore, AreDistinct, AreInOrder, each_with_each}
 use Rattle.flow_model.specs.Facts.{event_at, is_event, events_of}
-use Rattle.flow_model.specs.Ways.{Normal, always, impossible, must, never, before, not_before, both, either, ways, leaf_of_event, free_way, is_free, ways_of_must, ways_of_never, ways_of_before, ways_of_not_before, normal_form, chain, broken_chain}
+use Rattle.flow_model.specs.Ways.{Normal, always, impossible, must, never, before, not_before, both, either, ways, leaf_of_event, free_way, is_free, ways_of_before, ways_of_not_before, normal_form, chain, broken_chain}
 use Rattle.flow_model.specs.Constraint.{Constraint, Always, Impossible, Must, Never, Order, Not, And, Or, Meets, HappenInOrder}
 use Rattle.flow_model.specs.Decided.{decide_in, decide_before, decide_meets}
 use Rattle.flow_laws.proofs.Members.{mem-append, each-append, before_members, mem_append_left, mem_append_right, each_parts, not_both_ways, before_or_after, not_before_itself, each_from_members, each_member}
@@ -164,14 +164,6 @@ pair_is t x y to from = (
   λ (way, m, s). ⊎_elim (λ (e : way ≡ (x, y) ∷ []). from (subst (λ v. AreInOrder v t) e s).0) absurd m,
 )
 
-must_by_way : {labels : List Label} {t ls : List ℕ} → AreItsLeaves labels t ls → (e : ℕ) (o : Option ℕ) →
-    leaf_of_event labels ls e ≡ o → (e ∈ events_of labels t) ↔ HasWay (ways_of_must o) t
-must_by_way {t = t} l e o h = grind (arith, h, cases_option o, event_is_not_there l e, event_is_there l e, free_has_way t)
-
-never_by_way : {labels : List Label} {t ls : List ℕ} → AreItsLeaves labels t ls → (e : ℕ) (o : Option ℕ) →
-    leaf_of_event labels ls e ≡ o → (¬ (e ∈ events_of labels t)) ↔ HasWay (ways_of_never o) t
-never_by_way {t = t} l e o h = grind (arith, h, cases_option o, event_is_not_there l e, event_is_there l e, free_has_way t)
-
 -- where one event is not there, or the two are one, they do not stand in order
 not_in_order : {labels : List Label} {t ls : List ℕ} → AreItsLeaves labels t ls → (a b : ℕ) →
     ((a == b) ≡ true) ⊎ ((leaf_of_event labels ls a ≡ None) ⊎ (leaf_of_event labels ls b ≡ None)) → ¬ (StandsBefore a b (events_of labels t))
@@ -237,8 +229,10 @@ pub ways_decide : {labels : List Label} {t ls : List ℕ} → AreItsLeaves label
     MeetsNormal n (events_of labels t) ↔ HasWay (ways n (leaf_of_event labels ls)) t
 ways_decide {t = t} l always = (λ h. free_has_way t, λ h. tt)
 ways_decide l impossible = (λ h. absurd h, λ h. h.1)
-ways_decide l (must e) = must_by_way l e _ refl
-ways_decide l (never e) = never_by_way l e _ refl
+ways_decide {labels} {t} {ls} l (must e) =
+    grind (arith, cases_option (leaf_of_event labels ls e), event_is_not_there l e, event_is_there l e, free_has_way t)
+ways_decide {labels} {t} {ls} l (never e) =
+    grind (arith, cases_option (leaf_of_event labels ls e), event_is_not_there l e, event_is_there l e, free_has_way t)
 ways_decide l (before a b) = before_by_way l a b _ refl _ refl _ refl
 ways_decide l (not_before a b) = not_before_by_way l a b _ refl _ refl _ refl
 ways_decide {t = t} l (both x y) = both_by_way t _ _ _ _ (ways_decide l x) (ways_decide l y)

@@ -2,8 +2,8 @@
 use Rattle.std.specs.Prelude.{◌≡◌, ℕ, ◌≤◌, false, List, length, map, ◌⊎◌}
 use Rattle.flow_model.specs.declared.history.Entry.{Entry}
 use Rattle.flow_model.specs.declared.labels.Label.{Label}
-use Rattle.flow_model.specs.declared.labels.Label.TheVariants.{Event, Test, Absent, Ins, Del}
-use Rattle.flow_model.specs.Lists.{◌∈◌, Each, Begins, numbers_from}
+use Rattle.flow_model.specs.declared.labels.Label.TheVariants.{Test, Absent}
+use Rattle.flow_model.specs.Lists.{◌∈◌, Each, numbers_from}
 use Rattle.flow_model.specs.Facts.{Runs}
 use Rattle.flow_model.specs.Schema.{Schema, start_of, IsEventLeaf, IsGood}
 use Rattle.flow_model.specs.Run.{Claim, RunState, current_claims, current_leaves, MayAllFollow, CanTake, CanDoAside, IsLegal, IsStuck, state_of}
@@ -21,10 +21,6 @@ pub record IsSound (w : Schema) (s : RunState) : Type 0 where
   -- in some one option the current claims' leaves may follow the journal in every order
   pub extends : MayAllFollow w s (current_leaves s)
 
-abbrev pub LegalStatesExtend : Type 0
-LegalStatesExtend = (w : Schema) → IsWellFormed w → IsConsistent w → (limit : ℕ) (history : List Entry) → IsLegal w limit history →
-    (front : List Entry) → Begins history front → IsSound w (state_of w front)
-
 -- a claim is out, or some leaf can be taken or, state aside, done
 abbrev pub NeverAtALoss : Type 0
 NeverAtALoss = (w : Schema) → IsWellFormed w → IsConsistent w → (limit : ℕ) (history : List Entry) → IsLegal w limit history →
@@ -33,11 +29,9 @@ NeverAtALoss = (w : Schema) → IsWellFormed w → IsConsistent w → (limit : �
 
 -- the label is neither a test nor an absence
 abbrev pub NeverWaits : Label → Type 0
-NeverWaits (Event e) = Unit {0}
 NeverWaits (Test f) = ⊥
 NeverWaits (Absent f) = ⊥
-NeverWaits (Ins f) = Unit {0}
-NeverWaits (Del f) = Unit {0}
+NeverWaits other = Unit {0}
 
 abbrev pub NeverStuckWithoutTests : Type 0
 NeverStuckWithoutTests = (w : Schema) → IsWellFormed w → IsConsistent w → Each NeverWaits w.labels →

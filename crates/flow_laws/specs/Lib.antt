@@ -2,7 +2,6 @@ pub mod WellFormed
 pub mod Resolutions
 pub mod ReadyRuns
 pub mod Orders
-pub mod Ways
 pub mod Circles
 pub mod Histories
 pub mod Spared

@@ -1,10 +1,9 @@
 -- Which claims a new epoch spares.
-use Rattle.std.specs.Prelude.{◌≡◌, ℕ, ◌+◌, ◌≤◌, Bool, ◌&&◌, if◌then◌else◌, IsTrue, List, [], ◌∷◌, ◌++◌, ◌⊎◌, ◌↔◌}
+use Rattle.std.specs.Prelude.{◌≡◌, ℕ, ◌+◌, Bool, ◌&&◌, if◌then◌else◌, IsTrue, List, [], ◌∷◌, ◌++◌, ◌⊎◌, ◌↔◌}
 use Rattle.std.specs.List.{filter}
-use Rattle.flow_model.specs.Lists.{Each}
 use Rattle.flow_model.specs.Schema.{Schema}
 use Rattle.flow_model.specs.Decided.{can_all_follow}
-use Rattle.flow_model.specs.Run.{Claim, RunState, is_current, current_leaves, MayAllFollow, spare, with_new_epoch}
+use Rattle.flow_model.specs.Run.{Claim, RunState, is_current, MayAllFollow, spare}
 
 -- the claim is current, and in some one option its leaf and those before it may follow in every order
 abbrev pub IsSpared : Schema → RunState → List ℕ → Claim → Type 0
@@ -16,10 +15,6 @@ AreSpared w s before [] left = left ≡ []
 AreSpared w s before (claim ∷ claims) left = (rest : List Claim) × (
     (IsSpared w s before claim × (left ≡ record claim { epoch = s.epoch + 1 } ∷ rest) × AreSpared w s (before ++ claim.leaf ∷ []) claims rest)
     ⊎ (¬ (IsSpared w s before claim) × (left ≡ claim ∷ rest) × AreSpared w s before claims rest))
-
-abbrev pub JustTheseAreSpared : Type 0
-JustTheseAreSpared = (w : Schema) (s : RunState) (left : List Claim) →
-    AreSpared w s [] s.claims left ↔ (left ≡ (with_new_epoch w s).claims)
 
 -- an answer to the question is the test
 abbrev pub AnswersAreTheTest : Type 0
@@ -33,11 +28,6 @@ spared_leaves w s before (claim ∷ claims) =
     if is_current s claim && can_all_follow w s (before ++ claim.leaf ∷ [])
     then claim.leaf ∷ spared_leaves w s (before ++ claim.leaf ∷ []) claims
     else spared_leaves w s before claims
-
--- no claim is current in a new epoch but those that are spared
-abbrev pub JustTheSparedAreCurrent : Type 0
-JustTheSparedAreCurrent = (w : Schema) (s : RunState) → Each (λ (claim : Claim). claim.epoch ≤ s.epoch) s.claims →
-    current_leaves (with_new_epoch w s) ≡ spared_leaves w s [] s.claims
 
 -- the claims in two pieces: the second is looked at after what is spared of the first
 abbrev pub SparedPieceByPiece : Type 0

@@ -43,7 +43,7 @@ pub fn lex(alloc: Global, text: &[u8]) -> Result<Vec<Token>, TextRefusal>
     if let Some(place) = first_not_ascii(text) {
         return Err(TextRefusal::NotAscii { place });
     }
-    let mut tokens = Vec::new(alloc);
+    let mut tokens = Vec::with_capacity(alloc, text.len())?;
     let mut place = 0;
     let mut rest = text;
     while !rest.is_empty() {

@@ -3,7 +3,6 @@ pub mod RowLemmas
 pub mod SpanLemmas
 pub mod PartLemmas
 pub mod MarkLemmas
-pub mod SweepLemmas
 pub mod Readiness
 pub mod Together
 pub mod Following

@@ -1,11 +1,13 @@
 -- What is read from the marks of a goal.
 use Rattle.std.proofs.lemmas.Bool.{or_cases, or_left, or_right}
-use Rattle.std.proofs.Common.{◌≡◌, ℕ, ◌+◌, ◌||◌, Bool, true, false, IsTrue, List, [], ◌∷◌, ◌++◌, length, MatchOption, inl, inr, ◌⊎◌, ⊎_elim, refl, sym, ap, ◌∙◌, subst, append-nil, reverse, arith}
+use Rattle.std.proofs.Common.{◌≡◌, ℕ, ◌+◌, false, IsTrue, List, [], ◌∷◌, ◌++◌, length, MatchOption, inl, inr, ◌⊎◌, ⊎_elim, refl, sym, ap, ◌∙◌, ◌-◌, take, drop, subst, append-nil, append_assoc, arith}
+use Rattle.std.proofs.Math.Seq.{take-append_seam}
+use Rattle.std.specs.List.Sorted.{IsStrictlyIncreasing}
 use Rattle.leaf_rows.specs.Leaves.{has_leaf}
 use Rattle.leaf_rows.specs.declared.leaf_set.LeafSet.{LeafSet}
-use Rattle.flow_model.specs.Lists.{◌∈◌}
+use Rattle.flow_model.specs.Lists.{◌∈◌, AreDistinct}
 use Rattle.flow_model.specs.Process.{Process, Empty, Task, Sequence, Parallel, Choice, Isolated, leaves, IsChoiceFree}
-use Rattle.flow_laws.proofs.Members.{mem_append_left, mem_append_right, mem-append}
+use Rattle.flow_laws.proofs.Members.{mem_append_left, mem_append_right, mem-append, distinct_left, distinct_right}
 use Rattle.flow_goal.specs.declared.node.Node.{Node}
 use Rattle.flow_goal.specs.declared.node.Node.TheVariants.{Serial, Split, Join, Close}
 use Rattle.flow_goal.specs.Written.{nodes_of}
@@ -13,11 +15,12 @@ use Rattle.flow_goal.proofs.WrittenLemmas.{StandAt, first_stand, second_stand, s
 use Rattle.flow_plan.specs.declared.outline.Outline.{Outline}
 use Rattle.flow_plan.specs.declared.span.Span.{Span}
 use Rattle.flow_plan.specs.declared.sweep.Sweep.{Sweep}
-use Rattle.flow_plan.specs.Rows.{IsRowOf, FitsRows, AddsRows}
-use Rattle.flow_plan.specs.RowMarks.{IsWith, IsJoined, IsUnion, MakesRows, MakesRowsBy, Completes}
-use Rattle.flow_plan.specs.Spans.{AddsSpans}
+use Rattle.flow_plan.specs.Rows.{IsRowOf, HasRows}
+use Rattle.flow_plan.specs.RowMarks.{IsWith, IsUnion, MakesRows, Completes}
+use Rattle.flow_plan.specs.Spans.{at_span, AddsSpans}
 use Rattle.flow_plan.specs.SpanMarks.{MakesSpans, Outlines}
-use Rattle.flow_plan.proofs.RowLemmas.{fits_first, fits_second, adds_sequence, adds_beside, first_rows, one_more}
+use Rattle.flow_plan.proofs.PlaceLemmas.{distinct_of_rising}
+use Rattle.flow_plan.proofs.RowLemmas.{has_sequence, has_parallel, first_rows, one_more}
 use Rattle.flow_plan.proofs.SpanLemmas.{spans_of_none, spans_of_both, spans_of_isolated}
 
 -- ---- rows
@@ -25,16 +28,6 @@ use Rattle.flow_plan.proofs.SpanLemmas.{spans_of_none, spans_of_both, spans_of_i
 -- what is ahead of what follows a goal
 abbrev pub IsBehind : Process → LeafSet 16 → LeafSet 16 → Type 0
 IsBehind g ahead more = IsRowOf (λ x. IsTrue (has_leaf ahead x) ⊎ (x ∈ leaves g)) more
-
--- one test that follows from the other
-covered : (s t : Bool) → (IsTrue s → IsTrue t) → t ≡ (s || t)
-covered true t h = h refl
-covered false t h = refl
-
-covering : (s t : Bool) → (IsTrue t → IsTrue s) → s ≡ (s || t)
-covering true t h = refl
-covering false true h = h refl
-covering false false h = refl
 
 behind_leaf : (n : ℕ) (ahead more : LeafSet 16) → IsWith n ahead more → IsBehind (Task n) ahead more
 behind_leaf n ahead more is x = let one = one_more x n (has_leaf ahead x) in (λ has. one.0 (sym (is x) ∙ has), λ either. is x ∙ one.1 either)
@@ -58,101 +51,74 @@ behind_parallel a b ahead one two all first second is x = (
       (λ in_b. or_left (has_leaf two x) (has_leaf one x) ((second x).1 (inr in_b))) (mem-append x (leaves a) (leaves b) m)) either,
 )
 
-joined_is : (a b : Process) (ahead one two all : LeafSet 16) → IsBehind a ahead one → IsBehind b ahead two → IsJoined ahead one two all → IsUnion two one all
-joined_is a b ahead one two all first second (inl (none, same)) x =
-    ap (λ (s : LeafSet 16). has_leaf s x) same ∙ covered (has_leaf two x) (has_leaf one x) (λ h. (first x).1 (inl (subst (λ (s : LeafSet 16). IsTrue (has_leaf s x)) none h)))
-joined_is a b ahead one two all first second (inr (inl (none, same))) x =
-    ap (λ (s : LeafSet 16). has_leaf s x) same ∙ covering (has_leaf two x) (has_leaf one x) (λ h. (second x).1 (inl (subst (λ (s : LeafSet 16). IsTrue (has_leaf s x)) none h)))
-joined_is a b ahead one two all first second (inr (inr is)) x = is x
-
 -- the marks of a goal make the rows of its leaves
 module _ (q : Process) (ns : List ℕ) where
-  pub goal_rows : (g : Process) (nodes : List Node) (k : ℕ) (ahead : LeafSet 16) (forks rows : List (LeafSet 16)) → IsChoiceFree g → FitsRows g → StandAt ns k (leaves g) →
-      ((more : LeafSet 16) (new : List (LeafSet 16)) → IsBehind g ahead more → AddsRows g ahead rows new → MakesRows q nodes ns (k + length (leaves g)) more forks new) →
+  goal_rows : (g : Process) (nodes : List Node) (k : ℕ) (ahead : LeafSet 16) (forks rows : List (LeafSet 16)) → IsChoiceFree g → AreDistinct (leaves g) → StandAt ns k (leaves g) →
+      ((more : LeafSet 16) (added : List (LeafSet 16)) → IsBehind g ahead more → HasRows g ahead added → MakesRows q nodes ns (k + length (leaves g)) more forks (rows ++ added)) →
       MakesRows q (nodes_of g ++ nodes) ns k ahead forks rows
-  goal_rows Empty nodes k ahead forks rows free fits at then =
+  goal_rows Empty nodes k ahead forks rows free distinct at then =
       subst (λ (j : ℕ). MakesRows q nodes ns j ahead forks rows) (omega arith)
-      (then ahead rows (λ x. (λ h. inl h, λ either. ⊎_elim (λ h. h) (λ none. absurd none) either))
-      (record { added = []; is = sym (append-nil rows); rows = tt }))
-  goal_rows (Task n) nodes k ahead forks rows free fits at then =
+      (subst (λ l. MakesRows q nodes ns (k + 0) ahead forks l) (append-nil rows)
+      (then ahead [] (λ x. (λ h. inl h, λ either. ⊎_elim (λ h. h) (λ none. absurd none) either)) tt))
+  goal_rows (Task n) nodes k ahead forks rows free distinct at then =
       subst (λ o. MatchOption o ⊥ (λ n. (more : LeafSet 16) → IsWith n ahead more → MakesRows q nodes ns (k + 1) more forks (rows ++ ahead ∷ [])))
       (sym (leaf_stands ns k n at.0 at.1))
-      (λ more is. then more (rows ++ ahead ∷ []) (behind_leaf n ahead more is)
-      (record { added = ahead ∷ []; is = refl; rows = ((λ x. (λ h. inl h, λ either. ⊎_elim (λ h. h) (λ none. absurd none) either)), tt) }))
-  goal_rows (Sequence a b) nodes k ahead forks rows free fits at then =
+      (λ more is. then more (ahead ∷ []) (behind_leaf n ahead more is) ((λ x. (λ h. inl h, λ either. ⊎_elim (λ h. h) (λ none. absurd none) either)), tt))
+  goal_rows (Sequence a b) nodes k ahead forks rows free distinct at then =
       subst (λ l. MakesRows q l ns k ahead forks rows) (sym (sequence_nodes a b nodes))
-      (goal_rows a (nodes_of b ++ (Serial ∷ nodes)) k ahead forks rows free.0 (fits_first (Sequence a b) a b refl fits) (first_stand ns k (leaves a) (leaves b) at)
-      (λ middle mid behind_a adds_a. goal_rows b (Serial ∷ nodes) (k + length (leaves a)) middle forks mid free.1 (fits_second (Sequence a b) a b refl fits) (second_stand ns k (leaves a) (leaves b) at)
-      (λ more new behind_b adds_b. subst (λ (j : ℕ). MakesRows q nodes ns j more forks new) (sym (both_long k (leaves a) (leaves b)))
-      (then more new (behind_sequence a b ahead middle more behind_a behind_b)
-      (adds_sequence a b ahead middle rows mid new fits.distinct behind_a adds_a adds_b)))))
-  goal_rows (Parallel a b) nodes k ahead forks rows free fits at then =
+      (goal_rows a (nodes_of b ++ (Serial ∷ nodes)) k ahead forks rows free.0 (distinct_left (leaves a) (leaves b) distinct) (first_stand ns k (leaves a) (leaves b) at)
+      (λ middle one behind_a has_a. goal_rows b (Serial ∷ nodes) (k + length (leaves a)) middle forks (rows ++ one) free.1 (distinct_right (leaves a) (leaves b) distinct) (second_stand ns k (leaves a) (leaves b) at)
+      (λ more two behind_b has_b. rw (both_long k (leaves a) (leaves b), append_assoc rows one two)
+      (then more (one ++ two) (behind_sequence a b ahead middle more behind_a behind_b) (has_sequence a b ahead middle one two distinct behind_a has_a has_b)))))
+  goal_rows (Parallel a b) nodes k ahead forks rows free distinct at then =
       subst (λ l. MakesRows q l ns k ahead forks rows) (sym (parallel_nodes a b nodes))
-      (goal_rows a (Split ∷ (nodes_of b ++ (Join ∷ nodes))) k ahead (ahead ∷ forks) rows free.0 (fits_first (Parallel a b) a b refl fits) (first_stand ns k (leaves a) (leaves b) at)
-      (λ one mid behind_a adds_a. goal_rows b (Join ∷ nodes) (k + length (leaves a)) ahead (one ∷ ahead ∷ forks) mid free.1 (fits_second (Parallel a b) a b refl fits) (second_stand ns k (leaves a) (leaves b) at)
-      (λ two new behind_b adds_b. λ all is. subst (λ (j : ℕ). MakesRows q nodes ns j all forks new) (sym (both_long k (leaves a) (leaves b)))
-      (then all new (behind_parallel a b ahead one two all behind_a behind_b (joined_is a b ahead one two all behind_a behind_b is))
-      (adds_beside (Parallel a b) a b ahead rows mid new refl fits.distinct (λ x n. (λ h. h, λ h. h)) adds_a adds_b)))))
-  goal_rows (Choice a b) nodes k ahead forks rows free fits at then = absurd free
-  goal_rows (Isolated a) nodes k ahead forks rows free fits at then =
-      subst (λ l. MakesRows q l ns k ahead forks rows) (sym (isolated_nodes a nodes))
-      (goal_rows a (Close ∷ nodes) k ahead forks rows free (record { small = fits.small; distinct = fits.distinct }) at
-      (λ more new behind_a adds. then more new behind_a (record { added = adds.added; is = adds.is; rows = adds.rows })))
+      (goal_rows a (Split ∷ (nodes_of b ++ (Join ∷ nodes))) k ahead (ahead ∷ forks) rows free.0 (distinct_left (leaves a) (leaves b) distinct) (first_stand ns k (leaves a) (leaves b) at)
+      (λ first one behind_a has_a. goal_rows b (Join ∷ nodes) (k + length (leaves a)) ahead (first ∷ forks) (rows ++ one) free.1 (distinct_right (leaves a) (leaves b) distinct) (second_stand ns k (leaves a) (leaves b) at)
+      (λ second two behind_b has_b. λ all is. rw (both_long k (leaves a) (leaves b), append_assoc rows one two)
+      (then all (one ++ two) (behind_parallel a b ahead first second all behind_a behind_b is) (has_parallel a b ahead one two distinct has_a has_b)))))
+  goal_rows (Choice a b) nodes k ahead forks rows free distinct at then = absurd free
+  goal_rows (Isolated a) nodes k ahead forks rows free distinct at then =
+      subst (λ l. MakesRows q l ns k ahead forks rows) (sym (isolated_nodes a nodes)) (goal_rows a (Close ∷ nodes) k ahead forks rows free distinct at then)
 
 -- and those of a whole goal the rows of all leaves
-pub whole_rows : (q : Process) (ns : List ℕ) (ahead : LeafSet 16) → IsChoiceFree q → FitsRows q → ns ≡ leaves q → ((x : ℕ) → has_leaf ahead x ≡ false) →
-    MakesRows q (nodes_of q) ns 0 ahead [] []
-whole_rows q ns ahead free fits listed empty =
-    subst (λ l. MakesRows q l ns 0 ahead [] []) (append-nil (nodes_of q))
-    (goal_rows q ns q [] 0 ahead [] [] free fits ([], listed ∙ sym (append-nil (leaves q)))
-    (λ more new behind adds. first_rows q ahead ns [] new listed refl empty adds))
-
-pub begun_rows : (q : Process) (nodes : List Node) (ns : List ℕ) (s : Sweep) → IsChoiceFree q → FitsRows q → nodes ≡ nodes_of q → ns ≡ leaves q → s.place ≡ 0 →
-    (empty : LeafSet 16) × ((x : ℕ) → has_leaf empty x ≡ false) × (s.sets.items ≡ empty ∷ []) → s.ahead ≡ 0 → s.forks.items ≡ [] → s.rows.items ≡ [] → Completes q nodes ns s
-begun_rows q nodes ns s free fits are listed place (empty, none, sets) ahead forks rows =
-    subst (λ l. MakesRowsBy q l ns s.place s.sets.items s.ahead (reverse s.forks.items) s.rows.items) (sym are)
-    (subst (λ (k : ℕ). MakesRowsBy q (nodes_of q) ns k s.sets.items s.ahead (reverse s.forks.items) s.rows.items) (sym place)
-    (subst (λ (l : List (LeafSet 16)). MakesRowsBy q (nodes_of q) ns 0 l s.ahead (reverse s.forks.items) s.rows.items) (sym sets)
-    (subst (λ (i : ℕ). MakesRowsBy q (nodes_of q) ns 0 (empty ∷ []) i (reverse s.forks.items) s.rows.items) (sym ahead)
-    (subst (λ (l : List ℕ). MakesRowsBy q (nodes_of q) ns 0 (empty ∷ []) 0 (reverse l) s.rows.items) (sym forks)
-    (subst (λ (l : List (LeafSet 16)). MakesRowsBy q (nodes_of q) ns 0 (empty ∷ []) 0 [] l) (sym rows)
-    (empty, [], (refl, tt), whole_rows q ns empty free fits listed none))))))
+pub begun_rows : (q : Process) (nodes : List Node) (ns : List ℕ) (s : Sweep) → IsChoiceFree q → IsStrictlyIncreasing ns → nodes ≡ nodes_of q → ns ≡ leaves q → s.place ≡ 0 →
+    ((x : ℕ) → has_leaf s.ahead x ≡ false) → s.forks.items ≡ [] → s.rows.items ≡ [] → Completes q nodes ns s
+begun_rows q nodes ns s free rising are listed place empty forks rows =
+    rw (place, forks, rows, are) (subst (λ l. MakesRows q l ns 0 s.ahead [] []) (append-nil (nodes_of q))
+    (goal_rows q ns q [] 0 s.ahead [] [] free (subst AreDistinct listed (distinct_of_rising ns rising)) ([], listed ∙ sym (append-nil (leaves q)))
+    (λ more added behind has. rw listed (first_rows q s.ahead added empty has))))
 
 -- ---- spans
 
-module _ (q : Process) where
-  pub goal_spans : (g : Process) (nodes : List Node) (k : ℕ) (opens : List ℕ) (spans : List Span) → IsChoiceFree g →
-      ((new : List Span) → AddsSpans g k spans new → MakesSpans q nodes (k + length (leaves g)) opens new) →
-      MakesSpans q (nodes_of g ++ nodes) k opens spans
-  goal_spans Empty nodes k opens spans free then =
-      subst (λ (j : ℕ). MakesSpans q nodes j opens spans) (omega arith) (then spans (spans_of_none Empty k spans refl))
-  goal_spans (Task n) nodes k opens spans free then = then spans (spans_of_none (Task n) k spans refl)
-  goal_spans (Sequence a b) nodes k opens spans free then =
-      subst (λ l. MakesSpans q l k opens spans) (sym (sequence_nodes a b nodes))
-      (goal_spans a (nodes_of b ++ (Serial ∷ nodes)) k opens spans free.0
-      (λ mid adds_a. goal_spans b (Serial ∷ nodes) (k + length (leaves a)) opens mid free.1
-      (λ new adds_b. subst (λ (j : ℕ). MakesSpans q nodes j opens new) (sym (both_long k (leaves a) (leaves b)))
-      (then new (spans_of_both (Sequence a b) a b k (k + length (leaves a)) spans mid new refl refl refl adds_a adds_b)))))
-  goal_spans (Parallel a b) nodes k opens spans free then =
-      subst (λ l. MakesSpans q l k opens spans) (sym (parallel_nodes a b nodes))
-      (goal_spans a (Split ∷ (nodes_of b ++ (Join ∷ nodes))) k opens spans free.0
-      (λ mid adds_a. goal_spans b (Join ∷ nodes) (k + length (leaves a)) opens mid free.1
-      (λ new adds_b. subst (λ (j : ℕ). MakesSpans q nodes j opens new) (sym (both_long k (leaves a) (leaves b)))
-      (then new (spans_of_both (Parallel a b) a b k (k + length (leaves a)) spans mid new refl refl refl adds_a adds_b)))))
-  goal_spans (Choice a b) nodes k opens spans free then = absurd free
-  goal_spans (Isolated a) nodes k opens spans free then =
-      subst (λ l. MakesSpans q l k opens spans) (sym (isolated_nodes a nodes))
-      (goal_spans a (Close ∷ nodes) k (k ∷ opens) spans free
-      (λ mid adds. λ new adds_span. then new
-      (spans_of_isolated (Isolated a) a (record { first = k; end = k + length (leaves a) }) spans mid new refl refl adds adds_span)))
+stands_at_span : (ns : List ℕ) (k : ℕ) (xs : List ℕ) → StandAt ns k xs → at_span (record { first = k; end = k + length xs }) ns ≡ xs
+stands_at_span ns k xs at =
+    let long : k + length xs - k ≡ length xs = omega arith in
+    ap (λ (m : ℕ). take m (drop k ns)) long ∙ ap (take (length xs)) at.1 ∙ take-append_seam xs at.0
 
-pub whole_spans : (q : Process) → IsChoiceFree q → MakesSpans q (nodes_of q) 0 [] []
-whole_spans q free =
-    subst (λ l. MakesSpans q l 0 [] []) (append-nil (nodes_of q)) (goal_spans q q [] 0 [] [] free (λ new adds. adds))
+module _ (q : Process) (ns : List ℕ) where
+  goal_spans : (g : Process) (nodes : List Node) (k : ℕ) (opens : List ℕ) (spans : List Span) → IsChoiceFree g → StandAt ns k (leaves g) →
+      ((new : List Span) → AddsSpans g ns k spans new → MakesSpans q nodes (k + length (leaves g)) opens new) →
+      MakesSpans q (nodes_of g ++ nodes) k opens spans
+  goal_spans Empty nodes k opens spans free at then =
+      subst (λ (j : ℕ). MakesSpans q nodes j opens spans) (omega arith) (then spans (spans_of_none Empty ns k spans refl))
+  goal_spans (Task n) nodes k opens spans free at then = then spans (spans_of_none (Task n) ns k spans refl)
+  goal_spans (Sequence a b) nodes k opens spans free at then =
+      subst (λ l. MakesSpans q l k opens spans) (sym (sequence_nodes a b nodes))
+      (goal_spans a (nodes_of b ++ (Serial ∷ nodes)) k opens spans free.0 (first_stand ns k (leaves a) (leaves b) at)
+      (λ mid adds_a. goal_spans b (Serial ∷ nodes) (k + length (leaves a)) opens mid free.1 (second_stand ns k (leaves a) (leaves b) at)
+      (λ new adds_b. rw (both_long k (leaves a) (leaves b)) (then new (spans_of_both (Sequence a b) a b ns k spans mid new refl refl adds_a adds_b)))))
+  goal_spans (Parallel a b) nodes k opens spans free at then =
+      subst (λ l. MakesSpans q l k opens spans) (sym (parallel_nodes a b nodes))
+      (goal_spans a (Split ∷ (nodes_of b ++ (Join ∷ nodes))) k opens spans free.0 (first_stand ns k (leaves a) (leaves b) at)
+      (λ mid adds_a. goal_spans b (Join ∷ nodes) (k + length (leaves a)) opens mid free.1 (second_stand ns k (leaves a) (leaves b) at)
+      (λ new adds_b. rw (both_long k (leaves a) (leaves b)) (then new (spans_of_both (Parallel a b) a b ns k spans mid new refl refl adds_a adds_b)))))
+  goal_spans (Choice a b) nodes k opens spans free at then = absurd free
+  goal_spans (Isolated a) nodes k opens spans free at then =
+      subst (λ l. MakesSpans q l k opens spans) (sym (isolated_nodes a nodes))
+      (goal_spans a (Close ∷ nodes) k (k ∷ opens) spans free at
+      (λ mid adds. λ new adds_span. then new (spans_of_isolated a ns (record { first = k; end = k + length (leaves a) }) spans mid new (stands_at_span ns k (leaves a) at) refl adds adds_span)))
 
 pub begun_spans : (q : Process) (nodes : List Node) (o : Outline) → IsChoiceFree q → nodes ≡ nodes_of q → o.place ≡ 0 → o.opens.items ≡ [] → o.spans.items ≡ [] → Outlines q nodes o
 begun_spans q nodes o free are place opens spans =
-    subst (λ l. MakesSpans q l o.place (reverse o.opens.items) o.spans.items) (sym are)
-    (subst (λ (k : ℕ). MakesSpans q (nodes_of q) k (reverse o.opens.items) o.spans.items) (sym place)
-    (subst (λ (l : List ℕ). MakesSpans q (nodes_of q) 0 (reverse l) o.spans.items) (sym opens)
-    (subst (λ (l : List Span). MakesSpans q (nodes_of q) 0 [] l) (sym spans) (whole_spans q free))))
+    rw (place, opens, spans, are)
+    (subst (λ l. MakesSpans q l 0 [] []) (append-nil (nodes_of q)) (goal_spans q (leaves q) q [] 0 [] [] free ([], sym (append-nil (leaves q))) (λ new adds. adds)))

@@ -1,43 +1,36 @@
 -- What the rows of isolated parts say.
-use Rattle.std.proofs.Common.{◌≡◌, ◌≢◌, ℕ, ◌+◌, ◌-◌, ◌<◌, ◌≤◌, zero, suc, Bool, true, false, not, ◌==◌, ◌&&◌, ◌||◌, ◌↔◌, IsTrue, List, [], ◌∷◌, ◌++◌, length, take, drop, get_or, inl, inr, ◌↔◌, ⊎_elim, refl, sym, ◌∙◌, ap, subst, arith, append-nil, min}
+use Rattle.std.proofs.Common.{◌≡◌, ◌≢◌, ℕ, ◌+◌, ◌-◌, ◌<◌, ◌≤◌, zero, suc, Bool, true, false, not, ◌==◌, ◌&&◌, ◌||◌, ◌↔◌, IsTrue, List, [], ◌∷◌, ◌++◌, length, take, drop, get_or, inl, inr, ◌↔◌, ⊎_elim, refl, sym, ◌∙◌, ap, subst, arith, min}
 use Rattle.std.proofs.lemmas.List.{take_more, length-take, length-drop, get_or-take, get_or-drop}
-use Rattle.std.proofs.Math.Seq.{take-append_seam}
 use Rattle.std.proofs.lemmas.Bool.{cases_lt, cases_eq, or_cases, or_left, or_right}
 use Rattle.std.specs.List.Sorted.{IsStrictlyIncreasing}
 use Rattle.leaf_rows.specs.Leaves.{has_leaf}
 use Rattle.leaf_rows.specs.declared.leaf_set.LeafSet.{LeafSet}
 use Rattle.flow_model.specs.Lists.{◌∈◌, Each}
-use Rattle.flow_model.specs.Process.{Process, Empty, Task, Sequence, Parallel, Choice, Isolated, leaves}
-use Rattle.flow_model.specs.Ready.{DirectlyBefore, isolated_parts}
-use Rattle.flow_laws.proofs.Members.{mem_append_left, mem_append_right, mem-append, each_member, each_from_members}
+use Rattle.flow_model.specs.Process.{Process, leaves}
+use Rattle.flow_model.specs.Ready.{DirectlyBefore}
+use Rattle.flow_laws.proofs.Members.{mem_append_left, mem_append_right, mem-append, only_one, each_member, each_from_members}
 use Rattle.flow_plan.specs.declared.part_row.PartRow.{PartRow}
 use Rattle.flow_plan.specs.declared.span.Span.{Span}
-use Rattle.flow_plan.specs.Rows.{IsRowOf, AreRowsOf, has_at}
+use Rattle.flow_plan.specs.Rows.{IsRowOf, AreRowsOf}
 use Rattle.flow_plan.specs.Ahead.{IsInSome, IsOutside}
-use Rattle.flow_plan.specs.Spans.{placed_parts, IsSpanOf, IsEarlier, AreRising, AddsSpans}
-use Rattle.flow_plan.specs.Parts.{IsOneAtMost, at_span, IsPartFor, ArePartsFor, IsPartRow, HasTwo, HaveSameLeaves, HaveOtherLeaves, ArePartsOf, PartAllows}
+use Rattle.flow_plan.specs.Spans.{at_span, IsEarlier, AreRising, AddsSpans}
+use Rattle.flow_plan.specs.Parts.{IsOneAtMost, IsPartFor, ArePartsFor, IsPartRow, HasTwo, HaveSameLeaves, HaveOtherLeaves, ArePartsOf, PartAllows}
+use Rattle.std.proofs.lemmas.Option.{slice_get-get_or}
+use Rattle.flow_model.proofs.Lists.{mem-slice_get}
 use Rattle.flow_plan.proofs.PlaceLemmas.{place_of_member, read_member}
 use Rattle.std.proofs.lemmas.List.Kept.{AllPairs-from_increasing}
-use Rattle.flow_goal.proofs.WrittenLemmas.{StandAt, first_stand, second_stand}
-use Rattle.flow_plan.proofs.RowLemmas.{row_same, one_more}
-
-pub has_at_is : (rows : List (LeafSet 16)) (k : ℕ) (row d : LeafSet 16) → k < length rows → row ≡ get_or rows k d → (x : ℕ) → has_at rows k x ≡ has_leaf row x
-has_at_is [] k row d within is x = absurd (omega arith)
-has_at_is (first ∷ rows) zero row d within is x = ap (λ (r : LeafSet 16). has_leaf r x) (sym is)
-has_at_is (first ∷ rows) (suc k) row d within is x = has_at_is rows k row d (omega arith) is x
+use Rattle.flow_plan.proofs.RowLemmas.{row_same, one_more, mem_more}
 
 -- ---- sets made leaf by leaf and row by row
 
 pub leaf_more : (ns : List ℕ) (i : ℕ) (now new : LeafSet 16) → i < length ns → IsRowOf (λ x. x ∈ take i ns) now →
     ((x : ℕ) → has_leaf new x ≡ (x == get_or ns i 0 || has_leaf now x)) → IsRowOf (λ x. x ∈ take (i + 1) ns) new
-leaf_more ns i now new within is noted =
-    let n : ℕ = get_or ns i 0 in
-    subst (λ (l : List ℕ). IsRowOf (λ x. x ∈ l) new) (sym (take_more ns i 0 within))
-    (λ x.
-    let one = one_more x n (has_leaf now x) in (
-      λ has. ⊎_elim (λ h. mem_append_left x (take i ns) (n ∷ []) ((is x).0 h)) (λ last. mem_append_right x (take i ns) (n ∷ []) last) (one.0 (sym (noted x) ∙ has)),
-      λ member. noted x ∙ one.1 (⊎_elim (λ h. inl ((is x).1 h)) (λ last. inr last) (mem-append x (take i ns) (n ∷ []) member)),
-    ))
+leaf_more ns i now new within is noted x =
+    let more = mem_more ns i within x in
+    let one = one_more x (get_or ns i 0) (has_leaf now x) in (
+      λ has. more.1 (⊎_elim (λ h. inl ((is x).0 h)) (λ last. inr (only_one x _ last)) (one.0 (sym (noted x) ∙ has))),
+      λ member. noted x ∙ one.1 (⊎_elim (λ h. inl ((is x).1 h)) (λ same. inr (inl same)) (more.0 member)),
+    )
 
 pub row_more : (rows : List (LeafSet 16)) (i : ℕ) (now new row : LeafSet 16) → i < length rows → row ≡ get_or rows i row → IsRowOf (IsInSome (take i rows)) now →
     ((x : ℕ) → has_leaf new x ≡ (has_leaf now x || has_leaf row x)) → IsRowOf (IsInSome (take (i + 1) rows)) new
@@ -95,54 +88,6 @@ at_place ns s k after before within =
     let there : s.first + j ≡ k = omega (arith, after) in
     subst (λ (x : ℕ). x ∈ at_span s ns)
     (get_or-take m (drop s.first ns) j 0 (omega (arith, after, before)) ∙ get_or-drop s.first ns j 0 ∙ ap (λ (i : ℕ). get_or ns i 0) there) here
-
--- ---- the parts at their places
-
-placed_two : (a b : Process) (ns : List ℕ) (k : ℕ) (p : ℕ × Process) →
-    (StandAt ns k (leaves a) → p ∈ placed_parts a k → (p.1 ∈ isolated_parts a) × StandAt ns p.0 (leaves p.1)) →
-    (StandAt ns (k + length (leaves a)) (leaves b) → p ∈ placed_parts b (k + length (leaves a)) → (p.1 ∈ isolated_parts b) × StandAt ns p.0 (leaves p.1)) →
-    StandAt ns k (leaves a ++ leaves b) → p ∈ (placed_parts a k ++ placed_parts b (k + length (leaves a))) →
-    (p.1 ∈ (isolated_parts a ++ isolated_parts b)) × StandAt ns p.0 (leaves p.1)
-placed_two a b ns k p left right at member = ⊎_elim
-    (λ h. let there = left (first_stand ns k (leaves a) (leaves b) at) h in (mem_append_left p.1 (isolated_parts a) (isolated_parts b) there.0, there.1))
-    (λ h. let there = right (second_stand ns k (leaves a) (leaves b) at) h in (mem_append_right p.1 (isolated_parts a) (isolated_parts b) there.0, there.1))
-    (mem-append p (placed_parts a k) (placed_parts b (k + length (leaves a))) member)
-
-placed_either : (a b : Process) (k : ℕ) (part : Process) → (part ∈ isolated_parts a → (j : ℕ) × ((j, part) ∈ placed_parts a k)) →
-    (part ∈ isolated_parts b → (j : ℕ) × ((j, part) ∈ placed_parts b (k + length (leaves a)))) → part ∈ (isolated_parts a ++ isolated_parts b) →
-    (j : ℕ) × ((j, part) ∈ (placed_parts a k ++ placed_parts b (k + length (leaves a))))
-placed_either a b k part left right member = ⊎_elim
-    (λ h. let there = left h in (there.0, mem_append_left (there.0, part) (placed_parts a k) (placed_parts b (k + length (leaves a))) there.1))
-    (λ h. let there = right h in (there.0, mem_append_right (there.0, part) (placed_parts a k) (placed_parts b (k + length (leaves a))) there.1))
-    (mem-append part (isolated_parts a) (isolated_parts b) member)
-
-pub placed_stand : (g : Process) (ns : List ℕ) (k : ℕ) (p : ℕ × Process) → StandAt ns k (leaves g) → p ∈ placed_parts g k →
-    (p.1 ∈ isolated_parts g) × StandAt ns p.0 (leaves p.1)
-placed_stand Empty ns k p at member = absurd member
-placed_stand (Task n) ns k p at member = absurd member
-placed_stand (Sequence a b) ns k p at member = placed_two a b ns k p (placed_stand a ns k p) (placed_stand b ns (k + length (leaves a)) p) at member
-placed_stand (Parallel a b) ns k p at member = placed_two a b ns k p (placed_stand a ns k p) (placed_stand b ns (k + length (leaves a)) p) at member
-placed_stand (Choice a b) ns k p at member = placed_two a b ns k p (placed_stand a ns k p) (placed_stand b ns (k + length (leaves a)) p) at member
-placed_stand (Isolated a) ns k p at (inl same) =
-    let Says : ℕ × Process → Type 0 = λ q. (q.1 ∈ (a ∷ isolated_parts a)) × StandAt ns q.0 (leaves q.1) in
-    subst Says (sym same) (inl refl, at)
-placed_stand (Isolated a) ns k p at (inr member) = let inner = placed_stand a ns k p at member in (inr inner.0, inner.1)
-
-pub placed_all : (g : Process) (k : ℕ) (part : Process) → part ∈ isolated_parts g → (j : ℕ) × ((j, part) ∈ placed_parts g k)
-placed_all Empty k part member = absurd member
-placed_all (Task n) k part member = absurd member
-placed_all (Sequence a b) k part member = placed_either a b k part (placed_all a k part) (placed_all b (k + length (leaves a)) part) member
-placed_all (Parallel a b) k part member = placed_either a b k part (placed_all a k part) (placed_all b (k + length (leaves a)) part) member
-placed_all (Choice a b) k part member = placed_either a b k part (placed_all a k part) (placed_all b (k + length (leaves a)) part) member
-placed_all (Isolated a) k part (inl same) = (k, inl (λ i. (k, same i)))
-placed_all (Isolated a) k part (inr member) = let inner = placed_all a k part member in (inner.0, inr inner.1)
-
--- what stands at the span of a part
-pub span_is : (ns : List ℕ) (p : ℕ × Process) (s : Span) → IsSpanOf p s → StandAt ns p.0 (leaves p.1) → at_span s ns ≡ leaves p.1
-span_is ns p s is at =
-    let long : s.end - s.first ≡ length (leaves p.1) = omega (arith, is.first, is.end) in
-    ap (λ (m : ℕ). take m (drop s.first ns)) long ∙ ap (λ (f : ℕ). take (length (leaves p.1)) (drop f ns)) is.first
-    ∙ ap (take (length (leaves p.1))) at.1 ∙ take-append_seam (leaves p.1) at.0
 
 -- ---- the row of a part
 
@@ -274,48 +219,33 @@ one_at_most (z ∷ []) short x y hx hy = ⊎_elim (λ first. ⊎_elim (λ second
 one_at_most (z ∷ (w ∷ xs)) short x y hx hy = absurd (omega (arith, short))
 
 -- the spans of a whole goal have two places in its list of leaves
-pub spans_long : (q : Process) (ns : List ℕ) (none spans : List Span) → none ≡ [] → ns ≡ leaves q → AddsSpans q 0 none spans → Each (IsLong ns) spans
+pub spans_long : (q : Process) (ns : List ℕ) (none spans : List Span) → none ≡ [] → ns ≡ leaves q → AddsSpans q (leaves q) 0 none spans → Each (IsLong ns) spans
 spans_long q ns none spans empty listed adds = each_from_members (IsLong ns) spans (λ s member.
     let old : ¬ (s ∈ none) = λ h. subst (λ (l : List Span). s ∈ l) empty h in (
       ⊎_elim (λ h. absurd (old h)) (λ found. found.3) (adds.sound s member),
       ⊎_elim (λ h. absurd (old h)) (λ inside. omega (arith, inside.1, ap length listed)) (adds.within s member),
     ))
 
--- a list of rising small numbers is short
-rises_from : (ns : List ℕ) → IsStrictlyIncreasing ns → (k : ℕ) → k < length ns → k ≤ get_or ns k 0
-rises_from ns rising zero within = omega arith
-rises_from ns rising (suc k) within =
-    omega (arith, rises_from ns rising k (omega (arith, within)), AllPairs-from_increasing ns rising k (suc k) 0 (omega arith) within)
-
--- a span at a place of the list
-long_at : (ns : List ℕ) (spans : List Span) (k : ℕ) (d : Span) → Each (IsLong ns) spans → k < length spans → IsLong ns (get_or spans k d)
-long_at ns [] k d all within = absurd (omega (arith, within))
-long_at ns (s ∷ spans) zero d all within = all.0
-long_at ns (s ∷ spans) (suc k) d all within = long_at ns spans k d all.1 (omega (arith, within))
-
 pub spans_fit : (ns : List ℕ) (spans : List Span) → Each (IsLong ns) spans → (k : ℕ) (d : Span) → k < length spans →
     ((get_or spans k d).first ≤ (get_or spans k d).end) × ((get_or spans k d).end ≤ length ns)
-spans_fit ns spans all k d within = let long = long_at ns spans k d all within in (omega (arith, long.0), long.1)
+spans_fit ns spans all k d within =
+    let long = each_member (IsLong ns) spans all (get_or spans k d) (mem-slice_get spans k (get_or spans k d) (slice_get-get_or spans k d within)) in (omega (arith, long.0), long.1)
 
 pub parts_of_spans : (q : Process) (pairs : List (ℕ × ℕ)) (ns : List ℕ) (before : List (LeafSet 16)) (none spans : List Span) (rows : List PartRow) → none ≡ [] → ns ≡ leaves q →
-    IsStrictlyIncreasing ns → AreRowsOf (DirectlyBefore q pairs) ns before → AddsSpans q 0 none spans → ArePartsFor ns before spans rows → ArePartsOf q pairs rows
-parts_of_spans q pairs ns before none spans rows empty listed rising rows_are adds are =
-    let stand : StandAt ns 0 (leaves q) = ([], listed ∙ sym (append-nil (leaves q))) in
-    let long = spans_long q ns none spans empty listed adds in
+    IsStrictlyIncreasing ns → AreRowsOf (DirectlyBefore q pairs) ns before → AddsSpans q (leaves q) 0 none spans → ArePartsFor ns before spans rows → ArePartsOf q pairs rows
+parts_of_spans q pairs ns before none spans rows empty listed rising rows_are whole are =
+    let adds = subst (λ (l : List ℕ). AddsSpans q l 0 none spans) (sym listed) whole in
+    let long = spans_long q ns none spans empty listed whole in
     let old : (s : Span) → ¬ (s ∈ none) = λ s h. subst (λ (l : List Span). s ∈ l) empty h in record {
       sound = λ row member.
           let found = span_of_row ns before spans rows row are member in
           ⊎_elim (λ h. absurd (old found.0 h))
-          (λ placed. let there = placed_stand q ns 0 placed.0 stand placed.1 in
-          (placed.0.1, there.0, part_row_of q pairs ns before placed.0.1 found.0 row rows_are (span_is ns placed.0 found.0 placed.2 there.1) found.2))
-          (adds.sound found.0 found.1);
+          (λ placed. (placed.0, placed.1, part_row_of q pairs ns before placed.0 found.0 row rows_are placed.2 found.2)) (adds.sound found.0 found.1);
       complete = λ part member.
-          let placed = placed_all q 0 part member in
           ⊎_elim (λ short. inl (one_at_most (leaves part) short))
           (λ span. let row = row_of_span ns before spans rows span.0 are span.1 in
-          let there = placed_stand q ns 0 (placed.0, part) stand placed.1 in
-          inr (row.0, row.1, part_row_of q pairs ns before part span.0 row.0 rows_are (span_is ns (placed.0, part) span.0 span.2 there.1) row.2))
-          (adds.complete (placed.0, part) placed.1);
+          inr (row.0, row.1, part_row_of q pairs ns before part span.0 row.0 rows_are span.2 row.2))
+          (adds.complete part member);
       two = each_from_members HasTwo rows (λ row member.
           let found = span_of_row ns before spans rows row are member in
           has_two ns before found.0 row rising (each_member (IsLong ns) spans long found.0 found.1) found.2);

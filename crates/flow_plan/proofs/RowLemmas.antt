@@ -1,21 +1,19 @@
 -- What rows of bits say.
 use Rattle.std.proofs.lemmas.Bool.{or_cases, or_left, or_right}
-use Rattle.std.proofs.Common.{◌≡◌, ◌≢◌, ℕ, ◌+◌, ◌<◌, zero, suc, Bool, false, ◌==◌, ◌||◌, IsTrue, eq-eqb, eqb-true, take, get_or, List, [], ◌∷◌, ◌++◌, length, set, Some, slice_get, inl, inr, ◌⊎◌, ◌↔◌, ⊎_elim, refl, sym, ◌∙◌, ap, subst, append_assoc, arith}
+use Rattle.std.proofs.Common.{◌≡◌, ◌≢◌, ℕ, ◌+◌, ◌<◌, zero, suc, Bool, false, ◌==◌, ◌||◌, IsTrue, eq-eqb, eqb-true, take, get_or, List, [], ◌∷◌, ◌++◌, length, set, Some, slice_get, inl, inr, ◌⊎◌, ◌↔◌, ⊎_elim, refl, sym, ◌∙◌, ap, subst, arith}
 use Rattle.std.proofs.lemmas.List.{take_more, map-append}
-use Rattle.std.specs.List.Sorted.{IsStrictlyIncreasing}
 use Rattle.leaf_rows.specs.Leaves.{has_leaf}
 use Rattle.leaf_rows.specs.declared.leaf_set.LeafSet.{LeafSet}
 use Rattle.flow_model.specs.declared.limits.TheConstants.{MOST_LEAVES}
 use Rattle.flow_model.specs.Lists.{◌∈◌, Each, AreDistinct}
-use Rattle.flow_model.specs.Process.{Process, Sequence, leaves}
+use Rattle.flow_model.specs.Process.{Process, Sequence, Parallel, leaves}
 use Rattle.flow_model.specs.Ready.{InSequence, DirectlyBefore}
 use Rattle.flow_laws.specs.WellFormed.{AreOfLeaves}
-use Rattle.flow_laws.proofs.Members.{mem_append_left, mem_append_right, mem-append, each_parts, each_member, distinct_parts}
+use Rattle.flow_laws.proofs.Members.{mem_append_left, mem_append_right, mem-append, only_one, each_member, distinct_apart}
 use Rattle.flow_laws.proofs.GoalParts.{sequence_second}
 use Rattle.flow_plan.specs.declared.token.OrderToken.{OrderToken}
 use Rattle.flow_plan.specs.Planned.{pairs_of}
-use Rattle.flow_plan.specs.Rows.{IsRowOf, AreRowsOf, has_at, FitsRows, AddsRows}
-use Rattle.flow_plan.proofs.PlaceLemmas.{distinct_of_rising}
+use Rattle.flow_plan.specs.Rows.{IsRowOf, AreRowsOf, HasRows}
 use Rattle.flow_model.proofs.Lists.{mem-slice_get}
 
 -- a test of one number more
@@ -23,6 +21,13 @@ pub one_more : (x n : ℕ) (b : Bool) → IsTrue (x == n || b) ↔ (IsTrue b ⊎
 one_more x n b = (
   λ h. ⊎_elim (λ same. inr (inl (eqb-true x n same))) (λ d. inl d) (or_cases (x == n) b h),
   λ either. ⊎_elim (λ d. or_right (x == n) b d) (λ last. ⊎_elim (λ same. or_left (x == n) b (eq-eqb x n same)) (λ none. absurd none) last) either,
+)
+
+-- the leaves at one place more
+pub mem_more : (ns : List ℕ) (i : ℕ) → i < length ns → (x : ℕ) → x ∈ take (i + 1) ns ↔ ((x ∈ take i ns) ⊎ (x ≡ get_or ns i 0))
+mem_more ns i within x = rw (take_more ns i 0 within) (
+  λ member. ⊎_elim (λ h. inl h) (λ last. inr (only_one x _ last)) (mem-append x (take i ns) (get_or ns i 0 ∷ []) member),
+  λ either. ⊎_elim (λ h. mem_append_left x (take i ns) _ h) (λ same. mem_append_right x (take i ns) (get_or ns i 0 ∷ []) (inl same)) either,
 )
 
 -- ---- one row
@@ -56,17 +61,6 @@ rows_length P [] (row ∷ rows) are = absurd are
 rows_length P (n ∷ ns) [] are = absurd are
 rows_length P (n ∷ ns) (row ∷ rows) are = omega (arith, rows_length P ns rows are.1)
 
--- the row at the place of a leaf
-pub rows_at : (P : ℕ → ℕ → Type 0) (ns : List ℕ) (rows : List (LeafSet 16)) (k n : ℕ) → slice_get ns k ≡ Some n →
-    AreRowsOf P ns rows → (x : ℕ) → IsTrue (has_at rows k x) ↔ P x n
-rows_at P [] rows k n at are x = absurd (cc)
-rows_at P (m ∷ ns) [] k n at are x = absurd are
-rows_at P (m ∷ ns) (row ∷ rows) zero n at are x =
-    let same : m ≡ n = cc in
-    let Says : ℕ → Type 0 = λ n. IsTrue (has_leaf row x) ↔ P x n in
-    subst Says same (are.0 x)
-rows_at P (m ∷ ns) (row ∷ rows) (suc k) n at are x = rows_at P ns rows k n at are.1 x
-
 -- the row of one leaf is changed
 pub rows_set : (P Q : ℕ → ℕ → Type 0) (ns : List ℕ) (rows : List (LeafSet 16)) (k n : ℕ) (new : LeafSet 16) → slice_get ns k ≡ Some n →
     AreDistinct ns → AreRowsOf P ns rows → IsRowOf (λ x. Q x n) new →
@@ -88,76 +82,51 @@ rows_set P Q (m ∷ ns) (row ∷ rows) (suc k) n new at distinct are is to from 
 
 -- ---- the rows of a goal
 
-pub fits_rows : (q : Process) (ns : List ℕ) → ns ≡ leaves q → IsStrictlyIncreasing ns → Each (λ n. n < MOST_LEAVES) ns → FitsRows q
-fits_rows q ns listed rising small = record {
-  small = subst (λ (l : List ℕ). Each (λ n. n < MOST_LEAVES) l) listed small;
-  distinct = subst (λ (l : List ℕ). AreDistinct l) listed (distinct_of_rising ns rising);
-}
-
-pub fits_first : (g a b : Process) → leaves g ≡ leaves a ++ leaves b → FitsRows g → FitsRows a
-fits_first g a b same fits = record {
-  small = (each_parts (λ n. n < MOST_LEAVES) (leaves a) (leaves b) (subst (λ (ns : List ℕ). Each (λ n. n < MOST_LEAVES) ns) same fits.small)).0;
-  distinct = (distinct_parts (leaves a) (leaves b) (subst (λ (ns : List ℕ). AreDistinct ns) same fits.distinct)).0;
-}
-
-pub fits_second : (g a b : Process) → leaves g ≡ leaves a ++ leaves b → FitsRows g → FitsRows b
-fits_second g a b same fits = record {
-  small = (each_parts (λ n. n < MOST_LEAVES) (leaves a) (leaves b) (subst (λ (ns : List ℕ). Each (λ n. n < MOST_LEAVES) ns) same fits.small)).1;
-  distinct = (distinct_parts (leaves a) (leaves b) (subst (λ (ns : List ℕ). AreDistinct ns) same fits.distinct)).1;
-}
-
--- what was added in two steps
-joined_rows : (P : ℕ → ℕ → Type 0) (ns ms : List ℕ) (old mid new one two : List (LeafSet 16)) → mid ≡ old ++ one → new ≡ mid ++ two →
-    AreRowsOf P ns one → AreRowsOf P ms two → (new ≡ old ++ (one ++ two)) × AreRowsOf P (ns ++ ms) (one ++ two)
-joined_rows P ns ms old mid new one two first second are and = (
-  second ∙ ap (λ (l : List (LeafSet 16)). l ++ two) first ∙ append_assoc old one two,
-  rows_append P ns ms one two are and,
-)
-
 -- in a sequence the leaves of the first part are ahead of the second
-pub adds_sequence : (a b : Process) (ahead more : LeafSet 16) (old mid new : List (LeafSet 16)) → AreDistinct (leaves a ++ leaves b) →
-    IsRowOf (λ x. IsTrue (has_leaf ahead x) ⊎ (x ∈ leaves a)) more →
-    AddsRows a ahead old mid → AddsRows b more mid new → AddsRows (Sequence a b) ahead old new
-adds_sequence a b ahead more old mid new distinct more_is one two =
-    let apart = distinct_parts (leaves a) (leaves b) distinct in
+pub has_sequence : (a b : Process) (ahead more : LeafSet 16) (one two : List (LeafSet 16)) → AreDistinct (leaves a ++ leaves b) →
+    IsRowOf (λ x. IsTrue (has_leaf ahead x) ⊎ (x ∈ leaves a)) more → HasRows a ahead one → HasRows b more two → HasRows (Sequence a b) ahead (one ++ two)
+has_sequence a b ahead more one two distinct more_is has_a has_b =
     let P : ℕ → ℕ → Type 0 = λ x n. IsTrue (has_leaf ahead x) ⊎ InSequence (Sequence a b) x n in
-    let all = joined_rows P (leaves a) (leaves b) old mid new one.added two.added one.is two.is
-    (rows_same (λ x n. IsTrue (has_leaf ahead x) ⊎ InSequence a x n) P (leaves a) one.added
+    rows_append P (leaves a) (leaves b) one two
+    (rows_same (λ x n. IsTrue (has_leaf ahead x) ⊎ InSequence a x n) P (leaves a) one
     (λ n member x either. ⊎_elim (λ h. inl h) (λ h. inr (inl (inr h))) either)
     (λ n member x either. ⊎_elim (λ h. inl h)
-    (λ before. ⊎_elim (λ in_a. ⊎_elim (λ (cross : (x ∈ leaves a) × (n ∈ leaves b)). absurd (apart.2 n member cross.1)) (λ h. inr h) in_a)
-    (λ in_b. absurd (apart.2 n member (sequence_second b x n in_b))) before) either)
-    one.rows)
-    (rows_same (λ x n. IsTrue (has_leaf more x) ⊎ InSequence b x n) P (leaves b) two.added
+    (λ before. ⊎_elim (λ in_a. ⊎_elim (λ (cross : (x ∈ leaves a) × (n ∈ leaves b)). absurd (distinct_apart (leaves a) (leaves b) distinct n member cross.1)) (λ h. inr h) in_a)
+    (λ in_b. absurd (distinct_apart (leaves a) (leaves b) distinct n member (sequence_second b x n in_b))) before) either)
+    has_a)
+    (rows_same (λ x n. IsTrue (has_leaf more x) ⊎ InSequence b x n) P (leaves b) two
     (λ n member x either. ⊎_elim
     (λ h. ⊎_elim (λ ahead_has. inl ahead_has) (λ in_a. inr (inl (inl (in_a, member)))) ((more_is x).0 h))
     (λ h. inr (inr h)) either)
     (λ n member x either. ⊎_elim (λ h. inl ((more_is x).1 (inl h)))
     (λ before. ⊎_elim (λ in_a. ⊎_elim (λ (cross : (x ∈ leaves a) × (n ∈ leaves b)). inl ((more_is x).1 (inr cross.0)))
-    (λ h. absurd (apart.2 n (sequence_second a x n h) member)) in_a)
+    (λ h. absurd (distinct_apart (leaves a) (leaves b) distinct n (sequence_second a x n h) member)) in_a)
     (λ h. inr h) before) either)
-    two.rows) in
-    record { added = one.added ++ two.added; is = all.0; rows = all.1 }
+    has_b)
 
--- else no part says anything of the other
-pub adds_beside : (g a b : Process) (ahead : LeafSet 16) (old mid new : List (LeafSet 16)) → leaves g ≡ leaves a ++ leaves b → AreDistinct (leaves a ++ leaves b) →
-    ((x n : ℕ) → InSequence g x n ↔ (InSequence a x n ⊎ InSequence b x n)) →
-    AddsRows a ahead old mid → AddsRows b ahead mid new → AddsRows g ahead old new
-adds_beside g a b ahead old mid new listed distinct parts one two =
-    let apart = distinct_parts (leaves a) (leaves b) distinct in
-    let P : ℕ → ℕ → Type 0 = λ x n. IsTrue (has_leaf ahead x) ⊎ InSequence g x n in
-    let all = joined_rows P (leaves a) (leaves b) old mid new one.added two.added one.is two.is
-    (rows_same (λ x n. IsTrue (has_leaf ahead x) ⊎ InSequence a x n) P (leaves a) one.added
-    (λ n member x either. ⊎_elim (λ h. inl h) (λ h. inr ((parts x n).1 (inl h))) either)
+-- beside one another no part says anything of the other
+pub has_parallel : (a b : Process) (ahead : LeafSet 16) (one two : List (LeafSet 16)) → AreDistinct (leaves a ++ leaves b) →
+    HasRows a ahead one → HasRows b ahead two → HasRows (Parallel a b) ahead (one ++ two)
+has_parallel a b ahead one two distinct has_a has_b =
+    let P : ℕ → ℕ → Type 0 = λ x n. IsTrue (has_leaf ahead x) ⊎ InSequence (Parallel a b) x n in
+    rows_append P (leaves a) (leaves b) one two
+    (rows_same (λ x n. IsTrue (has_leaf ahead x) ⊎ InSequence a x n) P (leaves a) one
+    (λ n member x either. ⊎_elim (λ h. inl h) (λ h. inr (inl h)) either)
     (λ n member x either. ⊎_elim (λ h. inl h)
-    (λ before. ⊎_elim (λ h. inr h) (λ h. absurd (apart.2 n member (sequence_second b x n h))) ((parts x n).0 before)) either)
-    one.rows)
-    (rows_same (λ x n. IsTrue (has_leaf ahead x) ⊎ InSequence b x n) P (leaves b) two.added
-    (λ n member x either. ⊎_elim (λ h. inl h) (λ h. inr ((parts x n).1 (inr h))) either)
+    (λ before. ⊎_elim (λ h. inr h) (λ h. absurd (distinct_apart (leaves a) (leaves b) distinct n member (sequence_second b x n h))) before) either)
+    has_a)
+    (rows_same (λ x n. IsTrue (has_leaf ahead x) ⊎ InSequence b x n) P (leaves b) two
+    (λ n member x either. ⊎_elim (λ h. inl h) (λ h. inr (inr h)) either)
     (λ n member x either. ⊎_elim (λ h. inl h)
-    (λ before. ⊎_elim (λ h. absurd (apart.2 n (sequence_second a x n h) member)) (λ h. inr h) ((parts x n).0 before)) either)
-    two.rows) in
-    record { added = one.added ++ two.added; is = all.0; rows = subst (λ (ns : List ℕ). AreRowsOf P ns (one.added ++ two.added)) (sym listed) all.1 }
+    (λ before. ⊎_elim (λ h. absurd (distinct_apart (leaves a) (leaves b) distinct n (sequence_second a x n h) member)) (λ h. inr h) before) either)
+    has_b)
+
+-- the rows of the whole goal, of which nothing is ahead
+pub first_rows : (g : Process) (ahead : LeafSet 16) (rows : List (LeafSet 16)) → ((x : ℕ) → has_leaf ahead x ≡ false) → HasRows g ahead rows →
+    AreRowsOf (InSequence g) (leaves g) rows
+first_rows g ahead rows empty has = rows_same (λ x n. IsTrue (has_leaf ahead x) ⊎ InSequence g x n) (InSequence g) (leaves g) rows
+    (λ n member x either. ⊎_elim (λ h. let no = empty x in absurd (cc)) (λ h. h) either)
+    (λ n member x h. inr h) has
 
 -- ---- the rows of a plan
 
@@ -223,18 +192,6 @@ rows_unpaired q ns rows are = rows_same (InSequence q) (DirectlyBefore q []) ns 
 pub pairs_more : (tokens : List OrderToken) (i : ℕ) (d : OrderToken) → i < length tokens →
     pairs_of (take (i + 1) tokens) ≡ pairs_of (take i tokens) ++ ((get_or tokens i d).sender, (get_or tokens i d).receiver) ∷ []
 pairs_more tokens i d within = ap pairs_of (take_more tokens i d within) ∙ map-append (λ (t : OrderToken). (t.sender, t.receiver)) (take i tokens) (get_or tokens i d ∷ [])
-
--- the rows of the whole goal, of which nothing is ahead
-pub first_rows : (g : Process) (ahead : LeafSet 16) (ns : List ℕ) (old new : List (LeafSet 16)) → ns ≡ leaves g → old ≡ [] → ((x : ℕ) → has_leaf ahead x ≡ false) →
-    AddsRows g ahead old new → AreRowsOf (InSequence g) ns new
-first_rows g ahead ns old new listed none empty adds =
-    let P : ℕ → ℕ → Type 0 = λ x n. IsTrue (has_leaf ahead x) ⊎ InSequence g x n in
-    let are : AreRowsOf (InSequence g) (leaves g) adds.added = rows_same P (InSequence g) (leaves g) adds.added
-    (λ n member x either. ⊎_elim (λ h. let no = empty x in absurd (cc)) (λ h. h) either)
-    (λ n member x h. inr h) adds.rows in
-    let same : adds.added ≡ new = sym (adds.is ∙ ap (λ (l : List (LeafSet 16)). l ++ adds.added) none) in
-    subst (λ (ns : List ℕ). AreRowsOf (InSequence g) ns new) (sym listed)
-    (subst (λ (rows : List (LeafSet 16)). AreRowsOf (InSequence g) (leaves g) rows) same are)
 
 -- the senders of pairs of leaves are as small as the leaves
 pub senders_small : (g : Process) (ns : List ℕ) (tokens : List OrderToken) → ns ≡ leaves g → Each (λ n. n < MOST_LEAVES) ns → AreOfLeaves g (pairs_of tokens) →

@@ -3,10 +3,12 @@ use Rattle.std.proofs.Common.{◌≡◌, ◌≢◌, ℕ, ◌+◌, ◌-◌, ◌<�
 use Rattle.std.proofs.lemmas.Bool.{cases_eq, and_parts, and_from}
 use Rattle.flow_model.specs.Lists.{◌∈◌}
 use Rattle.flow_model.specs.Process.{Process, Isolated, leaves}
+use Rattle.flow_model.specs.Ready.{isolated_parts}
+use Rattle.flow_model.proofs.Lists.{mem-slice_get}
 use Rattle.flow_laws.proofs.Members.{mem_append_left, mem_append_right, mem-append, each_member, each-append}
 use Rattle.flow_laws.proofs.MadeLists.{some_same}
 use Rattle.flow_plan.specs.declared.span.Span.{Span}
-use Rattle.flow_plan.specs.Spans.{placed_parts, IsSpanOf, IsEarlier, IsNotAfter, AreRising, AddsSpan, AddsSpans}
+use Rattle.flow_plan.specs.Spans.{at_span, IsEarlier, IsNotAfter, AreRising, AddsSpan, AddsSpans}
 
 -- ---- one span more
 
@@ -17,11 +19,6 @@ rising_push (s ∷ spans) t rising earlier = (
   rising_push spans t rising.1 (λ r member. earlier r (inr member)),
 )
 
-member_there : (spans : List Span) (k : ℕ) (s : Span) → Some s ≡ slice_get spans k → s ∈ spans
-member_there [] k s at = absurd (cc)
-member_there (r ∷ spans) zero s at = inl (some_same s r at)
-member_there (r ∷ spans) (suc k) s at = inr (member_there spans k s at)
-
 -- each is the last, or earlier
 at_or_earlier : (spans : List Span) (k : ℕ) (last s : Span) → Some last ≡ slice_get spans k → k + 1 ≡ length spans → AreRising spans → s ∈ spans →
     (s ≡ last) ⊎ IsEarlier s last
@@ -30,7 +27,7 @@ at_or_earlier (r ∷ []) zero last s at end rising (inl same) = inl (same ∙ sy
 at_or_earlier (r ∷ []) zero last s at end rising (inr none) = absurd none
 at_or_earlier (r ∷ (t ∷ spans)) zero last s at end rising member = absurd (omega (arith, end))
 at_or_earlier (r ∷ spans) (suc k) last s at end rising (inl same) =
-    inr (subst (λ (x : Span). IsEarlier x last) (sym same) (each_member (IsEarlier r) spans rising.0 last (member_there spans k last at)))
+    inr (subst (λ (x : Span). IsEarlier x last) (sym same) (each_member (IsEarlier r) spans rising.0 last (mem-slice_get spans k last (sym at))))
 at_or_earlier (r ∷ spans) (suc k) last s at end rising (inr member) = at_or_earlier spans k last s at (omega (arith, end)) rising.1 member
 
 -- earlier than what is not after, or not after and different
@@ -66,7 +63,7 @@ pub adds_again : (span last : Span) (old : List Span) (k : ℕ) → Some last �
 adds_again span last old k at same = record {
   kept = λ s h. h;
   sound = λ s h. inl h;
-  complete = inr (subst (λ (s : Span). s ∈ old) same (member_there old k last at));
+  complete = inr (subst (λ (s : Span). s ∈ old) same (mem-slice_get old k last (sym at)));
   rising = λ rising all. rising;
 }
 
@@ -75,7 +72,7 @@ pushed_last span old = (s : Span) → AreRising old → s ∈ old → ((t : Span
 
 pub earlier_of_last : (span last : Span) (old : List Span) (k : ℕ) → Some last ≡ slice_get old k → k + 1 ≡ length old → last ≢ span → pushed_last span old
 earlier_of_last span last old k at end other s rising member all =
-    let here = all last (member_there old k last at) in
+    let here = all last (mem-slice_get old k last (sym at)) in
     ⊎_elim (λ same. subst (λ (x : Span). IsEarlier x span) (sym same) (earlier_other last span other here))
     (λ before. earlier_before s last span before here)
     (at_or_earlier old k last s at end rising member)
@@ -106,33 +103,31 @@ adds_behind span old new is long earlier = record {
 
 -- ---- the spans of a goal
 
-pub spans_of_none : (g : Process) (first : ℕ) (old : List Span) → placed_parts g first ≡ [] → AddsSpans g first old old
-spans_of_none g first old none = record {
+pub spans_of_none : (g : Process) (ns : List ℕ) (first : ℕ) (old : List Span) → isolated_parts g ≡ [] → AddsSpans g ns first old old
+spans_of_none g ns first old none = record {
   kept = λ s h. h;
   sound = λ s h. inl h;
-  complete = λ p member. absurd (subst (λ (l : List (ℕ × Process)). p ∈ l) none member);
+  complete = λ part member. absurd (subst (λ (l : List Process). part ∈ l) none member);
   within = λ s h. inl h;
   rising = λ rising all. rising;
 }
 
-pub spans_of_both : (g a b : Process) (first middle : ℕ) (old mid new : List Span) → leaves g ≡ leaves a ++ leaves b →
-    placed_parts g first ≡ placed_parts a first ++ placed_parts b (first + length (leaves a)) → middle ≡ first + length (leaves a) →
-    AddsSpans a first old mid → AddsSpans b middle mid new → AddsSpans g first old new
-spans_of_both g a b first middle old mid new listed placed here one two' =
-    let two = subst (λ (m : ℕ). AddsSpans b m mid new) here two' in
+pub spans_of_both : (g a b : Process) (ns : List ℕ) (first : ℕ) (old mid new : List Span) → leaves g ≡ leaves a ++ leaves b → isolated_parts g ≡ isolated_parts a ++ isolated_parts b →
+    AddsSpans a ns first old mid → AddsSpans b ns (first + length (leaves a)) mid new → AddsSpans g ns first old new
+spans_of_both g a b ns first old mid new listed parts one two =
     let long : length (leaves g) ≡ length (leaves a) + length (leaves b) = ap length listed ∙ length-append (leaves a) (leaves b) in
-    let ps = placed_parts a first in
-    let qs = placed_parts b (first + length (leaves a)) in
-    let into : (p : ℕ × Process) → p ∈ (ps ++ qs) → p ∈ placed_parts g first = λ p h. subst (λ (l : List (ℕ × Process)). p ∈ l) (sym placed) h in
+    let ps = isolated_parts a in
+    let qs = isolated_parts b in
+    let into : (part : Process) → part ∈ (ps ++ qs) → part ∈ isolated_parts g = λ part h. subst (λ (l : List Process). part ∈ l) (sym parts) h in
     record {
       kept = λ s h. two.kept s (one.kept s h);
       sound = λ s h. ⊎_elim
           (λ in_mid. ⊎_elim (λ in_old. inl in_old) (λ found. inr (found.0, into found.0 (mem_append_left found.0 ps qs found.1), found.2, found.3)) (one.sound s in_mid))
           (λ found. inr (found.0, into found.0 (mem_append_right found.0 ps qs found.1), found.2, found.3)) (two.sound s h);
-      complete = λ p member. ⊎_elim
-          (λ in_a. ⊎_elim (λ short. inl short) (λ found. inr (found.0, two.kept found.0 found.1, found.2)) (one.complete p in_a))
-          (λ in_b. two.complete p in_b)
-          (mem-append p ps qs (subst (λ (l : List (ℕ × Process)). p ∈ l) placed member));
+      complete = λ part member. ⊎_elim
+          (λ in_a. ⊎_elim (λ short. inl short) (λ found. inr (found.0, two.kept found.0 found.1, found.2)) (one.complete part in_a))
+          (λ in_b. two.complete part in_b)
+          (mem-append part ps qs (subst (λ (l : List Process). part ∈ l) parts member));
       within = λ s h. ⊎_elim
           (λ in_mid. ⊎_elim (λ in_old. inl in_old) (λ inside. inr (inside.0, omega (arith, inside.1, long))) (one.within s in_mid))
           (λ inside. inr (omega (arith, inside.0), omega (arith, inside.1, long))) (two.within s h);
@@ -140,27 +135,24 @@ spans_of_both g a b first middle old mid new listed placed here one two' =
           (λ s member. ⊎_elim (λ in_old. omega (arith, all s in_old)) (λ inside. omega (arith, inside.1)) (one.within s member));
     }
 
-pub spans_of_isolated : (g a : Process) (span : Span) (old mid new : List Span) → g ≡ Isolated a → span.end ≡ span.first + length (leaves a) →
-    AddsSpans a span.first old mid → AddsSpan span mid new → AddsSpans g span.first old new
-spans_of_isolated g a span old mid new is end inner outer =
-    let first : ℕ = span.first in
-    let mine : IsSpanOf (first, a) span = record { first = refl; end = end } in
-    subst (λ (p : Process). AddsSpans p first old new) (sym is) (record {
-      kept = λ s h. outer.kept s (inner.kept s h);
-      sound = λ s h. ⊎_elim
-          (λ in_mid. ⊎_elim (λ in_old. inl in_old) (λ found. inr (found.0, inr found.1, found.2, found.3)) (inner.sound s in_mid))
-          (λ (new_one : (s ≡ span) × (span.first + 2 ≤ span.end)).
-          inr ((first, a), inl refl, subst (λ (x : Span). IsSpanOf (first, a) x) (sym new_one.0) mine, subst (λ (x : Span). x.first + 2 ≤ x.end) (sym new_one.0) new_one.1)) (outer.sound s h);
-      complete = λ p member. ⊎_elim
-          (λ (same : p ≡ (first, a)).
-          let Has : ℕ × Process → Type 0 = λ q. (length (leaves q.1) < 2) ⊎ ((s : Span) × (s ∈ new) × IsSpanOf q s) in
-          subst Has (sym same) (⊎_elim (λ short. inl (omega (arith, short, end))) (λ there. inr (span, there, mine)) outer.complete))
-          (λ inside. ⊎_elim (λ short. inl short) (λ found. inr (found.0, outer.kept found.0 found.1, found.2)) (inner.complete p inside)) member;
-      within = λ s h. ⊎_elim (λ in_mid. inner.within s in_mid)
-          (λ (new_one : (s ≡ span) × (span.first + 2 ≤ span.end)).
-          inr (subst (λ (x : Span). (first ≤ x.first) × (x.end ≤ first + length (leaves a))) (sym new_one.0) (omega arith, omega (arith, end)))) (outer.sound s h);
-      rising = λ rising all. outer.rising (inner.rising rising all) (λ long s member. ⊎_elim
-          (λ in_old. record { end = omega (arith, all s in_old, long); first = λ same. omega (arith, all s in_old, long, same) })
-          (λ inside. record { end = omega (arith, inside.1, end); first = λ same. inside.0 })
-          (inner.within s member));
-    })
+pub spans_of_isolated : (a : Process) (ns : List ℕ) (span : Span) (old mid new : List Span) → at_span span ns ≡ leaves a → span.end ≡ span.first + length (leaves a) →
+    AddsSpans a ns span.first old mid → AddsSpan span mid new → AddsSpans (Isolated a) ns span.first old new
+spans_of_isolated a ns span old mid new here end inner outer = record {
+  kept = λ s h. outer.kept s (inner.kept s h);
+  sound = λ s h. ⊎_elim
+      (λ in_mid. ⊎_elim (λ in_old. inl in_old) (λ found. inr (found.0, inr found.1, found.2, found.3)) (inner.sound s in_mid))
+      (λ (last : (s ≡ span) × (span.first + 2 ≤ span.end)).
+      inr (a, inl refl, subst (λ (x : Span). at_span x ns ≡ leaves a) (sym last.0) here, subst (λ (x : Span). x.first + 2 ≤ x.end) (sym last.0) last.1)) (outer.sound s h);
+  complete = λ part member. ⊎_elim
+      (λ (same : part ≡ a).
+      let Has : Process → Type 0 = λ q. (length (leaves q) < 2) ⊎ ((s : Span) × (s ∈ new) × (at_span s ns ≡ leaves q)) in
+      subst Has (sym same) (⊎_elim (λ short. inl (omega (arith, short, end))) (λ there. inr (span, there, here)) outer.complete))
+      (λ inside. ⊎_elim (λ short. inl short) (λ found. inr (found.0, outer.kept found.0 found.1, found.2)) (inner.complete part inside)) member;
+  within = λ s h. ⊎_elim (λ in_mid. inner.within s in_mid)
+      (λ (last : (s ≡ span) × (span.first + 2 ≤ span.end)).
+      inr (subst (λ (x : Span). (span.first ≤ x.first) × (x.end ≤ span.first + length (leaves a))) (sym last.0) (omega arith, omega (arith, end)))) (outer.sound s h);
+  rising = λ rising all. outer.rising (inner.rising rising all) (λ long s member. ⊎_elim
+      (λ in_old. record { end = omega (arith, all s in_old, long); first = λ same. omega (arith, all s in_old, long, same) })
+      (λ inside. record { end = omega (arith, inside.1, end); first = λ same. inside.0 })
+      (inner.within s member));
+}

@@ -19,7 +19,7 @@ use Rattle.flow_plan.specs.Parts.{KeepsTogether, KeepsBeside, KeepsAfter}
 use Rattle.flow_plan.specs.Fields.{AreFieldsOf}
 use Rattle.flow_plan.proofs.RowLemmas.{one_more}
 
-module _ (p : Planned) (before : List (LeafSet 16)) (parts : List PartRow) (kept : AreFieldsOf p before parts) (D : ℕ → Type 0) where
+module _ {p : Planned} {before : List (LeafSet 16)} {parts : List PartRow} (kept : AreFieldsOf p before parts) (D : ℕ → Type 0) where
   -- the one may come after the other where no part has it alone
   comes_after : (x y : ℕ) → x ≢ y → MayComeNext p D x → MayComeNext p D y → ((row : PartRow) → row ∈ parts → IsTrue (has_leaf row.inside x) → IsTrue (has_leaf row.inside y)) →
       MayComeAfter p D x y
@@ -107,7 +107,7 @@ module _ (p : Planned) (before : List (LeafSet 16)) (parts : List PartRow) (kept
 
 -- ---- the leaves after one
 
-module _ (p : Planned) (before : List (LeafSet 16)) (parts : List PartRow) (kept : AreFieldsOf p before parts) (done : ℕ → Bool) (claims : LeafSet 16) (list : List ℕ) (n : ℕ)
+module _ {p : Planned} {before : List (LeafSet 16)} {parts : List PartRow} (kept : AreFieldsOf p before parts) (done : ℕ → Bool) (claims : LeafSet 16) (list : List ℕ) (n : ℕ)
     (is : IsRowOf (λ x. x ∈ list) claims) (other : ¬ (n ∈ list)) (distinct : AreDistinct list) (next : MayComeNext p (λ x. IsTrue (done x)) n)
     (each : Each (MayComeNext p (λ x. IsTrue (done x))) list) where
   abbrev D : ℕ → Type 0
@@ -129,9 +129,9 @@ module _ (p : Planned) (before : List (LeafSet 16)) (parts : List PartRow) (kept
   after_keeps keeps =
       let each_after : Each (MayComeNext p E) list = each_from_members (MayComeNext p E) list (λ y member.
       same_ready p.process (pairs_of p.tokens) (DoneOr D (n ∷ [])) E y from_either to_either
-      (comes_after p before parts kept D n y (λ same. other (subst (λ (m : ℕ). m ∈ list) (sym same) member)) next (each_member (MayComeNext p D) list each y member)
+      (comes_after kept D n y (λ same. other (subst (λ (m : ℕ). m ∈ list) (sym same) member)) next (each_member (MayComeNext p D) list each y member)
       (λ row row_in mine. (each_member Keeps parts keeps row row_in).1 mine y ((is y).1 member)))) in
-      let two = all_after p before parts kept E list distinct each_after
+      let two = all_after kept E list distinct each_after
       (λ x y x_in y_in row member has. (each_member Keeps parts keeps row member).0 x y ((is x).1 x_in) ((is y).1 y_in) has) in
       (pairs_suffice_for_orders p.process (pairs_of p.tokens) (λ x. x == n || done x) list).1 (record { each = each_after; two = two })
 
@@ -139,9 +139,9 @@ module _ (p : Planned) (before : List (LeafSet 16)) (parts : List PartRow) (kept
   keeps_after all =
       let side = (pairs_suffice_for_orders p.process (pairs_of p.tokens) (λ x. x == n || done x) list).0 all in
       each_from_members Keeps parts (λ row member. (
-        λ x y x_is y_is has. of_all_after p before parts kept E list side.each side.two x y ((is x).0 x_is) ((is y).0 y_is) row member has,
+        λ x y x_is y_is has. of_all_after kept E list side.each side.two x y ((is x).0 x_is) ((is y).0 y_is) row member has,
         λ mine y claimed. let y_in : y ∈ list = (is y).0 claimed in
-            not_alone p before parts kept D n y next (each_member (MayComeNext p D) list each y y_in)
+            not_alone kept D n y next (each_member (MayComeNext p D) list each y y_in)
             (same_ready p.process (pairs_of p.tokens) E (DoneOr D (n ∷ [])) y to_either from_either (each_member (MayComeNext p E) list side.each y y_in)) row member mine,
       ))
 

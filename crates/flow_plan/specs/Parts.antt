@@ -1,5 +1,5 @@
 -- Rows of bits for the isolated parts of a plan.
-use Rattle.std.specs.Prelude.{◌≡◌, ◌≢◌, ◌-◌, ℕ, IsTrue, List, [], ◌∷◌, ◌⊎◌, take, drop}
+use Rattle.std.specs.Prelude.{◌≡◌, ◌≢◌, ℕ, IsTrue, List, [], ◌∷◌, ◌⊎◌}
 use Rattle.leaf_rows.specs.Leaves.{has_leaf}
 use Rattle.leaf_rows.specs.declared.leaf_set.LeafSet.{LeafSet}
 use Rattle.flow_model.specs.Lists.{◌∈◌, Each}
@@ -11,14 +11,11 @@ use Rattle.flow_plan.specs.declared.part_row.Use.TheVariants.{Next, Beside, Firs
 use Rattle.flow_plan.specs.declared.span.Span.{Span}
 use Rattle.flow_plan.specs.Rows.{IsRowOf}
 use Rattle.flow_plan.specs.Ahead.{IsOutside}
+use Rattle.flow_plan.specs.Spans.{at_span}
 
 -- all with P are one
 abbrev pub IsOneAtMost : (ℕ → Type 0) → Type 0
 IsOneAtMost P = (x y : ℕ) → P x → P y → x ≡ y
-
--- what stands at the places of the span
-abbrev pub at_span : {A : Type 0} → Span → List A → List A
-at_span s list = take (s.end - s.first) (drop s.first list)
 
 -- the row of the leaves at those places
 pub record IsPartFor (ns : List ℕ) (before : List (LeafSet 16)) (s : Span) (row : PartRow) : Type 0 where

@@ -1,22 +1,13 @@
 -- The places of the leaves of isolated parts in the list of all leaves.
-use Rattle.std.specs.Prelude.{◌≡◌, ◌<◌, ◌≤◌, ◌+◌, ℕ, List, [], ◌∷◌, ◌++◌, ◌⊎◌, length}
+use Rattle.std.specs.Prelude.{◌≡◌, ◌<◌, ◌≤◌, ◌+◌, ◌-◌, ℕ, List, [], ◌∷◌, ◌⊎◌, length, take, drop}
 use Rattle.flow_model.specs.Lists.{◌∈◌, Each}
-use Rattle.flow_model.specs.Process.{Process, Empty, Task, Sequence, Parallel, Choice, Isolated, leaves}
+use Rattle.flow_model.specs.Process.{Process, leaves}
+use Rattle.flow_model.specs.Ready.{isolated_parts}
 use Rattle.flow_plan.specs.declared.span.Span.{Span}
 
--- the bodies of the isolated parts, each with the place of its first leaf, where those of the goal stand from k on
-abbrev pub placed_parts : Process → ℕ → List (ℕ × Process)
-placed_parts Empty k = []
-placed_parts (Task n) k = []
-placed_parts (Sequence a b) k = placed_parts a k ++ placed_parts b (k + length (leaves a))
-placed_parts (Parallel a b) k = placed_parts a k ++ placed_parts b (k + length (leaves a))
-placed_parts (Choice a b) k = placed_parts a k ++ placed_parts b (k + length (leaves a))
-placed_parts (Isolated a) k = (k, a) ∷ placed_parts a k
-
--- the span of a part at its place
-pub record IsSpanOf (p : ℕ × Process) (s : Span) : Type 0 where
-  pub first : s.first ≡ p.0
-  pub end : s.end ≡ p.0 + length (leaves p.1)
+-- what stands at the places of the span
+abbrev pub at_span : {A : Type 0} → Span → List A → List A
+at_span s list = take (s.end - s.first) (drop s.first list)
 
 -- the one ends before the other, or stands within it at the same end
 pub record IsEarlier (s t : Span) : Type 0 where
@@ -40,10 +31,11 @@ pub record AddsSpan (span : Span) (old new : List Span) : Type 0 where
   pub complete : (span.end < span.first + 2) ⊎ (span ∈ new)
   pub rising : AreRising old → (span.first + 2 ≤ span.end → (s : Span) → s ∈ old → IsNotAfter s span) → AreRising new
 
--- the span of each part is among the new ones, unless it has no two places, and nothing else is new
-pub record AddsSpans (g : Process) (first : ℕ) (old new : List Span) : Type 0 where
+-- the span of each part is among the new ones, unless it has no two places, and nothing else is new, where the leaves
+-- of the goal stand from that place on
+pub record AddsSpans (g : Process) (ns : List ℕ) (first : ℕ) (old new : List Span) : Type 0 where
   pub kept : (s : Span) → s ∈ old → s ∈ new
-  pub sound : (s : Span) → s ∈ new → (s ∈ old) ⊎ ((p : ℕ × Process) × (p ∈ placed_parts g first) × IsSpanOf p s × (s.first + 2 ≤ s.end))
-  pub complete : (p : ℕ × Process) → p ∈ placed_parts g first → (length (leaves p.1) < 2) ⊎ ((s : Span) × (s ∈ new) × IsSpanOf p s)
+  pub sound : (s : Span) → s ∈ new → (s ∈ old) ⊎ ((part : Process) × (part ∈ isolated_parts g) × (at_span s ns ≡ leaves part) × (s.first + 2 ≤ s.end))
+  pub complete : (part : Process) → part ∈ isolated_parts g → (length (leaves part) < 2) ⊎ ((s : Span) × (s ∈ new) × (at_span s ns ≡ leaves part))
   pub within : (s : Span) → s ∈ new → (s ∈ old) ⊎ ((first ≤ s.first) × (s.end ≤ first + length (leaves g)))
   pub rising : AreRising old → ((s : Span) → s ∈ old → s.end ≤ first) → AreRising new

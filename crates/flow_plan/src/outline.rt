@@ -59,10 +59,10 @@ impl Outline {
         ensures drawn { OnOk result (Draws node.now self.old self.new) }
     {
         match node {
-            Node::Nop | Node::Serial | Node::Fork | Node::Split | Node::Join => {}
             Node::Leaf => self.place += 1,
             Node::Open => self.opens.push(self.place)?,
             Node::Close => self.close()?,
+            _ => {}
         }
         Ok(())
     }

@@ -1,6 +1,7 @@
 ghost use Rattle.std.specs.Prelude.{◌≡◌, ◌<◌, ◌≤◌, ℕ, List, [], length, All, IfOk};
 ghost use Rattle.flow_model.specs.declared.limits.TheConstants.{MOST_LEAVES};
 ghost use Rattle.flow_model.specs.Lists.{Each};
+ghost use Rattle.flow_model.specs.Process.{leaves};
 ghost use Rattle.flow_model.specs.Ready.{DirectlyBefore};
 ghost use Rattle.flow_plan.specs.Rows.{AreRowsOf};
 ghost use Rattle.flow_plan.specs.declared.span.Span.{Span};
@@ -17,7 +18,7 @@ use std::alloc::{AllocError, Global};
 /// The spans of the isolated parts of the goal with two or more leaves, inner parts first.
 #[tactic(auto, using(crate::proofs::MarkLemmas::begun_spans))]
 fn spans_of(alloc: Global, goal: &Choiceless) -> Result<Vec<Span>, AllocError>
-    ensures { IfOk result (λ spans. AddsSpans goal.now.process 0 [] spans.items) }
+    ensures { IfOk result (λ spans. AddsSpans goal.now.process (leaves goal.now.process) 0 [] spans.items) }
 {
     let mut outline = Outline {
         place: 0,

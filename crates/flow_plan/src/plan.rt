@@ -146,7 +146,7 @@ impl Plan {
         ensures missing { IfNone result (¬ (leaf ∈ Process.leaves self.now.process)) }
         ensures none { IfNone result ((x : ℕ) → ¬ (DirectlyBefore self.now.process (pairs_of self.now.tokens) x leaf)) }
     {
-        match place_of(self.goal.leaves(), leaf) {
+        match place_of(self.leaves(), leaf) {
             Some(place) => Some(&self.before[place]),
             None => None,
         }
@@ -169,7 +169,7 @@ impl Plan {
         ensures { IsTrue result ↔ IsUnblocked self.now (IsDone done.now) leaf }
     {
         match self.row_of(leaf) {
-            Some(row) => !done.has(leaf) && row.is_subset(done.row()),
+            Some(row) => done.frees(leaf, row),
             None => false,
         }
     }
@@ -190,7 +190,7 @@ impl Plan {
         requires { Fits self.now done.now }
         ensures { IsTrue result ↔ MayComeNext self.now (IsDone done.now) leaf }
     {
-        self.is_unblocked(done, leaf) && parts_allow(&self.parts, done.row(), leaf)
+        self.is_unblocked(done, leaf) && parts_allow(&self.parts, &done.done, leaf)
     }
 
     /// Whether leaves that may come next, none of them twice, may come next after one another. They may where

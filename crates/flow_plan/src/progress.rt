@@ -7,14 +7,15 @@ use leaf_rows::LeafSet;
 #[derive(Clone, Copy)]
 pub struct Progress {
     bound: u32,
-    done: LeafSet<16>,
+    pub(crate) done: LeafSet<16>,
     ghost small: { bound ≤ MOST_LEAVES },
 }
 
 impl Progress {
-    ghost use Rattle.std.specs.Prelude.{◌≡◌, ℕ, ◌<◌, ◌==◌, ◌&&◌, ◌||◌, not, false};
+    ghost use Rattle.std.specs.Prelude.{◌≡◌, ℕ, ◌<◌, ◌==◌, ◌&&◌, ◌||◌, ◌↔◌, not, false, IsTrue};
     ghost use Rattle.leaf_rows.specs.Leaves.{has_leaf};
-    ghost use Rattle.flow_plan.specs.Progress.{bound_of, is_done};
+    ghost use Rattle.flow_plan.specs.Progress.{bound_of, is_done, IsDone};
+    ghost use Rattle.flow_plan.specs.Rows.{IsFree};
 
     /// No leaf below `leaves` is done yet.
     pub fn new(leaves: u32) -> Progress
@@ -54,10 +55,11 @@ impl Progress {
         self.done.has(leaf)
     }
 
-    /// The done leaves.
-    pub(crate) fn row(&self) -> &LeafSet<16>
-        ensures { (n : ℕ) → has_leaf result.now n ≡ is_done self.now n }
+    /// Whether the leaf is not done, and all of its row is.
+    pub(crate) fn frees(&self, leaf: u32, row: &LeafSet<16>) -> bool
+        requires { leaf < bound_of self.now }
+        ensures { IsTrue result ↔ IsFree (λ x _. IsTrue (has_leaf row.now x)) (IsDone self.now) leaf }
     {
-        &self.done
+        !self.has(leaf) && row.is_subset(&self.done)
     }
 }

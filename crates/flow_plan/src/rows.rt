@@ -15,13 +15,19 @@ use leaf_rows::LeafSet;
 use std::alloc::{AllocError, Global};
 
 /// For each leaf of the goal, in order, the leaves before it in the goal.
-#[tactic(auto, using(crate::proofs::RowLemmas::fits_rows, crate::proofs::MarkLemmas::begun_rows))]
+#[tactic(auto, using(crate::proofs::MarkLemmas::begun_rows))]
 fn sequence_rows(alloc: Global, goal: &Choiceless) -> Result<Vec<LeafSet<16>>, AllocError>
     requires { Each (λ n. n < MOST_LEAVES) goal.now.leaves }
     ensures { IfOk result (λ rows. AreRowsOf (InSequence goal.now.process) goal.now.leaves rows.items) }
 {
     let leaves = goal.leaves();
-    let mut sweep = Sweep::new(alloc, leaves.len())?;
+    let rows = Vec::with_capacity(alloc, leaves.len())?;
+    let mut sweep = Sweep {
+        place: 0,
+        ahead: LeafSet::new(),
+        forks: Vec::new(alloc),
+        rows,
+    };
     for node in goal.nodes() {
         sweep.pass(node, leaves)?;
     }

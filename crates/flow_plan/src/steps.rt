@@ -1,12 +1,13 @@
 //! What may come next in a plan, for all its leaves at once.
 ghost use Rattle.std.specs.Prelude.{◌≡◌, ◌<◌, ◌↔◌, ◌⊎◌, ◌&&◌, not, ℕ, List, IsTrue, IfNone, IfSome, Some, [], ◌∷◌, length};
 ghost use Rattle.flow_model.specs.Lists.{◌∈◌, Each, AreDistinct};
-ghost use Rattle.flow_model.specs.Ready.{DoneOr};
+ghost use Rattle.flow_model.specs.Process.{Process};
+ghost use Rattle.flow_model.specs.Ready.{DirectlyBefore, DoneOr};
 ghost use Rattle.leaf_rows.specs.Leaves.{has_leaf};
 ghost use Rattle.flow_plan.specs.Orders.{Fits, IsUnblocked, MayComeNext, MayFollowInEveryOrder};
 ghost use Rattle.flow_plan.specs.Parts.{PartAllows, Keeps};
 ghost use Rattle.flow_plan.specs.Progress.{IsDone, bound_of};
-ghost use Rattle.flow_plan.specs.Rows.{IsRowOf, IsUnblockedAt};
+ghost use Rattle.flow_plan.specs.Rows.{AreRowsOf, IsFree, IsRowOf};
 
 use crate::claims::with;
 use crate::part_row::{PartRow, Use};
@@ -19,11 +20,12 @@ use leaf_rows::LeafSet;
 fn free_row(leaves: &[u32], before: &[LeafSet<16>], done: &Progress) -> LeafSet<16>
     requires one_each { length before.now ≡ length leaves.now }
     requires fits { Each (λ n. n < bound_of done.now) leaves.now }
-    ensures { IsRowOf (λ n. IsUnblockedAt leaves.now before.now (length leaves.now) (IsDone done.now) n) result }
+    ensures { (q : Process) (pairs : List (ℕ × ℕ)) → AreRowsOf (DirectlyBefore q pairs) leaves.now before.now →
+        IsRowOf (λ n. n ∈ leaves.now × IsFree (DirectlyBefore q pairs) (IsDone done.now) n) result }
 {
     let mut row = LeafSet::new();
     for (place, leaf) in leaves.iter().enumerate() {
-        if !done.has(*leaf) && before[place].is_subset(done.row()) {
+        if done.frees(*leaf, &before[place]) {
             row.insert(*leaf);
         }
     }
@@ -96,7 +98,7 @@ impl Plan {
         ensures { IsRowOf (MayComeNext self.now (IsDone done.now)) result }
     {
         let free = free_row(self.leaves(), &self.before, done);
-        keep_for(&self.parts, Use::Next, done.row(), free)
+        keep_for(&self.parts, Use::Next, &done.done, free)
     }
 
     /// Adds to what is found the leaves that may follow with the claimed ones in every order, where it is known
@@ -125,10 +127,10 @@ impl Plan {
             MayComeNext self.now (DoneOr (IsDone done.now) (first ∷ [])) leaf → result ≡ Some first }
     {
         let mut before = self.all_before(leaf);
-        before.remove_all(done.row());
+        before.remove_all(&done.done);
         match before.first() {
             Some(first) => Some(first),
-            None => missing(&self.parts, done.row(), leaf),
+            None => missing(&self.parts, &done.done, leaf),
         }
     }
 
@@ -179,7 +181,7 @@ impl Plan {
         let Some(first) = self.only_before(done, leaf) else {
             return found;
         };
-        if first < MOST_LEAVES && rest.has(first) && self.may_follow(done, first, list) {
+        if first < MOST_LEAVES && rest.has(first) && self.may_follow_first(done, first, list) {
             return with(found, first);
         }
         found

@@ -1,10 +1,9 @@
-ghost use Rattle.std.specs.Prelude.{◌≡◌, ◌<◌, ◌+◌, ◌^◌, ◌∷◌, ℕ, [], false, slice_get, IfOk, IfSome, OnOk};
-ghost use Rattle.flow_goal.specs.declared.node.Node.TheVariants.{Leaf, Fork, Split, Join};
+ghost use Rattle.std.specs.Prelude.{◌≡◌, ◌<◌, ◌+◌, ◌^◌, ℕ, List, [], false, slice_get, IfOk, IfSome, OnOk};
+ghost use Rattle.flow_goal.specs.declared.node.Node.TheVariants.{Leaf, Split, Join};
 ghost use Rattle.flow_model.specs.declared.limits.TheConstants.{MOST_LEAVES};
 ghost use Rattle.flow_model.specs.Lists.{Each};
 ghost use Rattle.leaf_rows.specs.Leaves.{has_leaf};
-ghost use Rattle.leaf_rows.specs.declared.leaf_set.LeafSet.{LeafSet};
-ghost use Rattle.flow_plan.specs.RowMarks.{GoesOn, Passes};
+ghost use Rattle.flow_plan.specs.RowMarks.{Passes};
 
 use flow_goal::Node;
 use leaf_rows::LeafSet;
@@ -15,14 +14,11 @@ use std::alloc::{AllocError, Global};
 pub(crate) struct Sweep {
     /// The place of the next leaf.
     pub(crate) place: usize,
-    /// Sets of leaves, which stay as they are. Others name them by number, so that goals with no leaf
-    /// cost no set.
-    pub(crate) sets: Vec<LeafSet<16>>,
     /// The leaves before the next one.
-    pub(crate) ahead: usize,
+    pub(crate) ahead: LeafSet<16>,
     /// Of each two goals beside one another that are being read: what is ahead of both, and from the
-    /// second on, above it, what is behind the first.
-    pub(crate) forks: Vec<usize>,
+    /// second on what is behind the first.
+    pub(crate) forks: Vec<LeafSet<16>>,
     pub(crate) rows: Vec<LeafSet<16>>,
 }
 
@@ -37,103 +33,37 @@ fn leaf_at(leaves: &[u32], place: usize) -> Option<u32>
 }
 
 impl Sweep {
-    /// Nothing is read yet.
-    pub(crate) fn new(alloc: Global, leaves: usize) -> Result<Sweep, AllocError>
-        ensures place { IfOk result (λ new. new.place ≡ 0) }
-        ensures sets { IfOk result (λ new. (empty : LeafSet 16) × ((x : ℕ) → has_leaf empty x ≡ false) × (new.sets.items ≡ empty ∷ [])) }
-        ensures ahead { IfOk result (λ new. new.ahead ≡ 0) }
-        ensures forks { IfOk result (λ new. new.forks.items ≡ []) }
-        ensures rows { IfOk result (λ new. new.rows.items ≡ []) }
-    {
-        // the empty one, one a leaf, and fewer than leaves for goals beside one another
-        let mut sets = Vec::with_capacity(alloc, leaves.saturating_mul(2))?;
-        sets.push(LeafSet::new())?;
-        Ok(Sweep {
-            place: 0,
-            sets,
-            ahead: 0,
-            forks: Vec::with_capacity(alloc, leaves)?,
-            rows: Vec::with_capacity(alloc, leaves)?,
-        })
-    }
-
-    /// The set of that number.
-    fn set(&self, number: usize) -> Option<LeafSet<16>>
-        ensures { result ≡ slice_get self.now.sets.items number }
-    {
-        self.sets.get(number).copied()
-    }
-
-    /// From now on the set is ahead.
-    fn go_on(&mut self, set: LeafSet<16>) -> Result<(), AllocError>
-        ensures { OnOk result (GoesOn set self.old self.new) }
-    {
-        self.ahead = self.sets.len();
-        self.sets.push(set)?;
-        Ok(())
-    }
-
     /// Reads a leaf: what is ahead is its row.
     fn pass_leaf(&mut self, leaves: &[u32]) -> Result<(), AllocError>
         requires { Each (λ n. n < MOST_LEAVES) leaves.now }
         ensures { OnOk result (Passes Leaf leaves.now self.old self.new) }
     {
-        let Some(leaf) = leaf_at(leaves, self.place) else {
-            return Ok(());
-        };
-        let Some(row) = self.set(self.ahead) else {
-            return Ok(());
-        };
-        self.rows.push(row)?;
-        self.place += 1;
-        let mut more = row;
-        more.insert(leaf);
-        self.go_on(more)
-    }
-
-    fn fork(&mut self, leaves: &[u32]) -> Result<(), AllocError>
-        ensures { OnOk result (Passes Fork leaves.now self.old self.new) }
-    {
-        self.forks.push(self.ahead)?;
+        if let Some(leaf) = leaf_at(leaves, self.place) {
+            self.rows.push(self.ahead)?;
+            self.ahead.insert(leaf);
+            self.place += 1;
+        }
         Ok(())
     }
 
     /// Goes back to what is ahead of both.
-    fn split(&mut self, leaves: &[u32]) -> Result<(), AllocError>
-        ensures { OnOk result (Passes Split leaves.now self.old self.new) }
+    fn split(&mut self) -> Result<(), AllocError>
+        ensures { OnOk result ((leaves : List ℕ) → Passes Split leaves self.old self.new) }
     {
-        let Some(both) = self.forks.pop() else {
-            return Ok(());
-        };
-        self.forks.push(both)?;
-        self.forks.push(self.ahead)?;
-        self.ahead = both;
+        if let Some(both) = self.forks.pop() {
+            self.forks.push(self.ahead)?;
+            self.ahead = both;
+        }
         Ok(())
     }
 
-    /// What is ahead of what follows. Where one of the two goals has no leaf, it is what is behind the other.
-    fn join(&mut self, leaves: &[u32]) -> Result<(), AllocError>
-        ensures { OnOk result (Passes Join leaves.now self.old self.new) }
+    /// Both goals are ahead of what follows.
+    fn join(&mut self)
+        ensures { (leaves : List ℕ) → Passes Join leaves self.old self.new }
     {
-        let Some(side) = self.forks.pop() else {
-            return Ok(());
-        };
-        let Some(both) = self.forks.pop() else {
-            return Ok(());
-        };
-        if self.ahead == both {
-            self.ahead = side;
-            return Ok(());
+        if let Some(side) = self.forks.pop() {
+            self.ahead.union_with(&side);
         }
-        if side == both {
-            return Ok(());
-        }
-        let (Some(one), Some(two)) = (self.set(self.ahead), self.set(side)) else {
-            return Ok(());
-        };
-        let mut all = one;
-        all.union_with(&two);
-        self.go_on(all)
     }
 
     /// Reads one mark.
@@ -142,11 +72,12 @@ impl Sweep {
         ensures { OnOk result (Passes node.now leaves.now self.old self.new) }
     {
         match node {
-            Node::Nop | Node::Serial | Node::Open | Node::Close => Ok(()),
-            Node::Leaf => self.pass_leaf(leaves),
-            Node::Fork => self.fork(leaves),
-            Node::Split => self.split(leaves),
-            Node::Join => self.join(leaves),
+            Node::Leaf => self.pass_leaf(leaves)?,
+            Node::Fork => self.forks.push(self.ahead)?,
+            Node::Split => self.split()?,
+            Node::Join => self.join(),
+            _ => {}
         }
+        Ok(())
     }
 }

@@ -9,9 +9,7 @@ ghost use Rattle.flow_lex.specs.Tokens.{IsSmall};
 use crate::reserved_words::{mark_symbol, word_symbol};
 use crate::symbol::Symbol;
 use flow_lex::{Token, TokenKind, number};
-
-/// The machine's `deepest`: the clause of `is_too_deep` says that the two are one.
-const DEEPEST: usize = 200;
+use flow_model::GREATEST_DEPTH;
 
 /// A token of the text as its symbol.
 pub fn symbol_of(text: &[u8], token: Token) -> Symbol<'_>
@@ -44,7 +42,7 @@ pub fn is_too_deep(symbol: Symbol<'_>, depth: usize) -> bool
     ensures { result ≡ machine.is_too_deep (meant symbol.entry) depth }
 {
     match symbol {
-        Symbol::Opening | Symbol::Not => depth >= DEEPEST,
+        Symbol::Opening | Symbol::Not => depth >= GREATEST_DEPTH,
         _ => false,
     }
 }

@@ -50,13 +50,10 @@ one_next r (Stuck n) Finished x y = absurd (not_waiting r Finished y (λ leaf e.
 one_next r (Stuck n) (Stuck m) x y = ap Stuck (one_least (IsWaiting r) n m x y)
 
 one_next_text : (r : Run) (a b : Next) → a ≡ b → (x y : List ℕ) → IsNextText r a x → IsNextText r b y → x ≡ y
-one_next_text r (Act n) b e x y p q = let told : IsNextText r (Act n) y = subst (λ c. IsNextText r c y) (sym e) q in p ∙ sym told
-one_next_text r (Wait n) b e x y p q = let told : IsNextText r (Wait n) y = subst (λ c. IsNextText r c y) (sym e) q in p ∙ sym told
-one_next_text r Finished b e x y p q = let told : IsNextText r Finished y = subst (λ c. IsNextText r c y) (sym e) q in p ∙ sym told
-one_next_text r Ended b e x y p q = let told : IsNextText r Ended y = subst (λ c. IsNextText r c y) (sym e) q in p ∙ sym told
 one_next_text r (Stuck n) b e x y (ls, j, p) q =
     let told : IsNextText r (Stuck n) y = subst (λ c. IsNextText r c y) (sym e) q in
     p ∙ ap (numbers_text (codes "stuck")) (one_list (IsWaiting r) ls told.0 j told.1) ∙ sym told.2
+one_next_text r a b e x y p q = let told : IsNextText r a y = subst (λ c. IsNextText r c y) (sym e) q in p ∙ sym told
 
 -- Replies and reports
 
@@ -75,11 +72,8 @@ one_reply r command.Facts Shown x y (xs, ja, p) (ys, jb, q) =
 one_reply r other answer x y p q = absurd p
 
 one_meaning : (r : Run) (v : Verdict) (a b : verdict.Verdict) → Means r v a → Means r v b → a ≡ b
-one_meaning r came.Committed a b p q = p ∙ sym q
-one_meaning r came.Spent a b p q = p ∙ sym q
-one_meaning r (came.NoOther leaf) a b p q = p ∙ sym q
 one_meaning r came.Stuck a b (xs, ja, p) (ys, jb, q) = p ∙ ap verdict.stuck (one_list (IsWaiting r) xs ys ja jb) ∙ sym q
-one_meaning r came.Unfinished a b p q = p ∙ sym q
+one_meaning r v a b p q = p ∙ sym q
 
 one_words : (r : Run) (v : Verdict) (a b : List ℕ) → IsVerdictText r v a → IsVerdictText r v b → a ≡ b
 one_words r v x y (a, ma, p) (b, mb, q) = p ∙ ap verdict_text (one_meaning r v a b ma mb) ∙ sym q

@@ -4,7 +4,7 @@ use Rattle.std.specs.Prelude.{All}
 use Rattle.std.specs.List.{list_any}
 use Rattle.std.proofs.lemmas.Bool.{eqb-true}
 use Rattle.flow_model.specs.declared.labels.Label.{Label}
-use Rattle.flow_model.specs.declared.labels.Label.TheVariants.{Event, Test, Absent, Ins, Del}
+use Rattle.flow_model.specs.declared.labels.Label.TheVariants.{Ins, Del}
 use Rattle.flow_model.specs.Facts.{State, state_with, after, after_leaf, replay}
 use Rattle.flow_model.specs.Lists.{◌∈◌, Each}
 use Rattle.flow_model.specs.Run.{CanDoAside, IsStuck, RunState, current_leaves}
@@ -80,9 +80,6 @@ held_bounded count (f ∷ held) each n is = step (f == n) refl is (held_bounded 
     step false other there rest = rest there
 
 label_bounded : (events count : ℕ) (label : Label) → IsKnown events count label → (s : State) → IsBounded count s → IsBounded count (after s label)
-label_bounded events count (Event e) known s so_far n is = so_far n is
-label_bounded events count (Test f) known s so_far n is = so_far n is
-label_bounded events count (Absent f) known s so_far n is = so_far n is
 label_bounded events count (Ins f) known s so_far n is = step (n == f) refl is
   where
     step : (b : Bool) → (n == f) ≡ b → (if b then true else s n) ≡ true → n < count
@@ -93,6 +90,7 @@ label_bounded events count (Del f) known s so_far n is = step (n == f) is
     step : (b : Bool) → (if b then false else s n) ≡ true → n < count
     step true there = absurd (true≢false (sym there))
     step false there = so_far n there
+label_bounded events count label known s so_far n is = so_far n is
 
 each_at : (P : Label → Type 0) (labels : List Label) (i : ℕ) (label : Label) → Each P labels → slice_get labels i ≡ Some label → P label
 each_at P [] i label each at = cc

@@ -1,18 +1,26 @@
-ghost use Rattle.std.specs.Prelude.{◌≡◌, IfOk};
+ghost use Rattle.std.specs.Prelude.{◌≡◌, ◌++◌, IfOk};
+ghost use Rattle.std.specs.Fmt.{decimal};
 ghost use Rattle.std.specs.String.{string_bytes};
 ghost use Rattle.flow_reply.specs.Reply.{rewind_text, commit_text};
 
 use flow_core::{CommitRefusal, RewindRefusal};
 use std::alloc::{AllocError, Global};
 
+/// Prints a word, and the number behind it.
+pub(crate) fn print_number(alloc: Global, word: &str, number: u32) -> Result<String, AllocError>
+    ensures { IfOk result (λ text. string_bytes text ≡ word.now ++ decimal number) }
+{
+    format!(in alloc; "{word}{number}")
+}
+
 /// Prints what came of a `rewind`.
 pub fn print_rewind(alloc: Global, came: Result<u32, RewindRefusal>) -> Result<String, AllocError>
     ensures { IfOk result (λ text. string_bytes text ≡ rewind_text came) }
 {
     match came {
-        Ok(index) => format!(in alloc; "rewound {index}"),
+        Ok(index) => print_number(alloc, "rewound ", index),
         Err(RewindRefusal::Closed) => format!(in alloc; "refused closed"),
-        Err(RewindRefusal::Spent { limit }) => format!(in alloc; "refused spent {limit}"),
+        Err(RewindRefusal::Spent { limit }) => print_number(alloc, "refused spent ", limit),
         Err(RewindRefusal::NoChoice) => format!(in alloc; "refused no-choice"),
     }
 }
@@ -24,8 +32,8 @@ pub fn print_commit(alloc: Global, came: Result<(), CommitRefusal>) -> Result<St
     match came {
         Ok(()) => format!(in alloc; "committed"),
         Err(CommitRefusal::Closed) => format!(in alloc; "refused closed"),
-        Err(CommitRefusal::Spent { limit }) => format!(in alloc; "refused spent {limit}"),
-        Err(CommitRefusal::ClaimsOut { claim }) => format!(in alloc; "refused claims-out {claim}"),
+        Err(CommitRefusal::Spent { limit }) => print_number(alloc, "refused spent ", limit),
+        Err(CommitRefusal::ClaimsOut { claim }) => print_number(alloc, "refused claims-out ", claim),
         Err(CommitRefusal::Unfinished) => format!(in alloc; "refused unfinished"),
     }
 }

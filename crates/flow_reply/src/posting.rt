@@ -2,6 +2,7 @@ ghost use Rattle.std.specs.Prelude.{◌≡◌, IfOk};
 ghost use Rattle.std.specs.String.{string_bytes};
 ghost use Rattle.flow_reply.specs.Reply.{late_text, post_refused, done_text, fail_text};
 
+use crate::ending::print_number;
 use flow_core::{FailEffect, PostRefusal};
 use std::alloc::{AllocError, Global};
 
@@ -14,7 +15,7 @@ pub fn print_done(
     ensures { IfOk result (λ text. string_bytes text ≡ done_text claim came) }
 {
     match came {
-        Ok(()) => format!(in alloc; "done {claim}"),
+        Ok(()) => print_number(alloc, "done ", claim),
         Err(refusal) => refuse_post(alloc, claim, refusal),
     }
 }
@@ -40,9 +41,9 @@ fn refuse_post(alloc: Global, claim: u32, refusal: PostRefusal) -> Result<String
 {
     match refusal {
         PostRefusal::Closed => format!(in alloc; "refused closed"),
-        PostRefusal::NoClaim => format!(in alloc; "refused claim {claim}"),
-        PostRefusal::Answered => format!(in alloc; "refused answered {claim}"),
-        PostRefusal::Spent { limit } => format!(in alloc; "refused spent {limit}"),
+        PostRefusal::NoClaim => print_number(alloc, "refused claim ", claim),
+        PostRefusal::Answered => print_number(alloc, "refused answered ", claim),
+        PostRefusal::Spent { limit } => print_number(alloc, "refused spent ", limit),
         PostRefusal::Late { of, now } => print_late(alloc, claim, of, now),
     }
 }

@@ -4,7 +4,7 @@ ghost use Rattle.flow_core.specs.Run.{now};
 ghost use Rattle.flow_reply.specs.Reply.{IsAnswerTo, HasNamedCall, IsReply, IsReplyLine, given_text, take_text, take_refused, do_text};
 
 use crate::answer::Answer;
-use crate::ending::{print_commit, print_rewind};
+use crate::ending::{print_commit, print_number, print_rewind};
 use crate::posting::{print_done, print_fail};
 use crate::showing::{show_enabled, show_facts, show_journal, show_next};
 use flow_core::{Call, Core, DoRefusal, TakeRefusal};
@@ -95,10 +95,10 @@ fn refuse_take(alloc: Global, leaf: u32, refusal: TakeRefusal) -> Result<String,
 {
     match refusal {
         TakeRefusal::Closed => format!(in alloc; "refused closed"),
-        TakeRefusal::NoLeaf => format!(in alloc; "refused leaf {leaf}"),
-        TakeRefusal::WrongKind => format!(in alloc; "refused kind {leaf}"),
-        TakeRefusal::Spent { limit } => format!(in alloc; "refused spent {limit}"),
-        TakeRefusal::NotEnabled => format!(in alloc; "refused not-enabled {leaf}"),
+        TakeRefusal::NoLeaf => print_number(alloc, "refused leaf ", leaf),
+        TakeRefusal::WrongKind => print_number(alloc, "refused kind ", leaf),
+        TakeRefusal::Spent { limit } => print_number(alloc, "refused spent ", limit),
+        TakeRefusal::NotEnabled => print_number(alloc, "refused not-enabled ", leaf),
     }
 }
 
@@ -107,12 +107,12 @@ fn print_do(alloc: Global, leaf: u32, came: Result<(), DoRefusal>) -> Result<Str
     ensures { IfOk result (λ text. string_bytes text ≡ do_text leaf came) }
 {
     match came {
-        Ok(()) => format!(in alloc; "did {leaf}"),
+        Ok(()) => print_number(alloc, "did ", leaf),
         Err(DoRefusal::Closed) => format!(in alloc; "refused closed"),
-        Err(DoRefusal::NoLeaf) => format!(in alloc; "refused leaf {leaf}"),
-        Err(DoRefusal::WrongKind) => format!(in alloc; "refused kind {leaf}"),
-        Err(DoRefusal::Spent { limit }) => format!(in alloc; "refused spent {limit}"),
-        Err(DoRefusal::NotEnabled) => format!(in alloc; "refused not-enabled {leaf}"),
-        Err(DoRefusal::TestFalse) => format!(in alloc; "refused false {leaf}"),
+        Err(DoRefusal::NoLeaf) => print_number(alloc, "refused leaf ", leaf),
+        Err(DoRefusal::WrongKind) => print_number(alloc, "refused kind ", leaf),
+        Err(DoRefusal::Spent { limit }) => print_number(alloc, "refused spent ", limit),
+        Err(DoRefusal::NotEnabled) => print_number(alloc, "refused not-enabled ", leaf),
+        Err(DoRefusal::TestFalse) => print_number(alloc, "refused false ", leaf),
     }
 }

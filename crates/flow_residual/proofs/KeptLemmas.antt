@@ -8,9 +8,8 @@ use Rattle.flow_model.specs.declared.limits.TheConstants.{MOST_LEAVES}
 use Rattle.flow_model.specs.Lists.{◌∈◌, Each, AreDistinct}
 use Rattle.flow_model.specs.Process.{leaves}
 use Rattle.flow_laws.proofs.MadeLists.{of_map}
-use Rattle.flow_laws.proofs.Members.{mem-append, mem_append_left, each-append, each_parts, each_member, each_from_members, distinct_parts, distinct-append}
+use Rattle.flow_laws.proofs.Members.{mem-append, mem_append_left, each-append, each_parts, each_member, each_from_members, distinct_parts, distinct-append, at_most}
 use Rattle.flow_plan.proofs.PlaceLemmas.{read_member}
-use Rattle.flow_sample.proofs.RingLemmas.{at_most}
 use Rattle.flow_residual.specs.declared.ban.Ban.{Ban}
 use Rattle.flow_plan.specs.Sampled.{Sampled}
 use Rattle.flow_excise.specs.Compilation.{options_of}

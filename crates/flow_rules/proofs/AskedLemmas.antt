@@ -13,7 +13,8 @@ use Rattle.flow_rules.specs.declared.connective.Connective.{Connective}
 use Rattle.flow_rules.specs.declared.connective.Connective.TheVariants.{And, Or}
 use Rattle.flow_rules.specs.Asked.{AreOpen, HasKept, asked_step, is_nil, open_joined, open_ways_by, ways_asked, ways_asked_by}
 use Rattle.flow_rules.specs.WayLists.{both_ways, decided, decider, is_decided, joined_by, ways_of_sets}
-use Rattle.flow_rules.proofs.WayListLemmas.{both_free, both_front, each_with_each-append, decided_by_both, decided_by_one, joined_idle}
+use Rattle.flow_goal.proofs.EachLists.{each_with_each-append}
+use Rattle.flow_rules.proofs.WayListLemmas.{both_free, both_front, decided_by_both, decided_by_one, joined_idle}
 
 pub asked_parts : (c : Connective) (parts : Vec Asked Global) → ways_asked (asked.Parts c parts) ≡ ways_asked_by c parts.items
 asked_parts c parts = ap ways_asked (sym (rolls-Parts c parts)) ∙ fold-roll-Asked (List (List (ℕ × ℕ))) asked_step (open_asked.Parts c parts)

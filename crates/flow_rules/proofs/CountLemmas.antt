@@ -1,7 +1,7 @@
 -- How many ways lists have that are put together, and how many pairs.
-use Rattle.std.proofs.Common.{◌≡◌, ℕ, zero, suc, ◌+◌, ◌*◌, ◌-◌, ◌^◌, ◌≤◌, ◌==◌, min, Bool, true, false, ◌||◌, ◌&&◌, if◌then◌else◌, List, [], ◌∷◌, ◌++◌, length, map, refl, sym, ap, ◌∙◌, ◌⊎◌, inl, inr, arith}
-use Rattle.std.proofs.Math.Nat.{min-eq_left, min-eq_right, zero-mul, mul-zero, suc-mul, mul-suc, add-mul, mul_comm}
-use Rattle.std.proofs.lemmas.Bool.{cases_lt, ne_eqb}
+use Rattle.std.proofs.Common.{◌≡◌, ℕ, suc, ◌+◌, ◌*◌, ◌-◌, ◌^◌, ◌==◌, Bool, true, false, ◌||◌, ◌&&◌, if◌then◌else◌, List, [], ◌∷◌, ◌++◌, length, map, refl, sym, ap, ◌∙◌, inl, inr, arith}
+use Rattle.std.proofs.Math.Nat.{zero-mul, mul-zero, suc-mul, mul-suc, add-mul}
+use Rattle.std.proofs.lemmas.Bool.{ne_eqb}
 use Rattle.std.proofs.lemmas.List.{length-append}
 use Rattle.flow_laws.proofs.MadeLists.{joined-append, length-each_with_each}
 use Rattle.flow_model.specs.Lists.{joined}
@@ -9,37 +9,10 @@ use Rattle.flow_model.specs.Ways.{free_way, is_free}
 use Rattle.flow_rules.specs.declared.counting.WayCount.{WayCount}
 use Rattle.flow_rules.specs.declared.connective.Connective.{Connective}
 use Rattle.flow_rules.specs.declared.connective.Connective.TheVariants.{And, Or}
-use Rattle.flow_rules.specs.Counts.{capped, count_of, counts_by, counts_of_both, counts_of_either, is_decided_count, is_free_count}
+use Rattle.flow_goal.specs.Capped.{capped}
+use Rattle.flow_goal.proofs.Counting.{min_cases, product_capped, sum_capped}
+use Rattle.flow_rules.specs.Counts.{count_of, counts_by, counts_of_both, counts_of_either, is_decided_count, is_free_count}
 use Rattle.flow_rules.specs.WayLists.{both_ways, either_way, is_decided, is_none, joined_by}
-
--- numbers that are capped at a greatest one
-
-min_cases : (x m : ℕ) → ((x ≤ m) × (min x m ≡ x)) ⊎ ((m ≤ x) × (min x m ≡ m))
-min_cases x m = elim (cases_lt x m) [
-  | inl h ↦ let k : x ≤ m = omega arith in inl (k, min-eq_left k)
-  | inr h ↦ inr (h, min-eq_right h)
-]
-
-pub sum_capped : (m x y : ℕ) → min (min x m + min y m) m ≡ min (x + y) m
-sum_capped m x y = omega arith
-
-reaches : (m x y : ℕ) → m ≤ y → min (x * m) m ≡ min (x * y) m
-reaches m zero y h = ap (λ t. min t m) (zero-mul m ∙ sym (zero-mul y))
-reaches m (suc x) y h =
-    let one : m ≤ suc x * m = omega (arith, suc-mul x m) in
-    let other : m ≤ suc x * y = omega (arith, suc-mul x y) in
-    min-eq_right one ∙ sym (min-eq_right other)
-
-pub product_right : (m x y : ℕ) → min (x * min y m) m ≡ min (x * y) m
-product_right m x y = elim (min_cases y m) [
-  | inl (p, e) ↦ ap (λ t. min (x * t) m) e
-  | inr (p, e) ↦ ap (λ t. min (x * t) m) e ∙ reaches m x y p
-]
-
-product_capped : (m x y : ℕ) → min (min x m * min y m) m ≡ min (x * y) m
-product_capped m x y =
-    product_right m (min x m) y ∙ ap (λ t. min t m) (mul_comm (min x m) y)
-    ∙ product_right m y x ∙ ap (λ t. min t m) (mul_comm y x)
 
 -- lengths
 

@@ -2,9 +2,9 @@
 use Rattle.std.proofs.Common.{◌≡◌, ℕ, zero, suc, ◌+◌, ◌<◌, Bool, true, false, not, ◌||◌, ◌&&◌, if◌then◌else◌, Option, List, [], ◌∷◌, ◌++◌, length, take, get_or, map, fold, refl, sym, ap, ◌∙◌, append_assoc, append-nil, true≢false}
 use Rattle.std.proofs.lemmas.List.{map-append, map-id, take_more}
 use Rattle.std.proofs.lemmas.List.Sums.{fold-append}
-use Rattle.flow_model.specs.Lists.{each_with_each}
 use Rattle.flow_model.specs.Ways.{free_way, is_free, ways}
 pub use Rattle.flow_laws.proofs.WaysLemmas.{free_is}
+use Rattle.flow_goal.proofs.EachLists.{each_assoc, each_front}
 use Rattle.flow_rules.specs.declared.connective.Connective.{Connective}
 use Rattle.flow_rules.specs.declared.connective.Connective.TheVariants.{And, Or}
 use Rattle.flow_rules.specs.declared.normal.Nnf.{Nnf}
@@ -22,28 +22,11 @@ fold_more f z xs i x h e =
 pub both_free : (ws : List (List (ℕ × ℕ))) → both_ways free_way ws ≡ ws
 both_free ws = append-nil (map (λ w. [] ++ w) ws) ∙ map-id ws
 
-pub each_with_each-append : {A B C : Type 0} (f : A → B → C) (xs ys : List A) (zs : List B) →
-    each_with_each f (xs ++ ys) zs ≡ each_with_each f xs zs ++ each_with_each f ys zs
-each_with_each-append f [] ys zs = refl
-each_with_each-append f (x ∷ xs) ys zs =
-    ap (λ w. map (f x) zs ++ w) (each_with_each-append f xs ys zs)
-    ∙ sym (append_assoc (map (f x) zs) (each_with_each f xs zs) (each_with_each f ys zs))
-
-map_twice : (u v : List (ℕ × ℕ)) (ws : List (List (ℕ × ℕ))) → map (λ w. (u ++ v) ++ w) ws ≡ map (λ w. u ++ w) (map (λ w. v ++ w) ws)
-map_twice u v [] = refl
-map_twice u v (w ∷ ws) = λ k. append_assoc u v w k ∷ map_twice u v ws k
-
 pub both_front : (u : List (ℕ × ℕ)) (vs ws : List (List (ℕ × ℕ))) → both_ways (map (λ v. u ++ v) vs) ws ≡ map (λ w. u ++ w) (both_ways vs ws)
-both_front u [] ws = refl
-both_front u (v ∷ vs) ws =
-    (λ k. map_twice u v ws k ++ both_front u vs ws k)
-    ∙ sym (map-append (λ w. u ++ w) (map (λ w. v ++ w) ws) (both_ways vs ws))
+both_front u vs ws = each_front (λ v w. v ++ w) append_assoc u vs ws
 
 pub both_assoc : (us vs ws : List (List (ℕ × ℕ))) → both_ways (both_ways us vs) ws ≡ both_ways us (both_ways vs ws)
-both_assoc [] vs ws = refl
-both_assoc (u ∷ us) vs ws =
-    each_with_each-append (λ v w. v ++ w) (map (λ v. u ++ v) vs) (both_ways us vs) ws
-    ∙ (λ k. both_front u vs ws k ++ both_assoc us vs ws k)
+both_assoc us vs ws = each_assoc (λ v w. v ++ w) append_assoc us vs ws
 
 -- a list with no way in it
 

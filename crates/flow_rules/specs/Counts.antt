@@ -1,13 +1,10 @@
 -- How many ways a list has, and how many pairs, in 64 bits.
-use Rattle.std.specs.Prelude.{ℕ, ◌+◌, ◌*◌, ◌-◌, ◌^◌, ◌==◌, min, Bool, true, false, ◌||◌, ◌&&◌, if◌then◌else◌, List, length}
+use Rattle.std.specs.Prelude.{ℕ, ◌+◌, ◌*◌, ◌==◌, Bool, true, false, ◌||◌, ◌&&◌, if◌then◌else◌, List, length}
 use Rattle.flow_model.specs.Lists.{joined}
+use Rattle.flow_goal.specs.Capped.{capped}
 use Rattle.flow_rules.specs.declared.connective.Connective.{Connective}
 use Rattle.flow_rules.specs.declared.connective.Connective.TheVariants.{And, Or}
 use Rattle.flow_rules.specs.declared.counting.WayCount.{WayCount}
-
--- the number, or the greatest one of 64 bits
-abbrev pub capped : ℕ → ℕ
-capped n = min n (2 ^ 64 - 1)
 
 -- how many ways the list has, and how many pairs in all of them
 abbrev pub count_of : List (List (ℕ × ℕ)) → WayCount

@@ -36,14 +36,12 @@ module _ (q : Process) (pairs : List (ℕ × ℕ)) (o : IsOrdered q pairs) (ns :
       subst (λ l. MakesItems q pairs l ns k items outer) (sym (sequence_nodes a b nodes))
       (goal_items a (nodes_of b ++ (Serial ∷ nodes)) k items outer free.0 (λ p m. parts p (mem_append_left p (isolated_parts a) (isolated_parts b) m)) (first_stand ns k (leaves a) (leaves b) at)
       (λ mid adds_a. goal_items b (Serial ∷ nodes) (k + length (leaves a)) mid outer free.1 (λ p m. parts p (mem_append_right p (isolated_parts a) (isolated_parts b) m)) (second_stand ns k (leaves a) (leaves b) at)
-      (λ new adds_b. subst (λ (j : ℕ). MakesItems q pairs nodes ns j new outer) (sym (both_long k (leaves a) (leaves b)))
-      (then new (adds_both q pairs (Sequence a b) a b items mid new refl adds_a adds_b)))))
+      (λ new adds_b. rw (both_long k (leaves a) (leaves b)) (then new (adds_both q pairs (Sequence a b) a b items mid new refl adds_a adds_b)))))
   goal_items (Parallel a b) nodes k items outer free parts at then =
       subst (λ l. MakesItems q pairs l ns k items outer) (sym (parallel_nodes a b nodes))
       (goal_items a (Split ∷ (nodes_of b ++ (Join ∷ nodes))) k items outer free.0 (λ p m. parts p (mem_append_left p (isolated_parts a) (isolated_parts b) m)) (first_stand ns k (leaves a) (leaves b) at)
       (λ mid adds_a. goal_items b (Join ∷ nodes) (k + length (leaves a)) mid outer free.1 (λ p m. parts p (mem_append_right p (isolated_parts a) (isolated_parts b) m)) (second_stand ns k (leaves a) (leaves b) at)
-      (λ new adds_b. subst (λ (j : ℕ). MakesItems q pairs nodes ns j new outer) (sym (both_long k (leaves a) (leaves b)))
-      (then new (adds_both q pairs (Parallel a b) a b items mid new refl adds_a adds_b)))))
+      (λ new adds_b. rw (both_long k (leaves a) (leaves b)) (then new (adds_both q pairs (Parallel a b) a b items mid new refl adds_a adds_b)))))
   goal_items (Choice a b) nodes k items outer free parts at then = absurd free
   goal_items (Isolated a) nodes k items outer free parts at then =
       subst (λ l. MakesItems q pairs l ns k items outer) (sym (isolated_nodes a nodes))
@@ -51,22 +49,14 @@ module _ (q : Process) (pairs : List (ℕ × ℕ)) (o : IsOrdered q pairs) (ns :
       (λ inner adds. can_close q pairs o a inner (parts a (inl refl)) adds items
       (λ new. MakesItems q pairs nodes ns (k + length (leaves a)) new outer) then))
 
-  -- and those of the whole goal its items
-  whole_items : ns ≡ leaves q → MakesItems q pairs (nodes_of q) ns 0 [] []
-  whole_items listed =
-      subst (λ l. MakesItems q pairs l ns 0 [] []) (append-nil (nodes_of q))
-      (goal_items q [] 0 [] [] o.choice_free (λ p m. m) ([], listed ∙ sym (append-nil (leaves q)))
-      (λ new adds. subst (AreItemsOf q pairs (items_of q)) (sym adds.is) adds.items))
-
 pub begun_items : (p : Planned) (nodes : List Node) (g : Gathering) → IsOrdered p.process (pairs_of p.tokens) → nodes ≡ nodes_of p.process → p.leaves ≡ leaves p.process →
     g.place ≡ 0 → g.items.items ≡ [] → g.outer.items ≡ [] → Gathers p nodes g
 begun_items p nodes g o are listed place items outer =
     let q : Process = p.process in
     let pairs : List (ℕ × ℕ) = pairs_of p.tokens in
-    subst (λ l. MakesItems q pairs l p.leaves g.place g.items.items (stack_of g.outer.items)) (sym are)
-    (subst (λ (k : ℕ). MakesItems q pairs (nodes_of q) p.leaves k g.items.items (stack_of g.outer.items)) (sym place)
-    (subst (λ (l : List Item). MakesItems q pairs (nodes_of q) p.leaves 0 l (stack_of g.outer.items)) (sym items)
-    (subst (λ l. MakesItems q pairs (nodes_of q) p.leaves 0 [] (stack_of l)) (sym outer) (whole_items q pairs o p.leaves listed))))
+    rw (place, items, outer, are) (subst (λ l. MakesItems q pairs l p.leaves 0 [] []) (append-nil (nodes_of q))
+    (goal_items q pairs o p.leaves q [] 0 [] [] o.choice_free (λ part m. m) ([], listed ∙ sym (append-nil (leaves q)))
+    (λ new adds. subst (AreItemsOf q pairs (items_of q)) (sym adds.is) adds.items)))
 
 -- ---- one mark
 
@@ -75,11 +65,9 @@ pub leaf_read : (p : Planned) (leaf : ℕ) (item : Item) (old new : Gathering) �
 leaf_read p leaf item old new at is place items outer nodes h =
     let q : Process = p.process in
     let pairs : List (ℕ × ℕ) = pairs_of p.tokens in
-    subst (λ (k : ℕ). MakesItems q pairs nodes p.leaves k new.items.items (stack_of new.outer.items)) (sym place)
-    (subst (λ (l : List Item). MakesItems q pairs nodes p.leaves (old.place + 1) l (stack_of new.outer.items)) (sym items)
-    (subst (λ (v : Vec (Vec Item Global) Global). MakesItems q pairs nodes p.leaves (old.place + 1) (old.items.items ++ item ∷ []) (stack_of v.items)) (sym outer)
+    rw (place, items, outer)
     (subst (λ o. MatchOption o ⊥ (λ n. (item : Item) → IsItemOf q pairs (n ∷ []) item →
-    MakesItems q pairs nodes p.leaves (old.place + 1) (old.items.items ++ item ∷ []) (stack_of old.outer.items))) at h item is)))
+    MakesItems q pairs nodes p.leaves (old.place + 1) (old.items.items ++ item ∷ []) (stack_of old.outer.items))) at h item is)
 
 pub leaf_missed : (p : Planned) (old new : Gathering) → slice_get p.leaves old.place ≡ None → ReadsMark p Leaf old new
 leaf_missed p old new at nodes h =

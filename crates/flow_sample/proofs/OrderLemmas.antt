@@ -6,13 +6,13 @@ use Rattle.std.proofs.lemmas.Option.{slice_get_past, slice_get_read}
 use Rattle.leaf_rows.specs.declared.leaf_set.LeafSet.{LeafSet}
 use Rattle.leaf_rows.specs.Leaves.{has_leaf}
 use Rattle.flow_model.specs.Lists.{◌∈◌, Each, AreDistinct, StandsBefore, joined}
-use Rattle.flow_laws.proofs.Members.{each_member, decide_in, distinct-append, before_across, each_from_members, mem_append_left, mem_append_right, mem-append}
+use Rattle.flow_laws.proofs.Members.{each_member, decide_in, distinct-append, before_across, before_left, each_from_members, mem_append_left, mem_append_right, mem-append, at_most}
 use Rattle.flow_laws.proofs.MadeLists.{some_same, joined-append}
 use Rattle.flow_plan.proofs.PlaceLemmas.{read_member}
 use Rattle.flow_sample.specs.declared.item.Item.{Item}
 use Rattle.flow_sample.specs.Rows.{has_inside, has_waits, run_in, runs, least_in, least_at, IsIn, WaitsFor, IsEdge, AreApart}
 use Rattle.flow_sample.specs.Arranged.{IsArranged, IsWholeOrder, IsCycle, LeadsOn, TakesIn}
-use Rattle.flow_sample.proofs.RingLemmas.{at_most, IsTrail, trail_end}
+use Rattle.flow_sample.proofs.RingLemmas.{IsTrail, trail_end}
 
 -- tests
 
@@ -22,13 +22,6 @@ not_true b e h = true≢false (sym h ∙ e)
 pub not_and : (a b : Bool) → IsTrue (not a && b) ↔ (¬ (IsTrue a) × IsTrue b)
 not_and true b = (λ h. absurd (true≢false (sym h)), λ h. absurd (h.0 refl))
 not_and false b = (λ h. (not_true false refl, h), λ h. h.1)
-
--- lists
-
-pub before_left : {A : Type 0} (x y : A) (a b : List A) → StandsBefore x y a → StandsBefore x y (a ++ b)
-before_left x y [] b h = absurd h
-before_left x y (z ∷ a) b (inl h) = inl (h.0, mem_append_left y a b h.1)
-before_left x y (z ∷ a) b (inr h) = inr (before_left x y a b h)
 
 pub is_within : (items : List Item) (n x : ℕ) → IsIn items n x → n < length items
 is_within items n x h = ⊎_elim (λ l. l)
@@ -187,6 +180,10 @@ on_within items first n (next ∷ more) h m (inr k) = on_within items first next
 pub ring_within : (items : List Item) (ring : List ℕ) → IsCycle items ring → (m : ℕ) → m ∈ ring → m < length items
 ring_within items [] h m k = absurd h
 ring_within items (n ∷ more) h m k = on_within items n n more h m k
+
+pub ring_some : (items : List Item) (ring : List ℕ) → IsCycle items ring → 0 < length ring
+ring_some items [] h = absurd h
+ring_some items (n ∷ more) h = omega arith
 
 pub each_within : (items : List Item) (order seen : List ℕ) → seen ≡ order → ((n : ℕ) → n ∈ order → n < length items) → Each (λ n. n < length items) seen
 each_within items order seen e h = each_from_members (λ n. n < length items) seen (λ n m. h n (subst (λ z. n ∈ z) e m))

@@ -1,8 +1,5 @@
 -- Walks from each item to one that is before it.
-use Rattle.std.proofs.Common.{◌≡◌, ℕ, ◌+◌, ◌<◌, ◌≤◌, Bool, true, false, ◌||◌, eqb, true≢false, List, [], ◌∷◌, ◌++◌, length, get_or, take, drop, refl, sym, ap, ◌∙◌, subst, inl, inr}
-use Rattle.std.specs.List.{AllByRecursion, IsDistinct, list_any}
-use Rattle.std.proofs.lemmas.Bool.{eqb-true, ne_eqb}
-use Rattle.std.proofs.lemmas.Map.Steps.{length-le_from_distinct_below}
+use Rattle.std.proofs.Common.{◌≡◌, ℕ, ◌+◌, ◌<◌, List, [], ◌∷◌, ◌++◌, length, get_or, take, drop, refl, sym, ap, ◌∙◌, subst}
 use Rattle.std.proofs.lemmas.List.{take_more, take-append-drop}
 use Rattle.flow_model.specs.Lists.{◌∈◌, AreDistinct}
 use Rattle.flow_laws.proofs.Members.{distinct_left, cons_same}
@@ -10,28 +7,6 @@ use Rattle.flow_plan.proofs.PlaceLemmas.{place_of_member}
 use Rattle.flow_sample.specs.declared.item.Item.{Item}
 use Rattle.flow_sample.specs.Rows.{IsEdge}
 use Rattle.flow_sample.specs.Arranged.{LeadsOn, IsCycle, IsNodeRing}
-
--- distinct numbers below n are at most n
-
-others_apart : (x : ℕ) (xs : List ℕ) → ¬ (x ∈ xs) → AllByRecursion (λ y. eqb x y ≡ false) xs
-others_apart x [] h = tt
-others_apart x (y ∷ ys) h = (ne_eqb x y (λ e. h (inl e)), others_apart x ys (λ m. h (inr m)))
-
-told_apart : (xs : List ℕ) → AreDistinct xs → IsDistinct eqb xs
-unfolding IsDistinct
-told_apart [] d = tt
-told_apart (x ∷ xs) d = (others_apart x xs d.0, told_apart xs d.1)
-
-found : (x : ℕ) (xs : List ℕ) → list_any (eqb x) xs ≡ true → x ∈ xs
-found x [] h = absurd (true≢false (sym h))
-found x (y ∷ ys) h = at (eqb x y) refl (λ k. found x ys k) h
-  where
-    at : (b : Bool) → eqb x y ≡ b → (list_any (eqb x) ys ≡ true → x ∈ ys) → (b || list_any (eqb x) ys) ≡ true → x ∈ (y ∷ ys)
-    at true e more k = inl (eqb-true x y e)
-    at false e more k = inr (more k)
-
-pub at_most : (n : ℕ) (xs : List ℕ) → AreDistinct xs → ((x : ℕ) → x ∈ xs → x < n) → length xs ≤ n
-at_most n xs d h = length-le_from_distinct_below xs n (told_apart xs d) (λ x k. h x (found x xs k))
 
 -- members by places
 

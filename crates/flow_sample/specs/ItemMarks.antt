@@ -4,7 +4,7 @@ use Rattle.std.proofs.Common.{Vec, Global}
 use Rattle.flow_model.specs.Process.{Process}
 use Rattle.flow_model.specs.Circle.{items_of}
 use Rattle.flow_goal.specs.declared.node.Node.{Node}
-use Rattle.flow_goal.specs.declared.node.Node.TheVariants.{Nop, Leaf, Serial, Fork, Split, Join, Open, Close}
+use Rattle.flow_goal.specs.declared.node.Node.TheVariants.{Leaf, Open, Close}
 use Rattle.flow_plan.specs.Planned.{Planned, pairs_of}
 use Rattle.flow_plan.specs.Stacks.{WithTop}
 use Rattle.flow_sample.specs.declared.excising.ExciseRefusal.{ExciseRefusal}
@@ -27,16 +27,12 @@ pub record CanClose (q : Process) (pairs : List (ℕ × ℕ)) (inner before : Li
 -- the items so far of the innermost part that has begun, and a stack of those of the parts around it
 abbrev pub MakesItems : Process → List (ℕ × ℕ) → List Node → List ℕ → ℕ → List Item → List (List Item) → Type 0
 MakesItems q pairs [] ns k items outer = AreItemsOf q pairs (items_of q) items
-MakesItems q pairs (Nop ∷ nodes) ns k items outer = MakesItems q pairs nodes ns k items outer
 MakesItems q pairs (Leaf ∷ nodes) ns k items outer = MatchOption (slice_get ns k) ⊥
     (λ n. (item : Item) → IsItemOf q pairs (n ∷ []) item → MakesItems q pairs nodes ns (k + 1) (items ++ item ∷ []) outer)
-MakesItems q pairs (Serial ∷ nodes) ns k items outer = MakesItems q pairs nodes ns k items outer
-MakesItems q pairs (Fork ∷ nodes) ns k items outer = MakesItems q pairs nodes ns k items outer
-MakesItems q pairs (Split ∷ nodes) ns k items outer = MakesItems q pairs nodes ns k items outer
-MakesItems q pairs (Join ∷ nodes) ns k items outer = MakesItems q pairs nodes ns k items outer
 MakesItems q pairs (Open ∷ nodes) ns k items outer = MakesItems q pairs nodes ns k [] (items ∷ outer)
 MakesItems q pairs (Close ∷ nodes) ns k items outer = WithTop outer
     (λ before more. CanClose q pairs items before (λ new. MakesItems q pairs nodes ns k new more))
+MakesItems q pairs (node ∷ nodes) ns k items outer = MakesItems q pairs nodes ns k items outer
 
 abbrev pub stack_of : List (Vec Item Global) → List (List Item)
 stack_of lists = reverse (map (λ (list : Vec Item Global). list.items) lists)

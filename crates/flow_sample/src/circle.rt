@@ -14,12 +14,6 @@ pub struct Circle {
 }
 
 impl Circle {
-    fn new(leaves: Vec<u32>) -> Circle
-        ensures { result.leaves ≡ leaves }
-    {
-        Circle { leaves }
-    }
-
     /// The items, each before the next and the last before the first.
     pub fn leaves(&self) -> &[u32]
         ensures { result.now ≡ self.now.leaves.items }
@@ -64,5 +58,5 @@ pub(crate) fn circle_of(alloc: Global, items: &[Item], ring: &[usize]) -> Result
     let mut leaves = leasts(alloc, items, ring)?;
     let place = least_place(&leaves);
     leaves.rotate_left(place);
-    Ok(Circle::new(leaves))
+    Ok(Circle { leaves })
 }

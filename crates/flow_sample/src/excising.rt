@@ -74,6 +74,9 @@ pub fn excise(alloc: Global, plan: Plan) -> Result<KnotFree, ExciseRefusal>
     let _tokens = plan.tokens();
     match run_of_plan(alloc, &plan) {
         Ok(run) => Ok(KnotFree::new(plan, run)),
-        Err(refusal) => Err(refusal),
+        Err(refusal) => {
+            drop(plan);
+            Err(refusal)
+        }
     }
 }

@@ -50,19 +50,6 @@ fn leaf_in_place(plan: &Plan, place: usize) -> Option<u32>
 }
 
 impl Gathering {
-    /// Nothing is read yet.
-    pub(crate) fn new(alloc: Global) -> Gathering
-        ensures place { result.place ≡ 0 }
-        ensures items { result.items.items ≡ [] }
-        ensures outer { result.outer.items ≡ [] }
-    {
-        Gathering {
-            place: 0,
-            items: Vec::new(alloc),
-            outer: Vec::new(alloc),
-        }
-    }
-
     /// A leaf is an item.
     fn leaf(&mut self, alloc: Global, plan: &Plan) -> Result<(), ExciseRefusal>
         ensures { MatchResult result
@@ -118,10 +105,10 @@ impl Gathering {
             (TellsCircle plan.now.process (pairs_of plan.now.tokens)) }
     {
         match node {
-            Node::Nop | Node::Serial | Node::Fork | Node::Split | Node::Join => Ok(()),
             Node::Leaf => self.leaf(alloc, plan),
             Node::Open => self.open(alloc, plan),
             Node::Close => self.close(alloc, plan),
+            _ => Ok(()),
         }
     }
 }

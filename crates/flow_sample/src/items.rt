@@ -10,6 +10,7 @@ use flow_plan::Plan;
 use std::alloc::Global;
 
 /// The items of the goal of a plan, unless those of some part wait for each other.
+#[tactic(auto, using(crate::proofs::GatheringLemmas::begun_items))]
 pub(crate) fn items_of_plan(alloc: Global, plan: &Plan) -> Result<Vec<Item>, ExciseRefusal>
     ensures { MatchResult result
         (λ items. AreItemsOf plan.now.process (pairs_of plan.now.tokens) (items_of plan.now.process) items.items)
@@ -18,7 +19,11 @@ pub(crate) fn items_of_plan(alloc: Global, plan: &Plan) -> Result<Vec<Item>, Exc
     // what the type keeps of its leaves and tokens
     let _leaves = plan.leaves();
     let _tokens = plan.tokens();
-    let mut gathering = Gathering::new(alloc);
+    let mut gathering = Gathering {
+        place: 0,
+        items: Vec::new(alloc),
+        outer: Vec::new(alloc),
+    };
     for node in plan.nodes() {
         gathering.read(alloc, plan, node)?;
     }

@@ -1,4 +1,4 @@
-ghost use Rattle.std.specs.Prelude.{◌≡◌, ◌<◌, ◌&&◌, ℕ, IsTrue, IfOk, IfErr, MatchOption, length, not, slice_get, slice_index};
+ghost use Rattle.std.specs.Prelude.{◌≡◌, ◌<◌, ◌&&◌, ℕ, IsTrue, IfOk, IfErr, MatchOption, MatchResult, length, not, slice_get, slice_index};
 ghost use Rattle.flow_model.specs.declared.limits.TheConstants.{MOST_LEAVES};
 ghost use Rattle.flow_model.specs.Lists.{◌∈◌, Each};
 ghost use Rattle.leaf_rows.specs.Leaves.{has_leaf};
@@ -60,25 +60,35 @@ fn place_in_path(path: &[usize], number: usize) -> Option<usize>
     None
 }
 
+/// The items of a ring as a refusal.
+fn refusal_of(alloc: Global, items: &[Item], ring: &[usize]) -> ExciseRefusal
+    requires { IsNodeRing items.now ring.now }
+    ensures { TellsRing items.now result }
+{
+    match circle_of(alloc, items, ring) {
+        Ok(circle) => ExciseRefusal::Circle(circle),
+        Err(_) => ExciseRefusal::NoMemory,
+    }
+}
+
 /// Puts the item behind the order, and before it those that it waits for, as far as they are left. If
-/// they wait for each other, a ring of them is returned.
+/// they wait for each other, a circle of them is the refusal.
 fn put_in_order(
     alloc: Global,
     items: &[Item],
     start: usize,
     left: &mut LeafSet<16>,
     order: &mut Vec<usize>,
-) -> Result<Option<Vec<usize>>, AllocError>
+) -> Result<(), ExciseRefusal>
     requires apart { AreApart items.now }
     requires there { start < length items.now }
     requires fresh { ¬ (start ∈ order.old.items) }
     requires arranged { IsArranged items.now left.old order.old.items }
-    ensures { IfOk result (λ found. MatchOption found
-        (IsArranged items.now left.new order.new.items × TakesIn start order.old.items order.new.items)
-        (λ ring. IsNodeRing items.now ring.items)) }
+    ensures { MatchResult result
+        (λ _. IsArranged items.now left.new order.new.items × TakesIn start order.old.items order.new.items)
+        (TellsRing items.now) }
 {
-    let mut path = Vec::with_capacity(alloc, 1)?;
-    path.push(start)?;
+    let mut path = Vec::from_slice(alloc, &[start])?;
     while let Some(top) = path.first().copied() {
         match blocker(items, left, top) {
             None => {
@@ -87,15 +97,12 @@ fn put_in_order(
                 path.remove(0);
             }
             Some(next) => match place_in_path(&path, next) {
-                Some(place) => {
-                    path.truncate(place + 1);
-                    return Ok(Some(path));
-                }
+                Some(place) => return Err(refusal_of(alloc, items, &path[..place + 1])),
                 None => path.insert(0, next)?,
             },
         }
     }
-    Ok(None)
+    Ok(())
 }
 
 /// The runs of the items in that order.
@@ -121,10 +128,7 @@ pub(crate) fn run_of(alloc: Global, items: &[Item]) -> Result<Vec<u32>, ExciseRe
     let mut order = Vec::with_capacity(alloc, items.len())?;
     for start in 0..items.len() {
         if items[start].inside.meets(&left) {
-            match put_in_order(alloc, items, start, &mut left, &mut order)? {
-                None => {}
-                Some(ring) => return Err(ExciseRefusal::Circle(circle_of(alloc, items, &ring)?)),
-            }
+            put_in_order(alloc, items, start, &mut left, &mut order)?;
         }
     }
     Ok(joined_runs(alloc, items, &order)?)

@@ -7,10 +7,8 @@ use Rattle.std.proofs.lemmas.Grind.{flat_map-append}
 use Rattle.flow_model.specs.Lists.{◌∈◌, Each, AreDistinct}
 use Rattle.flow_form.specs.Script.{Declared, Said, Asked}
 use Rattle.flow_form.specs.Names.{declared_names, event_names}
-use Rattle.flow_grammar.specs.Roles.{Role, declares, in_goal, in_rule, in_fact, declared_by, declaring, used_in_goals, used_in_rules, script_roles, query_roles}
+use Rattle.flow_grammar.specs.Roles.{Role, declares, in_goal, in_rule, declared_by, declaring, used_in_goals, used_in_rules, script_roles, query_roles}
 use Rattle.flow_grammar.proofs.RolesOfNames.{roles_are_the_names}
-use Rattle.flow_text.specs.declared.listing.Named.{Named}
-use Rattle.flow_text.specs.ListedNames.{role_of, roles_of}
 use Rattle.flow_text.specs.declared.known.Known.{Known}
 use Rattle.flow_text.specs.GoodNames.{IsRepeated, IsUnknown, IsFirst, HasGoodNames, IsFirstRepeated, IsFirstUnknown, AsksOfEvents, AsksFirstOfOther}
 use Rattle.flow_text.specs.KnownNames.{NameSet, no_names, HasJust, is_again, after, repeated_from, is_unknown, has, has_as_event, KnowsThose}
@@ -226,12 +224,3 @@ query_good q s known roles is knows e =
 pub none_of : (o : Option ℕ) → ((k : ℕ) → o ≡ Some k → ⊥) → o ≡ None
 none_of None out = refl
 none_of (Some k) out = absurd (out k refl)
-
--- the code's pass finds the same place among the names as it lists them
-pub unknown_among : (known : Known) (list given : List Named) → given ≡ list
-    → position_from (is_other known) 0 (roles_of list) ≡ position_from (λ named. is_other known (role_of named)) 0 given
-unknown_among known list given same = sym (placed 0 list) ∙ ap (position_from (λ named. is_other known (role_of named)) 0) (sym same)
-  where
-    placed : (place : ℕ) (list : List Named) → position_from (λ named. is_other known (role_of named)) place list ≡ position_from (is_other known) place (roles_of list)
-    placed place [] = refl
-    placed place (x ∷ list) = ap (cond (is_other known (role_of x)) (Some place)) (placed (place + 1) list)

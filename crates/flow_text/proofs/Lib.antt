@@ -1,13 +1,8 @@
 pub mod KnownNames
 pub mod ListedNames
-pub mod NamePasses
 pub mod FirstNames
-pub mod OneFirstName
-pub mod NamesLeft
 pub mod Parsed
-pub mod PrintedMembers
 pub mod PrintedPieces
-pub mod Digits
 pub mod PrintedTexts
 pub mod Writable
 pub mod SaidPrintable

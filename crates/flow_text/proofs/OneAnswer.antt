@@ -1,24 +1,94 @@
 -- A text has one answer: what it comes to is one thing, and says which.
-use Rattle.std.proofs.Common.{◌≡◌, ℕ, zero, suc, ◌<◌, ◌≤◌, List, [], ◌∷◌, length, take, slice_get, refl, sym, ap, subst, ◌∙◌, arith}
+use Rattle.std.proofs.Common.{◌≡◌, ℕ, zero, suc, ◌<◌, ◌≤◌, List, [], ◌∷◌, length, take, slice_get, refl, sym, ap, subst, ◌∙◌, arith, ◌++◌, ◌⊎◌, inl, inr}
 use Rattle.std.specs.Prelude.{Option, Some, None, Result, Ok, Err, slice_index}
 use Rattle.flow_form.specs.declared.refusal.Wanted.{Wanted}
 use Rattle.flow_form.specs.declared.refusal.TextRefusal.{TextRefusal}
 use Rattle.flow_form.specs.declared.refusal.TextRefusal.TheVariants.{NotAscii, BadToken, Expected, Unknown, Repeated, TooDeep, NoMemory}
-use Rattle.flow_form.specs.Script.{Said, Asked}
+use Rattle.flow_form.specs.Script.{Said, Asked, Declared, holds, redundant}
 use Rattle.flow_lex.specs.declared.token.Token.{Token}
 use Rattle.flow_lex.specs.Tokens.{Lexed, lexed, IsAscii, IsFirstNotAscii}
 use Rattle.flow_grammar.specs.Symbol.{Symbol, Placed}
 use Rattle.flow_grammar.specs.Machine.{Reading, gives, expected, too_deep, read_script, read_query}
-use Rattle.flow_grammar.specs.Roles.{script_roles, query_roles, Role}
+use Rattle.flow_grammar.specs.Roles.{script_roles, query_roles, Role, declares, in_goal, in_rule, declared_by, declaring, used_in_goals, used_in_rules}
 use Rattle.flow_reader.specs.Symbols.{symbols_of}
 use Rattle.flow_reader.specs.Reading.{place_of}
-use Rattle.flow_text.specs.GoodNames.{HasGoodNames, IsUnknown, IsRepeated, IsFirstRepeated, IsFirstUnknown, AsksOfEvents, AsksFirstOfOther}
-use Rattle.flow_text.proofs.OneFirstName.{one_first, once_is_not_repeated, good_has_no_other, events_have_no_other}
+use Rattle.flow_text.specs.GoodNames.{HasGoodNames, IsUnknown, IsRepeated, IsFirstRepeated, IsFirstUnknown, AsksOfEvents, AsksFirstOfOther, IsFirst}
 use Rattle.flow_text.specs.Saying.{HasTokens, Writes, Says, Asks}
 use Rattle.flow_text.specs.Parsing.{IsExpected, IsTooDeep, IsNameAt, IsFirstNameAt, named_places, IsTextRefusal, IsParseRefusal, IsQueryRefusal}
 use Rattle.flow_grammar.proofs.Reading.{IsMachine, scripts_are_read, queries_are_read}
 use Rattle.flow_text.specs.Laws.{IsAnswer, TextsHaveOneAnswer, QueriesHaveOneAnswer}
 use Rattle.std.proofs.lemmas.Option.{same_Some}
+use Rattle.std.proofs.lemmas.Grind.{flat_map-append}
+use Rattle.flow_model.specs.Lists.{◌∈◌, Each, AreDistinct}
+use Rattle.flow_model.proofs.Lists.{each_parts}
+use Rattle.flow_laws.proofs.Members.{distinct_parts}
+use Rattle.flow_form.specs.Names.{declared_names, event_names, names_in_rule}
+use Rattle.flow_grammar.proofs.RolesOfNames.{roles_are_the_names, of_rules}
+use Rattle.flow_text.proofs.FirstNames.{IsWell, well_is_known}
+
+-- There is one first role of a kind, and none where all are as they must be
+
+-- one list cut in two ways
+cuts : (a b c d : List Role) (x y : Role) → a ++ x ∷ b ≡ c ++ y ∷ d →
+    (length a ≡ length c) ⊎ (((m : List Role) × (c ≡ a ++ x ∷ m)) ⊎ ((m : List Role) × (a ≡ c ++ y ∷ m)))
+cuts [] b [] d x y e = inl refl
+cuts [] b (z ∷ c) d x y e = let same : z ≡ x = cc in inr (inl (c, ap (λ q. q ∷ c) same))
+cuts (z ∷ a) b [] d x y e = let same : z ≡ y = cc in inr (inr (a, ap (λ q. q ∷ a) same))
+cuts (z ∷ a) b (w ∷ c) d x y e =
+    let same : z ≡ w = cc in
+    let rest : a ++ x ∷ b ≡ c ++ y ∷ d = cc in
+    elim (cuts a b c d x y rest) [
+      | inl l ↦ inl (ap suc l)
+      | inr (inl (m, l)) ↦ inr (inl (m, (λ i. sym same i ∷ l i)))
+      | inr (inr (m, l)) ↦ inr (inr (m, (λ i. same i ∷ l i)))
+    ]
+
+one_first : (P : List Role → Role → Type 0) (roles : List Role) (k j : ℕ) → IsFirst P roles k → IsFirst P roles j → k ≡ j
+one_first P roles k j h g = elim (cuts h.front h.back g.front g.back h.role g.role (sym h.cut ∙ g.cut)) [
+  | inl e ↦ sym h.place ∙ e ∙ g.place
+  | inr (inl (m, e)) ↦ absurd (g.first h.front m h.role e h.here)
+  | inr (inr (m, e)) ↦ absurd (h.first g.front m g.role e g.here)
+]
+
+-- Names that are declared once
+
+not_again : (front back : List Role) (role : Role) → AreDistinct (declaring (front ++ role ∷ back)) → IsRepeated front role → ⊥
+not_again front back (declares n) d here =
+    (distinct_parts (declaring front) (n ∷ declaring back) (subst AreDistinct (flat_map-append declared_by front (declares n ∷ back)) d)).2 n here (inl refl)
+not_again front back _ d here = here
+
+once_is_not_repeated : (s : Said) (k : ℕ) → AreDistinct (declared_names s.decls) → IsFirstRepeated s k → ⊥
+once_is_not_repeated s k once h =
+    not_again h.front h.back h.role (subst AreDistinct (sym (roles_are_the_names s).0 ∙ ap declaring h.cut) once) h.here
+
+-- Names that are declared as they must be
+
+all_well : (decls : List Declared) (roles : List Role) → Each (λ n. n ∈ declared_names decls) (used_in_goals roles) →
+    Each (λ n. n ∈ event_names decls) (used_in_rules roles) → Each (IsWell decls) roles
+all_well decls [] g r = tt
+all_well decls (in_goal n ∷ rs) (m, g) r = (m, all_well decls rs g r)
+all_well decls (in_rule n ∷ rs) g (m, r) = (m, all_well decls rs g r)
+all_well decls (_ ∷ rs) g r = (tt, all_well decls rs g r)
+
+well_has_no_other : (decls : List Declared) (roles : List Role) (k : ℕ) → Each (IsWell decls) roles → IsFirst (λ front role. IsUnknown decls role) roles k → ⊥
+well_has_no_other decls roles k well h =
+    well_is_known decls h.role (each_parts (IsWell decls) h.front (h.role ∷ h.back) (subst (Each (IsWell decls)) h.cut well)).1.0 h.here
+
+good_has_no_other : (s : Said) (k : ℕ) → HasGoodNames s → IsFirst (λ front role. IsUnknown s.decls role) (script_roles s) k → ⊥
+good_has_no_other s k good h =
+    let (d, g, r) = roles_are_the_names s in
+    let in_goals = subst (Each (λ n. n ∈ declared_names s.decls)) (sym g) good.in_goals in
+    let in_rules = subst (Each (λ n. n ∈ event_names s.decls)) (sym r) good.in_rules in
+    well_has_no_other s.decls (script_roles s) k (all_well s.decls (script_roles s) in_goals in_rules) h
+
+none_in_goals : (q : Asked) → used_in_goals (query_roles q) ≡ []
+none_in_goals (holds r) = (of_rules (names_in_rule r)).1
+none_in_goals (redundant n) = refl
+
+events_have_no_other : (q : Asked) (s : Said) (k : ℕ) → AsksOfEvents q s → AsksFirstOfOther q s k → ⊥
+events_have_no_other q s k events h =
+    let in_goals = subst (Each (λ n. n ∈ declared_names s.decls)) (sym (none_in_goals q)) tt in
+    well_has_no_other s.decls (query_roles q) k (all_well s.decls (query_roles q) in_goals events) h
 
 -- What a text comes to
 
@@ -65,14 +135,9 @@ one_byte text p q h g =
 
 one_finding : {V : Type 0} (read : List Symbol → Reading V) (text : List ℕ) (f g : Finding V) → Finds read text f → Finds read text g → f ≡ g
 one_finding read text (no_ascii p) (no_ascii q) h k = ap no_ascii (one_byte text p q h k)
-one_finding read text (no_ascii p) (bad_token q) h (ascii, bad) = absurd (no_first text p ascii h)
-one_finding read text (no_ascii p) (read_as r) h (ascii, bad, e) = absurd (no_first text p ascii h)
-one_finding read text (bad_token p) (no_ascii q) (ascii, bad) k = absurd (no_first text q ascii k)
 one_finding read text (bad_token p) (bad_token q) (ascii, bad) (ascii', bad') = let same : p ≡ q = cc in ap bad_token same
-one_finding read text (bad_token p) (read_as r) (ascii, bad) (ascii', bad', e) = absurd (cc)
-one_finding read text (read_as r) (no_ascii q) (ascii, bad, e) k = absurd (no_first text q ascii k)
-one_finding read text (read_as r) (bad_token q) (ascii, bad, e) (ascii', bad') = absurd (cc)
 one_finding read text (read_as r) (read_as s) (ascii, bad, e) (ascii', bad', e') = ap read_as (sym e ∙ e')
+one_finding read text f g h k = absurd (first_of (cc, search no_first))
 
 -- The answer that says it
 
@@ -182,7 +247,7 @@ module _ {V : Type 0} {Spells : List Placed → V → Type 0} {wants : List Symb
   known : (Good : V → Type 0) (repeated unknown : ℕ → List ℕ → Type 0) → ((x : V) → Good x → Known (Ok x)) →
       ((place : ℕ) (name : List ℕ) → repeated place name → Known (Err (Repeated place name))) →
       ((place : ℕ) (name : List ℕ) → unknown place name → Known (Err (Unknown place name))) →
-      (a : Result V TextRefusal) → IsAnswer Good (IsTextRefusal Spells wants repeated unknown text) a → Known a
+      (a : Result V TextRefusal) → IsAnswer Good (IsTextRefusal (record { spells = Spells; wants = wants; again = repeated; unknown = unknown }) text) a → Known a
   known Good repeated unknown says repeats knows_not (Ok x) h = says x h
   known Good repeated unknown says repeats knows_not (Err (NotAscii p)) (h, tells) = record { finding = no_ascii p; naming = good; finds = h; judged = refl; is = refl }
   known Good repeated unknown says repeats knows_not (Err (BadToken p)) (h, tells) = record { finding = bad_token p; naming = good; finds = h; judged = refl; is = refl }
@@ -201,14 +266,9 @@ judge_script s (other k) = IsFirstUnknown s k
 
 one_script_naming : (s : Said) (v u : Naming) → judge_script s v → judge_script s u → v ≡ u
 one_script_naming s good good h g = refl
-one_script_naming s good (again k) h g = absurd (once_is_not_repeated s k h.once g)
-one_script_naming s good (other k) h g = absurd (good_has_no_other s k h g.first)
-one_script_naming s (again k) good h g = absurd (once_is_not_repeated s k g.once h)
 one_script_naming s (again k) (again j) h g = ap again (one_first IsRepeated (script_roles s) k j h g)
-one_script_naming s (again k) (other j) h g = absurd (once_is_not_repeated s k g.once h)
-one_script_naming s (other k) good h g = absurd (good_has_no_other s k g h.first)
-one_script_naming s (other k) (again j) h g = absurd (once_is_not_repeated s j h.once g)
 one_script_naming s (other k) (other j) h g = ap other (one_first (λ front role. IsUnknown s.decls role) (script_roles s) k j h.first g.first)
+one_script_naming s v u h g = absurd (search (once_is_not_repeated, good_has_no_other))
 
 script_known : (text : List ℕ) (a : Result Said TextRefusal) → IsAnswer (Says text) (IsParseRefusal text) a → Accounts read_script judge_script text a
 script_known text =
@@ -230,11 +290,8 @@ judge_query s q (other k) = AsksFirstOfOther q s k
 
 one_query_naming : (s : Said) (q : Asked) (v u : Naming) → judge_query s q v → judge_query s q u → v ≡ u
 one_query_naming s q good good h g = refl
-one_query_naming s q good (other k) h g = absurd (events_have_no_other q s k h g)
-one_query_naming s q (other k) good h g = absurd (events_have_no_other q s k g h)
 one_query_naming s q (other k) (other j) h g = ap other (one_first (λ front role. IsUnknown s.decls role) (query_roles q) k j h g)
-one_query_naming s q (again k) u h g = absurd h
-one_query_naming s q v (again k) h g = absurd g
+one_query_naming s q v u h g = absurd (search events_have_no_other)
 
 query_known : (text : List ℕ) (s : Said) (a : Result Asked TextRefusal) → IsAnswer (Asks text s) (IsQueryRefusal text s) a →
     Accounts read_query (judge_query s) text a

@@ -3,12 +3,11 @@ use Rattle.std.proofs.Common.{◌≡◌, ℕ, suc, ◌+◌, ◌≤◌, ◌<◌, 
 use Rattle.std.specs.Prelude.{Option, Some, option_map}
 use Rattle.flow_form.specs.declared.refusal.Wanted.{Wanted}
 use Rattle.flow_form.specs.declared.refusal.TextRefusal.{TextRefusal}
-use Rattle.flow_form.specs.declared.refusal.TextRefusal.TheVariants.{NotAscii, BadToken, Expected, Unknown, Repeated, TooDeep, NoMemory}
+use Rattle.flow_form.specs.declared.refusal.TextRefusal.TheVariants.{Expected, TooDeep, NoMemory}
 use Rattle.flow_form.specs.Script.{Said}
 use Rattle.flow_form.specs.Names.{IsClosed}
 use Rattle.flow_lex.specs.declared.token.Token.{Token}
-use Rattle.flow_lex.specs.Tokens.{AreSpans}
-use Rattle.flow_lex.specs.Refusals.{IsRefused}
+use Rattle.flow_lex.specs.Tokens.{AreSpans, IsSmall}
 use Rattle.flow_grammar.specs.Symbol.{Symbol, Placed, at, symbols, a_name}
 use Rattle.flow_grammar.specs.Machine.{Reading, gives}
 use Rattle.flow_grammar.specs.Texts.{Derives, SpellsScript}
@@ -19,22 +18,18 @@ use Rattle.flow_reader.specs.Symbols.{symbol_of, symbols_of}
 use Rattle.flow_reader.specs.Reading.{IsReadRefusal}
 use Rattle.flow_text.specs.GoodNames.{IsFirst, HasGoodNames}
 use Rattle.flow_text.specs.Saying.{HasTokens, IsLexed, TextInTokens, Writes}
-use Rattle.flow_text.specs.Parsing.{name_in, with_place, named_places, IsFirstNameAt, IsTextRefusal}
+use Rattle.flow_text.specs.Parsing.{name_in, with_place, named_places, IsFirstNameAt, TextKind, IsTextRefusal}
 use Rattle.std.proofs.lemmas.List.{length-map}
 use Rattle.std.proofs.lemmas.Option.{slice_get-map}
+use Rattle.flow_model.specs.Lists.{Each}
+use Rattle.flow_reader.proofs.Loops.{spans_end}
 
-module _ {V : Type 0} (Spells : List Placed → V → Type 0) (wants : List Symbol → Option Wanted) (again unknown : ℕ → List ℕ → Type 0) (text : List ℕ) where
-  pub lex_refused : (refusal : TextRefusal) → IsRefused text refusal → IsTextRefusal Spells wants again unknown text refusal
-  lex_refused (NotAscii place) h = h
-  lex_refused (BadToken place) h = h
-  lex_refused NoMemory h = tt
-  lex_refused _ h = absurd h
-
-  pub read_refused : (read : List Symbol → Reading V) → IsMachine Spells wants read → (tokens : List Token) (refusal : TextRefusal) → HasTokens text tokens
-      → IsReadRefusal text tokens (read (symbols_of text tokens)) refusal → IsTextRefusal Spells wants again unknown text refusal
-  read_refused read m tokens (Expected place kind) has (k, e, there) =
-      let (stuck, none) = (m.is_stuck (symbols_of text tokens) k).0 (kind, e) in
-      let (come, end) = m.wants_what_could_come (symbols_of text tokens) kind k e in
+module _ {V : Type 0} (kind : TextKind V) (text : List ℕ) where
+  pub read_refused : (read : List Symbol → Reading V) → IsMachine kind.spells kind.wants read → (tokens : List Token) (refusal : TextRefusal) → HasTokens text tokens
+      → IsReadRefusal text tokens (read (symbols_of text tokens)) refusal → IsTextRefusal kind text refusal
+  read_refused read m tokens (Expected place wanted) has (k, e, there) =
+      let (stuck, none) = (m.is_stuck (symbols_of text tokens) k).0 (wanted, e) in
+      let (come, end) = m.wants_what_could_come (symbols_of text tokens) wanted k e in
       record {
         tokens = tokens;
         has_tokens = has;
@@ -42,7 +37,7 @@ module _ {V : Type 0} (Spells : List Placed → V → Type 0) (wants : List Symb
         there = there;
         stuck = stuck;
         none_deep = none;
-        wanted = m.tells_what_is_wanted (symbols_of text tokens) kind k e;
+        wanted = m.tells_what_is_wanted (symbols_of text tokens) wanted k e;
         could_come = come;
         could_end = end;
       }
@@ -136,7 +131,23 @@ module _ {V : Type 0} {Spells : List Placed → V → Type 0} {wants : List Symb
   written x is_lexed h = record { tokens = lexed_text.tokens; has_tokens = (lexed_of view is_lexed).has_tokens; derives = derived x h }
 
   pub refused : (again unknown : ℕ → List ℕ → Type 0) (refusal : TextRefusal) → IsLexed text tokens → IsReadRefusal text given (read (symbols_of text given)) refusal
-      → IsTextRefusal Spells wants again unknown lexed_text.text refusal
+      → IsTextRefusal (record { spells = Spells; wants = wants; again = again; unknown = unknown }) lexed_text.text refusal
   refused again unknown refusal is_lexed h =
-      read_refused Spells wants again unknown lexed_text.text read m lexed_text.tokens refusal (lexed_of view is_lexed).has_tokens
+      read_refused (record { spells = Spells; wants = wants; again = again; unknown = unknown }) lexed_text.text read m lexed_text.tokens refusal (lexed_of view is_lexed).has_tokens
       (subst (λ (s : TextInTokens). IsReadRefusal s.text s.tokens (read (symbols_of s.text s.tokens)) refusal) read_from h)
+
+-- The names among the tokens that are left
+
+-- the name that is looked for is number `left` of those in the rest
+pub record IsLeft (text : List ℕ) (tokens : List Token) (number left : ℕ) (rest : List Token) : Type 0 where
+  pub start : ℕ
+  pub spans : AreSpans start (length text) rest
+  pub small : Each (IsSmall text) rest
+  pub same : slice_get (named_places text tokens) number ≡ slice_get (named_places text rest) left
+  pub within : left < length (named_places text rest)
+
+pub left_within : (text : List ℕ) (tokens : List Token) (number left : ℕ) (rest more : List Token) (t : Token) → rest ≡ t ∷ more →
+    IsLeft text tokens number left rest → t.end ≤ length text
+left_within text tokens number left rest more t e h =
+    let (a, b, later) = subst (AreSpans h.start (length text)) e h.spans in
+    spans_end t.end (length text) more later

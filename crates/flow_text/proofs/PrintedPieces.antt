@@ -1,9 +1,9 @@
 -- Pieces of a text, and the symbols that they are read as.
-use Rattle.std.proofs.Common.{rules, ◌≡◌, ℕ, zero, ◌+◌, ◌-◌, ◌<◌, ◌≤◌, ◌^◌, Bool, true, false, ◌||◌, List, [], ◌∷◌, ◌++◌, length, length-append, take, drop, map, refl, sym, ap, subst, ◌∙◌, arith, append_assoc}
-use Rattle.std.specs.Prelude.{slice_index_or, nat_eq, None, Some}
+use Rattle.std.proofs.Common.{rules, ◌≡◌, ℕ, zero, ◌+◌, ◌-◌, ◌<◌, ◌≤◌, ◌^◌, Bool, true, false, ◌||◌, List, [], ◌∷◌, ◌++◌, length, length-append, take, drop, map, refl, sym, ap, subst, ◌∙◌, arith, append_assoc, ◌*◌, ◌/◌, ◌%◌}
+use Rattle.std.specs.Prelude.{slice_index_or, nat_eq, None, Some, nat_le}
 use Rattle.std.specs.List.{list_all}
 use Rattle.std.specs.Fmt.{decimal}
-use Rattle.std.proofs.lemmas.Bool.{and_parts}
+use Rattle.std.proofs.lemmas.Bool.{and_parts, and_from, le-leb}
 use Rattle.std.proofs.lemmas.List.{map-append}
 use Rattle.flow_lex.specs.declared.token.Token.{Token}
 use Rattle.flow_lex.specs.declared.token.TokenKind.{TokenKind}
@@ -15,9 +15,11 @@ use Rattle.flow_lex.proofs.Written.{words-read, numbers-read}
 use Rattle.flow_grammar.specs.Symbol.{Symbol, a_name, a_number}
 use Rattle.flow_reader.specs.Symbols.{reserved, word_symbol, mark_symbol, symbol_of}
 use Rattle.flow_text.specs.Printable.{IsName}
-use Rattle.flow_text.proofs.Digits.{Writes, decimal_writes}
 use Rattle.flow_model.proofs.Lists.{each-append}
 use Rattle.std.proofs.Math.Seq.{drop-append_seam, take-append_seam}
+use Rattle.std.proofs.lemmas.Fmt.{decimal_by_steps}
+use Rattle.std.proofs.lemmas.List.Folds.{list_all-append}
+use Rattle.std.proofs.lemmas.List.Sums.{fold-append}
 
 -- an open piece ends in a word or a number, and what follows does not go on with it
 abbrev pub Stops : Bool → List ℕ → Type 0
@@ -81,6 +83,13 @@ stops_there d y h rest stop = search rules
 pub ended_by : {d : Bool} {x y : List ℕ} {f g : List Symbol → List Symbol} → Reads true x f → Reads d y g → Begins d y → Reads d (x ++ y) (λ r. f (g r))
 ended_by {d} {x} {y} {f} {g} a b h = both true d x y f g (stops_there d y h) a b
 
+-- a piece that a word or a number may stand before
+abbrev pub Follows : Bool → List ℕ → (List Symbol → List Symbol) → Type 0
+Follows d y g = Reads d y g × Begins d y
+
+pub closed : {d : Bool} {x y : List ℕ} {f g : List Symbol → List Symbol} → Reads true x f → Follows d y g → Reads d (x ++ y) (λ r. f (g r))
+closed a (b, h) = ended_by a b h
+
 -- a piece that may be followed by anything may be followed by a mark or a blank
 pub opened : {x : List ℕ} {f : List Symbol → List Symbol} → Reads false x f → Reads true x f
 opened a = record { ascii = a.ascii; cut = λ text front rest is stop. a.cut text front rest is tt }
@@ -90,21 +99,6 @@ nothing d = record {
   ascii = tt;
   cut = λ text front rest is stop. ([], (ap (λ p. lexed_after p zero rest) (omega arith), λ r. refl));
 }
-
-letter-ascii : (b : ℕ) → is_letter b ≡ true → b ≤ 127
-letter-ascii b h = grind arith
-
-in_word-ascii : (b : ℕ) → is_in_word b ≡ true → b ≤ 127
-in_word-ascii b h = grind arith
-
-digit-ascii : (b : ℕ) → is_digit b ≡ true → b ≤ 127
-digit-ascii b h = grind arith
-
-mark-ascii : (b : ℕ) → is_mark b ≡ true → b ≤ 127
-mark-ascii b h = grind arith
-
-space-ascii : (b : ℕ) → is_space b ≡ true → b ≤ 127
-space-ascii b h = grind arith
 
 all-ascii : (p : ℕ → Bool) → ((b : ℕ) → p b ≡ true → b ≤ 127) → (bs : List ℕ) → list_all p bs ≡ true → IsAscii bs
 all-ascii p small [] h = tt
@@ -122,7 +116,7 @@ byte_there (c ∷ front) rest b = byte_there front rest b
 
 pub word : (b : ℕ) (bs : List ℕ) → is_letter b ≡ true → list_all is_in_word bs ≡ true → Reads true (b ∷ bs) (λ r. word_symbol (b ∷ bs) ∷ r)
 word b bs first inside = record {
-  ascii = (letter-ascii b first, all-ascii is_in_word in_word-ascii bs inside);
+  ascii = (grind arith, all-ascii is_in_word (λ b in_word. grind arith) bs inside);
   cut = λ text front rest is stop. (
     spanning Word (length front) (length (b ∷ bs)) ∷ [],
     (
@@ -138,6 +132,34 @@ name (b ∷ bs) (first, inside, free) = subst (λ (s : Symbol). Reads true (b �
   where
     named_symbol : (w : List ℕ) → reserved w ≡ None → word_symbol w ≡ a_name w
     named_symbol w e = rw e refl
+
+-- the digits write the number
+abbrev Writes : ℕ → List ℕ → Type 0
+Writes n ds = (digit : ℕ) × ((more : List ℕ) × ((ds ≡ digit ∷ more) × (is_digit digit ≡ true) × (list_all is_digit more ≡ true) × (number_value ds ≡ n)))
+
+digit-is : (d : ℕ) → d < 10 → is_digit (48 + d) ≡ true
+digit-is d h = and_from (nat_le 48 (48 + d)) (nat_le (48 + d) 57) (le-leb 48 (48 + d) (omega arith)) (le-leb (48 + d) 57 (omega arith))
+
+one_digit : (n : ℕ) → n < 10 → Writes n ((48 + n) ∷ [])
+one_digit n h = (48 + n, ([], (refl, digit-is n h, refl, omega arith)))
+
+more_digits : (n : ℕ) (ds : List ℕ) → 10 ≤ n → Writes (n / 10) ds → Writes n (ds ++ ((48 + n % 10) ∷ []))
+more_digits n ds h (digit, (more, (is, first, inside, value))) =
+    let last : List ℕ = (48 + n % 10) ∷ [] in (
+      digit,
+      (
+        more ++ last,
+        (
+          ap (λ t. t ++ last) is,
+          first,
+          list_all-append is_digit more last ∙ and_from (list_all is_digit more) (list_all is_digit last) inside (and_from (is_digit (48 + n % 10)) true (digit-is (n % 10) (omega arith)) refl),
+          fold-append (λ value digit. 10 * value + (digit - 48)) 0 ds last ∙ ap (λ v. 10 * v + (48 + n % 10 - 48)) value ∙ omega arith,
+        ),
+      ),
+    )
+
+decimal_writes : (n : ℕ) → n < 2 ^ 64 → Writes n (decimal n)
+decimal_writes n h = decimal_by_steps Writes one_digit more_digits n h
 
 stops-digits : (rest : List ℕ) → BeginsWithout is_in_word rest → BeginsWithout is_digit rest
 stops-digits [] h = tt
@@ -158,7 +180,7 @@ written n ds small (digit, (more, (is, first, inside, value))) =
 
     digits_read : number_value (digit ∷ more) < 2 ^ 32 → Reads true (digit ∷ more) (λ r. a_number (number_value (digit ∷ more)) ∷ r)
     digits_read fits = record {
-      ascii = (digit-ascii digit first, all-ascii is_digit digit-ascii more inside);
+      ascii = (grind arith, all-ascii is_digit (λ b is_one. grind arith) more inside);
       cut = λ text front rest at stop. (
         spanning Number (length front) (length (digit ∷ more)) ∷ [],
         (
@@ -176,7 +198,7 @@ space-piece b bs h = grind arith
 
 pub blank : (b : ℕ) → is_space b ≡ true → Reads false (b ∷ []) (λ r. r)
 blank b h = record {
-  ascii = (space-ascii b h, tt);
+  ascii = (grind arith, tt);
   cut = λ text front rest is stop.
       ([], (ap (λ piece. after_piece (length front) piece (λ n. lexed_after (length front + 1) n rest)) (space-piece b rest h), λ r. refl));
 }
@@ -187,7 +209,7 @@ IsMark b = (is_mark b ≡ true) × ((bs : List ℕ) → piece_at b bs ≡ Some (
 
 pub mark : (b : ℕ) → IsMark b → Reads false (b ∷ []) (λ r. mark_symbol b ∷ r)
 mark b h = record {
-  ascii = (mark-ascii b h.0, tt);
+  ascii = (let marks : is_mark b ≡ true = h.0 in grind arith, tt);
   cut = λ text front rest is stop. (
     spanning Mark (length front) 1 ∷ [],
     (

@@ -20,10 +20,10 @@ use Rattle.flow_grammar.specs.Symbol.{Symbol, constant_symbol, goal_word, constr
 use Rattle.flow_grammar.specs.Print.{bracket, print_constants, print_arguments, print_fact, in_serial, in_beside, in_either, in_all, in_any, print_goal, print_list, print_rest, print_names, print_rule, print_rules, print_more_rules, print_note, print_declared, print_declarations, print_constraints, print_script}
 use Rattle.flow_reader.specs.Symbols.{word_symbol, mark_symbol, symbol_of, symbols_of}
 use Rattle.flow_facts.specs.Text.{constant_text, more_constants, arguments_text, fact_text}
-use Rattle.flow_text.specs.Printed.{bracketed, goal_text, list_text, more_text, names_text, rule_text, rules_text, more_rules, note_text, declaration_line, declaration_lines, goal_line, constraint_lines, printed}
+use Rattle.flow_text.specs.Printed.{bracketed, goal_text, list_text, more_text, names_text, rule_text, rules_text, more_rules, note_text, declaration_line, declaration_lines, goal_line, constraint_line, constraint_lines, printed}
 use Rattle.flow_text.specs.Printable.{IsName, IsPrintableConstant, IsPrintableFact, IsPrintableGoal, ArePrintableGoals, IsPrintableRule, ArePrintableRules, IsPrintableNote, IsPrintableDeclaration, IsPrintable}
 use Rattle.flow_text.specs.Laws.{PrintsAreAscii, PrintsAreCut, PrintsAreSymbols}
-use Rattle.flow_text.proofs.PrintedPieces.{Reads, Begins, then, ended_by, opened, nothing, word, name, number, blank, IsMark, mark}
+use Rattle.flow_text.proofs.PrintedPieces.{Reads, Follows, then, ended_by, closed, opened, nothing, word, name, number, blank, IsMark, mark}
 
 -- a word and a blank
 word_blank : (b : ℕ) (bs : List ℕ) → is_letter b ≡ true → list_all is_in_word bs ≡ true → Reads false ((b ∷ bs) ++ codes " ") (λ r. word_symbol (b ∷ bs) ∷ r)
@@ -44,29 +44,17 @@ constant_read : (c : Const) → IsPrintableConstant c → Reads true (constant_t
 constant_read (Word n) h = name n h
 constant_read (Number n) h = number n h
 
-constants_begin : (cs : List Const) → Begins true (more_constants cs)
-constants_begin [] = tt
-constants_begin (c ∷ cs) = refl
+constants_read : (cs : List Const) → Each IsPrintableConstant cs → Follows true (more_constants cs) (print_constants cs)
+constants_read [] h = (nothing true, tt)
+constants_read (c ∷ cs) (h, hs) = (closed (then (mark 44 (refl, λ bs. refl)) (constant_read c h)) (constants_read cs hs), refl)
 
-constants_read : (cs : List Const) → Each IsPrintableConstant cs → Reads true (more_constants cs) (print_constants cs)
-constants_read [] h = nothing true
-constants_read (c ∷ cs) (h, hs) = ended_by (then (mark 44 (refl, λ bs. refl)) (constant_read c h)) (constants_read cs hs) (constants_begin cs)
-
-arguments_begin : (cs : List Const) → Begins true (arguments_text cs)
-arguments_begin [] = tt
-arguments_begin (c ∷ cs) = refl
-
-arguments_read : (cs : List Const) → Each IsPrintableConstant cs → Reads true (arguments_text cs) (print_arguments cs)
-arguments_read [] h = nothing true
+arguments_read : (cs : List Const) → Each IsPrintableConstant cs → Follows true (arguments_text cs) (print_arguments cs)
+arguments_read [] h = (nothing true, tt)
 arguments_read (c ∷ cs) (h, hs) =
-    opened (ended_by (ended_by (then (mark 40 (refl, λ bs. refl)) (constant_read c h)) (constants_read cs hs) (constants_begin cs)) (mark 41 (refl, λ bs. refl)) refl)
+    (opened (ended_by (closed (then (mark 40 (refl, λ bs. refl)) (constant_read c h)) (constants_read cs hs)) (mark 41 (refl, λ bs. refl)) refl), refl)
 
 fact_read : (a : Atom) → IsPrintableFact a → Reads true (fact_text a) (print_fact a)
-fact_read a (h, hs) = ended_by (name a.relation h) (arguments_read a.args hs) (arguments_begin a.args)
-
-more_begin : (m : List ℕ) (parted : Shape → Bool) (ss : Shapes) → Begins true (more_text (32 ∷ m) parted ss)
-more_begin m parted no_more = tt
-more_begin m parted (followed s ss) = refl
+fact_read a (h, hs) = closed (name a.relation h) (arguments_read a.args hs)
 
 mutual
   goal_read : (s : Shape) → IsPrintableGoal s → Reads true (goal_text s) (print_goal s)
@@ -85,31 +73,23 @@ mutual
       Reads true (list_text (32 ∷ m) parted ss) (print_list join parted ss)
   list_read m join between parted no_more h = nothing true
   list_read m join between parted (followed s ss) (h, hs) =
-      ended_by (bracket_read (parted s) (goal_read s h)) (more_read m join between parted ss hs) (more_begin m parted ss)
+      closed (bracket_read (parted s) (goal_read s h)) (more_read m join between parted ss hs)
 
   more_read : (m : List ℕ) (join : Symbol) → Reads false (32 ∷ m) (λ r. join ∷ r) → (parted : Shape → Bool) (ss : Shapes) → ArePrintableGoals ss →
-      Reads true (more_text (32 ∷ m) parted ss) (print_rest join parted ss)
-  more_read m join between parted no_more h = nothing true
+      Follows true (more_text (32 ∷ m) parted ss) (print_rest join parted ss)
+  more_read m join between parted no_more h = (nothing true, tt)
   more_read m join between parted (followed s ss) (h, hs) =
-      ended_by (then between (bracket_read (parted s) (goal_read s h))) (more_read m join between parted ss hs) (more_begin m parted ss)
+      (closed (then between (bracket_read (parted s) (goal_read s h))) (more_read m join between parted ss hs), refl)
 
-names_begin : (ns : List (List ℕ)) → Begins true (names_text ns)
-names_begin [] = tt
-names_begin (n ∷ ns) = refl
-
-names_read : (ns : List (List ℕ)) → Each IsName ns → Reads true (names_text ns) (print_names ns)
-names_read [] h = nothing true
-names_read (n ∷ ns) (h, hs) = ended_by (then (blank 32 refl) (name n h)) (names_read ns hs) (names_begin ns)
-
-rules_begin : (m : List ℕ) (parted : RuleShape → Bool) (xs : RuleShapes) → Begins true (more_rules (32 ∷ m) parted xs)
-rules_begin m parted rule.no_more = tt
-rules_begin m parted (rule.followed x xs) = refl
+names_read : (ns : List (List ℕ)) → Each IsName ns → Follows true (names_text ns) (print_names ns)
+names_read [] h = (nothing true, tt)
+names_read (n ∷ ns) (h, hs) = (closed (then (blank 32 refl) (name n h)) (names_read ns hs), refl)
 
 mutual
   rule_read : (x : RuleShape) → IsPrintableRule x → Reads true (rule_text x) (print_rule x)
   rule_read (must n) h = then (word_blank 109 (codes "ust") refl refl) (name n h)
   rule_read (never n) h = then (word_blank 110 (codes "ever") refl refl) (name n h)
-  rule_read (order ns) hs = ended_by (word 111 (codes "rder") refl refl) (names_read ns hs) (names_begin ns)
+  rule_read (order ns) hs = closed (word 111 (codes "rder") refl refl) (names_read ns hs)
   rule_read (precedes a b) (h, k) = then (ended_by (then (word_blank 112 (codes "recedes") refl refl) (name a h)) (blank 32 refl) refl) (name b k)
   rule_read (needs a b) (h, k) = then (ended_by (then (word_blank 110 (codes "eeds") refl refl) (name a h)) (blank 32 refl) refl) (name b k)
   rule_read (negated x) h = then (word_blank 110 (codes "ot") refl refl) (bracket_read (in_all x) (rule_read x h))
@@ -120,28 +100,23 @@ mutual
       Reads true (rules_text (32 ∷ m) parted xs) (print_rules join parted xs)
   rules_read m join between parted rule.no_more h = nothing true
   rules_read m join between parted (rule.followed x xs) (h, hs) =
-      ended_by (bracket_read (parted x) (rule_read x h)) (more_rules_read m join between parted xs hs) (rules_begin m parted xs)
+      closed (bracket_read (parted x) (rule_read x h)) (more_rules_read m join between parted xs hs)
 
   more_rules_read : (m : List ℕ) (join : Symbol) → Reads false (32 ∷ m) (λ r. join ∷ r) → (parted : RuleShape → Bool) (xs : RuleShapes) → ArePrintableRules xs →
-      Reads true (more_rules (32 ∷ m) parted xs) (print_more_rules join parted xs)
-  more_rules_read m join between parted rule.no_more h = nothing true
+      Follows true (more_rules (32 ∷ m) parted xs) (print_more_rules join parted xs)
+  more_rules_read m join between parted rule.no_more h = (nothing true, tt)
   more_rules_read m join between parted (rule.followed x xs) (h, hs) =
-      ended_by (then between (bracket_read (parted x) (rule_read x h))) (more_rules_read m join between parted xs hs) (rules_begin m parted xs)
+      (closed (then between (bracket_read (parted x) (rule_read x h))) (more_rules_read m join between parted xs hs), refl)
 
-note_begins : (note : Note) → Begins true (note_text note)
-note_begins Done = tt
-note_begins Fail = refl
-note_begins (FailFirst n) = refl
-
-note_read : (note : Note) → IsPrintableNote note → Reads true (note_text note) (print_note note)
-note_read Done h = nothing true
-note_read Fail h = then (blank 32 refl) (word 102 (codes "ail") refl refl)
-note_read (FailFirst n) h = then (then (blank 32 refl) (word_blank 102 (codes "ail") refl refl)) (number n h)
+note_read : (note : Note) → IsPrintableNote note → Follows true (note_text note) (print_note note)
+note_read Done h = (nothing true, tt)
+note_read Fail h = (then (blank 32 refl) (word 102 (codes "ail") refl refl), refl)
+note_read (FailFirst n) h = (then (then (blank 32 refl) (word_blank 102 (codes "ail") refl refl)) (number n h), refl)
 
 declaration_read : (d : Declared) → IsPrintableDeclaration d → Reads false (declaration_line d) (print_declared d)
 declaration_read (fact a) h = ended_by (then (word_blank 102 (codes "act") refl refl) (fact_read a h)) line_end refl
 declaration_read (event n note) (h, k) =
-    ended_by (ended_by (then (word_blank 101 (codes "vent") refl refl) (name n h)) (note_read note k) (note_begins note)) line_end refl
+    ended_by (closed (then (word_blank 101 (codes "vent") refl refl) (name n h)) (note_read note k)) line_end refl
 declaration_read (flow n s) (h, k) =
     ended_by (then (ended_by (then (word_blank 102 (codes "low") refl refl) (name n h)) (joint 61 (refl, λ bs. refl)) refl) (goal_read s k)) line_end refl
 
@@ -162,6 +137,7 @@ constraints_end [] = refl
 constraints_end (x ∷ xs) = ap (λ r. constraint_word ∷ print_rule x (semicolon ∷ r)) (constraints_end xs)
 
 constraints_read : (xs : List RuleShape) → Each IsPrintableRule xs → Reads false (constraint_lines xs) (constraints_then xs)
+unfolding constraint_line
 constraints_read [] h = nothing false
 constraints_read (x ∷ xs) (h, hs) =
     then (ended_by (then (word_blank 99 (codes "onstraint") refl refl) (rule_read x h)) line_end refl) (constraints_read xs hs)

@@ -2,12 +2,11 @@
 use Rattle.std.proofs.Common.{rules as std_rules, ℕ, zero, suc, List, [], ◌∷◌, map, flat_map, sym, subst}
 use Rattle.flow_model.specs.Lists.{Each}
 use Rattle.flow_facts.specs.declared.constant.Const.{Const}
-use Rattle.flow_facts.specs.declared.constant.Const.TheVariants as const
 use Rattle.flow_form.specs.Form.{Shape, shapes}
 use Rattle.flow_form.specs.RuleForm.{RuleShape, rule_shapes}
 use Rattle.flow_form.specs.Script.{Declared}
 use Rattle.flow_grammar.specs.Symbol.{Placed, at, symbol, symbols, constant_symbol, closing, semicolon, goal_word}
-use Rattle.flow_grammar.specs.Grammar.{FactText, bare, applied, spell_constants, spell_fact, mean_fact, Prefix, asking, denying, adding, taking, prefixed, Single, must_come, never_come, single, Pair, preceding, needing, paired, spell_names, Kind, goals, rules, Meaning, list, Text, joined, group_text, nop_text, name_text, fact_text, iso_text, not_text, single_text, order_text, pair_text, More, no_more_text, then_text, spell, spell_more, mean, mean_more, NoteText, silent_text, done_text, fail_text, fail_first_text, spell_note, mean_note, NotedText, noted_text, spell_noted, mean_noted, DeclText, facts_text, events_text, flow_text, spell_items, declared_fact, spell_decl, mean_decl, ScriptText, script_text, spell_decls, spell_constraints, mean_rule, spell_script, mean_script}
+use Rattle.flow_grammar.specs.Grammar.{FactText, bare, applied, spell_constants, spell_fact, mean_fact, Prefix, prefixed, Single, single, Pair, paired, spell_names, Kind, goals, rules, Meaning, list, Text, joined, group_text, nop_text, name_text, fact_text, iso_text, not_text, single_text, order_text, pair_text, More, no_more_text, then_text, spell, spell_more, mean, mean_more, NoteText, silent_text, done_text, fail_text, fail_first_text, spell_note, mean_note, NotedText, noted_text, spell_noted, mean_noted, DeclText, facts_text, events_text, flow_text, spell_items, declared_fact, spell_decl, mean_decl, ScriptText, script_text, spell_decls, spell_constraints, mean_rule, spell_script, mean_script}
 use Rattle.flow_text.specs.Printable.{IsName, IsPrintableConstant, IsPrintableFact, IsPrintableGoal, ArePrintableGoals, IsPrintableRule, ArePrintableRules, IsPrintableNote, IsPrintableDeclaration, IsPrintable}
 use Rattle.flow_text.specs.Laws.{SaidIsPrintable}
 use Rattle.flow_text.proofs.Writable.{IsWritable, tokens-writable}

@@ -1,6 +1,6 @@
 -- The tokens of a text are symbols that can be written.
-use Rattle.std.proofs.Common.{rules, ◌≡◌, ℕ, ◌<◌, ◌^◌, Bool, true, false, nat_eq, if◌then◌else◌, List, [], ◌∷◌, refl, sym, ap, subst, ◌∙◌}
-use Rattle.std.specs.Prelude.{Option, Some, None, codes, slice_index_or}
+use Rattle.std.proofs.Common.{rules, ◌≡◌, ℕ, ◌<◌, ◌^◌, Bool, if◌then◌else◌, List, [], ◌∷◌, refl, sym, ap, subst, ◌∙◌}
+use Rattle.std.specs.Prelude.{Option, Some, None, slice_index_or}
 use Rattle.std.proofs.lemmas.List.{append-nil}
 use Rattle.flow_model.specs.Lists.{Each}
 use Rattle.flow_lex.specs.declared.token.Token.{Token}
@@ -10,8 +10,8 @@ use Rattle.flow_lex.specs.Bytes.{number_value}
 use Rattle.flow_lex.specs.Tokens.{lexed, bytes_of, IsSmall}
 use Rattle.flow_lex.proofs.EachToken.{Has, each-read}
 use Rattle.flow_lex.proofs.Small.{IsWord, piece-is-word, small-front}
-use Rattle.flow_grammar.specs.Symbol.{Symbol, a_name, a_number, star, bar, plus, opening, closing, comma, semicolon, equals, question, exclamation, event_word, fact_word, flow_word, goal_word, constraint_word, done_word, fail_word, nop_word, iso_word, ins_word, del_word, holds_word, redundant_word, must_word, never_word, order_word, precedes_word, needs_word, not_word, and_word, or_word}
-use Rattle.flow_reader.specs.Symbols.{is, or_else, word_of_declarations, word_of_goals, word_of_constraints, reserved, word_symbol, mark_symbol, symbol_of, symbols_of}
+use Rattle.flow_grammar.specs.Symbol.{Symbol, a_name, a_number}
+use Rattle.flow_reader.specs.Symbols.{or_else, word_of_declarations, word_of_goals, word_of_constraints, reserved, word_symbol, mark_symbol, symbol_of, symbols_of}
 use Rattle.flow_text.specs.Printable.{IsName}
 
 -- a name is one, a number has 32 bits
@@ -28,21 +28,13 @@ or-if : (t : Bool) (s : Symbol) (o : Option Symbol) → IsWritable s → MayBeWr
 or-if t s o h k = search rules
 
 declaring : (w : List ℕ) → MayBeWritable (word_of_declarations w)
-declaring w =
-    or-if (is w (codes "event")) event_word _ tt (or-if (is w (codes "fact")) fact_word _ tt (or-if (is w (codes "flow")) flow_word _ tt
-    (or-if (is w (codes "goal")) goal_word _ tt (or-if (is w (codes "constraint")) constraint_word _ tt (or-if (is w (codes "done")) done_word _ tt
-    (or-if (is w (codes "fail")) fail_word None tt tt))))))
+declaring w = search or-if depth 9
 
 of_goals : (w : List ℕ) → MayBeWritable (word_of_goals w)
-of_goals w =
-    or-if (is w (codes "nop")) nop_word _ tt (or-if (is w (codes "iso")) iso_word _ tt (or-if (is w (codes "ins")) ins_word _ tt
-    (or-if (is w (codes "del")) del_word _ tt (or-if (is w (codes "holds")) holds_word _ tt (or-if (is w (codes "redundant")) redundant_word None tt tt)))))
+of_goals w = search or-if depth 9
 
 of_constraints : (w : List ℕ) → MayBeWritable (word_of_constraints w)
-of_constraints w =
-    or-if (is w (codes "must")) must_word _ tt (or-if (is w (codes "never")) never_word _ tt (or-if (is w (codes "order")) order_word _ tt
-    (or-if (is w (codes "precedes")) precedes_word _ tt (or-if (is w (codes "needs")) needs_word _ tt (or-if (is w (codes "not")) not_word _ tt
-    (or-if (is w (codes "and")) and_word _ tt (or-if (is w (codes "or")) or_word None tt tt)))))))
+of_constraints w = search or-if depth 10
 
 either-writable : (o p : Option Symbol) → MayBeWritable o → MayBeWritable p → MayBeWritable (or_else o p)
 either-writable o p h k = search rules
@@ -71,10 +63,7 @@ mark-if : (t : Bool) (s other : Symbol) → IsWritable s → IsWritable other �
 mark-if t s other h k = search rules
 
 mark-writable : (b : ℕ) → IsWritable (mark_symbol b)
-mark-writable b =
-    mark-if (nat_eq b 42) star _ tt (mark-if (nat_eq b 124) bar _ tt (mark-if (nat_eq b 43) plus _ tt (mark-if (nat_eq b 40) opening _ tt
-    (mark-if (nat_eq b 41) closing _ tt (mark-if (nat_eq b 44) comma _ tt (mark-if (nat_eq b 59) semicolon _ tt (mark-if (nat_eq b 61) equals _ tt
-    (mark-if (nat_eq b 63) question exclamation tt tt))))))))
+mark-writable b = search mark-if depth 11
 
 token-writable : (text : List ℕ) (t : Token) → Has IsWord text t → IsSmall text t → IsWritable (symbol_of text t)
 token-writable text t word small = from t.kind refl

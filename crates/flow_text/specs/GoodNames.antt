@@ -4,7 +4,7 @@ use Rattle.std.specs.List.{flat_map}
 use Rattle.flow_model.specs.Lists.{◌∈◌, Each, AreDistinct}
 use Rattle.flow_form.specs.Script.{Declared, Said, Asked}
 use Rattle.flow_form.specs.Names.{declared_names, event_names, names_in, goals_of, names_in_rule}
-use Rattle.flow_grammar.specs.Roles.{Role, declares, in_goal, in_rule, in_fact, declaring, used_in_rules, script_roles, query_roles}
+use Rattle.flow_grammar.specs.Roles.{Role, declares, in_goal, in_rule, declaring, used_in_rules, script_roles, query_roles}
 
 -- after those roles, the role declares a name that one of them declares
 abbrev pub IsRepeated : List Role → Role → Type 0

@@ -1,5 +1,5 @@
 -- The kinds of lists.
-use Rattle.std.specs.Prelude.{ℕ, Bool, true, false, List, [], codes}
+use Rattle.std.specs.Prelude.{ℕ, Bool, List, codes}
 use Rattle.flow_form.specs.Form.{Shape}
 use Rattle.flow_form.specs.RuleForm.{RuleShape}
 use Rattle.flow_grammar.specs.Print.{in_serial, in_beside, in_either, in_all, in_any}
@@ -27,8 +27,3 @@ word_of Or = codes " or "
 abbrev pub parted_rule : Linking → RuleShape → Bool
 parted_rule And = in_all
 parted_rule Or = in_any
-
--- what stands before a member, but for the first
-abbrev pub before : Bool → List ℕ → List ℕ
-before true mark = []
-before false mark = mark

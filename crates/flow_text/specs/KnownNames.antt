@@ -1,14 +1,13 @@
 -- The roles of a text, gone through once with the names that are known.
 use Rattle.std.specs.Prelude.{◌≡◌, ◌↔◌, ℕ, ◌+◌, List, [], ◌∷◌, Bool, true, false, not, cond, Option, Some, None, is_some}
 use Rattle.std.specs.BTreeMap.{BTreeMap, get_by}
-use Rattle.std.specs.Ordering.{nat_cmp}
-use Rattle.std.specs.Cmp.Lexicographic.{slice_cmp}
 use Rattle.std.specs.Str.{bytes_eq}
 use Rattle.std.proofs.Common.{Bor}
 use Rattle.flow_model.specs.Lists.{◌∈◌, AreDistinct}
+use Rattle.flow_facts.specs.Ordered.{name_cmp}
 use Rattle.flow_form.specs.Script.{Declared}
 use Rattle.flow_form.specs.Names.{declared_names, event_names}
-use Rattle.flow_grammar.specs.Roles.{Role, declares, in_goal, in_rule, in_fact}
+use Rattle.flow_grammar.specs.Roles.{Role, declares, in_goal, in_rule}
 use Rattle.flow_text.specs.declared.known.DeclaredAs.{DeclaredAs}
 use Rattle.flow_text.specs.declared.known.DeclaredAs.TheVariants.{Event}
 use Rattle.flow_text.specs.declared.known.Known.{Known}
@@ -29,7 +28,7 @@ HasJust set names = (q : List ℕ) → (set q ≡ true) ↔ (q ∈ names)
 
 -- the set of a map's keys
 abbrev pub has : {X : Type 0} → BTreeMap (Bor (List ℕ)) X → NameSet
-has m name = is_some (get_by (λ key. slice_cmp nat_cmp name key.now) m)
+has m name = is_some (get_by (λ key. name_cmp name key.now) m)
 
 abbrev pub as_event : Option DeclaredAs → Bool
 as_event (Some Event) = true
@@ -37,7 +36,7 @@ as_event _ = false
 
 -- the set of those that the map has as events
 abbrev pub has_as_event : BTreeMap (Bor (List ℕ)) DeclaredAs → NameSet
-has_as_event m name = as_event (get_by (λ key. slice_cmp nat_cmp name key.now) m)
+has_as_event m name = as_event (get_by (λ key. name_cmp name key.now) m)
 
 -- the role declares a name of the set
 abbrev pub is_again : NameSet → Role → Bool

@@ -4,7 +4,7 @@ use Rattle.std.proofs.Common.{Bor}
 use Rattle.flow_form.specs.declared.refusal.Wanted.{Wanted}
 use Rattle.flow_form.specs.declared.refusal.TextRefusal.{TextRefusal}
 use Rattle.flow_form.specs.declared.refusal.TextRefusal.TheVariants.{NotAscii, BadToken, Expected, Unknown, Repeated, TooDeep, NoMemory}
-use Rattle.flow_form.specs.Script.{Said}
+use Rattle.flow_form.specs.Script.{Said, Asked}
 use Rattle.flow_lex.specs.declared.token.Token.{Token}
 use Rattle.flow_lex.specs.Tokens.{lexed, IsAscii, IsFirstNotAscii}
 use Rattle.flow_grammar.specs.Symbol.{Symbol, a_name, Placed}
@@ -73,24 +73,44 @@ pub record IsFirstNameAt {V : Type 0} (Spells : List Placed → V → Type 0) (r
   pub first : IsSo value number
   pub there : IsNameAt text (roles value) number place name
 
+-- a kind of text: what spells its values, what is wanted after symbols that end too early, and which names it may not have,
+-- each with its place: those that are declared again, and those that are not known
+pub record TextKind (V : Type 0) : Type 1 where
+  pub spells : List Placed → V → Type 0
+  pub wants : List Symbol → Option Wanted
+  pub again : ℕ → List ℕ → Type 0
+  pub unknown : ℕ → List ℕ → Type 0
+
 -- the refusal is the first that applies to the text; want of memory says nothing of it
-abbrev pub IsTextRefusal : {V : Type 0} → (List Placed → V → Type 0) → (List Symbol → Option Wanted) → (ℕ → List ℕ → Type 0) → (ℕ → List ℕ → Type 0)
-    → List ℕ → TextRefusal → Type 0
-IsTextRefusal Spells wants again unknown text (NotAscii place) = IsFirstNotAscii text place
-IsTextRefusal Spells wants again unknown text (BadToken place) = IsAscii text × ((lexed text).bad ≡ Some place)
-IsTextRefusal Spells wants again unknown text (Expected place kind) = IsExpected Spells wants text place kind
-IsTextRefusal Spells wants again unknown text (TooDeep place) = IsTooDeep Spells text place
-IsTextRefusal Spells wants again unknown text (Repeated place name) = again place name
-IsTextRefusal Spells wants again unknown text (Unknown place name) = unknown place name
-IsTextRefusal Spells wants again unknown text NoMemory = Unit {0}
+abbrev pub IsTextRefusal : {V : Type 0} → TextKind V → List ℕ → TextRefusal → Type 0
+IsTextRefusal kind text (NotAscii place) = IsFirstNotAscii text place
+IsTextRefusal kind text (BadToken place) = IsAscii text × ((lexed text).bad ≡ Some place)
+IsTextRefusal kind text (Expected place wanted) = IsExpected kind.spells kind.wants text place wanted
+IsTextRefusal kind text (TooDeep place) = IsTooDeep kind.spells text place
+IsTextRefusal kind text (Repeated place name) = kind.again place name
+IsTextRefusal kind text (Unknown place name) = kind.unknown place name
+IsTextRefusal kind text NoMemory = Unit {0}
 
 -- of a workflow: a name that is declared a second time, and only where there is none, one that is not declared as it must be
-abbrev pub IsParseRefusal : List ℕ → TextRefusal → Type 0
-IsParseRefusal text =
-    IsTextRefusal SpellsScript script_wants (IsFirstNameAt SpellsScript script_roles IsFirstRepeated text)
-    (IsFirstNameAt SpellsScript script_roles IsFirstUnknown text) text
+abbrev pub of_script : List ℕ → TextKind Said
+of_script text = record {
+  spells = SpellsScript;
+  wants = script_wants;
+  again = IsFirstNameAt SpellsScript script_roles IsFirstRepeated text;
+  unknown = IsFirstNameAt SpellsScript script_roles IsFirstUnknown text;
+}
 
 -- of a query to a workflow: a name that is not that of an event
+abbrev pub of_query : List ℕ → Said → TextKind Asked
+of_query text s = record {
+  spells = SpellsQuery;
+  wants = query_wants;
+  again = λ place name. ⊥;
+  unknown = IsFirstNameAt SpellsQuery query_roles (λ q k. AsksFirstOfOther q s k) text;
+}
+
+abbrev pub IsParseRefusal : List ℕ → TextRefusal → Type 0
+IsParseRefusal text = IsTextRefusal (of_script text) text
+
 abbrev pub IsQueryRefusal : List ℕ → Said → TextRefusal → Type 0
-IsQueryRefusal text s =
-    IsTextRefusal SpellsQuery query_wants (λ place name. ⊥) (IsFirstNameAt SpellsQuery query_roles (λ q k. AsksFirstOfOther q s k) text) text
+IsQueryRefusal text s = IsTextRefusal (of_query text s) text

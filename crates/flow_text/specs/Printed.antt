@@ -80,7 +80,7 @@ declaration_lines (d ∷ ds) = declaration_line d ++ declaration_lines ds
 abbrev pub goal_line : Shape → List ℕ
 goal_line s = codes "goal " ++ goal_text s ++ codes ";\n"
 
-abbrev pub constraint_line : RuleShape → List ℕ
+unfoldable pub constraint_line : RuleShape → List ℕ
 constraint_line x = codes "constraint " ++ rule_text x ++ codes ";\n"
 
 abbrev pub constraint_lines : List RuleShape → List ℕ

@@ -4,6 +4,7 @@ ghost use Rattle.flow_text.specs.ListedNames.{role_of};
 ghost use Rattle.flow_text.specs.KnownNames.{has, has_as_event, is_unknown, KnowsThose};
 
 use crate::listing::Named;
+use flow_facts::Name;
 use flow_form::Decl;
 use std::alloc::{AllocError, Global};
 use std::collections::BTreeMap;
@@ -15,11 +16,11 @@ pub(crate) enum DeclaredAs {
     Flow,
 }
 
-/// The names that declarations make known.
+/// The names that declarations make known, lent by them. Names are told apart by their marks first.
 #[derive(Drop)]
 pub(crate) struct Known<'a> {
     /// What each is declared as: an event, if it is declared as both.
-    pub(crate) names: BTreeMap<&'a [u8], DeclaredAs>,
+    pub(crate) names: BTreeMap<&'a Name, DeclaredAs>,
     /// Whether one is declared a second time.
     pub(crate) is_again: bool,
 }
@@ -44,34 +45,33 @@ impl<'a> Known<'a> {
         match decl {
             Decl::Fact(_) => {}
             Decl::Event(name, _) => {
-                let earlier = self.names.insert(name.bytes(), DeclaredAs::Event)?;
+                let earlier = self.names.insert(name, DeclaredAs::Event)?;
                 self.is_again |= earlier.is_some();
             }
             Decl::Flow(name, _) => {
-                if self.names.contains_key(name.bytes()) {
+                if self.names.contains_key(&name) {
                     self.is_again = true;
                 } else {
-                    self.names.insert(name.bytes(), DeclaredAs::Flow)?;
+                    self.names.insert(name, DeclaredAs::Flow)?;
                 }
             }
         }
         Ok(())
     }
 
-    fn has_as_event(&self, name: &[u8]) -> bool
+    fn has_as_event(&self, name: &'a Name) -> bool
         ensures { result ≡ has_as_event self.now.names name.now }
     {
-        matches!(self.names.get(name), Some(DeclaredAs::Event))
+        matches!(self.names.get(&name), Some(DeclaredAs::Event))
     }
 
     /// The name is not declared as it must be where it stands.
-    #[tactic(auto, using(crate::proofs::KnownNames::lacked_in_rule))]
-    pub(crate) fn lacks(&self, named: &Named<'_>) -> bool
+    pub(crate) fn lacks(&self, named: &Named<'a>) -> bool
         ensures { result ≡ is_unknown (has self.now.names) (has_as_event self.now.names) (role_of named.now) }
     {
         match named {
-            Named::InGoal(name) => !self.names.contains_key(name.bytes()),
-            Named::InRule(name) => !self.has_as_event(name.bytes()),
+            Named::InGoal(name) => !self.names.contains_key(name),
+            Named::InRule(name) => !self.has_as_event(*name),
             Named::Declares(_) | Named::InFact(_) => false,
         }
     }

@@ -13,6 +13,7 @@ pub fn law_texts_have_one_answer()
 
 /// A workflow whose names are names and whose numbers have 32 bits is printed as ASCII text, and the tokens of that
 /// text are those that the grammar prints it in.
+#[tactic(auto, using(crate::proofs::PrintedTexts::prints_ascii, crate::proofs::PrintedTexts::prints_cut, crate::proofs::PrintedTexts::prints_symbols))]
 pub fn law_prints_are_lexed()
     ensures ascii { PrintsAreAscii }
     ensures cut { PrintsAreCut }
@@ -25,6 +26,7 @@ pub fn law_what_is_said_can_be_printed()
 {}
 
 /// A script that can be written at all is said by its print, and so is every script that some text says.
+#[tactic(auto, using(crate::proofs::SaidLaws::prints_say_it, crate::proofs::SaidLaws::prints_are_read_back))]
 pub fn law_printed_scripts_are_read_back()
     ensures every_script { PrintsSayIt }
     ensures what_was_said { PrintsAreReadBack }

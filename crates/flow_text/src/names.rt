@@ -9,26 +9,27 @@ ghost use Rattle.flow_text.specs.ListedNames.{role_of, roles_of};
 use crate::known::Known;
 use crate::listing::{Named, names_of_query, names_of_script};
 use crate::name_refusal::NameRefusal;
+use flow_facts::Name;
 use flow_form::{Query, Script};
 use std::alloc::{AllocError, Global};
 use std::collections::BTreeMap;
 
 /// Puts a name that is declared among the others, and says whether it is there already.
-fn is_again<'a>(names: &mut BTreeMap<&'a [u8], ()>, named: &Named<'a>) -> Result<bool, AllocError>
+fn is_again<'a>(names: &mut BTreeMap<&'a Name, ()>, named: &Named<'a>) -> Result<bool, AllocError>
     ensures again { IfOk result (λ again. again ≡ is_again (has names.old) (role_of named.now)) }
     ensures names { OnOk result (has names.new ≡ after (has names.old) (role_of named.now)) }
 {
     match named {
-        Named::Declares(name) => Ok(names.insert(name.bytes(), ())?.is_some()),
+        Named::Declares(name) => Ok(names.insert(*name, ())?.is_some()),
         Named::InGoal(_) | Named::InRule(_) | Named::InFact(_) => Ok(false),
     }
 }
 
 /// The place of the first name that is declared a second time. It is looked for only where what is known tells of one.
-fn first_repeated(
+fn first_repeated<'a>(
     alloc: Global,
-    list: &[Named<'_>],
-    known: &Known<'_>,
+    list: &[Named<'a>],
+    known: &Known<'a>,
 ) -> Result<Option<usize>, AllocError>
     ensures { IfOk result (λ place. place ≡ cond known.now.is_again (repeated_from no_names 0 (roles_of list.now)) None) }
 {
@@ -45,10 +46,15 @@ fn first_repeated(
 }
 
 /// The place of the first name that is not declared as it must be.
-fn first_unknown(list: &[Named<'_>], known: &Known<'_>) -> Option<usize>
-    ensures { result ≡ position_from (λ named. is_unknown (has known.now.names) (has_as_event known.now.names) (role_of named)) 0 list.now }
+fn first_unknown<'a>(list: &[Named<'a>], known: &Known<'a>) -> Option<usize>
+    ensures { result ≡ position_from (is_unknown (has known.now.names) (has_as_event known.now.names)) 0 (roles_of list.now) }
 {
-    list.iter().position(|named| known.lacks(named))
+    for (place, named) in list.iter().enumerate() {
+        if known.lacks(named) {
+            return Some(place);
+        }
+    }
+    None
 }
 
 /// Whether each name is declared, once and as it must be. A name that is declared twice comes before an unknown one.
@@ -69,7 +75,11 @@ pub(crate) fn check_script(alloc: Global, script: &Script) -> Result<(), NameRef
 }
 
 /// Whether each name of the query is that of an event of the script, whose names need not be good.
-pub(crate) fn check_query(alloc: Global, query: &Query, script: &Script) -> Result<(), NameRefusal>
+pub(crate) fn check_query<'a>(
+    alloc: Global,
+    query: &'a Query,
+    script: &'a Script,
+) -> Result<(), NameRefusal>
     ensures ok { OnOk result (AsksOfEvents (asked query.now) (said script.now)) }
     ensures unknown { (k : ℕ) → IsErrOf result (Unknown k) → AsksFirstOfOther (asked query.now) (said script.now) k }
     ensures never_repeated { (k : ℕ) → ¬ IsErrOf result (Repeated k) }

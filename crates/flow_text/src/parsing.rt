@@ -41,8 +41,13 @@ fn parse_lexed(alloc: Global, lexed: &LexedText<'_>) -> Result<Script, TextRefus
     ensures refused { IfErr result (λ refusal. IsParseRefusal lexed.now.text refusal) }
 {
     let script = read_script(alloc, lexed.text, &lexed.tokens)?;
-    check_names(alloc, lexed, &script)?;
-    Ok(script)
+    match check_names(alloc, lexed, &script) {
+        Ok(()) => Ok(script),
+        Err(refusal) => {
+            drop(script);
+            Err(refusal)
+        }
+    }
 }
 
 /// Reads a workflow from its text. Nothing is said of the text where memory is refused.
@@ -88,8 +93,13 @@ fn parse_query_lexed(
     ensures refused { IfErr result (λ refusal. IsQueryRefusal lexed.now.text (said script.now) refusal) }
 {
     let query = read_query(alloc, lexed.text, &lexed.tokens)?;
-    check_query_names(alloc, lexed, script, &query)?;
-    Ok(query)
+    match check_query_names(alloc, lexed, script, &query) {
+        Ok(()) => Ok(query),
+        Err(refusal) => {
+            drop(query);
+            Err(refusal)
+        }
+    }
 }
 
 /// Reads a query to a workflow from its text.

@@ -1,9 +1,10 @@
 ghost use Rattle.std.specs.Prelude.{◌≡◌, ◌++◌, OnOk, map};
+ghost use Rattle.flow_facts.specs.Text.{fact_text};
 ghost use Rattle.flow_form.specs.Form.{shape_of, shapes};
-ghost use Rattle.flow_text.specs.Joins.{before, mark_of, parted};
+ghost use Rattle.flow_text.specs.Joins.{mark_of, parted};
 ghost use Rattle.flow_text.specs.Printed.{bracketed, goal_text, list_text};
 
-use flow_facts::push_fact;
+use flow_facts::{Fact, push_fact};
 use flow_form::Form;
 use std::alloc::AllocError;
 
@@ -40,14 +41,12 @@ impl Join {
     }
 }
 
-/// What stands before a member of a list: the mark, but for the first.
-pub(crate) fn push_mark(text: &mut Vec<u8>, mark: &[u8], is_first: bool) -> Result<(), AllocError>
-    ensures { OnOk result (text.new.items ≡ text.old.items ++ before is_first mark.now) }
+/// The fact behind a word or a mark.
+pub(crate) fn push_with_fact(text: &mut Vec<u8>, word: &[u8], fact: &Fact) -> Result<(), AllocError>
+    ensures { OnOk result (text.new.items ≡ text.old.items ++ (word.now ++ fact_text fact.now)) }
 {
-    if is_first {
-        return Ok(());
-    }
-    text.extend_from_slice(mark)
+    text.extend_from_slice(word)?;
+    push_fact(text, fact)
 }
 
 #[cycle(goals)]
@@ -67,11 +66,13 @@ fn push_member(text: &mut Vec<u8>, join: Join, member: &Form) -> Result<(), Allo
 fn push_list(text: &mut Vec<u8>, join: Join, members: &[Form]) -> Result<(), AllocError>
     ensures { OnOk result (text.new.items ≡ text.old.items ++ list_text (mark_of join) (parted join) (shapes (map shape_of members.now))) }
 {
-    let mut is_first = true;
-    for member in members {
-        push_mark(text, join.mark(), is_first)?;
+    let [first, rest @ ..] = members else {
+        return Ok(());
+    };
+    push_member(text, join, first)?;
+    for member in rest {
+        text.extend_from_slice(join.mark())?;
         push_member(text, join, member)?;
-        is_first = false;
     }
     Ok(())
 }
@@ -83,22 +84,10 @@ pub(crate) fn push_goal(text: &mut Vec<u8>, goal: &Form) -> Result<(), AllocErro
     match goal {
         Form::Nop => text.extend_from_slice(b"nop"),
         Form::Name(name) => text.extend_from_slice(name.bytes()),
-        Form::Test(fact) => {
-            text.extend_from_slice(b"?")?;
-            push_fact(text, fact)
-        }
-        Form::Absent(fact) => {
-            text.extend_from_slice(b"!")?;
-            push_fact(text, fact)
-        }
-        Form::Ins(fact) => {
-            text.extend_from_slice(b"ins ")?;
-            push_fact(text, fact)
-        }
-        Form::Del(fact) => {
-            text.extend_from_slice(b"del ")?;
-            push_fact(text, fact)
-        }
+        Form::Test(fact) => push_with_fact(text, b"?", fact),
+        Form::Absent(fact) => push_with_fact(text, b"!", fact),
+        Form::Ins(fact) => push_with_fact(text, b"ins ", fact),
+        Form::Del(fact) => push_with_fact(text, b"del ", fact),
         Form::Iso(part) => {
             text.extend_from_slice(b"iso(")?;
             push_goal(text, part)?;

@@ -3,7 +3,6 @@ ghost use Rattle.flow_form.specs.RuleForm.{rule_shape_of, rule_shapes};
 ghost use Rattle.flow_text.specs.Joins.{word_of, parted_rule};
 ghost use Rattle.flow_text.specs.Printed.{bracketed, names_text, rule_text, rules_text};
 
-use crate::print_goals::push_mark;
 use flow_form::{Name, RuleForm};
 use std::alloc::AllocError;
 
@@ -42,18 +41,30 @@ fn push_names(text: &mut Vec<u8>, names: &[Name]) -> Result<(), AllocError>
     ensures { OnOk result (text.new.items ≡ text.old.items ++ names_text names.now) }
 {
     for name in names {
-        text.extend_from_slice(b" ")?;
-        text.extend_from_slice(name.bytes())?;
+        push_with_name(text, b" ", name)?;
     }
     Ok(())
 }
 
-fn push_two(text: &mut Vec<u8>, first: &Name, second: &Name) -> Result<(), AllocError>
-    ensures { OnOk result (text.new.items ≡ text.old.items ++ first.now ++ codes " " ++ second.now) }
+/// The name behind a word.
+pub(crate) fn push_with_name(text: &mut Vec<u8>, word: &[u8], name: &Name) -> Result<(), AllocError>
+    ensures { OnOk result (text.new.items ≡ text.old.items ++ (word.now ++ name.now)) }
 {
-    text.extend_from_slice(first.bytes())?;
-    text.extend_from_slice(b" ")?;
-    text.extend_from_slice(second.bytes())
+    text.extend_from_slice(word)?;
+    text.extend_from_slice(name.bytes())
+}
+
+/// The two names behind a word.
+fn push_with_two(
+    text: &mut Vec<u8>,
+    word: &[u8],
+    first: &Name,
+    second: &Name,
+) -> Result<(), AllocError>
+    ensures { OnOk result (text.new.items ≡ text.old.items ++ (word.now ++ first.now ++ codes " " ++ second.now)) }
+{
+    push_with_name(text, word, first)?;
+    push_with_name(text, b" ", second)
 }
 
 /// A member of a list of that kind.
@@ -74,11 +85,13 @@ fn push_member(text: &mut Vec<u8>, linking: Linking, member: &RuleForm) -> Resul
 fn push_list(text: &mut Vec<u8>, linking: Linking, members: &[RuleForm]) -> Result<(), AllocError>
     ensures { OnOk result (text.new.items ≡ text.old.items ++ rules_text (word_of linking) (parted_rule linking) (rule_shapes (map rule_shape_of members.now))) }
 {
-    let mut is_first = true;
-    for member in members {
-        push_mark(text, linking.word(), is_first)?;
+    let [first, rest @ ..] = members else {
+        return Ok(());
+    };
+    push_member(text, linking, first)?;
+    for member in rest {
+        text.extend_from_slice(linking.word())?;
         push_member(text, linking, member)?;
-        is_first = false;
     }
     Ok(())
 }
@@ -88,26 +101,14 @@ pub(crate) fn push_rule(text: &mut Vec<u8>, rule: &RuleForm) -> Result<(), Alloc
     ensures { OnOk result (text.new.items ≡ text.old.items ++ rule_text (rule_shape_of rule.now)) }
 {
     match rule {
-        RuleForm::Must(name) => {
-            text.extend_from_slice(b"must ")?;
-            text.extend_from_slice(name.bytes())
-        }
-        RuleForm::Never(name) => {
-            text.extend_from_slice(b"never ")?;
-            text.extend_from_slice(name.bytes())
-        }
+        RuleForm::Must(name) => push_with_name(text, b"must ", name),
+        RuleForm::Never(name) => push_with_name(text, b"never ", name),
         RuleForm::Order(names) => {
             text.extend_from_slice(b"order")?;
             push_names(text, names)
         }
-        RuleForm::Precedes(first, second) => {
-            text.extend_from_slice(b"precedes ")?;
-            push_two(text, first, second)
-        }
-        RuleForm::Needs(first, second) => {
-            text.extend_from_slice(b"needs ")?;
-            push_two(text, first, second)
-        }
+        RuleForm::Precedes(first, second) => push_with_two(text, b"precedes ", first, second),
+        RuleForm::Needs(first, second) => push_with_two(text, b"needs ", first, second),
         RuleForm::Not(part) => {
             text.extend_from_slice(b"not ")?;
             push_member(text, Linking::And, part)

@@ -5,9 +5,8 @@ ghost use Rattle.flow_form.specs.RuleForm.{rule_shape_of};
 ghost use Rattle.flow_form.specs.Script.{declared, said};
 ghost use Rattle.flow_text.specs.Printed.{note_text, declaration_line, declaration_lines, goal_line, constraint_line, constraint_lines, printed};
 
-use crate::print_goals::push_goal;
-use crate::print_rules::push_rule;
-use flow_facts::push_fact;
+use crate::print_goals::{push_goal, push_with_fact};
+use crate::print_rules::{push_rule, push_with_name};
 use flow_form::{Decl, Form, Note, RuleForm, Script};
 use itoa::Buffer;
 use std::alloc::{AllocError, Global};
@@ -37,19 +36,16 @@ fn push_declaration(text: &mut Vec<u8>, decl: &Decl) -> Result<(), AllocError>
 {
     match decl {
         Decl::Fact(fact) => {
-            text.extend_from_slice(b"fact ")?;
-            push_fact(text, fact)?;
+            push_with_fact(text, b"fact ", fact)?;
             text.extend_from_slice(b";\n")
         }
         Decl::Event(name, note) => {
-            text.extend_from_slice(b"event ")?;
-            text.extend_from_slice(name.bytes())?;
+            push_with_name(text, b"event ", name)?;
             push_note(text, *note)?;
             text.extend_from_slice(b";\n")
         }
         Decl::Flow(name, goal) => {
-            text.extend_from_slice(b"flow ")?;
-            text.extend_from_slice(name.bytes())?;
+            push_with_name(text, b"flow ", name)?;
             text.extend_from_slice(b" = ")?;
             push_goal(text, goal)?;
             text.extend_from_slice(b";\n")
@@ -74,6 +70,7 @@ fn push_goal_line(text: &mut Vec<u8>, goal: &Form) -> Result<(), AllocError>
     text.extend_from_slice(b";\n")
 }
 
+#[tactic(auto, unfolding(crate::specs::Printed::constraint_line))]
 fn push_constraint(text: &mut Vec<u8>, rule: &RuleForm) -> Result<(), AllocError>
     ensures { OnOk result (text.new.items ≡ text.old.items ++ constraint_line (rule_shape_of rule.now)) }
 {

@@ -11,7 +11,7 @@ use Rattle.flow_model.specs.Resolution.{ChoiceOption, options}
 use Rattle.flow_model.specs.Run.{RunState, first_state}
 use Rattle.flow_model.specs.Verdict.{IsPossible}
 use Rattle.flow_laws.specs.WellFormed.{IsWellFormed, IsConsistent}
-use Rattle.flow_laws.proofs.Members.{mem_append_left, mem_append_right, each_member, each_from_members}
+use Rattle.flow_laws.proofs.Members.{mem_append_left, mem_append_right, each_member, each_from_members, at_most}
 use Rattle.flow_laws.proofs.MadeLists.{numbers_from_below, begins_front}
 use Rattle.flow_laws.proofs.SoundStates.{runs-append, runs_front}
 use Rattle.flow_laws.proofs.TraceLeaves.{leaf_of_trace, distinct_trace}
@@ -20,12 +20,11 @@ use Rattle.flow_laws.proofs.ReadyRuns.{fronts_are_ready}
 use Rattle.flow_laws.proofs.CircleOrTrace.{ready_runs_extend}
 use Rattle.flow_sample.specs.Excised.{HasExecution}
 use Rattle.flow_excise.specs.Executions.{AreJustThose}
-use Rattle.flow_sample.proofs.RingLemmas.{at_most}
 use Rattle.flow_excise.proofs.SiftingLemmas.{kept_has}
 use Rattle.flow_workflow.specs.Definition.{Definition, schema_of}
-use Rattle.flow_world.specs.Course.{Course, state_of_world}
-use Rattle.flow_world.specs.Journals.{labels_at}
-use Rattle.flow_world.proofs.JournalLabels.{replay-labels_at, length-labels_at}
+use Rattle.flow_facts.specs.Course.{Course, state_of_world}
+use Rattle.flow_facts.specs.Journals.{labels_at}
+use Rattle.flow_facts.proofs.JournalLabels.{replay-labels_at, length-labels_at}
 use Rattle.flow_residual.specs.Options.{SomeOption}
 use Rattle.flow_residual.specs.Remaining.{Remaining, IsOf}
 use Rattle.flow_residual.proofs.PossibleLemmas.{has_kept, is_good}

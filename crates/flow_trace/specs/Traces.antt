@@ -11,8 +11,8 @@ use Rattle.flow_plan.specs.Progress.{IsDone, bound_of}
 use Rattle.flow_plan.specs.declared.progress.Progress.{Progress}
 use Rattle.flow_sample.specs.Excised.{HasExecution}
 use Rattle.flow_excise.specs.Executions.{AreJustThose}
-use Rattle.flow_world.specs.Course.{Course}
-use Rattle.flow_world.specs.Journals.{labels_at}
+use Rattle.flow_facts.specs.Course.{Course}
+use Rattle.flow_facts.specs.Journals.{labels_at}
 use Rattle.flow_residual.specs.Options.{HasSmallLeaves}
 use Rattle.flow_trace.specs.declared.checked.Checked.{Checked}
 use Rattle.flow_trace.specs.declared.checked.Checked.TheVariants.{Execution, Prefix, Bad}

@@ -1,11 +1,11 @@
 ghost use Rattle.std.specs.Prelude.{◌≡◌, ◌<◌, ◌↔◌, ◌++◌, [], ◌∷◌, IsTrue, length};
 ghost use Rattle.std.specs.Bool.{OnTrue};
 ghost use Rattle.flow_model.specs.Facts.{HoldsAt};
-ghost use Rattle.flow_world.specs.Course.{state_of_world};
-ghost use Rattle.flow_world.specs.Journals.{labels_at};
+ghost use Rattle.flow_facts.specs.Course.{state_of_world};
+ghost use Rattle.flow_facts.specs.Journals.{labels_at};
 
+use flow_facts::World;
 use flow_workflow::Workflow;
-use flow_world::World;
 
 /// Performs the label of the leaf, if it holds now.
 pub fn perform(workflow: &Workflow, world: &mut World, leaf: u32) -> bool

@@ -12,11 +12,11 @@ use crate::checked::Checked;
 use crate::labels::perform;
 use crate::live::{all_live, keep_live, some_complete, some_live};
 use flow_excise::Compiled;
+use flow_facts::World;
 use flow_model::MOST_LEAVES;
 use flow_plan::{KnotFree, Progress};
 use flow_residual::fit_rows;
 use flow_workflow::Workflow;
-use flow_world::World;
 use std::alloc::{AllocError, Global};
 
 /// Checks a list of leaves against a workflow and its plans.

@@ -11,7 +11,7 @@ use Rattle.atomic_table.specs.declared.shared.Seat.{Seat}
 use Rattle.flow_turn.specs.declared.view.View.{View}
 use Rattle.flow_turn.specs.declared.view.Stage.TheVariants.{Idle, Serving, Joined}
 use Rattle.flow_turn.specs.Entries.{made_by, AreMade, Finds}
-use Rattle.flow_turn.specs.Turns.{tickets_at, living_at, tickets_of, living_of, Knows, IsGone, IsHome, IsOut, IsInTurns, root_view}
+use Rattle.flow_turn.specs.Turns.{tickets_at, living_at, tickets_of, living_of, Knows, IsGone, IsHome, IsOut, Place, IsInTurns, root_view}
 use Rattle.flow_turn.specs.Steps.{giving, given_view, taking, joined_view}
 use Rattle.flow_turn.specs.Passes.{Knowledge, IsAtRest, known_of, split_pass}
 use Rattle.flow_turn.proofs.TurnLemmas.{value_in, known_by}
@@ -22,17 +22,8 @@ module _ {T E F : Type 0} (entries : T → List E) (caller : E → ℕ) (fixed :
   abbrev V : Type 0
   V = View E F
 
-  abbrev St : Type 0
-  St = State (Option T) V
-
-  abbrev Homes : Type 0
-  Homes = List (maybe.Option (Option T))
-
-  abbrev Rule : St → Type 0
+  abbrev Rule : State (Option T) V → Type 0
   Rule = IsInTurns entries caller fixed part
-
-  abbrev Place : Homes → List E → List V → Type 0
-  Place homes log views = IsHome entries fixed part homes log views ⊎ IsOut homes views
 
   pub opens : (value : T) → entries value ≡ [] → fixed value ≡ part → Rule (opening (0 ∷ 0 ∷ 0 ∷ []) (Some value ∷ []) (root_view part))
   opens value empty same = record {
@@ -61,7 +52,7 @@ module _ {T E F : Type 0} (entries : T → List E) (caller : E → ℕ) (fixed :
       only j v there = ⊎_elim (λ (gone : get_elem? [] j ≡ some v). let out = at_below [] j v gone in absurd (omega arith)) (λ (t : (j ≡ 0) × (root_view part ≡ v)). t) (at_more [] (root_view part) j v there)
 
   -- the value stays where it is, where a view is added that is not served
-  one_more : (homes : Homes) (log : List E) (views : List V) (x : V) → x.stage ≢ Serving → Place homes log views → Place homes log (views ++ x ∷ [])
+  one_more : (homes : List (maybe.Option (Option T))) (log : List E) (views : List V) (x : V) → x.stage ≢ Serving → Place entries fixed part homes log views → Place entries fixed part homes log (views ++ x ∷ [])
   one_more homes log views x unserved (inl h) = inl record {
     value = h.value;
     slot = h.slot;
@@ -73,7 +64,7 @@ module _ {T E F : Type 0} (entries : T → List E) (caller : E → ℕ) (fixed :
   one_more homes log views x unserved (inr o) = inr record { slot = o.slot; seat = o.seat; view = o.view; there = at_longer views (x ∷ []) o.seat o.view o.there; served = o.served }
 
   -- a view that keeps its ticket
-  apart_still : (s : St) (r : Rule s) (id : ℕ) (v w : V) → get_elem? s.views id ≡ some v → w.ticket ≡ v.ticket → tickets_of w ≡ tickets_of v
+  apart_still : (s : State (Option T) V) (r : Rule s) (id : ℕ) (v w : V) → get_elem? s.views id ≡ some v → w.ticket ≡ v.ticket → tickets_of w ≡ tickets_of v
       → (i j : ℕ) (a b : V) → get_elem? (set s.views id w) i ≡ some a → get_elem? (set s.views id w) j ≡ some b → tickets_of a ≡ 1 → tickets_of b ≡ 1 → a.ticket ≡ b.ticket → i ≡ j
   apart_still s r id v w at ticket has i j a b here there one two same =
       let before = (λ (i : ℕ) (a : V) (now : get_elem? (set s.views id w) i ≡ some a). ⊎_elim
@@ -231,7 +222,7 @@ module _ {T E F : Type 0} (entries : T → List E) (caller : E → ℕ) (fixed :
       (λ same. not_serving v.stage (ap serving_at idle) (ap (λ (z : V). z.stage) (some-injective v o.view (sym at ∙ (ap (get_elem? s.views) same ∙ o.there))) ∙ o.served)) at o.there in
       absurd {A = IsHome entries fixed part s.homes r.log s.views} (omega arith)) r.value in (
         home.value,
-        end.4 0 (Some home.value) (ap (λ (hs : Homes). get_elem? hs 0) home.slot),
+        end.4 0 (Some home.value) (ap (λ (hs : List (maybe.Option (Option T))). get_elem? hs 0) home.slot),
         record {
           begins = subst (λ (l : List E). Begins l v.seen) (sym home.list) k.seen;
           own = (λ i. made_by caller (k.named i) (home.list i)) ∙ k.mine;
@@ -246,17 +237,17 @@ module _ {T E F : Type 0} where
   split_knows old new table me = λ i. known_by (table i) (me i).0
 
   -- what is in the slot when the lock is closed
-  pub closes_with : (entries : T → List E) (caller : E → ℕ) (fixed : T → F) (part : F) (seat : Seat (Option T) (View E F)) (root : Knowledge E F) (words : List ℕ) (slots : List (Option T)) (found : Option T)
-      → IsAtRest seat → known_of seat ≡ root → root.number ≡ 0 → root.outs ≡ 0 → Final (Seen (IsInTurns entries caller fixed part) seat.id seat.me.0) words slots → get_elem? slots 0 ≡ some found
-      → (value : T) × (found ≡ Some value) × Finds entries caller fixed root.number root.seen root.mine root.joined root.part value × Each (λ e. caller e ≤ root.given) (entries value)
-  closes_with entries caller fixed part seat root words slots found rest known number outs final there =
-      let end = closes entries caller fixed part seat.id seat.me.0 words slots rest.0 (ap (λ (k : Knowledge E F). k.number) known ∙ number) (ap (λ (k : Knowledge E F). k.outs) known ∙ outs) final in
-      let both = subst (λ (k : Knowledge E F). Finds entries caller fixed k.number k.seen k.mine k.joined k.part end.0 × Each (λ e. caller e ≤ k.given) (entries end.0)) known (end.2, end.3) in
-      (end.0, some-injective found (Some end.0) (sym there ∙ end.1), both.0, both.1)
+  module _ (entries : T → List E) (caller : E → ℕ) (fixed : T → F) (part : F) (seat : Seat (Option T) (View E F)) (root : Knowledge E F) (words : List ℕ) (slots : List (Option T)) (found : Option T)
+      (rest : IsAtRest seat) (known : known_of seat ≡ root) (number : root.number ≡ 0) (outs : root.outs ≡ 0) (final : Final (Seen (IsInTurns entries caller fixed part) seat.id seat.me.0) words slots)
+      (there : get_elem? slots 0 ≡ some found) where
+    abbrev IsLeft : T → Type 0
+    IsLeft value = Finds entries caller fixed root.number root.seen root.mine root.joined root.part value × Each (λ e. caller e ≤ root.given) (entries value)
 
-  pub closes_as : (entries : T → List E) (caller : E → ℕ) (fixed : T → F) (part : F) (seat : Seat (Option T) (View E F)) (root : Knowledge E F) (words : List ℕ) (slots : List (Option T)) (found : Option T) (value : T)
-      → IsAtRest seat → known_of seat ≡ root → root.number ≡ 0 → root.outs ≡ 0 → Final (Seen (IsInTurns entries caller fixed part) seat.id seat.me.0) words slots → get_elem? slots 0 ≡ some found → found ≡ Some value
-      → Finds entries caller fixed root.number root.seen root.mine root.joined root.part value × Each (λ e. caller e ≤ root.given) (entries value)
-  closes_as entries caller fixed part seat root words slots found value rest known number outs final there is =
-      let end = closes_with entries caller fixed part seat root words slots found rest known number outs final there in
-      subst (λ (v : T). Finds entries caller fixed root.number root.seen root.mine root.joined root.part v × Each (λ e. caller e ≤ root.given) (entries v)) (ap (value_in end.0) (sym end.1 ∙ is)) (end.2, end.3)
+    pub closes_with : (value : T) × (found ≡ Some value) × IsLeft value
+    closes_with =
+        let end = closes entries caller fixed part seat.id seat.me.0 words slots rest.0 (ap (λ (k : Knowledge E F). k.number) known ∙ number) (ap (λ (k : Knowledge E F). k.outs) known ∙ outs) final in
+        let both = subst (λ (k : Knowledge E F). Finds entries caller fixed k.number k.seen k.mine k.joined k.part end.0 × Each (λ e. caller e ≤ k.given) (entries end.0)) known (end.2, end.3) in
+        (end.0, some-injective found (Some end.0) (sym there ∙ end.1), both)
+
+    pub closes_as : (value : T) → found ≡ Some value → IsLeft value
+    closes_as value is = subst IsLeft (ap (value_in closes_with.0) (sym closes_with.1 ∙ is)) closes_with.2

@@ -17,7 +17,7 @@ use Rattle.flow_turn.specs.declared.view.View.{View}
 use Rattle.flow_turn.specs.declared.view.Stage.{Stage}
 use Rattle.flow_turn.specs.declared.view.Stage.TheVariants.{Idle, Waiting, Serving, Joined}
 use Rattle.flow_turn.specs.Entries.{made_by, AreMade}
-use Rattle.flow_turn.specs.Turns.{tickets_at, living_at, tickets_of, living_of, Stands, Knows, IsGone, IsHome, IsOut, IsInTurns}
+use Rattle.flow_turn.specs.Turns.{tickets_at, living_at, tickets_of, living_of, Stands, Knows, IsGone, IsHome, IsOut, Place, IsInTurns}
 use Rattle.flow_turn.specs.Steps.{drew, looked, list_in, counted, passed, settled}
 use Rattle.flow_turn.proofs.ListLemmas.{total-set, total-at, total-le, Each-map, at_below, made_by-own, made_by-none}
 
@@ -48,9 +48,6 @@ module _ {T E F : Type 0} (entries : T → List E) (caller : E → ℕ) (fixed :
 
   abbrev Rule : St → Type 0
   Rule = IsInTurns entries caller fixed part
-
-  abbrev Place : Homes → List E → List V → Type 0
-  Place homes log views = IsHome entries fixed part homes log views ⊎ IsOut homes views
 
   abbrev Known : ℕ → ℕ → List E → ℕ → V → Type 0
   Known = Knows caller part
@@ -108,14 +105,13 @@ module _ {T E F : Type 0} (entries : T → List E) (caller : E → ℕ) (fixed :
   -- who waits goes on to wait, where its ticket is not the one that was served
   moved_on : (served drawn served' drawn' : ℕ) (log log' : List E) (ticket : ℕ) (seen : List E) (stage : Stage) → (tickets_at stage ≡ 1 → ticket ≢ served) → served' ≤ served + 1 → drawn ≤ drawn'
       → Stands served drawn log ticket seen stage → Stands served' drawn' log' ticket seen stage
-  moved_on served drawn served' drawn' log log' ticket seen Idle apart le more stands = tt
   moved_on served drawn served' drawn' log log' ticket seen Waiting apart le more stands = let from = stands.0 in let to = stands.1 in let other = apart refl in (omega arith, omega arith)
   moved_on served drawn served' drawn' log log' ticket seen Serving apart le more stands = absurd (apart refl stands.0)
-  moved_on served drawn served' drawn' log log' ticket seen Joined apart le more stands = tt
+  moved_on served drawn served' drawn' log log' ticket seen other apart le more stands = tt
 
   -- a step by which the view of one seat goes from v to w
   changed : (s : St) (r : Rule s) (id : ℕ) (v w : V) (words' : List ℕ) (homes' : Homes) (drawn' served' : ℕ) (log' added : List E) → get_elem? s.views id ≡ some v → living_of v ≡ 1
-      → words' ≡ drawn' % 2 ^ 64 ∷ served' % 2 ^ 64 ∷ length log' % 2 ^ 64 ∷ [] → log' ≡ r.log ++ added → Place homes' log' (set s.views id w)
+      → words' ≡ drawn' % 2 ^ 64 ∷ served' % 2 ^ 64 ∷ length log' % 2 ^ 64 ∷ [] → log' ≡ r.log ++ added → Place entries fixed part homes' log' (set s.views id w)
       → served' + r.drawn + tickets_of w ≡ drawn' + r.served + tickets_of v → (living_of w ≡ living_of v) × (w.given ≡ v.given) × (w.outs ≡ v.outs) × (w.joined ≡ v.joined)
       → Each (λ e. caller e < length s.views) added
       → ((j : ℕ) → j ≢ id → made_by caller j added ≡ [])
@@ -170,8 +166,19 @@ module _ {T E F : Type 0} (entries : T → List E) (caller : E → ℕ) (fixed :
         (at_set s.views id i w x here);
   }
 
+  -- a step that adds nothing to the list
+  quiet : (s : St) (r : Rule s) (id : ℕ) (v w : V) (words' : List ℕ) (homes' : Homes) (drawn' served' : ℕ) → get_elem? s.views id ≡ some v → living_of v ≡ 1
+      → words' ≡ drawn' % 2 ^ 64 ∷ served' % 2 ^ 64 ∷ length r.log % 2 ^ 64 ∷ [] → Place entries fixed part homes' r.log (set s.views id w)
+      → served' + r.drawn + tickets_of w ≡ drawn' + r.served + tickets_of v → (living_of w ≡ living_of v) × (w.given ≡ v.given) × (w.outs ≡ v.outs) × (w.joined ≡ v.joined)
+      → ((j : ℕ) (u : V) → j ≢ id → get_elem? s.views j ≡ some u → living_of u ≡ 1 → Stands served' drawn' r.log u.ticket u.seen u.stage)
+      → (living_of w ≡ 1 → Known drawn' served' r.log id w)
+      → ((j : ℕ) (u : V) → j ≢ id → get_elem? s.views j ≡ some u → tickets_of u ≡ 1 → tickets_of w ≡ 1 → u.ticket ≢ w.ticket)
+      → Rule record { words = words'; homes = homes'; views = set s.views id w }
+  quiet s r id v w words' homes' drawn' served' at live words place tickets same others mine apart =
+      changed s r id v w words' homes' drawn' served' r.log [] at live words (sym (append-nil r.log)) place tickets same tt (λ j _. refl) others mine apart
+
   -- the value stays where it is, where the view of one who is not served changes
-  pub stays : (homes : Homes) (log : List E) (views : List V) (id : ℕ) (v w : V) → get_elem? views id ≡ some v → v.stage ≢ Serving → w.stage ≢ Serving → Place homes log views → Place homes log (set views id w)
+  pub stays : (homes : Homes) (log : List E) (views : List V) (id : ℕ) (v w : V) → get_elem? views id ≡ some v → v.stage ≢ Serving → w.stage ≢ Serving → Place entries fixed part homes log views → Place entries fixed part homes log (set views id w)
   stays homes log views id v w at before after (inl h) = inl record {
     value = h.value;
     slot = h.slot;
@@ -193,22 +200,17 @@ module _ {T E F : Type 0} (entries : T → List E) (caller : E → ℕ) (fixed :
 
   -- tickets are drawn, and the list stays
   drawn_more : (served drawn drawn' : ℕ) (log : List E) (ticket : ℕ) (seen : List E) (stage : Stage) → drawn ≤ drawn' → Stands served drawn log ticket seen stage → Stands served drawn' log ticket seen stage
-  drawn_more served drawn drawn' log ticket seen Idle more stands = tt
   drawn_more served drawn drawn' log ticket seen Waiting more stands = let to = stands.1 in (stands.0, omega arith)
-  drawn_more served drawn drawn' log ticket seen Serving more stands = stands
-  drawn_more served drawn drawn' log ticket seen Joined more stands = tt
+  drawn_more served drawn drawn' log ticket seen other more stands = stands
 
   has_drawn : (served drawn : ℕ) (log : List E) (ticket : ℕ) (seen : List E) (stage : Stage) → tickets_at stage ≡ 1 → served < drawn → Stands served drawn log ticket seen stage → ticket < drawn
-  has_drawn served drawn log ticket seen Idle one less stands = absurd (omega arith)
   has_drawn served drawn log ticket seen Waiting one less stands = stands.1
   has_drawn served drawn log ticket seen Serving one less stands = let now = stands.0 in omega arith
-  has_drawn served drawn log ticket seen Joined one less stands = absurd (omega arith)
+  has_drawn served drawn log ticket seen other one less stands = absurd (omega arith)
 
   has_one : (stage : Stage) → tickets_at stage ≡ 1 → living_at stage ≡ 1
-  has_one Idle one = refl
-  has_one Waiting one = refl
-  has_one Serving one = refl
   has_one Joined one = absurd (omega arith)
+  has_one other one = refl
 
   -- each ticket was drawn
   below_drawn : (s : St) (r : Rule s) (j : ℕ) (u : V) → get_elem? s.views j ≡ some u → tickets_of u ≡ 1 → u.ticket < r.drawn
@@ -218,10 +220,8 @@ module _ {T E F : Type 0} (entries : T → List E) (caller : E → ℕ) (fixed :
       has_drawn r.served r.drawn r.log u.ticket u.seen u.stage one (omega arith) (r.knows j u there (has_one u.stage one)).stands
 
   one_at_most : (stage : Stage) → tickets_at stage ≤ 1
-  one_at_most Idle = omega arith
-  one_at_most Waiting = omega arith
-  one_at_most Serving = omega arith
   one_at_most Joined = omega arith
+  one_at_most other = omega arith
 
   -- where a caller who waits has the ticket that is served, the value is at home
   at_home : (s : St) (r : Rule s) (id : ℕ) (v : V) → get_elem? s.views id ≡ some v → v.stage ≡ Waiting → r.served ≡ v.ticket → IsHome entries fixed part s.homes r.log s.views
@@ -246,14 +246,11 @@ module _ {T E F : Type 0} (entries : T → List E) (caller : E → ℕ) (fixed :
         w,
         keeps,
         tt,
-        changed s r id v w _ s.homes (r.drawn + 1) r.served r.log [] at live
+        quiet s r id v w _ s.homes (r.drawn + 1) r.served at live
             (ap (λ (ws : List ℕ). set ws 0 ((slice_index ws 0 + 1) % 2 ^ 64)) r.words ∙ ap (λ (n : ℕ). n ∷ r.served % 2 ^ 64 ∷ length r.log % 2 ^ 64 ∷ []) (counts r.drawn 1))
-            (sym (append-nil r.log))
             (stays s.homes r.log s.views id v w at (not_serving v.stage (ap serving_at idle)) (not_serving Waiting refl) r.value)
             (omega arith)
             (sym live, refl, refl, refl)
-            tt
-            (λ j _. refl)
             (λ j u other there alive. drawn_more r.served r.drawn (r.drawn + 1) r.log u.ticket u.seen u.stage (omega arith) (r.knows j u there alive).stands)
             (λ _. record { named = k.named; fixed = k.fixed; seen = k.seen; beside = k.beside; mine = k.mine; joined = k.joined; stands = (omega arith, omega arith) })
             (λ j u other there one _ match. let less = below_drawn s r j u there one in omega arith),
@@ -285,12 +282,10 @@ module _ {T E F : Type 0} (entries : T → List E) (caller : E → ℕ) (fixed :
         w,
         takes 0 (Some home.value),
         ap (λ (hs : Homes). get_elem? hs 0) home.slot,
-        changed s r id v w _ _ r.drawn r.served r.log [] at live same_words (sym (append-nil r.log))
+        quiet s r id v w _ _ r.drawn r.served at live same_words
             (inr record { slot = ap (λ (hs : Homes). set hs 0 none) home.slot; seat = id; view = w; there = set_here s.views id w (at_below s.views id v at); served = refl })
             (omega arith)
             (sym live, refl, refl, refl)
-            tt
-            (λ j _. refl)
             (λ j u other there alive. (r.knows j u there alive).stands)
             (λ _. record { named = k.named; fixed = k.fixed; seen = whole; beside = k.beside; mine = k.mine; joined = k.joined; stands = (sym now, home.list) })
             (λ j u other there one _. apart j u other there one),
@@ -312,12 +307,10 @@ module _ {T E F : Type 0} (entries : T → List E) (caller : E → ℕ) (fixed :
         v,
         keeps,
         tt,
-        changed s r id v v _ s.homes r.drawn r.served r.log [] at live same_words (sym (append-nil r.log))
+        quiet s r id v v _ s.homes r.drawn r.served at live same_words
             (stays s.homes r.log s.views id v v at (not_serving v.stage (ap serving_at waits)) (not_serving v.stage (ap serving_at waits)) r.value)
             (omega arith)
             (refl, refl, refl, refl)
-            tt
-            (λ j _. refl)
             (λ j u other there alive. (r.knows j u there alive).stands)
             (λ _. k)
             (λ j u other there one _. apart j u other there one),
@@ -393,9 +386,8 @@ module _ {T E F : Type 0} (entries : T → List E) (caller : E → ℕ) (fixed :
         w,
         gives,
         tt,
-        changed s r id v w _ _ r.drawn (r.served + 1) r.log [] at live
+        quiet s r id v w _ _ r.drawn (r.served + 1) at live
             (ap (λ (ws : List ℕ). set ws 1 ((slice_index ws 1 + 1) % 2 ^ 64)) r.words ∙ ap (λ (n : ℕ). r.drawn % 2 ^ 64 ∷ n ∷ length r.log % 2 ^ 64 ∷ []) (counts r.served 1))
-            (sym (append-nil r.log))
             (inl record {
               value = value;
               slot = (λ i. put_back (empty i) (slot i));
@@ -408,8 +400,6 @@ module _ {T E F : Type 0} (entries : T → List E) (caller : E → ℕ) (fixed :
             })
             (omega arith)
             (sym live, refl, refl, refl)
-            tt
-            (λ j _. refl)
             (λ j u other there alive. others_wait s r id v at serves turn.0 (r.served + 1) r.drawn r.log (omega arith) (omega arith) j u other there alive)
             (λ _. record { named = k.named; fixed = k.fixed; seen = k.seen; beside = k.beside; mine = k.mine; joined = k.joined; stands = tt })
             (λ j u other there one none_left. absurd (omega arith)),
@@ -426,14 +416,11 @@ module _ {T E F : Type 0} (entries : T → List E) (caller : E → ℕ) (fixed :
         w,
         keeps,
         tt,
-        changed s r id v w _ s.homes r.drawn r.served r.log [] at live
+        quiet s r id v w _ s.homes r.drawn r.served at live
             (ap (λ (ws : List ℕ). set ws 0 (slice_index ws 0)) r.words)
-            (sym (append-nil r.log))
             (stays s.homes r.log s.views id v w at unserved unserved r.value)
             (omega arith)
             (refl, refl, refl, refl)
-            tt
-            (λ j _. refl)
             (λ j u other there alive. (r.knows j u there alive).stands)
             (λ _. record {
               named = k.named;

@@ -13,17 +13,14 @@ use Rattle.flow_turn.specs.Entries.{made_by, AreMade}
 
 -- 1 where the caller has a ticket, and else 0
 abbrev pub tickets_at : Stage → ℕ
-tickets_at Idle = 0
 tickets_at Waiting = 1
 tickets_at Serving = 1
-tickets_at Joined = 0
+tickets_at other = 0
 
 -- 0 where the pass was joined, and else 1
 abbrev pub living_at : Stage → ℕ
-living_at Idle = 1
-living_at Waiting = 1
-living_at Serving = 1
 living_at Joined = 0
+living_at other = 1
 
 abbrev pub tickets_of : {E F : Type 0} → View E F → ℕ
 tickets_of v = tickets_at v.stage
@@ -38,10 +35,9 @@ total f (x ∷ xs) = f x + total f xs
 
 -- a ticket that is drawn is served now or later, and who is served has seen the whole list
 abbrev pub Stands : {E : Type 0} → ℕ → ℕ → List E → ℕ → List E → Stage → Type 0
-Stands served drawn log ticket seen Idle = Unit {0}
 Stands served drawn log ticket seen Waiting = (served ≤ ticket) × (ticket < drawn)
 Stands served drawn log ticket seen Serving = (ticket ≡ served) × (seen ≡ log)
-Stands served drawn log ticket seen Joined = Unit {0}
+Stands served drawn log ticket seen other = Unit {0}
 
 -- What the caller with this number knows: two beginnings of the list, and which of its entries its own turns added and
 -- those of the passes joined into it
@@ -74,6 +70,10 @@ pub record IsOut {T E F : Type 0} (homes : List (maybe.Option (Option T))) (view
   pub there : get_elem? views seat ≡ some view
   pub served : view.stage ≡ Serving
 
+-- where the value is
+abbrev pub Place : {T E F : Type 0} → (T → List E) → (T → F) → F → List (maybe.Option (Option T)) → List E → List (View E F) → Type 0
+Place entries fixed part homes log views = IsHome entries fixed part homes log views ⊎ IsOut homes views
+
 -- The rule. A view's number is its place among the views, in the order in which passes were split
 pub record IsInTurns {T E F : Type 0} (entries : T → List E) (caller : E → ℕ) (fixed : T → F) (part : F) (s : State (Option T) (View E F)) : Type 0 where
   -- how many tickets were drawn, and how many served
@@ -82,7 +82,7 @@ pub record IsInTurns {T E F : Type 0} (entries : T → List E) (caller : E → �
   -- the one list
   pub log : List E
   pub words : s.words ≡ drawn % 2 ^ 64 ∷ served % 2 ^ 64 ∷ length log % 2 ^ 64 ∷ []
-  pub value : IsHome entries fixed part s.homes log s.views ⊎ IsOut s.homes s.views
+  pub value : Place entries fixed part s.homes log s.views
   pub tickets : served + total tickets_of s.views ≡ drawn
   -- the root counts the passes split, and those that were not joined
   pub root : (v : View E F) → get_elem? s.views 0 ≡ some v → (length s.views ≡ v.given + 1) × (total living_of s.views ≡ v.outs + 1)

@@ -11,6 +11,7 @@ use Rattle.std.proofs.lemmas.List.{get_or-map, length-map}
 use Rattle.std.proofs.lemmas.List.Elements.{All-get_or}
 use Rattle.std.proofs.lemmas.Slice.Eq.{bytes_eq-Decides}
 use Rattle.std.proofs.lemmas.Str.Parse.{digit_from_value, without_leading_plus_none}
+use Rattle.flow_model.specs.declared.limits.TheConstants.{GREATEST_SEED, GREATEST_SIZE, MOST_ENTRIES, MOST_WORKERS}
 use Rattle.clap.specs.Words.{Accepts, App, Rule, Text, app_of, args_of, found_of, groups_of, matched_of, one_text, read_as, reading_of, rule_of, without_minus}
 use Rattle.clap.specs.Words.{IsParsedFrom, IsSignedIn}
 use Rattle.clap.specs.Built.{NamesNoGroup}
@@ -224,8 +225,8 @@ module _ (old : Command) (app : app_of old ≡ flow_app) where
 
     pub numbers_found : HasNumbers (found_of m)
     numbers_found = record {
-      steps = number_at 1 1 1000000 (omega arith) refl (one_text (found_of m) (codes "steps")) refl;
-      workers = number_at 2 1 64 (omega arith) refl (one_text (found_of m) (codes "workers")) refl;
-      seed = number_at 3 0 65536 (omega arith) refl (one_text (found_of m) (codes "seed")) refl;
-      size = number_at 4 1 128 (omega arith) refl (one_text (found_of m) (codes "size")) refl;
+      steps = number_at 1 1 MOST_ENTRIES (omega arith) refl (one_text (found_of m) (codes "steps")) refl;
+      workers = number_at 2 1 MOST_WORKERS (omega arith) refl (one_text (found_of m) (codes "workers")) refl;
+      seed = number_at 3 0 GREATEST_SEED (omega arith) refl (one_text (found_of m) (codes "seed")) refl;
+      size = number_at 4 1 GREATEST_SIZE (omega arith) refl (one_text (found_of m) (codes "size")) refl;
     }

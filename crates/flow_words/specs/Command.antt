@@ -1,6 +1,7 @@
 -- The command that reads the words of a call, as data, and what it finds in them.
 use Rattle.std.specs.Prelude.{◌≡◌, ◌≤◌, ℕ, pos, List, [], ◌∷◌, Option, Some, None, IfSome, codes, true}
 use Rattle.std.specs.Str.Parse.{IsNumeral, digits_value, without_leading_plus}
+use Rattle.flow_model.specs.declared.limits.TheConstants.{GREATEST_SEED, GREATEST_SIZE, MOST_ENTRIES, MOST_WORKERS}
 use Rattle.clap.specs.Words.{App, Rule, Text, fault_of, found_of, matches_of, new_rule, one_text, rows_of}
 use Rattle.clap.specs.Simple.{new_shape}
 use Rattle.clap.specs.declared.builder.action.ArgAction.TheVariants.{Set}
@@ -25,10 +26,10 @@ number_rule name least greatest unused = record (new_rule name) {
 abbrev pub flow_rules : List Rule
 flow_rules =
     mode_rule
-    ∷ number_rule (codes "steps") 1 1000000 (codes "65536")
-    ∷ number_rule (codes "workers") 1 64 (codes "4")
-    ∷ number_rule (codes "seed") 0 65536 (codes "1")
-    ∷ number_rule (codes "size") 1 128 (codes "16")
+    ∷ number_rule (codes "steps") 1 MOST_ENTRIES (codes "65536")
+    ∷ number_rule (codes "workers") 1 MOST_WORKERS (codes "4")
+    ∷ number_rule (codes "seed") 0 GREATEST_SEED (codes "1")
+    ∷ number_rule (codes "size") 1 GREATEST_SIZE (codes "16")
     ∷ []
 
 abbrev pub flow_app : App
@@ -51,7 +52,7 @@ pub record IsBetween (least greatest : ℕ) (text : Text) : Type 0 where
 
 -- what was found for each option is a number in its bounds
 pub record HasNumbers (found : Found) : Type 0 where
-  pub steps : IfSome (one_text found (codes "steps")) (IsBetween 1 1000000)
-  pub workers : IfSome (one_text found (codes "workers")) (IsBetween 1 64)
-  pub seed : IfSome (one_text found (codes "seed")) (IsBetween 0 65536)
-  pub size : IfSome (one_text found (codes "size")) (IsBetween 1 128)
+  pub steps : IfSome (one_text found (codes "steps")) (IsBetween 1 MOST_ENTRIES)
+  pub workers : IfSome (one_text found (codes "workers")) (IsBetween 1 MOST_WORKERS)
+  pub seed : IfSome (one_text found (codes "seed")) (IsBetween 0 GREATEST_SEED)
+  pub size : IfSome (one_text found (codes "size")) (IsBetween 1 GREATEST_SIZE)

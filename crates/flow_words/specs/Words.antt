@@ -1,6 +1,7 @@
 -- What the words of a call ask for.
 use Rattle.std.specs.Prelude.{◌≡◌, ◌≤◌, ℕ, List, Some, codes}
 use Rattle.std.specs.Str.Parse.{digits_value, without_leading_plus}
+use Rattle.flow_model.specs.declared.limits.TheConstants.{GREATEST_SEED, GREATEST_SIZE, MOST_ENTRIES, MOST_WORKERS}
 use Rattle.clap.specs.Words.{Row, Text, first_of, matches_of, one_of}
 use Rattle.flow_words.specs.Command.{flow_app, IsRead}
 use Rattle.flow_words.specs.declared.request.Mode.{Mode}
@@ -40,12 +41,12 @@ IsNoCall words = (request : Request) → ¬ (IsCall words request)
 -- the numbers of a call
 pub record IsWithin (request : Request) : Type 0 where
   pub steps_some : 1 ≤ request.steps
-  pub steps_few : request.steps ≤ 1000000
+  pub steps_few : request.steps ≤ MOST_ENTRIES
   pub workers_some : 1 ≤ request.workers
-  pub workers_few : request.workers ≤ 64
-  pub seed : request.seed ≤ 65536
+  pub workers_few : request.workers ≤ MOST_WORKERS
+  pub seed : request.seed ≤ GREATEST_SEED
   pub size_some : 1 ≤ request.size
-  pub size_few : request.size ≤ 128
+  pub size_few : request.size ≤ GREATEST_SIZE
 
 -- words are a call for one request alone
 abbrev pub OneRequest : Type 0

@@ -4,6 +4,7 @@ ghost use Rattle.flow_words.specs.Command.{flow_app, mode_rule, number_rule};
 
 use clap::builder::ValueParser;
 use clap::{Arg, ArgAction, Command};
+use flow_model::{GREATEST_SEED, GREATEST_SIZE, MOST_ENTRIES, MOST_WORKERS};
 use std::alloc::{AllocError, Global};
 
 /// The command that reads the words of a call.
@@ -11,10 +12,10 @@ pub(crate) fn flow_command<'a>(alloc: Global) -> Result<Command<'a>, AllocError>
     ensures { IfOk result (λ command. app_of command ≡ flow_app) }
 {
     let command = Command::new(alloc, "flow").arg(mode_argument(alloc))?;
-    let command = with_number(alloc, command, "steps", 1, 1_000_000, "65536")?;
-    let command = with_number(alloc, command, "workers", 1, 64, "4")?;
-    let command = with_number(alloc, command, "seed", 0, 65_536, "1")?;
-    with_number(alloc, command, "size", 1, 128, "16")
+    let command = with_number(alloc, command, "steps", 1, MOST_ENTRIES, "65536")?;
+    let command = with_number(alloc, command, "workers", 1, MOST_WORKERS, "4")?;
+    let command = with_number(alloc, command, "seed", 0, GREATEST_SEED, "1")?;
+    with_number(alloc, command, "size", 1, GREATEST_SIZE, "16")
 }
 
 /// The one word that stands for itself.

@@ -2,7 +2,7 @@
 ghost use Rattle.std.specs.Prelude.{◌<◌, ◌-◌, ◌^◌};
 
 use flow_cli::{Status, flow};
-use flow_gate::NoteGate;
+use flow_crew::NoteGate;
 use flow_io::{MemSink, Sink, Source};
 use std::alloc::{AllocError, Global};
 use std::sync::Wait;

@@ -2,7 +2,7 @@
 ghost use Rattle.std.specs.Prelude.{true};
 
 use flow_cli::{Status, flow};
-use flow_gate::{Call, Gate, MeetGate, NoteGate, Outcome};
+use flow_crew::{Call, Gate, MeetGate, NoteGate, Outcome};
 use flow_io::{MemSink, MemSource};
 use std::alloc::{AllocError, Global};
 use std::sync::Wait;

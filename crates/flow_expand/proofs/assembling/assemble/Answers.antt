@@ -4,7 +4,7 @@ use Rattle.flow_rules.specs.Rule.{rules_of}
 use Rattle.flow_form.specs.Script.{said}
 use Rattle.flow_form.specs.RuleForm.{rule_shape_of}
 use Rattle.flow_expand.specs.Constraints.{constraint_of}
-use Rattle.flow_expand.proofs.NumberingLemmas.{parts_kept, rules_known, expanded}
+use Rattle.flow_expand.proofs.BuildLemmas.{parts_kept, rules_known, expanded}
 use Rattle.flow_expand.proofs.RulingLemmas.{constraints_of-shapes}
 use Rattle.flow_expand.proofs.assembling.assemble.Goals as goal
 

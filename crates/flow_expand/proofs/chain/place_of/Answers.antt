@@ -1,7 +1,10 @@
-use Rattle.std.proofs.Common.{sym, arith}
-use Rattle.flow_facts.proofs.Places.{not_in_first}
+use Rattle.std.proofs.Common.{◌<◌, arith, length}
+use Rattle.std.proofs.lemmas.Option.{slice_get_within, get_or_from_slice_get}
+use Rattle.flow_facts.proofs.Places.{place_of}
 use Rattle.flow_expand.proofs.chain.place_of.Goals as goal
 
-pub loop-place-preserved : goal.loop-place-preserved
-loop-place-preserved c =
-    not_in_first c.args.number 0 c.args.path.now c.loop-place.place (omega arith) c.loop-place.invariant (λ e. c.if-other-number.false (sym e))
+pub unreachable-requires : goal.unreachable-requires
+unreachable-requires c =
+    let (i, at) = place_of c.args.path.now c.args.number c.requires in
+    let within : i < length c.args.path.now = slice_get_within c.args.path.now i c.args.number at in
+    c.loop-place.invariant i (omega (arith, within)) (get_or_from_slice_get c.args.path.now i c.args.number 0 at)

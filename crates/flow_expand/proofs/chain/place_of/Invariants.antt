@@ -1,6 +1,5 @@
-use Rattle.std.proofs.Common.{take}
-use Rattle.flow_model.specs.Lists.{◌∈◌}
+use Rattle.std.proofs.Common.{◌≢◌, ℕ, ◌<◌, get_or}
 use Rattle.flow_expand.proofs.chain.place_of.Given as goal
 
 abbrev pub invariant-loop-place : goal.invariant-loop-place
-invariant-loop-place l = ¬ (l.number ∈ take l.place l.path)
+invariant-loop-place l = (k : ℕ) → k < l.place → get_or l.path k 0 ≢ l.number

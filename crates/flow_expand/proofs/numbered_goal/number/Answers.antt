@@ -8,7 +8,7 @@ use Rattle.flow_goal.specs.Goal.{process_of}
 use Rattle.flow_expand.specs.declared.building.Leaves.{Leaves}
 use Rattle.flow_expand.specs.Numbers.{firsts, declared_facts}
 use Rattle.flow_expand.proofs.Declarations.{distinct_events}
-use Rattle.flow_expand.proofs.NumberingLemmas.{IsStart, start_buildable, goal_few, numbered_goal}
+use Rattle.flow_expand.proofs.BuildLemmas.{IsStart, start_buildable, goal_few, numbered_goal}
 use Rattle.flow_expand.proofs.numbered_goal.number.Goals as goal
 
 -- before the goal is built

@@ -11,8 +11,8 @@ use Rattle.flow_expand.specs.Directory.{decls_of}
 use Rattle.flow_expand.specs.Laid.{IsReady}
 use Rattle.flow_expand.specs.Waiting.{IsFound}
 use Rattle.flow_expand.specs.Refusals.{rule_name_count}
-use Rattle.flow_expand.proofs.Declarations.{goal_declared}
-use Rattle.flow_expand.proofs.PrepareLemmas.{names_in_all, all_ready, found_refusal, err_to, goal_refusal, rules_refusal, prepared}
+use Rattle.flow_expand.proofs.Declarations.{goal_declared, names_in_all}
+use Rattle.flow_expand.proofs.PrepareLemmas.{all_ready, found_refusal, err_to, goal_refusal, rules_refusal, prepared}
 use Rattle.flow_expand.proofs.preparing.lay_goal.Goals as goal
 
 pub returns-in_err-settle_all-clause-refused : goal.returns-in_err-settle_all-clause-refused

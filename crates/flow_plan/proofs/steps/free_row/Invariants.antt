@@ -1,6 +1,11 @@
+use Rattle.std.proofs.Common.{ℕ, List, take}
+use Rattle.flow_model.specs.Lists.{◌∈◌}
+use Rattle.flow_model.specs.Process.{Process}
+use Rattle.flow_model.specs.Ready.{DirectlyBefore}
 use Rattle.flow_plan.specs.Progress.{IsDone}
-use Rattle.flow_plan.specs.Rows.{IsRowOf, IsUnblockedAt}
+use Rattle.flow_plan.specs.Rows.{IsRowOf, AreRowsOf, IsFree}
 use Rattle.flow_plan.proofs.steps.free_row.Given as goal
 
 abbrev pub invariant-loop-place : goal.invariant-loop-place
-invariant-loop-place l = IsRowOf (IsUnblockedAt l.leaves l.before l.place (IsDone l.done)) l.row
+invariant-loop-place l = (q : Process) (pairs : List (ℕ × ℕ)) → AreRowsOf (DirectlyBefore q pairs) l.leaves l.before →
+    IsRowOf (λ n. (n ∈ take l.place l.leaves) × IsFree (DirectlyBefore q pairs) (IsDone l.done) n) l.row

@@ -3,14 +3,7 @@ use Rattle.std.proofs.lemmas.List.{drop_more}
 use Rattle.flow_goal.specs.declared.node.Node.{Node}
 use Rattle.flow_goal.specs.declared.node.Node.TheVariants.{Nop}
 use Rattle.flow_sample.specs.ItemMarks.{Gathers}
-use Rattle.flow_sample.proofs.GatheringLemmas.{begun_items}
 use Rattle.flow_sample.proofs.items.items_of_plan.Goals as goal
-
-pub loop-node-init : goal.loop-node-init
-loop-node-init c =
-    let new = c.new-gathering.ensures in
-    begun_items c.args.plan.now c.nodes-node-items.result.now c.new-gathering.result c.tokens-tokens.ensures.ordered
-    c.nodes-node-items.ensures.nodes c.leaves-leaves.ensures.listed new.place new.items new.outer
 
 pub read-requires : goal.read-requires
 read-requires c =

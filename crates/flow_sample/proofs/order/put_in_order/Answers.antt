@@ -1,4 +1,4 @@
-use Rattle.std.proofs.Common.{◌<◌, ℕ, List, subst, sym, inl, inr, refl, ⊎_elim}
+use Rattle.std.proofs.Common.{◌<◌, ◌+◌, ℕ, List, take, ap, subst, sym, inl, inr, refl, ⊎_elim}
 use Rattle.flow_model.specs.Lists.{◌∈◌}
 use Rattle.flow_sample.proofs.RingLemmas.{ring_at}
 use Rattle.flow_sample.proofs.OrderLemmas.{top_of, rest_of, grown, path_on, path_back, fewer_on, fewer_back, start_on, holds_on, IsPath, steps}
@@ -21,11 +21,11 @@ loop-top-smaller-in-None c =
     let i = c.loop-top.invariant in
     let t = top_of c.loop-top.path.items c.deref.result.now c.in-Some.top (_) c.copied.result c.deref.ensures.value c.first.ensures.value c.copied.ensures c.in-Some.is in
     let here = subst (λ (z : List ℕ). c.in-Some.top ∈ z) (sym t.1) (inl refl) in
-    let more = grown c.args.items.now c.requires.apart c.loop-top.left c.take_out.new.left c.loop-top.order.items c.push-in-None.new.self.items c.in-Some.top i.arranged
+    let more = grown c.args.items.now c.requires.apart c.loop-top.left c.take_out.new.left c.loop-top.order.items c.push.new.self.items c.in-Some.top i.arranged
     (i.path.within c.in-Some.top here) (i.path.fresh c.in-Some.top here) c.in-None.ensures c.take_out.ensures c.in_ok-push-in-None.ensures.items in
-    subst (λ (z : List ℕ). steps c.args.items.now c.push-in-None.new.self.items z < steps c.args.items.now c.loop-top.order.items c.loop-top.path.items)
+    subst (λ (z : List ℕ). steps c.args.items.now c.push.new.self.items z < steps c.args.items.now c.loop-top.order.items c.loop-top.path.items)
     (sym (rest_of c.loop-top.path.items c.remove.new.self.items c.in-Some.top t.0 t.1 c.remove.ensures.items))
-    (fewer_back c.args.items.now c.requires.apart c.take_out.new.left c.loop-top.order.items c.push-in-None.new.self.items c.loop-top.path.items c.in-Some.top t.0 t.1 i.path
+    (fewer_back c.args.items.now c.requires.apart c.take_out.new.left c.loop-top.order.items c.push.new.self.items c.loop-top.path.items c.in-Some.top t.0 t.1 i.path
     c.in_ok-push-in-None.ensures.items more)
 
 pub loop-top-preserved-in-None : goal.loop-top-preserved-in-None
@@ -35,24 +35,24 @@ loop-top-preserved-in-None c =
     let here = subst (λ (z : List ℕ). c.in-Some.top ∈ z) (sym t.1) (inl refl) in
     let rest = rest_of c.loop-top.path.items c.remove.new.self.items c.in-Some.top t.0 t.1 c.remove.ensures.items in
     record {
-      arranged = grown c.args.items.now c.requires.apart c.loop-top.left c.take_out.new.left c.loop-top.order.items c.push-in-None.new.self.items c.in-Some.top i.arranged
+      arranged = grown c.args.items.now c.requires.apart c.loop-top.left c.take_out.new.left c.loop-top.order.items c.push.new.self.items c.in-Some.top i.arranged
           (i.path.within c.in-Some.top here) (i.path.fresh c.in-Some.top here) c.in-None.ensures c.take_out.ensures c.in_ok-push-in-None.ensures.items;
-      path = subst (IsPath c.args.items.now c.push-in-None.new.self.items) (sym rest)
-          (path_back c.args.items.now c.requires.apart c.loop-top.order.items c.push-in-None.new.self.items c.loop-top.path.items c.in-Some.top t.0 t.1 i.path
+      path = subst (IsPath c.args.items.now c.push.new.self.items) (sym rest)
+          (path_back c.args.items.now c.requires.apart c.loop-top.order.items c.push.new.self.items c.loop-top.path.items c.in-Some.top t.0 t.1 i.path
           c.in_ok-push-in-None.ensures.items);
       start = ⊎_elim inl (λ m. inr (subst (λ (z : List ℕ). c.args.start ∈ z) (sym rest) m))
-          (start_on c.args.start c.loop-top.order.items c.push-in-None.new.self.items c.loop-top.path.items c.in-Some.top t.0 t.1 c.in_ok-push-in-None.ensures.items i.start);
-      kept = holds_on c.args.order.now.items c.loop-top.order.items c.push-in-None.new.self.items c.in-Some.top c.in_ok-push-in-None.ensures.items i.kept;
+          (start_on c.args.start c.loop-top.order.items c.push.new.self.items c.loop-top.path.items c.in-Some.top t.0 t.1 c.in_ok-push-in-None.ensures.items i.start);
+      kept = holds_on c.args.order.now.items c.loop-top.order.items c.push.new.self.items c.in-Some.top c.in_ok-push-in-None.ensures.items i.kept;
     }
 
-pub returns-in-Some-place_in_path : goal.returns-in-Some-place_in_path
-returns-in-Some-place_in_path c =
+pub refusal_of-requires : goal.refusal_of-requires
+refusal_of-requires c =
     let i = c.loop-top.invariant in
     let t = top_of c.loop-top.path.items c.deref.result.now c.in-Some.top (_) c.copied.result c.deref.ensures.value c.first.ensures.value c.copied.ensures c.in-Some.is in
     let b = c.in-Some-blocker.ensures in
-    ring_at c.args.items.now c.loop-top.path.items c.deref-in-Some-blocker.result.now c.truncate.new.self.items c.in-Some.top t.0 c.in-Some-place_in_path.place
-    c.in-Some-blocker.next t.1 i.path.distinct i.path.trail c.deref-in-Some-blocker.ensures.value c.in-Some-place_in_path.ensures.0 c.in-Some-place_in_path.ensures.1
-    (b.0, b.1, b.2) c.truncate.ensures.items
+    ring_at c.args.items.now c.loop-top.path.items c.deref-in-Some-blocker.result.now (take (c.in-Some-place_in_path.place + 1) c.deref-in-Some-place_in_path.result.now) c.in-Some.top t.0
+    c.in-Some-place_in_path.place c.in-Some-blocker.next t.1 i.path.distinct i.path.trail c.deref-in-Some-blocker.ensures.value c.in-Some-place_in_path.ensures.0 c.in-Some-place_in_path.ensures.1
+    (b.0, b.1, b.2) (ap (take (c.in-Some-place_in_path.place + 1)) c.deref-in-Some-place_in_path.ensures.value)
 
 pub loop-top-smaller : goal.loop-top-smaller
 loop-top-smaller c =

@@ -2,9 +2,9 @@ use Rattle.std.proofs.Common.{◌<◌, ◌+◌, ℕ, subst, sym, ◌∙◌, ap, 
 use Rattle.flow_model.specs.Lists.{◌∈◌}
 use Rattle.flow_sample.specs.Rows.{runs}
 use Rattle.flow_sample.specs.Arranged.{IsArranged}
-use Rattle.flow_sample.proofs.OrderLemmas.{begun, left_out, not_left, whole_order, each_within, ring_within, passed_more, seen_in, in_seen, not_true}
+use Rattle.flow_sample.proofs.OrderLemmas.{begun, left_out, not_left, whole_order, each_within, passed_more, seen_in, in_seen, not_true}
 use Rattle.flow_sample.proofs.order.run_of.Goals as goal
-use Rattle.flow_sample.proofs.order.run_of.Goals.{then-meets+in_ok-put_in_order+in-None, else-meets}
+use Rattle.flow_sample.proofs.order.run_of.Goals.{then-meets+in_ok-put_in_order, else-meets}
 
 pub loop-start-init : goal.loop-start-init
 loop-start-init c = record {
@@ -18,21 +18,16 @@ put_in_order-requires-clause-fresh c =
     left_out c.args.items.now c.requires c.loop-start.left c.loop-start.order.items c.loop-start.start m.0 c.loop-start.invariant.arranged
     (seen_in c.args.items.now c.loop-start.start m.0 c.index-items-start.result c.loop-start-test.true c.index-items-start.is m.1) m.2
 
-pub circle_of-requires-clause-within : goal.circle_of-requires-clause-within
-circle_of-requires-clause-within c =
-    let r = rw c.in-Some.is at c.in_ok-put_in_order.ensures in
-    each_within c.args.items.now c.in-Some.ring.items c.deref.result.now c.deref.ensures.value (ring_within c.args.items.now c.in-Some.ring.items r.cycle)
-
 pub joined_runs-requires : goal.joined_runs-requires
 joined_runs-requires c =
-    each_within c.args.items.now c.loop-start.order.items c.deref-2.result.now c.deref-2.ensures.value c.loop-start.invariant.arranged.within
+    each_within c.args.items.now c.loop-start.order.items c.deref.result.now c.deref.ensures.value c.loop-start.invariant.arranged.within
 
 pub loop-start-preserved : goal.loop-start-preserved
 loop-start-preserved c =
     let i = c.loop-start.invariant in
     elim c.if-meets.branch [
-      | then-meets+in_ok-put_in_order+in-None w ↦
-          let r = rw w.in-None.is at w.in_ok-put_in_order.ensures in
+      | then-meets+in_ok-put_in_order w ↦
+          let r = w.in_ok-put_in_order.ensures in
           record {
             arranged = subst (λ z. IsArranged c.args.items.now z c.if-meets.order.items) (sym w.left-is)
                 (subst (λ z. IsArranged c.args.items.now w.put_in_order.new.left z.items) (sym w.order-is) r.0);
@@ -56,5 +51,5 @@ returns-clause-ok c =
     let i = c.loop-start.invariant in (
       c.loop-start.order.items,
       whole_order c.args.items.now c.requires c.loop-start.left c.loop-start.order.items i.arranged (λ n l. i.passed n (omega (arith, c.loop-start-test.false))),
-      c.in_ok-joined_runs.ensures ∙ ap (runs c.args.items.now) c.deref-2.ensures.value,
+      c.in_ok-joined_runs.ensures ∙ ap (runs c.args.items.now) c.deref.ensures.value,
     )

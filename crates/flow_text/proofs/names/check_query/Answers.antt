@@ -1,9 +1,9 @@
-use Rattle.std.proofs.Common.{ap, sym, ◌∙◌, subst, refl, ◌≡◌, map}
+use Rattle.std.proofs.Common.{ap, sym, ◌∙◌, subst, ◌≡◌, map}
 use Rattle.std.specs.Prelude.{Some}
 use Rattle.flow_form.specs.Script.{said, asked, declared}
 use Rattle.flow_text.specs.ListedNames.{roles_of}
 use Rattle.flow_text.specs.KnownNames.{KnowsThose}
-use Rattle.flow_text.proofs.FirstNames.{query_unknown, query_good, unknown_among}
+use Rattle.flow_text.proofs.FirstNames.{query_unknown, query_good}
 use Rattle.flow_text.proofs.names.check_query.Goals as goal
 
 pub returns-in-Some-clause-unknown : goal.returns-in-Some-clause-unknown
@@ -12,11 +12,11 @@ returns-in-Some-clause-unknown c = λ k e.
     query_unknown (asked c.args.query.now) (said c.args.script.now) c.in_ok-known.known (roles_of c.deref-2.result.now) k
     (ap roles_of c.deref-2.ensures.value ∙ c.in_ok-list.ensures)
     (subst (λ z. KnowsThose (map declared z) c.in_ok-known.known) c.deref.ensures.value c.in_ok-known.ensures)
-    (unknown_among c.in_ok-known.known c.deref-2.result.now c.deref-2.result.now refl ∙ sym c.first_unknown.ensures ∙ c.in-Some.is ∙ ap Some same)
+    (sym c.first_unknown.ensures ∙ c.in-Some.is ∙ ap Some same)
 
 pub returns-clause-ok : goal.returns-clause-ok
 returns-clause-ok c =
     query_good (asked c.args.query.now) (said c.args.script.now) c.in_ok-known.known (roles_of c.deref-2.result.now)
     (ap roles_of c.deref-2.ensures.value ∙ c.in_ok-list.ensures)
     (subst (λ z. KnowsThose (map declared z) c.in_ok-known.known) c.deref.ensures.value c.in_ok-known.ensures)
-    (unknown_among c.in_ok-known.known c.deref-2.result.now c.deref-2.result.now refl ∙ sym c.first_unknown.ensures ∙ c.in-None.is)
+    (sym c.first_unknown.ensures ∙ c.in-None.is)

@@ -1,9 +1,10 @@
 use Rattle.std.proofs.Common.{ap, sym, ◌∙◌, subst, ◌≡◌, map}
 use Rattle.std.specs.Prelude.{Some}
+use Rattle.std.specs.List.{position_from}
 use Rattle.flow_form.specs.Script.{said, declared}
 use Rattle.flow_text.specs.ListedNames.{roles_of}
 use Rattle.flow_text.specs.KnownNames.{KnowsThose}
-use Rattle.flow_text.proofs.FirstNames.{found_repeated, script_repeated, script_unknown, script_good, unknown_among, none_of}
+use Rattle.flow_text.proofs.FirstNames.{found_repeated, script_repeated, script_unknown, script_good, is_other, none_of}
 use Rattle.flow_text.proofs.names.check_script.Goals as goal
 
 pub returns-in-Some-clause-repeated : goal.returns-in-Some-clause-repeated
@@ -18,12 +19,12 @@ returns-in-Some-first_unknown-clause-unknown c = λ k e.
     script_unknown (said c.args.script.now) c.in_ok-known.known (roles_of c.in_ok-list.list.items) k c.in_ok-list.ensures
     (subst (λ z. KnowsThose (map declared z) c.in_ok-known.known) c.deref.ensures.value c.in_ok-known.ensures)
     (ap (λ z. found_repeated c.in_ok-known.known (roles_of z)) (sym c.deref-2.ensures.value) ∙ sym c.in_ok-index.ensures ∙ none_of c.in_ok-index.field-0 c.in_default.not-Some)
-    (unknown_among c.in_ok-known.known c.in_ok-list.list.items c.deref-3.result.now c.deref-3.ensures.value ∙ sym c.first_unknown.ensures ∙ c.in-Some-first_unknown.is ∙ ap Some same)
+    (ap (λ z. position_from (is_other c.in_ok-known.known) 0 (roles_of z)) (sym c.deref-3.ensures.value) ∙ sym c.first_unknown.ensures ∙ c.in-Some-first_unknown.is ∙ ap Some same)
 
 pub returns-clause-ok : goal.returns-clause-ok
 returns-clause-ok c =
     script_good (said c.args.script.now) c.in_ok-known.known (roles_of c.in_ok-list.list.items) c.in_ok-list.ensures
     (subst (λ z. KnowsThose (map declared z) c.in_ok-known.known) c.deref.ensures.value c.in_ok-known.ensures)
     (ap (λ z. found_repeated c.in_ok-known.known (roles_of z)) (sym c.deref-2.ensures.value) ∙ sym c.in_ok-index.ensures ∙ none_of c.in_ok-index.field-0 c.in_default.not-Some)
-    (unknown_among c.in_ok-known.known c.in_ok-list.list.items c.deref-3.result.now c.deref-3.ensures.value
+    (ap (λ z. position_from (is_other c.in_ok-known.known) 0 (roles_of z)) (sym c.deref-3.ensures.value)
     ∙ sym c.first_unknown.ensures ∙ none_of c.first_unknown.result c.in_default-first_unknown.not-Some)

@@ -1,6 +1,5 @@
 use Rattle.std.proofs.Common.{ap, sym, refl, ◌∙◌}
 use Rattle.std.specs.Prelude.{is_some}
-use Rattle.std.proofs.lemmas.Map.Text.{btree_map_updates_str}
 use Rattle.flow_text.specs.ListedNames.{role_of}
 use Rattle.flow_text.specs.KnownNames.{has, is_again, after}
 use Rattle.flow_text.proofs.KnownNames.{given}
@@ -8,11 +7,10 @@ use Rattle.flow_text.proofs.names.is_again.Goals as goal
 
 pub returns-in_ok-insert-in-Declares-clause-again : goal.returns-in_ok-insert-in-Declares-clause-again
 returns-in_ok-insert-in-Declares-clause-again c =
-    c.is_some.ensures ∙ ap is_some c.in_ok-insert-in-Declares.ensures.old ∙ ap (has c.args.names.now) c.bytes.ensures
+    c.is_some.ensures ∙ ap is_some c.in_ok-insert-in-Declares.ensures.old
     ∙ ap (λ r. is_again (has c.args.names.now) (role_of r)) (sym c.in-Declares.is)
 
 pub returns-in_ok-insert-in-Declares-clause-names : goal.returns-in_ok-insert-in-Declares-clause-names
 returns-in_ok-insert-in-Declares-clause-names c =
-    given is_some c.args.names.now c.insert.new.self c.bytes.result.now c.in-Declares.name.now tt refl c.bytes.ensures
-    (btree_map_updates_str c.bytes.result.now c.args.names.now c.insert.new.self _ c.in_ok-insert-in-Declares.ensures.updates)
+    given is_some c.args.names.now c.insert.new.self c.in-Declares.name.now tt refl c.in_ok-insert-in-Declares.ensures.updates
     ∙ ap (λ r. after (has c.args.names.now) (role_of r)) (sym c.in-Declares.is)

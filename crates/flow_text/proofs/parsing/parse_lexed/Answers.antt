@@ -13,14 +13,14 @@ returns-in_err-script-clause-refused c =
 pub check_names-requires : goal.check_names-requires
 check_names-requires c = derived scripts_are_read c.lexed.view_is c.deref.ensures.value (said c.in_ok-script.script) c.in_ok-script.ensures.ok
 
-pub returns-clause-ok : goal.returns-clause-ok
-returns-clause-ok c = record {
+pub returns-in-Ok-clause-ok : goal.returns-in-Ok-clause-ok
+returns-in-Ok-clause-ok c = record {
   writes = written scripts_are_read c.lexed.view_is c.deref.ensures.value (said c.in_ok-script.script) c.lexed.invariant c.in_ok-script.ensures.ok;
   named = search rules;
 }
 
-pub returns-clause-closed : goal.returns-clause-closed
-returns-clause-closed c =
+pub returns-in-Ok-clause-closed : goal.returns-in-Ok-clause-closed
+returns-in-Ok-clause-closed c =
     is_closed c.args.lexed.now.text c.args.lexed.now.tokens (said c.in_ok-script.script)
     (lexed_of c.lexed.view_is c.lexed.invariant).spans
     (derived scripts_are_read c.lexed.view_is c.deref.ensures.value (said c.in_ok-script.script) c.in_ok-script.ensures.ok) (search rules)

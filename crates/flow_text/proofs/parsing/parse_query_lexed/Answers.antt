@@ -13,8 +13,8 @@ returns-in_err-query-clause-refused c =
 pub check_query_names-requires : goal.check_query_names-requires
 check_query_names-requires c = derived queries_are_read c.lexed.view_is c.deref.ensures.value (asked c.in_ok-query.query) c.in_ok-query.ensures.ok
 
-pub returns-clause-ok : goal.returns-clause-ok
-returns-clause-ok c = record {
+pub returns-in-Ok-clause-ok : goal.returns-in-Ok-clause-ok
+returns-in-Ok-clause-ok c = record {
   writes = written queries_are_read c.lexed.view_is c.deref.ensures.value (asked c.in_ok-query.query) c.lexed.invariant c.in_ok-query.ensures.ok;
   of_events = search rules;
 }

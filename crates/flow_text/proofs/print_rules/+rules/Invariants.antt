@@ -1,11 +1,10 @@
 use Rattle.std.proofs.Common.{◌≡◌, ◌++◌, drop, map}
 use Rattle.flow_form.specs.RuleForm.{rule_shape_of, rule_shapes}
 use Rattle.flow_text.specs.Joins.{word_of, parted_rule}
-use Rattle.flow_text.specs.Printed.{rules_text, more_rules}
-use Rattle.flow_text.proofs.PrintedMembers.{left}
+use Rattle.flow_text.specs.Printed.{more_rules}
 use Rattle.flow_text.proofs.print_rules.+rules.Given as goal
 
 abbrev pub invariant-push_list-loop-member : goal.invariant-push_list-loop-member
 invariant-push_list-loop-member l =
-    l.text.items ++ left (rules_text (word_of l.linking) (parted_rule l.linking)) (more_rules (word_of l.linking) (parted_rule l.linking)) l.is_first (rule_shapes (map rule_shape_of (drop l.member-index l.members)))
-    ≡ l.initial.text.items ++ rules_text (word_of l.linking) (parted_rule l.linking) (rule_shapes (map rule_shape_of l.members))
+    l.text.items ++ more_rules (word_of l.linking) (parted_rule l.linking) (rule_shapes (map rule_shape_of (drop l.member-index l.rest)))
+    ≡ l.initial.text.items ++ more_rules (word_of l.linking) (parted_rule l.linking) (rule_shapes (map rule_shape_of l.rest))

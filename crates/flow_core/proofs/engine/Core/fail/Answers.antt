@@ -4,10 +4,10 @@ use Rattle.flow_model.specs.declared.history.Step.TheVariants.{Failed}
 use Rattle.flow_model.specs.Lists.{◌∈◌}
 use Rattle.flow_model.specs.Run.{leaf_of_claim, IsFree}
 use Rattle.flow_residual.specs.Remaining.{IsAvoidable}
+use Rattle.flow_laws.proofs.ClaimLemmas.{leaf_of_claim_is}
 use Rattle.flow_residual.specs.declared.given.Given.{Given}
 use Rattle.flow_core.specs.Run.{Run, schema, now, with_entry}
 use Rattle.flow_core.specs.Standing.{IsGiven}
-use Rattle.flow_core.proofs.Tests.{leaf_is}
 use Rattle.flow_core.proofs.Standings.{needed}
 use Rattle.flow_core.proofs.engine.Core.fail.Goals as goal
 
@@ -15,7 +15,7 @@ use Rattle.flow_core.proofs.engine.Core.fail.Goals as goal
 is_needed : (r r' : Run) (claim : ℕ) (given : Given) → IsGiven r claim given → r' ≡ r → (b : Bool) → IsTrue b ↔ IsAvoidable (schema r') (now r') given.leaf → b ≡ false →
     (t : List ℕ) → IsFree (schema r') (now r') t → leaf_of_claim (now r') claim ∈ t
 is_needed r r' claim given g same b says none t free =
-    let on : leaf_of_claim (now r') claim ≡ given.leaf = ap (λ (r : Run). leaf_of_claim (now r) claim) same ∙ leaf_is (now r) claim given g.claim in
+    let on : leaf_of_claim (now r') claim ≡ given.leaf = ap (λ (r : Run). leaf_of_claim (now r) claim) same ∙ leaf_of_claim_is (now r) claim _ g.claim in
     subst (λ n. n ∈ t) (sym on) (needed (schema r') (now r') given.leaf (λ a. true≢false (sym (says.1 a) ∙ none)) t free)
 
 pub record_kept-requires-clause-needed : goal.record_kept-requires-clause-needed
@@ -25,11 +25,7 @@ record_kept-requires-clause-needed c =
 
 pub returns-else-can_avoid : goal.returns-else-can_avoid
 returns-else-can_avoid c =
-    let h = c.in_ok-given.ensures in (
-      h.0,
-      h.1,
-      h.2,
-      subst (λ (r : Run). (t : List ℕ) → IsFree (schema r) (now r) t → leaf_of_claim (now r) c.args.claim ∈ t) h.4
-          (is_needed c.args.self.now c.standing.new.self c.args.claim c.in_ok-given.given h.3 h.4 c.can_avoid.result c.can_avoid.ensures c.if-can_avoid.false),
-      c.record_kept.ensures ∙ ap (λ (r : Run). with_entry r c.args.by (Failed c.args.claim effects.Kept)) h.4,
-    )
+    let h = c.in_ok-given.ensures in
+    let needed = subst (λ (r : Run). (t : List ℕ) → IsFree (schema r) (now r) t → leaf_of_claim (now r) c.args.claim ∈ t) h.4
+    (is_needed c.args.self.now c.standing.new.self c.args.claim c.in_ok-given.given h.3 h.4 c.can_avoid.result c.can_avoid.ensures c.if-can_avoid.false) in
+    (h.0, h.1, h.2, needed, c.record_kept.ensures ∙ ap (λ (r : Run). with_entry r c.args.by (Failed c.args.claim effects.Kept)) h.4)

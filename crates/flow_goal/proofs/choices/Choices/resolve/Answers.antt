@@ -1,10 +1,19 @@
-use Rattle.std.proofs.Common.{sym, subst}
-use Rattle.flow_model.specs.Process.{Process, IsNumbered}
-use Rattle.flow_goal.specs.Goal.{process_of}
-use Rattle.flow_goal.proofs.Rising.{increasing_at}
+use Rattle.std.proofs.Common.{◌∙◌, Some, ap, sym, subst}
+use Rattle.std.specs.List.Sorted.{IsStrictlyIncreasing}
+use Rattle.flow_goal.proofs.Rising.{choice_free_at, increasing_at}
 use Rattle.flow_goal.proofs.choices.Choices.resolve.Goals as goal
 
-pub resolved-requires-clause-rising : goal.resolved-requires-clause-rising
-resolved-requires-clause-rising c = λ q at.
-    increasing_at (process_of c.goal.result.now) q c.args.number c.leaves-leaves.result
-    (subst (λ (g : Process). IsNumbered g c.leaves-leaves.result) (sym c.goal.ensures) c.leaves-leaves.ensures.numbered) at
+pub new-requires-clause-written : goal.new-requires-clause-written
+new-requires-clause-written c =
+    let q = c.in_ok-out.ensures c.args.tree.now.process c.requires.choices.listed in
+    (q.0, choice_free_at c.args.tree.now.process q.0 c.args.number q.1, q.2, q.3)
+
+pub new-requires-clause-rising : goal.new-requires-clause-rising
+new-requires-clause-rising c =
+    let q = c.in_ok-out.ensures c.args.tree.now.process c.requires.choices.listed in
+    subst IsStrictlyIncreasing (sym q.3) (increasing_at c.args.tree.now.process q.0 c.args.number c.leaves-room.result c.leaves-room.ensures.numbered q.1)
+
+pub returns-clause-resolution : goal.returns-clause-resolution
+returns-clause-resolution c =
+    let q = c.in_ok-out.ensures c.args.tree.now.process c.requires.choices.listed in
+    q.1 ∙ ap Some (sym (c.new.ensures.process q.0 (choice_free_at c.args.tree.now.process q.0 c.args.number q.1) q.2 q.3))

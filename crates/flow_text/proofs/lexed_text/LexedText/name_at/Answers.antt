@@ -1,5 +1,5 @@
 use Rattle.std.proofs.Common.{rules}
-use Rattle.flow_text.proofs.NamesLeft.{left_within}
+use Rattle.flow_text.proofs.Parsed.{left_within}
 use Rattle.flow_text.proofs.lexed_text.LexedText.name_at.Goals as goal
 
 pub symbol_of-requires-clause-within : goal.symbol_of-requires-clause-within

@@ -8,12 +8,8 @@ unwrap-value-requires g c =
     c.close_with-closed.ensures.values.2 c.take.ensures.value in
     let is = end.1 in search rules
 
-pub returns-clause-found : goal.returns-clause-found
-returns-clause-found g c =
-    (closes_as g.T.Kept.entries g.T.Kept.caller g.T.Kept.fixed _ c.into_seat.result c.args.root _ _ c.take.result c.unwrap-value.result c.into_seat.ensures.rest c.into_seat.ensures.known c.requires.root.0 c.requires.root.1
-    c.close_with-closed.ensures.values.2 c.take.ensures.value c.unwrap-value.ensures).0
-
-pub returns-clause-callers : goal.returns-clause-callers
-returns-clause-callers g c =
-    (closes_as g.T.Kept.entries g.T.Kept.caller g.T.Kept.fixed _ c.into_seat.result c.args.root _ _ c.take.result c.unwrap-value.result c.into_seat.ensures.rest c.into_seat.ensures.known c.requires.root.0 c.requires.root.1
-    c.close_with-closed.ensures.values.2 c.take.ensures.value c.unwrap-value.ensures).1
+pub returns : goal.returns
+returns g c =
+    let end = closes_as g.T.Kept.entries g.T.Kept.caller g.T.Kept.fixed _ c.into_seat.result c.args.root _ _ c.take.result c.into_seat.ensures.rest c.into_seat.ensures.known c.requires.root.0 c.requires.root.1
+    c.close_with-closed.ensures.values.2 c.take.ensures.value c.unwrap-value.result c.unwrap-value.ensures in
+    record { found = end.0; callers = end.1 }

@@ -1,0 +1,62 @@
+-- The resolutions of a goal as texts, of which what they have in common is written once.
+use Rattle.std.specs.Prelude.{◌≡◌, ◌+◌, ◌*◌, ℕ, List, [], ◌∷◌, ◌++◌, length, map, Some, slice_get}
+use Rattle.flow_model.specs.Lists.{each_with_each}
+use Rattle.flow_model.specs.Process.{Process}
+use Rattle.flow_model.specs.Process as process
+use Rattle.flow_model.specs.Resolution.{resolutions}
+use Rattle.flow_goal.specs.declared.node.Node.{Node}
+use Rattle.flow_goal.specs.declared.text.Text.{Text}
+use Rattle.flow_goal.specs.declared.pattern.Pattern.{Pattern, Fixed, Both', Either'}
+use Rattle.flow_goal.specs.declared.draft.Draft.{Draft}
+use Rattle.flow_goal.specs.Capped.{capped}
+use Rattle.flow_goal.specs.Written.{nodes_of}
+
+-- marks, and leaves
+pub record Line : Type 0 where
+  pub nodes : List Node
+  pub leaves : List ℕ
+
+abbrev pub nothing : Line
+nothing = record { nodes = []; leaves = [] }
+
+-- the one, and then the other
+abbrev pub then : Line → Line → Line
+then s t = record { nodes = s.nodes ++ t.nodes; leaves = s.leaves ++ t.leaves }
+
+-- the line of a goal without choices
+abbrev pub line : Process → Line
+line q = record { nodes = nodes_of q; leaves = process.leaves q }
+
+-- those of the resolutions of a goal
+abbrev pub lines_in : Process → List Line
+lines_in g = map line (resolutions g)
+
+abbrev pub line_of : Text → Line
+line_of text = record { nodes = text.nodes.items; leaves = text.leaves.items }
+
+abbrev pub lines_of : Pattern → List Line
+lines_of (Fixed text) = line_of text ∷ []
+lines_of (Both' count p a q b) = each_with_each then (lines_of a) (lines_of b)
+lines_of (Either' count p a q b) = lines_of a ++ lines_of b
+
+-- the numbers that the pattern keeps are right
+abbrev pub IsCounted : Pattern → Type 0
+IsCounted (Fixed text) = Unit {0}
+IsCounted (Both' count p a q b) = (count ≡ capped (length (lines_of a) * length (lines_of b))) × IsCounted a × IsCounted b
+IsCounted (Either' count p a q b) = (count ≡ capped (length (lines_of a) + length (lines_of b))) × IsCounted a × IsCounted b
+
+-- the line of that number was put behind what was written
+abbrev pub Writes : List Line → ℕ → Text → Text → Type 0
+Writes lines number old new = (l : Line) × (slice_get lines number ≡ Some l) × (line_of new ≡ then (line_of old) l)
+
+abbrev pub drafted : Draft → List Line
+drafted d = each_with_each then (lines_of d.before) (line_of d.last ∷ [])
+
+-- each of the lines was put behind what was drafted
+pub record Lays (lines : List Line) (old new : Draft) : Type 0 where
+  pub counted : IsCounted old.before → IsCounted new.before
+  pub laid : drafted new ≡ each_with_each then (drafted old) lines
+
+-- it is the resolution of that number
+abbrev pub IsLineOf : Process → ℕ → Text → Type 0
+IsLineOf g number text = (q : Process) × (slice_get (resolutions g) number ≡ Some q) × (text.nodes.items ≡ nodes_of q) × (text.leaves.items ≡ process.leaves q)

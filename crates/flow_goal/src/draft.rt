@@ -1,0 +1,159 @@
+ghost use Rattle.std.specs.Prelude.{◌≡◌, ◌∷◌, [], ◌++◌, IfOk, OnOk};
+ghost use Rattle.flow_model.specs.Lists.{each_with_each};
+ghost use Rattle.flow_goal.specs.declared.node.Node.TheVariants.{Leaf};
+ghost use Rattle.flow_goal.specs.Goal.{process_of};
+ghost use Rattle.flow_goal.specs.Patterns.{IsCounted, Lays, drafted, line_of, lines_in, lines_of, nothing, then};
+
+use crate::goal::Goal;
+use crate::node::Node;
+use crate::pattern::Pattern;
+use crate::text::Text;
+use std::alloc::{AllocError, Global};
+use std::mem;
+
+/// A pattern that grows to the right.
+#[derive(Drop)]
+struct Draft {
+    /// What ends with a choice.
+    before: Pattern,
+    /// What follows, which stands in each resolution.
+    last: Text,
+}
+
+/// The first pattern before the second one.
+#[tactic(auto, using(crate::proofs::PatternLemmas::both_counted))]
+fn both(alloc: Global, first: Pattern, second: Pattern) -> Result<Pattern, AllocError>
+    requires first { IsCounted first }
+    requires second { IsCounted second }
+    ensures counted { IfOk result IsCounted }
+    ensures lines { IfOk result (λ new. lines_of new ≡ each_with_each then (lines_of first) (lines_of second)) }
+{
+    let count = first.count().saturating_mul(second.count());
+    let first = match Box::new(alloc, first) {
+        Ok(first) => first,
+        Err(refused) => {
+            drop(second);
+            return Err(refused.into());
+        }
+    };
+    let second = Box::new(alloc, second)?;
+    Ok(Pattern::Both(count, first, second))
+}
+
+/// One of the two patterns.
+fn either(alloc: Global, left: Pattern, right: Pattern) -> Result<Pattern, AllocError>
+    requires left { IsCounted left }
+    requires right { IsCounted right }
+    ensures counted { IfOk result IsCounted }
+    ensures lines { IfOk result (λ new. lines_of new ≡ lines_of left ++ lines_of right) }
+{
+    let count = left.count().saturating_add(right.count());
+    let left = match Box::new(alloc, left) {
+        Ok(left) => left,
+        Err(refused) => {
+            drop(right);
+            return Err(refused.into());
+        }
+    };
+    let right = Box::new(alloc, right)?;
+    Ok(Pattern::Either(count, left, right))
+}
+
+impl Draft {
+    /// Nothing is written yet.
+    fn new(alloc: Global) -> Draft
+        ensures counted { IsCounted result.before }
+        ensures before { lines_of result.before ≡ nothing ∷ [] }
+        ensures last { line_of result.last ≡ nothing }
+    {
+        Draft {
+            before: Pattern::Fixed(Text::new(alloc)),
+            last: Text::new(alloc),
+        }
+    }
+
+    /// The pattern that was drafted.
+    fn finish(self, alloc: Global) -> Result<Pattern, AllocError>
+        requires { IsCounted self.before }
+        ensures counted { IfOk result IsCounted }
+        ensures lines { IfOk result (λ new. lines_of new ≡ drafted self) }
+    {
+        both(alloc, self.before, Pattern::Fixed(self.last))
+    }
+
+    fn put(&mut self, node: Node) -> Result<(), AllocError>
+        ensures { OnOk result (Lays (record { nodes = node ∷ []; leaves = [] } ∷ []) self.old self.new) }
+    {
+        self.last.put(node)
+    }
+
+    fn put_leaf(&mut self, leaf: u32) -> Result<(), AllocError>
+        ensures { OnOk result (Lays (record { nodes = Leaf ∷ []; leaves = leaf ∷ [] } ∷ []) self.old self.new) }
+    {
+        self.last.put_leaf(leaf)
+    }
+
+    /// One of the two comes next.
+    fn choose(&mut self, alloc: Global, left: Draft, right: Draft) -> Result<(), AllocError>
+        requires before { IsCounted self.old.before }
+        requires left { IsCounted left.before }
+        requires right { IsCounted right.before }
+        ensures { OnOk result (Lays (drafted left ++ drafted right) self.old self.new) }
+    {
+        let sides = either(alloc, left.finish(alloc)?, right.finish(alloc)?)?;
+        let front = match mem::replace(self, Draft::new(alloc)).finish(alloc) {
+            Ok(front) => front,
+            Err(refused) => {
+                drop(sides);
+                return Err(refused);
+            }
+        };
+        self.before = both(alloc, front, sides)?;
+        Ok(())
+    }
+}
+
+/// Puts the resolutions of a goal behind what is drafted.
+fn lay(alloc: Global, goal: &Goal, draft: &mut Draft) -> Result<(), AllocError>
+    requires { IsCounted draft.old.before }
+    ensures { OnOk result (Lays (lines_in (process_of goal.now)) draft.old draft.new) }
+{
+    match goal {
+        Goal::Nop => draft.put(Node::Nop),
+        Goal::Leaf(n) => draft.put_leaf(*n),
+        Goal::Serial(left, right) => {
+            lay(alloc, left, draft)?;
+            lay(alloc, right, draft)?;
+            draft.put(Node::Serial)
+        }
+        Goal::Beside(left, right) => {
+            draft.put(Node::Fork)?;
+            lay(alloc, left, draft)?;
+            draft.put(Node::Split)?;
+            lay(alloc, right, draft)?;
+            draft.put(Node::Join)
+        }
+        Goal::Either(left, right) => {
+            let mut first = Draft::new(alloc);
+            lay(alloc, left, &mut first)?;
+            let mut second = Draft::new(alloc);
+            lay(alloc, right, &mut second)?;
+            draft.choose(alloc, first, second)
+        }
+        Goal::Iso(part) => {
+            draft.put(Node::Open)?;
+            lay(alloc, part, draft)?;
+            draft.put(Node::Close)
+        }
+    }
+}
+
+/// The resolutions of a goal. It walks the goal once.
+pub(crate) fn pattern_of(alloc: Global, goal: &Goal) -> Result<Pattern, AllocError>
+    ensures counted { IfOk result IsCounted }
+    ensures lines { IfOk result (λ new. lines_of new ≡ lines_in (process_of goal.now)) }
+{
+    let mut draft = Draft::new(alloc);
+    lay(alloc, goal, &mut draft)?;
+    draft.finish(alloc)
+}

@@ -1,3 +1,0 @@
-pub mod JournalLabels
-pub mod Members
-pub mod Trails

@@ -1,4 +1,0 @@
-pub mod Changes
-pub mod Course
-pub mod Fields
-pub mod Journals
