@@ -16,8 +16,8 @@ use Rattle.flow_laws.proofs.Members.{cons_same}
 use Rattle.flow_laws.proofs.ClaimLemmas.{number_of, leaf_of_claim_is}
 use Rattle.flow_workflow.specs.Definition.{Definition, schema_of}
 use Rattle.flow_workflow.specs.Numbers.{IsKnown}
-use Rattle.flow_claims.specs.Claimed.{Claimed, count_of}
-use Rattle.flow_claims.proofs.Outstanding.{each_at}
+use Rattle.flow_residual.specs.Claimed.{Claimed, count_of}
+use Rattle.flow_residual.proofs.Outstanding.{each_at}
 use Rattle.flow_core.specs.Invariant.{AreClaimsOf}
 use Rattle.flow_core.proofs.Steps.{events_at, label_of_event}
 

@@ -6,7 +6,7 @@ use Rattle.flow_model.specs.declared.history.Entry.{Entry}
 use Rattle.flow_model.specs.declared.history.Step.{Step}
 use Rattle.flow_model.specs.Run.{leaf_of_claim, IsCurrent}
 use Rattle.flow_residual.specs.Remaining.{MayComeNext}
-use Rattle.flow_claims.specs.Claimed.{IsUnanswered}
+use Rattle.flow_residual.specs.Claimed.{IsUnanswered}
 use Rattle.flow_core.specs.declared.engine.Core.TheInside.{Inside}
 use Rattle.flow_core.specs.Run.{Run, now, IsUncommitted, HasEntryLeft}
 use Rattle.flow_core.specs.Invariant.{run_by, IsKept, IsRunning}

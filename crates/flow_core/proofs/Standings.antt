@@ -16,10 +16,10 @@ use Rattle.flow_laws.proofs.SoundStates.{taken_of_current}
 use Rattle.flow_workflow.specs.Definition.{schema_of}
 use Rattle.flow_workflow.specs.Numbers.{IsKnown}
 use Rattle.flow_residual.specs.Remaining.{MayComeNext, IsAvoidable}
-use Rattle.flow_claims.specs.declared.given.Given.{Given}
-use Rattle.flow_claims.specs.Given.{claim_of}
-use Rattle.flow_claims.specs.Claimed.{run_of, IsGivenAt}
-use Rattle.flow_claims.proofs.Outstanding.{each_at}
+use Rattle.flow_residual.specs.declared.given.Given.{Given}
+use Rattle.flow_residual.specs.Given.{claim_of}
+use Rattle.flow_residual.specs.Claimed.{run_of, IsGivenAt}
+use Rattle.flow_residual.proofs.Outstanding.{each_at}
 use Rattle.flow_facts.specs.Changes.{HasFactBelow}
 use Rattle.flow_facts.proofs.JournalLabels.{length-labels_at}
 use Rattle.flow_core.specs.Answers.{IsUnanswered, IsLeastCurrent}

@@ -19,7 +19,7 @@ use Rattle.flow_workflow.specs.Definition.{schema_of}
 use Rattle.flow_sample.specs.Excised.{HasExecution}
 use Rattle.flow_excise.specs.Executions.{AreJustThose}
 use Rattle.flow_residual.specs.Remaining.{Remaining, IsOf}
-use Rattle.flow_claims.specs.Claimed.{Claimed}
+use Rattle.flow_residual.specs.Claimed.{Claimed}
 use Rattle.flow_facts.specs.Course.{Course}
 use Rattle.flow_facts.specs.Journals.{labels_at}
 use Rattle.flow_facts.proofs.JournalLabels.{labels_at-push, labels_at-take}

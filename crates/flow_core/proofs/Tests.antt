@@ -7,9 +7,9 @@ use Rattle.flow_model.specs.Run.{Claim, RunState, first_state, current_leaves, c
 use Rattle.flow_laws.proofs.ClaimLemmas.{leaf_of_claim_is}
 use Rattle.flow_workflow.specs.Definition.{Definition, schema_of}
 use Rattle.flow_residual.specs.Remaining.{Remaining, IsOf}
-use Rattle.flow_claims.specs.declared.given.Given.{Given}
-use Rattle.flow_claims.specs.Given.{claim_of}
-use Rattle.flow_claims.specs.Claimed.{Claimed, run_of, IsUnanswered}
+use Rattle.flow_residual.specs.declared.given.Given.{Given}
+use Rattle.flow_residual.specs.Given.{claim_of}
+use Rattle.flow_residual.specs.Claimed.{Claimed, run_of, IsUnanswered}
 use Rattle.flow_core.specs.Answers.{IsAnswered, IsUnanswered as IsUnansweredIn, IsLateOf}
 use Rattle.flow_core.specs.Invariant.{AreClaimsOf}
 

@@ -9,7 +9,7 @@ use Rattle.flow_laws.specs.WellFormed.{IsConsistent}
 use Rattle.flow_workflow.specs.Definition.{Definition, schema_of}
 use Rattle.flow_workflow.specs.Numbers.{IsKnown}
 use Rattle.flow_residual.specs.Remaining.{Remaining, IsOf}
-use Rattle.flow_claims.specs.Claimed.{Claimed}
+use Rattle.flow_residual.specs.Claimed.{Claimed}
 use Rattle.flow_facts.specs.Course.{Course}
 use Rattle.flow_facts.specs.Journals.{labels_at}
 use Rattle.std.specs.Vec.{vec_capacity}

@@ -3,8 +3,8 @@ use Rattle.std.specs.Prelude.{◌≡◌, ◌≤◌, ℕ, Some, Result, Ok, Err}
 use Rattle.flow_model.specs.Facts.{event_at}
 use Rattle.flow_model.specs.Run.{claim_at, IsCurrent}
 use Rattle.flow_model.specs.Verdict.{attempts}
-use Rattle.flow_claims.specs.declared.given.Given.{Given}
-use Rattle.flow_claims.specs.Given.{claim_of}
+use Rattle.flow_residual.specs.declared.given.Given.{Given}
+use Rattle.flow_residual.specs.Given.{claim_of}
 use Rattle.flow_core.specs.declared.refusal.PostRefusal.{PostRefusal}
 use Rattle.flow_core.specs.Run.{Run, schema, now, IsUncommitted, HasEntryLeft}
 use Rattle.flow_core.specs.Answers.{PostIsRefused}

@@ -4,11 +4,10 @@ ghost use Rattle.flow_model.specs.declared.limits.TheConstants.{MOST_ENTRIES};
 ghost use Rattle.flow_model.specs.Run.{database, IsCurrent, IsOpen, IsOpenIndex};
 ghost use Rattle.flow_workflow.specs.Definition.{schema_of};
 
-use flow_claims::Claims;
 use flow_excise::Compiled;
 use flow_facts::World;
 use flow_model::Entry;
-use flow_residual::Residual;
+use flow_residual::{Claims, Residual};
 use flow_workflow::Workflow;
 use leaf_rows::LeafSet;
 use std::alloc::{AllocError, Global};

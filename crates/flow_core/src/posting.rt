@@ -8,8 +8,8 @@ ghost use Rattle.flow_residual.specs.Remaining.{IsAvoidable};
 
 use crate::engine::Core;
 use crate::refusal::PostRefusal;
-use flow_claims::Given;
 use flow_model::{Entry, FailEffect, Label, Step};
+use flow_residual::Given;
 
 impl Core {
     ghost use Rattle.flow_core.specs.Run.{schema, now, with_entry, IsUncommitted, HasEntryLeft};

@@ -5,3 +5,8 @@ pub mod DoneLemmas
 pub mod KeptLemmas
 pub mod FewLemmas
 pub mod PossibleLemmas
+pub mod Numbering
+pub mod Outstanding
+pub mod Counting
+pub mod Renewing
+pub mod Thinning

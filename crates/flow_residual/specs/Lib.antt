@@ -4,3 +4,7 @@ pub mod Options
 pub mod Tracks
 pub mod Invariant
 pub mod Possible
+pub mod Given
+pub mod Claimed
+pub mod Fields
+pub mod Sparing

@@ -1,12 +1,18 @@
-//! What is still possible in a run: the options, how far each of them follows the journal, and the bans.
+//! What is still possible in a run: the options, how far each of them follows the journal, and the bans; and the claims
+//! that it has given, with those that a new epoch spares.
 #![tactic(auto)]
 
 mod asking;
 mod ban;
+mod claims;
 mod following;
+mod given;
 mod residual;
 mod row;
+mod sparing;
 mod track;
 
+pub use claims::Claims;
+pub use given::Given;
 pub use residual::Residual;
 pub use track::fit_rows;

@@ -5,7 +5,7 @@ use Rattle.flow_model.specs.Lists.{◌∈◌}
 use Rattle.flow_model.specs.Run.{leaf_of_claim, IsFree}
 use Rattle.flow_residual.specs.Remaining.{IsAvoidable}
 use Rattle.flow_laws.proofs.ClaimLemmas.{leaf_of_claim_is}
-use Rattle.flow_claims.specs.declared.given.Given.{Given}
+use Rattle.flow_residual.specs.declared.given.Given.{Given}
 use Rattle.flow_core.specs.Run.{Run, schema, now, with_entry}
 use Rattle.flow_core.specs.Standing.{IsGiven}
 use Rattle.flow_core.proofs.Standings.{needed}

@@ -12,8 +12,8 @@ use Rattle.flow_model.specs.Run.{Claim, RunState, state_of, claim_at}
 use Rattle.flow_model.specs.Verdict.{call_of}
 use Rattle.flow_laws.proofs.ClaimLemmas.{number_of}
 use Rattle.flow_workflow.specs.Definition.{schema_of}
-use Rattle.flow_claims.specs.Claimed.{Claimed, count_of}
-use Rattle.flow_claims.proofs.Counting.{count-push}
+use Rattle.flow_residual.specs.Claimed.{Claimed, count_of}
+use Rattle.flow_residual.proofs.Counting.{count-push}
 use Rattle.flow_core.specs.declared.engine.Core.TheInside.{Inside}
 use Rattle.flow_core.specs.Run.{Run, schema, now}
 use Rattle.flow_core.specs.Answers.{next_claim}

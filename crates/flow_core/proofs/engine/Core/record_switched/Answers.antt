@@ -1,7 +1,7 @@
 use Rattle.std.proofs.Common.{◌≡◌, ◌<◌, ◌≤◌, ◌+◌, length, subst, sym, ap, ◌∙◌, arith, refl}
 use Rattle.flow_model.specs.declared.limits.TheConstants.{MOST_ENTRIES}
 use Rattle.flow_residual.specs.Remaining.{IsOf, IsAvoidable}
-use Rattle.flow_claims.specs.Claimed.{Claimed}
+use Rattle.flow_residual.specs.Claimed.{Claimed}
 use Rattle.flow_core.specs.Run.{schema, now, HasEntryLeft}
 use Rattle.flow_core.specs.Invariant.{run_by}
 use Rattle.flow_core.proofs.Steps.{kept_switched}

@@ -1,4 +1,0 @@
-pub mod Given
-pub mod Claimed
-pub mod Fields
-pub mod Sparing

@@ -1,0 +1,12 @@
+use Rattle.std.proofs.Common.{sym, ◌∙◌}
+use Rattle.flow_model.specs.Run.{Claim, current_leaves}
+use Rattle.flow_residual.specs.Claimed.{run_of}
+use Rattle.flow_residual.specs.Fields.{claimed_by}
+use Rattle.flow_residual.proofs.Outstanding.{current_told, is_among}
+use Rattle.flow_residual.proofs.claims.Claims.has_leaf.Goals as goal
+
+pub returns : goal.returns
+returns c =
+    let i = c.self.inside in
+    rw (← c.self.view_is) (is_among c.contains.result c.args.leaf c.deref.result.now (current_leaves (run_of (claimed_by i))) c.contains.ensures.value
+    (c.deref.ensures.value ∙ c.self.invariant.kept.leaves_are ∙ sym (current_told (λ (claim : Claim). claim.leaf) (run_of (claimed_by i)) 0 i.given.items)))
