@@ -24,16 +24,13 @@ or_more (Some x) p r = refl
 
 unless_more : (o p : Option ℕ) (b : Bool) (leaf : ℕ) → (if b then None else unless o p) ≡ unless (option_or o (if b then Some leaf else None)) p
 unless_more None p true leaf = refl
-unless_more None p false leaf = refl
 unless_more (Some x) p true leaf = refl
-unless_more (Some x) p false leaf = refl
+unless_more o p b leaf = refl
 
 shown_more : (o : Option ℕ) (leaf : ℕ) (lane here old : Bool) → (lane && here || (lane && is_some o || old)) ≡ (lane && is_some (option_or o (if here then Some leaf else None)) || old)
 shown_more None leaf true true old = refl
-shown_more None leaf true false old = refl
 shown_more (Some x) leaf true true old = refl
-shown_more (Some x) leaf true false old = refl
-shown_more o leaf false here old = refl
+shown_more o leaf lane here old = refl
 
 -- one leaf more
 

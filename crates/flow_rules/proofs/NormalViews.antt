@@ -63,15 +63,13 @@ event_met leaf false event = never_met (leaf event)
 
 in_order : (same : Bool) (o p : Option ℕ) → (if same then [] else ways_of_before o p) ≡ ways_of_pair true (if same then None else pair_of true o p)
 in_order true o p = refl
-in_order false None p = refl
-in_order false (Some x) None = refl
 in_order false (Some x) (Some y) = refl
+in_order false o p = refl
 
 turned_round : (same : Bool) (o p : Option ℕ) → (if same then free_way else ways_of_not_before o p) ≡ ways_of_pair false (if same then None else pair_of false o p)
 turned_round true o p = refl
-turned_round false None p = refl
-turned_round false (Some x) None = refl
 turned_round false (Some x) (Some y) = refl
+turned_round false o p = refl
 
 pub pair_ways : (leaf : ℕ → Option ℕ) (wanted : Bool) (a b : ℕ) → ways (pair_form wanted a b) leaf ≡ ways_of_pair wanted (pair_in leaf wanted a b)
 pair_ways leaf true a b = in_order (a == b) (leaf a) (leaf b)

@@ -64,25 +64,15 @@ linked_unmet leaf (c ∷ more) n a b =
 
 order_same : (leaf : ℕ → Option ℕ) (es : List ℕ) (wanted : Bool) →
     ways (split_chain wanted es) leaf ≡ ways (normal_form (Order es) wanted) leaf
-order_same leaf [] true = refl
-order_same leaf [] false = refl
-order_same leaf (e ∷ []) true = refl
-order_same leaf (e ∷ []) false = refl
 order_same leaf (a ∷ b ∷ more) true = linked_met leaf more (all_form true []) a b ∙ both_free (ways (chain (a ∷ b ∷ more)) leaf)
 order_same leaf (a ∷ b ∷ more) false =
     linked_unmet leaf more (all_form false []) a b ∙ either_nothing (ways (broken_chain (a ∷ b ∷ more)) leaf)
+order_same leaf es true = refl
+order_same leaf es false = refl
 
 -- all constraints
 
 pub same_ways : (leaf : ℕ → Option ℕ) (c : Constraint) (wanted : Bool) → ways (split_form c wanted) leaf ≡ ways (normal_form c wanted) leaf
-same_ways leaf Always true = refl
-same_ways leaf Always false = refl
-same_ways leaf Impossible true = refl
-same_ways leaf Impossible false = refl
-same_ways leaf (Must e) true = refl
-same_ways leaf (Must e) false = refl
-same_ways leaf (Never e) true = refl
-same_ways leaf (Never e) false = refl
 same_ways leaf (Order es) wanted = order_same leaf es wanted
 same_ways leaf (Not c) true = same_ways leaf c false
 same_ways leaf (Not c) false = same_ways leaf c true
@@ -90,3 +80,5 @@ same_ways leaf (And c d) true = λ k. both_ways (same_ways leaf c true k) (same_
 same_ways leaf (And c d) false = λ k. either_way (same_ways leaf c false k) (same_ways leaf d false k)
 same_ways leaf (Or c d) true = λ k. either_way (same_ways leaf c true k) (same_ways leaf d true k)
 same_ways leaf (Or c d) false = λ k. both_ways (same_ways leaf c false k) (same_ways leaf d false k)
+same_ways leaf c true = refl
+same_ways leaf c false = refl

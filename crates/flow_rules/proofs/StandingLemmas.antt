@@ -100,10 +100,9 @@ stand_event lanes wanted event word s is fits free unmet lane leaf within shows 
 -- two events
 
 pair_there : (wanted : Bool) (o p : Option ℕ) → is_some (pair_of wanted o p) ≡ (is_some o && is_some p)
-pair_there wanted None p = refl
-pair_there wanted (Some x) None = refl
 pair_there true (Some x) (Some y) = refl
 pair_there false (Some x) (Some y) = refl
+pair_there wanted o p = refl
 
 pub both_there : (lanes : Lanes) (a b v w lane : ℕ) (leaf : ℕ → Option ℕ) (wanted : Bool) → v ≡ word_of lanes a → w ≡ word_of lanes b → (a == b) ≡ false →
     Shows lanes lane leaf → has_lane (bit_and v w) lane ≡ is_some (pair_in leaf wanted a b)
