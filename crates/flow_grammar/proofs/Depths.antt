@@ -82,6 +82,9 @@ after_names : (d : ℕ) (ns : List (List ℕ)) (r : List Placed) → IsShallow (
 after_names d [] r h = h
 after_names d (n ∷ ns) r (h, more) = after_names d ns r more
 
+none_more : (d most : ℕ) → d ≤ most → d + 0 ≤ most
+none_more d most h = omega arith
+
 mutual
   pub within : {k : Kind} {n : ℕ} (t : Text k n) (d : ℕ) (r : List Placed) → n ≤ top k → d ≤ GREATEST_DEPTH → IsShallow (spell d t r) → Holds k n d (mean t) × IsShallow r
   within {k} (joined {n = n} m ms) d r b l h =
@@ -92,8 +95,6 @@ mutual
       let m : d < GREATEST_DEPTH = below tt in
       let (x, j) = within t (suc d) (at (suc d) closing ∷ r) (omega arith) m h in
       (group_within k d (mean t) x, j.1)
-  within nop_text d r b l (h', h) = (omega arith, h)
-  within (name_text n) d r b l (h', h) = (omega arith, h)
   within (fact_text p f) d r b l (h', h) = let (x, j) = after_fact d f r l h in (fact_within d p f x, j)
   within (iso_text g) d r b l (h', (below, h)) =
       let m : d < GREATEST_DEPTH = below tt in
@@ -103,11 +104,8 @@ mutual
       let m : d < GREATEST_DEPTH = below tt in
       let (x, j) = within u (suc d) r b m h in
       (omega arith, j)
-  within (single_text must_come n) d r b l (h, (j, more)) = (omega arith, more)
-  within (single_text never_come n) d r b l (h, (j, more)) = (omega arith, more)
   within (order_text x y ns) d r b l (h, (j, (i, more))) = (omega arith, after_names d ns r more)
-  within (pair_text preceding x y) d r b l (h, (j, (i, more))) = (omega arith, more)
-  within (pair_text needing x y) d r b l (h, (j, (i, more))) = (omega arith, more)
+  within _ d r b l h = search (std_rules, none_more)
 
   more_within : {k : Kind} {n : ℕ} (ms : More k n) (d : ℕ) (r : List Placed) → n ≤ top k → d ≤ GREATEST_DEPTH → IsShallow (spell_more d ms r) →
       Each (Holds k n d) (mean_more ms) × IsShallow r

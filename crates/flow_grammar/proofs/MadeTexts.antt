@@ -45,14 +45,10 @@ mutual
   grouped {k} (joined {n = n} m ms) =
       gathered (Grouped k) (Grouped k) (list k n) (λ x h. h) (list_grouped k n) (mean m) (mean_more ms) (grouped m) (grouped_more ms)
   grouped (group_text t) = grouped t
-  grouped nop_text = tt
-  grouped (name_text n) = tt
-  grouped (fact_text p f) = search std_rules
   grouped (iso_text g) = grouped g
   grouped (not_text u) = grouped u
-  grouped (single_text s n) = search std_rules
   grouped (order_text a b ns) = omega arith
-  grouped (pair_text p a b) = search std_rules
+  grouped _ = search std_rules
 
   grouped_more : {k : Kind} {n : ℕ} (ms : More k n) → Each (Grouped k) (mean_more ms)
   grouped_more no_more_text = tt

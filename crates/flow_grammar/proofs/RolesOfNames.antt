@@ -67,14 +67,10 @@ mutual
       rw (gather_named k n (mean m) (mean_more ms))
       (chain (names k (mean m)) (flat_map (names k) (mean_more ms)) (names_of (symbols r)) (text_has m d (spell_more d ms r)) (more_has ms d r))
   text_has {k} (group_text t) d r = text_has t (suc d) (at (suc d) closing ∷ r)
-  text_has nop_text d r = refl
-  text_has (name_text n) d r = refl
-  text_has (fact_text p f) d r = search (std_rules, fact_has)
   text_has (iso_text g) d r = text_has g (suc d) (at (suc d) closing ∷ r)
   text_has (not_text u) d r = text_has u (suc d) r
-  text_has (single_text s n) d r = search std_rules
   text_has (order_text a b ns) d r = ap (λ z. a ∷ b ∷ z) (names_have d ns r)
-  text_has (pair_text p a b) d r = search std_rules
+  text_has _ d r = search (std_rules, fact_has)
 
   more_has : {k : Kind} {n : ℕ} (ms : More k n) (d : ℕ) (r : List Placed) → Has (spell_more d ms r) (flat_map (names k) (mean_more ms)) r
   more_has no_more_text d r = refl
@@ -150,16 +146,11 @@ of_constants (Number n ∷ cs) = of_constants cs
 
 mutual
   of_goal : (s : Shape) → AreFor [] (names_in s) [] (goal_roles s)
-  of_goal nop = (refl, refl, refl)
-  of_goal (named n) = (refl, refl, refl)
-  of_goal (test a) = of_constants a.args
-  of_goal (absent a) = of_constants a.args
-  of_goal (ins a) = of_constants a.args
-  of_goal (del a) = of_constants a.args
   of_goal (iso s) = of_goal s
   of_goal (serial ss) = of_goals ss
   of_goal (beside ss) = of_goals ss
   of_goal (either ss) = of_goals ss
+  of_goal _ = search (std_rules, of_constants)
 
   of_goals : (ss : Shapes) → AreFor [] (names_in_each ss) [] (roles_in_each ss)
   of_goals no_more = (refl, refl, refl)
