@@ -102,10 +102,8 @@ few_names (at d (a_name n) ∷ w) = let h = few_names w in omega arith
 few_names (at d _ ∷ w) = let h = few_names w in omega arith
 
 fewer_names : (d : ScriptText) → length (names_of (symbols (spell_script d))) < length (spell_script d)
-fewer_names (script_text [] g cs) = few_names _
-fewer_names (script_text (facts_text f fs ∷ ds) g cs) = few_names _
-fewer_names (script_text (events_text e es ∷ ds) g cs) = few_names _
 fewer_names (script_text (flow_text n f ∷ ds) g cs) = few_names (at 0 (a_name n) ∷ at 0 equals ∷ spell 0 f (at 0 semicolon ∷ spell_script (script_text ds g cs)))
+fewer_names _ = few_names _
 
 pub scripts_are_well_made : ScriptsAreWellMade
 scripts_are_well_made w x (d, e, ex) =

@@ -21,9 +21,7 @@ not_deep : (t : Symbol) (d : ℕ) → is_too_deep t d ≡ false → Deepens t �
 not_deep t d e h = search (rules, leb-false)
 
 deep_of : (t : Symbol) (d : ℕ) → is_too_deep t d ≡ true → Deepens t × (GREATEST_DEPTH ≤ d)
-deep_of opening d e = (tt, leb-true GREATEST_DEPTH d e)
-deep_of not_word d e = (tt, leb-true GREATEST_DEPTH d e)
-deep_of _ d e = cc
+deep_of t d e = search (rules, leb-true)
 
 -- What one step of a run makes
 

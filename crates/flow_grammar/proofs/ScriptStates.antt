@@ -145,9 +145,7 @@ script_forth (fact_to_declare ds) w x (applied n c cs, v, e, h) =
     subst (λ y. Ahead (fact_to_declare ds) y x) e (λ h'. refl, inr (_, refl, (c, cs, v, refl, h)))
 script_forth (after_declared_relation ds n) w x (inl h) = let ahead = facts_forth (ds ++ fact (atom n []) ∷ []) w x h in search std_rules
 script_forth (after_declared_relation ds n) w x (inr (v, e, h)) = subst (λ y. Ahead (after_declared_relation ds n) y x) e (λ h'. refl, h)
-script_forth (in_declared_args ds a) w x h =
-    carried_forth (ArgRest 1) Rest (in_declared_args ds) (λ f. after_fact (ds ++ fact f ∷ [])) x step_arg (λ a'. 1) step_script finish_script depth_script (λ s v k. k)
-    a w refl (λ t. refl) (arg_forth 1 a w (λ f r. AfterFact (ds ++ fact f ∷ []) r x) h)
+script_forth (in_declared_args ds a) w x h = let front = arg_forth 1 a w (λ f r. AfterFact (ds ++ fact f ∷ []) r x) h in search std_rules
 script_forth (after_fact ds) w x h = facts_forth ds w x h
 script_forth (event_to_declare ds) w x (noted_text n note, v, e, h) = subst (λ y. Ahead (event_to_declare ds) y x) e (λ h'. refl, (note, v, refl, h))
 script_forth (after_event ds n) w x h = note_forth ds n w x h
@@ -158,16 +156,10 @@ script_forth (flow_to_declare ds) w x (n, g, v, e, h) = subst (λ y. Ahead (flow
 script_forth (equals_needed ds n) w x (g, v, e, h) =
     subst (λ y. Ahead (equals_needed ds n) y x) e
     (λ h'. refl, need_of_goal (Closing (λ s r. Declarations (ds ++ flow n s ∷ []) r x) []) 0 g (at 0 semicolon ∷ v) (v, refl, h))
-script_forth (in_flow ds n g) w x h =
-    carried_forth GoalRest Rest (in_flow ds n) (λ s. declaration_needed (ds ++ flow n s ∷ [])) x step_goal depth_goal step_script finish_script depth_script (λ s v k. k)
-    g w refl (λ t. refl) (goal_forth g w (λ s v. Declarations (ds ++ flow n s ∷ []) v x) h)
-script_forth (in_goal ds g) w x h =
-    carried_forth GoalRest Rest (in_goal ds) (λ s. constraint_needed ds s []) x step_goal depth_goal step_script finish_script depth_script (λ s v k. k)
-    g w refl (λ t. refl) (goal_forth g w (λ s v. Constraints ds s [] v x) h)
+script_forth (in_flow ds n g) w x h = let front = goal_forth g w (λ s v. Declarations (ds ++ flow n s ∷ []) v x) h in search std_rules
+script_forth (in_goal ds g) w x h = let front = goal_forth g w (λ s v. Constraints ds s [] v x) h in search std_rules
 script_forth (constraint_needed ds s rs) w x h = constraint_forth ds s rs w x h
-script_forth (in_constraint ds s rs r) w x h =
-    carried_forth RuleRest Rest (in_constraint ds s rs) (λ y. constraint_needed ds s (rs ++ y ∷ [])) x step_rule depth_rule step_script finish_script depth_script (λ s' v k. k)
-    r w refl (λ t. refl) (rule_forth r w (λ y v. Constraints ds s (rs ++ y ∷ []) v x) h)
+script_forth (in_constraint ds s rs r) w x h = let front = rule_forth r w (λ y v. Constraints ds s (rs ++ y ∷ []) v x) h in search std_rules
 
 -- Back
 
@@ -259,11 +251,9 @@ script_completes (fact_to_declare ds) = (_, _, (bare [], _, refl, ([], least, re
 script_completes (after_declared_relation ds n) = (_, _, inl ([], least, refl, refl))
 script_completes (in_declared_args ds a) =
     arg_completes 1 a (λ x f r. AfterFact (ds ++ fact f ∷ []) r x) (λ f. (_, _, ([], least, refl, refl)))
-script_completes (after_fact ds) = (_, _, ([], least, refl, refl))
 script_completes (event_to_declare ds) = (_, _, (noted_text [] silent_text, _, refl, ([], least, refl, refl)))
 script_completes (after_event ds n) = (_, _, (silent_text, _, refl, ([], least, refl, refl)))
 script_completes (after_fail ds n) = (_, _, inl ([], least, refl, refl))
-script_completes (after_noted ds) = (_, _, ([], least, refl, refl))
 script_completes (flow_to_declare ds) = (_, _, ([], nop_goal, _, refl, (least, refl, refl)))
 script_completes (equals_needed ds n) = (_, _, (nop_goal, _, refl, (least, refl, refl)))
 script_completes (in_flow ds n g) =
@@ -272,6 +262,7 @@ script_completes (in_goal ds g) = goal_completes g (λ x s v. Constraints ds s [
 script_completes (constraint_needed ds s rs) = (_, _, ([], refl, refl))
 script_completes (in_constraint ds s rs r) =
     rule_completes r (λ x y v. Constraints ds s (rs ++ y ∷ []) v x) (λ y. (_, _, ([], refl, refl)))
+script_completes _ = (_, _, ([], least, refl, refl))
 
 pub script_knows : Knows step_script finish_script depth_script Rest
 script_knows = record { forth = script_forth; back = script_back; ended = script_ended; completes = script_completes }
