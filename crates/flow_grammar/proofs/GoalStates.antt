@@ -4,7 +4,7 @@ use Rattle.flow_facts.specs.Atom.{Atom, atom}
 use Rattle.flow_form.specs.Form.{Shape, iso}
 use Rattle.flow_grammar.specs.Symbol.{Symbol, Placed, at, nop_word, iso_word, ins_word, del_word, a_name, star, bar, plus, opening, closing, semicolon, question, exclamation}
 use Rattle.flow_grammar.specs.Grammar.{FactText, bare, applied, asking, denying, adding, taking, prefixed, spell_fact, mean_fact, Prefix, goals, list, gather, Text, joined, group_text, nop_text, name_text, fact_text, iso_text, More, no_more_text, then_text, spell, spell_more, mean, mean_more}
-use Rattle.flow_grammar.specs.Machine.{Step, ArgState, constant_needed, step_arg, Level, level, push, close_serial, close_beside, close, Frame, parenthesis, isolation, wrap, GoalState, atom_needed, after_atom, opening_needed, fact_needed, after_relation, in_args, after_arg, step_goal, height, depth_goal}
+use Rattle.flow_grammar.specs.Machine.{constant_needed, Level, level, push, close_serial, close_beside, close, Frame, parenthesis, isolation, wrap, GoalState, atom_needed, after_atom, opening_needed, fact_needed, after_relation, in_args, step_goal, height, depth_goal}
 use Rattle.flow_grammar.proofs.Parts.{Follow, StepNext, StepFront}
 use Rattle.flow_grammar.proofs.Parts as parts
 use Rattle.flow_grammar.proofs.ArgStates.{ArgRest, arg_forth, arg_back, arg_completes}

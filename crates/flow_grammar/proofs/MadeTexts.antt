@@ -8,7 +8,7 @@ use Rattle.flow_form.specs.RuleForm.{RuleShape, rule_shapes, IsGroupedRule, AreG
 use Rattle.flow_form.specs.Script.{Declared, fact, event, flow}
 use Rattle.flow_form.specs.Names.{flow_goal, names_in_rule}
 use Rattle.flow_grammar.specs.Symbol.{Placed, at, symbols, a_name, semicolon, equals}
-use Rattle.flow_grammar.specs.Grammar.{FactText, Kind, goals, rules, Meaning, list, gather, Text, joined, group_text, nop_text, name_text, fact_text, iso_text, not_text, single_text, order_text, pair_text, More, no_more_text, then_text, spell, mean, mean_more, NotedText, noted_text, mean_noted, DeclText, facts_text, events_text, flow_text, declared_fact, mean_decl, ScriptText, script_text, mean_rule, spell_script, mean_script, QueryText, holds_text, redundant_text, mean_query}
+use Rattle.flow_grammar.specs.Grammar.{FactText, Kind, goals, rules, Meaning, list, gather, Text, joined, group_text, iso_text, not_text, order_text, More, no_more_text, then_text, spell, mean, mean_more, NotedText, noted_text, mean_noted, DeclText, facts_text, events_text, flow_text, declared_fact, mean_decl, ScriptText, script_text, mean_rule, spell_script, mean_script, QueryText, holds_text, redundant_text, mean_query}
 use Rattle.flow_grammar.specs.Roles.{in_rule, role_name, fact_roles, goal_roles, declared_roles, script_roles, names_of}
 use Rattle.flow_grammar.proofs.RolesOfNames.{scripts_have_roles}
 use Rattle.flow_grammar.specs.Made.{IsWellMade, IsWellAsked, ScriptsAreWellMade, QueriesAreWellMade}

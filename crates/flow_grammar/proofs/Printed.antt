@@ -5,7 +5,7 @@ use Rattle.flow_facts.specs.Atom.{Atom, atom}
 use Rattle.flow_form.specs.Form.{Shape, Shapes, nop, named, test, absent, ins, del, iso, serial, beside, either, no_more, followed, shapes, members, IsGrouped, AreGrouped}
 use Rattle.flow_form.specs.RuleForm.{RuleShape, RuleShapes, must, never, order, precedes, needs, negated, all, any, rule_shapes, rule_members, IsGroupedRule, AreGroupedRules}
 use Rattle.flow_form.specs.RuleForm as rule
-use Rattle.flow_grammar.specs.Symbol.{Symbol, Placed, at, symbols, Deepens, constant_symbol, a_name, star, bar, plus, and_word, or_word, not_word, order_word, opening, closing, comma, iso_word}
+use Rattle.flow_grammar.specs.Symbol.{Symbol, Placed, at, symbols, constant_symbol, a_name, star, bar, plus, and_word, or_word, not_word, order_word, opening, closing, comma, iso_word}
 use Rattle.flow_grammar.specs.Grammar.{FactText, bare, applied, spell_constants, spell_fact, mean_fact, Prefix, asking, denying, adding, taking, prefix_symbol, prefixed, must_come, never_come, preceding, needing, spell_names, Kind, goals, rules, Meaning, top, join, list, gather, Text, joined, group_text, nop_text, name_text, fact_text, iso_text, not_text, single_text, order_text, pair_text, More, no_more_text, then_text, spell, spell_more, mean, mean_more}
 use Rattle.flow_model.specs.declared.limits.TheConstants.{GREATEST_DEPTH}
 use Rattle.flow_grammar.specs.Texts.{IsShallow}

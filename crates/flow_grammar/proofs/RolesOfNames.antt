@@ -4,12 +4,12 @@ use Rattle.std.proofs.lemmas.Grind.{flat_map-append}
 use Rattle.std.proofs.lemmas.List.{map-append}
 use Rattle.flow_facts.specs.declared.constant.Const.{Const}
 use Rattle.flow_facts.specs.declared.constant.Const.TheVariants.{Word, Number}
-use Rattle.flow_form.specs.Form.{Shape, Shapes, nop, named, test, absent, ins, del, iso, serial, beside, either, no_more, followed, shapes}
+use Rattle.flow_form.specs.Form.{Shape, Shapes, iso, serial, beside, either, no_more, followed, shapes}
 use Rattle.flow_form.specs.RuleForm.{RuleShape, rule_shapes}
 use Rattle.flow_form.specs.Script.{Declared, fact, event, flow}
 use Rattle.flow_form.specs.Names.{declared_name, names_in, names_in_each, names_in_rule, names_in_rules, flow_goal}
 use Rattle.flow_grammar.specs.Symbol.{Symbol, Placed, at, symbols, closing, semicolon, goal_word}
-use Rattle.flow_grammar.specs.Grammar.{FactText, bare, applied, spell_constants, spell_fact, mean_fact, spell_names, Kind, goals, rules, Meaning, join, list, gather, Text, joined, group_text, nop_text, name_text, fact_text, iso_text, not_text, single_text, order_text, pair_text, More, no_more_text, then_text, spell, spell_more, mean, mean_more, NotedText, spell_noted, mean_noted, DeclText, facts_text, events_text, flow_text, spell_items, declared_fact, spell_decl, mean_decl, ScriptText, script_text, spell_decls, spell_constraints, mean_rule, spell_script, mean_script, QueryText, holds_text, redundant_text, spell_query, mean_query}
+use Rattle.flow_grammar.specs.Grammar.{FactText, bare, applied, spell_constants, spell_fact, mean_fact, spell_names, Kind, goals, rules, Meaning, join, list, gather, Text, joined, group_text, iso_text, not_text, order_text, More, no_more_text, then_text, spell, spell_more, mean, mean_more, NotedText, spell_noted, mean_noted, DeclText, facts_text, events_text, flow_text, spell_items, declared_fact, spell_decl, mean_decl, ScriptText, script_text, spell_decls, spell_constraints, mean_rule, spell_script, mean_script, QueryText, holds_text, redundant_text, spell_query, mean_query}
 use Rattle.flow_grammar.specs.Texts.{SpellsScript, SpellsQuery}
 use Rattle.flow_grammar.specs.Roles.{Role, in_rule, role_name, constant_roles, fact_roles, goal_roles, roles_in_each, declared_roles, script_roles, query_roles, names_of, NamesHaveRoles, declared_by, goal_name, rule_name, declaring, used_in_goals, used_in_rules, RolesAreTheNames}
 

@@ -7,9 +7,8 @@ use Rattle.flow_form.specs.RuleForm.{RuleShape}
 use Rattle.flow_form.specs.Script.{Declared, fact, event, flow, Said}
 use Rattle.flow_grammar.specs.Symbol.{Symbol, Placed, at, Deepens, fact_word, event_word, flow_word, goal_word, constraint_word, done_word, fail_word, a_name, a_number, opening, comma, semicolon, equals}
 use Rattle.flow_grammar.specs.Grammar.{bare, applied, spell_fact, goals, rules, Text, spell, mean, NoteText, silent_text, done_text, fail_text, fail_first_text, spell_note, mean_note, noted_text, spell_noted, mean_noted, facts_text, events_text, flow_text, spell_items, declared_fact, ScriptText, script_text, spell_script, mean_script, mean_rule, spell_constraints}
-use Rattle.flow_grammar.specs.Machine.{constant_needed, step_arg, step_goal, depth_goal, step_rule, depth_rule, State, declaration_needed, fact_to_declare, after_declared_relation, in_declared_args, after_fact, event_to_declare, after_event, after_fail, after_noted, flow_to_declare, equals_needed, in_flow, in_goal, constraint_needed, in_constraint, join_item, step_script, finish_script, depth_script}
+use Rattle.flow_grammar.specs.Machine.{constant_needed, depth_goal, State, declaration_needed, fact_to_declare, after_declared_relation, in_declared_args, after_fact, event_to_declare, after_event, after_fail, after_noted, flow_to_declare, equals_needed, in_flow, in_goal, constraint_needed, in_constraint, join_item, step_script, finish_script, depth_script}
 use Rattle.flow_grammar.proofs.Runs.{OnNext, Front, Knows}
-use Rattle.flow_grammar.proofs.Parts.{carried_forth, carried_back}
 use Rattle.flow_grammar.proofs.ArgStates.{ArgRest, arg_forth, arg_back, arg_completes}
 use Rattle.flow_grammar.proofs.GoalStates.{GoalRest, goal_forth, goal_back, goal_completes, need_of_goal, goal_of_need, nop_goal, Closing}
 use Rattle.flow_grammar.proofs.RuleStates.{RuleRest, rule_forth, rule_back, rule_completes, need_of_rule, rule_of_need}
@@ -198,9 +197,7 @@ script_back (fact_to_declare ds) (a_name n) w x (inr (v, e, (c, cs, r, e', h))) 
 script_back (fact_to_declare ds) _ w x h = absurd h
 script_back (after_declared_relation ds n) opening w x h = (0, λ h'. refl, inr (w, refl, h))
 script_back (after_declared_relation ds n) t w x h = (0, λ h'. refl, inl (facts_back (ds ++ fact (atom n []) ∷ []) t w x h))
-script_back (in_declared_args ds a) t w x h =
-    let k = carried_back (ArgRest 1) Rest (in_declared_args ds) (λ f. after_fact (ds ++ fact f ∷ [])) x (λ s v k. k) (step_arg a t) w h in
-    (1, λ h'. refl, arg_back 1 a t w (λ f r. AfterFact (ds ++ fact f ∷ []) r x) k)
+script_back (in_declared_args ds a) t w x h = (1, λ h'. refl, arg_back 1 a t w (λ f r. AfterFact (ds ++ fact f ∷ []) r x) (search std_rules))
 script_back (after_fact ds) t w x h = (0, λ h'. refl, facts_back ds t w x h)
 script_back (event_to_declare ds) (a_name n) w x (note, v, e, h) = (0, λ h'. refl, (noted_text n note, v, ap (λ y. at 0 (a_name n) ∷ y) e, h))
 script_back (event_to_declare ds) _ w x h = absurd h
@@ -217,20 +214,14 @@ script_back (equals_needed ds n) equals w x h =
     let (g, r, e, (v, e', k)) = goal_of_need (Closing (λ s v. Declarations (ds ++ flow n s ∷ []) v x) []) 0 w h in
     (0, λ h'. refl, (g, v, ap (λ y. at 0 equals ∷ y) (ap (spell 0 g) e' ∙ e), k))
 script_back (equals_needed ds n) _ w x h = absurd h
-script_back (in_flow ds n g) t w x h =
-    let k = carried_back GoalRest Rest (in_flow ds n) (λ s. declaration_needed (ds ++ flow n s ∷ [])) x (λ s v k. k) (step_goal g t) w h in
-    (depth_goal g, λ h'. refl, goal_back g t w (λ s v. Declarations (ds ++ flow n s ∷ []) v x) k)
-script_back (in_goal ds g) t w x h =
-    let k = carried_back GoalRest Rest (in_goal ds) (λ s. constraint_needed ds s []) x (λ s v k. k) (step_goal g t) w h in
-    (depth_goal g, λ h'. refl, goal_back g t w (λ s v. Constraints ds s [] v x) k)
+script_back (in_flow ds n g) t w x h = (depth_goal g, λ h'. refl, goal_back g t w (λ s v. Declarations (ds ++ flow n s ∷ []) v x) (search std_rules))
+script_back (in_goal ds g) t w x h = (depth_goal g, λ h'. refl, goal_back g t w (λ s v. Constraints ds s [] v x) (search std_rules))
 script_back (constraint_needed ds s rs) constraint_word w x h =
     let (c, r, e, (v, e', (cs, e2, ex))) = rule_of_need (rule_states.Closing (λ y v. Constraints ds s (rs ++ y ∷ []) v x) []) 0 w h in
     let said = ap (λ y. record { decls = ds; goal = s; rules = y }) (sym (append_assoc rs (mean c ∷ []) (map mean_rule cs))) ∙ ex in
     (0, λ h'. refl, (c ∷ cs, ap (λ y. at 0 constraint_word ∷ y) (ap (spell 0 c) (ap (λ y. at 0 semicolon ∷ y) e2 ∙ e') ∙ e), said))
 script_back (constraint_needed ds s rs) _ w x h = absurd h
-script_back (in_constraint ds s rs r) t w x h =
-    rule_back r t w (λ y v. Constraints ds s (rs ++ y ∷ []) v x)
-    (carried_back RuleRest Rest (in_constraint ds s rs) (λ y. constraint_needed ds s (rs ++ y ∷ [])) x (λ s' v k. k) (step_rule r t) w h)
+script_back (in_constraint ds s rs r) t w x h = rule_back r t w (λ y v. Constraints ds s (rs ++ y ∷ []) v x) (search std_rules)
 
 script_ended : (s : State) (x : Said) → finish_script s ≡ Some x → Rest s [] x
 script_ended (constraint_needed ds s rs) x e =

@@ -1,7 +1,7 @@
 -- What each state wants could come.
 use Rattle.std.proofs.Common.{rules}
 use Rattle.flow_grammar.specs.Symbol.{Symbol}
-use Rattle.flow_grammar.specs.Machine.{Step, reading, whole, stuck, carry, ArgState, step_arg, wanted_arg, GoalState, step_goal, wanted_goal, RuleState, step_rule, wanted_rule, State, step_script, finish_script, wanted_script, QueryState, step_query, finish_query, wanted_query}
+use Rattle.flow_grammar.specs.Machine.{Step, reading, whole, stuck, carry, GoalState, step_goal, wanted_goal, RuleState, step_rule, wanted_rule, State, step_script, finish_script, wanted_script, QueryState, step_query, finish_query, wanted_query}
 use Rattle.flow_grammar.specs.Laws.{StandsFor, MayEnd}
 use Rattle.flow_grammar.proofs.Runs.{Goes, Wants}
 
