@@ -49,12 +49,10 @@ rules_within part d (x ∷ xs) l (h, more) = let k = rules_within part d xs l mo
 
 list_within : (k : Kind) (n d : ℕ) → suc n ≤ top k → d ≤ GREATEST_DEPTH → (m m' : Meaning k) (ms : List (Meaning k)) → Each (Holds k n d) (m ∷ m' ∷ ms) →
     Holds k (suc n) d (list k n (m ∷ m' ∷ ms))
-list_within goals zero d b l m m' ms h = goals_within in_serial d (m ∷ m' ∷ ms) l h
-list_within goals (suc zero) d b l m m' ms h = goals_within in_beside d (m ∷ m' ∷ ms) l h
-list_within goals (suc (suc zero)) d b l m m' ms h = goals_within in_either d (m ∷ m' ∷ ms) l h
-list_within rules zero d b l m m' ms h = rules_within in_all d (m ∷ m' ∷ ms) l h
-list_within rules (suc zero) d b l m m' ms h = rules_within in_any d (m ∷ m' ∷ ms) l h
-list_within _ _ d b l m m' ms h = absurd (omega arith)
+list_within goals (suc (suc (suc n))) d b l m m' ms h = absurd (omega arith)
+list_within goals _ d b l m m' ms h = goals_within _ d (m ∷ m' ∷ ms) l h
+list_within rules (suc (suc n)) d b l m m' ms h = absurd (omega arith)
+list_within rules _ d b l m m' ms h = rules_within _ d (m ∷ m' ∷ ms) l h
 
 nest_few : (b : Bool) (n : ℕ) → nest b n ≤ suc n
 nest_few true n = omega arith
