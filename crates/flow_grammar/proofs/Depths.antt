@@ -5,7 +5,7 @@ use Rattle.flow_facts.specs.declared.constant.Const.{Const}
 use Rattle.flow_form.specs.Form.{Shape, shapes}
 use Rattle.flow_form.specs.RuleForm.{RuleShape, rule_shapes}
 use Rattle.flow_grammar.specs.Symbol.{Placed, at, closing}
-use Rattle.flow_grammar.specs.Grammar.{FactText, bare, applied, spell_constants, spell_fact, mean_fact, Prefix, prefixed, must_come, never_come, preceding, needing, spell_names, Kind, goals, rules, Meaning, top, list, Text, joined, group_text, nop_text, name_text, fact_text, iso_text, not_text, single_text, order_text, pair_text, More, no_more_text, then_text, spell, spell_more, mean, mean_more}
+use Rattle.flow_grammar.specs.Grammar.{FactText, bare, applied, spell_constants, spell_fact, mean_fact, Prefix, prefixed, spell_names, Kind, goals, rules, Meaning, top, list, Text, joined, group_text, fact_text, iso_text, not_text, order_text, More, no_more_text, then_text, spell, spell_more, mean, mean_more}
 use Rattle.flow_model.specs.declared.limits.TheConstants.{GREATEST_DEPTH}
 use Rattle.flow_grammar.specs.Texts.{IsShallow}
 use Rattle.flow_grammar.specs.Print.{in_serial, in_beside, in_either, in_all, in_any, nest, arguments_nesting, nesting, nesting_list, rule_nesting, rules_nesting}
@@ -49,12 +49,10 @@ rules_within part d (x ∷ xs) l (h, more) = let k = rules_within part d xs l mo
 
 list_within : (k : Kind) (n d : ℕ) → suc n ≤ top k → d ≤ GREATEST_DEPTH → (m m' : Meaning k) (ms : List (Meaning k)) → Each (Holds k n d) (m ∷ m' ∷ ms) →
     Holds k (suc n) d (list k n (m ∷ m' ∷ ms))
-list_within goals zero d b l m m' ms h = goals_within in_serial d (m ∷ m' ∷ ms) l h
-list_within goals (suc zero) d b l m m' ms h = goals_within in_beside d (m ∷ m' ∷ ms) l h
-list_within goals (suc (suc zero)) d b l m m' ms h = goals_within in_either d (m ∷ m' ∷ ms) l h
-list_within rules zero d b l m m' ms h = rules_within in_all d (m ∷ m' ∷ ms) l h
-list_within rules (suc zero) d b l m m' ms h = rules_within in_any d (m ∷ m' ∷ ms) l h
-list_within _ _ d b l m m' ms h = absurd (omega arith)
+list_within goals (suc (suc (suc n))) d b l m m' ms h = absurd (omega arith)
+list_within goals _ d b l m m' ms h = goals_within _ d (m ∷ m' ∷ ms) l h
+list_within rules (suc (suc n)) d b l m m' ms h = absurd (omega arith)
+list_within rules _ d b l m m' ms h = rules_within _ d (m ∷ m' ∷ ms) l h
 
 nest_few : (b : Bool) (n : ℕ) → nest b n ≤ suc n
 nest_few true n = omega arith
@@ -82,6 +80,9 @@ after_names : (d : ℕ) (ns : List (List ℕ)) (r : List Placed) → IsShallow (
 after_names d [] r h = h
 after_names d (n ∷ ns) r (h, more) = after_names d ns r more
 
+none_more : (d most : ℕ) → d ≤ most → d + 0 ≤ most
+none_more d most h = omega arith
+
 mutual
   pub within : {k : Kind} {n : ℕ} (t : Text k n) (d : ℕ) (r : List Placed) → n ≤ top k → d ≤ GREATEST_DEPTH → IsShallow (spell d t r) → Holds k n d (mean t) × IsShallow r
   within {k} (joined {n = n} m ms) d r b l h =
@@ -92,8 +93,6 @@ mutual
       let m : d < GREATEST_DEPTH = below tt in
       let (x, j) = within t (suc d) (at (suc d) closing ∷ r) (omega arith) m h in
       (group_within k d (mean t) x, j.1)
-  within nop_text d r b l (h', h) = (omega arith, h)
-  within (name_text n) d r b l (h', h) = (omega arith, h)
   within (fact_text p f) d r b l (h', h) = let (x, j) = after_fact d f r l h in (fact_within d p f x, j)
   within (iso_text g) d r b l (h', (below, h)) =
       let m : d < GREATEST_DEPTH = below tt in
@@ -103,11 +102,8 @@ mutual
       let m : d < GREATEST_DEPTH = below tt in
       let (x, j) = within u (suc d) r b m h in
       (omega arith, j)
-  within (single_text must_come n) d r b l (h, (j, more)) = (omega arith, more)
-  within (single_text never_come n) d r b l (h, (j, more)) = (omega arith, more)
   within (order_text x y ns) d r b l (h, (j, (i, more))) = (omega arith, after_names d ns r more)
-  within (pair_text preceding x y) d r b l (h, (j, (i, more))) = (omega arith, more)
-  within (pair_text needing x y) d r b l (h, (j, (i, more))) = (omega arith, more)
+  within _ d r b l h = search (std_rules, none_more)
 
   more_within : {k : Kind} {n : ℕ} (ms : More k n) (d : ℕ) (r : List Placed) → n ≤ top k → d ≤ GREATEST_DEPTH → IsShallow (spell_more d ms r) →
       Each (Holds k n d) (mean_more ms) × IsShallow r

@@ -4,7 +4,7 @@ use Rattle.flow_facts.specs.Atom.{Atom, atom}
 use Rattle.flow_form.specs.Form.{Shape, iso}
 use Rattle.flow_grammar.specs.Symbol.{Symbol, Placed, at, nop_word, iso_word, ins_word, del_word, a_name, star, bar, plus, opening, closing, semicolon, question, exclamation}
 use Rattle.flow_grammar.specs.Grammar.{FactText, bare, applied, asking, denying, adding, taking, prefixed, spell_fact, mean_fact, Prefix, goals, list, gather, Text, joined, group_text, nop_text, name_text, fact_text, iso_text, More, no_more_text, then_text, spell, spell_more, mean, mean_more}
-use Rattle.flow_grammar.specs.Machine.{Step, ArgState, constant_needed, step_arg, Level, level, push, close_serial, close_beside, close, Frame, parenthesis, isolation, wrap, GoalState, atom_needed, after_atom, opening_needed, fact_needed, after_relation, in_args, after_arg, step_goal, height, depth_goal}
+use Rattle.flow_grammar.specs.Machine.{constant_needed, Level, level, push, close_serial, close_beside, close, Frame, parenthesis, isolation, wrap, GoalState, atom_needed, after_atom, opening_needed, fact_needed, after_relation, in_args, step_goal, height, depth_goal}
 use Rattle.flow_grammar.proofs.Parts.{Follow, StepNext, StepFront}
 use Rattle.flow_grammar.proofs.Parts as parts
 use Rattle.flow_grammar.proofs.ArgStates.{ArgRest, arg_forth, arg_back, arg_completes}
@@ -97,19 +97,6 @@ start_forth K fs l (iso_text g) v t = (λ h. refl, (g, v, refl, t))
 start_forth K fs l (group_text g) v t =
     (λ h. refl, need_of_goal (Closing K (parenthesis l ∷ fs)) (suc (height fs)) g (at (suc (height fs)) closing ∷ v) (v, refl, t))
 
-of_arg : (K : Follow Shape) (p : Prefix) (fs : List Frame) (l : Level) (o : Step ArgState Atom) (w : List Placed) →
-    StepNext (ArgRest (suc (height fs))) o w (AfterFact K fs l p) → StepNext GoalRest (after_arg p fs l o) w K
-of_arg K p fs l o w h = search rules
-
-to_arg : (K : Follow Shape) (p : Prefix) (fs : List Frame) (l : Level) (o : Step ArgState Atom) (w : List Placed) →
-    StepNext GoalRest (after_arg p fs l o) w K → StepNext (ArgRest (suc (height fs))) o w (AfterFact K fs l p)
-to_arg K p fs l o w h = search rules
-
-args_front : (K : Follow Shape) (p : Prefix) (a : ArgState) (fs : List Frame) (l : Level) (w : List Placed) →
-    StepFront step_arg (λ a'. suc (height fs)) (ArgRest (suc (height fs))) a w (AfterFact K fs l p) → GoalFront (in_args p a fs l) w K
-args_front K p a fs l [] h = h
-args_front K p a fs l (at n t ∷ w) (e, h) = (e, of_arg K p fs l (step_arg a t) w h)
-
 pub goal_forth : (s : GoalState) (w : List Placed) (K : Follow Shape) → GoalRest s w K → GoalFront s w K
 goal_forth (atom_needed fs l) w K (a, v, e, t) = subst (λ y. GoalFront (atom_needed fs l) y K) e (start_forth K fs l a v t)
 goal_forth (after_atom fs l) w K h = join_forth K fs l w h
@@ -122,7 +109,7 @@ goal_forth (fact_needed p fs l) w K (applied n c cs, v, e, t) =
 goal_forth (after_relation p n fs l) w K (inl t) =
     let front = join_forth K fs (push l (prefixed p (atom n []))) w t in search rules
 goal_forth (after_relation p n fs l) w K (inr (v, e, t)) = subst (λ y. GoalFront (after_relation p n fs l) y K) e (λ h. refl, t)
-goal_forth (in_args p a fs l) w K h = args_front K p a fs l w (arg_forth (suc (height fs)) a w (AfterFact K fs l p) h)
+goal_forth (in_args p a fs l) w K h = let front = arg_forth (suc (height fs)) a w (AfterFact K fs l p) h in search rules
 
 -- Back: a step and what may follow it may follow the state
 
@@ -170,7 +157,7 @@ goal_back (fact_needed p fs l) (a_name n) w K (inr (v, e, (c, cs, r, e', t))) =
 goal_back (fact_needed p fs l) _ w K h = absurd h
 goal_back (after_relation p n fs l) opening w K h = inr (w, refl, h)
 goal_back (after_relation p n fs l) t w K h = inl (join_back K fs (push l (prefixed p (atom n []))) t w h)
-goal_back (in_args p a fs l) t w K h = arg_back (suc (height fs)) a t w (AfterFact K fs l p) (to_arg K p fs l (step_arg a t) w h)
+goal_back (in_args p a fs l) t w K h = arg_back (suc (height fs)) a t w (AfterFact K fs l p) (search rules)
 
 -- Each state can be completed
 

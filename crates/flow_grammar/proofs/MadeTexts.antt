@@ -8,7 +8,7 @@ use Rattle.flow_form.specs.RuleForm.{RuleShape, rule_shapes, IsGroupedRule, AreG
 use Rattle.flow_form.specs.Script.{Declared, fact, event, flow}
 use Rattle.flow_form.specs.Names.{flow_goal, names_in_rule}
 use Rattle.flow_grammar.specs.Symbol.{Placed, at, symbols, a_name, semicolon, equals}
-use Rattle.flow_grammar.specs.Grammar.{FactText, Kind, goals, rules, Meaning, list, gather, Text, joined, group_text, nop_text, name_text, fact_text, iso_text, not_text, single_text, order_text, pair_text, More, no_more_text, then_text, spell, mean, mean_more, NotedText, noted_text, mean_noted, DeclText, facts_text, events_text, flow_text, declared_fact, mean_decl, ScriptText, script_text, mean_rule, spell_script, mean_script, QueryText, holds_text, redundant_text, mean_query}
+use Rattle.flow_grammar.specs.Grammar.{FactText, Kind, goals, rules, Meaning, list, gather, Text, joined, group_text, iso_text, not_text, order_text, More, no_more_text, then_text, spell, mean, mean_more, NotedText, noted_text, mean_noted, DeclText, facts_text, events_text, flow_text, declared_fact, mean_decl, ScriptText, script_text, mean_rule, spell_script, mean_script, QueryText, holds_text, redundant_text, mean_query}
 use Rattle.flow_grammar.specs.Roles.{in_rule, role_name, fact_roles, goal_roles, declared_roles, script_roles, names_of}
 use Rattle.flow_grammar.proofs.RolesOfNames.{scripts_have_roles}
 use Rattle.flow_grammar.specs.Made.{IsWellMade, IsWellAsked, ScriptsAreWellMade, QueriesAreWellMade}
@@ -45,14 +45,10 @@ mutual
   grouped {k} (joined {n = n} m ms) =
       gathered (Grouped k) (Grouped k) (list k n) (λ x h. h) (list_grouped k n) (mean m) (mean_more ms) (grouped m) (grouped_more ms)
   grouped (group_text t) = grouped t
-  grouped nop_text = tt
-  grouped (name_text n) = tt
-  grouped (fact_text p f) = search std_rules
   grouped (iso_text g) = grouped g
   grouped (not_text u) = grouped u
-  grouped (single_text s n) = search std_rules
   grouped (order_text a b ns) = omega arith
-  grouped (pair_text p a b) = search std_rules
+  grouped _ = search std_rules
 
   grouped_more : {k : Kind} {n : ℕ} (ms : More k n) → Each (Grouped k) (mean_more ms)
   grouped_more no_more_text = tt
@@ -106,10 +102,8 @@ few_names (at d (a_name n) ∷ w) = let h = few_names w in omega arith
 few_names (at d _ ∷ w) = let h = few_names w in omega arith
 
 fewer_names : (d : ScriptText) → length (names_of (symbols (spell_script d))) < length (spell_script d)
-fewer_names (script_text [] g cs) = few_names _
-fewer_names (script_text (facts_text f fs ∷ ds) g cs) = few_names _
-fewer_names (script_text (events_text e es ∷ ds) g cs) = few_names _
 fewer_names (script_text (flow_text n f ∷ ds) g cs) = few_names (at 0 (a_name n) ∷ at 0 equals ∷ spell 0 f (at 0 semicolon ∷ spell_script (script_text ds g cs)))
+fewer_names _ = few_names _
 
 pub scripts_are_well_made : ScriptsAreWellMade
 scripts_are_well_made w x (d, e, ex) =

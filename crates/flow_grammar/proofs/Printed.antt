@@ -5,7 +5,7 @@ use Rattle.flow_facts.specs.Atom.{Atom, atom}
 use Rattle.flow_form.specs.Form.{Shape, Shapes, nop, named, test, absent, ins, del, iso, serial, beside, either, no_more, followed, shapes, members, IsGrouped, AreGrouped}
 use Rattle.flow_form.specs.RuleForm.{RuleShape, RuleShapes, must, never, order, precedes, needs, negated, all, any, rule_shapes, rule_members, IsGroupedRule, AreGroupedRules}
 use Rattle.flow_form.specs.RuleForm as rule
-use Rattle.flow_grammar.specs.Symbol.{Symbol, Placed, at, symbols, Deepens, constant_symbol, a_name, star, bar, plus, and_word, or_word, not_word, order_word, opening, closing, comma, iso_word}
+use Rattle.flow_grammar.specs.Symbol.{Symbol, Placed, at, symbols, constant_symbol, a_name, star, bar, plus, and_word, or_word, not_word, order_word, opening, closing, comma, iso_word}
 use Rattle.flow_grammar.specs.Grammar.{FactText, bare, applied, spell_constants, spell_fact, mean_fact, Prefix, asking, denying, adding, taking, prefix_symbol, prefixed, must_come, never_come, preceding, needing, spell_names, Kind, goals, rules, Meaning, top, join, list, gather, Text, joined, group_text, nop_text, name_text, fact_text, iso_text, not_text, single_text, order_text, pair_text, More, no_more_text, then_text, spell, spell_more, mean, mean_more}
 use Rattle.flow_model.specs.declared.limits.TheConstants.{GREATEST_DEPTH}
 use Rattle.flow_grammar.specs.Texts.{IsShallow}
@@ -17,12 +17,9 @@ constants_print : (d : ℕ) (cs : List Const) (r : List Placed) → symbols (spe
 constants_print d [] r = refl
 constants_print d (c ∷ cs) r = ap (λ y. comma ∷ constant_symbol c ∷ y) (constants_print d cs r)
 
-constant_flat : (c : Const) → ¬ Deepens (constant_symbol c)
-constant_flat c h = search std_rules
-
 constants_shallow : (d : ℕ) (cs : List Const) (r : List Placed) → IsShallow r → IsShallow (spell_constants d cs r)
 constants_shallow d [] r h = h
-constants_shallow d (c ∷ cs) r h = (λ k. absurd k, (λ k. absurd (constant_flat c k), constants_shallow d cs r h))
+constants_shallow d (c ∷ cs) r h = (λ k. absurd k, (λ k. search std_rules, constants_shallow d cs r h))
 
 -- a derivation that spells the fact's print
 pub record PrintedFact (a : Atom) : Type 0 where
@@ -38,7 +35,7 @@ with_args n (c ∷ cs) = record {
   means = refl;
   prints = λ d r. ap (λ y. a_name n ∷ opening ∷ constant_symbol c ∷ y) (constants_print (suc d) cs (at (suc d) closing ∷ r));
   shallow = λ d r l h.
-      (λ k. absurd k, (λ k. omega arith, (λ k. absurd (constant_flat c k), constants_shallow (suc d) cs (at (suc d) closing ∷ r) (λ k. absurd k, h))));
+      (λ k. absurd k, (λ k. omega arith, (λ k. search std_rules, constants_shallow (suc d) cs (at (suc d) closing ∷ r) (λ k. absurd k, h))));
 }
 
 pub fact_printed : (a : Atom) → PrintedFact a
@@ -59,9 +56,6 @@ record SpelledMore (k : Kind) (n : ℕ) (xs : List (Meaning k)) (print : List Sy
   pub means : mean_more more ≡ xs
   pub prints : (d : ℕ) (r : List Placed) → symbols (spell_more d more r) ≡ print (symbols r)
   pub shallow : (d : ℕ) (r : List Placed) → d + depth ≤ GREATEST_DEPTH → IsShallow r → IsShallow (spell_more d more r)
-
-join_flat : (k : Kind) (n : ℕ) → ¬ Deepens (join k n)
-join_flat k n h = search std_rules
 
 -- as the only member of a level above
 alone : {k : Kind} {n : ℕ} {x : Meaning k} {print : List Symbol → List Symbol} {depth : ℕ} → Spelled k n x print depth → Spelled k (suc n) x print depth
@@ -84,7 +78,7 @@ module _ {k : Kind} {n : ℕ} {x : Meaning k} {xs : List (Meaning k)} {print res
     more = then_text s.text ss.more;
     means = rw (s.means, ss.means);
     prints = λ d r. ap (λ y. join k n ∷ y) (s.prints d (spell_more d ss.more r) ∙ ap print (ss.prints d r));
-    shallow = λ d r l h. (λ j. absurd (join_flat k n j), s.shallow d (spell_more d ss.more r) (omega arith) (ss.shallow d r (omega arith) h));
+    shallow = λ d r l h. (λ j. search std_rules, s.shallow d (spell_more d ss.more r) (omega arith) (ss.shallow d r (omega arith) h));
   }
 
   -- a list
@@ -118,15 +112,12 @@ module _ {s : Shape} {print : List Symbol → List Symbol} {depth : ℕ} where
   of_either : Spelled goals 3 s print depth → AtEach s true true true print depth
   of_either t = let g = in_group t in record { as_atom = g; as_serial = alone g; as_beside = alone (alone g); as_goal = t }
 
-prefix_flat : (p : Prefix) → ¬ Deepens (prefix_symbol p)
-prefix_flat p h = search std_rules
-
 with_prefix : (p : Prefix) (a : Atom) → Spelled goals 0 (prefixed p a) (λ r. prefix_symbol p ∷ print_fact a r) (arguments_nesting a.args)
 with_prefix p a = let f = fact_printed a in record {
   text = fact_text p f.text;
   means = ap (prefixed p) f.means;
   prints = λ d r. ap (λ y. prefix_symbol p ∷ y) (f.prints d r);
-  shallow = λ d r l h. (λ j. absurd (prefix_flat p j), f.shallow d r l h);
+  shallow = λ d r l h. (λ j. search std_rules, f.shallow d r l h);
 }
 
 isolated : {s : Shape} {print : List Symbol → List Symbol} {depth : ℕ} → Spelled goals 3 s print depth → Spelled goals 0 (iso s) (λ r. iso_word ∷ bracket true print r) (suc depth)

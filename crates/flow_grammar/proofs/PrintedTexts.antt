@@ -1,5 +1,5 @@
 -- A text's print is read back.
-use Rattle.std.proofs.Common.{◌≡◌, ◌+◌, ◌≤◌, List, [], ◌∷◌, map, flat_map, refl, sym, ap, ◌∙◌, subst, arith}
+use Rattle.std.proofs.Common.{rules as std_rules, ◌≡◌, ◌+◌, ◌≤◌, List, [], ◌∷◌, map, flat_map, refl, sym, ap, ◌∙◌, subst, arith}
 use Rattle.flow_model.specs.declared.labels.Note.{Note}
 use Rattle.flow_model.specs.declared.labels.Note.TheVariants.{Done, Fail, FailFirst}
 use Rattle.flow_model.specs.Lists.{Each}
@@ -9,7 +9,7 @@ use Rattle.flow_form.specs.RuleForm.{RuleShape, IsGroupedRule}
 use Rattle.flow_form.specs.Script.{Declared, fact, event, flow}
 use Rattle.flow_form.specs.Names.{flow_goal}
 use Rattle.flow_grammar.specs.Symbol.{Placed, at, symbols, fact_word, event_word, flow_word, goal_word, constraint_word, a_name, equals, semicolon}
-use Rattle.flow_grammar.specs.Grammar.{FactText, rules, Text, spell, mean, NoteText, silent_text, done_text, fail_text, fail_first_text, spell_note, mean_note, NotedText, noted_text, spell_noted, DeclText, facts_text, events_text, flow_text, spell_fact, spell_items, spell_decl, mean_decl, mean_rule, ScriptText, script_text, spell_decls, spell_constraints, spell_script, mean_script}
+use Rattle.flow_grammar.specs.Grammar.{FactText, rules, Text, spell, mean, NoteText, silent_text, fail_text, fail_first_text, spell_note, mean_note, NotedText, noted_text, spell_noted, DeclText, facts_text, events_text, flow_text, spell_fact, spell_items, spell_decl, mean_decl, mean_rule, ScriptText, script_text, spell_decls, spell_constraints, spell_script, mean_script}
 use Rattle.flow_model.specs.declared.limits.TheConstants.{GREATEST_DEPTH}
 use Rattle.flow_grammar.specs.Texts.{IsShallow, Derives, SpellsScript}
 use Rattle.flow_grammar.specs.Made.{IsWellMade}
@@ -104,10 +104,7 @@ after_a_fact : (f : FactText) (r : List Placed) → IsShallow (spell_fact 0 f r)
 after_a_fact f r h = (after_fact 0 f r (omega arith) h).1
 
 after_noted : (e : NotedText) (r : List Placed) → IsShallow (spell_noted e r) → IsShallow r
-after_noted (noted_text n silent_text) r (k, h) = h
-after_noted (noted_text n done_text) r (k, h) = h.1
-after_noted (noted_text n fail_text) r (k, h) = h.1
-after_noted (noted_text n (fail_first_text m)) r (k, h) = h.1.1
+after_noted e r h = search std_rules
 
 decl_within : (d : DeclText) (r : List Placed) → IsShallow (spell_decl d r) → Each (λ g. nesting g ≤ GREATEST_DEPTH) (flat_map flow_goal (mean_decl d)) × IsShallow r
 decl_within (facts_text f fs) r h =

@@ -3,7 +3,7 @@ use Rattle.std.proofs.Common.{rules, ◌≡◌, ℕ, zero, suc, ◌<◌, ◌≤�
 use Rattle.std.specs.Prelude.{option_map}
 use Rattle.flow_model.specs.declared.limits.TheConstants.{GREATEST_DEPTH}
 use Rattle.flow_form.specs.declared.refusal.Wanted.{Wanted}
-use Rattle.flow_grammar.specs.Symbol.{Symbol, Placed, at, symbols, Deepens, opening, not_word}
+use Rattle.flow_grammar.specs.Symbol.{Symbol, Placed, at, symbols, Deepens}
 use Rattle.flow_grammar.specs.Machine.{Reading, gives, expected, too_deep, later, is_too_deep, at_end, go_on, run, standing}
 use Rattle.flow_grammar.specs.Laws.{StandsFor, MayEnd}
 use Rattle.flow_grammar.specs.Texts.{IsShallow, IsDeepAt, Derives, IsWhole, IsViable, StandsDeep, IsStuckAt, NoneDeepBefore}
@@ -21,9 +21,7 @@ not_deep : (t : Symbol) (d : ℕ) → is_too_deep t d ≡ false → Deepens t �
 not_deep t d e h = search (rules, leb-false)
 
 deep_of : (t : Symbol) (d : ℕ) → is_too_deep t d ≡ true → Deepens t × (GREATEST_DEPTH ≤ d)
-deep_of opening d e = (tt, leb-true GREATEST_DEPTH d e)
-deep_of not_word d e = (tt, leb-true GREATEST_DEPTH d e)
-deep_of _ d e = cc
+deep_of t d e = search (rules, leb-true)
 
 -- What one step of a run makes
 

@@ -7,9 +7,8 @@ use Rattle.flow_form.specs.RuleForm.{RuleShape}
 use Rattle.flow_form.specs.Script.{Declared, fact, event, flow, Said}
 use Rattle.flow_grammar.specs.Symbol.{Symbol, Placed, at, Deepens, fact_word, event_word, flow_word, goal_word, constraint_word, done_word, fail_word, a_name, a_number, opening, comma, semicolon, equals}
 use Rattle.flow_grammar.specs.Grammar.{bare, applied, spell_fact, goals, rules, Text, spell, mean, NoteText, silent_text, done_text, fail_text, fail_first_text, spell_note, mean_note, noted_text, spell_noted, mean_noted, facts_text, events_text, flow_text, spell_items, declared_fact, ScriptText, script_text, spell_script, mean_script, mean_rule, spell_constraints}
-use Rattle.flow_grammar.specs.Machine.{constant_needed, step_arg, step_goal, depth_goal, step_rule, depth_rule, State, declaration_needed, fact_to_declare, after_declared_relation, in_declared_args, after_fact, event_to_declare, after_event, after_fail, after_noted, flow_to_declare, equals_needed, in_flow, in_goal, constraint_needed, in_constraint, join_item, step_script, finish_script, depth_script}
+use Rattle.flow_grammar.specs.Machine.{constant_needed, depth_goal, State, declaration_needed, fact_to_declare, after_declared_relation, in_declared_args, after_fact, event_to_declare, after_event, after_fail, after_noted, flow_to_declare, equals_needed, in_flow, in_goal, constraint_needed, in_constraint, join_item, step_script, finish_script, depth_script}
 use Rattle.flow_grammar.proofs.Runs.{OnNext, Front, Knows}
-use Rattle.flow_grammar.proofs.Parts.{carried_forth, carried_back}
 use Rattle.flow_grammar.proofs.ArgStates.{ArgRest, arg_forth, arg_back, arg_completes}
 use Rattle.flow_grammar.proofs.GoalStates.{GoalRest, goal_forth, goal_back, goal_completes, need_of_goal, goal_of_need, nop_goal, Closing}
 use Rattle.flow_grammar.proofs.RuleStates.{RuleRest, rule_forth, rule_back, rule_completes, need_of_rule, rule_of_need}
@@ -145,9 +144,7 @@ script_forth (fact_to_declare ds) w x (applied n c cs, v, e, h) =
     subst (λ y. Ahead (fact_to_declare ds) y x) e (λ h'. refl, inr (_, refl, (c, cs, v, refl, h)))
 script_forth (after_declared_relation ds n) w x (inl h) = let ahead = facts_forth (ds ++ fact (atom n []) ∷ []) w x h in search std_rules
 script_forth (after_declared_relation ds n) w x (inr (v, e, h)) = subst (λ y. Ahead (after_declared_relation ds n) y x) e (λ h'. refl, h)
-script_forth (in_declared_args ds a) w x h =
-    carried_forth (ArgRest 1) Rest (in_declared_args ds) (λ f. after_fact (ds ++ fact f ∷ [])) x step_arg (λ a'. 1) step_script finish_script depth_script (λ s v k. k)
-    a w refl (λ t. refl) (arg_forth 1 a w (λ f r. AfterFact (ds ++ fact f ∷ []) r x) h)
+script_forth (in_declared_args ds a) w x h = let front = arg_forth 1 a w (λ f r. AfterFact (ds ++ fact f ∷ []) r x) h in search std_rules
 script_forth (after_fact ds) w x h = facts_forth ds w x h
 script_forth (event_to_declare ds) w x (noted_text n note, v, e, h) = subst (λ y. Ahead (event_to_declare ds) y x) e (λ h'. refl, (note, v, refl, h))
 script_forth (after_event ds n) w x h = note_forth ds n w x h
@@ -158,16 +155,10 @@ script_forth (flow_to_declare ds) w x (n, g, v, e, h) = subst (λ y. Ahead (flow
 script_forth (equals_needed ds n) w x (g, v, e, h) =
     subst (λ y. Ahead (equals_needed ds n) y x) e
     (λ h'. refl, need_of_goal (Closing (λ s r. Declarations (ds ++ flow n s ∷ []) r x) []) 0 g (at 0 semicolon ∷ v) (v, refl, h))
-script_forth (in_flow ds n g) w x h =
-    carried_forth GoalRest Rest (in_flow ds n) (λ s. declaration_needed (ds ++ flow n s ∷ [])) x step_goal depth_goal step_script finish_script depth_script (λ s v k. k)
-    g w refl (λ t. refl) (goal_forth g w (λ s v. Declarations (ds ++ flow n s ∷ []) v x) h)
-script_forth (in_goal ds g) w x h =
-    carried_forth GoalRest Rest (in_goal ds) (λ s. constraint_needed ds s []) x step_goal depth_goal step_script finish_script depth_script (λ s v k. k)
-    g w refl (λ t. refl) (goal_forth g w (λ s v. Constraints ds s [] v x) h)
+script_forth (in_flow ds n g) w x h = let front = goal_forth g w (λ s v. Declarations (ds ++ flow n s ∷ []) v x) h in search std_rules
+script_forth (in_goal ds g) w x h = let front = goal_forth g w (λ s v. Constraints ds s [] v x) h in search std_rules
 script_forth (constraint_needed ds s rs) w x h = constraint_forth ds s rs w x h
-script_forth (in_constraint ds s rs r) w x h =
-    carried_forth RuleRest Rest (in_constraint ds s rs) (λ y. constraint_needed ds s (rs ++ y ∷ [])) x step_rule depth_rule step_script finish_script depth_script (λ s' v k. k)
-    r w refl (λ t. refl) (rule_forth r w (λ y v. Constraints ds s (rs ++ y ∷ []) v x) h)
+script_forth (in_constraint ds s rs r) w x h = let front = rule_forth r w (λ y v. Constraints ds s (rs ++ y ∷ []) v x) h in search std_rules
 
 -- Back
 
@@ -206,9 +197,7 @@ script_back (fact_to_declare ds) (a_name n) w x (inr (v, e, (c, cs, r, e', h))) 
 script_back (fact_to_declare ds) _ w x h = absurd h
 script_back (after_declared_relation ds n) opening w x h = (0, λ h'. refl, inr (w, refl, h))
 script_back (after_declared_relation ds n) t w x h = (0, λ h'. refl, inl (facts_back (ds ++ fact (atom n []) ∷ []) t w x h))
-script_back (in_declared_args ds a) t w x h =
-    let k = carried_back (ArgRest 1) Rest (in_declared_args ds) (λ f. after_fact (ds ++ fact f ∷ [])) x (λ s v k. k) (step_arg a t) w h in
-    (1, λ h'. refl, arg_back 1 a t w (λ f r. AfterFact (ds ++ fact f ∷ []) r x) k)
+script_back (in_declared_args ds a) t w x h = (1, λ h'. refl, arg_back 1 a t w (λ f r. AfterFact (ds ++ fact f ∷ []) r x) (search std_rules))
 script_back (after_fact ds) t w x h = (0, λ h'. refl, facts_back ds t w x h)
 script_back (event_to_declare ds) (a_name n) w x (note, v, e, h) = (0, λ h'. refl, (noted_text n note, v, ap (λ y. at 0 (a_name n) ∷ y) e, h))
 script_back (event_to_declare ds) _ w x h = absurd h
@@ -225,20 +214,14 @@ script_back (equals_needed ds n) equals w x h =
     let (g, r, e, (v, e', k)) = goal_of_need (Closing (λ s v. Declarations (ds ++ flow n s ∷ []) v x) []) 0 w h in
     (0, λ h'. refl, (g, v, ap (λ y. at 0 equals ∷ y) (ap (spell 0 g) e' ∙ e), k))
 script_back (equals_needed ds n) _ w x h = absurd h
-script_back (in_flow ds n g) t w x h =
-    let k = carried_back GoalRest Rest (in_flow ds n) (λ s. declaration_needed (ds ++ flow n s ∷ [])) x (λ s v k. k) (step_goal g t) w h in
-    (depth_goal g, λ h'. refl, goal_back g t w (λ s v. Declarations (ds ++ flow n s ∷ []) v x) k)
-script_back (in_goal ds g) t w x h =
-    let k = carried_back GoalRest Rest (in_goal ds) (λ s. constraint_needed ds s []) x (λ s v k. k) (step_goal g t) w h in
-    (depth_goal g, λ h'. refl, goal_back g t w (λ s v. Constraints ds s [] v x) k)
+script_back (in_flow ds n g) t w x h = (depth_goal g, λ h'. refl, goal_back g t w (λ s v. Declarations (ds ++ flow n s ∷ []) v x) (search std_rules))
+script_back (in_goal ds g) t w x h = (depth_goal g, λ h'. refl, goal_back g t w (λ s v. Constraints ds s [] v x) (search std_rules))
 script_back (constraint_needed ds s rs) constraint_word w x h =
     let (c, r, e, (v, e', (cs, e2, ex))) = rule_of_need (rule_states.Closing (λ y v. Constraints ds s (rs ++ y ∷ []) v x) []) 0 w h in
     let said = ap (λ y. record { decls = ds; goal = s; rules = y }) (sym (append_assoc rs (mean c ∷ []) (map mean_rule cs))) ∙ ex in
     (0, λ h'. refl, (c ∷ cs, ap (λ y. at 0 constraint_word ∷ y) (ap (spell 0 c) (ap (λ y. at 0 semicolon ∷ y) e2 ∙ e') ∙ e), said))
 script_back (constraint_needed ds s rs) _ w x h = absurd h
-script_back (in_constraint ds s rs r) t w x h =
-    rule_back r t w (λ y v. Constraints ds s (rs ++ y ∷ []) v x)
-    (carried_back RuleRest Rest (in_constraint ds s rs) (λ y. constraint_needed ds s (rs ++ y ∷ [])) x (λ s' v k. k) (step_rule r t) w h)
+script_back (in_constraint ds s rs r) t w x h = rule_back r t w (λ y v. Constraints ds s (rs ++ y ∷ []) v x) (search std_rules)
 
 script_ended : (s : State) (x : Said) → finish_script s ≡ Some x → Rest s [] x
 script_ended (constraint_needed ds s rs) x e =
@@ -259,11 +242,9 @@ script_completes (fact_to_declare ds) = (_, _, (bare [], _, refl, ([], least, re
 script_completes (after_declared_relation ds n) = (_, _, inl ([], least, refl, refl))
 script_completes (in_declared_args ds a) =
     arg_completes 1 a (λ x f r. AfterFact (ds ++ fact f ∷ []) r x) (λ f. (_, _, ([], least, refl, refl)))
-script_completes (after_fact ds) = (_, _, ([], least, refl, refl))
 script_completes (event_to_declare ds) = (_, _, (noted_text [] silent_text, _, refl, ([], least, refl, refl)))
 script_completes (after_event ds n) = (_, _, (silent_text, _, refl, ([], least, refl, refl)))
 script_completes (after_fail ds n) = (_, _, inl ([], least, refl, refl))
-script_completes (after_noted ds) = (_, _, ([], least, refl, refl))
 script_completes (flow_to_declare ds) = (_, _, ([], nop_goal, _, refl, (least, refl, refl)))
 script_completes (equals_needed ds n) = (_, _, (nop_goal, _, refl, (least, refl, refl)))
 script_completes (in_flow ds n g) =
@@ -272,6 +253,7 @@ script_completes (in_goal ds g) = goal_completes g (λ x s v. Constraints ds s [
 script_completes (constraint_needed ds s rs) = (_, _, ([], refl, refl))
 script_completes (in_constraint ds s rs r) =
     rule_completes r (λ x y v. Constraints ds s (rs ++ y ∷ []) v x) (λ y. (_, _, ([], refl, refl)))
+script_completes _ = (_, _, ([], least, refl, refl))
 
 pub script_knows : Knows step_script finish_script depth_script Rest
 script_knows = record { forth = script_forth; back = script_back; ended = script_ended; completes = script_completes }

@@ -1,7 +1,7 @@
 -- What each state wants could come.
 use Rattle.std.proofs.Common.{rules}
 use Rattle.flow_grammar.specs.Symbol.{Symbol}
-use Rattle.flow_grammar.specs.Machine.{Step, reading, whole, stuck, carry, ArgState, step_arg, wanted_arg, GoalState, step_goal, wanted_goal, RuleState, step_rule, wanted_rule, State, step_script, finish_script, wanted_script, QueryState, step_query, finish_query, wanted_query}
+use Rattle.flow_grammar.specs.Machine.{Step, reading, whole, stuck, carry, GoalState, step_goal, wanted_goal, RuleState, step_rule, wanted_rule, State, step_script, finish_script, wanted_script, QueryState, step_query, finish_query, wanted_query}
 use Rattle.flow_grammar.specs.Laws.{StandsFor, MayEnd}
 use Rattle.flow_grammar.proofs.Runs.{Goes, Wants}
 
@@ -10,11 +10,8 @@ Moves (reading s) = Unit {0}
 Moves (whole x) = Unit {0}
 Moves stuck = ⊥
 
-arg_comes : (a : ArgState) (t : Symbol) → StandsFor (wanted_arg a) t → Moves (step_arg a t)
-arg_comes _ t h = search rules
-
 goal_comes : (g : GoalState) (t : Symbol) → StandsFor (wanted_goal g) t → Moves (step_goal g t)
-goal_comes g t h = search (rules, arg_comes)
+goal_comes g t h = search rules
 
 rule_comes : (r : RuleState) (t : Symbol) → StandsFor (wanted_rule r) t → Moves (step_rule r t)
 rule_comes r t h = search rules
@@ -23,16 +20,10 @@ carry_goes : {S V T : Type 0} (within : S → T) (after : V → T) (o : Step S V
 carry_goes within after _ h = search rules
 
 script_comes : (s : State) (t : Symbol) → StandsFor (wanted_script s) t → Goes (step_script s t)
-script_comes s t h = search (rules, carry_goes, arg_comes, goal_comes, rule_comes)
-
-goal_goes_on : (g : GoalState) → ¬ MayEnd (wanted_goal g)
-goal_goes_on g h = search rules
-
-rule_goes_on : (r : RuleState) → ¬ MayEnd (wanted_rule r)
-rule_goes_on r h = search rules
+script_comes s t h = search (rules, carry_goes, goal_comes, rule_comes)
 
 script_ends : (s : State) → MayEnd (wanted_script s) → Goes (finish_script s)
-script_ends s h = search (rules, goal_goes_on, rule_goes_on)
+script_ends s h = search rules
 
 pub script_wants : Wants step_script finish_script wanted_script
 script_wants = record { comes = script_comes; ends = script_ends }
@@ -41,7 +32,7 @@ query_comes : (s : QueryState) (t : Symbol) → StandsFor (wanted_query s) t →
 query_comes s t h = search (rules, carry_goes, rule_comes)
 
 query_ends : (s : QueryState) → MayEnd (wanted_query s) → Goes (finish_query s)
-query_ends s h = search (rules, rule_goes_on)
+query_ends s h = search rules
 
 pub query_wants : Wants step_query finish_query wanted_query
 query_wants = record { comes = query_comes; ends = query_ends }

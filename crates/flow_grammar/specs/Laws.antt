@@ -26,68 +26,40 @@ IsTooDeepJustThere Spells read = (ts : List Symbol) (k : ℕ) →
 
 -- The kinds
 
-abbrev pub BeginsDeclaration : Symbol → Type 0
-BeginsDeclaration fact_word = Unit {0}
-BeginsDeclaration event_word = Unit {0}
-BeginsDeclaration flow_word = Unit {0}
-BeginsDeclaration goal_word = Unit {0}
-BeginsDeclaration _ = ⊥
-
-abbrev pub IsAName : Symbol → Type 0
-IsAName (a_name n) = Unit {0}
-IsAName _ = ⊥
-
-abbrev pub IsAConstant : Symbol → Type 0
-IsAConstant (a_name n) = Unit {0}
-IsAConstant (a_number n) = Unit {0}
-IsAConstant _ = ⊥
-
-abbrev pub BeginsAtom : Symbol → Type 0
-BeginsAtom nop_word = Unit {0}
-BeginsAtom (a_name n) = Unit {0}
-BeginsAtom question = Unit {0}
-BeginsAtom exclamation = Unit {0}
-BeginsAtom ins_word = Unit {0}
-BeginsAtom del_word = Unit {0}
-BeginsAtom iso_word = Unit {0}
-BeginsAtom opening = Unit {0}
-BeginsAtom _ = ⊥
-
-abbrev pub BeginsUnit : Symbol → Type 0
-BeginsUnit not_word = Unit {0}
-BeginsUnit opening = Unit {0}
-BeginsUnit must_word = Unit {0}
-BeginsUnit never_word = Unit {0}
-BeginsUnit order_word = Unit {0}
-BeginsUnit precedes_word = Unit {0}
-BeginsUnit needs_word = Unit {0}
-BeginsUnit _ = ⊥
-
-abbrev pub BeginsQuery : Symbol → Type 0
-BeginsQuery holds_word = Unit {0}
-BeginsQuery redundant_word = Unit {0}
-BeginsQuery _ = ⊥
-
-abbrev pub IsANumber : Symbol → Type 0
-IsANumber (a_number n) = Unit {0}
-IsANumber _ = ⊥
-
 -- the symbol is of that kind
 abbrev pub StandsFor : Wanted → Symbol → Type 0
-StandsFor want.Declaration t = BeginsDeclaration t
-StandsFor want.Constraint t = t ≡ constraint_word
-StandsFor want.Name t = IsAName t
-StandsFor want.Fact t = IsAName t
-StandsFor want.Constant t = IsAConstant t
-StandsFor want.Atom t = BeginsAtom t
-StandsFor want.Rule t = BeginsUnit t
-StandsFor want.Opening t = t ≡ opening
-StandsFor want.Closing t = t ≡ closing
-StandsFor want.Equals t = t ≡ equals
-StandsFor want.Semicolon t = t ≡ semicolon
-StandsFor want.Query t = BeginsQuery t
-StandsFor want.Number t = IsANumber t
-StandsFor want.End t = ⊥
+StandsFor want.Declaration fact_word = Unit {0}
+StandsFor want.Declaration event_word = Unit {0}
+StandsFor want.Declaration flow_word = Unit {0}
+StandsFor want.Declaration goal_word = Unit {0}
+StandsFor want.Constraint constraint_word = Unit {0}
+StandsFor want.Name (a_name n) = Unit {0}
+StandsFor want.Fact (a_name n) = Unit {0}
+StandsFor want.Constant (a_name n) = Unit {0}
+StandsFor want.Constant (a_number n) = Unit {0}
+StandsFor want.Atom nop_word = Unit {0}
+StandsFor want.Atom (a_name n) = Unit {0}
+StandsFor want.Atom question = Unit {0}
+StandsFor want.Atom exclamation = Unit {0}
+StandsFor want.Atom ins_word = Unit {0}
+StandsFor want.Atom del_word = Unit {0}
+StandsFor want.Atom iso_word = Unit {0}
+StandsFor want.Atom opening = Unit {0}
+StandsFor want.Rule not_word = Unit {0}
+StandsFor want.Rule opening = Unit {0}
+StandsFor want.Rule must_word = Unit {0}
+StandsFor want.Rule never_word = Unit {0}
+StandsFor want.Rule order_word = Unit {0}
+StandsFor want.Rule precedes_word = Unit {0}
+StandsFor want.Rule needs_word = Unit {0}
+StandsFor want.Opening opening = Unit {0}
+StandsFor want.Closing closing = Unit {0}
+StandsFor want.Equals equals = Unit {0}
+StandsFor want.Semicolon semicolon = Unit {0}
+StandsFor want.Query holds_word = Unit {0}
+StandsFor want.Query redundant_word = Unit {0}
+StandsFor want.Number (a_number n) = Unit {0}
+StandsFor _ _ = ⊥
 
 -- the end is of that kind
 abbrev pub MayEnd : Wanted → Type 0

@@ -1,5 +1,5 @@
 -- What is written piece by piece is read so.
-use Rattle.std.proofs.Common.{◌≡◌, ℕ, zero, suc, ◌+◌, ◌<◌, ◌^◌, List, [], ◌∷◌, ◌++◌, length, take, refl, ap, ◌∙◌, arith, Bool, true, false, cond, nat_lt, ◌&&◌, if◌then◌else◌}
+use Rattle.std.proofs.Common.{◌≡◌, ℕ, zero, suc, ◌+◌, ◌<◌, ◌^◌, List, [], ◌∷◌, ◌++◌, length, take, refl, ap, ◌∙◌, arith, Bool, true, cond, nat_lt, if◌then◌else◌}
 use Rattle.std.specs.Prelude.{Some, None}
 use Rattle.std.proofs.lemmas.Bool.{lt-ltb}
 use Rattle.std.specs.List.{prefix_len, list_all}
@@ -15,12 +15,7 @@ use Rattle.std.proofs.Math.Seq.{drop-append_seam, take-append_seam}
 prefix_len-front : (p : ℕ → Bool) (more rest : List ℕ) → list_all p more ≡ true → BeginsWithout p rest → prefix_len p (more ++ rest) ≡ length more
 prefix_len-front p [] [] all stop = refl
 prefix_len-front p [] (b ∷ bs) all stop = ap (λ pass. cond pass (1 + prefix_len p bs) 0) stop
-prefix_len-front p (b ∷ bs) rest all stop = go (p b) refl all (λ h. prefix_len-front p bs rest h stop)
-  where
-    go : (pass : Bool) → p b ≡ pass → (pass && list_all p bs) ≡ true → (list_all p bs ≡ true → prefix_len p (bs ++ rest) ≡ length bs)
-        → prefix_len p (b ∷ bs ++ rest) ≡ suc (length bs)
-    go true e h more = ap (λ pass. cond pass (1 + prefix_len p (bs ++ rest)) 0) e ∙ ap (λ n. 1 + n) (more h) ∙ omega arith
-    go false e h more = cc
+prefix_len-front p (b ∷ bs) rest all stop = let more = prefix_len-front p bs rest in grind (arith, more)
 
 letter-piece : (b : ℕ) (bs : List ℕ) → is_letter b ≡ true → piece_at b bs ≡ Some (token Word (prefix_len is_in_word bs))
 letter-piece b bs letter = grind arith

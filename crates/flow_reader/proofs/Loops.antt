@@ -1,6 +1,6 @@
 -- A machine that goes along the tokens of a text.
-use Rattle.std.proofs.Common.{◌≡◌, ℕ, suc, ◌+◌, ◌≤◌, List, [], ◌∷◌, length, refl, sym, ap, subst, ◌∙◌, arith}
-use Rattle.std.specs.Prelude.{Bool, true, false, option_map, Result, Ok, Err, IfOk, IfErr}
+use Rattle.std.proofs.Common.{rules, ◌≡◌, ℕ, suc, ◌+◌, ◌≤◌, List, [], ◌∷◌, length, sym, ap, subst, ◌∙◌, arith}
+use Rattle.std.specs.Prelude.{Bool, option_map, Result, IfOk, IfErr}
 use Rattle.std.specs.Prelude.{Option, Some, None}
 use Rattle.flow_form.specs.declared.refusal.Wanted.{Wanted}
 use Rattle.flow_model.specs.Lists.{Each}
@@ -20,19 +20,13 @@ pub settled_step : {R E S : Type 0} (view : R → S) (step : S → Symbol → Op
     (made : Result (Option R) E) (deep : Bool) (place : ℕ) (kind : Wanted) (result : Result R TextRefusal) →
     IfOk made (λ next. option_map view next ≡ step s t) → deep ≡ is_too_deep t (depth s) → result ≡ settled made deep place kind →
     IfOk result (λ r. StepsTo step depth s t (view r))
-settled_step view step depth s t (Err error) deep place kind result led counted e = rw e tt
-settled_step view step depth s t (Ok None) deep place kind result led counted e = rw e tt
-settled_step view step depth s t (Ok (Some r)) true place kind result led counted e = rw e tt
-settled_step view step depth s t (Ok (Some r)) false place kind result led counted e = rw e (sym led, sym counted)
+settled_step view step depth s t made deep place kind result led counted e = rw e (search rules)
 
 pub settled_refusal : {R E S : Type 0} (view : R → S) (step : S → Symbol → Option S) (wanted : S → Wanted) (depth : S → ℕ) (s : S) (t : Symbol)
     (made : Result (Option R) E) (deep : Bool) (place : ℕ) (kind : Wanted) (result : Result R TextRefusal) →
     IfOk made (λ next. option_map view next ≡ step s t) → deep ≡ is_too_deep t (depth s) → kind ≡ wanted s →
     result ≡ settled made deep place kind → IfErr result (λ refusal. IsStepRefusal step wanted depth s t place refusal)
-settled_refusal view step wanted depth s t (Err error) deep place kind result led counted wants e = rw e tt
-settled_refusal view step wanted depth s t (Ok None) deep place kind result led counted wants e = rw e (sym led, wants, refl)
-settled_refusal view step wanted depth s t (Ok (Some r)) true place kind result led counted wants e = rw e ((view r, sym led), sym counted, refl)
-settled_refusal view step wanted depth s t (Ok (Some r)) false place kind result led counted wants e = rw e tt
+settled_refusal view step wanted depth s t made deep place kind result led counted wants e = rw e (search rules)
 
 -- where a machine stands before the rest of the tokens
 pub record Stands {S V : Type 0} (text : List ℕ) (tokens : List Token) (read : Reading V) (going : S → List Symbol → Reading V)

@@ -54,4 +54,4 @@ script_within _ t = search (rules, least, as_deep)
 
 pub query_within : (s : machine.QueryState) (t : Symbol) → Within machine.depth_query (machine.step_query s t) (machine.depth_query s)
 query_within (machine.in_property r) t = carried_within depth_rule machine.depth_query machine.in_property _ (λ s. refl) (λ x. refl) (step_rule r t) (depth_rule r) (rule_within r t)
-query_within _ t = search (rules, least)
+query_within _ t = search rules
