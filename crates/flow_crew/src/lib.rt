@@ -15,4 +15,3 @@ pub use book::Book;
 pub use crew::run_crew;
 pub use done::law_done_runs_commit;
 pub use ends::{End, Move};
-pub use held::Held;
