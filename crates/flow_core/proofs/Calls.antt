@@ -7,7 +7,7 @@ use Rattle.flow_model.specs.declared.labels.Label.TheVariants.{Event}
 use Rattle.flow_model.specs.declared.labels.Note.{Note}
 use Rattle.flow_model.specs.declared.labels.Note.TheVariants as note
 use Rattle.flow_model.specs.declared.history.Call.{Call}
-use Rattle.flow_model.specs.Lists.{Each, numbers_from}
+use Rattle.flow_model.specs.Lists.{numbers_from}
 use Rattle.flow_model.specs.Facts.{event_at, is_event}
 use Rattle.flow_model.specs.Run.{Claim, RunState, claim_at, leaf_of_claim}
 use Rattle.flow_model.specs.Verdict.{call_of, event_of_claim, note_of, attempts}
@@ -18,13 +18,14 @@ use Rattle.flow_workflow.specs.Definition.{Definition, schema_of}
 use Rattle.flow_workflow.specs.Numbers.{IsKnown}
 use Rattle.flow_residual.specs.Claimed.{Claimed, count_of}
 use Rattle.flow_residual.proofs.Outstanding.{each_at}
-use Rattle.flow_core.specs.Invariant.{AreClaimsOf}
+use Rattle.flow_core.specs.declared.engine.Core.TheInside.{Inside}
+use Rattle.flow_core.specs.Invariant.{AreClaimsOf, IsRunning}
 use Rattle.flow_core.proofs.Steps.{events_at, label_of_event}
 
--- the event of a known label is known
-pub known_event : (labels : List Label) (events facts : ℕ) → Each (IsKnown events facts) labels → (leaf event : ℕ) → event_at labels leaf ≡ Some event → event < events
-known_event labels events facts known leaf event at =
-    each_at (IsKnown events facts) labels leaf (Event event) known (label_of_event labels leaf event at)
+-- the event of a leaf has a kind
+pub kind_below : (i : Inside) → IsRunning i → (leaf event : ℕ) → event_at i.workflow.tree.labels leaf ≡ Some event → event < length i.workflow.events
+kind_below i k leaf event at =
+    each_at (IsKnown (length i.workflow.events) (length i.workflow.facts)) i.workflow.tree.labels leaf (Event event) k.kept.known (label_of_event i.workflow.tree.labels leaf event at)
 
 -- an event's leaf has a label
 pub event_below : (labels : List Label) (n : ℕ) → IsTrue (is_some (event_at labels n)) → n < length labels

@@ -1,5 +1,5 @@
 -- What the calls that make an entry owe, told of the fields of a core.
-use Rattle.std.proofs.Common.{◌≡◌, ◌≤◌, ℕ, false, List, subst, subst₂, sym, ◌∙◌, true≢false}
+use Rattle.std.proofs.Common.{◌≡◌, ◌≤◌, ◌<◌, ℕ, false, List, length, arith, subst, subst₂, sym, ◌∙◌, true≢false}
 use Rattle.std.specs.Vec.{vec_capacity}
 use Rattle.flow_model.specs.declared.limits.TheConstants.{MOST_ENTRIES}
 use Rattle.flow_model.specs.declared.history.Entry.{Entry}
@@ -27,6 +27,14 @@ module _ (i : Inside) (k : IsRunning i) (v : Run) (view : run_by i ≡ v) where
   next_inside claim leaf current on =
       subst (MayComeNext i.residual) (inside (λ r. leaf_of_claim (now r) claim ≡ leaf) on)
       (next_of_current i k claim (inside (λ r. IsCurrent (now r) claim) current))
+
+  -- there are epochs left
+  pub epoch_below : HasEntryLeft v → i.claims.epoch < MOST_ENTRIES
+  epoch_below left =
+      let room : length i.history.items < i.limit = inside HasEntryLeft left in
+      let few : i.claims.epoch ≤ length i.history.items = k.kept.few_epochs in
+      let small : i.limit ≤ MOST_ENTRIES = k.small in
+      omega arith
 
   -- with one entry more and nothing looked at
   pub entered : (i' : Inside) (by : ℕ) (step : Step) → i'.workflow ≡ i.workflow → i'.limit ≡ i.limit → i'.looked ≡ false → i'.history.items ≡ longer i.history.items by step →

@@ -31,10 +31,10 @@ use Rattle.flow_core.proofs.Waiting.{none_current}
 pub not_over : (r : Run) → IsOver r → IsUncommitted r → ⊥
 not_over r over going = true≢false (sym over ∙ going)
 
-none_other : (w : Schema) (n : ℕ) → length w.labels ≤ n → IsOtherLeaf w n → ⊥
+pub none_other : (w : Schema) (n : ℕ) → length w.labels ≤ n → IsOtherLeaf w n → ⊥
 none_other w n past other = omega (arith, other.0)
 
-none_event : (w : Schema) (n : ℕ) → length w.labels ≤ n → IsEventLeaf w n → ⊥
+pub none_event : (w : Schema) (n : ℕ) → length w.labels ≤ n → IsEventLeaf w n → ⊥
 none_event w n past event = omega (arith, event_below w.labels n event)
 
 pub other_event : (w : Schema) (n : ℕ) → IsOtherLeaf w n → IsEventLeaf w n → ⊥
@@ -119,13 +119,10 @@ zero_once n m p q = p ∙ sym q
 -- ---- each call
 
 module _ (r : Run) (leaf by : ℕ) where
-  abbrev taken : Run
-  taken = with_entry r by (Took (next_claim r) leaf)
-
   abbrev IsTaken : Result Call TakeRefusal → Run → Type 0
   IsTaken = IsOfFirst (IsOver r ∷ (length (schema r).labels ≤ leaf) ∷ IsOtherLeaf (schema r) leaf ∷ (¬ (HasEntryLeft r)) ∷ (¬ (CanTake (schema r) (now r) leaf)) ∷ []) 0 (λ n. n ≡ 0)
       (λ _. (Err take.Closed, r) ∷ (Err take.NoLeaf, r) ∷ (Err take.WrongKind, r) ∷ (Err (take.Spent r.limit), r) ∷ (Err take.NotEnabled, r) ∷ [])
-      (λ _. (Ok (call_of (schema r) (now taken) (next_claim r)), taken))
+      (λ _. let taken : Run = with_entry r by (Took (next_claim r) leaf) in (Ok (call_of (schema r) (now taken) (next_claim r)), taken))
 
   of_event : {P : Type 0} → IsUncommitted r → IsEventLeaf (schema r) leaf → P → ¬ (IsOver r) × (¬ (length (schema r).labels ≤ leaf) × (¬ (IsOtherLeaf (schema r) leaf) × P))
   of_event going event p = ((λ over. not_over r over going), ((λ past. none_event (schema r) leaf past event), ((λ other. other_event (schema r) leaf other event), p)))
@@ -190,11 +187,8 @@ is_done : (r : Run) (claim by : ℕ) (a : Result (Unit {0}) PostRefusal) (after 
 is_done r claim by (Err refusal) after h = is_refused r claim by [] [] _ refusal after h
 is_done r claim by (Ok x) after h = told_at 5 0 (λ i. (Ok x, h.3 i)) (of_current r claim h.0 h.1 h.2 refl) refl
 
-abbrev failed : Run → ℕ → ℕ → FailEffect → Run
-failed r claim by effect = with_entry r by (Failed claim effect)
-
 is_failed : (r : Run) (claim by : ℕ) (a : Result FailEffect PostRefusal) (after : Run) → PostsFailed r claim by a after →
-    IsPosted r claim by (HasEffect r claim Switched ∷ []) ((Ok Switched, failed r claim by Switched) ∷ []) (Ok Kept, failed r claim by Kept) a after
+    IsPosted r claim by (HasEffect r claim Switched ∷ []) ((Ok Switched, with_entry r by (Failed claim Switched)) ∷ []) (Ok Kept, with_entry r by (Failed claim Kept)) a after
 is_failed r claim by (Err refusal) after h = is_refused r claim by _ _ _ refusal after h
 is_failed r claim by (Ok Switched) after h = told_at 5 0 (λ i. (Ok Switched, h.4 i)) (of_current r claim h.0 h.1 h.2 h.3) refl
 is_failed r claim by (Ok Kept) after h = told_at 6 0 (λ i. (Ok Kept, h.4 i)) (of_current r claim h.0 h.1 h.2 ((λ other. other.2 (h.3 other.0 other.1)), refl)) refl

@@ -9,7 +9,6 @@ use Rattle.flow_model.specs.declared.history.Step.TheVariants.{Done, Failed, Lat
 use Rattle.flow_model.specs.Schema.{Schema, IsEventLeaf, IsOtherLeaf}
 use Rattle.flow_model.specs.Run.{Claim, claim_at, CanDo}
 use Rattle.flow_model.specs.Verdict.{EndsKept}
-use Rattle.flow_laws.proofs.ClaimLemmas.{some_claim}
 use Rattle.flow_core.specs.declared.next.Next.TheVariants as next
 use Rattle.flow_core.specs.declared.refusal.TakeRefusal.{TakeRefusal}
 use Rattle.flow_core.specs.declared.refusal.TakeRefusal.TheVariants as take
@@ -25,14 +24,13 @@ use Rattle.flow_core.specs.Run.{Run, schema, now, with_entry, HasEntryLeft}
 use Rattle.flow_core.specs.Answers.{IsOver, IsAnswered, IsUnanswered, Takes, Performs, Commits, Rewinds, PostIsRefused, PostsDone, PostsFailed}
 use Rattle.flow_core.specs.Looks.{IsNext}
 use Rattle.flow_core.proofs.Calls.{event_below}
+use Rattle.flow_core.proofs.OneAnswer.{other_event, not_both}
+use Rattle.flow_core.proofs.Waiting.{none_current}
 use Rattle.flow_crew.specs.declared.ends.End.TheVariants as end
 use Rattle.flow_crew.specs.Ends.{HasNoEnd}
 use Rattle.flow_crew.specs.Moves.{IsOut}
-use Rattle.flow_crew.proofs.Endings.{goes_on, none_out, stuck_ends}
+use Rattle.flow_crew.proofs.Endings.{goes_on, stuck_ends}
 use Rattle.flow_crew.proofs.Histories.{not_last_kept}
-
-event_or_other : (w : Schema) (n : ℕ) → IsEventLeaf w n → ¬ (IsOtherLeaf w n)
-event_or_other w n event other = true≢false (sym event ∙ ap is_some other.1)
 
 module _ (r : Run) (none : HasNoEnd r) (steps : HasEntryLeft r) where
   not_over : ¬ (IsOver r)
@@ -50,13 +48,13 @@ module _ (r : Run) (none : HasNoEnd r) (steps : HasEntryLeft r) where
       | inr can ↦ (let low : leaf < length (schema r).labels = can.0.0.0 in let past : length (schema r).labels ≤ leaf = h.1 in absurd (omega arith))
     ]
     not_taken by take.WrongKind after h = elim acts.0.1 [
-      | inl can ↦ absurd (event_or_other (schema r) leaf can.0 h.1)
+      | inl can ↦ absurd (other_event (schema r) leaf h.1 can.0)
       | inr can ↦ (can, h.2)
     ]
     not_taken by (take.Spent limit) after h = absurd (h.2.0 steps)
     not_taken by take.NotEnabled after h = elim acts.0.1 [
       | inl can ↦ absurd (h.3 can)
-      | inr can ↦ absurd (event_or_other (schema r) leaf h.1 can.0.0)
+      | inr can ↦ absurd (other_event (schema r) leaf can.0.0 h.1)
     ]
 
     performed : (by : ℕ) (answer : Result (Unit {0}) DoRefusal) (after : Run) → CanDo (schema r) (now r) leaf → Performs r leaf by answer after →
@@ -64,7 +62,7 @@ module _ (r : Run) (none : HasNoEnd r) (steps : HasEntryLeft r) where
     performed by (Err perform.Closed) after can h = absurd (not_over h.0)
     performed by (Err perform.NoLeaf) after can h =
         let low : leaf < length (schema r).labels = can.0.0.0 in let past : length (schema r).labels ≤ leaf = h.1 in absurd (omega arith)
-    performed by (Err perform.WrongKind) after can h = absurd (event_or_other (schema r) leaf h.1 can.0.0)
+    performed by (Err perform.WrongKind) after can h = absurd (other_event (schema r) leaf can.0.0 h.1)
     performed by (Err (perform.Spent limit)) after can h = absurd (h.2.0 steps)
     performed by (Err perform.NotEnabled) after can h = absurd (h.3 can.0)
     performed by (Err perform.TestFalse) after can h = absurd (h.3 can.1)
@@ -81,7 +79,7 @@ module _ (r : Run) (none : HasNoEnd r) (steps : HasEntryLeft r) where
       IsOk answer × (after ≡ with_entry r by Committed)
   is_committed n by (Err commit.Closed) after h = absurd (not_over h.0)
   is_committed n by (Err (commit.Spent limit)) after h = absurd (h.1.0 steps)
-  is_committed n by (Err (commit.ClaimsOut claim)) after h = absurd (none_out (now r) claim n.2 h.2.0)
+  is_committed n by (Err (commit.ClaimsOut claim)) after h = absurd (none_current (now r) claim n.2 h.2.0)
   is_committed n by (Err commit.Unfinished) after h = absurd (h.3 n.3)
   is_committed n by (Ok _) after h = (refl, h.4)
 
@@ -94,18 +92,12 @@ module _ (r : Run) (none : HasNoEnd r) (steps : HasEntryLeft r) where
 
   -- ---- what is told of a claim that is out
 
-  not_answered : (n : ℕ) → IsAnswered (now r) n → ¬ (IsUnanswered (now r) n)
-  not_answered n a u =
-      let (claim, found, told) = some_claim (λ (c : Claim). IsTrue c.answered) (claim_at (now r) n) a in
-      let not : claim.answered ≡ false = subst (λ o. IsSomeAnd o (λ (c : Claim). c.answered ≡ false)) found u in
-      true≢false (sym told ∙ not)
-
   module _ (call : Call) (out : IsOut r call) (by : ℕ) where
     -- only a late result is refused
     pub refused_late : (refusal : PostRefusal) (after : Run) → PostIsRefused r call.claim by refusal after → after ≡ with_entry r by (Late call.claim)
     refused_late post.Closed after h = absurd (not_over h.0)
     refused_late post.NoClaim after h = absurd (subst (λ o. IsSomeAnd o (λ (c : Claim). c.answered ≡ false)) h.1 out.0)
-    refused_late post.Answered after h = absurd (not_answered call.claim h.1 out.0)
+    refused_late post.Answered after h = absurd (not_both (now r) call.claim h.1 out.0)
     refused_late (post.Spent limit) after h = absurd (h.2.0 steps)
     refused_late (post.Late of at) after h = h.4
 

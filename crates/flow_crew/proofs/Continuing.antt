@@ -6,7 +6,7 @@ use Rattle.flow_model.specs.declared.history.FailEffect.TheVariants.{Switched, K
 use Rattle.flow_model.specs.declared.history.Outcome.{Outcome}
 use Rattle.flow_model.specs.declared.history.Outcome.TheVariants as outcome
 use Rattle.flow_model.specs.declared.history.Step.{Step}
-use Rattle.flow_model.specs.declared.history.Step.TheVariants.{Took, Done, Failed, Late, Did, Rewound, Committed}
+use Rattle.flow_model.specs.declared.history.Step.TheVariants.{Took, Done, Failed, Late, Rewound}
 use Rattle.flow_model.specs.Verdict.{call_of}
 use Rattle.flow_laws.proofs.Members.{each-append}
 use Rattle.flow_core.specs.declared.next.Next.TheVariants as next
@@ -16,7 +16,7 @@ use Rattle.flow_core.specs.Run.{Run, schema, now, with_entry, HasEntryLeft}
 use Rattle.flow_core.specs.Answers.{IsUnanswered, Rewinds}
 use Rattle.flow_core.specs.Looks.{IsNext}
 use Rattle.flow_crew.specs.declared.ends.Move.{Move}
-use Rattle.flow_crew.specs.declared.ends.Move.TheVariants.{Perform, Went, Wait, Over}
+use Rattle.flow_crew.specs.declared.ends.Move.TheVariants.{Wait, Over}
 use Rattle.flow_crew.specs.Ends.{HasEnd, HasNoEnd}
 use Rattle.flow_crew.specs.Moves.{move_after, IsBegun, IsOut, Records, IsPosted, IsContinued}
 use Rattle.flow_crew.proofs.Acting.{refused_late}
@@ -27,22 +27,10 @@ pub record Goes (r : Run) (by : ℕ) (after : Run) : Type 0 where
   pub continued : IsContinued r by after
   pub within : IsWithin after
 
-abbrev entry_of : ℕ → Step → Entry
-entry_of by step = record { by = by; step = step }
-
 pub stays : (r : Run) (by : ℕ) (after : Run) → after ≡ r → IsWithin r → Goes r by after
 stays r by after is within = record {
   continued = ([], is ∙ ap (λ (h : List Entry). record r { history = h }) (sym (append-nil r.history)), tt);
   within = subst IsWithin (sym is) within;
-}
-
-one_longer : (r : Run) (by : ℕ) (step : Step) → length (with_entry r by step).history ≡ length r.history + 1
-one_longer r by step = length-append r.history (entry_of by step ∷ [])
-
-goes_one : (r : Run) (by : ℕ) (step : Step) (after : Run) → after ≡ with_entry r by step → HasEntryLeft r → Goes r by after
-goes_one r by step after is room = record {
-  continued = (entry_of by step ∷ [], is, (refl, tt));
-  within = subst IsWithin (sym is) (let l = one_longer r by step in omega arith);
 }
 
 pub goes_on_from : (r : Run) (by : ℕ) (mid after : Run) → Goes r by mid → Goes mid by after → Goes r by after
@@ -69,10 +57,13 @@ pub record GoesFurther (r : Run) (by : ℕ) (after : Run) : Type 0 where
   pub longer : length r.history < length after.history
 
 further_one : (r : Run) (by : ℕ) (step : Step) (after : Run) → after ≡ with_entry r by step → HasEntryLeft r → GoesFurther r by after
-further_one r by step after is room = record {
-  goes = goes_one r by step after is room;
-  longer = (let l = ap (λ (a : Run). length a.history) is ∙ one_longer r by step in omega arith);
-}
+further_one r by step after is room =
+    let entry : Entry = record { by = by; step = step } in
+    let more : length (with_entry r by step).history ≡ length r.history + 1 = length-append r.history (entry ∷ []) in
+    record {
+      goes = record { continued = (entry ∷ [], is, (refl, tt)); within = subst IsWithin (sym is) (omega arith) };
+      longer = (let same = ap (λ (a : Run). length a.history) is in omega arith);
+    }
 
 pub further_then : (r : Run) (by : ℕ) (mid after : Run) → GoesFurther r by mid → Goes mid by after → GoesFurther r by after
 further_then r by mid after a b = record {
@@ -93,7 +84,7 @@ fewer_left r by after g =
 pub begun : (r : Run) (by : ℕ) (move : Move) (after : Run) → IsWithin r → IsBegun r by move after → Goes r by after
 begun r by move after within (inl h) = stays r by after h.2 within
 begun r by move after within (inr (inl h)) = stays r by after h.4 within
-begun r by move after within (inr (inr h)) = goes_one r by h.0 after h.2.3 (has_room r h.1 within)
+begun r by move after within (inr (inr h)) = (further_one r by h.0 after h.2.3 (has_room r h.1 within)).goes
 
 pub begun_further : (r : Run) (by : ℕ) (move : Move) (after : Run) → IsWithin r → IsBegun r by move after → ¬ (move ≡ Over) → ((claim : ℕ) → ¬ (move ≡ Wait claim)) → GoesFurther r by after
 begun_further r by move after within (inl h) other waits = absurd (other h.1)
@@ -102,19 +93,13 @@ begun_further r by move after within (inr (inr h)) other waits = further_one r b
 
 -- the caller asks again at once, or performs a task
 abbrev goes : Move → Bool
-goes (Perform call) = true
-goes Went = true
 goes (Wait claim) = false
 goes Over = false
+goes other = true
 
 goes_after : (after : Run) (step : Step) → goes (move_after after step) ≡ true
 goes_after after (Took c leaf) = refl
-goes_after after (Done c) = refl
-goes_after after (Failed c effect) = refl
-goes_after after (Late c) = refl
-goes_after after (Did leaf) = refl
-goes_after after (Rewound index) = refl
-goes_after after Committed = refl
+goes_after after other = refl
 
 -- a claim is waited for where nothing was done
 pub begun_waits : (r : Run) (by claim : ℕ) (after : Run) → IsBegun r by (Wait claim) after → HasNoEnd r × IsNext r (next.Wait claim) × (after ≡ r)
@@ -143,7 +128,7 @@ went_back : (r : Run) (by : ℕ) (answer : Result ℕ RewindRefusal) (after : Ru
 went_back r by (Err rewind.Closed) after within h = stays r by after h.1 within
 went_back r by (Err (rewind.Spent limit)) after within h = stays r by after h.2 within
 went_back r by (Err rewind.NoChoice) after within h = stays r by after h.3 within
-went_back r by (Ok index) after within h = goes_one r by (Rewound index) after h.3 h.1
+went_back r by (Ok index) after within h = (further_one r by (Rewound index) after h.3 h.1).goes
 
 told : (r : Run) (call : Call) (o : Outcome) (by : ℕ) (after : Run) → HasNoEnd r → HasEntryLeft r → IsOut r call → Records r call o by after → GoesFurther r by after
 told r call outcome.Done by after none room out (Err refusal, h) =

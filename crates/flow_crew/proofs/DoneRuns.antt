@@ -92,8 +92,6 @@ plain_next w s made sound k going (Done claim) plain may = record {
       let counts : length (s.journal ++ leaf_of_claim s claim ∷ []) ≡ length s.journal + 1 = length-append s.journal (leaf_of_claim s claim ∷ []) in
       omega arith);
 }
-plain_next w s made sound k going (Failed claim effect) plain may = absurd plain
-plain_next w s made sound k going (Late claim) plain may = absurd plain
 plain_next w s made sound k going (Did leaf) plain may = record {
   epoch_is = k.epoch_is;
   few = λ _. (
@@ -101,11 +99,11 @@ plain_next w s made sound k going (Did leaf) plain may = record {
       let counts : length (s.journal ++ leaf ∷ []) ≡ length s.journal + 1 = length-append s.journal (leaf ∷ []) in
       omega arith);
 }
-plain_next w s made sound k going (Rewound index) plain may = absurd plain
 plain_next w s made sound k going Committed plain may = record {
   epoch_is = k.epoch_is;
   few = λ going. absurd (true≢false going);
 }
+plain_next w s made sound k going other plain may = absurd plain
 
 -- ---- which entries a run makes where no task fails
 
@@ -153,8 +151,6 @@ module _ (gives : Call → Outcome → Bool) (w : Schema) (formed : IsWellFormed
   plain_step : (earlier : List Entry) (made : ℕ) → IsSound w (state_of w earlier) → IsPlainState (state_of w earlier) made →
       Each IsPlain earlier → (step : Step) → IsAllowed w (state_of w earlier) step →
       IsRunStep MayGive w earlier step → IsPlainStep step
-  plain_step earlier made sound k plain (Took claim leaf) may run = tt
-  plain_step earlier made sound k plain (Done claim) may run = tt
   plain_step earlier made sound k plain (Failed claim effect) may run = true≢false (sym run ∙ never_fails (call_of w (state_of w earlier) claim) (asked effect may))
     where
       asked : (effect : FailEffect) → IsAllowed w (state_of w earlier) (Failed claim effect) → IsCallFor w (call_of w (state_of w earlier) claim)
@@ -165,12 +161,11 @@ module _ (gives : Call → Outcome → Bool) (w : Schema) (formed : IsWellFormed
       let older : one.epoch < (state_of w earlier).epoch = ltb-true one.epoch (state_of w earlier).epoch (and_parts (not one.answered) (nat_lt one.epoch (state_of w earlier).epoch) told).1 in
       let first : (state_of w earlier).epoch ≡ 0 = k.epoch_is in
       absurd (omega arith)
-  plain_step earlier made sound k plain (Did leaf) may run = tt
   plain_step earlier made sound k plain (Rewound index) may run = elim run [
     | inl stuck ↦ never_stuck w formed never_waits (state_of w earlier) sound stuck
     | inr kept ↦ not_kept w earlier plain kept.0 kept.1
   ]
-  plain_step earlier made sound k plain Committed may run = tt
+  plain_step earlier made sound k plain other may run = tt
 
   -- the whole history is plain, and its state too
   abbrev PlainWhole : List Entry → Type 0

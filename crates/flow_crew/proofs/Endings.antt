@@ -3,20 +3,16 @@ use Rattle.std.proofs.Common.{◌≡◌, ◌≢◌, ◌≤◌, ◌+◌, ℕ, tru
 use Rattle.std.proofs.lemmas.Bool.{false_from_ne_true}
 use Rattle.flow_model.specs.declared.history.Entry.{Entry}
 use Rattle.flow_model.specs.declared.history.Step.{Step}
-use Rattle.flow_model.specs.declared.history.Step.TheVariants.{Took, Done, Failed, Late, Did, Rewound, Committed}
-use Rattle.flow_model.specs.declared.history.FailEffect.TheVariants.{Switched, Kept}
+use Rattle.flow_model.specs.declared.history.Step.TheVariants.{Failed}
+use Rattle.flow_model.specs.declared.history.FailEffect.TheVariants.{Kept}
 use Rattle.flow_model.specs.Schema.{Schema}
-use Rattle.flow_model.specs.Run.{first_state, state_of, leaf_of_claim, IsLegal, IsOpenIndex, IsStuck, is_current, claim_at, current_claims, RunState, IsCurrent}
+use Rattle.flow_model.specs.Run.{first_state, state_of, leaf_of_claim, IsLegal, IsOpenIndex, IsStuck, current_claims}
 use Rattle.flow_model.specs.Verdict.{Verdict, EndsKept, HasNoOpenIndex, IsRunVerdict, committed, spent, no_other, stuck, unfinished}
 use Rattle.flow_model.specs.Decided.{Decided}
 use Rattle.flow_laws.proofs.Members.{last_of, not_empty}
-use Rattle.flow_laws.proofs.ClaimLemmas.{some_claim, claim_in}
 use Rattle.flow_core.specs.Run.{Run, schema, now, IsUncommitted, HasEntryLeft}
-use Rattle.flow_core.specs.declared.next.Next.{Next}
-use Rattle.flow_core.specs.declared.next.Next.TheVariants as next
 use Rattle.flow_core.specs.Answers.{IsLeastCurrent}
-use Rattle.flow_core.specs.Looks.{IsNext}
-use Rattle.flow_core.proofs.Waiting.{left_in}
+use Rattle.flow_core.proofs.Waiting.{none_current}
 use Rattle.flow_crew.specs.declared.ends.End.{End}
 use Rattle.flow_crew.specs.declared.ends.End.TheVariants as end
 use Rattle.flow_crew.specs.Ends.{IsEnd, HasEnd, HasNoEnd}
@@ -61,14 +57,8 @@ decide_last w earlier last step is = by_step step is
     other never = inr (λ (leaf, kept). not_last_kept w earlier last never leaf kept)
 
     by_step : (step : Step) → last.step ≡ step → DecidedKept w (earlier ++ last ∷ [])
-    by_step (Took claim leaf) is = other (λ c e. cc)
-    by_step (Done claim) is = other (λ c e. cc)
-    by_step (Failed claim Switched) is = other (λ c e. cc)
     by_step (Failed claim Kept) is = inl (leaf_of_claim (state_of w earlier) claim, (earlier, (last, (claim, refl, is, refl))))
-    by_step (Late claim) is = other (λ c e. cc)
-    by_step (Did leaf) is = other (λ c e. cc)
-    by_step (Rewound index) is = other (λ c e. cc)
-    by_step Committed is = other (λ c e. cc)
+    by_step step is = other (λ c e. cc)
 
 decide_kept : (w : Schema) (history : List Entry) → DecidedKept w history
 decide_kept w [] = inr (λ (leaf, (earlier, (last, (claim, is, kept, on)))). not_empty earlier last [] is)
@@ -97,12 +87,6 @@ pub ends_not : (r : Run) (o : Option End) → MatchOption o (HasNoEnd r) (IsEnd 
 ends_not r None h e = h
 ends_not r (Some end) h e = absurd (true≢false e)
 
--- no claim is current where none is out
-pub none_out : (s : RunState) (n : ℕ) → current_claims s ≡ [] → ¬ (IsCurrent s n)
-none_out s n none current =
-    let (claim, found, told) = some_claim (λ c. IsTrue (is_current s c)) (claim_at s n) current in
-    left_in (is_current s) s.claims claim (claim_in s.claims n claim found) told none
-
 -- where no leaf of a kept failure is told, the history ends with none
 pub none_kept : (r : Run) (o : Option ℕ) → MatchOption o ((leaf : ℕ) → ¬ (EndsKept (schema r) r.history leaf)) (EndsKept (schema r) r.history) →
     ((leaf : ℕ) → ¬ (o ≡ Some leaf)) → (leaf : ℕ) → ¬ (EndsKept (schema r) r.history leaf)
@@ -112,17 +96,7 @@ none_kept r (Some leaf) h other = absurd (other leaf refl)
 -- a run with a claim out is not stuck
 pub claim_out : (r : Run) (o : Option ℕ) → MatchOption o (current_claims (now r) ≡ []) (IsLeastCurrent (now r)) → is_some o ≡ true → ¬ (IsStuck (schema r) (now r))
 claim_out r None h e is = true≢false (sym e)
-claim_out r (Some claim) h e is = none_out (now r) claim is.no_claim h.0
-
-pub not_stuck : (r : Run) (n : Next) → IsNext r n → ((leaf : ℕ) → ¬ (n ≡ next.Stuck leaf)) → ¬ (IsStuck (schema r) (now r))
-not_stuck r next.Ended over other is = true≢false (sym over ∙ is.going_on)
-not_stuck r (next.Act leaf) acts other is = elim acts.0.1 [
-  | inl can ↦ (let waits = is.only_waiting leaf (inl can) in true≢false (sym can.0 ∙ ap is_some waits.0.0.1))
-  | inr can ↦ (is.only_waiting leaf (inr can.0)).1 can.1
-]
-not_stuck r (next.Wait claim) out other is = none_out (now r) claim is.no_claim out.2.0
-not_stuck r next.Finished good other is = is.unfinished good.3
-not_stuck r (next.Stuck leaf) here other is = other leaf refl
+claim_out r (Some claim) h e is = none_current (now r) claim is.no_claim h.0
 
 -- ---- which end, where the run is not committed and there is room
 

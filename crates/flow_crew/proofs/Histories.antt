@@ -6,7 +6,7 @@ use Rattle.flow_model.specs.declared.history.Outcome.{Outcome}
 use Rattle.flow_model.specs.declared.history.Step.TheVariants.{Failed, Rewound}
 use Rattle.flow_model.specs.declared.history.FailEffect.TheVariants.{Kept}
 use Rattle.flow_model.specs.Schema.{Schema}
-use Rattle.flow_model.specs.Run.{RunState, next_state, state_of, leaf_of_claim, IsOpenIndex, IsLegalFrom}
+use Rattle.flow_model.specs.Run.{RunState, next_state, state_of, IsOpenIndex, IsLegalFrom}
 use Rattle.flow_model.specs.Verdict.{Verdict, EndsKept, IsRunStep, IsRunVerdict, IsDriven}
 use Rattle.flow_laws.proofs.Members.{cons_same, not_empty}
 use Rattle.flow_laws.proofs.MadeLists.{two_cuts}
@@ -32,19 +32,11 @@ legal_length w limit s made (entry ∷ history) legal few =
     omega arith
 
 -- only the last entry tells whether a history ends with a kept failure
-pub last_kept : (w : Schema) (history : List Entry) (last : Entry) (leaf : ℕ) → EndsKept w (history ++ last ∷ []) leaf →
-    (claim : ℕ) × (last.step ≡ Failed claim Kept) × (leaf_of_claim (state_of w history) claim ≡ leaf)
-last_kept w history last leaf (earlier, (entry, (claim, is, kept, on))) = elim (cut_last history last earlier entry [] is) [
-  | inl k ↦ (
-    claim,
-    ap (λ (e : Entry). e.step) (sym k.2) ∙ kept,
-    ap (λ (h : List Entry). leaf_of_claim (state_of w h) claim) (sym k.1) ∙ on,
-  )
+pub not_last_kept : (w : Schema) (history : List Entry) (last : Entry) → ((claim : ℕ) → ¬ (last.step ≡ Failed claim Kept)) → (leaf : ℕ) → ¬ (EndsKept w (history ++ last ∷ []) leaf)
+not_last_kept w history last other leaf (earlier, (entry, (claim, is, kept, on))) = elim (cut_last history last earlier entry [] is) [
+  | inl k ↦ other claim (ap (λ (e : Entry). e.step) (sym k.2) ∙ kept)
   | inr k ↦ absurd (not_empty k.0 last [] k.1)
 ]
-
-pub not_last_kept : (w : Schema) (history : List Entry) (last : Entry) → ((claim : ℕ) → ¬ (last.step ≡ Failed claim Kept)) → (leaf : ℕ) → ¬ (EndsKept w (history ++ last ∷ []) leaf)
-not_last_kept w history last other leaf kept = let (claim, is, on) = last_kept w history last leaf kept in other claim is
 
 module _ (gives : Call → Outcome → Type 0) (w : Schema) where
   -- each entry is one that a run may make

@@ -28,10 +28,9 @@ use Rattle.flow_crew.proofs.Endings.{has_steps, no_verdict}
 pub not_failed : (r : Run) (next : Next) (step : Step) → IsNextStep r next step → (claim : ℕ) → ¬ (step ≡ Failed claim Kept)
 not_failed r (next.Act leaf) step (inl h) claim e = let is : step ≡ Took _ leaf = h.1 in cc
 not_failed r (next.Act leaf) step (inr h) claim e = let is : step ≡ Did leaf = h.1 in cc
-not_failed r (next.Wait other) step h claim e = h
 not_failed r next.Finished step h claim e = cc
 not_failed r (next.Stuck leaf) step h claim e = let is : step ≡ Rewound h.0 = h.2 in cc
-not_failed r next.Ended step h claim e = h
+not_failed r other step h claim e = h
 
 module _ (gives : Call → Outcome → Bool) where
   abbrev MayGive : Call → Outcome → Type 0
@@ -40,10 +39,9 @@ module _ (gives : Call → Outcome → Bool) where
   next_may : (r : Run) (next : Next) → IsNext r next → (step : Step) → IsNextStep r next step → IsRunStep MayGive (schema r) r.history step
   next_may r (next.Act leaf) n step (inl h) = subst (λ (s : Step). IsRunStep MayGive (schema r) r.history s) (sym h.1) tt
   next_may r (next.Act leaf) n step (inr h) = subst (λ (s : Step). IsRunStep MayGive (schema r) r.history s) (sym h.1) tt
-  next_may r (next.Wait claim) n step h = absurd h
   next_may r next.Finished n step h = subst (λ (s : Step). IsRunStep MayGive (schema r) r.history s) (sym h) tt
   next_may r (next.Stuck leaf) n step h = subst (λ (s : Step). IsRunStep MayGive (schema r) r.history s) (sym h.2) (inl n.0.0)
-  next_may r next.Ended n step h = absurd h
+  next_may r other n step h = absurd h
 
   -- the steps of a run, and that it was driven so far
   abbrev SoFar : Run → Type 0

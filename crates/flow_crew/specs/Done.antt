@@ -5,7 +5,7 @@ use Rattle.flow_model.specs.declared.history.Entry.{Entry}
 use Rattle.flow_model.specs.declared.history.Outcome.{Outcome}
 use Rattle.flow_model.specs.declared.history.Outcome.TheVariants as outcome
 use Rattle.flow_model.specs.declared.history.Step.{Step}
-use Rattle.flow_model.specs.declared.history.Step.TheVariants.{Took, Done, Failed, Late, Did, Rewound, Committed}
+use Rattle.flow_model.specs.declared.history.Step.TheVariants.{Failed, Late, Rewound}
 use Rattle.flow_model.specs.declared.labels.Note.{Note}
 use Rattle.flow_model.specs.declared.labels.Note.TheVariants as note
 use Rattle.flow_model.specs.Lists.{Each}
@@ -23,13 +23,10 @@ use Rattle.flow_crew.specs.Invariant.{IsByWorkers}
 
 -- nothing failed, nothing came late, and the run did not go back
 abbrev pub IsPlainStep : Step → Type 0
-IsPlainStep (Took claim leaf) = Unit {0}
-IsPlainStep (Done claim) = Unit {0}
 IsPlainStep (Failed claim effect) = ⊥
 IsPlainStep (Late claim) = ⊥
-IsPlainStep (Did leaf) = Unit {0}
 IsPlainStep (Rewound index) = ⊥
-IsPlainStep Committed = Unit {0}
+IsPlainStep other = Unit {0}
 
 -- the call is for an event of the workflow, with what its declaration notes; attempts are counted from 1
 abbrev pub IsCallFor : Schema → Call → Type 0

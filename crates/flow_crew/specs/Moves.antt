@@ -7,7 +7,7 @@ use Rattle.flow_model.specs.declared.history.FailEffect.TheVariants.{Switched, K
 use Rattle.flow_model.specs.declared.history.Outcome.{Outcome}
 use Rattle.flow_model.specs.declared.history.Outcome.TheVariants as outcome
 use Rattle.flow_model.specs.declared.history.Step.{Step}
-use Rattle.flow_model.specs.declared.history.Step.TheVariants.{Took, Done, Failed, Late, Did, Rewound, Committed}
+use Rattle.flow_model.specs.declared.history.Step.TheVariants.{Took, Did, Rewound, Committed}
 use Rattle.flow_model.specs.Lists.{Each}
 use Rattle.flow_model.specs.Schema.{IsEventLeaf, IsOtherLeaf}
 use Rattle.flow_model.specs.Run.{IsOpenIndex}
@@ -40,12 +40,7 @@ Advances r by step after = (next : Next) × IsNext r next × IsNextStep r next s
 -- what the caller is to do after the step: to perform the task of a leaf that was taken
 abbrev pub move_after : Run → Step → Move
 move_after after (Took claim leaf) = Perform (call_of (schema after) (now after) claim)
-move_after after (Done claim) = Went
-move_after after (Failed claim effect) = Went
-move_after after (Late claim) = Went
-move_after after (Did leaf) = Went
-move_after after (Rewound index) = Went
-move_after after Committed = Went
+move_after after other = Went
 
 -- it is over exactly where a verdict stands
 abbrev pub Tells : Run → Move → Move → Type 0

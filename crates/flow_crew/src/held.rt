@@ -12,7 +12,7 @@ use std::marker::{Model, PhantomData};
 
 /// A run by workers with a gate of the type `G`. It keeps that the history is one that such workers may make.
 #[derive(Drop)]
-pub struct Held<G: Gate> {
+pub(crate) struct Held<G: Gate> {
     pub(crate) tracked: Tracked,
     gate: PhantomData<G>,
 }
@@ -33,7 +33,7 @@ impl<G: Gate> Model for Held<G> {
 
 impl<G: Gate> Held<G> {
     /// A run that has not begun.
-    pub fn new(core: Core) -> Held<G>
+    pub(crate) fn new(core: Core) -> Held<G>
         requires { core.history ≡ [] }
         ensures { result ≡ core }
     {
@@ -44,14 +44,14 @@ impl<G: Gate> Held<G> {
     }
 
     /// What the caller is to do. Where nothing is to be waited for, the run goes on by one entry.
-    pub fn begin(&mut self, by: u32) -> Move
+    pub(crate) fn begin(&mut self, by: u32) -> Move
         ensures { IsBegun self.old by result self.new }
     {
         self.tracked.begin(by)
     }
 
     /// Tells the outcome of a task. After a kept failure the run goes back at once, where it can.
-    pub fn post(&mut self, call: Call, outcome: Outcome, by: u32)
+    pub(crate) fn post(&mut self, call: Call, outcome: Outcome, by: u32)
         requires { G.gives call outcome ≡ true }
         ensures { IsPosted self.old call outcome by self.new }
     {
@@ -59,14 +59,14 @@ impl<G: Gate> Held<G> {
     }
 
     /// What the run came to, if it has come to an end.
-    pub fn verdict(&self) -> Option<End>
+    pub(crate) fn verdict(&self) -> Option<End>
         ensures { MatchOption result (HasNoEnd self.now) (IsEnd self.now) }
     {
         self.tracked.verdict()
     }
 
     /// The run.
-    pub fn core(&self) -> &Core
+    pub(crate) fn core(&self) -> &Core
         ensures run { result.now ≡ self.now }
         ensures by_workers { IsByWorkers G.gives self.now }
     {

@@ -21,7 +21,6 @@ pub use done::law_done_runs_commit;
 pub use ends::{End, Move};
 pub use flow_model::{Call, Entry, FailEffect, Outcome, Step};
 pub use gate::{AlwaysDone, Gate};
-pub use held::Held;
 pub use meet::MeetGate;
 pub use note::NoteGate;
 pub use table::TableGate;

@@ -40,17 +40,11 @@ module _ {T E F : Type 0} (entries : T → List E) (caller : E → ℕ) (fixed :
   abbrev St : Type 0
   St = State (Option T) V
 
-  abbrev M : Type 0
-  M = Me (Option T) V
-
   abbrev Homes : Type 0
   Homes = List (maybe.Option (Option T))
 
   abbrev Rule : St → Type 0
   Rule = IsInTurns entries caller fixed part
-
-  abbrev Known : ℕ → ℕ → List E → ℕ → V → Type 0
-  Known = Knows caller part
 
   -- what holds of the view that was put, and of each other, holds of each
   pub each_set : (P : ℕ → V → Type 0) (views : List V) (id : ℕ) (w : V) → P id w → ((j : ℕ) (u : V) → j ≢ id → get_elem? views j ≡ some u → P j u)
@@ -90,8 +84,8 @@ module _ {T E F : Type 0} (entries : T → List E) (caller : E → ℕ) (fixed :
   IsGone-set views id v w at live number gone = (gone.0, set_else views id number w (gone_elsewhere views id v at live number gone) ∙ gone.1, gone.2)
 
   -- a view that did not change, where others went on
-  still : (drawn served drawn' served' : ℕ) (log added : List E) (number : ℕ) (u : V) → Known drawn served log number u → made_by caller number added ≡ []
-      → Each (λ c. made_by caller c.0 added ≡ []) u.joined → Stands served' drawn' (log ++ added) u.ticket u.seen u.stage → Known drawn' served' (log ++ added) number u
+  still : (drawn served drawn' served' : ℕ) (log added : List E) (number : ℕ) (u : V) → Knows caller part drawn served log number u → made_by caller number added ≡ []
+      → Each (λ c. made_by caller c.0 added ≡ []) u.joined → Stands served' drawn' (log ++ added) u.ticket u.seen u.stage → Knows caller part drawn' served' (log ++ added) number u
   still drawn served drawn' served' log added number u k nothing others stands = record {
     named = k.named;
     fixed = k.fixed;
@@ -116,7 +110,7 @@ module _ {T E F : Type 0} (entries : T → List E) (caller : E → ℕ) (fixed :
       → Each (λ e. caller e < length s.views) added
       → ((j : ℕ) → j ≢ id → made_by caller j added ≡ [])
       → ((j : ℕ) (u : V) → j ≢ id → get_elem? s.views j ≡ some u → living_of u ≡ 1 → Stands served' drawn' log' u.ticket u.seen u.stage)
-      → (living_of w ≡ 1 → Known drawn' served' log' id w)
+      → (living_of w ≡ 1 → Knows caller part drawn' served' log' id w)
       → ((j : ℕ) (u : V) → j ≢ id → get_elem? s.views j ≡ some u → tickets_of u ≡ 1 → tickets_of w ≡ 1 → u.ticket ≢ w.ticket)
       → Rule record { words = words'; homes = homes'; views = set s.views id w }
   changed s r id v w words' homes' drawn' served' log' added at live words grown place tickets same named foreign others mine apart = record {
@@ -145,8 +139,8 @@ module _ {T E F : Type 0} (entries : T → List E) (caller : E → ℕ) (fixed :
     few = (let few = r.few in let long = length-set s.views id w in omega arith);
     callers = subst (λ (n : ℕ). Each (λ e. caller e < n) log') (sym (length-set s.views id w))
         (subst (Each (λ e. caller e < length s.views)) (sym grown) (each-append (λ e. caller e < length s.views) r.log added r.callers named));
-    knows = each_set (λ j u. living_of u ≡ 1 → Known drawn' served' log' j u) s.views id w mine
-        (λ j u other there alive. subst (λ (l : List E). Known drawn' served' l j u) (sym grown)
+    knows = each_set (λ j u. living_of u ≡ 1 → Knows caller part drawn' served' log' j u) s.views id w mine
+        (λ j u other there alive. subst (λ (l : List E). Knows caller part drawn' served' l j u) (sym grown)
         (still r.drawn r.served drawn' served' r.log added j u (r.knows j u there alive) (foreign j other)
         (Each-map (λ c. IsGone s.views c.0) (λ c. made_by caller c.0 added ≡ []) u.joined (λ c gone. foreign c.0 (gone_elsewhere s.views id v at live c.0 gone)) (r.gone j u there))
         (subst (λ (l : List E). Stands served' drawn' l u.ticket u.seen u.stage) grown (others j u other there alive))));
@@ -171,7 +165,7 @@ module _ {T E F : Type 0} (entries : T → List E) (caller : E → ℕ) (fixed :
       → words' ≡ drawn' % 2 ^ 64 ∷ served' % 2 ^ 64 ∷ length r.log % 2 ^ 64 ∷ [] → Place entries fixed part homes' r.log (set s.views id w)
       → served' + r.drawn + tickets_of w ≡ drawn' + r.served + tickets_of v → (living_of w ≡ living_of v) × (w.given ≡ v.given) × (w.outs ≡ v.outs) × (w.joined ≡ v.joined)
       → ((j : ℕ) (u : V) → j ≢ id → get_elem? s.views j ≡ some u → living_of u ≡ 1 → Stands served' drawn' r.log u.ticket u.seen u.stage)
-      → (living_of w ≡ 1 → Known drawn' served' r.log id w)
+      → (living_of w ≡ 1 → Knows caller part drawn' served' r.log id w)
       → ((j : ℕ) (u : V) → j ≢ id → get_elem? s.views j ≡ some u → tickets_of u ≡ 1 → tickets_of w ≡ 1 → u.ticket ≢ w.ticket)
       → Rule record { words = words'; homes = homes'; views = set s.views id w }
   quiet s r id v w words' homes' drawn' served' at live words place tickets same others mine apart =
@@ -234,7 +228,7 @@ module _ {T E F : Type 0} (entries : T → List E) (caller : E → ℕ) (fixed :
       absurd (not_serving v.stage (ap serving_at waits) (ap (λ (z : V). z.stage) one ∙ o.served)))
       r.value
 
-  pub draws : (slots id : ℕ) (me : M) → me.0.stage ≡ Idle → Allows Rule slots id me 0 (λ n. (n + 1) % 2 ^ 64) (drew me)
+  pub draws : (slots id : ℕ) (me : Me (Option T) V) → me.0.stage ≡ Idle → Allows Rule slots id me 0 (λ n. (n + 1) % 2 ^ 64) (drew me)
   draws slots id me idle s r _ at _ =
       let v : V = me.0 in
       let w : V = record v { stage = Waiting; ticket = r.drawn } in
@@ -258,7 +252,7 @@ module _ {T E F : Type 0} (entries : T → List E) (caller : E → ℕ) (fixed :
       )
 
   -- a step that tells of the word as it is, and changes at most what the caller has seen
-  pub looks : (slots id : ℕ) (me : M) → me.0.stage ≡ Waiting → Allows Rule slots id me 1 (λ n. n) (looked entries caller fixed me)
+  pub looks : (slots id : ℕ) (me : Me (Option T) V) → me.0.stage ≡ Waiting → Allows Rule slots id me 1 (λ n. n) (looked entries caller fixed me)
   looks slots id me waits s r _ at _ =
       let v : V = me.0 in
       let live : living_of v ≡ 1 = ap living_at waits in
@@ -328,7 +322,7 @@ module _ {T E F : Type 0} (entries : T → List E) (caller : E → ℕ) (fixed :
       moved_on r.served r.drawn served' drawn' r.log log' u.ticket u.seen u.stage
       (λ one same. others_apart s r id v at (ap tickets_at serves) j u other there one (same ∙ sym now)) le more (r.knows j u there alive).stands
 
-  pub count_step : (slots id : ℕ) (me : M) (value : T) (added : List E) (k : ℕ) → me.0.stage ≡ Serving → me.1 ≡ (0, Some value) ∷ [] → entries value ≡ me.0.seen ++ added
+  pub count_step : (slots id : ℕ) (me : Me (Option T) V) (value : T) (added : List E) (k : ℕ) → me.0.stage ≡ Serving → me.1 ≡ (0, Some value) ∷ [] → entries value ≡ me.0.seen ++ added
       → Each (λ e. caller e ≡ me.0.number) added → length added ≡ k → Allows Rule slots id me 2 (λ n. (n + k) % 2 ^ 64) (λ _ n. counted entries me n)
   count_step slots id me value added k serves slot grows own many s r _ at _ =
       let v : V = me.0 in
@@ -373,7 +367,7 @@ module _ {T E F : Type 0} (entries : T → List E) (caller : E → ℕ) (fixed :
         refl,
       )
 
-  pub pass_step : (slots id : ℕ) (me : M) (value : T) → me.0.stage ≡ Serving → me.1 ≡ (0, Some value) ∷ [] → entries value ≡ me.0.seen → me.0.part ≡ Some (fixed value)
+  pub pass_step : (slots id : ℕ) (me : Me (Option T) V) (value : T) → me.0.stage ≡ Serving → me.1 ≡ (0, Some value) ∷ [] → entries value ≡ me.0.seen → me.0.part ≡ Some (fixed value)
       → Allows Rule slots id me 1 (λ n. (n + 1) % 2 ^ 64) (λ _ n. passed me n)
   pass_step slots id me value serves slot list stays_fixed s r _ at _ =
       let v : V = me.0 in
@@ -406,7 +400,7 @@ module _ {T E F : Type 0} (entries : T → List E) (caller : E → ℕ) (fixed :
         (λ i. (w, rest (slot i))),
       )
 
-  pub settle_step : (slots id : ℕ) (me : M) → me.0.stage ≡ Idle → Allows Rule slots id me 0 (λ n. n) (λ _ n. settled me n)
+  pub settle_step : (slots id : ℕ) (me : Me (Option T) V) → me.0.stage ≡ Idle → Allows Rule slots id me 0 (λ n. n) (λ _ n. settled me n)
   settle_step slots id me idle s r _ at _ =
       let v : V = me.0 in
       let w : V = record v { seen = r.log; beside = [] } in

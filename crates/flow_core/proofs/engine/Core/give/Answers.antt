@@ -20,12 +20,8 @@ use Rattle.flow_core.specs.Answers.{next_claim}
 use Rattle.flow_core.specs.Invariant.{run_by, IsRunning}
 use Rattle.flow_core.proofs.Steps.{sound_now, kept_took}
 use Rattle.flow_core.proofs.Entries.{entered}
-use Rattle.flow_core.proofs.Calls.{known_event, find_last, call_is}
+use Rattle.flow_core.proofs.Calls.{kind_below, find_last, call_is}
 use Rattle.flow_core.proofs.engine.Core.give.Goals as goal
-
--- the event has a kind
-kind_below : (i : Inside) → IsRunning i → (leaf event : ℕ) → event_at i.workflow.tree.labels leaf ≡ Some event → event < length i.workflow.events
-kind_below i k leaf event at = known_event i.workflow.tree.labels (length i.workflow.events) (length i.workflow.facts) k.kept.known leaf event at
 
 pub give-attempt-requires-clause-kind : goal.give-attempt-requires-clause-kind
 give-attempt-requires-clause-kind c =

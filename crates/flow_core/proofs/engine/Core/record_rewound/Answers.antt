@@ -1,10 +1,8 @@
 use Rattle.std.proofs.Common.{◌<◌, ◌≤◌, ℕ, List, length, subst, sym, arith, refl}
-use Rattle.flow_model.specs.declared.limits.TheConstants.{MOST_ENTRIES}
 use Rattle.flow_residual.specs.Remaining.{IsOf}
-use Rattle.flow_core.specs.Run.{HasEntryLeft}
 use Rattle.flow_core.proofs.Steps.{kept_rewound}
 use Rattle.flow_core.proofs.Standings.{course_length}
-use Rattle.flow_core.proofs.Entries.{entered}
+use Rattle.flow_core.proofs.Entries.{epoch_below, entered}
 use Rattle.flow_core.proofs.engine.Core.record_rewound.Goals as goal
 
 pub rewind_to-requires : goal.rewind_to-requires
@@ -20,12 +18,7 @@ back_to-requires c =
     omega arith
 
 pub raise-requires : goal.raise-requires
-raise-requires c =
-    let i = c.self.inside in
-    let room : length i.history.items < i.limit = subst HasEntryLeft (sym c.self.view_is) c.requires.steps in
-    let few : i.claims.epoch ≤ length i.history.items = c.self.invariant.kept.few_epochs in
-    let small : i.limit ≤ MOST_ENTRIES = c.self.invariant.small in
-    omega arith
+raise-requires c = let below = epoch_below c.self.inside c.self.invariant c.args.self.now c.self.view_is c.requires.steps in omega arith
 
 pub invariant_of-self : goal.invariant_of-self
 invariant_of-self c =

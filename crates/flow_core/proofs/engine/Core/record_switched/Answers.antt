@@ -1,11 +1,10 @@
 use Rattle.std.proofs.Common.{◌≡◌, ◌<◌, ◌≤◌, ◌+◌, length, subst, sym, ap, ◌∙◌, arith, refl}
-use Rattle.flow_model.specs.declared.limits.TheConstants.{MOST_ENTRIES}
 use Rattle.flow_residual.specs.Remaining.{IsOf, IsAvoidable}
 use Rattle.flow_residual.specs.Claimed.{Claimed}
-use Rattle.flow_core.specs.Run.{schema, now, HasEntryLeft}
+use Rattle.flow_core.specs.Run.{schema, now}
 use Rattle.flow_core.specs.Invariant.{run_by}
 use Rattle.flow_core.proofs.Steps.{kept_switched}
-use Rattle.flow_core.proofs.Entries.{unanswered_inside, next_inside, entered}
+use Rattle.flow_core.proofs.Entries.{unanswered_inside, next_inside, epoch_below, entered}
 use Rattle.flow_core.proofs.engine.Core.record_switched.Goals as goal
 
 pub answer-requires : goal.answer-requires
@@ -16,11 +15,8 @@ ban-requires c = next_inside c.self.inside c.self.invariant c.args.self.now c.se
 
 pub raise-requires : goal.raise-requires
 raise-requires c =
-    let i = c.self.inside in
-    let room : length i.history.items < i.limit = subst HasEntryLeft (sym c.self.view_is) c.requires.steps in
-    let few : i.claims.epoch ≤ length i.history.items = c.self.invariant.kept.few_epochs in
-    let small : i.limit ≤ MOST_ENTRIES = c.self.invariant.small in
-    let same : c.answer.new.self.epoch ≡ i.claims.epoch = ap (λ (x : Claimed). x.epoch) c.answer.ensures in
+    let below = epoch_below c.self.inside c.self.invariant c.args.self.now c.self.view_is c.requires.steps in
+    let same : c.answer.new.self.epoch ≡ c.self.inside.claims.epoch = ap (λ (x : Claimed). x.epoch) c.answer.ensures in
     omega arith
 
 pub invariant_of-self : goal.invariant_of-self
