@@ -1,18 +1,24 @@
 use Rattle.std.proofs.Common.{◌≡◌, ◌+◌, ◌++◌, ◌∷◌, [], get_or, map, take, sym, ap, ◌∙◌}
 use Rattle.std.proofs.lemmas.List.{map_push, map_more}
-use Rattle.flow_form.specs.RuleForm.{rule_shape_of}
-use Rattle.flow_rules.specs.Rule.{rule_of}
-use Rattle.flow_expand.specs.Constraints.{constraint_of}
-use Rattle.flow_expand.proofs.RulingLemmas.{constraints_of-shapes, ruled_and, ruled_or}
+use Rattle.flow_model.specs.Constraint.{all_of}
+use Rattle.flow_form.specs.RuleForm.{rule_shape_of, rule_shapes}
+use Rattle.flow_rules.specs.Rule.{any_of, rule_of}
+use Rattle.flow_rules.proofs.RuleViews.{rule_of-And, rule_of-Or}
+use Rattle.flow_expand.specs.Constraints.{constraint_of, constraints_of}
+use Rattle.flow_expand.proofs.RulingLemmas.{constraints_of-shapes, shape_of-And, shape_of-Or}
 use Rattle.flow_expand.proofs.ruling.+ruling.Goals as goal
 
 pub rule_of-returns-in_ok-rules_of-in-And : goal.rule_of-returns-in_ok-rules_of-in-And
 rule_of-returns-in_ok-rules_of-in-And t c =
-    ruled_and c.args.workflow.now.events c.args.form.now c.in-And.parts c.deref-in-And.result.now c.in_ok-rules_of-in-And.field-0 c.in-And.is c.deref-in-And.ensures.value c.in_ok-rules_of-in-And.ensures
+    rule_of-And c.in_ok-rules_of-in-And.field-0
+    ∙ ap all_of (c.in_ok-rules_of-in-And.ensures ∙ ap (λ l. constraints_of c.args.workflow.now.events (rule_shapes (map rule_shape_of l))) c.deref-in-And.ensures.value)
+    ∙ ap (constraint_of c.args.workflow.now.events) (sym (ap rule_shape_of c.in-And.is ∙ shape_of-And c.in-And.parts))
 
 pub rule_of-returns-in_ok-rules_of-in-Or : goal.rule_of-returns-in_ok-rules_of-in-Or
 rule_of-returns-in_ok-rules_of-in-Or t c =
-    ruled_or c.args.workflow.now.events c.args.form.now c.in-Or.parts c.deref-in-Or.result.now c.in_ok-rules_of-in-Or.field-0 c.in-Or.is c.deref-in-Or.ensures.value c.in_ok-rules_of-in-Or.ensures
+    rule_of-Or c.in_ok-rules_of-in-Or.field-0
+    ∙ ap any_of (c.in_ok-rules_of-in-Or.ensures ∙ ap (λ l. constraints_of c.args.workflow.now.events (rule_shapes (map rule_shape_of l))) c.deref-in-Or.ensures.value)
+    ∙ ap (constraint_of c.args.workflow.now.events) (sym (ap rule_shape_of c.in-Or.is ∙ shape_of-Or c.in-Or.parts))
 
 pub rules_of-loop-place-preserved : goal.rules_of-loop-place-preserved
 rules_of-loop-place-preserved t c =
