@@ -1,8 +1,6 @@
 -- A workflow is refused for one count, or for circles of the same options, or it is not refused.
-use Rattle.std.proofs.Common.{◌≡◌, ◌<◌, ◌≤◌, ℕ, List, [], length, inl, inr, ◌⊎◌, sym, ap, ◌∙◌, arith}
-use Rattle.flow_model.specs.declared.limits.TheConstants.{GREATEST_BULK, MOST_OPTIONS, MOST_RESOLUTIONS}
+use Rattle.std.proofs.Common.{◌≡◌, ℕ, List, [], inl, inr, ◌⊎◌, sym, ap, ◌∙◌, arith}
 use Rattle.flow_model.specs.Schema.{Schema}
-use Rattle.flow_model.specs.Resolution.{resolution_count, options, bulk}
 use Rattle.flow_workflow.specs.Definition.{Definition, schema_of}
 use Rattle.flow_excise.specs.declared.refusal.CompileRefusal.{CompileRefusal}
 use Rattle.flow_excise.specs.declared.refusal.CompileRefusal.TheVariants.{TooManyChoices, TooManyWays, TooBulky, Inconsistent, NoMemory}

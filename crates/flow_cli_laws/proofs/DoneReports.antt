@@ -1,6 +1,5 @@
 -- Runs in which every task succeeds are committed, and so their reports say.
-use Rattle.std.proofs.Common.{◌≡◌, ℕ, ◌+◌, ◌*◌, ◌<◌, ◌≤◌, Bool, List, length, Some, Ok, Err, inl, inr, refl, sym, ap, subst, ◌∙◌, arith}
-use Rattle.flow_model.specs.declared.limits.TheConstants.{GREATEST_INPUT}
+use Rattle.std.proofs.Common.{◌≡◌, ℕ, ◌+◌, ◌*◌, ◌≤◌, Bool, List, length, Some, Ok, Err, inl, inr, refl, sym, ap, subst, ◌∙◌, arith}
 use Rattle.flow_model.specs.declared.history.Call.{Call}
 use Rattle.flow_model.specs.declared.history.Outcome.{Outcome}
 use Rattle.flow_model.specs.Lists.{Each}
@@ -101,8 +100,7 @@ module _ (gives : Call → Outcome → Bool) (request : Request) (input : List �
 
   pub of_input : ¬ (status ≡ ReadFault) → WritesAs mode.Run gives request (Some input) status output → Succeeds
   of_input fine (inl fault) = absurd (fine fault.status_is)
-  of_input fine (inr (inl p)) =
-      let long : GREATEST_INPUT < length input = p.long in let short : length input ≤ GREATEST_INPUT = is.short in absurd (omega (arith, long, short))
+  of_input fine (inr (inl p)) = absurd (omega (arith, p.long, is.short))
   of_input fine (inr (inr (short, inl p))) = absurd (not_both (Err p.refusal) (Ok is.said) p.refusal is.said refl refl
       (texts_have_one_answer (workflow_part input) (Err p.refusal) (Ok is.said) (p.first, of_text p.refusal p.of_text) is.says))
   of_input fine (inr (inr (short, inr p))) =

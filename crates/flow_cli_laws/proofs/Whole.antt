@@ -1,6 +1,5 @@
 -- Two outputs for the same words and the same input.
-use Rattle.std.proofs.Common.{◌≡◌, ◌<◌, ◌≤◌, ℕ, List, [], length, Bool, Some, Ok, Err, inl, inr, ◌⊎◌, refl, sym, ap, subst, ◌∙◌, arith}
-use Rattle.flow_model.specs.declared.limits.TheConstants.{GREATEST_INPUT}
+use Rattle.std.proofs.Common.{◌≡◌, ℕ, List, [], Bool, Some, Ok, Err, inl, inr, ◌⊎◌, refl, sym, ap, subst, ◌∙◌, arith}
 use Rattle.flow_model.specs.declared.history.Call.{Call}
 use Rattle.flow_model.specs.declared.history.Outcome.{Outcome}
 use Rattle.flow_form.specs.Script.{Said}
@@ -31,10 +30,8 @@ module _ (input : List ℕ) (status other : Status) (output text : List ℕ) whe
   read_once P fine also (inl fault) q = absurd (fine fault.status_is)
   read_once P fine also (inr p) (inl fault) = absurd (also fault.status_is)
   read_once P fine also (inr (inl p)) (inr (inl q)) = inl (told_once [] refused.TooLong refused.TooLong status other output text refl p.told q.told)
-  read_once P fine also (inr (inl p)) (inr (inr q)) =
-      let long : GREATEST_INPUT < length input = p.long in let short : length input ≤ GREATEST_INPUT = q.0 in absurd (omega (arith, long, short))
-  read_once P fine also (inr (inr p)) (inr (inl q)) =
-      let long : GREATEST_INPUT < length input = q.long in let short : length input ≤ GREATEST_INPUT = p.0 in absurd (omega (arith, long, short))
+  read_once P fine also (inr (inl p)) (inr (inr q)) = absurd (omega (arith, p.long, q.0))
+  read_once P fine also (inr (inr p)) (inr (inl q)) = absurd (omega (arith, q.long, p.0))
   read_once P fine also (inr (inr (within, inl p))) (inr (inr (too, inl q))) =
       let one : p.refusal ≡ q.refusal = one_refusal (Err p.refusal) (Err q.refusal) p.refusal q.refusal refl refl
       (texts_have_one_answer (workflow_part input) (Err p.refusal) (Err q.refusal) (p.first, of_text p.refusal p.of_text) (q.first, of_text q.refusal q.of_text)) in

@@ -33,7 +33,11 @@ pub fn print_commit(alloc: Global, came: Result<(), CommitRefusal>) -> Result<St
         Ok(()) => format!(in alloc; "committed"),
         Err(CommitRefusal::Closed) => format!(in alloc; "refused closed"),
         Err(CommitRefusal::Spent { limit }) => print_number(alloc, "refused spent ", limit),
-        Err(CommitRefusal::ClaimsOut { claim }) => print_number(alloc, "refused claims-out ", claim),
+        Err(CommitRefusal::ClaimsOut { claim }) => print_number(
+            alloc,
+            "refused claims-out ",
+            claim,
+        ),
         Err(CommitRefusal::Unfinished) => format!(in alloc; "refused unfinished"),
     }
 }
