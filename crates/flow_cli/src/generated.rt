@@ -11,9 +11,8 @@ use crate::compiling::compile_workflow;
 use flow_excise::{CompileRefusal, Compiled};
 use flow_expand::{ExpandRefusal, Workflow, expand};
 use flow_form::{Script, TextRefusal};
-use flow_gen::generate;
-use flow_gen_laws::{
-    law_generated_texts_are_read, law_generated_workflows_are_compiled,
+use flow_gen::{
+    generate, law_generated_texts_are_read, law_generated_workflows_are_compiled,
     law_generated_workflows_are_expanded,
 };
 use flow_text::{law_texts_say_one_thing, parse};

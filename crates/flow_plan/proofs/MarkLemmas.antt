@@ -101,9 +101,14 @@ module _ (q : Process) (ns : List ℕ) where
 pub begun_rows : (q : Process) (nodes : List Node) (ns : List ℕ) (s : Sweep) → IsChoiceFree q → IsStrictlyIncreasing ns → nodes ≡ nodes_of q → ns ≡ leaves q → s.place ≡ 0 →
     (empty : LeafSet 16) × ((x : ℕ) → has_leaf empty x ≡ false) × (s.sets.items ≡ empty ∷ []) → s.ahead ≡ 0 → s.forks.items ≡ [] → s.rows.items ≡ [] → Completes q nodes ns s
 begun_rows q nodes ns s free rising are listed place (empty, none, sets) ahead forks rows =
-    rw (place, sets, ahead, forks, rows, are) (empty, [], (refl, tt), subst (λ l. MakesRows q l ns 0 empty [] []) (append-nil (nodes_of q))
-    (goal_rows q ns q [] 0 empty [] [] free (subst AreDistinct listed (distinct_of_rising ns rising)) ([], listed ∙ sym (append-nil (leaves q)))
-    (λ more added behind has. rw listed (first_rows q empty added none has))))
+    rw (place, sets, ahead, forks, rows, are) (
+      empty,
+      [],
+      (refl, tt),
+      subst (λ l. MakesRows q l ns 0 empty [] []) (append-nil (nodes_of q))
+          (goal_rows q ns q [] 0 empty [] [] free (subst AreDistinct listed (distinct_of_rising ns rising)) ([], listed ∙ sym (append-nil (leaves q)))
+          (λ more added behind has. rw listed (first_rows q empty added none has))),
+    )
 
 -- ---- spans
 

@@ -16,7 +16,7 @@ use Rattle.flow_expand.specs.Steps.{flow_names}
 use Rattle.flow_gen.specs.declared.kind.Kind.{Kind}
 use Rattle.flow_gen.specs.declared.kind.Kind.TheVariants.{Series}
 use Rattle.flow_gen.specs.Generated.{event_name, series, block, pairs, in_turn, constraints}
-use Rattle.flow_gen_laws.proofs.EventNames.{name_is}
+use Rattle.flow_gen.proofs.EventNames.{name_is}
 
 -- the name of an event below that number
 abbrev pub IsEvent : ℕ → List ℕ → Type 0

@@ -22,9 +22,9 @@ use Rattle.flow_text.proofs.SaidLaws.{prints_say_it}
 use Rattle.flow_text.proofs.OneAnswer.{texts_have_one_answer}
 use Rattle.flow_gen.specs.Generated.{event_name, all_draws, kinds, generated}
 use Rattle.flow_gen.proofs.Steps.{draws_length, kinds_length}
-use Rattle.flow_gen_laws.specs.Laws.{TextsSayTheirWorkflow, TextsAreRead, WorkflowsAreClosed}
-use Rattle.flow_gen_laws.proofs.EventNames.{distinct_names}
-use Rattle.flow_gen_laws.proofs.Parts.{IsEvent, IsMade, goal_made, IsRuled, rules_made, declares, declared_printable, event_there}
+use Rattle.flow_gen.specs.Laws.{TextsSayTheirWorkflow, TextsAreRead, WorkflowsAreClosed}
+use Rattle.flow_gen.proofs.EventNames.{distinct_names}
+use Rattle.flow_gen.proofs.Parts.{IsEvent, IsMade, goal_made, IsRuled, rules_made, declares, declared_printable, event_there}
 
 pub kind_count : (seed size : ℕ) → length (kinds 0 (take size (all_draws seed size))) ≡ size
 kind_count seed size =

@@ -18,9 +18,9 @@ use Rattle.flow_workflow.specs.Definition.{Definition, schema_of}
 use Rattle.flow_expand.specs.Numbers.{numbered}
 use Rattle.flow_expand.specs.Workflows.{definition_of}
 use Rattle.flow_gen.specs.Generated.{generated}
-use Rattle.flow_gen_laws.specs.Laws.{LeavesAreGoodTraces, WorkflowsAreConsistent}
-use Rattle.flow_gen_laws.proofs.Expanded.{expansion, leaves_are, the_definition, leaf_event}
-use Rattle.flow_gen_laws.proofs.Precedences.{precedence, IsPrecedence, rules_are}
+use Rattle.flow_gen.specs.Laws.{LeavesAreGoodTraces, WorkflowsAreConsistent}
+use Rattle.flow_gen.proofs.Expanded.{expansion, leaves_are, the_definition, leaf_event}
+use Rattle.flow_gen.proofs.Precedences.{precedence, IsPrecedence, rules_are}
 use Rattle.flow_sample.proofs.ForwardLemmas.{straight, rising_before}
 
 met_by : (low high : ℕ) (t : List ℕ) → Rises low t high → (x y : ℕ) → x < y → Decided (x ∈ t) → Decided (y ∈ t) → Meets (precedence x y) t

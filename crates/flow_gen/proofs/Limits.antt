@@ -18,11 +18,11 @@ use Rattle.flow_excise.specs.declared.refusal.CompileRefusal.TheVariants as comp
 use Rattle.flow_excise.specs.Compilation.{IsWithinLimits, IsRefused}
 use Rattle.flow_excise.specs.Options as parts
 use Rattle.flow_gen.specs.Generated.{choices_in, kind, all_draws, kinds, generated}
-use Rattle.flow_gen_laws.specs.Laws.{choice_count, ChoicesAreFew, ChoicesDouble, WaysAreSingle, OptionsAreResolutions, BulkIsSmall, WorkflowsAreWithinLimits, CompilingIsNotRefused, CompilingPartsIsNotRefused}
-use Rattle.flow_gen_laws.proofs.Rows.{choices_more}
-use Rattle.flow_gen_laws.proofs.Expanded.{expansion, row, leaves_are, the_definition}
-use Rattle.flow_gen_laws.proofs.Consistent.{workflows_are_consistent}
-use Rattle.flow_gen_laws.proofs.Precedences.{rules_are, few_rules, IsOneWay, one_way, AreSingle, are_single}
+use Rattle.flow_gen.specs.Laws.{choice_count, ChoicesAreFew, ChoicesDouble, WaysAreSingle, OptionsAreResolutions, BulkIsSmall, WorkflowsAreWithinLimits, CompilingIsNotRefused, CompilingPartsIsNotRefused}
+use Rattle.flow_gen.proofs.Rows.{choices_more}
+use Rattle.flow_gen.proofs.Expanded.{expansion, row, leaves_are, the_definition}
+use Rattle.flow_gen.proofs.Consistent.{workflows_are_consistent}
+use Rattle.flow_gen.proofs.Precedences.{rules_are, few_rules, IsOneWay, one_way, AreSingle, are_single}
 
 -- Choices
 

@@ -34,11 +34,11 @@ use Rattle.flow_expand.proofs.BuildLemmas.{labels_counted}
 use Rattle.flow_expand.proofs.Endings.{no_recursion, becomes_one}
 use Rattle.flow_expand.proofs.NumberingLemmas.{leaves_in_row}
 use Rattle.flow_gen.specs.Generated.{event_name, all_draws, kinds, constraints, generated}
-use Rattle.flow_gen_laws.specs.Laws.{WorkflowsAreExpanded, ExpansionsAreNotRefused, choice_count}
-use Rattle.flow_gen_laws.proofs.EventNames.{distinct_names}
-use Rattle.flow_gen_laws.proofs.Parts.{declares, get_number}
-use Rattle.flow_gen_laws.proofs.SaidTexts.{kind_count, rule_draws, numbers_length, event_declared, names_are_good}
-use Rattle.flow_gen_laws.proofs.Rows.{IsRow, HasRow, goal_row}
+use Rattle.flow_gen.specs.Laws.{WorkflowsAreExpanded, ExpansionsAreNotRefused, choice_count}
+use Rattle.flow_gen.proofs.EventNames.{distinct_names}
+use Rattle.flow_gen.proofs.Parts.{declares, get_number}
+use Rattle.flow_gen.proofs.SaidTexts.{kind_count, rule_draws, numbers_length, event_declared, names_are_good}
+use Rattle.flow_gen.proofs.Rows.{IsRow, HasRow, goal_row}
 
 -- No sub-workflow is declared
 

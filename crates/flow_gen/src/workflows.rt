@@ -1,6 +1,6 @@
-ghost use Rattle.flow_gen_laws.specs.Laws.{WorkflowsAreExpanded, ExpansionsAreNotRefused, LeavesAreGoodTraces, WorkflowsAreConsistent};
-ghost use Rattle.flow_gen_laws.specs.Laws.{ChoicesAreFew, ChoicesDouble, WaysAreSingle, OptionsAreResolutions, BulkIsSmall, WorkflowsAreWithinLimits};
-ghost use Rattle.flow_gen_laws.specs.Laws.{CompilingIsNotRefused, CompilingPartsIsNotRefused};
+ghost use Rattle.flow_gen.specs.Laws.{WorkflowsAreExpanded, ExpansionsAreNotRefused, LeavesAreGoodTraces, WorkflowsAreConsistent};
+ghost use Rattle.flow_gen.specs.Laws.{ChoicesAreFew, ChoicesDouble, WaysAreSingle, OptionsAreResolutions, BulkIsSmall, WorkflowsAreWithinLimits};
+ghost use Rattle.flow_gen.specs.Laws.{CompilingIsNotRefused, CompilingPartsIsNotRefused};
 
 /// A generated workflow is never refused where it is expanded: it is small enough, and no execution holds an event
 /// twice.

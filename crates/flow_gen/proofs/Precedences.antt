@@ -18,8 +18,8 @@ use Rattle.flow_workflow.specs.Numbers.{event_number}
 use Rattle.flow_expand.specs.Constraints.{constraint_of}
 use Rattle.flow_excise.proofs.TallyLemmas.{bulk-cons}
 use Rattle.flow_gen.specs.Generated.{event_name, all_draws, constraints, generated}
-use Rattle.flow_gen_laws.proofs.SaidTexts.{rule_draws}
-use Rattle.flow_gen_laws.proofs.Expanded.{number_is}
+use Rattle.flow_gen.proofs.SaidTexts.{rule_draws}
+use Rattle.flow_gen.proofs.Expanded.{number_is}
 
 -- the constraint that the first of two events precedes the second
 abbrev pub precedence : ℕ → ℕ → Constraint

@@ -1,4 +1,4 @@
-ghost use Rattle.flow_gen_laws.specs.Laws.{TextsSayTheirWorkflow, TextsAreRead, WorkflowsAreClosed};
+ghost use Rattle.flow_gen.specs.Laws.{TextsSayTheirWorkflow, TextsAreRead, WorkflowsAreClosed};
 
 /// A generated text is never refused: it says the workflow that it was made from, and names nothing that is not
 /// declared.

@@ -1,5 +1,0 @@
-use Rattle.flow_gen_laws.proofs.Expanded.{workflows_are_expanded, expansions_are_not_refused}
-use Rattle.flow_gen_laws.proofs.workflows.law_generated_workflows_are_expanded.Goals as goal
-
-pub returns : goal.returns
-returns c = record { expanded = workflows_are_expanded; not_refused = expansions_are_not_refused }
