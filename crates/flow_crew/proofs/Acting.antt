@@ -23,8 +23,7 @@ use Rattle.flow_core.specs.declared.refusal.CommitRefusal.TheVariants as commit
 use Rattle.flow_core.specs.Run.{Run, schema, now, with_entry, HasEntryLeft}
 use Rattle.flow_core.specs.Answers.{IsOver, IsAnswered, IsUnanswered, Takes, Performs, Commits, Rewinds, PostIsRefused, PostsDone, PostsFailed}
 use Rattle.flow_core.specs.Looks.{IsNext}
-use Rattle.flow_core.proofs.Calls.{event_below}
-use Rattle.flow_core.proofs.OneAnswer.{other_event, not_both}
+use Rattle.flow_core.proofs.OneAnswer.{none_event, none_other, other_event, not_both}
 use Rattle.flow_core.proofs.Waiting.{none_current}
 use Rattle.flow_crew.specs.declared.ends.End.TheVariants as end
 use Rattle.flow_crew.specs.Ends.{HasNoEnd}
@@ -36,16 +35,13 @@ module _ (r : Run) (none : HasNoEnd r) (steps : HasEntryLeft r) where
   not_over : ¬ (IsOver r)
   not_over over = none end.Committed over
 
-  not_full : length r.history ≢ r.limit
-  not_full full = omega arith
-
   module _ (leaf : ℕ) (acts : IsNext r (next.Act leaf)) where
     -- a leaf that can act and is not taken can be done
     pub not_taken : (by : ℕ) (refusal : TakeRefusal) (after : Run) → Takes r leaf by (Err refusal) after → CanDo (schema r) (now r) leaf × (after ≡ r)
     not_taken by take.Closed after h = absurd (not_over h.0)
     not_taken by take.NoLeaf after h = elim acts.0.1 [
-      | inl can ↦ (let low : leaf < length (schema r).labels = event_below (schema r).labels leaf can.0 in let past : length (schema r).labels ≤ leaf = h.1 in absurd (omega arith))
-      | inr can ↦ (let low : leaf < length (schema r).labels = can.0.0.0 in let past : length (schema r).labels ≤ leaf = h.1 in absurd (omega arith))
+      | inl can ↦ absurd (none_event (schema r) leaf h.1 can.0)
+      | inr can ↦ absurd (none_other (schema r) leaf h.1 can.0.0)
     ]
     not_taken by take.WrongKind after h = elim acts.0.1 [
       | inl can ↦ absurd (other_event (schema r) leaf h.1 can.0)
@@ -60,8 +56,7 @@ module _ (r : Run) (none : HasNoEnd r) (steps : HasEntryLeft r) where
     performed : (by : ℕ) (answer : Result (Unit {0}) DoRefusal) (after : Run) → CanDo (schema r) (now r) leaf → Performs r leaf by answer after →
         IsOk answer × (after ≡ with_entry r by (Did leaf))
     performed by (Err perform.Closed) after can h = absurd (not_over h.0)
-    performed by (Err perform.NoLeaf) after can h =
-        let low : leaf < length (schema r).labels = can.0.0.0 in let past : length (schema r).labels ≤ leaf = h.1 in absurd (omega arith)
+    performed by (Err perform.NoLeaf) after can h = absurd (none_other (schema r) leaf h.1 can.0.0)
     performed by (Err perform.WrongKind) after can h = absurd (other_event (schema r) leaf can.0.0 h.1)
     performed by (Err (perform.Spent limit)) after can h = absurd (h.2.0 steps)
     performed by (Err perform.NotEnabled) after can h = absurd (h.3 can.0)
@@ -87,7 +82,7 @@ module _ (r : Run) (none : HasNoEnd r) (steps : HasEntryLeft r) where
   is_rewound leaf n by (Err rewind.Closed) after h = absurd (not_over h.0)
   is_rewound leaf n by (Err (rewind.Spent limit)) after h = absurd (h.1.0 steps)
   is_rewound leaf n by (Err rewind.NoChoice) after h =
-      let stands = stuck_ends r (goes_on r none) not_full (λ i free. h.2 i free.0) n.0.0 in absurd (none stands.0 stands.1)
+      let stands = stuck_ends r (goes_on r none) (λ full. omega arith) (λ i free. h.2 i free.0) n.0.0 in absurd (none stands.0 stands.1)
   is_rewound leaf n by (Ok index) after h = refl
 
   -- ---- what is told of a claim that is out

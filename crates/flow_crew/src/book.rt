@@ -1,12 +1,13 @@
-ghost use Rattle.std.specs.Prelude.{◌≡◌, []};
-ghost use Rattle.flow_crew.specs.Ends.{IsEnd};
+ghost use Rattle.std.specs.Prelude.{◌≡◌, true, [], MatchOption};
+ghost use Rattle.flow_crew.specs.Ends.{IsEnd, HasNoEnd};
 ghost use Rattle.flow_crew.specs.Invariant.{IsByWorkers};
-ghost use Rattle.flow_crew.specs.Moves.{IsContinued};
+ghost use Rattle.flow_crew.specs.Moves.{IsBegun, IsPosted, IsContinued};
 
 use crate::Gate;
 use crate::ends::{End, Move};
 use crate::held::Held;
 use flow_core::Core;
+use flow_model::{Call, Outcome};
 use std::marker::Model;
 
 /// A run by workers, and the gate that performs its tasks.
@@ -38,6 +39,21 @@ impl<'g, G: Gate> Book<'g, G> {
         }
     }
 
+    /// What the caller is to do. Where nothing is to be waited for, the run goes on by one entry.
+    pub fn begin(&mut self, by: u32) -> Move
+        ensures { IsBegun self.old by result self.new }
+    {
+        self.held.begin(by)
+    }
+
+    /// Tells the outcome of a task. After a kept failure the run goes back at once, where it can.
+    pub fn post(&mut self, call: Call, outcome: Outcome, by: u32)
+        requires { G.gives call outcome ≡ true }
+        ensures { IsPosted self.old call outcome by self.new }
+    {
+        self.held.post(call, outcome, by);
+    }
+
     /// Performs all that is left, tasks of claims that are out among it.
     pub fn finish(&mut self, by: u32) -> End
         ensures end { IsEnd self.new result }
@@ -55,6 +71,21 @@ impl<'g, G: Gate> Book<'g, G> {
             let outcome = self.gate.perform(call);
             self.held.post(call, outcome, by);
         }
+    }
+
+    /// What the run came to, if it has come to an end.
+    pub fn verdict(&self) -> Option<End>
+        ensures { MatchOption result (HasNoEnd self.now) (IsEnd self.now) }
+    {
+        self.held.verdict()
+    }
+
+    /// The run.
+    pub fn core(&self) -> &Core
+        ensures run { result.now ≡ self.now }
+        ensures by_workers { IsByWorkers G.gives self.now }
+    {
+        self.held.core()
     }
 
     /// The run alone.

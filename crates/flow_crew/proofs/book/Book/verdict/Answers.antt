@@ -1,0 +1,4 @@
+use Rattle.flow_crew.proofs.book.Book.verdict.Goals as goal
+
+pub returns : goal.returns
+returns g c = rw (← c.self.view_is) c.verdict.ensures
