@@ -1,10 +1,9 @@
-ghost use Rattle.std.specs.Prelude.{◌≡◌, ◌≢◌, ◌∷◌, [], ◌++◌, ◌<◌, ◌≤◌, ◌+◌, ◌^◌, ◌↔◌, ℕ, length, IfOk, OnOk, OnErr, IsNone, IfSome, slice_get, Some};
+ghost use Rattle.std.specs.Prelude.{◌≡◌, ◌≢◌, ◌∷◌, [], ◌++◌, ◌<◌, ◌≤◌, ◌+◌, ◌^◌, ◌↔◌, ℕ, length, IfOk, OnOk, OnErr, IsNone, IfSome, slice_get, Some, None, ◌⊎◌};
 ghost use Rattle.std.specs.declared.cmp.Ordering.TheVariants.{Equal};
-ghost use Rattle.std.specs.Option.{unwrap_or};
 ghost use Rattle.std.specs.Ordering.{nat_cmp};
-ghost use Rattle.std.specs.BTreeMap.{get, Updates, IsUnchanged};
+ghost use Rattle.std.specs.BTreeMap.{get};
 ghost use Rattle.flow_model.specs.Lists.{◌∈◌, AreDistinct};
-ghost use Rattle.flow_facts.specs.Indexed.{IsAdded, Leads};
+ghost use Rattle.flow_facts.specs.Indexed.{IsAdded};
 
 use crate::fact::Fact;
 use crate::name::Name;
@@ -86,34 +85,10 @@ impl<K: Key> Model for Numbered<K> {
 
 /// What the map has for the mark. The number is put in where it has nothing.
 fn find_or_put(numbers: &mut BTreeMap<u64, u32>, mark: u64, number: u32) -> Result<u32, AllocError>
-    ensures found { IfOk result (λ n. n ≡ unwrap_or (get nat_cmp numbers.old mark) number) }
-    ensures put { IfOk result (λ n. Updates nat_cmp numbers.old numbers.new mark (Some n)) }
-    ensures err { OnErr result (IsUnchanged numbers.old numbers.new) }
+    ensures found { IfOk result (λ n. get nat_cmp numbers.new mark ≡ Some n) }
+    ensures stay { (m n : ℕ) → get nat_cmp numbers.old m ≡ Some n → get nat_cmp numbers.new m ≡ Some n }
 {
     Ok(*numbers.entry(mark)?.or_insert(number))
-}
-
-/// Puts a key at the end, and lets the maps lead from it to its number. From other keys they lead where they did.
-fn put<K: Key>(
-    alloc: Global,
-    keys: &mut Vec<K>,
-    by_mark: &mut BTreeMap<u64, u32>,
-    by_key: &mut BTreeMap<K, u32>,
-    key: &K,
-) -> Result<u32, AllocError>
-    requires { length keys.old.items + 1 < 2 ^ 32 }
-    ensures keys { OnOk result (keys.new.items ≡ keys.old.items ++ key.now ∷ []) }
-    ensures number { IfOk result (λ n. n ≡ length keys.old.items) }
-    ensures leads { OnOk result (Leads K.cmp K.mark by_mark.new by_key.new key.now (length keys.old.items)) }
-    ensures stay { (k : K) (n : ℕ) → k ≢ key.now → Leads K.cmp K.mark by_mark.old by_key.old k n → Leads K.cmp K.mark by_mark.new by_key.new k n }
-    ensures err { OnErr result (keys.new.items ≡ keys.old.items) }
-{
-    let number = keys.len() as u32;
-    if find_or_put(by_mark, key.key_mark(), number)? != number {
-        by_key.insert(key.twin(alloc)?, number)?;
-    }
-    keys.push(key.twin(alloc)?)?;
-    Ok(number)
 }
 
 /// The number, if that is the key's.
@@ -123,6 +98,46 @@ fn if_of<K: Key>(keys: &[K], number: Option<u32>, key: &K) -> Option<u32>
 {
     let there = keys.get(number? as usize)?;
     if there == key { number } else { None }
+}
+
+/// The number of a key whose mark has that one.
+fn number_by<K: Key>(
+    keys: &[K],
+    marked: Option<u32>,
+    by_key: &BTreeMap<K, u32>,
+    key: &K,
+) -> Option<u32>
+    ensures found { IfSome result (λ n. slice_get keys.now n ≡ Some key.now) }
+    ensures marked { (n : ℕ) → result ≡ None → marked ≡ Some n → slice_get keys.now n ≢ Some key.now }
+    ensures own { (n : ℕ) → result ≡ None → get K.cmp by_key.now key.now ≡ Some n → slice_get keys.now n ≢ Some key.now }
+{
+    match if_of(keys, marked, key) {
+        None => if_of(keys, by_key.get(key).copied(), key),
+        found => found,
+    }
+}
+
+/// Puts a key at the end whose mark has that number. Where it is another's, the map has the key's own.
+fn put<K: Key>(
+    alloc: Global,
+    keys: &mut Vec<K>,
+    marked: u32,
+    by_key: &mut BTreeMap<K, u32>,
+    key: &K,
+) -> Result<u32, AllocError>
+    requires { length keys.old.items + 1 < 2 ^ 32 }
+    ensures keys { OnOk result (keys.new.items ≡ keys.old.items ++ key.now ∷ []) }
+    ensures number { IfOk result (λ n. n ≡ length keys.old.items) }
+    ensures leads { OnOk result ((marked ≡ length keys.old.items) ⊎ (get K.cmp by_key.new key.now ≡ Some (length keys.old.items))) }
+    ensures stay { (k : K) (n : ℕ) → k ≢ key.now → get K.cmp by_key.old k ≡ Some n → get K.cmp by_key.new k ≡ Some n }
+    ensures err { OnErr result (keys.new.items ≡ keys.old.items) }
+{
+    let number = keys.len() as u32;
+    if marked != number {
+        by_key.insert(key.twin(alloc)?, number)?;
+    }
+    keys.push(key.twin(alloc)?)?;
+    Ok(number)
 }
 
 impl<K: Key> Numbered<K> {
@@ -142,11 +157,8 @@ impl<K: Key> Numbered<K> {
         ensures none { IsNone result ↔ ¬ (key.now ∈ self.now) }
         ensures found { IfSome result (λ n. slice_get self.now n ≡ Some key.now) }
     {
-        let by_mark = self.by_mark.get(&key.key_mark()).copied();
-        match if_of(&self.keys, by_mark, key) {
-            None => if_of(&self.keys, self.by_key.get(key).copied(), key),
-            found => found,
-        }
+        let marked = self.by_mark.get(&key.key_mark()).copied();
+        number_by(&self.keys, marked, &self.by_key, key)
     }
 
     /// The number of the key, which is put in where it is new. There is room for as many keys as have numbers.
@@ -157,19 +169,15 @@ impl<K: Key> Numbered<K> {
         ensures few { length self.new ≤ length self.old + 1 }
         ensures err { OnErr result (self.new ≡ self.old) }
     {
-        if let Some(number) = self.number_of(key) {
-            return Ok(number);
-        }
         if self.keys.len() >= u32::MAX as usize {
-            return Err(AllocError);
+            return self.number_of(key).ok_or(AllocError);
         }
-        put(
-            alloc,
-            &mut self.keys,
-            &mut self.by_mark,
-            &mut self.by_key,
-            key,
-        )
+        let number = self.keys.len() as u32;
+        let marked = find_or_put(&mut self.by_mark, key.key_mark(), number)?;
+        match number_by(&self.keys, Some(marked), &self.by_key, key) {
+            Some(found) => Ok(found),
+            None => put(alloc, &mut self.keys, marked, &mut self.by_key, key),
+        }
     }
 
     pub fn count(&self) -> u32
