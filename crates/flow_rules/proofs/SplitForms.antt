@@ -1,6 +1,6 @@
 -- The normal forms that the code makes have the ways of those of the definitions.
 use Rattle.std.proofs.Common.{◌≡◌, ℕ, Bool, true, false, not, List, [], ◌∷◌, Vec, Global, map, fold, refl, sym, ap, ◌∙◌, Option}
-use Rattle.flow_model.specs.Constraint.{Constraint, Always, Impossible, Must, Never, Order, Not, And, Or, all_of}
+use Rattle.flow_model.specs.Constraint.{Constraint, Always, Impossible, Order, Not, And, Or, all_of}
 use Rattle.flow_model.specs.Ways.{Normal, both, either, before, not_before, normal_form, chain, broken_chain, ways}
 use Rattle.flow_rules.specs.declared.rule.Rule as rule
 use Rattle.flow_rules.specs.declared.rule.Rule.{Rule}

@@ -1,6 +1,6 @@
 -- Lists of ways put together.
 use Rattle.std.proofs.Common.{◌≡◌, ℕ, zero, suc, ◌+◌, ◌<◌, Bool, true, false, not, ◌||◌, ◌&&◌, if◌then◌else◌, Option, List, [], ◌∷◌, ◌++◌, length, take, get_or, map, fold, refl, sym, ap, ◌∙◌, append_assoc, append-nil, true≢false}
-use Rattle.std.proofs.lemmas.List.{map-append, map-id, take_more}
+use Rattle.std.proofs.lemmas.List.{map-id, take_more}
 use Rattle.std.proofs.lemmas.List.Sums.{fold-append}
 use Rattle.flow_model.specs.Ways.{free_way, is_free, ways}
 pub use Rattle.flow_laws.proofs.WaysLemmas.{free_is}

@@ -1,5 +1,3 @@
-use Rattle.std.proofs.Common.{ap}
-use Rattle.flow_goal.specs.Patterns.{IsLineOf}
 use Rattle.flow_goal.proofs.PatternLemmas.{resolution_written}
 use Rattle.flow_goal.proofs.choices.written.Goals as goal
 

@@ -1,4 +1,4 @@
-use Rattle.std.proofs.Common.{◌++◌, ◌∙◌, ap, sym, subst}
+use Rattle.std.proofs.Common.{sym, subst}
 use Rattle.flow_goal.specs.declared.goal.Goal.{Goal}
 use Rattle.flow_goal.specs.Goal.{process_of}
 use Rattle.flow_goal.specs.Patterns.{Lays, lines_in}

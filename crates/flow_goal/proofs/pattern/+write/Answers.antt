@@ -1,4 +1,4 @@
-use Rattle.std.proofs.Common.{◌≡◌, ◌<◌, ◌-◌, ◌^◌, ◌++◌, [], ◌∷◌, slice_get, length, sym, ap, ◌∙◌, subst, refl, rules, arith}
+use Rattle.std.proofs.Common.{◌≡◌, ◌<◌, ◌++◌, [], ◌∷◌, slice_get, length, sym, ap, ◌∙◌, subst, rules, arith}
 use Rattle.flow_model.specs.Lists.{each_with_each}
 use Rattle.flow_goal.specs.Patterns.{IsCounted, Writes, line_of, lines_of, then}
 use Rattle.flow_goal.specs.Capped.{capped}

@@ -2,7 +2,6 @@ use Rattle.std.proofs.Common.{◌∙◌, sym, ap, subst, arith}
 use Rattle.std.specs.List.Sorted.{IsStrictlyIncreasing}
 use Rattle.flow_model.specs.Process.{IsChoiceFree, leaves}
 use Rattle.flow_goal.specs.Goal.{process_of}
-use Rattle.flow_goal.specs.Patterns.{lines_of}
 use Rattle.flow_goal.specs.Simple.{IsSimplified}
 use Rattle.flow_goal.proofs.PatternLemmas.{lines_count}
 use Rattle.flow_goal.proofs.Simpler.{only_at, only_count, simplified_as}

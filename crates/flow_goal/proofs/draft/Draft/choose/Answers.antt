@@ -1,4 +1,4 @@
-use Rattle.std.proofs.Common.{◌++◌, ◌∙◌, ap, sym}
+use Rattle.std.proofs.Common.{◌++◌, ◌∙◌, ap}
 use Rattle.flow_model.specs.Lists.{each_with_each}
 use Rattle.flow_goal.specs.declared.draft.Draft.{Draft}
 use Rattle.flow_goal.specs.Patterns.{drafted, line_of, then}
