@@ -116,19 +116,6 @@ goal_forth (in_args p a fs l) w K h = let front = arg_forth (suc (height fs)) a 
 abbrev Back : GoalState → Symbol → List Placed → Follow Shape → Type 0
 Back s t w K = StepNext GoalRest (step_goal s t) w K → GoalRest s (at (depth_goal s) t ∷ w) K
 
-start_back : (K : Follow Shape) (fs : List Frame) (l : Level) (t : Symbol) (w : List Placed) → Back (atom_needed fs l) t w K
-start_back K fs l nop_word w t = (nop_text, w, refl, t)
-start_back K fs l (a_name n) w t = (name_text n, w, refl, t)
-start_back K fs l question w (f, v, e, t) = (fact_text asking f, v, ap (λ y. at (height fs) question ∷ y) e, t)
-start_back K fs l exclamation w (f, v, e, t) = (fact_text denying f, v, ap (λ y. at (height fs) exclamation ∷ y) e, t)
-start_back K fs l ins_word w (f, v, e, t) = (fact_text adding f, v, ap (λ y. at (height fs) ins_word ∷ y) e, t)
-start_back K fs l del_word w (f, v, e, t) = (fact_text taking f, v, ap (λ y. at (height fs) del_word ∷ y) e, t)
-start_back K fs l iso_word w (g, v, e, t) = (iso_text g, v, ap (λ y. at (height fs) iso_word ∷ y) e, t)
-start_back K fs l opening w h =
-    let (g, r, e, (v, e', t)) = goal_of_need (Closing K (parenthesis l ∷ fs)) (suc (height fs)) w h in
-    (group_text g, v, ap (λ y. at (height fs) opening ∷ y) (ap (spell (suc (height fs)) g) e' ∙ e), t)
-start_back K fs l _ w h = absurd h
-
 join_back : (K : Follow Shape) (fs : List Frame) (l : Level) (t : Symbol) (w : List Placed) → Back (after_atom fs l) t w K
 join_back K fs l star w (a, v, e, (more, ss, bs, r, e', c)) =
     let moved = subst (λ y. Closing K fs y r) (sym (push_more l (mean a) (mean_more more) (mean_more ss) (mean_more bs))) c in
@@ -145,7 +132,17 @@ join_back K (f ∷ fs) l closing w t =
 join_back K _ l _ w h = absurd h
 
 pub goal_back : (s : GoalState) (t : Symbol) (w : List Placed) (K : Follow Shape) → Back s t w K
-goal_back (atom_needed fs l) t w K h = start_back K fs l t w h
+goal_back (atom_needed fs l) nop_word w K t = (nop_text, w, refl, t)
+goal_back (atom_needed fs l) (a_name n) w K t = (name_text n, w, refl, t)
+goal_back (atom_needed fs l) question w K (f, v, e, t) = (fact_text asking f, v, ap (λ y. at (height fs) question ∷ y) e, t)
+goal_back (atom_needed fs l) exclamation w K (f, v, e, t) = (fact_text denying f, v, ap (λ y. at (height fs) exclamation ∷ y) e, t)
+goal_back (atom_needed fs l) ins_word w K (f, v, e, t) = (fact_text adding f, v, ap (λ y. at (height fs) ins_word ∷ y) e, t)
+goal_back (atom_needed fs l) del_word w K (f, v, e, t) = (fact_text taking f, v, ap (λ y. at (height fs) del_word ∷ y) e, t)
+goal_back (atom_needed fs l) iso_word w K (g, v, e, t) = (iso_text g, v, ap (λ y. at (height fs) iso_word ∷ y) e, t)
+goal_back (atom_needed fs l) opening w K h =
+    let (g, r, e, (v, e', t)) = goal_of_need (Closing K (parenthesis l ∷ fs)) (suc (height fs)) w h in
+    (group_text g, v, ap (λ y. at (height fs) opening ∷ y) (ap (spell (suc (height fs)) g) e' ∙ e), t)
+goal_back (atom_needed fs l) _ w K h = absurd h
 goal_back (after_atom fs l) t w K h = join_back K fs l t w h
 goal_back (opening_needed fs l) opening w K h =
     let (g, r, e, (v, e', t)) = goal_of_need (Closing K (isolation l ∷ fs)) (suc (height fs)) w h in

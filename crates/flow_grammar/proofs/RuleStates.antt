@@ -93,15 +93,6 @@ start_forth K fs l k (order_text a b ns) v t = (λ h. refl, (a, b, ns, v, refl, 
 start_forth K fs l k (pair_text preceding a b) v t = (λ h. refl, (a, b, v, refl, t))
 start_forth K fs l k (pair_text needing a b) v t = (λ h. refl, (a, b, v, refl, t))
 
-more_forth : (K : Follow RuleShape) (ms : List (List ℕ)) (fs : List RuleFrame) (l : RuleLevel) (k : ℕ) (w : List Placed) →
-    RuleRest (after_names ms fs l k) w K → RuleFront (after_names ms fs l k) w K
-more_forth K ms fs l k w ([], v, e, t) =
-    let after = subst (After K fs l k (order ms)) e (subst (λ y. After K fs l k (order y) v) (append-nil ms) t) in
-    let front = join_forth K fs (push_rule l (negate k (order ms))) w after in search std_rules
-more_forth K ms fs l k w (n ∷ ns, v, e, t) =
-    subst (λ y. RuleFront (after_names ms fs l k) y K) e
-    (λ h. absurd h, (ns, v, refl, subst (λ y. After K fs l k (order y) v) (sym (append_assoc ms (n ∷ []) ns)) t))
-
 pub rule_forth : (s : RuleState) (w : List Placed) (K : Follow RuleShape) → RuleRest s w K → RuleFront s w K
 rule_forth (unit_needed fs l k) w K (u, v, e, t) = subst (λ y. RuleFront (unit_needed fs l k) y K) e (start_forth K fs l k u v t)
 rule_forth (after_unit fs l) w K h = join_forth K fs l w h
@@ -112,7 +103,12 @@ rule_forth (name_needed two_or_more fs l k) w K (a, b, ns, v, e, t) =
     subst (λ y. RuleFront (name_needed two_or_more fs l k) y K) e (λ h. refl, (b, ns, v, refl, t))
 rule_forth (name_needed (one_or_more a) fs l k) w K (b, ns, v, e, t) =
     subst (λ y. RuleFront (name_needed (one_or_more a) fs l k) y K) e (λ h. refl, (ns, v, refl, t))
-rule_forth (after_names ms fs l k) w K h = more_forth K ms fs l k w h
+rule_forth (after_names ms fs l k) w K ([], v, e, t) =
+    let after = subst (After K fs l k (order ms)) e (subst (λ y. After K fs l k (order y) v) (append-nil ms) t) in
+    let front = join_forth K fs (push_rule l (negate k (order ms))) w after in search std_rules
+rule_forth (after_names ms fs l k) w K (n ∷ ns, v, e, t) =
+    subst (λ y. RuleFront (after_names ms fs l k) y K) e
+    (λ h. absurd h, (ns, v, refl, subst (λ y. After K fs l k (order y) v) (sym (append_assoc ms (n ∷ []) ns)) t))
 
 -- Back: a step and what may follow it may follow the state
 
@@ -152,22 +148,18 @@ name_back K two_or_more fs l k (a_name n) w (b, ns, v, e, t) = (n, b, ns, v, ap 
 name_back K (one_or_more a) fs l k (a_name n) w (ns, v, e, t) = (n, ns, v, ap (λ y. at (nots_in k (rule_height fs)) (a_name n) ∷ y) e, t)
 name_back K _ fs l k _ w h = absurd h
 
--- a further name stands inside the nots, what follows the unit outside
-more_back : (K : Follow RuleShape) (ms : List (List ℕ)) (fs : List RuleFrame) (l : RuleLevel) (k : ℕ) (t : Symbol) (w : List Placed) →
-    StepNext RuleRest (step_rule (after_names ms fs l k) t) w K → (n : ℕ) × (Deepens t → n ≡ rule_height fs) × RuleRest (after_names ms fs l k) (at n t ∷ w) K
-more_back K ms fs l k (a_name n) w (ns, v, e, t) =
-    let moved = subst (λ y. After K fs l k (order y) v) (append_assoc ms (n ∷ []) ns) t in
-    (nots_in k (rule_height fs), λ h. absurd h, (n ∷ ns, v, ap (λ y. at (nots_in k (rule_height fs)) (a_name n) ∷ y) e, moved))
-more_back K ms fs l k t w h =
-    let after = join_back K fs (push_rule l (negate k (order ms))) t w h in
-    (rule_height fs, λ h'. refl, ([], _, refl, subst (λ y. After K fs l k (order y) (at (rule_height fs) t ∷ w)) (sym (append-nil ms)) after))
-
 pub rule_back : (s : RuleState) (t : Symbol) (w : List Placed) (K : Follow RuleShape) → StepNext RuleRest (step_rule s t) w K →
     (n : ℕ) × (Deepens t → n ≡ depth_rule s) × RuleRest s (at n t ∷ w) K
 rule_back (unit_needed fs l k) t w K h = (nots_in k (rule_height fs), λ h'. refl, start_back K fs l k t w h)
 rule_back (after_unit fs l) t w K h = (rule_height fs, λ h'. refl, join_back K fs l t w h)
 rule_back (name_needed names fs l k) t w K h = (nots_in k (rule_height fs), λ h'. refl, name_back K names fs l k t w h)
-rule_back (after_names ms fs l k) t w K h = more_back K ms fs l k t w h
+-- a further name stands inside the nots, what follows the unit outside
+rule_back (after_names ms fs l k) (a_name n) w K (ns, v, e, t) =
+    let moved = subst (λ y. After K fs l k (order y) v) (append_assoc ms (n ∷ []) ns) t in
+    (nots_in k (rule_height fs), λ h. absurd h, (n ∷ ns, v, ap (λ y. at (nots_in k (rule_height fs)) (a_name n) ∷ y) e, moved))
+rule_back (after_names ms fs l k) t w K h =
+    let after = join_back K fs (push_rule l (negate k (order ms))) t w h in
+    (rule_height fs, λ h'. refl, ([], _, refl, subst (λ y. After K fs l k (order y) (at (rule_height fs) t ∷ w)) (sym (append-nil ms)) after))
 
 -- Each state can be completed
 

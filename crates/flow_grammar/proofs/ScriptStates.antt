@@ -95,21 +95,6 @@ module _ {A : Type 0} (spell_item : A → List Placed → List Placed) (meant : 
 
 -- Forth
 
-declaration_forth : (ds : List Declared) (w : List Placed) (x : Said) → Declarations ds w x → Ahead (declaration_needed ds) w x
-declaration_forth ds w x (script_text [] g cs, e, ex) =
-    let said = ap (λ y. record { decls = y; goal = mean g; rules = map mean_rule cs }) (sym (append-nil ds)) ∙ ex in
-    subst (λ y. Ahead (declaration_needed ds) y x) e
-    (λ h. refl, need_of_goal (Closing (λ s v. Constraints ds s [] v x) []) 0 g (at 0 semicolon ∷ spell_constraints cs) (_, refl, (cs, refl, said)))
-declaration_forth ds w x (script_text (facts_text f fs ∷ more) g cs, e, ex) =
-    subst (λ y. Ahead (declaration_needed ds) y x) e
-    (λ h. refl, (f, _, refl, (fs, script_text more g cs, refl, sym (moved ds (declared_fact f) (map declared_fact fs) (mean_script (script_text more g cs))) ∙ ex)))
-declaration_forth ds w x (script_text (events_text i es ∷ more) g cs, e, ex) =
-    subst (λ y. Ahead (declaration_needed ds) y x) e
-    (λ h. refl, (i, _, refl, (es, script_text more g cs, refl, sym (moved ds (mean_noted i) (map mean_noted es) (mean_script (script_text more g cs))) ∙ ex)))
-declaration_forth ds w x (script_text (flow_text n f ∷ more) g cs, e, ex) =
-    subst (λ y. Ahead (declaration_needed ds) y x) e
-    (λ h. refl, (n, f, _, refl, (script_text more g cs, refl, sym (moved_one ds (flow n (mean f)) (mean_script (script_text more g cs))) ∙ ex)))
-
 facts_forth : (ds : List Declared) (w : List Placed) (x : Said) → AfterFact ds w x → Ahead (after_fact ds) w x
 facts_forth ds w x h =
     let (t, v, e, k) = items_forth (spell_fact 0) declared_fact fact_to_declare x (λ ds' v' k. k) ds w h in
@@ -120,25 +105,20 @@ events_forth ds w x h =
     let (t, v, e, k) = items_forth spell_noted mean_noted event_to_declare x (λ ds' v' k. k) ds w h in
     subst (λ y. Ahead (after_noted ds) y x) e (λ h'. refl, k)
 
-note_forth : (ds : List Declared) (n : List ℕ) (w : List Placed) (x : Said) → Rest (after_event ds n) w x → Ahead (after_event ds n) w x
-note_forth ds n w x (silent_text, v, e, h) =
-    let ahead = events_forth (ds ++ event n Done ∷ []) w x (subst (λ y. AfterNoted (ds ++ event n Done ∷ []) y x) e h) in search std_rules
-note_forth ds n w x (done_text, v, e, h) = subst (λ y. Ahead (after_event ds n) y x) e (λ h'. refl, h)
-note_forth ds n w x (fail_text, v, e, h) = subst (λ y. Ahead (after_event ds n) y x) e (λ h'. refl, inl h)
-note_forth ds n w x (fail_first_text m, v, e, h) = subst (λ y. Ahead (after_event ds n) y x) e (λ h'. refl, inr (m, v, refl, h))
-
-constraint_forth : (ds : List Declared) (s : Shape) (rs : List RuleShape) (w : List Placed) (x : Said) →
-    Constraints ds s rs w x → Ahead (constraint_needed ds s rs) w x
-constraint_forth ds s rs w x ([], e, ex) =
-    subst (λ y. Ahead (constraint_needed ds s rs) y x) e
-    (ap Some (ap (λ y. record { decls = ds; goal = s; rules = y }) (sym (append-nil rs)) ∙ ex))
-constraint_forth ds s rs w x (c ∷ cs, e, ex) =
-    let said = ap (λ y. record { decls = ds; goal = s; rules = y }) (append_assoc rs (mean c ∷ []) (map mean_rule cs)) ∙ ex in
-    subst (λ y. Ahead (constraint_needed ds s rs) y x) e
-    (λ h. refl, need_of_rule (rule_states.Closing (λ y v. Constraints ds s (rs ++ y ∷ []) v x) []) 0 c (at 0 semicolon ∷ spell_constraints cs) (_, refl, (cs, refl, said)))
-
 script_forth : (s : State) (w : List Placed) (x : Said) → Rest s w x → Ahead s w x
-script_forth (declaration_needed ds) w x h = declaration_forth ds w x h
+script_forth (declaration_needed ds) w x (script_text [] g cs, e, ex) =
+    let said = ap (λ y. record { decls = y; goal = mean g; rules = map mean_rule cs }) (sym (append-nil ds)) ∙ ex in
+    subst (λ y. Ahead (declaration_needed ds) y x) e
+    (λ h. refl, need_of_goal (Closing (λ s v. Constraints ds s [] v x) []) 0 g (at 0 semicolon ∷ spell_constraints cs) (_, refl, (cs, refl, said)))
+script_forth (declaration_needed ds) w x (script_text (facts_text f fs ∷ more) g cs, e, ex) =
+    subst (λ y. Ahead (declaration_needed ds) y x) e
+    (λ h. refl, (f, _, refl, (fs, script_text more g cs, refl, sym (moved ds (declared_fact f) (map declared_fact fs) (mean_script (script_text more g cs))) ∙ ex)))
+script_forth (declaration_needed ds) w x (script_text (events_text i es ∷ more) g cs, e, ex) =
+    subst (λ y. Ahead (declaration_needed ds) y x) e
+    (λ h. refl, (i, _, refl, (es, script_text more g cs, refl, sym (moved ds (mean_noted i) (map mean_noted es) (mean_script (script_text more g cs))) ∙ ex)))
+script_forth (declaration_needed ds) w x (script_text (flow_text n f ∷ more) g cs, e, ex) =
+    subst (λ y. Ahead (declaration_needed ds) y x) e
+    (λ h. refl, (n, f, _, refl, (script_text more g cs, refl, sym (moved_one ds (flow n (mean f)) (mean_script (script_text more g cs))) ∙ ex)))
 script_forth (fact_to_declare ds) w x (bare n, v, e, h) = subst (λ y. Ahead (fact_to_declare ds) y x) e (λ h'. refl, inl h)
 script_forth (fact_to_declare ds) w x (applied n c cs, v, e, h) =
     subst (λ y. Ahead (fact_to_declare ds) y x) e (λ h'. refl, inr (_, refl, (c, cs, v, refl, h)))
@@ -147,7 +127,11 @@ script_forth (after_declared_relation ds n) w x (inr (v, e, h)) = subst (λ y. A
 script_forth (in_declared_args ds a) w x h = let front = arg_forth 1 a w (λ f r. AfterFact (ds ++ fact f ∷ []) r x) h in search std_rules
 script_forth (after_fact ds) w x h = facts_forth ds w x h
 script_forth (event_to_declare ds) w x (noted_text n note, v, e, h) = subst (λ y. Ahead (event_to_declare ds) y x) e (λ h'. refl, (note, v, refl, h))
-script_forth (after_event ds n) w x h = note_forth ds n w x h
+script_forth (after_event ds n) w x (silent_text, v, e, h) =
+    let ahead = events_forth (ds ++ event n Done ∷ []) w x (subst (λ y. AfterNoted (ds ++ event n Done ∷ []) y x) e h) in search std_rules
+script_forth (after_event ds n) w x (done_text, v, e, h) = subst (λ y. Ahead (after_event ds n) y x) e (λ h'. refl, h)
+script_forth (after_event ds n) w x (fail_text, v, e, h) = subst (λ y. Ahead (after_event ds n) y x) e (λ h'. refl, inl h)
+script_forth (after_event ds n) w x (fail_first_text m, v, e, h) = subst (λ y. Ahead (after_event ds n) y x) e (λ h'. refl, inr (m, v, refl, h))
 script_forth (after_fail ds n) w x (inl h) = let ahead = events_forth (ds ++ event n Fail ∷ []) w x h in search std_rules
 script_forth (after_fail ds n) w x (inr (m, v, e, h)) = subst (λ y. Ahead (after_fail ds n) y x) e (λ h'. refl, h)
 script_forth (after_noted ds) w x h = events_forth ds w x h
@@ -157,7 +141,13 @@ script_forth (equals_needed ds n) w x (g, v, e, h) =
     (λ h'. refl, need_of_goal (Closing (λ s r. Declarations (ds ++ flow n s ∷ []) r x) []) 0 g (at 0 semicolon ∷ v) (v, refl, h))
 script_forth (in_flow ds n g) w x h = let front = goal_forth g w (λ s v. Declarations (ds ++ flow n s ∷ []) v x) h in search std_rules
 script_forth (in_goal ds g) w x h = let front = goal_forth g w (λ s v. Constraints ds s [] v x) h in search std_rules
-script_forth (constraint_needed ds s rs) w x h = constraint_forth ds s rs w x h
+script_forth (constraint_needed ds s rs) w x ([], e, ex) =
+    subst (λ y. Ahead (constraint_needed ds s rs) y x) e
+    (ap Some (ap (λ y. record { decls = ds; goal = s; rules = y }) (sym (append-nil rs)) ∙ ex))
+script_forth (constraint_needed ds s rs) w x (c ∷ cs, e, ex) =
+    let said = ap (λ y. record { decls = ds; goal = s; rules = y }) (append_assoc rs (mean c ∷ []) (map mean_rule cs)) ∙ ex in
+    subst (λ y. Ahead (constraint_needed ds s rs) y x) e
+    (λ h. refl, need_of_rule (rule_states.Closing (λ y v. Constraints ds s (rs ++ y ∷ []) v x) []) 0 c (at 0 semicolon ∷ spell_constraints cs) (_, refl, (cs, refl, said)))
 script_forth (in_constraint ds s rs r) w x h = let front = rule_forth r w (λ y v. Constraints ds s (rs ++ y ∷ []) v x) h in search std_rules
 
 -- Back
@@ -182,9 +172,6 @@ declaration_back ds goal_word w x h =
     (script_text [] g cs, ap (λ y. at 0 goal_word ∷ y) (ap (spell 0 g) (ap (λ y. at 0 semicolon ∷ y) e2 ∙ e') ∙ e), said)
 declaration_back ds _ w x h = absurd h
 
-facts_back : (ds : List Declared) (t : Symbol) (w : List Placed) (x : Said) → Back (after_fact ds) t w x
-facts_back ds t w x h = items_back (spell_fact 0) declared_fact fact_to_declare x (λ ds' v k. k) ds t w h
-
 events_back : (ds : List Declared) (t : Symbol) (w : List Placed) (x : Said) → Back (after_noted ds) t w x
 events_back ds t w x h = items_back spell_noted mean_noted event_to_declare x (λ ds' v k. k) ds t w h
 
@@ -196,9 +183,9 @@ script_back (fact_to_declare ds) (a_name n) w x (inr (v, e, (c, cs, r, e', h))) 
     (0, λ h'. refl, (applied n c cs, r, ap (λ y. at 0 (a_name n) ∷ y) (ap (λ y. at 0 opening ∷ y) e' ∙ e), h))
 script_back (fact_to_declare ds) _ w x h = absurd h
 script_back (after_declared_relation ds n) opening w x h = (0, λ h'. refl, inr (w, refl, h))
-script_back (after_declared_relation ds n) t w x h = (0, λ h'. refl, inl (facts_back (ds ++ fact (atom n []) ∷ []) t w x h))
+script_back (after_declared_relation ds n) t w x h = (0, λ h'. refl, inl (items_back (spell_fact 0) declared_fact fact_to_declare x (λ ds' v k. k) (ds ++ fact (atom n []) ∷ []) t w h))
 script_back (in_declared_args ds a) t w x h = (1, λ h'. refl, arg_back 1 a t w (λ f r. AfterFact (ds ++ fact f ∷ []) r x) (search std_rules))
-script_back (after_fact ds) t w x h = (0, λ h'. refl, facts_back ds t w x h)
+script_back (after_fact ds) t w x h = (0, λ h'. refl, items_back (spell_fact 0) declared_fact fact_to_declare x (λ ds' v k. k) ds t w h)
 script_back (event_to_declare ds) (a_name n) w x (note, v, e, h) = (0, λ h'. refl, (noted_text n note, v, ap (λ y. at 0 (a_name n) ∷ y) e, h))
 script_back (event_to_declare ds) _ w x h = absurd h
 script_back (after_event ds n) done_word w x h = (0, λ h'. refl, (done_text, w, refl, h))

@@ -15,8 +15,8 @@ kept-fold : (v : ℕ) (ds : List ℕ) → kept_from (min v (2 ^ 64 - 1)) ds ≡ 
 kept-fold v [] = refl
 kept-fold v (d ∷ ds) = ap (λ w. kept_from w ds) (kept-step v d) ∙ kept-fold (10 * v + (d - 48)) ds
 
-pub kept-value : (ds : List ℕ) → min (number_value ds) (2 ^ 64 - 1) ≡ kept_from 0 ds
-kept-value ds = sym (kept-fold 0 ds)
+pub kept_value : (ds : List ℕ) → min (number_value ds) (2 ^ 64 - 1) ≡ kept_from 0 ds
+kept_value ds = sym (kept-fold 0 ds)
 
-pub kept-more : (value i : ℕ) (ds : List ℕ) → i < length ds → kept_from value (drop i ds) ≡ kept_from (kept_with value (get_or ds i 0)) (drop (i + 1) ds)
-kept-more value i ds h = rw (drop_more ds i 0 h) refl
+pub kept_more : (value i : ℕ) (ds : List ℕ) → i < length ds → kept_from value (drop i ds) ≡ kept_from (kept_with value (get_or ds i 0)) (drop (i + 1) ds)
+kept_more value i ds h = rw (drop_more ds i 0 h) refl

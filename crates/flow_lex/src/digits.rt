@@ -11,6 +11,7 @@ fn with_digit(value: u64, digit: u8) -> u64
 }
 
 /// The value of decimal digits, kept at the greatest `u64` where it is more.
+#[tactic(auto, using(crate::proofs::KeptValues::kept_value, crate::proofs::KeptValues::kept_more, std::proofs::lemmas::List::drop_all))]
 fn kept_value(digits: &[u8]) -> u64
     ensures { result ≡ min (number_value digits.now) (2 ^ 64 - 1) }
 {
