@@ -1,6 +1,7 @@
 -- A goal with each sub-workflow put in place, and its size.
-use Rattle.std.specs.Prelude.{ℕ, ◌+◌, ◌-◌, ◌^◌, min, max, List, [], ◌∷◌, fold}
+use Rattle.std.specs.Prelude.{ℕ, ◌+◌, max, List, [], ◌∷◌, fold}
 use Rattle.flow_model.specs.Lists.{◌∈◌}
+pub use Rattle.flow_goal.specs.Capped.{capped}
 use Rattle.flow_facts.specs.Atom.{Atom}
 use Rattle.flow_form.specs.Form.{Shape, Shapes, nop, named, test, absent, ins, del, iso, serial, beside, either, no_more, followed}
 use Rattle.flow_form.specs.Script.{Declared, flow}
@@ -68,10 +69,6 @@ isolations_in e = 0
 -- its leaves and nothings, or its isolations where these are more
 abbrev pub size_of : Expansion → ℕ
 size_of e = max (ends_in e) (isolations_in e)
-
--- the number, or the greatest one of 64 bits
-abbrev pub capped : ℕ → ℕ
-capped n = min n (2 ^ 64 - 1)
 
 -- its numbers in 64 bits
 abbrev pub sizes_of : Expansion → Size
