@@ -35,6 +35,10 @@ fn read_constant(
         Symbol::Number(number) => Const::Number(number),
         _ => return Ok(ArgStep::Stuck),
     };
+    // most facts have one
+    if args.is_empty() {
+        args.reserve_exact(1)?;
+    }
     args.push(constant)?;
     Ok(ArgStep::Reading(ArgReader::AfterConstant(relation, args)))
 }
