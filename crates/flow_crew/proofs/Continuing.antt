@@ -18,7 +18,7 @@ use Rattle.flow_core.specs.Looks.{IsNext}
 use Rattle.flow_crew.specs.declared.ends.Move.{Move}
 use Rattle.flow_crew.specs.declared.ends.Move.TheVariants.{Wait, Over}
 use Rattle.flow_crew.specs.Ends.{HasEnd, HasNoEnd}
-use Rattle.flow_crew.specs.Moves.{move_after, IsBegun, IsOut, Records, IsPosted, IsContinued}
+use Rattle.flow_crew.specs.Moves.{move_after, IsBegun, IsOut, IsRecorded, IsPosted, IsContinued}
 use Rattle.flow_crew.proofs.Acting.{refused_late}
 use Rattle.flow_crew.proofs.Endings.{IsWithin, has_room}
 
@@ -130,7 +130,7 @@ went_back r by (Err (rewind.Spent limit)) after within h = stays r by after h.2 
 went_back r by (Err rewind.NoChoice) after within h = stays r by after h.3 within
 went_back r by (Ok index) after within h = (further_one r by (Rewound index) after h.3 h.1).goes
 
-told : (r : Run) (call : Call) (o : Outcome) (by : ℕ) (after : Run) → HasNoEnd r → HasEntryLeft r → IsOut r call → Records r call o by after → GoesFurther r by after
+told : (r : Run) (call : Call) (o : Outcome) (by : ℕ) (after : Run) → HasNoEnd r → HasEntryLeft r → IsOut r call → IsRecorded r call o by after → GoesFurther r by after
 told r call outcome.Done by after none room out (Err refusal, h) =
     further_one r by (Late call.claim) after (refused_late r none room call out by refusal after h) room
 told r call outcome.Done by after none room out (Ok _, h) = further_one r by (Done call.claim) after h.3 room

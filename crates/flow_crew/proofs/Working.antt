@@ -18,7 +18,7 @@ use Rattle.flow_core.specs.Looks.{IsNext}
 use Rattle.flow_core.proofs.Steps.{state_after-append}
 use Rattle.flow_crew.specs.declared.ends.Move.{Move}
 use Rattle.flow_crew.specs.Ends.{HasNoEnd}
-use Rattle.flow_crew.specs.Moves.{IsNextStep, Advances, IsBegun, IsOut, IsPosted, Records}
+use Rattle.flow_crew.specs.Moves.{IsNextStep, Advances, IsBegun, IsOut, IsPosted, IsRecorded}
 use Rattle.flow_crew.specs.Invariant.{IsByWorkers}
 use Rattle.flow_crew.proofs.Histories.{AreRunSteps, one_step_more, not_last_kept, IsDrivenSoFar, IsSettled, so_far, driven_settles, driven_of, one_driven_more}
 use Rattle.flow_crew.proofs.Acting.{refused_late}
@@ -128,7 +128,7 @@ module _ (gives : Call → Outcome → Bool) where
 
   -- a result is told
   pub recorded : (r : Run) (call : Call) (o : Outcome) (by : ℕ) (after : Run) → IsByWorkers gives r → HasNoEnd r → IsOut r call → gives call o ≡ true →
-      Records r call o by after → IsLegal (schema after) after.limit after.history → IsByWorkers gives after
+      IsRecorded r call o by after → IsLegal (schema after) after.limit after.history → IsByWorkers gives after
   recorded r call outcome.Done by after k none out given (Err refusal, h) legal =
       one_entry r by (Late call.claim) after k none tt (λ c e. cc) (refused_late r none (has_steps r none k.run_legal.0) call out by refusal after h) legal
   recorded r call outcome.Done by after k none out given (Ok _, h) legal =

@@ -64,9 +64,9 @@ GoesBack failed by (Ok Switched) after = after ≡ failed
 GoesBack failed by (Err refusal) after = after ≡ failed
 
 -- the outcome of the call's task is told to the run
-abbrev pub Records : Run → Call → Outcome → ℕ → Run → Type 0
-Records r call outcome.Done by after = (answer : Result (Unit {0}) PostRefusal) × PostsDone r call.claim by answer after
-Records r call outcome.Failed by after =
+abbrev pub IsRecorded : Run → Call → Outcome → ℕ → Run → Type 0
+IsRecorded r call outcome.Done by after = (answer : Result (Unit {0}) PostRefusal) × PostsDone r call.claim by answer after
+IsRecorded r call outcome.Failed by after =
     (answer : Result FailEffect PostRefusal) × ((failed : Run) × PostsFailed r call.claim by answer failed × GoesBack failed by answer after)
 
 -- A caller tells the outcome of a task. It counts for nothing after a verdict, or where the call is not one that is out.
@@ -74,7 +74,7 @@ abbrev pub IsPosted : Run → Call → Outcome → ℕ → Run → Type 0
 IsPosted r call outcome by after =
     (HasEnd r × (after ≡ r))
     ⊎ ((HasNoEnd r × ¬ (IsOut r call) × (after ≡ r))
-    ⊎ (HasNoEnd r × IsOut r call × Records r call outcome by after))
+    ⊎ (HasNoEnd r × IsOut r call × IsRecorded r call outcome by after))
 
 -- the run as it was, with further entries, each of them the caller's
 abbrev pub IsContinued : Run → ℕ → Run → Type 0

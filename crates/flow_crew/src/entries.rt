@@ -6,7 +6,7 @@ ghost use Rattle.flow_core.specs.Run.{schema, HasEntryLeft};
 ghost use Rattle.flow_core.specs.Looks.{IsNext};
 ghost use Rattle.flow_core.specs.declared.next.Next.TheVariants as nexts;
 ghost use Rattle.flow_crew.specs.Ends.{HasNoEnd};
-ghost use Rattle.flow_crew.specs.Moves.{Advances, move_after, IsOut, Records};
+ghost use Rattle.flow_crew.specs.Moves.{Advances, move_after, IsOut, IsRecorded};
 
 use crate::ends::Move;
 use flow_core::{Core, Next};
@@ -55,7 +55,7 @@ pub(crate) fn tell(core: &mut Core, call: Call, outcome: Outcome, by: u32) -> Op
     requires unfinished { HasNoEnd core.old }
     requires steps { HasEntryLeft core.old }
     requires out { IsOut core.old call }
-    ensures records { Records core.old call outcome by core.new }
+    ensures records { IsRecorded core.old call outcome by core.new }
     ensures failed { MatchOption result ((leaf : ℕ) → ¬ (EndsKept (schema core.new) core.new.history leaf)) (EndsKept (schema core.new) core.new.history) }
 {
     match outcome {
