@@ -1,18 +1,18 @@
 -- A generated workflow is consistent.
 use Rattle.std.proofs.Common.{◌≡◌, ℕ, ◌+◌, ◌*◌, ◌<◌, ◌≤◌, List, [], ◌∷◌, Option, Some, length, sym, ap, subst, ◌∙◌, refl, inl, inr, arith}
 use Rattle.std.specs.List.{filter_map, cons_option}
+use Rattle.std.proofs.Math.Nat.{le-mul_of_pos_right}
 use Rattle.flow_model.specs.declared.limits.TheConstants.{GREATEST_SIZE}
 use Rattle.flow_model.specs.Lists.{◌∈◌, Each}
 use Rattle.flow_model.specs.Facts.{event_at, events_of}
-use Rattle.flow_model.specs.Process.{Process, leaves}
-use Rattle.flow_model.specs.Resolution.{resolutions}
+use Rattle.flow_model.specs.Process.{Process, Empty, Task, Sequence, Parallel, Choice, Isolated, leaves}
+use Rattle.flow_model.specs.Resolution.{resolutions, resolution_count}
 use Rattle.flow_model.specs.Constraint.{Meets}
 use Rattle.flow_model.specs.Decided.{Decided, decide_in}
 use Rattle.flow_model.specs.Schema.{IsGood}
 use Rattle.flow_laws.proofs.Members.{each_to}
 use Rattle.flow_laws.proofs.MadeLists.{numbers_from_below}
 use Rattle.flow_laws.proofs.ResolutionsLemmas.{resolves_of, choice_free_resolution, goal_trace, mem-leaves_of_goal, length-resolutions}
-use Rattle.flow_goal.proofs.Counting.{some_resolution}
 use Rattle.flow_goal.proofs.Rising.{Rises, increasing, resolution_rises}
 use Rattle.flow_workflow.specs.Definition.{Definition, schema_of}
 use Rattle.flow_expand.specs.Numbers.{numbered}
@@ -54,6 +54,18 @@ good_leaves seed size some few q m =
 pub leaves_are_good_traces : LeavesAreGoodTraces
 leaves_are_good_traces seed size w some few h =
     subst (λ (v : Definition). (q : Process) → q ∈ resolutions v.tree.process → IsGood (schema_of v) (leaves q)) (sym (the_definition seed size some few w h)) (good_leaves seed size some few)
+
+some_product : (m n : ℕ) → 0 < m → 0 < n → 0 < m * n
+some_product m n p q = let le : m ≤ m * n = le-mul_of_pos_right m q in omega arith
+
+-- every goal has a resolution
+some_resolution : (g : Process) → 0 < resolution_count g
+some_resolution (Sequence a b) = some_product (resolution_count a) (resolution_count b) (some_resolution a) (some_resolution b)
+some_resolution (Parallel a b) = some_product (resolution_count a) (resolution_count b) (some_resolution a) (some_resolution b)
+some_resolution (Choice a b) = omega (arith, some_resolution a)
+some_resolution (Isolated a) = some_resolution a
+some_resolution Empty = omega arith
+some_resolution (Task n) = omega arith
 
 first_of : {A : Type 0} (xs : List A) → 1 ≤ length xs → (x : A) × (x ∈ xs)
 first_of [] h = absurd (omega (arith, h))

@@ -7,7 +7,7 @@ use Rattle.flow_model.specs.Lists.{◌∈◌, AreDistinct, numbers_from}
 use Rattle.flow_lex.specs.Bytes.{is_digit, is_in_word}
 use Rattle.flow_reader.specs.Symbols.{reserved}
 use Rattle.flow_text.specs.Printable.{IsName}
-use Rattle.flow_text.proofs.Digits.{decimal_writes}
+use Rattle.flow_text.proofs.PrintedPieces.{decimal_writes}
 use Rattle.flow_gen.specs.Generated.{event_name}
 
 digit_in_word : (d : ℕ) → is_digit d ≡ true → is_in_word d ≡ true

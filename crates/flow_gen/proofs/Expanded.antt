@@ -30,9 +30,8 @@ use Rattle.flow_expand.specs.Expansion.{Expansion, Becomes, size_of}
 use Rattle.flow_expand.specs.Numbers.{numbered, labelled_of, facts_of}
 use Rattle.flow_expand.specs.Refusals.{IsMeasured, rule_name_count, flow_count}
 use Rattle.flow_expand.specs.Workflows.{IsExpanded, definition_of}
-use Rattle.flow_expand.proofs.BuildLemmas.{labels_counted}
+use Rattle.flow_expand.proofs.BuildLemmas.{labels_counted, leaves_in_row}
 use Rattle.flow_expand.proofs.Endings.{no_recursion, becomes_one}
-use Rattle.flow_expand.proofs.NumberingLemmas.{leaves_in_row}
 use Rattle.flow_gen.specs.Generated.{event_name, all_draws, kinds, constraints, generated}
 use Rattle.flow_gen.specs.Laws.{WorkflowsAreExpanded, ExpansionsAreNotRefused, choice_count}
 use Rattle.flow_gen.proofs.EventNames.{distinct_names}

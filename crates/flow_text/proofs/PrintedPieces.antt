@@ -134,7 +134,7 @@ name (b ∷ bs) (first, inside, free) = subst (λ (s : Symbol). Reads true (b �
     named_symbol w e = rw e refl
 
 -- the digits write the number
-abbrev Writes : ℕ → List ℕ → Type 0
+abbrev pub Writes : ℕ → List ℕ → Type 0
 Writes n ds = (digit : ℕ) × ((more : List ℕ) × ((ds ≡ digit ∷ more) × (is_digit digit ≡ true) × (list_all is_digit more ≡ true) × (number_value ds ≡ n)))
 
 digit-is : (d : ℕ) → d < 10 → is_digit (48 + d) ≡ true
@@ -158,7 +158,7 @@ more_digits n ds h (digit, (more, (is, first, inside, value))) =
       ),
     )
 
-decimal_writes : (n : ℕ) → n < 2 ^ 64 → Writes n (decimal n)
+pub decimal_writes : (n : ℕ) → n < 2 ^ 64 → Writes n (decimal n)
 decimal_writes n h = decimal_by_steps Writes one_digit more_digits n h
 
 stops-digits : (rest : List ℕ) → BeginsWithout is_in_word rest → BeginsWithout is_digit rest
