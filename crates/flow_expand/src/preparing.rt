@@ -1,7 +1,6 @@
-ghost use Rattle.std.specs.Prelude.{◌≡◌, ◌<◌, ◌≤◌, IfOk, OnOk, IfErr};
+ghost use Rattle.std.specs.Prelude.{◌≡◌, ◌≤◌, IfOk, IfErr};
 ghost use Rattle.flow_form.specs.Script.{said};
 ghost use Rattle.flow_form.specs.Names.{IsClosed, event_names};
-ghost use Rattle.flow_expand.specs.declared.refusal.ExpandRefusal.TheVariants as refusal;
 ghost use Rattle.flow_expand.specs.Calls.{IsSettling};
 ghost use Rattle.flow_expand.specs.Directory.{decls_of};
 ghost use Rattle.flow_expand.specs.Prepared.{IsPrepared};
@@ -14,6 +13,7 @@ use crate::layout::{Layout, Root};
 use crate::refusal::{ExpandRefusal, Part};
 use crate::rule_names::count_names;
 use crate::settling::Settling;
+use crate::size::at_most;
 use flow_facts::{Name, Numbered};
 use flow_form::Script;
 use flow_model::{MOST_FLOWS, MOST_LEAVES, MOST_RULE_NAMES};
@@ -24,17 +24,6 @@ use std::alloc::Global;
 pub(crate) struct LaidGoal<'a> {
     pub(crate) layout: Layout<'a>,
     pub(crate) root: Root,
-}
-
-/// Refuses more than so many of a part.
-fn at_most(part: Part, count: u64, most: u64) -> Result<(), ExpandRefusal>
-    ensures ok { OnOk result (count ≤ most) }
-    ensures refused { IfErr result (λ e. (most < count) × (e ≡ refusal.TooLarge part count)) }
-{
-    if count > most {
-        return Err(ExpandRefusal::TooLarge { part, count });
-    }
-    Ok(())
 }
 
 /// Lays the goal of a script over its sub-workflows, unless it is refused.

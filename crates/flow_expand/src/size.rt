@@ -1,5 +1,8 @@
-ghost use Rattle.std.specs.Prelude.{◌≡◌, ◌+◌, max};
+ghost use Rattle.std.specs.Prelude.{◌≡◌, ◌<◌, ◌≤◌, ◌+◌, max, OnOk, IfErr};
+ghost use Rattle.flow_expand.specs.declared.refusal.ExpandRefusal.TheVariants as refusal;
 ghost use Rattle.flow_expand.specs.Expansion.{capped};
+
+use crate::refusal::{ExpandRefusal, Part};
 
 /// How many leaves and nothings a goal has, and how many isolations. What would pass the greatest
 /// number is capped at it.
@@ -42,4 +45,15 @@ impl Size {
     {
         self.ends.max(self.isolations)
     }
+}
+
+/// Refuses more than so many of a part.
+pub(crate) fn at_most(part: Part, count: u64, most: u64) -> Result<(), ExpandRefusal>
+    ensures ok { OnOk result (count ≤ most) }
+    ensures refused { IfErr result (λ e. (most < count) × (e ≡ refusal.TooLarge part count)) }
+{
+    if count > most {
+        return Err(ExpandRefusal::TooLarge { part, count });
+    }
+    Ok(())
 }

@@ -1,4 +1,4 @@
--- What may come next in a goal without choices, under pairs of leaves in order.
+-- What may come next in a goal without choices, under pairs of leaves in order. When a run can take a leaf is `CanTake` in Run.
 use Rattle.std.specs.Prelude.{ℕ, List, [], ◌∷◌, ◌++◌, ◌⊎◌}
 use Rattle.flow_model.specs.Lists.{◌∈◌}
 use Rattle.flow_model.specs.Process.{Process, Empty, Task, Sequence, Parallel, Choice, Isolated, leaves}

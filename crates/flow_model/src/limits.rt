@@ -1,4 +1,4 @@
-/// The most leaves of a workflow's goal, its sub-workflows in place.
+/// The most leaves and `nop`s of a workflow's goal, its sub-workflows in place, and the most isolations of it.
 pub const MOST_LEAVES: u32 = 1024;
 
 /// The most sub-workflows of a script.

@@ -6,11 +6,11 @@ use Rattle.flow_grammar.specs.Machine as machine
 use Rattle.flow_reader.specs.Readers.{arg_state}
 use Rattle.flow_reader.specs.declared.goals.Prefix as code_prefix
 use Rattle.flow_reader.specs.declared.goals.Prefix.TheVariants as prefix
-use Rattle.flow_reader.specs.declared.levels.GoalList as code_list
-use Rattle.flow_reader.specs.declared.levels.GoalList.TheVariants as list
-use Rattle.flow_reader.specs.declared.levels.Level as code_level
-use Rattle.flow_reader.specs.declared.levels.Frame as code_frame
-use Rattle.flow_reader.specs.declared.levels.Stack as code_stack
+use Rattle.flow_reader.specs.declared.goal_stack.GoalList as code_list
+use Rattle.flow_reader.specs.declared.goal_stack.GoalList.TheVariants as list
+use Rattle.flow_reader.specs.declared.goal_stack.Level as code_level
+use Rattle.flow_reader.specs.declared.goal_stack.Frame as code_frame
+use Rattle.flow_reader.specs.declared.goal_stack.Stack as code_stack
 use Rattle.flow_reader.specs.declared.goals.GoalPlace as code_place
 use Rattle.flow_reader.specs.declared.goals.GoalPlace.TheVariants as place
 use Rattle.flow_reader.specs.declared.goals.GoalStep as code_step

@@ -5,7 +5,7 @@ use Rattle.flow_grammar.specs.Machine as machine
 use Rattle.flow_reader.specs.Readers.{arg_state}
 use Rattle.flow_reader.specs.Goals.{goal_state}
 use Rattle.flow_reader.specs.Rules.{rule_state}
-use Rattle.flow_reader.specs.declared.levels.Stack.{Stack}
+use Rattle.flow_reader.specs.declared.goal_stack.Stack.{Stack}
 use Rattle.flow_reader.specs.declared.scripts.ScriptParts.{ScriptParts}
 use Rattle.flow_reader.specs.declared.scripts.FactPlace as code_fact
 use Rattle.flow_reader.specs.declared.scripts.FactPlace.TheVariants as in_fact

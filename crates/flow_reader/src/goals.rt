@@ -7,7 +7,7 @@ ghost use Rattle.flow_reader.specs.Symbols.{meant};
 ghost use Rattle.flow_reader.specs.Goals.{prefix_of, frames_of, level_of, goal_state, goal_step};
 
 use crate::arguments::{ArgReader, ArgStep};
-use crate::levels::{Level, Stack};
+use crate::goal_stack::{Level, Stack};
 use crate::symbol::Symbol;
 use flow_form::{Fact, Form, Name, Wanted};
 use std::alloc::{AllocError, Global};

@@ -2,8 +2,9 @@
 #![tactic(auto)]
 
 mod arguments;
+mod depth;
+mod goal_stack;
 mod goals;
-mod levels;
 mod queries;
 mod reading;
 mod reserved_words;

@@ -8,11 +8,12 @@ ghost use Rattle.flow_reader.specs.Scripts.{declared_so_far, script_state};
 ghost use Rattle.flow_reader.specs.Queries.{query_state};
 ghost use Rattle.flow_reader.specs.Reading.{IsReadRefusal, StepsTo, IsStepRefusal, settled};
 
+use crate::depth::is_too_deep;
 use crate::queries::QueryPlace;
 use crate::rule_stack::RuleStack;
 use crate::scripts::{ScriptParts, ScriptPlace};
 use crate::symbol::Symbol;
-use crate::tokens::{is_too_deep, symbol_of};
+use crate::tokens::symbol_of;
 use flow_form::{Query, Script, TextRefusal, Wanted};
 use flow_lex::Token;
 use std::alloc::{AllocError, Global};

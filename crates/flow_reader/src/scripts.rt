@@ -10,8 +10,8 @@ ghost use Rattle.flow_reader.specs.Rules.{rule_step};
 ghost use Rattle.flow_reader.specs.Scripts.{declared_so_far, fact_state, event_state, flow_state, script_state};
 
 use crate::arguments::{ArgReader, ArgStep};
+use crate::goal_stack::Stack;
 use crate::goals::{GoalPlace, GoalStep};
-use crate::levels::Stack;
 use crate::rule_stack::RuleStack;
 use crate::rules::{RulePlace, RuleStep};
 use crate::symbol::Symbol;

@@ -1,5 +1,4 @@
 ghost use Rattle.std.specs.Prelude.{◌≡◌, ◌<◌, ◌≤◌, ◌-◌, ◌^◌, min, Bool, length};
-ghost use Rattle.flow_grammar.specs.Machine as machine;
 ghost use Rattle.flow_reader.specs.Symbols;
 ghost use Rattle.flow_reader.specs.Symbols.{meant};
 ghost use Rattle.flow_lex.specs.Bytes.{number_value};
@@ -9,7 +8,6 @@ ghost use Rattle.flow_lex.specs.Tokens.{IsSmall};
 use crate::reserved_words::{mark_symbol, word_symbol};
 use crate::symbol::Symbol;
 use flow_lex::{Token, TokenKind, number};
-use flow_model::GREATEST_DEPTH;
 
 /// A token of the text as its symbol.
 pub fn symbol_of(text: &[u8], token: Token) -> Symbol<'_>
@@ -34,15 +32,5 @@ fn number_symbol(digits: &[u8]) -> Symbol<'static>
     match number(digits) {
         Some(number) => Symbol::Number(number),
         None => unreachable!(),
-    }
-}
-
-/// Whether the symbol stands too deep where so many parentheses and nots are open.
-pub fn is_too_deep(symbol: Symbol<'_>, depth: usize) -> bool
-    ensures { result ≡ machine.is_too_deep (meant symbol.entry) depth }
-{
-    match symbol {
-        Symbol::Opening | Symbol::Not => depth >= GREATEST_DEPTH,
-        _ => false,
     }
 }

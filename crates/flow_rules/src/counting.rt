@@ -111,6 +111,7 @@ fn count_parts(connective: Connective, parts: &[Nnf], events: &LeafEvents) -> Wa
 
 /// How many ways there are in which the leaves meet the rule. It takes no memory.
 #[cycle(counting)]
+#[inline(always)]
 pub fn count_ways(rule: &Nnf, events: &LeafEvents) -> WayCount
     ensures { result ≡ count_of (model.ways (normal_of rule.now) (leaf_in events.now)) }
 {

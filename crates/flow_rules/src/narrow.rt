@@ -80,6 +80,7 @@ fn narrow_parts(
 
 /// The rule without the parts that make no difference in the wanted lanes. Each part is looked at once.
 #[cycle(narrowing)]
+#[inline(always)]
 pub(crate) fn narrow_rule(
     alloc: Global,
     rule: &Nnf,

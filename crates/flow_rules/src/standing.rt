@@ -107,6 +107,7 @@ pub(crate) fn parts_standing(connective: Connective, parts: &[Nnf], lanes: &Lane
 
 /// Where the rule stands, in 64 lanes in one walk.
 #[cycle(standing)]
+#[inline(always)]
 pub(crate) fn standing_of(rule: &Nnf, lanes: &Lanes) -> Standing
     ensures { Stands result lanes.now (model.ways (normal_of rule.now)) }
 {
