@@ -1,4 +1,3 @@
-use crate::refusal::{CommitRefusal, DoRefusal, PostRefusal, RewindRefusal, TakeRefusal};
 use flow_model::{Call, FailEffect};
 
 /// What is asked of a run.
@@ -16,13 +15,17 @@ pub enum Ask {
     Commit,
 }
 
-/// What a run answers to each thing that is asked.
-#[derive(Clone, Copy)]
+/// What a run answers.
+#[derive(Clone, Copy, Debug, PartialEq, Eq)]
 pub enum Told {
-    Take(Result<Call, TakeRefusal>),
-    Do(Result<(), DoRefusal>),
-    Done(Result<(), PostRefusal>),
-    Fail(Result<FailEffect, PostRefusal>),
-    Rewind(Result<u32, RewindRefusal>),
-    Commit(Result<(), CommitRefusal>),
+    Call(Call),
+    Did,
+    Posted,
+    Failed(FailEffect),
+    Rewound(u32),
+    Committed,
+    Late { of: u32, now: u32 },
+    /// The number of the refusal: 1 closed, 2 no leaf, 3 wrong kind, 4 not enabled, 5 false, 6 no claim, 7 answered, 9 no choice,
+    /// 10 unfinished, 11 claims out, 12 spent.
+    Refused(u8),
 }

@@ -1,5 +1,5 @@
-ghost use Rattle.std.specs.Prelude.{◌≡◌, ◌<◌, ◌^◌, length, slice_get, option_copied};
-ghost use Rattle.flow_model.specs.Lists.{AreDistinct};
+ghost use Rattle.std.specs.Prelude.{◌≡◌, ◌↔◌, ◌<◌, ◌^◌, length, IsNone, IfSome, slice_get, option_copied};
+ghost use Rattle.flow_model.specs.Lists.{◌∈◌, AreDistinct};
 
 use crate::fact::Fact;
 use std::marker::Model;
@@ -32,6 +32,19 @@ impl FactTable {
         ensures { result ≡ facts.items }
     {
         FactTable { facts }
+    }
+
+    /// The number of a fact. It compares the fact with each one of the table.
+    pub fn number_of(&self, fact: &Fact) -> Option<u32>
+        ensures none { IsNone result ↔ ¬ (fact.now ∈ self.now) }
+        ensures found { IfSome result (λ n. slice_get self.now n ≡ Some fact.now) }
+    {
+        for (number, known) in self.facts.iter().enumerate() {
+            if known == fact {
+                return Some(number as u32);
+            }
+        }
+        None
     }
 
     /// The fact of a number. `None` where there are not so many.

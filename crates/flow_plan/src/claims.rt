@@ -70,7 +70,7 @@ impl Plan {
 
     /// Whether the leaf and the claimed ones may follow the done ones in every order. It takes no memory.
     #[tactic(auto, using(crate::proofs::Following::next_small, crate::proofs::Following::all_small))]
-    pub fn may_all_follow(&self, done: &Progress, claims: &[u32], leaf: u32) -> bool
+    pub fn side_by_side(&self, done: &Progress, claims: &[u32], leaf: u32) -> bool
         requires { Fits self.now done.now }
         ensures { IsTrue result ↔ MayFollowInEveryOrder self.now (IsDone done.now) (leaf ∷ claims.now) }
     {
@@ -85,7 +85,7 @@ impl Plan {
 
     /// Whether the leaf may come next, and then the claimed ones in every order. It takes no memory.
     #[tactic(auto, using(crate::proofs::Following::next_fits))]
-    pub fn may_follow_first(&self, done: &Progress, first: u32, claims: &[u32]) -> bool
+    pub fn may_follow(&self, done: &Progress, first: u32, claims: &[u32]) -> bool
         requires { Fits self.now done.now }
         ensures { IsTrue result ↔ (MayComeNext self.now (IsDone done.now) first
             × MayFollowInEveryOrder self.now (DoneOr (IsDone done.now) (first ∷ [])) claims.now) }

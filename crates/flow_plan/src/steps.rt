@@ -181,7 +181,7 @@ impl Plan {
         let Some(first) = self.only_before(done, leaf) else {
             return found;
         };
-        if first < MOST_LEAVES && rest.has(first) && self.may_follow_first(done, first, list) {
+        if first < MOST_LEAVES && rest.has(first) && self.may_follow(done, first, list) {
             return with(found, first);
         }
         found

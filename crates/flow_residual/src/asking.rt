@@ -75,8 +75,8 @@ impl Residual {
             return false;
         }
         match stand {
-            Stand::Among => self.plan(place).may_all_follow(done, claims, leaf),
-            Stand::First => self.plan(place).may_follow_first(done, leaf, claims),
+            Stand::Among => self.plan(place).side_by_side(done, claims, leaf),
+            Stand::First => self.plan(place).may_follow(done, leaf, claims),
         }
     }
 

@@ -2,7 +2,7 @@ ghost use Rattle.std.specs.Prelude.{IfOk};
 ghost use Rattle.flow_form.specs.Script.{said};
 ghost use Rattle.flow_form.specs.Names.{IsClosed};
 
-use flow_core::{Ask, Call, Core, FailEffect, RewindRefusal, Told, play};
+use flow_core::{Ask, Call, Core, FailEffect, Told, play};
 use flow_excise::compile;
 use flow_expand::{Workflow, expand};
 use flow_model::Note;
@@ -32,20 +32,15 @@ fn start(alloc: Global, text: &[u8]) -> Result<Core, Fail> {
     Ok(Core::start(alloc, workflow, compiled, 64)?)
 }
 
-/// Whether a claim was given on the leaf, whose event has the leaf's number, at its first attempt.
-fn is_call(told: Told, claim: u32, leaf: u32) -> bool {
-    match told {
-        Told::Take(Ok(call)) => {
-            call == Call {
-                claim,
-                leaf,
-                event: leaf,
-                attempt: 1,
-                note: Note::Done,
-            }
-        }
-        _ => false,
-    }
+/// The call of a claim on a leaf whose event has the leaf's number, at its first attempt.
+fn call(claim: u32, leaf: u32) -> Told {
+    Told::Call(Call {
+        claim,
+        leaf,
+        event: leaf,
+        attempt: 1,
+        note: Note::Done,
+    })
 }
 
 #[test]
@@ -60,13 +55,16 @@ fn each_thing_is_asked_of_a_run(rt: HostRuntime) -> Result<(), Fail> {
         Ask::Do(2),
         Ask::Commit,
     ];
-    let told = play(&mut core, &asks, 3);
-    assert!(rt; is_call(told[0], 1, 1) && is_call(told[3], 2, 0));
-    assert!(rt; matches!(told[1], Told::Fail(Ok(FailEffect::Switched))));
-    assert!(rt; matches!(told[2], Told::Rewind(Err(RewindRefusal::NoChoice))));
-    assert!(rt; matches!(told[4], Told::Done(Ok(()))));
-    assert!(rt; matches!(told[5], Told::Do(Ok(()))));
-    assert!(rt; matches!(told[6], Told::Commit(Ok(()))));
+    let told = [
+        call(1, 1),
+        Told::Failed(FailEffect::Switched),
+        Told::Refused(9),
+        call(2, 0),
+        Told::Posted,
+        Told::Did,
+        Told::Committed,
+    ];
+    assert_eq!(rt; play(&mut core, &asks, 3), told);
     assert_eq!(rt; (core.made(3), core.made(0)), (6, 0));
     assert!(rt; core.holds(0) && core.committed());
     Ok(())

@@ -11,8 +11,9 @@ use Rattle.flow_core.proofs.playing.play.Goals as goal
 played-append : (r : Run) (by : ℕ) (asks : List Ask) (tolds : List Told) (middle : Run) (ask : Ask) (told : Told) (after : Run) →
     IsPlayed r by asks tolds middle → IsTold middle ask by told after → IsPlayed r by (asks ++ ask ∷ []) (tolds ++ told ∷ []) after
 played-append r by [] [] middle ask told after e one = (after, subst (λ (m : Run). IsTold m ask by told after) e one, refl)
+played-append r by [] (t ∷ ts) middle ask told after e one = absurd e
+played-append r by (a ∷ more) [] middle ask told after e one = absurd e
 played-append r by (a ∷ more) (t ∷ ts) middle ask told after (next, first, rest) one = (next, first, played-append next by more ts middle ask told after rest one)
-played-append r by asks tolds middle ask told after e one = absurd e
 
 pub loop-index-preserved : goal.loop-index-preserved
 loop-index-preserved g c =

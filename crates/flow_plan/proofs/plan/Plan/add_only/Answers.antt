@@ -8,7 +8,7 @@ use Rattle.flow_plan.specs.Orders.{MayComeNext, MayFollowInEveryOrder}
 use Rattle.flow_plan.proofs.Following.{next_small}
 use Rattle.flow_plan.proofs.StepRows.{each_of_orders, first_is_other}
 use Rattle.flow_plan.proofs.plan.Plan.add_only.Goals as goal
-use Rattle.flow_plan.proofs.plan.Plan.add_only.Goals.{else-first-lt-MOST_LEAVES-via-then-first-lt-MOST_LEAVES+then-has+else-may_follow_first, else-first-lt-MOST_LEAVES-via-then-first-lt-MOST_LEAVES+else-has, else-first-lt-MOST_LEAVES-via-else-first-lt-MOST_LEAVES}
+use Rattle.flow_plan.proofs.plan.Plan.add_only.Goals.{else-first-lt-MOST_LEAVES-via-then-first-lt-MOST_LEAVES+then-has+else-may_follow, else-first-lt-MOST_LEAVES-via-then-first-lt-MOST_LEAVES+else-has, else-first-lt-MOST_LEAVES-via-else-first-lt-MOST_LEAVES}
 
 pub returns-in_default : goal.returns-in_default
 returns-in_default c n among = (
@@ -19,11 +19,11 @@ returns-in_default c n among = (
       either,
 )
 
-pub returns-then-may_follow_first : goal.returns-then-may_follow_first
-returns-then-may_follow_first c n among = (
+pub returns-then-may_follow : goal.returns-then-may_follow
+returns-then-may_follow c n among = (
   λ has. ⊎_elim
       (λ same. inr (subst (λ (m : ℕ). MayComeNext c.args.self.now (IsDone c.args.done.now) m × MayFollowInEveryOrder c.args.self.now (DoneOr (IsDone c.args.done.now) (m ∷ [])) c.args.list.now)
-      (sym (eqb-true n c.in-Some.first same)) (c.may_follow_first.ensures.0 c.if-may_follow_first.true)))
+      (sym (eqb-true n c.in-Some.first same)) (c.may_follow.ensures.0 c.if-may_follow.true)))
       (λ found. inl found)
       (or_cases (n == c.in-Some.first) (has_leaf c.args.found n) (sym (c.with.ensures n) ∙ has)),
   λ either. c.with.ensures n ∙ ⊎_elim
@@ -49,9 +49,9 @@ returns c n among = (
         let told = c.only_before.ensures n c.requires.waits both.0 (each_of_orders c.args.self.now (DoneOr (IsDone c.args.done.now) (n ∷ [])) c.args.list.now c.args.leaf both.1 c.requires.claimed) in
         let same : n ≡ c.in-Some.first = same_leaf c.only_before.result n c.in-Some.first told c.in-Some.is in
         elim c.else-first-lt-MOST_LEAVES.branch [
-          | else-first-lt-MOST_LEAVES-via-then-first-lt-MOST_LEAVES+then-has+else-may_follow_first w ↦
-              absurd (true≢false (sym (w.may_follow_first.ensures.1 (subst (λ (m : ℕ). MayComeNext c.args.self.now (IsDone c.args.done.now) m
-              × MayFollowInEveryOrder c.args.self.now (DoneOr (IsDone c.args.done.now) (m ∷ [])) c.args.list.now) same both)) ∙ w.if-may_follow_first.false))
+          | else-first-lt-MOST_LEAVES-via-then-first-lt-MOST_LEAVES+then-has+else-may_follow w ↦
+              absurd (true≢false (sym (w.may_follow.ensures.1 (subst (λ (m : ℕ). MayComeNext c.args.self.now (IsDone c.args.done.now) m
+              × MayFollowInEveryOrder c.args.self.now (DoneOr (IsDone c.args.done.now) (m ∷ [])) c.args.list.now) same both)) ∙ w.if-may_follow.false))
           | else-first-lt-MOST_LEAVES-via-then-first-lt-MOST_LEAVES+else-has w ↦
               ⊎_elim (λ rest. absurd (true≢false (sym (w.has.ensures ∙ subst (λ (m : ℕ). IsTrue (has_leaf c.args.rest.now m)) same rest) ∙ w.if-has.false))) (λ found. found)
               (among both.0 (first_is_other c.args.self.now (IsDone c.args.done.now) c.args.list.now n both.1))

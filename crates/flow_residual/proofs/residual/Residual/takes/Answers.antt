@@ -9,11 +9,11 @@ returns-then-not-is_live c o at = where_not_live c.is_live.result _ _ (c.is_live
 pub returns-in-Among : goal.returns-in-Among
 returns-in-Among c o at =
     let same : option_of c.plan.result.now ≡ o = (let e = sym c.plan.ensures.at ∙ at in cc) in
-    rw c.in-Among.is (where_live c.may_all_follow.result _ _ _ ((c.is_live.ensures o at).0 c.if-not-is_live.false) c.may_all_follow.ensures
+    rw c.in-Among.is (where_live c.side_by_side.result _ _ _ ((c.is_live.ensures o at).0 c.if-not-is_live.false) c.side_by_side.ensures
     (all_come_next c.plan.result.now c.done-done.result.now c.args.self.now.journal c.done-done.ensures.same c.args.claims.now c.args.leaf o same))
 
 pub returns-in-First : goal.returns-in-First
 returns-in-First c o at =
     let same : option_of c.plan-in-First.result.now ≡ o = (let e = sym c.plan-in-First.ensures.at ∙ at in cc) in
-    rw c.in-First.is (where_live c.may_follow_first.result _ _ _ ((c.is_live.ensures o at).0 c.if-not-is_live.false) c.may_follow_first.ensures
+    rw c.in-First.is (where_live c.may_follow.result _ _ _ ((c.is_live.ensures o at).0 c.if-not-is_live.false) c.may_follow.ensures
     (follows_first c.plan-in-First.result.now c.done-done.result.now c.args.self.now.journal c.done-done.ensures.same c.args.leaf c.args.claims.now o same))

@@ -6,8 +6,8 @@ use Rattle.flow_plan.specs.Orders.{MayComeNext}
 use Rattle.flow_plan.specs.Rows.{IsRowOf}
 use Rattle.flow_plan.proofs.Following.{every_order, by_two}
 use Rattle.flow_plan.proofs.StepRows.{orders_distinct}
-use Rattle.flow_plan.proofs.plan.Plan.may_all_follow.Goals as goal
-use Rattle.flow_plan.proofs.plan.Plan.may_all_follow.Goals.{then-not-ready-via-then-not-ready, then-not-ready-via-else-not-ready+then-not-each_ready}
+use Rattle.flow_plan.proofs.plan.Plan.side_by_side.Goals as goal
+use Rattle.flow_plan.proofs.plan.Plan.side_by_side.Goals.{then-not-ready-via-then-not-ready, then-not-ready-via-else-not-ready+then-not-each_ready}
 
 pub returns-then-not-ready : goal.returns-then-not-ready
 returns-then-not-ready c = (

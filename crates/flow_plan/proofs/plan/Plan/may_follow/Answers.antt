@@ -1,5 +1,5 @@
 use Rattle.flow_plan.proofs.Following.{orders_after}
-use Rattle.flow_plan.proofs.plan.Plan.may_follow_first.Goals as goal
+use Rattle.flow_plan.proofs.plan.Plan.may_follow.Goals as goal
 
 pub returns : goal.returns
 returns c =
