@@ -1,6 +1,6 @@
-ghost use Rattle.std.specs.Prelude.{◌≡◌, ◌+◌, ◌*◌, ◌≤◌, ◌^◌, ◌<◌, [], ◌∷◌, IfOk, map, length};
+ghost use Rattle.std.specs.Prelude.{◌≡◌, ◌+◌, ◌*◌, ◌≤◌, ◌^◌, ◌<◌, [], ◌∷◌, if◌then◌else◌, IfOk, map, length};
 ghost use Rattle.flow_model.specs.declared.limits.TheConstants.{GREATEST_SIZE};
-ghost use Rattle.flow_form.specs.Form.{shape_of, shapes, named, beside};
+ghost use Rattle.flow_form.specs.Form.{shape_of, shapes, named, beside, iso};
 ghost use Rattle.flow_gen.specs.Generated.{event_name, series, block, pairs, in_turn};
 
 use crate::kind::Kind;
@@ -25,12 +25,27 @@ fn series_of(alloc: Global, first: u32, count: u32) -> Result<Form, AllocError>
     Ok(Form::Serial(events))
 }
 
-fn two(alloc: Global, left: Form, right: Form) -> Result<Vec<Form>, AllocError>
-    ensures { IfOk result (λ forms. map shape_of forms.items ≡ shape_of left ∷ shape_of right ∷ []) }
+/// Four events in series, alone where they are isolated.
+fn first_half(alloc: Global, first: u32, isolated: bool) -> Result<Form, AllocError>
+    requires { first + 4 < 2 ^ 32 }
+    ensures { IfOk result (λ form. shape_of form ≡ if isolated then iso (series first 4) else series first 4) }
+{
+    let events = series_of(alloc, first, 4)?;
+    if isolated {
+        return Ok(Form::Iso(Box::new(alloc, events)?));
+    }
+    Ok(events)
+}
+
+/// Eight events as four and four.
+fn halves(alloc: Global, first: u32, isolated: bool) -> Result<Vec<Form>, AllocError>
+    requires { first + 8 < 2 ^ 32 }
+    ensures { IfOk result (λ forms. map shape_of forms.items
+        ≡ (if isolated then iso (series first 4) else series first 4) ∷ series (first + 4) 4 ∷ []) }
 {
     let mut forms = Vec::new(alloc);
-    forms.push(left)?;
-    forms.push(right)?;
+    forms.push(first_half(alloc, first, isolated)?)?;
+    forms.push(series_of(alloc, first + 4, 4)?)?;
     Ok(forms)
 }
 
@@ -38,18 +53,11 @@ fn block_of(alloc: Global, first: u32, kind: Kind) -> Result<Form, AllocError>
     requires { first + 8 < 2 ^ 32 }
     ensures { IfOk result (λ form. shape_of form ≡ block first kind) }
 {
-    if kind == Kind::Series {
-        return series_of(alloc, first, 8);
-    }
-    let left = series_of(alloc, first, 4)?;
-    let right = series_of(alloc, first + 4, 4)?;
     match kind {
-        Kind::IsolatedBeside => {
-            let isolated = Form::Iso(Box::new(alloc, left)?);
-            Ok(Form::Beside(two(alloc, isolated, right)?))
-        }
-        Kind::Either => Ok(Form::Either(two(alloc, left, right)?)),
-        Kind::Series | Kind::Beside => Ok(Form::Beside(two(alloc, left, right)?)),
+        Kind::Series => series_of(alloc, first, 8),
+        Kind::Beside => Ok(Form::Beside(halves(alloc, first, false)?)),
+        Kind::IsolatedBeside => Ok(Form::Beside(halves(alloc, first, true)?)),
+        Kind::Either => Ok(Form::Either(halves(alloc, first, false)?)),
     }
 }
 
@@ -57,9 +65,10 @@ fn pair_of(alloc: Global, first: u32, left: Kind, right: Kind) -> Result<Form, A
     requires { first + 16 < 2 ^ 32 }
     ensures { IfOk result (λ form. shape_of form ≡ beside (shapes (block first left ∷ block (first + 8) right ∷ []))) }
 {
-    let left = block_of(alloc, first, left)?;
-    let right = block_of(alloc, first + 8, right)?;
-    Ok(Form::Beside(two(alloc, left, right)?))
+    let mut forms = Vec::new(alloc);
+    forms.push(block_of(alloc, first, left)?)?;
+    forms.push(block_of(alloc, first + 8, right)?)?;
+    Ok(Form::Beside(forms))
 }
 
 /// The blocks two by two beside each other.
