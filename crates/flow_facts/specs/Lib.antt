@@ -1,6 +1,7 @@
 pub mod Atom
 pub mod Same
 pub mod Table
+pub mod Letters
 pub mod Held
 pub mod NameMark
 pub mod Marks

@@ -5,6 +5,7 @@ mod constant;
 mod database;
 mod fact;
 mod journals;
+mod letters;
 mod name;
 mod numbered;
 mod table;

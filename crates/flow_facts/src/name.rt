@@ -1,16 +1,18 @@
 ghost use Rattle.std.specs.Prelude.{◌≡◌, IfOk};
 ghost use Rattle.flow_facts.specs.NameMark.{marked, name_mark};
 
+use crate::letters::Letters;
 use std::alloc::{AllocError, Global};
 use std::cmp::Ordering;
+use std::fmt;
 use std::marker::Model;
 
 /// A name, as the bytes that it is written in.
-#[derive(Debug, Drop)]
+#[derive(Drop)]
 pub struct Name {
     /// Most names differ in it, so to compare two of them seldom looks at their bytes.
     mark: u64,
-    bytes: Vec<u8>,
+    letters: Letters,
 }
 
 /// The mark of what has one number more.
@@ -36,12 +38,13 @@ impl Model for Name {
 
     ghost Value = { List ℕ };
 
-    ghost view = { λ n. n.bytes.items };
-
     ghost use Rattle.std.specs.Prelude.{◌≡◌};
     ghost use Rattle.flow_facts.specs.NameMark.{name_mark};
+    ghost use Rattle.flow_facts.specs.Letters.{letters_of};
 
-    ghost invariant = { λ n. n.mark ≡ name_mark n.bytes.items };
+    ghost view = { λ n. letters_of n.letters };
+
+    ghost invariant = { λ n. n.mark ≡ name_mark (letters_of n.letters) };
 }
 
 impl Name {
@@ -50,7 +53,7 @@ impl Name {
     {
         Ok(Name {
             mark: mark_of(bytes),
-            bytes: Vec::from_slice(alloc, bytes)?,
+            letters: Letters::new(alloc, bytes)?,
         })
     }
 
@@ -60,7 +63,7 @@ impl Name {
     {
         Ok(Name {
             mark: self.mark,
-            bytes: Vec::from_slice(alloc, &self.bytes)?,
+            letters: self.letters.copy(alloc)?,
         })
     }
 
@@ -73,7 +76,16 @@ impl Name {
     pub fn bytes(&self) -> &[u8]
         ensures { result.now ≡ self.now }
     {
-        &self.bytes
+        self.letters.bytes()
+    }
+}
+
+impl fmt::Debug for Name {
+    fn fmt<W: fmt::Write>(&self, f: &mut fmt::Formatter<W>) -> fmt::Result {
+        f.debug_struct("Name")
+            .field("mark", &self.mark())
+            .field("bytes", &self.bytes())
+            .finish()
     }
 }
 
