@@ -1,11 +1,11 @@
 -- What the parts of a rule ask together.
-use Rattle.std.proofs.Common.{◌≡◌, ℕ, true, false, not, ◌||◌, ◌&&◌, if◌then◌else◌, ◌+◌, ◌<◌, List, [], ◌∷◌, ◌++◌, length, take, get_or, map, refl, sym, ap, subst, ◌∙◌, append_assoc, append-nil, Vec, Global}
-use Rattle.std.proofs.lemmas.List.{map-append, take_more}
+use Rattle.std.proofs.Common.{◌≡◌, ℕ, true, false, not, ◌||◌, ◌&&◌, if◌then◌else◌, ◌+◌, ◌<◌, ◌≤◌, List, [], ◌∷◌, ◌++◌, length, take, get_or, map, refl, sym, ap, subst, ◌∙◌, append_assoc, append-nil, Vec, Global}
+use Rattle.std.proofs.lemmas.List.{map-append, take_all, take_more}
 use Rattle.std.proofs.lemmas.List.Sums.{fold-append}
 use Rattle.flow_model.specs.Ways.{free_way}
 use Rattle.flow_rules.specs.declared.asked.Asked.{Asked}
 use Rattle.flow_rules.specs.declared.asked.Asked.TheOpen as open_asked
-use Rattle.flow_rules.specs.declared.asked.Asked.TheVariants.{rolls-Parts}
+use Rattle.flow_rules.specs.declared.asked.Asked.TheVariants.{rolls-Pair, rolls-Parts}
 use Rattle.flow_rules.specs.declared.asked.Asked.TheFolds.{fold-roll-Asked}
 use Rattle.flow_rules.specs.declared.asked.Asked as asked
 use Rattle.flow_rules.specs.declared.order_set.OrderSet.{OrderSet}
@@ -18,6 +18,9 @@ use Rattle.flow_rules.proofs.WayListLemmas.{both_free, both_front, decided_by_bo
 
 pub asked_parts : (c : Connective) (parts : Vec Asked Global) → ways_asked (asked.Parts c parts) ≡ ways_asked_by c parts.items
 asked_parts c parts = ap ways_asked (sym (rolls-Parts c parts)) ∙ fold-roll-Asked (List (List (ℕ × ℕ))) asked_step (open_asked.Parts c parts)
+
+pub asked_at : (rule : Asked) (k c : Connective) (parts : Vec Asked Global) → rule ≡ asked.Parts k parts → k ≡ c → ways_asked_by c parts.items ≡ ways_asked rule
+asked_at rule k c parts is joined = sym (ap ways_asked (is ∙ ap (λ (j : Connective). asked.Parts j parts) joined) ∙ asked_parts c parts)
 
 -- one part more
 
@@ -88,6 +91,20 @@ way_more yielded way xs old new so_far added =
     ∙ sym (ap (λ t. both_ways t xs) (map-append (λ (s : OrderSet). s.pairs.items) yielded (way ∷ []))
     ∙ each_with_each-append (λ v w. v ++ w) (ways_of_sets yielded) (way.pairs.items ∷ []) xs
     ∙ ap (λ t. both_ways (ways_of_sets yielded) xs ++ t) (append-nil (map (λ w. way.pairs.items ++ w) xs)))
+
+pub pair_more : (u : List (ℕ × ℕ)) (rule : Asked) (x y : ℕ) (all new : List OrderSet) (way : OrderSet) → rule ≡ asked.Pair x y →
+    way.pairs.items ≡ u ++ (x, y) ∷ [] → new ≡ all ++ way ∷ [] → ways_of_sets new ≡ ways_of_sets all ++ map (λ w. u ++ w) (ways_asked rule)
+pair_more u rule x y all new way is longer pushed =
+    ap ways_of_sets pushed ∙ map-append (λ (s : OrderSet). s.pairs.items) all (way ∷ [])
+    ∙ (λ k. ways_of_sets all ++ longer k ∷ [])
+    ∙ ap (λ ways. ways_of_sets all ++ map (λ w. u ++ w) ways)
+    (sym (ap ways_asked (is ∙ sym (rolls-Pair x y)) ∙ fold-roll-Asked (List (List (ℕ × ℕ))) asked_step (open_asked.Pair x y)))
+
+pub added_all : (f : List (ℕ × ℕ) → List (ℕ × ℕ)) (parts : List Asked) (i : ℕ) (ways all new : List OrderSet) → length parts ≤ i →
+    ways_of_sets ways ≡ map f (ways_asked_by And (take i parts)) → new ≡ all ++ ways → ways_of_sets new ≡ ways_of_sets all ++ map f (ways_asked_by And parts)
+added_all f parts i ways all new done made added =
+    ap ways_of_sets added ∙ map-append (λ (s : OrderSet). s.pairs.items) all ways
+    ∙ ap (λ t. ways_of_sets all ++ t) (made ∙ ap (λ list. map f (ways_asked_by And list)) (take_all i parts done))
 
 one_more : (c : Connective) (parts : List Asked) (i : ℕ) (part : Asked) → i < length parts → part ≡ get_or parts i part →
     ways_asked_by c (take (i + 1) parts) ≡ open_joined c (ways_asked_by c (take i parts)) (ways_asked part)

@@ -6,13 +6,10 @@ use Rattle.std.proofs.lemmas.List.{length-append}
 use Rattle.flow_laws.proofs.MadeLists.{joined-append, length-each_with_each}
 use Rattle.flow_model.specs.Lists.{joined}
 use Rattle.flow_model.specs.Ways.{free_way, is_free}
-use Rattle.flow_rules.specs.declared.counting.WayCount.{WayCount}
-use Rattle.flow_rules.specs.declared.connective.Connective.{Connective}
-use Rattle.flow_rules.specs.declared.connective.Connective.TheVariants.{And, Or}
 use Rattle.flow_goal.specs.Capped.{capped}
 use Rattle.flow_goal.proofs.Counting.{min_cases, product_capped, sum_capped}
-use Rattle.flow_rules.specs.Counts.{count_of, counts_by, counts_of_both, counts_of_either, is_decided_count, is_free_count}
-use Rattle.flow_rules.specs.WayLists.{both_ways, either_way, is_decided, is_none, joined_by}
+use Rattle.flow_rules.specs.Counts.{count_of, counts_beside, counts_of_both, is_free_count}
+use Rattle.flow_rules.specs.WayLists.{both_ways, either_way, is_none}
 
 -- lengths
 
@@ -74,33 +71,13 @@ free_count ((pair ∷ pairs) ∷ ws) = and_false (capped (suc (length ws)) == 1)
 free_count ([] ∷ []) = refl
 free_count ([] ∷ w ∷ ws) = ap (λ b. b && (capped (length (joined (w ∷ ws))) == 0)) (two_left (length ws))
 
-pub count_either : (vs ws : List (List (ℕ × ℕ))) → count_of (either_way vs ws) ≡ counts_of_either (count_of vs) (count_of ws)
-count_either vs ws =
-    at (is_free vs || is_free ws)
-    ∙ sym (λ k. if free_count vs k || free_count ws k then record { ways = 1; pairs = 0 } else total)
-  where
-    total : WayCount
-    total = record {
-      ways = capped (capped (length vs) + capped (length ws));
-      pairs = capped (capped (length (joined vs)) + capped (length (joined ws)));
-    }
-
-    at : (b : Bool) → count_of (if b then free_way else vs ++ ws) ≡ (if b then record { ways = 1; pairs = 0 } else total)
-    at true = refl
-    at false =
-        let m : ℕ = 2 ^ 64 - 1 in
-        let ways = ap capped (length-append vs ws) ∙ sym (sum_capped m (length vs) (length ws)) in
-        let pairs = ap capped (joined_length vs ws) ∙ sym (sum_capped m (length (joined vs)) (length (joined ws))) in
-        λ k. record { ways = ways k; pairs = pairs k }
+pub count_beside : (vs ws : List (List (ℕ × ℕ))) → is_free vs ≡ false → is_free ws ≡ false → count_of (either_way vs ws) ≡ counts_beside (count_of vs) (count_of ws)
+count_beside vs ws p q =
+    let m : ℕ = 2 ^ 64 - 1 in
+    let ways = ap capped (length-append vs ws) ∙ sym (sum_capped m (length vs) (length ws)) in
+    let pairs = ap capped (joined_length vs ws) ∙ sym (sum_capped m (length (joined vs)) (length (joined ws))) in
+    (λ k. count_of (if p k || q k then free_way else vs ++ ws)) ∙ (λ k. record { ways = ways k; pairs = pairs k })
 
 pub none_left : (ws : List (List (ℕ × ℕ))) → ((count_of ws).ways == 0) ≡ is_none ws
 none_left [] = refl
 none_left (w ∷ ws) = some_left (length ws)
-
-pub counts_joined : (c : Connective) (vs ws : List (List (ℕ × ℕ))) → count_of (joined_by c vs ws) ≡ counts_by c (count_of vs) (count_of ws)
-counts_joined And vs ws = count_both vs ws
-counts_joined Or vs ws = count_either vs ws
-
-pub decided_count : (met : Bool) (ws : List (List (ℕ × ℕ))) → is_decided_count met (count_of ws) ≡ is_decided met ws
-decided_count true ws = free_count ws
-decided_count false ws = none_left ws

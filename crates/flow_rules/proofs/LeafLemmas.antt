@@ -1,5 +1,5 @@
 -- The leaf of an event among one leaf more, in tables of leaves and in lanes.
-use Rattle.std.proofs.Common.{◌≡◌, ℕ, ◌+◌, ◌<◌, ◌&&◌, ◌||◌, Bool, true, if◌then◌else◌, List, [], ◌∷◌, length, take, get_or, find, Option, Some, None, refl, sym, subst, ap, ◌∙◌}
+use Rattle.std.proofs.Common.{◌≡◌, ℕ, ◌+◌, ◌<◌, ◌&&◌, ◌||◌, Bool, true, false, if◌then◌else◌, List, [], ◌∷◌, length, take, get_or, find, Option, Some, None, refl, sym, subst, ap, ◌∙◌}
 use Rattle.std.specs.Option.{option_or}
 use Rattle.std.specs.Prelude.{IfSome, is_some}
 use Rattle.std.proofs.lemmas.List.{take_more}
@@ -59,6 +59,13 @@ module _ (labels : List Label) (ls : List ℕ) (i q : ℕ) (event : Option ℕ) 
   marked_more lane old now new so_far made =
       made ∙ ap (λ b. lane && is_event q event || b) so_far
       ∙ shown_more (leaf_of_event labels (take i ls) q) (get_or ls i 0) lane (is_event q event) old ∙ ap (λ (o : Option ℕ). lane && is_some o || old) more
+
+pub marked_all : (lane old now : Bool) (o : Option ℕ) → now ≡ (lane && is_some o || old) → lane ≡ true → old ≡ false → now ≡ is_some o
+marked_all lane old now o made here blank = made ∙ (λ k. here k && is_some o || blank k) ∙ at (is_some o)
+  where
+    at : (b : Bool) → (b || false) ≡ b
+    at true = refl
+    at false = refl
 
 -- the leaves of one resolution, and none of them left behind
 

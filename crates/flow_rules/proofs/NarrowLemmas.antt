@@ -1,25 +1,26 @@
 -- What is kept of parts in some lanes, and the ways of narrowed rules.
-use Rattle.std.proofs.Common.{◌≡◌, ℕ, ◌+◌, ◌-◌, ◌^◌, ◌<◌, Bool, true, false, not, true≢false, ◌||◌, ◌&&◌, if◌then◌else◌, List, [], ◌∷◌, ◌++◌, length, take, get_or, Option, refl, sym, ap, ◌∙◌, bit_and, bit_or, ◌==◌, ◌↔◌, arith}
+use Rattle.std.proofs.Common.{◌≡◌, ℕ, ◌+◌, ◌-◌, ◌^◌, ◌<◌, Bool, true, false, not, true≢false, ◌||◌, ◌&&◌, if◌then◌else◌, List, [], ◌∷◌, ◌++◌, length, take, get_or, Option, refl, sym, ap, ◌∙◌, bit_and, bit_or, ◌==◌, ◌↔◌, arith, below_more}
+use Rattle.std.proofs.lemmas.List.{get_or_append_left, get_or_push, get_or_read, length-append}
 use Rattle.std.proofs.lemmas.Bool.{eq-eqb, eqb-true, not-false}
 use Rattle.std.proofs.lemmas.Bool.Decides.{nat_tests}
 use Rattle.std.proofs.lemmas.Nat.{and_le_l}
 use Rattle.std.proofs.lemmas.Nat.Bits.{bit_at-lt, bit_at-zero, same_from_bits_below}
 use Rattle.std.specs.Int.{bit_at}
 use Rattle.std.proofs.lemmas.List.Sums.{fold-append}
-use Rattle.flow_model.specs.Ways.{free_way, ways}
+use Rattle.flow_model.specs.Ways.{free_way, is_free, ways}
 use Rattle.flow_rules.specs.declared.lanes.Lanes.{Lanes}
 use Rattle.flow_rules.specs.declared.narrowed.LaneRule.{LaneRule}
 use Rattle.flow_rules.specs.declared.normal.Nnf.{Nnf}
 use Rattle.flow_rules.specs.declared.standing.Standing.{Standing}
 use Rattle.flow_rules.specs.Lanes.{Shows}
-use Rattle.flow_rules.specs.Narrowed.{HasWaysIn, open_ways, with_open}
+use Rattle.flow_rules.specs.Narrowed.{AreFreeTo, HasWaysIn, IsFree, IsUnmet, LeftOf, open_ways, with_open}
 use Rattle.flow_rules.specs.Normal.{normal_of}
 use Rattle.flow_rules.specs.declared.connective.Connective.{Connective}
 use Rattle.flow_rules.specs.declared.connective.Connective.TheVariants.{And}
 use Rattle.flow_rules.specs.Standing.{Stands, has_lane, lanes_where}
 use Rattle.flow_rules.specs.WayLists.{both_ways, decided, decider, joined_by, ways_of_parts}
 use Rattle.flow_rules.proofs.StandingLemmas.{lane_and, lane_none, lane_not, lane_or}
-use Rattle.flow_rules.proofs.WayListLemmas.{decided_is, joined_idle, parts_more}
+use Rattle.flow_rules.proofs.WayListLemmas.{decided_is, joined_idle, none_is, parts_more}
 
 -- a word that covers the lanes of another
 
@@ -80,10 +81,19 @@ module _ (c : Connective) (wanted : ℕ) (lanes : Lanes) (parts : List Nnf) (i :
 
 -- rules that are open in some lanes
 
--- they have the ways of the rules in each lane in which none is unmet
-abbrev pub LeftOf : ℕ → Lanes → List LaneRule → List Nnf → Type 0
-LeftOf unmet lanes left rules = (lane : ℕ) (leaf : ℕ → Option ℕ) → lane < 64 → Shows lanes lane leaf → has_lane unmet lane ≡ false →
-    open_ways lane leaf left ≡ ways_of_parts And leaf rules
+pub frees_more : (lanes : Lanes) (rules : List Nnf) (i : ℕ) (rule : Nnf) → i < length rules → rule ≡ get_or rules i rule → (words new : List ℕ) (word : ℕ) →
+    new ≡ words ++ word ∷ [] → IsFree word lanes rule → AreFreeTo i words lanes rules → AreFreeTo (i + 1) new lanes rules
+frees_more lanes rules i rule inside is words new word pushed frees so_far = record {
+  size = ap length pushed ∙ length-append words (word ∷ []) ∙ ap (λ n. n + 1) so_far.size;
+  each = below_more (λ k. (r : Nnf) → r ≡ get_or rules k r → IsFree (get_or new k 0) lanes r) i
+      (λ k below r there lane leaf within shows.
+      ap (λ (w : ℕ). has_lane w lane) (ap (λ (ws : List ℕ). get_or ws k 0) pushed ∙ get_or_append_left words (word ∷ []) 0 k (omega (arith, so_far.size)))
+      ∙ so_far.each k below r there lane leaf within shows)
+      (λ r there lane leaf within shows.
+      ap (λ (w : ℕ). has_lane w lane) (ap (λ (ws : List ℕ). get_or ws i 0) pushed ∙ get_or_push words word 0 i so_far.size)
+      ∙ frees lane leaf within shows
+      ∙ ap (λ (q : Nnf). is_free (ways (normal_of q) leaf)) (is ∙ sym (get_or_read rules i r inside there rule)));
+}
 
 open_in : (free unmet lane : ℕ) → bit_or free unmet < 2 ^ 64 → lane < 64 → has_lane unmet lane ≡ false →
     has_lane (2 ^ 64 - 1 - bit_or free unmet) lane ≡ not (has_lane free lane)
@@ -96,22 +106,22 @@ open_in free unmet lane fits within met =
     at false = refl
 
 module _ (unmet : ℕ) (lanes : Lanes) (rules : List Nnf) (i : ℕ) (rule : Nnf) (inside : i < length rules) (is : rule ≡ get_or rules i rule)
-    (s : Standing) (stands : Stands s lanes (ways (normal_of rule))) (fits : bit_or s.free unmet < 2 ^ 64) where
+    (free : ℕ) (frees : IsFree free lanes rule) (fits : bit_or free unmet < 2 ^ 64) where
   -- where it is not open there, the rule adds nothing
   closed : (left : List LaneRule) (lane : ℕ) (leaf : ℕ → Option ℕ) → lane < 64 → Shows lanes lane leaf → has_lane unmet lane ≡ false →
-      has_lane (2 ^ 64 - 1 - bit_or s.free unmet) lane ≡ false → open_ways lane leaf left ≡ ways_of_parts And leaf (take i rules) → open_ways lane leaf left ≡ ways_of_parts And leaf (take (i + 1) rules)
+      has_lane (2 ^ 64 - 1 - bit_or free unmet) lane ≡ false → open_ways lane leaf left ≡ ways_of_parts And leaf (take i rules) → open_ways lane leaf left ≡ ways_of_parts And leaf (take (i + 1) rules)
   closed left lane leaf within shows met shut so_far =
-      let free : has_lane s.free lane ≡ true = not-false (has_lane s.free lane) (sym (open_in s.free unmet lane fits within met) ∙ shut) in
-      let these : ways (normal_of rule) leaf ≡ free_way = decided_is true (ways (normal_of rule) leaf) (sym (stands lane leaf within shows true) ∙ free) in
+      let here : has_lane free lane ≡ true = not-false (has_lane free lane) (sym (open_in free unmet lane fits within met) ∙ shut) in
+      let these : ways (normal_of rule) leaf ≡ free_way = decided_is true (ways (normal_of rule) leaf) (sym (frees lane leaf within shows) ∙ here) in
       so_far
       ∙ sym (parts_more And leaf rules i rule inside is ∙ ap (joined_by And (ways_of_parts And leaf (take i rules))) these ∙ joined_idle And (ways_of_parts And leaf (take i rules)))
 
-  pub left_out : (left : List LaneRule) → 2 ^ 64 - 1 - bit_or s.free unmet ≡ 0 → LeftOf unmet lanes left (take i rules) → LeftOf unmet lanes left (take (i + 1) rules)
+  pub left_out : (left : List LaneRule) → 2 ^ 64 - 1 - bit_or free unmet ≡ 0 → LeftOf unmet lanes left (take i rules) → LeftOf unmet lanes left (take (i + 1) rules)
   left_out left none so_far = λ lane leaf within shows met.
       closed left lane leaf within shows met (ap (λ (w : ℕ). has_lane w lane) none ∙ lane_none lane) (so_far lane leaf within shows met)
 
-  pub left_in : (left new : List LaneRule) (r : LaneRule) → new ≡ left ++ r ∷ [] → r.lanes ≡ 2 ^ 64 - 1 - bit_or s.free unmet →
-      HasWaysIn r.rule (2 ^ 64 - 1 - bit_or s.free unmet) lanes (ways (normal_of rule)) →
+  pub left_in : (left new : List LaneRule) (r : LaneRule) → new ≡ left ++ r ∷ [] → r.lanes ≡ 2 ^ 64 - 1 - bit_or free unmet →
+      HasWaysIn r.rule (2 ^ 64 - 1 - bit_or free unmet) lanes (ways (normal_of rule)) →
       LeftOf unmet lanes left (take i rules) → LeftOf unmet lanes new (take (i + 1) rules)
   left_in left new r pushed opens same so_far = λ lane leaf within shows met.
       let this : (b : Bool) → has_lane r.lanes lane ≡ b → (if b then both_ways (open_ways lane leaf left) (ways (normal_of r.rule) leaf) else open_ways lane leaf left) ≡ ways_of_parts And leaf (take (i + 1) rules) =
@@ -127,10 +137,10 @@ module _ (unmet : ℕ) (lanes : Lanes) (rules : List Nnf) (i : ℕ) (rule : Nnf)
           closed left lane leaf within shows met (sym (ap (λ (w : ℕ). has_lane w lane) opens) ∙ e) (so_far lane leaf within shows met)
 
 -- the ways of all in a lane, where some are unmet in it and where none is
-pub ways_of_left : (s : Standing) (lanes : Lanes) (left : List LaneRule) (rules : List Nnf) → Stands s lanes (λ leaf. ways_of_parts And leaf rules) → LeftOf s.unmet lanes left rules →
-    (lane : ℕ) (leaf : ℕ → Option ℕ) → lane < 64 → Shows lanes lane leaf → (if has_lane s.unmet lane then [] else open_ways lane leaf left) ≡ ways_of_parts And leaf rules
-ways_of_left s lanes left rules stands these lane leaf within shows = at (has_lane s.unmet lane) refl
+pub ways_of_left : (unmet : ℕ) (lanes : Lanes) (left : List LaneRule) (rules : List Nnf) → IsUnmet unmet lanes rules → LeftOf unmet lanes left rules →
+    (lane : ℕ) (leaf : ℕ → Option ℕ) → lane < 64 → Shows lanes lane leaf → (if has_lane unmet lane then [] else open_ways lane leaf left) ≡ ways_of_parts And leaf rules
+ways_of_left unmet lanes left rules is_unmet these lane leaf within shows = at (has_lane unmet lane) refl
   where
-    at : (b : Bool) → has_lane s.unmet lane ≡ b → (if b then [] else open_ways lane leaf left) ≡ ways_of_parts And leaf rules
-    at true e = sym (decided_is false (ways_of_parts And leaf rules) (sym (stands lane leaf within shows false) ∙ e))
+    at : (b : Bool) → has_lane unmet lane ≡ b → (if b then [] else open_ways lane leaf left) ≡ ways_of_parts And leaf rules
+    at true e = sym (none_is (ways_of_parts And leaf rules) (sym (is_unmet lane leaf within shows) ∙ e))
     at false e = these lane leaf within shows e

@@ -1,5 +1,5 @@
 -- The lanes of words put together, and what they say of ways put together.
-use Rattle.std.proofs.Common.{◌≡◌, ℕ, ◌-◌, ◌^◌, ◌<◌, min, Bool, true, false, not, ◌==◌, ◌||◌, ◌&&◌, if◌then◌else◌, List, Option, Some, None, refl, sym, ap, ◌∙◌, arith, bit_and, bit_or, w64}
+use Rattle.std.proofs.Common.{◌≡◌, ℕ, ◌-◌, ◌^◌, ◌+◌, ◌<◌, min, Bool, true, false, not, ◌==◌, ◌||◌, ◌&&◌, if◌then◌else◌, List, length, take, get_or, Option, Some, None, refl, sym, ap, ◌∙◌, arith, bit_and, bit_or, w64}
 use Rattle.std.specs.Int.{bit_at}
 use Rattle.std.specs.Option.{is_some}
 use Rattle.std.proofs.lemmas.Bool.Decides.{nat_tests}
@@ -10,11 +10,12 @@ use Rattle.flow_rules.specs.declared.lanes.Lanes.{Lanes}
 use Rattle.flow_rules.specs.declared.standing.Standing.{Standing}
 use Rattle.flow_rules.specs.Lanes.{Shows, word_of}
 use Rattle.flow_rules.specs.declared.connective.Connective.{Connective}
-use Rattle.flow_rules.specs.Normal.{event_form, pair_form}
+use Rattle.flow_rules.specs.declared.normal.Nnf.{Nnf}
+use Rattle.flow_rules.specs.Normal.{event_form, normal_of, pair_form}
 use Rattle.flow_rules.specs.Standing.{Stands, StandsIn, has_lane, lanes_where}
-use Rattle.flow_rules.specs.WayLists.{decided, decider, is_decided, is_none, joined_by, pair_in, pair_of, ways_of_pair}
+use Rattle.flow_rules.specs.WayLists.{decided, decider, is_decided, is_none, joined_by, pair_in, pair_of, ways_of_pair, ways_of_parts}
 use Rattle.flow_rules.proofs.NormalViews.{pair_ways}
-use Rattle.flow_rules.proofs.WayListLemmas.{decided_by_both, decided_by_one}
+use Rattle.flow_rules.proofs.WayListLemmas.{decided_by_both, decided_by_one, parts_more}
 
 -- lanes of words
 
@@ -51,7 +52,7 @@ stand_of s false lane vs h n false = h
 pub stand_as : (s : Standing) (lane : ℕ) (vs ws : List (List (ℕ × ℕ))) → vs ≡ ws → StandsIn s lane vs → StandsIn s lane ws
 stand_as s lane vs ws same p = λ met. p met ∙ ap (is_decided met) same
 
-pub stand_with : (c : Connective) (a b new : Standing) (lane : ℕ) (vs ws : List (List (ℕ × ℕ))) →
+stand_with : (c : Connective) (a b new : Standing) (lane : ℕ) (vs ws : List (List (ℕ × ℕ))) →
     lanes_where new (decider c) ≡ bit_or (lanes_where a (decider c)) (lanes_where b (decider c)) →
     lanes_where new (not (decider c)) ≡ bit_and (lanes_where a (not (decider c))) (lanes_where b (not (decider c))) →
     StandsIn a lane vs → StandsIn b lane ws → StandsIn new lane (joined_by c vs ws)
@@ -60,6 +61,17 @@ stand_with c a b new lane vs ws one both p q = stand_of new (decider c) lane (jo
     ∙ (λ k. p (decider c) k || q (decider c) k) ∙ sym (decided_by_one c vs ws))
     (ap (λ (w : ℕ). has_lane w lane) both ∙ lane_and (lanes_where a (not (decider c))) (lanes_where b (not (decider c))) lane
     ∙ (λ k. p (not (decider c)) k && q (not (decider c)) k) ∙ sym (decided_by_both c vs ws))
+
+-- where parts stand with one part more
+pub stand_more : (c : Connective) (lanes : Lanes) (parts : List Nnf) (i : ℕ) (part : Nnf) → i < length parts → part ≡ get_or parts i part → (a b new : Standing) →
+    lanes_where new (decider c) ≡ bit_or (lanes_where a (decider c)) (lanes_where b (decider c)) →
+    lanes_where new (not (decider c)) ≡ bit_and (lanes_where a (not (decider c))) (lanes_where b (not (decider c))) →
+    Stands a lanes (λ leaf. ways_of_parts c leaf (take i parts)) → Stands b lanes (ways (normal_of part)) →
+    Stands new lanes (λ leaf. ways_of_parts c leaf (take (i + 1) parts))
+stand_more c lanes parts i part inside is a b new one both p q lane leaf within shows =
+    stand_as new lane (joined_by c (ways_of_parts c leaf (take i parts)) (ways (normal_of part) leaf)) (ways_of_parts c leaf (take (i + 1) parts))
+    (sym (parts_more c leaf parts i part inside is))
+    (stand_with c a b new lane (ways_of_parts c leaf (take i parts)) (ways (normal_of part) leaf) one both (p lane leaf within shows) (q lane leaf within shows))
 
 decided_so : (met : Bool) → (is_decided met (decided met) ≡ true) × (is_decided (not met) (decided met) ≡ false)
 decided_so true = (refl, refl)

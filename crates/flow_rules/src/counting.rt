@@ -1,6 +1,7 @@
 ghost use Rattle.std.specs.Prelude.{◌≡◌};
 ghost use Rattle.flow_model.specs.Ways as model;
-ghost use Rattle.flow_rules.specs.Counts.{count_of, counts_by, counts_of_both, counts_of_either, is_decided_count, is_free_count};
+ghost use Rattle.flow_rules.specs.declared.connective.Connective.TheVariants.{And, Or};
+ghost use Rattle.flow_rules.specs.Counts.{count_of, counts_beside, counts_of_both, is_free_count};
 ghost use Rattle.flow_rules.specs.EventLeaves.{leaf_in};
 ghost use Rattle.flow_rules.specs.Normal.{normal_of};
 ghost use Rattle.flow_rules.specs.WayLists.{decided, ways_of_pair, ways_of_parts};
@@ -46,26 +47,13 @@ impl WayCount {
         }
     }
 
-    /// The ways and the others, or the one that asks for nothing where it is all of either.
-    fn either(self, other: WayCount) -> WayCount
-        ensures { result ≡ counts_of_either self other }
+    /// The ways and the others, where neither has the one that asks for nothing.
+    fn beside(self, other: WayCount) -> WayCount
+        ensures { result ≡ counts_beside self other }
     {
-        if self.is_free() || other.is_free() {
-            return FREE;
-        }
         WayCount {
             ways: self.ways.saturating_add(other.ways),
             pairs: self.pairs.saturating_add(other.pairs),
-        }
-    }
-
-    /// The ways of two parts.
-    fn with(self, other: WayCount, connective: Connective) -> WayCount
-        ensures { result ≡ counts_by connective self other }
-    {
-        match connective {
-            Connective::And => self.both(other),
-            Connective::Or => self.either(other),
         }
     }
 
@@ -74,13 +62,6 @@ impl WayCount {
         ensures { result ≡ count_of (decided met) }
     {
         if met { FREE } else { NONE }
-    }
-
-    /// Whether that is all.
-    fn is_decided(self, met: bool) -> bool
-        ensures { result ≡ is_decided_count met self }
-    {
-        if met { self.is_free() } else { self.ways == 0 }
     }
 }
 
@@ -94,17 +75,34 @@ fn order(wanted: bool, pair: Option<(u32, u32)>) -> WayCount
     }
 }
 
-/// How many ways the parts have. It ends where one of them decides it.
+/// How many ways there are to meet all parts. It ends where one of them can't be met.
 #[cycle(counting)]
-fn count_parts(connective: Connective, parts: &[Nnf], events: &LeafEvents) -> WayCount
-    ensures { result ≡ count_of (ways_of_parts connective (leaf_in events.now) parts.now) }
+fn count_all(parts: &[Nnf], events: &LeafEvents) -> WayCount
+    ensures { result ≡ count_of (ways_of_parts And (leaf_in events.now) parts.now) }
 {
-    let mut count = WayCount::decided(!connective.decides());
+    let mut count = FREE;
     for part in parts {
-        count = count.with(count_ways(part, events), connective);
-        if count.is_decided(connective.decides()) {
-            return count;
+        let more = count_ways(part, events);
+        if more.ways == 0 {
+            return NONE;
         }
+        count = count.both(more);
+    }
+    count
+}
+
+/// How many ways there are to meet some part. It ends where one of them is met in any order.
+#[cycle(counting)]
+fn count_any(parts: &[Nnf], events: &LeafEvents) -> WayCount
+    ensures { result ≡ count_of (ways_of_parts Or (leaf_in events.now) parts.now) }
+{
+    let mut count = NONE;
+    for part in parts {
+        let more = count_ways(part, events);
+        if more.is_free() {
+            return FREE;
+        }
+        count = count.beside(more);
     }
     count
 }
@@ -118,6 +116,9 @@ pub fn count_ways(rule: &Nnf, events: &LeafEvents) -> WayCount
     match rule {
         Nnf::Event(wanted, event) => WayCount::decided(events.meets(*wanted, *event)),
         Nnf::Order(wanted, first, second) => order(*wanted, events.pair(*wanted, *first, *second)),
-        Nnf::Parts(connective, parts) => count_parts(*connective, parts, events),
+        Nnf::Parts(connective, parts) => match connective {
+            Connective::And => count_all(parts, events),
+            Connective::Or => count_any(parts, events),
+        },
     }
 }

@@ -104,8 +104,10 @@ fn extend(
             all.push(way.with(*first, *second)?)?;
             Ok(())
         }
-        Asked::Parts(Connective::And, parts) => extend_by_all(alloc, way, parts, all),
-        Asked::Parts(Connective::Or, parts) => extend_by_any(alloc, &way, parts, all),
+        Asked::Parts(connective, parts) => match connective {
+            Connective::And => extend_by_all(alloc, way, parts, all),
+            Connective::Or => extend_by_any(alloc, &way, parts, all),
+        },
     }
 }
 

@@ -9,7 +9,7 @@ use crate::connective::Connective;
 use crate::lanes::Lanes;
 use crate::normal::Nnf;
 use crate::only::only;
-use crate::standing::{Standing, standing_of};
+use crate::standing::{Standing, event, order};
 use std::alloc::{AllocError, Global};
 
 /// What is left of a rule in some lanes, and where the rule stands in all of them.
@@ -24,18 +24,6 @@ fn covers(word: u64, wanted: u64) -> bool
     ensures { IsTrue result ↔ ((lane : ℕ) → lane < 64 → IsTrue (has_lane wanted lane) → IsTrue (has_lane word lane)) }
 {
     wanted & !word == 0
-}
-
-/// The rule as it is, by a copy of it.
-fn whole(rule: &Nnf, copy: Nnf, lanes: &Lanes) -> Narrow
-    requires { copy ≡ rule.now }
-    ensures standing { Stands result.standing lanes.now (model.ways (normal_of rule.now)) }
-    ensures rule { result.rule ≡ rule.now }
-{
-    Narrow {
-        standing: standing_of(rule, lanes),
-        rule: copy,
-    }
 }
 
 /// What is kept of parts as one rule. One alone stands for itself.
@@ -91,10 +79,14 @@ pub(crate) fn narrow_rule(
     ensures ways { IfOk result (λ narrow. HasWaysIn narrow.rule wanted lanes.now (model.ways (normal_of rule.now))) }
 {
     match rule {
-        Nnf::Event(met, event) => Ok(whole(rule, Nnf::Event(*met, *event), lanes)),
-        Nnf::Order(met, first, second) => {
-            Ok(whole(rule, Nnf::Order(*met, *first, *second), lanes))
-        }
+        Nnf::Event(met, number) => Ok(Narrow {
+            standing: event(lanes, *met, *number),
+            rule: Nnf::Event(*met, *number),
+        }),
+        Nnf::Order(met, first, second) => Ok(Narrow {
+            standing: order(lanes, *met, *first, *second),
+            rule: Nnf::Order(*met, *first, *second),
+        }),
         Nnf::Parts(connective, parts) => narrow_parts(alloc, *connective, parts, lanes, wanted),
     }
 }

@@ -3,7 +3,7 @@ ghost use Rattle.flow_rules.specs.declared.connective.Connective.TheVariants.{An
 ghost use Rattle.flow_rules.specs.Counts.{count_of};
 ghost use Rattle.flow_rules.specs.EventLeaves.{leaf_in};
 ghost use Rattle.flow_rules.specs.Lanes.{Shows};
-ghost use Rattle.flow_rules.specs.Narrowed.{open_ways, ways_in};
+ghost use Rattle.flow_rules.specs.Narrowed.{AreFree, IsUnmet, LeftOf, open_ways, ways_in};
 ghost use Rattle.flow_rules.specs.Standing.{has_lane};
 ghost use Rattle.flow_rules.specs.WayLists.{ways_of_sets, ways_of_parts};
 
@@ -15,7 +15,7 @@ use crate::listing::{free_way, with_rule};
 use crate::narrow::narrow_rule;
 use crate::normal::Nnf;
 use crate::order_set::OrderSet;
-use crate::standing::{parts_standing, standing_of};
+use crate::standing::{Standing, standing_of};
 use std::alloc::{AllocError, Global};
 
 /// What is left of a rule in the lanes in which it asks for an order.
@@ -33,6 +33,13 @@ pub struct Narrowed {
     rules: Vec<LaneRule>,
 }
 
+/// In which lanes each of some rules is met in any order, and in which one of them is unmet.
+#[derive(Drop)]
+struct Standings {
+    free: Vec<u64>,
+    unmet: u64,
+}
+
 fn has_lane(word: u64, lane: u32) -> bool
     requires { lane < 64 }
     ensures { result ≡ has_lane word lane }
@@ -40,19 +47,39 @@ fn has_lane(word: u64, lane: u32) -> bool
     word >> lane & 1 == 1
 }
 
-/// What the rules ask. A rule that is met in any order in each lane in which all can be met is left out.
-pub(crate) fn narrow_each(
+/// Where each of the rules is met in any order, and where one of them is unmet.
+fn stand_each(alloc: Global, rules: &[Nnf], lanes: &Lanes) -> Result<Standings, AllocError>
+    ensures free { IfOk result (λ found. AreFree found.free.items lanes.now rules.now) }
+    ensures unmet { IfOk result (λ found. IsUnmet found.unmet lanes.now rules.now) }
+{
+    let mut free = Vec::new(alloc);
+    let mut all = Standing::everywhere(true);
+    for rule in rules {
+        let standing = standing_of(rule, lanes);
+        all = all.with(standing, Connective::And);
+        free.push(standing.free)?;
+    }
+    Ok(Standings {
+        free,
+        unmet: all.unmet,
+    })
+}
+
+/// What is left of the rules. One that is met in any order in each lane in which all can be met is left out.
+fn left_of(
     alloc: Global,
     rules: &[Nnf],
     lanes: &Lanes,
-) -> Result<Narrowed, AllocError>
-    ensures { IfOk result (λ narrowed. (lane : ℕ) (leaf : ℕ → Option ℕ) → lane < 64 → Shows lanes.now lane leaf →
-        ways_in narrowed lane leaf ≡ ways_of_parts And leaf rules.now) }
+    free: &[u64],
+    unmet: u64,
+) -> Result<Vec<LaneRule>, AllocError>
+    requires { AreFree free.now lanes.now rules.now }
+    ensures { IfOk result (λ left. LeftOf unmet lanes.now left.items rules.now) }
 {
-    let unmet = parts_standing(Connective::And, rules, lanes).unmet;
     let mut left = Vec::new(alloc);
-    for rule in rules {
-        let open = !(standing_of(rule, lanes).free | unmet);
+    for place in 0..rules.len() {
+        let rule = &rules[place];
+        let open = !(free[place] | unmet);
         if open != 0 {
             let narrow = narrow_rule(alloc, rule, lanes, open)?;
             left.push(LaneRule {
@@ -61,7 +88,24 @@ pub(crate) fn narrow_each(
             })?;
         }
     }
-    Ok(Narrowed { unmet, rules: left })
+    Ok(left)
+}
+
+/// What the rules ask. Each is walked once to see where it stands, and once more where it is open.
+pub(crate) fn narrow_each(
+    alloc: Global,
+    rules: &[Nnf],
+    lanes: &Lanes,
+) -> Result<Narrowed, AllocError>
+    ensures { IfOk result (λ narrowed. (lane : ℕ) (leaf : ℕ → Option ℕ) → lane < 64 → Shows lanes.now lane leaf →
+        ways_in narrowed lane leaf ≡ ways_of_parts And leaf rules.now) }
+{
+    let standings = stand_each(alloc, rules, lanes)?;
+    let left = left_of(alloc, rules, lanes, &standings.free, standings.unmet)?;
+    Ok(Narrowed {
+        unmet: standings.unmet,
+        rules: left,
+    })
 }
 
 fn count_open(rules: &[LaneRule], lane: u32, events: &LeafEvents) -> WayCount

@@ -68,7 +68,7 @@ impl Standing {
 }
 
 /// Where the event happens, or does not where that is wanted.
-fn event(lanes: &Lanes, wanted: bool, event: u32) -> Standing
+pub(crate) fn event(lanes: &Lanes, wanted: bool, event: u32) -> Standing
     ensures { Stands result lanes.now (model.ways (event_form wanted event)) }
 {
     let here = lanes.lanes_of(event);
@@ -87,7 +87,7 @@ fn lanes_of_both(lanes: &Lanes, first: u32, second: u32) -> u64
 }
 
 /// Where an order of two events stands, or its negation where that is wanted.
-fn order(lanes: &Lanes, wanted: bool, first: u32, second: u32) -> Standing
+pub(crate) fn order(lanes: &Lanes, wanted: bool, first: u32, second: u32) -> Standing
     ensures { Stands result lanes.now (model.ways (pair_form wanted first second)) }
 {
     Standing::of(wanted, 0, !lanes_of_both(lanes, first, second))

@@ -1,44 +1,67 @@
-use Rattle.std.proofs.Common.{◌≡◌, ◌+◌, ◌<◌, ◌∙◌, ℕ, List, Option, length, take, get_or, ap, sym, true}
-use Rattle.flow_model.specs.Ways.{ways}
+use Rattle.std.proofs.Common.{◌≡◌, ◌==◌, ◌||◌, ◌∙◌, true, false, take, ap, sym}
+use Rattle.std.proofs.lemmas.List.{take_all}
+use Rattle.flow_model.specs.Ways.{is_free, ways}
 use Rattle.flow_rules.specs.declared.connective.Connective.{Connective}
+use Rattle.flow_rules.specs.declared.connective.Connective.TheVariants.{And, Or}
+use Rattle.flow_rules.specs.declared.normal.Nnf.{Parts}
 use Rattle.flow_rules.specs.declared.counting.WayCount.{WayCount}
-use Rattle.flow_rules.specs.declared.normal.Nnf.{Nnf}
-use Rattle.flow_rules.specs.Counts.{count_of, counts_by, is_decided_count}
+use Rattle.flow_rules.specs.Counts.{count_of, counts_beside, counts_of_both, is_free_count}
 use Rattle.flow_rules.specs.EventLeaves.{leaf_in}
 use Rattle.flow_rules.specs.Normal.{normal_of}
-use Rattle.flow_rules.specs.WayLists.{decider, is_decided, ways_of_pair, ways_of_parts}
-use Rattle.flow_rules.proofs.CountLemmas.{counts_joined, decided_count}
+use Rattle.flow_rules.specs.WayLists.{is_none, ways_of_pair, ways_of_parts}
+use Rattle.flow_rules.proofs.CountLemmas.{count_beside, count_both, free_count, none_left}
 use Rattle.flow_rules.proofs.NormalViews.{ways_at_event, ways_at_order, ways_at_parts}
-use Rattle.flow_rules.proofs.WayListLemmas.{decided_is, parts_decided, parts_more}
+use Rattle.flow_rules.proofs.WayListLemmas.{free_is, free_of_either, none_is, part_decides, parts_more}
 use Rattle.flow_rules.proofs.counting.+counting.Goals as goal
 
--- the count with one part more
-count_more : (j : Connective) (leaf : ℕ → Option ℕ) (parts : List Nnf) (i : ℕ) (part : Nnf) (so_far more new : WayCount) → i < length parts → part ≡ get_or parts i part →
-    more ≡ count_of (ways (normal_of part) leaf) → so_far ≡ count_of (ways_of_parts j leaf (take i parts)) → new ≡ counts_by j so_far more →
-    new ≡ count_of (ways_of_parts j leaf (take (i + 1) parts))
-count_more j leaf parts i part so_far more new within is counts earlier e =
-    e ∙ (λ k. counts_by j (earlier k) (counts k)) ∙ sym (counts_joined j (ways_of_parts j leaf (take i parts)) (ways (normal_of part) leaf))
-    ∙ ap count_of (sym (parts_more j leaf parts i part within is))
-
-pub count_parts-loop-part-preserved : goal.count_parts-loop-part-preserved
-count_parts-loop-part-preserved t c =
-    count_more c.args.connective (leaf_in c.args.events.now) c.args.parts.now c.loop-part.part-index c.part-item.result c.loop-part.count c.count_ways.result
-    c.with-count.result c.loop-part-test.true c.part-item.is c.count_ways.ensures c.loop-part.invariant c.with-count.ensures
-
-pub count_parts-returns-then-is_decided : goal.count_parts-returns-then-is_decided
-count_parts-returns-then-is_decided t c =
-    let j = c.args.connective in
+pub count_all-loop-part-preserved : goal.count_all-loop-part-preserved
+count_all-loop-part-preserved t c =
     let leaf = leaf_in c.args.events.now in
     let parts = c.args.parts.now in
     let i = c.loop-part.part-index in
-    let here : c.with-count.result ≡ count_of (ways_of_parts j leaf (take (i + 1) parts)) =
-    count_more j leaf parts i c.part-item.result c.loop-part.count c.count_ways.result c.with-count.result
-    c.loop-part-test.true c.part-item.is c.count_ways.ensures c.loop-part.invariant c.with-count.ensures in
-    let so_far = ways_of_parts j leaf (take (i + 1) parts) in
-    let decides : is_decided (decider j) so_far ≡ true =
-    sym (decided_count (decider j) so_far) ∙ ap (is_decided_count (decider j)) (sym here)
-    ∙ ap (λ met. is_decided_count met c.with-count.result) (sym c.decides-in-loop-part.ensures) ∙ sym c.is_decided.ensures ∙ c.if-is_decided.true in
-    here ∙ ap count_of (decided_is (decider j) so_far decides ∙ sym (parts_decided j leaf parts (i + 1) decides))
+    c.both-count.ensures ∙ (λ k. counts_of_both (c.loop-part.invariant k) (c.count_ways-more.ensures k))
+    ∙ sym (ap count_of (parts_more And leaf parts i c.part-item.result c.loop-part-test.true c.part-item.is)
+    ∙ count_both (ways_of_parts And leaf (take i parts)) (ways (normal_of c.part-item.result) leaf))
+
+pub count_all-returns-then-more-eq0 : goal.count_all-returns-then-more-eq0
+count_all-returns-then-more-eq0 t c =
+    let leaf = leaf_in c.args.events.now in
+    let these = ways (normal_of c.part-item.result) leaf in
+    let none : is_none these ≡ true =
+    sym (none_left these) ∙ ap (λ (count : WayCount). count.ways == 0) (sym c.count_ways-more.ensures) ∙ ap (λ n. n == 0) c.if-more-eq0.true in
+    sym (ap count_of (part_decides And leaf c.args.parts.now c.loop-part.part-index c.part-item.result c.loop-part-test.true c.part-item.is (none_is these none)))
+
+pub count_all-returns : goal.count_all-returns
+count_all-returns t c =
+    c.loop-part.invariant ∙ ap (λ parts. count_of (ways_of_parts And (leaf_in c.args.events.now) parts)) (take_all c.loop-part.part-index c.args.parts.now c.loop-part-test.false)
+
+pub count_any-loop-part-preserved : goal.count_any-loop-part-preserved
+count_any-loop-part-preserved t c =
+    let leaf = leaf_in c.args.events.now in
+    let parts = c.args.parts.now in
+    let i = c.loop-part.part-index in
+    let so_far = ways_of_parts Or leaf (take i parts) in
+    let these = ways (normal_of c.part-item.result) leaf in
+    let more = parts_more Or leaf parts i c.part-item.result c.loop-part-test.true c.part-item.is in
+    let not_free : is_free these ≡ false =
+    sym (free_count these) ∙ ap is_free_count (sym c.count_ways-more.ensures) ∙ sym c.is_free.ensures ∙ c.if-is_free.false in record {
+      counted =
+          c.beside-count.ensures ∙ (λ k. counts_beside (c.loop-part.invariant.counted k) (c.count_ways-more.ensures k))
+          ∙ sym (ap count_of more ∙ count_beside so_far these c.loop-part.invariant.not_free not_free);
+      not_free = ap is_free more ∙ free_of_either so_far these ∙ (λ k. c.loop-part.invariant.not_free k || not_free k);
+    }
+
+pub count_any-returns-then-is_free : goal.count_any-returns-then-is_free
+count_any-returns-then-is_free t c =
+    let leaf = leaf_in c.args.events.now in
+    let these = ways (normal_of c.part-item.result) leaf in
+    let free : is_free these ≡ true =
+    sym (free_count these) ∙ ap is_free_count (sym c.count_ways-more.ensures) ∙ sym c.is_free.ensures ∙ c.if-is_free.true in
+    sym (ap count_of (part_decides Or leaf c.args.parts.now c.loop-part.part-index c.part-item.result c.loop-part-test.true c.part-item.is (free_is these free)))
+
+pub count_any-returns : goal.count_any-returns
+count_any-returns t c =
+    c.loop-part.invariant.counted ∙ ap (λ parts. count_of (ways_of_parts Or (leaf_in c.args.events.now) parts)) (take_all c.loop-part.part-index c.args.parts.now c.loop-part-test.false)
 
 pub count_ways-returns-in-Event : goal.count_ways-returns-in-Event
 count_ways-returns-in-Event t c =
@@ -50,8 +73,16 @@ count_ways-returns-in-Order t c =
     c.order.ensures
     ∙ ap count_of (ap (ways_of_pair c.in-Order.wanted) c.pair.ensures ∙ ways_at_order leaf c.args.rule.now c.in-Order.wanted c.in-Order.first c.in-Order.second c.in-Order.is)
 
-pub count_ways-returns-in-Parts : goal.count_ways-returns-in-Parts
-count_ways-returns-in-Parts t c =
+pub count_ways-returns-in-And : goal.count_ways-returns-in-And
+count_ways-returns-in-And t c =
     let leaf = leaf_in c.args.events.now in
-    c.count_parts.ensures
-    ∙ ap count_of (ap (ways_of_parts c.in-Parts.connective leaf) c.deref.ensures.value ∙ ways_at_parts leaf c.args.rule.now c.in-Parts.connective c.in-Parts.parts c.in-Parts.is)
+    let parts = c.in-Parts.parts in
+    c.count_all.ensures
+    ∙ ap count_of (ap (ways_of_parts And leaf) c.deref.ensures.value ∙ ways_at_parts leaf c.args.rule.now And parts (c.in-Parts.is ∙ ap (λ (j : Connective). Parts j parts) c.in-And.is))
+
+pub count_ways-returns-in-Or : goal.count_ways-returns-in-Or
+count_ways-returns-in-Or t c =
+    let leaf = leaf_in c.args.events.now in
+    let parts = c.in-Parts.parts in
+    c.count_any.ensures
+    ∙ ap count_of (ap (ways_of_parts Or leaf) c.deref-in-Or.ensures.value ∙ ways_at_parts leaf c.args.rule.now Or parts (c.in-Parts.is ∙ ap (λ (j : Connective). Parts j parts) c.in-Or.is))

@@ -1,15 +1,13 @@
-use Rattle.std.proofs.Common.{◌∙◌, ◌+◌, ℕ, not, take, sym, ap, subst, Vec, Global}
+use Rattle.std.proofs.Common.{◌≡◌, ◌∙◌, ◌+◌, ℕ, not, take, sym, ap, subst, Vec, Global}
 use Rattle.std.proofs.lemmas.Result.{IfOk-weaker}
 use Rattle.std.proofs.lemmas.List.{take_all}
 use Rattle.flow_model.specs.Ways.{ways}
 use Rattle.flow_rules.specs.declared.normal.Nnf.{Nnf}
-use Rattle.flow_rules.specs.Normal.{normal_of}
 use Rattle.flow_rules.specs.Standing.{has_lane, lanes_where}
-use Rattle.flow_rules.specs.WayLists.{joined_by, ways_of_parts}
+use Rattle.flow_rules.specs.WayLists.{decider, ways_of_parts}
 use Rattle.flow_rules.proofs.NarrowLemmas.{KeepsWays, keeps_with, keeps_without}
 use Rattle.flow_rules.proofs.NormalViews.{ways_at_parts}
-use Rattle.flow_rules.proofs.StandingLemmas.{stand_as, stand_with}
-use Rattle.flow_rules.proofs.WayListLemmas.{parts_more}
+use Rattle.flow_rules.proofs.StandingLemmas.{stand_as, stand_more}
 use Rattle.flow_rules.proofs.narrow.+narrowing.Goals as goal
 use Rattle.flow_rules.proofs.narrow.+narrowing.Goals.{narrow_parts-then-covers, narrow_parts-else-covers+in_ok-push}
 
@@ -23,14 +21,12 @@ narrow_parts-loop-part-preserved t c =
     let part = c.part-item.result in
     let narrow = c.in_ok-narrow.narrow in
     let stands = c.in_ok-narrow.ensures.standing in (
-      λ lane leaf within shows.
-          stand_as _ lane (joined_by j (ways_of_parts j leaf (take i parts)) (ways (normal_of part) leaf)) _
-          (sym (parts_more j leaf parts i part c.loop-part-test.true c.part-item.is))
-          (stand_with j c.loop-part.standing narrow.standing c.with-standing.result lane _ _ c.with-standing.ensures.one c.with-standing.ensures.both
-          (c.loop-part.invariant.0 lane leaf within shows) (stands lane leaf within shows)),
+      stand_more j lanes parts i part c.loop-part-test.true c.part-item.is c.loop-part.standing narrow.standing c.with-standing.result
+          c.with-standing.ensures.one c.with-standing.ensures.both c.loop-part.invariant.0 stands,
       elim c.if-covers.branch [
         | narrow_parts-then-covers w ↦
-            let same = c.lanes_where.ensures ∙ ap (λ b. lanes_where narrow.standing (not b)) c.decides-idle.ensures in
+            let same : c.lanes_where.result ≡ lanes_where narrow.standing (not (decider j)) =
+            c.lanes_where.ensures ∙ ap (λ b. lanes_where narrow.standing (not b)) c.decides-idle.ensures in
             subst (λ (k : Vec Nnf Global). KeepsWays j wanted lanes k.items (take (i + 1) parts)) (sym w.kept-is)
             (keeps_without j wanted lanes parts i part c.loop-part-test.true c.part-item.is c.loop-part.kept.items narrow.standing stands
             (λ lane within has. ap (λ (word : ℕ). has_lane word lane) (sym same) ∙ c.covers.ensures.0 w.if-covers.true lane within has) c.loop-part.invariant.1)

@@ -1,22 +1,17 @@
-use Rattle.std.proofs.Common.{◌∙◌, take, sym, ap, subst}
+use Rattle.std.proofs.Common.{◌∙◌, sym, ap, subst}
 use Rattle.std.proofs.lemmas.List.{take_all}
 use Rattle.flow_model.specs.Ways.{ways}
 use Rattle.flow_rules.specs.Normal.{normal_of}
 use Rattle.flow_rules.specs.Standing.{Stands}
-use Rattle.flow_rules.specs.WayLists.{joined_by, ways_of_parts}
+use Rattle.flow_rules.specs.WayLists.{ways_of_parts}
 use Rattle.flow_rules.proofs.NormalViews.{normal_of-Event, normal_of-Order, ways_at_parts}
-use Rattle.flow_rules.proofs.StandingLemmas.{stand_as, stand_with}
-use Rattle.flow_rules.proofs.WayListLemmas.{parts_more}
+use Rattle.flow_rules.proofs.StandingLemmas.{stand_as, stand_more}
 use Rattle.flow_rules.proofs.standing.+standing.Goals as goal
 
 pub parts_standing-loop-part-preserved : goal.parts_standing-loop-part-preserved
-parts_standing-loop-part-preserved t c = λ lane leaf within shows.
-    let parts = c.args.parts.now in
-    let i = c.loop-part.part-index in
-    stand_as _ lane (joined_by c.args.connective (ways_of_parts c.args.connective leaf (take i parts)) (ways (normal_of c.part-item.result) leaf)) _
-    (sym (parts_more c.args.connective leaf parts i c.part-item.result c.loop-part-test.true c.part-item.is))
-    (stand_with c.args.connective c.loop-part.standing c.standing_of.result c.with-standing.result lane _ _ c.with-standing.ensures.one c.with-standing.ensures.both
-    (c.loop-part.invariant lane leaf within shows) (c.standing_of.ensures lane leaf within shows))
+parts_standing-loop-part-preserved t c =
+    stand_more c.args.connective c.args.lanes.now c.args.parts.now c.loop-part.part-index c.part-item.result c.loop-part-test.true c.part-item.is
+    c.loop-part.standing c.standing_of.result c.with-standing.result c.with-standing.ensures.one c.with-standing.ensures.both c.loop-part.invariant c.standing_of.ensures
 
 pub parts_standing-returns : goal.parts_standing-returns
 parts_standing-returns t c = λ lane leaf within shows.
