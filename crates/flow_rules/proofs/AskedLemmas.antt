@@ -24,6 +24,10 @@ asked_at rule k c parts is joined = sym (ap ways_asked (is ∙ ap (λ (j : Conne
 
 -- one part more
 
+pub kept_none : (c : Connective) → HasKept c [] (decided (not (decider c)))
+kept_none And = record { same = refl; undecided = refl; none = refl }
+kept_none Or = record { same = refl; undecided = refl; none = refl }
+
 pub kept_idle : (c : Connective) (kept : List Asked) (ways more new : List (List (ℕ × ℕ))) → new ≡ joined_by c ways more → more ≡ decided (not (decider c)) →
     HasKept c kept ways → HasKept c kept new
 kept_idle c kept ways more new n e h = subst (HasKept c kept) (sym (n ∙ ap (joined_by c ways) e ∙ joined_idle c ways)) h

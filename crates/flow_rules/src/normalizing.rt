@@ -1,10 +1,9 @@
 ghost use Rattle.std.specs.Prelude.{◌≡◌, ℕ, Option, true, IfOk, map};
 ghost use Rattle.flow_model.specs.Ways as model;
 ghost use Rattle.flow_rules.specs.Rule.{rule_of};
-ghost use Rattle.flow_rules.specs.declared.normal.Nnf as form;
 ghost use Rattle.flow_rules.specs.NormalForm as tree;
 ghost use Rattle.flow_rules.specs.NormalForm.{form_of};
-ghost use Rattle.flow_rules.specs.Normal.{normal_of, normals_of, linked, all_form, split_chain, split_form};
+ghost use Rattle.flow_rules.specs.Normal.{normal_of, normals_of, linked, pair_form, all_form, split_chain, split_form};
 
 use crate::connective::Connective;
 use crate::normal::Nnf;
@@ -13,7 +12,8 @@ use std::alloc::{AllocError, Global};
 
 /// Each event with the next one.
 fn pairs(alloc: Global, first: u32, rest: &[u32], wanted: bool) -> Result<Vec<Nnf>, AllocError>
-    ensures { IfOk result (λ pairs. pairs.items ≡ linked (form.Order wanted) first rest.now) }
+    ensures tree { IfOk result (λ pairs. map form_of pairs.items ≡ linked (tree.order_form wanted) first rest.now) }
+    ensures normal { IfOk result (λ pairs. normals_of pairs.items ≡ linked (pair_form wanted) first rest.now) }
 {
     let mut pairs = Vec::new(alloc);
     let mut earlier = first;

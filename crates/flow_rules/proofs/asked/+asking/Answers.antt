@@ -1,4 +1,4 @@
-use Rattle.std.proofs.Common.{◌≡◌, ◌∙◌, ◌+◌, Bool, true, false, not, take, refl, sym, ap, subst, true≢false, Vec, Global}
+use Rattle.std.proofs.Common.{◌≡◌, ◌∙◌, ◌+◌, Bool, true, false, not, take, refl, sym, ap, subst, true≢false, List, Vec, Global}
 use Rattle.std.proofs.Math.Bool.{beq}
 use Rattle.std.specs.Cmp.{booleans_Decides}
 use Rattle.std.proofs.lemmas.Result.{IfOk-weaker}
@@ -8,8 +8,8 @@ use Rattle.flow_rules.specs.declared.asked.Found.{Found}
 use Rattle.flow_rules.specs.Asked.{Finds, HasKept}
 use Rattle.flow_rules.specs.EventLeaves.{leaf_in}
 use Rattle.flow_rules.specs.Normal.{normal_of}
-use Rattle.flow_rules.specs.WayLists.{decided, ways_of_pair, ways_of_parts}
-use Rattle.flow_rules.proofs.AskedLemmas.{kept_idle, kept_more}
+use Rattle.flow_rules.specs.WayLists.{decided, decider, ways_of_pair, ways_of_parts}
+use Rattle.flow_rules.proofs.AskedLemmas.{kept_idle, kept_more, kept_none}
 use Rattle.flow_rules.proofs.NormalViews.{ways_at_event, ways_at_order, ways_at_parts}
 use Rattle.flow_rules.proofs.WayListLemmas.{part_decides, parts_more}
 use Rattle.flow_rules.proofs.asked.+asking.Goals as goal
@@ -20,6 +20,10 @@ other_flag true true e = absurd (true≢false e)
 other_flag true false e = refl
 other_flag false true e = refl
 other_flag false false e = absurd (true≢false e)
+
+pub parts_asked-loop-part-init : goal.parts_asked-loop-part-init
+parts_asked-loop-part-init t c =
+    subst (λ (kept : List Asked). HasKept c.args.connective kept (decided (not (decider c.args.connective)))) (sym c.new-kept.ensures.items) (kept_none c.args.connective)
 
 pub asked_of-returns-in-Event : goal.asked_of-returns-in-Event
 asked_of-returns-in-Event t c =

@@ -1,5 +1,4 @@
 use Rattle.std.proofs.Common.{◌≡◌, ◌==◌, ◌||◌, ◌∙◌, true, false, take, ap, sym}
-use Rattle.std.proofs.lemmas.List.{take_all}
 use Rattle.flow_model.specs.Ways.{is_free, ways}
 use Rattle.flow_rules.specs.declared.connective.Connective.{Connective}
 use Rattle.flow_rules.specs.declared.connective.Connective.TheVariants.{And, Or}
@@ -31,10 +30,6 @@ count_all-returns-then-more-eq0 t c =
     sym (none_left these) ∙ ap (λ (count : WayCount). count.ways == 0) (sym c.count_ways-more.ensures) ∙ ap (λ n. n == 0) c.if-more-eq0.true in
     sym (ap count_of (part_decides And leaf c.args.parts.now c.loop-part.part-index c.part-item.result c.loop-part-test.true c.part-item.is (none_is these none)))
 
-pub count_all-returns : goal.count_all-returns
-count_all-returns t c =
-    c.loop-part.invariant ∙ ap (λ parts. count_of (ways_of_parts And (leaf_in c.args.events.now) parts)) (take_all c.loop-part.part-index c.args.parts.now c.loop-part-test.false)
-
 pub count_any-loop-part-preserved : goal.count_any-loop-part-preserved
 count_any-loop-part-preserved t c =
     let leaf = leaf_in c.args.events.now in
@@ -58,10 +53,6 @@ count_any-returns-then-is_free t c =
     let free : is_free these ≡ true =
     sym (free_count these) ∙ ap is_free_count (sym c.count_ways-more.ensures) ∙ sym c.is_free.ensures ∙ c.if-is_free.true in
     sym (ap count_of (part_decides Or leaf c.args.parts.now c.loop-part.part-index c.part-item.result c.loop-part-test.true c.part-item.is (free_is these free)))
-
-pub count_any-returns : goal.count_any-returns
-count_any-returns t c =
-    c.loop-part.invariant.counted ∙ ap (λ parts. count_of (ways_of_parts Or (leaf_in c.args.events.now) parts)) (take_all c.loop-part.part-index c.args.parts.now c.loop-part-test.false)
 
 pub count_ways-returns-in-Event : goal.count_ways-returns-in-Event
 count_ways-returns-in-Event t c =

@@ -1,10 +1,20 @@
 use Rattle.std.proofs.Common.{not, ap, map, List, ◌∙◌}
 use Rattle.flow_rules.specs.declared.rule.Rule.{Rule}
-use Rattle.flow_rules.specs.Normal.{all_form}
-use Rattle.flow_rules.specs.NormalForm.{list_form, rule_form}
-use Rattle.flow_rules.proofs.RuleViews.{form_and, form_or}
+use Rattle.flow_rules.specs.Normal.{all_form, normal_of, split_form}
+use Rattle.flow_rules.specs.NormalForm.{form_of, list_form, rule_form}
+use Rattle.flow_rules.specs.Rule.{rule_of}
+use Rattle.flow_rules.proofs.RuleViews.{form_and, form_or, made_more}
 use Rattle.flow_rules.proofs.SplitForms.{split_and, split_or, split_rules}
 use Rattle.flow_rules.proofs.normalizing.+normalizing.Goals as goal
+
+pub normal_forms-loop-rule-preserved : goal.normal_forms-loop-rule-preserved
+normal_forms-loop-rule-preserved t c =
+    let wanted = c.args.wanted in (
+      made_more form_of (λ rule. rule_form rule wanted) c.loop-rule.forms.items c.push.new.self.items c.in_ok-normal.field-0 c.args.rules.now c.loop-rule.rule-index c.rule-item.result
+          c.loop-rule-test.true c.rule-item.is c.in_ok-push.ensures.items c.in_ok-normal.ensures.tree c.loop-rule.invariant.0,
+      made_more normal_of (λ rule. split_form (rule_of rule) wanted) c.loop-rule.forms.items c.push.new.self.items c.in_ok-normal.field-0 c.args.rules.now c.loop-rule.rule-index c.rule-item.result
+          c.loop-rule-test.true c.rule-item.is c.in_ok-push.ensures.items c.in_ok-normal.ensures.normal c.loop-rule.invariant.1,
+    )
 
 pub normal-returns-in_ok-normal_forms-in-And-clause-normal : goal.normal-returns-in_ok-normal_forms-in-And-clause-normal
 normal-returns-in_ok-normal_forms-in-And-clause-normal t c =

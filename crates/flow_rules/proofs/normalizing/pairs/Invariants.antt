@@ -1,7 +1,10 @@
-use Rattle.std.proofs.Common.{◌≡◌, ◌++◌, drop}
-use Rattle.flow_rules.specs.declared.normal.Nnf.{Order}
-use Rattle.flow_rules.specs.Normal.{linked}
+use Rattle.std.proofs.Common.{◌≡◌, ◌++◌, drop, map}
+use Rattle.flow_rules.specs.NormalForm.{form_of, order_form}
+use Rattle.flow_rules.specs.Normal.{normals_of, linked, pair_form}
 use Rattle.flow_rules.proofs.normalizing.pairs.Given as goal
 
 abbrev pub invariant-loop-event : goal.invariant-loop-event
-invariant-loop-event l = l.pairs.items ++ linked (Order l.wanted) l.earlier (drop l.event-index l.rest) ≡ linked (Order l.wanted) l.first l.rest
+invariant-loop-event l =
+    (map form_of l.pairs.items ++ linked (order_form l.wanted) l.earlier (drop l.event-index l.rest) ≡ linked (order_form l.wanted) l.first l.rest) ×
+    (normals_of l.pairs.items ++ linked (pair_form l.wanted) l.earlier (drop l.event-index l.rest)
+    ≡ linked (pair_form l.wanted) l.first l.rest)
