@@ -3,7 +3,8 @@ ghost use Rattle.flow_rules.specs.Rule.{rule_of, rules_of};
 
 use std::alloc::{AllocError, Global};
 
-/// A rule on the events of an execution. Events go by their numbers.
+/// A rule on the events of an execution (Davulcu, Kifer, Ramakrishnan and Ramakrishnan 1998).
+/// Events go by their numbers.
 #[derive(Drop)]
 pub enum Rule {
     /// The event happens.
