@@ -223,7 +223,7 @@ calls_at d calls k list f h at lt is =
     let both : Some list.items ≡ Some (calls_in d.flows (names_in (shape_of f.now))) = sym one ∙ ap (λ l. slice_get l k) h ∙ two in
     cc
 
-calls_many : (d : Directory) (calls : List (Vec ℕ Global)) → AreCalls d calls → length calls ≡ length d.goals.items
+pub calls_many : (d : Directory) (calls : List (Vec ℕ Global)) → AreCalls d calls → length calls ≡ length d.goals.items
 calls_many d calls h =
     sym (length-map calls (λ (v : Vec ℕ Global). v.items)) ∙ ap length h ∙ length-map d.goals.items (λ (g : Bor Form). calls_in d.flows (names_in (shape_of g.now)))
 

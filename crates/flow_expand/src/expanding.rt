@@ -41,7 +41,6 @@ fn goal_of(
 
 /// The workflow of a script, with each sub-workflow in its place. What is too large is refused before
 /// anything is built.
-#[tactic(auto, using(crate::proofs::Endings::becomes_one))]
 pub fn expand(alloc: Global, script: &Script) -> Result<Workflow, ExpandRefusal>
     requires { IsClosed (said script.now) }
     ensures refused { IfErr result (IsRefusal (said script.now)) }

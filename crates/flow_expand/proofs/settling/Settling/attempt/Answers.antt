@@ -1,4 +1,4 @@
-use Rattle.std.proofs.Common.{rules, ◌≡◌, ◌<◌, ℕ, length, slice_get, Option, Some, None, refl, sym, subst, ap, ◌∙◌}
+use Rattle.std.proofs.Common.{rules, arith, ◌≡◌, ◌<◌, ℕ, length, slice_get, Option, Some, None, refl, sym, subst, ap, ◌∙◌}
 use Rattle.flow_model.specs.Lists.{◌∈◌, Each}
 use Rattle.std.specs.Prelude.{IfSome}
 use Rattle.flow_form.specs.Form.{shape_of}
@@ -6,7 +6,7 @@ use Rattle.flow_form.specs.Names.{names_in}
 use Rattle.flow_expand.specs.Laid.{IsLaidAt, IsReady}
 use Rattle.flow_expand.proofs.Declarations.{flow_at}
 use Rattle.flow_expand.proofs.LayLemmas.{ready}
-use Rattle.flow_expand.proofs.SettleLemmas.{laid_set, list_at, calls_at, calls_found, named_call, all_laid, seen_to, seen_moved, seen_kept, laid_stays}
+use Rattle.flow_expand.proofs.SettleLemmas.{laid_set, calls_many, list_at, calls_at, calls_found, named_call, all_laid, seen_to, seen_moved, seen_kept, laid_stays}
 use Rattle.flow_expand.proofs.settling.Settling.attempt.Goals as goal
 
 some_to : (o : Option ℕ) (P : ℕ → Type 0) → ((k : ℕ) → o ≡ Some k → P k) → IfSome o P
@@ -66,3 +66,25 @@ returns-clause-settling c =
       seen = seen_kept s.calls.items _ s.laid.items _ (λ j. laid_stays s.laid.items c.args.flow j c.in_ok-root.root)
           (seen_moved s.calls.items s.seen.items s.laid.items c.args.flow c.first_unlaid-ahead.result list at c.requires.settling.seen passed);
     }
+
+pub returns-then-is_some-clause-settling : goal.returns-then-is_some-clause-settling
+returns-then-is_some-clause-settling c =
+    let d = c.args.directory.now in
+    let s = c.args.self.now in
+    let within : c.args.flow < length d.goals.items = search rules in
+    let list = c.index.result.now in
+    let at = list_at d s c.args.flow list c.requires.settling within c.index.ensures in
+    let counted : c.args.flow < length s.seen.items = search rules in
+    let passed = seen_to d s c.args.flow c.index-2.result.now c.first_unlaid-ahead.result list _ _ c.requires.settling at counted c.index-2.ensures c.as_slice-named.ensures.value c.deref.ensures.value
+    c.first_unlaid-ahead.ensures.passed in
+    record {
+      laid = c.requires.settling.laid;
+      many = c.requires.settling.many;
+      calls = c.requires.settling.calls;
+      counted = c.requires.settling.counted;
+      seen = seen_moved s.calls.items s.seen.items s.laid.items c.args.flow c.first_unlaid-ahead.result list at c.requires.settling.seen passed;
+    }
+
+pub index-requires : goal.index-requires
+index-requires c =
+    omega (arith, calls_many c.args.directory.now c.args.self.now.calls.items c.requires.settling.calls, c.args.self.now.calls.ok.0, c.args.directory.now.goals.ok.0, c.requires.within)
