@@ -2,7 +2,7 @@
 use Rattle.std.proofs.Common.{◌≡◌, ◌≢◌, ℕ, zero, suc, ◌+◌, ◌-◌, ◌<◌, List, [], ◌∷◌, ◌++◌, ◌⊎◌, length, get_or, set, slice_get, Option, Some, None, refl, sym, ap, ◌∙◌, subst, inl, inr, ⊎_elim, arith, ◌≤◌, map, take, Vec, Global, Bor, drop}
 use Rattle.std.specs.Prelude.{All, MatchOption}
 use Rattle.std.proofs.lemmas.Option.{slice_get-get_or, slice_get_within, get_or_from_slice_get}
-use Rattle.std.proofs.lemmas.List.{append_assoc, length-set, get_or-set_same, append-nil, length-map, map-append, take-append-drop, drop_more, take_more}
+use Rattle.std.proofs.lemmas.List.{append_assoc, length-set, get_or-set_same, append-nil, length-map, map-append, take-append-drop, drop_more, take_more, take_all}
 use Rattle.std.proofs.lemmas.Bool.Decides.{eqb_tells}
 use Rattle.std.specs.Option.{option_to_list}
 use Rattle.std.proofs.lemmas.Bool.{cases_lt}
@@ -171,6 +171,10 @@ pub when_none : {T : Type 0} (o : Option T) (P : Type 0) (Q : T → Type 0) → 
 when_none None P Q e h = h
 when_none (Some x) P Q e h = absurd (cc)
 
+pub when_some : {T : Type 0} (o : Option T) (P : Type 0) (Q : T → Type 0) (x : T) → o ≡ Some x → MatchOption o P Q → Q x
+when_some None P Q x e h = absurd (cc)
+when_some (Some y) P Q x e h = subst Q (some_same y x e) h
+
 -- the last of the path was laid
 pub record IsDone (decls : List Declared) (old new : List Stage) (shorter : List ℕ) : Type 0 where
   pub path : IsPath decls new shorter
@@ -207,6 +211,14 @@ last_none (y ∷ xs) e =
     let lt : length (y ∷ xs) - 1 < length (y ∷ xs) = omega arith in
     let f : Some (get_or (y ∷ xs) (length (y ∷ xs) - 1) 0) ≡ None = sym (slice_get-get_or (y ∷ xs) (length (y ∷ xs) - 1) 0 lt) ∙ e in
     absurd (cc)
+
+pub last_some : (xs path : List ℕ) (n y : ℕ) → xs ≡ path → n ≡ length path → slice_get xs (length xs - 1) ≡ Some y → path ≡ take (n - 1) path ++ y ∷ []
+last_some xs path n y same count e =
+    let at : slice_get path (length path - 1) ≡ Some y = subst (λ l. slice_get l (length l - 1) ≡ Some y) same e in
+    let lt : length path - 1 < length path = slice_get_within path (length path - 1) y at in
+    let whole : length path - 1 + 1 ≡ length path = omega arith in
+    sym (take_all (length path) path (omega arith)) ∙ ap (λ k. take k path) (sym whole) ∙ take_more path (length path - 1) 0 lt
+    ∙ (λ i. take (sym count i - 1) path ++ get_or_from_slice_get path (length path - 1) y 0 at i ∷ [])
 
 of_option : (o : Option ℕ) (j : ℕ) → j ∈ option_to_list o → o ≡ Some j
 of_option None j m = absurd m

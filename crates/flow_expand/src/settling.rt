@@ -17,7 +17,7 @@ use std::alloc::{AllocError, Global};
 fn is_laid(laid: &[Stage], flow: usize) -> bool
     ensures { IsTrue result ↔ IsLaidAt laid.now flow }
 {
-    matches!(laid.get(flow), Some(Stage::Laid(_)))
+    matches!(stage_of(laid, flow), Some(Stage::Laid(_)))
 }
 
 /// The place of the first call from there on that is not laid, or of the end.

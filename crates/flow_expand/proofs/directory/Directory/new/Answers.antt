@@ -1,11 +1,12 @@
 use Rattle.std.proofs.Common.{ap, sym, subst, ◌∙◌, map, Bor}
-use Rattle.std.proofs.lemmas.List.{map_push}
+use Rattle.std.proofs.lemmas.List.{map_push, take_all}
+use Rattle.std.specs.List.{flat_map}
 use Rattle.flow_facts.specs.Indexed.{IsAdded}
 use Rattle.flow_form.specs.declared.form.Form.{Form}
 use Rattle.flow_form.specs.Form.{shape_of}
 use Rattle.flow_form.specs.Script.{declared}
 use Rattle.flow_form.specs.Names.{flow_goal}
-use Rattle.flow_expand.specs.Steps.{flow_name}
+use Rattle.flow_expand.specs.Steps.{flow_name, flow_names}
 use Rattle.flow_expand.proofs.Declarations.{distinct_flows, part_put, part_passed, part_added, not_flow}
 use Rattle.flow_expand.proofs.directory.Directory.new.Goals as goal
 use Rattle.flow_expand.proofs.directory.Directory.new.Goals.{in-Flow+in_ok-add+in_ok-push, in_default}
@@ -29,3 +30,14 @@ loop-decl-preserved c =
         goals = ap (λ v. map view v.items) w.goals-is ∙ part_passed flow_goal decls i item lt c.decl-item.is _ (not_flow item w.in_default.not-Flow).1 c.loop-decl.invariant.goals;
       }
     ]
+
+pub returns-clause-directory : goal.returns-clause-directory
+returns-clause-directory c =
+    let all = take_all c.loop-decl.decl-index c.args.decls.now c.loop-decl-test.false in
+    record {
+      events = c.requires.events;
+      flows = c.loop-decl.invariant.flows ∙ ap (λ ds. flow_names (map declared ds)) all;
+      goals = c.loop-decl.invariant.goals ∙ ap (λ ds. flat_map flow_goal (map declared ds)) all;
+      once = c.requires.once;
+      closed = c.requires.closed;
+    }

@@ -1,8 +1,9 @@
-use Rattle.std.proofs.Common.{rules, ◌<◌, length}
+use Rattle.std.proofs.Common.{rules, ◌<◌, OnOk, length, subst, sym}
 use Rattle.std.proofs.lemmas.Option.{slice_get_within}
 use Rattle.flow_expand.specs.declared.lay.Stage.TheVariants as stage
 use Rattle.flow_expand.specs.Directory.{decls_of}
-use Rattle.flow_expand.proofs.SettleLemmas.{last_begun, when_none, done}
+use Rattle.flow_expand.specs.Waiting.{IsPath, Stays}
+use Rattle.flow_expand.proofs.SettleLemmas.{last_begun, when_none, when_some, done}
 use Rattle.flow_expand.proofs.settling.Settling.advance.Goals as goal
 
 pub attempt-requires-clause-within : goal.attempt-requires-clause-within
@@ -16,3 +17,17 @@ returns-in-None c =
     let h = done (decls_of c.args.directory.now) c.args.self.now.laid.items c.attempt.new.self.laid.items c.args.path.now.items c.pop.new.self.items _ c.args.flow
     (when_none c.in_ok-next.field-0 _ _ c.in-None.is c.in_ok-next.ensures.laid) c.requires.path c.requires.last c.pop.ensures.rest in
     record { settling = c.in_ok-next.ensures.settling; path = h.path; stays = h.stays; less = h.less; found = tt }
+
+pub wait_for-requires-clause-path : goal.wait_for-requires-clause-path
+wait_for-requires-clause-path c =
+    subst (λ l. IsPath (decls_of c.args.directory.now) l c.args.path.now.items) (sym (when_some c.in_ok-next.field-0 _ _ c.in-Some.next c.in-Some.is c.in_ok-next.ensures.laid)) c.requires.path
+
+pub wait_for-requires-clause-step : goal.wait_for-requires-clause-step
+wait_for-requires-clause-step c = (when_some c.in_ok-next.field-0 _ _ c.in-Some.next c.in-Some.is c.in_ok-next.ensures.waits).0
+
+pub wait_for-requires-clause-unlaid : goal.wait_for-requires-clause-unlaid
+wait_for-requires-clause-unlaid c = (when_some c.in_ok-next.field-0 _ _ c.in-Some.next c.in-Some.is c.in_ok-next.ensures.waits).1
+
+pub returns-in-Some-clause-stays : goal.returns-in-Some-clause-stays
+returns-in-Some-clause-stays c =
+    subst (λ l. OnOk c.wait_for.result (Stays l c.wait_for.new.self.laid.items)) (when_some c.in_ok-next.field-0 _ _ c.in-Some.next c.in-Some.is c.in_ok-next.ensures.laid) c.wait_for.ensures.stays

@@ -1,12 +1,12 @@
-use Rattle.std.proofs.Common.{◌∙◌, ◌≡◌, ◌<◌, ℕ, List, [], ◌∷◌, Option, Some, set, slice_get, subst, sym, inl, ⊎_elim, length}
+use Rattle.std.proofs.Common.{arith, ◌∙◌, ◌≡◌, ◌<◌, ℕ, List, [], ◌∷◌, Option, Some, set, slice_get, subst, sym, inl, ⊎_elim, length}
 use Rattle.std.proofs.lemmas.Option.{slice_get_within}
 use Rattle.flow_model.specs.Lists.{◌∈◌}
 use Rattle.flow_form.specs.Script.{Declared}
 use Rattle.flow_expand.specs.declared.lay.Stage.{Stage}
 use Rattle.flow_expand.specs.declared.lay.Stage.TheVariants as stage
-use Rattle.flow_expand.specs.Waiting.{IsPath, IsIdle}
+use Rattle.flow_expand.specs.Waiting.{IsPath, IsIdle, work_left}
 use Rattle.flow_expand.specs.Directory.{decls_of}
-use Rattle.flow_expand.proofs.SettleLemmas.{start_laid, last_none, stays_begun, stays_twice, get_set_same, get_set_cases, laid_begun, seen_kept, stays_at}
+use Rattle.flow_expand.proofs.SettleLemmas.{start_laid, last_none, last_some, stays_begun, stays_twice, get_set_same, get_set_cases, laid_begun, seen_kept, stays_at}
 use Rattle.flow_expand.proofs.settling.Settling.settle.Goals as goal
 
 -- where none waits, the one that begins to wait is the whole path
@@ -66,3 +66,15 @@ returns c =
       start = start_laid (decls_of c.args.directory.now) laid c.loop-flow.path.items c.args.start c.loop-flow.invariant.path none lt c.loop-flow.invariant.begun;
       found = tt;
     }
+
+pub index_mut-requires : goal.index_mut-requires
+index_mut-requires c = omega (arith, slice_get_within c.args.self.now.laid.items c.args.start stage.Unlaid c.requires.unlaid, c.args.self.now.laid.ok.0)
+
+pub advance-requires-clause-last : goal.advance-requires-clause-last
+advance-requires-clause-last c =
+    last_some c.deref.result.now c.loop-flow.path.items c.loop-flow.path.len c.in-Some.flow c.deref.ensures.value c.loop-flow.path.ok.0 (sym c.last.ensures.value ∙ sym c.in-Some.ensures)
+
+pub loop-flow-smaller : goal.loop-flow-smaller
+loop-flow-smaller c =
+    let less : work_left c.advance.new.self.laid.items < work_left c.loop-flow.self.laid.items = omega (arith, c.in_ok-advance.ensures.less) in
+    less
