@@ -239,8 +239,8 @@ pub calls_many : (d : Directory) (calls : List (Vec ℕ Global)) → AreCalls d 
 calls_many d calls h =
     sym (length-map calls (λ (v : Vec ℕ Global). v.items)) ∙ ap length h ∙ length-map d.goals.items (λ (g : Bor Form). calls_in d.flows (names_in (shape_of g.now)))
 
-pub list_at : (d : Directory) (s : Settling) (k : ℕ) (list : Vec ℕ Global) → IsSettling d s → k < length d.goals.items → list ≡ get_or s.calls.items k list → slice_get s.calls.items k ≡ Some list
-list_at d s k list h lt is = slice_get-get_or s.calls.items k list (omega (arith, lt, calls_many d s.calls.items h.calls)) ∙ ap Some (sym is)
+pub list_at : (d : Directory) (s : Settling) (k : ℕ) (list : Vec ℕ Global) → IsSettling d s → k < d.goals.len → list ≡ get_or s.calls.items k list → slice_get s.calls.items k ≡ Some list
+list_at d s k list h lt is = slice_get-get_or s.calls.items k list (omega (arith, lt, d.goals.ok.0, calls_many d s.calls.items h.calls)) ∙ ap Some (sym is)
 
 -- each is a step
 calls_step : (d : Directory) (k i j : ℕ) (list : List ℕ) (n : List ℕ) (s : Shape) → IsDirectory d → slice_get (flows_of (decls_of d)) k ≡ Some (n, s) →
@@ -275,10 +275,10 @@ all_laid laid ahead list ends all j m = let (i, at) = place_of list j m in all i
 
 -- as far as was seen before, and on
 pub seen_to : (d : Directory) (s : Settling) (k start ahead : ℕ) (list : Vec ℕ Global) (called : List ℕ) (laid : List Stage) → IsSettling d s → slice_get s.calls.items k ≡ Some list →
-    k < length s.seen.items → start ≡ get_or s.seen.items k start → called ≡ list.items → laid ≡ s.laid.items →
+    k < d.goals.len → start ≡ get_or s.seen.items k start → called ≡ list.items → laid ≡ s.laid.items →
     ((i j : ℕ) → start ≤ i → i < ahead → slice_get called i ≡ Some j → IsLaidAt laid j) → (i j : ℕ) → i < ahead → slice_get list.items i ≡ Some j → IsLaidAt s.laid.items j
 seen_to d s k start ahead list called laid h at lt is same now more i j below there =
-    ⊎_elim (λ before. h.seen k i j start list at (slice_get-get_or s.seen.items k start lt ∙ ap Some (sym is)) before there)
+    ⊎_elim (λ before. h.seen k i j start list at (slice_get-get_or s.seen.items k start (subst (λ m. k < m) (sym h.counted ∙ s.seen.ok.0) lt) ∙ ap Some (sym is)) before there)
     (λ after. subst (λ l. IsLaidAt l j) now (more i j after below (ap (λ l. slice_get l i) same ∙ there))) (cases_lt i start)
 
 pub seen_moved : (calls : List (Vec ℕ Global)) (seen : List ℕ) (laid : List Stage) (k ahead : ℕ) (list : Vec ℕ Global) → slice_get calls k ≡ Some list →

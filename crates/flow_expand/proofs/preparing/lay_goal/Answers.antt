@@ -23,18 +23,16 @@ pub lay-requires-clause-ready : goal.lay-requires-clause-ready
 lay-requires-clause-ready c =
     let d = c.args.directory.now in
     let s = said c.args.script.now in
-    let many : length d.goals.items ≡ d.goals.len = search rules in
     let laid = c.in_ok-settle_all.ensures.settling.laid in
     subst (λ l. Each (IsReady d l) (names_in s.goal)) (sym c.deref.ensures.value)
-    (all_ready d _ _ laid (λ k lt. c.in_ok-settle_all.ensures.all k (subst (λ n. k < n) many lt)) (names_in s.goal)
+    (all_ready d _ _ laid (λ k lt. c.in_ok-settle_all.ensures.all k (subst (λ n. k < n) (sym d.goals.ok.0) lt)) (names_in s.goal)
     (subst (λ ds. Each (λ n. n ∈ declared_names ds) (names_in s.goal)) (sym c.requires.decls) (goal_declared s c.requires.closed)))
 
 pub returns-in_err-at_most-clause-refused : goal.returns-in_err-at_most-clause-refused
 returns-in_err-at_most-clause-refused c =
     let d = c.args.directory.now in
     let s = said c.args.script.now in
-    let many : length d.goals.items ≡ d.goals.len = search rules in
-    let all = λ (k : ℕ) (lt : k < length d.goals.items). c.in_ok-settle_all.ensures.all k (subst (λ n. k < n) many lt) in
+    let all = λ (k : ℕ) (lt : k < length d.goals.items). c.in_ok-settle_all.ensures.all k (subst (λ n. k < n) (sym d.goals.ok.0) lt) in
     err_to c.from_residual-in_err-at_most.result (λ e. (MOST_LEAVES < c.most.result) × (e ≡ refusal.TooLarge part.Goal c.most.result)) _
     (goal_refusal d _ _ c.in_ok-settle_all.ensures.settling.laid all s c.requires.closed c.requires.decls c.requires.few c.lay.new.layout.items c.in_ok-root.root c.in_ok-root.ensures.ok c.most.result c.most.ensures)
     (search rules)
@@ -43,8 +41,7 @@ pub returns-in_err-at_most-2-clause-refused : goal.returns-in_err-at_most-2-clau
 returns-in_err-at_most-2-clause-refused c =
     let d = c.args.directory.now in
     let s = said c.args.script.now in
-    let many : length d.goals.items ≡ d.goals.len = search rules in
-    let all = λ (k : ℕ) (lt : k < length d.goals.items). c.in_ok-settle_all.ensures.all k (subst (λ n. k < n) many lt) in
+    let all = λ (k : ℕ) (lt : k < length d.goals.items). c.in_ok-settle_all.ensures.all k (subst (λ n. k < n) (sym d.goals.ok.0) lt) in
     let written : c.count_names.result ≡ capped (rule_name_count s) =
     c.count_names.ensures ∙ ap (λ rs. capped (length (names_in_rules (rule_shapes (map rule_shape_of rs))))) c.deref-2.ensures.value ∙ ap (λ l. capped (length l)) (names_in_all s.rules) in
     let fits : c.most.result ≤ MOST_LEAVES = search rules in
@@ -57,8 +54,7 @@ pub returns-clause-ok : goal.returns-clause-ok
 returns-clause-ok c =
     let d = c.args.directory.now in
     let s = said c.args.script.now in
-    let many : length d.goals.items ≡ d.goals.len = search rules in
-    let all = λ (k : ℕ) (lt : k < length d.goals.items). c.in_ok-settle_all.ensures.all k (subst (λ n. k < n) many lt) in
+    let all = λ (k : ℕ) (lt : k < length d.goals.items). c.in_ok-settle_all.ensures.all k (subst (λ n. k < n) (sym d.goals.ok.0) lt) in
     let written : c.count_names.result ≡ capped (rule_name_count s) =
     c.count_names.ensures ∙ ap (λ rs. capped (length (names_in_rules (rule_shapes (map rule_shape_of rs))))) c.deref-2.ensures.value ∙ ap (λ l. capped (length l)) (names_in_all s.rules) in
     let fits : c.most.result ≤ MOST_LEAVES = search rules in

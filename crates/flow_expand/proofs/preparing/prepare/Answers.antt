@@ -19,8 +19,7 @@ pub returns-in_err-at_most-clause-refused : goal.returns-in_err-at_most-clause-r
 returns-in_err-at_most-clause-refused c =
     let d = c.in_ok-directory.directory in
     let same : decls_of d ≡ (said c.args.script.now).decls = ap (map declared) (c.in_ok-directory.ensures.decls ∙ c.deref.ensures.value) in
-    let many : d.goals.len ≡ length d.goals.items = search rules in
-    let count : c.len.result ≡ flow_count (said c.args.script.now) = c.len.ensures ∙ many ∙ names_counted d c.in_ok-directory.ensures.directory ∙ ap (λ ds. length (flow_names ds)) same in
+    let count : c.len.result ≡ flow_count (said c.args.script.now) = c.len.ensures ∙ d.goals.ok.0 ∙ names_counted d c.in_ok-directory.ensures.directory ∙ ap (λ ds. length (flow_names ds)) same in
     err_to c.from_residual-in_err-at_most.result (λ e. (MOST_FLOWS < c.len.result) × (e ≡ refusal.TooLarge part.Flows c.len.result)) _ (λ e h. flows_refusal (said c.args.script.now) c.len.result e count h) (search rules)
 
 pub lay_goal-requires-clause-decls : goal.lay_goal-requires-clause-decls
@@ -30,8 +29,7 @@ pub lay_goal-requires-clause-few : goal.lay_goal-requires-clause-few
 lay_goal-requires-clause-few c =
     let d = c.in_ok-directory.directory in
     let same : decls_of d ≡ (said c.args.script.now).decls = ap (map declared) (c.in_ok-directory.ensures.decls ∙ c.deref.ensures.value) in
-    let many : d.goals.len ≡ length d.goals.items = search rules in
-    let count : c.len.result ≡ flow_count (said c.args.script.now) = c.len.ensures ∙ many ∙ names_counted d c.in_ok-directory.ensures.directory ∙ ap (λ ds. length (flow_names ds)) same in
+    let count : c.len.result ≡ flow_count (said c.args.script.now) = c.len.ensures ∙ d.goals.ok.0 ∙ names_counted d c.in_ok-directory.ensures.directory ∙ ap (λ ds. length (flow_names ds)) same in
     subst (λ n. n ≤ MOST_FLOWS) count c.in_ok-at_most.ensures.ok
 
 pub new-requires-clause-once : goal.new-requires-clause-once

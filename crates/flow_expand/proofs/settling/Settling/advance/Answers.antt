@@ -1,4 +1,4 @@
-use Rattle.std.proofs.Common.{rules, ◌<◌, OnOk, length, subst, sym}
+use Rattle.std.proofs.Common.{◌<◌, OnOk, length, subst, sym, ◌∙◌}
 use Rattle.std.proofs.lemmas.Option.{slice_get_within}
 use Rattle.flow_expand.specs.declared.lay.Stage.TheVariants as stage
 use Rattle.flow_expand.specs.Directory.{decls_of}
@@ -10,7 +10,7 @@ pub attempt-requires-clause-within : goal.attempt-requires-clause-within
 attempt-requires-clause-within c =
     let lt : c.args.flow < length c.args.self.now.laid.items =
     slice_get_within c.args.self.now.laid.items c.args.flow stage.Begun (last_begun (decls_of c.args.directory.now) c.args.self.now.laid.items c.args.path.now.items _ c.args.flow c.requires.path c.requires.last) in
-    search rules
+    subst (λ n. c.args.flow < n) (sym c.args.self.now.laid.ok.0 ∙ c.requires.settling.many) lt
 
 pub returns-in-None : goal.returns-in-None
 returns-in-None c =

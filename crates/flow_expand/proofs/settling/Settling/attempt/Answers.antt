@@ -17,9 +17,9 @@ pub returns-then-is_some-clause-waits : goal.returns-then-is_some-clause-waits
 returns-then-is_some-clause-waits c =
     let d = c.args.directory.now in
     let s = c.args.self.now in
-    let within : c.args.flow < length d.goals.items = search rules in
+    let within : c.args.flow < length d.goals.items = subst (λ n. c.args.flow < n) d.goals.ok.0 c.requires.within in
     let list = c.index.result.now in
-    let at = list_at d s c.args.flow list c.requires.settling within c.index.ensures in
+    let at = list_at d s c.args.flow list c.requires.settling c.requires.within c.index.ensures in
     some_to c.call_at-next.result _ (λ k e.
     let there = ap (λ l. slice_get l c.first_unlaid-ahead.result) (sym c.as_slice-named.ensures.value) ∙ sym c.call_at-next.ensures ∙ e in (
       calls_found d s.calls.items c.args.flow c.first_unlaid-ahead.result k list c.requires.settling.laid.directory c.requires.settling.calls within at there,
@@ -30,11 +30,10 @@ pub lay-requires-clause-ready : goal.lay-requires-clause-ready
 lay-requires-clause-ready c =
     let d = c.args.directory.now in
     let s = c.args.self.now in
-    let within : c.args.flow < length d.goals.items = search rules in
+    let within : c.args.flow < length d.goals.items = subst (λ n. c.args.flow < n) d.goals.ok.0 c.requires.within in
     let list = c.index.result.now in
-    let at = list_at d s c.args.flow list c.requires.settling within c.index.ensures in
-    let counted : c.args.flow < length s.seen.items = search rules in
-    let passed = seen_to d s c.args.flow c.index-2.result.now c.first_unlaid-ahead.result list _ _ c.requires.settling at counted c.index-2.ensures c.as_slice-named.ensures.value c.deref.ensures.value
+    let at = list_at d s c.args.flow list c.requires.settling c.requires.within c.index.ensures in
+    let passed = seen_to d s c.args.flow c.index-2.result.now c.first_unlaid-ahead.result list _ _ c.requires.settling at c.requires.within c.index-2.ensures c.as_slice-named.ensures.value c.deref.ensures.value
     c.first_unlaid-ahead.ensures.passed in
     let f = c.index-3.result.now in
     let h = c.requires.settling.laid.directory in
@@ -50,11 +49,10 @@ pub returns-clause-settling : goal.returns-clause-settling
 returns-clause-settling c =
     let d = c.args.directory.now in
     let s = c.args.self.now in
-    let within : c.args.flow < length d.goals.items = search rules in
+    let within : c.args.flow < length d.goals.items = subst (λ n. c.args.flow < n) d.goals.ok.0 c.requires.within in
     let list = c.index.result.now in
-    let at = list_at d s c.args.flow list c.requires.settling within c.index.ensures in
-    let counted : c.args.flow < length s.seen.items = search rules in
-    let passed = seen_to d s c.args.flow c.index-2.result.now c.first_unlaid-ahead.result list _ _ c.requires.settling at counted c.index-2.ensures c.as_slice-named.ensures.value c.deref.ensures.value
+    let at = list_at d s c.args.flow list c.requires.settling c.requires.within c.index.ensures in
+    let passed = seen_to d s c.args.flow c.index-2.result.now c.first_unlaid-ahead.result list _ _ c.requires.settling at c.requires.within c.index-2.ensures c.as_slice-named.ensures.value c.deref.ensures.value
     c.first_unlaid-ahead.ensures.passed in
     let f = c.index-3.result.now in
     let (n, there) = flow_at d c.requires.settling.laid.directory c.args.flow f within c.index-3.ensures in
@@ -71,11 +69,9 @@ pub returns-then-is_some-clause-settling : goal.returns-then-is_some-clause-sett
 returns-then-is_some-clause-settling c =
     let d = c.args.directory.now in
     let s = c.args.self.now in
-    let within : c.args.flow < length d.goals.items = search rules in
     let list = c.index.result.now in
-    let at = list_at d s c.args.flow list c.requires.settling within c.index.ensures in
-    let counted : c.args.flow < length s.seen.items = search rules in
-    let passed = seen_to d s c.args.flow c.index-2.result.now c.first_unlaid-ahead.result list _ _ c.requires.settling at counted c.index-2.ensures c.as_slice-named.ensures.value c.deref.ensures.value
+    let at = list_at d s c.args.flow list c.requires.settling c.requires.within c.index.ensures in
+    let passed = seen_to d s c.args.flow c.index-2.result.now c.first_unlaid-ahead.result list _ _ c.requires.settling at c.requires.within c.index-2.ensures c.as_slice-named.ensures.value c.deref.ensures.value
     c.first_unlaid-ahead.ensures.passed in
     record {
       laid = c.requires.settling.laid;

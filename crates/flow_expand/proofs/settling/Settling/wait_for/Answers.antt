@@ -1,4 +1,4 @@
-use Rattle.std.proofs.Common.{rules, arith, ◌≡◌, ◌∙◌, ap, sym, subst, slice_get, get_or, set, Some, None, length}
+use Rattle.std.proofs.Common.{arith, ◌≡◌, ◌∙◌, ap, sym, subst, slice_get, get_or, set, Some, None, length}
 use Rattle.std.proofs.lemmas.Option.{slice_get-get_or, slice_get_within}
 use Rattle.flow_expand.specs.declared.lay.Stage.TheVariants as stage
 use Rattle.flow_expand.specs.Directory.{decls_of}
@@ -30,7 +30,7 @@ returns-in_ok-push-in-Some-Unlaid c =
 pub chain_of-requires-clause-back : goal.chain_of-requires-clause-back
 chain_of-requires-clause-back c =
     let s = c.args.self.now in
-    let count : length s.laid.items ≡ length c.args.directory.now.goals.items = search rules in
+    let count : length s.laid.items ≡ length c.args.directory.now.goals.items = sym s.laid.ok.0 ∙ c.requires.settling.many ∙ c.args.directory.now.goals.ok.0 in
     let at : slice_get s.laid.items c.args.next ≡ Some stage.Begun = ap (λ l. slice_get l c.args.next) (sym c.deref.ensures.value) ∙ sym c.in-Some-Begun.ensures ∙ ap Some c.in-Some-Begun.field-0-is in
     subst (λ l. ComesBack (decls_of c.args.directory.now) l c.args.flow c.args.next) (sym c.deref-in-Some-Begun.ensures.value) (record {
       steps = c.requires.path.steps;
@@ -46,7 +46,7 @@ unreachable-requires-in-None c =
     let d = c.args.directory.now in
     let laid = c.args.self.now.laid.items in
     let within = flows_below d c.requires.settling.laid.directory c.args.next c.requires.step.other c.requires.step.others c.requires.step.second in
-    let count : length laid ≡ length d.goals.items = search rules in
+    let count : length laid ≡ length d.goals.items = sym c.args.self.now.laid.ok.0 ∙ c.requires.settling.many ∙ d.goals.ok.0 in
     let some = slice_get-get_or laid c.args.next stage.Unlaid (omega (arith, within, count)) in
     let both : Some (get_or laid c.args.next stage.Unlaid) ≡ None = sym some ∙ ap (λ l. slice_get l c.args.next) (sym c.deref.ensures.value) ∙ sym c.stage_of.ensures ∙ c.in-None.is in
     cc
