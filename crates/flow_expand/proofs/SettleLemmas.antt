@@ -22,7 +22,7 @@ use Rattle.flow_expand.specs.declared.lay.Stage.{Stage}
 use Rattle.flow_expand.specs.Steps.{flows_of, flow_names, IsStep, LeadsTo, IsRecursion}
 use Rattle.flow_expand.specs.Directory.{decls_of, IsDirectory, found_in}
 use Rattle.flow_expand.specs.Laid.{Goes, IsLaid, IsLaidAt}
-use Rattle.flow_expand.specs.Waiting.{NumberStep, AreSteps, IsPath, Stays, weight, work_left, ComesBack, name_at}
+use Rattle.flow_expand.specs.Waiting.{NumberStep, AreSteps, IsPath, IsIdle, Stays, weight, work_left, ComesBack, name_at}
 use Rattle.flow_expand.specs.declared.settling.Settling.{Settling}
 use Rattle.flow_expand.specs.Calls.{calls_in, AreCalls, AreSeen, IsSettling}
 use Rattle.flow_expand.specs.declared.lay.Stage.TheVariants as stage
@@ -193,14 +193,15 @@ done decls old new path shorter front last (root, e) h is less =
     at : slice_get old last ≡ Some stage.Begun
     at = last_begun decls old path front last h is
 
-pub start_laid : (decls : List Declared) (laid : List Stage) (path : List ℕ) (k : ℕ) → IsPath decls laid path → path ≡ [] → k < length laid → ¬ (slice_get laid k ≡ Some stage.Unlaid) → IsLaidAt laid k
-start_laid decls laid path k h none lt begun = go (slice_get laid k) refl
+-- where none waits, each is unlaid or laid
+pub settled : (laid : List Stage) (k : ℕ) → IsIdle laid → k < length laid → (slice_get laid k ≡ Some stage.Unlaid) ⊎ IsLaidAt laid k
+settled laid k idle lt = go (slice_get laid k) refl
   where
-    go : (o : Option Stage) → slice_get laid k ≡ o → IsLaidAt laid k
+    go : (o : Option Stage) → slice_get laid k ≡ o → (slice_get laid k ≡ Some stage.Unlaid) ⊎ IsLaidAt laid k
     go None e = let f : Some (get_or laid k stage.Unlaid) ≡ None = sym (slice_get-get_or laid k stage.Unlaid lt) ∙ e in absurd (cc)
-    go (Some stage.Unlaid) e = absurd (begun e)
-    go (Some stage.Begun) e = let m : k ∈ [] = subst (λ l. k ∈ l) none (h.only k e) in absurd m
-    go (Some (stage.Laid root)) e = (root, e)
+    go (Some stage.Unlaid) e = inl e
+    go (Some stage.Begun) e = absurd (idle k e)
+    go (Some (stage.Laid root)) e = inr (root, e)
 
 pub stays_at : (old new : List Stage) (k : ℕ) → Stays old new → IsLaidAt old k → IsLaidAt new k
 stays_at old new k h (root, e) = (root, h.laid k root e)

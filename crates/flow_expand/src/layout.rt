@@ -1,4 +1,4 @@
-ghost use Rattle.std.specs.Prelude.{◌≡◌, ◌∷◌, [], ◌++◌, List, length, IfOk, is_ok, if◌then◌else◌, ℕ};
+ghost use Rattle.std.specs.Prelude.{◌≡◌, ◌∷◌, [], ◌++◌, List, length, IfOk, ℕ};
 ghost use Rattle.flow_model.specs.Lists.{Begins};
 ghost use Rattle.flow_expand.specs.Expansion.{Expansion, alone};
 ghost use Rattle.flow_expand.specs.Layout.{IsRoot, IsPlain, paired, label_of};
@@ -60,14 +60,14 @@ pub(crate) struct Root {
     pub(crate) size: Size,
 }
 
-/// Puts one more piece into the layout.
-fn put<'a>(layout: &mut Layout<'a>, piece: Piece<'a>) -> Result<usize, AllocError>
-    ensures at { IfOk result (λ place. place ≡ length layout.old.items) }
-    ensures items { layout.new.items ≡ (if is_ok result then layout.old.items ++ piece.entry ∷ [] else layout.old.items) }
+/// Puts one more piece into the layout, the root of a goal of that size.
+fn put<'a>(layout: &mut Layout<'a>, piece: Piece<'a>, size: Size) -> Result<Root, AllocError>
+    ensures grown { Begins layout.new.items layout.old.items }
+    ensures ok { IfOk result (λ root. (layout.new.items ≡ layout.old.items ++ piece.entry ∷ []) × (root.place ≡ length layout.old.items) × (root.size ≡ size)) }
 {
     let place = layout.len();
     layout.push(piece)?;
-    Ok(place)
+    Ok(Root { place, size })
 }
 
 /// Puts in a leaf or nothing.
@@ -75,11 +75,7 @@ pub(crate) fn put_end<'a>(layout: &mut Layout<'a>, piece: Piece<'a>) -> Result<R
     ensures grown { Begins layout.new.items layout.old.items }
     ensures ok { IfOk result (λ root. (events : List (List ℕ)) (e : Expansion) → IsPlain events piece.entry e → IsRoot layout.new.items events e root) }
 {
-    let place = put(layout, piece)?;
-    Ok(Root {
-        place,
-        size: Size::END,
-    })
+    put(layout, piece, Size::END)
 }
 
 /// Puts in a goal isolated.
@@ -87,11 +83,7 @@ pub(crate) fn put_isolated(layout: &mut Layout<'_>, root: Root) -> Result<Root, 
     ensures grown { Begins layout.new.items layout.old.items }
     ensures ok { IfOk result (λ whole. (events : List (List ℕ)) (e : Expansion) → IsRoot layout.old.items events e root → IsRoot layout.new.items events (alone e) whole) }
 {
-    let place = put(layout, Piece::Iso(root.place))?;
-    Ok(Root {
-        place,
-        size: root.size.isolated(),
-    })
+    put(layout, Piece::Iso(root.place), root.size.isolated())
 }
 
 /// Puts in two goals together.
@@ -105,9 +97,9 @@ pub(crate) fn put_both(
     ensures ok { IfOk result (λ whole. (events : List (List ℕ)) (a b : Expansion) → IsRoot layout.old.items events a left
         → IsRoot layout.old.items events b right → IsRoot layout.new.items events (paired how a b) whole) }
 {
-    let place = put(layout, Piece::Pair(how, left.place, right.place))?;
-    Ok(Root {
-        place,
-        size: left.size.with(right.size),
-    })
+    put(
+        layout,
+        Piece::Pair(how, left.place, right.place),
+        left.size.with(right.size),
+    )
 }

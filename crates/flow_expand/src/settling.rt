@@ -180,30 +180,6 @@ impl<'a> Settling<'a> {
         Ok(())
     }
 
-    /// Lays a sub-workflow, unless it is laid.
-    fn settle_one(
-        &mut self,
-        alloc: Global,
-        directory: &Directory<'a>,
-        flow: usize,
-    ) -> Result<(), ExpandRefusal>
-        requires within { flow < vec_len directory.now.goals }
-        requires settling { IsSettling directory.now self.old }
-        requires idle { IsIdle self.old.laid.items }
-        ensures settling { OnOk result (IsSettling directory.now self.new) }
-        ensures idle { OnOk result (IsIdle self.new.laid.items) }
-        ensures stays { OnOk result (Stays self.old.laid.items self.new.laid.items) }
-        ensures flow { OnOk result (IsLaidAt self.new.laid.items flow) }
-        ensures found { IfErr result (IsFound (decls_of directory.now)) }
-    {
-        match stage_of(&self.laid, flow) {
-            Some(Stage::Unlaid) => self.settle(alloc, directory, flow),
-            Some(Stage::Laid(_)) => Ok(()),
-            Some(Stage::Begun) => unreachable!(),
-            None => unreachable!(),
-        }
-    }
-
     /// Lays every sub-workflow.
     pub(crate) fn settle_all(
         &mut self,
@@ -217,7 +193,9 @@ impl<'a> Settling<'a> {
         ensures found { IfErr result (IsFound (decls_of directory.now)) }
     {
         for flow in 0..directory.goals.len() {
-            self.settle_one(alloc, directory, flow)?;
+            if !is_laid(&self.laid, flow) {
+                self.settle(alloc, directory, flow)?;
+            }
         }
         Ok(())
     }

@@ -1,6 +1,5 @@
-use Rattle.std.proofs.Common.{refl}
-use Rattle.flow_expand.proofs.LayLemmas.{end_root}
+use Rattle.flow_expand.proofs.LayLemmas.{end_root, ok_to}
 use Rattle.flow_expand.proofs.layout.put_end.Goals as goal
 
 pub returns-clause-ok : goal.returns-clause-ok
-returns-clause-ok c = end_root _ _ c.args.piece _ c.in_ok-place.ensures.items c.in_ok-place.ensures.at refl
+returns-clause-ok c = ok_to c.put.result _ _ (λ root h. end_root _ _ c.args.piece root h.0 h.1 h.2) c.put.ensures.ok

@@ -6,7 +6,7 @@ use Rattle.flow_expand.specs.declared.lay.Stage.{Stage}
 use Rattle.flow_expand.specs.declared.lay.Stage.TheVariants as stage
 use Rattle.flow_expand.specs.Waiting.{IsPath, IsIdle, work_left}
 use Rattle.flow_expand.specs.Directory.{decls_of}
-use Rattle.flow_expand.proofs.SettleLemmas.{start_laid, last_none, last_some, stays_begun, stays_twice, get_set_same, get_set_cases, laid_begun, seen_kept, stays_at}
+use Rattle.flow_expand.proofs.SettleLemmas.{settled, last_none, last_some, stays_begun, stays_twice, get_set_same, get_set_cases, laid_begun, seen_kept, stays_at}
 use Rattle.flow_expand.proofs.settling.Settling.settle.Goals as goal
 
 -- where none waits, the one that begins to wait is the whole path
@@ -59,11 +59,12 @@ returns c =
     let none : c.loop-flow.path.items ≡ [] = sym c.deref.ensures.value ∙ last_none c.deref.result.now (sym c.last.ensures.value ∙ sym c.in_default.ensures) in
     let lt : c.args.start < length laid =
     subst (λ n. c.args.start < n) (sym c.loop-flow.invariant.stays.as_many) (slice_get_within c.args.self.now.laid.items c.args.start stage.Unlaid c.requires.unlaid) in
+    let idle : IsIdle laid = λ k at. absurd (subst (λ path. k ∈ path) none (c.loop-flow.invariant.path.only k at)) in
     record {
       settling = c.loop-flow.invariant.settling;
-      idle = λ k at. absurd (subst (λ path. k ∈ path) none (c.loop-flow.invariant.path.only k at));
+      idle = idle;
       stays = c.loop-flow.invariant.stays;
-      start = start_laid (decls_of c.args.directory.now) laid c.loop-flow.path.items c.args.start c.loop-flow.invariant.path none lt c.loop-flow.invariant.begun;
+      start = ⊎_elim (λ unlaid. absurd (c.loop-flow.invariant.begun unlaid)) (λ there. there) (settled laid c.args.start idle lt);
       found = tt;
     }
 
