@@ -1,5 +1,5 @@
 -- Goals in a layout that grows, and what is written there.
-use Rattle.std.proofs.Common.{◌≡◌, ℕ, ◌+◌, ◌<◌, List, [], ◌∷◌, ◌++◌, length, slice_get, Some, refl, sym, ap, ◌∙◌, subst, arith, map, fold, get_or, take, Option, None, inl, inr, ⊎_elim, Box, Vec, Global, Result, Ok, Err}
+use Rattle.std.proofs.Common.{◌≡◌, ℕ, ◌+◌, ◌<◌, List, [], ◌∷◌, ◌++◌, length, slice_get, Some, refl, sym, ap, ◌∙◌, subst, arith, map, fold, get_or, take, Option, None, inl, inr, ⊎_elim, Box, Global, Result, Ok, Err}
 use Rattle.std.proofs.lemmas.Option.{slice_get_within}
 use Rattle.std.specs.Prelude.{MatchOption}
 use Rattle.std.specs.Result.{IfOk}
@@ -9,10 +9,10 @@ use Rattle.flow_model.specs.Lists.{◌∈◌, Begins, Each}
 use Rattle.flow_laws.proofs.Shuffles.{of_shuffle}
 use Rattle.flow_facts.specs.Atom.{Atom}
 use Rattle.flow_facts.proofs.Places.{at_end}
-use Rattle.flow_form.specs.declared.form.Form.{Form, Nop, Name, Test, Absent, Ins, Del, Iso, Serial, Beside, Either}
-use Rattle.flow_form.specs.declared.form.Form.TheVariants.{rolls-Nop, rolls-Name, rolls-Test, rolls-Absent, rolls-Ins, rolls-Del, rolls-Iso, rolls-Serial, rolls-Beside, rolls-Either}
+use Rattle.flow_form.specs.declared.form.Form.{Form, Nop, Test, Absent, Ins, Del, Iso}
+use Rattle.flow_form.specs.declared.form.Form.TheVariants.{rolls-Nop, rolls-Test, rolls-Absent, rolls-Ins, rolls-Del, rolls-Iso}
 use Rattle.flow_form.specs.declared.form.Form.TheFolds.{fold-roll-Form}
-use Rattle.flow_form.specs.Form.{Shape, Shapes, shapes, shape_of, shape_step, no_more, nop, named, test, absent, ins, del, iso, serial, beside, either}
+use Rattle.flow_form.specs.Form.{Shape, Shapes, shapes, shape_of, shape_step, no_more, nop, named, test, absent, ins, del, iso}
 use Rattle.flow_form.specs.Script.{Declared}
 use Rattle.flow_form.specs.Names.{event_names, declared_names}
 use Rattle.flow_form.specs.declared.form.Form.TheOpen as open_form
@@ -314,18 +314,6 @@ shape_of-Del f a e = ap shape_of (e ∙ sym (rolls-Del a)) ∙ fold-roll-Form Sh
 
 pub shape_of-Iso : (f : Form) (part : Box Form Global) → f ≡ Iso part → shape_of f ≡ iso (shape_of part.value)
 shape_of-Iso f part e = ap shape_of (e ∙ sym (rolls-Iso part)) ∙ fold-roll-Form Shape shape_step (open_form.Iso part)
-
-pub shape_of-Name : (f : Form) (n : List ℕ) → f ≡ Name n → shape_of f ≡ named n
-shape_of-Name f n e = ap shape_of (e ∙ sym (rolls-Name n)) ∙ fold-roll-Form Shape shape_step (open_form.Name n)
-
-pub shape_of-Serial : (f : Form) (parts : Vec Form Global) (forms : List Form) → f ≡ Serial parts → forms ≡ parts.items → shape_of f ≡ serial (shapes (map shape_of forms))
-shape_of-Serial f parts forms e same = ap shape_of (e ∙ sym (rolls-Serial parts)) ∙ fold-roll-Form Shape shape_step (open_form.Serial parts) ∙ ap (λ l. serial (shapes (map shape_of l))) (sym same)
-
-pub shape_of-Beside : (f : Form) (parts : Vec Form Global) (forms : List Form) → f ≡ Beside parts → forms ≡ parts.items → shape_of f ≡ beside (shapes (map shape_of forms))
-shape_of-Beside f parts forms e same = ap shape_of (e ∙ sym (rolls-Beside parts)) ∙ fold-roll-Form Shape shape_step (open_form.Beside parts) ∙ ap (λ l. beside (shapes (map shape_of l))) (sym same)
-
-pub shape_of-Either : (f : Form) (parts : Vec Form Global) (forms : List Form) → f ≡ Either parts → forms ≡ parts.items → shape_of f ≡ either (shapes (map shape_of forms))
-shape_of-Either f parts forms e same = ap shape_of (e ∙ sym (rolls-Either parts)) ∙ fold-roll-Form Shape shape_step (open_form.Either parts) ∙ ap (λ l. either (shapes (map shape_of l))) (sym same)
 
 pub list_step : (decls : List Declared) (layout : List Piece) (by : Pairing) (forms : List Form) (i : ℕ) (item : Form) (root : Root) → i < length forms → item ≡ get_or forms i item →
     ListGoes decls layout by (map shape_of (take i forms) ++ shape_of item ∷ []) root → ListGoes decls layout by (map shape_of (take (i + 1) forms)) root

@@ -3,13 +3,10 @@ use Rattle.std.proofs.Common.{◌≡◌, ℕ, List, [], ◌∷◌, map, refl, sy
 use Rattle.flow_form.specs.declared.rule_form.RuleForm as form
 use Rattle.flow_form.specs.declared.rule_form.RuleForm.{RuleForm}
 use Rattle.flow_form.specs.declared.rule_form.RuleForm.TheOpen as open_rule
-use Rattle.flow_form.specs.declared.rule_form.RuleForm.TheVariants.{rolls-Order, rolls-And, rolls-Or}
+use Rattle.flow_form.specs.declared.rule_form.RuleForm.TheVariants.{rolls-And, rolls-Or}
 use Rattle.flow_form.specs.declared.rule_form.RuleForm.TheFolds.{fold-roll-RuleForm}
-use Rattle.flow_form.specs.RuleForm.{RuleShape, order, all, any, rule_step, rule_shape_of, rule_shapes}
+use Rattle.flow_form.specs.RuleForm.{RuleShape, all, any, rule_step, rule_shape_of, rule_shapes}
 use Rattle.flow_expand.specs.Constraints.{constraint_of, constraints_of}
-
-pub shape_of-Order : (names : Vec (List ℕ) Global) → rule_shape_of (form.Order names) ≡ order names.items
-shape_of-Order names = ap rule_shape_of (sym (rolls-Order names)) ∙ fold-roll-RuleForm RuleShape rule_step (open_rule.Order names)
 
 pub shape_of-And : (parts : Vec RuleForm Global) → rule_shape_of (form.And parts) ≡ all (rule_shapes (map rule_shape_of parts.items))
 shape_of-And parts = ap rule_shape_of (sym (rolls-And parts)) ∙ fold-roll-RuleForm RuleShape rule_step (open_rule.And parts)

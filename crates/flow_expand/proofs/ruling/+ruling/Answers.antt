@@ -1,13 +1,11 @@
-use Rattle.std.proofs.Common.{ℕ, List, subst, ◌≡◌, ◌+◌, ◌++◌, ◌∷◌, [], get_or, map, take, sym, ap, ◌∙◌}
-use Rattle.std.proofs.lemmas.List.{map_push, map_more, take_all}
-use Rattle.flow_model.specs.Lists.{◌∈◌, Each}
+use Rattle.std.proofs.Common.{◌≡◌, ◌+◌, ◌++◌, ◌∷◌, [], get_or, map, take, sym, ap, ◌∙◌}
+use Rattle.std.proofs.lemmas.List.{map_push, map_more}
 use Rattle.flow_model.specs.Constraint.{all_of}
 use Rattle.flow_form.specs.RuleForm.{rule_shape_of, rule_shapes}
-use Rattle.flow_form.specs.Names.{names_in_rule}
 use Rattle.flow_rules.specs.Rule.{any_of, rule_of}
 use Rattle.flow_rules.proofs.RuleViews.{rule_of-And, rule_of-Or}
 use Rattle.flow_expand.specs.Constraints.{constraint_of, constraints_of}
-use Rattle.flow_expand.proofs.RulingLemmas.{constraints_of-shapes, shape_of-Order, shape_of-And, shape_of-Or}
+use Rattle.flow_expand.proofs.RulingLemmas.{constraints_of-shapes, shape_of-And, shape_of-Or}
 use Rattle.flow_expand.proofs.ruling.+ruling.Goals as goal
 
 pub rule_of-returns-in_ok-rules_of-in-And : goal.rule_of-returns-in_ok-rules_of-in-And
@@ -35,12 +33,3 @@ rules_of-loop-place-preserved t c =
     ap (map rule_of) c.in_ok-push.ensures.items ∙ map_push rule_of made rule ∙ (λ t. before t ++ same t ∷ [])
     ∙ sym (ap (map (constraint_of events)) (map_more rule_shape_of forms i item c.loop-place-test.true) ∙ map_push (constraint_of events) (map rule_shape_of (take i forms)) (rule_shape_of (get_or forms i item)))
     ∙ sym (constraints_of-shapes events (map rule_shape_of (take (i + 1) forms)))
-
-pub rule_of-numbers_of-requires : goal.rule_of-numbers_of-requires
-rule_of-numbers_of-requires t c =
-    subst (Each (λ (n : List ℕ). n ∈ c.args.workflow.now.events)) (sym c.deref.ensures.value)
-    (subst (λ s. Each (λ (n : List ℕ). n ∈ c.args.workflow.now.events) (names_in_rule s)) (ap rule_shape_of c.in-Order.is ∙ shape_of-Order c.in-Order.names) c.requires)
-
-pub rules_of-returns : goal.rules_of-returns
-rules_of-returns t c =
-    c.loop-place.invariant ∙ ap (λ l. constraints_of c.args.workflow.now.events (rule_shapes (map rule_shape_of l))) (take_all c.loop-place.place c.args.forms.now c.loop-place-test.false)
