@@ -1,7 +1,8 @@
-use Rattle.std.proofs.Common.{◌≡◌, [], ◌++◌, ◌+◌, ◌<◌, ◌≤◌, ◌-◌, ℕ, List, length, map, take, drop, get_or, ap, sym, subst, ◌∙◌}
+use Rattle.std.proofs.Common.{◌≡◌, [], ◌++◌, ◌+◌, ◌<◌, ◌≤◌, ◌-◌, ℕ, List, length, map, take, drop, get_or, ap, sym, subst, ◌∙◌, arith}
 use Rattle.std.specs.Prelude.{All}
 use Rattle.std.proofs.lemmas.List.Elements.{All-take, All-drop}
-use Rattle.std.proofs.lemmas.List.{take_rest}
+use Rattle.std.proofs.lemmas.List.{take_rest, length-drop}
+use Rattle.std.proofs.lemmas.Option.{slice_get_within}
 use Rattle.flow_expand.specs.Directory.{decls_of}
 use Rattle.flow_expand.specs.Steps.{flow_names}
 use Rattle.flow_expand.proofs.Declarations.{distinct_flows}
@@ -42,3 +43,12 @@ pub push_names-requires-2 : goal.push_names-requires-2
 push_names-requires-2 c =
     All-take (λ k. k < length c.as_slice-names.result.now) (c.place_of_least-least.result + 1) _
     (ring_within _ _ c.args.path.now c.place_of.result (c.as_slice-names.ensures.keys ∙ c.requires.directory.flows) c.requires.back.within)
+
+pub place_of-requires : goal.place_of-requires
+place_of-requires c = c.requires.back.there
+
+pub place_of_least-least-requires : goal.place_of_least-least-requires
+place_of_least-least-requires c =
+    let path = c.args.path.now in
+    let p = c.place_of.result in
+    subst (λ l. 0 < length l) (sym (take_rest path p)) (omega (arith, length-drop p path, slice_get_within path p c.args.next c.place_of.ensures))

@@ -5,6 +5,8 @@ use Rattle.flow_expand.specs.declared.refusal.ExpandRefusal.TheVariants as refus
 use Rattle.flow_expand.specs.declared.refusal.Part.TheVariants as part
 use Rattle.flow_expand.specs.Directory.{decls_of}
 use Rattle.flow_expand.specs.Steps.{flow_names, AreDeclared}
+use Rattle.flow_model.specs.Lists.{AreDistinct}
+use Rattle.flow_form.specs.Names.{declared_names, event_names}
 use Rattle.flow_expand.specs.Refusals.{flow_count}
 use Rattle.flow_expand.proofs.Declarations.{goals_declared, names_counted}
 use Rattle.flow_expand.proofs.PrepareLemmas.{err_to, flows_refusal}
@@ -29,3 +31,9 @@ lay_goal-requires-clause-few c =
     let same : decls_of d ≡ (said c.args.script.now).decls = ap (map declared) (c.in_ok-directory.ensures.decls ∙ c.deref.ensures.value) in
     let count : c.len.result ≡ flow_count (said c.args.script.now) = c.len.ensures ∙ d.goals.ok.0 ∙ names_counted d c.in_ok-directory.ensures.directory ∙ ap (λ ds. length (flow_names ds)) same in
     subst (λ n. n ≤ MOST_FLOWS) count c.in_ok-at_most.ensures.ok
+
+pub new-requires-clause-once : goal.new-requires-clause-once
+new-requires-clause-once c = subst (λ ds. AreDistinct (declared_names (map declared ds))) (sym c.deref.ensures.value) c.requires.closed.once
+
+pub new-requires-clause-events : goal.new-requires-clause-events
+new-requires-clause-events c = c.requires.events ∙ ap (λ ds. event_names (map declared ds)) (sym c.deref.ensures.value)
