@@ -142,13 +142,9 @@ parallel_laid a b old fork one split two new f p s q j =
     (laid_more half (lines_in b) old split two
     (laid_more first (mark Split ∷ []) old one split (laid_more (mark Fork ∷ []) (lines_in a) old fork one f p) s) q) j)
 
-pub choice_laid : (a b : Process) (old new begun_a left begun_b right : Draft) → lines_of begun_a.before ≡ nothing ∷ [] → line_of begun_a.last ≡ nothing →
-    lines_of begun_b.before ≡ nothing ∷ [] → line_of begun_b.last ≡ nothing → Laid a begun_a left → Laid b begun_b right →
-    Lays (drafted left ++ drafted right) old new → Laid (Choice a b) old new
-choice_laid a b old new begun_a left begun_b right before_a last_a before_b last_b p q h =
-    subst (λ ls. Lays ls old new)
-    ((λ i. laid_first begun_a left (lines_in a) before_a last_a p i ++ laid_first begun_b right (lines_in b) before_b last_b q i)
-    ∙ sym (map-append line (resolutions a) (resolutions b))) h
+pub choice_laid : (a b : Process) (old new : Draft) (left right : List Line) → left ≡ lines_in a → right ≡ lines_in b → Lays (left ++ right) old new → Laid (Choice a b) old new
+choice_laid a b old new left right e f h =
+    subst (λ ls. Lays ls old new) ((λ i. e i ++ f i) ∙ sym (map-append line (resolutions a) (resolutions b))) h
 
 pub isolated_laid : (a : Process) (old mid next new : Draft) → Lays (mark Open ∷ []) old mid → Laid a mid next → Lays (mark Close ∷ []) next new → Laid (Isolated a) old new
 isolated_laid a old mid next new p q r =

@@ -94,13 +94,13 @@ impl Draft {
     }
 
     /// One of the two comes next.
-    fn choose(&mut self, alloc: Global, left: Draft, right: Draft) -> Result<(), AllocError>
+    fn choose(&mut self, alloc: Global, left: Pattern, right: Pattern) -> Result<(), AllocError>
         requires before { IsCounted self.old.before }
-        requires left { IsCounted left.before }
-        requires right { IsCounted right.before }
-        ensures { OnOk result (Lays (drafted left ++ drafted right) self.old self.new) }
+        requires left { IsCounted left }
+        requires right { IsCounted right }
+        ensures { OnOk result (Lays (lines_of left ++ lines_of right) self.old self.new) }
     {
-        let sides = either(alloc, left.finish(alloc)?, right.finish(alloc)?)?;
+        let sides = either(alloc, left, right)?;
         let front = match mem::replace(self, Draft::new(alloc)).finish(alloc) {
             Ok(front) => front,
             Err(refused) => {
@@ -114,6 +114,7 @@ impl Draft {
 }
 
 /// Puts the resolutions of a goal behind what is drafted.
+#[cycle(laying)]
 fn lay(alloc: Global, goal: &Goal, draft: &mut Draft) -> Result<(), AllocError>
     requires { IsCounted draft.old.before }
     ensures { OnOk result (Lays (lines_in (process_of goal.now)) draft.old draft.new) }
@@ -134,11 +135,14 @@ fn lay(alloc: Global, goal: &Goal, draft: &mut Draft) -> Result<(), AllocError>
             draft.put(Node::Join)
         }
         Goal::Either(left, right) => {
-            let mut first = Draft::new(alloc);
-            lay(alloc, left, &mut first)?;
-            let mut second = Draft::new(alloc);
-            lay(alloc, right, &mut second)?;
-            draft.choose(alloc, first, second)
+            let left = pattern_of(alloc, left)?;
+            match pattern_of(alloc, right) {
+                Ok(right) => draft.choose(alloc, left, right),
+                Err(refused) => {
+                    drop(left);
+                    Err(refused)
+                }
+            }
         }
         Goal::Iso(part) => {
             draft.put(Node::Open)?;
@@ -149,11 +153,17 @@ fn lay(alloc: Global, goal: &Goal, draft: &mut Draft) -> Result<(), AllocError>
 }
 
 /// The resolutions of a goal. It walks the goal once.
+#[cycle(laying)]
 pub(crate) fn pattern_of(alloc: Global, goal: &Goal) -> Result<Pattern, AllocError>
     ensures counted { IfOk result IsCounted }
     ensures lines { IfOk result (λ new. lines_of new ≡ lines_in (process_of goal.now)) }
 {
     let mut draft = Draft::new(alloc);
-    lay(alloc, goal, &mut draft)?;
-    draft.finish(alloc)
+    match lay(alloc, goal, &mut draft) {
+        Ok(()) => draft.finish(alloc),
+        Err(refused) => {
+            drop(draft);
+            Err(refused)
+        }
+    }
 }

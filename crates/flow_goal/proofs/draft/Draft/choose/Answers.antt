@@ -1,4 +1,4 @@
-use Rattle.std.proofs.Common.{◌++◌, ◌∙◌, ap}
+use Rattle.std.proofs.Common.{◌∙◌, ap}
 use Rattle.flow_model.specs.Lists.{each_with_each}
 use Rattle.flow_goal.specs.declared.draft.Draft.{Draft}
 use Rattle.flow_goal.specs.Patterns.{drafted, line_of, then}
@@ -7,8 +7,7 @@ use Rattle.flow_goal.proofs.draft.Draft.choose.Goals as goal
 
 pub returns : goal.returns
 returns c =
-    let sides = c.in_ok-sides.ensures.lines ∙ (λ i. c.in_ok-finish.ensures.lines i ++ c.in_ok-finish-2.ensures.lines i) in
     let front = c.in-Ok.ensures.lines ∙ ap drafted c.replace.ensures.value in
     chosen c.args.self.now (record { before = c.in_ok-self.field-0; last = c.replace.new.dest.last }) _ c.in_ok-self.ensures.counted
-    (c.in_ok-self.ensures.lines ∙ (λ i. each_with_each then (front i) (sides i)))
+    (c.in_ok-self.ensures.lines ∙ (λ i. each_with_each then (front i) (c.in_ok-sides.ensures.lines i)))
     (ap (λ (d : Draft). line_of d.last) c.replace.ensures.after ∙ c.new.ensures.last)

@@ -1,21 +1,22 @@
-use Rattle.std.proofs.Common.{sym, subst}
+use Rattle.std.proofs.Common.{◌∙◌, ap, sym, subst}
+use Rattle.std.proofs.lemmas.Result.{IfOk-weaker}
 use Rattle.flow_goal.specs.declared.goal.Goal.{Goal}
 use Rattle.flow_goal.specs.Goal.{process_of}
 use Rattle.flow_goal.specs.Patterns.{Lays, lines_in}
-use Rattle.flow_goal.proofs.PatternLemmas.{isolated_laid, parallel_laid, sequence_laid, choice_laid}
+use Rattle.flow_goal.proofs.PatternLemmas.{choice_laid, isolated_laid, laid_first, parallel_laid, sequence_laid}
 use Rattle.flow_goal.proofs.Writing.{ok_taken}
-use Rattle.flow_goal.proofs.draft.+lay.Goals as goal
+use Rattle.flow_goal.proofs.draft.+laying.Goals as goal
 
-pub returns-in_ok-lay-in-Serial-2 : goal.returns-in_ok-lay-in-Serial-2
-returns-in_ok-lay-in-Serial-2 t c =
+pub lay-returns-in_ok-lay-in-Serial-2 : goal.lay-returns-in_ok-lay-in-Serial-2
+lay-returns-in_ok-lay-in-Serial-2 t c =
     ok_taken c.put-in-Serial.result _ _ c.put-in-Serial.ensures
     (λ h. subst (λ (g : Goal). Lays (lines_in (process_of g)) c.args.draft.now c.put-in-Serial.new.self) (sym c.in-Serial.is)
     (sequence_laid (process_of c.in-Serial.left.value) (process_of c.in-Serial.right.value) c.args.draft.now c.lay.new.draft c.lay-in-Serial.new.draft c.put-in-Serial.new.self
     (subst (λ (g : Goal). Lays (lines_in (process_of g)) c.args.draft.now c.lay.new.draft) c.deref.ensures c.in_ok-lay-in-Serial.ensures)
     (subst (λ (g : Goal). Lays (lines_in (process_of g)) c.lay.new.draft c.lay-in-Serial.new.draft) c.deref-in-Serial.ensures c.in_ok-lay-in-Serial-2.ensures) h))
 
-pub returns-in_ok-lay-in-Beside-2 : goal.returns-in_ok-lay-in-Beside-2
-returns-in_ok-lay-in-Beside-2 t c =
+pub lay-returns-in_ok-lay-in-Beside-2 : goal.lay-returns-in_ok-lay-in-Beside-2
+lay-returns-in_ok-lay-in-Beside-2 t c =
     ok_taken c.put-in-Beside-3.result _ _ c.put-in-Beside-3.ensures
     (λ h. subst (λ (g : Goal). Lays (lines_in (process_of g)) c.args.draft.now c.put-in-Beside-3.new.self) (sym c.in-Beside.is)
     (parallel_laid (process_of c.in-Beside.left.value) (process_of c.in-Beside.right.value) c.args.draft.now c.put-in-Beside.new.self c.lay-in-Beside.new.draft
@@ -24,19 +25,23 @@ returns-in_ok-lay-in-Beside-2 t c =
     c.in_ok-put-in-Beside-2.ensures
     (subst (λ (g : Goal). Lays (lines_in (process_of g)) c.put-in-Beside-2.new.self c.lay-in-Beside-2.new.draft) c.deref-in-Beside-2.ensures c.in_ok-lay-in-Beside-2.ensures) h))
 
-pub returns-in_ok-lay-in-Either-2 : goal.returns-in_ok-lay-in-Either-2
-returns-in_ok-lay-in-Either-2 t c =
-    ok_taken c.choose.result _ _ c.choose.ensures
-    (λ h. subst (λ (g : Goal). Lays (lines_in (process_of g)) c.args.draft.now c.choose.new.self) (sym c.in-Either.is)
-    (choice_laid (process_of c.in-Either.left.value) (process_of c.in-Either.right.value) c.args.draft.now c.choose.new.self
-    c.new-first.result c.lay-in-Either.new.draft c.new-second.result c.lay-in-Either-2.new.draft
-    c.new-first.ensures.before c.new-first.ensures.last c.new-second.ensures.before c.new-second.ensures.last
-    (subst (λ (g : Goal). Lays (lines_in (process_of g)) c.new-first.result c.lay-in-Either.new.draft) c.deref-in-Either.ensures c.in_ok-lay-in-Either.ensures)
-    (subst (λ (g : Goal). Lays (lines_in (process_of g)) c.new-second.result c.lay-in-Either-2.new.draft) c.deref-in-Either-2.ensures c.in_ok-lay-in-Either-2.ensures) h))
-
-pub returns-in_ok-lay-in-Iso : goal.returns-in_ok-lay-in-Iso
-returns-in_ok-lay-in-Iso t c =
+pub lay-returns-in_ok-lay-in-Iso : goal.lay-returns-in_ok-lay-in-Iso
+lay-returns-in_ok-lay-in-Iso t c =
     ok_taken c.put-in-Iso-2.result _ _ c.put-in-Iso-2.ensures
     (λ h. subst (λ (g : Goal). Lays (lines_in (process_of g)) c.args.draft.now c.put-in-Iso-2.new.self) (sym c.in-Iso.is)
     (isolated_laid (process_of c.in-Iso.part.value) c.args.draft.now c.put-in-Iso.new.self c.lay-in-Iso.new.draft c.put-in-Iso-2.new.self c.in_ok-put-in-Iso.ensures
     (subst (λ (g : Goal). Lays (lines_in (process_of g)) c.put-in-Iso.new.self c.lay-in-Iso.new.draft) c.deref-in-Iso.ensures c.in_ok-lay-in-Iso.ensures) h))
+
+pub lay-returns-in-Ok : goal.lay-returns-in-Ok
+lay-returns-in-Ok t c =
+    ok_taken c.choose.result _ _ c.choose.ensures
+    (λ h. subst (λ (g : Goal). Lays (lines_in (process_of g)) c.args.draft.now c.choose.new.self) (sym c.in-Either.is)
+    (choice_laid (process_of c.in-Either.left.value) (process_of c.in-Either.right.value) c.args.draft.now c.choose.new.self _ _
+    (c.in_ok-left-in-Either.ensures.lines ∙ ap (λ (g : Goal). lines_in (process_of g)) c.deref-in-Either.ensures)
+    (c.in-Ok.ensures.lines ∙ ap (λ (g : Goal). lines_in (process_of g)) c.deref-in-Either-2.ensures) h))
+
+pub pattern_of-returns-in-Ok-clause-lines : goal.pattern_of-returns-in-Ok-clause-lines
+pattern_of-returns-in-Ok-clause-lines t c =
+    IfOk-weaker c.finish.result _ _
+    (λ new e. e ∙ laid_first c.new-draft.result c.lay.new.draft (lines_in (process_of c.args.goal.now)) c.new-draft.ensures.before c.new-draft.ensures.last c.in-Ok.ensures)
+    c.finish.ensures.lines
