@@ -1,4 +1,5 @@
-use Rattle.std.proofs.Common.{◌∷◌, [], IsTrue}
+use Rattle.std.proofs.lemmas.Bool.{true≢false}
+use Rattle.std.proofs.Common.{sym, ◌∙◌, ◌∷◌, [], IsTrue}
 use Rattle.leaf_rows.specs.Leaves.{has_leaf}
 use Rattle.flow_model.specs.Lists.{◌∈◌}
 use Rattle.flow_model.specs.Ready.{DoneOr}
@@ -14,6 +15,6 @@ returns-then-not-allows c first refused next after =
     let row = c.part-item.result in
     let member : row ∈ parts = part_at parts c.loop-part.part-index row row c.loop-part-test.true c.part-item.is in
     c.missing.ensures first
-    (λ allows. let yes = c.allows.ensures.1 allows in let no = c.if-not-allows.true in absurd (cc))
+    (λ allows. true≢false (sym (c.allows.ensures.1 allows) ∙ c.if-not-allows.true))
     (each_member (λ (row : PartRow). PartAllows row (λ x. IsTrue (has_leaf c.args.done.now x)) first) parts next row member)
     (each_member (λ (row : PartRow). PartAllows row (DoneOr (λ x. IsTrue (has_leaf c.args.done.now x)) (first ∷ [])) c.args.leaf) parts after row member)

@@ -1,5 +1,5 @@
-use Rattle.std.proofs.lemmas.Bool.{or_cases, or_left, or_right}
-use Rattle.std.proofs.Common.{ℕ, List, ◌∷◌, inl, inr, ⊎_elim, sym, ◌∙◌, eq-eqb, eqb-true}
+use Rattle.std.proofs.lemmas.Bool.{false≢true, or_cases, or_left, or_right, true≢false}
+use Rattle.std.proofs.Common.{ap, not, ℕ, List, ◌∷◌, inl, inr, ⊎_elim, sym, ◌∙◌, eq-eqb, eqb-true}
 use Rattle.flow_model.specs.Lists.{◌∈◌, Each, AreDistinct}
 use Rattle.flow_plan.specs.Progress.{IsDone}
 use Rattle.flow_plan.specs.Orders.{MayComeNext}
@@ -11,17 +11,17 @@ use Rattle.flow_plan.proofs.plan.Plan.side_by_side.Goals.{then-not-ready-via-the
 
 pub returns-then-not-ready : goal.returns-then-not-ready
 returns-then-not-ready c = (
-  λ wrong. absurd (cc),
+  λ wrong. absurd (false≢true wrong),
   λ all. let told = by_two c.args.self.now c.args.done.now (c.args.leaf ∷ c.args.claims.now) all in
       elim c.then-not-ready.branch [
-        | then-not-ready-via-then-not-ready w ↦ let yes = c.ready.ensures.1 told.0.0 in let fails = w.if-not-ready.true in absurd (cc)
-        | then-not-ready-via-else-not-ready+then-not-each_ready w ↦ let yes = w.each_ready.ensures.1 told.0.1 in let fails = w.if-not-each_ready.true in absurd (cc)
+        | then-not-ready-via-then-not-ready w ↦ absurd (true≢false (sym (c.ready.ensures.1 told.0.0) ∙ w.if-not-ready.true))
+        | then-not-ready-via-else-not-ready+then-not-each_ready w ↦ absurd (true≢false (sym (w.each_ready.ensures.1 told.0.1) ∙ w.if-not-each_ready.true))
       ],
 )
 
 pub returns-in_default : goal.returns-in_default
 returns-in_default c = (
-  λ wrong. absurd (cc),
+  λ wrong. absurd (false≢true wrong),
   λ all. absurd (c.in_default.ensures.none (orders_distinct c.args.self.now c.args.done.now (c.args.leaf ∷ c.args.claims.now) all).1),
 )
 
@@ -30,7 +30,7 @@ returns-then-not-has c =
     let list : List ℕ = c.args.leaf ∷ c.args.claims.now in
     let each : Each (MayComeNext c.args.self.now (IsDone c.args.done.now)) list = (c.ready.ensures.0 c.if-not-ready.false, c.each_ready.ensures.0 c.if-not-each_ready.false) in
     let set_is = c.in-Some.ensures.some.1 in
-    let distinct : AreDistinct list = (λ member. let yes = c.has.ensures ∙ (set_is c.args.leaf).1 member in let no = c.if-not-has.true in absurd (cc), c.in-Some.ensures.some.0) in
+    let distinct : AreDistinct list = (λ member. absurd (true≢false (sym (c.has.ensures ∙ (set_is c.args.leaf).1 member) ∙ c.if-not-has.true)), c.in-Some.ensures.some.0) in
     let row : IsRowOf (λ x. x ∈ list) c.with.result = λ x. (
       λ has. ⊎_elim (λ same. inl (eqb-true x c.args.leaf same)) (λ h. inr ((set_is x).0 h)) (or_cases _ _ (sym (c.with.ensures x) ∙ has)),
       λ member. c.with.ensures x ∙ ⊎_elim (λ same. or_left _ _ (eq-eqb x c.args.leaf same)) (λ h. or_right _ _ ((set_is x).1 h)) member,
@@ -42,7 +42,7 @@ returns-then-not-has c =
 
 pub returns-else-not-has : goal.returns-else-not-has
 returns-else-not-has c = (
-  λ wrong. let has = c.if-not-has.false in absurd (cc),
+  λ wrong. absurd (false≢true (sym (ap not c.if-not-has.false) ∙ wrong)),
   λ all. absurd ((orders_distinct c.args.self.now c.args.done.now (c.args.leaf ∷ c.args.claims.now) all).0
-      ((c.in-Some.ensures.some.1 c.args.leaf).0 (let has = c.if-not-has.false in sym c.has.ensures ∙ has))),
+      ((c.in-Some.ensures.some.1 c.args.leaf).0 (sym c.has.ensures ∙ c.if-not-has.false))),
 )
