@@ -1,4 +1,4 @@
-use Rattle.std.proofs.Common.{◌∙◌, ap, sym, subst}
+use Rattle.std.proofs.Common.{OnOk, ◌∙◌, ap, sym, subst}
 use Rattle.std.proofs.lemmas.Result.{IfOk-weaker}
 use Rattle.flow_goal.specs.declared.goal.Goal.{Goal}
 use Rattle.flow_goal.specs.Goal.{process_of}
@@ -45,3 +45,11 @@ pattern_of-returns-in-Ok-clause-lines t c =
     IfOk-weaker c.finish.result _ _
     (λ new e. e ∙ laid_first c.new-draft.result c.lay.new.draft (lines_in (process_of c.args.goal.now)) c.new-draft.ensures.before c.new-draft.ensures.last c.in-Ok.ensures)
     c.finish.ensures.lines
+
+pub lay-returns-in-Nop : goal.lay-returns-in-Nop
+lay-returns-in-Nop t c =
+    subst (λ (g : Goal). OnOk c.put.result (Lays (lines_in (process_of g)) c.args.draft.now c.put.new.self)) (sym c.in-Nop.is) c.put.ensures
+
+pub lay-returns-in-Leaf : goal.lay-returns-in-Leaf
+lay-returns-in-Leaf t c =
+    subst (λ (g : Goal). OnOk c.put_leaf.result (Lays (lines_in (process_of g)) c.args.draft.now c.put_leaf.new.self)) (sym c.in-Leaf.is) c.put_leaf.ensures

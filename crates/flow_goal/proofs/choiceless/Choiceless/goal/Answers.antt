@@ -1,7 +1,8 @@
 use Rattle.std.proofs.Common.{ℕ, ◌+◌, List, drop, sym, ap, ◌∙◌, arith}
-use Rattle.std.proofs.lemmas.List.{drop_more}
+use Rattle.std.proofs.lemmas.List.{drop_all, drop_more}
 use Rattle.flow_goal.specs.declared.node.Node.{Node}
 use Rattle.flow_goal.specs.declared.node.Node.TheVariants.{Nop}
+use Rattle.flow_goal.specs.Resolved.{Resolved}
 use Rattle.flow_goal.specs.Written.{read_on, goals_on}
 use Rattle.flow_goal.proofs.choiceless.Choiceless.goal.Goals as goal
 
@@ -16,3 +17,19 @@ loop-node-preserved c =
           ∙ sym (ap (λ (l : List Node). read_on l ns c.loop-node.place (goals_on c.loop-node.stack.items)) (drop_more nodes i Nop c.loop-node-test.true))
           ∙ ap (λ (ns : List ℕ). read_on (drop i nodes) ns c.loop-node.place (goals_on c.loop-node.stack.items)) c.deref.ensures.value ∙ c.loop-node.invariant.read;
     }
+
+pub loop-node-init : goal.loop-node-init
+loop-node-init c = record {
+  place = omega arith;
+  read = (λ i. read_on (c.deref-node-items.ensures.value i) c.self.inside.leaves.items 0 (goals_on (c.new-stack.ensures.items i)))
+      ∙ ap (λ (r : Resolved). r.process) c.self.view_is;
+}
+
+pub read_node-requires : goal.read_node-requires
+read_node-requires c = omega arith
+
+pub returns-clause-process : goal.returns-clause-process
+returns-clause-process c =
+    c.take_top.ensures.taken
+    ∙ ap (λ (l : List Node). read_on l c.self.inside.leaves.items c.loop-node.place (goals_on c.loop-node.stack.items))
+    (sym (drop_all c.loop-node.node-index c.deref-node-items.result.now c.loop-node-test.false)) ∙ c.loop-node.invariant.read
