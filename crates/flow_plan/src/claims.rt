@@ -98,7 +98,6 @@ impl Plan {
     }
 
     /// Whether each leaf of the plan is done.
-    #[tactic(auto, using(crate::proofs::Following::complete_run, crate::proofs::Following::not_complete))]
     pub fn complete(&self, done: &Progress) -> bool
         requires { Fits self.now done.now }
         ensures all_done { IsTrue result
