@@ -6,7 +6,7 @@ use Rattle.std.proofs.lemmas.List.{length-map, map-append, map-id}
 use Rattle.std.proofs.lemmas.Option.{slice_get-map}
 use Rattle.std.proofs.lemmas.Simd.{map-map}
 use Rattle.flow_model.specs.Lists.{each_with_each}
-use Rattle.flow_model.specs.Process.{Process, Sequence, Parallel, Choice, Isolated, leaves}
+use Rattle.flow_model.specs.Process.{Process, Sequence, Parallel, Isolated, leaves}
 use Rattle.flow_model.specs.Resolution.{resolutions, resolution_count}
 use Rattle.flow_laws.proofs.ResolutionsLemmas.{length-resolutions}
 use Rattle.flow_laws.proofs.MadeLists.{length-each_with_each, slice_get-each_with_each, slice_get_append_left, slice_get_append_right}
@@ -141,10 +141,6 @@ parallel_laid a b old fork one split two new f p s q j =
     (laid_more (both half (lines_in b)) (mark Join ∷ []) old two new
     (laid_more half (lines_in b) old split two
     (laid_more first (mark Split ∷ []) old one split (laid_more (mark Fork ∷ []) (lines_in a) old fork one f p) s) q) j)
-
-pub choice_laid : (a b : Process) (old new : Draft) (left right : List Line) → left ≡ lines_in a → right ≡ lines_in b → Lays (left ++ right) old new → Laid (Choice a b) old new
-choice_laid a b old new left right e f h =
-    subst (λ ls. Lays ls old new) ((λ i. e i ++ f i) ∙ sym (map-append line (resolutions a) (resolutions b))) h
 
 pub isolated_laid : (a : Process) (old mid next new : Draft) → Lays (mark Open ∷ []) old mid → Laid a mid next → Lays (mark Close ∷ []) next new → Laid (Isolated a) old new
 isolated_laid a old mid next new p q r =

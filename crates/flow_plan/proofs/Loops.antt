@@ -1,7 +1,7 @@
 -- A loop that goes on while all of a list pass.
-use Rattle.std.proofs.Common.{◌≡◌, ℕ, ◌<◌, ◌≤◌, ◌+◌, ◌↔◌, true, false, IsTrue, List, [], ◌∷◌, length, take, get_or, refl, sym, subst}
+use Rattle.std.proofs.Common.{◌≡◌, ℕ, ◌<◌, ◌+◌, ◌↔◌, false, IsTrue, List, [], ◌∷◌, length, take, get_or, sym, subst}
 use Rattle.std.proofs.lemmas.Bool.{false≢true}
-use Rattle.std.proofs.lemmas.List.{take_all, take_more}
+use Rattle.std.proofs.lemmas.List.{take_more}
 use Rattle.std.proofs.lemmas.Option.{slice_get-get_or}
 use Rattle.flow_model.specs.Lists.{◌∈◌, Each}
 use Rattle.flow_model.proofs.Lists.{each-append, mem-slice_get}
@@ -11,9 +11,6 @@ module _ {A : Type 0} (P : A → Type 0) (list : List A) (i : ℕ) where
   pub one_more_passes : (x d : A) → i < length list → x ≡ get_or list i d → Each P (take i list) → P x → Each P (take (i + 1) list)
   one_more_passes x d within is before here =
       subst (Each P) (sym (take_more list i d within)) (each-append P (take i list) (get_or list i d ∷ []) before (subst P is here, tt))
-
-  pub all_pass : length list ≤ i → Each P (take i list) → IsTrue true ↔ Each P list
-  all_pass past before = (λ _. subst (Each P) (take_all i list past) before, λ _. refl)
 
   pub one_fails : (x d : A) → i < length list → x ≡ get_or list i d → ¬ P x → IsTrue false ↔ Each P list
   one_fails x d within is fails = (

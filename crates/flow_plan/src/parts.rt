@@ -16,6 +16,7 @@ use leaf_rows::LeafSet;
 use std::alloc::{AllocError, Global};
 
 /// The spans of the isolated parts of the goal with two or more leaves, inner parts first.
+#[tactic(auto, using(crate::proofs::MarkLemmas::begun_spans))]
 fn spans_of(alloc: Global, goal: &Choiceless) -> Result<Vec<Span>, AllocError>
     ensures { IfOk result (λ spans. AddsSpans goal.now.process (leaves goal.now.process) 0 [] spans.items) }
 {

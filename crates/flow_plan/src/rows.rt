@@ -15,6 +15,7 @@ use leaf_rows::LeafSet;
 use std::alloc::{AllocError, Global};
 
 /// For each leaf of the goal, in order, the leaves before it in the goal.
+#[tactic(auto, using(crate::proofs::MarkLemmas::begun_rows))]
 fn sequence_rows(alloc: Global, goal: &Choiceless) -> Result<Vec<LeafSet<16>>, AllocError>
     requires { Each (λ n. n < MOST_LEAVES) goal.now.leaves }
     ensures { IfOk result (λ rows. AreRowsOf (InSequence goal.now.process) goal.now.leaves rows.items) }

@@ -1,9 +1,9 @@
-use Rattle.std.proofs.Common.{OnOk, ◌∙◌, ap, sym, subst}
+use Rattle.std.proofs.Common.{◌∙◌, sym, subst}
 use Rattle.std.proofs.lemmas.Result.{IfOk-weaker}
 use Rattle.flow_goal.specs.declared.goal.Goal.{Goal}
 use Rattle.flow_goal.specs.Goal.{process_of}
 use Rattle.flow_goal.specs.Patterns.{Lays, lines_in}
-use Rattle.flow_goal.proofs.PatternLemmas.{choice_laid, isolated_laid, laid_first, parallel_laid, sequence_laid}
+use Rattle.flow_goal.proofs.PatternLemmas.{isolated_laid, laid_first, parallel_laid, sequence_laid}
 use Rattle.flow_goal.proofs.Writing.{ok_taken}
 use Rattle.flow_goal.proofs.draft.+laying.Goals as goal
 
@@ -32,24 +32,8 @@ lay-returns-in_ok-lay-in-Iso t c =
     (isolated_laid (process_of c.in-Iso.part.value) c.args.draft.now c.put-in-Iso.new.self c.lay-in-Iso.new.draft c.put-in-Iso-2.new.self c.in_ok-put-in-Iso.ensures
     (subst (λ (g : Goal). Lays (lines_in (process_of g)) c.put-in-Iso.new.self c.lay-in-Iso.new.draft) c.deref-in-Iso.ensures c.in_ok-lay-in-Iso.ensures) h))
 
-pub lay-returns-in-Ok : goal.lay-returns-in-Ok
-lay-returns-in-Ok t c =
-    ok_taken c.choose.result _ _ c.choose.ensures
-    (λ h. subst (λ (g : Goal). Lays (lines_in (process_of g)) c.args.draft.now c.choose.new.self) (sym c.in-Either.is)
-    (choice_laid (process_of c.in-Either.left.value) (process_of c.in-Either.right.value) c.args.draft.now c.choose.new.self _ _
-    (c.in_ok-left-in-Either.ensures.lines ∙ ap (λ (g : Goal). lines_in (process_of g)) c.deref-in-Either.ensures)
-    (c.in-Ok.ensures.lines ∙ ap (λ (g : Goal). lines_in (process_of g)) c.deref-in-Either-2.ensures) h))
-
 pub pattern_of-returns-in-Ok-clause-lines : goal.pattern_of-returns-in-Ok-clause-lines
 pattern_of-returns-in-Ok-clause-lines t c =
     IfOk-weaker c.finish.result _ _
     (λ new e. e ∙ laid_first c.new-draft.result c.lay.new.draft (lines_in (process_of c.args.goal.now)) c.new-draft.ensures.before c.new-draft.ensures.last c.in-Ok.ensures)
     c.finish.ensures.lines
-
-pub lay-returns-in-Nop : goal.lay-returns-in-Nop
-lay-returns-in-Nop t c =
-    subst (λ (g : Goal). OnOk c.put.result (Lays (lines_in (process_of g)) c.args.draft.now c.put.new.self)) (sym c.in-Nop.is) c.put.ensures
-
-pub lay-returns-in-Leaf : goal.lay-returns-in-Leaf
-lay-returns-in-Leaf t c =
-    subst (λ (g : Goal). OnOk c.put_leaf.result (Lays (lines_in (process_of g)) c.args.draft.now c.put_leaf.new.self)) (sym c.in-Leaf.is) c.put_leaf.ensures

@@ -19,9 +19,6 @@ loop-span-preserved c =
     (parts_more ns c.args.before.now (take c.loop-span.span-index c.args.spans.now) c.loop-span.parts.items s c.new-row.result c.loop-span.invariant
     (record { inside = c.new-row.ensures.inside; outside = c.new-row.ensures.outside })))
 
-pub loop-span-init : goal.loop-span-init
-loop-span-init c = subst (λ (rows : List PartRow). ArePartsFor c.args.leaves.now c.args.before.now [] rows) (sym c.in_ok-parts.ensures.items) tt
-
 pub new-row-requires : goal.new-row-requires
 new-row-requires c =
     let s : Span = get_or c.args.spans.now c.loop-span.span-index (record { first = 0; end = 0 }) in

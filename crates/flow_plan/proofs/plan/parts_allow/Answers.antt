@@ -3,18 +3,8 @@ use Rattle.std.proofs.lemmas.Bool.{true≢false}
 use Rattle.leaf_rows.specs.Leaves.{has_leaf}
 use Rattle.flow_plan.specs.declared.part_row.PartRow.{PartRow}
 use Rattle.flow_plan.specs.Parts.{PartAllows}
-use Rattle.flow_plan.proofs.Loops.{all_pass, one_fails, one_more_passes}
+use Rattle.flow_plan.proofs.Loops.{one_fails}
 use Rattle.flow_plan.proofs.plan.parts_allow.Goals as goal
-
-pub loop-part-preserved : goal.loop-part-preserved
-loop-part-preserved c =
-    one_more_passes (λ (row : PartRow). PartAllows row (λ x. IsTrue (has_leaf c.args.done.now x)) c.args.leaf) c.args.parts.now c.loop-part.part-index
-    c.part-item.result c.part-item.result c.loop-part-test.true c.part-item.is c.loop-part.invariant (c.allows.ensures.0 c.if-not-allows.false)
-
-pub returns : goal.returns
-returns c =
-    all_pass (λ (row : PartRow). PartAllows row (λ x. IsTrue (has_leaf c.args.done.now x)) c.args.leaf) c.args.parts.now c.loop-part.part-index
-    c.loop-part-test.false c.loop-part.invariant
 
 pub returns-then-not-allows : goal.returns-then-not-allows
 returns-then-not-allows c =

@@ -3,18 +3,8 @@ use Rattle.std.proofs.lemmas.Bool.{true≢false}
 use Rattle.leaf_rows.specs.Leaves.{has_leaf}
 use Rattle.flow_plan.specs.declared.part_row.PartRow.{PartRow}
 use Rattle.flow_plan.specs.Parts.{KeepsTogether}
-use Rattle.flow_plan.proofs.Loops.{all_pass, one_fails, one_more_passes}
+use Rattle.flow_plan.proofs.Loops.{one_fails}
 use Rattle.flow_plan.proofs.plan.parts_keep_together.Goals as goal
-
-pub loop-part-preserved : goal.loop-part-preserved
-loop-part-preserved c =
-    one_more_passes (λ (row : PartRow). KeepsTogether row (λ x. IsTrue (has_leaf c.args.leaves.now x))) c.args.parts.now c.loop-part.part-index
-    c.part-item.result c.part-item.result c.loop-part-test.true c.part-item.is c.loop-part.invariant (c.keeps_together.ensures.0 c.if-not-keeps_together.false)
-
-pub returns : goal.returns
-returns c =
-    all_pass (λ (row : PartRow). KeepsTogether row (λ x. IsTrue (has_leaf c.args.leaves.now x))) c.args.parts.now c.loop-part.part-index
-    c.loop-part-test.false c.loop-part.invariant
 
 pub returns-then-not-keeps_together : goal.returns-then-not-keeps_together
 returns-then-not-keeps_together c =

@@ -1,14 +1,10 @@
-use Rattle.std.proofs.Common.{ℕ, ◌+◌, ◌<◌, List, drop, subst, sym, ◌∙◌}
+use Rattle.std.proofs.Common.{ℕ, ◌+◌, List, drop, subst}
 use Rattle.std.proofs.lemmas.List.{drop_all, drop_more}
-use Rattle.std.specs.List.Sorted.{IsStrictlyIncreasing}
-use Rattle.flow_model.specs.declared.limits.TheConstants.{MOST_LEAVES}
-use Rattle.flow_model.specs.Lists.{Each}
 use Rattle.flow_model.specs.Ready.{InSequence}
 use Rattle.flow_goal.specs.declared.node.Node.{Node}
 use Rattle.flow_goal.specs.declared.node.Node.TheVariants.{Nop}
 use Rattle.flow_plan.specs.RowMarks.{Completes}
 use Rattle.flow_plan.specs.Rows.{AreRowsOf}
-use Rattle.flow_plan.proofs.MarkLemmas.{begun_rows}
 use Rattle.flow_plan.proofs.rows.sequence_rows.Goals as goal
 
 pub loop-node-preserved : goal.loop-node-preserved
@@ -17,16 +13,6 @@ loop-node-preserved c =
     let i = c.loop-node.node-index in
     c.in_ok-pass.ensures c.args.goal.now.process (drop (i + 1) nodes)
     (subst (λ (l : List Node). Completes c.args.goal.now.process l c.leaves-leaves.result.now c.loop-node.sweep) (drop_more nodes i Nop c.loop-node-test.true) c.loop-node.invariant)
-
-pub loop-node-init : goal.loop-node-init
-loop-node-init c =
-    let are = c.leaves-leaves.ensures in
-    let new = c.in_ok-sweep.ensures in
-    begun_rows c.args.goal.now.process c.nodes-node-items.result.now c.leaves-leaves.result.now c.in_ok-sweep.sweep c.nodes-node-items.ensures.choice_free
-    (subst IsStrictlyIncreasing (sym are.leaves) are.rising) c.nodes-node-items.ensures.nodes (are.leaves ∙ are.listed) new.place new.sets new.ahead new.forks new.rows
-
-pub pass-requires : goal.pass-requires
-pass-requires c = subst (Each (λ n. n < MOST_LEAVES)) (sym c.leaves-leaves.ensures.leaves) c.requires
 
 pub returns : goal.returns
 returns c =

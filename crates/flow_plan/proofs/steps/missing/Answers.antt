@@ -1,12 +1,12 @@
 use Rattle.std.proofs.lemmas.Bool.{true≢false}
-use Rattle.std.proofs.Common.{refl, sym, ◌∙◌, ◌∷◌, [], IsTrue}
+use Rattle.std.proofs.Common.{sym, ◌∙◌, ◌∷◌, [], IsTrue}
 use Rattle.leaf_rows.specs.Leaves.{has_leaf}
 use Rattle.flow_model.specs.Lists.{◌∈◌}
 use Rattle.flow_model.specs.Ready.{DoneOr}
 use Rattle.flow_laws.proofs.Members.{each_member}
 use Rattle.flow_plan.specs.declared.part_row.PartRow.{PartRow}
 use Rattle.flow_plan.specs.Parts.{PartAllows}
-use Rattle.flow_plan.proofs.Loops.{all_pass, one_more_passes}
+use Rattle.flow_plan.proofs.Loops.{one_more_passes}
 use Rattle.flow_plan.proofs.StepRows.{part_at}
 use Rattle.flow_plan.proofs.steps.missing.Goals as goal
 
@@ -24,8 +24,3 @@ pub loop-part-preserved : goal.loop-part-preserved
 loop-part-preserved c =
     one_more_passes (λ (row : PartRow). PartAllows row (λ x. IsTrue (has_leaf c.args.done.now x)) c.args.leaf) c.args.parts.now c.loop-part.part-index
     c.part-item.result c.part-item.result c.loop-part-test.true c.part-item.is c.loop-part.invariant (c.allows.ensures.0 c.if-not-allows.false)
-
-pub returns : goal.returns
-returns c first refused next after =
-    absurd (refused ((all_pass (λ (row : PartRow). PartAllows row (λ x. IsTrue (has_leaf c.args.done.now x)) c.args.leaf) c.args.parts.now c.loop-part.part-index
-    c.loop-part-test.false c.loop-part.invariant).0 refl))

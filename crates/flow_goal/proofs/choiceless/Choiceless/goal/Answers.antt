@@ -2,7 +2,6 @@ use Rattle.std.proofs.Common.{ℕ, ◌+◌, List, drop, sym, ap, ◌∙◌, arit
 use Rattle.std.proofs.lemmas.List.{drop_all, drop_more}
 use Rattle.flow_goal.specs.declared.node.Node.{Node}
 use Rattle.flow_goal.specs.declared.node.Node.TheVariants.{Nop}
-use Rattle.flow_goal.specs.Resolved.{Resolved}
 use Rattle.flow_goal.specs.Written.{read_on, goals_on}
 use Rattle.flow_goal.proofs.choiceless.Choiceless.goal.Goals as goal
 
@@ -17,16 +16,6 @@ loop-node-preserved c =
           ∙ sym (ap (λ (l : List Node). read_on l ns c.loop-node.place (goals_on c.loop-node.stack.items)) (drop_more nodes i Nop c.loop-node-test.true))
           ∙ ap (λ (ns : List ℕ). read_on (drop i nodes) ns c.loop-node.place (goals_on c.loop-node.stack.items)) c.deref.ensures.value ∙ c.loop-node.invariant.read;
     }
-
-pub loop-node-init : goal.loop-node-init
-loop-node-init c = record {
-  place = omega arith;
-  read = (λ i. read_on (c.deref-node-items.ensures.value i) c.self.inside.leaves.items 0 (goals_on (c.new-stack.ensures.items i)))
-      ∙ ap (λ (r : Resolved). r.process) c.self.view_is;
-}
-
-pub read_node-requires : goal.read_node-requires
-read_node-requires c = omega arith
 
 pub returns-clause-process : goal.returns-clause-process
 returns-clause-process c =

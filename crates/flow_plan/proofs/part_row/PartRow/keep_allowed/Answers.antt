@@ -1,4 +1,5 @@
-use Rattle.std.proofs.Common.{ℕ, true, IsTrue, refl}
+use Rattle.std.proofs.Common.{ℕ, true, IsTrue, refl, sym, ◌∙◌}
+use Rattle.std.proofs.lemmas.Bool.{true≢false}
 use Rattle.leaf_rows.specs.Leaves.{has_leaf}
 use Rattle.flow_plan.proofs.PartLemmas.{allows_to_begin}
 use Rattle.flow_plan.proofs.KeepLemmas.{fresh_outside, kept_where}
@@ -8,7 +9,7 @@ pub returns-else-meets : goal.returns-else-meets
 returns-else-meets c n =
     let row = c.args.self.now in
     let untouched : (k : ℕ) → IsTrue (has_leaf row.inside k) → IsTrue (has_leaf c.args.done.now k) → ⊥ =
-    λ k inside done. let yes = c.meets.ensures.1 (k, inside, done) in let no = c.if-meets.false in absurd (cc) in
+    λ k inside done. true≢false (sym (c.meets.ensures.1 (k, inside, done)) ∙ c.if-meets.false) in
     kept_where (has_leaf c.keep-else-meets.result n) (has_leaf c.args.leaves n) (has_leaf row.inside n) c.is_subset-else-meets.result true _
     (c.keep-else-meets.ensures n)
     (λ mine. allows_to_begin row (λ x. IsTrue (has_leaf c.args.done.now x)) n c.is_subset-else-meets.result mine untouched c.is_subset-else-meets.ensures)

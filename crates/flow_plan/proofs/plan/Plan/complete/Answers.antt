@@ -1,11 +1,7 @@
-use Rattle.std.proofs.Common.{ℕ, ◌<◌, true, false, List, get_or, refl, subst, sym, ◌∙◌}
-use Rattle.flow_model.specs.Lists.{◌∈◌}
-use Rattle.flow_model.specs.Process.{leaves}
-use Rattle.flow_laws.proofs.Members.{each_member}
-use Rattle.flow_plan.specs.Progress.{IsDone, bound_of}
+use Rattle.std.proofs.Common.{true, false, get_or, refl, sym, ◌∙◌}
+use Rattle.flow_plan.specs.Progress.{IsDone}
 use Rattle.flow_plan.proofs.Following.{all_complete, complete_run, not_complete}
 use Rattle.flow_plan.proofs.Loops.{one_more_passes}
-use Rattle.flow_plan.proofs.PlaceLemmas.{read_member}
 use Rattle.flow_plan.proofs.plan.Plan.complete.Goals as goal
 
 pub returns-clause-all_done : goal.returns-clause-all_done
@@ -24,13 +20,6 @@ loop-leaf-preserved c =
     let items = c.leaves-leaf-items.result.now in
     one_more_passes (IsDone c.args.done.now) items c.loop-leaf.leaf-index (get_or items c.loop-leaf.leaf-index 0) 0 c.loop-leaf-test.true refl c.loop-leaf.invariant
     (sym c.has.ensures ∙ c.if-not-has.false)
-
-pub has-requires : goal.has-requires
-has-requires c =
-    let items = c.leaves-leaf-items.result.now in
-    let leaf = get_or items c.loop-leaf.leaf-index 0 in
-    each_member (λ n. n < bound_of c.args.done.now) (leaves c.args.self.now.process) c.requires leaf
-    (subst (λ (l : List ℕ). leaf ∈ l) (c.leaves-leaf-items.ensures.leaves ∙ c.leaves-leaf-items.ensures.listed) (read_member items c.loop-leaf.leaf-index c.loop-leaf-test.true))
 
 pub returns-then-not-has : goal.returns-then-not-has
 returns-then-not-has c =
