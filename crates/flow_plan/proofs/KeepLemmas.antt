@@ -1,5 +1,5 @@
 -- Leaves that a part keeps.
-use Rattle.std.proofs.Common.{◌≡◌, ℕ, Bool, true, false, not, cond, ◌&&◌, ◌↔◌, IsTrue, refl, sym, ◌∙◌}
+use Rattle.std.proofs.Common.{◌≡◌, ℕ, Bool, true, false, cond, ◌&&◌, ◌↔◌, IsTrue, refl, sym, ◌∙◌}
 use Rattle.leaf_rows.specs.Leaves.{has_leaf}
 use Rattle.flow_plan.specs.declared.part_row.PartRow.{PartRow}
 use Rattle.flow_plan.specs.Parts.{PartAllows}
@@ -11,10 +11,6 @@ kept_where new true true inner outer P is in_says out_says = (λ h. (refl, (in_s
 kept_where new true false inner outer P is in_says out_says =
     (λ h. (refl, (out_says (λ e. absurd (cc))).0 (sym is ∙ h)), λ both. is ∙ (out_says (λ e. absurd (cc))).1 both.1)
 kept_where new false inside inner outer P is in_says out_says = (λ h. absurd (cc), λ both. absurd (let no = both.0 in cc))
-
-pub denied : (b : Bool) → ¬ IsTrue b → IsTrue (not b)
-denied true fails = absurd (fails refl)
-denied false fails = refl
 
 -- a part that is not begun
 pub fresh_outside : (row : PartRow) (D : ℕ → Type 0) (n : ℕ) → ((k : ℕ) → IsTrue (has_leaf row.inside k) → D k → ⊥) → ¬ IsTrue (has_leaf row.inside n) → PartAllows row D n

@@ -9,4 +9,3 @@ pub mod Together
 pub mod Following
 pub mod KeepLemmas
 pub mod StepRows
-pub mod Loops

@@ -14,6 +14,7 @@ use crate::progress::Progress;
 use leaf_rows::LeafSet;
 
 /// The leaves as a set, where none of them stands twice.
+#[tactic(auto, using(crate::proofs::Together::twice_there))]
 pub fn distinct(list: &[u32]) -> Option<LeafSet<16>>
     requires { Each (λ n. n < MOST_LEAVES) list.now }
     ensures some { IfSome result (λ set. AreDistinct list.now × IsRowOf (λ x. x ∈ list.now) set) }
@@ -98,6 +99,7 @@ impl Plan {
     }
 
     /// Whether each leaf of the plan is done.
+    #[tactic(auto, using(crate::proofs::Following::complete_run, crate::proofs::Following::not_complete))]
     pub fn complete(&self, done: &Progress) -> bool
         requires { Fits self.now done.now }
         ensures all_done { IsTrue result

@@ -6,7 +6,6 @@ use Rattle.flow_model.specs.Ready.{DoneOr}
 use Rattle.flow_laws.proofs.Members.{each_member}
 use Rattle.flow_plan.specs.declared.part_row.PartRow.{PartRow}
 use Rattle.flow_plan.specs.Parts.{PartAllows}
-use Rattle.flow_plan.proofs.Loops.{one_more_passes}
 use Rattle.flow_plan.proofs.StepRows.{part_at}
 use Rattle.flow_plan.proofs.steps.missing.Goals as goal
 
@@ -19,8 +18,3 @@ returns-then-not-allows c first refused next after =
     (λ allows. true≢false (sym (c.allows.ensures.1 allows) ∙ c.if-not-allows.true))
     (each_member (λ (row : PartRow). PartAllows row (λ x. IsTrue (has_leaf c.args.done.now x)) first) parts next row member)
     (each_member (λ (row : PartRow). PartAllows row (DoneOr (λ x. IsTrue (has_leaf c.args.done.now x)) (first ∷ [])) c.args.leaf) parts after row member)
-
-pub loop-part-preserved : goal.loop-part-preserved
-loop-part-preserved c =
-    one_more_passes (λ (row : PartRow). PartAllows row (λ x. IsTrue (has_leaf c.args.done.now x)) c.args.leaf) c.args.parts.now c.loop-part.part-index
-    c.part-item.result c.part-item.result c.loop-part-test.true c.part-item.is c.loop-part.invariant (c.allows.ensures.0 c.if-not-allows.false)
