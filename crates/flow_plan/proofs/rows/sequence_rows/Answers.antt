@@ -18,5 +18,5 @@ pub returns : goal.returns
 returns c =
     let q = c.args.goal.now.process in
     let done = subst (λ (l : List Node). Completes q l c.leaves-leaves.result.now c.loop-node.sweep)
-        (drop_all c.loop-node.node-index c.nodes-node-items.result.now c.loop-node-test.false) c.loop-node.invariant in
+    (drop_all c.loop-node.node-index c.nodes-node-items.result.now c.loop-node-test.false) c.loop-node.invariant in
     subst (λ (ns : List ℕ). AreRowsOf (InSequence q) ns c.loop-node.sweep.rows.items) c.leaves-leaves.ensures.leaves done.3
