@@ -2,6 +2,7 @@ pub mod KnownNames
 pub mod ListedNames
 pub mod FirstNames
 pub mod Parsed
+pub mod Pushed
 pub mod PrintedPieces
 pub mod PrintedTexts
 pub mod Writable

@@ -20,7 +20,6 @@ pub(crate) enum Named<'a> {
     InFact(&'a Name),
 }
 
-#[tactic(auto, using(crate::proofs::ListedNames::constants_join))]
 fn list_constants<'a>(list: &mut Vec<Named<'a>>, constants: &'a [Const]) -> Result<(), AllocError>
     ensures { OnOk result (Adds list.old.items list.new.items (constant_roles constants.now)) }
 {
