@@ -1,10 +1,10 @@
 -- A journal read line by line.
-use Rattle.std.proofs.Common.{◌≡◌, ℕ, ◌≤◌, ◌<◌, List, length, refl, ◌∙◌, Option, Some, None}
-use Rattle.std.proofs.lemmas.Bool.{le-ltb}
+use Rattle.std.proofs.Common.{◌≡◌, ℕ, ◌+◌, ◌≤◌, ◌<◌, List, ◌∷◌, length, refl, ◌∙◌, Option, Some, None}
+use Rattle.std.proofs.lemmas.Bool.{le-ltb, lt-ltb}
 use Rattle.flow_model.specs.declared.limits.TheConstants.{MOST_LINES}
 use Rattle.flow_workflow.specs.Definition.{Definition}
 use Rattle.flow_record.specs.Lines.{without_returns, lines_of}
-use Rattle.flow_record.specs.Journal.{journal, bad_line, after_lines, journal_from, journal_of}
+use Rattle.flow_record.specs.Journal.{JournalText, journal, bad_line, after_lines, with_leaf_line, journal_from, journal_of}
 use Rattle.flow_record.proofs.FirstLine.{some_line}
 
 -- the journal is what was read and what is left, from the line of that number on
@@ -23,3 +23,10 @@ pub too_many : (w : Definition) (text front : List ℕ) (wrong : Option ℕ) (nu
 too_many w text front wrong number rest is some many =
     let line = some_line rest some in
     is ∙ rw (line.1.1, le-ltb number MOST_LINES many) (bad_told front wrong number)
+
+-- a line more is read
+pub read_on : (w : Definition) (text front : List ℕ) (wrong : Option ℕ) (number : ℕ) (rest line more longer : List ℕ) (told : Option ℕ) → IsReadTo w text front wrong number rest
+    → number < MOST_LINES → lines_of (without_returns rest) ≡ line ∷ lines_of (without_returns more)
+    → ((later : JournalText) → after_lines front wrong (with_leaf_line w number line later) ≡ after_lines longer told later) → IsReadTo w text longer told (number + 1) more
+read_on w text front wrong number rest line more longer told is below cut taken =
+    is ∙ rw (cut, lt-ltb number MOST_LINES below) (taken (journal_from w (number + 1) (lines_of (without_returns more))))
