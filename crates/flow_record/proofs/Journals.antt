@@ -4,7 +4,7 @@ use Rattle.std.proofs.lemmas.Bool.{le-ltb, lt-ltb}
 use Rattle.flow_model.specs.declared.limits.TheConstants.{MOST_LINES}
 use Rattle.flow_workflow.specs.Definition.{Definition}
 use Rattle.flow_record.specs.Lines.{without_returns, lines_of}
-use Rattle.flow_record.specs.Journal.{JournalText, journal, bad_line, after_lines, with_leaf_line, journal_from, journal_of}
+use Rattle.flow_record.specs.Journal.{JournalText, bad_line, after_lines, with_leaf_line, journal_from, journal_of}
 use Rattle.flow_record.proofs.FirstLine.{some_line}
 
 -- the journal is what was read and what is left, from the line of that number on
