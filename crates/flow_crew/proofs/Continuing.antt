@@ -86,16 +86,16 @@ begun r by move after within (inl h) = stays r by after h.2 within
 begun r by move after within (inr (inl h)) = stays r by after h.4 within
 begun r by move after within (inr (inr h)) = (further_one r by h.0 after h.2.3 (has_room r h.1 within)).goes
 
-pub begun_further : (r : Run) (by : ℕ) (move : Move) (after : Run) → IsWithin r → IsBegun r by move after → ¬ (move ≡ Over) → ((claim : ℕ) → ¬ (move ≡ Wait claim)) → GoesFurther r by after
-begun_further r by move after within (inl h) other waits = absurd (other h.1)
-begun_further r by move after within (inr (inl h)) other waits = absurd (waits h.0 h.3)
-begun_further r by move after within (inr (inr h)) other waits = further_one r by h.0 after h.2.3 (has_room r h.1 within)
-
 -- the caller asks again at once, or performs a task
-abbrev goes : Move → Bool
+abbrev pub goes : Move → Bool
 goes (Wait claim) = false
 goes Over = false
 goes other = true
+
+pub begun_further : (r : Run) (by : ℕ) (move : Move) (after : Run) → IsWithin r → IsBegun r by move after → goes move ≡ true → GoesFurther r by after
+begun_further r by move after within (inl h) on = absurd (true≢false (sym on ∙ ap goes h.1))
+begun_further r by move after within (inr (inl h)) on = absurd (true≢false (sym on ∙ ap goes h.3))
+begun_further r by move after within (inr (inr h)) on = further_one r by h.0 after h.2.3 (has_room r h.1 within)
 
 goes_after : (after : Run) (step : Step) → goes (move_after after step) ≡ true
 goes_after after (Took c leaf) = refl

@@ -1,5 +1,5 @@
 -- Histories that gain an entry.
-use Rattle.std.proofs.Common.{◌≡◌, ◌≤◌, ◌<◌, ◌+◌, ℕ, List, [], ◌∷◌, ◌++◌, length, ◌⊎◌, inl, inr, refl, sym, ap, ◌∙◌, subst, append-nil, arith}
+use Rattle.std.proofs.Common.{◌≡◌, ◌≤◌, ◌<◌, ◌+◌, ℕ, List, [], ◌∷◌, ◌++◌, length, ◌⊎◌, inl, inr, refl, sym, ap, ◌∙◌, subst, append-nil, suc-ne-zero, arith}
 use Rattle.flow_model.specs.declared.history.Call.{Call}
 use Rattle.flow_model.specs.declared.history.Entry.{Entry}
 use Rattle.flow_model.specs.declared.history.Outcome.{Outcome}
@@ -70,7 +70,7 @@ module _ (w : Schema) (limit : ℕ) where
 
   pub driven_settles : (history : List Entry) → IsDriven w limit history → IsSettled history
   driven_settles history d leaf i kept free room =
-      let (first, (rest, is, back)) = d.goes_back history [] leaf i (sym (append-nil history)) kept free room in cc
+      let (first, (rest, is, back)) = d.goes_back history [] leaf i (sym (append-nil history)) kept free room in suc-ne-zero (length rest) (sym (ap length is))
 
   pub driven_of : (history : List Entry) → IsDrivenSoFar w limit history → IsSettled history → IsDriven w limit history
   driven_of history d settled = record {

@@ -1,4 +1,4 @@
-use Rattle.std.proofs.Common.{Err}
+use Rattle.std.proofs.Common.{Err, refl}
 use Rattle.flow_crew.proofs.Acting.{done_not_kept, failed_not_kept}
 use Rattle.flow_crew.proofs.entries.tell.Goals as goal
 
@@ -9,3 +9,9 @@ returns-in-Done-clause-failed c =
 pub returns-in-Err-clause-failed : goal.returns-in-Err-clause-failed
 returns-in-Err-clause-failed c =
     failed_not_kept c.args.core.now c.requires.unfinished c.requires.steps c.args.call c.requires.out c.args.by (Err c.in-Err.field-0) c.fail.new.self c.in-Err.ensures (λ e. cc)
+
+pub returns-in-Done-clause-records : goal.returns-in-Done-clause-records
+returns-in-Done-clause-records c = rw c.in-Done.is (c.done.result, c.done.ensures)
+
+pub returns-in-Err-clause-records : goal.returns-in-Err-clause-records
+returns-in-Err-clause-records c = rw c.in-Failed.is (Err c.in-Err.field-0, (c.fail.new.self, c.in-Err.ensures, refl))

@@ -1,4 +1,4 @@
-use Rattle.std.proofs.Common.{◌≡◌, ℕ, MatchOption, Option, Some, None, is_some, true, refl, sym, subst}
+use Rattle.std.proofs.Common.{◌≡◌, ℕ, MatchOption, Option, Some, None, is_some, true, refl, sym, ap, subst}
 use Rattle.flow_core.specs.Run.{Run, schema, now}
 use Rattle.flow_core.specs.Answers.{IsUnanswered}
 use Rattle.flow_model.specs.Verdict.{call_of}
@@ -7,7 +7,7 @@ use Rattle.flow_crew.specs.declared.ends.End.{End}
 use Rattle.flow_crew.specs.Ends.{HasEnd, HasNoEnd, IsEnd}
 use Rattle.flow_crew.specs.Moves.{IsOut}
 use Rattle.flow_crew.proofs.Endings.{IsWithin, legal_within}
-use Rattle.flow_crew.proofs.Continuing.{Goes, GoesFurther, stays, goes_on_from, further_then, fewer_left, begun, begun_further, begun_waits, begun_over, posted, posted_further, out_by_claim}
+use Rattle.flow_crew.proofs.Continuing.{Goes, GoesFurther, goes, stays, goes_on_from, further_then, fewer_left, begun, begun_further, begun_waits, begun_over, posted, posted_further, out_by_claim}
 use Rattle.flow_crew.proofs.book.Book.finish.Goals as goal
 use Rattle.flow_crew.proofs.book.Book.finish.Goals.{in-Perform, in-Wait}
 
@@ -34,8 +34,7 @@ loop-call-preserved-in-Went g c =
 pub loop-call-smaller-in-Went : goal.loop-call-smaller-in-Went
 loop-call-smaller-in-Went g c =
     let mid = c.loop-call.self-inside.held in
-    let is = c.in-Went.is in
-    fewer_left mid c.args.by c.begin.new.self (begun_further mid c.args.by c.begin.result c.begin.new.self c.loop-call.invariant.within c.begin.ensures (λ e. cc) (λ claim e. cc))
+    fewer_left mid c.args.by c.begin.new.self (begun_further mid c.args.by c.begin.result c.begin.new.self c.loop-call.invariant.within c.begin.ensures (ap goes c.in-Went.is))
 
 pub unwrap-requires : goal.unwrap-requires
 unwrap-requires g c =
@@ -49,8 +48,7 @@ loop-call-smaller g c =
     let last = c.post.new.self in
     let within : IsWithin next = (begun mid c.args.by c.begin.result next c.loop-call.invariant.within c.begin.ensures).within in
     let further : GoesFurther mid c.args.by last = elim c.match-begin.branch [
-      | in-Perform w ↦ (let is = w.in-Perform.is in
-          further_then mid c.args.by next last (begun_further mid c.args.by c.begin.result next c.loop-call.invariant.within c.begin.ensures (λ e. cc) (λ claim e. cc))
+      | in-Perform w ↦ (further_then mid c.args.by next last (begun_further mid c.args.by c.begin.result next c.loop-call.invariant.within c.begin.ensures (ap goes w.in-Perform.is))
           (posted next c.match-begin.call c.perform-outcome.result c.args.by last within c.post.ensures))
       | in-Wait w ↦ (let waits = begun_waits mid c.args.by w.in-Wait.claim next w.in-Wait.ensures in
           let out : IsOut next c.match-begin.call = subst (IsOut next) (sym w.call-is)
