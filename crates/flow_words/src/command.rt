@@ -1,21 +1,56 @@
-ghost use Rattle.std.specs.Prelude.{◌≡◌, IfOk, false};
-ghost use Rattle.clap.specs.Words.{app_of, rule_of, with_rule};
-ghost use Rattle.flow_words.specs.Command.{flow_app, mode_rule, number_rule};
+ghost use Rattle.std.specs.Prelude.{◌≡◌, IfOk, false, fold};
+ghost use Rattle.clap.specs.Words.{app_of, rule_of};
+ghost use Rattle.flow_words.specs.Command.{flow_app, mode_rule, rule_of_option, with_option};
 
 use clap::builder::ValueParser;
 use clap::{Arg, ArgAction, Command};
 use flow_model::{GREATEST_SEED, GREATEST_SIZE, MOST_ENTRIES, MOST_WORKERS};
 use std::alloc::{AllocError, Global};
 
+/// An option with one number.
+struct NumberOption<'a> {
+    name: &'a str,
+    least: u32,
+    greatest: u32,
+    /// What the number is where the option is not used.
+    default: &'a str,
+}
+
 /// The command that reads the words of a call.
 pub(crate) fn flow_command<'a>(alloc: Global) -> Result<Command<'a>, AllocError>
     ensures { IfOk result (λ command. app_of command ≡ flow_app) }
 {
     let command = Command::new(alloc, "flow").arg(mode_argument(alloc))?;
-    let command = with_number(alloc, command, "steps", 1, MOST_ENTRIES, "65536")?;
-    let command = with_number(alloc, command, "workers", 1, MOST_WORKERS, "4")?;
-    let command = with_number(alloc, command, "seed", 0, GREATEST_SEED, "1")?;
-    with_number(alloc, command, "size", 1, GREATEST_SIZE, "16")
+    with_numbers(
+        alloc,
+        command,
+        &[
+            NumberOption {
+                name: "steps",
+                least: 1,
+                greatest: MOST_ENTRIES,
+                default: "65536",
+            },
+            NumberOption {
+                name: "workers",
+                least: 1,
+                greatest: MOST_WORKERS,
+                default: "4",
+            },
+            NumberOption {
+                name: "seed",
+                least: 0,
+                greatest: GREATEST_SEED,
+                default: "1",
+            },
+            NumberOption {
+                name: "size",
+                least: 1,
+                greatest: GREATEST_SIZE,
+                default: "16",
+            },
+        ],
+    )
 }
 
 /// The one word that stands for itself.
@@ -28,35 +63,29 @@ fn mode_argument<'a>(alloc: Global) -> Arg<'a>
         .action(ArgAction::Set)
 }
 
-/// The command with a further option of one number.
-fn with_number<'a>(
+/// The command with further options of one number.
+fn with_numbers<'a>(
     alloc: Global,
     command: Command<'a>,
-    name: &'a str,
-    least: u32,
-    greatest: u32,
-    default: &'a str,
+    options: &[NumberOption<'a>],
 ) -> Result<Command<'a>, AllocError>
-    ensures { IfOk result (λ new. app_of new
-        ≡ with_rule (app_of command.entry) (number_rule name.entry.now least greatest default.entry.now)) }
+    ensures { IfOk result (λ new. app_of new ≡ fold with_option (app_of command.entry) options.entry.now) }
 {
-    command.arg(number_option(alloc, name, least, greatest, default))
+    let mut command = command;
+    for option in options {
+        command = command.arg(number_option(alloc, option))?;
+    }
+    Ok(command)
 }
 
 /// An option with one number, which is the default where the option is not used.
-fn number_option<'a>(
-    alloc: Global,
-    name: &'a str,
-    least: u32,
-    greatest: u32,
-    default: &'a str,
-) -> Arg<'a>
-    ensures rule { rule_of result ≡ number_rule name.entry.now least greatest default.entry.now }
+fn number_option<'a>(alloc: Global, option: &NumberOption<'a>) -> Arg<'a>
+    ensures rule { rule_of result ≡ rule_of_option option.entry.now }
     ensures local { result.global ≡ false }
 {
-    Arg::new(alloc, name)
-        .long(name)
+    Arg::new(alloc, option.name)
+        .long(option.name)
         .action(ArgAction::Set)
-        .value_parser(ValueParser::signed(i64::from(least), i64::from(greatest)))
-        .default_value(default)
+        .value_parser(ValueParser::signed(i64::from(option.least), i64::from(option.greatest)))
+        .default_value(option.default)
 }

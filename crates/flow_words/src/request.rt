@@ -1,12 +1,13 @@
-ghost use Rattle.std.specs.Prelude.{◌≡◌, ◌≤◌, ℕ, IfOk, IfSome, MatchOption, map};
+ghost use Rattle.std.specs.Prelude.{◌≡◌, ◌≤◌, ◌↔◌, ℕ, IfOk, IfSome, IsTrue, MatchOption, map};
 ghost use Rattle.std.specs.String.{string_bytes};
+ghost use Rattle.clap.specs.Values.{kind_of};
 ghost use Rattle.clap.specs.Words.{found_of, rows_of, one_of, one_text};
 ghost use Rattle.flow_words.specs.Command.{HasNumbers, IsBetween, IsReading};
 ghost use Rattle.flow_words.specs.Words.{mode_word, HasNumber, IsOf, IsCall, IsNoCall, IsWithin, OneRequest};
 
 use crate::command::flow_command;
-use clap::ArgMatches;
 use clap::error::ErrorKind;
+use clap::{ArgMatches, Error};
 use std::alloc::{AllocError, Global};
 
 /// What the program does.
@@ -62,9 +63,21 @@ fn read_words<'a>(alloc: Global, words: &'a [String]) -> Result<Option<ArgMatche
     let command = flow_command(alloc)?;
     match command.try_get_matches_from(words) {
         Ok(matches) => Ok(Some(matches)),
-        Err(error) if error.kind() == ErrorKind::OutOfMemory => Err(AllocError),
-        Err(_) => Ok(None),
+        Err(error) => {
+            if is_starved(error) {
+                Err(AllocError)
+            } else {
+                Ok(None)
+            }
+        }
     }
+}
+
+/// Whether the command failed for want of memory.
+fn is_starved(error: Error) -> bool
+    ensures { IsTrue result ↔ (kind_of error ≡ ErrorKind.OutOfMemory) }
+{
+    matches!(error.kind(), ErrorKind::OutOfMemory)
 }
 
 /// The request of what the command has found.
