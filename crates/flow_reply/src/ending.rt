@@ -13,15 +13,22 @@ pub(crate) fn print_number(alloc: Global, word: &str, number: u32) -> Result<Str
     format!(in alloc; "{word}{number}")
 }
 
+/// Prints a word.
+pub(crate) fn print_word(alloc: Global, word: &str) -> Result<String, AllocError>
+    ensures { IfOk result (λ text. string_bytes text ≡ word.now) }
+{
+    format!(in alloc; "{word}")
+}
+
 /// Prints what came of a `rewind`.
 pub fn print_rewind(alloc: Global, came: Result<u32, RewindRefusal>) -> Result<String, AllocError>
     ensures { IfOk result (λ text. string_bytes text ≡ rewind_text came) }
 {
     match came {
         Ok(index) => print_number(alloc, "rewound ", index),
-        Err(RewindRefusal::Closed) => format!(in alloc; "refused closed"),
+        Err(RewindRefusal::Closed) => print_word(alloc, "refused closed"),
         Err(RewindRefusal::Spent { limit }) => print_number(alloc, "refused spent ", limit),
-        Err(RewindRefusal::NoChoice) => format!(in alloc; "refused no-choice"),
+        Err(RewindRefusal::NoChoice) => print_word(alloc, "refused no-choice"),
     }
 }
 
@@ -30,14 +37,14 @@ pub fn print_commit(alloc: Global, came: Result<(), CommitRefusal>) -> Result<St
     ensures { IfOk result (λ text. string_bytes text ≡ commit_text came) }
 {
     match came {
-        Ok(()) => format!(in alloc; "committed"),
-        Err(CommitRefusal::Closed) => format!(in alloc; "refused closed"),
+        Ok(()) => print_word(alloc, "committed"),
+        Err(CommitRefusal::Closed) => print_word(alloc, "refused closed"),
         Err(CommitRefusal::Spent { limit }) => print_number(alloc, "refused spent ", limit),
         Err(CommitRefusal::ClaimsOut { claim }) => print_number(
             alloc,
             "refused claims-out ",
             claim,
         ),
-        Err(CommitRefusal::Unfinished) => format!(in alloc; "refused unfinished"),
+        Err(CommitRefusal::Unfinished) => print_word(alloc, "refused unfinished"),
     }
 }

@@ -1,8 +1,9 @@
-ghost use Rattle.std.specs.Prelude.{◌≡◌, IfOk};
+ghost use Rattle.std.specs.Prelude.{◌≡◌, ◌++◌, codes, IfOk};
+ghost use Rattle.std.specs.Fmt.{decimal};
 ghost use Rattle.std.specs.String.{string_bytes};
 ghost use Rattle.flow_reply.specs.Reply.{late_text, post_refused, done_text, fail_text};
 
-use crate::ending::print_number;
+use crate::ending::{print_number, print_word};
 use flow_core::{FailEffect, PostRefusal};
 use std::alloc::{AllocError, Global};
 
@@ -29,10 +30,17 @@ pub fn print_fail(
     ensures { IfOk result (λ text. string_bytes text ≡ fail_text claim came) }
 {
     match came {
-        Ok(FailEffect::Switched) => format!(in alloc; "failed {claim} switched"),
-        Ok(FailEffect::Kept) => format!(in alloc; "failed {claim} kept"),
+        Ok(FailEffect::Switched) => print_failed(alloc, claim, "switched"),
+        Ok(FailEffect::Kept) => print_failed(alloc, claim, "kept"),
         Err(refusal) => refuse_post(alloc, claim, refusal),
     }
+}
+
+/// Prints that a claim failed, and how.
+fn print_failed(alloc: Global, claim: u32, how: &str) -> Result<String, AllocError>
+    ensures { IfOk result (λ text. string_bytes text ≡ codes "failed " ++ decimal claim ++ codes " " ++ how.now) }
+{
+    format!(in alloc; "failed {claim} {how}")
 }
 
 /// Prints why a claim's result is not posted.
@@ -40,7 +48,7 @@ fn refuse_post(alloc: Global, claim: u32, refusal: PostRefusal) -> Result<String
     ensures { IfOk result (λ text. string_bytes text ≡ post_refused claim refusal) }
 {
     match refusal {
-        PostRefusal::Closed => format!(in alloc; "refused closed"),
+        PostRefusal::Closed => print_word(alloc, "refused closed"),
         PostRefusal::NoClaim => print_number(alloc, "refused claim ", claim),
         PostRefusal::Answered => print_number(alloc, "refused answered ", claim),
         PostRefusal::Spent { limit } => print_number(alloc, "refused spent ", limit),

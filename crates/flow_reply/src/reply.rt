@@ -4,7 +4,7 @@ ghost use Rattle.flow_core.specs.Run.{now};
 ghost use Rattle.flow_reply.specs.Reply.{IsAnswerTo, HasNamedCall, IsReply, IsReplyLine, given_text, take_text, take_refused, do_text};
 
 use crate::answer::Answer;
-use crate::ending::{print_commit, print_number, print_rewind};
+use crate::ending::{print_commit, print_number, print_rewind, print_word};
 use crate::posting::{print_done, print_fail};
 use crate::showing::{show_enabled, show_facts, show_journal, show_next};
 use flow_core::{Call, Core, DoRefusal, TakeRefusal};
@@ -22,9 +22,16 @@ pub fn print_reply(
     requires named { HasNamedCall core.now.definition.events answer.now }
     ensures { IfOk result (λ line. IsReplyLine core.now command.now answer.now line.items) }
 {
-    let mut line = print_answer(alloc, core, command, answer)?;
-    line.extend_from_slice(b"\n")?;
-    Ok(line)
+    with_bytes(print_answer(alloc, core, command, answer)?, b"\n")
+}
+
+/// The text with further bytes.
+pub(crate) fn with_bytes(text: Vec<u8>, more: &[u8]) -> Result<Vec<u8>, AllocError>
+    ensures { IfOk result (λ longer. longer.items ≡ text.items ++ more.now) }
+{
+    let mut text = text;
+    text.extend_from_slice(more)?;
+    Ok(text)
 }
 
 /// Prints the reply to a command.
@@ -39,7 +46,8 @@ fn print_answer(
     ensures { IfOk result (λ text. IsReply core.now command.now answer.now text.items) }
 {
     let text = match (*command, *answer) {
-        (Command::Take(leaf), Answer::Took(came)) => return print_take(alloc, core, leaf, came),
+        (Command::Take(_), Answer::Took(Ok(call))) => return print_call(alloc, core, &call),
+        (Command::Take(leaf), Answer::Took(Err(refusal))) => refuse_take(alloc, leaf, refusal),
         (Command::Do(leaf), Answer::Did(came)) => print_do(alloc, leaf, came),
         (Command::Done(claim), Answer::Done(came)) => print_done(alloc, claim, came),
         (Command::Fail(claim), Answer::Failed(came)) => print_fail(alloc, claim, came),
@@ -54,30 +62,16 @@ fn print_answer(
     Ok(text?.into_bytes())
 }
 
-/// Prints what came of a `take`.
-fn print_take(
-    alloc: Global,
-    core: &Core,
-    leaf: u32,
-    came: Result<Call, TakeRefusal>,
-) -> Result<Vec<u8>, AllocError>
-    requires { HasNamedCall core.now.definition.events (Answer.Took came) }
-    ensures { IfOk result (λ text. text.items ≡ take_text core.now.definition (now core.now).epoch leaf came) }
-{
-    match came {
-        Ok(call) => print_call(alloc, core, &call),
-        Err(refusal) => Ok(refuse_take(alloc, leaf, refusal)?.into_bytes()),
-    }
-}
-
 /// Prints a call that is given.
 fn print_call(alloc: Global, core: &Core, call: &Call) -> Result<Vec<u8>, AllocError>
     requires { call.now.event < length core.now.definition.events }
     ensures { IfOk result (λ text. text.items ≡ take_text core.now.definition (now core.now).epoch 0 (Ok call.now)) }
 {
-    let mut text = print_given(alloc, core.epoch(), call)?.into_bytes();
-    text.extend_from_slice(core.workflow().events()[call.event as usize].bytes())?;
-    Ok(text)
+    let given = print_given(alloc, core.epoch(), call)?;
+    with_bytes(
+        given.into_bytes(),
+        core.workflow().events()[call.event as usize].bytes(),
+    )
 }
 
 /// Prints a call that is given, up to its event's name.
@@ -94,7 +88,7 @@ fn refuse_take(alloc: Global, leaf: u32, refusal: TakeRefusal) -> Result<String,
     ensures { IfOk result (λ text. string_bytes text ≡ take_refused leaf refusal) }
 {
     match refusal {
-        TakeRefusal::Closed => format!(in alloc; "refused closed"),
+        TakeRefusal::Closed => print_word(alloc, "refused closed"),
         TakeRefusal::NoLeaf => print_number(alloc, "refused leaf ", leaf),
         TakeRefusal::WrongKind => print_number(alloc, "refused kind ", leaf),
         TakeRefusal::Spent { limit } => print_number(alloc, "refused spent ", limit),
@@ -108,7 +102,7 @@ fn print_do(alloc: Global, leaf: u32, came: Result<(), DoRefusal>) -> Result<Str
 {
     match came {
         Ok(()) => print_number(alloc, "did ", leaf),
-        Err(DoRefusal::Closed) => format!(in alloc; "refused closed"),
+        Err(DoRefusal::Closed) => print_word(alloc, "refused closed"),
         Err(DoRefusal::NoLeaf) => print_number(alloc, "refused leaf ", leaf),
         Err(DoRefusal::WrongKind) => print_number(alloc, "refused kind ", leaf),
         Err(DoRefusal::Spent { limit }) => print_number(alloc, "refused spent ", limit),

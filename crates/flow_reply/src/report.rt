@@ -4,6 +4,7 @@ ghost use Rattle.flow_core.specs.Run.{now};
 ghost use Rattle.flow_record.specs.Journal.{AreLeaves};
 ghost use Rattle.flow_reply.specs.Report.{IsVerdictText, IsReport, report_text};
 
+use crate::ending::{print_number, print_word};
 use crate::listed::print_stuck;
 use crate::verdict::Verdict;
 use flow_core::Core;
@@ -17,7 +18,9 @@ pub fn print_report(alloc: Global, core: &Core, verdict: &Verdict) -> Result<Vec
     ensures { IfOk result (λ text. IsReport core.now verdict.now text.items) }
 {
     let words = print_verdict(alloc, core, verdict)?;
-    print_with(alloc, core, words.as_bytes())
+    let report = print_with(alloc, core, words.as_bytes());
+    drop(words);
+    report
 }
 
 /// Prints the report of a run, its verdict in these words.
@@ -64,10 +67,10 @@ pub fn print_verdict(alloc: Global, core: &Core, verdict: &Verdict) -> Result<St
     ensures { IfOk result (λ text. IsVerdictText core.now verdict.now (string_bytes text)) }
 {
     match verdict {
-        Verdict::Committed => format!(in alloc; "committed"),
-        Verdict::Spent => format!(in alloc; "spent"),
-        Verdict::NoOther(leaf) => format!(in alloc; "no-other {leaf}"),
+        Verdict::Committed => print_word(alloc, "committed"),
+        Verdict::Spent => print_word(alloc, "spent"),
+        Verdict::NoOther(leaf) => print_number(alloc, "no-other ", *leaf),
         Verdict::Stuck => print_stuck(alloc, core),
-        Verdict::Unfinished => format!(in alloc; "unfinished"),
+        Verdict::Unfinished => print_word(alloc, "unfinished"),
     }
 }

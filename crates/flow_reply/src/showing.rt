@@ -5,6 +5,7 @@ ghost use Rattle.flow_record.specs.declared.command.Command.TheVariants as comma
 ghost use Rattle.flow_reply.specs.Reply.{IsReply, spaced_facts};
 ghost use Rattle.flow_reply.specs.declared.answer.Answer.TheVariants.{Shown};
 
+use crate::ending::{print_number, print_word};
 use crate::listed::{enabled, held, print_numbers, print_stuck_at};
 use flow_core::{Core, Next};
 use flow_facts::push_fact;
@@ -16,11 +17,11 @@ pub fn show_next(alloc: Global, core: &Core) -> Result<String, AllocError>
     ensures { IfOk result (λ text. IsReply core.now command.Next Shown (string_bytes text)) }
 {
     match core.next() {
-        Next::Act(leaf) => format!(in alloc; "act {leaf}"),
-        Next::Wait(claim) => format!(in alloc; "wait {claim}"),
-        Next::Finished => format!(in alloc; "finished"),
+        Next::Act(leaf) => print_number(alloc, "act ", leaf),
+        Next::Wait(claim) => print_number(alloc, "wait ", claim),
+        Next::Finished => print_word(alloc, "finished"),
         Next::Stuck(_) => print_stuck_at(alloc, core),
-        Next::Ended => format!(in alloc; "ended"),
+        Next::Ended => print_word(alloc, "ended"),
     }
 }
 
@@ -42,8 +43,18 @@ pub fn show_journal(alloc: Global, core: &Core) -> Result<String, AllocError>
 pub fn show_facts(alloc: Global, core: &Core) -> Result<Vec<u8>, AllocError>
     ensures { IfOk result (λ text. IsReply core.now command.Facts Shown text.items) }
 {
+    let facts = held(alloc, core)?;
+    let text = print_facts(alloc, core.workflow(), &facts);
+    drop(facts);
+    text
+}
+
+/// Prints the facts of those numbers.
+fn print_facts(alloc: Global, workflow: &Workflow, facts: &[u32]) -> Result<Vec<u8>, AllocError>
+    ensures { IfOk result (λ text. text.items ≡ codes "facts" ++ spaced_facts workflow.now facts.now) }
+{
     let mut text = Vec::from_slice(alloc, b"facts")?;
-    push_facts(&mut text, core.workflow(), &held(alloc, core)?)?;
+    push_facts(&mut text, workflow, facts)?;
     Ok(text)
 }
 

@@ -5,10 +5,10 @@ ghost use Rattle.serde_json.specs.View.{view, members_view};
 ghost use Rattle.serde_json.specs.Written.{compact_text};
 ghost use Rattle.flow_reply.specs.Summary.{count, summary_object, IsSummary};
 
+use crate::reply::with_bytes;
 use crate::report::print_verdict;
 use crate::verdict::Verdict;
 use flow_core::Core;
-use flow_findings::print_pieces;
 use serde_json::{Map, Value, put};
 use std::alloc::{AllocError, Global};
 
@@ -35,8 +35,9 @@ pub fn print_summary(alloc: Global, core: &Core, summary: &Summary) -> Result<Ve
     ensures { IfOk result (λ text. IsSummary core.now summary.now text.items) }
 {
     let words = print_verdict(alloc, core, &summary.verdict)?;
-    let object = print_object(alloc, summary, &words)?;
-    print_pieces(alloc, &[object.as_bytes(), b"\n"])
+    let object = print_object(alloc, summary, &words);
+    drop(words);
+    with_bytes(object?.into_bytes(), b"\n")
 }
 
 /// Prints the summary as an object of JSON, its verdict in these words.

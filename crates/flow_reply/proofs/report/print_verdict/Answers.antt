@@ -4,8 +4,8 @@ use Rattle.flow_reply.proofs.report.print_verdict.Goals as goal
 
 pub returns-in-NoOther : goal.returns-in-NoOther
 returns-in-NoOther c =
-    IfOk-weaker c.format-in-NoOther.result _ _
-    (λ text is. no_other_text c.args.core.now c.args.verdict.now c.in-NoOther.leaf _ c.in-NoOther.is is) c.format-in-NoOther.ensures.ok
+    IfOk-weaker c.print_number.result _ _
+    (λ text is. no_other_text c.args.core.now c.args.verdict.now c.in-NoOther.leaf _ c.in-NoOther.is is) c.print_number.ensures
 
 pub returns-in-Stuck : goal.returns-in-Stuck
 returns-in-Stuck c =
