@@ -12,9 +12,9 @@ use Rattle.flow_core.specs.Lawful.{IsLawful}
 use Rattle.flow_record.specs.declared.command.Command.{Command}
 use Rattle.flow_record.specs.declared.refusal.RecordRefusal.{RecordRefusal}
 use Rattle.flow_record.specs.declared.refusal.RecordRefusal.TheVariants as record_refusal
-use Rattle.flow_record.specs.Journal.{JournalText, journal}
+use Rattle.flow_record.specs.Journal.{journal}
 use Rattle.flow_record.specs.Journal as journal_text
-use Rattle.flow_record.specs.Session.{SessionText, session_of, commands}
+use Rattle.flow_record.specs.Session.{commands}
 use Rattle.flow_record.specs.Session as session_text
 use Rattle.flow_trace.specs.declared.checked.Checked.{Checked}
 use Rattle.flow_trace.specs.declared.checked.Checked.TheVariants.{Execution, Prefix, Bad}

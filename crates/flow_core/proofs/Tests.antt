@@ -1,16 +1,13 @@
 -- What the claims of a core, its residual and its world say of the state.
-use Rattle.std.proofs.Common.{◌≡◌, ◌<◌, ℕ, Bool, true, false, not, ◌&&◌, nat_eq, nat_lt, List, [], ◌∷◌, ◌++◌, map, Some, ◌↔◌, IsTrue, IsSomeAnd, refl, sym, ap, ◌∙◌, subst, true≢false}
-use Rattle.std.proofs.lemmas.Bool.{eq-eqb, lt-ltb}
+use Rattle.std.proofs.Common.{◌≡◌, ℕ, Bool, true, false, not, List, [], ◌∷◌, ◌++◌, map, ◌↔◌, IsTrue, IsSomeAnd, sym, ap, ◌∙◌, subst, true≢false}
 use Rattle.flow_model.specs.Lists.{◌∈◌}
 use Rattle.flow_model.specs.Schema.{Schema}
-use Rattle.flow_model.specs.Run.{Claim, RunState, first_state, current_leaves, current_claims, claim_at, leaf_of_claim, is_current, is_lapsed, IsCurrent, IsLapsed, MayAllFollow, MayFollowFirst, CanTake}
-use Rattle.flow_laws.proofs.ClaimLemmas.{leaf_of_claim_is}
+use Rattle.flow_model.specs.Run.{Claim, RunState, first_state, current_leaves, current_claims, claim_at, MayAllFollow, MayFollowFirst, CanTake}
 use Rattle.flow_workflow.specs.Definition.{Definition, schema_of}
 use Rattle.flow_residual.specs.Remaining.{Remaining, IsOf}
 use Rattle.flow_residual.specs.declared.given.Given.{Given}
-use Rattle.flow_residual.specs.Given.{claim_of}
 use Rattle.flow_residual.specs.Claimed.{Claimed, run_of, IsUnanswered}
-use Rattle.flow_core.specs.Answers.{IsAnswered, IsUnanswered as IsUnansweredIn, IsLateOf}
+use Rattle.flow_core.specs.Answers.{IsUnanswered as IsUnansweredIn}
 use Rattle.flow_core.specs.Invariant.{AreClaimsOf}
 
 module _ (w : Definition) (s : RunState) (c : Claimed) (are : AreClaimsOf w s c) where

@@ -1,13 +1,13 @@
 -- The answers that a run gives where it can go on.
-use Rattle.std.proofs.Common.{◌≡◌, ◌≤◌, ◌<◌, ◌≢◌, ℕ, false, length, Result, Ok, Err, IsTrue, IsSomeAnd, is_some, refl, sym, ap, ◌∙◌, subst, inl, inr, arith, true≢false}
+use Rattle.std.proofs.Common.{◌≡◌, ℕ, false, Result, Ok, Err, IsSomeAnd, refl, subst, inl, inr, arith}
 use Rattle.std.specs.Result.{IsOk}
 use Rattle.flow_model.specs.declared.history.Call.{Call}
 use Rattle.flow_model.specs.declared.history.FailEffect.{FailEffect}
 use Rattle.flow_model.specs.declared.history.FailEffect.TheVariants.{Switched, Kept}
 use Rattle.flow_model.specs.declared.history.Step.{Step}
 use Rattle.flow_model.specs.declared.history.Step.TheVariants.{Done, Failed, Late, Did, Committed}
-use Rattle.flow_model.specs.Schema.{Schema, IsEventLeaf, IsOtherLeaf}
-use Rattle.flow_model.specs.Run.{Claim, claim_at, CanDo}
+use Rattle.flow_model.specs.Schema.{IsOtherLeaf}
+use Rattle.flow_model.specs.Run.{Claim, CanDo}
 use Rattle.flow_model.specs.Verdict.{EndsKept}
 use Rattle.flow_core.specs.declared.next.Next.TheVariants as next
 use Rattle.flow_core.specs.declared.refusal.TakeRefusal.{TakeRefusal}
@@ -21,7 +21,7 @@ use Rattle.flow_core.specs.declared.refusal.RewindRefusal.TheVariants as rewind
 use Rattle.flow_core.specs.declared.refusal.CommitRefusal.{CommitRefusal}
 use Rattle.flow_core.specs.declared.refusal.CommitRefusal.TheVariants as commit
 use Rattle.flow_core.specs.Run.{Run, schema, now, with_entry, HasEntryLeft}
-use Rattle.flow_core.specs.Answers.{IsOver, IsAnswered, IsUnanswered, Takes, Performs, Commits, Rewinds, PostIsRefused, PostsDone, PostsFailed}
+use Rattle.flow_core.specs.Answers.{IsOver, Takes, Performs, Commits, Rewinds, PostIsRefused, PostsDone, PostsFailed}
 use Rattle.flow_core.specs.Looks.{IsNext}
 use Rattle.flow_core.proofs.OneAnswer.{none_event, none_other, other_event, not_both}
 use Rattle.flow_core.proofs.Waiting.{none_current}

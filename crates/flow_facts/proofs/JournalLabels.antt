@@ -1,9 +1,9 @@
 -- The labels of journals: performed, of fronts, and how many there are.
-use Rattle.std.proofs.Common.{◌≡◌, ◌<◌, ℕ, zero, suc, List, [], ◌∷◌, ◌++◌, length, take, Option, Some, None, slice_get, refl, sym, ap, ◌∙◌, ◌⊎◌, ⊎_elim, inl, inr, arith}
+use Rattle.std.proofs.Common.{◌≡◌, ◌<◌, ℕ, zero, suc, List, [], ◌∷◌, ◌++◌, length, take, Option, Some, None, slice_get, refl, sym, ap, ◌∙◌, arith}
 use Rattle.std.proofs.lemmas.List.Elements.{filter_map-append}
 use Rattle.flow_model.specs.declared.labels.Label.{Label}
 use Rattle.flow_model.specs.Lists.{Each}
-use Rattle.flow_model.specs.Facts.{State, after, after_leaf, replay}
+use Rattle.flow_model.specs.Facts.{State, after, replay}
 use Rattle.flow_facts.specs.Course.{after_all}
 use Rattle.flow_facts.specs.Journals.{labels_at}
 

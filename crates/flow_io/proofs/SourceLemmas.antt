@@ -1,5 +1,5 @@
 -- What one read, and one read after others, do to the bytes that a source has left.
-use Rattle.std.proofs.Common.{◌≡◌, ℕ, ◌+◌, ◌<◌, ◌≤◌, ◌↔◌, List, ◌++◌, length, take, drop, min, Option, None, Some, IfSome, Result, Ok, Err, IfOk, sym, ap, ◌∙◌, arith, append_assoc, length-append}
+use Rattle.std.proofs.Common.{◌≡◌, ℕ, ◌+◌, ◌<◌, ◌↔◌, List, ◌++◌, length, take, drop, min, Option, None, Some, IfSome, Result, Ok, Err, IfOk, sym, ap, ◌∙◌, arith, append_assoc, length-append}
 use Rattle.std.proofs.lemmas.List.{take-append-drop, take-append-le, drop-append-le, drop-drop, drop_all, drop_at, length-take}
 use Rattle.std.specs.Io.KnownBytes.{Consumes}
 use Rattle.flow_io.specs.Source.{GivesNext, LosesCount}

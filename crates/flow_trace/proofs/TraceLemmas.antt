@@ -1,5 +1,5 @@
 -- What is told of a list of leaves, by the options that it follows and by the labels that hold.
-use Rattle.std.proofs.Common.{◌≡◌, ◌<◌, ◌≤◌, ◌+◌, ℕ, zero, suc, ◌↔◌, append-nil, le_antisymm, List, [], ◌∷◌, ◌++◌, length, take, drop, get_or, slice_get, IsTrue, Bool, true, false, refl, sym, ap, ◌∙◌, subst, arith, length-append, inl, inr}
+use Rattle.std.proofs.Common.{◌≡◌, ◌<◌, ◌≤◌, ◌+◌, ℕ, zero, suc, ◌↔◌, le_antisymm, List, [], ◌∷◌, ◌++◌, length, take, drop, get_or, slice_get, IsTrue, Bool, true, false, refl, sym, ap, ◌∙◌, subst, arith, length-append, inl, inr}
 use Rattle.std.proofs.lemmas.Bool.{cases_lt}
 use Rattle.std.proofs.lemmas.List.{take_all, take_more, take-append-drop, length-take-le}
 use Rattle.std.proofs.lemmas.List.Elements.{filter_map-append}

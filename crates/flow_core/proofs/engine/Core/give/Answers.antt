@@ -1,4 +1,4 @@
-use Rattle.std.proofs.Common.{◌≡◌, ◌<◌, ◌≤◌, ◌+◌, ℕ, cond, nat_eq, false, List, [], ◌∷◌, ◌++◌, length, map, take, Some, slice_get, slice_index_or, sym, ap, ◌∙◌, refl, arith, length-append}
+use Rattle.std.proofs.Common.{◌≡◌, ◌≤◌, ◌+◌, ℕ, cond, nat_eq, false, List, [], ◌∷◌, ◌++◌, length, map, take, Some, slice_get, slice_index_or, sym, ap, ◌∙◌, refl, arith, length-append}
 use Rattle.std.specs.List.{find}
 use Rattle.std.proofs.lemmas.Bool.{eq-eqb}
 use Rattle.std.proofs.lemmas.List.{take_all, length-map}

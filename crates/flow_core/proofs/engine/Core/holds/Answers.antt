@@ -1,4 +1,4 @@
-use Rattle.std.proofs.Common.{ap, ◌∙◌, sym}
+use Rattle.std.proofs.Common.{ap, ◌∙◌}
 use Rattle.flow_model.specs.Facts.{State}
 use Rattle.flow_core.proofs.Lawful.{world_is}
 use Rattle.flow_core.proofs.engine.Core.holds.Goals as goal

@@ -1,4 +1,4 @@
-use Rattle.std.proofs.Common.{◌∙◌, ℕ, sym, below_more, true≢false}
+use Rattle.std.proofs.Common.{◌∙◌, sym, below_more, true≢false}
 use Rattle.flow_model.specs.Run.{CanDoAside}
 use Rattle.flow_core.specs.Run.{schema, now}
 use Rattle.flow_core.proofs.engine.Core.least_left.Goals.{else-not-is_done-via-then-not-is_done+else-is_left, else-not-is_done-via-else-not-is_done}

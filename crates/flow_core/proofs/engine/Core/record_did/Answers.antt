@@ -1,4 +1,4 @@
-use Rattle.std.proofs.Common.{◌≡◌, MatchOption, subst, sym, refl}
+use Rattle.std.proofs.Common.{MatchOption, subst, sym, refl}
 use Rattle.flow_model.specs.Facts.{Holds, HoldsAt}
 use Rattle.flow_model.specs.Run.{database}
 use Rattle.flow_workflow.specs.Definition.{schema_of}

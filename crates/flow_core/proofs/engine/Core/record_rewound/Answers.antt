@@ -1,4 +1,4 @@
-use Rattle.std.proofs.Common.{◌<◌, ◌≤◌, ℕ, List, length, subst, sym, arith, refl}
+use Rattle.std.proofs.Common.{◌<◌, ℕ, List, length, subst, sym, arith, refl}
 use Rattle.flow_residual.specs.Remaining.{IsOf}
 use Rattle.flow_core.proofs.Steps.{kept_rewound}
 use Rattle.flow_core.proofs.Standings.{course_length}

@@ -1,4 +1,4 @@
-use Rattle.std.proofs.Common.{◌≡◌, ◌<◌, ◌≤◌, ◌+◌, length, subst, sym, ap, ◌∙◌, arith, refl}
+use Rattle.std.proofs.Common.{◌≡◌, ◌+◌, subst, sym, ap, ◌∙◌, arith, refl}
 use Rattle.flow_residual.specs.Remaining.{IsOf, IsAvoidable}
 use Rattle.flow_residual.specs.Claimed.{Claimed}
 use Rattle.flow_core.specs.Run.{schema, now}

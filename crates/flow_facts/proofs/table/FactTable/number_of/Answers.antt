@@ -2,7 +2,7 @@ use Rattle.std.proofs.Common.{ap, sym, subst, ◌∙◌, ◌≡◌, ◌≢◌, �
 use Rattle.flow_facts.specs.Same.{atom_eq-Decides}
 use Rattle.flow_facts.proofs.Places.{mem-slice_get, not_in_first, found_at}
 use Rattle.flow_facts.proofs.table.FactTable.number_of.Goals as goal
-use Rattle.flow_facts.proofs.table.FactTable.number_of.Goals.{Then-eq, Else-eq}
+use Rattle.flow_facts.proofs.table.FactTable.number_of.Goals.{Then-eq}
 
 is_there : (c : Then-eq) → slice_get c.args.self.now c.loop-number.number ≡ Some c.args.fact.now
 is_there c =
