@@ -1,6 +1,7 @@
 -- What the rows of isolated parts say.
-use Rattle.std.proofs.Common.{◌≡◌, ◌≢◌, ℕ, ◌+◌, ◌-◌, ◌<◌, ◌≤◌, zero, suc, Bool, true, false, not, ◌==◌, ◌&&◌, ◌||◌, ◌↔◌, IsTrue, List, [], ◌∷◌, ◌++◌, length, take, drop, get_or, inl, inr, ◌↔◌, ⊎_elim, refl, sym, ◌∙◌, ap, subst, arith, min}
-use Rattle.std.proofs.lemmas.List.{take_more, length-take, length-drop, get_or-take, get_or-drop}
+use Rattle.std.proofs.Common.{◌≡◌, ◌≢◌, ℕ, ◌+◌, ◌-◌, ◌<◌, ◌≤◌, zero, suc, Bool, true, false, not, ◌==◌, ◌&&◌, ◌||◌, ◌↔◌, IsTrue, List, [], ◌∷◌, ◌++◌, length, take, drop, get_or, inl, inr, ◌⊎◌, ⊎_elim, refl, sym, ◌∙◌, ap, subst, arith, min}
+use Rattle.std.proofs.Math.Seq.{take-add}
+use Rattle.std.proofs.lemmas.List.{take_more, drop-drop, length-take, length-drop, get_or-take, get_or-drop}
 use Rattle.std.proofs.lemmas.Bool.{cases_lt, cases_eq, or_cases, or_left, or_right}
 use Rattle.std.specs.List.Sorted.{IsStrictlyIncreasing}
 use Rattle.leaf_rows.specs.Leaves.{has_leaf}
@@ -10,11 +11,12 @@ use Rattle.flow_model.specs.Process.{Process, leaves}
 use Rattle.flow_model.specs.Ready.{DirectlyBefore}
 use Rattle.flow_laws.proofs.Members.{mem_append_left, mem_append_right, mem-append, only_one, each_member, each_from_members}
 use Rattle.flow_plan.specs.declared.part_row.PartRow.{PartRow}
+use Rattle.flow_plan.specs.declared.part_row.Reach.{Reach}
 use Rattle.flow_plan.specs.declared.span.Span.{Span}
 use Rattle.flow_plan.specs.Rows.{IsRowOf, AreRowsOf}
 use Rattle.flow_plan.specs.Ahead.{IsInSome, IsOutside}
 use Rattle.flow_plan.specs.Spans.{at_span, IsEarlier, AreRising, AddsSpans}
-use Rattle.flow_plan.specs.Parts.{IsOneAtMost, IsPartFor, ArePartsFor, IsPartRow, HasTwo, HaveSameLeaves, HaveOtherLeaves, ArePartsOf, PartAllows}
+use Rattle.flow_plan.specs.Parts.{IsOneAtMost, IsPartFor, ArePartsFor, Reaches, IsPartRow, HasTwo, HaveSameLeaves, HaveOtherLeaves, ArePartsOf, PartAllows}
 use Rattle.std.proofs.lemmas.Option.{slice_get-get_or}
 use Rattle.flow_model.proofs.Lists.{mem-slice_get}
 use Rattle.flow_plan.proofs.PlaceLemmas.{place_of_member, read_member}
@@ -50,6 +52,55 @@ row_more rows i now new row within at is union =
 pub left_over : (P Q : Type 0) (out has new : Bool) → new ≡ (not out && has) → IsTrue out ↔ P → IsTrue has ↔ Q → IsTrue new ↔ (¬ P × Q)
 left_over P Q true has new is p q = (λ h. absurd (cc), λ both. absurd (both.0 (p.0 refl)))
 left_over P Q false has new is p q = (λ h. ((λ x. let no = p.1 x in absurd (cc)), q.0 (sym is ∙ h)), λ both. is ∙ q.1 both.1)
+
+-- the places of a span: those ahead of one within it, its own, and those behind it
+pub span_in_three : {A : Type 0} (l : List A) (s t : Span) → s.first ≤ t.first → t.first ≤ t.end → t.end ≤ s.end →
+    at_span s l ≡ take (t.first - s.first) (drop s.first l) ++ (at_span t l ++ take (s.end - t.end) (drop t.end l))
+span_in_three l s t begins own ends =
+    let front = t.first - s.first in
+    let middle = t.end - t.first in
+    let back = s.end - t.end in
+    let size : s.end - s.first ≡ front + (middle + back) = omega arith in
+    let at_first : s.first + front ≡ t.first = omega arith in
+    let at_end : t.first + middle ≡ t.end = omega arith in
+    ap (λ n. take n (drop s.first l)) size ∙ take-add front (middle + back) (drop s.first l)
+    ∙ ap (λ rest. take front (drop s.first l) ++ rest)
+    (ap (take (middle + back)) (drop-drop front s.first l ∙ ap (λ n. drop n l) at_first) ∙ take-add middle back (drop t.first l)
+    ∙ ap (λ rest. at_span t l ++ rest) (ap (take back) (drop-drop middle t.first l ∙ ap (λ n. drop n l) at_end)))
+
+in_three : {A : Type 0} (x : A) (a m b : List A) → x ∈ (a ++ (m ++ b)) ↔ ((x ∈ m ⊎ x ∈ a) ⊎ x ∈ b)
+in_three x a m b = (
+  λ h. ⊎_elim (λ p. inl (inr p)) (λ q. ⊎_elim (λ p. inl (inl p)) (λ p. inr p) (mem-append x m b q)) (mem-append x a (m ++ b) h),
+  λ h. ⊎_elim (λ p. ⊎_elim (λ q. mem_append_right x a (m ++ b) (mem_append_left x m b q)) (λ q. mem_append_left x a (m ++ b) q) p)
+      (λ p. mem_append_right x a (m ++ b) (mem_append_right x m b p)) h,
+)
+
+some_in_three : (x : ℕ) (a m b : List (LeafSet 16)) → IsInSome (a ++ (m ++ b)) x ↔ ((IsInSome m x ⊎ IsInSome a x) ⊎ IsInSome b x)
+some_in_three x a m b = (
+  λ h. ⊎_elim (λ p. ⊎_elim (λ q. inl (inl (h.0, q, h.2))) (λ q. inl (inr (h.0, q, h.2))) p) (λ p. inr (h.0, p, h.2)) ((in_three h.0 a m b).0 h.1),
+  λ h. ⊎_elim (λ p. ⊎_elim (λ q. (q.0, (in_three q.0 a m b).1 (inl (inl q.1)), q.2)) (λ q. (q.0, (in_three q.0 a m b).1 (inl (inr q.1)), q.2)) p)
+      (λ p. (p.0, (in_three p.0 a m b).1 (inr p.1), p.2)) h,
+)
+
+twice_more : (P Q R W : Type 0) (old mid new : Bool) → IsTrue old ↔ P → IsTrue mid ↔ (IsTrue old ⊎ Q) → IsTrue new ↔ (IsTrue mid ⊎ R) → W ↔ ((P ⊎ Q) ⊎ R) → IsTrue new ↔ W
+twice_more P Q R W old mid new p q r w = (
+  λ h. w.1 (⊎_elim (λ m. inl (⊎_elim (λ o. inl (p.0 o)) (λ k. inr k) (q.0 m))) (λ k. inr k) (r.0 h)),
+  λ h. r.1 (⊎_elim (λ m. inl (q.1 (⊎_elim (λ o. inl (p.1 o)) (λ k. inr k) m))) (λ k. inr k) (w.0 h)),
+)
+
+pub reach_grown : (ns : List ℕ) (rows : List (LeafSet 16)) (s : Span) (old mid new : Reach) → s.first ≤ old.span.first → old.span.first ≤ old.span.end → old.span.end ≤ s.end → Reaches ns rows old
+    → ((x : ℕ) → IsTrue (has_leaf mid.inside x) ↔ (IsTrue (has_leaf old.inside x) ⊎ (x ∈ take (old.span.first - s.first) (drop s.first ns))))
+    → ((x : ℕ) → IsTrue (has_leaf mid.before x) ↔ (IsTrue (has_leaf old.before x) ⊎ IsInSome (take (old.span.first - s.first) (drop s.first rows)) x))
+    → ((x : ℕ) → IsTrue (has_leaf new.inside x) ↔ (IsTrue (has_leaf mid.inside x) ⊎ (x ∈ take (s.end - old.span.end) (drop old.span.end ns))))
+    → ((x : ℕ) → IsTrue (has_leaf new.before x) ↔ (IsTrue (has_leaf mid.before x) ⊎ IsInSome (take (s.end - old.span.end) (drop old.span.end rows)) x))
+    → IsRowOf (λ x. x ∈ at_span s ns) new.inside × IsRowOf (IsInSome (at_span s rows)) new.before
+reach_grown ns rows s old mid new begins own ends reaches front ahead back behind =
+    let t = old.span in (
+      (λ x. subst (λ l. IsTrue (has_leaf new.inside x) ↔ (x ∈ l)) (sym (span_in_three ns s t begins own ends))
+          (twice_more _ _ _ _ _ _ _ (reaches.0 x) (front x) (back x) (in_three x _ (at_span t ns) _))),
+      (λ x. subst (λ (l : List (LeafSet 16)). IsTrue (has_leaf new.before x) ↔ IsInSome l x) (sym (span_in_three rows s t begins own ends))
+          (twice_more _ _ _ _ _ _ _ (reaches.1 x) (ahead x) (behind x) (some_in_three x _ (at_span t rows) _))),
+    )
 
 -- ---- what a part allows
 

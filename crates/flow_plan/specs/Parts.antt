@@ -6,11 +6,12 @@ use Rattle.flow_model.specs.Lists.{◌∈◌, Each}
 use Rattle.flow_model.specs.Process.{Process, leaves}
 use Rattle.flow_model.specs.Ready.{DirectlyBefore, isolated_parts}
 use Rattle.flow_plan.specs.declared.part_row.PartRow.{PartRow}
+use Rattle.flow_plan.specs.declared.part_row.Reach.{Reach}
 use Rattle.flow_plan.specs.declared.part_row.Use.{Use}
 use Rattle.flow_plan.specs.declared.part_row.Use.TheVariants.{Next, Beside, First}
 use Rattle.flow_plan.specs.declared.span.Span.{Span}
 use Rattle.flow_plan.specs.Rows.{IsRowOf}
-use Rattle.flow_plan.specs.Ahead.{IsOutside}
+use Rattle.flow_plan.specs.Ahead.{IsInSome, IsOutside}
 use Rattle.flow_plan.specs.Spans.{at_span}
 
 -- all with P are one
@@ -21,6 +22,10 @@ IsOneAtMost P = (x y : ℕ) → P x → P y → x ≡ y
 pub record IsPartFor (ns : List ℕ) (before : List (LeafSet 16)) (s : Span) (row : PartRow) : Type 0 where
   pub inside : IsRowOf (λ x. x ∈ at_span s ns) row.inside
   pub outside : IsRowOf (IsOutside (at_span s ns) (at_span s before)) row.outside
+
+-- the leaves at the places of its span, and what is in some of their rows
+abbrev pub Reaches : List ℕ → List (LeafSet 16) → Reach → Type 0
+Reaches ns rows reach = IsRowOf (λ x. x ∈ at_span reach.span ns) reach.inside × IsRowOf (IsInSome (at_span reach.span rows)) reach.before
 
 -- one row a span
 abbrev pub ArePartsFor : List ℕ → List (LeafSet 16) → List Span → List PartRow → Type 0

@@ -1,11 +1,14 @@
-ghost use Rattle.std.specs.Prelude.{◌≡◌, ◌<◌, ◌↔◌, ◌&&◌, if◌then◌else◌, ℕ, IsTrue, All, Some, [], ◌∷◌};
+ghost use Rattle.std.specs.Prelude.{◌≡◌, ◌<◌, ◌≤◌, ◌↔◌, ◌⊎◌, ◌&&◌, if◌then◌else◌, ℕ, IsTrue, List, All, Some, [], ◌∷◌, length};
 ghost use Rattle.flow_model.specs.declared.limits.TheConstants.{MOST_LEAVES};
 ghost use Rattle.flow_model.specs.Ready.{DoneOr};
 ghost use Rattle.flow_model.specs.Lists.{◌∈◌};
 ghost use Rattle.leaf_rows.specs.Leaves.{has_leaf};
 ghost use Rattle.flow_plan.specs.Rows.{IsRowOf};
-ghost use Rattle.flow_plan.specs.Ahead.{IsInSome, IsOutside};
+ghost use Rattle.leaf_rows.specs.declared.leaf_set.LeafSet.{LeafSet};
+ghost use Rattle.flow_plan.specs.Ahead.{IsInSome};
+ghost use Rattle.flow_plan.specs.Parts.{IsPartFor, Reaches};
 
+use crate::span::Span;
 use leaf_rows::LeafSet;
 
 /// The leaves of an isolated part, and the leaves outside it that are directly before one of them.
@@ -13,6 +16,14 @@ use leaf_rows::LeafSet;
 pub(crate) struct PartRow {
     inside: LeafSet<16>,
     outside: LeafSet<16>,
+}
+
+/// The leaves of a span, and what is directly before some of them.
+#[derive(Clone, Copy)]
+pub(crate) struct Reach {
+    pub(crate) span: Span,
+    inside: LeafSet<16>,
+    before: LeafSet<16>,
 }
 
 /// For what leaves are kept.
@@ -49,6 +60,76 @@ fn union(rows: &[LeafSet<16>]) -> LeafSet<16>
     all
 }
 
+impl Reach {
+    /// No leaf yet, at that place.
+    pub(crate) fn at(place: usize) -> Reach
+        ensures span { (result.span.first ≡ place) × (result.span.end ≡ place) }
+        ensures reaches { (ns : List ℕ) (rows : List (LeafSet 16)) → Reaches ns rows result }
+    {
+        Reach {
+            span: Span {
+                first: place,
+                end: place,
+            },
+            inside: LeafSet::new(),
+            before: LeafSet::new(),
+        }
+    }
+
+    /// What can be kept of it for that span: all where it lies within.
+    fn within(self, span: Span) -> Reach
+        requires span { span.first ≤ span.end }
+        requires own { self.span.first ≤ self.span.end }
+        ensures within { (span.first ≤ result.span.first) × (result.span.first ≤ result.span.end) × (result.span.end ≤ span.end) }
+        ensures reaches { (ns : List ℕ) (rows : List (LeafSet 16)) → Reaches ns rows self → Reaches ns rows result }
+    {
+        if span.first <= self.span.first && self.span.end <= span.end {
+            return self;
+        }
+        Reach::at(span.first)
+    }
+
+    /// Adds leaves, whose rows are these.
+    fn add(&mut self, leaves: &[u32], rows: &[LeafSet<16>])
+        requires { All (λ n. n < MOST_LEAVES) leaves.now }
+        ensures inside { (x : ℕ) → IsTrue (has_leaf self.new.inside x) ↔ (IsTrue (has_leaf self.old.inside x) ⊎ (x ∈ leaves.now)) }
+        ensures before { (x : ℕ) → IsTrue (has_leaf self.new.before x) ↔ (IsTrue (has_leaf self.old.before x) ⊎ IsInSome rows.now x) }
+    {
+        self.inside.union_with(&set_of(leaves));
+        self.before.union_with(&union(rows));
+    }
+
+    /// The reach of a span, by what the one before has of it: of parts one within another each adds its own leaves alone.
+    pub(crate) fn of(self, span: Span, leaves: &[u32], rows: &[LeafSet<16>]) -> Reach
+        requires small { All (λ n. n < MOST_LEAVES) leaves.now }
+        requires one_each { length rows.now ≡ length leaves.now }
+        requires span { span.first ≤ span.end × span.end ≤ length leaves.now }
+        requires own { self.span.first ≤ self.span.end }
+        requires reaches { Reaches leaves.now rows.now self }
+        ensures span { (result.span ≡ span) × (result.span.first ≤ result.span.end) }
+        ensures reaches { Reaches leaves.now rows.now result }
+    {
+        let mut reach = self.within(span);
+        let Span { first, end } = reach.span;
+        reach.add(&leaves[span.first..first], &rows[span.first..first]);
+        reach.add(&leaves[end..span.end], &rows[end..span.end]);
+        reach.span = span;
+        reach
+    }
+
+    /// The row of the part with these leaves.
+    pub(crate) fn row(&self) -> PartRow
+        ensures { (ns : List ℕ) (rows : List (LeafSet 16)) → Reaches ns rows self.now → IsPartFor ns rows self.now.span result }
+    {
+        let mut outside = self.before;
+        outside.remove_all(&self.inside);
+        PartRow {
+            inside: self.inside,
+            outside,
+        }
+    }
+}
+
 /// Of the leaves those inside where `inner`, and the others where `outer`.
 fn keep(mut leaves: LeafSet<16>, inside: &LeafSet<16>, inner: bool, outer: bool) -> LeafSet<16>
     ensures { (n : ℕ) → has_leaf result n ≡ (has_leaf leaves n && (if has_leaf inside.now n then inner else outer)) }
@@ -68,18 +149,6 @@ fn keep(mut leaves: LeafSet<16>, inside: &LeafSet<16>, inner: bool, outer: bool)
 
 impl PartRow {
     ghost use Rattle.flow_plan.specs.Parts.{PartAllows, Keeps, KeepsTogether, KeepsBeside, KeepsAfter};
-
-    /// The row of the part with those leaves, whose rows are these.
-    pub(crate) fn new(leaves: &[u32], before: &[LeafSet<16>]) -> PartRow
-        requires { All (λ n. n < MOST_LEAVES) leaves.now }
-        ensures inside { IsRowOf (λ x. x ∈ leaves.now) result.inside }
-        ensures outside { IsRowOf (IsOutside leaves.now before.now) result.outside }
-    {
-        let inside = set_of(leaves);
-        let mut outside = union(before);
-        outside.remove_all(&inside);
-        PartRow { inside, outside }
-    }
 
     /// Whether the part lets the leaf come next: it must be finished once it is begun, and what is
     /// directly before it must be done before it is begun.

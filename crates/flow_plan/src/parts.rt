@@ -9,7 +9,7 @@ ghost use Rattle.flow_plan.specs.Spans.{AddsSpans};
 ghost use Rattle.flow_plan.specs.Parts.{ArePartsFor, ArePartsOf};
 
 use crate::outline::Outline;
-use crate::part_row::PartRow;
+use crate::part_row::{PartRow, Reach};
 use crate::span::Span;
 use flow_goal::Choiceless;
 use leaf_rows::LeafSet;
@@ -44,9 +44,10 @@ fn rows_of_spans(
     ensures { IfOk result (λ parts. ArePartsFor leaves.now before.now spans.now parts.items) }
 {
     let mut parts = Vec::with_capacity(alloc, spans.len())?;
+    let mut reach = Reach::at(0);
     for span in spans {
-        let row = PartRow::new(&leaves[span.first..span.end], &before[span.first..span.end]);
-        parts.push(row)?;
+        reach = reach.of(*span, leaves, before);
+        parts.push(reach.row())?;
     }
     Ok(parts)
 }
