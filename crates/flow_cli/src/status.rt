@@ -2,7 +2,7 @@ ghost use Rattle.std.specs.Prelude.{◌≡◌};
 ghost use Rattle.flow_cli.specs.Code.{code_of};
 
 /// How a call ended. A process ends with its number, in this order from 0.
-#[derive(Clone, Copy, Debug)]
+#[derive(Clone, Copy)]
 pub enum Status {
     /// The run is committed, some execution meets the constraints, the property holds, the constraint follows
     /// from the others, or the journal is an execution.

@@ -5,7 +5,7 @@ use flow_sample::Circle;
 use std::alloc::{AllocError, AllocFailed};
 
 /// An option that has no execution.
-#[derive(Debug, Drop)]
+#[derive(Drop)]
 pub struct Dropped {
     /// The number of its resolution.
     pub resolution: u64,
@@ -15,7 +15,7 @@ pub struct Dropped {
 }
 
 /// Why a tree and rules give no plans.
-#[derive(Debug, Drop)]
+#[derive(Drop)]
 pub enum CompileRefusal {
     /// So many ways to resolve the choices.
     TooManyChoices { count: u64 },

@@ -6,7 +6,7 @@ use flow_goal::Twice;
 use std::alloc::{AllocError, AllocFailed};
 
 /// A part of a workflow.
-#[derive(Clone, Copy, Debug)]
+#[derive(Clone, Copy)]
 pub enum Part {
     Flows,
     Goal,
@@ -14,7 +14,7 @@ pub enum Part {
 }
 
 /// Why a workflow is not expanded.
-#[derive(Debug, Drop)]
+#[derive(Drop)]
 pub enum ExpandRefusal {
     /// There are so many sub-workflows, ends of the expanded goal, or names in constraints. What would pass the
     /// greatest number is capped at it.

@@ -4,7 +4,6 @@ ghost use Rattle.flow_facts.specs.NameMark.{marked, name_mark};
 use crate::letters::Letters;
 use std::alloc::{AllocError, Global};
 use std::cmp::Ordering;
-use std::fmt;
 use std::marker::Model;
 
 /// A name, as the bytes that it is written in.
@@ -77,15 +76,6 @@ impl Name {
         ensures { result.now ≡ self.now }
     {
         self.letters.bytes()
-    }
-}
-
-impl fmt::Debug for Name {
-    fn fmt<W: fmt::Write>(&self, f: &mut fmt::Formatter<W>) -> fmt::Result {
-        f.debug_struct("Name")
-            .field("mark", &self.mark())
-            .field("bytes", &self.bytes())
-            .finish()
     }
 }
 

@@ -5,7 +5,7 @@ use flow_facts::Name;
 use std::alloc::{AllocError, AllocFailed};
 
 /// What a text needs at the place where it goes wrong.
-#[derive(Clone, Copy, Debug)]
+#[derive(Clone, Copy)]
 pub enum Wanted {
     /// A declaration or the goal.
     Declaration,
@@ -30,7 +30,7 @@ pub enum Wanted {
 }
 
 /// Why a text gives no workflow or no query. Places are offsets in bytes.
-#[derive(Debug, Drop)]
+#[derive(Drop)]
 pub enum TextRefusal {
     /// The first byte over 127.
     NotAscii { place: usize },

@@ -1,14 +1,14 @@
 use crate::labels::Note;
 
 /// One event of the core, and the number of the caller that made it.
-#[derive(Clone, Copy, Debug, PartialEq, Eq)]
+#[derive(Clone, Copy)]
 pub struct Entry {
     pub by: u32,
     pub step: Step,
 }
 
 /// What one entry of a history does.
-#[derive(Clone, Copy, Debug, PartialEq, Eq)]
+#[derive(Clone, Copy)]
 pub enum Step {
     /// A claim is given on an event's leaf.
     Took { claim: u32, leaf: u32 },
@@ -27,7 +27,7 @@ pub enum Step {
 }
 
 /// Whether the run goes on without the leaf of a failed task.
-#[derive(Clone, Copy, Debug, PartialEq, Eq)]
+#[derive(Clone, Copy)]
 pub enum FailEffect {
     /// Some execution lacks the leaf: it is banned.
     Switched,
@@ -36,7 +36,7 @@ pub enum FailEffect {
 }
 
 /// What a gate is asked to perform.
-#[derive(Clone, Copy, Debug, PartialEq, Eq)]
+#[derive(Clone, Copy, PartialEq, Eq)]
 pub struct Call {
     pub claim: u32,
     pub leaf: u32,

@@ -14,7 +14,7 @@ pub enum Label {
 }
 
 /// What an event's declaration says of the outcome of its task, for a gate that follows it.
-#[derive(Clone, Copy, Debug, PartialEq, Eq)]
+#[derive(Clone, Copy, PartialEq, Eq)]
 pub enum Note {
     /// It succeeds.
     Done,

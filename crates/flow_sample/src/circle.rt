@@ -8,7 +8,7 @@ use std::alloc::{AllocError, Global};
 
 /// Why an option has no execution: two or more items of one part wait for each other in a ring. Each is
 /// written as its least leaf, the least of all first.
-#[derive(Debug, Drop)]
+#[derive(Drop)]
 pub struct Circle {
     leaves: Vec<u32>,
 }

@@ -34,13 +34,24 @@ fn prints_each_entry(rt: HostRuntime) {
 
 #[test]
 fn reads_an_entry(rt: HostRuntime) {
-    let read = read_history(rt.alloc(), b"0: took 1 40\n").expect(&rt, "memory");
-    let step = Step::Took { claim: 1, leaf: 40 };
-    assert_eq!(rt; read.as_slice(), [Entry { by: 0, step }].as_slice());
+    let Ok(read) = read_history(rt.alloc(), b"0: took 1 40\n") else {
+        panic!(&rt; "it is not read")
+    };
+    assert_eq!(rt; read.len(), 1);
+    let first = read.first().copied();
+    assert!(rt;
+        matches!(
+            first,
+            Some(Entry {
+                by: 0,
+                step: Step::Took { claim: 1, leaf: 40 }
+            })
+        )
+    );
 }
 
 #[test]
 fn a_number_with_a_zero_before_it_is_not_read(rt: HostRuntime) {
-    let refusal = read_history(rt.alloc(), b"0: took 01 40\n").err();
-    assert_eq!(rt; refusal, Some(RecordRefusal::BadLine { line: 0 }));
+    let read = read_history(rt.alloc(), b"0: took 01 40\n");
+    assert!(rt; matches!(read, Err(RecordRefusal::BadLine { line: 0 })));
 }

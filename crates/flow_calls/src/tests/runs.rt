@@ -16,31 +16,44 @@ fn script_of(alloc: Global, text: &[u8]) -> Result<Script, Fail>
     if text.len() >= 1 << 31 {
         return Err(Fail::from("a long text"));
     }
-    Ok(parse(alloc, text)?)
+    match parse(alloc, text) {
+        Ok(script) => Ok(script),
+        Err(_) => Err(Fail::from("no script")),
+    }
 }
 
 /// The workflow that the text becomes.
 fn workflow_of(alloc: Global, text: &[u8]) -> Result<Workflow, Fail> {
     let script = script_of(alloc, text)?;
-    Ok(expand(alloc, &script)?)
+    match expand(alloc, &script) {
+        Ok(workflow) => Ok(workflow),
+        Err(_) => Err(Fail::from("no workflow")),
+    }
 }
 
 /// A run of the workflow that the text becomes.
 fn start(alloc: Global, text: &[u8]) -> Result<Core, Fail> {
     let workflow = workflow_of(alloc, text)?;
-    let compiled = compile(alloc, workflow.tree(), workflow.rules())?;
+    let Ok(compiled) = compile(alloc, workflow.tree(), workflow.rules()) else {
+        return Err(Fail::from("no plans"));
+    };
     Ok(Core::start(alloc, workflow, compiled, 64)?)
 }
 
-/// The call of a claim on a leaf whose event has the leaf's number, at its first attempt.
-fn call(claim: u32, leaf: u32) -> Told {
-    Told::Call(Call {
-        claim,
-        leaf,
-        event: leaf,
-        attempt: 1,
-        note: Note::Done,
-    })
+/// Whether it is the call of that claim on that leaf, whose event has the leaf's number, at its first attempt.
+fn is_call(told: Told, number: u32, place: u32) -> bool {
+    match told {
+        Told::Call(
+            Call {
+                claim,
+                leaf,
+                event,
+                attempt: 1,
+                note: Note::Done,
+            },
+        ) => (claim, leaf, event) == (number, place, place),
+        _ => false,
+    }
 }
 
 #[test]
@@ -55,16 +68,20 @@ fn each_thing_is_asked_of_a_run(rt: HostRuntime) -> Result<(), Fail> {
         Ask::Do(2),
         Ask::Commit,
     ];
-    let told = [
-        call(1, 1),
-        Told::Failed(FailEffect::Switched),
-        Told::Refused(9),
-        call(2, 0),
-        Told::Posted,
-        Told::Did,
-        Told::Committed,
-    ];
-    assert_eq!(rt; play(&mut core, &asks, 3), told);
+    let [first, failed, refused, second, posted, did, committed] = play(&mut core, &asks, 3);
+    assert!(rt; is_call(first, 1, 1) && is_call(second, 2, 0));
+    assert!(rt;
+        matches!(
+            (failed, refused),
+            (Told::Failed(FailEffect::Switched), Told::Refused(9))
+        )
+    );
+    assert!(rt;
+        matches!(
+            (posted, did, committed),
+            (Told::Posted, Told::Did, Told::Committed)
+        )
+    );
     assert_eq!(rt; (core.made(3), core.made(0)), (6, 0));
     assert!(rt; core.holds(0) && core.committed());
     Ok(())

@@ -4,7 +4,9 @@ use std::test::Fail;
 
 /// The print of what a text says.
 fn printed(alloc: Global, text: &[u8]) -> Result<Vec<u8>, Fail> {
-    let script = parse(alloc, text)?;
+    let Ok(script) = parse(alloc, text) else {
+        return Err(Fail::from("no script"));
+    };
     Ok(print(alloc, &script)?)
 }
 

@@ -210,7 +210,7 @@ fn each_task_is_asked_for_once(rt: HostRuntime) {
     let Ok((status, text)) = told else {
         panic!(&rt; "no memory")
     };
-    assert_eq!(rt; status, Status::Fine);
+    assert!(rt; status == Status::Fine);
     let text = std::str::from_utf8(&text).unwrap_or("");
     let asked = gate.asked.load(Ordering::SeqCst);
     assert!(rt; asked > 0);
