@@ -2,7 +2,7 @@
 """The worst texts within the limits: time and memory of `flow check` on each, beside those of the greatest generated text.
 
 It needs GNU time (/usr/bin/time). Usage: bench/worst.py [PROGRAM] [WORD ..]   the texts whose names have one of the words, or all of them
-The program is crates/flow/out/flow where none is named (`rt run` of the README makes it). Each text is checked five times,
+The program is crates/flow/out/flow where none is named (`./prove` and the gate make it). Each text is checked five times,
 and the least time counts; the ratios are to the generated text of seed 3 and size 128 in the same run.
 """
 import random
