@@ -16,7 +16,7 @@ pub enum Ask {
 }
 
 /// What a run answers.
-#[derive(Clone, Copy, Debug, PartialEq, Eq)]
+#[derive(Clone, Copy)]
 pub enum Told {
     Call(Call),
     Did,

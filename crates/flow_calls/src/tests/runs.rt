@@ -33,14 +33,14 @@ fn start(alloc: Global, text: &[u8]) -> Result<Core, Fail> {
 }
 
 /// The call of a claim on a leaf whose event has the leaf's number, at its first attempt.
-fn call(claim: u32, leaf: u32) -> Told {
-    Told::Call(Call {
+fn call(claim: u32, leaf: u32) -> Call {
+    Call {
         claim,
         leaf,
         event: leaf,
         attempt: 1,
         note: Note::Done,
-    })
+    }
 }
 
 #[test]
@@ -55,16 +55,20 @@ fn each_thing_is_asked_of_a_run(rt: HostRuntime) -> Result<(), Fail> {
         Ask::Do(2),
         Ask::Commit,
     ];
-    let told = [
-        call(1, 1),
-        Told::Failed(FailEffect::Switched),
-        Told::Refused(9),
-        call(2, 0),
-        Told::Posted,
-        Told::Did,
-        Told::Committed,
-    ];
-    assert_eq!(rt; play(&mut core, &asks, 3), told);
+    let told = play(&mut core, &asks, 3);
+    let is_told = matches!(
+        told,
+        [
+            Told::Call(first),
+            Told::Failed(FailEffect::Switched),
+            Told::Refused(9),
+            Told::Call(second),
+            Told::Posted,
+            Told::Did,
+            Told::Committed,
+        ] if first == call(1, 1) && second == call(2, 0)
+    );
+    assert!(rt; is_told);
     assert_eq!(rt; (core.made(3), core.made(0)), (6, 0));
     assert!(rt; core.holds(0) && core.committed());
     Ok(())
