@@ -40,19 +40,14 @@ fn start(alloc: Global, text: &[u8]) -> Result<Core, Fail> {
     Ok(Core::start(alloc, workflow, compiled, 64)?)
 }
 
-/// Whether it is the call of that claim on that leaf, whose event has the leaf's number, at its first attempt.
-fn is_call(told: Told, number: u32, place: u32) -> bool {
-    match told {
-        Told::Call(
-            Call {
-                claim,
-                leaf,
-                event,
-                attempt: 1,
-                note: Note::Done,
-            },
-        ) => (claim, leaf, event) == (number, place, place),
-        _ => false,
+/// The call of a claim on a leaf whose event has the leaf's number, at its first attempt.
+fn call(claim: u32, leaf: u32) -> Call {
+    Call {
+        claim,
+        leaf,
+        event: leaf,
+        attempt: 1,
+        note: Note::Done,
     }
 }
 
@@ -68,20 +63,20 @@ fn each_thing_is_asked_of_a_run(rt: HostRuntime) -> Result<(), Fail> {
         Ask::Do(2),
         Ask::Commit,
     ];
-    let [first, failed, refused, second, posted, did, committed] = play(&mut core, &asks, 3);
-    assert!(rt; is_call(first, 1, 1) && is_call(second, 2, 0));
-    assert!(rt;
-        matches!(
-            (failed, refused),
-            (Told::Failed(FailEffect::Switched), Told::Refused(9))
-        )
+    let told = play(&mut core, &asks, 3);
+    let is_told = matches!(
+        told,
+        [
+            Told::Call(first),
+            Told::Failed(FailEffect::Switched),
+            Told::Refused(9),
+            Told::Call(second),
+            Told::Posted,
+            Told::Did,
+            Told::Committed,
+        ] if first == call(1, 1) && second == call(2, 0)
     );
-    assert!(rt;
-        matches!(
-            (posted, did, committed),
-            (Told::Posted, Told::Did, Told::Committed)
-        )
-    );
+    assert!(rt; is_told);
     assert_eq!(rt; (core.made(3), core.made(0)), (6, 0));
     assert!(rt; core.holds(0) && core.committed());
     Ok(())
