@@ -5,7 +5,7 @@ ghost use Rattle.flow_form.specs.RuleForm.{rule_shape_of, rule_shapes};
 ghost use Rattle.flow_form.specs.Script.{declared, said, asked};
 ghost use Rattle.flow_form.specs.Names.{names_in_rule, names_in_rules};
 ghost use Rattle.flow_grammar.specs.Roles.{in_rule, constant_roles, fact_roles, goal_roles, roles_in_each, declared_roles, script_roles, query_roles};
-ghost use Rattle.flow_text.specs.ListedNames.{Adds, roles_of};
+ghost use Rattle.flow_text.specs.ListedNames.{Adds, role_of, roles_of};
 
 use flow_facts::{Const, Fact, Name};
 use flow_form::{Decl, Form, Query, RuleForm, Script};
@@ -18,6 +18,13 @@ pub(crate) enum Named<'a> {
     InGoal(&'a Name),
     InRule(&'a Name),
     InFact(&'a Name),
+}
+
+fn list_name<'a>(list: &mut Vec<Named<'a>>, named: Named<'a>) -> Result<(), AllocError>
+    ensures { OnOk result (Adds list.old.items list.new.items (role_of named.entry ∷ [])) }
+{
+    list.push(named)?;
+    Ok(())
 }
 
 fn list_constants<'a>(list: &mut Vec<Named<'a>>, constants: &'a [Const]) -> Result<(), AllocError>
@@ -33,16 +40,15 @@ fn list_constant<'a>(list: &mut Vec<Named<'a>>, constant: &'a Const) -> Result<(
     ensures { OnOk result (Adds list.old.items list.new.items (constant_roles (constant.now ∷ []))) }
 {
     match constant {
-        Const::Word(name) => list.push(Named::InFact(name))?,
-        Const::Number(_) => {}
+        Const::Word(name) => list_name(list, Named::InFact(name)),
+        Const::Number(_) => Ok(()),
     }
-    Ok(())
 }
 
 fn list_fact<'a>(list: &mut Vec<Named<'a>>, fact: &'a Fact) -> Result<(), AllocError>
     ensures { OnOk result (Adds list.old.items list.new.items (fact_roles fact.now)) }
 {
-    list.push(Named::InFact(fact.relation()))?;
+    list_name(list, Named::InFact(fact.relation()))?;
     list_constants(list, fact.args())
 }
 
@@ -62,10 +68,7 @@ fn list_form<'a>(list: &mut Vec<Named<'a>>, form: &'a Form) -> Result<(), AllocE
 {
     match form {
         Form::Nop => Ok(()),
-        Form::Name(name) => {
-            list.push(Named::InGoal(name))?;
-            Ok(())
-        }
+        Form::Name(name) => list_name(list, Named::InGoal(name)),
         Form::Test(fact) | Form::Absent(fact) | Form::Ins(fact) | Form::Del(fact) => {
             list_fact(list, fact)
         }
@@ -78,7 +81,7 @@ fn list_names<'a>(list: &mut Vec<Named<'a>>, names: &'a [Name]) -> Result<(), Al
     ensures { OnOk result (Adds list.old.items list.new.items (map in_rule names.now)) }
 {
     for name in names {
-        list.push(Named::InRule(name))?;
+        list_name(list, Named::InRule(name))?;
     }
     Ok(())
 }
@@ -90,9 +93,8 @@ fn list_pair<'a>(
 ) -> Result<(), AllocError>
     ensures { OnOk result (Adds list.old.items list.new.items (in_rule first.now ∷ in_rule second.now ∷ [])) }
 {
-    list.push(Named::InRule(first))?;
-    list.push(Named::InRule(second))?;
-    Ok(())
+    list_name(list, Named::InRule(first))?;
+    list_name(list, Named::InRule(second))
 }
 
 #[cycle(rules)]
@@ -110,10 +112,7 @@ fn list_rule<'a>(list: &mut Vec<Named<'a>>, rule: &'a RuleForm) -> Result<(), Al
     ensures { OnOk result (Adds list.old.items list.new.items (map in_rule (names_in_rule (rule_shape_of rule.now)))) }
 {
     match rule {
-        RuleForm::Must(name) | RuleForm::Never(name) => {
-            list.push(Named::InRule(name))?;
-            Ok(())
-        }
+        RuleForm::Must(name) | RuleForm::Never(name) => list_name(list, Named::InRule(name)),
         RuleForm::Order(names) => list_names(list, names),
         RuleForm::Precedes(first, second) | RuleForm::Needs(first, second) => {
             list_pair(list, first, second)
@@ -128,12 +127,9 @@ fn list_decl<'a>(list: &mut Vec<Named<'a>>, decl: &'a Decl) -> Result<(), AllocE
 {
     match decl {
         Decl::Fact(fact) => list_fact(list, fact),
-        Decl::Event(name, _) => {
-            list.push(Named::Declares(name))?;
-            Ok(())
-        }
+        Decl::Event(name, _) => list_name(list, Named::Declares(name)),
         Decl::Flow(name, goal) => {
-            list.push(Named::Declares(name))?;
+            list_name(list, Named::Declares(name))?;
             list_form(list, goal)
         }
     }
