@@ -65,9 +65,17 @@ pub(crate) fn prepare<'a>(
     ensures ok { IfOk result (λ goal. IsPrepared (said script.now) goal.layout.items goal.root) }
 {
     let directory = Directory::new(alloc, &script.decls, events)?;
-    at_most(Part::Flows, directory.goals.len() as u64, MOST_FLOWS)?;
-    let mut settling = Settling::new(alloc, &directory)?;
-    match lay_goal(alloc, script, &directory, &mut settling) {
+    if let Err(refusal) = at_most(Part::Flows, directory.goals.len() as u64, MOST_FLOWS) {
+        drop(directory);
+        return Err(refusal);
+    }
+    let Ok(mut settling) = Settling::new(alloc, &directory) else {
+        drop(directory);
+        return Err(ExpandRefusal::NoMemory);
+    };
+    let laid = lay_goal(alloc, script, &directory, &mut settling);
+    drop(directory);
+    match laid {
         Ok(root) => Ok(LaidGoal {
             layout: settling.layout,
             root,

@@ -59,9 +59,9 @@ impl<'a> Settling<'a> {
         ensures idle { IfOk result (λ s. IsIdle s.laid.items) }
     {
         Ok(Settling {
-            calls: calls_of(alloc, directory)?,
             seen: vec![in alloc; 0; directory.goals.len()]?,
             laid: vec![in alloc; Stage::Unlaid; directory.goals.len()]?,
+            calls: calls_of(alloc, directory)?,
             layout: Vec::new(alloc),
         })
     }

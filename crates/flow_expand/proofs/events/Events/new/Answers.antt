@@ -1,8 +1,9 @@
-use Rattle.std.proofs.Common.{ap, sym, subst, ◌∙◌}
+use Rattle.std.proofs.Common.{ap, sym, subst, ◌∙◌, map}
+use Rattle.std.proofs.lemmas.List.{take_all}
 use Rattle.flow_facts.specs.Indexed.{IsAdded}
 use Rattle.flow_form.specs.Script.{declared}
-use Rattle.flow_form.specs.Names.{event_name}
-use Rattle.flow_expand.specs.Numbers.{event_note}
+use Rattle.flow_form.specs.Names.{event_name, event_names}
+use Rattle.flow_expand.specs.Numbers.{event_note, notes_of}
 use Rattle.flow_expand.proofs.Declarations.{part_put, part_passed, part_added, not_event}
 use Rattle.flow_expand.proofs.events.Events.new.Goals as goal
 use Rattle.flow_expand.proofs.events.Events.new.Goals.{in-Event+in_ok-add+in_ok-push, in_default}
@@ -25,3 +26,9 @@ loop-decl-preserved c =
         notes = ap (λ v. v.items) w.notes-is ∙ part_passed event_note decls i item lt c.decl-item.is c.loop-decl.notes.items (not_event item w.in_default.not-Event).1 c.loop-decl.invariant.notes;
       }
     ]
+
+pub returns-clause-names : goal.returns-clause-names
+returns-clause-names c = c.loop-decl.invariant.names ∙ ap (λ ds. event_names (map declared ds)) (take_all c.loop-decl.decl-index c.args.decls.now c.loop-decl-test.false)
+
+pub returns-clause-notes : goal.returns-clause-notes
+returns-clause-notes c = c.loop-decl.invariant.notes ∙ ap (λ ds. notes_of (map declared ds)) (take_all c.loop-decl.decl-index c.args.decls.now c.loop-decl-test.false)

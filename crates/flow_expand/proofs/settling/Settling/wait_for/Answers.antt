@@ -1,5 +1,5 @@
-use Rattle.std.proofs.Common.{arith, ◌≡◌, ◌∙◌, ap, sym, subst, slice_get, get_or, set, Some, None, length}
-use Rattle.std.proofs.lemmas.Option.{slice_get-get_or}
+use Rattle.std.proofs.Common.{arith, ◌≡◌, ◌∙◌, ap, sym, subst, slice_get, get_or, set, Some, None, length, ◌<◌}
+use Rattle.std.proofs.lemmas.Option.{slice_get-get_or, slice_get_within}
 use Rattle.flow_expand.specs.declared.lay.Stage.TheVariants as stage
 use Rattle.flow_expand.specs.Directory.{decls_of}
 use Rattle.flow_expand.specs.Waiting.{ComesBack}
@@ -50,3 +50,9 @@ unreachable-requires-in-None c =
     let some = slice_get-get_or laid c.args.next stage.Unlaid (omega (arith, within, count)) in
     let both : Some (get_or laid c.args.next stage.Unlaid) ≡ None = sym some ∙ ap (λ l. slice_get l c.args.next) (sym c.deref.ensures.value) ∙ sym c.stage_of.ensures ∙ c.in-None.is in
     cc
+
+pub index_mut-requires : goal.index_mut-requires
+index_mut-requires c =
+    let laid = c.args.self.now.laid in
+    subst (λ n. c.args.next < n) (sym laid.ok.0)
+    (slice_get_within laid.items c.args.next stage.Unlaid (ap (λ l. slice_get l c.args.next) (sym c.deref.ensures.value) ∙ sym c.in-Some-Unlaid.ensures ∙ ap Some c.in-Some-Unlaid.field-0-is))
