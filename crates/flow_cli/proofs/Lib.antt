@@ -6,3 +6,4 @@ pub mod Inputs
 pub mod Statuses
 pub mod Runs
 pub mod Queries
+pub mod Calls

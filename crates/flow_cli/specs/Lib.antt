@@ -10,3 +10,4 @@ pub mod Running
 pub mod Generating
 pub mod Large
 pub mod Output
+pub mod Outcome
