@@ -6,4 +6,3 @@ pub mod Inputs
 pub mod Statuses
 pub mod Runs
 pub mod Queries
-pub mod Calls

@@ -10,4 +10,3 @@ pub mod Running
 pub mod Generating
 pub mod Large
 pub mod Output
-pub mod Outcome

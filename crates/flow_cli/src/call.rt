@@ -5,8 +5,7 @@ ghost use Rattle.flow_io.specs.Sink.{AppendsPart};
 ghost use Rattle.flow_words.specs.declared.request.Request.{Request};
 ghost use Rattle.flow_words.specs.Words.{IsCall, IsWithin};
 ghost use Rattle.flow_cli.specs.declared.status.Status.{Status};
-ghost use Rattle.flow_cli.specs.Output.{Reads, WritesAs, Writes, IsWhole, IsOver};
-ghost use Rattle.flow_cli.specs.Outcome.{IsOutcome};
+ghost use Rattle.flow_cli.specs.Output.{Reads, WritesAs, Writes, IsWhole, IsOver, IsOutcome};
 
 use crate::checking::Check;
 use crate::driving::Drive;
@@ -35,7 +34,7 @@ fn answer<R: Threads + Wait + Sync, S: Source, G: Gate>(
 ) -> Result<Output, AllocError>
     requires within { IsWithin request }
     requires source_counts { S.faults source.old < 2 ^ 64 - 1 }
-    ensures outcome { IfOk result (λ output. IsOutcome (WritesAs request.mode G.gives request (S.left source.old)) (Reads request.mode) ⊥
+    ensures outcome { IfOk result (λ output. IsOutcome (WritesAs request.mode G.gives request (S.left source.old)) (Reads request.mode)
         (S.left source.old) (S.left source.new) (S.faults source.old) (S.faults source.new) output.status output.text.items) }
     ensures unread { ¬ (Reads request.mode) → source.new ≡ source.old }
 {
@@ -66,9 +65,12 @@ fn respond<R: Threads + Wait + Sync, S: Source, G: Gate>(
     gate: &G,
 ) -> Result<Output, AllocError>
     requires { S.faults source.old < 2 ^ 64 - 1 }
-    ensures outcome { IfOk result (λ output. IsOutcome (Writes G.gives (map (λ word. string_bytes word) words.now) (S.left source.old))
-        ((request : Request) × IsCall (map (λ word. string_bytes word) words.now) request × Reads request.mode) (source.new ≡ source.old)
-        (S.left source.old) (S.left source.new) (S.faults source.old) (S.faults source.new) output.status output.text.items) }
+    ensures writes { IfOk result (λ output. Writes G.gives (map (λ word. string_bytes word) words.now) (S.left source.old) output.status output.text.items) }
+    ensures whole { IfOk result (λ output. IsWhole output.status) }
+    ensures words { IfOk result (λ output. output.status ≡ Status.Words → source.new ≡ source.old) }
+    ensures fault { IfOk result (λ output. (output.status ≡ Status.ReadFault) ↔ (S.faults source.old < S.faults source.new)) }
+    ensures end { IfOk result (λ output. (request : Request) → IsCall (map (λ word. string_bytes word) words.now) request → Reads request.mode →
+        IsOver output.status → IfSome (S.left source.old) (λ _. S.left source.new ≡ Some [])) }
     ensures unread { (request : Request) → IsCall (map (λ word. string_bytes word) words.now) request → ¬ (Reads request.mode) → source.new ≡ source.old }
 {
     law_one_request();

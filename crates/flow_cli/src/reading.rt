@@ -2,8 +2,7 @@
 ghost use Rattle.std.specs.Prelude.{◌<◌, ◌≤◌, ◌-◌, ◌^◌, length, IfOk};
 ghost use Rattle.flow_form.specs.Script.{said};
 ghost use Rattle.flow_form.specs.Names.{IsClosed};
-ghost use Rattle.flow_cli.specs.Output.{greatest_input, WritesFor, WritesIn, IsOfInput};
-ghost use Rattle.flow_cli.specs.Outcome.{IsNotRead, IsOutcome};
+ghost use Rattle.flow_cli.specs.Output.{greatest_input, WritesFor, WritesIn, IsOfInput, IsNotRead, IsOutcome};
 
 use crate::output::{Output, refuse};
 use flow_findings::Refused;
@@ -65,8 +64,8 @@ pub(crate) fn answer_source<S: Source, M: ScriptMode>(
     source: &mut S,
 ) -> Result<Output, AllocError>
     requires { S.faults source.old < 2 ^ 64 - 1 }
-    ensures { IfOk result (λ output. IsOutcome (WritesIn (M.writes mode.now) (S.left source.old)) (Unit {0}) ⊥
-        (S.left source.old) (S.left source.new) (S.faults source.old) (S.faults source.new) output.status output.text.items) }
+    ensures { IfOk result (λ output. IsOutcome (WritesIn (M.writes mode.now) (S.left source.old))
+        (Unit {0}) (S.left source.old) (S.left source.new) (S.faults source.old) (S.faults source.new) output.status output.text.items) }
 {
     match read_all(alloc, source, GREATEST_INPUT) {
         Ok(input) => answer_input(alloc, mode, &input),

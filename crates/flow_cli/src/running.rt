@@ -4,8 +4,7 @@ ghost use Rattle.flow_form.specs.Script.{said};
 ghost use Rattle.flow_form.specs.Names.{IsClosed};
 ghost use Rattle.flow_workflow.specs.Definition.{schema_of};
 ghost use Rattle.flow_excise.specs.Compilation.{IsCompiled};
-ghost use Rattle.flow_cli.specs.Output.{greatest_input, WritesFor, WritesIn, IsOfInput};
-ghost use Rattle.flow_cli.specs.Outcome.{IsOutcome};
+ghost use Rattle.flow_cli.specs.Output.{greatest_input, WritesFor, WritesIn, IsOfInput, IsOutcome};
 ghost use Rattle.flow_cli.specs.Running.{IsCrew, verdict_of, IsRunOf, Reports, RunsWorkflow, Runs};
 
 use crate::compiling::compile_workflow;
@@ -141,7 +140,7 @@ impl<'a, R: Threads + Wait + Sync, G: Gate> RunMode<'a, R, G> {
     ) -> Result<Output, AllocError>
         requires { S.faults source.old < 2 ^ 64 - 1 }
         ensures { IfOk result (λ output. IsOutcome (WritesIn (λ s text st o. Runs G.gives s self.now.steps self.now.workers st o) (S.left source.old))
-            (Unit {0}) ⊥ (S.left source.old) (S.left source.new) (S.faults source.old) (S.faults source.new) output.status output.text.items) }
+            (Unit {0}) (S.left source.old) (S.left source.new) (S.faults source.old) (S.faults source.new) output.status output.text.items) }
     {
         match read_all(alloc, source, GREATEST_INPUT) {
             Ok(input) => self.run_input(alloc, &input),
