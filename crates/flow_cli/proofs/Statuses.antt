@@ -1,5 +1,5 @@
 -- The statuses of answers to an input that was read.
-use Rattle.std.proofs.Common.{◌≢◌, ℕ, Bool, List, ◌⊎◌, sym, subst, inl, inr}
+use Rattle.std.proofs.Common.{ℕ, Bool, List, ◌⊎◌, sym, subst, inl, inr}
 use Rattle.flow_model.specs.declared.history.Call.{Call}
 use Rattle.flow_model.specs.declared.history.Outcome.{Outcome}
 use Rattle.flow_form.specs.Script.{Said, Asked, holds, redundant}
@@ -19,7 +19,7 @@ use Rattle.flow_verify.specs.declared.answers.Redundancy.TheVariants.{Redundant,
 use Rattle.flow_reply.specs.declared.verdict.Verdict.{Verdict}
 use Rattle.flow_reply.specs.declared.verdict.Verdict.TheVariants as verdict
 use Rattle.flow_cli.specs.declared.status.Status.{Status}
-use Rattle.flow_cli.specs.declared.status.Status.TheVariants.{Words, WriteFault, Memory}
+use Rattle.flow_cli.specs.declared.status.Status.TheVariants.{WriteFault, Memory}
 use Rattle.flow_cli.specs.Refusals.{status_of_compiling, IsNotExpanded, OfWorkflow}
 use Rattle.flow_cli.specs.Compiling.{IsOfCounts, IsTooLarge, IsNotCompiled}
 use Rattle.flow_cli.specs.Checking.{IsFoundConsistent, ChecksWorkflow}
@@ -96,6 +96,3 @@ pub input_whole : (s : Status) → IsOfInput s → IsWhole s
 input_whole WriteFault h = h
 input_whole Memory h = h
 input_whole other h = tt
-
-pub input_no_words : (s : Status) → IsOfInput s → s ≢ Words
-input_no_words s h is = subst IsOfInput is h

@@ -1,10 +1,12 @@
 -- What a call writes, and with which status it ends.
-use Rattle.std.specs.Prelude.{◌<◌, ◌≤◌, ℕ, Bool, List, [], length, take, drop, Option, IfSome, ◌⊎◌}
+use Rattle.std.specs.Prelude.{◌≡◌, ◌≢◌, ◌<◌, ◌≤◌, ◌↔◌, ℕ, Bool, List, [], length, take, drop, Option, Some, IfSome, ◌⊎◌}
 use Rattle.flow_model.specs.declared.limits.TheConstants.{GREATEST_INPUT}
 use Rattle.flow_model.specs.declared.history.Call.{Call}
 use Rattle.flow_model.specs.declared.history.Outcome.{Outcome}
 use Rattle.flow_form.specs.declared.refusal.TextRefusal.{TextRefusal}
 use Rattle.flow_form.specs.Script.{Said}
+use Rattle.flow_io.specs.declared.failure.ReadRefusal.{ReadRefusal}
+use Rattle.flow_io.specs.declared.failure.ReadRefusal.TheVariants as read
 use Rattle.flow_text.specs.Saying.{Says}
 use Rattle.flow_text.specs.Parsing.{IsParseRefusal}
 use Rattle.flow_findings.specs.declared.refused.Refused.TheVariants as refused
@@ -15,7 +17,7 @@ use Rattle.flow_words.specs.declared.request.Mode.TheVariants.{Drive, Run, Check
 use Rattle.flow_words.specs.declared.request.Request.{Request}
 use Rattle.flow_words.specs.Words.{IsCall, IsNoCall}
 use Rattle.flow_cli.specs.declared.status.Status.{Status}
-use Rattle.flow_cli.specs.declared.status.Status.TheVariants.{Fine, No, Refused, WriteFault, Memory, Spent}
+use Rattle.flow_cli.specs.declared.status.Status.TheVariants.{Fine, No, Words, Refused, ReadFault, WriteFault, Memory, Spent}
 use Rattle.flow_cli.specs.Refusals.{Tells}
 use Rattle.flow_cli.specs.Checking.{Checks}
 use Rattle.flow_cli.specs.Driving.{DrivesText}
@@ -116,3 +118,18 @@ IsOver Fine = Unit {0}
 IsOver No = Unit {0}
 IsOver Spent = Unit {0}
 IsOver other = ⊥
+
+-- why a source was not read
+abbrev pub IsNotRead : ReadRefusal → Status → List ℕ → Type 0
+IsNotRead read.ReadFault status output = Tells [] refused.Read status output
+IsNotRead read.TooLong status output = Tells [] refused.TooLong status output
+IsNotRead read.NoMemory status output = ⊥
+
+-- What is written, and what becomes of the source: a fault is told, and where it is to be read an answer stands on its end.
+pub record IsOutcome (IsWritten : Status → List ℕ → Type 0) (reads : Type 0) (left left' : Option (List ℕ)) (faults faults' : ℕ)
+    (status : Status) (output : List ℕ) : Type 0 where
+  pub writes : IsWritten status output
+  pub whole : IsWhole status
+  pub words : status ≢ Words
+  pub fault : (status ≡ ReadFault) ↔ (faults < faults')
+  pub end : reads → IsOver status → IfSome left (λ _. left' ≡ Some [])

@@ -1,11 +1,11 @@
-ghost use Rattle.std.specs.Prelude.{◌≡◌, ◌≢◌, ◌<◌, ◌-◌, ◌^◌, ◌↔◌, ◌⊎◌, ℕ, List, [], map, Some, IfOk, IfSome};
+ghost use Rattle.std.specs.Prelude.{◌≡◌, ◌<◌, ◌-◌, ◌^◌, ◌↔◌, ◌⊎◌, ℕ, List, [], map, Some, IfOk, IfSome};
 ghost use Rattle.std.specs.String.{string_bytes};
 ghost use Rattle.std.specs.Io.KnownBytes.{Appends};
 ghost use Rattle.flow_io.specs.Sink.{AppendsPart};
 ghost use Rattle.flow_words.specs.declared.request.Request.{Request};
 ghost use Rattle.flow_words.specs.Words.{IsCall, IsWithin};
 ghost use Rattle.flow_cli.specs.declared.status.Status.{Status};
-ghost use Rattle.flow_cli.specs.Output.{Reads, WritesAs, Writes, IsWhole, IsOver};
+ghost use Rattle.flow_cli.specs.Output.{Reads, WritesAs, Writes, IsWhole, IsOver, IsOutcome};
 
 use crate::checking::Check;
 use crate::driving::Drive;
@@ -34,11 +34,8 @@ fn answer<R: Threads + Wait + Sync, S: Source, G: Gate>(
 ) -> Result<Output, AllocError>
     requires within { IsWithin request }
     requires source_counts { S.faults source.old < 2 ^ 64 - 1 }
-    ensures writes { IfOk result (λ output. WritesAs request.mode G.gives request (S.left source.old) output.status output.text.items) }
-    ensures whole { IfOk result (λ output. IsWhole output.status) }
-    ensures words { IfOk result (λ output. output.status ≢ Status.Words) }
-    ensures fault { IfOk result (λ output. (output.status ≡ Status.ReadFault) ↔ (S.faults source.old < S.faults source.new)) }
-    ensures end { IfOk result (λ output. Reads request.mode → IsOver output.status → IfSome (S.left source.old) (λ _. S.left source.new ≡ Some [])) }
+    ensures outcome { IfOk result (λ output. IsOutcome (WritesAs request.mode G.gives request (S.left source.old)) (Reads request.mode)
+        (S.left source.old) (S.left source.new) (S.faults source.old) (S.faults source.new) output.status output.text.items) }
     ensures unread { ¬ (Reads request.mode) → source.new ≡ source.old }
 {
     let steps = request.steps;

@@ -1,12 +1,10 @@
 //! The modes that read a script, and the text after it, and need no threads.
-ghost use Rattle.std.specs.Prelude.{◌≡◌, ◌≢◌, ◌<◌, ◌≤◌, ◌-◌, ◌^◌, ◌↔◌, [], length, Some, IfOk, IfSome};
+ghost use Rattle.std.specs.Prelude.{◌<◌, ◌≤◌, ◌-◌, ◌^◌, length, IfOk};
 ghost use Rattle.flow_form.specs.Script.{said};
 ghost use Rattle.flow_form.specs.Names.{IsClosed};
-ghost use Rattle.flow_cli.specs.declared.status.Status.{Status};
-ghost use Rattle.flow_cli.specs.Output.{greatest_input, WritesFor, WritesIn, IsOfInput, IsWhole, IsOver};
+ghost use Rattle.flow_cli.specs.Output.{greatest_input, WritesFor, WritesIn, IsOfInput, IsNotRead, IsOutcome};
 
 use crate::output::{Output, refuse};
-use crate::status::Status;
 use flow_findings::Refused;
 use flow_form::Script;
 use flow_io::{ReadRefusal, Source, read_all};
@@ -48,6 +46,17 @@ fn answer_input<M: ScriptMode>(alloc: Global, mode: &M, input: &[u8]) -> Result<
     }
 }
 
+/// Why a source was not read, as output.
+pub(crate) fn refuse_read(alloc: Global, refusal: ReadRefusal) -> Result<Output, AllocError>
+    ensures { IfOk result (λ output. IsNotRead refusal output.status output.text.items) }
+{
+    match refusal {
+        ReadRefusal::ReadFault => refuse(alloc, Refused::Read, None),
+        ReadRefusal::TooLong => refuse(alloc, Refused::TooLong, None),
+        ReadRefusal::NoMemory => Err(AllocError),
+    }
+}
+
 /// What is written for what the source gives.
 pub(crate) fn answer_source<S: Source, M: ScriptMode>(
     alloc: Global,
@@ -55,16 +64,11 @@ pub(crate) fn answer_source<S: Source, M: ScriptMode>(
     source: &mut S,
 ) -> Result<Output, AllocError>
     requires { S.faults source.old < 2 ^ 64 - 1 }
-    ensures writes { IfOk result (λ output. WritesIn (M.writes mode.now) (S.left source.old) output.status output.text.items) }
-    ensures whole { IfOk result (λ output. IsWhole output.status) }
-    ensures words { IfOk result (λ output. output.status ≢ Status.Words) }
-    ensures fault { IfOk result (λ output. (output.status ≡ Status.ReadFault) ↔ (S.faults source.old < S.faults source.new)) }
-    ensures end { IfOk result (λ output. IsOver output.status → IfSome (S.left source.old) (λ _. S.left source.new ≡ Some [])) }
+    ensures { IfOk result (λ output. IsOutcome (WritesIn (M.writes mode.now) (S.left source.old))
+        (Unit {0}) (S.left source.old) (S.left source.new) (S.faults source.old) (S.faults source.new) output.status output.text.items) }
 {
     match read_all(alloc, source, GREATEST_INPUT) {
         Ok(input) => answer_input(alloc, mode, &input),
-        Err(ReadRefusal::ReadFault) => refuse(alloc, Refused::Read, None),
-        Err(ReadRefusal::TooLong) => refuse(alloc, Refused::TooLong, None),
-        Err(ReadRefusal::NoMemory) => Err(AllocError),
+        Err(refusal) => refuse_read(alloc, refusal),
     }
 }

@@ -1,23 +1,23 @@
 //! The mode `run`: workers make a run of what the source says.
-ghost use Rattle.std.specs.Prelude.{◌≡◌, ◌≢◌, ◌<◌, ◌≤◌, ◌-◌, ◌^◌, ◌↔◌, [], length, Some, IfOk, IfSome};
+ghost use Rattle.std.specs.Prelude.{◌≡◌, ◌<◌, ◌≤◌, ◌-◌, ◌^◌, length, IfOk};
 ghost use Rattle.flow_form.specs.Script.{said};
 ghost use Rattle.flow_form.specs.Names.{IsClosed};
 ghost use Rattle.flow_workflow.specs.Definition.{schema_of};
 ghost use Rattle.flow_excise.specs.Compilation.{IsCompiled};
-ghost use Rattle.flow_cli.specs.Output.{greatest_input, WritesFor, WritesIn, IsOfInput, IsWhole, IsOver};
+ghost use Rattle.flow_cli.specs.Output.{greatest_input, WritesFor, WritesIn, IsOfInput, IsOutcome};
 ghost use Rattle.flow_cli.specs.Running.{IsCrew, verdict_of, IsRunOf, Reports, RunsWorkflow, Runs};
 
 use crate::compiling::compile_workflow;
 use crate::output::{Output, refuse, refuse_script, refuse_workflow};
+use crate::reading::refuse_read;
 use crate::session::status_of;
-use crate::status::Status;
 use flow_core::Core;
 use flow_crew::{Book, End, Gate, run_crew};
 use flow_excise::Compiled;
 use flow_expand::{Workflow, expand};
 use flow_findings::Refused;
 use flow_form::Script;
-use flow_io::{ReadRefusal, Source, read_all};
+use flow_io::{Source, read_all};
 use flow_model::GREATEST_INPUT;
 use flow_record::cut_source;
 use flow_reply::{Verdict, print_report};
@@ -139,18 +139,12 @@ impl<'a, R: Threads + Wait + Sync, G: Gate> RunMode<'a, R, G> {
         source: &mut S,
     ) -> Result<Output, AllocError>
         requires { S.faults source.old < 2 ^ 64 - 1 }
-        ensures writes { IfOk result (λ output. WritesIn (λ s text st o. Runs G.gives s self.now.steps self.now.workers st o) (S.left source.old)
-            output.status output.text.items) }
-        ensures whole { IfOk result (λ output. IsWhole output.status) }
-        ensures words { IfOk result (λ output. output.status ≢ Status.Words) }
-        ensures fault { IfOk result (λ output. (output.status ≡ Status.ReadFault) ↔ (S.faults source.old < S.faults source.new)) }
-        ensures end { IfOk result (λ output. IsOver output.status → IfSome (S.left source.old) (λ _. S.left source.new ≡ Some [])) }
+        ensures { IfOk result (λ output. IsOutcome (WritesIn (λ s text st o. Runs G.gives s self.now.steps self.now.workers st o) (S.left source.old))
+            (Unit {0}) (S.left source.old) (S.left source.new) (S.faults source.old) (S.faults source.new) output.status output.text.items) }
     {
         match read_all(alloc, source, GREATEST_INPUT) {
             Ok(input) => self.run_input(alloc, &input),
-            Err(ReadRefusal::ReadFault) => refuse(alloc, Refused::Read, None),
-            Err(ReadRefusal::TooLong) => refuse(alloc, Refused::TooLong, None),
-            Err(ReadRefusal::NoMemory) => Err(AllocError),
+            Err(refusal) => refuse_read(alloc, refusal),
         }
     }
 }

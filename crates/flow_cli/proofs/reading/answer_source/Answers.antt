@@ -1,27 +1,16 @@
-use Rattle.std.proofs.Common.{◌≤◌, ◌<◌, length, IfSome, rules}
+use Rattle.std.proofs.Common.{length, ap, arith}
 use Rattle.std.proofs.lemmas.Result.{IfOk-weaker}
-use Rattle.flow_cli.specs.Output.{greatest_input}
-use Rattle.flow_cli.proofs.Inputs.{writes_read, writes_long}
-use Rattle.flow_cli.proofs.Statuses.{input_whole, input_no_words}
+use Rattle.flow_cli.proofs.Inputs.{when_read, when_not_read}
 use Rattle.flow_cli.proofs.reading.answer_source.Goals as goal
 
-pub returns-in-Ok-clause-writes : goal.returns-in-Ok-clause-writes
-returns-in-Ok-clause-writes g c =
-    let short : length c.deref.result.now ≤ greatest_input = search rules in
-    IfOk-weaker c.answer_input.result _ _
-    (λ output. writes_read (g.M.ScriptMode.writes c.args.mode.now) (g.S.Source.left c.args.source.now) _ c.in-Ok.input.items c.deref.result.now output.status
-    output.text.items c.in-Ok.ensures.whole c.deref.ensures.value short)
-    c.answer_input.ensures.writes
+pub returns-in-Ok : goal.returns-in-Ok
+returns-in-Ok g c =
+    when_read _ (g.S.Source.left c.args.source.now) _ _ _ c.in-Ok.input c.in-Ok.input.items _ c.answer_input.result c.in-Ok.ensures.whole c.in-Ok.ensures.fault
+    c.deref.ensures.value (omega (arith, ap length c.deref.ensures.value, c.in-Ok.ensures.within)) c.answer_input.ensures.writes c.answer_input.ensures.of_input
 
-pub returns-in-Err-TooLong-clause-writes : goal.returns-in-Err-TooLong-clause-writes
-returns-in-Err-TooLong-clause-writes g c =
-    let long : IfSome (g.S.Source.left c.args.source.now) (λ input. greatest_input < length input) = search rules in
-    IfOk-weaker c.refuse-in-Err-TooLong.result _ _
-    (λ output. writes_long (g.M.ScriptMode.writes c.args.mode.now) (g.S.Source.left c.args.source.now) output.status output.text.items long)
-    c.refuse-in-Err-TooLong.ensures
-
-pub returns-in-Ok-clause-whole : goal.returns-in-Ok-clause-whole
-returns-in-Ok-clause-whole g c = IfOk-weaker c.answer_input.result _ _ (λ output. input_whole output.status) c.answer_input.ensures.of_input
-
-pub returns-in-Ok-clause-words : goal.returns-in-Ok-clause-words
-returns-in-Ok-clause-words g c = IfOk-weaker c.answer_input.result _ _ (λ output. input_no_words output.status) c.answer_input.ensures.of_input
+pub returns-in-Err : goal.returns-in-Err
+returns-in-Err g c =
+    IfOk-weaker c.refuse_read.result _ _
+    (λ output. when_not_read _ (g.S.Source.left c.args.source.now) _ _ _ c.in-Err.refusal output.status output.text.items c.in-Err.ensures.fault
+    c.in-Err.ensures.too_long)
+    c.refuse_read.ensures

@@ -1,0 +1,11 @@
+use Rattle.std.proofs.lemmas.Result.{IfOk-weaker}
+use Rattle.flow_form.specs.Script.{said}
+use Rattle.flow_cli.proofs.Inputs.{says_so}
+use Rattle.flow_cli.proofs.reading.answer_input.Goals as goal
+
+pub returns-in-Ok-clause-writes : goal.returns-in-Ok-clause-writes
+returns-in-Ok-clause-writes g c =
+    IfOk-weaker c.answer-output.result _ _
+    (λ output. says_so (g.M.ScriptMode.writes c.args.mode.now) c.args.input.now c.cut_source-end.result (said c.in-Ok.script) output.status output.text.items
+    c.cut_source-end.ensures.parts c.in-Ok.ensures.ok)
+    c.answer-output.ensures.writes
