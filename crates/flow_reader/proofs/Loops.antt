@@ -10,7 +10,7 @@ use Rattle.flow_lex.specs.declared.token.Token.{Token}
 use Rattle.flow_lex.specs.Tokens.{AreSpans, IsSmall}
 use Rattle.flow_grammar.specs.Symbol.{Symbol}
 use Rattle.flow_grammar.specs.Machine.{Reading, expected, is_too_deep, shifted, run}
-use Rattle.flow_grammar.specs.Steps.{GoesByStep}
+use Rattle.flow_grammar.proofs.RunSteps.{goes_by_step}
 use Rattle.flow_reader.specs.Symbols.{symbol_of, symbols_of}
 use Rattle.flow_reader.specs.Reading.{place_of, settled, StepsTo, IsStepRefusal, IsReadRefusal}
 use Rattle.flow_reader.proofs.Within.{Within}
@@ -51,7 +51,7 @@ token_within text tokens read going depth s rest more t e h =
     spans_end t.end (length text) more later
 
 module _ {S V : Type 0} (step : S → Symbol → Option S) (finish : S → Option V) (wanted : S → Wanted) (depth : S → ℕ)
-    (by_step : GoesByStep step finish wanted depth) (within : (s : S) (t : Symbol) → Within depth (step s t) (depth s))
+    (within : (s : S) (t : Symbol) → Within depth (step s t) (depth s))
     (text : List ℕ) (tokens : List Token) (read : Reading V) where
   abbrev Here : S → List Token → Type 0
   Here s rest = Stands text tokens read (run step finish wanted depth) depth s rest
@@ -62,7 +62,7 @@ module _ {S V : Type 0} (step : S → Symbol → Option S) (finish : S → Optio
   stands_next : (s next : S) (t : Token) (more : List Token) → StepsTo step depth s (symbol_of text t) next → Here s (t ∷ more) → Here next more
   stands_next s next t more (led, shallow) h = record {
     passed = h.passed + 1;
-    so_far = sym (by_step.at_step s next (symbol_of text t) (symbols_of text more) h.passed led shallow) ∙ h.so_far;
+    so_far = sym ((goes_by_step step finish wanted depth).at_step s next (symbol_of text t) (symbols_of text more) h.passed led shallow) ∙ h.so_far;
     places = λ j. let same : h.passed + 1 + j ≡ h.passed + suc j = omega arith in ap (place_of text tokens) same ∙ h.places (suc j);
     shallow = omega (arith, h.shallow, deeper s next (symbol_of text t) led);
     counted = omega (arith, h.counted);
@@ -85,6 +85,6 @@ module _ {S V : Type 0} (step : S → Symbol → Option S) (finish : S → Optio
       IsReadRefusal text tokens read (Expected place kind)
   stands_no_value s kind place none wants at h = (
     h.passed,
-    sym h.so_far ∙ by_step.at_no_value s h.passed none ∙ ap (λ k. expected k h.passed) (sym wants),
+    sym h.so_far ∙ (goes_by_step step finish wanted depth).at_no_value s h.passed none ∙ ap (λ k. expected k h.passed) (sym wants),
     at ∙ sym (here s [] h),
   )
