@@ -1,3 +1,4 @@
 pub mod Heights
 pub mod Within
 pub mod Loops
+pub mod Ended

@@ -5,12 +5,12 @@ use Rattle.std.specs.Prelude.{Option, Some, None}
 use Rattle.flow_form.specs.declared.refusal.Wanted.{Wanted}
 use Rattle.flow_model.specs.Lists.{Each}
 use Rattle.flow_form.specs.declared.refusal.TextRefusal.{TextRefusal}
-use Rattle.flow_form.specs.declared.refusal.TextRefusal.TheVariants.{Expected, TooDeep, NoMemory}
+use Rattle.flow_form.specs.declared.refusal.TextRefusal.TheVariants.{Expected}
 use Rattle.flow_lex.specs.declared.token.Token.{Token}
 use Rattle.flow_lex.specs.Tokens.{AreSpans, IsSmall}
 use Rattle.flow_grammar.specs.Symbol.{Symbol}
-use Rattle.flow_grammar.specs.Machine.{Reading, gives, expected, is_too_deep, shifted, run}
-use Rattle.flow_grammar.specs.Steps.{GoesByStep}
+use Rattle.flow_grammar.specs.Machine.{Reading, expected, is_too_deep, shifted, run}
+use Rattle.flow_grammar.proofs.RunSteps.{goes_by_step}
 use Rattle.flow_reader.specs.Symbols.{symbol_of, symbols_of}
 use Rattle.flow_reader.specs.Reading.{place_of, settled, StepsTo, IsStepRefusal, IsReadRefusal}
 use Rattle.flow_reader.proofs.Within.{Within}
@@ -51,23 +51,10 @@ token_within text tokens read going depth s rest more t e h =
     spans_end t.end (length text) more later
 
 module _ {S V : Type 0} (step : S → Symbol → Option S) (finish : S → Option V) (wanted : S → Wanted) (depth : S → ℕ)
-    (by_step : GoesByStep step finish wanted depth) (within : (s : S) (t : Symbol) → Within depth (step s t) (depth s))
+    (within : (s : S) (t : Symbol) → Within depth (step s t) (depth s))
     (text : List ℕ) (tokens : List Token) (read : Reading V) where
   abbrev Here : S → List Token → Type 0
   Here s rest = Stands text tokens read (run step finish wanted depth) depth s rest
-
-  pub stands_first : (s : S) → read ≡ run step finish wanted depth s (symbols_of text tokens) → depth s ≡ 0 →
-      AreSpans 0 (length text) tokens → Each (IsSmall text) tokens → Here s tokens
-  stands_first s whole shallow spans small = record {
-    passed = 0;
-    so_far = by_step.at_start (run step finish wanted depth s (symbols_of text tokens)) ∙ sym whole;
-    places = λ j. let same : 0 + j ≡ j = omega arith in ap (place_of text tokens) same;
-    shallow = omega (arith, shallow);
-    counted = omega arith;
-    start = 0;
-    spans = spans;
-    small = small;
-  }
 
   deeper : (s next : S) (t : Symbol) → step s t ≡ Some next → depth next ≤ suc (depth s)
   deeper s next t e = subst (λ o. Within depth o (depth s)) e (within s t)
@@ -75,7 +62,7 @@ module _ {S V : Type 0} (step : S → Symbol → Option S) (finish : S → Optio
   stands_next : (s next : S) (t : Token) (more : List Token) → StepsTo step depth s (symbol_of text t) next → Here s (t ∷ more) → Here next more
   stands_next s next t more (led, shallow) h = record {
     passed = h.passed + 1;
-    so_far = sym (by_step.at_step s next (symbol_of text t) (symbols_of text more) h.passed led shallow) ∙ h.so_far;
+    so_far = sym ((goes_by_step step finish wanted depth).at_step s next (symbol_of text t) (symbols_of text more) h.passed led shallow) ∙ h.so_far;
     places = λ j. let same : h.passed + 1 + j ≡ h.passed + suc j = omega arith in ap (place_of text tokens) same ∙ h.places (suc j);
     shallow = omega (arith, h.shallow, deeper s next (symbol_of text t) led);
     counted = omega (arith, h.counted);
@@ -94,28 +81,10 @@ module _ {S V : Type 0} (step : S → Symbol → Option S) (finish : S → Optio
       let same : h.passed ≡ h.passed + 0 = omega arith in
       ap (place_of text tokens) same ∙ h.places 0
 
-  pub stands_refused : (s : S) (t : Token) (more : List Token) (place : ℕ) (refusal : TextRefusal) → place ≡ t.start →
-      IsStepRefusal step wanted depth s (symbol_of text t) place refusal → Here s (t ∷ more) → IsReadRefusal text tokens read refusal
-  stands_refused s t more place (Expected p kind) at (stuck, wants, there) h = (
-    h.passed,
-    sym h.so_far ∙ by_step.where_stuck s (symbol_of text t) (symbols_of text more) h.passed stuck ∙ ap (λ k. expected k h.passed) (sym wants),
-    there ∙ at ∙ sym (here s (t ∷ more) h),
-  )
-  stands_refused s t more place (TooDeep p) at ((next, led), deep, there) h = (
-    h.passed,
-    sym h.so_far ∙ by_step.where_deep s next (symbol_of text t) (symbols_of text more) h.passed led deep,
-    there ∙ at ∙ sym (here s (t ∷ more) h),
-  )
-  stands_refused s t more place NoMemory at refused h = tt
-  stands_refused s t more place _ at refused h = refused
-
-  pub stands_value : (s : S) (v : V) → finish s ≡ Some v → Here s [] → read ≡ gives v
-  stands_value s v e h = sym h.so_far ∙ by_step.at_value s v h.passed e
-
   pub stands_no_value : (s : S) (kind : Wanted) (place : ℕ) → finish s ≡ None → kind ≡ wanted s → place ≡ length text → Here s [] →
       IsReadRefusal text tokens read (Expected place kind)
   stands_no_value s kind place none wants at h = (
     h.passed,
-    sym h.so_far ∙ by_step.at_no_value s h.passed none ∙ ap (λ k. expected k h.passed) (sym wants),
+    sym h.so_far ∙ (goes_by_step step finish wanted depth).at_no_value s h.passed none ∙ ap (λ k. expected k h.passed) (sym wants),
     at ∙ sym (here s [] h),
   )

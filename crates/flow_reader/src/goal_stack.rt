@@ -1,9 +1,9 @@
-ghost use Rattle.std.specs.Prelude.{◌≡◌, ◌∷◌, [], map, Bool, IfOk, OnOk, length, if◌then◌else◌};
+ghost use Rattle.std.specs.Prelude.{◌≡◌, ◌∷◌, [], map, Bool, IfOk, OnOk, IfNone, IfSome, length, if◌then◌else◌};
 ghost use Rattle.flow_form.specs.Form as form;
 ghost use Rattle.flow_form.specs.Form.{shape_of};
 ghost use Rattle.flow_grammar.specs.Grammar as grammar;
 ghost use Rattle.flow_grammar.specs.Machine as machine;
-ghost use Rattle.flow_reader.specs.Goals.{goal_list, frame, frames_of, level_of};
+ghost use Rattle.flow_reader.specs.Goals.{goal_list, frame, frame_of, frames_of, level_of};
 
 use flow_form::{Form, Wanted};
 use std::alloc::{AllocError, Global};
@@ -17,19 +17,26 @@ enum GoalList {
     Either,
 }
 
+impl GoalList {
+    fn form(self, members: Vec<Form>) -> Form
+        ensures { shape_of result ≡ goal_list self (map shape_of members.items) }
+    {
+        match self {
+            GoalList::Serial => Form::Serial(members),
+            GoalList::Beside => Form::Beside(members),
+            GoalList::Either => Form::Either(members),
+        }
+    }
+}
+
 /// The list of the members; of one member, that member.
 fn gathered(list: GoalList, mut members: Vec<Form>) -> Form
     ensures { shape_of result ≡ grammar.gather (goal_list list) (map shape_of members.items) }
 {
     if members.len() == 1 {
-        if let Some(only) = members.pop() {
-            return only;
-        }
-    }
-    match list {
-        GoalList::Serial => Form::Serial(members),
-        GoalList::Beside => Form::Beside(members),
-        GoalList::Either => Form::Either(members),
+        members.swap_remove(0)
+    } else {
+        list.form(members)
     }
 }
 
@@ -126,6 +133,15 @@ impl Stack {
         let level = mem::replace(&mut self.level, Level::new(alloc));
         self.frames.push(Frame { level, isolates })?;
         Ok(())
+    }
+
+    /// Goes outside the innermost parenthesis, if one is open, and hands out its frame.
+    pub fn close(&mut self) -> Option<Frame>
+        ensures none { IfNone result (frames_of self.old.frames.items ≡ []) }
+        ensures some { IfSome result (λ inner. frames_of self.old.frames.items ≡ frame_of inner ∷ frames_of self.new.frames.items) }
+        ensures level { self.new.level ≡ self.old.level }
+    {
+        self.frames.pop()
     }
 
     /// What could come after an atom.

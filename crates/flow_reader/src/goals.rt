@@ -118,7 +118,7 @@ fn close_parenthesis(alloc: Global, stack: &mut Stack) -> Result<GoalStep, Alloc
     ensures { IfOk result (λ step. goal_step stack.new step
         ≡ machine.join_atom (frames_of stack.old.frames.items) (level_of stack.old.level) grammar_symbol.closing) }
 {
-    let Some(frame) = stack.frames.pop() else {
+    let Some(frame) = stack.close() else {
         return Ok(GoalStep::Stuck);
     };
     let inside = mem::replace(&mut stack.level, frame.level).closed(alloc)?;

@@ -15,18 +15,25 @@ enum RuleList {
     Or,
 }
 
+impl RuleList {
+    fn form(self, members: Vec<RuleForm>) -> RuleForm
+        ensures { rule_shape_of result ≡ rule_list self (map rule_shape_of members.items) }
+    {
+        match self {
+            RuleList::And => RuleForm::And(members),
+            RuleList::Or => RuleForm::Or(members),
+        }
+    }
+}
+
 /// The list of the members; of one member, that member.
 fn gathered(list: RuleList, mut members: Vec<RuleForm>) -> RuleForm
     ensures { rule_shape_of result ≡ grammar.gather (rule_list list) (map rule_shape_of members.items) }
 {
     if members.len() == 1 {
-        if let Some(only) = members.pop() {
-            return only;
-        }
-    }
-    match list {
-        RuleList::And => RuleForm::And(members),
-        RuleList::Or => RuleForm::Or(members),
+        members.swap_remove(0)
+    } else {
+        list.form(members)
     }
 }
 

@@ -1,6 +1,6 @@
-ghost use Rattle.std.specs.Prelude.{◌≡◌, ◌∷◌, ◌+◌, ◌-◌, ◌<◌, ◌^◌, [], OnOk};
+ghost use Rattle.std.specs.Prelude.{◌≡◌, ◌∷◌, ◌+◌, ◌-◌, ◌<◌, ◌^◌, [], OnOk, IfNone, IfSome};
 ghost use Rattle.flow_grammar.specs.Machine as machine;
-ghost use Rattle.flow_reader.specs.RuleLevels.{rule_frames_of, rule_level_of};
+ghost use Rattle.flow_reader.specs.RuleLevels.{rule_frame_of, rule_frames_of, rule_level_of};
 
 use crate::rule_levels::{RuleFrame, RuleLevel};
 use flow_form::Wanted;
@@ -49,6 +49,20 @@ impl RuleStack {
         self.frames.push(RuleFrame { level, nots })?;
         self.height += nots + 1;
         Ok(())
+    }
+
+    /// Goes outside the innermost parenthesis, if one is open, and hands out its frame.
+    #[tactic(auto, using(crate::proofs::Heights::height_less))]
+    pub fn close(&mut self) -> Option<RuleFrame>
+        ensures none { IfNone result (rule_frames_of self.old.frames.items ≡ []) }
+        ensures some { IfSome result (λ inner. rule_frames_of self.old.frames.items ≡ rule_frame_of inner ∷ rule_frames_of self.new.frames.items) }
+        ensures level { self.new.level ≡ self.old.level }
+    {
+        let Some(frame) = self.frames.pop() else {
+            return None;
+        };
+        self.height = self.height - frame.nots - 1;
+        Some(frame)
     }
 
     /// What could come after a unit.

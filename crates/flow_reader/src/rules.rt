@@ -91,15 +91,13 @@ fn end_rule(alloc: Global, stack: &mut RuleStack) -> Result<RuleStep, AllocError
     Ok(RuleStep::Whole(level.closed(alloc)?))
 }
 
-#[tactic(auto, using(crate::proofs::Heights::height_less))]
 fn close_parenthesis(alloc: Global, stack: &mut RuleStack) -> Result<RuleStep, AllocError>
     ensures { IfOk result (λ step. rule_step stack.new step
         ≡ machine.join_unit (rule_frames_of stack.old.frames.items) (rule_level_of stack.old.level) grammar_symbol.closing) }
 {
-    let Some(frame) = stack.frames.pop() else {
+    let Some(frame) = stack.close() else {
         return Ok(RuleStep::Stuck);
     };
-    stack.height = stack.height - frame.nots - 1;
     let inside = mem::replace(&mut stack.level, frame.level).closed(alloc)?;
     stack.level.push(alloc, frame.nots, inside)?;
     Ok(RuleStep::Reading(RulePlace::AfterUnit))

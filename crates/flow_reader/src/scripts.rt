@@ -1,4 +1,4 @@
-ghost use Rattle.std.specs.Prelude.{◌≡◌, ◌∷◌, ◌++◌, ◌-◌, ◌^◌, ◌<◌, [], option_map, if◌then◌else◌, IfOk};
+ghost use Rattle.std.specs.Prelude.{◌≡◌, ◌∷◌, ◌++◌, ◌-◌, ◌^◌, ◌<◌, [], option_map, if◌then◌else◌, IfOk, OnOk};
 ghost use Rattle.flow_facts.specs.Atom.{atom};
 ghost use Rattle.flow_form.specs.Form.{shape_of};
 ghost use Rattle.flow_form.specs.Script as form;
@@ -81,6 +81,14 @@ impl ScriptParts {
         }
     }
 
+    /// Says one more declaration.
+    fn declare(&mut self, decl: Decl) -> Result<(), AllocError>
+        ensures { OnOk result (declared_so_far self.new ≡ declared_so_far self.old ++ form.declared decl ∷ []) }
+    {
+        self.script.decls.push(decl)?;
+        Ok(())
+    }
+
     fn start_declaration(&mut self, alloc: Global, symbol: Symbol<'_>) -> Option<ScriptPlace>
         ensures { option_map (script_state self.new) result ≡ machine.start_declaration (declared_so_far self.old) (meant symbol.entry) }
     {
@@ -122,7 +130,7 @@ impl ScriptParts {
             }
             _ => {
                 let fact = Fact::new(relation, Vec::new(alloc));
-                self.script.decls.push(Decl::Fact(fact))?;
+                self.declare(Decl::Fact(fact))?;
                 Ok(self.join_fact(symbol))
             }
         }
@@ -149,7 +157,7 @@ impl ScriptParts {
             FactPlace::InArgs(args) => match args.step(alloc, symbol)? {
                 ArgStep::Reading(args) => Ok(Some(ScriptPlace::InFact(FactPlace::InArgs(args)))),
                 ArgStep::Whole(fact) => {
-                    self.script.decls.push(Decl::Fact(fact))?;
+                    self.declare(Decl::Fact(fact))?;
                     Ok(Some(ScriptPlace::InFact(FactPlace::AfterFact)))
                 }
                 ArgStep::Stuck => Ok(None),
@@ -179,7 +187,7 @@ impl ScriptParts {
         if let Symbol::Fail = symbol {
             return Ok(Some(ScriptPlace::InEvent(EventPlace::AfterFail(event))));
         }
-        self.script.decls.push(Decl::Event(event, Note::Done))?;
+        self.declare(Decl::Event(event, Note::Done))?;
         match symbol {
             Symbol::Done => Ok(Some(ScriptPlace::InEvent(EventPlace::AfterNote))),
             _ => Ok(self.join_event(symbol)),
@@ -197,11 +205,11 @@ impl ScriptParts {
         match symbol {
             Symbol::Number(count) => {
                 let note = Note::FailFirst(count);
-                self.script.decls.push(Decl::Event(event, note))?;
+                self.declare(Decl::Event(event, note))?;
                 Ok(Some(ScriptPlace::InEvent(EventPlace::AfterNote)))
             }
             _ => {
-                self.script.decls.push(Decl::Event(event, Note::Fail))?;
+                self.declare(Decl::Event(event, Note::Fail))?;
                 Ok(self.join_event(symbol))
             }
         }
@@ -237,7 +245,7 @@ impl ScriptParts {
         match step {
             GoalStep::Reading(goal) => Ok(Some(ScriptPlace::InFlow(FlowPlace::InGoal(flow, goal)))),
             GoalStep::Whole(form) => {
-                self.script.decls.push(Decl::Flow(flow, form))?;
+                self.declare(Decl::Flow(flow, form))?;
                 Ok(Some(ScriptPlace::DeclarationNeeded))
             }
             GoalStep::Stuck => Ok(None),

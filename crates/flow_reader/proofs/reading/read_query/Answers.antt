@@ -1,8 +1,9 @@
-use Rattle.std.proofs.Common.{rules}
+use Rattle.std.proofs.Common.{rules, refl, sym}
+use Rattle.std.proofs.lemmas.List.{nil_from_length}
 use Rattle.flow_grammar.specs.Machine as machine
-use Rattle.flow_grammar.proofs.RunSteps.{goes_by_step}
+use Rattle.flow_reader.specs.Queries.{query_state}
 use Rattle.flow_reader.proofs.Within.{query_within}
-use Rattle.flow_reader.proofs.Loops.{token_within, stands_after}
+use Rattle.flow_reader.proofs.Loops.{token_within, stands_after, stands_no_value}
 use Rattle.flow_reader.proofs.reading.read_query.Goals as goal
 
 pub symbol_of-requires-clause-within : goal.symbol_of-requires-clause-within
@@ -11,6 +12,15 @@ symbol_of-requires-clause-within c =
 
 pub loop-token-preserved : goal.loop-token-preserved
 loop-token-preserved c =
-    stands_after machine.step_query machine.finish_query machine.wanted_query machine.depth_query
-    (goes_by_step machine.step_query machine.finish_query machine.wanted_query machine.depth_query) query_within
+    stands_after machine.step_query machine.finish_query machine.wanted_query machine.depth_query query_within
     _ _ _ _ _ _ c.in-Some.token.now c.loop-token.rest.now c.in-Some.more.now (search rules) c.symbol_of.ensures c.in_ok-reached.ensures.ok c.loop-token.invariant
+
+pub returns-in-None : goal.returns-in-None
+returns-in-None c =
+    let none = nil_from_length c.loop-token.rest.now c.in_default.ensures.cases in
+    record {
+      ok = tt;
+      refused = stands_no_value machine.step_query machine.finish_query machine.wanted_query machine.depth_query query_within _ _ _
+          (query_state c.loop-token.stack c.loop-token.reached) c.wanted-kind.result _ (sym (c.in-None.ensures c.loop-token.stack)) c.wanted-kind.ensures refl
+          (rw none at c.loop-token.invariant);
+    }
