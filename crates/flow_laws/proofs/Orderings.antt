@@ -187,16 +187,6 @@ half_unbroken a g bs other t f h half o others block m x y z k l p b c = ⊎_eli
     o.together part (half.part part i) x y z ((same x).0 k) (λ j. others y l (part_within a part y i j)) ((same z).0 p) b c)
     (block_kind a f bs h block m)
 
--- the ordering of a sequence as one of its halves beside one another
-ordering_beside : (a b : Process) (t : List ℕ) → IsOrdering (Sequence a b) t → IsOrdering (Parallel a b) t
-ordering_beside a b t o = record {
-  leaf = o.leaf;
-  all = o.all;
-  distinct = o.distinct;
-  before = λ x y k. o.before x y (⊎_elim (λ l. inl (inr l)) inr k);
-  together = o.together;
-}
-
 -- an ordering of two halves, by these
 halve : (a b : Process) (t : List ℕ) → AreDistinct (leaves (Parallel a b)) → IsOrdering (Parallel a b) t →
     (left right : List ℕ) × Shuffle left right t × IsOrdering a left × IsOrdering b right
@@ -219,7 +209,14 @@ pub trace_of_ordering : (t : List ℕ) (g : Process) → IsChoiceFree g → AreD
 trace_of_ordering t Empty f d o = ([], refl, no_members t o.leaf)
 trace_of_ordering t (Task n) f d o = ((n ∷ []) ∷ [], refl, only_member n t o.distinct o.leaf (o.all n (inl refl)))
 trace_of_ordering t (Sequence a b) (fa, fb) d o =
-    let (u, v, s, in_a, in_b) = halve a b t d (ordering_beside a b t o) in
+    let beside_one_another : IsOrdering (Parallel a b) t = record {
+      leaf = o.leaf;
+      all = o.all;
+      distinct = o.distinct;
+      before = λ x y k. o.before x y (⊎_elim (λ l. inl (inr l)) inr k);
+      together = o.together;
+    } in
+    let (u, v, s, in_a, in_b) = halve a b t d beside_one_another in
     let (x, hx, ex) = trace_of_ordering u a fa (distinct_left (leaves a) (leaves b) d) in_a in
     let (y, hy, ey) = trace_of_ordering v b fb (distinct_right (leaves a) (leaves b) d) in_b in
     let (more, e, r) = front_first u [] v t (subst (λ l. Shuffle l v t) (sym (append-nil u)) s)
