@@ -1,5 +1,5 @@
 -- What a run finds is so, and it finds what is so, where each state knows what may follow it.
-use Rattle.std.proofs.Common.{rules, ◌≡◌, ℕ, zero, suc, ◌<◌, ◌≤◌, ◌⊎◌, Bool, true, false, Option, Some, None, List, [], ◌∷◌, ◌++◌, take, refl, sym, ap, subst, inl, inr, arith, le-leb, leb-true, leb-false}
+use Rattle.std.proofs.Common.{rules, ◌≡◌, ℕ, zero, suc, ◌<◌, ◌≤◌, ◌⊎◌, Bool, true, false, Option, Some, None, List, [], ◌∷◌, ◌++◌, length, take, drop, refl, sym, ap, ◌∙◌, subst, inl, inr, ⊎_elim, append_assoc, le_antisymm, take-append-drop, arith, le-leb, leb-true, leb-false}
 use Rattle.std.specs.Prelude.{option_map}
 use Rattle.flow_model.specs.declared.limits.TheConstants.{GREATEST_DEPTH}
 use Rattle.flow_form.specs.declared.refusal.Wanted.{Wanted}
@@ -7,7 +7,8 @@ use Rattle.flow_grammar.specs.Symbol.{Symbol, Placed, at, symbols, Deepens}
 use Rattle.flow_grammar.specs.Machine.{Reading, gives, expected, too_deep, later, is_too_deep, at_end, go_on, run, standing}
 use Rattle.flow_grammar.specs.Laws.{StandsFor, MayEnd}
 use Rattle.flow_grammar.specs.Texts.{IsShallow, IsDeepAt, Derives, IsWhole, IsViable, StandsDeep, IsStuckAt, NoneDeepBefore}
-use Rattle.std.proofs.lemmas.Bool.{false_from_ne_true}
+use Rattle.std.proofs.lemmas.Bool.{cases_lt}
+use Rattle.std.proofs.lemmas.List.{take-take}
 
 pub uncons : (w : List Placed) (t : Symbol) (ts : List Symbol) → symbols w ≡ t ∷ ts →
     (n : ℕ) × (v : List Placed) × (w ≡ at n t ∷ v) × (symbols v ≡ ts)
@@ -87,10 +88,6 @@ wanted_there step finish wanted depth (t ∷ ts) s kind i e =
           subst (λ y. option_map wanted (standing step (Some s) (take y (t ∷ ts))) ≡ Some kind) (sym ei)
           (subst (λ o. option_map wanted (standing step o (take j ts)) ≡ Some kind) (sym es) (wanted_there step finish wanted depth ts next kind j er))
     ]
-
-known : {A : Type 0} (o : Option A) → (o ≡ None) ⊎ ((s : A) × (o ≡ Some s))
-known None = inl refl
-known (Some s) = inr (s, refl)
 
 -- What a state knows: R s w x says that w may follow s, and the whole then says x
 
@@ -202,24 +199,6 @@ module _ {S V : Type 0} (step : S → Symbol → Option S) (finish : S → Optio
       let (n, d, r') = behind s next t w x es r in
       (at n t ∷ w, ap (λ y. t ∷ y) ew, (λ h. subst (λ y. y < GREATEST_DEPTH) (sym (d h)) (not_deep t (depth s) eb h), sh), r')
 
-  not_too_deep : (s : S) (t : Symbol) (n : ℕ) → (Deepens t → n < GREATEST_DEPTH) → (Deepens t → n ≡ depth s) → is_too_deep t (depth s) ≡ false
-  not_too_deep s t n sh d = false_from_ne_true (is_too_deep t (depth s)) λ e.
-      let (dt, l) = deep_of t (depth s) e in
-      let below : n < GREATEST_DEPTH = sh dt in
-      let same : n ≡ depth s = d dt in
-      omega arith
-
-  given_by : (w : List Placed) (s : S) (x : V) → IsShallow w → R s w x → reads s (symbols w) ≡ gives x
-  given_by [] s x sh r = let e : finish s ≡ Some x = k.forth s [] x r in rw e refl
-  given_by (at n t ∷ w) s x (sh, more) r =
-      let f : (Deepens t → n ≡ depth s) × OnNext R (step s t) w x = k.forth s (at n t ∷ w) x r in
-      let (next, es, r') = on_next (step s t) w x f.1 in
-      let eb = not_too_deep s t n sh f.0 in
-      rw (es, eb, given_by w next x more r')
-
-  pub given : (ts : List Symbol) (s : S) (x : V) → Derives (R s) ts x → reads s ts ≡ gives x
-  given ts s x (w, e, sh, r) = subst (λ y. reads s y ≡ gives x) e (given_by w s x sh r)
-
   -- where no text goes on
 
   pub stuck_where : (ts : List Symbol) (s : S) (kind : Wanted) (i : ℕ) → reads s ts ≡ expected kind i →
@@ -247,33 +226,6 @@ module _ {S V : Type 0} (step : S → Symbol → Option S) (finish : S → Optio
       up next j es eb ((v, inr (l, refuted)), h) =
           ((viable_up s next t (take j ts) es v, inr (omega arith, λ v'. refuted (whole_down s next t ts es v'))), none_before s next t ts j es eb h)
 
-  pub stuck_there : (ts : List Symbol) (s : S) (i : ℕ) → IsStuckAt (R s) ts i → NoneDeepBefore (R s) ts i →
-      (kind : Wanted) × (reads s ts ≡ expected kind i)
-  stuck_there [] s i (v, inl (l, refuted)) h = absurd (omega arith)
-  stuck_there [] s i (v, inr (l, refuted)) h = elim (known (finish s)) [
-    | inl e ↦ (wanted s, rw (e, l) refl)
-    | inr (x, e) ↦ absurd (refuted ([], x, refl, k.ended s x e))
-  ]
-  stuck_there (t ∷ ts) s zero (v, inl (l, refuted)) h = elim (known (step s t)) [
-    | inl e ↦ (wanted s, rw e refl)
-    | inr (next, e) ↦ absurd (refuted (viable_up s next t [] e (viable_nil next)))
-  ]
-  stuck_there (t ∷ ts) s zero (v, inr (l, refuted)) h = absurd (omega arith)
-  stuck_there (t ∷ ts) s (suc i) (v, more) h = elim (known (step s t)) [
-    | inl e ↦ absurd (viable_none s t (take i ts) e v)
-    | inr (next, e) ↦
-        let (kind, er) = stuck_there ts next i (down next e (v, more)) (below next e h) in
-        let eb = false_from_ne_true (is_too_deep t (depth s)) (λ b. h zero (omega arith) (deep_there s next t ts e b)) in
-        (kind, rw (e, eb, er) refl)
-  ]
-    where
-      down : (next : S) → step s t ≡ Some next → IsStuckAt (R s) (t ∷ ts) (suc i) → IsStuckAt (R next) ts i
-      down next es (v', inl (l, refuted)) = (viable_down s next t (take i ts) es v', inl (omega arith, λ y. refuted (viable_up s next t (take (suc i) ts) es y)))
-      down next es (v', inr (l, refuted)) = (viable_down s next t (take i ts) es v', inr (omega arith, λ y. refuted (whole_up s next t ts es y)))
-
-      below : (next : S) → step s t ≡ Some next → NoneDeepBefore (R s) (t ∷ ts) (suc i) → NoneDeepBefore (R next) ts i
-      below next es h' j l dp = h' (suc j) (omega arith) (deep_up s next t ts j es dp)
-
   -- where it is too deep
 
   pub deep_where : (ts : List Symbol) (s : S) (i : ℕ) → reads s ts ≡ too_deep i → StandsDeep (R s) ts i × NoneDeepBefore (R s) ts i
@@ -291,24 +243,6 @@ module _ {S V : Type 0} (step : S → Symbol → Option S) (finish : S → Optio
           StandsDeep (R next) ts j × NoneDeepBefore (R next) ts j → StandsDeep (R s) (t ∷ ts) (suc j) × NoneDeepBefore (R s) (t ∷ ts) (suc j)
       up next j es eb (dp, h) = (deep_up s next t ts j es dp, none_before s next t ts j es eb h)
 
-  pub deep_then : (ts : List Symbol) (s : S) (i : ℕ) → StandsDeep (R s) ts i → NoneDeepBefore (R s) ts i → reads s ts ≡ too_deep i
-  deep_then [] s i (l, more) h = absurd (omega arith)
-  deep_then (t ∷ ts) s i dp h = elim (known (step s t)) [
-    | inl e ↦ absurd (viable_none s t (take i ts) e (begun i dp))
-    | inr (next, e) ↦ deeper next e i dp h (λ j. deep_then ts next j)
-  ]
-    where
-      begun : (j : ℕ) → StandsDeep (R s) (t ∷ ts) j → IsViable (R s) (t ∷ take j ts)
-      begun j (l, (w, x, b, d, r)) = (w, x, b, r)
-
-      deeper : (next : S) → step s t ≡ Some next → (j : ℕ) → StandsDeep (R s) (t ∷ ts) j → NoneDeepBefore (R s) (t ∷ ts) j →
-          ((i' : ℕ) → StandsDeep (R next) ts i' → NoneDeepBefore (R next) ts i' → reads next ts ≡ too_deep i') → reads s (t ∷ ts) ≡ too_deep j
-      deeper next es zero d h' rec = let eb = deep_here s t ts d in rw (es, eb) refl
-      deeper next es (suc j) d h' rec =
-          let eb = false_from_ne_true (is_too_deep t (depth s)) (λ b. h' zero (omega arith) (deep_there s next t ts es b)) in
-          let er = rec j (deep_down s next t ts j es d) (λ i' l dp'. h' (suc i') (omega arith) (deep_up s next t ts i' es dp')) in
-          rw (es, eb, er) refl
-
   -- one meaning
 
   pub one_meaning : (w v : List Placed) (s : S) (x y : V) → symbols w ≡ symbols v → R s w x → R s v y → x ≡ y
@@ -322,6 +256,75 @@ module _ {S V : Type 0} (step : S → Symbol → Option S) (finish : S → Optio
       let (next, es, q) = on_next (step s t) w x f.1 in
       let (n', v', ew, ev, d, q') = front s (Some next) t (symbols w) v y es (sym e) r' in
       one_meaning w v' next x y (sym ev) q q'
+
+  -- What is read is one of three, and each excludes the others
+
+  -- no text goes on past the place where none does
+  not_past : (ts : List Symbol) (s : S) (i j : ℕ) → IsStuckAt (R s) ts i → IsViable (R s) (take j ts) → j ≤ length ts → j ≤ i
+  not_past ts s i j (v, more) (w, x, (rest, e), r) l = ⊎_elim (λ less. absurd (past less more)) (λ le. le) (cases_lt i j)
+    where
+      past : i < j → ((i < length ts) × ¬ IsViable (R s) (take (suc i) ts)) ⊎ ((i ≡ length ts) × ¬ IsWhole (R s) ts) → ⊥
+      past less (inr (end, refuted)) = omega arith
+      past less (inl (below, refuted)) =
+          let back = drop (suc i) (take j ts) in
+          let cut : take j ts ≡ take (suc i) ts ++ back =
+          sym (take-append-drop (suc i) (take j ts)) ∙ ap (λ y. y ++ back) (take-take (suc i) j ts (omega arith)) in
+          refuted (w, x, (back ++ rest, e ∙ ap (λ y. y ++ rest) cut ∙ append_assoc (take (suc i) ts) back rest), r)
+
+  stuck_once : (ts : List Symbol) (s : S) (i j : ℕ) → IsStuckAt (R s) ts i → IsStuckAt (R s) ts j → j ≤ i
+  stuck_once ts s i j a b = not_past ts s i j a b.0 (⊎_elim (λ (l, n). omega arith) (λ (l, n). omega arith) b.1)
+
+  not_whole : (ts : List Symbol) (s : S) (i : ℕ) → IsStuckAt (R s) ts i → ¬ IsWhole (R s) ts
+  not_whole ts s i (v, inl (l, refuted)) (w, x, e, r) = refuted (w, x, (drop (suc i) ts, e ∙ sym (take-append-drop (suc i) ts)), r)
+  not_whole ts s i (v, inr (l, refuted)) h = refuted h
+
+  deep_before : (ts : List Symbol) (s : S) (i j : ℕ) → IsStuckAt (R s) ts i → StandsDeep (R s) ts j → j < i
+  deep_before ts s i j stuck (l, (w, x, b, dp, r)) = let past : suc j ≤ i = not_past ts s i (suc j) stuck (w, x, b, r) (omega arith) in omega arith
+
+  none_deep : (w : List Placed) (s : S) (x : V) (i : ℕ) → IsShallow w → R s w x → ¬ StandsDeep (R s) (symbols w) i
+  none_deep [] s x i sh r (l, more) = omega arith
+  none_deep (at n t ∷ w) s x zero (sh, more) r dp =
+      let f : (Deepens t → n ≡ depth s) × OnNext R (step s t) w x = k.forth s (at n t ∷ w) x r in
+      let (dt, l) = deep_of t (depth s) (deep_here s t (symbols w) dp) in
+      let below : n < GREATEST_DEPTH = sh dt in
+      omega (arith, f.0 dt, l, below)
+  none_deep (at n t ∷ w) s x (suc i) (sh, more) r dp =
+      let f : (Deepens t → n ≡ depth s) × OnNext R (step s t) w x = k.forth s (at n t ∷ w) x r in
+      let (next, es, r') = on_next (step s t) w x f.1 in
+      none_deep w next x i more r' (deep_down s next t (symbols w) i es dp)
+
+  first_deep : (ts : List Symbol) (s : S) (i j : ℕ) → NoneDeepBefore (R s) ts i → StandsDeep (R s) ts j → i ≤ j
+  first_deep ts s i j h dp = ⊎_elim (λ l. absurd (h j l dp)) (λ le. le) (cases_lt j i)
+
+  -- so each is found where it is so
+
+  pub given : (ts : List Symbol) (s : S) (x : V) → Derives (R s) ts x → reads s ts ≡ gives x
+  given ts s x (w, e, sh, r) = found (reads s ts) refl
+    where
+      found : (o : Reading V) → reads s ts ≡ o → reads s ts ≡ gives x
+      found (gives y) is = let (v, ev, sh', r') = derived ts s y is in is ∙ ap gives (one_meaning v w s y x (ev ∙ sym e) r' r)
+      found (expected kind i) is = absurd (not_whole ts s i (stuck_where ts s kind i is).0 (w, x, e, r))
+      found (too_deep i) is = absurd (none_deep w s x i sh r (subst (λ y. StandsDeep (R s) y i) (sym e) (deep_where ts s i is).0))
+
+  pub stuck_there : (ts : List Symbol) (s : S) (i : ℕ) → IsStuckAt (R s) ts i → NoneDeepBefore (R s) ts i →
+      (kind : Wanted) × (reads s ts ≡ expected kind i)
+  stuck_there ts s i stuck h = found (reads s ts) refl
+    where
+      found : (o : Reading V) → reads s ts ≡ o → (kind : Wanted) × (reads s ts ≡ expected kind i)
+      found (gives x) is = let (w, e, sh, r) = derived ts s x is in absurd (not_whole ts s i stuck (w, x, e, r))
+      found (expected kind j) is =
+          let (here, none) = stuck_where ts s kind j is in
+          (kind, is ∙ ap (expected kind) (le_antisymm (stuck_once ts s i j stuck here) (stuck_once ts s j i here stuck)))
+      found (too_deep j) is = let (dp, none) = deep_where ts s j is in absurd (h j (deep_before ts s i j stuck dp) dp)
+
+  pub deep_then : (ts : List Symbol) (s : S) (i : ℕ) → StandsDeep (R s) ts i → NoneDeepBefore (R s) ts i → reads s ts ≡ too_deep i
+  deep_then ts s i dp h = found (reads s ts) refl
+    where
+      found : (o : Reading V) → reads s ts ≡ o → reads s ts ≡ too_deep i
+      found (gives x) is = let (w, e, sh, r) = derived ts s x is in absurd (none_deep w s x i sh r (subst (λ y. StandsDeep (R s) y i) (sym e) dp))
+      found (expected kind j) is = let (here, none) = stuck_where ts s kind j is in absurd (none i (deep_before ts s j i here dp) dp)
+      found (too_deep j) is =
+          let (here, none) = deep_where ts s j is in is ∙ ap too_deep (le_antisymm (first_deep ts s j i none dp) (first_deep ts s i j h here))
 
   -- the kind
 
