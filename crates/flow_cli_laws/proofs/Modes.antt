@@ -1,5 +1,5 @@
 -- Two outputs of a mode for what is said agree, but for what is shown of which any will do.
-use Rattle.std.proofs.Common.{◌≡◌, ℕ, List, [], inl, inr, ◌⊎◌, refl, sym, ap, subst, ◌∙◌, ◌<◌, ◌≤◌, length, Some, Ok, Err, arith}
+use Rattle.std.proofs.Common.{◌≡◌, ℕ, List, [], inl, inr, ◌⊎◌, ⊎_elim, refl, sym, ap, subst, ◌∙◌, ◌<◌, ◌≤◌, length, Some, Ok, Err, arith}
 use Rattle.flow_model.specs.Lists.{AreDistinct}
 use Rattle.flow_model.specs.Schema.{Schema}
 use Rattle.flow_model.specs.declared.history.Entry.{Entry}
@@ -33,7 +33,6 @@ use Rattle.flow_cli_laws.proofs.Compilations.{told_once, not_too_large, not_comp
 use Rattle.std.specs.Prelude.{slice_get}
 use Rattle.std.proofs.lemmas.Option.{slice_get_within}
 use Rattle.flow_model.specs.Constraint.{Constraint}
-use Rattle.flow_text.specs.Saying.{Asks}
 use Rattle.flow_text.proofs.OneAnswer.{queries_have_one_answer}
 use Rattle.flow_expand.specs.Constraints.{constraint_of}
 use Rattle.flow_verify.specs.declared.answers.Verified.{Verified}
@@ -62,13 +61,10 @@ module _ (status other : Status) (output text : List ℕ) where
       ((w : Definition) → P w status output → P w other text → Agree (Show w)) →
       IsNotExpanded s status output ⊎ OfWorkflow s (λ w. P w status output) → IsNotExpanded s other text ⊎ OfWorkflow s (λ w. P w other text) →
       Agree (ShowsChain s output text ⊎ OfWorkflow s Show)
-  said_once s once P Show each p q = shown_of (of_one_workflow s once P (λ w. Agree (Show w)) status other output text each p q)
-    where
-      shown_of : Agree (ShowsChain s output text) ⊎ OfWorkflow s (λ w. Agree (Show w)) → Agree (ShowsChain s output text ⊎ OfWorkflow s Show)
-      shown_of (inl (is, inl e)) = (is, inl e)
-      shown_of (inl (is, inr shows)) = (is, inr (inl shows))
-      shown_of (inr (w, x, (is, inl e))) = (is, inl e)
-      shown_of (inr (w, x, (is, inr shows))) = (is, inr (inr (w, x, shows)))
+  said_once s once P Show each p q = ⊎_elim
+      (λ (is, e). (is, ⊎_elim inl (λ shows. inr (inl shows)) e))
+      (λ (w, x, (is, e)). (is, ⊎_elim inl (λ shows. inr (inr (w, x, shows))) e))
+      (of_one_workflow s once P (λ w. Agree (Show w)) status other output text each p q)
 
   -- a workflow is too large for one count, or what is found of it agrees
   sized_once : (w : Schema) (Free : Type 0) (Found : Status → List ℕ → Type 0) → ((st : Status) (o : List ℕ) → Found st o → IsWithinLimits w) →
@@ -205,11 +201,6 @@ module _ (status other : Status) (output text : List ℕ) where
   workflow_verifies_once w (holds property) p q = property_once w (constraint_of w.events property) p q
   workflow_verifies_once w (redundant index) p q = constraint_once w index p q
 
-  for_query : (s : Said) (second : List ℕ) (query : Asked) → Asks second s query → Agree (ShowsAsked s query output text) →
-      Agree (OfQuery s second (λ query. ShowsAsked s query output text))
-  for_query s second query asks (is, inl e) = (is, inl e)
-  for_query s second query asks (is, inr shows) = (is, inr (query, asks, shows))
-
   pub verify_agrees : (s : Said) → AreDistinct (declared_names s.decls) → (second : List ℕ) → VerifiesText s second status output → VerifiesText s second other text →
       Agree (OfQuery s second (λ query. ShowsAsked s query output text))
   verify_agrees s once second (inl p) (inl q) =
@@ -222,6 +213,6 @@ module _ (status other : Status) (output text : List ℕ) where
       (queries_have_one_answer second s (Err q.refusal) (Ok query) (q.first, of_text q.refusal q.of_text) asks))
   verify_agrees s once second (inr (query, asks, h)) (inr (more, wants, g)) =
       let one : more ≡ query = one_value (Ok more) (Ok query) more query refl refl (queries_have_one_answer second s (Ok more) (Ok query) wants asks) in
-      for_query s second query asks
-      (said_once s once (λ w st o. VerifiesWorkflow w query st o) (λ w. ShowsExecution w query output text) (λ w. workflow_verifies_once w query)
-      h (subst (λ (asked : Asked). VerifiesSaid s asked other text) one g))
+      let (is, e) = said_once s once (λ w st o. VerifiesWorkflow w query st o) (λ w. ShowsExecution w query output text) (λ w. workflow_verifies_once w query)
+      h (subst (λ (asked : Asked). VerifiesSaid s asked other text) one g) in
+      (is, ⊎_elim inl (λ shows. inr (query, asks, shows)) e)
