@@ -1,5 +1,5 @@
 -- A goal and a rule have a derivation that spells their print, no deeper than the print.
-use Rattle.std.proofs.Common.{rules as std_rules, ◌≡◌, ℕ, suc, ◌+◌, ◌≤◌, max, Bool, true, false, List, [], ◌∷◌, length, refl, ap, ◌∙◌, arith}
+use Rattle.std.proofs.Common.{rules as std_rules, ◌≡◌, ◌↔◌, ℕ, suc, ◌+◌, ◌≤◌, max, Bool, true, false, List, [], ◌∷◌, length, refl, ap, ◌∙◌, arith}
 use Rattle.flow_facts.specs.declared.constant.Const.{Const}
 use Rattle.flow_facts.specs.Atom.{Atom, atom}
 use Rattle.flow_form.specs.Form.{Shape, Shapes, nop, named, test, absent, ins, del, iso, serial, beside, either, no_more, followed, shapes, members, IsGrouped, AreGrouped}
@@ -17,9 +17,9 @@ constants_print : (d : ℕ) (cs : List Const) (r : List Placed) → symbols (spe
 constants_print d [] r = refl
 constants_print d (c ∷ cs) r = ap (λ y. comma ∷ constant_symbol c ∷ y) (constants_print d cs r)
 
-constants_shallow : (d : ℕ) (cs : List Const) (r : List Placed) → IsShallow r → IsShallow (spell_constants d cs r)
-constants_shallow d [] r h = h
-constants_shallow d (c ∷ cs) r h = (λ k. absurd k, (λ k. search std_rules, constants_shallow d cs r h))
+pub constants_flat : (d : ℕ) (cs : List Const) (r : List Placed) → IsShallow (spell_constants d cs r) ↔ IsShallow r
+constants_flat d [] r = (λ h. h, λ h. h)
+constants_flat d (c ∷ cs) r = (λ h. (constants_flat d cs r).0 h.1.1, λ h. (λ k. absurd k, (λ k. search std_rules, (constants_flat d cs r).1 h)))
 
 -- a derivation that spells the fact's print
 pub record PrintedFact (a : Atom) : Type 0 where
@@ -35,7 +35,7 @@ with_args n (c ∷ cs) = record {
   means = refl;
   prints = λ d r. ap (λ y. a_name n ∷ opening ∷ constant_symbol c ∷ y) (constants_print (suc d) cs (at (suc d) closing ∷ r));
   shallow = λ d r l h.
-      (λ k. absurd k, (λ k. omega arith, (λ k. search std_rules, constants_shallow (suc d) cs (at (suc d) closing ∷ r) (λ k. absurd k, h))));
+      (λ k. absurd k, (λ k. omega arith, (λ k. search std_rules, (constants_flat (suc d) cs (at (suc d) closing ∷ r)).1 (λ k. absurd k, h))));
 }
 
 pub fact_printed : (a : Atom) → PrintedFact a
@@ -194,9 +194,9 @@ names_print : (d : ℕ) (ns : List (List ℕ)) (r : List Placed) → symbols (sp
 names_print d [] r = refl
 names_print d (n ∷ ns) r = ap (λ y. a_name n ∷ y) (names_print d ns r)
 
-names_shallow : (d : ℕ) (ns : List (List ℕ)) (r : List Placed) → IsShallow r → IsShallow (spell_names d ns r)
-names_shallow d [] r h = h
-names_shallow d (n ∷ ns) r h = (λ k. absurd k, names_shallow d ns r h)
+pub names_flat : (d : ℕ) (ns : List (List ℕ)) (r : List Placed) → IsShallow (spell_names d ns r) ↔ IsShallow r
+names_flat d [] r = (λ h. h, λ h. h)
+names_flat d (n ∷ ns) r = (λ h. (names_flat d ns r).0 h.1, λ h. (λ k. absurd k, (names_flat d ns r).1 h))
 
 order_unit : (ns : List (List ℕ)) → 2 ≤ length ns → Spelled rules 0 (order ns) (print_rule (order ns)) 0
 order_unit [] l = absurd (omega arith)
@@ -205,7 +205,7 @@ order_unit (a ∷ b ∷ ns) l = record {
   text = order_text a b ns;
   means = refl;
   prints = λ d r. ap (λ y. order_word ∷ a_name a ∷ a_name b ∷ y) (names_print d ns r);
-  shallow = λ d r l' h. (λ k. absurd k, names_shallow d (a ∷ b ∷ ns) r h);
+  shallow = λ d r l' h. (λ k. absurd k, (names_flat d (a ∷ b ∷ ns) r).1 h);
 }
 
 -- a unit of a word and names

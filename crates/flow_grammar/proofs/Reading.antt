@@ -35,7 +35,7 @@ is_machine {S} {V} step finish wanted depth R k comes s = record {
     so : (ts : List Symbol) (r : Reading V) → run step finish wanted depth s ts ≡ r → IsSo step finish wanted depth R k comes s ts r
     so ts r e = subst (IsSo step finish wanted depth R k comes s ts) e (is_so step finish wanted depth R k comes ts s)
 
-    found : (ts : List Symbol) (r : Reading V) → Holds step finish wanted depth R k comes s ts r → IsFound step finish wanted depth R k comes (run step finish wanted depth s ts) r
+    found : (ts : List Symbol) (r : Reading V) → Holds step finish wanted depth R k comes s ts r → IsFound (run step finish wanted depth s ts) r
     found ts r = one_reading step finish wanted depth R k comes ts s _ r (is_so step finish wanted depth R k comes ts s)
 
 pub scripts_are_read : IsMachine SpellsScript script_wants read_script

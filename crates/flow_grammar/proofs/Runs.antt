@@ -51,6 +51,11 @@ pub record Wants {S V : Type 0} (step : S → Symbol → Option S) (finish : S �
   pub comes : (s : S) (t : Symbol) → StandsFor (wanted s) t → Goes (step s t)
   pub ends : (s : S) → MayEnd (wanted s) → Goes (finish s)
 
+-- it is what is read, but for the kind
+abbrev pub IsFound : {V : Type 0} → Reading V → Reading V → Type 0
+IsFound r (expected kind i) = (kind' : Wanted) × (r ≡ expected kind' i)
+IsFound r q = r ≡ q
+
 of_goes : {A : Type 0} (o : Option A) → Goes o → (s : A) × (o ≡ Some s)
 of_goes (Some s) h = (s, refl)
 of_goes None h = absurd h
@@ -242,11 +247,6 @@ module _ {S V : Type 0} (step : S → Symbol → Option S) (finish : S → Optio
 
   first_deep : (ts : List Symbol) (s : S) (i j : ℕ) → NoneDeepBefore (R s) ts i → StandsDeep (R s) ts j → i ≤ j
   first_deep ts s i j h dp = ⊎_elim (λ l. absurd (h j l dp)) (λ le. le) (cases_lt j i)
-
-  -- it is what is read, but for the kind
-  abbrev pub IsFound : Reading V → Reading V → Type 0
-  IsFound r (expected kind i) = (kind' : Wanted) × (r ≡ expected kind' i)
-  IsFound r q = r ≡ q
 
   pub one_reading : (ts : List Symbol) (s : S) (r q : Reading V) → IsSo s ts r → Holds s ts q → IsFound r q
   one_reading ts s (gives y) (gives x) (v, e, sh, r) (w, e', sh', r') = ap gives (one_meaning v w s y x (e ∙ sym e') r r')
