@@ -9,7 +9,7 @@ use Rattle.flow_model.specs.declared.limits.TheConstants.{GREATEST_DEPTH}
 use Rattle.flow_grammar.specs.Texts.{IsShallow}
 use Rattle.flow_grammar.specs.Print.{in_serial, in_beside, in_either, in_all, in_any, nest, arguments_nesting, nesting, nesting_list, rule_nesting, rules_nesting}
 use Rattle.flow_grammar.proofs.MadeTexts.{gathered}
-use Rattle.flow_grammar.proofs.Printed.{constants_flat, names_flat}
+use Rattle.flow_grammar.proofs.Printed.{constants_spelled, names_spelled}
 
 -- whether it stands in parentheses as a member at that level, and how deep its print is
 abbrev parted : (k : Kind) → ℕ → Meaning k → Bool
@@ -67,7 +67,7 @@ pub after_fact : (d : ℕ) (f : FactText) (r : List Placed) → d ≤ GREATEST_D
 after_fact d (bare n) r l (h, more) = (omega arith, more)
 after_fact d (applied n c cs) r l (h, (k, (j, more))) =
     let below : d < GREATEST_DEPTH = k tt in
-    (omega arith, ((constants_flat (suc d) cs (at (suc d) closing ∷ r)).0 more).1)
+    (omega arith, ((constants_spelled (suc d) cs (at (suc d) closing ∷ r)).1.0 more).1)
 
 fact_within : (d : ℕ) (p : Prefix) (f : FactText) → d + arguments_nesting (mean_fact f).args ≤ GREATEST_DEPTH → Holds goals 0 d (prefixed p (mean_fact f))
 fact_within d p f h = search std_rules
@@ -94,7 +94,7 @@ mutual
       let m : d < GREATEST_DEPTH = below tt in
       let (x, j) = within u (suc d) r b m h in
       (omega arith, j)
-  within (order_text x y ns) d r b l (h, (j, (i, more))) = (omega arith, (names_flat d ns r).0 more)
+  within (order_text x y ns) d r b l (h, (j, (i, more))) = (omega arith, (names_spelled d ns r).1.0 more)
   within _ d r b l h = search (std_rules, none_more)
 
   more_within : {k : Kind} {n : ℕ} (ms : More k n) (d : ℕ) (r : List Placed) → n ≤ top k → d ≤ GREATEST_DEPTH → IsShallow (spell_more d ms r) →

@@ -5,7 +5,6 @@ use Rattle.std.proofs.lemmas.Grind.{flat_map-append}
 use Rattle.std.proofs.lemmas.List.{length-map}
 use Rattle.std.proofs.lemmas.Option.{slice_get-map}
 use Rattle.flow_model.specs.Lists.{◌∈◌, Each, AreDistinct, Begins, StandsBefore, IsOrderOf, joined, numbers_from, each_with_each}
-pub use Rattle.std.proofs.lemmas.Option.{same_Some as some_same}
 pub use Rattle.flow_model.specs.Decided.{order_of_none}
 pub use Rattle.flow_model.proofs.Lists.{slice_get_append_left}
 use Rattle.flow_laws.proofs.Members.{mem_append_left, mem_append_right, mem-append, mem_here, mem_without, distinct_apart, distinct_right, cons_same, not_empty}
@@ -107,6 +106,9 @@ distinct-numbers_from first (suc count) =
     (λ h. omega (arith, numbers_from_least (first + 1) count first h), distinct-numbers_from (first + 1) count)
 
 -- What is found
+
+pub some_same : {A : Type 0} (a b : A) → Some a ≡ Some b → a ≡ b
+some_same a b e = cc
 
 pub of_find : {A : Type 0} (p : A → Bool) (xs : List A) (x : A) → find p xs ≡ Some x → (x ∈ xs) × (p x ≡ true)
 of_find p [] x e = cc

@@ -78,17 +78,12 @@ not_not (inr n) h = absurd (h n)
 
 -- Chains
 
-pub chain_is : (es events : List ℕ) → HappenInOrder es events ↔ MeetsNormal (chain es) events
-chain_is [] events = (λ h. h, λ h. h)
-chain_is (a ∷ []) events = (λ h. h, λ h. h)
+pub chain_is : (es events : List ℕ) →
+    (HappenInOrder es events ↔ MeetsNormal (chain es) events) × ((¬ (HappenInOrder es events)) ↔ MeetsNormal (broken_chain es) events)
+chain_is [] events = grind arith
+chain_is (a ∷ []) events = ((λ h. h, λ h. h), (λ h. h, λ h. h))
 chain_is (a ∷ b ∷ []) events = grind (arith, before_members a b events)
-chain_is (a ∷ b ∷ c ∷ more) events = grind (arith, chain_is (b ∷ c ∷ more) events)
-
-pub broken_chain_is : (es events : List ℕ) → (¬ (HappenInOrder es events)) ↔ MeetsNormal (broken_chain es) events
-broken_chain_is [] events = grind arith
-broken_chain_is (a ∷ []) events = (λ h. h, λ h. h)
-broken_chain_is (a ∷ b ∷ []) events = grind (arith, before_members a b events)
-broken_chain_is (a ∷ b ∷ c ∷ more) events = grind (arith, broken_chain_is (b ∷ c ∷ more) events, decide_before a b events)
+chain_is (a ∷ b ∷ c ∷ more) events = grind (arith, chain_is (b ∷ c ∷ more) events, decide_before a b events)
 
 -- a constraint and its normal form; its negation and that one's
 pub normal_form_is : (c : Constraint) (events : List ℕ) →
@@ -98,7 +93,7 @@ normal_form_is Always events = grind arith
 normal_form_is Impossible events = grind arith
 normal_form_is (Must e) events = grind arith
 normal_form_is (Never e) events = grind (arith, decide_in e events)
-normal_form_is (Order es) events = (chain_is es events, broken_chain_is es events)
+normal_form_is (Order es) events = chain_is es events
 normal_form_is (Not c) events = grind (arith, normal_form_is c events, decide_meets c events)
 normal_form_is (And c d) events = grind (arith, normal_form_is c events, normal_form_is d events, decide_meets c events)
 normal_form_is (Or c d) events = grind (arith, normal_form_is c events, normal_form_is d events)
