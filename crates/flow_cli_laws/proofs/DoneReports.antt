@@ -47,19 +47,13 @@ module _ (gives : Call → Outcome → Bool) (w : Definition) (steps workers : �
     never_fails = subst (NeverFails gives) same all.never_fails;
   }
 
-  enough : 2 * length (schema last).labels + 1 ≤ last.limit
-  enough = subst (λ n. 2 * length (schema last).labels + 1 ≤ n) (sym run.limit_is) (subst (λ (x : Schema). 2 * length x.labels + 1 ≤ steps) same room)
-
-  stood : (meant : model.Verdict) → model.IsRunVerdict (schema_of w) steps last.history meant → model.IsRunVerdict (schema last) last.limit last.history meant
-  stood meant stands =
-      subst (λ n. model.IsRunVerdict (schema last) n last.history meant) (sym run.limit_is)
-      (subst (λ x. model.IsRunVerdict x steps last.history meant) same stands)
-
   abbrev Stands : model.Verdict → Type 0
   Stands = model.IsRunVerdict (schema last) last.limit last.history
 
   commits : (found : End) → IsEnd last found → verdict_of found ≡ verdict.Committed
-  commits found is = ap verdict_of (committed gives last succeeds enough found is)
+  commits found is =
+      let enough = subst (λ n. 2 * length (schema last).labels + 1 ≤ n) (sym run.limit_is) (subst (λ (x : Schema). 2 * length x.labels + 1 ≤ steps) same room) in
+      ap verdict_of (committed gives last succeeds enough found is)
 
   ends : (v : Verdict) (meant : model.Verdict) → Means last v meant → Stands meant → v ≡ verdict.Committed
   ends verdict.Committed meant means stands = refl
@@ -69,7 +63,9 @@ module _ (gives : Call → Outcome → Bool) (w : Definition) (steps workers : �
   ends verdict.Unfinished meant means stands = absurd (subst Stands means stands)
 
   commits_at_once : said ≡ verdict.Committed
-  commits_at_once = ends said run.stands run.verdict_is (stood run.stands run.stands_is)
+  commits_at_once = ends said run.stands run.verdict_is
+      (subst (λ n. model.IsRunVerdict (schema last) n last.history run.stands) (sym run.limit_is)
+      (subst (λ x. model.IsRunVerdict x steps last.history run.stands) same run.stands_is))
 
   pub reported : (status : Status) (output : List ℕ) → status ≡ ended said → IsReport last said output → ReportsSuccess gives w steps workers status output
   reported status output status_is output_is = record {

@@ -106,26 +106,21 @@ module _ (s : Said) (once : AreDistinct (declared_names s.decls)) where
   same : (r q : ExpandRefusal) → r ≡ q → AreOne r q
   same r q e output text one two = inl (one ∙ ap line e ∙ sym two)
 
-  goals_counted : (n m : ℕ) → HasLargeGoal s n → HasLargeGoal s m → n ≡ m
-  goals_counted n m h g =
-      h.counted ∙ ap (λ (e : Expansion). capped (size_of e)) (becomes_one s.decls once s.goal h.expansion g.expansion h.becomes g.becomes) ∙ sym g.counted
-
-  pairs_found : (a b : Twice) → HasRepetition s a → HasRepetition s b → a ≡ b
-  pairs_found a b h g =
-      let e : h.expansion ≡ g.expansion =
-      becomes_one s.decls once s.goal h.expansion g.expansion h.measured.fitting.becomes g.measured.fitting.becomes in
-      twice_once (labelled_of s.decls g.expansion) a b (subst (λ (f : Expansion). IsFirstTwice (labelled_of s.decls f) a) e h.first) g.first
-
   refusals_are_one : (r q : ExpandRefusal) → IsRefusal s r → IsRefusal s q → IsOfWorkflow (event_names s.decls) r → IsOfWorkflow (event_names s.decls) q → AreOne r q
   refusals_are_one (refusal.TooLarge part.Flows n) (refusal.TooLarge part.Flows m) h g a b =
       same (refusal.TooLarge part.Flows n) (refusal.TooLarge part.Flows m) (ap (λ k. refusal.TooLarge part.Flows k) (h.counted ∙ sym g.counted))
   refusals_are_one (refusal.Recursive c) (refusal.Recursive d) h g a b =
       λ output text one two. inr (record { one = c; other = d; one_has = h; other_has = g; output_is = one; text_is = two })
   refusals_are_one (refusal.TooLarge part.Goal n) (refusal.TooLarge part.Goal m) h g a b =
-      same (refusal.TooLarge part.Goal n) (refusal.TooLarge part.Goal m) (ap (λ k. refusal.TooLarge part.Goal k) (goals_counted n m h g))
+      let counted : n ≡ m =
+      h.counted ∙ ap (λ (e : Expansion). capped (size_of e)) (becomes_one s.decls once s.goal h.expansion g.expansion h.becomes g.becomes) ∙ sym g.counted in
+      same (refusal.TooLarge part.Goal n) (refusal.TooLarge part.Goal m) (ap (λ k. refusal.TooLarge part.Goal k) counted)
   refusals_are_one (refusal.TooLarge part.Rules n) (refusal.TooLarge part.Rules m) h g a b =
       same (refusal.TooLarge part.Rules n) (refusal.TooLarge part.Rules m) (ap (λ k. refusal.TooLarge part.Rules k) (h.counted ∙ sym g.counted))
-  refusals_are_one (refusal.Twice e) (refusal.Twice f) h g a b = same (refusal.Twice e) (refusal.Twice f) (ap refusal.Twice (pairs_found e f h g))
+  refusals_are_one (refusal.Twice c) (refusal.Twice d) h g a b =
+      let e = becomes_one s.decls once s.goal h.expansion g.expansion h.measured.fitting.becomes g.measured.fitting.becomes in
+      same (refusal.Twice c) (refusal.Twice d) (ap refusal.Twice (twice_once (labelled_of s.decls g.expansion) c d
+      (subst (λ (f : Expansion). IsFirstTwice (labelled_of s.decls f) c) e h.first) g.first))
   refusals_are_one (refusal.Recursive c) (refusal.TooLarge part.Flows m) h g a b = absurd (many_flows m g h.few)
   refusals_are_one (refusal.Twice e) (refusal.TooLarge part.Flows m) h g a b = absurd (many_flows m g h.measured.fitting.finite.few)
   refusals_are_one r q h g a b = absurd (first_of (assumption, search (many_flows, recursive, large_goal, many_names)))

@@ -1,5 +1,5 @@
 -- Two outputs of a mode for what is said agree, but for what is shown of which any will do.
-use Rattle.std.proofs.Common.{◌≡◌, ℕ, List, [], inl, inr, ◌⊎◌, refl, sym, ap, subst, ◌∙◌, ◌<◌, ◌≤◌, length, Some, Ok, Err, arith}
+use Rattle.std.proofs.Common.{◌≡◌, ℕ, List, [], inl, inr, ◌⊎◌, ⊎_elim, refl, sym, ap, subst, ◌∙◌, ◌<◌, ◌≤◌, length, Some, Ok, Err, arith}
 use Rattle.flow_model.specs.Lists.{AreDistinct}
 use Rattle.flow_model.specs.Schema.{Schema}
 use Rattle.flow_model.specs.declared.history.Entry.{Entry}
@@ -33,7 +33,6 @@ use Rattle.flow_cli_laws.proofs.Compilations.{told_once, not_too_large, not_comp
 use Rattle.std.specs.Prelude.{slice_get}
 use Rattle.std.proofs.lemmas.Option.{slice_get_within}
 use Rattle.flow_model.specs.Constraint.{Constraint}
-use Rattle.flow_text.specs.Saying.{Asks}
 use Rattle.flow_text.proofs.OneAnswer.{queries_have_one_answer}
 use Rattle.flow_expand.specs.Constraints.{constraint_of}
 use Rattle.flow_verify.specs.declared.answers.Verified.{Verified}
@@ -42,7 +41,7 @@ use Rattle.flow_verify.specs.declared.answers.Redundancy.{Redundancy}
 use Rattle.flow_verify.specs.declared.answers.Redundancy.TheVariants.{Redundant, Needed}
 use Rattle.flow_verify.specs.Verification.{against, without, TellsOfProperty, TellsOfConstraint}
 use Rattle.flow_findings.specs.Judging.{verified_text, redundancy_text}
-use Rattle.flow_cli.specs.Verifying.{OfQuery, status_of_verified, status_of_redundancy, VerifiesProperty, TellsConstraint, VerifiesConstraint, VerifiesWorkflow, VerifiesSaid, VerifiesText}
+use Rattle.flow_cli.specs.Verifying.{OfQuery, status_of_verified, status_of_redundancy, TellsProperty, VerifiesProperty, TellsConstraint, VerifiesConstraint, VerifiesWorkflow, VerifiesSaid, VerifiesText}
 use Rattle.flow_cli.specs.Refusals.{OfWorkflow, Tells, IsNotExpanded}
 use Rattle.flow_cli_laws.proofs.TextAnswers.{of_text, one_refusal, one_value, not_both}
 
@@ -62,13 +61,18 @@ module _ (status other : Status) (output text : List ℕ) where
       ((w : Definition) → P w status output → P w other text → Agree (Show w)) →
       IsNotExpanded s status output ⊎ OfWorkflow s (λ w. P w status output) → IsNotExpanded s other text ⊎ OfWorkflow s (λ w. P w other text) →
       Agree (ShowsChain s output text ⊎ OfWorkflow s Show)
-  said_once s once P Show each p q = shown_of (of_one_workflow s once P (λ w. Agree (Show w)) status other output text each p q)
-    where
-      shown_of : Agree (ShowsChain s output text) ⊎ OfWorkflow s (λ w. Agree (Show w)) → Agree (ShowsChain s output text ⊎ OfWorkflow s Show)
-      shown_of (inl (is, inl e)) = (is, inl e)
-      shown_of (inl (is, inr shows)) = (is, inr (inl shows))
-      shown_of (inr (w, x, (is, inl e))) = (is, inl e)
-      shown_of (inr (w, x, (is, inr shows))) = (is, inr (inr (w, x, shows)))
+  said_once s once P Show each p q = ⊎_elim
+      (λ (is, e). (is, ⊎_elim inl (λ shows. inr (inl shows)) e))
+      (λ (w, x, (is, e)). (is, ⊎_elim inl (λ shows. inr (inr (w, x, shows))) e))
+      (of_one_workflow s once P (λ w. Agree (Show w)) status other output text each p q)
+
+  -- a workflow is too large for one count, or what is found of it agrees
+  sized_once : (w : Schema) (Free : Type 0) (Found : Status → List ℕ → Type 0) → ((st : Status) (o : List ℕ) → Found st o → IsWithinLimits w) →
+      (Found status output → Found other text → Agree Free) → IsTooLarge w status output ⊎ Found status output → IsTooLarge w other text ⊎ Found other text → Agree Free
+  sized_once w Free Found fine each (inl p) (inl q) = same Free (too_large_once w status other output text p q)
+  sized_once w Free Found fine each (inl p) (inr q) = absurd (not_too_large w status output p (fine other text q))
+  sized_once w Free Found fine each (inr p) (inl q) = absurd (not_too_large w other text q (fine status output p))
+  sized_once w Free Found fine each (inr p) (inr q) = each p q
 
   -- a workflow is refused in one way but for the circles, or what is found of it is one
   compiled_once : (w : Definition) (Found : Status → List ℕ → Type 0) → IsSingle Found →
@@ -96,12 +100,6 @@ module _ (status other : Status) (output text : List ℕ) where
       let (t, trace, free, begins) = follows [] refl in
       (t, free.0)
 
-  said_drives_once : (s : Said) → AreDistinct (declared_names s.decls) → (steps : ℕ) (session : List Command) →
-      DrivesSaid s steps session status output → DrivesSaid s steps session other text → Agree (ShowsCause s output text)
-  said_drives_once s once steps session = said_once s once (λ w st o. DrivesWorkflow w steps session st o) (λ w. ShowsCircles w output text) (λ w.
-      compiled_once w (Records w steps session) (sessions_once w steps session)
-      (λ st o driven. (driven.within, driven_consistent (schema_of w) steps driven.last.history driven.lawful)))
-
   pub drive_agrees : (s : Said) → AreDistinct (declared_names s.decls) → (steps : ℕ) (second : List ℕ) →
       DrivesText s steps second status output → DrivesText s steps second other text → Agree (ShowsCause s output text)
   drive_agrees s once steps second (inl p) (inl q) =
@@ -112,7 +110,10 @@ module _ (status other : Status) (output text : List ℕ) where
   drive_agrees s once steps second (inr (session, is, h)) (inr (others, are, g)) =
       let both : commands others ≡ commands session = sym are ∙ is in
       let list : others ≡ session = cc in
-      said_drives_once s once steps session h (subst (λ (list : List Command). DrivesSaid s steps list other text) list g)
+      said_once s once (λ w st o. DrivesWorkflow w steps session st o) (λ w. ShowsCircles w output text) (λ w.
+      compiled_once w (Records w steps session) (sessions_once w steps session)
+      (λ st o driven. (driven.within, driven_consistent (schema_of w) steps driven.last.history driven.lawful)))
+      h (subst (λ (list : List Command). DrivesSaid s steps list other text) list g)
 
   -- ---- `trace`
 
@@ -120,11 +121,6 @@ module _ (status other : Status) (output text : List ℕ) where
   traced_consistent w leaves Execution h = (h.0.0.0, h.0.0.1)
   traced_consistent w leaves Prefix h = (h.0.0.0, h.0.0.1)
   traced_consistent w leaves (Bad k) h = (h.0.0.0, h.0.0.1)
-
-  leaves_trace_once : (w : Definition) (leaves : List ℕ) → TracesLeaves w leaves status output → TracesLeaves w leaves other text →
-      Agree (ShowsCircles w output text)
-  leaves_trace_once w leaves = compiled_once w (TellsOfLeaves w leaves) (traces_once w leaves)
-      (λ st o tells. (tells.within, traced_consistent (schema_of w) leaves tells.checked tells.told))
 
   -- a text is refused as a journal for one reason
   journal_refused_once : (w : Definition) (second : List ℕ) (r q : RecordRefusal) → IsJournalRefusal w second r → IsJournalRefusal w second q → r ≡ q
@@ -146,7 +142,9 @@ module _ (status other : Status) (output text : List ℕ) where
   workflow_traces_once w second (inr (leaves, is, h)) (inr (others, are, g)) =
       let both : journal others ≡ journal leaves = sym are ∙ is in
       let list : others ≡ leaves = cc in
-      leaves_trace_once w leaves h (subst (λ (list : List ℕ). TracesLeaves w list other text) list g)
+      compiled_once w (TellsOfLeaves w leaves) (traces_once w leaves)
+      (λ st o tells. (tells.within, traced_consistent (schema_of w) leaves tells.checked tells.told))
+      h (subst (λ (list : List ℕ). TracesLeaves w list other text) list g)
 
   pub trace_agrees : (s : Said) → AreDistinct (declared_names s.decls) → (second : List ℕ) → TracesText s second status output → TracesText s second other text →
       Agree (ShowsCause s output text)
@@ -165,13 +163,8 @@ module _ (status other : Status) (output text : List ℕ) where
 
   property_once : (w : Definition) (property : Constraint) → VerifiesProperty w property status output → VerifiesProperty w property other text →
       Agree (ShowsBreach w property output text)
-  property_once w property (inl p) (inl q) =
-      same (ShowsBreach w property output text)
-      (too_large_once (against (schema_of w) property) status other output text p q)
-  property_once w property (inl p) (inr q) = absurd (not_too_large (against (schema_of w) property) status output p q.within)
-  property_once w property (inr p) (inl q) = absurd (not_too_large (against (schema_of w) property) other text q p.within)
-  property_once w property (inr p) (inr q) =
-      property_answers_once w property p.verified q.verified p.told q.told p.status_is q.status_is p.output_is q.output_is
+  property_once w property = sized_once (against (schema_of w) property) (ShowsBreach w property output text) (λ st o. TellsProperty w property st o) (λ st o p. p.within)
+      (λ p q. property_answers_once w property p.verified q.verified p.told q.told p.status_is q.status_is p.output_is q.output_is)
 
   constraint_answers_once : (w : Definition) (index : ℕ) (a b : Redundancy) → TellsOfConstraint (schema_of w) index a → TellsOfConstraint (schema_of w) index b →
       status ≡ status_of_redundancy a → other ≡ status_of_redundancy b → output ≡ redundancy_text w a → text ≡ redundancy_text w b →
@@ -187,13 +180,8 @@ module _ (status other : Status) (output text : List ℕ) where
 
   rule_once : (w : Definition) (index : ℕ) (rule : Constraint) → Tries w index rule status output → Tries w index rule other text →
       Agree (ShowsNeed w index output text)
-  rule_once w index rule (inl p) (inl q) =
-      same (ShowsNeed w index output text)
-      (too_large_once (against (without (schema_of w) index) rule) status other output text p q)
-  rule_once w index rule (inl p) (inr q) = absurd (not_too_large (against (without (schema_of w) index) rule) status output p q.within)
-  rule_once w index rule (inr p) (inl q) = absurd (not_too_large (against (without (schema_of w) index) rule) other text q p.within)
-  rule_once w index rule (inr p) (inr q) =
-      constraint_answers_once w index p.redundancy q.redundancy p.told q.told p.status_is q.status_is p.output_is q.output_is
+  rule_once w index rule = sized_once (against (without (schema_of w) index) rule) (ShowsNeed w index output text) (λ st o. TellsConstraint w index rule st o) (λ st o p. p.within)
+      (λ p q. constraint_answers_once w index p.redundancy q.redundancy p.told q.told p.status_is q.status_is p.output_is q.output_is)
 
   past_end : (w : Definition) (index : ℕ) (rule : Constraint) → length w.rules ≤ index → slice_get w.rules index ≡ Some rule → ⊥
   past_end w index rule past is = let within : index < length w.rules = slice_get_within w.rules index rule is in omega (arith, past, within)
@@ -213,16 +201,6 @@ module _ (status other : Status) (output text : List ℕ) where
   workflow_verifies_once w (holds property) p q = property_once w (constraint_of w.events property) p q
   workflow_verifies_once w (redundant index) p q = constraint_once w index p q
 
-  said_verifies_once : (s : Said) → AreDistinct (declared_names s.decls) → (query : Asked) → VerifiesSaid s query status output → VerifiesSaid s query other text →
-      Agree (ShowsAsked s query output text)
-  said_verifies_once s once query =
-      said_once s once (λ w st o. VerifiesWorkflow w query st o) (λ w. ShowsExecution w query output text) (λ w. workflow_verifies_once w query)
-
-  for_query : (s : Said) (second : List ℕ) (query : Asked) → Asks second s query → Agree (ShowsAsked s query output text) →
-      Agree (OfQuery s second (λ query. ShowsAsked s query output text))
-  for_query s second query asks (is, inl e) = (is, inl e)
-  for_query s second query asks (is, inr shows) = (is, inr (query, asks, shows))
-
   pub verify_agrees : (s : Said) → AreDistinct (declared_names s.decls) → (second : List ℕ) → VerifiesText s second status output → VerifiesText s second other text →
       Agree (OfQuery s second (λ query. ShowsAsked s query output text))
   verify_agrees s once second (inl p) (inl q) =
@@ -235,4 +213,6 @@ module _ (status other : Status) (output text : List ℕ) where
       (queries_have_one_answer second s (Err q.refusal) (Ok query) (q.first, of_text q.refusal q.of_text) asks))
   verify_agrees s once second (inr (query, asks, h)) (inr (more, wants, g)) =
       let one : more ≡ query = one_value (Ok more) (Ok query) more query refl refl (queries_have_one_answer second s (Ok more) (Ok query) wants asks) in
-      for_query s second query asks (said_verifies_once s once query h (subst (λ (asked : Asked). VerifiesSaid s asked other text) one g))
+      let (is, e) = said_once s once (λ w st o. VerifiesWorkflow w query st o) (λ w. ShowsExecution w query output text) (λ w. workflow_verifies_once w query)
+      h (subst (λ (asked : Asked). VerifiesSaid s asked other text) one g) in
+      (is, ⊎_elim inl (λ shows. inr (query, asks, shows)) e)

@@ -1,5 +1,5 @@
 -- Two outputs for the same words and the same input.
-use Rattle.std.proofs.Common.{◌≡◌, ℕ, List, [], Bool, Some, Ok, Err, inl, inr, ◌⊎◌, refl, sym, ap, subst, ◌∙◌, arith}
+use Rattle.std.proofs.Common.{◌≡◌, ℕ, List, [], Bool, Some, Ok, Err, inl, inr, ◌⊎◌, ⊎_elim, refl, sym, ap, subst, ◌∙◌, arith}
 use Rattle.flow_model.specs.declared.history.Call.{Call}
 use Rattle.flow_model.specs.declared.history.Outcome.{Outcome}
 use Rattle.flow_form.specs.Script.{Said}
@@ -9,7 +9,7 @@ use Rattle.flow_findings.specs.declared.refused.Refused.TheVariants as refused
 use Rattle.flow_words.specs.declared.request.Mode.{Mode}
 use Rattle.flow_words.specs.declared.request.Mode.TheVariants.{Drive, Run, Check, Verify, Trace, Gen, Large}
 use Rattle.flow_words.specs.declared.request.Request.{Request}
-use Rattle.flow_words.specs.Words.{IsCall, OneRequest}
+use Rattle.flow_words.specs.Words.{OneRequest}
 use Rattle.flow_cli.specs.declared.status.Status.{Status}
 use Rattle.flow_cli.specs.declared.status.Status.TheVariants.{ReadFault}
 use Rattle.flow_cli.specs.Checking.{Checks}
@@ -17,7 +17,7 @@ use Rattle.flow_cli.specs.Driving.{DrivesText}
 use Rattle.flow_cli.specs.Tracing.{TracesText}
 use Rattle.flow_cli.specs.Verifying.{VerifiesText}
 use Rattle.flow_cli.specs.Output.{workflow_part, second_part, WritesIn, WritesAs}
-use Rattle.flow_cli_laws.specs.Single.{Shows, Agree, AsksNoGate, OutputsAreSingle}
+use Rattle.flow_cli_laws.specs.Single.{Shows, AsksNoGate, OutputsAreSingle}
 use Rattle.flow_cli_laws.proofs.Compilations.{told_once}
 use Rattle.flow_cli_laws.proofs.TextAnswers.{of_text, one_refusal, one_value, not_both}
 use Rattle.flow_cli_laws.proofs.Modes.{check_agrees, drive_agrees, trace_agrees, verify_agrees}
@@ -55,11 +55,7 @@ module _ (input : List ℕ) (status other : Status) (output text : List ℕ) whe
       ((status ≡ other) × (output ≡ text)) ⊎ ((s : Said) × Says (workflow_part input) s × P s (second_part input) status output × P s (second_part input) other text) →
       Settled mode
   settled mode P agrees (inl (is, e)) = (is, inl e)
-  settled mode P agrees (inr (s, says, h, g)) = shown (agrees s says h g)
-    where
-      shown : (status ≡ other) × ((output ≡ text) ⊎ Shows mode s (second_part input) output text) → Settled mode
-      shown (is, inl e) = (is, inl e)
-      shown (is, inr shows) = (is, inr (s, says, shows))
+  settled mode P agrees (inr (s, says, h, g)) = let (is, e) = agrees s says h g in (is, ⊎_elim inl (λ shows. inr (s, says, shows)) e)
 
   mode_once : (gives allows : Call → Outcome → Bool) (request : Request) (mode : Mode) → AsksNoGate mode → ¬ (status ≡ ReadFault) → ¬ (other ≡ ReadFault) →
       WritesAs mode gives request (Some input) status output → WritesAs mode allows request (Some input) other text → Settled mode
@@ -77,10 +73,6 @@ module _ (input : List ℕ) (status other : Status) (output text : List ℕ) whe
   mode_once gives allows request Run asks fine also p q = absurd asks
   mode_once gives allows request Large asks fine also p q = absurd asks
 
-  called : (words : List (List ℕ)) (request : Request) → IsCall words request → Settled request.mode → Agree words input status other output text
-  called words request call (is, inl e) = record { status_is = is; output_is = inl e }
-  called words request call (is, inr (s, says, shows)) = record { status_is = is; output_is = inr (request, call, (s, says, shows)) }
-
 -- words are a call for one request, so two outputs for them are of one mode
 pub outputs_are_single : OneRequest → OutputsAreSingle
 outputs_are_single one gives allows words input status other output text quiet fine also (inl (none, told)) (inl (wrong, tells)) =
@@ -88,5 +80,6 @@ outputs_are_single one gives allows words input status other output text quiet f
 outputs_are_single one gives allows words input status other output text quiet fine also (inl (none, told)) (inr (request, call, h)) = absurd (none request call)
 outputs_are_single one gives allows words input status other output text quiet fine also (inr (request, call, h)) (inl (none, told)) = absurd (none request call)
 outputs_are_single one gives allows words input status other output text quiet fine also (inr (request, call, h)) (inr (again, recall, g)) =
-    called input status other output text words request call (mode_once input status other output text gives allows request request.mode (quiet request call) fine also h
-    (subst (λ (r : Request). WritesAs r.mode allows r (Some input) other text) (one words again request recall call) g))
+    let (is, e) = mode_once input status other output text gives allows request request.mode (quiet request call) fine also h
+    (subst (λ (r : Request). WritesAs r.mode allows r (Some input) other text) (one words again request recall call) g) in
+    record { status_is = is; output_is = ⊎_elim inl (λ shows. inr (request, call, shows)) e }

@@ -19,11 +19,8 @@ digits_in_word (d ∷ ds) h =
     let (first, more) = and_parts (is_digit d) (list_all is_digit ds) h in
     and_from (is_in_word d) (list_all is_in_word ds) (digit_in_word d first) (digits_in_word ds more)
 
-not_v : (d : ℕ) → is_digit d ≡ true → nat_eq d 118 ≡ false
-not_v d h = grind arith
-
 not_reserved : (d : ℕ) (ds : List ℕ) → is_digit d ≡ true → reserved (101 ∷ d ∷ ds) ≡ None
-not_reserved d ds h = rw (not_v d h) refl
+not_reserved d ds h = let not_v : nat_eq d 118 ≡ false = grind arith in rw not_v refl
 
 -- it is a name, and not reserved
 pub name_is : (k : ℕ) → k < 2 ^ 64 → IsName (event_name k)
@@ -36,13 +33,10 @@ name_is k h =
       not_reserved digit more first,
     )
 
-pub names_differ : (j k : ℕ) → j < 2 ^ 64 → k < 2 ^ 64 → event_name j ≡ event_name k → j ≡ k
-names_differ j k h i e = decimal_injective j k h i (ap (λ name. drop 1 name) e)
-
 not_later : (n first count : ℕ) → n < first → first + count ≤ 2 ^ 64 → ¬ (event_name n ∈ map event_name (numbers_from first count))
 not_later n first zero h fits m = absurd m
 not_later n first (suc count) h fits (inl e) =
-    let same : n ≡ first = names_differ n first (omega arith) (omega arith) e in absurd (omega (arith, same, h))
+    let same : n ≡ first = decimal_injective n first (omega arith) (omega arith) (ap (λ name. drop 1 name) e) in absurd (omega (arith, same, h))
 not_later n first (suc count) h fits (inr m) = not_later n (first + 1) count (omega arith) (omega arith) m
 
 pub distinct_names : (first count : ℕ) → first + count ≤ 2 ^ 64 → AreDistinct (map event_name (numbers_from first count))

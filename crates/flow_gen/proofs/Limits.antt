@@ -26,15 +26,13 @@ use Rattle.flow_gen.proofs.Precedences.{rules_are, few_rules, IsOneWay, one_way,
 
 -- Choices
 
-kind_fits : (choices d : ℕ) → choices ≤ 6 → choices + choices_in (kind choices d) ≤ 6
-kind_fits choices d h =
-    grind (arith, cases_Bool (d % 4 == 0), cases_Bool (d % 4 == 1), cases_Bool (d % 4 == 2), cases_Bool (nat_lt choices 6), ltb-true choices 6)
-
 kinds_choose : (choices : ℕ) (ds : List ℕ) → choices ≤ 6 → choices + sum (map choices_in (kinds choices ds)) ≤ 6
 kinds_choose choices [] h = omega (arith, h)
 kinds_choose choices (d ∷ ds) h =
     let k = kind choices d in
-    omega (arith, choices_more k (kinds (choices + choices_in k) ds), kinds_choose (choices + choices_in k) ds (kind_fits choices d h))
+    let fits : choices + choices_in (kind choices d) ≤ 6 =
+    grind (arith, h, cases_Bool (d % 4 == 0), cases_Bool (d % 4 == 1), cases_Bool (d % 4 == 2), cases_Bool (nat_lt choices 6), ltb-true choices 6) in
+    omega (arith, choices_more k (kinds (choices + choices_in k) ds), kinds_choose (choices + choices_in k) ds fits)
 
 pub choices_are_few : ChoicesAreFew
 choices_are_few seed size = omega (arith, kinds_choose 0 (take size (all_draws seed size)) (omega arith))

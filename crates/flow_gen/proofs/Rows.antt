@@ -9,7 +9,7 @@ use Rattle.flow_model.specs.Lists.{◌∈◌, numbers_from}
 use Rattle.flow_model.specs.Resolution.{resolution_count}
 use Rattle.flow_facts.specs.Atom.{Atom}
 use Rattle.flow_goal.proofs.Numbers.{numbers_from-+}
-use Rattle.flow_form.specs.Form.{Shape, named, beside, shapes}
+use Rattle.flow_form.specs.Form.{Shape, named, iso, beside, shapes}
 use Rattle.flow_form.specs.Script.{Declared}
 use Rattle.flow_form.specs.Names.{event_names}
 use Rattle.flow_workflow.specs.Numbers.{event_number}
@@ -84,23 +84,23 @@ module _ (decls : List Declared) (count : ℕ) (there : (k : ℕ) → k < count 
   row_becomes : (first n : ℕ) → first + n ≤ count → Becomes decls (series first n) (row_of first n)
   row_becomes first n fits = becomes_serial (all_happen first n fits)
 
+  -- goals of rows beside each other
+  beside_row : (first m n i j : ℕ) (s t : Shape) → HasRow decls first m i s → HasRow decls (first + m) n j t → HasRow decls first (m + n) (i + j) (beside (shapes (s ∷ t ∷ [])))
+  beside_row first m n i j s t (e, (b, p)) (f, (c, q)) = (
+    at_once e f,
+    (becomes_beside (more_become b (more_become c none_becomes)), row_joined (event_names decls) first m (first + m) n i j e f (at_once e f) (side_by_side e f) refl p q),
+  )
+
+  four_row : (first : ℕ) → first + 4 ≤ count → HasRow decls first 4 0 (series first 4)
+  four_row first fits = (row_of first 4, (row_becomes first 4 fits, record { labels = λ facts. refl; ends = refl; isolations = omega arith; resolutions = λ next. refl }))
+
   block_row : (first : ℕ) (k : Kind) → first + 8 ≤ count → HasRow decls first 8 (choices_in k) (block first k)
   block_row first Series fits =
       (row_of first 8, (row_becomes first 8 fits, record { labels = λ facts. refl; ends = refl; isolations = omega arith; resolutions = λ next. refl }))
-  block_row first Beside fits = (
-    at_once (row_of first 4) (row_of (first + 4) 4),
-    (
-      becomes_beside (more_become (row_becomes first 4 (omega arith)) (more_become (row_becomes (first + 4) 4 (omega arith)) none_becomes)),
-      record { labels = λ facts. labels_joined (event_names decls) first 4 4; ends = refl; isolations = omega arith; resolutions = λ next. refl },
-    ),
-  )
-  block_row first IsolatedBeside fits = (
-    at_once (alone (row_of first 4)) (row_of (first + 4) 4),
-    (
-      becomes_beside (more_become (becomes_iso (row_becomes first 4 (omega arith))) (more_become (row_becomes (first + 4) 4 (omega arith)) none_becomes)),
-      record { labels = λ facts. labels_joined (event_names decls) first 4 4; ends = refl; isolations = omega arith; resolutions = λ next. refl },
-    ),
-  )
+  block_row first Beside fits = beside_row first 4 4 0 0 (series first 4) (series (first + 4) 4) (four_row first (omega arith)) (four_row (first + 4) (omega arith))
+  block_row first IsolatedBeside fits = beside_row first 4 4 0 0 (iso (series first 4)) (series (first + 4) 4)
+      (alone (row_of first 4), (becomes_iso (row_becomes first 4 (omega arith)), record { labels = λ facts. refl; ends = refl; isolations = omega arith; resolutions = λ next. refl }))
+      (four_row (first + 4) (omega arith))
   block_row first Either fits = (
     one_of (row_of first 4) (row_of (first + 4) 4),
     (
@@ -111,14 +111,7 @@ module _ (decls : List Declared) (count : ℕ) (there : (k : ℕ) → k < count 
 
   pair_row : (first : ℕ) (j k : Kind) → first + 16 ≤ count → HasRow decls first 16 (choices_in j + choices_in k) (beside (shapes (block first j ∷ block (first + 8) k ∷ [])))
   pair_row first j k fits =
-      let (e, (b, p)) = block_row first j (omega arith) in
-      let (f, (c, q)) = block_row (first + 8) k (omega arith) in (
-        at_once e f,
-        (
-          becomes_beside (more_become b (more_become c none_becomes)),
-          row_joined (event_names decls) first 8 (first + 8) 8 (choices_in j) (choices_in k) e f (at_once e f) (side_by_side e f) refl p q,
-        ),
-      )
+      beside_row first 8 8 (choices_in j) (choices_in k) (block first j) (block (first + 8) k) (block_row first j (omega arith)) (block_row (first + 8) k (omega arith))
 
   -- and then the pairs that follow a row, one after another
   pairs_row : (ks : List Kind) (first i : ℕ) (a : Expansion) → first + 8 * length ks ≤ count → IsRow (event_names decls) 0 first i a →

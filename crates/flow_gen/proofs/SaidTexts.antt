@@ -89,13 +89,9 @@ pub texts_say_it : TextsSayTheirWorkflow
 texts_say_it seed size some few =
     prints_say_it (generated seed size) (is_printable seed size some few) (is_well_made seed size some few) (is_within seed size some few) (names_are_good seed size some few)
 
-clash : (text : List ℕ) (s : Said) (refusal : TextRefusal) → Says text s → IsParseRefusal text refusal → ¬ (refusal ≡ NoMemory) → ⊥
-clash text s refusal says h other =
-    let e : Ok s ≡ Err refusal = texts_have_one_answer text (Ok s) (Err refusal) says (h, other) in cc
-
 none_refuses : (text : List ℕ) (s : Said) (refusal : TextRefusal) → Says text s → IsParseRefusal text refusal → refusal ≡ NoMemory
 none_refuses text s NoMemory says h = refl
-none_refuses text s refusal says h = absurd (clash text s refusal says h (λ e. cc))
+none_refuses text s refusal says h = let e : Ok s ≡ Err refusal = texts_have_one_answer text (Ok s) (Err refusal) says (h, λ e. cc) in cc
 
 pub texts_are_read : TextsAreRead
 texts_are_read seed size refusal some few h = none_refuses _ (generated seed size) refusal (texts_say_it seed size some few) h
@@ -104,9 +100,6 @@ pub numbers_length : (first count : ℕ) → length (numbers_from first count) �
 numbers_length first zero = refl
 numbers_length first (suc count) = ap (λ n. suc n) (numbers_length (first + 1) count)
 
-decl_count : (seed size : ℕ) → length (generated seed size).decls ≡ 8 * size
-decl_count seed size = length-map (numbers_from 0 (8 * size)) (λ k. event (event_name k) Done) ∙ numbers_length 0 (8 * size)
-
 pub workflows_are_closed : WorkflowsAreClosed
 workflows_are_closed seed size some few =
     let names = names_are_good seed size some few in record {
@@ -114,5 +107,5 @@ workflows_are_closed seed size some few =
       in_rules = names.in_rules;
       once = names.once;
       grouped = (is_well_made seed size some few).0;
-      few = omega (arith, decl_count seed size, few);
+      few = omega (arith, length-map (numbers_from 0 (8 * size)) (λ k. event (event_name k) Done), numbers_length 0 (8 * size), few);
     }

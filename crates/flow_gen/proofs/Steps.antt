@@ -38,16 +38,13 @@ pushed {A} {B} f xs xs' x y rest whole e is so_far =
     ap (λ (t : List A). map f t ++ rest) e ∙ ap (λ (t : List B). t ++ rest) (map-append f xs (x ∷ [])) ∙ append_assoc (map f xs) (f x ∷ []) rest
     ∙ ap (λ (z : B). map f xs ++ z ∷ rest) is ∙ so_far
 
-pub next_number : (n end : ℕ) → n < end → numbers_from n (end - n) ≡ n ∷ numbers_from (n + 1) (end - (n + 1))
-next_number n end h =
-    let more : end - n ≡ suc (end - (n + 1)) = omega arith in ap (λ c. numbers_from n c) more
-
 -- the same for members made of numbers
 pub numbered : {A B : Type 0} (f : A → B) (g : ℕ → B) (n end : ℕ) (xs xs' : List A) (x : A) (whole : List B) → n < end → xs' ≡ xs ++ x ∷ [] → f x ≡ g n →
     map f xs ++ map g (numbers_from n (end - n)) ≡ whole → map f xs' ++ map g (numbers_from (n + 1) (end - (n + 1))) ≡ whole
 numbered f g n end xs xs' x whole h e is so_far =
+    let more : end - n ≡ suc (end - (n + 1)) = omega arith in
     pushed f xs xs' x (g n) (map g (numbers_from (n + 1) (end - (n + 1)))) whole e is
-    (ap (λ ns. map f xs ++ map g ns) (sym (next_number n end h)) ∙ so_far)
+    (ap (λ c. map f xs ++ map g (numbers_from n c)) (sym more) ∙ so_far)
 
 pub draws_length : (x n : ℕ) → length (draws x n) ≡ n
 draws_length x zero = refl

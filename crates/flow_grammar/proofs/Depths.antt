@@ -1,15 +1,15 @@
 -- What a text means is printed no deeper than the text.
 use Rattle.std.proofs.Common.{rules as std_rules, ℕ, zero, suc, ◌+◌, ◌<◌, ◌≤◌, Bool, true, false, List, [], ◌∷◌, arith}
 use Rattle.flow_model.specs.Lists.{Each}
-use Rattle.flow_facts.specs.declared.constant.Const.{Const}
 use Rattle.flow_form.specs.Form.{Shape, shapes}
 use Rattle.flow_form.specs.RuleForm.{RuleShape, rule_shapes}
 use Rattle.flow_grammar.specs.Symbol.{Placed, at, closing}
-use Rattle.flow_grammar.specs.Grammar.{FactText, bare, applied, spell_constants, spell_fact, mean_fact, Prefix, prefixed, spell_names, Kind, goals, rules, Meaning, top, list, Text, joined, group_text, fact_text, iso_text, not_text, order_text, More, no_more_text, then_text, spell, spell_more, mean, mean_more}
+use Rattle.flow_grammar.specs.Grammar.{FactText, bare, applied, spell_fact, mean_fact, Prefix, prefixed, Kind, goals, rules, Meaning, top, list, Text, joined, group_text, fact_text, iso_text, not_text, order_text, More, no_more_text, then_text, spell, spell_more, mean, mean_more}
 use Rattle.flow_model.specs.declared.limits.TheConstants.{GREATEST_DEPTH}
 use Rattle.flow_grammar.specs.Texts.{IsShallow}
 use Rattle.flow_grammar.specs.Print.{in_serial, in_beside, in_either, in_all, in_any, nest, arguments_nesting, nesting, nesting_list, rule_nesting, rules_nesting}
 use Rattle.flow_grammar.proofs.MadeTexts.{gathered}
+use Rattle.flow_grammar.proofs.Printed.{constants_spelled, names_spelled}
 
 -- whether it stands in parentheses as a member at that level, and how deep its print is
 abbrev parted : (k : Kind) → ℕ → Meaning k → Bool
@@ -62,23 +62,15 @@ group_within : (k : Kind) (d : ℕ) (m : Meaning k) → Holds k (top k) (suc d) 
 group_within goals d m h = let few = nest_few (in_serial m) (nesting m) in omega arith
 group_within rules d m h = let few = nest_few (in_all m) (rule_nesting m) in omega arith
 
-after_constants : (d : ℕ) (cs : List Const) (r : List Placed) → IsShallow (spell_constants d cs r) → IsShallow r
-after_constants d [] r h = h
-after_constants d (c ∷ cs) r (h, (k, more)) = after_constants d cs r more
-
 pub after_fact : (d : ℕ) (f : FactText) (r : List Placed) → d ≤ GREATEST_DEPTH → IsShallow (spell_fact d f r) →
     (d + arguments_nesting (mean_fact f).args ≤ GREATEST_DEPTH) × IsShallow r
 after_fact d (bare n) r l (h, more) = (omega arith, more)
 after_fact d (applied n c cs) r l (h, (k, (j, more))) =
     let below : d < GREATEST_DEPTH = k tt in
-    (omega arith, (after_constants (suc d) cs (at (suc d) closing ∷ r) more).1)
+    (omega arith, ((constants_spelled (suc d) cs (at (suc d) closing ∷ r)).1.0 more).1)
 
 fact_within : (d : ℕ) (p : Prefix) (f : FactText) → d + arguments_nesting (mean_fact f).args ≤ GREATEST_DEPTH → Holds goals 0 d (prefixed p (mean_fact f))
 fact_within d p f h = search std_rules
-
-after_names : (d : ℕ) (ns : List (List ℕ)) (r : List Placed) → IsShallow (spell_names d ns r) → IsShallow r
-after_names d [] r h = h
-after_names d (n ∷ ns) r (h, more) = after_names d ns r more
 
 none_more : (d most : ℕ) → d ≤ most → d + 0 ≤ most
 none_more d most h = omega arith
@@ -102,7 +94,7 @@ mutual
       let m : d < GREATEST_DEPTH = below tt in
       let (x, j) = within u (suc d) r b m h in
       (omega arith, j)
-  within (order_text x y ns) d r b l (h, (j, (i, more))) = (omega arith, after_names d ns r more)
+  within (order_text x y ns) d r b l (h, (j, (i, more))) = (omega arith, (names_spelled d ns r).1.0 more)
   within _ d r b l h = search (std_rules, none_more)
 
   more_within : {k : Kind} {n : ℕ} (ms : More k n) (d : ℕ) (r : List Placed) → n ≤ top k → d ≤ GREATEST_DEPTH → IsShallow (spell_more d ms r) →

@@ -8,7 +8,7 @@ use Rattle.flow_form.specs.RuleForm.{RuleShape, rule_shapes, IsGroupedRule, AreG
 use Rattle.flow_form.specs.Script.{Declared, fact, event, flow}
 use Rattle.flow_form.specs.Names.{flow_goal, names_in_rule}
 use Rattle.flow_grammar.specs.Symbol.{Placed, at, symbols, a_name, semicolon, equals}
-use Rattle.flow_grammar.specs.Grammar.{FactText, Kind, goals, rules, Meaning, list, gather, Text, joined, group_text, iso_text, not_text, order_text, More, no_more_text, then_text, spell, mean, mean_more, NotedText, noted_text, mean_noted, DeclText, facts_text, events_text, flow_text, declared_fact, mean_decl, ScriptText, script_text, mean_rule, spell_script, mean_script, QueryText, holds_text, redundant_text, mean_query}
+use Rattle.flow_grammar.specs.Grammar.{FactText, Kind, goals, rules, Meaning, list, gather, Text, joined, group_text, iso_text, not_text, order_text, More, no_more_text, then_text, spell, mean, mean_more, NotedText, noted_text, mean_noted, DeclText, facts_text, events_text, flow_text, declared_fact, mean_decl, ScriptText, script_text, mean_rule, spell_script, holds_text, redundant_text}
 use Rattle.flow_grammar.specs.Roles.{in_rule, role_name, fact_roles, goal_roles, declared_roles, script_roles, names_of}
 use Rattle.flow_grammar.proofs.RolesOfNames.{scripts_have_roles}
 use Rattle.flow_grammar.specs.Made.{IsWellMade, IsWellAsked, ScriptsAreWellMade, QueriesAreWellMade}
@@ -80,14 +80,6 @@ constraints_grouped : (cs : List (Text rules 2)) → Each IsGroupedRule (map mea
 constraints_grouped [] = tt
 constraints_grouped (c ∷ cs) = (grouped c, constraints_grouped cs)
 
-script_made : (d : ScriptText) → IsWellMade (mean_script d)
-script_made (script_text ds g cs) =
-    (each-append IsGrouped (flat_map flow_goal (flat_map mean_decl ds)) (mean g ∷ []) (decls_goals ds) (grouped g, tt), constraints_grouped cs)
-
-query_made : (d : QueryText) → IsWellAsked (mean_query d)
-query_made (holds_text x) = grouped x
-query_made (redundant_text n) = tt
-
 -- Each declaration has a name, and the first symbol of a text is none
 
 roles_of_each : (ds : List Declared) → length ds ≤ length (flat_map declared_roles ds)
@@ -106,11 +98,13 @@ fewer_names (script_text (flow_text n f ∷ ds) g cs) = few_names (at 0 (a_name 
 fewer_names _ = few_names _
 
 pub scripts_are_well_made : ScriptsAreWellMade
-scripts_are_well_made w x (d, e, ex) =
+scripts_are_well_made w x (script_text ds g cs, e, ex) =
     let declared = flat_map declared_roles x.decls in
-    let names : length (names_of (symbols w)) ≡ length (script_roles x) = ap length (scripts_have_roles w x (d, e, ex)) ∙ length-map (script_roles x) role_name in
-    let fewer = subst (λ y. length (names_of (symbols y)) < length y) e (fewer_names d) in
-    (subst IsWellMade ex (script_made d), omega (arith, names, fewer, roles_of_each x.decls, length-append declared (goal_roles x.goal ++ map in_rule (flat_map names_in_rule x.rules))))
+    let names : length (names_of (symbols w)) ≡ length (script_roles x) = ap length (scripts_have_roles w x (script_text ds g cs, e, ex)) ∙ length-map (script_roles x) role_name in
+    let fewer = subst (λ y. length (names_of (symbols y)) < length y) e (fewer_names (script_text ds g cs)) in
+    let goals_made = each-append IsGrouped (flat_map flow_goal (flat_map mean_decl ds)) (mean g ∷ []) (decls_goals ds) (grouped g, tt) in
+    (subst IsWellMade ex (goals_made, constraints_grouped cs), omega (arith, names, fewer, roles_of_each x.decls, length-append declared (goal_roles x.goal ++ map in_rule (flat_map names_in_rule x.rules))))
 
 pub queries_are_well_made : QueriesAreWellMade
-queries_are_well_made w x (d, e, ex) = subst IsWellAsked ex (query_made d)
+queries_are_well_made w x (holds_text y, e, ex) = subst IsWellAsked ex (grouped y)
+queries_are_well_made w x (redundant_text n, e, ex) = subst IsWellAsked ex tt

@@ -1,5 +1,5 @@
 -- A goal and a rule have a derivation that spells their print, no deeper than the print.
-use Rattle.std.proofs.Common.{rules as std_rules, ◌≡◌, ℕ, suc, ◌+◌, ◌≤◌, max, Bool, true, false, List, [], ◌∷◌, length, refl, ap, ◌∙◌, arith}
+use Rattle.std.proofs.Common.{rules as std_rules, ◌≡◌, ◌↔◌, ℕ, suc, ◌+◌, ◌≤◌, max, Bool, true, false, List, [], ◌∷◌, length, refl, ap, ◌∙◌, arith}
 use Rattle.flow_facts.specs.declared.constant.Const.{Const}
 use Rattle.flow_facts.specs.Atom.{Atom, atom}
 use Rattle.flow_form.specs.Form.{Shape, Shapes, nop, named, test, absent, ins, del, iso, serial, beside, either, no_more, followed, shapes, members, IsGrouped, AreGrouped}
@@ -13,13 +13,11 @@ use Rattle.flow_grammar.specs.Print.{bracket, print_constants, print_fact, in_se
 
 -- Facts
 
-constants_print : (d : ℕ) (cs : List Const) (r : List Placed) → symbols (spell_constants d cs r) ≡ print_constants cs (symbols r)
-constants_print d [] r = refl
-constants_print d (c ∷ cs) r = ap (λ y. comma ∷ constant_symbol c ∷ y) (constants_print d cs r)
-
-constants_shallow : (d : ℕ) (cs : List Const) (r : List Placed) → IsShallow r → IsShallow (spell_constants d cs r)
-constants_shallow d [] r h = h
-constants_shallow d (c ∷ cs) r h = (λ k. absurd k, (λ k. search std_rules, constants_shallow d cs r h))
+pub constants_spelled : (d : ℕ) (cs : List Const) (r : List Placed) →
+    (symbols (spell_constants d cs r) ≡ print_constants cs (symbols r)) × (IsShallow (spell_constants d cs r) ↔ IsShallow r)
+constants_spelled d [] r = (refl, (λ h. h, λ h. h))
+constants_spelled d (c ∷ cs) r = let (e, flat) = constants_spelled d cs r in
+    (ap (λ y. comma ∷ constant_symbol c ∷ y) e, (λ h. flat.0 h.1.1, λ h. (λ k. absurd k, (λ k. search std_rules, flat.1 h))))
 
 -- a derivation that spells the fact's print
 pub record PrintedFact (a : Atom) : Type 0 where
@@ -33,9 +31,9 @@ with_args n [] = record { text = bare n; means = refl; prints = λ d r. refl; sh
 with_args n (c ∷ cs) = record {
   text = applied n c cs;
   means = refl;
-  prints = λ d r. ap (λ y. a_name n ∷ opening ∷ constant_symbol c ∷ y) (constants_print (suc d) cs (at (suc d) closing ∷ r));
+  prints = λ d r. ap (λ y. a_name n ∷ opening ∷ constant_symbol c ∷ y) (constants_spelled (suc d) cs (at (suc d) closing ∷ r)).0;
   shallow = λ d r l h.
-      (λ k. absurd k, (λ k. omega arith, (λ k. search std_rules, constants_shallow (suc d) cs (at (suc d) closing ∷ r) (λ k. absurd k, h))));
+      (λ k. absurd k, (λ k. omega arith, (λ k. search std_rules, (constants_spelled (suc d) cs (at (suc d) closing ∷ r)).1.1 (λ k. absurd k, h))));
 }
 
 pub fact_printed : (a : Atom) → PrintedFact a
@@ -190,13 +188,10 @@ module _ {x : RuleShape} {print : List Symbol → List Symbol} {depth : ℕ} whe
     shallow = λ d r l h. (λ j. omega arith, t.shallow (suc d) r (omega arith) h);
   }
 
-names_print : (d : ℕ) (ns : List (List ℕ)) (r : List Placed) → symbols (spell_names d ns r) ≡ print_names ns (symbols r)
-names_print d [] r = refl
-names_print d (n ∷ ns) r = ap (λ y. a_name n ∷ y) (names_print d ns r)
-
-names_shallow : (d : ℕ) (ns : List (List ℕ)) (r : List Placed) → IsShallow r → IsShallow (spell_names d ns r)
-names_shallow d [] r h = h
-names_shallow d (n ∷ ns) r h = (λ k. absurd k, names_shallow d ns r h)
+pub names_spelled : (d : ℕ) (ns : List (List ℕ)) (r : List Placed) →
+    (symbols (spell_names d ns r) ≡ print_names ns (symbols r)) × (IsShallow (spell_names d ns r) ↔ IsShallow r)
+names_spelled d [] r = (refl, (λ h. h, λ h. h))
+names_spelled d (n ∷ ns) r = let (e, flat) = names_spelled d ns r in (ap (λ y. a_name n ∷ y) e, (λ h. flat.0 h.1, λ h. (λ k. absurd k, flat.1 h)))
 
 order_unit : (ns : List (List ℕ)) → 2 ≤ length ns → Spelled rules 0 (order ns) (print_rule (order ns)) 0
 order_unit [] l = absurd (omega arith)
@@ -204,8 +199,8 @@ order_unit (a ∷ []) l = absurd (omega arith)
 order_unit (a ∷ b ∷ ns) l = record {
   text = order_text a b ns;
   means = refl;
-  prints = λ d r. ap (λ y. order_word ∷ a_name a ∷ a_name b ∷ y) (names_print d ns r);
-  shallow = λ d r l' h. (λ k. absurd k, names_shallow d (a ∷ b ∷ ns) r h);
+  prints = λ d r. ap (λ y. order_word ∷ a_name a ∷ a_name b ∷ y) (names_spelled d ns r).0;
+  shallow = λ d r l' h. (λ k. absurd k, (names_spelled d (a ∷ b ∷ ns) r).1.1 h);
 }
 
 -- a unit of a word and names

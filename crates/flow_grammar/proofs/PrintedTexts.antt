@@ -9,7 +9,7 @@ use Rattle.flow_form.specs.RuleForm.{RuleShape, IsGroupedRule}
 use Rattle.flow_form.specs.Script.{Declared, fact, event, flow}
 use Rattle.flow_form.specs.Names.{flow_goal}
 use Rattle.flow_grammar.specs.Symbol.{Placed, at, symbols, fact_word, event_word, flow_word, goal_word, constraint_word, a_name, equals, semicolon}
-use Rattle.flow_grammar.specs.Grammar.{FactText, rules, Text, spell, mean, NoteText, silent_text, fail_text, fail_first_text, spell_note, mean_note, NotedText, noted_text, spell_noted, DeclText, facts_text, events_text, flow_text, spell_fact, spell_items, spell_decl, mean_decl, mean_rule, ScriptText, script_text, spell_decls, spell_constraints, spell_script, mean_script}
+use Rattle.flow_grammar.specs.Grammar.{rules, Text, spell, mean, NoteText, silent_text, fail_text, fail_first_text, spell_note, mean_note, noted_text, spell_noted, DeclText, facts_text, events_text, flow_text, spell_fact, spell_items, spell_decl, mean_decl, mean_rule, ScriptText, script_text, spell_decls, spell_constraints, spell_script, mean_script}
 use Rattle.flow_model.specs.declared.limits.TheConstants.{GREATEST_DEPTH}
 use Rattle.flow_grammar.specs.Texts.{IsShallow, Derives, SpellsScript}
 use Rattle.flow_grammar.specs.Made.{IsWellMade}
@@ -100,17 +100,11 @@ after_item : {A : Type 0} (spell_item : A → List Placed → List Placed) → (
 after_item spell_item after [] r h = h
 after_item spell_item after (x ∷ xs) r (h, more) = after_item spell_item after xs r (after x (spell_items spell_item xs r) more)
 
-after_a_fact : (f : FactText) (r : List Placed) → IsShallow (spell_fact 0 f r) → IsShallow r
-after_a_fact f r h = (after_fact 0 f r (omega arith) h).1
-
-after_noted : (e : NotedText) (r : List Placed) → IsShallow (spell_noted e r) → IsShallow r
-after_noted e r h = search std_rules
-
 decl_within : (d : DeclText) (r : List Placed) → IsShallow (spell_decl d r) → Each (λ g. nesting g ≤ GREATEST_DEPTH) (flat_map flow_goal (mean_decl d)) × IsShallow r
 decl_within (facts_text f fs) r h =
-    (facts_goals (λ g. nesting g ≤ GREATEST_DEPTH) fs, (after_item (spell_fact 0) after_a_fact (f ∷ fs) (at 0 semicolon ∷ r) h).1)
+    (facts_goals (λ g. nesting g ≤ GREATEST_DEPTH) fs, (after_item (spell_fact 0) (λ f r k. (after_fact 0 f r (omega arith) k).1) (f ∷ fs) (at 0 semicolon ∷ r) h).1)
 decl_within (events_text e es) r h =
-    (events_goals (λ g. nesting g ≤ GREATEST_DEPTH) (e ∷ es), (after_item spell_noted after_noted (e ∷ es) (at 0 semicolon ∷ r) h).1)
+    (events_goals (λ g. nesting g ≤ GREATEST_DEPTH) (e ∷ es), (after_item spell_noted (λ e r k. search std_rules) (e ∷ es) (at 0 semicolon ∷ r) h).1)
 decl_within (flow_text n g) r (h, (k, (j, more))) =
     let (x, rest) = within g 0 (at 0 semicolon ∷ r) (omega arith) (omega arith) more in
     ((omega arith, tt), rest.1)

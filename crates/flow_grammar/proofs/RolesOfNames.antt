@@ -8,8 +8,8 @@ use Rattle.flow_form.specs.Form.{Shape, Shapes, iso, serial, beside, either, no_
 use Rattle.flow_form.specs.RuleForm.{RuleShape, rule_shapes}
 use Rattle.flow_form.specs.Script.{Declared, fact, event, flow}
 use Rattle.flow_form.specs.Names.{declared_name, names_in, names_in_each, names_in_rule, names_in_rules, flow_goal}
-use Rattle.flow_grammar.specs.Symbol.{Symbol, Placed, at, symbols, closing, semicolon, goal_word}
-use Rattle.flow_grammar.specs.Grammar.{FactText, bare, applied, spell_constants, spell_fact, mean_fact, spell_names, Kind, goals, rules, Meaning, join, list, gather, Text, joined, group_text, iso_text, not_text, order_text, More, no_more_text, then_text, spell, spell_more, mean, mean_more, NotedText, spell_noted, mean_noted, DeclText, facts_text, events_text, flow_text, spell_items, declared_fact, spell_decl, mean_decl, ScriptText, script_text, spell_decls, spell_constraints, mean_rule, spell_script, mean_script, QueryText, holds_text, redundant_text, spell_query, mean_query}
+use Rattle.flow_grammar.specs.Symbol.{Placed, at, symbols, closing, semicolon, goal_word}
+use Rattle.flow_grammar.specs.Grammar.{FactText, bare, applied, spell_constants, spell_fact, mean_fact, spell_names, Kind, goals, rules, Meaning, join, list, gather, Text, joined, group_text, iso_text, not_text, order_text, More, no_more_text, then_text, spell, spell_more, mean, mean_more, spell_noted, mean_noted, DeclText, facts_text, events_text, flow_text, spell_items, declared_fact, spell_decl, mean_decl, script_text, spell_decls, spell_constraints, mean_rule, holds_text, redundant_text}
 use Rattle.flow_grammar.specs.Texts.{SpellsScript, SpellsQuery}
 use Rattle.flow_grammar.specs.Roles.{Role, in_rule, role_name, constant_roles, fact_roles, goal_roles, roles_in_each, declared_roles, script_roles, query_roles, names_of, NamesHaveRoles, declared_by, goal_name, rule_name, declaring, used_in_goals, used_in_rules, RolesAreTheNames}
 
@@ -58,9 +58,6 @@ names_have : (d : ℕ) (ns : List (List ℕ)) (r : List Placed) → Has (spell_n
 names_have d [] r = refl
 names_have d (n ∷ ns) r = ap (λ z. n ∷ z) (names_have d ns r)
 
-join_unnamed : (k : Kind) (n : ℕ) (ts : List Symbol) → names_of (join k n ∷ ts) ≡ names_of ts
-join_unnamed k n ts = search std_rules
-
 mutual
   text_has : {k : Kind} {n : ℕ} (t : Text k n) (d : ℕ) (r : List Placed) → Has (spell d t r) (names k (mean t)) r
   text_has {k} (joined {n = n} m ms) d r =
@@ -75,8 +72,9 @@ mutual
   more_has : {k : Kind} {n : ℕ} (ms : More k n) (d : ℕ) (r : List Placed) → Has (spell_more d ms r) (flat_map (names k) (mean_more ms)) r
   more_has no_more_text d r = refl
   more_has {k} {n} (then_text m ms) d r =
-      join_unnamed k n (symbols (spell d m (spell_more d ms r))) ∙
-      chain (names k (mean m)) (flat_map (names k) (mean_more ms)) (names_of (symbols r)) (text_has m d (spell_more d ms r)) (more_has ms d r)
+      let ts = symbols (spell d m (spell_more d ms r)) in
+      let unnamed : names_of (join k n ∷ ts) ≡ names_of ts = search std_rules in
+      unnamed ∙ chain (names k (mean m)) (flat_map (names k) (mean_more ms)) (names_of (symbols r)) (text_has m d (spell_more d ms r)) (more_has ms d r)
 
 -- Texts
 
@@ -89,12 +87,9 @@ items_have spell_item meant has (x ∷ xs) r =
     (chain (map role_name (declared_roles (meant x))) (map role_name (flat_map declared_roles (map meant xs))) (names_of (symbols r))
     (has x (spell_items spell_item xs r)) (items_have spell_item meant has xs r))
 
-noted_has : (e : NotedText) (r : List Placed) → Has (spell_noted e r) (map role_name (declared_roles (mean_noted e))) r
-noted_has e r = search std_rules
-
 decl_has : (d : DeclText) (r : List Placed) → Has (spell_decl d r) (map role_name (flat_map declared_roles (mean_decl d))) r
 decl_has (facts_text f fs) r = items_have (spell_fact 0) declared_fact (fact_has 0) (f ∷ fs) (at 0 semicolon ∷ r)
-decl_has (events_text e es) r = items_have spell_noted mean_noted noted_has (e ∷ es) (at 0 semicolon ∷ r)
+decl_has (events_text e es) r = items_have spell_noted mean_noted (λ i s. search std_rules) (e ∷ es) (at 0 semicolon ∷ r)
 decl_has (flow_text n g) r = rw (append-nil (goal_roles (mean g))) (ap (λ z. n ∷ z) (text_has g 0 (at 0 semicolon ∷ r)))
 
 decls_have : (ds : List DeclText) (r : List Placed) → Has (spell_decls ds r) (map role_name (flat_map declared_roles (flat_map mean_decl ds))) r
@@ -112,22 +107,16 @@ in_rules : (ns : List (List ℕ)) → map role_name (map in_rule ns) ≡ ns
 in_rules [] = refl
 in_rules (n ∷ ns) = ap (λ z. n ∷ z) (in_rules ns)
 
-script_has : (d : ScriptText) → names_of (symbols (spell_script d)) ≡ map role_name (script_roles (mean_script d))
-script_has (script_text ds g cs) =
-    rw (map-append role_name (flat_map declared_roles (flat_map mean_decl ds)), map-append role_name (goal_roles (mean g)), in_rules)
+pub scripts_have_roles : NamesHaveRoles SpellsScript script_roles
+scripts_have_roles w x (script_text ds g cs, e, ex) =
+    rw (← e, ← ex, map-append role_name (flat_map declared_roles (flat_map mean_decl ds)), map-append role_name (goal_roles (mean g)), in_rules)
     (decls_have ds (at 0 goal_word ∷ spell 0 g (at 0 semicolon ∷ spell_constraints cs)) ∙
     ap (λ z. map role_name (flat_map declared_roles (flat_map mean_decl ds)) ++ z)
     (text_has g 0 (at 0 semicolon ∷ spell_constraints cs) ∙ ap (λ z. map role_name (goal_roles (mean g)) ++ z) (constraints_have cs)))
 
-query_has : (d : QueryText) → names_of (symbols (spell_query d)) ≡ map role_name (query_roles (mean_query d))
-query_has (holds_text x) = rw in_rules (text_has x 0 (at 0 semicolon ∷ []) ∙ append-nil (names_in_rule (mean x)))
-query_has (redundant_text n) = refl
-
-pub scripts_have_roles : NamesHaveRoles SpellsScript script_roles
-scripts_have_roles w x (d, e, ex) = rw (← e, ← ex) (script_has d)
-
 pub queries_have_roles : NamesHaveRoles SpellsQuery query_roles
-queries_have_roles w x (d, e, ex) = rw (← e, ← ex) (query_has d)
+queries_have_roles w x (holds_text y, e, ex) = rw (← e, ← ex, in_rules) (text_has y 0 (at 0 semicolon ∷ []) ∙ append-nil (names_in_rule (mean y)))
+queries_have_roles w x (redundant_text n, e, ex) = rw (← e, ← ex) refl
 
 -- The roles of each kind
 

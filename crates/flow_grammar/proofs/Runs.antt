@@ -1,5 +1,5 @@
 -- What a run finds is so, and it finds what is so, where each state knows what may follow it.
-use Rattle.std.proofs.Common.{rules, ◌≡◌, ℕ, zero, suc, ◌<◌, ◌≤◌, ◌⊎◌, Bool, true, false, Option, Some, None, List, [], ◌∷◌, ◌++◌, take, refl, sym, ap, subst, inl, inr, arith, le-leb, leb-true, leb-false}
+use Rattle.std.proofs.Common.{rules, ◌≡◌, ℕ, zero, suc, ◌<◌, ◌≤◌, ◌⊎◌, Bool, true, false, Option, Some, None, List, [], ◌∷◌, ◌++◌, length, take, drop, refl, sym, ap, ◌∙◌, subst, inl, inr, ⊎_elim, append_assoc, le_antisymm, take-append-drop, arith, le-leb, leb-true, leb-false}
 use Rattle.std.specs.Prelude.{option_map}
 use Rattle.flow_model.specs.declared.limits.TheConstants.{GREATEST_DEPTH}
 use Rattle.flow_form.specs.declared.refusal.Wanted.{Wanted}
@@ -7,7 +7,8 @@ use Rattle.flow_grammar.specs.Symbol.{Symbol, Placed, at, symbols, Deepens}
 use Rattle.flow_grammar.specs.Machine.{Reading, gives, expected, too_deep, later, is_too_deep, at_end, go_on, run, standing}
 use Rattle.flow_grammar.specs.Laws.{StandsFor, MayEnd}
 use Rattle.flow_grammar.specs.Texts.{IsShallow, IsDeepAt, Derives, IsWhole, IsViable, StandsDeep, IsStuckAt, NoneDeepBefore}
-use Rattle.std.proofs.lemmas.Bool.{false_from_ne_true}
+use Rattle.std.proofs.lemmas.Bool.{cases_lt}
+use Rattle.std.proofs.lemmas.List.{take-take}
 
 pub uncons : (w : List Placed) (t : Symbol) (ts : List Symbol) → symbols w ≡ t ∷ ts →
     (n : ℕ) × (v : List Placed) × (w ≡ at n t ∷ v) × (symbols v ≡ ts)
@@ -22,75 +23,6 @@ not_deep t d e h = search (rules, leb-false)
 
 deep_of : (t : Symbol) (d : ℕ) → is_too_deep t d ≡ true → Deepens t × (GREATEST_DEPTH ≤ d)
 deep_of t d e = search (rules, leb-true)
-
--- What one step of a run makes
-
-later_gives : {V : Type 0} (r : Reading V) (v : V) → later r ≡ gives v → r ≡ gives v
-later_gives (gives u) v e = e
-later_gives _ v e = cc
-
-later_expected : {V : Type 0} (r : Reading V) (kind : Wanted) (k : ℕ) → later r ≡ expected kind k →
-    (j : ℕ) × (k ≡ suc j) × (r ≡ expected kind j)
-later_expected (expected kind' j) kind k e = (j, cc, cc)
-later_expected _ kind k e = cc
-
-later_deep : {V : Type 0} (r : Reading V) (k : ℕ) → later r ≡ too_deep k → (j : ℕ) × (k ≡ suc j) × (r ≡ too_deep j)
-later_deep (too_deep j) k e = (j, cc, cc)
-later_deep _ k e = cc
-
-go_gives : {S V : Type 0} (o : Option S) (b : Bool) (kind : Wanted) (rest : S → Reading V) (v : V) →
-    go_on o b kind rest ≡ gives v → (s : S) × (o ≡ Some s) × (b ≡ false) × (rest s ≡ gives v)
-go_gives (Some s) false kind rest v e = (s, refl, refl, later_gives (rest s) v e)
-go_gives _ _ kind rest v e = cc
-
-go_expected : {S V : Type 0} (o : Option S) (b : Bool) (kind : Wanted) (rest : S → Reading V) (kind' : Wanted) (k : ℕ) →
-    go_on o b kind rest ≡ expected kind' k →
-    ((o ≡ None) × (k ≡ 0) × (kind ≡ kind')) ⊎
-    ((s : S) × (j : ℕ) × (o ≡ Some s) × (b ≡ false) × (k ≡ suc j) × (rest s ≡ expected kind' j))
-go_expected None b kind rest kind' k e = inl (refl, cc, cc)
-go_expected (Some s) true kind rest kind' k e = cc
-go_expected (Some s) false kind rest kind' k e =
-    let (j, ek, er) = later_expected (rest s) kind' k e in inr (s, j, refl, refl, ek, er)
-
-go_deep : {S V : Type 0} (o : Option S) (b : Bool) (kind : Wanted) (rest : S → Reading V) (k : ℕ) →
-    go_on o b kind rest ≡ too_deep k →
-    (s : S) × (o ≡ Some s) × (((b ≡ true) × (k ≡ 0)) ⊎ ((j : ℕ) × (b ≡ false) × (k ≡ suc j) × (rest s ≡ too_deep j)))
-go_deep None b kind rest k e = cc
-go_deep (Some s) true kind rest k e = (s, refl, inl (refl, cc))
-go_deep (Some s) false kind rest k e =
-    let (j, ek, er) = later_deep (rest s) k e in (s, refl, inr (j, refl, ek, er))
-
-end_gives : {V : Type 0} (o : Option V) (kind : Wanted) (v : V) → at_end o kind ≡ gives v → o ≡ Some v
-end_gives None kind v e = cc
-end_gives (Some u) kind v e = cc
-
-end_expected : {V : Type 0} (o : Option V) (kind kind' : Wanted) (k : ℕ) → at_end o kind ≡ expected kind' k →
-    (o ≡ None) × (k ≡ 0) × (kind ≡ kind')
-end_expected None kind kind' k e = (refl, cc, cc)
-end_expected (Some u) kind kind' k e = cc
-
-end_not_deep : {V : Type 0} (o : Option V) (kind : Wanted) (k : ℕ) → ¬ (at_end o kind ≡ too_deep k)
-end_not_deep None kind k e = cc
-end_not_deep (Some u) kind k e = cc
-
--- the kind that is told stands in the table for the place
-pub wanted_there : {S V : Type 0} (step : S → Symbol → Option S) (finish : S → Option V) (wanted : S → Wanted) (depth : S → ℕ)
-    (ts : List Symbol) (s : S) (kind : Wanted) (i : ℕ) → run step finish wanted depth s ts ≡ expected kind i →
-    option_map wanted (standing step (Some s) (take i ts)) ≡ Some kind
-wanted_there step finish wanted depth [] s kind i e =
-    let (ef, ei, ek) = end_expected (finish s) (wanted s) kind i e in
-    subst (λ y. option_map wanted (standing step (Some s) (take y [])) ≡ Some kind) (sym ei) (ap Some ek)
-wanted_there step finish wanted depth (t ∷ ts) s kind i e =
-    elim (go_expected (step s t) (is_too_deep t (depth s)) (wanted s) (λ y. run step finish wanted depth y ts) kind i e) [
-      | inl (es, ei, ek) ↦ subst (λ y. option_map wanted (standing step (Some s) (take y (t ∷ ts))) ≡ Some kind) (sym ei) (ap Some ek)
-      | inr (next, j, es, eb, ei, er) ↦
-          subst (λ y. option_map wanted (standing step (Some s) (take y (t ∷ ts))) ≡ Some kind) (sym ei)
-          (subst (λ o. option_map wanted (standing step o (take j ts)) ≡ Some kind) (sym es) (wanted_there step finish wanted depth ts next kind j er))
-    ]
-
-known : {A : Type 0} (o : Option A) → (o ≡ None) ⊎ ((s : A) × (o ≡ Some s))
-known None = inl refl
-known (Some s) = inr (s, refl)
 
 -- What a state knows: R s w x says that w may follow s, and the whole then says x
 
@@ -119,11 +51,16 @@ pub record Wants {S V : Type 0} (step : S → Symbol → Option S) (finish : S �
   pub comes : (s : S) (t : Symbol) → StandsFor (wanted s) t → Goes (step s t)
   pub ends : (s : S) → MayEnd (wanted s) → Goes (finish s)
 
+-- it is what is read, but for the kind
+abbrev pub IsFound : {V : Type 0} → Reading V → Reading V → Type 0
+IsFound r (expected kind i) = (kind' : Wanted) × (r ≡ expected kind' i)
+IsFound r q = r ≡ q
+
 of_goes : {A : Type 0} (o : Option A) → Goes o → (s : A) × (o ≡ Some s)
 of_goes (Some s) h = (s, refl)
 of_goes None h = absurd h
 
-module _ {S V : Type 0} (step : S → Symbol → Option S) (finish : S → Option V) (wanted : S → Wanted) (depth : S → ℕ) (R : S → List Placed → V → Type 0) (k : Knows step finish depth R) where
+module _ {S V : Type 0} (step : S → Symbol → Option S) (finish : S → Option V) (wanted : S → Wanted) (depth : S → ℕ) (R : S → List Placed → V → Type 0) (k : Knows step finish depth R) (wants : Wants step finish wanted) where
   abbrev reads : S → List Symbol → Reading V
   reads = run step finish wanted depth
 
@@ -192,122 +129,71 @@ module _ {S V : Type 0} (step : S → Symbol → Option S) (finish : S → Optio
   none_before s next t ts j es eb h zero l dp = let e' = deep_here s t ts dp in cc
   none_before s next t ts j es eb h (suc i) l dp = h i (omega arith) (deep_down s next t ts i es dp)
 
-  -- a value
+  -- What is read is so
 
-  pub derived : (ts : List Symbol) (s : S) (x : V) → reads s ts ≡ gives x → Derives (R s) ts x
-  derived [] s x e = ([], refl, tt, k.ended s x (end_gives (finish s) (wanted s) x e))
-  derived (t ∷ ts) s x e =
-      let (next, es, eb, er) = go_gives (step s t) (is_too_deep t (depth s)) (wanted s) (λ y. reads y ts) x e in
-      let (w, ew, sh, r) = derived ts next x er in
+  -- what a reading says of the symbols, but for the kind that it tells
+  abbrev pub Holds : S → List Symbol → Reading V → Type 0
+  Holds s ts (gives x) = Derives (R s) ts x
+  Holds s ts (expected kind i) = IsStuckAt (R s) ts i × NoneDeepBefore (R s) ts i
+  Holds s ts (too_deep i) = StandsDeep (R s) ts i × NoneDeepBefore (R s) ts i
+
+  -- each symbol of the kind could come at that place, the end too if it is of the kind, and the table has the kind
+  pub record IsTold (s : S) (ts : List Symbol) (kind : Wanted) (i : ℕ) : Type 0 where
+    pub stands : IsStuckAt (R s) ts i × NoneDeepBefore (R s) ts i
+    pub comes : (t : Symbol) → StandsFor kind t → IsViable (R s) (take i ts ++ t ∷ [])
+    pub ends : MayEnd kind → IsWhole (R s) (take i ts)
+    pub by_the_table : option_map wanted (standing step (Some s) (take i ts)) ≡ Some kind
+
+  abbrev pub IsSo : S → List Symbol → Reading V → Type 0
+  IsSo s ts (expected kind i) = IsTold s ts kind i
+  IsSo s ts r = Holds s ts r
+
+  stuck_here : (s : S) (ts : List Symbol) → IsStuckAt (R s) ts 0 → IsTold s ts (wanted s) 0
+  stuck_here s ts stuck = record {
+    stands = (stuck, λ j l. absurd (omega arith));
+    comes = λ t h. let (next, es) = of_goes (step s t) (wants.comes s t h) in viable_up s next t [] es (viable_nil next);
+    ends = λ h. let (x, e) = of_goes (finish s) (wants.ends s h) in ([], x, refl, k.ended s x e);
+    by_the_table = refl;
+  }
+
+  no_end : (s : S) → finish s ≡ None → ¬ IsWhole (R s) []
+  no_end s ef ([], x, ew, r) = let e' : finish s ≡ Some x = k.forth s [] x r in cc
+  no_end s ef (at n t ∷ w, x, ew, r) = cc
+
+  -- what is so behind a symbol is so, one place later, from it on
+  so_later : (s next : S) (t : Symbol) (ts : List Symbol) → step s t ≡ Some next → is_too_deep t (depth s) ≡ false →
+      (r : Reading V) → IsSo next ts r → IsSo s (t ∷ ts) (later r)
+  so_later s next t ts es eb (gives x) (w, ew, sh, r) =
       let (n, d, r') = behind s next t w x es r in
       (at n t ∷ w, ap (λ y. t ∷ y) ew, (λ h. subst (λ y. y < GREATEST_DEPTH) (sym (d h)) (not_deep t (depth s) eb h), sh), r')
+  so_later s next t ts es eb (expected kind j) h = record {
+    stands = (
+      (
+        viable_up s next t (take j ts) es h.stands.0.0,
+        ⊎_elim (λ (l, refuted). inl (omega arith, λ v. refuted (viable_down s next t (take (suc j) ts) es v)))
+            (λ (l, refuted). inr (omega arith, λ v. refuted (whole_down s next t ts es v))) h.stands.0.1,
+      ),
+      none_before s next t ts j es eb h.stands.1,
+    );
+    comes = λ u m. viable_up s next t (take j ts ++ u ∷ []) es (h.comes u m);
+    ends = λ m. whole_up s next t (take j ts) es (h.ends m);
+    by_the_table = subst (λ o. option_map wanted (standing step o (take j ts)) ≡ Some kind) (sym es) h.by_the_table;
+  }
+  so_later s next t ts es eb (too_deep j) (dp, h) = (deep_up s next t ts j es dp, none_before s next t ts j es eb h)
 
-  not_too_deep : (s : S) (t : Symbol) (n : ℕ) → (Deepens t → n < GREATEST_DEPTH) → (Deepens t → n ≡ depth s) → is_too_deep t (depth s) ≡ false
-  not_too_deep s t n sh d = false_from_ne_true (is_too_deep t (depth s)) λ e.
-      let (dt, l) = deep_of t (depth s) e in
-      let below : n < GREATEST_DEPTH = sh dt in
-      let same : n ≡ depth s = d dt in
-      omega arith
-
-  given_by : (w : List Placed) (s : S) (x : V) → IsShallow w → R s w x → reads s (symbols w) ≡ gives x
-  given_by [] s x sh r = let e : finish s ≡ Some x = k.forth s [] x r in rw e refl
-  given_by (at n t ∷ w) s x (sh, more) r =
-      let f : (Deepens t → n ≡ depth s) × OnNext R (step s t) w x = k.forth s (at n t ∷ w) x r in
-      let (next, es, r') = on_next (step s t) w x f.1 in
-      let eb = not_too_deep s t n sh f.0 in
-      rw (es, eb, given_by w next x more r')
-
-  pub given : (ts : List Symbol) (s : S) (x : V) → Derives (R s) ts x → reads s ts ≡ gives x
-  given ts s x (w, e, sh, r) = subst (λ y. reads s y ≡ gives x) e (given_by w s x sh r)
-
-  -- where no text goes on
-
-  pub stuck_where : (ts : List Symbol) (s : S) (kind : Wanted) (i : ℕ) → reads s ts ≡ expected kind i →
-      IsStuckAt (R s) ts i × NoneDeepBefore (R s) ts i
-  stuck_where [] s kind i e =
-      let (ef, ei, ek) = end_expected (finish s) (wanted s) kind i e in
-      subst (λ y. IsStuckAt (R s) [] y × NoneDeepBefore (R s) [] y) (sym ei)
-      ((viable_nil s, inr (refl, no_end ef)), λ j l. absurd (omega arith))
+  pub is_so : (ts : List Symbol) (s : S) → IsSo s ts (reads s ts)
+  is_so [] s = at_finish (finish s) refl
     where
-      no_end : finish s ≡ None → ¬ IsWhole (R s) []
-      no_end ef ([], x, ew, r) = let e' : finish s ≡ Some x = k.forth s [] x r in cc
-      no_end ef (at n t ∷ w, x, ew, r) = cc
-  stuck_where (t ∷ ts) s kind i e =
-      elim (go_expected (step s t) (is_too_deep t (depth s)) (wanted s) (λ y. reads y ts) kind i e) [
-        | inl (es, ei, ek) ↦ subst (λ y. IsStuckAt (R s) (t ∷ ts) y × NoneDeepBefore (R s) (t ∷ ts) y) (sym ei)
-            ((viable_nil s, inl (omega arith, viable_none s t [] es)), λ j l. absurd (omega arith))
-        | inr (next, j, es, eb, ei, er) ↦ subst (λ y. IsStuckAt (R s) (t ∷ ts) y × NoneDeepBefore (R s) (t ∷ ts) y) (sym ei)
-            (up next j es eb (stuck_where ts next kind j er))
-      ]
+      at_finish : (o : Option V) → finish s ≡ o → IsSo s [] (at_end o (wanted s))
+      at_finish (Some x) e = ([], refl, tt, k.ended s x e)
+      at_finish None e = stuck_here s [] (viable_nil s, inr (refl, no_end s e))
+  is_so (t ∷ ts) s = at_step (is_so ts) (step s t) refl (is_too_deep t (depth s)) refl
     where
-      up : (next : S) (j : ℕ) → step s t ≡ Some next → is_too_deep t (depth s) ≡ false →
-          IsStuckAt (R next) ts j × NoneDeepBefore (R next) ts j → IsStuckAt (R s) (t ∷ ts) (suc j) × NoneDeepBefore (R s) (t ∷ ts) (suc j)
-      up next j es eb ((v, inl (l, refuted)), h) =
-          ((viable_up s next t (take j ts) es v, inl (omega arith, λ v'. refuted (viable_down s next t (take (suc j) ts) es v'))), none_before s next t ts j es eb h)
-      up next j es eb ((v, inr (l, refuted)), h) =
-          ((viable_up s next t (take j ts) es v, inr (omega arith, λ v'. refuted (whole_down s next t ts es v'))), none_before s next t ts j es eb h)
-
-  pub stuck_there : (ts : List Symbol) (s : S) (i : ℕ) → IsStuckAt (R s) ts i → NoneDeepBefore (R s) ts i →
-      (kind : Wanted) × (reads s ts ≡ expected kind i)
-  stuck_there [] s i (v, inl (l, refuted)) h = absurd (omega arith)
-  stuck_there [] s i (v, inr (l, refuted)) h = elim (known (finish s)) [
-    | inl e ↦ (wanted s, rw (e, l) refl)
-    | inr (x, e) ↦ absurd (refuted ([], x, refl, k.ended s x e))
-  ]
-  stuck_there (t ∷ ts) s zero (v, inl (l, refuted)) h = elim (known (step s t)) [
-    | inl e ↦ (wanted s, rw e refl)
-    | inr (next, e) ↦ absurd (refuted (viable_up s next t [] e (viable_nil next)))
-  ]
-  stuck_there (t ∷ ts) s zero (v, inr (l, refuted)) h = absurd (omega arith)
-  stuck_there (t ∷ ts) s (suc i) (v, more) h = elim (known (step s t)) [
-    | inl e ↦ absurd (viable_none s t (take i ts) e v)
-    | inr (next, e) ↦
-        let (kind, er) = stuck_there ts next i (down next e (v, more)) (below next e h) in
-        let eb = false_from_ne_true (is_too_deep t (depth s)) (λ b. h zero (omega arith) (deep_there s next t ts e b)) in
-        (kind, rw (e, eb, er) refl)
-  ]
-    where
-      down : (next : S) → step s t ≡ Some next → IsStuckAt (R s) (t ∷ ts) (suc i) → IsStuckAt (R next) ts i
-      down next es (v', inl (l, refuted)) = (viable_down s next t (take i ts) es v', inl (omega arith, λ y. refuted (viable_up s next t (take (suc i) ts) es y)))
-      down next es (v', inr (l, refuted)) = (viable_down s next t (take i ts) es v', inr (omega arith, λ y. refuted (whole_up s next t ts es y)))
-
-      below : (next : S) → step s t ≡ Some next → NoneDeepBefore (R s) (t ∷ ts) (suc i) → NoneDeepBefore (R next) ts i
-      below next es h' j l dp = h' (suc j) (omega arith) (deep_up s next t ts j es dp)
-
-  -- where it is too deep
-
-  pub deep_where : (ts : List Symbol) (s : S) (i : ℕ) → reads s ts ≡ too_deep i → StandsDeep (R s) ts i × NoneDeepBefore (R s) ts i
-  deep_where [] s i e = absurd (end_not_deep (finish s) (wanted s) i e)
-  deep_where (t ∷ ts) s i e =
-      let (next, es, more) = go_deep (step s t) (is_too_deep t (depth s)) (wanted s) (λ y. reads y ts) i e in
-      elim more [
-        | inl (eb, ei) ↦ subst (λ y. StandsDeep (R s) (t ∷ ts) y × NoneDeepBefore (R s) (t ∷ ts) y) (sym ei)
-            (deep_there s next t ts es eb, λ j l. absurd (omega arith))
-        | inr (j, eb, ei, er) ↦ subst (λ y. StandsDeep (R s) (t ∷ ts) y × NoneDeepBefore (R s) (t ∷ ts) y) (sym ei)
-            (up next j es eb (deep_where ts next j er))
-      ]
-    where
-      up : (next : S) (j : ℕ) → step s t ≡ Some next → is_too_deep t (depth s) ≡ false →
-          StandsDeep (R next) ts j × NoneDeepBefore (R next) ts j → StandsDeep (R s) (t ∷ ts) (suc j) × NoneDeepBefore (R s) (t ∷ ts) (suc j)
-      up next j es eb (dp, h) = (deep_up s next t ts j es dp, none_before s next t ts j es eb h)
-
-  pub deep_then : (ts : List Symbol) (s : S) (i : ℕ) → StandsDeep (R s) ts i → NoneDeepBefore (R s) ts i → reads s ts ≡ too_deep i
-  deep_then [] s i (l, more) h = absurd (omega arith)
-  deep_then (t ∷ ts) s i dp h = elim (known (step s t)) [
-    | inl e ↦ absurd (viable_none s t (take i ts) e (begun i dp))
-    | inr (next, e) ↦ deeper next e i dp h (λ j. deep_then ts next j)
-  ]
-    where
-      begun : (j : ℕ) → StandsDeep (R s) (t ∷ ts) j → IsViable (R s) (t ∷ take j ts)
-      begun j (l, (w, x, b, d, r)) = (w, x, b, r)
-
-      deeper : (next : S) → step s t ≡ Some next → (j : ℕ) → StandsDeep (R s) (t ∷ ts) j → NoneDeepBefore (R s) (t ∷ ts) j →
-          ((i' : ℕ) → StandsDeep (R next) ts i' → NoneDeepBefore (R next) ts i' → reads next ts ≡ too_deep i') → reads s (t ∷ ts) ≡ too_deep j
-      deeper next es zero d h' rec = let eb = deep_here s t ts d in rw (es, eb) refl
-      deeper next es (suc j) d h' rec =
-          let eb = false_from_ne_true (is_too_deep t (depth s)) (λ b. h' zero (omega arith) (deep_there s next t ts es b)) in
-          let er = rec j (deep_down s next t ts j es d) (λ i' l dp'. h' (suc i') (omega arith) (deep_up s next t ts i' es dp')) in
-          rw (es, eb, er) refl
+      at_step : ((next : S) → IsSo next ts (reads next ts)) → (o : Option S) → step s t ≡ o → (b : Bool) → is_too_deep t (depth s) ≡ b →
+          IsSo s (t ∷ ts) (go_on o b (wanted s) (λ y. reads y ts))
+      at_step so None es b eb = stuck_here s (t ∷ ts) (viable_nil s, inl (omega arith, viable_none s t [] es))
+      at_step so (Some next) es true eb = (deep_there s next t ts es eb, λ j l. absurd (omega arith))
+      at_step so (Some next) es false eb = so_later s next t ts es eb (reads next ts) (so next)
 
   -- one meaning
 
@@ -323,30 +209,53 @@ module _ {S V : Type 0} (step : S → Symbol → Option S) (finish : S → Optio
       let (n', v', ew, ev, d, q') = front s (Some next) t (symbols w) v y es (sym e) r' in
       one_meaning w v' next x y (sym ev) q q'
 
-  -- the kind
+  -- Of the three that may be read, each excludes the others
 
-  module _ (wants : Wants step finish wanted) where
-    Could : S → List Symbol → Wanted → Type 0
-    Could s ts kind = ((t : Symbol) → StandsFor kind t → IsViable (R s) (ts ++ t ∷ [])) × (MayEnd kind → IsWhole (R s) ts)
+  -- no text goes on past the place where none does
+  not_past : (ts : List Symbol) (s : S) (i j : ℕ) → IsStuckAt (R s) ts i → IsViable (R s) (take j ts) → j ≤ length ts → j ≤ i
+  not_past ts s i j (v, more) (w, x, (rest, e), r) l = ⊎_elim (λ less. absurd (past less more)) (λ le. le) (cases_lt i j)
+    where
+      past : i < j → ((i < length ts) × ¬ IsViable (R s) (take (suc i) ts)) ⊎ ((i ≡ length ts) × ¬ IsWhole (R s) ts) → ⊥
+      past less (inr (end, refuted)) = omega arith
+      past less (inl (below, refuted)) =
+          let back = drop (suc i) (take j ts) in
+          let cut : take j ts ≡ take (suc i) ts ++ back =
+          sym (take-append-drop (suc i) (take j ts)) ∙ ap (λ y. y ++ back) (take-take (suc i) j ts (omega arith)) in
+          refuted (w, x, (back ++ rest, e ∙ ap (λ y. y ++ rest) cut ∙ append_assoc (take (suc i) ts) back rest), r)
 
-    here : (s : S) → Could s [] (wanted s)
-    unfolding Could
-    here s = (
-      λ t h. let (next, es) = of_goes (step s t) (wants.comes s t h) in viable_up s next t [] es (viable_nil next),
-      λ h. let (x, e) = of_goes (finish s) (wants.ends s h) in ([], x, refl, k.ended s x e),
-    )
+  stuck_once : (ts : List Symbol) (s : S) (i j : ℕ) → IsStuckAt (R s) ts i → IsStuckAt (R s) ts j → j ≤ i
+  stuck_once ts s i j a b = not_past ts s i j a b.0 (⊎_elim (λ (l, n). omega arith) (λ (l, n). omega arith) b.1)
 
-    pub could_come : (ts : List Symbol) (s : S) (kind : Wanted) (i : ℕ) → reads s ts ≡ expected kind i →
-        ((t : Symbol) → StandsFor kind t → IsViable (R s) (take i ts ++ t ∷ [])) × (MayEnd kind → IsWhole (R s) (take i ts))
-    unfolding Could
-    could_come [] s kind i e =
-        let (ef, ei, ek) = end_expected (finish s) (wanted s) kind i e in
-        subst (λ y. Could s (take y []) kind) (sym ei) (subst (λ y. Could s [] y) ek (here s))
-    could_come (t ∷ ts) s kind i e =
-        elim (go_expected (step s t) (is_too_deep t (depth s)) (wanted s) (λ y. reads y ts) kind i e) [
-          | inl (es, ei, ek) ↦ subst (λ y. Could s (take y (t ∷ ts)) kind) (sym ei) (subst (λ y. Could s [] y) ek (here s))
-          | inr (next, j, es, eb, ei, er) ↦
-              let (v, n) = could_come ts next kind j er in
-              subst (λ y. Could s (take y (t ∷ ts)) kind) (sym ei)
-              (λ u h. viable_up s next t (take j ts ++ u ∷ []) es (v u h), λ h. whole_up s next t (take j ts) es (n h))
-        ]
+  not_whole : (ts : List Symbol) (s : S) (i : ℕ) → IsStuckAt (R s) ts i → ¬ IsWhole (R s) ts
+  not_whole ts s i (v, inl (l, refuted)) (w, x, e, r) = refuted (w, x, (drop (suc i) ts, e ∙ sym (take-append-drop (suc i) ts)), r)
+  not_whole ts s i (v, inr (l, refuted)) h = refuted h
+
+  deep_before : (ts : List Symbol) (s : S) (i j : ℕ) → IsStuckAt (R s) ts i → StandsDeep (R s) ts j → j < i
+  deep_before ts s i j stuck (l, (w, x, b, dp, r)) = let past : suc j ≤ i = not_past ts s i (suc j) stuck (w, x, b, r) (omega arith) in omega arith
+
+  none_deep : (w : List Placed) (s : S) (x : V) (i : ℕ) → IsShallow w → R s w x → ¬ StandsDeep (R s) (symbols w) i
+  none_deep [] s x i sh r (l, more) = omega arith
+  none_deep (at n t ∷ w) s x zero (sh, more) r dp =
+      let f : (Deepens t → n ≡ depth s) × OnNext R (step s t) w x = k.forth s (at n t ∷ w) x r in
+      let (dt, l) = deep_of t (depth s) (deep_here s t (symbols w) dp) in
+      let below : n < GREATEST_DEPTH = sh dt in
+      omega (arith, f.0 dt, l, below)
+  none_deep (at n t ∷ w) s x (suc i) (sh, more) r dp =
+      let f : (Deepens t → n ≡ depth s) × OnNext R (step s t) w x = k.forth s (at n t ∷ w) x r in
+      let (next, es, r') = on_next (step s t) w x f.1 in
+      none_deep w next x i more r' (deep_down s next t (symbols w) i es dp)
+
+  first_deep : (ts : List Symbol) (s : S) (i j : ℕ) → NoneDeepBefore (R s) ts i → StandsDeep (R s) ts j → i ≤ j
+  first_deep ts s i j h dp = ⊎_elim (λ l. absurd (h j l dp)) (λ le. le) (cases_lt j i)
+
+  pub one_reading : (ts : List Symbol) (s : S) (r q : Reading V) → IsSo s ts r → Holds s ts q → IsFound r q
+  one_reading ts s (gives y) (gives x) (v, e, sh, r) (w, e', sh', r') = ap gives (one_meaning v w s y x (e ∙ sym e') r r')
+  one_reading ts s (gives y) (expected kind i) (w, e, sh, r) (stuck, h) = absurd (not_whole ts s i stuck (w, y, e, r))
+  one_reading ts s (gives y) (too_deep i) (w, e, sh, r) (dp, h) = absurd (none_deep w s y i sh r (subst (λ u. StandsDeep (R s) u i) (sym e) dp))
+  one_reading ts s (expected kind j) (gives x) told (w, e, sh, r) = absurd (not_whole ts s j told.stands.0 (w, x, e, r))
+  one_reading ts s (expected kind j) (expected kind' i) told (stuck, h) =
+      (kind, ap (expected kind) (le_antisymm (stuck_once ts s i j stuck told.stands.0) (stuck_once ts s j i told.stands.0 stuck)))
+  one_reading ts s (expected kind j) (too_deep i) told (dp, h) = absurd (told.stands.1 i (deep_before ts s j i told.stands.0 dp) dp)
+  one_reading ts s (too_deep j) (gives x) (dp, h) (w, e, sh, r) = absurd (none_deep w s x j sh r (subst (λ u. StandsDeep (R s) u j) (sym e) dp))
+  one_reading ts s (too_deep j) (expected kind i) (dp, h) (stuck, none) = absurd (none j (deep_before ts s i j stuck dp) dp)
+  one_reading ts s (too_deep j) (too_deep i) (dp, h) (dp', h') = ap too_deep (le_antisymm (first_deep ts s j i h dp') (first_deep ts s i j h' dp))

@@ -1,5 +1,6 @@
 -- A whole text: what may follow each state.
 use Rattle.std.proofs.Common.{rules as std_rules, ◌≡◌, ℕ, ◌⊎◌, Some, List, [], ◌∷◌, ◌++◌, map, refl, sym, ap, ◌∙◌, subst, inl, inr, append_assoc, append-nil}
+use Rattle.std.proofs.lemmas.Option.{same_Some}
 use Rattle.flow_model.specs.declared.labels.Note.TheVariants.{Done, Fail, FailFirst}
 use Rattle.flow_facts.specs.Atom.{atom}
 use Rattle.flow_form.specs.Form.{Shape}
@@ -212,10 +213,7 @@ script_back (in_constraint ds s rs r) t w x h = rule_back r t w (λ y v. Constra
 
 script_ended : (s : State) (x : Said) → finish_script s ≡ Some x → Rest s [] x
 script_ended (constraint_needed ds s rs) x e =
-    ([], refl, ap (λ y. record { decls = ds; goal = s; rules = y }) (append-nil rs) ∙ some_is (record { decls = ds; goal = s; rules = rs }) x e)
-  where
-    some_is : (a b : Said) → Some a ≡ Some b → a ≡ b
-    some_is a b e' = cc
+    ([], refl, ap (λ y. record { decls = ds; goal = s; rules = y }) (append-nil rs) ∙ same_Some (record { decls = ds; goal = s; rules = rs }) x e)
 script_ended _ x e = cc
 
 -- Each state can be completed

@@ -1,8 +1,8 @@
 -- What each state wants could come.
 use Rattle.std.proofs.Common.{rules}
 use Rattle.flow_grammar.specs.Symbol.{Symbol}
-use Rattle.flow_grammar.specs.Machine.{Step, reading, whole, stuck, carry, GoalState, step_goal, wanted_goal, RuleState, step_rule, wanted_rule, State, step_script, finish_script, wanted_script, QueryState, step_query, finish_query, wanted_query}
-use Rattle.flow_grammar.specs.Laws.{StandsFor, MayEnd}
+use Rattle.flow_grammar.specs.Machine.{Step, reading, whole, stuck, carry, GoalState, step_goal, wanted_goal, RuleState, step_rule, wanted_rule, step_script, finish_script, wanted_script, step_query, finish_query, wanted_query}
+use Rattle.flow_grammar.specs.Laws.{StandsFor}
 use Rattle.flow_grammar.proofs.Runs.{Goes, Wants}
 
 abbrev Moves : {S V : Type 0} → Step S V → Type 0
@@ -19,20 +19,8 @@ rule_comes r t h = search rules
 carry_goes : {S V T : Type 0} (within : S → T) (after : V → T) (o : Step S V) → Moves o → Goes (carry within after o)
 carry_goes within after _ h = search rules
 
-script_comes : (s : State) (t : Symbol) → StandsFor (wanted_script s) t → Goes (step_script s t)
-script_comes s t h = search (rules, carry_goes, goal_comes, rule_comes)
-
-script_ends : (s : State) → MayEnd (wanted_script s) → Goes (finish_script s)
-script_ends s h = search rules
-
 pub script_wants : Wants step_script finish_script wanted_script
-script_wants = record { comes = script_comes; ends = script_ends }
-
-query_comes : (s : QueryState) (t : Symbol) → StandsFor (wanted_query s) t → Goes (step_query s t)
-query_comes s t h = search (rules, carry_goes, rule_comes)
-
-query_ends : (s : QueryState) → MayEnd (wanted_query s) → Goes (finish_query s)
-query_ends s h = search rules
+script_wants = record { comes = λ s t h. search (rules, carry_goes, goal_comes, rule_comes); ends = λ s h. search rules }
 
 pub query_wants : Wants step_query finish_query wanted_query
-query_wants = record { comes = query_comes; ends = query_ends }
+query_wants = record { comes = λ s t h. search (rules, carry_goes, rule_comes); ends = λ s h. search rules }

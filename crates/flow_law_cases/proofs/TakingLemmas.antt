@@ -96,10 +96,6 @@ b_after_a : CanTake plain (state_of plain a_done) 1
 b_after_a = take_next plain plain_is_well_formed (state_of plain a_done) 1 (0 ∷ 1 ∷ 2 ∷ []) refl refl
     (b_first, (1 ∷ 2 ∷ [], refl), tt) (2 ∷ [], refl)
 
-c_after_a : CanTake plain (state_of plain a_done) 2
-c_after_a = take_next plain plain_is_well_formed (state_of plain a_done) 2 (0 ∷ 2 ∷ 1 ∷ []) refl refl
-    (c_first, (2 ∷ 1 ∷ [], refl), tt) (1 ∷ [], refl)
-
 -- What cannot, by the law of orders: a leaf that can be taken is ready in the only option
 
 ready_of_take : (s : RunState) (n : ℕ) → current_leaves s ≡ [] → CanTake plain s n → IsReady plain.goal [] (λ x. x ∈ s.journal) n
@@ -108,22 +104,20 @@ ready_of_take s n none h =
     let alone = subst (λ ls. AreSideBySide o.resolution o.order (λ x. x ∈ s.journal) (ls ++ n ∷ [])) none sides in
     elim m [ inl e ↦ subst (λ (o : ChoiceOption). IsReady o.resolution o.order (λ x. x ∈ s.journal) n) e alone.each.0 | inr nothing ↦ absurd nothing ]
 
-only_a_is_ready : (n : ℕ) → IsReady plain.goal [] (λ x. x ∈ []) n → n ≡ 0
-only_a_is_ready n ready = elim ready.leaf [ inl e ↦ e | inr later ↦ absurd (ready.before 0 (inl (inl (inl (inl refl, later))))) ]
-
-b_or_c_is_ready : (n : ℕ) → IsReady plain.goal [] (λ x. x ∈ (0 ∷ [])) n → (n ≡ 1) ⊎ (n ≡ 2)
-b_or_c_is_ready n ready = ⊎_elim (λ e. absurd (ready.not_done (inl e))) (⊎_elim inl (⊎_elim inr absurd)) ready.leaf
-
 pub first_only_a : (n : ℕ) → CanTake plain first_state n ↔ (n ≡ 0)
 first_only_a n = (
-  λ h. only_a_is_ready n (ready_of_take first_state n refl h),
+  λ h. let ready = ready_of_take first_state n refl h in
+      ⊎_elim (λ e. e) (λ later. absurd (ready.before 0 (inl (inl (inl (inl refl, later)))))) ready.leaf,
   λ e. subst (CanTake plain first_state) (sym e) a_at_first,
 )
 
 pub then_b_or_c : (n : ℕ) → CanTake plain (state_of plain a_done) n ↔ ((n ≡ 1) ⊎ (n ≡ 2))
 then_b_or_c n =
-    let can = CanTake plain (state_of plain a_done) in (
-      λ h. b_or_c_is_ready n (ready_of_take (state_of plain a_done) n refl h),
+    let can = CanTake plain (state_of plain a_done) in
+    let c_after_a : can 2 = take_next plain plain_is_well_formed (state_of plain a_done) 2 (0 ∷ 2 ∷ 1 ∷ []) refl refl
+    (c_first, (2 ∷ 1 ∷ [], refl), tt) (1 ∷ [], refl) in (
+      λ h. let ready = ready_of_take (state_of plain a_done) n refl h in
+          ⊎_elim (λ e. absurd (ready.not_done (inl e))) (⊎_elim inl (⊎_elim inr absurd)) ready.leaf,
       ⊎_elim (λ e. subst can (sym e) b_after_a) (λ e. subst can (sym e) c_after_a),
     )
 

@@ -211,11 +211,9 @@ decide_sequence (Choice a b) x y = decide_either (decide_sequence a x y) (decide
 decide_sequence (Isolated a) x y = decide_sequence a x y
 decide_sequence leaf x y = inr (λ h. h)
 
-decide_pair_eq : (x y : ℕ × ℕ) → Decided (x ≡ y)
-decide_pair_eq (x, y) (u, v) = grind (arith, decide_eq x u, decide_eq y v)
-
 pub decide_direct : (q : Process) (pairs : List (ℕ × ℕ)) (x y : ℕ) → Decided (DirectlyBefore q pairs x y)
-decide_direct q pairs x y = decide_either (decide_sequence q x y) (decide_mem decide_pair_eq (x, y) pairs)
+decide_direct q pairs x y =
+    decide_either (decide_sequence q x y) (decide_mem (λ (a, b) (c, d). grind (arith, decide_eq a c, decide_eq b d)) (x, y) pairs)
 
 -- some leaf of the list is not done
 abbrev pub IsUnfinished : List ℕ → List ℕ → Type 0
@@ -224,16 +222,9 @@ IsUnfinished run list = (x : ℕ) × (x ∈ list) × ¬ (x ∈ run)
 decide_unfinished : (run list : List ℕ) → Decided (IsUnfinished run list)
 decide_unfinished run list = decide_some (λ x. ¬ (x ∈ run)) (λ x. decide_not (decide_in x run)) list
 
--- a leaf of the list is not done, or all are
-pub some_or_all : (run list : List ℕ) → IsUnfinished run list ⊎ ((x : ℕ) → x ∈ list → x ∈ run)
-some_or_all run list = ⊎_elim inl (λ n. inr (λ x m. grind (arith, decide_in x run, λ (no : ¬ (x ∈ run)). n (x, m, no)))) (decide_unfinished run list)
-
 -- the part is begun and unfinished
 abbrev IsCaught : List ℕ → Process → Type 0
 IsCaught run part = ((x : ℕ) × (x ∈ leaves part) × (x ∈ run)) × IsUnfinished run (leaves part)
-
-decide_caught : (run : List ℕ) (part : Process) → Decided (IsCaught run part)
-decide_caught run part = decide_both (decide_some (λ x. x ∈ run) (λ x. decide_in x run) (leaves part)) (decide_unfinished run (leaves part))
 
 -- items of one part, each unfinished one of which waits for another
 pub record IsTangle (q : Process) (pairs : List (ℕ × ℕ)) (run : List ℕ) (part : Process) : Type 0 where
@@ -297,7 +288,9 @@ module _ (q : Process) (pairs : List (ℕ × ℕ)) (w : IsOrdered q pairs) (run 
               (λ e. whole_open other (subst (IsWithin q) (sym e) (λ x i. i))) (λ i. begun_open other i c.0.0 (k c.0.0 c.0.1) c.0.2) o;
         },
       ))
-      (least_in (IsCaught run) IsWithin (decide_caught run) (λ part x k. k) (λ a b c h k x i. k x (h x i)) (isolated_parts q) caught_nested)
+      (least_in (IsCaught run) IsWithin
+      (λ part. decide_both (decide_some (λ x. x ∈ run) (λ x. decide_in x run) (leaves part)) (decide_unfinished run (leaves part)))
+      (λ part x k. k) (λ a b c h k x i. k x (h x i)) (isolated_parts q) caught_nested)
 
   -- a leaf of the region that is not done, and not of the item, is directly before the item
   abbrev IsBlocked : Process → List ℕ → Type 0
@@ -427,8 +420,8 @@ module _ (q : Process) (pairs : List (ℕ × ℕ)) (w : IsOrdered q pairs) where
       (λ r. ⊎_elim (λ m. next r.0 r.1 (split_at r.0 left m)) (λ m. absurd (r.1.not_done m)) (all r.0 r.1.leaf))
       (λ r. inr (circle_of_tangle q pairs run r.0 r.1))
       (goes_on q pairs w run h u))
-      (λ f. inl (run, (h, f), ([], sym (append-nil run))))
-      (some_or_all run (leaves q))
+      (λ n. inl (run, (h, λ x m. grind (arith, decide_in x run, λ (no : ¬ (x ∈ run)). n (x, m, no))), ([], sym (append-nil run))))
+      (decide_unfinished run (leaves q))
     where
       next : (n : ℕ) → IsReady q pairs (λ x. x ∈ run) n → (front back : List ℕ) × (left ≡ front ++ n ∷ back) → GoesOnOrCircle run
       next n r (front, back, e) =

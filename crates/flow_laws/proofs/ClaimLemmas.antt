@@ -76,10 +76,6 @@ not_of_other : (epoch : ℕ) (claim : Claim) → claim.epoch ≢ epoch → is_of
 not_of_other epoch claim n =
     ap (λ b. not claim.answered && b) (false_from_ne_true (claim.epoch == epoch) (λ e. n (eqb-true claim.epoch epoch e))) ∙ and_false (not claim.answered)
 
--- a claim of the present epoch or of an older one is not of the next
-pub is_not_of_later : (epoch : ℕ) (claim : Claim) → claim.epoch ≤ epoch → is_of (epoch + 1) claim ≡ false
-is_not_of_later epoch claim h = not_of_other (epoch + 1) claim (omega arith)
-
 pub lapsed_is_not_current : (epoch : ℕ) (claim : Claim) → (not claim.answered && nat_lt claim.epoch epoch) ≡ true → is_of epoch claim ≡ false
 lapsed_is_not_current epoch claim h =
     not_of_other epoch claim (λ e. omega (arith, e, ltb-true claim.epoch epoch (and_parts (not claim.answered) (nat_lt claim.epoch epoch) h).1))
@@ -106,11 +102,8 @@ told_true (inr n) = (λ e. absurd (true≢false (sym e)), λ q. absurd (n q))
 pub can_follow : (w : Schema) (s : RunState) (list : List ℕ) → IsTrue (can_all_follow w s list) ↔ MayAllFollow w s list
 can_follow w s list = told_true (decide_all_follow w s.journal s.bans list)
 
-pub same_tests : {P : Type 0} (a b : Bool) → IsTrue a ↔ P → (IsTrue b ↔ P) ↔ (a ≡ b)
-same_tests a b h = grind (arith, h, cases_Bool a, cases_Bool b)
-
 pub answers_are_the_test : AnswersAreTheTest
-answers_are_the_test w s list answer = same_tests (can_all_follow w s list) answer (can_follow w s list)
+answers_are_the_test w s list answer = grind (arith, can_follow w s list, cases_Bool (can_all_follow w s list), cases_Bool answer)
 
 -- whether the claim is spared
 abbrev pub is_spared : Schema → RunState → List ℕ → Claim → Bool
@@ -147,7 +140,8 @@ spared_are_current w s before [] h = refl
 spared_are_current w s before (x ∷ xs) (h, t) =
     let fact = spared_are_current w s (before ++ x.leaf ∷ []) xs t in
     let other_fact = and_parts (not x.answered) (x.epoch == s.epoch) in
-    grind (arith, spared_told w s before x, eq-eqb (s.epoch + 1) (s.epoch + 1) refl, is_not_of_later s.epoch x h, spared_are_current w s before xs t, cases_Bool (is_spared w s before x))
+    let older = not_of_other (s.epoch + 1) x (omega (arith, h)) in
+    grind (arith, spared_told w s before x, eq-eqb (s.epoch + 1) (s.epoch + 1) refl, spared_are_current w s before xs t, cases_Bool (is_spared w s before x))
 
 -- in two pieces: the second is looked at after what is spared of the first
 pub spared-append : SparedPieceByPiece

@@ -69,10 +69,6 @@ pub blocks_with_both : (g : Process) (m n : ℕ) → AreTogether g m n →
     (bs : List (List ℕ)) × Blocks g bs × (m ∈ joined bs) × (n ∈ joined bs)
 blocks_with_both g m n h = let (bs, b, all) = may_do_two g m n h in (bs, b, all.0, all.1.0)
 
-pub together_differ : (g : Process) → AreDistinct (leaves g) → (m n : ℕ) → AreTogether g m n → m ≢ n
-together_differ g d m n h e =
-    not_before_itself n (leaves g) d (subst (λ x. StandsBefore x n (leaves g)) e (together_before (case_of g) m n h))
-
 -- Leaves of one execution
 
 -- of two leaves of an execution the one is together with the other, on its left or its right
@@ -99,8 +95,9 @@ pub events_apart : (w : Schema) → IsNumbered w.goal (length w.labels) → HasU
     (x y e : ℕ) → AreTogether w.goal x y → event_at w.labels x ≡ Some e → event_at w.labels y ≢ Some e
 events_apart w numbered unique x y e h i j =
     let (bs, b, mx, my) = blocks_with_both w.goal x y h in
-    together_differ w.goal (subst AreDistinct (sym numbered) (distinct-numbers_from 0 (length w.labels))) x y h
-    (same_source (event_at w.labels) (joined bs) (unique (joined bs) (bs, b, refl)) x y e mx my i j)
+    let same = same_source (event_at w.labels) (joined bs) (unique (joined bs) (bs, b, refl)) x y e mx my i j in
+    not_before_itself y (leaves w.goal) (subst AreDistinct (sym numbered) (distinct-numbers_from 0 (length w.labels)))
+    (subst (λ z. StandsBefore z y (leaves w.goal)) same (together_before (case_of w.goal) x y h))
 
 pub unique_events : (w : Schema) → IsNumbered w.goal (length w.labels) →
     ((x y e : ℕ) → AreTogether w.goal x y → event_at w.labels x ≡ Some e → event_at w.labels y ≢ Some e) → HasUniqueEvents w

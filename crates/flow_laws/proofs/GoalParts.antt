@@ -28,7 +28,6 @@ pub record AreHalves (a b g : Process) : Type 0 where
   pub items_are : IsJoined (items_of g) (items_of a) (items_of b)
   pub size_is : goal_size g ≡ suc (goal_size a + goal_size b)
   pub together : (x y : ℕ) → AreTogether g x y → ((x ∈ leaves a) × (y ∈ leaves b)) ⊎ (AreTogether a x y ⊎ AreTogether b x y)
-  pub in_sequence : (x y : ℕ) → InSequence g x y → ((x ∈ leaves a) × (y ∈ leaves b)) ⊎ (InSequence a x y ⊎ InSequence b x y)
 
 pub data Case : Process → Type 0 where
   empty : Case Empty
@@ -42,15 +41,12 @@ whole = record { is = refl }
 pub case_of : (g : Process) → Case g
 case_of Empty = empty
 case_of (Task n) = task
-case_of (Sequence a b) = halves
-    (record { leaves_are = whole; parts_are = whole; items_are = whole; size_is = refl; together = λ x y. grind arith; in_sequence = λ x y. grind arith })
-    (case_of a) (case_of b)
-case_of (Parallel a b) = halves
-    (record { leaves_are = whole; parts_are = whole; items_are = whole; size_is = refl; together = λ x y. grind arith; in_sequence = λ x y. inr })
-    (case_of a) (case_of b)
-case_of (Choice a b) = halves
-    (record { leaves_are = whole; parts_are = whole; items_are = whole; size_is = refl; together = λ x y. inr; in_sequence = λ x y. inr })
-    (case_of a) (case_of b)
+case_of (Sequence a b) =
+    halves (record { leaves_are = whole; parts_are = whole; items_are = whole; size_is = refl; together = λ x y. grind arith }) (case_of a) (case_of b)
+case_of (Parallel a b) =
+    halves (record { leaves_are = whole; parts_are = whole; items_are = whole; size_is = refl; together = λ x y. grind arith }) (case_of a) (case_of b)
+case_of (Choice a b) =
+    halves (record { leaves_are = whole; parts_are = whole; items_are = whole; size_is = refl; together = λ x y. inr }) (case_of a) (case_of b)
 case_of (Isolated a) = isolated (case_of a)
 
 -- a member of the whole is one of a half, and a member of a half one of the whole
@@ -65,32 +61,32 @@ in_right x {a} {b} e m = subst (λ l. x ∈ l) (sym e.is) (mem_append_right x a 
 
 -- Order
 
--- both stand in the halves, across them or in one
-before_by_halves : {P Q : Type 0} (a b : Process) (x y : ℕ) → ((x ∈ leaves a) × (y ∈ leaves b)) ⊎ (P ⊎ Q) →
-    (P → StandsBefore x y (leaves a)) → (Q → StandsBefore x y (leaves b)) → StandsBefore x y (leaves a ++ leaves b)
-before_by_halves a b x y h in_a in_b = ⊎_elim (λ (m, k). before_across x y (leaves a) (leaves b) m k)
-    (⊎_elim (λ k. before_left x y (leaves a) (leaves b) (in_a k)) (λ k. before_right x y (leaves a) (leaves b) (in_b k))) h
-
-sequence_before : {g : Process} → Case g → (x y : ℕ) → InSequence g x y → StandsBefore x y (leaves g)
-sequence_before (halves {a = u} {b = v} r a b) x y h = subst (StandsBefore x y) (sym r.leaves_are.is)
-    (before_by_halves u v x y (r.in_sequence x y h) (sequence_before a x y) (sequence_before b x y))
-sequence_before (isolated a) x y h = sequence_before a x y h
-sequence_before none x y h = absurd h
-
 pub together_before : {g : Process} → Case g → (x y : ℕ) → AreTogether g x y → StandsBefore x y (leaves g)
 together_before (halves {a = u} {b = v} r a b) x y h = subst (StandsBefore x y) (sym r.leaves_are.is)
-    (before_by_halves u v x y (r.together x y h) (together_before a x y) (together_before b x y))
+    (⊎_elim (λ (m, k). before_across x y (leaves u) (leaves v) m k)
+    (⊎_elim (λ k. before_left x y (leaves u) (leaves v) (together_before a x y k)) (λ k. before_right x y (leaves u) (leaves v) (together_before b x y k)))
+    (r.together x y h))
 together_before (isolated a) x y h = together_before a x y h
 together_before none x y h = absurd h
 
+sequence_together : (g : Process) (x y : ℕ) → InSequence g x y → AreTogether g x y
+sequence_together (Sequence a b) x y h = grind (arith, h, sequence_together a x y, sequence_together b x y)
+sequence_together (Parallel a b) x y h = grind (arith, h, sequence_together a x y, sequence_together b x y)
+sequence_together (Choice a b) x y h = grind (arith, h, sequence_together a x y, sequence_together b x y)
+sequence_together (Isolated a) x y h = sequence_together a x y h
+sequence_together leaf x y h = absurd h
+
+sequence_before : (g : Process) (x y : ℕ) → InSequence g x y → StandsBefore x y (leaves g)
+sequence_before g x y h = together_before (case_of g) x y (sequence_together g x y h)
+
 pub sequence_first : (g : Process) (x y : ℕ) → InSequence g x y → x ∈ leaves g
-sequence_first g x y h = (before_members x y (leaves g) (sequence_before (case_of g) x y h)).0
+sequence_first g x y h = (before_members x y (leaves g) (sequence_before g x y h)).0
 
 pub sequence_second : (g : Process) (x y : ℕ) → InSequence g x y → y ∈ leaves g
-sequence_second g x y h = (before_members x y (leaves g) (sequence_before (case_of g) x y h)).1
+sequence_second g x y h = (before_members x y (leaves g) (sequence_before g x y h)).1
 
 pub sequence_other : (g : Process) (x : ℕ) → AreDistinct (leaves g) → ¬ (InSequence g x x)
-sequence_other g x d h = not_before_itself x (leaves g) d (sequence_before (case_of g) x x h)
+sequence_other g x d h = not_before_itself x (leaves g) d (sequence_before g x x h)
 
 -- Parts
 
@@ -102,45 +98,39 @@ regions q = q ∷ isolated_parts q
 abbrev pub IsWithin : Process → Process → Type 0
 IsWithin a b = (x : ℕ) → x ∈ leaves a → x ∈ leaves b
 
--- P of a goal and each of its regions, where it holds of a goal and itself and goes on from a half and from a body
-record GoesUp (P : Process → Process → Type 0) : Type 0 where
-  itself : (g : Process) → P g g
-  half : (a b g part : Process) → AreHalves a b g → P a part ⊎ P b part → P g part
-  body : (a part : Process) → P a part → P (Isolated a) part
+-- what a region of a goal is
+record IsRegion (g part : Process) : Type 0 where
+  within : IsWithin part g
+  parts : (inner : Process) → inner ∈ isolated_parts part → inner ∈ isolated_parts g
+  distinct : AreDistinct (leaves g) → AreDistinct (leaves part)
 
-of_regions : (P : Process → Process → Type 0) → GoesUp P → {g : Process} → Case g → (part : Process) → part ∈ regions g → P g part
-of_regions P up {g} c part (inl e) = subst (P g) (sym e) (up.itself g)
-of_regions P up (halves {a = u} {b = v} {g = g} r a b) part (inr m) = up.half u v g part r
-    (⊎_elim (λ k. inl (of_regions P up a part (inr k))) (λ k. inr (of_regions P up b part (inr k))) (of_halves part r.parts_are m))
-of_regions P up (isolated {a = a} c) part (inr m) = up.body a part (of_regions P up c part m)
-of_regions P up none part (inr m) = absurd m
+is_region : {g : Process} → Case g → (part : Process) → part ∈ regions g → IsRegion g part
+is_region {g} c part (inl e) = subst (IsRegion g) (sym e) (record { within = λ x m. m; parts = λ inner m. m; distinct = λ d. d })
+is_region (halves {a = u} {b = v} {g = g} r a b) part (inr m) =
+    of_half (⊎_elim (λ k. inl (is_region a part (inr k))) (λ k. inr (is_region b part (inr k))) (of_halves part r.parts_are m))
+  where
+    of_half : IsRegion u part ⊎ IsRegion v part → IsRegion g part
+    of_half h = record {
+      within = λ x l. ⊎_elim (λ k. in_left x r.leaves_are (k.within x l)) (λ k. in_right x r.leaves_are (k.within x l)) h;
+      parts = λ inner l. ⊎_elim (λ k. in_left inner r.parts_are (k.parts inner l)) (λ k. in_right inner r.parts_are (k.parts inner l)) h;
+      distinct = λ d. let (du, dv, _) = distinct_parts (leaves u) (leaves v) (subst AreDistinct r.leaves_are.is d) in ⊎_elim (λ k. k.distinct du) (λ k. k.distinct dv) h;
+    }
+is_region (isolated c) part (inr m) = let r = is_region c part m in record { within = r.within; parts = λ inner l. inr (r.parts inner l); distinct = r.distinct }
+is_region none part (inr m) = absurd m
 
 -- the leaves of a region are leaves of the goal
 pub region_within : (q part : Process) → part ∈ regions q → IsWithin part q
-region_within q = of_regions (λ g part. IsWithin part g) (record {
-  itself = λ g x m. m;
-  half = λ a b g part r h x m. ⊎_elim (λ k. in_left x r.leaves_are (k x m)) (λ k. in_right x r.leaves_are (k x m)) h;
-  body = λ a part h. h;
-}) (case_of q)
+region_within q part m = (is_region (case_of q) part m).within
 
 pub part_within : (q part : Process) (x : ℕ) → part ∈ isolated_parts q → x ∈ leaves part → x ∈ leaves q
 part_within q part x m = region_within q part (inr m) x
 
 -- a part of a region is a part of the goal
 pub part_of_region : (q part inner : Process) → part ∈ regions q → inner ∈ isolated_parts part → inner ∈ isolated_parts q
-part_of_region q part inner = of_regions (λ g part. inner ∈ isolated_parts part → inner ∈ isolated_parts g) (record {
-  itself = λ g m. m;
-  half = λ a b g part r h m. ⊎_elim (λ k. in_left inner r.parts_are (k m)) (λ k. in_right inner r.parts_are (k m)) h;
-  body = λ a part h m. inr (h m);
-}) (case_of q) part
+part_of_region q part inner m = (is_region (case_of q) part m).parts inner
 
 pub region_distinct : (q part : Process) → AreDistinct (leaves q) → part ∈ regions q → AreDistinct (leaves part)
-region_distinct q part d m = of_regions (λ g part. AreDistinct (leaves g) → AreDistinct (leaves part)) (record {
-  itself = λ g d. d;
-  half = λ a b g part r h d. let (da, db, _) = distinct_parts (leaves a) (leaves b) (subst AreDistinct r.leaves_are.is d) in
-      ⊎_elim (λ k. k da) (λ k. k db) h;
-  body = λ a part h. h;
-}) (case_of q) part m d
+region_distinct q part d m = (is_region (case_of q) part m).distinct d
 
 -- of two regions with a common leaf, one lies in the other
 pub nested : {q : Process} → Case q → (one two : Process) (n : ℕ) → AreDistinct (leaves q) → one ∈ regions q → two ∈ regions q →

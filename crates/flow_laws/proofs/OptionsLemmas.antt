@@ -20,10 +20,6 @@ option_parts w o m =
     let (q, mq, mo) = of_flat_map (options_in w) o (resolutions w.goal) m in
     let (way, mw, e) = of_map _ o (ways_in w q) mo in rw e (mq, mw)
 
-pub mem-options : (w : Schema) (q : Process) (way : List (ℕ × ℕ)) → q ∈ resolutions w.goal → way ∈ ways_in w q →
-    record { resolution = q; order = way } ∈ options w
-mem-options w q way mq mw = mem-flat_map (options_in w) q _ (resolutions w.goal) mq (mem-map _ way (ways_in w q) mw)
-
 pub distinct_leaves : (w : Schema) → IsWellFormed w → AreDistinct (leaves w.goal)
 distinct_leaves w f = subst AreDistinct (sym f.numbered) (distinct-numbers_from 0 (length w.labels))
 
@@ -67,7 +63,7 @@ option_of_good w f t ((bs, h, e), met) =
     let (q, m, k) = blocks_of_a_resolution w.goal bs h in
     let (way, mw, s) = (constraint_by_ways (all_of w.rules) w.labels t (leaves q) (has_its_leaves w f q m t (bs, k, e))).0
     ((all_of_is w.rules (events_of w.labels t)).1 met) in
-    (record { resolution = q; order = way }, mem-options w q way m mw, ((bs, k, e), s))
+    (record { resolution = q; order = way }, mem-flat_map (options_in w) q _ (resolutions w.goal) m (mem-map _ way (ways_in w q) mw), ((bs, k, e), s))
 
 pub option_trace_is_good : (w : Schema) → IsWellFormed w → (t : List ℕ) (o : ChoiceOption) → o ∈ options w → OptionTrace o t → IsGood w t
 option_trace_is_good w f t o m (h, s) =

@@ -1,14 +1,14 @@
 -- The executions of a goal without choices, as orders of its leaves.
-use Rattle.std.proofs.Common.{◌≡◌, ℕ, ◌↔◌, List, [], ◌∷◌, ◌++◌, ◌⊎◌, refl, sym, ap, ap₂, ◌∙◌, subst, subst₂, inl, inr, ⊎_elim, append_assoc, append-nil, arith}
+use Rattle.std.proofs.Common.{◌≡◌, ℕ, ◌↔◌, List, [], ◌∷◌, ◌++◌, ◌⊎◌, refl, sym, ap₂, ◌∙◌, subst, subst₂, inl, inr, ⊎_elim, append_assoc, append-nil, arith}
 use Rattle.flow_model.specs.Lists.{◌∈◌, AreDistinct, StandsBefore, joined}
 use Rattle.flow_model.specs.Process.{Process, Empty, Task, Sequence, Parallel, Choice, Isolated, leaves, IsChoiceFree}
 use Rattle.flow_model.specs.Trace.{Shuffle, Blocks, Trace, as_one}
 use Rattle.flow_model.specs.Ready.{InSequence, isolated_parts}
 use Rattle.flow_laws.proofs.Members.{only_one, no_members, distinct_left, distinct_right, distinct_apart, before_members, before_across, before_right, before_or_after, not_before_itself, not_both_ways, mem_append_left, mem_append_right, mem-append}
 use Rattle.flow_laws.proofs.MadeLists.{joined-append}
-use Rattle.flow_laws.proofs.Shuffles.{shuffle-joined, shuffle_swap, of_shuffle, mem_shuffle_left, before_in_shuffle, distinct_in_shuffle, shuffle_of, front_first, shuffle_nothing, AreUnbroken, shuffle_blocks}
+use Rattle.flow_laws.proofs.Shuffles.{shuffle-append, shuffle-joined, shuffle_swap, of_shuffle, mem_shuffle_left, before_in_shuffle, distinct_in_shuffle, shuffle_of, front_first, shuffle_nothing, AreUnbroken, shuffle_blocks}
 use Rattle.flow_laws.proofs.GoalParts.{sequence_first, sequence_second, part_within}
-use Rattle.flow_laws.proofs.TraceLeaves.{joined-as_one, beside, leaf_of_blocks, leaf_in_blocks, distinct_trace, leaf_of_trace, leaf_in_trace}
+use Rattle.flow_laws.proofs.TraceLeaves.{joined-as_one, leaf_of_blocks, leaf_in_blocks, distinct_trace, leaf_of_trace, leaf_in_trace}
 
 -- the list holds each leaf once, in the goal's sequence, and nothing stands between two leaves of an isolated part
 pub record IsOrdering (g : Process) (t : List ℕ) : Type 0 where
@@ -20,24 +20,6 @@ pub record IsOrdering (g : Process) (t : List ℕ) : Type 0 where
       StandsBefore x y t → StandsBefore y z t → ⊥
 
 -- Executions are orderings
-
--- what stands in the goal's sequence stands so in each execution
-abbrev pub KeepsSequence : Process → Type 0
-KeepsSequence g = (bs : List (List ℕ)) → Blocks g bs → (x y : ℕ) → InSequence g x y → StandsBefore x y (joined bs)
-
-halves_keep : (a b : Process) → KeepsSequence a → KeepsSequence b → KeepsSequence (Parallel a b)
-halves_keep a b in_a in_b bs (u, v, ha, hb, s) x y k =
-    ⊎_elim (λ i. before_in_shuffle (shuffle-joined s) x y (in_a u ha x y i)) (λ i. before_in_shuffle (shuffle_swap (shuffle-joined s)) x y (in_b v hb x y i)) k
-
-pub before_in_blocks : (g : Process) → IsChoiceFree g → KeepsSequence g
-before_in_blocks (Sequence a b) (fa, fb) bs (u, v, ha, hb, e) x y k =
-    let fact = λ (i : x ∈ leaves a) (j : y ∈ leaves b). before_across x y (joined u) (joined v) (leaf_in_blocks a fa u ha x i) (leaf_in_blocks b fb v hb y j) in
-    grind (arith, k, e, joined-append u v, halves_keep a b (before_in_blocks a fa) (before_in_blocks b fb) bs (beside a b bs (u, v, ha, hb, e)) x y)
-before_in_blocks (Parallel a b) (fa, fb) bs h x y k = halves_keep a b (before_in_blocks a fa) (before_in_blocks b fb) bs h x y k
-before_in_blocks (Choice a b) f bs h x y k = absurd f
-before_in_blocks (Isolated a) f bs (u, h, e) x y k =
-    subst (StandsBefore x y) (sym (ap joined e ∙ joined-as_one u)) (before_in_blocks a f u h x y k)
-before_in_blocks leaf f bs h x y k = absurd k
 
 -- the list has that piece
 abbrev HasPiece : List ℕ → List ℕ → Type 0
@@ -53,59 +35,14 @@ piece_of_joined (b ∷ bs) block piece (inr m) h =
 abbrev StandsIn : Process → List (List ℕ) → Type 0
 StandsIn part bs = (block piece : List ℕ) × (block ∈ bs) × HasPiece piece block × ((x : ℕ) → (x ∈ piece) ↔ (x ∈ leaves part))
 
--- each isolated part that has a leaf stands in one block
-abbrev KeepsTogether : Process → Type 0
-KeepsTogether g = (bs : List (List ℕ)) → Blocks g bs → (part : Process) → part ∈ isolated_parts g → (n : ℕ) → n ∈ leaves part → StandsIn part bs
-
-halves_together : (a b : Process) → KeepsTogether a → KeepsTogether b → KeepsTogether (Parallel a b)
-halves_together a b in_a in_b bs (x, y, ha, hb, s) part m n k = ⊎_elim
-    (λ l. let (block, piece, i, r, same) = in_a x ha part l n k in (block, piece, mem_shuffle_left s block i, r, same))
-    (λ l. let (block, piece, i, r, same) = in_b y hb part l n k in (block, piece, mem_shuffle_left (shuffle_swap s) block i, r, same))
-    (mem-append part (isolated_parts a) (isolated_parts b) m)
-
 whole_block : (x : List (List ℕ)) (n : ℕ) → n ∈ joined x → joined x ∈ as_one x
 whole_block [] n m = absurd m
 whole_block (b ∷ x) n m = inl refl
 
-part_in_block : (g : Process) → IsChoiceFree g → KeepsTogether g
-part_in_block (Sequence a b) (fa, fb) bs h part m n k =
-    halves_together a b (part_in_block a fa) (part_in_block b fb) bs (beside a b bs h) part m n k
-part_in_block (Parallel a b) (fa, fb) bs h part m n k = halves_together a b (part_in_block a fa) (part_in_block b fb) bs h part m n k
-part_in_block (Choice a b) f bs h part m n k = absurd f
-part_in_block (Isolated a) f bs (x, h, e) part (inl i) n k =
-    let all = leaf_in_blocks a f x h in
-    rw (e, i) (joined x, joined x, whole_block x n (all n (rw (← i) k)), ([], [], sym (append-nil (joined x))), λ y. (leaf_of_blocks a x h y, all y))
-part_in_block (Isolated a) f bs (x, h, e) part (inr i) n k =
-    let (block, piece, l, r, same) = part_in_block a f x h part i n k in
-    let there = whole_block x n (leaf_in_blocks a f x h n (part_within a part n i k)) in
-    rw e (joined x, piece, there, piece_of_joined x block piece l r, same)
-part_in_block leaf f bs h part m n k = absurd m
-
--- nothing stands between two members of a piece
-piece_unbroken : (list piece : List ℕ) → AreDistinct list → HasPiece piece list → (x y z : ℕ) → x ∈ piece → ¬ (y ∈ piece) → z ∈ piece →
-    StandsBefore x y list → StandsBefore y z list → ⊥
-piece_unbroken list piece d (front, back, e) x y z k l p b c =
-    let from = λ (u v : ℕ) (h : StandsBefore u v (front ++ (piece ++ back))). subst (StandsBefore u v) (sym e) h in
-    let fact = λ (m : y ∈ front). not_both_ways x y list d b (from y x (before_across y x front (piece ++ back) m (mem_append_left x piece back k))) in
-    let other_fact = λ (m : y ∈ back). not_both_ways y z list d c (from z y (before_right z y front (piece ++ back) (before_across z y piece back p m))) in
-    grind (arith, l, mem-append y piece back, mem-append y front (piece ++ back) (subst (λ w. y ∈ w) e (before_members x y list b).1))
-
-pub ordering_of_trace : (t : List ℕ) (g : Process) → IsChoiceFree g → AreDistinct (leaves g) → Trace g t → IsOrdering g t
-ordering_of_trace t g f d (bs, h, e) = record {
-  leaf = leaf_of_trace g t (bs, h, e);
-  all = leaf_in_trace g f t (bs, h, e);
-  distinct = once;
-  before = λ x y k. subst (StandsBefore x y) (sym e) (before_in_blocks g f bs h x y k);
-  together = λ part m x y z k l p b c.
-      let (block, piece, i, r, same) = part_in_block g f bs h part m x k in
-      piece_unbroken t piece once (subst (HasPiece piece) (sym e) (piece_of_joined bs block piece i r))
-      x y z ((same x).1 k) (λ q. l ((same y).0 q)) ((same z).1 p) b c;
-}
-  where
-    once : AreDistinct t
-    once = distinct_trace g d t (bs, h, e)
-
--- Orderings are executions
+as_one_is : (x : List (List ℕ)) (block : List ℕ) → block ∈ as_one x → block ≡ joined x
+as_one_is [] block m = absurd m
+as_one_is (b ∷ x) block (inl e) = e
+as_one_is (b ∷ x) block (inr m) = absurd m
 
 -- the one goal stands in the other
 record IsHalf (a g : Process) : Type 0 where
@@ -135,29 +72,81 @@ IsBlockOf g block =
 block_of_half : (a g : Process) (block : List ℕ) → IsHalf a g → IsBlockOf a block → IsBlockOf g block
 block_of_half a g block half = ⊎_elim inl (λ (part, m, same). inr (part, half.part part m, same))
 
-abbrev HasBlocks : Process → Type 0
-HasBlocks g = (bs : List (List ℕ)) → Blocks g bs → (block : List ℕ) → block ∈ bs → IsBlockOf g block
+-- what stands in the goal's sequence stands so in its blocks, each isolated part that has a leaf stands in one of them, and
+-- each is a leaf or a part
+record IsLaid (g : Process) (bs : List (List ℕ)) : Type 0 where
+  before : (x y : ℕ) → InSequence g x y → StandsBefore x y (joined bs)
+  together : (part : Process) → part ∈ isolated_parts g → (n : ℕ) → n ∈ leaves part → StandsIn part bs
+  kind : (block : List ℕ) → block ∈ bs → IsBlockOf g block
 
-blocks_of_halves : (a b : Process) → HasBlocks a → HasBlocks b → HasBlocks (Parallel a b)
-blocks_of_halves a b of_a of_b bs (x, y, ha, hb, s) block m = ⊎_elim
-    (λ k. block_of_half a (Parallel a b) block (left_half a b) (of_a x ha block k))
-    (λ k. block_of_half b (Parallel a b) block (right_half a b) (of_b y hb block k))
-    (of_shuffle s block m)
+halves_laid : (a b : Process) (u v bs : List (List ℕ)) → IsLaid a u → IsLaid b v → Shuffle u v bs → IsLaid (Parallel a b) bs
+halves_laid a b u v bs p q s = record {
+  before = λ x y. ⊎_elim (λ k. before_in_shuffle (shuffle-joined s) x y (p.before x y k)) (λ k. before_in_shuffle (shuffle_swap (shuffle-joined s)) x y (q.before x y k));
+  together = λ part m n k. ⊎_elim
+      (λ l. let (block, piece, i, r, same) = p.together part l n k in (block, piece, mem_shuffle_left s block i, r, same))
+      (λ l. let (block, piece, i, r, same) = q.together part l n k in (block, piece, mem_shuffle_left (shuffle_swap s) block i, r, same))
+      (mem-append part (isolated_parts a) (isolated_parts b) m);
+  kind = λ block m. ⊎_elim (λ k. block_of_half a (Parallel a b) block (left_half a b) (p.kind block k))
+      (λ k. block_of_half b (Parallel a b) block (right_half a b) (q.kind block k)) (of_shuffle s block m);
+}
 
-as_one_is : (x : List (List ℕ)) (block : List ℕ) → block ∈ as_one x → block ≡ joined x
-as_one_is [] block m = absurd m
-as_one_is (b ∷ x) block (inl e) = e
-as_one_is (b ∷ x) block (inr m) = absurd m
+laid : (g : Process) → IsChoiceFree g → (bs : List (List ℕ)) → Blocks g bs → IsLaid g bs
+laid Empty f bs h = subst (IsLaid Empty) (sym h) (record { before = λ x y k. absurd k; together = λ part m. absurd m; kind = λ block m. absurd m })
+laid (Task n) f bs h = subst (IsLaid (Task n)) (sym h)
+    (record { before = λ x y k. absurd k; together = λ part m. absurd m; kind = λ block m. inl (n, only_one block (n ∷ []) m) })
+laid (Sequence a b) (fa, fb) bs (u, v, ha, hb, e) =
+    let halves = halves_laid a b u v bs (laid a fa u ha) (laid b fb v hb) (subst (Shuffle u v) (sym e) (shuffle-append u v)) in
+    record {
+      before = λ x y k.
+          let fact = λ (i : x ∈ leaves a) (j : y ∈ leaves b). before_across x y (joined u) (joined v) (leaf_in_blocks a fa u ha x i) (leaf_in_blocks b fb v hb y j) in
+          grind (arith, k, e, joined-append u v, halves.before x y);
+      together = halves.together;
+      kind = halves.kind;
+    }
+laid (Parallel a b) (fa, fb) bs (u, v, ha, hb, s) = halves_laid a b u v bs (laid a fa u ha) (laid b fb v hb) s
+laid (Choice a b) f bs h = absurd f
+laid (Isolated a) f bs (x, h, e) =
+    let inner = laid a f x h in
+    let all = leaf_in_blocks a f x h in
+    subst (IsLaid (Isolated a)) (sym e) (record {
+      before = λ y z k. subst (StandsBefore y z) (sym (joined-as_one x)) (inner.before y z k);
+      together = λ part m n k. ⊎_elim
+          (λ i. rw i (joined x, joined x, whole_block x n (all n (rw (← i) k)), ([], [], sym (append-nil (joined x))), λ y. (leaf_of_blocks a x h y, all y)))
+          (λ i. let (block, piece, l, r, same) = inner.together part i n k in
+          (joined x, piece, whole_block x n (all n (part_within a part n i k)), piece_of_joined x block piece l r, same)) m;
+      kind = λ block m.
+          let is : block ≡ joined x = as_one_is x block m in
+          inr (a, inl refl, λ y. (λ k. leaf_of_blocks a x h y (subst (λ l. y ∈ l) is k), λ k. subst (λ l. y ∈ l) (sym is) (all y k)));
+    })
 
-block_kind : (g : Process) → IsChoiceFree g → HasBlocks g
-block_kind Empty f bs h block m = absurd (subst (λ l. block ∈ l) h m)
-block_kind (Task n) f bs h block m = inl (n, only_one block (n ∷ []) (subst (λ l. block ∈ l) h m))
-block_kind (Sequence a b) (fa, fb) bs h block m = blocks_of_halves a b (block_kind a fa) (block_kind b fb) bs (beside a b bs h) block m
-block_kind (Parallel a b) (fa, fb) bs h block m = blocks_of_halves a b (block_kind a fa) (block_kind b fb) bs h block m
-block_kind (Choice a b) f bs h block m = absurd f
-block_kind (Isolated a) f bs (x, h, e) block m =
-    let is : block ≡ joined x = as_one_is x block (subst (λ l. block ∈ l) e m) in
-    inr (a, inl refl, λ y. (λ k. leaf_of_blocks a x h y (subst (λ l. y ∈ l) is k), λ k. subst (λ l. y ∈ l) (sym is) (leaf_in_blocks a f x h y k)))
+-- nothing stands between two members of a piece
+piece_unbroken : (list piece : List ℕ) → AreDistinct list → HasPiece piece list → (x y z : ℕ) → x ∈ piece → ¬ (y ∈ piece) → z ∈ piece →
+    StandsBefore x y list → StandsBefore y z list → ⊥
+piece_unbroken list piece d (front, back, e) x y z k l p b c =
+    let from = λ (u v : ℕ) (h : StandsBefore u v (front ++ (piece ++ back))). subst (StandsBefore u v) (sym e) h in
+    let fact = λ (m : y ∈ front). not_both_ways x y list d b (from y x (before_across y x front (piece ++ back) m (mem_append_left x piece back k))) in
+    let other_fact = λ (m : y ∈ back). not_both_ways y z list d c (from z y (before_right z y front (piece ++ back) (before_across z y piece back p m))) in
+    grind (arith, l, mem-append y piece back, mem-append y front (piece ++ back) (subst (λ w. y ∈ w) e (before_members x y list b).1))
+
+pub ordering_of_trace : (t : List ℕ) (g : Process) → IsChoiceFree g → AreDistinct (leaves g) → Trace g t → IsOrdering g t
+ordering_of_trace t g f d (bs, h, e) = record {
+  leaf = leaf_of_trace g t (bs, h, e);
+  all = leaf_in_trace g f t (bs, h, e);
+  distinct = once;
+  before = λ x y k. subst (StandsBefore x y) (sym e) (is.before x y k);
+  together = λ part m x y z k l p b c.
+      let (block, piece, i, r, same) = is.together part m x k in
+      piece_unbroken t piece once (subst (HasPiece piece) (sym e) (piece_of_joined bs block piece i r))
+      x y z ((same x).1 k) (λ q. l ((same y).0 q)) ((same z).1 p) b c;
+}
+  where
+    once : AreDistinct t
+    once = distinct_trace g d t (bs, h, e)
+
+    is : IsLaid g bs
+    is = laid g f bs h
+
+-- Orderings are executions
 
 -- the members of a half, in their order
 half_ordering : (a g : Process) (u v t : List ℕ) → IsHalf a g → IsOrdering g t → Shuffle u v t → ((x : ℕ) → x ∈ u → x ∈ leaves a) →
@@ -185,17 +174,7 @@ half_unbroken a g bs other t f h half o others block m x y z k l p b c = ⊎_eli
     not_both_ways x y t o.distinct b (subst (λ u. StandsBefore y u t) (is z p ∙ sym (is x k)) c))
     (λ (part, i, same).
     o.together part (half.part part i) x y z ((same x).0 k) (λ j. others y l (part_within a part y i j)) ((same z).0 p) b c)
-    (block_kind a f bs h block m)
-
--- the ordering of a sequence as one of its halves beside one another
-ordering_beside : (a b : Process) (t : List ℕ) → IsOrdering (Sequence a b) t → IsOrdering (Parallel a b) t
-ordering_beside a b t o = record {
-  leaf = o.leaf;
-  all = o.all;
-  distinct = o.distinct;
-  before = λ x y k. o.before x y (⊎_elim (λ l. inl (inr l)) inr k);
-  together = o.together;
-}
+    ((laid a f bs h).kind block m)
 
 -- an ordering of two halves, by these
 halve : (a b : Process) (t : List ℕ) → AreDistinct (leaves (Parallel a b)) → IsOrdering (Parallel a b) t →
@@ -219,7 +198,14 @@ pub trace_of_ordering : (t : List ℕ) (g : Process) → IsChoiceFree g → AreD
 trace_of_ordering t Empty f d o = ([], refl, no_members t o.leaf)
 trace_of_ordering t (Task n) f d o = ((n ∷ []) ∷ [], refl, only_member n t o.distinct o.leaf (o.all n (inl refl)))
 trace_of_ordering t (Sequence a b) (fa, fb) d o =
-    let (u, v, s, in_a, in_b) = halve a b t d (ordering_beside a b t o) in
+    let beside_one_another : IsOrdering (Parallel a b) t = record {
+      leaf = o.leaf;
+      all = o.all;
+      distinct = o.distinct;
+      before = λ x y k. o.before x y (⊎_elim (λ l. inl (inr l)) inr k);
+      together = o.together;
+    } in
+    let (u, v, s, in_a, in_b) = halve a b t d beside_one_another in
     let (x, hx, ex) = trace_of_ordering u a fa (distinct_left (leaves a) (leaves b) d) in_a in
     let (y, hy, ey) = trace_of_ordering v b fb (distinct_right (leaves a) (leaves b) d) in_b in
     let (more, e, r) = front_first u [] v t (subst (λ l. Shuffle l v t) (sym (append-nil u)) s)

@@ -10,7 +10,7 @@ use Rattle.flow_laws.specs.WellFormed.{EachTwo, IsWellFormed}
 use Rattle.flow_laws.specs.Orders.{AreSideBySide, PairsSufficeForOrders, IsAlive, OrdersMayFollow, OrdersMayFollowOne}
 use Rattle.flow_laws.proofs.Members.{mem_here, each_member, each_parts, each-append, split_at, each_from_members, each_to, mem_append_left, mem_append_right, mem-append}
 use Rattle.flow_laws.proofs.MadeLists.{order_with_last, order_member, same_order, begins_front}
-use Rattle.flow_laws.proofs.ReadyRuns.{run_of, run_front, AreSame, as_well, run_after_journal, fronts_are_ready}
+use Rattle.flow_laws.proofs.ReadyRuns.{run_of, run_front, as_well, run_after_journal, fronts_are_ready}
 use Rattle.flow_laws.proofs.TraceLeaves.{leaf_of_trace, leaf_in_trace}
 use Rattle.flow_laws.proofs.OptionsLemmas.{option_is_ordered, option_trace_is_good}
 use Rattle.flow_laws.proofs.CircleOrTrace.{ready_runs_extend}
@@ -33,10 +33,6 @@ each_two_order R (y ∷ order) list (front, back, e, o) h =
       each_from_members (λ z. R y z × R z y) order (λ z m. each_member (λ u. R y u × R u y) (front ++ back) apart z (order_member z order (front ++ back) o m)),
       each_two_order R order (front ++ back) o rest,
     )
-
-pub each_two_at : {A : Type 0} (R : A → A → Type 0) (front : List A) (n : A) (back : List A) → EachTwo R (front ++ n ∷ back) → (x : A) → x ∈ front → R x n
-each_two_at R front n back h x m =
-    (each_member (λ z. R n z × R z n) (front ++ back) (each_two_out R front n back h).0 x (mem_append_left x front back m)).1
 
 -- ready leaves
 
@@ -76,12 +72,12 @@ module _ (q : Process) (pairs : List (ℕ × ℕ)) (Done : ℕ → Type 0) where
 
   pub orders_ready : (list : List ℕ) → AreSideBySide q pairs Done list → (order : List ℕ) → IsOrderOf order list → IsReadyRunAfter q pairs Done order
   orders_ready list s order o =
-      let two = each_two_order (λ x y. IsReady q pairs (DoneOr Done (x ∷ [])) y) order list o s.two in
+      let R : ℕ → ℕ → Type 0 = λ x y. IsReady q pairs (DoneOr Done (x ∷ [])) y in
       run_of q pairs Done order (λ front n back e.
       let there = order_member n order list o (subst (λ l. n ∈ l) (sym e) (mem_here n front back)) in
-      let two' = subst (EachTwo (λ x y. IsReady q pairs (DoneOr Done (x ∷ [])) y)) e two in
+      let others = (each_two_out R front n back (subst (EachTwo R) e (each_two_order R order list o s.two))).0 in
       ready_after_all front n (each_member (IsReady q pairs Done) list s.each n there)
-      (each_two_at (λ x y. IsReady q pairs (DoneOr Done (x ∷ [])) y) front n back two'))
+      (λ x m. (each_member (λ z. R n z × R z n) (front ++ back) others x (mem_append_left x front back m)).1))
 
 pub pairs_suffice_for_orders : PairsSufficeForOrders
 pairs_suffice_for_orders q pairs done list =
@@ -129,14 +125,10 @@ orders_may_follow w f s o m list = (
       (orders_ready o.resolution o.order (λ n. n ∈ s.journal) list h.1 order p),
 )
 
--- done, or the one leaf: done at the end of the journal
-pub done_or_one : (journal : List ℕ) (first : ℕ) → AreSame (DoneOr (λ n. n ∈ journal) (first ∷ [])) (λ n. n ∈ (journal ++ first ∷ []))
-done_or_one journal first n = grind (arith, mem_append_left n journal (first ∷ []), mem_append_right n journal (first ∷ []), mem-append n journal (first ∷ []))
-
 pub orders_may_follow_one : OrdersMayFollowOne
 orders_may_follow_one w f s o m first list =
-    let then = λ (order : List ℕ). as_well o.resolution o.order (DoneOr (λ n. n ∈ s.journal) (first ∷ []))
-    (λ n. n ∈ (s.journal ++ first ∷ [])) order (done_or_one s.journal first) in (
+    let then = λ (order : List ℕ). as_well o.resolution o.order (DoneOr (λ n. n ∈ s.journal) (first ∷ [])) (λ n. n ∈ (s.journal ++ first ∷ [])) order
+    (λ n. grind (arith, mem_append_left n s.journal (first ∷ []), mem_append_right n s.journal (first ∷ []), mem-append n s.journal (first ∷ []))) in (
       λ h. let (alive, (ready, after)) = alive_of_follow w f s o m (first ∷ list) (h list (same_order list)) in (
         alive,
         ready,

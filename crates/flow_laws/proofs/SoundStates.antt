@@ -122,10 +122,6 @@ taken_of_current w s h number current =
       on_leaf = leaf_of_claim_is s number claim e;
     }
 
-pub event_of_taken : (w : Schema) (s : RunState) → IsSound w s → (number : ℕ) → IsTaken s number → IsEventLeaf w (leaf_of_claim s number)
-event_of_taken w s h number taken =
-    rw taken.on_leaf (each_member (λ (claim : Claim). IsEventLeaf w claim.leaf) s.claims h.on_events taken.claim taken.given)
-
 -- The journal with one more leaf
 
 pub longer_bans : (journal : List ℕ) (leaf : ℕ) (bans : List (ℕ × ℕ)) → Each (λ ban. ban.0 ≤ length journal) bans →
@@ -178,11 +174,12 @@ pub kept_done : (w : Schema) (s : RunState) → IsSound w s → (claim : ℕ) �
 kept_done w s h claim current =
     let leaf = leaf_of_claim s claim in
     let taken = taken_of_current w s h claim current in
+    let event : IsEventLeaf w leaf = rw taken.on_leaf (each_member (λ (claim : Claim). IsEventLeaf w claim.leaf) s.claims h.on_events taken.claim taken.given) in
     let (o, m, follow) = h.extends in
     let next = λ (order : List ℕ) (p : IsOrderOf order (current_leaves (next_state w s (Done claim)))).
     follow_after w s o leaf (answer claim s.claims) order (follow (leaf ∷ order) (taken.front, taken.back, taken.whole, subst (IsOrderOf order) taken.left p)) in
     sound_with w (next_state w s (Done claim))
-    (runs-append w.labels (start_of w) s.journal (leaf ∷ []) h.runs (event_holds w (database w s) leaf (event_of_taken w s h claim taken), tt))
+    (runs-append w.labels (start_of w) s.journal (leaf ∷ []) h.runs (event_holds w (database w s) leaf event, tt))
     (longer_bans s.journal leaf s.bans h.bans) (answered_claims w s.epoch s.claims (sound_claims w s h) claim) (o, m, next)
 
 pub kept_failed : (w : Schema) (s : RunState) → IsSound w s → (claim : ℕ) → IsCurrent s claim → IsSound w (next_state w s (Failed claim Kept))

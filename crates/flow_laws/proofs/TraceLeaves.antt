@@ -27,80 +27,68 @@ some_blocks (Isolated a) = let (x, hx) = some_blocks a in (as_one x, (x, hx, ref
 
 -- Members of an execution
 
--- the leaves of an execution of two halves are those of executions of the halves, interleaved
-pub in_halves : (a b : Process) (bs : List (List ℕ)) → Blocks (Parallel a b) bs →
-    (x y : List (List ℕ)) × Blocks a x × Blocks b y × Shuffle (joined x) (joined y) (joined bs)
-in_halves a b bs (x, y, ha, hb, s) = (x, y, ha, hb, shuffle-joined s)
+no_shuffle : {a b c : List (List ℕ)} → Shuffle a b c → a ≡ [] → b ≡ [] → c ≡ []
+no_shuffle both_end e k = refl
+no_shuffle (from_left s) e k = cc
+no_shuffle (from_right s) e k = cc
+
+-- of blocks whose leaves are to be these: each leaf that is done is one of them, each of them is done where no choice is
+-- left, none is done twice where none stands twice, and where none is done there is no block
+record AreDone (is_choice_free : Type 0) (list : List ℕ) (bs : List (List ℕ)) : Type 0 where
+  of_goal : (n : ℕ) → n ∈ joined bs → n ∈ list
+  all : is_choice_free → (n : ℕ) → n ∈ list → n ∈ joined bs
+  once : AreDistinct list → AreDistinct (joined bs)
+  none : ((n : ℕ) → ¬ (n ∈ joined bs)) → bs ≡ []
+
+halves_done : (P Q : Type 0) (a b : List ℕ) (x y bs : List (List ℕ)) → AreDone P a x → AreDone Q b y → Shuffle x y bs → AreDone (P × Q) (a ++ b) bs
+halves_done P Q a b x y bs p q t = let s = shuffle-joined t in record {
+  of_goal = λ n m. mem_by_halves n a b (p.of_goal n) (q.of_goal n) (of_shuffle s n m);
+  all = λ (f, g) n m. mem_shuffle s n (p.all f n) (q.all g n) (mem-append n a b m);
+  once = λ d. let (da, db, apart) = distinct_parts a b d in
+      distinct-shuffle s (p.once da) (q.once db) (λ n m k. apart n (p.of_goal n m) (q.of_goal n k));
+  none = λ no. no_shuffle t (p.none (λ n m. no n (mem_shuffle_left s n m))) (q.none (λ n m. no n (mem_shuffle_right s n m)));
+}
+
+are_done : (g : Process) (bs : List (List ℕ)) → Blocks g bs → AreDone (IsChoiceFree g) (leaves g) bs
+are_done Empty bs h = subst (AreDone (Unit {0}) []) (sym h) (record { of_goal = λ n m. m; all = λ f n m. m; once = λ d. d; none = λ no. refl })
+are_done (Task k) bs h = subst (AreDone (Unit {0}) (k ∷ [])) (sym h)
+    (record { of_goal = λ n m. m; all = λ f n m. m; once = λ d. d; none = λ no. absurd (no k (inl refl)) })
+are_done (Sequence a b) bs (x, y, ha, hb, e) =
+    halves_done _ _ (leaves a) (leaves b) x y bs (are_done a x ha) (are_done b y hb) (subst (Shuffle x y) (sym e) (shuffle-append x y))
+are_done (Parallel a b) bs (x, y, ha, hb, s) = halves_done _ _ (leaves a) (leaves b) x y bs (are_done a x ha) (are_done b y hb) s
+are_done (Choice a b) bs h = record {
+  of_goal = λ n m. mem_by_halves n (leaves a) (leaves b) (λ k. (are_done a bs k).of_goal n m) (λ k. (are_done b bs k).of_goal n m) h;
+  all = λ f. absurd f;
+  once = λ d. let (da, db, _) = distinct_parts (leaves a) (leaves b) d in ⊎_elim (λ k. (are_done a bs k).once da) (λ k. (are_done b bs k).once db) h;
+  none = λ no. ⊎_elim (λ k. (are_done a bs k).none no) (λ k. (are_done b bs k).none no) h;
+}
+are_done (Isolated a) bs (x, h, e) = let inner = are_done a x h in let same : joined bs ≡ joined x = ap joined e ∙ joined-as_one x in record {
+  of_goal = λ n m. inner.of_goal n (subst (λ w. n ∈ w) same m);
+  all = λ f n m. subst (λ w. n ∈ w) (sym same) (inner.all f n m);
+  once = λ d. subst AreDistinct (sym same) (inner.once d);
+  none = λ no. e ∙ ap as_one (inner.none (λ n m. no n (subst (λ w. n ∈ w) (sym same) m)));
+}
 
 -- each leaf that is done is one of the goal
 pub leaf_of_blocks : (g : Process) (bs : List (List ℕ)) → Blocks g bs → (n : ℕ) → n ∈ joined bs → n ∈ leaves g
-leaf_of_blocks (Sequence a b) bs h n m =
-    let (x, y, ha, hb, s) = in_halves a b bs (beside a b bs h) in
-    mem_by_halves n (leaves a) (leaves b) (leaf_of_blocks a x ha n) (leaf_of_blocks b y hb n) (of_shuffle s n m)
-leaf_of_blocks (Parallel a b) bs h n m =
-    let (x, y, ha, hb, s) = in_halves a b bs h in
-    mem_by_halves n (leaves a) (leaves b) (leaf_of_blocks a x ha n) (leaf_of_blocks b y hb n) (of_shuffle s n m)
-leaf_of_blocks (Choice a b) bs h n m =
-    mem_by_halves n (leaves a) (leaves b) (λ k. leaf_of_blocks a bs k n m) (λ k. leaf_of_blocks b bs k n m) h
-leaf_of_blocks (Isolated a) bs (x, h, e) n m = leaf_of_blocks a x h n (subst (λ w. n ∈ w) (ap joined e ∙ joined-as_one x) m)
-leaf_of_blocks leaf bs h n m = subst (λ w. n ∈ joined w) h m
+leaf_of_blocks g bs h = (are_done g bs h).of_goal
 
 -- each leaf of the goal is done
 pub leaf_in_blocks : (q : Process) → IsChoiceFree q → (bs : List (List ℕ)) → Blocks q bs → (n : ℕ) → n ∈ leaves q → n ∈ joined bs
-leaf_in_blocks (Sequence a b) (fa, fb) bs h n m =
-    let (x, y, ha, hb, s) = in_halves a b bs (beside a b bs h) in
-    mem_shuffle s n (leaf_in_blocks a fa x ha n) (leaf_in_blocks b fb y hb n) (mem-append n (leaves a) (leaves b) m)
-leaf_in_blocks (Parallel a b) (fa, fb) bs h n m =
-    let (x, y, ha, hb, s) = in_halves a b bs h in
-    mem_shuffle s n (leaf_in_blocks a fa x ha n) (leaf_in_blocks b fb y hb n) (mem-append n (leaves a) (leaves b) m)
-leaf_in_blocks (Choice a b) f bs h n m = absurd f
-leaf_in_blocks (Isolated a) f bs (x, h, e) n m = subst (λ w. n ∈ w) (sym (ap joined e ∙ joined-as_one x)) (leaf_in_blocks a f x h n m)
-leaf_in_blocks leaf f bs h n m = subst (λ w. n ∈ joined w) (sym h) m
+leaf_in_blocks q f bs h = (are_done q bs h).all f
+
+pub blocks_of_none : (g : Process) (bs : List (List ℕ)) → Blocks g bs → ((n : ℕ) → ¬ (n ∈ joined bs)) → bs ≡ []
+blocks_of_none g bs h = (are_done g bs h).none
+
+-- no leaf stands twice
+pub distinct_blocks : (g : Process) → AreDistinct (leaves g) → (bs : List (List ℕ)) → Blocks g bs → AreDistinct (joined bs)
+distinct_blocks g d bs h = (are_done g bs h).once d
 
 pub leaf_of_trace : (g : Process) (t : List ℕ) → Trace g t → (n : ℕ) → n ∈ t → n ∈ leaves g
 leaf_of_trace g t (bs, h, e) n m = leaf_of_blocks g bs h n (subst (λ w. n ∈ w) e m)
 
 pub leaf_in_trace : (q : Process) → IsChoiceFree q → (t : List ℕ) → Trace q t → (n : ℕ) → n ∈ leaves q → n ∈ t
 leaf_in_trace q f t (bs, h, e) n m = subst (λ w. n ∈ w) (sym e) (leaf_in_blocks q f bs h n m)
-
--- Blocks with no leaf
-
-no_shuffle : {a b c : List (List ℕ)} → Shuffle a b c → a ≡ [] → b ≡ [] → c ≡ []
-no_shuffle both_end e k = refl
-no_shuffle (from_left s) e k = cc
-no_shuffle (from_right s) e k = cc
-
-abbrev IsNoneWithout : Process → Type 0
-IsNoneWithout g = (bs : List (List ℕ)) → Blocks g bs → ((n : ℕ) → ¬ (n ∈ joined bs)) → bs ≡ []
-
-none_in_halves : (a b : Process) → IsNoneWithout a → IsNoneWithout b → IsNoneWithout (Parallel a b)
-none_in_halves a b of_a of_b bs (x, y, ha, hb, s) none = no_shuffle s
-    (of_a x ha (λ n m. none n (mem_shuffle_left (shuffle-joined s) n m))) (of_b y hb (λ n m. none n (mem_shuffle_right (shuffle-joined s) n m)))
-
-pub blocks_of_none : (g : Process) → IsNoneWithout g
-blocks_of_none Empty bs h none = h
-blocks_of_none (Task k) bs h none = absurd (none k (subst (λ w. k ∈ joined w) (sym h) (inl refl)))
-blocks_of_none (Sequence a b) bs h none = none_in_halves a b (blocks_of_none a) (blocks_of_none b) bs (beside a b bs h) none
-blocks_of_none (Parallel a b) bs h none = none_in_halves a b (blocks_of_none a) (blocks_of_none b) bs h none
-blocks_of_none (Choice a b) bs h none = ⊎_elim (λ k. blocks_of_none a bs k none) (λ k. blocks_of_none b bs k none) h
-blocks_of_none (Isolated a) bs (x, h, e) none =
-    e ∙ ap as_one (blocks_of_none a x h (λ n m. none n (subst (λ w. n ∈ w) (sym (ap joined e ∙ joined-as_one x)) m)))
-
--- No leaf stands twice
-
-pub distinct_blocks : (g : Process) → AreDistinct (leaves g) → (bs : List (List ℕ)) → Blocks g bs → AreDistinct (joined bs)
-distinct_blocks (Sequence a b) d bs h =
-    let (da, db, apart) = distinct_parts (leaves a) (leaves b) d in
-    let (x, y, ha, hb, s) = in_halves a b bs (beside a b bs h) in distinct-shuffle s (distinct_blocks a da x ha) (distinct_blocks b db y hb)
-    (λ n m k. apart n (leaf_of_blocks a x ha n m) (leaf_of_blocks b y hb n k))
-distinct_blocks (Parallel a b) d bs h =
-    let (da, db, apart) = distinct_parts (leaves a) (leaves b) d in
-    let (x, y, ha, hb, s) = in_halves a b bs h in distinct-shuffle s (distinct_blocks a da x ha) (distinct_blocks b db y hb)
-    (λ n m k. apart n (leaf_of_blocks a x ha n m) (leaf_of_blocks b y hb n k))
-distinct_blocks (Choice a b) d bs h =
-    let (da, db, _) = distinct_parts (leaves a) (leaves b) d in ⊎_elim (distinct_blocks a da bs) (distinct_blocks b db bs) h
-distinct_blocks (Isolated a) d bs (x, h, e) = subst AreDistinct (sym (ap joined e ∙ joined-as_one x)) (distinct_blocks a d x h)
-distinct_blocks leaf d bs h = subst (λ w. AreDistinct (joined w)) (sym h) d
 
 pub distinct_trace : (g : Process) → AreDistinct (leaves g) → (t : List ℕ) → Trace g t → AreDistinct t
 distinct_trace g d t (bs, h, e) = subst AreDistinct (sym e) (distinct_blocks g d bs h)

@@ -78,17 +78,12 @@ not_not (inr n) h = absurd (h n)
 
 -- Chains
 
-pub chain_is : (es events : List ℕ) → HappenInOrder es events ↔ MeetsNormal (chain es) events
-chain_is [] events = (λ h. h, λ h. h)
-chain_is (a ∷ []) events = (λ h. h, λ h. h)
+pub chain_is : (es events : List ℕ) →
+    (HappenInOrder es events ↔ MeetsNormal (chain es) events) × ((¬ (HappenInOrder es events)) ↔ MeetsNormal (broken_chain es) events)
+chain_is [] events = grind arith
+chain_is (a ∷ []) events = ((λ h. h, λ h. h), (λ h. h, λ h. h))
 chain_is (a ∷ b ∷ []) events = grind (arith, before_members a b events)
-chain_is (a ∷ b ∷ c ∷ more) events = grind (arith, chain_is (b ∷ c ∷ more) events)
-
-pub broken_chain_is : (es events : List ℕ) → (¬ (HappenInOrder es events)) ↔ MeetsNormal (broken_chain es) events
-broken_chain_is [] events = grind arith
-broken_chain_is (a ∷ []) events = (λ h. h, λ h. h)
-broken_chain_is (a ∷ b ∷ []) events = grind (arith, before_members a b events)
-broken_chain_is (a ∷ b ∷ c ∷ more) events = grind (arith, broken_chain_is (b ∷ c ∷ more) events, decide_before a b events)
+chain_is (a ∷ b ∷ c ∷ more) events = grind (arith, chain_is (b ∷ c ∷ more) events, decide_before a b events)
 
 -- a constraint and its normal form; its negation and that one's
 pub normal_form_is : (c : Constraint) (events : List ℕ) →
@@ -98,7 +93,7 @@ normal_form_is Always events = grind arith
 normal_form_is Impossible events = grind arith
 normal_form_is (Must e) events = grind arith
 normal_form_is (Never e) events = grind (arith, decide_in e events)
-normal_form_is (Order es) events = (chain_is es events, broken_chain_is es events)
+normal_form_is (Order es) events = chain_is es events
 normal_form_is (Not c) events = grind (arith, normal_form_is c events, decide_meets c events)
 normal_form_is (And c d) events = grind (arith, normal_form_is c events, normal_form_is d events, decide_meets c events)
 normal_form_is (Or c d) events = grind (arith, normal_form_is c events, normal_form_is d events)
@@ -151,12 +146,9 @@ before_events {labels} {t} {ls} l a b x y i j s =
 pub free_has_way : (t : List ℕ) → HasWay free_way t
 free_has_way t = ([], inl refl, tt)
 
--- what never is has no way, what always is the free one, and what is where a pair stands in order the way of that pair
-never_is : {P : Type 0} (t : List ℕ) → ¬ P → P ↔ HasWay [] t
-never_is t n = (λ h. absurd (n h), λ k. absurd k.1)
-
-always_is : {P : Type 0} (t : List ℕ) → P → P ↔ HasWay free_way t
-always_is t p = (λ h. free_has_way t, λ k. p)
+-- what is not has no way, and that it is not the free one; what is where a pair stands in order has the way of that pair
+is_not : {P : Type 0} (t : List ℕ) → ¬ P → (P ↔ HasWay [] t) × ((¬ P) ↔ HasWay free_way t)
+is_not t n = ((λ h. absurd (n h), λ k. absurd k.1), (λ h. free_has_way t, λ k. n))
 
 pair_is : {P : Type 0} (t : List ℕ) (x y : ℕ) → (P → StandsBefore x y t) → (StandsBefore x y t → P) → P ↔ HasWay (((x, y) ∷ []) ∷ []) t
 pair_is t x y to from = (
@@ -179,22 +171,17 @@ not_in_order {labels} {t} l a b h s = grind (
 
 before_by_way : {labels : List Label} {t ls : List ℕ} → AreItsLeaves labels t ls → (a b : ℕ) →
     (same : Bool) → (a == b) ≡ same → (o : Option ℕ) → leaf_of_event labels ls a ≡ o → (p : Option ℕ) → leaf_of_event labels ls b ≡ p →
-    StandsBefore a b (events_of labels t) ↔ HasWay (if same then [] else ways_of_before o p) t
-before_by_way {t = t} l a b true e o i p j = never_is t (not_in_order l a b (inl e))
-before_by_way {t = t} l a b false e None i p j = never_is t (not_in_order l a b (inr (inl i)))
-before_by_way {t = t} l a b false e (Some x) i None j = never_is t (not_in_order l a b (inr (inr j)))
-before_by_way {t = t} l a b false e (Some x) i (Some y) j = pair_is t x y (before_leaves l a b x y i j) (before_events l a b x y i j)
-
-not_before_by_way : {labels : List Label} {t ls : List ℕ} → AreItsLeaves labels t ls → (a b : ℕ) →
-    (same : Bool) → (a == b) ≡ same → (o : Option ℕ) → leaf_of_event labels ls a ≡ o → (p : Option ℕ) → leaf_of_event labels ls b ≡ p →
-    (¬ (StandsBefore a b (events_of labels t))) ↔ HasWay (if same then free_way else ways_of_not_before o p) t
-not_before_by_way {t = t} l a b true e o i p j = always_is t (not_in_order l a b (inl e))
-not_before_by_way {t = t} l a b false e None i p j = always_is t (not_in_order l a b (inr (inl i)))
-not_before_by_way {t = t} l a b false e (Some x) i None j = always_is t (not_in_order l a b (inr (inr j)))
-not_before_by_way {labels} {t} {ls} l a b false e (Some x) i (Some y) j =
-    let other : x ≢ y = λ same. eqb-false a b e (same_event labels ls a b x y i j same) in
-    pair_is t y x (λ n. grind (arith, n, before_events l a b x y i j, before_or_after x y t (leaf_is_there l a x i).0 (leaf_is_there l b y j).0 other))
-    (λ s r. not_both_ways a b (events_of labels t) l.distinct r (before_events l b a y x j i s))
+    (StandsBefore a b (events_of labels t) ↔ HasWay (if same then [] else ways_of_before o p) t)
+    × ((¬ (StandsBefore a b (events_of labels t))) ↔ HasWay (if same then free_way else ways_of_not_before o p) t)
+before_by_way {t = t} l a b true e o i p j = is_not t (not_in_order l a b (inl e))
+before_by_way {t = t} l a b false e None i p j = is_not t (not_in_order l a b (inr (inl i)))
+before_by_way {t = t} l a b false e (Some x) i None j = is_not t (not_in_order l a b (inr (inr j)))
+before_by_way {labels} {t} {ls} l a b false e (Some x) i (Some y) j =
+    let other : x ≢ y = λ same. eqb-false a b e (same_event labels ls a b x y i j same) in (
+      pair_is t x y (before_leaves l a b x y i j) (before_events l a b x y i j),
+      pair_is t y x (λ n. grind (arith, n, before_events l a b x y i j, before_or_after x y t (leaf_is_there l a x i).0 (leaf_is_there l b y j).0 other))
+          (λ s r. not_both_ways a b (events_of labels t) l.distinct r (before_events l b a y x j i s)),
+    )
 
 -- The joined forms
 
@@ -233,7 +220,7 @@ ways_decide {labels} {t} {ls} l (must e) =
     grind (arith, cases_option (leaf_of_event labels ls e), event_is_not_there l e, event_is_there l e, free_has_way t)
 ways_decide {labels} {t} {ls} l (never e) =
     grind (arith, cases_option (leaf_of_event labels ls e), event_is_not_there l e, event_is_there l e, free_has_way t)
-ways_decide l (before a b) = before_by_way l a b _ refl _ refl _ refl
-ways_decide l (not_before a b) = not_before_by_way l a b _ refl _ refl _ refl
+ways_decide l (before a b) = (before_by_way l a b _ refl _ refl _ refl).0
+ways_decide l (not_before a b) = (before_by_way l a b _ refl _ refl _ refl).1
 ways_decide {t = t} l (both x y) = both_by_way t _ _ _ _ (ways_decide l x) (ways_decide l y)
 ways_decide {t = t} l (either x y) = either_by_way t _ _ _ _ (ways_decide l x) (ways_decide l y) _ _ refl refl
