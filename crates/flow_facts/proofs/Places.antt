@@ -14,17 +14,6 @@ not_in_more x y (z ∷ list) h other (inr m) = not_in_more x y list (λ k. h (in
 pub not_in_first : {A : Type 0} (x d : A) (list : List A) (i : ℕ) → i < length list → ¬ (x ∈ take i list) → x ≢ get_or list i d → ¬ (x ∈ take (i + 1) list)
 not_in_first x d list i lt h other m = not_in_more x (get_or list i d) (take i list) h other (subst (λ l. x ∈ l) (take_more list i d lt) m)
 
--- the member at a place of the list
-pub slice_get_at : {A : Type 0} (list : List A) (i : ℕ) (d : A) → i < length list → slice_get list i ≡ Some (get_or list i d)
-slice_get_at [] i d lt = absurd (omega arith)
-slice_get_at (x ∷ list) zero d lt = refl
-slice_get_at (x ∷ list) (suc i) d lt = slice_get_at list i d (omega arith)
-
--- what was found at a place of a list that is the same
-pub found_at : {A : Type 0} (list same : List A) (i : ℕ) (x y : A) → list ≡ same → i < length list → x ≡ get_or list i x → x ≡ y → slice_get same i ≡ Some y
-found_at list same i x y e lt at f =
-    ap (λ l. slice_get l i) (sym e) ∙ slice_get_at list i x lt ∙ ap (λ z. Some z) (sym at ∙ f)
-
 -- a member has a place
 pub place_of : {A : Type 0} (list : List A) (x : A) → x ∈ list → (i : ℕ) × (slice_get list i ≡ Some x)
 place_of [] x m = absurd m

@@ -1,8 +1,9 @@
 -- What one read, and one read after others, do to the bytes that a source has left.
-use Rattle.std.proofs.Common.{◌≡◌, ℕ, ◌+◌, ◌<◌, ◌↔◌, List, ◌++◌, length, take, drop, min, Option, None, Some, IfSome, Result, Ok, Err, IfOk, sym, ap, ◌∙◌, arith, append_assoc, length-append}
-use Rattle.std.proofs.lemmas.List.{take-append-drop, take-append-le, drop-append-le, drop-drop, drop_all, drop_at, length-take}
-use Rattle.std.specs.Io.KnownBytes.{Consumes}
-use Rattle.flow_io.specs.Source.{GivesNext, LosesCount}
+use Rattle.std.proofs.Common.{◌≡◌, ℕ, ◌+◌, ◌<◌, ◌↔◌, List, [], ◌++◌, length, take, drop, min, Option, None, Some, IfSome, Result, Ok, Err, IfOk, sym, ap, ◌∙◌, arith, append-nil, length-append, length-drop}
+use Rattle.std.proofs.lemmas.List.{take-append-drop, take-append-le, drop-append-le, drop-drop, drop_all, drop_at, length-take, length-take-le}
+use Rattle.std.specs.Io.KnownBytes.{Consumes, IsAtEnd}
+use Rattle.std.proofs.KnownBytes.{Consumes-trans}
+use Rattle.flow_io.specs.Source.{GivesNext, LosesCount, LosesAtMost, IsAllOf}
 
 -- a source over memory gives the next `count` bytes of those left, from a place `at` in all the bytes
 pub gives_from : (bytes left buffer buffer' : List ℕ) (at count : ℕ)
@@ -17,15 +18,6 @@ gives_from bytes left buffer buffer' at count here is_least same_length same res
       end = λ zero_count has_room. gone ∙ drop_all count left (omega arith);
     }
 
--- one read after others: the bytes of both are gone
-pub consumes_more : (left left' left'' : Option (List ℕ)) (read piece : List ℕ)
-    → Consumes left left' read → Consumes left' left'' piece → Consumes left left'' (read ++ piece)
-consumes_more None left' left'' read piece before after = tt
-consumes_more (Some bytes) None left'' read piece before after = absurd before
-consumes_more (Some bytes) (Some rest) None read piece before after = absurd after
-consumes_more (Some bytes) (Some rest) (Some rest') read piece before after =
-    before ∙ ap (λ r. read ++ r) after ∙ sym (append_assoc read piece rest')
-
 -- the bytes that are gone, by their number
 pub loses_length : (left left' : Option (List ℕ)) (read : List ℕ) (n : ℕ)
     → Consumes left left' read → length read ≡ n → LosesCount left left' n
@@ -36,19 +28,37 @@ loses_length (Some bytes) (Some rest) read n gone long = (
   ap Some (sym (ap (drop n) gone ∙ drop_at read rest n long)),
 )
 
--- the same of two reads, one after the other
-pub loses_both : (left left' left'' : Option (List ℕ)) (read piece : List ℕ) (n : ℕ)
-    → Consumes left left' read → Consumes left' left'' piece → length read + length piece ≡ n
-    → LosesCount left left'' n
-loses_both left left' left'' read piece n before after long =
-    loses_length left left'' (read ++ piece) n (consumes_more left left' left'' read piece before after)
-    (length-append read piece ∙ long)
+-- the same of a read after others
+pub loses_both : (left left' left'' : Option (List ℕ)) (read buffer buffer' : List ℕ) (count n : ℕ)
+    → Consumes left left' read → GivesNext left' left'' buffer buffer' count → length read + count ≡ n → LosesCount left left'' n
+loses_both left left' left'' read buffer buffer' count n before given long =
+    loses_length left left'' (read ++ take count buffer') n (Consumes-trans left left' left'' read _ before given.next)
+    (length-append read (take count buffer') ∙ ap (λ k. length read + k) (length-take-le count buffer' given.fits) ∙ long)
 
 -- what was lost, where what is claimed beside it holds
 pub exactly_lost : {A : Type 0} (claim : A) (left left' : Option (List ℕ)) (n : ℕ)
     → LosesCount left left' n → IfSome left (λ bytes. A ↔ LosesCount (Some bytes) left' n)
 exactly_lost claim None left' n lost = tt
 exactly_lost claim (Some bytes) left' n lost = ((λ _. lost), (λ _. claim))
+
+-- at most `limit` bytes were lost, so not one more
+pub not_more_lost : {A : Type 0} (no_claim : ¬ A) (left left' : Option (List ℕ)) (limit : ℕ)
+    → LosesAtMost left left' limit → IfSome left (λ bytes. A ↔ LosesCount (Some bytes) left' (limit + 1))
+not_more_lost no_claim None left' limit lost = tt
+not_more_lost no_claim (Some bytes) left' limit (k, few, lost) = (
+  (λ claim. absurd (no_claim claim)),
+  (λ more. let same : Some (drop k bytes) ≡ Some (drop (limit + 1) bytes) = sym lost.1 ∙ more.1 in let rest : drop k bytes ≡ drop (limit + 1) bytes = cc in
+  absurd (omega (arith, more.0, ap length rest, length-drop k bytes, length-drop (limit + 1) bytes))),
+)
+
+-- the last read, of nothing
+pub all_read : (left left' left'' : Option (List ℕ)) (read buffer : List ℕ) (n : ℕ)
+    → Consumes left left' read → Consumes left' left'' (take n buffer) → n ≡ 0 → IsAtEnd left'' → IsAllOf left left'' read
+all_read None left' left'' read buffer n before after none end = tt
+all_read (Some bytes) None left'' read buffer n before after none end = absurd before
+all_read (Some bytes) (Some rest) None read buffer n before after none end = absurd after
+all_read (Some bytes) (Some rest) (Some rest') read buffer n before after none end =
+    let gone : rest ≡ [] = after ∙ (λ i. take (none i) buffer ++ end i) in (sym (before ∙ ap (λ r. read ++ r) gone ∙ append-nil read), ap Some end)
 
 -- a read into the front of a buffer is a read into the buffer
 pub gives_into : (left left' : Option (List ℕ)) (buffer part : List ℕ) (room n : ℕ)

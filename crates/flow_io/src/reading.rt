@@ -64,8 +64,8 @@ pub fn read_all<S: Source>(
         if count > limit - bytes.len() {
             return Err(ReadRefusal::TooLong);
         }
-        if bytes.extend_from_slice(&buffer[..count]).is_err() {
+        let Ok(()) = bytes.extend_from_slice(&buffer[..count]) else {
             return Err(ReadRefusal::NoMemory);
-        }
+        };
     }
 }

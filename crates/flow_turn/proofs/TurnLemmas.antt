@@ -7,10 +7,10 @@ use Rattle.atomic_table.specs.Seated.{TableId}
 use Rattle.atomic_table.specs.declared.shared.Seat.{Seat}
 use Rattle.flow_turn.specs.declared.view.View.{View}
 use Rattle.flow_turn.specs.declared.view.Stage.TheVariants.{Serving}
-use Rattle.flow_turn.specs.Entries.{Grows}
+use Rattle.flow_turn.specs.Entries.{Grows, Finds}
 use Rattle.flow_turn.specs.Turns.{IsInTurns}
-use Rattle.flow_turn.specs.Steps.{Seated, list_in, counted}
-use Rattle.flow_turn.specs.Passes.{Knowledge, known_of, Works}
+use Rattle.flow_turn.specs.Steps.{Seated, list_in, counted, drew, Takes}
+use Rattle.flow_turn.specs.Passes.{Knowledge, known_of, Works, Turned}
 use Rattle.flow_turn.proofs.RuleLemmas.{count_step}
 
 module _ {T : Type 0} where
@@ -69,3 +69,23 @@ module _ {T E F : Type 0} (entries : T → List E) where
     stays = stays;
     learns = learns old last new after grown.0 same again in_hand count (grown.1 ∙ ap (λ l. l ++ grown.0) (sym is.0));
   }
+
+  -- one turn: a ticket is drawn, the value is taken, the job is done with it, and what the caller knows stays as it passes the turn on
+  pub turns : {A : Type 0} (caller : E → ℕ) (fixed : T → F) (does : T → ℕ → A → T → Type 0) (old drawn served worked new : Seat (Option T) (View E F)) (ticket : ℕ) (answer : A)
+      → drawn.table_id ≡ old.table_id → served.table_id ≡ drawn.table_id → drew old.me ticket drawn.me → Takes entries caller fixed drawn.me served.me
+      → ((before : T) × (served.me.1 ≡ (0, Some before) ∷ []) × Works entries caller fixed does before (known_of served) answer (known_of worked))
+      → known_of new ≡ known_of worked → Turned entries caller fixed does (known_of old) answer (known_of new)
+  turns {A} caller fixed does old drawn served worked new ticket answer same again draws takes work kept =
+      let known : Knowledge E F = known_of old in
+      let value = work.0 in
+      let knows : known_of served ≡ record known { seen = entries takes.0 } =
+          (λ i. known_by ((again ∙ same) i) (takes.1 i).0)
+          ∙ (λ i. let v : View E F = (draws.1 i).0 in known_by old.table_id (record v { stage = Serving; seen = entries takes.0 })) in
+      let w : Works entries caller fixed does value (record known { seen = entries takes.0 }) answer (known_of worked) =
+          subst (λ (k : Knowledge E F). Works entries caller fixed does value k answer (known_of worked)) knows work.2 in
+      let found = subst (λ (m : Seated T E F). Finds entries caller fixed m.0.number m.0.seen m.0.mine m.0.joined m.0.part takes.0) draws.1 takes.2 in
+      record {
+        value = value;
+        finds = subst (Finds entries caller fixed known.number known.seen known.mine known.joined known.part) (sym (ap (first_of_slots value) (sym work.1 ∙ ap (λ m. m.1) takes.1))) found;
+        works = record { after = w.after; added = w.added; done = w.done; list = w.list; own = w.own; stays = w.stays; learns = kept ∙ w.learns };
+      }

@@ -1,14 +1,15 @@
-use Rattle.std.proofs.Common.{ap, sym, subst, ◌∙◌, ◌≡◌, ◌≢◌, ◌<◌, Some, slice_get, length, get_or, true, false}
+use Rattle.std.proofs.Common.{ap, sym, refl, subst, ◌∙◌, ◌≡◌, ◌≢◌, ◌<◌, Some, slice_get, length, get_or, true, false}
+use Rattle.std.proofs.lemmas.Option.{slice_get_read}
 use Rattle.flow_facts.specs.Same.{atom_eq-Decides}
-use Rattle.flow_facts.proofs.Places.{mem-slice_get, not_in_first, found_at}
+use Rattle.flow_facts.proofs.Places.{mem-slice_get, not_in_first}
 use Rattle.flow_facts.proofs.table.FactTable.number_of.Goals as goal
 use Rattle.flow_facts.proofs.table.FactTable.number_of.Goals.{Then-eq}
 
 is_there : (c : Then-eq) → slice_get c.args.self.now c.loop-number.number ≡ Some c.args.fact.now
 is_there c =
-    found_at c.deref-known-items.result.now c.args.self.now c.loop-number.number c.known-item.result c.args.fact.now
-    (c.deref-known-items.ensures.value ∙ c.self.view_is) c.loop-number-test.true c.known-item.is
-    ((atom_eq-Decides c.known-item.result c.args.fact.now).0 (sym c.eq.ensures ∙ c.if-eq.true))
+    ap (λ l. slice_get l c.loop-number.number) (sym (c.deref-known-items.ensures.value ∙ c.self.view_is))
+    ∙ slice_get_read c.deref-known-items.result.now _ c.loop-number.number c.known-item.result refl c.loop-number-test.true c.known-item.is
+    ∙ ap (λ f. Some f) ((atom_eq-Decides c.known-item.result c.args.fact.now).0 (sym c.eq.ensures ∙ c.if-eq.true))
 
 pub returns-then-eq-clause-none : goal.returns-then-eq-clause-none
 returns-then-eq-clause-none c =
