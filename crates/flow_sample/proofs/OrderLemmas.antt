@@ -1,8 +1,8 @@
 -- An order of items that grows, and the walk to the next of them.
-use Rattle.std.proofs.Common.{◌≡◌, ℕ, ◌+◌, ◌-◌, ◌<◌, Bool, true, false, not, ◌&&◌, IsTrue, List, [], ◌∷◌, ◌++◌, ◌↔◌, ◌⊎◌, length, get_or, map, refl, sym, ap, ◌∙◌, subst, inl, inr, ⊎_elim, arith, length-append, true≢false, Some, Option, slice_get, take, remove, append-nil}
+use Rattle.std.proofs.Common.{◌≡◌, ℕ, ◌+◌, ◌-◌, ◌<◌, Bool, true, false, not, ◌&&◌, IsTrue, List, [], ◌∷◌, ◌++◌, ◌↔◌, ◌⊎◌, length, get_or, map, refl, sym, ap, ◌∙◌, subst, inl, inr, ⊎_elim, arith, length-append, true≢false, ◌||◌, Some, None, Option, slice_get, take, remove, append-nil}
 use Rattle.std.proofs.lemmas.List.{take_more, map-append}
-use Rattle.std.proofs.lemmas.Bool.{cases_lt}
-use Rattle.std.proofs.lemmas.Option.{slice_get_past, slice_get_read}
+use Rattle.std.proofs.lemmas.Bool.{both_ways, cases_lt, or_cases, or_left, or_right}
+use Rattle.std.proofs.lemmas.Option.{slice_get_past, slice_get_read, slice_get-get_or}
 use Rattle.leaf_rows.specs.declared.leaf_set.LeafSet.{LeafSet}
 use Rattle.leaf_rows.specs.Leaves.{has_leaf}
 use Rattle.flow_model.specs.Lists.{◌∈◌, Each, AreDistinct, StandsBefore, joined}
@@ -10,28 +10,25 @@ use Rattle.flow_laws.proofs.Members.{each_member, decide_in, distinct-append, be
 use Rattle.flow_laws.proofs.MadeLists.{some_same, joined-append}
 use Rattle.flow_plan.proofs.PlaceLemmas.{read_member}
 use Rattle.flow_sample.specs.declared.item.Item.{Item}
-use Rattle.flow_sample.specs.Rows.{has_inside, has_waits, run_in, runs, least_in, least_at, IsIn, WaitsFor, IsEdge, AreApart}
+use Rattle.flow_sample.specs.Rows.{has_inside, has_waits, run_in, runs, IsIn, WaitsFor, IsEdge, AreApart}
 use Rattle.flow_sample.specs.Arranged.{IsArranged, IsWholeOrder, IsCycle, LeadsOn, TakesIn}
 use Rattle.flow_sample.proofs.RingLemmas.{IsTrail, trail_end}
 
 -- tests
 
-pub not_true : (b : Bool) → b ≡ false → ¬ (IsTrue b)
-not_true b e h = true≢false (sym h ∙ e)
-
 pub not_and : (a b : Bool) → IsTrue (not a && b) ↔ (¬ (IsTrue a) × IsTrue b)
 not_and true b = (λ h. absurd (true≢false (sym h)), λ h. absurd (h.0 refl))
-not_and false b = (λ h. (not_true false refl, h), λ h. h.1)
+not_and false b = (λ h. (both_ways false refl, h), λ h. h.1)
+
+row_within : (test : Option Item → ℕ → Bool) (items : List Item) (n x : ℕ) → test None x ≡ false → IsTrue (test (slice_get items n) x) → n < length items
+row_within test items n x none h = ⊎_elim (λ l. l)
+    (λ l. absurd (both_ways (test None x) none (sym (ap (λ o. test o x) (slice_get_past items n l)) ∙ h))) (cases_lt n (length items))
 
 pub is_within : (items : List Item) (n x : ℕ) → IsIn items n x → n < length items
-is_within items n x h = ⊎_elim (λ l. l)
-    (λ l. absurd (not_true false refl (subst (λ o. IsTrue (has_inside o x)) (slice_get_past items n l) h)))
-    (cases_lt n (length items))
+is_within items n x h = row_within has_inside items n x refl h
 
 pub waits_within : (items : List Item) (n x : ℕ) → WaitsFor items n x → n < length items
-waits_within items n x h = ⊎_elim (λ l. l)
-    (λ l. absurd (not_true false refl (subst (λ o. IsTrue (has_waits o x)) (slice_get_past items n l) h)))
-    (cases_lt n (length items))
+waits_within items n x h = row_within has_waits items n x refl h
 
 -- distinct items, each before the next, that are not in the order yet
 pub record IsPath (items : List Item) (order path : List ℕ) : Type 0 where
@@ -193,38 +190,39 @@ pub passed_more : (old new : List ℕ) (start : ℕ) → ((n : ℕ) → n < star
 passed_more old new start h k n l =
     elim (cases_lt n start) [ inl i ↦ k.kept n (h n i) | inr i ↦ let e : n ≡ start = omega arith in subst (λ z. z ∈ new) (sym e) k.here ]
 
+-- what the row of the item at a place says
+pub row_at : (test : Option Item → ℕ → Bool) (items : List Item) (n : ℕ) (item : Item) → n < length items → (x : ℕ) → test (slice_get items n) x ≡ test (Some (get_or items n item)) x
+row_at test items n item l x = ap (λ o. test o x) (slice_get-get_or items n item l)
+
 -- the union of rows of items
-abbrev pub IsUnion : (Option Item → ℕ → Bool) → List Item → ℕ → (ℕ → Bool) → Type 0
-IsUnion test items k all = (x : ℕ) → IsTrue (all x) ↔ ((n : ℕ) × (n < k) × IsTrue (test (slice_get items n) x))
+abbrev pub IsUnion : (Option Item → ℕ → Bool) → List Item → ℕ → LeafSet 16 → Type 0
+IsUnion test items k all = (x : ℕ) → IsTrue (has_leaf all x) ↔ ((n : ℕ) × (n < k) × IsTrue (test (slice_get items n) x))
 
--- the item at a place
-pub item_there : (items : List Item) (n : ℕ) (item : Item) → n < length items → item ≡ get_or items n item → slice_get items n ≡ Some item
-item_there items n item l e = slice_get_read items (length items) n item refl l e
+pub union_more : (test : Option Item → ℕ → Bool) (items : List Item) (k : ℕ) (item : Item) (old new : LeafSet 16) → k < length items → item ≡ get_or items k item →
+    ((x : ℕ) → has_leaf new x ≡ (has_leaf old x || test (Some item) x)) → IsUnion test items k old → IsUnion test items (k + 1) new
+union_more test items k item old new l e add all x =
+    let there : test (slice_get items k) x ≡ test (Some item) x = ap (λ o. test o x) (slice_get_read items (length items) k item refl l e) in (
+      λ h. ⊎_elim (λ o. let r = (all x).0 o in (r.0, omega (arith, r.1), r.2)) (λ t. (k, omega arith, there ∙ t))
+          (or_cases (has_leaf old x) (test (Some item) x) (sym (add x) ∙ h)),
+      λ r. add x ∙ ⊎_elim (λ i. or_left (has_leaf old x) (test (Some item) x) ((all x).1 (r.0, i, r.2)))
+          (λ i. let last : k ≡ r.0 = omega (arith, r.1) in
+          or_right (has_leaf old x) (test (Some item) x) (sym there ∙ ap (λ n. test (slice_get items n) x) last ∙ r.2))
+          (cases_lt r.0 k),
+    )
 
-pub seen_in : (items : List Item) (n x : ℕ) (item : Item) → n < length items → item ≡ get_or items n item → IsTrue (has_leaf (get_or items n item).inside x) → IsIn items n x
-seen_in items n x item l e h = subst (λ o. IsTrue (has_inside o x)) (sym (item_there items n item l e)) (subst (λ (i : Item). IsTrue (has_leaf i.inside x)) (sym e) h)
+-- what is read of each item, with one more
+pub read_more : {A : Type 0} (of : Option Item → A) (items : List Item) (order : List ℕ) (k : ℕ) (item : Item) → k < length order → Each (λ n. n < length items) order →
+    map (λ n. of (slice_get items n)) (take (k + 1) order) ≡ map (λ n. of (slice_get items n)) (take k order) ++ of (Some (get_or items (get_or order k 0) item)) ∷ []
+read_more {A} of items order k item l w =
+    let f : ℕ → A = λ n. of (slice_get items n) in
+    let there = each_member (λ n. n < length items) order w (get_or order k 0) (read_member order k l) in
+    ap (map f) (take_more order k 0 l) ∙ map-append f (take k order) (get_or order k 0 ∷ [])
+    ∙ ap (λ o. map f (take k order) ++ of o ∷ []) (slice_get-get_or items (get_or order k 0) item there)
 
-pub in_seen : (items : List Item) (n x : ℕ) (item : Item) → n < length items → item ≡ get_or items n item → IsIn items n x → IsTrue (has_leaf (get_or items n item).inside x)
-in_seen items n x item l e h = subst (λ (i : Item). IsTrue (has_leaf i.inside x)) e (subst (λ o. IsTrue (has_inside o x)) (item_there items n item l e) h)
-
--- the runs of one item more
-pub runs_more : (items : List Item) (order : List ℕ) (k : ℕ) (item : Item) → k < length order → Each (λ n. n < length items) order → item ≡ get_or items (get_or order k 0) item →
+-- and the runs
+pub runs_more : (items : List Item) (order : List ℕ) (k : ℕ) (item : Item) → k < length order → Each (λ n. n < length items) order →
     runs items (take (k + 1) order) ≡ runs items (take k order) ++ (get_or items (get_or order k 0) item).run.items
-runs_more items order k item l w e =
-    let f : ℕ → List ℕ = λ n. run_in (slice_get items n) in
-    let n : ℕ = get_or order k 0 in
-    let there = item_there items n item (each_member (λ m. m < length items) order w n (read_member order k l)) e in
-    ap (λ z. joined (map f z)) (take_more order k 0 l)
-    ∙ ap joined (map-append f (take k order) (n ∷ []))
-    ∙ joined-append (map f (take k order)) (f n ∷ [])
-    ∙ ap (λ z. runs items (take k order) ++ z) (append-nil (f n) ∙ ap run_in there ∙ ap (λ (i : Item). i.run.items) e)
-
--- and the least leaf of one item more
-pub leasts_more : (items : List Item) (order : List ℕ) (k : ℕ) (item : Item) → k < length order → Each (λ n. n < length items) order → item ≡ get_or items (get_or order k 0) item →
-    map (least_at items) (take (k + 1) order) ≡ map (least_at items) (take k order) ++ (get_or items (get_or order k 0) item).least ∷ []
-leasts_more items order k item l w e =
-    let n : ℕ = get_or order k 0 in
-    let there = item_there items n item (each_member (λ m. m < length items) order w n (read_member order k l)) e in
-    ap (map (least_at items)) (take_more order k 0 l)
-    ∙ map-append (least_at items) (take k order) (n ∷ [])
-    ∙ ap (λ z. map (least_at items) (take k order) ++ z ∷ []) (ap least_in there ∙ ap (λ (i : Item). i.least) e)
+runs_more items order k item l w =
+    let run : List ℕ = (get_or items (get_or order k 0) item).run.items in
+    ap joined (read_more run_in items order k item l w) ∙ joined-append (map (λ n. run_in (slice_get items n)) (take k order)) (run ∷ [])
+    ∙ ap (λ z. runs items (take k order) ++ z) (append-nil run)

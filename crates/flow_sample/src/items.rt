@@ -10,7 +10,6 @@ use flow_plan::Plan;
 use std::alloc::Global;
 
 /// The items of the goal of a plan, unless those of some part wait for each other.
-#[tactic(auto, using(crate::proofs::GatheringLemmas::begun_items))]
 pub(crate) fn items_of_plan(alloc: Global, plan: &Plan) -> Result<Vec<Item>, ExciseRefusal>
     ensures { MatchResult result
         (λ items. AreItemsOf plan.now.process (pairs_of plan.now.tokens) (items_of plan.now.process) items.items)

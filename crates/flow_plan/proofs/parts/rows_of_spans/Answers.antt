@@ -1,4 +1,4 @@
-use Rattle.std.proofs.Common.{◌≡◌, ℕ, arith, ◌-◌, List, ◌∷◌, [], ◌++◌, take, get_or, sym, subst}
+use Rattle.std.proofs.Common.{◌≡◌, ℕ, arith, List, ◌∷◌, [], ◌++◌, take, get_or, sym, subst}
 use Rattle.std.proofs.lemmas.List.{take_all, take_more}
 use Rattle.flow_plan.specs.declared.part_row.PartRow.{PartRow}
 use Rattle.flow_plan.specs.declared.span.Span.{Span}

@@ -1,9 +1,14 @@
-use Rattle.std.proofs.Common.{List, ℕ, ◌++◌, ◌∷◌, [], ◌∙◌, ap, sym, get_or}
-use Rattle.flow_sample.proofs.OrderLemmas.{leasts_more}
+use Rattle.std.proofs.Common.{List, ℕ, ◌++◌, ◌∷◌, [], ◌∙◌, ap, map, sym, get_or}
+use Rattle.std.proofs.lemmas.List.{take_all}
+use Rattle.flow_sample.specs.Rows.{least_at, least_in}
+use Rattle.flow_sample.proofs.OrderLemmas.{read_more}
 use Rattle.flow_sample.proofs.circle.leasts.Goals as goal
 
 pub loop-number-preserved : goal.loop-number-preserved
 loop-number-preserved c =
     c.in_ok-push.ensures.items
     ∙ ap (λ (z : List ℕ). z ++ (get_or c.args.items.now (get_or c.args.numbers.now c.loop-number.number-index 0) c.index-items-number.result).least ∷ []) c.loop-number.invariant
-    ∙ sym (leasts_more c.args.items.now c.args.numbers.now c.loop-number.number-index c.index-items-number.result c.loop-number-test.true c.requires c.index-items-number.is)
+    ∙ sym (read_more least_in c.args.items.now c.args.numbers.now c.loop-number.number-index c.index-items-number.result c.loop-number-test.true c.requires)
+
+pub returns : goal.returns
+returns c = c.loop-number.invariant ∙ ap (map (least_at c.args.items.now)) (take_all c.loop-number.number-index c.args.numbers.now c.loop-number-test.false)

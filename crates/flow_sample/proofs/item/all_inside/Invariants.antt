@@ -1,7 +1,6 @@
-use Rattle.leaf_rows.specs.Leaves.{has_leaf}
 use Rattle.flow_sample.specs.Rows.{has_inside}
 use Rattle.flow_sample.proofs.OrderLemmas.{IsUnion}
 use Rattle.flow_sample.proofs.item.all_inside.Given as goal
 
 abbrev pub invariant-loop-item : goal.invariant-loop-item
-invariant-loop-item l = IsUnion has_inside l.items l.item-index (has_leaf l.all)
+invariant-loop-item l = IsUnion has_inside l.items l.item-index l.all

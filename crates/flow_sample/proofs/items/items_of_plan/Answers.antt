@@ -1,9 +1,15 @@
-use Rattle.std.proofs.Common.{◌+◌, List, drop, subst}
+use Rattle.std.proofs.Common.{◌+◌, List, drop, refl, subst}
 use Rattle.std.proofs.lemmas.List.{drop_more}
 use Rattle.flow_goal.specs.declared.node.Node.{Node}
 use Rattle.flow_goal.specs.declared.node.Node.TheVariants.{Nop}
 use Rattle.flow_sample.specs.ItemMarks.{Gathers}
+use Rattle.flow_sample.proofs.GatheringLemmas.{begun_items}
 use Rattle.flow_sample.proofs.items.items_of_plan.Goals as goal
+
+pub loop-node-init : goal.loop-node-init
+loop-node-init c =
+    begun_items c.args.plan.now c.nodes-node-items.result.now record { place = 0; items = c.new.result; outer = c.new-2.result } c.nodes-node-items.ensures.ordered c.nodes-node-items.ensures.nodes c.leaves-leaves.ensures.listed
+    refl c.new.ensures.items c.new-2.ensures.items
 
 pub read-requires : goal.read-requires
 read-requires c =
@@ -12,3 +18,10 @@ read-requires c =
       drop (i + 1) nodes,
       subst (λ (l : List Node). Gathers c.args.plan.now l c.loop-node.gathering) (drop_more nodes i Nop c.loop-node-test.true) c.loop-node.invariant,
     )
+
+pub loop-node-preserved : goal.loop-node-preserved
+loop-node-preserved c =
+    let nodes = c.nodes-node-items.result.now in
+    let i = c.loop-node.node-index in
+    c.in_ok-read.ensures (drop (i + 1) nodes)
+    (subst (λ (l : List Node). Gathers c.args.plan.now l c.loop-node.gathering) (drop_more nodes i Nop c.loop-node-test.true) c.loop-node.invariant)

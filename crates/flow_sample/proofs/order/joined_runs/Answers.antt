@@ -7,4 +7,4 @@ loop-number-preserved c =
     let k = c.loop-number.number-index in
     c.in_ok-extend_from_slice.ensures.items
     ∙ (λ i. c.loop-number.invariant i ++ c.deref.ensures.value i)
-    ∙ sym (runs_more c.args.items.now c.args.order.now k c.index-items-number.result c.loop-number-test.true c.requires c.index-items-number.is)
+    ∙ sym (runs_more c.args.items.now c.args.order.now k c.index-items-number.result c.loop-number-test.true c.requires)

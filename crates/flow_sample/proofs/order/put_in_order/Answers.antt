@@ -6,15 +6,13 @@ use Rattle.flow_sample.proofs.order.put_in_order.Goals as goal
 
 pub blocker-requires-clause-there : goal.blocker-requires-clause-there
 blocker-requires-clause-there c =
-    let i = c.loop-top.invariant in
     let t = top_of c.loop-top.path.items c.deref.result.now c.in-Some.top (_) c.copied.result c.deref.ensures.value c.first.ensures.value c.copied.ensures c.in-Some.is in
-    i.path.within c.in-Some.top (subst (λ (z : List ℕ). c.in-Some.top ∈ z) (sym t.1) (inl refl))
+    c.loop-top.invariant.path.within c.in-Some.top (subst (λ (z : List ℕ). c.in-Some.top ∈ z) (sym t.1) (inl refl))
 
 pub take_out-requires : goal.take_out-requires
 take_out-requires c =
-    let i = c.loop-top.invariant in
     let t = top_of c.loop-top.path.items c.deref.result.now c.in-Some.top (_) c.copied.result c.deref.ensures.value c.first.ensures.value c.copied.ensures c.in-Some.is in
-    i.path.within c.in-Some.top (subst (λ (z : List ℕ). c.in-Some.top ∈ z) (sym t.1) (inl refl))
+    c.loop-top.invariant.path.within c.in-Some.top (subst (λ (z : List ℕ). c.in-Some.top ∈ z) (sym t.1) (inl refl))
 
 pub loop-top-smaller-in-None : goal.loop-top-smaller-in-None
 loop-top-smaller-in-None c =

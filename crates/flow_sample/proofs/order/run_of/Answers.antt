@@ -1,8 +1,8 @@
-use Rattle.std.proofs.Common.{◌<◌, ◌+◌, ℕ, subst, sym, ◌∙◌, ap, arith}
+use Rattle.std.proofs.Common.{◌<◌, ◌+◌, ℕ, subst, sym, ◌∙◌, ap, arith, true≢false}
 use Rattle.flow_model.specs.Lists.{◌∈◌}
-use Rattle.flow_sample.specs.Rows.{runs}
+use Rattle.flow_sample.specs.Rows.{has_inside, runs}
 use Rattle.flow_sample.specs.Arranged.{IsArranged}
-use Rattle.flow_sample.proofs.OrderLemmas.{begun, left_out, not_left, whole_order, each_within, passed_more, seen_in, in_seen, not_true}
+use Rattle.flow_sample.proofs.OrderLemmas.{begun, left_out, not_left, whole_order, each_within, passed_more, row_at}
 use Rattle.flow_sample.proofs.order.run_of.Goals as goal
 use Rattle.flow_sample.proofs.order.run_of.Goals.{then-meets+in_ok-put_in_order, else-meets}
 
@@ -16,7 +16,7 @@ pub put_in_order-requires-clause-fresh : goal.put_in_order-requires-clause-fresh
 put_in_order-requires-clause-fresh c =
     let m = c.meets.ensures.0 c.if-meets.true in
     left_out c.args.items.now c.requires c.loop-start.left c.loop-start.order.items c.loop-start.start m.0 c.loop-start.invariant.arranged
-    (seen_in c.args.items.now c.loop-start.start m.0 c.index-items-start.result c.loop-start-test.true c.index-items-start.is m.1) m.2
+    (row_at has_inside c.args.items.now c.loop-start.start c.index-items-start.result c.loop-start-test.true m.0 ∙ m.1) m.2
 
 pub joined_runs-requires : goal.joined_runs-requires
 joined_runs-requires c =
@@ -36,8 +36,8 @@ loop-start-preserved c =
           }
       | else-meets w ↦
           let here = not_left c.args.items.now c.requires c.loop-start.left c.loop-start.order.items c.loop-start.start i.arranged c.loop-start-test.true
-          (λ x m h. not_true c.meets.result w.if-meets.false
-          (c.meets.ensures.1 (x, in_seen c.args.items.now c.loop-start.start x c.index-items-start.result c.loop-start-test.true c.index-items-start.is m, h))) in
+          (λ x m h. true≢false
+          (sym (c.meets.ensures.1 (x, sym (row_at has_inside c.args.items.now c.loop-start.start c.index-items-start.result c.loop-start-test.true x) ∙ m, h)) ∙ w.if-meets.false)) in
           record {
             arranged = subst (λ z. IsArranged c.args.items.now z c.if-meets.order.items) (sym w.left-is)
                 (subst (λ z. IsArranged c.args.items.now c.loop-start.left z.items) (sym w.order-is) i.arranged);

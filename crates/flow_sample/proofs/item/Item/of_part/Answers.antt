@@ -1,12 +1,12 @@
-use Rattle.std.proofs.Common.{refl, sym, ◌∙◌}
+use Rattle.std.proofs.Common.{refl, sym, ◌∙◌, true≢false}
 use Rattle.leaf_rows.specs.Leaves.{has_leaf}
-use Rattle.flow_sample.proofs.OrderLemmas.{not_true, not_and}
+use Rattle.flow_sample.proofs.OrderLemmas.{not_and}
 use Rattle.flow_sample.proofs.item.Item.of_part.Goals as goal
 
 pub unreachable-requires : goal.unreachable-requires
 unreachable-requires c =
     let i = c.requires in
-    not_true (has_leaf c.all_inside-inside.result i.1) (c.in_default.ensures.none i.1) ((c.all_inside-inside.ensures i.1).1 (i.0, i.2))
+    true≢false (sym ((c.all_inside-inside.ensures i.1).1 (i.0, i.2)) ∙ c.in_default.ensures.none i.1)
 
 pub returns : goal.returns
 returns c = record {
@@ -18,6 +18,6 @@ returns c = record {
         λ h. c.remove_all.ensures x ∙ both.1 ((λ k. h.1 ((c.all_inside-inside.ensures x).0 k)), (c.all_waits-waits.ensures x).1 h.0),
       );
   least = c.in-Some.ensures.member;
-  none_less = λ k l. not_true (has_leaf c.all_inside-inside.result k) (c.in-Some.ensures.least k l);
+  none_less = λ k l h. true≢false (sym h ∙ c.in-Some.ensures.least k l);
   runs_so = refl;
 }

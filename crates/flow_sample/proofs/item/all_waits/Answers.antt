@@ -1,0 +1,8 @@
+use Rattle.flow_sample.specs.Rows.{has_waits}
+use Rattle.flow_sample.proofs.OrderLemmas.{union_more}
+use Rattle.flow_sample.proofs.item.all_waits.Goals as goal
+
+pub loop-item-preserved : goal.loop-item-preserved
+loop-item-preserved c =
+    union_more has_waits c.args.items.now c.loop-item.item-index c.item-item.result c.loop-item.all c.union_with.new.self
+    c.loop-item-test.true c.item-item.is c.union_with.ensures c.loop-item.invariant
