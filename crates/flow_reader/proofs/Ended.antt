@@ -1,14 +1,12 @@
 -- A symbol that ends a declared item, and is read after it; a symbol that nothing goes on with.
 use denote.Bor.{Bor}
-use Rattle.std.proofs.Common.{◌≡◌, ℕ, None, List, [], ◌∷◌, ◌++◌, refl, ap}
+use Rattle.std.proofs.Common.{◌≡◌, ℕ, List, [], ◌∷◌, ◌++◌, refl, ap}
 use Rattle.flow_model.specs.declared.labels.Note.TheVariants.{Done, Fail}
 use Rattle.flow_facts.specs.Atom.{atom}
-use Rattle.flow_form.specs.Form.{Shape}
-use Rattle.flow_form.specs.RuleForm.{RuleShape}
 use Rattle.flow_form.specs.Script.{Declared, fact, event}
 use Rattle.flow_grammar.specs.Grammar.{Prefix}
 use Rattle.flow_grammar.specs.Machine as machine
-use Rattle.flow_grammar.specs.Machine.{join_item, fact_to_declare, event_to_declare, open_declared_args, note_event, count_failures, stuck, with_name}
+use Rattle.flow_grammar.specs.Machine.{join_item, fact_to_declare, event_to_declare, open_declared_args, note_event, count_failures, stuck}
 use Rattle.flow_reader.specs.Symbols.{meant}
 use Rattle.flow_reader.specs.declared.symbol.Symbol.{Symbol}
 use Rattle.flow_reader.specs.declared.symbol.Symbol.TheVariants as code
@@ -29,15 +27,6 @@ pub failing_ended : (ds new : List Declared) (n : List ℕ) (s : Symbol) → ((c
 failing_ended ds new n (code.Number count) other said = absurd (other count refl)
 failing_ended ds new n s other said = ap (λ so_far. join_item event_to_declare so_far (meant s)) said
 
-pub no_name : {T : Type 0} (next : List ℕ → T) (s : Symbol) → ((name : Bor (List ℕ)) → s ≡ code.Name name → ⊥) → None ≡ with_name next (meant s)
-no_name next (code.Name name) other = absurd (other name refl)
-no_name next _ other = refl
-
-pub no_constraint : (ds : List Declared) (goal : Shape) (rules : List RuleShape) (s : Symbol) → (s ≡ code.Constraint → ⊥) →
-    None ≡ machine.start_constraint ds goal rules (meant s)
-no_constraint ds goal rules code.Constraint other = absurd (other refl)
-no_constraint ds goal rules _ other = refl
-
 pub no_opening : (fs : List machine.Frame) (l : machine.Level) (s : Symbol) → (s ≡ code.Opening → ⊥) → stuck ≡ machine.open_iso fs l (meant s)
 no_opening fs l code.Opening other = absurd (other refl)
 no_opening fs l _ other = refl
@@ -46,7 +35,3 @@ pub no_relation : (p : Prefix) (fs : List machine.Frame) (l : machine.Level) (s 
     stuck ≡ machine.name_relation p fs l (meant s)
 no_relation p fs l (code.Name name) other = absurd (other name refl)
 no_relation p fs l _ other = refl
-
-pub no_flow : (ds : List Declared) (n : List ℕ) (s : Symbol) → (s ≡ code.Equals → ⊥) → None ≡ machine.begin_flow ds n (meant s)
-no_flow ds n code.Equals other = absurd (other refl)
-no_flow ds n _ other = refl
