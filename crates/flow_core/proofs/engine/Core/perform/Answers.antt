@@ -29,3 +29,6 @@ record_did-requires-clause-label c = sym c.in-Some.ensures
 
 pub record_did-requires-clause-enabled : goal.record_did-requires-clause-enabled
 record_did-requires-clause-enabled c = c.if-not-can_do_aside.ensures.0 refl
+
+pub record_did-requires-clause-holds : goal.record_did-requires-clause-holds
+record_did-requires-clause-holds c = c.if-not-label_holds.ensures.0 refl
