@@ -1,5 +1,5 @@
 -- What the calls that make an entry owe, told of the fields of a core.
-use Rattle.std.proofs.Common.{◌≡◌, ◌≤◌, ◌<◌, ℕ, false, List, length, arith, subst, subst₂, sym, ◌∙◌, true≢false}
+use Rattle.std.proofs.Common.{◌≡◌, ◌≤◌, ◌<◌, ℕ, Bool, false, List, length, arith, subst, subst₂, sym, ◌∙◌, true≢false}
 use Rattle.std.specs.Vec.{vec_capacity}
 use Rattle.flow_model.specs.declared.limits.TheConstants.{MOST_ENTRIES}
 use Rattle.flow_model.specs.declared.history.Entry.{Entry}
@@ -18,6 +18,9 @@ module _ (i : Inside) (k : IsRunning i) (v : Run) (view : run_by i ≡ v) where
   -- what is told of the run, told of the fields
   inside : (P : Run → Type 0) → P v → P (run_by i)
   inside P = subst P (sym view)
+
+  pub ended_inside : (over : Bool) → i.committed ≡ over → (now v).committed ≡ over
+  ended_inside over is = subst (λ r. (now r).committed ≡ over) view (k.kept.committed_is ∙ is)
 
   pub unanswered_inside : (claim : ℕ) → IsCurrent (now v) claim → IsUnanswered i.claims claim
   unanswered_inside claim current =

@@ -1,6 +1,7 @@
 pub mod Following
 pub mod Steps
 pub mod Entries
+pub mod Labels
 pub mod Lawful
 pub mod Calls
 pub mod Tests

@@ -95,10 +95,12 @@ impl Core {
     fn can_step(&self, leaf: u32) -> bool
         ensures { IsTrue result ↔ CanStep self.now leaf }
     {
-        match self.label_at(leaf) {
-            None => false,
-            Some(Label::Event(_)) => self.can_take(leaf),
-            Some(label) => self.label_holds(label) && self.can_do_aside(leaf),
+        let Some(label) = self.label_at(leaf) else {
+            return false;
+        };
+        match label {
+            Label::Event(_) => self.can_take(leaf),
+            _ => self.label_holds(label) && self.can_do_aside(leaf),
         }
     }
 
@@ -115,9 +117,12 @@ impl Core {
     pub fn is_left(&self, leaf: u32) -> bool
         ensures { IsTrue result ↔ CanDoAside (schema self.now) (now self.now) leaf }
     {
-        match self.label_at(leaf) {
-            None | Some(Label::Event(_)) => false,
-            Some(_) => self.can_do_aside(leaf),
+        let Some(label) = self.label_at(leaf) else {
+            return false;
+        };
+        match label {
+            Label::Event(_) => false,
+            _ => self.can_do_aside(leaf),
         }
     }
 
@@ -147,7 +152,7 @@ impl Core {
     }
 
     /// How many leaves the goal has.
-    fn leaves(&self) -> u32
+    pub(crate) fn leaves(&self) -> u32
         ensures { result ≡ length (schema self.now).labels }
     {
         self.workflow.tree().leaves()

@@ -20,7 +20,7 @@ impl Core {
         if self.committed {
             return Err(TakeRefusal::Closed);
         }
-        if self.workflow.tree().leaves() <= leaf {
+        if self.leaves() <= leaf {
             return Err(TakeRefusal::NoLeaf);
         }
         let Some(event) = self.event_at(leaf) else {
