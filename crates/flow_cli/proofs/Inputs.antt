@@ -1,5 +1,5 @@
 -- What is written for what a source gives.
-use Rattle.std.proofs.Common.{◌≡◌, ◌≤◌, ◌+◌, ◌-◌, ℕ, List, [], length, take, drop, inl, Option, Some, None, Result, Ok, Err, IfSome, refl, sym, ap, arith, ◌∙◌, subst, inr, length-drop}
+use Rattle.std.proofs.Common.{◌≡◌, ◌≤◌, ◌+◌, ◌-◌, ℕ, List, [], length, take, drop, inl, Option, Some, None, Result, Ok, Err, IfSome, refl, ap, arith, rules, ◌∙◌, subst, inr, length-drop}
 use Rattle.std.specs.declared.alloc.AllocError.{AllocError}
 use Rattle.std.specs.Prelude.{◌<◌, ◌↔◌, IfOk}
 use Rattle.std.specs.Result.{IsErrOf}
@@ -12,12 +12,9 @@ use Rattle.flow_record.specs.Cut.{cut_of}
 use Rattle.flow_io.specs.Source.{IsAllOf, LosesCount}
 use Rattle.flow_io.specs.declared.failure.ReadRefusal.{ReadRefusal}
 use Rattle.flow_io.specs.declared.failure.ReadRefusal.TheVariants.{ReadFault, TooLong, NoMemory}
-use Rattle.flow_findings.specs.declared.refused.Refused.TheVariants as refused
 use Rattle.flow_cli.specs.declared.output.Output.{Output}
 use Rattle.flow_cli.specs.declared.status.Status.{Status}
-use Rattle.flow_cli.specs.declared.status.Status.TheVariants as ending
-use Rattle.flow_cli.specs.Refusals.{Tells}
-use Rattle.flow_cli.specs.Output.{greatest_input, WritesFor, WritesRead, WritesIn, IsOfInput, IsWhole, IsOver, IsNotRead, IsOutcome}
+use Rattle.flow_cli.specs.Output.{greatest_input, WritesFor, WritesRead, WritesIn, IsOfInput, IsNotRead, IsOutcome}
 use Rattle.flow_cli.proofs.Statuses.{input_whole}
 
 module _ (P : Said → List ℕ → Status → List ℕ → Type 0) where
@@ -38,16 +35,6 @@ module _ (P : Said → List ℕ → Status → List ℕ → Type 0) where
       (inr (subst (λ (i : List ℕ). WritesRead P i status output) (same ∙ whole.0) (inr (short, w))), whole.1)
 
   module _ (all left : Option (List ℕ)) (faults faults' : ℕ) where
-    of_input : (status : Status) (output : List ℕ) → WritesIn P all status output → IsOfInput status → ¬ (faults < faults') →
-        (Unit {0} → IsOver status → IfSome all (λ _. left ≡ Some [])) → IsOutcome (WritesIn P all) (Unit {0}) all left faults faults' status output
-    of_input status output w is same end = record {
-      writes = w;
-      whole = input_whole status is;
-      words = λ e. subst IsOfInput e is;
-      fault = ((λ e. absurd (subst IsOfInput e is)), (λ more. absurd (same more)));
-      end = end;
-    }
-
     -- a source that was read
     pub when_read : {T : Type 0} (input : T) (bytes slice : List ℕ) (result : Result Output AllocError) → IsAllOf all left bytes →
         (IsErrOf {T = T} {E = ReadRefusal} (Ok input) ReadFault ↔ (faults < faults')) → slice ≡ bytes → length slice ≤ greatest_input →
@@ -56,20 +43,13 @@ module _ (P : Said → List ℕ → Status → List ℕ → Type 0) where
     when_read {T} input bytes slice (Err e) whole fault same short w is = tt
     when_read {T} input bytes slice (Ok output) whole fault same short w is =
         let (written, end) = read_whole all left bytes slice output.status output.text.items whole same short w in
-        of_input output.status output.text.items written is (λ more. let e = fault.1 more in cc) (λ _ _. end)
+        let over = input_whole output.status is in search rules
 
     -- a source that was not
     pub when_not_read : {T : Type 0} (refusal : ReadRefusal) (status : Status) (output : List ℕ) → (IsErrOf {T = T} (Err refusal) ReadFault ↔ (faults < faults')) →
         IfSome all (λ bytes. IsErrOf {T = T} (Err refusal) TooLong ↔ LosesCount (Some bytes) left (GREATEST_INPUT + 1)) → IsNotRead refusal status output →
         IsOutcome (WritesIn P all) (Unit {0}) all left faults faults' status output
-    when_not_read {T} ReadFault status output fault long told = record {
-      writes = inl told;
-      whole = subst IsWhole (sym told.status_is) tt;
-      words = λ is. let e : ending.ReadFault ≡ ending.Words = sym told.status_is ∙ is in cc;
-      fault = ((λ _. fault.0 refl), (λ _. told.status_is));
-      end = λ _ over. absurd (subst IsOver told.status_is over);
-    }
+    when_not_read {T} ReadFault status output fault long told = search rules
     when_not_read {T} TooLong status output fault long told =
-        of_input status output (inr (IfSome_then all long (λ input loses. inl (record { long = (loses.0 refl).0; told = told }))))
-        (subst IsOfInput (sym told.status_is) tt) (λ more. let e = fault.1 more in cc) (λ _ over. absurd (subst IsOver told.status_is over))
+        let w : WritesIn P all status output = inr (IfSome_then all long (λ input loses. inl (record { long = (loses.0 refl).0; told = told }))) in search rules
     when_not_read {T} NoMemory status output fault long told = absurd told

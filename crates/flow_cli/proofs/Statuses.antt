@@ -1,5 +1,5 @@
 -- The statuses of answers to an input that was read.
-use Rattle.std.proofs.Common.{ℕ, Bool, List, ◌⊎◌, sym, subst, inl, inr}
+use Rattle.std.proofs.Common.{◌≢◌, ℕ, Bool, List, ◌⊎◌, sym, subst, inl, inr}
 use Rattle.flow_model.specs.declared.history.Call.{Call}
 use Rattle.flow_model.specs.declared.history.Outcome.{Outcome}
 use Rattle.flow_form.specs.Script.{Said, Asked, holds, redundant}
@@ -96,3 +96,6 @@ pub input_whole : (s : Status) → IsOfInput s → IsWhole s
 input_whole WriteFault h = h
 input_whole Memory h = h
 input_whole other h = tt
+
+pub write_fault_no_want : WriteFault ≢ Memory
+write_fault_no_want is = cc
