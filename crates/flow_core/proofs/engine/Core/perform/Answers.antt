@@ -18,17 +18,8 @@ returns-then-not-has_steps c =
 pub can_do_aside-requires : goal.can_do_aside-requires
 can_do_aside-requires c = other_leaf (schema c.args.self.now) c.args.leaf c.in-Some.label c.in-Some.ensures c.in_default-label.not-Event
 
-pub returns-then-not-can_do_aside : goal.returns-then-not-can_do_aside
-returns-then-not-can_do_aside c =
-    let going = ended_inside c.self.inside c.self.invariant c.args.self.now c.self.view_is false c.if-self.false in
-    let other = other_leaf (schema c.args.self.now) c.args.leaf c.in-Some.label c.in-Some.ensures c.in_default-label.not-Event in
-    (going, other, c.if-not-has_steps.ensures.0 refl, λ can. true≢false (sym (c.if-not-can_do_aside.ensures.1 can)), refl)
-
 pub record_did-requires-clause-label : goal.record_did-requires-clause-label
 record_did-requires-clause-label c = sym c.in-Some.ensures
-
-pub record_did-requires-clause-enabled : goal.record_did-requires-clause-enabled
-record_did-requires-clause-enabled c = c.if-not-can_do_aside.ensures.0 refl
 
 pub record_did-requires-clause-holds : goal.record_did-requires-clause-holds
 record_did-requires-clause-holds c = c.if-not-label_holds.ensures.0 refl
