@@ -85,6 +85,9 @@ module _ {S V : Type 0} (step : S → Symbol → Option S) (finish : S → Optio
   viable_none : (s : S) (t : Symbol) (ts : List Symbol) → step s t ≡ None → ¬ IsViable (R s) (t ∷ ts)
   viable_none s t ts es (w, x, (rest, e), r) = (front s None t (ts ++ rest) w x es e r).5
 
+  viable_down : (s next : S) (t : Symbol) (ts : List Symbol) → step s t ≡ Some next → IsViable (R s) (t ∷ ts) → IsViable (R next) ts
+  viable_down s next t ts es (w, x, (rest, e), r) = let (n, v, ew, ev, d, r') = front s (Some next) t (ts ++ rest) w x es e r in (v, x, (rest, ev), r')
+
   viable_up : (s next : S) (t : Symbol) (ts : List Symbol) → step s t ≡ Some next → IsViable (R next) ts → IsViable (R s) (t ∷ ts)
   viable_up s next t ts es (w, x, (rest, e), r) =
       let (n, d, r') = behind s next t w x es r in
@@ -165,8 +168,7 @@ module _ {S V : Type 0} (step : S → Symbol → Option S) (finish : S → Optio
       (
         viable_up s next t (take j ts) es h.stands.0.0,
         ⊎_elim
-            (λ (l, refuted). inl (omega arith, λ (w, x, (rest, e), r).
-            let (n, v, ew, ev, d, r') = front s (Some next) t (take (suc j) ts ++ rest) w x es e r in refuted (v, x, (rest, ev), r')))
+            (λ (l, refuted). inl (omega arith, λ v. refuted (viable_down s next t (take (suc j) ts) es v)))
             (λ (l, refuted). inr (omega arith, λ (w, x, e, r). let (n, v, ew, ev, d, r') = front s (Some next) t ts w x es e r in refuted (v, x, ev, r')))
             h.stands.0.1,
       ),
