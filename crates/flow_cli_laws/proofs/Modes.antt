@@ -41,7 +41,7 @@ use Rattle.flow_verify.specs.declared.answers.Redundancy.{Redundancy}
 use Rattle.flow_verify.specs.declared.answers.Redundancy.TheVariants.{Redundant, Needed}
 use Rattle.flow_verify.specs.Verification.{against, without, TellsOfProperty, TellsOfConstraint}
 use Rattle.flow_findings.specs.Judging.{verified_text, redundancy_text}
-use Rattle.flow_cli.specs.Verifying.{OfQuery, status_of_verified, status_of_redundancy, TellsProperty, VerifiesProperty, TellsConstraint, VerifiesConstraint, VerifiesWorkflow, VerifiesSaid, VerifiesText}
+use Rattle.flow_cli.specs.Verifying.{OfQuery, status_of_verified, status_of_redundancy, TellsProperty, TellsConstraint, VerifiesConstraint, VerifiesWorkflow, VerifiesSaid, VerifiesText}
 use Rattle.flow_cli.specs.Refusals.{OfWorkflow, Tells, IsNotExpanded}
 use Rattle.flow_cli_laws.proofs.TextAnswers.{of_text, one_refusal, one_value, not_both}
 
@@ -161,11 +161,6 @@ module _ (status other : Status) (output text : List ℕ) where
   property_answers_once w property (Fails t) (Fails u) h g i j one two =
       (i ∙ sym j, inr (record { one = t; other = u; one_has = h; other_has = g; output_is = one; text_is = two }))
 
-  property_once : (w : Definition) (property : Constraint) → VerifiesProperty w property status output → VerifiesProperty w property other text →
-      Agree (ShowsBreach w property output text)
-  property_once w property = sized_once (against (schema_of w) property) (ShowsBreach w property output text) (λ st o. TellsProperty w property st o) (λ st o p. p.within)
-      (λ p q. property_answers_once w property p.verified q.verified p.told q.told p.status_is q.status_is p.output_is q.output_is)
-
   constraint_answers_once : (w : Definition) (index : ℕ) (a b : Redundancy) → TellsOfConstraint (schema_of w) index a → TellsOfConstraint (schema_of w) index b →
       status ≡ status_of_redundancy a → other ≡ status_of_redundancy b → output ≡ redundancy_text w a → text ≡ redundancy_text w b →
       Agree (ShowsNeed w index output text)
@@ -178,11 +173,6 @@ module _ (status other : Status) (output text : List ℕ) where
   abbrev Tries : Definition → ℕ → Constraint → Status → List ℕ → Type 0
   Tries w index rule st o = IsTooLarge (against (without (schema_of w) index) rule) st o ⊎ TellsConstraint w index rule st o
 
-  rule_once : (w : Definition) (index : ℕ) (rule : Constraint) → Tries w index rule status output → Tries w index rule other text →
-      Agree (ShowsNeed w index output text)
-  rule_once w index rule = sized_once (against (without (schema_of w) index) rule) (ShowsNeed w index output text) (λ st o. TellsConstraint w index rule st o) (λ st o p. p.within)
-      (λ p q. constraint_answers_once w index p.redundancy q.redundancy p.told q.told p.status_is q.status_is p.output_is q.output_is)
-
   past_end : (w : Definition) (index : ℕ) (rule : Constraint) → length w.rules ≤ index → slice_get w.rules index ≡ Some rule → ⊥
   past_end w index rule past is = let within : index < length w.rules = slice_get_within w.rules index rule is in omega (arith, past, within)
 
@@ -194,12 +184,16 @@ module _ (status other : Status) (output text : List ℕ) where
   constraint_once w index (inr (rule, is, h)) (inr (law, are, g)) =
       let both : Some law ≡ Some rule = sym are ∙ is in
       let one : law ≡ rule = cc in
-      rule_once w index rule h (subst (λ (c : Constraint). Tries w index c other text) one g)
+      sized_once (against (without (schema_of w) index) rule) (ShowsNeed w index output text) (λ st o. TellsConstraint w index rule st o) (λ st o p. p.within)
+      (λ p q. constraint_answers_once w index p.redundancy q.redundancy p.told q.told p.status_is q.status_is p.output_is q.output_is)
+      h (subst (λ (c : Constraint). Tries w index c other text) one g)
 
   workflow_verifies_once : (w : Definition) (query : Asked) → VerifiesWorkflow w query status output → VerifiesWorkflow w query other text →
       Agree (ShowsExecution w query output text)
-  workflow_verifies_once w (holds property) p q = property_once w (constraint_of w.events property) p q
-  workflow_verifies_once w (redundant index) p q = constraint_once w index p q
+  workflow_verifies_once w (holds asked) = let property = constraint_of w.events asked in
+      sized_once (against (schema_of w) property) (ShowsBreach w property output text) (λ st o. TellsProperty w property st o) (λ st o p. p.within)
+      (λ p q. property_answers_once w property p.verified q.verified p.told q.told p.status_is q.status_is p.output_is q.output_is)
+  workflow_verifies_once w (redundant index) = constraint_once w index
 
   pub verify_agrees : (s : Said) → AreDistinct (declared_names s.decls) → (second : List ℕ) → VerifiesText s second status output → VerifiesText s second other text →
       Agree (OfQuery s second (λ query. ShowsAsked s query output text))

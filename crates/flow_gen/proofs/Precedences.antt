@@ -14,10 +14,9 @@ use Rattle.flow_model.specs.Schema.{Schema}
 use Rattle.flow_model.specs.Resolution.{ChoiceOption, option_size, options_in, ways_in}
 use Rattle.flow_rules.specs.Rule.{any_of}
 use Rattle.flow_form.specs.Names.{event_names}
-use Rattle.flow_workflow.specs.Numbers.{event_number}
 use Rattle.flow_expand.specs.Constraints.{constraint_of}
 use Rattle.flow_excise.proofs.TallyLemmas.{bulk-cons}
-use Rattle.flow_gen.specs.Generated.{event_name, all_draws, constraints, generated}
+use Rattle.flow_gen.specs.Generated.{all_draws, constraints, generated}
 use Rattle.flow_gen.proofs.SaidTexts.{rule_draws}
 use Rattle.flow_gen.proofs.Expanded.{number_is}
 
@@ -33,17 +32,11 @@ pub record IsPrecedence (c : Constraint) : Type 0 where
   pub is : c ≡ precedence first second
 
 module _ (seed size : ℕ) (some : 1 ≤ size) (few : size ≤ GREATEST_SIZE) where
-  one_is : (x y : ℕ) → x < y → y < 8 * size →
-      IsPrecedence (precedence (event_number (event_names (generated seed size).decls) (event_name x)) (event_number (event_names (generated seed size).decls) (event_name y)))
-  one_is x y less h = record {
-    first = _;
-    second = _;
-    less = omega (arith, number_is seed size some few x (omega (arith, less, h)), number_is seed size some few y h, less);
-    is = refl;
-  }
-
   each_is : (first : ℕ) (ds : List ℕ) → first + 8 + 4 * length ds ≤ 8 * size → Each IsPrecedence (map (constraint_of (event_names (generated seed size).decls)) (constraints first ds))
-  each_is first (f ∷ g ∷ ds) fits = (one_is (first + f % 8) (first + 8 + g % 8) (omega arith) (omega arith), each_is (first + 8) ds (omega arith))
+  each_is first (f ∷ g ∷ ds) fits =
+      let x = number_is seed size some few (first + f % 8) (omega arith) in
+      let y = number_is seed size some few (first + 8 + g % 8) (omega arith) in
+      (record { first = _; second = _; less = omega (arith, x, y); is = refl }, each_is (first + 8) ds (omega arith))
   each_is first fewer fits = tt
 
   -- each is that one event of a block precedes one of the next block

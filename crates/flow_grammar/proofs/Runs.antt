@@ -93,9 +93,6 @@ module _ {S V : Type 0} (step : S → Symbol → Option S) (finish : S → Optio
       let (n, d, r') = behind s next t w x es r in
       (at n t ∷ w, x, (rest, ap (λ y. t ∷ y) e), r')
 
-  whole_down : (s next : S) (t : Symbol) (ts : List Symbol) → step s t ≡ Some next → IsWhole (R s) (t ∷ ts) → IsWhole (R next) ts
-  whole_down s next t ts es (w, x, e, r) = let (n, v, ew, ev, d, r') = front s (Some next) t ts w x es e r in (v, x, ev, r')
-
   whole_up : (s next : S) (t : Symbol) (ts : List Symbol) → step s t ≡ Some next → IsWhole (R next) ts → IsWhole (R s) (t ∷ ts)
   whole_up s next t ts es (w, x, e, r) =
       let (n, d, r') = behind s next t w x es r in
@@ -170,8 +167,10 @@ module _ {S V : Type 0} (step : S → Symbol → Option S) (finish : S → Optio
     stands = (
       (
         viable_up s next t (take j ts) es h.stands.0.0,
-        ⊎_elim (λ (l, refuted). inl (omega arith, λ v. refuted (viable_down s next t (take (suc j) ts) es v)))
-            (λ (l, refuted). inr (omega arith, λ v. refuted (whole_down s next t ts es v))) h.stands.0.1,
+        ⊎_elim
+            (λ (l, refuted). inl (omega arith, λ v. refuted (viable_down s next t (take (suc j) ts) es v)))
+            (λ (l, refuted). inr (omega arith, λ (w, x, e, r). let (n, v, ew, ev, d, r') = front s (Some next) t ts w x es e r in refuted (v, x, ev, r')))
+            h.stands.0.1,
       ),
       none_before s next t ts j es eb h.stands.1,
     );

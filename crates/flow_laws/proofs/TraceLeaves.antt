@@ -80,10 +80,6 @@ leaf_in_blocks q f bs h = (are_done q bs h).all f
 pub blocks_of_none : (g : Process) (bs : List (List ℕ)) → Blocks g bs → ((n : ℕ) → ¬ (n ∈ joined bs)) → bs ≡ []
 blocks_of_none g bs h = (are_done g bs h).none
 
--- no leaf stands twice
-pub distinct_blocks : (g : Process) → AreDistinct (leaves g) → (bs : List (List ℕ)) → Blocks g bs → AreDistinct (joined bs)
-distinct_blocks g d bs h = (are_done g bs h).once d
-
 pub leaf_of_trace : (g : Process) (t : List ℕ) → Trace g t → (n : ℕ) → n ∈ t → n ∈ leaves g
 leaf_of_trace g t (bs, h, e) n m = leaf_of_blocks g bs h n (subst (λ w. n ∈ w) e m)
 
@@ -91,4 +87,4 @@ pub leaf_in_trace : (q : Process) → IsChoiceFree q → (t : List ℕ) → Trac
 leaf_in_trace q f t (bs, h, e) n m = subst (λ w. n ∈ w) (sym e) (leaf_in_blocks q f bs h n m)
 
 pub distinct_trace : (g : Process) → AreDistinct (leaves g) → (t : List ℕ) → Trace g t → AreDistinct t
-distinct_trace g d t (bs, h, e) = subst AreDistinct (sym e) (distinct_blocks g d bs h)
+distinct_trace g d t (bs, h, e) = subst AreDistinct (sym e) ((are_done g bs h).once d)
