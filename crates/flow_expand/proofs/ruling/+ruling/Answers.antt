@@ -1,5 +1,5 @@
 use Rattle.std.proofs.Common.{◌≡◌, ◌+◌, ◌++◌, ◌∷◌, [], get_or, map, take, sym, ap, ◌∙◌}
-use Rattle.std.proofs.lemmas.List.{map_push, map_more}
+use Rattle.std.proofs.lemmas.List.{map_push, map_more, take_all}
 use Rattle.flow_model.specs.Constraint.{all_of}
 use Rattle.flow_form.specs.RuleForm.{rule_shape_of, rule_shapes}
 use Rattle.flow_rules.specs.Rule.{any_of, rule_of}
@@ -33,3 +33,7 @@ rules_of-loop-place-preserved t c =
     ap (map rule_of) c.in_ok-push.ensures.items ∙ map_push rule_of made rule ∙ (λ t. before t ++ same t ∷ [])
     ∙ sym (ap (map (constraint_of events)) (map_more rule_shape_of forms i item c.loop-place-test.true) ∙ map_push (constraint_of events) (map rule_shape_of (take i forms)) (rule_shape_of (get_or forms i item)))
     ∙ sym (constraints_of-shapes events (map rule_shape_of (take (i + 1) forms)))
+
+pub rules_of-returns : goal.rules_of-returns
+rules_of-returns t c =
+    c.loop-place.invariant ∙ ap (λ forms. constraints_of c.args.workflow.now.events (rule_shapes (map rule_shape_of forms))) (take_all c.loop-place.place c.args.forms.now c.loop-place-test.false)

@@ -53,6 +53,5 @@ unreachable-requires-in-None c =
 
 pub index_mut-requires : goal.index_mut-requires
 index_mut-requires c =
-    let laid = c.args.self.now.laid in
-    subst (λ n. c.args.next < n) (sym laid.ok.0)
-    (slice_get_within laid.items c.args.next stage.Unlaid (ap (λ l. slice_get l c.args.next) (sym c.deref.ensures.value) ∙ sym c.in-Some-Unlaid.ensures ∙ ap Some c.in-Some-Unlaid.field-0-is))
+    subst (λ n. c.args.next < n) (sym c.args.self.now.laid.ok.0)
+    (slice_get_within _ c.args.next stage.Unlaid (ap (λ l. slice_get l c.args.next) (sym c.deref.ensures.value) ∙ sym c.in-Some-Unlaid.ensures ∙ ap Some c.in-Some-Unlaid.field-0-is))
