@@ -1,6 +1,6 @@
 -- A list to which pieces are put one after another, and the loops that do so.
-use Rattle.std.proofs.Common.{◌≡◌, ℕ, ◌+◌, ◌-◌, ◌<◌, ◌≤◌, List, [], ◌∷◌, ◌++◌, length, length-drop, take, drop, get_or, sym, ap, ◌∙◌, append_assoc, arith}
-use Rattle.std.proofs.lemmas.List.{append-nil, at_drop_more, at_drop_all, drop_more, take_all}
+use Rattle.std.proofs.Common.{◌≡◌, ℕ, ◌+◌, ◌<◌, List, ◌∷◌, ◌++◌, length, drop, get_or, sym, ap, ◌∙◌, append_assoc}
+use Rattle.std.proofs.lemmas.List.{at_drop_more}
 
 pub twice : {A : Type 0} (a b c p q : List A) → b ≡ a ++ p → c ≡ b ++ q → c ≡ a ++ (p ++ q)
 twice a b c p q one two = two ∙ ap (λ t. t ++ q) one ∙ append_assoc a p q
@@ -18,17 +18,3 @@ pub listed_more : {X : Type 0} (G : X → List ℕ) (F : List X → List ℕ) (m
 listed_more G F m xs i x old mid new mark all inside is begins marked one two left =
     goes_on F xs i x old new (m ++ G x) all inside is (begins x)
     (twice old mid new m (G x) (one ∙ ap (λ t. old ++ t) marked) two) left
-
--- where the loop ends, all is put
-pub ended : {X A : Type 0} (F : List X → List A) (xs : List X) (i : ℕ) (new all : List A) → F [] ≡ [] → length xs ≤ i → new ++ F (drop i xs) ≡ all → new ≡ all
-ended F xs i new all none over left = sym (append-nil new) ∙ ap (λ t. new ++ t) (sym none ∙ sym (at_drop_all F xs i over)) ∙ left
-
--- the same behind the first, which is put before the loop: L is the text of a list
-pub listed : {X : Type 0} (G : X → List ℕ) (F L : List X → List ℕ) (xs : List X) (i : ℕ) (x : X) (old mid new : List ℕ) → 1 ≤ length xs → x ≡ get_or xs 0 x
-    → ((y : X) (ys : List X) → L (y ∷ ys) ≡ G y ++ F ys) → F [] ≡ [] → length (take (length xs - 1) (drop 1 xs)) ≤ i → mid ≡ old ++ G x
-    → new ++ F (drop i (take (length xs - 1) (drop 1 xs))) ≡ mid ++ F (take (length xs - 1) (drop 1 xs)) → new ≡ old ++ L xs
-listed G F L xs i x old mid new some is begins none over first left =
-    let rest = take (length xs - 1) (drop 1 xs) in
-    let whole : xs ≡ x ∷ rest = drop_more xs 0 x some ∙ ap (λ y. y ∷ drop 1 xs) (sym is) ∙ ap (λ t. x ∷ t) (sym (take_all (length xs - 1) (drop 1 xs) (omega (arith, length-drop 1 xs)))) in
-    ended F rest i new (mid ++ F rest) none over left
-    ∙ ap (λ t. t ++ F rest) first ∙ append_assoc old (G x) (F rest) ∙ ap (λ t. old ++ t) (sym (begins x rest) ∙ ap L (sym whole))

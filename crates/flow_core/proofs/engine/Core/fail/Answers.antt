@@ -29,6 +29,3 @@ returns-else-can_avoid c =
     let needed = subst (λ (r : Run). (t : List ℕ) → IsFree (schema r) (now r) t → leaf_of_claim (now r) c.args.claim ∈ t) h.4
     (is_needed c.args.self.now c.standing.new.self c.args.claim c.in_ok-given.given h.3 h.4 c.can_avoid.result c.can_avoid.ensures c.if-can_avoid.false) in
     (h.0, h.1, h.2, needed, c.record_kept.ensures ∙ ap (λ (r : Run). with_entry r c.args.by (Failed c.args.claim effects.Kept)) h.4)
-
-pub record_switched-requires-clause-avoidable : goal.record_switched-requires-clause-avoidable
-record_switched-requires-clause-avoidable c = c.can_avoid.ensures.0 c.if-can_avoid.true
