@@ -48,11 +48,6 @@ pub fn expand(alloc: Global, script: &Script) -> Result<Workflow, ExpandRefusal>
     ensures ok { IfOk result (IsExpanded (said script.now)) }
 {
     let events = Events::new(alloc, &script.decls)?;
-    match goal_of(alloc, script, &events.names) {
-        Ok(goal) => Ok(assemble(alloc, script, events, goal)?),
-        Err(refusal) => {
-            drop(events);
-            Err(refusal)
-        }
-    }
+    let goal = goal_of(alloc, script, &events.names)?;
+    Ok(assemble(alloc, script, events, goal)?)
 }

@@ -13,11 +13,11 @@ new-requires c =
 pub returns-in_err-events-clause-one : goal.returns-in_err-events-clause-one
 returns-in_err-events-clause-one c = λ e f. becomes_one (said c.args.script.now).decls c.requires.once (said c.args.script.now).goal e f
 
-pub returns-in-Err-clause-one : goal.returns-in-Err-clause-one
-returns-in-Err-clause-one c = λ e f. becomes_one (said c.args.script.now).decls c.requires.once (said c.args.script.now).goal e f
+pub returns-in_err-goal-clause-one : goal.returns-in_err-goal-clause-one
+returns-in_err-goal-clause-one c = λ e f. becomes_one (said c.args.script.now).decls c.requires.once (said c.args.script.now).goal e f
 
-pub returns-in_err-assemble-in-Ok-clause-one : goal.returns-in_err-assemble-in-Ok-clause-one
-returns-in_err-assemble-in-Ok-clause-one c = λ e f. becomes_one (said c.args.script.now).decls c.requires.once (said c.args.script.now).goal e f
+pub returns-in_err-assemble-clause-one : goal.returns-in_err-assemble-clause-one
+returns-in_err-assemble-clause-one c = λ e f. becomes_one (said c.args.script.now).decls c.requires.once (said c.args.script.now).goal e f
 
-pub returns-in_ok-assemble-in-Ok-clause-one : goal.returns-in_ok-assemble-in-Ok-clause-one
-returns-in_ok-assemble-in-Ok-clause-one c = λ e f. becomes_one (said c.args.script.now).decls c.requires.once (said c.args.script.now).goal e f
+pub returns-clause-one : goal.returns-clause-one
+returns-clause-one c = λ e f. becomes_one (said c.args.script.now).decls c.requires.once (said c.args.script.now).goal e f
