@@ -4,7 +4,7 @@ use Rattle.std.proofs.lemmas.Option.{slice_get_within}
 use Rattle.flow_model.specs.declared.labels.Label.{Label}
 use Rattle.flow_model.specs.declared.labels.Label.TheVariants.{Event, Test, Absent, Ins, Del}
 use Rattle.flow_model.specs.Facts.{event_in}
-use Rattle.flow_model.specs.Schema.{Schema, IsEventLeaf, IsOtherLeaf}
+use Rattle.flow_model.specs.Schema.{Schema, IsOtherLeaf}
 
 -- no label: the leaf is past the end
 pub past : (labels : List Label) (leaf : ℕ) → None ≡ slice_get labels leaf → length labels ≤ leaf
@@ -20,8 +20,5 @@ no_event (Ins fact) other = refl
 no_event (Del fact) other = refl
 
 module _ (w : Schema) (leaf : ℕ) (label : Label) (at : Some label ≡ slice_get w.labels leaf) where
-  pub event_leaf : (event : ℕ) → label ≡ Event event → IsEventLeaf w leaf
-  event_leaf event is = rw (← at, is) refl
-
   pub other_leaf : ((event : ℕ) → ¬ (label ≡ Event event)) → IsOtherLeaf w leaf
   other_leaf other = (slice_get_within w.labels leaf label (sym at), rw (← at) (no_event label other))

@@ -5,7 +5,6 @@ use Rattle.flow_model.specs.Schema.{Schema}
 use Rattle.flow_model.specs.Run.{Claim, RunState, first_state, current_leaves, current_claims, claim_at, MayAllFollow, MayFollowFirst, CanTake}
 use Rattle.flow_workflow.specs.Definition.{Definition, schema_of}
 use Rattle.flow_residual.specs.Remaining.{Remaining, IsOf}
-use Rattle.flow_residual.specs.declared.given.Given.{Given}
 use Rattle.flow_residual.specs.Claimed.{Claimed, run_of, IsUnanswered}
 use Rattle.flow_core.specs.Answers.{IsUnanswered as IsUnansweredIn}
 use Rattle.flow_core.specs.Invariant.{AreClaimsOf}

@@ -35,20 +35,8 @@ impl Leaves {
 fn together(alloc: Global, how: Pairing, left: Goal, right: Goal) -> Result<Goal, AllocError>
     ensures { IfOk result (λ goal. process_of goal ≡ paired_process how (process_of left) (process_of right)) }
 {
-    let first = match Box::new(alloc, left) {
-        Ok(first) => first,
-        Err(refused) => {
-            drop(right);
-            return Err(refused.into());
-        }
-    };
-    let second = match Box::new(alloc, right) {
-        Ok(second) => second,
-        Err(refused) => {
-            drop(first);
-            return Err(refused.into());
-        }
-    };
+    let first = Box::new(alloc, left)?;
+    let second = Box::new(alloc, right)?;
     match how {
         Pairing::Serial => Ok(Goal::Serial(first, second)),
         Pairing::Beside => Ok(Goal::Beside(first, second)),
@@ -75,10 +63,7 @@ pub(crate) fn build(
         }
         Piece::Pair(how, left, right) => {
             let first = build(alloc, layout, *left, leaves)?;
-            let Ok(second) = build(alloc, layout, *right, leaves) else {
-                drop(first);
-                return Err(AllocError);
-            };
+            let second = build(alloc, layout, *right, leaves)?;
             together(alloc, *how, first, second)
         }
         Piece::Iso(part) => {

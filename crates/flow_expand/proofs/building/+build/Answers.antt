@@ -51,12 +51,12 @@ returns-in_ok-number-in-Fact t c =
     (grown ∙ ap (λ l. c.args.leaves.now.labels.items ++ l ∷ []) c.label.ensures))
     c.add-in-Fact.ensures.leaf c.add-in-Fact.ensures.labels
 
-pub returns-in-Ok : goal.returns-in-Ok
-returns-in-Ok t c =
+pub returns-in_ok-second-in-Pair : goal.returns-in_ok-second-in-Pair
+returns-in_ok-second-in-Pair t c =
     let there = piece_at c.args.layout.now.items c.args.place c.args.leaves.now c.index.result.now (piece.Pair c.in-Pair.how c.in-Pair.left c.in-Pair.right) c.requires c.index.ensures c.in-Pair.is in
     ok_to c.together.result _ _
     (λ made same. built_pair_at c.args.layout.now.items c.args.place c.in-Pair.how c.in-Pair.left c.in-Pair.right c.args.leaves.now c.build.new.leaves c.build-in-Pair.new.leaves
-    (process_of c.in_ok-first-in-Pair.first) (process_of c.in-Ok.second) (process_of made) there c.in_ok-first-in-Pair.ensures c.in-Ok.ensures same)
+    (process_of c.in_ok-first-in-Pair.first) (process_of c.in_ok-second-in-Pair.second) (process_of made) there c.in_ok-first-in-Pair.ensures c.in_ok-second-in-Pair.ensures same)
     c.together.ensures
 
 pub returns-in_ok-new-in-Iso : goal.returns-in_ok-new-in-Iso

@@ -1,7 +1,7 @@
 use Rattle.std.proofs.Common.{sym, ◌∙◌}
 use Rattle.std.proofs.lemmas.Bool.{true≢false}
 use Rattle.flow_plan.proofs.PartLemmas.{leaf_more}
-use Rattle.flow_plan.proofs.Together.{distinct_more, twice_there}
+use Rattle.flow_plan.proofs.Together.{distinct_more}
 use Rattle.flow_plan.proofs.claims.distinct.Goals as goal
 
 pub loop-leaf-preserved : goal.loop-leaf-preserved
@@ -10,7 +10,3 @@ loop-leaf-preserved c = record {
       (λ member. true≢false (sym (c.has.ensures ∙ (c.loop-leaf.invariant.set _).1 member) ∙ c.if-has.false)) c.loop-leaf.invariant.distinct;
   set = leaf_more c.args.list.now c.loop-leaf.leaf-index c.loop-leaf.set c.insert.new.self c.loop-leaf-test.true c.loop-leaf.invariant.set c.insert.ensures;
 }
-
-pub returns-then-has-clause-none : goal.returns-then-has-clause-none
-returns-then-has-clause-none c =
-    twice_there c.args.list.now c.loop-leaf.leaf-index c.loop-leaf-test.true ((c.loop-leaf.invariant.set _).0 (sym c.has.ensures ∙ c.if-has.true))
