@@ -19,6 +19,5 @@ no_event (Absent fact) other = refl
 no_event (Ins fact) other = refl
 no_event (Del fact) other = refl
 
-module _ (w : Schema) (leaf : ℕ) (label : Label) (at : Some label ≡ slice_get w.labels leaf) where
-  pub other_leaf : ((event : ℕ) → ¬ (label ≡ Event event)) → IsOtherLeaf w leaf
-  other_leaf other = (slice_get_within w.labels leaf label (sym at), rw (← at) (no_event label other))
+pub other_leaf : (w : Schema) (leaf : ℕ) (label : Label) → Some label ≡ slice_get w.labels leaf → ((event : ℕ) → ¬ (label ≡ Event event)) → IsOtherLeaf w leaf
+other_leaf w leaf label at other = (slice_get_within w.labels leaf label (sym at), rw (← at) (no_event label other))
