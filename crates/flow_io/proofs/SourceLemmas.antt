@@ -48,7 +48,7 @@ not_more_lost no_claim None left' limit lost = tt
 not_more_lost no_claim (Some bytes) left' limit (k, few, lost) = (
   (λ claim. absurd (no_claim claim)),
   (λ more. let same : Some (drop k bytes) ≡ Some (drop (limit + 1) bytes) = sym lost.1 ∙ more.1 in let rest : drop k bytes ≡ drop (limit + 1) bytes = cc in
-  absurd (omega (arith, more.0, ap length rest, length-drop k bytes, length-drop (limit + 1) bytes))),
+      absurd (omega (arith, more.0, ap length rest, length-drop k bytes, length-drop (limit + 1) bytes))),
 )
 
 -- the last read, of nothing

@@ -79,10 +79,10 @@ module _ {T E F : Type 0} (entries : T → List E) where
       let known : Knowledge E F = known_of old in
       let value = work.0 in
       let knows : known_of served ≡ record known { seen = entries takes.0 } =
-          (λ i. known_by ((again ∙ same) i) (takes.1 i).0)
-          ∙ (λ i. let v : View E F = (draws.1 i).0 in known_by old.table_id (record v { stage = Serving; seen = entries takes.0 })) in
+      (λ i. known_by ((again ∙ same) i) (takes.1 i).0)
+      ∙ (λ i. let v : View E F = (draws.1 i).0 in known_by old.table_id (record v { stage = Serving; seen = entries takes.0 })) in
       let w : Works entries caller fixed does value (record known { seen = entries takes.0 }) answer (known_of worked) =
-          subst (λ (k : Knowledge E F). Works entries caller fixed does value k answer (known_of worked)) knows work.2 in
+      subst (λ (k : Knowledge E F). Works entries caller fixed does value k answer (known_of worked)) knows work.2 in
       let found = subst (λ (m : Seated T E F). Finds entries caller fixed m.0.number m.0.seen m.0.mine m.0.joined m.0.part takes.0) draws.1 takes.2 in
       record {
         value = value;
