@@ -17,16 +17,29 @@ def arguments():
     return program, words
 
 
+def called(program, words, source):
+    """The seconds of a call, its memory in MB, and the last line of what it wrote."""
+    begun = time.perf_counter()
+    call = subprocess.run(["/usr/bin/time", "-f", "%M", program, *words], input=source, capture_output=True, check=False)
+    spent = time.perf_counter() - begun
+    last = call.stdout.decode().rstrip("\n").split("\n")[-1] or f"status {call.returncode}"
+    return spent, int(call.stderr.split()[-1]) / 1024, last
+
+
+def by_turns(program, words, *sources):
+    """Of each source the least seconds of five calls, the most memory in MB, and the last line of what was written. The calls take turns,
+    since a machine is faster at one time than at another."""
+    best, peak, last = [None] * len(sources), [0] * len(sources), [""] * len(sources)
+    for _ in range(5):
+        for number, source in enumerate(sources):
+            spent, memory, last[number] = called(program, words, source)
+            best[number] = spent if best[number] is None else min(best[number], spent)
+            peak[number] = max(peak[number], memory)
+        if max(best) > 5:
+            break
+    return list(zip(best, peak, last))
+
+
 def measured(program, words, source):
     """The least seconds of five calls, the most memory in MB, and the last line of what was written."""
-    best, peak, last = None, 0, ""
-    for _ in range(5):
-        begun = time.perf_counter()
-        call = subprocess.run(["/usr/bin/time", "-f", "%M", program, *words], input=source, capture_output=True, check=False)
-        spent = time.perf_counter() - begun
-        best = spent if best is None else min(best, spent)
-        peak = max(peak, int(call.stderr.split()[-1]) / 1024)
-        last = call.stdout.decode().rstrip("\n").split("\n")[-1] or f"status {call.returncode}"
-        if spent > 5:
-            break
-    return best, peak, last
+    return by_turns(program, words, source)[0]

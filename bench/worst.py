@@ -3,12 +3,12 @@
 
 It needs GNU time (/usr/bin/time). Usage: bench/worst.py [PROGRAM] [WORD ..]   the texts whose names have one of the words, or all of them
 The program is crates/flow/out/flow where none is named (`./prove` and the gate make it). Each text is checked five times,
-and the least time counts; the ratios are to the generated text of seed 3 and size 128 in the same run.
+by turns with the generated text of seed 3 and size 128, and the least time of each counts.
 """
 import random
 
 from generated import text as generated
-from measuring import arguments, measured
+from measuring import arguments, by_turns, measured
 
 GREATEST_INPUT = 1_048_576
 TEXTS = {}
@@ -625,7 +625,8 @@ def dropped_in_the_innermost_isolation():
 
 def main():
     program, wanted = arguments()
-    base, base_peak, _ = measured(program, ["check"], generated(3, 128).encode())
+    greatest = generated(3, 128).encode()
+    base, base_peak, _ = measured(program, ["check"], greatest)
     print(f"the greatest generated text: {base * 1000:.0f} ms, {base_peak:.0f} MB")
     print(f"{'text':<58}{'bytes':>9}{'ms':>8}{'times':>7}{'MB':>6}  ends with")
     worst, most = 0, 0
@@ -634,7 +635,7 @@ def main():
             continue
         source = make().encode()
         assert len(source) <= GREATEST_INPUT, name
-        seconds, peak, last = measured(program, ["check"], source)
+        (base, _, _), (seconds, peak, last) = by_turns(program, ["check"], greatest, source)
         worst, most = max(worst, seconds / base), max(most, peak)
         print(f"{name:<58}{len(source):>9}{seconds * 1000:>8.0f}{seconds / base:>7.1f}{peak:>6.0f}  {last[:40]}", flush=True)
     print(f"at most {worst:.1f} times the generated text, and {most:.0f} MB")

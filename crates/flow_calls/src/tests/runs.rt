@@ -40,14 +40,18 @@ fn start(alloc: Global, text: &[u8]) -> Result<Core, Fail> {
     Ok(Core::start(alloc, workflow, compiled, 64)?)
 }
 
-/// The call of a claim on a leaf whose event has the leaf's number, at its first attempt.
-fn call(claim: u32, leaf: u32) -> Call {
-    Call {
+/// Whether it is the call of that claim on that leaf, whose event has the leaf's number, at its first attempt.
+fn is_call(told: Told, claim: u32, leaf: u32) -> bool {
+    let wanted = Call {
         claim,
         leaf,
         event: leaf,
         attempt: 1,
         note: Note::Done,
+    };
+    match told {
+        Told::Call(call) => call == wanted,
+        _ => false,
     }
 }
 
@@ -63,20 +67,14 @@ fn each_thing_is_asked_of_a_run(rt: HostRuntime) -> Result<(), Fail> {
         Ask::Do(2),
         Ask::Commit,
     ];
-    let told = play(&mut core, &asks, 3);
-    let is_told = matches!(
-        told,
-        [
-            Told::Call(first),
-            Told::Failed(FailEffect::Switched),
-            Told::Refused(9),
-            Told::Call(second),
-            Told::Posted,
-            Told::Did,
-            Told::Committed,
-        ] if first == call(1, 1) && second == call(2, 0)
-    );
-    assert!(rt; is_told);
+    let [first, failed, refused, second, posted, did, committed] = play(&mut core, &asks, 3);
+    assert!(rt; is_call(first, 1, 1));
+    assert!(rt; matches!(failed, Told::Failed(FailEffect::Switched)));
+    assert!(rt; matches!(refused, Told::Refused(9)));
+    assert!(rt; is_call(second, 2, 0));
+    assert!(rt; matches!(posted, Told::Posted));
+    assert!(rt; matches!(did, Told::Did));
+    assert!(rt; matches!(committed, Told::Committed));
     assert_eq!(rt; (core.made(3), core.made(0)), (6, 0));
     assert!(rt; core.holds(0) && core.committed());
     Ok(())

@@ -6,6 +6,6 @@ use Rattle.flow_calls.proofs.tests.runs.start.Goals as goal
 
 pub start-requires-clause-compiled : goal.start-requires-clause-compiled
 start-requires-clause-compiled c =
-    compiled c.in_ok-workflow.workflow c.in_ok-compiled.compiled
-    (of_parts (λ t rules. IsCompiled (options.schema_of t rules) c.in_ok-compiled.compiled) c.in_ok-workflow.workflow
-    c.tree.result.now (rules_of c.rules.result.now) c.tree.ensures.tree c.rules.ensures c.in_ok-compiled.ensures.ok)
+    compiled c.in_ok-workflow.workflow c.in-Ok.compiled
+    (of_parts (λ t rules. IsCompiled (options.schema_of t rules) c.in-Ok.compiled) c.in_ok-workflow.workflow
+    c.tree.result.now (rules_of c.rules.result.now) c.tree.ensures.tree c.rules.ensures c.in-Ok.ensures.ok)
