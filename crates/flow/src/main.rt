@@ -13,17 +13,11 @@ use std::{env, io};
 
 /// The words of the command line. Where one of them is no text there are none, which is no call either.
 fn words(rt: &(impl Env + AllocGlobal)) -> Result<Vec<String>, AllocError> {
-    let mut words = Vec::new(rt.alloc());
     match env::args(rt) {
-        Ok(args) => {
-            for word in args {
-                words.push(word)?;
-            }
-        }
-        Err(error) if error.kind() == io::ErrorKind::OutOfMemory => return Err(AllocError),
-        Err(_) => {}
+        Ok(args) => Vec::from_iter(rt.alloc(), args),
+        Err(error) if error.kind() == io::ErrorKind::OutOfMemory => Err(AllocError),
+        Err(_) => Ok(Vec::new(rt.alloc())),
     }
-    Ok(words)
 }
 
 fn main(rt: HostRuntime) -> ExitCode {
