@@ -1,5 +1,6 @@
 pub mod BitFlags
 pub mod Places
+pub mod Pushed
 pub mod Indexing
 pub mod JournalLabels
 pub mod Members
