@@ -59,14 +59,13 @@ impl Fact {
     pub fn copy(&self, alloc: Global) -> Result<Fact, AllocError>
         ensures { IfOk result (λ fact. fact ≡ self.now) }
     {
-        let relation = self.relation.copy(alloc)?;
         let mut args = Vec::with_capacity(alloc, self.args.len())?;
         for arg in &self.args {
             args.push(arg.copy(alloc)?)?;
         }
         Ok(Fact {
             mark: self.mark,
-            relation,
+            relation: self.relation.copy(alloc)?,
             args,
         })
     }
