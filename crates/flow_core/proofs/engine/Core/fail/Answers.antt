@@ -2,11 +2,11 @@ use Rattle.std.proofs.Common.{◌≡◌, ◌↔◌, ◌∙◌, ℕ, Bool, false,
 use Rattle.flow_model.specs.declared.history.FailEffect.TheVariants as effects
 use Rattle.flow_model.specs.declared.history.Step.TheVariants.{Failed}
 use Rattle.flow_model.specs.Lists.{◌∈◌}
-use Rattle.flow_model.specs.Run.{leaf_of_claim, IsFree}
+use Rattle.flow_model.specs.Run.{leaf_of_claim, IsCurrent, IsFree}
 use Rattle.flow_residual.specs.Remaining.{IsAvoidable}
 use Rattle.flow_laws.proofs.ClaimLemmas.{leaf_of_claim_is}
 use Rattle.flow_residual.specs.declared.given.Given.{Given}
-use Rattle.flow_core.specs.Run.{Run, schema, now, with_entry}
+use Rattle.flow_core.specs.Run.{Run, schema, now, with_entry, IsUncommitted, HasEntryLeft}
 use Rattle.flow_core.specs.Standing.{IsGiven}
 use Rattle.flow_core.proofs.Standings.{needed}
 use Rattle.flow_core.proofs.engine.Core.fail.Goals as goal
@@ -17,6 +17,29 @@ is_needed : (r r' : Run) (claim : ℕ) (given : Given) → IsGiven r claim given
 is_needed r r' claim given g same b says none t free =
     let on : leaf_of_claim (now r') claim ≡ given.leaf = ap (λ (r : Run). leaf_of_claim (now r) claim) same ∙ leaf_of_claim_is (now r) claim _ g.claim in
     subst (λ n. n ∈ t) (sym on) (needed (schema r') (now r') given.leaf (λ a. true≢false (sym (says.1 a) ∙ none)) t free)
+
+pub record_switched-requires-clause-open : goal.record_switched-requires-clause-open
+record_switched-requires-clause-open c = subst IsUncommitted (sym c.in_ok-given.ensures.4) c.in_ok-given.ensures.0
+
+pub record_switched-requires-clause-steps : goal.record_switched-requires-clause-steps
+record_switched-requires-clause-steps c = subst HasEntryLeft (sym c.in_ok-given.ensures.4) c.in_ok-given.ensures.1
+
+pub record_switched-requires-clause-current : goal.record_switched-requires-clause-current
+record_switched-requires-clause-current c = subst (λ (r : Run). IsCurrent (now r) c.args.claim) (sym c.in_ok-given.ensures.4) c.in_ok-given.ensures.2
+
+pub record_switched-requires-clause-leaf : goal.record_switched-requires-clause-leaf
+record_switched-requires-clause-leaf c =
+    let h = c.in_ok-given.ensures in
+    ap (λ (r : Run). leaf_of_claim (now r) c.args.claim) h.4 ∙ leaf_of_claim_is (now c.args.self.now) c.args.claim _ h.3.claim
+
+pub record_kept-requires-clause-open : goal.record_kept-requires-clause-open
+record_kept-requires-clause-open c = subst IsUncommitted (sym c.in_ok-given.ensures.4) c.in_ok-given.ensures.0
+
+pub record_kept-requires-clause-steps : goal.record_kept-requires-clause-steps
+record_kept-requires-clause-steps c = subst HasEntryLeft (sym c.in_ok-given.ensures.4) c.in_ok-given.ensures.1
+
+pub record_kept-requires-clause-current : goal.record_kept-requires-clause-current
+record_kept-requires-clause-current c = subst (λ (r : Run). IsCurrent (now r) c.args.claim) (sym c.in_ok-given.ensures.4) c.in_ok-given.ensures.2
 
 pub record_kept-requires-clause-needed : goal.record_kept-requires-clause-needed
 record_kept-requires-clause-needed c =
