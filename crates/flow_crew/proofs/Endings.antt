@@ -60,6 +60,9 @@ decide_last w earlier last step is = by_step step is
     by_step (Failed claim Kept) is = inl (leaf_of_claim (state_of w earlier) claim, (earlier, (last, (claim, refl, is, refl))))
     by_step step is = other (λ c e. cc)
 
+pub not_yet_kept : (w : Schema) (history : List Entry) (leaf : ℕ) → history ≡ [] → ¬ (EndsKept w history leaf)
+not_yet_kept w history leaf none (earlier, (last, (claim, is, kept, on))) = not_empty earlier last [] (sym none ∙ is)
+
 decide_kept : (w : Schema) (history : List Entry) → DecidedKept w history
 decide_kept w [] = inr (λ (leaf, (earlier, (last, (claim, is, kept, on)))). not_empty earlier last [] is)
 decide_kept w (e ∷ es) =
