@@ -29,9 +29,6 @@ event_leaf w leaf label event at is = rw (← at, is) refl
 pub leaf_of_event : (w : Schema) (leaf event : ℕ) → Some event ≡ event_at w.labels leaf → IsEventLeaf w leaf
 leaf_of_event w leaf event at = rw (← at) refl
 
-pub other_of_none : (w : Schema) (leaf count : ℕ) → count ≡ length w.labels → leaf < count → None ≡ event_at w.labels leaf → IsOtherLeaf w leaf
-other_of_none w leaf count is within none = (omega (arith, is, within), sym none)
-
 pub not_both : (w : Schema) (leaf : ℕ) → IsEventLeaf w leaf → ¬ (IsOtherLeaf w leaf)
 not_both w leaf event other = true≢false (sym event ∙ ap is_some other.1)
 

@@ -1,13 +1,14 @@
-use Rattle.std.proofs.Common.{rules, refl, sym, ap, true≢false}
+use Rattle.std.proofs.Common.{rules, ◌<◌, length, refl, sym, ap, true≢false}
 use Rattle.flow_model.specs.Run.{CanTake}
 use Rattle.flow_core.specs.Run.{Run, schema, now, IsUncommitted}
-use Rattle.flow_core.proofs.Labels.{leaf_of_event, other_of_none}
+use Rattle.flow_core.proofs.Labels.{leaf_of_event}
 use Rattle.flow_core.proofs.engine.Core.take.Goals as goal
 
 pub returns-in_default : goal.returns-in_default
 returns-in_default c =
     let going : IsUncommitted c.args.self.now = search rules in
-    (going, other_of_none (schema c.args.self.now) c.args.leaf c.leaves.result c.leaves.ensures c.if-leaves-leaf.false c.in_default.ensures, refl)
+    let within : c.args.leaf < length (schema c.args.self.now).labels = search rules in
+    (going, (within, sym c.in_default.ensures), refl)
 
 pub returns-then-not-has_steps : goal.returns-then-not-has_steps
 returns-then-not-has_steps c =
