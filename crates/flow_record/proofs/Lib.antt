@@ -5,4 +5,5 @@ pub mod Histories
 pub mod Journals
 pub mod Numbers
 pub mod Pieces
+pub mod Printing
 pub mod Sessions
