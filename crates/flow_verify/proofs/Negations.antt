@@ -16,7 +16,8 @@ use Rattle.flow_excise.specs.Compilation.{IsWithinLimits}
 use Rattle.flow_excise.specs.Options.{schema_of}
 use Rattle.flow_goal.specs.Labelled.{Labelled}
 use Rattle.flow_verify.specs.declared.answers.Verified.TheVariants.{Holds, Fails}
-use Rattle.flow_verify.specs.Verification.{against, TellsOfProperty}
+use Rattle.flow_verify.specs.declared.refusal.VerifyRefusal.{VerifyRefusal}
+use Rattle.flow_verify.specs.Verification.{against, TellsOfProperty, IsRefused}
 
 -- an execution that meets the negation too does not meet the property
 pub fails_by : (w : Schema) (p : Constraint) (t : List ℕ) → IsGood (against w p) t → IsGood w t × ¬ (Meets p (events_of w.labels t))
@@ -50,3 +51,6 @@ module _ (t : Labelled) (rules more : List Rule) (p : Constraint) (same : rules_
 
   pub within_with : IsWithinLimits (schema_of t (rules_of more)) → IsWithinLimits (against (schema_of t (rules_of rules)) p)
   within_with k = subst (λ cs. IsWithinLimits (schema_of t cs)) same k
+
+  pub refused_with : (r : VerifyRefusal) → IsRefused (schema_of t (rules_of more)) r → IsRefused (against (schema_of t (rules_of rules)) p) r
+  refused_with r h = subst (λ cs. IsRefused (schema_of t cs) r) same h

@@ -1,12 +1,17 @@
 -- What is told of a workflow in which nothing holds at the start and nothing is noted is told of the workflow.
-use Rattle.std.proofs.Common.{◌≡◌, ℕ, List, [], Vec, Global, slice_get, Some, subst}
+use Rattle.std.proofs.Common.{rules, ◌<◌, ◌≡◌, ℕ, List, [], Vec, Global, slice_get, Some, length, ◌≤◌, ◌↔◌, subst, sym, ◌∙◌}
+use Rattle.std.proofs.lemmas.Option.{none-some, slice_get_past}
+use Rattle.std.proofs.lemmas.Result.{IfErr-at_err}
+use Rattle.std.specs.Prelude.{Result, Ok, Err, IfOk, IfErr, OnOk, MatchResult}
 use Rattle.flow_model.specs.Facts.{events_of}
 use Rattle.flow_model.specs.Constraint.{Constraint, Meets}
 use Rattle.flow_model.specs.Schema.{Schema, IsGood}
 use Rattle.flow_laws.proofs.Members.{each_member}
 use Rattle.flow_facts.proofs.Places.{mem-slice_get}
 use Rattle.flow_excise.specs.Compilation.{IsWithinLimits}
+use Rattle.flow_verify.specs.declared.answers.Verified.{Verified}
 use Rattle.flow_verify.specs.declared.answers.Verified.TheVariants.{Holds, Fails}
+use Rattle.flow_verify.specs.declared.answers.Redundancy.{Redundancy}
 use Rattle.flow_verify.specs.declared.answers.Redundancy.TheVariants.{Redundant, Needed}
 use Rattle.flow_verify.specs.declared.refusal.VerifyRefusal.{VerifyRefusal}
 use Rattle.flow_verify.specs.declared.refusal.VerifyRefusal.TheVariants.{TooManyChoices, TooManyWays, TooBulky, NoRule, NoMemory}
@@ -39,6 +44,23 @@ module _ (v w : Schema) (c p : Constraint) (same : v ≡ bare w) (e : c ≡ p) w
   pub refused_trial : (r : VerifyRefusal) → IsRefused (against v c) r → IsRefused (against w p) r
   refused_trial r h = refused_bare (against w p) r (subst (λ u. IsRefused u r) (λ i. against (same i) (e i)) h)
 
+-- What comes of a trial
+
+tells_bare : (w : Schema) (p : Constraint) (told : Verified) → TellsOfProperty (bare w) p told → TellsOfProperty w p told
+tells_bare w p Holds h = h
+tells_bare w p (Fails t) h = h
+
+module _ (v w : Schema) (c p : Constraint) (same : v ≡ bare w) (e : c ≡ p) where
+  pub outcome_of_trial : (r : Result Verified VerifyRefusal) →
+      MatchResult r (λ told. IsWithinLimits (against v c) × TellsOfProperty v c told) (IsRefused (against v c)) →
+      IfOk r (TellsOfProperty w p) × OnOk r (IsWithinLimits (against w p)) × IfErr r (IsRefused (against w p))
+  outcome_of_trial (Ok told) (within, tells) = (
+    tells_bare w p told (subst (λ u. TellsOfProperty u p told) same (subst (λ d. TellsOfProperty v d told) e tells)),
+    within_trial v w c p same e within,
+    tt,
+  )
+  outcome_of_trial (Err r) refused = (tt, tt, refused_trial v w c p same e r refused)
+
 -- The constraint of an index
 
 module _ (w : Schema) (index : ℕ) (c : Constraint) (at : slice_get w.rules index ≡ Some c) (v : Schema) (same : v ≡ bare (without w index)) where
@@ -59,6 +81,17 @@ module _ (w : Schema) (index : ℕ) (c : Constraint) (at : slice_get w.rules ind
   -- only one constraint has that index
   pub one_at : (d : Constraint) → slice_get w.rules index ≡ Some d → c ≡ d
   one_at d e = cc
+
+pub index_of_some : {A : Type 0} (xs : List A) (i : ℕ) (x : A) → slice_get xs i ≡ Some x → i < length xs
+index_of_some xs i x at = search (rules, slice_get_past)
+
+-- where there is a constraint of that index, what comes is not that there is none
+pub never_no_rule : (rules : List Constraint) (index : ℕ) (c : Constraint) → slice_get rules index ≡ Some c →
+    (w : Schema) (r : Result Redundancy VerifyRefusal) → IfErr r (IsRefused w) → (r ≡ Err (NoRule index)) ↔ (length rules ≤ index)
+never_no_rule rules index c at w r h = (
+  (λ e. absurd (IfErr-at_err (IsRefused w) e h)),
+  (λ past. absurd (none-some c (sym (slice_get_past rules index past) ∙ at))),
+)
 
 -- A tree with rules, as the workflow that it is of
 

@@ -1,4 +1,4 @@
-ghost use Rattle.std.specs.Prelude.{◌≤◌, IfOk, IfErr, OnOk, MatchOption, length};
+ghost use Rattle.std.specs.Prelude.{◌≤◌, IfOk, MatchOption, MatchResult, length};
 ghost use Rattle.flow_goal.specs.Repeated.{HoldsNoneTwice};
 ghost use Rattle.flow_model.specs.declared.limits.TheConstants.{MOST_LEAVES};
 ghost use Rattle.flow_model.specs.Lists.{◌∈◌};
@@ -32,11 +32,11 @@ pub(crate) fn good_execution(
 ) -> Result<Option<Vec<u32>>, VerifyRefusal>
     requires unique { HoldsNoneTwice tree.now }
     requires small { length tree.now.labels ≤ MOST_LEAVES }
-    ensures found { IfOk result (λ found. MatchOption found
-        (¬ (IsConsistent (schema_of tree.now (rules_of rules.now))))
-        (λ t. IsGood (schema_of tree.now (rules_of rules.now)) t.items)) }
-    ensures within { OnOk result (IsWithinLimits (schema_of tree.now (rules_of rules.now))) }
-    ensures refused { IfErr result (IsRefused (schema_of tree.now (rules_of rules.now))) }
+    ensures { MatchResult result
+        (λ found. IsWithinLimits (schema_of tree.now (rules_of rules.now)) × MatchOption found
+            (¬ (IsConsistent (schema_of tree.now (rules_of rules.now))))
+            (λ t. IsGood (schema_of tree.now (rules_of rules.now)) t.items))
+        (IsRefused (schema_of tree.now (rules_of rules.now))) }
 {
     // what the type keeps of its leaves
     let _leaves = tree.leaves();

@@ -1,4 +1,4 @@
-ghost use Rattle.std.specs.Prelude.{◌≡◌, ◌<◌, ◌≤◌, ◌↔◌, IfOk, IfErr, OnOk, Some, Err, length, slice_get, remove};
+ghost use Rattle.std.specs.Prelude.{◌≡◌, ◌<◌, ◌≤◌, ◌↔◌, IfOk, IfErr, OnOk, MatchResult, Some, Err, length, slice_get, remove};
 ghost use Rattle.flow_goal.specs.Repeated.{HoldsNoneTwice};
 ghost use Rattle.flow_model.specs.declared.limits.TheConstants.{MOST_LEAVES};
 ghost use Rattle.flow_model.specs.Constraint.{Constraint};
@@ -58,9 +58,10 @@ fn verify_tree(
 ) -> Result<Verified, VerifyRefusal>
     requires unique { HoldsNoneTwice tree.now }
     requires small { length tree.now.labels ≤ MOST_LEAVES }
-    ensures told { IfOk result (TellsOfProperty (options.schema_of tree.now (rules_of rules.items)) (rule_of property)) }
-    ensures within { OnOk result (IsWithinLimits (against (options.schema_of tree.now (rules_of rules.items)) (rule_of property))) }
-    ensures refused { IfErr result (IsRefused (against (options.schema_of tree.now (rules_of rules.items)) (rule_of property))) }
+    ensures { MatchResult result
+        (λ told. IsWithinLimits (against (options.schema_of tree.now (rules_of rules.items)) (rule_of property))
+            × TellsOfProperty (options.schema_of tree.now (rules_of rules.items)) (rule_of property) told)
+        (IsRefused (against (options.schema_of tree.now (rules_of rules.items)) (rule_of property))) }
 {
     rules.push(Rule::Not(Box::new(alloc, property)?))?;
     match good_execution(alloc, tree, &rules)? {
