@@ -1,5 +1,5 @@
 -- What is told of a workflow in which nothing holds at the start and nothing is noted is told of the workflow.
-use Rattle.std.proofs.Common.{rules, ◌<◌, ◌≡◌, ℕ, List, [], Vec, Global, slice_get, Some, length, ◌≤◌, ◌↔◌, subst, sym, ◌∙◌}
+use Rattle.std.proofs.Common.{rules, arith, ◌<◌, ◌≡◌, ℕ, List, [], Vec, Global, slice_get, Some, length, ◌≤◌, ◌↔◌, subst, sym, ◌∙◌}
 use Rattle.std.proofs.lemmas.Option.{none-some, slice_get_past}
 use Rattle.std.proofs.lemmas.Result.{IfErr-at_err}
 use Rattle.std.specs.Prelude.{Result, Ok, Err, IfOk, IfErr, OnOk, MatchResult}
@@ -91,6 +91,13 @@ pub never_no_rule : (rules : List Constraint) (index : ℕ) (c : Constraint) →
 never_no_rule rules index c at w r h = (
   (λ e. absurd (IfErr-at_err (IsRefused w) e h)),
   (λ past. absurd (none-some c (sym (slice_get_past rules index past) ∙ at))),
+)
+
+-- nor where it lies below the number of the constraints, and only memory was refused
+pub never_missing : {T : Type 0} (r : Result T VerifyRefusal) (n index : ℕ) → index < n → IfErr r (λ e. e ≡ NoMemory) → (r ≡ Err (NoRule index)) ↔ (n ≤ index)
+never_missing r n index below h = (
+  (λ e. let bad : NoRule index ≡ NoMemory = IfErr-at_err (λ x. x ≡ NoMemory) e h in cc),
+  (λ past. absurd (omega (arith, below, past))),
 )
 
 -- A tree with rules, as the workflow that it is of
