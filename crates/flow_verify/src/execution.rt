@@ -34,8 +34,8 @@ pub(crate) fn good_execution(
     requires small { length tree.now.labels ≤ MOST_LEAVES }
     ensures { MatchResult result
         (λ found. IsWithinLimits (schema_of tree.now (rules_of rules.now)) × MatchOption found
-            (¬ (IsConsistent (schema_of tree.now (rules_of rules.now))))
-            (λ t. IsGood (schema_of tree.now (rules_of rules.now)) t.items))
+        (¬ (IsConsistent (schema_of tree.now (rules_of rules.now))))
+        (λ t. IsGood (schema_of tree.now (rules_of rules.now)) t.items))
         (IsRefused (schema_of tree.now (rules_of rules.now))) }
 {
     // what the type keeps of its leaves

@@ -60,7 +60,7 @@ fn verify_tree(
     requires small { length tree.now.labels ≤ MOST_LEAVES }
     ensures { MatchResult result
         (λ told. IsWithinLimits (against (options.schema_of tree.now (rules_of rules.items)) (rule_of property))
-            × TellsOfProperty (options.schema_of tree.now (rules_of rules.items)) (rule_of property) told)
+        × TellsOfProperty (options.schema_of tree.now (rules_of rules.items)) (rule_of property) told)
         (IsRefused (against (options.schema_of tree.now (rules_of rules.items)) (rule_of property))) }
 {
     rules.push(Rule::Not(Box::new(alloc, property)?))?;

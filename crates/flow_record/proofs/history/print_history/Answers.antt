@@ -33,6 +33,6 @@ pub returns-clause-read_back : goal.returns-clause-read_back
 returns-clause-read_back c =
     let small : All IsSmall c.args.entries.now = λ k d h. c.loop-entry.invariant.small k (omega arith) d in
     let text : c.into_bytes.result.items ≡ history_text c.args.entries.now =
-        printed_all entry_line c.args.entries.now c.loop-entry.entry-index c.into_bytes.result.items c.loop-entry-test.false
-        (ap (λ v. v.items) c.into_bytes.ensures.value ∙ c.loop-entry.invariant.text) in
+    printed_all entry_line c.args.entries.now c.loop-entry.entry-index c.into_bytes.result.items c.loop-entry-test.false
+    (ap (λ v. v.items) c.into_bytes.ensures.value ∙ c.loop-entry.invariant.text) in
     ap history_of text ∙ history_there c.args.entries.now small

@@ -26,6 +26,7 @@ returns-then-label_holds c =
 pub returns-else-label_holds : goal.returns-else-label_holds
 returns-else-label_holds c =
     let r = c.args.self.now in
-    let other = other_leaf (schema r) c.args.leaf c.in-Some.label c.in-Some.ensures c.in_default-label.not-Event in
-    (λ yes. absurd (true≢false (sym yes ∙ c.if-label_holds.false)),
-      λ can. absurd (other_not (schema r) (now r) c.args.leaf c.in-Some.label c.in-Some.ensures other (λ holds. true≢false (sym (c.label_holds.ensures.1 holds) ∙ c.if-label_holds.false)) can))
+    let other = other_leaf (schema r) c.args.leaf c.in-Some.label c.in-Some.ensures c.in_default-label.not-Event in (
+      λ yes. absurd (true≢false (sym yes ∙ c.if-label_holds.false)),
+      λ can. absurd (other_not (schema r) (now r) c.args.leaf c.in-Some.label c.in-Some.ensures other (λ holds. true≢false (sym (c.label_holds.ensures.1 holds) ∙ c.if-label_holds.false)) can),
+    )
