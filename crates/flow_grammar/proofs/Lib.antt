@@ -1,5 +1,6 @@
 pub mod Runs
 pub mod Parts
+pub mod Carried
 pub mod ArgStates
 pub mod GoalStates
 pub mod RuleStates

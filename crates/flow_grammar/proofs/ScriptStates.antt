@@ -1,6 +1,6 @@
 -- A whole text: what may follow each state.
-use Rattle.std.proofs.Common.{rules as std_rules, ◌≡◌, ℕ, ◌⊎◌, Some, List, [], ◌∷◌, ◌++◌, map, refl, sym, ap, ◌∙◌, subst, inl, inr, append_assoc, append-nil}
-use Rattle.std.proofs.lemmas.Option.{same_Some}
+use Rattle.std.proofs.Common.{◌≡◌, ℕ, ◌⊎◌, Some, List, [], ◌∷◌, ◌++◌, map, refl, sym, ap, ◌∙◌, subst, inl, inr, append_assoc, append-nil}
+use Rattle.std.proofs.lemmas.Option.{same_Some, none-some}
 use Rattle.flow_model.specs.declared.labels.Note.TheVariants.{Done, Fail, FailFirst}
 use Rattle.flow_facts.specs.Atom.{atom}
 use Rattle.flow_form.specs.Form.{Shape}
@@ -8,8 +8,9 @@ use Rattle.flow_form.specs.RuleForm.{RuleShape}
 use Rattle.flow_form.specs.Script.{Declared, fact, event, flow, Said}
 use Rattle.flow_grammar.specs.Symbol.{Symbol, Placed, at, Deepens, fact_word, event_word, flow_word, goal_word, constraint_word, done_word, fail_word, a_name, a_number, opening, comma, semicolon, equals}
 use Rattle.flow_grammar.specs.Grammar.{bare, applied, spell_fact, goals, rules, Text, spell, mean, NoteText, silent_text, done_text, fail_text, fail_first_text, spell_note, mean_note, noted_text, spell_noted, mean_noted, facts_text, events_text, flow_text, spell_items, declared_fact, ScriptText, script_text, spell_script, mean_script, mean_rule, spell_constraints}
-use Rattle.flow_grammar.specs.Machine.{constant_needed, depth_goal, State, declaration_needed, fact_to_declare, after_declared_relation, in_declared_args, after_fact, event_to_declare, after_event, after_fail, after_noted, flow_to_declare, equals_needed, in_flow, in_goal, constraint_needed, in_constraint, join_item, step_script, finish_script, depth_script}
+use Rattle.flow_grammar.specs.Machine.{constant_needed, step_arg, step_goal, depth_goal, step_rule, depth_rule, State, declaration_needed, fact_to_declare, after_declared_relation, in_declared_args, after_fact, event_to_declare, after_event, after_fail, after_noted, flow_to_declare, equals_needed, in_flow, in_goal, constraint_needed, in_constraint, join_item, step_script, finish_script, depth_script}
 use Rattle.flow_grammar.proofs.Runs.{OnNext, Front, Knows}
+use Rattle.flow_grammar.proofs.Carried.{carried_back, front_carried}
 use Rattle.flow_grammar.proofs.ArgStates.{ArgRest, arg_forth, arg_back, arg_completes}
 use Rattle.flow_grammar.proofs.GoalStates.{GoalRest, goal_forth, goal_back, goal_completes, need_of_goal, goal_of_need, nop_goal, Closing}
 use Rattle.flow_grammar.proofs.RuleStates.{RuleRest, rule_forth, rule_back, rule_completes, need_of_rule, rule_of_need}
@@ -77,34 +78,28 @@ moved_one ds d s = rw (append_assoc ds (d ∷ []) s.decls)
 
 -- Items: a comma and an item, or the end
 
-module _ {A : Type 0} (spell_item : A → List Placed → List Placed) (meant : A → Declared) (again : List Declared → State) (x : Said) where
-  items_forth : ((ds : List Declared) (w : List Placed) → Item spell_item meant ds w x → Rest (again ds) w x) → (ds : List Declared) (w : List Placed) →
-      AfterItem spell_item meant ds w x → (t : Symbol) × (v : List Placed) × (at 0 t ∷ v ≡ w) × OnNext Rest (join_item again ds t) v x
-  items_forth same ds w ([], d, e, ex) = (semicolon, _, e, (d, refl, ap (λ y. said_after y (mean_script d)) (sym (append-nil ds)) ∙ ex))
-  items_forth same ds w (i ∷ is, d, e, ex) =
-      (comma, _, e, same ds _ (i, _, refl, (is, d, refl, ap (λ y. said_after y (mean_script d)) (append_assoc ds (meant i ∷ []) (map meant is)) ∙ ex)))
+module _ {A : Type 0} (spell_item : A → List Placed → List Placed) (meant : A → Declared) (x : Said) where
+  -- in a state that reads a comma and a semicolon as they are read after an item
+  items_forth : (s : State) (ds : List Declared) → 0 ≡ depth_script s → ((w : List Placed) → Item spell_item meant ds w x → OnNext Rest (step_script s comma) w x) →
+      ((w : List Placed) → Declarations ds w x → OnNext Rest (step_script s semicolon) w x) → (w : List Placed) → AfterItem spell_item meant ds w x → Ahead s w x
+  items_forth s ds flat one last w ([], d, e, ex) =
+      subst (λ y. Ahead s y x) e (λ h. flat, last _ (d, refl, ap (λ y. said_after y (mean_script d)) (sym (append-nil ds)) ∙ ex))
+  items_forth s ds flat one last w (i ∷ is, d, e, ex) =
+      let moved = ap (λ y. said_after y (mean_script d)) (append_assoc ds (meant i ∷ []) (map meant is)) ∙ ex in
+      subst (λ y. Ahead s y x) e (λ h. flat, one _ (i, _, refl, (is, d, refl, moved)))
 
-  items_back : ((ds : List Declared) (w : List Placed) → Rest (again ds) w x → Item spell_item meant ds w x) → (ds : List Declared) (t : Symbol) (w : List Placed) →
+  items_back : (again : List Declared → State) → ((ds : List Declared) (w : List Placed) → Rest (again ds) w x → Item spell_item meant ds w x) →
+      (ds : List Declared) (t : Symbol) (w : List Placed) →
       OnNext Rest (join_item again ds t) w x → AfterItem spell_item meant ds (at 0 t ∷ w) x
-  items_back same ds comma w h =
+  items_back again same ds comma w h =
       let (i, v, e, (is, d, e', ex)) = same ds w h in
       let after = ap (λ y. said_after y (mean_script d)) (sym (append_assoc ds (meant i ∷ []) (map meant is))) in
       (i ∷ is, d, ap (λ y. at 0 comma ∷ y) (ap (spell_item i) e' ∙ e), after ∙ ex)
-  items_back same ds semicolon w (d, e, ex) =
+  items_back again same ds semicolon w (d, e, ex) =
       ([], d, ap (λ y. at 0 semicolon ∷ y) e, ap (λ y. said_after y (mean_script d)) (append-nil ds) ∙ ex)
-  items_back same ds _ w h = absurd h
+  items_back again same ds _ w h = absurd h
 
 -- Forth
-
-facts_forth : (ds : List Declared) (w : List Placed) (x : Said) → AfterFact ds w x → Ahead (after_fact ds) w x
-facts_forth ds w x h =
-    let (t, v, e, k) = items_forth (spell_fact 0) declared_fact fact_to_declare x (λ ds' v' k. k) ds w h in
-    subst (λ y. Ahead (after_fact ds) y x) e (λ h'. refl, k)
-
-events_forth : (ds : List Declared) (w : List Placed) (x : Said) → AfterNoted ds w x → Ahead (after_noted ds) w x
-events_forth ds w x h =
-    let (t, v, e, k) = items_forth spell_noted mean_noted event_to_declare x (λ ds' v' k. k) ds w h in
-    subst (λ y. Ahead (after_noted ds) y x) e (λ h'. refl, k)
 
 script_forth : (s : State) (w : List Placed) (x : Said) → Rest s w x → Ahead s w x
 script_forth (declaration_needed ds) w x (script_text [] g cs, e, ex) =
@@ -123,25 +118,35 @@ script_forth (declaration_needed ds) w x (script_text (flow_text n f ∷ more) g
 script_forth (fact_to_declare ds) w x (bare n, v, e, h) = subst (λ y. Ahead (fact_to_declare ds) y x) e (λ h'. refl, inl h)
 script_forth (fact_to_declare ds) w x (applied n c cs, v, e, h) =
     subst (λ y. Ahead (fact_to_declare ds) y x) e (λ h'. refl, inr (_, refl, (c, cs, v, refl, h)))
-script_forth (after_declared_relation ds n) w x (inl h) = let ahead = facts_forth (ds ++ fact (atom n []) ∷ []) w x h in search std_rules
+script_forth (after_declared_relation ds n) w x (inl h) =
+    items_forth (spell_fact 0) declared_fact x (after_declared_relation ds n) (ds ++ fact (atom n []) ∷ []) refl (λ v k. k) (λ v k. k) w h
 script_forth (after_declared_relation ds n) w x (inr (v, e, h)) = subst (λ y. Ahead (after_declared_relation ds n) y x) e (λ h'. refl, h)
-script_forth (in_declared_args ds a) w x h = let front = arg_forth 1 a w (λ f r. AfterFact (ds ++ fact f ∷ []) r x) h in search std_rules
-script_forth (after_fact ds) w x h = facts_forth ds w x h
+script_forth (in_declared_args ds a) w x h =
+    front_carried (ArgRest 1) Rest (in_declared_args ds) (λ f. after_fact (ds ++ fact f ∷ [])) _ x step_arg (λ a'. 1) step_script finish_script depth_script
+    (λ s' r k. k) (λ y r k. k) a refl (λ t. refl) w
+    (arg_forth 1 a w (λ f r. AfterFact (ds ++ fact f ∷ []) r x) h)
+script_forth (after_fact ds) w x h = items_forth (spell_fact 0) declared_fact x (after_fact ds) ds refl (λ v k. k) (λ v k. k) w h
 script_forth (event_to_declare ds) w x (noted_text n note, v, e, h) = subst (λ y. Ahead (event_to_declare ds) y x) e (λ h'. refl, (note, v, refl, h))
 script_forth (after_event ds n) w x (silent_text, v, e, h) =
-    let ahead = events_forth (ds ++ event n Done ∷ []) w x (subst (λ y. AfterNoted (ds ++ event n Done ∷ []) y x) e h) in search std_rules
+    items_forth spell_noted mean_noted x (after_event ds n) (ds ++ event n Done ∷ []) refl (λ v k. k) (λ v k. k) w (subst (λ y. AfterNoted (ds ++ event n Done ∷ []) y x) e h)
 script_forth (after_event ds n) w x (done_text, v, e, h) = subst (λ y. Ahead (after_event ds n) y x) e (λ h'. refl, h)
 script_forth (after_event ds n) w x (fail_text, v, e, h) = subst (λ y. Ahead (after_event ds n) y x) e (λ h'. refl, inl h)
 script_forth (after_event ds n) w x (fail_first_text m, v, e, h) = subst (λ y. Ahead (after_event ds n) y x) e (λ h'. refl, inr (m, v, refl, h))
-script_forth (after_fail ds n) w x (inl h) = let ahead = events_forth (ds ++ event n Fail ∷ []) w x h in search std_rules
+script_forth (after_fail ds n) w x (inl h) = items_forth spell_noted mean_noted x (after_fail ds n) (ds ++ event n Fail ∷ []) refl (λ v k. k) (λ v k. k) w h
 script_forth (after_fail ds n) w x (inr (m, v, e, h)) = subst (λ y. Ahead (after_fail ds n) y x) e (λ h'. refl, h)
-script_forth (after_noted ds) w x h = events_forth ds w x h
+script_forth (after_noted ds) w x h = items_forth spell_noted mean_noted x (after_noted ds) ds refl (λ v k. k) (λ v k. k) w h
 script_forth (flow_to_declare ds) w x (n, g, v, e, h) = subst (λ y. Ahead (flow_to_declare ds) y x) e (λ h'. refl, (g, v, refl, h))
 script_forth (equals_needed ds n) w x (g, v, e, h) =
     subst (λ y. Ahead (equals_needed ds n) y x) e
     (λ h'. refl, need_of_goal (Closing (λ s r. Declarations (ds ++ flow n s ∷ []) r x) []) 0 g (at 0 semicolon ∷ v) (v, refl, h))
-script_forth (in_flow ds n g) w x h = let front = goal_forth g w (λ s v. Declarations (ds ++ flow n s ∷ []) v x) h in search std_rules
-script_forth (in_goal ds g) w x h = let front = goal_forth g w (λ s v. Constraints ds s [] v x) h in search std_rules
+script_forth (in_flow ds n g) w x h =
+    front_carried GoalRest Rest (in_flow ds n) (λ s. declaration_needed (ds ++ flow n s ∷ [])) _ x step_goal depth_goal step_script finish_script depth_script
+    (λ s' r k. k) (λ y r k. k) g refl (λ t. refl) w
+    (goal_forth g w (λ s v. Declarations (ds ++ flow n s ∷ []) v x) h)
+script_forth (in_goal ds g) w x h =
+    front_carried GoalRest Rest (in_goal ds) (λ s. constraint_needed ds s []) _ x step_goal depth_goal step_script finish_script depth_script
+    (λ s' r k. k) (λ y r k. k) g refl (λ t. refl) w
+    (goal_forth g w (λ s v. Constraints ds s [] v x) h)
 script_forth (constraint_needed ds s rs) w x ([], e, ex) =
     subst (λ y. Ahead (constraint_needed ds s rs) y x) e
     (ap Some (ap (λ y. record { decls = ds; goal = s; rules = y }) (sym (append-nil rs)) ∙ ex))
@@ -149,7 +154,10 @@ script_forth (constraint_needed ds s rs) w x (c ∷ cs, e, ex) =
     let said = ap (λ y. record { decls = ds; goal = s; rules = y }) (append_assoc rs (mean c ∷ []) (map mean_rule cs)) ∙ ex in
     subst (λ y. Ahead (constraint_needed ds s rs) y x) e
     (λ h. refl, need_of_rule (rule_states.Closing (λ y v. Constraints ds s (rs ++ y ∷ []) v x) []) 0 c (at 0 semicolon ∷ spell_constraints cs) (_, refl, (cs, refl, said)))
-script_forth (in_constraint ds s rs r) w x h = let front = rule_forth r w (λ y v. Constraints ds s (rs ++ y ∷ []) v x) h in search std_rules
+script_forth (in_constraint ds s rs r) w x h =
+    front_carried RuleRest Rest (in_constraint ds s rs) (λ y. constraint_needed ds s (rs ++ y ∷ [])) _ x step_rule depth_rule step_script finish_script depth_script
+    (λ s' r k. k) (λ y r k. k) r refl (λ t. refl) w
+    (rule_forth r w (λ y v. Constraints ds s (rs ++ y ∷ []) v x) h)
 
 -- Back
 
@@ -174,7 +182,7 @@ declaration_back ds goal_word w x h =
 declaration_back ds _ w x h = absurd h
 
 events_back : (ds : List Declared) (t : Symbol) (w : List Placed) (x : Said) → Back (after_noted ds) t w x
-events_back ds t w x h = items_back spell_noted mean_noted event_to_declare x (λ ds' v k. k) ds t w h
+events_back ds t w x h = items_back spell_noted mean_noted x event_to_declare (λ ds' v k. k) ds t w h
 
 script_back : (s : State) (t : Symbol) (w : List Placed) (x : Said) → OnNext Rest (step_script s t) w x →
     (n : ℕ) × (Deepens t → n ≡ depth_script s) × Rest s (at n t ∷ w) x
@@ -184,9 +192,14 @@ script_back (fact_to_declare ds) (a_name n) w x (inr (v, e, (c, cs, r, e', h))) 
     (0, λ h'. refl, (applied n c cs, r, ap (λ y. at 0 (a_name n) ∷ y) (ap (λ y. at 0 opening ∷ y) e' ∙ e), h))
 script_back (fact_to_declare ds) _ w x h = absurd h
 script_back (after_declared_relation ds n) opening w x h = (0, λ h'. refl, inr (w, refl, h))
-script_back (after_declared_relation ds n) t w x h = (0, λ h'. refl, inl (items_back (spell_fact 0) declared_fact fact_to_declare x (λ ds' v k. k) (ds ++ fact (atom n []) ∷ []) t w h))
-script_back (in_declared_args ds a) t w x h = (1, λ h'. refl, arg_back 1 a t w (λ f r. AfterFact (ds ++ fact f ∷ []) r x) (search std_rules))
-script_back (after_fact ds) t w x h = (0, λ h'. refl, items_back (spell_fact 0) declared_fact fact_to_declare x (λ ds' v k. k) ds t w h)
+script_back (after_declared_relation ds n) t w x h = (0, λ h'. refl, inl (items_back (spell_fact 0) declared_fact x fact_to_declare (λ ds' v k. k) (ds ++ fact (atom n []) ∷ []) t w h))
+script_back (in_declared_args ds a) t w x h = (
+  1,
+  λ h'. refl,
+  arg_back 1 a t w (λ f r. AfterFact (ds ++ fact f ∷ []) r x)
+      (carried_back (ArgRest 1) Rest (in_declared_args ds) (λ f. after_fact (ds ++ fact f ∷ [])) _ x (λ s' r k. k) (λ y r k. k) (step_arg a t) w h),
+)
+script_back (after_fact ds) t w x h = (0, λ h'. refl, items_back (spell_fact 0) declared_fact x fact_to_declare (λ ds' v k. k) ds t w h)
 script_back (event_to_declare ds) (a_name n) w x (note, v, e, h) = (0, λ h'. refl, (noted_text n note, v, ap (λ y. at 0 (a_name n) ∷ y) e, h))
 script_back (event_to_declare ds) _ w x h = absurd h
 script_back (after_event ds n) done_word w x h = (0, λ h'. refl, (done_text, w, refl, h))
@@ -202,19 +215,31 @@ script_back (equals_needed ds n) equals w x h =
     let (g, r, e, (v, e', k)) = goal_of_need (Closing (λ s v. Declarations (ds ++ flow n s ∷ []) v x) []) 0 w h in
     (0, λ h'. refl, (g, v, ap (λ y. at 0 equals ∷ y) (ap (spell 0 g) e' ∙ e), k))
 script_back (equals_needed ds n) _ w x h = absurd h
-script_back (in_flow ds n g) t w x h = (depth_goal g, λ h'. refl, goal_back g t w (λ s v. Declarations (ds ++ flow n s ∷ []) v x) (search std_rules))
-script_back (in_goal ds g) t w x h = (depth_goal g, λ h'. refl, goal_back g t w (λ s v. Constraints ds s [] v x) (search std_rules))
+script_back (in_flow ds n g) t w x h = (
+  depth_goal g,
+  λ h'. refl,
+  goal_back g t w (λ s v. Declarations (ds ++ flow n s ∷ []) v x)
+      (carried_back GoalRest Rest (in_flow ds n) (λ s. declaration_needed (ds ++ flow n s ∷ [])) _ x (λ s' r k. k) (λ y r k. k) (step_goal g t) w h),
+)
+script_back (in_goal ds g) t w x h = (
+  depth_goal g,
+  λ h'. refl,
+  goal_back g t w (λ s v. Constraints ds s [] v x)
+      (carried_back GoalRest Rest (in_goal ds) (λ s. constraint_needed ds s []) _ x (λ s' r k. k) (λ y r k. k) (step_goal g t) w h),
+)
 script_back (constraint_needed ds s rs) constraint_word w x h =
     let (c, r, e, (v, e', (cs, e2, ex))) = rule_of_need (rule_states.Closing (λ y v. Constraints ds s (rs ++ y ∷ []) v x) []) 0 w h in
     let said = ap (λ y. record { decls = ds; goal = s; rules = y }) (sym (append_assoc rs (mean c ∷ []) (map mean_rule cs))) ∙ ex in
     (0, λ h'. refl, (c ∷ cs, ap (λ y. at 0 constraint_word ∷ y) (ap (spell 0 c) (ap (λ y. at 0 semicolon ∷ y) e2 ∙ e') ∙ e), said))
 script_back (constraint_needed ds s rs) _ w x h = absurd h
-script_back (in_constraint ds s rs r) t w x h = rule_back r t w (λ y v. Constraints ds s (rs ++ y ∷ []) v x) (search std_rules)
+script_back (in_constraint ds s rs r) t w x h =
+    rule_back r t w (λ y v. Constraints ds s (rs ++ y ∷ []) v x)
+    (carried_back RuleRest Rest (in_constraint ds s rs) (λ y. constraint_needed ds s (rs ++ y ∷ [])) _ x (λ s' r k. k) (λ y r k. k) (step_rule r t) w h)
 
 script_ended : (s : State) (x : Said) → finish_script s ≡ Some x → Rest s [] x
 script_ended (constraint_needed ds s rs) x e =
     ([], refl, ap (λ y. record { decls = ds; goal = s; rules = y }) (append-nil rs) ∙ same_Some (record { decls = ds; goal = s; rules = rs }) x e)
-script_ended _ x e = cc
+script_ended _ x e = absurd (none-some x e)
 
 -- Each state can be completed
 
