@@ -1,4 +1,4 @@
-use Rattle.std.proofs.Common.{ℕ, ◌++◌, [], ◌∷◌, Some, sym, subst}
+use Rattle.std.proofs.Common.{ℕ, true≢false, ◌++◌, [], ◌∷◌, Some, sym, ◌∙◌, subst}
 use Rattle.flow_sample.specs.Plans.{option_of}
 use Rattle.flow_residual.specs.Tracks.{IsLeastBan}
 use Rattle.flow_residual.proofs.BanLemmas.{ban_elsewhere, ban_first, ban_lesser}
@@ -6,7 +6,7 @@ use Rattle.flow_residual.proofs.ban.with_ban.Goals as goal
 
 pub returns-then-not-holds : goal.returns-then-not-holds
 returns-then-not-holds c bans is =
-    ban_elsewhere (option_of c.args.plan.now) bans c.args.least c.args.ban.index c.args.ban.leaf (λ m. let yes = c.holds.ensures.1 m in let no = c.if-not-holds.true in absurd (cc)) is
+    ban_elsewhere (option_of c.args.plan.now) bans c.args.least c.args.ban.index c.args.ban.leaf (λ m. true≢false (sym (c.holds.ensures.1 m) ∙ c.if-not-holds.true)) is
 
 pub returns-in-Some : goal.returns-in-Some
 returns-in-Some c bans is =

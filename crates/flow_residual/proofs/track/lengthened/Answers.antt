@@ -1,3 +1,4 @@
+use Rattle.std.proofs.Common.{true≢false, sym, ◌∙◌}
 use Rattle.flow_sample.specs.Plans.{option_of}
 use Rattle.flow_residual.proofs.FrontLemmas.{front_longer, front_same}
 use Rattle.flow_residual.proofs.PossibleLemmas.{next_of_option}
@@ -18,4 +19,4 @@ returns-else-ready c is =
     let o = option_of c.args.plan.now in
     front_same o c.args.journal.now c.args.leaf c.args.front is (λ both.
     let ready = c.ready.ensures.1 ((next_of_option c.args.plan.now c.args.done.now c.args.journal.now c.requires.done o (λ _. o) c.args.leaf).1 both.1) in
-    let not = c.if-ready.false in absurd (cc))
+    absurd (true≢false (sym ready ∙ c.if-ready.false)))

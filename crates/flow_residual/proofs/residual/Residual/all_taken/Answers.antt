@@ -1,4 +1,4 @@
-use Rattle.std.proofs.Common.{◌≤◌, ◌<◌, length, arith}
+use Rattle.std.proofs.Common.{◌≤◌, ◌<◌, true≢false, length, sym, ◌∙◌, arith}
 use Rattle.leaf_rows.specs.Leaves.{has_leaf}
 use Rattle.flow_residual.specs.Possible.{Takes}
 use Rattle.flow_residual.proofs.OptionLemmas.{some_more, some_all}
@@ -6,8 +6,7 @@ use Rattle.flow_residual.proofs.residual.Residual.all_taken.Goals as goal
 
 pub returns-in_default : goal.returns-in_default
 returns-in_default c leaf =
-    let none = c.none_taken.ensures.none leaf in
-    (λ wrong. absurd (cc), λ some. absurd (c.none_taken.ensures.taken some.0 c.args.stand leaf some.2))
+    (λ has. absurd (true≢false (sym has ∙ c.none_taken.ensures.none leaf)), λ some. absurd (c.none_taken.ensures.taken some.0 c.args.stand leaf some.2))
 
 pub loop-place-preserved : goal.loop-place-preserved
 loop-place-preserved c leaf =

@@ -1,4 +1,4 @@
-use Rattle.std.proofs.Common.{◌≡◌, sym, subst, ◌∙◌, IsTrue, ◌↔◌}
+use Rattle.std.proofs.Common.{◌≡◌, true≢false, sym, subst, ◌∙◌, IsTrue, ◌↔◌}
 use Rattle.flow_model.specs.Resolution.{ChoiceOption}
 use Rattle.flow_sample.specs.Plans.{option_of}
 use Rattle.flow_residual.specs.Possible.{IsFinished}
@@ -12,6 +12,6 @@ returns-then-follows c o at =
 
 pub returns-else-follows : goal.returns-else-follows
 returns-else-follows c o at = (
-  λ wrong. absurd (cc),
-  λ run. let follows = (c.follows.ensures o at).1 run.0 in let not = c.if-follows.false in absurd (cc),
+  λ yes. absurd (true≢false (sym yes ∙ c.if-follows.false)),
+  λ run. absurd (true≢false (sym ((c.follows.ensures o at).1 run.0) ∙ c.if-follows.false)),
 )

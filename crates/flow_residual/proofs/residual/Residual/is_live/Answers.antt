@@ -1,3 +1,4 @@
+use Rattle.std.proofs.Common.{true≢false, sym, ◌∙◌}
 use Rattle.flow_model.proofs.Lists.{mem-slice_get}
 use Rattle.flow_residual.proofs.residual.Residual.is_live.Goals as goal
 
@@ -13,6 +14,6 @@ returns-then-follows c o at = (
 
 pub returns-else-follows : goal.returns-else-follows
 returns-else-follows c o at = (
-  λ wrong. absurd (cc),
-  λ live. let follows = (c.follows.ensures o at).1 live.journal_ready in let not = c.if-follows.false in absurd (cc),
+  λ yes. absurd (true≢false (sym yes ∙ c.if-follows.false)),
+  λ live. absurd (true≢false (sym ((c.follows.ensures o at).1 live.journal_ready) ∙ c.if-follows.false)),
 )

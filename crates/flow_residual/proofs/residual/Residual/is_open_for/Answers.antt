@@ -1,4 +1,4 @@
-use Rattle.std.proofs.Common.{◌≡◌, Some, slice_get, slice_index, sym, subst₂, ◌∙◌, arith}
+use Rattle.std.proofs.Common.{◌≡◌, true≢false, Some, slice_get, slice_index, sym, subst₂, ◌∙◌, arith}
 use Rattle.std.proofs.lemmas.Option.{slice_get_within, get_or_from_slice_get}
 use Rattle.flow_model.specs.Lists.{◌∈◌}
 use Rattle.flow_model.specs.Process.{leaves}
@@ -9,7 +9,7 @@ use Rattle.flow_residual.proofs.residual.Residual.is_open_for.Goals as goal
 
 pub returns-then-track-index : goal.returns-then-track-index
 returns-then-track-index c o at = (
-  λ wrong. absurd (cc),
+  λ wrong. absurd (true≢false (sym wrong)),
   λ opening.
       let within = opening.within in
       let far = (begun_within o c.args.self.now.journal c.track-track.result.now.front c.args.index (c.track-track.ensures o at).front (omega arith)).1 opening.begun in
@@ -20,8 +20,10 @@ pub returns-then-holds : goal.returns-then-holds
 returns-then-holds c o at =
     let there : slice_get c.args.self.now.journal c.args.index ≡ Some c.in-Some.leaf = sym c.done_at.ensures ∙ c.in-Some.is in
     let leaf : c.in-Some.leaf ≡ slice_index c.args.self.now.journal c.args.index = sym (get_or_from_slice_get c.args.self.now.journal c.args.index c.in-Some.leaf 0 there) in
-    let same : option_of c.plan.result.now ≡ o = (let e = sym c.plan.ensures.at ∙ at in cc) in
-    (λ wrong. absurd (cc), λ opening. absurd (opening.without (subst₂ (λ n (q : ChoiceOption). n ∈ leaves q.resolution) leaf same (c.holds.ensures.0 c.if-holds.true))))
+    let same : option_of c.plan.result.now ≡ o = (let e = sym c.plan.ensures.at ∙ at in cc) in (
+      λ wrong. absurd (true≢false (sym wrong)),
+      λ opening. absurd (opening.without (subst₂ (λ n (q : ChoiceOption). n ∈ leaves q.resolution) leaf same (c.holds.ensures.0 c.if-holds.true))),
+    )
 
 pub returns : goal.returns
 returns c o at =
@@ -35,7 +37,7 @@ returns c o at =
       λ told. record {
         within = within;
         begun = (begun_within o journal c.track-track.result.now.front c.args.index track.front (omega arith)).0 c.if-track-index.false;
-        without = λ m. let has = c.holds.ensures.1 (subst₂ (λ n (q : ChoiceOption). n ∈ leaves q.resolution) leaf same m) in let not = c.if-holds.false in absurd (cc);
+        without = λ m. absurd (true≢false (sym (c.holds.ensures.1 (subst₂ (λ n (q : ChoiceOption). n ∈ leaves q.resolution) leaf same m)) ∙ c.if-holds.false));
         unbanned = bans.0 told;
       },
       λ opening. bans.1 opening.unbanned,

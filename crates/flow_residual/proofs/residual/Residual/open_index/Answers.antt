@@ -1,4 +1,4 @@
-use Rattle.std.proofs.Common.{◌≡◌, ◌≤◌, ◌-◌, ℕ, length, ap, subst, ⊎_elim, arith}
+use Rattle.std.proofs.Common.{◌≡◌, ◌≤◌, ◌-◌, ℕ, true≢false, length, ap, sym, ◌∙◌, subst, ⊎_elim, arith}
 use Rattle.std.proofs.lemmas.Bool.{cases_lt}
 use Rattle.flow_residual.specs.Options.{SomeOption}
 use Rattle.flow_residual.specs.Possible.{IsOpenFor}
@@ -22,7 +22,7 @@ loop-index-preserved c k from some =
     ⊎_elim
     (λ above. c.loop-index.invariant k (let b : c.loop-index.index ≤ k = omega arith in b) some)
     (λ below. let same : k ≡ i = omega arith in
-    let yes = c.some_has.ensures.1 (subst (λ j. SomeOption (IsOpenFor c.args.self.now j) c.args.self.now.options) same some) in let no = c.if-some_has.false in absurd (cc))
+    absurd (true≢false (sym (c.some_has.ensures.1 (subst (λ j. SomeOption (IsOpenFor c.args.self.now j) c.args.self.now.options) same some)) ∙ c.if-some_has.false)))
     (cases_lt i k)
 
 pub returns : goal.returns
