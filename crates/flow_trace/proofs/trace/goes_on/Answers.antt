@@ -1,4 +1,4 @@
-use Rattle.std.proofs.Common.{◌≡◌, ◌+◌, ℕ, List, length, take, get_or, sym, refl, ◌∙◌, subst, arith}
+use Rattle.std.proofs.Common.{◌≡◌, true≢false, ◌+◌, ℕ, List, length, take, get_or, sym, refl, ◌∙◌, subst, arith}
 use Rattle.std.proofs.lemmas.List.{length-take-le}
 use Rattle.flow_workflow.specs.Definition.{schema_of}
 use Rattle.flow_excise.specs.Compilation.{options_of}
@@ -12,7 +12,7 @@ returns-then-not-some_live-clause-possible c =
     let k = c.requires.options in
     let r = c.requires.reached in
     let next = c.keep_live.ensures (take c.args.place c.args.leaves.now) r.done_are r.live_are in (
-      λ wrong. absurd (cc),
+      λ wrong. absurd (true≢false (sym wrong)),
       λ longer. absurd (bad_order (schema_of c.args.workflow.now) k.formed (options_of c.args.plans.now) k.just_those c.args.leaves.now c.args.place c.requires.within r.possible
           c.some_live.result (c.some_live.ensures (with_next c.args.leaves.now c.args.place) next) c.if-not-some_live.true longer),
     )
@@ -42,7 +42,7 @@ returns-then-not-perform-clause-possible c =
     let k = c.requires.options in
     let r = c.requires.reached in
     let state = holds_in c.args.workflow.now (take c.args.place c.args.leaves.now) (get_or c.args.leaves.now c.args.place 0) c.args.world.now c.perform.result r.world_is c.perform.ensures.holds in (
-      λ wrong. absurd (cc),
+      λ wrong. absurd (true≢false (sym wrong)),
       λ longer. absurd (bad_state (schema_of c.args.workflow.now) k.formed (options_of c.args.plans.now) k.just_those c.args.leaves.now c.args.place c.requires.within r.possible
           c.perform.result state c.if-not-perform.true longer),
     )

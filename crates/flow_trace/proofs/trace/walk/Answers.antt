@@ -9,7 +9,7 @@ loop-place-init c = record {
   possible = possible_none (schema_of c.args.workflow.now) c.requires.consistent;
   live_are = c.requires.live;
   bound = c.new-done.ensures.bound;
-  done_are = λ n. (λ wrong. let none = c.new-done.ensures.none n in absurd (cc), λ wrong. absurd wrong);
+  done_are = λ n. (λ has. absurd (true≢false (sym has ∙ c.new-done.ensures.none n)), λ wrong. absurd wrong);
   world_is = c.requires.world;
 }
 
