@@ -1,4 +1,4 @@
-use Rattle.std.proofs.Common.{inl, ⊎_elim, refl}
+use Rattle.std.proofs.Common.{true≢false, inl, ⊎_elim, refl, sym, ◌∙◌}
 use Rattle.flow_plan.proofs.Readiness.{kept_as}
 use Rattle.flow_plan.proofs.StepRows.{beside_or_found, claims_next, adds_beside}
 use Rattle.flow_plan.proofs.plan.Plan.add_beside.Goals as goal
@@ -13,7 +13,7 @@ returns-then-is_empty c done list next_is claims_are distinct n = (
             (beside_or_found c.args.self.now done list c.args.next.now c.args.claims.now c.args.found c.rest_of-rest.result c.rest_of-rest.ensures next_is claims_are distinct n all)
         | then-is_empty-via-else-is_empty+then-not-is_subset w ↦
             let yes = w.is_subset.ensures.1 (claims_next c.args.self.now done list c.args.next.now c.args.claims.now c.args.found c.rest_of-rest.result c.rest_of-rest.ensures next_is claims_are distinct n all) in
-            let no = w.if-not-is_subset.true in absurd (cc)
+            absurd (true≢false (sym yes ∙ w.if-not-is_subset.true))
       ])
       either,
 )
