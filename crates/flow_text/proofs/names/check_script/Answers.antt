@@ -1,21 +1,30 @@
-use Rattle.std.proofs.Common.{ap, sym, ◌∙◌, subst, ◌≡◌, map}
-use Rattle.std.specs.Prelude.{Some}
+use Rattle.std.proofs.Common.{ap, sym, ◌∙◌, subst, ◌≡◌, ℕ, IsErrOf, map}
+use Rattle.std.specs.Prelude.{Some, Err}
 use Rattle.std.specs.List.{position_from}
 use Rattle.flow_form.specs.Script.{said, declared}
 use Rattle.flow_text.specs.ListedNames.{roles_of}
+use Rattle.flow_text.specs.declared.name_refusal.NameRefusal.{NameRefusal}
+use Rattle.flow_text.specs.declared.name_refusal.NameRefusal.TheVariants.{Repeated, Unknown}
 use Rattle.flow_text.specs.KnownNames.{KnowsThose}
 use Rattle.flow_text.proofs.FirstNames.{found_repeated, script_repeated, script_unknown, script_good, is_other, none_of}
 use Rattle.flow_text.proofs.names.check_script.Goals as goal
 
+-- one refusal has one index
+same_repeated : {T : Type 0} (j k : ℕ) → IsErrOf {T = T} {E = NameRefusal} (Err (Repeated j)) (Repeated k) → j ≡ k
+same_repeated j k e = cc
+
+same_unknown : {T : Type 0} (j k : ℕ) → IsErrOf {T = T} {E = NameRefusal} (Err (Unknown j)) (Unknown k) → j ≡ k
+same_unknown j k e = cc
+
 pub returns-in-Some-clause-repeated : goal.returns-in-Some-clause-repeated
 returns-in-Some-clause-repeated c = λ k e.
-    let same : c.in-Some.index ≡ k = cc in
+    let same : c.in-Some.index ≡ k = same_repeated _ k e in
     script_repeated (said c.args.script.now) c.in_ok-known.known (roles_of c.deref-2.result.now) k (ap roles_of c.deref-2.ensures.value ∙ c.in_ok-list.ensures)
     (sym c.in_ok-index.ensures ∙ c.in-Some.is ∙ ap Some same)
 
 pub returns-in-Some-first_unknown-clause-unknown : goal.returns-in-Some-first_unknown-clause-unknown
 returns-in-Some-first_unknown-clause-unknown c = λ k e.
-    let same : c.in-Some-first_unknown.index ≡ k = cc in
+    let same : c.in-Some-first_unknown.index ≡ k = same_unknown _ k e in
     script_unknown (said c.args.script.now) c.in_ok-known.known (roles_of c.in_ok-list.list.items) k c.in_ok-list.ensures
     (subst (λ z. KnowsThose (map declared z) c.in_ok-known.known) c.deref.ensures.value c.in_ok-known.ensures)
     (ap (λ z. found_repeated c.in_ok-known.known (roles_of z)) (sym c.deref-2.ensures.value) ∙ sym c.in_ok-index.ensures ∙ none_of c.in_ok-index.field-0 c.in_default.not-Some)

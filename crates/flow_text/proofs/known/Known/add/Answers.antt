@@ -1,4 +1,4 @@
-use Rattle.std.proofs.Common.{ap, sym, refl, subst, ◌∙◌, [], ◌∷◌, ◌++◌}
+use Rattle.std.proofs.Common.{true≢false, ap, sym, refl, subst, ◌∙◌, [], ◌∷◌, ◌++◌}
 use Rattle.std.specs.Prelude.{is_some, ◌||◌}
 use Rattle.flow_form.specs.Form.{shape_of}
 use Rattle.flow_form.specs.Names.{declared_names}
@@ -17,7 +17,7 @@ returns-in_ok-earlier-in-Event c = λ ds h.
 pub returns-then-contains_key : goal.returns-then-contains_key
 returns-then-contains_key c = λ ds h.
     flow_known ds (declared c.args.decl.now) c.in-Flow.name (shape_of c.in-Flow.field-1) c.args.self.now _ (ap declared c.in-Flow.is) h
-    (held_again (has c.args.self.now.names) (declared_names ds) c.in-Flow.name (sym c.contains_key.ensures ∙ c.if-contains_key.true) h.declared) refl (λ e. absurd (cc))
+    (held_again (has c.args.self.now.names) (declared_names ds) c.in-Flow.name (sym c.contains_key.ensures ∙ c.if-contains_key.true) h.declared) refl (λ e. absurd (true≢false e))
 
 pub returns-in_ok-insert-in-Flow : goal.returns-in_ok-insert-in-Flow
 returns-in_ok-insert-in-Flow c = λ ds h.
