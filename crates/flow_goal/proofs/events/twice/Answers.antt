@@ -1,17 +1,15 @@
-use Rattle.std.proofs.Common.{rules, ℕ, ◌<◌, length, arith, refl}
-use Rattle.flow_goal.specs.Repeated.{HoldsNoneFrom, IsFirstFrom}
+use Rattle.std.proofs.Common.{rules, ℕ, ◌<◌, true≢false, length, arith, refl}
+use Rattle.flow_goal.specs.Repeated.{HoldsNoneFrom}
 use Rattle.flow_goal.proofs.Repetitions.{first_of_all, not_unique, unique}
 use Rattle.flow_goal.proofs.events.twice.Goals as goal
 
 pub returns-in-Some-clause-none : goal.returns-in-Some-clause-none
 returns-in-Some-clause-none c =
-    let found : IsFirstFrom c.args.tree.now c.loop-first.first c.in-Some.found = search rules in
-    ((λ e. absurd (cc)), (λ u. absurd (not_unique c.args.tree.now c.in-Some.found.event c.in-Some.found.first c.in-Some.found.second found.twice u)))
+    (λ e. absurd (true≢false e), λ u. absurd (not_unique c.args.tree.now c.in-Some.found.event c.in-Some.found.first c.in-Some.found.second c.in-Some.ensures.twice u))
 
 pub returns-in-Some-clause-some : goal.returns-in-Some-clause-some
 returns-in-Some-clause-some c =
-    let found : IsFirstFrom c.args.tree.now c.loop-first.first c.in-Some.found = search rules in
-    first_of_all c.args.tree.now c.loop-first.first c.in-Some.found c.loop-first.invariant found
+    first_of_all c.args.tree.now c.loop-first.first c.in-Some.found c.loop-first.invariant c.in-Some.ensures
 
 pub returns-clause-none : goal.returns-clause-none
 returns-clause-none c =
