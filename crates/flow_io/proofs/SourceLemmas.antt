@@ -1,6 +1,6 @@
 -- What one read, and one read after others, do to the bytes that a source has left.
-use Rattle.std.proofs.Common.{◌≡◌, ℕ, ◌+◌, ◌<◌, ◌↔◌, List, [], ◌++◌, length, take, drop, min, Option, None, Some, IfSome, Result, Ok, Err, IfOk, sym, ap, ◌∙◌, arith, append-nil, length-append, length-drop}
-use Rattle.std.proofs.lemmas.List.{take-append-drop, take-append-le, drop-append-le, drop-drop, drop_all, drop_at, length-take, length-take-le}
+use Rattle.std.proofs.Common.{◌≡◌, ℕ, ◌+◌, ◌<◌, ◌≤◌, ◌↔◌, List, [], ◌++◌, length, take, drop, min, Option, None, Some, IfSome, Result, Ok, Err, IfOk, sym, ap, subst, ◌∙◌, arith, append-nil, length-append, length-drop}
+use Rattle.std.proofs.lemmas.List.{take-append-drop, take-append-le, drop-append-le, drop-drop, drop_all, drop_at, take_at, length-take, length-take-le}
 use Rattle.std.specs.Io.KnownBytes.{Consumes, IsAtEnd}
 use Rattle.std.proofs.KnownBytes.{Consumes-trans}
 use Rattle.flow_io.specs.Source.{GivesNext, LosesCount, LosesAtMost, IsAllOf}
@@ -83,3 +83,17 @@ pub gives_into_ok : {E : Type 0} (result : Result ℕ E) (left left' : Option (L
 gives_into_ok (Ok n) left left' buffer part room same_length has_room given =
     gives_into left left' buffer part room n same_length has_room given
 gives_into_ok (Err e) left left' buffer part room same_length has_room given = tt
+
+-- the same of bytes that were read into a piece and copied from its front
+pub gives_copied : (left left' : Option (List ℕ)) (buffer part rest copied : List ℕ) (n : ℕ)
+    → n ≤ length part → copied ≡ take n (part ++ rest) → Consumes left left' (take n part)
+    → (n ≡ 0 → 0 < length buffer → IsAtEnd left')
+    → GivesNext left left' buffer (copied ++ drop n buffer) n
+gives_copied left left' buffer part rest copied n fits put consumed end =
+    let front : copied ≡ take n part = put ∙ take-append-le n part rest fits in
+    let long : length copied ≡ n = ap length front ∙ length-take-le n part fits in record {
+      fits = omega (arith, length-append copied (drop n buffer));
+      next = subst (λ t. Consumes left left' t) (sym (take_at copied (drop n buffer) n long ∙ front)) consumed;
+      rest = drop_at copied (drop n buffer) n long;
+      end = end;
+    }
