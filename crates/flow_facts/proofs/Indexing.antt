@@ -2,6 +2,7 @@
 use Rattle.std.proofs.Common.{◌≡◌, ◌≢◌, ℕ, ◌+◌, ◌<◌, ◌^◌, List, [], ◌∷◌, ◌++◌, length, slice_get, Option, Some, None, refl, sym, ap, ◌∙◌, subst, inl, inr, ◌⊎◌, ⊎_elim, Result, Ok, Err, OnOk, IfOk, arith}
 use Rattle.std.specs.Prelude.{◌↔◌, IsNone, IfSome, OnErr}
 use Rattle.std.specs.declared.cmp.Ordering.{Ordering}
+use Rattle.std.specs.Option.{ok_or}
 use Rattle.std.specs.Ordering.{nat_cmp}
 use Rattle.std.specs.BTreeMap.{BTreeMap, get}
 use Rattle.std.proofs.lemmas.List.{length-append}
@@ -69,3 +70,13 @@ put_added (Err e) old new key other grown = grown
 pub put_numbered : {K E : Type 0} (r : Result ℕ E) (old new : List K) (key : K) → OnOk r (new ≡ old ++ key ∷ []) → IfOk r (λ n. n ≡ length old) → IfOk r (λ n. slice_get new n ≡ Some key)
 put_numbered (Ok n) old new key grown last = (λ i. slice_get (grown i) (last i)) ∙ at_end old key
 put_numbered (Err e) old new key grown last = last
+
+-- a key that has a number is one of them, so none is added
+pub found_added : {K E : Type 0} (e : E) (found : Option ℕ) (r : Result ℕ E) (keys : List K) (key : K) → r ≡ ok_or found e → IfSome found (λ n. slice_get keys n ≡ Some key) → OnOk r (IsAdded keys key keys)
+found_added e None r keys key is at = subst (λ r. OnOk r (IsAdded keys key keys)) (sym is) tt
+found_added e (Some n) r keys key is at =
+    subst (λ r. OnOk r (IsAdded keys key keys)) (sym is) (record { there = λ _. refl; missing = λ out. absurd (out (mem-slice_get keys n key at)) })
+
+pub found_numbered : {K E : Type 0} (e : E) (found : Option ℕ) (r : Result ℕ E) (keys : List K) (key : K) → r ≡ ok_or found e → IfSome found (λ n. slice_get keys n ≡ Some key) → IfOk r (λ n. slice_get keys n ≡ Some key)
+found_numbered e None r keys key is at = subst (λ r. IfOk r (λ n. slice_get keys n ≡ Some key)) (sym is) tt
+found_numbered e (Some n) r keys key is at = subst (λ r. IfOk r (λ n. slice_get keys n ≡ Some key)) (sym is) at
