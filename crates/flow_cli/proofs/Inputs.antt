@@ -6,14 +6,19 @@ use Rattle.std.specs.Result.{IsErrOf}
 use Rattle.std.proofs.lemmas.List.{take_all}
 use Rattle.std.proofs.lemmas.Option.{IfSome_then}
 use Rattle.flow_model.specs.declared.limits.TheConstants.{GREATEST_INPUT}
+use Rattle.flow_form.specs.declared.refusal.TextRefusal.{TextRefusal}
 use Rattle.flow_form.specs.Script.{Said}
 use Rattle.flow_text.specs.Saying.{Says}
+use Rattle.flow_text.specs.Parsing.{IsParseRefusal}
+use Rattle.flow_findings.specs.declared.refused.Refused.TheVariants as refused
+use Rattle.flow_findings.specs.Refusing.{IsOfText}
 use Rattle.flow_record.specs.Cut.{cut_of}
 use Rattle.flow_io.specs.Source.{IsAllOf, LosesCount}
 use Rattle.flow_io.specs.declared.failure.ReadRefusal.{ReadRefusal}
 use Rattle.flow_io.specs.declared.failure.ReadRefusal.TheVariants.{ReadFault, TooLong, NoMemory}
 use Rattle.flow_cli.specs.declared.output.Output.{Output}
 use Rattle.flow_cli.specs.declared.status.Status.{Status}
+use Rattle.flow_cli.specs.Refusals.{Tells}
 use Rattle.flow_cli.specs.Output.{greatest_input, WritesFor, WritesRead, WritesIn, IsOfInput, IsNotRead, IsOutcome}
 use Rattle.flow_cli.proofs.Statuses.{input_whole}
 
@@ -26,6 +31,16 @@ module _ (P : Said → List ℕ → Status → List ℕ → Type 0) where
     says = subst (λ (k : ℕ × ℕ). Says (take k.0 input) s) is says;
     answered = subst (λ (text : List ℕ). P s text status output)
         (take_all _ (drop cut.1 input) (omega (arith, length-drop {A = ℕ})) ∙ ap (λ (k : ℕ × ℕ). drop k.1 input) is) answered;
+  })
+
+  -- an input that says nothing
+  pub says_nothing : (input : List ℕ) (cut : ℕ × ℕ) (refusal : TextRefusal) (status : Status) (output : List ℕ) → cut ≡ cut_of input → IsOfText refusal →
+      IsParseRefusal (take cut.0 input) refusal → Tells [] (refused.Text refusal) status output → WritesFor P input status output
+  says_nothing input cut refusal status output is of_text first told = inl (record {
+    refusal = refusal;
+    of_text = of_text;
+    first = subst (λ (k : ℕ × ℕ). IsParseRefusal (take k.0 input) refusal) is first;
+    told = told;
   })
 
   read_whole : (all left : Option (List ℕ)) (bytes slice : List ℕ) (status : Status) (output : List ℕ) → IsAllOf all left bytes → slice ≡ bytes →

@@ -1,5 +1,7 @@
 -- The statuses of answers to an input that was read.
-use Rattle.std.proofs.Common.{◌≢◌, ℕ, Bool, List, ◌⊎◌, sym, subst, inl, inr}
+use Rattle.std.proofs.Common.{◌≡◌, ◌≢◌, ◌<◌, ℕ, Bool, List, Option, Result, Ok, Err, ◌⊎◌, sym, subst, inl, inr, arith}
+use Rattle.std.specs.declared.alloc.AllocError.{AllocError}
+use Rattle.std.specs.Prelude.{◌↔◌, IfOk}
 use Rattle.flow_model.specs.declared.history.Call.{Call}
 use Rattle.flow_model.specs.declared.history.Outcome.{Outcome}
 use Rattle.flow_form.specs.Script.{Said, Asked, holds, redundant}
@@ -18,8 +20,9 @@ use Rattle.flow_verify.specs.declared.answers.Redundancy.{Redundancy}
 use Rattle.flow_verify.specs.declared.answers.Redundancy.TheVariants.{Redundant, Needed}
 use Rattle.flow_reply.specs.declared.verdict.Verdict.{Verdict}
 use Rattle.flow_reply.specs.declared.verdict.Verdict.TheVariants as verdict
+use Rattle.flow_cli.specs.declared.output.Output.{Output}
 use Rattle.flow_cli.specs.declared.status.Status.{Status}
-use Rattle.flow_cli.specs.declared.status.Status.TheVariants.{WriteFault, Memory}
+use Rattle.flow_cli.specs.declared.status.Status.TheVariants.{Words, ReadFault, WriteFault, Memory}
 use Rattle.flow_cli.specs.Refusals.{status_of_compiling, IsNotExpanded, OfWorkflow}
 use Rattle.flow_cli.specs.Compiling.{IsOfCounts, IsTooLarge, IsNotCompiled}
 use Rattle.flow_cli.specs.Checking.{IsFoundConsistent, ChecksWorkflow}
@@ -27,7 +30,7 @@ use Rattle.flow_cli.specs.Driving.{ended, Records, DrivesWorkflow, DrivesSaid}
 use Rattle.flow_cli.specs.Tracing.{status_of_checked, TellsOfLeaves, TracesWorkflow}
 use Rattle.flow_cli.specs.Verifying.{status_of_verified, status_of_redundancy, VerifiesWorkflow, VerifiesSaid}
 use Rattle.flow_cli.specs.Running.{Reports, RunsWorkflow}
-use Rattle.flow_cli.specs.Output.{IsOfInput, IsWhole}
+use Rattle.flow_cli.specs.Output.{IsOfInput, IsWhole, IsOutcome}
 
 of_counts : (r : CompileRefusal) → IsOfCounts r → IsOfInput (status_of_compiling r)
 of_counts (Inconsistent dropped) h = absurd h
@@ -99,3 +102,24 @@ input_whole other h = tt
 
 pub write_fault_no_want : WriteFault ≢ Memory
 write_fault_no_want is = cc
+
+-- wrong words are no fault of the source, which was not read
+pub words_no_fault : (status : Status) (faults : ℕ) → status ≡ Words → (status ≡ ReadFault) ↔ (faults < faults)
+words_no_fault status faults is = ((λ fault. cc), (λ more. absurd (omega arith)))
+
+-- what is written where no source is read
+pub unread_outcome : (IsWritten : Status → List ℕ → Type 0) (left : Option (List ℕ)) (faults : ℕ) (status : Status) (output : List ℕ) → IsOfInput status →
+    IsWritten status output → IsOutcome IsWritten ⊥ left left faults faults status output
+unread_outcome IsWritten left faults status output of_input written = record {
+  writes = written;
+  whole = input_whole status of_input;
+  words = λ is. subst IsOfInput is of_input;
+  fault = ((λ is. absurd (subst IsOfInput is of_input)), (λ more. absurd (omega arith)));
+  end = λ reads. absurd reads;
+}
+
+pub unread_outcomes : (IsWritten : Status → List ℕ → Type 0) (left : Option (List ℕ)) (faults : ℕ) (result : Result Output AllocError) →
+    IfOk result (λ output. IsOfInput output.status) → IfOk result (λ output. IsWritten output.status output.text.items) →
+    IfOk result (λ output. IsOutcome IsWritten ⊥ left left faults faults output.status output.text.items)
+unread_outcomes IsWritten left faults (Err e) of_input written = tt
+unread_outcomes IsWritten left faults (Ok output) of_input written = unread_outcome IsWritten left faults output.status output.text.items of_input written
