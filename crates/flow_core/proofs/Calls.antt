@@ -1,5 +1,5 @@
 -- Claims by their numbers, and what the gate is asked for them.
-use Rattle.std.proofs.Common.{◌≡◌, ◌≤◌, ◌<◌, ◌+◌, ℕ, zero, suc, true, false, cond, nat_eq, nat_le, ◌&&◌, List, [], ◌∷◌, ◌++◌, map, length, take, Option, Some, None, slice_get, IsTrue, is_some, refl, sym, ap, ◌∙◌, arith, true≢false}
+use Rattle.std.proofs.Common.{◌≡◌, ◌≤◌, ◌<◌, ◌+◌, ℕ, zero, suc, true, false, cond, nat_eq, nat_le, ◌&&◌, List, [], ◌∷◌, ◌++◌, map, length, take, Option, Some, None, slice_get, get_or, IsTrue, is_some, refl, sym, ap, ◌∙◌, arith, true≢false}
 use Rattle.std.specs.List.{find, fold}
 use Rattle.std.proofs.lemmas.Bool.{eq-eqb, ne_eqb, le-leb, lt-leb}
 use Rattle.flow_model.specs.declared.labels.Label.{Label}
@@ -8,6 +8,7 @@ use Rattle.flow_model.specs.declared.labels.Note.{Note}
 use Rattle.flow_model.specs.declared.labels.Note.TheVariants as note
 use Rattle.flow_model.specs.declared.history.Call.{Call}
 use Rattle.flow_model.specs.Lists.{numbers_from}
+use Rattle.flow_model.specs.Schema.{Schema}
 use Rattle.flow_model.specs.Facts.{event_at, is_event}
 use Rattle.flow_model.specs.Run.{Claim, RunState, claim_at, leaf_of_claim}
 use Rattle.flow_model.specs.Verdict.{call_of, event_of_claim, note_of, attempts}
@@ -16,6 +17,8 @@ use Rattle.flow_laws.proofs.Members.{cons_same}
 use Rattle.flow_laws.proofs.ClaimLemmas.{number_of, leaf_of_claim_is}
 use Rattle.flow_workflow.specs.Definition.{Definition, schema_of}
 use Rattle.flow_workflow.specs.Numbers.{IsKnown}
+use Rattle.flow_residual.specs.declared.given.Given.{Given}
+use Rattle.flow_residual.specs.Given.{claim_of}
 use Rattle.flow_residual.specs.Claimed.{Claimed, count_of}
 use Rattle.flow_residual.proofs.Outstanding.{each_at}
 use Rattle.flow_core.specs.declared.engine.Core.TheInside.{Inside}
@@ -103,3 +106,21 @@ module _ (w : Definition) (s : RunState) (c : Claimed) (are : AreClaimsOf w s c)
       let noted_is : noted ≡ note_of (schema_of w) (event_of_claim (schema_of w) s number) =
       ap note_in (sym note_is) ∙ ap (λ e. note_in (slice_get w.notes e)) (sym event_is) in
       λ i. record { claim = number; leaf = sym leaf_is i; event = sym event_is i; attempt = count i; note = noted_is i }
+
+-- what is noted of an event, past the end too
+noted_at : (notes : List Note) (event : ℕ) → get_or notes event note.Done ≡ note_in (slice_get notes event)
+noted_at [] event = refl
+noted_at (x ∷ xs) zero = refl
+noted_at (x ∷ xs) (suc event) = noted_at xs event
+
+-- the call of a claim that was given
+pub given_call : (w : Schema) (s : RunState) (number : ℕ) (g : Given) (notes : List Note) → claim_at s number ≡ Some (claim_of number g) →
+    event_at w.labels g.leaf ≡ Some g.event → g.attempt ≡ attempts w s g.event number → notes ≡ w.notes →
+    ◌≡◌ {A = Call} record { claim = number; leaf = g.leaf; event = g.event; attempt = g.attempt; note = get_or notes g.event note.Done } (call_of w s number)
+given_call w s number g notes found at tries noted =
+    let leaf_is : leaf_of_claim s number ≡ g.leaf = leaf_of_claim_is s number (claim_of number g) found in
+    let event_is : event_of_claim w s number ≡ g.event = ap (λ l. number_in (event_at w.labels l)) leaf_is ∙ ap number_in at in
+    let count : g.attempt ≡ attempts w s (event_of_claim w s number) number = tries ∙ ap (λ e. attempts w s e number) (sym event_is) in
+    let noted_is : get_or notes g.event note.Done ≡ note_of w (event_of_claim w s number) =
+    noted_at notes g.event ∙ ap (λ ns. note_in (slice_get ns g.event)) noted ∙ ap (λ e. note_in (slice_get w.notes e)) (sym event_is) in
+    λ i. record { claim = number; leaf = sym leaf_is i; event = sym event_is i; attempt = count i; note = noted_is i }

@@ -3,7 +3,7 @@ use Rattle.std.proofs.Common.{◌≡◌, ◌≤◌, ◌<◌, ◌↔◌, ◌⊎�
 use Rattle.std.proofs.lemmas.Option.{slice_get_within}
 use Rattle.flow_model.specs.declared.labels.Label.{Label}
 use Rattle.flow_model.specs.declared.labels.Label.TheVariants.{Event, Test, Absent, Ins, Del}
-use Rattle.flow_model.specs.Facts.{event_at, event_in, Holds}
+use Rattle.flow_model.specs.Facts.{State, event_at, event_in, Holds, HoldsAt}
 use Rattle.flow_model.specs.Schema.{Schema, IsEventLeaf, IsOtherLeaf}
 use Rattle.flow_model.specs.Run.{RunState, database, CanTake, CanDoAside, CanDo}
 
@@ -31,6 +31,13 @@ leaf_of_event w leaf event at = rw (← at) refl
 
 pub not_both : (w : Schema) (leaf : ℕ) → IsEventLeaf w leaf → ¬ (IsOtherLeaf w leaf)
 not_both w leaf event other = true≢false (sym event ∙ ap is_some other.1)
+
+-- the label at a leaf holds there
+pub holds_at : (labels : List Label) (s : State) (leaf : ℕ) (label : Label) → Some label ≡ slice_get labels leaf → Holds s label → HoldsAt labels s leaf
+holds_at labels s leaf label at holds = subst (λ o. MatchOption o (Unit {0}) (Holds s)) at holds
+
+pub label_at : (labels : List Label) (s : State) (leaf : ℕ) (label : Label) → Some label ≡ slice_get labels leaf → HoldsAt labels s leaf → Holds s label
+label_at labels s leaf label at there = subst (λ o. MatchOption o (Unit {0}) (Holds s)) (sym at) there
 
 -- past the end nothing is left and nothing can be taken
 pub none_left : (w : Schema) (s : RunState) (leaf : ℕ) → None ≡ slice_get w.labels leaf → ¬ (CanDoAside w s leaf)

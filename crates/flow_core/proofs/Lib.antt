@@ -10,3 +10,4 @@ pub mod Waiting
 pub mod Rising
 pub mod OneAnswer
 pub mod Compiled
+pub mod Beginning

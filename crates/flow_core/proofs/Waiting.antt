@@ -1,13 +1,14 @@
 -- A run that has something else to do does not wait.
-use Rattle.std.proofs.Common.{◌≡◌, ◌∙◌, ℕ, Bool, true, false, cond, List, [], ◌∷◌, IsTrue, is_some, inl, inr, refl, sym, ap, true≢false}
+use Rattle.std.proofs.Common.{◌≡◌, ◌≤◌, ◌∙◌, ℕ, Bool, true, false, cond, List, [], ◌∷◌, IsTrue, is_some, inl, inr, refl, sym, ap, true≢false}
 use Rattle.std.specs.List.{filter}
 use Rattle.flow_model.specs.Lists.{◌∈◌}
-use Rattle.flow_model.specs.Run.{Claim, RunState, claim_at, current_claims, is_current, IsCurrent, IsStuck}
+use Rattle.flow_model.specs.Run.{Claim, RunState, claim_at, current_claims, is_current, IsCurrent, IsStuck, CanDoAside}
+use Rattle.flow_model.specs.Schema.{IsGood}
 use Rattle.flow_laws.proofs.ClaimLemmas.{some_claim, claim_in}
 use Rattle.flow_core.specs.declared.next.Next.{Next}
 use Rattle.flow_core.specs.declared.next.Next.TheVariants.{Act, Wait, Finished, Stuck, Ended}
-use Rattle.flow_core.specs.Run.{Run, schema, now}
-use Rattle.flow_core.specs.Looks.{IsWaiting, IsNext}
+use Rattle.flow_core.specs.Run.{Run, schema, now, IsUncommitted}
+use Rattle.flow_core.specs.Looks.{CanStep, IsWaiting, IsLeast, IsNext}
 
 pub left_in : (p : Claim → Bool) (claims : List Claim) (claim : Claim) → claim ∈ claims → p claim ≡ true → ¬ (filter p claims ≡ [])
 left_in p [] claim m e none = m
@@ -36,3 +37,17 @@ not_stuck r (Stuck leaf) here other is = other leaf refl
 
 pub not_waiting : (r : Run) (next : Next) → IsNext r next → ((leaf : ℕ) → ¬ (next ≡ Stuck leaf)) → (leaf : ℕ) → ¬ (IsWaiting r leaf)
 not_waiting r next is other leaf waits = not_stuck r next is other waits.0
+
+-- where nothing else is left, the least leaf that is left is the least that waits
+pub least_waits : (r : Run) → IsUncommitted r → ((leaf : ℕ) → ¬ (CanStep r leaf)) → current_claims (now r) ≡ [] → ¬ (IsGood (schema r) (now r).journal) →
+    (leaf : ℕ) → IsLeast (CanDoAside (schema r) (now r)) leaf → IsLeast (IsWaiting r) leaf
+least_waits r going none no_claim unfinished leaf least =
+    ((stuck, (least.0, λ holds. none leaf (inr (least.0, holds)))), λ other waits. least.1 other waits.1.0)
+  where
+    stuck : IsStuck (schema r) (now r)
+    stuck = record {
+      going_on = going;
+      no_claim = no_claim;
+      unfinished = unfinished;
+      only_waiting = λ n can. elim can [ inl take ↦ absurd (none n (inl take)) | inr aside ↦ (aside, λ holds. none n (inr (aside, holds))) ];
+    }

@@ -1,10 +1,18 @@
-use Rattle.std.proofs.Common.{rules, ◌≡◌, ◌<◌, length, sym, subst}
+use Rattle.std.proofs.Common.{◌<◌, ◌∙◌, length, ap, sym, subst}
 use Rattle.flow_model.specs.Lists.{Each}
+use Rattle.flow_goal.specs.Labelled.{Labelled}
+use Rattle.flow_core.proofs.Beginning.{kept_first}
 use Rattle.flow_core.proofs.engine.Parts.new.Goals as goal
 
 pub new-requires-2 : goal.new-requires-2
 new-requires-2 c =
-    let same : c.held.result.now ≡ c.args.workflow.now.held = search rules in
-    let counted : c.count.result ≡ length c.args.workflow.now.facts = search rules in
-    subst (λ facts. Each (λ fact. fact < c.count.result) facts) (sym same)
-    (subst (λ n. Each (λ fact. fact < n) c.args.workflow.now.held) (sym counted) c.held.ensures.known)
+    subst (λ facts. Each (λ fact. fact < c.count.result) facts) (sym c.held.ensures.held)
+    (subst (λ n. Each (λ fact. fact < n) c.args.workflow.now.held) (sym (c.count.ensures.count ∙ ap length c.facts.ensures)) c.held.ensures.known)
+
+pub returns-clause-kept : goal.returns-clause-kept
+returns-clause-kept c =
+    let made = c.in_ok-residual.ensures in
+    kept_first c.args.workflow.now c.args.limit c.args.compiled c.in_ok-residual.residual c.in_ok-claims.claims c.in_ok-world.world _ _ _ _ c.requires.compiled
+    c.tree.ensures.known c.notes.ensures.as_many c.tree.ensures.well_formed made.options made.journal made.bans c.in_ok-claims.ensures
+    (ap length c.events.ensures.names) c.in_ok-world.ensures c.held.ensures.held (c.count.ensures.count ∙ ap length c.facts.ensures)
+    (c.leaves-leaves.ensures.count ∙ ap (λ (t : Labelled). length t.labels) c.tree.ensures.tree)
