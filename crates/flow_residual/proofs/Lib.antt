@@ -10,3 +10,4 @@ pub mod Outstanding
 pub mod Counting
 pub mod Renewing
 pub mod Thinning
+pub mod Starting
