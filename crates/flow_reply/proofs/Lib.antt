@@ -1,3 +1,4 @@
 mod Verdicts
 pub mod Runs
 pub mod OneReply
+pub mod Spaced
