@@ -1,13 +1,15 @@
 -- The normal forms that the code makes have the ways of those of the definitions.
-use Rattle.std.proofs.Common.{◌≡◌, ℕ, Bool, true, false, not, List, [], ◌∷◌, Vec, Global, map, fold, refl, sym, ap, ◌∙◌, Option}
+use Rattle.std.proofs.Common.{◌≡◌, ℕ, Bool, true, false, not, List, [], ◌∷◌, Vec, Box, Global, map, fold, refl, sym, ap, ◌∙◌, Option}
 use Rattle.flow_model.specs.Constraint.{Constraint, Always, Impossible, Order, Not, And, Or, all_of}
 use Rattle.flow_model.specs.Ways.{Normal, both, either, before, not_before, normal_form, chain, broken_chain, ways}
 use Rattle.flow_rules.specs.declared.rule.Rule as rule
 use Rattle.flow_rules.specs.declared.rule.Rule.{Rule}
-use Rattle.flow_rules.specs.Normal.{all_form, pair_form, split_chain, split_form, linked}
+use Rattle.flow_rules.specs.declared.normal.Nnf.{Event}
+use Rattle.flow_rules.specs.Normal.{all_form, normal_of, pair_form, split_chain, split_form, linked}
 use Rattle.flow_rules.specs.Rule.{any_of, rule_of, rules_of}
 use Rattle.flow_rules.specs.WayLists.{both_ways, either_way}
-use Rattle.flow_rules.proofs.RuleViews.{rule_of-And, rule_of-Or}
+use Rattle.flow_rules.proofs.RuleViews.{rule_of-Must, rule_of-Never, rule_of-Order, rule_of-Not, rule_of-And, rule_of-Or}
+use Rattle.flow_rules.proofs.NormalViews.{normal_of-Event}
 use Rattle.flow_rules.proofs.WayListLemmas.{both_free, both_assoc, either_nothing, either_assoc}
 
 -- rules joined from the left
@@ -44,6 +46,18 @@ pub split_or : (wanted : Bool) (r : Rule) (parts : Vec Rule Global) → r ≡ ru
     all_form (not wanted) (split_rules wanted parts.items) ≡ split_form (rule_of r) wanted
 split_or wanted r parts e =
     sym (ap (λ x. split_form (rule_of x) wanted) e ∙ ap (λ c. split_form c wanted) (rule_of-Or parts) ∙ split_any wanted parts.items)
+
+pub split_must : (wanted : Bool) (r : Rule) (event : ℕ) → r ≡ rule.Must event → normal_of (Event wanted event) ≡ split_form (rule_of r) wanted
+split_must wanted r event e = normal_of-Event wanted event ∙ sym (ap (λ c. split_form c wanted) (ap rule_of e ∙ rule_of-Must event))
+
+pub split_never : (wanted : Bool) (r : Rule) (event : ℕ) → r ≡ rule.Never event → normal_of (Event (not wanted) event) ≡ split_form (rule_of r) wanted
+split_never wanted r event e = normal_of-Event (not wanted) event ∙ sym (ap (λ c. split_form c wanted) (ap rule_of e ∙ rule_of-Never event))
+
+pub split_order : (wanted : Bool) (r : Rule) (events : Vec ℕ Global) → r ≡ rule.Order events → split_chain wanted events.items ≡ split_form (rule_of r) wanted
+split_order wanted r events e = sym (ap (λ c. split_form c wanted) (ap rule_of e ∙ rule_of-Order events))
+
+pub split_not : (wanted : Bool) (r : Rule) (part : Box Rule Global) → r ≡ rule.Not part → split_form (rule_of part.value) (not wanted) ≡ split_form (rule_of r) wanted
+split_not wanted r part e = sym (ap (λ c. split_form c wanted) (ap rule_of e ∙ rule_of-Not part))
 
 -- orders
 

@@ -1,10 +1,12 @@
 use Rattle.std.proofs.Common.{◌≡◌, ◌∙◌, ◌+◌, Bool, true, false, not, take, refl, sym, ap, subst, true≢false, List, Vec, Global}
 use Rattle.std.proofs.Math.Bool.{beq}
 use Rattle.std.specs.Cmp.{booleans_Decides}
+use Rattle.std.proofs.lemmas.List.{take_all}
 use Rattle.std.proofs.lemmas.Result.{IfOk-weaker}
 use Rattle.flow_model.specs.Ways.{ways}
 use Rattle.flow_rules.specs.declared.asked.Asked.{Asked}
 use Rattle.flow_rules.specs.declared.asked.Found.{Found}
+use Rattle.flow_rules.specs.declared.normal.Nnf.{Nnf}
 use Rattle.flow_rules.specs.Asked.{Finds, HasKept}
 use Rattle.flow_rules.specs.EventLeaves.{leaf_in}
 use Rattle.flow_rules.specs.Normal.{normal_of}
@@ -68,3 +70,10 @@ parts_asked-loop-part-preserved t c =
           subst Kept_so (sym w.kept-is)
           (kept_more j kept _ w.in-Open.more _ these _ w.in_ok-push-in-Open.ensures.items more (subst finds w.in-Open.is c.in_ok-met.ensures) c.loop-part.invariant)
     ]
+
+pub parts_asked-returns : goal.parts_asked-returns
+parts_asked-returns t c =
+    let j = c.args.connective in
+    let kept = c.loop-part.kept.items in
+    c.kept_asked.ensures _
+    (subst (λ (parts : List Nnf). HasKept j kept (ways_of_parts j (leaf_in c.args.events.now) parts)) (take_all c.loop-part.part-index c.args.parts.now c.loop-part-test.false) c.loop-part.invariant)

@@ -1,7 +1,6 @@
 use Rattle.std.proofs.Common.{◌≡◌, ◌∙◌, ◌+◌, ℕ, not, take, sym, ap, subst, Vec, Global}
 use Rattle.std.proofs.lemmas.Result.{IfOk-weaker}
 use Rattle.std.proofs.lemmas.List.{take_all}
-use Rattle.flow_model.specs.Ways.{ways}
 use Rattle.flow_rules.specs.declared.normal.Nnf.{Nnf}
 use Rattle.flow_rules.specs.Standing.{has_lane, lanes_where}
 use Rattle.flow_rules.specs.WayLists.{decider, ways_of_parts}
