@@ -6,7 +6,7 @@ use Rattle.std.proofs.lemmas.List.{length-map, map-append, map-id}
 use Rattle.std.proofs.lemmas.Option.{slice_get-map}
 use Rattle.std.proofs.lemmas.Simd.{map-map}
 use Rattle.flow_model.specs.Lists.{each_with_each}
-use Rattle.flow_model.specs.Process.{Process, Sequence, Parallel, Isolated, leaves}
+use Rattle.flow_model.specs.Process.{Process, Sequence, Parallel, Choice, Isolated, leaves}
 use Rattle.flow_model.specs.Resolution.{resolutions, resolution_count}
 use Rattle.flow_laws.proofs.ResolutionsLemmas.{length-resolutions}
 use Rattle.flow_laws.proofs.MadeLists.{length-each_with_each, slice_get-each_with_each, slice_get_append_left, slice_get_append_right}
@@ -90,6 +90,9 @@ pub isolated_lines : (a : Process) → both (both (mark Open ∷ []) (lines_in a
 isolated_lines a =
     ap (λ ls. both ls (mark Close ∷ [])) (after_one (mark Open) (lines_in a))
     ∙ before_one (map (then (mark Open)) (lines_in a)) (mark Close) ∙ lines_inside (resolutions a)
+
+pub choice_lines : (a b : Process) → lines_in a ++ lines_in b ≡ lines_in (Choice a b)
+choice_lines a b = sym (map-append line (resolutions a) (resolutions b))
 
 pub lines_count : (g : Process) (ls : List Line) → ls ≡ lines_in g → length ls ≡ resolution_count g
 lines_count g ls e = ap length e ∙ length-map (resolutions g) line ∙ length-resolutions g

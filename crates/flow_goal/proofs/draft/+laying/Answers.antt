@@ -1,11 +1,15 @@
-use Rattle.std.proofs.Common.{◌∙◌, sym, subst}
+use Rattle.std.proofs.Common.{ℕ, List, ◌++◌, ◌∙◌, ap, sym, subst, OnOk, arith}
 use Rattle.std.proofs.lemmas.Result.{IfOk-weaker}
 use Rattle.flow_goal.specs.declared.goal.Goal.{Goal}
 use Rattle.flow_goal.specs.Goal.{process_of}
-use Rattle.flow_goal.specs.Patterns.{Lays, lines_in}
-use Rattle.flow_goal.proofs.PatternLemmas.{isolated_laid, laid_first, parallel_laid, sequence_laid}
+use Rattle.flow_goal.specs.Patterns.{Lays, Line, lines_in}
+use Rattle.flow_goal.proofs.PatternLemmas.{choice_lines, isolated_laid, laid_first, parallel_laid, sequence_laid}
+use Rattle.flow_goal.proofs.Counting.{goal_size}
 use Rattle.flow_goal.proofs.Writing.{ok_taken}
 use Rattle.flow_goal.proofs.draft.+laying.Goals as goal
+
+abbrev size : Goal → ℕ
+size g = goal_size (process_of g)
 
 pub lay-returns-in_ok-lay-in-Serial-2 : goal.lay-returns-in_ok-lay-in-Serial-2
 lay-returns-in_ok-lay-in-Serial-2 t c =
@@ -37,3 +41,34 @@ pattern_of-returns-in-Ok-clause-lines t c =
     IfOk-weaker c.finish.result _ _
     (λ new e. e ∙ laid_first c.new-draft.result c.lay.new.draft (lines_in (process_of c.args.goal.now)) c.new-draft.ensures.before c.new-draft.ensures.last c.in-Ok.ensures)
     c.finish.ensures.lines
+
+pub lay-returns-in-Nop : goal.lay-returns-in-Nop
+lay-returns-in-Nop t c = subst (λ (g : Goal). OnOk c.put.result (Lays (lines_in (process_of g)) c.args.draft.now c.put.new.self)) (sym c.in-Nop.is) c.put.ensures
+
+pub lay-returns-in-Leaf : goal.lay-returns-in-Leaf
+lay-returns-in-Leaf t c = subst (λ (g : Goal). OnOk c.put_leaf.result (Lays (lines_in (process_of g)) c.args.draft.now c.put_leaf.new.self)) (sym c.in-Leaf.is) c.put_leaf.ensures
+
+pub lay-returns-in-Ok : goal.lay-returns-in-Ok
+lay-returns-in-Ok t c =
+    let lines = λ (g : Goal). lines_in (process_of g) in
+    subst (λ (ls : List Line). OnOk c.choose.result (Lays ls c.args.draft.now c.choose.new.self))
+    ((λ k. (c.in_ok-left-in-Either.ensures.lines ∙ ap lines c.deref-in-Either.ensures) k ++ (c.in-Ok.ensures.lines ∙ ap lines c.deref-in-Either-2.ensures) k)
+    ∙ choice_lines (process_of c.in-Either.left.value) (process_of c.in-Either.right.value) ∙ ap lines (sym c.in-Either.is)) c.choose.ensures
+
+pub lay-lay-requires : goal.lay-lay-requires
+lay-lay-requires t c = (omega (arith, c.decreases, ap size c.in-Serial.is, ap size c.deref.ensures), c.requires)
+
+pub lay-lay-requires-in-Serial : goal.lay-lay-requires-in-Serial
+lay-lay-requires-in-Serial t c = (omega (arith, c.decreases, ap size c.in-Serial.is, ap size c.deref-in-Serial.ensures), c.in_ok-lay-in-Serial.ensures.counted c.requires)
+
+pub lay-lay-requires-in-Beside : goal.lay-lay-requires-in-Beside
+lay-lay-requires-in-Beside t c = (omega (arith, c.decreases, ap size c.in-Beside.is, ap size c.deref-in-Beside.ensures), c.in_ok-put-in-Beside.ensures.counted c.requires)
+
+pub lay-lay-requires-in-Beside-2 : goal.lay-lay-requires-in-Beside-2
+lay-lay-requires-in-Beside-2 t c = (
+  omega (arith, c.decreases, ap size c.in-Beside.is, ap size c.deref-in-Beside-2.ensures),
+  c.in_ok-put-in-Beside-2.ensures.counted (c.in_ok-lay-in-Beside.ensures.counted (c.in_ok-put-in-Beside.ensures.counted c.requires)),
+)
+
+pub lay-lay-requires-in-Iso : goal.lay-lay-requires-in-Iso
+lay-lay-requires-in-Iso t c = (omega (arith, c.decreases, ap size c.in-Iso.is, ap size c.deref-in-Iso.ensures), c.in_ok-put-in-Iso.ensures.counted c.requires)

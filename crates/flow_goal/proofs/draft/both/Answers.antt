@@ -1,0 +1,21 @@
+use Rattle.std.proofs.Common.{length, sym, ap, subst, ◌∙◌}
+use Rattle.flow_model.specs.Lists.{each_with_each}
+use Rattle.flow_goal.specs.declared.pattern.Pattern.{Pattern}
+use Rattle.flow_goal.specs.Capped.{capped}
+use Rattle.flow_goal.specs.Patterns.{IsCounted, lines_of, then}
+use Rattle.flow_goal.proofs.PatternLemmas.{both_counted}
+use Rattle.flow_goal.proofs.draft.both.Goals as goal
+
+pub returns-clause-counted : goal.returns-clause-counted
+returns-clause-counted c =
+    let first = sym c.in-Ok.ensures.ok in
+    let second = sym c.in_ok-second.ensures.ok in (
+      c.saturating_mul-count.ensures
+          ∙ both_counted c.in-Ok.first.value c.in_ok-second.second.value c.count.result c.count-2.result
+          (c.count.ensures ∙ ap (λ (p : Pattern). capped (length (lines_of p))) first) (c.count-2.ensures ∙ ap (λ (p : Pattern). capped (length (lines_of p))) second),
+      subst IsCounted first c.requires.first,
+      subst IsCounted second c.requires.second,
+    )
+
+pub returns-clause-lines : goal.returns-clause-lines
+returns-clause-lines c = λ k. each_with_each then (lines_of (c.in-Ok.ensures.ok k)) (lines_of (c.in_ok-second.ensures.ok k))
