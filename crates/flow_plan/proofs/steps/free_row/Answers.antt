@@ -1,16 +1,34 @@
-use Rattle.std.proofs.Common.{ℕ, ◌↔◌, IsTrue, List, get_or, inl, inr, ap, subst, ◌∙◌}
+use Rattle.std.proofs.Common.{ℕ, ◌<◌, ◌↔◌, IsTrue, true≢false, List, get_or, inl, inr, ap, sym, subst, ◌∙◌, arith}
 use Rattle.std.proofs.lemmas.List.{take_all}
 use Rattle.std.proofs.lemmas.Option.{slice_get-get_or}
 use Rattle.leaf_rows.specs.Leaves.{has_leaf}
 use Rattle.leaf_rows.specs.declared.leaf_set.LeafSet.{LeafSet}
 use Rattle.flow_model.specs.Lists.{◌∈◌}
 use Rattle.flow_model.specs.Ready.{DirectlyBefore}
-use Rattle.flow_plan.specs.Progress.{IsDone}
+use Rattle.flow_laws.proofs.Members.{each_member}
+use Rattle.flow_plan.specs.Progress.{IsDone, bound_of}
 use Rattle.flow_plan.specs.Rows.{IsRowOf, IsFree}
+use Rattle.flow_plan.proofs.PlaceLemmas.{read_member}
 use Rattle.flow_plan.proofs.RowLemmas.{rows_get}
 use Rattle.flow_plan.proofs.StepRows.{free_more}
 use Rattle.flow_plan.proofs.steps.free_row.Goals as goal
 use Rattle.flow_plan.proofs.steps.free_row.Goals.{then-frees, else-frees}
+
+pub loop-place-init : goal.loop-place-init
+loop-place-init c = λ q pairs are x. (λ has. absurd (true≢false (sym has ∙ c.new-row.ensures x)), λ both. absurd both.0)
+
+pub frees-requires : goal.frees-requires
+frees-requires c =
+    let ns = c.args.leaves.now in
+    let i = c.loop-place.place in
+    each_member (λ n. n < bound_of c.args.done.now) ns c.requires.fits (get_or ns i 0) (read_member ns i c.loop-place-test.true)
+
+pub insert-requires : goal.insert-requires
+insert-requires c =
+    let ns = c.args.leaves.now in
+    let i = c.loop-place.place in
+    let below : get_or ns i 0 < bound_of c.args.done.now = each_member (λ n. n < bound_of c.args.done.now) ns c.requires.fits (get_or ns i 0) (read_member ns i c.loop-place-test.true) in
+    (omega arith, omega (arith, below, c.args.done.now.small))
 
 pub loop-place-preserved : goal.loop-place-preserved
 loop-place-preserved c = λ q pairs are.

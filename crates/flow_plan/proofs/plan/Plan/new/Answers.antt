@@ -1,11 +1,12 @@
-use Rattle.std.proofs.Common.{List, ap, refl, subst, sym}
+use Rattle.std.proofs.Common.{List, length, ap, refl, subst, sym, ◌∙◌}
 use Rattle.flow_model.specs.Ready.{DirectlyBefore}
-use Rattle.flow_laws.specs.WellFormed.{IsOrdered}
+use Rattle.flow_laws.specs.WellFormed.{AreOfLeaves, IsOrdered}
 use Rattle.flow_goal.specs.Resolved.{Resolved, IsResolved}
 use Rattle.flow_plan.specs.declared.token.OrderToken.{OrderToken}
 use Rattle.flow_plan.specs.Fields.{AreFieldsOf}
 use Rattle.flow_plan.specs.Rows.{AreRowsOf}
 use Rattle.flow_plan.specs.Planned.{planned, pairs_of}
+use Rattle.flow_plan.proofs.RowLemmas.{rows_length}
 use Rattle.flow_plan.proofs.Readiness.{kept_as, new_is_ordered}
 use Rattle.flow_plan.proofs.plan.Plan.new.Goals as goal
 
@@ -30,3 +31,17 @@ invariant_of-result c =
       parts_are = c.in_ok-parts.ensures (pairs_of tokens) (rw c.deref-2.ensures.value rows);
     } in
     kept_as kept (ap (λ (g : Resolved). planned g tokens) (sym c.in_ok-copy.ensures.same)) refl refl
+
+pub returns-clause-process : goal.returns-clause-process
+returns-clause-process c = ap (λ (g : Resolved). g.process) c.in_ok-copy.ensures.same
+
+pub returns-clause-leaves : goal.returns-clause-leaves
+returns-clause-leaves c = ap (λ (g : Resolved). g.leaves) c.in_ok-copy.ensures.same
+
+pub before_rows-requires-clause-of_leaves : goal.before_rows-requires-clause-of_leaves
+before_rows-requires-clause-of_leaves c =
+    subst (λ (ts : List OrderToken). AreOfLeaves c.args.goal.now.process (pairs_of ts)) (sym c.deref.ensures.value) c.requires.of_leaves
+
+pub part_rows-requires-clause-one_each : goal.part_rows-requires-clause-one_each
+part_rows-requires-clause-one_each c =
+    ap length c.deref-2.ensures.value ∙ rows_length (DirectlyBefore c.args.goal.now.process (pairs_of c.deref.result.now)) c.args.goal.now.leaves c.in_ok-before.before.items c.in_ok-before.ensures
