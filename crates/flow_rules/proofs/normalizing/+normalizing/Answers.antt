@@ -1,7 +1,7 @@
 use Rattle.std.proofs.Common.{not, ap, map, List, ◌∙◌}
-use Rattle.flow_rules.specs.declared.rule.Rule.{Rule}
 use Rattle.std.proofs.lemmas.List.{take_all}
 use Rattle.std.proofs.lemmas.Result.{IfOk-weaker}
+use Rattle.flow_rules.specs.declared.rule.Rule.{Rule}
 use Rattle.flow_rules.specs.Normal.{all_form, normal_of, split_chain, split_form}
 use Rattle.flow_rules.specs.NormalForm.{chain_form, form_of, list_form, rule_form}
 use Rattle.flow_rules.specs.Rule.{rule_of}
