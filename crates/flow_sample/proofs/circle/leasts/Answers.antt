@@ -1,8 +1,14 @@
-use Rattle.std.proofs.Common.{List, ℕ, ◌++◌, ◌∷◌, [], ◌∙◌, ap, map, sym, get_or}
+use Rattle.std.proofs.Common.{◌<◌, List, length, ℕ, ◌++◌, ◌∷◌, [], ◌∙◌, ap, map, sym, get_or}
 use Rattle.std.proofs.lemmas.List.{take_all}
+use Rattle.flow_model.specs.Lists.{Each}
+use Rattle.flow_laws.proofs.Members.{each_member}
+use Rattle.flow_plan.proofs.PlaceLemmas.{read_member}
 use Rattle.flow_sample.specs.Rows.{least_at, least_in}
 use Rattle.flow_sample.proofs.OrderLemmas.{read_more}
 use Rattle.flow_sample.proofs.circle.leasts.Goals as goal
+
+inside : (numbers : List ℕ) (n i : ℕ) → Each (λ number. number < n) numbers → i < length numbers → get_or numbers i 0 < n
+inside numbers n i each there = each_member (λ number. number < n) numbers each (get_or numbers i 0) (read_member numbers i there)
 
 pub loop-number-preserved : goal.loop-number-preserved
 loop-number-preserved c =
@@ -12,3 +18,9 @@ loop-number-preserved c =
 
 pub returns : goal.returns
 returns c = c.loop-number.invariant ∙ ap (map (least_at c.args.items.now)) (take_all c.loop-number.number-index c.args.numbers.now c.loop-number-test.false)
+
+pub bounds-items-number : goal.bounds-items-number
+bounds-items-number c = inside c.args.numbers.now (length c.args.items.now) c.loop-number.number-index c.requires c.loop-number-test.true
+
+pub bounds-items-number-in-loop-number : goal.bounds-items-number-in-loop-number
+bounds-items-number-in-loop-number c = inside c.args.numbers.now (length c.args.items.now) c.loop-number.number-index c.requires c.loop-number-test.true
