@@ -8,7 +8,7 @@ mod rows;
 use anyhow::{Context, Result};
 use flow_cli::flow;
 use flow_crew::NoteGate;
-use flow_io::{MemSink, MemSource};
+use flow_doubles::{MemSink, MemSource};
 use rows::Row;
 use std::alloc::Global;
 use std::rt::{Env, Files};

@@ -7,11 +7,12 @@ use Rattle.flow_model.specs.Constraint.{Constraint}
 use Rattle.flow_goal.specs.Labelled.{Labelled}
 use Rattle.flow_workflow.specs.Definition.{Definition, schema_of}
 use Rattle.flow_excise.specs.Options as options
-use Rattle.flow_excise.specs.declared.counts.Counts.{Counts}
+use Rattle.flow_plan.specs.declared.counts.Counts.{Counts}
 use Rattle.flow_excise.specs.declared.refusal.CompileRefusal.{CompileRefusal}
 use Rattle.flow_excise.specs.declared.refusal.CompileRefusal.TheVariants.{Inconsistent, NoMemory}
-use Rattle.flow_excise.specs.Compilation.{Compilation, IsLive, IsCompiled, IsRefused}
-use Rattle.flow_core.proofs.Compiled.{within, compiled, of_parts}
+use Rattle.flow_excise.specs.Compilation.{IsRefused}
+use Rattle.flow_plan.specs.Compilation.{Compilation, IsLive, IsCompiled}
+use Rattle.flow_excise.proofs.Workflows.{within, compiled, of_parts}
 use Rattle.flow_findings.specs.declared.refused.Refused.TheVariants as refused
 use Rattle.flow_findings.specs.Refusing.{IsOfOptions}
 use Rattle.flow_findings.specs.Checking.{check_text}

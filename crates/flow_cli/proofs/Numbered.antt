@@ -13,8 +13,8 @@ use Rattle.flow_form.specs.Script.{Said, Declared}
 use Rattle.flow_form.specs.Names.{event_names}
 use Rattle.flow_workflow.specs.Numbers.{event_number}
 use Rattle.flow_workflow.proofs.FirstPlaces.{within}
-use Rattle.flow_expand.specs.declared.refusal.ExpandRefusal.{ExpandRefusal}
-use Rattle.flow_expand.specs.declared.refusal.ExpandRefusal.TheVariants as refusal
+use Rattle.flow_workflow.specs.declared.refusal.ExpandRefusal.{ExpandRefusal}
+use Rattle.flow_workflow.specs.declared.refusal.ExpandRefusal.TheVariants as refusal
 use Rattle.flow_expand.specs.Expansion.{Expansion, in_turn, at_once, one_of, joined, Becomes, AllBecome, becomes_nop, becomes_event, becomes_flow, becomes_iso, becomes_serial, becomes_beside, becomes_either, none_becomes, more_become}
 use Rattle.flow_expand.specs.Numbers.{labels_of, facts_of}
 use Rattle.flow_expand.specs.Refusals.{IsRefusal}

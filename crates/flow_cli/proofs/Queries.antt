@@ -17,7 +17,7 @@ use Rattle.flow_form.specs.Names.{names_in_rule}
 use Rattle.flow_grammar.specs.Roles.{used_in_rules, query_roles}
 use Rattle.flow_grammar.proofs.RolesOfNames.{of_rules}
 use Rattle.flow_workflow.specs.Definition.{Definition, schema_of}
-use Rattle.flow_excise.specs.Compilation.{IsWithinLimits}
+use Rattle.flow_plan.specs.Compilation.{IsWithinLimits}
 use Rattle.flow_verify.specs.declared.answers.Verified.{Verified}
 use Rattle.flow_verify.specs.declared.answers.Verified.TheVariants.{Holds, Fails}
 use Rattle.flow_verify.specs.declared.answers.Redundancy.{Redundancy}

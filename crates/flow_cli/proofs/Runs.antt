@@ -14,8 +14,8 @@ use Rattle.flow_crew.specs.declared.ends.End.{End}
 use Rattle.flow_crew.specs.declared.ends.End.TheVariants as end
 use Rattle.flow_crew.specs.Ends.{IsEnd}
 use Rattle.flow_crew.specs.Invariant.{IsByWorkers}
-use Rattle.flow_excise.specs.declared.counts.Counts.{Counts}
-use Rattle.flow_excise.specs.Compilation.{Compilation, IsCompiled}
+use Rattle.flow_plan.specs.declared.counts.Counts.{Counts}
+use Rattle.flow_plan.specs.Compilation.{Compilation, IsCompiled}
 use Rattle.flow_reply.specs.declared.summary.Summary.{Summary}
 use Rattle.flow_reply.specs.declared.verdict.Verdict.{Verdict}
 use Rattle.flow_reply.specs.Report.{Means}

@@ -3,7 +3,7 @@ use Rattle.std.proofs.Common.{◌≡◌, ◌<◌, ◌+◌, ℕ, List, [], ◌∷
 use Rattle.std.proofs.lemmas.List.{take_more}
 use Rattle.flow_model.specs.Verdict.{drive_verdict}
 use Rattle.flow_workflow.specs.Definition.{Definition, schema_of}
-use Rattle.flow_excise.specs.Compilation.{IsWithinLimits}
+use Rattle.flow_plan.specs.Compilation.{IsWithinLimits}
 use Rattle.flow_core.specs.Run.{Run, schema}
 use Rattle.flow_core.specs.Lawful.{IsLawful}
 use Rattle.flow_reply.specs.declared.verdict.Verdict.{Verdict}

@@ -7,7 +7,8 @@ use Rattle.flow_excise.specs.declared.refusal.CompileRefusal.{CompileRefusal}
 use Rattle.flow_excise.specs.declared.refusal.CompileRefusal.TheVariants.{Inconsistent, NoMemory}
 use Rattle.flow_excise.specs.declared.refusal.Dropped.{Dropped}
 use Rattle.flow_excise.specs.Executions.{TellOfAll}
-use Rattle.flow_excise.specs.Compilation.{IsWithinLimits, IsRefused, all_numbered}
+use Rattle.flow_excise.specs.Compilation.{IsRefused, all_numbered}
+use Rattle.flow_plan.specs.Compilation.{IsWithinLimits}
 use Rattle.flow_findings.specs.declared.refused.Refused.TheVariants as refused
 use Rattle.flow_findings.specs.Refusing.{inconsistent_text}
 use Rattle.flow_cli.specs.declared.status.Status.{Status}

@@ -6,7 +6,7 @@ use Rattle.flow_core.specs.Run.{Run}
 use Rattle.flow_core.specs.Lawful.{IsLawful}
 use Rattle.flow_form.specs.Script.{Said}
 use Rattle.flow_workflow.specs.Definition.{Definition, schema_of}
-use Rattle.flow_excise.specs.Compilation.{IsWithinLimits}
+use Rattle.flow_plan.specs.Compilation.{IsWithinLimits}
 use Rattle.flow_record.specs.declared.command.Command.{Command}
 use Rattle.flow_record.specs.declared.refusal.RecordRefusal.TheVariants.{BadLine}
 use Rattle.flow_record.specs.Session.{session_of, commands, bad_line}

@@ -3,8 +3,8 @@ use Rattle.std.specs.Prelude.{◌≡◌, ℕ, Bool, List, length}
 use Rattle.flow_model.specs.declared.history.Call.{Call}
 use Rattle.flow_model.specs.declared.history.Outcome.{Outcome}
 use Rattle.flow_core.specs.Run.{Run, now}
-use Rattle.flow_excise.specs.declared.counts.Counts.{Counts}
-use Rattle.flow_excise.specs.Compilation.{Compilation, IsCompiled}
+use Rattle.flow_plan.specs.declared.counts.Counts.{Counts}
+use Rattle.flow_plan.specs.Compilation.{Compilation, IsCompiled}
 use Rattle.flow_gen.specs.Generated.{generated}
 use Rattle.flow_workflow.specs.Definition.{Definition, schema_of}
 use Rattle.flow_reply.specs.declared.summary.Summary.{Summary}

@@ -3,7 +3,7 @@ use Rattle.std.specs.Prelude.{◌≡◌, ℕ, List}
 use Rattle.flow_form.specs.Script.{Said}
 use Rattle.flow_form.specs.Names.{event_names}
 use Rattle.flow_workflow.specs.Definition.{Definition}
-use Rattle.flow_expand.specs.declared.refusal.ExpandRefusal.{ExpandRefusal}
+use Rattle.flow_workflow.specs.declared.refusal.ExpandRefusal.{ExpandRefusal}
 use Rattle.flow_expand.specs.Refusals.{IsRefusal}
 use Rattle.flow_expand.specs.Workflows.{IsExpanded}
 use Rattle.flow_excise.specs.declared.refusal.CompileRefusal.{CompileRefusal}

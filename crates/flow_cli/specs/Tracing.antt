@@ -2,7 +2,7 @@
 use Rattle.std.specs.Prelude.{◌≡◌, ℕ, List, [], ◌⊎◌}
 use Rattle.flow_form.specs.Script.{Said}
 use Rattle.flow_workflow.specs.Definition.{Definition, schema_of}
-use Rattle.flow_excise.specs.Compilation.{IsWithinLimits}
+use Rattle.flow_plan.specs.Compilation.{IsWithinLimits}
 use Rattle.flow_record.specs.declared.refusal.RecordRefusal.{RecordRefusal}
 use Rattle.flow_record.specs.declared.refusal.RecordRefusal.TheVariants.{BadLine, Label, NoMemory}
 use Rattle.flow_record.specs.Journal.{journal_of, journal, bad_line, wrong_label}

@@ -7,7 +7,7 @@ use Rattle.flow_text.specs.Saying.{Asks}
 use Rattle.flow_text.specs.Parsing.{IsQueryRefusal}
 use Rattle.flow_workflow.specs.Definition.{Definition, schema_of}
 use Rattle.flow_expand.specs.Constraints.{constraint_of}
-use Rattle.flow_excise.specs.Compilation.{IsWithinLimits}
+use Rattle.flow_plan.specs.Compilation.{IsWithinLimits}
 use Rattle.flow_verify.specs.declared.answers.Verified.{Verified}
 use Rattle.flow_verify.specs.declared.answers.Verified.TheVariants.{Holds, Fails}
 use Rattle.flow_verify.specs.declared.answers.Redundancy.{Redundancy}

@@ -1,6 +1,7 @@
 ghost use Rattle.std.specs.Prelude.{IfOk, IfErr};
 ghost use Rattle.flow_workflow.specs.Definition.{schema_of};
-ghost use Rattle.flow_excise.specs.Compilation.{IsCompiled, IsRefused};
+ghost use Rattle.flow_excise.specs.Compilation.{IsRefused};
+ghost use Rattle.flow_plan.specs.Compilation.{IsCompiled};
 
 use flow_excise::{CompileRefusal, Compiled, compile};
 use flow_expand::Workflow;

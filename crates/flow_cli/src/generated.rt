@@ -4,7 +4,7 @@ ghost use Rattle.flow_model.specs.declared.limits.TheConstants.{GREATEST_SEED, G
 ghost use Rattle.flow_form.specs.Script.{said};
 ghost use Rattle.flow_workflow.specs.Definition.{schema_of};
 ghost use Rattle.flow_expand.specs.Workflows.{IsExpanded};
-ghost use Rattle.flow_excise.specs.Compilation.{IsCompiled};
+ghost use Rattle.flow_plan.specs.Compilation.{IsCompiled};
 ghost use Rattle.flow_gen.specs.Generated.{generated};
 
 use crate::compiling::compile_workflow;

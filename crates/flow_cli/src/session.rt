@@ -1,7 +1,7 @@
 ghost use Rattle.std.specs.Prelude.{◌≡◌, ℕ, IfOk};
 ghost use Rattle.flow_model.specs.Verdict.{drive_verdict};
 ghost use Rattle.flow_workflow.specs.Definition.{Definition, schema_of};
-ghost use Rattle.flow_excise.specs.Compilation.{IsCompiled, IsWithinLimits};
+ghost use Rattle.flow_plan.specs.Compilation.{IsCompiled, IsWithinLimits};
 ghost use Rattle.flow_core.specs.Run.{schema};
 ghost use Rattle.flow_core.specs.Lawful.{IsLawful};
 ghost use Rattle.flow_reply.specs.Reply.{IsAnswerTo, HasNamedCall};

@@ -5,7 +5,7 @@ ghost use Rattle.flow_form.specs.Script.{said, asked};
 ghost use Rattle.flow_form.specs.Names.{IsClosed};
 ghost use Rattle.flow_grammar.specs.Roles.{used_in_rules, query_roles};
 ghost use Rattle.flow_text.specs.GoodNames.{AsksOfEvents};
-ghost use Rattle.flow_rules.specs.Rule.{rule_of};
+ghost use Rattle.flow_workflow.specs.Rule.{rule_of};
 ghost use Rattle.flow_excise.specs.Compilation as compilation;
 ghost use Rattle.flow_verify.specs.declared.refusal.VerifyRefusal.TheVariants.{NoRule};
 ghost use Rattle.flow_verify.specs.Verification.{IsRefused};
@@ -21,9 +21,9 @@ use flow_excise::CompileRefusal;
 use flow_expand::{Workflow, expand, rule_of};
 use flow_findings::{Refused, print_redundancy, print_verified};
 use flow_form::{Query, Script, TextRefusal};
-use flow_rules::Rule;
 use flow_text::parse_query;
 use flow_verify::{Redundancy, Verified, VerifyRefusal};
+use flow_workflow::Rule;
 use std::alloc::{AllocError, Global};
 
 /// The status of what is told of a property.

@@ -4,7 +4,8 @@ use Rattle.flow_model.specs.Schema.{Schema}
 use Rattle.flow_workflow.specs.Definition.{Definition, schema_of}
 use Rattle.flow_excise.specs.declared.refusal.CompileRefusal.{CompileRefusal}
 use Rattle.flow_excise.specs.declared.refusal.CompileRefusal.TheVariants.{TooManyChoices, TooManyWays, TooBulky, Inconsistent, NoMemory}
-use Rattle.flow_excise.specs.Compilation.{IsWithinLimits, IsRefused}
+use Rattle.flow_excise.specs.Compilation.{IsRefused}
+use Rattle.flow_plan.specs.Compilation.{IsWithinLimits}
 use Rattle.flow_findings.specs.declared.refused.Refused.{Refused}
 use Rattle.flow_findings.specs.declared.refused.Refused.TheVariants as refused
 use Rattle.flow_findings.specs.Refusing.{refused_text}

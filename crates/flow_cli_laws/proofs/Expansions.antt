@@ -12,9 +12,9 @@ use Rattle.flow_goal.proofs.Repetitions.{not_unique}
 use Rattle.flow_form.specs.Script.{Said}
 use Rattle.flow_form.specs.Names.{declared_names, event_names}
 use Rattle.flow_workflow.specs.Definition.{Definition, schema_of}
-use Rattle.flow_expand.specs.declared.refusal.ExpandRefusal.{ExpandRefusal}
-use Rattle.flow_expand.specs.declared.refusal.ExpandRefusal.TheVariants as refusal
-use Rattle.flow_expand.specs.declared.refusal.Part.TheVariants as part
+use Rattle.flow_workflow.specs.declared.refusal.ExpandRefusal.{ExpandRefusal}
+use Rattle.flow_workflow.specs.declared.refusal.ExpandRefusal.TheVariants as refusal
+use Rattle.flow_workflow.specs.declared.refusal.Part.TheVariants as part
 use Rattle.flow_expand.specs.Expansion.{Expansion, size_of, capped}
 use Rattle.flow_expand.specs.Numbers.{facts_of, labelled_of}
 use Rattle.flow_expand.specs.Refusals.{flow_count, rule_name_count, IsFinite, IsFitting, HasManyFlows, HasRecursion, HasLargeGoal, HasManyRuleNames, HasRepetition, IsRefusal}

@@ -7,7 +7,7 @@ use Rattle.flow_laws.specs.WellFormed.{IsConsistent}
 use Rattle.flow_form.specs.Script.{Said, Asked, holds, redundant}
 use Rattle.flow_form.specs.Names.{declared_names}
 use Rattle.flow_workflow.specs.Definition.{Definition, schema_of}
-use Rattle.flow_excise.specs.Compilation.{IsWithinLimits}
+use Rattle.flow_plan.specs.Compilation.{IsWithinLimits}
 use Rattle.flow_core.specs.Lawful.{IsLawful}
 use Rattle.flow_record.specs.declared.command.Command.{Command}
 use Rattle.flow_record.specs.declared.refusal.RecordRefusal.{RecordRefusal}

@@ -5,10 +5,8 @@ use Rattle.flow_model.specs.Resolution.{options}
 use Rattle.flow_model.specs.Schema.{Schema}
 use Rattle.flow_model.specs.Verdict as model
 use Rattle.flow_workflow.specs.Definition.{Definition, schema_of}
-use Rattle.flow_excise.specs.Compilation.{Compilation, IsLive, IsCompiled, options_of}
-use Rattle.flow_sample.specs.Excised.{HasExecution}
-use Rattle.flow_excise.specs.Executions.{AreJustThose}
-use Rattle.flow_sample.specs.Plans.{option_of}
+use Rattle.flow_plan.specs.Options.{options_of, AreJustThose, HasExecution, option_of}
+use Rattle.flow_plan.specs.Compilation.{Compilation, IsLive, IsCompiled}
 use Rattle.flow_plan.specs.Sampled.{Sampled}
 use Rattle.flow_trace.proofs.TraceLemmas.{tells_once}
 use Rattle.flow_core.specs.Run.{Run}

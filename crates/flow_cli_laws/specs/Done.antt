@@ -10,7 +10,7 @@ use Rattle.flow_form.specs.Script.{Said}
 use Rattle.flow_text.specs.Saying.{Says}
 use Rattle.flow_workflow.specs.Definition.{Definition, schema_of}
 use Rattle.flow_expand.specs.Workflows.{IsExpanded}
-use Rattle.flow_excise.specs.Compilation.{IsWithinLimits}
+use Rattle.flow_plan.specs.Compilation.{IsWithinLimits}
 use Rattle.flow_core.specs.Run.{Run}
 use Rattle.flow_crew.specs.Done.{IsPlainStep, NeverFails}
 use Rattle.flow_reply.specs.declared.verdict.Verdict.TheVariants.{Committed}

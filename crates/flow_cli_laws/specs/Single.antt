@@ -7,7 +7,7 @@ use Rattle.flow_model.specs.Constraint.{Constraint}
 use Rattle.flow_form.specs.Script.{Said, Asked, holds, redundant}
 use Rattle.flow_text.specs.Saying.{Says}
 use Rattle.flow_workflow.specs.Definition.{Definition, schema_of}
-use Rattle.flow_expand.specs.declared.refusal.ExpandRefusal.TheVariants.{Recursive}
+use Rattle.flow_workflow.specs.declared.refusal.ExpandRefusal.TheVariants.{Recursive}
 use Rattle.flow_expand.specs.Refusals.{IsRefusal}
 use Rattle.flow_expand.specs.Constraints.{constraint_of}
 use Rattle.flow_excise.specs.Executions.{TellOfAll}

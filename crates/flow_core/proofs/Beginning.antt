@@ -3,9 +3,8 @@ use Rattle.std.proofs.Common.{◌≡◌, ℕ, false, List, [], length, refl, sym
 use Rattle.flow_model.specs.Lists.{Each}
 use Rattle.flow_model.specs.Resolution.{options}
 use Rattle.flow_laws.specs.WellFormed.{IsWellFormed}
-use Rattle.flow_sample.specs.Excised.{HasExecution}
-use Rattle.flow_excise.specs.Executions.{AreJustThose}
-use Rattle.flow_excise.specs.Compilation.{Compilation, IsCompiled, options_of}
+use Rattle.flow_plan.specs.Options.{HasExecution, AreJustThose, options_of}
+use Rattle.flow_plan.specs.Compilation.{Compilation, IsCompiled}
 use Rattle.flow_workflow.specs.Definition.{Definition, schema_of}
 use Rattle.flow_workflow.specs.Numbers.{IsKnown}
 use Rattle.flow_residual.specs.Remaining.{Remaining}

@@ -9,5 +9,4 @@ pub mod Standings
 pub mod Waiting
 pub mod Rising
 pub mod OneAnswer
-pub mod Compiled
 pub mod Beginning

@@ -16,8 +16,7 @@ use Rattle.flow_model.specs.Run.{Claim, RunState, first_state, next_state, state
 use Rattle.flow_laws.proofs.NeverAtALoss.{sound_state}
 use Rattle.flow_laws.specs.Histories.{IsSound}
 use Rattle.flow_workflow.specs.Definition.{schema_of}
-use Rattle.flow_sample.specs.Excised.{HasExecution}
-use Rattle.flow_excise.specs.Executions.{AreJustThose}
+use Rattle.flow_plan.specs.Options.{HasExecution, AreJustThose}
 use Rattle.flow_residual.specs.Remaining.{Remaining, IsOf}
 use Rattle.flow_residual.specs.Claimed.{Claimed}
 use Rattle.flow_facts.specs.Course.{Course}

@@ -1,5 +1,5 @@
 -- A run that has something else to do does not wait.
-use Rattle.std.proofs.Common.{◌≡◌, ◌≤◌, ◌∙◌, ℕ, Bool, true, false, cond, List, [], ◌∷◌, IsTrue, is_some, inl, inr, refl, sym, ap, true≢false}
+use Rattle.std.proofs.Common.{◌≡◌, ◌∙◌, ℕ, Bool, true, false, cond, List, [], ◌∷◌, IsTrue, is_some, inl, inr, refl, sym, ap, true≢false}
 use Rattle.std.specs.List.{filter}
 use Rattle.flow_model.specs.Lists.{◌∈◌}
 use Rattle.flow_model.specs.Run.{Claim, RunState, claim_at, current_claims, is_current, IsCurrent, IsStuck, CanDoAside}

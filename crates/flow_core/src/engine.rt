@@ -1,12 +1,12 @@
 ghost use Rattle.std.specs.Prelude.{◌≡◌, ◌≤◌, ◌↔◌, [], length, false, IsTrue, IfOk, MatchOption, ℕ};
-ghost use Rattle.flow_excise.specs.Compilation.{IsCompiled};
+ghost use Rattle.flow_plan.specs.Compilation.{IsCompiled};
 ghost use Rattle.flow_model.specs.declared.limits.TheConstants.{MOST_ENTRIES};
 ghost use Rattle.flow_model.specs.Run.{database, IsCurrent, IsOpen, IsOpenIndex};
 ghost use Rattle.flow_workflow.specs.Definition.{schema_of};
 
-use flow_excise::Compiled;
 use flow_facts::World;
 use flow_model::Entry;
+use flow_plan::Compiled;
 use flow_residual::{Claims, Residual};
 use flow_workflow::Workflow;
 use leaf_rows::LeafSet;

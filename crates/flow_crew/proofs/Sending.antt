@@ -4,9 +4,9 @@ use denote.Param.Send.{IsSend, sendable}
 use Rattle.std.proofs.Crossing.{crosses as owners}
 use Rattle.std.proofs.MapsCrossing.{crosses as maps}
 use Rattle.flow_core.below.flow_facts.proofs.name.Name.TheSendSync.{the_send as name_send}
-use Rattle.flow_core.below.flow_facts.proofs.table.FactTable.TheSendSync.{the_send as facts_send}
+use Rattle.flow_workflow.proofs.table.FactTable.TheSendSync.{the_send as facts_send}
 use Rattle.flow_core.below.flow_goal.proofs.goal.Goal.TheLaws.TheKnot.{crosses as goals}
-use Rattle.flow_core.below.flow_rules.proofs.rule.Rule.TheLaws.TheKnot.{crosses as constraints}
+use Rattle.flow_workflow.proofs.rule.Rule.TheLaws.TheKnot.{crosses as constraints}
 use Rattle.flow_workflow.specs.contracts.workflow.Workflow
 use Rattle.flow_crew.specs.contracts.held.Held
 use Rattle.flow_crew.specs.declared.gate.Gate

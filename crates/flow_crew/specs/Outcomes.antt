@@ -1,5 +1,5 @@
 -- What gates answer.
-use Rattle.std.specs.Prelude.{ℕ, Bool, true, false, ◌==◌, ◌&&◌, nat_le, if◌then◌else◌, List, [], ◌∷◌}
+use Rattle.std.specs.Prelude.{ℕ, Bool, true, false, nat_le, if◌then◌else◌}
 use Rattle.flow_model.specs.declared.history.Call.{Call}
 use Rattle.flow_model.specs.declared.history.Outcome.{Outcome}
 use Rattle.flow_model.specs.declared.history.Outcome.TheVariants.{Done, Failed}
@@ -22,8 +22,3 @@ outcome_by (note.FailFirst count) attempt = if nat_le attempt count then Failed 
 -- the outcome that the event's declaration announces
 abbrev pub announced : Call → Outcome
 announced call = outcome_by call.note call.attempt
-
--- the outcome of the first row with that leaf and attempt; a task without a row is done
-abbrev pub outcome_in : List (ℕ × ℕ × Outcome) → ℕ → ℕ → Outcome
-outcome_in [] leaf attempt = Done
-outcome_in (row ∷ rows) leaf attempt = if row.0 == leaf && (row.1 == attempt) then row.2 else outcome_in rows leaf attempt

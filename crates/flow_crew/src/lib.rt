@@ -9,10 +9,8 @@ mod entries;
 mod gate;
 mod held;
 mod jobs;
-mod meet;
 mod note;
 mod standing;
-mod table;
 mod tracked;
 
 pub use book::Book;
@@ -21,6 +19,4 @@ pub use done::law_done_runs_commit;
 pub use ends::{End, Move};
 pub use flow_model::{Call, Entry, FailEffect, Outcome, Step};
 pub use gate::{AlwaysDone, Gate};
-pub use meet::MeetGate;
 pub use note::NoteGate;
-pub use table::TableGate;

@@ -23,18 +23,19 @@ use Rattle.flow_plan.specs.Sampled.{Sampled}
 use Rattle.flow_excise.specs.declared.refusal.Dropped.{Dropped}
 use Rattle.flow_excise.specs.declared.refusal.CompileRefusal.{CompileRefusal}
 use Rattle.flow_excise.specs.declared.refusal.CompileRefusal.TheVariants.{TooManyChoices, TooManyWays, TooBulky, Inconsistent, NoMemory}
-use Rattle.flow_sample.specs.Excised.{HasExecution}
-use Rattle.flow_excise.specs.Executions.{AreJustThose, NumberedOption, numbered_ways, numbered_options, TellOfAll, AreSifted}
-use Rattle.flow_excise.specs.declared.counts.Counts.{Counts}
+use Rattle.flow_plan.specs.Options.{HasExecution, AreJustThose, options_of, option_of}
+use Rattle.flow_excise.specs.Executions.{NumberedOption, numbered_ways, numbered_options, TellOfAll, AreSifted}
+use Rattle.flow_plan.specs.declared.counts.Counts.{Counts}
 use Rattle.flow_excise.specs.declared.sieve.Sieve.{Sieve}
 use Rattle.flow_excise.specs.declared.tally.Tally.{Tally}
-use Rattle.flow_excise.specs.Compilation.{Compilation, options_of, all_numbered, IsCompiled, IsWithinLimits, IsRefused}
+use Rattle.flow_excise.specs.Compilation.{all_numbered, IsRefused}
+use Rattle.flow_plan.specs.Compilation.{Compilation, IsCompiled, IsWithinLimits}
 use Rattle.flow_excise.specs.Limits.{AreFew, bulk_of, IsTooMany}
 use Rattle.flow_excise.specs.Options.{schema_of, option_by, options_by, all_options_by}
-use Rattle.flow_sample.specs.Plans.{option_of}
 use Rattle.flow_excise.specs.Sieves.{ArePlannable, HasSifted}
 use Rattle.flow_rules.specs.Conjunction.{HasWaysOf}
-use Rattle.flow_excise.proofs.SiftingLemmas.{options_told, told_ways, just_those, all_dropped, some_kept, kept_has}
+use Rattle.flow_excise.proofs.SiftingLemmas.{options_told, told_ways, just_those, all_dropped, some_kept}
+use Rattle.flow_plan.proofs.KeptOptions.{kept_has}
 use Rattle.flow_excise.proofs.TallyLemmas.{bulk-cons}
 
 -- the options by the normal form are those of the workflow

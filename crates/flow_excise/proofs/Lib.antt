@@ -3,3 +3,4 @@ pub mod TallyLemmas
 pub mod SiftingLemmas
 pub mod SieveLemmas
 pub mod CompileLemmas
+pub mod Workflows

@@ -23,11 +23,9 @@ use Rattle.flow_excise.specs.declared.refusal.Dropped.{Dropped}
 use Rattle.flow_excise.specs.declared.refusal.CompileRefusal.{CompileRefusal}
 use Rattle.flow_excise.specs.declared.refusal.CompileRefusal.TheVariants.{NoMemory}
 use Rattle.flow_excise.specs.declared.sieve.Sieve.{Sieve}
-use Rattle.flow_sample.specs.Excised.{HasExecution}
+use Rattle.flow_plan.specs.Options.{HasExecution, options_of, option_of}
 use Rattle.flow_excise.specs.Executions.{NumberedOption, numbered_ways, numbered_options, TellsOf, AreSifted}
-use Rattle.flow_excise.specs.Compilation.{options_of}
 use Rattle.flow_excise.specs.Options.{all_options_by, has_ways, option_by, options_by, ways_by}
-use Rattle.flow_sample.specs.Plans.{option_of}
 use Rattle.flow_excise.specs.Sieves.{ArePlannable, options_with, HasSifted, HasSiftedTo, Sifts}
 use Rattle.flow_weave.specs.Woven.{option_with}
 use Rattle.flow_excise.proofs.SiftingLemmas.{keep_one, drop_one, numbered, more_ways, more_resolutions}

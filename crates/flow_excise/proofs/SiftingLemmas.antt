@@ -1,13 +1,13 @@
 -- Options that are sifted one by one.
-use Rattle.std.proofs.Common.{◌≡◌, ◌≢◌, ℕ, suc, ◌+◌, List, [], ◌∷◌, ◌++◌, length, map, refl, sym, ap, ◌∙◌, subst, ◌⊎◌, inl, inr, ⊎_elim, arith, append-nil, append_assoc, add-zero}
+use Rattle.std.proofs.Common.{◌≡◌, ◌≢◌, ℕ, suc, ◌+◌, List, [], ◌∷◌, ◌++◌, length, map, refl, sym, ap, ◌∙◌, subst, inl, inr, arith, append-nil, append_assoc, add-zero}
 use Rattle.flow_model.specs.Lists.{◌∈◌}
 use Rattle.flow_model.specs.Resolution.{ChoiceOption}
 use Rattle.flow_laws.specs.WellFormed.{IsOrdered}
 use Rattle.flow_laws.proofs.CircleOrTrace.{circles_exclude_traces}
 use Rattle.flow_laws.proofs.Members.{not_empty}
 use Rattle.flow_excise.specs.declared.refusal.Dropped.{Dropped}
-use Rattle.flow_sample.specs.Excised.{HasExecution}
-use Rattle.flow_excise.specs.Executions.{AreJustThose, NumberedOption, numbered_ways, numbered_options, TellsOf, TellOfAll, AreSifted}
+use Rattle.flow_plan.specs.Options.{HasExecution, AreJustThose}
+use Rattle.flow_excise.specs.Executions.{NumberedOption, numbered_ways, numbered_options, TellsOf, TellOfAll, AreSifted}
 
 -- one option more
 
@@ -82,15 +82,3 @@ some_kept [] kept h o m x f = m
 some_kept (p ∷ os) kept (inl (g, (rest, e, s))) o m x f = not_empty [] p rest (sym f ∙ e)
 some_kept (p ∷ os) kept (inr (n, s)) o (inl e) x f = n (subst HasExecution e x)
 some_kept (p ∷ os) kept (inr (n, s)) o (inr m) x f = some_kept os kept s o m x f
-
--- and one that is kept is among the options and has one
-pub kept_has : (os kept : List ChoiceOption) → AreJustThose HasExecution os kept → (o : ChoiceOption) → o ∈ kept → (o ∈ os) × HasExecution o
-kept_has [] kept h o m = absurd (subst (λ z. o ∈ z) h m)
-kept_has (p ∷ os) kept (inl (g, (rest, e, s))) o m = ⊎_elim
-    (λ i. (inl i, subst HasExecution (sym i) g))
-    (λ k. let r = kept_has os rest s o k in (inr r.0, r.1))
-    (member (subst (λ z. o ∈ z) e m))
-  where
-    member : o ∈ (p ∷ rest) → (o ≡ p) ⊎ (o ∈ rest)
-    member k = k
-kept_has (p ∷ os) kept (inr (n, s)) o m = let r = kept_has os kept s o m in (inr r.0, r.1)

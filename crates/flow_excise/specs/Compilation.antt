@@ -1,57 +1,16 @@
--- What is compiled, as its callers see it.
-use Rattle.std.specs.Prelude.{◌≡◌, ◌≢◌, ◌<◌, ◌≤◌, List, [], length, map, All}
-use Rattle.std.proofs.Common.{refl}
-use Rattle.std.specs.Coded.{Coded, code_by, coded×, coded_list}
+-- Why a workflow is not compiled, as the callers see it.
+use Rattle.std.specs.Prelude.{◌≡◌, ◌<◌, ◌≤◌, List, length, map}
 use Rattle.flow_model.specs.declared.limits.TheConstants.{GREATEST_BULK, MOST_OPTIONS, MOST_RESOLUTIONS}
 use Rattle.flow_model.specs.Schema.{Schema}
-use Rattle.flow_model.specs.Resolution.{ChoiceOption, options, options_in, resolutions, resolution_count, bulk}
+use Rattle.flow_model.specs.Resolution.{options, options_in, resolutions, resolution_count, bulk}
 use Rattle.flow_laws.specs.WellFormed.{IsConsistent}
 use Rattle.flow_goal.specs.Capped.{capped}
-use Rattle.flow_plan.specs.Sampled.{Sampled, sampled_code}
-use Rattle.flow_weave.specs.Woven.{AreNumbered}
-use Rattle.flow_excise.specs.declared.counts.Counts.{Counts}
-use Rattle.flow_excise.specs.contracts.counts.Counts as counts
+use Rattle.flow_plan.specs.declared.counts.Counts.{Counts}
+use Rattle.flow_plan.specs.contracts.counts.Counts as counts
 use Rattle.flow_excise.specs.declared.refusal.CompileRefusal.{CompileRefusal}
 use Rattle.flow_excise.specs.declared.refusal.CompileRefusal.TheVariants.{TooManyChoices, TooManyWays, TooBulky, Inconsistent, NoMemory}
-use Rattle.flow_sample.specs.Excised.{HasExecution}
-use Rattle.flow_excise.specs.Executions.{AreJustThose, NumberedOption, numbered_options, TellOfAll}
-use Rattle.flow_sample.specs.Plans.{option_of}
-
-pub record Compilation : Type 0 where
-  pub plans : List Sampled
-  pub counts : Counts
-
-abbrev pub compilation_code : Coded Compilation
-compilation_code = code_by (List Sampled × Counts) (coded× (coded_list sampled_code) counts.the_row.coded)
-    (λ c. (c.plans, c.counts)) (λ t. record { plans = t.0; counts = t.1 }) (λ _. refl)
-
-abbrev pub compilation : List Sampled → Counts → Compilation
-compilation plans counts = record { plans = plans; counts = counts }
-
--- there is a plan, they are counted, and the token with number k of each is the one at place k
-pub record IsLive (c : Compilation) : Type 0 where
-  pub some : c.plans ≢ []
-  pub live : c.counts.live ≡ length c.plans
-  pub numbered : All (λ (s : Sampled). AreNumbered s.plan.tokens) c.plans
-
--- the options of the plans
-abbrev pub options_of : List Sampled → List ChoiceOption
-options_of plans = map (λ (s : Sampled). option_of s.plan) plans
-
--- resolutions, options and bulk are within the limits
-pub record IsWithinLimits (w : Schema) : Type 0 where
-  pub resolutions : resolution_count w.goal ≤ MOST_RESOLUTIONS
-  pub options_few : length (options w) ≤ MOST_OPTIONS
-  pub light : bulk w ≤ GREATEST_BULK
-
--- the plans of the options that have an execution, and how large the workflow is
-pub record IsCompiled (w : Schema) (c : Compilation) : Type 0 where
-  pub within : IsWithinLimits w
-  pub consistent : IsConsistent w
-  pub plans : AreJustThose HasExecution (options w) (options_of c.plans)
-  pub resolutions : c.counts.resolutions ≡ resolution_count w.goal
-  pub options_counted : c.counts.options ≡ length (options w)
-  pub bulk_counted : c.counts.bulk ≡ bulk w
+use Rattle.flow_plan.specs.Compilation.{IsWithinLimits}
+use Rattle.flow_excise.specs.Executions.{NumberedOption, numbered_options, TellOfAll}
 
 -- each option with the number of its resolution and that of its way
 abbrev pub all_numbered : Schema → List NumberedOption

@@ -2,13 +2,8 @@
 use Rattle.std.specs.Prelude.{◌≡◌, ℕ, ◌+◌, ◌⊎◌, List, [], ◌∷◌, ◌++◌}
 use Rattle.flow_model.specs.Circle.{IsCircle}
 use Rattle.flow_model.specs.Resolution.{ChoiceOption}
-use Rattle.flow_sample.specs.Excised.{HasExecution}
+use Rattle.flow_plan.specs.Options.{HasExecution}
 use Rattle.flow_excise.specs.declared.refusal.Dropped.{Dropped}
-
--- the second list has, in order, just those members of the first that have P
-abbrev pub AreJustThose : {A : Type 0} → (A → Type 0) → List A → List A → Type 0
-AreJustThose P [] ys = ys ≡ []
-AreJustThose {A} P (x ∷ xs) ys = (P x × ((rest : List A) × (ys ≡ x ∷ rest) × AreJustThose P xs rest)) ⊎ (¬ (P x) × AreJustThose P xs ys)
 
 -- an option, the number of its resolution, and that of its way
 pub record NumberedOption : Type 0 where

@@ -12,7 +12,7 @@ use Rattle.flow_weave.specs.Woven.{option_with}
 use Rattle.flow_excise.specs.declared.sieve.Sieve.{Sieve}
 use Rattle.flow_excise.specs.Executions.{NumberedOption, AreSifted, numbered_options}
 use Rattle.flow_excise.specs.Options.{options_by}
-use Rattle.flow_excise.specs.Compilation.{options_of}
+use Rattle.flow_plan.specs.Options.{options_of}
 
 pub record IsPlannable (o : ChoiceOption) : Type 0 where
   pub ordered : IsOrdered o.resolution o.order

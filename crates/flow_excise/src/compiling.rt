@@ -5,21 +5,22 @@ ghost use Rattle.flow_model.specs.declared.limits.TheConstants.{MOST_LEAVES, MOS
 ghost use Rattle.flow_model.specs.Constraint.{Constraint, all_of};
 ghost use Rattle.flow_model.specs.Resolution.{resolution_count};
 ghost use Rattle.flow_rules.specs.Conjunction.{HasWaysOf, normal_in};
-ghost use Rattle.flow_rules.specs.Rule.{rules_of};
+ghost use Rattle.flow_workflow.specs.Rule.{rules_of};
 ghost use Rattle.flow_goal.specs.Capped.{capped};
 ghost use Rattle.flow_excise.specs.declared.refusal.CompileRefusal.TheVariants.{Inconsistent, TooManyChoices};
 ghost use Rattle.flow_excise.specs.Options.{schema_of};
-ghost use Rattle.flow_excise.specs.Compilation.{IsCompiled, IsRefused};
+ghost use Rattle.flow_excise.specs.Compilation.{IsRefused};
+ghost use Rattle.flow_plan.specs.Compilation.{IsCompiled};
 
-use crate::compiled::Compiled;
-use crate::counts::Counts;
 use crate::limits::{few_options, few_resolutions};
 use crate::refusal::CompileRefusal;
 use crate::sieve::Sieve;
 use crate::sifted::sift_all;
 use crate::tally::Tally;
 use flow_goal::{Choices, Tree};
-use flow_rules::{Conjunction, Rule};
+use flow_plan::{Compiled, Counts};
+use flow_rules::Conjunction;
+use flow_workflow::Rule;
 use std::alloc::Global;
 
 /// The plans that were found, if there is one.

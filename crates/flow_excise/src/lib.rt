@@ -3,17 +3,14 @@
 #![tactic(auto)]
 
 mod block;
-mod compiled;
 mod compiling;
-mod counts;
 mod limits;
 mod refusal;
 mod sieve;
 mod sifted;
 mod tally;
 
-pub use compiled::Compiled;
 pub use compiling::compile;
-pub use counts::Counts;
+pub use flow_plan::{Compiled, Counts};
 pub use flow_sample::{Circle, ExciseRefusal, excise};
 pub use refusal::{CompileRefusal, Dropped};

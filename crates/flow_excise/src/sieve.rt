@@ -1,6 +1,6 @@
 ghost use Rattle.std.specs.Prelude.{All};
 ghost use Rattle.flow_plan.specs.Sampled.{Sampled};
-ghost use Rattle.flow_weave.specs.Woven.{AreNumbered};
+ghost use Rattle.flow_plan.specs.Planned.{AreNumbered};
 
 use crate::refusal::Dropped;
 use flow_plan::KnotFree;

@@ -11,7 +11,7 @@ use Rattle.flow_model.specs.declared.labels.Label.TheVariants.{Event, Test, Abse
 use Rattle.flow_model.specs.Process.{Process, Empty, Task, Isolated, IsNumbered, leaves}
 use Rattle.flow_facts.specs.Atom.{Atom, atom_eq}
 use Rattle.flow_facts.specs.Same.{atom_eq-Decides}
-use Rattle.flow_facts.specs.Indexed.{IsAdded}
+use Rattle.flow_workflow.specs.Indexed.{IsAdded}
 use Rattle.std.proofs.lemmas.Option.{slice_get-get_or}
 use Rattle.flow_workflow.proofs.FirstPlaces.{place_in, within}
 use Rattle.flow_expand.specs.Numbers.{with_fact, fact_number, facts_in, labels_of, leaf_count, numbered, firsts, declared_facts, facts_of, labelled_of, notes_of}

@@ -13,8 +13,8 @@ use Rattle.flow_model.specs.declared.labels.Note.{Note}
 use Rattle.flow_laws.proofs.MadeLists.{mem-flat_map, some_same}
 use Rattle.flow_laws.proofs.Shuffles.{shuffle_swap, mem_shuffle_left, mem_shuffle_right, distinct_in_shuffle}
 use Rattle.flow_laws.proofs.Members.{each_from_members, each_member, not_elsewhere}
-use Rattle.flow_facts.specs.Indexed.{IsAdded}
-use Rattle.flow_facts.proofs.Places.{place_of}
+use Rattle.flow_workflow.specs.Indexed.{IsAdded}
+use Rattle.flow_workflow.proofs.Places.{place_of}
 use Rattle.flow_workflow.proofs.FirstPlaces.{place_in}
 use Rattle.flow_form.specs.Form.{Shape, shape_of, shapes}
 use Rattle.flow_form.specs.RuleForm.{RuleShape, rule_shapes}

@@ -1,5 +1,5 @@
 -- Goals in a layout that grows, and what is written there.
-use Rattle.std.proofs.Common.{◌≡◌, ℕ, ◌+◌, ◌<◌, List, [], ◌∷◌, ◌++◌, length, slice_get, Some, refl, sym, ap, ◌∙◌, subst, arith, map, fold, get_or, take, Option, None, inl, inr, ⊎_elim, Box, Global, Result, Ok, Err}
+use Rattle.std.proofs.Common.{◌≡◌, ℕ, ◌+◌, ◌<◌, List, [], ◌∷◌, ◌++◌, length, slice_get, Some, refl, sym, ap, ◌∙◌, subst, arith, map, fold, get_or, take, Option, None, inl, inr, ⊎_elim, Result, Ok, Err}
 use Rattle.std.proofs.lemmas.Option.{slice_get_within}
 use Rattle.std.specs.Prelude.{MatchOption}
 use Rattle.std.specs.Result.{IfOk}
@@ -8,9 +8,9 @@ use Rattle.flow_model.specs.Process.{Task}
 use Rattle.flow_model.specs.Lists.{◌∈◌, Begins, Each}
 use Rattle.flow_laws.proofs.Shuffles.{of_shuffle}
 use Rattle.flow_facts.specs.Atom.{Atom}
-use Rattle.flow_facts.proofs.Places.{at_end}
+use Rattle.flow_workflow.proofs.Places.{at_end}
 use Rattle.flow_form.specs.declared.form.Form.{Form, Nop, Test, Absent, Ins, Del, Iso}
-use Rattle.flow_form.specs.declared.form.Form.TheVariants.{rolls-Nop, rolls-Test, rolls-Absent, rolls-Ins, rolls-Del, rolls-Iso}
+use Rattle.flow_form.specs.declared.form.Form.TheVariants.{rolls-Nop, rolls-Test, rolls-Absent, rolls-Ins, rolls-Del}
 use Rattle.flow_form.specs.declared.form.Form.TheFolds.{fold-roll-Form}
 use Rattle.flow_form.specs.Form.{Shape, Shapes, shapes, shape_of, shape_step, no_more, nop, named, test, absent, ins, del, iso}
 use Rattle.flow_form.specs.Script.{Declared}
@@ -311,9 +311,6 @@ shape_of-Ins f a e = ap shape_of (e ∙ sym (rolls-Ins a)) ∙ fold-roll-Form Sh
 
 pub shape_of-Del : (f : Form) (a : Atom) → f ≡ Del a → shape_of f ≡ del a
 shape_of-Del f a e = ap shape_of (e ∙ sym (rolls-Del a)) ∙ fold-roll-Form Shape shape_step (open_form.Del a)
-
-pub shape_of-Iso : (f : Form) (part : Box Form Global) → f ≡ Iso part → shape_of f ≡ iso (shape_of part.value)
-shape_of-Iso f part e = ap shape_of (e ∙ sym (rolls-Iso part)) ∙ fold-roll-Form Shape shape_step (open_form.Iso part)
 
 pub list_step : (decls : List Declared) (layout : List Piece) (by : Pairing) (forms : List Form) (i : ℕ) (item : Form) (root : Root) → i < length forms → item ≡ get_or forms i item →
     ListGoes decls layout by (map shape_of (take i forms) ++ shape_of item ∷ []) root → ListGoes decls layout by (map shape_of (take (i + 1) forms)) root

@@ -13,9 +13,9 @@ use Rattle.flow_expand.specs.declared.directory.Directory.{Directory}
 use Rattle.flow_expand.specs.declared.layout.Piece.{Piece}
 use Rattle.flow_expand.specs.declared.layout.Root.{Root}
 use Rattle.flow_expand.specs.declared.lay.Stage.{Stage}
-use Rattle.flow_expand.specs.declared.refusal.ExpandRefusal.{ExpandRefusal}
-use Rattle.flow_expand.specs.declared.refusal.ExpandRefusal.TheVariants as refusal
-use Rattle.flow_expand.specs.declared.refusal.Part.TheVariants as part
+use Rattle.flow_workflow.specs.declared.refusal.ExpandRefusal.{ExpandRefusal}
+use Rattle.flow_workflow.specs.declared.refusal.ExpandRefusal.TheVariants as refusal
+use Rattle.flow_workflow.specs.declared.refusal.Part.TheVariants as part
 use Rattle.flow_expand.specs.Expansion.{Expansion, Becomes, ends_in, isolations_in, size_of, capped}
 use Rattle.flow_expand.specs.Directory.{decls_of}
 use Rattle.flow_expand.specs.Laid.{IsLaid, IsLaidAt, IsReady, Goes}

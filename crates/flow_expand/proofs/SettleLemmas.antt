@@ -10,7 +10,7 @@ use Rattle.std.proofs.lemmas.List.Concat.{flat_map-append}
 use Rattle.flow_model.specs.Lists.{◌∈◌, AreDistinct, Begins, Each, StandsBefore}
 use Rattle.flow_laws.proofs.MadeLists.{some_same, mem-flat_map, of_flat_map, of_map}
 use Rattle.flow_laws.proofs.Members.{distinct_right, distinct_parts, distinct-append}
-use Rattle.flow_facts.proofs.Places.{distinct_more, place_of}
+use Rattle.flow_workflow.proofs.Places.{distinct_more, place_of}
 use Rattle.flow_form.specs.Form.{Shape, shape_of, shapes}
 use Rattle.flow_form.specs.Script.{Declared, flow}
 use Rattle.flow_form.specs.declared.form.Form.{Form}

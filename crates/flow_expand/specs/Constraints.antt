@@ -3,7 +3,7 @@ use Rattle.std.specs.Prelude.{ℕ, List, [], ◌∷◌, map}
 use Rattle.flow_model.specs.Constraint as constraint
 use Rattle.flow_model.specs.Constraint.{Constraint, all_of}
 use Rattle.flow_form.specs.RuleForm.{RuleShape, RuleShapes, must, never, order, precedes, needs, negated, all, any, no_more, followed}
-use Rattle.flow_rules.specs.Rule.{any_of}
+use Rattle.flow_workflow.specs.Rule.{any_of}
 use Rattle.flow_workflow.specs.Numbers.{event_number}
 
 abbrev mutual

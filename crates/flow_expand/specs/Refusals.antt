@@ -6,9 +6,9 @@ use Rattle.flow_goal.specs.declared.repeats.Twice.{Twice}
 use Rattle.flow_goal.specs.Repeated.{IsFirstTwice}
 use Rattle.flow_form.specs.Script.{Said}
 use Rattle.flow_form.specs.Names.{names_in_rule}
-use Rattle.flow_expand.specs.declared.refusal.ExpandRefusal.{ExpandRefusal}
-use Rattle.flow_expand.specs.declared.refusal.ExpandRefusal.TheVariants as refusal
-use Rattle.flow_expand.specs.declared.refusal.Part.TheVariants as part
+use Rattle.flow_workflow.specs.declared.refusal.ExpandRefusal.{ExpandRefusal}
+use Rattle.flow_workflow.specs.declared.refusal.ExpandRefusal.TheVariants as refusal
+use Rattle.flow_workflow.specs.declared.refusal.Part.TheVariants as part
 use Rattle.flow_expand.specs.Expansion.{Expansion, Becomes, size_of, capped}
 use Rattle.flow_expand.specs.Numbers.{labelled_of}
 use Rattle.flow_expand.specs.Steps.{flow_names, IsRecursive, IsRecursion}

@@ -7,8 +7,8 @@ use Rattle.flow_form.specs.Names.{names_in}
 use Rattle.flow_expand.specs.declared.lay.Stage.{Stage}
 use Rattle.flow_expand.specs.declared.lay.Stage.TheVariants as stage
 use Rattle.flow_expand.specs.declared.layout.Root.{Root}
-use Rattle.flow_expand.specs.declared.refusal.ExpandRefusal.{ExpandRefusal}
-use Rattle.flow_expand.specs.declared.refusal.ExpandRefusal.TheVariants as refusal
+use Rattle.flow_workflow.specs.declared.refusal.ExpandRefusal.{ExpandRefusal}
+use Rattle.flow_workflow.specs.declared.refusal.ExpandRefusal.TheVariants as refusal
 use Rattle.flow_expand.specs.Steps.{flows_of, flow_names, IsRecursion}
 
 -- the goal of the first sub-workflow names the second

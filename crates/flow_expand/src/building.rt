@@ -5,9 +5,10 @@ ghost use Rattle.flow_expand.specs.Built.{IsBuildable, IsBuiltAt, paired_process
 
 use crate::fact_numbers::number_fact;
 use crate::layout::{Layout, Pairing, Piece};
-use flow_facts::{Fact, Numbered};
+use flow_facts::Fact;
 use flow_goal::Goal;
 use flow_model::Label;
+use flow_workflow::Numbered;
 use std::alloc::{AllocError, Global};
 
 /// The leaves of a goal so far, and the facts that are numbered.

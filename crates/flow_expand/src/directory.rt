@@ -5,8 +5,9 @@ ghost use Rattle.flow_form.specs.Names.{declared_names, event_names};
 ghost use Rattle.flow_expand.specs.Steps.{AreDeclared};
 ghost use Rattle.flow_expand.specs.Directory.{IsDirectory, found_in};
 
-use flow_facts::{Name, Numbered};
+use flow_facts::Name;
 use flow_form::{Decl, Form};
+use flow_workflow::Numbered;
 use std::alloc::{AllocError, Global};
 
 /// The names of declarations. Events and sub-workflows are numbered apart, in order of declaration.

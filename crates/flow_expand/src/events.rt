@@ -4,9 +4,10 @@ ghost use Rattle.flow_form.specs.Script.{declared};
 ghost use Rattle.flow_form.specs.Names.{event_names};
 ghost use Rattle.flow_expand.specs.Numbers.{notes_of};
 
-use flow_facts::{Name, Numbered};
+use flow_facts::Name;
 use flow_form::Decl;
 use flow_model::Note;
+use flow_workflow::Numbered;
 use std::alloc::{AllocError, Global};
 
 /// The events that are declared, by their numbers.

@@ -11,11 +11,10 @@ use crate::assembling::assemble;
 use crate::events::Events;
 use crate::numbered_goal::{NumberedGoal, number};
 use crate::preparing::prepare;
-use crate::refusal::ExpandRefusal;
-use flow_facts::{Name, Numbered};
+use flow_facts::Name;
 use flow_form::Script;
 use flow_goal::twice;
-use flow_workflow::Workflow;
+use flow_workflow::{ExpandRefusal, Numbered, Workflow};
 use std::alloc::Global;
 
 /// The goal of a script with its leaves numbered, unless the script is refused.

@@ -2,8 +2,9 @@ ghost use Rattle.std.specs.Prelude.{◌≡◌, IfOk, OnOk, map};
 ghost use Rattle.flow_form.specs.Script.{declared};
 ghost use Rattle.flow_expand.specs.Numbers.{with_fact, fact_number, firsts, declared_facts};
 
-use flow_facts::{Fact, Numbered};
+use flow_facts::Fact;
 use flow_form::Decl;
+use flow_workflow::Numbered;
 use std::alloc::{AllocError, Global};
 
 /// The number of a fact, which is put in where it is new.

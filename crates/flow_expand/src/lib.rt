@@ -14,13 +14,11 @@ mod lay;
 mod layout;
 mod numbered_goal;
 mod preparing;
-mod refusal;
 mod rule_names;
 mod ruling;
 mod settling;
 mod size;
 
 pub use expanding::expand;
-pub use flow_workflow::Workflow;
-pub use refusal::{ExpandRefusal, Part};
+pub use flow_workflow::{ExpandRefusal, Part, Workflow};
 pub use ruling::rule_of;

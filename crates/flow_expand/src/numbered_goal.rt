@@ -10,10 +10,10 @@ ghost use Rattle.flow_expand.specs.Numbering.{IsNumberedGoal};
 use crate::building::{Leaves, build};
 use crate::fact_numbers::declared_fact_set;
 use crate::preparing::LaidGoal;
-use flow_facts::FactTable;
 use flow_form::Script;
 use flow_goal::{Goal, Tree};
 use flow_model::Label;
+use flow_workflow::FactTable;
 use std::alloc::{AllocError, Global};
 
 /// A goal with labels at its leaves, and the facts by their numbers.

@@ -10,13 +10,13 @@ ghost use Rattle.flow_expand.specs.Waiting.{IsIdle};
 use crate::directory::Directory;
 use crate::lay::lay;
 use crate::layout::{Layout, Root};
-use crate::refusal::{ExpandRefusal, Part};
 use crate::rule_names::count_names;
 use crate::settling::Settling;
 use crate::size::at_most;
-use flow_facts::{Name, Numbered};
+use flow_facts::Name;
 use flow_form::Script;
 use flow_model::{MOST_FLOWS, MOST_LEAVES, MOST_RULE_NAMES};
+use flow_workflow::{ExpandRefusal, Numbered, Part};
 use std::alloc::Global;
 
 /// A goal that stands in a layout.

@@ -2,14 +2,13 @@ ghost use Rattle.std.specs.Prelude.{◌≡◌, ◌<◌, IfOk, length, map, slice
 ghost use Rattle.flow_model.specs.Lists.{◌∈◌, Each};
 ghost use Rattle.flow_form.specs.RuleForm.{rule_shape_of, rule_shapes};
 ghost use Rattle.flow_form.specs.Names.{names_in_rule, names_in_rules};
-ghost use Rattle.flow_rules.specs.Rule as rules;
+ghost use Rattle.flow_workflow.specs.Rule as rules;
 ghost use Rattle.flow_workflow.specs.Numbers as numbers;
 ghost use Rattle.flow_expand.specs.Constraints.{constraint_of, constraints_of};
 
 use flow_facts::Name;
 use flow_form::RuleForm;
-use flow_rules::{Rule, needs, precedes};
-use flow_workflow::Workflow;
+use flow_workflow::{Rule, Workflow, needs, precedes};
 use std::alloc::{AllocError, Global};
 
 /// The number of an event that the workflow has.

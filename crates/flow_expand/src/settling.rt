@@ -11,7 +11,7 @@ use crate::chain::chain_of;
 use crate::directory::Directory;
 use crate::lay::{Stage, lay, stage_of};
 use crate::layout::Layout;
-use crate::refusal::ExpandRefusal;
+use flow_workflow::ExpandRefusal;
 use std::alloc::{AllocError, Global};
 
 fn is_laid(laid: &[Stage], flow: usize) -> bool

@@ -1,8 +1,8 @@
 ghost use Rattle.std.specs.Prelude.{◌≡◌, ◌<◌, ◌≤◌, ◌+◌, max, OnOk, IfErr};
-ghost use Rattle.flow_expand.specs.declared.refusal.ExpandRefusal.TheVariants as refusal;
+ghost use Rattle.flow_workflow.specs.declared.refusal.ExpandRefusal.TheVariants as refusal;
 ghost use Rattle.flow_expand.specs.Expansion.{capped};
 
-use crate::refusal::{ExpandRefusal, Part};
+use flow_workflow::{ExpandRefusal, Part};
 
 /// How many leaves and nothings a goal has, and how many isolations. What would pass the greatest
 /// number is capped at it.

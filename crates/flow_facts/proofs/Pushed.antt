@@ -14,7 +14,8 @@ pub begins_put : {A U E : Type 0} (r : Result U E) (old new piece : List A) → 
 begins_put (Ok u) old new piece put = (piece, put)
 begins_put (Err e) old new piece put = ([], put ∙ sym (append-nil old))
 
-both_put : {A : Type 0} (a b c p q : List A) → b ≡ a ++ p → c ≡ b ++ q → c ≡ a ++ (p ++ q)
+-- two pieces that were put, one after the other
+pub both_put : {A : Type 0} (a b c p q : List A) → b ≡ a ++ p → c ≡ b ++ q → c ≡ a ++ (p ++ q)
 both_put a b c p q one two = two ∙ ap (λ t. t ++ q) one ∙ append_assoc a p q
 
 -- a comma and the constant, and what is left

@@ -1,12 +1,10 @@
 pub mod Atom
 pub mod Same
-pub mod Table
 pub mod Letters
 pub mod Held
 pub mod NameMark
 pub mod Marks
 pub mod Ordered
-pub mod Indexed
 pub mod Text
 pub mod Changes
 pub mod Course

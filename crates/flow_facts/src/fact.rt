@@ -70,7 +70,7 @@ impl Fact {
         })
     }
 
-    pub(crate) fn mark(&self) -> u64
+    pub fn mark(&self) -> u64
         ensures { result ≡ atom_mark self.now }
     {
         self.mark

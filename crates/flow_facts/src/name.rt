@@ -66,7 +66,7 @@ impl Name {
         })
     }
 
-    pub(crate) fn mark(&self) -> u64
+    pub fn mark(&self) -> u64
         ensures { result ≡ name_mark self.now }
     {
         self.mark

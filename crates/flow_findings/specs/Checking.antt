@@ -3,7 +3,7 @@ use Rattle.std.specs.Prelude.{ℕ, List, ◌++◌, length, codes}
 use Rattle.std.specs.List.{flat_map}
 use Rattle.std.specs.Fmt.{decimal}
 use Rattle.flow_model.specs.Lists.{numbers_from}
-use Rattle.flow_excise.specs.declared.counts.Counts.{Counts}
+use Rattle.flow_plan.specs.declared.counts.Counts.{Counts}
 use Rattle.flow_record.specs.Journal.{leaf_line}
 use Rattle.flow_workflow.specs.Definition.{Definition}
 

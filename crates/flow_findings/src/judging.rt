@@ -2,8 +2,7 @@ ghost use Rattle.std.specs.Prelude.{◌≡◌, ◌++◌, IfOk};
 ghost use Rattle.flow_record.specs.Journal.{AreLeaves};
 ghost use Rattle.flow_findings.specs.Judging.{checked_text, counted_journal, verified_text, redundancy_text, HasLabels, NeedHasLabels};
 
-use crate::pieces::print_pieces;
-use flow_record::print_journal;
+use flow_record::{print_journal, print_pieces};
 use flow_trace::Checked;
 use flow_verify::{Redundancy, Verified};
 use flow_workflow::Workflow;

@@ -4,15 +4,11 @@
 mod checking;
 mod judging;
 mod numbered;
-mod pieces;
 mod refused;
-mod spaced;
 mod uncompiled;
 mod unexpanded;
 mod unread;
 
 pub use checking::print_check;
 pub use judging::{print_checked, print_redundancy, print_verified};
-pub use pieces::print_pieces;
 pub use refused::{Refused, print_refused};
-pub use spaced::push_numbers;

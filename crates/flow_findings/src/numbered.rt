@@ -1,7 +1,7 @@
 ghost use Rattle.std.specs.Prelude.{◌≡◌, ◌++◌, codes, IfOk};
 ghost use Rattle.std.specs.Fmt.{decimal};
 
-use crate::pieces::print_pieces;
+use flow_record::print_pieces;
 use itoa::Buffer;
 use std::alloc::{AllocError, Global};
 

@@ -6,9 +6,9 @@ use crate::uncompiled::print_compile_refusal;
 use crate::unexpanded::print_expand_refusal;
 use crate::unread::{print_line_refusal, print_text_refusal};
 use flow_excise::CompileRefusal;
-use flow_expand::ExpandRefusal;
 use flow_form::{Script, TextRefusal};
 use flow_record::RecordRefusal;
+use flow_workflow::ExpandRefusal;
 use std::alloc::{AllocError, Global};
 
 /// Why the program does nothing.

@@ -3,8 +3,8 @@ ghost use Rattle.std.specs.String.{string_bytes};
 ghost use Rattle.flow_findings.specs.Refusing.{compile_refusal, dropped_line, inconsistent_text, IsOfOptions};
 
 use crate::numbered::print_numbered;
-use crate::spaced::push_numbers;
 use flow_excise::{CompileRefusal, Dropped};
+use flow_record::push_numbers;
 use std::alloc::{AllocError, Global};
 
 /// Prints the lines that say why a workflow is not compiled.

@@ -6,11 +6,11 @@ ghost use Rattle.flow_form.specs.Names.{event_names};
 ghost use Rattle.flow_findings.specs.Refusing.{named_by, spaced, expand_refusal, IsOfWorkflow};
 
 use crate::numbered::print_numbered;
-use crate::pieces::print_pieces;
-use flow_expand::{ExpandRefusal, Part};
 use flow_facts::Name;
 use flow_form::{Decl, Script};
 use flow_goal::Twice;
+use flow_record::print_pieces;
+use flow_workflow::{ExpandRefusal, Part};
 use itoa::Buffer;
 use std::alloc::{AllocError, Global};
 

@@ -3,10 +3,9 @@ ghost use Rattle.std.specs.Fmt.{decimal};
 ghost use Rattle.flow_findings.specs.Refusing.{kind_text, text_refusal, line_refusal, IsOfText, IsOfLines};
 
 use crate::numbered::print_numbered;
-use crate::pieces::print_pieces;
 use flow_facts::Name;
 use flow_form::{TextRefusal, Wanted};
-use flow_record::RecordRefusal;
+use flow_record::{RecordRefusal, print_pieces};
 use itoa::Buffer;
 use std::alloc::{AllocError, Global};
 

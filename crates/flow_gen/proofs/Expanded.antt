@@ -23,8 +23,8 @@ use Rattle.flow_form.specs.Names.{event_names, names_in_rule}
 use Rattle.flow_workflow.specs.Definition.{Definition}
 use Rattle.flow_workflow.specs.Numbers.{event_number}
 use Rattle.flow_workflow.proofs.FirstPlaces.{place_in}
-use Rattle.flow_expand.specs.declared.refusal.ExpandRefusal.TheVariants as refusal
-use Rattle.flow_expand.specs.declared.refusal.Part.TheVariants as part
+use Rattle.flow_workflow.specs.declared.refusal.ExpandRefusal.TheVariants as refusal
+use Rattle.flow_workflow.specs.declared.refusal.Part.TheVariants as part
 use Rattle.flow_expand.specs.Steps.{IsRecursive}
 use Rattle.flow_expand.specs.Expansion.{Expansion, Becomes, size_of}
 use Rattle.flow_expand.specs.Numbers.{numbered, labelled_of, facts_of}

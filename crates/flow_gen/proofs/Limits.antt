@@ -15,7 +15,8 @@ use Rattle.flow_workflow.specs.Definition.{Definition, schema_of}
 use Rattle.flow_expand.specs.Workflows.{IsExpanded, definition_of}
 use Rattle.flow_excise.specs.declared.refusal.CompileRefusal.{CompileRefusal}
 use Rattle.flow_excise.specs.declared.refusal.CompileRefusal.TheVariants as compile
-use Rattle.flow_excise.specs.Compilation.{IsWithinLimits, IsRefused}
+use Rattle.flow_excise.specs.Compilation.{IsRefused}
+use Rattle.flow_plan.specs.Compilation.{IsWithinLimits}
 use Rattle.flow_excise.specs.Options as parts
 use Rattle.flow_gen.specs.Generated.{choices_in, kind, all_draws, kinds, generated}
 use Rattle.flow_gen.specs.Laws.{choice_count, ChoicesAreFew, ChoicesDouble, WaysAreSingle, OptionsAreResolutions, BulkIsSmall, WorkflowsAreWithinLimits, CompilingIsNotRefused, CompilingPartsIsNotRefused}

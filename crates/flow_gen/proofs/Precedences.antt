@@ -12,7 +12,7 @@ use Rattle.flow_model.specs.Process.{Process, leaves}
 use Rattle.flow_model.specs.Ways.{normal_form, ways, ways_of, ways_of_never, ways_of_before, leaf_of_event, free_way, is_free}
 use Rattle.flow_model.specs.Schema.{Schema}
 use Rattle.flow_model.specs.Resolution.{ChoiceOption, option_size, options_in, ways_in}
-use Rattle.flow_rules.specs.Rule.{any_of}
+use Rattle.flow_workflow.specs.Rule.{any_of}
 use Rattle.flow_form.specs.Names.{event_names}
 use Rattle.flow_expand.specs.Constraints.{constraint_of}
 use Rattle.flow_excise.proofs.TallyLemmas.{bulk-cons}

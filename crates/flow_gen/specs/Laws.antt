@@ -13,13 +13,14 @@ use Rattle.flow_text.specs.Printed.{printed}
 use Rattle.flow_text.specs.Saying.{Says}
 use Rattle.flow_text.specs.Parsing.{IsParseRefusal}
 use Rattle.flow_workflow.specs.Definition.{Definition, schema_of}
-use Rattle.flow_expand.specs.declared.refusal.ExpandRefusal.{ExpandRefusal}
-use Rattle.flow_expand.specs.declared.refusal.ExpandRefusal.TheVariants as refusal
+use Rattle.flow_workflow.specs.declared.refusal.ExpandRefusal.{ExpandRefusal}
+use Rattle.flow_workflow.specs.declared.refusal.ExpandRefusal.TheVariants as refusal
 use Rattle.flow_expand.specs.Refusals.{IsRefusal}
 use Rattle.flow_expand.specs.Workflows.{IsExpanded}
 use Rattle.flow_excise.specs.declared.refusal.CompileRefusal.{CompileRefusal}
 use Rattle.flow_excise.specs.declared.refusal.CompileRefusal.TheVariants as compile
-use Rattle.flow_excise.specs.Compilation.{IsWithinLimits, IsRefused}
+use Rattle.flow_excise.specs.Compilation.{IsRefused}
+use Rattle.flow_plan.specs.Compilation.{IsWithinLimits}
 use Rattle.flow_excise.specs.Options as parts
 use Rattle.flow_gen.specs.Generated.{choices_in, kinds, all_draws, generated}
 

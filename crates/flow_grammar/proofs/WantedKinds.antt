@@ -1,7 +1,7 @@
 -- What each state wants could come.
-use Rattle.std.proofs.Common.{rules, List, [], ◌∷◌}
+use Rattle.std.proofs.Common.{rules, [], ◌∷◌}
 use Rattle.flow_grammar.specs.Symbol.{Symbol, fact_word, event_word, flow_word, goal_word, constraint_word, nop_word, iso_word, ins_word, del_word, must_word, never_word, order_word, precedes_word, needs_word, not_word, holds_word, redundant_word, a_name, a_number, opening, closing, semicolon, equals, question, exclamation}
-use Rattle.flow_grammar.specs.Machine.{Step, reading, whole, stuck, carry, ArgState, constant_needed, after_constant, step_arg, wanted_arg, GoalState, atom_needed, after_atom, opening_needed, fact_needed, after_relation, in_args, step_goal, wanted_goal, RuleState, unit_needed, after_unit, name_needed, after_names, step_rule, wanted_rule, State, declaration_needed, fact_to_declare, after_declared_relation, in_declared_args, after_fact, event_to_declare, after_event, after_fail, after_noted, flow_to_declare, equals_needed, in_flow, in_goal, constraint_needed, in_constraint, step_script, finish_script, wanted_script, QueryState, query_needed, in_property, number_needed, after_number, query_read, step_query, finish_query, wanted_query}
+use Rattle.flow_grammar.specs.Machine.{Step, reading, whole, stuck, carry, ArgState, constant_needed, after_constant, step_arg, wanted_arg, GoalState, atom_needed, after_atom, opening_needed, fact_needed, after_relation, in_args, step_goal, wanted_goal, RuleState, unit_needed, after_unit, name_needed, after_names, step_rule, wanted_rule, State, declaration_needed, fact_to_declare, after_declared_relation, in_declared_args, after_fact, event_to_declare, after_event, after_fail, after_noted, flow_to_declare, equals_needed, in_flow, in_goal, constraint_needed, in_constraint, step_script, finish_script, wanted_script, QueryState, query_needed, in_property, number_needed, after_number, step_query, finish_query, wanted_query}
 use Rattle.flow_grammar.specs.Laws.{StandsFor, MayEnd}
 use Rattle.flow_grammar.proofs.Runs.{Goes, Wants}
 

@@ -11,16 +11,3 @@ pub record TakesFront (held held' : Option (List ℕ)) (piece : List ℕ) (n : �
 -- a front of the bytes was appended, and not all of them
 abbrev pub AppendsPart : Option (List ℕ) → Option (List ℕ) → List ℕ → Type 0
 AppendsPart held held' bytes = (n : ℕ) × (n < length bytes) × Appends held held' (take n bytes)
-
--- a sink of a fixed room: the bytes held, the room for all of them, and how many writes have failed
-pub record Store : Type 0 where
-  pub bytes : List ℕ
-  pub room : ℕ
-  pub faults : ℕ
-
--- a sink that fails on purpose: the store, the numbers of the calls that fail, and how many calls
--- there were
-pub record FaultyStore : Type 0 where
-  pub store : Store
-  pub fail_at : List ℕ
-  pub calls : ℕ

@@ -23,16 +23,3 @@ LosesAtMost left left' n = (k : ℕ) × (k ≤ n) × LosesCount left left' k
 abbrev pub IsAllOf : Option (List ℕ) → Option (List ℕ) → List ℕ → Type 0
 IsAllOf None left' read = Unit {0}
 IsAllOf (Some bytes) left' read = (read ≡ bytes) × (left' ≡ Some [])
-
--- a source cut in pieces: the bytes left, and how many a call gives at most
-pub record Cut : Type 0 where
-  pub bytes : List ℕ
-  pub size : ℕ
-
--- a source that fails on purpose: the bytes left, the numbers of the calls that fail, how many
--- calls there were, and how many of them failed
-pub record Faulty : Type 0 where
-  pub bytes : List ℕ
-  pub fail_at : List ℕ
-  pub calls : ℕ
-  pub faults : ℕ

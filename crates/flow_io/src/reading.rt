@@ -2,8 +2,8 @@ ghost use Rattle.std.specs.Prelude.{◌≡◌, ℕ, ◌+◌, ◌-◌, ◌^◌, �
 ghost use Rattle.std.specs.Io.KnownBytes.{Keeps};
 ghost use Rattle.flow_io.specs.Source.{GivesNext, IsAllOf, LosesAtMost, LosesCount};
 
-use crate::copying::PIECE;
 use crate::failure::{Failed, ReadRefusal};
+use crate::piece::PIECE;
 use std::alloc::Global;
 
 /// Bytes to be read, by calls that may fail.

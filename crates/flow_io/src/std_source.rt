@@ -1,5 +1,5 @@
-use crate::copying::PIECE;
 use crate::failure::Failed;
+use crate::piece::PIECE;
 use crate::reading::Source;
 use std::io::Read;
 

@@ -9,3 +9,4 @@ pub mod Together
 pub mod Following
 pub mod KeepLemmas
 pub mod StepRows
+pub mod KeptOptions

@@ -7,6 +7,8 @@ pub mod Progress
 pub mod RowMarks
 pub mod Rows
 pub mod Sampled
+pub mod Options
+pub mod Compilation
 pub mod SpanMarks
 pub mod Spans
 pub mod Stacks

@@ -1,7 +1,8 @@
 -- A plan as its callers see it: a goal without choices, its leaves, and orders of leaves.
-use Rattle.std.specs.Prelude.{ℕ, List, map}
+use Rattle.std.specs.Prelude.{◌≡◌, ℕ, List, length, map}
 use Rattle.std.proofs.Common.{refl}
 use Rattle.std.specs.Coded.{Coded, code_by, coded×, coded_ℕ, coded_list}
+use Rattle.flow_model.specs.Lists.{numbers_from}
 use Rattle.flow_model.specs.Process.{Process}
 use Rattle.flow_model.specs.Stored.{process_code}
 use Rattle.flow_goal.specs.Resolved.{Resolved}
@@ -23,3 +24,10 @@ planned goal tokens = record { process = goal.process; leaves = goal.leaves; tok
 -- the pair of sender and receiver of each token
 abbrev pub pairs_of : List OrderToken → List (ℕ × ℕ)
 pairs_of tokens = map (λ (t : OrderToken). (t.sender, t.receiver)) tokens
+
+abbrev pub token_numbers : List OrderToken → List ℕ
+token_numbers tokens = map (λ (t : OrderToken). t.number) tokens
+
+-- the token with number k is the one at place k
+abbrev pub AreNumbered : List OrderToken → Type 0
+AreNumbered tokens = token_numbers tokens ≡ numbers_from 0 (length tokens)

@@ -2,6 +2,8 @@
 #![tactic(auto)]
 
 mod claims;
+mod compiled;
+mod counts;
 mod knot_free;
 mod outline;
 mod part_row;
@@ -16,6 +18,8 @@ mod sweep;
 mod token;
 
 pub use claims::distinct;
+pub use compiled::Compiled;
+pub use counts::Counts;
 pub use knot_free::KnotFree;
 pub use plan::Plan;
 pub use progress::Progress;

@@ -1,9 +1,9 @@
 pub mod Cutting
 pub mod FirstLine
 pub mod FirstWord
+pub mod Flat
 pub mod Histories
 pub mod Journals
 pub mod Numbers
 pub mod Pieces
-pub mod Printing
 pub mod Sessions

@@ -1,4 +1,5 @@
 pub mod Lines
+pub mod Spaced
 pub mod Session
 pub mod History
 pub mod Journal

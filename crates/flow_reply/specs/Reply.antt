@@ -27,7 +27,7 @@ use Rattle.flow_record.specs.Journal.{event_name, fact_at}
 use Rattle.flow_workflow.specs.Definition.{Definition}
 use Rattle.flow_reply.specs.declared.answer.Answer.{Answer}
 use Rattle.flow_reply.specs.declared.answer.Answer.TheVariants.{Took, Did, Done, Failed, Rewound, Committed, Shown}
-use Rattle.flow_findings.specs.Refusing.{spaced_numbers}
+use Rattle.flow_record.specs.Spaced.{spaced_numbers}
 
 -- the answer is of the command's kind
 abbrev pub IsAnswerTo : Command → Answer → Type 0

@@ -10,7 +10,7 @@ use Rattle.flow_record.specs.Journal.{journal_text}
 use Rattle.flow_workflow.specs.Definition.{Definition}
 use Rattle.flow_reply.specs.declared.verdict.Verdict.{Verdict}
 use Rattle.flow_reply.specs.declared.verdict.Verdict.TheVariants.{Committed, Spent, NoOther, Stuck, Unfinished}
-use Rattle.flow_findings.specs.Refusing.{spaced_numbers}
+use Rattle.flow_record.specs.Spaced.{spaced_numbers}
 
 -- a verdict of the code, as one of the definitions; where the run is stuck, with the leaves that wait
 abbrev pub Means : Run → Verdict → model.Verdict → Type 0

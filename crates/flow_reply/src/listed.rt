@@ -7,7 +7,7 @@ ghost use Rattle.flow_core.specs.Looks.{CanAct};
 ghost use Rattle.flow_reply.specs.Reply.{numbers_text, HoldsNow, IsStuckText};
 
 use flow_core::{Core, Next};
-use flow_findings::push_numbers;
+use flow_record::push_numbers;
 use std::alloc::{AllocError, Global};
 
 /// Prints a word, and the numbers after it.

@@ -8,8 +8,7 @@ use crate::ending::{print_number, print_word};
 use crate::listed::print_stuck;
 use crate::verdict::Verdict;
 use flow_core::Core;
-use flow_findings::print_pieces;
-use flow_record::{print_history, print_journal};
+use flow_record::{print_history, print_journal, print_pieces};
 use itoa::Buffer;
 use std::alloc::{AllocError, Global};
 

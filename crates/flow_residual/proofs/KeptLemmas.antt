@@ -12,7 +12,7 @@ use Rattle.flow_laws.proofs.Members.{mem-append, mem_append_left, each-append, e
 use Rattle.flow_plan.proofs.PlaceLemmas.{read_member}
 use Rattle.flow_residual.specs.declared.ban.Ban.{Ban}
 use Rattle.flow_plan.specs.Sampled.{Sampled}
-use Rattle.flow_excise.specs.Compilation.{options_of}
+use Rattle.flow_plan.specs.Options.{options_of}
 use Rattle.flow_residual.specs.Remaining.{Remaining, MayComeNext}
 use Rattle.flow_residual.specs.View.{pairs_of_bans}
 use Rattle.flow_residual.specs.Options.{HasSmallLeaves, EachHas}

@@ -15,8 +15,7 @@ use Rattle.flow_plan.specs.Planned.{Planned}
 use Rattle.flow_plan.specs.Progress.{bound_of}
 use Rattle.flow_plan.specs.Sampled.{Sampled}
 use Rattle.flow_plan.specs.declared.progress.Progress.{Progress}
-use Rattle.flow_excise.specs.Compilation.{options_of}
-use Rattle.flow_sample.specs.Plans.{option_of}
+use Rattle.flow_plan.specs.Options.{options_of, option_of}
 use Rattle.flow_residual.specs.Options.{HasSmallLeaves, SomeOption, NoneBelow, SomeBelow, EachHas}
 
 -- a member stands at some place

@@ -18,10 +18,8 @@ use Rattle.flow_plan.specs.Planned.{Planned, pairs_of}
 use Rattle.flow_plan.specs.Progress.{IsDone}
 use Rattle.flow_plan.specs.Orders.{MayComeNext as MayComeNextIn, MayFollowInEveryOrder}
 use Rattle.flow_plan.specs.declared.progress.Progress.{Progress}
-use Rattle.flow_sample.specs.Excised.{HasExecution}
-use Rattle.flow_excise.specs.Executions.{AreJustThose}
-use Rattle.flow_sample.specs.Plans.{option_of}
-use Rattle.flow_excise.proofs.SiftingLemmas.{kept_has}
+use Rattle.flow_plan.specs.Options.{HasExecution, AreJustThose, option_of}
+use Rattle.flow_plan.proofs.KeptOptions.{kept_has}
 use Rattle.flow_residual.specs.Remaining.{Remaining, IsOf, IsLive, MayComeNext, IsAvoidable}
 use Rattle.flow_residual.specs.Options.{SomeOption}
 use Rattle.flow_residual.specs.Possible.{AllFollow, FollowsFirst, TakesAll, TakesFirst, LeavesOut, IsFinished, IsOpenFor}

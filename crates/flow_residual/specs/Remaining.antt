@@ -10,8 +10,7 @@ use Rattle.flow_model.specs.Resolution.{ChoiceOption, options}
 use Rattle.flow_model.specs.Ready.{IsReady, IsReadyRun}
 use Rattle.flow_model.specs.Run.{RunState, IsFree}
 use Rattle.flow_laws.specs.WellFormed.{IsWellFormed}
-use Rattle.flow_sample.specs.Excised.{HasExecution}
-use Rattle.flow_excise.specs.Executions.{AreJustThose}
+use Rattle.flow_plan.specs.Options.{HasExecution, AreJustThose}
 
 pub record Remaining : Type 0 where
   -- those that have an execution

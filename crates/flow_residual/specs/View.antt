@@ -1,7 +1,7 @@
 -- What remains, as the fields of a residual tell it.
 use Rattle.std.specs.Prelude.{ℕ, List, map}
 use Rattle.flow_plan.specs.Sampled.{Sampled}
-use Rattle.flow_excise.specs.Compilation.{options_of}
+use Rattle.flow_plan.specs.Options.{options_of}
 use Rattle.flow_residual.specs.declared.ban.Ban.{Ban}
 use Rattle.flow_residual.specs.Remaining.{Remaining}
 

@@ -3,7 +3,7 @@ ghost use Rattle.std.specs.List.{filter};
 ghost use Rattle.flow_model.specs.Lists.{◌∈◌, Each};
 ghost use Rattle.flow_model.specs.Process.{leaves};
 ghost use Rattle.flow_model.specs.Resolution.{ChoiceOption};
-ghost use Rattle.flow_sample.specs.Plans.{option_of};
+ghost use Rattle.flow_plan.specs.Options.{option_of};
 ghost use Rattle.flow_residual.specs.Tracks.{IsLeastBan};
 
 use flow_plan::Plan;

@@ -2,8 +2,7 @@ ghost use Rattle.std.specs.Prelude.{◌≡◌, ◌<◌, ◌↔◌, ℕ, List, []
 ghost use Rattle.flow_model.specs.Lists.{◌∈◌, Each};
 ghost use Rattle.flow_plan.specs.Orders.{Fits};
 ghost use Rattle.flow_plan.specs.Progress.{IsDone, bound_of};
-ghost use Rattle.flow_excise.specs.Compilation.{options_of};
-ghost use Rattle.flow_sample.specs.Plans.{option_of};
+ghost use Rattle.flow_plan.specs.Options.{options_of, option_of};
 ghost use Rattle.flow_residual.specs.Options.{EachHas, HasSmallLeaves};
 ghost use Rattle.flow_residual.specs.Tracks.{IsFront, IsNextRow, IsTrack, journal_after, bans_after};
 

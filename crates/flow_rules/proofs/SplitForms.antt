@@ -2,13 +2,13 @@
 use Rattle.std.proofs.Common.{◌≡◌, ℕ, Bool, true, false, not, List, [], ◌∷◌, Vec, Box, Global, map, fold, refl, sym, ap, ◌∙◌, Option}
 use Rattle.flow_model.specs.Constraint.{Constraint, Always, Impossible, Order, Not, And, Or, all_of}
 use Rattle.flow_model.specs.Ways.{Normal, both, either, before, not_before, normal_form, chain, broken_chain, ways}
-use Rattle.flow_rules.specs.declared.rule.Rule as rule
-use Rattle.flow_rules.specs.declared.rule.Rule.{Rule}
+use Rattle.flow_workflow.specs.declared.rule.Rule as rule
+use Rattle.flow_workflow.specs.declared.rule.Rule.{Rule}
 use Rattle.flow_rules.specs.declared.normal.Nnf.{Event}
 use Rattle.flow_rules.specs.Normal.{all_form, normal_of, pair_form, split_chain, split_form, linked}
-use Rattle.flow_rules.specs.Rule.{any_of, rule_of, rules_of}
+use Rattle.flow_workflow.specs.Rule.{any_of, rule_of, rules_of}
 use Rattle.flow_rules.specs.WayLists.{both_ways, either_way}
-use Rattle.flow_rules.proofs.RuleViews.{rule_of-Must, rule_of-Never, rule_of-Order, rule_of-Not, rule_of-And, rule_of-Or}
+use Rattle.flow_workflow.proofs.RuleViews.{rule_of-Must, rule_of-Never, rule_of-Order, rule_of-Not, rule_of-And, rule_of-Or}
 use Rattle.flow_rules.proofs.NormalViews.{normal_of-Event}
 use Rattle.flow_rules.proofs.WayListLemmas.{both_free, both_assoc, either_nothing, either_assoc}
 

@@ -7,6 +7,5 @@ pub mod Narrowed
 pub mod Normal
 pub mod NormalForm
 pub mod Rooms
-pub mod Rule
 pub mod Standing
 pub mod WayLists

@@ -6,10 +6,10 @@ use Rattle.flow_rules.specs.declared.normal.Nnf.{Nnf}
 use Rattle.flow_rules.specs.declared.normal.Nnf.TheOpen as open_nnf
 use Rattle.flow_rules.specs.declared.normal.Nnf.TheOpen.{Nnf-F}
 use Rattle.flow_rules.specs.declared.normal.Nnf.TheFolds.{fold-Nnf}
-use Rattle.flow_rules.specs.declared.rule.Rule.{Rule}
-use Rattle.flow_rules.specs.declared.rule.Rule.TheOpen as open_rule
-use Rattle.flow_rules.specs.declared.rule.Rule.TheOpen.{Rule-F}
-use Rattle.flow_rules.specs.declared.rule.Rule.TheFolds.{fold-Rule}
+use Rattle.flow_workflow.specs.declared.rule.Rule.{Rule}
+use Rattle.flow_workflow.specs.declared.rule.Rule.TheOpen as open_rule
+use Rattle.flow_workflow.specs.declared.rule.Rule.TheOpen.{Rule-F}
+use Rattle.flow_workflow.specs.declared.rule.Rule.TheFolds.{fold-Rule}
 use Rattle.flow_rules.specs.Normal.{joining, linked}
 
 mutual

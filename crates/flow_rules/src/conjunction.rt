@@ -6,7 +6,7 @@ use crate::lanes::Lanes;
 use crate::narrowed::{Narrowed, narrow_each};
 use crate::normal::Nnf;
 use crate::normalizing::normal_forms;
-use crate::rule::Rule;
+use flow_workflow::Rule;
 use std::alloc::{AllocError, Global};
 
 /// Rules that are all to be met.
@@ -19,7 +19,7 @@ impl Conjunction {
     ghost use Rattle.flow_rules.specs.Conjunction.{HasWaysOf, normal_in};
     ghost use Rattle.flow_rules.specs.Lanes.{Shows};
     ghost use Rattle.flow_rules.specs.Narrowed.{ways_in};
-    ghost use Rattle.flow_rules.specs.Rule.{rules_of};
+    ghost use Rattle.flow_workflow.specs.Rule.{rules_of};
 
     /// All of the rules.
     pub fn new(alloc: Global, rules: &[Rule]) -> Result<Conjunction, AllocError>

@@ -16,8 +16,6 @@ mod normalizing;
 mod only;
 mod order_set;
 mod room;
-mod rule;
-mod shorthands;
 mod standing;
 
 pub use conjunction::Conjunction;
@@ -31,5 +29,3 @@ pub use narrowed::Narrowed;
 pub use normal::Nnf;
 pub use normalizing::nnf;
 pub use order_set::OrderSet;
-pub use rule::Rule;
-pub use shorthands::{needs, precedes};

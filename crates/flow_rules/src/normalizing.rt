@@ -1,13 +1,13 @@
 ghost use Rattle.std.specs.Prelude.{◌≡◌, ℕ, Option, true, IfOk, map};
 ghost use Rattle.flow_model.specs.Ways as model;
-ghost use Rattle.flow_rules.specs.Rule.{rule_of};
+ghost use Rattle.flow_workflow.specs.Rule.{rule_of};
 ghost use Rattle.flow_rules.specs.NormalForm as tree;
 ghost use Rattle.flow_rules.specs.NormalForm.{form_of};
 ghost use Rattle.flow_rules.specs.Normal.{normal_of, normals_of, linked, pair_form, all_form, split_chain, split_form};
 
 use crate::connective::Connective;
 use crate::normal::Nnf;
-use crate::rule::Rule;
+use flow_workflow::Rule;
 use std::alloc::{AllocError, Global};
 
 /// Each event with the next one.

@@ -15,7 +15,7 @@ use Rattle.flow_laws.proofs.TraceLeaves.{joined-as_one}
 use Rattle.flow_plan.specs.declared.token.OrderToken.{OrderToken}
 use Rattle.flow_plan.specs.Planned.{Planned, pairs_of}
 use Rattle.flow_plan.proofs.PlaceLemmas.{place_of_member}
-use Rattle.flow_sample.specs.Plans.{option_of}
+use Rattle.flow_plan.specs.Options.{option_of}
 
 -- they are one of its traces
 pub straight : (q : Process) → IsChoiceFree q → Trace q (leaves q)

@@ -4,8 +4,8 @@ ghost use Rattle.flow_model.specs.Lists.{Each};
 ghost use Rattle.flow_model.specs.Resolution.{OptionTrace};
 ghost use Rattle.flow_plan.specs.Planned.{pairs_of};
 ghost use Rattle.flow_sample.specs.Items.{TellsCircle};
-ghost use Rattle.flow_sample.specs.Plans.{option_of};
-ghost use Rattle.flow_sample.specs.Excised.{IsReasonAgainst, HasExecution};
+ghost use Rattle.flow_plan.specs.Options.{option_of, HasExecution};
+ghost use Rattle.flow_sample.specs.Excised.{IsReasonAgainst};
 
 use crate::circle::Circle;
 use crate::items::items_of_plan;

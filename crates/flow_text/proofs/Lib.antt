@@ -3,7 +3,6 @@ pub mod ListedNames
 pub mod FirstNames
 pub mod Parsed
 pub mod Pushed
-pub mod Shapes
 pub mod PrintedPieces
 pub mod PrintedTexts
 pub mod Writable

@@ -3,9 +3,7 @@ use Rattle.std.proofs.Common.{◌≡◌, ℕ, ◌+◌, ◌-◌, ◌<◌, ◌≤�
 use Rattle.std.proofs.lemmas.Result.{on_ok_weaker}
 use denote.Param.Weighed.{most, at_most}
 use Rattle.std.proofs.lemmas.List.{at_drop_more, at_drop_all, length-drop, take_all}
-
-pub twice : {A : Type 0} (a b c p q : List A) → b ≡ a ++ p → c ≡ b ++ q → c ≡ a ++ (p ++ q)
-twice a b c p q one two = two ∙ ap (λ t. t ++ q) one ∙ append_assoc a p q
+use Rattle.flow_facts.proofs.Pushed.{both_put}
 
 -- a loop over a list puts a piece for each item; what it puts for all that are left is F of them
 pub goes_on : {X A : Type 0} (F : List X → List A) (xs : List X) (i : ℕ) (x : X) (old new piece all : List A) → i < length xs → x ≡ get_or xs i x
@@ -19,7 +17,7 @@ pub listed_more : {X : Type 0} (G : X → List ℕ) (F : List X → List ℕ) (m
     → ((y : X) (ys : List X) → F (y ∷ ys) ≡ (m ++ G y) ++ F ys) → mark ≡ m → mid ≡ old ++ mark → new ≡ mid ++ G x → old ++ F (drop i xs) ≡ all → new ++ F (drop (i + 1) xs) ≡ all
 listed_more G F m xs i x old mid new mark all inside is begins marked one two left =
     goes_on F xs i x old new (m ++ G x) all inside is (begins x)
-    (twice old mid new m (G x) (one ∙ ap (λ t. old ++ t) marked) two) left
+    (both_put old mid new m (G x) (one ∙ ap (λ t. old ++ t) marked) two) left
 
 -- the whole of such a loop: the first member stands before it, which has no mark; H is the text of those behind
 pub listed : {X : Type 0} (G : X → List ℕ) (F H : List X → List ℕ) (xs : List X) (i : ℕ) (x : X) (old mid new : List ℕ) → 1 ≤ length xs → x ≡ get_or xs 0 x
@@ -47,7 +45,7 @@ largest_behind {X} size xs i x inside is =
 
 -- one piece before that call, which puts the rest
 pub put_behind : {U E : Type 0} (r : Result U E) (old mid new p q whole : List ℕ) → whole ≡ p ++ q → mid ≡ old ++ p → OnOk r (new ≡ mid ++ q) → OnOk r (new ≡ old ++ whole)
-put_behind r old mid new p q whole is one two = on_ok_weaker r (λ e. twice old mid new p q one e ∙ ap (λ t. old ++ t) (sym is)) two
+put_behind r old mid new p q whole is one two = on_ok_weaker r (λ e. both_put old mid new p q one e ∙ ap (λ t. old ++ t) (sym is)) two
 
 put_last : {U E : Type 0} (r : Result U E) (old new p : List ℕ) → new ≡ cond (is_ok r) (old ++ p) old → OnOk r (new ≡ old ++ p)
 put_last (Ok u) old new p put = put

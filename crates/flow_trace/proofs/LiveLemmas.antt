@@ -8,8 +8,7 @@ use Rattle.flow_laws.proofs.ReadyRuns.{run_front, run_grow, ready_at}
 use Rattle.flow_plan.specs.Planned.{Planned}
 use Rattle.flow_plan.specs.Sampled.{Sampled}
 use Rattle.flow_plan.specs.declared.progress.Progress.{Progress}
-use Rattle.flow_excise.specs.Compilation.{options_of}
-use Rattle.flow_sample.specs.Plans.{option_of}
+use Rattle.flow_plan.specs.Options.{options_of, option_of}
 use Rattle.flow_residual.proofs.OptionLemmas.{same_plan}
 use Rattle.flow_residual.proofs.DoneLemmas.{AreDone}
 use Rattle.flow_trace.specs.Live.{Finishes, IsLive, AreLive}

@@ -18,9 +18,8 @@ use Rattle.flow_laws.proofs.TraceLeaves.{leaf_of_trace, distinct_trace}
 use Rattle.flow_laws.proofs.OptionsLemmas.{option_is_ordered, distinct_leaves, option_of_good, option_trace_is_good}
 use Rattle.flow_laws.proofs.ReadyRuns.{fronts_are_ready}
 use Rattle.flow_laws.proofs.CircleOrTrace.{ready_runs_extend}
-use Rattle.flow_sample.specs.Excised.{HasExecution}
-use Rattle.flow_excise.specs.Executions.{AreJustThose}
-use Rattle.flow_excise.proofs.SiftingLemmas.{kept_has}
+use Rattle.flow_plan.specs.Options.{HasExecution, AreJustThose}
+use Rattle.flow_plan.proofs.KeptOptions.{kept_has}
 use Rattle.flow_workflow.specs.Definition.{Definition, schema_of}
 use Rattle.flow_facts.specs.Course.{Course, state_of_world}
 use Rattle.flow_facts.specs.Journals.{labels_at}

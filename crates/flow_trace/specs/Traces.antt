@@ -9,8 +9,7 @@ use Rattle.flow_laws.specs.WellFormed.{IsWellFormed}
 use Rattle.flow_workflow.specs.Definition.{Definition, schema_of}
 use Rattle.flow_plan.specs.Progress.{IsDone, bound_of}
 use Rattle.flow_plan.specs.declared.progress.Progress.{Progress}
-use Rattle.flow_sample.specs.Excised.{HasExecution}
-use Rattle.flow_excise.specs.Executions.{AreJustThose}
+use Rattle.flow_plan.specs.Options.{HasExecution, AreJustThose}
 use Rattle.flow_facts.specs.Course.{Course}
 use Rattle.flow_facts.specs.Journals.{labels_at}
 use Rattle.flow_residual.specs.Options.{HasSmallLeaves}

@@ -6,9 +6,9 @@ use Rattle.flow_model.specs.Schema.{Schema, IsGood}
 use Rattle.flow_laws.specs.WellFormed.{IsWellFormed}
 use Rattle.flow_laws.proofs.OptionsLemmas.{option_trace_is_good}
 use Rattle.flow_plan.specs.Sampled.{Sampled}
-use Rattle.flow_sample.specs.Plans.{option_of}
-use Rattle.flow_excise.specs.Compilation.{Compilation, IsCompiled, options_of}
-use Rattle.flow_excise.proofs.SiftingLemmas.{kept_has}
+use Rattle.flow_plan.specs.Options.{option_of, options_of}
+use Rattle.flow_plan.specs.Compilation.{Compilation, IsCompiled}
+use Rattle.flow_plan.proofs.KeptOptions.{kept_has}
 
 -- the option of the first plan is among those of the plans
 pub first_option : (plans : List Sampled) (s : Sampled) → plans ≢ [] → s ≡ get_or plans 0 s → option_of s.plan ∈ options_of plans

@@ -8,11 +8,11 @@ use Rattle.flow_laws.specs.WellFormed.{IsConsistent}
 use Rattle.flow_laws.proofs.Members.{each-append, each_parts}
 use Rattle.flow_model.specs.Decided.{decide_meets}
 use Rattle.flow_laws.proofs.WaysLemmas.{not_not}
-use Rattle.flow_rules.specs.declared.rule.Rule as rule
-use Rattle.flow_rules.specs.declared.rule.Rule.{Rule}
-use Rattle.flow_rules.specs.Rule.{rule_of, rules_of}
-use Rattle.flow_rules.proofs.RuleViews.{rule_of-Not}
-use Rattle.flow_excise.specs.Compilation.{IsWithinLimits}
+use Rattle.flow_workflow.specs.declared.rule.Rule as rule
+use Rattle.flow_workflow.specs.declared.rule.Rule.{Rule}
+use Rattle.flow_workflow.specs.Rule.{rule_of, rules_of}
+use Rattle.flow_workflow.proofs.RuleViews.{rule_of-Not}
+use Rattle.flow_plan.specs.Compilation.{IsWithinLimits}
 use Rattle.flow_excise.specs.Options.{schema_of}
 use Rattle.flow_goal.specs.Labelled.{Labelled}
 use Rattle.flow_verify.specs.declared.answers.Verified.TheVariants.{Holds, Fails}

@@ -5,8 +5,8 @@ use Rattle.std.specs.List.{remove}
 use Rattle.std.proofs.lemmas.Option.{slice_get-map, slice_get_read}
 use Rattle.flow_model.specs.Lists.{Each}
 use Rattle.flow_model.specs.Constraint.{Constraint}
-use Rattle.flow_rules.specs.declared.rule.Rule.{Rule}
-use Rattle.flow_rules.specs.Rule.{rule_of, rules_of}
+use Rattle.flow_workflow.specs.declared.rule.Rule.{Rule}
+use Rattle.flow_workflow.specs.Rule.{rule_of, rules_of}
 
 -- what holds of the others and of this one holds of each
 pub each_with : {A : Type 0} (P : A → Type 0) (xs : List A) (i : ℕ) (x : A) → slice_get xs i ≡ Some x → Each P (remove xs i) → P x → Each P xs

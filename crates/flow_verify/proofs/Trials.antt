@@ -7,8 +7,8 @@ use Rattle.flow_model.specs.Facts.{events_of}
 use Rattle.flow_model.specs.Constraint.{Constraint, Meets}
 use Rattle.flow_model.specs.Schema.{Schema, IsGood}
 use Rattle.flow_laws.proofs.Members.{each_member}
-use Rattle.flow_facts.proofs.Places.{mem-slice_get}
-use Rattle.flow_excise.specs.Compilation.{IsWithinLimits}
+use Rattle.flow_workflow.proofs.Places.{mem-slice_get}
+use Rattle.flow_plan.specs.Compilation.{IsWithinLimits}
 use Rattle.flow_verify.specs.declared.answers.Verified.{Verified}
 use Rattle.flow_verify.specs.declared.answers.Verified.TheVariants.{Holds, Fails}
 use Rattle.flow_verify.specs.declared.answers.Redundancy.{Redundancy}

@@ -5,15 +5,16 @@ ghost use Rattle.flow_model.specs.Lists.{◌∈◌};
 ghost use Rattle.flow_model.specs.Resolution.{ChoiceOption, OptionTrace};
 ghost use Rattle.flow_model.specs.Schema.{IsGood};
 ghost use Rattle.flow_laws.specs.WellFormed.{IsConsistent};
-ghost use Rattle.flow_rules.specs.Rule.{rules_of};
-ghost use Rattle.flow_excise.specs.Compilation.{IsWithinLimits, options_of};
+ghost use Rattle.flow_workflow.specs.Rule.{rules_of};
+ghost use Rattle.flow_plan.specs.Options.{options_of};
+ghost use Rattle.flow_plan.specs.Compilation.{IsWithinLimits};
 ghost use Rattle.flow_excise.specs.Options.{schema_of};
 ghost use Rattle.flow_verify.specs.Verification.{IsRefused};
 
 use crate::refusal::VerifyRefusal;
 use flow_excise::{CompileRefusal, Compiled, compile};
 use flow_goal::Tree;
-use flow_rules::Rule;
+use flow_workflow::Rule;
 use std::alloc::{AllocError, Global};
 
 /// The execution that comes with the first plan.

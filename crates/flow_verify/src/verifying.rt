@@ -2,9 +2,9 @@ ghost use Rattle.std.specs.Prelude.{◌≡◌, ◌<◌, ◌≤◌, ◌↔◌, If
 ghost use Rattle.flow_goal.specs.Repeated.{HoldsNoneTwice};
 ghost use Rattle.flow_model.specs.declared.limits.TheConstants.{MOST_LEAVES};
 ghost use Rattle.flow_model.specs.Constraint.{Constraint};
-ghost use Rattle.flow_rules.specs.Rule.{rule_of, rules_of};
+ghost use Rattle.flow_workflow.specs.Rule.{rule_of, rules_of};
 ghost use Rattle.flow_workflow.specs.Definition.{schema_of};
-ghost use Rattle.flow_excise.specs.Compilation.{IsWithinLimits};
+ghost use Rattle.flow_plan.specs.Compilation.{IsWithinLimits};
 ghost use Rattle.flow_excise.specs.Options as options;
 ghost use Rattle.flow_verify.specs.declared.refusal.VerifyRefusal.TheVariants.{NoMemory, NoRule};
 ghost use Rattle.flow_verify.specs.Verification.{against, without, TellsOfProperty, TellsOfConstraint, IsRefused};
@@ -13,8 +13,7 @@ use crate::answers::{Redundancy, Verified};
 use crate::execution::good_execution;
 use crate::refusal::VerifyRefusal;
 use flow_goal::Tree;
-use flow_rules::Rule;
-use flow_workflow::Workflow;
+use flow_workflow::{Rule, Workflow};
 use std::alloc::{AllocError, Global};
 
 /// The rules of a workflow in memory of their own.

@@ -9,8 +9,7 @@ use Rattle.flow_laws.specs.WellFormed.{IsOrdered}
 use Rattle.flow_laws.proofs.ReadyRuns.{complete_runs_are_traces}
 use Rattle.flow_laws.proofs.MadeLists.{numbers_from_more}
 use Rattle.flow_plan.specs.declared.token.OrderToken.{OrderToken}
-use Rattle.flow_plan.specs.Planned.{pairs_of}
-use Rattle.flow_weave.specs.Woven.{token_numbers}
+use Rattle.flow_plan.specs.Planned.{pairs_of, token_numbers}
 
 pub pairs_with : (pairs : List (ℕ × ℕ)) (i : ℕ) (old new : List OrderToken) (token : OrderToken) → i < length pairs →
     (token.sender, token.receiver) ≡ get_or pairs i (0, 0) → new ≡ old ++ token ∷ [] → pairs_of old ≡ take i pairs → pairs_of new ≡ take (i + 1) pairs

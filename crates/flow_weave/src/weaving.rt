@@ -4,8 +4,8 @@ ghost use Rattle.flow_model.specs.Lists.{Each, numbers_from};
 ghost use Rattle.flow_model.specs.Ready.{IsCompleteRun};
 ghost use Rattle.flow_model.specs.Resolution.{OptionTrace};
 ghost use Rattle.flow_laws.specs.WellFormed.{AreOfLeaves};
-ghost use Rattle.flow_plan.specs.Planned.{pairs_of};
-ghost use Rattle.flow_weave.specs.Woven.{option_with, token_numbers};
+ghost use Rattle.flow_plan.specs.Planned.{pairs_of, token_numbers};
+ghost use Rattle.flow_weave.specs.Woven.{option_with};
 
 use flow_goal::Choiceless;
 use flow_plan::{OrderToken, Plan};

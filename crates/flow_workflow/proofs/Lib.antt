@@ -1,1 +1,4 @@
+pub mod Places
+pub mod Indexing
 pub mod FirstPlaces
+pub mod RuleViews

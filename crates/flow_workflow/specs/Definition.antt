@@ -12,8 +12,8 @@ use Rattle.flow_model.specs.Stored.{constraint_code}
 use Rattle.flow_facts.specs.Atom.{Atom, atom_code}
 use Rattle.flow_goal.specs.Labelled.{Labelled, labelled_code}
 use Rattle.flow_goal.specs.Repeated.{HoldsNoneTwice}
-use Rattle.flow_rules.specs.declared.rule.Rule.{Rule}
-use Rattle.flow_rules.specs.Rule.{rules_of}
+use Rattle.flow_workflow.specs.declared.rule.Rule.{Rule}
+use Rattle.flow_workflow.specs.Rule.{rules_of}
 use Rattle.flow_workflow.specs.Numbers.{IsKnown}
 
 pub record Definition : Type 0 where

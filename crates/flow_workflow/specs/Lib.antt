@@ -1,2 +1,5 @@
+pub mod Table
+pub mod Indexed
 pub mod Definition
 pub mod Numbers
+pub mod Rule

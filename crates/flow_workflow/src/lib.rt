@@ -1,6 +1,17 @@
-//! A workflow with its sub-workflows in place: events, facts, a goal with labels, and constraints.
+//! A workflow with its sub-workflows in place: events and facts by their numbers, a goal with labels, and rules on its
+//! events; and why there is none.
 #![tactic(auto)]
 
+mod numbered;
+mod refusal;
+mod rule;
+mod shorthands;
+mod table;
 mod workflow;
 
+pub use numbered::{Key, Numbered};
+pub use refusal::{ExpandRefusal, Part};
+pub use rule::Rule;
+pub use shorthands::{needs, precedes};
+pub use table::FactTable;
 pub use workflow::Workflow;

@@ -3,13 +3,15 @@ ghost use Rattle.flow_model.specs.declared.limits.TheConstants.{MOST_LEAVES};
 ghost use Rattle.flow_model.specs.Lists.{◌∈◌, Each, AreDistinct};
 ghost use Rattle.flow_goal.specs.Repeated.{HoldsNoneTwice};
 ghost use Rattle.flow_laws.specs.WellFormed.{IsWellFormed};
-ghost use Rattle.flow_rules.specs.Rule.{rules_of};
+ghost use Rattle.flow_workflow.specs.Rule.{rules_of};
 ghost use Rattle.flow_workflow.specs.Numbers.{event_number, IsKnown};
 
-use flow_facts::{FactTable, Name, Numbered};
+use crate::numbered::Numbered;
+use crate::rule::Rule;
+use crate::table::FactTable;
+use flow_facts::Name;
 use flow_goal::Tree;
 use flow_model::Note;
-use flow_rules::Rule;
 use std::alloc::Global;
 use std::marker::Model;
 

@@ -3,7 +3,8 @@ ghost use Rattle.std.specs.Prelude.{◌<◌, ◌-◌, ◌^◌};
 
 use flow_cli::{Status, flow};
 use flow_crew::NoteGate;
-use flow_io::{MemSink, Sink, Source};
+use flow_doubles::MemSink;
+use flow_io::{Sink, Source};
 use std::alloc::{AllocError, Global};
 use std::sync::Wait;
 use std::thread::Threads;

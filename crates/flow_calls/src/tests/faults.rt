@@ -3,7 +3,7 @@ ghost use Rattle.std.specs.Prelude.{◌<◌, ◌-◌, ◌^◌};
 
 use super::calling::{PLAIN, PLAIN_WRITTEN, ROOM, called, is_driven};
 use flow_cli::Status;
-use flow_io::{FaultySink, FaultySource, MemSource};
+use flow_doubles::{FaultySink, FaultySource, MemSource};
 use std::alloc::AllocError;
 use std::sync::Wait;
 use std::thread::Threads;

@@ -3,7 +3,8 @@ ghost use Rattle.std.specs.Prelude.{◌<◌};
 
 use super::calling::{PLAIN, PLAIN_WRITTEN, ROOM, called, is_driven};
 use flow_cli::Status;
-use flow_io::{CutSource, MemSink, MemSource, StdSink, StdSource};
+use flow_doubles::{CutSource, MemSink, MemSource};
+use flow_io::{StdSink, StdSource};
 use std::alloc::AllocError;
 use std::sync::Wait;
 use std::thread::Threads;

@@ -2,8 +2,8 @@
 ghost use Rattle.std.specs.Prelude.{true};
 
 use flow_cli::{Status, flow};
-use flow_crew::{Call, Gate, MeetGate, NoteGate, Outcome};
-use flow_io::{MemSink, MemSource};
+use flow_crew::{Call, Gate, NoteGate, Outcome};
+use flow_doubles::{MeetGate, MemSink, MemSource};
 use std::alloc::{AllocError, Global};
 use std::sync::Wait;
 use std::sync::atomic::{AtomicBool, AtomicU32, Ordering};

@@ -1,5 +1,5 @@
 use Rattle.std.proofs.Common.{inr, subst}
-use Rattle.flow_excise.specs.Compilation.{IsLive}
+use Rattle.flow_plan.specs.Compilation.{IsLive}
 use Rattle.flow_cli.proofs.Compiled.{found_consistent, told_refused}
 use Rattle.flow_cli.proofs.checking.check_workflow.Goals as goal
 

@@ -1,5 +1,5 @@
 use Rattle.std.proofs.lemmas.Result.{IfOk-weaker, IfErr-weaker}
-use Rattle.flow_rules.specs.Rule.{rules_of}
+use Rattle.flow_workflow.specs.Rule.{rules_of}
 use Rattle.flow_cli.proofs.Compiled.{refused_of_parts, compiled_of_parts}
 use Rattle.flow_cli.proofs.compiling.compile_workflow.Goals as goal
 

@@ -1,4 +1,4 @@
-use Rattle.flow_rules.specs.Rule.{rule_of}
+use Rattle.flow_workflow.specs.Rule.{rule_of}
 use Rattle.flow_cli.proofs.Queries.{fails_labelled}
 use Rattle.flow_cli.proofs.verifying.verify_property.Goals as goal
 

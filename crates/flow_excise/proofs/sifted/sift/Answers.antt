@@ -3,14 +3,12 @@ use Rattle.std.proofs.lemmas.List.{length-map}
 use Rattle.std.proofs.lemmas.List.Elements.{All-push}
 use Rattle.flow_model.specs.Lists.{numbers_from}
 use Rattle.flow_plan.specs.declared.token.OrderToken.{OrderToken}
-use Rattle.flow_plan.specs.Planned.{Planned}
+use Rattle.flow_plan.specs.Planned.{Planned, AreNumbered}
 use Rattle.flow_plan.specs.Sampled.{Sampled}
-use Rattle.flow_weave.specs.Woven.{option_with, AreNumbered}
+use Rattle.flow_weave.specs.Woven.{option_with}
 use Rattle.flow_model.specs.Circle.{IsCircle}
 use Rattle.flow_model.specs.Resolution.{ChoiceOption}
-use Rattle.flow_excise.specs.Compilation.{options_of}
-use Rattle.flow_sample.specs.Excised.{HasExecution}
-use Rattle.flow_sample.specs.Plans.{option_of}
+use Rattle.flow_plan.specs.Options.{options_of, HasExecution, option_of}
 use Rattle.flow_excise.proofs.SiftingLemmas.{numbered}
 use Rattle.flow_excise.proofs.SieveLemmas.{sift_kept, sift_dropped}
 use Rattle.flow_excise.proofs.sifted.sift.Goals as goal

@@ -1,6 +1,6 @@
 use Rattle.std.proofs.Common.{◌≡◌, ◌∙◌, ap, map}
 use Rattle.flow_workflow.specs.Definition.{Definition}
-use Rattle.flow_rules.specs.Rule.{rules_of}
+use Rattle.flow_workflow.specs.Rule.{rules_of}
 use Rattle.flow_form.specs.Script.{said}
 use Rattle.flow_form.specs.RuleForm.{rule_shape_of}
 use Rattle.flow_expand.specs.Constraints.{constraint_of}

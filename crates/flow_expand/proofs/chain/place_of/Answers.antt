@@ -1,6 +1,6 @@
 use Rattle.std.proofs.Common.{◌<◌, arith, length}
 use Rattle.std.proofs.lemmas.Option.{slice_get_within, get_or_from_slice_get}
-use Rattle.flow_facts.proofs.Places.{place_of}
+use Rattle.flow_workflow.proofs.Places.{place_of}
 use Rattle.flow_expand.proofs.chain.place_of.Goals as goal
 
 pub unreachable-requires : goal.unreachable-requires

@@ -2,10 +2,11 @@ use Rattle.std.proofs.Common.{refl, sym, ap, subst, ◌∙◌, map, take}
 use Rattle.std.proofs.lemmas.List.{take_all}
 use Rattle.flow_form.specs.declared.form.Form.{Form}
 use Rattle.flow_form.specs.Form.{shape_of, iso}
+use Rattle.flow_form.proofs.Shapes.{shape_of-Iso}
 use Rattle.flow_expand.specs.Expansion.{becomes_nop, becomes_test, becomes_absent, becomes_ins, becomes_del}
 use Rattle.flow_expand.specs.Directory.{decls_of}
 use Rattle.flow_expand.specs.Laid.{IsFront}
-use Rattle.flow_expand.proofs.LayLemmas.{ok_to, goes_plain, goes_iso, laid_more, begins_twice, front_more, list_step, shape_of-Nop, shape_of-Test, shape_of-Absent, shape_of-Ins, shape_of-Del, shape_of-Iso}
+use Rattle.flow_expand.proofs.LayLemmas.{ok_to, goes_plain, goes_iso, laid_more, begins_twice, front_more, list_step, shape_of-Nop, shape_of-Test, shape_of-Absent, shape_of-Ins, shape_of-Del}
 use Rattle.flow_expand.proofs.lay.+laying.Goals as goal
 
 pub lay-returns-in-Nop-clause-ok : goal.lay-returns-in-Nop-clause-ok

@@ -4,8 +4,8 @@ use Rattle.flow_model.specs.Lists.{◌∈◌, Each}
 use Rattle.flow_form.specs.Script.{said}
 use Rattle.flow_form.specs.Names.{declared_names, names_in, names_in_rules}
 use Rattle.flow_form.specs.RuleForm.{rule_shape_of, rule_shapes}
-use Rattle.flow_expand.specs.declared.refusal.ExpandRefusal.TheVariants as refusal
-use Rattle.flow_expand.specs.declared.refusal.Part.TheVariants as part
+use Rattle.flow_workflow.specs.declared.refusal.ExpandRefusal.TheVariants as refusal
+use Rattle.flow_workflow.specs.declared.refusal.Part.TheVariants as part
 use Rattle.flow_expand.specs.Expansion.{capped}
 use Rattle.flow_expand.specs.Directory.{decls_of}
 use Rattle.flow_expand.specs.Laid.{IsReady}

@@ -2,8 +2,8 @@ use Rattle.std.proofs.Common.{◌≡◌, ◌+◌, ◌++◌, ◌∷◌, [], get_o
 use Rattle.std.proofs.lemmas.List.{map_push, map_more, take_all}
 use Rattle.flow_model.specs.Constraint.{all_of}
 use Rattle.flow_form.specs.RuleForm.{rule_shape_of, rule_shapes}
-use Rattle.flow_rules.specs.Rule.{any_of, rule_of}
-use Rattle.flow_rules.proofs.RuleViews.{rule_of-And, rule_of-Or}
+use Rattle.flow_workflow.specs.Rule.{any_of, rule_of}
+use Rattle.flow_workflow.proofs.RuleViews.{rule_of-And, rule_of-Or}
 use Rattle.flow_expand.specs.Constraints.{constraint_of, constraints_of}
 use Rattle.flow_expand.proofs.RulingLemmas.{constraints_of-shapes, shape_of-And, shape_of-Or}
 use Rattle.flow_expand.proofs.ruling.+ruling.Goals as goal

@@ -1,6 +1,6 @@
 use Rattle.std.proofs.Common.{◌≡◌, map, take}
 use Rattle.flow_form.specs.RuleForm.{rule_shape_of, rule_shapes}
-use Rattle.flow_rules.specs.Rule as rules
+use Rattle.flow_workflow.specs.Rule as rules
 use Rattle.flow_expand.specs.Constraints.{constraints_of}
 use Rattle.flow_expand.proofs.ruling.+ruling.Given as goal
 

@@ -1,7 +1,7 @@
 use Rattle.std.proofs.Common.{codes, ◌++◌, ap, ◌∙◌, ℕ, Vec, Global}
 use Rattle.std.specs.String.{string_bytes}
 use Rattle.flow_findings.specs.Refusing.{dropped_line}
-use Rattle.flow_findings.proofs.Flat.{flat_more, flat_all}
+use Rattle.flow_record.proofs.Flat.{flat_more, flat_all}
 use Rattle.flow_findings.proofs.uncompiled.print_inconsistent.Goals as goal
 
 pub loop-option-preserved : goal.loop-option-preserved

@@ -1,6 +1,6 @@
 use Rattle.std.proofs.Common.{codes, ◌++◌, ap, ◌∙◌, append_assoc}
 use Rattle.flow_findings.specs.Refusing.{spaced}
-use Rattle.flow_findings.proofs.Flat.{flat_more, flat_all}
+use Rattle.flow_record.proofs.Flat.{flat_more, flat_all}
 use Rattle.flow_findings.proofs.unexpanded.print_recursive.Goals as goal
 
 pub loop-name-preserved : goal.loop-name-preserved

@@ -2,7 +2,7 @@ use Rattle.std.proofs.Common.{◌≡◌, ◌≤◌, length, Some, slice_get, ref
 use Rattle.std.proofs.lemmas.Option.{slice_get_read, slice_get_within}
 use Rattle.flow_plan.specs.Planned.{Planned}
 use Rattle.flow_plan.specs.Sampled.{Sampled}
-use Rattle.flow_sample.specs.Plans.{option_of}
+use Rattle.flow_plan.specs.Options.{option_of}
 use Rattle.flow_residual.specs.Options.{HasSmallLeaves}
 use Rattle.flow_residual.proofs.OptionLemmas.{small_leaves, small_by_places}
 use Rattle.flow_residual.proofs.track.fit_rows.Goals as goal

@@ -1,6 +1,6 @@
 use Rattle.std.proofs.Common.{◌≡◌, ◌<◌, ℕ, Some, slice_get}
 use Rattle.flow_plan.specs.Sampled.{Sampled}
-use Rattle.flow_sample.specs.Plans.{option_of}
+use Rattle.flow_plan.specs.Options.{option_of}
 use Rattle.flow_residual.specs.Options.{HasSmallLeaves}
 use Rattle.flow_residual.proofs.track.fit_rows.Given as goal
 

@@ -1,5 +1,5 @@
 use Rattle.std.proofs.Common.{true≢false, sym, ◌∙◌}
-use Rattle.flow_sample.specs.Plans.{option_of}
+use Rattle.flow_plan.specs.Options.{option_of}
 use Rattle.flow_residual.proofs.FrontLemmas.{front_longer, front_same}
 use Rattle.flow_residual.proofs.PossibleLemmas.{next_of_option}
 use Rattle.flow_residual.proofs.track.lengthened.Goals as goal

@@ -1,11 +1,12 @@
 use Rattle.std.proofs.Common.{not, ap, map, List, ◌∙◌}
 use Rattle.std.proofs.lemmas.List.{take_all}
 use Rattle.std.proofs.lemmas.Result.{IfOk-weaker}
-use Rattle.flow_rules.specs.declared.rule.Rule.{Rule}
+use Rattle.flow_workflow.specs.declared.rule.Rule.{Rule}
 use Rattle.flow_rules.specs.Normal.{all_form, normal_of, split_chain, split_form}
 use Rattle.flow_rules.specs.NormalForm.{chain_form, form_of, list_form, rule_form}
-use Rattle.flow_rules.specs.Rule.{rule_of}
-use Rattle.flow_rules.proofs.RuleViews.{form_and, form_must, form_never, form_not, form_or, form_order, made_more}
+use Rattle.flow_workflow.specs.Rule.{rule_of}
+use Rattle.flow_rules.proofs.RuleViews.{form_and, form_must, form_never, form_not, form_or, form_order}
+use Rattle.flow_workflow.proofs.RuleViews.{made_more}
 use Rattle.flow_rules.proofs.SplitForms.{split_and, split_must, split_never, split_not, split_or, split_order, split_rules}
 use Rattle.flow_rules.proofs.normalizing.+normalizing.Goals as goal
 

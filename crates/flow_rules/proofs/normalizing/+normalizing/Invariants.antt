@@ -1,6 +1,6 @@
 use Rattle.std.proofs.Common.{◌≡◌, take, map}
 use Rattle.flow_rules.specs.NormalForm.{form_of, rule_form}
-use Rattle.flow_rules.specs.Rule.{rule_of}
+use Rattle.flow_workflow.specs.Rule.{rule_of}
 use Rattle.flow_rules.specs.Normal.{normals_of, split_form}
 use Rattle.flow_rules.proofs.normalizing.+normalizing.Given as goal
 

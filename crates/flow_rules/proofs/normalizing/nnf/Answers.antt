@@ -1,7 +1,7 @@
 use Rattle.std.proofs.Common.{◌∙◌, true, ap}
 use Rattle.std.proofs.lemmas.Result.{IfOk-weaker}
 use Rattle.flow_model.specs.Ways.{ways}
-use Rattle.flow_rules.specs.Rule.{rule_of}
+use Rattle.flow_workflow.specs.Rule.{rule_of}
 use Rattle.flow_rules.proofs.SplitForms.{same_ways}
 use Rattle.flow_rules.proofs.normalizing.nnf.Goals as goal
 

@@ -1,4 +1,4 @@
-use Rattle.flow_sample.specs.Plans.{option_of}
+use Rattle.flow_plan.specs.Options.{option_of}
 use Rattle.flow_sample.proofs.LaidLemmas.{reason}
 use Rattle.flow_sample.proofs.excising.excise.Goals as goal
 

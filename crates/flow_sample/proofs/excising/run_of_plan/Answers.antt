@@ -2,7 +2,7 @@ use Rattle.std.proofs.Common.{◌<◌, ◌∙◌, List, sym, subst, inl, refl}
 use Rattle.flow_model.specs.Lists.{Each}
 use Rattle.flow_model.specs.Resolution.{OptionTrace}
 use Rattle.flow_plan.specs.declared.token.OrderToken.{OrderToken}
-use Rattle.flow_sample.specs.Plans.{option_of}
+use Rattle.flow_plan.specs.Options.{option_of}
 use Rattle.flow_plan.specs.Planned.{pairs_of}
 use Rattle.flow_sample.specs.Rows.{AreApart}
 use Rattle.flow_sample.proofs.ForwardLemmas.{forward_run}

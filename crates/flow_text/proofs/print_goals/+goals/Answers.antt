@@ -4,7 +4,7 @@ use Rattle.flow_form.proofs.form.Form.TheLaws.{the_size}
 use Rattle.flow_text.specs.Joins.{mark_of, parted}
 use Rattle.flow_text.specs.Printed.{bracketed, goal_text, list_text, more_text}
 use Rattle.flow_text.proofs.Pushed.{listed, listed_more, largest_behind, put_around}
-use Rattle.flow_text.proofs.Shapes.{shape_of-Iso}
+use Rattle.flow_form.proofs.Shapes.{shape_of-Iso}
 use Rattle.flow_text.proofs.print_goals.+goals.Goals as goal
 
 pub push_list-loop-member-preserved : goal.push_list-loop-member-preserved

@@ -5,7 +5,7 @@ use Rattle.flow_grammar.specs.Print.{in_all}
 use Rattle.flow_text.specs.Joins.{word_of, parted_rule}
 use Rattle.flow_text.specs.Printed.{bracketed, names_text, rule_text, rules_text, more_rules}
 use Rattle.flow_text.proofs.Pushed.{listed, listed_more, largest_behind, put_behind, put_around}
-use Rattle.flow_text.proofs.Shapes.{shape_of-Order, shape_of-Not}
+use Rattle.flow_form.proofs.Shapes.{shape_of-Order, shape_of-Not}
 use Rattle.flow_text.proofs.print_rules.+rules.Goals as goal
 
 pub push_list-loop-member-preserved : goal.push_list-loop-member-preserved

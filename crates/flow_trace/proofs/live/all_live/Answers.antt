@@ -1,5 +1,5 @@
 use Rattle.std.proofs.Common.{[], true, refl, sym, subst}
-use Rattle.flow_excise.specs.Compilation.{options_of}
+use Rattle.flow_plan.specs.Options.{options_of}
 use Rattle.flow_residual.proofs.OptionLemmas.{each_alike, length-options}
 use Rattle.flow_trace.specs.Live.{IsLive, AreLive}
 use Rattle.flow_trace.proofs.live.all_live.Goals as goal

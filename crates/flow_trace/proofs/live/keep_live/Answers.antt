@@ -1,6 +1,5 @@
 use Rattle.std.proofs.Common.{◌<◌, ◌≤◌, [], ◌∷◌, ◌++◌, false, length, get_or, arith}
-use Rattle.flow_excise.specs.Compilation.{options_of}
-use Rattle.flow_sample.specs.Plans.{option_of}
+use Rattle.flow_plan.specs.Options.{options_of, option_of}
 use Rattle.flow_residual.proofs.OptionLemmas.{fits_at, turned_none, turned_by, turned_all}
 use Rattle.flow_residual.proofs.PossibleLemmas.{next_of_option}
 use Rattle.flow_trace.specs.Live.{IsLive}

@@ -1,5 +1,5 @@
 use Rattle.std.proofs.Common.{ℕ, List, [], ◌∷◌, ◌++◌}
-use Rattle.flow_excise.specs.Compilation.{options_of}
+use Rattle.flow_plan.specs.Options.{options_of}
 use Rattle.flow_residual.proofs.OptionLemmas.{AreTurned}
 use Rattle.flow_residual.proofs.DoneLemmas.{AreDone}
 use Rattle.flow_trace.specs.Live.{IsLive, AreLive}

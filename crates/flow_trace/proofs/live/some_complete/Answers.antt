@@ -1,5 +1,5 @@
 use Rattle.std.proofs.Common.{◌<◌, ◌≤◌, length, arith}
-use Rattle.flow_excise.specs.Compilation.{options_of}
+use Rattle.flow_plan.specs.Options.{options_of}
 use Rattle.flow_residual.proofs.OptionLemmas.{fits_at, some_found, none_found, none_more}
 use Rattle.flow_trace.specs.Live.{Finishes}
 use Rattle.flow_trace.proofs.LiveLemmas.{finishes_at}

@@ -1,7 +1,7 @@
 use Rattle.std.proofs.Common.{ℕ, List, ◌↔◌}
 use Rattle.flow_model.specs.Lists.{◌∈◌}
 use Rattle.flow_plan.specs.Progress.{IsDone}
-use Rattle.flow_excise.specs.Compilation.{options_of}
+use Rattle.flow_plan.specs.Options.{options_of}
 use Rattle.flow_residual.specs.Options.{NoneBelow}
 use Rattle.flow_trace.specs.Live.{Finishes, AreLive}
 use Rattle.flow_trace.proofs.live.some_complete.Given as goal

@@ -1,5 +1,5 @@
 use Rattle.std.proofs.Common.{◌≤◌, false, get_or, length, arith}
-use Rattle.flow_excise.specs.Compilation.{options_of}
+use Rattle.flow_plan.specs.Options.{options_of}
 use Rattle.flow_residual.proofs.OptionLemmas.{some_found, none_found, none_more}
 use Rattle.flow_trace.specs.Live.{Follows}
 use Rattle.flow_trace.proofs.LiveLemmas.{live_at}

@@ -1,5 +1,5 @@
 use Rattle.std.proofs.Common.{ℕ, List}
-use Rattle.flow_excise.specs.Compilation.{options_of}
+use Rattle.flow_plan.specs.Options.{options_of}
 use Rattle.flow_residual.specs.Options.{NoneBelow}
 use Rattle.flow_trace.specs.Live.{Follows, AreLive}
 use Rattle.flow_trace.proofs.live.some_live.Given as goal

@@ -2,9 +2,7 @@ use Rattle.std.proofs.Common.{List, sym, subst}
 use Rattle.flow_model.specs.Resolution.{options}
 use Rattle.flow_workflow.specs.Definition.{schema_of}
 use Rattle.flow_plan.specs.Sampled.{Sampled}
-use Rattle.flow_sample.specs.Excised.{HasExecution}
-use Rattle.flow_excise.specs.Executions.{AreJustThose}
-use Rattle.flow_excise.specs.Compilation.{options_of}
+use Rattle.flow_plan.specs.Options.{HasExecution, AreJustThose, options_of}
 use Rattle.flow_trace.proofs.TraceLemmas.{tells_once}
 use Rattle.flow_trace.proofs.trace.check_trace.Goals as goal
 

@@ -1,7 +1,7 @@
 use Rattle.std.proofs.Common.{◌≡◌, true≢false, ◌+◌, ℕ, List, length, take, get_or, sym, refl, ◌∙◌, subst, arith}
 use Rattle.std.proofs.lemmas.List.{length-take-le}
 use Rattle.flow_workflow.specs.Definition.{schema_of}
-use Rattle.flow_excise.specs.Compilation.{options_of}
+use Rattle.flow_plan.specs.Options.{options_of}
 use Rattle.flow_residual.proofs.DoneLemmas.{done_more}
 use Rattle.flow_trace.specs.Live.{AreLive}
 use Rattle.flow_trace.proofs.TraceLemmas.{begun_within, with_next, more_is, place_less, leaf_within, bad_order, begun_more, bad_state, good_state, holds_in, course_room, course_more}

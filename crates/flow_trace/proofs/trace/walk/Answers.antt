@@ -1,6 +1,6 @@
 use Rattle.std.proofs.Common.{◌≤◌, length, arith, true≢false, sym, ◌∙◌}
 use Rattle.flow_workflow.specs.Definition.{schema_of}
-use Rattle.flow_excise.specs.Compilation.{options_of}
+use Rattle.flow_plan.specs.Options.{options_of}
 use Rattle.flow_trace.proofs.TraceLemmas.{possible_none, place_few, told_execution, told_prefix}
 use Rattle.flow_trace.proofs.trace.walk.Goals as goal
 

@@ -1,5 +1,5 @@
 use Rattle.std.proofs.Common.{take}
-use Rattle.flow_excise.specs.Compilation.{options_of}
+use Rattle.flow_plan.specs.Options.{options_of}
 use Rattle.flow_trace.specs.Traces.{HasReached}
 use Rattle.flow_trace.proofs.trace.walk.Given as goal
 

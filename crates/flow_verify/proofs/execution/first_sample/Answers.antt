@@ -2,7 +2,7 @@ use Rattle.std.proofs.Common.{◌≡◌, List, get_or, ◌∙◌, sym, subst}
 use Rattle.std.proofs.lemmas.Result.{IfOk-weaker}
 use Rattle.flow_model.specs.Resolution.{OptionTrace}
 use Rattle.flow_plan.specs.Sampled.{Sampled}
-use Rattle.flow_sample.specs.Plans.{option_of}
+use Rattle.flow_plan.specs.Options.{option_of}
 use Rattle.flow_verify.proofs.Executions.{first_option}
 use Rattle.flow_verify.proofs.execution.first_sample.Goals as goal
 

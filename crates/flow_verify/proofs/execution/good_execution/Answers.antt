@@ -1,6 +1,6 @@
 use Rattle.std.proofs.Common.{subst}
 use Rattle.flow_model.specs.Process.{IsNumbered}
-use Rattle.flow_rules.specs.Rule.{rules_of}
+use Rattle.flow_workflow.specs.Rule.{rules_of}
 use Rattle.flow_excise.specs.Options.{schema_of}
 use Rattle.flow_verify.proofs.Executions.{plan_trace_is_good}
 use Rattle.flow_verify.proofs.execution.good_execution.Goals as goal

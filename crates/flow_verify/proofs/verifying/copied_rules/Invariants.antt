@@ -1,5 +1,5 @@
 use Rattle.std.proofs.Common.{◌≡◌, take}
-use Rattle.flow_rules.specs.Rule.{rules_of}
+use Rattle.flow_workflow.specs.Rule.{rules_of}
 use Rattle.flow_verify.proofs.verifying.copied_rules.Given as goal
 
 abbrev pub invariant-loop-rule : goal.invariant-loop-rule

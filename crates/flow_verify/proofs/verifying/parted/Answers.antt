@@ -1,7 +1,7 @@
 use Rattle.std.proofs.Common.{rules, ◌<◌, List, length, remove, ap, ◌∙◌, arith}
 use Rattle.std.proofs.lemmas.List.{length-map}
 use Rattle.flow_model.specs.Constraint.{Constraint}
-use Rattle.flow_rules.specs.Rule.{rule_of, rules_of}
+use Rattle.flow_workflow.specs.Rule.{rule_of, rules_of}
 use Rattle.flow_verify.proofs.Removals.{map-remove, rule_at}
 use Rattle.flow_verify.proofs.Trials.{never_missing}
 use Rattle.flow_verify.proofs.verifying.parted.Goals as goal

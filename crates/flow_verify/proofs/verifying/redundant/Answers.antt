@@ -2,7 +2,7 @@ use Rattle.std.proofs.Common.{rules, length, ◌<◌, ◌≡◌}
 use Rattle.std.specs.Prelude.{Ok}
 use Rattle.std.proofs.lemmas.Result.{IfErr-weaker}
 use Rattle.std.specs.List.{remove}
-use Rattle.flow_rules.specs.Rule.{rule_of, rules_of}
+use Rattle.flow_workflow.specs.Rule.{rule_of, rules_of}
 use Rattle.flow_workflow.specs.Definition.{schema_of}
 use Rattle.flow_excise.specs.Options as options
 use Rattle.flow_verify.specs.declared.answers.Redundancy.TheVariants.{Redundant, Needed}

@@ -1,4 +1,4 @@
-use Rattle.flow_rules.specs.Rule.{rule_of, rules_of}
+use Rattle.flow_workflow.specs.Rule.{rule_of, rules_of}
 use Rattle.flow_workflow.specs.Definition.{schema_of}
 use Rattle.flow_verify.proofs.Trials.{same_trial, outcome_of_trial}
 use Rattle.flow_verify.proofs.verifying.verify.Goals as goal

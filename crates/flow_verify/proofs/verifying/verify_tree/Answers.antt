@@ -1,5 +1,5 @@
 use Rattle.std.proofs.Common.{rules, ◌∙◌}
-use Rattle.flow_rules.specs.Rule.{rule_of}
+use Rattle.flow_workflow.specs.Rule.{rule_of}
 use Rattle.flow_verify.proofs.Negations.{negated_last, tells_fails, tells_holds, within_with, refused_with}
 use Rattle.flow_verify.proofs.verifying.verify_tree.Goals as goal
 

@@ -1,7 +1,6 @@
 use Rattle.std.proofs.Common.{◌≡◌, take}
 use Rattle.flow_model.specs.Lists.{numbers_from}
-use Rattle.flow_plan.specs.Planned.{pairs_of}
-use Rattle.flow_weave.specs.Woven.{token_numbers}
+use Rattle.flow_plan.specs.Planned.{pairs_of, token_numbers}
 use Rattle.flow_weave.proofs.weaving.tokens_of.Given as goal
 
 abbrev pub invariant-loop-number : goal.invariant-loop-number

@@ -1,7 +1,7 @@
-use Rattle.flow_rules.specs.Rule.{rules_of}
+use Rattle.flow_workflow.specs.Rule.{rules_of}
 use Rattle.flow_excise.specs.Options as options
-use Rattle.flow_excise.specs.Compilation.{IsCompiled}
-use Rattle.flow_core.proofs.Compiled.{compiled, of_parts}
+use Rattle.flow_plan.specs.Compilation.{IsCompiled}
+use Rattle.flow_excise.proofs.Workflows.{compiled, of_parts}
 use Rattle.flow_calls.proofs.tests.runs.start.Goals as goal
 
 pub start-requires-clause-compiled : goal.start-requires-clause-compiled

@@ -1,30 +1,21 @@
-use Rattle.std.proofs.Common.{◌≡◌, ◌∙◌, ℕ, refl, sym, subst, inl, inr}
-use Rattle.flow_model.specs.declared.history.FailEffect.TheVariants.{Kept}
+use Rattle.std.proofs.Common.{◌∙◌, ℕ, refl, sym, subst, inl, inr}
 use Rattle.flow_model.specs.declared.history.Step.{Step}
-use Rattle.flow_model.specs.declared.history.Step.TheVariants.{Failed}
 use Rattle.flow_model.specs.Verdict.{EndsKept}
 use Rattle.flow_core.specs.declared.next.Next.{Next}
 use Rattle.flow_core.specs.declared.next.Next.TheVariants as next
 use Rattle.flow_core.specs.Looks.{IsNext}
 use Rattle.flow_core.specs.Run.{Run, schema}
-use Rattle.flow_crew.specs.Moves.{Advances, IsNextStep}
+use Rattle.flow_crew.specs.Moves.{Advances}
 use Rattle.flow_crew.proofs.Endings.{ends, ends_not, has_steps}
 use Rattle.flow_crew.proofs.Histories.{not_last_kept}
+use Rattle.flow_crew.proofs.Working.{not_failed}
 use Rattle.flow_crew.proofs.tracked.Tracked.begin.Goals as goal
 use Rattle.flow_crew.proofs.tracked.Tracked.begin.Goals.{then-is_some-2, else-is_some-2}
-
-next_not_failed : (r : Run) (n : Next) (step : Step) → IsNextStep r n step → (claim : ℕ) → ¬ (step ≡ Failed claim Kept)
-next_not_failed r (next.Act leaf) step (inl took) claim failed = cc
-next_not_failed r (next.Act leaf) step (inr did) claim failed = cc
-next_not_failed r (next.Wait c) step none claim failed = none
-next_not_failed r next.Finished step is claim failed = cc
-next_not_failed r (next.Stuck leaf) step (index, opened, is) claim failed = cc
-next_not_failed r next.Ended step none claim failed = none
 
 -- no step by which a run goes on leaves it with a kept failure
 advanced_not_kept : (r : Run) (by : ℕ) (step : Step) (after : Run) → Advances r by step after → (leaf : ℕ) → ¬ EndsKept (schema after) after.history leaf
 advanced_not_kept r by step after (n, known, may, is) leaf kept =
-    not_last_kept (schema r) r.history (record { by = by; step = step }) (next_not_failed r n step may) leaf (subst (λ (a : Run). EndsKept (schema a) a.history leaf) is kept)
+    not_last_kept (schema r) r.history (record { by = by; step = step }) (not_failed r n step may) leaf (subst (λ (a : Run). EndsKept (schema a) a.history leaf) is kept)
 
 pub returns-then-is_some : goal.returns-then-is_some
 returns-then-is_some c = record {

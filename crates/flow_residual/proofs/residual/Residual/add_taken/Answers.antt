@@ -3,7 +3,7 @@ use Rattle.leaf_rows.specs.Leaves.{has_leaf}
 use Rattle.flow_plan.specs.Rows.{IsRowOf}
 use Rattle.flow_plan.specs.Progress.{IsDone}
 use Rattle.flow_plan.specs.Orders.{MayComeNext}
-use Rattle.flow_sample.specs.Plans.{option_of}
+use Rattle.flow_plan.specs.Options.{option_of}
 use Rattle.flow_residual.proofs.PossibleLemmas.{all_come_next, follows_first, next_of_option, in_words, adds_live, adds_none}
 use Rattle.flow_residual.proofs.residual.Residual.add_taken.Goals as goal
 

@@ -1,6 +1,6 @@
 use Rattle.std.proofs.Common.{◌≡◌, true≢false, sym, subst, ◌∙◌, IsTrue, ◌↔◌}
 use Rattle.flow_model.specs.Resolution.{ChoiceOption}
-use Rattle.flow_sample.specs.Plans.{option_of}
+use Rattle.flow_plan.specs.Options.{option_of}
 use Rattle.flow_residual.specs.Possible.{IsFinished}
 use Rattle.flow_residual.proofs.residual.Residual.is_finished.Goals as goal
 

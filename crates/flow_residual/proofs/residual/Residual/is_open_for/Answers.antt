@@ -3,7 +3,7 @@ use Rattle.std.proofs.lemmas.Option.{slice_get_within, get_or_from_slice_get}
 use Rattle.flow_model.specs.Lists.{◌∈◌}
 use Rattle.flow_model.specs.Process.{leaves}
 use Rattle.flow_model.specs.Resolution.{ChoiceOption}
-use Rattle.flow_sample.specs.Plans.{option_of}
+use Rattle.flow_plan.specs.Options.{option_of}
 use Rattle.flow_residual.proofs.FrontLemmas.{begun_within}
 use Rattle.flow_residual.proofs.residual.Residual.is_open_for.Goals as goal
 

@@ -2,7 +2,7 @@ use Rattle.std.proofs.Common.{◌≡◌, ◌↔◌, IsTrue, ◌∙◌, sym, subs
 use Rattle.flow_model.specs.Lists.{◌∈◌}
 use Rattle.flow_model.specs.Process.{leaves}
 use Rattle.flow_model.specs.Resolution.{ChoiceOption}
-use Rattle.flow_sample.specs.Plans.{option_of}
+use Rattle.flow_plan.specs.Options.{option_of}
 use Rattle.flow_residual.proofs.PossibleLemmas.{lacks_live}
 use Rattle.flow_residual.proofs.residual.Residual.leaves_out.Goals as goal
 

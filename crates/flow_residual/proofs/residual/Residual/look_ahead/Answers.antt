@@ -3,7 +3,7 @@ use Rattle.std.specs.Vec.{with_items}
 use Rattle.std.proofs.lemmas.List.{with_items_is}
 use Rattle.flow_model.specs.Resolution.{ChoiceOption}
 use Rattle.flow_plan.specs.Sampled.{Sampled}
-use Rattle.flow_excise.specs.Compilation.{options_of}
+use Rattle.flow_plan.specs.Options.{options_of}
 use Rattle.flow_residual.specs.declared.track.Track.{Track}
 use Rattle.flow_residual.specs.Options.{EachHas}
 use Rattle.flow_residual.specs.Tracks.{IsFront, IsNextRow}

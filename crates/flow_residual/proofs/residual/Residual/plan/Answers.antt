@@ -2,8 +2,7 @@ use Rattle.std.proofs.Common.{◌<◌, length, sym, subst}
 use Rattle.flow_plan.specs.Planned.{Planned}
 use Rattle.flow_model.proofs.Lists.{mem-slice_get}
 use Rattle.flow_laws.proofs.Members.{each_member}
-use Rattle.flow_excise.specs.Compilation.{options_of}
-use Rattle.flow_sample.specs.Plans.{option_of}
+use Rattle.flow_plan.specs.Options.{options_of, option_of}
 use Rattle.flow_residual.specs.Options.{HasSmallLeaves}
 use Rattle.flow_residual.specs.Remaining.{Remaining}
 use Rattle.flow_residual.proofs.OptionLemmas.{plan_at, length-options}

@@ -2,7 +2,7 @@ use Rattle.std.proofs.Common.{◌∙◌, true, sym, ap}
 use Rattle.flow_model.specs.Constraint.{all_of}
 use Rattle.flow_model.specs.Ways.{ways}
 use Rattle.flow_rules.specs.Normal.{all_normals}
-use Rattle.flow_rules.specs.Rule.{rules_of}
+use Rattle.flow_workflow.specs.Rule.{rules_of}
 use Rattle.flow_rules.proofs.SplitForms.{same_ways, split_all}
 use Rattle.flow_rules.proofs.conjunction.Conjunction.new.Goals as goal
 

@@ -1,0 +1,21 @@
+//! Doubles for tests of what the program stands on: sources and sinks in memory, cut in pieces or with faults on
+//! purpose, and gates whose tasks end by a table, or only where two of them meet.
+#![tactic(auto)]
+
+mod copying;
+mod cut_source;
+mod faulty_sink;
+mod faulty_source;
+mod listing;
+mod meet;
+mod mem_sink;
+mod mem_source;
+mod table;
+
+pub use cut_source::CutSource;
+pub use faulty_sink::FaultySink;
+pub use faulty_source::FaultySource;
+pub use meet::MeetGate;
+pub use mem_sink::MemSink;
+pub use mem_source::MemSource;
+pub use table::TableGate;

@@ -1,0 +1,45 @@
+-- What a workflow is compiled to: the plans of its options that have an execution.
+use Rattle.std.specs.Prelude.{◌≡◌, ◌≢◌, ◌≤◌, List, [], length, All}
+use Rattle.std.proofs.Common.{refl}
+use Rattle.std.specs.Coded.{Coded, code_by, coded×, coded_list}
+use Rattle.flow_model.specs.declared.limits.TheConstants.{GREATEST_BULK, MOST_OPTIONS, MOST_RESOLUTIONS}
+use Rattle.flow_model.specs.Schema.{Schema}
+use Rattle.flow_model.specs.Resolution.{options, resolution_count, bulk}
+use Rattle.flow_laws.specs.WellFormed.{IsConsistent}
+use Rattle.flow_plan.specs.declared.counts.Counts.{Counts}
+use Rattle.flow_plan.specs.contracts.counts.Counts as counts
+use Rattle.flow_plan.specs.Planned.{AreNumbered}
+use Rattle.flow_plan.specs.Sampled.{Sampled, sampled_code}
+use Rattle.flow_plan.specs.Options.{options_of, HasExecution, AreJustThose}
+
+pub record Compilation : Type 0 where
+  pub plans : List Sampled
+  pub counts : Counts
+
+abbrev pub compilation_code : Coded Compilation
+compilation_code = code_by (List Sampled × Counts) (coded× (coded_list sampled_code) counts.the_row.coded)
+    (λ c. (c.plans, c.counts)) (λ t. record { plans = t.0; counts = t.1 }) (λ _. refl)
+
+abbrev pub compilation : List Sampled → Counts → Compilation
+compilation plans counts = record { plans = plans; counts = counts }
+
+-- there is a plan, they are counted, and the token with number k of each is the one at place k
+pub record IsLive (c : Compilation) : Type 0 where
+  pub some : c.plans ≢ []
+  pub live : c.counts.live ≡ length c.plans
+  pub numbered : All (λ (s : Sampled). AreNumbered s.plan.tokens) c.plans
+
+-- resolutions, options and bulk are within the limits
+pub record IsWithinLimits (w : Schema) : Type 0 where
+  pub resolutions : resolution_count w.goal ≤ MOST_RESOLUTIONS
+  pub options_few : length (options w) ≤ MOST_OPTIONS
+  pub light : bulk w ≤ GREATEST_BULK
+
+-- the plans of the options that have an execution, and how large the workflow is
+pub record IsCompiled (w : Schema) (c : Compilation) : Type 0 where
+  pub within : IsWithinLimits w
+  pub consistent : IsConsistent w
+  pub plans : AreJustThose HasExecution (options w) (options_of c.plans)
+  pub resolutions : c.counts.resolutions ≡ resolution_count w.goal
+  pub options_counted : c.counts.options ≡ length (options w)
+  pub bulk_counted : c.counts.bulk ≡ bulk w
