@@ -31,9 +31,10 @@ def check(prove, name, room):
     """Checks the crate by one process, and leaves what is kept in the room."""
     crate = prove.rt.Crate(f"{TOP}/crates/{name}", TOP, {})
     words = [*crate.words(["--jobs", "1"], keeps=False), "--incremental", room]
-    ran = subprocess.run([prove.rtlib.RATTLE, "check", *words], cwd=crate.folder, capture_output=True, text=True)
-    verdict = [it for it in ran.stdout.splitlines() if it.startswith("logic=")]
-    print(*verdict or [ran.stdout[-2000:], ran.stderr[-2000:]], sep="\n")
+    how = {"stdout": subprocess.PIPE, "stderr": subprocess.STDOUT, "text": True}
+    said = subprocess.run([prove.rtlib.RATTLE, "check", *words], cwd=crate.folder, **how).stdout
+    verdict = [it for it in said.splitlines() if it.startswith("logic=")]
+    print(*verdict or [said[-4000:]], sep="\n")
 
 
 def name_of(file):
