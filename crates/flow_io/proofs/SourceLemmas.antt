@@ -1,22 +1,9 @@
 -- What one read, and one read after others, do to the bytes that a source has left.
-use Rattle.std.proofs.Common.{◌≡◌, ℕ, ◌+◌, ◌<◌, ◌≤◌, ◌↔◌, List, [], ◌++◌, length, take, drop, min, Option, None, Some, IfSome, Result, Ok, Err, IfOk, sym, ap, subst, ◌∙◌, arith, append-nil, length-append, length-drop}
-use Rattle.std.proofs.lemmas.List.{take-append-drop, take-append-le, drop-append-le, drop-drop, drop_all, drop_at, take_at, length-take, length-take-le}
+use Rattle.std.proofs.Common.{◌≡◌, ℕ, ◌+◌, ◌<◌, ◌≤◌, ◌↔◌, List, [], ◌++◌, length, take, drop, Option, None, Some, IfSome, sym, ap, subst, ◌∙◌, arith, append-nil, length-append, length-drop}
+use Rattle.std.proofs.lemmas.List.{take-append-le, drop_at, take_at, length-take-le}
 use Rattle.std.specs.Io.KnownBytes.{Consumes, IsAtEnd}
 use Rattle.std.proofs.KnownBytes.{Consumes-trans}
 use Rattle.flow_io.specs.Source.{GivesNext, LosesCount, LosesAtMost, IsAllOf}
-
--- a source over memory gives the next `count` bytes of those left, from a place `at` in all the bytes
-pub gives_from : (bytes left buffer buffer' : List ℕ) (at count : ℕ)
-    → drop at bytes ≡ left → count ≡ min (length left) (length buffer) → length buffer' ≡ length buffer
-    → take count buffer' ≡ take count left → drop count buffer' ≡ drop count buffer
-    → GivesNext (Some left) (Some (drop (at + count) bytes)) buffer buffer' count
-gives_from bytes left buffer buffer' at count here is_least same_length same rest =
-    let gone : drop (at + count) bytes ≡ drop count left = sym (drop-drop count at bytes) ∙ ap (drop count) here in record {
-      fits = omega arith;
-      next = rw (gone, same) (sym (take-append-drop count left));
-      rest = rest;
-      end = λ zero_count has_room. gone ∙ drop_all count left (omega arith);
-    }
 
 -- the bytes that are gone, by their number
 pub loses_length : (left left' : Option (List ℕ)) (read : List ℕ) (n : ℕ)
@@ -60,31 +47,7 @@ all_read (Some bytes) (Some rest) None read buffer n before after none end = abs
 all_read (Some bytes) (Some rest) (Some rest') read buffer n before after none end =
     let gone : rest ≡ [] = after ∙ (λ i. take (none i) buffer ++ end i) in (sym (before ∙ ap (λ r. read ++ r) gone ∙ append-nil read), ap Some end)
 
--- a read into the front of a buffer is a read into the buffer
-pub gives_into : (left left' : Option (List ℕ)) (buffer part : List ℕ) (room n : ℕ)
-    → length part ≡ length (take room buffer) → (0 < length buffer → 0 < room)
-    → GivesNext left left' (take room buffer) part n
-    → GivesNext left left' buffer (part ++ drop room buffer) n
-gives_into left left' buffer part room n same_length has_room given = record {
-  fits = omega (arith, given.fits, length-append part (drop room buffer));
-  next = rw (take-append-le n part (drop room buffer) given.fits) given.next;
-  rest = drop-append-le n part (drop room buffer) given.fits
-      ∙ ap (λ d. d ++ drop room buffer) given.rest
-      ∙ sym (drop-append-le n (take room buffer) (drop room buffer) (omega (arith, given.fits)))
-      ∙ ap (drop n) (take-append-drop room buffer);
-  end = λ none not_empty. given.end none (omega (arith, has_room not_empty, length-take room buffer));
-}
-
--- the same of the read's result
-pub gives_into_ok : {E : Type 0} (result : Result ℕ E) (left left' : Option (List ℕ)) (buffer part : List ℕ) (room : ℕ)
-    → length part ≡ length (take room buffer) → (0 < length buffer → 0 < room)
-    → IfOk result (GivesNext left left' (take room buffer) part)
-    → IfOk result (GivesNext left left' buffer (part ++ drop room buffer))
-gives_into_ok (Ok n) left left' buffer part room same_length has_room given =
-    gives_into left left' buffer part room n same_length has_room given
-gives_into_ok (Err e) left left' buffer part room same_length has_room given = tt
-
--- the same of bytes that were read into a piece and copied from its front
+-- bytes that were read into a piece and copied from its front are read into the buffer
 pub gives_copied : (left left' : Option (List ℕ)) (buffer part rest copied : List ℕ) (n : ℕ)
     → n ≤ length part → copied ≡ take n (part ++ rest) → Consumes left left' (take n part)
     → (n ≡ 0 → 0 < length buffer → IsAtEnd left')

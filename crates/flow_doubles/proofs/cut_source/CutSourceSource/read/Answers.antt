@@ -1,5 +1,5 @@
 use Rattle.std.proofs.Common.{◌≡◌, ap, arith}
-use Rattle.flow_io.proofs.SourceLemmas.{gives_into_ok}
+use Rattle.flow_doubles.proofs.SourceReads.{gives_into_ok}
 use Rattle.flow_doubles.proofs.cut_source.CutSourceSource.read.Goals as goal
 
 pub returns-clause-given : goal.returns-clause-given

@@ -1,6 +1,6 @@
 use Rattle.std.proofs.Common.{◌≡◌, ◌-◌, length, take, drop, rules, ap, ◌∙◌}
 use Rattle.std.proofs.lemmas.List.{take_rest}
-use Rattle.flow_io.proofs.SourceLemmas.{gives_from}
+use Rattle.flow_doubles.proofs.SourceReads.{gives_from}
 use Rattle.flow_doubles.proofs.mem_source.MemSourceSource.read.Goals as goal
 
 pub returns-clause-given : goal.returns-clause-given
