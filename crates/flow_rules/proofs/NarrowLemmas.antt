@@ -20,7 +20,7 @@ use Rattle.flow_rules.specs.declared.connective.Connective.TheVariants.{And}
 use Rattle.flow_rules.specs.Standing.{Stands, has_lane, lanes_where}
 use Rattle.flow_rules.specs.WayLists.{both_ways, decided, decider, joined_by, ways_of_parts}
 use Rattle.flow_rules.proofs.StandingLemmas.{lane_and, lane_none, lane_not, lane_or}
-use Rattle.flow_rules.proofs.WayListLemmas.{decided_is, joined_idle, none_is, parts_more}
+use Rattle.flow_rules.proofs.WayListLemmas.{decided_is, fold_more, joined_idle, none_is, parts_more}
 
 -- a word that covers the lanes of another
 
@@ -144,3 +144,17 @@ ways_of_left unmet lanes left rules is_unmet these lane leaf within shows = at (
     at : (b : Bool) → has_lane unmet lane ≡ b → (if b then [] else open_ways lane leaf left) ≡ ways_of_parts And leaf rules
     at true e = sym (none_is (ways_of_parts And leaf rules) (sym (is_unmet lane leaf within shows) ∙ e))
     at false e = these lane leaf within shows e
+
+-- the ways of one rule more, where it is open in the lane and where it is not
+module _ (lane : ℕ) (leaf : ℕ → Option ℕ) (rules : List LaneRule) (i : ℕ) (rule : LaneRule) (inside : i < length rules) (is : rule ≡ get_or rules i rule) where
+  abbrev before : List (List (ℕ × ℕ))
+  before = open_ways lane leaf (take i rules)
+
+  with_one : (b : Bool) → has_lane rule.lanes lane ≡ b → open_ways lane leaf (take (i + 1) rules) ≡ (if b then both_ways before (ways (normal_of rule.rule) leaf) else before)
+  with_one b e = fold_more (with_open lane leaf) free_way rules i rule inside is ∙ ap (λ c. if c then both_ways before (ways (normal_of rule.rule) leaf) else before) e
+
+  pub open_more : has_lane rule.lanes lane ≡ true → open_ways lane leaf (take (i + 1) rules) ≡ both_ways before (ways (normal_of rule.rule) leaf)
+  open_more e = with_one true e
+
+  pub closed_more : has_lane rule.lanes lane ≡ false → open_ways lane leaf (take (i + 1) rules) ≡ before
+  closed_more e = with_one false e

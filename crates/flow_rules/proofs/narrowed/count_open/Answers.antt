@@ -1,31 +1,26 @@
-use Rattle.std.proofs.Common.{if◌then◌else◌, take, sym, ap, ◌∙◌}
-use Rattle.flow_model.specs.Ways.{free_way, ways}
+use Rattle.std.proofs.Common.{take, sym, ap, ◌∙◌}
+use Rattle.flow_model.specs.Ways.{ways}
 use Rattle.flow_rules.specs.Counts.{count_of, counts_of_both}
 use Rattle.flow_rules.specs.EventLeaves.{leaf_in}
-use Rattle.flow_rules.specs.Narrowed.{open_ways, with_open}
+use Rattle.flow_rules.specs.Narrowed.{open_ways}
 use Rattle.flow_rules.specs.Normal.{normal_of}
-use Rattle.flow_rules.specs.WayLists.{both_ways}
 use Rattle.flow_rules.proofs.CountLemmas.{count_both}
-use Rattle.flow_rules.proofs.WayListLemmas.{fold_more}
+use Rattle.flow_rules.proofs.NarrowLemmas.{open_more, closed_more}
 use Rattle.flow_rules.proofs.narrowed.count_open.Goals as goal
 use Rattle.flow_rules.proofs.narrowed.count_open.Goals.{then-has_lane, else-has_lane}
 
 pub loop-rule-preserved : goal.loop-rule-preserved
 loop-rule-preserved c =
     let leaf = leaf_in c.args.events.now in
-    let lane = c.args.lane in
     let rules = c.args.rules.now in
     let i = c.loop-rule.rule-index in
     let rule = c.rule-item.result in
-    let so_far = open_ways lane leaf (take i rules) in
-    let these = ways (normal_of rule.rule) leaf in
-    let more = fold_more (with_open lane leaf) free_way rules i rule c.loop-rule-test.true c.rule-item.is in
     elim c.if-has_lane.branch [
       | then-has_lane w ↦
           w.count-is ∙ w.both-count.ensures ∙ (λ k. counts_of_both (c.loop-rule.invariant k) (w.count_ways.ensures k))
-          ∙ sym (count_both so_far these)
-          ∙ ap count_of (sym (more ∙ ap (λ b. if b then both_ways so_far these else so_far) (sym c.has_lane.ensures ∙ w.if-has_lane.true)))
+          ∙ sym (count_both (open_ways c.args.lane leaf (take i rules)) (ways (normal_of rule.rule) leaf))
+          ∙ ap count_of (sym (open_more c.args.lane leaf rules i rule c.loop-rule-test.true c.rule-item.is (sym c.has_lane.ensures ∙ w.if-has_lane.true)))
       | else-has_lane w ↦
           w.count-is ∙ c.loop-rule.invariant
-          ∙ ap count_of (sym (more ∙ ap (λ b. if b then both_ways so_far these else so_far) (sym c.has_lane.ensures ∙ w.if-has_lane.false)))
+          ∙ ap count_of (sym (closed_more c.args.lane leaf rules i rule c.loop-rule-test.true c.rule-item.is (sym c.has_lane.ensures ∙ w.if-has_lane.false)))
     ]
