@@ -5,7 +5,7 @@ use Rattle.flow_model.specs.declared.labels.Note.TheVariants.{Done, Fail}
 use Rattle.flow_facts.specs.Atom.{atom}
 use Rattle.std.specs.Prelude.{None}
 use Rattle.flow_form.specs.Form.{Shape}
-use Rattle.flow_form.specs.RuleForm.{RuleShape, order}
+use Rattle.flow_form.specs.RuleForm.{RuleShape}
 use Rattle.flow_form.specs.Script.{Declared, fact, event}
 use Rattle.flow_grammar.specs.Grammar.{Prefix, prefixed}
 use Rattle.flow_grammar.specs.Machine as machine
@@ -135,8 +135,3 @@ pub atom_ended : (p : Prefix) (relation : List ℕ) (fs : List machine.Frame) (l
     new ≡ machine.push l (prefixed p (atom relation [])) → machine.join_atom fs new (meant s) ≡ machine.open_args p relation fs l (meant s)
 atom_ended p relation fs l new code.Opening other said = absurd (other refl)
 atom_ended p relation fs l new s other said = ap (λ so_far. machine.join_atom fs so_far (meant s)) said
-
-pub order_ended : (ns : List (List ℕ)) (fs : List machine.RuleFrame) (l new : machine.RuleLevel) (k : ℕ) (s : Symbol) → ((name : Bor (List ℕ)) → s ≡ code.Name name → ⊥) →
-    new ≡ machine.push_rule l (machine.negate k (order ns)) → machine.join_unit fs new (meant s) ≡ machine.more_names ns fs l k (meant s)
-order_ended ns fs l new k (code.Name name) other said = absurd (other name refl)
-order_ended ns fs l new k s other said = ap (λ so_far. machine.join_unit fs so_far (meant s)) said

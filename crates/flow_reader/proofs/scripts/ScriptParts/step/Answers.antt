@@ -33,5 +33,5 @@ pub returns-in_ok-step-in-InConstraint : goal.returns-in_ok-step-in-InConstraint
 returns-in_ok-step-in-InConstraint c =
     rw c.in-InConstraint.is
     (subst (λ read. IfOk c.after_constraint.result (λ step. option_map (script_state c.after_constraint.new.self) step ≡
-      machine.after_rule_step (declared_so_far c.args.self.now) (said c.args.self.now.script).goal (said c.args.self.now.script).rules read))
+    machine.after_rule_step (declared_so_far c.args.self.now) (said c.args.self.now.script).goal (said c.args.self.now.script).rules read))
     (c.in_ok-step-in-InConstraint.ensures) c.after_constraint.ensures)
