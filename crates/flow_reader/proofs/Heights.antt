@@ -1,5 +1,5 @@
 -- How many parentheses and nots are open, as the stack keeps it.
-use Rattle.std.proofs.Common.{◌≡◌, ℕ, zero, suc, ◌+◌, ◌-◌, ◌<◌, List, [], ◌∷◌, ◌++◌, map, reverse, ap, ◌∙◌, arith}
+use Rattle.std.proofs.Common.{◌≡◌, ℕ, zero, suc, ◌+◌, ◌-◌, ◌<◌, List, [], ◌∷◌, ◌++◌, map, reverse, refl, ap, ◌∙◌, arith}
 use Rattle.std.proofs.lemmas.List.{reverse-append, map-append}
 use Rattle.flow_form.specs.RuleForm.{RuleShape, negated}
 use Rattle.flow_grammar.specs.Machine.{nots_in, negate, rule_height}
@@ -17,8 +17,11 @@ negate_more (suc k) r h =
     ap (λ n. negate n (negated r)) same
 
 -- the last frame of the code is the first of the machine
+pub last_first : {A B : Type 0} (f : A → B) (outer frames : List A) (inner : A) → frames ≡ outer ++ inner ∷ [] → reverse (map f frames) ≡ f inner ∷ reverse (map f outer)
+last_first f outer frames inner cut = ap (λ fs. reverse (map f fs)) cut ∙ ap reverse (map-append f outer (inner ∷ [])) ∙ reverse-append (map f outer) (f inner ∷ [])
+
 pub frames_last : (outer : List RuleFrame) (inner : RuleFrame) → rule_frames_of (outer ++ inner ∷ []) ≡ rule_frame_of inner ∷ rule_frames_of outer
-frames_last outer inner = ap reverse (map-append rule_frame_of outer (inner ∷ [])) ∙ reverse-append (map rule_frame_of outer) (rule_frame_of inner ∷ [])
+frames_last outer inner = last_first rule_frame_of outer _ inner refl
 
 -- with one more, and so without it
 pub height_more : (outer : List RuleFrame) (inner : RuleFrame) → rule_height (rule_frames_of (outer ++ inner ∷ [])) ≡ rule_height (rule_frames_of outer) + inner.nots + 1
@@ -31,3 +34,10 @@ height_more outer inner =
 pub height_less : (frames outer : List RuleFrame) (inner : RuleFrame) (h : ℕ) → frames ≡ outer ++ inner ∷ [] → h ≡ rule_height (rule_frames_of frames) →
     h ≡ rule_height (rule_frames_of outer) + inner.nots + 1
 height_less frames outer inner h cut known = known ∙ ap (λ fs. rule_height (rule_frames_of fs)) cut ∙ height_more outer inner
+
+-- inside one more parenthesis
+pub height_pushed : (outer frames : List RuleFrame) (inner : RuleFrame) (h : ℕ) → frames ≡ outer ++ inner ∷ [] → h ≡ rule_height (rule_frames_of outer) →
+    h + (inner.nots + 1) ≡ rule_height (rule_frames_of frames)
+height_pushed outer frames inner h cut known =
+    let more = ap (λ fs. rule_height (rule_frames_of fs)) cut ∙ height_more outer inner in
+    omega (arith, more, known)

@@ -1,6 +1,7 @@
 -- A symbol leads at most one deeper.
-use Rattle.std.proofs.Common.{rules, ◌≡◌, ℕ, suc, ◌≤◌, refl, arith}
+use Rattle.std.proofs.Common.{rules, ◌≡◌, ℕ, suc, ◌≤◌, [], ◌∷◌, ◌++◌, refl, arith}
 use Rattle.std.specs.Prelude.{Option, Some, None}
+use Rattle.flow_form.specs.Script.{flow}
 use Rattle.flow_grammar.specs.Symbol.{Symbol}
 use Rattle.flow_grammar.specs.Machine.{Step, reading, whole, stuck, carry, GoalState, step_goal, depth_goal, RuleState, step_rule, nots_in, depth_rule}
 use Rattle.flow_grammar.specs.Machine as machine
@@ -47,9 +48,9 @@ carried_within inner depth within after same none (whole x) d h = omega (arith, 
 carried_within inner depth within after same none stuck d h = tt
 
 pub script_within : (s : machine.State) (t : Symbol) → Within machine.depth_script (machine.step_script s t) (machine.depth_script s)
-script_within (machine.in_flow ds n g) t = carried_within depth_goal machine.depth_script (machine.in_flow ds n) _ (λ s. refl) (λ x. refl) (step_goal g t) (depth_goal g) (goal_within g t)
-script_within (machine.in_goal ds g) t = carried_within depth_goal machine.depth_script (machine.in_goal ds) _ (λ s. refl) (λ x. refl) (step_goal g t) (depth_goal g) (goal_within g t)
-script_within (machine.in_constraint ds s rs r) t = carried_within depth_rule machine.depth_script (machine.in_constraint ds s rs) _ (λ s. refl) (λ x. refl) (step_rule r t) (depth_rule r) (rule_within r t)
+script_within (machine.in_flow ds n g) t = carried_within depth_goal machine.depth_script (machine.in_flow ds n) (λ s. machine.declaration_needed (ds ++ flow n s ∷ [])) (λ s. refl) (λ x. refl) (step_goal g t) (depth_goal g) (goal_within g t)
+script_within (machine.in_goal ds g) t = carried_within depth_goal machine.depth_script (machine.in_goal ds) (λ s. machine.constraint_needed ds s []) (λ s. refl) (λ x. refl) (step_goal g t) (depth_goal g) (goal_within g t)
+script_within (machine.in_constraint ds s rs r) t = carried_within depth_rule machine.depth_script (machine.in_constraint ds s rs) (λ x. machine.constraint_needed ds s (rs ++ x ∷ [])) (λ s. refl) (λ x. refl) (step_rule r t) (depth_rule r) (rule_within r t)
 script_within _ t = search (rules, least, as_deep)
 
 pub query_within : (s : machine.QueryState) (t : Symbol) → Within machine.depth_query (machine.step_query s t) (machine.depth_query s)
