@@ -41,3 +41,10 @@ pub height_pushed : (outer frames : List RuleFrame) (inner : RuleFrame) (h : ℕ
 height_pushed outer frames inner h cut known =
     let more = ap (λ fs. rule_height (rule_frames_of fs)) cut ∙ height_more outer inner in
     omega (arith, more, known)
+
+-- outside the innermost again
+pub height_popped : (frames outer : List RuleFrame) (inner : RuleFrame) (h : ℕ) → frames ≡ outer ++ inner ∷ [] → h ≡ rule_height (rule_frames_of frames) →
+    h - inner.nots - 1 ≡ rule_height (rule_frames_of outer)
+height_popped frames outer inner h cut known =
+    let less = height_less frames outer inner h cut known in
+    omega (arith, less)
