@@ -9,7 +9,7 @@ use Rattle.flow_form.specs.declared.refusal.TextRefusal.TheVariants.{Expected}
 use Rattle.flow_lex.specs.declared.token.Token.{Token}
 use Rattle.flow_lex.specs.Tokens.{AreSpans, IsSmall}
 use Rattle.flow_grammar.specs.Symbol.{Symbol}
-use Rattle.flow_grammar.specs.Machine.{Reading, expected, is_too_deep, shifted, run}
+use Rattle.flow_grammar.specs.Machine.{Reading, gives, expected, is_too_deep, shifted, run}
 use Rattle.flow_grammar.proofs.RunSteps.{goes_by_step}
 use Rattle.flow_reader.specs.Symbols.{symbol_of, symbols_of}
 use Rattle.flow_reader.specs.Reading.{place_of, settled, StepsTo, IsStepRefusal, IsReadRefusal}
@@ -80,6 +80,21 @@ module _ {S V : Type 0} (step : S → Symbol → Option S) (finish : S → Optio
   here s rest h =
       let same : h.passed ≡ h.passed + 0 = omega arith in
       ap (place_of text tokens) same ∙ h.places 0
+
+  pub stands_first : (s : S) → depth s ≡ 0 → run step finish wanted depth s (symbols_of text tokens) ≡ read → AreSpans 0 (length text) tokens → Each (IsSmall text) tokens → Here s tokens
+  stands_first s none reads spans small = record {
+    passed = 0;
+    so_far = (goes_by_step step finish wanted depth).at_start (run step finish wanted depth s (symbols_of text tokens)) ∙ reads;
+    places = λ j. let same : 0 + j ≡ j = omega arith in ap (place_of text tokens) same;
+    shallow = omega (arith, none);
+    counted = omega arith;
+    start = 0;
+    spans = spans;
+    small = small;
+  }
+
+  pub stands_value : (s : S) (v : V) → finish s ≡ Some v → Here s [] → read ≡ gives v
+  stands_value s v value h = sym h.so_far ∙ (goes_by_step step finish wanted depth).at_value s v h.passed value
 
   pub stands_no_value : (s : S) (kind : Wanted) (place : ℕ) → finish s ≡ None → kind ≡ wanted s → place ≡ length text → Here s [] →
       IsReadRefusal text tokens read (Expected place kind)

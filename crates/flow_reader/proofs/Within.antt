@@ -6,7 +6,7 @@ use Rattle.flow_facts.specs.Atom.{Atom, atom}
 use Rattle.flow_form.specs.Form.{Shape}
 use Rattle.flow_form.specs.RuleForm.{RuleShape}
 use Rattle.flow_form.specs.Script.{Declared, fact, event}
-use Rattle.flow_grammar.specs.Symbol.{Symbol, fact_word, event_word, flow_word, goal_word, constraint_word, done_word, fail_word, a_name, a_number, opening, comma, semicolon, equals}
+use Rattle.flow_grammar.specs.Symbol.{Symbol, fact_word, event_word, flow_word, goal_word, constraint_word, done_word, fail_word, holds_word, redundant_word, a_name, a_number, opening, comma, semicolon, equals}
 use Rattle.flow_grammar.specs.Machine.{Step, reading, whole, stuck, carry, GoalState, step_goal, depth_goal, RuleState, step_rule, nots_in, depth_rule}
 use Rattle.flow_grammar.specs.Machine as machine
 use Rattle.flow_reader.proofs.Heights.{nots_added}
@@ -114,4 +114,11 @@ script_within (machine.constraint_needed ds s rs) t = constraint_within ds s rs 
 
 pub query_within : (s : machine.QueryState) (t : Symbol) → Within machine.depth_query (machine.step_query s t) (machine.depth_query s)
 query_within (machine.in_property r) t = carried_within depth_rule machine.depth_query machine.in_property _ (λ s. refl) (λ x. refl) (step_rule r t) (depth_rule r) (rule_within r t)
-query_within _ t = search rules
+query_within machine.query_needed holds_word = least _
+query_within machine.query_needed redundant_word = least _
+query_within machine.query_needed _ = tt
+query_within machine.number_needed (a_number n) = least _
+query_within machine.number_needed _ = tt
+query_within (machine.after_number n) semicolon = least _
+query_within (machine.after_number n) _ = tt
+query_within (machine.query_read q) t = tt

@@ -3,7 +3,7 @@ use Rattle.std.proofs.lemmas.List.{nil_from_length}
 use Rattle.flow_grammar.specs.Machine as machine
 use Rattle.flow_reader.specs.Queries.{query_state}
 use Rattle.flow_reader.proofs.Within.{query_within}
-use Rattle.flow_reader.proofs.Loops.{token_within, stands_after, stands_no_value}
+use Rattle.flow_reader.proofs.Loops.{token_within, stands_first, stands_after, stands_value, stands_no_value}
 use Rattle.flow_reader.proofs.reading.read_query.Goals as goal
 
 pub symbol_of-requires-clause-within : goal.symbol_of-requires-clause-within
@@ -24,3 +24,15 @@ returns-in-None c =
           (query_state c.loop-token.stack c.loop-token.reached) c.wanted-kind.result _ (sym (c.in-None.ensures c.loop-token.stack)) c.wanted-kind.ensures refl
           (rw none at c.loop-token.invariant);
     }
+
+pub returns-in-Some-finish-clause-ok : goal.returns-in-Some-finish-clause-ok
+returns-in-Some-finish-clause-ok c =
+    let none = nil_from_length c.loop-token.rest.now c.in_default.ensures.cases in
+    stands_value machine.step_query machine.finish_query machine.wanted_query machine.depth_query query_within _ _ _
+    (query_state c.loop-token.stack c.loop-token.reached) _ (sym (c.in-Some-finish.ensures c.loop-token.stack))
+    (rw none at c.loop-token.invariant)
+
+pub loop-token-init : goal.loop-token-init
+loop-token-init c =
+    stands_first machine.step_query machine.finish_query machine.wanted_query machine.depth_query query_within _ _ _
+    machine.query_needed refl refl c.requires.spans c.requires.small
