@@ -1,6 +1,7 @@
 -- How many parentheses and nots are open, as the stack keeps it.
-use Rattle.std.proofs.Common.{◌≡◌, ℕ, zero, suc, ◌+◌, ◌-◌, ◌<◌, List, [], ◌∷◌, ◌++◌, map, reverse, refl, ap, ◌∙◌, arith}
-use Rattle.std.proofs.lemmas.List.{reverse-append, map-append}
+use Rattle.std.proofs.Common.{◌≡◌, ◌==◌, true, length, ℕ, zero, suc, ◌+◌, ◌-◌, ◌<◌, List, [], ◌∷◌, ◌++◌, map, reverse, refl, sym, ap, ◌∙◌, arith}
+use Rattle.std.proofs.lemmas.Bool.{eqb-true}
+use Rattle.std.proofs.lemmas.List.{nil_from_length, reverse-append, map-append}
 use Rattle.flow_form.specs.RuleForm.{RuleShape, negated}
 use Rattle.flow_grammar.specs.Machine.{nots_in, negate, rule_height}
 use Rattle.flow_reader.specs.declared.rule_levels.RuleFrame.{RuleFrame}
@@ -48,3 +49,6 @@ pub height_popped : (frames outer : List RuleFrame) (inner : RuleFrame) (h : ℕ
 height_popped frames outer inner h cut known =
     let less = height_less frames outer inner h cut known in
     omega (arith, less)
+
+pub none_open : {A : Type 0} (frames : List A) (n : ℕ) → n ≡ length frames → true ≡ (n == 0) → frames ≡ []
+none_open frames n counted none = nil_from_length frames (sym counted ∙ eqb-true n 0 (sym none))

@@ -1,4 +1,4 @@
-use Rattle.std.proofs.Common.{◌≡◌, [], IfOk, ap, ap₂, subst, ◌∙◌}
+use Rattle.std.proofs.Common.{◌≡◌, IfOk, ap, ap₂, subst, ◌∙◌}
 use Rattle.flow_facts.specs.Atom.{atom}
 use Rattle.flow_grammar.specs.Grammar.{prefixed}
 use Rattle.flow_grammar.specs.Machine as machine

@@ -4,7 +4,7 @@ use Rattle.flow_reader.proofs.Heights.{last_first}
 use Rattle.flow_reader.proofs.goal_stack.Stack.open.Goals as goal
 
 pub returns-clause-frames : goal.returns-clause-frames
-returns-clause-frames c = 
+returns-clause-frames c =
     last_first frame_of c.args.self.now.frames.items c.push.new.self.items _ c.in_ok-push.ensures.items
     ∙ ap (λ level. frame c.args.isolates (level_of level) ∷ frames_of c.args.self.now.frames.items) c.replace-level.ensures.value
 

@@ -13,8 +13,8 @@ overflow_sub-self-2 c =
 
 pub invariant_of-self-2 : goal.invariant_of-self-2
 invariant_of-self-2 c = record {
-    counted = height_popped c.args.self.now.frames.items c.pop.new.self.items c.in-Some.frame c.args.self.now.height c.in-Some.ensures.items c.args.self.now.counted;
-  }
+  counted = height_popped c.args.self.now.frames.items c.pop.new.self.items c.in-Some.frame c.args.self.now.height c.in-Some.ensures.items c.args.self.now.counted;
+}
 
 pub returns-clause-some : goal.returns-clause-some
 returns-clause-some c = last_first rule_frame_of c.pop.new.self.items c.args.self.now.frames.items c.in-Some.frame c.in-Some.ensures.items

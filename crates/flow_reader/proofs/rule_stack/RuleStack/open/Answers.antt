@@ -5,7 +5,7 @@ use Rattle.flow_reader.proofs.Heights.{last_first, height_pushed}
 use Rattle.flow_reader.proofs.rule_stack.RuleStack.open.Goals as goal
 
 pub returns-clause-frames : goal.returns-clause-frames
-returns-clause-frames c = 
+returns-clause-frames c =
     last_first rule_frame_of c.args.self.now.frames.items c.push.new.self.items _ c.in_ok-push.ensures.items
     ∙ ap (λ level. machine.rule_parenthesis (rule_level_of level) c.args.nots ∷ rule_frames_of c.args.self.now.frames.items) c.replace-level.ensures.value
 
@@ -14,5 +14,5 @@ returns-clause-level c = ap rule_level_of c.replace-level.ensures.after ∙ c.ne
 
 pub invariant_of-self-2 : goal.invariant_of-self-2
 invariant_of-self-2 c = record {
-    counted = height_pushed c.args.self.now.frames.items c.push.new.self.items _ c.args.self.now.height c.in_ok-push.ensures.items c.args.self.now.counted;
-  }
+  counted = height_pushed c.args.self.now.frames.items c.push.new.self.items _ c.args.self.now.height c.in_ok-push.ensures.items c.args.self.now.counted;
+}

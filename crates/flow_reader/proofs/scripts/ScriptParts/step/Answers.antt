@@ -1,7 +1,6 @@
-use Rattle.std.proofs.Common.{◌≡◌, ◌∙◌, ap, sym, subst, IfOk, option_map}
+use Rattle.std.proofs.Common.{◌≡◌, ◌∙◌, ap, subst, IfOk, option_map}
 use Rattle.flow_form.specs.Script.{said}
 use Rattle.flow_grammar.specs.Machine as machine
-use Rattle.flow_reader.specs.Symbols.{meant}
 use Rattle.flow_reader.specs.Scripts.{declared_so_far, script_state}
 use Rattle.flow_reader.proofs.Ended.{no_constraint}
 use Rattle.flow_reader.proofs.scripts.ScriptParts.step.Goals as goal
