@@ -1,9 +1,9 @@
 -- A symbol that ends a declared item, and is read after it; a symbol that nothing goes on with.
 use denote.Bor.{Bor}
 use Rattle.std.proofs.Common.{◌≡◌, ℕ, List, [], ◌∷◌, ◌++◌, refl, ap}
+use Rattle.std.specs.Prelude.{None}
 use Rattle.flow_model.specs.declared.labels.Note.TheVariants.{Done, Fail}
 use Rattle.flow_facts.specs.Atom.{atom}
-use Rattle.std.specs.Prelude.{None}
 use Rattle.flow_form.specs.Form.{Shape}
 use Rattle.flow_form.specs.RuleForm.{RuleShape}
 use Rattle.flow_form.specs.Script.{Declared, fact, event}
