@@ -1,5 +1,6 @@
 -- A run that has something else to do does not wait.
-use Rattle.std.proofs.Common.{◌≡◌, ◌∙◌, ℕ, Bool, true, false, cond, List, [], ◌∷◌, IsTrue, is_some, inl, inr, refl, sym, ap, true≢false}
+use Rattle.std.proofs.Common.{◌≡◌, ◌<◌, ◌∙◌, ℕ, Bool, true, false, cond, List, [], ◌∷◌, IsTrue, is_some, inl, inr, refl, sym, ap, arith, true≢false}
+use Rattle.std.proofs.lemmas.Bool.{cases_order}
 use Rattle.std.specs.List.{filter}
 use Rattle.flow_model.specs.Lists.{◌∈◌}
 use Rattle.flow_model.specs.Run.{Claim, RunState, claim_at, current_claims, is_current, IsCurrent, IsStuck, CanDoAside}
@@ -51,3 +52,14 @@ least_waits r going none no_claim unfinished leaf least =
       unfinished = unfinished;
       only_waiting = λ n can. elim can [ inl take ↦ absurd (none n (inl take)) | inr aside ↦ (aside, λ holds. none n (inr (aside, holds))) ];
     }
+
+-- a number that has P, where none below it has
+pub least_from_below : (P : ℕ → Type 0) (n : ℕ) → P n → ((k : ℕ) → k < n → ¬ (P k)) → IsLeast P n
+least_from_below P n has none = (
+  has,
+  λ other there. elim (cases_order other n) [
+    | inl same ↦ omega arith
+    | inr (inl less) ↦ absurd (none other less there)
+    | inr (inr more) ↦ omega arith
+  ],
+)

@@ -1,5 +1,5 @@
 use Rattle.std.proofs.Common.{◌≡◌, ◌<◌, ◌≤◌, ◌+◌, ℕ, List, [], ◌∷◌, ◌++◌, length, take, set, get_or, refl, sym, ◌∙◌, subst, subst₂, arith, length-set}
-use Rattle.std.proofs.lemmas.List.{take_all, take_more, take_more_set}
+use Rattle.std.proofs.lemmas.List.{length-replicate, take_all, take_more, take_more_set}
 use Rattle.flow_core.specs.declared.ask.Ask.{Ask}
 use Rattle.flow_core.specs.declared.ask.Ask.TheVariants.{Take}
 use Rattle.flow_core.specs.declared.ask.Told.{Told}
@@ -36,3 +36,6 @@ returns g c =
     let tolds : take i c.loop-index.told ≡ c.loop-index.told =
     take_all i c.loop-index.told (let e : length c.loop-index.told ≡ g.row.N = c.loop-index.invariant.as_many in let h : g.row.N ≤ i = c.loop-index-test.false in omega arith) in
     subst₂ (λ (asks : List Ask) (tolds : List Told). IsPlayed c.args.core.now c.args.by asks tolds c.loop-index.core) asks tolds c.loop-index.invariant.played
+
+pub loop-index-init : goal.loop-index-init
+loop-index-init g c = record { played = refl; as_many = length-replicate g.row.N _ }

@@ -23,9 +23,13 @@ record_commit-requires-clause-steps c = c.if-not-has_steps.ensures.0 refl
 pub record_commit-requires-clause-no_claim : goal.record_commit-requires-clause-no_claim
 record_commit-requires-clause-no_claim c = c.in_default.ensures
 
+pub record_commit-requires-clause-good : goal.record_commit-requires-clause-good
+record_commit-requires-clause-good c =
+    let good : IsGood (schema c.args.self.now) (now c.args.self.now).journal = search rules depth 2 parts 0 fits 100 in good
+
 pub returns : goal.returns
 returns c =
     let r = c.args.self.now in
     let going = ended_inside c.self.inside c.self.invariant r c.self.view_is false c.if-self.false in
-    let good : IsGood (schema r) (now r).journal = search rules in
+    let good : IsGood (schema r) (now r).journal = search rules depth 2 parts 0 fits 100 in
     (going, c.if-not-has_steps.ensures.0 refl, c.in_default.ensures, good, c.record_commit.ensures)

@@ -18,6 +18,12 @@ is_needed r r' claim given g same b says none t free =
     let on : leaf_of_claim (now r') claim ≡ given.leaf = ap (λ (r : Run). leaf_of_claim (now r) claim) same ∙ leaf_of_claim_is (now r) claim _ g.claim in
     subst (λ n. n ∈ t) (sym on) (needed (schema r') (now r') given.leaf (λ a. true≢false (sym (says.1 a) ∙ none)) t free)
 
+-- some execution goes on without the claim's leaf, where one does without the leaf of what was given
+is_avoided : (r r' : Run) (claim : ℕ) (given : Given) → IsGiven r claim given → r' ≡ r → IsAvoidable (schema r') (now r') given.leaf →
+    IsAvoidable (schema r) (now r) (leaf_of_claim (now r) claim)
+is_avoided r r' claim given g same avoidable =
+    subst (IsAvoidable (schema r) (now r)) (sym (leaf_of_claim_is (now r) claim _ g.claim)) (subst (λ (r : Run). IsAvoidable (schema r) (now r) given.leaf) same avoidable)
+
 pub record_switched-requires-clause-open : goal.record_switched-requires-clause-open
 record_switched-requires-clause-open c = subst IsUncommitted (sym c.in_ok-given.ensures.4) c.in_ok-given.ensures.0
 
@@ -52,3 +58,12 @@ returns-else-can_avoid c =
     let needed = subst (λ (r : Run). (t : List ℕ) → IsFree (schema r) (now r) t → leaf_of_claim (now r) c.args.claim ∈ t) h.4
     (is_needed c.args.self.now c.standing.new.self c.args.claim c.in_ok-given.given h.3 h.4 c.can_avoid.result c.can_avoid.ensures c.if-can_avoid.false) in
     (h.0, h.1, h.2, needed, c.record_kept.ensures ∙ ap (λ (r : Run). with_entry r c.args.by (Failed c.args.claim effects.Kept)) h.4)
+
+pub record_switched-requires-clause-avoidable : goal.record_switched-requires-clause-avoidable
+record_switched-requires-clause-avoidable c = c.can_avoid.ensures.0 c.if-can_avoid.true
+
+pub returns-then-can_avoid : goal.returns-then-can_avoid
+returns-then-can_avoid c =
+    let h = c.in_ok-given.ensures in
+    let avoided = is_avoided c.args.self.now c.standing.new.self c.args.claim c.in_ok-given.given h.3 h.4 (c.can_avoid.ensures.0 c.if-can_avoid.true) in
+    (h.0, h.1, h.2, avoided, c.record_switched.ensures ∙ ap (λ (r : Run). with_entry r c.args.by (Failed c.args.claim effects.Switched)) h.4)

@@ -37,11 +37,15 @@ record_did-requires-clause-open c = ended_inside c.self.inside c.self.invariant 
 pub record_did-requires-clause-steps : goal.record_did-requires-clause-steps
 record_did-requires-clause-steps c = c.if-not-has_steps.ensures.0 refl
 
+pub record_did-requires-clause-enabled : goal.record_did-requires-clause-enabled
+record_did-requires-clause-enabled c =
+    let can : CanDoAside (schema c.args.self.now) (now c.args.self.now) c.args.leaf = search rules depth 2 parts 0 fits 100 in can
+
 pub returns : goal.returns
 returns c =
     let r = c.args.self.now in
     let going = ended_inside c.self.inside c.self.invariant r c.self.view_is false c.if-self.false in
-    let can : CanDoAside (schema r) (now r) c.args.leaf = search rules in
+    let can : CanDoAside (schema r) (now r) c.args.leaf = search rules depth 2 parts 0 fits 100 in
     let holds = holds_at (schema r).labels (database (schema r) (now r)) c.args.leaf c.in-Some.label c.in-Some.ensures (c.if-not-label_holds.ensures.0 refl) in
     (going, c.if-not-has_steps.ensures.0 refl, can, holds, c.record_did.ensures)
 
@@ -49,7 +53,15 @@ pub returns-then-not-label_holds : goal.returns-then-not-label_holds
 returns-then-not-label_holds c =
     let r = c.args.self.now in
     let going = ended_inside c.self.inside c.self.invariant r c.self.view_is false c.if-self.false in
-    let can : CanDoAside (schema r) (now r) c.args.leaf = search rules in
+    let can : CanDoAside (schema r) (now r) c.args.leaf = search rules depth 2 parts 0 fits 100 in
     let lacks = λ (there : HoldsAt (schema r).labels (database (schema r) (now r)) c.args.leaf).
     true≢false (sym (c.if-not-label_holds.ensures.1 (label_at (schema r).labels (database (schema r) (now r)) c.args.leaf c.in-Some.label c.in-Some.ensures there))) in
     (going, c.if-not-has_steps.ensures.0 refl, can, lacks, refl)
+
+pub returns-then-not-can_do_aside : goal.returns-then-not-can_do_aside
+returns-then-not-can_do_aside c =
+    let r = c.args.self.now in
+    let going = ended_inside c.self.inside c.self.invariant r c.self.view_is false c.if-self.false in
+    let other = other_leaf (schema r) c.args.leaf c.in-Some.label c.in-Some.ensures c.in_default-label.not-Event in
+    let cannot : ¬ (CanDoAside (schema r) (now r) c.args.leaf) = search rules depth 2 parts 0 fits 100 in
+    (going, other, c.if-not-has_steps.ensures.0 refl, cannot, refl)

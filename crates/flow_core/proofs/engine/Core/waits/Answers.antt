@@ -1,7 +1,12 @@
-use Rattle.std.proofs.Common.{true≢false, sym}
+use Rattle.std.proofs.Common.{inr, true≢false, sym}
 use Rattle.flow_core.proofs.Waiting.{not_waiting}
 use Rattle.flow_core.proofs.engine.Core.waits.Goals as goal
 
 pub returns-in_default : goal.returns-in_default
 returns-in_default c =
     (λ never. absurd (true≢false (sym never)), λ waiting. absurd (not_waiting c.args.self.now c.look.result c.look.ensures c.in_default.not-Stuck c.args.leaf waiting))
+
+pub returns-in-Stuck : goal.returns-in-Stuck
+returns-in-Stuck c =
+    let stuck = c.in-Stuck.ensures.0.0 in
+    (λ left. (stuck, stuck.only_waiting c.args.leaf (inr (c.is_left.ensures.0 left))), λ waiting. c.is_left.ensures.1 waiting.1.0)

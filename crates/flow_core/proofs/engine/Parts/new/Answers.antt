@@ -16,3 +16,9 @@ returns-clause-kept c =
     c.tree.ensures.known c.notes.ensures.as_many c.tree.ensures.well_formed made.options made.journal made.bans c.in_ok-claims.ensures
     (ap length c.events.ensures.names) c.in_ok-world.ensures c.held.ensures.held (c.count.ensures.count ∙ ap length c.facts.ensures)
     (c.leaves-leaves.ensures.count ∙ ap (λ (t : Labelled). length t.labels) c.tree.ensures.tree)
+
+pub returns-clause-room : goal.returns-clause-room
+returns-clause-room c = c.in_ok-history.ensures.capacity
+
+pub returns-clause-none : goal.returns-clause-none
+returns-clause-none c = c.in_ok-history.ensures.items
