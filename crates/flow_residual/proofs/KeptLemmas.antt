@@ -13,6 +13,7 @@ use Rattle.flow_plan.proofs.PlaceLemmas.{read_member}
 use Rattle.flow_residual.specs.declared.ban.Ban.{Ban}
 use Rattle.flow_plan.specs.Sampled.{Sampled}
 use Rattle.flow_plan.specs.Options.{options_of}
+use Rattle.flow_residual.proofs.OptionLemmas.{length-options}
 use Rattle.flow_residual.specs.Remaining.{Remaining, MayComeNext}
 use Rattle.flow_residual.specs.View.{pairs_of_bans}
 use Rattle.flow_residual.specs.Options.{HasSmallLeaves, EachHas}
@@ -156,6 +157,11 @@ length-pairs [] = refl
 length-pairs (ban ∷ bans) = ap suc (length-pairs bans)
 
 -- ---- tracks after a change
+
+-- there is a track for each plan
+pub one_each_lent : (i : Inside) (plans : List Sampled) (lent : List Track) → IsRoomy i → plans ≡ i.plans.items → lent ≡ i.tracks.items → length lent ≡ length plans
+one_each_lent i plans lent roomy same_plans same_tracks =
+    ap length same_tracks ∙ roomy.tracks.one_each ∙ length-options i.plans.items ∙ sym (ap length same_plans)
 
 -- the vector that was lent has what was made of its tracks
 pub followed : (i : Inside) (change : Change) (plans : List Sampled) (journal : List ℕ) (lent new : List Track) → IsRoomy i → plans ≡ i.plans.items → journal ≡ i.journal.items →

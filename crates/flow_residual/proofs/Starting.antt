@@ -1,10 +1,20 @@
--- The tracks of options where no leaf is done and none is banned.
-use Rattle.std.proofs.Common.{◌≡◌, ◌<◌, ℕ, List, [], length, replicate, get_or, None, sym, ap, ◌∙◌, subst, arith}
+-- What is kept where no leaf is done and none is banned.
+use Rattle.std.proofs.Common.{◌≡◌, ◌<◌, ◌≤◌, ℕ, false, List, [], length, replicate, get_or, None, sym, ap, ◌∙◌, subst, subst₂, arith, true≢false}
+use Rattle.std.specs.Vec.{vec_capacity}
 use Rattle.std.proofs.lemmas.List.{length-replicate, get_or-replicate}
 use Rattle.std.proofs.lemmas.Option.{slice_get_within}
+use Rattle.flow_model.specs.declared.limits.TheConstants.{MOST_LEAVES}
+use Rattle.flow_model.specs.Lists.{◌∈◌, Each}
 use Rattle.flow_model.specs.Resolution.{ChoiceOption}
+use Rattle.flow_plan.specs.Sampled.{Sampled}
+use Rattle.flow_plan.specs.Options.{options_of}
+use Rattle.flow_plan.specs.Progress.{is_done, bound_of}
 use Rattle.flow_residual.specs.declared.track.Track.{Track}
-use Rattle.flow_residual.specs.Options.{EachHas}
+use Rattle.flow_residual.specs.declared.ban.Ban.{Ban}
+use Rattle.flow_residual.specs.declared.residual.Residual.TheInside.{Inside}
+use Rattle.flow_residual.specs.Options.{EachHas, HasSmallLeaves}
+use Rattle.flow_residual.specs.View.{remaining, pairs_of_bans}
+use Rattle.flow_residual.specs.Invariant.{IsKept, IsRoomy}
 use Rattle.flow_residual.specs.Tracks.{IsTrack}
 
 abbrev start : Track
@@ -19,4 +29,28 @@ all_start os n tracks is counted = record {
   each = λ k o x at there.
       let within : k < n = let below : k < length os = slice_get_within os k o at in omega arith in
       subst (IsTrack [] [] o) (sym (there ∙ ap (λ ts. get_or ts k x) is ∙ get_or-replicate n k start x within)) (starts o);
+}
+
+kept_first : (plans : List Sampled) (journal : List ℕ) (bans : List Ban) → Each HasSmallLeaves (options_of plans) → journal ≡ [] → bans ≡ [] → IsKept (remaining plans journal bans)
+kept_first plans journal bans fits no_journal no_bans = subst₂ (λ (journal : List ℕ) (bans : List Ban). IsKept (remaining plans journal bans)) (sym no_journal) (sym no_bans) (record {
+  fits = fits;
+  done = record { small = tt; distinct = tt };
+  bans_few = record { small = tt; distinct = tt };
+  apart = tt;
+})
+
+-- a residual whose plans were handed out to make its tracks and to tell that their leaves fit
+pub roomy_first : (i : Inside) (turned told : List Sampled) → turned ≡ i.plans.items → told ≡ i.plans.items → Each HasSmallLeaves (options_of told) →
+    EachHas (IsTrack [] []) (options_of turned) i.tracks.items → length i.rows.items ≡ length (options_of turned) → i.journal.items ≡ [] → i.bans.items ≡ [] → i.fresh ≡ false →
+    bound_of i.done ≡ MOST_LEAVES → ((n : ℕ) → is_done i.done n ≡ false) → MOST_LEAVES ≤ vec_capacity i.journal → MOST_LEAVES ≤ vec_capacity i.bans → IsRoomy i
+roomy_first i turned told same same_told fits tracks rows no_journal no_bans stale bound none journal_room bans_room = record {
+  kept = kept_first i.plans.items i.journal.items i.bans.items (subst (λ plans. Each HasSmallLeaves (options_of plans)) same_told fits) no_journal no_bans;
+  tracks = subst (λ plans. EachHas (IsTrack i.journal.items (pairs_of_bans i.bans.items)) (options_of plans) i.tracks.items) same
+      (subst₂ (λ (journal : List ℕ) (bans : List Ban). EachHas (IsTrack journal (pairs_of_bans bans)) (options_of turned) i.tracks.items) (sym no_journal) (sym no_bans) tracks);
+  rows_one_each = rows ∙ ap (λ plans. length (options_of plans)) same;
+  rows_are = λ fresh. absurd (true≢false (sym fresh ∙ stale));
+  done_bound = bound;
+  done_are = λ n. (λ done. absurd (true≢false (sym done ∙ none n)), λ member. absurd (subst (λ journal. n ∈ journal) no_journal member));
+  journal_room = journal_room;
+  bans_room = bans_room;
 }

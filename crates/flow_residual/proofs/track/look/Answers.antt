@@ -1,4 +1,4 @@
-use Rattle.std.proofs.Common.{◌≤◌, ◌<◌, None, length, get_or, sym, subst, arith}
+use Rattle.std.proofs.Common.{◌≤◌, ◌<◌, None, length, get_or, sym, ◌∙◌, subst, arith}
 use Rattle.std.proofs.lemmas.List.{get_or_default}
 use Rattle.flow_plan.specs.Planned.{Planned}
 use Rattle.flow_residual.specs.declared.track.Track.{Track}
@@ -37,3 +37,6 @@ pub returns : goal.returns
 returns c =
     let past : length c.loop-place.rows ≤ c.loop-place.place = omega (arith, c.loop-place-test.false, c.loop-place.auto.rows) in
     turned_all (λ o row. Unit {0}) (IsNextRow c.args.journal.now) (options_of c.args.plans.now) c.loop-place.place c.loop-place.rows past c.loop-place.invariant
+
+pub bounds-plans-place : goal.bounds-plans-place
+bounds-plans-place c = subst (λ n. c.loop-place.place < n) (c.requires.one_each ∙ length-options c.args.plans.now) c.loop-place-test.true

@@ -1,4 +1,4 @@
-use Rattle.std.proofs.Common.{◌≡◌, ◌+◌, ◌-◌, ◌<◌, ℕ, ◌==◌, false, Some, None, List, length, set, get_or, slice_get, refl, sym, ap, subst, arith, length-set}
+use Rattle.std.proofs.Common.{◌≡◌, ◌+◌, ◌-◌, ◌<◌, ℕ, ◌==◌, false, Option, Some, None, List, length, set, get_or, slice_get, refl, sym, ap, ◌∙◌, subst, arith, length-set}
 use Rattle.std.specs.Vec.{vec_len, vec_capacity}
 use Rattle.std.specs.List.{position_from}
 use Rattle.std.proofs.lemmas.Option.{slice_get_read}
@@ -22,6 +22,11 @@ read_in gs number g t is =
     let inside : number - 1 < length gs = omega arith in
     slice_get_read gs (length gs) (number - 1) g refl inside is
 
+-- what was found among the places that were lent
+found_in : (places lent : List ℕ) (place : ℕ) (found : Option ℕ) → lent ≡ places → found ≡ position_from (λ other. other == place) 0 lent →
+    position_from (λ other. other == place) 0 places ≡ found
+found_in places lent place found same is = ap (position_from (λ other. other == place) 0) (sym same) ∙ sym is
+
 pub overflow_sub-place : goal.overflow_sub-place
 overflow_sub-place c =
     let number_is = (there_in c.self.inside c.args.self.now c.args.claim c.self.view_is c.requires).number_is in
@@ -37,14 +42,16 @@ index_mut-requires c =
 
 pub remove-requires : goal.remove-requires
 remove-requires c =
-    let is : position_from (λ other. other == (c.args.claim - 1)) 0 c.self.inside.current.items ≡ Some c.in-Some.index = cc in
+    let is : position_from (λ other. other == (c.args.claim - 1)) 0 c.self.inside.current.items ≡ Some c.in-Some.index =
+    found_in c.self.inside.current.items c.deref.result.now (c.args.claim - 1) c.index_of.result c.deref.ensures.value c.index_of.ensures ∙ c.in-Some.is in
     let within = found_within (c.args.claim - 1) c.self.inside.current.items c.in-Some.index is in
     omega (arith, c.self.inside.current.ok.0)
 
 pub remove-requires-in-Some : goal.remove-requires-in-Some
 remove-requires-in-Some c =
     let i = c.self.inside in
-    let is : position_from (λ other. other == (c.args.claim - 1)) 0 i.current.items ≡ Some c.in-Some.index = cc in
+    let is : position_from (λ other. other == (c.args.claim - 1)) 0 i.current.items ≡ Some c.in-Some.index =
+    found_in i.current.items c.deref.result.now (c.args.claim - 1) c.index_of.result c.deref.ensures.value c.index_of.ensures ∙ c.in-Some.is in
     let within = found_within (c.args.claim - 1) i.current.items c.in-Some.index is in
     let same = length-out (λ place g. g.leaf) (λ place g. place) i.epoch 0 i.given.items in
     omega (arith, ap length c.self.invariant.kept.leaves_are, ap length c.self.invariant.kept.current_are, i.leaves.ok.0)
@@ -56,7 +63,8 @@ invariant_of-self c =
     let place : ℕ = c.args.claim - 1 in
     let t = there_in i c.args.self.now c.args.claim c.self.view_is c.requires in
     let at : slice_get i.given.items place ≡ Some g = read_in i.given.items c.args.claim g t c.index_mut.ensures.value in
-    let is : position_from (λ other. other == place) 0 i.current.items ≡ Some c.in-Some.index = cc in
+    let is : position_from (λ other. other == place) 0 i.current.items ≡ Some c.in-Some.index =
+    found_in i.current.items c.deref.result.now place c.index_of.result c.deref.ensures.value c.index_of.ensures ∙ c.in-Some.is in
     let few = c.self.invariant.few in
     let same = length-set i.given.items place (answered g) in
     record {
@@ -75,7 +83,8 @@ invariant_of-self-in_default c =
     let place : ℕ = c.args.claim - 1 in
     let t = there_in i c.args.self.now c.args.claim c.self.view_is c.requires in
     let at : slice_get i.given.items place ≡ Some g = read_in i.given.items c.args.claim g t c.index_mut.ensures.value in
-    let is : position_from (λ other. other == place) 0 i.current.items ≡ None = cc in
+    let is : position_from (λ other. other == place) 0 i.current.items ≡ None =
+    found_in i.current.items c.deref.result.now place c.index_of.result c.deref.ensures.value c.index_of.ensures ∙ c.in_default.is in
     let few = c.self.invariant.few in
     let same = length-set i.given.items place (answered g) in
     record {

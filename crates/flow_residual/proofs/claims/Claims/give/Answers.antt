@@ -1,7 +1,7 @@
 use Rattle.std.proofs.Common.{◌≡◌, ◌+◌, ◌<◌, ◌≤◌, false, [], ◌∷◌, ◌++◌, length, set, slice_index, sym, ap, ◌∙◌, subst, arith, rules, length-set}
 use Rattle.std.specs.Vec.{vec_capacity}
 use Rattle.std.proofs.lemmas.List.{get_or_read}
-use Rattle.flow_residual.specs.Claimed.{Claimed}
+use Rattle.flow_residual.specs.Claimed.{Claimed, count_of}
 use Rattle.flow_residual.specs.Fields.{claimed}
 use Rattle.flow_residual.proofs.Numbering.{claims_counted}
 use Rattle.flow_residual.proofs.Outstanding.{few_out}
@@ -67,3 +67,10 @@ returns-clause-value c =
     }) c.self.view_is
     (given_value i.given.items c.push_reserved.new.self.items i.epoch c.args.leaf c.args.event (c.index.result.now + 1) (vec_capacity i.given) (vec_capacity c.push_reserved.new.self)
     (length i.attempts.items) (length attempts) c.push_reserved.ensures.items c.push_reserved.ensures.capacity (length-set i.attempts.items c.args.event (c.index.result.now + 1)))
+
+pub returns-clause-attempt : goal.returns-clause-attempt
+returns-clause-attempt c =
+    let i = c.self.inside in
+    let within : c.args.event < length i.attempts.items = subst (λ (v : Claimed). c.args.event < v.kinds) (sym c.self.view_is) c.requires.kind in
+    let is : c.index.result.now ≡ slice_index i.attempts.items c.args.event = get_or_read i.attempts.items c.args.event c.index.result.now within c.index.ensures 0 in
+    ap (λ n. n + 1) (is ∙ c.self.invariant.kept.totals c.args.event within ∙ ap (λ (v : Claimed). count_of c.args.event v.events) c.self.view_is)

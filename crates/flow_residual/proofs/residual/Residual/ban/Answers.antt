@@ -8,7 +8,7 @@ use Rattle.flow_residual.specs.Options.{EachHas}
 use Rattle.flow_residual.specs.Tracks.{IsTrack}
 use Rattle.flow_residual.specs.Invariant.{IsKept, banned}
 use Rattle.flow_residual.proofs.DoneLemmas.{AreDone}
-use Rattle.flow_residual.proofs.KeptLemmas.{at_most_all, room_left, next_small, next_free, kept_ban, pairs_of_more, length-pairs, followed}
+use Rattle.flow_residual.proofs.KeptLemmas.{at_most_all, room_left, next_small, next_free, kept_ban, pairs_of_more, length-pairs, one_each_lent, followed}
 use Rattle.flow_residual.proofs.residual.Residual.ban.Goals as goal
 
 pub overflow_cast-index : goal.overflow_cast-index
@@ -52,3 +52,15 @@ invariant_of-self c =
       bans_room = let same : vec_capacity c.push_reserved.new.self ≡ vec_capacity i.bans = c.push_reserved.ensures.capacity in
           let room : MOST_LEAVES ≤ vec_capacity i.bans = k.bans_room in omega arith;
     }
+
+pub follow-requires-clause-one_each : goal.follow-requires-clause-one_each
+follow-requires-clause-one_each c = one_each_lent c.self.inside c.deref.result.now c.deref_mut.result.now c.self.invariant c.deref.ensures.value c.deref_mut.ensures.value
+
+pub returns : goal.returns
+returns c =
+    let i = c.self.inside in
+    let index : c.len-index.result ≡ length i.journal.items = c.len-index.ensures ∙ i.journal.ok.0 in
+    let more = ap pairs_of_bans c.push_reserved.ensures.items ∙ pairs_of_more i.bans.items (record { index = c.len-index.result; leaf = c.args.leaf })
+    ∙ ap (λ n. pairs_of_bans i.bans.items ++ (n, c.args.leaf) ∷ []) index in
+    subst (λ (r : Remaining). remaining i.plans.items i.journal.items c.push_reserved.new.self.items ≡ record r { bans = r.bans ++ (length r.journal, c.args.leaf) ∷ [] }) c.self.view_is
+    (ap (λ (bans : List (ℕ × ℕ)). record (remaining i.plans.items i.journal.items i.bans.items) { bans = bans }) more)

@@ -1,5 +1,5 @@
 use Rattle.std.proofs.Common.{◌≡◌, true≢false, Some, slice_get, slice_index, sym, subst₂, ◌∙◌, arith}
-use Rattle.std.proofs.lemmas.Option.{slice_get_within, get_or_from_slice_get}
+use Rattle.std.proofs.lemmas.Option.{slice_get-get_or, slice_get_within, get_or_from_slice_get}
 use Rattle.flow_model.specs.Lists.{◌∈◌}
 use Rattle.flow_model.specs.Process.{leaves}
 use Rattle.flow_model.specs.Resolution.{ChoiceOption}
@@ -42,3 +42,10 @@ returns c o at =
       },
       λ opening. bans.1 opening.unbanned,
     )
+
+pub returns-in_default : goal.returns-in_default
+returns-in_default c o at = (
+  λ wrong. absurd (true≢false (sym wrong)),
+  λ opening.
+      let there = slice_get-get_or c.args.self.now.journal c.args.index 0 opening.within in absurd (c.in_default.not-Some _ (c.done_at.ensures ∙ there)),
+)

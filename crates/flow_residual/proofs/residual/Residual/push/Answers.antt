@@ -8,7 +8,7 @@ use Rattle.flow_residual.specs.Options.{EachHas}
 use Rattle.flow_residual.specs.Tracks.{IsTrack}
 use Rattle.flow_residual.specs.Invariant.{IsKept}
 use Rattle.flow_residual.proofs.DoneLemmas.{AreDone, done_push}
-use Rattle.flow_residual.proofs.KeptLemmas.{room_left, next_small, next_fresh, kept_push, followed}
+use Rattle.flow_residual.proofs.KeptLemmas.{room_left, next_small, next_fresh, kept_push, one_each_lent, followed}
 use Rattle.flow_residual.proofs.residual.Residual.push.Goals as goal
 
 pub follow-requires-clause-done : goal.follow-requires-clause-done
@@ -52,3 +52,6 @@ invariant_of-self c =
           let room : MOST_LEAVES ≤ vec_capacity i.journal = k.journal_room in omega arith;
       bans_room = k.bans_room;
     }
+
+pub follow-requires-clause-one_each : goal.follow-requires-clause-one_each
+follow-requires-clause-one_each c = one_each_lent c.self.inside c.deref.result.now c.deref_mut.result.now c.self.invariant c.deref.ensures.value c.deref_mut.ensures.value

@@ -13,7 +13,7 @@ use Rattle.flow_residual.specs.Options.{EachHas}
 use Rattle.flow_residual.specs.Tracks.{IsTrack}
 use Rattle.flow_residual.specs.Invariant.{IsKept, banned}
 use Rattle.flow_residual.proofs.DoneLemmas.{AreDone}
-use Rattle.flow_residual.proofs.KeptLemmas.{few_front, rewind_room, kept_rewind, pairs_of_more, pairs_of_left, length-pairs, followed}
+use Rattle.flow_residual.proofs.KeptLemmas.{few_front, rewind_room, kept_rewind, pairs_of_more, pairs_of_left, length-pairs, one_each_lent, followed}
 use Rattle.flow_residual.proofs.residual.Residual.rewind_to.Goals as goal
 
 pub follow-requires-clause-done : goal.follow-requires-clause-done
@@ -88,3 +88,6 @@ pub progress_of-self-inside-requires : goal.progress_of-self-inside-requires
 progress_of-self-inside-requires c =
     let i = c.self.inside in
     subst (Each (λ n. n < MOST_LEAVES)) (sym (c.deref-3.ensures.value ∙ c.truncate.ensures.items)) (few_front i.journal.items c.args.index c.self.invariant.kept.done).small
+
+pub follow-requires-clause-one_each : goal.follow-requires-clause-one_each
+follow-requires-clause-one_each c = one_each_lent c.self.inside c.deref.result.now c.deref_mut.result.now c.self.invariant c.deref.ensures.value c.deref_mut.ensures.value
