@@ -17,3 +17,6 @@ unreachable-requires c = elim c.in-Wait.is [
   | inl h ↦ c.requires.moves h.0 h.1
   | inr h ↦ c.requires.unfinished end.Committed (subst (IsNext c.args.core.now) h c.requires.next)
 ]
+
+pub act-requires-clause-next : goal.act-requires-clause-next
+act-requires-clause-next c = subst (IsNext c.args.core.now) c.in-Act.is c.requires.next

@@ -66,3 +66,8 @@ loop-call-preserved g c =
     goes_on_from c.args.self.now c.args.by mid c.post.new.self c.loop-call.invariant
     (goes_on_from mid c.args.by next c.post.new.self first
     (posted next c.match-begin.call c.perform-outcome.result c.args.by c.post.new.self first.within c.post.ensures))
+
+pub returns-in-Over-clause-continued : goal.returns-in-Over-clause-continued
+returns-in-Over-clause-continued g c =
+    let mid = c.loop-call.self-inside.held in
+    (goes_on_from c.args.self.now c.args.by mid c.begin.new.self c.loop-call.invariant (begun mid c.args.by c.begin.result c.begin.new.self c.loop-call.invariant.within c.begin.ensures)).continued

@@ -31,3 +31,6 @@ returns-then-not-is_out c = record {
   ));
   legal = rw (← c.self.view_is) c.self.invariant.legal;
 }
+
+pub tell-failed-requires-clause-out : goal.tell-failed-requires-clause-out
+tell-failed-requires-clause-out c = c.is_out.ensures.0 c.if-not-is_out.false
