@@ -1,4 +1,4 @@
-use Rattle.std.proofs.Common.{◌<◌, subst, sym, arith}
+use Rattle.std.proofs.Common.{◌<◌, ◌↔◌, IsTrue, subst, sym, arith}
 use Rattle.std.proofs.lemmas.Bool.{ltb-true}
 use Rattle.flow_laws.proofs.Members.{each_member}
 use Rattle.flow_model.specs.declared.limits.TheConstants.{MOST_LEAVES}
@@ -15,3 +15,8 @@ returns-else-leaf-lt-MOST_LEAVES c = (
       let small : c.args.leaf < MOST_LEAVES = each_member (λ n. n < MOST_LEAVES) c.self.inside.journal.items c.self.invariant.kept.done.small c.args.leaf there in
       absurd (omega arith),
 )
+
+pub returns-then-leaf-lt-MOST_LEAVES : goal.returns-then-leaf-lt-MOST_LEAVES
+returns-then-leaf-lt-MOST_LEAVES c =
+    subst (λ (r : Remaining). IsTrue c.has.result ↔ (c.args.leaf ∈ r.journal)) c.self.view_is
+    (subst (λ b. IsTrue b ↔ (c.args.leaf ∈ c.self.inside.journal.items)) (sym c.has.ensures) (c.self.invariant.done_are c.args.leaf))

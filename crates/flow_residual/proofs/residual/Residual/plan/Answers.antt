@@ -1,4 +1,4 @@
-use Rattle.std.proofs.Common.{◌<◌, length, sym, subst}
+use Rattle.std.proofs.Common.{◌≡◌, ◌<◌, ◌∙◌, length, Some, slice_get, sym, ap, subst}
 use Rattle.flow_plan.specs.Planned.{Planned}
 use Rattle.flow_model.proofs.Lists.{mem-slice_get}
 use Rattle.flow_laws.proofs.Members.{each_member}
@@ -15,3 +15,11 @@ returns-clause-fits c =
     let at = plan_at plans c.args.place c.index.result.now (subst (λ n. c.args.place < n) (length-options plans) below) c.index.ensures in
     subst (λ (p : Planned). HasSmallLeaves (option_of p)) (sym c.plan.ensures)
     (each_member HasSmallLeaves (options_of plans) c.self.invariant.kept.fits (option_of c.index.result.now.plan) (mem-slice_get (options_of plans) c.args.place _ at))
+
+pub returns-clause-at : goal.returns-clause-at
+returns-clause-at c =
+    let plans = c.self.inside.plans.items in
+    let below : c.args.place < length (options_of plans) = subst (λ (r : Remaining). c.args.place < length r.options) (sym c.self.view_is) c.requires in
+    let at = plan_at plans c.args.place c.index.result.now (subst (λ n. c.args.place < n) (length-options plans) below) c.index.ensures in
+    subst (λ (r : Remaining). slice_get r.options c.args.place ≡ Some (option_of c.plan.result.now)) c.self.view_is
+    (at ∙ ap (λ (p : Planned). Some (option_of p)) (sym c.plan.ensures))
