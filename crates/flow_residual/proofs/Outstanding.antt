@@ -1,8 +1,9 @@
 -- The places and the leaves of the claims that are out.
-use Rattle.std.proofs.Common.{◌≡◌, ◌≤◌, ◌<◌, ◌+◌, ℕ, zero, suc, Bool, true, cond, nat_eq, ◌==◌, List, [], ◌∷◌, ◌++◌, length, map, set, Option, Some, None, slice_get, inl, inr, ◌↔◌, IsTrue, refl, sym, ap, ◌∙◌, subst, arith}
+use Rattle.std.proofs.Common.{◌≡◌, ◌≤◌, ◌<◌, ◌+◌, ℕ, zero, suc, Bool, true, cond, nat_eq, ◌==◌, List, [], ◌∷◌, ◌++◌, length, map, set, get_or, Bor, Option, Some, None, slice_get, inl, inr, ◌↔◌, IsTrue, MatchOption, refl, sym, ap, ◌∙◌, subst, arith}
 use Rattle.std.specs.List.{filter, list_any, remove, position_from}
 use Rattle.std.proofs.lemmas.Bool.{eqb-true, eq-eqb, cases_Bool}
-use Rattle.std.proofs.lemmas.Option.{slice_get_within}
+use Rattle.std.proofs.lemmas.Option.{slice_get_within, slice_get_read, slice_get_past}
+use Rattle.std.specs.Option.{IfSome, option_copied}
 use Rattle.flow_model.specs.Lists.{◌∈◌, Each}
 use Rattle.flow_model.proofs.Lists.{mem-slice_get}
 use Rattle.flow_laws.proofs.Members.{each_member}
@@ -62,6 +63,12 @@ is_among b x list other e same = (
   λ h. subst (λ l. x ∈ l) same ((among x list).0 (sym e ∙ h)),
   λ m. e ∙ (among x list).1 (subst (λ l. x ∈ l) (sym same) m),
 )
+
+-- what was looked up at a place, copied
+pub copied_at : {X : Type 0} (xs : List X) (i : ℕ) (found : Option (Bor X)) (P : Bor X → Type 0) → MatchOption found (length xs ≤ i) (λ x. (i < length xs) × P x) →
+    IfSome found (λ x. x.now ≡ get_or xs i x.now) → option_copied found ≡ slice_get xs i
+copied_at xs i None P past is = sym (slice_get_past xs i past)
+copied_at xs i (Some x) P here is = sym (slice_get_read xs (length xs) i x.now refl here.0 is)
 
 pub each_at : {A : Type 0} (P : A → Type 0) (xs : List A) (i : ℕ) (x : A) → Each P xs → slice_get xs i ≡ Some x → P x
 each_at P xs i x h at = each_member P xs h x (mem-slice_get xs i x at)
