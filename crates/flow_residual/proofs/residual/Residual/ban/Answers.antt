@@ -1,6 +1,7 @@
 use Rattle.std.proofs.Common.{◌≡◌, ◌≤◌, ◌<◌, ◌++◌, [], ◌∷◌, ℕ, List, length, sym, ap, ◌∙◌, subst, arith}
 use Rattle.std.specs.Vec.{vec_len, vec_capacity, with_items}
 use Rattle.flow_model.specs.declared.limits.TheConstants.{MOST_LEAVES}
+use Rattle.flow_residual.specs.declared.ban.Ban.{Ban}
 use Rattle.flow_residual.specs.declared.track.Change.TheVariants.{Banned}
 use Rattle.flow_residual.specs.Remaining.{Remaining, MayComeNext}
 use Rattle.flow_residual.specs.View.{remaining, pairs_of_bans}
@@ -56,11 +57,15 @@ invariant_of-self c =
 pub follow-requires-clause-one_each : goal.follow-requires-clause-one_each
 follow-requires-clause-one_each c = one_each_lent c.self.inside c.deref.result.now c.deref_mut.result.now c.self.invariant c.deref.ensures.value c.deref_mut.ensures.value
 
+-- the bans with one at the end of the journal
+banned_now : (bans new : List Ban) (journal : List ℕ) (index leaf : ℕ) → new ≡ bans ++ record { index = index; leaf = leaf } ∷ [] → index ≡ length journal →
+    pairs_of_bans new ≡ pairs_of_bans bans ++ (length journal, leaf) ∷ []
+banned_now bans new journal index leaf more is =
+    ap pairs_of_bans more ∙ pairs_of_more bans (record { index = index; leaf = leaf }) ∙ ap (λ n. pairs_of_bans bans ++ (n, leaf) ∷ []) is
+
 pub returns : goal.returns
 returns c =
     let i = c.self.inside in
-    let index : c.len-index.result ≡ length i.journal.items = c.len-index.ensures ∙ i.journal.ok.0 in
-    let more = ap pairs_of_bans c.push_reserved.ensures.items ∙ pairs_of_more i.bans.items (record { index = c.len-index.result; leaf = c.args.leaf })
-    ∙ ap (λ n. pairs_of_bans i.bans.items ++ (n, c.args.leaf) ∷ []) index in
     subst (λ (r : Remaining). remaining i.plans.items i.journal.items c.push_reserved.new.self.items ≡ record r { bans = r.bans ++ (length r.journal, c.args.leaf) ∷ [] }) c.self.view_is
-    (ap (λ (bans : List (ℕ × ℕ)). record (remaining i.plans.items i.journal.items i.bans.items) { bans = bans }) more)
+    (ap (λ (bans : List (ℕ × ℕ)). record (remaining i.plans.items i.journal.items i.bans.items) { bans = bans })
+    (banned_now i.bans.items c.push_reserved.new.self.items i.journal.items _ c.args.leaf c.push_reserved.ensures.items (omega (arith, i.journal.ok.0))))
