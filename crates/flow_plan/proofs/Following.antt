@@ -39,8 +39,11 @@ orders_after p old new first list noted = (
 pub next_fits : (p : Planned) (done : Progress) (leaf : ℕ) → Fits p done → MayComeNext p (IsDone done) leaf → leaf < bound_of done
 next_fits p done leaf fits next = each_member (λ n. n < bound_of done) (leaves p.process) fits leaf next.leaf
 
+pub leaf_small : (p : Planned) (done : Progress) (leaf : ℕ) → Fits p done → leaf ∈ leaves p.process → leaf < MOST_LEAVES
+leaf_small p done leaf fits member = omega (arith, each_member (λ n. n < bound_of done) (leaves p.process) fits leaf member, done.small)
+
 pub next_small : (p : Planned) (done : Progress) (leaf : ℕ) → Fits p done → MayComeNext p (IsDone done) leaf → leaf < MOST_LEAVES
-next_small p done leaf fits next = omega (arith, next_fits p done leaf fits next, done.small)
+next_small p done leaf fits next = leaf_small p done leaf fits next.leaf
 
 pub all_small : (p : Planned) (done : Progress) (list : List ℕ) → Fits p done → Each (MayComeNext p (IsDone done)) list → Each (λ n. n < MOST_LEAVES) list
 all_small p done list fits all = each_to _ _ list (λ n next. next_small p done n fits next) all

@@ -1,8 +1,14 @@
 -- Leaves that a part keeps.
-use Rattle.std.proofs.Common.{◌≡◌, ℕ, Bool, true, false, cond, ◌&&◌, ◌↔◌, IsTrue, refl, sym, ◌∙◌}
+use Rattle.std.proofs.Common.{◌≡◌, ℕ, Bool, true, false, cond, not, ◌&&◌, ◌↔◌, inl, inr, ⊎_elim, IsTrue, refl, sym, subst, ◌∙◌}
 use Rattle.leaf_rows.specs.Leaves.{has_leaf}
+use Rattle.leaf_rows.specs.declared.leaf_set.LeafSet.{LeafSet}
 use Rattle.flow_plan.specs.declared.part_row.PartRow.{PartRow}
-use Rattle.flow_plan.specs.Parts.{PartAllows}
+use Rattle.flow_plan.specs.Parts.{PartAllows, KeepsBeside, KeepsAfter}
+
+-- what is not so
+is_not : (b : Bool) → ¬ IsTrue b → IsTrue (not b)
+is_not true wrong = absurd (wrong refl)
+is_not false wrong = refl
 
 -- what is kept, where the two tests say P of what is inside and of what is not
 pub kept_where : (new has inside inner outer : Bool) (P : Type 0) → new ≡ (has && cond inside inner outer) →
@@ -15,3 +21,32 @@ kept_where new false inside inner outer P is in_says out_says = (λ h. absurd (c
 -- a part that is not begun
 pub fresh_outside : (row : PartRow) (D : ℕ → Type 0) (n : ℕ) → ((k : ℕ) → IsTrue (has_leaf row.inside k) → D k → ⊥) → ¬ IsTrue (has_leaf row.inside n) → PartAllows row D n
 fresh_outside row D n untouched other = record { passes = λ o y z y_in y_done z_in. absurd (untouched y y_in y_done); begins = λ mine. absurd (other mine) }
+
+module _ (row : PartRow) (claims : LeafSet 16) (n : ℕ) (within meets : Bool) (within_is : IsTrue within ↔ ((k : ℕ) → IsTrue (has_leaf claims k) → IsTrue (has_leaf row.inside k)))
+    (meets_is : IsTrue meets ↔ ((k : ℕ) × IsTrue (has_leaf row.inside k) × IsTrue (has_leaf claims k))) where
+  -- where no claimed leaf is inside
+  apart : IsTrue (not meets) → (k : ℕ) → IsTrue (has_leaf claims k) → IsTrue (has_leaf row.inside k) → ⊥
+  apart none k claimed inside = absurd (let both = meets_is.1 (k, inside, claimed) in cc)
+
+  -- a part keeps a leaf beside the claimed ones
+  pub keeps_beside_inside : IsTrue (has_leaf row.inside n) → IsTrue within ↔ KeepsBeside row (λ x. IsTrue (has_leaf claims x)) n
+  keeps_beside_inside mine = (
+    λ yes x y x_in y_in has. ⊎_elim (λ same. subst (λ (k : ℕ). IsTrue (has_leaf row.inside k)) (sym same) mine) (λ claimed. within_is.0 yes y claimed) y_in,
+    λ all. within_is.1 (λ k claimed. all n k (inl refl) (inr claimed) mine),
+  )
+
+  pub keeps_beside_outside : ¬ IsTrue (has_leaf row.inside n) → IsTrue (not meets) ↔ KeepsBeside row (λ x. IsTrue (has_leaf claims x)) n
+  keeps_beside_outside other = (
+    λ yes x y x_in y_in has. ⊎_elim (λ same. absurd (other (subst (λ (k : ℕ). IsTrue (has_leaf row.inside k)) same has))) (λ claimed. absurd (apart yes x claimed has)) x_in,
+    λ all. is_not meets (λ met. let both = meets_is.0 met in other (all both.0 n (inr both.2) (inl refl) both.1)),
+  )
+
+  -- a part keeps the claimed ones after a leaf, where some of them is not inside
+  pub keeps_after_inside : within ≡ false → IsTrue (has_leaf row.inside n) → IsTrue false ↔ KeepsAfter row (λ x. IsTrue (has_leaf claims x)) n
+  keeps_after_inside some mine = (λ wrong. absurd (cc), λ all. let yes = within_is.1 (all.1 mine) in absurd (cc))
+
+  pub keeps_after_outside : within ≡ false → ¬ IsTrue (has_leaf row.inside n) → IsTrue (not meets) ↔ KeepsAfter row (λ x. IsTrue (has_leaf claims x)) n
+  keeps_after_outside some other = (
+    λ yes. (λ x y x_in y_in has. absurd (apart yes x x_in has), λ inside. absurd (other inside)),
+    λ all. is_not meets (λ met. let both = meets_is.0 met in let yes = within_is.1 (λ k claimed. all.0 both.0 k both.2 claimed both.1) in absurd (cc)),
+  )

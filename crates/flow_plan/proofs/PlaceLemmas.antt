@@ -48,3 +48,7 @@ rising_never_falls xs rising i j order within = ⊎_elim
     (λ before. omega (arith, AllPairs-from_increasing xs rising i j 0 before within))
     (λ after. let same : i ≡ j = omega arith in omega (arith, ap (λ (k : ℕ). get_or xs k 0) same))
     (cases_lt i j)
+
+-- a set of 16 words may be asked for such a leaf
+pub may_ask : (leaf : ℕ) → leaf < 1024 → (128 < 9223372036854775808) × (leaf < 1024)
+may_ask leaf small = (omega arith, small)

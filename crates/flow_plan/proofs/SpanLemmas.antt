@@ -12,6 +12,10 @@ use Rattle.flow_plan.specs.Spans.{at_span, IsEarlier, IsNotAfter, AreRising, Add
 
 -- ---- one span more
 
+-- a span that is there is not added
+pub adds_none : (span : Span) (spans : List Span) → span ∈ spans → AddsSpan span spans spans
+adds_none span spans member = record { kept = λ s m. m; sound = λ s m. inl m; complete = inr member; rising = λ rising before. rising }
+
 rising_push : (spans : List Span) (t : Span) → AreRising spans → ((s : Span) → s ∈ spans → IsEarlier s t) → AreRising (spans ++ t ∷ [])
 rising_push [] t rising earlier = (tt, tt)
 rising_push (s ∷ spans) t rising earlier = (

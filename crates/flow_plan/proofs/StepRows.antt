@@ -1,6 +1,6 @@
 -- What may come next in a plan, for all its leaves at once.
-use Rattle.std.proofs.Common.{◌≡◌, ℕ, ◌+◌, ◌<◌, Bool, true, false, not, ◌==◌, ◌&&◌, ◌||◌, ◌↔◌, IsTrue, eq-eqb, eqb-true, List, [], ◌∷◌, ◌++◌, length, take, get_or, inl, inr, ◌⊎◌, ⊎_elim, refl, sym, ap, ◌∙◌, subst}
-use Rattle.std.proofs.lemmas.List.{take_more}
+use Rattle.std.proofs.Common.{◌≡◌, ℕ, ◌+◌, ◌<◌, ◌≤◌, Bool, true, false, not, ◌==◌, ◌&&◌, ◌||◌, ◌↔◌, IsTrue, eq-eqb, eqb-true, List, [], ◌∷◌, ◌++◌, length, take, get_or, inl, inr, ◌⊎◌, ⊎_elim, refl, sym, ap, ◌∙◌, subst}
+use Rattle.std.proofs.lemmas.List.{take_all, take_more}
 use Rattle.std.proofs.lemmas.Bool.{or_cases, or_left, or_right}
 use Rattle.leaf_rows.specs.Leaves.{has_leaf}
 use Rattle.leaf_rows.specs.declared.leaf_set.LeafSet.{LeafSet}
@@ -38,6 +38,25 @@ kept_step P parts i row new now was within is step before =
       λ both. let parts = each_parts P (take i parts) (row ∷ []) (subst (λ l. Each P l) more both.1) in
           step.1 (before.1 (both.0, parts.0), parts.1.0),
     )
+
+-- each of the first parts, of one more
+pub each_part_more : (P : PartRow → Type 0) (parts : List PartRow) (i : ℕ) (row : PartRow) → i < length parts → row ≡ get_or parts i row → P row → Each P (take i parts) →
+    Each P (take (i + 1) parts)
+each_part_more P parts i row within is here so_far =
+    subst (λ (l : List PartRow). Each P l) (sym (take_more parts i row within ∙ ap (λ (r : PartRow). take i parts ++ r ∷ []) (sym is)))
+    (each-append P (take i parts) (row ∷ []) so_far (here, tt))
+
+-- each part
+pub every_part : (P : PartRow → Type 0) (parts : List PartRow) (i : ℕ) → length parts ≤ i → Each P (take i parts) → IsTrue true ↔ Each P parts
+every_part P parts i past all = (λ yes. subst (λ (l : List PartRow). Each P l) (take_all i parts past) all, λ every. refl)
+
+-- not each part, where some part does not
+pub not_every_part : (P : PartRow → Type 0) (parts : List PartRow) (i : ℕ) (row : PartRow) (answer : Bool) → i < length parts → row ≡ get_or parts i row →
+    (IsTrue answer ↔ P row) → answer ≡ false → IsTrue false ↔ Each P parts
+not_every_part P parts i row answer within is says fails = (
+  λ wrong. absurd (cc),
+  λ all. let yes = says.1 (each_member P parts all row (part_at parts i row row within is)) in absurd (cc),
+)
 
 -- ---- leaf by leaf
 

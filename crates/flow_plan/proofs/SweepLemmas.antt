@@ -1,12 +1,22 @@
 -- One mark that is read for rows.
-use Rattle.std.proofs.Common.{◌≡◌, ℕ, ◌+◌, zero, suc, List, [], ◌∷◌, ◌++◌, length, reverse, Some, MatchOption, slice_get, inl, inr, ◌⊎◌, refl, sym, ◌∙◌, ap, subst}
+use Rattle.std.proofs.Common.{◌≡◌, ◌≢◌, None, Option, IfSome, get_or, ◌<◌, ◌≤◌, ℕ, ◌+◌, zero, suc, List, [], ◌∷◌, ◌++◌, length, reverse, Some, MatchOption, slice_get, inl, inr, ◌⊎◌, refl, sym, ◌∙◌, ap, subst}
+use Rattle.std.specs.Borrow.{Bor}
+use Rattle.std.specs.List.{HoldsAt}
+use Rattle.std.specs.Option.{option_copied}
 use Rattle.std.proofs.lemmas.List.{reverse-append}
+use Rattle.std.proofs.lemmas.Option.{slice_get_past, slice_get-get_or}
 use Rattle.leaf_rows.specs.declared.leaf_set.LeafSet.{LeafSet}
 use Rattle.flow_model.specs.Process.{Process}
 use Rattle.flow_goal.specs.declared.node.Node.{Node}
 use Rattle.flow_goal.specs.declared.node.Node.TheVariants.{Nop, Leaf, Serial, Fork, Split, Join, Open, Close}
 use Rattle.flow_plan.specs.RowMarks.{IsWith, IsUnion, MakesRows, MakesRowsBy, AreAt, Completes, GoesOn, Passes}
 use Rattle.flow_plan.specs.declared.sweep.Sweep.{Sweep}
+
+-- what a slice gives at a place, as it stands there
+pub got : {T : Type 0} (xs : List T) (i : ℕ) (r : Option (Bor T)) → IfSome r (λ x. x.now ≡ get_or xs i x.now) →
+    MatchOption r (length xs ≤ i) (λ x. (i < length xs) × HoldsAt {X = T} (λ y. x.now ≡ y) xs i) → option_copied r ≡ slice_get xs i
+got xs i None is past = sym (slice_get_past xs i past)
+got xs i (Some x) is there = ap Some is ∙ sym (slice_get-get_or xs i x.now there.0)
 
 kept_get : (sets : List (LeafSet 16)) (x : LeafSet 16) (i : ℕ) (set : LeafSet 16) → slice_get sets i ≡ Some set → slice_get (sets ++ x ∷ []) i ≡ Some set
 kept_get [] x i set at = absurd (cc)
@@ -73,6 +83,18 @@ module _ (q : Process) (nodes : List Node) (ns : List ℕ) (k : ℕ) (sets : Lis
         (last_get sets all, kept_at sets all is forks are.1.1.1),
         h all (inr (inr (subst (λ (a : LeafSet 16). IsUnion a side all) (sym first) (subst (λ (b : LeafSet 16). IsUnion one b all) (sym second) is_all)))),
       )
+
+-- the sets of both are there
+module _ (q : Process) (nodes : List Node) (ns : List ℕ) (k : ℕ) (sets : List (LeafSet 16)) (i j both : ℕ) (is : List ℕ) (rows : List (LeafSet 16)) (h : MakesRowsBy q (Join ∷ nodes) ns k sets i (j ∷ both ∷ is) rows) where
+  pub first_there : slice_get sets i ≢ None
+  first_there e = let some = sym h.2.0 ∙ e in absurd (cc)
+
+  pub second_there : slice_get sets j ≢ None
+  second_there = second h
+    where
+      second : MakesRowsBy q (Join ∷ nodes) ns k sets i (j ∷ both ∷ is) rows → slice_get sets j ≢ None
+      second (ahead, [], are, h) e = absurd are.1
+      second (ahead, side ∷ forks, are, h) e = let some = sym are.1.0 ∙ e in absurd (cc)
 
 -- the last number is on top
 pub top_of : (numbers more : List ℕ) (i : ℕ) → more ≡ numbers ++ i ∷ [] → reverse more ≡ i ∷ reverse numbers

@@ -1,5 +1,5 @@
 -- Items that are made of the marks of a goal.
-use Rattle.std.proofs.Common.{◌≡◌, ℕ, ◌+◌, List, [], ◌∷◌, ◌++◌, length, map, reverse, Some, None, MatchOption, slice_get, inl, inr, refl, sym, ◌∙◌, ap, subst, append-nil, arith, Vec, Global, ◌==◌, true}
+use Rattle.std.proofs.Common.{◌≡◌, ℕ, ◌+◌, ◌<◌, List, [], ◌∷◌, ◌++◌, length, map, reverse, Some, None, MatchOption, slice_get, inl, inr, refl, sym, ◌∙◌, ap, subst, append-nil, arith, Vec, Global, ◌==◌, true, false, eq-eqb}
 use Rattle.std.proofs.lemmas.List.{map-append, reverse-append, nil_from_length}
 use Rattle.std.proofs.lemmas.Bool.{eqb-true}
 use Rattle.flow_plan.specs.Stacks.{WithTop}
@@ -17,6 +17,7 @@ use Rattle.flow_goal.proofs.WrittenLemmas.{StandAt, first_stand, second_stand, s
 use Rattle.flow_plan.specs.Planned.{Planned, pairs_of}
 use Rattle.flow_sample.specs.declared.gathering.Gathering.{Gathering}
 use Rattle.flow_sample.specs.declared.item.Item.{Item}
+use Rattle.flow_sample.specs.Rows.{AreApart, HasSome}
 use Rattle.flow_sample.specs.Items.{IsItemOf, AreItemsOf, AddsItems}
 use Rattle.flow_sample.specs.ItemMarks.{CanClose, MakesItems, Gathers, ReadsMark, stack_of}
 use Rattle.flow_sample.proofs.PieceLemmas.{adds_both, adds_none, adds_one, can_close}
@@ -101,6 +102,15 @@ none_missed p old new none nodes h =
     absurd (subst (λ (l : List (Vec Item Global)). WithTop (stack_of l) (λ before more. CanClose p.process (pairs_of p.tokens) old.items.items before
     (λ items. MakesItems p.process (pairs_of p.tokens) nodes p.leaves old.place items more))) none h)
 
+-- of the items of a part that ends
+pub inner_apart : (p : Planned) (before : Vec Item Global) (old : Gathering) (rest : Vec (Vec Item Global) Global) → old.outer.items ≡ rest.items ++ before ∷ [] →
+    (nodes : List Node) × Gathers p (Close ∷ nodes) old → AreApart old.items.items × (0 < length old.items.items → HasSome old.items.items)
+inner_apart p before old rest on (nodes, h) = let can = closing p before old (record old { outer = rest }) on refl nodes h in (can.apart, can.some)
+
 -- a vector of no length
 pub is_empty : {A : Type 0} (xs : List A) (n : ℕ) → n ≡ length xs → (n == 0) ≡ true → xs ≡ []
 is_empty xs n e t = nil_from_length xs (sym e ∙ eqb-true n 0 t)
+
+pub not_empty : {A : Type 0} (xs : List A) (n : ℕ) → n ≡ length xs → (n == 0) ≡ false → 0 < length xs
+not_empty [] n e t = let zero = eq-eqb n 0 e in absurd (cc)
+not_empty (x ∷ xs) n e t = omega arith

@@ -1,12 +1,12 @@
 -- An order of items that grows, and the walk to the next of them.
-use Rattle.std.proofs.Common.{◌≡◌, ℕ, ◌+◌, ◌-◌, ◌<◌, Bool, true, false, not, ◌&&◌, IsTrue, List, [], ◌∷◌, ◌++◌, ◌↔◌, ◌⊎◌, length, get_or, map, refl, sym, ap, ◌∙◌, subst, inl, inr, ⊎_elim, arith, length-append, true≢false, ◌||◌, Some, None, Option, slice_get, take, remove, append-nil}
+use Rattle.std.proofs.Common.{◌≡◌, ℕ, ◌+◌, ◌-◌, ◌<◌, ◌≤◌, Bool, true, false, not, ◌&&◌, IsTrue, List, [], ◌∷◌, ◌++◌, ◌↔◌, ◌⊎◌, length, get_or, map, refl, sym, ap, ◌∙◌, subst, inl, inr, ⊎_elim, arith, length-append, true≢false, ◌||◌, Some, None, Option, slice_get, take, remove, append-nil}
 use Rattle.std.proofs.lemmas.List.{take_more, map-append}
 use Rattle.std.proofs.lemmas.Bool.{both_ways, cases_lt, or_cases, or_left, or_right}
 use Rattle.std.proofs.lemmas.Option.{slice_get_past, slice_get_read, slice_get-get_or}
 use Rattle.leaf_rows.specs.declared.leaf_set.LeafSet.{LeafSet}
 use Rattle.leaf_rows.specs.Leaves.{has_leaf}
 use Rattle.flow_model.specs.Lists.{◌∈◌, Each, AreDistinct, StandsBefore, joined}
-use Rattle.flow_laws.proofs.Members.{each_member, decide_in, distinct-append, before_across, before_left, each_from_members, mem_append_left, mem_append_right, mem-append, at_most}
+use Rattle.flow_laws.proofs.Members.{each_member, only_one, decide_in, distinct-append, before_across, before_left, each_from_members, mem_append_left, mem_append_right, mem-append, at_most}
 use Rattle.flow_laws.proofs.MadeLists.{some_same, joined-append}
 use Rattle.flow_plan.proofs.PlaceLemmas.{read_member}
 use Rattle.flow_sample.specs.declared.item.Item.{Item}
@@ -141,7 +141,26 @@ module _ (items : List Item) (w : AreApart items) where
       let two = at_most (length items) longer a.distinct a.within in
       omega (arith, one, two, ap length e, ap length f, length-append order (top ∷ []))
 
+-- the first item of a walk
+pub begun_path : (items : List Item) (order path : List ℕ) (start : ℕ) → path ≡ start ∷ [] → start < length items → ¬ (start ∈ order) → IsPath items order path
+begun_path items order path start e there fresh = subst (IsPath items order) (sym e) (record {
+  distinct = ((λ m. m), tt);
+  within = λ n m. subst (λ z. z < length items) (sym (only_one n start m)) there;
+  fresh = λ n m. subst (λ z. ¬ (z ∈ order)) (sym (only_one n start m)) fresh;
+  trail = tt;
+})
+
 -- the top of a path
+
+pub no_top : (path seen : List ℕ) (o p : Option ℕ) → seen ≡ path → o ≡ slice_get seen 0 → p ≡ o → p ≡ None → path ≡ []
+no_top path seen o p e f g h = at path (sym (ap (λ (z : List ℕ). slice_get z 0) e) ∙ sym f ∙ sym g ∙ h)
+  where
+    at : (list : List ℕ) → slice_get list 0 ≡ None → list ≡ []
+    at [] k = refl
+    at (x ∷ more) k = absurd (cc)
+
+pub top_there : (path : List ℕ) (n top : ℕ) (more : List ℕ) → path ≡ top ∷ more → n ≡ length path → 0 < n
+top_there path n top more e f = omega (arith, f, ap length e)
 
 pub top_of : (path seen : List ℕ) (top : ℕ) (o p : Option ℕ) → seen ≡ path → o ≡ slice_get seen 0 → p ≡ o → p ≡ Some top → (more : List ℕ) × (path ≡ top ∷ more)
 top_of path seen top o p e f g h = at path (sym (ap (λ (z : List ℕ). slice_get z 0) e) ∙ sym f ∙ sym g ∙ h)
@@ -226,3 +245,16 @@ runs_more items order k item l w =
     let run : List ℕ = (get_or items (get_or order k 0) item).run.items in
     ap joined (read_more run_in items order k item l w) ∙ joined-append (map (λ n. run_in (slice_get items n)) (take k order)) (run ∷ [])
     ∙ ap (λ z. runs items (take k order) ++ z) (append-nil run)
+
+-- the union of the rows of all items
+pub union_of_all : (test : Option Item → ℕ → Bool) (items : List Item) (k : ℕ) (all : LeafSet 16) → ((n x : ℕ) → IsTrue (test (slice_get items n) x) → n < length items) → length items ≤ k →
+    IsUnion test items k all → (x : ℕ) → IsTrue (has_leaf all x) ↔ ((n : ℕ) × IsTrue (test (slice_get items n) x))
+union_of_all test items k all within past are x = (
+  λ h. let r = (are x).0 h in (r.0, r.2),
+  λ r. (are x).1 (r.0, omega (arith, within r.0 x r.1), r.1),
+)
+
+-- what an item says by its place
+pub item_row : (test : Option Item → ℕ → Bool) (items : List Item) (n : ℕ) (item : Item) → n < length items → item ≡ get_or items n item → (x : ℕ) →
+    test (slice_get items n) x ≡ test (Some item) x
+item_row test items n item within is x = ap (λ o. test o x) (slice_get_read items (length items) n item refl within is)

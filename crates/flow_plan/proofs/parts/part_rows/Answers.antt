@@ -1,7 +1,12 @@
-use Rattle.std.proofs.Common.{refl, subst, [], ℕ, List}
+use Rattle.std.proofs.Common.{◌<◌, get_or, refl, subst, [], ℕ, List}
+use Rattle.std.proofs.lemmas.Option.{slice_get-get_or}
+use Rattle.flow_model.specs.declared.limits.TheConstants.{MOST_LEAVES}
+use Rattle.flow_model.specs.Lists.{◌∈◌}
+use Rattle.flow_model.proofs.Lists.{mem-slice_get}
+use Rattle.flow_laws.proofs.Members.{each_member}
 use Rattle.flow_plan.specs.declared.span.Span.{Span}
 use Rattle.flow_plan.specs.Parts.{ArePartsFor}
-use Rattle.flow_plan.proofs.PartLemmas.{parts_of_spans}
+use Rattle.flow_plan.proofs.PartLemmas.{parts_of_spans, spans_fit, spans_long}
 use Rattle.flow_plan.proofs.parts.part_rows.Goals as goal
 
 pub returns : goal.returns
@@ -10,3 +15,14 @@ returns c = λ pairs rows.
     refl c.leaves-leaves.ensures.listed c.leaves-leaves.ensures.rising rows c.in_ok-spans.ensures
     (subst (λ (ns : List ℕ). ArePartsFor ns c.args.before.now c.in_ok-spans.spans.items c.in_ok-parts.parts.items) c.leaves-leaves.ensures.leaves
     (subst (λ (spans : List Span). ArePartsFor c.leaves-leaves.result.now c.args.before.now spans c.in_ok-parts.parts.items) c.deref.ensures.value c.in_ok-parts.ensures))
+
+pub rows_of_spans-requires-clause-small : goal.rows_of_spans-requires-clause-small
+rows_of_spans-requires-clause-small c k d within =
+    let leaves = c.leaves-leaves.result.now in
+    each_member (λ n. n < MOST_LEAVES) c.args.goal.now.leaves c.requires.small (get_or leaves k d)
+    (subst (λ (l : List ℕ). get_or leaves k d ∈ l) c.leaves-leaves.ensures.leaves (mem-slice_get leaves k (get_or leaves k d) (slice_get-get_or leaves k d within)))
+
+pub rows_of_spans-requires-clause-within : goal.rows_of_spans-requires-clause-within
+rows_of_spans-requires-clause-within c =
+    let long = spans_long c.args.goal.now.process c.args.goal.now.leaves [] c.in_ok-spans.spans.items refl c.leaves-leaves.ensures.listed c.in_ok-spans.ensures in
+    rw (c.deref.ensures.value, c.leaves-leaves.ensures.leaves) (spans_fit c.args.goal.now.leaves c.in_ok-spans.spans.items long)

@@ -32,3 +32,9 @@ pub returns : goal.returns
 returns c =
     subst (λ (ss : List Span). ArePartsFor c.args.leaves.now c.args.before.now ss c.loop-span.parts.items)
     (take_all c.loop-span.span-index c.args.spans.now c.loop-span-test.false) c.loop-span.invariant.0
+
+pub of-reach-requires-clause-span : goal.of-reach-requires-clause-span
+of-reach-requires-clause-span c = c.requires.within c.loop-span.span-index (record { first = 0; end = 0 }) c.loop-span-test.true
+
+pub of-reach-requires-clause-small : goal.of-reach-requires-clause-small
+of-reach-requires-clause-small c = c.requires.small

@@ -1,4 +1,5 @@
-use Rattle.std.proofs.Common.{◌≡◌, Some, slice_get, ℕ, List, [], ◌∷◌, ◌++◌, take, get_or, sym, subst}
+use Rattle.std.proofs.Common.{◌≡◌, Some, slice_get, ℕ, List, [], ◌∷◌, ◌++◌, take, get_or, length, ◌<◌, ap, sym, ◌∙◌, subst}
+use Rattle.std.specs.List.Sorted.{IsStrictlyIncreasing}
 use Rattle.flow_model.specs.Process.{Process}
 use Rattle.flow_model.specs.Ready.{DirectlyBefore}
 use Rattle.flow_model.specs.Lists.{◌∈◌}
@@ -28,3 +29,10 @@ loop-token-preserved c =
       | in_default w ↦ subst (λ (rows : List (LeafSet 16)). Are (pairs_of (take i c.args.tokens.now) ++ (t.sender, t.receiver) ∷ []) rows) (sym w.rows-is)
           (rows_without q _ t.sender t.receiver ns c.loop-token.rows (subst (λ (l : List ℕ). t.receiver ∈ l → ⊥) c.leaves-leaves.ensures.leaves w.in_default.ensures.missing) c.loop-token.invariant)
     ])
+
+pub bounds-rows-place-in-Some : goal.bounds-rows-place-in-Some
+bounds-rows-place-in-Some c =
+    subst (λ (n : ℕ). c.in-Some.place < n) (ap length c.leaves-leaves.ensures.leaves ∙ sym (c.loop-token.auto.rows ∙ c.requires.one_each)) c.in-Some.ensures.within
+
+pub place_of-requires : goal.place_of-requires
+place_of-requires c = subst IsStrictlyIncreasing (sym c.leaves-leaves.ensures.leaves) c.leaves-leaves.ensures.rising

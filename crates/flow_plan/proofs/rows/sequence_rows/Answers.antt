@@ -1,10 +1,12 @@
-use Rattle.std.proofs.Common.{ℕ, ◌+◌, List, drop, subst}
+use Rattle.std.proofs.Common.{ℕ, ◌+◌, List, drop, subst, sym, ◌∙◌}
+use Rattle.std.specs.List.Sorted.{IsStrictlyIncreasing}
 use Rattle.std.proofs.lemmas.List.{drop_all, drop_more}
 use Rattle.flow_model.specs.Ready.{InSequence}
 use Rattle.flow_goal.specs.declared.node.Node.{Node}
 use Rattle.flow_goal.specs.declared.node.Node.TheVariants.{Nop}
 use Rattle.flow_plan.specs.RowMarks.{Completes}
 use Rattle.flow_plan.specs.Rows.{AreRowsOf}
+use Rattle.flow_plan.proofs.MarkLemmas.{begun_rows}
 use Rattle.flow_plan.proofs.rows.sequence_rows.Goals as goal
 
 pub loop-node-preserved : goal.loop-node-preserved
@@ -20,3 +22,11 @@ returns c =
     let done = subst (λ (l : List Node). Completes q l c.leaves-leaves.result.now c.loop-node.sweep)
     (drop_all c.loop-node.node-index c.nodes-node-items.result.now c.loop-node-test.false) c.loop-node.invariant in
     subst (λ (ns : List ℕ). AreRowsOf (InSequence q) ns c.loop-node.sweep.rows.items) c.leaves-leaves.ensures.leaves done.3
+
+pub loop-node-init : goal.loop-node-init
+loop-node-init c =
+    let leaves = c.leaves-leaves.ensures in
+    let fresh = c.in_ok-sweep.ensures in
+    begun_rows c.args.goal.now.process c.nodes-node-items.result.now c.leaves-leaves.result.now c.in_ok-sweep.sweep c.nodes-node-items.ensures.choice_free
+    (subst IsStrictlyIncreasing (sym leaves.leaves) leaves.rising) c.nodes-node-items.ensures.nodes (leaves.leaves ∙ leaves.listed)
+    fresh.place fresh.sets fresh.ahead fresh.forks fresh.rows

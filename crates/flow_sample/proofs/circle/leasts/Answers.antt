@@ -1,4 +1,4 @@
-use Rattle.std.proofs.Common.{◌<◌, List, length, ℕ, ◌++◌, ◌∷◌, [], ◌∙◌, ap, map, sym, get_or}
+use Rattle.std.proofs.Common.{◌<◌, arith, List, length, ℕ, ◌++◌, ◌∷◌, [], ◌∙◌, ap, map, sym, get_or}
 use Rattle.std.proofs.lemmas.List.{take_all}
 use Rattle.flow_model.specs.Lists.{Each}
 use Rattle.flow_laws.proofs.Members.{each_member}
@@ -24,3 +24,8 @@ bounds-items-number c = inside c.args.numbers.now (length c.args.items.now) c.lo
 
 pub bounds-items-number-in-loop-number : goal.bounds-items-number-in-loop-number
 bounds-items-number-in-loop-number c = inside c.args.numbers.now (length c.args.items.now) c.loop-number.number-index c.requires c.loop-number-test.true
+
+pub offset_bounds-items-number : goal.offset_bounds-items-number
+offset_bounds-items-number c =
+    let within : get_or c.args.numbers.now c.loop-number.number-index 0 < length c.args.items.now = inside c.args.numbers.now (length c.args.items.now) c.loop-number.number-index c.requires c.loop-number-test.true in
+    omega arith

@@ -1,5 +1,5 @@
 use Rattle.std.proofs.Common.{◌+◌, List, drop, refl, subst}
-use Rattle.std.proofs.lemmas.List.{drop_more}
+use Rattle.std.proofs.lemmas.List.{drop_all, drop_more}
 use Rattle.flow_goal.specs.declared.node.Node.{Node}
 use Rattle.flow_goal.specs.declared.node.Node.TheVariants.{Nop}
 use Rattle.flow_sample.specs.ItemMarks.{Gathers}
@@ -25,3 +25,7 @@ loop-node-preserved c =
     let i = c.loop-node.node-index in
     c.in_ok-read.ensures (drop (i + 1) nodes)
     (subst (λ (l : List Node). Gathers c.args.plan.now l c.loop-node.gathering) (drop_more nodes i Nop c.loop-node-test.true) c.loop-node.invariant)
+
+pub returns : goal.returns
+returns c =
+    subst (λ (l : List Node). Gathers c.args.plan.now l c.loop-node.gathering) (drop_all c.loop-node.node-index c.nodes-node-items.result.now c.loop-node-test.false) c.loop-node.invariant

@@ -1,7 +1,8 @@
-use Rattle.std.proofs.Common.{◌<◌, ◌+◌, ℕ, List, take, ap, subst, sym, inl, inr, refl, ⊎_elim}
+use Rattle.std.proofs.Common.{◌<◌, ◌+◌, ℕ, List, length, take, ap, add-one-le, ◌∙◌, subst, sym, inl, inr, refl, ⊎_elim}
+use Rattle.std.proofs.lemmas.List.{length-take-le}
 use Rattle.flow_model.specs.Lists.{◌∈◌}
 use Rattle.flow_sample.proofs.RingLemmas.{ring_at}
-use Rattle.flow_sample.proofs.OrderLemmas.{top_of, rest_of, grown, path_on, path_back, fewer_on, fewer_back, start_on, holds_on, IsPath, steps}
+use Rattle.flow_sample.proofs.OrderLemmas.{begun_path, no_top, top_there, top_of, rest_of, grown, path_on, path_back, fewer_on, fewer_back, start_on, holds_on, IsPath, steps}
 use Rattle.flow_sample.proofs.order.put_in_order.Goals as goal
 
 pub blocker-requires-clause-there : goal.blocker-requires-clause-there
@@ -75,3 +76,34 @@ loop-top-preserved c =
       start = ⊎_elim inl (λ m. inr (subst (λ (z : List ℕ). c.args.start ∈ z) (sym {A = List ℕ} new) (inr m))) i.start;
       kept = i.kept;
     }
+
+pub loop-top-init : goal.loop-top-init
+loop-top-init c =
+    let path = c.in_ok-path.ensures.items in
+    record {
+      arranged = c.requires.arranged;
+      path = begun_path c.args.items.now c.args.order.now.items c.in_ok-path.path.items c.args.start path c.requires.there c.requires.fresh;
+      start = inr (subst (λ (z : List ℕ). c.args.start ∈ z) (sym {A = List ℕ} path) (inl refl));
+      kept = λ m member. member;
+    }
+
+pub returns : goal.returns
+returns c =
+    let i = c.loop-top.invariant in
+    let none = no_top c.loop-top.path.items c.deref.result.now (_) c.copied.result c.deref.ensures.value c.first.ensures.value c.copied.ensures c.in_default.is in (
+      i.arranged,
+      record { here = ⊎_elim (λ m. m) (λ m. absurd (subst (λ (z : List ℕ). c.args.start ∈ z) none m)) i.start; kept = i.kept },
+    )
+
+pub remove-requires : goal.remove-requires
+remove-requires c =
+    let t = top_of c.loop-top.path.items c.deref.result.now c.in-Some.top (_) c.copied.result c.deref.ensures.value c.first.ensures.value c.copied.ensures c.in-Some.is in
+    top_there c.loop-top.path.items c.loop-top.path.len c.in-Some.top t.0 t.1 c.loop-top.path.ok.0
+
+pub slice_bounds-refusal_of-end : goal.slice_bounds-refusal_of-end
+slice_bounds-refusal_of-end c =
+    sym (length-take-le (c.in-Some-place_in_path.place + 1) c.deref-in-Some-place_in_path.result.now
+    (add-one-le (subst (λ (z : List ℕ). c.in-Some-place_in_path.place < length z) (c.deref-in-Some-blocker.ensures.value ∙ sym c.deref-in-Some-place_in_path.ensures.value) c.in-Some-place_in_path.ensures.0)))
+
+pub blocker-requires-clause-within : goal.blocker-requires-clause-within
+blocker-requires-clause-within c x left = let r = (c.loop-top.invariant.arranged.rest x).0 left in (r.0, r.1)

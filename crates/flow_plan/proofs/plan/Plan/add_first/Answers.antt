@@ -18,3 +18,8 @@ pub returns-in-None : goal.returns-in-None
 returns-in-None c =
     adds_first c.args.self.now c.args.done.now c.args.list.now c.args.next.now c.args.claims.now c.args.found c.rest_of-rest.result c.rest_of-rest.ensures c.requires.next c.requires.claims c.requires.distinct
     (kept_as c.self.invariant c.self.view_is refl c.deref.ensures.value) c.in-None.ensures.none c.keep_for.result c.both.result c.both.ensures c.keep_for.ensures
+
+pub returns-in-Some : goal.returns-in-Some
+returns-in-Some c n =
+    c.add_only.ensures n
+    (first_or_found c.args.self.now c.args.done.now c.args.list.now c.args.next.now c.args.claims.now c.args.found c.rest_of-rest.result c.rest_of-rest.ensures c.requires.next c.requires.claims c.requires.distinct n)

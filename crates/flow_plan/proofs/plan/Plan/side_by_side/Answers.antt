@@ -4,7 +4,8 @@ use Rattle.flow_model.specs.Lists.{◌∈◌, Each, AreDistinct}
 use Rattle.flow_plan.specs.Progress.{IsDone}
 use Rattle.flow_plan.specs.Orders.{MayComeNext}
 use Rattle.flow_plan.specs.Rows.{IsRowOf}
-use Rattle.flow_plan.proofs.Following.{every_order, by_two}
+use Rattle.flow_plan.proofs.Following.{every_order, by_two, next_small}
+use Rattle.flow_plan.proofs.PlaceLemmas.{may_ask}
 use Rattle.flow_plan.proofs.StepRows.{orders_distinct}
 use Rattle.flow_plan.proofs.plan.Plan.side_by_side.Goals as goal
 use Rattle.flow_plan.proofs.plan.Plan.side_by_side.Goals.{then-not-ready-via-then-not-ready, then-not-ready-via-else-not-ready+then-not-each_ready}
@@ -46,3 +47,9 @@ returns-else-not-has c = (
   λ all. absurd ((orders_distinct c.args.self.now c.args.done.now (c.args.leaf ∷ c.args.claims.now) all).0
       ((c.in-Some.ensures.some.1 c.args.leaf).0 (sym c.has.ensures ∙ c.if-not-has.false))),
 )
+
+pub has-requires : goal.has-requires
+has-requires c = may_ask c.args.leaf (next_small c.args.self.now c.args.done.now c.args.leaf c.requires (c.ready.ensures.0 c.if-not-ready.false))
+
+pub with-requires : goal.with-requires
+with-requires c = next_small c.args.self.now c.args.done.now c.args.leaf c.requires (c.ready.ensures.0 c.if-not-ready.false)

@@ -1,7 +1,8 @@
-use Rattle.std.proofs.Common.{rules, ap, sym, ◌∙◌, [], ◌∷◌, ◌++◌, Vec, Global}
+use Rattle.std.proofs.Common.{rules, ap, subst, sym, ◌∙◌, [], ◌∷◌, ◌++◌, Vec, Global}
 use Rattle.flow_sample.specs.declared.gathering.Gathering.{Gathering}
 use Rattle.flow_sample.specs.declared.item.Item.{Item}
-use Rattle.flow_sample.proofs.GatheringLemmas.{part_read, none_read, none_missed, is_empty}
+use Rattle.flow_sample.specs.Rows.{AreApart, HasSome}
+use Rattle.flow_sample.proofs.GatheringLemmas.{part_read, none_read, none_missed, is_empty, not_empty, inner_apart}
 use Rattle.flow_sample.proofs.gathering.Gathering.close.Goals as goal
 use Rattle.flow_sample.proofs.gathering.Gathering.close.Goals.{in-Some, then-not-is_empty+in_ok-add_part, else-not-is_empty, in_default}
 
@@ -22,3 +23,12 @@ returns c = elim c.match-pop.branch [
       ]
   | in_default w ↦ none_missed c.args.plan.now c.args.self.now c.match-pop.self (search rules)
 ]
+
+pub add_part-requires-clause-apart : goal.add_part-requires-clause-apart
+add_part-requires-clause-apart c =
+    subst AreApart (sym c.deref.ensures.value) (inner_apart c.args.plan.now c.in-Some.before c.args.self.now c.pop.new.self c.in-Some.ensures.items c.requires).0
+
+pub add_part-requires-clause-some : goal.add_part-requires-clause-some
+add_part-requires-clause-some c =
+    subst HasSome (sym c.deref.ensures.value) ((inner_apart c.args.plan.now c.in-Some.before c.args.self.now c.pop.new.self c.in-Some.ensures.items c.requires).1
+    (not_empty c.args.self.now.items.items c.args.self.now.items.len c.args.self.now.items.ok.0 (sym c.is_empty.ensures ∙ c.if-not-is_empty.true)))

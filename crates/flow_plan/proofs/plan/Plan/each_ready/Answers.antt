@@ -1,0 +1,28 @@
+use Rattle.std.proofs.Common.{◌≡◌, ◌+◌, ◌<◌, ◌↔◌, Bool, false, ℕ, List, IsTrue, drop, get_or, length, subst, sym}
+use Rattle.std.proofs.lemmas.List.{drop_more}
+use Rattle.flow_model.specs.Lists.{Each}
+use Rattle.flow_laws.proofs.Members.{each_member}
+use Rattle.flow_plan.specs.Orders.{MayComeNext}
+use Rattle.flow_plan.specs.Progress.{IsDone}
+use Rattle.flow_plan.proofs.PlaceLemmas.{read_member}
+use Rattle.flow_plan.proofs.plan.Plan.each_ready.Goals as goal
+
+module _ (P : ℕ → Type 0) (list : List ℕ) (i : ℕ) (answer : Bool) (within : i < length list) (says : IsTrue answer ↔ P (get_or list i 0)) where
+  passed : IsTrue answer → Each P list ↔ Each P (drop i list) → Each P list ↔ Each P (drop (i + 1) list)
+  passed holds before = (
+    λ all. (subst (λ (l : List ℕ). Each P l) (drop_more list i 0 within) (before.0 all)).1,
+    λ rest. before.1 (subst (λ (l : List ℕ). Each P l) (sym (drop_more list i 0 within)) (says.0 holds, rest)),
+  )
+
+  failed : answer ≡ false → IsTrue false ↔ Each P list
+  failed fails = (λ wrong. absurd (cc), λ all. let yes = says.1 (each_member P list all (get_or list i 0) (read_member list i within)) in absurd (cc))
+
+pub loop-leaf-preserved : goal.loop-leaf-preserved
+loop-leaf-preserved c =
+    passed (MayComeNext c.args.self.now (IsDone c.args.done.now)) c.args.list.now c.loop-leaf.leaf-index c.ready.result
+    c.loop-leaf-test.true c.ready.ensures c.if-not-ready.false c.loop-leaf.invariant
+
+pub returns-then-not-ready : goal.returns-then-not-ready
+returns-then-not-ready c =
+    failed (MayComeNext c.args.self.now (IsDone c.args.done.now)) c.args.list.now c.loop-leaf.leaf-index c.ready.result
+    c.loop-leaf-test.true c.ready.ensures c.if-not-ready.true
