@@ -47,6 +47,13 @@ all_read (Some bytes) (Some rest) None read buffer n before after none end = abs
 all_read (Some bytes) (Some rest) (Some rest') read buffer n before after none end =
     let gone : rest ≡ [] = after ∙ (λ i. take (none i) buffer ++ end i) in (sym (before ∙ ap (λ r. read ++ r) gone ∙ append-nil read), ap Some end)
 
+-- what was read is within the buffer
+pub front_within : {A : Type 0} (n : ℕ) (part rest : List A) → n ≤ length part → n ≤ length (part ++ rest)
+front_within n part rest fits = omega (arith, length-append part rest)
+
+pub front_length : {A : Type 0} (n : ℕ) (part rest : List A) → n ≤ length part → n ≡ length (take n (part ++ rest))
+front_length n part rest fits = sym (length-take-le n (part ++ rest) (front_within n part rest fits))
+
 -- bytes that were read into a piece and copied from its front are read into the buffer
 pub gives_copied : (left left' : Option (List ℕ)) (buffer part rest copied : List ℕ) (n : ℕ)
     → n ≤ length part → copied ≡ take n (part ++ rest) → Consumes left left' (take n part)

@@ -7,13 +7,14 @@ use Rattle.flow_model.specs.Lists.{Begins, Each}
 use Rattle.flow_model.proofs.Lists.{each-append}
 use Rattle.atomic_table.specs.Table.{State, opening, Final, Seen, Splits, Joins}
 use Rattle.atomic_table.proofs.Lists.{at_set, set_here, set_else, at_longer}
+use Rattle.atomic_table.specs.Seated.{TableId}
 use Rattle.atomic_table.specs.declared.shared.Seat.{Seat}
 use Rattle.flow_turn.specs.declared.view.View.{View}
 use Rattle.flow_turn.specs.declared.view.Stage.TheVariants.{Idle, Serving, Joined}
 use Rattle.flow_turn.specs.Entries.{made_by, AreMade, Finds}
 use Rattle.flow_turn.specs.Turns.{tickets_at, living_at, tickets_of, living_of, Knows, IsGone, IsHome, IsOut, Place, IsInTurns, root_view}
 use Rattle.flow_turn.specs.Steps.{giving, given_view, taking, joined_view}
-use Rattle.flow_turn.specs.Passes.{Knowledge, IsAtRest, known_of, split_pass}
+use Rattle.flow_turn.specs.Passes.{Knowledge, IsAtRest, known_of, root_pass, split_pass}
 use Rattle.flow_turn.proofs.TurnLemmas.{value_in, known_by}
 use Rattle.flow_turn.proofs.ListLemmas.{total-set, total-append, total-two, Each-map, at_below, at_more, made_by-none}
 use Rattle.flow_turn.proofs.RuleLemmas.{serving_at, not_serving, each_set, stays, gone_elsewhere, IsGone-set}
@@ -233,6 +234,9 @@ module _ {T E F : Type 0} (entries : T → List E) (caller : E → ℕ) (fixed :
       )
 
 module _ {T E F : Type 0} where
+  pub knows_root : (seat : Seat (Option T) (View E F)) (table : TableId) (part : F) → seat.table_id ≡ table → seat.me ≡ (root_view part, []) → known_of seat ≡ root_pass table part
+  knows_root seat table part of_table me = λ i. known_by (of_table i) (me i).0
+
   pub split_knows : (old new : Seat (Option T) (View E F)) → new.table_id ≡ old.table_id → new.me ≡ (given_view old.me.0, []) → known_of new ≡ split_pass (known_of old)
   split_knows old new table me = λ i. known_by (table i) (me i).0
 
