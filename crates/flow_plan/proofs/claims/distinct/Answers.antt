@@ -23,3 +23,8 @@ pub returns-then-has-clause-none : goal.returns-then-has-clause-none
 returns-then-has-clause-none c =
     twice_there c.args.list.now c.loop-leaf.leaf-index c.loop-leaf-test.true
     ((c.loop-leaf.invariant.set (get_or c.args.list.now c.loop-leaf.leaf-index 0)).0 (sym c.has.ensures ∙ c.if-has.true))
+
+pub has-requires : goal.has-requires
+has-requires c =
+    let leaf : ℕ = get_or c.args.list.now c.loop-leaf.leaf-index 0 in
+    may_ask leaf (each_member (λ n. n < MOST_LEAVES) c.args.list.now c.requires leaf (read_member c.args.list.now c.loop-leaf.leaf-index c.loop-leaf-test.true))

@@ -1,4 +1,4 @@
-use Rattle.std.proofs.Common.{◌<◌, get_or, refl, subst, [], ℕ, List}
+use Rattle.std.proofs.Common.{◌<◌, ◌∙◌, ap, length, sym, get_or, refl, subst, [], ℕ, List}
 use Rattle.std.proofs.lemmas.Option.{slice_get-get_or}
 use Rattle.flow_model.specs.declared.limits.TheConstants.{MOST_LEAVES}
 use Rattle.flow_model.specs.Lists.{◌∈◌}
@@ -26,3 +26,6 @@ pub rows_of_spans-requires-clause-within : goal.rows_of_spans-requires-clause-wi
 rows_of_spans-requires-clause-within c =
     let long = spans_long c.args.goal.now.process c.args.goal.now.leaves [] c.in_ok-spans.spans.items refl c.leaves-leaves.ensures.listed c.in_ok-spans.ensures in
     rw (c.deref.ensures.value, c.leaves-leaves.ensures.leaves) (spans_fit c.args.goal.now.leaves c.in_ok-spans.spans.items long)
+
+pub rows_of_spans-requires-clause-one_each : goal.rows_of_spans-requires-clause-one_each
+rows_of_spans-requires-clause-one_each c = c.requires.one_each ∙ sym (ap length c.leaves-leaves.ensures.leaves)

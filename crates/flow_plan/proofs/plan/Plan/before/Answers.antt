@@ -13,3 +13,7 @@ returns-else-first-lt-MOST_LEAVES c = (
 
 pub returns-in-None : goal.returns-in-None
 returns-in-None c = (λ never. absurd (false≢true never), λ direct. absurd (c.in-None.ensures.none c.args.first direct))
+
+pub returns-then-first-lt-MOST_LEAVES : goal.returns-then-first-lt-MOST_LEAVES
+returns-then-first-lt-MOST_LEAVES c =
+    let row = c.in-Some.ensures.row c.args.first in (λ yes. row.0 (sym c.has.ensures ∙ yes), λ direct. c.has.ensures ∙ row.1 direct)

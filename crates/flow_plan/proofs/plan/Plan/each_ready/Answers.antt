@@ -1,5 +1,5 @@
-use Rattle.std.proofs.Common.{◌≡◌, ◌+◌, ◌<◌, ◌↔◌, Bool, false, ℕ, List, IsTrue, drop, get_or, length, subst, sym}
-use Rattle.std.proofs.lemmas.List.{drop_more}
+use Rattle.std.proofs.Common.{◌≡◌, ◌+◌, ◌<◌, ◌↔◌, Bool, false, ℕ, List, IsTrue, drop, get_or, length, refl, subst, sym}
+use Rattle.std.proofs.lemmas.List.{drop_all, drop_more}
 use Rattle.flow_model.specs.Lists.{Each}
 use Rattle.flow_laws.proofs.Members.{each_member}
 use Rattle.flow_plan.specs.Orders.{MayComeNext}
@@ -26,3 +26,9 @@ pub returns-then-not-ready : goal.returns-then-not-ready
 returns-then-not-ready c =
     failed (MayComeNext c.args.self.now (IsDone c.args.done.now)) c.args.list.now c.loop-leaf.leaf-index c.ready.result
     c.loop-leaf-test.true c.ready.ensures c.if-not-ready.true
+
+pub returns : goal.returns
+returns c = (
+  λ yes. c.loop-leaf.invariant.1 (subst (λ (l : List ℕ). Each (MayComeNext c.args.self.now (IsDone c.args.done.now)) l) (sym (drop_all c.loop-leaf.leaf-index c.args.list.now c.loop-leaf-test.false)) tt),
+  λ all. refl,
+)
