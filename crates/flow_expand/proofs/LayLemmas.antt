@@ -1,5 +1,5 @@
 -- Goals in a layout that grows, and what is written there.
-use Rattle.std.proofs.Common.{◌≡◌, ℕ, ◌+◌, ◌<◌, List, [], ◌∷◌, ◌++◌, length, slice_get, Some, refl, sym, ap, ◌∙◌, subst, arith, map, fold, get_or, take, Option, None, inl, inr, ⊎_elim, Result, Ok, Err}
+use Rattle.std.proofs.Common.{◌≡◌, ℕ, ◌+◌, ◌<◌, List, [], ◌∷◌, ◌++◌, length, slice_get, Some, refl, sym, ap, ◌∙◌, subst, arith, map, fold, get_or, take, Option, None, inl, inr, ⊎_elim, Result, Ok, Err, Vec, Global}
 use Rattle.std.proofs.lemmas.Option.{slice_get_within}
 use Rattle.std.specs.Prelude.{MatchOption}
 use Rattle.std.specs.Result.{IfOk}
@@ -9,10 +9,10 @@ use Rattle.flow_model.specs.Lists.{◌∈◌, Begins, Each}
 use Rattle.flow_laws.proofs.Shuffles.{of_shuffle}
 use Rattle.flow_facts.specs.Atom.{Atom}
 use Rattle.flow_workflow.proofs.Places.{at_end}
-use Rattle.flow_form.specs.declared.form.Form.{Form, Nop, Test, Absent, Ins, Del, Iso}
-use Rattle.flow_form.specs.declared.form.Form.TheVariants.{rolls-Nop, rolls-Test, rolls-Absent, rolls-Ins, rolls-Del}
+use Rattle.flow_form.specs.declared.form.Form.{Form, Nop, Test, Absent, Ins, Del, Serial, Beside, Either}
+use Rattle.flow_form.specs.declared.form.Form.TheVariants.{rolls-Nop, rolls-Test, rolls-Absent, rolls-Ins, rolls-Del, rolls-Serial, rolls-Beside, rolls-Either}
 use Rattle.flow_form.specs.declared.form.Form.TheFolds.{fold-roll-Form}
-use Rattle.flow_form.specs.Form.{Shape, Shapes, shapes, shape_of, shape_step, no_more, nop, named, test, absent, ins, del, iso}
+use Rattle.flow_form.specs.Form.{Shape, Shapes, shapes, shape_of, shape_step, no_more, nop, named, test, absent, ins, del, iso, serial, beside, either}
 use Rattle.flow_form.specs.Script.{Declared}
 use Rattle.flow_form.specs.Names.{event_names, declared_names}
 use Rattle.flow_form.specs.declared.form.Form.TheOpen as open_form
@@ -311,6 +311,15 @@ shape_of-Ins f a e = ap shape_of (e ∙ sym (rolls-Ins a)) ∙ fold-roll-Form Sh
 
 pub shape_of-Del : (f : Form) (a : Atom) → f ≡ Del a → shape_of f ≡ del a
 shape_of-Del f a e = ap shape_of (e ∙ sym (rolls-Del a)) ∙ fold-roll-Form Shape shape_step (open_form.Del a)
+
+pub shape_of-Serial : (f : Form) (forms : Vec Form Global) (xs : List Form) → f ≡ Serial forms → xs ≡ forms.items → shape_of f ≡ serial (shapes (map shape_of xs))
+shape_of-Serial f forms xs e g = ap shape_of (e ∙ sym (rolls-Serial forms)) ∙ fold-roll-Form Shape shape_step (open_form.Serial forms) ∙ ap (λ l. serial (shapes (map shape_of l))) (sym g)
+
+pub shape_of-Beside : (f : Form) (forms : Vec Form Global) (xs : List Form) → f ≡ Beside forms → xs ≡ forms.items → shape_of f ≡ beside (shapes (map shape_of xs))
+shape_of-Beside f forms xs e g = ap shape_of (e ∙ sym (rolls-Beside forms)) ∙ fold-roll-Form Shape shape_step (open_form.Beside forms) ∙ ap (λ l. beside (shapes (map shape_of l))) (sym g)
+
+pub shape_of-Either : (f : Form) (forms : Vec Form Global) (xs : List Form) → f ≡ Either forms → xs ≡ forms.items → shape_of f ≡ either (shapes (map shape_of xs))
+shape_of-Either f forms xs e g = ap shape_of (e ∙ sym (rolls-Either forms)) ∙ fold-roll-Form Shape shape_step (open_form.Either forms) ∙ ap (λ l. either (shapes (map shape_of l))) (sym g)
 
 pub list_step : (decls : List Declared) (layout : List Piece) (by : Pairing) (forms : List Form) (i : ℕ) (item : Form) (root : Root) → i < length forms → item ≡ get_or forms i item →
     ListGoes decls layout by (map shape_of (take i forms) ++ shape_of item ∷ []) root → ListGoes decls layout by (map shape_of (take (i + 1) forms)) root

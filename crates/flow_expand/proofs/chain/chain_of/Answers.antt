@@ -1,7 +1,7 @@
 use Rattle.std.proofs.Common.{◌≡◌, [], ◌++◌, ◌+◌, ◌<◌, ◌≤◌, ◌-◌, ℕ, List, length, map, take, drop, get_or, ap, sym, subst, ◌∙◌, arith}
 use Rattle.std.specs.Prelude.{All}
 use Rattle.std.proofs.lemmas.List.Elements.{All-take, All-drop}
-use Rattle.std.proofs.lemmas.List.{take_rest, length-drop}
+use Rattle.std.proofs.lemmas.List.{take_rest, length-drop, length-take-le}
 use Rattle.std.proofs.lemmas.Option.{slice_get_within}
 use Rattle.flow_expand.specs.Directory.{decls_of}
 use Rattle.flow_expand.specs.Steps.{flow_names}
@@ -52,3 +52,15 @@ place_of_least-least-requires c =
     let path = c.args.path.now in
     let p = c.place_of.result in
     subst (λ l. 0 < length l) (sym (take_rest path p)) (omega (arith, length-drop p path, slice_get_within path p c.args.next c.place_of.ensures))
+
+pub offset_bounds-path-place_of : goal.offset_bounds-path-place_of
+offset_bounds-path-place_of c = omega (arith, slice_get_within c.args.path.now c.place_of.result c.args.next c.place_of.ensures)
+
+pub slice_bounds-ring-count : goal.slice_bounds-ring-count
+slice_bounds-ring-count c = omega (arith, slice_get_within c.args.path.now c.place_of.result c.args.next c.place_of.ensures)
+
+pub slice_bounds-ring-start : goal.slice_bounds-ring-start
+slice_bounds-ring-start c = omega (arith, slice_get_within c.args.path.now c.place_of.result c.args.next c.place_of.ensures)
+
+pub slice_bounds-push_names-end-2 : goal.slice_bounds-push_names-end-2
+slice_bounds-push_names-end-2 c = sym (length-take-le (c.place_of_least-least.result + 1) _ (omega (arith, c.place_of_least-least.ensures.within)))

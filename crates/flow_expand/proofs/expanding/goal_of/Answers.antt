@@ -1,4 +1,4 @@
-use Rattle.std.proofs.Common.{subst}
+use Rattle.std.proofs.Common.{subst, refl}
 use Rattle.flow_goal.specs.Labelled.{Labelled}
 use Rattle.flow_goal.specs.Repeated.{IsFirstTwice}
 use Rattle.flow_expand.proofs.expanding.goal_of.Goals as goal
@@ -9,3 +9,6 @@ returns-in-Some-clause-refused c = record {
   measured = c.in_ok-goal.ensures.measured;
   first = subst (λ (t : Labelled). IsFirstTwice t c.in-Some.found) c.in_ok-goal.ensures.tree c.in-Some.ensures.some;
 }
+
+pub returns-clause-unique : goal.returns-clause-unique
+returns-clause-unique c = c.in_default.ensures.none.0 refl

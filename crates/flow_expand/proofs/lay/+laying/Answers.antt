@@ -1,12 +1,15 @@
-use Rattle.std.proofs.Common.{refl, sym, ap, subst, ◌∙◌, map, take}
+use denote.Param.Weighed.{at_most}
+use Rattle.std.proofs.Common.{arith, refl, sym, ap, subst, ◌∙◌, map, take}
 use Rattle.std.proofs.lemmas.List.{take_all}
 use Rattle.flow_form.specs.declared.form.Form.{Form}
 use Rattle.flow_form.specs.Form.{shape_of, iso}
 use Rattle.flow_form.proofs.Shapes.{shape_of-Iso}
+use Rattle.flow_form.proofs.form.Form.TheLaws.{the_size}
+use Rattle.std.specs.Result.{IfOk}
 use Rattle.flow_expand.specs.Expansion.{becomes_nop, becomes_test, becomes_absent, becomes_ins, becomes_del}
 use Rattle.flow_expand.specs.Directory.{decls_of}
-use Rattle.flow_expand.specs.Laid.{IsFront}
-use Rattle.flow_expand.proofs.LayLemmas.{ok_to, goes_plain, goes_iso, laid_more, begins_twice, front_more, list_step, shape_of-Nop, shape_of-Test, shape_of-Absent, shape_of-Ins, shape_of-Del}
+use Rattle.flow_expand.specs.Laid.{IsFront, Goes}
+use Rattle.flow_expand.proofs.LayLemmas.{ok_to, goes_plain, goes_iso, laid_more, begins_twice, front_more, list_step, shape_of-Nop, shape_of-Test, shape_of-Absent, shape_of-Ins, shape_of-Del, shape_of-Serial, shape_of-Beside, shape_of-Either}
 use Rattle.flow_expand.proofs.lay.+laying.Goals as goal
 
 pub lay-returns-in-Nop-clause-ok : goal.lay-returns-in-Nop-clause-ok
@@ -55,3 +58,37 @@ lay_list-returns-clause-ok t c =
     let decls = decls_of c.args.directory.now in
     let front = subst (λ forms. IsFront decls c.loop-place.layout.items c.args.how (map shape_of forms) c.loop-place.before) (take_all c.loop-place.place c.args.forms.now c.loop-place-test.false) c.loop-place.invariant.front in
     ok_to c.lay_end.result _ _ (λ whole put. put decls (map shape_of c.args.forms.now) front) c.lay_end.ensures.ok
+
+pub lay_list-returns-in_err-next-clause-grown : goal.lay_list-returns-in_err-next-clause-grown
+lay_list-returns-in_err-next-clause-grown t c = begins_twice _ _ _ c.loop-place.invariant.grown c.in_err-next.ensures.grown
+
+pub lay_list-returns-in_err-lay_next-clause-grown : goal.lay_list-returns-in_err-lay_next-clause-grown
+lay_list-returns-in_err-lay_next-clause-grown t c =
+    begins_twice _ _ _ c.loop-place.invariant.grown (begins_twice _ _ _ c.in_ok-next.ensures.grown c.in_err-lay_next.ensures.grown)
+
+pub lay_list-returns-clause-grown : goal.lay_list-returns-clause-grown
+lay_list-returns-clause-grown t c = begins_twice _ _ _ c.loop-place.invariant.grown c.lay_end.ensures.grown
+
+pub lay-returns-in_ok-root-in-Iso-clause-grown : goal.lay-returns-in_ok-root-in-Iso-clause-grown
+lay-returns-in_ok-root-in-Iso-clause-grown t c = begins_twice _ _ _ c.in_ok-root-in-Iso.ensures.grown c.put_isolated.ensures.grown
+
+pub lay-returns-in-Serial-clause-ok : goal.lay-returns-in-Serial-clause-ok
+lay-returns-in-Serial-clause-ok t c =
+    let same = shape_of-Serial c.args.form.now c.in-Serial.forms c.deref-in-Serial.result.now c.in-Serial.is c.deref-in-Serial.ensures.value in
+    subst (λ s. IfOk c.lay_list.result (Goes (decls_of c.args.directory.now) c.lay_list.new.layout.items s)) (sym same) c.lay_list.ensures.ok
+
+pub lay-returns-in-Beside-clause-ok : goal.lay-returns-in-Beside-clause-ok
+lay-returns-in-Beside-clause-ok t c =
+    let same = shape_of-Beside c.args.form.now c.in-Beside.forms c.deref-in-Beside.result.now c.in-Beside.is c.deref-in-Beside.ensures.value in
+    subst (λ s. IfOk c.lay_list-in-Beside.result (Goes (decls_of c.args.directory.now) c.lay_list-in-Beside.new.layout.items s)) (sym same) c.lay_list-in-Beside.ensures.ok
+
+pub lay-returns-in-Either-clause-ok : goal.lay-returns-in-Either-clause-ok
+lay-returns-in-Either-clause-ok t c =
+    let same = shape_of-Either c.args.form.now c.in-Either.forms c.deref-in-Either.result.now c.in-Either.is c.deref-in-Either.ensures.value in
+    subst (λ s. IfOk c.lay_list-in-Either.result (Goes (decls_of c.args.directory.now) c.lay_list-in-Either.new.layout.items s)) (sym same) c.lay_list-in-Either.ensures.ok
+
+pub lay_list-lay-requires : goal.lay_list-lay-requires
+lay_list-lay-requires t c = (
+  omega (arith, c.decreases, at_most the_size c.args.forms.now c.loop-place.place c.index-forms-place.result c.loop-place-test.true, ap the_size c.index-forms-place.is),
+  (c.member_ready.ensures, c.loop-place.invariant.laid),
+)

@@ -1,5 +1,5 @@
-use Rattle.std.proofs.Common.{◌≡◌, ◌∙◌, List, [], ap, map}
-use Rattle.flow_model.specs.Lists.{numbers_from}
+use Rattle.std.proofs.Common.{◌≡◌, ◌<◌, ◌^◌, ◌∙◌, List, [], ap, map, length, subst, sym}
+use Rattle.flow_model.specs.Lists.{numbers_from, AreDistinct}
 use Rattle.flow_form.specs.declared.script.Decl.{Decl}
 use Rattle.flow_form.specs.declared.script.Script.{Script}
 use Rattle.flow_form.specs.Script.{declared, said}
@@ -39,3 +39,9 @@ returns c =
     (c.in_ok-goal.ensures (event_names s.decls) c.requires.prepared.expansion (distinct_events s.decls c.requires.closed.once) c.requires.prepared.placed)
     c.args.laid.now.layout.items c.args.laid.now.root.place (record { facts = c.new-facts.result; held = c.in_ok-held.held; tree = c.tree_of-tree.result }) c.requires.prepared.placed
     (c.new-facts.ensures ∙ c.into_keys.ensures.keys) (c.in_ok-held.ensures ∙ ap (numbers_from 0) c.count.ensures) c.tree_of-tree.ensures.process c.tree_of-tree.ensures.labels
+
+pub new-facts-requires-clause-few : goal.new-facts-requires-clause-few
+new-facts-requires-clause-few c = subst (λ facts. length facts < 2 ^ 32) (sym c.into_keys.ensures.keys) c.into_keys.ensures.few
+
+pub new-facts-requires-clause-distinct : goal.new-facts-requires-clause-distinct
+new-facts-requires-clause-distinct c = subst AreDistinct (sym c.into_keys.ensures.keys) c.into_keys.ensures.distinct

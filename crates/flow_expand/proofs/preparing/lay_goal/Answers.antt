@@ -8,7 +8,7 @@ use Rattle.flow_workflow.specs.declared.refusal.ExpandRefusal.TheVariants as ref
 use Rattle.flow_workflow.specs.declared.refusal.Part.TheVariants as part
 use Rattle.flow_expand.specs.Expansion.{capped}
 use Rattle.flow_expand.specs.Directory.{decls_of}
-use Rattle.flow_expand.specs.Laid.{IsReady}
+use Rattle.flow_expand.specs.Laid.{IsLaid, IsReady}
 use Rattle.flow_expand.specs.Waiting.{IsFound}
 use Rattle.flow_expand.specs.Refusals.{rule_name_count}
 use Rattle.flow_expand.proofs.Declarations.{goal_declared, names_in_all}
@@ -60,3 +60,6 @@ returns-clause-ok c =
     let fits : c.most.result ≤ MOST_LEAVES = search rules in
     prepared d _ _ c.in_ok-settle_all.ensures.settling.laid all s c.requires.closed c.requires.decls c.requires.few c.lay.new.layout.items c.in_ok-root.root c.in_ok-root.ensures.ok c.most.result c.most.ensures
     fits c.count_names.result written c.in_ok-at_most-2.ensures.ok
+
+pub lay-requires-clause-laid : goal.lay-requires-clause-laid
+lay-requires-clause-laid c = subst (λ l. IsLaid c.args.directory.now l c.settle_all.new.self.layout.items) (sym c.deref.ensures.value) c.in_ok-settle_all.ensures.settling.laid

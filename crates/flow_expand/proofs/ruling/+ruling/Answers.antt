@@ -1,7 +1,12 @@
-use Rattle.std.proofs.Common.{◌≡◌, ◌+◌, ◌++◌, ◌∷◌, [], get_or, map, take, sym, ap, ◌∙◌}
+use denote.Param.Weighed.{at_most}
+use Rattle.std.proofs.Common.{arith, ◌≡◌, ℕ, List, subst, ◌+◌, ◌++◌, ◌∷◌, [], get_or, map, take, sym, ap, ◌∙◌}
 use Rattle.std.proofs.lemmas.List.{map_push, map_more, take_all}
+use Rattle.flow_model.specs.Lists.{◌∈◌, Each}
 use Rattle.flow_model.specs.Constraint.{all_of}
 use Rattle.flow_form.specs.RuleForm.{rule_shape_of, rule_shapes}
+use Rattle.flow_form.specs.Names.{names_in_rule}
+use Rattle.flow_form.proofs.Shapes.{shape_of-Order}
+use Rattle.flow_form.proofs.rule_form.RuleForm.TheLaws.{the_size}
 use Rattle.flow_workflow.specs.Rule.{any_of, rule_of}
 use Rattle.flow_workflow.proofs.RuleViews.{rule_of-And, rule_of-Or}
 use Rattle.flow_expand.specs.Constraints.{constraint_of, constraints_of}
@@ -37,3 +42,14 @@ rules_of-loop-place-preserved t c =
 pub rules_of-returns : goal.rules_of-returns
 rules_of-returns t c =
     c.loop-place.invariant ∙ ap (λ forms. constraints_of c.args.workflow.now.events (rule_shapes (map rule_shape_of forms))) (take_all c.loop-place.place c.args.forms.now c.loop-place-test.false)
+
+pub rule_of-numbers_of-requires : goal.rule_of-numbers_of-requires
+rule_of-numbers_of-requires t c =
+    let known = λ (n : List ℕ). n ∈ c.args.workflow.now.events in
+    subst (Each known) (sym c.deref.ensures.value) (subst (λ shape. Each known (names_in_rule shape)) (shape_of-Order c.args.form.now c.in-Order.names c.in-Order.is) c.requires)
+
+pub rules_of-rule_of-requires : goal.rules_of-rule_of-requires
+rules_of-rule_of-requires t c = (
+  omega (arith, c.decreases, at_most the_size c.args.forms.now c.loop-place.place c.index-forms-place.result c.loop-place-test.true, ap the_size c.index-forms-place.is),
+  c.member_known.ensures,
+)

@@ -1,9 +1,9 @@
-use Rattle.std.proofs.Common.{rules, arith, ◌≡◌, ◌<◌, ℕ, length, slice_get, Option, Some, None, refl, sym, subst, ap, ◌∙◌}
+use Rattle.std.proofs.Common.{rules, arith, ◌≡◌, ◌<◌, ℕ, length, slice_get, Option, Some, None, true, refl, sym, subst, ap, ◌∙◌}
 use Rattle.flow_model.specs.Lists.{◌∈◌, Each}
-use Rattle.std.specs.Prelude.{IfSome}
+use Rattle.std.specs.Prelude.{IfSome, MatchOption, is_some}
 use Rattle.flow_form.specs.Form.{shape_of}
 use Rattle.flow_form.specs.Names.{names_in}
-use Rattle.flow_expand.specs.Laid.{IsLaidAt, IsReady}
+use Rattle.flow_expand.specs.Laid.{IsLaid, IsLaidAt, IsReady}
 use Rattle.flow_expand.proofs.Declarations.{flow_at}
 use Rattle.flow_expand.proofs.LayLemmas.{ready}
 use Rattle.flow_expand.proofs.SettleLemmas.{laid_set, calls_many, list_at, calls_at, calls_found, named_call, all_laid, seen_to, seen_moved, seen_kept, laid_stays}
@@ -12,6 +12,10 @@ use Rattle.flow_expand.proofs.settling.Settling.attempt.Goals as goal
 some_to : (o : Option ℕ) (P : ℕ → Type 0) → ((k : ℕ) → o ≡ Some k → P k) → IfSome o P
 some_to None P f = tt
 some_to (Some k) P f = f k refl
+
+where_some : (o : Option ℕ) (P : Type 0) (Q : ℕ → Type 0) → true ≡ is_some o → ((k : ℕ) → Q k) → MatchOption o P Q
+where_some None P Q e f = absurd (cc)
+where_some (Some k) P Q e f = f k
 
 pub returns-then-is_some-clause-waits : goal.returns-then-is_some-clause-waits
 returns-then-is_some-clause-waits c =
@@ -84,3 +88,12 @@ returns-then-is_some-clause-settling c =
 pub index-requires : goal.index-requires
 index-requires c =
     omega (arith, calls_many c.args.directory.now c.args.self.now.calls.items c.requires.settling.calls, c.args.self.now.calls.ok.0, c.args.directory.now.goals.ok.0, c.requires.within)
+
+pub lay-requires-clause-laid : goal.lay-requires-clause-laid
+lay-requires-clause-laid c = subst (λ l. IsLaid c.args.directory.now l c.args.self.now.layout.items) (sym c.deref-2.ensures.value) c.requires.settling.laid
+
+pub returns-clause-laid : goal.returns-clause-laid
+returns-clause-laid c = (c.in_ok-root.root, refl)
+
+pub returns-then-is_some-clause-laid : goal.returns-then-is_some-clause-laid
+returns-then-is_some-clause-laid c = where_some c.call_at-next.result _ _ c.if-is_some.ensures (λ k. refl)
