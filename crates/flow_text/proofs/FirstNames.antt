@@ -1,6 +1,6 @@
 -- What the passes find is the first role of its kind.
-use Rattle.std.proofs.Common.{◌≡◌, ℕ, ◌+◌, List, [], ◌∷◌, ◌++◌, length, Bool, true, false, cond, refl, sym, ap, subst, ◌∙◌, append_assoc, append-nil, arith}
-use Rattle.std.specs.Prelude.{Option, Some, None, not}
+use Rattle.std.proofs.Common.{◌≡◌, ℕ, ◌+◌, List, [], ◌∷◌, ◌++◌, length, Bool, true, false, cond, refl, sym, ap, subst, ◌∙◌, append_assoc, append-nil, arith, IsErrOf}
+use Rattle.std.specs.Prelude.{Option, Some, None, not, Ok, Err}
 use Rattle.std.specs.List.{position_from}
 use Rattle.std.proofs.lemmas.Bool.{not-false}
 use Rattle.std.proofs.lemmas.Grind.{flat_map-append}
@@ -10,6 +10,8 @@ use Rattle.flow_form.specs.Names.{declared_names, event_names}
 use Rattle.flow_grammar.specs.Roles.{Role, declares, in_goal, in_rule, declared_by, declaring, used_in_goals, used_in_rules, script_roles, query_roles}
 use Rattle.flow_grammar.proofs.RolesOfNames.{roles_are_the_names}
 use Rattle.flow_text.specs.declared.known.Known.{Known}
+use Rattle.flow_text.specs.declared.name_refusal.NameRefusal.{NameRefusal}
+use Rattle.flow_text.specs.declared.name_refusal.NameRefusal.TheVariants.{Repeated, Unknown}
 use Rattle.flow_text.specs.GoodNames.{IsRepeated, IsUnknown, IsFirst, HasGoodNames, IsFirstRepeated, IsFirstUnknown, AsksOfEvents, AsksFirstOfOther}
 use Rattle.flow_text.specs.KnownNames.{NameSet, no_names, HasJust, is_again, after, repeated_from, is_unknown, has, has_as_event, KnowsThose}
 use Rattle.flow_text.proofs.KnownNames.{none_held, held_more, held_none, distinct_more}
@@ -224,3 +226,28 @@ query_good q s known roles is knows e =
 pub none_of : (o : Option ℕ) → ((k : ℕ) → o ≡ Some k → ⊥) → o ≡ None
 none_of None out = refl
 none_of (Some k) out = absurd (out k refl)
+
+-- one refusal has one index
+pub same_repeated : {T : Type 0} (j k : ℕ) → IsErrOf {T = T} {E = NameRefusal} (Err (Repeated j)) (Repeated k) → j ≡ k
+same_repeated j k e = cc
+
+pub same_unknown : {T : Type 0} (j k : ℕ) → IsErrOf {T = T} {E = NameRefusal} (Err (Unknown j)) (Unknown k) → j ≡ k
+same_unknown j k e = cc
+
+pub not_repeated : {T : Type 0} (j k : ℕ) → IsErrOf {T = T} {E = NameRefusal} (Err (Unknown j)) (Repeated k) → ⊥
+not_repeated j k e = cc
+
+pub not_unknown : {T : Type 0} (j k : ℕ) → IsErrOf {T = T} {E = NameRefusal} (Err (Repeated j)) (Unknown k) → ⊥
+not_unknown j k e = cc
+
+pub not_err : {T : Type 0} {x : T} (refusal : NameRefusal) → IsErrOf {T = T} {E = NameRefusal} (Ok x) refusal → ⊥
+not_err refusal e = cc
+
+-- one role is gone through
+pub repeated_on : (set grown : NameSet) (place : ℕ) (r : Role) (roles : List Role) → false ≡ is_again set r → grown ≡ after set r →
+    repeated_from set place (r ∷ roles) ≡ repeated_from grown (place + 1) roles
+repeated_on set grown place r roles new is =
+    ap (λ b. cond b (Some place) (repeated_from (after set r) (place + 1) roles)) (sym new) ∙ ap (λ s. repeated_from s (place + 1) roles) (sym is)
+
+pub repeated_here : (set : NameSet) (place : ℕ) (r : Role) (roles : List Role) → true ≡ is_again set r → repeated_from set place (r ∷ roles) ≡ Some place
+repeated_here set place r roles again = ap (λ b. cond b (Some place) (repeated_from (after set r) (place + 1) roles)) (sym again)

@@ -137,7 +137,12 @@ one_finding : {V : Type 0} (read : List Symbol → Reading V) (text : List ℕ) 
 one_finding read text (no_ascii p) (no_ascii q) h k = ap no_ascii (one_byte text p q h k)
 one_finding read text (bad_token p) (bad_token q) (ascii, bad) (ascii', bad') = let same : p ≡ q = cc in ap bad_token same
 one_finding read text (read_as r) (read_as s) (ascii, bad, e) (ascii', bad', e') = ap read_as (sym e ∙ e')
-one_finding read text f g h k = absurd (first_of (cc, search no_first))
+one_finding read text (no_ascii p) (bad_token q) h (ascii, bad) = absurd (no_first text p ascii h)
+one_finding read text (no_ascii p) (read_as s) h (ascii, bad, e) = absurd (no_first text p ascii h)
+one_finding read text (bad_token p) (no_ascii q) (ascii, bad) k = absurd (no_first text q ascii k)
+one_finding read text (read_as r) (no_ascii q) (ascii, bad, e) k = absurd (no_first text q ascii k)
+one_finding read text (bad_token p) (read_as s) (ascii, bad) (ascii', bad', e') = absurd (let differ : Some p ≡ None = sym bad ∙ bad' in cc)
+one_finding read text (read_as r) (bad_token q) (ascii, bad, e) (ascii', bad') = absurd (let differ : Some q ≡ None = sym bad' ∙ bad in cc)
 
 -- The answer that says it
 

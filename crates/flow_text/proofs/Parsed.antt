@@ -1,6 +1,6 @@
 -- What reading gives, in the words of the grammar.
-use Rattle.std.proofs.Common.{◌≡◌, ℕ, suc, ◌+◌, ◌≤◌, ◌<◌, ◌^◌, List, [], ◌∷◌, length, length-append, map, slice_get, refl, sym, ap, subst, ◌∙◌, arith}
-use Rattle.std.specs.Prelude.{Option, Some, option_map}
+use Rattle.std.proofs.Common.{◌≡◌, ◌≢◌, ℕ, suc, ◌+◌, ◌-◌, ◌≤◌, ◌<◌, ◌^◌, List, [], ◌∷◌, length, length-append, map, slice_get, refl, sym, ap, subst, ◌∙◌, arith}
+use Rattle.std.specs.Prelude.{Option, Some, None, option_map}
 use Rattle.flow_form.specs.declared.refusal.Wanted.{Wanted}
 use Rattle.flow_form.specs.declared.refusal.TextRefusal.{TextRefusal}
 use Rattle.flow_form.specs.declared.refusal.TextRefusal.TheVariants.{Expected, TooDeep, NoMemory}
@@ -151,3 +151,23 @@ pub left_within : (text : List ℕ) (tokens : List Token) (number left : ℕ) (r
 left_within text tokens number left rest more t e h =
     let (a, b, later) = subst (AreSpans h.start (length text)) e h.spans in
     spans_end t.end (length text) more later
+
+-- the next token is no name
+pub passed_over : (text : List ℕ) (tokens : List Token) (number left : ℕ) (rest more : List Token) (t : Token) → rest ≡ t ∷ more → name_in (symbol_of text t) ≡ None →
+    IsLeft text tokens number left rest → IsLeft text tokens number left more
+passed_over text tokens number left rest more t e none h =
+    let g = subst (IsLeft text tokens number left) e h in
+    let (a, b, later) = g.spans in
+    let same : named_places text (t ∷ more) ≡ named_places text more = ap (λ o. with_place t.start o (named_places text more)) none in
+    record { start = t.end; spans = later; small = g.small.1; same = g.same ∙ ap (λ l. slice_get l left) same; within = subst (λ l. left < length l) same g.within }
+
+-- the next token is a name, and not the one that is looked for
+pub counted_down : (text : List ℕ) (tokens : List Token) (number left : ℕ) (rest more : List Token) (t : Token) (name : List ℕ) → rest ≡ t ∷ more →
+    name_in (symbol_of text t) ≡ Some name → left ≢ 0 → IsLeft text tokens number left rest → IsLeft text tokens number (left - 1) more
+counted_down text tokens number left rest more t name e some others h =
+    let next : left ≡ suc (left - 1) = omega (arith, others) in
+    let g = subst (λ n. IsLeft text tokens number n (t ∷ more)) next (subst (IsLeft text tokens number left) e h) in
+    let (a, b, later) = g.spans in
+    let same : named_places text (t ∷ more) ≡ (t.start, name) ∷ named_places text more = ap (λ o. with_place t.start o (named_places text more)) some in
+    let inside : suc (left - 1) < suc (length (named_places text more)) = subst (λ l. suc (left - 1) < length l) same g.within in
+    record { start = t.end; spans = later; small = g.small.1; same = g.same ∙ ap (λ l. slice_get l (suc (left - 1))) same; within = omega (arith, inside) }

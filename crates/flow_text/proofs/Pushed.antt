@@ -12,6 +12,10 @@ goes_on F xs i x old new piece all inside is begins put left =
     ap (λ t. t ++ F (drop (i + 1) xs)) put ∙ append_assoc old piece (F (drop (i + 1) xs))
     ∙ ap (λ t. old ++ t) (sym (begins (drop (i + 1) xs)) ∙ ap (λ y. F (y ∷ drop (i + 1) xs)) is ∙ sym (at_drop_more F xs i x inside)) ∙ left
 
+-- at the end of such a loop all is put
+pub all_put : {X A : Type 0} (F : List X → List A) (xs : List X) (i : ℕ) (old new : List A) → F [] ≡ [] → length xs ≤ i → new ++ F (drop i xs) ≡ old ++ F xs → new ≡ old ++ F xs
+all_put F xs i old new none done left = sym (append-nil new) ∙ ap (λ t. new ++ t) (sym (at_drop_all F xs i done ∙ none)) ∙ left
+
 -- the same for members with a mark before each: G is a member's text
 pub listed_more : {X : Type 0} (G : X → List ℕ) (F : List X → List ℕ) (m : List ℕ) (xs : List X) (i : ℕ) (x : X) (old mid new mark all : List ℕ) → i < length xs → x ≡ get_or xs i x
     → ((y : X) (ys : List X) → F (y ∷ ys) ≡ (m ++ G y) ++ F ys) → mark ≡ m → mid ≡ old ++ mark → new ≡ mid ++ G x → old ++ F (drop i xs) ≡ all → new ++ F (drop (i + 1) xs) ≡ all

@@ -1,20 +1,11 @@
-use Rattle.std.proofs.Common.{ap, sym, ◌∙◌, subst, ◌≡◌, ℕ, IsErrOf, map}
-use Rattle.std.specs.Prelude.{Some, Err}
+use Rattle.std.proofs.Common.{ap, sym, ◌∙◌, subst, ◌≡◌, map}
+use Rattle.std.specs.Prelude.{Some}
 use Rattle.std.specs.List.{position_from}
 use Rattle.flow_form.specs.Script.{said, declared}
 use Rattle.flow_text.specs.ListedNames.{roles_of}
-use Rattle.flow_text.specs.declared.name_refusal.NameRefusal.{NameRefusal}
-use Rattle.flow_text.specs.declared.name_refusal.NameRefusal.TheVariants.{Repeated, Unknown}
 use Rattle.flow_text.specs.KnownNames.{KnowsThose}
-use Rattle.flow_text.proofs.FirstNames.{found_repeated, script_repeated, script_unknown, script_good, is_other, none_of}
+use Rattle.flow_text.proofs.FirstNames.{not_err, not_repeated, not_unknown, same_repeated, same_unknown, found_repeated, script_repeated, script_unknown, script_good, is_other, none_of}
 use Rattle.flow_text.proofs.names.check_script.Goals as goal
-
--- one refusal has one index
-same_repeated : {T : Type 0} (j k : ℕ) → IsErrOf {T = T} {E = NameRefusal} (Err (Repeated j)) (Repeated k) → j ≡ k
-same_repeated j k e = cc
-
-same_unknown : {T : Type 0} (j k : ℕ) → IsErrOf {T = T} {E = NameRefusal} (Err (Unknown j)) (Unknown k) → j ≡ k
-same_unknown j k e = cc
 
 pub returns-in-Some-clause-repeated : goal.returns-in-Some-clause-repeated
 returns-in-Some-clause-repeated c = λ k e.
@@ -37,3 +28,15 @@ returns-clause-ok c =
     (ap (λ z. found_repeated c.in_ok-known.known (roles_of z)) (sym c.deref-2.ensures.value) ∙ sym c.in_ok-index.ensures ∙ none_of c.in_ok-index.field-0 c.in_default.not-Some)
     (ap (λ z. position_from (is_other c.in_ok-known.known) 0 (roles_of z)) (sym c.deref-3.ensures.value)
     ∙ sym c.first_unknown.ensures ∙ none_of c.first_unknown.result c.in_default-first_unknown.not-Some)
+
+pub returns-clause-repeated : goal.returns-clause-repeated
+returns-clause-repeated c = λ k e. absurd (not_err _ e)
+
+pub returns-clause-unknown : goal.returns-clause-unknown
+returns-clause-unknown c = λ k e. absurd (not_err _ e)
+
+pub returns-in-Some-first_unknown-clause-repeated : goal.returns-in-Some-first_unknown-clause-repeated
+returns-in-Some-first_unknown-clause-repeated c = λ k e. absurd (not_repeated _ k e)
+
+pub returns-in-Some-clause-unknown : goal.returns-in-Some-clause-unknown
+returns-in-Some-clause-unknown c = λ k e. absurd (not_unknown _ k e)
