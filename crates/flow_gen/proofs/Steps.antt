@@ -1,14 +1,17 @@
 -- One step of each loop.
-use Rattle.std.proofs.Common.{◌≡◌, ℕ, zero, suc, ◌+◌, ◌-◌, ◌%◌, ◌<◌, ◌≤◌, List, [], ◌∷◌, ◌++◌, length, map, get_or, take, drop, refl, sym, ap, ◌∙◌, append_assoc, length-drop, arith}
+use Rattle.std.proofs.Common.{Vec, Global, append-nil, ◌≡◌, ℕ, zero, suc, ◌+◌, ◌-◌, ◌%◌, ◌<◌, ◌≤◌, List, [], ◌∷◌, ◌++◌, length, map, get_or, take, drop, refl, sym, ap, ◌∙◌, append_assoc, length-drop, arith}
 use Rattle.std.proofs.Math.Seq.{take-length}
-use Rattle.std.proofs.lemmas.List.{drop_more, map-append}
+use Rattle.std.proofs.lemmas.List.{drop_more, map-append, at_drop_all}
 use Rattle.flow_model.specs.Lists.{numbers_from}
-use Rattle.flow_form.specs.declared.form.Form.{Form}
+use Rattle.flow_form.specs.declared.form.Form.{Form, Serial, Beside, Either}
+use Rattle.flow_form.specs.declared.form.Form.TheVariants.{rolls-Serial, rolls-Beside, rolls-Either}
+use Rattle.flow_form.specs.declared.form.Form.TheFolds.{fold-roll-Form}
+use Rattle.flow_form.specs.declared.form.Form.TheOpen as open_form
 use Rattle.flow_form.specs.declared.rule_form.RuleForm.{RuleForm}
-use Rattle.flow_form.specs.Form.{Shape, shape_of, beside, shapes}
+use Rattle.flow_form.specs.Form.{Shape, shape_of, shape_step, serial, beside, either, shapes}
 use Rattle.flow_form.specs.RuleForm.{RuleShape, rule_shape_of, precedes}
 use Rattle.flow_gen.specs.declared.kind.Kind.{Kind}
-use Rattle.flow_gen.specs.declared.kind.Kind.TheVariants.{Either}
+use Rattle.flow_gen.specs.declared.kind.Kind.TheVariants as kind_of
 use Rattle.flow_gen.specs.Generated.{drawn, draws, kind, kinds, choices_in, event_name, block, pairs, constraints}
 
 pub draws_step : (x x' i count : ℕ) (items items' whole : List ℕ) → x' ≡ drawn x → items' ≡ items ++ x' ∷ [] → i < count →
@@ -19,7 +22,7 @@ draws_step x x' i count items items' whole is pushed h so_far =
     ∙ ap (λ y. items ++ y ∷ draws y (count - (i + 1))) is ∙ ap (λ n. items ++ draws x n) (sym more) ∙ so_far
 
 pub choices_in_le : (k : Kind) → choices_in k ≤ 1
-choices_in_le Either = omega arith
+choices_in_le kind_of.Either = omega arith
 choices_in_le other = omega arith
 
 pub kinds_step : (choices choices' : ℕ) (k : Kind) (ds : List ℕ) (i : ℕ) (items items' whole : List Kind) → i < length ds → k ≡ kind choices (get_or ds i 0) →
@@ -76,3 +79,38 @@ pairs_step first (a ∷ b ∷ ks) more d d' forms forms' form whole h e is added
     ap (λ (ks : List Kind). map shape_of forms' ++ pairs (first + 16) ks) e
     ∙ pushed shape_of forms forms' form (beside (shapes (block first a ∷ block (first + 8) b ∷ []))) (pairs (first + 16) ks) whole added is so_far
 pairs_step first fewer more d d' forms forms' form whole h e is added so_far = absurd (omega (arith, h))
+
+-- The shapes of lists that are made
+
+pub shape_of-Serial : (forms : Vec Form Global) → shape_of (Serial forms) ≡ serial (shapes (map shape_of forms.items))
+shape_of-Serial forms = ap shape_of (sym (rolls-Serial forms)) ∙ fold-roll-Form Shape shape_step (open_form.Serial forms)
+
+pub shape_of-Beside : (forms : Vec Form Global) → shape_of (Beside forms) ≡ beside (shapes (map shape_of forms.items))
+shape_of-Beside forms = ap shape_of (sym (rolls-Beside forms)) ∙ fold-roll-Form Shape shape_step (open_form.Beside forms)
+
+pub shape_of-Either : (forms : Vec Form Global) → shape_of (Either forms) ≡ either (shapes (map shape_of forms.items))
+shape_of-Either forms = ap shape_of (sym (rolls-Either forms)) ∙ fold-roll-Form Shape shape_step (open_form.Either forms)
+
+pub two_put : (none one two : List Form) (a b : Form) (s t : Shape) → none ≡ [] → one ≡ none ++ a ∷ [] → two ≡ one ++ b ∷ [] → shape_of a ≡ s → shape_of b ≡ t →
+    map shape_of two ≡ s ∷ t ∷ []
+two_put none one two a b s t empty first second left right =
+    ap (map shape_of) (second ∙ ap (λ (forms : List Form). forms ++ b ∷ []) (first ∙ ap (λ (forms : List Form). forms ++ a ∷ []) empty))
+    ∙ ap (λ (x : Shape). x ∷ shape_of b ∷ []) left ∙ ap (λ (y : Shape). s ∷ y ∷ []) right
+
+-- The ends of loops
+
+pub all_left : {A : Type 0} (left : ℕ → List A) (items whole : List A) (n end : ℕ) → left 0 ≡ [] → end ≤ n → items ++ left (end - n) ≡ whole → items ≡ whole
+all_left left items whole n end none done so_far =
+    let over : end - n ≡ 0 = omega arith in
+    sym (append-nil items) ∙ ap (λ l. items ++ l) (sym (ap left over ∙ none)) ∙ so_far
+
+pub all_kinds : (choices i : ℕ) (ds : List ℕ) (items whole : List Kind) → length ds ≤ i → items ++ kinds choices (drop i ds) ≡ whole → items ≡ whole
+all_kinds choices i ds items whole done so_far = sym (append-nil items) ∙ ap (λ l. items ++ l) (sym (at_drop_all (kinds choices) ds i done)) ∙ so_far
+
+no_constraints : (first : ℕ) (ds : List ℕ) → length ds < 2 → constraints first ds ≡ []
+no_constraints first [] few = refl
+no_constraints first (d ∷ []) few = refl
+no_constraints first (d ∷ e ∷ ds) few = absurd (omega (arith, few))
+
+pub all_constraints : (first : ℕ) (ds : List ℕ) (items whole : List RuleShape) → length ds < 2 → items ++ constraints first ds ≡ whole → items ≡ whole
+all_constraints first ds items whole few so_far = sym (append-nil items) ∙ ap (λ l. items ++ l) (sym (no_constraints first ds few)) ∙ so_far

@@ -1,11 +1,9 @@
 use Rattle.std.proofs.Common.{◌≡◌, ℕ, Option, Some, None, MatchOption, List, [], ◌∷◌, ◌++◌, length, length-append, map, vec_len, Vec, Global, refl, sym, ap, ◌∙◌, arith}
 use Rattle.std.proofs.lemmas.Option.{none-some}
 use Rattle.flow_form.specs.declared.form.Form.{Form, Serial}
-use Rattle.flow_form.specs.declared.form.Form.TheVariants.{rolls-Serial}
-use Rattle.flow_form.specs.declared.form.Form.TheFolds.{fold-roll-Form}
-use Rattle.flow_form.specs.declared.form.Form.TheOpen as open_form
-use Rattle.flow_form.specs.Form.{Shape, serial, shapes, shape_step, shape_of}
+use Rattle.flow_form.specs.Form.{Shape, serial, shapes, shape_of}
 use Rattle.flow_gen.specs.Generated.{in_turn}
+use Rattle.flow_gen.proofs.Steps.{shape_of-Serial}
 use Rattle.flow_gen.proofs.goals.goal_of.Goals as goal
 use Rattle.flow_gen.proofs.goals.goal_of.Goals.{else-len-eq1-via-else-len-eq1, else-len-eq1-via-then-len-eq1+in-None-1}
 
@@ -19,9 +17,6 @@ all_in_turn : (forms : List Form) (whole : List Shape) → map shape_of forms �
 all_in_turn [] whole is several = ap in_turn is
 all_in_turn (f ∷ []) whole is several = absurd (several refl)
 all_in_turn (f ∷ g ∷ forms) whole is several = ap in_turn is
-
-shape_of-Serial : (forms : Vec Form Global) → shape_of (Serial forms) ≡ serial (shapes (map shape_of forms.items))
-shape_of-Serial forms = ap shape_of (sym (rolls-Serial forms)) ∙ fold-roll-Form Shape shape_step (open_form.Serial forms)
 
 -- of a list of one, `pop` gives that one
 not_none : {T : Type 0} (P : Type 0) (Q : T → Type 0) (popped : Option T) (n : ℕ) → MatchOption popped ((n ≡ 0) × P) Q → n ≡ 1 → ¬ (popped ≡ None)

@@ -1,9 +1,9 @@
-use Rattle.std.proofs.Common.{◌≡◌, ◌+◌, ◌-◌, List, ◌++◌, map, ap, ◌∙◌, arith}
+use Rattle.std.proofs.Common.{◌≡◌, ◌+◌, ◌-◌, List, ◌++◌, map, ap, ◌∙◌, refl, arith}
 use Rattle.flow_model.specs.Lists.{numbers_from}
 use Rattle.flow_form.specs.declared.form.Form.{Form}
-use Rattle.flow_form.specs.Form.{shape_of, named}
+use Rattle.flow_form.specs.Form.{shape_of, named, serial, shapes}
 use Rattle.flow_gen.specs.Generated.{event_name}
-use Rattle.flow_gen.proofs.Steps.{numbered}
+use Rattle.flow_gen.proofs.Steps.{numbered, all_left, shape_of-Serial}
 use Rattle.flow_gen.proofs.goals.series_of.Goals as goal
 
 pub loop-event-init : goal.loop-event-init
@@ -15,3 +15,9 @@ loop-event-init c =
 pub loop-event-preserved : goal.loop-event-preserved
 loop-event-preserved c =
     numbered shape_of (λ k. named (event_name k)) _ _ _ _ _ _ (omega arith) c.in_ok-push.ensures.items c.in_ok-event_of.ensures c.loop-event.invariant
+
+pub returns : goal.returns
+returns c =
+    shape_of-Serial c.loop-event.events
+    ∙ ap (λ ss. serial (shapes ss))
+    (all_left (λ n. map (λ k. named (event_name k)) (numbers_from c.loop-event.event n)) _ _ c.loop-event.event _ refl c.loop-event-test.false c.loop-event.invariant)
