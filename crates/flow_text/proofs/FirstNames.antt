@@ -242,12 +242,3 @@ not_unknown j k e = cc
 
 pub not_err : {T : Type 0} {x : T} (refusal : NameRefusal) → IsErrOf {T = T} {E = NameRefusal} (Ok x) refusal → ⊥
 not_err refusal e = cc
-
--- one role is gone through
-pub repeated_on : (set grown : NameSet) (place : ℕ) (r : Role) (roles : List Role) → false ≡ is_again set r → grown ≡ after set r →
-    repeated_from set place (r ∷ roles) ≡ repeated_from grown (place + 1) roles
-repeated_on set grown place r roles new is =
-    ap (λ b. cond b (Some place) (repeated_from (after set r) (place + 1) roles)) (sym new) ∙ ap (λ s. repeated_from s (place + 1) roles) (sym is)
-
-pub repeated_here : (set : NameSet) (place : ℕ) (r : Role) (roles : List Role) → true ≡ is_again set r → repeated_from set place (r ∷ roles) ≡ Some place
-repeated_here set place r roles again = ap (λ b. cond b (Some place) (repeated_from (after set r) (place + 1) roles)) (sym again)
