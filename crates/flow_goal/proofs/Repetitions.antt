@@ -1,8 +1,9 @@
 -- Pairs of leaves of one event in one execution.
-use Rattle.std.proofs.Common.{◌≡◌, ◌≢◌, ◌≤◌, ◌<◌, ℕ, Bool, true, false, [], length, ◌⊎◌, Some, refl, sym, ◌∙◌, subst, inl, inr, arith}
+use Rattle.std.proofs.Common.{◌≡◌, ◌≢◌, ◌≤◌, ◌<◌, ℕ, zero, suc, List, ◌∷◌, Bool, true, false, [], length, ◌⊎◌, Some, refl, sym, ◌∙◌, subst, inl, inr, arith}
 use Rattle.std.proofs.lemmas.Bool.{cases_lt}
 use Rattle.flow_model.specs.Lists.{◌∈◌, joined}
 use Rattle.flow_model.specs.Process.{leaves, IsNumbered}
+use Rattle.flow_model.specs.declared.labels.Label.{Label}
 use Rattle.flow_model.specs.Facts.{event_at, is_event}
 use Rattle.flow_model.specs.Schema.{Schema}
 use Rattle.flow_laws.specs.Events.{AreTogether}
@@ -103,3 +104,9 @@ unique t whole none =
     unique_events w whole (λ x y e h at also.
     let row = in_row 0 (length t.labels) x (subst (λ list. x ∈ list) whole (together_first t.process x y h)) in
     none x (omega (arith, row.1)) e y (pair_of_together t whole e x y h at also))
+
+-- a leaf with an event is one of the goal
+pub event_within : (labels : List Label) (leaf event : ℕ) → event_at labels leaf ≡ Some event → leaf < length labels
+event_within [] leaf event e = absurd (cc)
+event_within (label ∷ labels) zero event e = omega arith
+event_within (label ∷ labels) (suc leaf) event e = let h = event_within labels leaf event e in omega (arith, h)
