@@ -1,6 +1,6 @@
 -- What a workflow that is laid says of the refusals.
 use Rattle.std.proofs.Common.{◌≡◌, ℕ, ◌+◌, ◌<◌, ◌≤◌, max, List, ◌++◌, length, map, get_or, take, sym, ap, ◌∙◌, subst, arith, Result, Ok, Err}
-use Rattle.std.specs.Result.{IfErr}
+use Rattle.std.specs.Result.{IfErr, IsErrAnd}
 use Rattle.std.proofs.lemmas.List.{length-append}
 use Rattle.flow_model.specs.declared.limits.TheConstants.{MOST_FLOWS, MOST_LEAVES, MOST_RULE_NAMES}
 use Rattle.flow_model.specs.Lists.{◌∈◌, Each}
@@ -32,6 +32,10 @@ use Rattle.flow_expand.proofs.Endings.{no_recursion}
 pub err_to : {T E : Type 0} (r : Result T E) (P Q : E → Type 0) → ((x : E) → P x → Q x) → IfErr r P → IfErr r Q
 err_to (Ok x) P Q f h = h
 err_to (Err e) P Q f h = f e h
+
+pub err_kept : {T E : Type 0} (r : Result T E) (x : E) (P : E → Type 0) → IsErrAnd r (λ e. e ≡ x) → P x → IfErr r P
+err_kept (Ok y) x P is h = tt
+err_kept (Err e) x P is h = subst P (sym is) h
 
 pub count_more : (rules : List RuleForm) (i count one : ℕ) (item : RuleForm) → i < length rules → item ≡ get_or rules i item → count ≡ capped (length (names_in_rules (rule_shapes (map rule_shape_of (take i rules))))) →
     one ≡ capped (length (names_in_rule (rule_shape_of item))) → capped (count + one) ≡ capped (length (names_in_rules (rule_shapes (map rule_shape_of (take (i + 1) rules)))))

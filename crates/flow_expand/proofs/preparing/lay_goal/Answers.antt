@@ -12,7 +12,7 @@ use Rattle.flow_expand.specs.Laid.{IsLaid, IsReady}
 use Rattle.flow_expand.specs.Waiting.{IsFound}
 use Rattle.flow_expand.specs.Refusals.{rule_name_count}
 use Rattle.flow_expand.proofs.Declarations.{goal_declared, names_in_all}
-use Rattle.flow_expand.proofs.PrepareLemmas.{all_ready, found_refusal, err_to, goal_refusal, rules_refusal, prepared}
+use Rattle.flow_expand.proofs.PrepareLemmas.{all_ready, found_refusal, err_to, err_kept, goal_refusal, rules_refusal, prepared}
 use Rattle.flow_expand.proofs.preparing.lay_goal.Goals as goal
 
 pub returns-in_err-settle_all-clause-refused : goal.returns-in_err-settle_all-clause-refused
@@ -35,7 +35,7 @@ returns-in_err-at_most-clause-refused c =
     let all = λ (k : ℕ) (lt : k < length d.goals.items). c.in_ok-settle_all.ensures.all k (subst (λ n. k < n) (sym d.goals.ok.0) lt) in
     err_to c.from_residual-in_err-at_most.result (λ e. (MOST_LEAVES < c.most.result) × (e ≡ refusal.TooLarge part.Goal c.most.result)) _
     (goal_refusal d _ _ c.in_ok-settle_all.ensures.settling.laid all s c.requires.closed c.requires.decls c.requires.few c.lay.new.layout.items c.in_ok-root.root c.in_ok-root.ensures.ok c.most.result c.most.ensures)
-    (search rules)
+    (err_kept c.from_residual-in_err-at_most.result _ _ c.from_residual-in_err-at_most.ensures.1 (subst (λ n. (n < c.most.result) × (c.in_err-at_most.field-0.0 ≡ refusal.TooLarge part.Goal c.most.result)) c.from.ensures c.in_err-at_most.ensures.refused))
 
 pub returns-in_err-at_most-2-clause-refused : goal.returns-in_err-at_most-2-clause-refused
 returns-in_err-at_most-2-clause-refused c =
@@ -44,11 +44,11 @@ returns-in_err-at_most-2-clause-refused c =
     let all = λ (k : ℕ) (lt : k < length d.goals.items). c.in_ok-settle_all.ensures.all k (subst (λ n. k < n) (sym d.goals.ok.0) lt) in
     let written : c.count_names.result ≡ capped (rule_name_count s) =
     c.count_names.ensures ∙ ap (λ rs. capped (length (names_in_rules (rule_shapes (map rule_shape_of rs))))) c.deref-2.ensures.value ∙ ap (λ l. capped (length l)) (names_in_all s.rules) in
-    let fits : c.most.result ≤ MOST_LEAVES = search rules in
+    let fits : c.most.result ≤ MOST_LEAVES = subst (λ n. c.most.result ≤ n) c.from.ensures c.in_ok-at_most.ensures.ok in
     err_to c.from_residual-in_err-at_most-2.result (λ e. (MOST_RULE_NAMES < c.count_names.result) × (e ≡ refusal.TooLarge part.Rules c.count_names.result)) _
     (rules_refusal d _ _ c.in_ok-settle_all.ensures.settling.laid all s c.requires.closed c.requires.decls c.requires.few c.lay.new.layout.items c.in_ok-root.root c.in_ok-root.ensures.ok c.most.result c.most.ensures
     fits c.count_names.result written)
-    (search rules)
+    (err_kept c.from_residual-in_err-at_most-2.result _ _ c.from_residual-in_err-at_most-2.ensures.1 c.in_err-at_most-2.ensures.refused)
 
 pub returns-clause-ok : goal.returns-clause-ok
 returns-clause-ok c =
@@ -57,7 +57,7 @@ returns-clause-ok c =
     let all = λ (k : ℕ) (lt : k < length d.goals.items). c.in_ok-settle_all.ensures.all k (subst (λ n. k < n) (sym d.goals.ok.0) lt) in
     let written : c.count_names.result ≡ capped (rule_name_count s) =
     c.count_names.ensures ∙ ap (λ rs. capped (length (names_in_rules (rule_shapes (map rule_shape_of rs))))) c.deref-2.ensures.value ∙ ap (λ l. capped (length l)) (names_in_all s.rules) in
-    let fits : c.most.result ≤ MOST_LEAVES = search rules in
+    let fits : c.most.result ≤ MOST_LEAVES = subst (λ n. c.most.result ≤ n) c.from.ensures c.in_ok-at_most.ensures.ok in
     prepared d _ _ c.in_ok-settle_all.ensures.settling.laid all s c.requires.closed c.requires.decls c.requires.few c.lay.new.layout.items c.in_ok-root.root c.in_ok-root.ensures.ok c.most.result c.most.ensures
     fits c.count_names.result written c.in_ok-at_most-2.ensures.ok
 

@@ -1,4 +1,4 @@
-use Rattle.std.proofs.Common.{◌≡◌, Some, None, refl, sym, ap, ◌∙◌}
+use Rattle.std.proofs.Common.{◌≡◌, Some, None, refl, sym, ap, ◌∙◌, true≢false}
 use Rattle.flow_expand.specs.declared.layout.Root.{Root}
 use Rattle.flow_expand.specs.declared.lay.Stage.TheVariants as stage
 use Rattle.flow_expand.proofs.settling.is_laid.Goals as goal
@@ -8,7 +8,7 @@ unlike root e = cc
 
 pub returns-in_default-2 : goal.returns-in_default-2
 returns-in_default-2 c = (
-  λ e. absurd (cc),
+  λ e. absurd (true≢false (sym e)),
   λ laid. absurd (unlike laid.0 (sym c.in_default.is ∙ c.stage_of.ensures ∙ laid.1)),
 )
 
