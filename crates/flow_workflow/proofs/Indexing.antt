@@ -1,5 +1,5 @@
 -- Keys by their numbers, and the maps that lead to these.
-use Rattle.std.proofs.Common.{◌≡◌, ◌≢◌, ℕ, ◌+◌, ◌<◌, ◌^◌, List, [], ◌∷◌, ◌++◌, length, slice_get, Option, Some, None, refl, sym, ap, ◌∙◌, subst, inl, inr, ◌⊎◌, ⊎_elim, Result, Ok, Err, OnOk, IfOk, arith}
+use Rattle.std.proofs.Common.{◌≡◌, ◌≢◌, ℕ, ◌+◌, ◌<◌, ◌≤◌, ◌^◌, List, [], ◌∷◌, ◌++◌, length, slice_get, Option, Some, None, refl, sym, ap, ◌∙◌, subst, inl, inr, ◌⊎◌, ⊎_elim, Result, Ok, Err, OnOk, IfOk, arith}
 use Rattle.std.specs.Prelude.{◌↔◌, IsNone, IfSome, OnErr}
 use Rattle.std.specs.declared.cmp.Ordering.{Ordering}
 use Rattle.std.specs.Option.{ok_or}
@@ -80,3 +80,11 @@ found_added e (Some n) r keys key is at =
 pub found_numbered : {K E : Type 0} (e : E) (found : Option ℕ) (r : Result ℕ E) (keys : List K) (key : K) → r ≡ ok_or found e → IfSome found (λ n. slice_get keys n ≡ Some key) → IfOk r (λ n. slice_get keys n ≡ Some key)
 found_numbered e None r keys key is at = subst (λ r. IfOk r (λ n. slice_get keys n ≡ Some key)) (sym is) tt
 found_numbered e (Some n) r keys key is at = subst (λ r. IfOk r (λ n. slice_get keys n ≡ Some key)) (sym is) at
+
+pub few_kept : {K : Type 0} (keys : List K) → length keys ≤ length keys + 1
+few_kept keys = omega arith
+
+-- a key put at the end, or none
+pub put_few : {K E : Type 0} (r : Result ℕ E) (old new : List K) (key : K) → OnOk r (new ≡ old ++ key ∷ []) → OnErr r (new ≡ old) → length new ≤ length old + 1
+put_few (Ok n) old new key is same = omega (arith, ap length is, length-append old (key ∷ []))
+put_few (Err e) old new key is same = omega (arith, ap length same)

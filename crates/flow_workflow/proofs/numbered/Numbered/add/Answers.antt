@@ -1,9 +1,10 @@
-use Rattle.std.proofs.Common.{rules, ◌≡◌, ◌∙◌, ap, sym, refl, subst, Some, OnOk, slice_get}
+use Rattle.std.proofs.Common.{rules, ◌≡◌, ◌≤◌, ◌+◌, ◌∙◌, ap, sym, refl, subst, Some, OnOk, slice_get, length}
+use Rattle.std.specs.Prelude.{OnErr}
 use Rattle.std.specs.Ordering.{nat_cmp}
 use Rattle.std.specs.BTreeMap.{get}
 use Rattle.flow_workflow.specs.Indexed.{IsAdded}
 use Rattle.flow_workflow.proofs.Places.{mem-slice_get}
-use Rattle.flow_workflow.proofs.Indexing.{marks_more, missing, put_indexed, put_added, put_numbered, found_added, found_numbered}
+use Rattle.flow_workflow.proofs.Indexing.{marks_more, missing, put_indexed, few_kept, put_added, put_few, put_numbered, found_added, found_numbered}
 use Rattle.flow_workflow.proofs.numbered.Numbered.add.Goals as goal
 
 pub returns-then-len-clause-keys : goal.returns-then-len-clause-keys
@@ -54,3 +55,14 @@ returns-in-None-clause-number g c = put_numbered c.put.result _ _ c.args.key.now
 
 pub returns-in-None-clause-distinct : goal.returns-in-None-clause-distinct
 returns-in-None-clause-distinct g c = (invariant_of-self-in-None g c).distinct
+
+pub returns-in-None-clause-few : goal.returns-in-None-clause-few
+returns-in-None-clause-few g c =
+    subst (λ old. length c.put.new.keys.items ≤ length old + 1) c.self.view_is
+    (put_few c.put.result c.self.inside.keys.items c.put.new.keys.items c.args.key.now c.put.ensures.keys c.put.ensures.err)
+
+pub returns-in-None-clause-err : goal.returns-in-None-clause-err
+returns-in-None-clause-err g c = subst (λ old. OnErr c.put.result (c.put.new.keys.items ≡ old)) c.self.view_is c.put.ensures.err
+
+pub returns-in-Some-clause-few : goal.returns-in-Some-clause-few
+returns-in-Some-clause-few g c = subst (λ old. length c.self.inside.keys.items ≤ length old + 1) c.self.view_is (few_kept c.self.inside.keys.items)
