@@ -1,6 +1,7 @@
 -- Cutting a text from the front.
-use Rattle.std.proofs.Common.{◌≡◌, ℕ, zero, suc, ◌+◌, ◌<◌, List, [], ◌∷◌, ◌++◌, length, length-drop, drop, slice_index, refl, sym, ap, ◌∙◌, arith, add-one, append_assoc}
+use Rattle.std.proofs.Common.{◌≡◌, ℕ, zero, suc, ◌+◌, ◌<◌, ◌==◌, true, false, List, [], ◌∷◌, ◌++◌, length, length-drop, drop, slice_index, refl, sym, ap, ◌∙◌, arith, add-one, append_assoc, append-nil}
 use Rattle.std.specs.Prelude.{Option, Some, None}
+use Rattle.std.proofs.lemmas.Bool.{eqb-true}
 use Rattle.flow_lex.specs.declared.token.Token.{Token}
 use Rattle.flow_lex.specs.declared.token.TokenKind.{TokenKind}
 use Rattle.flow_lex.specs.declared.piece.Piece.{Piece}
@@ -56,3 +57,19 @@ spans-grow start place (t ∷ ts) p (a, b, rest) = (a, b, spans-grow t.end place
 pub place-cut : (place more : ℕ) (rest rest' : List ℕ) (size : ℕ) → more < length rest → rest' ≡ drop (more + 1) rest → place + length rest ≡ size
     → place + (more + 1) + length rest' ≡ size
 place-cut place more rest rest' size h cut placed = omega (arith, ap length cut ∙ length-drop (more + 1) rest)
+
+pub rest-shrinks : (more : ℕ) (rest rest' : List ℕ) → more < length rest → rest' ≡ drop (more + 1) rest → length rest' < length rest
+rest-shrinks more rest rest' h cut = omega (arith, ap length cut ∙ length-drop (more + 1) rest)
+
+-- where nothing is left, the tokens so far are all
+pub lexed-whole : (all : Lexed) (tokens : List Token) (place : ℕ) (rest : List ℕ) → (length rest == 0) ≡ true
+    → all ≡ with_tokens tokens (lexed_after place zero rest) → all ≡ record { tokens = tokens; bad = None }
+lexed-whole all tokens place [] done so_far = so_far ∙ ap (λ ts. record { tokens = ts; bad = None }) (append-nil tokens)
+lexed-whole all tokens place (b ∷ bs) done so_far = let none : suc (length bs) ≡ 0 = eqb-true (suc (length bs)) 0 done in absurd (omega arith)
+
+-- where no piece begins, that place is bad
+pub lexed-refused : (all : Lexed) (tokens : List Token) (place : ℕ) (rest : List ℕ) → (length rest == 0) ≡ false
+    → piece_at (slice_index rest 0) (drop 1 rest) ≡ None → all ≡ with_tokens tokens (lexed_after place zero rest) → all.bad ≡ Some place
+lexed-refused all tokens place [] left none so_far = let f : true ≡ false = left in absurd (cc)
+lexed-refused all tokens place (b ∷ bs) left none so_far =
+    ap (λ (l : Lexed). l.bad) so_far ∙ ap (λ (l : Lexed). (with_tokens tokens l).bad) (lexed-none place (b ∷ bs) (omega arith) none)
