@@ -6,6 +6,8 @@ use Rattle.std.proofs.lemmas.Bool.Decides.{nat_tests}
 use Rattle.std.proofs.lemmas.List.{get_or-replicate}
 use Rattle.std.proofs.lemmas.Nat.{and_le_l}
 use Rattle.std.specs.Int.{bit_at, bit_not, trailing_zeros}
+use Rattle.std.specs.Prelude.{◌↔◌, Option, Some, None, IsTrue, IfNone, IfSome, is_some}
+use Rattle.std.proofs.lemmas.Bool.{false≢true}
 use Rattle.leaf_rows.specs.Leaves.{has_bit}
 
 -- the bit of a row that stands for n
@@ -288,3 +290,14 @@ pub part_has : (w : ℕ) (words other : List ℕ)
 part_has w words other part k has =
     let mine = has_bit-parts w words k has in
     has_bit-one w other k mine.0 (part k mine.0 mine.1)
+
+-- the same, where a loop has passed all words
+pub all_words_part : (w i : ℕ) (words other : List ℕ) → w ≤ i → ((k : ℕ) → k < 64 * i → bit_of words k ≡ 1 → bit_of other k ≡ 1)
+    → (k : ℕ) → has_bit w words k ≡ true → has_bit w other k ≡ true
+all_words_part w i words other done below = part_has w words other (λ k within one. below k (omega arith) one)
+
+-- a search for a common member says whether there is one
+pub found_common : (found : Option ℕ) (b : Bool) (P Q : ℕ → Type 0) → b ≡ is_some found → IfNone found ((k : ℕ) → P k → ¬ Q k)
+    → IfSome found (λ n. P n × Q n) → IsTrue b ↔ ((k : ℕ) × P k × Q k)
+found_common None b P Q is none there = ((λ yes. absurd (false≢true (sym is ∙ yes))), (λ common. absurd (none common.0 common.1 common.2)))
+found_common (Some n) b P Q is none there = ((λ yes. (n, there.0, there.1)), (λ common. is))

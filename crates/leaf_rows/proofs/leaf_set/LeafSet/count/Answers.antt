@@ -1,5 +1,6 @@
 use Rattle.std.proofs.Common.{◌+◌, ◌*◌, arith}
 use Rattle.leaf_rows.specs.Leaves.{has_bit, has_leaf}
+use Rattle.leaf_rows.proofs.Members.{members_rise}
 use Rattle.leaf_rows.proofs.Counts.{passing_length, members_more}
 use Rattle.leaf_rows.proofs.leaf_set.LeafSet.count.Goals as goal
 
@@ -17,3 +18,6 @@ unfolding has_leaf
 loop-i-preserved g c =
     let more = members_more g.row.W c.args.self.now.words c.loop-i.i (omega arith) (omega arith) in
     omega (arith, more, c.loop-i.invariant)
+
+pub returns-clause-rising : goal.returns-clause-rising
+returns-clause-rising g c = members_rise c.args.self.now

@@ -1,7 +1,7 @@
-use Rattle.std.proofs.Common.{arith}
+use Rattle.std.proofs.Common.{arith, refl}
 use Rattle.std.proofs.lemmas.Bool.{false≢true}
 use Rattle.leaf_rows.specs.Leaves.{has_leaf}
-use Rattle.leaf_rows.proofs.Rows.{no_bit_over}
+use Rattle.leaf_rows.proofs.Rows.{all_words_part, no_bit_over}
 use Rattle.leaf_rows.proofs.leaf_set.LeafSet.is_subset.Goals as goal
 
 pub returns-then-self-i-ne0 : goal.returns-then-self-i-ne0
@@ -10,3 +10,8 @@ returns-then-self-i-ne0 g c = (
   (λ impossible. absurd (false≢true impossible)),
   (λ part. absurd (c.if-self-i-ne0.true (no_bit_over _ _ _ c.loop-i.i (omega arith) (omega arith) (omega arith) part))),
 )
+
+pub returns : goal.returns
+unfolding has_leaf
+returns g c =
+    ((λ _. all_words_part g.row.W c.loop-i.i c.args.self.now.words c.args.other.now.words c.loop-i-test.false c.loop-i.invariant), (λ _. refl))
