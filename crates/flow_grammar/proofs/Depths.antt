@@ -1,8 +1,8 @@
 -- What a text means is printed no deeper than the text.
-use Rattle.std.proofs.Common.{rules as std_rules, ℕ, zero, suc, ◌+◌, ◌<◌, ◌≤◌, Bool, true, false, List, [], ◌∷◌, arith}
+use Rattle.std.proofs.Common.{rules as std_rules, ◌≡◌, refl, ℕ, zero, suc, ◌+◌, ◌<◌, ◌≤◌, Bool, true, false, List, [], ◌∷◌, arith}
 use Rattle.flow_model.specs.Lists.{Each}
-use Rattle.flow_form.specs.Form.{Shape, shapes}
-use Rattle.flow_form.specs.RuleForm.{RuleShape, rule_shapes}
+use Rattle.flow_form.specs.Form.{Shape, beside, either, shapes}
+use Rattle.flow_form.specs.RuleForm.{RuleShape, any, rule_shapes}
 use Rattle.flow_grammar.specs.Symbol.{Placed, at, closing}
 use Rattle.flow_grammar.specs.Grammar.{FactText, bare, applied, spell_fact, mean_fact, Prefix, prefixed, Kind, goals, rules, Meaning, top, list, Text, joined, group_text, fact_text, iso_text, not_text, order_text, More, no_more_text, then_text, spell, spell_more, mean, mean_more}
 use Rattle.flow_model.specs.declared.limits.TheConstants.{GREATEST_DEPTH}
@@ -31,12 +31,33 @@ Holds k n d m = d + nest (parted k n m) (depth k m) ≤ GREATEST_DEPTH
 one_less : (d n most : ℕ) → d + suc n ≤ most → d + n ≤ most
 one_less d n most h = omega arith
 
+nest_looser : (b c : Bool) (n d most : ℕ) → (c ≡ true → b ≡ true) → d + nest b n ≤ most → d + nest c n ≤ most
+nest_looser true true n d most less h = h
+nest_looser true false n d most less h = one_less d n most h
+nest_looser false true n d most less h = let f : false ≡ true = less refl in absurd (cc)
+nest_looser false false n d most less h = h
+
+beside_serial : (s : Shape) → in_beside s ≡ true → in_serial s ≡ true
+beside_serial (beside ss) h = refl
+beside_serial (either ss) h = refl
+beside_serial _ h = let f : false ≡ true = h in absurd (cc)
+
+either_beside : (s : Shape) → in_either s ≡ true → in_beside s ≡ true
+either_beside (either ss) h = refl
+either_beside _ h = let f : false ≡ true = h in absurd (cc)
+
+any_all : (x : RuleShape) → in_any x ≡ true → in_all x ≡ true
+any_all (any xs) h = refl
+any_all _ h = let f : false ≡ true = h in absurd (cc)
+
 looser : (k : Kind) (n d : ℕ) (m : Meaning k) → Holds k n d m → Holds k (suc n) d m
-looser goals zero d s h = search (std_rules, one_less)
-looser goals (suc zero) d s h = search (std_rules, one_less)
-looser goals (suc (suc n)) d s h = search (std_rules, one_less)
-looser rules zero d x h = search (std_rules, one_less)
-looser rules (suc n) d x h = search (std_rules, one_less)
+looser goals zero d s h = nest_looser (in_serial s) (in_beside s) (nesting s) d GREATEST_DEPTH (beside_serial s) h
+looser goals (suc zero) d s h = nest_looser (in_beside s) (in_either s) (nesting s) d GREATEST_DEPTH (either_beside s) h
+looser goals (suc (suc zero)) d s h = nest_looser (in_either s) false (nesting s) d GREATEST_DEPTH (λ f. absurd (cc)) h
+looser goals (suc (suc (suc n))) d s h = h
+looser rules zero d x h = nest_looser (in_all x) (in_any x) (rule_nesting x) d GREATEST_DEPTH (any_all x) h
+looser rules (suc zero) d x h = nest_looser (in_any x) false (rule_nesting x) d GREATEST_DEPTH (λ f. absurd (cc)) h
+looser rules (suc (suc n)) d x h = h
 
 goals_within : (part : Shape → Bool) (d : ℕ) (ss : List Shape) → d ≤ GREATEST_DEPTH → Each (λ s. d + nest (part s) (nesting s) ≤ GREATEST_DEPTH) ss → d + nesting_list part (shapes ss) ≤ GREATEST_DEPTH
 goals_within part d [] l h = omega arith
