@@ -1,7 +1,7 @@
 use Rattle.std.proofs.Common.{ap, sym, subst, arith}
 use Rattle.flow_facts.specs.Changes.{HasFactBelow}
 use Rattle.flow_facts.specs.Course.{Course}
-use Rattle.flow_facts.proofs.Trails.{kept_performed}
+use Rattle.flow_facts.proofs.Trails.{course_performed, kept_performed}
 use Rattle.flow_facts.proofs.world.World.perform.Goals as goal
 
 pub invariant_of-self : goal.invariant_of-self
@@ -13,3 +13,9 @@ invariant_of-self c = record {
       c.make-update.ensures.changed c.make-update.ensures.held;
   room = omega (arith, c.self.invariant.room, c.push.ensures.capacity);
 }
+
+pub returns : goal.returns
+returns c =
+    course_performed c.self.inside.held.items c.self.inside.database c.make-update.new.database c.self.inside.trail.items c.push.new.self.items
+    c.make-update.result c.args.label c.self.inside.room c.args.self.now c.self.view_is (rw c.unwrap.ensures at c.push.ensures.items)
+    c.make-update.ensures.label c.make-update.ensures.count
