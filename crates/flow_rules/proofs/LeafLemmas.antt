@@ -1,5 +1,5 @@
 -- The leaf of an event among one leaf more, in tables of leaves and in lanes.
-use Rattle.std.proofs.Common.{◌≡◌, ℕ, ◌+◌, ◌<◌, ◌&&◌, ◌||◌, Bool, true, false, if◌then◌else◌, List, [], ◌∷◌, length, take, get_or, find, Option, Some, None, refl, sym, subst, ap, ◌∙◌}
+use Rattle.std.proofs.Common.{◌≡◌, ℕ, ◌+◌, ◌<◌, ◌≤◌, ◌&&◌, ◌||◌, Bool, true, false, if◌then◌else◌, List, [], ◌∷◌, length, take, get_or, find, Option, Some, None, refl, sym, subst, ap, ◌∙◌, arith}
 use Rattle.std.specs.Option.{option_or}
 use Rattle.std.specs.Prelude.{IfSome, is_some}
 use Rattle.std.proofs.lemmas.List.{take_more}
@@ -37,6 +37,18 @@ shown_more o leaf lane here old = refl
 -- the event at a leaf is among those that there is room for
 pub room_at : (labels : List Label) (ls : List ℕ) (i room : ℕ) (event : Option ℕ) → HasRoom labels ls room → i < length ls → event ≡ event_at labels (get_or ls i 0) → IfSome event (λ e. e < room)
 room_at labels ls i room event all h there = subst (λ (o : Option ℕ). IfSome o (λ e. e < room)) (sym there) (all i h)
+
+-- where there is room, there is with more places
+pub room_kept : (labels : List Label) (ls : List ℕ) (room more : ℕ) → HasRoom labels ls room → room ≤ more → HasRoom labels ls more
+room_kept labels ls room more all wider i within = below (event_at labels (get_or ls i 0)) (all i within)
+  where
+    below : (o : Option ℕ) → IfSome o (λ e. e < room) → IfSome o (λ e. e < more)
+    below None h = tt
+    below (Some e) h = omega arith
+
+pub none_marked : (lane old : Bool) → old ≡ (lane && false || old)
+none_marked true old = refl
+none_marked false old = refl
 
 module _ (labels : List Label) (ls : List ℕ) (i q : ℕ) (event : Option ℕ) (h : i < length ls) (there : event ≡ event_at labels (get_or ls i 0)) where
   more : option_or (leaf_of_event labels (take i ls) q) (if_on q (get_or ls i 0) event) ≡ leaf_of_event labels (take (i + 1) ls) q

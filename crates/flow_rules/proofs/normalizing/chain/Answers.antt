@@ -1,10 +1,15 @@
-use Rattle.std.proofs.Common.{◌≡◌, ◌<◌, ◌≤◌, ◌-◌, ◌∷◌, [], ℕ, List, length, get_or, take, drop, ap, refl, ◌∙◌, arith}
+use Rattle.std.proofs.Common.{◌≡◌, ◌<◌, ◌≤◌, ◌-◌, ◌∷◌, [], ℕ, Bool, List, length, map, get_or, take, drop, ap, refl, ◌∙◌, arith}
 use Rattle.std.proofs.lemmas.List.{take_all}
+use Rattle.flow_rules.specs.declared.normal.Nnf.{Nnf}
 use Rattle.flow_rules.specs.Normal.{all_form, linked, pair_form, split_chain}
-use Rattle.flow_rules.specs.NormalForm.{chain_form, list_form, order_form}
+use Rattle.flow_rules.specs.NormalForm.{chain_form, form_of, list_form, order_form}
 use Rattle.flow_rules.proofs.NormalViews.{normal_of-Event}
 use Rattle.flow_rules.proofs.RuleViews.{form_of-Event}
 use Rattle.flow_rules.proofs.normalizing.chain.Goals as goal
+
+no_events : (wanted : Bool) (events : List ℕ) → length events < 1 → list_form wanted [] ≡ chain_form wanted events
+no_events wanted [] none = refl
+no_events wanted (event ∷ more) none = absurd (omega arith)
 
 only_event : (events : List ℕ) → 1 ≤ length events → length events < 2 → get_or events 0 0 ∷ [] ≡ events
 only_event [] some few = absurd (omega arith)
@@ -36,3 +41,7 @@ returns-in_ok-pairs-in-len1-up-clause-normal c =
     let wanted = c.args.wanted in
     c.all-in-len1-up.ensures.normal ∙ ap (all_form wanted) c.in_ok-pairs-in-len1-up.ensures.normal
     ∙ several_events (λ first rest. all_form wanted (linked (pair_form wanted) first rest)) (split_chain wanted) (λ a b more. refl) c.args.events.now c.in-len1-up.len_at_least
+
+pub returns-in-empty-clause-tree : goal.returns-in-empty-clause-tree
+returns-in-empty-clause-tree c =
+    c.all.ensures.tree ∙ ap (λ (parts : List Nnf). list_form c.args.wanted (map form_of parts)) c.new.ensures.items ∙ no_events c.args.wanted c.args.events.now c.in-empty.len_below
