@@ -4,7 +4,7 @@ use Rattle.flow_model.specs.Lists.{Each}
 use Rattle.flow_form.specs.Form.{Shape, beside, either, shapes}
 use Rattle.flow_form.specs.RuleForm.{RuleShape, any, rule_shapes}
 use Rattle.flow_grammar.specs.Symbol.{Placed, at, closing}
-use Rattle.flow_grammar.specs.Grammar.{FactText, bare, applied, spell_fact, mean_fact, Prefix, prefixed, Kind, goals, rules, Meaning, top, list, Text, joined, group_text, fact_text, iso_text, not_text, order_text, More, no_more_text, then_text, spell, spell_more, mean, mean_more}
+use Rattle.flow_grammar.specs.Grammar.{FactText, bare, applied, spell_fact, mean_fact, Prefix, prefixed, Kind, goals, rules, Meaning, top, list, Text, joined, group_text, nop_text, name_text, fact_text, iso_text, not_text, single_text, order_text, pair_text, must_come, never_come, preceding, needing, More, no_more_text, then_text, spell, spell_more, mean, mean_more}
 use Rattle.flow_model.specs.declared.limits.TheConstants.{GREATEST_DEPTH}
 use Rattle.flow_grammar.specs.Texts.{IsShallow}
 use Rattle.flow_grammar.specs.Print.{in_serial, in_beside, in_either, in_all, in_any, nest, arguments_nesting, nesting, nesting_list, rule_nesting, rules_nesting}
@@ -116,7 +116,12 @@ mutual
       let (x, j) = within u (suc d) r b m h in
       (omega arith, j)
   within (order_text x y ns) d r b l (h, (j, (i, more))) = (omega arith, (names_spelled d ns r).1.0 more)
-  within _ d r b l h = search (std_rules, none_more)
+  within nop_text d r b l h = (none_more d GREATEST_DEPTH l, h.1)
+  within (name_text n) d r b l h = (none_more d GREATEST_DEPTH l, h.1)
+  within (single_text must_come n) d r b l h = (none_more d GREATEST_DEPTH l, h.1.1)
+  within (single_text never_come n) d r b l h = (none_more d GREATEST_DEPTH l, h.1.1)
+  within (pair_text preceding x y) d r b l h = (none_more d GREATEST_DEPTH l, h.1.1.1)
+  within (pair_text needing x y) d r b l h = (none_more d GREATEST_DEPTH l, h.1.1.1)
 
   more_within : {k : Kind} {n : ℕ} (ms : More k n) (d : ℕ) (r : List Placed) → n ≤ top k → d ≤ GREATEST_DEPTH → IsShallow (spell_more d ms r) →
       Each (Holds k n d) (mean_more ms) × IsShallow r

@@ -1,10 +1,10 @@
 -- A goal: what may follow each state, up to its semicolon.
-use Rattle.std.proofs.Common.{rules, ◌≡◌, ℕ, suc, ◌⊎◌, List, [], ◌∷◌, ◌++◌, refl, sym, ap, ◌∙◌, subst, inl, inr, append_assoc, append-nil}
+use Rattle.std.proofs.Common.{◌≡◌, ℕ, suc, ◌⊎◌, List, [], ◌∷◌, ◌++◌, refl, sym, ap, ◌∙◌, subst, inl, inr, append_assoc, append-nil}
 use Rattle.flow_facts.specs.Atom.{Atom, atom}
 use Rattle.flow_form.specs.Form.{Shape, iso}
 use Rattle.flow_grammar.specs.Symbol.{Symbol, Placed, at, nop_word, iso_word, ins_word, del_word, a_name, star, bar, plus, opening, closing, semicolon, question, exclamation}
 use Rattle.flow_grammar.specs.Grammar.{FactText, bare, applied, asking, denying, adding, taking, prefixed, spell_fact, mean_fact, Prefix, goals, list, gather, Text, joined, group_text, nop_text, name_text, fact_text, iso_text, More, no_more_text, then_text, spell, spell_more, mean, mean_more}
-use Rattle.flow_grammar.specs.Machine.{constant_needed, Level, level, push, close_serial, close_beside, close, Frame, parenthesis, isolation, wrap, GoalState, atom_needed, after_atom, opening_needed, fact_needed, after_relation, in_args, step_goal, height, depth_goal}
+use Rattle.flow_grammar.specs.Machine.{Step, reading, whole, stuck, ArgState, constant_needed, step_arg, after_arg, Level, level, push, close_serial, close_beside, close, Frame, parenthesis, isolation, wrap, GoalState, atom_needed, after_atom, opening_needed, fact_needed, after_relation, in_args, step_goal, height, depth_goal}
 use Rattle.flow_grammar.proofs.Parts.{Follow, StepNext, StepFront}
 use Rattle.flow_grammar.proofs.Parts as parts
 use Rattle.flow_grammar.proofs.ArgStates.{ArgRest, arg_forth, arg_back, arg_completes}
@@ -97,6 +97,30 @@ start_forth K fs l (iso_text g) v t = (λ h. refl, (g, v, refl, t))
 start_forth K fs l (group_text g) v t =
     (λ h. refl, need_of_goal (Closing K (parenthesis l ∷ fs)) (suc (height fs)) g (at (suc (height fs)) closing ∷ v) (v, refl, t))
 
+-- what may follow a relation or an argument begins as it does in the state that the step leaves
+relation_front : (K : Follow Shape) (p : Prefix) (n : List ℕ) (fs : List Frame) (l : Level) (w : List Placed) →
+    GoalFront (after_atom fs (push l (prefixed p (atom n [])))) w K → GoalFront (after_relation p n fs l) w K
+relation_front K p n fs l [] h = h
+relation_front K p n fs l (at m opening ∷ w) h = absurd h.1
+relation_front K p n fs l (at m _ ∷ w) h = h
+
+args_next : (K : Follow Shape) (p : Prefix) (fs : List Frame) (l : Level) (s : Step ArgState Atom) (w : List Placed) →
+    StepNext (ArgRest (suc (height fs))) s w (AfterFact K fs l p) → StepNext GoalRest (after_arg p fs l s) w K
+args_next K p fs l (reading a) w h = h
+args_next K p fs l (whole f) w h = h
+args_next K p fs l stuck w h = h
+
+args_before : (K : Follow Shape) (p : Prefix) (fs : List Frame) (l : Level) (s : Step ArgState Atom) (w : List Placed) →
+    StepNext GoalRest (after_arg p fs l s) w K → StepNext (ArgRest (suc (height fs))) s w (AfterFact K fs l p)
+args_before K p fs l (reading a) w h = h
+args_before K p fs l (whole f) w h = h
+args_before K p fs l stuck w h = h
+
+args_front : (K : Follow Shape) (p : Prefix) (a : ArgState) (fs : List Frame) (l : Level) (w : List Placed) →
+    StepFront step_arg (λ b. suc (height fs)) (ArgRest (suc (height fs))) a w (AfterFact K fs l p) → GoalFront (in_args p a fs l) w K
+args_front K p a fs l [] h = h
+args_front K p a fs l (at m t ∷ w) h = (h.0, args_next K p fs l (step_arg a t) w h.1)
+
 pub goal_forth : (s : GoalState) (w : List Placed) (K : Follow Shape) → GoalRest s w K → GoalFront s w K
 goal_forth (atom_needed fs l) w K (a, v, e, t) = subst (λ y. GoalFront (atom_needed fs l) y K) e (start_forth K fs l a v t)
 goal_forth (after_atom fs l) w K h = join_forth K fs l w h
@@ -106,10 +130,9 @@ goal_forth (opening_needed fs l) w K (g, v, e, t) =
 goal_forth (fact_needed p fs l) w K (bare n, v, e, t) = subst (λ y. GoalFront (fact_needed p fs l) y K) e (λ h. refl, inl t)
 goal_forth (fact_needed p fs l) w K (applied n c cs, v, e, t) =
     subst (λ y. GoalFront (fact_needed p fs l) y K) e (λ h. refl, inr (_, refl, (c, cs, v, refl, t)))
-goal_forth (after_relation p n fs l) w K (inl t) =
-    let front = join_forth K fs (push l (prefixed p (atom n []))) w t in search rules
+goal_forth (after_relation p n fs l) w K (inl t) = relation_front K p n fs l w (join_forth K fs (push l (prefixed p (atom n []))) w t)
 goal_forth (after_relation p n fs l) w K (inr (v, e, t)) = subst (λ y. GoalFront (after_relation p n fs l) y K) e (λ h. refl, t)
-goal_forth (in_args p a fs l) w K h = let front = arg_forth (suc (height fs)) a w (AfterFact K fs l p) h in search rules
+goal_forth (in_args p a fs l) w K h = args_front K p a fs l w (arg_forth (suc (height fs)) a w (AfterFact K fs l p) h)
 
 -- Back: a step and what may follow it may follow the state
 
@@ -154,7 +177,7 @@ goal_back (fact_needed p fs l) (a_name n) w K (inr (v, e, (c, cs, r, e', t))) =
 goal_back (fact_needed p fs l) _ w K h = absurd h
 goal_back (after_relation p n fs l) opening w K h = inr (w, refl, h)
 goal_back (after_relation p n fs l) t w K h = inl (join_back K fs (push l (prefixed p (atom n []))) t w h)
-goal_back (in_args p a fs l) t w K h = arg_back (suc (height fs)) a t w (AfterFact K fs l p) (search rules)
+goal_back (in_args p a fs l) t w K h = arg_back (suc (height fs)) a t w (AfterFact K fs l p) (args_before K p fs l (step_arg a t) w h)
 
 -- Each state can be completed
 

@@ -1,14 +1,14 @@
 -- What a text says is well made.
-use Rattle.std.proofs.Common.{rules as std_rules, ◌≡◌, ℕ, suc, ◌<◌, ◌≤◌, List, [], ◌∷◌, ◌++◌, map, flat_map, length, subst, ap, ◌∙◌, arith, length-append}
+use Rattle.std.proofs.Common.{◌≡◌, ℕ, zero, suc, ◌<◌, ◌≤◌, List, [], ◌∷◌, ◌++◌, map, flat_map, length, subst, ap, ◌∙◌, arith, length-append}
 use Rattle.std.proofs.lemmas.Grind.{flat_map-append}
 use Rattle.std.proofs.lemmas.List.{length-map}
 use Rattle.flow_model.specs.Lists.{Each}
-use Rattle.flow_form.specs.Form.{Shape, shapes, IsGrouped, AreGrouped}
-use Rattle.flow_form.specs.RuleForm.{RuleShape, rule_shapes, IsGroupedRule, AreGroupedRules}
+use Rattle.flow_form.specs.Form.{Shape, members, shapes, IsGrouped, AreGrouped}
+use Rattle.flow_form.specs.RuleForm.{RuleShape, rule_members, rule_shapes, IsGroupedRule, AreGroupedRules}
 use Rattle.flow_form.specs.Script.{Declared, fact, event, flow}
 use Rattle.flow_form.specs.Names.{flow_goal, names_in_rule}
 use Rattle.flow_grammar.specs.Symbol.{Placed, at, symbols, a_name, semicolon, equals}
-use Rattle.flow_grammar.specs.Grammar.{FactText, Kind, goals, rules, Meaning, list, gather, Text, joined, group_text, iso_text, not_text, order_text, More, no_more_text, then_text, spell, mean, mean_more, NotedText, noted_text, mean_noted, DeclText, facts_text, events_text, flow_text, declared_fact, mean_decl, ScriptText, script_text, mean_rule, spell_script, holds_text, redundant_text}
+use Rattle.flow_grammar.specs.Grammar.{FactText, Kind, goals, rules, Meaning, list, gather, Text, joined, group_text, nop_text, name_text, fact_text, iso_text, not_text, single_text, order_text, pair_text, asking, denying, adding, taking, must_come, never_come, preceding, needing, More, no_more_text, then_text, spell, mean, mean_more, NotedText, noted_text, mean_noted, DeclText, facts_text, events_text, flow_text, declared_fact, mean_decl, ScriptText, script_text, mean_rule, spell_script, holds_text, redundant_text}
 use Rattle.flow_grammar.specs.Roles.{in_rule, role_name, fact_roles, goal_roles, declared_roles, script_roles, names_of}
 use Rattle.flow_grammar.proofs.RolesOfNames.{scripts_have_roles}
 use Rattle.flow_grammar.specs.Made.{IsWellMade, IsWellAsked, ScriptsAreWellMade, QueriesAreWellMade}
@@ -37,8 +37,11 @@ two_or_more : (n : ℕ) → 2 ≤ suc (suc n)
 two_or_more n = omega arith
 
 list_grouped : (k : Kind) (n : ℕ) (m m' : Meaning k) (ms : List (Meaning k)) → Each (Grouped k) (m ∷ m' ∷ ms) → Grouped k (list k n (m ∷ m' ∷ ms))
-list_grouped goals n m m' ms h = search (std_rules, two_or_more, are_grouped)
-list_grouped rules n m m' ms h = search (std_rules, two_or_more, are_grouped_rules)
+list_grouped goals zero m m' ms h = (two_or_more (length (members (shapes ms))), are_grouped (m ∷ m' ∷ ms) h)
+list_grouped goals (suc zero) m m' ms h = (two_or_more (length (members (shapes ms))), are_grouped (m ∷ m' ∷ ms) h)
+list_grouped goals (suc (suc n)) m m' ms h = (two_or_more (length (members (shapes ms))), are_grouped (m ∷ m' ∷ ms) h)
+list_grouped rules zero m m' ms h = (two_or_more (length (rule_members (rule_shapes ms))), are_grouped_rules (m ∷ m' ∷ ms) h)
+list_grouped rules (suc n) m m' ms h = (two_or_more (length (rule_members (rule_shapes ms))), are_grouped_rules (m ∷ m' ∷ ms) h)
 
 mutual
   grouped : {k : Kind} {n : ℕ} (t : Text k n) → Grouped k (mean t)
@@ -48,7 +51,16 @@ mutual
   grouped (iso_text g) = grouped g
   grouped (not_text u) = grouped u
   grouped (order_text a b ns) = omega arith
-  grouped _ = search std_rules
+  grouped nop_text = tt
+  grouped (name_text n) = tt
+  grouped (fact_text asking f) = tt
+  grouped (fact_text denying f) = tt
+  grouped (fact_text adding f) = tt
+  grouped (fact_text taking f) = tt
+  grouped (single_text must_come n) = tt
+  grouped (single_text never_come n) = tt
+  grouped (pair_text preceding a b) = tt
+  grouped (pair_text needing a b) = tt
 
   grouped_more : {k : Kind} {n : ℕ} (ms : More k n) → Each (Grouped k) (mean_more ms)
   grouped_more no_more_text = tt

@@ -4,12 +4,12 @@ use Rattle.std.proofs.lemmas.Grind.{flat_map-append}
 use Rattle.std.proofs.lemmas.List.{map-append}
 use Rattle.flow_facts.specs.declared.constant.Const.{Const}
 use Rattle.flow_facts.specs.declared.constant.Const.TheVariants.{Word, Number}
-use Rattle.flow_form.specs.Form.{Shape, Shapes, iso, serial, beside, either, no_more, followed, shapes}
+use Rattle.flow_form.specs.Form.{Shape, Shapes, nop, named, test, absent, ins, del, iso, serial, beside, either, no_more, followed, shapes}
 use Rattle.flow_form.specs.RuleForm.{RuleShape, rule_shapes}
 use Rattle.flow_form.specs.Script.{Declared, fact, event, flow}
 use Rattle.flow_form.specs.Names.{declared_name, names_in, names_in_each, names_in_rule, names_in_rules, flow_goal}
 use Rattle.flow_grammar.specs.Symbol.{Placed, at, symbols, closing, semicolon, goal_word}
-use Rattle.flow_grammar.specs.Grammar.{FactText, bare, applied, spell_constants, spell_fact, mean_fact, spell_names, Kind, goals, rules, Meaning, join, list, gather, Text, joined, group_text, iso_text, not_text, order_text, More, no_more_text, then_text, spell, spell_more, mean, mean_more, spell_noted, mean_noted, DeclText, facts_text, events_text, flow_text, spell_items, declared_fact, spell_decl, mean_decl, script_text, spell_decls, spell_constraints, mean_rule, holds_text, redundant_text}
+use Rattle.flow_grammar.specs.Grammar.{FactText, bare, applied, spell_constants, spell_fact, mean_fact, spell_names, Kind, goals, rules, Meaning, join, list, gather, Text, joined, group_text, nop_text, name_text, fact_text, iso_text, not_text, single_text, order_text, pair_text, asking, denying, adding, taking, must_come, never_come, preceding, needing, More, no_more_text, then_text, spell, spell_more, mean, mean_more, spell_noted, mean_noted, DeclText, facts_text, events_text, flow_text, spell_items, declared_fact, spell_decl, mean_decl, script_text, spell_decls, spell_constraints, mean_rule, holds_text, redundant_text}
 use Rattle.flow_grammar.specs.Texts.{SpellsScript, SpellsQuery}
 use Rattle.flow_grammar.specs.Roles.{Role, in_rule, role_name, constant_roles, fact_roles, goal_roles, roles_in_each, declared_roles, script_roles, query_roles, names_of, NamesHaveRoles, declared_by, goal_name, rule_name, declaring, used_in_goals, used_in_rules, RolesAreTheNames}
 
@@ -67,7 +67,16 @@ mutual
   text_has (iso_text g) d r = text_has g (suc d) (at (suc d) closing ∷ r)
   text_has (not_text u) d r = text_has u (suc d) r
   text_has (order_text a b ns) d r = ap (λ z. a ∷ b ∷ z) (names_have d ns r)
-  text_has _ d r = search (std_rules, fact_has)
+  text_has nop_text d r = refl
+  text_has (name_text n) d r = refl
+  text_has (fact_text asking f) d r = fact_has d f r
+  text_has (fact_text denying f) d r = fact_has d f r
+  text_has (fact_text adding f) d r = fact_has d f r
+  text_has (fact_text taking f) d r = fact_has d f r
+  text_has (single_text must_come n) d r = refl
+  text_has (single_text never_come n) d r = refl
+  text_has (pair_text preceding a b) d r = refl
+  text_has (pair_text needing a b) d r = refl
 
   more_has : {k : Kind} {n : ℕ} (ms : More k n) (d : ℕ) (r : List Placed) → Has (spell_more d ms r) (flat_map (names k) (mean_more ms)) r
   more_has no_more_text d r = refl
@@ -139,7 +148,12 @@ mutual
   of_goal (serial ss) = of_goals ss
   of_goal (beside ss) = of_goals ss
   of_goal (either ss) = of_goals ss
-  of_goal _ = search (std_rules, of_constants)
+  of_goal nop = (refl, refl, refl)
+  of_goal (named n) = (refl, refl, refl)
+  of_goal (test a) = of_constants a.args
+  of_goal (absent a) = of_constants a.args
+  of_goal (ins a) = of_constants a.args
+  of_goal (del a) = of_constants a.args
 
   of_goals : (ss : Shapes) → AreFor [] (names_in_each ss) [] (roles_in_each ss)
   of_goals no_more = (refl, refl, refl)

@@ -1,5 +1,5 @@
 -- A rule: what may follow each state, up to its semicolon.
-use Rattle.std.proofs.Common.{rules as std_rules, ◌≡◌, ℕ, suc, List, [], ◌∷◌, ◌++◌, refl, sym, ap, ◌∙◌, subst, append_assoc, append-nil}
+use Rattle.std.proofs.Common.{◌≡◌, ℕ, suc, List, [], ◌∷◌, ◌++◌, refl, sym, ap, ◌∙◌, subst, append_assoc, append-nil}
 use Rattle.flow_form.specs.RuleForm.{RuleShape, order}
 use Rattle.flow_grammar.specs.Symbol.{Symbol, Placed, at, Deepens, must_word, never_word, order_word, precedes_word, needs_word, not_word, and_word, or_word, a_name, opening, closing, semicolon}
 use Rattle.flow_grammar.specs.Grammar.{must_come, never_come, single, preceding, needing, paired, rules, list, gather, Text, joined, group_text, not_text, single_text, order_text, pair_text, More, no_more_text, then_text, spell_names, spell, spell_more, mean, mean_more}
@@ -93,6 +93,13 @@ start_forth K fs l k (order_text a b ns) v t = (λ h. refl, (a, b, ns, v, refl, 
 start_forth K fs l k (pair_text preceding a b) v t = (λ h. refl, (a, b, v, refl, t))
 start_forth K fs l k (pair_text needing a b) v t = (λ h. refl, (a, b, v, refl, t))
 
+-- what may follow the names begins as it does after the unit
+names_front : (K : Follow RuleShape) (ms : List (List ℕ)) (fs : List RuleFrame) (l : RuleLevel) (k : ℕ) (w : List Placed) →
+    RuleFront (after_unit fs (push_rule l (negate k (order ms)))) w K → RuleFront (after_names ms fs l k) w K
+names_front K ms fs l k [] h = h
+names_front K ms fs l k (at m (a_name n) ∷ w) h = absurd h.1
+names_front K ms fs l k (at m _ ∷ w) h = h
+
 pub rule_forth : (s : RuleState) (w : List Placed) (K : Follow RuleShape) → RuleRest s w K → RuleFront s w K
 rule_forth (unit_needed fs l k) w K (u, v, e, t) = subst (λ y. RuleFront (unit_needed fs l k) y K) e (start_forth K fs l k u v t)
 rule_forth (after_unit fs l) w K h = join_forth K fs l w h
@@ -105,7 +112,7 @@ rule_forth (name_needed (one_or_more a) fs l k) w K (b, ns, v, e, t) =
     subst (λ y. RuleFront (name_needed (one_or_more a) fs l k) y K) e (λ h. refl, (ns, v, refl, t))
 rule_forth (after_names ms fs l k) w K ([], v, e, t) =
     let after = subst (After K fs l k (order ms)) e (subst (λ y. After K fs l k (order y) v) (append-nil ms) t) in
-    let front = join_forth K fs (push_rule l (negate k (order ms))) w after in search std_rules
+    names_front K ms fs l k w (join_forth K fs (push_rule l (negate k (order ms))) w after)
 rule_forth (after_names ms fs l k) w K (n ∷ ns, v, e, t) =
     subst (λ y. RuleFront (after_names ms fs l k) y K) e
     (λ h. absurd h, (ns, v, refl, subst (λ y. After K fs l k (order y) v) (sym (append_assoc ms (n ∷ []) ns)) t))

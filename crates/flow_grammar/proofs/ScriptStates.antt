@@ -184,6 +184,10 @@ declaration_back ds _ w x h = absurd h
 events_back : (ds : List Declared) (t : Symbol) (w : List Placed) (x : Said) → Back (after_noted ds) t w x
 events_back ds t w x h = items_back spell_noted mean_noted x event_to_declare (λ ds' v k. k) ds t w h
 
+-- a relation alone is a fact
+relation_back : (ds : List Declared) (t : Symbol) (w : List Placed) (x : Said) → Back (after_fact ds) t w x
+relation_back ds t w x h = items_back (spell_fact 0) declared_fact x fact_to_declare (λ ds' v k. k) ds t w h
+
 script_back : (s : State) (t : Symbol) (w : List Placed) (x : Said) → OnNext Rest (step_script s t) w x →
     (n : ℕ) × (Deepens t → n ≡ depth_script s) × Rest s (at n t ∷ w) x
 script_back (declaration_needed ds) t w x h = (0, λ h'. refl, declaration_back ds t w x h)
@@ -192,14 +196,14 @@ script_back (fact_to_declare ds) (a_name n) w x (inr (v, e, (c, cs, r, e', h))) 
     (0, λ h'. refl, (applied n c cs, r, ap (λ y. at 0 (a_name n) ∷ y) (ap (λ y. at 0 opening ∷ y) e' ∙ e), h))
 script_back (fact_to_declare ds) _ w x h = absurd h
 script_back (after_declared_relation ds n) opening w x h = (0, λ h'. refl, inr (w, refl, h))
-script_back (after_declared_relation ds n) t w x h = (0, λ h'. refl, inl (items_back (spell_fact 0) declared_fact x fact_to_declare (λ ds' v k. k) (ds ++ fact (atom n []) ∷ []) t w h))
+script_back (after_declared_relation ds n) t w x h = (0, λ h'. refl, inl (relation_back (ds ++ fact (atom n []) ∷ []) t w x h))
 script_back (in_declared_args ds a) t w x h = (
   1,
   λ h'. refl,
   arg_back 1 a t w (λ f r. AfterFact (ds ++ fact f ∷ []) r x)
       (carried_back (ArgRest 1) Rest (in_declared_args ds) (λ f. after_fact (ds ++ fact f ∷ [])) _ x (λ s' r k. k) (λ y r k. k) (step_arg a t) w h),
 )
-script_back (after_fact ds) t w x h = (0, λ h'. refl, items_back (spell_fact 0) declared_fact x fact_to_declare (λ ds' v k. k) ds t w h)
+script_back (after_fact ds) t w x h = (0, λ h'. refl, relation_back ds t w x h)
 script_back (event_to_declare ds) (a_name n) w x (note, v, e, h) = (0, λ h'. refl, (noted_text n note, v, ap (λ y. at 0 (a_name n) ∷ y) e, h))
 script_back (event_to_declare ds) _ w x h = absurd h
 script_back (after_event ds n) done_word w x h = (0, λ h'. refl, (done_text, w, refl, h))
