@@ -1,5 +1,6 @@
 -- The constraint of a rule with others in it, and of its copies.
-use Rattle.std.proofs.Common.{◌≡◌, ◌+◌, ◌<◌, ◌++◌, ◌∷◌, [], ℕ, List, length, take, get_or, map, ap, sym, ◌∙◌, Vec, Box, Global}
+use Rattle.std.proofs.Common.{◌≡◌, ◌+◌, ◌<◌, ◌++◌, ◌∷◌, [], ℕ, List, length, take, get_or, map, ap, sym, subst, inl, inr, ◌⊎◌, ◌∙◌, Vec, Box, Global}
+use Rattle.std.specs.Prelude.{◌↔◌}
 use Rattle.std.proofs.lemmas.List.{map-append, take_more}
 use Rattle.flow_model.specs.Constraint as model
 use Rattle.flow_model.specs.Constraint.{Constraint, all_of}
@@ -49,3 +50,37 @@ and_copied r from copy is same = rule_of-And copy ∙ ap all_of same ∙ sym (ap
 
 pub or_copied : (r : Rule) (from copy : Vec Rule Global) → r ≡ Or from → rules_of copy.items ≡ rules_of from.items → rule_of (Or copy) ≡ rule_of r
 or_copied r from copy is same = rule_of-Or copy ∙ ap any_of same ∙ sym (ap rule_of is ∙ rule_of-Or from)
+
+-- the short forms
+
+without_first : {A B : Type 0} → (⊥ ⊎ A) ⊎ B → A ⊎ B
+without_first (inl (inl none)) = absurd none
+without_first (inl (inr a)) = inl a
+without_first (inr b) = inr b
+
+with_first : {A B : Type 0} → A ⊎ B → (⊥ ⊎ A) ⊎ B
+with_first (inl a) = inl (inr a)
+with_first (inr b) = inr b
+
+without_first_of_three : {A B C : Type 0} → ((⊥ ⊎ A) ⊎ B) ⊎ C → (A ⊎ B) ⊎ C
+without_first_of_three (inl h) = inl (without_first h)
+without_first_of_three (inr c) = inr c
+
+with_first_of_three : {A B C : Type 0} → (A ⊎ B) ⊎ C → ((⊥ ⊎ A) ⊎ B) ⊎ C
+with_first_of_three (inl h) = inl (with_first h)
+with_first_of_three (inr c) = inr c
+
+pub precedes_made : (parts : Vec Rule Global) (a b : ℕ) (order : Vec ℕ Global) → parts.items ≡ rule.Never a ∷ rule.Never b ∷ rule.Order order ∷ [] → order.items ≡ a ∷ b ∷ [] →
+    (events : List ℕ) → model.Meets (rule_of (Or parts)) events ↔ model.Meets (model.precedes a b) events
+precedes_made parts a b order is ordered events =
+    subst (λ c. model.Meets c events ↔ model.Meets (model.precedes a b) events)
+    (sym (rule_of-Or parts ∙ ap (λ list. any_of (rules_of list)) is
+    ∙ (λ i. any_of (rule_of-Never a i ∷ rule_of-Never b i ∷ (rule_of-Order order ∙ ap model.Order ordered) i ∷ []))))
+    ((λ h. without_first_of_three h), (λ h. with_first_of_three h))
+
+pub needs_made : (parts : Vec Rule Global) (a b : ℕ) → parts.items ≡ rule.Never a ∷ rule.Must b ∷ [] →
+    (events : List ℕ) → model.Meets (rule_of (Or parts)) events ↔ model.Meets (model.needs a b) events
+needs_made parts a b is events =
+    subst (λ c. model.Meets c events ↔ model.Meets (model.needs a b) events)
+    (sym (rule_of-Or parts ∙ ap (λ list. any_of (rules_of list)) is ∙ (λ i. any_of (rule_of-Never a i ∷ rule_of-Must b i ∷ []))))
+    ((λ h. without_first h), (λ h. with_first h))
