@@ -1,4 +1,7 @@
-use Rattle.std.proofs.Common.{length, subst, sym}
+use Rattle.std.proofs.Common.{◌∙◌, ℕ, List, length, ap, subst, sym}
+use Rattle.std.specs.Option.{option_or}
+use Rattle.std.proofs.lemmas.List.{take_all}
+use Rattle.flow_model.specs.Ways.{leaf_of_event}
 use Rattle.flow_rules.specs.EventLeaves.{leaf_in}
 use Rattle.flow_rules.specs.Rooms.{HasRoom}
 use Rattle.flow_rules.proofs.LeafLemmas.{noted_more, room_at}
@@ -16,3 +19,9 @@ loop-leaf-preserved c = record {
       noted_more c.args.tree.now.labels c.args.leaves.now c.loop-leaf.leaf-index q c.event_at.result c.loop-leaf-test.true c.event_at.ensures
       (leaf_in c.args.events.now q) _ _ (c.loop-leaf.invariant.noted q) (c.note.ensures.noted q);
 }
+
+pub returns-clause-noted : goal.returns-clause-noted
+returns-clause-noted c = λ event.
+    c.loop-leaf.invariant.noted event
+    ∙ ap (λ (list : List ℕ). option_or (leaf_in c.args.events.now event) (leaf_of_event c.args.tree.now.labels list event))
+    (take_all c.loop-leaf.leaf-index c.args.leaves.now c.loop-leaf-test.false)
