@@ -158,3 +158,9 @@ module _ (held : List ℕ) (facts : List Bool) (trail : List Update) (room kept 
 pub still_enough : (kept : ℕ) (now next : Course) → kept < length now.labels → next ≡ record now { labels = take (length now.labels - 1) now.labels } →
     (kept ≤ length next.labels) × (length next.labels < length now.labels)
 still_enough kept now next over e = let fewer = one_fewer now next e in (omega arith, omega arith)
+
+-- there is room for one label more
+pub room_left : (held : List ℕ) (facts : List Bool) (trail : List Update) (room : ℕ) (now : Course) →
+    ◌≡◌ {A = Course} (record { held = held; count = length facts; labels = labels_of trail; room = room }) now → length now.labels < now.room →
+    {size capacity : ℕ} → size ≡ length trail → room ≤ capacity → size < capacity
+room_left held facts trail room now view fits sized enough = omega (arith, labels_there held facts trail room now view, ap (λ (w : Course). w.room) view)

@@ -1,7 +1,7 @@
 use Rattle.std.proofs.Common.{ap, sym, subst, arith}
 use Rattle.flow_facts.specs.Changes.{HasFactBelow}
 use Rattle.flow_facts.specs.Course.{Course}
-use Rattle.flow_facts.proofs.Trails.{course_performed, kept_performed}
+use Rattle.flow_facts.proofs.Trails.{course_performed, kept_performed, room_left}
 use Rattle.flow_facts.proofs.world.World.perform.Goals as goal
 
 pub invariant_of-self : goal.invariant_of-self
@@ -19,3 +19,8 @@ returns c =
     course_performed c.self.inside.held.items c.self.inside.database c.make-update.new.database c.self.inside.trail.items c.push.new.self.items
     c.make-update.result c.args.label c.self.inside.room c.args.self.now c.self.view_is (rw c.unwrap.ensures at c.push.ensures.items)
     c.make-update.ensures.label c.make-update.ensures.count
+
+pub unwrap-requires : goal.unwrap-requires
+unwrap-requires c =
+    c.push.ensures.succeeds (room_left c.self.inside.held.items c.self.inside.database c.self.inside.trail.items c.self.inside.room c.args.self.now c.self.view_is
+    c.requires.room c.self.inside.trail.ok.0 c.self.invariant.room)
