@@ -1,8 +1,6 @@
 -- The normal form of a rule with others in it.
 use Rattle.std.proofs.Common.{◌≡◌, ℕ, Bool, not, map, ap, sym, ◌∙◌, Vec, Box, Global}
 use Rattle.std.proofs.lemmas.Simd.{map-map}
-use Rattle.flow_model.specs.Constraint as model
-use Rattle.flow_model.specs.Constraint.{Constraint}
 use Rattle.flow_rules.specs.declared.normal.Nnf.{Event, Order}
 use Rattle.flow_rules.specs.declared.normal.Nnf.TheOpen as open_nnf
 use Rattle.flow_rules.specs.declared.normal.Nnf.TheVariants.{rolls-Event, rolls-Order}
