@@ -147,13 +147,16 @@ join_back K (f ∷ fs) l closing w t =
     (no_more_text, no_more_text, _, refl, (w, refl, subst (λ y. Tail (Closing K fs) (rule_height fs) (wrap_rule f y) w) (sym (close_more l)) t))
 join_back K _ l _ w h = absurd h
 
+named_back : (K : Follow RuleShape) (names : Names) (fs : List RuleFrame) (l : RuleLevel) (k : ℕ) (n : List ℕ) (w : List Placed) → Back (name_needed names fs l k) (nots_in k (rule_height fs)) (a_name n) w K
+named_back K (one s) fs l k n w t = (n, w, refl, t)
+named_back K (two p) fs l k n w (b, v, e, t) = (n, b, v, ap (λ y. at (nots_in k (rule_height fs)) (a_name n) ∷ y) e, t)
+named_back K (second p a) fs l k n w t = (n, w, refl, t)
+named_back K two_or_more fs l k n w (b, ns, v, e, t) = (n, b, ns, v, ap (λ y. at (nots_in k (rule_height fs)) (a_name n) ∷ y) e, t)
+named_back K (one_or_more a) fs l k n w (ns, v, e, t) = (n, ns, v, ap (λ y. at (nots_in k (rule_height fs)) (a_name n) ∷ y) e, t)
+
 name_back : (K : Follow RuleShape) (names : Names) (fs : List RuleFrame) (l : RuleLevel) (k : ℕ) (t : Symbol) (w : List Placed) → Back (name_needed names fs l k) (nots_in k (rule_height fs)) t w K
-name_back K (one s) fs l k (a_name n) w t = (n, w, refl, t)
-name_back K (two p) fs l k (a_name n) w (b, v, e, t) = (n, b, v, ap (λ y. at (nots_in k (rule_height fs)) (a_name n) ∷ y) e, t)
-name_back K (second p a) fs l k (a_name n) w t = (n, w, refl, t)
-name_back K two_or_more fs l k (a_name n) w (b, ns, v, e, t) = (n, b, ns, v, ap (λ y. at (nots_in k (rule_height fs)) (a_name n) ∷ y) e, t)
-name_back K (one_or_more a) fs l k (a_name n) w (ns, v, e, t) = (n, ns, v, ap (λ y. at (nots_in k (rule_height fs)) (a_name n) ∷ y) e, t)
-name_back K _ fs l k _ w h = absurd h
+name_back K names fs l k (a_name n) w h = named_back K names fs l k n w h
+name_back K names fs l k _ w h = absurd h
 
 pub rule_back : (s : RuleState) (t : Symbol) (w : List Placed) (K : Follow RuleShape) → StepNext RuleRest (step_rule s t) w K →
     (n : ℕ) × (Deepens t → n ≡ depth_rule s) × RuleRest s (at n t ∷ w) K
