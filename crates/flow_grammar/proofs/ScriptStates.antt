@@ -188,15 +188,51 @@ events_back ds t w x h = items_back spell_noted mean_noted x event_to_declare (�
 relation_back : (ds : List Declared) (t : Symbol) (w : List Placed) (x : Said) → Back (after_fact ds) t w x
 relation_back ds t w x h = items_back (spell_fact 0) declared_fact x fact_to_declare (λ ds' v k. k) ds t w h
 
+fact_back : (ds : List Declared) (t : Symbol) (w : List Placed) (x : Said) → Back (fact_to_declare ds) t w x
+fact_back ds (a_name n) w x (inl h) = (bare n, w, refl, h)
+fact_back ds (a_name n) w x (inr (v, e, (c, cs, r, e', h))) = (applied n c cs, r, ap (λ y. at 0 (a_name n) ∷ y) (ap (λ y. at 0 opening ∷ y) e' ∙ e), h)
+fact_back ds _ w x h = absurd h
+
+arguments_back : (ds : List Declared) (n : List ℕ) (t : Symbol) (w : List Placed) (x : Said) → Back (after_declared_relation ds n) t w x
+arguments_back ds n opening w x h = inr (w, refl, h)
+arguments_back ds n t w x h = inl (relation_back (ds ++ fact (atom n []) ∷ []) t w x h)
+
+event_back : (ds : List Declared) (t : Symbol) (w : List Placed) (x : Said) → Back (event_to_declare ds) t w x
+event_back ds (a_name n) w x (note, v, e, h) = (noted_text n note, v, ap (λ y. at 0 (a_name n) ∷ y) e, h)
+event_back ds _ w x h = absurd h
+
+note_back : (ds : List Declared) (n : List ℕ) (t : Symbol) (w : List Placed) (x : Said) → Back (after_event ds n) t w x
+note_back ds n done_word w x h = (done_text, w, refl, h)
+note_back ds n fail_word w x (inl h) = (fail_text, w, refl, h)
+note_back ds n fail_word w x (inr (m, v, e, h)) = (fail_first_text m, v, ap (λ y. at 0 fail_word ∷ y) e, h)
+note_back ds n t w x h = (silent_text, at 0 t ∷ w, refl, events_back (ds ++ event n Done ∷ []) t w x h)
+
+fail_back : (ds : List Declared) (n : List ℕ) (t : Symbol) (w : List Placed) (x : Said) → Back (after_fail ds n) t w x
+fail_back ds n (a_number m) w x h = inr (m, w, refl, h)
+fail_back ds n t w x h = inl (events_back (ds ++ event n Fail ∷ []) t w x h)
+
+flow_back : (ds : List Declared) (t : Symbol) (w : List Placed) (x : Said) → Back (flow_to_declare ds) t w x
+flow_back ds (a_name n) w x (g, v, e, h) = (n, g, v, ap (λ y. at 0 (a_name n) ∷ y) e, h)
+flow_back ds _ w x h = absurd h
+
+equals_back : (ds : List Declared) (n : List ℕ) (t : Symbol) (w : List Placed) (x : Said) → Back (equals_needed ds n) t w x
+equals_back ds n equals w x h =
+    let (g, r, e, (v, e', k)) = goal_of_need (Closing (λ s v. Declarations (ds ++ flow n s ∷ []) v x) []) 0 w h in
+    (g, v, ap (λ y. at 0 equals ∷ y) (ap (spell 0 g) e' ∙ e), k)
+equals_back ds n _ w x h = absurd h
+
+constraint_back : (ds : List Declared) (s : Shape) (rs : List RuleShape) (t : Symbol) (w : List Placed) (x : Said) → Back (constraint_needed ds s rs) t w x
+constraint_back ds s rs constraint_word w x h =
+    let (c, r, e, (v, e', (cs, e2, ex))) = rule_of_need (rule_states.Closing (λ y v. Constraints ds s (rs ++ y ∷ []) v x) []) 0 w h in
+    let said = ap (λ y. record { decls = ds; goal = s; rules = y }) (sym (append_assoc rs (mean c ∷ []) (map mean_rule cs))) ∙ ex in
+    (c ∷ cs, ap (λ y. at 0 constraint_word ∷ y) (ap (spell 0 c) (ap (λ y. at 0 semicolon ∷ y) e2 ∙ e') ∙ e), said)
+constraint_back ds s rs _ w x h = absurd h
+
 script_back : (s : State) (t : Symbol) (w : List Placed) (x : Said) → OnNext Rest (step_script s t) w x →
     (n : ℕ) × (Deepens t → n ≡ depth_script s) × Rest s (at n t ∷ w) x
 script_back (declaration_needed ds) t w x h = (0, λ h'. refl, declaration_back ds t w x h)
-script_back (fact_to_declare ds) (a_name n) w x (inl h) = (0, λ h'. refl, (bare n, w, refl, h))
-script_back (fact_to_declare ds) (a_name n) w x (inr (v, e, (c, cs, r, e', h))) =
-    (0, λ h'. refl, (applied n c cs, r, ap (λ y. at 0 (a_name n) ∷ y) (ap (λ y. at 0 opening ∷ y) e' ∙ e), h))
-script_back (fact_to_declare ds) _ w x h = absurd h
-script_back (after_declared_relation ds n) opening w x h = (0, λ h'. refl, inr (w, refl, h))
-script_back (after_declared_relation ds n) t w x h = (0, λ h'. refl, inl (relation_back (ds ++ fact (atom n []) ∷ []) t w x h))
+script_back (fact_to_declare ds) t w x h = (0, λ h'. refl, fact_back ds t w x h)
+script_back (after_declared_relation ds n) t w x h = (0, λ h'. refl, arguments_back ds n t w x h)
 script_back (in_declared_args ds a) t w x h = (
   1,
   λ h'. refl,
@@ -204,21 +240,12 @@ script_back (in_declared_args ds a) t w x h = (
       (carried_back (ArgRest 1) Rest (in_declared_args ds) (λ f. after_fact (ds ++ fact f ∷ [])) _ x (λ s' r k. k) (λ y r k. k) (step_arg a t) w h),
 )
 script_back (after_fact ds) t w x h = (0, λ h'. refl, relation_back ds t w x h)
-script_back (event_to_declare ds) (a_name n) w x (note, v, e, h) = (0, λ h'. refl, (noted_text n note, v, ap (λ y. at 0 (a_name n) ∷ y) e, h))
-script_back (event_to_declare ds) _ w x h = absurd h
-script_back (after_event ds n) done_word w x h = (0, λ h'. refl, (done_text, w, refl, h))
-script_back (after_event ds n) fail_word w x (inl h) = (0, λ h'. refl, (fail_text, w, refl, h))
-script_back (after_event ds n) fail_word w x (inr (m, v, e, h)) = (0, λ h'. refl, (fail_first_text m, v, ap (λ y. at 0 fail_word ∷ y) e, h))
-script_back (after_event ds n) t w x h = (0, λ h'. refl, (silent_text, at 0 t ∷ w, refl, events_back (ds ++ event n Done ∷ []) t w x h))
-script_back (after_fail ds n) (a_number m) w x h = (0, λ h'. refl, inr (m, w, refl, h))
-script_back (after_fail ds n) t w x h = (0, λ h'. refl, inl (events_back (ds ++ event n Fail ∷ []) t w x h))
+script_back (event_to_declare ds) t w x h = (0, λ h'. refl, event_back ds t w x h)
+script_back (after_event ds n) t w x h = (0, λ h'. refl, note_back ds n t w x h)
+script_back (after_fail ds n) t w x h = (0, λ h'. refl, fail_back ds n t w x h)
 script_back (after_noted ds) t w x h = (0, λ h'. refl, events_back ds t w x h)
-script_back (flow_to_declare ds) (a_name n) w x (g, v, e, h) = (0, λ h'. refl, (n, g, v, ap (λ y. at 0 (a_name n) ∷ y) e, h))
-script_back (flow_to_declare ds) _ w x h = absurd h
-script_back (equals_needed ds n) equals w x h =
-    let (g, r, e, (v, e', k)) = goal_of_need (Closing (λ s v. Declarations (ds ++ flow n s ∷ []) v x) []) 0 w h in
-    (0, λ h'. refl, (g, v, ap (λ y. at 0 equals ∷ y) (ap (spell 0 g) e' ∙ e), k))
-script_back (equals_needed ds n) _ w x h = absurd h
+script_back (flow_to_declare ds) t w x h = (0, λ h'. refl, flow_back ds t w x h)
+script_back (equals_needed ds n) t w x h = (0, λ h'. refl, equals_back ds n t w x h)
 script_back (in_flow ds n g) t w x h = (
   depth_goal g,
   λ h'. refl,
@@ -231,11 +258,7 @@ script_back (in_goal ds g) t w x h = (
   goal_back g t w (λ s v. Constraints ds s [] v x)
       (carried_back GoalRest Rest (in_goal ds) (λ s. constraint_needed ds s []) _ x (λ s' r k. k) (λ y r k. k) (step_goal g t) w h),
 )
-script_back (constraint_needed ds s rs) constraint_word w x h =
-    let (c, r, e, (v, e', (cs, e2, ex))) = rule_of_need (rule_states.Closing (λ y v. Constraints ds s (rs ++ y ∷ []) v x) []) 0 w h in
-    let said = ap (λ y. record { decls = ds; goal = s; rules = y }) (sym (append_assoc rs (mean c ∷ []) (map mean_rule cs))) ∙ ex in
-    (0, λ h'. refl, (c ∷ cs, ap (λ y. at 0 constraint_word ∷ y) (ap (spell 0 c) (ap (λ y. at 0 semicolon ∷ y) e2 ∙ e') ∙ e), said))
-script_back (constraint_needed ds s rs) _ w x h = absurd h
+script_back (constraint_needed ds s rs) t w x h = (0, λ h'. refl, constraint_back ds s rs t w x h)
 script_back (in_constraint ds s rs r) t w x h =
     rule_back r t w (λ y v. Constraints ds s (rs ++ y ∷ []) v x)
     (carried_back RuleRest Rest (in_constraint ds s rs) (λ y. constraint_needed ds s (rs ++ y ∷ [])) _ x (λ s' r k. k) (λ y r k. k) (step_rule r t) w h)
