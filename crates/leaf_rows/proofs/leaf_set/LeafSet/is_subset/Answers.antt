@@ -1,7 +1,7 @@
 use Rattle.std.proofs.Common.{arith, refl}
 use Rattle.std.proofs.lemmas.Bool.{false≢true}
 use Rattle.leaf_rows.specs.Leaves.{has_leaf}
-use Rattle.leaf_rows.proofs.Rows.{all_words_part, no_bit_over}
+use Rattle.leaf_rows.proofs.Rows.{all_words_part, no_bit_over, part_more}
 use Rattle.leaf_rows.proofs.leaf_set.LeafSet.is_subset.Goals as goal
 
 pub returns-then-self-i-ne0 : goal.returns-then-self-i-ne0
@@ -15,3 +15,6 @@ pub returns : goal.returns
 unfolding has_leaf
 returns g c =
     ((λ _. all_words_part g.row.W c.loop-i.i c.args.self.now.words c.args.other.now.words c.loop-i-test.false c.loop-i.invariant), (λ _. refl))
+
+pub loop-i-preserved : goal.loop-i-preserved
+loop-i-preserved g c = part_more c.args.self.now.words c.args.other.now.words c.loop-i.i (omega arith) (omega arith) c.loop-i.invariant
