@@ -1,3 +1,5 @@
+use Rattle.std.proofs.Common.{arith}
+use Rattle.std.proofs.lemmas.Grind.{common_steps}
 use Rattle.flow_facts.proofs.Pushed.{begins_longer, begins_put, arguments_put}
 use Rattle.flow_facts.proofs.text.push_arguments.Goals as goal
 
@@ -23,3 +25,6 @@ returns-in_ok-push_more_constants-in-len1-up-clause-ok c =
     c.extend_from_slice.new.self.items c.push_constant.new.text.items c.push_more_constants.new.text.items c.extend_from_slice-in-len1-up.new.self.items
     c.in-len1-up.len_at_least c.first-item.is c.in_ok-extend_from_slice-in-len1-up.ensures.items c.in_ok-push_constant-in-len1-up.ensures.ok
     c.in_ok-push_more_constants-in-len1-up.ensures.ok c.extend_from_slice-in-len1-up.ensures.items
+
+pub returns-in_err-extend_from_slice-in-len1-up-clause-grown : goal.returns-in_err-extend_from_slice-in-len1-up-clause-grown
+returns-in_err-extend_from_slice-in-len1-up-clause-grown c = grind (arith, common_steps)
