@@ -88,3 +88,7 @@ few_kept keys = omega arith
 pub put_few : {K E : Type 0} (r : Result ℕ E) (old new : List K) (key : K) → OnOk r (new ≡ old ++ key ∷ []) → OnErr r (new ≡ old) → length new ≤ length old + 1
 put_few (Ok n) old new key is same = omega (arith, ap length is, length-append old (key ∷ []))
 put_few (Err e) old new key is same = omega (arith, ap length same)
+
+pub unchanged : {A U E : Type 0} (r : Result U E) (old : A) → OnErr r (old ≡ old)
+unchanged (Ok u) old = tt
+unchanged (Err e) old = refl

@@ -4,7 +4,7 @@ use Rattle.std.specs.Ordering.{nat_cmp}
 use Rattle.std.specs.BTreeMap.{get}
 use Rattle.flow_workflow.specs.Indexed.{IsAdded}
 use Rattle.flow_workflow.proofs.Places.{mem-slice_get}
-use Rattle.flow_workflow.proofs.Indexing.{marks_more, missing, put_indexed, few_kept, put_added, put_few, put_numbered, found_added, found_numbered}
+use Rattle.flow_workflow.proofs.Indexing.{marks_more, missing, put_indexed, few_kept, put_added, put_few, put_numbered, found_added, found_numbered, unchanged}
 use Rattle.flow_workflow.proofs.numbered.Numbered.add.Goals as goal
 
 pub returns-then-len-clause-keys : goal.returns-then-len-clause-keys
@@ -66,3 +66,6 @@ returns-in-None-clause-err g c = subst (λ old. OnErr c.put.result (c.put.new.ke
 
 pub returns-in-Some-clause-few : goal.returns-in-Some-clause-few
 returns-in-Some-clause-few g c = subst (λ old. length c.self.inside.keys.items ≤ length old + 1) c.self.view_is (few_kept c.self.inside.keys.items)
+
+pub returns-then-len-clause-err : goal.returns-then-len-clause-err
+returns-then-len-clause-err g c = unchanged c.ok_or.result c.args.self.now
