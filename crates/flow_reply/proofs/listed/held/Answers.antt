@@ -4,8 +4,12 @@ use Rattle.flow_workflow.specs.Definition.{Definition}
 use Rattle.flow_workflow.specs.Numbers.{IsKnown}
 use Rattle.flow_reply.specs.Reply.{HoldsNow}
 use Rattle.flow_reply.proofs.Runs.{fact_within, one_listed}
-use Rattle.flow_core.proofs.Rising.{all_found}
+use Rattle.flow_model.specs.Verdict.{AreJust}
+use Rattle.flow_core.proofs.Rising.{Below, none_yet, all_found}
 use Rattle.flow_reply.proofs.listed.held.Goals as goal
+
+pub loop-fact-init : goal.loop-fact-init
+loop-fact-init c = subst (AreJust (Below (HoldsNow c.args.core.now) 0)) (sym c.new-facts.ensures.items) (none_yet (HoldsNow c.args.core.now))
 
 pub loop-fact-preserved : goal.loop-fact-preserved
 loop-fact-preserved c = one_listed (HoldsNow c.args.core.now) c.loop-fact.fact c.loop-fact.facts.items _ _ (λ is. sym c.holds.ensures.now ∙ is) (λ has. c.holds.ensures.now ∙ has) c.loop-fact.invariant c.in_ok-list_where.ensures

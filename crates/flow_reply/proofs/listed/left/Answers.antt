@@ -1,9 +1,13 @@
-use Rattle.std.proofs.Common.{◌≡◌, ◌<◌, length, arith}
+use Rattle.std.proofs.Common.{◌≡◌, ◌<◌, length, arith, subst, sym}
 use Rattle.flow_model.specs.Run.{CanDoAside}
 use Rattle.flow_core.specs.Run.{schema, now}
 use Rattle.flow_reply.proofs.Runs.{one_listed}
-use Rattle.flow_core.proofs.Rising.{all_found}
+use Rattle.flow_model.specs.Verdict.{AreJust}
+use Rattle.flow_core.proofs.Rising.{Below, none_yet, all_found}
 use Rattle.flow_reply.proofs.listed.left.Goals as goal
+
+pub loop-leaf-init : goal.loop-leaf-init
+loop-leaf-init c = subst (AreJust (Below (CanDoAside (schema c.args.core.now) (now c.args.core.now)) 0)) (sym c.new-leaves.ensures.items) (none_yet (CanDoAside (schema c.args.core.now) (now c.args.core.now)))
 
 pub loop-leaf-preserved : goal.loop-leaf-preserved
 loop-leaf-preserved c = one_listed (CanDoAside (schema c.args.core.now) (now c.args.core.now)) c.loop-leaf.leaf c.loop-leaf.leaves.items _ _ c.is_left.ensures.0 c.is_left.ensures.1 c.loop-leaf.invariant c.in_ok-list_where.ensures
