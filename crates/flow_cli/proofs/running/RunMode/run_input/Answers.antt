@@ -1,4 +1,4 @@
-use Rattle.std.proofs.Common.{rules, sym, subst}
+use Rattle.std.proofs.Common.{rules, arith, length-take, sym, subst}
 use Rattle.std.proofs.lemmas.Result.{IfOk-weaker}
 use Rattle.flow_form.specs.Script.{said}
 use Rattle.flow_findings.specs.Refusing.{IsOfText}
@@ -26,3 +26,6 @@ returns-in-Err g c =
           c.refuse.ensures;
       of_input = IfOk-weaker c.refuse.result _ _ (λ output told. subst IsOfInput (sym told.status_is) tt) c.refuse.ensures;
     }
+
+pub run_script-output-requires-after_bounds : goal.run_script-output-requires-after_bounds
+run_script-output-requires-after_bounds g c lifetimes bounds = c.in-Ok.ensures.closed (omega (arith, c.requires, length-take c.cut_source-end.result.0 c.args.input.now))
