@@ -1,10 +1,5 @@
-use Rattle.std.proofs.Common.{inr}
-use Rattle.std.proofs.lemmas.Result.{IfOk-weaker}
 use Rattle.flow_cli.proofs.Compiled.{told_refused}
 use Rattle.flow_cli.proofs.driving.drive_workflow.Goals as goal
 
 pub returns-in-Err : goal.returns-in-Err
 returns-in-Err c = told_refused c.args.workflow c.in-Err.refusal c.refuse_workflow.result _ c.in-Err.ensures.refused c.refuse_workflow.ensures
-
-pub returns-in-Ok : goal.returns-in-Ok
-returns-in-Ok c = IfOk-weaker c.drive_compiled.result _ _ (λ output records. inr records) c.drive_compiled.ensures
