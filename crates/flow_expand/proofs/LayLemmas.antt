@@ -297,30 +297,6 @@ pub ok_to : {T E : Type 0} (r : Result T E) (P Q : T → Type 0) → ((x : T) �
 ok_to (Ok x) P Q f h = f x h
 ok_to (Err e) P Q f h = h
 
-pub shape_of-Nop : (f : Form) → f ≡ Nop → shape_of f ≡ nop
-shape_of-Nop f e = ap shape_of (e ∙ sym rolls-Nop) ∙ fold-roll-Form Shape shape_step open_form.Nop
-
-pub shape_of-Test : (f : Form) (a : Atom) → f ≡ Test a → shape_of f ≡ test a
-shape_of-Test f a e = ap shape_of (e ∙ sym (rolls-Test a)) ∙ fold-roll-Form Shape shape_step (open_form.Test a)
-
-pub shape_of-Absent : (f : Form) (a : Atom) → f ≡ Absent a → shape_of f ≡ absent a
-shape_of-Absent f a e = ap shape_of (e ∙ sym (rolls-Absent a)) ∙ fold-roll-Form Shape shape_step (open_form.Absent a)
-
-pub shape_of-Ins : (f : Form) (a : Atom) → f ≡ Ins a → shape_of f ≡ ins a
-shape_of-Ins f a e = ap shape_of (e ∙ sym (rolls-Ins a)) ∙ fold-roll-Form Shape shape_step (open_form.Ins a)
-
-pub shape_of-Del : (f : Form) (a : Atom) → f ≡ Del a → shape_of f ≡ del a
-shape_of-Del f a e = ap shape_of (e ∙ sym (rolls-Del a)) ∙ fold-roll-Form Shape shape_step (open_form.Del a)
-
-pub shape_of-Serial : (f : Form) (forms : Vec Form Global) (xs : List Form) → f ≡ Serial forms → xs ≡ forms.items → shape_of f ≡ serial (shapes (map shape_of xs))
-shape_of-Serial f forms xs e g = ap shape_of (e ∙ sym (rolls-Serial forms)) ∙ fold-roll-Form Shape shape_step (open_form.Serial forms) ∙ ap (λ l. serial (shapes (map shape_of l))) (sym g)
-
-pub shape_of-Beside : (f : Form) (forms : Vec Form Global) (xs : List Form) → f ≡ Beside forms → xs ≡ forms.items → shape_of f ≡ beside (shapes (map shape_of xs))
-shape_of-Beside f forms xs e g = ap shape_of (e ∙ sym (rolls-Beside forms)) ∙ fold-roll-Form Shape shape_step (open_form.Beside forms) ∙ ap (λ l. beside (shapes (map shape_of l))) (sym g)
-
-pub shape_of-Either : (f : Form) (forms : Vec Form Global) (xs : List Form) → f ≡ Either forms → xs ≡ forms.items → shape_of f ≡ either (shapes (map shape_of xs))
-shape_of-Either f forms xs e g = ap shape_of (e ∙ sym (rolls-Either forms)) ∙ fold-roll-Form Shape shape_step (open_form.Either forms) ∙ ap (λ l. either (shapes (map shape_of l))) (sym g)
-
 pub list_step : (decls : List Declared) (layout : List Piece) (by : Pairing) (forms : List Form) (i : ℕ) (item : Form) (root : Root) → i < length forms → item ≡ get_or forms i item →
     ListGoes decls layout by (map shape_of (take i forms) ++ shape_of item ∷ []) root → ListGoes decls layout by (map shape_of (take (i + 1) forms)) root
 list_step decls layout by forms i item root lt is h =

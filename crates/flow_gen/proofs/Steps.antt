@@ -80,17 +80,6 @@ pairs_step first (a ∷ b ∷ ks) more d d' forms forms' form whole h e is added
     ∙ pushed shape_of forms forms' form (beside (shapes (block first a ∷ block (first + 8) b ∷ []))) (pairs (first + 16) ks) whole added is so_far
 pairs_step first fewer more d d' forms forms' form whole h e is added so_far = absurd (omega (arith, h))
 
--- The shapes of lists that are made
-
-pub shape_of-Serial : (forms : Vec Form Global) → shape_of (Serial forms) ≡ serial (shapes (map shape_of forms.items))
-shape_of-Serial forms = ap shape_of (sym (rolls-Serial forms)) ∙ fold-roll-Form Shape shape_step (open_form.Serial forms)
-
-pub shape_of-Beside : (forms : Vec Form Global) → shape_of (Beside forms) ≡ beside (shapes (map shape_of forms.items))
-shape_of-Beside forms = ap shape_of (sym (rolls-Beside forms)) ∙ fold-roll-Form Shape shape_step (open_form.Beside forms)
-
-pub shape_of-Either : (forms : Vec Form Global) → shape_of (Either forms) ≡ either (shapes (map shape_of forms.items))
-shape_of-Either forms = ap shape_of (sym (rolls-Either forms)) ∙ fold-roll-Form Shape shape_step (open_form.Either forms)
-
 pub two_put : (none one two : List Form) (a b : Form) (s t : Shape) → none ≡ [] → one ≡ none ++ a ∷ [] → two ≡ one ++ b ∷ [] → shape_of a ≡ s → shape_of b ≡ t →
     map shape_of two ≡ s ∷ t ∷ []
 two_put none one two a b s t empty first second left right =

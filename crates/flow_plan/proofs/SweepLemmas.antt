@@ -84,11 +84,8 @@ module _ (q : Process) (nodes : List Node) (ns : List ℕ) (k : ℕ) (sets : Lis
         h all (inr (inr (subst (λ (a : LeafSet 16). IsUnion a side all) (sym first) (subst (λ (b : LeafSet 16). IsUnion one b all) (sym second) is_all)))),
       )
 
--- the sets of both are there
+-- the set of the second is there
 module _ (q : Process) (nodes : List Node) (ns : List ℕ) (k : ℕ) (sets : List (LeafSet 16)) (i j both : ℕ) (is : List ℕ) (rows : List (LeafSet 16)) (h : MakesRowsBy q (Join ∷ nodes) ns k sets i (j ∷ both ∷ is) rows) where
-  pub first_there : slice_get sets i ≢ None
-  first_there e = let some = sym h.2.0 ∙ e in absurd (cc)
-
   pub second_there : slice_get sets j ≢ None
   second_there = second h
     where

@@ -3,13 +3,13 @@ use Rattle.std.proofs.Common.{arith, refl, sym, ap, subst, ◌∙◌, map, take}
 use Rattle.std.proofs.lemmas.List.{take_all}
 use Rattle.flow_form.specs.declared.form.Form.{Form}
 use Rattle.flow_form.specs.Form.{shape_of, iso}
-use Rattle.flow_form.proofs.Shapes.{shape_of-Iso}
+use Rattle.flow_form.proofs.Shapes.{shape_of-Nop, shape_of-Test, shape_of-Absent, shape_of-Ins, shape_of-Del, shape_of-Iso, shape_of-Serial, shape_of-Beside, shape_of-Either}
 use Rattle.flow_form.proofs.form.Form.TheLaws.{the_size}
 use Rattle.std.specs.Result.{IfOk}
 use Rattle.flow_expand.specs.Expansion.{becomes_nop, becomes_test, becomes_absent, becomes_ins, becomes_del}
 use Rattle.flow_expand.specs.Directory.{decls_of}
 use Rattle.flow_expand.specs.Laid.{IsFront, Goes}
-use Rattle.flow_expand.proofs.LayLemmas.{ok_to, goes_plain, goes_iso, laid_more, begins_twice, front_more, list_step, shape_of-Nop, shape_of-Test, shape_of-Absent, shape_of-Ins, shape_of-Del, shape_of-Serial, shape_of-Beside, shape_of-Either}
+use Rattle.flow_expand.proofs.LayLemmas.{ok_to, goes_plain, goes_iso, laid_more, begins_twice, front_more, list_step}
 use Rattle.flow_expand.proofs.lay.+laying.Goals as goal
 
 pub lay-returns-in-Nop-clause-ok : goal.lay-returns-in-Nop-clause-ok

@@ -3,7 +3,7 @@ use Rattle.std.proofs.lemmas.Option.{none-some}
 use Rattle.flow_form.specs.declared.form.Form.{Form, Serial}
 use Rattle.flow_form.specs.Form.{Shape, serial, shapes, shape_of}
 use Rattle.flow_gen.specs.Generated.{in_turn}
-use Rattle.flow_gen.proofs.Steps.{shape_of-Serial}
+use Rattle.flow_form.proofs.Shapes.{shape_of-Serial}
 use Rattle.flow_gen.proofs.goals.goal_of.Goals as goal
 use Rattle.flow_gen.proofs.goals.goal_of.Goals.{else-len-eq1-via-else-len-eq1, else-len-eq1-via-then-len-eq1+in-None-1}
 
@@ -31,7 +31,7 @@ returns c =
 pub returns-2 : goal.returns-2
 returns-2 c = elim c.else-len-eq1.branch [
   | else-len-eq1-via-else-len-eq1 w ↦
-      ap (λ (forms : Vec Form Global). shape_of (Serial forms)) w.forms-is ∙ shape_of-Serial c.in_ok-forms.forms
+      ap (λ (forms : Vec Form Global). shape_of (Serial forms)) w.forms-is ∙ shape_of-Serial _ c.in_ok-forms.forms _ refl refl
       ∙ all_in_turn c.in_ok-forms.forms.items _ c.in_ok-forms.ensures (λ one. w.if-len-eq1.false (omega (arith, one, c.in_ok-forms.forms.ok.0, c.len.ensures)))
   | else-len-eq1-via-then-len-eq1+in-None-1 w ↦
       let none : w.pop.result ≡ None = cc in

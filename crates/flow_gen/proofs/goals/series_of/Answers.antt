@@ -3,7 +3,8 @@ use Rattle.flow_model.specs.Lists.{numbers_from}
 use Rattle.flow_form.specs.declared.form.Form.{Form}
 use Rattle.flow_form.specs.Form.{shape_of, named, serial, shapes}
 use Rattle.flow_gen.specs.Generated.{event_name}
-use Rattle.flow_gen.proofs.Steps.{numbered, all_left, shape_of-Serial}
+use Rattle.flow_form.proofs.Shapes.{shape_of-Serial}
+use Rattle.flow_gen.proofs.Steps.{numbered, all_left}
 use Rattle.flow_gen.proofs.goals.series_of.Goals as goal
 
 pub loop-event-init : goal.loop-event-init
@@ -18,6 +19,6 @@ loop-event-preserved c =
 
 pub returns : goal.returns
 returns c =
-    shape_of-Serial c.loop-event.events
+    shape_of-Serial _ c.loop-event.events _ refl refl
     ∙ ap (λ ss. serial (shapes ss))
     (all_left (λ n. map (λ k. named (event_name k)) (numbers_from c.loop-event.event n)) _ _ c.loop-event.event _ refl c.loop-event-test.false c.loop-event.invariant)

@@ -100,10 +100,5 @@ remove-requires c =
     let t = top_of c.loop-top.path.items c.deref.result.now c.in-Some.top (_) c.copied.result c.deref.ensures.value c.first.ensures.value c.copied.ensures c.in-Some.is in
     top_there c.loop-top.path.items c.loop-top.path.len c.in-Some.top t.0 t.1 c.loop-top.path.ok.0
 
-pub slice_bounds-refusal_of-end : goal.slice_bounds-refusal_of-end
-slice_bounds-refusal_of-end c =
-    sym (length-take-le (c.in-Some-place_in_path.place + 1) c.deref-in-Some-place_in_path.result.now
-    (add-one-le (subst (λ (z : List ℕ). c.in-Some-place_in_path.place < length z) (c.deref-in-Some-blocker.ensures.value ∙ sym c.deref-in-Some-place_in_path.ensures.value) c.in-Some-place_in_path.ensures.0)))
-
 pub blocker-requires-clause-within : goal.blocker-requires-clause-within
 blocker-requires-clause-within c x left = let r = (c.loop-top.invariant.arranged.rest x).0 left in (r.0, r.1)

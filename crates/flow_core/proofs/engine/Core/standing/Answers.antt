@@ -13,11 +13,6 @@ current_given r n given g free epoch is low =
     subst (λ o. IsSomeAnd o (λ (claim : Claim). IsTrue (is_current (now r) claim))) (sym g.claim)
     (and_from (not given.answered) (nat_eq given.epoch (now r).epoch) (ap not free) (eq-eqb given.epoch (now r).epoch (omega arith)))
 
-lapsed_given : (r : Run) (n : ℕ) (given : Given) → IsGiven r n given → given.answered ≡ false → (epoch : ℕ) → epoch ≡ (now r).epoch → given.epoch < epoch → IsLapsed (now r) n
-lapsed_given r n given g free epoch is low =
-    subst (λ o. IsSomeAnd o (λ (claim : Claim). IsTrue (is_lapsed (now r) claim))) (sym g.claim)
-    (and_from (not given.answered) (nat_lt given.epoch (now r).epoch) (ap not free) (lt-ltb given.epoch (now r).epoch (subst (λ e. given.epoch < e) is low)))
-
 pub returns-then-given : goal.returns-then-given
 returns-then-given c =
     let going = ended_inside c.self.inside c.self.invariant c.args.self.now c.self.view_is false c.if-self.false in
@@ -28,13 +23,6 @@ returns-then-not-has_steps c =
     let going = ended_inside c.self.inside c.self.invariant c.args.self.now c.self.view_is false c.if-self.false in
     let unanswered = subst (λ o. IsSomeAnd o (λ (claim : Claim). claim.answered ≡ false)) (sym c.in-Some.ensures.claim) c.if-given.false in
     (going, unanswered, (λ left. true≢false (sym (c.if-not-has_steps.ensures.1 left)), ap (λ (r : Run). r.limit) c.self.view_is), refl)
-
-pub record_late-requires-clause-steps : goal.record_late-requires-clause-steps
-record_late-requires-clause-steps c = c.if-not-has_steps.ensures.0 refl
-
-pub record_late-requires-clause-lapsed : goal.record_late-requires-clause-lapsed
-record_late-requires-clause-lapsed c =
-    lapsed_given c.args.self.now c.args.claim c.in-Some.given c.in-Some.ensures c.if-given.false c.epoch-now.result c.epoch-now.ensures c.if-given-now.true
 
 pub returns-then-given-now : goal.returns-then-given-now
 returns-then-given-now c =
