@@ -119,13 +119,13 @@ IsOf word n = (word ≡ decimal n) × (n < 2 ^ 32)
 abbrev AreOf : List ℕ → Step → Type 0
 AreOf words s = (words ≡ step_text s) × HasSmallNumbers s
 
-abbrev effect_word : FailEffect → List ℕ
-effect_word Switched = codes "switched"
-effect_word Kept = codes "kept"
+abbrev effect_text : FailEffect → List ℕ
+effect_text Switched = codes "switched"
+effect_text Kept = codes "kept"
 
-effect_back : (word : List ℕ) → IfSome (effect_of word) (λ effect. word ≡ effect_word effect)
+effect_back : (word : List ℕ) → IfSome (effect_of word) (λ effect. word ≡ effect_text effect)
 effect_back word =
-    let P : FailEffect → Type 0 = λ effect. word ≡ effect_word effect in
+    let P : FailEffect → Type 0 = λ effect. word ≡ effect_text effect in
     by_word word (codes "switched") (Some Switched) _ P (λ e. e) (by_word word (codes "kept") (Some Kept) None P (λ e. e) tt)
 
 took_back : (rest : List ℕ) → IfSome (took_of (cut_at 32 rest)) (AreOf (codes "took " ++ rest))
@@ -136,9 +136,9 @@ took_back rest = at_cut 32 rest took_of (AreOf (codes "took " ++ rest)) tt (λ x
 
 failed_back : (rest : List ℕ) → IfSome (failed_of (cut_at 32 rest)) (AreOf (codes "failed " ++ rest))
 failed_back rest = at_cut 32 rest failed_of (AreOf (codes "failed " ++ rest)) tt (λ x y is.
-    of_both (plain_number x) (effect_of y) Failed (IsOf x) (λ effect. y ≡ effect_word effect) (AreOf (codes "failed " ++ rest)) (number_back x) (effect_back y) (λ claim effect h k.
-    let text : rest ≡ decimal claim ++ 32 ∷ effect_word effect = cc in
-    (ap (λ (r : List ℕ). codes "failed " ++ r) text ∙ elim effect as (λ effect. codes "failed " ++ (decimal claim ++ 32 ∷ effect_word effect) ≡ step_text (Failed claim effect)) [ Switched ↦ refl | Kept ↦ refl ], h.1)))
+    of_both (plain_number x) (effect_of y) Failed (IsOf x) (λ effect. y ≡ effect_text effect) (AreOf (codes "failed " ++ rest)) (number_back x) (effect_back y) (λ claim effect h k.
+    let text : rest ≡ decimal claim ++ 32 ∷ effect_text effect = cc in
+    (ap (λ (r : List ℕ). codes "failed " ++ r) text ∙ elim effect as (λ effect. codes "failed " ++ (decimal claim ++ 32 ∷ effect_text effect) ≡ step_text (Failed claim effect)) [ Switched ↦ refl | Kept ↦ refl ], h.1)))
 
 -- a word and a number
 numbered_back : (word rest : List ℕ) (n : ℕ) → IsOf rest n → IfSome (numbered_step word n) (AreOf (word ++ 32 ∷ rest))

@@ -11,16 +11,12 @@ use Rattle.flow_model.specs.declared.history.FailEffect.{FailEffect}
 use Rattle.flow_model.specs.declared.history.FailEffect.TheVariants.{Switched, Kept}
 use Rattle.flow_record.specs.Lines.{cut_at, pieces_of, plain_number}
 
--- what a failure led to
-abbrev pub effect_text : FailEffect → List ℕ
-effect_text Switched = codes " switched"
-effect_text Kept = codes " kept"
-
 -- what an entry does, in words
 abbrev pub step_text : Step → List ℕ
 step_text (Took claim leaf) = codes "took " ++ decimal claim ++ codes " " ++ decimal leaf
 step_text (Done claim) = codes "done " ++ decimal claim
-step_text (Failed claim effect) = codes "failed " ++ decimal claim ++ effect_text effect
+step_text (Failed claim Switched) = codes "failed " ++ decimal claim ++ codes " switched"
+step_text (Failed claim Kept) = codes "failed " ++ decimal claim ++ codes " kept"
 step_text (Late claim) = codes "late " ++ decimal claim
 step_text (Did leaf) = codes "did " ++ decimal leaf
 step_text (Rewound index) = codes "rewound " ++ decimal index

@@ -21,7 +21,7 @@ loop-entry-preserved c =
           let here : slice_get xs i ≡ Some (get_or xs i read) = slice_get-get_or xs i read c.loop-entry-test.true in
           let there : slice_get xs i ≡ Some (get_or xs i d) = slice_get-get_or xs i d c.loop-entry-test.true in
           let same : get_or xs i read ≡ get_or xs i d = cc in
-          subst IsSmall same c.in_ok-push_entry.ensures.small);
+          subst IsSmall same c.push_entry.ensures.small);
     }
 
 pub returns-clause-text : goal.returns-clause-text
