@@ -5,8 +5,6 @@ use Rattle.flow_model.specs.Schema.{Schema}
 use Rattle.flow_model.specs.Resolution.{options, options_in, resolutions, resolution_count, bulk}
 use Rattle.flow_laws.specs.WellFormed.{IsConsistent}
 use Rattle.flow_goal.specs.Capped.{capped}
-use Rattle.flow_plan.specs.declared.counts.Counts.{Counts}
-use Rattle.flow_plan.specs.contracts.counts.Counts as counts
 use Rattle.flow_excise.specs.declared.refusal.CompileRefusal.{CompileRefusal}
 use Rattle.flow_excise.specs.declared.refusal.CompileRefusal.TheVariants.{TooManyChoices, TooManyWays, TooBulky, Inconsistent, NoMemory}
 use Rattle.flow_plan.specs.Compilation.{IsWithinLimits}

@@ -1,5 +1,5 @@
 -- Goals in a layout that grows, and what is written there.
-use Rattle.std.proofs.Common.{◌≡◌, ℕ, ◌+◌, ◌<◌, List, [], ◌∷◌, ◌++◌, length, slice_get, Some, refl, sym, ap, ◌∙◌, subst, arith, map, fold, get_or, take, Option, None, inl, inr, ⊎_elim, Result, Ok, Err, Vec, Global}
+use Rattle.std.proofs.Common.{◌≡◌, ℕ, ◌+◌, ◌<◌, List, [], ◌∷◌, ◌++◌, length, slice_get, Some, refl, sym, ap, ◌∙◌, subst, arith, map, fold, get_or, take, Option, None, inl, inr, ⊎_elim, Result, Ok, Err}
 use Rattle.std.proofs.lemmas.Option.{slice_get_within}
 use Rattle.std.specs.Prelude.{MatchOption}
 use Rattle.std.specs.Result.{IfOk}
@@ -9,13 +9,10 @@ use Rattle.flow_model.specs.Lists.{◌∈◌, Begins, Each}
 use Rattle.flow_laws.proofs.Shuffles.{of_shuffle}
 use Rattle.flow_facts.specs.Atom.{Atom}
 use Rattle.flow_workflow.proofs.Places.{at_end}
-use Rattle.flow_form.specs.declared.form.Form.{Form, Nop, Test, Absent, Ins, Del, Serial, Beside, Either}
-use Rattle.flow_form.specs.declared.form.Form.TheVariants.{rolls-Nop, rolls-Test, rolls-Absent, rolls-Ins, rolls-Del, rolls-Serial, rolls-Beside, rolls-Either}
-use Rattle.flow_form.specs.declared.form.Form.TheFolds.{fold-roll-Form}
-use Rattle.flow_form.specs.Form.{Shape, Shapes, shapes, shape_of, shape_step, no_more, nop, named, test, absent, ins, del, iso, serial, beside, either}
+use Rattle.flow_form.specs.declared.form.Form.{Form}
+use Rattle.flow_form.specs.Form.{Shape, Shapes, shapes, shape_of, no_more, named, iso}
 use Rattle.flow_form.specs.Script.{Declared}
 use Rattle.flow_form.specs.Names.{event_names, declared_names}
-use Rattle.flow_form.specs.declared.form.Form.TheOpen as open_form
 use Rattle.flow_expand.specs.declared.layout.Deed.{Deed}
 use Rattle.flow_expand.specs.declared.layout.Pairing.{Pairing}
 use Rattle.flow_expand.specs.declared.layout.Piece.{Piece}

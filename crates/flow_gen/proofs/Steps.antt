@@ -1,14 +1,11 @@
 -- One step of each loop.
-use Rattle.std.proofs.Common.{Vec, Global, append-nil, ◌≡◌, ℕ, zero, suc, ◌+◌, ◌-◌, ◌%◌, ◌<◌, ◌≤◌, List, [], ◌∷◌, ◌++◌, length, map, get_or, take, drop, refl, sym, ap, ◌∙◌, append_assoc, length-drop, arith}
+use Rattle.std.proofs.Common.{append-nil, ◌≡◌, ℕ, zero, suc, ◌+◌, ◌-◌, ◌%◌, ◌<◌, ◌≤◌, List, [], ◌∷◌, ◌++◌, length, map, get_or, take, drop, refl, sym, ap, ◌∙◌, append_assoc, length-drop, arith}
 use Rattle.std.proofs.Math.Seq.{take-length}
 use Rattle.std.proofs.lemmas.List.{drop_more, map-append, at_drop_all}
 use Rattle.flow_model.specs.Lists.{numbers_from}
-use Rattle.flow_form.specs.declared.form.Form.{Form, Serial, Beside, Either}
-use Rattle.flow_form.specs.declared.form.Form.TheVariants.{rolls-Serial, rolls-Beside, rolls-Either}
-use Rattle.flow_form.specs.declared.form.Form.TheFolds.{fold-roll-Form}
-use Rattle.flow_form.specs.declared.form.Form.TheOpen as open_form
+use Rattle.flow_form.specs.declared.form.Form.{Form}
 use Rattle.flow_form.specs.declared.rule_form.RuleForm.{RuleForm}
-use Rattle.flow_form.specs.Form.{Shape, shape_of, shape_step, serial, beside, either, shapes}
+use Rattle.flow_form.specs.Form.{Shape, shape_of, beside, shapes}
 use Rattle.flow_form.specs.RuleForm.{RuleShape, rule_shape_of, precedes}
 use Rattle.flow_gen.specs.declared.kind.Kind.{Kind}
 use Rattle.flow_gen.specs.declared.kind.Kind.TheVariants as kind_of

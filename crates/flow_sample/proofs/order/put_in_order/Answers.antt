@@ -1,5 +1,4 @@
-use Rattle.std.proofs.Common.{◌<◌, ◌+◌, ℕ, List, length, take, ap, add-one-le, ◌∙◌, subst, sym, inl, inr, refl, ⊎_elim}
-use Rattle.std.proofs.lemmas.List.{length-take-le}
+use Rattle.std.proofs.Common.{◌<◌, ◌+◌, ℕ, List, take, ap, subst, sym, inl, inr, refl, ⊎_elim}
 use Rattle.flow_model.specs.Lists.{◌∈◌}
 use Rattle.flow_sample.proofs.RingLemmas.{ring_at}
 use Rattle.flow_sample.proofs.OrderLemmas.{begun_path, no_top, top_there, top_of, rest_of, grown, path_on, path_back, fewer_on, fewer_back, start_on, holds_on, IsPath, steps}

@@ -1,6 +1,6 @@
-use Rattle.std.proofs.Common.{rules, ◌≡◌, ◌≤◌, ◌<◌, ℕ, false, not, nat_eq, nat_lt, IsTrue, IsSomeAnd, refl, sym, ap, subst, arith, true≢false}
-use Rattle.std.proofs.lemmas.Bool.{and_from, eq-eqb, lt-ltb}
-use Rattle.flow_model.specs.Run.{Claim, is_current, is_lapsed, IsCurrent, IsLapsed}
+use Rattle.std.proofs.Common.{rules, ◌≡◌, ◌≤◌, ◌<◌, ℕ, false, not, nat_eq, IsTrue, IsSomeAnd, refl, sym, ap, subst, arith, true≢false}
+use Rattle.std.proofs.lemmas.Bool.{and_from, eq-eqb}
+use Rattle.flow_model.specs.Run.{Claim, is_current, IsCurrent}
 use Rattle.flow_residual.specs.declared.given.Given.{Given}
 use Rattle.flow_core.specs.Run.{Run, now}
 use Rattle.flow_core.specs.Standing.{IsGiven}

@@ -1,7 +1,6 @@
 use Rattle.std.proofs.Common.{◌∙◌, ℕ, refl, sym, subst, inl, inr}
 use Rattle.flow_model.specs.declared.history.Step.{Step}
 use Rattle.flow_model.specs.Verdict.{EndsKept}
-use Rattle.flow_core.specs.declared.next.Next.{Next}
 use Rattle.flow_core.specs.declared.next.Next.TheVariants as next
 use Rattle.flow_core.specs.Looks.{IsNext}
 use Rattle.flow_core.specs.Run.{Run, schema}
