@@ -228,6 +228,27 @@ least_common w words other i within fits not_zero =
       has_bit-one w other _ (omega (arith, least.0)) (bit_of-place other i at least.0 ∙ omega arith),
     )
 
+-- no bit before it is common
+pub none_common_before : (w : ℕ) (words other : List ℕ) (i : ℕ) → get_or words i 0 < 2 ^ 64
+    → bit_and (get_or words i 0) (get_or other i 0) ≢ 0
+    → ((k : ℕ) → k < i → bit_and (get_or words k 0) (get_or other k 0) ≡ 0)
+    → (k : ℕ) → k < 64 * i + trailing_zeros w64 (bit_and (get_or words i 0) (get_or other i 0))
+    → has_bit w words k ≡ true → has_bit w other k ≡ true → ⊥
+none_common_before w words other i fits not_zero apart k before here there =
+    let mine = has_bit-parts w words k here in
+    let yours = has_bit-parts w other k there in
+    let both : ℕ → ℕ = λ word. bit_and (get_or words word 0) (get_or other word 0) in
+    let least = bit_at-trailing_zeros w64 (both i) (omega arith) (omega (arith, and_le_l (get_or words i 0) (get_or other i 0), fits)) in
+    let none : bit_at (both (k / 64)) (k % 64) ≡ 0 = ⊎_elim
+    (λ lower. ap (λ word. bit_at word (k % 64)) (apart (k / 64) lower) ∙ bit_at-zero (k % 64))
+    (λ at_i.
+    let word_is : k / 64 ≡ i = omega (arith, least.0) in
+    ap (λ word. bit_at (both word) (k % 64)) word_is ∙ least.2 (k % 64) (omega arith))
+    (cases_lt (k / 64) i) in
+    let digits : min (bit_of words k) (bit_of other k) ≡ 0
+    = sym (bit_at_and (get_or words (k / 64) 0) (get_or other (k / 64) 0) (k % 64)) ∙ none in
+    omega (arith, mine.1, yours.1)
+
 -- where no words have a common bit, no bit is common
 pub no_common_bit : (w : ℕ) (words other : List ℕ)
     → ((k : ℕ) → k < w → bit_and (get_or words k 0) (get_or other k 0) ≡ 0)

@@ -28,6 +28,7 @@ impl<const W: usize> LeafSet<W> {
         LeafSet { words: [0; W] }
     }
 
+    /// Whether the number is a member.
     #[tactic(auto, using(crate::proofs::Rows::has_bit_shift), unfolding(crate::specs::Leaves::has_leaf))]
     pub fn has(&self, n: u32) -> bool
         requires { n < 64 * W }
@@ -36,6 +37,7 @@ impl<const W: usize> LeafSet<W> {
         self.words[(n / 64) as usize] >> (n % 64) & 1 == 1
     }
 
+    /// Puts the number in.
     #[tactic(auto, using(crate::proofs::Rows::has_bit_insert), unfolding(crate::specs::Leaves::has_leaf))]
     pub fn insert(&mut self, n: u32)
         requires { n < 64 * W }
@@ -44,6 +46,7 @@ impl<const W: usize> LeafSet<W> {
         self.words[(n / 64) as usize] |= 1 << (n % 64);
     }
 
+    /// Takes the number out.
     #[tactic(auto, using(crate::proofs::Rows::has_bit_remove), unfolding(crate::specs::Leaves::has_leaf))]
     pub fn remove(&mut self, n: u32)
         requires { n < 64 * W }
@@ -52,6 +55,7 @@ impl<const W: usize> LeafSet<W> {
         self.words[(n / 64) as usize] &= !(1 << (n % 64));
     }
 
+    /// Puts each member of the other in.
     #[tactic(auto, using(crate::proofs::Rows::has_bit_union), unfolding(crate::specs::Leaves::has_leaf))]
     pub fn union_with(&mut self, other: &Self)
         ensures { (k : ℕ) → has_leaf self.new k ≡ (has_leaf self.old k || has_leaf other.now k) }
@@ -61,6 +65,7 @@ impl<const W: usize> LeafSet<W> {
         });
     }
 
+    /// Takes each member of the other out.
     #[tactic(auto, using(crate::proofs::Rows::has_bit_without), unfolding(crate::specs::Leaves::has_leaf))]
     pub fn remove_all(&mut self, other: &Self)
         ensures { (k : ℕ) → has_leaf self.new k ≡ (not (has_leaf other.now k) && has_leaf self.old k) }
@@ -70,6 +75,7 @@ impl<const W: usize> LeafSet<W> {
         }
     }
 
+    /// Whether each member is one of the other.
     #[tactic(auto, using(crate::proofs::Rows::part_has, crate::proofs::Rows::part_more), unfolding(crate::specs::Leaves::has_leaf))]
     pub fn is_subset(&self, other: &Self) -> bool
         ensures { IsTrue result ↔ ((k : ℕ) → IsTrue (has_leaf self.now k) → IsTrue (has_leaf other.now k)) }
@@ -94,6 +100,7 @@ impl<const W: usize> LeafSet<W> {
     pub fn first_common(&self, other: &Self) -> Option<u32>
         ensures none { IfNone result ((k : ℕ) → IsTrue (has_leaf self.now k) → ¬ IsTrue (has_leaf other.now k)) }
         ensures member { IfSome result (λ n. IsTrue (has_leaf self.now n) × IsTrue (has_leaf other.now n)) }
+        ensures least { IfSome result (λ n. (k : ℕ) → k < n → IsTrue (has_leaf self.now k) → ¬ IsTrue (has_leaf other.now k)) }
         ensures within { IfSome result (λ n. n < 64 * W) }
     {
         for i in 0..W {
@@ -122,6 +129,7 @@ impl<const W: usize> LeafSet<W> {
         None
     }
 
+    /// How many members there are.
     #[tactic(auto, using(crate::proofs::Members::contains_members, crate::proofs::Members::members_rise), unfolding(crate::specs::Leaves::has_leaf, crate::specs::Leaves::members, crate::specs::Leaves::passing_below))]
     pub fn count(&self) -> u32
         ensures counted { result ≡ length (members self.now) }
