@@ -3,8 +3,7 @@ ghost use Rattle.flow_goal.specs.Goal.{process_of, together};
 
 use std::alloc::{AllocError, Global};
 
-/// A goal of Concurrent Transaction Logic (Bonner and Kifer 1996). Leaves are numbered from 0 from
-/// left to right.
+/// A goal of Concurrent Transaction Logic (Bonner and Kifer 1996).
 #[derive(Drop)]
 pub enum Goal {
     Nop,

@@ -97,6 +97,7 @@ impl Tree {
         Ok(Tree { goal, labels })
     }
 
+    /// The goal, without its labels.
     pub fn goal(&self) -> &Goal
         ensures { process_of result.now ≡ self.now.process }
     {
@@ -111,7 +112,7 @@ impl Tree {
     }
 
     /// The event of a leaf, if it has one.
-    pub(crate) fn event(&self, leaf: u32) -> Option<u32>
+    pub fn event(&self, leaf: u32) -> Option<u32>
         ensures { result ≡ event_at self.now.labels leaf }
     {
         match self.label(leaf)? {
