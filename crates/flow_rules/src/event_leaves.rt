@@ -4,7 +4,7 @@ ghost use Rattle.flow_model.specs.Ways as model;
 ghost use Rattle.flow_rules.specs.EventLeaves.{leaf_in, unless};
 
 use crate::leaf_table::LeafEvents;
-use crate::room::{event_at, room_for};
+use crate::room::room_for;
 use flow_goal::Tree;
 use std::alloc::AllocError;
 
@@ -17,7 +17,7 @@ pub fn note_events(tree: &Tree, leaves: &[u32], events: &mut LeafEvents) -> Resu
 {
     events.make_room(room_for(tree, leaves))?;
     for leaf in leaves {
-        events.note(event_at(tree, *leaf), *leaf);
+        events.note(tree.event(*leaf), *leaf);
     }
     Ok(())
 }
@@ -28,6 +28,6 @@ pub fn forget_events(tree: &Tree, leaves: &[u32], events: &mut LeafEvents)
         leaf_in events.new event ≡ unless (model.leaf_of_event tree.now.labels leaves.now event) (leaf_in events.old event) }
 {
     for leaf in leaves {
-        events.forget(event_at(tree, *leaf));
+        events.forget(tree.event(*leaf));
     }
 }

@@ -2,7 +2,7 @@ ghost use Rattle.std.specs.Prelude.{◌≡◌, ◌<◌, ◌==◌, ◌&&◌, ◌|
 ghost use Rattle.flow_model.specs.Facts.{is_event};
 ghost use Rattle.flow_model.specs.Ways as model;
 
-use crate::room::{event_at, make_room, room_for};
+use crate::room::{make_room, room_for};
 use flow_goal::Tree;
 use std::alloc::{AllocError, Global};
 
@@ -58,7 +58,7 @@ impl Lanes {
     {
         make_room(&mut self.words, room_for(tree, leaves), 0)?;
         for leaf in leaves {
-            self.mark(event_at(tree, *leaf), lane);
+            self.mark(tree.event(*leaf), lane);
         }
         Ok(())
     }

@@ -1,4 +1,4 @@
-//! Rules on the events of an execution, their normal forms, and the ways in which leaves meet them.
+//! The normal forms of rules, and the ways in which leaves meet them.
 #![tactic(auto)]
 
 mod asked;

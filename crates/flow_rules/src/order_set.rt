@@ -16,6 +16,7 @@ impl OrderSet {
         OrderSet { pairs }
     }
 
+    /// The pairs in order.
     pub fn pairs(&self) -> &[(u32, u32)]
         ensures { result.now ≡ self.now.pairs.items }
     {

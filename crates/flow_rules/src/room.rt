@@ -1,19 +1,8 @@
 ghost use Rattle.std.specs.Prelude.{◌≡◌, ◌≤◌, ℕ, get_or, length, OnOk};
-ghost use Rattle.flow_model.specs.Facts.{event_at};
 ghost use Rattle.flow_rules.specs.Rooms.{HasRoom};
 
-use flow_goal::{Label, Tree};
+use flow_goal::Tree;
 use std::alloc::AllocError;
-
-/// The event at a leaf, if it has one.
-pub(crate) fn event_at(tree: &Tree, leaf: u32) -> Option<u32>
-    ensures { result ≡ event_at tree.now.labels leaf }
-{
-    match tree.label(leaf) {
-        Some(Label::Event(event)) => Some(event),
-        _ => None,
-    }
-}
 
 /// How many places a table by events needs for the events of the leaves.
 pub(crate) fn room_for(tree: &Tree, leaves: &[u32]) -> usize
@@ -21,7 +10,7 @@ pub(crate) fn room_for(tree: &Tree, leaves: &[u32]) -> usize
 {
     let mut room = 0;
     for leaf in leaves {
-        if let Some(event) = event_at(tree, *leaf) {
+        if let Some(event) = tree.event(*leaf) {
             room = room.max(event as usize + 1);
         }
     }
