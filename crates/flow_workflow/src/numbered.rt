@@ -179,6 +179,7 @@ impl<K: Key> Numbered<K> {
         }
     }
 
+    /// How many keys there are.
     pub fn count(&self) -> u32
         ensures { result ≡ length self.now }
     {

@@ -16,8 +16,8 @@ pub enum Part {
 /// Why a workflow is not expanded.
 #[derive(Drop)]
 pub enum ExpandRefusal {
-    /// There are so many sub-workflows, ends of the expanded goal, or names in constraints. What would pass the
-    /// greatest number is capped at it.
+    /// There are so many sub-workflows, leaves and `nop`s of the expanded goal, or its isolations where these are more,
+    /// or names in constraints. What would pass the greatest number is capped at it.
     TooLarge { part: Part, count: u64 },
     /// The first sub-workflow names the second, and so on, and the last is the first again.
     Recursive { chain: Vec<Name> },

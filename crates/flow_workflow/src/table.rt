@@ -26,6 +26,7 @@ impl Model for FactTable {
 }
 
 impl FactTable {
+    /// The table of these facts, each with its place as its number.
     pub fn new(facts: Vec<Fact>) -> FactTable
         requires distinct { AreDistinct facts.items }
         requires few { length facts.items < 2 ^ 32 }
@@ -54,6 +55,7 @@ impl FactTable {
         self.facts.get(number as usize)
     }
 
+    /// How many facts there are.
     pub fn count(&self) -> u32
         ensures count { result ≡ length self.now }
         ensures distinct { AreDistinct self.now }

@@ -126,6 +126,7 @@ impl Workflow {
         &self.tree
     }
 
+    /// The constraints in order.
     pub fn rules(&self) -> &[Rule]
         ensures { rules_of result.now ≡ self.now.rules }
     {
