@@ -26,6 +26,7 @@ impl Model for Compiled {
 }
 
 impl Compiled {
+    /// These plans, in the order of their options, and the counts of the workflow.
     pub fn new(plans: Vec<KnotFree>, counts: Counts) -> Compiled
         requires some { plans.items ≢ [] }
         requires live { counts.live ≡ length plans.items }
@@ -54,6 +55,7 @@ impl Compiled {
         self.plans
     }
 
+    /// How large the workflow is.
     pub fn counts(&self) -> Counts
         ensures counts { result ≡ self.now.counts }
         ensures live { self.now.counts.live ≡ length self.now.plans }

@@ -28,6 +28,7 @@ impl Model for KnotFree {
 }
 
 impl KnotFree {
+    /// The plan with that execution as its sample.
     pub fn new(plan: Plan, sample: Vec<u32>) -> KnotFree
         requires trace { Trace plan.process sample.items }
         requires in_order { AreInOrder (pairs_of plan.tokens) sample.items }
@@ -37,6 +38,7 @@ impl KnotFree {
         KnotFree { plan, sample }
     }
 
+    /// The plan, without its sample.
     pub fn plan(&self) -> &Plan
         ensures { result.now ≡ self.now.plan }
     {

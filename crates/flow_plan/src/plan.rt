@@ -131,6 +131,7 @@ impl Plan {
         self.goal.leaves()
     }
 
+    /// The tokens in the order in which they were given.
     pub fn tokens(&self) -> &[OrderToken]
         ensures tokens { result.now ≡ self.now.tokens }
         ensures ordered { IsOrdered self.now.process (pairs_of self.now.tokens) }
