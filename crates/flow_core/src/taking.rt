@@ -7,7 +7,7 @@ ghost use Rattle.flow_model.specs.declared.history.Step.TheVariants.{Took};
 
 use crate::engine::Core;
 use crate::refusal::TakeRefusal;
-use flow_model::{Call, Entry, Label, Step};
+use flow_model::{Call, Entry, Step};
 
 impl Core {
     ghost use Rattle.flow_core.specs.Run.{schema, now, with_entry, IsUncommitted, HasEntryLeft};
@@ -23,7 +23,7 @@ impl Core {
         if self.leaves() <= leaf {
             return Err(TakeRefusal::NoLeaf);
         }
-        let Some(event) = self.event_at(leaf) else {
+        let Some(event) = self.workflow.tree().event(leaf) else {
             return Err(TakeRefusal::WrongKind);
         };
         if !self.has_steps() {
@@ -33,16 +33,6 @@ impl Core {
             return Err(TakeRefusal::NotEnabled);
         }
         Ok(self.give(leaf, event, by))
-    }
-
-    /// The event at a leaf, if the leaf is an event's.
-    pub(crate) fn event_at(&self, leaf: u32) -> Option<u32>
-        ensures { result ≡ event_at (schema self.now).labels leaf }
-    {
-        match self.workflow.tree().label(leaf) {
-            Some(Label::Event(event)) => Some(event),
-            _ => None,
-        }
     }
 
     /// Whether there is room for one entry more.
