@@ -2,6 +2,7 @@
 ghost use Rattle.std.specs.Prelude.{◌≡◌, ◌+◌, ◌<◌, ◌≤◌, []};
 ghost use Rattle.std.specs.Thread.{IsSync};
 ghost use Rattle.flow_model.specs.declared.history.Entry.{Entry};
+ghost use Rattle.flow_model.specs.declared.limits.TheConstants.{MOST_WORKERS};
 ghost use Rattle.flow_model.specs.Lists.{Each};
 ghost use Rattle.flow_crew.specs.Ends.{IsEnd};
 
@@ -26,7 +27,7 @@ pub fn run_crew<'g, R: Threads + Wait + Sync, G: Gate>(
 ) -> (Book<'g, G>, End)
     requires empty { book.history ≡ [] }
     requires some { 1 ≤ workers }
-    requires few { workers ≤ 64 }
+    requires few { workers ≤ MOST_WORKERS }
     ensures end { IsEnd result.0 result.1 }
     ensures same { (result.0.definition ≡ book.entry.definition) × (result.0.limit ≡ book.entry.limit) }
     ensures callers { Each (λ (entry : Entry). entry.by ≤ workers) result.0.history }
@@ -47,7 +48,7 @@ fn work_all<R: Threads + Wait + Sync, G: Gate>(
     workers: u32,
 ) -> Held<G>
     requires empty { held.history ≡ [] }
-    requires few { workers ≤ 64 }
+    requires few { workers ≤ MOST_WORKERS }
     ensures same { (result.definition ≡ held.definition) × (result.limit ≡ held.limit) }
     ensures callers { Each (λ (entry : Entry). entry.by ≤ workers) result.history }
 {
@@ -70,7 +71,7 @@ fn work_beside<R: Threads + Wait + Sync, G: Gate>(
     mut root: Pass<Held<G>>,
     workers: u32,
 ) -> Pass<Held<G>>
-    requires { (root.lock ≡ lock.now) × (root.number ≡ 0) × (root.given + workers < 4294967295) }
+    requires { (root.lock ≡ lock.now) × (root.number ≡ 0) × (root.given + workers < u32.MAX) }
     ensures { (result.lock ≡ lock.now) × (result.number ≡ 0) × (result.given ≡ root.given + workers) × (result.outs ≡ root.outs) × (result.part ≡ root.part) }
 {
     if workers == 0 {
@@ -85,7 +86,7 @@ fn work_beside<R: Threads + Wait + Sync, G: Gate>(
             ensures { result.lock ≡ lock.entry.now }
         { work(rt, lock, idle, gate, pass) },
         || -> Pass<Held<G>>
-            requires { (root.lock ≡ lock.now) × (root.number ≡ 0) × (root.given + fewer < 4294967295) × IsSync R.row }
+            requires { (root.lock ≡ lock.now) × (root.number ≡ 0) × (root.given + fewer < u32.MAX) × IsSync R.row }
             ensures { (result.lock ≡ lock.entry.now) × (result.number ≡ 0) × (result.given ≡ root.given + fewer) × (result.outs ≡ root.outs) × (result.part ≡ root.part) }
         { work_beside(rt, lock, idle, gate, root, fewer) },
     );

@@ -88,7 +88,7 @@ impl<T: Kept> TurnLock<T> {
     pub fn split(&self, root: &mut Pass<T>) -> Pass<T>
         requires lock { root.old.lock ≡ self.now }
         requires root { root.old.number ≡ 0 }
-        requires room { root.old.given < 4294967295 }
+        requires room { root.old.given < u32.MAX }
         ensures root { root.new ≡ record root.old { given = root.old.given + 1; outs = root.old.outs + 1 } }
         ensures pass { result ≡ split_pass root.old }
     {
