@@ -6,7 +6,7 @@ use Rattle.flow_model.specs.declared.history.Entry.{Entry}
 use Rattle.flow_model.specs.declared.history.Step.{Step}
 use Rattle.flow_model.specs.Run.{leaf_of_claim, IsCurrent}
 use Rattle.flow_residual.specs.Remaining.{MayComeNext}
-use Rattle.flow_residual.specs.Claimed.{IsUnanswered}
+use Rattle.flow_residual.specs.Claimed.{run_of, IsUnanswered}
 use Rattle.flow_core.specs.declared.engine.Core.TheInside.{Inside}
 use Rattle.flow_core.specs.Run.{Run, now, IsUncommitted, HasEntryLeft}
 use Rattle.flow_core.specs.Invariant.{run_by, IsKept, IsRunning}
@@ -22,7 +22,7 @@ module _ (i : Inside) (k : IsRunning i) (v : Run) (view : run_by i ≡ v) where
   pub ended_inside : (over : Bool) → i.committed ≡ over → (now v).committed ≡ over
   ended_inside over is = subst (λ r. (now r).committed ≡ over) view (k.kept.committed_is ∙ is)
 
-  pub unanswered_inside : (claim : ℕ) → IsCurrent (now v) claim → IsUnanswered i.claims claim
+  pub unanswered_inside : (claim : ℕ) → IsCurrent (now v) claim → IsUnanswered (run_of i.claims) claim
   unanswered_inside claim current =
       unanswered_there i.workflow (now (run_by i)) i.claims k.kept.claims claim (unanswered_current (now (run_by i)) claim (inside (λ r. IsCurrent (now r) claim) current))
 

@@ -21,7 +21,7 @@ use Rattle.flow_core.specs.declared.refusal.RewindRefusal.TheVariants as rewind
 use Rattle.flow_core.specs.declared.refusal.CommitRefusal.{CommitRefusal}
 use Rattle.flow_core.specs.declared.refusal.CommitRefusal.TheVariants as commit
 use Rattle.flow_core.specs.Run.{Run, schema, now, with_entry, IsUncommitted, HasEntryLeft}
-use Rattle.flow_core.specs.Answers.{IsOver, next_claim, Takes, Performs, IsAnswered, IsUnanswered, IsLateOf, PostIsRefused, HasEffect, PostsDone, PostsFailed, Rewinds, Commits, IsLeastCurrent}
+use Rattle.flow_core.specs.Answers.{IsOver, next_claim, Takes, Performs, IsAnswered, IsUnanswered, IsLateOf, PostIsRefused, HasEffect, PostsDone, PostsFailed, Rewinds, Commits, IsLeast}
 use Rattle.flow_core.proofs.Calls.{event_below}
 use Rattle.flow_core.proofs.Standings.{unanswered_current}
 use Rattle.flow_core.proofs.Waiting.{none_current}
@@ -71,7 +71,7 @@ late_once s n of other a b =
     let (claim, x, y) = both_of s n (λ (c : Claim). (c.answered ≡ false) × (c.epoch ≡ of)) (λ (c : Claim). (c.answered ≡ false) × (c.epoch ≡ other)) a.1 b.1 in
     sym x.1 ∙ y.1
 
-pub none_out : (s : RunState) (n : ℕ) → current_claims s ≡ [] → IsLeastCurrent s n → ⊥
+pub none_out : (s : RunState) (n : ℕ) → current_claims s ≡ [] → IsLeast (IsCurrent s) n → ⊥
 none_out s n none least = none_current s n none least.0
 
 -- ---- the first of some causes
@@ -211,7 +211,7 @@ module _ (r : Run) (by : ℕ) where
   is_rewound (Ok x) after h = told_at 3 x (λ i. (Ok x, h.3 i)) ((λ over. not_over r over h.0), ((λ spent. spent h.1), ((λ none. none x h.2.0), refl))) h.2
 
   abbrev IsEnded : Result (Unit {0}) CommitRefusal → Run → Type 0
-  IsEnded = IsOfFirst (IsOver r ∷ (¬ (HasEntryLeft r)) ∷ (¬ (current_claims (now r) ≡ [])) ∷ (¬ (IsGood (schema r) (now r).journal)) ∷ []) 2 (IsLeastCurrent (now r))
+  IsEnded = IsOfFirst (IsOver r ∷ (¬ (HasEntryLeft r)) ∷ (¬ (current_claims (now r) ≡ [])) ∷ (¬ (IsGood (schema r) (now r).journal)) ∷ []) 2 (IsLeast (IsCurrent (now r)))
       (λ n. (Err commit.Closed, r) ∷ (Err (commit.Spent r.limit), r) ∷ (Err (commit.ClaimsOut n), r) ∷ (Err commit.Unfinished, r) ∷ []) (λ _. (Ok tt, with_entry r by Committed))
 
   is_ended : (a : Result (Unit {0}) CommitRefusal) (after : Run) → Commits r by a after → IsEnded a after

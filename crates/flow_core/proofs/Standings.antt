@@ -22,7 +22,7 @@ use Rattle.flow_residual.specs.Claimed.{run_of, IsGivenAt}
 use Rattle.flow_residual.proofs.Outstanding.{each_at}
 use Rattle.flow_facts.specs.Changes.{HasFactBelow}
 use Rattle.flow_facts.proofs.JournalLabels.{length-labels_at}
-use Rattle.flow_core.specs.Answers.{IsUnanswered, IsLeastCurrent}
+use Rattle.flow_core.specs.Answers.{IsUnanswered, IsLeast}
 use Rattle.flow_core.specs.Standing.{IsGiven}
 use Rattle.flow_core.specs.declared.engine.Core.TheInside.{Inside}
 use Rattle.flow_core.specs.Looks.{CanStep}
@@ -91,7 +91,7 @@ none_of (x ∷ xs) h = cc
 
 -- the number of the first current claim is the least
 pub least_is : (w : Schema) (s : RunState) → IsSound w s → (o : Option ℕ) → o ≡ slice_get (map number_of (current_claims s)) 0 →
-    MatchOption o (current_claims s ≡ []) (IsLeastCurrent s)
+    MatchOption o (current_claims s ≡ []) (IsLeast (IsCurrent s))
 least_is w s sound None h = none_of (current_claims s) (sym h)
 least_is w s sound (Some n) h = least_of 1 (is_current s) s.claims n sound.numbered (sym h)
 

@@ -6,7 +6,6 @@ use Rattle.flow_model.specs.Run.{Claim, RunState, first_state, current_leaves, c
 use Rattle.flow_workflow.specs.Definition.{Definition, schema_of}
 use Rattle.flow_residual.specs.Remaining.{Remaining, IsOf}
 use Rattle.flow_residual.specs.Claimed.{Claimed, run_of, IsUnanswered}
-use Rattle.flow_core.specs.Answers.{IsUnanswered as IsUnansweredIn}
 use Rattle.flow_core.specs.Invariant.{AreClaimsOf}
 
 module _ (w : Definition) (s : RunState) (c : Claimed) (are : AreClaimsOf w s c) where
@@ -22,7 +21,7 @@ module _ (w : Definition) (s : RunState) (c : Claimed) (are : AreClaimsOf w s c)
   claim_is number = ap (λ (cs : List Claim). claim_at (record first_state { claims = cs }) number) (sym are.claims_are)
 
   -- a claim that is to be answered is unanswered, as the claims tell it
-  pub unanswered_there : (number : ℕ) → IsUnansweredIn s number → IsUnanswered c number
+  pub unanswered_there : (number : ℕ) → IsUnanswered s number → IsUnanswered (run_of c) number
   unanswered_there number = subst (λ o. IsSomeAnd o (λ (claim : Claim). claim.answered ≡ false)) (sym (claim_is number))
 
   -- the claims that are handed to the residual are the current ones

@@ -10,6 +10,8 @@ use Rattle.flow_model.specs.Facts.{HoldsAt}
 use Rattle.flow_model.specs.Schema.{IsEventLeaf, IsOtherLeaf, IsGood}
 use Rattle.flow_model.specs.Run.{Claim, RunState, claim_at, current_claims, database, leaf_of_claim, IsCurrent, IsFree, IsOpen, IsOpenIndex, CanTake, CanDoAside}
 use Rattle.flow_model.specs.Verdict.{call_of}
+use Rattle.flow_residual.specs.Remaining.{IsAvoidable}
+pub use Rattle.flow_residual.specs.Claimed.{IsUnanswered}
 use Rattle.flow_core.specs.declared.refusal.TakeRefusal.{TakeRefusal}
 use Rattle.flow_core.specs.declared.refusal.TakeRefusal.TheVariants as take
 use Rattle.flow_core.specs.declared.refusal.DoRefusal.{DoRefusal}
@@ -64,10 +66,6 @@ Performs r leaf by (Ok _) after =
 abbrev pub IsAnswered : RunState → ℕ → Type 0
 IsAnswered s number = IsSomeAnd (claim_at s number) (λ (claim : Claim). IsTrue claim.answered)
 
--- the claim was given and is not answered
-abbrev pub IsUnanswered : RunState → ℕ → Type 0
-IsUnanswered s number = IsSomeAnd (claim_at s number) (λ (claim : Claim). claim.answered ≡ false)
-
 -- the claim is unanswered, and of that older epoch
 abbrev pub IsLateOf : RunState → ℕ → ℕ → Type 0
 IsLateOf s number of = (of < s.epoch) × IsSomeAnd (claim_at s number) (λ (claim : Claim). (claim.answered ≡ false) × (claim.epoch ≡ of))
@@ -88,7 +86,7 @@ PostsDone r claim by (Ok _) after = IsUncommitted r × HasEntryLeft r × IsCurre
 
 -- some execution goes on from the journal without the claim's leaf, or none does
 abbrev pub HasEffect : Run → ℕ → FailEffect → Type 0
-HasEffect r claim Switched = (t : List ℕ) × IsFree (schema r) (now r) t × ¬ (leaf_of_claim (now r) claim ∈ t)
+HasEffect r claim Switched = IsAvoidable (schema r) (now r) (leaf_of_claim (now r) claim)
 HasEffect r claim Kept = (t : List ℕ) → IsFree (schema r) (now r) t → leaf_of_claim (now r) claim ∈ t
 
 -- the claim's task failed
@@ -104,15 +102,15 @@ Rewinds r by (Err (rewind.Spent limit)) after = IsUncommitted r × IsSpent r lim
 Rewinds r by (Err rewind.NoChoice) after = IsUncommitted r × HasEntryLeft r × ((i : ℕ) → ¬ (IsOpen (schema r) (now r) i)) × (after ≡ r)
 Rewinds r by (Ok index) after = IsUncommitted r × HasEntryLeft r × IsOpenIndex (schema r) (now r) index × (after ≡ with_entry r by (Rewound index))
 
--- it is the least of the current claims
-abbrev pub IsLeastCurrent : RunState → ℕ → Type 0
-IsLeastCurrent s number = IsCurrent s number × ((other : ℕ) → IsCurrent s other → number ≤ other)
+-- it has P, and no lesser number has
+abbrev pub IsLeast : (ℕ → Type 0) → ℕ → Type 0
+IsLeast P n = P n × ((other : ℕ) → P other → n ≤ other)
 
 -- the run is to end
 abbrev pub Commits : Run → ℕ → Result (Unit {0}) CommitRefusal → Run → Type 0
 Commits r by (Err commit.Closed) after = IsOver r × (after ≡ r)
 Commits r by (Err (commit.Spent limit)) after = IsUncommitted r × IsSpent r limit × (after ≡ r)
-Commits r by (Err (commit.ClaimsOut claim)) after = IsUncommitted r × HasEntryLeft r × IsLeastCurrent (now r) claim × (after ≡ r)
+Commits r by (Err (commit.ClaimsOut claim)) after = IsUncommitted r × HasEntryLeft r × IsLeast (IsCurrent (now r)) claim × (after ≡ r)
 Commits r by (Err commit.Unfinished) after =
     IsUncommitted r × HasEntryLeft r × (current_claims (now r) ≡ []) × ¬ (IsGood (schema r) (now r).journal) × (after ≡ r)
 Commits r by (Ok _) after =

@@ -1,15 +1,12 @@
 -- What a run can do next.
-use Rattle.std.specs.Prelude.{◌≡◌, ◌≤◌, ℕ, [], ◌⊎◌}
+use Rattle.std.specs.Prelude.{◌≡◌, ℕ, [], ◌⊎◌}
 use Rattle.flow_model.specs.Schema.{IsGood}
-use Rattle.flow_model.specs.Run.{current_claims, CanTake, CanDo, IsStuck, Waits}
+use Rattle.flow_model.specs.Run.{current_claims, IsCurrent, CanTake, CanDo, IsStuck, Waits}
 use Rattle.flow_core.specs.declared.next.Next.{Next}
 use Rattle.flow_core.specs.declared.next.Next.TheVariants.{Act, Wait, Finished, Stuck, Ended}
 use Rattle.flow_core.specs.Run.{Run, schema, now, IsUncommitted}
-use Rattle.flow_core.specs.Answers.{IsOver, IsLeastCurrent}
-
--- it has P, and no lesser number has
-abbrev pub IsLeast : (ℕ → Type 0) → ℕ → Type 0
-IsLeast P n = P n × ((other : ℕ) → P other → n ≤ other)
+use Rattle.flow_core.specs.Answers.{IsOver}
+pub use Rattle.flow_core.specs.Answers.{IsLeast}
 
 -- the leaf can be taken or done
 abbrev pub CanStep : Run → ℕ → Type 0
@@ -31,6 +28,6 @@ NoneCanAct r = (leaf : ℕ) → ¬ (CanAct r leaf)
 abbrev pub IsNext : Run → Next → Type 0
 IsNext r Ended = IsOver r
 IsNext r (Act leaf) = IsLeast (CanAct r) leaf
-IsNext r (Wait claim) = IsUncommitted r × NoneCanAct r × IsLeastCurrent (now r) claim
+IsNext r (Wait claim) = IsUncommitted r × NoneCanAct r × IsLeast (IsCurrent (now r)) claim
 IsNext r Finished = IsUncommitted r × NoneCanAct r × (current_claims (now r) ≡ []) × IsGood (schema r) (now r).journal
 IsNext r (Stuck leaf) = IsLeast (IsWaiting r) leaf

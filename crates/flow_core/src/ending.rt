@@ -1,7 +1,7 @@
 ghost use Rattle.std.specs.Prelude.{◌≡◌, ◌↔◌, [], IsTrue, MatchOption};
 ghost use Rattle.flow_model.specs.declared.history.Step.TheVariants.{Rewound, Committed};
 ghost use Rattle.flow_model.specs.Schema.{IsGood};
-ghost use Rattle.flow_model.specs.Run.{current_claims, IsOpenIndex};
+ghost use Rattle.flow_model.specs.Run.{current_claims, IsCurrent, IsOpenIndex};
 
 use crate::engine::Core;
 use crate::refusal::{CommitRefusal, RewindRefusal};
@@ -9,7 +9,7 @@ use flow_model::{Entry, Step};
 
 impl Core {
     ghost use Rattle.flow_core.specs.Run.{schema, now, with_entry, IsUncommitted, HasEntryLeft};
-    ghost use Rattle.flow_core.specs.Answers.{IsLeastCurrent, Rewinds, Commits};
+    ghost use Rattle.flow_core.specs.Answers.{IsLeast, Rewinds, Commits};
 
     /// Goes back to the last place at which another choice is still free, and answers that place.
     pub fn rewind(&mut self, by: u32) -> Result<u32, RewindRefusal>
@@ -66,7 +66,7 @@ impl Core {
 
     /// The least claim that is out.
     pub fn least_claim(&self) -> Option<u32>
-        ensures { MatchOption result (current_claims (now self.now) ≡ []) (IsLeastCurrent (now self.now)) }
+        ensures { MatchOption result (current_claims (now self.now) ≡ []) (IsLeast (IsCurrent (now self.now))) }
     {
         self.claims.least()
     }

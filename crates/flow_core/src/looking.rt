@@ -29,7 +29,7 @@ impl Core {
         ensures { IsTrue result ↔ IsWaiting self.now leaf }
     {
         match self.look() {
-            Next::Stuck(_) => self.is_left(leaf),
+            Next::Stuck(_) => self.can_do_aside(leaf),
             _ => false,
         }
     }
@@ -100,7 +100,7 @@ impl Core {
         };
         match label {
             Label::Event(_) => self.can_take(leaf),
-            _ => self.label_holds(label) && self.can_do_aside(leaf),
+            _ => self.label_holds(label) && self.may_be_done(leaf),
         }
     }
 
@@ -114,7 +114,7 @@ impl Core {
     }
 
     /// Whether the leaf can be done, whatever holds. Where the run is stuck, these are the leaves that wait.
-    pub fn is_left(&self, leaf: u32) -> bool
+    pub fn can_do_aside(&self, leaf: u32) -> bool
         ensures { IsTrue result ↔ CanDoAside (schema self.now) (now self.now) leaf }
     {
         let Some(label) = self.label_at(leaf) else {
@@ -122,7 +122,7 @@ impl Core {
         };
         match label {
             Label::Event(_) => false,
-            _ => self.can_do_aside(leaf),
+            _ => self.may_be_done(leaf),
         }
     }
 
@@ -144,7 +144,7 @@ impl Core {
             (IsLeast (CanDoAside (schema self.now) (now self.now))) }
     {
         for leaf in 0..self.leaves() {
-            if !self.is_done(leaf) && self.is_left(leaf) {
+            if !self.is_done(leaf) && self.can_do_aside(leaf) {
                 return Some(leaf);
             }
         }

@@ -28,7 +28,7 @@ impl Core {
         if !self.has_steps() {
             return Err(DoRefusal::Spent { limit: self.limit });
         }
-        if !self.can_do_aside(leaf) {
+        if !self.may_be_done(leaf) {
             return Err(DoRefusal::NotEnabled);
         }
         if !self.label_holds(label) {
@@ -53,7 +53,7 @@ impl Core {
     }
 
     /// Whether the leaf can be done, whatever holds.
-    pub(crate) fn can_do_aside(&self, leaf: u32) -> bool
+    pub(crate) fn may_be_done(&self, leaf: u32) -> bool
         requires { IsOtherLeaf (schema self.now) leaf }
         ensures { IsTrue result ↔ CanDoAside (schema self.now) (now self.now) leaf }
     {

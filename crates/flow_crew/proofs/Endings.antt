@@ -6,12 +6,12 @@ use Rattle.flow_model.specs.declared.history.Step.{Step}
 use Rattle.flow_model.specs.declared.history.Step.TheVariants.{Failed}
 use Rattle.flow_model.specs.declared.history.FailEffect.TheVariants.{Kept}
 use Rattle.flow_model.specs.Schema.{Schema}
-use Rattle.flow_model.specs.Run.{first_state, state_of, leaf_of_claim, IsLegal, IsOpenIndex, IsStuck, current_claims}
+use Rattle.flow_model.specs.Run.{first_state, state_of, leaf_of_claim, IsCurrent, IsLegal, IsOpenIndex, IsStuck, current_claims}
 use Rattle.flow_model.specs.Verdict.{Verdict, EndsKept, HasNoOpenIndex, IsRunVerdict, committed, spent, no_other, stuck, unfinished}
 use Rattle.flow_model.specs.Decided.{Decided}
 use Rattle.flow_laws.proofs.Members.{last_of, not_empty}
 use Rattle.flow_core.specs.Run.{Run, schema, now, IsUncommitted, HasEntryLeft}
-use Rattle.flow_core.specs.Answers.{IsLeastCurrent}
+use Rattle.flow_core.specs.Answers.{IsLeast}
 use Rattle.flow_core.proofs.Waiting.{none_current}
 use Rattle.flow_crew.specs.declared.ends.End.{End}
 use Rattle.flow_crew.specs.declared.ends.End.TheVariants as end
@@ -97,7 +97,7 @@ none_kept r None h other = h
 none_kept r (Some leaf) h other = absurd (other leaf refl)
 
 -- a run with a claim out is not stuck
-pub claim_out : (r : Run) (o : Option ℕ) → MatchOption o (current_claims (now r) ≡ []) (IsLeastCurrent (now r)) → is_some o ≡ true → ¬ (IsStuck (schema r) (now r))
+pub claim_out : (r : Run) (o : Option ℕ) → MatchOption o (current_claims (now r) ≡ []) (IsLeast (IsCurrent (now r))) → is_some o ≡ true → ¬ (IsStuck (schema r) (now r))
 claim_out r None h e is = true≢false (sym e)
 claim_out r (Some claim) h e is = none_current (now r) claim is.no_claim h.0
 

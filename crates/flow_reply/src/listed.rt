@@ -46,7 +46,7 @@ fn left(alloc: Global, core: &Core) -> Result<Vec<u32>, AllocError>
 {
     let mut leaves = Vec::new(alloc);
     for leaf in 0..core.workflow().tree().leaves() {
-        list_where(&mut leaves, leaf, core.is_left(leaf))?;
+        list_where(&mut leaves, leaf, core.can_do_aside(leaf))?;
     }
     Ok(leaves)
 }

@@ -38,8 +38,8 @@ abbrev pub count_of : ℕ → List ℕ → ℕ
 count_of event events = count_by (λ other. other == event) events
 
 -- the claim was given, and is not answered
-abbrev pub IsUnanswered : Claimed → ℕ → Type 0
-IsUnanswered c number = IsSomeAnd (claim_at (run_of c) number) (λ (claim : Claim). claim.answered ≡ false)
+abbrev pub IsUnanswered : RunState → ℕ → Type 0
+IsUnanswered s number = IsSomeAnd (claim_at s number) (λ (claim : Claim). claim.answered ≡ false)
 
 -- the claim of that number, its event, and how many claims up to it were given on the event
 pub record IsGivenAt (c : Claimed) (number : ℕ) (given : Given) : Type 0 where

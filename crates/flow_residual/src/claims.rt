@@ -143,7 +143,7 @@ impl Claims {
 
     /// The claim is answered.
     pub fn answer(&mut self, claim: u32)
-        requires { IsUnanswered self.old claim }
+        requires { IsUnanswered (run_of self.old) claim }
         ensures { self.new ≡ record self.old { claims = answer claim self.old.claims } }
     {
         let given = &mut self.given;

@@ -15,4 +15,4 @@ mod track;
 pub use claims::Claims;
 pub use given::Given;
 pub use residual::Residual;
-pub use track::fit_rows;
+pub use track::leaves_have_rows;

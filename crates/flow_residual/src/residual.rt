@@ -11,7 +11,7 @@ ghost use Rattle.leaf_rows.specs.Leaves.{has_leaf};
 
 use crate::asking::Stand;
 use crate::ban::Ban;
-use crate::track::{Change, Track, fit_rows, follow, look, progress_of};
+use crate::track::{Change, Track, follow, leaves_have_rows, look, progress_of};
 use flow_model::MOST_LEAVES;
 use flow_plan::{Compiled, KnotFree, Plan, Progress};
 use leaf_rows::LeafSet;
@@ -97,7 +97,7 @@ impl Residual {
             journal,
             bans,
         } = Room::new(alloc, compiled.plans())?;
-        fit_rows(compiled.plans());
+        leaves_have_rows(compiled.plans());
         Ok(Residual {
             plans: compiled.into_plans(),
             tracks,

@@ -32,7 +32,7 @@ pub(crate) enum Change {
 }
 
 /// Brings what the type of each plan keeps of its leaves to the caller.
-pub fn fit_rows(plans: &[KnotFree])
+pub fn leaves_have_rows(plans: &[KnotFree])
     ensures { Each HasSmallLeaves (options_of plans.now) }
 {
     for plan in plans {

@@ -10,7 +10,7 @@ pub loop-leaf-init : goal.loop-leaf-init
 loop-leaf-init c = subst (AreJust (Below (CanDoAside (schema c.args.core.now) (now c.args.core.now)) 0)) (sym c.new-leaves.ensures.items) (none_yet (CanDoAside (schema c.args.core.now) (now c.args.core.now)))
 
 pub loop-leaf-preserved : goal.loop-leaf-preserved
-loop-leaf-preserved c = one_listed (CanDoAside (schema c.args.core.now) (now c.args.core.now)) c.loop-leaf.leaf c.loop-leaf.leaves.items _ _ c.is_left.ensures.0 c.is_left.ensures.1 c.loop-leaf.invariant c.in_ok-list_where.ensures
+loop-leaf-preserved c = one_listed (CanDoAside (schema c.args.core.now) (now c.args.core.now)) c.loop-leaf.leaf c.loop-leaf.leaves.items _ _ c.can_do_aside.ensures.0 c.can_do_aside.ensures.1 c.loop-leaf.invariant c.in_ok-list_where.ensures
 
 pub returns : goal.returns
 returns c = all_found (CanDoAside (schema c.args.core.now) (now c.args.core.now)) c.loop-leaf.leaf c.loop-leaf.leaves.items c.loop-leaf.invariant (λ n can.

@@ -11,7 +11,7 @@ walk-requires-clause-options c = record {
   formed = c.tree.ensures.well_formed;
   small = c.tree.ensures.small;
   just_those = subst (λ (ps : List Sampled). AreJustThose HasExecution (options (schema_of c.args.workflow.now)) (options_of ps)) (sym c.plans-plans.ensures.plans) c.requires.plans;
-  fits = c.fit_rows.ensures;
+  fits = c.leaves_have_rows.ensures;
 }
 
 pub returns-clause-only : goal.returns-clause-only

@@ -8,8 +8,8 @@ returns-in_default c =
     let r = c.args.self.now in
     (λ yes. absurd (true≢false (sym yes)), λ can. absurd (none_steps (schema r) (now r) c.args.leaf c.in_default.ensures can))
 
-pub can_do_aside-requires : goal.can_do_aside-requires
-can_do_aside-requires c = other_leaf (schema c.args.self.now) c.args.leaf c.in-Some.label c.in-Some.ensures c.in_default-label.not-Event
+pub may_be_done-requires : goal.may_be_done-requires
+may_be_done-requires c = other_leaf (schema c.args.self.now) c.args.leaf c.in-Some.label c.in-Some.ensures c.in_default-label.not-Event
 
 pub returns-in-Event : goal.returns-in-Event
 returns-in-Event c =
@@ -21,7 +21,7 @@ pub returns-then-label_holds : goal.returns-then-label_holds
 returns-then-label_holds c =
     let r = c.args.self.now in
     let other = other_leaf (schema r) c.args.leaf c.in-Some.label c.in-Some.ensures c.in_default-label.not-Event in
-    other_steps (schema r) (now r) c.args.leaf c.in-Some.label c.can_do_aside.result c.in-Some.ensures other (c.label_holds.ensures.0 c.if-label_holds.true) c.can_do_aside.ensures
+    other_steps (schema r) (now r) c.args.leaf c.in-Some.label c.may_be_done.result c.in-Some.ensures other (c.label_holds.ensures.0 c.if-label_holds.true) c.may_be_done.ensures
 
 pub returns-else-label_holds : goal.returns-else-label_holds
 returns-else-label_holds c =

@@ -22,8 +22,8 @@ returns-then-not-has_steps c =
     let other = other_leaf (schema c.args.self.now) c.args.leaf c.in-Some.label c.in-Some.ensures c.in_default-label.not-Event in
     (going, other, (λ left. true≢false (sym (c.if-not-has_steps.ensures.1 left)), ap (λ (r : Run). r.limit) c.self.view_is), refl)
 
-pub can_do_aside-requires : goal.can_do_aside-requires
-can_do_aside-requires c = other_leaf (schema c.args.self.now) c.args.leaf c.in-Some.label c.in-Some.ensures c.in_default-label.not-Event
+pub may_be_done-requires : goal.may_be_done-requires
+may_be_done-requires c = other_leaf (schema c.args.self.now) c.args.leaf c.in-Some.label c.in-Some.ensures c.in_default-label.not-Event
 
 pub record_did-requires-clause-label : goal.record_did-requires-clause-label
 record_did-requires-clause-label c = sym c.in-Some.ensures
@@ -58,8 +58,8 @@ returns-then-not-label_holds c =
     true≢false (sym (c.if-not-label_holds.ensures.1 (label_at (schema r).labels (database (schema r) (now r)) c.args.leaf c.in-Some.label c.in-Some.ensures there))) in
     (going, c.if-not-has_steps.ensures.0 refl, can, lacks, refl)
 
-pub returns-then-not-can_do_aside : goal.returns-then-not-can_do_aside
-returns-then-not-can_do_aside c =
+pub returns-then-not-may_be_done : goal.returns-then-not-may_be_done
+returns-then-not-may_be_done c =
     let r = c.args.self.now in
     let going = ended_inside c.self.inside c.self.invariant r c.self.view_is false c.if-self.false in
     let other = other_leaf (schema r) c.args.leaf c.in-Some.label c.in-Some.ensures c.in_default-label.not-Event in

@@ -9,4 +9,4 @@ returns-in_default c =
 pub returns-in-Stuck : goal.returns-in-Stuck
 returns-in-Stuck c =
     let stuck = c.in-Stuck.ensures.0.0 in
-    (λ left. (stuck, stuck.only_waiting c.args.leaf (inr (c.is_left.ensures.0 left))), λ waiting. c.is_left.ensures.1 waiting.1.0)
+    (λ left. (stuck, stuck.only_waiting c.args.leaf (inr (c.can_do_aside.ensures.0 left))), λ waiting. c.can_do_aside.ensures.1 waiting.1.0)

@@ -5,15 +5,15 @@ use Rattle.std.proofs.lemmas.Option.{slice_get_read}
 use Rattle.flow_model.specs.Run.{Claim, answer}
 use Rattle.flow_residual.specs.declared.given.Given.{Given}
 use Rattle.flow_residual.specs.declared.claims.Claims.TheInside.{Inside}
-use Rattle.flow_residual.specs.Claimed.{Claimed, IsUnanswered}
+use Rattle.flow_residual.specs.Claimed.{Claimed, run_of, IsUnanswered}
 use Rattle.flow_residual.specs.Fields.{claimed, claimed_by}
 use Rattle.flow_residual.proofs.Numbering.{answered, IsThere, there}
 use Rattle.flow_residual.proofs.Outstanding.{found_within, length-out}
 use Rattle.flow_residual.proofs.Counting.{kept_answer, kept_late, answered_value}
 use Rattle.flow_residual.proofs.claims.Claims.answer.Goals as goal
 
-there_in : (i : Inside) (v : Claimed) (number : ℕ) → claimed_by i ≡ v → IsUnanswered v number → IsThere i.given.items number
-there_in i v number view h = there (λ (claim : Claim). claim.answered ≡ false) i.given.items number (subst (λ (v : Claimed). IsUnanswered v number) (sym view) h)
+there_in : (i : Inside) (v : Claimed) (number : ℕ) → claimed_by i ≡ v → IsUnanswered (run_of v) number → IsThere i.given.items number
+there_in i v number view h = there (λ (claim : Claim). claim.answered ≡ false) i.given.items number (subst (λ (v : Claimed). IsUnanswered (run_of v) number) (sym view) h)
 
 read_in : (gs : List Given) (number : ℕ) (g : Given) → IsThere gs number → g ≡ get_or gs (number - 1) g → slice_get gs (number - 1) ≡ Some g
 read_in gs number g t is =
@@ -95,7 +95,7 @@ invariant_of-self-in_default c =
       leaves_room = c.self.invariant.leaves_room;
     }
 
-new_value : (i : Inside) (v : Claimed) (number : ℕ) (g : Given) → claimed_by i ≡ v → IsUnanswered v number → g ≡ get_or i.given.items (number - 1) g →
+new_value : (i : Inside) (v : Claimed) (number : ℕ) (g : Given) → claimed_by i ≡ v → IsUnanswered (run_of v) number → g ≡ get_or i.given.items (number - 1) g →
     claimed (set i.given.items (number - 1) (answered g)) i.epoch (vec_capacity i.given) (length i.attempts.items) ≡ record v { claims = answer number v.claims }
 new_value i v number g view h is =
     let t = there_in i v number view h in

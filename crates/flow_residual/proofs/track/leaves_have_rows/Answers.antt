@@ -5,7 +5,7 @@ use Rattle.flow_plan.specs.Sampled.{Sampled}
 use Rattle.flow_plan.specs.Options.{option_of}
 use Rattle.flow_residual.specs.Options.{HasSmallLeaves}
 use Rattle.flow_residual.proofs.OptionLemmas.{small_leaves, small_by_places}
-use Rattle.flow_residual.proofs.track.fit_rows.Goals as goal
+use Rattle.flow_residual.proofs.track.leaves_have_rows.Goals as goal
 
 pub loop-plan-preserved : goal.loop-plan-preserved
 loop-plan-preserved c =
