@@ -16,7 +16,7 @@ mod taking;
 
 pub use ask::{Ask, Told};
 pub use engine::Core;
-pub use flow_model::{Call, Entry, FailEffect, Step};
+pub use flow_model::{Call, FailEffect};
 pub use next::Next;
 pub use playing::play;
 pub use refusal::{CommitRefusal, DoRefusal, PostRefusal, RewindRefusal, TakeRefusal};

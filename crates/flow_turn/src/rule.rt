@@ -9,7 +9,7 @@ use std::marker::PhantomData;
 use std::snapshot::Snapshot;
 
 /// The table is told the first value, of which the rule takes the fixed part.
-pub struct TurnRule<T> {
+pub(crate) struct TurnRule<T> {
     value: PhantomData<T>,
 }
 

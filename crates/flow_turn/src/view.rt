@@ -2,7 +2,7 @@
 use std::collections::LinkedList;
 
 /// Where a caller stands.
-pub enum Stage {
+pub(crate) enum Stage {
     /// It has no ticket.
     Idle,
     /// It has a ticket whose turn it has not seen come.
@@ -14,7 +14,7 @@ pub enum Stage {
 }
 
 /// What one caller knows. The numbers have no upper bound here.
-pub struct View<E, F> {
+pub(crate) struct View<E, F> {
     pub number: u64,
     /// How many passes were split from this one.
     pub given: u64,
