@@ -29,9 +29,9 @@ pub enum Step {
 /// Whether the run goes on without the leaf of a failed task.
 #[derive(Clone, Copy)]
 pub enum FailEffect {
-    /// Some execution lacks the leaf: it is banned.
+    /// Some execution that is still free lacks the leaf: it is banned.
     Switched,
-    /// Every execution has the leaf: it may be taken again.
+    /// Every execution that is still free has the leaf: it may be taken again.
     Kept,
 }
 

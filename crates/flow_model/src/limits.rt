@@ -28,7 +28,7 @@ pub const GREATEST_INPUT: usize = 1_048_576;
 /// The greatest seed of a generated workflow.
 pub const GREATEST_SEED: u32 = 65_536;
 
-/// The greatest size of a generated workflow.
+/// The greatest size of a generated workflow, in blocks of eight events.
 pub const GREATEST_SIZE: u32 = 128;
 
 /// The most workers of a run.
