@@ -119,7 +119,7 @@ fn mode_called(word: &str) -> Option<Mode>
 
 /// The number that was found for an option.
 fn number_in(matches: &ArgMatches<'_>, name: &str) -> Option<u32>
-    requires { IfSome (one_text (found_of matches.now) name.now) (IsBetween 0 4294967295) }
+    requires { IfSome (one_text (found_of matches.now) name.now) (IsBetween 0 u32.MAX) }
     ensures { MatchOption result ((n : ℕ) → ¬ (HasNumber name.now (rows_of (found_of matches.now)) n))
         (HasNumber name.now (rows_of (found_of matches.now))) }
 {
