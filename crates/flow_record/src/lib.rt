@@ -23,7 +23,6 @@ pub use history_lines::read_history;
 pub use joining::print_pieces;
 pub use journal::{print_journal, push_leaf_line};
 pub use journal_lines::read_journal;
-pub use number::read_number;
 pub use refusal::RecordRefusal;
 pub use session::read_session;
 pub use spaced::push_numbers;

@@ -2,7 +2,7 @@ use crate::command::Command;
 
 /// What one line of a session is.
 #[derive(Clone, Copy)]
-pub enum Line {
+pub(crate) enum Line {
     /// It has no word.
     Blank,
     Holds(Command),

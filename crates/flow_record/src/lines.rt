@@ -4,7 +4,7 @@ ghost use Rattle.flow_record.specs.Lines.{without_returns, lines_of, stripped, c
 ghost use Rattle.std.specs.Str.{bytes_eq};
 
 /// The first line of a text that is not empty, and the text after its line feed.
-pub fn split_line(text: &[u8]) -> (&[u8], &[u8])
+pub(crate) fn split_line(text: &[u8]) -> (&[u8], &[u8])
     requires { 0 < length text.now }
     ensures lines { lines_of (without_returns text.now) ≡ result.0.now ∷ lines_of (without_returns result.1.now) }
     ensures shorter { length result.1.now < length text.now }
@@ -33,7 +33,7 @@ fn without_return(line: &[u8]) -> &[u8]
 }
 
 /// What stands before the first such byte of a text, and what after it.
-pub fn cut_at(text: &[u8], byte: u8) -> Option<(&[u8], &[u8])>
+pub(crate) fn cut_at(text: &[u8], byte: u8) -> Option<(&[u8], &[u8])>
     ensures { MatchOption result (cut_at byte text.now ≡ None)
         (λ parts. cut_at byte text.now ≡ Some (parts.0.now, parts.1.now)) }
 {
@@ -44,7 +44,7 @@ pub fn cut_at(text: &[u8], byte: u8) -> Option<(&[u8], &[u8])>
 }
 
 /// Whether the word is that other one.
-pub fn is_word(word: &[u8], other: &[u8]) -> bool
+pub(crate) fn is_word(word: &[u8], other: &[u8]) -> bool
     ensures { result ≡ bytes_eq word.now other.now }
 {
     word == other

@@ -2,7 +2,7 @@ ghost use Rattle.std.specs.Prelude.{◌≡◌};
 ghost use Rattle.flow_record.specs.Lines.{number_of, plain_number, value_with};
 
 /// The number that a word is, if it is one.
-pub fn read_number(word: &[u8]) -> Option<u32>
+pub(crate) fn read_number(word: &[u8]) -> Option<u32>
     ensures { result ≡ number_of word.now }
 {
     if word.is_empty() || word.len() > 10 {
@@ -16,7 +16,7 @@ pub fn read_number(word: &[u8]) -> Option<u32>
 }
 
 /// The number that a word is, if it is one in its one spelling: without leading zeros.
-pub fn plain_number(word: &[u8]) -> Option<u32>
+pub(crate) fn plain_number(word: &[u8]) -> Option<u32>
     ensures { result ≡ plain_number word.now }
 {
     match word {
