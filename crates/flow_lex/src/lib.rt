@@ -9,7 +9,6 @@ mod token;
 mod writing;
 
 pub use digits::number;
-pub use flow_form::TextRefusal;
 pub use lexing::lex;
 pub use token::{Token, TokenKind};
 pub use writing::law_what_is_written_is_read;

@@ -11,13 +11,13 @@ use crate::token::TokenKind;
 /// What begins at a place of the text: a token or a gap, and how many bytes it takes behind its
 /// first.
 #[derive(Clone, Copy)]
-pub struct Piece {
-    pub kind: Option<TokenKind>,
-    pub more: usize,
+pub(crate) struct Piece {
+    pub(crate) kind: Option<TokenKind>,
+    pub(crate) more: usize,
 }
 
 /// What follows the first byte and so many behind it.
-pub fn behind(text: &[u8], more: usize) -> &[u8]
+pub(crate) fn behind(text: &[u8], more: usize) -> &[u8]
     requires { more < length text.now }
     ensures { result.now ≡ drop (more + 1) text.now }
 {
@@ -52,7 +52,7 @@ fn number_at(text: &[u8]) -> Option<Piece>
 }
 
 /// What begins at the front of the text. `None` where nothing can.
-pub fn piece_at(text: &[u8]) -> Option<Piece>
+pub(crate) fn piece_at(text: &[u8]) -> Option<Piece>
     requires { 0 < length text.now }
     ensures value { result ≡ piece_at (slice_index text.now 0) (drop 1 text.now) }
     ensures inside { IfSome result (λ p. p.more < length text.now) }
