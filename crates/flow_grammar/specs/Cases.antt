@@ -78,7 +78,7 @@ IsoWithNothing = read_script (goal_word ∷ replicate 200 opening ++ iso_word �
 abbrev pub NoParenthesis : Type 0
 NoParenthesis = read_script (goal_word ∷ replicate 200 opening ++ a ∷ opening ∷ []) ≡ expected want.Closing 202
 
--- holds, 200 nots and must a; and holds, and 201 nots
+-- holds, and 200 nots; holds, and 201
 abbrev pub ManyNots : Type 0
 ManyNots = read_query (holds_word ∷ replicate 200 not_word) ≡ expected want.Rule 201
 
