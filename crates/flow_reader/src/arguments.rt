@@ -9,14 +9,14 @@ use std::alloc::{AllocError, Global};
 
 /// Where the reading of a fact's arguments stands: the relation, and the arguments so far.
 #[derive(Drop)]
-pub enum ArgReader {
+pub(crate) enum ArgReader {
     ConstantNeeded(Name, Vec<Const>),
     AfterConstant(Name, Vec<Const>),
 }
 
 /// What a symbol makes of it.
 #[derive(Drop)]
-pub enum ArgStep {
+pub(crate) enum ArgStep {
     Reading(ArgReader),
     Whole(Fact),
     Stuck,
@@ -54,7 +54,7 @@ fn end_constant(relation: Name, args: Vec<Const>, symbol: Symbol<'_>) -> ArgStep
 }
 
 impl ArgReader {
-    pub fn step(self, alloc: Global, symbol: Symbol<'_>) -> Result<ArgStep, AllocError>
+    pub(crate) fn step(self, alloc: Global, symbol: Symbol<'_>) -> Result<ArgStep, AllocError>
         ensures { IfOk result (λ step. arg_step step ≡ machine.step_arg (arg_state self) (meant symbol.entry)) }
     {
         match self {
@@ -66,7 +66,7 @@ impl ArgReader {
     }
 
     /// What could come next.
-    pub fn wanted(&self) -> Wanted
+    pub(crate) fn wanted(&self) -> Wanted
         ensures { result ≡ machine.wanted_arg (arg_state self.now) }
     {
         match self {

@@ -6,7 +6,7 @@ use crate::symbol::Symbol;
 use flow_model::GREATEST_DEPTH;
 
 /// Whether the symbol stands too deep where so many parentheses and nots are open.
-pub fn is_too_deep(symbol: Symbol<'_>, depth: usize) -> bool
+pub(crate) fn is_too_deep(symbol: Symbol<'_>, depth: usize) -> bool
     ensures { result ≡ machine.is_too_deep (meant symbol.entry) depth }
 {
     match symbol {

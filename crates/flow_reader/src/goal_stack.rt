@@ -42,14 +42,14 @@ fn gathered(list: GoalList, mut members: Vec<Form>) -> Form
 
 /// The members that are whole, of the three lists that are being read.
 #[derive(Drop)]
-pub struct Level {
+pub(crate) struct Level {
     eithers: Vec<Form>,
     besides: Vec<Form>,
     serials: Vec<Form>,
 }
 
 impl Level {
-    pub fn new(alloc: Global) -> Level
+    pub(crate) fn new(alloc: Global) -> Level
         ensures { level_of result ≡ machine.level [] [] [] }
     {
         Level {
@@ -59,14 +59,14 @@ impl Level {
         }
     }
 
-    pub fn push(&mut self, form: Form) -> Result<(), AllocError>
+    pub(crate) fn push(&mut self, form: Form) -> Result<(), AllocError>
         ensures { OnOk result (level_of self.new ≡ machine.push (level_of self.old) (shape_of form)) }
     {
         self.serials.push(form)?;
         Ok(())
     }
 
-    pub fn close_serial(&mut self, alloc: Global) -> Result<(), AllocError>
+    pub(crate) fn close_serial(&mut self, alloc: Global) -> Result<(), AllocError>
         ensures { OnOk result (level_of self.new ≡ machine.close_serial (level_of self.old)) }
     {
         let serials = mem::replace(&mut self.serials, Vec::new(alloc));
@@ -74,7 +74,7 @@ impl Level {
         Ok(())
     }
 
-    pub fn close_beside(&mut self, alloc: Global) -> Result<(), AllocError>
+    pub(crate) fn close_beside(&mut self, alloc: Global) -> Result<(), AllocError>
         ensures { OnOk result (level_of self.new ≡ machine.close_beside (level_of self.old)) }
     {
         self.close_serial(alloc)?;
@@ -83,7 +83,7 @@ impl Level {
         Ok(())
     }
 
-    pub fn closed(mut self, alloc: Global) -> Result<Form, AllocError>
+    pub(crate) fn closed(mut self, alloc: Global) -> Result<Form, AllocError>
         ensures { IfOk result (λ form. shape_of form ≡ machine.close (level_of self)) }
     {
         self.close_beside(alloc)?;
@@ -93,20 +93,20 @@ impl Level {
 
 /// An open parenthesis, with what stands outside it, and whether it isolates what stands inside.
 #[derive(Drop)]
-pub struct Frame {
-    pub level: Level,
-    pub isolates: bool,
+pub(crate) struct Frame {
+    pub(crate) level: Level,
+    pub(crate) isolates: bool,
 }
 
 /// The open parentheses, the innermost last, and what stands in it.
 #[derive(Drop)]
-pub struct Stack {
-    pub frames: Vec<Frame>,
-    pub level: Level,
+pub(crate) struct Stack {
+    pub(crate) frames: Vec<Frame>,
+    pub(crate) level: Level,
 }
 
 impl Stack {
-    pub fn new(alloc: Global) -> Stack
+    pub(crate) fn new(alloc: Global) -> Stack
         ensures frames { frames_of result.frames.items ≡ [] }
         ensures level { level_of result.level ≡ machine.level [] [] [] }
     {
@@ -117,7 +117,7 @@ impl Stack {
     }
 
     /// Begins anew, with nothing open and nothing read.
-    pub fn restart(&mut self, alloc: Global)
+    pub(crate) fn restart(&mut self, alloc: Global)
         ensures frames { frames_of self.new.frames.items ≡ [] }
         ensures level { level_of self.new.level ≡ machine.level [] [] [] }
     {
@@ -125,7 +125,7 @@ impl Stack {
     }
 
     /// Goes inside a further parenthesis.
-    pub fn open(&mut self, alloc: Global, isolates: bool) -> Result<(), AllocError>
+    pub(crate) fn open(&mut self, alloc: Global, isolates: bool) -> Result<(), AllocError>
         ensures frames { OnOk result (frames_of self.new.frames.items
             ≡ frame isolates (level_of self.old.level) ∷ frames_of self.old.frames.items) }
         ensures level { OnOk result (level_of self.new.level ≡ machine.level [] [] []) }
@@ -136,7 +136,7 @@ impl Stack {
     }
 
     /// Goes outside the innermost parenthesis, if one is open, and hands out its frame.
-    pub fn close(&mut self) -> Option<Frame>
+    pub(crate) fn close(&mut self) -> Option<Frame>
         ensures none { IfNone result (frames_of self.old.frames.items ≡ []) }
         ensures some { IfSome result (λ inner. frames_of self.old.frames.items ≡ frame_of inner ∷ frames_of self.new.frames.items) }
         ensures level { self.new.level ≡ self.old.level }
@@ -145,7 +145,7 @@ impl Stack {
     }
 
     /// What could come after an atom.
-    pub fn wanted(&self) -> Wanted
+    pub(crate) fn wanted(&self) -> Wanted
         ensures { result ≡ machine.wanted_join (frames_of self.now.frames.items) }
     {
         if self.frames.is_empty() {

@@ -15,7 +15,7 @@ use std::mem;
 
 /// What is asked of a fact, or done to it.
 #[derive(Clone, Copy)]
-pub enum Prefix {
+pub(crate) enum Prefix {
     Test,
     Absent,
     Ins,
@@ -37,7 +37,7 @@ impl Prefix {
 
 /// Where the reading of a goal stands, beside its stack.
 #[derive(Drop)]
-pub enum GoalPlace {
+pub(crate) enum GoalPlace {
     AtomNeeded,
     AfterAtom,
     OpeningNeeded,
@@ -48,7 +48,7 @@ pub enum GoalPlace {
 
 /// What a symbol makes of it.
 #[derive(Drop)]
-pub enum GoalStep {
+pub(crate) enum GoalStep {
     Reading(GoalPlace),
     Whole(Form),
     Stuck,
@@ -153,7 +153,7 @@ fn open_args(
 }
 
 impl GoalPlace {
-    pub fn step(
+    pub(crate) fn step(
         self,
         alloc: Global,
         stack: &mut Stack,
@@ -190,7 +190,7 @@ impl GoalPlace {
     }
 
     /// What could come next.
-    pub fn wanted(&self, stack: &Stack) -> Wanted
+    pub(crate) fn wanted(&self, stack: &Stack) -> Wanted
         ensures { result ≡ machine.wanted_goal (goal_state stack.now self.now) }
     {
         match self {
@@ -203,7 +203,7 @@ impl GoalPlace {
     }
 
     /// In how many parentheses the next symbol stands.
-    pub fn depth(&self, stack: &Stack) -> usize
+    pub(crate) fn depth(&self, stack: &Stack) -> usize
         ensures { result ≡ machine.depth_goal (goal_state stack.now self.now) }
     {
         match self {

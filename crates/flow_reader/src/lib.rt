@@ -15,7 +15,6 @@ mod scripts;
 mod symbol;
 mod tokens;
 
-pub use flow_form::{Query, Script, TextRefusal};
 pub use reading::{read_query, read_script};
 pub use symbol::Symbol;
 pub use tokens::symbol_of;

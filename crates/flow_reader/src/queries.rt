@@ -14,7 +14,7 @@ use std::alloc::{AllocError, Global};
 
 /// Where the reading of a query stands, beside the stack of its rule.
 #[derive(Drop)]
-pub enum QueryPlace {
+pub(crate) enum QueryPlace {
     QueryNeeded,
     InProperty(RulePlace),
     NumberNeeded,
@@ -47,7 +47,7 @@ fn after_property(stack: &RuleStack, step: RuleStep) -> Option<QueryPlace>
 
 impl QueryPlace {
     /// What a symbol makes of it. `None` where no query goes on with it.
-    pub fn step(
+    pub(crate) fn step(
         self,
         alloc: Global,
         stack: &mut RuleStack,
@@ -79,7 +79,7 @@ impl QueryPlace {
     }
 
     /// What the text asks if it ends here.
-    pub fn finish(self) -> Option<Query>
+    pub(crate) fn finish(self) -> Option<Query>
         ensures { (stack : RuleStack) → option_map asked result ≡ machine.finish_query (query_state stack self) }
     {
         match self {
@@ -92,7 +92,7 @@ impl QueryPlace {
     }
 
     /// What could come next.
-    pub fn wanted(&self, stack: &RuleStack) -> Wanted
+    pub(crate) fn wanted(&self, stack: &RuleStack) -> Wanted
         ensures { result ≡ machine.wanted_query (query_state stack.now self.now) }
     {
         match self {
@@ -105,7 +105,7 @@ impl QueryPlace {
     }
 
     /// In how many parentheses and nots the next symbol stands.
-    pub fn depth(&self, stack: &RuleStack) -> usize
+    pub(crate) fn depth(&self, stack: &RuleStack) -> usize
         requires { machine.depth_query (query_state stack.now self.now) < 2 ^ 64 - 1 }
         ensures { result ≡ machine.depth_query (query_state stack.now self.now) }
     {

@@ -80,7 +80,7 @@ fn word_of_constraints(word: &[u8]) -> Option<Symbol<'static>>
 }
 
 /// A word as its symbol: the reserved word that it is, or else a name.
-pub fn word_symbol(word: &[u8]) -> Symbol<'_>
+pub(crate) fn word_symbol(word: &[u8]) -> Symbol<'_>
     ensures { meant result ≡ Symbols.word_symbol word.now }
 {
     if let Some(symbol) = word_of_declarations(word) {
@@ -96,7 +96,7 @@ pub fn word_symbol(word: &[u8]) -> Symbol<'_>
 }
 
 /// A mark as its symbol; every other byte counts as an exclamation mark.
-pub fn mark_symbol(byte: u8) -> Symbol<'static>
+pub(crate) fn mark_symbol(byte: u8) -> Symbol<'static>
     ensures { meant result ≡ Symbols.mark_symbol byte }
 {
     match byte {

@@ -56,13 +56,13 @@ fn negated(alloc: Global, nots: usize, rule: RuleForm) -> Result<RuleForm, Alloc
 
 /// The members that are whole, of the two lists that are being read.
 #[derive(Drop)]
-pub struct RuleLevel {
+pub(crate) struct RuleLevel {
     anys: Vec<RuleForm>,
     alls: Vec<RuleForm>,
 }
 
 impl RuleLevel {
-    pub fn new(alloc: Global) -> RuleLevel
+    pub(crate) fn new(alloc: Global) -> RuleLevel
         ensures { rule_level_of result ≡ machine.rule_level [] [] }
     {
         RuleLevel {
@@ -72,7 +72,12 @@ impl RuleLevel {
     }
 
     /// Adds the rule under so many nots.
-    pub fn push(&mut self, alloc: Global, nots: usize, rule: RuleForm) -> Result<(), AllocError>
+    pub(crate) fn push(
+        &mut self,
+        alloc: Global,
+        nots: usize,
+        rule: RuleForm,
+    ) -> Result<(), AllocError>
         ensures { OnOk result (rule_level_of self.new
             ≡ machine.push_rule (rule_level_of self.old) (machine.negate nots (rule_shape_of rule))) }
     {
@@ -80,7 +85,7 @@ impl RuleLevel {
         Ok(())
     }
 
-    pub fn close_all(&mut self, alloc: Global) -> Result<(), AllocError>
+    pub(crate) fn close_all(&mut self, alloc: Global) -> Result<(), AllocError>
         ensures { OnOk result (rule_level_of self.new ≡ machine.close_all (rule_level_of self.old)) }
     {
         let alls = mem::replace(&mut self.alls, Vec::new(alloc));
@@ -88,7 +93,7 @@ impl RuleLevel {
         Ok(())
     }
 
-    pub fn closed(mut self, alloc: Global) -> Result<RuleForm, AllocError>
+    pub(crate) fn closed(mut self, alloc: Global) -> Result<RuleForm, AllocError>
         ensures { IfOk result (λ rule. rule_shape_of rule ≡ machine.close_rule (rule_level_of self)) }
     {
         self.close_all(alloc)?;
@@ -98,7 +103,7 @@ impl RuleLevel {
 
 /// An open parenthesis, with what stands outside it and the nots directly before it.
 #[derive(Drop)]
-pub struct RuleFrame {
-    pub level: RuleLevel,
-    pub nots: usize,
+pub(crate) struct RuleFrame {
+    pub(crate) level: RuleLevel,
+    pub(crate) nots: usize,
 }

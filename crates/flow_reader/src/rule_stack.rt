@@ -9,16 +9,16 @@ use std::mem;
 
 /// The open parentheses, the innermost last, and what stands in it.
 #[derive(Drop)]
-pub struct RuleStack {
-    pub frames: Vec<RuleFrame>,
-    pub level: RuleLevel,
+pub(crate) struct RuleStack {
+    pub(crate) frames: Vec<RuleFrame>,
+    pub(crate) level: RuleLevel,
     /// How many parentheses and nots are open.
-    pub height: usize,
-    pub ghost counted: { height ≡ machine.rule_height (rule_frames_of frames.items) },
+    pub(crate) height: usize,
+    pub(crate) ghost counted: { height ≡ machine.rule_height (rule_frames_of frames.items) },
 }
 
 impl RuleStack {
-    pub fn new(alloc: Global) -> RuleStack
+    pub(crate) fn new(alloc: Global) -> RuleStack
         ensures frames { rule_frames_of result.frames.items ≡ [] }
         ensures level { rule_level_of result.level ≡ machine.rule_level [] [] }
     {
@@ -30,7 +30,7 @@ impl RuleStack {
     }
 
     /// Begins anew, with nothing open and nothing read.
-    pub fn restart(&mut self, alloc: Global)
+    pub(crate) fn restart(&mut self, alloc: Global)
         ensures frames { rule_frames_of self.new.frames.items ≡ [] }
         ensures level { rule_level_of self.new.level ≡ machine.rule_level [] [] }
     {
@@ -39,7 +39,7 @@ impl RuleStack {
 
     /// Goes inside a further parenthesis, which so many nots precede.
     #[tactic(auto, using(crate::proofs::Heights::height_more))]
-    pub fn open(&mut self, alloc: Global, nots: usize) -> Result<(), AllocError>
+    pub(crate) fn open(&mut self, alloc: Global, nots: usize) -> Result<(), AllocError>
         requires { self.old.height + nots < 2 ^ 64 - 1 }
         ensures frames { OnOk result (rule_frames_of self.new.frames.items
             ≡ machine.rule_parenthesis (rule_level_of self.old.level) nots ∷ rule_frames_of self.old.frames.items) }
@@ -53,7 +53,7 @@ impl RuleStack {
 
     /// Goes outside the innermost parenthesis, if one is open, and hands out its frame.
     #[tactic(auto, using(crate::proofs::Heights::height_less))]
-    pub fn close(&mut self) -> Option<RuleFrame>
+    pub(crate) fn close(&mut self) -> Option<RuleFrame>
         ensures none { IfNone result (rule_frames_of self.old.frames.items ≡ []) }
         ensures some { IfSome result (λ inner. rule_frames_of self.old.frames.items ≡ rule_frame_of inner ∷ rule_frames_of self.new.frames.items) }
         ensures level { self.new.level ≡ self.old.level }
@@ -66,7 +66,7 @@ impl RuleStack {
     }
 
     /// What could come after a unit.
-    pub fn wanted(&self) -> Wanted
+    pub(crate) fn wanted(&self) -> Wanted
         ensures { result ≡ machine.wanted_join (rule_frames_of self.now.frames.items) }
     {
         if self.frames.is_empty() {

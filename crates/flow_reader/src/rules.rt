@@ -15,21 +15,21 @@ use std::mem;
 
 /// A rule on one event.
 #[derive(Clone, Copy)]
-pub enum Single {
+pub(crate) enum Single {
     Must,
     Never,
 }
 
 /// A rule on two events.
 #[derive(Clone, Copy)]
-pub enum Pair {
+pub(crate) enum Pair {
     Precedes,
     Needs,
 }
 
 /// The names that must still come.
 #[derive(Drop)]
-pub enum MissingNames {
+pub(crate) enum MissingNames {
     One(Single),
     Two(Pair),
     Second(Pair, Name),
@@ -39,7 +39,7 @@ pub enum MissingNames {
 
 /// Where the reading of a rule stands, beside its stack. The number is that of the nots directly before.
 #[derive(Drop)]
-pub enum RulePlace {
+pub(crate) enum RulePlace {
     UnitNeeded(usize),
     AfterUnit,
     NameNeeded(MissingNames, usize),
@@ -48,7 +48,7 @@ pub enum RulePlace {
 
 /// What a symbol makes of it.
 #[derive(Drop)]
-pub enum RuleStep {
+pub(crate) enum RuleStep {
     Reading(RulePlace),
     Whole(RuleForm),
     Stuck,
@@ -213,7 +213,7 @@ fn more_names(
 
 impl RulePlace {
     #[tactic(auto, using(crate::proofs::Heights::nots_added))]
-    pub fn step(
+    pub(crate) fn step(
         self,
         alloc: Global,
         stack: &mut RuleStack,
@@ -231,7 +231,7 @@ impl RulePlace {
     }
 
     /// What could come next.
-    pub fn wanted(&self, stack: &RuleStack) -> Wanted
+    pub(crate) fn wanted(&self, stack: &RuleStack) -> Wanted
         ensures { result ≡ machine.wanted_rule (rule_state stack.now self.now) }
     {
         match self {
@@ -243,7 +243,7 @@ impl RulePlace {
 
     /// In how many parentheses and nots the next symbol stands.
     #[tactic(auto, using(crate::proofs::Heights::nots_added))]
-    pub fn depth(&self, stack: &RuleStack) -> usize
+    pub(crate) fn depth(&self, stack: &RuleStack) -> usize
         requires { machine.depth_rule (rule_state stack.now self.now) < 2 ^ 64 - 1 }
         ensures { result ≡ machine.depth_rule (rule_state stack.now self.now) }
     {

@@ -21,15 +21,15 @@ use std::mem;
 
 /// What a text has said so far, and the stacks of the goal and of the rule that are being read.
 #[derive(Drop)]
-pub struct ScriptParts {
-    pub script: Script,
-    pub goals: Stack,
-    pub rules: RuleStack,
+pub(crate) struct ScriptParts {
+    pub(crate) script: Script,
+    pub(crate) goals: Stack,
+    pub(crate) rules: RuleStack,
 }
 
 /// Where the reading of declared facts stands.
 #[derive(Drop)]
-pub enum FactPlace {
+pub(crate) enum FactPlace {
     FactNeeded,
     AfterRelation(Name),
     InArgs(ArgReader),
@@ -38,7 +38,7 @@ pub enum FactPlace {
 
 /// Where the reading of declared events stands.
 #[derive(Drop)]
-pub enum EventPlace {
+pub(crate) enum EventPlace {
     NameNeeded,
     AfterName(Name),
     AfterFail(Name),
@@ -47,7 +47,7 @@ pub enum EventPlace {
 
 /// Where the reading of a sub-workflow stands.
 #[derive(Drop)]
-pub enum FlowPlace {
+pub(crate) enum FlowPlace {
     NameNeeded,
     EqualsNeeded(Name),
     InGoal(Name, GoalPlace),
@@ -55,7 +55,7 @@ pub enum FlowPlace {
 
 /// Where the reading of a text stands, beside its parts.
 #[derive(Drop)]
-pub enum ScriptPlace {
+pub(crate) enum ScriptPlace {
     DeclarationNeeded,
     InFact(FactPlace),
     InEvent(EventPlace),
@@ -67,7 +67,7 @@ pub enum ScriptPlace {
 
 impl ScriptParts {
     /// Nothing yet.
-    pub fn new(alloc: Global) -> ScriptParts
+    pub(crate) fn new(alloc: Global) -> ScriptParts
         ensures { declared_so_far result ≡ [] }
     {
         ScriptParts {
@@ -313,7 +313,7 @@ impl ScriptParts {
     }
 
     /// What a symbol makes of it. `None` where no text goes on with it.
-    pub fn step(
+    pub(crate) fn step(
         &mut self,
         alloc: Global,
         place: ScriptPlace,
@@ -347,7 +347,7 @@ impl ScriptParts {
     }
 
     /// What could come next.
-    pub fn wanted(&self, place: &ScriptPlace) -> Wanted
+    pub(crate) fn wanted(&self, place: &ScriptPlace) -> Wanted
         ensures { result ≡ machine.wanted_script (script_state self.now place.now) }
     {
         match place {
@@ -367,7 +367,7 @@ impl ScriptParts {
     }
 
     /// In how many parentheses and nots the next symbol stands.
-    pub fn depth(&self, place: &ScriptPlace) -> usize
+    pub(crate) fn depth(&self, place: &ScriptPlace) -> usize
         requires { machine.depth_script (script_state self.now place.now) < 2 ^ 64 - 1 }
         ensures { result ≡ machine.depth_script (script_state self.now place.now) }
     {
@@ -382,7 +382,7 @@ impl ScriptParts {
     }
 
     /// Whether a text may end here. It drops the place.
-    pub fn is_whole(&self, place: ScriptPlace) -> bool
+    pub(crate) fn is_whole(&self, place: ScriptPlace) -> bool
         ensures { machine.finish_script (script_state self.now place) ≡ (if result then Some (said self.now.script) else None) }
     {
         match place {
