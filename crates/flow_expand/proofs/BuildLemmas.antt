@@ -384,7 +384,7 @@ pub start_buildable : (s : Said) (e : Expansion) (layout : List Piece) (place : 
     IsStart s leaves → IsBuildable layout place leaves
 start_buildable s e layout place leaves closed measured placed start = record {
   events = event_names s.decls;
-  distinct = distinct_events s.decls closed.once;
+  distinct = distinct_events s.decls closed.named.once;
   expansion = e;
   placed = placed;
   room = start_room s e leaves closed measured start;
@@ -443,7 +443,7 @@ pub rules_known : (s : Said) (events : List (List ℕ)) (rules : List RuleShape)
     Each (λ n. n ∈ events) (names_in_rules (rule_shapes rules))
 rules_known s events rules closed names same =
     subst (λ ns. Each (λ n. n ∈ events) ns) (sym (ap (λ l. names_in_rules (rule_shapes l)) same ∙ names_in_all s.rules))
-    (subst (λ l. Each (λ n. n ∈ l) (flat_map names_in_rule s.rules)) (sym names) closed.in_rules)
+    (subst (λ l. Each (λ n. n ∈ l) (flat_map names_in_rule s.rules)) (sym names) closed.named.in_rules)
 
 module _ (s : Said) (n : NumberedGoal) (closed : IsClosed s) (numbered : IsNumberedGoal s n) (unique : HoldsNoneTwice n.tree)
     (events : List (List ℕ)) (names : events ≡ event_names s.decls) where
@@ -468,7 +468,7 @@ module _ (s : Said) (n : NumberedGoal) (closed : IsClosed s) (numbered : IsNumbe
 
   pub parts_kept : (notes : List Note) → notes ≡ notes_of s.decls → IsWorkflow (parts n events notes)
   parts_kept notes noted = record {
-    distinct = subst AreDistinct (sym names) (distinct_events s.decls closed.once);
+    distinct = subst AreDistinct (sym names) (distinct_events s.decls closed.named.once);
     few_events = omega (arith, ap length names, events_few s.decls, closed.few);
     noted = ap length noted ∙ events_noted s.decls ∙ sym (ap length names);
     held = held_below;

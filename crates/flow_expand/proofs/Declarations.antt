@@ -92,7 +92,7 @@ names_in_all (r ∷ rs) = ap (λ l. names_in_rule r ++ l) (names_in_all rs)
 goals_closed : (s : Said) (t : Shape) → IsClosed s → t ∈ goals_of s → Each (λ x. x ∈ declared_names s.decls) (names_in t)
 goals_closed s t h m =
     each_from_members (λ x. x ∈ declared_names s.decls) (names_in t)
-    (λ n used. each_member (λ x. x ∈ declared_names s.decls) (flat_map names_in (goals_of s)) h.in_goals n (mem-flat_map names_in t n (goals_of s) m used))
+    (λ n used. each_member (λ x. x ∈ declared_names s.decls) (flat_map names_in (goals_of s)) h.named.in_goals n (mem-flat_map names_in t n (goals_of s) m used))
 
 pub goals_declared : (s : Said) → IsClosed s → AreDeclared s.decls
 goals_declared s h k n t at =

@@ -66,7 +66,7 @@ module _ (d : Directory) (laid : List Stage) (layout : List Piece) (h : IsLaid d
     finite : IsFinite s
     finite = record {
       few = few;
-      ending = no_recursion s.decls closed.once (λ n t m. subst (λ ds. flow n t ∈ ds → (e : Expansion) × Becomes ds t e) same (becomes n t) m);
+      ending = no_recursion s.decls closed.named.once (λ n t m. subst (λ ds. flow n t ∈ ds → (e : Expansion) × Becomes ds t e) same (becomes n t) m);
     }
 
     goal_becomes : Becomes s.decls s.goal g.expansion

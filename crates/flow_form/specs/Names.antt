@@ -65,10 +65,14 @@ abbrev pub goals_of : Said → List Shape
 goals_of s = flat_map flow_goal s.decls ++ s.goal ∷ []
 
 -- each name that is used is declared, once, and as it must be
-pub record IsClosed (s : Said) : Type 0 where
+pub record HasGoodNames (s : Said) : Type 0 where
   pub in_goals : Each (λ n. n ∈ declared_names s.decls) (flat_map names_in (goals_of s))
   pub in_rules : Each (λ n. n ∈ event_names s.decls) (flat_map names_in_rule s.rules)
   pub once : AreDistinct (declared_names s.decls)
+
+-- its names are good, its goals are well made, and its declarations can be numbered
+pub record IsClosed (s : Said) : Type 0 where
+  pub named : HasGoodNames s
   -- each list of a goal has two or more members
   pub grouped : Each IsGrouped (goals_of s)
   pub few : length s.decls < 2 ^ 31

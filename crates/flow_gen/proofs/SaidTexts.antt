@@ -11,11 +11,10 @@ use Rattle.flow_form.specs.declared.refusal.TextRefusal.TheVariants.{NoMemory}
 use Rattle.flow_form.specs.Form.{Shape, IsGrouped}
 use Rattle.flow_form.specs.RuleForm.{RuleShape, IsGroupedRule}
 use Rattle.flow_form.specs.Script.{event, Said}
-use Rattle.flow_form.specs.Names.{declared_names, event_names, goals_of, names_in, names_in_rule}
+use Rattle.flow_form.specs.Names.{declared_names, event_names, goals_of, names_in, names_in_rule, HasGoodNames}
 use Rattle.flow_grammar.specs.Print.{nesting, rule_nesting, IsWithin}
 use Rattle.flow_grammar.specs.Made.{IsWellMade}
 use Rattle.flow_text.specs.Printable.{IsPrintable, IsPrintableRule}
-use Rattle.flow_text.specs.GoodNames.{HasGoodNames}
 use Rattle.flow_text.specs.Saying.{Says}
 use Rattle.flow_text.specs.Parsing.{IsParseRefusal}
 use Rattle.flow_text.proofs.SaidLaws.{prints_say_it}
@@ -102,10 +101,8 @@ numbers_length first (suc count) = ap (λ n. suc n) (numbers_length (first + 1) 
 
 pub workflows_are_closed : WorkflowsAreClosed
 workflows_are_closed seed size some few =
-    let names = names_are_good seed size some few in record {
-      in_goals = names.in_goals;
-      in_rules = names.in_rules;
-      once = names.once;
+    record {
+      named = names_are_good seed size some few;
       grouped = (is_well_made seed size some few).0;
       few = omega (arith, length-map (numbers_from 0 (8 * size)) (λ k. event (event_name k) Done), numbers_length 0 (8 * size), few);
     }

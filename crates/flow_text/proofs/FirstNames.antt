@@ -6,13 +6,13 @@ use Rattle.std.proofs.lemmas.Bool.{not-false}
 use Rattle.std.proofs.lemmas.Grind.{flat_map-append}
 use Rattle.flow_model.specs.Lists.{◌∈◌, Each, AreDistinct}
 use Rattle.flow_form.specs.Script.{Declared, Said, Asked}
-use Rattle.flow_form.specs.Names.{declared_names, event_names}
+use Rattle.flow_form.specs.Names.{declared_names, event_names, HasGoodNames}
 use Rattle.flow_grammar.specs.Roles.{Role, declares, in_goal, in_rule, declared_by, declaring, used_in_goals, used_in_rules, script_roles, query_roles}
 use Rattle.flow_grammar.proofs.RolesOfNames.{roles_are_the_names}
 use Rattle.flow_text.specs.declared.known.Known.{Known}
 use Rattle.flow_text.specs.declared.name_refusal.NameRefusal.{NameRefusal}
 use Rattle.flow_text.specs.declared.name_refusal.NameRefusal.TheVariants.{Repeated, Unknown}
-use Rattle.flow_text.specs.GoodNames.{IsRepeated, IsUnknown, IsFirst, HasGoodNames, IsFirstRepeated, IsFirstUnknown, AsksOfEvents, AsksFirstOfOther}
+use Rattle.flow_text.specs.GoodNames.{IsRepeated, IsUnknown, IsFirst, IsFirstRepeated, IsFirstUnknown, AsksOfEvents, AsksFirstOfOther}
 use Rattle.flow_text.specs.KnownNames.{NameSet, no_names, HasJust, is_again, after, repeated_from, is_unknown, has, has_as_event, KnowsThose}
 use Rattle.flow_text.proofs.KnownNames.{none_held, held_more, held_none, distinct_more}
 

@@ -12,7 +12,7 @@ use Rattle.flow_grammar.specs.Machine.{Reading, gives, expected, too_deep, read_
 use Rattle.flow_grammar.specs.Roles.{script_roles, query_roles, Role, declares, in_goal, in_rule, declared_by, declaring, used_in_goals, used_in_rules}
 use Rattle.flow_reader.specs.Symbols.{symbols_of}
 use Rattle.flow_reader.specs.Reading.{place_of}
-use Rattle.flow_text.specs.GoodNames.{HasGoodNames, IsUnknown, IsRepeated, IsFirstRepeated, IsFirstUnknown, AsksOfEvents, AsksFirstOfOther, IsFirst}
+use Rattle.flow_text.specs.GoodNames.{IsUnknown, IsRepeated, IsFirstRepeated, IsFirstUnknown, AsksOfEvents, AsksFirstOfOther, IsFirst}
 use Rattle.flow_text.specs.Saying.{HasTokens, Writes, Says, Asks}
 use Rattle.flow_text.specs.Parsing.{IsExpected, IsTooDeep, IsNameAt, IsFirstNameAt, named_places, IsTextRefusal, IsParseRefusal, IsQueryRefusal}
 use Rattle.flow_grammar.proofs.Reading.{IsMachine, scripts_are_read, queries_are_read}
@@ -22,7 +22,7 @@ use Rattle.std.proofs.lemmas.Grind.{flat_map-append}
 use Rattle.flow_model.specs.Lists.{◌∈◌, Each, AreDistinct}
 use Rattle.flow_model.proofs.Lists.{each_parts}
 use Rattle.flow_laws.proofs.Members.{distinct_parts}
-use Rattle.flow_form.specs.Names.{declared_names, event_names, names_in_rule}
+use Rattle.flow_form.specs.Names.{declared_names, event_names, names_in_rule, HasGoodNames}
 use Rattle.flow_grammar.proofs.RolesOfNames.{roles_are_the_names, of_rules}
 use Rattle.flow_text.proofs.FirstNames.{IsWell, well_is_known}
 

@@ -5,7 +5,7 @@ use Rattle.flow_form.specs.declared.refusal.Wanted.{Wanted}
 use Rattle.flow_form.specs.declared.refusal.TextRefusal.{TextRefusal}
 use Rattle.flow_form.specs.declared.refusal.TextRefusal.TheVariants.{Expected, TooDeep, NoMemory}
 use Rattle.flow_form.specs.Script.{Said}
-use Rattle.flow_form.specs.Names.{IsClosed}
+use Rattle.flow_form.specs.Names.{HasGoodNames, IsClosed}
 use Rattle.flow_lex.specs.declared.token.Token.{Token}
 use Rattle.flow_lex.specs.Tokens.{AreSpans, IsSmall}
 use Rattle.flow_grammar.specs.Symbol.{Symbol, Placed, at, symbols, a_name}
@@ -16,7 +16,7 @@ use Rattle.flow_grammar.proofs.Reading.{IsMachine}
 use Rattle.flow_grammar.proofs.MadeTexts.{scripts_are_well_made}
 use Rattle.flow_reader.specs.Symbols.{symbol_of, symbols_of}
 use Rattle.flow_reader.specs.Reading.{IsReadRefusal}
-use Rattle.flow_text.specs.GoodNames.{IsFirst, HasGoodNames}
+use Rattle.flow_text.specs.GoodNames.{IsFirst}
 use Rattle.flow_text.specs.Saying.{HasTokens, IsLexed, TextInTokens, Writes}
 use Rattle.flow_text.specs.Parsing.{name_in, with_place, named_places, IsFirstNameAt, TextKind, IsTextRefusal}
 use Rattle.std.proofs.lemmas.List.{length-map}
@@ -106,9 +106,7 @@ is_closed text tokens s spans (w, e, shallow, spells) names short =
     let ((goals, rules), fewer) = scripts_are_well_made w s spells in
     let many : length w ≡ length tokens = sym (length-symbols w) ∙ ap length e ∙ length-map tokens (symbol_of text) in
     record {
-      in_goals = names.in_goals;
-      in_rules = names.in_rules;
-      once = names.once;
+      named = names;
       grouped = goals;
       few = omega (arith, fewer, many, spans-many 0 (length text) tokens spans, short);
     }

@@ -1,9 +1,8 @@
--- Names that are declared once and as they must be, and the first that is not.
+-- The first name that is not declared once and as it must be.
 use Rattle.std.specs.Prelude.{◌≡◌, ℕ, List, ◌∷◌, ◌++◌, length}
-use Rattle.std.specs.List.{flat_map}
 use Rattle.flow_model.specs.Lists.{◌∈◌, Each, AreDistinct}
 use Rattle.flow_form.specs.Script.{Declared, Said, Asked}
-use Rattle.flow_form.specs.Names.{declared_names, event_names, names_in, goals_of, names_in_rule}
+use Rattle.flow_form.specs.Names.{declared_names, event_names}
 use Rattle.flow_grammar.specs.Roles.{Role, declares, in_goal, in_rule, declaring, used_in_rules, script_roles, query_roles}
 
 -- after those roles, the role declares a name that one of them declares
@@ -26,12 +25,6 @@ pub record IsFirst (P : List Role → Role → Type 0) (roles : List Role) (k : 
   pub place : length front ≡ k
   pub here : P front role
   pub first : (before between : List Role) (earlier : Role) → front ≡ before ++ earlier ∷ between → ¬ P before earlier
-
--- each name that is used is declared, once, and as it must be
-pub record HasGoodNames (s : Said) : Type 0 where
-  pub in_goals : Each (λ n. n ∈ declared_names s.decls) (flat_map names_in (goals_of s))
-  pub in_rules : Each (λ n. n ∈ event_names s.decls) (flat_map names_in_rule s.rules)
-  pub once : AreDistinct (declared_names s.decls)
 
 -- the first name that is declared a second time
 abbrev pub IsFirstRepeated : Said → ℕ → Type 0

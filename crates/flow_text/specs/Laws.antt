@@ -3,13 +3,13 @@ use Rattle.std.specs.Prelude.{◌≡◌, ℕ, List, None, Result, Ok, Err}
 use Rattle.flow_form.specs.declared.refusal.TextRefusal.{TextRefusal}
 use Rattle.flow_form.specs.declared.refusal.TextRefusal.TheVariants.{NoMemory}
 use Rattle.flow_form.specs.Script.{Said, Asked}
+use Rattle.flow_form.specs.Names.{HasGoodNames}
 use Rattle.flow_lex.specs.declared.token.Token.{Token}
 use Rattle.flow_lex.specs.Tokens.{lexed, IsAscii}
 use Rattle.flow_grammar.specs.Made.{IsWellMade}
 use Rattle.flow_grammar.specs.Print.{IsWithin, print_script}
 use Rattle.flow_grammar.specs.Texts.{Derives, SpellsScript}
 use Rattle.flow_reader.specs.Symbols.{symbols_of}
-use Rattle.flow_text.specs.GoodNames.{HasGoodNames}
 use Rattle.flow_text.specs.Printed.{printed}
 use Rattle.flow_text.specs.Printable.{IsPrintable}
 use Rattle.flow_text.specs.Saying.{Says, Asks}

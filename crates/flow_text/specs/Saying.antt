@@ -2,12 +2,13 @@
 use Rattle.std.specs.Prelude.{◌≡◌, ℕ, List, length, None}
 use Rattle.flow_model.specs.Lists.{Each}
 use Rattle.flow_form.specs.Script.{Said, Asked}
+use Rattle.flow_form.specs.Names.{HasGoodNames}
 use Rattle.flow_lex.specs.declared.token.Token.{Token}
 use Rattle.flow_lex.specs.Tokens.{lexed, IsAscii, AreSpans, IsSmall}
 use Rattle.flow_grammar.specs.Symbol.{Placed}
 use Rattle.flow_grammar.specs.Texts.{Derives, SpellsScript, SpellsQuery}
 use Rattle.flow_reader.specs.Symbols.{symbols_of}
-use Rattle.flow_text.specs.GoodNames.{HasGoodNames, AsksOfEvents}
+use Rattle.flow_text.specs.GoodNames.{AsksOfEvents}
 
 -- the text is cut into these tokens
 pub record HasTokens (text : List ℕ) (tokens : List Token) : Type 0 where

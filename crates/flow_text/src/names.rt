@@ -1,8 +1,9 @@
 ghost use Rattle.std.specs.Prelude.{◌≡◌, ℕ, IfOk, OnOk, IsErrOf, cond, None};
 ghost use Rattle.std.specs.List.{position_from};
 ghost use Rattle.flow_form.specs.Script.{said, asked};
+ghost use Rattle.flow_form.specs.Names.{HasGoodNames};
 ghost use Rattle.flow_text.specs.declared.name_refusal.NameRefusal.TheVariants.{Repeated, Unknown};
-ghost use Rattle.flow_text.specs.GoodNames.{HasGoodNames, IsFirstRepeated, IsFirstUnknown, AsksOfEvents, AsksFirstOfOther};
+ghost use Rattle.flow_text.specs.GoodNames.{IsFirstRepeated, IsFirstUnknown, AsksOfEvents, AsksFirstOfOther};
 ghost use Rattle.flow_text.specs.KnownNames.{has, has_as_event, no_names, is_again, after, repeated_from, is_unknown};
 ghost use Rattle.flow_text.specs.ListedNames.{role_of, roles_of};
 

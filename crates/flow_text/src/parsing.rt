@@ -1,9 +1,9 @@
 ghost use Rattle.std.specs.Prelude.{◌<◌, ◌^◌, length, IfOk, IfErr, OnOk};
 ghost use Rattle.flow_form.specs.Script.{said, asked};
-ghost use Rattle.flow_form.specs.Names.{IsClosed};
+ghost use Rattle.flow_form.specs.Names.{HasGoodNames, IsClosed};
 ghost use Rattle.flow_grammar.specs.Texts.{Derives, SpellsScript, SpellsQuery};
 ghost use Rattle.flow_reader.specs.Symbols.{symbols_of};
-ghost use Rattle.flow_text.specs.GoodNames.{HasGoodNames, AsksOfEvents};
+ghost use Rattle.flow_text.specs.GoodNames.{AsksOfEvents};
 ghost use Rattle.flow_text.specs.Saying.{Says, Asks};
 ghost use Rattle.flow_text.specs.Parsing.{IsParseRefusal, IsQueryRefusal};
 

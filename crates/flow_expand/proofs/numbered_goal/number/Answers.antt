@@ -27,7 +27,7 @@ tree_of-tree-requires c =
     let old : Leaves = record { facts = c.in_ok-facts.facts; labels = c.new-labels.result } in
     let h = goal_few s c.requires.prepared.expansion old c.build.new.leaves (process_of c.in_ok-goal.goal) c.requires.closed c.requires.prepared.measured
     (started c.args.script.now c.deref.result.now old c.in_ok-facts.ensures c.deref.ensures.value c.new-labels.ensures.items)
-    (c.in_ok-goal.ensures (event_names s.decls) c.requires.prepared.expansion (distinct_events s.decls c.requires.closed.once) c.requires.prepared.placed) in
+    (c.in_ok-goal.ensures (event_names s.decls) c.requires.prepared.expansion (distinct_events s.decls c.requires.closed.named.once) c.requires.prepared.placed) in
     record { numbered = h.0; few = h.1 }
 
 pub returns : goal.returns
@@ -36,7 +36,7 @@ returns c =
     let old : Leaves = record { facts = c.in_ok-facts.facts; labels = c.new-labels.result } in
     numbered_goal s c.requires.prepared.expansion old c.build.new.leaves (process_of c.in_ok-goal.goal) c.requires.closed c.requires.prepared.measured
     (started c.args.script.now c.deref.result.now old c.in_ok-facts.ensures c.deref.ensures.value c.new-labels.ensures.items)
-    (c.in_ok-goal.ensures (event_names s.decls) c.requires.prepared.expansion (distinct_events s.decls c.requires.closed.once) c.requires.prepared.placed)
+    (c.in_ok-goal.ensures (event_names s.decls) c.requires.prepared.expansion (distinct_events s.decls c.requires.closed.named.once) c.requires.prepared.placed)
     c.args.laid.now.layout.items c.args.laid.now.root.place (record { facts = c.new-facts.result; held = c.in_ok-held.held; tree = c.tree_of-tree.result }) c.requires.prepared.placed
     (c.new-facts.ensures ∙ c.into_keys.ensures.keys) (c.in_ok-held.ensures ∙ ap (numbers_from 0) c.count.ensures) c.tree_of-tree.ensures.process c.tree_of-tree.ensures.labels
 

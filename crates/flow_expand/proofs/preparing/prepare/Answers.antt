@@ -31,7 +31,7 @@ lay_goal-laid-requires-clause-few c =
     subst (λ n. n ≤ MOST_FLOWS) count c.in_default.ensures.ok
 
 pub new-requires-clause-once : goal.new-requires-clause-once
-new-requires-clause-once c = subst (λ ds. AreDistinct (declared_names (map declared ds))) (sym c.deref.ensures.value) c.requires.closed.once
+new-requires-clause-once c = subst (λ ds. AreDistinct (declared_names (map declared ds))) (sym c.deref.ensures.value) c.requires.closed.named.once
 
 pub new-requires-clause-events : goal.new-requires-clause-events
 new-requires-clause-events c = c.requires.events ∙ ap (λ ds. event_names (map declared ds)) (sym c.deref.ensures.value)
