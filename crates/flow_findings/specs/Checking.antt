@@ -11,7 +11,7 @@ use Rattle.flow_workflow.specs.Definition.{Definition}
 abbrev pub leaf_table : Definition → List ℕ
 leaf_table w = flat_map (λ leaf. codes "leaf " ++ leaf_line w leaf) (numbers_from 0 (length w.tree.labels))
 
--- how many choices there are, and how large all are together
+-- how many resolutions and options there are, how large all options are together, and how many have an execution
 abbrev pub counts_text : Counts → List ℕ
 counts_text counts =
     codes "resolutions " ++ decimal counts.resolutions ++ codes "\noptions " ++ decimal counts.options

@@ -4,6 +4,7 @@ use Rattle.std.specs.List.{flat_map}
 use Rattle.std.specs.Option.{unwrap_or}
 use Rattle.std.specs.Fmt.{decimal}
 use Rattle.std.proofs.Common.{Bor}
+use Rattle.flow_model.specs.declared.limits.TheConstants.{GREATEST_INPUT}
 use Rattle.flow_goal.specs.declared.repeats.Twice.{Twice}
 use Rattle.flow_form.specs.declared.refusal.Wanted.{Wanted}
 use Rattle.flow_form.specs.declared.refusal.Wanted.TheVariants as wanted
@@ -148,7 +149,7 @@ IsTold events (Compile refusal) = IsOfOptions refusal
 abbrev pub refused_text : List (List ℕ) → Refused → List ℕ
 refused_text events Words = codes "refused: words\n" ++ usage_text
 refused_text events Read = codes "refused: read\n"
-refused_text events TooLong = codes "refused: too long 1048576\n"
+refused_text events TooLong = codes "refused: " ++ (codes "too long " ++ decimal GREATEST_INPUT) ++ codes "\n"
 refused_text events (Text refusal) = codes "refused: " ++ text_refusal refusal ++ codes "\n"
 refused_text events (Query refusal) = codes "refused: query " ++ text_refusal refusal ++ codes "\n"
 refused_text events (Record refusal) = codes "refused: " ++ line_refusal refusal ++ codes "\n"

@@ -42,7 +42,8 @@ fn push_leaf(text: &mut Vec<u8>, workflow: &Workflow, leaf: u32) -> Result<(), A
     push_leaf_line(text, workflow, leaf)
 }
 
-/// Prints how many choices there are, how large all are together, and that some execution is free.
+/// Prints how many resolutions and options there are, how large all options are together, how many have an
+/// execution, and that some execution meets every constraint.
 fn print_counts(alloc: Global, counts: &Counts) -> Result<String, AllocError>
     ensures { IfOk result (λ text. string_bytes text ≡ counts_text counts.now ++ codes "consistent\n") }
 {

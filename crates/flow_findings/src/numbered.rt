@@ -6,7 +6,7 @@ use itoa::Buffer;
 use std::alloc::{AllocError, Global};
 
 /// Prints a refusal of one word and a number.
-pub fn print_numbered(alloc: Global, word: &str, number: u64) -> Result<Vec<u8>, AllocError>
+pub(crate) fn print_numbered(alloc: Global, word: &str, number: u64) -> Result<Vec<u8>, AllocError>
     ensures { IfOk result (λ line. line.items ≡ codes "refused: " ++ (word.now ++ codes " " ++ decimal number) ++ codes "\n") }
 {
     let mut digits = Buffer::new();

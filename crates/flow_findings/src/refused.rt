@@ -7,6 +7,7 @@ use crate::unexpanded::print_expand_refusal;
 use crate::unread::{print_line_refusal, print_text_refusal};
 use flow_excise::CompileRefusal;
 use flow_form::{Script, TextRefusal};
+use flow_model::GREATEST_INPUT;
 use flow_record::RecordRefusal;
 use flow_workflow::ExpandRefusal;
 use std::alloc::{AllocError, Global};
@@ -50,7 +51,7 @@ pub fn print_refused(
             b"refused: words\nusage: flow MODE [--steps N] [--workers N] [--seed N] [--size N]\nmodes: drive run check verify trace gen large\n",
         ),
         Refused::Read => Vec::from_slice(alloc, b"refused: read\n"),
-        Refused::TooLong => Vec::from_slice(alloc, b"refused: too long 1048576\n"),
+        Refused::TooLong => print_numbered(alloc, "too long", GREATEST_INPUT as u64),
         Refused::Text(refusal) => print_text_refusal(alloc, b"refused: ", refusal),
         Refused::Query(refusal) => print_text_refusal(alloc, b"refused: query ", refusal),
         Refused::Record(refusal) => print_line_refusal(alloc, refusal),

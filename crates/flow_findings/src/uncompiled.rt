@@ -8,7 +8,10 @@ use flow_record::push_numbers;
 use std::alloc::{AllocError, Global};
 
 /// Prints the lines that say why a workflow is not compiled.
-pub fn print_compile_refusal(alloc: Global, refusal: &CompileRefusal) -> Result<Vec<u8>, AllocError>
+pub(crate) fn print_compile_refusal(
+    alloc: Global,
+    refusal: &CompileRefusal,
+) -> Result<Vec<u8>, AllocError>
     requires { IsOfOptions refusal.now }
     ensures { IfOk result (λ text. text.items ≡ compile_refusal refusal.now) }
 {

@@ -15,7 +15,7 @@ use itoa::Buffer;
 use std::alloc::{AllocError, Global};
 
 /// Prints the line that says why a workflow is not expanded. An event goes by the name that the script declares.
-pub fn print_expand_refusal(
+pub(crate) fn print_expand_refusal(
     alloc: Global,
     refusal: &ExpandRefusal,
     script: Option<&Script>,

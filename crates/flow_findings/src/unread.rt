@@ -10,7 +10,7 @@ use itoa::Buffer;
 use std::alloc::{AllocError, Global};
 
 /// Prints the line that says why a text says nothing, after its head.
-pub fn print_text_refusal(
+pub(crate) fn print_text_refusal(
     alloc: Global,
     head: &[u8],
     refusal: &TextRefusal,
@@ -23,7 +23,10 @@ pub fn print_text_refusal(
 }
 
 /// Prints the line that says which line of a session or a journal is refused.
-pub fn print_line_refusal(alloc: Global, refusal: &RecordRefusal) -> Result<Vec<u8>, AllocError>
+pub(crate) fn print_line_refusal(
+    alloc: Global,
+    refusal: &RecordRefusal,
+) -> Result<Vec<u8>, AllocError>
     requires { IsOfLines refusal.now }
     ensures { IfOk result (λ line. line.items ≡ codes "refused: " ++ line_refusal refusal.now ++ codes "\n") }
 {
