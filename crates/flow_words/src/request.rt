@@ -39,7 +39,7 @@ pub struct Request {
     pub workers: u32,
     /// What a workflow is generated from.
     pub seed: u32,
-    /// How large a generated workflow is.
+    /// How many blocks of eight events a generated workflow has.
     pub size: u32,
 }
 
