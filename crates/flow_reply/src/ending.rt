@@ -21,7 +21,10 @@ pub(crate) fn print_word(alloc: Global, word: &str) -> Result<String, AllocError
 }
 
 /// Prints what came of a `rewind`.
-pub fn print_rewind(alloc: Global, came: Result<u32, RewindRefusal>) -> Result<String, AllocError>
+pub(crate) fn print_rewind(
+    alloc: Global,
+    came: Result<u32, RewindRefusal>,
+) -> Result<String, AllocError>
     ensures { IfOk result (λ text. string_bytes text ≡ rewind_text came) }
 {
     match came {
@@ -33,7 +36,10 @@ pub fn print_rewind(alloc: Global, came: Result<u32, RewindRefusal>) -> Result<S
 }
 
 /// Prints what came of a `commit`.
-pub fn print_commit(alloc: Global, came: Result<(), CommitRefusal>) -> Result<String, AllocError>
+pub(crate) fn print_commit(
+    alloc: Global,
+    came: Result<(), CommitRefusal>,
+) -> Result<String, AllocError>
     ensures { IfOk result (λ text. string_bytes text ≡ commit_text came) }
 {
     match came {

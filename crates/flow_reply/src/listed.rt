@@ -11,7 +11,11 @@ use flow_record::push_numbers;
 use std::alloc::{AllocError, Global};
 
 /// Prints a word, and the numbers after it.
-pub fn print_numbers(alloc: Global, word: &str, numbers: &[u32]) -> Result<String, AllocError>
+pub(crate) fn print_numbers(
+    alloc: Global,
+    word: &str,
+    numbers: &[u32],
+) -> Result<String, AllocError>
     ensures { IfOk result (λ text. string_bytes text ≡ numbers_text word.now numbers.now) }
 {
     let mut text = format!(in alloc; "{word}")?;
@@ -30,7 +34,7 @@ fn list_where(list: &mut Vec<u32>, number: u32, is_told: bool) -> Result<(), All
 }
 
 /// The leaves that can act, rising.
-pub fn enabled(alloc: Global, core: &Core) -> Result<Vec<u32>, AllocError>
+pub(crate) fn enabled(alloc: Global, core: &Core) -> Result<Vec<u32>, AllocError>
     ensures { IfOk result (λ leaves. AreJust (CanAct core.now) leaves.items) }
 {
     let mut leaves = Vec::new(alloc);
@@ -52,7 +56,7 @@ fn left(alloc: Global, core: &Core) -> Result<Vec<u32>, AllocError>
 }
 
 /// Prints the leaves that wait where the run is stuck, rising.
-pub fn print_stuck_at(alloc: Global, core: &Core) -> Result<String, AllocError>
+pub(crate) fn print_stuck_at(alloc: Global, core: &Core) -> Result<String, AllocError>
     requires { IsStuck (schema core.now) (now core.now) }
     ensures { IfOk result (λ text. IsStuckText core.now (string_bytes text)) }
 {
@@ -60,7 +64,7 @@ pub fn print_stuck_at(alloc: Global, core: &Core) -> Result<String, AllocError>
 }
 
 /// Prints the leaves that wait, rising: none where the run is not stuck.
-pub fn print_stuck(alloc: Global, core: &Core) -> Result<String, AllocError>
+pub(crate) fn print_stuck(alloc: Global, core: &Core) -> Result<String, AllocError>
     ensures { IfOk result (λ text. IsStuckText core.now (string_bytes text)) }
 {
     match core.next() {
@@ -70,7 +74,7 @@ pub fn print_stuck(alloc: Global, core: &Core) -> Result<String, AllocError>
 }
 
 /// The facts that hold now, by their numbers.
-pub fn held(alloc: Global, core: &Core) -> Result<Vec<u32>, AllocError>
+pub(crate) fn held(alloc: Global, core: &Core) -> Result<Vec<u32>, AllocError>
     ensures { IfOk result (λ facts. AreJust (HoldsNow core.now) facts.items) }
 {
     // both together tell that no fact past the count holds

@@ -8,7 +8,7 @@ use flow_core::{FailEffect, PostRefusal};
 use std::alloc::{AllocError, Global};
 
 /// Prints what came of a `done`.
-pub fn print_done(
+pub(crate) fn print_done(
     alloc: Global,
     claim: u32,
     came: Result<(), PostRefusal>,
@@ -22,7 +22,7 @@ pub fn print_done(
 }
 
 /// Prints what came of a `fail`.
-pub fn print_fail(
+pub(crate) fn print_fail(
     alloc: Global,
     claim: u32,
     came: Result<FailEffect, PostRefusal>,

@@ -62,7 +62,11 @@ fn journal_of(core: &Core) -> &[u32]
 }
 
 /// Prints a verdict.
-pub fn print_verdict(alloc: Global, core: &Core, verdict: &Verdict) -> Result<String, AllocError>
+pub(crate) fn print_verdict(
+    alloc: Global,
+    core: &Core,
+    verdict: &Verdict,
+) -> Result<String, AllocError>
     ensures { IfOk result (λ text. IsVerdictText core.now verdict.now (string_bytes text)) }
 {
     match verdict {

@@ -13,7 +13,7 @@ use flow_workflow::Workflow;
 use std::alloc::{AllocError, Global};
 
 /// Prints what the run can do next.
-pub fn show_next(alloc: Global, core: &Core) -> Result<String, AllocError>
+pub(crate) fn show_next(alloc: Global, core: &Core) -> Result<String, AllocError>
     ensures { IfOk result (λ text. IsReply core.now command.Next Shown (string_bytes text)) }
 {
     match core.next() {
@@ -26,21 +26,21 @@ pub fn show_next(alloc: Global, core: &Core) -> Result<String, AllocError>
 }
 
 /// Prints the leaves that can act.
-pub fn show_enabled(alloc: Global, core: &Core) -> Result<String, AllocError>
+pub(crate) fn show_enabled(alloc: Global, core: &Core) -> Result<String, AllocError>
     ensures { IfOk result (λ text. IsReply core.now command.Enabled Shown (string_bytes text)) }
 {
     print_numbers(alloc, "enabled", &enabled(alloc, core)?)
 }
 
 /// Prints the leaves of the journal.
-pub fn show_journal(alloc: Global, core: &Core) -> Result<String, AllocError>
+pub(crate) fn show_journal(alloc: Global, core: &Core) -> Result<String, AllocError>
     ensures { IfOk result (λ text. IsReply core.now command.Journal Shown (string_bytes text)) }
 {
     print_numbers(alloc, "journal", core.journal())
 }
 
 /// Prints the facts that hold now.
-pub fn show_facts(alloc: Global, core: &Core) -> Result<Vec<u8>, AllocError>
+pub(crate) fn show_facts(alloc: Global, core: &Core) -> Result<Vec<u8>, AllocError>
     ensures { IfOk result (λ text. IsReply core.now command.Facts Shown text.items) }
 {
     let facts = held(alloc, core)?;

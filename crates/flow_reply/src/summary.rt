@@ -26,6 +26,7 @@ pub struct Summary {
     pub options: u64,
     pub resolutions: u64,
     pub seed: u64,
+    /// How many blocks of eight events the workflow has.
     pub size: u64,
     pub verdict: Verdict,
 }
