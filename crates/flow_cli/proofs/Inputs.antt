@@ -19,7 +19,7 @@ use Rattle.flow_io.specs.declared.failure.ReadRefusal.TheVariants.{ReadFault, To
 use Rattle.flow_cli.specs.declared.output.Output.{Output}
 use Rattle.flow_cli.specs.declared.status.Status.{Status}
 use Rattle.flow_cli.specs.Refusals.{Tells}
-use Rattle.flow_cli.specs.Output.{greatest_input, WritesFor, WritesRead, WritesIn, IsOfInput, IsNotRead, IsOutcome}
+use Rattle.flow_cli.specs.Output.{WritesFor, WritesRead, WritesIn, IsOfInput, IsNotRead, IsOutcome}
 use Rattle.flow_cli.proofs.Statuses.{input_whole}
 
 module _ (P : Said → List ℕ → Status → List ℕ → Type 0) where
@@ -44,7 +44,7 @@ module _ (P : Said → List ℕ → Status → List ℕ → Type 0) where
   })
 
   read_whole : (all left : Option (List ℕ)) (bytes slice : List ℕ) (status : Status) (output : List ℕ) → IsAllOf all left bytes → slice ≡ bytes →
-      length slice ≤ greatest_input → WritesFor P slice status output → WritesIn P all status output × IfSome all (λ _. left ≡ Some [])
+      length slice ≤ GREATEST_INPUT → WritesFor P slice status output → WritesIn P all status output × IfSome all (λ _. left ≡ Some [])
   read_whole None left bytes slice status output whole same short w = (inr tt, tt)
   read_whole (Some input) left bytes slice status output whole same short w =
       (inr (subst (λ (i : List ℕ). WritesRead P i status output) (same ∙ whole.0) (inr (short, w))), whole.1)
@@ -52,7 +52,7 @@ module _ (P : Said → List ℕ → Status → List ℕ → Type 0) where
   module _ (all left : Option (List ℕ)) (faults faults' : ℕ) where
     -- a source that was read
     pub when_read : {T : Type 0} (input : T) (bytes slice : List ℕ) (result : Result Output AllocError) → IsAllOf all left bytes →
-        (IsErrOf {T = T} {E = ReadRefusal} (Ok input) ReadFault ↔ (faults < faults')) → slice ≡ bytes → length slice ≤ greatest_input →
+        (IsErrOf {T = T} {E = ReadRefusal} (Ok input) ReadFault ↔ (faults < faults')) → slice ≡ bytes → length slice ≤ GREATEST_INPUT →
         IfOk result (λ output. WritesFor P slice output.status output.text.items) → IfOk result (λ output. IsOfInput output.status) →
         IfOk result (λ output. IsOutcome (WritesIn P all) (Unit {0}) all left faults faults' output.status output.text.items)
     when_read {T} input bytes slice (Err e) whole fault same short w is = tt

@@ -27,10 +27,6 @@ use Rattle.flow_cli.specs.Running.{Runs}
 use Rattle.flow_cli.specs.Tracing.{TracesText}
 use Rattle.flow_cli.specs.Verifying.{VerifiesText}
 
--- the greatest number of bytes that are read
-abbrev pub greatest_input : ℕ
-greatest_input = GREATEST_INPUT
-
 -- the text of the workflow in an input
 abbrev pub workflow_part : List ℕ → List ℕ
 workflow_part input = take (cut_of input).0 input
@@ -41,7 +37,7 @@ second_part input = drop (cut_of input).1 input
 
 -- the input has more bytes than are read
 pub record IsTooLong (input : List ℕ) (status : Status) (output : List ℕ) : Type 0 where
-  pub long : greatest_input < length input
+  pub long : GREATEST_INPUT < length input
   pub told : Tells [] refused.TooLong status output
 
 -- the text of the workflow says nothing, and the output is the first reason
@@ -64,7 +60,7 @@ WritesFor P input status output = IsTextRefused input status output ⊎ IsAnswer
 -- what is written for an input that was read
 abbrev pub WritesRead : (Said → List ℕ → Status → List ℕ → Type 0) → List ℕ → Status → List ℕ → Type 0
 WritesRead P input status output =
-    IsTooLong input status output ⊎ ((length input ≤ greatest_input) × WritesFor P input status output)
+    IsTooLong input status output ⊎ ((length input ≤ GREATEST_INPUT) × WritesFor P input status output)
 
 -- what is written where a source is read that may fail, and that tells its bytes or does not
 abbrev pub WritesIn : (Said → List ℕ → Status → List ℕ → Type 0) → Option (List ℕ) → Status → List ℕ → Type 0

@@ -81,8 +81,8 @@ fn respond<R: Threads + Wait + Sync, S: Source, G: Gate>(
 }
 
 /// The program: reads a workflow from the source, with a session, a query or a journal after it as the mode
-/// asks, and writes to the sink what comes of it. Want of memory may stand in place of every status but a write
-/// fault.
+/// asks, or generates one in `gen` and `large`, and writes to the sink what comes of it. Want of memory may stand
+/// in place of every status but a write fault.
 pub fn flow<R: Threads + Wait + Sync, S: Source, K: Sink, G: Gate>(
     rt: &R,
     alloc: Global,

@@ -16,9 +16,9 @@ use std::alloc::{AllocError, Global};
 
 /// What is written, and the status that goes with it.
 #[derive(Drop)]
-pub struct Output {
-    pub status: Status,
-    pub text: Vec<u8>,
+pub(crate) struct Output {
+    pub(crate) status: Status,
+    pub(crate) text: Vec<u8>,
 }
 
 /// The status where a workflow is not compiled.
@@ -52,7 +52,7 @@ fn status_of(refused: &Refused) -> Status
 }
 
 /// A refusal as output, the events by the names that the script declares.
-pub fn refuse(
+pub(crate) fn refuse(
     alloc: Global,
     refused: Refused,
     script: Option<&Script>,
@@ -70,7 +70,7 @@ pub fn refuse(
 }
 
 /// Why a script is not expanded, as output.
-pub fn refuse_script(
+pub(crate) fn refuse_script(
     alloc: Global,
     refusal: ExpandRefusal,
     script: &Script,
@@ -85,7 +85,7 @@ pub fn refuse_script(
 }
 
 /// Why a workflow is not compiled, as output.
-pub fn refuse_workflow(alloc: Global, refusal: CompileRefusal) -> Result<Output, AllocError>
+pub(crate) fn refuse_workflow(alloc: Global, refusal: CompileRefusal) -> Result<Output, AllocError>
     ensures { IfOk result (λ output. (w : Definition) → IsRefused (schema_of w) refusal → IsNotCompiled w output.status output.text.items) }
 {
     match refusal {

@@ -2,7 +2,7 @@
 ghost use Rattle.std.specs.Prelude.{◌<◌, ◌≤◌, ◌-◌, ◌^◌, length, IfOk};
 ghost use Rattle.flow_form.specs.Script.{said};
 ghost use Rattle.flow_form.specs.Names.{IsClosed};
-ghost use Rattle.flow_cli.specs.Output.{greatest_input, WritesFor, WritesIn, IsOfInput, IsNotRead, IsOutcome};
+ghost use Rattle.flow_cli.specs.Output.{WritesFor, WritesIn, IsOfInput, IsNotRead, IsOutcome};
 
 use crate::output::{Output, refuse};
 use flow_findings::Refused;
@@ -30,7 +30,7 @@ pub(crate) trait ScriptMode {
 
 /// What is written for an input.
 fn answer_input<M: ScriptMode>(alloc: Global, mode: &M, input: &[u8]) -> Result<Output, AllocError>
-    requires { length input.now ≤ greatest_input }
+    requires { length input.now ≤ GREATEST_INPUT }
     ensures writes { IfOk result (λ output. WritesFor (M.writes mode.now) input.now output.status output.text.items) }
     ensures of_input { IfOk result (λ output. IsOfInput output.status) }
 {

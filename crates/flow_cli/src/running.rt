@@ -4,7 +4,7 @@ ghost use Rattle.flow_form.specs.Script.{said};
 ghost use Rattle.flow_form.specs.Names.{IsClosed};
 ghost use Rattle.flow_workflow.specs.Definition.{schema_of};
 ghost use Rattle.flow_plan.specs.Compilation.{IsCompiled};
-ghost use Rattle.flow_cli.specs.Output.{greatest_input, WritesFor, WritesIn, IsOfInput, IsOutcome};
+ghost use Rattle.flow_cli.specs.Output.{WritesFor, WritesIn, IsOfInput, IsOutcome};
 ghost use Rattle.flow_cli.specs.Running.{IsCrew, verdict_of, IsRunOf, Reports, RunsWorkflow, Runs};
 
 use crate::compiling::compile_workflow;
@@ -115,7 +115,7 @@ impl<'a, R: Threads + Wait + Sync, G: Gate> RunMode<'a, R, G> {
 
     /// Runs what an input says.
     fn run_input(&self, alloc: Global, input: &[u8]) -> Result<Output, AllocError>
-        requires { length input.now ≤ greatest_input }
+        requires { length input.now ≤ GREATEST_INPUT }
         ensures writes { IfOk result (λ output. WritesFor (λ s text st o. Runs G.gives s self.now.steps self.now.workers st o) input.now
             output.status output.text.items) }
         ensures of_input { IfOk result (λ output. IsOfInput output.status) }

@@ -63,7 +63,7 @@ fn reply_to_all(alloc: Global, core: &mut Core, commands: &[Command]) -> Result<
 }
 
 /// What the run came to.
-pub fn verdict_of(core: &Core) -> Verdict
+pub(crate) fn verdict_of(core: &Core) -> Verdict
     ensures verdict { Means core.now result (drive_verdict (schema core.now) core.now.limit core.now.history) }
     ensures lawful { IsLawful (schema core.now) core.now.limit core.now.history }
 {
@@ -102,7 +102,7 @@ fn record(alloc: Global, core: &mut Core, commands: &[Command]) -> Result<Output
 }
 
 /// Drives a compiled workflow by the commands, in so many steps at most.
-pub fn drive_compiled(
+pub(crate) fn drive_compiled(
     alloc: Global,
     workflow: Workflow,
     compiled: Compiled,

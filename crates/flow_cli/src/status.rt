@@ -5,10 +5,10 @@ ghost use Rattle.flow_cli.specs.Code.{code_of};
 #[derive(Clone, Copy)]
 pub enum Status {
     /// The run is committed, some execution meets the constraints, the property holds, the constraint follows
-    /// from the others, or the journal is an execution.
+    /// from the others, the journal is an execution, or a workflow was generated.
     Fine,
-    /// The run is not over, no execution meets the constraints, some execution breaks the property or the
-    /// constraint, or the journal is no execution.
+    /// The run is not over, is stuck or has no other choice, no execution meets the constraints, some execution
+    /// breaks the property or the constraint, or the journal is no execution.
     No,
     /// The words are no call of the program.
     Words,

@@ -1,5 +1,6 @@
 -- What `run` writes of a workflow in which every task succeeds.
 use Rattle.std.specs.Prelude.{◌≡◌, ◌≤◌, ◌+◌, ◌*◌, ℕ, Bool, List, length, Some}
+use Rattle.flow_model.specs.declared.limits.TheConstants.{GREATEST_INPUT}
 use Rattle.flow_model.specs.declared.history.Call.{Call}
 use Rattle.flow_model.specs.declared.history.Entry.{Entry}
 use Rattle.flow_model.specs.declared.history.Outcome.{Outcome}
@@ -21,11 +22,11 @@ use Rattle.flow_words.specs.Words.{IsCall}
 use Rattle.flow_cli.specs.declared.status.Status.{Status}
 use Rattle.flow_cli.specs.declared.status.Status.TheVariants.{Fine, ReadFault}
 use Rattle.flow_cli.specs.Running.{IsRunOf}
-use Rattle.flow_cli.specs.Output.{greatest_input, workflow_part, Writes}
+use Rattle.flow_cli.specs.Output.{workflow_part, Writes}
 
 -- the input is not too long, and the workflow is the one that it says
 pub record IsInputOf (w : Definition) (input : List ℕ) : Type 0 where
-  pub short : length input ≤ greatest_input
+  pub short : length input ≤ GREATEST_INPUT
   pub said : Said
   pub says : Says (workflow_part input) said
   pub expanded : IsExpanded said w
