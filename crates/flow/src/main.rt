@@ -1,6 +1,7 @@
-//! `flow` on the standard streams: `flow check` reads a workflow and says whether its constraints can be
-//! met; `flow drive` reads a workflow and a session, and writes the replies and the report; `flow run` lets
-//! workers run a workflow, whose tasks end as their events announce.
+//! `flow` on the standard streams, in seven modes. Of a workflow that is read `check` says whether its constraints
+//! can be met, `verify` whether a property holds in all its executions, and `trace` whether a journal is one of
+//! them; `drive` drives it by a session, and `run` lets workers run it, whose tasks end as their events announce.
+//! `gen` writes a generated workflow, and `large` lets workers run one.
 #![tactic(auto)]
 
 use flow_cli::{Status, flow};
