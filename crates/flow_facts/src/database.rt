@@ -45,6 +45,7 @@ impl Database {
         self.count
     }
 
+    /// Whether the fact is in the set.
     pub fn has(&self, fact: u32) -> bool
         requires { fact < length self.now }
         ensures { result ≡ is_held self.now fact }

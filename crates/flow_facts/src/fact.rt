@@ -44,6 +44,7 @@ fn mark_of(relation: &Name, args: &[Const]) -> u64
 }
 
 impl Fact {
+    /// The relation of these arguments.
     pub fn new(relation: Name, args: Vec<Const>) -> Fact
         ensures relation { result.relation ≡ relation }
         ensures args { result.args ≡ args.items }
@@ -70,18 +71,21 @@ impl Fact {
         })
     }
 
+    /// A number in which most facts differ. Equal facts have the same, and facts are ordered by it before their parts.
     pub fn mark(&self) -> u64
         ensures { result ≡ atom_mark self.now }
     {
         self.mark
     }
 
+    /// The name of the relation.
     pub fn relation(&self) -> &Name
         ensures { result.now ≡ self.now.relation }
     {
         &self.relation
     }
 
+    /// The constants that the relation is said of, in order.
     pub fn args(&self) -> &[Const]
         ensures { result.now ≡ self.now.args }
     {

@@ -47,6 +47,7 @@ impl Model for Name {
 }
 
 impl Name {
+    /// The name that is written so.
     pub fn new(alloc: Global, bytes: &[u8]) -> Result<Name, AllocError>
         ensures { IfOk result (λ name. name ≡ bytes.now) }
     {
@@ -66,12 +67,14 @@ impl Name {
         })
     }
 
+    /// A number in which most names differ. Equal names have the same, and names are ordered by it before their bytes.
     pub fn mark(&self) -> u64
         ensures { result ≡ name_mark self.now }
     {
         self.mark
     }
 
+    /// The bytes that it is written in.
     pub fn bytes(&self) -> &[u8]
         ensures { result.now ≡ self.now }
     {
