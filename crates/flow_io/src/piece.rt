@@ -1,2 +1,2 @@
 // How many bytes are moved at a time, through a buffer on the stack.
-pub const PIECE: usize = 4096;
+pub(crate) const PIECE: usize = 4096;

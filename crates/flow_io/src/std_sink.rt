@@ -13,6 +13,7 @@ pub struct StdSink<W> {
 impl<W: Write> StdSink<W> {
     ghost use Rattle.std.specs.Prelude.{◌≡◌};
 
+    /// A sink that writes behind what the writer holds. No write has failed yet.
     pub fn new(writer: W) -> StdSink<W>
         ensures held { ⟦<StdSink<W> as Sink>⟧.held result ≡ W.contents writer }
         ensures faults { ⟦<StdSink<W> as Sink>⟧.faults result ≡ 0 }

@@ -14,6 +14,7 @@ pub struct StdSource<R> {
 impl<R: Read> StdSource<R> {
     ghost use Rattle.std.specs.Prelude.{◌≡◌};
 
+    /// A source of what is left in the reader. No read has failed yet.
     pub fn new(reader: R) -> StdSource<R>
         ensures left { ⟦<StdSource<R> as Source>⟧.left result ≡ R.remaining reader }
         ensures faults { ⟦<StdSource<R> as Source>⟧.faults result ≡ 0 }
