@@ -24,6 +24,7 @@ impl Model for CutSource {
 impl CutSource {
     ghost use Rattle.std.specs.Prelude.{◌≡◌, ◌<◌};
 
+    /// A source of these bytes, of which no call gives more than `size`.
     pub fn new(bytes: Vec<u8>, size: usize) -> CutSource
         requires { 0 < size }
         ensures { result ≡ record { bytes = bytes.items; size = size } }

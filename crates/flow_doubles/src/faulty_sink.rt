@@ -25,6 +25,7 @@ impl Model for FaultySink {
 impl FaultySink {
     ghost use Rattle.std.specs.Prelude.{◌≡◌, ◌≤◌, [], IfOk, length};
 
+    /// An empty sink with room for so many bytes, which fails at the calls of these numbers.
     pub fn new(alloc: Global, room: usize, fail_at: Vec<u32>) -> Result<FaultySink, AllocError>
         ensures { IfOk result (λ s. s ≡ record {
           store = record { bytes = []; room = room; faults = 0 };
@@ -40,6 +41,7 @@ impl FaultySink {
         })
     }
 
+    /// The bytes that were written, in order.
     pub fn bytes(&self) -> &[u8]
         ensures held { result.now ≡ self.now.store.bytes }
         ensures fits { length self.now.store.bytes ≤ self.now.store.room }

@@ -25,6 +25,7 @@ impl Model for FaultySource {
 impl FaultySource {
     ghost use Rattle.std.specs.Prelude.{◌≡◌};
 
+    /// A source of these bytes, which fails at the calls of these numbers.
     pub fn new(bytes: Vec<u8>, fail_at: Vec<u32>) -> FaultySource
         ensures { result ≡ record { bytes = bytes.items; fail_at = fail_at.items; calls = 0; faults = 0 } }
     {

@@ -26,6 +26,7 @@ impl Model for MemSink {
 impl MemSink {
     ghost use Rattle.std.specs.Prelude.{◌≡◌, ◌+◌, ◌-◌, ◌^◌, ◌<◌, ◌≤◌, [], IfOk, length};
 
+    /// An empty sink with room for so many bytes.
     pub fn new(alloc: Global, room: usize) -> Result<MemSink, AllocError>
         ensures { IfOk result (λ s. s ≡ record { bytes = []; room = room; faults = 0 }) }
     {
@@ -37,6 +38,7 @@ impl MemSink {
         })
     }
 
+    /// The bytes that were written, in order.
     pub fn bytes(&self) -> &[u8]
         ensures held { result.now ≡ self.now.bytes }
         ensures fits { length self.now.bytes ≤ self.now.room }

@@ -24,6 +24,7 @@ impl Model for MemSource {
 }
 
 impl MemSource {
+    /// A source of these bytes.
     pub fn new(bytes: Vec<u8>) -> MemSource
         ensures { result ≡ bytes.items }
     {
