@@ -8,7 +8,7 @@ use flow_facts::World;
 use flow_workflow::Workflow;
 
 /// Performs the label of the leaf, if it holds now.
-pub fn perform(workflow: &Workflow, world: &mut World, leaf: u32) -> bool
+pub(crate) fn perform(workflow: &Workflow, world: &mut World, leaf: u32) -> bool
     requires leaf { leaf < length workflow.now.tree.labels }
     requires count { world.old.count ≡ length workflow.now.facts }
     requires room { length world.old.labels < world.old.room }
