@@ -9,7 +9,7 @@ const MOST_CHOICES: u32 = 6;
 
 /// How a block of eight events is made.
 #[derive(Clone, Copy)]
-pub enum Kind {
+pub(crate) enum Kind {
     /// One after another.
     Series,
     /// Four in series beside four in series.

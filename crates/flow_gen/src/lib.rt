@@ -12,7 +12,6 @@ mod texts;
 mod workflows;
 
 pub use generating::generate;
-pub use kind::Kind;
 pub use texts::law_generated_texts_are_read;
 pub use workflows::{
     law_generated_workflows_are_compiled, law_generated_workflows_are_consistent,
