@@ -20,14 +20,14 @@ pub enum Goal {
 
 /// What makes one goal of two.
 #[derive(Clone, Copy)]
-pub(crate) enum Operator {
+pub enum Operator {
     Serial,
     Beside,
     Either,
 }
 
 /// The two goals as one.
-pub(crate) fn together(
+pub fn together(
     alloc: Global,
     operator: Operator,
     left: Goal,

@@ -20,7 +20,7 @@ pub use choiceless::Choiceless;
 pub use choices::{Choices, resolutions, resolve};
 pub use events::twice;
 pub use flow_model::{Label, Note};
-pub use goal::Goal;
+pub use goal::{Goal, Operator, together};
 pub use node::Node;
 pub use repeats::Twice;
 pub use simple::simplify;
