@@ -11,16 +11,17 @@ use Rattle.flow_model.specs.declared.labels.Label.TheVariants.{Event, Test, Abse
 use Rattle.flow_model.specs.Process.{Process, Empty, Task, Isolated, IsNumbered, leaves}
 use Rattle.flow_facts.specs.Atom.{Atom, atom_eq}
 use Rattle.flow_facts.specs.Same.{atom_eq-Decides}
+use Rattle.flow_goal.specs.declared.goal.Operator.{Operator}
+use Rattle.flow_goal.specs.Goal.{together}
 use Rattle.flow_workflow.specs.Indexed.{IsAdded}
 use Rattle.std.proofs.lemmas.Option.{slice_get-get_or}
 use Rattle.flow_workflow.proofs.FirstPlaces.{place_in, within}
 use Rattle.flow_expand.specs.Numbers.{with_fact, fact_number, facts_in, labels_of, leaf_count, numbered, firsts, declared_facts, facts_of, labelled_of, notes_of}
 use Rattle.flow_expand.specs.declared.layout.Deed.{Deed}
-use Rattle.flow_expand.specs.declared.layout.Pairing.{Pairing}
 use Rattle.flow_expand.specs.declared.building.Leaves.{Leaves}
 use Rattle.flow_expand.specs.Expansion.{Expansion, nothing, happens, holds, lacks, adds, takes, in_turn, at_once, one_of, alone, ends_in}
 use Rattle.flow_expand.specs.Layout.{paired, fact_leaf, label_of, IsPlaced, placed_nothing, placed_event, placed_fact, placed_pair, placed_alone}
-use Rattle.flow_expand.specs.Built.{HasRoom, IsBuilt, paired_process, IsBuildable, IsBuiltAt}
+use Rattle.flow_expand.specs.Built.{HasRoom, IsBuilt, IsBuildable, IsBuiltAt}
 use Rattle.flow_expand.specs.declared.layout.Piece.{Piece}
 use Rattle.flow_expand.specs.declared.layout.Piece.TheVariants as piece
 use Rattle.flow_expand.proofs.Members.{mem_left, mem_right, any_member, member_any, mem_at}
@@ -224,9 +225,9 @@ module _ (events : List (List ℕ)) (a b : Expansion) (old middle new : Leaves) 
   both_numbered : right ≡ numbered (length old.labels.items + leaf_count a) b
   both_numbered = second.process ∙ ap (λ n. numbered n b) (labels_after events a old middle left first)
 
-  pub built_both : (by : Pairing) (whole : Process) → whole ≡ paired_process by left right → IsBuilt events (paired by a b) old new whole
+  pub built_both : (by : Operator) (whole : Process) → whole ≡ together by left right → IsBuilt events (paired by a b) old new whole
   built_both by whole is = record {
-    process = is ∙ (λ i. paired_process by (first.process i) (both_numbered i)) ∙ sym (kind.numbers (length old.labels.items));
+    process = is ∙ (λ i. together by (first.process i) (both_numbered i)) ∙ sym (kind.numbers (length old.labels.items));
     facts = both_facts ∙ sym (ap (fold with_fact old.facts) kind.facts);
     labels = both_labels ∙ sym (ap (λ l. old.labels.items ++ l) (kind.labels events new.facts));
   }
@@ -246,7 +247,7 @@ module _ (layout : List Piece) (i : ℕ) where
   -- two goals together
 
   -- both lie below the piece, and the first is to be built
-  pub buildable_first : (by : Pairing) (j k : ℕ) (leaves : Leaves) → IsBuildable layout i leaves → slice_get layout i ≡ Some (piece.Pair by j k) → (j < i) × (k < i) × IsBuildable layout j leaves
+  pub buildable_first : (by : Operator) (j k : ℕ) (leaves : Leaves) → IsBuildable layout i leaves → slice_get layout i ≡ Some (piece.Pair by j k) → (j < i) × (k < i) × IsBuildable layout j leaves
   buildable_first by j k leaves h at =
       let (a, b, is, l, m, (x, y)) = goal_of layout h.events i (piece.Pair by j k) h.expansion at h.placed in (
         l,
@@ -261,7 +262,7 @@ module _ (layout : List Piece) (i : ℕ) where
       )
 
   -- and then the second
-  pub buildable_second : (by : Pairing) (j k : ℕ) (old middle : Leaves) (left : Process) → IsBuildable layout i old → slice_get layout i ≡ Some (piece.Pair by j k) →
+  pub buildable_second : (by : Operator) (j k : ℕ) (old middle : Leaves) (left : Process) → IsBuildable layout i old → slice_get layout i ≡ Some (piece.Pair by j k) →
       IsBuiltAt layout j old middle left → IsBuildable layout k middle
   buildable_second by j k old middle left h at built =
       let (a, b, is, l, m, (x, y)) = goal_of layout h.events i (piece.Pair by j k) h.expansion at h.placed in
@@ -273,8 +274,8 @@ module _ (layout : List Piece) (i : ℕ) where
         room = room_after h.events a (leaf_count b) old middle left (built h.events a h.distinct x) (subst (HasRoom old) (ap leaf_count is ∙ (pair_kind by a b).leaves) h.room);
       }
 
-  pub built_pair_at : (by : Pairing) (j k : ℕ) (old middle new : Leaves) (left right goal : Process) → slice_get layout i ≡ Some (piece.Pair by j k) →
-      IsBuiltAt layout j old middle left → IsBuiltAt layout k middle new right → goal ≡ paired_process by left right → IsBuiltAt layout i old new goal
+  pub built_pair_at : (by : Operator) (j k : ℕ) (old middle new : Leaves) (left right goal : Process) → slice_get layout i ≡ Some (piece.Pair by j k) →
+      IsBuiltAt layout j old middle left → IsBuiltAt layout k middle new right → goal ≡ together by left right → IsBuiltAt layout i old new goal
   built_pair_at by j k old middle new left right goal at first second same = λ events e d s.
       let (a, b, is, l, m, (x, y)) = goal_of layout events i (piece.Pair by j k) e at s in
       built_as events e (paired by a b) old new goal is (built_both events a b old middle new left right (first events a d x) (second events b d y) by goal same)

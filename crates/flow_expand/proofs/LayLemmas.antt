@@ -8,26 +8,26 @@ use Rattle.flow_model.specs.Process.{Task}
 use Rattle.flow_model.specs.Lists.{◌∈◌, Begins, Each}
 use Rattle.flow_laws.proofs.Shuffles.{of_shuffle}
 use Rattle.flow_facts.specs.Atom.{Atom}
+use Rattle.flow_goal.specs.declared.goal.Operator.{Operator}
+use Rattle.flow_goal.specs.declared.goal.Operator.TheVariants as how
+use Rattle.flow_goal.specs.Goal.{together}
 use Rattle.flow_workflow.proofs.Places.{at_end}
 use Rattle.flow_form.specs.declared.form.Form.{Form}
 use Rattle.flow_form.specs.Form.{Shape, Shapes, shapes, shape_of, no_more, named, iso}
 use Rattle.flow_form.specs.Script.{Declared}
 use Rattle.flow_form.specs.Names.{event_names, declared_names}
 use Rattle.flow_expand.specs.declared.layout.Deed.{Deed}
-use Rattle.flow_expand.specs.declared.layout.Pairing.{Pairing}
 use Rattle.flow_expand.specs.declared.layout.Piece.{Piece}
 use Rattle.flow_expand.specs.declared.layout.Root.{Root}
 use Rattle.flow_expand.specs.Expansion.{Expansion, nothing, happens, alone, ends_in, isolations_in, capped, sizes_of, joined, Becomes, AllBecome, none_becomes, more_become, becomes_flow, becomes_iso, becomes_serial, becomes_beside, becomes_either}
 use Rattle.flow_expand.specs.Numbers.{facts_in, fact_number, labels_of, leaf_count, numbered}
 use Rattle.flow_expand.specs.Layout.{IsPlaced, placed_nothing, placed_event, placed_fact, placed_pair, placed_alone, IsPlain, IsRoot, paired, fact_leaf, label_of}
-use Rattle.flow_expand.specs.Built.{paired_process}
 use Rattle.flow_expand.specs.declared.directory.Directory.{Directory}
 use Rattle.flow_expand.specs.declared.lay.Stage.{Stage}
 use Rattle.flow_expand.specs.Steps.{flows_of}
 use Rattle.flow_expand.specs.Directory.{IsDirectory, decls_of, found_in}
 use Rattle.flow_expand.specs.Laid.{Goes, ListGoes, IsFront, IsLaid, IsLaidAt, IsReady, list_shape}
 use Rattle.flow_expand.specs.declared.layout.Deed.TheVariants as deed
-use Rattle.flow_expand.specs.declared.layout.Pairing.TheVariants as how
 use Rattle.flow_expand.specs.declared.layout.Piece.TheVariants as piece
 use Rattle.flow_expand.specs.declared.lay.Stage.TheVariants as stage
 use Rattle.flow_expand.proofs.Members.{get_left, mem_at}
@@ -47,14 +47,14 @@ fact_kind deed.Ins = record { sizes = λ a. refl; facts = λ a. refl; labels = �
 fact_kind deed.Del = record { sizes = λ a. refl; facts = λ a. refl; labels = λ events facts a. refl; task = λ next a. refl }
 
 -- two goals together, however they are
-pub record ArePaired (by : Pairing) (a b : Expansion) : Type 0 where
+pub record ArePaired (by : Operator) (a b : Expansion) : Type 0 where
   pub sizes : sizes_of (paired by a b) ≡ record { ends = capped (ends_in a + ends_in b); isolations = capped (isolations_in a + isolations_in b) }
   pub facts : facts_in (paired by a b) ≡ facts_in a ++ facts_in b
   pub labels : (events : List (List ℕ)) (facts : List Atom) → labels_of events facts (paired by a b) ≡ labels_of events facts a ++ labels_of events facts b
   pub leaves : leaf_count (paired by a b) ≡ leaf_count a + leaf_count b
-  pub numbers : (next : ℕ) → numbered next (paired by a b) ≡ paired_process by (numbered next a) (numbered (next + leaf_count a) b)
+  pub numbers : (next : ℕ) → numbered next (paired by a b) ≡ together by (numbered next a) (numbered (next + leaf_count a) b)
 
-pub pair_kind : (by : Pairing) (a b : Expansion) → ArePaired by a b
+pub pair_kind : (by : Operator) (a b : Expansion) → ArePaired by a b
 pair_kind how.Serial a b = record { sizes = refl; facts = refl; labels = λ events facts. refl; leaves = refl; numbers = λ next. refl }
 pair_kind how.Beside a b = record { sizes = refl; facts = refl; labels = λ events facts. refl; leaves = refl; numbers = λ next. refl }
 pair_kind how.Either a b = record { sizes = refl; facts = refl; labels = λ events facts. refl; leaves = refl; numbers = λ next. refl }
@@ -139,7 +139,7 @@ module _ (old : List Piece) (p : Piece) (i : ℕ) (at : i ≡ length old) (event
   still : (root : Root) (e : Expansion) → IsRoot old events e root → IsPlaced (old ++ p ∷ []) events e root.place
   still root e h = placed_more old (p ∷ []) events e root.place h.placed
 
-pub joined_root : (old new : List Piece) (by : Pairing) (left right whole : Root) → new ≡ old ++ piece.Pair by left.place right.place ∷ [] → whole.place ≡ length old →
+pub joined_root : (old new : List Piece) (by : Operator) (left right whole : Root) → new ≡ old ++ piece.Pair by left.place right.place ∷ [] → whole.place ≡ length old →
     whole.size ≡ record { ends = capped (left.size.ends + right.size.ends); isolations = capped (left.size.isolations + right.size.isolations) } →
     (events : List (List ℕ)) (a b : Expansion) → IsRoot old events a left → IsRoot old events b right → IsRoot new events (paired by a b) whole
 joined_root old new by left right whole grown at size events a b x y = record {
@@ -182,7 +182,7 @@ goes_more decls old new s root grown h = record {
   is_root = root_more old new (event_names decls) h.expansion root grown h.is_root;
 }
 
-pub list_more : (decls : List Declared) (old new : List Piece) (by : Pairing) (ss : List Shape) (root : Root) → Begins new old → ListGoes decls old by ss root → ListGoes decls new by ss root
+pub list_more : (decls : List Declared) (old new : List Piece) (by : Operator) (ss : List Shape) (root : Root) → Begins new old → ListGoes decls old by ss root → ListGoes decls new by ss root
 list_more decls old new by ss root grown h = record {
   first = h.first;
   more = h.more;
@@ -190,7 +190,7 @@ list_more decls old new by ss root grown h = record {
   is_root = root_more old new (event_names decls) (fold (paired by) h.first h.more) root grown h.is_root;
 }
 
-pub front_more : (decls : List Declared) (old new : List Piece) (by : Pairing) (ss : List Shape) (before : Option Root) → Begins new old → IsFront decls old by ss before → IsFront decls new by ss before
+pub front_more : (decls : List Declared) (old new : List Piece) (by : Operator) (ss : List Shape) (before : Option Root) → Begins new old → IsFront decls old by ss before → IsFront decls new by ss before
 front_more decls old new by ss None grown h = h
 front_more decls old new by ss (Some root) grown h = list_more decls old new by ss root grown h
 
@@ -217,7 +217,7 @@ all_more decls [] (f ∷ es) s e x b = elim x [ ]
 all_more decls (t ∷ ss) [] s e x b = elim x [ ]
 all_more decls (t ∷ ss) (f ∷ es) s e (more_become c all) b = more_become c (all_more decls ss es s e all b)
 
-pub next_first : (decls : List Declared) (layout : List Piece) (by : Pairing) (ss : List Shape) (s : Shape) (root : Root) → ss ≡ [] → Goes decls layout s root → ListGoes decls layout by (ss ++ s ∷ []) root
+pub next_first : (decls : List Declared) (layout : List Piece) (by : Operator) (ss : List Shape) (s : Shape) (root : Root) → ss ≡ [] → Goes decls layout s root → ListGoes decls layout by (ss ++ s ∷ []) root
 next_first decls layout by ss s root none h = record {
   first = h.expansion;
   more = [];
@@ -225,7 +225,7 @@ next_first decls layout by ss s root none h = record {
   is_root = h.is_root;
 }
 
-pub next_more : (decls : List Declared) (old new : List Piece) (by : Pairing) (ss : List Shape) (s : Shape) (left root whole : Root) → ListGoes decls old by ss left → Goes decls old s root →
+pub next_more : (decls : List Declared) (old new : List Piece) (by : Operator) (ss : List Shape) (s : Shape) (left root whole : Root) → ListGoes decls old by ss left → Goes decls old s root →
     ((events : List (List ℕ)) (a b : Expansion) → IsRoot old events a left → IsRoot old events b root → IsRoot new events (paired by a b) whole) →
     ListGoes decls new by (ss ++ s ∷ []) whole
 next_more decls old new by ss s left root whole h g put = record {
@@ -236,19 +236,19 @@ next_more decls old new by ss s left root whole h g put = record {
       (put (event_names decls) (fold (paired by) h.first h.more) g.expansion h.is_root g.is_root);
 }
 
-becomes_list : (decls : List Declared) (by : Pairing) (ss : Shapes) (es : List Expansion) → AllBecome decls ss es → Becomes decls (list_shape by ss) (joined (paired by) es)
+becomes_list : (decls : List Declared) (by : Operator) (ss : Shapes) (es : List Expansion) → AllBecome decls ss es → Becomes decls (list_shape by ss) (joined (paired by) es)
 becomes_list decls how.Serial ss es h = becomes_serial h
 becomes_list decls how.Beside ss es h = becomes_beside h
 becomes_list decls how.Either ss es h = becomes_either h
 
-pub end_some : (decls : List Declared) (layout : List Piece) (by : Pairing) (ss : List Shape) (root : Root) → ListGoes decls layout by ss root → Goes decls layout (list_shape by (shapes ss)) root
+pub end_some : (decls : List Declared) (layout : List Piece) (by : Operator) (ss : List Shape) (root : Root) → ListGoes decls layout by ss root → Goes decls layout (list_shape by (shapes ss)) root
 end_some decls layout by ss root h = record {
   expansion = fold (paired by) h.first h.more;
   becomes = becomes_list decls by (shapes ss) (h.first ∷ h.more) h.become;
   is_root = h.is_root;
 }
 
-pub end_none : (decls : List Declared) (layout : List Piece) (by : Pairing) (ss : List Shape) (root : Root) → ss ≡ [] → IsRoot layout (event_names decls) nothing root → Goes decls layout (list_shape by (shapes ss)) root
+pub end_none : (decls : List Declared) (layout : List Piece) (by : Operator) (ss : List Shape) (root : Root) → ss ≡ [] → IsRoot layout (event_names decls) nothing root → Goes decls layout (list_shape by (shapes ss)) root
 end_none decls layout by ss root none h = record {
   expansion = nothing;
   becomes = subst (λ l. Becomes decls (list_shape by (shapes l)) nothing) (sym none) (becomes_list decls by no_more [] none_becomes);
@@ -294,7 +294,7 @@ pub ok_to : {T E : Type 0} (r : Result T E) (P Q : T → Type 0) → ((x : T) �
 ok_to (Ok x) P Q f h = f x h
 ok_to (Err e) P Q f h = h
 
-pub list_step : (decls : List Declared) (layout : List Piece) (by : Pairing) (forms : List Form) (i : ℕ) (item : Form) (root : Root) → i < length forms → item ≡ get_or forms i item →
+pub list_step : (decls : List Declared) (layout : List Piece) (by : Operator) (forms : List Form) (i : ℕ) (item : Form) (root : Root) → i < length forms → item ≡ get_or forms i item →
     ListGoes decls layout by (map shape_of (take i forms) ++ shape_of item ∷ []) root → ListGoes decls layout by (map shape_of (take (i + 1) forms)) root
 list_step decls layout by forms i item root lt is h =
     subst (λ l. ListGoes decls layout by l root) (ap (λ f. map shape_of (take i forms) ++ shape_of f ∷ []) is ∙ sym (map_more shape_of forms i item lt)) h

@@ -1,10 +1,8 @@
 -- Goals that are built of the pieces of a layout, with their leaves and facts numbered.
 use Rattle.std.specs.Prelude.{◌≡◌, ℕ, ◌+◌, ◌<◌, ◌^◌, List, ◌++◌, fold, length}
 use Rattle.flow_model.specs.Lists.{AreDistinct}
-use Rattle.flow_model.specs.Process.{Process, Sequence, Parallel, Choice}
+use Rattle.flow_model.specs.Process.{Process}
 use Rattle.flow_expand.specs.declared.layout.Piece.{Piece}
-use Rattle.flow_expand.specs.declared.layout.Pairing.{Pairing}
-use Rattle.flow_expand.specs.declared.layout.Pairing.TheVariants as how
 use Rattle.flow_expand.specs.declared.building.Leaves.{Leaves}
 use Rattle.flow_expand.specs.Expansion.{Expansion}
 use Rattle.flow_expand.specs.Numbers.{facts_in, with_fact, labels_of, leaf_count, numbered}
@@ -32,9 +30,3 @@ pub record IsBuilt (events : List (List ℕ)) (e : Expansion) (old new : Leaves)
 -- whatever goal stands at the place, it was built so
 abbrev pub IsBuiltAt : List Piece → ℕ → Leaves → Leaves → Process → Type 0
 IsBuiltAt layout i old new goal = (events : List (List ℕ)) (e : Expansion) → AreDistinct events → IsPlaced layout events e i → IsBuilt events e old new goal
-
--- the two, put together so
-abbrev pub paired_process : Pairing → Process → Process → Process
-paired_process how.Serial = Sequence
-paired_process how.Beside = Parallel
-paired_process how.Either = Choice

@@ -1,13 +1,13 @@
 -- Sub-workflows that stand in a layout.
 use Rattle.std.specs.Prelude.{◌≡◌, ℕ, List, [], ◌∷◌, Option, Some, None, MatchOption, fold, slice_get}
 use Rattle.flow_model.specs.Lists.{◌∈◌}
+use Rattle.flow_goal.specs.declared.goal.Operator.{Operator}
+use Rattle.flow_goal.specs.declared.goal.Operator.TheVariants as how
 use Rattle.flow_form.specs.Form.{Shape, Shapes, serial, beside, either, shapes}
 use Rattle.flow_form.specs.Script.{Declared}
 use Rattle.flow_form.specs.Names.{event_names}
 use Rattle.flow_expand.specs.declared.directory.Directory.{Directory}
 use Rattle.flow_expand.specs.declared.layout.Piece.{Piece}
-use Rattle.flow_expand.specs.declared.layout.Pairing.{Pairing}
-use Rattle.flow_expand.specs.declared.layout.Pairing.TheVariants as how
 use Rattle.flow_expand.specs.declared.layout.Root.{Root}
 use Rattle.flow_expand.specs.declared.lay.Stage.{Stage}
 use Rattle.flow_expand.specs.declared.lay.Stage.TheVariants as stage
@@ -22,20 +22,20 @@ pub record Goes (decls : List Declared) (layout : List Piece) (s : Shape) (root 
   pub becomes : Becomes decls s expansion
   pub is_root : IsRoot layout (event_names decls) expansion root
 
-abbrev pub list_shape : Pairing → Shapes → Shape
+abbrev pub list_shape : Operator → Shapes → Shape
 list_shape how.Serial ss = serial ss
 list_shape how.Beside ss = beside ss
 list_shape how.Either ss = either ss
 
 -- each of a list became a goal, and the root is that of all, joined from the left
-pub record ListGoes (decls : List Declared) (layout : List Piece) (by : Pairing) (ss : List Shape) (root : Root) : Type 0 where
+pub record ListGoes (decls : List Declared) (layout : List Piece) (by : Operator) (ss : List Shape) (root : Root) : Type 0 where
   pub first : Expansion
   pub more : List Expansion
   pub become : AllBecome decls (shapes ss) (first ∷ more)
   pub is_root : IsRoot layout (event_names decls) (fold (paired by) first more) root
 
 -- the members of a list so far
-abbrev pub IsFront : List Declared → List Piece → Pairing → List Shape → Option Root → Type 0
+abbrev pub IsFront : List Declared → List Piece → Operator → List Shape → Option Root → Type 0
 IsFront decls layout by ss None = ss ≡ []
 IsFront decls layout by ss (Some root) = ListGoes decls layout by ss root
 

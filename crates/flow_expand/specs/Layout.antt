@@ -4,16 +4,16 @@ use Rattle.std.proofs.Common.{Bor}
 use Rattle.flow_model.specs.declared.labels.Label.{Label}
 use Rattle.flow_model.specs.declared.labels.Label.TheVariants as label
 use Rattle.flow_facts.specs.Atom.{Atom}
+use Rattle.flow_goal.specs.declared.goal.Operator.{Operator}
+use Rattle.flow_goal.specs.declared.goal.Operator.TheVariants as how
 use Rattle.flow_expand.specs.declared.layout.Deed.{Deed}
 use Rattle.flow_expand.specs.declared.layout.Deed.TheVariants as deed
-use Rattle.flow_expand.specs.declared.layout.Pairing.{Pairing}
-use Rattle.flow_expand.specs.declared.layout.Pairing.TheVariants as how
 use Rattle.flow_expand.specs.declared.layout.Piece.{Piece}
 use Rattle.flow_expand.specs.declared.layout.Piece.TheVariants as piece
 use Rattle.flow_expand.specs.declared.layout.Root.{Root}
 use Rattle.flow_expand.specs.Expansion.{Expansion, nothing, happens, holds, lacks, adds, takes, in_turn, at_once, one_of, alone, sizes_of}
 
-abbrev pub paired : Pairing → Expansion → Expansion → Expansion
+abbrev pub paired : Operator → Expansion → Expansion → Expansion
 paired how.Serial = in_turn
 paired how.Beside = at_once
 paired how.Either = one_of
@@ -37,7 +37,7 @@ pub data IsPlaced (layout : List Piece) (events : List (List ℕ)) : Expansion �
   placed_nothing : {i : ℕ} → slice_get layout i ≡ Some piece.Nop → IsPlaced layout events nothing i
   placed_event : {i k : ℕ} {n : List ℕ} → slice_get layout i ≡ Some (piece.Event k) → slice_get events k ≡ Some n → IsPlaced layout events (happens n) i
   placed_fact : {i : ℕ} {d : Deed} {f : Bor Atom} → slice_get layout i ≡ Some (piece.Fact d f) → IsPlaced layout events (fact_leaf d f.now) i
-  placed_pair : {i j k : ℕ} {by : Pairing} {a b : Expansion} → slice_get layout i ≡ Some (piece.Pair by j k) → j < i → k < i →
+  placed_pair : {i j k : ℕ} {by : Operator} {a b : Expansion} → slice_get layout i ≡ Some (piece.Pair by j k) → j < i → k < i →
       IsPlaced layout events a j → IsPlaced layout events b k → IsPlaced layout events (paired by a b) i
   placed_alone : {i j : ℕ} {a : Expansion} → slice_get layout i ≡ Some (piece.Iso j) → j < i → IsPlaced layout events a j → IsPlaced layout events (alone a) i
 

@@ -1,12 +1,12 @@
 ghost use Rattle.std.specs.Prelude.{◌≡◌, ◌∷◌, [], ◌++◌, ◌<◌, ◌^◌, IfOk, OnOk, length};
 ghost use Rattle.flow_model.specs.Process.{Task};
 ghost use Rattle.flow_goal.specs.Goal.{process_of};
-ghost use Rattle.flow_expand.specs.Built.{IsBuildable, IsBuiltAt, paired_process};
+ghost use Rattle.flow_expand.specs.Built.{IsBuildable, IsBuiltAt};
 
 use crate::fact_numbers::number_fact;
-use crate::layout::{Layout, Pairing, Piece};
+use crate::layout::{Layout, Piece};
 use flow_facts::Fact;
-use flow_goal::Goal;
+use flow_goal::{Goal, together};
 use flow_model::Label;
 use flow_workflow::Numbered;
 use std::alloc::{AllocError, Global};
@@ -29,19 +29,6 @@ impl Leaves {
         let number = self.labels.len() as u32;
         self.labels.push(label)?;
         Ok(Goal::Leaf(number))
-    }
-}
-
-/// Two goals together.
-fn together(alloc: Global, how: Pairing, left: Goal, right: Goal) -> Result<Goal, AllocError>
-    ensures { IfOk result (λ goal. process_of goal ≡ paired_process how (process_of left) (process_of right)) }
-{
-    let first = Box::new(alloc, left)?;
-    let second = Box::new(alloc, right)?;
-    match how {
-        Pairing::Serial => Ok(Goal::Serial(first, second)),
-        Pairing::Beside => Ok(Goal::Beside(first, second)),
-        Pairing::Either => Ok(Goal::Either(first, second)),
     }
 }
 

@@ -9,9 +9,10 @@ ghost use Rattle.flow_expand.specs.Directory.{decls_of};
 ghost use Rattle.flow_expand.specs.Laid.{IsLaid, IsLaidAt, IsReady, Goes, ListGoes, IsFront, list_shape};
 
 use crate::directory::Directory;
-use crate::layout::{Deed, Layout, Pairing, Piece, Root, put_both, put_end, put_isolated};
+use crate::layout::{Deed, Layout, Piece, Root, put_both, put_end, put_isolated};
 use flow_facts::Name;
 use flow_form::Form;
+use flow_goal::Operator;
 use std::alloc::AllocError;
 
 /// How far a sub-workflow has come.
@@ -66,7 +67,7 @@ fn lay_name(
 /// Puts the next member of a list to those before it, if there are any.
 fn lay_next(
     layout: &mut Layout<'_>,
-    how: Pairing,
+    how: Operator,
     before: Option<Root>,
     next: Root,
 ) -> Result<Root, AllocError>
@@ -81,7 +82,7 @@ fn lay_next(
 }
 
 /// The list is at its end: nothing, where it has no member.
-fn lay_end(layout: &mut Layout<'_>, how: Pairing, before: Option<Root>) -> Result<Root, AllocError>
+fn lay_end(layout: &mut Layout<'_>, how: Operator, before: Option<Root>) -> Result<Root, AllocError>
     ensures grown { Begins layout.new.items layout.old.items }
     ensures ok { IfOk result (λ whole. (decls : List Declared) (ss : List Shape) → IsFront decls layout.old.items how ss before
         → Goes decls layout.new.items (list_shape how (written.shapes ss)) whole) }
@@ -112,7 +113,7 @@ fn lay_list<'a>(
     directory: &Directory<'a>,
     laid: &[Stage],
     forms: &'a [Form],
-    how: Pairing,
+    how: Operator,
     layout: &mut Layout<'a>,
 ) -> Result<Root, AllocError>
     requires ready { Each (IsReady directory.now laid.now) (names_in_each (written.shapes (map shape_of forms.now))) }
@@ -154,8 +155,8 @@ pub(crate) fn lay<'a>(
             let root = lay(directory, laid, part, layout)?;
             put_isolated(layout, root)
         }
-        Form::Serial(forms) => lay_list(directory, laid, forms, Pairing::Serial, layout),
-        Form::Beside(forms) => lay_list(directory, laid, forms, Pairing::Beside, layout),
-        Form::Either(forms) => lay_list(directory, laid, forms, Pairing::Either, layout),
+        Form::Serial(forms) => lay_list(directory, laid, forms, Operator::Serial, layout),
+        Form::Beside(forms) => lay_list(directory, laid, forms, Operator::Beside, layout),
+        Form::Either(forms) => lay_list(directory, laid, forms, Operator::Either, layout),
     }
 }

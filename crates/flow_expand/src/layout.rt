@@ -5,6 +5,7 @@ ghost use Rattle.flow_expand.specs.Layout.{IsRoot, IsPlain, paired, label_of};
 
 use crate::size::Size;
 use flow_facts::Fact;
+use flow_goal::Operator;
 use flow_model::Label;
 use std::alloc::AllocError;
 
@@ -31,21 +32,13 @@ impl Deed {
     }
 }
 
-/// How two goals are put together.
-#[derive(Clone, Copy)]
-pub(crate) enum Pairing {
-    Serial,
-    Beside,
-    Either,
-}
-
 /// A piece of a layout. Pieces inside it go by their places in the layout, which are lower.
 #[derive(Clone, Copy)]
 pub(crate) enum Piece<'a> {
     Nop,
     Event(u32),
     Fact(Deed, &'a Fact),
-    Pair(Pairing, usize, usize),
+    Pair(Operator, usize, usize),
     Iso(usize),
 }
 
@@ -89,7 +82,7 @@ pub(crate) fn put_isolated(layout: &mut Layout<'_>, root: Root) -> Result<Root, 
 /// Puts in two goals together.
 pub(crate) fn put_both(
     layout: &mut Layout<'_>,
-    how: Pairing,
+    how: Operator,
     left: Root,
     right: Root,
 ) -> Result<Root, AllocError>
