@@ -31,7 +31,7 @@ use Rattle.flow_excise.specs.declared.tally.Tally.{Tally}
 use Rattle.flow_excise.specs.Compilation.{all_numbered, IsRefused}
 use Rattle.flow_plan.specs.Compilation.{Compilation, IsCompiled, IsWithinLimits}
 use Rattle.flow_excise.specs.Limits.{AreFew, bulk_of, IsTooMany}
-use Rattle.flow_excise.specs.Options.{schema_of, option_by, options_by, all_options_by}
+use Rattle.flow_excise.specs.Options.{schema_with, option_by, options_by, all_options_by}
 use Rattle.flow_excise.specs.Sieves.{ArePlannable, HasSifted}
 use Rattle.flow_rules.specs.Conjunction.{HasWaysOf}
 use Rattle.flow_excise.proofs.SiftingLemmas.{options_told, told_ways, just_those, all_dropped, some_kept}
@@ -40,14 +40,14 @@ use Rattle.flow_excise.proofs.TallyLemmas.{bulk-cons}
 
 -- the options by the normal form are those of the workflow
 
-same_in : (t : Labelled) (rules : List Constraint) (n : Normal) → HasWaysOf n (all_of rules) → options_by t n ≡ options_in (schema_of t rules)
+same_in : (t : Labelled) (rules : List Constraint) (n : Normal) → HasWaysOf n (all_of rules) → options_by t n ≡ options_in (schema_with t rules)
 same_in t rules n h = λ i q. map (λ way. option_by q way) (h (leaf_of_event t.labels (leaves q)) i)
 
-pub same_options : (t : Labelled) (rules : List Constraint) (n : Normal) → HasWaysOf n (all_of rules) → all_options_by t n ≡ options (schema_of t rules)
+pub same_options : (t : Labelled) (rules : List Constraint) (n : Normal) → HasWaysOf n (all_of rules) → all_options_by t n ≡ options (schema_with t rules)
 same_options t rules n h = λ i. flat_map (same_in t rules n h i) (resolutions t.process)
 
 pub same_numbered : (t : Labelled) (rules : List Constraint) (n : Normal) → HasWaysOf n (all_of rules) →
-    numbered_options 0 (map (options_by t n) (resolutions t.process)) ≡ all_numbered (schema_of t rules)
+    numbered_options 0 (map (options_by t n) (resolutions t.process)) ≡ all_numbered (schema_with t rules)
 same_numbered t rules n h = λ i. numbered_options 0 (map (same_in t rules n h i) (resolutions t.process))
 
 told_all : (r : ℕ) (f : Process → List ChoiceOption) (qs : List Process) → options_told (numbered_options r (map f qs)) ≡ flat_map f qs
@@ -115,39 +115,39 @@ module _ (w : Schema) (f : IsWellFormed w) (plans : List Sampled) (dropped : Lis
 
 -- the answers where the options are counted and sifted, by a normal form of the constraints
 
-module _ (t : Labelled) (these : List Constraint) (n : Normal) (same : HasWaysOf n (all_of these)) (f : IsWellFormed (schema_of t these))
+module _ (t : Labelled) (these : List Constraint) (n : Normal) (same : HasWaysOf n (all_of these)) (f : IsWellFormed (schema_with t these))
     (few : resolution_count t.process ≤ MOST_RESOLUTIONS) (tally : Tally) (counted : AreFew (all_options_by t n) tally) (sieve : Sieve)
     (sifted : HasSifted (numbered_options 0 (map (options_by t n) (resolutions t.process))) sieve) where
-  all_sifted : AreSifted (all_numbered (schema_of t these)) (options_of sieve.kept.items) sieve.dropped.items
+  all_sifted : AreSifted (all_numbered (schema_with t these)) (options_of sieve.kept.items) sieve.dropped.items
   all_sifted = subst (λ ns. AreSifted ns (options_of sieve.kept.items) sieve.dropped.items) (same_numbered t these n same) sifted
 
-  within : IsWithinLimits (schema_of t these)
+  within : IsWithinLimits (schema_with t these)
   within = record {
     resolutions = few;
     options_few = subst (λ (l : List ChoiceOption). length l ≤ MOST_OPTIONS) (same_options t these n same) counted.few;
     light = subst (λ (l : List ChoiceOption). bulk_of l ≤ GREATEST_BULK) (same_options t these n same) counted.light;
   }
 
-  pub refused_by : (r : Result Compilation CompileRefusal) → IfErr r (λ e. (sieve.kept.items ≡ []) × (e ≡ Inconsistent sieve.dropped)) → IfErr r (IsRefused (schema_of t these))
+  pub refused_by : (r : Result Compilation CompileRefusal) → IfErr r (λ e. (sieve.kept.items ≡ []) × (e ≡ Inconsistent sieve.dropped)) → IfErr r (IsRefused (schema_with t these))
   refused_by (Ok c) h = h
   refused_by (Err e) (none, is) =
-      subst (IsRefused (schema_of t these)) (sym is) (
+      subst (IsRefused (schema_with t these)) (sym is) (
         within,
         (
-          none_consistent (schema_of t these) f sieve.kept.items sieve.dropped.items all_sifted none,
-          all_told (schema_of t these) f sieve.kept.items sieve.dropped.items all_sifted none,
+          none_consistent (schema_with t these) f sieve.kept.items sieve.dropped.items all_sifted none,
+          all_told (schema_with t these) f sieve.kept.items sieve.dropped.items all_sifted none,
         ),
       )
 
   pub compiled_by : (r : Result Compilation CompileRefusal) → IfOk r (λ c. (sieve.kept.items ≢ []) × (c.plans ≡ sieve.kept.items) ×
       (c.counts ≡ record { resolutions = resolution_count t.process; options = tally.options; bulk = tally.bulk; live = length sieve.kept.items })) →
-      IfOk r (IsCompiled (schema_of t these))
+      IfOk r (IsCompiled (schema_with t these))
   compiled_by (Err e) h = h
   compiled_by (Ok c) (some, plans, counts) = record {
     within = within;
-    consistent = consistent_plans (schema_of t these) f sieve.kept.items sieve.dropped.items all_sifted sieve.kept.items refl some;
-    plans = subst (λ (l : List Sampled). AreJustThose HasExecution (options (schema_of t these)) (options_of l)) (sym plans)
-        (plans_are (schema_of t these) f sieve.kept.items sieve.dropped.items all_sifted);
+    consistent = consistent_plans (schema_with t these) f sieve.kept.items sieve.dropped.items all_sifted sieve.kept.items refl some;
+    plans = subst (λ (l : List Sampled). AreJustThose HasExecution (options (schema_with t these)) (options_of l)) (sym plans)
+        (plans_are (schema_with t these) f sieve.kept.items sieve.dropped.items all_sifted);
     resolutions = ap (λ (x : Counts). x.resolutions) counts;
     options_counted = ap (λ (x : Counts). x.options) counts ∙ counted.options ∙ ap (λ (l : List ChoiceOption). length l) (same_options t these n same);
     bulk_counted = ap (λ (x : Counts). x.bulk) counts ∙ counted.bulk ∙ ap bulk_of (same_options t these n same);

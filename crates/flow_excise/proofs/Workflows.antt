@@ -3,13 +3,13 @@ use Rattle.std.proofs.Common.{◌≡◌, List, subst}
 use Rattle.flow_model.specs.Constraint.{Constraint}
 use Rattle.flow_goal.specs.Labelled.{Labelled}
 use Rattle.flow_workflow.specs.Definition.{Definition, schema_of}
-use Rattle.flow_excise.specs.Options as options
+use Rattle.flow_excise.specs.Options.{schema_with}
 use Rattle.flow_plan.specs.Compilation.{Compilation, IsWithinLimits, IsCompiled}
 
-pub within : (w : Definition) → IsWithinLimits (options.schema_of w.tree w.rules) → IsWithinLimits (schema_of w)
+pub within : (w : Definition) → IsWithinLimits (schema_with w.tree w.rules) → IsWithinLimits (schema_of w)
 within w h = record { resolutions = h.resolutions; options_few = h.options_few; light = h.light }
 
-pub compiled : (w : Definition) (c : Compilation) → IsCompiled (options.schema_of w.tree w.rules) c → IsCompiled (schema_of w) c
+pub compiled : (w : Definition) (c : Compilation) → IsCompiled (schema_with w.tree w.rules) c → IsCompiled (schema_of w) c
 compiled w c h = record {
   within = within w h.within;
   consistent = h.consistent;

@@ -10,8 +10,8 @@ use Rattle.flow_goal.specs.Labelled.{Labelled}
 use Rattle.flow_rules.specs.WayLists.{is_none}
 
 -- the tree with its rules, with no facts and no notes
-abbrev pub schema_of : Labelled → List Constraint → Schema
-schema_of t rules = record { goal = t.process; labels = t.labels; rules = rules; facts = []; notes = [] }
+abbrev pub schema_with : Labelled → List Constraint → Schema
+schema_with t rules = record { goal = t.process; labels = t.labels; rules = rules; facts = []; notes = [] }
 
 -- the ways in which the leaves of a resolution meet a normal form
 abbrev pub ways_by : Labelled → Normal → Process → List (List (ℕ × ℕ))

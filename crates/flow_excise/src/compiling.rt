@@ -8,7 +8,7 @@ ghost use Rattle.flow_rules.specs.Conjunction.{HasWaysOf, normal_in};
 ghost use Rattle.flow_workflow.specs.Rule.{rules_of};
 ghost use Rattle.flow_goal.specs.Capped.{capped};
 ghost use Rattle.flow_excise.specs.declared.refusal.CompileRefusal.TheVariants.{Inconsistent, TooManyChoices};
-ghost use Rattle.flow_excise.specs.Options.{schema_of};
+ghost use Rattle.flow_excise.specs.Options.{schema_with};
 ghost use Rattle.flow_excise.specs.Compilation.{IsRefused};
 ghost use Rattle.flow_plan.specs.Compilation.{IsCompiled};
 
@@ -57,8 +57,8 @@ fn compile_by(
     requires exact { resolution_count tree.now.process ≤ MOST_RESOLUTIONS }
     requires counted { resolutions ≡ resolution_count tree.now.process }
     requires made { (these : List Constraint) × HasWaysOf (normal_in rules.now) (all_of these) }
-    ensures refused { (these : List Constraint) → HasWaysOf (normal_in rules.now) (all_of these) → IfErr result (IsRefused (schema_of tree.now these)) }
-    ensures ok { (these : List Constraint) → HasWaysOf (normal_in rules.now) (all_of these) → IfOk result (IsCompiled (schema_of tree.now these)) }
+    ensures refused { (these : List Constraint) → HasWaysOf (normal_in rules.now) (all_of these) → IfErr result (IsRefused (schema_with tree.now these)) }
+    ensures ok { (these : List Constraint) → HasWaysOf (normal_in rules.now) (all_of these) → IfOk result (IsCompiled (schema_with tree.now these)) }
 {
     // what the type keeps of its leaves
     let _leaves = tree.leaves();
@@ -77,8 +77,8 @@ pub fn compile(alloc: Global, tree: &Tree, rules: &[Rule]) -> Result<Compiled, C
     requires small { length tree.now.labels ≤ MOST_LEAVES }
     ensures choices { MOST_RESOLUTIONS < resolution_count tree.now.process →
         result ≡ Err (TooManyChoices (capped (resolution_count tree.now.process))) }
-    ensures refused { IfErr result (IsRefused (schema_of tree.now (rules_of rules.now))) }
-    ensures ok { IfOk result (IsCompiled (schema_of tree.now (rules_of rules.now))) }
+    ensures refused { IfErr result (IsRefused (schema_with tree.now (rules_of rules.now))) }
+    ensures ok { IfOk result (IsCompiled (schema_with tree.now (rules_of rules.now))) }
 {
     let resolutions = few_resolutions(tree)?;
     let rules = Conjunction::new(alloc, rules)?;

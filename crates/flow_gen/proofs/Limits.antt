@@ -17,7 +17,7 @@ use Rattle.flow_excise.specs.declared.refusal.CompileRefusal.{CompileRefusal}
 use Rattle.flow_excise.specs.declared.refusal.CompileRefusal.TheVariants as compile
 use Rattle.flow_excise.specs.Compilation.{IsRefused}
 use Rattle.flow_plan.specs.Compilation.{IsWithinLimits}
-use Rattle.flow_excise.specs.Options as parts
+use Rattle.flow_excise.specs.Options.{schema_with}
 use Rattle.flow_gen.specs.Generated.{choices_in, kind, all_draws, kinds, generated}
 use Rattle.flow_gen.specs.Laws.{choice_count, ChoicesAreFew, ChoicesDouble, WaysAreSingle, OptionsAreResolutions, BulkIsSmall, WorkflowsAreWithinLimits, CompilingIsNotRefused, CompilingPartsIsNotRefused}
 use Rattle.flow_gen.proofs.Rows.{choices_more}
@@ -102,5 +102,5 @@ compiling_is_not_refused seed size w r some few h =
 pub compiling_parts_is_not_refused : CompilingPartsIsNotRefused
 compiling_parts_is_not_refused seed size w r some few h =
     let whole = workflows_are_within_limits seed size w some few h in
-    let within : IsWithinLimits (parts.schema_of w.tree w.rules) = record { resolutions = whole.resolutions; options_few = whole.options_few; light = whole.light } in
-    not_refused (parts.schema_of w.tree w.rules) r within (workflows_are_consistent seed size w some few h)
+    let within : IsWithinLimits (schema_with w.tree w.rules) = record { resolutions = whole.resolutions; options_few = whole.options_few; light = whole.light } in
+    not_refused (schema_with w.tree w.rules) r within (workflows_are_consistent seed size w some few h)

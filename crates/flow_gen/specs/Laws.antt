@@ -21,7 +21,7 @@ use Rattle.flow_excise.specs.declared.refusal.CompileRefusal.{CompileRefusal}
 use Rattle.flow_excise.specs.declared.refusal.CompileRefusal.TheVariants as compile
 use Rattle.flow_excise.specs.Compilation.{IsRefused}
 use Rattle.flow_plan.specs.Compilation.{IsWithinLimits}
-use Rattle.flow_excise.specs.Options as parts
+use Rattle.flow_excise.specs.Options.{schema_with}
 use Rattle.flow_gen.specs.Generated.{choices_in, kinds, all_draws, generated}
 
 -- it says the workflow
@@ -90,4 +90,4 @@ CompilingIsNotRefused = (seed size : ℕ) (w : Definition) (r : CompileRefusal) 
 -- nor with its tree and its rules
 abbrev pub CompilingPartsIsNotRefused : Type 0
 CompilingPartsIsNotRefused = (seed size : ℕ) (w : Definition) (r : CompileRefusal) → 1 ≤ size → size ≤ GREATEST_SIZE → IsExpanded (generated seed size) w →
-    IsRefused (parts.schema_of w.tree w.rules) r → r ≡ compile.NoMemory
+    IsRefused (schema_with w.tree w.rules) r → r ≡ compile.NoMemory

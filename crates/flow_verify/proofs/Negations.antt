@@ -13,7 +13,7 @@ use Rattle.flow_workflow.specs.declared.rule.Rule.{Rule}
 use Rattle.flow_workflow.specs.Rule.{rule_of, rules_of}
 use Rattle.flow_workflow.proofs.RuleViews.{rule_of-Not}
 use Rattle.flow_plan.specs.Compilation.{IsWithinLimits}
-use Rattle.flow_excise.specs.Options.{schema_of}
+use Rattle.flow_excise.specs.Options.{schema_with}
 use Rattle.flow_goal.specs.Labelled.{Labelled}
 use Rattle.flow_verify.specs.declared.answers.Verified.TheVariants.{Holds, Fails}
 use Rattle.flow_verify.specs.declared.refusal.VerifyRefusal.{VerifyRefusal}
@@ -43,14 +43,14 @@ negated_last rules more part property pushed boxed =
 -- What an execution, or none, that meets the rules with the negation among them tells of the property
 
 module _ (t : Labelled) (rules more : List Rule) (p : Constraint) (same : rules_of more ≡ rules_of rules ++ Not p ∷ []) where
-  pub tells_fails : (e : Vec ℕ Global) → IsGood (schema_of t (rules_of more)) e.items → TellsOfProperty (schema_of t (rules_of rules)) p (Fails e)
-  tells_fails e good = fails_by (schema_of t (rules_of rules)) p e.items (subst (λ cs. IsGood (schema_of t cs) e.items) same good)
+  pub tells_fails : (e : Vec ℕ Global) → IsGood (schema_with t (rules_of more)) e.items → TellsOfProperty (schema_with t (rules_of rules)) p (Fails e)
+  tells_fails e good = fails_by (schema_with t (rules_of rules)) p e.items (subst (λ cs. IsGood (schema_with t cs) e.items) same good)
 
-  pub tells_holds : ¬ (IsConsistent (schema_of t (rules_of more))) → TellsOfProperty (schema_of t (rules_of rules)) p Holds
-  tells_holds none = holds_where_none (schema_of t (rules_of rules)) p (subst (λ cs. ¬ (IsConsistent (schema_of t cs))) same none)
+  pub tells_holds : ¬ (IsConsistent (schema_with t (rules_of more))) → TellsOfProperty (schema_with t (rules_of rules)) p Holds
+  tells_holds none = holds_where_none (schema_with t (rules_of rules)) p (subst (λ cs. ¬ (IsConsistent (schema_with t cs))) same none)
 
-  pub within_with : IsWithinLimits (schema_of t (rules_of more)) → IsWithinLimits (against (schema_of t (rules_of rules)) p)
-  within_with k = subst (λ cs. IsWithinLimits (schema_of t cs)) same k
+  pub within_with : IsWithinLimits (schema_with t (rules_of more)) → IsWithinLimits (against (schema_with t (rules_of rules)) p)
+  within_with k = subst (λ cs. IsWithinLimits (schema_with t cs)) same k
 
-  pub refused_with : (r : VerifyRefusal) → IsRefused (schema_of t (rules_of more)) r → IsRefused (against (schema_of t (rules_of rules)) p) r
-  refused_with r h = subst (λ cs. IsRefused (schema_of t cs) r) same h
+  pub refused_with : (r : VerifyRefusal) → IsRefused (schema_with t (rules_of more)) r → IsRefused (against (schema_with t (rules_of rules)) p) r
+  refused_with r h = subst (λ cs. IsRefused (schema_with t cs) r) same h

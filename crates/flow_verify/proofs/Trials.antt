@@ -18,7 +18,7 @@ use Rattle.flow_verify.specs.declared.refusal.VerifyRefusal.TheVariants.{TooMany
 use Rattle.flow_verify.specs.Verification.{against, without, TellsOfProperty, TellsOfConstraint, IsRefused}
 use Rattle.flow_goal.specs.Labelled.{Labelled}
 use Rattle.flow_workflow.specs.Definition.{Definition, schema_of}
-use Rattle.flow_excise.specs.Options as options
+use Rattle.flow_excise.specs.Options.{schema_with}
 use Rattle.flow_verify.proofs.Removals.{each_with}
 
 -- the workflow with nothing that holds at the start, and no notes
@@ -102,5 +102,5 @@ never_missing r n index below h = (
 
 -- A tree with rules, as the workflow that it is of
 
-pub same_trial : (w : Definition) (tree : Labelled) (rules : List Constraint) → tree ≡ w.tree → rules ≡ w.rules → options.schema_of tree rules ≡ bare (schema_of w)
-same_trial w tree rules e f = λ i. options.schema_of (e i) (f i)
+pub same_trial : (w : Definition) (tree : Labelled) (rules : List Constraint) → tree ≡ w.tree → rules ≡ w.rules → schema_with tree rules ≡ bare (schema_of w)
+same_trial w tree rules e f = λ i. schema_with (e i) (f i)

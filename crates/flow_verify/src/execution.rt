@@ -8,7 +8,7 @@ ghost use Rattle.flow_laws.specs.WellFormed.{IsConsistent};
 ghost use Rattle.flow_workflow.specs.Rule.{rules_of};
 ghost use Rattle.flow_plan.specs.Options.{options_of};
 ghost use Rattle.flow_plan.specs.Compilation.{IsWithinLimits};
-ghost use Rattle.flow_excise.specs.Options.{schema_of};
+ghost use Rattle.flow_excise.specs.Options.{schema_with};
 ghost use Rattle.flow_verify.specs.Verification.{IsRefused};
 
 use crate::refusal::VerifyRefusal;
@@ -34,10 +34,10 @@ pub(crate) fn good_execution(
     requires unique { HoldsNoneTwice tree.now }
     requires small { length tree.now.labels ≤ MOST_LEAVES }
     ensures { MatchResult result
-        (λ found. IsWithinLimits (schema_of tree.now (rules_of rules.now)) × MatchOption found
-        (¬ (IsConsistent (schema_of tree.now (rules_of rules.now))))
-        (λ t. IsGood (schema_of tree.now (rules_of rules.now)) t.items))
-        (IsRefused (schema_of tree.now (rules_of rules.now))) }
+        (λ found. IsWithinLimits (schema_with tree.now (rules_of rules.now)) × MatchOption found
+        (¬ (IsConsistent (schema_with tree.now (rules_of rules.now))))
+        (λ t. IsGood (schema_with tree.now (rules_of rules.now)) t.items))
+        (IsRefused (schema_with tree.now (rules_of rules.now))) }
 {
     // what the type keeps of its leaves
     let _leaves = tree.leaves();

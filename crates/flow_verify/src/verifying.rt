@@ -5,7 +5,7 @@ ghost use Rattle.flow_model.specs.Constraint.{Constraint};
 ghost use Rattle.flow_workflow.specs.Rule.{rule_of, rules_of};
 ghost use Rattle.flow_workflow.specs.Definition.{schema_of};
 ghost use Rattle.flow_plan.specs.Compilation.{IsWithinLimits};
-ghost use Rattle.flow_excise.specs.Options as options;
+ghost use Rattle.flow_excise.specs.Options.{schema_with};
 ghost use Rattle.flow_verify.specs.declared.refusal.VerifyRefusal.TheVariants.{NoMemory, NoRule};
 ghost use Rattle.flow_verify.specs.Verification.{against, without, TellsOfProperty, TellsOfConstraint, IsRefused};
 
@@ -58,9 +58,9 @@ fn verify_tree(
     requires unique { HoldsNoneTwice tree.now }
     requires small { length tree.now.labels ≤ MOST_LEAVES }
     ensures { MatchResult result
-        (λ told. IsWithinLimits (against (options.schema_of tree.now (rules_of rules.items)) (rule_of property))
-        × TellsOfProperty (options.schema_of tree.now (rules_of rules.items)) (rule_of property) told)
-        (IsRefused (against (options.schema_of tree.now (rules_of rules.items)) (rule_of property))) }
+        (λ told. IsWithinLimits (against (schema_with tree.now (rules_of rules.items)) (rule_of property))
+        × TellsOfProperty (schema_with tree.now (rules_of rules.items)) (rule_of property) told)
+        (IsRefused (against (schema_with tree.now (rules_of rules.items)) (rule_of property))) }
 {
     rules.push(Rule::Not(Box::new(alloc, property)?))?;
     match good_execution(alloc, tree, &rules)? {

@@ -4,7 +4,7 @@ use Rattle.std.proofs.lemmas.Result.{IfErr-weaker}
 use Rattle.std.specs.List.{remove}
 use Rattle.flow_workflow.specs.Rule.{rule_of, rules_of}
 use Rattle.flow_workflow.specs.Definition.{schema_of}
-use Rattle.flow_excise.specs.Options as options
+use Rattle.flow_excise.specs.Options.{schema_with}
 use Rattle.flow_verify.specs.declared.answers.Redundancy.TheVariants.{Redundant, Needed}
 use Rattle.flow_verify.specs.declared.refusal.VerifyRefusal.TheVariants.{NoMemory}
 use Rattle.flow_verify.specs.Verification.{against, without, IsRefused}
@@ -14,7 +14,7 @@ use Rattle.flow_verify.proofs.verifying.redundant.Goals as goal
 pub returns-in_err-verify_tree-clause-refused : goal.returns-in_err-verify_tree-clause-refused
 returns-in_err-verify_tree-clause-refused c rule at =
     let w = c.args.workflow.now in
-    let trial = options.schema_of c.tree.result.now (rules_of c.in_ok-others.others.items) in
+    let trial = schema_with c.tree.result.now (rules_of c.in_ok-others.others.items) in
     let same = same_trial (record w { rules = remove w.rules c.args.index }) c.tree.result.now (rules_of c.in_ok-others.others.items) c.tree.ensures.tree c.in_ok-others.ensures.others in
     IfErr-weaker c.from_residual-in_err-verify_tree.result (IsRefused (against trial (rule_of c.in_ok-others.rule))) _
     (refused_trial trial (without (schema_of w) c.args.index) (rule_of c.in_ok-others.rule) rule same
@@ -49,7 +49,7 @@ returns-in-Fails-clause-within c rule at =
 
 pub returns-in_err-verify_tree-clause-no_rule : goal.returns-in_err-verify_tree-clause-no_rule
 returns-in_err-verify_tree-clause-no_rule c =
-    let trial = against (options.schema_of c.tree.result.now (rules_of c.in_ok-others.others.items)) (rule_of c.in_ok-others.rule) in
+    let trial = against (schema_with c.tree.result.now (rules_of c.in_ok-others.others.items)) (rule_of c.in_ok-others.rule) in
     never_no_rule c.args.workflow.now.rules c.args.index (rule_of c.in_ok-others.rule) c.in_ok-others.ensures.rule trial c.from_residual-in_err-verify_tree.result (search rules)
 
 pub returns-in-Holds-clause-no_rule : goal.returns-in-Holds-clause-no_rule
