@@ -1,7 +1,7 @@
 #!/usr/bin/env python3
-"""The rows of the order desk in crates/flow_cases/data: by one worker, with no failure, and with each event failing once.
+"""The rows of the order desk in crates/test_cases/data: by one worker, with no failure, and with each event failing once.
 
-Usage: bench/desk.py [FOLDER]     where the files desk_*.rows are written; crates/flow_cases/data where it is not given
+Usage: bench/desk.py [FOLDER]     where the files desk_*.rows are written; crates/test_cases/data where it is not given
 
 What a row must write is told by a model of the definitions, which stands below and knows nothing of the program: an execution is
 looked for block by block in the goal itself, with its choices, and no option, plan or pair of leaves is made.
@@ -219,7 +219,7 @@ class Desk:
 
 
 def main():
-    folder = pathlib.Path(sys.argv[1]) if sys.argv[1:] else TOP / "crates/flow_cases/data"
+    folder = pathlib.Path(sys.argv[1]) if sys.argv[1:] else TOP / "crates/test_cases/data"
     text = "".join(line for line in FLOW.read_text().splitlines(keepends=True) if not line.startswith("#"))
     desk = Desk(Workflow(text))
 

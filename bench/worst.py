@@ -1,14 +1,17 @@
 #!/usr/bin/env python3
 """The worst texts within the limits: time and memory of `flow check` on each, beside those of the greatest generated text.
 
-It needs GNU time (/usr/bin/time). Usage: bench/worst.py [PROGRAM] [WORD ..]   the texts whose names have one of the words, or all of them
+It needs GNU time (/usr/bin/time) and cc. Usage: bench/worst.py [PROGRAM] [WORD ..]   the texts whose names have one of the words, or all of them
 The program is crates/flow/out/flow where none is named (`./prove` and the gate make it). Each text is checked five times,
 by turns with the generated text of seed 3 and size 128, and the least time of each counts.
 """
+import pathlib
 import random
+import subprocess
+import tempfile
 
 from generated import text as generated
-from measuring import arguments, by_turns, measured
+from measuring import TOP, arguments, by_turns, measured
 
 GREATEST_INPUT = 1_048_576
 TEXTS = {}
@@ -95,6 +98,24 @@ def events_in_no_order():
 @text
 def long_events_in_no_order():
     return in_no_order("event ", lambda n: f"{'x' * 16}{n}", "; goal nop;")
+
+
+def colliding(count):
+    """Names that fall together in a table whose hash has no key: colliding.c, built by cc, finds them by trial."""
+    with tempfile.TemporaryDirectory() as folder:
+        program = pathlib.Path(folder) / "colliding"
+        subprocess.run(["cc", "-O2", "-o", program, TOP / "bench/colliding.c"], check=True)
+        return subprocess.run([program, str(count)], capture_output=True, check=True, text=True).stdout.split()
+
+
+@text
+def events_that_fall_together_without_a_key():
+    return f"event {','.join(colliding(174_000))};goal nop;"
+
+
+@text
+def facts_that_fall_together_without_a_key():
+    return f"fact {','.join(colliding(174_000))};goal nop;"
 
 
 @text

@@ -1,6 +1,6 @@
 #!/usr/bin/env python3
 """Wrong bodies of run_crew that its contract lets through, since none says that threads run: each must fail the tests of
-crates/flow_thread_calls.
+crates/test_threads.
 
 Usage: bench/wrong_crews.py [BODY ..]     without one all, and the right body first
 
@@ -17,7 +17,7 @@ import tempfile
 
 TOP = pathlib.Path(__file__).resolve().parent.parent
 CREW = "crates/flow_crew/src/crew.rt"
-TESTS = "crates/flow_thread_calls/src/tests/workers.rt"
+TESTS = "crates/test_threads/src/tests/workers.rt"
 
 # In place of std's: the second begins when the first has ended.
 JOIN = """
@@ -49,7 +49,7 @@ impl<'g, G: Gate> flow_turn::Job<Held<G>> for InTurn<'g, G> {
     }
 }
 """
-ALL = "work_all(rt, alloc, held, gate, workers);"
+ALL = "work_all(rt, alloc, held, &gate, workers);"
 # Of each body what it changes, and what it adds at the end.
 BODIES = {
     "right": ({}, ""),

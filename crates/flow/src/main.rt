@@ -5,7 +5,7 @@
 #![tactic(auto)]
 
 use flow_cli::{Status, flow};
-use flow_crew::NoteGate;
+use flow_gate::NoteGate;
 use flow_io::{StdSink, StdSource};
 use std::alloc::AllocError;
 use std::process::ExitCode;

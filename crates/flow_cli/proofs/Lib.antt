@@ -1,8 +1,4 @@
-pub mod Serving
-pub mod Sessions
-pub mod Numbered
-pub mod Compiled
-pub mod Inputs
-pub mod Statuses
+pub mod Refusals
 pub mod Runs
 pub mod Queries
+pub mod Outcomes

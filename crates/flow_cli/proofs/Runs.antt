@@ -1,5 +1,6 @@
 -- Runs by workers that came to an end.
-use Rattle.std.proofs.Common.{◌≡◌, ◌≤◌, ℕ, Bool, List, length, refl, ap, ◌∙◌, subst}
+use Rattle.std.proofs.Common.{◌≡◌, ◌≤◌, ℕ, Bool, List, length, ◌++◌, codes, refl, ap, ◌∙◌, subst}
+use Rattle.serde_json.specs.Written.{compact_text}
 use Rattle.flow_model.specs.declared.history.Call.{Call}
 use Rattle.flow_model.specs.declared.history.Entry.{Entry}
 use Rattle.flow_model.specs.declared.history.Outcome.{Outcome}
@@ -9,7 +10,8 @@ use Rattle.flow_model.specs.Verdict as model
 use Rattle.flow_workflow.specs.Definition.{Definition, schema_of}
 use Rattle.flow_core.specs.Run.{Run, schema, now}
 use Rattle.flow_core.specs.Lawful.{IsLawful}
-use Rattle.flow_core.specs.Looks.{IsWaiting}
+use Rattle.flow_core.specs.Next.{IsWaiting}
+use Rattle.flow_core.proofs.RisingLists.{just_as}
 use Rattle.flow_crew.specs.declared.ends.End.{End}
 use Rattle.flow_crew.specs.declared.ends.End.TheVariants as end
 use Rattle.flow_crew.specs.Ends.{IsEnd}
@@ -18,13 +20,12 @@ use Rattle.flow_plan.specs.declared.counts.Counts.{Counts}
 use Rattle.flow_plan.specs.Compilation.{Compilation, IsCompiled}
 use Rattle.flow_reply.specs.declared.summary.Summary.{Summary}
 use Rattle.flow_reply.specs.declared.verdict.Verdict.{Verdict}
-use Rattle.flow_reply.specs.Report.{Means}
-use Rattle.flow_reply.specs.Summary.{IsSummary}
-use Rattle.flow_core.proofs.Rising.{just_as}
-use Rattle.flow_cli.specs.declared.status.Status.{Status}
-use Rattle.flow_cli.specs.Driving.{ended}
-use Rattle.flow_cli.specs.Large.{summary_of, Summarizes}
-use Rattle.flow_cli.specs.Running.{verdict_of, IsRunOf}
+use Rattle.flow_reply.specs.Conclusion.{Means, verdict_text}
+use Rattle.flow_reply.specs.Summary.{summary_object, IsSummary}
+use Rattle.flow_reply.proofs.OneReply.{one_words}
+use Rattle.flow_cli.specs.Finding.{summary_line}
+use Rattle.flow_cli.specs.Large.{summary_of, IsSummaryOf}
+use Rattle.flow_cli.specs.Run.{verdict_of, IsRunOf, HasRun}
 
 -- the verdict that an end is
 meant_by : (r : Run) (e : End) → IsEnd r e →
@@ -37,32 +38,38 @@ meant_by r end.Stuck (waiting, h) =
 
 pub run_of : (gives : Call → Outcome → Bool) (w : Definition) (steps workers : ℕ) (r : Run) (e : End) → r.definition ≡ w → r.limit ≡ steps → IsEnd r e →
     IsLawful (schema r) r.limit r.history → IsByWorkers gives r → Each (λ (entry : Entry). entry.by ≤ workers) r.history →
-    IsRunOf gives w steps workers r (verdict_of e)
+    HasRun gives w steps workers r (verdict_of e)
 run_of gives w steps workers r e definition limit is lawful by callers =
-    let (meant, means, stands) = meant_by r e is in record {
-      definition_is = definition;
-      limit_is = limit;
-      lawful = subst (λ (n : ℕ). IsLawful (schema_of w) n r.history) limit (subst (λ (v : Definition). IsLawful (schema_of v) r.limit r.history) definition lawful);
-      by_workers = by;
-      callers = callers;
-      stands = meant;
-      stands_is = subst (λ (n : ℕ). model.IsRunVerdict (schema_of w) n r.history meant) limit
-          (subst (λ (v : Definition). model.IsRunVerdict (schema_of v) r.limit r.history meant) definition stands);
-      verdict_is = means;
-    }
+    let (meant, means, stands) = meant_by r e is in (
+      meant,
+      record {
+        definition_is = definition;
+        limit_is = limit;
+        lawful = subst (λ (n : ℕ). IsLawful (schema_of w) n r.history) limit (subst (λ (v : Definition). IsLawful (schema_of v) r.limit r.history) definition lawful);
+        by_workers = by;
+        callers = callers;
+        stands = subst (λ (n : ℕ). model.IsRunVerdict (schema_of w) n r.history meant) limit
+            (subst (λ (v : Definition). model.IsRunVerdict (schema_of v) r.limit r.history meant) definition stands);
+      },
+      means,
+    )
 
--- the line of a run of a generated workflow
-pub summarizes : (gives : Call → Outcome → Bool) (w : Definition) (seed size steps workers : ℕ) (c : Compilation) (last : Run) (verdict : Verdict)
-    (counts : Counts) (summary : Summary) (status : Status) (output : List ℕ) → IsCompiled (schema_of w) c → c.counts.live ≡ length c.plans →
-    IsRunOf gives w steps workers last verdict → counts ≡ c.counts → summary ≡ summary_of counts seed size last verdict → status ≡ ended verdict →
-    IsSummary last summary output → Summarizes gives w seed size steps workers status output
-summarizes gives w seed size steps workers c last verdict counts summary status output compiled live run counted is status_is told = record {
+-- the line that is printed of a run with its verdict
+pub summed_as : (r : Run) (summary : Summary) (meant : model.Verdict) (text : List ℕ) → Means r summary.verdict meant → IsSummary r summary text → text ≡ summary_line summary meant
+summed_as r summary meant text means (words, told, is) =
+    is ∙ ap (λ (ws : List ℕ). compact_text (summary_object summary ws) ++ codes "\n") (one_words r summary.verdict words (verdict_text meant) told (meant, means, refl))
+
+-- the numbers of a run of a generated workflow
+pub summarizes : (gives : Call → Outcome → Bool) (w : Definition) (seed size steps workers : ℕ) (c : Compilation) (last : Run) (verdict : Verdict) (meant : model.Verdict)
+    (counts : Counts) (summary : Summary) → IsCompiled (schema_of w) c → c.counts.live ≡ length c.plans → IsRunOf gives w steps workers last meant → Means last verdict meant →
+    counts ≡ c.counts → summary ≡ summary_of counts seed size last verdict → IsSummaryOf gives w seed size steps workers summary meant
+summarizes gives w seed size steps workers c last verdict meant counts summary compiled live run means counted is = record {
   compilation = c;
   compiled = compiled;
   live_counted = live;
   last = last;
-  verdict = verdict;
   run = run;
-  status_is = status_is;
-  output_is = subst (λ (s : Summary). IsSummary last s output) (is ∙ ap (λ (n : Counts). summary_of n seed size last verdict) counted) told;
+  verdict = verdict;
+  means = means;
+  summary_is = is ∙ ap (λ (n : Counts). summary_of n seed size last verdict) counted;
 }

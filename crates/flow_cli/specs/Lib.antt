@@ -1,12 +1,8 @@
-pub mod Code
-pub mod Refusals
-pub mod Compiling
-pub mod Checking
+pub mod Finding
+pub mod Check
 pub mod Drive
-pub mod Driving
-pub mod Tracing
-pub mod Verifying
-pub mod Running
-pub mod Generating
+pub mod Run
+pub mod Trace
+pub mod Verify
 pub mod Large
 pub mod Output

@@ -1,94 +1,84 @@
 -- What a call writes, and with which status it ends.
-use Rattle.std.specs.Prelude.{◌≡◌, ◌≢◌, ◌<◌, ◌≤◌, ◌↔◌, ℕ, Bool, List, [], length, take, drop, Option, Some, IfSome, ◌⊎◌}
+use Rattle.std.specs.Prelude.{◌≡◌, ◌≢◌, ◌+◌, ◌<◌, ◌≤◌, ◌↔◌, ℕ, Bool, List, [], drop, length, Option, Some, Result, Ok, IfSome, ◌⊎◌}
 use Rattle.flow_model.specs.declared.limits.TheConstants.{GREATEST_INPUT}
 use Rattle.flow_model.specs.declared.history.Call.{Call}
 use Rattle.flow_model.specs.declared.history.Outcome.{Outcome}
-use Rattle.flow_form.specs.declared.refusal.TextRefusal.{TextRefusal}
 use Rattle.flow_form.specs.Script.{Said}
-use Rattle.flow_io.specs.declared.failure.ReadRefusal.{ReadRefusal}
-use Rattle.flow_io.specs.declared.failure.ReadRefusal.TheVariants as read
-use Rattle.flow_text.specs.Saying.{Says}
-use Rattle.flow_text.specs.Parsing.{IsParseRefusal}
+use Rattle.flow_form.specs.Names.{event_names}
+use Rattle.flow_findings.specs.declared.refused.Refused.{Refused}
 use Rattle.flow_findings.specs.declared.refused.Refused.TheVariants as refused
-use Rattle.flow_record.specs.Cut.{cut_of}
-use Rattle.flow_findings.specs.Refusing.{IsOfText}
 use Rattle.flow_words.specs.declared.request.Mode.{Mode}
 use Rattle.flow_words.specs.declared.request.Mode.TheVariants.{Drive, Run, Check, Verify, Trace, Gen, Large}
 use Rattle.flow_words.specs.declared.request.Request.{Request}
 use Rattle.flow_words.specs.Words.{IsCall, IsNoCall}
-use Rattle.flow_cli.specs.declared.status.Status.{Status}
-use Rattle.flow_cli.specs.declared.status.Status.TheVariants.{Fine, No, Words, Refused, ReadFault, WriteFault, Memory, Spent}
-use Rattle.flow_cli.specs.Refusals.{Tells}
-use Rattle.flow_cli.specs.Checking.{Checks}
-use Rattle.flow_cli.specs.Driving.{DrivesText}
-use Rattle.flow_cli.specs.Generating.{Generates}
+use Rattle.flow_front.specs.declared.status.Status.{Status}
+use Rattle.flow_front.specs.declared.status.Status.TheVariants as status
+use Rattle.flow_front.specs.Status.{Tells}
+use Rattle.flow_front.specs.Refusal.{the_source, IsCause}
+use Rattle.flow_front.specs.Input.{IsInputOf}
+use Rattle.flow_cli.specs.Finding.{Finding, generated, IsWritten}
+use Rattle.flow_cli.specs.Check.{Checks}
+use Rattle.flow_cli.specs.Drive.{DrivesText}
+use Rattle.flow_cli.specs.Run.{RunsSaid}
+use Rattle.flow_cli.specs.Trace.{TracesText}
+use Rattle.flow_cli.specs.Verify.{VerifiesText}
 use Rattle.flow_cli.specs.Large.{RunsGenerated}
-use Rattle.flow_cli.specs.Running.{Runs}
-use Rattle.flow_cli.specs.Tracing.{TracesText}
-use Rattle.flow_cli.specs.Verifying.{VerifiesText}
-
--- the text of the workflow in an input
-abbrev pub workflow_part : List ℕ → List ℕ
-workflow_part input = take (cut_of input).0 input
-
--- what follows it: a session, a query or a journal
-abbrev pub second_part : List ℕ → List ℕ
-second_part input = drop (cut_of input).1 input
-
--- the input has more bytes than are read
-pub record IsTooLong (input : List ℕ) (status : Status) (output : List ℕ) : Type 0 where
-  pub long : GREATEST_INPUT < length input
-  pub told : Tells [] refused.TooLong status output
-
--- the text of the workflow says nothing, and the output is the first reason
-pub record IsTextRefused (input : List ℕ) (status : Status) (output : List ℕ) : Type 0 where
-  pub refusal : TextRefusal
-  pub of_text : IsOfText refusal
-  pub first : IsParseRefusal (workflow_part input) refusal
-  pub told : Tells [] (refused.Text refusal) status output
-
--- the text of the workflow says something, and the output is P of that and of the text that follows
-pub record IsAnswered (P : Said → List ℕ → Status → List ℕ → Type 0) (input : List ℕ) (status : Status) (output : List ℕ) : Type 0 where
-  pub said : Said
-  pub says : Says (workflow_part input) said
-  pub answered : P said (second_part input) status output
-
--- what is written for an input that is not too long
-abbrev pub WritesFor : (Said → List ℕ → Status → List ℕ → Type 0) → List ℕ → Status → List ℕ → Type 0
-WritesFor P input status output = IsTextRefused input status output ⊎ IsAnswered P input status output
-
--- what is written for an input that was read
-abbrev pub WritesRead : (Said → List ℕ → Status → List ℕ → Type 0) → List ℕ → Status → List ℕ → Type 0
-WritesRead P input status output =
-    IsTooLong input status output ⊎ ((length input ≤ GREATEST_INPUT) × WritesFor P input status output)
-
--- what is written where a source is read that may fail, and that tells its bytes or does not
-abbrev pub WritesIn : (Said → List ℕ → Status → List ℕ → Type 0) → Option (List ℕ) → Status → List ℕ → Type 0
-WritesIn P source status output = Tells [] refused.Read status output ⊎ IfSome source (λ input. WritesRead P input status output)
 
 -- the mode reads the source
 abbrev pub Reads : Mode → Type 0
-Reads Drive = Unit {0}
-Reads Run = Unit {0}
-Reads Check = Unit {0}
-Reads Verify = Unit {0}
-Reads Trace = Unit {0}
 Reads Gen = ⊥
 Reads Large = ⊥
+Reads other = Unit {0}
 
--- What the mode writes. Those that read take the second part, or leave it: `check` and `run` do not look at it. Only what
--- workers run asks the gate.
+-- What a mode that reads finds in what is said and in the text that follows: `check` and `run` do not look at that. Only what workers run
+-- asks the gate.
+abbrev pub Finds : Mode → (Call → Outcome → Bool) → Request → Said → List ℕ → Result Finding Refused → Type 0
+Finds Drive gives request s text came = DrivesText s request.steps text came
+Finds Run gives request s text came = RunsSaid gives s request.steps request.workers came
+Finds Check gives request s text came = Checks s came
+Finds Verify gives request s text came = VerifiesText s text came
+Finds Trace gives request s text came = TracesText s text came
+Finds Gen gives request s text came = ⊥
+Finds Large gives request s text came = ⊥
+
+-- something that may come of what is said is written
+abbrev pub IsTold : (Result Finding Refused → Type 0) → Said → Status → List ℕ → Type 0
+IsTold P s status output = (came : Result Finding Refused) × P came × IsWritten (event_names s.decls) came status output
+
+-- the source is refused, and the output says why
+pub record IsNotRead (source : Option (List ℕ)) (status : Status) (output : List ℕ) : Type 0 where
+  pub why : Refused
+  pub cause : IsCause (the_source source) why
+  pub told : Tells [] why status output
+
+-- the source says something, of which this is written
+pub record IsAnswered (P : Said → List ℕ → Result Finding Refused → Type 0) (source : Option (List ℕ)) (status : Status) (output : List ℕ) : Type 0 where
+  pub said : Said
+  pub second : List ℕ
+  pub read : IsInputOf source said second
+  pub told : IsTold (P said second) said status output
+
+-- what is written of what a source gives
+abbrev pub WritesOf : (Said → List ℕ → Result Finding Refused → Type 0) → Option (List ℕ) → Status → List ℕ → Type 0
+WritesOf P source status output = IsNotRead source status output ⊎ IsAnswered P source status output
+
+-- the output is the text of the generated workflow
+abbrev pub IsGenerated : Request → Status → List ℕ → Type 0
+IsGenerated request status output = IsWritten [] (Ok (generated request.seed request.size)) status output
+
+-- what is written of a run of it
+abbrev pub IsSummarized : (Call → Outcome → Bool) → Request → Status → List ℕ → Type 0
+IsSummarized gives request status output =
+    (came : Result Finding Refused) × RunsGenerated gives request.seed request.size request.steps request.workers came × IsWritten [] came status output
+
+-- what the mode writes
 abbrev pub WritesAs : Mode → (Call → Outcome → Bool) → Request → Option (List ℕ) → Status → List ℕ → Type 0
-WritesAs Drive gives request source status output = WritesIn (λ s text st o. DrivesText s request.steps text st o) source status output
-WritesAs Run gives request source status output = WritesIn (λ s text st o. Runs gives s request.steps request.workers st o) source status output
-WritesAs Check gives request source status output = WritesIn (λ s text st o. Checks s st o) source status output
-WritesAs Verify gives request source status output = WritesIn VerifiesText source status output
-WritesAs Trace gives request source status output = WritesIn TracesText source status output
-WritesAs Gen gives request source status output = Generates request.seed request.size status output
-WritesAs Large gives request source status output = RunsGenerated gives request.seed request.size request.steps request.workers status output
+WritesAs Gen gives request source status output = IsGenerated request status output
+WritesAs Large gives request source status output = IsSummarized gives request status output
+WritesAs mode gives request source status output = WritesOf (Finds mode gives request) source status output
 
 -- For these words and this source the call writes that output with that status: wrong words are refused first, then a
--- source that fails, and then the first reason of the mode that applies, if there is one.
+-- source that fails, and then the first cause of the mode that applies, if there is one.
 abbrev pub Writes : (Call → Outcome → Bool) → List (List ℕ) → Option (List ℕ) → Status → List ℕ → Type 0
 Writes gives words source status output =
     (IsNoCall words × Tells [] refused.Words status output)
@@ -96,36 +86,37 @@ Writes gives words source status output =
 
 -- the call wrote its whole output, and no fault and no want of memory ended it
 abbrev pub IsWhole : Status → Type 0
-IsWhole WriteFault = ⊥
-IsWhole Memory = ⊥
+IsWhole status.WriteFault = ⊥
+IsWhole status.Memory = ⊥
 IsWhole other = Unit {0}
 
 -- the answer to an input that was read
 abbrev pub IsOfInput : Status → Type 0
-IsOfInput Refused = Unit {0}
-IsOfInput Fine = Unit {0}
-IsOfInput No = Unit {0}
-IsOfInput Spent = Unit {0}
+IsOfInput status.Refused = Unit {0}
+IsOfInput status.Fine = Unit {0}
+IsOfInput status.No = Unit {0}
+IsOfInput status.Spent = Unit {0}
 IsOfInput other = ⊥
 
 -- the workflow was checked, the session gone through to its end, or the query or the journal answered
 abbrev pub IsOver : Status → Type 0
-IsOver Fine = Unit {0}
-IsOver No = Unit {0}
-IsOver Spent = Unit {0}
+IsOver status.Fine = Unit {0}
+IsOver status.No = Unit {0}
+IsOver status.Spent = Unit {0}
 IsOver other = ⊥
 
--- why a source was not read
-abbrev pub IsNotRead : ReadRefusal → Status → List ℕ → Type 0
-IsNotRead read.ReadFault status output = Tells [] refused.Read status output
-IsNotRead read.TooLong status output = Tells [] refused.TooLong status output
-IsNotRead read.NoMemory status output = ⊥
+-- where the source tells its bytes, all of them were taken; of too many just one more than the limit
+abbrev pub IsTakenFrom : Option (List ℕ) → Option (List ℕ) → Type 0
+IsTakenFrom left left' = IfSome left (λ input.
+    ((length input ≤ GREATEST_INPUT) × (left' ≡ Some [])) ⊎ ((GREATEST_INPUT < length input) × (left' ≡ Some (drop (GREATEST_INPUT + 1) input))))
 
--- What is written, and what becomes of the source: a fault is told, and where it is to be read an answer stands on its end.
+-- What is written, and what becomes of the source: a fault is told, where it is to be read an answer stands on its end, and a refusal comes
+-- once it is read, or too long.
 pub record IsOutcome (IsWritten : Status → List ℕ → Type 0) (reads : Type 0) (left left' : Option (List ℕ)) (faults faults' : ℕ)
-    (status : Status) (output : List ℕ) : Type 0 where
-  pub writes : IsWritten status output
-  pub whole : IsWhole status
-  pub words : status ≢ Words
-  pub fault : (status ≡ ReadFault) ↔ (faults < faults')
-  pub end : reads → IsOver status → IfSome left (λ _. left' ≡ Some [])
+    (ending : Status) (output : List ℕ) : Type 0 where
+  pub writes : IsWritten ending output
+  pub whole : IsWhole ending
+  pub words : ending ≢ status.Words
+  pub fault : (ending ≡ status.ReadFault) ↔ (faults < faults')
+  pub end : reads → IsOver ending → IfSome left (λ _. left' ≡ Some [])
+  pub refused : reads → ending ≡ status.Refused → IsTakenFrom left left'

@@ -2,29 +2,126 @@ ghost use Rattle.std.specs.Prelude.{◌≡◌, ◌<◌, ◌-◌, ◌^◌, ◌↔
 ghost use Rattle.std.specs.String.{string_bytes};
 ghost use Rattle.std.specs.Io.KnownBytes.{Appends};
 ghost use Rattle.flow_io.specs.Sink.{AppendsPart};
+ghost use Rattle.flow_form.specs.Script.{said};
+ghost use Rattle.flow_form.specs.Names.{IsClosed};
 ghost use Rattle.flow_words.specs.declared.request.Request.{Request};
 ghost use Rattle.flow_words.specs.Words.{IsCall, IsWithin};
-ghost use Rattle.flow_cli.specs.declared.status.Status.{Status};
-ghost use Rattle.flow_cli.specs.Output.{Reads, WritesAs, Writes, IsWhole, IsOver, IsOutcome};
+ghost use Rattle.flow_front.specs.declared.status.Status.{Status};
+ghost use Rattle.flow_cli.specs.Finding.{Answers};
+ghost use Rattle.flow_cli.specs.Output.{Reads, Finds, IsTold, IsGenerated, WritesAs, Writes, IsWhole, IsOver, IsTakenFrom, IsOutcome};
 
-use crate::checking::Check;
-use crate::driving::Drive;
-use crate::generating::write_generated;
-use crate::output::{Output, refuse};
-use crate::reading::answer_source;
-use crate::running::RunMode;
-use crate::status::Status;
-use crate::tracing::Trace;
-use crate::verifying::Verify;
-use flow_crew::Gate;
-use flow_findings::Refused;
+use crate::check::check;
+use crate::drive::drive_text;
+use crate::run::Crew;
+use crate::trace::trace_text;
+use crate::verify::verify_text;
+use flow_front::{Input, Output, Refused, Status, Stop, read_input, refuse, tell};
+use flow_gate::Gate;
+use flow_gen::generate;
 use flow_io::{Sink, Source, write_all};
 use flow_words::{Mode, Request, law_one_request, request_of};
 use std::alloc::{AllocError, Global};
 use std::sync::Wait;
 use std::thread::Threads;
 
-/// What is written for a request. Only what workers run is handed the runtime.
+/// The workers of a request, and the gate that performs their tasks.
+fn crew_of<'a, R: Threads + Wait + Sync, G: Gate>(
+    rt: &'a R,
+    request: Request,
+    gate: &'a G,
+) -> Crew<'a, R, G>
+    requires { IsWithin request }
+    ensures steps { result.steps ≡ request.steps }
+    ensures workers { result.workers ≡ request.workers }
+{
+    Crew {
+        rt,
+        gate,
+        steps: request.steps,
+        workers: request.workers,
+    }
+}
+
+/// What the mode of a request, which reads, finds in an input.
+fn find<R: Threads + Wait + Sync, G: Gate>(
+    rt: &R,
+    alloc: Global,
+    request: Request,
+    input: &Input,
+    gate: &G,
+) -> Result<Output, Stop>
+    requires within { IsWithin request }
+    requires reads { Reads request.mode }
+    requires closed { IsClosed (said input.now.script) }
+    ensures { Answers (Finds request.mode G.gives request (said input.now.script) input.now.second.items) result }
+{
+    let script = &input.script;
+    match request.mode {
+        Mode::Drive => drive_text(alloc, script, &input.second, request.steps),
+        Mode::Run => crew_of(rt, request, gate).run_script(alloc, script),
+        Mode::Check => check(alloc, script),
+        Mode::Verify => verify_text(alloc, script, &input.second),
+        Mode::Trace => trace_text(alloc, script, &input.second),
+        Mode::Gen | Mode::Large => unreachable!(),
+    }
+}
+
+/// What is written of an input.
+fn answer_input<R: Threads + Wait + Sync, G: Gate>(
+    rt: &R,
+    alloc: Global,
+    request: Request,
+    input: &Input,
+    gate: &G,
+) -> Result<Output, AllocError>
+    requires within { IsWithin request }
+    requires reads { Reads request.mode }
+    requires closed { IsClosed (said input.now.script) }
+    ensures { IfOk result (λ output. IsTold (Finds request.mode G.gives request (said input.now.script) input.now.second.items)
+        (said input.now.script) output.status output.text.items) }
+{
+    match find(rt, alloc, request, input, gate) {
+        Ok(output) => Ok(output),
+        Err(stop) => refuse(alloc, stop, Some(&input.script)),
+    }
+}
+
+/// What is written of what the source gives.
+fn answer_source<R: Threads + Wait + Sync, S: Source, G: Gate>(
+    rt: &R,
+    alloc: Global,
+    request: Request,
+    source: &mut S,
+    gate: &G,
+) -> Result<Output, AllocError>
+    requires within { IsWithin request }
+    requires reads { Reads request.mode }
+    requires source_counts { S.faults source.old < 2 ^ 64 - 1 }
+    ensures { IfOk result (λ output. IsOutcome (WritesAs request.mode G.gives request (S.left source.old)) (Reads request.mode)
+        (S.left source.old) (S.left source.new) (S.faults source.old) (S.faults source.new) output.status output.text.items) }
+{
+    match read_input(alloc, source) {
+        Ok(input) => {
+            let output = answer_input(rt, alloc, request, &input, gate);
+            drop(input);
+            output
+        }
+        Err(stop) => refuse(alloc, stop, None),
+    }
+}
+
+/// The generated workflow of that seed and size, as output.
+fn write_generated(alloc: Global, request: Request) -> Result<Output, AllocError>
+    requires { IsWithin request }
+    ensures { IfOk result (λ output. IsGenerated request output.status output.text.items) }
+{
+    Ok(Output {
+        status: Status::Fine,
+        text: generate(alloc, request.seed, request.size)?,
+    })
+}
+
+/// What is written for a request.
 fn answer<R: Threads + Wait + Sync, S: Source, G: Gate>(
     rt: &R,
     alloc: Global,
@@ -38,21 +135,12 @@ fn answer<R: Threads + Wait + Sync, S: Source, G: Gate>(
         (S.left source.old) (S.left source.new) (S.faults source.old) (S.faults source.new) output.status output.text.items) }
     ensures unread { ¬ (Reads request.mode) → source.new ≡ source.old }
 {
-    let steps = request.steps;
-    let run = RunMode {
-        rt,
-        gate,
-        steps,
-        workers: request.workers,
-    };
     match request.mode {
-        Mode::Drive => answer_source(alloc, &Drive { steps }, source),
-        Mode::Run => run.run_source(alloc, source),
-        Mode::Check => answer_source(alloc, &Check, source),
-        Mode::Verify => answer_source(alloc, &Verify, source),
-        Mode::Trace => answer_source(alloc, &Trace, source),
-        Mode::Gen => write_generated(alloc, request.seed, request.size),
-        Mode::Large => run.run_generated(alloc, request.seed, request.size),
+        Mode::Gen => write_generated(alloc, request),
+        Mode::Large => crew_of(rt, request, gate).run_generated(alloc, request.seed, request.size),
+        Mode::Drive | Mode::Run | Mode::Check | Mode::Verify | Mode::Trace => {
+            answer_source(rt, alloc, request, source, gate)
+        }
     }
 }
 
@@ -71,12 +159,14 @@ fn respond<R: Threads + Wait + Sync, S: Source, G: Gate>(
     ensures fault { IfOk result (λ output. (output.status ≡ Status.ReadFault) ↔ (S.faults source.old < S.faults source.new)) }
     ensures end { IfOk result (λ output. (request : Request) → IsCall (map (λ word. string_bytes word) words.now) request → Reads request.mode →
         IsOver output.status → IfSome (S.left source.old) (λ _. S.left source.new ≡ Some [])) }
+    ensures refused { IfOk result (λ output. (request : Request) → IsCall (map (λ word. string_bytes word) words.now) request → Reads request.mode →
+        output.status ≡ Status.Refused → IsTakenFrom (S.left source.old) (S.left source.new)) }
     ensures unread { (request : Request) → IsCall (map (λ word. string_bytes word) words.now) request → ¬ (Reads request.mode) → source.new ≡ source.old }
 {
     law_one_request();
     match request_of(alloc, words)? {
         Some(request) => answer(rt, alloc, request, source, gate),
-        None => refuse(alloc, Refused::Words, None),
+        None => tell(alloc, Refused::Words, None),
     }
 }
 
@@ -105,7 +195,7 @@ pub fn flow<R: Threads + Wait + Sync, S: Source, K: Sink, G: Gate>(
     ensures nothing { result ≡ Status.Memory → K.held sink.new ≡ K.held sink.old }
 
     // When each fault is told; what wrong words leave of the source, which answers stand on a source
-    // read to its end, and which modes leave it alone.
+    // read to its end, what a refusal leaves of it, and which modes leave it alone.
     ensures write_fault { (result ≡ Status.WriteFault) ↔ (K.faults sink.old < K.faults sink.new) }
     ensures read_fault { result ≡ Status.ReadFault → S.faults source.old < S.faults source.new }
     ensures read_fault_told { S.faults source.old < S.faults source.new →
@@ -113,6 +203,8 @@ pub fn flow<R: Threads + Wait + Sync, S: Source, K: Sink, G: Gate>(
     ensures words { result ≡ Status.Words → source.new ≡ source.old }
     ensures end { (request : Request) → IsCall (map (λ word. string_bytes word) words.now) request → Reads request.mode →
         IsOver result → IfSome (S.left source.old) (λ _. S.left source.new ≡ Some []) }
+    ensures refused { (request : Request) → IsCall (map (λ word. string_bytes word) words.now) request → Reads request.mode →
+        result ≡ Status.Refused → IsTakenFrom (S.left source.old) (S.left source.new) }
     ensures unread { (request : Request) → IsCall (map (λ word. string_bytes word) words.now) request → ¬ (Reads request.mode) →
         source.new ≡ source.old }
 {

@@ -7,15 +7,15 @@ ghost use Rattle.flow_expand.specs.Workflows.{IsExpanded};
 ghost use Rattle.flow_plan.specs.Compilation.{IsCompiled};
 ghost use Rattle.flow_gen.specs.Generated.{generated};
 
-use crate::compiling::compile_workflow;
-use flow_excise::{CompileRefusal, Compiled};
-use flow_expand::{ExpandRefusal, Workflow, expand};
 use flow_form::{Script, TextRefusal};
+use flow_front::{Stop, compile_workflow, expand_script};
 use flow_gen::{
     generate, law_generated_texts_are_read, law_generated_workflows_are_compiled,
     law_generated_workflows_are_expanded,
 };
+use flow_plan::Compiled;
 use flow_text::{law_texts_say_one_thing, parse};
+use flow_workflow::Workflow;
 use std::alloc::{AllocError, Global};
 
 /// The script that the generated text says.
@@ -68,11 +68,11 @@ fn expand_generated(
 {
     law_generated_texts_are_read();
     law_generated_workflows_are_expanded();
-    match expand(alloc, script) {
+    match expand_script(alloc, script) {
         Ok(workflow) => Ok(workflow),
-        Err(refusal) => match refusal {
-            ExpandRefusal::NoMemory => Err(AllocError),
-            _ => unreachable!(),
+        Err(stop) => match stop {
+            Stop::NoMemory => Err(AllocError),
+            Stop::Refused(_) => unreachable!(),
         },
     }
 }
@@ -92,9 +92,9 @@ pub(crate) fn compile_generated(
     law_generated_workflows_are_compiled();
     match compile_workflow(alloc, workflow) {
         Ok(compiled) => Ok(compiled),
-        Err(refusal) => match refusal {
-            CompileRefusal::NoMemory => Err(AllocError),
-            _ => unreachable!(),
+        Err(stop) => match stop {
+            Stop::NoMemory => Err(AllocError),
+            Stop::Refused(_) => unreachable!(),
         },
     }
 }

@@ -1,16 +1,16 @@
 //! The mode `large`: workers make a run of a generated workflow.
 ghost use Rattle.std.specs.Prelude.{◌≡◌, ◌≤◌, IfOk};
 ghost use Rattle.flow_model.specs.declared.limits.TheConstants.{GREATEST_SEED, GREATEST_SIZE};
-ghost use Rattle.flow_cli.specs.Output.{IsOfInput};
+ghost use Rattle.flow_cli.specs.Finding.{IsFound};
 ghost use Rattle.flow_cli.specs.Large.{summary_of, RunsGenerated};
 
 use crate::generated::{compile_generated, generated_workflow};
-use crate::output::Output;
-use crate::running::RunMode;
-use crate::session::status_of;
+use crate::run::Crew;
 use flow_core::Core;
-use flow_crew::Gate;
-use flow_excise::Counts;
+use flow_drive::status_of;
+use flow_front::{Output, Prepared};
+use flow_gate::Gate;
+use flow_plan::Counts;
 use flow_reply::{Summary, Verdict, print_summary};
 use std::alloc::{AllocError, Global};
 use std::sync::Wait;
@@ -34,7 +34,7 @@ fn summary_of(core: &Core, counts: &Counts, seed: u32, size: u32, verdict: Verdi
     }
 }
 
-impl<'a, R: Threads + Wait + Sync, G: Gate> RunMode<'a, R, G> {
+impl<'a, R: Threads + Wait + Sync, G: Gate> Crew<'a, R, G> {
     /// Runs the generated workflow of that seed and size, and tells the run in one line once it is over.
     pub(crate) fn run_generated(
         &self,
@@ -45,8 +45,7 @@ impl<'a, R: Threads + Wait + Sync, G: Gate> RunMode<'a, R, G> {
         requires seed { seed ≤ GREATEST_SEED }
         requires some { 1 ≤ size }
         requires few { size ≤ GREATEST_SIZE }
-        ensures writes { IfOk result (λ output. RunsGenerated G.gives seed size self.now.steps self.now.workers output.status output.text.items) }
-        ensures of_input { IfOk result (λ output. IsOfInput output.status) }
+        ensures { IfOk result (IsFound (RunsGenerated G.gives seed size self.now.steps self.now.workers)) }
     {
         let workflow = generated_workflow(alloc, seed, size)?;
         let compiled = match compile_generated(alloc, &workflow, seed, size) {
@@ -57,7 +56,7 @@ impl<'a, R: Threads + Wait + Sync, G: Gate> RunMode<'a, R, G> {
             }
         };
         let counts = compiled.counts();
-        let (core, verdict) = self.run(alloc, workflow, compiled)?;
+        let (core, verdict) = self.run(alloc, Prepared { workflow, compiled })?;
         let summary = summary_of(&core, &counts, seed, size, verdict);
         let text = print_summary(alloc, &core, &summary);
         drop(core);

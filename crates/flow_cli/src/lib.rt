@@ -2,19 +2,13 @@
 #![tactic(auto)]
 
 mod call;
-mod checking;
-mod compiling;
-mod driving;
+mod check;
+mod drive;
 mod generated;
-mod generating;
 mod large;
-mod output;
-mod reading;
-mod running;
-mod session;
-mod status;
-mod tracing;
-mod verifying;
+mod run;
+mod trace;
+mod verify;
 
 pub use call::flow;
-pub use status::Status;
+pub use flow_front::Status;

@@ -1,5 +1,5 @@
 -- What is said has one workflow, or one reason why it has none.
-use Rattle.std.proofs.Common.{◌≡◌, ◌<◌, ◌≤◌, ℕ, List, length, Some, inl, inr, ◌⊎◌, sym, ap, subst, ◌∙◌, arith, le_antisymm}
+use Rattle.std.proofs.Common.{◌≡◌, ◌<◌, ◌≤◌, ℕ, List, length, Some, Err, inl, inr, refl, sym, ap, subst, ◌∙◌, arith, le_antisymm}
 use Rattle.flow_model.specs.declared.limits.TheConstants.{MOST_FLOWS, MOST_LEAVES, MOST_RULE_NAMES}
 use Rattle.flow_model.specs.Lists.{AreDistinct, numbers_from}
 use Rattle.flow_model.specs.Facts.{event_at}
@@ -7,7 +7,7 @@ use Rattle.flow_model.specs.Process.{IsNumbered}
 use Rattle.flow_laws.specs.WellFormed.{IsWellFormed}
 use Rattle.flow_goal.specs.Labelled.{Labelled}
 use Rattle.flow_goal.specs.declared.repeats.Twice.{Twice}
-use Rattle.flow_goal.specs.Repeated.{HoldsNoneTwice, IsFirstTwice}
+use Rattle.flow_goal.specs.Repeats.{HoldsNoneTwice, IsFirstTwice}
 use Rattle.flow_goal.proofs.Repetitions.{not_unique}
 use Rattle.flow_form.specs.Script.{Said}
 use Rattle.flow_form.specs.Names.{declared_names, event_names}
@@ -20,12 +20,13 @@ use Rattle.flow_expand.specs.Numbers.{facts_of, labelled_of}
 use Rattle.flow_expand.specs.Refusals.{flow_count, rule_name_count, IsFinite, IsFitting, HasManyFlows, HasRecursion, HasLargeGoal, HasManyRuleNames, HasRepetition, IsRefusal}
 use Rattle.flow_expand.specs.Workflows.{definition_of, IsExpanded}
 use Rattle.flow_expand.proofs.Endings.{becomes_one}
-use Rattle.flow_expand.proofs.BuildLemmas.{labels_counted, leaves_in_row}
+use Rattle.flow_expand.proofs.LeavesLemmas.{labels_counted, leaves_in_row}
+use Rattle.flow_findings.specs.declared.refused.Refused.{Refused}
 use Rattle.flow_findings.specs.declared.refused.Refused.TheVariants as refused
-use Rattle.flow_findings.specs.Refusing.{refused_text, IsOfWorkflow}
-use Rattle.flow_cli.specs.declared.status.Status.{Status}
-use Rattle.flow_cli.specs.Refusals.{IsNotExpanded, OfWorkflow}
+use Rattle.flow_findings.specs.Refusing.{IsOfWorkflow}
+use Rattle.flow_front.specs.Refusal.{the_script, IsCause}
 use Rattle.flow_cli_laws.specs.Single.{ShowsChain}
+use Rattle.flow_cli_laws.proofs.Agreeing.{Agree, same}
 
 -- the workflow that is said is well-formed
 pub well_formed : (s : Said) (w : Definition) → IsExpanded s w → IsWellFormed (schema_of w)
@@ -94,50 +95,39 @@ module _ (s : Said) (once : AreDistinct (declared_names s.decls)) where
   not_refused (refusal.Twice found) w h of x = repeats found w h x
   not_refused refusal.NoMemory w h of x = absurd of
 
-  -- ---- one refusal
+  -- ---- one refusal, or two chains
 
-  abbrev line : ExpandRefusal → List ℕ
-  line r = refused_text (event_names s.decls) (refused.Expand r)
-
-  -- the outputs of two refusals, which are one, or two chains
   abbrev AreOne : ExpandRefusal → ExpandRefusal → Type 0
-  AreOne r q = (output text : List ℕ) → output ≡ line r → text ≡ line q → (output ≡ text) ⊎ ShowsChain s output text
+  AreOne r q = Agree (event_names s.decls) (ShowsChain s) (Err (refused.Expand r)) (Err (refused.Expand q))
 
-  same : (r q : ExpandRefusal) → r ≡ q → AreOne r q
-  same r q e output text one two = inl (one ∙ ap line e ∙ sym two)
+  alike : (r q : ExpandRefusal) → r ≡ q → AreOne r q
+  alike r q e = same (event_names s.decls) (ShowsChain s) (Err (refused.Expand r)) (Err (refused.Expand q)) (ap (λ (x : ExpandRefusal). Err (refused.Expand x)) e)
 
   refusals_are_one : (r q : ExpandRefusal) → IsRefusal s r → IsRefusal s q → IsOfWorkflow (event_names s.decls) r → IsOfWorkflow (event_names s.decls) q → AreOne r q
   refusals_are_one (refusal.TooLarge part.Flows n) (refusal.TooLarge part.Flows m) h g a b =
-      same (refusal.TooLarge part.Flows n) (refusal.TooLarge part.Flows m) (ap (λ k. refusal.TooLarge part.Flows k) (h.counted ∙ sym g.counted))
+      alike (refusal.TooLarge part.Flows n) (refusal.TooLarge part.Flows m) (ap (λ k. refusal.TooLarge part.Flows k) (h.counted ∙ sym g.counted))
   refusals_are_one (refusal.Recursive c) (refusal.Recursive d) h g a b =
-      λ output text one two. inr (record { one = c; other = d; one_has = h; other_has = g; output_is = one; text_is = two })
+      (refl, inr (record { one = c; other = d; one_has = h; other_has = g; output_is = refl; text_is = refl }))
   refusals_are_one (refusal.TooLarge part.Goal n) (refusal.TooLarge part.Goal m) h g a b =
       let counted : n ≡ m =
       h.counted ∙ ap (λ (e : Expansion). capped (size_of e)) (becomes_one s.decls once s.goal h.expansion g.expansion h.becomes g.becomes) ∙ sym g.counted in
-      same (refusal.TooLarge part.Goal n) (refusal.TooLarge part.Goal m) (ap (λ k. refusal.TooLarge part.Goal k) counted)
+      alike (refusal.TooLarge part.Goal n) (refusal.TooLarge part.Goal m) (ap (λ k. refusal.TooLarge part.Goal k) counted)
   refusals_are_one (refusal.TooLarge part.Rules n) (refusal.TooLarge part.Rules m) h g a b =
-      same (refusal.TooLarge part.Rules n) (refusal.TooLarge part.Rules m) (ap (λ k. refusal.TooLarge part.Rules k) (h.counted ∙ sym g.counted))
+      alike (refusal.TooLarge part.Rules n) (refusal.TooLarge part.Rules m) (ap (λ k. refusal.TooLarge part.Rules k) (h.counted ∙ sym g.counted))
   refusals_are_one (refusal.Twice c) (refusal.Twice d) h g a b =
       let e = becomes_one s.decls once s.goal h.expansion g.expansion h.measured.fitting.becomes g.measured.fitting.becomes in
-      same (refusal.Twice c) (refusal.Twice d) (ap refusal.Twice (twice_once (labelled_of s.decls g.expansion) c d
+      alike (refusal.Twice c) (refusal.Twice d) (ap refusal.Twice (twice_once (labelled_of s.decls g.expansion) c d
       (subst (λ (f : Expansion). IsFirstTwice (labelled_of s.decls f) c) e h.first) g.first))
   refusals_are_one (refusal.Recursive c) (refusal.TooLarge part.Flows m) h g a b = absurd (many_flows m g h.few)
   refusals_are_one (refusal.Twice e) (refusal.TooLarge part.Flows m) h g a b = absurd (many_flows m g h.measured.fitting.finite.few)
   refusals_are_one r q h g a b = absurd (first_of (assumption, search (many_flows, recursive, large_goal, many_names)))
 
-  -- ---- two outputs of what is said
+  -- ---- the script among the things that are looked at
 
-  -- both refuse it, or both are of its workflow
-  pub of_one_workflow : (P : Definition → Status → List ℕ → Type 0) (R : Definition → Type 0) (status other : Status) (output text : List ℕ) →
-      ((w : Definition) → P w status output → P w other text → R w) →
-      IsNotExpanded s status output ⊎ OfWorkflow s (λ w. P w status output) → IsNotExpanded s other text ⊎ OfWorkflow s (λ w. P w other text) →
-      ((status ≡ other) × ((output ≡ text) ⊎ ShowsChain s output text)) ⊎ OfWorkflow s R
-  of_one_workflow P R status other output text each (inl p) (inl q) =
-      inl (
-        p.told.status_is ∙ sym q.told.status_is,
-        refusals_are_one p.refusal q.refusal p.first q.first p.of_workflow q.of_workflow output text p.told.output_is q.told.output_is,
-      )
-  of_one_workflow P R status other output text each (inl p) (inr (w, x, h)) = absurd (not_refused p.refusal w p.first p.of_workflow x)
-  of_one_workflow P R status other output text each (inr (w, x, h)) (inl q) = absurd (not_refused q.refusal w q.first q.of_workflow x)
-  of_one_workflow P R status other output text each (inr (w, x, h)) (inr (v, y, g)) =
-      inr (w, x, each w h (subst (λ (u : Definition). P u other text) (expanded_once v w y x) g))
+  pub refused_alike : (r q : Refused) → IsCause (the_script s) r → IsCause (the_script s) q → Agree (event_names s.decls) (ShowsChain s) (Err r) (Err q)
+  refused_alike (refused.Expand r) (refused.Expand q) (of, h) (are, g) = refusals_are_one r q h g of are
+  refused_alike r q h g = absurd (assumption)
+
+  pub not_both_ways : (r : Refused) (w : Definition) → IsCause (the_script s) r → IsExpanded s w → ⊥
+  not_both_ways (refused.Expand r) w (of, h) x = not_refused r w h of x
+  not_both_ways r w h x = h

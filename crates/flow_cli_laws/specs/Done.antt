@@ -5,6 +5,7 @@ use Rattle.flow_model.specs.declared.history.Call.{Call}
 use Rattle.flow_model.specs.declared.history.Entry.{Entry}
 use Rattle.flow_model.specs.declared.history.Outcome.{Outcome}
 use Rattle.flow_model.specs.Lists.{Each}
+use Rattle.flow_model.specs.Verdict.{committed}
 use Rattle.flow_laws.specs.WellFormed.{IsConsistent}
 use Rattle.flow_laws.specs.Histories.{NeverWaits}
 use Rattle.flow_form.specs.Script.{Said}
@@ -14,15 +15,15 @@ use Rattle.flow_expand.specs.Workflows.{IsExpanded}
 use Rattle.flow_plan.specs.Compilation.{IsWithinLimits}
 use Rattle.flow_core.specs.Run.{Run}
 use Rattle.flow_crew.specs.Done.{IsPlainStep, NeverFails}
-use Rattle.flow_reply.specs.declared.verdict.Verdict.TheVariants.{Committed}
-use Rattle.flow_reply.specs.Report.{IsReport}
 use Rattle.flow_words.specs.declared.request.Mode.TheVariants as mode
 use Rattle.flow_words.specs.declared.request.Request.{Request}
 use Rattle.flow_words.specs.Words.{IsCall}
-use Rattle.flow_cli.specs.declared.status.Status.{Status}
-use Rattle.flow_cli.specs.declared.status.Status.TheVariants.{Fine, ReadFault}
-use Rattle.flow_cli.specs.Running.{IsRunOf}
-use Rattle.flow_cli.specs.Output.{workflow_part, Writes}
+use Rattle.flow_front.specs.declared.status.Status.{Status}
+use Rattle.flow_front.specs.declared.status.Status.TheVariants.{Fine, ReadFault}
+use Rattle.flow_front.specs.Refusal.{workflow_part}
+use Rattle.flow_drive.specs.Verdict.{report_of}
+use Rattle.flow_cli.specs.Run.{IsRunOf}
+use Rattle.flow_cli.specs.Output.{Writes}
 
 -- the input is not too long, and the workflow is the one that it says
 pub record IsInputOf (w : Definition) (input : List ℕ) : Type 0 where
@@ -42,10 +43,10 @@ pub record AlwaysSucceeds (gives : Call → Outcome → Bool) (w : Definition) :
 -- the output is the report of a committed run, in which nothing failed, nothing came late and nothing went back
 pub record ReportsSuccess (gives : Call → Outcome → Bool) (w : Definition) (steps workers : ℕ) (status : Status) (output : List ℕ) : Type 0 where
   pub last : Run
-  pub run : IsRunOf gives w steps workers last Committed
+  pub run : IsRunOf gives w steps workers last committed
   pub plain : Each (λ (entry : Entry). IsPlainStep entry.step) last.history
   pub status_is : status ≡ Fine
-  pub output_is : IsReport last Committed output
+  pub output_is : output ≡ report_of last committed
 
 -- With room for two entries a leaf and one more, such a workflow is run to its end at once, whatever the schedule, unless
 -- its source fails.

@@ -1,21 +1,23 @@
 -- What is written is settled by the words and by what was read, but for a few things of which any will do.
-use Rattle.std.specs.Prelude.{◌≡◌, ℕ, Bool, List, [], Some, ◌⊎◌}
+use Rattle.std.specs.Prelude.{◌≡◌, ℕ, Bool, List, [], Some, Result, ◌⊎◌}
 use Rattle.std.proofs.Common.{Vec, Global}
 use Rattle.flow_model.specs.declared.history.Call.{Call}
 use Rattle.flow_model.specs.declared.history.Outcome.{Outcome}
 use Rattle.flow_model.specs.Constraint.{Constraint}
 use Rattle.flow_form.specs.Script.{Said, Asked, holds, redundant}
-use Rattle.flow_text.specs.Saying.{Says}
+use Rattle.flow_text.specs.Saying.{Says, Asks}
 use Rattle.flow_workflow.specs.Definition.{Definition, schema_of}
 use Rattle.flow_workflow.specs.declared.refusal.ExpandRefusal.TheVariants.{Recursive}
 use Rattle.flow_expand.specs.Refusals.{IsRefusal}
 use Rattle.flow_expand.specs.Constraints.{constraint_of}
 use Rattle.flow_excise.specs.Executions.{TellOfAll}
 use Rattle.flow_excise.specs.Compilation.{all_numbered}
+use Rattle.flow_plan.specs.Compilation.{Compilation, IsCompiled}
 use Rattle.flow_record.specs.declared.command.Command.{Command}
 use Rattle.flow_verify.specs.declared.answers.Verified.TheVariants.{Fails}
 use Rattle.flow_verify.specs.declared.answers.Redundancy.TheVariants.{Needed}
 use Rattle.flow_verify.specs.Verification.{TellsOfProperty, TellsOfConstraint}
+use Rattle.flow_findings.specs.declared.refused.Refused.{Refused}
 use Rattle.flow_findings.specs.declared.refused.Refused.TheVariants as refused
 use Rattle.flow_findings.specs.Refusing.{refused_text, inconsistent_text}
 use Rattle.flow_findings.specs.Judging.{verified_text, redundancy_text}
@@ -23,14 +25,15 @@ use Rattle.flow_words.specs.declared.request.Mode.{Mode}
 use Rattle.flow_words.specs.declared.request.Mode.TheVariants.{Drive, Run, Check, Verify, Trace, Gen, Large}
 use Rattle.flow_words.specs.declared.request.Request.{Request}
 use Rattle.flow_words.specs.Words.{IsCall}
-use Rattle.flow_cli.specs.declared.status.Status.{Status}
-use Rattle.flow_cli.specs.declared.status.Status.TheVariants.{ReadFault}
-use Rattle.flow_cli.specs.Checking.{IsFoundConsistent}
-use Rattle.flow_cli.specs.Driving.{Records}
-use Rattle.flow_cli.specs.Refusals.{OfWorkflow}
-use Rattle.flow_cli.specs.Tracing.{TellsOfLeaves}
-use Rattle.flow_cli.specs.Verifying.{OfQuery}
-use Rattle.flow_cli.specs.Output.{workflow_part, second_part, Writes}
+use Rattle.flow_front.specs.declared.status.Status.{Status}
+use Rattle.flow_front.specs.declared.status.Status.TheVariants.{ReadFault}
+use Rattle.flow_front.specs.Refusal.{workflow_part, second_part}
+use Rattle.flow_front.specs.Prepared.{OfWorkflow}
+use Rattle.flow_cli.specs.Finding.{Finding}
+use Rattle.flow_cli.specs.Check.{FindsConsistent}
+use Rattle.flow_cli.specs.Drive.{DrivesWorkflow}
+use Rattle.flow_cli.specs.Trace.{FindsOfLeaves}
+use Rattle.flow_cli.specs.Output.{Writes}
 
 -- ---- what is shown where any will do
 
@@ -69,6 +72,10 @@ ShowsExecution w (redundant index) output text = ShowsNeed w index output text
 -- a chain, or circles of the workflow
 abbrev pub ShowsCause : Said → List ℕ → List ℕ → Type 0
 ShowsCause s output text = ShowsChain s output text ⊎ OfWorkflow s (λ w. ShowsCircles w output text)
+
+-- the text asks something of what is said, which has P
+abbrev pub OfQuery : Said → List ℕ → (Asked → Type 0) → Type 0
+OfQuery s text P = (query : Asked) × Asks text s query × P query
 
 -- a chain, or an execution of the workflow
 abbrev pub ShowsAsked : Said → Asked → List ℕ → List ℕ → Type 0
@@ -121,18 +128,18 @@ abbrev pub FaultsAreTold : Type 0
 FaultsAreTold = (gives : Call → Outcome → Bool) (words : List (List ℕ)) (input output : List ℕ) →
     Writes gives words (Some input) ReadFault output → output ≡ refused_text [] refused.Read
 
--- two answers are the same
-abbrev pub IsSingle : (Status → List ℕ → Type 0) → Type 0
-IsSingle Writes = (status other : Status) (output text : List ℕ) → Writes status output → Writes other text → (status ≡ other) × (output ≡ text)
+-- one thing alone may come of it
+abbrev pub IsSingle : (Result Finding Refused → Type 0) → Type 0
+IsSingle P = (one other : Result Finding Refused) → P one → P other → one ≡ other
 
 -- Of a workflow that is compiled, whether a text says it or not, nothing is left open: where it is checked and found consistent,
 abbrev pub ChecksAreSingle : Type 0
-ChecksAreSingle = (w : Definition) → IsSingle (IsFoundConsistent w)
+ChecksAreSingle = (w : Definition) → IsSingle (λ came. (c : Compilation) × IsCompiled (schema_of w) c × FindsConsistent w c came)
 
 -- where a list of leaves is checked against it,
 abbrev pub TracesAreSingle : Type 0
-TracesAreSingle = (w : Definition) (leaves : List ℕ) → IsSingle (TellsOfLeaves w leaves)
+TracesAreSingle = (w : Definition) (leaves : List ℕ) → IsSingle (FindsOfLeaves w leaves)
 
 -- and where it is driven by a session.
 abbrev pub SessionsAreSingle : Type 0
-SessionsAreSingle = (w : Definition) (steps : ℕ) (session : List Command) → IsSingle (Records w steps session)
+SessionsAreSingle = (w : Definition) (steps : ℕ) (session : List Command) → IsSingle (DrivesWorkflow w steps session)

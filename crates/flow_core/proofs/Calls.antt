@@ -13,7 +13,7 @@ use Rattle.flow_model.specs.Facts.{event_at, is_event}
 use Rattle.flow_model.specs.Run.{Claim, RunState, claim_at, leaf_of_claim}
 use Rattle.flow_model.specs.Verdict.{call_of, event_of_claim, note_of, attempts}
 use Rattle.flow_laws.specs.Histories.{IsSound}
-use Rattle.flow_laws.proofs.Members.{cons_same}
+use Rattle.flow_model.specs.Decided.{cons_same}
 use Rattle.flow_laws.proofs.ClaimLemmas.{number_of, leaf_of_claim_is}
 use Rattle.flow_workflow.specs.Definition.{Definition, schema_of}
 use Rattle.flow_workflow.specs.Numbers.{IsKnown}
@@ -21,7 +21,7 @@ use Rattle.flow_residual.specs.declared.given.Given.{Given}
 use Rattle.flow_residual.specs.Given.{claim_of}
 use Rattle.flow_residual.specs.Claimed.{Claimed, count_of}
 use Rattle.flow_residual.proofs.Outstanding.{each_at}
-use Rattle.flow_core.specs.declared.engine.Core.TheInside.{Inside}
+use Rattle.flow_core.specs.declared.run.Core.TheInside.{Inside}
 use Rattle.flow_core.specs.Invariant.{AreClaimsOf, IsRunning}
 use Rattle.flow_core.proofs.Steps.{events_at, label_of_event}
 

@@ -7,12 +7,12 @@ use Rattle.flow_model.specs.declared.history.Step.{Step}
 use Rattle.flow_model.specs.Run.{leaf_of_claim, IsCurrent}
 use Rattle.flow_residual.specs.Remaining.{MayComeNext}
 use Rattle.flow_residual.specs.Claimed.{run_of, IsUnanswered}
-use Rattle.flow_core.specs.declared.engine.Core.TheInside.{Inside}
+use Rattle.flow_core.specs.declared.run.Core.TheInside.{Inside}
 use Rattle.flow_core.specs.Run.{Run, now, IsUncommitted, HasEntryLeft}
 use Rattle.flow_core.specs.Invariant.{run_by, IsKept, IsRunning}
 use Rattle.flow_core.proofs.Steps.{longer}
 use Rattle.flow_core.proofs.Tests.{unanswered_there}
-use Rattle.flow_core.proofs.Standings.{unanswered_current, next_of_current}
+use Rattle.flow_core.proofs.GivenClaims.{unanswered_current, next_of_current}
 
 module _ (i : Inside) (k : IsRunning i) (v : Run) (view : run_by i ≡ v) where
   -- what is told of the run, told of the fields

@@ -11,7 +11,7 @@ use Rattle.flow_laws.proofs.NeverAtALoss.{sound_state}
 use Rattle.flow_workflow.specs.Definition.{Definition, schema_of}
 use Rattle.flow_facts.specs.Course.{Course, after_all, state_of_world}
 use Rattle.flow_facts.proofs.JournalLabels.{replay-labels_at}
-use Rattle.flow_core.specs.declared.engine.Core.TheInside.{Inside}
+use Rattle.flow_core.specs.declared.run.Core.TheInside.{Inside}
 use Rattle.flow_core.specs.Invariant.{IsCourseOf, IsRunning}
 use Rattle.flow_core.proofs.Steps.{sound_now}
 use Rattle.flow_core.specs.Lawful.{IsLawful}

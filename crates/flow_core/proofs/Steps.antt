@@ -22,9 +22,9 @@ use Rattle.flow_residual.specs.Claimed.{Claimed}
 use Rattle.flow_facts.specs.Course.{Course}
 use Rattle.flow_facts.specs.Journals.{labels_at}
 use Rattle.flow_facts.proofs.JournalLabels.{labels_at-push, labels_at-take}
-use Rattle.flow_core.specs.declared.engine.Core.TheInside.{Inside}
+use Rattle.flow_core.specs.declared.run.Core.TheInside.{Inside}
 use Rattle.flow_core.specs.Invariant.{AreClaimsOf, IsCourseOf, IsKept, IsRunning}
-use Rattle.flow_core.proofs.Following.{journal_within}
+use Rattle.flow_core.proofs.JournalLemmas.{journal_within}
 
 -- the state after one entry more
 pub state_after-append : (w : Schema) (s : RunState) (history : List Entry) (entry : Entry) →

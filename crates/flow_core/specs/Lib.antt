@@ -2,7 +2,9 @@ pub mod Run
 pub mod Lawful
 pub mod Answers
 pub mod Single
-pub mod Standing
-pub mod Looks
-pub mod Played
+pub mod Claim
+pub mod Next
+pub mod Lists
+pub mod Ask
+pub mod Make
 pub mod Invariant

@@ -1,7 +1,7 @@
 ghost use Rattle.std.specs.Prelude.{◌≡◌, ◌↔◌, IsTrue, [], ◌∷◌, ◌++◌};
 ghost use Rattle.flow_model.specs.Run.{current_leaves, MayAllFollow, MayFollowFirst};
 
-use crate::engine::Core;
+use crate::run::Core;
 use flow_model::MOST_LEAVES;
 
 impl Core {
@@ -26,7 +26,7 @@ impl Core {
         if self.looked && leaf < MOST_LEAVES {
             self.beside.has(leaf)
         } else {
-            self.residual.may_all_follow(self.claims.leaves(), leaf)
+            self.residual.legal_take(self.claims.leaves(), leaf)
         }
     }
 
@@ -37,7 +37,7 @@ impl Core {
         if self.looked && leaf < MOST_LEAVES {
             self.first.has(leaf)
         } else {
-            self.residual.may_follow_first(self.claims.leaves(), leaf)
+            self.residual.legal_do(self.claims.leaves(), leaf)
         }
     }
 }

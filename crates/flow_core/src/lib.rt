@@ -3,21 +3,22 @@
 
 mod ahead;
 mod ask;
-mod ending;
-mod engine;
-mod looking;
+mod claim;
+mod commit;
+mod lists;
+mod make;
 mod next;
-mod performing;
-mod playing;
-mod posting;
+mod perform;
+mod post;
 mod refusal;
+mod rewind;
+mod run;
 mod single;
-mod taking;
+mod take;
 
-pub use ask::{Ask, Told};
-pub use engine::Core;
+pub use ask::{Ask, Told, play};
 pub use flow_model::{Call, FailEffect};
 pub use next::Next;
-pub use playing::play;
 pub use refusal::{CommitRefusal, DoRefusal, PostRefusal, RewindRefusal, TakeRefusal};
+pub use run::Core;
 pub use single::law_answers_are_single;

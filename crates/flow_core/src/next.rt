@@ -1,3 +1,11 @@
+ghost use Rattle.std.specs.Prelude.{◌≡◌, ◌↔◌, ℕ, length, IsTrue, MatchOption};
+ghost use Rattle.flow_model.specs.Lists.{◌∈◌, Each};
+ghost use Rattle.flow_model.specs.Run.{CanDoAside};
+ghost use Rattle.flow_laws.specs.Histories.{NeverWaits};
+
+use crate::run::Core;
+use flow_model::Label;
+
 /// What a run can do next.
 #[derive(Clone, Copy)]
 pub enum Next {
@@ -11,4 +19,126 @@ pub enum Next {
     Stuck(u32),
     /// The run is over.
     Ended,
+}
+
+impl Core {
+    ghost use Rattle.flow_core.specs.Run.{schema, now};
+    ghost use Rattle.flow_core.specs.declared.next.Next.TheVariants.{Stuck};
+    ghost use Rattle.flow_core.specs.Next.{CanStep, CanAct, IsWaiting, IsLeast, IsNext};
+
+    /// Whether the leaf can be taken or done.
+    pub fn can_act(&self, leaf: u32) -> bool
+        ensures { IsTrue result ↔ CanAct self.now leaf }
+    {
+        !self.committed && self.can_step(leaf)
+    }
+
+    /// Whether the run is stuck, and the leaf is one that waits.
+    pub fn waits(&self, leaf: u32) -> bool
+        ensures { IsTrue result ↔ IsWaiting self.now leaf }
+    {
+        match self.look() {
+            Next::Stuck(_) => self.can_do_aside(leaf),
+            _ => false,
+        }
+    }
+
+    /// What the run can do next. Without tests and absences it is never stuck.
+    pub fn next(&self) -> Next
+        ensures next { IsNext self.now result }
+        ensures without_tests { Each NeverWaits (schema self.now).labels → (leaf : ℕ) → ¬ (result ≡ Stuck leaf) }
+    {
+        // brings what the run keeps: its history is legal, on which the second clause rests
+        let _ = &self.history;
+        self.look()
+    }
+
+    /// What the run can do next.
+    fn look(&self) -> Next
+        ensures { IsNext self.now result }
+    {
+        if self.committed {
+            return Next::Ended;
+        }
+        if let Some(leaf) = self.least_step() {
+            return Next::Act(leaf);
+        }
+        if let Some(claim) = self.least_claim() {
+            return Next::Wait(claim);
+        }
+        if self.is_complete() {
+            return Next::Finished;
+        }
+        match self.least_left() {
+            Some(leaf) => Next::Stuck(leaf),
+            None => unreachable!(),
+        }
+    }
+
+    /// Whether the leaf can be taken or done, where the run is not over.
+    fn can_step(&self, leaf: u32) -> bool
+        ensures { IsTrue result ↔ CanStep self.now leaf }
+    {
+        let Some(label) = self.label_at(leaf) else {
+            return false;
+        };
+        match label {
+            Label::Event(_) => self.can_take(leaf),
+            _ => self.label_holds(label) && self.may_be_done(leaf),
+        }
+    }
+
+    /// Whether the leaf is on the journal. It is not done again, so no plan is asked for it.
+    fn is_done(&self, leaf: u32) -> bool
+        ensures done { IsTrue result ↔ (leaf ∈ (now self.now).journal) }
+        ensures no_step { IsTrue result → ¬ (CanStep self.now leaf) }
+        ensures not_left { IsTrue result → ¬ (CanDoAside (schema self.now) (now self.now) leaf) }
+    {
+        self.residual.is_done(leaf)
+    }
+
+    /// Whether the leaf can be done, whatever holds. Where the run is stuck, these are the leaves that wait.
+    pub fn can_do_aside(&self, leaf: u32) -> bool
+        ensures { IsTrue result ↔ CanDoAside (schema self.now) (now self.now) leaf }
+    {
+        let Some(label) = self.label_at(leaf) else {
+            return false;
+        };
+        match label {
+            Label::Event(_) => false,
+            _ => self.may_be_done(leaf),
+        }
+    }
+
+    /// The least leaf that can be taken or done, where the run is not over.
+    fn least_step(&self) -> Option<u32>
+        ensures { MatchOption result ((leaf : ℕ) → ¬ (CanStep self.now leaf)) (IsLeast (CanStep self.now)) }
+    {
+        for leaf in 0..self.leaves() {
+            if !self.is_done(leaf) && self.can_step(leaf) {
+                return Some(leaf);
+            }
+        }
+        None
+    }
+
+    /// The least leaf that can be done, whatever holds.
+    fn least_left(&self) -> Option<u32>
+        ensures { MatchOption result ((leaf : ℕ) → ¬ (CanDoAside (schema self.now) (now self.now) leaf))
+            (IsLeast (CanDoAside (schema self.now) (now self.now))) }
+    {
+        for leaf in 0..self.leaves() {
+            if !self.is_done(leaf) && self.can_do_aside(leaf) {
+                return Some(leaf);
+            }
+        }
+        None
+    }
+
+    /// How many leaves the goal has.
+    pub(crate) fn leaves(&self) -> u32
+        ensures { result ≡ length (schema self.now).labels }
+    {
+        self.workflow.tree().leaves()
+    }
 }

@@ -1,70 +1,74 @@
+use thiserror::Error;
+
 /// Why a leaf is not taken.
-#[derive(Clone, Copy)]
+#[derive(Clone, Copy, Debug, Error)]
 pub enum TakeRefusal {
-    /// The run is over.
+    #[error("the run is over")]
     Closed,
-    /// There is no such leaf.
+    #[error("there is no such leaf")]
     NoLeaf,
-    /// The leaf is no event.
+    #[error("the leaf is no event")]
     WrongKind,
-    /// All steps are spent.
+    #[error("all {limit} steps are spent")]
     Spent { limit: u32 },
-    /// The leaf cannot be taken now.
+    #[error("the leaf cannot be taken now")]
     NotEnabled,
 }
 
 /// Why a leaf that is no event is not done.
-#[derive(Clone, Copy)]
+#[derive(Clone, Copy, Debug, Error)]
 pub enum DoRefusal {
-    /// The run is over.
+    #[error("the run is over")]
     Closed,
-    /// There is no such leaf.
+    #[error("there is no such leaf")]
     NoLeaf,
-    /// The leaf is an event.
+    #[error("the leaf is an event")]
     WrongKind,
-    /// All steps are spent.
+    #[error("all {limit} steps are spent")]
     Spent { limit: u32 },
-    /// The leaf cannot be done now.
+    #[error("the leaf cannot be done now")]
     NotEnabled,
-    /// What the leaf tests does not hold now.
+    #[error("what the leaf tests does not hold now")]
     TestFalse,
 }
 
 /// Why a result is not posted.
-#[derive(Clone, Copy)]
+#[derive(Clone, Copy, Debug, Error)]
 pub enum PostRefusal {
-    /// The run is over.
+    #[error("the run is over")]
     Closed,
-    /// The claim was never given.
+    #[error("the claim was never given")]
     NoClaim,
-    /// The claim is answered.
+    #[error("the claim is answered")]
     Answered,
-    /// All steps are spent.
+    #[error("all {limit} steps are spent")]
     Spent { limit: u32 },
-    /// The claim is of an earlier epoch: the result is recorded and does not count.
+    /// The result is recorded, and does not count.
+    #[error("the claim is of epoch {of}, and it is epoch {now} now")]
     Late { of: u32, now: u32 },
 }
 
 /// Why a run does not go back.
-#[derive(Clone, Copy)]
+#[derive(Clone, Copy, Debug, Error)]
 pub enum RewindRefusal {
-    /// The run is over.
+    #[error("the run is over")]
     Closed,
-    /// All steps are spent.
+    #[error("all {limit} steps are spent")]
     Spent { limit: u32 },
-    /// No other choice is free.
+    #[error("no other choice is free")]
     NoChoice,
 }
 
 /// Why a run is not committed.
-#[derive(Clone, Copy)]
+#[derive(Clone, Copy, Debug, Error)]
 pub enum CommitRefusal {
-    /// The run is over.
+    #[error("the run is over")]
     Closed,
-    /// All steps are spent.
+    #[error("all {limit} steps are spent")]
     Spent { limit: u32 },
-    /// A claim is out, this one the least.
+    /// This claim is the least that is out.
+    #[error("claim {claim} is out")]
     ClaimsOut { claim: u32 },
-    /// The journal is no whole execution.
+    #[error("the journal is no whole execution")]
     Unfinished,
 }

@@ -22,9 +22,9 @@ use Rattle.flow_core.specs.declared.refusal.CommitRefusal.{CommitRefusal}
 use Rattle.flow_core.specs.declared.refusal.CommitRefusal.TheVariants as commit
 use Rattle.flow_core.specs.Run.{Run, schema, now, with_entry, HasEntryLeft}
 use Rattle.flow_core.specs.Answers.{IsOver, Takes, Performs, Commits, Rewinds, PostIsRefused, PostsDone, PostsFailed}
-use Rattle.flow_core.specs.Looks.{IsNext}
-use Rattle.flow_core.proofs.OneAnswer.{none_event, none_other, other_event, not_both}
-use Rattle.flow_core.proofs.Waiting.{none_current}
+use Rattle.flow_core.specs.Next.{IsNext}
+use Rattle.flow_core.proofs.SingleLemmas.{none_event, none_other, other_event, not_both}
+use Rattle.flow_core.proofs.NextLemmas.{none_current}
 use Rattle.flow_crew.specs.declared.ends.End.TheVariants as end
 use Rattle.flow_crew.specs.Ends.{HasNoEnd}
 use Rattle.flow_crew.specs.Moves.{IsOut}

@@ -8,13 +8,13 @@ use Rattle.flow_model.specs.declared.history.Outcome.TheVariants as outcome
 use Rattle.flow_model.specs.declared.history.Step.{Step}
 use Rattle.flow_model.specs.declared.history.Step.TheVariants.{Took, Done, Failed, Late, Rewound}
 use Rattle.flow_model.specs.Verdict.{call_of}
-use Rattle.flow_laws.proofs.Members.{each-append}
+use Rattle.flow_model.proofs.Lists.{each-append}
 use Rattle.flow_core.specs.declared.next.Next.TheVariants as next
 use Rattle.flow_core.specs.declared.refusal.RewindRefusal.{RewindRefusal}
 use Rattle.flow_core.specs.declared.refusal.RewindRefusal.TheVariants as rewind
 use Rattle.flow_core.specs.Run.{Run, schema, now, with_entry, HasEntryLeft}
 use Rattle.flow_core.specs.Answers.{IsUnanswered, Rewinds}
-use Rattle.flow_core.specs.Looks.{IsNext}
+use Rattle.flow_core.specs.Next.{IsNext}
 use Rattle.flow_crew.specs.declared.ends.Move.{Move}
 use Rattle.flow_crew.specs.declared.ends.Move.TheVariants.{Wait, Over}
 use Rattle.flow_crew.specs.Ends.{HasEnd, HasNoEnd}

@@ -20,8 +20,8 @@ use Rattle.flow_model.specs.Run.{Claim, RunState, first_state, state_of, next_st
 use Rattle.flow_model.specs.Verdict.{EndsKept, IsRunStep, call_of, attempts, event_of_claim}
 use Rattle.flow_laws.specs.WellFormed.{IsWellFormed, IsConsistent}
 use Rattle.flow_laws.specs.Histories.{IsSound, NeverWaits}
-use Rattle.flow_laws.proofs.Members.{each-append, each_parts, each_member, at_most}
-use Rattle.flow_laws.proofs.MadeLists.{of_find, same_order}
+use Rattle.flow_model.proofs.Lists.{each-append, each_parts, each_member, at_most}
+use Rattle.flow_model.proofs.MadeLists.{of_find, same_order}
 use Rattle.flow_laws.proofs.TraceLeaves.{distinct_trace}
 use Rattle.flow_laws.proofs.OptionsLemmas.{distinct_leaves}
 use Rattle.flow_laws.proofs.ClaimLemmas.{leaf_of, is_of, and_parts, some_claim, leaf_of_claim_is}
@@ -29,16 +29,17 @@ use Rattle.flow_laws.proofs.SoundStates.{taken_of_current}
 use Rattle.flow_laws.proofs.NeverAtALoss.{sound_state, never_stuck}
 use Rattle.flow_core.specs.Run.{Run, schema, now}
 use Rattle.flow_core.proofs.Steps.{state_after-append}
-use Rattle.flow_core.proofs.Following.{within_free}
+use Rattle.flow_core.proofs.JournalLemmas.{within_free}
 use Rattle.flow_core.proofs.Calls.{number_in, note_in}
-use Rattle.flow_crew.specs.Outcomes.{is_same, announced, outcome_by}
+use Rattle.flow_gate.specs.Gate.{is_same}
+use Rattle.flow_gate.specs.NoteGate.{announced, outcome_by}
 use Rattle.flow_crew.specs.declared.ends.End.{End}
 use Rattle.flow_crew.specs.declared.ends.End.TheVariants as end
 use Rattle.flow_crew.specs.Ends.{IsEnd}
 use Rattle.flow_crew.proofs.Histories.{AreRunSteps}
 use Rattle.flow_crew.specs.Done.{IsPlainStep, IsCallFor, NeverFails, AllSucceeds, DeclaresSuccess}
 use Rattle.std.proofs.lemmas.List.Sums.{length-filter}
-use Rattle.flow_core.proofs.Waiting.{left_in}
+use Rattle.flow_core.proofs.NextLemmas.{left_in}
 
 -- ---- how many entries the leaves allow
 

@@ -8,11 +8,11 @@ use Rattle.flow_model.specs.declared.history.FailEffect.TheVariants.{Kept}
 use Rattle.flow_model.specs.Schema.{Schema}
 use Rattle.flow_model.specs.Run.{first_state, state_of, leaf_of_claim, IsCurrent, IsLegal, IsOpenIndex, IsStuck, current_claims}
 use Rattle.flow_model.specs.Verdict.{Verdict, EndsKept, HasNoOpenIndex, IsRunVerdict, committed, spent, no_other, stuck, unfinished}
-use Rattle.flow_model.specs.Decided.{Decided}
-use Rattle.flow_laws.proofs.Members.{last_of, not_empty}
+use Rattle.flow_model.specs.Decided.{Decided, not_empty}
+use Rattle.flow_model.proofs.Lists.{last_of}
 use Rattle.flow_core.specs.Run.{Run, schema, now, IsUncommitted, HasEntryLeft}
 use Rattle.flow_core.specs.Answers.{IsLeast}
-use Rattle.flow_core.proofs.Waiting.{none_current}
+use Rattle.flow_core.proofs.NextLemmas.{none_current}
 use Rattle.flow_crew.specs.declared.ends.End.{End}
 use Rattle.flow_crew.specs.declared.ends.End.TheVariants as end
 use Rattle.flow_crew.specs.Ends.{IsEnd, HasEnd, HasNoEnd}

@@ -8,8 +8,8 @@ use Rattle.flow_model.specs.declared.history.FailEffect.TheVariants.{Kept}
 use Rattle.flow_model.specs.Schema.{Schema}
 use Rattle.flow_model.specs.Run.{RunState, next_state, state_of, IsOpenIndex, IsLegalFrom}
 use Rattle.flow_model.specs.Verdict.{Verdict, EndsKept, IsRunStep, IsRunVerdict, IsDriven}
-use Rattle.flow_laws.proofs.Members.{cons_same, not_empty}
-use Rattle.flow_laws.proofs.MadeLists.{two_cuts}
+use Rattle.flow_model.specs.Decided.{cons_same, not_empty}
+use Rattle.flow_model.proofs.MadeLists.{two_cuts}
 
 -- a list with one member more, cut before some member: before the last or earlier
 pub cut_last : {A : Type 0} (list : List A) (x : A) (earlier : List A) (y : A) (later : List A) → list ++ x ∷ [] ≡ earlier ++ y ∷ later →

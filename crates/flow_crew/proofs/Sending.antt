@@ -9,7 +9,7 @@ use Rattle.flow_core.below.flow_goal.proofs.goal.Goal.TheLaws.TheKnot.{crosses a
 use Rattle.flow_workflow.proofs.rule.Rule.TheLaws.TheKnot.{crosses as constraints}
 use Rattle.flow_workflow.specs.contracts.workflow.Workflow
 use Rattle.flow_crew.specs.contracts.held.Held
-use Rattle.flow_crew.specs.declared.gate.Gate
+use Rattle.flow_gate.specs.declared.gate.Gate
 
 workflow_send : IsSend Workflow.the_row
 workflow_send = search (name_send, facts_send, goals, constraints, maps, owners, sendable) depth 60 fits 20000

@@ -5,8 +5,8 @@ use Rattle.flow_model.specs.Schema.{Schema, IsOtherLeaf}
 use Rattle.flow_model.specs.Decided.{Decided, decide_both, decide_all_follow, order_of_none}
 use Rattle.flow_model.specs.Run.{Claim, RunState, current_leaves, MayFollow, MayFollowFirst, CanDoAside, IsStuck, Waits}
 use Rattle.flow_model.specs.Verdict.{AreJust}
-use Rattle.flow_core.proofs.Rising.{Below, none_yet, one_found, one_passed, all_found}
-use Rattle.flow_laws.proofs.MadeLists.{order_of_one, same_order}
+use Rattle.flow_core.proofs.RisingLists.{Below, none_yet, one_found, one_passed, all_found}
+use Rattle.flow_model.proofs.MadeLists.{order_of_one, same_order}
 
 -- ---- numbers that have a property
 

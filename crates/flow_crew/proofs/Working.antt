@@ -14,7 +14,7 @@ use Rattle.flow_core.specs.declared.refusal.RewindRefusal.{RewindRefusal}
 use Rattle.flow_core.specs.declared.refusal.RewindRefusal.TheVariants as rewind
 use Rattle.flow_core.specs.Run.{Run, schema, now, with_entry, IsUncommitted, HasEntryLeft}
 use Rattle.flow_core.specs.Answers.{Rewinds}
-use Rattle.flow_core.specs.Looks.{IsNext}
+use Rattle.flow_core.specs.Next.{IsNext}
 use Rattle.flow_core.proofs.Steps.{state_after-append}
 use Rattle.flow_crew.specs.declared.ends.Move.{Move}
 use Rattle.flow_crew.specs.Ends.{HasNoEnd}

@@ -15,7 +15,8 @@ use Rattle.flow_model.specs.Verdict.{note_of}
 use Rattle.flow_laws.specs.WellFormed.{IsWellFormed, IsConsistent}
 use Rattle.flow_laws.specs.Histories.{NeverWaits}
 use Rattle.flow_core.specs.Run.{Run, schema}
-use Rattle.flow_crew.specs.Outcomes.{is_same, announced}
+use Rattle.flow_gate.specs.Gate.{is_same}
+use Rattle.flow_gate.specs.NoteGate.{announced}
 use Rattle.flow_crew.specs.declared.ends.End.{End}
 use Rattle.flow_crew.specs.declared.ends.End.TheVariants as end
 use Rattle.flow_crew.specs.Ends.{IsEnd}

@@ -6,7 +6,7 @@ use Rattle.flow_model.specs.Run.{IsLegal}
 use Rattle.flow_model.specs.Verdict.{IsRunLegal, IsDriven}
 use Rattle.flow_core.specs.declared.next.Next.{Next}
 use Rattle.flow_core.specs.Run.{Run, schema}
-use Rattle.flow_core.specs.Looks.{IsNext}
+use Rattle.flow_core.specs.Next.{IsNext}
 use Rattle.flow_crew.specs.declared.ends.End.{End}
 use Rattle.flow_crew.specs.Ends.{IsEnd, HasNoEnd}
 

@@ -2,4 +2,3 @@ pub mod Ends
 pub mod Moves
 pub mod Invariant
 pub mod Done
-pub mod Outcomes

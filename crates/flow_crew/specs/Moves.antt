@@ -18,7 +18,7 @@ use Rattle.flow_core.specs.declared.refusal.PostRefusal.{PostRefusal}
 use Rattle.flow_core.specs.declared.refusal.RewindRefusal.{RewindRefusal}
 use Rattle.flow_core.specs.Run.{Run, schema, now, with_entry}
 use Rattle.flow_core.specs.Answers.{next_claim, IsUnanswered, PostsDone, PostsFailed, Rewinds}
-use Rattle.flow_core.specs.Looks.{IsNext}
+use Rattle.flow_core.specs.Next.{IsNext}
 use Rattle.flow_crew.specs.declared.ends.Move.{Move}
 use Rattle.flow_crew.specs.declared.ends.Move.TheVariants.{Perform, Went, Wait, Over}
 use Rattle.flow_crew.specs.Ends.{HasEnd, HasNoEnd}

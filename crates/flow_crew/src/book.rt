@@ -3,17 +3,18 @@ ghost use Rattle.flow_crew.specs.Ends.{IsEnd, HasNoEnd};
 ghost use Rattle.flow_crew.specs.Invariant.{IsByWorkers};
 ghost use Rattle.flow_crew.specs.Moves.{IsBegun, IsPosted, IsContinued};
 
-use crate::Gate;
 use crate::ends::{End, Move};
 use crate::held::Held;
 use flow_core::Core;
+use flow_gate::Gate;
 use flow_model::{Call, Outcome};
 use std::marker::Model;
 
 /// A run by workers, and the gate that performs its tasks.
 #[derive(Drop)]
 pub struct Book<'g, G: Gate> {
-    pub(crate) held: Held<G>,
+    // a gate that is lent may cross threads, since it may be shared between them
+    pub(crate) held: Held<&'g G>,
     pub(crate) gate: &'g G,
 }
 

@@ -6,12 +6,12 @@ ghost use Rattle.flow_model.specs.declared.limits.TheConstants.{MOST_WORKERS};
 ghost use Rattle.flow_model.specs.Lists.{Each};
 ghost use Rattle.flow_crew.specs.Ends.{IsEnd};
 
-use crate::Gate;
 use crate::book::Book;
 use crate::ends::{End, Move};
 use crate::held::Held;
 use crate::jobs::{Begin, Post};
 use crossbeam_utils::sync::EventCount;
+use flow_gate::Gate;
 use flow_turn::{NewRefusal, Pass, TurnLock};
 use std::alloc::Global;
 use std::sync::Wait;
@@ -33,14 +33,14 @@ pub fn run_crew<'g, R: Threads + Wait + Sync, G: Gate>(
     ensures callers { Each (λ (entry : Entry). entry.by ≤ workers) result.0.history }
 {
     let Book { held, gate } = book;
-    let held = work_all(rt, alloc, held, gate, workers);
+    let held = work_all(rt, alloc, held, &gate, workers);
     let mut book = Book { held, gate };
     let end = book.finish(0);
     (book, end)
 }
 
 /// What the workers make of the run.
-fn work_all<R: Threads + Wait + Sync, G: Gate>(
+fn work_all<R: Threads + Wait + Sync, G: Gate + Send>(
     rt: &R,
     alloc: Global,
     held: Held<G>,
@@ -63,7 +63,7 @@ fn work_all<R: Threads + Wait + Sync, G: Gate>(
 }
 
 /// So many workers, each in a thread of its own with a pass of its own.
-fn work_beside<R: Threads + Wait + Sync, G: Gate>(
+fn work_beside<R: Threads + Wait + Sync, G: Gate + Send>(
     rt: &R,
     lock: &TurnLock<Held<G>>,
     idle: &EventCount,

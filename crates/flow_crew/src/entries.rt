@@ -3,7 +3,7 @@ ghost use Rattle.std.specs.Prelude.{◌≡◌, ℕ, MatchOption};
 ghost use Rattle.flow_model.specs.declared.history.Step.{Step};
 ghost use Rattle.flow_model.specs.Verdict.{EndsKept};
 ghost use Rattle.flow_core.specs.Run.{schema, HasEntryLeft};
-ghost use Rattle.flow_core.specs.Looks.{IsNext};
+ghost use Rattle.flow_core.specs.Next.{IsNext};
 ghost use Rattle.flow_core.specs.declared.next.Next.TheVariants as nexts;
 ghost use Rattle.flow_crew.specs.Ends.{HasNoEnd};
 ghost use Rattle.flow_crew.specs.Moves.{Advances, move_after, IsOut, IsRecorded};

@@ -3,10 +3,10 @@ ghost use Rattle.flow_crew.specs.Ends.{IsEnd, HasNoEnd};
 ghost use Rattle.flow_crew.specs.Invariant.{IsByWorkers};
 ghost use Rattle.flow_crew.specs.Moves.{IsBegun, IsPosted};
 
-use crate::Gate;
 use crate::ends::{End, Move};
 use crate::tracked::Tracked;
 use flow_core::Core;
+use flow_gate::Gate;
 use flow_model::{Call, Outcome};
 use std::marker::{Model, PhantomData};
 

@@ -2,9 +2,9 @@
 ghost use Rattle.std.specs.Prelude.{◌≡◌, true};
 ghost use Rattle.flow_crew.specs.Moves.{IsBegun, IsPosted};
 
-use crate::Gate;
 use crate::ends::Move;
 use crate::held::Held;
+use flow_gate::Gate;
 use flow_model::{Call, Entry, Outcome};
 use flow_turn::{Job, Kept};
 use flow_workflow::Workflow;

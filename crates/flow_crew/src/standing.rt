@@ -3,7 +3,7 @@ ghost use Rattle.std.specs.Prelude.{◌≡◌, ℕ, IfSome, MatchOption};
 ghost use Rattle.flow_model.specs.Run.{IsLegal, IsOpenIndex};
 ghost use Rattle.flow_model.specs.Verdict.{EndsKept, HasNoOpenIndex};
 ghost use Rattle.flow_core.specs.Run.{schema, now};
-ghost use Rattle.flow_core.specs.Looks.{IsNext};
+ghost use Rattle.flow_core.specs.Next.{IsNext};
 ghost use Rattle.flow_crew.specs.Ends.{IsEnd, HasNoEnd};
 
 use crate::ends::End;

@@ -6,13 +6,14 @@ use Rattle.std.proofs.lemmas.Option.{slice_get-get_or, slice_get_within}
 use Rattle.flow_model.specs.Process.{Process, leaves}
 use Rattle.flow_model.specs.Resolution.{resolution_count, resolutions}
 use Rattle.flow_model.specs.Ways.{Normal, leaf_of_event}
-use Rattle.flow_laws.proofs.MadeLists.{slice_get_append_left, slice_get_append_right, some_same}
+use Rattle.flow_model.proofs.Lists.{slice_get_append_left}
+use Rattle.flow_model.proofs.MadeLists.{slice_get_append_right, some_same}
 use Rattle.flow_laws.proofs.ResolutionsLemmas.{length-resolutions}
 use Rattle.flow_goal.specs.Labelled.{Labelled}
 use Rattle.flow_rules.specs.declared.lanes.Lanes.{Lanes}
 use Rattle.flow_rules.specs.Lanes.{Shows, has_event}
 use Rattle.flow_excise.specs.declared.block.Block.{Block}
-use Rattle.flow_excise.specs.Blocks.{AreLeavesOf, AreShown, HasWays, IsBlock, options_in}
+use Rattle.flow_excise.specs.Block.{AreLeavesOf, AreShown, HasWays, IsBlock, options_in}
 use Rattle.flow_excise.specs.Options.{option_by, options_by}
 
 -- one list more

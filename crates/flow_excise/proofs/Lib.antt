@@ -2,5 +2,5 @@ pub mod BlockLemmas
 pub mod TallyLemmas
 pub mod SiftingLemmas
 pub mod SieveLemmas
-pub mod CompileLemmas
+pub mod CompilationLemmas
 pub mod Workflows

@@ -8,7 +8,7 @@ use Rattle.flow_model.specs.Lists.{◌∈◌}
 use Rattle.flow_model.specs.Process.{Process, Empty, leaves}
 use Rattle.flow_model.specs.Ways.{Normal, leaf_of_event}
 use Rattle.flow_model.specs.Resolution.{ChoiceOption, resolutions}
-use Rattle.flow_laws.proofs.MadeLists.{mem-flat_map, some_same}
+use Rattle.flow_model.proofs.MadeLists.{mem-flat_map, some_same}
 use Rattle.flow_goal.specs.Labelled.{Labelled}
 use Rattle.flow_rules.specs.declared.leaf_table.LeafEvents.{LeafEvents}
 use Rattle.flow_rules.specs.declared.order_set.OrderSet.{OrderSet}
@@ -16,7 +16,7 @@ use Rattle.flow_rules.specs.EventLeaves.{IsBlank, leaf_in}
 use Rattle.flow_rules.specs.Narrowed.{ways_in}
 use Rattle.flow_rules.proofs.LeafLemmas.{noted_leaves}
 use Rattle.flow_excise.specs.declared.block.Block.{Block}
-use Rattle.flow_excise.specs.Blocks.{options_in}
+use Rattle.flow_excise.specs.Block.{options_in}
 use Rattle.flow_rules.specs.WayLists.{is_none, ways_of_sets}
 use Rattle.flow_plan.specs.Sampled.{Sampled}
 use Rattle.flow_excise.specs.declared.refusal.Dropped.{Dropped}
@@ -26,7 +26,7 @@ use Rattle.flow_excise.specs.declared.sieve.Sieve.{Sieve}
 use Rattle.flow_plan.specs.Options.{HasExecution, options_of, option_of}
 use Rattle.flow_excise.specs.Executions.{NumberedOption, numbered_ways, numbered_options, TellsOf, AreSifted}
 use Rattle.flow_excise.specs.Options.{all_options_by, has_ways, option_by, options_by, ways_by}
-use Rattle.flow_excise.specs.Sieves.{ArePlannable, options_with, HasSifted, HasSiftedTo, Sifts}
+use Rattle.flow_excise.specs.Sieve.{ArePlannable, options_with, HasSifted, HasSiftedTo, Sifts}
 use Rattle.flow_weave.specs.Woven.{option_with}
 use Rattle.flow_excise.proofs.SiftingLemmas.{keep_one, drop_one, numbered, more_ways, more_resolutions}
 use Rattle.flow_excise.proofs.TallyLemmas.{taken_more}

@@ -4,7 +4,7 @@ use Rattle.flow_model.specs.Lists.{◌∈◌}
 use Rattle.flow_model.specs.Resolution.{ChoiceOption}
 use Rattle.flow_laws.specs.WellFormed.{IsOrdered}
 use Rattle.flow_laws.proofs.CircleOrTrace.{circles_exclude_traces}
-use Rattle.flow_laws.proofs.Members.{not_empty}
+use Rattle.flow_model.specs.Decided.{not_empty}
 use Rattle.flow_excise.specs.declared.refusal.Dropped.{Dropped}
 use Rattle.flow_plan.specs.Options.{HasExecution, AreJustThose}
 use Rattle.flow_excise.specs.Executions.{NumberedOption, numbered_ways, numbered_options, TellsOf, TellOfAll, AreSifted}

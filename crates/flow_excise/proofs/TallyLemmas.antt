@@ -11,15 +11,15 @@ use Rattle.flow_model.specs.Lists.{joined}
 use Rattle.flow_model.specs.Process.{Process, leaves}
 use Rattle.flow_model.specs.Ways.{Normal}
 use Rattle.flow_model.specs.Resolution.{ChoiceOption, option_size, resolutions}
-use Rattle.flow_rules.specs.declared.counting.WayCount.{WayCount}
+use Rattle.flow_rules.specs.declared.way_count.WayCount.{WayCount}
 use Rattle.flow_goal.specs.Capped.{capped}
-use Rattle.flow_rules.specs.Counts.{count_of}
+use Rattle.flow_rules.specs.WayCount.{count_of}
 use Rattle.flow_goal.proofs.Counting.{product_right, sum_capped}
-use Rattle.flow_rules.proofs.CountLemmas.{none_left}
+use Rattle.flow_rules.proofs.WayCountLemmas.{none_left}
 use Rattle.flow_goal.specs.Labelled.{Labelled}
 use Rattle.flow_excise.specs.declared.tally.Counted.{Counted}
 use Rattle.flow_excise.specs.declared.tally.Tally.{Tally}
-use Rattle.flow_excise.specs.Tallies.{IsCountedTo, tally_of, added, tally_by}
+use Rattle.flow_excise.specs.Tally.{IsCountedTo, tally_of, added, tally_by}
 use Rattle.flow_excise.specs.Options.{has_ways, option_by, options_by, ways_by}
 
 -- two lists of options

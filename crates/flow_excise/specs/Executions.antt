@@ -11,12 +11,12 @@ pub record NumberedOption : Type 0 where
   pub way : ℕ
   pub option : ChoiceOption
 
--- the options of a resolution, their ways numbered from one on
+-- the options of a resolution, their ways numbered from the given one
 abbrev pub numbered_ways : ℕ → ℕ → List ChoiceOption → List NumberedOption
 numbered_ways resolution way [] = []
 numbered_ways resolution way (o ∷ os) = record { resolution = resolution; way = way; option = o } ∷ numbered_ways resolution (way + 1) os
 
--- the options of each resolution, the resolutions numbered from one on
+-- the options of each resolution, the resolutions numbered from the given one
 abbrev pub numbered_options : ℕ → List (List ChoiceOption) → List NumberedOption
 numbered_options resolution [] = []
 numbered_options resolution (os ∷ more) = numbered_ways resolution 0 os ++ numbered_options (resolution + 1) more

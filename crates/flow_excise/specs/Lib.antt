@@ -1,7 +1,7 @@
 pub mod Options
-pub mod Blocks
-pub mod Tallies
+pub mod Block
+pub mod Tally
 pub mod Limits
 pub mod Executions
 pub mod Compilation
-pub mod Sieves
+pub mod Sieve

@@ -3,7 +3,7 @@ ghost use Rattle.flow_model.specs.declared.limits.TheConstants.{MOST_RESOLUTIONS
 ghost use Rattle.flow_model.specs.Resolution.{resolution_count};
 ghost use Rattle.flow_goal.specs.Choices.{AreChoicesOf};
 ghost use Rattle.flow_rules.specs.Conjunction.{normal_in};
-ghost use Rattle.flow_excise.specs.Blocks.{AreLeavesOf, AreShown, IsBlock};
+ghost use Rattle.flow_excise.specs.Block.{AreLeavesOf, AreShown, IsBlock};
 
 use flow_goal::{Choices, Tree, resolutions};
 use flow_rules::{Conjunction, Lanes, Narrowed};

@@ -3,14 +3,14 @@
 #![tactic(auto)]
 
 mod block;
-mod compiling;
+mod compilation;
 mod limits;
 mod refusal;
 mod sieve;
 mod sifted;
 mod tally;
 
-pub use compiling::compile;
+pub use compilation::compile;
 pub use flow_plan::{Compiled, Counts};
 pub use flow_sample::{Circle, ExciseRefusal, excise};
 pub use refusal::{CompileRefusal, Dropped};

@@ -7,10 +7,10 @@ ghost use Rattle.flow_goal.specs.Choices.{AreChoicesOf};
 ghost use Rattle.flow_rules.specs.Conjunction.{normal_in};
 ghost use Rattle.flow_rules.specs.EventLeaves.{IsBlank};
 ghost use Rattle.flow_excise.specs.declared.refusal.CompileRefusal.TheVariants.{NoMemory};
-ghost use Rattle.flow_excise.specs.Blocks.{HasWays, options_in};
+ghost use Rattle.flow_excise.specs.Block.{HasWays, options_in};
 ghost use Rattle.flow_excise.specs.Executions.{numbered_options, numbered_ways};
 ghost use Rattle.flow_excise.specs.Options.{all_options_by, has_ways, options_by};
-ghost use Rattle.flow_excise.specs.Sieves.{ArePlannable, HasSifted, HasSiftedTo, Sifts, options_with, IsPlannable};
+ghost use Rattle.flow_excise.specs.Sieve.{ArePlannable, HasSifted, HasSiftedTo, Sifts, options_with, IsPlannable};
 ghost use Rattle.flow_weave.specs.Woven.{option_with};
 
 use crate::block::{Block, blocks};

@@ -4,12 +4,12 @@ ghost use Rattle.flow_model.specs.Resolution.{resolution_count, resolutions as a
 ghost use Rattle.flow_model.specs.Ways.{Normal, leaf_of_event};
 ghost use Rattle.flow_goal.specs.Choices.{AreChoicesOf};
 ghost use Rattle.flow_rules.specs.Conjunction.{normal_in};
-ghost use Rattle.flow_rules.specs.Counts.{count_of};
+ghost use Rattle.flow_rules.specs.WayCount.{count_of};
 ghost use Rattle.flow_rules.specs.EventLeaves.{IsBlank};
 ghost use Rattle.flow_rules.specs.Narrowed.{ways_in};
-ghost use Rattle.flow_excise.specs.Blocks.{AreLeavesOf, HasWays};
+ghost use Rattle.flow_excise.specs.Block.{AreLeavesOf, HasWays};
 ghost use Rattle.flow_excise.specs.Options.{all_options_by, has_ways};
-ghost use Rattle.flow_excise.specs.Tallies.{IsCountedTo, added, tally_by, tally_of};
+ghost use Rattle.flow_excise.specs.Tally.{IsCountedTo, added, tally_by, tally_of};
 
 use crate::block::{Block, blocks};
 use flow_goal::{Choices, Tree};

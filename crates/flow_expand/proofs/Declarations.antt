@@ -10,10 +10,10 @@ use Rattle.std.proofs.lemmas.Option.{slice_get-get_or, slice_get_within}
 use Rattle.flow_model.specs.Lists.{◌∈◌, Each, AreDistinct}
 use Rattle.flow_model.specs.Trace.{Shuffle, both_end, from_left, from_right}
 use Rattle.flow_model.specs.declared.labels.Note.{Note}
-use Rattle.flow_laws.proofs.MadeLists.{mem-flat_map, some_same}
+use Rattle.flow_model.proofs.MadeLists.{mem-flat_map, some_same}
 use Rattle.flow_laws.proofs.Shuffles.{shuffle_swap, mem_shuffle_left, mem_shuffle_right, distinct_in_shuffle}
-use Rattle.flow_laws.proofs.Members.{each_from_members, each_member, not_elsewhere}
-use Rattle.flow_workflow.specs.Indexed.{IsAdded}
+use Rattle.flow_model.proofs.Lists.{each_from_members, each_member, not_elsewhere, mem_append_left, mem_append_right, mem-slice_get}
+use Rattle.flow_workflow.specs.Numbered.{IsAdded}
 use Rattle.flow_workflow.proofs.Places.{place_of}
 use Rattle.flow_workflow.proofs.FirstPlaces.{place_in}
 use Rattle.flow_form.specs.Form.{Shape, shape_of, shapes}
@@ -27,7 +27,7 @@ use Rattle.flow_expand.specs.Steps.{flow_of, flows_of, flow_name, flow_names, Ar
 use Rattle.flow_expand.specs.Numbers.{declared_facts, event_note, notes_of}
 use Rattle.flow_expand.specs.declared.directory.Directory.{Directory}
 use Rattle.flow_expand.specs.Directory.{found_in, decls_of, IsDirectory}
-use Rattle.flow_expand.proofs.Members.{mem_left, mem_right, mem_at, get_map, same_place, flat_more, any_member, member_any, never_any}
+use Rattle.flow_expand.proofs.Members.{get_map, same_place, flat_more, any_member, member_any, never_any}
 
 -- the names of events and those of sub-workflows among all
 pub names_split : (decls : List Declared) → Shuffle (event_names decls) (flow_names decls) (declared_names decls)
@@ -97,10 +97,10 @@ goals_closed s t h m =
 pub goals_declared : (s : Said) → IsClosed s → AreDeclared s.decls
 goals_declared s h k n t at =
     goals_closed s t h
-    (mem_left t (flat_map flow_goal s.decls) (s.goal ∷ []) (mem-flat_map flow_goal (flow n t) t s.decls (in_flows s.decls n t (mem_at (flows_of s.decls) k (n, t) at)) (inl refl)))
+    (mem_append_left t (flat_map flow_goal s.decls) (s.goal ∷ []) (mem-flat_map flow_goal (flow n t) t s.decls (in_flows s.decls n t (mem-slice_get (flows_of s.decls) k (n, t) at)) (inl refl)))
 
 pub goal_declared : (s : Said) → IsClosed s → Each (λ x. x ∈ declared_names s.decls) (names_in s.goal)
-goal_declared s h = goals_closed s s.goal h (mem_right s.goal (flat_map flow_goal s.decls) (s.goal ∷ []) (inl refl))
+goal_declared s h = goals_closed s s.goal h (mem_append_right s.goal (flat_map flow_goal s.decls) (s.goal ∷ []) (inl refl))
 
 -- names of events
 
@@ -169,7 +169,7 @@ pub found_is : (names : List (List ℕ)) (n : List ℕ) (r : Option ℕ) → Are
 found_is names n None d none at = sym (ap (λ b. cond b (Some (position_or_len (bytes_eq n) names)) None) (never_any bytes_eq bytes_decides n names (none.0 refl)))
 found_is names n (Some k) d none at =
     ap Some (sym (place_in bytes_eq bytes_decides names k n d at))
-    ∙ sym (ap (λ b. cond b (Some (position_or_len (bytes_eq n) names)) None) (member_any bytes_eq bytes_decides n names (mem_at names k n at)))
+    ∙ sym (ap (λ b. cond b (Some (position_or_len (bytes_eq n) names)) None) (member_any bytes_eq bytes_decides n names (mem-slice_get names k n at)))
 
 -- what is found stands there
 pub found_at : (names : List (List ℕ)) (n : List ℕ) (k : ℕ) → AreDistinct names → found_in names n ≡ Some k → slice_get names k ≡ Some n

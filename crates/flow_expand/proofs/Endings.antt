@@ -6,7 +6,7 @@ use Rattle.flow_form.specs.Script.{Declared, flow}
 use Rattle.flow_form.specs.Names.{names_in, names_in_each, declared_names}
 use Rattle.flow_expand.specs.Expansion.{Expansion, in_turn, at_once, one_of, alone, joined, Becomes, AllBecome, becomes_nop, becomes_event, becomes_flow, becomes_test, becomes_absent, becomes_ins, becomes_del, becomes_iso, becomes_serial, becomes_beside, becomes_either, none_becomes, more_become}
 use Rattle.flow_expand.specs.Steps.{flow_names, IsStep, LeadsTo, IsRecursive}
-use Rattle.flow_expand.proofs.Members.{mem_either}
+use Rattle.flow_model.proofs.Lists.{mem-append}
 use Rattle.flow_expand.proofs.Declarations.{not_both, same_goal, flow_named}
 
 -- every way of steps from the sub-workflow comes to an end
@@ -31,7 +31,7 @@ module _ (decls : List Declared) (once : AreDistinct (declared_names decls)) whe
     all_end : (ss : Shapes) (es : List Expansion) → AllBecome decls ss es → (m : List ℕ) → m ∈ names_in_each ss → m ∈ flow_names decls → Ends decls m
     all_end no_more es none_becomes m i f = absurd i
     all_end (followed s ss) es (more_become {s = t} {e = g} {ss = us} {es = gs} b all) m i f =
-        ⊎_elim (λ j. names_end t g b m j f) (λ j. all_end us gs all m j f) (mem_either m (names_in s) (names_in_each ss) i)
+        ⊎_elim (λ j. names_end t g b m j f) (λ j. all_end us gs all m j f) (mem-append m (names_in s) (names_in_each ss) i)
 
   mutual
     pub becomes_one : (s : Shape) (e f : Expansion) → Becomes decls s e → Becomes decls s f → e ≡ f

@@ -8,15 +8,15 @@ use Rattle.flow_model.specs.Process.{Task}
 use Rattle.flow_model.specs.Lists.{◌∈◌, Begins, Each}
 use Rattle.flow_laws.proofs.Shuffles.{of_shuffle}
 use Rattle.flow_facts.specs.Atom.{Atom}
-use Rattle.flow_goal.specs.declared.goal.Operator.{Operator}
-use Rattle.flow_goal.specs.declared.goal.Operator.TheVariants as how
+use Rattle.flow_model.specs.declared.operators.Operator.{Operator}
+use Rattle.flow_model.specs.declared.operators.Operator.TheVariants as how
 use Rattle.flow_goal.specs.Goal.{together}
 use Rattle.flow_workflow.proofs.Places.{at_end}
 use Rattle.flow_form.specs.declared.form.Form.{Form}
 use Rattle.flow_form.specs.Form.{Shape, Shapes, shapes, shape_of, no_more, named, iso}
 use Rattle.flow_form.specs.Script.{Declared}
 use Rattle.flow_form.specs.Names.{event_names, declared_names}
-use Rattle.flow_expand.specs.declared.layout.Deed.{Deed}
+use Rattle.flow_model.specs.declared.labels.Deed.{Deed}
 use Rattle.flow_expand.specs.declared.layout.Piece.{Piece}
 use Rattle.flow_expand.specs.declared.layout.Root.{Root}
 use Rattle.flow_expand.specs.Expansion.{Expansion, nothing, happens, alone, ends_in, isolations_in, capped, sizes_of, joined, Becomes, AllBecome, none_becomes, more_become, becomes_flow, becomes_iso, becomes_serial, becomes_beside, becomes_either}
@@ -26,11 +26,11 @@ use Rattle.flow_expand.specs.declared.directory.Directory.{Directory}
 use Rattle.flow_expand.specs.declared.lay.Stage.{Stage}
 use Rattle.flow_expand.specs.Steps.{flows_of}
 use Rattle.flow_expand.specs.Directory.{IsDirectory, decls_of, found_in}
-use Rattle.flow_expand.specs.Laid.{Goes, ListGoes, IsFront, IsLaid, IsLaidAt, IsReady, list_shape}
-use Rattle.flow_expand.specs.declared.layout.Deed.TheVariants as deed
+use Rattle.flow_expand.specs.Lay.{Goes, ListGoes, IsFront, IsLaid, IsLaidAt, IsSettled, list_shape}
+use Rattle.flow_model.specs.declared.labels.Deed.TheVariants as deed
 use Rattle.flow_expand.specs.declared.layout.Piece.TheVariants as piece
 use Rattle.flow_expand.specs.declared.lay.Stage.TheVariants as stage
-use Rattle.flow_expand.proofs.Members.{get_left, mem_at}
+use Rattle.flow_model.proofs.Lists.{slice_get_append_left, mem-slice_get}
 use Rattle.flow_expand.proofs.Declarations.{in_flows, names_split, found_none, flow_found}
 
 -- a leaf with a fact, whichever it is
@@ -61,12 +61,12 @@ pair_kind how.Either a b = record { sizes = refl; facts = refl; labels = λ even
 
 -- what stands in a layout stands in a longer one
 pub placed_more : (layout more : List Piece) (events : List (List ℕ)) (e : Expansion) (i : ℕ) → IsPlaced layout events e i → IsPlaced (layout ++ more) events e i
-placed_more layout more events e i (placed_nothing {i = p} at) = placed_nothing (get_left layout more p piece.Nop at)
-placed_more layout more events e i (placed_event {i = p} {k = k} {n = n} at there) = placed_event (get_left layout more p (piece.Event k) at) there
-placed_more layout more events e i (placed_fact {i = p} {d = d} {f = f} at) = placed_fact (get_left layout more p (piece.Fact d f) at)
+placed_more layout more events e i (placed_nothing {i = p} at) = placed_nothing (slice_get_append_left layout more p piece.Nop at)
+placed_more layout more events e i (placed_event {i = p} {k = k} {n = n} at there) = placed_event (slice_get_append_left layout more p (piece.Event k) at) there
+placed_more layout more events e i (placed_fact {i = p} {d = d} {f = f} at) = placed_fact (slice_get_append_left layout more p (piece.Fact d f) at)
 placed_more layout more events e i (placed_pair {i = p} {j = j} {k = k} {by = by} {a = a} {b = b} at l m x y) =
-    placed_pair (get_left layout more p (piece.Pair by j k) at) l m (placed_more layout more events a j x) (placed_more layout more events b k y)
-placed_more layout more events e i (placed_alone {i = p} {j = j} {a = a} at l x) = placed_alone (get_left layout more p (piece.Iso j) at) l (placed_more layout more events a j x)
+    placed_pair (slice_get_append_left layout more p (piece.Pair by j k) at) l m (placed_more layout more events a j x) (placed_more layout more events b k y)
+placed_more layout more events e i (placed_alone {i = p} {j = j} {a = a} at l x) = placed_alone (slice_get_append_left layout more p (piece.Iso j) at) l (placed_more layout more events a j x)
 
 -- what stands in a layout stands below its end
 pub placed_below : (layout : List Piece) (events : List (List ℕ)) (e : Expansion) (i : ℕ) → IsPlaced layout events e i → i < length layout
@@ -267,7 +267,7 @@ goes_flow d laid layout n k root h e there =
     let g = h.flows k root n s there at in
     record {
       expansion = g.expansion;
-      becomes = becomes_flow (in_flows (decls_of d) n s (mem_at (flows_of (decls_of d)) k (n, s) at)) g.becomes;
+      becomes = becomes_flow (in_flows (decls_of d) n s (mem-slice_get (flows_of (decls_of d)) k (n, s) at)) g.becomes;
       is_root = g.is_root;
     }
 
@@ -281,7 +281,7 @@ goes_plain (Err x) Q decls layout s t e same b put h = h
 
 -- where all sub-workflows among them were laid, all are
 pub ready : (d : Directory) (laid : List Stage) (ns : List (List ℕ)) → IsDirectory d → Each (λ n. n ∈ declared_names (decls_of d)) ns →
-    ((n : List ℕ) (k : ℕ) → n ∈ ns → found_in d.flows n ≡ Some k → IsLaidAt laid k) → Each (IsReady d laid) ns
+    ((n : List ℕ) (k : ℕ) → n ∈ ns → found_in d.flows n ≡ Some k → IsLaidAt laid k) → Each (IsSettled d laid) ns
 ready d laid [] h declared all = tt
 ready d laid (n ∷ ns) h (here, declared) all = (go (found_in d.flows n) refl, ready d laid ns h declared (λ m k i e. all m k (inr i) e))
   where

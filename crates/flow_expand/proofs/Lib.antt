@@ -1,8 +1,8 @@
 pub mod Members
 pub mod LayLemmas
-pub mod PrepareLemmas
-pub mod SettleLemmas
+pub mod LaidGoalLemmas
+pub mod SettlementLemmas
 pub mod Declarations
 pub mod Endings
-pub mod RulingLemmas
-pub mod BuildLemmas
+pub mod ConstraintsLemmas
+pub mod LeavesLemmas

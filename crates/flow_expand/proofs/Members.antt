@@ -5,10 +5,8 @@ use Rattle.std.specs.Bool.{Decides}
 use Rattle.std.specs.List.{flat_map, list_any}
 use Rattle.std.proofs.lemmas.Option.{slice_get-map, slice_get-get_or}
 use Rattle.flow_model.specs.Lists.{◌∈◌, Each, AreDistinct}
-use Rattle.flow_laws.proofs.Members.{each_from_members, each_member}
-use Rattle.flow_laws.proofs.MadeLists.{flat_map_end, mem-flat_map, mem-map}
-pub use Rattle.flow_model.proofs.Lists.{mem-slice_get as mem_at, slice_get_append_left as get_left}
-pub use Rattle.flow_laws.proofs.Members.{mem_append_left as mem_left, mem_append_right as mem_right, mem-append as mem_either}
+use Rattle.flow_model.proofs.Lists.{each_from_members, each_member, mem-slice_get}
+use Rattle.flow_model.proofs.MadeLists.{flat_map_end, mem-flat_map, mem-map}
 
 pub get_map : {A B : Type 0} (f : A → B) (xs : List A) (i : ℕ) (x : A) → slice_get xs i ≡ Some x → slice_get (map f xs) i ≡ Some (f x)
 get_map f xs i x e = slice_get-map f xs i ∙ ap (option_map f) e
@@ -17,8 +15,8 @@ get_map f xs i x e = slice_get-map f xs i ∙ ap (option_map f) e
 pub same_place : {A : Type 0} (xs : List A) (i j : ℕ) (x : A) → AreDistinct xs → slice_get xs i ≡ Some x → slice_get xs j ≡ Some x → i ≡ j
 same_place [] i j x d e f = absurd (cc)
 same_place (y ∷ xs) zero zero x d e f = refl
-same_place (y ∷ xs) zero (suc j) x d e f = let g : Some y ≡ Some x = e in let h : y ≡ x = cc in absurd (d.0 (subst (λ z. z ∈ xs) (sym h) (mem_at xs j x f)))
-same_place (y ∷ xs) (suc i) zero x d e f = let g : Some y ≡ Some x = f in let h : y ≡ x = cc in absurd (d.0 (subst (λ z. z ∈ xs) (sym h) (mem_at xs i x e)))
+same_place (y ∷ xs) zero (suc j) x d e f = let g : Some y ≡ Some x = e in let h : y ≡ x = cc in absurd (d.0 (subst (λ z. z ∈ xs) (sym h) (mem-slice_get xs j x f)))
+same_place (y ∷ xs) (suc i) zero x d e f = let g : Some y ≡ Some x = f in let h : y ≡ x = cc in absurd (d.0 (subst (λ z. z ∈ xs) (sym h) (mem-slice_get xs i x e)))
 same_place (y ∷ xs) (suc i) (suc j) x d e f = ap suc (same_place xs i j x d.1 e f)
 
 -- a list of what the elements stand for, and one more
@@ -32,7 +30,7 @@ pub each_of_one : {X Y A : Type 0} (P : A → Type 0) (f : Y → List A) (g : X 
     Each P (flat_map f (map g xs)) → Each P (f (g x))
 each_of_one P f g xs i x lt is all =
     each_from_members P (f (g x)) (λ a m. each_member P (flat_map f (map g xs)) all a
-    (mem-flat_map f (g x) a (map g xs) (mem-map g x xs (mem_at xs i x (slice_get-get_or xs i x lt ∙ ap Some (sym is)))) m))
+    (mem-flat_map f (g x) a (map g xs) (mem-map g x xs (mem-slice_get xs i x (slice_get-get_or xs i x lt ∙ ap Some (sym is)))) m))
 
 -- members found by a test of equality
 

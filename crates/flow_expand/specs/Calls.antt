@@ -7,9 +7,9 @@ use Rattle.flow_form.specs.Form.{shape_of}
 use Rattle.flow_form.specs.Names.{names_in}
 use Rattle.flow_expand.specs.declared.directory.Directory.{Directory}
 use Rattle.flow_expand.specs.declared.lay.Stage.{Stage}
-use Rattle.flow_expand.specs.declared.settling.Settling.{Settling}
+use Rattle.flow_expand.specs.declared.settlement.Settlement.{Settlement}
 use Rattle.flow_expand.specs.Directory.{found_in}
-use Rattle.flow_expand.specs.Laid.{IsLaid, IsLaidAt}
+use Rattle.flow_expand.specs.Lay.{IsLaid, IsLaidAt}
 
 -- the numbers of the sub-workflows among the names
 abbrev pub calls_in : List (List ℕ) → List (List ℕ) → List ℕ
@@ -24,7 +24,7 @@ abbrev pub AreSeen : List (Vec ℕ Global) → List ℕ → List Stage → Type 
 AreSeen calls seen laid = (k i j n : ℕ) (list : Vec ℕ Global) → slice_get calls k ≡ Some list → slice_get seen k ≡ Some n → i < n → slice_get list.items i ≡ Some j → IsLaidAt laid j
 
 -- what is kept of each sub-workflow is true of it
-pub record IsSettling (d : Directory) (s : Settling) : Type 0 where
+pub record IsSettlement (d : Directory) (s : Settlement) : Type 0 where
   pub laid : IsLaid d s.laid.items s.layout.items
   pub many : vec_len s.laid ≡ vec_len d.goals
   pub calls : AreCalls d s.calls.items

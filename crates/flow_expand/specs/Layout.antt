@@ -4,10 +4,10 @@ use Rattle.std.proofs.Common.{Bor}
 use Rattle.flow_model.specs.declared.labels.Label.{Label}
 use Rattle.flow_model.specs.declared.labels.Label.TheVariants as label
 use Rattle.flow_facts.specs.Atom.{Atom}
-use Rattle.flow_goal.specs.declared.goal.Operator.{Operator}
-use Rattle.flow_goal.specs.declared.goal.Operator.TheVariants as how
-use Rattle.flow_expand.specs.declared.layout.Deed.{Deed}
-use Rattle.flow_expand.specs.declared.layout.Deed.TheVariants as deed
+use Rattle.flow_model.specs.declared.operators.Operator.{Operator}
+use Rattle.flow_model.specs.declared.operators.Operator.TheVariants as how
+use Rattle.flow_model.specs.declared.labels.Deed.{Deed}
+use Rattle.flow_model.specs.declared.labels.Deed.TheVariants as deed
 use Rattle.flow_expand.specs.declared.layout.Piece.{Piece}
 use Rattle.flow_expand.specs.declared.layout.Piece.TheVariants as piece
 use Rattle.flow_expand.specs.declared.layout.Root.{Root}

@@ -4,11 +4,11 @@ pub mod Constraints
 pub mod Steps
 pub mod Directory
 pub mod Layout
-pub mod Laid
+pub mod Lay
 pub mod Calls
-pub mod Waiting
+pub mod Settlement
 pub mod Refusals
 pub mod Workflows
-pub mod Prepared
-pub mod Built
-pub mod Numbering
+pub mod LaidGoal
+pub mod Leaves
+pub mod NumberedGoal

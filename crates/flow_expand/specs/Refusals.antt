@@ -3,7 +3,7 @@ use Rattle.std.specs.Prelude.{◌≡◌, ℕ, ◌<◌, ◌≤◌, List, length}
 use Rattle.std.specs.List.{flat_map}
 use Rattle.flow_model.specs.declared.limits.TheConstants.{MOST_FLOWS, MOST_LEAVES, MOST_RULE_NAMES}
 use Rattle.flow_goal.specs.declared.repeats.Twice.{Twice}
-use Rattle.flow_goal.specs.Repeated.{IsFirstTwice}
+use Rattle.flow_goal.specs.Repeats.{IsFirstTwice}
 use Rattle.flow_form.specs.Script.{Said}
 use Rattle.flow_form.specs.Names.{names_in_rule}
 use Rattle.flow_workflow.specs.declared.refusal.ExpandRefusal.{ExpandRefusal}

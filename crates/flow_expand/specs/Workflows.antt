@@ -1,6 +1,6 @@
 -- The workflow that is written.
 use Rattle.std.specs.Prelude.{◌≡◌, map}
-use Rattle.flow_goal.specs.Repeated.{HoldsNoneTwice}
+use Rattle.flow_goal.specs.Repeats.{HoldsNoneTwice}
 use Rattle.flow_workflow.specs.Definition.{Definition}
 use Rattle.flow_form.specs.Script.{Said}
 use Rattle.flow_form.specs.Names.{event_names}

@@ -2,7 +2,7 @@ ghost use Rattle.std.specs.Prelude.{◌≡◌, ◌∷◌, [], ◌++◌, ◌<◌,
 ghost use Rattle.flow_model.specs.Lists.{◌∈◌};
 ghost use Rattle.flow_expand.specs.Directory.{IsDirectory, decls_of};
 ghost use Rattle.flow_expand.specs.Steps.{IsRecursion};
-ghost use Rattle.flow_expand.specs.Waiting.{ComesBack};
+ghost use Rattle.flow_expand.specs.Settlement.{ComesBack};
 
 use crate::directory::Directory;
 use flow_facts::Name;
@@ -27,13 +27,8 @@ fn place_of_least(ring: &[usize]) -> usize
     ensures within { result < length ring.now }
     ensures least { (k : ℕ) → k < length ring.now → slice_index ring.now result ≤ slice_index ring.now k }
 {
-    let mut least = 0;
-    for (place, number) in ring.iter().enumerate() {
-        if *number < ring[least] {
-            least = place;
-        }
-    }
-    least
+    let least = ring.iter().enumerate().min_by_key(|(_, number)| **number);
+    least.map_or(0, |(place, _)| place)
 }
 
 /// Writes out the names of those numbers.

@@ -33,7 +33,7 @@ impl<'a> Directory<'a> {
         ensures decls { IfOk result (λ d. d.decls.now ≡ decls.now) }
         ensures directory { IfOk result IsDirectory }
     {
-        let mut flows = Numbered::new(alloc);
+        let mut flows = Numbered::new(alloc, events.text());
         let mut goals = Vec::new(alloc);
         for decl in decls {
             if let Decl::Flow(name, goal) = decl {

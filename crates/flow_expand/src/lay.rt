@@ -6,13 +6,13 @@ ghost use Rattle.flow_form.specs.Names.{names_in, names_in_each};
 ghost use Rattle.flow_form.specs.Script.{Declared};
 ghost use Rattle.flow_expand.specs.declared.lay.Stage.TheVariants as stage;
 ghost use Rattle.flow_expand.specs.Directory.{decls_of};
-ghost use Rattle.flow_expand.specs.Laid.{IsLaid, IsLaidAt, IsReady, Goes, ListGoes, IsFront, list_shape};
+ghost use Rattle.flow_expand.specs.Lay.{IsLaid, IsLaidAt, IsSettled, Goes, ListGoes, IsFront, list_shape};
 
 use crate::directory::Directory;
-use crate::layout::{Deed, Layout, Piece, Root, put_both, put_end, put_isolated};
+use crate::layout::{Layout, Piece, Root, put_both, put_end, put_isolated};
 use flow_facts::Name;
 use flow_form::Form;
-use flow_goal::Operator;
+use flow_model::{Deed, Operator};
 use std::alloc::AllocError;
 
 /// How far a sub-workflow has come.
@@ -50,7 +50,7 @@ fn lay_name(
     name: &Name,
     layout: &mut Layout<'_>,
 ) -> Result<Root, AllocError>
-    requires ready { IsReady directory.now laid.now name.now }
+    requires ready { IsSettled directory.now laid.now name.now }
     requires laid { IsLaid directory.now laid.now layout.old.items }
     ensures grown { Begins layout.new.items layout.old.items }
     ensures ok { IfOk result (Goes (decls_of directory.now) layout.new.items (named name.now)) }
@@ -101,10 +101,10 @@ fn member_ready(
     place: usize,
     form: &Form,
 )
-    requires ready { Each (IsReady directory.now laid.now) (names_in_each (written.shapes (map shape_of forms.now))) }
+    requires ready { Each (IsSettled directory.now laid.now) (names_in_each (written.shapes (map shape_of forms.now))) }
     requires within { place < length forms.now }
     requires is { form.now ≡ slice_index_or forms.now place form.now }
-    ensures { Each (IsReady directory.now laid.now) (names_in (shape_of form.now)) }
+    ensures { Each (IsSettled directory.now laid.now) (names_in (shape_of form.now)) }
 {}
 
 /// Puts in the members of a list, joined from the left.
@@ -116,7 +116,7 @@ fn lay_list<'a>(
     how: Operator,
     layout: &mut Layout<'a>,
 ) -> Result<Root, AllocError>
-    requires ready { Each (IsReady directory.now laid.now) (names_in_each (written.shapes (map shape_of forms.now))) }
+    requires ready { Each (IsSettled directory.now laid.now) (names_in_each (written.shapes (map shape_of forms.now))) }
     requires laid { IsLaid directory.now laid.now layout.old.items }
     ensures grown { Begins layout.new.items layout.old.items }
     ensures ok { IfOk result (Goes (decls_of directory.now) layout.new.items (list_shape how (written.shapes (map shape_of forms.now)))) }
@@ -139,7 +139,7 @@ pub(crate) fn lay<'a>(
     form: &'a Form,
     layout: &mut Layout<'a>,
 ) -> Result<Root, AllocError>
-    requires ready { Each (IsReady directory.now laid.now) (names_in (shape_of form.now)) }
+    requires ready { Each (IsSettled directory.now laid.now) (names_in (shape_of form.now)) }
     requires laid { IsLaid directory.now laid.now layout.old.items }
     ensures grown { Begins layout.new.items layout.old.items }
     ensures ok { IfOk result (Goes (decls_of directory.now) layout.new.items (shape_of form.now)) }

@@ -5,30 +5,18 @@ ghost use Rattle.flow_expand.specs.Layout.{IsRoot, IsPlain, paired, label_of};
 
 use crate::size::Size;
 use flow_facts::Fact;
-use flow_goal::Operator;
-use flow_model::Label;
+use flow_model::{Deed, Label, Operator};
 use std::alloc::AllocError;
 
-/// What a leaf does with its fact.
-#[derive(Clone, Copy)]
-pub(crate) enum Deed {
-    Test,
-    Absent,
-    Ins,
-    Del,
-}
-
-impl Deed {
-    /// The label of a leaf that does it with the fact of that number.
-    pub(crate) fn label(self, fact: u32) -> Label
-        ensures { result ≡ label_of self fact }
-    {
-        match self {
-            Deed::Test => Label::Test(fact),
-            Deed::Absent => Label::Absent(fact),
-            Deed::Ins => Label::Ins(fact),
-            Deed::Del => Label::Del(fact),
-        }
+/// The label of a leaf that does it with the fact of that number.
+pub(crate) fn label_of(deed: Deed, fact: u32) -> Label
+    ensures { result ≡ label_of deed fact }
+{
+    match deed {
+        Deed::Test => Label::Test(fact),
+        Deed::Absent => Label::Absent(fact),
+        Deed::Ins => Label::Ins(fact),
+        Deed::Del => Label::Del(fact),
     }
 }
 

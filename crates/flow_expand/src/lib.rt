@@ -2,23 +2,23 @@
 //! counted, unique events.
 #![tactic(auto)]
 
-mod assembling;
-mod building;
+mod assembly;
 mod calls;
 mod chain;
+mod constraints;
 mod directory;
 mod events;
-mod expanding;
+mod expansion;
 mod fact_numbers;
+mod laid_goal;
 mod lay;
 mod layout;
+mod leaves;
 mod numbered_goal;
-mod preparing;
 mod rule_names;
-mod ruling;
-mod settling;
+mod settlement;
 mod size;
 
-pub use expanding::expand;
+pub use constraints::rule_of;
+pub use expansion::expand;
 pub use flow_workflow::{ExpandRefusal, Part, Workflow};
-pub use ruling::rule_of;

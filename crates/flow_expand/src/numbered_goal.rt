@@ -4,12 +4,13 @@ ghost use Rattle.flow_model.specs.Process.{IsNumbered};
 ghost use Rattle.flow_goal.specs.Goal.{process_of};
 ghost use Rattle.flow_form.specs.Script.{said};
 ghost use Rattle.flow_form.specs.Names.{IsClosed};
-ghost use Rattle.flow_expand.specs.Prepared.{IsPrepared};
-ghost use Rattle.flow_expand.specs.Numbering.{IsNumberedGoal};
+ghost use Rattle.flow_expand.specs.LaidGoal.{IsPrepared};
+ghost use Rattle.flow_expand.specs.NumberedGoal.{IsNumberedGoal};
 
-use crate::building::{Leaves, build};
 use crate::fact_numbers::declared_fact_set;
-use crate::preparing::LaidGoal;
+use crate::laid_goal::LaidGoal;
+use crate::leaves::{Leaves, build};
+use flow_facts::TextKey;
 use flow_form::Script;
 use flow_goal::{Goal, Tree};
 use flow_model::Label;
@@ -52,6 +53,7 @@ fn tree_of(goal: Goal, labels: Vec<Label>) -> Tree
 /// Builds the goal of the layout. The facts that are declared have the first numbers.
 pub(crate) fn number(
     alloc: Global,
+    text: TextKey,
     script: &Script,
     laid: &LaidGoal<'_>,
 ) -> Result<NumberedGoal, AllocError>
@@ -59,13 +61,13 @@ pub(crate) fn number(
     requires prepared { IsPrepared (said script.now) laid.now.layout.items laid.now.root }
     ensures { IfOk result (IsNumberedGoal (said script.now)) }
 {
-    let facts = declared_fact_set(alloc, &script.decls)?;
+    let facts = declared_fact_set(alloc, text, &script.decls)?;
     let held = numbers_below(alloc, facts.count())?;
     let labels = Vec::new(alloc);
     let mut leaves = Leaves { facts, labels };
     let goal = build(alloc, &laid.layout, laid.root.place, &mut leaves)?;
     let Leaves { facts, labels } = leaves;
     let tree = tree_of(goal, labels);
-    let facts = FactTable::new(facts.into_keys());
+    let facts = FactTable::new(facts);
     Ok(NumberedGoal { facts, held, tree })
 }

@@ -2,9 +2,7 @@ pub mod Atom
 pub mod Same
 pub mod Letters
 pub mod Held
-pub mod NameMark
-pub mod Marks
-pub mod Ordered
+pub mod Hashed
 pub mod Text
 pub mod Changes
 pub mod Course

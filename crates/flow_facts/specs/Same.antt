@@ -70,3 +70,9 @@ atom_equiv = deciding_equiv atom_eq atom_eq-Decides
 
 pub atom_partial_equiv : IsPartialEquivalence atom_eq
 atom_partial_equiv = partial_equiv_from_equiv atom_equiv
+
+pub names_same : (x y : List ℕ) → pointwise nat_eq x y ≡ true → x ≡ y
+names_same x y e = (words_eq-Decides x y).0 e
+
+pub atoms_same : (x y : Atom) → atom_eq x y ≡ true → x ≡ y
+atoms_same x y e = (atom_eq-Decides x y).0 e

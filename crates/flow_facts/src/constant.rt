@@ -1,9 +1,8 @@
 ghost use Rattle.std.specs.Prelude.{◌≡◌, IfOk};
-ghost use Rattle.flow_facts.specs.Marks.{const_mark};
 
 use crate::name::Name;
 use std::alloc::{AllocError, Global};
-use std::cmp::Ordering;
+use std::hash::{Hash, Hasher};
 
 /// An argument of a fact.
 #[derive(Drop)]
@@ -13,15 +12,6 @@ pub enum Const {
 }
 
 impl Const {
-    pub(crate) fn mark(&self) -> u64
-        ensures { result ≡ const_mark self.now }
-    {
-        match self {
-            Const::Word(word) => word.mark(),
-            Const::Number(number) => u64::from(*number),
-        }
-    }
-
     /// The same constant in memory of its own.
     pub fn copy(&self, alloc: Global) -> Result<Const, AllocError>
         ensures { IfOk result (λ constant. constant ≡ self.now) }
@@ -56,37 +46,24 @@ impl Eq for Const {
     ghost laws = { const_equiv };
 }
 
-impl PartialOrd for Const {
-    ghost use Rattle.std.specs.Prelude.{Some};
-    ghost use Rattle.flow_facts.specs.Ordered.{const_cmp, const_order};
+impl Hash for Const {
+    ghost use Rattle.flow_facts.specs.Hashed.{const_input, constants_alike};
 
-    ghost partial_cmp = { λ x y. Some (const_cmp x y) };
+    ghost hash_input = { const_input };
 
-    ghost laws = { const_order };
+    ghost respects_eq = { constants_alike.fed };
 
-    fn partial_cmp(&self, other: &Const) -> Option<Ordering> {
-        Some(self.cmp(other))
-    }
-}
-
-impl Ord for Const {
-    ghost use Rattle.std.specs.Prelude.{refl};
-    ghost use Rattle.flow_facts.specs.Ordered.{const_cmp, const_total, const_ties};
-
-    ghost cmp = { const_cmp };
-
-    ghost total = { const_total };
-
-    ghost matches_partial_cmp = { λ x y. refl };
-
-    ghost matches_eq = { const_ties };
-
-    fn cmp(&self, other: &Const) -> Ordering {
-        match (self, other) {
-            (Const::Word(one), Const::Word(two)) => one.cmp(two),
-            (Const::Word(_), Const::Number(_)) => Ordering::Less,
-            (Const::Number(_), Const::Word(_)) => Ordering::Greater,
-            (Const::Number(one), Const::Number(two)) => one.cmp(two),
+    // No byte of a name is as small as what is written before each constant, so neither is taken for the end of a name.
+    fn hash<H: Hasher>(&self, state: &mut H) {
+        match self {
+            Const::Word(word) => {
+                state.write_u8(0);
+                word.hash(state);
+            }
+            Const::Number(number) => {
+                state.write_u8(1);
+                number.hash(state);
+            }
         }
     }
 }

@@ -8,6 +8,7 @@ mod journals;
 mod letters;
 mod name;
 mod text;
+mod text_key;
 mod update;
 mod world;
 
@@ -17,4 +18,5 @@ pub use fact::Fact;
 pub use journals::law_replaying_is_performing;
 pub use name::Name;
 pub use text::push_fact;
+pub use text_key::TextKey;
 pub use world::World;

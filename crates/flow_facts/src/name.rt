@@ -1,35 +1,15 @@
 ghost use Rattle.std.specs.Prelude.{◌≡◌, IfOk};
-ghost use Rattle.flow_facts.specs.NameMark.{marked, name_mark};
 
 use crate::letters::Letters;
 use std::alloc::{AllocError, Global};
-use std::cmp::Ordering;
+use std::fmt::{self, Debug, Display, Formatter};
+use std::hash::{Hash, Hasher};
 use std::marker::Model;
 
 /// A name, as the bytes that it is written in.
 #[derive(Drop)]
 pub struct Name {
-    /// Most names differ in it, so to compare two of them seldom looks at their bytes.
-    mark: u64,
     letters: Letters,
-}
-
-/// The mark of what has one number more.
-pub(crate) fn marked_with(mark: u64, number: u64) -> u64
-    ensures { result ≡ marked mark number }
-{
-    mark.wrapping_mul(1_099_511_628_211).wrapping_add(number)
-}
-
-/// The mark of these bytes.
-fn mark_of(bytes: &[u8]) -> u64
-    ensures { result ≡ name_mark bytes.now }
-{
-    let mut mark = 0;
-    for byte in bytes {
-        mark = marked_with(mark, u64::from(*byte));
-    }
-    mark
 }
 
 impl Model for Name {
@@ -37,13 +17,9 @@ impl Model for Name {
 
     ghost Value = { List ℕ };
 
-    ghost use Rattle.std.specs.Prelude.{◌≡◌};
-    ghost use Rattle.flow_facts.specs.NameMark.{name_mark};
     ghost use Rattle.flow_facts.specs.Letters.{letters_of};
 
     ghost view = { λ n. letters_of n.letters };
-
-    ghost invariant = { λ n. n.mark ≡ name_mark (letters_of n.letters) };
 }
 
 impl Name {
@@ -51,27 +27,16 @@ impl Name {
     pub fn new(alloc: Global, bytes: &[u8]) -> Result<Name, AllocError>
         ensures { IfOk result (λ name. name ≡ bytes.now) }
     {
-        Ok(Name {
-            mark: mark_of(bytes),
-            letters: Letters::new(alloc, bytes)?,
-        })
+        let letters = Letters::new(alloc, bytes)?;
+        Ok(Name { letters })
     }
 
     /// The same name in memory of its own.
     pub fn copy(&self, alloc: Global) -> Result<Name, AllocError>
         ensures { IfOk result (λ name. name ≡ self.now) }
     {
-        Ok(Name {
-            mark: self.mark,
-            letters: self.letters.copy(alloc)?,
-        })
-    }
-
-    /// A number in which most names differ. Equal names have the same, and names are ordered by it before their bytes.
-    pub fn mark(&self) -> u64
-        ensures { result ≡ name_mark self.now }
-    {
-        self.mark
+        let letters = self.letters.copy(alloc)?;
+        Ok(Name { letters })
     }
 
     /// The bytes that it is written in.
@@ -104,35 +69,30 @@ impl Eq for Name {
     ghost laws = { Prim.search (comparing, rules) };
 }
 
-impl PartialOrd for Name {
-    ghost use Rattle.std.specs.Prelude.{Some};
-    ghost use Rattle.flow_facts.specs.Ordered.{name_cmp, name_order};
+impl Hash for Name {
+    ghost use Rattle.std.specs.Prelude.{◌∷◌, []};
+    ghost use Rattle.flow_facts.specs.Hashed.{names_alike};
 
-    ghost partial_cmp = { λ x y. Some (name_cmp x y) };
+    ghost hash_input = { λ n. n ∷ [] };
 
-    ghost laws = { name_order };
+    ghost respects_eq = { names_alike.fed };
 
-    fn partial_cmp(&self, other: &Name) -> Option<Ordering> {
-        Some(self.cmp(other))
+    fn hash<H: Hasher>(&self, state: &mut H) {
+        state.write(self.bytes());
     }
 }
 
-impl Ord for Name {
-    ghost use Rattle.std.specs.Prelude.{refl};
-    ghost use Rattle.flow_facts.specs.Ordered.{name_cmp, name_total, name_ties};
-
-    ghost cmp = { name_cmp };
-
-    ghost total = { name_total };
-
-    ghost matches_partial_cmp = { λ x y. refl };
-
-    ghost matches_eq = { name_ties };
-
-    fn cmp(&self, other: &Name) -> Ordering {
-        match self.mark().cmp(&other.mark()) {
-            Ordering::Equal => self.bytes().cmp(other.bytes()),
-            unequal => unequal,
+impl Display for Name {
+    fn fmt<W: fmt::Write>(&self, f: &mut Formatter<W>) -> fmt::Result {
+        for byte in self.bytes() {
+            f.write_char(char::from(*byte))?;
         }
+        Ok(())
+    }
+}
+
+impl Debug for Name {
+    fn fmt<W: fmt::Write>(&self, f: &mut Formatter<W>) -> fmt::Result {
+        Display::fmt(self, f)
     }
 }

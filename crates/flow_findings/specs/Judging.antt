@@ -2,7 +2,7 @@
 use Rattle.std.specs.Prelude.{ℕ, List, ◌++◌, length, codes}
 use Rattle.std.specs.Fmt.{decimal}
 use Rattle.flow_workflow.specs.Definition.{Definition}
-use Rattle.flow_record.specs.Journal.{AreLeaves, journal_text}
+use Rattle.flow_record.specs.Journal.{journal_text}
 use Rattle.flow_trace.specs.declared.checked.Checked.{Checked}
 use Rattle.flow_trace.specs.declared.checked.Checked.TheVariants.{Execution, Prefix, Bad}
 use Rattle.flow_verify.specs.declared.answers.Verified.{Verified}
@@ -29,13 +29,3 @@ verified_text w (Fails t) = codes "fails\n" ++ counted_journal w t.items
 abbrev pub redundancy_text : Definition → Redundancy → List ℕ
 redundancy_text w Redundant = codes "redundant\n"
 redundancy_text w (Needed t) = codes "needed\n" ++ counted_journal w t.items
-
--- each leaf of the execution that is told has a label
-abbrev pub HasLabels : Definition → Verified → Type 0
-HasLabels w Holds = Unit {0}
-HasLabels w (Fails t) = AreLeaves w t.items
-
--- the same for a constraint
-abbrev pub NeedHasLabels : Definition → Redundancy → Type 0
-NeedHasLabels w Redundant = Unit {0}
-NeedHasLabels w (Needed t) = AreLeaves w t.items

@@ -15,19 +15,16 @@ use Rattle.flow_form.specs.Script.{said}
 use Rattle.flow_form.specs.Names.{event_names}
 use Rattle.flow_record.specs.declared.refusal.RecordRefusal.{RecordRefusal}
 use Rattle.flow_record.specs.declared.refusal.RecordRefusal.TheVariants as record_refusal
-use Rattle.flow_record.specs.Spaced.{spaced_numbers}
+use Rattle.flow_record.specs.Number.{spaced_numbers}
 use Rattle.flow_workflow.specs.declared.refusal.ExpandRefusal.{ExpandRefusal}
 use Rattle.flow_workflow.specs.declared.refusal.ExpandRefusal.TheVariants as expansion
 use Rattle.flow_workflow.specs.declared.refusal.Part.TheVariants as part
 use Rattle.flow_excise.specs.declared.refusal.Dropped.{Dropped}
 use Rattle.flow_excise.specs.declared.refusal.CompileRefusal.{CompileRefusal}
 use Rattle.flow_excise.specs.declared.refusal.CompileRefusal.TheVariants as compilation
+use Rattle.flow_words.specs.Usage.{usage_text}
 use Rattle.flow_findings.specs.declared.refused.Refused.{Refused}
 use Rattle.flow_findings.specs.declared.refused.Refused.TheVariants.{Words, Read, TooLong, Text, Query, Record, Expand, NoRule, Compile}
-
--- how the program is called
-abbrev pub usage_text : List ℕ
-usage_text = codes "usage: flow MODE [--steps N] [--workers N] [--seed N] [--size N]\n" ++ codes "modes: drive run check verify trace gen large\n"
 
 -- what a text needs, in words
 abbrev pub kind_text : Wanted → List ℕ

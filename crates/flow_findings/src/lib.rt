@@ -1,14 +1,14 @@
 //! The lines that the program writes of a workflow that it does not run: refusals, counts, traces and properties.
 #![tactic(auto)]
 
-mod checking;
-mod judging;
-mod numbered;
+mod check;
+mod compile_refusal;
+mod expand_refusal;
+mod judgement;
+mod refusal_line;
 mod refused;
-mod uncompiled;
-mod unexpanded;
-mod unread;
+mod text_refusal;
 
-pub use checking::print_check;
-pub use judging::{print_checked, print_redundancy, print_verified};
+pub use check::print_check;
+pub use judgement::{print_checked, print_redundancy, print_verified};
 pub use refused::{Refused, print_refused};

@@ -1,14 +1,16 @@
-ghost use Rattle.std.specs.Prelude.{◌≡◌, IfOk};
+ghost use Rattle.std.specs.Prelude.{◌≡◌, ◌++◌, codes, IfOk};
+ghost use Rattle.flow_words.specs.Usage.{usage_text};
 ghost use Rattle.flow_findings.specs.Refusing.{refused_text, named_by, IsTold};
 
-use crate::numbered::print_numbered;
-use crate::uncompiled::print_compile_refusal;
-use crate::unexpanded::print_expand_refusal;
-use crate::unread::{print_line_refusal, print_text_refusal};
+use crate::compile_refusal::print_compile_refusal;
+use crate::expand_refusal::print_expand_refusal;
+use crate::refusal_line::print_numbered;
+use crate::text_refusal::{print_line_refusal, print_text_refusal};
 use flow_excise::CompileRefusal;
 use flow_form::{Script, TextRefusal};
 use flow_model::GREATEST_INPUT;
-use flow_record::RecordRefusal;
+use flow_record::{RecordRefusal, print_pieces};
+use flow_words::print_usage;
 use flow_workflow::ExpandRefusal;
 use std::alloc::{AllocError, Global};
 
@@ -19,7 +21,7 @@ pub enum Refused {
     Words,
     /// The input could not be read.
     Read,
-    /// The input has more than 1,048,576 bytes.
+    /// The input has more than `GREATEST_INPUT` bytes.
     TooLong,
     /// The text of the workflow says nothing.
     Text(TextRefusal),
@@ -46,10 +48,7 @@ pub fn print_refused(
     ensures { IfOk result (λ text. text.items ≡ refused_text (named_by script.entry) refused.now) }
 {
     match refused {
-        Refused::Words => Vec::from_slice(
-            alloc,
-            b"refused: words\nusage: flow MODE [--steps N] [--workers N] [--seed N] [--size N]\nmodes: drive run check verify trace gen large\n",
-        ),
+        Refused::Words => print_words_refusal(alloc),
         Refused::Read => Vec::from_slice(alloc, b"refused: read\n"),
         Refused::TooLong => print_numbered(alloc, "too long", GREATEST_INPUT as u64),
         Refused::Text(refusal) => print_text_refusal(alloc, b"refused: ", refusal),
@@ -59,4 +58,12 @@ pub fn print_refused(
         Refused::NoRule(index) => print_numbered(alloc, "constraint", u64::from(*index)),
         Refused::Compile(refusal) => print_compile_refusal(alloc, refusal),
     }
+}
+
+/// Prints that the words are no call of the program, and how it is called.
+fn print_words_refusal(alloc: Global) -> Result<Vec<u8>, AllocError>
+    ensures { IfOk result (λ text. text.items ≡ codes "refused: words\n" ++ usage_text) }
+{
+    let usage = print_usage(alloc)?;
+    print_pieces(alloc, &[b"refused: words\n", &usage])
 }

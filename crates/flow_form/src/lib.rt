@@ -7,10 +7,10 @@ mod refusal;
 mod rule_form;
 mod script;
 
-pub use flow_facts::{Const, Fact, Name};
+pub use flow_facts::{Const, Fact, Name, TextKey};
 pub use flow_model::Note;
 pub use form::Form;
 pub use query::Query;
 pub use refusal::{TextRefusal, Wanted};
 pub use rule_form::RuleForm;
-pub use script::{Decl, Script};
+pub use script::{Decl, Script, declared_key};

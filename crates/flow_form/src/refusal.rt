@@ -3,9 +3,11 @@ ghost use Rattle.flow_form.specs.declared.refusal.TextRefusal.TheVariants.{NoMem
 
 use flow_facts::Name;
 use std::alloc::{AllocError, AllocFailed};
+use std::fmt::{self, Display, Formatter};
+use thiserror::Error;
 
 /// What a text needs at the place where it goes wrong.
-#[derive(Clone, Copy)]
+#[derive(Clone, Copy, Debug)]
 pub enum Wanted {
     /// A declaration or the goal.
     Declaration,
@@ -29,22 +31,50 @@ pub enum Wanted {
     End,
 }
 
+impl Display for Wanted {
+    fn fmt<W: fmt::Write>(&self, f: &mut Formatter<W>) -> fmt::Result {
+        f.write_str(match self {
+            Wanted::Declaration => "a declaration or the goal",
+            Wanted::Constraint => "a constraint or the end",
+            Wanted::Name => "the name of an event or sub-workflow",
+            Wanted::Fact => "a fact",
+            Wanted::Constant => "a constant",
+            Wanted::Atom => "a goal",
+            Wanted::Rule => "a rule",
+            Wanted::Opening => "an opening parenthesis",
+            Wanted::Closing => "a closing parenthesis",
+            Wanted::Equals => "an equals sign",
+            Wanted::Semicolon => "a semicolon",
+            Wanted::Query => "a query",
+            Wanted::Number => "a number",
+            Wanted::End => "the end",
+        })
+    }
+}
+
 /// Why a text gives no workflow or no query. Places are offsets in bytes.
-#[derive(Drop)]
+#[derive(Debug, Drop, Error)]
 pub enum TextRefusal {
     /// The first byte over 127.
+    #[error("byte {place} is not ASCII")]
     NotAscii { place: usize },
-    /// The first byte that begins no token, or the first of a number over 4,294,967,295.
+    /// The first byte that begins no token, or the first of a number over the greatest `u32`.
+    #[error("no token begins at byte {place}")]
     BadToken { place: usize },
     /// The first token with which no text goes on, or the end of the text.
+    #[error("{kind} is expected at byte {place}")]
     Expected { place: usize, kind: Wanted },
     /// The first name that is not declared as it must be.
+    #[error("{name} at byte {place} is not declared as it must be")]
     Unknown { place: usize, name: Name },
     /// The first name that is declared a second time.
+    #[error("{name} at byte {place} is declared a second time")]
     Repeated { place: usize, name: Name },
-    /// The parenthesis or `not` that stands inside 200 others.
+    /// The parenthesis or `not` that stands inside `GREATEST_DEPTH` others.
+    #[error("what opens at byte {place} stands too deep")]
     TooDeep { place: usize },
     /// There is no memory for the workflow. Nothing is said of the text.
+    #[error("out of memory")]
     NoMemory,
 }
 

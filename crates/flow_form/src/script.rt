@@ -1,7 +1,8 @@
 use crate::form::Form;
 use crate::rule_form::RuleForm;
-use flow_facts::{Fact, Name};
+use flow_facts::{Fact, Name, TextKey};
 use flow_model::Note;
+use std::hash::{DefaultHasher, Hash};
 
 /// One declaration.
 #[derive(Drop)]
@@ -11,6 +12,19 @@ pub enum Decl {
     Event(Name, Note),
     /// A sub-workflow.
     Flow(Name, Form),
+}
+
+/// The key of the tables of a text's names and facts, made of the names and facts that are declared. Facts that stand at leaves
+/// alone are not in it: there are no more of them than leaves.
+pub fn declared_key(decls: &[Decl]) -> TextKey {
+    let mut read = DefaultHasher::new();
+    for decl in decls {
+        match decl {
+            Decl::Fact(fact) => fact.hash(&mut read),
+            Decl::Event(name, _) | Decl::Flow(name, _) => name.hash(&mut read),
+        }
+    }
+    TextKey::of(&read)
 }
 
 /// A workflow as it is written.

@@ -10,8 +10,8 @@ use Rattle.flow_model.specs.Resolution.{resolutions, resolution_count}
 use Rattle.flow_model.specs.Constraint.{Meets}
 use Rattle.flow_model.specs.Decided.{Decided, decide_in}
 use Rattle.flow_model.specs.Schema.{IsGood}
-use Rattle.flow_laws.proofs.Members.{each_to}
-use Rattle.flow_laws.proofs.MadeLists.{numbers_from_below}
+use Rattle.flow_model.proofs.Lists.{each_to}
+use Rattle.flow_model.proofs.MadeLists.{numbers_from_below}
 use Rattle.flow_laws.proofs.ResolutionsLemmas.{resolves_of, choice_free_resolution, goal_trace, mem-leaves_of_goal, length-resolutions}
 use Rattle.flow_goal.proofs.Rising.{Rises, increasing, resolution_rises}
 use Rattle.flow_workflow.specs.Definition.{Definition, schema_of}

@@ -13,9 +13,9 @@ use Rattle.flow_model.specs.Lists.{◌∈◌, AreDistinct, numbers_from}
 use Rattle.flow_model.specs.Facts.{event_at}
 use Rattle.flow_model.specs.Process.{leaves}
 use Rattle.flow_model.specs.Trace.{Trace}
-use Rattle.flow_laws.proofs.MadeLists.{distinct-filter_map, numbers_from_below, distinct-numbers_from}
+use Rattle.flow_model.proofs.MadeLists.{distinct-filter_map, numbers_from_below, distinct-numbers_from}
 use Rattle.flow_laws.proofs.TraceLeaves.{leaf_of_trace, distinct_trace}
-use Rattle.flow_goal.specs.Repeated.{HoldsNoneTwice, HoldsTwice}
+use Rattle.flow_goal.specs.Repeats.{HoldsNoneTwice, HoldsTwice}
 use Rattle.flow_goal.proofs.Repetitions.{not_unique}
 use Rattle.flow_form.specs.Form.{Shape}
 use Rattle.flow_form.specs.Script.{event, flow}
@@ -30,7 +30,7 @@ use Rattle.flow_expand.specs.Expansion.{Expansion, Becomes, size_of}
 use Rattle.flow_expand.specs.Numbers.{numbered, labelled_of, facts_of}
 use Rattle.flow_expand.specs.Refusals.{IsMeasured, rule_name_count, flow_count}
 use Rattle.flow_expand.specs.Workflows.{IsExpanded, definition_of}
-use Rattle.flow_expand.proofs.BuildLemmas.{labels_counted, leaves_in_row}
+use Rattle.flow_expand.proofs.LeavesLemmas.{labels_counted, leaves_in_row}
 use Rattle.flow_expand.proofs.Endings.{no_recursion, becomes_one}
 use Rattle.flow_gen.specs.Generated.{event_name, all_draws, kinds, constraints, generated}
 use Rattle.flow_gen.specs.Laws.{WorkflowsAreExpanded, ExpansionsAreNotRefused, choice_count}

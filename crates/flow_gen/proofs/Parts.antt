@@ -4,8 +4,7 @@ use Rattle.std.specs.List.{flat_map}
 use Rattle.flow_model.specs.declared.limits.TheConstants.{MOST_LEAVES}
 use Rattle.flow_model.specs.declared.labels.Note.TheVariants.{Done}
 use Rattle.flow_model.specs.Lists.{◌∈◌, Each, numbers_from}
-use Rattle.flow_model.proofs.Lists.{mem-slice_get}
-use Rattle.flow_laws.proofs.Members.{each-append}
+use Rattle.flow_model.proofs.Lists.{mem-slice_get, each-append}
 use Rattle.flow_form.specs.Form.{Shape, named, beside, shapes, IsGrouped, AreGrouped}
 use Rattle.flow_form.specs.RuleForm.{RuleShape, IsGroupedRule}
 use Rattle.flow_form.specs.Script.{event}

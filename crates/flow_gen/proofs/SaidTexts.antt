@@ -5,7 +5,7 @@ use Rattle.std.proofs.lemmas.List.{length-take-le, length-map}
 use Rattle.flow_model.specs.declared.limits.TheConstants.{GREATEST_DEPTH, GREATEST_SIZE}
 use Rattle.flow_model.specs.declared.labels.Note.TheVariants.{Done}
 use Rattle.flow_model.specs.Lists.{◌∈◌, Each, numbers_from, AreDistinct}
-use Rattle.flow_laws.proofs.Members.{each-append, each_to}
+use Rattle.flow_model.proofs.Lists.{each-append, each_to}
 use Rattle.flow_form.specs.declared.refusal.TextRefusal.{TextRefusal}
 use Rattle.flow_form.specs.declared.refusal.TextRefusal.TheVariants.{NoMemory}
 use Rattle.flow_form.specs.Form.{Shape, IsGrouped}
@@ -16,7 +16,7 @@ use Rattle.flow_grammar.specs.Print.{nesting, rule_nesting, IsWithin}
 use Rattle.flow_grammar.specs.Made.{IsWellMade}
 use Rattle.flow_text.specs.Printable.{IsPrintable, IsPrintableRule}
 use Rattle.flow_text.specs.Saying.{Says}
-use Rattle.flow_text.specs.Parsing.{IsParseRefusal}
+use Rattle.flow_text.specs.Parser.{IsParseRefusal}
 use Rattle.flow_text.proofs.SaidLaws.{prints_say_it}
 use Rattle.flow_text.proofs.OneAnswer.{texts_have_one_answer}
 use Rattle.flow_gen.specs.Generated.{event_name, all_draws, kinds, generated}

@@ -11,7 +11,7 @@ use Rattle.flow_form.specs.declared.refusal.TextRefusal.TheVariants.{NoMemory}
 use Rattle.flow_form.specs.Names.{IsClosed}
 use Rattle.flow_text.specs.Printed.{printed}
 use Rattle.flow_text.specs.Saying.{Says}
-use Rattle.flow_text.specs.Parsing.{IsParseRefusal}
+use Rattle.flow_text.specs.Parser.{IsParseRefusal}
 use Rattle.flow_workflow.specs.Definition.{Definition, schema_of}
 use Rattle.flow_workflow.specs.declared.refusal.ExpandRefusal.{ExpandRefusal}
 use Rattle.flow_workflow.specs.declared.refusal.ExpandRefusal.TheVariants as refusal

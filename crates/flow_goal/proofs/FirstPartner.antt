@@ -8,8 +8,8 @@ use Rattle.flow_model.specs.Process.{Process, Empty, Task, Sequence, Parallel, C
 use Rattle.flow_laws.specs.Events.{AreTogether}
 use Rattle.flow_laws.proofs.EventsLemmas.{blocks_with_both}
 use Rattle.flow_laws.proofs.TraceLeaves.{leaf_of_blocks}
-use Rattle.flow_laws.proofs.MadeLists.{numbers_from_below, numbers_from_least}
-use Rattle.flow_laws.proofs.Members.{mem_append_left, mem_append_right, mem-append}
+use Rattle.flow_model.proofs.MadeLists.{numbers_from_below, numbers_from_least}
+use Rattle.flow_model.proofs.Lists.{mem_append_left, mem_append_right, mem-append}
 use Rattle.flow_goal.specs.declared.partners.Partner.{Partner}
 use Rattle.flow_goal.specs.declared.partners.Partner.TheVariants.{Outside, Alone, With}
 use Rattle.flow_goal.specs.Partners.{partner_in, partner_in_both, partner_in_choice}

@@ -2,7 +2,7 @@ pub mod Numbers
 pub mod Counting
 pub mod EachLists
 pub mod Rising
-pub mod Simpler
+pub mod SimpleLemmas
 pub mod FirstPartner
 pub mod Repetitions
 pub mod Writing

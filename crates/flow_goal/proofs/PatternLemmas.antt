@@ -9,14 +9,15 @@ use Rattle.flow_model.specs.Lists.{each_with_each}
 use Rattle.flow_model.specs.Process.{Process, Sequence, Parallel, Choice, Isolated, leaves}
 use Rattle.flow_model.specs.Resolution.{resolutions, resolution_count}
 use Rattle.flow_laws.proofs.ResolutionsLemmas.{length-resolutions}
-use Rattle.flow_laws.proofs.MadeLists.{length-each_with_each, slice_get-each_with_each, slice_get_append_left, slice_get_append_right}
+use Rattle.flow_model.proofs.MadeLists.{length-each_with_each, slice_get-each_with_each, slice_get_append_right}
+use Rattle.flow_model.proofs.Lists.{slice_get_append_left}
 use Rattle.flow_goal.specs.declared.node.Node.{Node}
 use Rattle.flow_goal.specs.declared.node.Node.TheVariants.{Serial, Fork, Split, Join, Open, Close}
 use Rattle.flow_goal.specs.declared.text.Text.{Text}
 use Rattle.flow_goal.specs.declared.pattern.Pattern.{Pattern, Fixed, Both', Either'}
 use Rattle.flow_goal.specs.declared.draft.Draft.{Draft}
 use Rattle.flow_goal.specs.Written.{nodes_of}
-use Rattle.flow_goal.specs.Patterns.{IsCounted, IsLineOf, Lays, Line, Writes, drafted, line, line_of, lines_in, lines_of, nothing, then}
+use Rattle.flow_goal.specs.Pattern.{IsCounted, IsLineOf, Lays, Line, Writes, drafted, line, line_of, lines_in, lines_of, nothing, then}
 use Rattle.flow_goal.proofs.Counting.{product_capped}
 use Rattle.flow_goal.proofs.EachLists.{each_assoc}
 use Rattle.flow_goal.specs.Capped.{capped}

@@ -8,9 +8,9 @@ use Rattle.flow_model.specs.Facts.{event_at, is_event}
 use Rattle.flow_model.specs.Schema.{Schema}
 use Rattle.flow_laws.specs.Events.{AreTogether}
 use Rattle.flow_laws.proofs.EventsLemmas.{blocks_with_both, are_together, unique_events}
-use Rattle.flow_laws.proofs.MadeLists.{same_source}
+use Rattle.flow_model.proofs.MadeLists.{same_source}
 use Rattle.flow_goal.specs.Labelled.{Labelled}
-use Rattle.flow_goal.specs.Repeated.{HoldsNoneTwice, HoldsTwice, IsFirstFrom, IsFirstTwice, HoldsNoneFrom}
+use Rattle.flow_goal.specs.Repeats.{HoldsNoneTwice, HoldsTwice, IsFirstFrom, IsFirstTwice, HoldsNoneFrom}
 use Rattle.flow_goal.specs.declared.partners.Partner.TheVariants.{Outside, Alone, With}
 use Rattle.flow_goal.specs.declared.repeats.Twice.{Twice}
 use Rattle.flow_goal.specs.Partners.{partner_in}

@@ -1,7 +1,7 @@
 -- A goal of the code as a process of the definitions.
 use Rattle.flow_goal.specs.declared.goal.Goal.{Goal, Nop, Leaf, Serial', Beside', Either', Iso'}
-use Rattle.flow_goal.specs.declared.goal.Operator.{Operator}
-use Rattle.flow_goal.specs.declared.goal.Operator.TheVariants.{Serial, Beside, Either}
+use Rattle.flow_model.specs.declared.operators.Operator.{Operator}
+use Rattle.flow_model.specs.declared.operators.Operator.TheVariants.{Serial, Beside, Either}
 use Rattle.flow_model.specs.Process.{Process, Empty, Task, Sequence, Parallel, Choice, Isolated}
 
 abbrev pub process_of : Goal → Process

@@ -5,8 +5,7 @@ pub mod Labelled
 pub mod Numbering
 pub mod Resolved
 pub mod Simple
-pub mod Shapes
 pub mod Partners
-pub mod Patterns
-pub mod Repeated
+pub mod Pattern
+pub mod Repeats
 pub mod Written

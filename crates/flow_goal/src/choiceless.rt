@@ -7,8 +7,8 @@ ghost use Rattle.flow_goal.specs.Resolved.{IsResolved};
 ghost use Rattle.flow_goal.specs.Written.{nodes_of};
 
 use crate::goal::Goal;
+use crate::goal_stack::{read_node, take_top};
 use crate::node::Node;
-use crate::reading::{read_node, take_top};
 use std::alloc::{AllocError, Global};
 use std::marker::Model;
 

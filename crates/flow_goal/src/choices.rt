@@ -4,7 +4,7 @@ ghost use Rattle.flow_model.specs.Process;
 ghost use Rattle.flow_goal.specs.Goal.{process_of};
 ghost use Rattle.flow_goal.specs.Capped.{capped};
 ghost use Rattle.flow_goal.specs.Choices.{AreChoicesOf};
-ghost use Rattle.flow_goal.specs.Patterns.{IsCounted, IsLineOf, lines_in, lines_of};
+ghost use Rattle.flow_goal.specs.Pattern.{IsCounted, IsLineOf, lines_in, lines_of};
 
 use crate::choiceless::Choiceless;
 use crate::draft::pattern_of;

@@ -2,7 +2,7 @@ ghost use Rattle.std.specs.Prelude.{◌≡◌, ◌∷◌, [], ◌++◌, IfOk, On
 ghost use Rattle.flow_model.specs.Lists.{each_with_each};
 ghost use Rattle.flow_goal.specs.declared.node.Node.TheVariants.{Leaf};
 ghost use Rattle.flow_goal.specs.Goal.{process_of};
-ghost use Rattle.flow_goal.specs.Patterns.{IsCounted, Lays, drafted, line_of, lines_in, lines_of, nothing, then};
+ghost use Rattle.flow_goal.specs.Pattern.{IsCounted, Lays, drafted, line_of, lines_in, lines_of, nothing, then};
 
 use crate::goal::Goal;
 use crate::node::Node;

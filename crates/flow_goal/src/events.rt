@@ -1,6 +1,6 @@
 ghost use Rattle.std.specs.Prelude.{◌≡◌, ◌<◌, ◌↔◌, IsNone, IsTrue, IfSome, MatchOption, length};
 ghost use Rattle.flow_model.specs.Process.{IsNumbered};
-ghost use Rattle.flow_goal.specs.Repeated.{ComesAgain, HoldsNoneFrom, HoldsNoneTwice, IsFirstFrom, IsFirstTwice};
+ghost use Rattle.flow_goal.specs.Repeats.{ComesAgain, HoldsNoneFrom, HoldsNoneTwice, IsFirstFrom, IsFirstTwice};
 
 use crate::partners::{Partner, partner_of};
 use crate::repeats::Twice;

@@ -1,6 +1,7 @@
 ghost use Rattle.std.specs.Prelude.{◌≡◌, IfOk};
 ghost use Rattle.flow_goal.specs.Goal.{process_of, together};
 
+use flow_model::Operator;
 use std::alloc::{AllocError, Global};
 
 /// A goal of Concurrent Transaction Logic (Bonner and Kifer 1996).
@@ -16,14 +17,6 @@ pub enum Goal {
     Either(Box<Goal>, Box<Goal>),
     /// With nothing from outside in between.
     Iso(Box<Goal>),
-}
-
-/// What makes one goal of two.
-#[derive(Clone, Copy)]
-pub enum Operator {
-    Serial,
-    Beside,
-    Either,
 }
 
 /// The two goals as one.

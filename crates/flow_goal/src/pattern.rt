@@ -1,6 +1,6 @@
 ghost use Rattle.std.specs.Prelude.{◌≡◌, ◌<◌, ◌-◌, ◌^◌, length, IfOk, OnOk};
 ghost use Rattle.flow_goal.specs.Capped.{capped};
-ghost use Rattle.flow_goal.specs.Patterns.{IsCounted, Writes, lines_of};
+ghost use Rattle.flow_goal.specs.Pattern.{IsCounted, Writes, lines_of};
 
 use crate::text::Text;
 use std::alloc::{AllocError, Global};

@@ -1,5 +1,5 @@
 /// Two leaves of one event that stand in one execution.
-#[derive(Clone, Copy)]
+#[derive(Clone, Copy, Debug)]
 pub struct Twice {
     pub event: u32,
     pub first: u32,

@@ -1,6 +1,6 @@
 ghost use Rattle.std.specs.Prelude.{◌≡◌, ◌∷◌, [], IfOk, OnOk};
 ghost use Rattle.flow_goal.specs.declared.node.Node.TheVariants.{Leaf};
-ghost use Rattle.flow_goal.specs.Patterns.{line_of, nothing, then};
+ghost use Rattle.flow_goal.specs.Pattern.{line_of, nothing, then};
 
 use crate::node::Node;
 use std::alloc::{AllocError, Global};

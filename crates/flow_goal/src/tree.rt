@@ -5,15 +5,15 @@ ghost use Rattle.flow_goal.specs.Goal.{process_of};
 ghost use Rattle.flow_goal.specs.Numbering;
 
 use crate::goal::Goal;
-use crate::shape::{Shape, shaped};
 use flow_model::Label;
-use std::alloc::{AllocError, Global};
 use std::marker::Model;
+use thiserror::Error;
 
 /// Why a goal and labels make no tree.
-#[derive(Clone, Copy)]
+#[derive(Clone, Copy, Debug, Error)]
 pub enum TreeRefusal {
     /// The leaves from left to right are not numbered 0, 1, .. below the number of labels.
+    #[error("the leaves from left to right have not the numbers of the labels")]
     Numbering,
 }
 
@@ -85,16 +85,6 @@ impl Tree {
             drop(goal);
             Err(TreeRefusal::Numbering)
         }
-    }
-
-    /// The same tree in memory of its own.
-    #[tactic(auto, using(crate::proofs::Simpler::whole_is_same))]
-    pub fn copy(&self, alloc: Global) -> Result<Tree, AllocError>
-        ensures { IfOk result (λ tree. tree ≡ self.now) }
-    {
-        let labels = Vec::from_slice(alloc, &self.labels)?;
-        let goal = shaped(alloc, Shape::Whole, &self.goal)?;
-        Ok(Tree { goal, labels })
     }
 
     /// The goal, without its labels.

@@ -19,7 +19,7 @@ abbrev pub IsStuckJustThere : {V : Type 0} → (List Placed → V → Type 0) �
 IsStuckJustThere Spells read = (ts : List Symbol) (k : ℕ) →
     ((kind : Wanted) × (read ts ≡ expected kind k)) ↔ (IsStuckAt Spells ts k × NoneDeepBefore Spells ts k)
 
--- it is too deep exactly at the first `(` or `not` that stands inside 200 others, if texts go on up to it and with it
+-- it is too deep exactly at the first `(` or `not` that stands inside GREATEST_DEPTH others, if texts go on up to it and with it
 abbrev pub IsTooDeepJustThere : {V : Type 0} → (List Placed → V → Type 0) → (List Symbol → Reading V) → Type 0
 IsTooDeepJustThere Spells read = (ts : List Symbol) (k : ℕ) →
     (read ts ≡ too_deep k) ↔ (StandsDeep Spells ts k × NoneDeepBefore Spells ts k)

@@ -12,12 +12,12 @@ SpellsScript w x = (d : ScriptText) × (spell_script d ≡ w) × (mean_script d 
 abbrev pub SpellsQuery : List Placed → Asked → Type 0
 SpellsQuery w x = (d : QueryText) × (spell_query d ≡ w) × (mean_query d ≡ x)
 
--- no `(` or `not` stands inside 200 others
+-- no `(` or `not` stands inside GREATEST_DEPTH others
 abbrev pub IsShallow : List Placed → Type 0
 IsShallow [] = Unit {0}
 IsShallow (at n t ∷ w) = (Deepens t → n < GREATEST_DEPTH) × IsShallow w
 
--- at place k a `(` or `not` stands inside 200 others
+-- at place k a `(` or `not` stands inside GREATEST_DEPTH others
 abbrev pub IsDeepAt : List Placed → ℕ → Type 0
 IsDeepAt [] k = ⊥
 IsDeepAt (at n t ∷ w) zero = Deepens t × (GREATEST_DEPTH ≤ n)
@@ -37,7 +37,7 @@ IsWhole {V} Spells ts = (w : List Placed) × (x : V) × (symbols w ≡ ts) × Sp
 abbrev pub IsViable : {V : Type 0} → (List Placed → V → Type 0) → List Symbol → Type 0
 IsViable {V} Spells ts = (w : List Placed) × (x : V) × IsBegunBy ts w × Spells w x
 
--- some text begins with the symbols up to place k, and the one there is a `(` or `not` inside 200 others
+-- some text begins with the symbols up to place k, and the one there is a `(` or `not` inside GREATEST_DEPTH others
 abbrev pub StandsDeep : {V : Type 0} → (List Placed → V → Type 0) → List Symbol → ℕ → Type 0
 StandsDeep {V} Spells ts k =
     (k < length ts) × ((w : List Placed) × (x : V) × IsBegunBy (take (suc k) ts) w × IsDeepAt w k × Spells w x)

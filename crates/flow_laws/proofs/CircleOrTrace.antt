@@ -9,8 +9,9 @@ use Rattle.flow_model.specs.Circle.{items_of, ItemBefore, LeadsBackTo, IsRing, I
 use Rattle.flow_laws.specs.WellFormed.{IsOrdered}
 use Rattle.flow_laws.specs.Circles.{CirclesExcludeTraces, TraceOrCircle}
 use Rattle.flow_laws.specs.ReadyRuns.{ReadyRunsExtend}
-use Rattle.flow_laws.proofs.Members.{only_one, before_or_after, before_trans, not_both_ways, decide_mem, decide_list_eq, LeavingOut, by_leaving_out, least_in, mem_with, split_at, distinct_left, distinct_swap, mem_swap, mem_append_left, Decided, decide_eq, decide_in, decide_not, decide_both, decide_either, decide_some, find_member, first_member, last_of, mem-append, mem_append_right, each_from_members}
-use Rattle.flow_laws.proofs.MadeLists.{of_map}
+use Rattle.flow_model.proofs.Lists.{only_one, before_or_after, before_trans, not_both_ways, LeavingOut, by_leaving_out, least_in, mem_with, split_at, distinct_left, distinct_swap, mem_swap, mem_append_left, find_member, first_member, last_of, mem-append, mem_append_right, each_from_members}
+use Rattle.flow_model.specs.Decided.{decide_mem, decide_list_eq, Decided, decide_eq, decide_in, decide_not, decide_both, decide_either, decide_some}
+use Rattle.flow_model.proofs.MadeLists.{of_map}
 use Rattle.flow_laws.proofs.ReadyRuns.{IsArrangement, arrangement_of, direct_stands, direct_first, direct_other, ready_at, run_grow, complete_runs_are_traces}
 use Rattle.flow_laws.proofs.GoalParts.{regions, region_within, region_distinct, part_of_region, item_kind, item_has, item_within, items_apart, case_of, part_within, IsWithin, nested, goal_size, part_smaller, item_having, part_or_region}
 

@@ -7,7 +7,7 @@ use Rattle.flow_model.specs.Run.{Claim, RunState, claim_at, leaf_of_claim, answe
 use Rattle.flow_model.specs.Schema.{Schema}
 use Rattle.flow_model.specs.Decided.{Decided, told, decide_all_follow, can_all_follow}
 use Rattle.flow_laws.specs.Spared.{IsSpared, AreSpared, spared_leaves, AnswersAreTheTest, OthersStay, SparedPieceByPiece}
-use Rattle.flow_laws.proofs.MadeLists.{of_find}
+use Rattle.flow_model.proofs.MadeLists.{of_find}
 
 abbrev pub number_of : Claim → ℕ
 number_of claim = claim.number

@@ -6,8 +6,8 @@ use Rattle.flow_model.specs.Trace.{Blocks, as_one}
 use Rattle.flow_model.specs.Facts.{event_at}
 use Rattle.flow_model.specs.Schema.{Schema, HasUniqueEvents}
 use Rattle.flow_laws.specs.Events.{AreTogether}
-use Rattle.flow_laws.proofs.Members.{each-append, each_to, mem-append, not_before_itself}
-use Rattle.flow_laws.proofs.MadeLists.{distinct-filter_map, distinct-numbers_from, same_source}
+use Rattle.flow_model.proofs.Lists.{each-append, each_to, mem-append, not_before_itself}
+use Rattle.flow_model.proofs.MadeLists.{distinct-filter_map, distinct-numbers_from, same_source}
 use Rattle.flow_laws.proofs.Shuffles.{shuffle-append, shuffle-joined, of_shuffle, mem_shuffle_left, mem_shuffle_right}
 use Rattle.flow_laws.proofs.GoalParts.{case_of, together_before}
 use Rattle.flow_laws.proofs.TraceLeaves.{joined-as_one, beside, some_blocks, leaf_of_blocks, distinct_trace}

@@ -5,8 +5,8 @@ use Rattle.flow_model.specs.Process.{Process, Empty, Task, Sequence, Parallel, C
 use Rattle.flow_model.specs.Ready.{InSequence, isolated_parts}
 use Rattle.flow_model.specs.Circle.{item_of, items_of}
 use Rattle.flow_laws.specs.Events.{AreTogether}
-use Rattle.flow_laws.proofs.Members.{only_one, distinct_parts, mem_append_left, mem_append_right, mem-append, before_members, before_across, before_left, before_right, not_before_itself}
-use Rattle.flow_laws.proofs.MadeLists.{mem_joined, list_having, joined_apart, joined-append}
+use Rattle.flow_model.proofs.Lists.{only_one, distinct_parts, mem_append_left, mem_append_right, mem-append, before_members, before_across, before_left, before_right, not_before_itself}
+use Rattle.flow_model.proofs.MadeLists.{mem_joined, list_having, joined_apart, joined-append}
 
 -- Cases
 

@@ -1,5 +1,3 @@
-pub mod Members
-pub mod MadeLists
 pub mod Shuffles
 pub mod TraceLeaves
 pub mod ResolutionsLemmas

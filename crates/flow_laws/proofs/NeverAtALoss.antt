@@ -7,8 +7,9 @@ use Rattle.flow_model.specs.Schema.{Schema, IsEventLeaf, IsGood}
 use Rattle.flow_model.specs.Run.{Claim, RunState, first_state, state_of, current_claims, current_leaves, database, IsFree, CanTake, CanDoAside, IsLegal, IsStuck}
 use Rattle.flow_laws.specs.WellFormed.{IsWellFormed, IsConsistent}
 use Rattle.flow_laws.specs.Histories.{IsSound, NeverWaits}
-use Rattle.flow_laws.proofs.Members.{mem_append_right}
-use Rattle.flow_laws.proofs.MadeLists.{order_of_none, order_of_one, numbers_from_below}
+use Rattle.flow_model.proofs.Lists.{mem_append_right}
+use Rattle.flow_model.specs.Decided.{order_of_none}
+use Rattle.flow_model.proofs.MadeLists.{order_of_one, numbers_from_below}
 use Rattle.flow_laws.proofs.TraceLeaves.{leaf_of_trace}
 use Rattle.flow_laws.proofs.SoundStates.{always_holds, free_may_follow, first_is_kept, kept_from}
 

@@ -10,7 +10,7 @@ use Rattle.flow_model.specs.Resolution.{ChoiceOption, options, options_in, ways_
 use Rattle.flow_model.specs.Trace.{Trace}
 use Rattle.flow_model.specs.Facts.{events_of}
 use Rattle.flow_laws.specs.WellFormed.{IsWellFormed, IsOrdered}
-use Rattle.flow_laws.proofs.MadeLists.{of_flat_map, of_map, mem-flat_map, mem-map, distinct-numbers_from}
+use Rattle.flow_model.proofs.MadeLists.{of_flat_map, of_map, mem-flat_map, mem-map, distinct-numbers_from}
 use Rattle.flow_laws.proofs.ResolutionsLemmas.{resolves_of, choice_free_resolution, distinct_leaves_of_resolution, blocks_of_a_resolution, goal_trace}
 use Rattle.flow_laws.proofs.WaysLemmas.{each_pair, leaf_of_event_is, same_event, normal_form_is, AreItsLeaves, HasWay, ways_decide}
 use Rattle.flow_laws.proofs.TraceLeaves.{leaf_of_trace, leaf_in_trace}

@@ -4,8 +4,8 @@ use Rattle.flow_model.specs.Lists.{◌∈◌, AreDistinct, StandsBefore, joined}
 use Rattle.flow_model.specs.Process.{Process, Empty, Task, Sequence, Parallel, Choice, Isolated, leaves, IsChoiceFree}
 use Rattle.flow_model.specs.Trace.{Shuffle, Blocks, Trace, as_one}
 use Rattle.flow_model.specs.Ready.{InSequence, isolated_parts}
-use Rattle.flow_laws.proofs.Members.{only_one, no_members, distinct_left, distinct_right, distinct_apart, before_members, before_across, before_right, before_or_after, not_before_itself, not_both_ways, mem_append_left, mem_append_right, mem-append}
-use Rattle.flow_laws.proofs.MadeLists.{joined-append}
+use Rattle.flow_model.proofs.Lists.{only_one, no_members, distinct_left, distinct_right, distinct_apart, before_members, before_across, before_right, before_or_after, not_before_itself, not_both_ways, mem_append_left, mem_append_right, mem-append}
+use Rattle.flow_model.proofs.MadeLists.{joined-append}
 use Rattle.flow_laws.proofs.Shuffles.{shuffle-append, shuffle-joined, shuffle_swap, of_shuffle, mem_shuffle_left, before_in_shuffle, distinct_in_shuffle, shuffle_of, front_first, shuffle_nothing, AreUnbroken, shuffle_blocks}
 use Rattle.flow_laws.proofs.GoalParts.{sequence_first, sequence_second, part_within}
 use Rattle.flow_laws.proofs.TraceLeaves.{joined-as_one, leaf_of_blocks, leaf_in_blocks, distinct_trace, leaf_of_trace, leaf_in_trace}

@@ -8,8 +8,8 @@ use Rattle.flow_model.specs.Resolution.{ChoiceOption, options}
 use Rattle.flow_model.specs.Run.{RunState, MayFollow}
 use Rattle.flow_laws.specs.WellFormed.{EachTwo, IsWellFormed}
 use Rattle.flow_laws.specs.Orders.{AreSideBySide, PairsSufficeForOrders, IsAlive, OrdersMayFollow, OrdersMayFollowOne}
-use Rattle.flow_laws.proofs.Members.{mem_here, each_member, each_parts, each-append, split_at, each_from_members, each_to, mem_append_left, mem_append_right, mem-append}
-use Rattle.flow_laws.proofs.MadeLists.{order_with_last, order_member, same_order, begins_front}
+use Rattle.flow_model.proofs.Lists.{mem_here, each_member, each_parts, each-append, split_at, each_from_members, each_to, mem_append_left, mem_append_right, mem-append}
+use Rattle.flow_model.proofs.MadeLists.{order_with_last, order_member, same_order, begins_front}
 use Rattle.flow_laws.proofs.ReadyRuns.{run_of, run_front, as_well, run_after_journal, fronts_are_ready}
 use Rattle.flow_laws.proofs.TraceLeaves.{leaf_of_trace, leaf_in_trace}
 use Rattle.flow_laws.proofs.OptionsLemmas.{option_is_ordered, option_trace_is_good}

@@ -6,7 +6,7 @@ use Rattle.flow_model.specs.Trace.{Trace}
 use Rattle.flow_model.specs.Ready.{InSequence, DirectlyBefore, IsReady, DoneOr, IsReadyRunAfter, IsReadyRun, IsCompleteRun}
 use Rattle.flow_laws.specs.WellFormed.{IsOrdered}
 use Rattle.flow_laws.specs.ReadyRuns.{CompleteRunsAreTraces, FrontsAreReady}
-use Rattle.flow_laws.proofs.Members.{mem_here, each_member, split_at, not_elsewhere, before_members, before_across, before_right, in_front, not_both_ways, mem-append, each_from_members}
+use Rattle.flow_model.proofs.Lists.{mem_here, each_member, split_at, not_elsewhere, before_members, before_across, before_right, in_front, not_both_ways, mem-append, each_from_members}
 use Rattle.flow_laws.proofs.GoalParts.{sequence_first, sequence_second, sequence_other, part_within}
 use Rattle.flow_laws.proofs.Orderings.{IsOrdering, ordering_of_trace, trace_of_ordering}
 

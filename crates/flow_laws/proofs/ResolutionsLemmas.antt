@@ -6,8 +6,8 @@ use Rattle.flow_model.specs.Process.{Process, Empty, Task, Sequence, Parallel, C
 use Rattle.flow_model.specs.Trace.{Shuffle, Blocks, Trace}
 use Rattle.flow_model.specs.Resolution.{resolutions, resolution_count}
 use Rattle.flow_laws.specs.Resolutions.{Resolves}
-use Rattle.flow_laws.proofs.Members.{mem_append_left, mem_append_right, mem-append, mem_by_halves, distinct_left, distinct_right, distinct_apart, distinct_parts, distinct-append}
-use Rattle.flow_laws.proofs.MadeLists.{mem-map, of_map, mem-each_with_each, of_each_with_each, length-each_with_each, slice_get-each_with_each, slice_get_append_right}
+use Rattle.flow_model.proofs.Lists.{mem_append_left, mem_append_right, mem-append, mem_by_halves, distinct_left, distinct_right, distinct_apart, distinct_parts, distinct-append}
+use Rattle.flow_model.proofs.MadeLists.{mem-map, of_map, mem-each_with_each, of_each_with_each, length-each_with_each, slice_get-each_with_each, slice_get_append_right}
 use Rattle.flow_laws.proofs.Shuffles.{shuffle-append, shuffle-joined, of_shuffle, mem_shuffle_left, mem_shuffle_right}
 use Rattle.flow_laws.proofs.TraceLeaves.{joined-as_one, some_blocks, leaf_of_blocks, blocks_of_none}
 

@@ -3,7 +3,7 @@ use Rattle.std.proofs.Common.{◌≡◌, List, [], ◌∷◌, ◌++◌, ◌⊎�
 use Rattle.flow_model.specs.Lists.{◌∈◌, AreDistinct, StandsBefore, joined}
 use Rattle.flow_model.specs.Trace.{Shuffle, both_end, from_left, from_right}
 use Rattle.flow_model.specs.Decided.{shuffle_right}
-use Rattle.flow_laws.proofs.Members.{Apart, before_right, mem_append_right}
+use Rattle.flow_model.proofs.Lists.{Apart, before_right, mem_append_right}
 
 pub shuffle_swap : {A : Type 0} {a b c : List A} → Shuffle a b c → Shuffle b a c
 shuffle_swap both_end = both_end

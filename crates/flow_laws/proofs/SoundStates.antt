@@ -16,8 +16,9 @@ use Rattle.flow_model.specs.Resolution.{ChoiceOption, options}
 use Rattle.flow_model.specs.Run.{Claim, RunState, first_state, current_leaves, is_current, claim_at, leaf_of_claim, IsCurrent, IsLapsed, database, IsFree, MayFollow, MayAllFollow, CanTake, CanDo, IsOpen, IsAllowed, answer, spare, with_new_epoch, next_state, state_after, IsLegalFrom}
 use Rattle.flow_laws.specs.Histories.{NeverWaits, IsSound}
 use Rattle.flow_laws.specs.WellFormed.{IsWellFormed, IsConsistent}
-use Rattle.flow_laws.proofs.Members.{each-append, each_to, each_member}
-use Rattle.flow_laws.proofs.MadeLists.{distinct-numbers_from, begins_front, each-filter, order_of_none, order_with_last, numbers_from_more}
+use Rattle.flow_model.proofs.Lists.{each-append, each_to, each_member}
+use Rattle.flow_model.proofs.MadeLists.{distinct-numbers_from, begins_front, each-filter, order_with_last, numbers_from_more}
+use Rattle.flow_model.specs.Decided.{order_of_none}
 use Rattle.flow_laws.proofs.OptionsLemmas.{option_of_good}
 use Rattle.flow_laws.proofs.ClaimLemmas.{number_of, leaf_of, is_of, answer_keeps, numbers-answer, taken_out, none_taken_out, leaf_of_claim_is, some_claim, lapsed_is_not_current, claim_in, spare_keeps, numbers-spare, spared_are_current, spared_may_follow}
 

@@ -3,7 +3,7 @@ use Rattle.std.proofs.Common.{◌≡◌, ℕ, List, [], ◌∷◌, ◌++◌, ref
 use Rattle.flow_model.specs.Lists.{◌∈◌, AreDistinct, joined}
 use Rattle.flow_model.specs.Process.{Process, Empty, Task, Sequence, Parallel, Choice, Isolated, leaves, IsChoiceFree}
 use Rattle.flow_model.specs.Trace.{Blocks, Trace, Shuffle, both_end, from_left, from_right, as_one}
-use Rattle.flow_laws.proofs.Members.{mem-append, distinct_parts, mem_by_halves}
+use Rattle.flow_model.proofs.Lists.{mem-append, distinct_parts, mem_by_halves}
 use Rattle.flow_laws.proofs.Shuffles.{shuffle-append, shuffle-joined, of_shuffle, mem_shuffle_left, mem_shuffle_right, distinct-shuffle, mem_shuffle}
 
 pub joined-as_one : (bs : List (List ℕ)) → joined (as_one bs) ≡ joined bs

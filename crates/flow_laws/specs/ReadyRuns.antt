@@ -1,4 +1,4 @@
--- Ready runs are the executions of an option.
+-- The ready runs of an option are the fronts of its traces, and the complete ones are its traces in order.
 use Rattle.std.specs.Prelude.{ℕ, List, ◌↔◌}
 use Rattle.flow_model.specs.Lists.{AreInOrder, Begins}
 use Rattle.flow_model.specs.Process.{Process}

@@ -1,6 +1,6 @@
 use crate::labels::Note;
 
-/// One event of the core, and the number of the caller that made it.
+/// One step of a run, and the number of the caller that made it.
 #[derive(Clone, Copy)]
 pub struct Entry {
     pub by: u32,

@@ -13,6 +13,15 @@ pub enum Label {
     Del(u32),
 }
 
+/// What a leaf that is no event asks of its fact, or does to it.
+#[derive(Clone, Copy)]
+pub enum Deed {
+    Test,
+    Absent,
+    Ins,
+    Del,
+}
+
 /// What an event's declaration says of the outcome of its task, for a gate that follows it.
 #[derive(Clone, Copy, PartialEq, Eq)]
 pub enum Note {

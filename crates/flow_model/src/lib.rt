@@ -7,11 +7,13 @@
 mod history;
 mod labels;
 mod limits;
+mod operators;
 
 pub use history::{Call, Entry, FailEffect, Outcome, Step};
-pub use labels::{Label, Note};
+pub use labels::{Deed, Label, Note};
 pub use limits::{
     GREATEST_BULK, GREATEST_DEPTH, GREATEST_INPUT, GREATEST_SEED, GREATEST_SIZE, MOST_ENTRIES,
     MOST_FLOWS, MOST_LEAVES, MOST_LINES, MOST_OPTIONS, MOST_RESOLUTIONS, MOST_RULE_NAMES,
     MOST_WORKERS,
 };
+pub use operators::{Connective, Operator};

@@ -6,7 +6,7 @@ use Rattle.flow_model.specs.Lists.{◌∈◌, Each}
 use Rattle.flow_model.specs.Ready.{DoneOr, IsReadyRun, IsCompleteRun}
 use Rattle.flow_model.specs.Process.{leaves}
 use Rattle.flow_laws.specs.WellFormed.{EachTwo}
-use Rattle.flow_laws.proofs.Members.{each_member, each_to}
+use Rattle.flow_model.proofs.Lists.{each_member, each_to}
 use Rattle.flow_laws.proofs.OrdersByTwo.{pairs_suffice_for_orders}
 use Rattle.flow_laws.proofs.ReadyRuns.{same_run}
 use Rattle.flow_plan.specs.declared.progress.Progress.{Progress}

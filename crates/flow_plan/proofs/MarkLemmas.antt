@@ -7,7 +7,7 @@ use Rattle.leaf_rows.specs.Leaves.{has_leaf}
 use Rattle.leaf_rows.specs.declared.leaf_set.LeafSet.{LeafSet}
 use Rattle.flow_model.specs.Lists.{◌∈◌, AreDistinct}
 use Rattle.flow_model.specs.Process.{Process, Empty, Task, Sequence, Parallel, Choice, Isolated, leaves, IsChoiceFree}
-use Rattle.flow_laws.proofs.Members.{mem_append_left, mem_append_right, mem-append, distinct_left, distinct_right}
+use Rattle.flow_model.proofs.Lists.{mem_append_left, mem_append_right, mem-append, distinct_left, distinct_right}
 use Rattle.flow_goal.specs.declared.node.Node.{Node}
 use Rattle.flow_goal.specs.declared.node.Node.TheVariants.{Serial, Split, Join, Close}
 use Rattle.flow_goal.specs.Written.{nodes_of}
@@ -17,7 +17,7 @@ use Rattle.flow_plan.specs.declared.span.Span.{Span}
 use Rattle.flow_plan.specs.declared.sweep.Sweep.{Sweep}
 use Rattle.flow_plan.specs.Rows.{IsRowOf, HasRows}
 use Rattle.flow_plan.specs.RowMarks.{IsWith, IsJoined, IsUnion, MakesRows, Completes}
-use Rattle.flow_plan.specs.Spans.{at_span, AddsSpans}
+use Rattle.flow_plan.specs.Span.{at_span, AddsSpans}
 use Rattle.flow_plan.specs.SpanMarks.{MakesSpans, Outlines}
 use Rattle.flow_plan.proofs.PlaceLemmas.{distinct_of_rising}
 use Rattle.flow_plan.proofs.RowLemmas.{has_sequence, has_parallel, first_rows, one_more}

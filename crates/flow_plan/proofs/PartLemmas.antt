@@ -9,16 +9,15 @@ use Rattle.leaf_rows.specs.declared.leaf_set.LeafSet.{LeafSet}
 use Rattle.flow_model.specs.Lists.{◌∈◌, Each}
 use Rattle.flow_model.specs.Process.{Process, leaves}
 use Rattle.flow_model.specs.Ready.{DirectlyBefore}
-use Rattle.flow_laws.proofs.Members.{mem_append_left, mem_append_right, mem-append, only_one, each_member, each_from_members}
+use Rattle.flow_model.proofs.Lists.{mem_append_left, mem_append_right, mem-append, only_one, each_member, each_from_members, mem-slice_get}
 use Rattle.flow_plan.specs.declared.part_row.PartRow.{PartRow}
 use Rattle.flow_plan.specs.declared.part_row.Reach.{Reach}
 use Rattle.flow_plan.specs.declared.span.Span.{Span}
 use Rattle.flow_plan.specs.Rows.{IsRowOf, AreRowsOf}
 use Rattle.flow_plan.specs.Ahead.{IsInSome, IsOutside}
-use Rattle.flow_plan.specs.Spans.{at_span, IsEarlier, AreRising, AddsSpans}
+use Rattle.flow_plan.specs.Span.{at_span, IsEarlier, AreRising, AddsSpans}
 use Rattle.flow_plan.specs.Parts.{IsOneAtMost, IsPartFor, ArePartsFor, Reaches, IsPartRow, HasTwo, HaveSameLeaves, HaveOtherLeaves, ArePartsOf, PartAllows}
 use Rattle.std.proofs.lemmas.Option.{slice_get-get_or}
-use Rattle.flow_model.proofs.Lists.{mem-slice_get}
 use Rattle.flow_plan.proofs.PlaceLemmas.{place_of_member, read_member}
 use Rattle.std.proofs.lemmas.List.Kept.{AllPairs-from_increasing}
 use Rattle.flow_plan.proofs.RowLemmas.{row_same, one_more, mem_more}

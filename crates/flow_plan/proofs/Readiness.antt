@@ -4,7 +4,7 @@ use Rattle.leaf_rows.specs.declared.leaf_set.LeafSet.{LeafSet}
 use Rattle.flow_model.specs.Lists.{Each, AreDistinct}
 use Rattle.flow_model.specs.Ready.{DirectlyBefore, IsReady}
 use Rattle.flow_laws.specs.WellFormed.{AreOfLeaves, IsOrdered}
-use Rattle.flow_laws.proofs.Members.{each_member, each_from_members}
+use Rattle.flow_model.proofs.Lists.{each_member, each_from_members}
 use Rattle.flow_goal.specs.Resolved.{Resolved, IsResolved}
 use Rattle.flow_plan.specs.declared.part_row.PartRow.{PartRow}
 use Rattle.flow_plan.specs.declared.token.OrderToken.{OrderToken}

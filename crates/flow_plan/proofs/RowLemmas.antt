@@ -9,12 +9,11 @@ use Rattle.flow_model.specs.Lists.{◌∈◌, Each, AreDistinct}
 use Rattle.flow_model.specs.Process.{Process, Sequence, Parallel, leaves}
 use Rattle.flow_model.specs.Ready.{InSequence, DirectlyBefore}
 use Rattle.flow_laws.specs.WellFormed.{AreOfLeaves}
-use Rattle.flow_laws.proofs.Members.{mem_append_left, mem_append_right, mem-append, only_one, each_member, distinct_apart}
+use Rattle.flow_model.proofs.Lists.{mem_append_left, mem_append_right, mem-append, only_one, each_member, distinct_apart, mem-slice_get}
 use Rattle.flow_laws.proofs.GoalParts.{sequence_second}
 use Rattle.flow_plan.specs.declared.token.OrderToken.{OrderToken}
 use Rattle.flow_plan.specs.Planned.{pairs_of}
 use Rattle.flow_plan.specs.Rows.{IsRowOf, AreRowsOf, HasRows}
-use Rattle.flow_model.proofs.Lists.{mem-slice_get}
 
 -- a test of one number more
 pub one_more : (x n : ℕ) (b : Bool) → IsTrue (x == n || b) ↔ (IsTrue b ⊎ (x ∈ (n ∷ [])))

@@ -4,11 +4,10 @@ use Rattle.std.proofs.lemmas.Bool.{cases_eq, and_parts, and_from}
 use Rattle.flow_model.specs.Lists.{◌∈◌}
 use Rattle.flow_model.specs.Process.{Process, Isolated, leaves}
 use Rattle.flow_model.specs.Ready.{isolated_parts}
-use Rattle.flow_model.proofs.Lists.{mem-slice_get}
-use Rattle.flow_laws.proofs.Members.{mem_append_left, mem_append_right, mem-append, each_member, each-append}
-use Rattle.flow_laws.proofs.MadeLists.{some_same}
+use Rattle.flow_model.proofs.Lists.{mem-slice_get, mem_append_left, mem_append_right, mem-append, each_member, each-append}
+use Rattle.flow_model.proofs.MadeLists.{some_same}
 use Rattle.flow_plan.specs.declared.span.Span.{Span}
-use Rattle.flow_plan.specs.Spans.{at_span, IsEarlier, IsNotAfter, AreRising, AddsSpan, AddsSpans}
+use Rattle.flow_plan.specs.Span.{at_span, IsEarlier, IsNotAfter, AreRising, AddsSpan, AddsSpans}
 
 -- ---- one span more
 

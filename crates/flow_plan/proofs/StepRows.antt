@@ -6,19 +6,18 @@ use Rattle.leaf_rows.specs.Leaves.{has_leaf}
 use Rattle.leaf_rows.specs.declared.leaf_set.LeafSet.{LeafSet}
 use Rattle.flow_model.specs.Lists.{◌∈◌, Each, AreDistinct}
 use Rattle.flow_model.specs.Ready.{DoneOr}
-use Rattle.flow_laws.proofs.Members.{split_at, each_member, each_from_members, each_parts, each-append}
-use Rattle.flow_laws.proofs.MadeLists.{same_order}
+use Rattle.flow_model.proofs.Lists.{split_at, each_member, each_from_members, each_parts, each-append, mem-slice_get}
+use Rattle.flow_model.proofs.MadeLists.{same_order}
 use Rattle.flow_laws.proofs.ReadyRuns.{same_run}
 use Rattle.flow_plan.specs.declared.part_row.PartRow.{PartRow}
 use Rattle.flow_plan.specs.declared.progress.Progress.{Progress}
 use Rattle.flow_plan.specs.Planned.{Planned, pairs_of}
 use Rattle.flow_plan.specs.Progress.{is_done, IsDone}
 use Rattle.flow_plan.specs.Orders.{MayComeNext, MayFollowInEveryOrder}
-use Rattle.flow_plan.specs.Rows.{IsRowOf, IsFree}
+use Rattle.flow_plan.specs.Rows.{IsRowOf, IsDue}
 use Rattle.flow_plan.specs.Parts.{PartAllows, KeepsBeside, KeepsAfter}
 use Rattle.flow_plan.specs.Fields.{AreFieldsOf}
 use Rattle.std.proofs.lemmas.Option.{slice_get-get_or}
-use Rattle.flow_model.proofs.Lists.{mem-slice_get}
 use Rattle.flow_plan.proofs.RowLemmas.{one_more, mem_more}
 use Rattle.flow_plan.proofs.Readiness.{Before, ready_of_free, parts_of_ready}
 use Rattle.flow_plan.proofs.Following.{every_order, by_two}
@@ -80,7 +79,7 @@ free_more ns i F now new test within says is (inr (fails, same)) x =
 -- ---- what comes next
 
 pub next_by_rows : {p : Planned} {before : List (LeafSet 16)} {parts : List PartRow} → AreFieldsOf p before parts → (D : ℕ → Type 0) (free keep : LeafSet 16) →
-    IsRowOf (λ n. (n ∈ p.leaves) × IsFree (Before p) D n) free →
+    IsRowOf (λ n. (n ∈ p.leaves) × IsDue (Before p) D n) free →
     ((n : ℕ) → IsTrue (has_leaf keep n) ↔ (IsTrue (has_leaf free n) × Each (λ r. PartAllows r D n) parts)) → IsRowOf (MayComeNext p D) keep
 next_by_rows kept D free keep free_is keep_is n = (
   λ has. let both = (keep_is n).0 has in

@@ -10,7 +10,7 @@ use Rattle.flow_model.specs.Ready.{DoneOr}
 use Rattle.flow_laws.specs.WellFormed.{EachTwo}
 use Rattle.flow_laws.proofs.OrdersByTwo.{pairs_suffice_for_orders}
 use Rattle.flow_laws.proofs.ReadyRuns.{same_ready}
-use Rattle.flow_laws.proofs.Members.{each_member, each_from_members, distinct_parts, distinct-append}
+use Rattle.flow_model.proofs.Lists.{each_member, each_from_members, distinct_parts, distinct-append}
 use Rattle.flow_plan.specs.declared.part_row.PartRow.{PartRow}
 use Rattle.flow_plan.specs.Planned.{Planned, pairs_of}
 use Rattle.flow_plan.specs.Orders.{MayComeNext, MayComeAfter, MayFollowInEveryOrder}

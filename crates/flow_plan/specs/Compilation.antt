@@ -3,6 +3,7 @@ use Rattle.std.specs.Prelude.{◌≡◌, ◌≢◌, ◌≤◌, List, [], length,
 use Rattle.std.proofs.Common.{refl}
 use Rattle.std.specs.Coded.{Coded, code_by, coded×, coded_list}
 use Rattle.flow_model.specs.declared.limits.TheConstants.{GREATEST_BULK, MOST_OPTIONS, MOST_RESOLUTIONS}
+use Rattle.flow_model.specs.Lists.{Each}
 use Rattle.flow_model.specs.Schema.{Schema}
 use Rattle.flow_model.specs.Resolution.{options, resolution_count, bulk}
 use Rattle.flow_laws.specs.WellFormed.{IsConsistent}
@@ -10,7 +11,7 @@ use Rattle.flow_plan.specs.declared.counts.Counts.{Counts}
 use Rattle.flow_plan.specs.contracts.counts.Counts as counts
 use Rattle.flow_plan.specs.Planned.{AreNumbered}
 use Rattle.flow_plan.specs.Sampled.{Sampled, sampled_code}
-use Rattle.flow_plan.specs.Options.{options_of, HasExecution, AreJustThose}
+use Rattle.flow_plan.specs.Options.{options_of, HasExecution, HasSmallLeaves, AreJustThose}
 
 pub record Compilation : Type 0 where
   pub plans : List Sampled
@@ -23,10 +24,11 @@ compilation_code = code_by (List Sampled × Counts) (coded× (coded_list sampled
 abbrev pub compilation : List Sampled → Counts → Compilation
 compilation plans counts = record { plans = plans; counts = counts }
 
--- there is a plan, they are counted, and the token with number k of each is the one at place k
+-- there is a plan, they are counted, their leaves have places in rows, and the token with number k of each is the one at place k
 pub record IsLive (c : Compilation) : Type 0 where
   pub some : c.plans ≢ []
   pub live : c.counts.live ≡ length c.plans
+  pub small : Each HasSmallLeaves (options_of c.plans)
   pub numbered : All (λ (s : Sampled). AreNumbered s.plan.tokens) c.plans
 
 -- resolutions, options and bulk are within the limits

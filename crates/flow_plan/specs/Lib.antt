@@ -10,5 +10,5 @@ pub mod Sampled
 pub mod Options
 pub mod Compilation
 pub mod SpanMarks
-pub mod Spans
+pub mod Span
 pub mod Stacks

@@ -12,7 +12,7 @@ use Rattle.flow_plan.specs.declared.part_row.Use.TheVariants.{Next, Beside, Firs
 use Rattle.flow_plan.specs.declared.span.Span.{Span}
 use Rattle.flow_plan.specs.Rows.{IsRowOf}
 use Rattle.flow_plan.specs.Ahead.{IsInSome, IsOutside}
-use Rattle.flow_plan.specs.Spans.{at_span}
+use Rattle.flow_plan.specs.Span.{at_span}
 
 -- all with P are one
 abbrev pub IsOneAtMost : (ℕ → Type 0) → Type 0

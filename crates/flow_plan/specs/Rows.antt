@@ -21,5 +21,5 @@ abbrev pub HasRows : Process → LeafSet 16 → List (LeafSet 16) → Type 0
 HasRows g ahead rows = AreRowsOf (λ x n. IsTrue (has_leaf ahead x) ⊎ InSequence g x n) (leaves g) rows
 
 -- the leaf is not done, and each x with P x of the leaf is
-abbrev pub IsFree : (ℕ → ℕ → Type 0) → (ℕ → Type 0) → ℕ → Type 0
-IsFree P Done n = ¬ Done n × ((x : ℕ) → P x n → Done x)
+abbrev pub IsDue : (ℕ → ℕ → Type 0) → (ℕ → Type 0) → ℕ → Type 0
+IsDue P Done n = ¬ Done n × ((x : ℕ) → P x n → Done x)

@@ -18,6 +18,6 @@ abbrev pub sampled : Planned → List ℕ → Sampled
 sampled plan sample = record { plan = plan; sample = sample }
 
 -- the sample is an execution of the goal in which the pair of each token stands in order
-pub record IsExecution (s : Sampled) : Type 0 where
+pub record IsTraceOf (s : Sampled) : Type 0 where
   pub trace : Trace s.plan.process s.sample
   pub in_order : AreInOrder (pairs_of s.plan.tokens) s.sample

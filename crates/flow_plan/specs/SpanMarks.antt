@@ -5,7 +5,7 @@ use Rattle.flow_goal.specs.declared.node.Node.{Node}
 use Rattle.flow_goal.specs.declared.node.Node.TheVariants.{Leaf, Open, Close}
 use Rattle.flow_plan.specs.declared.outline.Outline.{Outline}
 use Rattle.flow_plan.specs.declared.span.Span.{Span}
-use Rattle.flow_plan.specs.Spans.{AddsSpan, AddsSpans}
+use Rattle.flow_plan.specs.Span.{AddsSpan, AddsSpans}
 use Rattle.flow_plan.specs.Stacks.{WithTop}
 
 -- the rest of the marks makes the spans of q: with the place of the next leaf, those of the parts that have

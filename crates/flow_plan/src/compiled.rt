@@ -1,4 +1,6 @@
 ghost use Rattle.std.specs.Prelude.{◌≡◌, ◌≢◌, [], length, All};
+ghost use Rattle.flow_model.specs.Lists.{Each};
+ghost use Rattle.flow_plan.specs.Options.{HasSmallLeaves, options_of};
 ghost use Rattle.flow_plan.specs.Sampled.{Sampled};
 ghost use Rattle.flow_plan.specs.Planned.{AreNumbered};
 
@@ -30,6 +32,7 @@ impl Compiled {
     pub fn new(plans: Vec<KnotFree>, counts: Counts) -> Compiled
         requires some { plans.items ≢ [] }
         requires live { counts.live ≡ length plans.items }
+        requires small { Each HasSmallLeaves (options_of plans.items) }
         requires numbered { All (λ (s : Sampled). AreNumbered s.plan.tokens) plans.items }
         ensures plans { result.plans ≡ plans.items }
         ensures counts { result.counts ≡ counts }
@@ -41,6 +44,8 @@ impl Compiled {
     pub fn plans(&self) -> &[KnotFree]
         ensures plans { result.now ≡ self.now.plans }
         ensures some { self.now.plans ≢ [] }
+        // each leaf has a place in a row
+        ensures small { Each HasSmallLeaves (options_of self.now.plans) }
         // the token with number k stands for pair k of the option's order
         ensures numbered { All (λ (s : Sampled). AreNumbered s.plan.tokens) self.now.plans }
     {

@@ -20,11 +20,11 @@ impl Model for KnotFree {
 
     ghost coded = { sampled_code };
 
-    ghost use Rattle.flow_plan.specs.Sampled.{sampled, IsExecution};
+    ghost use Rattle.flow_plan.specs.Sampled.{sampled, IsTraceOf};
 
     ghost view = { λ k. sampled k.plan k.sample.items };
 
-    ghost invariant = { λ k. IsExecution (sampled k.plan k.sample.items) };
+    ghost invariant = { λ k. IsTraceOf (sampled k.plan k.sample.items) };
 }
 
 impl KnotFree {

@@ -1,7 +1,7 @@
 ghost use Rattle.std.specs.Prelude.{◌≡◌, ◌<◌, ◌≤◌, ◌+◌, ◌^◌, [], OnOk};
 ghost use Rattle.flow_goal.specs.declared.node.Node.TheVariants.{Close};
 ghost use Rattle.flow_plan.specs.declared.span.Span.{Span};
-ghost use Rattle.flow_plan.specs.Spans.{AddsSpan};
+ghost use Rattle.flow_plan.specs.Span.{AddsSpan};
 ghost use Rattle.flow_plan.specs.SpanMarks.{Draws};
 
 use crate::span::Span;

@@ -5,7 +5,7 @@ ghost use Rattle.flow_model.specs.Process.{leaves};
 ghost use Rattle.flow_model.specs.Ready.{DirectlyBefore};
 ghost use Rattle.flow_plan.specs.Rows.{AreRowsOf};
 ghost use Rattle.flow_plan.specs.declared.span.Span.{Span};
-ghost use Rattle.flow_plan.specs.Spans.{AddsSpans};
+ghost use Rattle.flow_plan.specs.Span.{AddsSpans};
 ghost use Rattle.flow_plan.specs.Parts.{ArePartsFor, ArePartsOf};
 
 use crate::outline::Outline;

@@ -164,7 +164,7 @@ impl Plan {
     }
 
     /// Whether the leaf is not done, and all that is directly before it is.
-    #[tactic(auto, using(flow_laws::proofs::Members::each_member))]
+    #[tactic(auto, using(flow_model::proofs::Lists::each_member))]
     fn is_unblocked(&self, done: &Progress, leaf: u32) -> bool
         requires { Fits self.now done.now }
         ensures { IsTrue result ↔ IsUnblocked self.now (IsDone done.now) leaf }
@@ -186,7 +186,7 @@ impl Plan {
     }
 
     /// Whether the leaf may come next after the done ones.
-    #[tactic(auto, using(flow_laws::proofs::Members::each_member, crate::proofs::Readiness::free_of_ready))]
+    #[tactic(auto, using(flow_model::proofs::Lists::each_member, crate::proofs::Readiness::free_of_ready))]
     pub fn ready(&self, done: &Progress, leaf: u32) -> bool
         requires { Fits self.now done.now }
         ensures { IsTrue result ↔ MayComeNext self.now (IsDone done.now) leaf }

@@ -15,7 +15,7 @@ impl Progress {
     ghost use Rattle.std.specs.Prelude.{◌≡◌, ℕ, ◌<◌, ◌==◌, ◌&&◌, ◌||◌, ◌↔◌, not, false, IsTrue};
     ghost use Rattle.leaf_rows.specs.Leaves.{has_leaf};
     ghost use Rattle.flow_plan.specs.Progress.{bound_of, is_done, IsDone};
-    ghost use Rattle.flow_plan.specs.Rows.{IsFree};
+    ghost use Rattle.flow_plan.specs.Rows.{IsDue};
 
     /// No leaf below `leaves` is done yet.
     pub fn new(leaves: u32) -> Progress
@@ -58,7 +58,7 @@ impl Progress {
     /// Whether the leaf is not done, and all of its row is.
     pub(crate) fn frees(&self, leaf: u32, row: &LeafSet<16>) -> bool
         requires { leaf < bound_of self.now }
-        ensures { IsTrue result ↔ IsFree (λ x _. IsTrue (has_leaf row.now x)) (IsDone self.now) leaf }
+        ensures { IsTrue result ↔ IsDue (λ x _. IsTrue (has_leaf row.now x)) (IsDone self.now) leaf }
     {
         !self.has(leaf) && row.is_subset(&self.done)
     }

@@ -7,7 +7,7 @@ ghost use Rattle.leaf_rows.specs.Leaves.{has_leaf};
 ghost use Rattle.flow_plan.specs.Orders.{Fits, IsUnblocked, MayComeNext, MayFollowInEveryOrder};
 ghost use Rattle.flow_plan.specs.Parts.{PartAllows, Keeps};
 ghost use Rattle.flow_plan.specs.Progress.{IsDone, bound_of};
-ghost use Rattle.flow_plan.specs.Rows.{AreRowsOf, IsFree, IsRowOf};
+ghost use Rattle.flow_plan.specs.Rows.{AreRowsOf, IsDue, IsRowOf};
 
 use crate::claims::with;
 use crate::part_row::{PartRow, Use};
@@ -21,7 +21,7 @@ fn free_row(leaves: &[u32], before: &[LeafSet<16>], done: &Progress) -> LeafSet<
     requires one_each { length before.now ≡ length leaves.now }
     requires fits { Each (λ n. n < bound_of done.now) leaves.now }
     ensures { (q : Process) (pairs : List (ℕ × ℕ)) → AreRowsOf (DirectlyBefore q pairs) leaves.now before.now →
-        IsRowOf (λ n. n ∈ leaves.now × IsFree (DirectlyBefore q pairs) (IsDone done.now) n) result }
+        IsRowOf (λ n. n ∈ leaves.now × IsDue (DirectlyBefore q pairs) (IsDone done.now) n) result }
 {
     let mut row = LeafSet::new();
     for (place, leaf) in leaves.iter().enumerate() {

@@ -1,13 +1,13 @@
 -- What the code has read of a goal, as states of the machine.
 use Rattle.std.specs.Prelude.{Bool, true, false, List, map, reverse}
+use Rattle.flow_model.specs.declared.labels.Deed.{Deed}
+use Rattle.flow_model.specs.declared.labels.Deed.TheVariants as deed
+use Rattle.flow_model.specs.declared.operators.Operator.{Operator}
+use Rattle.flow_model.specs.declared.operators.Operator.TheVariants as operator
 use Rattle.flow_form.specs.Form.{Shape, shape_of}
 use Rattle.flow_grammar.specs.Grammar as grammar
 use Rattle.flow_grammar.specs.Machine as machine
 use Rattle.flow_reader.specs.Readers.{arg_state}
-use Rattle.flow_reader.specs.declared.goals.Prefix as code_prefix
-use Rattle.flow_reader.specs.declared.goals.Prefix.TheVariants as prefix
-use Rattle.flow_reader.specs.declared.goal_stack.GoalList as code_list
-use Rattle.flow_reader.specs.declared.goal_stack.GoalList.TheVariants as list
 use Rattle.flow_reader.specs.declared.goal_stack.Level as code_level
 use Rattle.flow_reader.specs.declared.goal_stack.Frame as code_frame
 use Rattle.flow_reader.specs.declared.goal_stack.Stack as code_stack
@@ -16,16 +16,16 @@ use Rattle.flow_reader.specs.declared.goals.GoalPlace.TheVariants as place
 use Rattle.flow_reader.specs.declared.goals.GoalStep as code_step
 use Rattle.flow_reader.specs.declared.goals.GoalStep.TheVariants as step
 
-abbrev pub prefix_of : code_prefix.Prefix → grammar.Prefix
-prefix_of prefix.Test = grammar.asking
-prefix_of prefix.Absent = grammar.denying
-prefix_of prefix.Ins = grammar.adding
-prefix_of prefix.Del = grammar.taking
+abbrev pub prefix_of : Deed → grammar.Prefix
+prefix_of deed.Test = grammar.asking
+prefix_of deed.Absent = grammar.denying
+prefix_of deed.Ins = grammar.adding
+prefix_of deed.Del = grammar.taking
 
-abbrev pub goal_list : code_list.GoalList → List Shape → Shape
-goal_list list.Serial = grammar.list grammar.goals 0
-goal_list list.Beside = grammar.list grammar.goals 1
-goal_list list.Either = grammar.list grammar.goals 2
+abbrev pub goal_list : Operator → List Shape → Shape
+goal_list operator.Serial = grammar.list grammar.goals 0
+goal_list operator.Beside = grammar.list grammar.goals 1
+goal_list operator.Either = grammar.list grammar.goals 2
 
 abbrev pub level_of : code_level.Level → machine.Level
 level_of l = machine.level (map shape_of l.eithers.items) (map shape_of l.besides.items) (map shape_of l.serials.items)

@@ -6,37 +6,29 @@ ghost use Rattle.flow_grammar.specs.Machine as machine;
 ghost use Rattle.flow_reader.specs.Goals.{goal_list, frame, frame_of, frames_of, level_of};
 
 use flow_form::{Form, Wanted};
+use flow_model::Operator;
 use std::alloc::{AllocError, Global};
 use std::mem;
 
-/// Which list of a goal some members stand in.
-#[derive(Clone, Copy)]
-enum GoalList {
-    Serial,
-    Beside,
-    Either,
-}
-
-impl GoalList {
-    fn form(self, members: Vec<Form>) -> Form
-        ensures { shape_of result ≡ goal_list self (map shape_of members.items) }
-    {
-        match self {
-            GoalList::Serial => Form::Serial(members),
-            GoalList::Beside => Form::Beside(members),
-            GoalList::Either => Form::Either(members),
-        }
+/// The list of the members.
+fn list(operator: Operator, members: Vec<Form>) -> Form
+    ensures { shape_of result ≡ goal_list operator (map shape_of members.items) }
+{
+    match operator {
+        Operator::Serial => Form::Serial(members),
+        Operator::Beside => Form::Beside(members),
+        Operator::Either => Form::Either(members),
     }
 }
 
 /// The list of the members; of one member, that member.
-fn gathered(list: GoalList, mut members: Vec<Form>) -> Form
-    ensures { shape_of result ≡ grammar.gather (goal_list list) (map shape_of members.items) }
+fn gathered(operator: Operator, mut members: Vec<Form>) -> Form
+    ensures { shape_of result ≡ grammar.gather (goal_list operator) (map shape_of members.items) }
 {
     if members.len() == 1 {
         members.swap_remove(0)
     } else {
-        list.form(members)
+        list(operator, members)
     }
 }
 
@@ -70,7 +62,7 @@ impl Level {
         ensures { OnOk result (level_of self.new ≡ machine.close_serial (level_of self.old)) }
     {
         let serials = mem::replace(&mut self.serials, Vec::new(alloc));
-        self.besides.push(gathered(GoalList::Serial, serials))?;
+        self.besides.push(gathered(Operator::Serial, serials))?;
         Ok(())
     }
 
@@ -79,7 +71,7 @@ impl Level {
     {
         self.close_serial(alloc)?;
         let besides = mem::replace(&mut self.besides, Vec::new(alloc));
-        self.eithers.push(gathered(GoalList::Beside, besides))?;
+        self.eithers.push(gathered(Operator::Beside, besides))?;
         Ok(())
     }
 
@@ -87,7 +79,7 @@ impl Level {
         ensures { IfOk result (λ form. shape_of form ≡ machine.close (level_of self)) }
     {
         self.close_beside(alloc)?;
-        Ok(gathered(GoalList::Either, self.eithers))
+        Ok(gathered(Operator::Either, self.eithers))
     }
 }
 

@@ -10,28 +10,19 @@ use crate::arguments::{ArgReader, ArgStep};
 use crate::goal_stack::{Level, Stack};
 use crate::symbol::Symbol;
 use flow_form::{Fact, Form, Name, Wanted};
+use flow_model::Deed;
 use std::alloc::{AllocError, Global};
 use std::mem;
 
-/// What is asked of a fact, or done to it.
-#[derive(Clone, Copy)]
-pub(crate) enum Prefix {
-    Test,
-    Absent,
-    Ins,
-    Del,
-}
-
-impl Prefix {
-    fn form(self, fact: Fact) -> Form
-        ensures { shape_of result ≡ grammar.prefixed (prefix_of self) fact }
-    {
-        match self {
-            Prefix::Test => Form::Test(fact),
-            Prefix::Absent => Form::Absent(fact),
-            Prefix::Ins => Form::Ins(fact),
-            Prefix::Del => Form::Del(fact),
-        }
+/// The leaf that does it with the fact.
+fn leaf(deed: Deed, fact: Fact) -> Form
+    ensures { shape_of result ≡ grammar.prefixed (prefix_of deed) fact }
+{
+    match deed {
+        Deed::Test => Form::Test(fact),
+        Deed::Absent => Form::Absent(fact),
+        Deed::Ins => Form::Ins(fact),
+        Deed::Del => Form::Del(fact),
     }
 }
 
@@ -41,9 +32,9 @@ pub(crate) enum GoalPlace {
     AtomNeeded,
     AfterAtom,
     OpeningNeeded,
-    FactNeeded(Prefix),
-    AfterRelation(Prefix, Name),
-    InArgs(Prefix, ArgReader),
+    FactNeeded(Deed),
+    AfterRelation(Deed, Name),
+    InArgs(Deed, ArgReader),
 }
 
 /// What a symbol makes of it.
@@ -70,10 +61,10 @@ fn start_atom(alloc: Global, stack: &mut Stack, symbol: Symbol<'_>) -> Result<Go
     match symbol {
         Symbol::Nop => after_form(stack, Form::Nop),
         Symbol::Name(name) => after_form(stack, Form::Name(Name::new(alloc, name)?)),
-        Symbol::Question => Ok(GoalStep::Reading(GoalPlace::FactNeeded(Prefix::Test))),
-        Symbol::Exclamation => Ok(GoalStep::Reading(GoalPlace::FactNeeded(Prefix::Absent))),
-        Symbol::Ins => Ok(GoalStep::Reading(GoalPlace::FactNeeded(Prefix::Ins))),
-        Symbol::Del => Ok(GoalStep::Reading(GoalPlace::FactNeeded(Prefix::Del))),
+        Symbol::Question => Ok(GoalStep::Reading(GoalPlace::FactNeeded(Deed::Test))),
+        Symbol::Exclamation => Ok(GoalStep::Reading(GoalPlace::FactNeeded(Deed::Absent))),
+        Symbol::Ins => Ok(GoalStep::Reading(GoalPlace::FactNeeded(Deed::Ins))),
+        Symbol::Del => Ok(GoalStep::Reading(GoalPlace::FactNeeded(Deed::Del))),
         Symbol::Iso => Ok(GoalStep::Reading(GoalPlace::OpeningNeeded)),
         Symbol::Opening => {
             stack.open(alloc, false)?;
@@ -132,21 +123,21 @@ fn close_parenthesis(alloc: Global, stack: &mut Stack) -> Result<GoalStep, Alloc
 fn open_args(
     alloc: Global,
     stack: &mut Stack,
-    prefix: Prefix,
+    deed: Deed,
     relation: Name,
     symbol: Symbol<'_>,
 ) -> Result<GoalStep, AllocError>
     ensures { IfOk result (λ step. goal_step stack.new step
-        ≡ machine.open_args (prefix_of prefix) relation (frames_of stack.old.frames.items) (level_of stack.old.level) (meant symbol.entry)) }
+        ≡ machine.open_args (prefix_of deed) relation (frames_of stack.old.frames.items) (level_of stack.old.level) (meant symbol.entry)) }
 {
     match symbol {
         Symbol::Opening => {
             let args = ArgReader::ConstantNeeded(relation, Vec::new(alloc));
-            Ok(GoalStep::Reading(GoalPlace::InArgs(prefix, args)))
+            Ok(GoalStep::Reading(GoalPlace::InArgs(deed, args)))
         }
         _ => {
             let fact = Fact::new(relation, Vec::new(alloc));
-            stack.level.push(prefix.form(fact))?;
+            stack.level.push(leaf(deed, fact))?;
             join_atom(alloc, stack, symbol)
         }
     }
@@ -171,19 +162,19 @@ impl GoalPlace {
                 }
                 _ => Ok(GoalStep::Stuck),
             },
-            GoalPlace::FactNeeded(prefix) => match symbol {
+            GoalPlace::FactNeeded(deed) => match symbol {
                 Symbol::Name(name) => {
                     let relation = Name::new(alloc, name)?;
-                    Ok(GoalStep::Reading(GoalPlace::AfterRelation(prefix, relation)))
+                    Ok(GoalStep::Reading(GoalPlace::AfterRelation(deed, relation)))
                 }
                 _ => Ok(GoalStep::Stuck),
             },
-            GoalPlace::AfterRelation(prefix, relation) => {
-                open_args(alloc, stack, prefix, relation, symbol)
+            GoalPlace::AfterRelation(deed, relation) => {
+                open_args(alloc, stack, deed, relation, symbol)
             }
-            GoalPlace::InArgs(prefix, args) => match args.step(alloc, symbol)? {
-                ArgStep::Reading(args) => Ok(GoalStep::Reading(GoalPlace::InArgs(prefix, args))),
-                ArgStep::Whole(fact) => after_form(stack, prefix.form(fact)),
+            GoalPlace::InArgs(deed, args) => match args.step(alloc, symbol)? {
+                ArgStep::Reading(args) => Ok(GoalStep::Reading(GoalPlace::InArgs(deed, args))),
+                ArgStep::Whole(fact) => after_form(stack, leaf(deed, fact)),
                 ArgStep::Stuck => Ok(GoalStep::Stuck),
             },
         }

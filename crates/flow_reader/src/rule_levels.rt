@@ -5,35 +5,28 @@ ghost use Rattle.flow_grammar.specs.Machine as machine;
 ghost use Rattle.flow_reader.specs.RuleLevels.{rule_list, rule_level_of};
 
 use flow_form::RuleForm;
+use flow_model::Connective;
 use std::alloc::{AllocError, Global};
 use std::mem;
 
-/// Which list of a rule some members stand in.
-#[derive(Clone, Copy)]
-enum RuleList {
-    And,
-    Or,
-}
-
-impl RuleList {
-    fn form(self, members: Vec<RuleForm>) -> RuleForm
-        ensures { rule_shape_of result ≡ rule_list self (map rule_shape_of members.items) }
-    {
-        match self {
-            RuleList::And => RuleForm::And(members),
-            RuleList::Or => RuleForm::Or(members),
-        }
+/// The list of the members.
+fn list(connective: Connective, members: Vec<RuleForm>) -> RuleForm
+    ensures { rule_shape_of result ≡ rule_list connective (map rule_shape_of members.items) }
+{
+    match connective {
+        Connective::And => RuleForm::And(members),
+        Connective::Or => RuleForm::Or(members),
     }
 }
 
 /// The list of the members; of one member, that member.
-fn gathered(list: RuleList, mut members: Vec<RuleForm>) -> RuleForm
-    ensures { rule_shape_of result ≡ grammar.gather (rule_list list) (map rule_shape_of members.items) }
+fn gathered(connective: Connective, mut members: Vec<RuleForm>) -> RuleForm
+    ensures { rule_shape_of result ≡ grammar.gather (rule_list connective) (map rule_shape_of members.items) }
 {
     if members.len() == 1 {
         members.swap_remove(0)
     } else {
-        list.form(members)
+        list(connective, members)
     }
 }
 
@@ -89,7 +82,7 @@ impl RuleLevel {
         ensures { OnOk result (rule_level_of self.new ≡ machine.close_all (rule_level_of self.old)) }
     {
         let alls = mem::replace(&mut self.alls, Vec::new(alloc));
-        self.anys.push(gathered(RuleList::And, alls))?;
+        self.anys.push(gathered(Connective::And, alls))?;
         Ok(())
     }
 
@@ -97,7 +90,7 @@ impl RuleLevel {
         ensures { IfOk result (λ rule. rule_shape_of rule ≡ machine.close_rule (rule_level_of self)) }
     {
         self.close_all(alloc)?;
-        Ok(gathered(RuleList::Or, self.anys))
+        Ok(gathered(Connective::Or, self.anys))
     }
 }
 

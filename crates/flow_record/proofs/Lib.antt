@@ -1,9 +1,8 @@
-pub mod Cutting
-pub mod FirstLine
-pub mod FirstWord
-pub mod Flat
-pub mod Histories
-pub mod Journals
-pub mod Numbers
-pub mod Pieces
-pub mod Sessions
+pub mod CutLemmas
+pub mod HistoryLemmas
+pub mod JournalLemmas
+pub mod LineLemmas
+pub mod NumberLemmas
+pub mod PieceLemmas
+pub mod SessionLemmas
+pub mod WordLemmas

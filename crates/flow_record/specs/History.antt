@@ -9,7 +9,8 @@ use Rattle.flow_model.specs.declared.history.Step.{Step}
 use Rattle.flow_model.specs.declared.history.Step.TheVariants.{Took, Done, Failed, Late, Did, Rewound, Committed}
 use Rattle.flow_model.specs.declared.history.FailEffect.{FailEffect}
 use Rattle.flow_model.specs.declared.history.FailEffect.TheVariants.{Switched, Kept}
-use Rattle.flow_record.specs.Lines.{cut_at, pieces_of, plain_number}
+use Rattle.flow_record.specs.Lines.{cut_at, pieces_of}
+use Rattle.flow_record.specs.Number.{plain_number}
 
 -- what an entry does, in words
 abbrev pub step_text : Step → List ℕ

@@ -1,5 +1,6 @@
 pub mod Lines
-pub mod Spaced
+pub mod Words
+pub mod Number
 pub mod Session
 pub mod History
 pub mod Journal

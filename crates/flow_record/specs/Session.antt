@@ -5,9 +5,11 @@ use Rattle.std.specs.Str.{bytes_eq}
 use Rattle.flow_model.specs.declared.limits.TheConstants.{MOST_LINES}
 use Rattle.flow_record.specs.declared.command.Command.{Command}
 use Rattle.flow_record.specs.declared.command.Command.TheVariants.{Take, Do, Done, Fail, Rewind, Commit, Next, Enabled, Journal, Facts}
-use Rattle.flow_record.specs.declared.line.Line.{Line}
-use Rattle.flow_record.specs.declared.line.Line.TheVariants.{Blank, Holds, Bad}
-use Rattle.flow_record.specs.Lines.{without_returns, lines_of, words_of, number_of}
+use Rattle.flow_record.specs.declared.session.Line.{Line}
+use Rattle.flow_record.specs.declared.session.Line.TheVariants.{Blank, Holds, Bad}
+use Rattle.flow_record.specs.Lines.{without_returns, lines_of}
+use Rattle.flow_record.specs.Number.{number_of}
+use Rattle.flow_record.specs.Words.{words_of}
 
 -- the command of one word alone
 abbrev pub bare_command : List ℕ → Option Command
@@ -61,7 +63,7 @@ with_line number Blank rest = rest
 with_line number (Holds command) rest = with_command command rest
 with_line number Bad rest = bad_line number
 
--- the lines of a session from the one of that number on: no line is numbered 16,384 or more
+-- the lines of a session from the one of that number on: no line is numbered MOST_LINES or more
 abbrev pub session_from : ℕ → List (List ℕ) → SessionText
 session_from number [] = commands []
 session_from number (line ∷ lines) =

@@ -2,27 +2,21 @@
 #![tactic(auto)]
 
 mod command;
-mod cut;
+mod divider;
 mod history;
-mod history_lines;
-mod joining;
 mod journal;
-mod journal_lines;
-mod line;
 mod lines;
 mod number;
+mod pieces;
 mod refusal;
 mod session;
-mod spaced;
 mod words;
 
 pub use command::Command;
-pub use cut::cut_source;
-pub use history::print_history;
-pub use history_lines::read_history;
-pub use joining::print_pieces;
-pub use journal::{print_journal, push_leaf_line};
-pub use journal_lines::read_journal;
+pub use divider::cut;
+pub use history::{print_history, read_history};
+pub use journal::{print_journal, print_label, push_leaf_line, read_journal};
+pub use number::push_numbers;
+pub use pieces::print_pieces;
 pub use refusal::RecordRefusal;
 pub use session::read_session;
-pub use spaced::push_numbers;

@@ -1,5 +1,10 @@
-ghost use Rattle.std.specs.Prelude.{◌≡◌};
-ghost use Rattle.flow_record.specs.Lines.{number_of, plain_number, value_with};
+ghost use Rattle.std.specs.Prelude.{◌≡◌, ◌++◌, codes, OnOk, OnErr};
+ghost use Rattle.std.specs.String.{string_bytes};
+ghost use Rattle.std.specs.Fmt.{decimal};
+ghost use Rattle.flow_record.specs.Number.{number_of, plain_number, value_with, spaced_numbers};
+
+use itoa::Buffer;
+use std::alloc::AllocError;
 
 /// The number that a word is, if it is one.
 pub(crate) fn read_number(word: &[u8]) -> Option<u32>
@@ -34,4 +39,34 @@ fn value_with(value: u32, byte: u8) -> Option<u32>
     } else {
         None
     }
+}
+
+/// Adds the numbers to a text, each after a blank. Where there is no memory, the text is as it was.
+pub fn push_numbers(text: &mut String, numbers: &[u32]) -> Result<(), AllocError>
+    ensures ok { OnOk result (string_bytes text.new ≡ string_bytes text.old ++ spaced_numbers numbers.now) }
+    ensures err { OnErr result (string_bytes text.new ≡ string_bytes text.old) }
+{
+    let before = text.len();
+    for number in numbers {
+        if push_number(text, *number).is_err() {
+            text.truncate(before);
+            return Err(AllocError);
+        }
+    }
+    Ok(())
+}
+
+/// Adds a blank and the number to a text. Where there is no memory, the text is as it was.
+fn push_number(text: &mut String, number: u32) -> Result<(), AllocError>
+    ensures ok { OnOk result (string_bytes text.new ≡ string_bytes text.old ++ (codes " " ++ decimal number)) }
+    ensures err { OnErr result (string_bytes text.new ≡ string_bytes text.old) }
+{
+    let before = text.len();
+    text.push_str(" ")?;
+    let mut digits = Buffer::new();
+    let pushed = text.push_str(digits.format(number));
+    if pushed.is_err() {
+        text.truncate(before);
+    }
+    pushed
 }

@@ -1,16 +1,24 @@
 ghost use Rattle.std.specs.Prelude.{◌≡◌, ℕ, IfOk};
 ghost use Rattle.std.specs.Result.{IsErrOf};
-ghost use Rattle.flow_record.specs.Lines.{words_of};
+ghost use Rattle.flow_record.specs.Words.{words_of};
 ghost use Rattle.flow_record.specs.Session.{bare_command, numbered_command, line_of, session_of, commands, bad_line};
 
 use crate::command::Command;
-use crate::line::Line;
 use crate::lines::{is_word, split_line};
 use crate::number::read_number;
 use crate::refusal::RecordRefusal;
 use crate::words::split_word;
 use flow_model::MOST_LINES;
 use std::alloc::Global;
+
+/// What one line of a session is.
+#[derive(Clone, Copy)]
+enum Line {
+    /// It has no word.
+    Blank,
+    Holds(Command),
+    Bad,
+}
 
 /// Reads the commands of a session.
 pub fn read_session(alloc: Global, text: &[u8]) -> Result<Vec<Command>, RecordRefusal>

@@ -1,6 +1,6 @@
 ghost use Rattle.std.specs.Prelude.{◌≡◌, not};
 ghost use Rattle.std.specs.List.{position};
-ghost use Rattle.flow_record.specs.Lines.{is_blank, words_of, with_word};
+ghost use Rattle.flow_record.specs.Words.{is_blank, words_of, with_word};
 
 /// The first word of a line, and what stands after it. The word is empty where the line has none.
 pub(crate) fn split_word(line: &[u8]) -> (&[u8], &[u8])

@@ -1,4 +1,1 @@
-mod Verdicts
-pub mod Runs
 pub mod OneReply
-pub mod Spaced

@@ -4,7 +4,7 @@ use Rattle.serde_json.specs.Data.{Data, member, no_members, number, object, stri
 use Rattle.serde_json.specs.Written.{compact_text}
 use Rattle.flow_core.specs.Run.{Run}
 use Rattle.flow_reply.specs.declared.summary.Summary.{Summary}
-use Rattle.flow_reply.specs.Report.{IsVerdictText}
+use Rattle.flow_reply.specs.Conclusion.{IsVerdictText}
 
 abbrev pub count : ℕ → Data
 count n = number (unsigned n)
@@ -23,7 +23,10 @@ summary_object s words =
     (member (codes "size") (count s.size)
     (member (codes "verdict") (string words) no_members))))))))))
 
--- the line of the summary of a run: the object in its compact text, and a line feed
+-- the line of the summary: the object in its compact text, and a line feed
+abbrev pub summary_text : Summary → List ℕ → List ℕ
+summary_text s words = compact_text (summary_object s words) ++ codes "\n"
+
+-- the line of the summary of a run
 abbrev pub IsSummary : Run → Summary → List ℕ → Type 0
-IsSummary r summary text =
-    (words : List ℕ) × IsVerdictText r summary.verdict words × (text ≡ compact_text (summary_object summary words) ++ codes "\n")
+IsSummary r summary text = (words : List ℕ) × IsVerdictText r summary.verdict words × (text ≡ summary_text summary words)

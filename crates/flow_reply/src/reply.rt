@@ -1,77 +1,94 @@
-ghost use Rattle.std.specs.Prelude.{◌≡◌, ◌++◌, ◌<◌, length, codes, IfOk};
+ghost use Rattle.std.specs.Prelude.{◌≡◌, IfOk};
 ghost use Rattle.std.specs.String.{string_bytes};
-ghost use Rattle.flow_core.specs.Run.{now};
-ghost use Rattle.flow_reply.specs.Reply.{IsAnswerTo, HasNamedCall, IsReply, IsReplyLine, given_text, take_text, take_refused, do_text};
+ghost use Rattle.flow_record.specs.declared.command.Command.TheVariants as command;
+ghost use Rattle.flow_reply.specs.Reply.{IsAnswerTo, IsReplyOf, IsReplyLine, reply_text, given_text, take_reply, do_reply, done_reply, fail_reply, post_reply, rewind_reply, commit_reply, call_text, failed_text, late_text};
+ghost use Rattle.flow_reply.specs.declared.answer.Answer.TheVariants.{Shown};
 
 use crate::answer::Answer;
-use crate::ending::{print_commit, print_number, print_rewind, print_word};
-use crate::posting::{print_done, print_fail};
-use crate::showing::{show_enabled, show_facts, show_journal, show_next};
-use flow_core::{Call, Core, DoRefusal, TakeRefusal};
+use crate::facts::print_facts;
+use crate::refusal::{Refusal, do_refusal, take_refusal};
+use crate::words::{print_number, print_numbers, print_word, with_bytes};
+use flow_core::{
+    Call, CommitRefusal, Core, DoRefusal, FailEffect, Next, PostRefusal, RewindRefusal, TakeRefusal,
+};
 use flow_record::Command;
+use flow_workflow::Workflow;
 use std::alloc::{AllocError, Global};
 
-/// Prints the line of the reply to a command. The core is as the command left it.
-pub fn print_reply(
+/// The reply to a command. Leaves, claims and facts go by their numbers; lists rise.
+#[derive(Drop)]
+pub enum Reply {
+    /// A claim was given, in that epoch.
+    Given { epoch: u32, call: Call },
+    /// The leaf was done.
+    Did(u32),
+    /// The task of the claim succeeded.
+    Done(u32),
+    /// The task of the claim failed.
+    Failed { claim: u32, effect: FailEffect },
+    /// The claim is of an earlier epoch: its result is recorded and does not count.
+    Late { claim: u32, of: u32, now: u32 },
+    /// The run went back to that place of the journal.
+    Rewound(u32),
+    /// The run was committed.
+    Committed,
+    Refused(Refusal),
+    /// Next the leaf can be taken or done.
+    Act(u32),
+    /// Nothing can be done before the claim, or another, is answered.
+    Wait(u32),
+    /// The journal is a whole execution.
+    Finished,
+    /// Only these leaves are left, which wait.
+    Stuck(Vec<u32>),
+    /// The run is over.
+    Ended,
+    /// The leaves that can act.
+    Enabled(Vec<u32>),
+    /// The leaves of the journal, in its order.
+    Journal(Vec<u32>),
+    /// The facts that hold.
+    Facts(Vec<u32>),
+}
+
+impl Reply {
+    /// Prints the reply. An event and a fact go by what they are in the workflow.
+    pub fn print(&self, alloc: Global, workflow: &Workflow) -> Result<Vec<u8>, AllocError>
+        ensures { IfOk result (λ text. text.items ≡ reply_text workflow.now self.now) }
+    {
+        let text = match self {
+            Reply::Given { epoch, call } => return print_call(alloc, workflow, *epoch, call),
+            Reply::Facts(facts) => return print_facts(alloc, workflow, facts),
+            Reply::Did(leaf) => print_number(alloc, "did ", *leaf),
+            Reply::Done(claim) => print_number(alloc, "done ", *claim),
+            Reply::Failed { claim, effect } => print_failed(alloc, *claim, *effect),
+            Reply::Late { claim, of, now } => print_late(alloc, *claim, *of, *now),
+            Reply::Rewound(index) => print_number(alloc, "rewound ", *index),
+            Reply::Committed => print_word(alloc, "committed"),
+            Reply::Refused(refusal) => refusal.print(alloc),
+            Reply::Act(leaf) => print_number(alloc, "act ", *leaf),
+            Reply::Wait(claim) => print_number(alloc, "wait ", *claim),
+            Reply::Finished => print_word(alloc, "finished"),
+            Reply::Stuck(waiting) => print_numbers(alloc, "stuck", waiting),
+            Reply::Ended => print_word(alloc, "ended"),
+            Reply::Enabled(leaves) => print_numbers(alloc, "enabled", leaves),
+            Reply::Journal(leaves) => print_numbers(alloc, "journal", leaves),
+        };
+        Ok(text?.into_bytes())
+    }
+}
+
+/// Prints a call that is given, and the name of its event.
+fn print_call(
     alloc: Global,
-    core: &Core,
-    command: &Command,
-    answer: &Answer,
+    workflow: &Workflow,
+    epoch: u32,
+    call: &Call,
 ) -> Result<Vec<u8>, AllocError>
-    requires kind { IsAnswerTo command.now answer.now }
-    requires named { HasNamedCall core.now.definition.events answer.now }
-    ensures { IfOk result (λ line. IsReplyLine core.now command.now answer.now line.items) }
+    ensures { IfOk result (λ text. text.items ≡ call_text workflow.now epoch call.now) }
 {
-    with_bytes(print_answer(alloc, core, command, answer)?, b"\n")
-}
-
-/// The text with further bytes.
-pub(crate) fn with_bytes(text: Vec<u8>, more: &[u8]) -> Result<Vec<u8>, AllocError>
-    ensures { IfOk result (λ longer. longer.items ≡ text.items ++ more.now) }
-{
-    let mut text = text;
-    text.extend_from_slice(more)?;
-    Ok(text)
-}
-
-/// Prints the reply to a command.
-fn print_answer(
-    alloc: Global,
-    core: &Core,
-    command: &Command,
-    answer: &Answer,
-) -> Result<Vec<u8>, AllocError>
-    requires kind { IsAnswerTo command.now answer.now }
-    requires named { HasNamedCall core.now.definition.events answer.now }
-    ensures { IfOk result (λ text. IsReply core.now command.now answer.now text.items) }
-{
-    let text = match (*command, *answer) {
-        (Command::Take(_), Answer::Took(Ok(call))) => return print_call(alloc, core, &call),
-        (Command::Take(leaf), Answer::Took(Err(refusal))) => refuse_take(alloc, leaf, refusal),
-        (Command::Do(leaf), Answer::Did(came)) => print_do(alloc, leaf, came),
-        (Command::Done(claim), Answer::Done(came)) => print_done(alloc, claim, came),
-        (Command::Fail(claim), Answer::Failed(came)) => print_fail(alloc, claim, came),
-        (Command::Rewind, Answer::Rewound(came)) => print_rewind(alloc, came),
-        (Command::Commit, Answer::Committed(came)) => print_commit(alloc, came),
-        (Command::Next, Answer::Shown) => show_next(alloc, core),
-        (Command::Enabled, Answer::Shown) => show_enabled(alloc, core),
-        (Command::Journal, Answer::Shown) => show_journal(alloc, core),
-        (Command::Facts, Answer::Shown) => return show_facts(alloc, core),
-        _ => unreachable!(),
-    };
-    Ok(text?.into_bytes())
-}
-
-/// Prints a call that is given.
-fn print_call(alloc: Global, core: &Core, call: &Call) -> Result<Vec<u8>, AllocError>
-    requires { call.now.event < length core.now.definition.events }
-    ensures { IfOk result (λ text. text.items ≡ take_text core.now.definition (now core.now).epoch 0 (Ok call.now)) }
-{
-    let given = print_given(alloc, core.epoch(), call)?;
-    with_bytes(
-        given.into_bytes(),
-        core.workflow().events()[call.event as usize].bytes(),
-    )
+    let given = print_given(alloc, epoch, call)?;
+    with_bytes(given.into_bytes(), workflow.event_name(call.event))
 }
 
 /// Prints a call that is given, up to its event's name.
@@ -83,30 +100,149 @@ fn print_given(alloc: Global, epoch: u32, call: &Call) -> Result<String, AllocEr
     format!(in alloc; "claim {claim} epoch {epoch} attempt {attempt} ")
 }
 
-/// Prints why a leaf is not taken.
-fn refuse_take(alloc: Global, leaf: u32, refusal: TakeRefusal) -> Result<String, AllocError>
-    ensures { IfOk result (λ text. string_bytes text ≡ take_refused leaf refusal) }
+/// Prints that a claim failed, and how.
+fn print_failed(alloc: Global, claim: u32, effect: FailEffect) -> Result<String, AllocError>
+    ensures { IfOk result (λ text. string_bytes text ≡ failed_text claim effect) }
 {
-    match refusal {
-        TakeRefusal::Closed => print_word(alloc, "refused closed"),
-        TakeRefusal::NoLeaf => print_number(alloc, "refused leaf ", leaf),
-        TakeRefusal::WrongKind => print_number(alloc, "refused kind ", leaf),
-        TakeRefusal::Spent { limit } => print_number(alloc, "refused spent ", limit),
-        TakeRefusal::NotEnabled => print_number(alloc, "refused not-enabled ", leaf),
+    match effect {
+        FailEffect::Switched => format!(in alloc; "failed {claim} switched"),
+        FailEffect::Kept => format!(in alloc; "failed {claim} kept"),
     }
 }
 
-/// Prints what came of a `do`.
-fn print_do(alloc: Global, leaf: u32, came: Result<(), DoRefusal>) -> Result<String, AllocError>
-    ensures { IfOk result (λ text. string_bytes text ≡ do_text leaf came) }
+/// Prints that a result came too late.
+fn print_late(alloc: Global, claim: u32, of: u32, now: u32) -> Result<String, AllocError>
+    ensures { IfOk result (λ text. string_bytes text ≡ late_text claim of now) }
+{
+    format!(in alloc; "late {claim} {of} {now}")
+}
+
+/// The reply to a command. The core is as the command left it.
+pub fn reply_of(
+    alloc: Global,
+    core: &Core,
+    command: &Command,
+    answer: &Answer,
+) -> Result<Reply, AllocError>
+    requires { IsAnswerTo command.now answer.now }
+    ensures { IfOk result (λ reply. IsReplyOf core.now command.now answer.now reply) }
+{
+    match (*command, *answer) {
+        (Command::Take(leaf), Answer::Took(came)) => Ok(take_reply(core.epoch(), leaf, came)),
+        (Command::Do(leaf), Answer::Did(came)) => Ok(do_reply(leaf, came)),
+        (Command::Done(claim), Answer::Done(came)) => Ok(done_reply(claim, came)),
+        (Command::Fail(claim), Answer::Failed(came)) => Ok(fail_reply(claim, came)),
+        (Command::Rewind, Answer::Rewound(came)) => Ok(rewind_reply(came)),
+        (Command::Commit, Answer::Committed(came)) => Ok(commit_reply(came)),
+        (Command::Next, Answer::Shown) => next_reply(alloc, core),
+        (Command::Enabled, Answer::Shown) => Ok(Reply::Enabled(core.enabled(alloc)?)),
+        (Command::Journal, Answer::Shown) => Ok(Reply::Journal(Vec::from_slice(
+            alloc,
+            core.journal(),
+        )?)),
+        (Command::Facts, Answer::Shown) => Ok(Reply::Facts(core.held(alloc)?)),
+        _ => unreachable!(),
+    }
+}
+
+/// What came of a `take`.
+fn take_reply(epoch: u32, leaf: u32, came: Result<Call, TakeRefusal>) -> Reply
+    ensures { result ≡ take_reply epoch leaf came }
 {
     match came {
-        Ok(()) => print_number(alloc, "did ", leaf),
-        Err(DoRefusal::Closed) => print_word(alloc, "refused closed"),
-        Err(DoRefusal::NoLeaf) => print_number(alloc, "refused leaf ", leaf),
-        Err(DoRefusal::WrongKind) => print_number(alloc, "refused kind ", leaf),
-        Err(DoRefusal::Spent { limit }) => print_number(alloc, "refused spent ", limit),
-        Err(DoRefusal::NotEnabled) => print_number(alloc, "refused not-enabled ", leaf),
-        Err(DoRefusal::TestFalse) => print_number(alloc, "refused false ", leaf),
+        Ok(call) => Reply::Given { epoch, call },
+        Err(refusal) => Reply::Refused(take_refusal(leaf, refusal)),
     }
+}
+
+/// What came of a `do`.
+fn do_reply(leaf: u32, came: Result<(), DoRefusal>) -> Reply
+    ensures { result ≡ do_reply leaf came }
+{
+    match came {
+        Ok(()) => Reply::Did(leaf),
+        Err(refusal) => Reply::Refused(do_refusal(leaf, refusal)),
+    }
+}
+
+/// What came of a `done`.
+fn done_reply(claim: u32, came: Result<(), PostRefusal>) -> Reply
+    ensures { result ≡ done_reply claim came }
+{
+    match came {
+        Ok(()) => Reply::Done(claim),
+        Err(refusal) => post_reply(claim, refusal),
+    }
+}
+
+/// What came of a `fail`.
+fn fail_reply(claim: u32, came: Result<FailEffect, PostRefusal>) -> Reply
+    ensures { result ≡ fail_reply claim came }
+{
+    match came {
+        Ok(effect) => Reply::Failed { claim, effect },
+        Err(refusal) => post_reply(claim, refusal),
+    }
+}
+
+/// Why the result of a claim does not count.
+fn post_reply(claim: u32, refusal: PostRefusal) -> Reply
+    ensures { result ≡ post_reply claim refusal }
+{
+    match refusal {
+        PostRefusal::Closed => Reply::Refused(Refusal::Closed),
+        PostRefusal::NoClaim => Reply::Refused(Refusal::NoClaim(claim)),
+        PostRefusal::Answered => Reply::Refused(Refusal::Answered(claim)),
+        PostRefusal::Spent { limit } => Reply::Refused(Refusal::Spent { limit }),
+        PostRefusal::Late { of, now } => Reply::Late { claim, of, now },
+    }
+}
+
+/// What came of a `rewind`.
+fn rewind_reply(came: Result<u32, RewindRefusal>) -> Reply
+    ensures { result ≡ rewind_reply came }
+{
+    match came {
+        Ok(index) => Reply::Rewound(index),
+        Err(refusal) => Reply::Refused(Refusal::from(refusal)),
+    }
+}
+
+/// What came of a `commit`.
+fn commit_reply(came: Result<(), CommitRefusal>) -> Reply
+    ensures { result ≡ commit_reply came }
+{
+    match came {
+        Ok(()) => Reply::Committed,
+        Err(refusal) => Reply::Refused(Refusal::from(refusal)),
+    }
+}
+
+/// What the run can do next.
+fn next_reply(alloc: Global, core: &Core) -> Result<Reply, AllocError>
+    ensures { IfOk result (λ reply. IsReplyOf core.now command.Next Shown reply) }
+{
+    match core.next() {
+        Next::Act(leaf) => Ok(Reply::Act(leaf)),
+        Next::Wait(claim) => Ok(Reply::Wait(claim)),
+        Next::Finished => Ok(Reply::Finished),
+        Next::Stuck(_) => Ok(Reply::Stuck(core.waiting(alloc)?)),
+        Next::Ended => Ok(Reply::Ended),
+    }
+}
+
+/// Prints the line of the reply to a command. The core is as the command left it.
+pub fn print_reply(
+    alloc: Global,
+    core: &Core,
+    command: &Command,
+    answer: &Answer,
+) -> Result<Vec<u8>, AllocError>
+    requires { IsAnswerTo command.now answer.now }
+    ensures { IfOk result (λ line. IsReplyLine core.now command.now answer.now line.items) }
+{
+    let reply = reply_of(alloc, core, command, answer)?;
+    let text = reply.print(alloc, core.workflow());
+    drop(reply);
+    with_bytes(text?, b"\n")
 }

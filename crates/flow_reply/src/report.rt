@@ -1,48 +1,67 @@
-ghost use Rattle.std.specs.Prelude.{◌≡◌, ◌++◌, length, codes, IfOk};
-ghost use Rattle.std.specs.String.{string_bytes};
-ghost use Rattle.flow_core.specs.Run.{now};
-ghost use Rattle.flow_record.specs.Journal.{AreLeaves};
-ghost use Rattle.flow_reply.specs.Report.{IsVerdictText, IsReport, report_text};
+ghost use Rattle.std.specs.Prelude.{◌≡◌, IfOk};
+ghost use Rattle.flow_reply.specs.Conclusion.{meaning_of, verdict_text};
+ghost use Rattle.flow_reply.specs.Report.{IsReport, IsReportOf, report_text, text_of_report};
 
-use crate::ending::{print_number, print_word};
-use crate::listed::print_stuck;
+use crate::conclusion::{Conclusion, conclusion_of};
 use crate::verdict::Verdict;
 use flow_core::Core;
+use flow_model::Entry;
 use flow_record::{print_history, print_journal, print_pieces};
+use flow_workflow::Workflow;
 use itoa::Buffer;
 use std::alloc::{AllocError, Global};
 
-/// Prints the report of a run that came to the verdict.
-pub fn print_report(alloc: Global, core: &Core, verdict: &Verdict) -> Result<Vec<u8>, AllocError>
-    ensures { IfOk result (λ text. IsReport core.now verdict.now text.items) }
-{
-    let words = print_verdict(alloc, core, verdict)?;
-    let report = print_with(alloc, core, words.as_bytes());
-    drop(words);
-    report
+/// What a run did and what it came to.
+#[derive(Drop)]
+pub struct Report<'a> {
+    pub history: &'a [Entry],
+    pub journal: &'a [u32],
+    pub conclusion: Conclusion,
 }
 
-/// Prints the report of a run, its verdict in these words.
-fn print_with(alloc: Global, core: &Core, words: &[u8]) -> Result<Vec<u8>, AllocError>
-    ensures { IfOk result (λ text.
-        text.items ≡ report_text core.now.definition core.now.history (now core.now).journal words.now) }
+impl Report<'_> {
+    /// Prints the report. The leaves of the journal go by their labels in the workflow.
+    pub fn print(&self, alloc: Global, workflow: &Workflow) -> Result<Vec<u8>, AllocError>
+        ensures { IfOk result (λ text. text.items ≡ text_of_report workflow.now self.now) }
+    {
+        let words = self.conclusion.print(alloc)?;
+        let report = print_lines(
+            alloc,
+            workflow,
+            self.history,
+            self.journal,
+            words.as_bytes(),
+        );
+        drop(words);
+        report
+    }
+}
+
+/// Prints a report, its verdict in these words.
+fn print_lines(
+    alloc: Global,
+    workflow: &Workflow,
+    history: &[Entry],
+    journal: &[u32],
+    words: &[u8],
+) -> Result<Vec<u8>, AllocError>
+    ensures { IfOk result (λ text. text.items ≡ report_text workflow.now history.now journal.now words.now) }
 {
-    let leaves = journal_of(core);
     let mut entries = Buffer::new();
     let mut places = Buffer::new();
-    let history = print_history(alloc, core.history())?;
-    let journal = print_journal(alloc, core.workflow(), leaves)?;
+    let history_lines = print_history(alloc, history)?;
+    let journal_lines = print_journal(alloc, workflow, journal)?;
     print_pieces(
         alloc,
         &[
             b"history ",
-            entries.format(core.history().len()).as_bytes(),
+            entries.format(history.len()).as_bytes(),
             b"\n",
-            &history,
+            &history_lines,
             b"journal ",
-            places.format(leaves.len()).as_bytes(),
+            places.format(journal.len()).as_bytes(),
             b"\n",
-            &journal,
+            &journal_lines,
             b"verdict ",
             words,
             b"\n",
@@ -50,30 +69,28 @@ fn print_with(alloc: Global, core: &Core, words: &[u8]) -> Result<Vec<u8>, Alloc
     )
 }
 
-/// The leaves of the journal, each of which has a label.
-fn journal_of(core: &Core) -> &[u32]
-    ensures journal { result.now ≡ (now core.now).journal }
-    ensures leaves { AreLeaves core.now.definition result.now }
+/// The report of a run that came to the verdict.
+pub fn report_of<'a>(
+    alloc: Global,
+    core: &'a Core,
+    verdict: &Verdict,
+) -> Result<Report<'a>, AllocError>
+    ensures { IfOk result (λ report. IsReportOf core.now verdict.now report) }
 {
-    // what both tell makes the second
-    let _ = core.history();
-    let _ = core.workflow().tree();
-    core.journal()
+    let conclusion = conclusion_of(alloc, core, verdict)?;
+    Ok(Report {
+        history: core.history(),
+        journal: core.journal(),
+        conclusion,
+    })
 }
 
-/// Prints a verdict.
-pub(crate) fn print_verdict(
-    alloc: Global,
-    core: &Core,
-    verdict: &Verdict,
-) -> Result<String, AllocError>
-    ensures { IfOk result (λ text. IsVerdictText core.now verdict.now (string_bytes text)) }
+/// Prints the report of a run that came to the verdict.
+pub fn print_report(alloc: Global, core: &Core, verdict: &Verdict) -> Result<Vec<u8>, AllocError>
+    ensures { IfOk result (λ text. IsReport core.now verdict.now text.items) }
 {
-    match verdict {
-        Verdict::Committed => print_word(alloc, "committed"),
-        Verdict::Spent => print_word(alloc, "spent"),
-        Verdict::NoOther(leaf) => print_number(alloc, "no-other ", *leaf),
-        Verdict::Stuck => print_stuck(alloc, core),
-        Verdict::Unfinished => print_word(alloc, "unfinished"),
-    }
+    let report = report_of(alloc, core, verdict)?;
+    let text = report.print(alloc, core.workflow());
+    drop(report);
+    text
 }

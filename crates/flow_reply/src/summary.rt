@@ -3,11 +3,12 @@ ghost use Rattle.std.specs.String.{string_bytes};
 ghost use Rattle.serde_json.specs.Data.{no_members, put};
 ghost use Rattle.serde_json.specs.View.{view, members_view};
 ghost use Rattle.serde_json.specs.Written.{compact_text};
-ghost use Rattle.flow_reply.specs.Summary.{count, summary_object, IsSummary};
+ghost use Rattle.flow_reply.specs.Conclusion.{meaning_of, verdict_text};
+ghost use Rattle.flow_reply.specs.Summary.{count, summary_object, summary_text, IsSummary};
 
-use crate::reply::with_bytes;
-use crate::report::print_verdict;
+use crate::conclusion::{Conclusion, conclusion_of};
 use crate::verdict::Verdict;
+use crate::words::with_bytes;
 use flow_core::Core;
 use serde_json::{Map, Value, put};
 use std::alloc::{AllocError, Global};
@@ -31,14 +32,26 @@ pub struct Summary {
     pub verdict: Verdict,
 }
 
+impl Summary {
+    /// Prints the summary of a run that came to this, as one line of JSON.
+    pub fn print(&self, alloc: Global, conclusion: &Conclusion) -> Result<Vec<u8>, AllocError>
+        ensures { IfOk result (λ text. text.items ≡ summary_text self.now (verdict_text (meaning_of conclusion.now))) }
+    {
+        let words = conclusion.print(alloc)?;
+        let object = print_object(alloc, self, &words);
+        drop(words);
+        with_bytes(object?.into_bytes(), b"\n")
+    }
+}
+
 /// Prints the summary of a run that came to its verdict, as one line of JSON.
 pub fn print_summary(alloc: Global, core: &Core, summary: &Summary) -> Result<Vec<u8>, AllocError>
     ensures { IfOk result (λ text. IsSummary core.now summary.now text.items) }
 {
-    let words = print_verdict(alloc, core, &summary.verdict)?;
-    let object = print_object(alloc, summary, &words);
-    drop(words);
-    with_bytes(object?.into_bytes(), b"\n")
+    let conclusion = conclusion_of(alloc, core, &summary.verdict)?;
+    let text = summary.print(alloc, &conclusion);
+    drop(conclusion);
+    text
 }
 
 /// Prints the summary as an object of JSON, its verdict in these words.

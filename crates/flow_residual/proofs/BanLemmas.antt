@@ -5,9 +5,9 @@ use Rattle.std.proofs.lemmas.Bool.{cases_Bool, cases_lt, le-leb, leb-true}
 use Rattle.flow_model.specs.Lists.{◌∈◌, Each}
 use Rattle.flow_model.specs.Process.{leaves}
 use Rattle.flow_model.specs.Resolution.{ChoiceOption}
-use Rattle.flow_laws.proofs.Members.{each-append, each_to, each_member, mem_append_left, mem_append_right}
-use Rattle.flow_laws.proofs.MadeLists.{each-filter}
-use Rattle.flow_residual.specs.Tracks.{IsLeastBan}
+use Rattle.flow_model.proofs.Lists.{each-append, each_to, each_member, mem_append_left, mem_append_right}
+use Rattle.flow_model.proofs.MadeLists.{each-filter}
+use Rattle.flow_residual.specs.Track.{IsLeastBan}
 
 -- ---- one ban more
 

@@ -8,7 +8,8 @@ use Rattle.std.proofs.lemmas.Bool.Decides.{eqb_tells}
 use Rattle.std.proofs.lemmas.List.Sums.{sum_by_push, count_by-le-length}
 use Rattle.std.proofs.lemmas.List.{get_or-set_same, get_or-set_other, length-map, map-append}
 use Rattle.flow_model.specs.Lists.{Each}
-use Rattle.flow_laws.proofs.Members.{cons_same, each-append}
+use Rattle.flow_model.specs.Decided.{cons_same}
+use Rattle.flow_model.proofs.Lists.{each-append}
 use Rattle.flow_residual.specs.declared.given.Given.{Given}
 use Rattle.flow_model.specs.Run.{claim_at, answer}
 use Rattle.flow_residual.specs.Given.{claim_of, claims_from, is_out, out_places, out_leaves}

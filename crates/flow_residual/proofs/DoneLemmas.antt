@@ -4,7 +4,7 @@ use Rattle.std.specs.List.Sorted.{IsStrictlyIncreasing, IsBinarySearchResult}
 use Rattle.std.proofs.lemmas.List.{take_more}
 use Rattle.std.proofs.lemmas.List.Sorted.{searched}
 use Rattle.flow_model.specs.Lists.{◌∈◌}
-use Rattle.flow_laws.proofs.Members.{mem_append_left, mem_append_right, mem-append}
+use Rattle.flow_model.proofs.Lists.{mem_append_left, mem_append_right, mem-append}
 use Rattle.flow_plan.specs.declared.progress.Progress.{Progress}
 use Rattle.flow_plan.specs.Progress.{is_done, IsDone}
 use Rattle.flow_plan.proofs.Following.{noted_to, noted_from}

@@ -5,13 +5,13 @@ use Rattle.flow_model.specs.Lists.{◌∈◌, Each, AreDistinct}
 use Rattle.flow_model.specs.Process.{Process, leaves}
 use Rattle.flow_model.specs.Ready.{DoneOr, IsReadyRunAfter}
 use Rattle.flow_model.specs.Resolution.{ChoiceOption}
-use Rattle.flow_laws.proofs.Members.{each_member, each_to, each_parts, distinct_parts}
-use Rattle.flow_laws.proofs.MadeLists.{same_order}
-use Rattle.flow_residual.specs.Options.{HasSmallLeaves}
+use Rattle.flow_model.proofs.Lists.{each_member, each_to, each_parts, distinct_parts}
+use Rattle.flow_model.proofs.MadeLists.{same_order}
+use Rattle.flow_plan.specs.Options.{HasSmallLeaves}
 use Rattle.flow_residual.specs.Remaining.{Remaining}
-use Rattle.flow_residual.specs.Possible.{Takes}
-use Rattle.flow_residual.specs.declared.asking.Stand.{Stand}
-use Rattle.flow_residual.specs.declared.asking.Stand.TheVariants.{Among, First}
+use Rattle.flow_residual.specs.Question.{Takes}
+use Rattle.flow_residual.specs.declared.question.Stand.{Stand}
+use Rattle.flow_residual.specs.declared.question.Stand.TheVariants.{Among, First}
 
 fresh : (q : Process) (pairs : List (ℕ × ℕ)) (D : ℕ → Type 0) (run : List ℕ) (x : ℕ) → IsReadyRunAfter q pairs D run → x ∈ run → ¬ D x
 fresh q pairs D [] x run member done = member

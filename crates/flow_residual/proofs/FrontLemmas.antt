@@ -6,7 +6,7 @@ use Rattle.flow_model.specs.Lists.{◌∈◌}
 use Rattle.flow_model.specs.Resolution.{ChoiceOption}
 use Rattle.flow_model.specs.Ready.{IsReady, IsReadyRun}
 use Rattle.flow_laws.proofs.ReadyRuns.{run_front, run_grow, ready_at}
-use Rattle.flow_residual.specs.Tracks.{IsBegun, IsFront}
+use Rattle.flow_residual.specs.Track.{IsBegun, IsFront}
 
 -- a shorter front of a front
 take_twice : (xs : List ℕ) (k m : ℕ) → m ≤ k → take m (take k xs) ≡ take m xs

@@ -7,21 +7,21 @@ use Rattle.std.proofs.lemmas.List.{map-append, take-append-drop, with_items_is}
 use Rattle.flow_model.specs.declared.limits.TheConstants.{MOST_LEAVES}
 use Rattle.flow_model.specs.Lists.{◌∈◌, Each, AreDistinct}
 use Rattle.flow_model.specs.Process.{leaves}
-use Rattle.flow_laws.proofs.MadeLists.{of_map}
-use Rattle.flow_laws.proofs.Members.{mem-append, mem_append_left, each-append, each_parts, each_member, each_from_members, distinct_parts, distinct-append, at_most}
+use Rattle.flow_model.proofs.MadeLists.{of_map}
+use Rattle.flow_model.proofs.Lists.{mem-append, mem_append_left, each-append, each_parts, each_member, each_from_members, distinct_parts, distinct-append, at_most}
 use Rattle.flow_plan.proofs.PlaceLemmas.{read_member}
 use Rattle.flow_residual.specs.declared.ban.Ban.{Ban}
 use Rattle.flow_plan.specs.Sampled.{Sampled}
-use Rattle.flow_plan.specs.Options.{options_of}
+use Rattle.flow_plan.specs.Options.{options_of, HasSmallLeaves}
 use Rattle.flow_residual.proofs.OptionLemmas.{length-options}
 use Rattle.flow_residual.specs.Remaining.{Remaining, MayComeNext}
 use Rattle.flow_residual.specs.View.{pairs_of_bans}
-use Rattle.flow_residual.specs.Options.{HasSmallLeaves, EachHas}
+use Rattle.flow_residual.specs.Options.{EachHas}
 use Rattle.flow_residual.specs.Invariant.{banned, AreFew, IsKept, IsRoomy}
 use Rattle.flow_residual.specs.declared.track.Track.{Track}
 use Rattle.flow_residual.specs.declared.track.Change.{Change}
 use Rattle.flow_residual.specs.declared.residual.Residual.TheInside.{Inside}
-use Rattle.flow_residual.specs.Tracks.{IsTrack, journal_after, bans_after}
+use Rattle.flow_residual.specs.Track.{IsTrack, journal_after, bans_after}
 
 -- ---- few numbers
 

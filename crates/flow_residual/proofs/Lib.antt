@@ -4,10 +4,10 @@ pub mod FrontLemmas
 pub mod DoneLemmas
 pub mod KeptLemmas
 pub mod FewLemmas
-pub mod PossibleLemmas
+pub mod QuestionLemmas
 pub mod Numbering
 pub mod Outstanding
 pub mod Counting
 pub mod Renewing
-pub mod Thinning
+pub mod SparedLemmas
 pub mod Starting

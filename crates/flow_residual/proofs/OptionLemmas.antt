@@ -5,18 +5,17 @@ use Rattle.std.proofs.lemmas.List.{get_or-replicate, get_or_default, length-repl
 use Rattle.std.proofs.lemmas.Bool.{cases_lt}
 use Rattle.std.proofs.lemmas.Option.{slice_get_within}
 use Rattle.flow_model.specs.declared.limits.TheConstants.{MOST_LEAVES}
-use Rattle.flow_model.proofs.Lists.{mem-slice_get}
+use Rattle.flow_model.proofs.Lists.{mem-slice_get, each_member}
 use Rattle.flow_model.specs.Lists.{◌∈◌, Each}
 use Rattle.flow_model.specs.Process.{leaves}
 use Rattle.flow_model.specs.Resolution.{ChoiceOption}
-use Rattle.flow_laws.proofs.Members.{each_member}
 use Rattle.flow_plan.specs.Orders.{Fits}
 use Rattle.flow_plan.specs.Planned.{Planned}
 use Rattle.flow_plan.specs.Progress.{bound_of}
 use Rattle.flow_plan.specs.Sampled.{Sampled}
 use Rattle.flow_plan.specs.declared.progress.Progress.{Progress}
-use Rattle.flow_plan.specs.Options.{options_of, option_of}
-use Rattle.flow_residual.specs.Options.{HasSmallLeaves, SomeOption, NoneBelow, SomeBelow, EachHas}
+use Rattle.flow_plan.specs.Options.{options_of, option_of, HasSmallLeaves}
+use Rattle.flow_residual.specs.Options.{SomeOption, NoneBelow, SomeBelow, EachHas}
 
 -- a member stands at some place
 place_of_option : (os : List ChoiceOption) (o : ChoiceOption) → o ∈ os → (k : ℕ) × (k < length os) × (slice_get os k ≡ Some o)
@@ -92,9 +91,6 @@ fits_at plans fits k s p done within is same bound =
     subst₂ (λ (b : ℕ) (q : Planned). Each (λ n. n < b) (leaves q.process)) (sym bound) (sym same)
     (each_member HasSmallLeaves (options_of plans) fits (option_of s.plan) (mem-slice_get (options_of plans) k (option_of s.plan) at))
 
-pub small_leaves : (p : Planned) → p.leaves ≡ leaves p.process → Each (λ n. n < MOST_LEAVES) p.leaves → HasSmallLeaves (option_of p)
-small_leaves p listed small = subst (λ (l : List ℕ). Each (λ n. n < MOST_LEAVES) l) listed small
-
 -- ---- what stands beside the options
 
 pub each_alike : {A : Type 0} (R : ChoiceOption → A → Type 0) (os : List ChoiceOption) (n : ℕ) (a : A) → n ≡ length os → ((o : ChoiceOption) → R o a) → EachHas R os (replicate n a)
@@ -137,7 +133,3 @@ turned_by R S plans i v d xs s p within is same are makes = turned_set R S (opti
     let here : option_of p ≡ o = same_plan plans i s p o is same at in
     let first : i ≤ i = omega arith in
     subst (λ q. S q v) here (makes (subst (λ q. R q (get_or xs i d)) (sym here) (are.old i first o (get_or xs i d) at (get_or_default xs i d (get_or xs i d) within)))))
-
-pub small_by_places : (plans : List Sampled) → ((k : ℕ) (s : Sampled) → slice_get plans k ≡ Some s → HasSmallLeaves (option_of s.plan)) → Each HasSmallLeaves (options_of plans)
-small_by_places [] here = tt
-small_by_places (s ∷ plans) here = (here 0 s refl, small_by_places plans (λ k. here (suc k)))

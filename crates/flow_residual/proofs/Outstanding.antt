@@ -5,8 +5,7 @@ use Rattle.std.proofs.lemmas.Bool.{eqb-true, eq-eqb, cases_Bool}
 use Rattle.std.proofs.lemmas.Option.{slice_get_within, slice_get_read, slice_get_past}
 use Rattle.std.specs.Option.{IfSome, option_copied}
 use Rattle.flow_model.specs.Lists.{◌∈◌, Each}
-use Rattle.flow_model.proofs.Lists.{mem-slice_get}
-use Rattle.flow_laws.proofs.Members.{each_member}
+use Rattle.flow_model.proofs.Lists.{mem-slice_get, each_member}
 use Rattle.flow_model.specs.Run.{Claim, RunState, is_current}
 use Rattle.flow_residual.specs.declared.given.Given.{Given}
 use Rattle.flow_residual.specs.Given.{claim_of, claims_from, is_out, out_by, out_places}

@@ -12,7 +12,7 @@ use Rattle.flow_residual.specs.Given.{claims_from, is_out, out_by, out_places, o
 use Rattle.flow_residual.specs.Claimed.{count_of}
 use Rattle.flow_residual.specs.Fields.{events_of, claimed, IsKept}
 use Rattle.flow_residual.proofs.Counting.{counts_of, counted_alike}
-use Rattle.flow_residual.specs.Sparing.{staying, head, tail, picked}
+use Rattle.flow_residual.specs.Spared.{staying, head, tail, picked}
 
 -- of the next epoch where the bit says so
 abbrev pub renewed : ℕ → Bool → Given → Given

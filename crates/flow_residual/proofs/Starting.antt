@@ -7,15 +7,15 @@ use Rattle.flow_model.specs.declared.limits.TheConstants.{MOST_LEAVES}
 use Rattle.flow_model.specs.Lists.{◌∈◌, Each}
 use Rattle.flow_model.specs.Resolution.{ChoiceOption}
 use Rattle.flow_plan.specs.Sampled.{Sampled}
-use Rattle.flow_plan.specs.Options.{options_of}
+use Rattle.flow_plan.specs.Options.{options_of, HasSmallLeaves}
 use Rattle.flow_plan.specs.Progress.{is_done, bound_of}
 use Rattle.flow_residual.specs.declared.track.Track.{Track}
 use Rattle.flow_residual.specs.declared.ban.Ban.{Ban}
 use Rattle.flow_residual.specs.declared.residual.Residual.TheInside.{Inside}
-use Rattle.flow_residual.specs.Options.{EachHas, HasSmallLeaves}
+use Rattle.flow_residual.specs.Options.{EachHas}
 use Rattle.flow_residual.specs.View.{remaining, pairs_of_bans}
 use Rattle.flow_residual.specs.Invariant.{IsKept, IsRoomy}
-use Rattle.flow_residual.specs.Tracks.{IsTrack}
+use Rattle.flow_residual.specs.Track.{IsTrack}
 
 abbrev start : Track
 start = record { front = 0; banned = None }
@@ -39,12 +39,12 @@ kept_first plans journal bans fits no_journal no_bans = subst₂ (λ (journal : 
   apart = tt;
 })
 
--- a residual whose plans were handed out to make its tracks and to tell that their leaves fit
-pub roomy_first : (i : Inside) (turned told : List Sampled) → turned ≡ i.plans.items → told ≡ i.plans.items → Each HasSmallLeaves (options_of told) →
+-- a residual whose plans were handed out to make its tracks
+pub roomy_first : (i : Inside) (turned : List Sampled) → turned ≡ i.plans.items → Each HasSmallLeaves (options_of i.plans.items) →
     EachHas (IsTrack [] []) (options_of turned) i.tracks.items → length i.rows.items ≡ length (options_of turned) → i.journal.items ≡ [] → i.bans.items ≡ [] → i.fresh ≡ false →
     bound_of i.done ≡ MOST_LEAVES → ((n : ℕ) → is_done i.done n ≡ false) → MOST_LEAVES ≤ vec_capacity i.journal → MOST_LEAVES ≤ vec_capacity i.bans → IsRoomy i
-roomy_first i turned told same same_told fits tracks rows no_journal no_bans stale bound none journal_room bans_room = record {
-  kept = kept_first i.plans.items i.journal.items i.bans.items (subst (λ plans. Each HasSmallLeaves (options_of plans)) same_told fits) no_journal no_bans;
+roomy_first i turned same fits tracks rows no_journal no_bans stale bound none journal_room bans_room = record {
+  kept = kept_first i.plans.items i.journal.items i.bans.items fits no_journal no_bans;
   tracks = subst (λ plans. EachHas (IsTrack i.journal.items (pairs_of_bans i.bans.items)) (options_of plans) i.tracks.items) same
       (subst₂ (λ (journal : List ℕ) (bans : List Ban). EachHas (IsTrack journal (pairs_of_bans bans)) (options_of turned) i.tracks.items) (sym no_journal) (sym no_bans) tracks);
   rows_one_each = rows ∙ ap (λ plans. length (options_of plans)) same;

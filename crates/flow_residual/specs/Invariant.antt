@@ -4,12 +4,12 @@ use Rattle.std.specs.Vec.{vec_capacity}
 use Rattle.flow_model.specs.declared.limits.TheConstants.{MOST_LEAVES}
 use Rattle.flow_model.specs.Lists.{◌∈◌, Each, AreDistinct}
 use Rattle.flow_plan.specs.Progress.{IsDone, bound_of}
-use Rattle.flow_plan.specs.Options.{options_of}
+use Rattle.flow_plan.specs.Options.{options_of, HasSmallLeaves}
 use Rattle.flow_residual.specs.declared.residual.Residual.TheInside.{Inside}
 use Rattle.flow_residual.specs.Remaining.{Remaining}
 use Rattle.flow_residual.specs.View.{remaining, pairs_of_bans}
-use Rattle.flow_residual.specs.Options.{EachHas, HasSmallLeaves}
-use Rattle.flow_residual.specs.Tracks.{IsNextRow, IsTrack}
+use Rattle.flow_residual.specs.Options.{EachHas}
+use Rattle.flow_residual.specs.Track.{IsNextRow, IsTrack}
 
 -- the leaves that are banned
 abbrev pub banned : List (ℕ × ℕ) → List ℕ

@@ -1,10 +1,10 @@
 pub mod Remaining
 pub mod View
 pub mod Options
-pub mod Tracks
+pub mod Track
 pub mod Invariant
-pub mod Possible
+pub mod Question
 pub mod Given
 pub mod Claimed
 pub mod Fields
-pub mod Sparing
+pub mod Spared

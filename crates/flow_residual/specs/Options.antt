@@ -1,13 +1,7 @@
 -- Lists of options, and what stands beside them.
 use Rattle.std.specs.Prelude.{◌≡◌, ◌<◌, ℕ, List, length, Some, slice_get, slice_index_or}
-use Rattle.flow_model.specs.declared.limits.TheConstants.{MOST_LEAVES}
-use Rattle.flow_model.specs.Lists.{◌∈◌, Each}
-use Rattle.flow_model.specs.Process.{leaves}
+use Rattle.flow_model.specs.Lists.{◌∈◌}
 use Rattle.flow_model.specs.Resolution.{ChoiceOption}
-
--- each leaf of the option has a place in a row
-abbrev pub HasSmallLeaves : ChoiceOption → Type 0
-HasSmallLeaves o = Each (λ n. n < MOST_LEAVES) (leaves o.resolution)
 
 -- some option of the list has P
 abbrev pub SomeOption : (ChoiceOption → Type 0) → List ChoiceOption → Type 0

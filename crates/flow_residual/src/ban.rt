@@ -4,7 +4,7 @@ ghost use Rattle.flow_model.specs.Lists.{◌∈◌, Each};
 ghost use Rattle.flow_model.specs.Process.{leaves};
 ghost use Rattle.flow_model.specs.Resolution.{ChoiceOption};
 ghost use Rattle.flow_plan.specs.Options.{option_of};
-ghost use Rattle.flow_residual.specs.Tracks.{IsLeastBan};
+ghost use Rattle.flow_residual.specs.Track.{IsLeastBan};
 
 use flow_plan::Plan;
 

@@ -8,7 +8,7 @@ ghost use Rattle.flow_residual.specs.Claimed.{run_of, count_of, IsUnanswered, Is
 
 use crate::given::{Given, at, index_of, renew};
 use crate::residual::Residual;
-use crate::sparing::thin;
+use crate::spared::thin;
 use std::alloc::{AllocError, Global};
 use std::marker::Model;
 

@@ -2,17 +2,16 @@
 //! that it has given, with those that a new epoch spares.
 #![tactic(auto)]
 
-mod asking;
+mod answers;
 mod ban;
 mod claims;
-mod following;
 mod given;
+mod question;
 mod residual;
 mod row;
-mod sparing;
+mod spared;
 mod track;
 
 pub use claims::Claims;
 pub use given::Given;
 pub use residual::Residual;
-pub use track::leaves_have_rows;

@@ -3,15 +3,15 @@ ghost use Rattle.std.specs.List.{filter};
 ghost use Rattle.flow_model.specs.Lists.{◌∈◌, Each, AreDistinct};
 ghost use Rattle.flow_model.specs.Resolution.{ChoiceOption};
 ghost use Rattle.flow_plan.specs.Progress.{IsDone, bound_of};
-ghost use Rattle.flow_plan.specs.Options.{options_of, option_of};
-ghost use Rattle.flow_residual.specs.Options.{EachHas, HasSmallLeaves};
-ghost use Rattle.flow_residual.specs.Tracks.{IsNextRow, IsTrack};
-ghost use Rattle.flow_residual.specs.Possible.{Takes};
+ghost use Rattle.flow_plan.specs.Options.{options_of, option_of, HasSmallLeaves};
+ghost use Rattle.flow_residual.specs.Options.{EachHas};
+ghost use Rattle.flow_residual.specs.Track.{IsNextRow, IsTrack};
+ghost use Rattle.flow_residual.specs.Question.{Takes};
 ghost use Rattle.leaf_rows.specs.Leaves.{has_leaf};
 
-use crate::asking::Stand;
 use crate::ban::Ban;
-use crate::track::{Change, Track, follow, leaves_have_rows, look, progress_of};
+use crate::question::Stand;
+use crate::track::{Change, Track, follow, look, progress_of};
 use flow_model::MOST_LEAVES;
 use flow_plan::{Compiled, KnotFree, Plan, Progress};
 use leaf_rows::LeafSet;
@@ -97,7 +97,6 @@ impl Residual {
             journal,
             bans,
         } = Room::new(alloc, compiled.plans())?;
-        leaves_have_rows(compiled.plans());
         Ok(Residual {
             plans: compiled.into_plans(),
             tracks,

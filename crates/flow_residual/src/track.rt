@@ -2,9 +2,9 @@ ghost use Rattle.std.specs.Prelude.{◌≡◌, ◌<◌, ◌↔◌, ℕ, List, []
 ghost use Rattle.flow_model.specs.Lists.{◌∈◌, Each};
 ghost use Rattle.flow_plan.specs.Orders.{Fits};
 ghost use Rattle.flow_plan.specs.Progress.{IsDone, bound_of};
-ghost use Rattle.flow_plan.specs.Options.{options_of, option_of};
-ghost use Rattle.flow_residual.specs.Options.{EachHas, HasSmallLeaves};
-ghost use Rattle.flow_residual.specs.Tracks.{IsFront, IsNextRow, IsTrack, journal_after, bans_after};
+ghost use Rattle.flow_plan.specs.Options.{options_of, option_of, HasSmallLeaves};
+ghost use Rattle.flow_residual.specs.Options.{EachHas};
+ghost use Rattle.flow_residual.specs.Track.{IsFront, IsNextRow, IsTrack, journal_after, bans_after};
 
 use crate::ban::{Ban, cut_ban, with_ban};
 use flow_model::MOST_LEAVES;
@@ -29,15 +29,6 @@ pub(crate) enum Change {
     Banned(Ban),
     /// The journal ends before the index of the ban, later bans are lifted, and it comes to them.
     Back(Ban),
-}
-
-/// Brings what the type of each plan keeps of its leaves to the caller.
-pub fn leaves_have_rows(plans: &[KnotFree])
-    ensures { Each HasSmallLeaves (options_of plans.now) }
-{
-    for plan in plans {
-        let _leaves = plan.plan().leaves();
-    }
 }
 
 /// How long the front is when the leaf is done.

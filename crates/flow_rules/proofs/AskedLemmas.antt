@@ -9,8 +9,8 @@ use Rattle.flow_rules.specs.declared.asked.Asked.TheVariants.{rolls-Pair, rolls-
 use Rattle.flow_rules.specs.declared.asked.Asked.TheFolds.{fold-roll-Asked}
 use Rattle.flow_rules.specs.declared.asked.Asked as asked
 use Rattle.flow_rules.specs.declared.order_set.OrderSet.{OrderSet}
-use Rattle.flow_rules.specs.declared.connective.Connective.{Connective}
-use Rattle.flow_rules.specs.declared.connective.Connective.TheVariants.{And, Or}
+use Rattle.flow_model.specs.declared.operators.Connective.{Connective}
+use Rattle.flow_model.specs.declared.operators.Connective.TheVariants.{And, Or}
 use Rattle.flow_rules.specs.Asked.{AreOpen, HasKept, asked_step, is_nil, open_joined, open_ways_by, ways_asked, ways_asked_by}
 use Rattle.flow_rules.specs.WayLists.{both_ways, decided, decider, is_decided, joined_by, ways_of_sets}
 use Rattle.flow_goal.proofs.EachLists.{each_with_each-append}

@@ -8,7 +8,7 @@ use Rattle.flow_model.specs.declared.labels.Label.{Label}
 use Rattle.flow_model.specs.Facts.{event_at, is_event}
 use Rattle.flow_model.specs.Ways.{leaf_of_event}
 use Rattle.flow_rules.specs.EventLeaves.{IsBlank, if_on, leaf_in, unless, without_leaf}
-use Rattle.flow_rules.specs.Rooms.{HasRoom}
+use Rattle.flow_rules.specs.Room.{HasRoom}
 use Rattle.flow_rules.specs.declared.leaf_table.LeafEvents.{LeafEvents}
 
 pub leaf_more : (labels : List Label) (ls : List ℕ) (i q : ℕ) → i < length ls →

@@ -1,5 +1,5 @@
 mod AskedLemmas
-pub mod CountLemmas
+pub mod WayCountLemmas
 mod LaneLemmas
 pub mod LeafLemmas
 mod NarrowLemmas

@@ -13,10 +13,10 @@ use Rattle.flow_rules.specs.declared.narrowed.LaneRule.{LaneRule}
 use Rattle.flow_rules.specs.declared.normal.Nnf.{Nnf}
 use Rattle.flow_rules.specs.declared.standing.Standing.{Standing}
 use Rattle.flow_rules.specs.Lanes.{Shows}
-use Rattle.flow_rules.specs.Narrowed.{AreFreeTo, HasWaysIn, IsFree, IsUnmet, LeftOf, open_ways, with_open}
+use Rattle.flow_rules.specs.Narrowed.{AreFreeTo, HasWaysIn, HasFreeLanes, IsUnmet, LeftOf, open_ways, with_open}
 use Rattle.flow_rules.specs.Normal.{normal_of}
-use Rattle.flow_rules.specs.declared.connective.Connective.{Connective}
-use Rattle.flow_rules.specs.declared.connective.Connective.TheVariants.{And}
+use Rattle.flow_model.specs.declared.operators.Connective.{Connective}
+use Rattle.flow_model.specs.declared.operators.Connective.TheVariants.{And}
 use Rattle.flow_rules.specs.Standing.{Stands, has_lane, lanes_where}
 use Rattle.flow_rules.specs.WayLists.{both_ways, decided, decider, joined_by, ways_of_parts}
 use Rattle.flow_rules.proofs.StandingLemmas.{lane_and, lane_none, lane_not, lane_or}
@@ -82,10 +82,10 @@ module _ (c : Connective) (wanted : ℕ) (lanes : Lanes) (parts : List Nnf) (i :
 -- rules that are open in some lanes
 
 pub frees_more : (lanes : Lanes) (rules : List Nnf) (i : ℕ) (rule : Nnf) → i < length rules → rule ≡ get_or rules i rule → (words new : List ℕ) (word : ℕ) →
-    new ≡ words ++ word ∷ [] → IsFree word lanes rule → AreFreeTo i words lanes rules → AreFreeTo (i + 1) new lanes rules
+    new ≡ words ++ word ∷ [] → HasFreeLanes word lanes rule → AreFreeTo i words lanes rules → AreFreeTo (i + 1) new lanes rules
 frees_more lanes rules i rule inside is words new word pushed frees so_far = record {
   size = ap length pushed ∙ length-append words (word ∷ []) ∙ ap (λ n. n + 1) so_far.size;
-  each = below_more (λ k. (r : Nnf) → r ≡ get_or rules k r → IsFree (get_or new k 0) lanes r) i
+  each = below_more (λ k. (r : Nnf) → r ≡ get_or rules k r → HasFreeLanes (get_or new k 0) lanes r) i
       (λ k below r there lane leaf within shows.
       ap (λ (w : ℕ). has_lane w lane) (ap (λ (ws : List ℕ). get_or ws k 0) pushed ∙ get_or_append_left words (word ∷ []) 0 k (omega (arith, so_far.size)))
       ∙ so_far.each k below r there lane leaf within shows)
@@ -106,7 +106,7 @@ open_in free unmet lane fits within met =
     at false = refl
 
 module _ (unmet : ℕ) (lanes : Lanes) (rules : List Nnf) (i : ℕ) (rule : Nnf) (inside : i < length rules) (is : rule ≡ get_or rules i rule)
-    (free : ℕ) (frees : IsFree free lanes rule) (fits : bit_or free unmet < 2 ^ 64) where
+    (free : ℕ) (frees : HasFreeLanes free lanes rule) (fits : bit_or free unmet < 2 ^ 64) where
   -- where it is not open there, the rule adds nothing
   closed : (left : List LaneRule) (lane : ℕ) (leaf : ℕ → Option ℕ) → lane < 64 → Shows lanes lane leaf → has_lane unmet lane ≡ false →
       has_lane (2 ^ 64 - 1 - bit_or free unmet) lane ≡ false → open_ways lane leaf left ≡ ways_of_parts And leaf (take i rules) → open_ways lane leaf left ≡ ways_of_parts And leaf (take (i + 1) rules)

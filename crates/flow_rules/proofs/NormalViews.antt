@@ -8,8 +8,8 @@ use Rattle.flow_rules.specs.declared.normal.Nnf.TheOpen as open_nnf
 use Rattle.flow_rules.specs.declared.normal.Nnf.TheVariants.{rolls-Event, rolls-Order, rolls-Parts}
 use Rattle.flow_rules.specs.declared.normal.Nnf.TheFolds.{fold-roll-Nnf}
 use Rattle.flow_rules.specs.Normal.{event_form, joined_normals, normal_of, normal_step, normals_of, pair_form}
-use Rattle.flow_rules.specs.declared.connective.Connective.{Connective}
-use Rattle.flow_rules.specs.declared.connective.Connective.TheVariants.{And, Or}
+use Rattle.flow_model.specs.declared.operators.Connective.{Connective}
+use Rattle.flow_model.specs.declared.operators.Connective.TheVariants.{And, Or}
 use Rattle.flow_rules.specs.WayLists.{both_ways, decided, either_way, pair_in, pair_of, ways_of_pair, ways_of_parts}
 use Rattle.flow_rules.proofs.WayListLemmas.{both_free, either_nothing}
 

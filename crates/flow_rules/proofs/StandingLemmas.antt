@@ -9,7 +9,7 @@ use Rattle.flow_model.specs.Ways.{is_free, ways, ways_of_must, ways_of_never}
 use Rattle.flow_rules.specs.declared.lanes.Lanes.{Lanes}
 use Rattle.flow_rules.specs.declared.standing.Standing.{Standing}
 use Rattle.flow_rules.specs.Lanes.{Shows, word_of}
-use Rattle.flow_rules.specs.declared.connective.Connective.{Connective}
+use Rattle.flow_model.specs.declared.operators.Connective.{Connective}
 use Rattle.flow_rules.specs.declared.normal.Nnf.{Nnf}
 use Rattle.flow_rules.specs.Normal.{event_form, normal_of, pair_form}
 use Rattle.flow_rules.specs.Standing.{Stands, StandsIn, has_lane, lanes_where}

@@ -5,8 +5,8 @@ use Rattle.std.proofs.lemmas.List.Sums.{fold-append}
 use Rattle.flow_model.specs.Ways.{free_way, is_free, ways}
 pub use Rattle.flow_laws.proofs.WaysLemmas.{free_is}
 use Rattle.flow_goal.proofs.EachLists.{each_assoc, each_front}
-use Rattle.flow_rules.specs.declared.connective.Connective.{Connective}
-use Rattle.flow_rules.specs.declared.connective.Connective.TheVariants.{And, Or}
+use Rattle.flow_model.specs.declared.operators.Connective.{Connective}
+use Rattle.flow_model.specs.declared.operators.Connective.TheVariants.{And, Or}
 use Rattle.flow_rules.specs.declared.normal.Nnf.{Nnf}
 use Rattle.flow_rules.specs.Normal.{normal_of}
 use Rattle.flow_rules.specs.WayLists.{both_ways, decided, decider, either_way, is_decided, is_none, joined_by, ways_of_parts}

@@ -6,8 +6,8 @@ use Rattle.flow_rules.specs.declared.asked.Asked.TheOpen.{Asked-F}
 use Rattle.flow_rules.specs.declared.asked.Asked.TheFolds.{fold-Asked}
 use Rattle.flow_rules.specs.declared.asked.Found.{Found}
 use Rattle.flow_rules.specs.declared.asked.Found.TheVariants.{Decided, Open}
-use Rattle.flow_rules.specs.declared.connective.Connective.{Connective}
-use Rattle.flow_rules.specs.declared.connective.Connective.TheVariants.{And, Or}
+use Rattle.flow_model.specs.declared.operators.Connective.{Connective}
+use Rattle.flow_model.specs.declared.operators.Connective.TheVariants.{And, Or}
 use Rattle.flow_rules.specs.WayLists.{both_ways, decided, decider, is_decided}
 
 -- the ways of two parts that each ask for an order

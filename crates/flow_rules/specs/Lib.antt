@@ -1,11 +1,11 @@
 pub mod Asked
 pub mod Conjunction
-pub mod Counts
+pub mod WayCount
 pub mod EventLeaves
 pub mod Lanes
 pub mod Narrowed
 pub mod Normal
 pub mod NormalForm
-pub mod Rooms
+pub mod Room
 pub mod Standing
 pub mod WayLists

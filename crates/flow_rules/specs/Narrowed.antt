@@ -1,7 +1,7 @@
 -- Rules that are narrowed for some lanes, and their ways.
 use Rattle.std.specs.Prelude.{◌≡◌, ◌<◌, ℕ, true, false, if◌then◌else◌, List, [], Option, fold, get_or, length}
 use Rattle.flow_model.specs.Ways.{free_way, is_free, ways}
-use Rattle.flow_rules.specs.declared.connective.Connective.TheVariants.{And}
+use Rattle.flow_model.specs.declared.operators.Connective.TheVariants.{And}
 use Rattle.flow_rules.specs.declared.lanes.Lanes.{Lanes}
 use Rattle.flow_rules.specs.declared.normal.Nnf.{Nnf}
 use Rattle.flow_rules.specs.declared.narrowed.LaneRule.{LaneRule}
@@ -29,13 +29,13 @@ HasWaysIn rule wanted lanes these = (lane : ℕ) (leaf : ℕ → Option ℕ) →
     ways (normal_of rule) leaf ≡ these leaf
 
 -- the word has the lanes in which the rule is met in any order
-abbrev pub IsFree : ℕ → Lanes → Nnf → Type 0
-IsFree word lanes rule = (lane : ℕ) (leaf : ℕ → Option ℕ) → lane < 64 → Shows lanes lane leaf → has_lane word lane ≡ is_free (ways (normal_of rule) leaf)
+abbrev pub HasFreeLanes : ℕ → Lanes → Nnf → Type 0
+HasFreeLanes word lanes rule = (lane : ℕ) (leaf : ℕ → Option ℕ) → lane < 64 → Shows lanes lane leaf → has_lane word lane ≡ is_free (ways (normal_of rule) leaf)
 
 -- so have the words of the first rules
 pub record AreFreeTo (count : ℕ) (words : List ℕ) (lanes : Lanes) (rules : List Nnf) : Type 0 where
   pub size : length words ≡ count
-  pub each : (i : ℕ) → i < count → (rule : Nnf) → rule ≡ get_or rules i rule → IsFree (get_or words i 0) lanes rule
+  pub each : (i : ℕ) → i < count → (rule : Nnf) → rule ≡ get_or rules i rule → HasFreeLanes (get_or words i 0) lanes rule
 
 abbrev pub AreFree : List ℕ → Lanes → List Nnf → Type 0
 AreFree words lanes rules = AreFreeTo (length rules) words lanes rules

@@ -2,8 +2,8 @@
 use Rattle.std.specs.Prelude.{ℕ, Bool, true, false, not, List, [], ◌∷◌, map, fold}
 use Rattle.flow_model.specs.Constraint.{Constraint, Always, Impossible, Must, Never, Order, Not, And, Or}
 use Rattle.flow_model.specs.Ways.{Normal, always, impossible, must, never, before, not_before, both, either}
-use Rattle.flow_rules.specs.declared.connective.Connective.{Connective}
-use Rattle.flow_rules.specs.declared.connective.Connective.TheVariants as connective
+use Rattle.flow_model.specs.declared.operators.Connective.{Connective}
+use Rattle.flow_model.specs.declared.operators.Connective.TheVariants as connective
 use Rattle.flow_rules.specs.declared.normal.Nnf.{Nnf}
 use Rattle.flow_rules.specs.declared.normal.Nnf.TheOpen as open_nnf
 use Rattle.flow_rules.specs.declared.normal.Nnf.TheOpen.{Nnf-F}

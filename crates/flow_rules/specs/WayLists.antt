@@ -2,8 +2,8 @@
 use Rattle.std.specs.Prelude.{ℕ, Bool, true, false, not, ◌||◌, if◌then◌else◌, ◌==◌, List, [], ◌∷◌, ◌++◌, Option, Some, None, map, fold}
 use Rattle.flow_model.specs.Lists.{each_with_each}
 use Rattle.flow_model.specs.Ways.{free_way, is_free, ways}
-use Rattle.flow_rules.specs.declared.connective.Connective.{Connective}
-use Rattle.flow_rules.specs.declared.connective.Connective.TheVariants.{And, Or}
+use Rattle.flow_model.specs.declared.operators.Connective.{Connective}
+use Rattle.flow_model.specs.declared.operators.Connective.TheVariants.{And, Or}
 use Rattle.flow_rules.specs.declared.normal.Nnf.{Nnf}
 use Rattle.flow_rules.specs.declared.order_set.OrderSet.{OrderSet}
 use Rattle.flow_rules.specs.Normal.{normal_of}

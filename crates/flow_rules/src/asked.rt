@@ -5,10 +5,11 @@ ghost use Rattle.flow_rules.specs.EventLeaves.{leaf_in};
 ghost use Rattle.flow_rules.specs.Normal.{normal_of};
 ghost use Rattle.flow_rules.specs.WayLists.{ways_of_pair, ways_of_parts};
 
-use crate::connective::Connective;
+use crate::connective::decides;
 use crate::leaf_table::LeafEvents;
 use crate::normal::Nnf;
 use crate::only::only;
+use flow_model::Connective;
 use std::alloc::{AllocError, Global};
 
 /// What a rule asks of some leaves.
@@ -42,7 +43,7 @@ fn kept_asked(connective: Connective, mut kept: Vec<Asked>) -> Found
     ensures { (ways : List (List (ℕ × ℕ))) → HasKept connective kept.items ways → Finds result ways }
 {
     if kept.is_empty() {
-        return Found::Decided(!connective.decides());
+        return Found::Decided(!decides(connective));
     }
     match only(&mut kept) {
         Some(part) => Found::Open(part),
@@ -65,7 +66,7 @@ fn parts_asked(
     for part in parts {
         match asked_of(alloc, part, events)? {
             Found::Decided(met) => {
-                if met == connective.decides() {
+                if met == decides(connective) {
                     drop(kept);
                     return Ok(Found::Decided(met));
                 }

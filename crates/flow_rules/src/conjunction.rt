@@ -5,7 +5,7 @@ ghost use Rattle.flow_model.specs.Ways as model;
 use crate::lanes::Lanes;
 use crate::narrowed::{Narrowed, narrow_each};
 use crate::normal::Nnf;
-use crate::normalizing::normal_forms;
+use crate::normal_form::normal_forms;
 use flow_workflow::Rule;
 use std::alloc::{AllocError, Global};
 

@@ -1,4 +1,4 @@
-ghost use Rattle.std.specs.Prelude.{◌≡◌, ℕ, OnErr, OnOk};
+ghost use Rattle.std.specs.Prelude.{◌≡◌, ℕ, IfOk, OnErr, OnOk};
 ghost use Rattle.std.specs.Option.{option_or};
 ghost use Rattle.flow_model.specs.Ways as model;
 ghost use Rattle.flow_rules.specs.EventLeaves.{leaf_in, unless};
@@ -6,7 +6,7 @@ ghost use Rattle.flow_rules.specs.EventLeaves.{leaf_in, unless};
 use crate::leaf_table::LeafEvents;
 use crate::room::room_for;
 use flow_goal::Tree;
-use std::alloc::AllocError;
+use std::alloc::{AllocError, Global};
 
 /// Notes the events of the leaves. Where an event has several leaves, the first counts. It takes memory
 /// in the measure of the greatest event, once.
@@ -20,6 +20,17 @@ pub fn note_events(tree: &Tree, leaves: &[u32], events: &mut LeafEvents) -> Resu
         events.note(tree.event(*leaf), *leaf);
     }
     Ok(())
+}
+
+/// The leaves of the events. Where an event has several, the first counts.
+#[tactic(auto, using(crate::proofs::LeafLemmas::noted_leaves))]
+pub fn leaf_events(alloc: Global, tree: &Tree, leaves: &[u32]) -> Result<LeafEvents, AllocError>
+    ensures { IfOk result (λ events. (event : ℕ) →
+        leaf_in events event ≡ model.leaf_of_event tree.now.labels leaves.now event) }
+{
+    let mut events = LeafEvents::new(alloc);
+    note_events(tree, leaves, &mut events)?;
+    Ok(events)
 }
 
 /// Forgets the events of the leaves.

@@ -5,11 +5,12 @@ ghost use Rattle.flow_rules.specs.Normal.{normal_of};
 ghost use Rattle.flow_rules.specs.Standing.{Stands, has_lane};
 ghost use Rattle.flow_rules.specs.WayLists.{ways_of_parts};
 
-use crate::connective::Connective;
+use crate::connective::decides;
 use crate::lanes::Lanes;
 use crate::normal::Nnf;
 use crate::only::only;
 use crate::standing::{Standing, event, order};
+use flow_model::Connective;
 use std::alloc::{AllocError, Global};
 
 /// What is left of a rule in some lanes, and where the rule stands in all of them.
@@ -48,7 +49,7 @@ fn narrow_parts(
     ensures standing { IfOk result (λ narrow. Stands narrow.standing lanes.now (λ leaf. ways_of_parts connective leaf parts.now)) }
     ensures ways { IfOk result (λ narrow. HasWaysIn narrow.rule wanted lanes.now (λ leaf. ways_of_parts connective leaf parts.now)) }
 {
-    let idle = !connective.decides();
+    let idle = !decides(connective);
     let mut standing = Standing::everywhere(idle);
     let mut kept = Vec::new(alloc);
     for part in parts {

@@ -1,21 +1,21 @@
 ghost use Rattle.std.specs.Prelude.{◌≡◌, ◌<◌, ℕ, Option, IfOk};
-ghost use Rattle.flow_rules.specs.declared.connective.Connective.TheVariants.{And};
-ghost use Rattle.flow_rules.specs.Counts.{count_of};
+ghost use Rattle.flow_model.specs.declared.operators.Connective.TheVariants.{And};
+ghost use Rattle.flow_rules.specs.WayCount.{count_of};
 ghost use Rattle.flow_rules.specs.EventLeaves.{leaf_in};
 ghost use Rattle.flow_rules.specs.Lanes.{Shows};
 ghost use Rattle.flow_rules.specs.Narrowed.{AreFree, IsUnmet, LeftOf, open_ways, ways_in};
 ghost use Rattle.flow_rules.specs.Standing.{has_lane};
 ghost use Rattle.flow_rules.specs.WayLists.{ways_of_sets, ways_of_parts};
 
-use crate::connective::Connective;
-use crate::counting::{FREE, NONE, WayCount, count_ways};
 use crate::lanes::Lanes;
 use crate::leaf_table::LeafEvents;
-use crate::listing::{free_way, with_rule};
 use crate::narrow::narrow_rule;
 use crate::normal::Nnf;
 use crate::order_set::OrderSet;
 use crate::standing::{Standing, standing_of};
+use crate::way_count::{FREE, NONE, WayCount, count_ways};
+use crate::way_lists::{free_way, with_rule};
+use flow_model::Connective;
 use std::alloc::{AllocError, Global};
 
 /// What is left of a rule in the lanes in which it asks for an order.

@@ -1,4 +1,4 @@
-use crate::connective::Connective;
+use flow_model::Connective;
 
 /// A rule with its orders split into pairs, and negation carried inward. Events go by their numbers. An
 /// event and an order are as they are said where the flag is true, and else the negation.

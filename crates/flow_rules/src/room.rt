@@ -1,5 +1,5 @@
 ghost use Rattle.std.specs.Prelude.{◌≡◌, ◌≤◌, ℕ, get_or, length, OnOk};
-ghost use Rattle.flow_rules.specs.Rooms.{HasRoom};
+ghost use Rattle.flow_rules.specs.Room.{HasRoom};
 
 use flow_goal::Tree;
 use std::alloc::AllocError;

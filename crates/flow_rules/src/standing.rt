@@ -5,9 +5,10 @@ ghost use Rattle.flow_rules.specs.Normal.{event_form, normal_of, pair_form};
 ghost use Rattle.flow_rules.specs.Standing.{Stands, StandsIn, has_lane, lanes_where};
 ghost use Rattle.flow_rules.specs.WayLists.{decided, decider, pair_in, ways_of_parts};
 
-use crate::connective::Connective;
+use crate::connective::decides;
 use crate::lanes::Lanes;
 use crate::normal::Nnf;
+use flow_model::Connective;
 
 /// In which lanes a rule is met in any order, and in which in none. In the others it asks for an order.
 #[derive(Clone, Copy)]
@@ -98,7 +99,7 @@ pub(crate) fn order(lanes: &Lanes, wanted: bool, first: u32, second: u32) -> Sta
 pub(crate) fn parts_standing(connective: Connective, parts: &[Nnf], lanes: &Lanes) -> Standing
     ensures { Stands result lanes.now (λ leaf. ways_of_parts connective leaf parts.now) }
 {
-    let mut standing = Standing::everywhere(!connective.decides());
+    let mut standing = Standing::everywhere(!decides(connective));
     for part in parts {
         standing = standing.with(standing_of(part, lanes), connective);
     }

@@ -9,8 +9,8 @@ use Rattle.flow_model.specs.Resolution.{OptionTrace}
 use Rattle.flow_model.specs.Trace.{as_one, Trace}
 use Rattle.flow_laws.specs.WellFormed.{AreOfLeaves, IsOrdered}
 use Rattle.flow_laws.proofs.Shuffles.{shuffle-append}
-use Rattle.flow_laws.proofs.Members.{before_or_after}
-use Rattle.flow_laws.proofs.MadeLists.{joined-append}
+use Rattle.flow_model.proofs.Lists.{before_or_after}
+use Rattle.flow_model.proofs.MadeLists.{joined-append}
 use Rattle.flow_laws.proofs.TraceLeaves.{joined-as_one}
 use Rattle.flow_plan.specs.declared.token.OrderToken.{OrderToken}
 use Rattle.flow_plan.specs.Planned.{Planned, pairs_of}

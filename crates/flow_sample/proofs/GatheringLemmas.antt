@@ -8,7 +8,7 @@ use Rattle.flow_model.specs.Process.{Process, Empty, Task, Sequence, Parallel, C
 use Rattle.flow_model.specs.Lists.{◌∈◌}
 use Rattle.flow_model.specs.Ready.{isolated_parts}
 use Rattle.flow_model.specs.Circle.{items_of}
-use Rattle.flow_laws.proofs.Members.{mem_append_left, mem_append_right}
+use Rattle.flow_model.proofs.Lists.{mem_append_left, mem_append_right}
 use Rattle.flow_laws.specs.WellFormed.{IsOrdered}
 use Rattle.flow_goal.specs.declared.node.Node.{Node}
 use Rattle.flow_goal.specs.declared.node.Node.TheVariants.{Leaf, Serial, Split, Join, Close}

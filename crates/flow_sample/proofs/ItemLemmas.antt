@@ -2,18 +2,17 @@
 use Rattle.std.proofs.Common.{◌≡◌, ℕ, zero, suc, ◌<◌, ◌≤◌, IsTrue, List, [], ◌∷◌, map, min, length, refl, sym, ap, ◌∙◌, subst, inl, inr, ⊎_elim, arith, Some, slice_get}
 use Rattle.std.proofs.lemmas.Bool.{cases_lt}
 use Rattle.std.proofs.lemmas.Option.{slice_get-get_or}
-use Rattle.flow_model.proofs.Lists.{mem-slice_get}
+use Rattle.flow_model.proofs.Lists.{mem-slice_get, distinct_apart, distinct_right}
 use Rattle.flow_model.specs.Lists.{◌∈◌, Each, AreDistinct, joined}
 use Rattle.flow_model.specs.Process.{Process, leaves}
 use Rattle.flow_model.specs.Ready.{DirectlyBefore}
 use Rattle.flow_model.specs.Circle.{items_of, ItemBefore, LeadsBackTo, IsCircle, IsRing, least_of}
 use Rattle.flow_laws.specs.WellFormed.{IsOrdered}
-use Rattle.flow_laws.proofs.Members.{distinct_apart, distinct_right}
-use Rattle.flow_laws.proofs.MadeLists.{mem_joined}
+use Rattle.flow_model.proofs.MadeLists.{mem_joined}
 use Rattle.flow_laws.proofs.GoalParts.{regions, region_distinct, item_has, items_apart, joined_items}
 use Rattle.flow_sample.specs.declared.item.Item.{Item}
-use Rattle.flow_sample.specs.declared.excising.ExciseRefusal.{ExciseRefusal}
-use Rattle.flow_sample.specs.declared.excising.ExciseRefusal.TheVariants.{Circle, NoMemory}
+use Rattle.flow_sample.specs.declared.sample.ExciseRefusal.{ExciseRefusal}
+use Rattle.flow_sample.specs.declared.sample.ExciseRefusal.TheVariants.{Circle, NoMemory}
 use Rattle.flow_sample.specs.Rows.{has_inside, has_waits, run_in, least_in, least_at, IsIn, WaitsFor, IsEdge, AreApart}
 use Rattle.flow_sample.specs.Turned.{IsTurned}
 use Rattle.flow_sample.specs.Arranged.{LeadsOn, IsCycle, IsNodeRing, TellsRing}

@@ -7,8 +7,9 @@ use Rattle.flow_model.specs.Trace.{Trace}
 use Rattle.flow_model.specs.Ready.{DirectlyBefore, isolated_parts}
 use Rattle.flow_model.specs.Circle.{items_of}
 use Rattle.flow_laws.specs.WellFormed.{IsOrdered}
-use Rattle.flow_laws.proofs.Members.{distinct-append, before_across, before_left, before_right, before_or_after, not_both_ways, decide_eq, before_members, each_from_members}
-use Rattle.flow_laws.proofs.MadeLists.{mem_joined, list_having, mem-map, of_map}
+use Rattle.flow_model.proofs.Lists.{distinct-append, before_across, before_left, before_right, before_or_after, not_both_ways, before_members, each_from_members}
+use Rattle.flow_model.specs.Decided.{decide_eq}
+use Rattle.flow_model.proofs.MadeLists.{mem_joined, list_having, mem-map, of_map}
 use Rattle.flow_laws.proofs.Orderings.{trace_of_ordering}
 use Rattle.flow_laws.proofs.ReadyRuns.{direct_first, direct_second, arrangement_of}
 use Rattle.flow_laws.proofs.CircleOrTrace.{circle_excludes}
@@ -17,10 +18,10 @@ use Rattle.flow_sample.specs.declared.item.Item.{Item}
 use Rattle.flow_sample.specs.Rows.{run_in, IsIn, IsOneOf}
 use Rattle.flow_sample.specs.Arranged.{IsWholeOrder, IsRunOf, TellsRing}
 use Rattle.flow_sample.specs.Items.{item_at, IsLinedUp, IsItemOf, AreItemsOf, TellsCircle}
-use Rattle.flow_sample.specs.Excised.{IsReasonAgainst}
+use Rattle.flow_sample.specs.Sample.{IsReasonAgainst}
 use Rattle.flow_model.specs.Resolution.{ChoiceOption}
-use Rattle.flow_sample.specs.declared.excising.ExciseRefusal.{ExciseRefusal}
-use Rattle.flow_sample.specs.declared.excising.ExciseRefusal.TheVariants.{Circle, NoMemory}
+use Rattle.flow_sample.specs.declared.sample.ExciseRefusal.{ExciseRefusal}
+use Rattle.flow_sample.specs.declared.sample.ExciseRefusal.TheVariants.{Circle, NoMemory}
 use Rattle.flow_sample.proofs.ItemLemmas.{mem-item_at, number_of, same_length, in_list, in_item, waits_list, waits_item, laid_at, one_number, least_is, tells_circle}
 
 -- lists joined in an order

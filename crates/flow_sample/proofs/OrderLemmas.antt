@@ -6,8 +6,9 @@ use Rattle.std.proofs.lemmas.Option.{slice_get_past, slice_get_read, slice_get-g
 use Rattle.leaf_rows.specs.declared.leaf_set.LeafSet.{LeafSet}
 use Rattle.leaf_rows.specs.Leaves.{has_leaf}
 use Rattle.flow_model.specs.Lists.{◌∈◌, Each, AreDistinct, StandsBefore, joined}
-use Rattle.flow_laws.proofs.Members.{each_member, only_one, decide_in, distinct-append, before_across, before_left, each_from_members, mem_append_left, mem_append_right, mem-append, at_most}
-use Rattle.flow_laws.proofs.MadeLists.{some_same, joined-append}
+use Rattle.flow_model.proofs.Lists.{each_member, only_one, distinct-append, before_across, before_left, each_from_members, mem_append_left, mem_append_right, mem-append, at_most}
+use Rattle.flow_model.specs.Decided.{decide_in}
+use Rattle.flow_model.proofs.MadeLists.{some_same, joined-append}
 use Rattle.flow_plan.proofs.PlaceLemmas.{read_member}
 use Rattle.flow_sample.specs.declared.item.Item.{Item}
 use Rattle.flow_sample.specs.Rows.{has_inside, has_waits, run_in, runs, IsIn, WaitsFor, IsEdge, AreApart}

@@ -7,7 +7,7 @@ use Rattle.flow_model.specs.Process.{Process, Isolated, leaves}
 use Rattle.flow_model.specs.Ready.{DirectlyBefore, isolated_parts}
 use Rattle.flow_model.specs.Circle.{items_of, item_of}
 use Rattle.flow_laws.specs.WellFormed.{IsOrdered}
-use Rattle.flow_laws.proofs.Members.{only_one}
+use Rattle.flow_model.proofs.Lists.{only_one}
 use Rattle.flow_laws.proofs.ReadyRuns.{direct_other}
 use Rattle.flow_laws.proofs.GoalParts.{joined_items}
 use Rattle.flow_sample.specs.declared.item.Item.{Item}

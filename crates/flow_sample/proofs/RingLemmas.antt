@@ -2,7 +2,8 @@
 use Rattle.std.proofs.Common.{◌≡◌, ℕ, ◌+◌, ◌<◌, List, [], ◌∷◌, ◌++◌, length, get_or, take, drop, refl, sym, ap, ◌∙◌, subst}
 use Rattle.std.proofs.lemmas.List.{take_more, take-append-drop}
 use Rattle.flow_model.specs.Lists.{◌∈◌, AreDistinct}
-use Rattle.flow_laws.proofs.Members.{distinct_left, cons_same}
+use Rattle.flow_model.proofs.Lists.{distinct_left}
+use Rattle.flow_model.specs.Decided.{cons_same}
 use Rattle.flow_plan.proofs.PlaceLemmas.{place_of_member}
 use Rattle.flow_sample.specs.declared.item.Item.{Item}
 use Rattle.flow_sample.specs.Rows.{IsEdge}

@@ -5,7 +5,7 @@ use Rattle.flow_model.specs.Lists.{◌∈◌, Each, AreDistinct}
 use Rattle.flow_model.specs.Process.{Process}
 use Rattle.flow_model.specs.Ready.{isolated_parts}
 use Rattle.flow_model.specs.Circle.{items_of, IsCircle, IsRing, least_of, BeginsWithLeast}
-use Rattle.flow_laws.proofs.Members.{distinct_swap, each_member, mem_swap, each_from_members}
+use Rattle.flow_model.proofs.Lists.{distinct_swap, each_member, mem_swap, each_from_members}
 use Rattle.flow_laws.proofs.CircleOrTrace.{turn}
 use Rattle.flow_sample.specs.Turned.{IsTurned}
 use Rattle.flow_plan.proofs.PlaceLemmas.{place_of_member}

@@ -4,8 +4,8 @@ use Rattle.leaf_rows.specs.declared.leaf_set.LeafSet.{LeafSet}
 use Rattle.leaf_rows.specs.Leaves.{has_leaf}
 use Rattle.flow_model.specs.Lists.{◌∈◌, AreDistinct, StandsBefore}
 use Rattle.flow_sample.specs.declared.item.Item.{Item}
-use Rattle.flow_sample.specs.declared.excising.ExciseRefusal.{ExciseRefusal}
-use Rattle.flow_sample.specs.declared.excising.ExciseRefusal.TheVariants.{Circle, NoMemory}
+use Rattle.flow_sample.specs.declared.sample.ExciseRefusal.{ExciseRefusal}
+use Rattle.flow_sample.specs.declared.sample.ExciseRefusal.TheVariants.{Circle, NoMemory}
 use Rattle.flow_sample.specs.Rows.{IsIn, IsEdge, IsOneOf, least_at, runs}
 use Rattle.flow_sample.specs.Turned.{IsTurned}
 

@@ -7,7 +7,7 @@ use Rattle.flow_goal.specs.declared.node.Node.{Node}
 use Rattle.flow_goal.specs.declared.node.Node.TheVariants.{Leaf, Open, Close}
 use Rattle.flow_plan.specs.Planned.{Planned, pairs_of}
 use Rattle.flow_plan.specs.Stacks.{WithTop}
-use Rattle.flow_sample.specs.declared.excising.ExciseRefusal.{ExciseRefusal}
+use Rattle.flow_sample.specs.declared.sample.ExciseRefusal.{ExciseRefusal}
 use Rattle.flow_sample.specs.declared.gathering.Gathering.{Gathering}
 use Rattle.flow_sample.specs.declared.item.Item.{Item}
 use Rattle.flow_sample.specs.Arranged.{AddsOneOf, TellsRing}

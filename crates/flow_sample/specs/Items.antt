@@ -6,8 +6,8 @@ use Rattle.flow_model.specs.Process.{Process, leaves}
 use Rattle.flow_model.specs.Ready.{DirectlyBefore, isolated_parts}
 use Rattle.flow_model.specs.Circle.{items_of, least_of, IsCircle}
 use Rattle.flow_sample.specs.declared.item.Item.{Item}
-use Rattle.flow_sample.specs.declared.excising.ExciseRefusal.{ExciseRefusal}
-use Rattle.flow_sample.specs.declared.excising.ExciseRefusal.TheVariants.{Circle, NoMemory}
+use Rattle.flow_sample.specs.declared.sample.ExciseRefusal.{ExciseRefusal}
+use Rattle.flow_sample.specs.declared.sample.ExciseRefusal.TheVariants.{Circle, NoMemory}
 
 -- the item of that number
 abbrev pub item_at : List (List ℕ) → ℕ → List ℕ

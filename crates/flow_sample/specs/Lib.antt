@@ -3,4 +3,4 @@ pub mod Turned
 pub mod Arranged
 pub mod ItemMarks
 pub mod Items
-pub mod Excised
+pub mod Sample

@@ -8,7 +8,7 @@ use std::alloc::{AllocError, Global};
 
 /// Why an option has no execution: two or more items of one part wait for each other in a ring. Each is
 /// written as its least leaf, the least of all first.
-#[derive(Drop)]
+#[derive(Debug, Drop)]
 pub struct Circle {
     leaves: Vec<u32>,
 }
@@ -40,13 +40,8 @@ fn least_place(list: &[u32]) -> usize
     ensures within { result < length list.now }
     ensures least { (k : ℕ) → k < length list.now → slice_index list.now result ≤ slice_index list.now k }
 {
-    let mut place = 0;
-    for (other, number) in list.iter().enumerate() {
-        if *number < list[place] {
-            place = other;
-        }
-    }
-    place
+    let least = list.iter().enumerate().min_by_key(|(_, number)| **number);
+    least.map_or(0, |(place, _)| place)
 }
 
 /// The items of a ring as a circle.

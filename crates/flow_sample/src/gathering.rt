@@ -8,9 +8,9 @@ ghost use Rattle.flow_sample.specs.Arranged.{AddsOneOf, TellsRing};
 ghost use Rattle.flow_sample.specs.Items.{TellsCircle};
 ghost use Rattle.flow_sample.specs.ItemMarks.{Gathers, ReadsMark};
 
-use crate::excising::ExciseRefusal;
 use crate::item::Item;
 use crate::order::run_of;
+use crate::sample::ExciseRefusal;
 use flow_goal::Node;
 use flow_plan::Plan;
 use std::alloc::{AllocError, Global};

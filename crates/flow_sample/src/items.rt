@@ -3,9 +3,9 @@ ghost use Rattle.flow_model.specs.Circle.{items_of};
 ghost use Rattle.flow_plan.specs.Planned.{pairs_of};
 ghost use Rattle.flow_sample.specs.Items.{AreItemsOf, TellsCircle};
 
-use crate::excising::ExciseRefusal;
 use crate::gathering::Gathering;
 use crate::item::Item;
+use crate::sample::ExciseRefusal;
 use flow_plan::Plan;
 use std::alloc::Global;
 

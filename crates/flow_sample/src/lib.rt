@@ -3,11 +3,11 @@
 #![tactic(auto)]
 
 mod circle;
-mod excising;
 mod gathering;
 mod item;
 mod items;
 mod order;
+mod sample;
 
 pub use circle::Circle;
-pub use excising::{ExciseRefusal, excise};
+pub use sample::{ExciseRefusal, excise};

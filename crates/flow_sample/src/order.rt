@@ -6,8 +6,8 @@ ghost use Rattle.flow_sample.specs.Rows.{AreApart, IsIn, WaitsFor, has_inside, r
 ghost use Rattle.flow_sample.specs.Arranged.{TakesIn, IsArranged, IsNodeRing, IsRunOf, TellsRing};
 
 use crate::circle::circle_of;
-use crate::excising::ExciseRefusal;
 use crate::item::{Item, all_inside};
+use crate::sample::ExciseRefusal;
 use leaf_rows::LeafSet;
 use std::alloc::{AllocError, Global};
 

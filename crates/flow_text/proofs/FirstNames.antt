@@ -13,7 +13,7 @@ use Rattle.flow_text.specs.declared.known.Known.{Known}
 use Rattle.flow_text.specs.declared.name_refusal.NameRefusal.{NameRefusal}
 use Rattle.flow_text.specs.declared.name_refusal.NameRefusal.TheVariants.{Repeated, Unknown}
 use Rattle.flow_text.specs.GoodNames.{IsRepeated, IsUnknown, IsFirst, IsFirstRepeated, IsFirstUnknown, AsksOfEvents, AsksFirstOfOther}
-use Rattle.flow_text.specs.KnownNames.{NameSet, no_names, HasJust, is_again, after, repeated_from, is_unknown, has, has_as_event, KnowsThose}
+use Rattle.flow_text.specs.KnownNames.{NameSet, no_names, HasJust, is_again, with_role, repeated_from, is_unknown, has, has_as_event, KnowsThose}
 use Rattle.flow_text.proofs.KnownNames.{none_held, held_more, held_none, distinct_more}
 
 -- no role of the list has P after `before` and those before it
@@ -82,10 +82,10 @@ is_first P roles k c =
 
 -- Names that are declared again
 
-held_after : (set : NameSet) (front : List Role) (r : Role) → HasJust set (declaring front) → HasJust (after set r) (declaring (front ++ r ∷ []))
-held_after set front r h = subst (HasJust (after set r)) (sym (flat_map-append declared_by front (r ∷ []))) (more r)
+held_after : (set : NameSet) (front : List Role) (r : Role) → HasJust set (declaring front) → HasJust (with_role set r) (declaring (front ++ r ∷ []))
+held_after set front r h = subst (HasJust (with_role set r)) (sym (flat_map-append declared_by front (r ∷ []))) (more r)
   where
-    more : (r : Role) → HasJust (after set r) (declaring front ++ declaring (r ∷ []))
+    more : (r : Role) → HasJust (with_role set r) (declaring front ++ declaring (r ∷ []))
     more (declares n) = held_more set (declaring front) n h
     more _ = held_none set (declaring front) h
 
@@ -101,15 +101,15 @@ repeated_first : (set : NameSet) (front : List Role) (start : ℕ) (roles : List
     → repeated_from set start roles ≡ Some k → Cut IsRepeated front start roles k
 repeated_first set front start [] k h e = absurd (cc)
 repeated_first set front start (r ∷ rs) k h e =
-    cut_by IsRepeated front start r rs k (is_again set r) (repeated_from (after set r) (start + 1) rs) (again_is set front r h) (again_is_not set front r h)
-    (repeated_first (after set r) (front ++ r ∷ []) (start + 1) rs k (held_after set front r h)) e
+    cut_by IsRepeated front start r rs k (is_again set r) (repeated_from (with_role set r) (start + 1) rs) (again_is set front r h) (again_is_not set front r h)
+    (repeated_first (with_role set r) (front ++ r ∷ []) (start + 1) rs k (held_after set front r h)) e
 
 repeated_none : (set : NameSet) (front : List Role) (start : ℕ) (roles : List Role) → HasJust set (declaring front)
     → repeated_from set start roles ≡ None → HasNone IsRepeated front roles
 repeated_none set front start [] h e = tt
 repeated_none set front start (r ∷ rs) h e =
-    let (not_here, later) = passed (is_again set r) start (repeated_from (after set r) (start + 1) rs) e in
-    (again_is_not set front r h not_here, repeated_none (after set r) (front ++ r ∷ []) (start + 1) rs (held_after set front r h) later)
+    let (not_here, later) = passed (is_again set r) start (repeated_from (with_role set r) (start + 1) rs) e in
+    (again_is_not set front r h not_here, repeated_none (with_role set r) (front ++ r ∷ []) (start + 1) rs (held_after set front r h) later)
 
 once_all : (front roles : List Role) → AreDistinct (declaring front) → HasNone IsRepeated front roles → AreDistinct (declaring (front ++ roles))
 once_all front [] distinct none = subst (λ z. AreDistinct (declaring z)) (sym (append-nil front)) distinct

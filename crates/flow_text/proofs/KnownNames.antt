@@ -1,15 +1,15 @@
 -- Sets of names: what one more name does to them, and what one more declaration makes known.
 use Rattle.std.proofs.Common.{◌≡◌, ℕ, List, [], ◌∷◌, ◌++◌, Bool, true, false, cond, refl, sym, ap, subst, ◌∙◌, ◌⊎◌, inl, inr, Bor, append-nil}
 use Rattle.std.specs.Prelude.{Option, Some, None, is_some, ◌||◌}
-use Rattle.std.specs.BTreeMap.{BTreeMap, UpdatesBy, get_by}
+use Rattle.indexmap.specs.IndexMap.{IndexMap, UpdatesBy, get_by}
 use Rattle.std.specs.Cmp.Lexicographic.{bytes_decides}
 use Rattle.std.specs.Str.{bytes_eq}
 use Rattle.std.proofs.lemmas.Bool.{or_parts}
 use Rattle.std.proofs.lemmas.List.Concat.{flat_map-append}
 use Rattle.flow_model.specs.Lists.{◌∈◌, AreDistinct}
 use Rattle.flow_model.specs.declared.labels.Note.{Note}
-use Rattle.flow_laws.proofs.Members.{mem_append_left, mem_append_right, mem-append, distinct-append}
-use Rattle.flow_facts.specs.Ordered.{name_cmp, name_ties}
+use Rattle.flow_model.proofs.Lists.{mem_append_left, mem_append_right, mem-append, distinct-append}
+use Rattle.flow_facts.specs.declared.text_key.TextKey.{TextKey}
 use Rattle.flow_form.specs.Form.{Shape}
 use Rattle.flow_form.specs.Script.{Declared, event, flow}
 use Rattle.flow_form.specs.Names.{declared_name, declared_names, event_name, event_names}
@@ -18,19 +18,19 @@ use Rattle.flow_text.specs.declared.known.DeclaredAs.TheVariants.{Flow}
 use Rattle.flow_text.specs.declared.known.Known.{Known}
 use Rattle.flow_text.specs.KnownNames.{NameSet, no_names, with_name, HasJust, has, as_event, has_as_event, KnowsThose}
 
-abbrev looked_up : {X : Type 0} → BTreeMap (Bor (List ℕ)) X → List ℕ → Option X
-looked_up m name = get_by (λ key. name_cmp name key.now) m
+abbrev looked_up : {X : Type 0} → IndexMap (Bor (List ℕ)) X TextKey → List ℕ → Option X
+looked_up m name = get_by (λ key. bytes_eq name key.now) m
 
 -- the map has been given w for that name
-abbrev IsGiven : {X : Type 0} → BTreeMap (Bor (List ℕ)) X → BTreeMap (Bor (List ℕ)) X → List ℕ → X → Type 0
-IsGiven m m' name w = UpdatesBy (λ x y. name_cmp x.now y.now) (λ key. name_cmp name key.now) m m' (Some w)
+abbrev IsGiven : {X : Type 0} → IndexMap (Bor (List ℕ)) X TextKey → IndexMap (Bor (List ℕ)) X TextKey → List ℕ → X → Type 0
+IsGiven m m' name w = UpdatesBy (λ x y. bytes_eq x.now y.now) (λ key. bytes_eq name key.now) m m' (Some w)
 
-found_after : {X : Type 0} (m m' : BTreeMap (Bor (List ℕ)) X) (name : List ℕ) (w : X) → IsGiven m m' name w → (q : List ℕ)
+found_after : {X : Type 0} (m m' : IndexMap (Bor (List ℕ)) X TextKey) (name : List ℕ) (w : X) → IsGiven m m' name w → (q : List ℕ)
     → looked_up m' q ≡ cond (bytes_eq name q) (Some w) (looked_up m q)
-found_after m m' name w updates q = updates.0 (record { ref_ptr = (0, 0); now = q }) ∙ ap (λ b. cond b (Some w) (looked_up m q)) (sym (name_ties name q))
+found_after m m' name w updates q = updates.0 (record { ref_ptr = (0, 0); now = q })
 
 -- where w has what is asked of a value, the names of such values are one more
-pub given : {X : Type 0} (asked : Option X → Bool) (m m' : BTreeMap (Bor (List ℕ)) X) (name : List ℕ) (w : X) → asked (Some w) ≡ true
+pub given : {X : Type 0} (asked : Option X → Bool) (m m' : IndexMap (Bor (List ℕ)) X TextKey) (name : List ℕ) (w : X) → asked (Some w) ≡ true
     → IsGiven m m' name w → (λ q. asked (looked_up m' q)) ≡ with_name (λ q. asked (looked_up m q)) name
 given {X} asked m m' name w is_asked updates = λ i q. (ap asked (found_after m m' name w updates q) ∙ taken (bytes_eq name q) (looked_up m q)) i
   where
@@ -39,7 +39,7 @@ given {X} asked m m' name w is_asked updates = λ i q. (ap asked (found_after m 
     taken false o = refl
 
 -- a new name that is no event leaves the events
-pub given_flow : (m m' : BTreeMap (Bor (List ℕ)) DeclaredAs) (name : List ℕ) → has m name ≡ false → IsGiven m m' name Flow → has_as_event m' ≡ has_as_event m
+pub given_flow : (m m' : IndexMap (Bor (List ℕ)) DeclaredAs TextKey) (name : List ℕ) → has m name ≡ false → IsGiven m m' name Flow → has_as_event m' ≡ has_as_event m
 given_flow m m' name new updates = λ i q. (ap as_event (found_after m m' name Flow updates q) ∙ other q (bytes_eq name q) refl) i
   where
     no_event : (o : Option DeclaredAs) → is_some o ≡ false → false ≡ as_event o

@@ -1,7 +1,7 @@
 pub mod KnownNames
-pub mod ListedNames
+pub mod NamedLemmas
 pub mod FirstNames
-pub mod Parsed
+pub mod ParserLemmas
 pub mod Pushed
 pub mod PrintedPieces
 pub mod PrintedTexts

@@ -14,14 +14,13 @@ use Rattle.flow_reader.specs.Symbols.{symbols_of}
 use Rattle.flow_reader.specs.Reading.{place_of}
 use Rattle.flow_text.specs.GoodNames.{IsUnknown, IsRepeated, IsFirstRepeated, IsFirstUnknown, AsksOfEvents, AsksFirstOfOther, IsFirst}
 use Rattle.flow_text.specs.Saying.{HasTokens, Writes, Says, Asks}
-use Rattle.flow_text.specs.Parsing.{IsExpected, IsTooDeep, IsNameAt, IsFirstNameAt, named_places, IsTextRefusal, IsParseRefusal, IsQueryRefusal}
+use Rattle.flow_text.specs.Parser.{IsExpected, IsTooDeep, IsNameAt, IsFirstNameAt, named_places, IsTextRefusal, IsParseRefusal, IsQueryRefusal}
 use Rattle.flow_grammar.proofs.Reading.{IsMachine, scripts_are_read, queries_are_read}
 use Rattle.flow_text.specs.Laws.{IsAnswer, TextsHaveOneAnswer, QueriesHaveOneAnswer}
 use Rattle.std.proofs.lemmas.Option.{same_Some}
 use Rattle.std.proofs.lemmas.Grind.{flat_map-append}
 use Rattle.flow_model.specs.Lists.{◌∈◌, Each, AreDistinct}
-use Rattle.flow_model.proofs.Lists.{each_parts}
-use Rattle.flow_laws.proofs.Members.{distinct_parts}
+use Rattle.flow_model.proofs.Lists.{each_parts, distinct_parts}
 use Rattle.flow_form.specs.Names.{declared_names, event_names, names_in_rule, HasGoodNames}
 use Rattle.flow_grammar.proofs.RolesOfNames.{roles_are_the_names, of_rules}
 use Rattle.flow_text.proofs.FirstNames.{IsWell, well_is_known}

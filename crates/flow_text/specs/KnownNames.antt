@@ -1,10 +1,10 @@
 -- The roles of a text, gone through once with the names that are known.
 use Rattle.std.specs.Prelude.{◌≡◌, ◌↔◌, ℕ, ◌+◌, List, [], ◌∷◌, Bool, true, false, not, cond, Option, Some, None, is_some}
-use Rattle.std.specs.BTreeMap.{BTreeMap, get_by}
+use Rattle.indexmap.specs.IndexMap.{IndexMap, get_by}
 use Rattle.std.specs.Str.{bytes_eq}
 use Rattle.std.proofs.Common.{Bor}
 use Rattle.flow_model.specs.Lists.{◌∈◌, AreDistinct}
-use Rattle.flow_facts.specs.Ordered.{name_cmp}
+use Rattle.flow_facts.specs.declared.text_key.TextKey.{TextKey}
 use Rattle.flow_form.specs.Script.{Declared}
 use Rattle.flow_form.specs.Names.{declared_names, event_names}
 use Rattle.flow_grammar.specs.Roles.{Role, declares, in_goal, in_rule}
@@ -27,16 +27,16 @@ abbrev pub HasJust : NameSet → List (List ℕ) → Type 0
 HasJust set names = (q : List ℕ) → (set q ≡ true) ↔ (q ∈ names)
 
 -- the set of a map's keys
-abbrev pub has : {X : Type 0} → BTreeMap (Bor (List ℕ)) X → NameSet
-has m name = is_some (get_by (λ key. name_cmp name key.now) m)
+abbrev pub has : {X : Type 0} → IndexMap (Bor (List ℕ)) X TextKey → NameSet
+has m name = is_some (get_by (λ key. bytes_eq name key.now) m)
 
 abbrev pub as_event : Option DeclaredAs → Bool
 as_event (Some Event) = true
 as_event _ = false
 
 -- the set of those that the map has as events
-abbrev pub has_as_event : BTreeMap (Bor (List ℕ)) DeclaredAs → NameSet
-has_as_event m name = as_event (get_by (λ key. name_cmp name key.now) m)
+abbrev pub has_as_event : IndexMap (Bor (List ℕ)) DeclaredAs TextKey → NameSet
+has_as_event m name = as_event (get_by (λ key. bytes_eq name key.now) m)
 
 -- the role declares a name of the set
 abbrev pub is_again : NameSet → Role → Bool
@@ -44,14 +44,14 @@ is_again set (declares n) = set n
 is_again set _ = false
 
 -- the set with what the role declares
-abbrev pub after : NameSet → Role → NameSet
-after set (declares n) = with_name set n
-after set _ = set
+abbrev pub with_role : NameSet → Role → NameSet
+with_role set (declares n) = with_name set n
+with_role set _ = set
 
 -- the first role that declares a name of the set or of a role before it; the list's first role is number `place`
 abbrev pub repeated_from : NameSet → ℕ → List Role → Option ℕ
 repeated_from set place [] = None
-repeated_from set place (r ∷ roles) = cond (is_again set r) (Some place) (repeated_from (after set r) (place + 1) roles)
+repeated_from set place (r ∷ roles) = cond (is_again set r) (Some place) (repeated_from (with_role set r) (place + 1) roles)
 
 -- the role uses a name that is not among the declared, or in a constraint not among the events
 abbrev pub is_unknown : NameSet → NameSet → Role → Bool

@@ -13,7 +13,7 @@ use Rattle.flow_reader.specs.Symbols.{symbols_of}
 use Rattle.flow_text.specs.Printed.{printed}
 use Rattle.flow_text.specs.Printable.{IsPrintable}
 use Rattle.flow_text.specs.Saying.{Says, Asks}
-use Rattle.flow_text.specs.Parsing.{IsParseRefusal, IsQueryRefusal}
+use Rattle.flow_text.specs.Parser.{IsParseRefusal, IsQueryRefusal}
 
 abbrev pub TextsSayOneThing : Type 0
 TextsSayOneThing = (text : List ℕ) (a b : Said) → Says text a → Says text b → a ≡ b

@@ -1,8 +1,8 @@
-pub mod ListedNames
+pub mod Named
 pub mod KnownNames
 pub mod GoodNames
 pub mod Saying
-pub mod Parsing
+pub mod Parser
 pub mod Printed
 pub mod Joins
 pub mod Printable

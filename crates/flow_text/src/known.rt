@@ -1,13 +1,13 @@
 ghost use Rattle.std.specs.Prelude.{◌≡◌, ◌++◌, ◌∷◌, [], IfOk, OnOk, List, map};
 ghost use Rattle.flow_form.specs.Script.{Declared, declared};
-ghost use Rattle.flow_text.specs.ListedNames.{role_of};
+ghost use Rattle.flow_text.specs.Named.{role_of};
 ghost use Rattle.flow_text.specs.KnownNames.{has, has_as_event, is_unknown, KnowsThose};
 
-use crate::listing::Named;
-use flow_facts::Name;
-use flow_form::Decl;
+use crate::named::Named;
+use flow_facts::{Name, TextKey};
+use flow_form::{Decl, declared_key};
+use indexmap::IndexMap;
 use std::alloc::{AllocError, Global};
-use std::collections::BTreeMap;
 
 /// What a name is declared as.
 #[derive(Clone, Copy)]
@@ -16,11 +16,11 @@ pub(crate) enum DeclaredAs {
     Flow,
 }
 
-/// The names that declarations make known, lent by them. Names are told apart by their marks first.
+/// The names that declarations make known, lent by them.
 #[derive(Drop)]
 pub(crate) struct Known<'a> {
     /// What each is declared as: an event, if it is declared as both.
-    pub(crate) names: BTreeMap<&'a Name, DeclaredAs>,
+    pub(crate) names: IndexMap<&'a Name, DeclaredAs, TextKey>,
     /// Whether one is declared a second time.
     pub(crate) is_again: bool,
 }
@@ -30,7 +30,7 @@ impl<'a> Known<'a> {
         ensures { IfOk result (λ known. KnowsThose (map declared decls.now) known) }
     {
         let mut known = Known {
-            names: BTreeMap::new(alloc),
+            names: IndexMap::with_hasher(alloc, declared_key(decls)),
             is_again: false,
         };
         for decl in decls {

@@ -1,7 +1,7 @@
 ghost use Rattle.std.specs.Prelude.{◌≡◌, ◌<◌, length, Some, IfOk, IfErr, option_map, slice_get};
 ghost use Rattle.flow_lex.specs.Refusals.{IsRefused};
 ghost use Rattle.flow_reader.specs.Symbols.{meant};
-ghost use Rattle.flow_text.specs.Parsing.{name_in, named_places, bytes_now};
+ghost use Rattle.flow_text.specs.Parser.{name_in, named_places, bytes_now};
 ghost use Rattle.flow_text.specs.Saying.{HasTokens, IsLexed, TextInTokens};
 
 use flow_form::{Name, TextRefusal};

@@ -4,10 +4,10 @@
 mod known;
 mod laws;
 mod lexed_text;
-mod listing;
 mod name_refusal;
+mod named;
 mod names;
-mod parsing;
+mod parser;
 mod print_goals;
 mod print_rules;
 mod print_scripts;
@@ -20,5 +20,5 @@ pub use laws::{
     law_printed_scripts_are_read_back, law_prints_are_lexed, law_texts_have_one_answer,
     law_texts_say_one_thing, law_what_is_said_can_be_printed,
 };
-pub use parsing::{parse, parse_query};
+pub use parser::{parse, parse_query};
 pub use print_scripts::print;

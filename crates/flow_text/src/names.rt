@@ -4,21 +4,24 @@ ghost use Rattle.flow_form.specs.Script.{said, asked};
 ghost use Rattle.flow_form.specs.Names.{HasGoodNames};
 ghost use Rattle.flow_text.specs.declared.name_refusal.NameRefusal.TheVariants.{Repeated, Unknown};
 ghost use Rattle.flow_text.specs.GoodNames.{IsFirstRepeated, IsFirstUnknown, AsksOfEvents, AsksFirstOfOther};
-ghost use Rattle.flow_text.specs.KnownNames.{has, has_as_event, no_names, is_again, after, repeated_from, is_unknown};
-ghost use Rattle.flow_text.specs.ListedNames.{role_of, roles_of};
+ghost use Rattle.flow_text.specs.KnownNames.{has, has_as_event, no_names, is_again, with_role, repeated_from, is_unknown};
+ghost use Rattle.flow_text.specs.Named.{role_of, roles_of};
 
 use crate::known::Known;
-use crate::listing::{Named, names_of_query, names_of_script};
 use crate::name_refusal::NameRefusal;
-use flow_facts::Name;
+use crate::named::{Named, names_of_query, names_of_script};
+use flow_facts::{Name, TextKey};
 use flow_form::{Query, Script};
+use indexmap::IndexMap;
 use std::alloc::{AllocError, Global};
-use std::collections::BTreeMap;
 
 /// Puts a name that is declared among the others, and says whether it is there already.
-fn is_again<'a>(names: &mut BTreeMap<&'a Name, ()>, named: &Named<'a>) -> Result<bool, AllocError>
+fn is_again<'a>(
+    names: &mut IndexMap<&'a Name, (), TextKey>,
+    named: &Named<'a>,
+) -> Result<bool, AllocError>
     ensures again { IfOk result (λ again. again ≡ is_again (has names.old) (role_of named.now)) }
-    ensures names { OnOk result (has names.new ≡ after (has names.old) (role_of named.now)) }
+    ensures names { OnOk result (has names.new ≡ with_role (has names.old) (role_of named.now)) }
 {
     match named {
         Named::Declares(name) => Ok(names.insert(*name, ())?.is_some()),
@@ -37,7 +40,7 @@ fn first_repeated<'a>(
     if !known.is_again {
         return Ok(None);
     }
-    let mut names = BTreeMap::new(alloc);
+    let mut names = IndexMap::with_hasher(alloc, *known.names.hasher());
     for (place, named) in list.iter().enumerate() {
         if is_again(&mut names, named)? {
             return Ok(Some(place));

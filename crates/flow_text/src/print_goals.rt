@@ -6,38 +6,29 @@ ghost use Rattle.flow_text.specs.Printed.{bracketed, goal_text, list_text};
 
 use flow_facts::{Fact, push_fact};
 use flow_form::Form;
+use flow_model::Operator;
 use std::alloc::AllocError;
 
-/// A kind of list.
-#[derive(Clone, Copy)]
-pub(crate) enum Join {
-    Serial,
-    Beside,
-    Either,
+/// What stands between two members.
+fn mark(operator: Operator) -> &'static [u8]
+    ensures { result.now ≡ mark_of operator }
+{
+    match operator {
+        Operator::Serial => b" * ",
+        Operator::Beside => b" | ",
+        Operator::Either => b" + ",
+    }
 }
 
-impl Join {
-    /// What stands between two members.
-    fn mark(self) -> &'static [u8]
-        ensures { result.now ≡ mark_of self }
-    {
-        match self {
-            Join::Serial => b" * ",
-            Join::Beside => b" | ",
-            Join::Either => b" + ",
-        }
-    }
-
-    /// Whether a member stands in parentheses.
-    fn parts(self, member: &Form) -> bool
-        ensures { result ≡ parted self (shape_of member.now) }
-    {
-        match member {
-            Form::Serial(_) => self == Join::Serial,
-            Form::Beside(_) => self != Join::Either,
-            Form::Either(_) => true,
-            _ => false,
-        }
+/// Whether a member stands in parentheses.
+fn parts(operator: Operator, member: &Form) -> bool
+    ensures { result ≡ parted operator (shape_of member.now) }
+{
+    match member {
+        Form::Serial(_) => operator == Operator::Serial,
+        Form::Beside(_) => operator != Operator::Either,
+        Form::Either(_) => true,
+        _ => false,
     }
 }
 
@@ -50,10 +41,10 @@ pub(crate) fn push_with_fact(text: &mut Vec<u8>, word: &[u8], fact: &Fact) -> Re
 }
 
 #[cycle(goals)]
-fn push_member(text: &mut Vec<u8>, join: Join, member: &Form) -> Result<(), AllocError>
-    ensures { OnOk result (text.new.items ≡ text.old.items ++ bracketed (parted join (shape_of member.now)) (goal_text (shape_of member.now))) }
+fn push_member(text: &mut Vec<u8>, operator: Operator, member: &Form) -> Result<(), AllocError>
+    ensures { OnOk result (text.new.items ≡ text.old.items ++ bracketed (parted operator (shape_of member.now)) (goal_text (shape_of member.now))) }
 {
-    if join.parts(member) {
+    if parts(operator, member) {
         text.extend_from_slice(b"(")?;
         push_goal(text, member)?;
         text.extend_from_slice(b")")
@@ -63,16 +54,16 @@ fn push_member(text: &mut Vec<u8>, join: Join, member: &Form) -> Result<(), Allo
 }
 
 #[cycle(goals)]
-fn push_list(text: &mut Vec<u8>, join: Join, members: &[Form]) -> Result<(), AllocError>
-    ensures { OnOk result (text.new.items ≡ text.old.items ++ list_text (mark_of join) (parted join) (shapes (map shape_of members.now))) }
+fn push_list(text: &mut Vec<u8>, operator: Operator, members: &[Form]) -> Result<(), AllocError>
+    ensures { OnOk result (text.new.items ≡ text.old.items ++ list_text (mark_of operator) (parted operator) (shapes (map shape_of members.now))) }
 {
     let [first, rest @ ..] = members else {
         return Ok(());
     };
-    push_member(text, join, first)?;
+    push_member(text, operator, first)?;
     for member in rest {
-        text.extend_from_slice(join.mark())?;
-        push_member(text, join, member)?;
+        text.extend_from_slice(mark(operator))?;
+        push_member(text, operator, member)?;
     }
     Ok(())
 }
@@ -93,8 +84,8 @@ pub(crate) fn push_goal(text: &mut Vec<u8>, goal: &Form) -> Result<(), AllocErro
             push_goal(text, part)?;
             text.extend_from_slice(b")")
         }
-        Form::Serial(members) => push_list(text, Join::Serial, members),
-        Form::Beside(members) => push_list(text, Join::Beside, members),
-        Form::Either(members) => push_list(text, Join::Either, members),
+        Form::Serial(members) => push_list(text, Operator::Serial, members),
+        Form::Beside(members) => push_list(text, Operator::Beside, members),
+        Form::Either(members) => push_list(text, Operator::Either, members),
     }
 }

@@ -4,35 +4,27 @@ ghost use Rattle.flow_text.specs.Joins.{word_of, parted_rule};
 ghost use Rattle.flow_text.specs.Printed.{bracketed, names_text, rule_text, rules_text};
 
 use flow_form::{Name, RuleForm};
+use flow_model::Connective;
 use std::alloc::AllocError;
 
-/// A kind of list.
-#[derive(Clone, Copy)]
-pub(crate) enum Linking {
-    And,
-    Or,
+/// What stands between two members.
+fn word(connective: Connective) -> &'static [u8]
+    ensures { result.now ≡ word_of connective }
+{
+    match connective {
+        Connective::And => b" and ",
+        Connective::Or => b" or ",
+    }
 }
 
-impl Linking {
-    /// What stands between two members.
-    fn word(self) -> &'static [u8]
-        ensures { result.now ≡ word_of self }
-    {
-        match self {
-            Linking::And => b" and ",
-            Linking::Or => b" or ",
-        }
-    }
-
-    /// Whether a member stands in parentheses.
-    fn parts(self, member: &RuleForm) -> bool
-        ensures { result ≡ parted_rule self (rule_shape_of member.now) }
-    {
-        match member {
-            RuleForm::And(_) => self == Linking::And,
-            RuleForm::Or(_) => true,
-            _ => false,
-        }
+/// Whether a member stands in parentheses.
+fn parts(connective: Connective, member: &RuleForm) -> bool
+    ensures { result ≡ parted_rule connective (rule_shape_of member.now) }
+{
+    match member {
+        RuleForm::And(_) => connective == Connective::And,
+        RuleForm::Or(_) => true,
+        _ => false,
     }
 }
 
@@ -69,10 +61,14 @@ fn push_with_two(
 
 /// A member of a list of that kind.
 #[cycle(rules)]
-fn push_member(text: &mut Vec<u8>, linking: Linking, member: &RuleForm) -> Result<(), AllocError>
-    ensures { OnOk result (text.new.items ≡ text.old.items ++ bracketed (parted_rule linking (rule_shape_of member.now)) (rule_text (rule_shape_of member.now))) }
+fn push_member(
+    text: &mut Vec<u8>,
+    connective: Connective,
+    member: &RuleForm,
+) -> Result<(), AllocError>
+    ensures { OnOk result (text.new.items ≡ text.old.items ++ bracketed (parted_rule connective (rule_shape_of member.now)) (rule_text (rule_shape_of member.now))) }
 {
-    if linking.parts(member) {
+    if parts(connective, member) {
         text.extend_from_slice(b"(")?;
         push_rule(text, member)?;
         text.extend_from_slice(b")")
@@ -82,16 +78,20 @@ fn push_member(text: &mut Vec<u8>, linking: Linking, member: &RuleForm) -> Resul
 }
 
 #[cycle(rules)]
-fn push_list(text: &mut Vec<u8>, linking: Linking, members: &[RuleForm]) -> Result<(), AllocError>
-    ensures { OnOk result (text.new.items ≡ text.old.items ++ rules_text (word_of linking) (parted_rule linking) (rule_shapes (map rule_shape_of members.now))) }
+fn push_list(
+    text: &mut Vec<u8>,
+    connective: Connective,
+    members: &[RuleForm],
+) -> Result<(), AllocError>
+    ensures { OnOk result (text.new.items ≡ text.old.items ++ rules_text (word_of connective) (parted_rule connective) (rule_shapes (map rule_shape_of members.now))) }
 {
     let [first, rest @ ..] = members else {
         return Ok(());
     };
-    push_member(text, linking, first)?;
+    push_member(text, connective, first)?;
     for member in rest {
-        text.extend_from_slice(linking.word())?;
-        push_member(text, linking, member)?;
+        text.extend_from_slice(word(connective))?;
+        push_member(text, connective, member)?;
     }
     Ok(())
 }
@@ -111,9 +111,9 @@ pub(crate) fn push_rule(text: &mut Vec<u8>, rule: &RuleForm) -> Result<(), Alloc
         RuleForm::Needs(first, second) => push_with_two(text, b"needs ", first, second),
         RuleForm::Not(part) => {
             text.extend_from_slice(b"not ")?;
-            push_member(text, Linking::And, part)
+            push_member(text, Connective::And, part)
         }
-        RuleForm::And(members) => push_list(text, Linking::And, members),
-        RuleForm::Or(members) => push_list(text, Linking::Or, members),
+        RuleForm::And(members) => push_list(text, Connective::And, members),
+        RuleForm::Or(members) => push_list(text, Connective::Or, members),
     }
 }

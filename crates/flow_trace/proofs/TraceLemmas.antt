@@ -11,8 +11,8 @@ use Rattle.flow_model.specs.Resolution.{ChoiceOption, options}
 use Rattle.flow_model.specs.Run.{RunState, first_state}
 use Rattle.flow_model.specs.Verdict.{IsPossible}
 use Rattle.flow_laws.specs.WellFormed.{IsWellFormed, IsConsistent}
-use Rattle.flow_laws.proofs.Members.{mem_append_left, mem_append_right, each_member, each_from_members, at_most}
-use Rattle.flow_laws.proofs.MadeLists.{numbers_from_below, begins_front}
+use Rattle.flow_model.proofs.Lists.{mem_append_left, mem_append_right, each_member, each_from_members, at_most}
+use Rattle.flow_model.proofs.MadeLists.{numbers_from_below, begins_front}
 use Rattle.flow_laws.proofs.SoundStates.{runs-append, runs_front}
 use Rattle.flow_laws.proofs.TraceLeaves.{leaf_of_trace, distinct_trace}
 use Rattle.flow_laws.proofs.OptionsLemmas.{option_is_ordered, distinct_leaves, option_of_good, option_trace_is_good}
@@ -26,7 +26,7 @@ use Rattle.flow_facts.specs.Journals.{labels_at}
 use Rattle.flow_facts.proofs.JournalLabels.{replay-labels_at, length-labels_at}
 use Rattle.flow_residual.specs.Options.{SomeOption}
 use Rattle.flow_residual.specs.Remaining.{Remaining, IsOf}
-use Rattle.flow_residual.proofs.PossibleLemmas.{has_kept, is_good}
+use Rattle.flow_residual.proofs.QuestionLemmas.{has_kept, is_good}
 use Rattle.flow_trace.specs.declared.checked.Checked.{Checked}
 use Rattle.flow_trace.specs.declared.checked.Checked.TheVariants.{Execution, Prefix, Bad}
 use Rattle.flow_trace.specs.Live.{Follows, Finishes}

@@ -9,10 +9,9 @@ use Rattle.flow_laws.specs.WellFormed.{IsWellFormed}
 use Rattle.flow_workflow.specs.Definition.{Definition, schema_of}
 use Rattle.flow_plan.specs.Progress.{IsDone, bound_of}
 use Rattle.flow_plan.specs.declared.progress.Progress.{Progress}
-use Rattle.flow_plan.specs.Options.{HasExecution, AreJustThose}
+use Rattle.flow_plan.specs.Options.{HasExecution, AreJustThose, HasSmallLeaves}
 use Rattle.flow_facts.specs.Course.{Course}
 use Rattle.flow_facts.specs.Journals.{labels_at}
-use Rattle.flow_residual.specs.Options.{HasSmallLeaves}
 use Rattle.flow_trace.specs.declared.checked.Checked.{Checked}
 use Rattle.flow_trace.specs.declared.checked.Checked.TheVariants.{Execution, Prefix, Bad}
 use Rattle.flow_trace.specs.Live.{AreLive}

@@ -3,8 +3,8 @@ ghost use Rattle.flow_model.specs.declared.limits.TheConstants.{MOST_LEAVES};
 ghost use Rattle.flow_model.specs.Lists.{◌∈◌, Each};
 ghost use Rattle.flow_plan.specs.Orders.{Fits, MayComeNext};
 ghost use Rattle.flow_plan.specs.Progress.{IsDone, bound_of};
-ghost use Rattle.flow_plan.specs.Options.{options_of, option_of};
-ghost use Rattle.flow_residual.specs.Options.{SomeOption, HasSmallLeaves};
+ghost use Rattle.flow_plan.specs.Options.{options_of, option_of, HasSmallLeaves};
+ghost use Rattle.flow_residual.specs.Options.{SomeOption};
 ghost use Rattle.flow_trace.specs.Live.{Follows, Finishes, AreLive};
 
 use flow_plan::{KnotFree, Plan, Progress};

@@ -15,7 +15,6 @@ use crate::live::{all_live, keep_live, some_complete, some_live};
 use flow_facts::World;
 use flow_model::MOST_LEAVES;
 use flow_plan::{Compiled, KnotFree, Progress};
-use flow_residual::leaves_have_rows;
 use flow_workflow::Workflow;
 use std::alloc::{AllocError, Global};
 
@@ -32,7 +31,6 @@ pub fn check_trace(
     ensures only { IfOk result (λ checked. (other : Checked) → TellsOfTrace (schema_of workflow.now) leaves.now other → checked ≡ other) }
 {
     let plans = compiled.plans();
-    leaves_have_rows(plans);
     let room = workflow.tree().leaves();
     let mut live = all_live(alloc, plans)?;
     let mut world = World::new(alloc, workflow.facts().count(), workflow.held(), room)?;

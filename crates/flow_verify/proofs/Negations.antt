@@ -5,7 +5,7 @@ use Rattle.flow_model.specs.Facts.{events_of}
 use Rattle.flow_model.specs.Constraint.{Constraint, Not, Meets}
 use Rattle.flow_model.specs.Schema.{Schema, IsGood}
 use Rattle.flow_laws.specs.WellFormed.{IsConsistent}
-use Rattle.flow_laws.proofs.Members.{each-append, each_parts}
+use Rattle.flow_model.proofs.Lists.{each-append, each_parts}
 use Rattle.flow_model.specs.Decided.{decide_meets}
 use Rattle.flow_laws.proofs.WaysLemmas.{not_not}
 use Rattle.flow_workflow.specs.declared.rule.Rule as rule

@@ -6,8 +6,7 @@ use Rattle.std.specs.Prelude.{Result, Ok, Err, IfOk, IfErr, OnOk, MatchResult}
 use Rattle.flow_model.specs.Facts.{events_of}
 use Rattle.flow_model.specs.Constraint.{Constraint, Meets}
 use Rattle.flow_model.specs.Schema.{Schema, IsGood}
-use Rattle.flow_laws.proofs.Members.{each_member}
-use Rattle.flow_workflow.proofs.Places.{mem-slice_get}
+use Rattle.flow_model.proofs.Lists.{each_member, mem-slice_get}
 use Rattle.flow_plan.specs.Compilation.{IsWithinLimits}
 use Rattle.flow_verify.specs.declared.answers.Verified.{Verified}
 use Rattle.flow_verify.specs.declared.answers.Verified.TheVariants.{Holds, Fails}

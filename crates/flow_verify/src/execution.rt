@@ -1,5 +1,5 @@
 ghost use Rattle.std.specs.Prelude.{◌≤◌, IfOk, MatchOption, MatchResult, length};
-ghost use Rattle.flow_goal.specs.Repeated.{HoldsNoneTwice};
+ghost use Rattle.flow_goal.specs.Repeats.{HoldsNoneTwice};
 ghost use Rattle.flow_model.specs.declared.limits.TheConstants.{MOST_LEAVES};
 ghost use Rattle.flow_model.specs.Lists.{◌∈◌};
 ghost use Rattle.flow_model.specs.Resolution.{ChoiceOption, OptionTrace};

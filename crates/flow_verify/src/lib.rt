@@ -4,8 +4,8 @@
 mod answers;
 mod execution;
 mod refusal;
-mod verifying;
+mod verification;
 
 pub use answers::{Redundancy, Verified};
 pub use refusal::VerifyRefusal;
-pub use verifying::{redundant, verify};
+pub use verification::{redundant, verify};

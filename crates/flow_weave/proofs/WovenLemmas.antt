@@ -7,7 +7,7 @@ use Rattle.flow_model.specs.Ready.{IsCompleteRun}
 use Rattle.flow_model.specs.Resolution.{OptionTrace}
 use Rattle.flow_laws.specs.WellFormed.{IsOrdered}
 use Rattle.flow_laws.proofs.ReadyRuns.{complete_runs_are_traces}
-use Rattle.flow_laws.proofs.MadeLists.{numbers_from_more}
+use Rattle.flow_model.proofs.MadeLists.{numbers_from_more}
 use Rattle.flow_plan.specs.declared.token.OrderToken.{OrderToken}
 use Rattle.flow_plan.specs.Planned.{pairs_of, token_numbers}
 

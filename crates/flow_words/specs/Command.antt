@@ -30,15 +30,18 @@ rule_of_option option = number_rule option.name.now option.least option.greatest
 abbrev pub with_option : App → NumberOption → App
 with_option app option = with_rule app (rule_of_option option)
 
--- flow MODE [--steps N] [--workers N] [--seed N] [--size N]
-abbrev pub flow_rules : List Rule
-flow_rules =
-    mode_rule
-    ∷ number_rule (codes "steps") 1 MOST_ENTRIES (codes "65536")
+-- the options, each with its bounds
+abbrev pub number_rules : List Rule
+number_rules =
+    number_rule (codes "steps") 1 MOST_ENTRIES (codes "65536")
     ∷ number_rule (codes "workers") 1 MOST_WORKERS (codes "4")
     ∷ number_rule (codes "seed") 0 GREATEST_SEED (codes "1")
     ∷ number_rule (codes "size") 1 GREATEST_SIZE (codes "16")
     ∷ []
+
+-- flow MODE [--steps N] [--workers N] [--seed N] [--size N]
+abbrev pub flow_rules : List Rule
+flow_rules = mode_rule ∷ number_rules
 
 abbrev pub flow_app : App
 flow_app = record { top = record (new_shape (codes "flow")) { rules = flow_rules }; subs = [] }

@@ -8,49 +8,48 @@ use flow_model::{GREATEST_SEED, GREATEST_SIZE, MOST_ENTRIES, MOST_WORKERS};
 use std::alloc::{AllocError, Global};
 
 /// An option with one number.
-struct NumberOption<'a> {
-    name: &'a str,
+pub(crate) struct NumberOption<'a> {
+    pub(crate) name: &'a str,
     least: u32,
     greatest: u32,
     /// What the number is where the option is not used.
     default: &'a str,
 }
 
+/// The options of a call.
+pub(crate) const OPTIONS: [NumberOption<'static>; 4] = [
+    NumberOption {
+        name: "steps",
+        least: 1,
+        greatest: MOST_ENTRIES,
+        default: "65536",
+    },
+    NumberOption {
+        name: "workers",
+        least: 1,
+        greatest: MOST_WORKERS,
+        default: "4",
+    },
+    NumberOption {
+        name: "seed",
+        least: 0,
+        greatest: GREATEST_SEED,
+        default: "1",
+    },
+    NumberOption {
+        name: "size",
+        least: 1,
+        greatest: GREATEST_SIZE,
+        default: "16",
+    },
+];
+
 /// The command that reads the words of a call.
 pub(crate) fn flow_command<'a>(alloc: Global) -> Result<Command<'a>, AllocError>
     ensures { IfOk result (λ command. app_of command ≡ flow_app) }
 {
     let command = Command::new(alloc, "flow").arg(mode_argument(alloc))?;
-    with_numbers(
-        alloc,
-        command,
-        &[
-            NumberOption {
-                name: "steps",
-                least: 1,
-                greatest: MOST_ENTRIES,
-                default: "65536",
-            },
-            NumberOption {
-                name: "workers",
-                least: 1,
-                greatest: MOST_WORKERS,
-                default: "4",
-            },
-            NumberOption {
-                name: "seed",
-                least: 0,
-                greatest: GREATEST_SEED,
-                default: "1",
-            },
-            NumberOption {
-                name: "size",
-                least: 1,
-                greatest: GREATEST_SIZE,
-                default: "16",
-            },
-        ],
-    )
+    with_numbers(alloc, command, &OPTIONS)
 }
 
 /// The one word that stands for itself.

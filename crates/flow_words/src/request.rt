@@ -29,6 +29,34 @@ pub enum Mode {
     Large,
 }
 
+/// All modes.
+pub(crate) const MODES: [Mode; 7] = [
+    Mode::Drive,
+    Mode::Run,
+    Mode::Check,
+    Mode::Verify,
+    Mode::Trace,
+    Mode::Gen,
+    Mode::Large,
+];
+
+impl Mode {
+    /// The word that calls for the mode.
+    pub fn word(self) -> &'static str
+        ensures { result.now ≡ mode_word self }
+    {
+        match self {
+            Mode::Drive => "drive",
+            Mode::Run => "run",
+            Mode::Check => "check",
+            Mode::Verify => "verify",
+            Mode::Trace => "trace",
+            Mode::Gen => "gen",
+            Mode::Large => "large",
+        }
+    }
+}
+
 /// What a call is for. A mode uses the numbers that concern it.
 #[derive(Clone, Copy)]
 pub struct Request {
@@ -105,16 +133,12 @@ fn request_in(matches: &ArgMatches<'_>) -> Option<Request>
 fn mode_called(word: &str) -> Option<Mode>
     ensures { MatchOption result ((mode : Mode) → ¬ (word.now ≡ mode_word mode)) (λ mode. word.now ≡ mode_word mode) }
 {
-    match word {
-        "drive" => Some(Mode::Drive),
-        "run" => Some(Mode::Run),
-        "check" => Some(Mode::Check),
-        "verify" => Some(Mode::Verify),
-        "trace" => Some(Mode::Trace),
-        "gen" => Some(Mode::Gen),
-        "large" => Some(Mode::Large),
-        _ => None,
+    for mode in MODES {
+        if mode.word() == word {
+            return Some(mode);
+        }
     }
+    None
 }
 
 /// The number that was found for an option.

@@ -4,7 +4,7 @@ use Rattle.std.specs.Prelude.{not}
 use Rattle.std.specs.List.{position_or_len}
 use Rattle.std.specs.Bool.{Decides}
 use Rattle.flow_model.specs.Lists.{◌∈◌, AreDistinct}
-use Rattle.flow_workflow.proofs.Places.{mem-slice_get}
+use Rattle.flow_model.proofs.Lists.{mem-slice_get}
 
 module _ {A : Type 0} (E : A → A → Bool) (decides : (a b : A) → Decides (E a b) (a ≡ b)) where
   at_head : (x y : A) (xs : List A) (b : Bool) → E x y ≡ b → position_or_len (E x) (y ∷ xs) ≡ cond (not b) (1 + position_or_len (E x) xs) 0

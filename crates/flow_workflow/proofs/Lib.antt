@@ -1,4 +1,4 @@
 pub mod Places
-pub mod Indexing
+pub mod NumberedLemmas
 pub mod FirstPlaces
 pub mod RuleViews

@@ -1,7 +1,6 @@
 -- Members by their places.
 use Rattle.std.proofs.Common.{◌≡◌, ◌≢◌, ℕ, zero, suc, ◌+◌, ◌<◌, List, [], ◌∷◌, ◌++◌, length, get_or, slice_get, take, Some, refl, sym, ap, subst, inl, inr, ◌⊎◌}
 use Rattle.std.proofs.lemmas.List.{take_more}
-pub use Rattle.flow_model.proofs.Lists.{mem-slice_get, slice_get_append_left}
 use Rattle.flow_model.specs.Lists.{◌∈◌, AreDistinct}
 
 not_in_more : {A : Type 0} (x y : A) (list : List A) → ¬ (x ∈ list) → x ≢ y → ¬ (x ∈ (list ++ y ∷ []))

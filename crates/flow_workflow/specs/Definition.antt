@@ -11,7 +11,7 @@ use Rattle.flow_model.specs.Schema.{Schema}
 use Rattle.flow_model.specs.Stored.{constraint_code}
 use Rattle.flow_facts.specs.Atom.{Atom, atom_code}
 use Rattle.flow_goal.specs.Labelled.{Labelled, labelled_code}
-use Rattle.flow_goal.specs.Repeated.{HoldsNoneTwice}
+use Rattle.flow_goal.specs.Repeats.{HoldsNoneTwice}
 use Rattle.flow_workflow.specs.declared.rule.Rule.{Rule}
 use Rattle.flow_workflow.specs.Rule.{rules_of}
 use Rattle.flow_workflow.specs.Numbers.{IsKnown}

@@ -1,5 +1,5 @@
-pub mod Table
-pub mod Indexed
+pub mod Numbered
 pub mod Definition
 pub mod Numbers
 pub mod Rule
+pub mod Label

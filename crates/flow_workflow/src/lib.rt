@@ -2,6 +2,7 @@
 //! events; and why there is none.
 #![tactic(auto)]
 
+mod label;
 mod numbered;
 mod refusal;
 mod rule;
@@ -9,6 +10,7 @@ mod shorthands;
 mod table;
 mod workflow;
 
+pub use label::{push_fact_after, push_label, push_leaf_label};
 pub use numbered::{Key, Numbered};
 pub use refusal::{ExpandRefusal, Part};
 pub use rule::Rule;

@@ -1,7 +1,7 @@
 ghost use Rattle.std.specs.Prelude.{◌≡◌, ◌<◌, ◌≤◌, ◌^◌, ◌↔◌, [], length, None, IfSome, slice_get, Some};
 ghost use Rattle.flow_model.specs.declared.limits.TheConstants.{MOST_LEAVES};
 ghost use Rattle.flow_model.specs.Lists.{◌∈◌, Each, AreDistinct};
-ghost use Rattle.flow_goal.specs.Repeated.{HoldsNoneTwice};
+ghost use Rattle.flow_goal.specs.Repeats.{HoldsNoneTwice};
 ghost use Rattle.flow_laws.specs.WellFormed.{IsWellFormed};
 ghost use Rattle.flow_workflow.specs.Rule.{rules_of};
 ghost use Rattle.flow_workflow.specs.Numbers.{event_number, IsKnown};

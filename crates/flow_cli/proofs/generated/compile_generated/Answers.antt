@@ -1,6 +1,7 @@
+use Rattle.flow_cli.proofs.Refusals.{never_compiled}
 use Rattle.flow_cli.proofs.generated.compile_generated.Goals as goal
 
 pub unreachable-requires : goal.unreachable-requires
 unreachable-requires c =
-    c.in_default.not-NoMemory (c.law_generated_workflows_are_compiled.ensures.whole c.args.seed c.args.size c.args.workflow.now c.in-Err.refusal c.requires.some c.requires.few
-    c.requires.expanded c.in-Err.ensures.refused)
+    never_compiled c.args.seed c.args.size c.args.workflow.now c.in-Err.stop c.in-Refused.field-0 c.in-Refused.is c.requires.some c.requires.few c.requires.expanded
+    c.law_generated_workflows_are_compiled.ensures.whole c.in-Err.ensures.stop

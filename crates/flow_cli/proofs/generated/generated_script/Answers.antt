@@ -1,7 +1,7 @@
 use Rattle.std.proofs.Common.{ℕ, List, ◌∙◌, subst, sym}
 use Rattle.flow_form.specs.Script.{said}
 use Rattle.flow_text.specs.Saying.{Says}
-use Rattle.flow_text.specs.Parsing.{IsParseRefusal}
+use Rattle.flow_text.specs.Parser.{IsParseRefusal}
 use Rattle.flow_gen.specs.Generated.{generated}
 use Rattle.flow_cli.proofs.generated.generated_script.Goals as goal
 

@@ -1,4 +1,4 @@
-use Rattle.flow_core.proofs.OneAnswer.{takes_once, performs_once, posts_done_once, posts_failed_once, rewinds_once, commits_once}
+use Rattle.flow_core.proofs.SingleLemmas.{takes_once, performs_once, posts_done_once, posts_failed_once, rewinds_once, commits_once}
 use Rattle.flow_core.proofs.single.law_answers_are_single.Goals as goal
 
 pub returns : goal.returns

@@ -1,7 +1,7 @@
 use Rattle.std.proofs.Common.{◌≡◌, ◌≤◌, ℕ, List, sym, ap, subst, arith}
 use Rattle.flow_model.specs.declared.history.Entry.{Entry}
 use Rattle.flow_model.specs.Lists.{Each}
-use Rattle.flow_laws.proofs.Members.{each-append, each_to}
+use Rattle.flow_model.proofs.Lists.{each-append, each_to}
 use Rattle.flow_core.specs.Run.{Run}
 use Rattle.flow_crew.specs.Moves.{IsContinued}
 use Rattle.flow_crew.proofs.crew.run_crew.Goals as goal

@@ -1,7 +1,7 @@
 use Rattle.std.proofs.Common.{◌≡◌, ◌≤◌, ◌+◌, ℕ, List, sym, ap, ◌∙◌, subst, arith}
 use Rattle.flow_model.specs.declared.history.Entry.{Entry}
 use Rattle.flow_model.specs.Lists.{Each}
-use Rattle.flow_laws.proofs.MadeLists.{some_same}
+use Rattle.flow_model.proofs.MadeLists.{some_same}
 use Rattle.flow_workflow.specs.Definition.{Definition}
 use Rattle.flow_turn.specs.Passes.{Knowledge}
 use Rattle.flow_core.specs.Run.{Run}

@@ -1,5 +1,5 @@
 use Rattle.std.proofs.Common.{subst, inl, inr}
-use Rattle.flow_core.specs.Looks.{IsNext}
+use Rattle.flow_core.specs.Next.{IsNext}
 use Rattle.flow_crew.specs.declared.ends.End.TheVariants as end
 use Rattle.flow_crew.proofs.Acting.{is_committed, is_rewound}
 use Rattle.flow_crew.proofs.entries.go_on.Goals as goal

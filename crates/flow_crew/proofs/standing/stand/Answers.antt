@@ -1,8 +1,8 @@
 use Rattle.std.proofs.Common.{◌≢◌, ◌∙◌, ℕ, length, MatchOption, sym, ap, subst}
 use Rattle.flow_model.specs.Verdict.{EndsKept}
-use Rattle.flow_core.specs.Looks.{IsNext}
+use Rattle.flow_core.specs.Next.{IsNext}
 use Rattle.flow_core.specs.Run.{schema, IsUncommitted}
-use Rattle.flow_core.proofs.Waiting.{not_stuck}
+use Rattle.flow_core.proofs.NextLemmas.{not_stuck}
 use Rattle.flow_crew.proofs.Endings.{none_kept, kept_end, waiting_end, no_end, claim_out}
 use Rattle.flow_crew.proofs.standing.stand.Goals as goal
 

@@ -1,7 +1,7 @@
 use Rattle.std.proofs.Common.{◌≡◌, ◌∙◌, ◌+◌, [], ◌∷◌, ap, arith, length, length-append, slice_get, subst, sym}
 use Rattle.std.proofs.lemmas.Option.{slice_get_within}
 use Rattle.flow_model.specs.Resolution.{resolutions}
-use Rattle.flow_excise.specs.Blocks.{AreLeavesOf}
+use Rattle.flow_excise.specs.Block.{AreLeavesOf}
 use Rattle.flow_excise.proofs.BlockLemmas.{blank_more, listed_more, shown_more}
 use Rattle.flow_excise.proofs.block.block_leaves.Goals as goal
 

@@ -1,6 +1,6 @@
 use Rattle.std.proofs.Common.{◌≡◌, ◌≤◌, ℕ, false, length}
 use Rattle.flow_rules.specs.Lanes.{has_event}
-use Rattle.flow_excise.specs.Blocks.{AreLeavesOf, AreShown}
+use Rattle.flow_excise.specs.Block.{AreLeavesOf, AreShown}
 use Rattle.flow_excise.proofs.block.block_leaves.Given as goal
 
 abbrev pub invariant-loop-lane : goal.invariant-loop-lane

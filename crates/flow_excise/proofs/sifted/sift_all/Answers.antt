@@ -7,7 +7,7 @@ use Rattle.flow_rules.specs.declared.leaf_table.LeafEvents.{LeafEvents}
 use Rattle.flow_excise.specs.declared.sieve.Sieve.{Sieve}
 use Rattle.flow_excise.specs.Executions.{numbered_options}
 use Rattle.flow_excise.specs.Options.{options_by}
-use Rattle.flow_excise.specs.Sieves.{HasSifted, HasSiftedTo}
+use Rattle.flow_excise.specs.Sieve.{HasSifted, HasSiftedTo}
 use Rattle.flow_excise.proofs.BlockLemmas.{block_end, last_block, more_blocks, options_found}
 use Rattle.flow_excise.proofs.SieveLemmas.{met_length, none_sifted, plannable_ways}
 use Rattle.flow_excise.proofs.sifted.sift_all.Goals as goal

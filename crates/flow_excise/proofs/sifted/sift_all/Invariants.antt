@@ -1,7 +1,7 @@
 use Rattle.std.proofs.Common.{◌*◌}
 use Rattle.flow_rules.specs.Conjunction.{normal_in}
 use Rattle.flow_rules.specs.EventLeaves.{IsBlank}
-use Rattle.flow_excise.specs.Sieves.{HasSiftedTo}
+use Rattle.flow_excise.specs.Sieve.{HasSiftedTo}
 use Rattle.flow_excise.proofs.sifted.sift_all.Given as goal
 
 abbrev pub invariant-loop-number : goal.invariant-loop-number

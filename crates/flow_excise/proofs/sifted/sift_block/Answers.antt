@@ -5,7 +5,7 @@ use Rattle.flow_rules.specs.declared.leaf_table.LeafEvents.{LeafEvents}
 use Rattle.flow_rules.specs.EventLeaves.{IsBlank}
 use Rattle.flow_excise.specs.declared.sieve.Sieve.{Sieve}
 use Rattle.flow_excise.specs.Executions.{numbered_ways}
-use Rattle.flow_excise.specs.Sieves.{HasSiftedTo, Sifts}
+use Rattle.flow_excise.specs.Sieve.{HasSiftedTo, Sifts}
 use Rattle.flow_excise.proofs.BlockLemmas.{options_found}
 use Rattle.flow_excise.proofs.SieveLemmas.{met_at, none_found, sift_more, sift_none}
 use Rattle.flow_excise.proofs.sifted.sift_block.Goals as goal

@@ -2,9 +2,9 @@ use Rattle.std.proofs.Common.{◌≡◌, ◌+◌, map}
 use Rattle.flow_model.specs.Resolution.{resolutions}
 use Rattle.flow_model.specs.Ways.{Normal}
 use Rattle.flow_rules.specs.EventLeaves.{IsBlank}
-use Rattle.flow_excise.specs.Blocks.{HasWays}
+use Rattle.flow_excise.specs.Block.{HasWays}
 use Rattle.flow_excise.specs.Options.{has_ways}
-use Rattle.flow_excise.specs.Sieves.{HasSiftedTo}
+use Rattle.flow_excise.specs.Sieve.{HasSiftedTo}
 use Rattle.flow_excise.proofs.sifted.sift_block.Given as goal
 
 abbrev pub invariant-loop-lane : goal.invariant-loop-lane

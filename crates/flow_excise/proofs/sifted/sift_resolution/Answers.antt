@@ -1,9 +1,9 @@
 use Rattle.std.proofs.Common.{◌∙◌, ◌+◌, subst, Result, Ok, Err, OnOk}
 use Rattle.flow_model.specs.Lists.{◌∈◌}
 use Rattle.flow_rules.proofs.LeafLemmas.{blank_again}
-use Rattle.flow_excise.specs.Blocks.{options_in}
+use Rattle.flow_excise.specs.Block.{options_in}
 use Rattle.flow_excise.specs.declared.refusal.CompileRefusal.{CompileRefusal}
-use Rattle.flow_excise.specs.Sieves.{options_with}
+use Rattle.flow_excise.specs.Sieve.{options_with}
 use Rattle.flow_excise.proofs.SieveLemmas.{ways_found, sift_found}
 use Rattle.flow_excise.proofs.sifted.sift_resolution.Goals as goal
 

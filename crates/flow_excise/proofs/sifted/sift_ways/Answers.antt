@@ -1,4 +1,4 @@
-use Rattle.flow_laws.proofs.MadeLists.{mem-map}
+use Rattle.flow_model.proofs.MadeLists.{mem-map}
 use Rattle.flow_weave.specs.Woven.{option_with}
 use Rattle.flow_excise.proofs.SieveLemmas.{mem_read, sift_more_ways}
 use Rattle.flow_excise.proofs.sifted.sift_ways.Goals as goal

@@ -1,6 +1,6 @@
 use Rattle.std.proofs.Common.{take}
 use Rattle.flow_excise.specs.Executions.{numbered_ways}
-use Rattle.flow_excise.specs.Sieves.{Sifts, options_with}
+use Rattle.flow_excise.specs.Sieve.{Sifts, options_with}
 use Rattle.flow_excise.proofs.sifted.sift_ways.Given as goal
 
 abbrev pub invariant-loop-way : goal.invariant-loop-way

@@ -1,5 +1,5 @@
 use Rattle.std.proofs.Common.{◌∙◌}
-use Rattle.flow_rules.specs.Counts.{count_of}
+use Rattle.flow_rules.specs.WayCount.{count_of}
 use Rattle.flow_rules.specs.Narrowed.{ways_in}
 use Rattle.flow_rules.proofs.LeafLemmas.{blank_again, noted_leaves}
 use Rattle.flow_excise.proofs.tally.count_in.Goals as goal

@@ -1,9 +1,9 @@
 use Rattle.std.proofs.Common.{◌≡◌, ◌+◌, ◌∙◌, ℕ, List, Some, length, ap, arith, subst, sym}
 use Rattle.std.proofs.lemmas.Option.{slice_get-get_or}
 use Rattle.flow_model.specs.Ways.{leaf_of_event}
-use Rattle.flow_rules.specs.Counts.{count_of}
+use Rattle.flow_rules.specs.WayCount.{count_of}
 use Rattle.flow_rules.specs.Narrowed.{ways_in}
-use Rattle.flow_excise.specs.Tallies.{IsCountedTo}
+use Rattle.flow_excise.specs.Tally.{IsCountedTo}
 use Rattle.flow_excise.proofs.TallyLemmas.{counted_more}
 use Rattle.flow_excise.proofs.tally.tally_block.Goals as goal
 

@@ -1,8 +1,8 @@
 use Rattle.std.proofs.Common.{◌+◌}
 use Rattle.flow_model.specs.Ways.{Normal}
 use Rattle.flow_rules.specs.EventLeaves.{IsBlank}
-use Rattle.flow_excise.specs.Blocks.{HasWays}
-use Rattle.flow_excise.specs.Tallies.{IsCountedTo}
+use Rattle.flow_excise.specs.Block.{HasWays}
+use Rattle.flow_excise.specs.Tally.{IsCountedTo}
 use Rattle.flow_excise.proofs.tally.tally_block.Given as goal
 
 abbrev pub invariant-loop-lane : goal.invariant-loop-lane

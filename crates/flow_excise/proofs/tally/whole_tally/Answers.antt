@@ -3,7 +3,7 @@ use Rattle.std.specs.List.{flat_map}
 use Rattle.flow_model.specs.Resolution.{resolution_count}
 use Rattle.flow_rules.specs.Conjunction.{normal_in}
 use Rattle.flow_excise.specs.Options.{has_ways, options_by}
-use Rattle.flow_excise.specs.Tallies.{IsCountedTo, tally_of}
+use Rattle.flow_excise.specs.Tally.{IsCountedTo, tally_of}
 use Rattle.flow_excise.proofs.BlockLemmas.{block_end, last_block, more_blocks}
 use Rattle.flow_excise.proofs.TallyLemmas.{counted_same}
 use Rattle.flow_excise.proofs.tally.whole_tally.Goals as goal

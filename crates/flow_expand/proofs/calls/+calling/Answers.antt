@@ -3,7 +3,7 @@ use Rattle.std.proofs.lemmas.List.{take_all}
 use Rattle.flow_form.specs.Form.{shapes, shape_of}
 use Rattle.flow_form.specs.Names.{names_in_each}
 use Rattle.flow_expand.specs.Calls.{calls_in}
-use Rattle.flow_expand.proofs.SettleLemmas.{calls_more}
+use Rattle.flow_expand.proofs.SettlementLemmas.{calls_more}
 use Rattle.flow_expand.proofs.calls.+calling.Goals as goal
 
 pub push_all_calls-loop-form-preserved : goal.push_all_calls-loop-form-preserved

@@ -6,7 +6,7 @@ use Rattle.std.proofs.lemmas.Option.{slice_get_within}
 use Rattle.flow_expand.specs.Directory.{decls_of}
 use Rattle.flow_expand.specs.Steps.{flow_names}
 use Rattle.flow_expand.proofs.Declarations.{distinct_flows}
-use Rattle.flow_expand.proofs.SettleLemmas.{path_chain}
+use Rattle.flow_expand.proofs.SettlementLemmas.{path_chain}
 use Rattle.flow_expand.proofs.chain.chain_of.Goals as goal
 
 pub returns : goal.returns

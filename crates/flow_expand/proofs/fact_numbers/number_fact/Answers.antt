@@ -1,5 +1,5 @@
 use Rattle.flow_expand.proofs.LayLemmas.{ok_to}
-use Rattle.flow_expand.proofs.BuildLemmas.{added_with, number_at}
+use Rattle.flow_expand.proofs.LeavesLemmas.{added_with, number_at}
 use Rattle.flow_expand.proofs.fact_numbers.number_fact.Goals as goal
 
 pub returns-clause-facts : goal.returns-clause-facts

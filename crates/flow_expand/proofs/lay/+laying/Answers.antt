@@ -8,7 +8,7 @@ use Rattle.flow_form.proofs.form.Form.TheLaws.{the_size}
 use Rattle.std.specs.Result.{IfOk}
 use Rattle.flow_expand.specs.Expansion.{becomes_nop, becomes_test, becomes_absent, becomes_ins, becomes_del}
 use Rattle.flow_expand.specs.Directory.{decls_of}
-use Rattle.flow_expand.specs.Laid.{IsFront, Goes}
+use Rattle.flow_expand.specs.Lay.{IsFront, Goes}
 use Rattle.flow_expand.proofs.LayLemmas.{ok_to, goes_plain, goes_iso, laid_more, begins_twice, front_more, list_step}
 use Rattle.flow_expand.proofs.lay.+laying.Goals as goal
 

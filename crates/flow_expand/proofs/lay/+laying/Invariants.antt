@@ -2,7 +2,7 @@ use Rattle.std.proofs.Common.{take, map}
 use Rattle.flow_model.specs.Lists.{Begins}
 use Rattle.flow_form.specs.Form.{shape_of}
 use Rattle.flow_expand.specs.Directory.{decls_of}
-use Rattle.flow_expand.specs.Laid.{IsFront, IsLaid}
+use Rattle.flow_expand.specs.Lay.{IsFront, IsLaid}
 use Rattle.flow_expand.proofs.lay.+laying.Given as goal
 
 abbrev pub invariant-lay_list-loop-place : goal.invariant-lay_list-loop-place

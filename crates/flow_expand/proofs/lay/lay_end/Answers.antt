@@ -1,7 +1,7 @@
 use Rattle.std.proofs.Common.{subst, refl}
 use Rattle.flow_form.specs.Names.{event_names}
 use Rattle.flow_expand.specs.Expansion.{nothing}
-use Rattle.flow_expand.specs.Laid.{IsFront}
+use Rattle.flow_expand.specs.Lay.{IsFront}
 use Rattle.flow_expand.proofs.LayLemmas.{end_some, end_none, ok_to}
 use Rattle.flow_expand.proofs.lay.lay_end.Goals as goal
 

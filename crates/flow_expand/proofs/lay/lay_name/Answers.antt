@@ -3,7 +3,7 @@ use Rattle.flow_form.specs.Form.{named}
 use Rattle.flow_form.specs.Names.{event_names}
 use Rattle.flow_expand.specs.Expansion.{happens, becomes_event}
 use Rattle.flow_expand.specs.Directory.{decls_of}
-use Rattle.flow_expand.proofs.Members.{mem_at}
+use Rattle.flow_model.proofs.Lists.{mem-slice_get}
 use Rattle.flow_expand.proofs.LayLemmas.{goes_flow, goes_plain}
 use Rattle.flow_expand.proofs.lay.lay_name.Goals as goal
 
@@ -16,5 +16,5 @@ returns-clause-ok c =
     let events = event_names (decls_of c.args.directory.now) in
     let n = c.args.name.now in
     let at : slice_get events c.in-Some-number_of.number ≡ Some n = ap (λ l. slice_get l c.in-Some-number_of.number) (sym c.requires.laid.directory.events) ∙ c.in-Some-number_of.ensures.found in
-    goes_plain c.put_end.result _ (decls_of c.args.directory.now) c.put_end.new.layout.items (named n) (named n) (happens n) refl (becomes_event (mem_at events c.in-Some-number_of.number n at))
+    goes_plain c.put_end.result _ (decls_of c.args.directory.now) c.put_end.new.layout.items (named n) (named n) (happens n) refl (becomes_event (mem-slice_get events c.in-Some-number_of.number n at))
     (λ root put. put events (happens n) (n, refl, at)) c.put_end.ensures.ok

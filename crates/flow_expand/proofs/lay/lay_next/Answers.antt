@@ -1,5 +1,5 @@
 use Rattle.std.proofs.Common.{subst}
-use Rattle.flow_expand.specs.Laid.{IsFront}
+use Rattle.flow_expand.specs.Lay.{IsFront}
 use Rattle.flow_expand.proofs.LayLemmas.{next_first, next_more, ok_to}
 use Rattle.flow_expand.proofs.lay.lay_next.Goals as goal
 

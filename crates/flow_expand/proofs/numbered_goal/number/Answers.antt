@@ -1,14 +1,14 @@
-use Rattle.std.proofs.Common.{◌≡◌, ◌<◌, ◌^◌, ◌∙◌, List, [], ap, map, length, subst, sym}
-use Rattle.flow_model.specs.Lists.{numbers_from, AreDistinct}
+use Rattle.std.proofs.Common.{◌≡◌, ◌∙◌, List, [], ap, map}
+use Rattle.flow_model.specs.Lists.{numbers_from}
 use Rattle.flow_form.specs.declared.script.Decl.{Decl}
 use Rattle.flow_form.specs.declared.script.Script.{Script}
 use Rattle.flow_form.specs.Script.{declared, said}
 use Rattle.flow_form.specs.Names.{event_names}
 use Rattle.flow_goal.specs.Goal.{process_of}
-use Rattle.flow_expand.specs.declared.building.Leaves.{Leaves}
+use Rattle.flow_expand.specs.declared.leaves.Leaves.{Leaves}
 use Rattle.flow_expand.specs.Numbers.{firsts, declared_facts}
 use Rattle.flow_expand.proofs.Declarations.{distinct_events}
-use Rattle.flow_expand.proofs.BuildLemmas.{IsStart, start_buildable, goal_few, numbered_goal}
+use Rattle.flow_expand.proofs.LeavesLemmas.{IsStart, start_buildable, goal_few, numbered_goal}
 use Rattle.flow_expand.proofs.numbered_goal.number.Goals as goal
 
 -- before the goal is built
@@ -38,10 +38,4 @@ returns c =
     (started c.args.script.now c.deref.result.now old c.in_ok-facts.ensures c.deref.ensures.value c.new-labels.ensures.items)
     (c.in_ok-goal.ensures (event_names s.decls) c.requires.prepared.expansion (distinct_events s.decls c.requires.closed.named.once) c.requires.prepared.placed)
     c.args.laid.now.layout.items c.args.laid.now.root.place (record { facts = c.new-facts.result; held = c.in_ok-held.held; tree = c.tree_of-tree.result }) c.requires.prepared.placed
-    (c.new-facts.ensures ∙ c.into_keys.ensures.keys) (c.in_ok-held.ensures ∙ ap (numbers_from 0) c.count.ensures) c.tree_of-tree.ensures.process c.tree_of-tree.ensures.labels
-
-pub new-facts-requires-clause-few : goal.new-facts-requires-clause-few
-new-facts-requires-clause-few c = subst (λ facts. length facts < 2 ^ 32) (sym c.into_keys.ensures.keys) c.into_keys.ensures.few
-
-pub new-facts-requires-clause-distinct : goal.new-facts-requires-clause-distinct
-new-facts-requires-clause-distinct c = subst AreDistinct (sym c.into_keys.ensures.keys) c.into_keys.ensures.distinct
+    c.new-facts.ensures (c.in_ok-held.ensures ∙ ap (numbers_from 0) c.count.ensures) c.tree_of-tree.ensures.process c.tree_of-tree.ensures.labels

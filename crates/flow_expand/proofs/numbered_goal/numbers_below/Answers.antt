@@ -1,6 +1,6 @@
 use Rattle.std.proofs.Common.{◌≡◌, ◌∷◌, [], ◌++◌, ◌+◌, suc, sym, ap, ◌∙◌, arith}
 use Rattle.flow_model.specs.Lists.{numbers_from}
-use Rattle.flow_laws.proofs.MadeLists.{numbers_from_more}
+use Rattle.flow_model.proofs.MadeLists.{numbers_from_more}
 use Rattle.flow_expand.proofs.numbered_goal.numbers_below.Goals as goal
 
 pub loop-number-preserved : goal.loop-number-preserved

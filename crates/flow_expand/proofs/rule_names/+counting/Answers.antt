@@ -1,5 +1,5 @@
 use Rattle.std.proofs.Common.{◌∙◌}
-use Rattle.flow_expand.proofs.PrepareLemmas.{count_more}
+use Rattle.flow_expand.proofs.LaidGoalLemmas.{count_more}
 use Rattle.flow_expand.proofs.rule_names.+counting.Goals as goal
 
 pub count_names-loop-rule-preserved : goal.count_names-loop-rule-preserved

@@ -2,7 +2,7 @@ use Rattle.std.proofs.Common.{ℕ, List, ◌++◌, ◌∙◌, ap, sym, subst, On
 use Rattle.std.proofs.lemmas.Result.{IfOk-weaker}
 use Rattle.flow_goal.specs.declared.goal.Goal.{Goal}
 use Rattle.flow_goal.specs.Goal.{process_of}
-use Rattle.flow_goal.specs.Patterns.{Lays, Line, lines_in}
+use Rattle.flow_goal.specs.Pattern.{Lays, Line, lines_in}
 use Rattle.flow_goal.proofs.PatternLemmas.{choice_lines, isolated_laid, laid_first, parallel_laid, sequence_laid}
 use Rattle.flow_goal.proofs.Counting.{goal_size}
 use Rattle.flow_goal.proofs.Writing.{ok_taken}

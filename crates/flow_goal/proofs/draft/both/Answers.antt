@@ -2,7 +2,7 @@ use Rattle.std.proofs.Common.{length, sym, ap, subst, ◌∙◌}
 use Rattle.flow_model.specs.Lists.{each_with_each}
 use Rattle.flow_goal.specs.declared.pattern.Pattern.{Pattern}
 use Rattle.flow_goal.specs.Capped.{capped}
-use Rattle.flow_goal.specs.Patterns.{IsCounted, lines_of, then}
+use Rattle.flow_goal.specs.Pattern.{IsCounted, lines_of, then}
 use Rattle.flow_goal.proofs.PatternLemmas.{both_counted}
 use Rattle.flow_goal.proofs.draft.both.Goals as goal
 

@@ -1,5 +1,5 @@
 use Rattle.std.proofs.Common.{rules, ℕ, ◌<◌, true≢false, length, arith, refl}
-use Rattle.flow_goal.specs.Repeated.{HoldsNoneFrom}
+use Rattle.flow_goal.specs.Repeats.{HoldsNoneFrom}
 use Rattle.flow_goal.proofs.Repetitions.{first_of_all, not_unique, unique}
 use Rattle.flow_goal.proofs.events.twice.Goals as goal
 

@@ -1,5 +1,5 @@
 use Rattle.std.proofs.Common.{◌<◌, ℕ}
-use Rattle.flow_goal.specs.Repeated.{HoldsNoneFrom}
+use Rattle.flow_goal.specs.Repeats.{HoldsNoneFrom}
 use Rattle.flow_goal.proofs.events.twice.Given as goal
 
 abbrev pub invariant-loop-first : goal.invariant-loop-first

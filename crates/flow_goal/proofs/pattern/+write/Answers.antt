@@ -1,6 +1,6 @@
 use Rattle.std.proofs.Common.{◌≡◌, ◌<◌, ◌++◌, [], ◌∷◌, slice_get, length, sym, ap, ◌∙◌, subst, rules, arith}
 use Rattle.flow_model.specs.Lists.{each_with_each}
-use Rattle.flow_goal.specs.Patterns.{IsCounted, Writes, line_of, lines_of, then}
+use Rattle.flow_goal.specs.Pattern.{IsCounted, Writes, line_of, lines_of, then}
 use Rattle.flow_goal.specs.Capped.{capped}
 use Rattle.flow_goal.proofs.PatternLemmas.{split, wrote_both, wrote_left, wrote_right}
 use Rattle.flow_goal.proofs.Writing.{ok_taken}

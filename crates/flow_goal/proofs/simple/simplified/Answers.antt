@@ -4,7 +4,7 @@ use Rattle.flow_model.specs.Process.{IsChoiceFree, leaves}
 use Rattle.flow_goal.specs.Goal.{process_of}
 use Rattle.flow_goal.specs.Simple.{IsSimplified}
 use Rattle.flow_goal.proofs.PatternLemmas.{lines_count}
-use Rattle.flow_goal.proofs.Simpler.{only_at, only_count, simplified_as}
+use Rattle.flow_goal.proofs.SimpleLemmas.{only_at, only_count, simplified_as}
 use Rattle.flow_goal.proofs.simple.simplified.Goals as goal
 
 pub written-text-requires-clause-numbered : goal.written-text-requires-clause-numbered

@@ -1,6 +1,6 @@
 use Rattle.flow_model.specs.Process.{Sequence, Parallel}
 use Rattle.flow_model.specs.Resolution.{resolutions}
-use Rattle.flow_laws.proofs.MadeLists.{slice_get_append_left}
+use Rattle.flow_model.proofs.Lists.{slice_get_append_left}
 use Rattle.flow_laws.proofs.TraceLeaves.{leaf_of_trace, leaf_in_trace}
 use Rattle.flow_laws.proofs.ResolutionsLemmas.{blocks_of_a_resolution, blocks_of_goal, resolves_of, mem-resolutions, length-resolutions, number_of_both, number_of_right, goal_trace, resolution_trace, choice_free_resolution}
 use Rattle.flow_laws.proofs.OptionsLemmas.{option_is_ordered}

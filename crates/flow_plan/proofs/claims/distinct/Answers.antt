@@ -1,7 +1,7 @@
 use Rattle.std.proofs.Common.{◌<◌, ℕ, get_or, sym, ◌∙◌}
 use Rattle.std.proofs.lemmas.Bool.{true≢false}
 use Rattle.flow_model.specs.declared.limits.TheConstants.{MOST_LEAVES}
-use Rattle.flow_laws.proofs.Members.{each_member}
+use Rattle.flow_model.proofs.Lists.{each_member}
 use Rattle.flow_plan.proofs.PlaceLemmas.{may_ask, read_member}
 use Rattle.flow_plan.proofs.PartLemmas.{leaf_more}
 use Rattle.flow_plan.proofs.Together.{distinct_more, twice_there}

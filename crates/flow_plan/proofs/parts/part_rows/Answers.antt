@@ -2,8 +2,7 @@ use Rattle.std.proofs.Common.{◌<◌, ◌∙◌, ap, length, sym, get_or, refl,
 use Rattle.std.proofs.lemmas.Option.{slice_get-get_or}
 use Rattle.flow_model.specs.declared.limits.TheConstants.{MOST_LEAVES}
 use Rattle.flow_model.specs.Lists.{◌∈◌}
-use Rattle.flow_model.proofs.Lists.{mem-slice_get}
-use Rattle.flow_laws.proofs.Members.{each_member}
+use Rattle.flow_model.proofs.Lists.{mem-slice_get, each_member}
 use Rattle.flow_plan.specs.declared.span.Span.{Span}
 use Rattle.flow_plan.specs.Parts.{ArePartsFor}
 use Rattle.flow_plan.proofs.PartLemmas.{parts_of_spans, spans_fit, spans_long}

@@ -5,9 +5,9 @@ use Rattle.leaf_rows.specs.Leaves.{has_leaf}
 use Rattle.leaf_rows.specs.declared.leaf_set.LeafSet.{LeafSet}
 use Rattle.flow_model.specs.Lists.{◌∈◌}
 use Rattle.flow_model.specs.Ready.{DirectlyBefore}
-use Rattle.flow_laws.proofs.Members.{each_member}
+use Rattle.flow_model.proofs.Lists.{each_member}
 use Rattle.flow_plan.specs.Progress.{IsDone, bound_of}
-use Rattle.flow_plan.specs.Rows.{IsRowOf, IsFree}
+use Rattle.flow_plan.specs.Rows.{IsRowOf, IsDue}
 use Rattle.flow_plan.proofs.PlaceLemmas.{read_member}
 use Rattle.flow_plan.proofs.RowLemmas.{rows_get}
 use Rattle.flow_plan.proofs.StepRows.{free_more}
@@ -34,7 +34,7 @@ pub loop-place-preserved : goal.loop-place-preserved
 loop-place-preserved c = λ q pairs are.
     let ns = c.args.leaves.now in
     let i = c.loop-place.place in
-    let F : ℕ → Type 0 = IsFree (DirectlyBefore q pairs) (IsDone c.args.done.now) in
+    let F : ℕ → Type 0 = IsDue (DirectlyBefore q pairs) (IsDone c.args.done.now) in
     let row = c.index-before-place.result in
     let row_is = rows_get (DirectlyBefore q pairs) ns c.args.before.now i (get_or ns i 0) row row (slice_get-get_or ns i 0 c.loop-place-test.true) c.index-before-place.is are in
     let says : IsTrue c.frees.result ↔ F (get_or ns i 0) = (
@@ -49,5 +49,5 @@ loop-place-preserved c = λ q pairs are.
 
 pub returns : goal.returns
 returns c = λ q pairs are.
-    subst (λ (l : List ℕ). IsRowOf (λ n. (n ∈ l) × IsFree (DirectlyBefore q pairs) (IsDone c.args.done.now) n) c.loop-place.row)
+    subst (λ (l : List ℕ). IsRowOf (λ n. (n ∈ l) × IsDue (DirectlyBefore q pairs) (IsDone c.args.done.now) n) c.loop-place.row)
     (take_all c.loop-place.place c.args.leaves.now c.loop-place-test.false) (c.loop-place.invariant q pairs are)

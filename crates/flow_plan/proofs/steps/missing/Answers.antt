@@ -1,7 +1,7 @@
 use Rattle.std.proofs.Common.{IsTrue, sym, ◌∙◌, true≢false}
 use Rattle.leaf_rows.specs.Leaves.{has_leaf}
 use Rattle.flow_plan.specs.Parts.{PartAllows}
-use Rattle.flow_laws.proofs.Members.{each_member}
+use Rattle.flow_model.proofs.Lists.{each_member}
 use Rattle.flow_plan.proofs.StepRows.{each_part_more, part_at}
 use Rattle.flow_plan.proofs.steps.missing.Goals as goal
 

@@ -13,6 +13,6 @@ pub returns-in_ok-push-in_default : goal.returns-in_ok-push-in_default
 returns-in_ok-push-in_default c =
     let said = ap₂ atom c.new-fact.ensures.relation (c.new-fact.ensures.args ∙ c.new-in_default.ensures.items) in
     subst (λ made. IfOk c.join_atom.result (λ step. goal_step c.join_atom.new.stack step ≡ made))
-    (atom_ended (prefix_of c.args.prefix) c.args.relation _ _ _ c.args.symbol c.in_default.not-Opening
-    (c.in_ok-push-in_default.ensures ∙ ap (machine.push (level_of c.args.stack.now.level)) (c.form.ensures ∙ ap (prefixed (prefix_of c.args.prefix)) said)))
+    (atom_ended (prefix_of c.args.deed) c.args.relation _ _ _ c.args.symbol c.in_default.not-Opening
+    (c.in_ok-push-in_default.ensures ∙ ap (machine.push (level_of c.args.stack.now.level)) (c.leaf.ensures ∙ ap (prefixed (prefix_of c.args.deed)) said)))
     c.join_atom.ensures

@@ -5,8 +5,8 @@ use Rattle.std.proofs.lemmas.Option.{slice_get-get_or}
 use Rattle.flow_model.specs.declared.history.Entry.{Entry}
 use Rattle.flow_model.specs.declared.history.Step.TheVariants.{Took}
 use Rattle.flow_record.specs.History.{IsSmall, entry_line, history_text, history_of}
-use Rattle.flow_record.proofs.Histories.{history_there}
-use Rattle.flow_record.proofs.Flat.{flat_more, flat_all}
+use Rattle.flow_record.proofs.HistoryLemmas.{history_there}
+use Rattle.flow_record.proofs.PieceLemmas.{flat_more, flat_all}
 use Rattle.flow_record.proofs.history.print_history.Goals as goal
 
 pub loop-entry-preserved : goal.loop-entry-preserved

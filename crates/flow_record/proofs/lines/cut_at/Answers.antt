@@ -1,6 +1,6 @@
 use Rattle.std.proofs.Common.{add-one, refl, sym, ◌∙◌}
 use Rattle.std.proofs.lemmas.List.{take_rest}
-use Rattle.flow_record.proofs.Pieces.{cut_at_place}
+use Rattle.flow_record.proofs.LineLemmas.{cut_at_place}
 use Rattle.flow_record.proofs.lines.cut_at.Goals as goal
 
 pub returns-in-Some : goal.returns-in-Some

@@ -1,4 +1,4 @@
-use Rattle.flow_record.proofs.FirstLine.{split_at_feed, unsplit}
+use Rattle.flow_record.proofs.LineLemmas.{split_at_feed, unsplit}
 use Rattle.flow_record.proofs.lines.split_line.Goals as goal
 
 pub returns-in-Some-clause-lines : goal.returns-in-Some-clause-lines

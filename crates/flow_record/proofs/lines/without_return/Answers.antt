@@ -1,4 +1,4 @@
-use Rattle.flow_record.proofs.FirstLine.{with_return, with_no_return}
+use Rattle.flow_record.proofs.LineLemmas.{with_return, with_no_return}
 use Rattle.flow_record.proofs.lines.without_return.Goals as goal
 
 pub returns-then-last-eq13 : goal.returns-then-last-eq13

@@ -1,6 +1,6 @@
 use Rattle.std.proofs.Common.{◌<◌, ◌≤◌, length, sym, ◌∙◌, refl, rules, arith}
 use Rattle.std.proofs.lemmas.List.{drop_all}
-use Rattle.flow_record.proofs.Numbers.{read_number, read_more}
+use Rattle.flow_record.proofs.NumberLemmas.{read_number, read_more}
 use Rattle.flow_record.proofs.number.read_number.Goals as goal
 
 pub returns-in_err-value : goal.returns-in_err-value

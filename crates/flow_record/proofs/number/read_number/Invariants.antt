@@ -1,5 +1,5 @@
 use Rattle.std.proofs.Common.{◌≡◌, drop}
-use Rattle.flow_record.proofs.Numbers.{read_from}
+use Rattle.flow_record.proofs.NumberLemmas.{read_from}
 use Rattle.flow_record.proofs.number.read_number.Given as goal
 
 abbrev pub invariant-loop-byte : goal.invariant-loop-byte

@@ -1,7 +1,7 @@
 use Rattle.std.proofs.Common.{◌≡◌, ◌<◌, ◌≤◌, length, ◌∙◌, ap, rules, arith}
 use Rattle.flow_model.specs.declared.limits.TheConstants.{MOST_LINES}
 use Rattle.flow_record.specs.Session.{bad_line}
-use Rattle.flow_record.proofs.Sessions.{too_many}
+use Rattle.flow_record.proofs.SessionLemmas.{too_many}
 use Rattle.flow_record.proofs.session.read_session.Goals as goal
 
 pub returns-then-number-ge-MOST_LINES-clause-bad : goal.returns-then-number-ge-MOST_LINES-clause-bad

@@ -1,7 +1,7 @@
 use Rattle.std.proofs.Common.{◌≤◌, length}
 use Rattle.flow_model.specs.declared.limits.TheConstants.{MOST_LINES}
 use Rattle.flow_record.specs.Session.{session_of}
-use Rattle.flow_record.proofs.Sessions.{IsReadTo}
+use Rattle.flow_record.proofs.SessionLemmas.{IsReadTo}
 use Rattle.flow_record.proofs.session.read_session.Given as goal
 
 abbrev pub decreases-loop-rest : goal.decreases-loop-rest

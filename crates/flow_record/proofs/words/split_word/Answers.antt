@@ -1,5 +1,5 @@
 use Rattle.std.proofs.Common.{refl}
-use Rattle.flow_record.proofs.FirstWord.{split_word}
+use Rattle.flow_record.proofs.WordLemmas.{split_word}
 use Rattle.flow_record.proofs.words.split_word.Goals as goal
 
 pub returns : goal.returns

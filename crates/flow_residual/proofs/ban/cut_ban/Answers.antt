@@ -1,5 +1,5 @@
 use Rattle.std.proofs.Common.{◌<◌, subst, arith}
-use Rattle.flow_residual.specs.Tracks.{IsLeastBan}
+use Rattle.flow_residual.specs.Track.{IsLeastBan}
 use Rattle.flow_residual.proofs.BanLemmas.{cut_none, cut_stays, cut_goes}
 use Rattle.flow_residual.proofs.ban.cut_ban.Goals as goal
 

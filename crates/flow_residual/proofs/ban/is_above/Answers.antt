@@ -1,6 +1,6 @@
 use Rattle.std.proofs.Common.{refl, subst}
 use Rattle.std.proofs.lemmas.Bool.{ltb-true, lt-ltb}
-use Rattle.flow_residual.specs.Tracks.{IsLeastBan}
+use Rattle.flow_residual.specs.Track.{IsLeastBan}
 use Rattle.flow_residual.proofs.BanLemmas.{above_none, above_some}
 use Rattle.flow_residual.proofs.ban.is_above.Goals as goal
 

@@ -1,6 +1,6 @@
 use Rattle.std.proofs.Common.{ℕ, true≢false, ◌++◌, [], ◌∷◌, Some, sym, ◌∙◌, subst}
 use Rattle.flow_plan.specs.Options.{option_of}
-use Rattle.flow_residual.specs.Tracks.{IsLeastBan}
+use Rattle.flow_residual.specs.Track.{IsLeastBan}
 use Rattle.flow_residual.proofs.BanLemmas.{ban_elsewhere, ban_first, ban_lesser}
 use Rattle.flow_residual.proofs.ban.with_ban.Goals as goal
 

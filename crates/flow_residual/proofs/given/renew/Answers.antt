@@ -1,5 +1,5 @@
 use Rattle.std.proofs.Common.{◌∙◌, ◌<◌, length, get_or, sym, subst}
-use Rattle.flow_laws.proofs.Members.{each_member}
+use Rattle.flow_model.proofs.Lists.{each_member}
 use Rattle.flow_plan.proofs.PlaceLemmas.{read_member}
 use Rattle.flow_residual.proofs.Renewing.{renewed_one}
 use Rattle.flow_residual.proofs.given.renew.Goals as goal

@@ -1,7 +1,7 @@
 use Rattle.std.proofs.Common.{nat_le, take, sym, subst}
 use Rattle.std.specs.List.{filter}
 use Rattle.flow_plan.specs.Options.{option_of}
-use Rattle.flow_residual.specs.Tracks.{IsFront}
+use Rattle.flow_residual.specs.Track.{IsFront}
 use Rattle.flow_residual.proofs.FrontLemmas.{front_cut}
 use Rattle.flow_residual.proofs.track.after.Goals as goal
 

@@ -1,6 +1,6 @@
 use Rattle.std.proofs.Common.{◌≤◌, ◌<◌, length, None, arith}
 use Rattle.flow_plan.specs.Options.{options_of}
-use Rattle.flow_residual.specs.Tracks.{IsTrack, journal_after, bans_after}
+use Rattle.flow_residual.specs.Track.{IsTrack, journal_after, bans_after}
 use Rattle.flow_residual.proofs.OptionLemmas.{fits_at, turned_none, turned_by, turned_all}
 use Rattle.flow_residual.proofs.track.follow.Goals as goal
 

@@ -1,7 +1,7 @@
 use Rattle.std.proofs.Common.{ℕ, List}
 use Rattle.flow_plan.specs.Options.{options_of}
 use Rattle.flow_residual.specs.Options.{EachHas}
-use Rattle.flow_residual.specs.Tracks.{IsTrack, journal_after, bans_after}
+use Rattle.flow_residual.specs.Track.{IsTrack, journal_after, bans_after}
 use Rattle.flow_residual.proofs.OptionLemmas.{AreTurned}
 use Rattle.flow_residual.proofs.track.follow.Given as goal
 

@@ -1,7 +1,7 @@
 use Rattle.std.proofs.Common.{true≢false, sym, ◌∙◌}
 use Rattle.flow_plan.specs.Options.{option_of}
 use Rattle.flow_residual.proofs.FrontLemmas.{front_longer, front_same}
-use Rattle.flow_residual.proofs.PossibleLemmas.{next_of_option}
+use Rattle.flow_residual.proofs.QuestionLemmas.{next_of_option}
 use Rattle.flow_residual.proofs.track.lengthened.Goals as goal
 
 pub returns-then-front-journal : goal.returns-then-front-journal

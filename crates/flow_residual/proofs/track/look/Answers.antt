@@ -3,7 +3,7 @@ use Rattle.std.proofs.lemmas.List.{get_or_default}
 use Rattle.flow_plan.specs.Planned.{Planned}
 use Rattle.flow_residual.specs.declared.track.Track.{Track}
 use Rattle.flow_plan.specs.Options.{options_of, option_of}
-use Rattle.flow_residual.specs.Tracks.{IsFront, IsNextRow}
+use Rattle.flow_residual.specs.Track.{IsFront, IsNextRow}
 use Rattle.flow_residual.proofs.OptionLemmas.{fits_at, plan_at, length-options, turned_none, turned_by, turned_all}
 use Rattle.flow_residual.proofs.track.look.Goals as goal
 

@@ -1,5 +1,5 @@
 use Rattle.flow_plan.specs.Options.{options_of}
-use Rattle.flow_residual.specs.Tracks.{IsNextRow}
+use Rattle.flow_residual.specs.Track.{IsNextRow}
 use Rattle.flow_residual.proofs.OptionLemmas.{AreTurned}
 use Rattle.flow_residual.proofs.track.look.Given as goal
 

@@ -1,7 +1,7 @@
 use Rattle.leaf_rows.specs.Leaves.{has_leaf}
 use Rattle.flow_plan.specs.Options.{option_of}
 use Rattle.flow_residual.proofs.FrontLemmas.{ready_whole}
-use Rattle.flow_residual.proofs.PossibleLemmas.{next_of_option, in_words}
+use Rattle.flow_residual.proofs.QuestionLemmas.{next_of_option, in_words}
 use Rattle.flow_residual.proofs.track.looked.Goals as goal
 
 pub returns-then-front-journal : goal.returns-then-front-journal

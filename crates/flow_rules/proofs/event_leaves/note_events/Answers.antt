@@ -3,7 +3,7 @@ use Rattle.std.specs.Option.{option_or}
 use Rattle.std.proofs.lemmas.List.{take_all}
 use Rattle.flow_model.specs.Ways.{leaf_of_event}
 use Rattle.flow_rules.specs.EventLeaves.{leaf_in}
-use Rattle.flow_rules.specs.Rooms.{HasRoom}
+use Rattle.flow_rules.specs.Room.{HasRoom}
 use Rattle.flow_rules.proofs.LeafLemmas.{noted_more, room_at}
 use Rattle.flow_rules.proofs.event_leaves.note_events.Goals as goal
 

@@ -2,7 +2,7 @@ use Rattle.std.proofs.Common.{◌≡◌, ℕ, length, take}
 use Rattle.std.specs.Option.{option_or}
 use Rattle.flow_model.specs.Ways.{leaf_of_event}
 use Rattle.flow_rules.specs.EventLeaves.{leaf_in}
-use Rattle.flow_rules.specs.Rooms.{HasRoom}
+use Rattle.flow_rules.specs.Room.{HasRoom}
 use Rattle.flow_rules.proofs.event_leaves.note_events.Given as goal
 
 abbrev pub invariant-loop-leaf : goal.invariant-loop-leaf

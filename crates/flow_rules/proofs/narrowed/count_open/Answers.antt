@@ -1,10 +1,10 @@
 use Rattle.std.proofs.Common.{take, sym, ap, ◌∙◌}
 use Rattle.flow_model.specs.Ways.{ways}
-use Rattle.flow_rules.specs.Counts.{count_of, counts_of_both}
+use Rattle.flow_rules.specs.WayCount.{count_of, counts_of_both}
 use Rattle.flow_rules.specs.EventLeaves.{leaf_in}
 use Rattle.flow_rules.specs.Narrowed.{open_ways}
 use Rattle.flow_rules.specs.Normal.{normal_of}
-use Rattle.flow_rules.proofs.CountLemmas.{count_both}
+use Rattle.flow_rules.proofs.WayCountLemmas.{count_both}
 use Rattle.flow_rules.proofs.NarrowLemmas.{open_more, closed_more}
 use Rattle.flow_rules.proofs.narrowed.count_open.Goals as goal
 use Rattle.flow_rules.proofs.narrowed.count_open.Goals.{then-has_lane, else-has_lane}

@@ -1,5 +1,5 @@
 use Rattle.std.proofs.Common.{◌≡◌, take}
-use Rattle.flow_rules.specs.Counts.{count_of}
+use Rattle.flow_rules.specs.WayCount.{count_of}
 use Rattle.flow_rules.specs.EventLeaves.{leaf_in}
 use Rattle.flow_rules.specs.Narrowed.{open_ways}
 use Rattle.flow_rules.proofs.narrowed.count_open.Given as goal

@@ -1,6 +1,6 @@
 use Rattle.std.proofs.Common.{◌∙◌, ap, subst, true, false, arith}
 use Rattle.std.proofs.lemmas.List.{take_all}
-use Rattle.flow_rules.specs.declared.connective.Connective.TheVariants.{And}
+use Rattle.flow_model.specs.declared.operators.Connective.TheVariants.{And}
 use Rattle.flow_rules.specs.Narrowed.{AreFreeTo}
 use Rattle.flow_rules.specs.WayLists.{is_none, ways_of_parts}
 use Rattle.flow_rules.proofs.NarrowLemmas.{frees_more}

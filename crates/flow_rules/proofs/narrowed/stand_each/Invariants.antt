@@ -1,5 +1,5 @@
 use Rattle.std.proofs.Common.{take}
-use Rattle.flow_rules.specs.declared.connective.Connective.TheVariants.{And}
+use Rattle.flow_model.specs.declared.operators.Connective.TheVariants.{And}
 use Rattle.flow_rules.specs.Narrowed.{AreFreeTo}
 use Rattle.flow_rules.specs.Standing.{Stands}
 use Rattle.flow_rules.specs.WayLists.{ways_of_parts}

@@ -1,4 +1,4 @@
-use Rattle.flow_rules.specs.Rooms.{HasRoomTo}
+use Rattle.flow_rules.specs.Room.{HasRoomTo}
 use Rattle.flow_rules.proofs.room.room_for.Given as goal
 
 abbrev pub invariant-loop-leaf : goal.invariant-loop-leaf

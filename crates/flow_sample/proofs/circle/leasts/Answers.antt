@@ -1,7 +1,7 @@
 use Rattle.std.proofs.Common.{◌<◌, arith, List, length, ℕ, ◌++◌, ◌∷◌, [], ◌∙◌, ap, map, sym, get_or}
 use Rattle.std.proofs.lemmas.List.{take_all}
 use Rattle.flow_model.specs.Lists.{Each}
-use Rattle.flow_laws.proofs.Members.{each_member}
+use Rattle.flow_model.proofs.Lists.{each_member}
 use Rattle.flow_plan.proofs.PlaceLemmas.{read_member}
 use Rattle.flow_sample.specs.Rows.{least_at, least_in}
 use Rattle.flow_sample.proofs.OrderLemmas.{read_more}

@@ -1,6 +1,6 @@
 use Rattle.std.proofs.Common.{◌++◌, ◌∙◌, ◌<◌, ap, arith, get_or, length, sym}
 use Rattle.std.proofs.lemmas.List.{take_all}
-use Rattle.flow_laws.proofs.Members.{each_member}
+use Rattle.flow_model.proofs.Lists.{each_member}
 use Rattle.flow_plan.proofs.PlaceLemmas.{read_member}
 use Rattle.flow_sample.specs.Rows.{runs}
 use Rattle.flow_sample.proofs.OrderLemmas.{runs_more}

@@ -1,7 +1,7 @@
 use Rattle.std.proofs.Common.{ap, sym, ◌∙◌, subst, ◌≡◌, map}
 use Rattle.std.specs.Prelude.{Some}
 use Rattle.flow_form.specs.Script.{said, asked, declared}
-use Rattle.flow_text.specs.ListedNames.{roles_of}
+use Rattle.flow_text.specs.Named.{roles_of}
 use Rattle.flow_text.specs.KnownNames.{KnowsThose}
 use Rattle.flow_text.proofs.FirstNames.{not_err, not_repeated, same_unknown, query_unknown, query_good}
 use Rattle.flow_text.proofs.names.check_query.Goals as goal

@@ -2,7 +2,7 @@ use Rattle.std.proofs.Common.{ap, sym, ◌∙◌, subst, ◌≡◌, map}
 use Rattle.std.specs.Prelude.{Some}
 use Rattle.std.specs.List.{position_from}
 use Rattle.flow_form.specs.Script.{said, declared}
-use Rattle.flow_text.specs.ListedNames.{roles_of}
+use Rattle.flow_text.specs.Named.{roles_of}
 use Rattle.flow_text.specs.KnownNames.{KnowsThose}
 use Rattle.flow_text.proofs.FirstNames.{not_err, not_repeated, not_unknown, same_repeated, same_unknown, found_repeated, script_repeated, script_unknown, script_good, is_other, none_of}
 use Rattle.flow_text.proofs.names.check_script.Goals as goal

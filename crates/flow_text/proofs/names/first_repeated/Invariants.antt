@@ -1,5 +1,5 @@
 use Rattle.std.proofs.Common.{◌≡◌, drop}
-use Rattle.flow_text.specs.ListedNames.{roles_of}
+use Rattle.flow_text.specs.Named.{roles_of}
 use Rattle.flow_text.specs.KnownNames.{has, no_names, repeated_from}
 use Rattle.flow_text.proofs.names.first_repeated.Given as goal
 

@@ -1,6 +1,6 @@
 use Rattle.std.proofs.Common.{◌≡◌, drop}
 use Rattle.std.specs.List.{position_from}
-use Rattle.flow_text.specs.ListedNames.{roles_of}
+use Rattle.flow_text.specs.Named.{roles_of}
 use Rattle.flow_text.specs.KnownNames.{has, has_as_event, is_unknown}
 use Rattle.flow_text.proofs.names.first_unknown.Given as goal
 

@@ -1,7 +1,7 @@
 use Rattle.std.proofs.Common.{ap, sym, refl, ◌∙◌}
 use Rattle.std.specs.Prelude.{is_some}
-use Rattle.flow_text.specs.ListedNames.{role_of}
-use Rattle.flow_text.specs.KnownNames.{has, is_again, after}
+use Rattle.flow_text.specs.Named.{role_of}
+use Rattle.flow_text.specs.KnownNames.{has, is_again, with_role}
 use Rattle.flow_text.proofs.KnownNames.{given}
 use Rattle.flow_text.proofs.names.is_again.Goals as goal
 
@@ -13,4 +13,4 @@ returns-in_ok-insert-in-Declares-clause-again c =
 pub returns-in_ok-insert-in-Declares-clause-names : goal.returns-in_ok-insert-in-Declares-clause-names
 returns-in_ok-insert-in-Declares-clause-names c =
     given is_some c.args.names.now c.insert.new.self c.in-Declares.name.now tt refl c.in_ok-insert-in-Declares.ensures.updates
-    ∙ ap (λ r. after (has c.args.names.now) (role_of r)) (sym c.in-Declares.is)
+    ∙ ap (λ r. with_role (has c.args.names.now) (role_of r)) (sym c.in-Declares.is)

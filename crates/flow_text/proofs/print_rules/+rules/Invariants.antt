@@ -6,5 +6,5 @@ use Rattle.flow_text.proofs.print_rules.+rules.Given as goal
 
 abbrev pub invariant-push_list-loop-member : goal.invariant-push_list-loop-member
 invariant-push_list-loop-member l =
-    l.text.items ++ more_rules (word_of l.linking) (parted_rule l.linking) (rule_shapes (map rule_shape_of (drop l.member-index l.rest)))
-    ≡ l.initial.text.items ++ more_rules (word_of l.linking) (parted_rule l.linking) (rule_shapes (map rule_shape_of l.rest))
+    l.text.items ++ more_rules (word_of l.connective) (parted_rule l.connective) (rule_shapes (map rule_shape_of (drop l.member-index l.rest)))
+    ≡ l.initial.text.items ++ more_rules (word_of l.connective) (parted_rule l.connective) (rule_shapes (map rule_shape_of l.rest))

@@ -1,7 +1,7 @@
 use Rattle.std.proofs.Common.{◌<◌, ◌≤◌, [], ◌∷◌, ◌++◌, false, length, get_or, arith}
 use Rattle.flow_plan.specs.Options.{options_of, option_of}
 use Rattle.flow_residual.proofs.OptionLemmas.{fits_at, turned_none, turned_by, turned_all}
-use Rattle.flow_residual.proofs.PossibleLemmas.{next_of_option}
+use Rattle.flow_residual.proofs.QuestionLemmas.{next_of_option}
 use Rattle.flow_trace.specs.Live.{IsLive}
 use Rattle.flow_trace.proofs.LiveLemmas.{follows_next}
 use Rattle.flow_trace.proofs.live.keep_live.Goals as goal

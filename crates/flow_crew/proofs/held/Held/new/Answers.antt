@@ -3,7 +3,7 @@ use Rattle.flow_model.specs.declared.history.Call.{Call}
 use Rattle.flow_model.specs.declared.history.Entry.{Entry}
 use Rattle.flow_model.specs.declared.history.Outcome.{Outcome}
 use Rattle.flow_model.specs.Run.{IsLegal}
-use Rattle.flow_laws.proofs.Members.{not_empty}
+use Rattle.flow_model.specs.Decided.{not_empty}
 use Rattle.flow_core.specs.Run.{Run, schema}
 use Rattle.flow_crew.specs.Invariant.{IsByWorkers}
 use Rattle.flow_crew.proofs.Endings.{not_yet_kept}

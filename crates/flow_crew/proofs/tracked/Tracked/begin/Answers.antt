@@ -2,7 +2,7 @@ use Rattle.std.proofs.Common.{◌∙◌, ℕ, refl, sym, subst, inl, inr}
 use Rattle.flow_model.specs.declared.history.Step.{Step}
 use Rattle.flow_model.specs.Verdict.{EndsKept}
 use Rattle.flow_core.specs.declared.next.Next.TheVariants as next
-use Rattle.flow_core.specs.Looks.{IsNext}
+use Rattle.flow_core.specs.Next.{IsNext}
 use Rattle.flow_core.specs.Run.{Run, schema}
 use Rattle.flow_crew.specs.Moves.{Advances}
 use Rattle.flow_crew.proofs.Endings.{ends, ends_not, has_steps}

@@ -1,7 +1,7 @@
 use Rattle.std.proofs.Common.{ap, sym, subst, ◌∙◌, map, Bor}
 use Rattle.std.proofs.lemmas.List.{map_push, take_all}
 use Rattle.std.specs.List.{flat_map}
-use Rattle.flow_workflow.specs.Indexed.{IsAdded}
+use Rattle.flow_workflow.specs.Numbered.{IsAdded}
 use Rattle.flow_form.specs.declared.form.Form.{Form}
 use Rattle.flow_form.specs.Form.{shape_of}
 use Rattle.flow_form.specs.Script.{declared}

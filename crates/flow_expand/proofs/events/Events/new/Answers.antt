@@ -1,6 +1,6 @@
 use Rattle.std.proofs.Common.{ap, sym, subst, ◌∙◌, map}
 use Rattle.std.proofs.lemmas.List.{take_all}
-use Rattle.flow_workflow.specs.Indexed.{IsAdded}
+use Rattle.flow_workflow.specs.Numbered.{IsAdded}
 use Rattle.flow_form.specs.Script.{declared}
 use Rattle.flow_form.specs.Names.{event_name, event_names}
 use Rattle.flow_expand.specs.Numbers.{event_note, notes_of}

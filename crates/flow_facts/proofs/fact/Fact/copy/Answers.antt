@@ -1,7 +1,6 @@
 use Rattle.std.proofs.Common.{◌≡◌, ℕ, ◌+◌, ◌<◌, ◌≤◌, List, [], ◌∷◌, ◌++◌, length, take, get_or, sym, ap, subst, ◌∙◌}
 use Rattle.std.proofs.lemmas.List.{take_more, take_all}
 use Rattle.flow_facts.specs.Atom.{Atom, atom}
-use Rattle.flow_facts.specs.Marks.{atom_mark}
 use Rattle.flow_facts.proofs.fact.Fact.copy.Goals as goal
 
 copied_more : {X : Type 0} (xs ys : List X) (i : ℕ) (x y : X) (old new : List X) → xs ≡ ys → i < length xs → x ≡ get_or xs i x → y ≡ x → new ≡ old ++ y ∷ [] → old ≡ take i ys
@@ -18,7 +17,4 @@ pub returns : goal.returns
 returns c =
     let same : c.deref-arg-items.result.now ≡ c.args.self.now.args = c.deref-arg-items.ensures.value ∙ ap (λ (a : Atom). a.args) c.self.view_is in
     let args : c.loop-arg.args.items ≡ c.args.self.now.args = c.loop-arg.invariant ∙ take_all c.loop-arg.arg-index c.args.self.now.args (subst (λ l. length l ≤ c.loop-arg.arg-index) same c.loop-arg-test.false) in
-    λ k. atom ((c.in_ok-copy-2.ensures ∙ ap (λ (a : Atom). a.relation) c.self.view_is) k) (args k)
-
-pub invariant_of-result : goal.invariant_of-result
-invariant_of-result c = c.self.invariant ∙ ap atom_mark (c.self.view_is ∙ sym (returns c))
+    λ k. atom ((c.in_ok-relation.ensures ∙ ap (λ (a : Atom). a.relation) c.self.view_is) k) (args k)

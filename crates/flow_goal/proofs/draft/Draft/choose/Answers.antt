@@ -1,7 +1,7 @@
 use Rattle.std.proofs.Common.{◌∙◌, ap}
 use Rattle.flow_model.specs.Lists.{each_with_each}
 use Rattle.flow_goal.specs.declared.draft.Draft.{Draft}
-use Rattle.flow_goal.specs.Patterns.{drafted, line_of, then}
+use Rattle.flow_goal.specs.Pattern.{drafted, line_of, then}
 use Rattle.flow_goal.proofs.PatternLemmas.{chosen}
 use Rattle.flow_goal.proofs.draft.Draft.choose.Goals as goal
 

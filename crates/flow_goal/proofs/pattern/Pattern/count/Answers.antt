@@ -1,8 +1,8 @@
 use Rattle.std.proofs.Common.{◌≡◌, ◌∙◌, sym, ap, subst, length, inl, inr}
 use Rattle.std.proofs.lemmas.List.{length-append}
-use Rattle.flow_laws.proofs.MadeLists.{length-each_with_each}
+use Rattle.flow_model.proofs.MadeLists.{length-each_with_each}
 use Rattle.flow_goal.specs.declared.pattern.Pattern.{Pattern}
-use Rattle.flow_goal.specs.Patterns.{IsCounted, lines_of, then}
+use Rattle.flow_goal.specs.Pattern.{IsCounted, lines_of, then}
 use Rattle.flow_goal.specs.Capped.{capped}
 use Rattle.flow_goal.proofs.pattern.Pattern.count.Goals as goal
 

@@ -3,7 +3,7 @@ use Rattle.std.specs.Option.{IfNone, IfSome}
 use Rattle.leaf_rows.specs.Leaves.{has_leaf}
 use Rattle.leaf_rows.specs.declared.leaf_set.LeafSet.{LeafSet}
 use Rattle.flow_model.specs.Ready.{DoneOr}
-use Rattle.flow_laws.proofs.Members.{only_one}
+use Rattle.flow_model.proofs.Lists.{only_one}
 use Rattle.flow_plan.specs.declared.part_row.PartRow.{PartRow}
 use Rattle.flow_plan.specs.Parts.{PartAllows}
 use Rattle.flow_plan.proofs.StepRows.{none_left}

@@ -1,7 +1,7 @@
 use Rattle.leaf_rows.specs.Leaves.{has_leaf}
 use Rattle.flow_model.specs.Lists.{◌∈◌}
 use Rattle.flow_plan.specs.Ahead.{IsInSome}
-use Rattle.flow_plan.specs.Spans.{at_span}
+use Rattle.flow_plan.specs.Span.{at_span}
 use Rattle.flow_plan.proofs.PartLemmas.{left_over}
 use Rattle.flow_plan.proofs.part_row.Reach.row.Goals as goal
 

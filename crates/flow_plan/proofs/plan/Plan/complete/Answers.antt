@@ -1,7 +1,7 @@
 use Rattle.std.proofs.Common.{◌+◌, ◌<◌, ◌∷◌, [], ℕ, List, length, take, get_or, true, sym, subst}
 use Rattle.std.proofs.lemmas.List.{take_more}
 use Rattle.flow_model.specs.Lists.{Each}
-use Rattle.flow_laws.proofs.Members.{each-append}
+use Rattle.flow_model.proofs.Lists.{each-append}
 use Rattle.flow_plan.specs.Progress.{IsDone}
 use Rattle.flow_plan.proofs.Following.{complete_run, all_complete}
 use Rattle.flow_plan.proofs.plan.Plan.complete.Goals as goal

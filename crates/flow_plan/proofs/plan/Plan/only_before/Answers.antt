@@ -1,5 +1,5 @@
 use Rattle.std.proofs.Common.{ℕ, Some, ⊎_elim, ap, refl, sym, ◌∙◌}
-use Rattle.flow_laws.proofs.Members.{only_one}
+use Rattle.flow_model.proofs.Lists.{only_one}
 use Rattle.flow_plan.specs.Progress.{IsDone}
 use Rattle.flow_plan.proofs.PartLemmas.{left_over}
 use Rattle.flow_plan.proofs.Readiness.{Before, kept_as}

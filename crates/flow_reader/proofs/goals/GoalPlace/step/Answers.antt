@@ -12,10 +12,10 @@ pub returns-in_default-symbol : goal.returns-in_default-symbol
 returns-in_default-symbol c = rw c.in-FactNeeded.is (no_relation _ _ _ c.args.symbol c.in_default-symbol.not-Name)
 
 pub returns-in-Reading : goal.returns-in-Reading
-returns-in-Reading c = rw c.in-InArgs.is (ap (machine.after_arg (prefix_of c.in-InArgs.prefix) (frames_of c.args.stack.now.frames.items) (level_of c.args.stack.now.level)) (ap arg_step (sym c.in-Reading.is) ∙ c.in_ok-args-in-InArgs.ensures))
+returns-in-Reading c = rw c.in-InArgs.is (ap (machine.after_arg (prefix_of c.in-InArgs.deed) (frames_of c.args.stack.now.frames.items) (level_of c.args.stack.now.level)) (ap arg_step (sym c.in-Reading.is) ∙ c.in_ok-args-in-InArgs.ensures))
 
 pub returns-in-Stuck : goal.returns-in-Stuck
-returns-in-Stuck c = rw c.in-InArgs.is (ap (machine.after_arg (prefix_of c.in-InArgs.prefix) (frames_of c.args.stack.now.frames.items) (level_of c.args.stack.now.level)) (ap arg_step (sym c.in-Stuck.is) ∙ c.in_ok-args-in-InArgs.ensures))
+returns-in-Stuck c = rw c.in-InArgs.is (ap (machine.after_arg (prefix_of c.in-InArgs.deed) (frames_of c.args.stack.now.frames.items) (level_of c.args.stack.now.level)) (ap arg_step (sym c.in-Stuck.is) ∙ c.in_ok-args-in-InArgs.ensures))
 
 pub returns-in_ok-relation-in-Name : goal.returns-in_ok-relation-in-Name
 returns-in_ok-relation-in-Name c = rw (c.in-FactNeeded.is, c.in-Name.is, c.in_ok-relation-in-Name.ensures)

@@ -6,7 +6,7 @@ use Rattle.flow_residual.specs.declared.given.Given.{Given}
 use Rattle.flow_residual.specs.Claimed.{Claimed}
 use Rattle.flow_residual.specs.Fields.{claimed, IsKept}
 use Rattle.flow_residual.specs.Given.{claims_from, renewed_at}
-use Rattle.flow_residual.specs.Sparing.{picked}
+use Rattle.flow_residual.specs.Spared.{picked}
 use Rattle.flow_residual.proofs.Outstanding.{places_within, length-out}
 use Rattle.flow_residual.proofs.Renewing.{renew, each_picked, length-renew, renewed_is, kept_renewed, spared_claims, renewed_value}
 use Rattle.flow_residual.proofs.claims.Claims.raise.Goals as goal

@@ -4,7 +4,7 @@ use Rattle.flow_plan.specs.Rows.{IsRowOf}
 use Rattle.flow_plan.specs.Progress.{IsDone}
 use Rattle.flow_plan.specs.Orders.{MayComeNext}
 use Rattle.flow_plan.specs.Options.{option_of}
-use Rattle.flow_residual.proofs.PossibleLemmas.{all_come_next, follows_first, next_of_option, in_words, adds_live, adds_none}
+use Rattle.flow_residual.proofs.QuestionLemmas.{all_come_next, follows_first, next_of_option, in_words, adds_live, adds_none}
 use Rattle.flow_residual.proofs.residual.Residual.add_taken.Goals as goal
 
 pub returns-then-not-is_live : goal.returns-then-not-is_live

@@ -1,6 +1,6 @@
 use Rattle.std.proofs.Common.{◌≤◌, ◌<◌, true≢false, length, sym, ◌∙◌, arith}
 use Rattle.leaf_rows.specs.Leaves.{has_leaf}
-use Rattle.flow_residual.specs.Possible.{Takes}
+use Rattle.flow_residual.specs.Question.{Takes}
 use Rattle.flow_residual.proofs.OptionLemmas.{some_more, some_all}
 use Rattle.flow_residual.proofs.residual.Residual.all_taken.Goals as goal
 

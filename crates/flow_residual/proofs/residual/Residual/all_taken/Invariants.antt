@@ -1,7 +1,7 @@
 use Rattle.std.proofs.Common.{ℕ, ◌↔◌, IsTrue}
 use Rattle.leaf_rows.specs.Leaves.{has_leaf}
 use Rattle.flow_residual.specs.Options.{SomeBelow}
-use Rattle.flow_residual.specs.Possible.{Takes}
+use Rattle.flow_residual.specs.Question.{Takes}
 use Rattle.flow_residual.proofs.residual.Residual.all_taken.Given as goal
 
 abbrev pub invariant-loop-place : goal.invariant-loop-place

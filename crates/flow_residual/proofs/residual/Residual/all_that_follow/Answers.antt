@@ -1,6 +1,6 @@
 use Rattle.std.proofs.Common.{[], ◌∷◌, ◌++◌}
 use Rattle.leaf_rows.specs.Leaves.{has_leaf}
-use Rattle.flow_residual.proofs.PossibleLemmas.{may_all_follow, in_words}
+use Rattle.flow_residual.proofs.QuestionLemmas.{may_all_follow, in_words}
 use Rattle.flow_residual.proofs.residual.Residual.all_that_follow.Goals as goal
 
 pub returns : goal.returns

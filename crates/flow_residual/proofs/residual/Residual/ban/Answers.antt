@@ -6,7 +6,7 @@ use Rattle.flow_residual.specs.declared.track.Change.TheVariants.{Banned}
 use Rattle.flow_residual.specs.Remaining.{Remaining, MayComeNext}
 use Rattle.flow_residual.specs.View.{remaining, pairs_of_bans}
 use Rattle.flow_residual.specs.Options.{EachHas}
-use Rattle.flow_residual.specs.Tracks.{IsTrack}
+use Rattle.flow_residual.specs.Track.{IsTrack}
 use Rattle.flow_residual.specs.Invariant.{IsKept, banned}
 use Rattle.flow_residual.proofs.DoneLemmas.{AreDone}
 use Rattle.flow_residual.proofs.KeptLemmas.{at_most_all, room_left, next_small, next_free, kept_ban, pairs_of_more, length-pairs, one_each_lent, followed}

@@ -1,4 +1,4 @@
-use Rattle.flow_residual.proofs.PossibleLemmas.{is_avoidable, in_words}
+use Rattle.flow_residual.proofs.QuestionLemmas.{is_avoidable, in_words}
 use Rattle.flow_residual.proofs.residual.Residual.can_avoid.Goals as goal
 
 pub returns : goal.returns

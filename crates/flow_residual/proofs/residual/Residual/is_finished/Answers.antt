@@ -1,7 +1,7 @@
 use Rattle.std.proofs.Common.{◌≡◌, true≢false, sym, subst, ◌∙◌, IsTrue, ◌↔◌}
 use Rattle.flow_model.specs.Resolution.{ChoiceOption}
 use Rattle.flow_plan.specs.Options.{option_of}
-use Rattle.flow_residual.specs.Possible.{IsFinished}
+use Rattle.flow_residual.specs.Question.{IsFinished}
 use Rattle.flow_residual.proofs.residual.Residual.is_finished.Goals as goal
 
 pub returns-then-follows : goal.returns-then-follows

@@ -3,7 +3,7 @@ use Rattle.flow_model.specs.Lists.{◌∈◌}
 use Rattle.flow_model.specs.Process.{leaves}
 use Rattle.flow_model.specs.Resolution.{ChoiceOption}
 use Rattle.flow_plan.specs.Options.{option_of}
-use Rattle.flow_residual.proofs.PossibleLemmas.{lacks_live}
+use Rattle.flow_residual.proofs.QuestionLemmas.{lacks_live}
 use Rattle.flow_residual.proofs.residual.Residual.leaves_out.Goals as goal
 
 pub returns-then-is_live : goal.returns-then-is_live

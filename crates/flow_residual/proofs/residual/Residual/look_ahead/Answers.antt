@@ -6,7 +6,7 @@ use Rattle.flow_plan.specs.Sampled.{Sampled}
 use Rattle.flow_plan.specs.Options.{options_of}
 use Rattle.flow_residual.specs.declared.track.Track.{Track}
 use Rattle.flow_residual.specs.Options.{EachHas}
-use Rattle.flow_residual.specs.Tracks.{IsFront, IsNextRow}
+use Rattle.flow_residual.specs.Track.{IsFront, IsNextRow}
 use Rattle.flow_residual.proofs.residual.Residual.look_ahead.Goals as goal
 
 abbrev AreFronts : List ℕ → ChoiceOption → Track → Type 0

@@ -2,8 +2,8 @@ use Rattle.std.proofs.Common.{◌≡◌, Some, slice_get, sym, subst, ◌∙◌}
 use Rattle.leaf_rows.specs.Leaves.{has_leaf}
 use Rattle.flow_plan.specs.Options.{option_of}
 use Rattle.flow_residual.specs.Remaining.{Remaining}
-use Rattle.flow_residual.specs.Tracks.{IsNextRow}
-use Rattle.flow_residual.proofs.PossibleLemmas.{next_of_option, in_words}
+use Rattle.flow_residual.specs.Track.{IsNextRow}
+use Rattle.flow_residual.proofs.QuestionLemmas.{next_of_option, in_words}
 use Rattle.flow_residual.proofs.residual.Residual.next_row.Goals as goal
 
 pub returns-then-self : goal.returns-then-self

@@ -1,8 +1,8 @@
 use Rattle.std.proofs.Common.{ℕ, subst}
 use Rattle.flow_model.specs.Resolution.{ChoiceOption}
-use Rattle.flow_residual.specs.declared.asking.Stand.{Stand}
+use Rattle.flow_residual.specs.declared.question.Stand.{Stand}
 use Rattle.flow_residual.specs.Remaining.{Remaining}
-use Rattle.flow_residual.specs.Possible.{Takes}
+use Rattle.flow_residual.specs.Question.{Takes}
 use Rattle.flow_residual.specs.View.{remaining}
 use Rattle.flow_residual.proofs.FewLemmas.{none_taken}
 use Rattle.flow_residual.proofs.residual.Residual.none_taken.Goals as goal

@@ -1,8 +1,8 @@
 use Rattle.std.proofs.Common.{◌≡◌, ◌≤◌, ◌-◌, ℕ, true≢false, length, ap, sym, ◌∙◌, subst, ⊎_elim, arith}
 use Rattle.std.proofs.lemmas.Bool.{cases_lt}
 use Rattle.flow_residual.specs.Options.{SomeOption}
-use Rattle.flow_residual.specs.Possible.{IsOpenFor}
-use Rattle.flow_residual.proofs.PossibleLemmas.{is_open}
+use Rattle.flow_residual.specs.Question.{IsOpenFor}
+use Rattle.flow_residual.proofs.QuestionLemmas.{is_open}
 use Rattle.flow_residual.proofs.residual.Residual.open_index.Goals as goal
 
 pub loop-index-init : goal.loop-index-init

@@ -1,9 +1,7 @@
 use Rattle.std.proofs.Common.{◌≡◌, ◌<◌, ◌∙◌, length, Some, slice_get, sym, ap, subst}
 use Rattle.flow_plan.specs.Planned.{Planned}
-use Rattle.flow_model.proofs.Lists.{mem-slice_get}
-use Rattle.flow_laws.proofs.Members.{each_member}
-use Rattle.flow_plan.specs.Options.{options_of, option_of}
-use Rattle.flow_residual.specs.Options.{HasSmallLeaves}
+use Rattle.flow_model.proofs.Lists.{mem-slice_get, each_member}
+use Rattle.flow_plan.specs.Options.{options_of, option_of, HasSmallLeaves}
 use Rattle.flow_residual.specs.Remaining.{Remaining}
 use Rattle.flow_residual.proofs.OptionLemmas.{plan_at, length-options}
 use Rattle.flow_residual.proofs.residual.Residual.plan.Goals as goal

@@ -5,7 +5,7 @@ use Rattle.flow_residual.specs.declared.track.Change.TheVariants.{Done}
 use Rattle.flow_residual.specs.Remaining.{Remaining, MayComeNext}
 use Rattle.flow_residual.specs.View.{remaining}
 use Rattle.flow_residual.specs.Options.{EachHas}
-use Rattle.flow_residual.specs.Tracks.{IsTrack}
+use Rattle.flow_residual.specs.Track.{IsTrack}
 use Rattle.flow_residual.specs.Invariant.{IsKept}
 use Rattle.flow_residual.proofs.DoneLemmas.{AreDone, done_push}
 use Rattle.flow_residual.proofs.KeptLemmas.{room_left, next_small, next_fresh, kept_push, one_each_lent, followed}

@@ -10,7 +10,7 @@ use Rattle.flow_residual.specs.declared.track.Change.TheVariants.{Back}
 use Rattle.flow_residual.specs.Remaining.{Remaining}
 use Rattle.flow_residual.specs.View.{remaining, pairs_of_bans}
 use Rattle.flow_residual.specs.Options.{EachHas}
-use Rattle.flow_residual.specs.Tracks.{IsTrack}
+use Rattle.flow_residual.specs.Track.{IsTrack}
 use Rattle.flow_residual.specs.Invariant.{IsKept, banned}
 use Rattle.flow_residual.proofs.DoneLemmas.{AreDone}
 use Rattle.flow_residual.proofs.KeptLemmas.{few_front, rewind_room, kept_rewind, pairs_of_more, pairs_of_left, length-pairs, one_each_lent, followed}

@@ -1,5 +1,5 @@
 use Rattle.std.proofs.Common.{◌≤◌, ◌<◌, length, arith}
-use Rattle.flow_residual.specs.Possible.{Has}
+use Rattle.flow_residual.specs.Question.{Has}
 use Rattle.flow_residual.proofs.OptionLemmas.{some_found, none_more, none_found}
 use Rattle.flow_residual.proofs.residual.Residual.some_has.Goals as goal
 

@@ -1,5 +1,5 @@
 use Rattle.flow_residual.specs.Options.{NoneBelow}
-use Rattle.flow_residual.specs.Possible.{Has}
+use Rattle.flow_residual.specs.Question.{Has}
 use Rattle.flow_residual.proofs.residual.Residual.some_has.Given as goal
 
 abbrev pub invariant-loop-place : goal.invariant-loop-place

@@ -1,6 +1,6 @@
 use Rattle.std.proofs.Common.{◌≡◌, sym, ◌∙◌}
 use Rattle.flow_plan.specs.Options.{option_of}
-use Rattle.flow_residual.proofs.PossibleLemmas.{all_come_next, follows_first, where_live, where_not_live}
+use Rattle.flow_residual.proofs.QuestionLemmas.{all_come_next, follows_first, where_live, where_not_live}
 use Rattle.flow_residual.proofs.residual.Residual.takes.Goals as goal
 
 pub returns-then-not-is_live : goal.returns-then-not-is_live

@@ -1,6 +1,6 @@
 use Rattle.std.proofs.Common.{◌≡◌, Some, slice_get, sym, subst}
 use Rattle.flow_residual.specs.Remaining.{Remaining}
-use Rattle.flow_residual.specs.Tracks.{IsTrack}
+use Rattle.flow_residual.specs.Track.{IsTrack}
 use Rattle.flow_residual.proofs.residual.Residual.track.Goals as goal
 
 pub returns : goal.returns

@@ -1,6 +1,6 @@
 use Rattle.std.proofs.Common.{◌∙◌, ap, sym}
 use Rattle.std.proofs.lemmas.Result.{IfOk-weaker}
-use Rattle.flow_rules.specs.declared.connective.Connective.TheVariants.{And}
+use Rattle.flow_model.specs.declared.operators.Connective.TheVariants.{And}
 use Rattle.flow_rules.specs.WayLists.{ways_of_parts}
 use Rattle.flow_rules.proofs.NormalViews.{ways_of_joined}
 use Rattle.flow_rules.proofs.conjunction.Conjunction.narrowed.Goals as goal

@@ -5,7 +5,7 @@ use Rattle.std.proofs.lemmas.Bool.{eq-eqb}
 use Rattle.std.proofs.lemmas.List.{take_all}
 use Rattle.flow_model.specs.Ways.{leaf_of_event}
 use Rattle.flow_rules.specs.Lanes.{has_event}
-use Rattle.flow_rules.specs.Rooms.{HasRoom}
+use Rattle.flow_rules.specs.Room.{HasRoom}
 use Rattle.flow_rules.proofs.LeafLemmas.{marked_all, marked_more, none_marked, room_at, room_kept}
 use Rattle.flow_rules.proofs.lanes.Lanes.note.Goals as goal
 

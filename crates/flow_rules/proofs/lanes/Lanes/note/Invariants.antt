@@ -2,7 +2,7 @@ use Rattle.std.proofs.Common.{◌≡◌, ◌==◌, ◌&&◌, ◌||◌, ℕ, leng
 use Rattle.std.specs.Prelude.{is_some}
 use Rattle.flow_model.specs.Ways.{leaf_of_event}
 use Rattle.flow_rules.specs.Lanes.{has_event}
-use Rattle.flow_rules.specs.Rooms.{HasRoom}
+use Rattle.flow_rules.specs.Room.{HasRoom}
 use Rattle.flow_rules.proofs.lanes.Lanes.note.Given as goal
 
 abbrev pub invariant-loop-leaf : goal.invariant-loop-leaf

@@ -1,7 +1,7 @@
 use Rattle.std.proofs.Common.{ap, sym, ◌∙◌}
 use Rattle.std.specs.Prelude.{option_map}
-use Rattle.flow_text.specs.Parsing.{name_in, bytes_now}
-use Rattle.flow_text.proofs.Parsed.{left_within, passed_over, counted_down}
+use Rattle.flow_text.specs.Parser.{name_in, bytes_now}
+use Rattle.flow_text.proofs.ParserLemmas.{left_within, passed_over, counted_down}
 use Rattle.flow_text.proofs.lexed_text.LexedText.name_at.Goals as goal
 
 pub symbol_of-requires-clause-within : goal.symbol_of-requires-clause-within

@@ -1,5 +1,5 @@
 use Rattle.std.proofs.Common.{length}
-use Rattle.flow_text.proofs.Parsed.{IsLeft}
+use Rattle.flow_text.proofs.ParserLemmas.{IsLeft}
 use Rattle.flow_text.proofs.lexed_text.LexedText.name_at.Given as goal
 
 abbrev pub invariant-loop-token : goal.invariant-loop-token

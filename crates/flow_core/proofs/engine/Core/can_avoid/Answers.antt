@@ -1,4 +1,0 @@
-use Rattle.flow_core.proofs.engine.Core.can_avoid.Goals as goal
-
-pub returns : goal.returns
-returns c = rw (← c.self.view_is) (c.can_avoid.ensures _ _ c.self.invariant.kept.remains)

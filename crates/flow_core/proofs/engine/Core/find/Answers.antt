@@ -1,5 +1,0 @@
-use Rattle.flow_core.proofs.Standings.{given_is}
-use Rattle.flow_core.proofs.engine.Core.find.Goals as goal
-
-pub returns : goal.returns
-returns c = rw (← c.self.view_is) (given_is c.self.inside c.self.invariant c.args.claim c.find.result c.find.ensures)

@@ -1,6 +1,0 @@
-use Rattle.std.proofs.Common.{◌<◌, ℕ}
-use Rattle.flow_core.specs.Looks.{CanStep}
-use Rattle.flow_core.proofs.engine.Core.least_step.Given as goal
-
-abbrev pub invariant-loop-leaf : goal.invariant-loop-leaf
-invariant-loop-leaf l = (n : ℕ) → n < l.leaf → ¬ (CanStep l.self n)

@@ -1,0 +1,65 @@
+-- Driven sessions, one command after another.
+use Rattle.std.proofs.Common.{◌≡◌, ◌<◌, ◌+◌, ℕ, List, [], ◌∷◌, ◌++◌, length, take, get_or, refl, sym, ap, ◌∙◌, subst, append_assoc, append-nil}
+use Rattle.std.proofs.lemmas.List.{take_more}
+use Rattle.flow_model.specs.Verdict as model
+use Rattle.flow_model.specs.Verdict.{drive_verdict}
+use Rattle.flow_workflow.specs.Definition.{Definition, schema_of}
+use Rattle.flow_core.specs.Run.{Run, schema}
+use Rattle.flow_core.specs.Lawful.{IsLawful}
+use Rattle.flow_reply.specs.declared.verdict.Verdict.{Verdict}
+use Rattle.flow_reply.specs.Conclusion.{Means, verdict_text}
+use Rattle.flow_reply.specs.Report.{IsReport}
+use Rattle.flow_reply.proofs.OneReply.{one_report}
+use Rattle.flow_front.specs.declared.status.Status.{Status}
+use Rattle.flow_drive.specs.Verdict.{ended, report_of}
+use Rattle.flow_drive.specs.Session.{Driven, IsSession, IsDrivenOutput}
+use Rattle.flow_record.specs.declared.command.Command.{Command}
+use Rattle.flow_drive.specs.Replies.{RepliesTo, Drives}
+use Rattle.flow_drive.proofs.AnswersLemmas.{SameRun, answers_same}
+
+-- a session goes on with one command more
+drives_more : (by : ℕ) (old middle new : Run) (session : List Command) (command : Command) (text line : List ℕ) → Drives old by session text middle →
+    RepliesTo middle by command line new → Drives old by (session ++ command ∷ []) (text ++ line) new
+drives_more by old middle new [] command text line d r =
+    (new, (line, ([], subst (λ (p : Run). RepliesTo p by command line new) d.1 r, (refl, refl), ap (λ t. t ++ line) d.0 ∙ sym (append-nil line))))
+drives_more by old middle new (c ∷ session) command text line (m, (l, (rest, first, later, e))) r =
+    (m, (l, (rest ++ line, first, drives_more by m middle new session command rest line later r, ap (λ t. t ++ line) e ∙ append_assoc l rest line)))
+
+-- the front of a session goes on with the next command
+pub drives_next : (by : ℕ) (old middle new : Run) (session : List Command) (i : ℕ) (d : Command) (text line both : List ℕ) → i < length session →
+    Drives old by (take i session) text middle → RepliesTo middle by (get_or session i d) line new → both ≡ text ++ line →
+    Drives old by (take (i + 1) session) both new
+drives_next by old middle new session i d text line both within driven reply is =
+    subst (λ (t : List ℕ). Drives old by (take (i + 1) session) t new) (sym is)
+    (subst (λ (front : List Command). Drives old by front (text ++ line) new) (sym (take_more session i d within))
+    (drives_more by old middle new (take i session) (get_or session i d) text line driven reply))
+
+-- a session is of one workflow and one limit
+pub drives_same : (by : ℕ) (old new : Run) (session : List Command) (text : List ℕ) → Drives old by session text new → SameRun old new
+drives_same by old new [] text d = (ap (λ (r : Run). r.definition) d.1, ap (λ (r : Run). r.limit) d.1)
+drives_same by old new (c ∷ session) text (m, (line, (rest, (answer, answers, replied), later, e))) =
+    let first = answers_same old m by c answer answers in
+    let others = drives_same by m new session rest later in (others.0 ∙ first.0, others.1 ∙ first.1)
+
+-- what is printed of a run with its verdict is the report of it
+pub reported_as : (r : Run) (v : Verdict) (meant : model.Verdict) (text : List ℕ) → Means r v meant → IsReport r v text → text ≡ report_of r meant
+reported_as r v meant text means is = one_report r v text (report_of r meant) is (verdict_text meant, (meant, means, refl), refl)
+
+-- a driven session is told: what is written is that of what came of it
+pub told_session : (first last : Run) (by : ℕ) (session : List Command) (verdict : Verdict) (status : Status) (replies report output : List ℕ) →
+    Drives first by session replies last → IsLawful (schema last) last.limit last.history →
+    Means last verdict (drive_verdict (schema last) last.limit last.history) →
+    ((r : Run) (meant : model.Verdict) → Means r verdict meant → status ≡ ended meant) → IsReport last verdict report → output ≡ replies ++ report →
+    (d : Driven) × IsSession first by session d × IsDrivenOutput d status output
+told_session first last by session verdict status replies report output driven lawful means status_is reported output_is =
+    let same : SameRun first last = drives_same by first last session replies driven in
+    let meant = drive_verdict (schema last) last.limit last.history in
+    let whole : report ≡ report_of last meant = reported_as last verdict meant report means reported in (
+      record { replies = replies; last = last; verdict = meant },
+      record {
+        driven = driven;
+        lawful = subst (λ (n : ℕ). IsLawful (schema first) n last.history) same.1 (subst (λ (v : Definition). IsLawful (schema_of v) last.limit last.history) same.0 lawful);
+        verdict_is = ap (λ (v : Definition). drive_verdict (schema_of v) last.limit last.history) same.0 ∙ ap (λ (n : ℕ). drive_verdict (schema first) n last.history) same.1;
+      },
+      record { status_is = status_is last meant means; output_is = output_is ∙ ap (λ (t : List ℕ). replies ++ t) whole },
+    )

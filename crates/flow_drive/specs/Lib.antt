@@ -1,0 +1,4 @@
+pub mod Answers
+pub mod Replies
+pub mod Verdict
+pub mod Session

@@ -1,0 +1,37 @@
+ghost use Rattle.std.specs.Prelude.{IfOk};
+ghost use Rattle.flow_drive.specs.Replies.{RepliesTo, Drives};
+
+use crate::answers::answer;
+use flow_core::Core;
+use flow_record::Command;
+use flow_reply::print_reply;
+use std::alloc::{AllocError, Global};
+
+/// Gives the command of a caller to the core, and gives the line of the reply.
+pub fn reply_to(
+    alloc: Global,
+    core: &mut Core,
+    command: &Command,
+    by: u32,
+) -> Result<Vec<u8>, AllocError>
+    ensures { IfOk result (λ line. RepliesTo core.old by command.now line.items core.new) }
+{
+    let answer = answer(core, command, by);
+    print_reply(alloc, core, command, &answer)
+}
+
+/// Goes through the commands of a caller, and gives the replies. Where memory is wanted those before were given to the core.
+pub fn reply_to_all(
+    alloc: Global,
+    core: &mut Core,
+    commands: &[Command],
+    by: u32,
+) -> Result<Vec<u8>, AllocError>
+    ensures { IfOk result (λ text. Drives core.old by commands.now text.items core.new) }
+{
+    let mut text = Vec::new(alloc);
+    for command in commands {
+        text.extend_from_slice(&reply_to(alloc, core, command, by)?)?;
+    }
+    Ok(text)
+}

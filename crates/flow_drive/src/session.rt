@@ -1,0 +1,27 @@
+ghost use Rattle.std.specs.Prelude.{IfOk};
+ghost use Rattle.flow_drive.specs.Session.{Driven, IsSession, IsDrivenOutput};
+
+use crate::replies::reply_to_all;
+use crate::verdict::{status_of, verdict_of};
+use flow_core::Core;
+use flow_front::Output;
+use flow_record::Command;
+use flow_reply::print_report;
+use std::alloc::{AllocError, Global};
+
+/// Goes through the commands of a caller, and then reports the run: the replies, and then the report.
+pub fn drive(
+    alloc: Global,
+    core: &mut Core,
+    commands: &[Command],
+    by: u32,
+) -> Result<Output, AllocError>
+    ensures { IfOk result (λ output. (d : Driven) × IsSession core.old by commands.now d × IsDrivenOutput d output.status output.text.items) }
+{
+    let mut text = reply_to_all(alloc, core, commands, by)?;
+    let verdict = verdict_of(core);
+    let report = print_report(alloc, core, &verdict)?;
+    text.extend_from_slice(&report)?;
+    let status = status_of(&verdict);
+    Ok(Output { status, text })
+}

@@ -1,6 +1,0 @@
-use Rattle.std.proofs.Common.{◌≡◌, ◌++◌}
-use Rattle.flow_findings.proofs.Tables.{rows}
-use Rattle.flow_findings.proofs.checking.push_leaves.Given as goal
-
-abbrev pub invariant-loop-leaf : goal.invariant-loop-leaf
-invariant-loop-leaf l = l.text.items ≡ l.initial.text.items ++ rows l.workflow l.leaf

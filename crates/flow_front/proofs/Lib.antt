@@ -1,0 +1,4 @@
+pub mod ExpandedEvents
+pub mod Stops
+pub mod Parts
+pub mod Stages

@@ -1,0 +1,124 @@
+ghost use Rattle.std.specs.Prelude.{◌≡◌};
+ghost use Rattle.flow_model.specs.Ways as model;
+ghost use Rattle.flow_model.specs.declared.operators.Connective.TheVariants.{And, Or};
+ghost use Rattle.flow_rules.specs.WayCount.{count_of, counts_beside, counts_of_both, is_free_count};
+ghost use Rattle.flow_rules.specs.EventLeaves.{leaf_in};
+ghost use Rattle.flow_rules.specs.Normal.{normal_of};
+ghost use Rattle.flow_rules.specs.WayLists.{decided, ways_of_pair, ways_of_parts};
+
+use crate::leaf_table::LeafEvents;
+use crate::normal::Nnf;
+use flow_model::Connective;
+
+/// How many ways there are, and how many pairs in all of them. What would pass the greatest number
+/// is kept at it.
+#[derive(Clone, Copy)]
+pub struct WayCount {
+    pub ways: u64,
+    pub pairs: u64,
+}
+
+/// No way.
+pub(crate) const NONE: WayCount = WayCount { ways: 0, pairs: 0 };
+
+/// The one way that asks for nothing.
+pub(crate) const FREE: WayCount = WayCount { ways: 1, pairs: 0 };
+
+/// One way, which asks for one pair.
+const PAIR: WayCount = WayCount { ways: 1, pairs: 1 };
+
+impl WayCount {
+    /// Whether the one way that asks for nothing is all.
+    pub(crate) fn is_free(self) -> bool
+        ensures { result ≡ is_free_count self }
+    {
+        self.ways == 1 && self.pairs == 0
+    }
+
+    /// Each way with each of the others.
+    pub(crate) fn both(self, other: WayCount) -> WayCount
+        ensures { result ≡ counts_of_both self other }
+    {
+        let front = self.pairs.saturating_mul(other.ways);
+        let back = self.ways.saturating_mul(other.pairs);
+        WayCount {
+            ways: self.ways.saturating_mul(other.ways),
+            pairs: front.saturating_add(back),
+        }
+    }
+
+    /// The ways and the others, where neither has the one that asks for nothing.
+    fn beside(self, other: WayCount) -> WayCount
+        ensures { result ≡ counts_beside self other }
+    {
+        WayCount {
+            ways: self.ways.saturating_add(other.ways),
+            pairs: self.pairs.saturating_add(other.pairs),
+        }
+    }
+
+    /// The one way that asks for nothing, or none.
+    fn decided(met: bool) -> WayCount
+        ensures { result ≡ count_of (decided met) }
+    {
+        if met { FREE } else { NONE }
+    }
+}
+
+/// One way with the pair, or where there is none what is decided of it.
+fn order(wanted: bool, pair: Option<(u32, u32)>) -> WayCount
+    ensures { result ≡ count_of (ways_of_pair wanted pair) }
+{
+    match pair {
+        Some(_) => PAIR,
+        None => WayCount::decided(!wanted),
+    }
+}
+
+/// How many ways there are to meet all parts. It ends where one of them can't be met.
+#[cycle(counting)]
+fn count_all(parts: &[Nnf], events: &LeafEvents) -> WayCount
+    ensures { result ≡ count_of (ways_of_parts And (leaf_in events.now) parts.now) }
+{
+    let mut count = FREE;
+    for part in parts {
+        let more = count_ways(part, events);
+        if more.ways == 0 {
+            return NONE;
+        }
+        count = count.both(more);
+    }
+    count
+}
+
+/// How many ways there are to meet some part. It ends where one of them is met in any order.
+#[cycle(counting)]
+fn count_any(parts: &[Nnf], events: &LeafEvents) -> WayCount
+    ensures { result ≡ count_of (ways_of_parts Or (leaf_in events.now) parts.now) }
+{
+    let mut count = NONE;
+    for part in parts {
+        let more = count_ways(part, events);
+        if more.is_free() {
+            return FREE;
+        }
+        count = count.beside(more);
+    }
+    count
+}
+
+/// How many ways there are in which the leaves meet the rule. It takes no memory.
+#[cycle(counting)]
+#[inline(always)]
+pub fn count_ways(rule: &Nnf, events: &LeafEvents) -> WayCount
+    ensures { result ≡ count_of (model.ways (normal_of rule.now) (leaf_in events.now)) }
+{
+    match rule {
+        Nnf::Event(wanted, event) => WayCount::decided(events.meets(*wanted, *event)),
+        Nnf::Order(wanted, first, second) => order(*wanted, events.pair(*wanted, *first, *second)),
+        Nnf::Parts(connective, parts) => match connective {
+            Connective::And => count_all(parts, events),
+            Connective::Or => count_any(parts, events),
+        },
+    }
+}
