@@ -1,0 +1,3 @@
+pub mod ChangeLemmas
+pub mod ReplayLemmas
+pub mod ChangeLogLemmas

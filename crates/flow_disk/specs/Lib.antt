@@ -1,0 +1,5 @@
+pub mod Disk
+pub mod Change
+pub mod ChangeLog
+pub mod MemDisk
+pub mod Replay
