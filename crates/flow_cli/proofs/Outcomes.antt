@@ -8,6 +8,7 @@ use Rattle.flow_model.specs.Verdict as model
 use Rattle.flow_model.specs.declared.limits.TheConstants.{GREATEST_INPUT}
 use Rattle.flow_form.specs.declared.refusal.TextRefusal.{TextRefusal}
 use Rattle.flow_form.specs.Script.{Said}
+use Rattle.flow_form.specs.Names.{event_names}
 use Rattle.flow_io.specs.Source.{LosesCount}
 use Rattle.flow_trace.specs.declared.checked.Checked.{Checked}
 use Rattle.flow_trace.specs.declared.checked.Checked.TheVariants.{Execution}
@@ -15,6 +16,7 @@ use Rattle.flow_verify.specs.declared.answers.Verified.TheVariants.{Holds, Fails
 use Rattle.flow_verify.specs.declared.answers.Redundancy.TheVariants.{Redundant, Needed}
 use Rattle.flow_findings.specs.declared.refused.Refused.{Refused}
 use Rattle.flow_findings.specs.declared.refused.Refused.TheVariants as refused
+use Rattle.flow_findings.specs.Refusing as refusing
 use Rattle.flow_words.specs.declared.request.Mode.{Mode}
 use Rattle.flow_words.specs.declared.request.Mode.TheVariants.{Gen, Large}
 use Rattle.flow_words.specs.declared.request.Request.{Request}
@@ -28,7 +30,7 @@ use Rattle.flow_front.specs.Stop.{IsStop, TellsStop}
 use Rattle.flow_front.specs.Refusal.{the_source, IsCause}
 use Rattle.flow_front.specs.Input.{IsInputOf, IsReadWhole, LeavesSource}
 use Rattle.flow_drive.specs.Verdict.{ended}
-use Rattle.flow_cli.specs.Finding.{Finding, driven, ran, traced, verified, tried, summarized, status_of_checked, finding_status, came_status, IsFound}
+use Rattle.flow_cli.specs.Finding.{Finding, driven, ran, traced, verified, tried, summarized, status_of_checked, finding_status, came_status, IsFound, Answers}
 use Rattle.flow_cli.specs.Large.{RunsGenerated}
 use Rattle.flow_cli.specs.Output.{Reads, Finds, IsTold, WritesOf, WritesAs, IsWhole, IsOfInput, IsOver, IsTakenFrom, IsOutcome, IsSummarized}
 use Rattle.flow_cli.proofs.Refusals.{finds_later}
@@ -87,6 +89,24 @@ pub came_of_input : (mode : Mode) (gives : Call → Outcome → Bool) (request :
     Finds mode gives request said text came → IsOfInput (came_status came)
 came_of_input mode gives request said text (Ok found) h = of_finding found
 came_of_input mode gives request said text (Err why) h = (finds_later mode gives request said text why h).1
+
+-- what is found in what is said is told
+module _ (mode : Mode) (gives : Call → Outcome → Bool) (request : Request) (said : Said) (text : List ℕ) where
+  pub found_told : (output : Output) → Answers (Finds mode gives request said text) (Ok output) →
+      IsTold (Finds mode gives request said text) said output.status output.text.items
+  found_told output (found, may, is) = (Ok found, may, record { status_is = is.status_is; output_is = is.output_is })
+
+  pub stop_told : (why : Stop) (result : Result Output AllocError) → Answers (Finds mode gives request said text) (Err why) →
+      IfOk result (λ output. TellsStop (event_names said.decls) why output.status output.text.items) →
+      IfOk result (λ output. IsTold (Finds mode gives request said text) said output.status output.text.items)
+  stop_told (stop.Refused why) (Ok output) may told = (Err why, may, record { status_is = told.status_is; output_is = told.output_is })
+  stop_told stop.NoMemory (Ok output) may told = absurd told
+  stop_told why (Err e) may told = tt
+
+  -- a refusal of it can be
+  pub can_be_told : (why : Stop) → Answers (Finds mode gives request said text) (Err why) → IsStop (refusing.IsTold (event_names said.decls)) why
+  can_be_told (stop.Refused why) may = (finds_later mode gives request said text why may).0
+  can_be_told stop.NoMemory may = tt
 
 module _ (mode : Mode) (gives : Call → Outcome → Bool) (request : Request) (left left' : Option (List ℕ)) (faults faults' : ℕ) (reads : Reads mode) where
   abbrev Written : Status → List ℕ → Type 0

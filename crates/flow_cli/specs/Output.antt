@@ -30,6 +30,16 @@ Reads Gen = ⊥
 Reads Large = ⊥
 Reads other = Unit {0}
 
+-- the mode performs no tasks
+abbrev pub AsksNoGate : Mode → Type 0
+AsksNoGate Drive = Unit {0}
+AsksNoGate Check = Unit {0}
+AsksNoGate Verify = Unit {0}
+AsksNoGate Trace = Unit {0}
+AsksNoGate Gen = Unit {0}
+AsksNoGate Run = ⊥
+AsksNoGate Large = ⊥
+
 -- What a mode that reads finds in what is said and in the text that follows: `check` and `run` do not look at that. Only what workers run
 -- asks the gate.
 abbrev pub Finds : Mode → (Call → Outcome → Bool) → Request → Said → List ℕ → Result Finding Refused → Type 0
@@ -120,3 +130,12 @@ pub record IsOutcome (IsWritten : Status → List ℕ → Type 0) (reads : Type 
   pub fault : (ending ≡ status.ReadFault) ↔ (faults < faults')
   pub end : reads → IsOver ending → IfSome left (λ _. left' ≡ Some [])
   pub refused : reads → ending ≡ status.Refused → IsTakenFrom left left'
+
+-- A call with these words could have ended so, by what became of the source: a failed read is told, and nothing else as one; an answer stands
+-- on the end of the source where it is to be read; a refusal comes once it is read, or too long; and wrong words leave it the same.
+pub record EndsWith (call : List (List ℕ)) (same : Type 0) (left left' : Option (List ℕ)) (faults faults' : ℕ) (ending : Status) : Type 0 where
+  pub whole : IsWhole ending
+  pub words : ending ≡ status.Words → same
+  pub fault : (ending ≡ status.ReadFault) ↔ (faults < faults')
+  pub end : (request : Request) → IsCall call request → Reads request.mode → IsOver ending → IfSome left (λ _. left' ≡ Some [])
+  pub refused : (request : Request) → IsCall call request → Reads request.mode → ending ≡ status.Refused → IsTakenFrom left left'

@@ -1,14 +1,17 @@
-ghost use Rattle.std.specs.Prelude.{◌≡◌, ◌<◌, ◌-◌, ◌^◌, ◌↔◌, ◌⊎◌, ℕ, List, [], map, Some, IfOk, IfSome};
+ghost use Rattle.std.specs.Prelude.{◌≡◌, ◌<◌, ◌-◌, ◌^◌, ◌↔◌, ◌⊎◌, ℕ, Bool, List, [], map, Some, IfOk, IfSome};
 ghost use Rattle.std.specs.String.{string_bytes};
 ghost use Rattle.std.specs.Io.KnownBytes.{Appends};
 ghost use Rattle.flow_io.specs.Sink.{AppendsPart};
+ghost use Rattle.flow_model.specs.declared.history.Call.{Call};
+ghost use Rattle.flow_model.specs.declared.history.Outcome.{Outcome};
 ghost use Rattle.flow_form.specs.Script.{said};
 ghost use Rattle.flow_form.specs.Names.{IsClosed};
+ghost use Rattle.flow_words.specs.declared.request.Mode.{Mode};
 ghost use Rattle.flow_words.specs.declared.request.Request.{Request};
 ghost use Rattle.flow_words.specs.Words.{IsCall, IsWithin};
 ghost use Rattle.flow_front.specs.declared.status.Status.{Status};
 ghost use Rattle.flow_cli.specs.Finding.{Answers};
-ghost use Rattle.flow_cli.specs.Output.{Reads, Finds, IsTold, IsGenerated, WritesAs, Writes, IsWhole, IsOver, IsTakenFrom, IsOutcome};
+ghost use Rattle.flow_cli.specs.Output.{Reads, AsksNoGate, Finds, IsTold, IsGenerated, WritesAs, Writes, IsWhole, IsOver, IsTakenFrom, IsOutcome, EndsWith};
 
 use crate::check::check;
 use crate::drive::drive_text;
@@ -42,67 +45,58 @@ fn crew_of<'a, R: Threads + Wait + Sync, G: Gate>(
     }
 }
 
-/// What the mode of a request, which reads, finds in an input.
-fn find<R: Threads + Wait + Sync, G: Gate>(
-    rt: &R,
-    alloc: Global,
-    request: Request,
-    input: &Input,
-    gate: &G,
-) -> Result<Output, Stop>
+/// What the mode of a request, which reads and performs no tasks, finds in an input.
+fn find(alloc: Global, request: Request, input: &Input) -> Result<Output, Stop>
     requires within { IsWithin request }
     requires reads { Reads request.mode }
+    requires no_gate { AsksNoGate request.mode }
     requires closed { IsClosed (said input.now.script) }
-    ensures { Answers (Finds request.mode G.gives request (said input.now.script) input.now.second.items) result }
+    ensures { (gives : Call → Outcome → Bool) →
+        Answers (Finds request.mode gives request (said input.now.script) input.now.second.items) result }
 {
     let script = &input.script;
     match request.mode {
         Mode::Drive => drive_text(alloc, script, &input.second, request.steps),
-        Mode::Run => crew_of(rt, request, gate).run_script(alloc, script),
         Mode::Check => check(alloc, script),
         Mode::Verify => verify_text(alloc, script, &input.second),
         Mode::Trace => trace_text(alloc, script, &input.second),
-        Mode::Gen | Mode::Large => unreachable!(),
+        Mode::Run | Mode::Gen | Mode::Large => unreachable!(),
     }
 }
 
-/// What is written of an input.
-fn answer_input<R: Threads + Wait + Sync, G: Gate>(
-    rt: &R,
-    alloc: Global,
-    request: Request,
-    input: &Input,
-    gate: &G,
-) -> Result<Output, AllocError>
+/// What is written of an input, where no tasks are performed.
+fn answer_input(alloc: Global, request: Request, input: &Input) -> Result<Output, AllocError>
     requires within { IsWithin request }
     requires reads { Reads request.mode }
+    requires no_gate { AsksNoGate request.mode }
     requires closed { IsClosed (said input.now.script) }
-    ensures { IfOk result (λ output. IsTold (Finds request.mode G.gives request (said input.now.script) input.now.second.items)
+    ensures { (gives : Call → Outcome → Bool) →
+        IfOk result (λ output. IsTold (Finds request.mode gives request (said input.now.script) input.now.second.items)
         (said input.now.script) output.status output.text.items) }
 {
-    match find(rt, alloc, request, input, gate) {
+    match find(alloc, request, input) {
         Ok(output) => Ok(output),
         Err(stop) => refuse(alloc, stop, Some(&input.script)),
     }
 }
 
-/// What is written of what the source gives.
-fn answer_source<R: Threads + Wait + Sync, S: Source, G: Gate>(
-    rt: &R,
+/// What is written of what the source gives, where no tasks are performed.
+fn answer_source<S: Source>(
     alloc: Global,
     request: Request,
     source: &mut S,
-    gate: &G,
 ) -> Result<Output, AllocError>
     requires within { IsWithin request }
     requires reads { Reads request.mode }
+    requires no_gate { AsksNoGate request.mode }
     requires source_counts { S.faults source.old < 2 ^ 64 - 1 }
-    ensures { IfOk result (λ output. IsOutcome (WritesAs request.mode G.gives request (S.left source.old)) (Reads request.mode)
+    ensures { (gives : Call → Outcome → Bool) →
+        IfOk result (λ output. IsOutcome (WritesAs request.mode gives request (S.left source.old)) (Reads request.mode)
         (S.left source.old) (S.left source.new) (S.faults source.old) (S.faults source.new) output.status output.text.items) }
 {
     match read_input(alloc, source) {
         Ok(input) => {
-            let output = answer_input(rt, alloc, request, &input, gate);
+            let output = answer_input(alloc, request, &input);
             drop(input);
             output
         }
@@ -121,7 +115,73 @@ fn write_generated(alloc: Global, request: Request) -> Result<Output, AllocError
     })
 }
 
-/// What is written for a request.
+/// What is written for a request whose mode performs no tasks, the same whatever the gate. It is handed no runtime, so it
+/// can neither wait nor start threads: it returns.
+pub fn answer_alone<S: Source>(
+    alloc: Global,
+    request: Request,
+    source: &mut S,
+) -> Result<Output, AllocError>
+    requires within { IsWithin request }
+    requires no_gate { AsksNoGate request.mode }
+    requires source_counts { S.faults source.old < 2 ^ 64 - 1 }
+    ensures outcome { (gives : Call → Outcome → Bool) →
+        IfOk result (λ output. IsOutcome (WritesAs request.mode gives request (S.left source.old)) (Reads request.mode)
+        (S.left source.old) (S.left source.new) (S.faults source.old) (S.faults source.new) output.status output.text.items) }
+    ensures unread { ¬ (Reads request.mode) → source.new ≡ source.old }
+{
+    match request.mode {
+        Mode::Gen => write_generated(alloc, request),
+        Mode::Drive | Mode::Check | Mode::Verify | Mode::Trace => answer_source(
+            alloc, request, source,
+        ),
+        Mode::Run | Mode::Large => unreachable!(),
+    }
+}
+
+/// What is written of a run of what an input says.
+fn run_input<R: Threads + Wait + Sync, G: Gate>(
+    rt: &R,
+    alloc: Global,
+    request: Request,
+    input: &Input,
+    gate: &G,
+) -> Result<Output, AllocError>
+    requires within { IsWithin request }
+    requires closed { IsClosed (said input.now.script) }
+    ensures { IfOk result (λ output. IsTold (Finds Mode.Run G.gives request (said input.now.script) input.now.second.items)
+        (said input.now.script) output.status output.text.items) }
+{
+    match crew_of(rt, request, gate).run_script(alloc, &input.script) {
+        Ok(report) => Ok(report),
+        Err(stop) => refuse(alloc, stop, Some(&input.script)),
+    }
+}
+
+/// What is written of a run of what the source says.
+fn run_source<R: Threads + Wait + Sync, S: Source, G: Gate>(
+    rt: &R,
+    alloc: Global,
+    request: Request,
+    source: &mut S,
+    gate: &G,
+) -> Result<Output, AllocError>
+    requires within { IsWithin request }
+    requires source_counts { S.faults source.old < 2 ^ 64 - 1 }
+    ensures { IfOk result (λ output. IsOutcome (WritesAs Mode.Run G.gives request (S.left source.old)) (Reads Mode.Run)
+        (S.left source.old) (S.left source.new) (S.faults source.old) (S.faults source.new) output.status output.text.items) }
+{
+    match read_input(alloc, source) {
+        Ok(input) => {
+            let output = run_input(rt, alloc, request, &input, gate);
+            drop(input);
+            output
+        }
+        Err(stop) => refuse(alloc, stop, None),
+    }
+}
+
+/// What is written for a request. Only where workers perform tasks the runtime is handed on.
 fn answer<R: Threads + Wait + Sync, S: Source, G: Gate>(
     rt: &R,
     alloc: Global,
@@ -136,11 +196,11 @@ fn answer<R: Threads + Wait + Sync, S: Source, G: Gate>(
     ensures unread { ¬ (Reads request.mode) → source.new ≡ source.old }
 {
     match request.mode {
-        Mode::Gen => write_generated(alloc, request),
-        Mode::Large => crew_of(rt, request, gate).run_generated(alloc, request.seed, request.size),
-        Mode::Drive | Mode::Run | Mode::Check | Mode::Verify | Mode::Trace => {
-            answer_source(rt, alloc, request, source, gate)
+        Mode::Drive | Mode::Check | Mode::Verify | Mode::Trace | Mode::Gen => {
+            answer_alone(alloc, request, source)
         }
+        Mode::Run => run_source(rt, alloc, request, source, gate),
+        Mode::Large => crew_of(rt, request, gate).run_generated(alloc, request.seed, request.size),
     }
 }
 
@@ -185,12 +245,15 @@ pub fn flow<R: Threads + Wait + Sync, S: Source, K: Sink, G: Gate>(
     requires sink_counts { K.faults sink.old < 2 ^ 64 - 1 }
 
     // The sink gains exactly what the definitions give for the words and what the source tells of its
-    // bytes, with this status; after a write fault a part of it, and with no memory nothing.
+    // bytes, with this status; after a write fault a part of it, that of a status with which the call
+    // could have ended, and with no memory nothing.
     ensures written { IsWhole result → (output : List ℕ) ×
         Writes G.gives (map (λ word. string_bytes word) words.now) (S.left source.old) result output
         × Appends (K.held sink.old) (K.held sink.new) output }
     ensures part { result ≡ Status.WriteFault → (status : Status) × ((output : List ℕ) ×
         Writes G.gives (map (λ word. string_bytes word) words.now) (S.left source.old) status output
+        × EndsWith (map (λ word. string_bytes word) words.now) (source.new ≡ source.old) (S.left source.old) (S.left source.new)
+        (S.faults source.old) (S.faults source.new) status
         × AppendsPart (K.held sink.old) (K.held sink.new) output) }
     ensures nothing { result ≡ Status.Memory → K.held sink.new ≡ K.held sink.old }
 

@@ -10,5 +10,5 @@ mod run;
 mod trace;
 mod verify;
 
-pub use call::flow;
+pub use call::{answer_alone, flow};
 pub use flow_front::Status;

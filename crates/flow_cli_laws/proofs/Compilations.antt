@@ -1,5 +1,5 @@
 -- A workflow is refused for one count, or for circles of the same options, or it is not refused.
-use Rattle.std.proofs.Common.{◌≡◌, ℕ, List, [], Err, inr, refl, sym, ap, ◌∙◌, arith}
+use Rattle.std.proofs.Common.{◌≡◌, ℕ, List, Err, inr, refl, sym, ap, ◌∙◌, arith}
 use Rattle.flow_model.specs.Schema.{Schema}
 use Rattle.flow_laws.specs.WellFormed.{IsConsistent}
 use Rattle.flow_workflow.specs.Definition.{Definition, schema_of}

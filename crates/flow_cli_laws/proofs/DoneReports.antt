@@ -40,7 +40,7 @@ module _ (gives : Call → Outcome → Bool) (w : Definition) (steps workers : �
   same : schema_of w ≡ schema last
   same = sym (ap schema_of run.definition_is)
 
-  succeeds : AllSucceeds gives last
+  pub succeeds : AllSucceeds gives last
   succeeds = record {
     by_workers = run.by_workers;
     well_formed = subst IsWellFormed same formed;
@@ -64,7 +64,7 @@ module _ (gives : Call → Outcome → Bool) (w : Definition) (steps workers : �
   ends (model.stuck waiting) stands = absurd (let no : end.Stuck ≡ end.Committed = commits end.Stuck (waiting, stands) in cc)
   ends model.unfinished stands = absurd stands
 
-  commits_at_once : meant ≡ model.committed
+  pub commits_at_once : meant ≡ model.committed
   commits_at_once = ends meant
       (subst (λ n. model.IsRunVerdict (schema last) n last.history meant) (sym run.limit_is)
       (subst (λ x. model.IsRunVerdict x steps last.history meant) same run.stands))

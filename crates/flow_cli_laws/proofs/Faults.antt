@@ -8,7 +8,6 @@ use Rattle.flow_findings.specs.Refusing.{refused_text}
 use Rattle.flow_words.specs.declared.request.Mode.{Mode}
 use Rattle.flow_words.specs.declared.request.Mode.TheVariants.{Gen, Large}
 use Rattle.flow_words.specs.declared.request.Request.{Request}
-use Rattle.flow_front.specs.declared.status.Status.{Status}
 use Rattle.flow_front.specs.declared.status.Status.TheVariants as status
 use Rattle.flow_front.specs.Status.{Tells}
 use Rattle.flow_front.specs.Refusal.{the_source, IsCause}

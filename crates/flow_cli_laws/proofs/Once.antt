@@ -91,7 +91,7 @@ just_once P (x ∷ xs) ys zs (inr (not, p)) (inl (has, others)) = absurd (not ha
 just_once P (x ∷ xs) ys zs (inr (not, p)) (inr (not', q)) = just_once P xs ys zs p q
 
 -- a compiled workflow has one count of each kind
-counts_once : (w : Schema) (a b : Compilation) → IsCompiled w a → IsCompiled w b → a.counts.live ≡ length a.plans → b.counts.live ≡ length b.plans → a.counts ≡ b.counts
+pub counts_once : (w : Schema) (a b : Compilation) → IsCompiled w a → IsCompiled w b → a.counts.live ≡ length a.plans → b.counts.live ≡ length b.plans → a.counts ≡ b.counts
 counts_once w a b p q live live' =
     let plans : options_of a.plans ≡ options_of b.plans = just_once HasExecution (options w) (options_of a.plans) (options_of b.plans) p.plans q.plans in
     let many : length a.plans ≡ length b.plans =

@@ -20,8 +20,8 @@ use Rattle.flow_front.specs.Status.{status_of, Tells}
 use Rattle.flow_front.specs.Refusal.{workflow_part, second_part, the_source, IsCause}
 use Rattle.flow_front.specs.Input.{IsInputOf}
 use Rattle.flow_cli.specs.Finding.{Finding, came_text, IsWritten}
-use Rattle.flow_cli.specs.Output.{Finds, WritesOf, WritesAs}
-use Rattle.flow_cli_laws.specs.Single.{Shows, AsksNoGate, OutputsAreSingle}
+use Rattle.flow_cli.specs.Output.{AsksNoGate, Finds, WritesOf, WritesAs}
+use Rattle.flow_cli_laws.specs.Single.{Shows, OutputsAreSingle}
 use Rattle.flow_cli_laws.proofs.Agreeing.{Agree}
 use Rattle.flow_cli_laws.proofs.TextAnswers.{of_text, one_refusal, one_value, not_both}
 use Rattle.flow_cli_laws.proofs.Modes.{check_agrees, drive_agrees, trace_agrees, verify_agrees}

@@ -33,7 +33,7 @@ use Rattle.flow_cli.specs.Finding.{Finding}
 use Rattle.flow_cli.specs.Check.{FindsConsistent}
 use Rattle.flow_cli.specs.Drive.{DrivesWorkflow}
 use Rattle.flow_cli.specs.Trace.{FindsOfLeaves}
-use Rattle.flow_cli.specs.Output.{Writes}
+use Rattle.flow_cli.specs.Output.{AsksNoGate, Writes}
 
 -- ---- what is shown where any will do
 
@@ -102,16 +102,6 @@ ShowsFor words input output text =
 pub record Agree (words : List (List ℕ)) (input : List ℕ) (status other : Status) (output text : List ℕ) : Type 0 where
   pub status_is : status ≡ other
   pub output_is : (output ≡ text) ⊎ ShowsFor words input output text
-
--- the mode performs no tasks
-abbrev pub AsksNoGate : Mode → Type 0
-AsksNoGate Drive = Unit {0}
-AsksNoGate Check = Unit {0}
-AsksNoGate Verify = Unit {0}
-AsksNoGate Trace = Unit {0}
-AsksNoGate Gen = Unit {0}
-AsksNoGate Run = ⊥
-AsksNoGate Large = ⊥
 
 -- ---- the laws
 

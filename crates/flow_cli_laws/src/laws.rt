@@ -1,5 +1,5 @@
 ghost use Rattle.flow_cli_laws.specs.Single.{OutputsAreSingle, FaultsAreTold, ChecksAreSingle, TracesAreSingle, SessionsAreSingle};
-ghost use Rattle.flow_cli_laws.specs.Done.{DoneRunsAreReported};
+ghost use Rattle.flow_cli_laws.specs.Done.{DoneRunsAreReported, DoneLargeRunsAreTold, DoneLinesAreSingle};
 
 use flow_words::law_one_request;
 
@@ -22,6 +22,17 @@ pub fn law_outputs_are_single()
 /// `flow_crew::law_done_runs_commit`.
 pub fn law_done_runs_are_committed()
     ensures { DoneRunsAreReported }
+{
+    // words are a call for one request alone
+    law_one_request();
+}
+
+/// Where workers run a generated workflow and no task fails, with room for two entries a leaf and one more, each schedule
+/// commits it, and the line that is written depends on the seed and the size alone. By the notes of its events no task of
+/// a generated workflow fails, see `flow_gen::law_generated_leaves_are_events`.
+pub fn law_done_large_runs_are_committed()
+    ensures told { DoneLargeRunsAreTold }
+    ensures single { DoneLinesAreSingle }
 {
     // words are a call for one request alone
     law_one_request();

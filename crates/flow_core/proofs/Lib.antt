@@ -12,3 +12,4 @@ pub mod SingleLemmas
 pub mod StartLemmas
 pub mod MakeLemmas
 pub mod ListLemmas
+pub mod CallerLemmas

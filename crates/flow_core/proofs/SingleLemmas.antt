@@ -20,11 +20,14 @@ use Rattle.flow_core.specs.declared.refusal.RewindRefusal.{RewindRefusal}
 use Rattle.flow_core.specs.declared.refusal.RewindRefusal.TheVariants as rewind
 use Rattle.flow_core.specs.declared.refusal.CommitRefusal.{CommitRefusal}
 use Rattle.flow_core.specs.declared.refusal.CommitRefusal.TheVariants as commit
+use Rattle.flow_core.specs.declared.next.Next.{Next}
+use Rattle.flow_core.specs.declared.next.Next.TheVariants as next
 use Rattle.flow_core.specs.Run.{Run, schema, now, with_entry, IsUncommitted, HasEntryLeft}
 use Rattle.flow_core.specs.Answers.{IsOver, next_claim, Takes, Performs, IsAnswered, IsUnanswered, IsLateOf, PostIsRefused, HasEffect, PostsDone, PostsFailed, Rewinds, Commits, IsLeast}
+use Rattle.flow_core.specs.Next.{CanAct, IsWaiting, IsNext}
 use Rattle.flow_core.proofs.Calls.{event_below}
 use Rattle.flow_core.proofs.GivenClaims.{unanswered_current}
-use Rattle.flow_core.proofs.NextLemmas.{none_current}
+use Rattle.flow_core.proofs.NextLemmas.{none_current, not_waiting}
 
 -- ---- what cannot be both
 
@@ -228,3 +231,36 @@ rewinds_once r by a b after other h k =
 pub commits_once : (r : Run) (by : ℕ) (a b : Result (Unit {0}) CommitRefusal) (after other : Run) → Commits r by a after → Commits r by b other → (a ≡ b) × (after ≡ other)
 commits_once r by a b after other h k =
     once _ 2 _ _ _ (λ n m p q. le_antisymm (p.1 m q.0) (q.1 n p.0)) a b after other (is_ended r by a after h) (is_ended r by b other k)
+
+-- ---- what a run does next
+
+least_once : (P : ℕ → Type 0) (n m : ℕ) → IsLeast P n → IsLeast P m → n ≡ m
+least_once P n m h k = le_antisymm (h.1 m k.0) (k.1 n h.0)
+
+-- what waits is told only where nothing else can be
+waits_once : (r : Run) (a : Next) (n : ℕ) → IsNext r a → IsNext r (next.Stuck n) → a ≡ next.Stuck n
+waits_once r next.Ended n h k = absurd (not_waiting r next.Ended h (λ leaf e. cc) n k.0)
+waits_once r (next.Act m) n h k = absurd (not_waiting r (next.Act m) h (λ leaf e. cc) n k.0)
+waits_once r (next.Wait m) n h k = absurd (not_waiting r (next.Wait m) h (λ leaf e. cc) n k.0)
+waits_once r next.Finished n h k = absurd (not_waiting r next.Finished h (λ leaf e. cc) n k.0)
+waits_once r (next.Stuck m) n h k = ap next.Stuck (least_once (IsWaiting r) m n h k)
+
+pub nexts_once : (r : Run) (a b : Next) → IsNext r a → IsNext r b → a ≡ b
+nexts_once r a (next.Stuck n) h k = waits_once r a n h k
+nexts_once r (next.Stuck n) b h k = sym (waits_once r b n k h)
+nexts_once r next.Ended next.Ended h k = refl
+nexts_once r next.Ended (next.Act m) h k = absurd (not_over r h k.0.0)
+nexts_once r next.Ended (next.Wait m) h k = absurd (not_over r h k.0)
+nexts_once r next.Ended next.Finished h k = absurd (not_over r h k.0)
+nexts_once r (next.Act n) next.Ended h k = absurd (not_over r k h.0.0)
+nexts_once r (next.Act n) (next.Act m) h k = ap next.Act (least_once (CanAct r) n m h k)
+nexts_once r (next.Act n) (next.Wait m) h k = absurd (k.1 n h.0)
+nexts_once r (next.Act n) next.Finished h k = absurd (k.1 n h.0)
+nexts_once r (next.Wait n) next.Ended h k = absurd (not_over r k h.0)
+nexts_once r (next.Wait n) (next.Act m) h k = absurd (h.1 m k.0)
+nexts_once r (next.Wait n) (next.Wait m) h k = ap next.Wait (least_once (IsCurrent (now r)) n m h.2 k.2)
+nexts_once r (next.Wait n) next.Finished h k = absurd (none_out (now r) n k.2 h.2)
+nexts_once r next.Finished next.Ended h k = absurd (not_over r k h.0)
+nexts_once r next.Finished (next.Act m) h k = absurd (h.1 m k.0)
+nexts_once r next.Finished (next.Wait m) h k = absurd (none_out (now r) m h.2 k.2)
+nexts_once r next.Finished next.Finished h k = refl

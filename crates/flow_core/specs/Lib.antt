@@ -8,3 +8,4 @@ pub mod Lists
 pub mod Ask
 pub mod Make
 pub mod Invariant
+pub mod Callers

@@ -21,4 +21,4 @@ pub use flow_model::{Call, FailEffect};
 pub use next::Next;
 pub use refusal::{CommitRefusal, DoRefusal, PostRefusal, RewindRefusal, TakeRefusal};
 pub use run::Core;
-pub use single::law_answers_are_single;
+pub use single::{law_answers_are_single, law_callers_made_all};

@@ -1,8 +1,6 @@
 ghost use Rattle.std.specs.Prelude.{◌≡◌, ◌<◌, ◌≤◌, ◌↔◌, ◌==◌, [], ◌∷◌, ◌++◌, length, false, IsTrue, IfOk, vec_len};
-ghost use Rattle.std.specs.List.{count_by};
 ghost use Rattle.std.specs.Vec.{vec_capacity};
 ghost use Rattle.flow_plan.specs.Compilation.{IsCompiled};
-ghost use Rattle.flow_model.specs.declared.history.Entry.{Entry};
 ghost use Rattle.flow_model.specs.declared.limits.TheConstants.{MOST_ENTRIES};
 ghost use Rattle.flow_model.specs.Run.{database};
 ghost use Rattle.flow_workflow.specs.Definition.{schema_of};
@@ -91,6 +89,7 @@ impl Model for Core {
 
 impl Core {
     ghost use Rattle.flow_core.specs.Run.{schema, now, HasEntryLeft};
+    ghost use Rattle.flow_core.specs.Callers.{count_made};
     ghost use Rattle.flow_core.specs.Lawful.{IsLawful};
 
     /// Starts a run with no entry yet, of at most so many.
@@ -185,7 +184,7 @@ impl Core {
 
     /// How many entries the caller made.
     pub fn made(&self, by: u32) -> u64
-        ensures { result ≡ count_by (λ (entry : Entry). entry.by == by) self.now.history }
+        ensures { result ≡ count_made self.now.history by }
     {
         self.history.iter().filter(|entry| entry.by == by).count() as u64
     }

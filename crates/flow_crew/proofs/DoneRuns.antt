@@ -37,7 +37,7 @@ use Rattle.flow_crew.specs.declared.ends.End.{End}
 use Rattle.flow_crew.specs.declared.ends.End.TheVariants as end
 use Rattle.flow_crew.specs.Ends.{IsEnd}
 use Rattle.flow_crew.proofs.Histories.{AreRunSteps}
-use Rattle.flow_crew.specs.Done.{IsPlainStep, IsCallFor, NeverFails, AllSucceeds, DeclaresSuccess}
+use Rattle.flow_crew.specs.Done.{IsPlainStep, IsCallFor, NeverFails, AllSucceeds, HoldsEventsAlone, DeclaresSuccess}
 use Rattle.std.proofs.lemmas.List.Sums.{length-filter}
 use Rattle.flow_core.proofs.NextLemmas.{left_in}
 
@@ -74,35 +74,47 @@ few_leaves w f s sound =
     let both : length (s.journal ++ current_leaves s) ≡ length s.journal + length (current_leaves s) = length-append s.journal (current_leaves s) in
     omega arith
 
--- No epoch has ended. Each leaf that counts stands for two entries at most, and each that is out for one.
-record IsPlainState (s : RunState) (made : ℕ) : Type 0 where
+-- No epoch has ended. Each leaf that counts stands for two entries at most, and each that is out for one; for just so many where each leaf is an
+-- event.
+record IsPlainState (w : Schema) (s : RunState) (made : ℕ) : Type 0 where
   epoch_is : s.epoch ≡ 0
   few : s.committed ≡ false → made ≤ 2 * length s.journal + length (current_leaves s)
+  just : HoldsEventsAlone w → s.committed ≡ false → made ≡ 2 * length s.journal + length (current_leaves s)
+  over : HoldsEventsAlone w → s.committed ≡ true → made ≡ 2 * length s.journal + 1
 
-plain_next : (w : Schema) (s : RunState) (made : ℕ) → IsSound w s → IsPlainState s made → s.committed ≡ false → (step : Step) → IsPlainStep step →
-    IsAllowed w s step → IsPlainState (next_state w s step) (made + 1)
+plain_next : (w : Schema) (s : RunState) (made : ℕ) → IsSound w s → IsPlainState w s made → s.committed ≡ false → (step : Step) → IsPlainStep step →
+    IsAllowed w s step → IsPlainState w (next_state w s step) (made + 1)
 plain_next w s made sound k going (Took claim leaf) plain may = record {
   epoch_is = k.epoch_is;
   few = λ _. (let so_far : made ≤ 2 * length s.journal + length (current_leaves s) = k.few going in let l = more_out w s claim leaf in omega arith);
+  just = λ events _. (let so_far : made ≡ 2 * length s.journal + length (current_leaves s) = k.just events going in let l = more_out w s claim leaf in omega arith);
+  over = λ _ over. absurd (true≢false (sym over ∙ going));
 }
-plain_next w s made sound k going (Done claim) plain may = record {
-  epoch_is = k.epoch_is;
-  few = λ _. (
-      let so_far : made ≤ 2 * length s.journal + length (current_leaves s) = k.few going in
-      let out = fewer_out w s sound claim may in
-      let counts : length (s.journal ++ leaf_of_claim s claim ∷ []) ≡ length s.journal + 1 = length-append s.journal (leaf_of_claim s claim ∷ []) in
-      omega arith);
-}
+plain_next w s made sound k going (Done claim) plain may =
+    let out = fewer_out w s sound claim may in
+    let counts : length (s.journal ++ leaf_of_claim s claim ∷ []) ≡ length s.journal + 1 = length-append s.journal (leaf_of_claim s claim ∷ []) in record {
+      epoch_is = k.epoch_is;
+      few = λ _. (let so_far : made ≤ 2 * length s.journal + length (current_leaves s) = k.few going in omega arith);
+      just = λ events _. (let so_far : made ≡ 2 * length s.journal + length (current_leaves s) = k.just events going in omega arith);
+      over = λ _ over. absurd (true≢false (sym over ∙ going));
+    }
 plain_next w s made sound k going (Did leaf) plain may = record {
   epoch_is = k.epoch_is;
   few = λ _. (
       let so_far : made ≤ 2 * length s.journal + length (current_leaves s) = k.few going in
       let counts : length (s.journal ++ leaf ∷ []) ≡ length s.journal + 1 = length-append s.journal (leaf ∷ []) in
       omega arith);
+  just = λ events _. absurd (events leaf may.0.0);
+  over = λ events _. absurd (events leaf may.0.0);
 }
 plain_next w s made sound k going Committed plain may = record {
   epoch_is = k.epoch_is;
   few = λ going. absurd (true≢false going);
+  just = λ _ going. absurd (true≢false going);
+  over = λ events _. (
+      let so_far : made ≡ 2 * length s.journal + length (current_leaves s) = k.just events going in
+      let none : length (current_leaves s) ≡ 0 = ap (λ (claims : List Claim). length (map leaf_of claims)) may.0 in
+      omega arith);
 }
 plain_next w s made sound k going other plain may = absurd plain
 
@@ -149,7 +161,7 @@ module _ (gives : Call → Outcome → Bool) (w : Schema) (formed : IsWellFormed
   abbrev MayGive : Call → Outcome → Type 0
   MayGive call outcome = gives call outcome ≡ true
 
-  plain_step : (earlier : List Entry) (made : ℕ) → IsSound w (state_of w earlier) → IsPlainState (state_of w earlier) made →
+  plain_step : (earlier : List Entry) (made : ℕ) → IsSound w (state_of w earlier) → IsPlainState w (state_of w earlier) made →
       Each IsPlain earlier → (step : Step) → IsAllowed w (state_of w earlier) step →
       IsRunStep MayGive w earlier step → IsPlainStep step
   plain_step earlier made sound k plain (Failed claim effect) may run = true≢false (sym run ∙ never_fails (call_of w (state_of w earlier) claim) (asked effect may))
@@ -170,7 +182,7 @@ module _ (gives : Call → Outcome → Bool) (w : Schema) (formed : IsWellFormed
 
   -- the whole history is plain, and its state too
   abbrev PlainWhole : List Entry → Type 0
-  PlainWhole history = Each IsPlain history × IsPlainState (state_of w history) (length history)
+  PlainWhole history = Each IsPlain history × IsPlainState w (state_of w history) (length history)
 
   module _ (consistent : IsConsistent w) (limit : ℕ) (history : List Entry) (legal : IsLegal w limit history) (runs : AreRunSteps MayGive w history) where
     plain_from : (later earlier : List Entry) (made : ℕ) → history ≡ earlier ++ later → PlainWhole earlier →
@@ -184,15 +196,15 @@ module _ (gives : Call → Outcome → Bool) (w : Schema) (formed : IsWellFormed
         let long = length-append earlier (e ∷ []) in
         plain_from later (earlier ++ e ∷ []) (made + 1) (is ∙ sym (append_assoc earlier (e ∷ []) later)) (
           each-append IsPlain earlier (e ∷ []) plain (step, tt),
-          subst (λ n. IsPlainState (state_of w (earlier ++ e ∷ [])) n) (sym long) (subst (λ s. IsPlainState s (length earlier + 1)) (sym next) after),
+          subst (λ n. IsPlainState w (state_of w (earlier ++ e ∷ [])) n) (sym long) (subst (λ s. IsPlainState w s (length earlier + 1)) (sym next) after),
         )
         (subst (λ s. IsLegalFrom w limit s (made + 1) later) (sym next) rest)
 
     plain_whole : PlainWhole history
-    plain_whole = plain_from history [] 0 refl (tt, record { epoch_is = refl; few = λ _. omega arith }) legal
+    plain_whole = plain_from history [] 0 refl (tt, record { epoch_is = refl; few = λ _. omega arith; just = λ _ _. refl; over = λ _ over. absurd (true≢false (sym over)) }) legal
 
 module _ (gives : Call → Outcome → Bool) (r : Run) (all : AllSucceeds gives r) where
-  whole : Each IsPlain r.history × IsPlainState (now r) (length r.history)
+  whole : Each IsPlain r.history × IsPlainState (schema r) (now r) (length r.history)
   whole = plain_whole gives (schema r) all.well_formed all.never_waits all.never_fails all.consistent r.limit r.history all.by_workers.run_legal.0 all.by_workers.run_legal.1
 
   sound : IsSound (schema r) (now r)
@@ -210,6 +222,9 @@ module _ (gives : Call → Outcome → Bool) (r : Run) (all : AllSucceeds gives 
       let leaves : length (now r).journal + length (current_leaves (now r)) ≤ length (schema r).labels = few_leaves (schema r) all.well_formed (now r) sound in
       let full : length r.history ≡ r.limit = stands.1 in
       absurd (omega arith)
+
+  pub counted : HoldsEventsAlone (schema r) → (now r).committed ≡ true → length r.history ≡ 2 * length (now r).journal + 1
+  counted events over = whole.1.over events over
 
 -- ---- declarations
 

@@ -16,7 +16,8 @@ use Rattle.flow_core.proofs.NextLemmas.{none_current}
 use Rattle.flow_crew.specs.declared.ends.End.{End}
 use Rattle.flow_crew.specs.declared.ends.End.TheVariants as end
 use Rattle.flow_crew.specs.Ends.{IsEnd, HasEnd, HasNoEnd}
-use Rattle.flow_crew.proofs.Histories.{legal_length, not_last_kept}
+use Rattle.flow_laws.proofs.SoundStates.{legal_length}
+use Rattle.flow_crew.proofs.Histories.{not_last_kept}
 use Rattle.flow_crew.proofs.Waiting.{waiting_of}
 
 pub no_verdict : (r : Run) → HasNoEnd r → (verdict : Verdict) → ¬ (IsRunVerdict (schema r) r.limit r.history verdict)

@@ -23,14 +23,6 @@ cut_last {A} list x earlier y later e = elim (two_cuts list (x ∷ []) earlier y
     last [] e h = let (same, none) = cons_same x y [] later h in (sym none, e ∙ append-nil list, sym same)
     last (z ∷ m) e h = absurd (not_empty m y later (cons_same x z [] (m ++ y ∷ later) h).1)
 
--- a legal history is no longer than the limit
-pub legal_length : (w : Schema) (limit : ℕ) (s : RunState) (made : ℕ) (history : List Entry) → IsLegalFrom w limit s made history → made ≤ limit → made + length history ≤ limit
-legal_length w limit s made [] legal few = omega arith
-legal_length w limit s made (entry ∷ history) legal few =
-    let room : made < limit = legal.1 in
-    let rest : made + 1 + length history ≤ limit = legal_length w limit (next_state w s entry.step) (made + 1) history legal.3 (omega arith) in
-    omega arith
-
 -- only the last entry tells whether a history ends with a kept failure
 pub not_last_kept : (w : Schema) (history : List Entry) (last : Entry) → ((claim : ℕ) → ¬ (last.step ≡ Failed claim Kept)) → (leaf : ℕ) → ¬ (EndsKept w (history ++ last ∷ []) leaf)
 not_last_kept w history last other leaf (earlier, (entry, (claim, is, kept, on))) = elim (cut_last history last earlier entry [] is) [

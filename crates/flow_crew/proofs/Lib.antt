@@ -6,3 +6,4 @@ pub mod Histories
 pub mod Sending
 pub mod Waiting
 pub mod Working
+pub mod TurnsLemmas

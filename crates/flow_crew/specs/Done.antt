@@ -1,5 +1,5 @@
 -- Runs in which every task succeeds.
-use Rattle.std.specs.Prelude.{◌≡◌, ◌≤◌, ◌+◌, ◌*◌, Bool, false, length, Some}
+use Rattle.std.specs.Prelude.{◌≡◌, ◌≤◌, ◌+◌, ◌*◌, ℕ, Bool, true, false, length, Some}
 use Rattle.flow_model.specs.declared.history.Call.{Call}
 use Rattle.flow_model.specs.declared.history.Entry.{Entry}
 use Rattle.flow_model.specs.declared.history.Outcome.{Outcome}
@@ -10,11 +10,11 @@ use Rattle.flow_model.specs.declared.labels.Note.{Note}
 use Rattle.flow_model.specs.declared.labels.Note.TheVariants as note
 use Rattle.flow_model.specs.Lists.{Each}
 use Rattle.flow_model.specs.Facts.{event_at}
-use Rattle.flow_model.specs.Schema.{Schema}
+use Rattle.flow_model.specs.Schema.{Schema, IsOtherLeaf}
 use Rattle.flow_model.specs.Verdict.{note_of}
 use Rattle.flow_laws.specs.WellFormed.{IsWellFormed, IsConsistent}
 use Rattle.flow_laws.specs.Histories.{NeverWaits}
-use Rattle.flow_core.specs.Run.{Run, schema}
+use Rattle.flow_core.specs.Run.{Run, schema, now}
 use Rattle.flow_gate.specs.Gate.{is_same}
 use Rattle.flow_gate.specs.NoteGate.{announced}
 use Rattle.flow_crew.specs.declared.ends.End.{End}
@@ -52,6 +52,15 @@ DoneRunsArePlain = (gives : Call → Outcome → Bool) (r : Run) → AllSucceeds
 abbrev pub DoneRunsCommit : Type 0
 DoneRunsCommit = (gives : Call → Outcome → Bool) (r : Run) → AllSucceeds gives r → 2 * length (schema r).labels + 1 ≤ r.limit →
     (found : End) → IsEnd r found → found ≡ end.Committed
+
+-- no leaf is a test, an absence, an insertion or a deletion
+abbrev pub HoldsEventsAlone : Schema → Type 0
+HoldsEventsAlone w = (leaf : ℕ) → ¬ (IsOtherLeaf w leaf)
+
+-- two entries for each leaf that is done, where it is an event, and one to commit: just these are made
+abbrev pub DoneRunsAreCounted : Type 0
+DoneRunsAreCounted = (gives : Call → Outcome → Bool) (r : Run) → AllSucceeds gives r → HoldsEventsAlone (schema r) → (now r).committed ≡ true →
+    length r.history ≡ 2 * length (now r).journal + 1
 
 -- a task whose event is declared so succeeds at each attempt
 abbrev pub DeclaresSuccess : Note → Type 0

@@ -1,5 +1,5 @@
 -- What workers do to a run: how it goes on, and how the outcome of a task is told.
-use Rattle.std.specs.Prelude.{◌≡◌, ℕ, ◌++◌, List, Result, Ok, Err, ◌⊎◌}
+use Rattle.std.specs.Prelude.{◌≡◌, ◌≤◌, ℕ, ◌++◌, List, Result, Ok, Err, ◌⊎◌}
 use Rattle.flow_model.specs.declared.history.Call.{Call}
 use Rattle.flow_model.specs.declared.history.Entry.{Entry}
 use Rattle.flow_model.specs.declared.history.FailEffect.{FailEffect}
@@ -80,3 +80,12 @@ IsPosted r call outcome by after =
 abbrev pub IsContinued : Run → ℕ → Run → Type 0
 IsContinued r by after =
     (added : List Entry) × (after ≡ record r { history = r.history ++ added }) × Each (λ (entry : Entry). entry.by ≡ by) added
+
+-- the entry names one of so many workers
+abbrev pub IsOfWorker : ℕ → Entry → Type 0
+IsOfWorker workers entry = (1 ≤ entry.by) × (entry.by ≤ workers)
+
+-- So many workers made the first entries, and what follows was made once they were joined, in the name of none of them.
+abbrev pub IsOfCrew : ℕ → List Entry → Type 0
+IsOfCrew workers history =
+    (worked rest : List Entry) × (history ≡ worked ++ rest) × Each (IsOfWorker workers) worked × Each (λ (entry : Entry). entry.by ≡ 0) rest

@@ -4,38 +4,42 @@ ghost use Rattle.flow_crew.specs.Invariant.{IsByWorkers};
 ghost use Rattle.flow_crew.specs.Moves.{IsBegun, IsPosted, IsContinued};
 
 use crate::ends::{End, Move};
-use crate::held::Held;
+use crate::tracked::Tracked;
 use flow_core::Core;
 use flow_gate::Gate;
 use flow_model::{Call, Outcome};
 use std::marker::Model;
 
-/// A run by workers, and the gate that performs its tasks.
+/// A run by workers, and the gate that performs its tasks, which may be lent. It keeps that the history is one that such
+/// workers may make. A lock may keep it, and then `Begin` and `Post` are what is done with it in turns.
 #[derive(Drop)]
-pub struct Book<'g, G: Gate> {
-    // a gate that is lent may cross threads, since it may be shared between them
-    pub(crate) held: Held<&'g G>,
-    pub(crate) gate: &'g G,
+pub struct Book<G: Gate> {
+    pub(crate) tracked: Tracked,
+    pub(crate) gate: G,
 }
 
-impl<'g, G: Gate> Model for Book<'g, G> {
+impl<G: Gate> Model for Book<G> {
     ghost use Rattle.flow_core.specs.Run.{Run, run_code};
 
     ghost Value = { Run };
 
     ghost coded = { run_code };
 
-    ghost view = { λ book. book.held };
+    ghost use Rattle.flow_crew.specs.Invariant.{IsByWorkers};
+
+    ghost view = { λ book. book.tracked };
+
+    ghost invariant = { λ book. IsByWorkers G.gives book.tracked };
 }
 
-impl<'g, G: Gate> Book<'g, G> {
+impl<G: Gate> Book<G> {
     /// A book of a run that has not begun.
-    pub fn new(core: Core, gate: &'g G) -> Book<'g, G>
+    pub fn new(core: Core, gate: G) -> Book<G>
         requires { core.history ≡ [] }
         ensures { result ≡ core }
     {
         Book {
-            held: Held::new(core),
+            tracked: Tracked::new(core),
             gate,
         }
     }
@@ -44,7 +48,7 @@ impl<'g, G: Gate> Book<'g, G> {
     pub fn begin(&mut self, by: u32) -> Move
         ensures { IsBegun self.old by result self.new }
     {
-        self.held.begin(by)
+        self.tracked.begin(by)
     }
 
     /// Tells the outcome of a task. After a kept failure the run goes back at once, where it can.
@@ -52,7 +56,7 @@ impl<'g, G: Gate> Book<'g, G> {
         requires { G.gives call outcome ≡ true }
         ensures { IsPosted self.old call outcome by self.new }
     {
-        self.held.post(call, outcome, by);
+        self.tracked.post(call, outcome, by);
     }
 
     /// Performs all that is left, tasks of claims that are out among it.
@@ -61,24 +65,31 @@ impl<'g, G: Gate> Book<'g, G> {
         ensures continued { IsContinued self.old by self.new }
     {
         // its history is no longer than the limit
-        let _ = self.held.core();
+        let _ = self.core();
         loop {
-            let call = match self.held.begin(by) {
+            let call = match self.begin(by) {
                 Move::Perform(call) => call,
                 Move::Went => continue,
-                Move::Wait(claim) => self.held.core().call_of(claim).unwrap(),
-                Move::Over => return self.held.verdict().unwrap(),
+                Move::Wait(claim) => self.core().call_of(claim).unwrap(),
+                Move::Over => return self.verdict().unwrap(),
             };
-            let outcome = self.gate.perform(call);
-            self.held.post(call, outcome, by);
+            let outcome = self.perform(call);
+            self.post(call, outcome, by);
         }
+    }
+
+    /// Has the gate perform the task of a call.
+    fn perform(&self, call: Call) -> Outcome
+        ensures { G.gives call result ≡ true }
+    {
+        self.gate.perform(call)
     }
 
     /// What the run came to, if it has come to an end.
     pub fn verdict(&self) -> Option<End>
         ensures { MatchOption result (HasNoEnd self.now) (IsEnd self.now) }
     {
-        self.held.verdict()
+        self.tracked.verdict()
     }
 
     /// The run.
@@ -86,15 +97,17 @@ impl<'g, G: Gate> Book<'g, G> {
         ensures run { result.now ≡ self.now }
         ensures by_workers { IsByWorkers G.gives self.now }
     {
-        self.held.core()
+        self.tracked.core()
     }
+}
 
+impl<G: Gate + Drop> Book<G> {
     /// The run alone.
     pub fn into_core(self) -> Core
-        ensures run { result ≡ self.entry }
-        ensures by_workers { IsByWorkers G.gives self.entry }
+        ensures run { result ≡ self }
+        ensures by_workers { IsByWorkers G.gives self }
     {
-        let Book { held, gate: _ } = self;
-        held.into_core()
+        let Book { tracked, gate: _ } = self;
+        tracked.into_core()
     }
 }

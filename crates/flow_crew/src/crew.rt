@@ -5,10 +5,10 @@ ghost use Rattle.flow_model.specs.declared.history.Entry.{Entry};
 ghost use Rattle.flow_model.specs.declared.limits.TheConstants.{MOST_WORKERS};
 ghost use Rattle.flow_model.specs.Lists.{Each};
 ghost use Rattle.flow_crew.specs.Ends.{IsEnd};
+ghost use Rattle.flow_crew.specs.Moves.{IsContinued, IsOfWorker, IsOfCrew};
 
 use crate::book::Book;
 use crate::ends::{End, Move};
-use crate::held::Held;
 use crate::jobs::{Begin, Post};
 use crossbeam_utils::sync::EventCount;
 use flow_gate::Gate;
@@ -19,40 +19,49 @@ use std::thread::{Threads, join};
 
 /// Runs the book by so many workers, which are the callers from 1 on, each in a thread of its own. The gate performs tasks
 /// outside the lock. What they leave is finished as caller 0: all of it where there is no memory for a lock.
-pub fn run_crew<'g, R: Threads + Wait + Sync, G: Gate>(
+pub fn run_crew<R: Threads + Wait + Sync, G: Gate + Copy + Send>(
     rt: &R,
     alloc: Global,
-    book: Book<'g, G>,
+    book: Book<G>,
     workers: u32,
-) -> (Book<'g, G>, End)
+) -> (Book<G>, End)
     requires empty { book.history ≡ [] }
     requires some { 1 ≤ workers }
     requires few { workers ≤ MOST_WORKERS }
     ensures end { IsEnd result.0 result.1 }
-    ensures same { (result.0.definition ≡ book.entry.definition) × (result.0.limit ≡ book.entry.limit) }
+    ensures same { (result.0.definition ≡ book.definition) × (result.0.limit ≡ book.limit) }
     ensures callers { Each (λ (entry : Entry). entry.by ≤ workers) result.0.history }
+    ensures crew { IsOfCrew workers result.0.history }
 {
-    let Book { held, gate } = book;
-    let held = work_all(rt, alloc, held, &gate, workers);
-    let mut book = Book { held, gate };
-    let end = book.finish(0);
+    // the gate is asked outside the lock
+    let gate = book.gate;
+    let mut book = work_all(rt, alloc, book, &gate, workers);
+    let end = finish_rest(&mut book);
     (book, end)
 }
 
-/// What the workers make of the run.
-fn work_all<R: Threads + Wait + Sync, G: Gate + Send>(
+/// Finishes what the workers left once they are joined, in the name of none of them.
+fn finish_rest<G: Gate>(book: &mut Book<G>) -> End
+    ensures end { IsEnd book.new result }
+    ensures nobody { IsContinued book.old 0 book.new }
+{
+    book.finish(0)
+}
+
+/// What the workers make of the run: nothing where there is no memory for a lock.
+fn work_all<R: Threads + Wait + Sync, G: Gate + Drop + Send>(
     rt: &R,
     alloc: Global,
-    held: Held<G>,
+    book: Book<G>,
     gate: &G,
     workers: u32,
-) -> Held<G>
-    requires empty { held.history ≡ [] }
+) -> Book<G>
+    requires empty { book.history ≡ [] }
     requires few { workers ≤ MOST_WORKERS }
-    ensures same { (result.definition ≡ held.definition) × (result.limit ≡ held.limit) }
-    ensures callers { Each (λ (entry : Entry). entry.by ≤ workers) result.history }
+    ensures same { (result.definition ≡ book.definition) × (result.limit ≡ book.limit) }
+    ensures workers { Each (IsOfWorker workers) result.history }
 {
-    match TurnLock::new(alloc, held) {
+    match TurnLock::new(alloc, book) {
         Ok((lock, root)) => {
             let idle = EventCount::new();
             let root = work_beside(rt, &lock, &idle, gate, root, workers);
@@ -63,16 +72,16 @@ fn work_all<R: Threads + Wait + Sync, G: Gate + Send>(
 }
 
 /// So many workers, each in a thread of its own with a pass of its own.
-fn work_beside<R: Threads + Wait + Sync, G: Gate + Send>(
+fn work_beside<R: Threads + Wait + Sync, G: Gate + Drop + Send>(
     rt: &R,
-    lock: &TurnLock<Held<G>>,
+    lock: &TurnLock<Book<G>>,
     idle: &EventCount,
     gate: &G,
-    mut root: Pass<Held<G>>,
+    mut root: Pass<Book<G>>,
     workers: u32,
-) -> Pass<Held<G>>
+) -> Pass<Book<G>>
     requires { (root.lock ≡ lock.now) × (root.number ≡ 0) × (root.given + workers < u32.MAX) }
-    ensures { (result.lock ≡ lock.now) × (result.number ≡ 0) × (result.given ≡ root.given + workers) × (result.outs ≡ root.outs) × (result.part ≡ root.part) }
+    ensures { (result.lock ≡ lock.now) × (result.number ≡ 0) × (result.given ≡ root.given + workers) × (result.outs ≡ root.outs) × (result.part ≡ root.part) × (result.mine ≡ root.mine) }
 {
     if workers == 0 {
         return root;
@@ -81,13 +90,13 @@ fn work_beside<R: Threads + Wait + Sync, G: Gate + Send>(
     let pass = lock.split(&mut root);
     let (pass, mut root) = join(
         rt,
-        || -> Pass<Held<G>>
+        || -> Pass<Book<G>>
             requires { pass.lock ≡ lock.now }
             ensures { result.lock ≡ lock.entry.now }
         { work(rt, lock, idle, gate, pass) },
-        || -> Pass<Held<G>>
+        || -> Pass<Book<G>>
             requires { (root.lock ≡ lock.now) × (root.number ≡ 0) × (root.given + fewer < u32.MAX) × IsSync R.row }
-            ensures { (result.lock ≡ lock.entry.now) × (result.number ≡ 0) × (result.given ≡ root.given + fewer) × (result.outs ≡ root.outs) × (result.part ≡ root.part) }
+            ensures { (result.lock ≡ lock.entry.now) × (result.number ≡ 0) × (result.given ≡ root.given + fewer) × (result.outs ≡ root.outs) × (result.part ≡ root.part) × (result.mine ≡ root.mine) }
         { work_beside(rt, lock, idle, gate, root, fewer) },
     );
     lock.join(&mut root, pass);
@@ -96,13 +105,13 @@ fn work_beside<R: Threads + Wait + Sync, G: Gate + Send>(
 
 /// One worker: it asks what to do, and performs tasks, until the run has come to an end. Who takes a task wakes one of the
 /// idle, for which there may be another; who waits asks again once woken.
-fn work<R: Wait, G: Gate>(
+fn work<R: Wait, G: Gate + Drop>(
     rt: &R,
-    lock: &TurnLock<Held<G>>,
+    lock: &TurnLock<Book<G>>,
     idle: &EventCount,
     gate: &G,
-    mut pass: Pass<Held<G>>,
-) -> Pass<Held<G>>
+    mut pass: Pass<Book<G>>,
+) -> Pass<Book<G>>
     requires { pass.lock ≡ lock.now }
     ensures { result.lock ≡ lock.now }
 {
@@ -123,11 +132,11 @@ fn work<R: Wait, G: Gate>(
 
 /// What the worker is to do. Where that is to wait, it sleeps until it is woken; it is counted among the idle before it asks,
 /// so that it misses no call in between.
-fn ask<R: Wait, G: Gate>(
+fn ask<R: Wait, G: Gate + Drop>(
     rt: &R,
-    lock: &TurnLock<Held<G>>,
+    lock: &TurnLock<Book<G>>,
     idle: &EventCount,
-    pass: &mut Pass<Held<G>>,
+    pass: &mut Pass<Book<G>>,
 ) -> Move
     requires { pass.old.lock ≡ lock.now }
     ensures { pass.new.lock ≡ lock.now }

@@ -1,16 +1,16 @@
-//! What workers do to a run in their turns.
+//! What callers do to a run in their turns.
 ghost use Rattle.std.specs.Prelude.{◌≡◌, true};
 ghost use Rattle.flow_crew.specs.Moves.{IsBegun, IsPosted};
 
+use crate::book::Book;
 use crate::ends::Move;
-use crate::held::Held;
 use flow_gate::Gate;
 use flow_model::{Call, Entry, Outcome};
 use flow_turn::{Job, Kept};
 use flow_workflow::Workflow;
 use std::marker::PhantomData;
 
-impl<G: Gate> Kept for Held<G> {
+impl<G: Gate + Drop> Kept for Book<G> {
     type Entry = Entry;
 
     // the workflow and the limit
@@ -27,39 +27,41 @@ impl<G: Gate> Kept for Held<G> {
     }
 }
 
-/// The worker asks what to do.
-pub(crate) struct Begin<G> {
+/// The caller asks what to do, as by `Book::begin`.
+pub struct Begin<G> {
     gate: PhantomData<G>,
 }
 
 impl<G: Gate> Begin<G> {
-    pub(crate) fn new() -> Begin<G> {
+    pub fn new() -> Begin<G> {
         Begin { gate: PhantomData }
     }
 }
 
-impl<G: Gate> Job<Held<G>> for Begin<G> {
+impl<G: Gate + Drop> Job<Book<G>> for Begin<G> {
     type Answer = Move;
 
     ghost does = { λ _ run by move after. IsBegun run by move after };
 
-    fn run(self, held: &mut Held<G>, by: u32) -> Move {
+    fn run(self, book: &mut Book<G>, by: u32) -> Move {
         let Begin { gate: _ } = self;
-        held.tracked.begin(by)
+        book.tracked.begin(by)
     }
 }
 
-/// The worker tells the outcome of a task, which the gate gave.
-pub(crate) struct Post<G: Gate> {
-    call: Call,
-    outcome: Outcome,
+/// The caller tells the outcome of a task, which the gate gave, as by `Book::post`.
+pub struct Post<G: Gate> {
+    pub call: Call,
+    pub outcome: Outcome,
     gate: PhantomData<G>,
     ghost given: { G.gives call outcome ≡ true },
 }
 
 impl<G: Gate> Post<G> {
-    pub(crate) fn new(call: Call, outcome: Outcome) -> Post<G>
+    pub fn new(call: Call, outcome: Outcome) -> Post<G>
         requires { G.gives call outcome ≡ true }
+        ensures call { result.call ≡ call }
+        ensures outcome { result.outcome ≡ outcome }
     {
         Post {
             call,
@@ -69,17 +71,17 @@ impl<G: Gate> Post<G> {
     }
 }
 
-impl<G: Gate> Job<Held<G>> for Post<G> {
+impl<G: Gate + Drop> Job<Book<G>> for Post<G> {
     type Answer = ();
 
     ghost does = { λ job run by _ after. IsPosted run job.call job.outcome by after };
 
-    fn run(self, held: &mut Held<G>, by: u32) {
+    fn run(self, book: &mut Book<G>, by: u32) {
         let Post {
             call,
             outcome,
             gate: _,
         } = self;
-        held.tracked.post(call, outcome, by);
+        book.tracked.post(call, outcome, by);
     }
 }

@@ -6,8 +6,8 @@ mod crew;
 mod done;
 mod ends;
 mod entries;
-mod held;
 mod jobs;
+mod single;
 mod standing;
 mod tracked;
 
@@ -15,3 +15,5 @@ pub use book::Book;
 pub use crew::run_crew;
 pub use done::law_done_runs_commit;
 pub use ends::{End, Move};
+pub use jobs::{Begin, Post};
+pub use single::law_turns_are_single;

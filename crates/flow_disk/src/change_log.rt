@@ -36,7 +36,9 @@ impl ChangeLog {
         requires { vec_len bytes ≤ room }
         ensures first { IfOk result (λ log. log.first.items ≡ bytes.items) }
         ensures shown { IfOk result (λ log. log.shown.items ≡ bytes.items) }
+        ensures pool { IfOk result (λ log. log.pool.items ≡ []) }
         ensures changes { IfOk result (λ log. log.changes.items ≡ []) }
+        ensures room { IfOk result (λ log. log.room ≡ room) }
         ensures places { IfOk result (λ log. places ≤ vec_capacity log.changes) }
     {
         let changes = Vec::with_capacity(alloc, places)?;
@@ -65,6 +67,9 @@ impl ChangeLog {
         requires room { vec_len self.old.first + vec_len self.old.pool + length bytes.now ≤ self.old.room }
         requires place { vec_len self.old.changes < vec_capacity self.old.changes }
         ensures shown { self.new.shown.items ≡ written self.old.shown.items at bytes.now }
+        ensures first { self.new.first ≡ self.old.first }
+        ensures pool { self.new.pool.items ≡ self.old.pool.items ++ bytes.now }
+        ensures room { self.new.room ≡ self.old.room }
         ensures changes { self.new.changes.items ≡ self.old.changes.items ++ Change.Wrote at (length bytes.now) ∷ [] }
         ensures places { vec_capacity self.new.changes ≡ vec_capacity self.old.changes }
         ensures crash { Passes (moment_of self.old) (moment_of self.new) (images_of self.old) (images_of self.new) (Torn at (length bytes.now)) }
@@ -82,6 +87,9 @@ impl ChangeLog {
     pub(crate) fn tear(&mut self, at: usize, count: usize)
         requires { at ≤ length self.old.shown.items }
         ensures shown { self.new.shown.items ≡ self.old.shown.items }
+        ensures first { self.new.first ≡ self.old.first }
+        ensures pool { self.new.pool ≡ self.old.pool }
+        ensures room { self.new.room ≡ self.old.room }
         ensures noted { vec_len self.old.changes < vec_capacity self.old.changes
             → self.new.changes.items ≡ self.old.changes.items ++ Change.Tore at count ∷ [] }
         ensures full { vec_len self.old.changes ≡ vec_capacity self.old.changes → self.new.changes.items ≡ self.old.changes.items }
@@ -98,6 +106,9 @@ impl ChangeLog {
     pub(crate) fn sync(&mut self)
         requires { vec_len self.old.changes < vec_capacity self.old.changes }
         ensures shown { self.new.shown.items ≡ self.old.shown.items }
+        ensures first { self.new.first ≡ self.old.first }
+        ensures pool { self.new.pool ≡ self.old.pool }
+        ensures room { self.new.room ≡ self.old.room }
         ensures changes { self.new.changes.items ≡ self.old.changes.items ++ Change.Synced ∷ [] }
         ensures places { vec_capacity self.new.changes ≡ vec_capacity self.old.changes }
         ensures crash { Passes (moment_of self.old) (moment_of self.new) (images_of self.old) (images_of self.new) Same }

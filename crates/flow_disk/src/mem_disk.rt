@@ -1,4 +1,4 @@
-ghost use Rattle.std.specs.Prelude.{◌≡◌, List, ℕ, false, ◌+◌, ◌-◌, ◌^◌, ◌≤◌, ◌<◌, length, vec_len, vec_capacity, IfOk, IsTrue};
+ghost use Rattle.std.specs.Prelude.{◌≡◌, List, ℕ, false, ◌+◌, ◌-◌, ◌^◌, ◌≤◌, ◌<◌, ◌↔◌, ◌⊎◌, length, vec_len, vec_capacity, IfOk, OnOk, IsErr, MatchResult, IsTrue};
 
 use crate::calls::Calls;
 use crate::change_log::ChangeLog;
@@ -6,17 +6,17 @@ use crate::disk::{Disk, DiskFailed};
 use std::alloc::{AllocError, Global};
 
 /// A file in memory, which tells everything, and whose calls fail on purpose: each from the one of a number on, the
-/// first of all having 0, and each write for which it has no room. It opens for every path.
+/// first of all having 0, and each write for which it has no room.
 #[derive(Drop)]
 pub struct MemDisk {
     log: ChangeLog,
     calls: Calls,
     // a place for each call that may still succeed
-    ghost places: { vec_len log.changes + (calls.stop_at - calls.made) ≤ vec_capacity log.changes },
+    ghost places: { vec_len log.changes + (calls.stop_at - (calls.succeeded + calls.faults)) ≤ vec_capacity log.changes },
 }
 
 impl MemDisk {
-    ghost use Rattle.flow_disk.specs.MemDisk.{filled_of};
+    ghost use Rattle.flow_disk.specs.MemDisk.{filled_of, calls_made, stop_of, bytes_taken, room_of};
 
     /// A file with these bytes, all of them durable. It has room as long as these and those of all writes together are
     /// at most so many. No later call but `left` asks for memory.
@@ -32,12 +32,16 @@ impl MemDisk {
         ensures durable { IfOk result (λ disk. (c : List ℕ)
             → ⟦<MemDisk as Disk>⟧.image disk (⟦<MemDisk as Disk>⟧.moment disk) c → c ≡ bytes.items) }
         ensures faults { IfOk result (λ disk. ⟦<MemDisk as Disk>⟧.faults disk ≡ 0) }
+        ensures calls { IfOk result (λ disk. calls_made disk ≡ 0) }
+        ensures stop { IfOk result (λ disk. stop_of disk ≡ stop_at) }
+        ensures taken { IfOk result (λ disk. bytes_taken disk ≡ vec_len bytes) }
+        ensures room { IfOk result (λ disk. room_of disk ≡ room) }
     {
         let log = ChangeLog::new(alloc, bytes, room, stop_at as usize + 1)?;
         let calls = Calls {
-            made: 0,
-            stop_at,
+            succeeded: 0,
             faults: 0,
+            stop_at,
         };
         Ok(MemDisk { log, calls })
     }
@@ -58,33 +62,62 @@ impl MemDisk {
 }
 
 impl Disk for MemDisk {
-    ghost use Rattle.flow_disk.specs.ChangeLog.{images_of, moment_of, syncs_of, shown_of};
+    ghost use Rattle.flow_disk.specs.Disk.{Holds, Gives, Torn, Same, Passes, SyncsNow, NoSync, CountsFault, Rests};
+    ghost use Rattle.flow_disk.specs.MemDisk.{seen_of, moment_of, image_of, synced_of, faults_of, IsLate, IsFull, Counts};
 
     ghost tells = { Unit {0} };
 
-    ghost seen = { λ disk. shown_of disk.log };
+    ghost seen = { seen_of };
 
-    ghost moment = { λ disk. moment_of disk.log };
+    ghost moment = { moment_of };
 
-    ghost image = { λ disk. images_of disk.log };
+    ghost image = { image_of };
 
-    ghost synced = { λ disk. syncs_of disk.log };
+    ghost synced = { synced_of };
 
-    ghost faults = { λ disk. disk.calls.faults };
+    ghost faults = { faults_of };
 
+    /// Opens for every path.
     #[tactic(auto, using(crate::proofs::ChangeLogLemmas::shown_image))]
-    fn open(&mut self, _path: &str) -> Result<(), DiskFailed> {
+    fn open(&mut self, _path: &str) -> Result<(), DiskFailed>
+        requires { faults_of self.old < 2 ^ 64 - 1 }
+        ensures cause { CountsFault (faults_of self.old) (faults_of self.new) result }
+        ensures rests { Rests (moment_of self.old) (moment_of self.new) (seen_of self.old) (seen_of self.new)
+            (image_of self.old) (image_of self.new) (synced_of self.old) (synced_of self.new) }
+        ensures own { image_of self.new (moment_of self.new) (seen_of self.new) }
+        ensures late { IsErr result ↔ IsLate self.old }
+        ensures counted { Counts self.old self.new 0 }
+    {
         self.calls.next()
     }
 
     #[tactic(auto, using(crate::proofs::ChangeLogLemmas::shown_image))]
-    fn len(&mut self) -> Result<u64, DiskFailed> {
+    fn len(&mut self) -> Result<u64, DiskFailed>
+        requires { faults_of self.old < 2 ^ 64 - 1 }
+        ensures cause { CountsFault (faults_of self.old) (faults_of self.new) result }
+        ensures rests { Rests (moment_of self.old) (moment_of self.new) (seen_of self.old) (seen_of self.new)
+            (image_of self.old) (image_of self.new) (synced_of self.old) (synced_of self.new) }
+        ensures own { image_of self.new (moment_of self.new) (seen_of self.new) }
+        ensures len { IfOk result (λ n. n ≡ length (seen_of self.old)) }
+        ensures late { IsErr result ↔ IsLate self.old }
+        ensures counted { Counts self.old self.new 0 }
+    {
         self.calls.next()?;
         Ok(self.log.shown.len() as u64)
     }
 
     #[tactic(auto, using(crate::proofs::ChangeLogLemmas::shown_image))]
-    fn read_at(&mut self, at: u64, buf: &mut [u8]) -> Result<usize, DiskFailed> {
+    fn read_at(&mut self, at: u64, buf: &mut [u8]) -> Result<usize, DiskFailed>
+        requires { faults_of self.old < 2 ^ 64 - 1 }
+        ensures cause { CountsFault (faults_of self.old) (faults_of self.new) result }
+        ensures rests { Rests (moment_of self.old) (moment_of self.new) (seen_of self.old) (seen_of self.new)
+            (image_of self.old) (image_of self.new) (synced_of self.old) (synced_of self.new) }
+        ensures own { image_of self.new (moment_of self.new) (seen_of self.new) }
+        ensures fits { IfOk result (λ n. n ≤ length buf.new) }
+        ensures gives { IfOk result (Gives (seen_of self.old) at buf.old buf.new) }
+        ensures late { IsErr result ↔ IsLate self.old }
+        ensures counted { Counts self.old self.new 0 }
+    {
         self.calls.next()?;
         let shown = self.log.shown.as_slice();
         if at >= shown.len() as u64 {
@@ -97,7 +130,18 @@ impl Disk for MemDisk {
     }
 
     #[tactic(auto, using(crate::proofs::ChangeLogLemmas::shown_image))]
-    fn write_at(&mut self, at: u64, bytes: &[u8]) -> Result<(), DiskFailed> {
+    fn write_at(&mut self, at: u64, bytes: &[u8]) -> Result<(), DiskFailed>
+        requires counts { faults_of self.old < 2 ^ 64 - 1 }
+        requires within { at ≤ length (seen_of self.old) }
+        ensures cause { CountsFault (faults_of self.old) (faults_of self.new) result }
+        ensures written { OnOk result (Holds (seen_of self.old) at bytes.now (seen_of self.new)) }
+        ensures crash { Passes (moment_of self.old) (moment_of self.new) (image_of self.old) (image_of self.new)
+            (Torn at (length bytes.now)) }
+        ensures syncs { NoSync (moment_of self.old) (moment_of self.new) (synced_of self.old) (synced_of self.new) }
+        ensures own { image_of self.new (moment_of self.new) (seen_of self.new) }
+        ensures late_or_full { IsErr result ↔ IsLate self.old ⊎ IsFull self.old (length bytes.now) }
+        ensures counted { MatchResult result (λ _. Counts self.old self.new (length bytes.now)) (λ _. Counts self.old self.new 0) }
+    {
         let at = at as usize;
         if let Err(failed) = self.calls.next() {
             self.log.tear(at, bytes.len());
@@ -112,7 +156,19 @@ impl Disk for MemDisk {
     }
 
     #[tactic(auto, using(crate::proofs::ChangeLogLemmas::shown_image))]
-    fn sync(&mut self) -> Result<(), DiskFailed> {
+    fn sync(&mut self) -> Result<(), DiskFailed>
+        requires { faults_of self.old < 2 ^ 64 - 1 }
+        ensures cause { CountsFault (faults_of self.old) (faults_of self.new) result }
+        ensures seen { seen_of self.new ≡ seen_of self.old }
+        ensures crash { Passes (moment_of self.old) (moment_of self.new) (image_of self.old) (image_of self.new) Same }
+        ensures syncs { MatchResult result
+            (λ v. SyncsNow (moment_of self.old) (moment_of self.new) (synced_of self.old) (synced_of self.new)
+            (image_of self.new) (seen_of self.old))
+            (λ e. NoSync (moment_of self.old) (moment_of self.new) (synced_of self.old) (synced_of self.new)) }
+        ensures own { image_of self.new (moment_of self.new) (seen_of self.new) }
+        ensures late { IsErr result ↔ IsLate self.old }
+        ensures counted { Counts self.old self.new 0 }
+    {
         self.calls.next()?;
         self.log.sync();
         Ok(())

@@ -206,13 +206,6 @@ settled laid k idle lt = go (slice_get laid k) refl
 pub stays_at : (old new : List Stage) (k : ℕ) → Stays old new → IsLaidAt old k → IsLaidAt new k
 stays_at old new k h (root, e) = (root, h.laid k root e)
 
-pub last_none : (xs : List ℕ) → slice_get xs (length xs - 1) ≡ None → xs ≡ []
-last_none [] e = refl
-last_none (y ∷ xs) e =
-    let lt : length (y ∷ xs) - 1 < length (y ∷ xs) = omega arith in
-    let f : Some (get_or (y ∷ xs) (length (y ∷ xs) - 1) 0) ≡ None = sym (slice_get-get_or (y ∷ xs) (length (y ∷ xs) - 1) 0 lt) ∙ e in
-    absurd (cc)
-
 pub last_some : (xs path : List ℕ) (n y : ℕ) → xs ≡ path → n ≡ length path → slice_get xs (length xs - 1) ≡ Some y → path ≡ take (n - 1) path ++ y ∷ []
 last_some xs path n y same count e =
     let at : slice_get path (length path - 1) ≡ Some y = subst (λ l. slice_get l (length l - 1) ≡ Some y) same e in

@@ -13,7 +13,7 @@ use crate::laid_goal::prepare;
 use crate::numbered_goal::{NumberedGoal, number};
 use flow_facts::Name;
 use flow_form::Script;
-use flow_goal::twice;
+use flow_goal::twice_by_table;
 use flow_workflow::{ExpandRefusal, Numbered, Workflow};
 use std::alloc::Global;
 
@@ -31,7 +31,8 @@ fn goal_of(
 {
     let laid = prepare(alloc, script, events)?;
     let goal = number(alloc, events.text(), script, &laid)?;
-    if let Some(found) = twice(&goal.tree) {
+    let again = twice_by_table(alloc, &goal.tree)?;
+    if let Some(found) = again {
         drop(goal);
         return Err(ExpandRefusal::Twice(found));
     }

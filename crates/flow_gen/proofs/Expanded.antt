@@ -9,11 +9,12 @@ use Rattle.flow_model.specs.declared.limits.TheConstants.{MOST_RULE_NAMES, GREAT
 use Rattle.flow_model.specs.declared.labels.Note.TheVariants.{Done}
 use Rattle.flow_model.specs.declared.labels.Label.{Label}
 use Rattle.flow_model.specs.declared.labels.Label.TheVariants.{Event}
-use Rattle.flow_model.specs.Lists.{◌∈◌, AreDistinct, numbers_from}
+use Rattle.flow_model.specs.Lists.{◌∈◌, Each, AreDistinct, numbers_from}
 use Rattle.flow_model.specs.Facts.{event_at}
 use Rattle.flow_model.specs.Process.{leaves}
 use Rattle.flow_model.specs.Trace.{Trace}
-use Rattle.flow_model.proofs.MadeLists.{distinct-filter_map, numbers_from_below, distinct-numbers_from}
+use Rattle.flow_model.proofs.MadeLists.{distinct-filter_map, numbers_from_below, distinct-numbers_from, length-numbers_from}
+use Rattle.flow_laws.specs.Histories.{NeverWaits}
 use Rattle.flow_laws.proofs.TraceLeaves.{leaf_of_trace, distinct_trace}
 use Rattle.flow_goal.specs.Repeats.{HoldsNoneTwice, HoldsTwice}
 use Rattle.flow_goal.proofs.Repetitions.{not_unique}
@@ -27,16 +28,16 @@ use Rattle.flow_workflow.specs.declared.refusal.ExpandRefusal.TheVariants as ref
 use Rattle.flow_workflow.specs.declared.refusal.Part.TheVariants as part
 use Rattle.flow_expand.specs.Steps.{IsRecursive}
 use Rattle.flow_expand.specs.Expansion.{Expansion, Becomes, size_of}
-use Rattle.flow_expand.specs.Numbers.{numbered, labelled_of, facts_of}
+use Rattle.flow_expand.specs.Numbers.{numbered, labelled_of, facts_of, notes_of}
 use Rattle.flow_expand.specs.Refusals.{IsMeasured, rule_name_count, flow_count}
 use Rattle.flow_expand.specs.Workflows.{IsExpanded, definition_of}
 use Rattle.flow_expand.proofs.LeavesLemmas.{labels_counted, leaves_in_row}
 use Rattle.flow_expand.proofs.Endings.{no_recursion, becomes_one}
 use Rattle.flow_gen.specs.Generated.{event_name, all_draws, kinds, constraints, generated}
-use Rattle.flow_gen.specs.Laws.{WorkflowsAreExpanded, ExpansionsAreNotRefused, choice_count}
+use Rattle.flow_gen.specs.Laws.{WorkflowsAreExpanded, ExpansionsAreNotRefused, LeavesAreCounted, LeavesAreEvents, LabelsNeverWait, NotesAreDone, choice_count}
 use Rattle.flow_gen.proofs.EventNames.{distinct_names}
 use Rattle.flow_gen.proofs.Parts.{declares, get_number}
-use Rattle.flow_gen.proofs.SaidTexts.{kind_count, rule_draws, numbers_length, event_declared, names_are_good}
+use Rattle.flow_gen.proofs.SaidTexts.{kind_count, rule_draws, event_declared, names_are_good}
 use Rattle.flow_gen.proofs.Rows.{IsRow, HasRow, goal_row}
 
 -- No sub-workflow is declared
@@ -52,6 +53,14 @@ names_count first fewer = omega arith
 
 few_flows : (seed size : ℕ) → flow_count (generated seed size) ≡ 0
 few_flows seed size = ap (λ (ns : List (List ℕ)). length ns) (declares (numbers_from 0 (8 * size))).no_flow
+
+events_never_wait : (f : ℕ → ℕ) (ns : List ℕ) → Each NeverWaits (map (λ k. Event (f k)) ns)
+events_never_wait f [] = tt
+events_never_wait f (n ∷ ns) = (tt, events_never_wait f ns)
+
+all_done : (ns : List ℕ) → Each (λ note. note ≡ Done) (notes_of (map (λ k. event (event_name k) Done) ns))
+all_done [] = tt
+all_done (n ∷ ns) = (refl, all_done ns)
 
 event_of_label : (labels : List Label) (x k : ℕ) → slice_get labels x ≡ Some (Event k) → event_at labels x ≡ Some k
 event_of_label labels x k e = rw e refl
@@ -74,7 +83,7 @@ module _ (seed size : ℕ) (some : 1 ≤ size) (few : size ≤ GREATEST_SIZE) wh
   leaves_are =
       let events = event_names (generated seed size).decls in
       leaves_in_row 0 expansion ∙ ap (λ n. numbers_from 0 n) (sym (labels_counted events [] expansion) ∙ ap (λ (ls : List Label). length ls) (row.labels [])
-      ∙ length-map (numbers_from 0 (8 * size)) (λ k. Event (event_number events (event_name k))) ∙ numbers_length 0 (8 * size))
+      ∙ length-map (numbers_from 0 (8 * size)) (λ k. Event (event_number events (event_name k))) ∙ length-numbers_from 0 (8 * size))
 
   -- it is the only one
   pub the_expansion : (e : Expansion) → Becomes (generated seed size).decls (generated seed size).goal e → e ≡ expansion
@@ -116,6 +125,19 @@ module _ (seed size : ℕ) (some : 1 ≤ size) (few : size ≤ GREATEST_SIZE) wh
       (ap (λ (ls : List Label). slice_get ls x) (row.labels (facts_of decls expansion)) ∙ get_number (λ k. Event (event_number (event_names decls) (event_name k))) (8 * size) x h
       ∙ ap (λ k. Some (Event k)) (number_is x h))
 
+  -- and there are no more of them
+  pub label_count : length (labelled_of (generated seed size).decls expansion).labels ≡ 8 * size
+  label_count =
+      let decls = (generated seed size).decls in
+      ap (λ (ls : List Label). length ls) (row.labels (facts_of decls expansion)) ∙ length-map (numbers_from 0 (8 * size)) (λ k. Event (event_number (event_names decls) (event_name k)))
+      ∙ length-numbers_from 0 (8 * size)
+
+  pub never_wait : Each NeverWaits (labelled_of (generated seed size).decls expansion).labels
+  never_wait =
+      let decls = (generated seed size).decls in
+      subst (λ (ls : List Label). Each NeverWaits ls) (sym (row.labels (facts_of decls expansion)))
+      (events_never_wait (λ k. event_number (event_names decls) (event_name k)) (numbers_from 0 (8 * size)))
+
   trace_below : (t : List ℕ) → Trace (numbered 0 expansion) t → (x : ℕ) → x ∈ t → x < 8 * size
   trace_below t trace x m =
       let i = subst (λ ns. x ∈ ns) leaves_are (leaf_of_trace (numbered 0 expansion) t trace x m) in omega (arith, numbers_from_below 0 (8 * size) x i)
@@ -132,6 +154,20 @@ workflows_are_expanded seed size some few = (
   definition_of (generated seed size) (expansion seed size some few),
   record { expansion = expansion seed size some few; measured = is_measured seed size some few; unique = none_twice seed size some few; is = refl },
 )
+
+pub leaves_are_counted : LeavesAreCounted
+leaves_are_counted seed size w some few h = ap (λ (v : Definition). length v.tree.labels) (the_definition seed size some few w h) ∙ label_count seed size some few
+
+pub leaves_are_events : LeavesAreEvents
+leaves_are_events seed size w some few h leaf less =
+    subst (λ (v : Definition). event_at v.tree.labels leaf ≡ Some leaf) (sym (the_definition seed size some few w h)) (leaf_event seed size some few leaf less)
+
+pub labels_never_wait : LabelsNeverWait
+labels_never_wait seed size w some few h =
+    subst (λ (v : Definition). Each NeverWaits v.tree.labels) (sym (the_definition seed size some few w h)) (never_wait seed size some few)
+
+pub notes_are_done : NotesAreDone
+notes_are_done seed size w h = subst (λ (v : Definition). Each (λ note. note ≡ Done) v.notes) (sym h.is) (all_done (numbers_from 0 (8 * size)))
 
 pub expansions_are_not_refused : ExpansionsAreNotRefused
 expansions_are_not_refused seed size (refusal.TooLarge part.Flows count) some few h = absurd (omega (arith, h.many, few_flows seed size))

@@ -12,6 +12,7 @@ use Rattle.flow_laws.specs.WellFormed.{IsConsistent}
 use Rattle.flow_laws.proofs.ResolutionsLemmas.{resolves_of, length-resolutions}
 use Rattle.flow_goal.proofs.Rising.{Rises, resolution_rises}
 use Rattle.flow_workflow.specs.Definition.{Definition, schema_of}
+use Rattle.flow_expand.specs.Numbers.{numbered}
 use Rattle.flow_expand.specs.Workflows.{IsExpanded, definition_of}
 use Rattle.flow_excise.specs.declared.refusal.CompileRefusal.{CompileRefusal}
 use Rattle.flow_excise.specs.declared.refusal.CompileRefusal.TheVariants as compile
@@ -19,7 +20,7 @@ use Rattle.flow_excise.specs.Compilation.{IsRefused}
 use Rattle.flow_plan.specs.Compilation.{IsWithinLimits}
 use Rattle.flow_excise.specs.Options.{schema_with}
 use Rattle.flow_gen.specs.Generated.{choices_in, kind, all_draws, kinds, generated}
-use Rattle.flow_gen.specs.Laws.{choice_count, ChoicesAreFew, ChoicesDouble, WaysAreSingle, OptionsAreResolutions, BulkIsSmall, WorkflowsAreWithinLimits, CompilingIsNotRefused, CompilingPartsIsNotRefused}
+use Rattle.flow_gen.specs.Laws.{choice_count, ChoicesAreFew, ChoicesDouble, ChoicesTakeFour, WaysAreSingle, OptionsAreResolutions, BulkIsSmall, WorkflowsAreWithinLimits, CompilingIsNotRefused, CompilingPartsIsNotRefused}
 use Rattle.flow_gen.proofs.Rows.{choices_more}
 use Rattle.flow_gen.proofs.Expanded.{expansion, row, leaves_are, the_definition}
 use Rattle.flow_gen.proofs.Consistent.{workflows_are_consistent}
@@ -41,6 +42,11 @@ choices_are_few seed size = omega (arith, kinds_choose 0 (take size (all_draws s
 pub choices_double : ChoicesDouble
 choices_double seed size w some few h =
     ap (λ (v : Definition). resolution_count v.tree.process) (the_definition seed size some few w h) ∙ (row seed size some few).resolutions 0
+
+pub choices_take_four : ChoicesTakeFour
+choices_take_four seed size w some few h q m =
+    (row seed size some few).taken 0 q
+    (resolves_of (numbered 0 (expansion seed size some few)) q (subst (λ (v : Definition). q ∈ resolutions v.tree.process) (the_definition seed size some few w h) m))
 
 -- Ways
 

@@ -1,12 +1,15 @@
 -- Goals whose leaves from the left are the events from one number on.
-use Rattle.std.proofs.Common.{◌≡◌, ℕ, zero, suc, ◌+◌, ◌*◌, ◌^◌, ◌<◌, ◌≤◌, List, [], ◌∷◌, ◌++◌, length, map, sum, fold, refl, sym, ap, ap₂, ◌∙◌, arith}
+use Rattle.std.proofs.Common.{◌≡◌, ℕ, zero, suc, ◌+◌, ◌*◌, ◌^◌, ◌<◌, ◌≤◌, List, [], ◌∷◌, ◌++◌, length, map, sum, fold, refl, sym, ap, ap₂, ◌∙◌, inl, inr, length-append, arith}
 use Rattle.std.proofs.lemmas.List.{map-append}
 use Rattle.std.proofs.lemmas.List.Sums.{sum_by-cons}
 use Rattle.std.proofs.lemmas.Nat.{pow-add}
 use Rattle.flow_model.specs.declared.labels.Label.{Label}
 use Rattle.flow_model.specs.declared.labels.Label.TheVariants.{Event}
 use Rattle.flow_model.specs.Lists.{◌∈◌, numbers_from}
+use Rattle.flow_model.specs.Process.{Process, Empty, Task, Sequence, Parallel, Choice, Isolated, leaves, IsChoiceFree}
 use Rattle.flow_model.specs.Resolution.{resolution_count}
+use Rattle.flow_laws.specs.Resolutions.{Resolves}
+use Rattle.flow_fold_laws.proofs.Unfoldings.{choice_free_resolves}
 use Rattle.flow_facts.specs.Atom.{Atom}
 use Rattle.flow_goal.proofs.Numbers.{numbers_from-+}
 use Rattle.flow_form.specs.Form.{Shape, named, iso, beside, shapes}
@@ -29,12 +32,14 @@ labels_joined events first m n =
     sym (map-append (λ k. Event (event_number events (event_name k))) (numbers_from first m) (numbers_from (first + m) n))
     ∙ ap (λ ns. map (λ k. Event (event_number events (event_name k))) ns) (sym (numbers_from-+ first m n))
 
--- its leaves are so many events, from that one on, it has no more isolations, and each of so many choices doubles its resolutions
+-- Its leaves are so many events, from that one on, it has no more isolations, and each of so many choices doubles its resolutions and takes four
+-- leaves away.
 pub record IsRow (events : List (List ℕ)) (first count choices : ℕ) (e : Expansion) : Type 0 where
   pub labels : (facts : List Atom) → labels_of events facts e ≡ labels_from events first count
   pub ends : ends_in e ≡ count
   pub isolations : isolations_in e ≤ count
   pub resolutions : (next : ℕ) → resolution_count (numbered next e) ≡ 2 ^ choices
+  pub taken : (next : ℕ) (q : Process) → Resolves (numbered next e) q → length (leaves q) + 4 * choices ≡ count
 
 row_as : (events : List (List ℕ)) (first count other i j : ℕ) (e : Expansion) → count ≡ other → i ≡ j → IsRow events first count i e → IsRow events first other j e
 row_as events first count other i j e same more r = rw (← same, ← more) r
@@ -45,12 +50,26 @@ record AreBoth (a b e : Expansion) : Type 0 where
   ends : ends_in e ≡ ends_in a + ends_in b
   isolations : isolations_in e ≡ isolations_in a + isolations_in b
   resolutions : (next : ℕ) → resolution_count (numbered next e) ≡ resolution_count (numbered next a) * resolution_count (numbered (next + leaf_count a) b)
+  taken : (next : ℕ) (q : Process) → Resolves (numbered next e) q →
+      (x y : Process) × Resolves (numbered next a) x × Resolves (numbered (next + leaf_count a) b) y × (length (leaves q) ≡ length (leaves x) + length (leaves y))
 
 by_turns : (a b : Expansion) → AreBoth a b (in_turn a b)
-by_turns a b = record { labels = λ events facts. refl; ends = refl; isolations = refl; resolutions = λ next. refl }
+by_turns a b = record {
+  labels = λ events facts. refl;
+  ends = refl;
+  isolations = refl;
+  resolutions = λ next. refl;
+  taken = λ next q (x, y, p, r, is). (x, y, p, r, ap (λ (g : Process). length (leaves g)) is ∙ length-append (leaves x) (leaves y));
+}
 
 side_by_side : (a b : Expansion) → AreBoth a b (at_once a b)
-side_by_side a b = record { labels = λ events facts. refl; ends = refl; isolations = refl; resolutions = λ next. refl }
+side_by_side a b = record {
+  labels = λ events facts. refl;
+  ends = refl;
+  isolations = refl;
+  resolutions = λ next. refl;
+  taken = λ next q (x, y, p, r, is). (x, y, p, r, ap (λ (g : Process). length (leaves g)) is ∙ length-append (leaves x) (leaves y));
+}
 
 -- two rows, the second behind the first, are one
 row_joined : (events : List (List ℕ)) (first m second n i j : ℕ) (a b e : Expansion) → AreBoth a b e → first + m ≡ second →
@@ -60,7 +79,12 @@ row_joined events first m second n i j a b e both behind p q = record {
   ends = omega (arith, both.ends, p.ends, q.ends);
   isolations = omega (arith, both.isolations, p.isolations, q.isolations);
   resolutions = λ next. both.resolutions next ∙ ap₂ ◌*◌ (p.resolutions next) (q.resolutions (next + leaf_count a)) ∙ sym (pow-add 2 i j);
+  taken = λ next g resolves. let (x, y, front, back, long) = both.taken next g resolves in
+      omega (arith, long, p.taken next x front, q.taken (next + leaf_count a) y back);
 }
+
+all_taken : (g : Process) (count : ℕ) → IsChoiceFree g → length (leaves g) ≡ count → (q : Process) → Resolves g q → length (leaves q) + 0 ≡ count
+all_taken g count free long q resolves = let same = ap (λ (p : Process). length (leaves p)) (choice_free_resolves g q free resolves) in omega (arith, same, long)
 
 -- the goal that is written becomes such a one
 abbrev pub HasRow : List Declared → ℕ → ℕ → ℕ → Shape → Type 0
@@ -73,6 +97,11 @@ choices_more k ks = sum_by-cons (λ n. n) (choices_in k) (map choices_in ks)
 
 abbrev row_of : ℕ → ℕ → Expansion
 row_of first n = joined in_turn (map (λ k. happens (event_name k)) (numbers_from first n))
+
+-- one of two rows of four
+either_taken : (first next : ℕ) (q : Process) → Resolves (numbered next (one_of (row_of first 4) (row_of (first + 4) 4))) q → length (leaves q) + 4 ≡ 8
+either_taken first next q (inl h) = let four = all_taken (numbered next (row_of first 4)) 4 (((tt, tt), tt), tt) refl q h in omega (arith, four)
+either_taken first next q (inr h) = let four = all_taken (numbered (next + 4) (row_of (first + 4) 4)) 4 (((tt, tt), tt), tt) refl q h in omega (arith, four)
 
 -- the declarations have the events below the count
 module _ (decls : List Declared) (count : ℕ) (there : (k : ℕ) → k < count → event_name k ∈ event_names decls) where
@@ -92,20 +121,54 @@ module _ (decls : List Declared) (count : ℕ) (there : (k : ℕ) → k < count 
   )
 
   four_row : (first : ℕ) → first + 4 ≤ count → HasRow decls first 4 0 (series first 4)
-  four_row first fits = (row_of first 4, (row_becomes first 4 fits, record { labels = λ facts. refl; ends = refl; isolations = omega arith; resolutions = λ next. refl }))
+  four_row first fits = (
+    row_of first 4,
+    (
+      row_becomes first 4 fits,
+      record { labels = λ facts. refl; ends = refl; isolations = omega arith; resolutions = λ next. refl; taken = λ next. all_taken (numbered next (row_of first 4)) 4 (((tt, tt), tt), tt) refl },
+    ),
+  )
 
   block_row : (first : ℕ) (k : Kind) → first + 8 ≤ count → HasRow decls first 8 (choices_in k) (block first k)
-  block_row first Series fits =
-      (row_of first 8, (row_becomes first 8 fits, record { labels = λ facts. refl; ends = refl; isolations = omega arith; resolutions = λ next. refl }))
+  block_row first Series fits = (
+    row_of first 8,
+    (
+      row_becomes first 8 fits,
+      record {
+        labels = λ facts. refl;
+        ends = refl;
+        isolations = omega arith;
+        resolutions = λ next. refl;
+        taken = λ next. all_taken (numbered next (row_of first 8)) 8 (((((((tt, tt), tt), tt), tt), tt), tt), tt) refl;
+      },
+    ),
+  )
   block_row first Beside fits = beside_row first 4 4 0 0 (series first 4) (series (first + 4) 4) (four_row first (omega arith)) (four_row (first + 4) (omega arith))
-  block_row first IsolatedBeside fits = beside_row first 4 4 0 0 (iso (series first 4)) (series (first + 4) 4)
-      (alone (row_of first 4), (becomes_iso (row_becomes first 4 (omega arith)), record { labels = λ facts. refl; ends = refl; isolations = omega arith; resolutions = λ next. refl }))
+  block_row first IsolatedBeside fits = beside_row first 4 4 0 0 (iso (series first 4)) (series (first + 4) 4) (
+    alone (row_of first 4),
+    (
+      becomes_iso (row_becomes first 4 (omega arith)),
+      record {
+        labels = λ facts. refl;
+        ends = refl;
+        isolations = omega arith;
+        resolutions = λ next. refl;
+        taken = λ next. all_taken (numbered next (alone (row_of first 4))) 4 (((tt, tt), tt), tt) refl;
+      },
+    ),
+  )
       (four_row (first + 4) (omega arith))
   block_row first Either fits = (
     one_of (row_of first 4) (row_of (first + 4) 4),
     (
       becomes_either (more_become (row_becomes first 4 (omega arith)) (more_become (row_becomes (first + 4) 4 (omega arith)) none_becomes)),
-      record { labels = λ facts. labels_joined (event_names decls) first 4 4; ends = refl; isolations = omega arith; resolutions = λ next. refl },
+      record {
+        labels = λ facts. labels_joined (event_names decls) first 4 4;
+        ends = refl;
+        isolations = omega arith;
+        resolutions = λ next. refl;
+        taken = either_taken first;
+      },
     ),
   )
 

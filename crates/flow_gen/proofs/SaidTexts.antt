@@ -19,6 +19,7 @@ use Rattle.flow_text.specs.Saying.{Says}
 use Rattle.flow_text.specs.Parser.{IsParseRefusal}
 use Rattle.flow_text.proofs.SaidLaws.{prints_say_it}
 use Rattle.flow_text.proofs.OneAnswer.{texts_have_one_answer}
+use Rattle.flow_model.proofs.MadeLists.{length-numbers_from}
 use Rattle.flow_gen.specs.Generated.{event_name, all_draws, kinds, generated}
 use Rattle.flow_gen.proofs.Steps.{draws_length, kinds_length}
 use Rattle.flow_gen.specs.Laws.{TextsSayTheirWorkflow, TextsAreRead, WorkflowsAreClosed}
@@ -95,14 +96,10 @@ none_refuses text s refusal says h = let e : Ok s ≡ Err refusal = texts_have_o
 pub texts_are_read : TextsAreRead
 texts_are_read seed size refusal some few h = none_refuses _ (generated seed size) refusal (texts_say_it seed size some few) h
 
-pub numbers_length : (first count : ℕ) → length (numbers_from first count) ≡ count
-numbers_length first zero = refl
-numbers_length first (suc count) = ap (λ n. suc n) (numbers_length (first + 1) count)
-
 pub workflows_are_closed : WorkflowsAreClosed
 workflows_are_closed seed size some few =
     record {
       named = names_are_good seed size some few;
       grouped = (is_well_made seed size some few).0;
-      few = omega (arith, length-map (numbers_from 0 (8 * size)) (λ k. event (event_name k) Done), numbers_length 0 (8 * size), few);
+      few = omega (arith, length-map (numbers_from 0 (8 * size)) (λ k. event (event_name k) Done), length-numbers_from 0 (8 * size), few);
     }

@@ -1,11 +1,14 @@
 -- A generated text is a text of its workflow.
-use Rattle.std.specs.Prelude.{◌≡◌, ℕ, ◌+◌, ◌-◌, ◌*◌, ◌^◌, ◌≤◌, length, map, sum, take}
+use Rattle.std.specs.Prelude.{◌≡◌, ℕ, ◌+◌, ◌-◌, ◌*◌, ◌^◌, ◌<◌, ◌≤◌, Some, length, map, sum, take}
 use Rattle.flow_model.specs.declared.limits.TheConstants.{GREATEST_SIZE}
-use Rattle.flow_model.specs.Lists.{◌∈◌}
+use Rattle.flow_model.specs.declared.labels.Note.TheVariants.{Done}
+use Rattle.flow_model.specs.Lists.{◌∈◌, Each}
+use Rattle.flow_model.specs.Facts.{event_at}
 use Rattle.flow_model.specs.Process.{Process, leaves}
 use Rattle.flow_model.specs.Resolution.{resolutions, resolution_count, ways_in, options, bulk}
 use Rattle.flow_model.specs.Schema.{IsGood}
 use Rattle.flow_laws.specs.WellFormed.{IsConsistent}
+use Rattle.flow_laws.specs.Histories.{NeverWaits}
 use Rattle.flow_form.specs.declared.refusal.TextRefusal.{TextRefusal}
 use Rattle.flow_form.specs.declared.refusal.TextRefusal.TheVariants.{NoMemory}
 use Rattle.flow_form.specs.Names.{IsClosed}
@@ -44,6 +47,23 @@ WorkflowsAreExpanded = (seed size : ℕ) → 1 ≤ size → size ≤ GREATEST_SI
 abbrev pub ExpansionsAreNotRefused : Type 0
 ExpansionsAreNotRefused = (seed size : ℕ) (r : ExpandRefusal) → 1 ≤ size → size ≤ GREATEST_SIZE → IsRefusal (generated seed size) r → r ≡ refusal.NoMemory
 
+-- it has eight leaves a block
+abbrev pub LeavesAreCounted : Type 0
+LeavesAreCounted = (seed size : ℕ) (w : Definition) → 1 ≤ size → size ≤ GREATEST_SIZE → IsExpanded (generated seed size) w → length w.tree.labels ≡ 8 * size
+
+-- each is of the event with its number
+abbrev pub LeavesAreEvents : Type 0
+LeavesAreEvents = (seed size : ℕ) (w : Definition) → 1 ≤ size → size ≤ GREATEST_SIZE → IsExpanded (generated seed size) w → (leaf : ℕ) → leaf < 8 * size →
+    event_at w.tree.labels leaf ≡ Some leaf
+
+-- so nothing in it waits
+abbrev pub LabelsNeverWait : Type 0
+LabelsNeverWait = (seed size : ℕ) (w : Definition) → 1 ≤ size → size ≤ GREATEST_SIZE → IsExpanded (generated seed size) w → Each NeverWaits w.tree.labels
+
+-- and each of its events is declared to succeed
+abbrev pub NotesAreDone : Type 0
+NotesAreDone = (seed size : ℕ) (w : Definition) → IsExpanded (generated seed size) w → Each (λ note. note ≡ Done) w.notes
+
 -- from left to right, the leaves of each of its resolutions are a good trace
 abbrev pub LeavesAreGoodTraces : Type 0
 LeavesAreGoodTraces = (seed size : ℕ) (w : Definition) → 1 ≤ size → size ≤ GREATEST_SIZE → IsExpanded (generated seed size) w → (q : Process) →
@@ -63,6 +83,11 @@ ChoicesAreFew = (seed size : ℕ) → choice_count seed size ≤ 6
 abbrev pub ChoicesDouble : Type 0
 ChoicesDouble = (seed size : ℕ) (w : Definition) → 1 ≤ size → size ≤ GREATEST_SIZE → IsExpanded (generated seed size) w →
     resolution_count w.tree.process ≡ 2 ^ choice_count seed size
+
+-- and takes four leaves away
+abbrev pub ChoicesTakeFour : Type 0
+ChoicesTakeFour = (seed size : ℕ) (w : Definition) → 1 ≤ size → size ≤ GREATEST_SIZE → IsExpanded (generated seed size) w → (q : Process) →
+    q ∈ resolutions w.tree.process → length (leaves q) + 4 * choice_count seed size ≡ 8 * size
 
 -- the leaves of a resolution meet the constraints in one way
 abbrev pub WaysAreSingle : Type 0

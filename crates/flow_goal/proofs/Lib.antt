@@ -3,8 +3,10 @@ pub mod Counting
 pub mod EachLists
 pub mod Rising
 pub mod SimpleLemmas
-pub mod FirstPartner
+pub mod FirstPair
 pub mod Repetitions
+pub mod BatchLemmas
 pub mod Writing
 pub mod PatternLemmas
 pub mod WrittenLemmas
+pub mod FoldsLemmas

@@ -33,10 +33,10 @@ then_assoc s t u = λ i. record { nodes = append_assoc s.nodes t.nodes u.nodes i
 lines_assoc : (ss ts us : List Line) → both (both ss ts) us ≡ both ss (both ts us)
 lines_assoc ss ts us = each_assoc then then_assoc ss ts us
 
-nothing_first : (ls : List Line) → both (nothing ∷ []) ls ≡ ls
+pub nothing_first : (ls : List Line) → both (nothing ∷ []) ls ≡ ls
 nothing_first ls = append-nil (map (then nothing) ls) ∙ map-id ls
 
-nothing_last : (ls : List Line) → both ls (nothing ∷ []) ≡ ls
+pub nothing_last : (ls : List Line) → both ls (nothing ∷ []) ≡ ls
 nothing_last [] = refl
 nothing_last (l ∷ ls) = λ i. record { nodes = append-nil l.nodes i; leaves = append-nil l.leaves i } ∷ nothing_last ls i
 

@@ -1,11 +1,16 @@
+pub mod Batches
 pub mod Capped
 pub mod Choices
+pub mod EventSet
+pub mod Folds
 pub mod Goal
 pub mod Labelled
+pub mod Measure
 pub mod Numbering
 pub mod Resolved
 pub mod Simple
-pub mod Partners
+pub mod Occurrences
 pub mod Pattern
 pub mod Repeats
+pub mod Times
 pub mod Written

@@ -1,5 +1,6 @@
 -- The resolutions of a goal as texts, of which what they have in common is written once.
 use Rattle.std.specs.Prelude.{◌≡◌, ◌+◌, ◌*◌, ℕ, List, [], ◌∷◌, ◌++◌, length, map, Some, slice_get}
+use Rattle.std.specs.List.{flat_map}
 use Rattle.flow_model.specs.Lists.{each_with_each}
 use Rattle.flow_model.specs.Process.{Process}
 use Rattle.flow_model.specs.Process as process
@@ -38,6 +39,10 @@ abbrev pub lines_of : Pattern → List Line
 lines_of (Fixed text) = line_of text ∷ []
 lines_of (Both' count p a q b) = each_with_each then (lines_of a) (lines_of b)
 lines_of (Either' count p a q b) = lines_of a ++ lines_of b
+
+-- those of each pattern of a list
+abbrev pub lines_of_all : List Pattern → List Line
+lines_of_all patterns = flat_map lines_of patterns
 
 -- the numbers that the pattern keeps are right
 abbrev pub IsCounted : Pattern → Type 0

@@ -1,24 +1,34 @@
 //! Goals with labelled leaves.
 #![tactic(auto)]
 
+mod batches;
 mod choiceless;
 mod choices;
 mod draft;
+mod event_set;
 mod events;
+mod fold;
+mod folds;
 mod goal;
 mod goal_stack;
+mod measure;
 mod node;
-mod partners;
+mod occurrence;
 mod pattern;
 mod repeats;
 mod simple;
 mod text;
+mod times;
 mod tree;
+mod walk;
 
 pub use choiceless::Choiceless;
 pub use choices::{Choices, resolutions, resolve};
-pub use events::twice;
+pub use event_set::EventSet;
+pub use events::{twice, twice_by_table};
 pub use flow_model::{Label, Note};
+pub use fold::Fold;
+pub use folds::Folds;
 pub use goal::{Goal, together};
 pub use node::Node;
 pub use repeats::Twice;

@@ -1,6 +1,6 @@
-ghost use Rattle.std.specs.Prelude.{◌≡◌, ◌<◌, ◌-◌, ◌^◌, length, IfOk, OnOk};
+ghost use Rattle.std.specs.Prelude.{◌≡◌, ◌<◌, ◌-◌, ◌^◌, ◌∷◌, [], length, IfOk, IsTrue, OnOk};
 ghost use Rattle.flow_goal.specs.Capped.{capped};
-ghost use Rattle.flow_goal.specs.Pattern.{IsCounted, Writes, lines_of};
+ghost use Rattle.flow_goal.specs.Pattern.{IsCounted, Writes, lines_of, nothing};
 
 use crate::text::Text;
 use std::alloc::{AllocError, Global};
@@ -26,6 +26,16 @@ impl Pattern {
         match self {
             Pattern::Fixed(_) => 1,
             Pattern::Both(count, _, _) | Pattern::Either(count, _, _) => *count,
+        }
+    }
+
+    /// Whether there is one resolution, of which nothing is written.
+    pub(crate) fn is_nothing(&self) -> bool
+        ensures { IsTrue result → lines_of self.now ≡ nothing ∷ [] }
+    {
+        match self {
+            Pattern::Fixed(text) => text.is_empty(),
+            Pattern::Both(..) | Pattern::Either(..) => false,
         }
     }
 }

@@ -1,4 +1,4 @@
-ghost use Rattle.std.specs.Prelude.{◌≡◌, ◌∷◌, [], IfOk, OnOk};
+ghost use Rattle.std.specs.Prelude.{◌≡◌, ◌∷◌, [], ◌↔◌, IfOk, IsTrue, OnOk};
 ghost use Rattle.flow_goal.specs.declared.node.Node.TheVariants.{Leaf};
 ghost use Rattle.flow_goal.specs.Pattern.{line_of, nothing, then};
 
@@ -32,6 +32,13 @@ impl Text {
             nodes: Vec::with_capacity(alloc, 4 * room)?,
             leaves: Vec::with_capacity(alloc, room)?,
         })
+    }
+
+    /// Whether nothing is written.
+    pub(crate) fn is_empty(&self) -> bool
+        ensures { IsTrue result ↔ line_of self.now ≡ nothing }
+    {
+        self.nodes.is_empty() && self.leaves.is_empty()
     }
 
     /// Puts a mark behind what is written.

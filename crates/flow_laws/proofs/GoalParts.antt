@@ -132,6 +132,35 @@ part_of_region q part inner m = (is_region (case_of q) part m).parts inner
 pub region_distinct : (q part : Process) → AreDistinct (leaves q) → part ∈ regions q → AreDistinct (leaves part)
 region_distinct q part d m = (is_region (case_of q) part m).distinct d
 
+-- what stands in sequence before one leaf of an isolated part, and outside it, stands before each
+pub before_whole_part : (g : Process) → AreDistinct (leaves g) → (part : Process) → part ∈ isolated_parts g → (x y n : ℕ) →
+    ¬ (x ∈ leaves part) → y ∈ leaves part → n ∈ leaves part → InSequence g x y → InSequence g x n
+before_whole_part (Sequence a b) d part m x y n out k l s =
+    let (da, db, apart) = distinct_parts (leaves a) (leaves b) d in
+    ⊎_elim
+    (λ i. ⊎_elim
+    (⊎_elim (λ h. absurd (apart y (part_within a part y i k) h.1)) (λ h. inl (inr (before_whole_part a da part i x y n out k l h))))
+    (λ h. absurd (apart y (part_within a part y i k) (sequence_second b x y h))) s)
+    (λ i. ⊎_elim
+    (⊎_elim (λ h. inl (inl (h.0, part_within b part n i l))) (λ h. absurd (apart y (sequence_second a x y h) (part_within b part y i k))))
+    (λ h. inr (before_whole_part b db part i x y n out k l h)) s)
+    (mem-append part (isolated_parts a) (isolated_parts b) m)
+before_whole_part (Parallel a b) d part m x y n out k l s =
+    let (da, db, apart) = distinct_parts (leaves a) (leaves b) d in
+    ⊎_elim
+    (λ i. ⊎_elim (λ h. inl (before_whole_part a da part i x y n out k l h)) (λ h. absurd (apart y (part_within a part y i k) (sequence_second b x y h))) s)
+    (λ i. ⊎_elim (λ h. absurd (apart y (sequence_second a x y h) (part_within b part y i k))) (λ h. inr (before_whole_part b db part i x y n out k l h)) s)
+    (mem-append part (isolated_parts a) (isolated_parts b) m)
+before_whole_part (Choice a b) d part m x y n out k l s =
+    let (da, db, apart) = distinct_parts (leaves a) (leaves b) d in
+    ⊎_elim
+    (λ i. ⊎_elim (λ h. inl (before_whole_part a da part i x y n out k l h)) (λ h. absurd (apart y (part_within a part y i k) (sequence_second b x y h))) s)
+    (λ i. ⊎_elim (λ h. absurd (apart y (sequence_second a x y h) (part_within b part y i k))) (λ h. inr (before_whole_part b db part i x y n out k l h)) s)
+    (mem-append part (isolated_parts a) (isolated_parts b) m)
+before_whole_part (Isolated a) d part (inl e) x y n out k l s = absurd (out (subst (λ p. x ∈ leaves p) (sym e) (sequence_first a x y s)))
+before_whole_part (Isolated a) d part (inr m) x y n out k l s = before_whole_part a d part m x y n out k l s
+before_whole_part leaf d part m x y n out k l s = absurd s
+
 -- of two regions with a common leaf, one lies in the other
 pub nested : {q : Process} → Case q → (one two : Process) (n : ℕ) → AreDistinct (leaves q) → one ∈ regions q → two ∈ regions q →
     n ∈ leaves one → n ∈ leaves two → (one ∈ regions two) ⊎ (two ∈ regions one)

@@ -1,11 +1,15 @@
 pub mod Shuffles
+pub mod ThinnedLists
 pub mod TraceLeaves
 pub mod ResolutionsLemmas
+pub mod FoldingLemmas
 pub mod WaysLemmas
+pub mod NamedEvents
 pub mod OptionsLemmas
 pub mod EventsLemmas
 pub mod GoalParts
 pub mod Orderings
+pub mod RunsByStep
 pub mod ReadyRuns
 pub mod OrdersByTwo
 pub mod CircleOrTrace

@@ -52,7 +52,7 @@ pub all_of_is : (ds : List Constraint) (events : List ℕ) → Meets (all_of ds)
 all_of_is ds events = grind (arith, conjoined_is Always ds events)
 
 -- an execution of a resolution has its leaves, and no event twice
-has_its_leaves : (w : Schema) → IsWellFormed w → (q : Process) → q ∈ resolutions w.goal → (t : List ℕ) → Trace q t → AreItsLeaves w.labels t (leaves q)
+pub has_its_leaves : (w : Schema) → IsWellFormed w → (q : Process) → q ∈ resolutions w.goal → (t : List ℕ) → Trace q t → AreItsLeaves w.labels t (leaves q)
 has_its_leaves w f q m t h =
     let free = choice_free_resolution w.goal q (resolves_of w.goal q m) in
     record { distinct = f.unique t (goal_trace w.goal q m t h); same = λ n. (leaf_of_trace q t h n, leaf_in_trace q free t h n) }

@@ -8,6 +8,8 @@ use Rattle.flow_laws.specs.WellFormed.{IsOrdered}
 use Rattle.flow_laws.specs.ReadyRuns.{CompleteRunsAreTraces, FrontsAreReady}
 use Rattle.flow_model.proofs.Lists.{mem_here, each_member, split_at, not_elsewhere, before_members, before_across, before_right, in_front, not_both_ways, mem-append, each_from_members}
 use Rattle.flow_laws.proofs.GoalParts.{sequence_first, sequence_second, sequence_other, part_within}
+use Rattle.flow_laws.proofs.RunsByStep
+use Rattle.flow_laws.proofs.RunsByStep.{IsByStep, run_as, as_well, run-append, run_of}
 use Rattle.flow_laws.proofs.Orderings.{IsOrdering, ordering_of_trace, trace_of_ordering}
 
 -- what is directly before what
@@ -69,51 +71,26 @@ same_ready q pairs D E n to from h = record {
   begins = λ part m k none x y l p b. to x (h.begins part m k (λ z i e. none z i (to z e)) x y l p b);
 }
 
+-- ready runs are made of steps
+pub ready_by_step : (q : Process) (pairs : List (ℕ × ℕ)) → IsByStep (IsReady q pairs) (IsReadyRunAfter q pairs)
+ready_by_step q pairs = record {
+  nothing = λ D. tt;
+  step = λ D n run. (λ h. h, λ h. h);
+  same = λ D E n same. same_ready q pairs D E n (λ x. (same x).0) (λ x. (same x).1);
+}
+
 pub same_run : (q : Process) (pairs : List (ℕ × ℕ)) (D E : ℕ → Type 0) (run : List ℕ) → ((x : ℕ) → D x → E x) → ((x : ℕ) → E x → D x) →
     IsReadyRunAfter q pairs D run → IsReadyRunAfter q pairs E run
-same_run q pairs D E [] to from h = tt
-same_run q pairs D E (n ∷ run) to from h = (
-  same_ready q pairs D E n to from h.0,
-  same_run q pairs (DoneOr D (n ∷ [])) (DoneOr E (n ∷ [])) run
-      (λ x. ⊎_elim (λ l. inl (to x l)) inr) (λ x. ⊎_elim (λ l. inl (from x l)) inr) h.1,
-)
-
--- the same leaves are done
-abbrev pub AreSame : (ℕ → Type 0) → (ℕ → Type 0) → Type 0
-AreSame D E = (n : ℕ) → D n ↔ E n
-
-pub as_well : (q : Process) (pairs : List (ℕ × ℕ)) (D E : ℕ → Type 0) (run : List ℕ) → AreSame D E →
-    IsReadyRunAfter q pairs D run ↔ IsReadyRunAfter q pairs E run
-as_well q pairs D E run same =
-    (same_run q pairs D E run (λ n. (same n).0) (λ n. (same n).1), same_run q pairs E D run (λ n. (same n).1) (λ n. (same n).0))
-
--- two ready runs, one after the other, are one
-pub run-append : (q : Process) (pairs : List (ℕ × ℕ)) (D : ℕ → Type 0) (run more : List ℕ) →
-    IsReadyRunAfter q pairs D (run ++ more) ↔ (IsReadyRunAfter q pairs D run × IsReadyRunAfter q pairs (DoneOr D run) more)
-run-append q pairs D [] more = grind (arith, as_well q pairs D (DoneOr D []) more (λ n. grind arith))
-run-append q pairs D (n ∷ run) more =
-    let fact = as_well q pairs (DoneOr (DoneOr D (n ∷ [])) run) (DoneOr D (n ∷ run)) more (λ m. grind arith) in
-    grind (arith, run-append q pairs (DoneOr D (n ∷ [])) run more)
+same_run q pairs D E run to from = run_as (ready_by_step q pairs) D E run (λ x. (to x, from x))
 
 pub run_front : (q : Process) (pairs : List (ℕ × ℕ)) (D : ℕ → Type 0) (front back : List ℕ) → IsReadyRunAfter q pairs D (front ++ back) →
     IsReadyRunAfter q pairs D front
-run_front q pairs D front back h = ((run-append q pairs D front back).0 h).0
-
--- where each leaf of the list may come next after those before it, the list is a ready run
-pub run_of : (q : Process) (pairs : List (ℕ × ℕ)) (D : ℕ → Type 0) (run : List ℕ) →
-    ((front : List ℕ) (n : ℕ) (back : List ℕ) → run ≡ front ++ n ∷ back → IsReady q pairs (DoneOr D front) n) → IsReadyRunAfter q pairs D run
-run_of q pairs D [] f = tt
-run_of q pairs D (n ∷ run) f = (
-  same_ready q pairs (DoneOr D []) D n (λ x. grind arith) (λ x. inl) (f [] n run refl),
-  run_of q pairs (DoneOr D (n ∷ [])) run (λ front m back e.
-      same_ready q pairs (DoneOr D (n ∷ front)) (DoneOr (DoneOr D (n ∷ [])) front) m (λ x. grind arith) (λ x. grind arith)
-      (f (n ∷ front) m back (ap (λ l. n ∷ l) e))),
-)
+run_front q pairs = RunsByStep.run_front (ready_by_step q pairs)
 
 pub run_after_journal : (q : Process) (pairs : List (ℕ × ℕ)) (journal more : List ℕ) →
     IsReadyRun q pairs (journal ++ more) ↔ (IsReadyRun q pairs journal × IsReadyRunAfter q pairs (λ n. n ∈ journal) more)
 run_after_journal q pairs journal more =
-    grind (arith, run-append q pairs (λ n. ⊥) journal more, as_well q pairs (DoneOr (λ n. ⊥) journal) (λ n. n ∈ journal) more (λ n. grind arith))
+    grind (arith, run-append (ready_by_step q pairs) (λ n. ⊥) journal more, as_well (ready_by_step q pairs) (DoneOr (λ n. ⊥) journal) (λ n. n ∈ journal) more (λ n. grind arith))
 
 -- each leaf of a ready run may come next after those before it
 pub ready_at : (q : Process) (pairs : List (ℕ × ℕ)) (front : List ℕ) (n : ℕ) (back : List ℕ) → IsReadyRun q pairs (front ++ n ∷ back) →
@@ -125,6 +102,11 @@ pub run_grow : (q : Process) (pairs : List (ℕ × ℕ)) (run : List ℕ) (n : �
     IsReadyRun q pairs (run ++ n ∷ [])
 run_grow q pairs run n h r = (run_after_journal q pairs run (n ∷ [])).1 (h, (r, tt))
 
+-- each leaf of a ready run is one of the goal
+pub run_leaf : (q : Process) (pairs : List (ℕ × ℕ)) (D : ℕ → Type 0) (run : List ℕ) → IsReadyRunAfter q pairs D run → (n : ℕ) → n ∈ run → n ∈ leaves q
+run_leaf q pairs D [] h n m = absurd m
+run_leaf q pairs D (k ∷ run) (r, h) n m = ⊎_elim (λ e. subst (λ z. z ∈ leaves q) (sym e) r.leaf) (run_leaf q pairs (DoneOr D (k ∷ [])) run h n) m
+
 -- the leaves of a ready run are distinct and were not done
 pub run_distinct : (q : Process) (pairs : List (ℕ × ℕ)) (D : ℕ → Type 0) (run : List ℕ) → IsReadyRunAfter q pairs D run →
     AreDistinct run × ((x : ℕ) → x ∈ run → ¬ (D x))
@@ -135,7 +117,7 @@ run_distinct q pairs D (n ∷ run) h = grind (arith, run_distinct q pairs (DoneO
 
 -- a front of an execution is a ready run
 pub front_ready : (q : Process) (pairs : List (ℕ × ℕ)) (t front : List ℕ) → IsOrdered q pairs → IsArrangement q pairs t → Begins t front → IsReadyRun q pairs front
-front_ready q pairs t front w a b = run_of q pairs (λ x. ⊥) front (λ done n back e.
+front_ready q pairs t front w a b = run_of (ready_by_step q pairs) (λ x. ⊥) front (λ done n back e.
     let whole : t ≡ done ++ n ∷ (back ++ b.0) = b.1 ∙ ap (λ l. l ++ b.0) e ∙ append_assoc done (n ∷ back) b.0 in
     same_ready q pairs (λ x. x ∈ done) (DoneOr (λ x. ⊥) done) n (λ x. inr) (λ x. ⊎_elim absurd (λ l. l))
     (ready_in_arrangement q pairs done n (back ++ b.0) w (subst (IsArrangement q pairs) whole a)))

@@ -1,5 +1,5 @@
 -- Resolutions: whose executions they have, which they are, and what their leaves are.
-use Rattle.std.proofs.Common.{◌≡◌, ℕ, ◌+◌, ◌*◌, ◌↔◌, List, ◌++◌, length, refl, ap, ◌∙◌, subst, inl, inr, ⊎_elim, slice_get, Some, length-append, arith}
+use Rattle.std.proofs.Common.{◌≡◌, ℕ, ◌+◌, ◌*◌, ◌⊎◌, ◌↔◌, List, ◌++◌, length, refl, ap, ◌∙◌, subst, inl, inr, ⊎_elim, slice_get, Some, length-append, arith}
 use Rattle.std.proofs.lemmas.List.{length-map}
 use Rattle.flow_model.specs.Lists.{◌∈◌, AreDistinct, each_with_each, joined}
 use Rattle.flow_model.specs.Process.{Process, Empty, Task, Sequence, Parallel, Choice, Isolated, leaves, IsChoiceFree}
@@ -81,27 +81,28 @@ number_of_right a b x i e =
 
 -- Their leaves
 
--- each leaf of the one, which has no choice, is a leaf of the other, and stands once where it does there
-abbrev KeepsLeaves : Process → Process → Type 0
-KeepsLeaves g q = ((n : ℕ) → n ∈ leaves q → n ∈ leaves g) × (AreDistinct (leaves g) → AreDistinct (leaves q)) × IsChoiceFree q
+-- each leaf of the one is a leaf of the other, and stands once where it does there
+abbrev pub KeepsLeaves : Process → Process → Type 0
+KeepsLeaves g q = ((n : ℕ) → n ∈ leaves q → n ∈ leaves g) × (AreDistinct (leaves g) → AreDistinct (leaves q))
 
-halves_kept : (a b x y : Process) → KeepsLeaves a x → KeepsLeaves b y → KeepsLeaves (Parallel a b) (Parallel x y)
-halves_kept a b x y (of_a, in_a, free_a) (of_b, in_b, free_b) = (
+pub halves_kept : (a b x y : Process) → KeepsLeaves a x → KeepsLeaves b y → KeepsLeaves (Parallel a b) (Parallel x y)
+halves_kept a b x y (of_a, in_a) (of_b, in_b) = (
   λ n m. mem_by_halves n (leaves a) (leaves b) (of_a n) (of_b n) (mem-append n (leaves x) (leaves y) m),
   λ d. let (da, db, apart) = distinct_parts (leaves a) (leaves b) d in
       distinct-append (leaves x) (leaves y) (in_a da) (in_b db) (λ n h k. apart n (of_a n h) (of_b n k)),
-  (free_a, free_b),
 )
 
-kept_leaves : (g q : Process) → Resolves g q → KeepsLeaves g q
+pub side_kept : (a b q : Process) → KeepsLeaves a q ⊎ KeepsLeaves b q → KeepsLeaves (Choice a b) q
+side_kept a b q (inl (of_a, in_a)) = (λ n m. mem_append_left n (leaves a) (leaves b) (of_a n m), λ d. in_a (distinct_left (leaves a) (leaves b) d))
+side_kept a b q (inr (of_b, in_b)) = (λ n m. mem_append_right n (leaves a) (leaves b) (of_b n m), λ d. in_b (distinct_right (leaves a) (leaves b) d))
+
+pub kept_leaves : (g q : Process) → Resolves g q → KeepsLeaves g q
 kept_leaves (Sequence a b) q (x, y, hx, hy, e) = rw e (halves_kept a b x y (kept_leaves a x hx) (kept_leaves b y hy))
 kept_leaves (Parallel a b) q (x, y, hx, hy, e) = rw e (halves_kept a b x y (kept_leaves a x hx) (kept_leaves b y hy))
-kept_leaves (Choice a b) q (inl h) =
-    let (of_a, in_a, free) = kept_leaves a q h in (λ n m. mem_append_left n (leaves a) (leaves b) (of_a n m), λ d. in_a (distinct_left (leaves a) (leaves b) d), free)
-kept_leaves (Choice a b) q (inr h) =
-    let (of_b, in_b, free) = kept_leaves b q h in (λ n m. mem_append_right n (leaves a) (leaves b) (of_b n m), λ d. in_b (distinct_right (leaves a) (leaves b) d), free)
+kept_leaves (Choice a b) q (inl h) = side_kept a b q (inl (kept_leaves a q h))
+kept_leaves (Choice a b) q (inr h) = side_kept a b q (inr (kept_leaves b q h))
 kept_leaves (Isolated a) q (x, h, e) = rw e (kept_leaves a x h)
-kept_leaves leaf q e = rw e (λ n m. m, λ d. d, tt)
+kept_leaves leaf q e = rw e (λ n m. m, λ d. d)
 
 pub mem-leaves_of_goal : (g q : Process) → Resolves g q → (n : ℕ) → n ∈ leaves q → n ∈ leaves g
 mem-leaves_of_goal g q r = (kept_leaves g q r).0
@@ -110,7 +111,11 @@ pub distinct_leaves_of_resolution : (g q : Process) → Resolves g q → AreDist
 distinct_leaves_of_resolution g q r = (kept_leaves g q r).1
 
 pub choice_free_resolution : (g q : Process) → Resolves g q → IsChoiceFree q
-choice_free_resolution g q r = (kept_leaves g q r).2
+choice_free_resolution (Sequence a b) q (x, y, hx, hy, e) = rw e (choice_free_resolution a x hx, choice_free_resolution b y hy)
+choice_free_resolution (Parallel a b) q (x, y, hx, hy, e) = rw e (choice_free_resolution a x hx, choice_free_resolution b y hy)
+choice_free_resolution (Choice a b) q h = ⊎_elim (choice_free_resolution a q) (choice_free_resolution b q) h
+choice_free_resolution (Isolated a) q (x, h, e) = rw e (choice_free_resolution a x h)
+choice_free_resolution leaf q e = rw e tt
 
 -- Executions by their leaves
 

@@ -1,5 +1,5 @@
 -- Each entry that may be made keeps the state sound.
-use Rattle.std.proofs.Common.{◌≡◌, ℕ, zero, suc, true, List, [], ◌∷◌, ◌++◌, is_some, MatchOption, slice_get, Option, Some, None, sym, true≢false, ◌+◌, ◌≤◌, false, not, ◌&&◌, nat_le, nat_lt, IsTrue, map, length, take, drop, filter, slice_index, refl, ap, ◌∙◌, subst, append_assoc, length-append, take-append-drop, arith, le_refl, append-nil, ◌⊎◌, inl, inr, ⊎_elim}
+use Rattle.std.proofs.Common.{◌≡◌, ℕ, zero, suc, true, List, [], ◌∷◌, ◌++◌, is_some, MatchOption, slice_get, Option, Some, None, sym, true≢false, ◌+◌, ◌<◌, ◌≤◌, false, not, ◌&&◌, nat_le, nat_lt, IsTrue, map, length, take, drop, filter, slice_index, refl, ap, ◌∙◌, subst, append_assoc, length-append, take-append-drop, arith, le_refl, append-nil, ◌⊎◌, inl, inr, ⊎_elim}
 use Rattle.std.proofs.lemmas.Bool.{eq-eqb, leb-true}
 use Rattle.std.proofs.lemmas.List.{length-take-le, length-map, map-append}
 use Rattle.std.proofs.lemmas.List.Elements.{filter-append}
@@ -248,3 +248,11 @@ pub kept_from : (w : Schema) → IsWellFormed w → (limit : ℕ) (s : RunState)
 kept_from w f limit s made h [] later legal = h
 kept_from w f limit s made h (entry ∷ front) later legal =
     kept_from w f limit (next_state w s entry.step) (made + 1) (kept_next w f s h entry.step legal.2) front later legal.3
+
+-- a legal history is no longer than the limit
+pub legal_length : (w : Schema) (limit : ℕ) (s : RunState) (made : ℕ) (history : List Entry) → IsLegalFrom w limit s made history → made ≤ limit → made + length history ≤ limit
+legal_length w limit s made [] legal few = omega arith
+legal_length w limit s made (entry ∷ history) legal few =
+    let room : made < limit = legal.1 in
+    let rest : made + 1 + length history ≤ limit = legal_length w limit (next_state w s entry.step) (made + 1) history legal.3 (omega arith) in
+    omega arith

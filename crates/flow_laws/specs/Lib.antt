@@ -1,5 +1,6 @@
 pub mod WellFormed
 pub mod Resolutions
+pub mod Folding
 pub mod ReadyRuns
 pub mod Orders
 pub mod Circles

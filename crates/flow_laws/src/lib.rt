@@ -3,6 +3,7 @@
 
 mod circles;
 mod events;
+mod folding;
 mod following;
 mod histories;
 mod orders;
@@ -12,6 +13,7 @@ mod ways;
 
 pub use circles::law_circle_exactly_without_trace;
 pub use events::law_unique_events_by_least_goal;
+pub use folding::law_folded_resolutions;
 pub use following::law_orders_may_follow;
 pub use histories::{law_legal_states_extend, law_never_at_a_loss, law_new_epochs_spare};
 pub use orders::law_pairs_suffice_for_orders;

@@ -1,5 +1,6 @@
 -- Members of lists: what each has, and where they stand.
-use Rattle.std.proofs.Common.{◌≡◌, ◌≢◌, ◌<◌, ◌≤◌, ℕ, zero, suc, List, [], ◌∷◌, ◌++◌, ◌⊎◌, length, length-append, arith, slice_get, Some, refl, sym, ap, subst, inl, inr, ⊎_elim}
+use Rattle.std.proofs.Common.{◌≡◌, ◌≢◌, ◌-◌, ◌<◌, ◌≤◌, ℕ, zero, suc, List, [], ◌∷◌, ◌++◌, ◌⊎◌, length, length-append, arith, slice_get, Some, None, get_or, refl, sym, ap, ◌∙◌, subst, inl, inr, ⊎_elim}
+use Rattle.std.proofs.lemmas.Option.{slice_get-get_or}
 use Rattle.flow_model.specs.Lists.{◌∈◌, Each, AreDistinct, StandsBefore}
 use Rattle.flow_model.specs.Decided.{Decided, decide_in, decide_some}
 
@@ -85,6 +86,13 @@ each_to P Q (x ∷ xs) to (h, t) = (to x h, each_to P Q xs to t)
 pub find_member : {A : Type 0} (P : A → Type 0) → ((x : A) → Decided (P x)) → (list : List A) →
     ((x : A) × (x ∈ list) × P x) ⊎ ((x : A) → x ∈ list → ¬ (P x))
 find_member P d list = ⊎_elim inl (λ n. inr (λ x m p. n (x, m, p))) (decide_some P d list)
+
+-- Q is found at one of the members, or each of them has P
+pub one_or_all : {A Q : Type 0} (P : A → Type 0) (list : List A) → ((x : A) → x ∈ list → Q ⊎ P x) → Q ⊎ ((x : A) → x ∈ list → P x)
+one_or_all P [] f = inr (λ x m. absurd m)
+one_or_all P (y ∷ list) f = ⊎_elim inl
+    (λ p. ⊎_elim inl (λ all. inr (λ x. ⊎_elim (λ e. subst P (sym e) p) (all x))) (one_or_all P list (λ x m. f x (inr m))))
+    (f y (inl refl))
 
 -- the first member with P, and what stands around it
 pub first_member : {A : Type 0} (P : A → Type 0) → ((x : A) → Decided (P x)) → (list : List A) (x : A) → x ∈ list → P x →
@@ -221,3 +229,11 @@ not_both_ways x y list d h k = not_before_itself x list d (before_trans x y x li
 pub in_front : {A : Type 0} (x y : A) (a b : List A) → AreDistinct (a ++ y ∷ b) → StandsBefore x y (a ++ y ∷ b) → x ∈ a
 in_front x y [] b d h = absurd (grind (arith, h, d.0, before_members x y b))
 in_front x y (z ∷ a) b d h = grind (arith, h, in_front x y a b d.1)
+
+-- a list with no last member is empty
+pub last_none : (xs : List ℕ) → slice_get xs (length xs - 1) ≡ None → xs ≡ []
+last_none [] e = refl
+last_none (y ∷ xs) e =
+    let lt : length (y ∷ xs) - 1 < length (y ∷ xs) = omega arith in
+    let f : Some (get_or (y ∷ xs) (length (y ∷ xs) - 1) 0) ≡ None = sym (slice_get-get_or (y ∷ xs) (length (y ∷ xs) - 1) 0 lt) ∙ e in
+    absurd (cc)

@@ -1,9 +1,10 @@
 -- Lists made of others: mapped, joined, filtered, numbered, reordered.
-use Rattle.std.proofs.Common.{◌≡◌, ◌≢◌, ℕ, zero, suc, ◌+◌, ◌*◌, ◌<◌, ◌≤◌, ◌⊎◌, List, [], ◌∷◌, ◌++◌, map, length, refl, sym, ap, ◌∙◌, inl, inr, ⊎_elim, append_assoc, append-nil, flat_map, arith, slice_get, Option, Some, None, zero-add, suc-add, zero-mul, length-append, Bool, true, find, filter_map, filter}
-use Rattle.std.proofs.lemmas.Bool.{cases_Bool}
+use Rattle.std.proofs.Common.{◌≡◌, ◌≢◌, ℕ, zero, suc, ◌+◌, ◌*◌, ◌<◌, ◌≤◌, ◌⊎◌, List, [], ◌∷◌, ◌++◌, map, length, refl, sym, ap, ◌∙◌, inl, inr, ⊎_elim, append_assoc, append-nil, flat_map, arith, slice_get, Option, Some, None, zero-add, suc-add, zero-mul, length-append, Bool, true, false, find, filter_map, filter, subst, true≢false}
+use Rattle.std.proofs.lemmas.Bool.{cases_Bool, cases_eq, or_from, or_left, or_right, or_cases}
 use Rattle.std.proofs.lemmas.Grind.{flat_map-append}
 use Rattle.std.proofs.lemmas.List.{length-map}
 use Rattle.std.proofs.lemmas.Option.{slice_get-map}
+use Rattle.std.specs.List.{list_any}
 use Rattle.flow_model.specs.Lists.{◌∈◌, Each, AreDistinct, Begins, StandsBefore, IsOrderOf, joined, numbers_from, each_with_each}
 use Rattle.flow_model.proofs.Lists.{mem_append_left, mem_append_right, mem-append, mem_here, mem_without, slice_get_append_left, distinct_apart, distinct_right}
 use Rattle.flow_model.specs.Decided.{cons_same, not_empty, order_of_none}
@@ -95,6 +96,15 @@ pub numbers_from_below : (first count n : ℕ) → n ∈ numbers_from first coun
 numbers_from_below first zero n h = absurd h
 numbers_from_below first (suc count) n h = grind (arith, h, numbers_from_below (first + 1) count n)
 
+pub mem-numbers_from : (first count n : ℕ) → first ≤ n → n < first + count → n ∈ numbers_from first count
+mem-numbers_from first zero n low high = absurd (omega arith)
+mem-numbers_from first (suc count) n low high =
+    ⊎_elim inl (λ other. inr (mem-numbers_from (first + 1) count n (omega arith) (omega arith))) (cases_eq n first)
+
+pub length-numbers_from : (first count : ℕ) → length (numbers_from first count) ≡ count
+length-numbers_from first zero = refl
+length-numbers_from first (suc count) = ap (λ n. suc n) (length-numbers_from (first + 1) count)
+
 pub numbers_from_more : (first count : ℕ) → numbers_from first (suc count) ≡ numbers_from first count ++ (first + count) ∷ []
 numbers_from_more first zero = grind arith
 numbers_from_more first (suc count) = grind (arith, numbers_from_more (first + 1) count)
@@ -116,6 +126,27 @@ of_find p (y ∷ ys) x e = grind (arith, cases_Bool (p y), e, of_find p ys x)
 pub not_found : {A : Type 0} (p : A → Bool) (xs : List A) (x : A) → find p xs ≡ None → x ∈ xs → ¬ (p x ≡ true)
 not_found p [] x e m h = m
 not_found p (y ∷ ys) x e m h = grind (arith, cases_Bool (p y), e, m, h, not_found p ys x)
+
+pub found_none : {A : Type 0} (p : A → Bool) (xs : List A) → ((x : A) → x ∈ xs → p x ≡ false) → find p xs ≡ None
+found_none p [] none = refl
+found_none p (x ∷ xs) none = grind (arith, none x (inl refl), found_none p xs (λ y m. none y (inr m)))
+
+pub some_passes : {A : Type 0} (p : A → Bool) (x : A) (xs : List A) → x ∈ xs → p x ≡ true → list_any p xs ≡ true
+some_passes p x [] m h = absurd m
+some_passes p x (y ∷ ys) (inl e) h = or_left (p y) (list_any p ys) (subst (λ z. p z ≡ true) e h)
+some_passes p x (y ∷ ys) (inr m) h = or_right (p y) (list_any p ys) (some_passes p x ys m h)
+
+pub passing_member : {A : Type 0} (p : A → Bool) (xs : List A) → list_any p xs ≡ true → (x : A) × (x ∈ xs) × (p x ≡ true)
+passing_member p [] e = cc
+passing_member p (x ∷ xs) e =
+    ⊎_elim (λ h. (x, inl refl, h)) (λ h. let (y, m, k) = passing_member p xs h in (y, inr m, k)) (or_cases (p x) (list_any p xs) e)
+
+pub none_passes : {A : Type 0} (p : A → Bool) (xs : List A) → list_any p xs ≡ false → (x : A) → x ∈ xs → p x ≡ false
+none_passes p xs e x m = ⊎_elim (λ h. absurd (true≢false (sym (some_passes p x xs m h) ∙ e))) (λ h. h) (cases_Bool (p x))
+
+pub each_fails : {A : Type 0} (p : A → Bool) (xs : List A) → ((x : A) → x ∈ xs → p x ≡ false) → list_any p xs ≡ false
+each_fails p [] each = refl
+each_fails p (x ∷ xs) each = or_from (p x) (list_any p xs) (each x (inl refl)) (each_fails p xs (λ y m. each y (inr m)))
 
 -- what has Q and passes the test has P
 pub each-filter : {A : Type 0} (P Q : A → Type 0) (p : A → Bool) (xs : List A) → ((x : A) → p x ≡ true → Q x → P x) →

@@ -8,8 +8,12 @@ pub mod Ways
 pub mod Resolution
 pub mod Ready
 pub mod Circle
+pub mod Folding
+pub mod FoldedReady
+pub mod FoldedCircle
 pub mod RunState
 pub mod Decided
 pub mod Run
+pub mod FoldedRun
 pub mod Verdict
 pub mod Stored

@@ -1,6 +1,5 @@
 -- What may follow the done leaves, one by one and two by two.
-use Rattle.std.proofs.Common.{◌≡◌, ℕ, ◌<◌, ◌≤◌, Bool, true, false, ◌==◌, ◌||◌, ◌↔◌, IsTrue, List, [], ◌∷◌, length, get_or, take, refl, sym, ◌∙◌, subst, arith}
-use Rattle.std.proofs.lemmas.List.{take_all}
+use Rattle.std.proofs.Common.{◌≡◌, ℕ, ◌<◌, Bool, ◌==◌, ◌||◌, ◌↔◌, IsTrue, List, [], ◌∷◌, sym, ◌∙◌, arith}
 use Rattle.flow_model.specs.declared.limits.TheConstants.{MOST_LEAVES}
 use Rattle.flow_model.specs.Lists.{◌∈◌, Each}
 use Rattle.flow_model.specs.Ready.{DoneOr, IsReadyRun, IsCompleteRun}
@@ -13,7 +12,6 @@ use Rattle.flow_plan.specs.declared.progress.Progress.{Progress}
 use Rattle.flow_plan.specs.Planned.{Planned, pairs_of}
 use Rattle.flow_plan.specs.Progress.{is_done, IsDone, bound_of}
 use Rattle.flow_plan.specs.Orders.{Fits, MayComeNext, MayComeAfter, MayFollowInEveryOrder}
-use Rattle.flow_plan.proofs.PlaceLemmas.{read_member}
 use Rattle.flow_plan.proofs.RowLemmas.{one_more}
 
 -- ---- one leaf more is done
@@ -65,21 +63,4 @@ pub complete_run : (p : Planned) (done : Progress) (answer : Bool) → (IsTrue a
 complete_run p done answer says run ready same = (
   λ yes. (ready, λ n member. (same n).0 (says.0 yes n member)),
   λ complete. says.1 (λ n member. (same n).1 (complete.1 n member)),
-)
-
--- some leaf is not done
-pub not_complete : (p : Planned) (done : Progress) (items : List ℕ) (i : ℕ) → items ≡ p.leaves → p.leaves ≡ leaves p.process → i < length items →
-    is_done done (get_or items i 0) ≡ false → IsTrue false ↔ ((n : ℕ) → n ∈ leaves p.process → IsDone done n)
-not_complete p done items i is listed within undone = (
-  λ wrong. absurd (cc),
-  λ all. let member : get_or items i 0 ∈ leaves p.process = subst (λ (l : List ℕ). get_or items i 0 ∈ l) (is ∙ listed) (read_member items i within) in
-      let closed = all (get_or items i 0) member in absurd (cc),
-)
-
--- all leaves are done
-pub all_complete : (p : Planned) (done : Progress) (items : List ℕ) (i : ℕ) → items ≡ p.leaves → p.leaves ≡ leaves p.process → length items ≤ i →
-    Each (IsDone done) (take i items) → IsTrue true ↔ ((n : ℕ) → n ∈ leaves p.process → IsDone done n)
-all_complete p done items i is listed past all = (
-  λ yes n member. each_member (IsDone done) (leaves p.process) (subst (λ (l : List ℕ). Each (IsDone done) l) (take_all i items past ∙ is ∙ listed) all) n member,
-  λ every. refl,
 )

@@ -19,10 +19,10 @@ kept_where new true false inner outer P is in_says out_says =
 kept_where new false inside inner outer P is in_says out_says = (λ h. absurd (cc), λ both. absurd (let no = both.0 in cc))
 
 -- a part that is not begun
-pub fresh_outside : (row : PartRow) (D : ℕ → Type 0) (n : ℕ) → ((k : ℕ) → IsTrue (has_leaf row.inside k) → D k → ⊥) → ¬ IsTrue (has_leaf row.inside n) → PartAllows row D n
+pub fresh_outside : {w : ℕ} → (row : PartRow w) (D : ℕ → Type 0) (n : ℕ) → ((k : ℕ) → IsTrue (has_leaf row.inside k) → D k → ⊥) → ¬ IsTrue (has_leaf row.inside n) → PartAllows row D n
 fresh_outside row D n untouched other = record { passes = λ o y z y_in y_done z_in. absurd (untouched y y_in y_done); begins = λ mine. absurd (other mine) }
 
-module _ (row : PartRow) (claims : LeafSet 16) (n : ℕ) (within meets : Bool) (within_is : IsTrue within ↔ ((k : ℕ) → IsTrue (has_leaf claims k) → IsTrue (has_leaf row.inside k)))
+module _ {w : ℕ} (row : PartRow w) (claims : LeafSet w) (n : ℕ) (within meets : Bool) (within_is : IsTrue within ↔ ((k : ℕ) → IsTrue (has_leaf claims k) → IsTrue (has_leaf row.inside k)))
     (meets_is : IsTrue meets ↔ ((k : ℕ) × IsTrue (has_leaf row.inside k) × IsTrue (has_leaf claims k))) where
   -- where no claimed leaf is inside
   apart : IsTrue (not meets) → (k : ℕ) → IsTrue (has_leaf claims k) → IsTrue (has_leaf row.inside k) → ⊥

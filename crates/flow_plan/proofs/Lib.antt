@@ -6,7 +6,12 @@ pub mod MarkLemmas
 pub mod SweepLemmas
 pub mod Readiness
 pub mod Together
+pub mod Cuts
 pub mod Following
 pub mod KeepLemmas
 pub mod StepRows
 pub mod KeptOptions
+pub mod FoldPass
+pub mod FoldRowLemmas
+pub mod SpoiltPass
+pub mod SidesLemmas

@@ -26,7 +26,7 @@ use Rattle.flow_plan.proofs.SpanLemmas.{spans_of_none, spans_of_both, spans_of_i
 -- ---- rows
 
 -- what is ahead of what follows a goal
-abbrev pub IsBehind : Process → LeafSet 16 → LeafSet 16 → Type 0
+abbrev pub IsBehind : {w : ℕ} → Process → LeafSet w → LeafSet w → Type 0
 IsBehind g ahead more = IsRowOf (λ x. IsTrue (has_leaf ahead x) ⊎ (x ∈ leaves g)) more
 
 -- one test that follows from the other
@@ -39,10 +39,10 @@ covering true t h = refl
 covering false true h = h refl
 covering false false h = refl
 
-behind_leaf : (n : ℕ) (ahead more : LeafSet 16) → IsWith n ahead more → IsBehind (Task n) ahead more
+behind_leaf : {w : ℕ} → (n : ℕ) (ahead more : LeafSet w) → IsWith n ahead more → IsBehind (Task n) ahead more
 behind_leaf n ahead more is x = let one = one_more x n (has_leaf ahead x) in (λ has. one.0 (sym (is x) ∙ has), λ either. is x ∙ one.1 either)
 
-behind_sequence : (a b : Process) (ahead middle more : LeafSet 16) → IsBehind a ahead middle → IsBehind b middle more → IsBehind (Sequence a b) ahead more
+behind_sequence : {w : ℕ} → (a b : Process) (ahead middle more : LeafSet w) → IsBehind a ahead middle → IsBehind b middle more → IsBehind (Sequence a b) ahead more
 behind_sequence a b ahead middle more first second x = (
   λ has. ⊎_elim (λ h. ⊎_elim (λ before. inl before) (λ m. inr (mem_append_left x (leaves a) (leaves b) m)) ((first x).0 h))
       (λ m. inr (mem_append_right x (leaves a) (leaves b) m)) ((second x).0 has),
@@ -50,7 +50,7 @@ behind_sequence a b ahead middle more first second x = (
       (λ m. ⊎_elim (λ in_a. (second x).1 (inl ((first x).1 (inr in_a)))) (λ in_b. (second x).1 (inr in_b)) (mem-append x (leaves a) (leaves b) m)) either,
 )
 
-behind_parallel : (a b : Process) (ahead one two all : LeafSet 16) → IsBehind a ahead one → IsBehind b ahead two → IsUnion two one all → IsBehind (Parallel a b) ahead all
+behind_parallel : {w : ℕ} → (a b : Process) (ahead one two all : LeafSet w) → IsBehind a ahead one → IsBehind b ahead two → IsUnion two one all → IsBehind (Parallel a b) ahead all
 behind_parallel a b ahead one two all first second is x = (
   λ has. ⊎_elim
       (λ h. ⊎_elim (λ before. inl before) (λ m. inr (mem_append_right x (leaves a) (leaves b) m)) ((second x).0 h))
@@ -61,24 +61,24 @@ behind_parallel a b ahead one two all first second is x = (
       (λ in_b. or_left (has_leaf two x) (has_leaf one x) ((second x).1 (inr in_b))) (mem-append x (leaves a) (leaves b) m)) either,
 )
 
-joined_is : (a b : Process) (ahead one two all : LeafSet 16) → IsBehind a ahead one → IsBehind b ahead two → IsJoined ahead one two all → IsUnion two one all
-joined_is a b ahead one two all first second (inl (none, same)) x =
-    ap (λ (s : LeafSet 16). has_leaf s x) same ∙ covered (has_leaf two x) (has_leaf one x) (λ h. (first x).1 (inl (subst (λ (s : LeafSet 16). IsTrue (has_leaf s x)) none h)))
-joined_is a b ahead one two all first second (inr (inl (none, same))) x =
-    ap (λ (s : LeafSet 16). has_leaf s x) same ∙ covering (has_leaf two x) (has_leaf one x) (λ h. (second x).1 (inl (subst (λ (s : LeafSet 16). IsTrue (has_leaf s x)) none h)))
+joined_is : {w : ℕ} → (a b : Process) (ahead one two all : LeafSet w) → IsBehind a ahead one → IsBehind b ahead two → IsJoined ahead one two all → IsUnion two one all
+joined_is {w} a b ahead one two all first second (inl (none, same)) x =
+    ap (λ (s : LeafSet w). has_leaf s x) same ∙ covered (has_leaf two x) (has_leaf one x) (λ h. (first x).1 (inl (subst (λ (s : LeafSet w). IsTrue (has_leaf s x)) none h)))
+joined_is {w} a b ahead one two all first second (inr (inl (none, same))) x =
+    ap (λ (s : LeafSet w). has_leaf s x) same ∙ covering (has_leaf two x) (has_leaf one x) (λ h. (second x).1 (inl (subst (λ (s : LeafSet w). IsTrue (has_leaf s x)) none h)))
 joined_is a b ahead one two all first second (inr (inr is)) x = is x
 
 -- the marks of a goal make the rows of its leaves
 module _ (q : Process) (ns : List ℕ) where
-  goal_rows : (g : Process) (nodes : List Node) (k : ℕ) (ahead : LeafSet 16) (forks rows : List (LeafSet 16)) → IsChoiceFree g → AreDistinct (leaves g) → StandAt ns k (leaves g) →
-      ((more : LeafSet 16) (added : List (LeafSet 16)) → IsBehind g ahead more → HasRows g ahead added → MakesRows q nodes ns (k + length (leaves g)) more forks (rows ++ added)) →
+  goal_rows : {w : ℕ} → (g : Process) (nodes : List Node) (k : ℕ) (ahead : LeafSet w) (forks rows : List (LeafSet w)) → IsChoiceFree g → AreDistinct (leaves g) → StandAt ns k (leaves g) →
+      ((more : LeafSet w) (added : List (LeafSet w)) → IsBehind g ahead more → HasRows g ahead added → MakesRows q nodes ns (k + length (leaves g)) more forks (rows ++ added)) →
       MakesRows q (nodes_of g ++ nodes) ns k ahead forks rows
   goal_rows Empty nodes k ahead forks rows free distinct at then =
       subst (λ (j : ℕ). MakesRows q nodes ns j ahead forks rows) (omega arith)
       (subst (λ l. MakesRows q nodes ns (k + 0) ahead forks l) (append-nil rows)
       (then ahead [] (λ x. (λ h. inl h, λ either. ⊎_elim (λ h. h) (λ none. absurd none) either)) tt))
-  goal_rows (Task n) nodes k ahead forks rows free distinct at then =
-      subst (λ o. MatchOption o ⊥ (λ n. (more : LeafSet 16) → IsWith n ahead more → MakesRows q nodes ns (k + 1) more forks (rows ++ ahead ∷ [])))
+  goal_rows {w} (Task n) nodes k ahead forks rows free distinct at then =
+      subst (λ o. MatchOption o ⊥ (λ n. (more : LeafSet w) → IsWith n ahead more → MakesRows q nodes ns (k + 1) more forks (rows ++ ahead ∷ [])))
       (sym (leaf_stands ns k n at.0 at.1))
       (λ more is. then more (ahead ∷ []) (behind_leaf n ahead more is) ((λ x. (λ h. inl h, λ either. ⊎_elim (λ h. h) (λ none. absurd none) either)), tt))
   goal_rows (Sequence a b) nodes k ahead forks rows free distinct at then =
@@ -98,8 +98,8 @@ module _ (q : Process) (ns : List ℕ) where
       subst (λ l. MakesRows q l ns k ahead forks rows) (sym (isolated_nodes a nodes)) (goal_rows a (Close ∷ nodes) k ahead forks rows free distinct at then)
 
 -- and those of a whole goal the rows of all leaves
-pub begun_rows : (q : Process) (nodes : List Node) (ns : List ℕ) (s : Sweep) → IsChoiceFree q → IsStrictlyIncreasing ns → nodes ≡ nodes_of q → ns ≡ leaves q → s.place ≡ 0 →
-    (empty : LeafSet 16) × ((x : ℕ) → has_leaf empty x ≡ false) × (s.sets.items ≡ empty ∷ []) → s.ahead ≡ 0 → s.forks.items ≡ [] → s.rows.items ≡ [] → Completes q nodes ns s
+pub begun_rows : {w : ℕ} → (q : Process) (nodes : List Node) (ns : List ℕ) (s : Sweep w) → IsChoiceFree q → IsStrictlyIncreasing ns → nodes ≡ nodes_of q → ns ≡ leaves q → s.place ≡ 0 →
+    (empty : LeafSet w) × ((x : ℕ) → has_leaf empty x ≡ false) × (s.sets.items ≡ empty ∷ []) → s.ahead ≡ 0 → s.forks.items ≡ [] → s.rows.items ≡ [] → Completes q nodes ns s
 begun_rows q nodes ns s free rising are listed place (empty, none, sets) ahead forks rows =
     rw (place, sets, ahead, forks, rows, are) (
       empty,

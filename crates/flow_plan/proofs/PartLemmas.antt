@@ -24,7 +24,7 @@ use Rattle.flow_plan.proofs.RowLemmas.{row_same, one_more, mem_more}
 
 -- ---- sets made leaf by leaf and row by row
 
-pub leaf_more : (ns : List ℕ) (i : ℕ) (now new : LeafSet 16) → i < length ns → IsRowOf (λ x. x ∈ take i ns) now →
+pub leaf_more : {w : ℕ} → (ns : List ℕ) (i : ℕ) (now new : LeafSet w) → i < length ns → IsRowOf (λ x. x ∈ take i ns) now →
     ((x : ℕ) → has_leaf new x ≡ (x == get_or ns i 0 || has_leaf now x)) → IsRowOf (λ x. x ∈ take (i + 1) ns) new
 leaf_more ns i now new within is noted x =
     let more = mem_more ns i within x in
@@ -33,17 +33,17 @@ leaf_more ns i now new within is noted x =
       λ member. noted x ∙ one.1 (⊎_elim (λ h. inl ((is x).1 h)) (λ same. inr (inl same)) (more.0 member)),
     )
 
-pub row_more : (rows : List (LeafSet 16)) (i : ℕ) (now new row : LeafSet 16) → i < length rows → row ≡ get_or rows i row → IsRowOf (IsInSome (take i rows)) now →
+pub row_more : {w : ℕ} → (rows : List (LeafSet w)) (i : ℕ) (now new row : LeafSet w) → i < length rows → row ≡ get_or rows i row → IsRowOf (IsInSome (take i rows)) now →
     ((x : ℕ) → has_leaf new x ≡ (has_leaf now x || has_leaf row x)) → IsRowOf (IsInSome (take (i + 1) rows)) new
-row_more rows i now new row within at is union =
-    let same : take (i + 1) rows ≡ take i rows ++ row ∷ [] = take_more rows i row within ∙ ap (λ (r : LeafSet 16). take i rows ++ r ∷ []) (sym at) in
-    subst (λ (l : List (LeafSet 16)). IsRowOf (IsInSome l) new) (sym same)
+row_more {w} rows i now new row within at is union =
+    let same : take (i + 1) rows ≡ take i rows ++ row ∷ [] = take_more rows i row within ∙ ap (λ (r : LeafSet w). take i rows ++ r ∷ []) (sym at) in
+    subst (λ (l : List (LeafSet w)). IsRowOf (IsInSome l) new) (sym same)
     (λ x. (
       λ has. ⊎_elim (λ h. let found = (is x).0 h in (found.0, mem_append_left found.0 (take i rows) (row ∷ []) found.1, found.2))
           (λ h. (row, mem_append_right row (take i rows) (row ∷ []) (inl refl), h))
           (or_cases (has_leaf now x) (has_leaf row x) (sym (union x) ∙ has)),
       λ found. union x ∙ ⊎_elim (λ h. or_left (has_leaf now x) (has_leaf row x) ((is x).1 (found.0, h, found.2)))
-          (λ last. ⊎_elim (λ (equal : found.0 ≡ row). or_right (has_leaf now x) (has_leaf row x) (subst (λ (r : LeafSet 16). IsTrue (has_leaf r x)) equal found.2)) (λ none. absurd none) last)
+          (λ last. ⊎_elim (λ (equal : found.0 ≡ row). or_right (has_leaf now x) (has_leaf row x) (subst (λ (r : LeafSet w). IsTrue (has_leaf r x)) equal found.2)) (λ none. absurd none) last)
           (mem-append found.0 (take i rows) (row ∷ []) found.1),
     ))
 
@@ -74,7 +74,7 @@ in_three x a m b = (
       (λ p. mem_append_right x a (m ++ b) (mem_append_right x m b p)) h,
 )
 
-some_in_three : (x : ℕ) (a m b : List (LeafSet 16)) → IsInSome (a ++ (m ++ b)) x ↔ ((IsInSome m x ⊎ IsInSome a x) ⊎ IsInSome b x)
+some_in_three : {w : ℕ} → (x : ℕ) (a m b : List (LeafSet w)) → IsInSome (a ++ (m ++ b)) x ↔ ((IsInSome m x ⊎ IsInSome a x) ⊎ IsInSome b x)
 some_in_three x a m b = (
   λ h. ⊎_elim (λ p. ⊎_elim (λ q. inl (inl (h.0, q, h.2))) (λ q. inl (inr (h.0, q, h.2))) p) (λ p. inr (h.0, p, h.2)) ((in_three h.0 a m b).0 h.1),
   λ h. ⊎_elim (λ p. ⊎_elim (λ q. (q.0, (in_three q.0 a m b).1 (inl (inl q.1)), q.2)) (λ q. (q.0, (in_three q.0 a m b).1 (inl (inr q.1)), q.2)) p)
@@ -87,23 +87,23 @@ twice_more P Q R W old mid new p q r w = (
   λ h. r.1 (⊎_elim (λ m. inl (q.1 (⊎_elim (λ o. inl (p.1 o)) (λ k. inr k) m))) (λ k. inr k) (w.0 h)),
 )
 
-pub reach_grown : (ns : List ℕ) (rows : List (LeafSet 16)) (s : Span) (old mid new : Reach) → s.first ≤ old.span.first → old.span.first ≤ old.span.end → old.span.end ≤ s.end → Reaches ns rows old
+pub reach_grown : {w : ℕ} → (ns : List ℕ) (rows : List (LeafSet w)) (s : Span) (old mid new : Reach w) → s.first ≤ old.span.first → old.span.first ≤ old.span.end → old.span.end ≤ s.end → Reaches ns rows old
     → ((x : ℕ) → IsTrue (has_leaf mid.inside x) ↔ (IsTrue (has_leaf old.inside x) ⊎ (x ∈ take (old.span.first - s.first) (drop s.first ns))))
     → ((x : ℕ) → IsTrue (has_leaf mid.before x) ↔ (IsTrue (has_leaf old.before x) ⊎ IsInSome (take (old.span.first - s.first) (drop s.first rows)) x))
     → ((x : ℕ) → IsTrue (has_leaf new.inside x) ↔ (IsTrue (has_leaf mid.inside x) ⊎ (x ∈ take (s.end - old.span.end) (drop old.span.end ns))))
     → ((x : ℕ) → IsTrue (has_leaf new.before x) ↔ (IsTrue (has_leaf mid.before x) ⊎ IsInSome (take (s.end - old.span.end) (drop old.span.end rows)) x))
     → IsRowOf (λ x. x ∈ at_span s ns) new.inside × IsRowOf (IsInSome (at_span s rows)) new.before
-reach_grown ns rows s old mid new begins own ends reaches front ahead back behind =
+reach_grown {w} ns rows s old mid new begins own ends reaches front ahead back behind =
     let t = old.span in (
       (λ x. subst (λ l. IsTrue (has_leaf new.inside x) ↔ (x ∈ l)) (sym (span_in_three ns s t begins own ends))
           (twice_more _ _ _ _ _ _ _ (reaches.0 x) (front x) (back x) (in_three x _ (at_span t ns) _))),
-      (λ x. subst (λ (l : List (LeafSet 16)). IsTrue (has_leaf new.before x) ↔ IsInSome l x) (sym (span_in_three rows s t begins own ends))
+      (λ x. subst (λ (l : List (LeafSet w)). IsTrue (has_leaf new.before x) ↔ IsInSome l x) (sym (span_in_three rows s t begins own ends))
           (twice_more _ _ _ _ _ _ _ (reaches.1 x) (ahead x) (behind x) (some_in_three x _ (at_span t rows) _))),
     )
 
 -- ---- what a part allows
 
-pub allows_to_begin : (row : PartRow) (D : ℕ → Type 0) (n : ℕ) (answer : Bool) → IsTrue (has_leaf row.inside n) →
+pub allows_to_begin : {w : ℕ} → (row : PartRow w) (D : ℕ → Type 0) (n : ℕ) (answer : Bool) → IsTrue (has_leaf row.inside n) →
     ((k : ℕ) → IsTrue (has_leaf row.inside k) → D k → ⊥) → (IsTrue answer ↔ ((k : ℕ) → IsTrue (has_leaf row.outside k) → D k)) →
     IsTrue answer ↔ PartAllows row D n
 allows_to_begin row D n answer mine untouched is = (
@@ -141,36 +141,36 @@ at_place ns s k after before within =
 
 -- ---- the row of a part
 
-rows_take : (P : ℕ → ℕ → Type 0) (m : ℕ) (ns : List ℕ) (rows : List (LeafSet 16)) → AreRowsOf P ns rows → AreRowsOf P (take m ns) (take m rows)
+rows_take : {w : ℕ} → (P : ℕ → ℕ → Type 0) (m : ℕ) (ns : List ℕ) (rows : List (LeafSet w)) → AreRowsOf P ns rows → AreRowsOf P (take m ns) (take m rows)
 rows_take P zero ns rows are = tt
 rows_take P (suc m) [] [] are = tt
 rows_take P (suc m) [] (row ∷ rows) are = absurd are
 rows_take P (suc m) (n ∷ ns) [] are = absurd are
 rows_take P (suc m) (n ∷ ns) (row ∷ rows) are = (are.0, rows_take P m ns rows are.1)
 
-rows_drop : (P : ℕ → ℕ → Type 0) (f : ℕ) (ns : List ℕ) (rows : List (LeafSet 16)) → AreRowsOf P ns rows → AreRowsOf P (drop f ns) (drop f rows)
+rows_drop : {w : ℕ} → (P : ℕ → ℕ → Type 0) (f : ℕ) (ns : List ℕ) (rows : List (LeafSet w)) → AreRowsOf P ns rows → AreRowsOf P (drop f ns) (drop f rows)
 rows_drop P zero ns rows are = are
 rows_drop P (suc f) [] [] are = tt
 rows_drop P (suc f) [] (row ∷ rows) are = absurd are
 rows_drop P (suc f) (n ∷ ns) [] are = absurd are
 rows_drop P (suc f) (n ∷ ns) (row ∷ rows) are = rows_drop P f ns rows are.1
 
-ahead_of : (P : ℕ → ℕ → Type 0) (ns : List ℕ) (rows : List (LeafSet 16)) (x : ℕ) → AreRowsOf P ns rows → IsInSome rows x → (y : ℕ) × (y ∈ ns) × P x y
+ahead_of : {w : ℕ} → (P : ℕ → ℕ → Type 0) (ns : List ℕ) (rows : List (LeafSet w)) (x : ℕ) → AreRowsOf P ns rows → IsInSome rows x → (y : ℕ) × (y ∈ ns) × P x y
 ahead_of P [] [] x are found = absurd found.1
 ahead_of P [] (row ∷ rows) x are found = absurd are
 ahead_of P (n ∷ ns) [] x are found = absurd are
-ahead_of P (n ∷ ns) (row ∷ rows) x are (r, inl same, has) = (n, inl refl, (are.0 x).0 (subst (λ (r : LeafSet 16). IsTrue (has_leaf r x)) same has))
+ahead_of {w} P (n ∷ ns) (row ∷ rows) x are (r, inl same, has) = (n, inl refl, (are.0 x).0 (subst (λ (r : LeafSet w). IsTrue (has_leaf r x)) same has))
 ahead_of P (n ∷ ns) (row ∷ rows) x are (r, inr member, has) =
     let later = ahead_of P ns rows x are.1 (r, member, has) in (later.0, inr later.1, later.2)
 
-is_ahead : (P : ℕ → ℕ → Type 0) (ns : List ℕ) (rows : List (LeafSet 16)) (x y : ℕ) → AreRowsOf P ns rows → y ∈ ns → P x y → IsInSome rows x
+is_ahead : {w : ℕ} → (P : ℕ → ℕ → Type 0) (ns : List ℕ) (rows : List (LeafSet w)) (x y : ℕ) → AreRowsOf P ns rows → y ∈ ns → P x y → IsInSome rows x
 is_ahead P [] rows x y are member holds = absurd member
 is_ahead P (n ∷ ns) [] x y are member holds = absurd are
 is_ahead P (n ∷ ns) (row ∷ rows) x y are (inl same) holds = (row, inl refl, (are.0 x).1 (subst (λ (m : ℕ). P x m) same holds))
 is_ahead P (n ∷ ns) (row ∷ rows) x y are (inr member) holds =
     let later = is_ahead P ns rows x y are.1 member holds in (later.0, inr later.1, later.2)
 
-pub part_row_of : (q : Process) (pairs : List (ℕ × ℕ)) (ns : List ℕ) (before : List (LeafSet 16)) (part : Process) (s : Span) (row : PartRow) →
+pub part_row_of : {w : ℕ} → (q : Process) (pairs : List (ℕ × ℕ)) (ns : List ℕ) (before : List (LeafSet w)) (part : Process) (s : Span) (row : PartRow w) →
     AreRowsOf (DirectlyBefore q pairs) ns before → at_span s ns ≡ leaves part → IsPartFor ns before s row → IsPartRow q pairs part row
 part_row_of q pairs ns before part s row are is for =
     let P : ℕ → ℕ → Type 0 = DirectlyBefore q pairs in
@@ -184,24 +184,24 @@ part_row_of q pairs ns before part s row are is for =
 
 -- ---- one row a span
 
-pub parts_more : (ns : List ℕ) (before : List (LeafSet 16)) (spans : List Span) (rows : List PartRow) (s : Span) (row : PartRow) →
+pub parts_more : {w : ℕ} → (ns : List ℕ) (before : List (LeafSet w)) (spans : List Span) (rows : List (PartRow w)) (s : Span) (row : PartRow w) →
     ArePartsFor ns before spans rows → IsPartFor ns before s row → ArePartsFor ns before (spans ++ s ∷ []) (rows ++ row ∷ [])
 parts_more ns before [] [] s row are is = (is, tt)
 parts_more ns before [] (first ∷ rows) s row are is = absurd are
 parts_more ns before (t ∷ spans) [] s row are is = absurd are
 parts_more ns before (t ∷ spans) (first ∷ rows) s row are is = (are.0, parts_more ns before spans rows s row are.1 is)
 
-span_of_row : (ns : List ℕ) (before : List (LeafSet 16)) (spans : List Span) (rows : List PartRow) (row : PartRow) → ArePartsFor ns before spans rows → row ∈ rows →
+span_of_row : {w : ℕ} → (ns : List ℕ) (before : List (LeafSet w)) (spans : List Span) (rows : List (PartRow w)) (row : PartRow w) → ArePartsFor ns before spans rows → row ∈ rows →
     (s : Span) × (s ∈ spans) × IsPartFor ns before s row
 span_of_row ns before [] [] row are member = absurd member
 span_of_row ns before [] (first ∷ rows) row are member = absurd are
 span_of_row ns before (s ∷ spans) [] row are member = absurd member
-span_of_row ns before (s ∷ spans) (first ∷ rows) row are (inl same) = (s, inl refl, subst (λ (r : PartRow). IsPartFor ns before s r) (sym same) are.0)
+span_of_row {w} ns before (s ∷ spans) (first ∷ rows) row are (inl same) = (s, inl refl, subst (λ (r : PartRow w). IsPartFor ns before s r) (sym same) are.0)
 span_of_row ns before (s ∷ spans) (first ∷ rows) row are (inr member) =
     let found = span_of_row ns before spans rows row are.1 member in (found.0, inr found.1, found.2)
 
-row_of_span : (ns : List ℕ) (before : List (LeafSet 16)) (spans : List Span) (rows : List PartRow) (s : Span) → ArePartsFor ns before spans rows → s ∈ spans →
-    (row : PartRow) × (row ∈ rows) × IsPartFor ns before s row
+row_of_span : {w : ℕ} → (ns : List ℕ) (before : List (LeafSet w)) (spans : List Span) (rows : List (PartRow w)) (s : Span) → ArePartsFor ns before spans rows → s ∈ spans →
+    (row : PartRow w) × (row ∈ rows) × IsPartFor ns before s row
 row_of_span ns before [] rows s are member = absurd member
 row_of_span ns before (t ∷ spans) [] s are member = absurd are
 row_of_span ns before (t ∷ spans) (first ∷ rows) s are (inl same) = (first, inl refl, subst (λ (r : Span). IsPartFor ns before r first) (sym same) are.0)
@@ -214,7 +214,7 @@ row_of_span ns before (t ∷ spans) (first ∷ rows) s are (inr member) =
 abbrev pub IsLong : List ℕ → Span → Type 0
 IsLong ns s = (s.first + 2 ≤ s.end) × (s.end ≤ length ns)
 
-has_two : (ns : List ℕ) (before : List (LeafSet 16)) (s : Span) (row : PartRow) → IsStrictlyIncreasing ns → IsLong ns s → IsPartFor ns before s row → HasTwo row
+has_two : {w : ℕ} → (ns : List ℕ) (before : List (LeafSet w)) (s : Span) (row : PartRow w) → IsStrictlyIncreasing ns → IsLong ns s → IsPartFor ns before s row → HasTwo row
 has_two ns before s row rising long for =
     let x : ℕ = get_or ns s.first 0 in
     let y : ℕ = get_or ns (s.first + 1) 0 in
@@ -227,7 +227,7 @@ has_two ns before s row rising long for =
     )
 
 -- a place of one span and not of the other
-differ_at : (ns : List ℕ) (before : List (LeafSet 16)) (s t : Span) (one two : PartRow) (k : ℕ) → IsStrictlyIncreasing ns → t.first ≤ k → k < t.end → k < length ns →
+differ_at : {w : ℕ} → (ns : List ℕ) (before : List (LeafSet w)) (s t : Span) (one two : PartRow w) (k : ℕ) → IsStrictlyIncreasing ns → t.first ≤ k → k < t.end → k < length ns →
     ((j : ℕ) → s.first ≤ j → j < s.end → j ≢ k) → IsPartFor ns before s one → IsPartFor ns before t two → ¬ HaveSameLeaves one two
 differ_at ns before s t one two k rising after below within other for_one for_two same =
     let y : ℕ = get_or ns k 0 in
@@ -239,7 +239,7 @@ differ_at ns before s t one two k rising after below within other for_one for_tw
     (λ differs. let above : k < j = omega (arith, more, differs) in omega (arith, AllPairs-from_increasing ns rising k j 0 above found.3, found.4)) (cases_eq j k))
     (cases_lt j k)
 
-are_apart : (ns : List ℕ) (before : List (LeafSet 16)) (s t : Span) (one two : PartRow) → IsStrictlyIncreasing ns → IsLong ns t → IsEarlier s t →
+are_apart : {w : ℕ} → (ns : List ℕ) (before : List (LeafSet w)) (s t : Span) (one two : PartRow w) → IsStrictlyIncreasing ns → IsLong ns t → IsEarlier s t →
     IsPartFor ns before s one → IsPartFor ns before t two → ¬ HaveSameLeaves one two
 are_apart ns before s t one two rising long earlier for_one for_two same = ⊎_elim
     (λ less. differ_at ns before s t one two (t.end - 1) rising (omega (arith, long.0)) (omega (arith, long.0)) (omega (arith, long.0, long.1))
@@ -249,7 +249,7 @@ are_apart ns before s t one two rising long earlier for_one for_two same = ⊎_e
     (λ j after below equal. omega (arith, earlier.first ends, after, equal)) for_one for_two same)
     (cases_lt s.end t.end)
 
-all_apart : (ns : List ℕ) (before : List (LeafSet 16)) (spans : List Span) (rows : List PartRow) → IsStrictlyIncreasing ns → Each (IsLong ns) spans → AreRising spans →
+all_apart : {w : ℕ} → (ns : List ℕ) (before : List (LeafSet w)) (spans : List Span) (rows : List (PartRow w)) → IsStrictlyIncreasing ns → Each (IsLong ns) spans → AreRising spans →
     ArePartsFor ns before spans rows → HaveOtherLeaves rows
 all_apart ns before [] [] rising long order are = tt
 all_apart ns before [] (row ∷ rows) rising long order are = absurd are
@@ -281,7 +281,7 @@ pub spans_fit : (ns : List ℕ) (spans : List Span) → Each (IsLong ns) spans �
 spans_fit ns spans all k d within =
     let long = each_member (IsLong ns) spans all (get_or spans k d) (mem-slice_get spans k (get_or spans k d) (slice_get-get_or spans k d within)) in (omega (arith, long.0), long.1)
 
-pub parts_of_spans : (q : Process) (pairs : List (ℕ × ℕ)) (ns : List ℕ) (before : List (LeafSet 16)) (none spans : List Span) (rows : List PartRow) → none ≡ [] → ns ≡ leaves q →
+pub parts_of_spans : {w : ℕ} → (q : Process) (pairs : List (ℕ × ℕ)) (ns : List ℕ) (before : List (LeafSet w)) (none spans : List Span) (rows : List (PartRow w)) → none ≡ [] → ns ≡ leaves q →
     IsStrictlyIncreasing ns → AreRowsOf (DirectlyBefore q pairs) ns before → AddsSpans q (leaves q) 0 none spans → ArePartsFor ns before spans rows → ArePartsOf q pairs rows
 parts_of_spans q pairs ns before none spans rows empty listed rising rows_are whole are =
     let adds = subst (λ (l : List ℕ). AddsSpans q l 0 none spans) (sym listed) whole in

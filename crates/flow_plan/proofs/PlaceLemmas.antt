@@ -1,12 +1,14 @@
 -- Places in rising lists.
-use Rattle.std.proofs.Common.{◌≡◌, ℕ, ◌<◌, ◌≤◌, suc, List, [], ◌∷◌, length, get_or, inl, inr, ⊎_elim, sym, ap, arith}
-use Rattle.std.proofs.lemmas.Bool.{cases_lt}
+use Rattle.std.proofs.Common.{◌≡◌, ℕ, ◌<◌, ◌≤◌, ◌-◌, ◌*◌, ◌^◌, suc, lit<, List, [], ◌∷◌, length, get_or, slice_get, Some, None, IsTrue, nat_lt, inl, inr, ⊎_elim, sym, ap, ◌∙◌, arith}
+use Rattle.std.proofs.lemmas.Bool.{cases_lt, ltb-true}
 use native.Mathlib.Numerals.{unary_clauses}
 use Rattle.std.specs.List.Sorted.{IsStrictlyIncreasing}
 use Rattle.std.proofs.lemmas.List.Kept.{AllPairs-from_increasing}
 use Rattle.std.proofs.lemmas.Option.{slice_get-get_or}
-use Rattle.flow_model.proofs.Lists.{mem-slice_get}
-use Rattle.flow_model.specs.Lists.{◌∈◌, AreDistinct}
+use Rattle.leaf_rows.specs.declared.TheConstants.{LEAF_WORDS}
+use Rattle.flow_model.specs.declared.limits.TheConstants.{MOST_LEAVES}
+use Rattle.flow_model.proofs.Lists.{each_from_members, mem-slice_get}
+use Rattle.flow_model.specs.Lists.{◌∈◌, Each, AreDistinct}
 
 -- a member stands at some place
 pub place_of_member : (xs : List ℕ) (x : ℕ) → x ∈ xs → (k : ℕ) × (k < length xs) × (get_or xs k 0 ≡ x)
@@ -49,6 +51,19 @@ rising_never_falls xs rising i j order within = ⊎_elim
     (λ after. let same : i ≡ j = omega arith in omega (arith, ap (λ (k : ℕ). get_or xs k 0) same))
     (cases_lt i j)
 
--- a set of 16 words may be asked for such a leaf
-pub may_ask : (leaf : ℕ) → leaf < 1024 → (128 < 9223372036854775808) × (leaf < 1024)
-may_ask leaf small = (omega arith, small)
+-- what the last one of a rising list says of all
+pub all_below_last : (xs : List ℕ) (last bound : ℕ) → IsStrictlyIncreasing xs → Some last ≡ slice_get xs (length xs - 1) → IsTrue (nat_lt last bound) → Each (λ n. n < bound) xs
+all_below_last xs last bound rising is small = each_from_members (λ n. n < bound) xs (λ n member.
+    let (k, within, same) = place_of_member xs n member in
+    let most = rising_never_falls xs rising k (length xs - 1) (omega (arith, within)) (omega (arith, within)) in
+    let at : Some last ≡ Some (get_or xs (length xs - 1) 0) = is ∙ slice_get-get_or xs (length xs - 1) 0 (omega (arith, within)) in
+    let there : last ≡ get_or xs (length xs - 1) 0 = cc in
+    omega (arith, same, most, there, ltb-true last bound small))
+
+pub none_below : (xs : List ℕ) (bound : ℕ) → None ≡ slice_get xs (length xs - 1) → Each (λ n. n < bound) xs
+none_below [] bound none = tt
+none_below (x ∷ xs) bound none = let at = none ∙ slice_get-get_or (x ∷ xs) (length (x ∷ xs) - 1) 0 (omega arith) in absurd (cc)
+
+-- a set of leaves may be asked for such a leaf
+pub may_ask : (leaf : ℕ) → leaf < MOST_LEAVES → (8 * LEAF_WORDS < 2 ^ 63) × (leaf < 64 * LEAF_WORDS)
+may_ask leaf small = (lit< tt, small)

@@ -1,8 +1,10 @@
 -- Readiness, by rows of bits.
-use Rattle.std.proofs.Common.{◌≡◌, ◌≢◌, ℕ, List, length, ⊎_elim, refl, subst}
+use Rattle.std.proofs.Common.{◌≡◌, ◌≢◌, ℕ, List, length, ⊎_elim, subst}
 use Rattle.leaf_rows.specs.declared.leaf_set.LeafSet.{LeafSet}
 use Rattle.flow_model.specs.Lists.{Each, AreDistinct}
+use Rattle.flow_model.specs.Process.{leaves}
 use Rattle.flow_model.specs.Ready.{DirectlyBefore, IsReady}
+use Rattle.std.specs.List.Sorted.{IsStrictlyIncreasing}
 use Rattle.flow_laws.specs.WellFormed.{AreOfLeaves, IsOrdered}
 use Rattle.flow_model.proofs.Lists.{each_member, each_from_members}
 use Rattle.flow_goal.specs.Resolved.{Resolved, IsResolved}
@@ -11,7 +13,10 @@ use Rattle.flow_plan.specs.declared.token.OrderToken.{OrderToken}
 use Rattle.flow_plan.specs.Planned.{Planned, pairs_of}
 use Rattle.flow_plan.specs.Parts.{PartAllows}
 use Rattle.flow_plan.specs.Orders.{IsUnblocked}
-use Rattle.flow_plan.specs.Fields.{AreFieldsOf}
+use Rattle.flow_plan.specs.declared.table.Rows.{Rows}
+use Rattle.flow_plan.specs.declared.table.Rows.TheVariants.{Narrow, Middle}
+use Rattle.flow_plan.specs.declared.table.Table.{Table}
+use Rattle.flow_plan.specs.Fields.{AreFieldsOf, AreKept, Fills, IsTableOf}
 use Rattle.flow_plan.proofs.PlaceLemmas.{distinct_of_rising}
 use Rattle.flow_plan.proofs.RowLemmas.{rows_length}
 
@@ -26,20 +31,35 @@ new_is_ordered g tokens is of_leaves different = record {
   different = different;
 }
 
--- what the fields keep, of the plan as callers see it
-pub kept_as : {p q : Planned} {before seen : List (LeafSet 16)} {parts shown : List PartRow} → AreFieldsOf p before parts → p ≡ q → seen ≡ before → shown ≡ parts → AreFieldsOf q seen shown
-kept_as kept view rows_are parts_are = rw (← view, rows_are, parts_are) kept
-
-pub kept_ordered : {p q : Planned} {before : List (LeafSet 16)} {parts : List PartRow} → AreFieldsOf p before parts → p ≡ q → IsOrdered q.process (pairs_of q.tokens)
-kept_ordered kept view = (kept_as kept view refl refl).ordered
-
 -- ---- what is directly before a leaf
 
 abbrev pub Before : Planned → ℕ → ℕ → Type 0
 Before p x y = DirectlyBefore p.process (pairs_of p.tokens) x y
 
-pub row_within : {p : Planned} {before : List (LeafSet 16)} {parts : List PartRow} → AreFieldsOf p before parts → length before ≡ length p.leaves
-row_within {p} {before} kept = rows_length (Before p) p.leaves before kept.rows
+-- ---- what is kept
+
+-- what is kept, of the plan as callers see it
+pub kept_as : {p q : Planned} (rows : Rows) → AreKept p rows → p ≡ q → AreKept q rows
+kept_as rows kept view = subst (λ (p : Planned). AreKept p rows) view kept
+
+pub kept_ordered : {p q : Planned} (rows : Rows) → AreKept p rows → p ≡ q → IsOrdered q.process (pairs_of q.tokens)
+kept_ordered (Narrow t) kept view = subst (λ (p : Planned). IsOrdered p.process (pairs_of p.tokens)) view kept.fields.ordered
+kept_ordered (Middle t) kept view = subst (λ (p : Planned). IsOrdered p.process (pairs_of p.tokens)) view kept.fields.ordered
+
+pub kept_listed : {p q : Planned} (rows : Rows) → AreKept p rows → p ≡ q → q.leaves ≡ leaves q.process
+kept_listed (Narrow t) kept view = subst (λ (p : Planned). p.leaves ≡ leaves p.process) view kept.fields.listed
+kept_listed (Middle t) kept view = subst (λ (p : Planned). p.leaves ≡ leaves p.process) view kept.fields.listed
+
+pub row_within : {w : ℕ} → {p : Planned} {before : List (LeafSet w)} {parts : List (PartRow w)} → AreFieldsOf p before parts → length before ≡ length p.leaves
+row_within {w} {p} {before} kept = rows_length (Before p) p.leaves before kept.rows
+
+-- in the rows of a plan, the table is its table
+pub kept_in : {p q : Planned} (rows is : Rows) → AreKept p rows → p ≡ q → rows ≡ is → AreKept q is
+kept_in {p} {q} rows is kept view same = subst (λ (rows : Rows). AreKept q rows) same (kept_as rows kept view)
+
+-- the leaves fill the table
+pub table_filled : {w : ℕ} {p : Planned} (t : Table w) (ns : List ℕ) → IsTableOf p t → IsStrictlyIncreasing p.leaves → ns ≡ p.leaves → Fills ns t.before.items
+table_filled {w} {p} t ns table rising is = rw is (record { rising = rising; within = table.within; one_each = row_within table.fields })
 
 -- ---- readiness
 
@@ -47,9 +67,9 @@ abbrev pub Ready : Planned → (ℕ → Type 0) → ℕ → Type 0
 Ready p Done n = IsReady p.process (pairs_of p.tokens) Done n
 
 -- a free leaf that each part lets come next is ready
-pub ready_of_free : {p : Planned} {before : List (LeafSet 16)} {parts : List PartRow} → AreFieldsOf p before parts → (D : ℕ → Type 0) (n : ℕ) →
+pub ready_of_free : {w : ℕ} → {p : Planned} {before : List (LeafSet w)} {parts : List (PartRow w)} → AreFieldsOf p before parts → (D : ℕ → Type 0) (n : ℕ) →
     IsUnblocked p D n → Each (λ row. PartAllows row D n) parts → Ready p D n
-ready_of_free {p} {before} {parts} kept D n free allowed = record {
+ready_of_free {w} {p} {before} {parts} kept D n free allowed = record {
   leaf = free.leaf;
   not_done = free.not_done;
   before = free.before;
@@ -70,9 +90,9 @@ ready_of_free {p} {before} {parts} kept D n free allowed = record {
 pub free_of_ready : (p : Planned) (D : ℕ → Type 0) (n : ℕ) → Ready p D n → IsUnblocked p D n
 free_of_ready p D n ready = record { leaf = ready.leaf; not_done = ready.not_done; before = ready.before }
 
-pub parts_of_ready : {p : Planned} {before : List (LeafSet 16)} {parts : List PartRow} → AreFieldsOf p before parts → (D : ℕ → Type 0) (n : ℕ) →
+pub parts_of_ready : {w : ℕ} → {p : Planned} {before : List (LeafSet w)} {parts : List (PartRow w)} → AreFieldsOf p before parts → (D : ℕ → Type 0) (n : ℕ) →
     Ready p D n → Each (λ row. PartAllows row D n) parts
-parts_of_ready {p} {before} {parts} kept D n ready = each_from_members (λ row. PartAllows row D n) parts (λ row member.
+parts_of_ready {w} {p} {before} {parts} kept D n ready = each_from_members (λ row. PartAllows row D n) parts (λ row member.
     let found = kept.parts_are.sound row member in
     let part = found.0 in
     record {

@@ -4,7 +4,6 @@ use Rattle.std.proofs.Common.{◌≡◌, ◌≢◌, ℕ, ◌+◌, ◌<◌, zero,
 use Rattle.std.proofs.lemmas.List.{take_more, map-append}
 use Rattle.leaf_rows.specs.Leaves.{has_leaf}
 use Rattle.leaf_rows.specs.declared.leaf_set.LeafSet.{LeafSet}
-use Rattle.flow_model.specs.declared.limits.TheConstants.{MOST_LEAVES}
 use Rattle.flow_model.specs.Lists.{◌∈◌, Each, AreDistinct}
 use Rattle.flow_model.specs.Process.{Process, Sequence, Parallel, leaves}
 use Rattle.flow_model.specs.Ready.{InSequence, DirectlyBefore}
@@ -31,12 +30,12 @@ mem_more ns i within x = rw (take_more ns i 0 within) (
 
 -- ---- one row
 
-pub row_same : (P Q : ℕ → Type 0) (row : LeafSet 16) → ((x : ℕ) → P x → Q x) → ((x : ℕ) → Q x → P x) → IsRowOf P row → IsRowOf Q row
+pub row_same : {w : ℕ} → (P Q : ℕ → Type 0) (row : LeafSet w) → ((x : ℕ) → P x → Q x) → ((x : ℕ) → Q x → P x) → IsRowOf P row → IsRowOf Q row
 row_same P Q row to from is x = (λ has. to x ((is x).0 has), λ holds. (is x).1 (from x holds))
 
 -- ---- rows
 
-pub rows_same : (P Q : ℕ → ℕ → Type 0) (ns : List ℕ) (rows : List (LeafSet 16)) →
+pub rows_same : {w : ℕ} → (P Q : ℕ → ℕ → Type 0) (ns : List ℕ) (rows : List (LeafSet w)) →
     ((n : ℕ) → n ∈ ns → (x : ℕ) → P x n → Q x n) → ((n : ℕ) → n ∈ ns → (x : ℕ) → Q x n → P x n) →
     AreRowsOf P ns rows → AreRowsOf Q ns rows
 rows_same P Q [] [] to from are = tt
@@ -47,21 +46,21 @@ rows_same P Q (n ∷ ns) (row ∷ rows) to from are = (
   rows_same P Q ns rows (λ m member. to m (inr member)) (λ m member. from m (inr member)) are.1,
 )
 
-pub rows_append : (P : ℕ → ℕ → Type 0) (ns ms : List ℕ) (rows more : List (LeafSet 16)) →
+pub rows_append : {w : ℕ} → (P : ℕ → ℕ → Type 0) (ns ms : List ℕ) (rows more : List (LeafSet w)) →
     AreRowsOf P ns rows → AreRowsOf P ms more → AreRowsOf P (ns ++ ms) (rows ++ more)
 rows_append P [] ms [] more are and = and
 rows_append P [] ms (row ∷ rows) more are and = absurd are
 rows_append P (n ∷ ns) ms [] more are and = absurd are
 rows_append P (n ∷ ns) ms (row ∷ rows) more are and = (are.0, rows_append P ns ms rows more are.1 and)
 
-pub rows_length : (P : ℕ → ℕ → Type 0) (ns : List ℕ) (rows : List (LeafSet 16)) → AreRowsOf P ns rows → length rows ≡ length ns
+pub rows_length : {w : ℕ} → (P : ℕ → ℕ → Type 0) (ns : List ℕ) (rows : List (LeafSet w)) → AreRowsOf P ns rows → length rows ≡ length ns
 rows_length P [] [] are = refl
 rows_length P [] (row ∷ rows) are = absurd are
 rows_length P (n ∷ ns) [] are = absurd are
 rows_length P (n ∷ ns) (row ∷ rows) are = omega (arith, rows_length P ns rows are.1)
 
 -- the row of one leaf is changed
-pub rows_set : (P Q : ℕ → ℕ → Type 0) (ns : List ℕ) (rows : List (LeafSet 16)) (k n : ℕ) (new : LeafSet 16) → slice_get ns k ≡ Some n →
+pub rows_set : {w : ℕ} → (P Q : ℕ → ℕ → Type 0) (ns : List ℕ) (rows : List (LeafSet w)) (k n : ℕ) (new : LeafSet w) → slice_get ns k ≡ Some n →
     AreDistinct ns → AreRowsOf P ns rows → IsRowOf (λ x. Q x n) new →
     ((m : ℕ) → m ≢ n → (x : ℕ) → P x m → Q x m) → ((m : ℕ) → m ≢ n → (x : ℕ) → Q x m → P x m) → AreRowsOf Q ns (set rows k new)
 rows_set P Q [] rows k n new at distinct are is to from = absurd (cc)
@@ -82,7 +81,7 @@ rows_set P Q (m ∷ ns) (row ∷ rows) (suc k) n new at distinct are is to from 
 -- ---- the rows of a goal
 
 -- in a sequence the leaves of the first part are ahead of the second
-pub has_sequence : (a b : Process) (ahead more : LeafSet 16) (one two : List (LeafSet 16)) → AreDistinct (leaves a ++ leaves b) →
+pub has_sequence : {w : ℕ} → (a b : Process) (ahead more : LeafSet w) (one two : List (LeafSet w)) → AreDistinct (leaves a ++ leaves b) →
     IsRowOf (λ x. IsTrue (has_leaf ahead x) ⊎ (x ∈ leaves a)) more → HasRows a ahead one → HasRows b more two → HasRows (Sequence a b) ahead (one ++ two)
 has_sequence a b ahead more one two distinct more_is has_a has_b =
     let P : ℕ → ℕ → Type 0 = λ x n. IsTrue (has_leaf ahead x) ⊎ InSequence (Sequence a b) x n in
@@ -104,7 +103,7 @@ has_sequence a b ahead more one two distinct more_is has_a has_b =
     has_b)
 
 -- beside one another no part says anything of the other
-pub has_parallel : (a b : Process) (ahead : LeafSet 16) (one two : List (LeafSet 16)) → AreDistinct (leaves a ++ leaves b) →
+pub has_parallel : {w : ℕ} → (a b : Process) (ahead : LeafSet w) (one two : List (LeafSet w)) → AreDistinct (leaves a ++ leaves b) →
     HasRows a ahead one → HasRows b ahead two → HasRows (Parallel a b) ahead (one ++ two)
 has_parallel a b ahead one two distinct has_a has_b =
     let P : ℕ → ℕ → Type 0 = λ x n. IsTrue (has_leaf ahead x) ⊎ InSequence (Parallel a b) x n in
@@ -121,7 +120,7 @@ has_parallel a b ahead one two distinct has_a has_b =
     has_b)
 
 -- the rows of the whole goal, of which nothing is ahead
-pub first_rows : (g : Process) (ahead : LeafSet 16) (rows : List (LeafSet 16)) → ((x : ℕ) → has_leaf ahead x ≡ false) → HasRows g ahead rows →
+pub first_rows : {w : ℕ} → (g : Process) (ahead : LeafSet w) (rows : List (LeafSet w)) → ((x : ℕ) → has_leaf ahead x ≡ false) → HasRows g ahead rows →
     AreRowsOf (InSequence g) (leaves g) rows
 first_rows g ahead rows empty has = rows_same (λ x n. IsTrue (has_leaf ahead x) ⊎ InSequence g x n) (InSequence g) (leaves g) rows
     (λ n member x either. ⊎_elim (λ h. let no = empty x in absurd (cc)) (λ h. h) either)
@@ -129,14 +128,14 @@ first_rows g ahead rows empty has = rows_same (λ x n. IsTrue (has_leaf ahead x)
 
 -- ---- the rows of a plan
 
-pub rows_get : (P : ℕ → ℕ → Type 0) (ns : List ℕ) (rows : List (LeafSet 16)) (k n : ℕ) (row d : LeafSet 16) → slice_get ns k ≡ Some n →
+pub rows_get : {w : ℕ} → (P : ℕ → ℕ → Type 0) (ns : List ℕ) (rows : List (LeafSet w)) (k n : ℕ) (row d : LeafSet w) → slice_get ns k ≡ Some n →
     row ≡ get_or rows k d → AreRowsOf P ns rows → IsRowOf (λ x. P x n) row
 rows_get P [] rows k n row d at is are = absurd (cc)
 rows_get P (m ∷ ns) [] k n row d at is are = absurd are
-rows_get P (m ∷ ns) (first ∷ rows) zero n row d at is are =
+rows_get {w} P (m ∷ ns) (first ∷ rows) zero n row d at is are =
     let same : m ≡ n = cc in
-    let Is : ℕ → LeafSet 16 → Type 0 = λ n row. IsRowOf (λ x. P x n) row in
-    subst (λ (l : ℕ). Is l row) same (subst (λ (r : LeafSet 16). Is m r) (sym is) are.0)
+    let Is : ℕ → LeafSet w → Type 0 = λ n row. IsRowOf (λ x. P x n) row in
+    subst (λ (l : ℕ). Is l row) same (subst (λ (r : LeafSet w). Is m r) (sym is) are.0)
 rows_get P (m ∷ ns) (first ∷ rows) (suc k) n row d at is are = rows_get P ns rows k n row d at is are.1
 
 -- one pair more
@@ -157,7 +156,7 @@ direct_last q pairs s r x n first second =
     inr (mem_append_right (x, n) pairs ((s, r) ∷ []) (inl (λ i. (first i, second i))))
 
 -- the sender of a pair goes into the row of its receiver
-pub rows_with_sender : (q : Process) (pairs : List (ℕ × ℕ)) (s r : ℕ) (ns : List ℕ) (rows : List (LeafSet 16)) (k : ℕ) (row new : LeafSet 16) →
+pub rows_with_sender : {w : ℕ} → (q : Process) (pairs : List (ℕ × ℕ)) (s r : ℕ) (ns : List ℕ) (rows : List (LeafSet w)) (k : ℕ) (row new : LeafSet w) →
     slice_get ns k ≡ Some r → AreDistinct ns → AreRowsOf (DirectlyBefore q pairs) ns rows → row ≡ get_or rows k row →
     ((x : ℕ) → has_leaf new x ≡ (x == s || has_leaf row x)) → AreRowsOf (DirectlyBefore q (pairs ++ (s, r) ∷ [])) ns (set rows k new)
 rows_with_sender q pairs s r ns rows k row new at distinct are is noted =
@@ -174,7 +173,7 @@ rows_with_sender q pairs s r ns rows k row new at distinct are is noted =
     (λ m other x direct. ⊎_elim (λ h. h) (λ (same : (x ≡ s) × (m ≡ r)). absurd (other same.1)) (direct_more q pairs s r x m direct))
 
 -- a pair whose receiver is no leaf changes nothing
-pub rows_without : (q : Process) (pairs : List (ℕ × ℕ)) (s r : ℕ) (ns : List ℕ) (rows : List (LeafSet 16)) → ¬ (r ∈ ns) →
+pub rows_without : {w : ℕ} → (q : Process) (pairs : List (ℕ × ℕ)) (s r : ℕ) (ns : List ℕ) (rows : List (LeafSet w)) → ¬ (r ∈ ns) →
     AreRowsOf (DirectlyBefore q pairs) ns rows → AreRowsOf (DirectlyBefore q (pairs ++ (s, r) ∷ [])) ns rows
 rows_without q pairs s r ns rows missing are =
     rows_same (DirectlyBefore q pairs) (DirectlyBefore q (pairs ++ (s, r) ∷ [])) ns rows
@@ -183,7 +182,7 @@ rows_without q pairs s r ns rows missing are =
     (direct_more q pairs s r x n direct)) are
 
 -- with no pair what is directly before is in sequence
-pub rows_unpaired : (q : Process) (ns : List ℕ) (rows : List (LeafSet 16)) → AreRowsOf (InSequence q) ns rows → AreRowsOf (DirectlyBefore q []) ns rows
+pub rows_unpaired : {w : ℕ} → (q : Process) (ns : List ℕ) (rows : List (LeafSet w)) → AreRowsOf (InSequence q) ns rows → AreRowsOf (DirectlyBefore q []) ns rows
 rows_unpaired q ns rows are = rows_same (InSequence q) (DirectlyBefore q []) ns rows
     (λ n member x order. inl order) (λ n member x direct. ⊎_elim (λ h. h) (λ none. absurd none) direct) are
 
@@ -193,9 +192,9 @@ pub pairs_more : (tokens : List OrderToken) (i : ℕ) (d : OrderToken) → i < l
 pairs_more tokens i d within = ap pairs_of (take_more tokens i d within) ∙ map-append (λ (t : OrderToken). (t.sender, t.receiver)) (take i tokens) (get_or tokens i d ∷ [])
 
 -- the senders of pairs of leaves are as small as the leaves
-pub senders_small : (g : Process) (ns : List ℕ) (tokens : List OrderToken) → ns ≡ leaves g → Each (λ n. n < MOST_LEAVES) ns → AreOfLeaves g (pairs_of tokens) →
-    (k : ℕ) (d : OrderToken) → k < length tokens → (get_or tokens k d).sender < MOST_LEAVES
-senders_small g ns [] listed small of_leaves k d within = absurd (omega arith)
-senders_small g ns (t ∷ ts) listed small of_leaves zero d within =
-    each_member (λ n. n < MOST_LEAVES) ns small t.sender (subst (λ (l : List ℕ). t.sender ∈ l) (sym listed) of_leaves.0.0)
-senders_small g ns (t ∷ ts) listed small of_leaves (suc k) d within = senders_small g ns ts listed small of_leaves.1 k d (omega arith)
+pub senders_small : (bound : ℕ) (g : Process) (ns : List ℕ) (tokens : List OrderToken) → ns ≡ leaves g → Each (λ n. n < bound) ns → AreOfLeaves g (pairs_of tokens) →
+    (k : ℕ) (d : OrderToken) → k < length tokens → (get_or tokens k d).sender < bound
+senders_small bound g ns [] listed small of_leaves k d within = absurd (omega arith)
+senders_small bound g ns (t ∷ ts) listed small of_leaves zero d within =
+    each_member (λ n. n < bound) ns small t.sender (subst (λ (l : List ℕ). t.sender ∈ l) (sym listed) of_leaves.0.0)
+senders_small bound g ns (t ∷ ts) listed small of_leaves (suc k) d within = senders_small bound g ns ts listed small of_leaves.1 k d (omega arith)

@@ -5,6 +5,7 @@ use Rattle.std.proofs.lemmas.Bool.{or_cases, or_left, or_right}
 use Rattle.leaf_rows.specs.Leaves.{has_leaf}
 use Rattle.leaf_rows.specs.declared.leaf_set.LeafSet.{LeafSet}
 use Rattle.flow_model.specs.Lists.{◌∈◌, Each, AreDistinct}
+use Rattle.flow_model.specs.Process.{leaves}
 use Rattle.flow_model.specs.Ready.{DoneOr}
 use Rattle.flow_model.proofs.Lists.{split_at, each_member, each_from_members, each_parts, each-append, mem-slice_get}
 use Rattle.flow_model.proofs.MadeLists.{same_order}
@@ -16,7 +17,10 @@ use Rattle.flow_plan.specs.Progress.{is_done, IsDone}
 use Rattle.flow_plan.specs.Orders.{MayComeNext, MayFollowInEveryOrder}
 use Rattle.flow_plan.specs.Rows.{IsRowOf, IsDue}
 use Rattle.flow_plan.specs.Parts.{PartAllows, KeepsBeside, KeepsAfter}
-use Rattle.flow_plan.specs.Fields.{AreFieldsOf}
+use Rattle.flow_plan.specs.declared.part_row.Use.TheVariants.{Beside, First}
+use Rattle.flow_plan.specs.declared.table.Rows.{Rows}
+use Rattle.flow_plan.specs.declared.table.Rows.TheVariants.{Narrow, Middle}
+use Rattle.flow_plan.specs.Fields.{AreFieldsOf, AreKept, EachKeeps}
 use Rattle.std.proofs.lemmas.Option.{slice_get-get_or}
 use Rattle.flow_plan.proofs.RowLemmas.{one_more, mem_more}
 use Rattle.flow_plan.proofs.Readiness.{Before, ready_of_free, parts_of_ready}
@@ -25,13 +29,13 @@ use Rattle.flow_plan.proofs.Together.{together_beside, distinct_by_two, after_ke
 
 -- ---- part by part
 
-pub part_at : (parts : List PartRow) (i : ℕ) (row d : PartRow) → i < length parts → row ≡ get_or parts i d → row ∈ parts
-part_at parts i row d within is = subst (λ (r : PartRow). r ∈ parts) (sym is) (mem-slice_get parts i (get_or parts i d) (slice_get-get_or parts i d within))
+pub part_at : {w : ℕ} → (parts : List (PartRow w)) (i : ℕ) (row d : PartRow w) → i < length parts → row ≡ get_or parts i d → row ∈ parts
+part_at {w} parts i row d within is = subst (λ (r : PartRow w). r ∈ parts) (sym is) (mem-slice_get parts i (get_or parts i d) (slice_get-get_or parts i d within))
 
-pub kept_step : (P : PartRow → Type 0) (parts : List PartRow) (i : ℕ) (row : PartRow) (new now was : Bool) → i < length parts → row ≡ get_or parts i row →
+pub kept_step : {w : ℕ} → (P : PartRow w → Type 0) (parts : List (PartRow w)) (i : ℕ) (row : PartRow w) (new now was : Bool) → i < length parts → row ≡ get_or parts i row →
     (IsTrue new ↔ (IsTrue now × P row)) → (IsTrue now ↔ (IsTrue was × Each P (take i parts))) → IsTrue new ↔ (IsTrue was × Each P (take (i + 1) parts))
-kept_step P parts i row new now was within is step before =
-    let more : take (i + 1) parts ≡ take i parts ++ row ∷ [] = take_more parts i row within ∙ ap (λ (r : PartRow). take i parts ++ r ∷ []) (sym is) in (
+kept_step {w} P parts i row new now was within is step before =
+    let more : take (i + 1) parts ≡ take i parts ++ row ∷ [] = take_more parts i row within ∙ ap (λ (r : PartRow w). take i parts ++ r ∷ []) (sym is) in (
       λ h. let last = step.0 h in let old = before.0 last.0 in
           (old.0, subst (λ l. Each P l) (sym more) (each-append P (take i parts) (row ∷ []) old.1 (last.1, tt))),
       λ both. let parts = each_parts P (take i parts) (row ∷ []) (subst (λ l. Each P l) more both.1) in
@@ -39,18 +43,18 @@ kept_step P parts i row new now was within is step before =
     )
 
 -- each of the first parts, of one more
-pub each_part_more : (P : PartRow → Type 0) (parts : List PartRow) (i : ℕ) (row : PartRow) → i < length parts → row ≡ get_or parts i row → P row → Each P (take i parts) →
+pub each_part_more : {w : ℕ} → (P : PartRow w → Type 0) (parts : List (PartRow w)) (i : ℕ) (row : PartRow w) → i < length parts → row ≡ get_or parts i row → P row → Each P (take i parts) →
     Each P (take (i + 1) parts)
-each_part_more P parts i row within is here so_far =
-    subst (λ (l : List PartRow). Each P l) (sym (take_more parts i row within ∙ ap (λ (r : PartRow). take i parts ++ r ∷ []) (sym is)))
+each_part_more {w} P parts i row within is here so_far =
+    subst (λ (l : List (PartRow w)). Each P l) (sym (take_more parts i row within ∙ ap (λ (r : PartRow w). take i parts ++ r ∷ []) (sym is)))
     (each-append P (take i parts) (row ∷ []) so_far (here, tt))
 
 -- each part
-pub every_part : (P : PartRow → Type 0) (parts : List PartRow) (i : ℕ) → length parts ≤ i → Each P (take i parts) → IsTrue true ↔ Each P parts
-every_part P parts i past all = (λ yes. subst (λ (l : List PartRow). Each P l) (take_all i parts past) all, λ every. refl)
+pub every_part : {w : ℕ} → (P : PartRow w → Type 0) (parts : List (PartRow w)) (i : ℕ) → length parts ≤ i → Each P (take i parts) → IsTrue true ↔ Each P parts
+every_part {w} P parts i past all = (λ yes. subst (λ (l : List (PartRow w)). Each P l) (take_all i parts past) all, λ every. refl)
 
 -- not each part, where some part does not
-pub not_every_part : (P : PartRow → Type 0) (parts : List PartRow) (i : ℕ) (row : PartRow) (answer : Bool) → i < length parts → row ≡ get_or parts i row →
+pub not_every_part : {w : ℕ} → (P : PartRow w → Type 0) (parts : List (PartRow w)) (i : ℕ) (row : PartRow w) (answer : Bool) → i < length parts → row ≡ get_or parts i row →
     (IsTrue answer ↔ P row) → answer ≡ false → IsTrue false ↔ Each P parts
 not_every_part P parts i row answer within is says fails = (
   λ wrong. absurd (cc),
@@ -60,7 +64,7 @@ not_every_part P parts i row answer within is says fails = (
 -- ---- leaf by leaf
 
 -- the leaves with F at the first places, of one place more
-pub free_more : (ns : List ℕ) (i : ℕ) (F : ℕ → Type 0) (now new : LeafSet 16) (test : Bool) → i < length ns → (IsTrue test ↔ F (get_or ns i 0)) → IsRowOf (λ x. (x ∈ take i ns) × F x) now →
+pub free_more : {w : ℕ} → (ns : List ℕ) (i : ℕ) (F : ℕ → Type 0) (now new : LeafSet w) (test : Bool) → i < length ns → (IsTrue test ↔ F (get_or ns i 0)) → IsRowOf (λ x. (x ∈ take i ns) × F x) now →
     (IsTrue test × ((x : ℕ) → has_leaf new x ≡ (x == get_or ns i 0 || has_leaf now x))) ⊎ ((test ≡ false) × (new ≡ now)) → IsRowOf (λ x. (x ∈ take (i + 1) ns) × F x) new
 free_more ns i F now new test within says is (inl (passes, noted)) x =
     let n : ℕ = get_or ns i 0 in
@@ -69,16 +73,16 @@ free_more ns i F now new test within says is (inl (passes, noted)) x =
           (λ old. let h = (is x).0 old in (more.1 (inl h.0), h.1)) (or_cases (x == n) (has_leaf now x) (sym (noted x) ∙ has)),
       λ both. noted x ∙ ⊎_elim (λ h. or_right (x == n) (has_leaf now x) ((is x).1 (h, both.1))) (λ same. or_left (x == n) (has_leaf now x) (eq-eqb x n same)) (more.0 both.0),
     )
-free_more ns i F now new test within says is (inr (fails, same)) x =
+free_more {w} ns i F now new test within says is (inr (fails, same)) x =
     let more = mem_more ns i within x in (
-      λ has. let h = (is x).0 (subst (λ (r : LeafSet 16). IsTrue (has_leaf r x)) same has) in (more.1 (inl h.0), h.1),
-      λ both. subst (λ (r : LeafSet 16). IsTrue (has_leaf r x)) (sym same)
+      λ has. let h = (is x).0 (subst (λ (r : LeafSet w). IsTrue (has_leaf r x)) same has) in (more.1 (inl h.0), h.1),
+      λ both. subst (λ (r : LeafSet w). IsTrue (has_leaf r x)) (sym same)
           (⊎_elim (λ h. (is x).1 (h, both.1)) (λ last. let yes = says.1 (subst F last both.1) in absurd (cc)) (more.0 both.0)),
     )
 
 -- ---- what comes next
 
-pub next_by_rows : {p : Planned} {before : List (LeafSet 16)} {parts : List PartRow} → AreFieldsOf p before parts → (D : ℕ → Type 0) (free keep : LeafSet 16) →
+pub next_by_rows : {w : ℕ} → {p : Planned} {before : List (LeafSet w)} {parts : List (PartRow w)} → AreFieldsOf p before parts → (D : ℕ → Type 0) (free keep : LeafSet w) →
     IsRowOf (λ n. (n ∈ p.leaves) × IsDue (Before p) D n) free →
     ((n : ℕ) → IsTrue (has_leaf keep n) ↔ (IsTrue (has_leaf free n) × Each (λ r. PartAllows r D n) parts)) → IsRowOf (MayComeNext p D) keep
 next_by_rows kept D free keep free_is keep_is n = (
@@ -94,7 +98,7 @@ none_left true b e h = refl
 none_left false b e h = absurd (cc)
 
 -- a leaf before which all is done, and which may come after that one alone, is refused by some part that lets that one come
-pub parts_refuse : {p : Planned} {before : List (LeafSet 16)} {parts : List PartRow} → AreFieldsOf p before parts → (D : ℕ → Type 0) (leaf first : ℕ) →
+pub parts_refuse : {w : ℕ} → {p : Planned} {before : List (LeafSet w)} {parts : List (PartRow w)} → AreFieldsOf p before parts → (D : ℕ → Type 0) (leaf first : ℕ) →
     ¬ MayComeNext p D leaf → MayComeNext p D first → MayComeNext p (DoneOr D (first ∷ [])) leaf → ((x : ℕ) → Before p x leaf → D x) →
     ¬ Each (λ r. PartAllows r D leaf) parts × Each (λ r. PartAllows r D first) parts × Each (λ r. PartAllows r (DoneOr D (first ∷ [])) leaf) parts
 parts_refuse kept D leaf first refused next after all_before = (
@@ -119,7 +123,7 @@ each_of_orders p D list n all member =
 pub first_is_other : (p : Planned) (D : ℕ → Type 0) (list : List ℕ) (n : ℕ) → MayFollowInEveryOrder p (DoneOr D (n ∷ [])) list → ¬ (n ∈ list)
 first_is_other p D list n all member = (each_of_orders p (DoneOr D (n ∷ [])) list n all member).not_done (inr (inl refl))
 
-module _ (next claims found rest : LeafSet 16) (rest_is : (n : ℕ) → has_leaf rest n ≡ (not (has_leaf found n) && (not (has_leaf claims n) && has_leaf next n))) where
+module _ {w : ℕ} (next claims found rest : LeafSet w) (rest_is : (n : ℕ) → has_leaf rest n ≡ (not (has_leaf found n) && (not (has_leaf claims n) && has_leaf next n))) where
   parted : (f c x : Bool) → IsTrue (not f && (not c && x)) → IsTrue x × ¬ IsTrue c
   parted false false x h = (h, λ wrong. absurd (cc))
   parted false true x h = absurd (cc)
@@ -136,7 +140,7 @@ module _ (next claims found rest : LeafSet 16) (rest_is : (n : ℕ) → has_leaf
   pub rest_or_found : (n : ℕ) → IsTrue (has_leaf next n) → ¬ IsTrue (has_leaf claims n) → IsTrue (has_leaf rest n) ⊎ IsTrue (has_leaf found n)
   rest_or_found n has other = ⊎_elim (λ h. inl (rest_is n ∙ h)) (λ h. inr h) (made (has_leaf found n) (has_leaf claims n) (has_leaf next n) has other)
 
-module _ (p : Planned) (done : Progress) (list : List ℕ) (next claims found rest : LeafSet 16)
+module _ {w : ℕ} (p : Planned) (done : Progress) (list : List ℕ) (next claims found rest : LeafSet w)
     (rest_is : (n : ℕ) → has_leaf rest n ≡ (not (has_leaf found n) && (not (has_leaf claims n) && has_leaf next n)))
     (next_is : IsRowOf (MayComeNext p (IsDone done)) next) (claims_are : IsRowOf (λ x. x ∈ list) claims) (distinct : AreDistinct list) where
   -- what follows with the claimed ones is among the rest or found
@@ -156,7 +160,7 @@ module _ (p : Planned) (done : Progress) (list : List ℕ) (next claims found re
   each_next : ((k : ℕ) → IsTrue (has_leaf claims k) → IsTrue (has_leaf next k)) → Each (MayComeNext p (IsDone done)) list
   each_next within = each_from_members (MayComeNext p (IsDone done)) list (λ k member. (next_is k).0 (within k ((claims_are k).1 member)))
 
-  module _ {before : List (LeafSet 16)} {parts : List PartRow} (kept : AreFieldsOf p before parts) (within : (k : ℕ) → IsTrue (has_leaf claims k) → IsTrue (has_leaf next k)) (keep new : LeafSet 16)
+  module _ {v : ℕ} {before : List (LeafSet v)} {parts : List (PartRow v)} (kept : AreFieldsOf p before parts) (within : (k : ℕ) → IsTrue (has_leaf claims k) → IsTrue (has_leaf next k)) (keep new : LeafSet w)
       (new_is : (n : ℕ) → IsTrue (has_leaf new n) ↔ (IsTrue (has_leaf found n) ⊎ IsTrue (has_leaf keep n))) where
     pub adds_beside : ((n : ℕ) → IsTrue (has_leaf keep n) ↔ (IsTrue (has_leaf rest n) × Each (λ r. KeepsBeside r (λ x. IsTrue (has_leaf claims x)) n) parts)) →
         (n : ℕ) → IsTrue (has_leaf new n) ↔ (IsTrue (has_leaf found n) ⊎ MayFollowInEveryOrder p (IsDone done) (n ∷ list))
@@ -202,3 +206,25 @@ module _ (p : Planned) (done : Progress) (list : List ℕ) (next claims found re
         orders_at : {n : ℕ} (after : ℕ → Bool) → ((x : ℕ) → IsTrue (after x) → DoneOr (IsDone done) (n ∷ []) x) → ((x : ℕ) → DoneOr (IsDone done) (n ∷ []) x → IsTrue (after x)) →
             MayFollowInEveryOrder p (λ x. IsTrue (after x)) list → MayFollowInEveryOrder p (DoneOr (IsDone done) (n ∷ [])) list
         orders_at {n} after to from all order is = same_run p.process (pairs_of p.tokens) (λ x. IsTrue (after x)) (DoneOr (IsDone done) (n ∷ [])) order to from (all order is)
+
+  -- the same of the rows of a plan
+  pub rows_add_beside : (rows : Rows) → AreKept p rows → ((k : ℕ) → IsTrue (has_leaf claims k) → IsTrue (has_leaf next k)) → (keep new : LeafSet w) →
+      ((n : ℕ) → IsTrue (has_leaf new n) ↔ (IsTrue (has_leaf found n) ⊎ IsTrue (has_leaf keep n))) →
+      ((n : ℕ) → IsTrue (has_leaf keep n) ↔ (IsTrue (has_leaf rest n) × EachKeeps Beside rows (λ x. IsTrue (has_leaf claims x)) n)) →
+      (n : ℕ) → IsTrue (has_leaf new n) ↔ (IsTrue (has_leaf found n) ⊎ MayFollowInEveryOrder p (IsDone done) (n ∷ list))
+  rows_add_beside (Narrow t) kept = adds_beside kept.fields
+  rows_add_beside (Middle t) kept = adds_beside kept.fields
+
+  pub rows_add_first : (rows : Rows) → AreKept p rows → ((k : ℕ) → IsTrue (has_leaf claims k) → IsTrue (has_leaf next k)) → (keep new : LeafSet w) →
+      ((n : ℕ) → IsTrue (has_leaf new n) ↔ (IsTrue (has_leaf found n) ⊎ IsTrue (has_leaf keep n))) →
+      ((n : ℕ) → IsTrue (has_leaf keep n) ↔ (IsTrue (has_leaf rest n) × EachKeeps First rows (λ x. IsTrue (has_leaf claims x)) n)) →
+      (n : ℕ) → IsTrue (has_leaf new n) ↔ (IsTrue (has_leaf found n) ⊎ (MayComeNext p (IsDone done) n × MayFollowInEveryOrder p (DoneOr (IsDone done) (n ∷ [])) list))
+  rows_add_first (Narrow t) kept = adds_first kept.fields
+  rows_add_first (Middle t) kept = adds_first kept.fields
+
+  -- what is left comes next
+  pub rest_in : p.leaves ≡ leaves p.process → (n : ℕ) → IsTrue (has_leaf rest n) → n ∈ p.leaves
+  rest_in listed n has = subst (λ (l : List ℕ). n ∈ l) (sym listed) ((next_is n).0 (rest_parts next claims found rest rest_is n has).0).leaf
+
+  pub claims_in : p.leaves ≡ leaves p.process → ((k : ℕ) → IsTrue (has_leaf claims k) → IsTrue (has_leaf next k)) → (n : ℕ) → IsTrue (has_leaf claims n) → n ∈ p.leaves
+  claims_in listed within n has = subst (λ (l : List ℕ). n ∈ l) (sym listed) ((next_is n).0 (within n has)).leaf

@@ -19,9 +19,9 @@ use Rattle.flow_plan.specs.Parts.{KeepsTogether, KeepsBeside, KeepsAfter}
 use Rattle.flow_plan.specs.Fields.{AreFieldsOf}
 use Rattle.flow_plan.proofs.RowLemmas.{one_more}
 
-module _ {p : Planned} {before : List (LeafSet 16)} {parts : List PartRow} (kept : AreFieldsOf p before parts) (D : ℕ → Type 0) where
+module _ {w : ℕ} {p : Planned} {before : List (LeafSet w)} {parts : List (PartRow w)} (kept : AreFieldsOf p before parts) (D : ℕ → Type 0) where
   -- the one may come after the other where no part has it alone
-  comes_after : (x y : ℕ) → x ≢ y → MayComeNext p D x → MayComeNext p D y → ((row : PartRow) → row ∈ parts → IsTrue (has_leaf row.inside x) → IsTrue (has_leaf row.inside y)) →
+  comes_after : (x y : ℕ) → x ≢ y → MayComeNext p D x → MayComeNext p D y → ((row : PartRow w) → row ∈ parts → IsTrue (has_leaf row.inside x) → IsTrue (has_leaf row.inside y)) →
       MayComeAfter p D x y
   comes_after x y other first second together = record {
     leaf = second.leaf;
@@ -40,7 +40,7 @@ module _ {p : Planned} {before : List (LeafSet 16)} {parts : List PartRow} (kept
   }
 
   -- and only there
-  not_alone : (x y : ℕ) → MayComeNext p D x → MayComeNext p D y → MayComeAfter p D x y → (row : PartRow) → row ∈ parts → IsTrue (has_leaf row.inside x) →
+  not_alone : (x y : ℕ) → MayComeNext p D x → MayComeNext p D y → MayComeAfter p D x y → (row : PartRow w) → row ∈ parts → IsTrue (has_leaf row.inside x) →
       IsTrue (has_leaf row.inside y)
   not_alone x y first second after row member x_in = ⊎_elim (λ yes. yes)
       (λ no.
@@ -53,7 +53,7 @@ module _ {p : Planned} {before : List (LeafSet 16)} {parts : List PartRow} (kept
       absurd (two.2 (alone two.0 ((is.inside two.0).0 two.3) ∙ sym (alone two.1 ((is.inside two.1).0 two.4)))))
       (cases_Bool (has_leaf row.inside y))
 
-  all_after : (list : List ℕ) → AreDistinct list → Each (MayComeNext p D) list → ((x y : ℕ) → x ∈ list → y ∈ list → (row : PartRow) → row ∈ parts →
+  all_after : (list : List ℕ) → AreDistinct list → Each (MayComeNext p D) list → ((x y : ℕ) → x ∈ list → y ∈ list → (row : PartRow w) → row ∈ parts →
       IsTrue (has_leaf row.inside x) → IsTrue (has_leaf row.inside y)) → EachTwo (MayComeAfter p D) list
   all_after [] distinct each together = tt
   all_after (x ∷ list) distinct each together = (
@@ -66,7 +66,7 @@ module _ {p : Planned} {before : List (LeafSet 16)} {parts : List PartRow} (kept
     all_after list distinct.1 each.1 (λ y z y_in z_in. together y z (inr y_in) (inr z_in)),
   )
 
-  of_all_after : (list : List ℕ) → Each (MayComeNext p D) list → EachTwo (MayComeAfter p D) list → (x y : ℕ) → x ∈ list → y ∈ list → (row : PartRow) → row ∈ parts →
+  of_all_after : (list : List ℕ) → Each (MayComeNext p D) list → EachTwo (MayComeAfter p D) list → (x y : ℕ) → x ∈ list → y ∈ list → (row : PartRow w) → row ∈ parts →
       IsTrue (has_leaf row.inside x) → IsTrue (has_leaf row.inside y)
   of_all_after [] each two x y x_in y_in row member has = absurd x_in
   of_all_after (z ∷ list) each two x y (inl first) (inl second) row member has = subst (λ (n : ℕ). IsTrue (has_leaf row.inside n)) (first ∙ sym second) has
@@ -78,7 +78,7 @@ module _ {p : Planned} {before : List (LeafSet 16)} {parts : List PartRow} (kept
   of_all_after (z ∷ list) each two x y (inr x_in) (inr y_in) row member has = of_all_after list each.1 two.1 x y x_in y_in row member has
 
   -- leaves that may come next, none of them twice, may do so after one another where each part keeps them together
-  pub together_by_two : (set : LeafSet 16) (list : List ℕ) (answer : Bool) → (IsTrue answer ↔ Each (λ row. KeepsTogether row (λ x. IsTrue (has_leaf set x))) parts) →
+  pub together_by_two : {v : ℕ} (set : LeafSet v) (list : List ℕ) (answer : Bool) → (IsTrue answer ↔ Each (λ row. KeepsTogether row (λ x. IsTrue (has_leaf set x))) parts) →
       IsRowOf (λ x. x ∈ list) set → AreDistinct list → Each (MayComeNext p D) list → IsTrue answer ↔ EachTwo (MayComeAfter p D) list
   together_by_two set list answer says is distinct each = (
     λ yes. all_after list distinct each (λ x y x_in y_in row member has.
@@ -88,7 +88,7 @@ module _ {p : Planned} {before : List (LeafSet 16)} {parts : List PartRow} (kept
   )
 
   -- the same of one leaf more, where the others are a row
-  pub together_beside : (claims : LeafSet 16) (list : List ℕ) (n : ℕ) → IsRowOf (λ x. x ∈ list) claims → ¬ (n ∈ list) → AreDistinct list → Each (MayComeNext p D) (n ∷ list) →
+  pub together_beside : {v : ℕ} (claims : LeafSet v) (list : List ℕ) (n : ℕ) → IsRowOf (λ x. x ∈ list) claims → ¬ (n ∈ list) → AreDistinct list → Each (MayComeNext p D) (n ∷ list) →
       Each (λ row. KeepsBeside row (λ x. IsTrue (has_leaf claims x)) n) parts ↔ EachTwo (MayComeAfter p D) (n ∷ list)
   together_beside claims list n is other distinct each = (
     λ keeps. all_after (n ∷ list) (other, distinct) each (λ x y x_in y_in row member has.
@@ -107,7 +107,7 @@ module _ {p : Planned} {before : List (LeafSet 16)} {parts : List PartRow} (kept
 
 -- ---- the leaves after one
 
-module _ {p : Planned} {before : List (LeafSet 16)} {parts : List PartRow} (kept : AreFieldsOf p before parts) (done : ℕ → Bool) (claims : LeafSet 16) (list : List ℕ) (n : ℕ)
+module _ {v w : ℕ} {p : Planned} {before : List (LeafSet w)} {parts : List (PartRow w)} (kept : AreFieldsOf p before parts) (done : ℕ → Bool) (claims : LeafSet v) (list : List ℕ) (n : ℕ)
     (is : IsRowOf (λ x. x ∈ list) claims) (other : ¬ (n ∈ list)) (distinct : AreDistinct list) (next : MayComeNext p (λ x. IsTrue (done x)) n)
     (each : Each (MayComeNext p (λ x. IsTrue (done x))) list) where
   abbrev D : ℕ → Type 0
@@ -116,7 +116,7 @@ module _ {p : Planned} {before : List (LeafSet 16)} {parts : List PartRow} (kept
   abbrev E : ℕ → Type 0
   E x = IsTrue (x == n || done x)
 
-  abbrev Keeps : PartRow → Type 0
+  abbrev Keeps : PartRow w → Type 0
   Keeps row = KeepsAfter row (λ x. IsTrue (has_leaf claims x)) n
 
   to_either : (x : ℕ) → E x → DoneOr D (n ∷ []) x

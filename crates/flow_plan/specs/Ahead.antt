@@ -5,9 +5,9 @@ use Rattle.leaf_rows.specs.declared.leaf_set.LeafSet.{LeafSet}
 use Rattle.flow_model.specs.Lists.{◌∈◌}
 
 -- some of the rows has x
-abbrev pub IsInSome : List (LeafSet 16) → ℕ → Type 0
-IsInSome rows x = (row : LeafSet 16) × (row ∈ rows) × IsTrue (has_leaf row x)
+abbrev pub IsInSome : {w : ℕ} → List (LeafSet w) → ℕ → Type 0
+IsInSome {w} rows x = (row : LeafSet w) × (row ∈ rows) × IsTrue (has_leaf row x)
 
 -- and it is not itself one of the leaves
-abbrev pub IsOutside : List ℕ → List (LeafSet 16) → ℕ → Type 0
+abbrev pub IsOutside : {w : ℕ} → List ℕ → List (LeafSet w) → ℕ → Type 0
 IsOutside leaves rows x = ¬ (x ∈ leaves) × IsInSome rows x

@@ -1,5 +1,6 @@
 pub mod Ahead
 pub mod Fields
+pub mod FoldRows
 pub mod Orders
 pub mod Parts
 pub mod Planned
@@ -7,6 +8,7 @@ pub mod Progress
 pub mod RowMarks
 pub mod Rows
 pub mod Sampled
+pub mod Sided
 pub mod Options
 pub mod Compilation
 pub mod SpanMarks

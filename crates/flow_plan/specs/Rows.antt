@@ -6,18 +6,18 @@ use Rattle.flow_model.specs.Process.{Process, leaves}
 use Rattle.flow_model.specs.Ready.{InSequence}
 
 -- the members of the row are those with P
-abbrev pub IsRowOf : (ℕ → Type 0) → LeafSet 16 → Type 0
+abbrev pub IsRowOf : {w : ℕ} → (ℕ → Type 0) → LeafSet w → Type 0
 IsRowOf P row = (x : ℕ) → IsTrue (has_leaf row x) ↔ P x
 
 -- one row a leaf, whose members x are those with P x of the leaf
-abbrev pub AreRowsOf : (ℕ → ℕ → Type 0) → List ℕ → List (LeafSet 16) → Type 0
+abbrev pub AreRowsOf : {w : ℕ} → (ℕ → ℕ → Type 0) → List ℕ → List (LeafSet w) → Type 0
 AreRowsOf P [] [] = Unit {0}
 AreRowsOf P [] (row ∷ rows) = ⊥
 AreRowsOf P (n ∷ ns) [] = ⊥
 AreRowsOf P (n ∷ ns) (row ∷ rows) = IsRowOf (λ x. P x n) row × AreRowsOf P ns rows
 
 -- rows of the leaves of the goal, with what is ahead of the whole goal, and what is before the leaf in it
-abbrev pub HasRows : Process → LeafSet 16 → List (LeafSet 16) → Type 0
+abbrev pub HasRows : {w : ℕ} → Process → LeafSet w → List (LeafSet w) → Type 0
 HasRows g ahead rows = AreRowsOf (λ x n. IsTrue (has_leaf ahead x) ⊎ InSequence g x n) (leaves g) rows
 
 -- the leaf is not done, and each x with P x of the leaf is

@@ -1,21 +1,24 @@
-ghost use Rattle.std.specs.Prelude.{◌≡◌, ◌<◌, ◌==◌, ◌||◌, ◌↔◌, ℕ, List, IsTrue, [], ◌∷◌, IfSome, IfNone};
+ghost use Rattle.std.specs.Prelude.{◌≡◌, ◌<◌, ◌↔◌, ℕ, List, IsTrue, [], ◌∷◌, IfSome, IfNone};
 ghost use Rattle.flow_model.specs.declared.limits.TheConstants.{MOST_LEAVES};
 ghost use Rattle.flow_model.specs.Lists.{◌∈◌, Each, AreDistinct};
 ghost use Rattle.flow_model.specs.Process;
 ghost use Rattle.flow_model.specs.Ready.{DoneOr, IsReadyRun, IsCompleteRun};
 ghost use Rattle.leaf_rows.specs.Leaves.{has_leaf};
 ghost use Rattle.flow_plan.specs.Orders.{Fits, MayComeNext, MayFollowInEveryOrder};
-ghost use Rattle.flow_plan.specs.Planned.{pairs_of};
+ghost use Rattle.flow_plan.specs.Fields.{Fills, IsTableOf};
+ghost use Rattle.flow_plan.specs.Planned.{Planned, pairs_of};
 ghost use Rattle.flow_plan.specs.Progress.{IsDone};
 ghost use Rattle.flow_plan.specs.Rows.{IsRowOf};
 
 use crate::plan::Plan;
 use crate::progress::Progress;
-use leaf_rows::LeafSet;
+use crate::sets::with;
+use crate::table::{Rows, Table, by_width};
+use leaf_rows::{LEAF_WORDS, LeafSet};
 
 /// The leaves as a set, where none of them stands twice.
 #[tactic(auto, using(crate::proofs::Together::twice_there))]
-pub fn distinct(list: &[u32]) -> Option<LeafSet<16>>
+pub fn distinct(list: &[u32]) -> Option<LeafSet<LEAF_WORDS>>
     requires { Each (λ n. n < MOST_LEAVES) list.now }
     ensures some { IfSome result (λ set. AreDistinct list.now × IsRowOf (λ x. x ∈ list.now) set) }
     ensures none { IfNone result (¬ (AreDistinct list.now)) }
@@ -30,13 +33,20 @@ pub fn distinct(list: &[u32]) -> Option<LeafSet<16>>
     Some(set)
 }
 
-/// The set with one leaf more.
-pub(crate) fn with(mut set: LeafSet<16>, leaf: u32) -> LeafSet<16>
-    requires { leaf < MOST_LEAVES }
-    ensures { (k : ℕ) → has_leaf result k ≡ (k == leaf || has_leaf set k) }
-{
-    set.insert(leaf);
-    set
+impl<const W: usize> Table<W> {
+    /// Whether each of the leaves may come next.
+    fn each_ready(&self, leaves: &[u32], done: &LeafSet<W>, list: &[u32]) -> bool
+        requires { Fills leaves.now self.now.before.items }
+        ensures { (p : Planned) → IsTableOf p self.now → p.leaves ≡ leaves.now →
+            IsTrue result ↔ Each (MayComeNext p (λ x. IsTrue (has_leaf done.now x))) list.now }
+    {
+        for leaf in list {
+            if !self.ready(leaves, done, *leaf) {
+                return false;
+            }
+        }
+        true
+    }
 }
 
 impl Plan {
@@ -45,12 +55,7 @@ impl Plan {
         requires { Fits self.now done.now }
         ensures { IsTrue result ↔ Each (MayComeNext self.now (IsDone done.now)) list.now }
     {
-        for leaf in list {
-            if !self.ready(done, *leaf) {
-                return false;
-            }
-        }
-        true
+        by_width!(&self.rows, table => table.each_ready(self.leaves(), &done.cut(), list))
     }
 
     /// Whether the leaves may follow the done ones in every order.
@@ -80,7 +85,7 @@ impl Plan {
         let Some(set) = distinct(claims) else {
             return false;
         };
-        !set.has(leaf) && self.keeps_together(&with(set, leaf))
+        !set.has(leaf) && self.keeps_together(&with(&set, leaf))
     }
 
     /// Whether the leaf may come next, and then the claimed ones in every order. It takes no memory.
@@ -99,7 +104,6 @@ impl Plan {
     }
 
     /// Whether each leaf of the plan is done.
-    #[tactic(auto, using(crate::proofs::Following::complete_run, crate::proofs::Following::not_complete))]
     pub fn complete(&self, done: &Progress) -> bool
         requires { Fits self.now done.now }
         ensures all_done { IsTrue result
@@ -109,11 +113,6 @@ impl Plan {
             → ((n : ℕ) → IsDone done.now n ↔ (n ∈ run))
             → IsTrue result ↔ IsCompleteRun self.now.process (pairs_of self.now.tokens) run }
     {
-        for leaf in self.leaves() {
-            if !done.has(*leaf) {
-                return false;
-            }
-        }
-        true
+        by_width!(&self.rows, table => table.complete(&done.cut()))
     }
 }

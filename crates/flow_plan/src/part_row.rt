@@ -1,29 +1,28 @@
-ghost use Rattle.std.specs.Prelude.{◌≡◌, ◌<◌, ◌≤◌, ◌↔◌, ◌⊎◌, ◌&&◌, if◌then◌else◌, ℕ, IsTrue, List, All, Some, [], ◌∷◌, length};
-ghost use Rattle.flow_model.specs.declared.limits.TheConstants.{MOST_LEAVES};
+ghost use Rattle.std.specs.Prelude.{◌≡◌, ◌<◌, ◌≤◌, ◌*◌, ◌↔◌, ◌⊎◌, ◌&&◌, if◌then◌else◌, ℕ, IsTrue, List, All, Some, [], ◌∷◌, length};
 ghost use Rattle.flow_model.specs.Ready.{DoneOr};
 ghost use Rattle.flow_model.specs.Lists.{◌∈◌};
 ghost use Rattle.leaf_rows.specs.Leaves.{has_leaf};
-ghost use Rattle.flow_plan.specs.Rows.{IsRowOf};
 ghost use Rattle.leaf_rows.specs.declared.leaf_set.LeafSet.{LeafSet};
 ghost use Rattle.flow_plan.specs.Ahead.{IsInSome};
 ghost use Rattle.flow_plan.specs.Parts.{IsPartFor, Reaches};
 
+use crate::sets::{set_of, union};
 use crate::span::Span;
 use leaf_rows::LeafSet;
 
 /// The leaves of an isolated part, and the leaves outside it that are directly before one of them.
 #[derive(Clone, Copy)]
-pub(crate) struct PartRow {
-    inside: LeafSet<16>,
-    outside: LeafSet<16>,
+pub(crate) struct PartRow<const W: usize> {
+    inside: LeafSet<W>,
+    outside: LeafSet<W>,
 }
 
 /// The leaves of a span, and what is directly before some of them.
 #[derive(Clone, Copy)]
-pub(crate) struct Reach {
+pub(crate) struct Reach<const W: usize> {
     pub(crate) span: Span,
-    inside: LeafSet<16>,
-    before: LeafSet<16>,
+    inside: LeafSet<W>,
+    before: LeafSet<W>,
 }
 
 /// For what leaves are kept.
@@ -37,34 +36,12 @@ pub(crate) enum Use {
     First,
 }
 
-/// The leaves as a set.
-fn set_of(leaves: &[u32]) -> LeafSet<16>
-    requires { All (λ n. n < MOST_LEAVES) leaves.now }
-    ensures { IsRowOf (λ x. x ∈ leaves.now) result }
-{
-    let mut set = LeafSet::new();
-    for leaf in leaves {
-        set.insert(*leaf);
-    }
-    set
-}
-
-/// What some of the rows has.
-fn union(rows: &[LeafSet<16>]) -> LeafSet<16>
-    ensures { IsRowOf (IsInSome rows.now) result }
-{
-    let mut all = LeafSet::new();
-    for row in rows {
-        all.union_with(row);
-    }
-    all
-}
-
-impl Reach {
+impl<const W: usize> Reach<W> {
     /// No leaf yet, at that place.
-    pub(crate) fn at(place: usize) -> Reach
+    pub(crate) fn at(place: usize) -> Reach<W>
+        requires { W ≤ 64 }
         ensures span { (result.span.first ≡ place) × (result.span.end ≡ place) }
-        ensures reaches { (ns : List ℕ) (rows : List (LeafSet 16)) → Reaches ns rows result }
+        ensures reaches { (ns : List ℕ) (rows : List (LeafSet W)) → Reaches ns rows result }
     {
         Reach {
             span: Span {
@@ -77,11 +54,11 @@ impl Reach {
     }
 
     /// What can be kept of it for that span: all where it lies within.
-    fn within(self, span: Span) -> Reach
+    fn within(self, span: Span) -> Reach<W>
         requires span { span.first ≤ span.end }
         requires own { self.span.first ≤ self.span.end }
         ensures within { (span.first ≤ result.span.first) × (result.span.first ≤ result.span.end) × (result.span.end ≤ span.end) }
-        ensures reaches { (ns : List ℕ) (rows : List (LeafSet 16)) → Reaches ns rows self → Reaches ns rows result }
+        ensures reaches { (ns : List ℕ) (rows : List (LeafSet W)) → Reaches ns rows self.entry → Reaches ns rows result }
     {
         if span.first <= self.span.first && self.span.end <= span.end {
             return self;
@@ -90,8 +67,8 @@ impl Reach {
     }
 
     /// Adds leaves, whose rows are these.
-    fn add(&mut self, leaves: &[u32], rows: &[LeafSet<16>])
-        requires { All (λ n. n < MOST_LEAVES) leaves.now }
+    fn add(&mut self, leaves: &[u32], rows: &[LeafSet<W>])
+        requires { All (λ n. n < 64 * W) leaves.now }
         ensures inside { (x : ℕ) → IsTrue (has_leaf self.new.inside x) ↔ (IsTrue (has_leaf self.old.inside x) ⊎ (x ∈ leaves.now)) }
         ensures before { (x : ℕ) → IsTrue (has_leaf self.new.before x) ↔ (IsTrue (has_leaf self.old.before x) ⊎ IsInSome rows.now x) }
     {
@@ -100,8 +77,8 @@ impl Reach {
     }
 
     /// The reach of a span, by what the one before has of it: of parts one within another each adds its own leaves alone.
-    pub(crate) fn of(self, span: Span, leaves: &[u32], rows: &[LeafSet<16>]) -> Reach
-        requires small { All (λ n. n < MOST_LEAVES) leaves.now }
+    pub(crate) fn of(self, span: Span, leaves: &[u32], rows: &[LeafSet<W>]) -> Reach<W>
+        requires small { All (λ n. n < 64 * W) leaves.now }
         requires one_each { length rows.now ≡ length leaves.now }
         requires span { span.first ≤ span.end × span.end ≤ length leaves.now }
         requires own { self.span.first ≤ self.span.end }
@@ -118,8 +95,8 @@ impl Reach {
     }
 
     /// The row of the part with these leaves.
-    pub(crate) fn row(&self) -> PartRow
-        ensures { (ns : List ℕ) (rows : List (LeafSet 16)) → Reaches ns rows self.now → IsPartFor ns rows self.now.span result }
+    pub(crate) fn row(&self) -> PartRow<W>
+        ensures { (ns : List ℕ) (rows : List (LeafSet W)) → Reaches ns rows self.now → IsPartFor ns rows self.now.span result }
     {
         let mut outside = self.before;
         outside.remove_all(&self.inside);
@@ -131,8 +108,13 @@ impl Reach {
 }
 
 /// Of the leaves those inside where `inner`, and the others where `outer`.
-fn keep(mut leaves: LeafSet<16>, inside: &LeafSet<16>, inner: bool, outer: bool) -> LeafSet<16>
-    ensures { (n : ℕ) → has_leaf result n ≡ (has_leaf leaves n && (if has_leaf inside.now n then inner else outer)) }
+fn keep<const W: usize>(
+    mut leaves: LeafSet<W>,
+    inside: &LeafSet<W>,
+    inner: bool,
+    outer: bool,
+) -> LeafSet<W>
+    ensures { (n : ℕ) → has_leaf result n ≡ (has_leaf leaves.entry n && (if has_leaf inside.now n then inner else outer)) }
 {
     match (inner, outer) {
         (true, true) => {}
@@ -147,13 +129,13 @@ fn keep(mut leaves: LeafSet<16>, inside: &LeafSet<16>, inner: bool, outer: bool)
     leaves
 }
 
-impl PartRow {
+impl<const W: usize> PartRow<W> {
     ghost use Rattle.flow_plan.specs.Parts.{PartAllows, Keeps, KeepsTogether, KeepsBeside, KeepsAfter};
 
     /// Whether the part lets the leaf come next: it must be finished once it is begun, and what is
     /// directly before it must be done before it is begun.
-    pub(crate) fn allows(&self, done: &LeafSet<16>, leaf: u32) -> bool
-        requires { leaf < MOST_LEAVES }
+    pub(crate) fn allows(&self, done: &LeafSet<W>, leaf: u32) -> bool
+        requires { leaf < 64 * W }
         ensures { IsTrue result ↔ PartAllows self.now (λ x. IsTrue (has_leaf done.now x)) leaf }
     {
         match (self.inside.meets(done), self.inside.has(leaf)) {
@@ -164,16 +146,16 @@ impl PartRow {
     }
 
     /// Whether the part has all of the leaves, or none of them.
-    pub(crate) fn keeps_together(&self, leaves: &LeafSet<16>) -> bool
+    pub(crate) fn keeps_together(&self, leaves: &LeafSet<W>) -> bool
         ensures { IsTrue result ↔ KeepsTogether self.now (λ x. IsTrue (has_leaf leaves.now x)) }
     {
         !self.inside.meets(leaves) || leaves.is_subset(&self.inside)
     }
 
     /// Of the leaves those that the part lets come next.
-    fn keep_allowed(&self, done: &LeafSet<16>, leaves: LeafSet<16>) -> LeafSet<16>
+    fn keep_allowed(&self, done: &LeafSet<W>, leaves: LeafSet<W>) -> LeafSet<W>
         ensures { (n : ℕ) → IsTrue (has_leaf result n)
-            ↔ (IsTrue (has_leaf leaves n) × PartAllows self.now (λ x. IsTrue (has_leaf done.now x)) n) }
+            ↔ (IsTrue (has_leaf leaves.entry n) × PartAllows self.now (λ x. IsTrue (has_leaf done.now x)) n) }
     {
         if self.inside.meets(done) {
             keep(leaves, &self.inside, true, self.inside.is_subset(done))
@@ -183,9 +165,9 @@ impl PartRow {
     }
 
     /// Of the leaves those that the part keeps together with the claimed ones.
-    fn keep_beside(&self, claims: &LeafSet<16>, leaves: LeafSet<16>) -> LeafSet<16>
+    fn keep_beside(&self, claims: &LeafSet<W>, leaves: LeafSet<W>) -> LeafSet<W>
         ensures { (n : ℕ) → IsTrue (has_leaf result n)
-            ↔ (IsTrue (has_leaf leaves n) × KeepsBeside self.now (λ x. IsTrue (has_leaf claims.now x)) n) }
+            ↔ (IsTrue (has_leaf leaves.entry n) × KeepsBeside self.now (λ x. IsTrue (has_leaf claims.now x)) n) }
     {
         let inner = claims.is_subset(&self.inside);
         let outer = !self.inside.meets(claims);
@@ -193,9 +175,9 @@ impl PartRow {
     }
 
     /// Of the leaves those after which the part keeps the claimed ones together.
-    fn keep_first(&self, claims: &LeafSet<16>, leaves: LeafSet<16>) -> LeafSet<16>
+    fn keep_first(&self, claims: &LeafSet<W>, leaves: LeafSet<W>) -> LeafSet<W>
         ensures { (n : ℕ) → IsTrue (has_leaf result n)
-            ↔ (IsTrue (has_leaf leaves n) × KeepsAfter self.now (λ x. IsTrue (has_leaf claims.now x)) n) }
+            ↔ (IsTrue (has_leaf leaves.entry n) × KeepsAfter self.now (λ x. IsTrue (has_leaf claims.now x)) n) }
     {
         if claims.is_subset(&self.inside) {
             return leaves;
@@ -205,14 +187,9 @@ impl PartRow {
     }
 
     /// Of the leaves those that the part keeps for that use, by the done or the claimed ones.
-    pub(crate) fn keep_for(
-        &self,
-        what: Use,
-        others: &LeafSet<16>,
-        leaves: LeafSet<16>,
-    ) -> LeafSet<16>
+    pub(crate) fn keep_for(&self, what: Use, others: &LeafSet<W>, leaves: LeafSet<W>) -> LeafSet<W>
         ensures { (n : ℕ) → IsTrue (has_leaf result n)
-            ↔ (IsTrue (has_leaf leaves n) × Keeps what self.now (λ x. IsTrue (has_leaf others.now x)) n) }
+            ↔ (IsTrue (has_leaf leaves.entry n) × Keeps what self.now (λ x. IsTrue (has_leaf others.now x)) n) }
     {
         match what {
             Use::Next => self.keep_allowed(others, leaves),
@@ -222,8 +199,8 @@ impl PartRow {
     }
 
     /// The leaf that is missing where the part does not let the leaf come next, if one alone is.
-    pub(crate) fn missing(&self, done: &LeafSet<16>, leaf: u32) -> Option<u32>
-        requires { leaf < MOST_LEAVES }
+    pub(crate) fn missing(&self, done: &LeafSet<W>, leaf: u32) -> Option<u32>
+        requires { leaf < 64 * W }
         ensures { (first : ℕ) → ¬ (PartAllows self.now (λ x. IsTrue (has_leaf done.now x)) leaf) →
             PartAllows self.now (λ x. IsTrue (has_leaf done.now x)) first →
             PartAllows self.now (DoneOr (λ x. IsTrue (has_leaf done.now x)) (first ∷ [])) leaf → result ≡ Some first }

@@ -1,5 +1,4 @@
-ghost use Rattle.std.specs.Prelude.{◌≡◌, ◌<◌, ◌≤◌, ℕ, List, [], length, All, IfOk};
-ghost use Rattle.flow_model.specs.declared.limits.TheConstants.{MOST_LEAVES};
+ghost use Rattle.std.specs.Prelude.{◌≡◌, ◌<◌, ◌≤◌, ◌*◌, ℕ, List, [], length, All, IfOk};
 ghost use Rattle.flow_model.specs.Lists.{Each};
 ghost use Rattle.flow_model.specs.Process.{leaves};
 ghost use Rattle.flow_model.specs.Ready.{DirectlyBefore};
@@ -32,13 +31,14 @@ fn spans_of(alloc: Global, goal: &Choiceless) -> Result<Vec<Span>, AllocError>
 }
 
 /// The rows of the parts at those places.
-fn rows_of_spans(
+fn rows_of_spans<const W: usize>(
     alloc: Global,
     spans: &[Span],
     leaves: &[u32],
-    before: &[LeafSet<16>],
-) -> Result<Vec<PartRow>, AllocError>
-    requires small { All (λ n. n < MOST_LEAVES) leaves.now }
+    before: &[LeafSet<W>],
+) -> Result<Vec<PartRow<W>>, AllocError>
+    requires wide { W ≤ 64 }
+    requires small { All (λ n. n < 64 * W) leaves.now }
     requires one_each { length before.now ≡ length leaves.now }
     requires within { All (λ (s : Span). s.first ≤ s.end × s.end ≤ length leaves.now) spans.now }
     ensures { IfOk result (λ parts. ArePartsFor leaves.now before.now spans.now parts.items) }
@@ -54,12 +54,13 @@ fn rows_of_spans(
 
 /// The isolated parts of the goal with two or more leaves, once for each set of leaves.
 #[tactic(auto, using(crate::proofs::PartLemmas::spans_long, crate::proofs::PartLemmas::spans_fit))]
-pub(crate) fn part_rows(
+pub(crate) fn part_rows<const W: usize>(
     alloc: Global,
     goal: &Choiceless,
-    before: &[LeafSet<16>],
-) -> Result<Vec<PartRow>, AllocError>
-    requires small { Each (λ n. n < MOST_LEAVES) goal.now.leaves }
+    before: &[LeafSet<W>],
+) -> Result<Vec<PartRow<W>>, AllocError>
+    requires wide { W ≤ 64 }
+    requires small { Each (λ n. n < 64 * W) goal.now.leaves }
     requires one_each { length before.now ≡ length goal.now.leaves }
     ensures { IfOk result (λ parts. (pairs : List (ℕ × ℕ)) →
         AreRowsOf (DirectlyBefore goal.now.process pairs) goal.now.leaves before.now →

@@ -1,4 +1,4 @@
-ghost use Rattle.std.specs.Prelude.{◌≡◌, ◌≢◌, ◌<◌, ◌↔◌, ℕ, List, IsTrue, IfNone, IfOk, IfSome};
+ghost use Rattle.std.specs.Prelude.{◌≡◌, ◌≢◌, ◌<◌, ◌↔◌, ℕ, List, IsTrue, IfOk};
 ghost use Rattle.std.specs.List.Sorted.{IsStrictlyIncreasing};
 ghost use Rattle.flow_model.specs.Lists.{◌∈◌, Each, AreDistinct};
 ghost use Rattle.flow_model.specs.Process;
@@ -8,18 +8,14 @@ ghost use Rattle.flow_goal.specs.Goal.{process_of};
 ghost use Rattle.flow_goal.specs.Written.{nodes_of};
 ghost use Rattle.leaf_rows.specs.Leaves.{has_leaf};
 ghost use Rattle.flow_plan.specs.Rows.{IsRowOf};
-ghost use Rattle.flow_plan.specs.Parts.{PartAllows, KeepsTogether};
 ghost use Rattle.flow_plan.specs.Planned.{pairs_of};
 
-use crate::part_row::PartRow;
-use crate::parts::part_rows;
-use crate::places::place_of;
 use crate::progress::Progress;
-use crate::rows::before_rows;
+use crate::table::{Rows, by_width, parts_keep_together};
 use crate::token::OrderToken;
 use flow_goal::{Choiceless, Goal, Node};
 use flow_model::MOST_LEAVES;
-use leaf_rows::LeafSet;
+use leaf_rows::{LEAF_WORDS, LeafSet};
 use std::alloc::{AllocError, Global};
 use std::marker::Model;
 
@@ -28,9 +24,7 @@ use std::marker::Model;
 pub struct Plan {
     goal: Choiceless,
     tokens: Vec<OrderToken>,
-    /// For each leaf, the leaves directly before it.
-    pub(crate) before: Vec<LeafSet<16>>,
-    pub(crate) parts: Vec<PartRow>,
+    pub(crate) rows: Rows,
 }
 
 impl Model for Plan {
@@ -41,47 +35,19 @@ impl Model for Plan {
     ghost coded = { planned_code };
 
     ghost use Rattle.flow_plan.specs.Planned.{planned};
-    ghost use Rattle.flow_plan.specs.Fields.{AreFieldsOf};
+    ghost use Rattle.flow_plan.specs.Fields.{IsPlanOf};
 
     ghost view = { λ p. planned p.goal p.tokens.items };
 
-    ghost invariant = { λ p. AreFieldsOf (planned p.goal p.tokens.items) p.before.items p.parts.items };
-}
-
-/// Whether each part lets the leaf come next.
-fn parts_allow(parts: &[PartRow], done: &LeafSet<16>, leaf: u32) -> bool
-    requires { leaf < MOST_LEAVES }
-    ensures { IsTrue result
-        ↔ Each (λ row. PartAllows row (λ x. IsTrue (has_leaf done.now x)) leaf) parts.now }
-{
-    for part in parts {
-        if !part.allows(done, leaf) {
-            return false;
-        }
-    }
-    true
-}
-
-/// Whether each part has all of the leaves, or none of them.
-fn parts_keep_together(parts: &[PartRow], leaves: &LeafSet<16>) -> bool
-    ensures { IsTrue result
-        ↔ Each (λ row. KeepsTogether row (λ x. IsTrue (has_leaf leaves.now x))) parts.now }
-{
-    for part in parts {
-        if !part.keeps_together(leaves) {
-            return false;
-        }
-    }
-    true
+    ghost invariant = { λ p. IsPlanOf (planned p.goal p.tokens.items) p.rows };
 }
 
 impl Plan {
     ghost use Rattle.flow_plan.specs.declared.progress.Progress.{Progress};
-    ghost use Rattle.flow_plan.specs.Orders.{Fits, IsUnblocked, MayComeNext, MayComeAfter};
+    ghost use Rattle.flow_plan.specs.Orders.{Fits, MayComeNext, MayComeAfter};
     ghost use Rattle.flow_plan.specs.Progress.{IsDone};
 
     /// A plan for the goal, in which each token's sender is done before its receiver.
-    #[tactic(auto, using(crate::proofs::RowLemmas::rows_length))]
     pub fn new(
         alloc: Global,
         goal: &Choiceless,
@@ -95,14 +61,9 @@ impl Plan {
         ensures tokens { IfOk result (λ plan. plan.tokens ≡ tokens.items) }
         ensures ordered { IfOk result (λ plan. IsOrdered plan.process (pairs_of plan.tokens)) }
     {
-        let before = before_rows(alloc, goal, &tokens)?;
-        let parts = part_rows(alloc, goal, &before)?;
-        Ok(Plan {
-            goal: goal.copy(alloc)?,
-            tokens,
-            before,
-            parts,
-        })
+        let goal = goal.copy(alloc)?;
+        let rows = Rows::new(alloc, &goal, &tokens)?;
+        Ok(Plan { goal, tokens, rows })
     }
 
     /// The goal, built anew.
@@ -139,68 +100,36 @@ impl Plan {
         &self.tokens
     }
 
-    /// The row of the leaf.
-    fn row_of(&self, leaf: u32) -> Option<&LeafSet<16>>
-        ensures leaf { IfSome result (λ _. leaf ∈ Process.leaves self.now.process) }
-        ensures row { IfSome result (λ row. (x : ℕ) → IsTrue (has_leaf row.now x)
-            ↔ DirectlyBefore self.now.process (pairs_of self.now.tokens) x leaf) }
-        ensures missing { IfNone result (¬ (leaf ∈ Process.leaves self.now.process)) }
-        ensures none { IfNone result ((x : ℕ) → ¬ (DirectlyBefore self.now.process (pairs_of self.now.tokens) x leaf)) }
+    /// The leaves directly before that leaf, in the goal or by a token.
+    pub fn all_before(&self, leaf: u32) -> LeafSet<LEAF_WORDS>
+        ensures { (x : ℕ) → IsTrue (has_leaf result x) ↔ DirectlyBefore self.now.process (pairs_of self.now.tokens) x leaf }
     {
-        match place_of(self.leaves(), leaf) {
-            Some(place) => Some(&self.before[place]),
-            None => None,
-        }
+        by_width!(&self.rows, table => table.all_before(self.leaves(), leaf).resized())
     }
 
     /// Whether the first leaf is directly before the second, in the goal or by a token.
     pub fn before(&self, first: u32, second: u32) -> bool
         ensures { IsTrue result ↔ DirectlyBefore self.now.process (pairs_of self.now.tokens) first second }
     {
-        match self.row_of(second) {
-            Some(row) => first < MOST_LEAVES && row.has(first),
-            None => false,
-        }
-    }
-
-    /// Whether the leaf is not done, and all that is directly before it is.
-    #[tactic(auto, using(flow_model::proofs::Lists::each_member))]
-    fn is_unblocked(&self, done: &Progress, leaf: u32) -> bool
-        requires { Fits self.now done.now }
-        ensures { IsTrue result ↔ IsUnblocked self.now (IsDone done.now) leaf }
-    {
-        match self.row_of(leaf) {
-            Some(row) => done.frees(leaf, row),
-            None => false,
-        }
-    }
-
-    /// The leaves directly before that leaf, in the goal or by a token.
-    pub fn all_before(&self, leaf: u32) -> LeafSet<16>
-        ensures { (x : ℕ) → IsTrue (has_leaf result x) ↔ DirectlyBefore self.now.process (pairs_of self.now.tokens) x leaf }
-    {
-        match self.row_of(leaf) {
-            Some(row) => *row,
-            None => LeafSet::new(),
-        }
+        let before = self.all_before(second);
+        first < MOST_LEAVES && before.has(first)
     }
 
     /// Whether the leaf may come next after the done ones.
-    #[tactic(auto, using(flow_model::proofs::Lists::each_member, crate::proofs::Readiness::free_of_ready))]
     pub fn ready(&self, done: &Progress, leaf: u32) -> bool
         requires { Fits self.now done.now }
         ensures { IsTrue result ↔ MayComeNext self.now (IsDone done.now) leaf }
     {
-        self.is_unblocked(done, leaf) && parts_allow(&self.parts, &done.done, leaf)
+        by_width!(&self.rows, table => table.ready(self.leaves(), &done.cut(), leaf))
     }
 
     /// Whether leaves that may come next, none of them twice, may come next after one another. They may where
     /// each isolated part has all of them or none.
-    pub(crate) fn keeps_together(&self, leaves: &LeafSet<16>) -> bool
+    pub(crate) fn keeps_together(&self, leaves: &LeafSet<LEAF_WORDS>) -> bool
         ensures { (done : Progress) (list : List ℕ) → IsRowOf (λ x. x ∈ list) leaves.now → AreDistinct list →
             Each (MayComeNext self.now (IsDone done)) list →
             IsTrue result ↔ EachTwo (MayComeAfter self.now (IsDone done)) list }
     {
-        parts_keep_together(&self.parts, leaves)
+        by_width!(&self.rows, table => parts_keep_together(&table.parts, &leaves.resized()))
     }
 }

@@ -1,21 +1,20 @@
 ghost use Rattle.std.specs.Prelude.{◌≤◌};
 ghost use Rattle.flow_model.specs.declared.limits.TheConstants.{MOST_LEAVES};
 
-use leaf_rows::LeafSet;
+use leaf_rows::{LEAF_WORDS, LeafSet};
 
 /// Which of so many leaves are done.
 #[derive(Clone, Copy)]
 pub struct Progress {
     bound: u32,
-    pub(crate) done: LeafSet<16>,
+    pub(crate) done: LeafSet<LEAF_WORDS>,
     ghost small: { bound ≤ MOST_LEAVES },
 }
 
 impl Progress {
-    ghost use Rattle.std.specs.Prelude.{◌≡◌, ℕ, ◌<◌, ◌==◌, ◌&&◌, ◌||◌, ◌↔◌, not, false, IsTrue};
+    ghost use Rattle.std.specs.Prelude.{◌≡◌, ℕ, ◌<◌, ◌*◌, ◌==◌, ◌&&◌, ◌||◌, not, false, nat_lt};
     ghost use Rattle.leaf_rows.specs.Leaves.{has_leaf};
     ghost use Rattle.flow_plan.specs.Progress.{bound_of, is_done, IsDone};
-    ghost use Rattle.flow_plan.specs.Rows.{IsDue};
 
     /// No leaf below `leaves` is done yet.
     pub fn new(leaves: u32) -> Progress
@@ -55,11 +54,11 @@ impl Progress {
         self.done.has(leaf)
     }
 
-    /// Whether the leaf is not done, and all of its row is.
-    pub(crate) fn frees(&self, leaf: u32, row: &LeafSet<16>) -> bool
-        requires { leaf < bound_of self.now }
-        ensures { IsTrue result ↔ IsDue (λ x _. IsTrue (has_leaf row.now x)) (IsDone self.now) leaf }
+    /// The done leaves that so many words have room for.
+    pub(crate) fn cut<const W: usize>(&self) -> LeafSet<W>
+        requires { W ≤ 64 }
+        ensures { (n : ℕ) → has_leaf result n ≡ (nat_lt n (64 * W) && is_done self.now n) }
     {
-        !self.has(leaf) && row.is_subset(&self.done)
+        self.done.resized()
     }
 }

@@ -1,5 +1,4 @@
-ghost use Rattle.std.specs.Prelude.{◌≡◌, ◌<◌, length, All, IfOk};
-ghost use Rattle.flow_model.specs.declared.limits.TheConstants.{MOST_LEAVES};
+ghost use Rattle.std.specs.Prelude.{◌≡◌, ◌<◌, ◌≤◌, ◌*◌, length, All, IfOk};
 ghost use Rattle.flow_model.specs.Lists.{Each};
 ghost use Rattle.flow_model.specs.Ready.{InSequence, DirectlyBefore};
 ghost use Rattle.flow_laws.specs.WellFormed.{AreOfLeaves};
@@ -16,8 +15,12 @@ use std::alloc::{AllocError, Global};
 
 /// For each leaf of the goal, in order, the leaves before it in the goal.
 #[tactic(auto, using(crate::proofs::MarkLemmas::begun_rows))]
-fn sequence_rows(alloc: Global, goal: &Choiceless) -> Result<Vec<LeafSet<16>>, AllocError>
-    requires { Each (λ n. n < MOST_LEAVES) goal.now.leaves }
+fn sequence_rows<const W: usize>(
+    alloc: Global,
+    goal: &Choiceless,
+) -> Result<Vec<LeafSet<W>>, AllocError>
+    requires wide { W ≤ 64 }
+    requires small { Each (λ n. n < 64 * W) goal.now.leaves }
     ensures { IfOk result (λ rows. AreRowsOf (InSequence goal.now.process) goal.now.leaves rows.items) }
 {
     let leaves = goal.leaves();
@@ -30,8 +33,8 @@ fn sequence_rows(alloc: Global, goal: &Choiceless) -> Result<Vec<LeafSet<16>>, A
 
 /// Puts the sender of each token into the row of its receiver.
 #[tactic(auto, using(crate::proofs::RowLemmas::rows_unpaired))]
-fn add_senders(goal: &Choiceless, tokens: &[OrderToken], rows: &mut [LeafSet<16>])
-    requires senders { All (λ (t : OrderToken). t.sender < MOST_LEAVES) tokens.now }
+fn add_senders<const W: usize>(goal: &Choiceless, tokens: &[OrderToken], rows: &mut [LeafSet<W>])
+    requires senders { All (λ (t : OrderToken). t.sender < 64 * W) tokens.now }
     requires one_each { length rows.old ≡ length goal.now.leaves }
     requires rows { AreRowsOf (InSequence goal.now.process) goal.now.leaves rows.old }
     ensures { AreRowsOf (DirectlyBefore goal.now.process (pairs_of tokens.now)) goal.now.leaves rows.new }
@@ -48,12 +51,13 @@ fn add_senders(goal: &Choiceless, tokens: &[OrderToken], rows: &mut [LeafSet<16>
 
 /// For each leaf of the goal, in order, the leaves directly before it.
 #[tactic(auto, using(crate::proofs::RowLemmas::rows_length, crate::proofs::RowLemmas::senders_small))]
-pub(crate) fn before_rows(
+pub(crate) fn before_rows<const W: usize>(
     alloc: Global,
     goal: &Choiceless,
     tokens: &[OrderToken],
-) -> Result<Vec<LeafSet<16>>, AllocError>
-    requires small { Each (λ n. n < MOST_LEAVES) goal.now.leaves }
+) -> Result<Vec<LeafSet<W>>, AllocError>
+    requires wide { W ≤ 64 }
+    requires small { Each (λ n. n < 64 * W) goal.now.leaves }
     requires of_leaves { AreOfLeaves goal.now.process (pairs_of tokens.now) }
     ensures { IfOk result (λ rows.
         AreRowsOf (DirectlyBefore goal.now.process (pairs_of tokens.now)) goal.now.leaves rows.items) }

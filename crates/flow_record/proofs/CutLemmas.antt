@@ -4,11 +4,11 @@ use Rattle.flow_record.specs.Lines.{lines_of, cut_at}
 use Rattle.flow_record.specs.Cut.{is_divider, cut_from, cut_of}
 use Rattle.flow_record.proofs.LineLemmas.{lacks, first_other, others_lack, parts_are, uncut_lacks}
 
-ended : (x y : List ℕ) → lacks 10 x ≡ true → lines_of (x ++ 10 ∷ y) ≡ x ∷ lines_of y
+pub ended : (x y : List ℕ) → lacks 10 x ≡ true → lines_of (x ++ 10 ∷ y) ≡ x ∷ lines_of y
 ended [] y h = refl
 ended (b ∷ x) y h = rw (first_other 10 b x h, ended x y (others_lack 10 b x h)) refl
 
-whole : (b : ℕ) (bs : List ℕ) → lacks 10 (b ∷ bs) ≡ true → lines_of (b ∷ bs) ≡ (b ∷ bs) ∷ []
+pub whole : (b : ℕ) (bs : List ℕ) → lacks 10 (b ∷ bs) ≡ true → lines_of (b ∷ bs) ≡ (b ∷ bs) ∷ []
 whole b [] h = rw (first_other 10 b [] h) refl
 whole b (c ∷ cs) h = rw (first_other 10 b (c ∷ cs) h, whole c cs (others_lack 10 b (c ∷ cs) h)) refl
 

@@ -9,8 +9,7 @@ use Rattle.flow_core.specs.Run.{Run, now}
 use Rattle.flow_core.specs.Lists.{HoldsNow}
 use Rattle.flow_core.specs.Next.{CanAct, IsWaiting, IsLeast, IsNext}
 use Rattle.flow_core.proofs.RisingLists.{one_list}
-use Rattle.flow_core.proofs.NextLemmas.{not_waiting}
-use Rattle.flow_core.proofs.SingleLemmas.{none_out, not_over}
+use Rattle.flow_core.proofs.SingleLemmas.{nexts_once}
 use Rattle.flow_record.specs.declared.command.Command.{Command}
 use Rattle.flow_record.specs.declared.command.Command.TheVariants as command
 use Rattle.flow_reply.specs.declared.answer.Answer.{Answer}
@@ -27,36 +26,6 @@ use Rattle.flow_reply.specs.Single.{RepliesAreSingle, ReportsAreSingle}
 use Rattle.flow_reply.specs.Words.{numbers_text}
 
 -- What can be done next
-
-one_least : (P : ℕ → Type 0) (x y : ℕ) → IsLeast P x → IsLeast P y → x ≡ y
-one_least P x y (px, least) (py, other) = le_antisymm (least y py) (other x px)
-
-pub one_next : (r : Run) (a b : Next) → IsNext r a → IsNext r b → a ≡ b
-one_next r Ended Ended x y = refl
-one_next r Ended (Act n) x y = absurd (not_over r x y.0.0)
-one_next r Ended (Wait n) x y = absurd (not_over r x y.0)
-one_next r Ended Finished x y = absurd (not_over r x y.0)
-one_next r Ended (Stuck n) x y = absurd (not_over r x y.0.0.going_on)
-one_next r (Act n) Ended x y = absurd (not_over r y x.0.0)
-one_next r (Act n) (Act m) x y = ap Act (one_least (CanAct r) n m x y)
-one_next r (Act n) (Wait m) x y = absurd (y.1 n x.0)
-one_next r (Act n) Finished x y = absurd (y.1 n x.0)
-one_next r (Act n) (Stuck m) x y = absurd (not_waiting r (Act n) x (λ leaf e. cc) m y.0)
-one_next r (Wait n) Ended x y = absurd (not_over r y x.0)
-one_next r (Wait n) (Act m) x y = absurd (x.1 m y.0)
-one_next r (Wait n) (Wait m) x y = ap Wait (le_antisymm (x.2.1 m y.2.0) (y.2.1 n x.2.0))
-one_next r (Wait n) Finished x y = absurd (none_out (now r) n y.2 x.2)
-one_next r (Wait n) (Stuck m) x y = absurd (not_waiting r (Wait n) x (λ leaf e. cc) m y.0)
-one_next r Finished Ended x y = absurd (not_over r y x.0)
-one_next r Finished (Act m) x y = absurd (x.1 m y.0)
-one_next r Finished (Wait m) x y = absurd (none_out (now r) m x.2 y.2)
-one_next r Finished Finished x y = refl
-one_next r Finished (Stuck m) x y = absurd (not_waiting r Finished x (λ leaf e. cc) m y.0)
-one_next r (Stuck n) Ended x y = absurd (not_over r y x.0.0.going_on)
-one_next r (Stuck n) (Act m) x y = absurd (not_waiting r (Act m) y (λ leaf e. cc) n x.0)
-one_next r (Stuck n) (Wait m) x y = absurd (not_waiting r (Wait m) y (λ leaf e. cc) n x.0)
-one_next r (Stuck n) Finished x y = absurd (not_waiting r Finished y (λ leaf e. cc) n x.0)
-one_next r (Stuck n) (Stuck m) x y = ap Stuck (one_least (IsWaiting r) n m x y)
 
 -- what can be done next, in words
 abbrev IsNextText : Run → Next → List ℕ → Type 0
@@ -84,7 +53,7 @@ one_next_reply : (r : Run) (a b : Reply) → IsNextReply r a → IsNextReply r b
 one_next_reply r a b p q =
     let (one, ia, x) = next_told r a p in
     let (other, ib, y) = next_told r b q in
-    one_next_text r one other (one_next r one other ia ib) (reply_text r.definition a) (reply_text r.definition b) x y
+    one_next_text r one other (nexts_once r one other ia ib) (reply_text r.definition a) (reply_text r.definition b) x y
 
 -- Replies and reports
 

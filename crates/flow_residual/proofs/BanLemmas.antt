@@ -1,11 +1,11 @@
 -- The least bans that options hold.
-use Rattle.std.proofs.Common.{◌≡◌, ℕ, ◌<◌, ◌≤◌, nat_le, min, not, is_some, Bool, true, false, ◌↔◌, IsTrue, List, [], ◌∷◌, ◌++◌, Option, None, Some, refl, inl, inr, ⊎_elim, arith}
+use Rattle.std.proofs.Common.{◌≡◌, ℕ, ◌<◌, ◌≤◌, nat_le, min, not, is_some, Bool, true, false, ◌↔◌, IsTrue, List, [], ◌∷◌, ◌++◌, Option, None, Some, refl, inl, inr, arith}
 use Rattle.std.specs.List.{filter}
 use Rattle.std.proofs.lemmas.Bool.{cases_Bool, cases_lt, le-leb, leb-true}
 use Rattle.flow_model.specs.Lists.{◌∈◌, Each}
 use Rattle.flow_model.specs.Process.{leaves}
 use Rattle.flow_model.specs.Resolution.{ChoiceOption}
-use Rattle.flow_model.proofs.Lists.{each-append, each_to, each_member, mem_append_left, mem_append_right}
+use Rattle.flow_model.proofs.Lists.{each-append, each_to, each_member, each_from_members, mem_append_left, mem_append_right}
 use Rattle.flow_model.proofs.MadeLists.{each-filter}
 use Rattle.flow_residual.specs.Track.{IsLeastBan}
 
@@ -42,9 +42,13 @@ ban_lesser o bans j i leaf here (least, (n, there, held)) = (
 
 -- ---- bans that are lifted
 
-member_filter : (p : ℕ × ℕ → Bool) (bans : List (ℕ × ℕ)) (ban : ℕ × ℕ) → p ban ≡ true → ban ∈ bans → ban ∈ filter p bans
-member_filter p [] ban stays member = member
-member_filter p (b ∷ bans) ban stays member = grind (arith, cases_Bool (p b), stays, member, member_filter p bans ban stays)
+pub mem-filter : {A : Type 0} (p : A → Bool) (xs : List A) (x : A) → p x ≡ true → x ∈ xs → x ∈ filter p xs
+mem-filter p [] x stays member = member
+mem-filter p (y ∷ xs) x stays member = grind (arith, cases_Bool (p y), stays, member, mem-filter p xs x stays)
+
+pub of_filter : {A : Type 0} (p : A → Bool) (xs : List A) (x : A) → x ∈ filter p xs → (x ∈ xs) × (p x ≡ true)
+of_filter p xs x member = each_member (λ y. (y ∈ xs) × (p y ≡ true)) (filter p xs)
+    (each-filter (λ y. (y ∈ xs) × (p y ≡ true)) (λ y. y ∈ xs) p xs (λ y stays there. (there, stays)) (each_from_members (λ y. y ∈ xs) xs (λ y m. m))) x member
 
 abbrev pub up_to : ℕ → ℕ × ℕ → Bool
 up_to index ban = nat_le ban.0 index
@@ -56,7 +60,7 @@ cut_none o bans index is =
 pub cut_stays : (o : ChoiceOption) (bans : List (ℕ × ℕ)) (index i : ℕ) → i ≤ index → IsLeastBan o bans (Some i) → IsLeastBan o (filter (up_to index) bans) (Some i)
 cut_stays o bans index i within is = (
   each-filter (λ (ban : ℕ × ℕ). ban.1 ∈ leaves o.resolution → i ≤ ban.0) (λ (ban : ℕ × ℕ). ban.1 ∈ leaves o.resolution → i ≤ ban.0) (up_to index) bans (λ ban stays least. least) is.0,
-  (is.1.0, member_filter (up_to index) bans (i, is.1.0) (le-leb i index within) is.1.1, is.1.2),
+  (is.1.0, mem-filter (up_to index) bans (i, is.1.0) (le-leb i index within) is.1.1, is.1.2),
 )
 
 pub cut_goes : (o : ChoiceOption) (bans : List (ℕ × ℕ)) (index i : ℕ) → index < i → IsLeastBan o bans (Some i) → IsLeastBan o (filter (up_to index) bans) None
@@ -65,19 +69,6 @@ cut_goes o bans index i past is =
     (λ ban stays least h. let l = least h in let s = leb-true ban.0 index stays in omega (arith, l, s, past)) is.0
 
 -- ---- what the least ban says
-
-pub above_none : (o : ChoiceOption) (bans : List (ℕ × ℕ)) (index : ℕ) → IsLeastBan o bans None → Each (λ ban. ban.0 ≤ index → ¬ (ban.1 ∈ leaves o.resolution)) bans
-above_none o bans index is = each_to (λ (ban : ℕ × ℕ). ¬ (ban.1 ∈ leaves o.resolution)) (λ (ban : ℕ × ℕ). ban.0 ≤ index → ¬ (ban.1 ∈ leaves o.resolution)) bans (λ ban none below. none) is
-
-pub above_some : (o : ChoiceOption) (bans : List (ℕ × ℕ)) (index i : ℕ) → IsLeastBan o bans (Some i) →
-    (index < i) ↔ Each (λ ban. ban.0 ≤ index → ¬ (ban.1 ∈ leaves o.resolution)) bans
-above_some o bans index i is = (
-  λ past. each_to (λ (ban : ℕ × ℕ). ban.1 ∈ leaves o.resolution → i ≤ ban.0) (λ (ban : ℕ × ℕ). ban.0 ≤ index → ¬ (ban.1 ∈ leaves o.resolution)) bans
-      (λ ban least below h. let l = least h in omega (arith, l, below, past)) is.0,
-  λ none. ⊎_elim (λ past. past)
-      (λ within. absurd (each_member (λ (ban : ℕ × ℕ). ban.0 ≤ index → ¬ (ban.1 ∈ leaves o.resolution)) bans none (i, is.1.0) is.1.1 (let b : i ≤ index = omega (arith, within) in b) is.1.2))
-      (cases_lt index i),
-)
 
 -- none is held exactly where there is no least one
 pub held_some : (o : ChoiceOption) (bans : List (ℕ × ℕ)) (i : ℕ) → IsLeastBan o bans (Some i) → ¬ Each (λ ban. ¬ (ban.1 ∈ leaves o.resolution)) bans

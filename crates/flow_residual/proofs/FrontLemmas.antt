@@ -26,10 +26,6 @@ begun_before o journal k m within below begun =
     sym (take-append-drop m (take k journal)) ∙ ap (λ (t : List ℕ). t ++ drop m (take k journal)) (take_twice journal k m below) in
     run_front o.resolution o.order (λ n. ⊥) (take m journal) (drop m (take k journal)) (subst (IsReadyRun o.resolution o.order) cut begun)
 
--- what a front tells of each length
-pub begun_within : (o : ChoiceOption) (journal : List ℕ) (f i : ℕ) → IsFront o journal f → i ≤ length journal → (i ≤ f) ↔ IsBegun o journal i
-begun_within o journal f i is within = (λ below. begun_before o journal f i is.within below is.begun, λ begun. is.longest i within begun)
-
 -- of the whole journal
 pub ready_whole : (o : ChoiceOption) (journal : List ℕ) (f : ℕ) → IsFront o journal f → (f ≡ length journal) ↔ IsReadyRun o.resolution o.order journal
 ready_whole o journal f is = (

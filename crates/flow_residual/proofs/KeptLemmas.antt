@@ -2,13 +2,13 @@
 use Rattle.std.proofs.Common.{◌≡◌, ℕ, zero, suc, ◌<◌, ◌≤◌, nat_le, Bool, List, [], ◌∷◌, ◌++◌, length, take, drop, get_or, refl, sym, ap, ◌∙◌, subst, subst₂, inl, inr, ⊎_elim, arith, length-append}
 use Rattle.std.specs.List.{filter}
 use Rattle.std.specs.Vec.{with_items}
-use Rattle.std.proofs.lemmas.Bool.{cases_Bool}
-use Rattle.std.proofs.lemmas.List.{map-append, take-append-drop, with_items_is}
+use Rattle.std.proofs.lemmas.Bool.{cases_Bool, leb-true}
+use Rattle.std.proofs.lemmas.List.{map-append, take-append-drop, length-take-le, with_items_is}
 use Rattle.flow_model.specs.declared.limits.TheConstants.{MOST_LEAVES}
 use Rattle.flow_model.specs.Lists.{◌∈◌, Each, AreDistinct}
 use Rattle.flow_model.specs.Process.{leaves}
-use Rattle.flow_model.proofs.MadeLists.{of_map}
-use Rattle.flow_model.proofs.Lists.{mem-append, mem_append_left, each-append, each_parts, each_member, each_from_members, distinct_parts, distinct-append, at_most}
+use Rattle.flow_model.proofs.MadeLists.{of_map, each-filter}
+use Rattle.flow_model.proofs.Lists.{mem-append, mem_append_left, each-append, each_parts, each_member, each_to, each_from_members, distinct_parts, distinct-append, at_most}
 use Rattle.flow_plan.proofs.PlaceLemmas.{read_member}
 use Rattle.flow_residual.specs.declared.ban.Ban.{Ban}
 use Rattle.flow_plan.specs.Sampled.{Sampled}
@@ -83,15 +83,17 @@ module _ (r : Remaining) (k : IsKept r) (leaf : ℕ) (next : MayComeNext r leaf)
         (λ before. each_member (λ x. ¬ (x ∈ r.journal)) (banned r.bans) k.apart n m before)
         (λ last. ⊎_elim (λ same. next_free (subst (λ x. x ∈ banned r.bans) same m)) (λ none. none) last)
         (mem-append n r.journal (leaf ∷ []) there));
+    early = each_to (λ ban. ban.0 ≤ length r.journal) (λ ban. ban.0 ≤ length (r.journal ++ leaf ∷ [])) r.bans (λ ban b. omega (arith, b, length-append r.journal (leaf ∷ []))) k.early;
   }
 
-  pub kept_ban : (i : ℕ) → IsKept (record r { bans = r.bans ++ (i, leaf) ∷ [] })
-  kept_ban i =
+  pub kept_ban : (i : ℕ) → i ≤ length r.journal → IsKept (record r { bans = r.bans ++ (i, leaf) ∷ [] })
+  kept_ban i here =
       let more : banned (r.bans ++ (i, leaf) ∷ []) ≡ banned r.bans ++ leaf ∷ [] = map-append (λ (ban : ℕ × ℕ). ban.1) r.bans ((i, leaf) ∷ []) in record {
         fits = k.fits;
         done = k.done;
         bans_few = subst AreFew (sym more) (one_more (banned r.bans) leaf k.bans_few next_small next_free);
         apart = subst (Each (λ n. ¬ (n ∈ r.journal))) (sym more) (each-append (λ n. ¬ (n ∈ r.journal)) (banned r.bans) (leaf ∷ []) k.apart (next_fresh, tt));
+        early = each-append (λ ban. ban.0 ≤ length r.journal) r.bans ((i, leaf) ∷ []) k.early (here, tt);
       }
 
 -- ---- bans that are lifted
@@ -141,6 +143,10 @@ module _ (r : Remaining) (k : IsKept r) (i : ℕ) (within : i < length r.journal
             (each_from_members (λ n. ¬ (n ∈ take i r.journal)) (banned (filter stays r.bans))
             (λ n m there. each_member (λ x. ¬ (x ∈ r.journal)) (banned r.bans) k.apart n (left_over stays r.bans n m) (in_front r.journal i n there)))
             (not_in_front r.journal i k.done.distinct within, tt));
+        early = let long : length (take i r.journal) ≡ i = length-take-le i r.journal (omega arith) in
+            each-append (λ ban. ban.0 ≤ length (take i r.journal)) (filter stays r.bans) ((i, back) ∷ [])
+            (each-filter (λ ban. ban.0 ≤ length (take i r.journal)) (λ ban. ban.0 ≤ length r.journal) stays r.bans (λ ban low b. omega (arith, long, leb-true ban.0 i low)) k.early)
+            (omega (arith, long), tt);
       }
 
 -- ---- bans as pairs

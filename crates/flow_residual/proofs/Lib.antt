@@ -5,6 +5,7 @@ pub mod DoneLemmas
 pub mod KeptLemmas
 pub mod FewLemmas
 pub mod QuestionLemmas
+pub mod OpenPlaces
 pub mod Numbering
 pub mod Outstanding
 pub mod Counting

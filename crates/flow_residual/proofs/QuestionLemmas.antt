@@ -1,20 +1,20 @@
 -- What is possible, by the options that remain and by the workflow.
-use Rattle.std.proofs.Common.{◌≡◌, ◌<◌, ◌≤◌, ℕ, Bool, true, false, not, ◌↔◌, IsTrue, List, [], ◌∷◌, ◌++◌, length, take, slice_index, refl, sym, subst, subst₂, inl, inr, ◌⊎◌, ⊎_elim, append-nil}
+use Rattle.std.proofs.Common.{◌≡◌, ℕ, Bool, true, false, not, ◌↔◌, IsTrue, List, [], ◌∷◌, ◌++◌, refl, sym, subst, inl, inr, ◌⊎◌, ⊎_elim, append-nil}
 use Rattle.flow_model.specs.Lists.{◌∈◌, Each, Begins, IsOrderOf}
 use Rattle.flow_model.specs.Process.{Process, leaves}
 use Rattle.flow_model.specs.Schema.{Schema, IsGood}
 use Rattle.flow_model.specs.Resolution.{ChoiceOption, OptionTrace, options}
 use Rattle.flow_model.specs.Ready.{IsReady, IsReadyRun, IsReadyRunAfter, DoneOr}
-use Rattle.flow_model.specs.Run.{RunState, IsFree, MayFollow, IsOpen, MayAllFollow, MayFollowFirst}
+use Rattle.flow_model.specs.Run.{RunState, IsFree, MayFollow, MayAllFollow, MayFollowFirst}
 use Rattle.flow_laws.specs.Orders.{IsAlive}
-use Rattle.flow_model.proofs.Lists.{each_member, each_to, each_from_members}
+use Rattle.flow_model.proofs.Lists.{each_member, each_from_members}
 use Rattle.flow_model.proofs.MadeLists.{order_member, same_order, order_with_last}
 use Rattle.flow_model.specs.Decided.{order_of_none}
 use Rattle.flow_laws.proofs.TraceLeaves.{leaf_of_trace, leaf_in_trace}
 use Rattle.flow_laws.proofs.OptionsLemmas.{option_is_ordered, option_of_good, option_trace_is_good}
-use Rattle.flow_laws.proofs.OrdersByTwo.{each_two_order, side_by_side_of, orders_ready, alive_of_follow, follow_of_alive}
-use Rattle.flow_laws.proofs.ReadyRuns.{same_ready, same_run, complete_runs_are_traces, fronts_are_ready}
-use Rattle.flow_laws.proofs.CircleOrTrace.{ready_runs_extend}
+use Rattle.flow_laws.proofs.RunsByStep.{each_two_order}
+use Rattle.flow_laws.proofs.OrdersByTwo.{side_by_side_of, orders_ready, alive_of_follow, follow_of_alive}
+use Rattle.flow_laws.proofs.ReadyRuns.{same_ready, same_run, complete_runs_are_traces}
 use Rattle.flow_plan.specs.Planned.{Planned, pairs_of}
 use Rattle.flow_plan.specs.Progress.{IsDone}
 use Rattle.flow_plan.specs.Orders.{MayComeNext as MayComeNextIn, MayFollowInEveryOrder}
@@ -23,7 +23,7 @@ use Rattle.flow_plan.specs.Options.{HasExecution, AreJustThose, option_of}
 use Rattle.flow_plan.proofs.KeptOptions.{kept_has}
 use Rattle.flow_residual.specs.Remaining.{Remaining, IsOf, IsLive, MayComeNext, IsAvoidable}
 use Rattle.flow_residual.specs.Options.{SomeOption}
-use Rattle.flow_residual.specs.Question.{AllFollow, FollowsFirst, TakesAll, TakesFirst, LeavesOut, IsFinished, IsOpenFor}
+use Rattle.flow_residual.specs.Question.{AllFollow, FollowsFirst, TakesAll, TakesFirst, LeavesOut, IsFinished}
 use Rattle.flow_residual.proofs.DoneLemmas.{AreDone}
 
 -- ---- the options that have an execution
@@ -108,46 +108,6 @@ module _ (w : Schema) (s : RunState) (r : Remaining) (f : IsOf w s r) where
           has_kept (options w) r.options f.options_are o m (s.journal, trace),
           subst (λ (j : List ℕ). IsFinished (record r { journal = j }) o) f.journal_is ((complete_runs_are_traces o.resolution o.order ordered s.journal).1 trace),
         ),
-  )
-
-  -- a place at which another choice is still free, of what remains
-  abbrev Opens : List ℕ → List (ℕ × ℕ) → ℕ → Type 0
-  Opens journal bans i = (i < length journal) × ((t : List ℕ) × IsGood w t × Begins t (take i journal) ×
-      Each (λ ban. ban.0 ≤ i → ¬ (ban.1 ∈ t)) bans × ¬ (slice_index journal i ∈ t))
-
-  opens : (i : ℕ) → SomeOption (IsOpenFor r i) r.options → Opens r.journal r.bans i
-  opens i (o, m, opening) =
-      let (there, (sample, trace)) = option_of_live o m in
-      let ordered = option_is_ordered w f.well_formed o there in
-      let (t, run, pairs, begins) = ready_runs_extend o.resolution o.order ordered (sample, trace.0, trace.1) (take i r.journal) opening.begun in (
-        opening.within,
-        (
-          t,
-          option_trace_is_good w f.well_formed t o there (run, pairs),
-          begins,
-          each_to _ _ r.bans (λ ban none h l. none h (leaf_of_trace o.resolution t run ban.1 l)) opening.unbanned,
-          λ l. opening.without (leaf_of_trace o.resolution t run (slice_index r.journal i) l),
-        ),
-      )
-
-  opened : (i : ℕ) → Opens r.journal r.bans i → SomeOption (IsOpenFor r i) r.options
-  opened i (within, (t, good, begins, none, lacks)) =
-      let (o, m, trace) = option_of_good w f.well_formed t good in
-      let ordered = option_is_ordered w f.well_formed o m in (
-        o,
-        has_kept (options w) r.options f.options_are o m (t, trace),
-        record {
-          within = within;
-          begun = fronts_are_ready o.resolution o.order ordered t (take i r.journal) trace.0 trace.1 begins;
-          without = λ l. lacks (leaf_in_trace o.resolution ordered.choice_free t trace.0 (slice_index r.journal i) l);
-          unbanned = each_to _ _ r.bans (λ ban not h l. not h (leaf_in_trace o.resolution ordered.choice_free t trace.0 ban.1 l)) none;
-        },
-      )
-
-  pub is_open : (i : ℕ) → SomeOption (IsOpenFor r i) r.options ↔ IsOpen w s i
-  is_open i = (
-    λ some. subst₂ (λ journal bans. Opens journal bans i) (sym f.journal_is) (sym f.bans_are) (opens i some),
-    λ opening. opened i (subst₂ (λ journal bans. Opens journal bans i) f.journal_is f.bans_are opening),
   )
 
 -- ---- what plans say of their options

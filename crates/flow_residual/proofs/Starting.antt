@@ -14,7 +14,7 @@ use Rattle.flow_residual.specs.declared.ban.Ban.{Ban}
 use Rattle.flow_residual.specs.declared.residual.Residual.TheInside.{Inside}
 use Rattle.flow_residual.specs.Options.{EachHas}
 use Rattle.flow_residual.specs.View.{remaining, pairs_of_bans}
-use Rattle.flow_residual.specs.Invariant.{IsKept, IsRoomy}
+use Rattle.flow_residual.specs.Invariant.{AreOpenPlaces, IsKept, IsRoomy}
 use Rattle.flow_residual.specs.Track.{IsTrack}
 
 abbrev start : Track
@@ -37,13 +37,22 @@ kept_first plans journal bans fits no_journal no_bans = subst₂ (λ (journal : 
   done = record { small = tt; distinct = tt };
   bans_few = record { small = tt; distinct = tt };
   apart = tt;
+  early = tt;
 })
+
+no_opens_first : (plans : List Sampled) (bans : List Ban) → AreOpenPlaces (remaining plans [] bans) []
+no_opens_first plans bans = record {
+  within = tt;
+  rising = λ k within. absurd (omega arith);
+  exact = λ w s of i. (λ none. absurd none, λ opening. absurd (omega (arith, opening.0, ap length of.journal_is)));
+}
 
 -- a residual whose plans were handed out to make its tracks
 pub roomy_first : (i : Inside) (turned : List Sampled) → turned ≡ i.plans.items → Each HasSmallLeaves (options_of i.plans.items) →
     EachHas (IsTrack [] []) (options_of turned) i.tracks.items → length i.rows.items ≡ length (options_of turned) → i.journal.items ≡ [] → i.bans.items ≡ [] → i.fresh ≡ false →
-    bound_of i.done ≡ MOST_LEAVES → ((n : ℕ) → is_done i.done n ≡ false) → MOST_LEAVES ≤ vec_capacity i.journal → MOST_LEAVES ≤ vec_capacity i.bans → IsRoomy i
-roomy_first i turned same fits tracks rows no_journal no_bans stale bound none journal_room bans_room = record {
+    bound_of i.done ≡ MOST_LEAVES → ((n : ℕ) → is_done i.done n ≡ false) → MOST_LEAVES ≤ vec_capacity i.journal → MOST_LEAVES ≤ vec_capacity i.bans →
+    i.opens.items ≡ [] → MOST_LEAVES ≤ vec_capacity i.opens → IsRoomy i
+roomy_first i turned same fits tracks rows no_journal no_bans stale bound none journal_room bans_room no_opens opens_room = record {
   kept = kept_first i.plans.items i.journal.items i.bans.items fits no_journal no_bans;
   tracks = subst (λ plans. EachHas (IsTrack i.journal.items (pairs_of_bans i.bans.items)) (options_of plans) i.tracks.items) same
       (subst₂ (λ (journal : List ℕ) (bans : List Ban). EachHas (IsTrack journal (pairs_of_bans bans)) (options_of turned) i.tracks.items) (sym no_journal) (sym no_bans) tracks);
@@ -53,4 +62,6 @@ roomy_first i turned same fits tracks rows no_journal no_bans stale bound none j
   done_are = λ n. (λ done. absurd (true≢false (sym done ∙ none n)), λ member. absurd (subst (λ journal. n ∈ journal) no_journal member));
   journal_room = journal_room;
   bans_room = bans_room;
+  opens = subst₂ (λ (journal opens : List ℕ). AreOpenPlaces (remaining i.plans.items journal i.bans.items) opens) (sym no_journal) (sym no_opens) (no_opens_first i.plans.items i.bans.items);
+  opens_room = opens_room;
 }

@@ -1,6 +1,6 @@
 -- What is possible after the journal, by the options that remain.
-use Rattle.std.specs.Prelude.{◌<◌, ◌≤◌, ℕ, List, [], ◌∷◌, ◌++◌, length, slice_index}
-use Rattle.flow_model.specs.Lists.{◌∈◌, Each, IsOrderOf}
+use Rattle.std.specs.Prelude.{ℕ, List, [], ◌∷◌, ◌++◌}
+use Rattle.flow_model.specs.Lists.{◌∈◌, IsOrderOf}
 use Rattle.flow_model.specs.Process.{leaves}
 use Rattle.flow_model.specs.Resolution.{ChoiceOption}
 use Rattle.flow_model.specs.Ready.{IsReady, IsReadyRunAfter, IsCompleteRun, DoneOr}
@@ -9,7 +9,6 @@ use Rattle.flow_residual.specs.declared.question.Stand.TheVariants.{Among, First
 use Rattle.flow_residual.specs.declared.question.Question.{Question}
 use Rattle.flow_residual.specs.declared.question.Question.TheVariants as ask
 use Rattle.flow_residual.specs.Remaining.{Remaining, IsLive}
-use Rattle.flow_residual.specs.Track.{IsBegun}
 
 -- the leaves may come next in every order
 abbrev pub AllFollow : List ℕ → List ℕ → ChoiceOption → Type 0
@@ -42,16 +41,8 @@ LeavesOut r leaf o = IsLive r o × ¬ (leaf ∈ leaves o.resolution)
 abbrev pub IsFinished : Remaining → ChoiceOption → Type 0
 IsFinished r o = IsCompleteRun o.resolution o.order r.journal
 
--- the option follows the journal up to the place, goes on without the leaf there, and lacks each leaf banned up to there
-pub record IsOpenFor (r : Remaining) (i : ℕ) (o : ChoiceOption) : Type 0 where
-  pub within : i < length r.journal
-  pub begun : IsBegun o r.journal i
-  pub without : ¬ (slice_index r.journal i ∈ leaves o.resolution)
-  pub unbanned : Each (λ ban. ban.0 ≤ i → ¬ (ban.1 ∈ leaves o.resolution)) r.bans
-
 -- what is asked of each option
 abbrev pub Has : Remaining → List ℕ → Question → ChoiceOption → Type 0
 Has r claims (ask.Takes stand leaf) o = Takes r claims stand leaf o
 Has r claims (ask.Without leaf) o = LeavesOut r leaf o
 Has r claims ask.Finished o = IsFinished r o
-Has r claims (ask.Open i) o = IsOpenFor r i o

@@ -60,16 +60,11 @@ impl Residual {
     }
 
     /// The last place of the journal at which another choice is still free.
+    #[tactic(auto, using(crate::proofs::OpenPlaces::last_open))]
     pub fn open_index(&self) -> Option<u32>
         ensures { (w : Schema) (s : RunState) → IsOf w s self.now →
             MatchOption result ((i : ℕ) → ¬ (IsOpen w s i)) (λ i. IsOpenIndex w s i) }
     {
-        let length = self.journal().len() as u32;
-        for index in (0..length).rev() {
-            if self.some_has(Question::Open(index), &[]) {
-                return Some(index);
-            }
-        }
-        None
+        self.opens().last().copied()
     }
 }

@@ -47,14 +47,3 @@ pub(crate) fn cut_ban(least: Option<u32>, index: u32) -> Option<u32>
         None => None,
     }
 }
-
-/// Whether no ban up to that index is held.
-pub(crate) fn is_above(least: Option<u32>, index: u32) -> bool
-    ensures { (o : ChoiceOption) (bans : List (ℕ × ℕ)) → IsLeastBan o bans least →
-        IsTrue result ↔ Each (λ ban. ban.0 ≤ index → ¬ (ban.1 ∈ leaves o.resolution)) bans }
-{
-    match least {
-        Some(first) => index < first,
-        None => true,
-    }
-}

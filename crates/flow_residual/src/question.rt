@@ -7,10 +7,10 @@ ghost use Rattle.flow_model.specs.Resolution.{ChoiceOption};
 ghost use Rattle.leaf_rows.specs.Leaves.{has_leaf};
 ghost use Rattle.flow_plan.specs.Rows.{IsRowOf};
 ghost use Rattle.flow_residual.specs.Options.{SomeOption};
-ghost use Rattle.flow_residual.specs.Question.{Takes, LeavesOut, IsFinished, IsOpenFor, Has};
+ghost use Rattle.flow_residual.specs.Question.{Takes, LeavesOut, IsFinished, Has};
 ghost use Rattle.flow_residual.specs.Remaining.{IsLive};
 
-use crate::ban::{holds, is_above};
+use crate::ban::holds;
 use crate::residual::Residual;
 use crate::row::row_of;
 use leaf_rows::LeafSet;
@@ -33,8 +33,6 @@ pub(crate) enum Question {
     Without(u32),
     /// Whether the journal is a whole execution of it.
     Finished,
-    /// Whether it lets a run leave out what the journal has at the index, and keep all before it.
-    Open(u32),
 }
 
 impl Residual {
@@ -97,32 +95,6 @@ impl Residual {
         self.follows(place) && self.plan(place).complete(done)
     }
 
-    /// The leaf that the journal has at the index.
-    fn done_at(&self, index: u32) -> Option<u32>
-        ensures { result ≡ slice_get self.now.journal index }
-    {
-        self.journal().get(index as usize).copied()
-    }
-
-    /// Whether the plan at that place lets a run leave out what the journal has at the index, and keep all before it.
-    fn is_open_for(&self, place: usize, index: u32) -> bool
-        requires { place < length self.now.options }
-        ensures { (o : ChoiceOption) → slice_get self.now.options place ≡ Some o →
-            IsTrue result ↔ IsOpenFor self.now index o }
-    {
-        let Some(leaf) = self.done_at(index) else {
-            return false;
-        };
-        let track = self.track(place);
-        if track.front < index as usize {
-            return false;
-        }
-        if holds(self.plan(place), leaf) {
-            return false;
-        }
-        is_above(track.banned, index)
-    }
-
     /// What the plan at that place answers.
     fn has(&self, place: usize, question: Question, claims: &[u32]) -> bool
         requires { place < length self.now.options }
@@ -133,7 +105,6 @@ impl Residual {
             Question::Takes(stand, leaf) => self.takes(place, claims, stand, leaf),
             Question::Without(leaf) => self.leaves_out(place, leaf),
             Question::Finished => self.is_finished(place),
-            Question::Open(index) => self.is_open_for(place, index),
         }
     }
 

@@ -1,10 +1,12 @@
-ghost use Rattle.std.specs.Prelude.{◌≡◌, ◌<◌, ◌≤◌, ◌↔◌, ℕ, [], ◌∷◌, ◌++◌, IfOk, IsTrue, length, take, nat_le, false, Some, slice_get, slice_index};
+ghost use Rattle.std.specs.Prelude.{◌≡◌, ◌<◌, ◌≤◌, ◌↔◌, ℕ, [], ◌∷◌, ◌++◌, IfOk, IsTrue, if◌then◌else◌, length, take, nat_le, false, Some, slice_get, slice_index};
 ghost use Rattle.std.specs.List.{filter};
+ghost use Rattle.std.specs.Vec.{vec_len, vec_capacity};
 ghost use Rattle.flow_model.specs.Lists.{◌∈◌, Each, AreDistinct};
 ghost use Rattle.flow_model.specs.Resolution.{ChoiceOption};
 ghost use Rattle.flow_plan.specs.Progress.{IsDone, bound_of};
 ghost use Rattle.flow_plan.specs.Options.{options_of, option_of, HasSmallLeaves};
 ghost use Rattle.flow_residual.specs.Options.{EachHas};
+ghost use Rattle.flow_residual.specs.Invariant.{AreOpenPlaces};
 ghost use Rattle.flow_residual.specs.Track.{IsNextRow, IsTrack};
 ghost use Rattle.flow_residual.specs.Question.{Takes};
 ghost use Rattle.leaf_rows.specs.Leaves.{has_leaf};
@@ -25,11 +27,10 @@ struct Room {
     rows: Vec<LeafSet<16>>,
     journal: Vec<u32>,
     bans: Vec<Ban>,
+    opens: Vec<u32>,
 }
 
 impl Room {
-    ghost use Rattle.std.specs.Vec.{vec_capacity};
-
     /// For so many plans, where no leaf is done and none is banned.
     fn new(alloc: Global, plans: &[KnotFree]) -> Result<Room, AllocError>
         ensures tracks { IfOk result (λ room. EachHas (IsTrack [] []) (options_of plans.now) room.tracks.items) }
@@ -38,6 +39,8 @@ impl Room {
         ensures journal_room { IfOk result (λ room. MOST_LEAVES ≤ vec_capacity room.journal) }
         ensures bans { IfOk result (λ room. room.bans.items ≡ []) }
         ensures bans_room { IfOk result (λ room. MOST_LEAVES ≤ vec_capacity room.bans) }
+        ensures opens { IfOk result (λ room. room.opens.items ≡ []) }
+        ensures opens_room { IfOk result (λ room. MOST_LEAVES ≤ vec_capacity room.opens) }
     {
         let start = Track {
             front: 0,
@@ -48,6 +51,7 @@ impl Room {
             rows: vec![in alloc; LeafSet::new(); plans.len()]?,
             journal: Vec::with_capacity(alloc, MOST_LEAVES as usize)?,
             bans: Vec::with_capacity(alloc, MOST_LEAVES as usize)?,
+            opens: Vec::with_capacity(alloc, MOST_LEAVES as usize)?,
         })
     }
 }
@@ -62,9 +66,23 @@ pub struct Residual {
     /// The leaves of the journal.
     done: Progress,
     bans: Vec<Ban>,
+    /// The open places of the journal, the last of them last. A place is open where its leaf could be avoided when it
+    /// was pushed, whatever comes later.
+    opens: Vec<u32>,
     /// Of each plan that follows the journal, the leaves that may come next, where `fresh`.
     rows: Vec<LeafSet<16>>,
     fresh: bool,
+}
+
+/// Puts the place behind the others, where it is open.
+fn note_place(opens: &mut Vec<u32>, place: u32, is_open: bool)
+    requires room { vec_len opens.old < vec_capacity opens.old }
+    ensures items { opens.new.items ≡ (if is_open then opens.old.items ++ place ∷ [] else opens.old.items) }
+    ensures capacity { vec_capacity opens.new ≡ vec_capacity opens.old }
+{
+    if is_open {
+        opens.push_reserved(place);
+    }
 }
 
 impl Model for Residual {
@@ -96,6 +114,7 @@ impl Residual {
             rows,
             journal,
             bans,
+            opens,
         } = Room::new(alloc, compiled.plans())?;
         Ok(Residual {
             plans: compiled.into_plans(),
@@ -103,6 +122,7 @@ impl Residual {
             journal,
             done: Progress::new(MOST_LEAVES),
             bans,
+            opens,
             rows,
             fresh: false,
         })
@@ -155,6 +175,13 @@ impl Residual {
         &self.tracks[place]
     }
 
+    /// The open places of the journal.
+    pub(crate) fn opens(&self) -> &[u32]
+        ensures { AreOpenPlaces self.now result.now }
+    {
+        &self.opens
+    }
+
     /// Nothing may follow with claims that have a leaf twice, or one that has no place in a row.
     pub(crate) fn none_taken(&self, claims: &[u32]) -> LeafSet<16>
         requires { ¬ (Each (λ n. n < MOST_LEAVES) claims.now × AreDistinct claims.now) }
@@ -171,6 +198,8 @@ impl Residual {
         requires { MayComeNext self.old leaf }
         ensures { self.new ≡ record self.old { journal = self.old.journal ++ leaf ∷ [] } }
     {
+        let is_open = self.can_avoid(leaf);
+        note_place(&mut self.opens, self.journal.len() as u32, is_open);
         follow(
             &self.plans,
             &mut self.tracks,
@@ -219,6 +248,7 @@ impl Residual {
         );
         self.bans.retain(|ban| ban.index <= index);
         self.bans.push_reserved(ban);
+        self.opens.retain(|place| *place < index);
         self.journal.truncate(index as usize);
         self.done = progress_of(&self.journal);
         self.fresh = false;

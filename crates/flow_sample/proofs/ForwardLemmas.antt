@@ -1,8 +1,6 @@
 -- The leaves of a plan from left to right.
-use Rattle.std.proofs.Common.{◌≡◌, ℕ, ◌<◌, suc, List, [], ◌∷◌, ◌++◌, refl, sym, subst, ap, ◌∙◌, inl, inr, arith}
-use Rattle.std.specs.List.{AllPairs}
+use Rattle.std.proofs.Common.{◌≡◌, ℕ, ◌<◌, List, [], ◌∷◌, ◌++◌, refl, sym, subst, ap, ◌∙◌, inl, inr, arith}
 use Rattle.std.specs.List.Sorted.{IsStrictlyIncreasing}
-use Rattle.std.proofs.lemmas.List.Kept.{AllPairs-from_increasing}
 use Rattle.flow_model.specs.Lists.{◌∈◌, Each, AreInOrder, StandsBefore, joined}
 use Rattle.flow_model.specs.Process.{Process, Empty, Task, Sequence, Parallel, Choice, Isolated, leaves, IsChoiceFree}
 use Rattle.flow_model.specs.Resolution.{OptionTrace}
@@ -14,8 +12,8 @@ use Rattle.flow_model.proofs.MadeLists.{joined-append}
 use Rattle.flow_laws.proofs.TraceLeaves.{joined-as_one}
 use Rattle.flow_plan.specs.declared.token.OrderToken.{OrderToken}
 use Rattle.flow_plan.specs.Planned.{Planned, pairs_of}
-use Rattle.flow_plan.proofs.PlaceLemmas.{place_of_member}
 use Rattle.flow_plan.specs.Options.{option_of}
+use Rattle.flow_sample.proofs.RisingLemmas.{rises}
 
 -- they are one of its traces
 pub straight : (q : Process) → IsChoiceFree q → Trace q (leaves q)
@@ -34,18 +32,10 @@ straight (Isolated a) free = let (x, i, e) = straight a free in (as_one x, (x, i
 
 -- in a list that rises a member stands before those that are greater
 
-above_all : (x : ℕ) (xs : List ℕ) → AllPairs (λ y z. y < z) (x ∷ xs) → (y : ℕ) → y ∈ xs → x < y
-above_all x xs pairs y m = let place = place_of_member xs y m in omega (arith, place.2, pairs 0 (suc place.0) 0 (omega arith) (omega (arith, place.1)))
-
-never_falls : (xs : List ℕ) → AllPairs (λ y z. y < z) xs → (x y : ℕ) → StandsBefore x y xs → x < y
-never_falls [] pairs x y h = absurd h
-never_falls (z ∷ zs) pairs x y (inl (e, m)) = omega (arith, e, above_all z zs pairs y m)
-never_falls (z ∷ zs) pairs x y (inr h) = never_falls zs (λ i j d less within. pairs (suc i) (suc j) d (omega arith) (omega arith)) x y h
-
 pub rising_before : (xs : List ℕ) → IsStrictlyIncreasing xs → (x y : ℕ) → x ∈ xs → y ∈ xs → x < y → StandsBefore x y xs
 rising_before xs rising x y i j less = elim (before_or_after x y xs i j (λ e. omega (arith, e, less))) [
   | inl h ↦ h
-  | inr h ↦ absurd (omega (arith, less, never_falls xs (AllPairs-from_increasing xs rising) y x h))
+  | inr h ↦ absurd (omega (arith, less, rises xs rising y x h))
 ]
 
 forward_order : (q : Process) → IsStrictlyIncreasing (leaves q) → (tokens : List OrderToken) → AreOfLeaves q (pairs_of tokens) →

@@ -1,6 +1,7 @@
 -- Items that are made of the marks of a goal.
 use Rattle.std.proofs.Common.{◌≡◌, ℕ, ◌+◌, ◌<◌, List, [], ◌∷◌, ◌++◌, length, map, reverse, Some, None, MatchOption, slice_get, inl, inr, refl, sym, ◌∙◌, ap, subst, append-nil, arith, Vec, Global, ◌==◌, true, false, eq-eqb}
 use Rattle.std.proofs.lemmas.List.{map-append, reverse-append, nil_from_length}
+use Rattle.std.specs.List.Sorted.{IsStrictlyIncreasing}
 use Rattle.std.proofs.lemmas.Bool.{eqb-true}
 use Rattle.flow_plan.specs.Stacks.{WithTop}
 use Rattle.flow_sample.specs.Arranged.{AddsOneOf}
@@ -21,8 +22,9 @@ use Rattle.flow_sample.specs.Rows.{AreApart, HasSome}
 use Rattle.flow_sample.specs.Items.{IsItemOf, AreItemsOf, AddsItems}
 use Rattle.flow_sample.specs.ItemMarks.{CanClose, MakesItems, Gathers, ReadsMark, stack_of}
 use Rattle.flow_sample.proofs.PieceLemmas.{adds_both, adds_none, adds_one, can_close}
+use Rattle.flow_sample.proofs.RisingLemmas.{Rises, rises}
 
-module _ (q : Process) (pairs : List (ℕ × ℕ)) (o : IsOrdered q pairs) (ns : List ℕ) where
+module _ (q : Process) (pairs : List (ℕ × ℕ)) (o : IsOrdered q pairs) (rising : Rises (leaves q)) (ns : List ℕ) where
   -- the marks of a goal make its items
   goal_items : (g : Process) (nodes : List Node) (k : ℕ) (items : List Item) (outer : List (List Item)) → IsChoiceFree g → ((p : Process) → p ∈ isolated_parts g → p ∈ isolated_parts q) → StandAt ns k (leaves g) →
       ((new : List Item) → AddsItems q pairs g items new → MakesItems q pairs nodes ns (k + length (leaves g)) new outer) →
@@ -47,16 +49,16 @@ module _ (q : Process) (pairs : List (ℕ × ℕ)) (o : IsOrdered q pairs) (ns :
   goal_items (Isolated a) nodes k items outer free parts at then =
       subst (λ l. MakesItems q pairs l ns k items outer) (sym (isolated_nodes a nodes))
       (goal_items a (Close ∷ nodes) k [] (items ∷ outer) free (λ p m. parts p (inr m)) at
-      (λ inner adds. can_close q pairs o a inner (parts a (inl refl)) adds items
+      (λ inner adds. can_close q pairs o rising a inner (parts a (inl refl)) adds items
       (λ new. MakesItems q pairs nodes ns (k + length (leaves a)) new outer) then))
 
 pub begun_items : (p : Planned) (nodes : List Node) (g : Gathering) → IsOrdered p.process (pairs_of p.tokens) → nodes ≡ nodes_of p.process → p.leaves ≡ leaves p.process →
-    g.place ≡ 0 → g.items.items ≡ [] → g.outer.items ≡ [] → Gathers p nodes g
-begun_items p nodes g o are listed place items outer =
+    IsStrictlyIncreasing p.leaves → g.place ≡ 0 → g.items.items ≡ [] → g.outer.items ≡ [] → Gathers p nodes g
+begun_items p nodes g o are listed rising place items outer =
     let q : Process = p.process in
     let pairs : List (ℕ × ℕ) = pairs_of p.tokens in
     rw (place, items, outer, are) (subst (λ l. MakesItems q pairs l p.leaves 0 [] []) (append-nil (nodes_of q))
-    (goal_items q pairs o p.leaves q [] 0 [] [] o.choice_free (λ part m. m) ([], listed ∙ sym (append-nil (leaves q)))
+    (goal_items q pairs o (rises (leaves q) (subst IsStrictlyIncreasing listed rising)) p.leaves q [] 0 [] [] o.choice_free (λ part m. m) ([], listed ∙ sym (append-nil (leaves q)))
     (λ new adds. subst (AreItemsOf q pairs (items_of q)) (sym adds.is) adds.items)))
 
 -- ---- one mark

@@ -2,8 +2,8 @@
 use Rattle.std.proofs.Common.{◌≡◌, ℕ, zero, suc, ◌<◌, ◌≤◌, IsTrue, List, [], ◌∷◌, map, min, length, refl, sym, ap, ◌∙◌, subst, inl, inr, ⊎_elim, arith, Some, slice_get}
 use Rattle.std.proofs.lemmas.Bool.{cases_lt}
 use Rattle.std.proofs.lemmas.Option.{slice_get-get_or}
-use Rattle.flow_model.proofs.Lists.{mem-slice_get, distinct_apart, distinct_right}
-use Rattle.flow_model.specs.Lists.{◌∈◌, Each, AreDistinct, joined}
+use Rattle.flow_model.proofs.Lists.{mem-slice_get, distinct_apart, distinct_right, before_across, before_right}
+use Rattle.flow_model.specs.Lists.{◌∈◌, Each, AreDistinct, StandsBefore, joined}
 use Rattle.flow_model.specs.Process.{Process, leaves}
 use Rattle.flow_model.specs.Ready.{DirectlyBefore}
 use Rattle.flow_model.specs.Circle.{items_of, ItemBefore, LeadsBackTo, IsCircle, IsRing, least_of}
@@ -18,7 +18,29 @@ use Rattle.flow_sample.specs.Turned.{IsTurned}
 use Rattle.flow_sample.specs.Arranged.{LeadsOn, IsCycle, IsNodeRing, TellsRing}
 use Rattle.flow_sample.specs.Items.{item_at, IsLinedUp, IsItemOf, AreItemsOf, TellsCircle}
 use Rattle.flow_sample.proofs.OrderLemmas.{is_within, waits_within, ring_within}
+use Rattle.flow_sample.proofs.RisingLemmas.{Rises, region_rises}
 use Rattle.flow_sample.proofs.TurningLemmas.{circle_from_ring}
+
+-- the least leaf of a list
+
+least_below : (l : List ℕ) (x : ℕ) → x ∈ l → least_of l ≤ x
+least_below [] x m = absurd m
+least_below (n ∷ []) x (inl e) = omega arith
+least_below (n ∷ []) x (inr m) = absurd m
+least_below (n ∷ k ∷ more) x (inl e) = omega arith
+least_below (n ∷ k ∷ more) x (inr m) = let i = least_below (k ∷ more) x m in omega arith
+
+least_member : (l : List ℕ) (x : ℕ) → x ∈ l → least_of l ∈ l
+least_member [] x m = m
+least_member (n ∷ []) x m = inl refl
+least_member (n ∷ k ∷ more) x m = ⊎_elim
+    (λ l. let e : min n (least_of (k ∷ more)) ≡ n = omega arith in inl e)
+    (λ l. let e : min n (least_of (k ∷ more)) ≡ least_of (k ∷ more) = omega arith in inr (subst (λ z. z ∈ (k ∷ more)) (sym e) (least_member (k ∷ more) k (inl refl))))
+    (cases_lt n (least_of (k ∷ more)))
+
+pub least_is : (l : List ℕ) (m : ℕ) → m ∈ l → ((x : ℕ) → x ∈ l → m ≤ x) → m ≡ least_of l
+least_is [] m h all = absurd h
+least_is (n ∷ more) m h all = omega (arith, all (least_of (n ∷ more)) (least_member (n ∷ more) n (inl refl)), least_below (n ∷ more) m h)
 
 -- the items of a part
 
@@ -49,6 +71,14 @@ same_number (i ∷ items) zero zero d l k e = refl
 same_number (i ∷ items) zero (suc n) d l k e = absurd (d.0 (subst (λ z. z ∈ items) (sym e) (mem-item_at items n (omega arith))))
 same_number (i ∷ items) (suc m) zero d l k e = absurd (d.0 (subst (λ z. z ∈ items) e (mem-item_at items m (omega arith))))
 same_number (i ∷ items) (suc m) (suc n) d l k e = ap suc (same_number items m n d.1 (omega arith) (omega arith) e)
+
+-- the leaves of an item stand before those of the items behind it
+items_in_order : (items : List (List ℕ)) (m n x y : ℕ) → m < n → n < length items → x ∈ item_at items m → y ∈ item_at items n → StandsBefore x y (joined items)
+items_in_order [] m n x y less l i j = absurd (omega arith)
+items_in_order (item ∷ items) m zero x y less l i j = absurd (omega arith)
+items_in_order (item ∷ items) zero (suc n) x y less l i j =
+    before_across x y item (joined items) i (mem_joined y items (item_at items n) (mem-item_at items n (omega arith)) j)
+items_in_order (item ∷ items) (suc m) (suc n) x y less l i j = before_right x y item (joined items) (items_in_order items m n x y (omega arith) (omega arith) i j)
 
 -- the item of a number, by its rows
 
@@ -89,7 +119,7 @@ module _ (q : Process) (pairs : List (ℕ × ℕ)) where
     pub laid_at : (n : ℕ) → n < length ls → IsLinedUp q pairs (item_at ls n) (run_in (slice_get items n))
     laid_at n l = let r = item_is ls items n a l in subst (λ o. IsLinedUp q pairs (item_at ls n) (run_in o)) (sym r.1) (r.2.run)
 
-    least_is_at : (n : ℕ) → n < length ls → least_at items n ≡ least_of (item_at ls n)
+    pub least_is_at : (n : ℕ) → n < length ls → least_at items n ≡ least_of (item_at ls n)
     least_is_at n l = let r = item_is ls items n a l in ap least_in r.1 ∙ r.2.least
 
     pub leasts_are : (ring : List ℕ) → ((n : ℕ) → n ∈ ring → n < length ls) → map (least_at items) ring ≡ map least_of (map (item_at ls) ring)
@@ -142,8 +172,8 @@ module _ (q : Process) (pairs : List (ℕ × ℕ)) (o : IsOrdered q pairs) (part
       same_number (items_of part) m n (distinct_items part part_is_distinct) k l
       (items_apart part (item_at (items_of part) m) (item_at (items_of part) n) x part_is_distinct (mem-item_at (items_of part) m k) (mem-item_at (items_of part) n l) i j)
 
-  pub are_apart : AreApart items
-  are_apart = record {
+  pub are_apart : Rises (leaves q) → AreApart items
+  are_apart rising = record {
     some = λ n l.
         let l' : n < length (items_of part) = omega (arith, same_length q pairs (items_of part) items a) in
         let x = item_has part (item_at (items_of part) n) (mem-item_at (items_of part) n l') in
@@ -153,6 +183,18 @@ module _ (q : Process) (pairs : List (ℕ × ℕ)) (o : IsOrdered q pairs) (part
         let s = in_list q pairs (items_of part) items a n x j in
         one_number m n x r.0 s.0 r.1 s.1;
     others = λ n x v i. (waits_list q pairs (items_of part) items a n x v).1.1 (in_list q pairs (items_of part) items a n x i).1;
+    rising = λ m n x y less i j.
+        let r = in_list q pairs (items_of part) items a m x i in
+        let s = in_list q pairs (items_of part) items a n y j in
+        region_rises q part p rising x y (subst (StandsBefore x y) (joined_items part) (items_in_order (items_of part) m n x y less s.0 r.1 s.1));
+    least = λ n l.
+        let l' : n < length (items_of part) = omega (arith, same_length q pairs (items_of part) items a) in
+        let x = item_has part (item_at (items_of part) n) (mem-item_at (items_of part) n l') in
+        in_item q pairs (items_of part) items a n (least_at items n) l'
+        (subst (λ z. z ∈ item_at (items_of part) n) (sym (least_is_at q pairs (items_of part) items a n l')) (least_member (item_at (items_of part) n) x.0 x.1));
+    none_less = λ n x i.
+        let r = in_list q pairs (items_of part) items a n x i in
+        subst (λ z. z ≤ x) (sym (least_is_at q pairs (items_of part) items a n r.0)) (least_below (item_at (items_of part) n) x r.1);
   }
 
   circle_of_ring : (ring circle : List ℕ) → IsNodeRing items ring → IsTurned (map (least_at items) ring) circle → IsCircle q pairs circle
@@ -168,23 +210,3 @@ module _ (q : Process) (pairs : List (ℕ × ℕ)) (o : IsOrdered q pairs) (part
   pub tells_circle : (e : ExciseRefusal) → TellsRing items e → TellsCircle q pairs e
   tells_circle (Circle circle) (ring, r, t) = circle_of_ring ring circle.leaves.items r t
   tells_circle NoMemory h = tt
-
--- the least leaf of a list
-
-least_below : (l : List ℕ) (x : ℕ) → x ∈ l → least_of l ≤ x
-least_below [] x m = absurd m
-least_below (n ∷ []) x (inl e) = omega arith
-least_below (n ∷ []) x (inr m) = absurd m
-least_below (n ∷ k ∷ more) x (inl e) = omega arith
-least_below (n ∷ k ∷ more) x (inr m) = let i = least_below (k ∷ more) x m in omega arith
-
-least_member : (n : ℕ) (more : List ℕ) → least_of (n ∷ more) ∈ (n ∷ more)
-least_member n [] = inl refl
-least_member n (k ∷ more) = ⊎_elim
-    (λ l. let e : min n (least_of (k ∷ more)) ≡ n = omega arith in inl e)
-    (λ l. let e : min n (least_of (k ∷ more)) ≡ least_of (k ∷ more) = omega arith in inr (subst (λ z. z ∈ (k ∷ more)) (sym e) (least_member k more)))
-    (cases_lt n (least_of (k ∷ more)))
-
-pub least_is : (l : List ℕ) (m : ℕ) → m ∈ l → ((x : ℕ) → x ∈ l → m ≤ x) → m ≡ least_of l
-least_is [] m h all = absurd h
-least_is (n ∷ more) m h all = omega (arith, all (least_of (n ∷ more)) (least_member n more), least_below (n ∷ more) m h)

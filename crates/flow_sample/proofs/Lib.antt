@@ -6,3 +6,4 @@ pub mod LaidLemmas
 pub mod PieceLemmas
 pub mod GatheringLemmas
 pub mod TurningLemmas
+pub mod RisingLemmas

@@ -1,17 +1,19 @@
 -- An order of items that grows, and the walk to the next of them.
-use Rattle.std.proofs.Common.{◌≡◌, ℕ, ◌+◌, ◌-◌, ◌<◌, ◌≤◌, Bool, true, false, not, ◌&&◌, IsTrue, List, [], ◌∷◌, ◌++◌, ◌↔◌, ◌⊎◌, length, get_or, map, refl, sym, ap, ◌∙◌, subst, inl, inr, ⊎_elim, arith, length-append, true≢false, ◌||◌, Some, None, Option, slice_get, take, remove, append-nil}
-use Rattle.std.proofs.lemmas.List.{take_more, map-append}
-use Rattle.std.proofs.lemmas.Bool.{both_ways, cases_lt, or_cases, or_left, or_right}
-use Rattle.std.proofs.lemmas.Option.{slice_get_past, slice_get_read, slice_get-get_or}
+use Rattle.std.proofs.Common.{◌≡◌, ℕ, ◌+◌, ◌-◌, ◌<◌, ◌≤◌, Bool, true, false, not, ◌&&◌, IsTrue, List, [], ◌∷◌, ◌++◌, ◌↔◌, ◌⊎◌, length, get_or, map, refl, sym, ap, ◌∙◌, subst, inl, inr, ⊎_elim, arith, length-append, true≢false, ◌||◌, Some, None, Option, slice_get, take, reverse, nat_le, append-nil}
+use Rattle.std.proofs.lemmas.List.{take_all, take_more, map-append, reverse-append, reverse-reverse}
+use Rattle.std.proofs.lemmas.Bool.{both_ways, cases_lt, le-leb, leb-true, or_cases, or_left, or_right}
+use Rattle.std.proofs.lemmas.Option.{slice_get_past, slice_get_read, slice_get_within, slice_get-get_or, get_or_from_slice_get}
+use Rattle.std.specs.List.Sorted.{IsNonDecreasingBy, IsPartitionPoint}
+use Rattle.std.proofs.Math.Seq.{take-append_seam}
 use Rattle.leaf_rows.specs.declared.leaf_set.LeafSet.{LeafSet}
 use Rattle.leaf_rows.specs.Leaves.{has_leaf}
 use Rattle.flow_model.specs.Lists.{◌∈◌, Each, AreDistinct, StandsBefore, joined}
-use Rattle.flow_model.proofs.Lists.{each_member, only_one, distinct-append, before_across, before_left, each_from_members, mem_append_left, mem_append_right, mem-append, at_most}
+use Rattle.flow_model.proofs.Lists.{each_member, only_one, distinct-append, before_across, before_left, each_from_members, mem_append_left, mem_append_right, mem-append, at_most, last_none}
 use Rattle.flow_model.specs.Decided.{decide_in}
-use Rattle.flow_model.proofs.MadeLists.{some_same, joined-append}
+use Rattle.flow_model.proofs.MadeLists.{joined-append}
 use Rattle.flow_plan.proofs.PlaceLemmas.{read_member}
 use Rattle.flow_sample.specs.declared.item.Item.{Item}
-use Rattle.flow_sample.specs.Rows.{has_inside, has_waits, run_in, runs, IsIn, WaitsFor, IsEdge, AreApart}
+use Rattle.flow_sample.specs.Rows.{has_inside, has_waits, least_at, least_in, run_in, runs, IsIn, WaitsFor, IsEdge, AreApart}
 use Rattle.flow_sample.specs.Arranged.{IsArranged, IsWholeOrder, IsCycle, LeadsOn, TakesIn}
 use Rattle.flow_sample.proofs.RingLemmas.{IsTrail, trail_end}
 
@@ -151,27 +153,108 @@ begun_path items order path start e there fresh = subst (IsPath items order) (sy
   trail = tt;
 })
 
--- the top of a path
+-- The top of a path, which is kept with its top last: what is said above is of the list turned round.
 
-pub no_top : (path seen : List ℕ) (o p : Option ℕ) → seen ≡ path → o ≡ slice_get seen 0 → p ≡ o → p ≡ None → path ≡ []
-no_top path seen o p e f g h = at path (sym (ap (λ (z : List ℕ). slice_get z 0) e) ∙ sym f ∙ sym g ∙ h)
-  where
-    at : (list : List ℕ) → slice_get list 0 ≡ None → list ≡ []
-    at [] k = refl
-    at (x ∷ more) k = absurd (cc)
+pub no_top : (path seen : List ℕ) (o p : Option ℕ) → seen ≡ path → o ≡ slice_get seen (length seen - 1) → p ≡ o → p ≡ None → reverse path ≡ []
+no_top path seen o p e f g h =
+    ap reverse (last_none path (sym (ap (λ (z : List ℕ). slice_get z (length z - 1)) e) ∙ sym f ∙ sym g ∙ h))
 
-pub top_there : (path : List ℕ) (n top : ℕ) (more : List ℕ) → path ≡ top ∷ more → n ≡ length path → 0 < n
-top_there path n top more e f = omega (arith, f, ap length e)
+abbrev front : List ℕ → List ℕ
+front path = take (length path - 1) path
 
-pub top_of : (path seen : List ℕ) (top : ℕ) (o p : Option ℕ) → seen ≡ path → o ≡ slice_get seen 0 → p ≡ o → p ≡ Some top → (more : List ℕ) × (path ≡ top ∷ more)
-top_of path seen top o p e f g h = at path (sym (ap (λ (z : List ℕ). slice_get z 0) e) ∙ sym f ∙ sym g ∙ h)
-  where
-    at : (list : List ℕ) → slice_get list 0 ≡ Some top → (more : List ℕ) × (list ≡ top ∷ more)
-    at [] k = absurd (cc)
-    at (x ∷ more) k = (more, ap (λ z. z ∷ more) (some_same x top k))
+pub top_of : (path seen : List ℕ) (top : ℕ) (o p : Option ℕ) → seen ≡ path → o ≡ slice_get seen (length seen - 1) → p ≡ o → p ≡ Some top → (more : List ℕ) × (reverse path ≡ top ∷ more)
+top_of path seen top o p e f g h =
+    let last : slice_get path (length path - 1) ≡ Some top = sym (ap (λ (z : List ℕ). slice_get z (length z - 1)) e) ∙ sym f ∙ sym g ∙ h in
+    let within = slice_get_within path (length path - 1) top last in
+    let whole : path ≡ front path ++ top ∷ [] =
+    sym (take_all (length path - 1 + 1) path (omega (arith, within))) ∙ take_more path (length path - 1) 0 within
+    ∙ ap (λ y. front path ++ y ∷ []) (get_or_from_slice_get path (length path - 1) top 0 last) in
+    (reverse (front path), ap reverse whole ∙ reverse-append (front path) (top ∷ []))
 
-pub rest_of : (path new : List ℕ) (top : ℕ) (more : List ℕ) → path ≡ top ∷ more → new ≡ remove path 0 → new ≡ more
-rest_of path new top more e f = f ∙ ap (λ (z : List ℕ). remove z 0) e
+pub rest_of : (path new : List ℕ) (top n : ℕ) (more : List ℕ) → reverse path ≡ top ∷ more → n ≡ length path → new ≡ take (n - 1) path → reverse new ≡ more
+rest_of path new top n more e long f =
+    let turned : path ≡ reverse more ++ top ∷ [] = sym (reverse-reverse path) ∙ ap reverse e ∙ reverse-append (top ∷ []) more in
+    let here : n - 1 ≡ length (reverse more) = omega (arith, long, ap length turned, length-append (reverse more) (top ∷ [])) in
+    ap reverse (f ∙ ap (λ k. take k path) here ∙ ap (take (length (reverse more))) turned ∙ take-append_seam (reverse more) (top ∷ [])) ∙ reverse-reverse more
+
+-- the leaves of the items on a path
+
+abbrev pub AreLeavesOn : List Item → LeafSet 16 → List ℕ → Type 0
+AreLeavesOn items set path = (x : ℕ) → IsTrue (has_leaf set x) ↔ ((n : ℕ) × (n ∈ path) × IsIn items n x)
+
+pub leaves_of_one : (items : List Item) (set : LeafSet 16) (start : ℕ) (path : List ℕ) → path ≡ start ∷ [] → ((x : ℕ) → has_inside (slice_get items start) x ≡ has_leaf set x) → AreLeavesOn items set path
+leaves_of_one items set start path e same x = (
+  λ h. (start, subst (λ z. start ∈ z) (sym e) (inl refl), same x ∙ h),
+  λ (n, m, i). sym (same x) ∙ subst (λ z. IsIn items z x) (only_one n start (subst (λ z. n ∈ z) e m)) i,
+)
+
+pub leaves_more : (items : List Item) (old new : LeafSet 16) (next : ℕ) (path longer : List ℕ) → longer ≡ next ∷ path →
+    ((x : ℕ) → has_leaf new x ≡ (has_leaf old x || has_inside (slice_get items next) x)) → AreLeavesOn items old path → AreLeavesOn items new longer
+leaves_more items old new next path longer e add are x = (
+  λ h. ⊎_elim (λ o. let r = (are x).0 o in (r.0, subst (λ z. r.0 ∈ z) (sym e) (inr r.1), r.2)) (λ i. (next, subst (λ z. next ∈ z) (sym e) (inl refl), i))
+      (or_cases (has_leaf old x) (has_inside (slice_get items next) x) (sym (add x) ∙ h)),
+  λ (n, m, i). add x ∙ ⊎_elim
+      (λ s. or_right (has_leaf old x) (has_inside (slice_get items next) x) (subst (λ z. IsIn items z x) s i))
+      (λ k. or_left (has_leaf old x) (has_inside (slice_get items next) x) ((are x).1 (n, k, i)))
+      (subst (λ z. n ∈ z) e m),
+)
+
+module _ (items : List Item) (w : AreApart items) (set : LeafSet 16) (path : List ℕ) (are : AreLeavesOn items set path) where
+  pub leaves_less : (new : LeafSet 16) (top : ℕ) (more : List ℕ) → path ≡ top ∷ more → AreDistinct path →
+      ((x : ℕ) → has_leaf new x ≡ (not (has_inside (slice_get items top) x) && has_leaf set x)) → AreLeavesOn items new more
+  leaves_less new top more e d cleared x =
+      let both = not_and (has_inside (slice_get items top) x) (has_leaf set x) in (
+        λ h. let r = both.0 (sym (cleared x) ∙ h) in
+            let (n, m, i) = (are x).0 r.1 in
+            ⊎_elim (λ s. absurd (r.0 (subst (λ z. IsIn items z x) s i))) (λ k. (n, k, i)) (subst (λ z. n ∈ z) e m),
+        λ (n, m, i). cleared x ∙ both.1 (
+          (λ t. (subst AreDistinct e d).0 (subst (λ z. z ∈ more) (w.apart n top x i t) m)),
+          (are x).1 (n, subst (λ z. n ∈ z) (sym e) (inr m), i),
+        ),
+      )
+
+  -- an item with a leaf in the set is on the path, and no other
+  pub came_back : (n x : ℕ) → IsIn items n x → IsTrue (has_leaf set x) → n ∈ path
+  came_back n x i h = let (m, there, j) = (are x).0 h in subst (λ z. z ∈ path) (w.apart m n x j i) there
+
+  pub goes_on : (n : ℕ) → n < length items → ((x : ℕ) → IsIn items n x → ¬ (IsTrue (has_leaf set x))) → ¬ (n ∈ path)
+  goes_on n l none m = let x = w.some n l in none x.0 x.1 ((are x.0).1 (n, m, x.1))
+
+-- the item of a leaf is the last one whose least leaf is not above it
+
+some_item : (items : List Item) → 0 < length items → Item
+some_item [] l = absurd (omega arith)
+some_item (item ∷ items) l = item
+
+module _ (items : List Item) (w : AreApart items) where
+  told_least : (n : ℕ) (d : Item) → n < length items → least_at items n ≡ (get_or items n d).least
+  told_least n d l = ap least_in (slice_get-get_or items n d l)
+
+  pub leasts_rise : IsNonDecreasingBy (λ (item : Item). item.least) items
+  leasts_rise i j d order within = ⊎_elim
+      (λ less. omega (
+        arith,
+        w.rising i j (least_at items i) (least_at items j) less (w.least i (omega (arith, less, within))) (w.least j within),
+        told_least i d (omega (arith, less, within)),
+        told_least j d within,
+      ))
+      (λ past. let same : i ≡ j = omega (arith, order, past) in omega (arith, ap (λ k. (get_or items k d).least) same))
+      (cases_lt i j)
+
+  pub item_found : (leaf n point : ℕ) → IsIn items n leaf → point ≤ length items →
+      IsPartitionPoint (λ (item : Item). nat_le item.least leaf ≡ true) (λ (item : Item). nat_le item.least leaf ≡ false) items point → n + 1 ≡ point
+  item_found leaf n point i bound p =
+      let l = is_within items n leaf i in
+      let d = some_item items (omega (arith, l)) in
+      ⊎_elim
+      (λ before. ⊎_elim
+      (λ more. let low = leb-true (get_or items (n + 1) d).least leaf (p.0 (n + 1) d (omega arith) more) in
+      let inside : n + 1 < length items = omega (arith, more, bound) in
+      absurd (omega (arith, low, told_least (n + 1) d inside, w.rising n (n + 1) leaf (least_at items (n + 1)) (omega arith) i (w.least (n + 1) inside))))
+      (λ last. omega (arith, before, last))
+      (cases_lt (n + 1) point))
+      (λ past. absurd (true≢false (sym (le-leb (get_or items n d).least leaf (omega (arith, w.none_less n leaf i, told_least n d l))) ∙ p.1 n d past l)))
+      (cases_lt n point)
 
 -- what is held goes on
 

@@ -16,6 +16,7 @@ use Rattle.flow_sample.specs.Items.{IsLinedUp, IsItemOf, AreItemsOf, AddsItems}
 use Rattle.flow_sample.specs.ItemMarks.{CanClose}
 use Rattle.flow_sample.proofs.ItemLemmas.{same_length, are_apart, tells_circle}
 use Rattle.flow_sample.proofs.LaidLemmas.{part_item}
+use Rattle.flow_sample.proofs.RisingLemmas.{Rises}
 
 item_of_some : (l : List ℕ) (x : ℕ) → x ∈ l → item_of l ≡ l ∷ []
 item_of_some [] x m = absurd m
@@ -79,7 +80,7 @@ module _ (q : Process) (pairs : List (ℕ × ℕ)) where
 
   -- and one with leaves
 
-  module _ (o : IsOrdered q pairs) (body : Process) (inner : List Item) (is_part : body ∈ isolated_parts q) (s : AddsItems q pairs body [] inner) where
+  module _ (o : IsOrdered q pairs) (rising : Rises (leaves q)) (body : Process) (inner : List Item) (is_part : body ∈ isolated_parts q) (s : AddsItems q pairs body [] inner) where
     are : AreItemsOf q pairs (items_of body) inner
     are = subst (AreItemsOf q pairs (items_of body)) (sym s.is) s.items
 
@@ -98,4 +99,4 @@ module _ (q : Process) (pairs : List (ℕ × ℕ)) where
     }
       where
         apart : AreApart inner
-        apart = are_apart q pairs o body (inr is_part) inner are
+        apart = are_apart q pairs o body (inr is_part) inner are rising

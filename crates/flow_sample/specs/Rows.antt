@@ -1,5 +1,5 @@
 -- Items by their rows: what is inside, and what they wait for.
-use Rattle.std.specs.Prelude.{◌≡◌, ◌<◌, ℕ, Bool, false, IsTrue, List, [], ◌↔◌, Option, Some, None, length, map, slice_get}
+use Rattle.std.specs.Prelude.{◌≡◌, ◌<◌, ◌≤◌, ℕ, Bool, false, IsTrue, List, [], ◌↔◌, Option, Some, None, length, map, slice_get}
 use Rattle.leaf_rows.specs.Leaves.{has_leaf}
 use Rattle.flow_model.specs.Lists.{joined}
 use Rattle.flow_sample.specs.declared.item.Item.{Item}
@@ -42,11 +42,14 @@ runs items order = joined (map (λ n. run_in (slice_get items n)) order)
 abbrev pub HasSome : List Item → Type 0
 HasSome items = (n x : ℕ) × IsIn items n x
 
--- each has a leaf, no two have one in common, and none waits for its own
+-- each has a leaf, which are all less than those of the items behind it, and none waits for its own
 pub record AreApart (items : List Item) : Type 0 where
   pub some : (n : ℕ) → n < length items → (x : ℕ) × IsIn items n x
   pub apart : (m n x : ℕ) → IsIn items m x → IsIn items n x → m ≡ n
   pub others : (n x : ℕ) → WaitsFor items n x → ¬ (IsIn items n x)
+  pub rising : (m n x y : ℕ) → m < n → IsIn items m x → IsIn items n y → x < y
+  pub least : (n : ℕ) → n < length items → IsIn items n (least_at items n)
+  pub none_less : (n x : ℕ) → IsIn items n x → least_at items n ≤ x
 
 -- the items as one, with that run
 pub record IsOneOf (items : List Item) (run : List ℕ) (item : Item) : Type 0 where

@@ -1,5 +1,4 @@
-ghost use Rattle.std.specs.Prelude.{◌≡◌, ◌<◌, ◌&&◌, ℕ, IsTrue, IfOk, IfErr, MatchOption, MatchResult, length, not, slice_get, slice_index};
-ghost use Rattle.flow_model.specs.declared.limits.TheConstants.{MOST_LEAVES};
+ghost use Rattle.std.specs.Prelude.{◌≡◌, ◌<◌, ◌&&◌, ◌||◌, ℕ, IsTrue, IfOk, IfErr, MatchOption, MatchResult, length, not, slice_get, slice_index};
 ghost use Rattle.flow_model.specs.Lists.{◌∈◌, Each};
 ghost use Rattle.leaf_rows.specs.Leaves.{has_leaf};
 ghost use Rattle.flow_sample.specs.Rows.{AreApart, IsIn, WaitsFor, has_inside, runs};
@@ -11,22 +10,18 @@ use crate::sample::ExciseRefusal;
 use leaf_rows::LeafSet;
 use std::alloc::{AllocError, Global};
 
-/// The item that the leaf is in.
+/// The item that the leaf is in. Leaves rise from item to item, so it is the last whose least leaf is not above this one.
 fn item_with(items: &[Item], leaf: u32) -> usize
-    requires small { leaf < MOST_LEAVES }
+    requires apart { AreApart items.now }
     requires some { (n : ℕ) × IsIn items.now n leaf }
     ensures { IsIn items.now result leaf }
 {
-    for (number, item) in items.iter().enumerate() {
-        if item.inside.has(leaf) {
-            return number;
-        }
-    }
-    unreachable!()
+    items.partition_point(|item| item.least <= leaf) - 1
 }
 
 /// An item that the one of that number waits for, and that is left.
 fn blocker(items: &[Item], left: &LeafSet<16>, number: usize) -> Option<usize>
+    requires apart { AreApart items.now }
     requires there { number < length items.now }
     requires within { (x : ℕ) → IsTrue (has_leaf left.now x) → (n : ℕ) × IsIn items.now n x }
     ensures { MatchOption result
@@ -39,25 +34,34 @@ fn blocker(items: &[Item], left: &LeafSet<16>, number: usize) -> Option<usize>
     }
 }
 
-/// Takes the leaves of an item out of those that are left.
-fn take_out(items: &[Item], number: usize, left: &mut LeafSet<16>)
+/// Takes the leaves of an item out.
+fn take_out(items: &[Item], number: usize, set: &mut LeafSet<16>)
     requires { number < length items.now }
-    ensures { (x : ℕ) → has_leaf left.new x ≡ (not (has_inside (slice_get items.now number) x) && has_leaf left.old x) }
+    ensures { (x : ℕ) → has_leaf set.new x ≡ (not (has_inside (slice_get items.now number) x) && has_leaf set.old x) }
 {
-    left.remove_all(&items[number].inside);
+    set.remove_all(&items[number].inside);
+}
+
+/// Puts the leaves of an item in.
+fn put_in(items: &[Item], number: usize, set: &mut LeafSet<16>)
+    requires { number < length items.now }
+    ensures { (x : ℕ) → has_leaf set.new x ≡ (has_leaf set.old x || has_inside (slice_get items.now number) x) }
+{
+    set.union_with(&items[number].inside);
 }
 
 /// The first place of a number in a path.
-fn place_in_path(path: &[usize], number: usize) -> Option<usize>
-    ensures { MatchOption result (¬ (number ∈ path.now))
-        (λ place. (place < length path.now) × (slice_index path.now place ≡ number)) }
+fn place_in_path(path: &[usize], number: usize) -> usize
+    requires { number ∈ path.now }
+    ensures within { result < length path.now }
+    ensures there { slice_index path.now result ≡ number }
 {
     for (place, seen) in path.iter().enumerate() {
         if *seen == number {
-            return Some(place);
+            return place;
         }
     }
-    None
+    unreachable!()
 }
 
 /// The items of a ring as a refusal.
@@ -72,7 +76,8 @@ fn refusal_of(alloc: Global, items: &[Item], ring: &[usize]) -> ExciseRefusal
 }
 
 /// Puts the item behind the order, and before it those that it waits for, as far as they are left. If
-/// they wait for each other, a circle of them is the refusal.
+/// they wait for each other, a circle of them is the refusal. The path goes from the item to one that it
+/// waits for, and on; the leaves on it are a set, so that only a ring that is found is looked for in it.
 fn put_in_order(
     alloc: Global,
     items: &[Item],
@@ -89,17 +94,24 @@ fn put_in_order(
         (TellsRing items.now) }
 {
     let mut path = Vec::from_slice(alloc, &[start])?;
-    while let Some(top) = path.first().copied() {
+    let mut on_path = items[start].inside;
+    while let Some(top) = path.last().copied() {
         match blocker(items, left, top) {
             None => {
                 take_out(items, top, left);
+                take_out(items, top, &mut on_path);
                 order.push(top)?;
-                path.remove(0);
+                path.pop();
             }
-            Some(next) => match place_in_path(&path, next) {
-                Some(place) => return Err(refusal_of(alloc, items, &path[..place + 1])),
-                None => path.insert(0, next)?,
-            },
+            Some(next) => {
+                if items[next].inside.meets(&on_path) {
+                    path.reverse();
+                    let place = place_in_path(&path, next);
+                    return Err(refusal_of(alloc, items, &path[..place + 1]));
+                }
+                put_in(items, next, &mut on_path);
+                path.push(next)?;
+            }
         }
     }
     Ok(())

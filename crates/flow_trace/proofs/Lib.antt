@@ -1,2 +1,2 @@
-pub mod LiveLemmas
+pub mod FrontLemmas
 pub mod TraceLemmas

@@ -1,5 +1,5 @@
 -- What is told of a list of leaves, by the options that it follows and by the labels that hold.
-use Rattle.std.proofs.Common.{◌≡◌, ◌<◌, ◌≤◌, ◌+◌, ℕ, zero, suc, ◌↔◌, le_antisymm, List, [], ◌∷◌, ◌++◌, length, take, drop, get_or, slice_get, IsTrue, Bool, true, false, refl, sym, ap, ◌∙◌, subst, arith, length-append, inl, inr}
+use Rattle.std.proofs.Common.{◌≡◌, ◌<◌, ◌≤◌, ◌+◌, ℕ, zero, suc, ◌↔◌, le_antisymm, List, [], ◌∷◌, ◌++◌, length, take, drop, get_or, slice_get, IsTrue, Bool, true, false, refl, sym, ap, ◌∙◌, subst, arith, length-append, min, inl, inr, ⊎_elim}
 use Rattle.std.proofs.lemmas.Bool.{cases_lt}
 use Rattle.std.proofs.lemmas.List.{take_all, take_more, take-append-drop, length-take-le}
 use Rattle.std.proofs.lemmas.List.Elements.{filter_map-append}
@@ -11,7 +11,7 @@ use Rattle.flow_model.specs.Resolution.{ChoiceOption, options}
 use Rattle.flow_model.specs.Run.{RunState, first_state}
 use Rattle.flow_model.specs.Verdict.{IsPossible}
 use Rattle.flow_laws.specs.WellFormed.{IsWellFormed, IsConsistent}
-use Rattle.flow_model.proofs.Lists.{mem_append_left, mem_append_right, each_member, each_from_members, at_most}
+use Rattle.flow_model.proofs.Lists.{mem_append_left, mem_append_right, each_member, each_from_members, each-append, at_most}
 use Rattle.flow_model.proofs.MadeLists.{numbers_from_below, begins_front}
 use Rattle.flow_laws.proofs.SoundStates.{runs-append, runs_front}
 use Rattle.flow_laws.proofs.TraceLeaves.{leaf_of_trace, distinct_trace}
@@ -29,8 +29,8 @@ use Rattle.flow_residual.specs.Remaining.{Remaining, IsOf}
 use Rattle.flow_residual.proofs.QuestionLemmas.{has_kept, is_good}
 use Rattle.flow_trace.specs.declared.checked.Checked.{Checked}
 use Rattle.flow_trace.specs.declared.checked.Checked.TheVariants.{Execution, Prefix, Bad}
-use Rattle.flow_trace.specs.Live.{Follows, Finishes}
-use Rattle.flow_trace.specs.Traces.{TellsOfTrace, course_at}
+use Rattle.flow_trace.specs.Fronts.{Follows, Finishes, AreReaching}
+use Rattle.flow_trace.specs.Traces.{TellsOfTrace, course_at, HoldsUpTo, HaveHeld}
 
 -- the list begins some good trace
 abbrev pub BeginsGood : Schema → List ℕ → Type 0
@@ -95,16 +95,12 @@ runs_back : (labels : List Label) (s : State) (a b : List ℕ) → Runs labels s
 runs_back labels s [] b h = h
 runs_back labels s (n ∷ a) b (h, t) = runs_back labels (after_leaf labels s n) a b t
 
-pub possible_more : (w : Schema) (list : List ℕ) (leaf : ℕ) → IsPossible w list → BeginsGood w (list ++ leaf ∷ []) →
-    HoldsAt w.labels (replay w.labels (start_of w) list) leaf → IsPossible w (list ++ leaf ∷ [])
-possible_more w list leaf possible begun holds = (begun, runs-append w.labels (start_of w) list (leaf ∷ []) possible.1 (holds, tt))
-
 pub holds_next : (w : Schema) (list : List ℕ) (leaf : ℕ) → IsPossible w (list ++ leaf ∷ []) → HoldsAt w.labels (replay w.labels (start_of w) list) leaf
 holds_next w list leaf possible = (runs_back w.labels (start_of w) list (leaf ∷ []) possible.1).0
 
 -- ---- nothing else could be told
 
-take_longer : (list : List ℕ) (k m : ℕ) → k ≤ m → (rest : List ℕ) × (take m list ≡ take k list ++ rest)
+pub take_longer : (list : List ℕ) (k m : ℕ) → k ≤ m → (rest : List ℕ) × (take m list ≡ take k list ++ rest)
 take_longer list zero m h = (take m list, refl)
 take_longer [] (suc k) m h = ([], take_all m [] (let none : length {A = ℕ} [] ≤ m = omega arith in none))
 take_longer (x ∷ list) (suc k) zero h = absurd (omega arith)
@@ -130,71 +126,69 @@ tells_once w list (Bad n) Execution h k = absurd (h.1 (whole w list (n + 1) k.0)
 tells_once w list (Bad n) Prefix h k = absurd (h.1 (whole w list (n + 1) k.0))
 tells_once w list (Bad n) (Bad m) h k = let same : n ≡ m = le_antisymm (bad_once w list n m h k) (bad_once w list m n k h) in ap (λ i. Bad i) same
 
--- ---- one leaf of a longer list
+-- ---- what is told by how long the labels hold, and how long some option is followed
 
--- so many leaves and the next one
-abbrev pub with_next : List ℕ → ℕ → List ℕ
-with_next leaves i = take i leaves ++ get_or leaves i 0 ∷ []
+front_of_front : (k m : ℕ) (list : List ℕ) → k ≤ m → take k (take m list) ≡ take k list
+front_of_front zero m list h = refl
+front_of_front (suc k) zero list h = absurd (omega arith)
+front_of_front (suc k) (suc m) [] h = refl
+front_of_front (suc k) (suc m) (x ∷ list) h = ap (λ (l : List ℕ). x ∷ l) (front_of_front k m list (omega arith))
 
-module _ (w : Schema) (f : IsWellFormed w) (os : List ChoiceOption) (are : AreJustThose HasExecution (options w) os)
-    (leaves : List ℕ) (i : ℕ) (within : i < length leaves) (possible : IsPossible w (take i leaves)) where
-  abbrev leaf : ℕ
-  leaf = get_or leaves i 0
+module _ (d : Definition) (f : IsWellFormed (schema_of d)) (consistent : IsConsistent (schema_of d))
+    (os : List ChoiceOption) (are : AreJustThose HasExecution (options (schema_of d)) os)
+    (leaves : List ℕ) (held : ℕ) (holds : HoldsUpTo d leaves held) (k : ℕ) (reaching : AreReaching (take held leaves) os k) where
+  abbrev w : Schema
+  w = schema_of d
 
-  abbrev more : List ℕ
-  more = with_next leaves i
+  few : k ≤ held
+  few = omega (arith, reaching.within, length-take-le held leaves holds.within)
 
-  pub more_is : take (i + 1) leaves ≡ more
-  more_is = take_more leaves i 0 within
+  begun : BeginsGood w (take k leaves)
+  begun = ⊎_elim (λ none. subst (λ n. BeginsGood w (take n leaves)) (sym none) (possible_none w consistent).0)
+      (λ some. (followed w f os are (take k leaves)).0 (subst (λ (l : List ℕ). SomeOption (Follows l) os) (front_of_front k held leaves few) some)) reaching.follows
 
-  as_long : length (take i leaves) ≡ i
-  as_long = length-take-le i leaves (omega arith)
+  possible : IsPossible w (take k leaves)
+  possible =
+      let (rest, is) = take_longer leaves k held few in
+      (begun, runs_front w.labels (start_of w) (take k leaves) rest (subst (Runs w.labels (start_of w)) is holds.runs))
 
-  pub place_few : i ≤ length w.labels
-  place_few = let few = begun_few w f (take i leaves) possible.0 in omega (arith, few, as_long)
+  pub reached_few : k ≤ length d.tree.labels
+  reached_few =
+      let most = begun_few w f (take k leaves) begun in
+      omega (arith, most, length-take-le k leaves (omega (arith, few, holds.within)))
 
-  pub place_less : BeginsGood w more → i < length w.labels
-  place_less begun =
-      let few = begun_few w f more begun in
-      let long : length more ≡ length (take i leaves) + 1 = length-append (take i leaves) (leaf ∷ []) in
-      omega (arith, few, as_long)
-
-  pub leaf_within : BeginsGood w more → leaf < length w.labels
-  leaf_within begun =
-      each_member (λ n. n < length w.labels) more (begun_within w f more begun) leaf (mem_append_right leaf (take i leaves) (leaf ∷ []) (inl refl))
-
-  -- no option is followed any more
-  pub bad_order : (b : Bool) → (IsTrue b ↔ SomeOption (Follows more) os) → b ≡ false → ¬ (IsPossible w (take (i + 1) leaves))
-  bad_order b says none longer = let told = says.1 ((followed w f os are more).1 (subst (BeginsGood w) more_is longer.0)) in cc
-
-  pub begun_more : (b : Bool) → (IsTrue b ↔ SomeOption (Follows more) os) → b ≡ true → BeginsGood w more
-  begun_more b says some = (followed w f os are more).0 (says.0 some)
-
-  -- the label does not hold
-  pub bad_state : (b : Bool) → (IsTrue b ↔ HoldsAt w.labels (replay w.labels (start_of w) (take i leaves)) leaf) → b ≡ false → ¬ (IsPossible w (take (i + 1) leaves))
-  bad_state b says none longer = let told = says.1 (holds_next w (take i leaves) leaf (subst (IsPossible w) more_is longer)) in cc
-
-  pub good_state : (b : Bool) → (IsTrue b ↔ HoldsAt w.labels (replay w.labels (start_of w) (take i leaves)) leaf) → b ≡ true → BeginsGood w more →
-      IsPossible w (take (i + 1) leaves)
-  good_state b says holds begun = subst (IsPossible w) (sym more_is) (possible_more w (take i leaves) leaf possible begun (says.0 holds))
-
--- the whole list
-module _ (w : Schema) (f : IsWellFormed w) (os : List ChoiceOption) (are : AreJustThose HasExecution (options w) os)
-    (leaves : List ℕ) (i : ℕ) (past : length leaves ≤ i) (possible : IsPossible w (take i leaves)) where
-  all_is : take i leaves ≡ leaves
-  all_is = take_all i leaves past
-
-  says_of : (b : Bool) → (IsTrue b ↔ SomeOption (Finishes (take i leaves)) os) → IsTrue b ↔ IsGood w leaves
-  says_of b says = (
-    λ yes. subst (IsGood w) all_is ((finished w f os are (take i leaves)).0 (says.0 yes)),
-    λ good. says.1 ((finished w f os are (take i leaves)).1 (subst (IsGood w) (sym all_is) good)),
+  pub told_bad : k < length leaves → TellsOfTrace w leaves (Bad k)
+  told_bad less = (
+    possible,
+    λ longer. elim (cases_lt k held) [
+      | inl below ↦ reaching.no_longer (omega (arith, below, length-take-le held leaves holds.within))
+          ((followed w f os are (take (k + 1) (take held leaves))).1
+          (subst (BeginsGood w) (sym (front_of_front (k + 1) held leaves (omega (arith, below)))) longer.0))
+      | inr most ↦
+          let same : k ≡ held = omega (arith, few, most) in
+          holds.no_longer (omega (arith, less, same)) (subst (λ n. IsPossible w (take (n + 1) leaves)) same longer)
+    ],
   )
 
-  pub told_execution : (b : Bool) → (IsTrue b ↔ SomeOption (Finishes (take i leaves)) os) → b ≡ true → TellsOfTrace w leaves Execution
-  told_execution b says whole = (subst (IsPossible w) all_is possible, (says_of b says).0 whole)
+  -- all leaves are reached
+  module _ (past : length leaves ≤ k) (b : Bool) (says : IsTrue b ↔ SomeOption (Finishes (take held leaves)) os) where
+    all_possible : IsPossible w leaves
+    all_possible = subst (IsPossible w) (take_all k leaves past) possible
 
-  pub told_prefix : (b : Bool) → (IsTrue b ↔ SomeOption (Finishes (take i leaves)) os) → b ≡ false → TellsOfTrace w leaves Prefix
-  told_prefix b says part = (subst (IsPossible w) all_is possible, λ good. let yes = (says_of b says).1 good in cc)
+    front_is : take held leaves ≡ leaves
+    front_is = take_all held leaves (omega (arith, past, few))
+
+    good : IsTrue b ↔ IsGood w leaves
+    good = (
+      λ yes. subst (IsGood w) front_is ((finished w f os are (take held leaves)).0 (says.0 yes)),
+      λ is. says.1 ((finished w f os are (take held leaves)).1 (subst (IsGood w) (sym front_is) is)),
+    )
+
+    pub told_execution : b ≡ true → TellsOfTrace w leaves Execution
+    told_execution whole = (all_possible, good.0 whole)
+
+    pub told_prefix : b ≡ false → TellsOfTrace w leaves Prefix
+    told_prefix part = (all_possible, λ is. let yes = good.1 is in cc)
 
 -- ---- the state after the leaves
 
@@ -222,3 +216,63 @@ course_more d list longer leaf v u is more new =
   where
     joined : labels_at d.tree.labels list ++ labels_at d.tree.labels (leaf ∷ []) ≡ labels_at d.tree.labels longer
     joined = sym (filter_map-append (slice_get d.tree.labels) list (leaf ∷ [])) ∙ ap (labels_at d.tree.labels) (sym more)
+
+-- ---- labels that hold in turn
+
+module _ (d : Definition) (f : IsWellFormed (schema_of d)) (leaves : List ℕ) (i : ℕ) (within : i < length leaves) (world : Course) (have : HaveHeld d (take i leaves) world) where
+  abbrev labels : List Label
+  labels = d.tree.labels
+
+  abbrev start : State
+  start = start_of (schema_of d)
+
+  abbrev leaf : ℕ
+  leaf = get_or leaves i 0
+
+  more_is : take (i + 1) leaves ≡ take i leaves ++ leaf ∷ []
+  more_is = take_more leaves i 0 within
+
+  as_long : length (take i leaves) ≡ i
+  as_long = length-take-le i leaves (omega arith)
+
+  pub has_room : i < length labels → length world.labels < world.room
+  has_room less = course_room d (take i leaves) world have.world_is have.leaves_are (omega (arith, less, as_long))
+
+  pub held_more : (new : Course) → leaf < length labels → HoldsAt labels (state_of_world world) leaf →
+      new ≡ record world { labels = world.labels ++ labels_at labels (leaf ∷ []) } → HaveHeld d (take (i + 1) leaves) new
+  held_more new small holds is = record {
+    runs = subst (Runs labels start) (sym more_is)
+        (runs-append labels start (take i leaves) (leaf ∷ []) have.runs
+        (subst (λ (s : State). HoldsAt labels s leaf) (course_state d (take i leaves) world have.world_is) holds, tt));
+    leaves_are = subst (λ (l : List ℕ). Each (λ n. n < length labels) l) (sym more_is)
+        (each-append (λ n. n < length labels) (take i leaves) (leaf ∷ []) have.leaves_are (small, tt));
+    world_is = course_more d (take i leaves) (take (i + 1) leaves) leaf world new have.world_is more_is is;
+  }
+
+  -- it has no label, or one that does not hold
+  pub held_so_far : (b : Bool) → (IsTrue b ↔ (leaf < length labels × HoldsAt labels (state_of_world world) leaf)) → b ≡ false → HoldsUpTo d leaves i
+  held_so_far b says not = record {
+    within = omega (arith, within);
+    runs = have.runs;
+    no_longer = λ less longer.
+        let longer' : IsPossible (schema_of d) (take i leaves ++ leaf ∷ []) = subst (IsPossible (schema_of d)) more_is longer in
+        let small : leaf < length labels =
+        each_member (λ n. n < length labels) (take i leaves ++ leaf ∷ []) (begun_within (schema_of d) f (take i leaves ++ leaf ∷ []) longer'.0) leaf
+        (mem_append_right leaf (take i leaves) (leaf ∷ []) (inl refl)) in
+        let holds : HoldsAt labels (state_of_world world) leaf =
+        subst (λ (s : State). HoldsAt labels s leaf) (sym (course_state d (take i leaves) world have.world_is)) (holds_next (schema_of d) (take i leaves) leaf longer') in
+        let yes = says.1 (small, holds) in cc;
+  }
+
+-- no possible list has more leaves than the workflow
+pub all_held : (d : Definition) → IsWellFormed (schema_of d) → (leaves : List ℕ) (most i : ℕ) (world : Course) → most ≡ min (length leaves) (length d.tree.labels) → most ≤ i → i ≤ most →
+    HaveHeld d (take i leaves) world → HoldsUpTo d leaves most
+all_held d f leaves most i world is past within have =
+    let same : i ≡ most = omega (arith, past, within) in record {
+      within = omega (arith, is);
+      runs = subst (λ n. Runs d.tree.labels (start_of (schema_of d)) (take n leaves)) same have.runs;
+      no_longer = λ less longer.
+          let few = begun_few (schema_of d) f (take (most + 1) leaves) longer.0 in
+          let long = length-take-le (most + 1) leaves (omega (arith, less)) in
+          absurd (omega (arith, few, long, is, less));
+    }

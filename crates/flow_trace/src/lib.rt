@@ -2,8 +2,8 @@
 #![tactic(auto)]
 
 mod checked;
+mod follow;
 mod labels;
-mod live;
 mod trace;
 
 pub use checked::Checked;

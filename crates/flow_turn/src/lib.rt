@@ -5,6 +5,7 @@
 mod doors;
 mod kept;
 mod lock;
+mod numbers;
 mod pass;
 mod rule;
 mod turn;
@@ -12,4 +13,5 @@ mod view;
 
 pub use kept::{Job, Kept};
 pub use lock::{NewRefusal, TurnLock};
+pub use numbers::law_numbers_are_new;
 pub use pass::Pass;

@@ -3,3 +3,4 @@ pub mod Definition
 pub mod Numbers
 pub mod Rule
 pub mod Label
+pub mod NamedEvents

@@ -3,6 +3,7 @@
 #![tactic(auto)]
 
 mod label;
+mod named_events;
 mod numbered;
 mod refusal;
 mod rule;
@@ -11,6 +12,7 @@ mod table;
 mod workflow;
 
 pub use label::{push_fact_after, push_label, push_leaf_label};
+pub use named_events::events_of;
 pub use numbered::{Key, Numbered};
 pub use refusal::{ExpandRefusal, Part};
 pub use rule::Rule;

@@ -6,13 +6,16 @@ use Rattle.std.proofs.lemmas.Bool.{cases_Bool, cases_lt, cases_eq}
 use Rattle.std.proofs.lemmas.Grind.{common_steps}
 use Rattle.std.proofs.lemmas.List.Elements.{Contains-append_left, Contains-get_or, Contains-push, Contains-push_cases}
 use Rattle.leaf_rows.specs.declared.leaf_set.LeafSet.{LeafSet}
-use Rattle.leaf_rows.specs.Leaves.{has_leaf, members, passing_below}
+use Rattle.leaf_rows.specs.Leaves.{has_leaf, LiesIn, members, passing_below}
 use Rattle.leaf_rows.proofs.Rows.{has_bit-parts}
 
 -- a member is below 64 times the row's words
 pub has_leaf-within : {w : ℕ} (set : LeafSet w) (n : ℕ) → IsTrue (has_leaf set n) → n < 64 * w
 unfolding has_leaf
 has_leaf-within {w} set n has = (has_bit-parts w set.words n has).0
+
+pub lies_within : {w : ℕ} (set : LeafSet w) → LiesIn 0 w set
+lies_within set n has = (omega arith, has_leaf-within set n has)
 
 -- one number more, where it passes and where not
 passing_below-true : (test : ℕ → Bool) (n : ℕ) → test n ≡ true → passing_below test (suc n) ≡ passing_below test n ++ n ∷ []

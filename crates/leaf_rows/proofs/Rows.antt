@@ -3,9 +3,10 @@ use Rattle.std.proofs.Common.{◌≡◌, ◌≢◌, ℕ, ◌+◌, ◌-◌, ◌*�
 use Rattle.std.proofs.lemmas.Bool.{cases_eq, cases_lt, lt-ltb, le-ltb, ltb-true, eq-eqb, ne_eqb, eqb-true, and_from, and_parts, false_from_ne_true, or_left}
 use Rattle.std.proofs.lemmas.Nat.Bits.{bit_at_set_same, bit_at_set_other, bit_at_clear_same, bit_at_clear_other, bit_at_and, bit_at_or, bit_at_not, bit_at-lt, bit_at-zero, same_from_bits_below, bit_at-trailing_zeros, shr_and_one}
 use Rattle.std.proofs.lemmas.Bool.Decides.{nat_tests}
-use Rattle.std.proofs.lemmas.List.{get_or-replicate}
+use Rattle.std.proofs.lemmas.List.{get_or-replicate, get_or_past}
 use Rattle.std.proofs.lemmas.Nat.{and_le_l}
 use Rattle.std.specs.Int.{bit_at, bit_not, trailing_zeros}
+use Rattle.std.proofs.Math.Bool.{or-false}
 use Rattle.std.specs.Prelude.{◌↔◌, Option, Some, None, IsTrue, IfNone, IfSome, is_some}
 use Rattle.std.proofs.lemmas.Bool.{false≢true}
 use Rattle.leaf_rows.specs.Leaves.{has_bit}
@@ -231,16 +232,16 @@ least_common w words other i within fits not_zero =
 -- no bit before it is common
 pub none_common_before : (w : ℕ) (words other : List ℕ) (i : ℕ) → get_or words i 0 < 2 ^ 64
     → bit_and (get_or words i 0) (get_or other i 0) ≢ 0
-    → ((k : ℕ) → k < i → bit_and (get_or words k 0) (get_or other k 0) ≡ 0)
-    → (k : ℕ) → k < 64 * i + trailing_zeros w64 (bit_and (get_or words i 0) (get_or other i 0))
+    → (k : ℕ) → (k / 64 < i → bit_and (get_or words (k / 64) 0) (get_or other (k / 64) 0) ≡ 0)
+    → k < 64 * i + trailing_zeros w64 (bit_and (get_or words i 0) (get_or other i 0))
     → has_bit w words k ≡ true → has_bit w other k ≡ true → ⊥
-none_common_before w words other i fits not_zero apart k before here there =
+none_common_before w words other i fits not_zero k apart before here there =
     let mine = has_bit-parts w words k here in
     let yours = has_bit-parts w other k there in
     let both : ℕ → ℕ = λ word. bit_and (get_or words word 0) (get_or other word 0) in
     let least = bit_at-trailing_zeros w64 (both i) (omega arith) (omega (arith, and_le_l (get_or words i 0) (get_or other i 0), fits)) in
     let none : bit_at (both (k / 64)) (k % 64) ≡ 0 = ⊎_elim
-    (λ lower. ap (λ word. bit_at word (k % 64)) (apart (k / 64) lower) ∙ bit_at-zero (k % 64))
+    (λ lower. ap (λ word. bit_at word (k % 64)) (apart lower) ∙ bit_at-zero (k % 64))
     (λ at_i.
     let word_is : k / 64 ≡ i = omega (arith, least.0) in
     ap (λ word. bit_at (both word) (k % 64)) word_is ∙ least.2 (k % 64) (omega arith))
@@ -249,16 +250,15 @@ none_common_before w words other i fits not_zero apart k before here there =
     = sym (bit_at_and (get_or words (k / 64) 0) (get_or other (k / 64) 0) (k % 64)) ∙ none in
     omega (arith, mine.1, yours.1)
 
--- where no words have a common bit, no bit is common
-pub no_common_bit : (w : ℕ) (words other : List ℕ)
-    → ((k : ℕ) → k < w → bit_and (get_or words k 0) (get_or other k 0) ≡ 0)
-    → (k : ℕ) → has_bit w words k ≡ true → has_bit w other k ≡ true → ⊥
-no_common_bit w words other apart k here there =
+-- where two words have no common bit, no bit of theirs is common
+pub no_common_bit : (w : ℕ) (words other : List ℕ) (k : ℕ) → bit_and (get_or words (k / 64) 0) (get_or other (k / 64) 0) ≡ 0
+    → has_bit w words k ≡ true → has_bit w other k ≡ true → ⊥
+no_common_bit w words other k apart here there =
     let mine = has_bit-parts w words k here in
     let yours = has_bit-parts w other k there in
     let both : min (bit_of words k) (bit_of other k) ≡ 0
     = sym (bit_at_and (get_or words (k / 64) 0) (get_or other (k / 64) 0) (k % 64))
-    ∙ ap (λ word. bit_at word (k % 64)) (apart (k / 64) (omega (arith, mine.0))) ∙ bit_at-zero (k % 64) in
+    ∙ ap (λ word. bit_at word (k % 64)) apart ∙ bit_at-zero (k % 64) in
     omega (arith, mine.1, yours.1)
 
 -- a digit that implies another has nothing over it
@@ -288,10 +288,10 @@ no_bit_over w words other i within fits fits' part =
 -- one word more is part of the other row
 pub part_more : (words other : List ℕ) (i : ℕ) → get_or other i 0 < 2 ^ 64
     → bit_and (get_or words i 0) (bit_not w64 (get_or other i 0)) ≡ 0
-    → ((k : ℕ) → k < 64 * i → bit_of words k ≡ 1 → bit_of other k ≡ 1)
-    → (k : ℕ) → k < 64 * (i + 1) → bit_of words k ≡ 1 → bit_of other k ≡ 1
-part_more words other i fits none_over below k before one = ⊎_elim
-    (λ lower. below k lower one)
+    → (k : ℕ) → (k < 64 * i → bit_of words k ≡ 1 → bit_of other k ≡ 1)
+    → k < 64 * (i + 1) → bit_of words k ≡ 1 → bit_of other k ≡ 1
+part_more words other i fits none_over k below before one = ⊎_elim
+    (λ lower. below lower one)
     (λ at_i.
     let word_is : k / 64 ≡ i = omega arith in
     let j : ℕ = k % 64 in
@@ -304,21 +304,68 @@ part_more words other i fits none_over below k before one = ⊎_elim
     ap (λ word. bit_at (get_or other word 0) j) word_is ∙ omega arith)
     (cases_lt k (64 * i))
 
--- where each bit of one row is set in the other, the other has what the one has
-pub part_has : (w : ℕ) (words other : List ℕ)
-    → ((k : ℕ) → k < 64 * w → bit_of words k ≡ 1 → bit_of other k ≡ 1)
-    → (k : ℕ) → has_bit w words k ≡ true → has_bit w other k ≡ true
-part_has w words other part k has =
+-- where the bit of one row is set in the other too, the other has what the one has
+pub part_has : (w : ℕ) (words other : List ℕ) (k : ℕ) → (bit_of words k ≡ 1 → bit_of other k ≡ 1) → has_bit w words k ≡ true → has_bit w other k ≡ true
+part_has w words other k part has =
     let mine = has_bit-parts w words k has in
-    has_bit-one w other k mine.0 (part k mine.0 mine.1)
+    has_bit-one w other k mine.0 (part mine.1)
 
--- the same, where a loop has passed all words
-pub all_words_part : (w i : ℕ) (words other : List ℕ) → w ≤ i → ((k : ℕ) → k < 64 * i → bit_of words k ≡ 1 → bit_of other k ≡ 1)
-    → (k : ℕ) → has_bit w words k ≡ true → has_bit w other k ≡ true
-all_words_part w i words other done below = part_has w words other (λ k within one. below k (omega arith) one)
+-- words from one place to another are joined, and the others are as they were, where the other row has bits in those alone
+pub union_in_words : (w : ℕ) (words other both : List ℕ) (from to i n : ℕ) → to ≤ i
+    → ((k : ℕ) → from ≤ k → k < i → get_or both k 0 ≡ bit_or (get_or words k 0) (get_or other k 0))
+    → ((k : ℕ) → k < from → get_or both k 0 ≡ get_or words k 0) → ((k : ℕ) → i ≤ k → get_or both k 0 ≡ get_or words k 0)
+    → (has_bit w other n ≡ true → (64 * from ≤ n) × (n < 64 * to))
+    → has_bit w both n ≡ (has_bit w words n || has_bit w other n)
+union_in_words w words other both from to i n all joined before after lies = ⊎_elim
+    (λ low. untouched (before (n / 64) low) (λ has. let (least, most) = lies has in omega (arith, least, low)))
+    (λ high. ⊎_elim
+    (λ within. has_bit_union w words other both n (λ there. joined (n / 64) high within))
+    (λ past. untouched (after (n / 64) past) (λ has. let (least, most) = lies has in omega (arith, most, past)))
+    (cases_lt (n / 64) i))
+    (cases_lt (n / 64) from)
+  where
+    untouched : get_or both (n / 64) 0 ≡ get_or words (n / 64) 0 → (has_bit w other n ≡ true → ⊥) → has_bit w both n ≡ (has_bit w words n || has_bit w other n)
+    untouched same none =
+        has_bit-same w both words n (λ within. ap (λ word. bit_at word (n % 64)) same)
+        ∙ sym (or-false (has_bit w words n)) ∙ ap (λ b. has_bit w words n || b) (sym (false_from_ne_true (has_bit w other n) none))
+
+-- the same, where they are cleared
+pub without_in_words : (w : ℕ) (words other left : List ℕ) (from to i n : ℕ) → to ≤ i
+    → ((k : ℕ) → from ≤ k → k < i → get_or left k 0 ≡ bit_and (get_or words k 0) (bit_not w64 (get_or other k 0)))
+    → ((k : ℕ) → from ≤ k → k < i → get_or other k 0 < 2 ^ 64)
+    → ((k : ℕ) → k < from → get_or left k 0 ≡ get_or words k 0) → ((k : ℕ) → i ≤ k → get_or left k 0 ≡ get_or words k 0)
+    → (has_bit w other n ≡ true → (64 * from ≤ n) × (n < 64 * to))
+    → has_bit w left n ≡ (not (has_bit w other n) && has_bit w words n)
+without_in_words w words other left from to i n all cleared fits before after lies = ⊎_elim
+    (λ low. untouched (before (n / 64) low) (λ has. let (least, most) = lies has in omega (arith, least, low)))
+    (λ high. ⊎_elim
+    (λ within. has_bit_without w words other left n (λ there. cleared (n / 64) high within) (λ there. fits (n / 64) high within))
+    (λ past. untouched (after (n / 64) past) (λ has. let (least, most) = lies has in omega (arith, most, past)))
+    (cases_lt (n / 64) i))
+    (cases_lt (n / 64) from)
+  where
+    untouched : get_or left (n / 64) 0 ≡ get_or words (n / 64) 0 → (has_bit w other n ≡ true → ⊥) → has_bit w left n ≡ (not (has_bit w other n) && has_bit w words n)
+    untouched same none =
+        has_bit-same w left words n (λ within. ap (λ word. bit_at word (n % 64)) same)
+        ∙ ap (λ b. not b && has_bit w words n) (sym (false_from_ne_true (has_bit w other n) none))
 
 -- a search for a common member says whether there is one
 pub found_common : (found : Option ℕ) (b : Bool) (P Q : ℕ → Type 0) → b ≡ is_some found → IfNone found ((k : ℕ) → P k → ¬ Q k)
     → IfSome found (λ n. P n × Q n) → IsTrue b ↔ ((k : ℕ) × P k × Q k)
 found_common None b P Q is none there = ((λ yes. absurd (false≢true (sym is ∙ yes))), (λ common. absurd (none common.0 common.1 common.2)))
 found_common (Some n) b P Q is none there = ((λ yes. (n, there.0, there.1)), (λ common. is))
+
+-- a row whose words are those of another, as far as it goes
+pub has_bit_resized : (w v : ℕ) (words other : List ℕ) (n : ℕ) → length words ≡ w → (n < 64 * v → get_or other (n / 64) 0 ≡ get_or words (n / 64) 0)
+    → has_bit v other n ≡ (nat_lt n (64 * v) && has_bit w words n)
+unfolding has_bit
+has_bit_resized w v words other n long same = ⊎_elim
+    (λ within. ap (λ b. nat_lt n (64 * v) && b) (ap (λ word. bit_at word (n % 64) == 1) (same within) ∙ sym (in_range within)))
+    (λ past. rw (le-ltb n (64 * v) past) refl)
+    (cases_lt n (64 * v))
+  where
+    in_range : n < 64 * v → (nat_lt n (64 * w) && (bit_of words n == 1)) ≡ (bit_of words n == 1)
+    in_range within = ⊎_elim
+        (λ there. ap (λ b. b && (bit_of words n == 1)) (lt-ltb n (64 * w) there))
+        (λ past. rw (le-ltb n (64 * w) past) (sym (ap (λ word. bit_at word (n % 64) == 1) (get_or_past words (n / 64) 0 (omega (arith, past, long))) ∙ ap (λ b. b == 1) (bit_at-zero (n % 64)))))
+        (cases_lt n (64 * w))

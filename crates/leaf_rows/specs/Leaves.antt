@@ -1,5 +1,5 @@
 -- A set of leaves as its members.
-use Rattle.std.specs.Prelude.{ℕ, zero, suc, ◌*◌, ◌/◌, ◌%◌, Bool, ◌==◌, ◌&&◌, nat_lt, if◌then◌else◌, List, [], ◌∷◌, ◌++◌, slice_index}
+use Rattle.std.specs.Prelude.{ℕ, zero, suc, ◌*◌, ◌/◌, ◌%◌, ◌<◌, ◌≤◌, Bool, IsTrue, ◌==◌, ◌&&◌, nat_lt, if◌then◌else◌, List, [], ◌∷◌, ◌++◌, slice_index}
 use Rattle.std.specs.Int.{bit_at}
 use Rattle.leaf_rows.specs.declared.leaf_set.LeafSet.{LeafSet}
 
@@ -10,6 +10,10 @@ has_bit w words n = nat_lt n (64 * w) && (bit_at (slice_index words (n / 64)) (n
 -- whether n is a member
 unfoldable pub has_leaf : {w : ℕ} → LeafSet w → ℕ → Bool
 has_leaf {w} set n = has_bit w set.words n
+
+-- each member has its bit in a word from the one up to the other
+abbrev pub LiesIn : {w : ℕ} → ℕ → ℕ → LeafSet w → Type 0
+LiesIn from to set = (n : ℕ) → IsTrue (has_leaf set n) → (64 * from ≤ n) × (n < 64 * to)
 
 -- the numbers below n that pass the test, in rising order
 unfoldable pub passing_below : (ℕ → Bool) → ℕ → List ℕ

@@ -15,9 +15,9 @@ pub struct LeafSet<const W: usize> {
 }
 
 impl<const W: usize> LeafSet<W> {
-    ghost use Rattle.std.specs.Prelude.{◌≡◌, ℕ, ◌*◌, ◌<◌, ◌↔◌, ◌==◌, ◌&&◌, ◌||◌, not, false, IsTrue, IfNone, IfSome, length, Contains};
+    ghost use Rattle.std.specs.Prelude.{◌≡◌, ℕ, ◌*◌, ◌<◌, ◌↔◌, ◌==◌, ◌&&◌, ◌||◌, not, false, nat_lt, IsTrue, IfNone, IfSome, length, Contains};
     ghost use Rattle.std.specs.List.Sorted.{IsStrictlyIncreasing};
-    ghost use Rattle.leaf_rows.specs.Leaves.{has_leaf, members};
+    ghost use Rattle.leaf_rows.specs.Leaves.{has_leaf, members, LiesIn};
 
     /// The empty set.
     #[tactic(auto, using(crate::proofs::Rows::has_bit_empty), unfolding(crate::specs::Leaves::has_leaf))]
@@ -56,36 +56,78 @@ impl<const W: usize> LeafSet<W> {
     }
 
     /// Puts each member of the other in.
-    #[tactic(auto, using(crate::proofs::Rows::has_bit_union), unfolding(crate::specs::Leaves::has_leaf))]
+    #[tactic(auto, using(crate::proofs::Members::lies_within))]
     pub fn union_with(&mut self, other: &Self)
         ensures { (k : ℕ) → has_leaf self.new k ≡ (has_leaf self.old k || has_leaf other.now k) }
     {
-        each_word!(i => {
+        self.union_between(other, 0, W);
+    }
+
+    /// Puts each member of the other in, where these stand in those words alone.
+    pub fn union_between(&mut self, other: &Self, from: usize, to: usize)
+        requires within { to ≤ W }
+        requires lies { LiesIn from to other.now }
+        ensures { (k : ℕ) → has_leaf self.new k ≡ (has_leaf self.old k || has_leaf other.now k) }
+    {
+        for i in from..to {
             self.words[i] |= other.words[i];
-        });
+        }
     }
 
     /// Takes each member of the other out.
-    #[tactic(auto, using(crate::proofs::Rows::has_bit_without), unfolding(crate::specs::Leaves::has_leaf))]
+    #[tactic(auto, using(crate::proofs::Members::lies_within))]
     pub fn remove_all(&mut self, other: &Self)
         ensures { (k : ℕ) → has_leaf self.new k ≡ (not (has_leaf other.now k) && has_leaf self.old k) }
     {
-        for i in 0..W {
+        self.remove_between(other, 0, W);
+    }
+
+    /// Takes each member of the other out, where these stand in those words alone.
+    pub fn remove_between(&mut self, other: &Self, from: usize, to: usize)
+        requires within { to ≤ W }
+        requires lies { LiesIn from to other.now }
+        ensures { (k : ℕ) → has_leaf self.new k ≡ (not (has_leaf other.now k) && has_leaf self.old k) }
+    {
+        for i in from..to {
             self.words[i] &= !other.words[i];
         }
     }
 
     /// Whether each member is one of the other.
-    #[tactic(auto, using(crate::proofs::Rows::part_has, crate::proofs::Rows::part_more), unfolding(crate::specs::Leaves::has_leaf))]
+    #[tactic(auto, using(crate::proofs::Members::lies_within))]
     pub fn is_subset(&self, other: &Self) -> bool
         ensures { IsTrue result ↔ ((k : ℕ) → IsTrue (has_leaf self.now k) → IsTrue (has_leaf other.now k)) }
     {
-        each_word!(i => {
+        self.is_subset_between(other, 0, W)
+    }
+
+    /// Whether each member is one of the other, where the members stand in those words alone.
+    pub fn is_subset_between(&self, other: &Self, from: usize, to: usize) -> bool
+        requires within { to ≤ W }
+        requires lies { LiesIn from to self.now }
+        ensures { IsTrue result ↔ ((k : ℕ) → IsTrue (has_leaf self.now k) → IsTrue (has_leaf other.now k)) }
+    {
+        for i in from..to {
             if self.words[i] & !other.words[i] != 0 {
                 return false;
             }
-        });
+        }
         true
+    }
+
+    /// The members that a set of another width has room for.
+    #[tactic(auto, using(crate::proofs::Rows::has_bit_resized), unfolding(crate::specs::Leaves::has_leaf))]
+    pub fn resized<const V: usize>(&self) -> LeafSet<V>
+        requires { V ≤ 64 }
+        ensures { (n : ℕ) → has_leaf result n ≡ (nat_lt n (64 * V) && has_leaf self.now n) }
+    {
+        let mut words = [0; V];
+        for i in 0..V {
+            if i < W {
+                words[i] = self.words[i];
+            }
+        }
+        LeafSet { words }
     }
 
     /// Whether the two have a common member.
@@ -95,15 +137,36 @@ impl<const W: usize> LeafSet<W> {
         self.first_common(other).is_some()
     }
 
+    /// Whether the two have a common member, where the members of the first stand in those words alone.
+    pub fn meets_between(&self, other: &Self, from: usize, to: usize) -> bool
+        requires within { to ≤ W }
+        requires lies { LiesIn from to self.now }
+        ensures { IsTrue result ↔ ((k : ℕ) × IsTrue (has_leaf self.now k) × IsTrue (has_leaf other.now k)) }
+    {
+        self.first_common_between(other, from, to).is_some()
+    }
+
     /// The least common member of the two.
-    #[tactic(auto, using(crate::proofs::Rows::no_common_bit), unfolding(crate::specs::Leaves::has_leaf))]
+    #[tactic(auto, using(crate::proofs::Members::lies_within))]
     pub fn first_common(&self, other: &Self) -> Option<u32>
         ensures none { IfNone result ((k : ℕ) → IsTrue (has_leaf self.now k) → ¬ IsTrue (has_leaf other.now k)) }
         ensures member { IfSome result (λ n. IsTrue (has_leaf self.now n) × IsTrue (has_leaf other.now n)) }
         ensures least { IfSome result (λ n. (k : ℕ) → k < n → IsTrue (has_leaf self.now k) → ¬ IsTrue (has_leaf other.now k)) }
         ensures within { IfSome result (λ n. n < 64 * W) }
     {
-        for i in 0..W {
+        self.first_common_between(other, 0, W)
+    }
+
+    /// The least common member of the two, where the members of the first stand in those words alone.
+    fn first_common_between(&self, other: &Self, from: usize, to: usize) -> Option<u32>
+        requires within { to ≤ W }
+        requires lies { LiesIn from to self.now }
+        ensures none { IfNone result ((k : ℕ) → IsTrue (has_leaf self.now k) → ¬ IsTrue (has_leaf other.now k)) }
+        ensures member { IfSome result (λ n. IsTrue (has_leaf self.now n) × IsTrue (has_leaf other.now n)) }
+        ensures least { IfSome result (λ n. (k : ℕ) → k < n → IsTrue (has_leaf self.now k) → ¬ IsTrue (has_leaf other.now k)) }
+        ensures within { IfSome result (λ n. n < 64 * W) }
+    {
+        for i in from..to {
             let common = self.words[i] & other.words[i];
             if common != 0 {
                 return Some(64 * i as u32 + common.trailing_zeros());

@@ -1,13 +1,15 @@
-//! Worked cases: each file that the command line names has rows, and each row says what a call of `flow` is given and
+//! Worked cases: each file that the command line names has rows, and each row says what a call of `flow` or `flowkeep` is given and
 //! what it must write. A row that comes out otherwise is printed, and then how many rows of each file were right.
 #![tactic(auto)]
 
+mod kept;
 mod pieces;
 mod rows;
 
 use anyhow::{Context, Result};
 use flow_cli::flow;
 use flow_gate::NoteGate;
+use kept::{call_of, stands_when_stopped};
 use rows::Row;
 use std::alloc::Global;
 use std::rt::{Env, Files};
@@ -15,9 +17,6 @@ use std::sync::Wait;
 use std::thread::Threads;
 use std::{env, fs};
 use test_doubles::{MemSink, MemSource};
-
-/// More bytes than any row writes.
-const ROOM: usize = 300_000;
 
 /// The words of a command line.
 fn words_of(alloc: Global, line: &str) -> Result<Vec<String>> {
@@ -28,20 +27,53 @@ fn words_of(alloc: Global, line: &str) -> Result<Vec<String>> {
     Ok(words)
 }
 
-/// Whether the call that the row describes writes what it must; what it wrote is printed where it does not.
-fn is_right<R: Print + AllocGlobal + Threads + Wait + Sync>(rt: &R, row: Row<'_>) -> Result<bool> {
-    let words = words_of(rt.alloc(), row.words)?;
-    let mut source = MemSource::new(row.input);
-    let mut sink = MemSink::new(rt.alloc(), ROOM)?;
-    let status = flow(rt, rt.alloc(), &words, &mut source, &mut sink, &NoteGate).code();
+/// Prints what a row wrote that is wrong.
+fn tell_wrong<R: Print>(rt: &R, row: &Row<'_>, status: u8, written: &[u8]) -> Result<()> {
+    let name = row.name;
+    println!(rt; "wrong: {name} ended with {status} and wrote")?;
+    let text = str::from_utf8(written).context("no text was written")?;
+    print!(rt; "{text}")?;
+    Ok(())
+}
+
+/// Whether a call of `flow` writes what the row says.
+fn is_answered<R: Print + AllocGlobal + Threads + Wait + Sync>(
+    rt: &R,
+    words: &[String],
+    row: &Row<'_>,
+) -> Result<bool> {
+    let mut source = MemSource::new(row.input.to_vec(rt.alloc())?);
+    let mut sink = MemSink::new(rt.alloc(), row.room)?;
+    let status = flow(rt, rt.alloc(), words, &mut source, &mut sink, &NoteGate).code();
     if status == row.status && sink.bytes() == row.output.as_slice() {
         return Ok(true);
     }
-    let name = row.name;
-    println!(rt; "wrong: {name} ended with {status} and wrote")?;
-    let text = str::from_utf8(sink.bytes()).context("no text was written")?;
-    print!(rt; "{text}")?;
+    tell_wrong(rt, row, status, sink.bytes())?;
     Ok(false)
+}
+
+/// Whether a call of `flowkeep` writes and keeps what the row says, and loses nothing where its disk stops.
+fn is_kept<R: Print + AllocGlobal>(rt: &R, words: &[String], row: &Row<'_>) -> Result<bool> {
+    let run = call_of(rt.alloc(), words, row)?;
+    let shown = run.shown(rt.alloc())?;
+    let is_right = run.status == row.status
+        && run.written.as_slice() == row.output.as_slice()
+        && shown.as_slice() == row.after.as_slice();
+    if is_right && stands_when_stopped(rt.alloc(), words, row, &run)? {
+        return Ok(true);
+    }
+    tell_wrong(rt, row, run.status, &run.written)?;
+    Ok(false)
+}
+
+/// Whether the call that the row describes does what it must; what it wrote is printed where it does not.
+fn is_right<R: Print + AllocGlobal + Threads + Wait + Sync>(rt: &R, row: &Row<'_>) -> Result<bool> {
+    let words = words_of(rt.alloc(), row.words)?;
+    if row.words.starts_with("flowkeep") {
+        is_kept(rt, &words, row)
+    } else {
+        is_answered(rt, &words, row)
+    }
 }
 
 /// Tries each row of a file.
@@ -56,7 +88,7 @@ fn try_rows<R: Print + AllocGlobal + Threads + Wait + Sync>(
     for piece in text.split("\n=== ").skip(1) {
         let row = Row::read(rt.alloc(), piece)?;
         all = all.saturating_add(1);
-        if is_right(rt, row)? {
+        if is_right(rt, &row)? {
             right = right.saturating_add(1);
         }
     }

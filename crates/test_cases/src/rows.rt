@@ -2,7 +2,7 @@ use crate::pieces::push_line;
 use anyhow::{Context, Result};
 use std::alloc::Global;
 
-/// What a call of `flow` is given, and what it must write. In a file a row stands so:
+/// What a call of `flow` or `flowkeep` is given, and what it must write. In a file a row stands so:
 ///
 /// ```text
 /// === the name of the row
@@ -12,6 +12,18 @@ use std::alloc::Global;
 /// ---
 /// the lines of the output
 /// ```
+///
+/// Behind the status may stand how many bytes can be written. A row of `flowkeep` goes on by what the disk holds before
+/// the call, and after it, in hexadecimal bytes:
+///
+/// ```text
+/// ---
+/// 01 00 00 00 00 00 00 00 00 00 00 01 00 00 00 00
+/// 00
+/// ---
+/// 01 00 00 00 00 00 00 00 00 00 00 01 00 00 00 00
+/// 00
+/// ```
 #[derive(Drop)]
 pub struct Row<'a> {
     pub name: &'a str,
@@ -19,32 +31,63 @@ pub struct Row<'a> {
     pub words: &'a str,
     /// The number of the status.
     pub status: u8,
+    /// How many bytes can be written.
+    pub room: usize,
     pub input: Vec<u8>,
     pub output: Vec<u8>,
+    /// The bytes on the disk before the call, and after it.
+    pub before: Vec<u8>,
+    pub after: Vec<u8>,
+}
+
+/// More bytes than any row writes.
+const ROOM: usize = 300_000;
+
+/// The lines of a text, each as its pieces say.
+fn bytes_of(alloc: Global, text: &str) -> Result<Vec<u8>> {
+    let mut bytes = Vec::new(alloc);
+    for line in text.lines() {
+        push_line(&mut bytes, line)?;
+    }
+    Ok(bytes)
+}
+
+/// The bytes that a text names in hexadecimal.
+fn hexadecimal(alloc: Global, text: &str) -> Result<Vec<u8>> {
+    let mut bytes = Vec::new(alloc);
+    for digits in text.split_whitespace() {
+        bytes.push(u8::from_str_radix(digits, 16)?)?;
+    }
+    Ok(bytes)
+}
+
+/// A status, and how many bytes can be written.
+fn ending(line: &str) -> Result<(u8, usize)> {
+    match line.split_once(" ") {
+        None => Ok((line.parse::<u8>()?, ROOM)),
+        Some((status, room)) => Ok((status.parse::<u8>()?, room.parse::<usize>()?)),
+    }
 }
 
 impl<'a> Row<'a> {
     /// The row that the text says; it begins with the name.
     pub fn read(alloc: Global, text: &'a str) -> Result<Row<'a>> {
-        let (given, written) = text.split_once("---\n").context("a row without ---")?;
-        let mut lines = given.lines();
-        let name = lines.next().context("a row without a name")?;
-        let words = lines.next().context("a row without words")?;
-        let status = lines.next().context("a row without a status")?;
-        let mut input = Vec::new(alloc);
-        for line in lines {
-            push_line(&mut input, line)?;
-        }
-        let mut output = Vec::new(alloc);
-        for line in written.lines() {
-            push_line(&mut output, line)?;
-        }
+        let mut parts = text.split("---\n");
+        let given = parts.next().context("an empty row")?;
+        let (name, given) = given.split_once("\n").context("a row without a name")?;
+        let (words, given) = given.split_once("\n").context("a row without words")?;
+        let (status, given) = given.split_once("\n").context("a row without a status")?;
+        let (status, room) = ending(status)?;
+        let output = parts.next().context("a row without ---")?;
         Ok(Row {
             name,
             words,
-            status: status.parse::<u8>()?,
-            input,
-            output,
+            status,
+            room,
+            input: bytes_of(alloc, given)?,
+            output: bytes_of(alloc, output)?,
+            before: hexadecimal(alloc, parts.next().unwrap_or(""))?,
+            after: hexadecimal(alloc, parts.next().unwrap_or(""))?,
         })
     }
 }

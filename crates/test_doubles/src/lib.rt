@@ -1,5 +1,5 @@
 //! Doubles for tests of what the program stands on: sources and sinks in memory, cut in pieces or with faults on
-//! purpose, and a gate at which two tasks meet.
+//! purpose, and a gate and a checker at which two tasks and two checks meet.
 #![tactic(auto)]
 
 mod copying;
@@ -8,6 +8,7 @@ mod faulty_sink;
 mod faulty_source;
 mod listing;
 mod meet;
+mod meet_checker;
 mod mem_sink;
 mod mem_source;
 
@@ -15,5 +16,6 @@ pub use cut_source::CutSource;
 pub use faulty_sink::FaultySink;
 pub use faulty_source::FaultySource;
 pub use meet::MeetGate;
+pub use meet_checker::MeetChecker;
 pub use mem_sink::MemSink;
 pub use mem_source::MemSource;

@@ -40,22 +40,27 @@ impl Gate for MeetGate {
         ensures others { call.leaf ≢ self.now.first → call.leaf ≢ self.now.second → result ≡ outcome.Done }
     {
         if call.leaf == self.first {
-            meet(&self.first_came, &self.second_came, self.turns)
+            outcome_of(has_met(&self.first_came, &self.second_came, self.turns))
         } else if call.leaf == self.second {
-            meet(&self.second_came, &self.first_came, self.turns)
+            outcome_of(has_met(&self.second_came, &self.first_came, self.turns))
         } else {
             Outcome::Done
         }
     }
 }
 
-/// Raises a flag, and looks for the other's at most so many times.
-fn meet(mine: &AtomicBool, other: &AtomicBool, turns: u64) -> Outcome {
+/// How a task ends that met the other, or did not.
+fn outcome_of(met: bool) -> Outcome {
+    if met { Outcome::Done } else { Outcome::Failed }
+}
+
+/// Raises a flag, and looks for the other's at most so many times: whether it was seen.
+pub(crate) fn has_met(mine: &AtomicBool, other: &AtomicBool, turns: u64) -> bool {
     mine.store(true, Ordering::SeqCst);
     for _ in 0..turns {
         if other.load(Ordering::SeqCst) {
-            return Outcome::Done;
+            return true;
         }
     }
-    Outcome::Failed
+    false
 }

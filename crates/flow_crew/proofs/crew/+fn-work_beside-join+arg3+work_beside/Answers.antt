@@ -7,7 +7,7 @@ use denote.Param.Send.{IsSend, IsSync, sendable}
 use Rattle.crossbeam_utils.proofs.sync.event_count.EventCount.TheSendSync.{the_sync as idle_sync}
 use Rattle.flow_turn.proofs.lock.TurnLock.TheSendSync.{the_sync as lock_sync}
 use Rattle.flow_turn.proofs.pass.Pass.TheSendSync.{the_send as pass_send}
-use Rattle.flow_crew.proofs.Sending.{held_send}
+use Rattle.flow_crew.proofs.Sending.{book_send}
 use Rattle.flow_crew.proofs.crew.+fn-work_beside-join+arg3+work_beside.Goals as goal
 
 fewer_given : (given workers more : ℕ) → given + workers < 4294967295 → more ≡ given + 1 → workers ≢ 0 → more + (workers - 1) < 4294967295
@@ -18,12 +18,12 @@ join-pass-requires-send-F g t c κs within =
     let runtime : IsSync (param 0 g.row.R) = search rules parts 8 in
     let shared : IsSync (param 1 g.row.G) = search rules parts 8 in
     let sent : IsSend (param 1 g.row.G) = search rules parts 8 in
-    search (held_send, lock_sync, pass_send, idle_sync, sendable) depth 20
+    search (book_send, lock_sync, pass_send, idle_sync, sendable) depth 20
 
 pub join-pass-requires-send-A : goal.join-pass-requires-send-A
 join-pass-requires-send-A g t c κs within =
     let sent : IsSend (param 1 g.row.G) = search rules parts 8 in
-    search (held_send, pass_send, sendable) depth 20
+    search (book_send, pass_send, sendable) depth 20
 
 pub join-pass-requires-after_bounds : goal.join-pass-requires-after_bounds
 join-pass-requires-after_bounds g t c κs within =

@@ -1,9 +1,9 @@
-use Rattle.std.proofs.Common.{ℕ, List, ◌++◌, ◌∙◌, ap, sym, subst, OnOk, arith}
+use Rattle.std.proofs.Common.{ℕ, ◌∙◌, ap, sym, subst, OnOk, arith}
 use Rattle.std.proofs.lemmas.Result.{IfOk-weaker}
 use Rattle.flow_goal.specs.declared.goal.Goal.{Goal}
 use Rattle.flow_goal.specs.Goal.{process_of}
-use Rattle.flow_goal.specs.Pattern.{Lays, Line, lines_in}
-use Rattle.flow_goal.proofs.PatternLemmas.{choice_lines, isolated_laid, laid_first, parallel_laid, sequence_laid}
+use Rattle.flow_goal.specs.Pattern.{Lays, lines_in}
+use Rattle.flow_goal.proofs.PatternLemmas.{isolated_laid, laid_first, parallel_laid, sequence_laid}
 use Rattle.flow_goal.proofs.Counting.{goal_size}
 use Rattle.flow_goal.proofs.Writing.{ok_taken}
 use Rattle.flow_goal.proofs.draft.+laying.Goals as goal
@@ -47,13 +47,6 @@ lay-returns-in-Nop t c = subst (λ (g : Goal). OnOk c.put.result (Lays (lines_in
 
 pub lay-returns-in-Leaf : goal.lay-returns-in-Leaf
 lay-returns-in-Leaf t c = subst (λ (g : Goal). OnOk c.put_leaf.result (Lays (lines_in (process_of g)) c.args.draft.now c.put_leaf.new.self)) (sym c.in-Leaf.is) c.put_leaf.ensures
-
-pub lay-returns-in-Ok : goal.lay-returns-in-Ok
-lay-returns-in-Ok t c =
-    let lines = λ (g : Goal). lines_in (process_of g) in
-    subst (λ (ls : List Line). OnOk c.choose.result (Lays ls c.args.draft.now c.choose.new.self))
-    ((λ k. (c.in_ok-left-in-Either.ensures.lines ∙ ap lines c.deref-in-Either.ensures) k ++ (c.in-Ok.ensures.lines ∙ ap lines c.deref-in-Either-2.ensures) k)
-    ∙ choice_lines (process_of c.in-Either.left.value) (process_of c.in-Either.right.value) ∙ ap lines (sym c.in-Either.is)) c.choose.ensures
 
 pub lay-lay-requires : goal.lay-lay-requires
 lay-lay-requires t c = (omega (arith, c.decreases, ap size c.in-Serial.is, ap size c.deref.ensures), c.requires)

@@ -1,18 +1,14 @@
-use Rattle.std.proofs.Common.{rules, ℕ, ◌<◌, true≢false, length, arith, refl}
-use Rattle.flow_goal.specs.Repeats.{HoldsNoneFrom}
-use Rattle.flow_goal.proofs.Repetitions.{first_of_all, not_unique, unique}
+use Rattle.std.proofs.Common.{◌≡◌, rules, arith, length, subst}
+use Rattle.flow_goal.specs.Repeats.{IsFoundBefore}
+use Rattle.flow_goal.proofs.Repetitions.{found_none, found_some}
 use Rattle.flow_goal.proofs.events.twice.Goals as goal
-
-pub returns-in-Some-clause-none : goal.returns-in-Some-clause-none
-returns-in-Some-clause-none c =
-    (λ e. absurd (true≢false e), λ u. absurd (not_unique c.args.tree.now c.in-Some.found.event c.in-Some.found.first c.in-Some.found.second c.in-Some.ensures.twice u))
-
-pub returns-in-Some-clause-some : goal.returns-in-Some-clause-some
-returns-in-Some-clause-some c =
-    first_of_all c.args.tree.now c.loop-first.first c.in-Some.found c.loop-first.invariant c.in-Some.ensures
 
 pub returns-clause-none : goal.returns-clause-none
 returns-clause-none c =
-    let none : (k : ℕ) → k < length c.args.tree.now.labels → HoldsNoneFrom c.args.tree.now k =
-    λ k lt. c.loop-first.invariant k (omega arith) in
-    ((λ e. unique c.args.tree.now (search rules) none), (λ u. refl))
+    let all : c.loop-leaf.leaf ≡ length c.args.tree.now.labels = omega arith in
+    found_none c.args.tree.now (search rules) c.loop-leaf.found (subst (λ n. IsFoundBefore c.args.tree.now n c.loop-leaf.found) all c.loop-leaf.invariant)
+
+pub returns-clause-some : goal.returns-clause-some
+returns-clause-some c =
+    let all : c.loop-leaf.leaf ≡ length c.args.tree.now.labels = omega arith in
+    found_some c.args.tree.now c.loop-leaf.found (subst (λ n. IsFoundBefore c.args.tree.now n c.loop-leaf.found) all c.loop-leaf.invariant)

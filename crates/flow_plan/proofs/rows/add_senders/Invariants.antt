@@ -5,4 +5,4 @@ use Rattle.flow_plan.specs.Rows.{AreRowsOf}
 use Rattle.flow_plan.proofs.rows.add_senders.Given as goal
 
 abbrev pub invariant-loop-token : goal.invariant-loop-token
-invariant-loop-token l = AreRowsOf (DirectlyBefore l.goal.process (pairs_of (take l.token-index l.tokens))) l.goal.leaves l.rows
+invariant-loop-token g l = AreRowsOf (DirectlyBefore l.goal.process (pairs_of (take l.token-index l.tokens))) l.goal.leaves l.rows

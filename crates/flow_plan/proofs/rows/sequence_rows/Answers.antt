@@ -10,21 +10,21 @@ use Rattle.flow_plan.proofs.MarkLemmas.{begun_rows}
 use Rattle.flow_plan.proofs.rows.sequence_rows.Goals as goal
 
 pub loop-node-preserved : goal.loop-node-preserved
-loop-node-preserved c =
+loop-node-preserved g c =
     let nodes = c.nodes-node-items.result.now in
     let i = c.loop-node.node-index in
     c.in_ok-pass.ensures c.args.goal.now.process (drop (i + 1) nodes)
     (subst (λ (l : List Node). Completes c.args.goal.now.process l c.leaves-leaves.result.now c.loop-node.sweep) (drop_more nodes i Nop c.loop-node-test.true) c.loop-node.invariant)
 
 pub returns : goal.returns
-returns c =
+returns g c =
     let q = c.args.goal.now.process in
     let done = subst (λ (l : List Node). Completes q l c.leaves-leaves.result.now c.loop-node.sweep)
     (drop_all c.loop-node.node-index c.nodes-node-items.result.now c.loop-node-test.false) c.loop-node.invariant in
     subst (λ (ns : List ℕ). AreRowsOf (InSequence q) ns c.loop-node.sweep.rows.items) c.leaves-leaves.ensures.leaves done.3
 
 pub loop-node-init : goal.loop-node-init
-loop-node-init c =
+loop-node-init g c =
     let leaves = c.leaves-leaves.ensures in
     let fresh = c.in_ok-sweep.ensures in
     begun_rows c.args.goal.now.process c.nodes-node-items.result.now c.leaves-leaves.result.now c.in_ok-sweep.sweep c.nodes-node-items.ensures.choice_free

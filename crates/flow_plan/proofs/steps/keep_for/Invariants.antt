@@ -5,5 +5,5 @@ use Rattle.flow_plan.specs.Parts.{Keeps}
 use Rattle.flow_plan.proofs.steps.keep_for.Given as goal
 
 abbrev pub invariant-loop-part : goal.invariant-loop-part
-invariant-loop-part l = (n : ℕ) → IsTrue (has_leaf l.leaves n) ↔ (IsTrue (has_leaf l.initial.leaves n)
+invariant-loop-part g l = (n : ℕ) → IsTrue (has_leaf l.leaves n) ↔ (IsTrue (has_leaf l.initial.leaves n)
     × Each (λ row. Keeps l.what row (λ x. IsTrue (has_leaf l.others x)) n) (take l.part-index l.parts))

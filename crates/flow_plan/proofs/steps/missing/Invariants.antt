@@ -5,4 +5,4 @@ use Rattle.flow_plan.specs.Parts.{PartAllows}
 use Rattle.flow_plan.proofs.steps.missing.Given as goal
 
 abbrev pub invariant-loop-part : goal.invariant-loop-part
-invariant-loop-part l = Each (λ row. PartAllows row (λ x. IsTrue (has_leaf l.done x)) l.leaf) (take l.part-index l.parts)
+invariant-loop-part g l = Each (λ row. PartAllows row (λ x. IsTrue (has_leaf l.done x)) l.leaf) (take l.part-index l.parts)

@@ -9,7 +9,7 @@ use Rattle.flow_sample.proofs.items.items_of_plan.Goals as goal
 pub loop-node-init : goal.loop-node-init
 loop-node-init c =
     begun_items c.args.plan.now c.nodes-node-items.result.now record { place = 0; items = c.new.result; outer = c.new-2.result } c.nodes-node-items.ensures.ordered c.nodes-node-items.ensures.nodes c.leaves-leaves.ensures.listed
-    refl c.new.ensures.items c.new-2.ensures.items
+    c.leaves-leaves.ensures.rising refl c.new.ensures.items c.new-2.ensures.items
 
 pub read-requires : goal.read-requires
 read-requires c =

@@ -1,5 +1,7 @@
 use Rattle.std.proofs.Common.{◌<◌, ◌∙◌, List, sym, subst, inl, refl}
+use Rattle.std.specs.List.Sorted.{IsStrictlyIncreasing}
 use Rattle.flow_model.specs.Lists.{Each}
+use Rattle.flow_model.specs.Process.{leaves}
 use Rattle.flow_model.specs.Resolution.{OptionTrace}
 use Rattle.flow_plan.specs.declared.token.OrderToken.{OrderToken}
 use Rattle.flow_plan.specs.Options.{option_of}
@@ -7,6 +9,7 @@ use Rattle.flow_plan.specs.Planned.{pairs_of}
 use Rattle.flow_sample.specs.Rows.{AreApart}
 use Rattle.flow_sample.proofs.ForwardLemmas.{forward_run}
 use Rattle.flow_sample.proofs.ItemLemmas.{are_apart}
+use Rattle.flow_sample.proofs.RisingLemmas.{rises}
 use Rattle.flow_sample.proofs.LaidLemmas.{run_traced, ring_told}
 use Rattle.flow_sample.proofs.sample.run_of_plan.Goals as goal
 
@@ -14,7 +17,8 @@ pub run_of-requires : goal.run_of-requires
 run_of-requires c =
     subst AreApart (sym c.deref.ensures.value)
     (are_apart c.args.plan.now.process (pairs_of c.args.plan.now.tokens) c.tokens.ensures.ordered c.args.plan.now.process (inl refl) c.in_ok-items.items.items
-    c.in_ok-items.ensures)
+    c.in_ok-items.ensures
+    (rises (leaves c.args.plan.now.process) (subst IsStrictlyIncreasing c.leaves-leaves.ensures.listed c.leaves-leaves.ensures.rising)))
 
 pub returns-clause-ok : goal.returns-clause-ok
 returns-clause-ok c =

@@ -24,26 +24,26 @@ out_of run r claim o call same is h =
 
 pub loop-call-init : goal.loop-call-init
 loop-call-init g c =
-    stays c.args.self.now c.args.by c.self.inside.held c.self.view_is (subst IsWithin c.self.view_is (legal_within c.self.inside.held c.core.ensures.by_workers.run_legal.0))
+    stays c.args.self.now c.args.by c.args.self.now refl (legal_within c.args.self.now c.core.ensures.by_workers.run_legal.0)
 
 pub loop-call-preserved-in-Went : goal.loop-call-preserved-in-Went
 loop-call-preserved-in-Went g c =
-    let mid = c.loop-call.self-inside.held in
+    let mid = c.loop-call.self in
     goes_on_from c.args.self.now c.args.by mid c.begin.new.self c.loop-call.invariant (begun mid c.args.by c.begin.result c.begin.new.self c.loop-call.invariant.within c.begin.ensures)
 
 pub loop-call-smaller-in-Went : goal.loop-call-smaller-in-Went
 loop-call-smaller-in-Went g c =
-    let mid = c.loop-call.self-inside.held in
+    let mid = c.loop-call.self in
     fewer_left mid c.args.by c.begin.new.self (begun_further mid c.args.by c.begin.result c.begin.new.self c.loop-call.invariant.within c.begin.ensures (ap goes c.in-Went.is))
 
 pub unwrap-requires : goal.unwrap-requires
 unwrap-requires g c =
-    let mid = c.loop-call.self-inside.held in
+    let mid = c.loop-call.self in
     some_end c.begin.new.self c.verdict.result (begun_over mid c.args.by c.begin.new.self c.in-Over.ensures) c.verdict.ensures
 
 pub loop-call-smaller : goal.loop-call-smaller
 loop-call-smaller g c =
-    let mid = c.loop-call.self-inside.held in
+    let mid = c.loop-call.self in
     let next = c.begin.new.self in
     let last = c.post.new.self in
     let within : IsWithin next = (begun mid c.args.by c.begin.result next c.loop-call.invariant.within c.begin.ensures).within in
@@ -60,7 +60,7 @@ loop-call-smaller g c =
 
 pub loop-call-preserved : goal.loop-call-preserved
 loop-call-preserved g c =
-    let mid = c.loop-call.self-inside.held in
+    let mid = c.loop-call.self in
     let next = c.begin.new.self in
     let first : Goes mid c.args.by next = begun mid c.args.by c.begin.result next c.loop-call.invariant.within c.begin.ensures in
     goes_on_from c.args.self.now c.args.by mid c.post.new.self c.loop-call.invariant
@@ -69,5 +69,5 @@ loop-call-preserved g c =
 
 pub returns-in-Over-clause-continued : goal.returns-in-Over-clause-continued
 returns-in-Over-clause-continued g c =
-    let mid = c.loop-call.self-inside.held in
+    let mid = c.loop-call.self in
     (goes_on_from c.args.self.now c.args.by mid c.begin.new.self c.loop-call.invariant (begun mid c.args.by c.begin.result c.begin.new.self c.loop-call.invariant.within c.begin.ensures)).continued

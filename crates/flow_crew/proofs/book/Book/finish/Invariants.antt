@@ -3,7 +3,7 @@ use Rattle.flow_crew.proofs.Continuing.{Goes}
 use Rattle.flow_crew.proofs.book.Book.finish.Given as goal
 
 abbrev pub invariant-loop-call : goal.invariant-loop-call
-invariant-loop-call g l = Goes l.fn.self l.by l.self-inside.held
+invariant-loop-call g l = Goes l.fn.self l.by l.self
 
 abbrev pub decreases-loop-call : goal.decreases-loop-call
-decreases-loop-call g l = l.self-inside.held.limit - length l.self-inside.held.history
+decreases-loop-call g l = l.self.limit - length l.self.history

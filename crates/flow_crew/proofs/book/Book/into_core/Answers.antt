@@ -1,4 +1,4 @@
 use Rattle.flow_crew.proofs.book.Book.into_core.Goals as goal
 
 pub returns-clause-by_workers : goal.returns-clause-by_workers
-returns-clause-by_workers g c = rw (← c.self.view_is) c.into_core.ensures.by_workers
+returns-clause-by_workers g c = rw (← c.self.view_is) c.self.invariant

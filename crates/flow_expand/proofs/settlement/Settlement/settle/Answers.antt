@@ -6,7 +6,8 @@ use Rattle.flow_expand.specs.declared.lay.Stage.{Stage}
 use Rattle.flow_expand.specs.declared.lay.Stage.TheVariants as stage
 use Rattle.flow_expand.specs.Settlement.{IsPath, IsIdle, work_left}
 use Rattle.flow_expand.specs.Directory.{decls_of}
-use Rattle.flow_expand.proofs.SettlementLemmas.{settled, last_none, last_some, stays_begun, stays_twice, get_set_same, get_set_cases, laid_begun, seen_kept, stays_at}
+use Rattle.flow_model.proofs.Lists.{last_none}
+use Rattle.flow_expand.proofs.SettlementLemmas.{settled, last_some, stays_begun, stays_twice, get_set_same, get_set_cases, laid_begun, seen_kept, stays_at}
 use Rattle.flow_expand.proofs.settlement.Settlement.settle.Goals as goal
 
 -- where none waits, the one that begins to wait is the whole path

@@ -6,7 +6,7 @@ use Rattle.flow_plan.proofs.KeepLemmas.{fresh_outside, kept_where}
 use Rattle.flow_plan.proofs.part_row.PartRow.keep_allowed.Goals as goal
 
 pub returns-else-meets : goal.returns-else-meets
-returns-else-meets c n =
+returns-else-meets g c n =
     let row = c.args.self.now in
     let untouched : (k : ℕ) → IsTrue (has_leaf row.inside k) → IsTrue (has_leaf c.args.done.now k) → ⊥ =
     λ k inside done. true≢false (sym (c.meets.ensures.1 (k, inside, done)) ∙ c.if-meets.false) in

@@ -4,7 +4,7 @@ use Rattle.flow_plan.proofs.KeepLemmas.{kept_where, keeps_after_inside, keeps_af
 use Rattle.flow_plan.proofs.part_row.PartRow.keep_first.Goals as goal
 
 pub returns : goal.returns
-returns c n =
+returns g c n =
     let row = c.args.self.now in
     let claims = c.args.claims.now in
     let within = c.is_subset.result in

@@ -15,7 +15,7 @@ still_there false b h = (h, λ wrong. true≢false (sym wrong))
 still_there true b h = absurd (true≢false (sym h))
 
 -- a part that lets one leaf come next, but the other only after that one
-module _ (row : PartRow) (done : LeafSet 16) (leaf first : ℕ) (refused : ¬ PartAllows row (λ x. IsTrue (has_leaf done x)) leaf)
+module _ {w : ℕ} (row : PartRow w) (done : LeafSet w) (leaf first : ℕ) (refused : ¬ PartAllows row (λ x. IsTrue (has_leaf done x)) leaf)
     (before : PartAllows row (λ x. IsTrue (has_leaf done x)) first) (after : PartAllows row (DoneOr (λ x. IsTrue (has_leaf done x)) (first ∷ [])) leaf) where
   not_begun : IsTrue (has_leaf row.inside leaf) → (x : ℕ) → IsTrue (has_leaf row.inside x) → ¬ IsTrue (has_leaf done x)
   not_begun own x inside is_done = refused (record { passes = λ other. absurd (other own); begins = λ _ none. absurd (none x inside is_done) })
@@ -40,7 +40,7 @@ module _ (row : PartRow) (done : LeafSet 16) (leaf first : ℕ) (refused : ¬ Pa
       by true is = ⊎_elim (λ d. absurd (undone d)) (λ same. only_one k first same) (after.passes other first k is (inr (inl refl)) inside)
       by false is = absurd (refused (record { passes = λ _. before.passes (λ own. true≢false (sym own ∙ is)); begins = λ own. absurd (other own) }))
 
-  one_left : (missing left : LeafSet 16) (found : Option ℕ) → ((k : ℕ) → has_leaf left k ≡ (not (has_leaf done k) && has_leaf missing k)) →
+  one_left : (missing left : LeafSet w) (found : Option ℕ) → ((k : ℕ) → has_leaf left k ≡ (not (has_leaf done k) && has_leaf missing k)) →
       IfNone found ((k : ℕ) → has_leaf left k ≡ false) → IfSome found (λ k. IsTrue (has_leaf left k)) →
       ¬ ((k : ℕ) → IsTrue (has_leaf missing k) → IsTrue (has_leaf done k)) → ((k : ℕ) → IsTrue (has_leaf missing k) → ¬ IsTrue (has_leaf done k) → k ≡ first) → found ≡ Some first
   one_left missing left None left_is none member some only = absurd (some (λ k there. none_left (has_leaf done k) (has_leaf missing k) (sym (left_is k) ∙ none k) there))
@@ -49,7 +49,7 @@ module _ (row : PartRow) (done : LeafSet 16) (leaf first : ℕ) (refused : ¬ Pa
       ap (λ (n : ℕ). Some n) (only k there undone)
 
 pub returns : goal.returns
-returns c = λ first refused before after.
+returns g c = λ first refused before after.
     let row = c.args.self.now in
     let done = c.args.done.now in
     let leaf = c.args.leaf in
@@ -57,10 +57,10 @@ returns c = λ first refused before after.
     elim c.if-has.branch [
       | then-has w ↦
           let own = sym c.has.ensures ∙ w.if-has.true in
-          left (subst (λ (m : LeafSet 16). ¬ ((k : ℕ) → IsTrue (has_leaf m k) → IsTrue (has_leaf done k))) (sym w.missing-is) (some_outside row done leaf first refused before after own))
-          (subst (λ (m : LeafSet 16). (k : ℕ) → IsTrue (has_leaf m k) → ¬ IsTrue (has_leaf done k) → k ≡ first) (sym w.missing-is) (only_outside row done leaf first refused before after own))
+          left (subst (λ (m : LeafSet g.row.W). ¬ ((k : ℕ) → IsTrue (has_leaf m k) → IsTrue (has_leaf done k))) (sym w.missing-is) (some_outside row done leaf first refused before after own))
+          (subst (λ (m : LeafSet g.row.W). (k : ℕ) → IsTrue (has_leaf m k) → ¬ IsTrue (has_leaf done k) → k ≡ first) (sym w.missing-is) (only_outside row done leaf first refused before after own))
       | else-has w ↦
           let other = λ (own : IsTrue (has_leaf row.inside leaf)). true≢false (sym own ∙ sym c.has.ensures ∙ w.if-has.false) in
-          left (subst (λ (m : LeafSet 16). ¬ ((k : ℕ) → IsTrue (has_leaf m k) → IsTrue (has_leaf done k))) (sym w.missing-is) (some_inside row done leaf first refused before after other))
-          (subst (λ (m : LeafSet 16). (k : ℕ) → IsTrue (has_leaf m k) → ¬ IsTrue (has_leaf done k) → k ≡ first) (sym w.missing-is) (only_inside row done leaf first refused before after other))
+          left (subst (λ (m : LeafSet g.row.W). ¬ ((k : ℕ) → IsTrue (has_leaf m k) → IsTrue (has_leaf done k))) (sym w.missing-is) (some_inside row done leaf first refused before after other))
+          (subst (λ (m : LeafSet g.row.W). (k : ℕ) → IsTrue (has_leaf m k) → ¬ IsTrue (has_leaf done k) → k ≡ first) (sym w.missing-is) (only_inside row done leaf first refused before after other))
     ]

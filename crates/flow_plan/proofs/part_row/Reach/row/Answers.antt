@@ -6,7 +6,7 @@ use Rattle.flow_plan.proofs.PartLemmas.{left_over}
 use Rattle.flow_plan.proofs.part_row.Reach.row.Goals as goal
 
 pub returns : goal.returns
-returns c = λ ns rows reaches.
+returns g c = λ ns rows reaches.
     let reach = c.args.self.now in
     record {
       inside = reaches.0;

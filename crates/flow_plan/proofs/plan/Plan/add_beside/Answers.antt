@@ -1,6 +1,6 @@
 use Rattle.std.proofs.Common.{true≢false, inl, ⊎_elim, refl, sym, ◌∙◌}
-use Rattle.flow_plan.proofs.Readiness.{kept_as}
-use Rattle.flow_plan.proofs.StepRows.{beside_or_found, claims_next, adds_beside}
+use Rattle.flow_plan.proofs.Readiness.{kept_as, kept_listed}
+use Rattle.flow_plan.proofs.StepRows.{beside_or_found, claims_next, claims_in, rest_in, rows_add_beside}
 use Rattle.flow_plan.proofs.plan.Plan.add_beside.Goals as goal
 use Rattle.flow_plan.proofs.plan.Plan.add_beside.Goals.{then-is_empty-via-then-is_empty, then-is_empty-via-else-is_empty+then-not-is_subset}
 
@@ -20,5 +20,11 @@ returns-then-is_empty c done list next_is claims_are distinct n = (
 
 pub returns : goal.returns
 returns c done list next_is claims_are distinct =
-    adds_beside c.args.self.now done list c.args.next.now c.args.claims.now c.args.found c.rest_of-rest.result c.rest_of-rest.ensures next_is claims_are distinct
-    (kept_as c.self.invariant c.self.view_is refl c.deref.ensures.value) (c.is_subset.ensures.0 c.if-not-is_subset.false) c.keep_for.result c.both.result c.both.ensures c.keep_for.ensures
+    let p = c.args.self.now in
+    let rows = c.self.inside.rows in
+    let kept = kept_as rows c.self.invariant.kept c.self.view_is in
+    let listed = kept_listed rows kept refl in
+    let within = c.is_subset.ensures.0 c.if-not-is_subset.false in
+    rows_add_beside p done list c.args.next.now c.args.claims.now c.args.found c.rest_of-rest.result c.rest_of-rest.ensures next_is claims_are distinct rows kept within c.kept.result c.both.result c.both.ensures
+    (c.kept.ensures p kept (claims_in p done list c.args.next.now c.args.claims.now c.args.found c.rest_of-rest.result c.rest_of-rest.ensures next_is claims_are distinct listed within)
+    (rest_in p done list c.args.next.now c.args.claims.now c.args.found c.rest_of-rest.result c.rest_of-rest.ensures next_is claims_are distinct listed))

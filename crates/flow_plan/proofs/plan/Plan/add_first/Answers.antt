@@ -1,7 +1,7 @@
 use Rattle.std.proofs.Common.{inl, ⊎_elim, refl}
 use Rattle.flow_plan.specs.Progress.{IsDone}
-use Rattle.flow_plan.proofs.Readiness.{kept_as}
-use Rattle.flow_plan.proofs.StepRows.{first_is_other, first_or_found, adds_first}
+use Rattle.flow_plan.proofs.Readiness.{kept_as, kept_listed}
+use Rattle.flow_plan.proofs.StepRows.{first_is_other, first_or_found, claims_in, rest_in, rows_add_first}
 use Rattle.flow_plan.proofs.plan.Plan.add_first.Goals as goal
 
 pub returns-then-is_empty : goal.returns-then-is_empty
@@ -16,8 +16,16 @@ returns-then-is_empty c n = (
 
 pub returns-in-None : goal.returns-in-None
 returns-in-None c =
-    adds_first c.args.self.now c.args.done.now c.args.list.now c.args.next.now c.args.claims.now c.args.found c.rest_of-rest.result c.rest_of-rest.ensures c.requires.next c.requires.claims c.requires.distinct
-    (kept_as c.self.invariant c.self.view_is refl c.deref.ensures.value) c.in-None.ensures.none c.keep_for.result c.both.result c.both.ensures c.keep_for.ensures
+    let p = c.args.self.now in
+    let rows = c.self.inside.rows in
+    let kept = kept_as rows c.self.invariant.kept c.self.view_is in
+    let listed = kept_listed rows kept refl in
+    let within = c.in-None.ensures.none in
+    rows_add_first p c.args.done.now c.args.list.now c.args.next.now c.args.claims.now c.args.found c.rest_of-rest.result c.rest_of-rest.ensures c.requires.next c.requires.claims c.requires.distinct
+    rows kept within c.kept.result c.both.result c.both.ensures
+    (c.kept.ensures p kept
+    (claims_in p c.args.done.now c.args.list.now c.args.next.now c.args.claims.now c.args.found c.rest_of-rest.result c.rest_of-rest.ensures c.requires.next c.requires.claims c.requires.distinct listed within)
+    (rest_in p c.args.done.now c.args.list.now c.args.next.now c.args.claims.now c.args.found c.rest_of-rest.result c.rest_of-rest.ensures c.requires.next c.requires.claims c.requires.distinct listed))
 
 pub returns-in-Some : goal.returns-in-Some
 returns-in-Some c n =

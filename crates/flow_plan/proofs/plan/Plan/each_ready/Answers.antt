@@ -1,34 +1,25 @@
-use Rattle.std.proofs.Common.{◌≡◌, ◌+◌, ◌<◌, ◌↔◌, Bool, false, ℕ, List, IsTrue, drop, get_or, length, refl, subst, sym}
-use Rattle.std.proofs.lemmas.List.{drop_all, drop_more}
-use Rattle.flow_model.specs.Lists.{Each}
-use Rattle.flow_model.proofs.Lists.{each_member}
-use Rattle.flow_plan.specs.Orders.{MayComeNext}
-use Rattle.flow_plan.specs.Progress.{IsDone}
-use Rattle.flow_plan.proofs.PlaceLemmas.{read_member}
+use Rattle.std.proofs.Common.{arith, sym}
+use Rattle.flow_plan.specs.declared.table.Rows.TheVariants.{Narrow, Middle}
+use Rattle.flow_plan.proofs.Cuts.{each_by_cut}
+use Rattle.flow_plan.proofs.Readiness.{kept_in, table_filled}
 use Rattle.flow_plan.proofs.plan.Plan.each_ready.Goals as goal
 
-module _ (P : ℕ → Type 0) (list : List ℕ) (i : ℕ) (answer : Bool) (within : i < length list) (says : IsTrue answer ↔ P (get_or list i 0)) where
-  passed : IsTrue answer → Each P list ↔ Each P (drop i list) → Each P list ↔ Each P (drop (i + 1) list)
-  passed holds before = (
-    λ all. (subst (λ (l : List ℕ). Each P l) (drop_more list i 0 within) (before.0 all)).1,
-    λ rest. before.1 (subst (λ (l : List ℕ). Each P l) (sym (drop_more list i 0 within)) (says.0 holds, rest)),
-  )
+pub each_ready-requires : goal.each_ready-requires
+each_ready-requires c =
+    (omega arith, (omega arith, table_filled c.in-Narrow.table c.leaves.result.now (kept_in c.self.inside.rows (Narrow c.in-Narrow.table) c.self.invariant.kept c.self.view_is c.in-Narrow.is) c.leaves.ensures.rising c.leaves.ensures.leaves))
 
-  failed : answer ≡ false → IsTrue false ↔ Each P list
-  failed fails = (λ wrong. absurd (cc), λ all. let yes = says.1 (each_member P list all (get_or list i 0) (read_member list i within)) in absurd (cc))
+pub returns-in-Narrow : goal.returns-in-Narrow
+returns-in-Narrow c =
+    let table = kept_in c.self.inside.rows (Narrow c.in-Narrow.table) c.self.invariant.kept c.self.view_is c.in-Narrow.is in
+    each_by_cut c.args.self.now c.in-Narrow.table table c.args.done.now c.cut.result c.cut.ensures c.args.list.now c.each_ready.result
+    (c.each_ready.ensures c.args.self.now table (sym c.leaves.ensures.leaves))
 
-pub loop-leaf-preserved : goal.loop-leaf-preserved
-loop-leaf-preserved c =
-    passed (MayComeNext c.args.self.now (IsDone c.args.done.now)) c.args.list.now c.loop-leaf.leaf-index c.ready.result
-    c.loop-leaf-test.true c.ready.ensures c.if-not-ready.false c.loop-leaf.invariant
+pub each_ready-requires-in-Middle : goal.each_ready-requires-in-Middle
+each_ready-requires-in-Middle c =
+    (omega arith, (omega arith, table_filled c.in-Middle.table c.leaves-in-Middle.result.now (kept_in c.self.inside.rows (Middle c.in-Middle.table) c.self.invariant.kept c.self.view_is c.in-Middle.is) c.leaves-in-Middle.ensures.rising c.leaves-in-Middle.ensures.leaves))
 
-pub returns-then-not-ready : goal.returns-then-not-ready
-returns-then-not-ready c =
-    failed (MayComeNext c.args.self.now (IsDone c.args.done.now)) c.args.list.now c.loop-leaf.leaf-index c.ready.result
-    c.loop-leaf-test.true c.ready.ensures c.if-not-ready.true
-
-pub returns : goal.returns
-returns c = (
-  λ yes. c.loop-leaf.invariant.1 (subst (λ (l : List ℕ). Each (MayComeNext c.args.self.now (IsDone c.args.done.now)) l) (sym (drop_all c.loop-leaf.leaf-index c.args.list.now c.loop-leaf-test.false)) tt),
-  λ all. refl,
-)
+pub returns-in-Middle : goal.returns-in-Middle
+returns-in-Middle c =
+    let table = kept_in c.self.inside.rows (Middle c.in-Middle.table) c.self.invariant.kept c.self.view_is c.in-Middle.is in
+    each_by_cut c.args.self.now c.in-Middle.table table c.args.done.now c.cut-in-Middle.result c.cut-in-Middle.ensures c.args.list.now c.each_ready-in-Middle.result
+    (c.each_ready-in-Middle.ensures c.args.self.now table (sym c.leaves-in-Middle.ensures.leaves))

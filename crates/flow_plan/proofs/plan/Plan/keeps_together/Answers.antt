@@ -1,10 +1,21 @@
-use Rattle.std.proofs.Common.{refl}
-use Rattle.flow_plan.specs.Progress.{IsDone}
-use Rattle.flow_plan.proofs.Readiness.{kept_as}
-use Rattle.flow_plan.proofs.Together.{together_by_two}
+use Rattle.std.proofs.Common.{◌↔◌, List, IsTrue, subst}
+use Rattle.leaf_rows.specs.Leaves.{has_leaf}
+use Rattle.flow_model.specs.Lists.{Each}
+use Rattle.flow_plan.specs.declared.part_row.PartRow.{PartRow}
+use Rattle.flow_plan.specs.declared.table.Rows.TheVariants.{Narrow, Middle}
+use Rattle.flow_plan.specs.Parts.{KeepsTogether}
+use Rattle.flow_plan.proofs.Cuts.{together_by_cut}
+use Rattle.flow_plan.proofs.Readiness.{kept_in}
 use Rattle.flow_plan.proofs.plan.Plan.keeps_together.Goals as goal
 
-pub returns : goal.returns
-returns c done list is distinct each =
-    together_by_two (kept_as c.self.invariant c.self.view_is refl c.deref.ensures.value) (IsDone done) c.args.leaves.now list
-    c.parts_keep_together.result c.parts_keep_together.ensures is distinct each
+pub returns-in-Narrow : goal.returns-in-Narrow
+returns-in-Narrow c =
+    let table = kept_in c.self.inside.rows (Narrow c.in-Narrow.table) c.self.invariant.kept c.self.view_is c.in-Narrow.is in
+    together_by_cut c.args.self.now c.in-Narrow.table table c.args.leaves.now c.resized.result c.resized.ensures c.parts_keep_together.result
+    (subst (λ (parts : List (PartRow _)). IsTrue c.parts_keep_together.result ↔ Each (λ row. KeepsTogether row (λ x. IsTrue (has_leaf c.resized.result x))) parts) c.deref.ensures.value c.parts_keep_together.ensures)
+
+pub returns-in-Middle : goal.returns-in-Middle
+returns-in-Middle c =
+    let table = kept_in c.self.inside.rows (Middle c.in-Middle.table) c.self.invariant.kept c.self.view_is c.in-Middle.is in
+    together_by_cut c.args.self.now c.in-Middle.table table c.args.leaves.now c.resized-in-Middle.result c.resized-in-Middle.ensures c.parts_keep_together-in-Middle.result
+    (subst (λ (parts : List (PartRow _)). IsTrue c.parts_keep_together-in-Middle.result ↔ Each (λ row. KeepsTogether row (λ x. IsTrue (has_leaf c.resized-in-Middle.result x))) parts) c.deref-in-Middle.ensures.value c.parts_keep_together-in-Middle.ensures)

@@ -1,20 +1,25 @@
-use Rattle.std.proofs.Common.{ℕ, Some, ⊎_elim, ap, refl, sym, ◌∙◌}
-use Rattle.flow_model.proofs.Lists.{only_one}
-use Rattle.flow_plan.specs.Progress.{IsDone}
-use Rattle.flow_plan.proofs.PartLemmas.{left_over}
-use Rattle.flow_plan.proofs.Readiness.{Before, kept_as}
-use Rattle.flow_plan.proofs.StepRows.{none_left, parts_refuse}
+use Rattle.std.proofs.Common.{arith, sym}
+use Rattle.flow_plan.specs.declared.table.Rows.TheVariants.{Narrow, Middle}
+use Rattle.flow_plan.proofs.Cuts.{only_by_cut}
+use Rattle.flow_plan.proofs.Readiness.{kept_in, table_filled}
 use Rattle.flow_plan.proofs.plan.Plan.only_before.Goals as goal
 
-pub returns-in-None : goal.returns-in-None
-returns-in-None c first refused next after =
-    let all : (x : ℕ) → Before c.args.self.now x c.args.leaf → IsDone c.args.done.now x
-    = λ x direct. none_left _ _ (sym (c.remove_all.ensures x) ∙ c.in-None.ensures.none x) ((c.all_before-before.ensures x).1 direct) in
-    let told = parts_refuse (kept_as c.self.invariant c.self.view_is refl c.deref.ensures.value) (IsDone c.args.done.now) c.args.leaf first refused next after all in
-    c.missing.ensures first told.0 told.1 told.2
+pub only_before-requires : goal.only_before-requires
+only_before-requires c =
+    (omega arith, (omega arith, table_filled c.in-Narrow.table c.leaves.result.now (kept_in c.self.inside.rows (Narrow c.in-Narrow.table) c.self.invariant.kept c.self.view_is c.in-Narrow.is) c.leaves.ensures.rising c.leaves.ensures.leaves))
 
-pub returns-in-Some : goal.returns-in-Some
-returns-in-Some c first refused next after =
-    let found : ℕ = c.in-Some.first in
-    let told = (left_over (IsDone c.args.done.now found) (Before c.args.self.now found c.args.leaf) _ _ _ (c.remove_all.ensures found) (λ d. d, λ d. d) (c.all_before-before.ensures found)).0 c.in-Some.ensures.member in
-    ap Some (⊎_elim (λ done. absurd (told.0 done)) (λ last. only_one found first last) (after.before found told.1))
+pub returns-in-Narrow : goal.returns-in-Narrow
+returns-in-Narrow c =
+    let table = kept_in c.self.inside.rows (Narrow c.in-Narrow.table) c.self.invariant.kept c.self.view_is c.in-Narrow.is in
+    only_by_cut c.args.self.now c.in-Narrow.table table c.args.done.now c.cut.result c.cut.ensures c.args.leaf c.only_before.result
+    (c.only_before.ensures c.args.self.now table (sym c.leaves.ensures.leaves))
+
+pub only_before-requires-in-Middle : goal.only_before-requires-in-Middle
+only_before-requires-in-Middle c =
+    (omega arith, (omega arith, table_filled c.in-Middle.table c.leaves-in-Middle.result.now (kept_in c.self.inside.rows (Middle c.in-Middle.table) c.self.invariant.kept c.self.view_is c.in-Middle.is) c.leaves-in-Middle.ensures.rising c.leaves-in-Middle.ensures.leaves))
+
+pub returns-in-Middle : goal.returns-in-Middle
+returns-in-Middle c =
+    let table = kept_in c.self.inside.rows (Middle c.in-Middle.table) c.self.invariant.kept c.self.view_is c.in-Middle.is in
+    only_by_cut c.args.self.now c.in-Middle.table table c.args.done.now c.cut-in-Middle.result c.cut-in-Middle.ensures c.args.leaf c.only_before-in-Middle.result
+    (c.only_before-in-Middle.ensures c.args.self.now table (sym c.leaves-in-Middle.ensures.leaves))

@@ -1,16 +1,25 @@
-use Rattle.std.proofs.Common.{refl}
-use Rattle.flow_plan.specs.Progress.{IsDone}
-use Rattle.flow_plan.proofs.Following.{leaf_small}
-use Rattle.flow_plan.proofs.Readiness.{kept_as, ready_of_free, parts_of_ready}
+use Rattle.std.proofs.Common.{arith, sym}
+use Rattle.flow_plan.specs.declared.table.Rows.TheVariants.{Narrow, Middle}
+use Rattle.flow_plan.proofs.Cuts.{ready_by_cut}
+use Rattle.flow_plan.proofs.Readiness.{kept_in, table_filled}
 use Rattle.flow_plan.proofs.plan.Plan.ready.Goals as goal
 
-pub returns-then-is_unblocked : goal.returns-then-is_unblocked
-returns-then-is_unblocked c =
-    let kept = kept_as c.self.invariant c.self.view_is refl c.deref.ensures.value in
-    let free = c.is_unblocked.ensures.0 c.if-is_unblocked.true in (
-      λ yes. ready_of_free kept (IsDone c.args.done.now) c.args.leaf free (c.parts_allow.ensures.0 yes),
-      λ ready. c.parts_allow.ensures.1 (parts_of_ready kept (IsDone c.args.done.now) c.args.leaf ready),
-    )
+pub ready-requires : goal.ready-requires
+ready-requires c =
+    (omega arith, (omega arith, table_filled c.in-Narrow.table c.leaves.result.now (kept_in c.self.inside.rows (Narrow c.in-Narrow.table) c.self.invariant.kept c.self.view_is c.in-Narrow.is) c.leaves.ensures.rising c.leaves.ensures.leaves))
 
-pub parts_allow-requires : goal.parts_allow-requires
-parts_allow-requires c = leaf_small c.args.self.now c.args.done.now c.args.leaf c.requires (c.is_unblocked.ensures.0 c.if-is_unblocked.true).leaf
+pub returns-in-Narrow : goal.returns-in-Narrow
+returns-in-Narrow c =
+    let table = kept_in c.self.inside.rows (Narrow c.in-Narrow.table) c.self.invariant.kept c.self.view_is c.in-Narrow.is in
+    ready_by_cut c.args.self.now c.in-Narrow.table table c.args.done.now c.cut.result c.cut.ensures c.args.leaf c.ready.result
+    (c.ready.ensures c.args.self.now table (sym c.leaves.ensures.leaves))
+
+pub ready-requires-in-Middle : goal.ready-requires-in-Middle
+ready-requires-in-Middle c =
+    (omega arith, (omega arith, table_filled c.in-Middle.table c.leaves-in-Middle.result.now (kept_in c.self.inside.rows (Middle c.in-Middle.table) c.self.invariant.kept c.self.view_is c.in-Middle.is) c.leaves-in-Middle.ensures.rising c.leaves-in-Middle.ensures.leaves))
+
+pub returns-in-Middle : goal.returns-in-Middle
+returns-in-Middle c =
+    let table = kept_in c.self.inside.rows (Middle c.in-Middle.table) c.self.invariant.kept c.self.view_is c.in-Middle.is in
+    ready_by_cut c.args.self.now c.in-Middle.table table c.args.done.now c.cut-in-Middle.result c.cut-in-Middle.ensures c.args.leaf c.ready-in-Middle.result
+    (c.ready-in-Middle.ensures c.args.self.now table (sym c.leaves-in-Middle.ensures.leaves))

@@ -52,4 +52,4 @@ pub has-requires : goal.has-requires
 has-requires c = may_ask c.args.leaf (next_small c.args.self.now c.args.done.now c.args.leaf c.requires (c.ready.ensures.0 c.if-not-ready.false))
 
 pub with-requires : goal.with-requires
-with-requires c = next_small c.args.self.now c.args.done.now c.args.leaf c.requires (c.ready.ensures.0 c.if-not-ready.false)
+with-requires c = may_ask c.args.leaf (next_small c.args.self.now c.args.done.now c.args.leaf c.requires (c.ready.ensures.0 c.if-not-ready.false))

@@ -6,7 +6,7 @@ use Rattle.flow_plan.proofs.SweepLemmas.{two_on_top, went_on, join_first, join_s
 use Rattle.flow_plan.proofs.sweep.Sweep.join.Goals as goal
 
 pub returns-then-self-both : goal.returns-then-self-both
-returns-then-self-both c = λ q nodes h.
+returns-then-self-both g c = λ q nodes h.
     let s = c.args.self.now in
     let ns = c.args.leaves.now in
     let rest = c.pop-2.new.self.items in
@@ -15,7 +15,7 @@ returns-then-self-both c = λ q nodes h.
     (subst (λ (is : List ℕ). MakesRowsBy q (Join ∷ nodes) ns s.place s.sets.items s.ahead is s.rows.items) forks h)
 
 pub returns-then-side-both : goal.returns-then-side-both
-returns-then-side-both c = λ q nodes h.
+returns-then-side-both g c = λ q nodes h.
     let s = c.args.self.now in
     let ns = c.args.leaves.now in
     let rest = c.pop-2.new.self.items in
@@ -24,7 +24,7 @@ returns-then-side-both c = λ q nodes h.
     (subst (λ (is : List ℕ). MakesRowsBy q (Join ∷ nodes) ns s.place s.sets.items s.ahead is s.rows.items) forks h)
 
 pub returns : goal.returns
-returns c =
+returns g c =
     let s = c.args.self.now in
     let ns = c.args.leaves.now in
     let rest = c.pop-2.new.self.items in
@@ -36,7 +36,7 @@ returns c =
     (subst (λ (is : List ℕ). MakesRowsBy q (Join ∷ nodes) ns s.place s.sets.items s.ahead is s.rows.items) forks h)))
 
 pub returns-in_default-2 : goal.returns-in_default-2
-returns-in_default-2 c = λ q nodes h.
+returns-in_default-2 g c = λ q nodes h.
     let s = c.args.self.now in
     let forks = two_on_top c.pop-2.new.self.items c.pop.new.self.items s.forks.items c.in-Some-pop.both c.in-Some.side c.in-Some-pop.ensures.items c.in-Some.ensures.items in
     absurd (second_there q nodes c.args.leaves.now s.place s.sets.items s.ahead c.in-Some.side c.in-Some-pop.both (reverse c.pop-2.new.self.items) s.rows.items
@@ -44,5 +44,5 @@ returns-in_default-2 c = λ q nodes h.
     (sym c.set-2.ensures ∙ c.in_default-2.is-1))
 
 pub returns-in_default-2-2 : goal.returns-in_default-2-2
-returns-in_default-2-2 c = λ q nodes h.
+returns-in_default-2-2 g c = λ q nodes h.
     let e = sym h.2.0 ∙ sym c.set.ensures ∙ c.in_default-2.is-0 in absurd (cc)

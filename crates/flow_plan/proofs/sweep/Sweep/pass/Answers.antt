@@ -5,25 +5,25 @@ use Rattle.flow_plan.proofs.SweepLemmas.{nothing_passed}
 use Rattle.flow_plan.proofs.sweep.Sweep.pass.Goals as goal
 
 pub returns-in-Leaf : goal.returns-in-Leaf
-returns-in-Leaf c = subst (λ (node : Node). OnOk c.pass_leaf.result (Passes node c.args.leaves.now c.args.self.now c.pass_leaf.new.self)) (sym c.in-Leaf.is) c.pass_leaf.ensures
+returns-in-Leaf g c = subst (λ (node : Node). OnOk c.pass_leaf.result (Passes node c.args.leaves.now c.args.self.now c.pass_leaf.new.self)) (sym c.in-Leaf.is) c.pass_leaf.ensures
 
 pub returns-in-Fork : goal.returns-in-Fork
-returns-in-Fork c = subst (λ (node : Node). OnOk c.fork.result (Passes node c.args.leaves.now c.args.self.now c.fork.new.self)) (sym c.in-Fork.is) c.fork.ensures
+returns-in-Fork g c = subst (λ (node : Node). OnOk c.fork.result (Passes node c.args.leaves.now c.args.self.now c.fork.new.self)) (sym c.in-Fork.is) c.fork.ensures
 
 pub returns-in-Split : goal.returns-in-Split
-returns-in-Split c = subst (λ (node : Node). OnOk c.split.result (Passes node c.args.leaves.now c.args.self.now c.split.new.self)) (sym c.in-Split.is) c.split.ensures
+returns-in-Split g c = subst (λ (node : Node). OnOk c.split.result (Passes node c.args.leaves.now c.args.self.now c.split.new.self)) (sym c.in-Split.is) c.split.ensures
 
 pub returns-in-Join : goal.returns-in-Join
-returns-in-Join c = subst (λ (node : Node). OnOk c.join.result (Passes node c.args.leaves.now c.args.self.now c.join.new.self)) (sym c.in-Join.is) c.join.ensures
+returns-in-Join g c = subst (λ (node : Node). OnOk c.join.result (Passes node c.args.leaves.now c.args.self.now c.join.new.self)) (sym c.in-Join.is) c.join.ensures
 
 pub returns-in-Nop : goal.returns-in-Nop
-returns-in-Nop c = nothing_passed c.args.node.now c.args.leaves.now c.args.self.now c.in-Nop.is
+returns-in-Nop g c = nothing_passed c.args.node.now c.args.leaves.now c.args.self.now c.in-Nop.is
 
 pub returns-in-Nop-2 : goal.returns-in-Nop-2
-returns-in-Nop-2 c = nothing_passed c.args.node.now c.args.leaves.now c.args.self.now c.in-Nop.is
+returns-in-Nop-2 g c = nothing_passed c.args.node.now c.args.leaves.now c.args.self.now c.in-Nop.is
 
 pub returns-in-Nop-3 : goal.returns-in-Nop-3
-returns-in-Nop-3 c = nothing_passed c.args.node.now c.args.leaves.now c.args.self.now c.in-Nop.is
+returns-in-Nop-3 g c = nothing_passed c.args.node.now c.args.leaves.now c.args.self.now c.in-Nop.is
 
 pub returns-in-Nop-4 : goal.returns-in-Nop-4
-returns-in-Nop-4 c = nothing_passed c.args.node.now c.args.leaves.now c.args.self.now c.in-Nop.is
+returns-in-Nop-4 g c = nothing_passed c.args.node.now c.args.leaves.now c.args.self.now c.in-Nop.is

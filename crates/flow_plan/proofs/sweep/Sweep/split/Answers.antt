@@ -5,7 +5,7 @@ use Rattle.flow_plan.proofs.SweepLemmas.{top_of, two_on_top, split_passed}
 use Rattle.flow_plan.proofs.sweep.Sweep.split.Goals as goal
 
 pub returns : goal.returns
-returns c = λ q nodes h.
+returns g c = λ q nodes h.
     let s = c.args.self.now in
     let ns = c.args.leaves.now in
     let rest = c.pop.new.self.items in

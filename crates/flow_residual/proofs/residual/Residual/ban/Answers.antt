@@ -7,9 +7,10 @@ use Rattle.flow_residual.specs.Remaining.{Remaining, MayComeNext}
 use Rattle.flow_residual.specs.View.{remaining, pairs_of_bans}
 use Rattle.flow_residual.specs.Options.{EachHas}
 use Rattle.flow_residual.specs.Track.{IsTrack}
-use Rattle.flow_residual.specs.Invariant.{IsKept, banned}
+use Rattle.flow_residual.specs.Invariant.{AreOpenPlaces, IsKept, banned}
 use Rattle.flow_residual.proofs.DoneLemmas.{AreDone}
 use Rattle.flow_residual.proofs.KeptLemmas.{at_most_all, room_left, next_small, next_free, kept_ban, pairs_of_more, length-pairs, one_each_lent, followed}
+use Rattle.flow_residual.proofs.OpenPlaces.{opens_banned}
 use Rattle.flow_residual.proofs.residual.Residual.ban.Goals as goal
 
 pub overflow_cast-index : goal.overflow_cast-index
@@ -42,7 +43,7 @@ invariant_of-self c =
     let more : r.bans ++ (c.len-index.result, c.args.leaf) ∷ [] ≡ pairs_of_bans c.push_reserved.new.self.items =
     sym (ap pairs_of_bans c.push_reserved.ensures.items ∙ pairs_of_more i.bans.items (record { index = c.len-index.result; leaf = c.args.leaf })) in
     record {
-      kept = subst (λ (bans : List (ℕ × ℕ)). IsKept (record r { bans = bans })) more (kept_ban r k.kept c.args.leaf next c.len-index.result);
+      kept = subst (λ (bans : List (ℕ × ℕ)). IsKept (record r { bans = bans })) more (kept_ban r k.kept c.args.leaf next c.len-index.result (omega (arith, c.len-index.ensures, i.journal.ok.0)));
       tracks = subst (λ (bans : List (ℕ × ℕ)). EachHas (IsTrack i.journal.items bans) r.options (with_items i.tracks c.follow.new.tracks).items) more
           (followed i (Banned (record { index = c.len-index.result; leaf = c.args.leaf })) _ _ _ _ k c.deref.ensures.value c.deref-2.ensures.value c.deref_mut.ensures.value c.follow.ensures);
       rows_one_each = c.self.invariant.rows_one_each;
@@ -52,6 +53,9 @@ invariant_of-self c =
       journal_room = k.journal_room;
       bans_room = let same : vec_capacity c.push_reserved.new.self ≡ vec_capacity i.bans = c.push_reserved.ensures.capacity in
           let room : MOST_LEAVES ≤ vec_capacity i.bans = k.bans_room in omega arith;
+      opens = subst (λ (bans : List (ℕ × ℕ)). AreOpenPlaces (record r { bans = bans }) i.opens.items) more
+          (opens_banned r i.opens.items k.opens c.len-index.result c.args.leaf (omega (arith, c.len-index.ensures, i.journal.ok.0)));
+      opens_room = k.opens_room;
     }
 
 pub follow-requires-clause-one_each : goal.follow-requires-clause-one_each

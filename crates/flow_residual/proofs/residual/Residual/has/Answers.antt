@@ -8,6 +8,3 @@ returns-in-Without c o at = rw c.in-Without.is (c.leaves_out.ensures o at)
 
 pub returns-in-Finished : goal.returns-in-Finished
 returns-in-Finished c o at = rw c.in-Finished.is (c.is_finished.ensures o at)
-
-pub returns-in-Open : goal.returns-in-Open
-returns-in-Open c o at = rw c.in-Open.is (c.is_open_for.ensures o at)

@@ -36,4 +36,6 @@ invariant_of-self c =
       done_are = k.done_are;
       journal_room = k.journal_room;
       bans_room = k.bans_room;
+      opens = k.opens;
+      opens_room = k.opens_room;
     }

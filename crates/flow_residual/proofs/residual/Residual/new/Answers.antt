@@ -10,4 +10,4 @@ invariant_of-result c =
     let room = c.in_ok-tracks.ensures in
     roomy_first _ c.plans.result.now (c.plans.ensures.plans ∙ sym c.into_plans.ensures.plans)
     (subst (λ (plans : List Sampled). Each HasSmallLeaves (options_of plans)) (sym c.into_plans.ensures.plans) c.plans.ensures.small)
-    room.tracks room.rows room.journal room.bans refl c.new-2.ensures.bound c.new-2.ensures.none room.journal_room room.bans_room
+    room.tracks room.rows room.journal room.bans refl c.new-2.ensures.bound c.new-2.ensures.none room.journal_room room.bans_room room.opens room.opens_room

@@ -1,4 +1,4 @@
-use Rattle.std.proofs.Common.{true≢false, ◌≡◌, ◌≤◌, ◌<◌, ◌++◌, [], ◌∷◌, ℕ, List, length, take, nat_le, slice_index, rules, sym, ap, ◌∙◌, subst, subst₂, arith}
+use Rattle.std.proofs.Common.{true≢false, ◌≡◌, ◌≤◌, ◌<◌, ◌++◌, [], ◌∷◌, ℕ, List, length, take, nat_le, nat_lt, slice_index, rules, sym, ap, ◌∙◌, subst, subst₂, arith}
 use Rattle.std.specs.List.{filter}
 use Rattle.std.specs.Vec.{vec_len, vec_capacity, with_items}
 use Rattle.std.proofs.lemmas.Fn.{filter_same}
@@ -11,9 +11,10 @@ use Rattle.flow_residual.specs.Remaining.{Remaining}
 use Rattle.flow_residual.specs.View.{remaining, pairs_of_bans}
 use Rattle.flow_residual.specs.Options.{EachHas}
 use Rattle.flow_residual.specs.Track.{IsTrack}
-use Rattle.flow_residual.specs.Invariant.{IsKept, banned}
+use Rattle.flow_residual.specs.Invariant.{AreOpenPlaces, IsKept, banned}
 use Rattle.flow_residual.proofs.DoneLemmas.{AreDone}
 use Rattle.flow_residual.proofs.KeptLemmas.{few_front, rewind_room, kept_rewind, pairs_of_more, pairs_of_left, length-pairs, one_each_lent, followed}
+use Rattle.flow_residual.proofs.OpenPlaces.{opens_rewound}
 use Rattle.flow_residual.proofs.residual.Residual.rewind_to.Goals as goal
 
 pub follow-requires-clause-done : goal.follow-requires-clause-done
@@ -52,6 +53,7 @@ invariant_of-self c =
     let pairs : List (ℕ × ℕ) = filter (λ ban. nat_le ban.0 index) r.bans ++ (index, leaf) ∷ [] in
     let bans : pairs ≡ pairs_of_bans c.push_reserved.new.self.items = sym (bans_are i.bans.items c.retain.new.self.items c.push_reserved.new.self.items index leaf stay c.push_reserved.ensures.items) in
     let journal : take index i.journal.items ≡ c.truncate.new.self.items = sym c.truncate.ensures.items in
+    let cut : c.retain-2.new.self.items ≡ filter (λ place. nat_lt place index) i.opens.items = filter_same _ _ _ (λ x b f' k. search rules) _ _ c.retain-2.ensures.filtered in
     let made : IsKept (record r { journal = take index i.journal.items; bans = pairs }) =
     subst (λ n. IsKept (record r { journal = take index i.journal.items; bans = filter (λ ban. nat_le ban.0 index) r.bans ++ (index, n) ∷ [] })) (sym is) (kept_rewind r k.kept index within) in
     record {
@@ -67,6 +69,10 @@ invariant_of-self c =
       bans_room = let one : vec_capacity c.push_reserved.new.self ≡ vec_capacity c.retain.new.self = c.push_reserved.ensures.capacity in
           let two : vec_capacity c.retain.new.self ≡ vec_capacity i.bans = c.retain.ensures.capacity in
           let room : MOST_LEAVES ≤ vec_capacity i.bans = k.bans_room in omega arith;
+      opens = subst₂ (λ (journal : List ℕ) (bans : List (ℕ × ℕ)). AreOpenPlaces (record r { journal = journal; bans = bans }) c.retain-2.new.self.items) journal bans
+          (subst (AreOpenPlaces (record r { journal = take index i.journal.items; bans = pairs })) (sym cut) (opens_rewound r i.opens.items k.opens index leaf within));
+      opens_room = let same : vec_capacity c.retain-2.new.self ≡ vec_capacity i.opens = c.retain-2.ensures.capacity in
+          let room : MOST_LEAVES ≤ vec_capacity i.opens = k.opens_room in omega arith;
     }
 
 pub returns : goal.returns

@@ -1,0 +1,13 @@
+-- What stands at a place of a list that has one more.
+use Rattle.std.proofs.Common.{◌≡◌, ℕ, zero, suc, ◌⊎◌, List, [], ◌∷◌, ◌++◌, length, Some, slice_get, refl, sym, ap, inl, inr}
+use Rattle.flow_model.proofs.MadeLists.{some_same}
+
+pub at_one_more : {A : Type 0} (xs : List A) (y x : A) (k : ℕ) → slice_get (xs ++ y ∷ []) k ≡ Some x →
+    (slice_get xs k ≡ Some x) ⊎ ((k ≡ length xs) × (x ≡ y))
+at_one_more [] y x zero e = inr (refl, sym (some_same y x e))
+at_one_more [] y x (suc k) e = cc
+at_one_more (z ∷ xs) y x zero e = inl e
+at_one_more (z ∷ xs) y x (suc k) e = elim (at_one_more xs y x k e) [
+  | inl before ↦ inl before
+  | inr last ↦ inr (ap suc last.0, last.1)
+]

@@ -1,0 +1,4 @@
+pub mod Cuts
+pub mod Findings
+pub mod Shares
+pub mod Single

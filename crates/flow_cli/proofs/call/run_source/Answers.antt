@@ -1,0 +1,19 @@
+use Rattle.std.proofs.lemmas.Result.{IfOk-weaker}
+use Rattle.flow_form.specs.Script.{said}
+use Rattle.flow_words.specs.declared.request.Mode.TheVariants.{Run}
+use Rattle.flow_cli.proofs.Outcomes.{all_answered, stopped_read}
+use Rattle.flow_cli.proofs.call.run_source.Goals as goal
+
+pub returns-in-Ok : goal.returns-in-Ok
+returns-in-Ok g c =
+    all_answered Run g.G.Gate.gives c.args.request (g.S.Source.left c.args.source.now) (g.S.Source.left c.read_input.new.source)
+    (g.S.Source.faults c.args.source.now) (g.S.Source.faults c.read_input.new.source) tt (said c.in-Ok.input.script) c.in-Ok.input.second.items
+    c.run_input-output.result c.in-Ok.ensures.input (λ more. let no = c.in-Ok.ensures.fault.1 more in cc) c.in-Ok.ensures.left c.run_input-output.ensures
+
+pub returns-in-Err : goal.returns-in-Err
+returns-in-Err g c =
+    IfOk-weaker c.refuse.result _ _
+    (λ output. stopped_read Run g.G.Gate.gives c.args.request (g.S.Source.left c.args.source.now) (g.S.Source.left c.read_input.new.source)
+    (g.S.Source.faults c.args.source.now) (g.S.Source.faults c.read_input.new.source) tt _ c.in-Err.stop output.status output.text.items
+    c.in-Err.ensures.stop c.in-Err.ensures.fault c.in-Err.ensures.left)
+    c.refuse.ensures

@@ -1,4 +1,0 @@
-use Rattle.flow_crew.proofs.held.Held.core.Goals as goal
-
-pub returns-clause-by_workers : goal.returns-clause-by_workers
-returns-clause-by_workers g c = rw (← c.self.view_is) c.self.invariant

@@ -1,4 +1,0 @@
-use Rattle.flow_crew.proofs.held.Held.verdict.Goals as goal
-
-pub returns : goal.returns
-returns g c = rw (← c.self.view_is) c.verdict.ensures

@@ -1,0 +1,227 @@
+-- Which choices stay: what a walk of a goal finds, step by step.
+use Rattle.std.proofs.Common.{◌≡◌, ◌==◌, ◌<◌, ◌≤◌, ◌↔◌, ℕ, Option, Some, None, zero, suc, ◌+◌, ◌-◌, ◌^◌, Bool, true, false, not, ◌&&◌, ◌||◌, if◌then◌else◌, List, [], ◌∷◌, ◌++◌, length, set, refl, sym, ap, ◌∙◌, subst, append_assoc, length-append, append-nil, get_or, inl, inr, arith, min}
+use Rattle.std.proofs.Math.Seq.{set-append_seam}
+use Rattle.std.proofs.lemmas.Bool.{cases_lt, eqb-true, eq-eqb}
+use Rattle.std.specs.Cmp.{both_ways}
+use Rattle.std.proofs.lemmas.List.{get_or_past}
+use Rattle.std.proofs.lemmas.List.Folds.{list_any-append}
+use Rattle.flow_model.specs.declared.labels.Label.{Label}
+use Rattle.flow_model.specs.Lists.{◌∈◌, numbers_from}
+use Rattle.flow_model.specs.Facts.{event_at}
+use Rattle.flow_model.specs.Constraint.{all_of}
+use Rattle.flow_model.specs.Schema.{Schema}
+use Rattle.flow_model.specs.Process.{Process, Empty, Task, Sequence, Parallel, Choice, Isolated, leaves, IsNumbered}
+use Rattle.flow_model.specs.Trace.{Blocks}
+use Rattle.flow_model.specs.Resolution.{resolution_count}
+use Rattle.std.specs.List.{list_any}
+use Rattle.flow_model.specs.Folding.{named_events, is_among, is_named, may_be_empty, is_foldable, folded_count, choices_of, staying_choices}
+use Rattle.flow_model.proofs.MadeLists.{length-numbers_from, some_passes, passing_member}
+use Rattle.flow_laws.proofs.FoldingLemmas.{empty_blocks, may_stay, all_choices_stay, empty_without_leaf}
+use Rattle.flow_goal.specs.declared.fold.Fold.{Fold}
+use Rattle.flow_goal.specs.declared.measure.Measure.{Measure}
+use Rattle.flow_goal.specs.declared.walk.Walk.{Walk}
+use Rattle.flow_goal.specs.declared.folds.Folds.{Folds}
+use Rattle.flow_goal.specs.Capped.{capped}
+use Rattle.flow_goal.specs.Labelled.{Labelled}
+use Rattle.flow_goal.specs.Folds.{named_by, flags_in, IsSpanOf, AreSpansOf, AreFoldsOf}
+use Rattle.flow_goal.specs.Measure.{by_flags, measure_of, both_of, choice_of, spans_in, Walks}
+use Rattle.flow_goal.proofs.Counting.{product_capped, sum_capped}
+use Rattle.flow_goal.proofs.Numbers.{AreRows, rows}
+
+-- what is found of two parts that both stay
+
+pub measure-Sequence : (apart : ℕ → Bool) (a b : Process) → both_of (measure_of apart a) (measure_of apart b) ≡ measure_of apart (Sequence a b)
+measure-Sequence apart a b = λ i. record {
+  apart = sym (list_any-append apart (leaves a) (leaves b)) i;
+  empty = (measure_of apart (Sequence a b)).empty;
+  choice_free = (measure_of apart (Sequence a b)).choice_free;
+  foldable = (measure_of apart (Sequence a b)).foldable;
+  all = product_capped (2 ^ 64 - 1) (resolution_count a) (resolution_count b) i;
+  folded = product_capped (2 ^ 64 - 1) (folded_count apart a) (folded_count apart b) i;
+}
+
+-- the same of what is found of each
+pub both_measured : (apart : ℕ → Bool) (a b : Process) (m n : Measure) → m ≡ measure_of apart a → n ≡ measure_of apart b →
+    both_of m n ≡ measure_of apart (Sequence a b)
+both_measured apart a b m n e f = (λ i. both_of (e i) (f i)) ∙ measure-Sequence apart a b
+
+-- what is found of a choice
+
+kept_capped : (stays : Bool) (m n : ℕ) → (if stays then 1 else min (min m (2 ^ 64 - 1) + min n (2 ^ 64 - 1)) (2 ^ 64 - 1)) ≡ min (if stays then 1 else m + n) (2 ^ 64 - 1)
+kept_capped true m n = refl
+kept_capped false m n = sum_capped (2 ^ 64 - 1) m n
+
+measure-Choice : (apart : ℕ → Bool) (a b : Process) → choice_of (measure_of apart a) (measure_of apart b) ≡ measure_of apart (Choice a b)
+measure-Choice apart a b =
+    let some = sym (list_any-append apart (leaves a) (leaves b)) in
+    let stays = λ (any : Bool). (not any && not (may_be_empty a || may_be_empty b)) && (is_foldable apart a && is_foldable apart b) in λ i. record {
+      apart = some i;
+      empty = may_be_empty a || may_be_empty b;
+      choice_free = false;
+      foldable = stays (some i);
+      all = sum_capped (2 ^ 64 - 1) (resolution_count a) (resolution_count b) i;
+      folded = (kept_capped (stays (list_any apart (leaves a) || list_any apart (leaves b))) (folded_count apart a) (folded_count apart b)
+          ∙ ap (λ any. min (if stays any then 1 else folded_count apart a + folded_count apart b) (2 ^ 64 - 1)) some) i;
+    }
+
+pub choice_measured : (apart : ℕ → Bool) (a b : Process) (m n : Measure) → m ≡ measure_of apart a → n ≡ measure_of apart b →
+    choice_of m n ≡ measure_of apart (Choice a b)
+choice_measured apart a b m n e f = (λ i. choice_of (e i) (f i)) ∙ measure-Choice apart a b
+
+-- a walk of a choice
+
+flags_walked : (old x y : List Bool) (stays : Bool) → set (((old ++ false ∷ []) ++ x) ++ y) (length old) stays ≡ old ++ stays ∷ (x ++ y)
+flags_walked old x y stays =
+    ap (λ list. set list (length old) stays) (append_assoc (old ++ false ∷ []) x y ∙ append_assoc old (false ∷ []) (x ++ y))
+    ∙ set-append_seam old false (x ++ y) stays
+
+spans_walked : (old x y z : List Fold) → ((old ++ x) ++ y) ++ z ≡ old ++ ((x ++ y) ++ z)
+spans_walked old x y z = ap (λ list. list ++ z) (append_assoc old x y) ∙ append_assoc old (x ++ y) z
+
+pub choice_walked : (apart : ℕ → Bool) (isolated : Bool) (a b : Process) (old begun middle last new : Walk) (fold : Fold) (stays : Bool) →
+    begun.next ≡ old.next → begun.flags.items ≡ old.flags.items ++ false ∷ [] → begun.spans.items ≡ old.spans.items →
+    Walks apart isolated a begun middle → Walks apart isolated b middle last →
+    new.next ≡ last.next → new.flags.items ≡ set last.flags.items (length old.flags.items) stays →
+    new.spans.items ≡ last.spans.items ++ (if stays then fold ∷ [] else []) →
+    fold ≡ record { first = old.next; middle = middle.next; end = last.next } → stays ≡ (not isolated && is_foldable apart (Choice a b)) →
+    Walks apart isolated (Choice a b) old new
+choice_walked apart isolated a b old begun middle last new fold stays n0 f0 s0 one two n1 f1 s1 is kept =
+    let at_middle : middle.next ≡ old.next + length (leaves a) = one.next ∙ ap (λ n. n + length (leaves a)) n0 in
+    let at_last : last.next ≡ old.next + length (leaves a) + length (leaves b) = two.next ∙ ap (λ n. n + length (leaves b)) at_middle in
+    let folds : List Fold = if not isolated && is_foldable apart (Choice a b) then record { first = old.next; middle = middle.next; end = last.next } ∷ [] else [] in
+    record {
+      next = omega (arith, n1, at_last, length-append (leaves a) (leaves b));
+      flags = f1 ∙ (λ i. set (((two.flags ∙ ap (λ list. list ++ flags_in apart isolated b) (one.flags ∙ ap (λ list. list ++ flags_in apart isolated a) f0)) i)) (length old.flags.items) (kept i))
+          ∙ flags_walked old.flags.items (flags_in apart isolated a) (flags_in apart isolated b) (not isolated && is_foldable apart (Choice a b));
+      spans = s1 ∙ (λ i. (two.spans ∙ (λ j. (one.spans ∙ (λ k. s0 k ++ spans_in apart isolated (n0 k) a)) j ++ spans_in apart isolated (at_middle j) b)) i
+          ++ (if kept i then is i ∷ [] else []))
+          ∙ spans_walked old.spans.items (spans_in apart isolated old.next a) (spans_in apart isolated (old.next + length (leaves a)) b) folds
+          ∙ (λ i. old.spans.items ++ ((spans_in apart isolated old.next a ++ spans_in apart isolated (old.next + length (leaves a)) b)
+          ++ (if not isolated && is_foldable apart (Choice a b) then record { first = old.next; middle = at_middle i; end = at_last i } ∷ [] else [])));
+    }
+
+-- Where the choices that stay have their leaves
+
+are_spans-append : (xs ys : List (Process × Process)) (s t : List Fold) → AreSpansOf xs s → AreSpansOf ys t → AreSpansOf (xs ++ ys) (s ++ t)
+are_spans-append [] ys [] t h k = k
+are_spans-append [] ys (fold ∷ s) t h k = absurd h
+are_spans-append (x ∷ xs) ys [] t h k = absurd h
+are_spans-append (x ∷ xs) ys (fold ∷ s) t h k = (h.0, are_spans-append xs ys s t h.1 k)
+
+none_isolated : (apart : ℕ → Bool) (next : ℕ) (g : Process) → spans_in apart true next g ≡ []
+none_isolated apart next Empty = refl
+none_isolated apart next (Task n) = refl
+none_isolated apart next (Sequence a b) = λ i. none_isolated apart next a i ++ none_isolated apart (next + length (leaves a)) b i
+none_isolated apart next (Parallel a b) = λ i. none_isolated apart next a i ++ none_isolated apart (next + length (leaves a)) b i
+none_isolated apart next (Choice a b) = λ i. (none_isolated apart next a i ++ none_isolated apart (next + length (leaves a)) b i) ++ []
+none_isolated apart next (Isolated a) = none_isolated apart next a
+
+-- a side has a leaf
+some_leaf : (g : Process) (first count : ℕ) → leaves g ≡ numbers_from first count → ¬ (Blocks g []) → 0 < count
+some_leaf g first zero e busy = absurd (busy (empty_blocks g (empty_without_leaf g (sym e))))
+some_leaf g first (suc count) e busy = omega arith
+
+abbrev fold_of : Process → Process → ℕ → Fold
+fold_of a b first = record { first = first; middle = first + length (leaves a); end = first + length (leaves a) + length (leaves b) }
+
+is_span : (a b : Process) (first count : ℕ) → AreRows (leaves a) (leaves b) first count → ¬ (Blocks (Choice a b) []) → IsSpanOf (a, b) (fold_of a b first)
+is_span a b first count r busy =
+    let left : length (leaves a) ≡ r.left = ap length r.front_is ∙ length-numbers_from first r.left in
+    let right : length (leaves b) ≡ r.right = ap length r.back_is ∙ length-numbers_from (first + r.left) r.right in
+    let one = some_leaf a first r.left r.front_is (λ h. busy (inl h)) in
+    let other = some_leaf b (first + r.left) r.right r.back_is (λ h. busy (inr h)) in
+    record {
+      left = r.front_is ∙ ap (numbers_from first) (omega arith);
+      right = r.back_is ∙ (λ i. numbers_from ((ap (λ n. first + n) (sym left)) i) ((let e : r.right ≡ first + length (leaves a) + length (leaves b) - (first + length (leaves a)) = omega arith in e) i));
+      left_some = omega arith;
+      right_some = omega arith;
+    }
+
+-- those inside a choice, and where it stays its own
+choice_spans : (apart : ℕ → Bool) (a b : Process) (first count : ℕ) (stays : Bool) → is_foldable apart (Choice a b) ≡ stays → AreRows (leaves a) (leaves b) first count →
+    (s t : List Fold) → AreSpansOf (staying_choices apart a) s → AreSpansOf (staying_choices apart b) t →
+    AreSpansOf (if stays then choices_of (Choice a b) else staying_choices apart a ++ staying_choices apart b) ((s ++ t) ++ (if stays then fold_of a b first ∷ [] else []))
+choice_spans apart a b first count true e r s t h k =
+    let stay = may_stay apart a b e in
+    are_spans-append (choices_of a ++ choices_of b) ((a, b) ∷ []) (s ++ t) (fold_of a b first ∷ [])
+    (are_spans-append (choices_of a) (choices_of b) s t (subst (λ list. AreSpansOf list s) (all_choices_stay apart a stay.left) h)
+    (subst (λ list. AreSpansOf list t) (all_choices_stay apart b stay.right) k)) (is_span a b first count r stay.not_empty, tt)
+choice_spans apart a b first count false e r s t h k =
+    subst (λ list. AreSpansOf (staying_choices apart a ++ staying_choices apart b) list) (sym (append-nil (s ++ t)))
+    (are_spans-append (staying_choices apart a) (staying_choices apart b) s t h k)
+
+-- the second of two rows of leaves
+next_row : (a b : Process) (first count : ℕ) → (r : AreRows (leaves a) (leaves b) first count) → leaves b ≡ numbers_from (first + length (leaves a)) r.right
+next_row a b first count r =
+    r.back_is ∙ ap (λ n. numbers_from (first + n) r.right) (sym (ap length r.front_is ∙ length-numbers_from first r.left))
+
+pub are_spans : (apart : ℕ → Bool) (g : Process) (first count : ℕ) → leaves g ≡ numbers_from first count →
+    AreSpansOf (staying_choices apart g) (spans_in apart false first g)
+are_spans apart Empty first count e = tt
+are_spans apart (Task n) first count e = tt
+are_spans apart (Sequence a b) first count e =
+    let r = rows (leaves a) (leaves b) first count e in
+    are_spans-append (staying_choices apart a) (staying_choices apart b) _ _
+    (are_spans apart a first r.left r.front_is) (are_spans apart b (first + length (leaves a)) r.right (next_row a b first count r))
+are_spans apart (Parallel a b) first count e =
+    let r = rows (leaves a) (leaves b) first count e in
+    are_spans-append (staying_choices apart a) (staying_choices apart b) _ _
+    (are_spans apart a first r.left r.front_is) (are_spans apart b (first + length (leaves a)) r.right (next_row a b first count r))
+are_spans apart (Choice a b) first count e =
+    let r = rows (leaves a) (leaves b) first count e in
+    choice_spans apart a b first count (is_foldable apart (Choice a b)) refl r _ _
+    (are_spans apart a first r.left r.front_is) (are_spans apart b (first + length (leaves a)) r.right (next_row a b first count r))
+are_spans apart (Isolated a) first count e = subst (λ list. AreSpansOf [] list) (sym (none_isolated apart first a)) tt
+
+-- What is made of a tree
+
+unnamed_past : (labels : List Label) (events : List ℕ) (leaf : ℕ) → length labels ≤ leaf → named_by labels events leaf ≡ false
+unnamed_past [] events leaf h = refl
+unnamed_past (label ∷ labels) events zero h = absurd (omega arith)
+unnamed_past (label ∷ labels) events (suc leaf) h = unnamed_past labels events leaf (omega arith)
+
+pub named_everywhere : (labels : List Label) (events : List ℕ) (flags : List Bool) (size : ℕ) → length flags ≡ size → length labels ≤ size →
+    ((leaf : ℕ) → leaf < size → get_or flags leaf false ≡ named_by labels events leaf) → (leaf : ℕ) → get_or flags leaf false ≡ named_by labels events leaf
+named_everywhere labels events flags size e le within leaf = elim (cases_lt leaf size) [
+  | inl lt ↦ within leaf lt
+  | inr ge ↦ get_or_past flags leaf false (omega arith) ∙ sym (unnamed_past labels events leaf (omega arith))
+]
+
+-- as many as are numbered
+pub leaves_numbered : (g : Process) (size : ℕ) → IsNumbered g size → length (leaves g) ≡ size
+leaves_numbered g size whole = ap length whole ∙ length-numbers_from 0 size
+
+-- the folds by the flags of the leaves are those by the events that are named
+pub folds_made : (t : Labelled) (events : List ℕ) (size : ℕ) → IsNumbered t.process size → (folds : Folds) (walk last : Walk) (m : Measure) →
+    ((leaf : ℕ) → get_or folds.named.items leaf false ≡ named_by t.labels events leaf) →
+    walk.next ≡ 0 → walk.flags.items ≡ [] → walk.spans.items ≡ [] → Walks (by_flags folds.named.items) false t.process walk last →
+    m ≡ measure_of (by_flags folds.named.items) t.process → folds.flags.items ≡ last.flags.items → folds.spans.items ≡ last.spans.items → folds.count ≡ m.folded →
+    AreFoldsOf t events folds
+folds_made t events size whole folds walk last m named at_first no_flags no_spans walks measured flags spans count =
+    let same : by_flags folds.named.items ≡ named_by t.labels events = λ i leaf. named leaf i in
+    record {
+      named = named;
+      flags = flags ∙ walks.flags ∙ (λ i. no_flags i ++ flags_in (same i) false t.process);
+      spans = subst (AreSpansOf (staying_choices (named_by t.labels events) t.process))
+          (sym (spans ∙ walks.spans ∙ (λ i. no_spans i ++ spans_in (same i) false (at_first i) t.process)))
+          (are_spans (named_by t.labels events) t.process 0 size whole);
+      count = count ∙ ap (λ (k : Measure). k.folded) measured ∙ ap (λ apart. capped (folded_count apart t.process)) same;
+    }
+
+-- The same events in another list
+
+same_among : (xs ys : List ℕ) (event : ℕ) → ((event ∈ xs) ↔ (event ∈ ys)) → is_among xs (Some event) ≡ is_among ys (Some event)
+same_among xs ys event same = both_ways _ _ (passes xs ys same.0) (passes ys xs same.1)
+  where
+    passes : (us vs : List ℕ) → (event ∈ us → event ∈ vs) → is_among us (Some event) ≡ true → is_among vs (Some event) ≡ true
+    passes us vs to e =
+        let (x, m, f) = passing_member (λ x. x == event) us e in
+        some_passes (λ x. x == event) event vs (to (subst (λ y. y ∈ us) (eqb-true x event f) m)) (eq-eqb event event refl)
+
+-- where just these events are named, the test is that of the workflow
+pub named_is : (w : Schema) (events : List ℕ) → ((e : ℕ) → (e ∈ events) ↔ (e ∈ named_events (all_of w.rules))) → named_by w.labels events ≡ is_named w
+named_is w events same = λ i leaf. among (event_at w.labels leaf) i
+  where
+    among : (event : Option ℕ) → is_among events event ≡ is_among (named_events (all_of w.rules)) event
+    among None = refl
+    among (Some event) = same_among events (named_events (all_of w.rules)) event (same event)

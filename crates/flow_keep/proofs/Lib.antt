@@ -1,0 +1,11 @@
+pub mod RecordLemmas
+pub mod MomentLemmas
+pub mod AppendLemmas
+pub mod AppendCalls
+pub mod EntryLemmas
+pub mod ToldLemmas
+pub mod AnswerLemmas
+pub mod LastEntry
+pub mod ReadLemmas
+pub mod SlotLemmas
+pub mod OpenLemmas

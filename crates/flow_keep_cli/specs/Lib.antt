@@ -1,0 +1,7 @@
+pub mod Words
+pub mod Status
+pub mod Lines
+pub mod Session
+pub mod Asked
+pub mod Hindrances
+pub mod Course

@@ -1,0 +1,106 @@
+ghost use Rattle.std.specs.Prelude.{◌≡◌, ◌≢◌, ◌-◌, ◌^◌, ◌<◌, ◌≤◌, ◌↔◌, ◌⊎◌, ℕ, List, map};
+ghost use Rattle.std.specs.String.{string_bytes};
+ghost use Rattle.std.specs.Io.KnownBytes.{Appends};
+ghost use Rattle.flow_plan.specs.Compilation.{IsCompiled};
+ghost use Rattle.flow_keep_cli.specs.Words.{IsStepCount};
+ghost use Rattle.flow_workflow.specs.Definition.{schema_of};
+ghost use Rattle.flow_keep_cli.specs.Asked.{IsRefused};
+ghost use Rattle.flow_keep_cli.specs.Course.{IsCourse, IsBefore, IsCutOff, IsDriven, IsTurnedAway, IsOver, IsRefusal, IsMishap};
+
+use crate::asked::{Asked, Looked, look};
+use crate::begin::{Hindered, begin};
+use crate::say::{say, tell};
+use crate::session::go_on;
+use crate::status::KeepStatus;
+use crate::words::{Call, call_of};
+use flow_disk::Disk;
+use flow_io::{Sink, Source};
+use std::alloc::Global;
+
+/// What is written where the words are no call.
+const WORDS_TEXT: &[u8] = b"refused: words\nusage: flowkeep PATH [--steps N]\n";
+
+/// Keeps a session in the file that the call names.
+fn keep_session<K: Sink, D: Disk>(
+    alloc: Global,
+    call: Call<'_>,
+    asked: Asked,
+    sink: &mut K,
+    disk: D,
+) -> (KeepStatus, D)
+    requires compiled { IsCompiled (schema_of asked.workflow) asked.compiled }
+    requires steps { IsStepCount call.steps }
+    requires disk_counts { D.faults disk < 2 ^ 64 - 1 }
+    requires sink_counts { K.faults sink.old < 2 ^ 64 - 1 }
+    ensures course { IsCourse D.tells D.moment D.image D.synced D.seen D.faults asked.workflow call.entry.steps asked.commands.items
+        disk result.1 (K.held sink.old) (K.held sink.new) result.0 }
+    ensures write_fault { (result.0 ≡ KeepStatus.WriteFault) ↔ (K.faults sink.old < K.faults sink.new) }
+    ensures disk_fault { result.0 ≡ KeepStatus.Disk → D.faults disk < D.faults result.1 }
+    ensures disk_fault_told { D.faults disk < D.faults result.1 → (result.0 ≡ KeepStatus.Disk) ⊎ (result.0 ≡ KeepStatus.WriteFault) }
+    ensures input { IsRefusal result.0 → result.0 ≡ KeepStatus.Input }
+{
+    let Asked {
+        workflow,
+        compiled,
+        commands,
+    } = asked;
+    match begin(alloc, call, workflow, compiled, disk) {
+        Ok(mut keep) => {
+            let status = go_on(alloc, &mut keep, &commands, sink);
+            (status, keep.into_disk())
+        }
+        Err(Hindered { disk, why }) => (tell(alloc, why, sink), disk),
+    }
+}
+
+/// The program: reads a workflow and a session from the source, and drives the workflow by it, going on with the run that the file of the
+/// path keeps. Each reply is written after its entry is in the file. The disk is given back however the call ends.
+pub fn flowkeep<S: Source, K: Sink, D: Disk>(
+    alloc: Global,
+    words: &[String],
+    source: &mut S,
+    sink: &mut K,
+    disk: D,
+) -> (KeepStatus, D)
+    requires source_counts { S.faults source.old < 2 ^ 64 - 1 }
+    requires sink_counts { K.faults sink.old < 2 ^ 64 - 1 }
+    requires disk_counts { D.faults disk < 2 ^ 64 - 1 }
+
+    // Whole: it wrote how many entries the file kept, the replies and the report of the session that goes on from these, and the status is that of
+    // the report's verdict. A read of the disk then gives the history of that report. Or no execution of the workflow meets its constraints.
+    ensures whole { IsOver result.0 → IsTurnedAway (map (λ word. string_bytes word) words.now) (S.left source.old)
+        disk result.1 (K.held sink.old) (K.held sink.new) result.0
+        ⊎ IsDriven D.tells D.moment D.image D.synced D.seen D.faults (map (λ word. string_bytes word) words.now) (S.left source.old)
+        disk result.1 (K.held sink.old) (K.held sink.new) result.0 }
+    // Cut: the first line was written whole, and a crash leaves the entries kept at first with those of some first lines of the session, of each
+    // whose reply was written whole.
+    ensures cut { IsMishap result.0 → IsCutOff D.tells D.moment D.image D.synced D.seen D.faults (map (λ word. string_bytes word) words.now) (S.left source.old)
+        disk result.1 (K.held sink.old) (K.held sink.new) result.0
+        ⊎ IsBefore D.tells D.moment D.image D.synced D.seen D.faults (map (λ word. string_bytes word) words.now) (S.left source.old)
+        disk result.1 (K.held sink.old) (K.held sink.new) result.0 }
+    // Before: it was not, and a crash leaves the entries kept at first.
+    ensures before { IsRefusal result.0 → IsBefore D.tells D.moment D.image D.synced D.seen D.faults (map (λ word. string_bytes word) words.now) (S.left source.old)
+        disk result.1 (K.held sink.old) (K.held sink.new) result.0 }
+
+    // When each fault is told. A write that fails stands in place of all else, and a disk that failed of all but that.
+    ensures write_fault { (result.0 ≡ KeepStatus.WriteFault) ↔ (K.faults sink.old < K.faults sink.new) }
+    ensures disk_fault { result.0 ≡ KeepStatus.Disk → D.faults disk < D.faults result.1 }
+    ensures disk_fault_told { D.faults disk < D.faults result.1 → (result.0 ≡ KeepStatus.Disk) ⊎ (result.0 ≡ KeepStatus.WriteFault) }
+    ensures read_fault { result.0 ≡ KeepStatus.ReadFault → S.faults source.old < S.faults source.new }
+    ensures read_fault_told { S.faults source.old < S.faults source.new →
+        (result.0 ≡ KeepStatus.ReadFault) ⊎ ((result.0 ≡ KeepStatus.WriteFault) ⊎ (result.0 ≡ KeepStatus.Memory)) }
+    ensures words { result.0 ≡ KeepStatus.Words → source.new ≡ source.old }
+{
+    let Some(call) = call_of(words) else {
+        return (say(sink, KeepStatus::Words, WORDS_TEXT), disk);
+    };
+    match look(alloc, source) {
+        Ok(Looked::Ready(asked)) => keep_session(alloc, call, asked, sink, disk),
+        Ok(Looked::Refused(output)) => {
+            let status = say(sink, KeepStatus::from(output.status), &output.text);
+            drop(output);
+            (status, disk)
+        }
+        Err(_) => (KeepStatus::Memory, disk),
+    }
+}

@@ -1,0 +1,55 @@
+ghost use Rattle.std.specs.Prelude.{◌≡◌, ◌-◌, ◌^◌, ◌<◌, ℕ, List, [], false, IfErr, OnOk};
+ghost use Rattle.std.specs.Io.KnownBytes.{Appends};
+ghost use Rattle.flow_drive.specs.Replies.{Drives};
+ghost use Rattle.flow_keep.specs.Holding.{run_of, disk_of, is_broken};
+ghost use Rattle.flow_keep_cli.specs.Session.{driver, IsCut, BehindReplies, CountsCut};
+
+use crate::answers::serve;
+use flow_disk::Disk;
+use flow_io::{Sink, write_all};
+use flow_keep::Keep;
+use flow_record::Command;
+use flow_reply::print_reply;
+use std::alloc::Global;
+
+/// Why a session was cut short.
+#[derive(Clone, Copy)]
+pub enum Cut {
+    /// There was not enough memory for a reply.
+    Memory,
+    /// The sink failed.
+    Sink,
+    /// The disk failed.
+    Disk,
+}
+
+/// Goes through the commands. The reply to each is written once the entry that came of it is in the file.
+pub fn reply_to_all<K: Sink, D: Disk>(
+    alloc: Global,
+    keep: &mut Keep<D>,
+    commands: &[Command],
+    sink: &mut K,
+) -> Result<(), Cut>
+    requires disk_counts { D.faults (disk_of keep.old) < 2 ^ 64 - 1 }
+    requires sink_counts { K.faults sink.old < 2 ^ 64 - 1 }
+    requires whole { is_broken keep.old ≡ false }
+    ensures cause { CountsCut (D.faults (disk_of keep.old)) (D.faults (disk_of keep.new)) (K.faults sink.old) (K.faults sink.new) result }
+    ensures unbroken { OnOk result (is_broken keep.new ≡ false) }
+    ensures replies { OnOk result ((text : List ℕ) × Drives (run_of keep.old) driver commands.now text (run_of keep.new)
+        × Appends (K.held sink.old) (K.held sink.new) text) }
+    ensures cut { IfErr result (λ cut. IsCut (run_of keep.old) commands.now (BehindReplies commands.now cut) []
+        (K.held sink.old) (K.held sink.new) D.tells (D.image (disk_of keep.new) (D.moment (disk_of keep.new)))) }
+{
+    for command in commands {
+        let Ok(answer) = serve(keep, command) else {
+            return Err(Cut::Disk);
+        };
+        let Ok(line) = print_reply(alloc, keep.core(), command, &answer) else {
+            return Err(Cut::Memory);
+        };
+        let Ok(()) = write_all(sink, &line) else {
+            return Err(Cut::Sink);
+        };
+    }
+    Ok(())
+}

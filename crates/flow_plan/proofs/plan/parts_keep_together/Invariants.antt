@@ -1,8 +1,0 @@
-use Rattle.std.proofs.Common.{IsTrue, take}
-use Rattle.leaf_rows.specs.Leaves.{has_leaf}
-use Rattle.flow_model.specs.Lists.{Each}
-use Rattle.flow_plan.specs.Parts.{KeepsTogether}
-use Rattle.flow_plan.proofs.plan.parts_keep_together.Given as goal
-
-abbrev pub invariant-loop-part : goal.invariant-loop-part
-invariant-loop-part l = Each (λ row. KeepsTogether row (λ x. IsTrue (has_leaf l.leaves x))) (take l.part-index l.parts)

@@ -1,0 +1,202 @@
+//! The rows of a plan, as wide as its leaves ask for.
+ghost use Rattle.std.specs.Prelude.{◌≡◌, ◌<◌, ◌≤◌, ◌*◌, ◌↔◌, ℕ, IsTrue, IfNone, IfOk, IfSome};
+ghost use Rattle.std.specs.List.Sorted.{IsStrictlyIncreasing};
+ghost use Rattle.flow_model.specs.Lists.{◌∈◌, Each};
+ghost use Rattle.flow_model.specs.Process;
+ghost use Rattle.flow_model.specs.Ready.{DirectlyBefore};
+ghost use Rattle.flow_laws.specs.WellFormed.{IsOrdered};
+ghost use Rattle.leaf_rows.specs.Leaves.{has_leaf};
+ghost use Rattle.flow_plan.specs.Fields.{AreKept, Fills, IsTableOf};
+ghost use Rattle.flow_plan.specs.Orders.{IsUnblocked, MayComeNext};
+ghost use Rattle.flow_plan.specs.Parts.{KeepsTogether, PartAllows};
+ghost use Rattle.flow_plan.specs.Planned.{Planned, pairs_of, planned};
+ghost use Rattle.flow_plan.specs.Rows.{IsDue};
+
+use crate::part_row::PartRow;
+use crate::parts::part_rows;
+use crate::places::place_of;
+use crate::rows::before_rows;
+use crate::sets::set_of;
+use crate::token::OrderToken;
+use flow_goal::Choiceless;
+use flow_model::MOST_LEAVES;
+use leaf_rows::{LEAF_WORDS, LeafSet};
+use std::alloc::{AllocError, Global};
+
+/// The words of rows in a plan of few leaves.
+pub(crate) const NARROW_WORDS: usize = 2;
+
+/// The words of rows in any other plan.
+pub(crate) const MIDDLE_WORDS: usize = 16;
+
+const _: () = prove!(MOST_LEAVES as usize == 64 * LEAF_WORDS);
+
+/// Rows of one width.
+#[derive(Drop)]
+pub(crate) struct Table<const W: usize> {
+    /// The leaves of the plan.
+    pub(crate) all: LeafSet<W>,
+    /// For each leaf, the leaves directly before it.
+    pub(crate) before: Vec<LeafSet<W>>,
+    pub(crate) parts: Vec<PartRow<W>>,
+}
+
+/// Rows as wide as the last leaf asks for. A further width is one more variant here, a line in `by_width`, a line in
+/// `AreKept` and in `EachKeeps`, and a branch in `new`.
+#[derive(Drop)]
+pub(crate) enum Rows {
+    Narrow(Table<NARROW_WORDS>),
+    Middle(Table<MIDDLE_WORDS>),
+}
+
+/// What the table of the rows answers, of whatever width it is.
+macro_rules! by_width {
+    ($rows:expr, $table:ident => $answer:expr) => {
+        match $rows {
+            Rows::Narrow($table) => $answer,
+            Rows::Middle($table) => $answer,
+        }
+    };
+}
+
+pub(crate) use by_width;
+
+/// Whether each of the leaves is below the number.
+fn all_below(leaves: &[u32], bound: u32) -> bool
+    requires { IsStrictlyIncreasing leaves.now }
+    ensures { IsTrue result → Each (λ n. n < bound) leaves.now }
+{
+    match leaves.last() {
+        Some(last) => *last < bound,
+        None => true,
+    }
+}
+
+impl Rows {
+    /// The rows of the goal and the tokens.
+    pub(crate) fn new(
+        alloc: Global,
+        goal: &Choiceless,
+        tokens: &[OrderToken],
+    ) -> Result<Rows, AllocError>
+        requires small { Each (λ n. n < MOST_LEAVES) goal.now.leaves }
+        requires ordered { IsOrdered goal.now.process (pairs_of tokens.now) }
+        ensures { IfOk result (λ rows. AreKept (planned goal.now tokens.now) rows) }
+    {
+        if all_below(goal.leaves(), 64 * NARROW_WORDS as u32) {
+            return Ok(Rows::Narrow(Table::new(alloc, goal, tokens)?));
+        }
+        Ok(Rows::Middle(Table::new(alloc, goal, tokens)?))
+    }
+}
+
+/// Whether the leaf is not done, and all of its row is.
+pub(crate) fn frees<const W: usize>(done: &LeafSet<W>, leaf: u32, row: &LeafSet<W>) -> bool
+    requires { leaf < 64 * W }
+    ensures { IsTrue result ↔ IsDue (λ x _. IsTrue (has_leaf row.now x)) (λ x. IsTrue (has_leaf done.now x)) leaf }
+{
+    !done.has(leaf) && row.is_subset(done)
+}
+
+/// Whether each part lets the leaf come next.
+fn parts_allow<const W: usize>(parts: &[PartRow<W>], done: &LeafSet<W>, leaf: u32) -> bool
+    requires { leaf < 64 * W }
+    ensures { IsTrue result
+        ↔ Each (λ row. PartAllows row (λ x. IsTrue (has_leaf done.now x)) leaf) parts.now }
+{
+    for part in parts {
+        if !part.allows(done, leaf) {
+            return false;
+        }
+    }
+    true
+}
+
+/// Whether each part has all of the leaves, or none of them.
+pub(crate) fn parts_keep_together<const W: usize>(parts: &[PartRow<W>], leaves: &LeafSet<W>) -> bool
+    ensures { IsTrue result
+        ↔ Each (λ row. KeepsTogether row (λ x. IsTrue (has_leaf leaves.now x))) parts.now }
+{
+    for part in parts {
+        if !part.keeps_together(leaves) {
+            return false;
+        }
+    }
+    true
+}
+
+impl<const W: usize> Table<W> {
+    /// The rows of the goal and the tokens.
+    #[tactic(auto, using(crate::proofs::RowLemmas::rows_length))]
+    fn new(alloc: Global, goal: &Choiceless, tokens: &[OrderToken]) -> Result<Table<W>, AllocError>
+        requires wide { W ≤ 64 }
+        requires within { Each (λ n. n < 64 * W) goal.now.leaves }
+        requires ordered { IsOrdered goal.now.process (pairs_of tokens.now) }
+        ensures { IfOk result (λ table. IsTableOf (planned goal.now tokens.now) table) }
+    {
+        let before = before_rows(alloc, goal, tokens)?;
+        let parts = part_rows(alloc, goal, &before)?;
+        Ok(Table {
+            all: set_of(goal.leaves()),
+            before,
+            parts,
+        })
+    }
+
+    /// The row of the leaf, where these are the leaves.
+    pub(crate) fn row_of(&self, leaves: &[u32], leaf: u32) -> Option<&LeafSet<W>>
+        requires { Fills leaves.now self.now.before.items }
+        ensures small { IfSome result (λ _. leaf < 64 * W) }
+        ensures leaf { IfSome result (λ _. leaf ∈ leaves.now) }
+        ensures row { IfSome result (λ row. (p : Planned) → IsTableOf p self.now → p.leaves ≡ leaves.now → (x : ℕ) →
+            IsTrue (has_leaf row.now x) ↔ DirectlyBefore p.process (pairs_of p.tokens) x leaf) }
+        ensures missing { IfNone result (¬ (leaf ∈ leaves.now)) }
+    {
+        match place_of(leaves, leaf) {
+            Some(place) => Some(&self.before[place]),
+            None => None,
+        }
+    }
+
+    /// The leaves directly before that leaf.
+    pub(crate) fn all_before(&self, leaves: &[u32], leaf: u32) -> LeafSet<W>
+        requires { Fills leaves.now self.now.before.items }
+        ensures { (p : Planned) → IsTableOf p self.now → p.leaves ≡ leaves.now → (x : ℕ) →
+            IsTrue (has_leaf result x) ↔ DirectlyBefore p.process (pairs_of p.tokens) x leaf }
+    {
+        match self.row_of(leaves, leaf) {
+            Some(row) => *row,
+            None => LeafSet::new(),
+        }
+    }
+
+    /// Whether the leaf is not done, and all that is directly before it is.
+    fn is_unblocked(&self, leaves: &[u32], done: &LeafSet<W>, leaf: u32) -> bool
+        requires { Fills leaves.now self.now.before.items }
+        ensures small { IsTrue result → leaf < 64 * W }
+        ensures free { (p : Planned) → IsTableOf p self.now → p.leaves ≡ leaves.now →
+            IsTrue result ↔ IsUnblocked p (λ x. IsTrue (has_leaf done.now x)) leaf }
+    {
+        match self.row_of(leaves, leaf) {
+            Some(row) => frees(done, leaf, row),
+            None => false,
+        }
+    }
+
+    /// Whether the leaf may come next after the done ones.
+    pub(crate) fn ready(&self, leaves: &[u32], done: &LeafSet<W>, leaf: u32) -> bool
+        requires { Fills leaves.now self.now.before.items }
+        ensures { (p : Planned) → IsTableOf p self.now → p.leaves ≡ leaves.now →
+            IsTrue result ↔ MayComeNext p (λ x. IsTrue (has_leaf done.now x)) leaf }
+    {
+        self.is_unblocked(leaves, done, leaf) && parts_allow(&self.parts, done, leaf)
+    }
+
+    /// Whether each leaf of the plan is done.
+    pub(crate) fn complete(&self, done: &LeafSet<W>) -> bool
+        ensures { (p : Planned) → IsTableOf p self.now →
+            IsTrue result ↔ ((n : ℕ) → n ∈ Process.leaves p.process → IsTrue (has_leaf done.now n)) }
+    {
+        self.all.is_subset(done)
+    }
+}
