@@ -427,6 +427,12 @@ def twelve_choices_beside_a_thousand_nothings():
 
 
 @text
+def seven_choices_beside_an_order_of_a_thousand_backwards():
+    order = " ".join(f"e{number}" for number in reversed(range(1000)))
+    return f"event {choice_events(7)}, {names('e', 1000, ', ')}; goal {choices(7)} | {names('e', 1000, ' | ')}; constraint order {order};"
+
+
+@text
 def twelve_choices_and_a_thousand_nothings_side_by_side():
     return f"event {choice_events(12)}; goal {choices(12)} | {' | '.join('nop' for _ in range(1000))};"
 

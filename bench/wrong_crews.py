@@ -1,12 +1,12 @@
 #!/usr/bin/env python3
-"""Wrong bodies of run_crew that its contract lets through, since none says that threads run: each must fail the tests of
-crates/test_threads.
+"""Wrong bodies of run_crew and audit that their contracts let through, since none says that threads run: each must fail the tests
+of crates/test_threads.
 
 Usage: bench/wrong_crews.py [BODY ..]     without one all, and the right body first
 
 Each body is put into a copy of the crates, and the tests are built there with no proof (rt try --test). That build is slow, so a task
-looks for the others 10,000,000 times there, and not 1,000,000,000. The script ends with 1 where a wrong body passes, or the right one
-does not.
+or a check looks for the others 10,000,000 times there, and not 1,000,000,000. The script ends with 1 where a wrong body passes, or the
+right one does not.
 """
 import pathlib
 import re
@@ -17,7 +17,8 @@ import tempfile
 
 TOP = pathlib.Path(__file__).resolve().parent.parent
 CREW = "crates/flow_crew/src/crew.rt"
-TESTS = "crates/test_threads/src/tests/workers.rt"
+AUDITS = "crates/flow_audit/src/audits.rt"
+TESTS = "crates/test_threads/src/tests"
 
 # In place of std's: the second begins when the first has ended.
 JOIN = """
@@ -49,15 +50,33 @@ impl<'g, G: Gate> flow_turn::Job<Held<G>> for InTurn<'g, G> {
     }
 }
 """
+# In place of std's: the calls one after another.
+MAP_INDICES = """
+fn map_indices<R: Threads + Sync, X: Send + Drop, F: Fn(usize) -> X + Sync>(
+    _rt: &R,
+    alloc: Global,
+    n: usize,
+    f: &F,
+) -> Result<Vec<X>, AllocError> {
+    let mut all = Vec::new(alloc);
+    for i in 0..n {
+        all.push(f(i))?;
+    }
+    Ok(all)
+}
+"""
 ALL = "work_all(rt, alloc, held, &gate, workers);"
-# Of each body what it changes, and what it adds at the end.
+STEP = "cuts.len().min(workers as usize)"
+# Of each body the file, what it changes there, and what it adds at the end.
 BODIES = {
-    "right": ({}, ""),
-    "one_thread": ({"use std::thread::{Threads, join};": "use std::thread::Threads;"}, JOIN),
-    "holds_the_lock": ({"ask(rt, lock, idle, &mut pass)": "lock.with_turn(rt, &mut pass, InTurn { gate })"}, IN_TURN),
-    "one_worker": ({ALL: ALL.replace("workers", "1")}, ""),
-    "three_workers_at_most": ({ALL: ALL.replace("workers", "workers.min(3)")}, ""),
-    "one_worker_less": ({ALL: ALL.replace("workers", "workers - workers / 64")}, ""),
+    "right": (CREW, {}, ""),
+    "one_thread": (CREW, {"use std::thread::{Threads, join};": "use std::thread::Threads;"}, JOIN),
+    "holds_the_lock": (CREW, {"ask(rt, lock, idle, &mut pass)": "lock.with_turn(rt, &mut pass, InTurn { gate })"}, IN_TURN),
+    "one_worker": (CREW, {ALL: ALL.replace("workers", "1")}, ""),
+    "three_workers_at_most": (CREW, {ALL: ALL.replace("workers", "workers.min(3)")}, ""),
+    "one_worker_less": (CREW, {ALL: ALL.replace("workers", "workers - workers / 64")}, ""),
+    "audit_by_one_thread": (AUDITS, {"use std::thread::{Threads, map_indices};": "use std::thread::Threads;"}, MAP_INDICES),
+    "audit_by_one_worker_less": (AUDITS, {STEP: STEP.replace("workers as usize", "workers as usize - 1")}, ""),
 }
 
 
@@ -71,18 +90,19 @@ def changed(file, changes):
 
 def ends_of_tests(name):
     """Of each test whether it passes with this body."""
-    changes, more = BODIES[name]
+    body, changes, more = BODIES[name]
     with tempfile.TemporaryDirectory() as place:
         top = pathlib.Path(place)
         shutil.copytree(TOP / "crates", top / "crates", ignore=shutil.ignore_patterns("out"))
         for file in ["crates.txt", "HANDLES"]:
             shutil.copy(TOP / file, top)
-        changed(top / CREW, changes)
-        (top / CREW).write_text((top / CREW).read_text() + more)
-        changed(top / TESTS, {" = 1_000_000_000;": " = 10_000_000;"})
+        changed(top / body, changes)
+        (top / body).write_text((top / body).read_text() + more)
+        for tests in ["workers.rt", "audits.rt"]:
+            changed(top / TESTS / tests, {" = 1_000_000_000;": " = 10_000_000;"})
         # the interpreter that is asked first would not come to the end of a wait
         words = ["rt", "try", "--test", "--steps", "1", "--seconds", "600"]
-        ran = subprocess.run(words, cwd=top / TESTS[:TESTS.index("src")], capture_output=True, text=True, check=False)
+        ran = subprocess.run(words, cwd=(top / TESTS).parent.parent, capture_output=True, text=True, check=False)
     told = ran.stdout + ran.stderr
     ends = {test: end == "ok" for test, end in re.findall(r"(?m)^test tests::\w+::(\w+) \.\.\. (\w+)", told)}
     assert ends, told
