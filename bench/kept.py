@@ -142,15 +142,15 @@ def retries(count):
 
 
 def killed(path, lines, moment, out):
-    """Calls flowkeep and kills it at that moment, where it still runs; gives what it wrote."""
+    """Calls flowkeep and kills it at that moment; gives what it wrote, and whether it still ran."""
     with open(out, "wb") as sink, tempfile.TemporaryFile() as source:
         source.write(source_of(RETRIED, lines))
         source.seek(0)
         call = subprocess.Popen([KEEP, str(path)], stdin=source, stdout=sink, stderr=subprocess.DEVNULL)
         time.sleep(moment)
         call.send_signal(signal.SIGKILL)
-        call.wait()
-    return pathlib.Path(out).read_bytes()
+        was_killed = call.wait() == -signal.SIGKILL
+    return pathlib.Path(out).read_bytes(), was_killed
 
 
 def try_kills(folder, count, chosen):
@@ -162,8 +162,8 @@ def try_kills(folder, count, chosen):
         if before >= len(lines):
             whole, before = whole + 1, 0
             path.unlink()
-        written = killed(path, lines[before:], chosen.choice([0.004, 0.02, 0.3]) * chosen.random(), out)
-        kills += 1
+        written, was_killed = killed(path, lines[before:], chosen.choice([0.004, 0.02, 0.3]) * chosen.random(), out)
+        kills += was_killed
         acknowledged = before + min(len(replies_of(written)), len(lines) - before)
         now = bodies_of(path.read_bytes() if path.exists() else b"")
         entries = [f"{it[0]}: {it[1]}" for it in map(entry_of, now)]
