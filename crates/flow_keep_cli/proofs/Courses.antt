@@ -125,7 +125,7 @@ module _ {D : Type 0} (tells : Type 0) (moment : D → ℕ) (image : D → ℕ �
   Course = IsCourse tells moment image synced seen faults w steps commands disk disk' held held' result
 
   -- it was begun, and the disk is then what it left
-  pub course_begun : (begun left : D) (first : Run) → first ≡ run_from w steps first.history → IsFound tells (seen disk) first.history →
+  pub course_begun : (begun left : D) (first : Run) → first ≡ run_from w steps first.history → IsFound tells (seen disk) w steps first.history →
       IsSafe tells moment image synced seen faults disk begun → faults begun ≡ faults disk → disk' ≡ left →
       ((left ≡ begun) × IsFirstLine first.history held held' result)
       ⊎ (IsCut first commands (BehindStatus commands result) (kept_line (length first.history)) held held' tells (image left (moment left))

@@ -11,7 +11,7 @@ use Rattle.flow_record.specs.History.{IsSmall}
 use Rattle.flow_io.specs.Sink.{AppendsPart}
 use Rattle.flow_disk.specs.Disk.{Rests}
 use Rattle.flow_keep.specs.Records.{records, Keeps}
-use Rattle.flow_keep.specs.Opened.{KeepsRecords, IsForeign}
+use Rattle.flow_keep.specs.Opened.{KeepsRecords, IsForeign, HasNoForeign}
 use Rattle.flow_keep_cli.specs.declared.begin.Hindrance.{Hindrance}
 use Rattle.flow_keep_cli.specs.declared.begin.Hindrance.TheVariants as hindrance
 use Rattle.flow_keep_cli.specs.declared.status.KeepStatus.{KeepStatus}
@@ -52,10 +52,11 @@ IsTold hindrance.NoMemory held held' result = IsSilent held held' result
 abbrev pub run_from : Definition → ℕ → List Entry → Run
 run_from w steps history = record { definition = w; limit = steps; history = history }
 
--- what the disk kept when the call began
-pub record IsFound (tells : Type 0) (seen : List ℕ) (history : List Entry) : Type 0 where
+-- what a read gave when the call began keeps this history of the workflow, and no foreign record
+pub record IsFound (tells : Type 0) (seen : List ℕ) (w : Definition) (steps : ℕ) (history : List Entry) : Type 0 where
   pub small : Each IsSmall history
   pub keeps : tells → Keeps history seen
+  pub all : tells → HasNoForeign (schema_of w) steps (records seen)
 
 -- The words or the source are refused, and the disk is as it was.
 abbrev pub IsTurnedAway : {D : Type 0} → List (List ℕ) → Option (List ℕ) → D → D → Option (List ℕ) → Option (List ℕ) → KeepStatus → Type 0
@@ -86,19 +87,19 @@ module _ {D : Type 0} (tells : Type 0) (moment : D → ℕ) (image : D → ℕ �
   IsNotBegun w steps disk disk' held held' result =
       ((why : Hindrance) × IsHindered w steps disk why disk' × IsTold why held held' result)
       ⊎ (¬ (faults disk < faults disk')
-      × ((history : List Entry) × IsFound tells (seen disk) history × IsFirstLine history held held' result))
+      × ((history : List Entry) × IsFound tells (seen disk) w steps history × IsFirstLine history held held' result))
 
   -- After the first line was written whole the disk or the sink failed, or there was no memory.
   pub record IsCutShort (w : Definition) (steps : ℕ) (commands : List Command) (disk disk' : D) (held held' : Option (List ℕ)) (result : KeepStatus) : Type 0 where
     pub history : List Entry
-    pub found : IsFound tells (seen disk) history
+    pub found : IsFound tells (seen disk) w steps history
     pub cut : IsCut (run_from w steps history) commands (BehindStatus commands result) (kept_line (length history)) held held' tells
         (image disk' (moment disk'))
 
   -- The session was gone through.
   pub record IsGoneThrough (w : Definition) (steps : ℕ) (commands : List Command) (disk disk' : D) (held held' : Option (List ℕ)) (result : KeepStatus) : Type 0 where
     pub history : List Entry
-    pub found : IsFound tells (seen disk) history
+    pub found : IsFound tells (seen disk) w steps history
     pub whole : session.IsWhole (run_from w steps history) commands (kept_line (length history)) result held held' tells (seen disk')
         (image disk' (moment disk'))
 

@@ -58,7 +58,7 @@ pub(crate) fn begin<D: Disk>(
     requires steps { IsStepCount call.steps }
     requires faults { D.faults disk < 2 ^ 64 - 1 }
     ensures run { IfOk result (λ keep. run_of keep ≡ run_from workflow call.entry.steps (run_of keep).history) }
-    ensures found { IfOk result (λ keep. IsFound D.tells (D.seen disk) (run_of keep).history) }
+    ensures found { IfOk result (λ keep. IsFound D.tells (D.seen disk) workflow call.entry.steps (run_of keep).history) }
     ensures whole { IfOk result (λ keep. is_broken keep ≡ false) }
     ensures no_fault { IfOk result (λ keep. D.faults (disk_of keep) ≡ D.faults disk) }
     ensures begun { IfOk result (λ keep. IsSafe D.tells D.moment D.image D.synced D.seen D.faults disk (disk_of keep)) }
