@@ -1,5 +1,5 @@
 -- What is written of a source, and what becomes of it.
-use Rattle.std.proofs.Common.{◌≡◌, ◌≢◌, ◌<◌, ◌≤◌, ℕ, Bool, List, [], length, Option, None, Some, Result, Ok, Err, sym, subst, inl, inr, arith, refl, ◌+◌, ◌∙◌}
+use Rattle.std.proofs.Common.{◌≡◌, ◌≢◌, ◌<◌, ◌≤◌, ℕ, Bool, List, [], ◌∷◌, length, Option, None, Some, Result, Ok, Err, sym, subst, inl, inr, arith, refl, ◌+◌, ◌∙◌}
 use Rattle.std.specs.declared.alloc.AllocError.{AllocError}
 use Rattle.std.specs.Prelude.{◌↔◌, IfOk}
 use Rattle.flow_model.specs.declared.history.Call.{Call}
@@ -12,6 +12,8 @@ use Rattle.flow_form.specs.Names.{event_names}
 use Rattle.flow_io.specs.Source.{LosesCount}
 use Rattle.flow_trace.specs.declared.checked.Checked.{Checked}
 use Rattle.flow_trace.specs.declared.checked.Checked.TheVariants.{Execution}
+use Rattle.flow_audit.specs.declared.finding.Finding as audit
+use Rattle.flow_audit.specs.declared.finding.Finding.TheVariants as found_as
 use Rattle.flow_verify.specs.declared.answers.Verified.TheVariants.{Holds, Fails}
 use Rattle.flow_verify.specs.declared.answers.Redundancy.TheVariants.{Redundant, Needed}
 use Rattle.flow_findings.specs.declared.refused.Refused.{Refused}
@@ -30,7 +32,7 @@ use Rattle.flow_front.specs.Stop.{IsStop, TellsStop}
 use Rattle.flow_front.specs.Refusal.{the_source, IsCause}
 use Rattle.flow_front.specs.Input.{IsInputOf, IsReadWhole, LeavesSource}
 use Rattle.flow_drive.specs.Verdict.{ended}
-use Rattle.flow_cli.specs.Finding.{Finding, driven, ran, traced, verified, tried, summarized, status_of_checked, finding_status, came_status, IsFound, Answers}
+use Rattle.flow_cli.specs.Finding.{Finding, driven, ran, traced, audited, verified, tried, summarized, status_of_checked, status_of_found, finding_status, came_status, IsFound, Answers}
 use Rattle.flow_cli.specs.Large.{RunsGenerated}
 use Rattle.flow_cli.specs.Output.{Reads, Finds, IsTold, WritesOf, WritesAs, IsWhole, IsOfInput, IsOver, IsTakenFrom, IsOutcome, IsSummarized}
 use Rattle.flow_cli.proofs.Refusals.{finds_later}
@@ -46,10 +48,16 @@ of_checked : (checked : Checked) → IsOfInput (status_of_checked checked)
 of_checked Execution = tt
 of_checked other = tt
 
+of_found : (found : List audit.Finding) → IsOfInput (status_of_found found)
+of_found [] = tt
+of_found (found_as.Checked Execution ∷ found) = of_found found
+of_found (other ∷ found) = tt
+
 pub of_finding : (found : Finding) → IsOfInput (finding_status found)
 of_finding (driven d) = of_verdict d.verdict
 of_finding (ran last verdict) = of_verdict verdict
 of_finding (traced checked) = of_checked checked
+of_finding (audited found) = of_found found
 of_finding (verified w Holds) = tt
 of_finding (verified w (Fails t)) = tt
 of_finding (tried w Redundant) = tt

@@ -22,7 +22,6 @@ use Rattle.flow_findings.specs.declared.refused.Refused.TheVariants as refused
 use Rattle.flow_findings.specs.Judging.{redundancy_text}
 use Rattle.flow_front.specs.declared.output.Output.{Output}
 use Rattle.flow_front.specs.declared.stop.Stop.{Stop}
-use Rattle.flow_front.specs.declared.stop.Stop.TheVariants as stop
 use Rattle.flow_front.specs.Stop.{IsStop}
 use Rattle.flow_front.specs.Refusal.{the_index, the_question, IsCause}
 use Rattle.flow_front.proofs.Stages.{goes_on, stops}

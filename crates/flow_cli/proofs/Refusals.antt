@@ -26,21 +26,22 @@ use Rattle.flow_findings.specs.declared.refused.Refused.{Refused}
 use Rattle.flow_findings.specs.declared.refused.Refused.TheVariants as refused
 use Rattle.flow_findings.specs.Refusing.{IsOfOptions, IsTold}
 use Rattle.flow_words.specs.declared.request.Mode.{Mode}
-use Rattle.flow_words.specs.declared.request.Mode.TheVariants.{Drive, Run, Check, Verify, Trace, Gen, Large}
+use Rattle.flow_words.specs.declared.request.Mode.TheVariants.{Drive, Run, Check, Verify, Trace, Gen, Large, Audit}
 use Rattle.flow_words.specs.declared.request.Request.{Request}
 use Rattle.flow_front.specs.declared.stop.Stop.{Stop}
 use Rattle.flow_front.specs.declared.stop.Stop.TheVariants as stop
 use Rattle.flow_front.specs.Status.{status_of, status_of_compiling}
 use Rattle.flow_front.specs.Stop.{IsStop}
-use Rattle.flow_front.specs.Refusal.{the_session, the_query, the_script, the_journal, the_index, the_workflow, the_question, IsCause, IsOfCounts}
+use Rattle.flow_front.specs.Refusal.{the_session, the_query, the_journals, the_script, the_journal, the_index, the_workflow, the_question, IsCause, IsOfCounts}
 use Rattle.flow_front.specs.Stages.{Then, Prepares}
 use Rattle.flow_front.proofs.Stages.{each_refusal, no_refusal}
-use Rattle.flow_cli.specs.Finding.{Finding, consistent, driven, ran, traced, verified, tried}
+use Rattle.flow_cli.specs.Finding.{Finding, consistent, driven, ran, traced, audited, verified, tried}
 use Rattle.flow_cli.specs.Check.{FindsConsistent, Checks}
 use Rattle.flow_cli.specs.Drive.{DrivesWorkflow, DrivesSaid, DrivesText}
 use Rattle.flow_cli.specs.Run.{RunsWorkflow, RunsSaid}
 use Rattle.flow_cli.specs.Trace.{FindsOfLeaves, TracesLeaves, TracesWorkflow, TracesText}
 use Rattle.flow_cli.specs.Verify.{VerifiesProperty, TriesConstraint, VerifiesConstraint, VerifiesWorkflow, VerifiesSaid, VerifiesText}
+use Rattle.flow_cli.specs.Audit.{HasJournals, FindsOfJournals, AuditsSaid, AuditsText}
 use Rattle.flow_cli.specs.Output.{Finds, IsOfInput}
 
 of_compiling : (r : CompileRefusal) → IsOfInput (status_of_compiling r)
@@ -64,6 +65,10 @@ module _ (s : Said) where
   query_later : (said : Said) (text : List ℕ) (why : Refused) → IsCause (the_query said text) why → IsLater s why
   query_later said text (refused.Query refusal) h = (h.0, tt)
   query_later said text why h = absurd h
+
+  journals_later : (text : List ℕ) (why : Refused) → IsCause (the_journals text) why → IsLater s why
+  journals_later text (refused.Journals count) h = (tt, tt)
+  journals_later text why h = absurd h
 
   script_later : (why : Refused) → IsCause (the_script s) why → IsLater s why
   script_later (refused.Expand refusal) h = (h.0, tt)
@@ -109,6 +114,10 @@ module _ (s : Said) where
       each_refusal (the_workflow (schema_of w)) (IsCompiled (schema_of w)) (λ c. FindsOfLeaves w leaves) (IsLater s) (workflow_later (schema_of w))
       (λ c why y (checked, told, none). no_refusal (IsLater s why) (traced checked) why none) why) why)
 
+  audits_later : (text : List ℕ) (why : Refused) → AuditsText s text (Err why) → IsLater s why
+  audits_later text = each_refusal (the_journals text) (HasJournals text) (AuditsSaid s text) (IsLater s) (journals_later text)
+      (λ cuts why is. prepares_later (λ w c. FindsOfJournals w text cuts) (λ w c why (found, are, none). no_refusal (IsLater s why) (audited found) why none) why)
+
   property_later : (w : Definition) (property : Constraint) (why : Refused) → VerifiesProperty w property (Err why) → IsLater s why
   property_later w property = each_refusal (the_question (against (schema_of w) property))
       (λ (told : Verified). IsWithinLimits (against (schema_of w) property) × TellsOfProperty (schema_of w) property told) (λ told came. came ≡ Ok (verified w told))
@@ -137,6 +146,7 @@ finds_later Run gives request s text why h = runs_later s gives request.steps re
 finds_later Check gives request s text why h = checks_later s why h
 finds_later Verify gives request s text why h = verifies_later s text why h
 finds_later Trace gives request s text why h = traces_later s text why h
+finds_later Audit gives request s text why h = audits_later s text why h
 finds_later Gen gives request s text why h = absurd h
 finds_later Large gives request s text why h = absurd h
 

@@ -1,5 +1,5 @@
 -- What a mode finds, with its status and its text.
-use Rattle.std.specs.Prelude.{◌≡◌, ℕ, List, ◌++◌, Result, Ok, Err, codes}
+use Rattle.std.specs.Prelude.{◌≡◌, ℕ, List, [], ◌∷◌, ◌++◌, Result, Ok, Err, codes}
 use Rattle.serde_json.specs.Written.{compact_text}
 use Rattle.flow_model.specs.Verdict as model
 use Rattle.flow_text.specs.Printed.{printed}
@@ -12,11 +12,14 @@ use Rattle.flow_verify.specs.declared.answers.Verified.{Verified}
 use Rattle.flow_verify.specs.declared.answers.Verified.TheVariants.{Holds, Fails}
 use Rattle.flow_verify.specs.declared.answers.Redundancy.{Redundancy}
 use Rattle.flow_verify.specs.declared.answers.Redundancy.TheVariants.{Redundant, Needed}
+use Rattle.flow_audit.specs.declared.finding.Finding as audit
+use Rattle.flow_audit.specs.declared.finding.Finding.TheVariants as found_as
 use Rattle.flow_gen.specs.Generated as gen
 use Rattle.flow_findings.specs.declared.refused.Refused.{Refused}
 use Rattle.flow_findings.specs.Refusing.{refused_text}
 use Rattle.flow_findings.specs.Checking.{check_text}
 use Rattle.flow_findings.specs.Judging.{checked_text, verified_text, redundancy_text}
+use Rattle.flow_findings.specs.Auditing.{audit_text}
 use Rattle.flow_reply.specs.declared.summary.Summary.{Summary}
 use Rattle.flow_reply.specs.Conclusion.{verdict_text}
 use Rattle.flow_reply.specs.Summary.{summary_object}
@@ -38,6 +41,8 @@ pub data Finding : Type 0 where
   ran : Run → model.Verdict → Finding
   -- what a list of leaves is
   traced : Checked → Finding
+  -- what each of many journals is
+  audited : List audit.Finding → Finding
   -- whether a property of the workflow holds, and whether one of its constraints follows from the others
   verified : Definition → Verified → Finding
   tried : Definition → Redundancy → Finding
@@ -52,6 +57,12 @@ abbrev pub status_of_checked : Checked → Status
 status_of_checked Execution = Fine
 status_of_checked other = No
 
+-- fine where each journal is an execution
+abbrev pub status_of_found : List audit.Finding → Status
+status_of_found [] = Fine
+status_of_found (found_as.Checked Execution ∷ found) = status_of_found found
+status_of_found (other ∷ found) = No
+
 abbrev pub status_of_verified : Verified → Status
 status_of_verified Holds = Fine
 status_of_verified (Fails t) = No
@@ -65,6 +76,7 @@ finding_status (consistent w counts) = Fine
 finding_status (driven d) = ended d.verdict
 finding_status (ran last verdict) = ended verdict
 finding_status (traced checked) = status_of_checked checked
+finding_status (audited found) = status_of_found found
 finding_status (verified w told) = status_of_verified told
 finding_status (tried w told) = status_of_redundancy told
 finding_status (generated seed size) = Fine
@@ -81,6 +93,7 @@ finding_text (consistent w counts) = check_text w counts
 finding_text (driven d) = driven_text d
 finding_text (ran last verdict) = report_of last verdict
 finding_text (traced checked) = checked_text checked
+finding_text (audited found) = audit_text found
 finding_text (verified w told) = verified_text w told
 finding_text (tried w told) = redundancy_text w told
 finding_text (generated seed size) = printed (gen.generated seed size)

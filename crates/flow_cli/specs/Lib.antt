@@ -5,4 +5,5 @@ pub mod Run
 pub mod Trace
 pub mod Verify
 pub mod Large
+pub mod Audit
 pub mod Output

@@ -8,7 +8,7 @@ use Rattle.flow_form.specs.Names.{event_names}
 use Rattle.flow_findings.specs.declared.refused.Refused.{Refused}
 use Rattle.flow_findings.specs.declared.refused.Refused.TheVariants as refused
 use Rattle.flow_words.specs.declared.request.Mode.{Mode}
-use Rattle.flow_words.specs.declared.request.Mode.TheVariants.{Drive, Run, Check, Verify, Trace, Gen, Large}
+use Rattle.flow_words.specs.declared.request.Mode.TheVariants.{Drive, Run, Check, Verify, Trace, Gen, Large, Audit}
 use Rattle.flow_words.specs.declared.request.Request.{Request}
 use Rattle.flow_words.specs.Words.{IsCall, IsNoCall}
 use Rattle.flow_front.specs.declared.status.Status.{Status}
@@ -23,6 +23,7 @@ use Rattle.flow_cli.specs.Run.{RunsSaid}
 use Rattle.flow_cli.specs.Trace.{TracesText}
 use Rattle.flow_cli.specs.Verify.{VerifiesText}
 use Rattle.flow_cli.specs.Large.{RunsGenerated}
+use Rattle.flow_cli.specs.Audit.{AuditsText}
 
 -- the mode reads the source
 abbrev pub Reads : Mode → Type 0
@@ -37,8 +38,16 @@ AsksNoGate Check = Unit {0}
 AsksNoGate Verify = Unit {0}
 AsksNoGate Trace = Unit {0}
 AsksNoGate Gen = Unit {0}
+AsksNoGate Audit = Unit {0}
 AsksNoGate Run = ⊥
 AsksNoGate Large = ⊥
+
+-- the mode starts no threads
+abbrev pub StartsNoThreads : Mode → Type 0
+StartsNoThreads Run = ⊥
+StartsNoThreads Large = ⊥
+StartsNoThreads Audit = ⊥
+StartsNoThreads other = Unit {0}
 
 -- What a mode that reads finds in what is said and in the text that follows: `check` and `run` do not look at that. Only what workers run
 -- asks the gate.
@@ -48,6 +57,7 @@ Finds Run gives request s text came = RunsSaid gives s request.steps request.wor
 Finds Check gives request s text came = Checks s came
 Finds Verify gives request s text came = VerifiesText s text came
 Finds Trace gives request s text came = TracesText s text came
+Finds Audit gives request s text came = AuditsText s text came
 Finds Gen gives request s text came = ⊥
 Finds Large gives request s text came = ⊥
 
@@ -108,7 +118,7 @@ IsOfInput status.No = Unit {0}
 IsOfInput status.Spent = Unit {0}
 IsOfInput other = ⊥
 
--- the workflow was checked, the session gone through to its end, or the query or the journal answered
+-- the workflow was checked, the session gone through to its end, or the query, the journal or the journals answered
 abbrev pub IsOver : Status → Type 0
 IsOver status.Fine = Unit {0}
 IsOver status.No = Unit {0}

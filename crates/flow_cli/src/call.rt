@@ -11,8 +11,9 @@ ghost use Rattle.flow_words.specs.declared.request.Request.{Request};
 ghost use Rattle.flow_words.specs.Words.{IsCall, IsWithin};
 ghost use Rattle.flow_front.specs.declared.status.Status.{Status};
 ghost use Rattle.flow_cli.specs.Finding.{Answers};
-ghost use Rattle.flow_cli.specs.Output.{Reads, AsksNoGate, Finds, IsTold, IsGenerated, WritesAs, Writes, IsWhole, IsOver, IsTakenFrom, IsOutcome, EndsWith};
+ghost use Rattle.flow_cli.specs.Output.{Reads, StartsNoThreads, Finds, IsTold, IsGenerated, WritesAs, Writes, IsWhole, IsOver, IsTakenFrom, IsOutcome, EndsWith};
 
+use crate::audit::Auditors;
 use crate::check::check;
 use crate::drive::drive_text;
 use crate::run::Crew;
@@ -45,11 +46,22 @@ fn crew_of<'a, R: Threads + Wait + Sync, G: Gate>(
     }
 }
 
-/// What the mode of a request, which reads and performs no tasks, finds in an input.
+/// The workers of a request that check journals.
+fn auditors_of<R: Threads>(rt: &R, request: Request) -> Auditors<'_, R>
+    requires { IsWithin request }
+    ensures { result.workers ≡ request.workers }
+{
+    Auditors {
+        rt,
+        workers: request.workers,
+    }
+}
+
+/// What the mode of a request, which reads and starts no threads, finds in an input.
 fn find(alloc: Global, request: Request, input: &Input) -> Result<Output, Stop>
     requires within { IsWithin request }
     requires reads { Reads request.mode }
-    requires no_gate { AsksNoGate request.mode }
+    requires alone { StartsNoThreads request.mode }
     requires closed { IsClosed (said input.now.script) }
     ensures { (gives : Call → Outcome → Bool) →
         Answers (Finds request.mode gives request (said input.now.script) input.now.second.items) result }
@@ -60,15 +72,15 @@ fn find(alloc: Global, request: Request, input: &Input) -> Result<Output, Stop>
         Mode::Check => check(alloc, script),
         Mode::Verify => verify_text(alloc, script, &input.second),
         Mode::Trace => trace_text(alloc, script, &input.second),
-        Mode::Run | Mode::Gen | Mode::Large => unreachable!(),
+        Mode::Run | Mode::Gen | Mode::Large | Mode::Audit => unreachable!(),
     }
 }
 
-/// What is written of an input, where no tasks are performed.
+/// What is written of an input, where no threads are started.
 fn answer_input(alloc: Global, request: Request, input: &Input) -> Result<Output, AllocError>
     requires within { IsWithin request }
     requires reads { Reads request.mode }
-    requires no_gate { AsksNoGate request.mode }
+    requires alone { StartsNoThreads request.mode }
     requires closed { IsClosed (said input.now.script) }
     ensures { (gives : Call → Outcome → Bool) →
         IfOk result (λ output. IsTold (Finds request.mode gives request (said input.now.script) input.now.second.items)
@@ -80,7 +92,7 @@ fn answer_input(alloc: Global, request: Request, input: &Input) -> Result<Output
     }
 }
 
-/// What is written of what the source gives, where no tasks are performed.
+/// What is written of what the source gives, where no threads are started.
 fn answer_source<S: Source>(
     alloc: Global,
     request: Request,
@@ -88,7 +100,7 @@ fn answer_source<S: Source>(
 ) -> Result<Output, AllocError>
     requires within { IsWithin request }
     requires reads { Reads request.mode }
-    requires no_gate { AsksNoGate request.mode }
+    requires alone { StartsNoThreads request.mode }
     requires source_counts { S.faults source.old < 2 ^ 64 - 1 }
     ensures { (gives : Call → Outcome → Bool) →
         IfOk result (λ output. IsOutcome (WritesAs request.mode gives request (S.left source.old)) (Reads request.mode)
@@ -115,7 +127,7 @@ fn write_generated(alloc: Global, request: Request) -> Result<Output, AllocError
     })
 }
 
-/// What is written for a request whose mode performs no tasks, the same whatever the gate. It is handed no runtime, so it
+/// What is written for a request whose mode starts no threads, the same whatever the gate. It is handed no runtime, so it
 /// can neither wait nor start threads: it returns.
 pub fn answer_alone<S: Source>(
     alloc: Global,
@@ -123,7 +135,7 @@ pub fn answer_alone<S: Source>(
     source: &mut S,
 ) -> Result<Output, AllocError>
     requires within { IsWithin request }
-    requires no_gate { AsksNoGate request.mode }
+    requires alone { StartsNoThreads request.mode }
     requires source_counts { S.faults source.old < 2 ^ 64 - 1 }
     ensures outcome { (gives : Call → Outcome → Bool) →
         IfOk result (λ output. IsOutcome (WritesAs request.mode gives request (S.left source.old)) (Reads request.mode)
@@ -135,12 +147,36 @@ pub fn answer_alone<S: Source>(
         Mode::Drive | Mode::Check | Mode::Verify | Mode::Trace => answer_source(
             alloc, request, source,
         ),
-        Mode::Run | Mode::Large => unreachable!(),
+        Mode::Run | Mode::Large | Mode::Audit => unreachable!(),
     }
 }
 
-/// What is written of a run of what an input says.
-fn run_input<R: Threads + Wait + Sync, G: Gate>(
+/// What the mode of a request, which reads and starts threads, finds in an input.
+fn find_by_workers<R: Threads + Wait + Sync, G: Gate>(
+    rt: &R,
+    alloc: Global,
+    request: Request,
+    input: &Input,
+    gate: &G,
+) -> Result<Output, Stop>
+    requires within { IsWithin request }
+    requires reads { Reads request.mode }
+    requires workers { ¬ (StartsNoThreads request.mode) }
+    requires closed { IsClosed (said input.now.script) }
+    ensures { Answers (Finds request.mode G.gives request (said input.now.script) input.now.second.items) result }
+{
+    let script = &input.script;
+    match request.mode {
+        Mode::Run => crew_of(rt, request, gate).run_script(alloc, script),
+        Mode::Audit => auditors_of(rt, request).audit_text(alloc, script, &input.second),
+        Mode::Drive | Mode::Check | Mode::Verify | Mode::Trace | Mode::Gen | Mode::Large => {
+            unreachable!()
+        }
+    }
+}
+
+/// What is written of an input, where threads are started.
+fn answer_input_by_workers<R: Threads + Wait + Sync, G: Gate>(
     rt: &R,
     alloc: Global,
     request: Request,
@@ -148,18 +184,20 @@ fn run_input<R: Threads + Wait + Sync, G: Gate>(
     gate: &G,
 ) -> Result<Output, AllocError>
     requires within { IsWithin request }
+    requires reads { Reads request.mode }
+    requires workers { ¬ (StartsNoThreads request.mode) }
     requires closed { IsClosed (said input.now.script) }
-    ensures { IfOk result (λ output. IsTold (Finds Mode.Run G.gives request (said input.now.script) input.now.second.items)
+    ensures { IfOk result (λ output. IsTold (Finds request.mode G.gives request (said input.now.script) input.now.second.items)
         (said input.now.script) output.status output.text.items) }
 {
-    match crew_of(rt, request, gate).run_script(alloc, &input.script) {
+    match find_by_workers(rt, alloc, request, input, gate) {
         Ok(report) => Ok(report),
         Err(stop) => refuse(alloc, stop, Some(&input.script)),
     }
 }
 
-/// What is written of a run of what the source says.
-fn run_source<R: Threads + Wait + Sync, S: Source, G: Gate>(
+/// What is written of what the source gives, where threads are started.
+fn answer_source_by_workers<R: Threads + Wait + Sync, S: Source, G: Gate>(
     rt: &R,
     alloc: Global,
     request: Request,
@@ -167,13 +205,15 @@ fn run_source<R: Threads + Wait + Sync, S: Source, G: Gate>(
     gate: &G,
 ) -> Result<Output, AllocError>
     requires within { IsWithin request }
+    requires reads { Reads request.mode }
+    requires workers { ¬ (StartsNoThreads request.mode) }
     requires source_counts { S.faults source.old < 2 ^ 64 - 1 }
-    ensures { IfOk result (λ output. IsOutcome (WritesAs Mode.Run G.gives request (S.left source.old)) (Reads Mode.Run)
+    ensures { IfOk result (λ output. IsOutcome (WritesAs request.mode G.gives request (S.left source.old)) (Reads request.mode)
         (S.left source.old) (S.left source.new) (S.faults source.old) (S.faults source.new) output.status output.text.items) }
 {
     match read_input(alloc, source) {
         Ok(input) => {
-            let output = run_input(rt, alloc, request, &input, gate);
+            let output = answer_input_by_workers(rt, alloc, request, &input, gate);
             drop(input);
             output
         }
@@ -181,7 +221,7 @@ fn run_source<R: Threads + Wait + Sync, S: Source, G: Gate>(
     }
 }
 
-/// What is written for a request. Only where workers perform tasks the runtime is handed on.
+/// What is written for a request. Only where threads are started the runtime is handed on.
 fn answer<R: Threads + Wait + Sync, S: Source, G: Gate>(
     rt: &R,
     alloc: Global,
@@ -199,7 +239,7 @@ fn answer<R: Threads + Wait + Sync, S: Source, G: Gate>(
         Mode::Drive | Mode::Check | Mode::Verify | Mode::Trace | Mode::Gen => {
             answer_alone(alloc, request, source)
         }
-        Mode::Run => run_source(rt, alloc, request, source, gate),
+        Mode::Run | Mode::Audit => answer_source_by_workers(rt, alloc, request, source, gate),
         Mode::Large => crew_of(rt, request, gate).run_generated(alloc, request.seed, request.size),
     }
 }
@@ -230,7 +270,7 @@ fn respond<R: Threads + Wait + Sync, S: Source, G: Gate>(
     }
 }
 
-/// The program: reads a workflow from the source, with a session, a query or a journal after it as the mode
+/// The program: reads a workflow from the source, with a session, a query, a journal or several after it as the mode
 /// asks, or generates one in `gen` and `large`, and writes to the sink what comes of it. Want of memory may stand
 /// in place of every status but a write fault.
 pub fn flow<R: Threads + Wait + Sync, S: Source, K: Sink, G: Gate>(

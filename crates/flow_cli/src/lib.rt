@@ -1,6 +1,7 @@
 //! The top call: from words and bytes to bytes and a status.
 #![tactic(auto)]
 
+mod audit;
 mod call;
 mod check;
 mod drive;

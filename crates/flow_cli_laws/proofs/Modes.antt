@@ -23,11 +23,12 @@ use Rattle.flow_verify.specs.declared.answers.Redundancy.TheVariants.{Redundant,
 use Rattle.flow_verify.specs.Verification.{against, without, TellsOfProperty, TellsOfConstraint}
 use Rattle.flow_findings.specs.declared.refused.Refused.{Refused}
 use Rattle.flow_findings.specs.declared.refused.Refused.TheVariants as refused
-use Rattle.flow_front.specs.Refusal.{the_session, the_query, the_script, the_journal, the_index, the_workflow, the_question, IsCause, IsJournalRefusal}
+use Rattle.flow_front.specs.Refusal.{the_session, the_query, the_journals, the_script, the_journal, the_index, the_workflow, the_question, IsCause, IsJournalRefusal}
 use Rattle.flow_cli.specs.Finding.{Finding, verified, tried}
 use Rattle.flow_cli.specs.Check.{FindsConsistent, ChecksWorkflow, Checks}
 use Rattle.flow_cli.specs.Drive.{DrivesWorkflow, DrivesSaid, DrivesText}
 use Rattle.flow_cli.specs.Trace.{FindsOfLeaves, TracesLeaves, TracesWorkflow, TracesText}
+use Rattle.flow_cli.specs.Audit.{HasJournals, FindsOfJournals, AuditsSaid, AuditsText}
 use Rattle.flow_cli.specs.Verify.{VerifiesProperty, TriesConstraint, VerifiesConstraint, VerifiesWorkflow, VerifiesSaid, VerifiesText}
 use Rattle.flow_front.specs.Prepared.{OfWorkflow}
 use Rattle.flow_front.specs.Stages.{Then}
@@ -35,7 +36,7 @@ use Rattle.flow_cli_laws.specs.Single.{IsSingle, OfQuery, ShowsChain, ShowsCircl
 use Rattle.flow_cli_laws.proofs.Agreeing.{Agree, same, wider, then_agree, of_one}
 use Rattle.flow_cli_laws.proofs.Compilations.{question_refused_once, question_not_refused, workflow_refused_alike, workflow_not_refused}
 use Rattle.flow_cli_laws.proofs.Expansions.{expanded_once, refused_alike, not_both_ways}
-use Rattle.flow_cli_laws.proofs.Once.{checks_once, traces_once, sessions_once}
+use Rattle.flow_cli_laws.proofs.Once.{checks_once, traces_once, audits_once, sessions_once}
 use Rattle.flow_cli_laws.proofs.TextAnswers.{of_text, one_refusal, one_value, not_both}
 
 module _ (s : Said) (once : AreDistinct (declared_names s.decls)) where
@@ -125,6 +126,26 @@ module _ (s : Said) (once : AreDistinct (declared_names s.decls)) where
 
   pub trace_agrees : (text : List ℕ) (a b : Result Finding Refused) → TracesText s text a → TracesText s text b → Agrees (ShowsCause s) a b
   trace_agrees text = said_once (λ w. TracesWorkflow w text) ShowsCircles (workflow_traces_once text)
+
+  -- ---- `audit`
+
+  journals_refused_once : (text : List ℕ) (r q : Refused) → IsCause (the_journals text) r → IsCause (the_journals text) q → r ≡ q
+  journals_refused_once text (refused.Journals n) (refused.Journals m) h g = ap refused.Journals (h.0 ∙ sym g.0)
+  journals_refused_once text r q h g = absurd (assumption)
+
+  not_too_many : (text : List ℕ) (r : Refused) (cuts : List (ℕ × ℕ)) → IsCause (the_journals text) r → HasJournals text cuts → ⊥
+  not_too_many text (refused.Journals n) cuts h has = omega (arith, h.0, h.1, has.1, ap length has.0)
+  not_too_many text r cuts h has = h
+
+  audits_said_once : (text : List ℕ) (cuts : List (ℕ × ℕ)) (a b : Result Finding Refused) → AuditsSaid s text cuts a → AuditsSaid s text cuts b → Agrees (ShowsCause s) a b
+  audits_said_once text cuts = said_once (λ w came. Then (the_workflow (schema_of w)) (IsCompiled (schema_of w)) (λ c. FindsOfJournals w text cuts) came) ShowsCircles
+      (λ w. compiled_once w (λ c. FindsOfJournals w text cuts) (λ a b p q. audits_once w text cuts a b p.2 q.2))
+
+  pub audit_agrees : (text : List ℕ) (a b : Result Finding Refused) → AuditsText s text a → AuditsText s text b → Agrees (ShowsCause s) a b
+  audit_agrees text = then_agree (event_names s.decls) (the_journals text) (HasJournals text) (AuditsSaid s text) (ShowsCause s)
+      (λ r q h g. same (event_names s.decls) (ShowsCause s) (Err r) (Err q) (ap Err (journals_refused_once text r q h g))) (not_too_many text)
+      (of_one (event_names s.decls) (HasJournals text) (AuditsSaid s text) (ShowsCause s) (λ x y has have. have.0 ∙ sym has.0)
+      (λ cuts a b has. audits_said_once text cuts a b))
 
   -- ---- `verify`
 

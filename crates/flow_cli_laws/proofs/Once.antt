@@ -1,7 +1,7 @@
 -- What comes of a workflow is settled.
 use Rattle.std.proofs.Common.{◌≡◌, ℕ, List, [], ◌∷◌, ◌++◌, length, codes, Ok, inl, inr, refl, sym, ap, ◌∙◌, subst}
 use Rattle.std.proofs.lemmas.List.{length-map}
-use Rattle.flow_model.specs.Resolution.{options}
+use Rattle.flow_model.specs.Folding.{folded_options}
 use Rattle.flow_model.specs.Schema.{Schema}
 use Rattle.flow_model.specs.Verdict as model
 use Rattle.flow_workflow.specs.Definition.{Definition, schema_of}
@@ -11,6 +11,8 @@ use Rattle.flow_plan.specs.Compilation.{Compilation, IsCompiled}
 use Rattle.flow_plan.specs.Sampled.{Sampled}
 use Rattle.flow_trace.specs.declared.checked.Checked.{Checked}
 use Rattle.flow_trace.proofs.TraceLemmas.{tells_once}
+use Rattle.flow_audit.specs.declared.finding.Finding as audit
+use Rattle.flow_audit.proofs.FindingLemmas.{findings_single}
 use Rattle.flow_core.specs.Run.{Run}
 use Rattle.flow_core.proofs.SingleLemmas.{takes_once, performs_once, posts_done_once, posts_failed_once, rewinds_once, commits_once}
 use Rattle.flow_record.specs.declared.command.Command.{Command}
@@ -22,10 +24,11 @@ use Rattle.flow_reply.proofs.OneReply.{one_reply}
 use Rattle.flow_drive.specs.Answers.{Answers}
 use Rattle.flow_drive.specs.Replies.{RepliesTo, Drives}
 use Rattle.flow_drive.specs.Session.{Driven, IsSession}
-use Rattle.flow_cli.specs.Finding.{consistent, driven, traced}
+use Rattle.flow_cli.specs.Finding.{consistent, driven, traced, audited}
 use Rattle.flow_cli.specs.Check.{FindsConsistent}
 use Rattle.flow_cli.specs.Drive.{driver, first_run, DrivesWorkflow}
 use Rattle.flow_cli.specs.Trace.{FindsOfLeaves}
+use Rattle.flow_cli.specs.Audit.{FindsOfJournals}
 use Rattle.flow_cli_laws.specs.Single.{IsSingle}
 
 module _ (r after other : Run) where
@@ -81,6 +84,11 @@ pub traces_once : (w : Definition) (leaves : List ℕ) → IsSingle (FindsOfLeav
 traces_once w leaves one other (a, p, is) (b, q, are) =
     is ∙ ap (λ (checked : Checked). Ok (traced checked)) (tells_once (schema_of w) leaves a b p q) ∙ sym are
 
+-- journals that are checked against it
+pub audits_once : (w : Definition) (text : List ℕ) (cuts : List (ℕ × ℕ)) → IsSingle (FindsOfJournals w text cuts)
+audits_once w text cuts one other (a, p, is) (b, q, are) =
+    is ∙ ap (λ (found : List audit.Finding). Ok (audited found)) (findings_single w text cuts a b p q) ∙ sym are
+
 -- a list has one list of just those members that have P
 just_once : {A : Type 0} (P : A → Type 0) (xs ys zs : List A) → AreJustThose P xs ys → AreJustThose P xs zs → ys ≡ zs
 just_once P [] ys zs p q = p ∙ sym q
@@ -93,7 +101,7 @@ just_once P (x ∷ xs) ys zs (inr (not, p)) (inr (not', q)) = just_once P xs ys 
 -- a compiled workflow has one count of each kind
 pub counts_once : (w : Schema) (a b : Compilation) → IsCompiled w a → IsCompiled w b → a.counts.live ≡ length a.plans → b.counts.live ≡ length b.plans → a.counts ≡ b.counts
 counts_once w a b p q live live' =
-    let plans : options_of a.plans ≡ options_of b.plans = just_once HasExecution (options w) (options_of a.plans) (options_of b.plans) p.plans q.plans in
+    let plans : options_of a.plans ≡ options_of b.plans = just_once HasExecution (folded_options w) (options_of a.plans) (options_of b.plans) p.plans q.plans in
     let many : length a.plans ≡ length b.plans =
     sym (length-map a.plans (λ (s : Sampled). option_of s.plan)) ∙ ap (λ os. length os) plans ∙ length-map b.plans (λ (s : Sampled). option_of s.plan) in
     λ i. record {

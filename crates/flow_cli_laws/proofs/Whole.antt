@@ -11,7 +11,7 @@ use Rattle.flow_findings.specs.declared.refused.Refused.{Refused}
 use Rattle.flow_findings.specs.declared.refused.Refused.TheVariants as refused
 use Rattle.flow_findings.specs.Refusing.{refused_text}
 use Rattle.flow_words.specs.declared.request.Mode.{Mode}
-use Rattle.flow_words.specs.declared.request.Mode.TheVariants.{Drive, Run, Check, Verify, Trace, Gen, Large}
+use Rattle.flow_words.specs.declared.request.Mode.TheVariants.{Drive, Run, Check, Verify, Trace, Gen, Large, Audit}
 use Rattle.flow_words.specs.declared.request.Request.{Request}
 use Rattle.flow_words.specs.Words.{OneRequest}
 use Rattle.flow_front.specs.declared.status.Status.{Status}
@@ -24,7 +24,7 @@ use Rattle.flow_cli.specs.Output.{AsksNoGate, Finds, WritesOf, WritesAs}
 use Rattle.flow_cli_laws.specs.Single.{Shows, OutputsAreSingle}
 use Rattle.flow_cli_laws.proofs.Agreeing.{Agree}
 use Rattle.flow_cli_laws.proofs.TextAnswers.{of_text, one_refusal, one_value, not_both}
-use Rattle.flow_cli_laws.proofs.Modes.{check_agrees, drive_agrees, trace_agrees, verify_agrees}
+use Rattle.flow_cli_laws.proofs.Modes.{check_agrees, drive_agrees, trace_agrees, audit_agrees, verify_agrees}
 
 -- what is told of one refusal is one
 told_once : (events : List (List ℕ)) (r q : Refused) (status other : Status) (output text : List ℕ) → r ≡ q →
@@ -112,6 +112,8 @@ module _ (input : List ℕ) where
         (λ s says. verify_agrees s says.named.once (second_part input)) fine also p q
     mode_once gives allows request Trace asks fine also p q = read_once Trace (Finds Trace gives request)
         (λ s says. trace_agrees s says.named.once (second_part input)) fine also p q
+    mode_once gives allows request Audit asks fine also p q = read_once Audit (Finds Audit gives request)
+        (λ s says. audit_agrees s says.named.once (second_part input)) fine also p q
     mode_once gives allows request Gen asks fine also p q = (p.status_is ∙ sym q.status_is, inl (p.output_is ∙ sym q.output_is))
     mode_once gives allows request Run asks fine also p q = absurd asks
     mode_once gives allows request Large asks fine also p q = absurd asks

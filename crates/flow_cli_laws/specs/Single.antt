@@ -22,7 +22,7 @@ use Rattle.flow_findings.specs.declared.refused.Refused.TheVariants as refused
 use Rattle.flow_findings.specs.Refusing.{refused_text, inconsistent_text}
 use Rattle.flow_findings.specs.Judging.{verified_text, redundancy_text}
 use Rattle.flow_words.specs.declared.request.Mode.{Mode}
-use Rattle.flow_words.specs.declared.request.Mode.TheVariants.{Drive, Run, Check, Verify, Trace, Gen, Large}
+use Rattle.flow_words.specs.declared.request.Mode.TheVariants.{Drive, Run, Check, Verify, Trace, Gen, Large, Audit}
 use Rattle.flow_words.specs.declared.request.Request.{Request}
 use Rattle.flow_words.specs.Words.{IsCall}
 use Rattle.flow_front.specs.declared.status.Status.{Status}
@@ -33,6 +33,7 @@ use Rattle.flow_cli.specs.Finding.{Finding}
 use Rattle.flow_cli.specs.Check.{FindsConsistent}
 use Rattle.flow_cli.specs.Drive.{DrivesWorkflow}
 use Rattle.flow_cli.specs.Trace.{FindsOfLeaves}
+use Rattle.flow_cli.specs.Audit.{FindsOfJournals}
 use Rattle.flow_cli.specs.Output.{AsksNoGate, Writes}
 
 -- ---- what is shown where any will do
@@ -86,6 +87,7 @@ abbrev pub Shows : Mode → Said → List ℕ → List ℕ → List ℕ → Type
 Shows Drive s second output text = ShowsCause s output text
 Shows Check s second output text = ShowsCause s output text
 Shows Trace s second output text = ShowsCause s output text
+Shows Audit s second output text = ShowsCause s output text
 Shows Verify s second output text = OfQuery s second (λ query. ShowsAsked s query output text)
 Shows Run s second output text = ⊥
 Shows Gen s second output text = ⊥
@@ -129,6 +131,10 @@ ChecksAreSingle = (w : Definition) → IsSingle (λ came. (c : Compilation) × I
 -- where a list of leaves is checked against it,
 abbrev pub TracesAreSingle : Type 0
 TracesAreSingle = (w : Definition) (leaves : List ℕ) → IsSingle (FindsOfLeaves w leaves)
+
+-- where many journals are, whatever the number of workers,
+abbrev pub AuditsAreSingle : Type 0
+AuditsAreSingle = (w : Definition) (text : List ℕ) (cuts : List (ℕ × ℕ)) → IsSingle (FindsOfJournals w text cuts)
 
 -- and where it is driven by a session.
 abbrev pub SessionsAreSingle : Type 0

@@ -1,4 +1,4 @@
-ghost use Rattle.flow_cli_laws.specs.Single.{OutputsAreSingle, FaultsAreTold, ChecksAreSingle, TracesAreSingle, SessionsAreSingle};
+ghost use Rattle.flow_cli_laws.specs.Single.{OutputsAreSingle, FaultsAreTold, ChecksAreSingle, TracesAreSingle, AuditsAreSingle, SessionsAreSingle};
 ghost use Rattle.flow_cli_laws.specs.Done.{DoneRunsAreReported, DoneLargeRunsAreTold, DoneLinesAreSingle};
 
 use flow_words::law_one_request;
@@ -11,6 +11,7 @@ pub fn law_outputs_are_single()
     ensures faults { FaultsAreTold }
     ensures checks { ChecksAreSingle }
     ensures traces { TracesAreSingle }
+    ensures audits { AuditsAreSingle }
     ensures sessions { SessionsAreSingle }
 {
     // words are a call for one request alone

@@ -189,7 +189,7 @@ module _ (i : Inside) (kept : IsRunning i) where
 
   -- a leaf of the journal is not done again, and not taken
   done_cannot : (leaf : ℕ) → leaf ∈ s.journal → ¬ (MayComeNext i.residual leaf)
-  done_cannot leaf done (o, live, ready) = ready.not_done (subst (λ j. leaf ∈ j) kept.kept.remains.journal_is done)
+  done_cannot leaf done (o, live, ready, still) = ready.not_done (subst (λ j. leaf ∈ j) kept.kept.remains.journal_is done)
 
   pub not_left : (leaf : ℕ) → leaf ∈ s.journal → ¬ (CanDoAside w s leaf)
   not_left leaf done aside = done_cannot leaf done (left_comes_next leaf aside)

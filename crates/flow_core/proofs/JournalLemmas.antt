@@ -1,5 +1,5 @@
 -- What may follow a journal, in the words of the residual, and how long a journal is.
-use Rattle.std.proofs.Common.{◌≡◌, ◌<◌, ◌≤◌, ◌+◌, ℕ, List, [], ◌∷◌, ◌++◌, length, sym, ap, ◌∙◌, subst, arith, length-append}
+use Rattle.std.proofs.Common.{◌≡◌, ◌<◌, ◌≤◌, ◌+◌, ℕ, List, [], ◌∷◌, ◌++◌, length, refl, sym, ap, ◌∙◌, subst, arith, length-append}
 use Rattle.flow_model.specs.Lists.{◌∈◌, Each, AreDistinct, numbers_from}
 use Rattle.flow_model.specs.Schema.{Schema}
 use Rattle.flow_model.specs.Run.{RunState, current_leaves, IsFree, MayAllFollow, MayFollowFirst}
@@ -9,7 +9,8 @@ use Rattle.flow_model.proofs.Lists.{mem_append_left, each_member, each_from_memb
 use Rattle.flow_model.proofs.MadeLists.{distinct-numbers_from, numbers_from_below, same_order, begins_front}
 use Rattle.flow_laws.proofs.TraceLeaves.{leaf_of_trace, distinct_trace}
 use Rattle.flow_residual.specs.Remaining.{Remaining, IsOf, MayComeNext}
-use Rattle.flow_residual.proofs.QuestionLemmas.{follow_of_run, may_all_follow, may_follow_first, each_comes_next, first_comes_next}
+use Rattle.flow_residual.proofs.Following.{may_all_follow, may_follow_first}
+use Rattle.flow_residual.proofs.QuestionLemmas.{each_comes_next, first_comes_next, comes_alone}
 
 -- of leaves that may all follow, each may come next
 pub next_of_all : (w : Schema) (s : RunState) (r : Remaining) → IsOf w s r → (list : List ℕ) (n : ℕ) → MayAllFollow w s list → n ∈ list → MayComeNext r n
@@ -36,8 +37,9 @@ journal_within w f s sound =
 
 -- a journal that goes on is shorter than the goal
 pub next_room : (w : Schema) (s : RunState) (r : Remaining) → IsOf w s r → (n : ℕ) → MayComeNext r n → length s.journal < length w.labels
-next_room w s r f n (o, live, ready) =
-    let (t, trace, free, (rest, is)) = follow_of_run w s r f o live (n ∷ []) (ready, tt) in
+next_room w s r f n may =
+    let (o, m, all) = (may_follow_first w s r f n []).0 ((comes_alone r n [] refl).1 may) in
+    let (t, trace, free, (rest, is)) = all [] refl in
     let d : AreDistinct t = distinct_trace w.goal (subst AreDistinct (sym f.well_formed.numbered) (distinct-numbers_from 0 (length w.labels))) t free.0.0 in
     let most : length t ≤ length w.labels = at_most (length w.labels) t d (λ x m. within_free w f.well_formed s t free x m) in
     let long : length t ≡ length (s.journal ++ n ∷ []) + length rest = ap length is ∙ length-append (s.journal ++ n ∷ []) rest in

@@ -1,7 +1,7 @@
 -- What is kept of a run with no entry.
 use Rattle.std.proofs.Common.{◌≡◌, ℕ, false, List, [], length, refl, sym, subst, arith}
 use Rattle.flow_model.specs.Lists.{Each}
-use Rattle.flow_model.specs.Resolution.{options}
+use Rattle.flow_model.specs.Folding.{folded_options}
 use Rattle.flow_laws.specs.WellFormed.{IsWellFormed}
 use Rattle.flow_plan.specs.Options.{HasExecution, AreJustThose, options_of}
 use Rattle.flow_plan.specs.Compilation.{Compilation, IsCompiled}
@@ -26,7 +26,7 @@ kept_first w limit c r claimed v kinds held count leaves compiled known noted we
       noted = noted;
       remains = record {
         well_formed = well_formed;
-        options_are = subst (AreJustThose HasExecution (options (schema_of w))) (sym options_are) compiled.plans;
+        options_are = subst (AreJustThose HasExecution (folded_options (schema_of w))) (sym options_are) compiled.plans;
         journal_is = sym journal;
         bans_are = sym bans;
       };

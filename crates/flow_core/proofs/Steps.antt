@@ -10,7 +10,7 @@ use Rattle.flow_model.specs.declared.labels.Label.{Label}
 use Rattle.flow_model.specs.declared.labels.Label.TheVariants.{Event}
 use Rattle.flow_model.specs.Facts.{event_at, event_in}
 use Rattle.flow_model.specs.Schema.{Schema, IsGood}
-use Rattle.flow_model.specs.Resolution.{options}
+use Rattle.flow_model.specs.Folding.{folded_options}
 use Rattle.flow_model.specs.Decided.{can_all_follow}
 use Rattle.flow_model.specs.Run.{Claim, RunState, first_state, next_state, state_after, state_of, current_claims, leaf_of_claim, is_current, IsCurrent, IsOpenIndex, IsAllowed, IsLegalFrom, CanTake, CanDo, answer, spare, with_new_epoch}
 use Rattle.flow_laws.proofs.NeverAtALoss.{sound_state}
@@ -135,7 +135,7 @@ module _ (i : Inside) (kept : IsRunning i) where
     remains : (s' : RunState) (r : Remaining) → r.options ≡ i.residual.options → s'.journal ≡ r.journal → s'.bans ≡ r.bans → IsOf w s' r
     remains s' r o j b = let f = kept.kept.remains in record {
       well_formed = f.well_formed;
-      options_are = subst (AreJustThose HasExecution (options w)) (sym o) f.options_are;
+      options_are = subst (AreJustThose HasExecution (folded_options w)) (sym o) f.options_are;
       journal_is = j;
       bans_are = b;
     }

@@ -17,6 +17,7 @@ use Rattle.flow_core.specs.declared.run.Core.TheInside.{Inside}
 use Rattle.flow_core.specs.Run.{Run}
 use Rattle.leaf_rows.specs.Leaves.{has_leaf}
 use Rattle.leaf_rows.specs.declared.leaf_set.LeafSet.{LeafSet}
+use Rattle.leaf_rows.specs.declared.TheConstants.{LEAF_WORDS}
 use Rattle.flow_model.specs.Schema.{Schema}
 
 -- the claims, their events and the epoch are those of the state
@@ -51,7 +52,7 @@ abbrev pub run_by : Inside → Run
 run_by c = record { definition = c.workflow; limit = c.limit; history = c.history.items }
 
 -- the rows of what may follow in the state
-pub record IsAhead (w : Schema) (s : RunState) (beside first : LeafSet 16) : Type 0 where
+pub record IsAhead (w : Schema) (s : RunState) (beside first : LeafSet LEAF_WORDS) : Type 0 where
   pub all : (leaf : ℕ) → IsTrue (has_leaf beside leaf) ↔ MayAllFollow w s (current_leaves s ++ leaf ∷ [])
   pub one : (leaf : ℕ) → IsTrue (has_leaf first leaf) ↔ MayFollowFirst w s leaf (current_leaves s)
 

@@ -10,7 +10,7 @@ use flow_model::{Entry, Step};
 use flow_plan::Compiled;
 use flow_residual::{Claims, Residual};
 use flow_workflow::Workflow;
-use leaf_rows::LeafSet;
+use leaf_rows::{LEAF_WORDS, LeafSet};
 use std::alloc::{AllocError, Global};
 use std::marker::Model;
 
@@ -68,8 +68,8 @@ pub struct Core {
     pub(crate) history: Vec<Entry>,
     pub(crate) committed: bool,
     /// Where `looked`, the leaves that may follow with the claims in every order, and those that may come first.
-    pub(crate) beside: LeafSet<16>,
-    pub(crate) first: LeafSet<16>,
+    pub(crate) beside: LeafSet<LEAF_WORDS>,
+    pub(crate) first: LeafSet<LEAF_WORDS>,
     pub(crate) looked: bool,
 }
 

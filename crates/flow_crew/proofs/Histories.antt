@@ -1,12 +1,12 @@
 -- Histories that gain an entry.
-use Rattle.std.proofs.Common.{◌≡◌, ◌≤◌, ◌<◌, ◌+◌, ℕ, List, [], ◌∷◌, ◌++◌, length, ◌⊎◌, inl, inr, refl, sym, ap, ◌∙◌, subst, append-nil, suc-ne-zero, arith}
+use Rattle.std.proofs.Common.{◌≡◌, ◌<◌, ℕ, List, [], ◌∷◌, ◌++◌, length, ◌⊎◌, inl, inr, refl, sym, ap, ◌∙◌, subst, append-nil, suc-ne-zero}
 use Rattle.flow_model.specs.declared.history.Call.{Call}
 use Rattle.flow_model.specs.declared.history.Entry.{Entry}
 use Rattle.flow_model.specs.declared.history.Outcome.{Outcome}
 use Rattle.flow_model.specs.declared.history.Step.TheVariants.{Failed, Rewound}
 use Rattle.flow_model.specs.declared.history.FailEffect.TheVariants.{Kept}
 use Rattle.flow_model.specs.Schema.{Schema}
-use Rattle.flow_model.specs.Run.{RunState, next_state, state_of, IsOpenIndex, IsLegalFrom}
+use Rattle.flow_model.specs.Run.{state_of, IsOpenIndex}
 use Rattle.flow_model.specs.Verdict.{Verdict, EndsKept, IsRunStep, IsRunVerdict, IsDriven}
 use Rattle.flow_model.specs.Decided.{cons_same, not_empty}
 use Rattle.flow_model.proofs.MadeLists.{two_cuts}

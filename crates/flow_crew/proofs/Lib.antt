@@ -7,3 +7,4 @@ pub mod Sending
 pub mod Waiting
 pub mod Working
 pub mod TurnsLemmas
+pub mod TraceLengths

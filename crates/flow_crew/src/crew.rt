@@ -142,7 +142,7 @@ fn ask<R: Wait, G: Gate + Drop>(
     ensures { pass.new.lock ≡ lock.now }
 {
     let key = idle.prepare_wait();
-    let found = lock.with_turn(rt, pass, Begin::new());
+    let found = lock.with_turn(rt, pass, Begin);
     if let Move::Wait(_) = found {
         key.wait(rt);
     }

@@ -28,23 +28,15 @@ impl<G: Gate + Drop> Kept for Book<G> {
 }
 
 /// The caller asks what to do, as by `Book::begin`.
-pub struct Begin<G> {
-    gate: PhantomData<G>,
-}
+#[derive(Clone, Copy)]
+pub struct Begin;
 
-impl<G: Gate> Begin<G> {
-    pub fn new() -> Begin<G> {
-        Begin { gate: PhantomData }
-    }
-}
-
-impl<G: Gate + Drop> Job<Book<G>> for Begin<G> {
+impl<G: Gate + Drop> Job<Book<G>> for Begin {
     type Answer = Move;
 
     ghost does = { λ _ run by move after. IsBegun run by move after };
 
     fn run(self, book: &mut Book<G>, by: u32) -> Move {
-        let Begin { gate: _ } = self;
         book.tracked.begin(by)
     }
 }

@@ -1,5 +1,5 @@
 -- What an answer to a command leaves as it is.
-use Rattle.std.proofs.Common.{◌≡◌, ℕ, [], Result, Ok, Err, ap}
+use Rattle.std.proofs.Common.{◌≡◌, ℕ, Result, Ok, Err, ap}
 use Rattle.flow_model.specs.declared.history.Call.{Call}
 use Rattle.flow_model.specs.declared.history.FailEffect.{FailEffect}
 use Rattle.flow_model.specs.declared.history.Step.{Step}

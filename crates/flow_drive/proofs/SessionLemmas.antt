@@ -1,6 +1,7 @@
 -- Driven sessions, one command after another.
-use Rattle.std.proofs.Common.{◌≡◌, ◌<◌, ◌+◌, ℕ, List, [], ◌∷◌, ◌++◌, length, take, get_or, refl, sym, ap, ◌∙◌, subst, append_assoc, append-nil}
-use Rattle.std.proofs.lemmas.List.{take_more}
+use Rattle.std.proofs.Common.{◌≡◌, ◌<◌, ◌+◌, ℕ, suc, List, [], ◌∷◌, ◌++◌, length, take, drop, get_or, refl, sym, ap, ◌∙◌, subst, append_assoc, append-nil, inl, inr, drop-cons, Result, Ok, Err}
+use Rattle.std.specs.Result.{OnErr}
+use Rattle.std.proofs.lemmas.List.{take_more, take-append-drop}
 use Rattle.flow_model.specs.Verdict as model
 use Rattle.flow_model.specs.Verdict.{drive_verdict}
 use Rattle.flow_workflow.specs.Definition.{Definition, schema_of}
@@ -14,7 +15,7 @@ use Rattle.flow_front.specs.declared.status.Status.{Status}
 use Rattle.flow_drive.specs.Verdict.{ended, report_of}
 use Rattle.flow_drive.specs.Session.{Driven, IsSession, IsDrivenOutput}
 use Rattle.flow_record.specs.declared.command.Command.{Command}
-use Rattle.flow_drive.specs.Replies.{RepliesTo, Drives}
+use Rattle.flow_drive.specs.Replies.{RepliesTo, Drives, IsGiven, IsFrontGiven}
 use Rattle.flow_drive.proofs.AnswersLemmas.{SameRun, answers_same}
 
 -- a session goes on with one command more
@@ -33,6 +34,47 @@ drives_next by old middle new session i d text line both within driven reply is 
     subst (λ (t : List ℕ). Drives old by (take (i + 1) session) t new) (sym is)
     (subst (λ (front : List Command). Drives old by front (text ++ line) new) (sym (take_more session i d within))
     (drives_more by old middle new (take i session) (get_or session i d) text line driven reply))
+
+-- ---- where memory was wanted for what is told
+
+-- what holds in any case holds after an error
+pub after_error : {T E P : Type 0} (came : Result T E) → P → OnErr came P
+after_error (Ok value) holds = tt
+after_error (Err error) holds = holds
+
+-- no command was given
+none_given : (by : ℕ) (old new : Run) (session : List Command) → new ≡ old → IsFrontGiven old by session new
+none_given by old new [] same = same
+none_given by old new (command ∷ session) same = inl same
+
+-- those before were given, and were told of
+front_given : (by : ℕ) (old new : Run) (front rest : List Command) (text : List ℕ) → Drives old by front text new → IsFrontGiven old by (front ++ rest) new
+front_given by old new [] rest text d = none_given by old new rest d.1
+front_given by old new (command ∷ front) rest text (m, (line, (others, (answer, answers, told), later, e))) =
+    inr (m, (answer, answers), front_given by m new front rest others later)
+
+-- those before were told of, and one more was given
+one_more_given : (by : ℕ) (old middle new : Run) (front rest : List Command) (text : List ℕ) (d : Command) → Drives old by front text middle →
+    IsGiven middle by d new → IsFrontGiven old by (front ++ d ∷ rest) new
+one_more_given by old middle new [] rest text d driven given =
+    inr (new, subst (λ (r : Run). IsGiven r by d new) driven.1 given, none_given by new new rest refl)
+one_more_given by old middle new (command ∷ front) rest text d (m, (line, (others, (answer, answers, told), later, e))) given =
+    inr (m, (answer, answers), one_more_given by m middle new front rest others d later given)
+
+-- all were given
+pub all_given : (by : ℕ) (old new : Run) (session : List Command) (text : List ℕ) → Drives old by session text new → IsFrontGiven old by session new
+all_given by old new session text d =
+    subst (λ (all : List Command). IsFrontGiven old by all new) (append-nil session) (front_given by old new session [] text d)
+
+-- of a session those before the next command were told of, and that one was given
+pub next_given : (by : ℕ) (old middle new : Run) (session : List Command) (i : ℕ) (d : Command) (text : List ℕ) → i < length session →
+    Drives old by (take i session) text middle → IsGiven middle by (get_or session i d) new → IsFrontGiven old by session new
+next_given by old middle new session i d text within driven given =
+    subst (λ (all : List Command). IsFrontGiven old by all new)
+    (ap (λ (rest : List Command). take i session ++ rest) (sym (drop-cons session i d within)) ∙ take-append-drop i session)
+    (one_more_given by old middle new (take i session) (drop (suc i) session) text (get_or session i d) driven given)
+
+-- ---- a whole session
 
 -- a session is of one workflow and one limit
 pub drives_same : (by : ℕ) (old new : Run) (session : List Command) (text : List ℕ) → Drives old by session text new → SameRun old new

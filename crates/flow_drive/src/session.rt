@@ -1,4 +1,5 @@
-ghost use Rattle.std.specs.Prelude.{IfOk};
+ghost use Rattle.std.specs.Prelude.{IfOk, OnErr};
+ghost use Rattle.flow_drive.specs.Replies.{IsFrontGiven};
 ghost use Rattle.flow_drive.specs.Session.{Driven, IsSession, IsDrivenOutput};
 
 use crate::replies::reply_to_all;
@@ -16,7 +17,8 @@ pub fn drive(
     commands: &[Command],
     by: u32,
 ) -> Result<Output, AllocError>
-    ensures { IfOk result (λ output. (d : Driven) × IsSession core.old by commands.now d × IsDrivenOutput d output.status output.text.items) }
+    ensures ok { IfOk result (λ output. (d : Driven) × IsSession core.old by commands.now d × IsDrivenOutput d output.status output.text.items) }
+    ensures err { OnErr result (IsFrontGiven core.old by commands.now core.new) }
 {
     let mut text = reply_to_all(alloc, core, commands, by)?;
     let verdict = verdict_of(core);

@@ -5,11 +5,11 @@ use Rattle.std.proofs.lemmas.Bool.{cases_lt}
 use Rattle.std.proofs.lemmas.List.{get_or-map, length-map, length-take-le, map-append, take_all, take_more}
 use Rattle.std.proofs.lemmas.Option.{slice_get_within, slice_get-get_or, get_or_from_slice_get}
 use Rattle.flow_model.specs.Lists.{◌∈◌}
-use Rattle.flow_model.specs.Process.{Process, Empty, leaves}
+use Rattle.flow_model.specs.Folding.{fixed_leaves}
+use Rattle.flow_model.specs.Process.{Process, Empty}
 use Rattle.flow_model.specs.Ways.{Normal, leaf_of_event}
-use Rattle.flow_model.specs.Resolution.{ChoiceOption, resolutions}
+use Rattle.flow_model.specs.Resolution.{ChoiceOption}
 use Rattle.flow_model.proofs.MadeLists.{mem-flat_map, some_same}
-use Rattle.flow_goal.specs.Labelled.{Labelled}
 use Rattle.flow_rules.specs.declared.leaf_table.LeafEvents.{LeafEvents}
 use Rattle.flow_rules.specs.declared.order_set.OrderSet.{OrderSet}
 use Rattle.flow_rules.specs.EventLeaves.{IsBlank, leaf_in}
@@ -25,7 +25,7 @@ use Rattle.flow_excise.specs.declared.refusal.CompileRefusal.TheVariants.{NoMemo
 use Rattle.flow_excise.specs.declared.sieve.Sieve.{Sieve}
 use Rattle.flow_plan.specs.Options.{HasExecution, options_of, option_of}
 use Rattle.flow_excise.specs.Executions.{NumberedOption, numbered_ways, numbered_options, TellsOf, AreSifted}
-use Rattle.flow_excise.specs.Options.{all_options_by, has_ways, option_by, options_by, ways_by}
+use Rattle.flow_excise.specs.Options.{FoldedTree, all_options_by, has_ways, option_by, options_by, resolutions_in, ways_by}
 use Rattle.flow_excise.specs.Sieve.{ArePlannable, options_with, HasSifted, HasSiftedTo, Sifts}
 use Rattle.flow_weave.specs.Woven.{option_with}
 use Rattle.flow_excise.proofs.SiftingLemmas.{keep_one, drop_one, numbered, more_ways, more_resolutions}
@@ -76,18 +76,18 @@ options_found q [] = refl
 options_found q (o ∷ orders) = ap (λ (l : List ChoiceOption). option_with q o ∷ l) (options_found q orders)
 
 -- the ways that are listed by the leaves noted are those of the lane
-pub ways_found : (t : Labelled) (block : Block) (lane : ℕ) (q : Process) (ls : List ℕ) (old noted : LeafEvents) (orders seen : List OrderSet) → IsBlank old →
-    ((event : ℕ) → leaf_in noted event ≡ option_or (leaf_in old event) (leaf_of_event t.labels ls event)) → ls ≡ leaves q → seen ≡ orders →
+pub ways_found : (t : FoldedTree) (block : Block) (lane : ℕ) (q : Process) (ls : List ℕ) (old noted : LeafEvents) (orders seen : List OrderSet) → IsBlank old →
+    ((event : ℕ) → leaf_in noted event ≡ option_or (leaf_in old event) (leaf_of_event t.tree.labels ls event)) → ls ≡ fixed_leaves q → seen ≡ orders →
     ways_of_sets orders ≡ ways_in block.narrowed lane (leaf_in noted) → options_with q seen ≡ options_in t block lane q
 ways_found t block lane q ls old noted orders seen blank notes listed e ways =
     ap (options_with q) e ∙ options_found q orders
     ∙ ap (map (option_by q))
-    (ways ∙ (λ k. ways_in block.narrowed lane (λ event. noted_leaves t.labels ls old noted blank notes event k))
-    ∙ ap (λ (l : List ℕ). ways_in block.narrowed lane (leaf_of_event t.labels l)) listed)
+    (ways ∙ (λ k. ways_in block.narrowed lane (λ event. noted_leaves t.tree.labels ls old noted blank notes event k))
+    ∙ ap (λ (l : List ℕ). ways_in block.narrowed lane (leaf_of_event t.tree.labels l)) listed)
 
 -- whether a resolution has an option
 
-pub none_found : (t : Labelled) (n : Normal) (q : Process) → has_ways t n q ≡ false → options_by t n q ≡ []
+pub none_found : (t : FoldedTree) (n : Normal) (q : Process) → has_ways t n q ≡ false → options_by t n q ≡ []
 none_found t n q h = at (ways_by t n q) h
   where
     at : (ws : List (List (ℕ × ℕ))) → not (is_none ws) ≡ false → map (option_by q) ws ≡ []
@@ -95,41 +95,41 @@ none_found t n q h = at (ways_by t n q) h
     at (w ∷ ws) h = absurd (true≢false h)
 
 -- nothing is looked at
-pub sift_none : (t : Labelled) (n : Normal) (i : ℕ) (q : Process) (old : Sieve) → options_by t n q ≡ [] → Sifts (numbered_ways i 0 (options_by t n q)) old old
+pub sift_none : (t : FoldedTree) (n : Normal) (i : ℕ) (q : Process) (old : Sieve) → options_by t n q ≡ [] → Sifts (numbered_ways i 0 (options_by t n q)) old old
 sift_none t n i q old none done s =
     subst (λ ns. HasSifted ns old) (sym (ap (λ (os : List ChoiceOption). done ++ numbered_ways i 0 os) none ∙ append-nil done)) s
 
-module _ (t : Labelled) (n : Normal) (met : List Bool) (listed : met ≡ map (has_ways t n) (resolutions t.process)) where
-  pub met_length : length met ≡ length (resolutions t.process)
-  met_length = ap length listed ∙ length-map (resolutions t.process) (has_ways t n)
+module _ (t : FoldedTree) (n : Normal) (met : List Bool) (listed : met ≡ map (has_ways t n) (resolutions_in t)) where
+  pub met_length : length met ≡ length (resolutions_in t)
+  met_length = ap length listed ∙ length-map (resolutions_in t) (has_ways t n)
 
-  pub met_at : (i : ℕ) (b : Bool) → get_or met i false ≡ b → (q : Process) → slice_get (resolutions t.process) i ≡ Some q → has_ways t n q ≡ b
+  pub met_at : (i : ℕ) (b : Bool) → get_or met i false ≡ b → (q : Process) → slice_get (resolutions_in t) i ≡ Some q → has_ways t n q ≡ b
   met_at i b read q there =
-      let all = resolutions t.process in
+      let all = resolutions_in t in
       sym (ap (λ l. get_or l i false) listed ∙ get_or-map (has_ways t n) all i q false (slice_get_within all i q there)
       ∙ ap (has_ways t n) (get_or_from_slice_get all i q q there))
       ∙ read
 
-pub plannable_ways : (t : Labelled) (n : Normal) (i : ℕ) (q : Process) (os : List ChoiceOption) → os ≡ options_by t n q → slice_get (resolutions t.process) i ≡ Some q →
+pub plannable_ways : (t : FoldedTree) (n : Normal) (i : ℕ) (q : Process) (os : List ChoiceOption) → os ≡ options_by t n q → slice_get (resolutions_in t) i ≡ Some q →
     ArePlannable (all_options_by t n) → ArePlannable os
 plannable_ways t n i q os e there all o m =
-    all o (mem-flat_map (options_by t n) q o (resolutions t.process) (mem-slice_get (resolutions t.process) i q there) (subst (λ l. o ∈ l) e m))
+    all o (mem-flat_map (options_by t n) q o (resolutions_in t) (mem-slice_get (resolutions_in t) i q there) (subst (λ l. o ∈ l) e m))
 
-pub sift_found : (t : Labelled) (i : ℕ) (p : Process) (os : List ChoiceOption) (of : Process → List ChoiceOption) (old new : Sieve) (r : Result (Unit {0}) CompileRefusal) → os ≡ of p →
-    slice_get (resolutions t.process) i ≡ Some p → MatchResult r (λ _. Sifts (numbered_ways i 0 os) old new) (λ e. e ≡ NoMemory) →
-    MatchResult r (λ _. (q : Process) → slice_get (resolutions t.process) i ≡ Some q → Sifts (numbered_ways i 0 (of q)) old new) (λ e. e ≡ NoMemory)
+pub sift_found : (t : FoldedTree) (i : ℕ) (p : Process) (os : List ChoiceOption) (of : Process → List ChoiceOption) (old new : Sieve) (r : Result (Unit {0}) CompileRefusal) → os ≡ of p →
+    slice_get (resolutions_in t) i ≡ Some p → MatchResult r (λ _. Sifts (numbered_ways i 0 os) old new) (λ e. e ≡ NoMemory) →
+    MatchResult r (λ _. (q : Process) → slice_get (resolutions_in t) i ≡ Some q → Sifts (numbered_ways i 0 (of q)) old new) (λ e. e ≡ NoMemory)
 sift_found t i p os of old new (Ok u) e there h = λ q there_too.
     subst (λ (l : List ChoiceOption). Sifts (numbered_ways i 0 l) old new) (e ∙ ap of (some_same p q (sym there ∙ there_too))) h
 sift_found t i p os of old new (Err f) e there h = h
 
 -- all resolutions
 
-pub sift_more : (t : Labelled) (n : Normal) (i : ℕ) (old new : Sieve) → i < length (resolutions t.process) →
-    ((q : Process) → slice_get (resolutions t.process) i ≡ Some q → Sifts (numbered_ways i 0 (options_by t n q)) old new) →
-    HasSifted (numbered_options 0 (map (options_by t n) (take i (resolutions t.process)))) old →
-    HasSifted (numbered_options 0 (map (options_by t n) (take (i + 1) (resolutions t.process)))) new
+pub sift_more : (t : FoldedTree) (n : Normal) (i : ℕ) (old new : Sieve) → i < length (resolutions_in t) →
+    ((q : Process) → slice_get (resolutions_in t) i ≡ Some q → Sifts (numbered_ways i 0 (options_by t n q)) old new) →
+    HasSifted (numbered_options 0 (map (options_by t n) (take i (resolutions_in t)))) old →
+    HasSifted (numbered_options 0 (map (options_by t n) (take (i + 1) (resolutions_in t)))) new
 sift_more t n i old new l this s =
-    let all = resolutions t.process in
+    let all = resolutions_in t in
     let q = get_or all i Empty in
     let there = slice_get-get_or all i Empty l in
     let f = options_by t n in
@@ -142,11 +142,11 @@ sift_more t n i old new l this s =
     subst (λ ns. HasSifted ns new) (sym whole) (this q there (numbered_options 0 (map f (take i all))) s)
 
 -- resolutions of which none has an option
-module _ (t : Labelled) (n : Normal) (met : List Bool) (listed : met ≡ map (has_ways t n) (resolutions t.process)) (first : ℕ) (s : Sieve) where
+module _ (t : FoldedTree) (n : Normal) (met : List Bool) (listed : met ≡ map (has_ways t n) (resolutions_in t)) (first : ℕ) (s : Sieve) where
   pub none_sifted : (count : ℕ) → ((k : ℕ) → first ≤ k → k < first + count → get_or met k false ≡ false) → HasSiftedTo t n first s → HasSiftedTo t n (first + count) s
   none_sifted zero none so_far = let e : first ≡ first + 0 = omega arith in subst (λ k. HasSiftedTo t n k s) e so_far
   none_sifted (suc count) none so_far =
-      let all = resolutions t.process in
+      let all = resolutions_in t in
       let before = none_sifted count (λ k low high. none k low (omega arith)) so_far in
       let next : first + count + 1 ≡ first + suc count = omega arith in
       let this = none (first + count) (omega arith) (omega arith) in

@@ -2,8 +2,8 @@
 use Rattle.std.proofs.Common.{◌≡◌, ◌≢◌, ℕ, suc, ◌+◌, List, [], ◌∷◌, ◌++◌, length, map, refl, sym, ap, ◌∙◌, subst, inl, inr, arith, append-nil, append_assoc, add-zero}
 use Rattle.flow_model.specs.Lists.{◌∈◌}
 use Rattle.flow_model.specs.Resolution.{ChoiceOption}
-use Rattle.flow_laws.specs.WellFormed.{IsOrdered}
-use Rattle.flow_laws.proofs.CircleOrTrace.{circles_exclude_traces}
+use Rattle.flow_fold_laws.specs.Unfolding.{IsFoldedOrdered}
+use Rattle.flow_fold_laws.proofs.OutsideChoices.{folded_circles_exclude_traces}
 use Rattle.flow_model.specs.Decided.{not_empty}
 use Rattle.flow_excise.specs.declared.refusal.Dropped.{Dropped}
 use Rattle.flow_plan.specs.Options.{HasExecution, AreJustThose}
@@ -58,13 +58,13 @@ told_ways r k (o ∷ os) = ap (λ l. o ∷ l) (told_ways r (k + 1) os)
 -- when all are sifted
 
 pub just_those : (ns : List NumberedOption) (kept : List ChoiceOption) (dropped : List Dropped) →
-    ((n : NumberedOption) → n ∈ ns → IsOrdered n.option.resolution n.option.order) → AreSifted ns kept dropped →
+    ((n : NumberedOption) → n ∈ ns → IsFoldedOrdered n.option.resolution n.option.order) → AreSifted ns kept dropped →
     AreJustThose HasExecution (options_told ns) kept
 just_those [] kept dropped w s = s.0
 just_those (n ∷ ns) kept dropped w (inl (g, (rest, e, s))) = inl (g, (rest, e, just_those ns rest dropped (λ m k. w m (inr k)) s))
 just_those (n ∷ ns) kept dropped w (inr (d, t, (rest, e, s))) =
     inr (
-      λ h. circles_exclude_traces n.option.resolution n.option.order (w n (inl refl)) dropped_leaves t.circle h.0 h.1.0 h.1.1,
+      λ h. folded_circles_exclude_traces n.option.resolution n.option.order (w n (inl refl)) dropped_leaves t.circle h.0 h.1.0 h.1.1,
       just_those ns kept rest (λ m k. w m (inr k)) s,
     )
   where

@@ -1,6 +1,6 @@
 -- Options that have an execution are kept, the others are dropped.
 use Rattle.std.specs.Prelude.{◌≡◌, ℕ, ◌+◌, ◌⊎◌, List, [], ◌∷◌, ◌++◌}
-use Rattle.flow_model.specs.Circle.{IsCircle}
+use Rattle.flow_model.specs.FoldedCircle.{IsFoldedCircle}
 use Rattle.flow_model.specs.Resolution.{ChoiceOption}
 use Rattle.flow_plan.specs.Options.{HasExecution}
 use Rattle.flow_excise.specs.declared.refusal.Dropped.{Dropped}
@@ -25,7 +25,7 @@ numbered_options resolution (os ∷ more) = numbered_ways resolution 0 os ++ num
 pub record TellsOf (n : NumberedOption) (dropped : Dropped) : Type 0 where
   pub resolution : dropped.resolution ≡ n.resolution
   pub way : dropped.way ≡ n.way
-  pub circle : IsCircle n.option.resolution n.option.order dropped.circle.leaves.items
+  pub circle : IsFoldedCircle n.option.resolution n.option.order dropped.circle.leaves.items
 
 -- one for each option, in order
 abbrev pub TellOfAll : List NumberedOption → List Dropped → Type 0

@@ -1,6 +1,6 @@
 -- How many options there may be, and how large.
-use Rattle.std.specs.Prelude.{◌≡◌, ◌<◌, ◌≤◌, ℕ, List, length, map, sum}
-use Rattle.flow_model.specs.declared.limits.TheConstants.{GREATEST_BULK, MOST_OPTIONS}
+use Rattle.std.specs.Prelude.{◌≡◌, ◌<◌, ◌≤◌, ◌⊎◌, ℕ, List, length, map, sum}
+use Rattle.flow_model.specs.declared.limits.TheConstants.{GREATEST_BULK, MOST_OPTIONS, MOST_RESOLUTIONS}
 use Rattle.flow_model.specs.Resolution.{ChoiceOption, option_size}
 use Rattle.flow_goal.specs.Capped.{capped}
 use Rattle.flow_excise.specs.declared.refusal.CompileRefusal.{CompileRefusal}
@@ -25,3 +25,7 @@ IsTooMany os (TooManyWays count) = (MOST_OPTIONS < length os) × (count ≡ capp
 IsTooMany os (TooBulky count) = (length os ≤ MOST_OPTIONS) × ((GREATEST_BULK < bulk_of os) × (count ≡ capped (bulk_of os)))
 IsTooMany os (Inconsistent dropped) = ⊥
 IsTooMany os NoMemory = Unit {0}
+
+-- the resolutions are too many, which are so many; or nothing is said
+abbrev pub HasManyChoices : ℕ → CompileRefusal → Type 0
+HasManyChoices count refusal = ((MOST_RESOLUTIONS < count) × (refusal ≡ TooManyChoices (capped count))) ⊎ (refusal ≡ NoMemory)

@@ -3,19 +3,18 @@ use Rattle.std.specs.Prelude.{◌<◌, ◌^◌, ℕ, List, ◌++◌, length, map
 use Rattle.flow_model.specs.declared.limits.TheConstants.{MOST_LEAVES}
 use Rattle.flow_model.specs.Lists.{◌∈◌, Each}
 use Rattle.flow_model.specs.Process.{Process, leaves}
-use Rattle.flow_model.specs.Resolution.{ChoiceOption, resolutions}
+use Rattle.flow_model.specs.Resolution.{ChoiceOption}
 use Rattle.flow_model.specs.Ways.{Normal}
-use Rattle.flow_goal.specs.Labelled.{Labelled}
-use Rattle.flow_laws.specs.WellFormed.{IsOrdered}
+use Rattle.flow_fold_laws.specs.Unfolding.{IsFoldedOrdered}
 use Rattle.flow_rules.specs.declared.order_set.OrderSet.{OrderSet}
 use Rattle.flow_weave.specs.Woven.{option_with}
 use Rattle.flow_excise.specs.declared.sieve.Sieve.{Sieve}
 use Rattle.flow_excise.specs.Executions.{NumberedOption, AreSifted, numbered_options}
-use Rattle.flow_excise.specs.Options.{options_by}
+use Rattle.flow_excise.specs.Options.{FoldedTree, options_by, resolutions_in}
 use Rattle.flow_plan.specs.Options.{options_of}
 
 pub record IsPlannable (o : ChoiceOption) : Type 0 where
-  pub ordered : IsOrdered o.resolution o.order
+  pub ordered : IsFoldedOrdered o.resolution o.order
   pub small : Each (λ n. n < MOST_LEAVES) (leaves o.resolution)
   pub few : length o.order < 2 ^ 32
 
@@ -34,5 +33,5 @@ abbrev pub Sifts : List NumberedOption → Sieve → Sieve → Type 0
 Sifts ns old new = (done : List NumberedOption) → HasSifted done old → HasSifted (done ++ ns) new
 
 -- just the options of the first so many resolutions were looked at
-abbrev pub HasSiftedTo : Labelled → Normal → ℕ → Sieve → Type 0
-HasSiftedTo t n count sieve = HasSifted (numbered_options 0 (map (options_by t n) (take count (resolutions t.process)))) sieve
+abbrev pub HasSiftedTo : FoldedTree → Normal → ℕ → Sieve → Type 0
+HasSiftedTo t n count sieve = HasSifted (numbered_options 0 (map (options_by t n) (take count (resolutions_in t)))) sieve

@@ -4,6 +4,7 @@
 
 mod block;
 mod compilation;
+mod folded_choices;
 mod limits;
 mod refusal;
 mod sieve;

@@ -1,22 +1,20 @@
 ghost use Rattle.std.specs.Prelude.{◌≡◌, ◌<◌, ◌≤◌, ◌↔◌, ◌+◌, ◌*◌, ◌∷◌, [], ℕ, false, get_or, IsTrue, MatchResult, OnOk, length, map, slice_get};
-ghost use Rattle.flow_model.specs.declared.limits.TheConstants.{MOST_RESOLUTIONS};
 ghost use Rattle.flow_model.specs.Process.{Process};
-ghost use Rattle.flow_model.specs.Resolution.{resolution_count, resolutions as all_resolutions};
 ghost use Rattle.flow_model.specs.Ways.{Normal};
-ghost use Rattle.flow_goal.specs.Choices.{AreChoicesOf};
 ghost use Rattle.flow_rules.specs.Conjunction.{normal_in};
 ghost use Rattle.flow_rules.specs.EventLeaves.{IsBlank};
 ghost use Rattle.flow_excise.specs.declared.refusal.CompileRefusal.TheVariants.{NoMemory};
 ghost use Rattle.flow_excise.specs.Block.{HasWays, options_in};
 ghost use Rattle.flow_excise.specs.Executions.{numbered_options, numbered_ways};
-ghost use Rattle.flow_excise.specs.Options.{all_options_by, has_ways, options_by};
+ghost use Rattle.flow_excise.specs.Options.{ArePrepared, all_options_by, count_in, folded, has_ways, options_by, resolutions_in};
 ghost use Rattle.flow_excise.specs.Sieve.{ArePlannable, HasSifted, HasSiftedTo, Sifts, options_with, IsPlannable};
 ghost use Rattle.flow_weave.specs.Woven.{option_with};
 
 use crate::block::{Block, blocks};
+use crate::folded_choices::FoldedChoices;
 use crate::refusal::{CompileRefusal, Dropped};
 use crate::sieve::Sieve;
-use flow_goal::{Choiceless, Choices, Tree};
+use flow_goal::{Choiceless, Tree};
 use flow_rules::{Conjunction, Lanes, LeafEvents, OrderSet, forget_events, note_events};
 use flow_sample::{ExciseRefusal, excise};
 use flow_weave::weave;
@@ -38,6 +36,7 @@ fn sift(
 {
     // what the type keeps of its leaves
     let _leaves = resolution.leaves();
+    let _fixed = resolution.fixed();
     let plan = weave(alloc, resolution, order)?;
     match excise(alloc, plan) {
         Ok(plan) => {
@@ -80,31 +79,30 @@ fn sift_ways(
 fn sift_resolution(
     alloc: Global,
     tree: &Tree,
-    choices: &Choices,
+    choices: &FoldedChoices,
     block: &Block,
     lane: u32,
     events: &mut LeafEvents,
     sieve: &mut Sieve,
 ) -> Result<(), CompileRefusal>
-    requires choices { AreChoicesOf tree.now.process choices.now }
-    requires exact { resolution_count tree.now.process ≤ MOST_RESOLUTIONS }
-    requires numbered { block.now.first + lane < resolution_count tree.now.process }
+    requires choices { ArePrepared tree.now choices.now }
+    requires numbered { block.now.first + lane < count_in (folded tree.now choices.now) }
     requires lane { lane < 64 }
-    requires plannable { (q : Process) → slice_get (all_resolutions tree.now.process) (block.now.first + lane) ≡ Some q →
-        ArePlannable (options_in tree.now block.now lane q) }
+    requires plannable { (q : Process) → slice_get (resolutions_in (folded tree.now choices.now)) (block.now.first + lane) ≡ Some q →
+        ArePlannable (options_in (folded tree.now choices.now) block.now lane q) }
     requires blank { IsBlank events.old }
     ensures options { MatchResult result
-        (λ _. (q : Process) → slice_get (all_resolutions tree.now.process) (block.now.first + lane) ≡ Some q →
-        Sifts (numbered_ways (block.now.first + lane) 0 (options_in tree.now block.now lane q)) sieve.old sieve.new)
+        (λ _. (q : Process) → slice_get (resolutions_in (folded tree.now choices.now)) (block.now.first + lane) ≡ Some q →
+        Sifts (numbered_ways (block.now.first + lane) 0 (options_in (folded tree.now choices.now) block.now lane q)) sieve.old sieve.new)
         (λ e. e ≡ NoMemory) }
     ensures blank { OnOk result (IsBlank events.new) }
 {
     let number = block.first + lane as u64;
-    let resolution = choices.resolve(alloc, tree, number)?;
-    let leaves = resolution.leaves();
-    note_events(tree, leaves, events)?;
+    let resolution = choices.prepared.resolve(alloc, tree, number)?;
+    let fixed = resolution.fixed();
+    note_events(tree, fixed, events)?;
     let orders = block.narrowed.ways(alloc, lane, events)?;
-    forget_events(tree, leaves, events);
+    forget_events(tree, fixed, events);
     sift_ways(alloc, &resolution, &orders, number, sieve)
 }
 
@@ -112,23 +110,22 @@ fn sift_resolution(
 fn sift_block(
     alloc: Global,
     tree: &Tree,
-    choices: &Choices,
+    choices: &FoldedChoices,
     met: &[bool],
     block: &Block,
     events: &mut LeafEvents,
     sieve: &mut Sieve,
 ) -> Result<(), CompileRefusal>
-    requires choices { AreChoicesOf tree.now.process choices.now }
-    requires exact { resolution_count tree.now.process ≤ MOST_RESOLUTIONS }
-    requires within { block.now.first + block.now.size ≤ resolution_count tree.now.process }
+    requires choices { ArePrepared tree.now choices.now }
+    requires within { block.now.first + block.now.size ≤ count_in (folded tree.now choices.now) }
     requires few { block.now.size ≤ 64 }
-    requires long { length met.now ≡ resolution_count tree.now.process }
+    requires long { length met.now ≡ count_in (folded tree.now choices.now) }
     requires plannable { (lane : ℕ) (q : Process) → lane < block.now.size →
-        slice_get (all_resolutions tree.now.process) (block.now.first + lane) ≡ Some q → ArePlannable (options_in tree.now block.now lane q) }
+        slice_get (resolutions_in (folded tree.now choices.now)) (block.now.first + lane) ≡ Some q → ArePlannable (options_in (folded tree.now choices.now) block.now lane q) }
     requires blank { IsBlank events.old }
     ensures sifted { MatchResult result
-        (λ _. (normal : Normal) → HasWays tree.now normal block.now → met.now ≡ map (has_ways tree.now normal) (all_resolutions tree.now.process) →
-        HasSiftedTo tree.now normal block.now.first sieve.old → HasSiftedTo tree.now normal (block.now.first + block.now.size) sieve.new)
+        (λ _. (normal : Normal) → HasWays (folded tree.now choices.now) normal block.now → met.now ≡ map (has_ways (folded tree.now choices.now) normal) (resolutions_in (folded tree.now choices.now)) →
+        HasSiftedTo (folded tree.now choices.now) normal block.now.first sieve.old → HasSiftedTo (folded tree.now choices.now) normal (block.now.first + block.now.size) sieve.new)
         (λ e. e ≡ NoMemory) }
     ensures blank { OnOk result (IsBlank events.new) }
 {
@@ -161,16 +158,15 @@ fn has_option(met: &[bool], number: u64) -> bool
 pub(crate) fn sift_all(
     alloc: Global,
     tree: &Tree,
-    choices: &Choices,
+    choices: &FoldedChoices,
     rules: &Conjunction,
     met: &[bool],
 ) -> Result<Sieve, CompileRefusal>
-    requires choices { AreChoicesOf tree.now.process choices.now }
-    requires exact { resolution_count tree.now.process ≤ MOST_RESOLUTIONS }
-    requires plannable { ArePlannable (all_options_by tree.now (normal_in rules.now)) }
-    requires met { met.now ≡ map (has_ways tree.now (normal_in rules.now)) (all_resolutions tree.now.process) }
+    requires choices { ArePrepared tree.now choices.now }
+    requires plannable { ArePlannable (all_options_by (folded tree.now choices.now) (normal_in rules.now)) }
+    requires met { met.now ≡ map (has_ways (folded tree.now choices.now) (normal_in rules.now)) (resolutions_in (folded tree.now choices.now)) }
     ensures { MatchResult result
-        (HasSifted (numbered_options 0 (map (options_by tree.now (normal_in rules.now)) (all_resolutions tree.now.process))))
+        (HasSifted (numbered_options 0 (map (options_by (folded tree.now choices.now) (normal_in rules.now)) (resolutions_in (folded tree.now choices.now)))))
         (λ e. e ≡ NoMemory) }
 {
     let mut sieve = Sieve {
@@ -179,7 +175,7 @@ pub(crate) fn sift_all(
     };
     let mut lanes = Lanes::new(alloc);
     let mut events = LeafEvents::new(alloc);
-    for number in 0..blocks(tree) {
+    for number in 0..blocks(choices.count) {
         if has_option(met, number) {
             let block = Block::new(alloc, tree, choices, rules, number, &mut lanes)?;
             sift_block(alloc, tree, choices, met, &block, &mut events, &mut sieve)?;

@@ -1,18 +1,16 @@
-ghost use Rattle.std.specs.Prelude.{◌≡◌, ◌<◌, ◌≤◌, ◌+◌, ◌==◌, ◌++◌, ◌∷◌, [], not, IfOk, OnOk, length, map};
-ghost use Rattle.flow_model.specs.declared.limits.TheConstants.{MOST_RESOLUTIONS};
-ghost use Rattle.flow_model.specs.Resolution.{resolution_count, resolutions as all_resolutions};
+ghost use Rattle.std.specs.Prelude.{◌≡◌, ◌<◌, ◌≤◌, ◌+◌, ◌==◌, ◌++◌, ◌∷◌, [], ℕ, Bool, not, IfOk, OnOk, length, map};
 ghost use Rattle.flow_model.specs.Ways.{Normal, leaf_of_event};
-ghost use Rattle.flow_goal.specs.Choices.{AreChoicesOf};
 ghost use Rattle.flow_rules.specs.Conjunction.{normal_in};
 ghost use Rattle.flow_rules.specs.WayCount.{count_of};
 ghost use Rattle.flow_rules.specs.EventLeaves.{IsBlank};
 ghost use Rattle.flow_rules.specs.Narrowed.{ways_in};
-ghost use Rattle.flow_excise.specs.Block.{AreLeavesOf, HasWays};
-ghost use Rattle.flow_excise.specs.Options.{all_options_by, has_ways};
+ghost use Rattle.flow_excise.specs.Block.{AreHeld, HasWays};
+ghost use Rattle.flow_excise.specs.Options.{ArePrepared, all_options_by, folded, has_ways, resolutions_in, tree_by};
 ghost use Rattle.flow_excise.specs.Tally.{IsCountedTo, added, tally_by, tally_of};
 
 use crate::block::{Block, blocks};
-use flow_goal::{Choices, Tree};
+use crate::folded_choices::FoldedChoices;
+use flow_goal::Tree;
 use flow_rules::{Conjunction, Lanes, LeafEvents, Narrowed, WayCount, forget_events, note_events};
 use std::alloc::{AllocError, Global};
 
@@ -74,7 +72,7 @@ impl Counted {
 }
 
 /// How many ways there are in which these leaves meet the rules that are narrowed for their lane.
-fn count_in(
+fn ways_in_lane(
     tree: &Tree,
     narrowed: &Narrowed,
     lane: u32,
@@ -99,18 +97,18 @@ fn tally_block(
     events: &mut LeafEvents,
     counted: &mut Counted,
 ) -> Result<(), AllocError>
-    requires leaves { AreLeavesOf tree.now block.now.first block.now.leaves.items }
-    requires size { length block.now.leaves.items ≡ block.now.size }
+    requires size { length block.now.held.items ≡ block.now.size }
     requires few { block.now.size ≤ 64 }
     requires blank { IsBlank events.old }
-    ensures counted { OnOk result ((normal : Normal) → HasWays tree.now normal block.now →
-        IsCountedTo tree.now normal block.now.first counted.old → IsCountedTo tree.now normal (block.now.first + block.now.size) counted.new) }
+    ensures counted { OnOk result ((apart : ℕ → Bool) (normal : Normal) → AreHeld (tree_by tree.now apart) block.now.first block.now.held.items →
+        HasWays (tree_by tree.now apart) normal block.now → IsCountedTo (tree_by tree.now apart) normal block.now.first counted.old →
+        IsCountedTo (tree_by tree.now apart) normal (block.now.first + block.now.size) counted.new) }
     ensures blank { OnOk result (IsBlank events.new) }
 {
     for lane in 0..block.size {
-        let leaves = &block.leaves[lane as usize];
-        let count = count_in(tree, &block.narrowed, lane, leaves, events)?;
-        counted.add(leaves.len() as u64, count)?;
+        let held = &block.held[lane as usize];
+        let count = ways_in_lane(tree, &block.narrowed, lane, &held.fixed, events)?;
+        counted.add(held.leaves as u64, count)?;
     }
     Ok(())
 }
@@ -119,13 +117,12 @@ fn tally_block(
 pub(crate) fn whole_tally(
     alloc: Global,
     tree: &Tree,
-    choices: &Choices,
+    choices: &FoldedChoices,
     rules: &Conjunction,
 ) -> Result<Counted, AllocError>
-    requires choices { AreChoicesOf tree.now.process choices.now }
-    requires exact { resolution_count tree.now.process ≤ MOST_RESOLUTIONS }
-    ensures tally { IfOk result (λ counted. counted.tally ≡ tally_of (all_options_by tree.now (normal_in rules.now))) }
-    ensures met { IfOk result (λ counted. counted.met.items ≡ map (has_ways tree.now (normal_in rules.now)) (all_resolutions tree.now.process)) }
+    requires choices { ArePrepared tree.now choices.now }
+    ensures tally { IfOk result (λ counted. counted.tally ≡ tally_of (all_options_by (folded tree.now choices.now) (normal_in rules.now))) }
+    ensures met { IfOk result (λ counted. counted.met.items ≡ map (has_ways (folded tree.now choices.now) (normal_in rules.now)) (resolutions_in (folded tree.now choices.now))) }
 {
     let mut counted = Counted {
         tally: NONE,
@@ -133,7 +130,7 @@ pub(crate) fn whole_tally(
     };
     let mut lanes = Lanes::new(alloc);
     let mut events = LeafEvents::new(alloc);
-    for number in 0..blocks(tree) {
+    for number in 0..blocks(choices.count) {
         let block = Block::new(alloc, tree, choices, rules, number, &mut lanes)?;
         tally_block(tree, &block, &mut events, &mut counted)?;
     }

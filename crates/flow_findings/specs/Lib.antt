@@ -1,3 +1,4 @@
 pub mod Refusing
 pub mod Checking
 pub mod Judging
+pub mod Auditing

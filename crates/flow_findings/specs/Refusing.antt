@@ -24,7 +24,7 @@ use Rattle.flow_excise.specs.declared.refusal.CompileRefusal.{CompileRefusal}
 use Rattle.flow_excise.specs.declared.refusal.CompileRefusal.TheVariants as compilation
 use Rattle.flow_words.specs.Usage.{usage_text}
 use Rattle.flow_findings.specs.declared.refused.Refused.{Refused}
-use Rattle.flow_findings.specs.declared.refused.Refused.TheVariants.{Words, Read, TooLong, Text, Query, Record, Expand, NoRule, Compile}
+use Rattle.flow_findings.specs.declared.refused.Refused.TheVariants.{Words, Read, TooLong, Text, Query, Journals, Record, Expand, NoRule, Compile}
 
 -- what a text needs, in words
 abbrev pub kind_text : Wanted → List ℕ
@@ -137,6 +137,7 @@ IsTold events Read = Unit {0}
 IsTold events TooLong = Unit {0}
 IsTold events (Text refusal) = IsOfText refusal
 IsTold events (Query refusal) = IsOfText refusal
+IsTold events (Journals count) = Unit {0}
 IsTold events (Record refusal) = IsOfLines refusal
 IsTold events (Expand refusal) = IsOfWorkflow events refusal
 IsTold events (NoRule index) = Unit {0}
@@ -149,6 +150,7 @@ refused_text events Read = codes "refused: read\n"
 refused_text events TooLong = codes "refused: " ++ (codes "too long " ++ decimal GREATEST_INPUT) ++ codes "\n"
 refused_text events (Text refusal) = codes "refused: " ++ text_refusal refusal ++ codes "\n"
 refused_text events (Query refusal) = codes "refused: query " ++ text_refusal refusal ++ codes "\n"
+refused_text events (Journals count) = codes "refused: " ++ (codes "journals " ++ decimal count) ++ codes "\n"
 refused_text events (Record refusal) = codes "refused: " ++ line_refusal refusal ++ codes "\n"
 refused_text events (Expand refusal) = codes "refused: " ++ expand_refusal events refusal ++ codes "\n"
 refused_text events (NoRule index) = codes "refused: " ++ (codes "constraint " ++ decimal index) ++ codes "\n"

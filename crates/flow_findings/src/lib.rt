@@ -1,6 +1,8 @@
-//! The lines that the program writes of a workflow that it does not run: refusals, counts, traces and properties.
+//! The lines that the program writes of a workflow that it does not run: refusals, counts, traces, many journals and
+//! properties.
 #![tactic(auto)]
 
+mod audit;
 mod check;
 mod compile_refusal;
 mod expand_refusal;
@@ -9,6 +11,7 @@ mod refusal_line;
 mod refused;
 mod text_refusal;
 
+pub use audit::print_audit;
 pub use check::print_check;
 pub use judgement::{print_checked, print_redundancy, print_verified};
 pub use refused::{Refused, print_refused};

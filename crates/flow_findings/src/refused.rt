@@ -27,6 +27,8 @@ pub enum Refused {
     Text(TextRefusal),
     /// The text of a query asks nothing.
     Query(TextRefusal),
+    /// There are more than `flow_audit::MOST_JOURNALS` journals: so many.
+    Journals(u64),
     /// A line of the second part is not as it must be.
     Record(RecordRefusal),
     /// The workflow is not expanded.
@@ -53,6 +55,7 @@ pub fn print_refused(
         Refused::TooLong => print_numbered(alloc, "too long", GREATEST_INPUT as u64),
         Refused::Text(refusal) => print_text_refusal(alloc, b"refused: ", refusal),
         Refused::Query(refusal) => print_text_refusal(alloc, b"refused: query ", refusal),
+        Refused::Journals(count) => print_numbered(alloc, "journals", *count),
         Refused::Record(refusal) => print_line_refusal(alloc, refusal),
         Refused::Expand(refusal) => print_expand_refusal(alloc, refusal, script),
         Refused::NoRule(index) => print_numbered(alloc, "constraint", u64::from(*index)),

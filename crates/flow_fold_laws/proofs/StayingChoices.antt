@@ -61,7 +61,7 @@ whole_or_have : (stays : Bool) (ns : List ℕ) (whole sides : List (Process × P
 whole_or_have true ns whole sides h k = h
 whole_or_have false ns whole sides h k = k
 
-staying_have : (apart : ℕ → Bool) (g : Process) → HaveLeavesIn (leaves g) (staying_choices apart g)
+pub staying_have : (apart : ℕ → Bool) (g : Process) → HaveLeavesIn (leaves g) (staying_choices apart g)
 staying_have apart (Sequence a b) choice m n l =
     halves_have a b (staying_choices apart a) (staying_choices apart b) (staying_have apart a) (staying_have apart b) choice m n l
 staying_have apart (Parallel a b) choice m n l =

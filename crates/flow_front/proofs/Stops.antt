@@ -4,8 +4,6 @@ use Rattle.std.specs.Prelude.{◌<◌, ◌≤◌, ◌↔◌, IfErr, IfSome}
 use Rattle.std.specs.Result.{IsErrOf, IsErrAnd}
 use Rattle.flow_model.specs.declared.limits.TheConstants.{GREATEST_INPUT}
 use Rattle.flow_model.specs.Schema.{Schema}
-use Rattle.flow_form.specs.declared.refusal.TextRefusal.{TextRefusal}
-use Rattle.flow_form.specs.declared.refusal.TextRefusal.TheVariants as text
 use Rattle.flow_form.specs.Script.{Said}
 use Rattle.flow_io.specs.declared.failure.ReadRefusal.{ReadRefusal}
 use Rattle.flow_io.specs.declared.failure.ReadRefusal.TheVariants.{ReadFault, TooLong, NoMemory}

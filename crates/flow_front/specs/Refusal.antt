@@ -15,6 +15,8 @@ use Rattle.flow_expand.specs.Refusals.{IsRefusal}
 use Rattle.flow_excise.specs.declared.refusal.CompileRefusal.{CompileRefusal}
 use Rattle.flow_excise.specs.declared.refusal.CompileRefusal.TheVariants as compilation
 use Rattle.flow_excise.specs.Compilation.{IsRefused}
+use Rattle.flow_audit.specs.declared.cuts.TheConstants.{MOST_JOURNALS}
+use Rattle.flow_audit.specs.Cuts.{cuts_of}
 use Rattle.flow_findings.specs.declared.refused.Refused.{Refused}
 use Rattle.flow_findings.specs.declared.refused.Refused.TheVariants as refused
 use Rattle.flow_findings.specs.Refusing.{IsOfText, IsOfWorkflow, IsOfOptions}
@@ -23,7 +25,7 @@ use Rattle.flow_findings.specs.Refusing.{IsOfText, IsOfWorkflow, IsOfOptions}
 abbrev pub workflow_part : List ℕ → List ℕ
 workflow_part input = take (cut_of input).0 input
 
--- what follows it: a session, a query or a journal
+-- what follows it: a session, a query, a journal or several
 abbrev pub second_part : List ℕ → List ℕ
 second_part input = drop (cut_of input).1 input
 
@@ -36,9 +38,10 @@ Gives (Some bytes) input = input ≡ bytes
 pub data Looked : Type 0 where
   -- a source, the text of a workflow in what it gives
   the_source : Option (List ℕ) → Looked
-  -- a text that is to be a session, or a query to what is said
+  -- a text that is to be a session, a query to what is said, or journals
   the_session : List ℕ → Looked
   the_query : Said → List ℕ → Looked
+  the_journals : List ℕ → Looked
   -- what is said: its sub-workflows, sizes and events
   the_script : Said → Looked
   -- a text that is to be a journal of the workflow
@@ -69,6 +72,7 @@ IsCause (the_source left) (refused.Text refusal) =
     (input : List ℕ) × Gives left input × (length input ≤ GREATEST_INPUT) × IsOfText refusal × IsParseRefusal (workflow_part input) refusal
 IsCause (the_session text) (refused.Record (BadLine line)) = session_text.session_of text ≡ session_text.bad_line line
 IsCause (the_query s text) (refused.Query refusal) = IsOfText refusal × IsQueryRefusal text s refusal
+IsCause (the_journals text) (refused.Journals count) = (count ≡ length (cuts_of text)) × (MOST_JOURNALS < count)
 IsCause (the_script s) (refused.Expand refusal) = IsOfWorkflow (event_names s.decls) refusal × IsRefusal s refusal
 IsCause (the_journal w text) (refused.Record refusal) = IsJournalRefusal w text refusal
 IsCause (the_index w index) (refused.NoRule other) = (other ≡ index) × (length w.rules ≤ index)

@@ -19,7 +19,7 @@ use std::alloc::Global;
 #[derive(Drop)]
 pub struct Input {
     pub script: Script,
-    /// A session, a query or a journal, as the mode asks.
+    /// A session, a query, a journal or several, as the mode asks.
     pub second: Vec<u8>,
 }
 

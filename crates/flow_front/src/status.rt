@@ -8,10 +8,10 @@ use flow_findings::Refused;
 #[derive(Clone, Copy)]
 pub enum Status {
     /// The run is committed, some execution meets the constraints, the property holds, the constraint follows
-    /// from the others, the journal is an execution, or a workflow was generated.
+    /// from the others, each journal is an execution, or a workflow was generated.
     Fine,
     /// The run is not over, is stuck or has no other choice, no execution meets the constraints, some execution
-    /// breaks the property or the constraint, or the journal is no execution.
+    /// breaks the property or the constraint, or a journal is no execution.
     No,
     /// The words are no call of the program.
     Words,
@@ -54,6 +54,7 @@ impl Status {
             Refused::TooLong
             | Refused::Text(_)
             | Refused::Query(_)
+            | Refused::Journals(_)
             | Refused::Record(_)
             | Refused::Expand(_)
             | Refused::NoRule(_) => Status::Refused,

@@ -1,15 +1,20 @@
 -- No count of a generated workflow is past its limit.
-use Rattle.std.proofs.Common.{◌≡◌, ℕ, ◌+◌, ◌-◌, ◌*◌, ◌^◌, ◌%◌, ◌==◌, ◌≤◌, nat_lt, List, [], ◌∷◌, length, map, sum, take, refl, sym, ap, subst, ◌∙◌, arith}
+use Rattle.std.proofs.Common.{◌≡◌, ℕ, ◌+◌, ◌-◌, ◌*◌, ◌^◌, ◌%◌, ◌==◌, ◌≤◌, nat_lt, Bool, List, [], ◌∷◌, length, map, sum, take, refl, sym, ap, subst, ◌∙◌, arith}
 use Rattle.std.proofs.Math.Nat.{mul-le-mul_right}
 use Rattle.std.proofs.Math.Pow.{pow_mono}
 use Rattle.std.proofs.lemmas.Bool.{cases_Bool, ltb-true}
 use Rattle.flow_model.specs.declared.limits.TheConstants.{GREATEST_SIZE}
-use Rattle.flow_model.specs.Lists.{◌∈◌}
+use Rattle.flow_model.specs.Lists.{◌∈◌, numbers_from}
 use Rattle.flow_model.specs.Process.{Process, leaves}
+use Rattle.flow_model.specs.Constraint.{all_of}
+use Rattle.flow_model.specs.Folding.{fixed_leaves, folded_bulk, folded_count, folded_resolutions, folded_ways, is_named}
 use Rattle.flow_model.specs.Resolution.{resolutions, resolution_count, ways_in, bulk}
+use Rattle.flow_model.specs.Ways.{ways_of}
+use Rattle.flow_model.proofs.MadeLists.{length-numbers_from}
 use Rattle.flow_model.specs.Schema.{Schema}
 use Rattle.flow_laws.specs.WellFormed.{IsConsistent}
 use Rattle.flow_laws.proofs.ResolutionsLemmas.{resolves_of, length-resolutions}
+use Rattle.flow_laws.proofs.FoldingLemmas.{folds_to, length-folded}
 use Rattle.flow_goal.proofs.Rising.{Rises, resolution_rises}
 use Rattle.flow_workflow.specs.Definition.{Definition, schema_of}
 use Rattle.flow_expand.specs.Numbers.{numbered}
@@ -23,6 +28,7 @@ use Rattle.flow_gen.specs.Generated.{choices_in, kind, all_draws, kinds, generat
 use Rattle.flow_gen.specs.Laws.{choice_count, ChoicesAreFew, ChoicesDouble, ChoicesTakeFour, WaysAreSingle, OptionsAreResolutions, BulkIsSmall, WorkflowsAreWithinLimits, CompilingIsNotRefused, CompilingPartsIsNotRefused}
 use Rattle.flow_gen.proofs.Rows.{choices_more}
 use Rattle.flow_gen.proofs.Expanded.{expansion, row, leaves_are, the_definition}
+use Rattle.flow_gen.proofs.FoldedGoals.{fewer_leaves, fewer_resolutions}
 use Rattle.flow_gen.proofs.Consistent.{workflows_are_consistent}
 use Rattle.flow_gen.proofs.Precedences.{rules_are, few_rules, IsOneWay, one_way, AreSingle, are_single}
 
@@ -50,15 +56,16 @@ choices_take_four seed size w some few h q m =
 
 -- Ways
 
-its_way : (seed size : ℕ) (w : Definition) → 1 ≤ size → size ≤ GREATEST_SIZE → IsExpanded (generated seed size) w → (q : Process) → IsOneWay (size - 1) (ways_in (schema_of w) q)
-its_way seed size w some few h q =
+its_way : (seed size : ℕ) (w : Definition) → 1 ≤ size → size ≤ GREATEST_SIZE → IsExpanded (generated seed size) w → (ls : List ℕ) →
+    IsOneWay (size - 1) (ways_of (all_of w.rules) w.tree.labels ls)
+its_way seed size w some few h ls =
     let v = definition_of (generated seed size) (expansion seed size some few) in
-    let one : IsOneWay (length v.rules) (ways_in (schema_of v) q) = one_way v.rules v.tree.labels (leaves q) (rules_are seed size some few) in
-    subst (λ (v : Definition). IsOneWay (size - 1) (ways_in (schema_of v) q)) (sym (the_definition seed size some few w h))
+    let one : IsOneWay (length v.rules) (ways_of (all_of v.rules) v.tree.labels ls) = one_way v.rules v.tree.labels ls (rules_are seed size some few) in
+    subst (λ (v : Definition). IsOneWay (size - 1) (ways_of (all_of v.rules) v.tree.labels ls)) (sym (the_definition seed size some few w h))
     (record { way = one.way; only = one.only; pairs = omega (arith, one.pairs, few_rules seed size) })
 
 pub ways_are_single : WaysAreSingle
-ways_are_single seed size w some few h q m = ap (λ (ws : List (List (ℕ × ℕ))). length ws) (its_way seed size w some few h q).only
+ways_are_single seed size w some few h q m = ap (λ (ws : List (List (ℕ × ℕ))). length ws) (its_way seed size w some few h (leaves q)).only
 
 -- Options
 
@@ -66,13 +73,28 @@ rises_length : (low high : ℕ) (xs : List ℕ) → Rises low xs high → low + 
 rises_length low high [] h = omega (arith, h)
 rises_length low high (x ∷ xs) h = omega (arith, h.0, rises_length (x + 1) high xs h.1)
 
-single : (seed size : ℕ) (w : Definition) → 1 ≤ size → size ≤ GREATEST_SIZE → IsExpanded (generated seed size) w → AreSingle (schema_of w) (resolutions w.tree.process) (8 * size + (size - 1))
-single seed size w some few h = are_single (schema_of w) (resolutions w.tree.process) (8 * size) (size - 1) few_leaves (its_way seed size w some few h)
+in_row : (seed size : ℕ) (w : Definition) → 1 ≤ size → size ≤ GREATEST_SIZE → IsExpanded (generated seed size) w → leaves w.tree.process ≡ numbers_from 0 (8 * size)
+in_row seed size w some few h = ap (λ (v : Definition). leaves v.tree.process) (the_definition seed size some few w h) ∙ leaves_are seed size some few
+
+single : (seed size : ℕ) (w : Definition) → 1 ≤ size → size ≤ GREATEST_SIZE → IsExpanded (generated seed size) w →
+    AreSingle (ways_in (schema_of w)) (resolutions w.tree.process) (8 * size + (size - 1))
+single seed size w some few h = are_single (ways_in (schema_of w)) (resolutions w.tree.process) (8 * size) (size - 1) few_leaves (λ q. its_way seed size w some few h (leaves q))
   where
     few_leaves : (q : Process) → q ∈ resolutions w.tree.process → length (leaves q) ≤ 8 * size
     few_leaves q m =
-        let in_row = ap (λ (v : Definition). leaves v.tree.process) (the_definition seed size some few w h) ∙ leaves_are seed size some few in
-        omega (arith, rises_length 0 (0 + 8 * size) (leaves q) (resolution_rises w.tree.process q 0 (8 * size) in_row (resolves_of w.tree.process q m)))
+        omega (arith, rises_length 0 (0 + 8 * size) (leaves q) (resolution_rises w.tree.process q 0 (8 * size) (in_row seed size w some few h) (resolves_of w.tree.process q m)))
+
+-- where choices stay
+
+folded_single : (seed size : ℕ) (w : Definition) → 1 ≤ size → size ≤ GREATEST_SIZE → IsExpanded (generated seed size) w →
+    AreSingle (folded_ways (schema_of w)) (folded_resolutions (is_named (schema_of w)) w.tree.process) (8 * size + (size - 1))
+folded_single seed size w some few h =
+    are_single (folded_ways (schema_of w)) (folded_resolutions (is_named (schema_of w)) w.tree.process) (8 * size) (size - 1) few_leaves (λ q. its_way seed size w some few h (fixed_leaves q))
+  where
+    few_leaves : (q : Process) → q ∈ folded_resolutions (is_named (schema_of w)) w.tree.process → length (leaves q) ≤ 8 * size
+    few_leaves q m =
+        let fewer = fewer_leaves (is_named (schema_of w)) w.tree.process q (folds_to (is_named (schema_of w)) w.tree.process q m) in
+        omega (arith, fewer, ap length (in_row seed size w some few h), length-numbers_from 0 (8 * size))
 
 pub options_are_resolutions : OptionsAreResolutions
 options_are_resolutions seed size w some few h = (single seed size w some few h).count ∙ length-resolutions w.tree.process
@@ -83,13 +105,18 @@ bulk_is_small seed size w some few h =
 
 pub workflows_are_within_limits : WorkflowsAreWithinLimits
 workflows_are_within_limits seed size w some few h =
+    let apart : ℕ → Bool = is_named (schema_of w) in
     let sixth : 2 ^ choice_count seed size ≤ 2 ^ 6 = pow_mono (choices_are_few seed size) in
-    let many : resolution_count w.tree.process ≤ 64 = omega (arith, choices_double seed size w some few h, sixth) in
-    let product : resolution_count w.tree.process * (8 * size + (size - 1)) ≤ 64 * (8 * size + (size - 1)) = mul-le-mul_right (8 * size + (size - 1)) many in
+    let many : folded_count apart w.tree.process ≤ 64 = omega (arith, choices_double seed size w some few h, fewer_resolutions apart w.tree.process, sixth) in
+    let each = folded_single seed size w some few h in
+    let long = length-folded apart w.tree.process in
+    let product : folded_count apart w.tree.process * (8 * size + (size - 1)) ≤ 64 * (8 * size + (size - 1)) = mul-le-mul_right (8 * size + (size - 1)) many in
+    let size_is : folded_bulk (schema_of w) ≤ folded_count apart w.tree.process * (8 * size + (size - 1)) =
+    subst (λ n. folded_bulk (schema_of w) ≤ n * (8 * size + (size - 1))) long each.size in
     record {
       resolutions = omega (arith, many);
-      options_few = omega (arith, many, options_are_resolutions seed size w some few h);
-      light = omega (arith, bulk_is_small seed size w some few h, product, few);
+      options_few = omega (arith, many, each.count, long);
+      light = omega (arith, size_is, product, few);
     }
 
 -- Refusals

@@ -10,8 +10,7 @@ use Rattle.flow_model.specs.Constraint.{Constraint, Never, Order, Always, And, c
 use Rattle.flow_model.specs.declared.labels.Label.{Label}
 use Rattle.flow_model.specs.Process.{Process, leaves}
 use Rattle.flow_model.specs.Ways.{normal_form, ways, ways_of, ways_of_never, ways_of_before, leaf_of_event, free_way, is_free}
-use Rattle.flow_model.specs.Schema.{Schema}
-use Rattle.flow_model.specs.Resolution.{ChoiceOption, option_size, options_in, ways_in}
+use Rattle.flow_model.specs.Resolution.{ChoiceOption, option_size}
 use Rattle.flow_workflow.specs.Rule.{any_of}
 use Rattle.flow_form.specs.Names.{event_names}
 use Rattle.flow_expand.specs.Constraints.{constraint_of}
@@ -101,20 +100,24 @@ one_way cs labels ls h =
 
 -- Options
 
--- each resolution is one option, with few leaves and pairs
-pub record AreSingle (w : Schema) (qs : List Process) (most : ℕ) : Type 0 where
-  pub count : length (flat_map (options_in w) qs) ≡ length qs
-  pub size : sum (map option_size (flat_map (options_in w) qs)) ≤ length qs * most
+-- the options of one resolution, by its ways
+abbrev pub options_by : (Process → List (List (ℕ × ℕ))) → Process → List ChoiceOption
+options_by ways_of_one q = map (λ (way : List (ℕ × ℕ)). let x : ChoiceOption = record { resolution = q; order = way } in x) (ways_of_one q)
 
-pub are_single : (w : Schema) (qs : List Process) (many most : ℕ) → ((q : Process) → q ∈ qs → length (leaves q) ≤ many) → ((q : Process) → IsOneWay most (ways_in w q)) →
-    AreSingle w qs (many + most)
-are_single w [] many most few one = record { count = refl; size = omega arith }
-are_single w (q ∷ qs) many most few one =
-    let rest : AreSingle w qs (many + most) = are_single w qs many most (λ p m. few p (inr m)) one in
+-- each resolution is one option, with few leaves and pairs
+pub record AreSingle (ways_of_one : Process → List (List (ℕ × ℕ))) (qs : List Process) (most : ℕ) : Type 0 where
+  pub count : length (flat_map (options_by ways_of_one) qs) ≡ length qs
+  pub size : sum (map option_size (flat_map (options_by ways_of_one) qs)) ≤ length qs * most
+
+pub are_single : (ways_of_one : Process → List (List (ℕ × ℕ))) (qs : List Process) (many most : ℕ) → ((q : Process) → q ∈ qs → length (leaves q) ≤ many) →
+    ((q : Process) → IsOneWay most (ways_of_one q)) → AreSingle ways_of_one qs (many + most)
+are_single ways_of_one [] many most few one = record { count = refl; size = omega arith }
+are_single ways_of_one (q ∷ qs) many most few one =
+    let rest : AreSingle ways_of_one qs (many + most) = are_single ways_of_one qs many most (λ p m. few p (inr m)) one in
     let o : ChoiceOption = record { resolution = q; order = (one q).way } in
-    let others = flat_map (options_in w) qs in
-    let here : options_in w q ≡ o ∷ [] = ap (map (λ (way : List (ℕ × ℕ)). let x : ChoiceOption = record { resolution = q; order = way } in x)) (one q).only in
-    let all : flat_map (options_in w) (q ∷ qs) ≡ o ∷ others = ap (λ (os : List ChoiceOption). os ++ others) here in
+    let others = flat_map (options_by ways_of_one) qs in
+    let here : options_by ways_of_one q ≡ o ∷ [] = ap (map (λ (way : List (ℕ × ℕ)). let x : ChoiceOption = record { resolution = q; order = way } in x)) (one q).only in
+    let all : flat_map (options_by ways_of_one) (q ∷ qs) ≡ o ∷ others = ap (λ (os : List ChoiceOption). os ++ others) here in
     record {
       count = ap length all ∙ ap (λ n. suc n) rest.count;
       size = subst (λ (os : List ChoiceOption). sum (map option_size os) ≤ suc (length qs) * (many + most)) (sym all)

@@ -6,7 +6,7 @@ use Rattle.std.proofs.lemmas.Nat.{pow-add}
 use Rattle.flow_model.specs.declared.labels.Label.{Label}
 use Rattle.flow_model.specs.declared.labels.Label.TheVariants.{Event}
 use Rattle.flow_model.specs.Lists.{◌∈◌, numbers_from}
-use Rattle.flow_model.specs.Process.{Process, Empty, Task, Sequence, Parallel, Choice, Isolated, leaves, IsChoiceFree}
+use Rattle.flow_model.specs.Process.{Process, leaves, IsChoiceFree}
 use Rattle.flow_model.specs.Resolution.{resolution_count}
 use Rattle.flow_laws.specs.Resolutions.{Resolves}
 use Rattle.flow_fold_laws.proofs.Unfoldings.{choice_free_resolves}

@@ -1,20 +1,22 @@
 -- Which choices stay: what a walk of a goal finds, step by step.
-use Rattle.std.proofs.Common.{◌≡◌, ◌==◌, ◌<◌, ◌≤◌, ◌↔◌, ℕ, Option, Some, None, zero, suc, ◌+◌, ◌-◌, ◌^◌, Bool, true, false, not, ◌&&◌, ◌||◌, if◌then◌else◌, List, [], ◌∷◌, ◌++◌, length, set, refl, sym, ap, ◌∙◌, subst, append_assoc, length-append, append-nil, get_or, inl, inr, arith, min}
+use Rattle.std.proofs.Common.{◌≡◌, ◌==◌, ◌<◌, ◌≤◌, ◌↔◌, ℕ, Option, Some, None, zero, suc, ◌+◌, ◌-◌, ◌*◌, ◌^◌, Bool, true, false, not, ◌&&◌, ◌||◌, if◌then◌else◌, List, [], ◌∷◌, ◌++◌, length, set, refl, sym, ap, ◌∙◌, subst, append_assoc, length-append, append-nil, get_or, inl, inr, arith, min}
 use Rattle.std.proofs.Math.Seq.{set-append_seam}
+use Rattle.std.proofs.Math.Bool.{and-false}
 use Rattle.std.proofs.lemmas.Bool.{cases_lt, eqb-true, eq-eqb}
 use Rattle.std.specs.Cmp.{both_ways}
 use Rattle.std.proofs.lemmas.List.{get_or_past}
 use Rattle.std.proofs.lemmas.List.Folds.{list_any-append}
 use Rattle.flow_model.specs.declared.labels.Label.{Label}
-use Rattle.flow_model.specs.Lists.{◌∈◌, numbers_from}
+use Rattle.flow_model.specs.Lists.{◌∈◌, each_with_each, numbers_from}
 use Rattle.flow_model.specs.Facts.{event_at}
 use Rattle.flow_model.specs.Constraint.{all_of}
 use Rattle.flow_model.specs.Schema.{Schema}
 use Rattle.flow_model.specs.Process.{Process, Empty, Task, Sequence, Parallel, Choice, Isolated, leaves, IsNumbered}
 use Rattle.flow_model.specs.Trace.{Blocks}
-use Rattle.flow_model.specs.Resolution.{resolution_count}
+use Rattle.flow_model.specs.Resolution.{resolutions, resolution_count}
 use Rattle.std.specs.List.{list_any}
-use Rattle.flow_model.specs.Folding.{named_events, is_among, is_named, may_be_empty, is_foldable, folded_count, choices_of, staying_choices}
+use Rattle.flow_model.specs.Folding.{named_events, is_among, is_named, may_be_empty, is_foldable, folded_count, folded_resolutions, choices_of, staying_choices}
+use Rattle.flow_model.proofs.Lists.{mem_append_left, mem_append_right}
 use Rattle.flow_model.proofs.MadeLists.{length-numbers_from, some_passes, passing_member}
 use Rattle.flow_laws.proofs.FoldingLemmas.{empty_blocks, may_stay, all_choices_stay, empty_without_leaf}
 use Rattle.flow_goal.specs.declared.fold.Fold.{Fold}
@@ -218,10 +220,149 @@ same_among xs ys event same = both_ways _ _ (passes xs ys same.0) (passes ys xs 
         let (x, m, f) = passing_member (λ x. x == event) us e in
         some_passes (λ x. x == event) event vs (to (subst (λ y. y ∈ us) (eqb-true x event f) m)) (eq-eqb event event refl)
 
+-- where the same events are named, the test is the same
+pub named_by_members : (labels : List Label) (events others : List ℕ) → ((e : ℕ) → (e ∈ events) ↔ (e ∈ others)) → named_by labels events ≡ named_by labels others
+named_by_members labels events others same = λ i leaf. among (event_at labels leaf) i
+  where
+    among : (event : Option ℕ) → is_among events event ≡ is_among others event
+    among None = refl
+    among (Some event) = same_among events others event (same event)
+
 -- where just these events are named, the test is that of the workflow
 pub named_is : (w : Schema) (events : List ℕ) → ((e : ℕ) → (e ∈ events) ↔ (e ∈ named_events (all_of w.rules))) → named_by w.labels events ≡ is_named w
-named_is w events same = λ i leaf. among (event_at w.labels leaf) i
+named_is w events same = named_by_members w.labels events (named_events (all_of w.rules)) same
+
+-- A choice that stays, and one that does not
+
+pub stays_folded : (apart : ℕ → Bool) (a b : Process) → is_foldable apart (Choice a b) ≡ true → folded_resolutions apart (Choice a b) ≡ Choice a b ∷ []
+stays_folded apart a b = ap (λ stays. if stays then Choice a b ∷ [] else folded_resolutions apart a ++ folded_resolutions apart b)
+
+pub goes_folded : (apart : ℕ → Bool) (a b : Process) → is_foldable apart (Choice a b) ≡ false →
+    folded_resolutions apart (Choice a b) ≡ folded_resolutions apart a ++ folded_resolutions apart b
+goes_folded apart a b = ap (λ stays. if stays then Choice a b ∷ [] else folded_resolutions apart a ++ folded_resolutions apart b)
+
+-- Where each leaf keeps choices apart, and in an isolated part
+
+none_folds : (a b : Process) → is_foldable (λ n. true) (Choice a b) ≡ false
+none_folds a b = none (leaves a ++ leaves b) refl
   where
-    among : (event : Option ℕ) → is_among events event ≡ is_among (named_events (all_of w.rules)) event
-    among None = refl
-    among (Some event) = same_among events (named_events (all_of w.rules)) event (same event)
+    none : (ns : List ℕ) → ns ≡ leaves (Choice a b) → is_foldable (λ n. true) (Choice a b) ≡ false
+    none [] e =
+        ap (λ empty. (not (list_any (λ n. true) (leaves a ++ leaves b)) && not empty) && (is_foldable (λ n. true) a && is_foldable (λ n. true) b))
+        (empty_without_leaf (Choice a b) e) ∙ rw (and-false (not (list_any (λ n. true) (leaves a ++ leaves b)))) refl
+    none (n ∷ ns) e =
+        sym (ap (λ ns. (not (list_any (λ n. true) ns) && not (may_be_empty a || may_be_empty b)) && (is_foldable (λ n. true) a && is_foldable (λ n. true) b)) e)
+
+pub all_resolved : (g : Process) → folded_resolutions (λ n. true) g ≡ resolutions g
+all_resolved Empty = refl
+all_resolved (Task n) = refl
+all_resolved (Sequence a b) = λ i. each_with_each Sequence (all_resolved a i) (all_resolved b i)
+all_resolved (Parallel a b) = λ i. each_with_each Parallel (all_resolved a i) (all_resolved b i)
+all_resolved (Choice a b) = λ i. if none_folds a b i then Choice a b ∷ [] else all_resolved a i ++ all_resolved b i
+all_resolved (Isolated a) = refl
+
+pub isolated_flags : (apart : ℕ → Bool) (g : Process) → flags_in apart true g ≡ flags_in (λ n. true) false g
+isolated_flags apart Empty = refl
+isolated_flags apart (Task n) = refl
+isolated_flags apart (Sequence a b) = λ i. isolated_flags apart a i ++ isolated_flags apart b i
+isolated_flags apart (Parallel a b) = λ i. isolated_flags apart a i ++ isolated_flags apart b i
+isolated_flags apart (Choice a b) = λ i. sym (none_folds a b) i ∷ (isolated_flags apart a i ++ isolated_flags apart b i)
+isolated_flags apart (Isolated a) = isolated_isolated a
+  where
+    isolated_isolated : (g : Process) → flags_in apart true g ≡ flags_in (λ n. true) true g
+    isolated_isolated Empty = refl
+    isolated_isolated (Task n) = refl
+    isolated_isolated (Sequence a b) = λ i. isolated_isolated a i ++ isolated_isolated b i
+    isolated_isolated (Parallel a b) = λ i. isolated_isolated a i ++ isolated_isolated b i
+    isolated_isolated (Choice a b) = λ i. false ∷ (isolated_isolated a i ++ isolated_isolated b i)
+    isolated_isolated (Isolated a) = isolated_isolated a
+
+-- Tests that agree on all leaves
+
+-- they agree on these leaves
+abbrev pub Agree : (ℕ → Bool) → (ℕ → Bool) → List ℕ → Type 0
+Agree p q ns = (n : ℕ) → n ∈ ns → p n ≡ q n
+
+same_any : (p q : ℕ → Bool) (ns : List ℕ) → Agree p q ns → list_any p ns ≡ list_any q ns
+same_any p q [] same = refl
+same_any p q (n ∷ ns) same = λ i. same n (inl refl) i || same_any p q ns (λ m k. same m (inr k)) i
+
+left_agree : (p q : ℕ → Bool) (xs ys : List ℕ) → Agree p q (xs ++ ys) → Agree p q xs
+left_agree p q xs ys same n m = same n (mem_append_left n xs ys m)
+
+right_agree : (p q : ℕ → Bool) (xs ys : List ℕ) → Agree p q (xs ++ ys) → Agree p q ys
+right_agree p q xs ys same n m = same n (mem_append_right n xs ys m)
+
+pub same_foldable : (p q : ℕ → Bool) (g : Process) → Agree p q (leaves g) → is_foldable p g ≡ is_foldable q g
+same_foldable p q Empty same = refl
+same_foldable p q (Task n) same = refl
+same_foldable p q (Sequence a b) same =
+    λ i. same_foldable p q a (left_agree p q (leaves a) (leaves b) same) i && same_foldable p q b (right_agree p q (leaves a) (leaves b) same) i
+same_foldable p q (Parallel a b) same =
+    λ i. same_foldable p q a (left_agree p q (leaves a) (leaves b) same) i && same_foldable p q b (right_agree p q (leaves a) (leaves b) same) i
+same_foldable p q (Choice a b) same =
+    λ i. (not (same_any p q (leaves a ++ leaves b) same i) && not (may_be_empty a || may_be_empty b))
+    && (same_foldable p q a (left_agree p q (leaves a) (leaves b) same) i && same_foldable p q b (right_agree p q (leaves a) (leaves b) same) i)
+same_foldable p q (Isolated a) same = refl
+
+pub same_resolutions : (p q : ℕ → Bool) (g : Process) → Agree p q (leaves g) → folded_resolutions p g ≡ folded_resolutions q g
+same_resolutions p q Empty same = refl
+same_resolutions p q (Task n) same = refl
+same_resolutions p q (Sequence a b) same =
+    λ i. each_with_each Sequence (same_resolutions p q a (left_agree p q (leaves a) (leaves b) same) i)
+    (same_resolutions p q b (right_agree p q (leaves a) (leaves b) same) i)
+same_resolutions p q (Parallel a b) same =
+    λ i. each_with_each Parallel (same_resolutions p q a (left_agree p q (leaves a) (leaves b) same) i)
+    (same_resolutions p q b (right_agree p q (leaves a) (leaves b) same) i)
+same_resolutions p q (Choice a b) same =
+    λ i. if same_foldable p q (Choice a b) same i then Choice a b ∷ [] else
+    same_resolutions p q a (left_agree p q (leaves a) (leaves b) same) i ++ same_resolutions p q b (right_agree p q (leaves a) (leaves b) same) i
+same_resolutions p q (Isolated a) same = refl
+
+pub same_count : (p q : ℕ → Bool) (g : Process) → Agree p q (leaves g) → folded_count p g ≡ folded_count q g
+same_count p q Empty same = refl
+same_count p q (Task n) same = refl
+same_count p q (Sequence a b) same =
+    λ i. same_count p q a (left_agree p q (leaves a) (leaves b) same) i * same_count p q b (right_agree p q (leaves a) (leaves b) same) i
+same_count p q (Parallel a b) same =
+    λ i. same_count p q a (left_agree p q (leaves a) (leaves b) same) i * same_count p q b (right_agree p q (leaves a) (leaves b) same) i
+same_count p q (Choice a b) same =
+    λ i. if same_foldable p q (Choice a b) same i then 1 else
+    same_count p q a (left_agree p q (leaves a) (leaves b) same) i + same_count p q b (right_agree p q (leaves a) (leaves b) same) i
+same_count p q (Isolated a) same = refl
+
+pub same_staying : (p q : ℕ → Bool) (g : Process) → Agree p q (leaves g) → staying_choices p g ≡ staying_choices q g
+same_staying p q Empty same = refl
+same_staying p q (Task n) same = refl
+same_staying p q (Sequence a b) same =
+    λ i. same_staying p q a (left_agree p q (leaves a) (leaves b) same) i ++ same_staying p q b (right_agree p q (leaves a) (leaves b) same) i
+same_staying p q (Parallel a b) same =
+    λ i. same_staying p q a (left_agree p q (leaves a) (leaves b) same) i ++ same_staying p q b (right_agree p q (leaves a) (leaves b) same) i
+same_staying p q (Choice a b) same =
+    λ i. if same_foldable p q (Choice a b) same i then choices_of (Choice a b) else
+    same_staying p q a (left_agree p q (leaves a) (leaves b) same) i ++ same_staying p q b (right_agree p q (leaves a) (leaves b) same) i
+same_staying p q (Isolated a) same = refl
+
+pub same_flags : (p q : ℕ → Bool) (isolated : Bool) (g : Process) → Agree p q (leaves g) → flags_in p isolated g ≡ flags_in q isolated g
+same_flags p q isolated Empty same = refl
+same_flags p q isolated (Task n) same = refl
+same_flags p q isolated (Sequence a b) same =
+    λ i. same_flags p q isolated a (left_agree p q (leaves a) (leaves b) same) i ++ same_flags p q isolated b (right_agree p q (leaves a) (leaves b) same) i
+same_flags p q isolated (Parallel a b) same =
+    λ i. same_flags p q isolated a (left_agree p q (leaves a) (leaves b) same) i ++ same_flags p q isolated b (right_agree p q (leaves a) (leaves b) same) i
+same_flags p q isolated (Choice a b) same =
+    λ i. (not isolated && same_foldable p q (Choice a b) same i)
+    ∷ (same_flags p q isolated a (left_agree p q (leaves a) (leaves b) same) i ++ same_flags p q isolated b (right_agree p q (leaves a) (leaves b) same) i)
+same_flags p q isolated (Isolated a) same = same_flags p q true a same
+
+-- folds that were made where these events are named are those where the same events are named in another list
+pub folds_by_members : (t : Labelled) (events others : List ℕ) (folds : Folds) → ((e : ℕ) → (e ∈ events) ↔ (e ∈ others)) →
+    AreFoldsOf t events folds → AreFoldsOf t others folds
+folds_by_members t events others folds same are =
+    let test = named_by_members t.labels events others same in
+    record {
+      named = λ leaf. are.named leaf ∙ (λ i. test i leaf);
+      flags = are.flags ∙ (λ i. flags_in (test i) false t.process);
+      spans = subst (λ apart. AreSpansOf (staying_choices apart t.process) folds.spans.items) test are.spans;
+      count = are.count ∙ (λ i. capped (folded_count (test i) t.process));
+    }

@@ -7,6 +7,7 @@ pub mod FirstPair
 pub mod Repetitions
 pub mod BatchLemmas
 pub mod Writing
+pub mod FoldsLemmas
 pub mod PatternLemmas
 pub mod WrittenLemmas
-pub mod FoldsLemmas
+pub mod KeptLemmas

@@ -1,5 +1,5 @@
 -- Texts of resolutions, put together.
-use Rattle.std.proofs.Common.{◌≡◌, ◌≤◌, ◌<◌, ℕ, ◌+◌, ◌-◌, ◌*◌, ◌/◌, ◌%◌, ◌^◌, List, [], ◌∷◌, ◌++◌, length, map, refl, sym, ap, ◌∙◌, subst, arith, append_assoc, append-nil, length-append, Option, Some, None, slice_get, option_map}
+use Rattle.std.proofs.Common.{◌≡◌, ◌≤◌, ◌<◌, ℕ, ◌+◌, ◌-◌, ◌*◌, ◌/◌, ◌%◌, ◌^◌, List, [], ◌∷◌, ◌++◌, length, map, refl, sym, ap, ◌∙◌, subst, arith, append_assoc, append-nil, length-append, Option, Some, None, slice_get, option_map, Bool, true, false}
 use Rattle.std.proofs.Math.Nat.{le-mul_of_pos_right, mul_comm, div-lt_iff_lt-mul, mod-lt, min-eq_left}
 use Rattle.std.proofs.lemmas.Nat.{div-add-mod'}
 use Rattle.std.proofs.lemmas.List.{length-map, map-append, map-id}
@@ -7,9 +7,10 @@ use Rattle.std.proofs.lemmas.Option.{slice_get-map}
 use Rattle.std.proofs.lemmas.Simd.{map-map}
 use Rattle.flow_model.specs.Lists.{each_with_each}
 use Rattle.flow_model.specs.Process.{Process, Sequence, Parallel, Choice, Isolated, leaves}
-use Rattle.flow_model.specs.Resolution.{resolutions, resolution_count}
-use Rattle.flow_laws.proofs.ResolutionsLemmas.{length-resolutions}
-use Rattle.flow_model.proofs.MadeLists.{length-each_with_each, slice_get-each_with_each, slice_get_append_right}
+use Rattle.flow_model.specs.Resolution.{resolutions}
+use Rattle.flow_model.specs.Folding.{fixed_leaves, folded_count, folded_resolutions, is_foldable}
+use Rattle.flow_laws.proofs.FoldingLemmas.{length-folded}
+use Rattle.flow_model.proofs.MadeLists.{length-each_with_each, slice_get-each_with_each, slice_get_append_right, flat_map_end}
 use Rattle.flow_model.proofs.Lists.{slice_get_append_left}
 use Rattle.flow_goal.specs.declared.node.Node.{Node}
 use Rattle.flow_goal.specs.declared.node.Node.TheVariants.{Serial, Fork, Split, Join, Open, Close}
@@ -17,7 +18,9 @@ use Rattle.flow_goal.specs.declared.text.Text.{Text}
 use Rattle.flow_goal.specs.declared.pattern.Pattern.{Pattern, Fixed, Both', Either'}
 use Rattle.flow_goal.specs.declared.draft.Draft.{Draft}
 use Rattle.flow_goal.specs.Written.{nodes_of}
-use Rattle.flow_goal.specs.Pattern.{IsCounted, IsLineOf, Lays, Line, Writes, drafted, line, line_of, lines_in, lines_of, nothing, then}
+use Rattle.flow_goal.specs.Folds.{flags_in}
+use Rattle.flow_goal.specs.Pattern.{GathersBy, IsCounted, IsLineOf, Lays, LaysBy, Line, Writes, drafted, line, line_of, lines_in, lines_of, lines_of_all, nothing, then}
+use Rattle.flow_goal.proofs.FoldsLemmas.{all_resolved, goes_folded, isolated_flags, stays_folded}
 use Rattle.flow_goal.proofs.Counting.{product_capped}
 use Rattle.flow_goal.proofs.EachLists.{each_assoc}
 use Rattle.flow_goal.specs.Capped.{capped}
@@ -28,7 +31,11 @@ abbrev both : List Line → List Line → List Line
 both ss ts = each_with_each then ss ts
 
 then_assoc : (s t u : Line) → then (then s t) u ≡ then s (then t u)
-then_assoc s t u = λ i. record { nodes = append_assoc s.nodes t.nodes u.nodes i; leaves = append_assoc s.leaves t.leaves u.leaves i }
+then_assoc s t u = λ i. record {
+  nodes = append_assoc s.nodes t.nodes u.nodes i;
+  leaves = append_assoc s.leaves t.leaves u.leaves i;
+  fixed = append_assoc s.fixed t.fixed u.fixed i;
+}
 
 lines_assoc : (ss ts us : List Line) → both (both ss ts) us ≡ both ss (both ts us)
 lines_assoc ss ts us = each_assoc then then_assoc ss ts us
@@ -38,7 +45,7 @@ nothing_first ls = append-nil (map (then nothing) ls) ∙ map-id ls
 
 pub nothing_last : (ls : List Line) → both ls (nothing ∷ []) ≡ ls
 nothing_last [] = refl
-nothing_last (l ∷ ls) = λ i. record { nodes = append-nil l.nodes i; leaves = append-nil l.leaves i } ∷ nothing_last ls i
+nothing_last (l ∷ ls) = λ i. record { nodes = append-nil l.nodes i; leaves = append-nil l.leaves i; fixed = append-nil l.fixed i } ∷ nothing_last ls i
 
 after_one : (s : Line) (ls : List Line) → both (s ∷ []) ls ≡ map (then s) ls
 after_one s ls = append-nil (map (then s) ls)
@@ -49,8 +56,8 @@ before_one (l ∷ ls) s = ap (λ w. then l s ∷ w) (before_one ls s)
 
 -- the lines of a goal by those of its parts
 
-abbrev mark : Node → Line
-mark node = record { nodes = node ∷ []; leaves = [] }
+abbrev pub mark : Node → Line
+mark node = record { nodes = node ∷ []; leaves = []; fixed = [] }
 
 module _ (f : Process → Process → Process) (p r : Process → Line) (same : (x y : Process) → then (p x) (r y) ≡ line (f x y)) where
   lines_of_row : (x : Process) (ys : List Process) → map (then (p x)) (map r ys) ≡ map line (map (f x) ys)
@@ -62,47 +69,74 @@ module _ (f : Process → Process → Process) (p r : Process → Line) (same : 
   lines_of_each (x ∷ xs) ys =
       (λ i. lines_of_row x ys i ++ lines_of_each xs ys i) ∙ sym (map-append line (map (f x) ys) (each_with_each f xs ys))
 
-ended : (g : Process) (node : Node) → both (lines_in g) (mark node ∷ []) ≡ map (λ q. then (line q) (mark node)) (resolutions g)
-ended g node = before_one (lines_in g) (mark node) ∙ map-map (λ l. then l (mark node)) line (resolutions g)
+ended : (qs : List Process) (node : Node) → both (map line qs) (mark node ∷ []) ≡ map (λ q. then (line q) (mark node)) qs
+ended qs node = before_one (map line qs) (mark node) ∙ map-map (λ l. then l (mark node)) line qs
 
-pub sequence_lines : (a b : Process) → both (both (lines_in a) (lines_in b)) (mark Serial ∷ []) ≡ lines_in (Sequence a b)
-sequence_lines a b =
-    lines_assoc (lines_in a) (lines_in b) (mark Serial ∷ []) ∙ ap (both (lines_in a)) (ended b Serial)
+pub sequence_lines : (apart : ℕ → Bool) (a b : Process) →
+    both (both (lines_in apart a) (lines_in apart b)) (mark Serial ∷ []) ≡ lines_in apart (Sequence a b)
+sequence_lines apart a b =
+    lines_assoc (lines_in apart a) (lines_in apart b) (mark Serial ∷ []) ∙ ap (both (lines_in apart a)) (ended (folded_resolutions apart b) Serial)
     ∙ lines_of_each Sequence line (λ y. then (line y) (mark Serial))
-    (λ x y i. record { nodes = nodes_of (Sequence x y); leaves = leaves x ++ append-nil (leaves y) i }) (resolutions a) (resolutions b)
+    (λ x y i. record {
+      nodes = nodes_of (Sequence x y);
+      leaves = leaves x ++ append-nil (leaves y) i;
+      fixed = fixed_leaves x ++ append-nil (fixed_leaves y) i;
+    }) (folded_resolutions apart a) (folded_resolutions apart b)
 
-pub parallel_lines : (a b : Process) →
-    both (both (both (both (mark Fork ∷ []) (lines_in a)) (mark Split ∷ [])) (lines_in b)) (mark Join ∷ []) ≡ lines_in (Parallel a b)
-parallel_lines a b =
-    let first = both (mark Fork ∷ []) (lines_in a) in
-    lines_assoc (both first (mark Split ∷ [])) (lines_in b) (mark Join ∷ [])
-    ∙ lines_assoc first (mark Split ∷ []) (both (lines_in b) (mark Join ∷ []))
-    ∙ (λ i. both ((after_one (mark Fork) (lines_in a) ∙ map-map (then (mark Fork)) line (resolutions a)) i)
-    ((ap (both (mark Split ∷ [])) (ended b Join) ∙ after_one (mark Split) (map (λ y. then (line y) (mark Join)) (resolutions b))
-    ∙ map-map (then (mark Split)) (λ y. then (line y) (mark Join)) (resolutions b)) i))
+pub parallel_lines : (apart : ℕ → Bool) (a b : Process) →
+    both (both (both (both (mark Fork ∷ []) (lines_in apart a)) (mark Split ∷ [])) (lines_in apart b)) (mark Join ∷ []) ≡ lines_in apart (Parallel a b)
+parallel_lines apart a b =
+    let xs = folded_resolutions apart a in
+    let ys = folded_resolutions apart b in
+    let first = both (mark Fork ∷ []) (map line xs) in
+    lines_assoc (both first (mark Split ∷ [])) (map line ys) (mark Join ∷ [])
+    ∙ lines_assoc first (mark Split ∷ []) (both (map line ys) (mark Join ∷ []))
+    ∙ (λ i. both ((after_one (mark Fork) (map line xs) ∙ map-map (then (mark Fork)) line xs) i)
+    ((ap (both (mark Split ∷ [])) (ended ys Join) ∙ after_one (mark Split) (map (λ y. then (line y) (mark Join)) ys)
+    ∙ map-map (then (mark Split)) (λ y. then (line y) (mark Join)) ys) i))
     ∙ lines_of_each Parallel (λ x. then (mark Fork) (line x)) (λ y. then (mark Split) (then (line y) (mark Join)))
-    (λ x y i. record { nodes = nodes_of (Parallel x y); leaves = leaves x ++ append-nil (leaves y) i }) (resolutions a) (resolutions b)
+    (λ x y i. record {
+      nodes = nodes_of (Parallel x y);
+      leaves = leaves x ++ append-nil (leaves y) i;
+      fixed = fixed_leaves x ++ append-nil (fixed_leaves y) i;
+    }) xs ys
 
 lines_inside : (qs : List Process) → map (λ l. then l (mark Close)) (map (then (mark Open)) (map line qs)) ≡ map line (map Isolated qs)
 lines_inside [] = refl
-lines_inside (q ∷ qs) = λ i. record { nodes = nodes_of (Isolated q); leaves = append-nil (leaves q) i } ∷ lines_inside qs i
+lines_inside (q ∷ qs) = λ i. record {
+  nodes = nodes_of (Isolated q);
+  leaves = append-nil (leaves q) i;
+  fixed = append-nil (fixed_leaves q) i;
+} ∷ lines_inside qs i
 
-pub isolated_lines : (a : Process) → both (both (mark Open ∷ []) (lines_in a)) (mark Close ∷ []) ≡ lines_in (Isolated a)
-isolated_lines a =
-    ap (λ ls. both ls (mark Close ∷ [])) (after_one (mark Open) (lines_in a))
-    ∙ before_one (map (then (mark Open)) (lines_in a)) (mark Close) ∙ lines_inside (resolutions a)
+pub isolated_lines : (apart : ℕ → Bool) (a : Process) →
+    both (both (mark Open ∷ []) (map line (resolutions a))) (mark Close ∷ []) ≡ lines_in apart (Isolated a)
+isolated_lines apart a =
+    ap (λ ls. both ls (mark Close ∷ [])) (after_one (mark Open) (map line (resolutions a)))
+    ∙ before_one (map (then (mark Open)) (map line (resolutions a))) (mark Close) ∙ lines_inside (resolutions a)
 
-pub choice_lines : (a b : Process) → lines_in a ++ lines_in b ≡ lines_in (Choice a b)
-choice_lines a b = sym (map-append line (resolutions a) (resolutions b))
+-- those of the two sides of a choice that does not stay
+pub choice_lines : (apart : ℕ → Bool) (a b : Process) → is_foldable apart (Choice a b) ≡ false →
+    lines_in apart a ++ lines_in apart b ≡ lines_in apart (Choice a b)
+choice_lines apart a b goes =
+    sym (ap (map line) (goes_folded apart a b goes) ∙ map-append line (folded_resolutions apart a) (folded_resolutions apart b))
 
-pub lines_count : (g : Process) (ls : List Line) → ls ≡ lines_in g → length ls ≡ resolution_count g
-lines_count g ls e = ap length e ∙ length-map (resolutions g) line ∙ length-resolutions g
+-- that of one that stays
+pub choice_line : (apart : ℕ → Bool) (a b : Process) → is_foldable apart (Choice a b) ≡ true → line (Choice a b) ∷ [] ≡ lines_in apart (Choice a b)
+choice_line apart a b stays = sym (ap (map line) (stays_folded apart a b stays))
+
+pub lines_count : (apart : ℕ → Bool) (g : Process) (ls : List Line) → ls ≡ lines_in apart g → length ls ≡ folded_count apart g
+lines_count apart g ls e = ap length e ∙ length-map (folded_resolutions apart g) line ∙ length-folded apart g
 
 -- what is put into a text
 
 pub mark_put : (old new : Text) (node : Node) → new.nodes.items ≡ old.nodes.items ++ node ∷ [] → new.leaves.items ≡ old.leaves.items →
-    line_of new ≡ then (line_of old) (mark node)
-mark_put old new node e f = λ i. record { nodes = e i; leaves = (f ∙ sym (append-nil old.leaves.items)) i }
+    new.fixed.items ≡ old.fixed.items → line_of new ≡ then (line_of old) (mark node)
+mark_put old new node e f h = λ i. record {
+  nodes = e i;
+  leaves = (f ∙ sym (append-nil old.leaves.items)) i;
+  fixed = (h ∙ sym (append-nil old.fixed.items)) i;
+}
 
 -- what is put into a draft
 
@@ -128,28 +162,62 @@ chosen old new ls counted e none = record {
 pub laid_first : (old new : Draft) (ls : List Line) → lines_of old.before ≡ nothing ∷ [] → line_of old.last ≡ nothing → Lays ls old new → drafted new ≡ ls
 laid_first old new ls e f p = p.laid ∙ (λ i. both (both (e i) (f i ∷ [])) ls) ∙ nothing_first ls
 
-abbrev Laid : Process → Draft → Draft → Type 0
-Laid g old new = Lays (lines_in g) old new
+-- What is laid by flags
 
-pub sequence_laid : (a b : Process) (old mid next new : Draft) → Laid a old mid → Laid b mid next → Lays (mark Serial ∷ []) next new → Laid (Sequence a b) old new
-sequence_laid a b old mid next new p q r =
-    subst (λ ls. Lays ls old new) (sequence_lines a b)
-    (laid_more (both (lines_in a) (lines_in b)) (mark Serial ∷ []) old next new (laid_more (lines_in a) (lines_in b) old mid next p q) r)
+-- the flags of two parts, and those that follow
+two_flags : (flags xs ys more : List Bool) → flags ≡ (xs ++ ys) ++ more → flags ≡ xs ++ (ys ++ more)
+two_flags flags xs ys more e = e ∙ append_assoc xs ys more
 
-pub parallel_laid : (a b : Process) (old fork one split two new : Draft) → Lays (mark Fork ∷ []) old fork → Laid a fork one → Lays (mark Split ∷ []) one split →
-    Laid b split two → Lays (mark Join ∷ []) two new → Laid (Parallel a b) old new
-parallel_laid a b old fork one split two new f p s q j =
-    let first = both (mark Fork ∷ []) (lines_in a) in
-    let half = both first (mark Split ∷ []) in
-    subst (λ ls. Lays ls old new) (parallel_lines a b)
-    (laid_more (both half (lines_in b)) (mark Join ∷ []) old two new
-    (laid_more half (lines_in b) old split two
-    (laid_more first (mark Split ∷ []) old one split (laid_more (mark Fork ∷ []) (lines_in a) old fork one f p) s) q) j)
+pub sequence_laid : (a b : Process) (flags middle left : List Bool) (old mid next new : Draft) → LaysBy a flags middle old mid → LaysBy b middle left mid next →
+    Lays (mark Serial ∷ []) next new → LaysBy (Sequence a b) flags left old new
+sequence_laid a b flags middle left old mid next new p q r = λ apart more e.
+    let (at, first) = p apart (flags_in apart false b ++ more) (two_flags flags (flags_in apart false a) (flags_in apart false b) more e) in
+    let (end, second) = q apart more at in (
+      end,
+      subst (λ ls. Lays ls old new) (sequence_lines apart a b)
+          (laid_more (both (lines_in apart a) (lines_in apart b)) (mark Serial ∷ []) old next new
+          (laid_more (lines_in apart a) (lines_in apart b) old mid next first second) r),
+    )
 
-pub isolated_laid : (a : Process) (old mid next new : Draft) → Lays (mark Open ∷ []) old mid → Laid a mid next → Lays (mark Close ∷ []) next new → Laid (Isolated a) old new
-isolated_laid a old mid next new p q r =
-    subst (λ ls. Lays ls old new) (isolated_lines a)
-    (laid_more (both (mark Open ∷ []) (lines_in a)) (mark Close ∷ []) old next new (laid_more (mark Open ∷ []) (lines_in a) old mid next p q) r)
+pub parallel_laid : (a b : Process) (flags middle left : List Bool) (old fork one split two new : Draft) → Lays (mark Fork ∷ []) old fork →
+    LaysBy a flags middle fork one → Lays (mark Split ∷ []) one split → LaysBy b middle left split two → Lays (mark Join ∷ []) two new →
+    LaysBy (Parallel a b) flags left old new
+parallel_laid a b flags middle left old fork one split two new f p s q j = λ apart more e.
+    let (at, first) = p apart (flags_in apart false b ++ more) (two_flags flags (flags_in apart false a) (flags_in apart false b) more e) in
+    let (end, second) = q apart more at in
+    let forked = both (mark Fork ∷ []) (lines_in apart a) in
+    let half = both forked (mark Split ∷ []) in (
+      end,
+      subst (λ ls. Lays ls old new) (parallel_lines apart a b)
+          (laid_more (both half (lines_in apart b)) (mark Join ∷ []) old two new
+          (laid_more half (lines_in apart b) old split two
+          (laid_more forked (mark Split ∷ []) old one split (laid_more (mark Fork ∷ []) (lines_in apart a) old fork one f first) s) second) j),
+    )
+
+-- in an isolated part each leaf keeps choices apart, so that none stays
+abbrev everywhere : ℕ → Bool
+everywhere n = true
+
+pub isolated_laid : (a : Process) (flags left : List Bool) (old mid next new : Draft) → Lays (mark Open ∷ []) old mid → LaysBy a flags left mid next →
+    Lays (mark Close ∷ []) next new → LaysBy (Isolated a) flags left old new
+isolated_laid a flags left old mid next new p q r = λ apart more e.
+    let (end, inside) = q everywhere more (e ∙ ap (λ f. f ++ more) (isolated_flags apart a)) in
+    let laid : Lays (map line (resolutions a)) mid next = subst (λ qs. Lays (map line qs) mid next) (all_resolved a) inside in (
+      end,
+      subst (λ ls. Lays ls old new) (isolated_lines apart a)
+          (laid_more (both (mark Open ∷ []) (map line (resolutions a))) (mark Close ∷ []) old next new
+          (laid_more (mark Open ∷ []) (map line (resolutions a)) old mid next p laid) r),
+    )
+
+-- one pattern more
+pub side_gathered : (g : Process) (flags left : List Bool) (draft laid : Draft) (side : Pattern) (old new : List Pattern) → lines_of draft.before ≡ nothing ∷ [] →
+    line_of draft.last ≡ nothing → LaysBy g flags left draft laid → lines_of side ≡ drafted laid → new ≡ old ++ side ∷ [] → GathersBy g flags left old new
+side_gathered g flags left draft laid side old new before last p is behind = λ apart more e.
+    let (end, lays) = p apart more e in (
+      end,
+      ap lines_of_all behind ∙ flat_map_end lines_of old side
+          ∙ ap (λ ls. lines_of_all old ++ ls) (is ∙ laid_first draft laid (lines_in apart g) before last lays),
+    )
 
 -- how many patterns a pattern is made of
 abbrev pub pattern_size : Pattern → ℕ
@@ -229,10 +297,9 @@ found : (o : Option Process) (l : Line) → option_map line o ≡ Some l → (q 
 found None l e = cc
 found (Some q) l e = (q, refl, cc)
 
-pub resolution_written : (g : Process) (ls : List Line) (number : ℕ) (old new : Text) → ls ≡ lines_in g → line_of old ≡ nothing →
-    Writes ls number old new → IsLineOf g number new
-resolution_written g ls number old new are none (l, at, is) =
-    let (q, e, f) = found (slice_get (resolutions g) number) l
-    (sym (slice_get-map line (resolutions g) number) ∙ sym (ap (λ ls. slice_get ls number) are) ∙ at) in
-    let all : line_of new ≡ line q = is ∙ ap (λ s. then s l) none ∙ f in
-    (q, e, ap (λ (l : Line). l.nodes) all, ap (λ (l : Line). l.leaves) all)
+pub resolution_written : (apart : ℕ → Bool) (g : Process) (ls : List Line) (number : ℕ) (old new : Text) → ls ≡ lines_in apart g → line_of old ≡ nothing →
+    Writes ls number old new → IsLineOf apart g number new
+resolution_written apart g ls number old new are none (l, at, is) =
+    let (q, e, f) = found (slice_get (folded_resolutions apart g) number) l
+    (sym (slice_get-map line (folded_resolutions apart g) number) ∙ sym (ap (λ ls. slice_get ls number) are) ∙ at) in
+    (q, e, is ∙ ap (λ s. then s l) none ∙ f)

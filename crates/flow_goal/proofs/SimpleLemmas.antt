@@ -1,10 +1,8 @@
 -- Leaving out what says nothing.
-use Rattle.std.proofs.Common.{◌≡◌, ℕ, Bool, true, false, cond, List, [], ◌∷◌, ◌++◌, ◌↔◌, Some, length, map, slice_get, refl, sym, ap, ◌∙◌, subst, inl, inr, append-nil}
-use Rattle.flow_model.specs.Lists.{each_with_each, joined}
+use Rattle.std.proofs.Common.{◌≡◌, ℕ, Bool, true, false, cond, List, [], ◌∷◌, ◌++◌, ◌↔◌, ⊎_elim, refl, sym, ap, ◌∙◌, subst, inl, inr, append-nil}
+use Rattle.flow_model.specs.Lists.{joined}
 use Rattle.flow_model.specs.Process.{Process, Empty, Task, Sequence, Parallel, Choice, Isolated, IsChoiceFree, leaves}
-use Rattle.std.proofs.lemmas.Option.{same_Some}
-use Rattle.flow_model.specs.Resolution.{resolutions, resolution_count}
-use Rattle.flow_laws.proofs.ResolutionsLemmas.{length-resolutions}
+use Rattle.flow_model.specs.Folding.{IsFolded, fixed_leaves}
 use Rattle.flow_model.specs.Trace.{Blocks, Shuffle, both_end, from_left, from_right, as_one}
 use Rattle.flow_goal.specs.Simple.{IsBusy, IsSimple, IsSimplified, is_empty, simple_isolation, simple_of}
 
@@ -25,6 +23,15 @@ same_isolated a x p blocks = ((λ (v, hv, e). (v, (p v).0 hv, e)), (λ (v, hv, e
 
 then : (a b c : Process) → SameBlocks a b → SameBlocks b c → SameBlocks a c
 then a b c p q blocks = ((λ h. (q blocks).0 ((p blocks).0 h)), (λ h. (p blocks).1 ((q blocks).1 h)))
+
+-- a goal without choices is folded
+pub free_is_folded : (g : Process) → IsChoiceFree g → IsFolded g
+free_is_folded Empty free = tt
+free_is_folded (Task n) free = tt
+free_is_folded (Sequence a b) free = (free_is_folded a free.0, free_is_folded b free.1)
+free_is_folded (Parallel a b) free = (free_is_folded a free.0, free_is_folded b free.1)
+free_is_folded (Choice a b) free = absurd free
+free_is_folded (Isolated a) free = free
 
 -- nothing in a sequence
 nothing_first : (b : Process) → SameBlocks b (Sequence Empty b)
@@ -98,7 +105,10 @@ record Keeps (f : Process → Process → Process) : Type 0 where
   nothing_last : (a : Process) → SameBlocks a (f a Empty)
   busy : (a b : Process) → IsBusy a → IsBusy b → IsBusy (f a b)
   leaves_are : (a b : Process) → leaves (f a b) ≡ leaves a ++ leaves b
+  folded : (a b : Process) → IsFolded a → IsFolded b → IsFolded (f a b)
   choice_free : (a b : Process) → IsChoiceFree a → IsChoiceFree b → IsChoiceFree (f a b)
+  free_parts : (a b : Process) → IsChoiceFree (f a b) → IsChoiceFree a × IsChoiceFree b
+  fixed_are : (a b : Process) → fixed_leaves (f a b) ≡ fixed_leaves a ++ fixed_leaves b
 
 sequence_keeps : Keeps Sequence
 sequence_keeps = record {
@@ -107,7 +117,10 @@ sequence_keeps = record {
   nothing_last = nothing_last;
   busy = λ a b p q. (p, q);
   leaves_are = λ a b. refl;
+  folded = λ a b p q. (p, q);
   choice_free = λ a b p q. (p, q);
+  free_parts = λ a b p. p;
+  fixed_are = λ a b. refl;
 }
 
 parallel_keeps : Keeps Parallel
@@ -117,7 +130,10 @@ parallel_keeps = record {
   nothing_last = nothing_right;
   busy = λ a b p q. (p, q);
   leaves_are = λ a b. refl;
+  folded = λ a b p q. (p, q);
   choice_free = λ a b p q. (p, q);
+  free_parts = λ a b p. p;
+  fixed_are = λ a b. refl;
 }
 
 simplified_both : (f : Process → Process → Process) → Keeps f → (a b x y : Process) → IsSimplified a x → IsSimplified b y →
@@ -128,7 +144,9 @@ simplified_both f keeps a b x y p q true t e _ =
       same = then y (f Empty y) (f a b) (keeps.nothing_first y) (keeps.same a b Empty y (subst (λ u. SameBlocks u a) none p.same) q.same);
       simple = q.simple;
       leaves_kept = q.leaves_kept ∙ ap (λ u. u ++ leaves b) (sym (ap leaves none) ∙ p.leaves_kept) ∙ sym (keeps.leaves_are a b);
-      choice_free = q.choice_free;
+      fixed_kept = q.fixed_kept ∙ ap (λ u. u ++ fixed_leaves b) (sym (ap fixed_leaves none) ∙ p.fixed_kept) ∙ sym (keeps.fixed_are a b);
+      folded = q.folded;
+      choice_free = λ free. q.choice_free (keeps.free_parts a b free).1;
     }
 simplified_both f keeps a b x y p q false true _ e =
     let none : y ≡ Empty = when_empty y e in
@@ -136,62 +154,77 @@ simplified_both f keeps a b x y p q false true _ e =
       same = then x (f x Empty) (f a b) (keeps.nothing_last x) (keeps.same a b x Empty p.same (subst (λ u. SameBlocks u b) none q.same));
       simple = p.simple;
       leaves_kept = p.leaves_kept ∙ sym (append-nil (leaves a)) ∙ ap (λ u. leaves a ++ u) (sym (ap leaves none) ∙ q.leaves_kept) ∙ sym (keeps.leaves_are a b);
-      choice_free = p.choice_free;
+      fixed_kept = p.fixed_kept ∙ sym (append-nil (fixed_leaves a)) ∙ ap (λ u. fixed_leaves a ++ u) (sym (ap fixed_leaves none) ∙ q.fixed_kept) ∙ sym (keeps.fixed_are a b);
+      folded = p.folded;
+      choice_free = λ free. p.choice_free (keeps.free_parts a b free).0;
     }
 simplified_both f keeps a b x y p q false false e g = record {
   same = keeps.same a b x y p.same q.same;
   simple = inr (keeps.busy x y (when_busy x p.simple e) (when_busy y q.simple g));
   leaves_kept = keeps.leaves_are x y ∙ (λ i. p.leaves_kept i ++ q.leaves_kept i) ∙ sym (keeps.leaves_are a b);
-  choice_free = keeps.choice_free x y p.choice_free q.choice_free;
+  fixed_kept = keeps.fixed_are x y ∙ (λ i. p.fixed_kept i ++ q.fixed_kept i) ∙ sym (keeps.fixed_are a b);
+  folded = keeps.folded x y p.folded q.folded;
+  choice_free = λ free. keeps.choice_free x y (p.choice_free (keeps.free_parts a b free).0) (q.choice_free (keeps.free_parts a b free).1);
+}
+
+-- A choice, neither side of which is nothing
+
+-- a simple goal that takes a block at least
+busy_side : (a x : Process) → IsSimplified a x → ¬ (Blocks a []) → IsBusy x
+busy_side a x p some = by_cases p.simple
+  where
+    by_cases : IsSimple x → IsBusy x
+    by_cases (inl none) = absurd (some ((p.same []).0 (subst (λ u. Blocks u []) (sym none) refl)))
+    by_cases (inr busy) = busy
+
+simplified_choice : (a b x y : Process) → ¬ (Blocks (Choice a b) []) → IsSimplified a x → IsSimplified b y → IsSimplified (Choice a b) (Choice x y)
+simplified_choice a b x y some p q = record {
+  same = λ blocks. (⊎_elim (λ h. inl ((p.same blocks).0 h)) (λ h. inr ((q.same blocks).0 h)), ⊎_elim (λ h. inl ((p.same blocks).1 h)) (λ h. inr ((q.same blocks).1 h)));
+  simple = inr (busy_side a x p (λ h. some (inl h)), busy_side b y q (λ h. some (inr h)));
+  leaves_kept = λ i. p.leaves_kept i ++ q.leaves_kept i;
+  fixed_kept = refl;
+  folded = (λ h. some (⊎_elim (λ k. inl ((p.same []).0 k)) (λ k. inr ((q.same []).0 k)) h), p.folded, q.folded);
+  choice_free = λ free. absurd free;
 }
 
 -- A part alone
 
-isolated_as : (a x y : Process) → SameBlocks y (Isolated x) → IsSimple y → leaves y ≡ leaves x → IsSimplified a x → IsChoiceFree y → IsSimplified (Isolated a) y
-isolated_as a x y same simple listed p free = record {
+isolated_as : (a x y : Process) → SameBlocks y (Isolated x) → IsSimple y → leaves y ≡ leaves x → fixed_leaves y ≡ fixed_leaves x → IsFolded y →
+    (IsChoiceFree x → IsChoiceFree y) → IsSimplified a x → IsSimplified (Isolated a) y
+isolated_as a x y same simple listed fixed folded free p = record {
   same = then y (Isolated x) (Isolated a) same (same_isolated a x p.same);
   simple = simple;
   leaves_kept = listed ∙ p.leaves_kept;
-  choice_free = free;
+  fixed_kept = fixed ∙ p.fixed_kept;
+  folded = folded;
+  choice_free = λ h. free (p.choice_free h);
 }
 
-simplified_isolated : (a x : Process) → IsSimplified a x → IsSimplified (Isolated a) (simple_isolation x)
-simplified_isolated a Empty p = isolated_as a Empty Empty isolated_nothing p.simple refl p tt
-simplified_isolated a (Task n) p = isolated_as a (Task n) (Task n) (isolated_leaf n) p.simple refl p tt
-simplified_isolated a (Sequence x y) p =
-    isolated_as a (Sequence x y) (Isolated (Sequence x y)) (λ blocks. ((λ h. h), (λ h. h))) (inr (tt, when_busy (Sequence x y) p.simple refl)) refl p p.choice_free
-simplified_isolated a (Parallel x y) p =
-    isolated_as a (Parallel x y) (Isolated (Parallel x y)) (λ blocks. ((λ h. h), (λ h. h))) (inr (tt, when_busy (Parallel x y) p.simple refl)) refl p p.choice_free
-simplified_isolated a (Choice x y) p = absurd p.choice_free
-simplified_isolated a (Isolated x) p = isolated_as a (Isolated x) (Isolated x) (isolated_again x) p.simple refl p p.choice_free
+alike : (g : Process) → SameBlocks g g
+alike g blocks = ((λ h. h), (λ h. h))
+
+simplified_isolated : (a x : Process) → IsChoiceFree a → IsSimplified a x → IsSimplified (Isolated a) (simple_isolation x)
+simplified_isolated a Empty free p = isolated_as a Empty Empty isolated_nothing p.simple refl refl tt (λ h. h) p
+simplified_isolated a (Task n) free p = isolated_as a (Task n) (Task n) (isolated_leaf n) p.simple refl refl tt (λ h. h) p
+simplified_isolated a (Sequence x y) free p =
+    let g = Sequence x y in isolated_as a g (Isolated g) (alike (Isolated g)) (inr (tt, when_busy g p.simple refl)) refl refl (p.choice_free free) (λ h. h) p
+simplified_isolated a (Parallel x y) free p =
+    let g = Parallel x y in isolated_as a g (Isolated g) (alike (Isolated g)) (inr (tt, when_busy g p.simple refl)) refl refl (p.choice_free free) (λ h. h) p
+simplified_isolated a (Choice x y) free p = absurd (p.choice_free free)
+simplified_isolated a (Isolated x) free p =
+    isolated_as a (Isolated x) (Isolated x) (isolated_again x) p.simple refl refl p.folded (λ h. h) p
 
 -- The whole
 
-pub simplified : (g : Process) → IsChoiceFree g → IsSimplified g (simple_of g)
-simplified Empty free = record { same = λ blocks. ((λ h. h), (λ h. h)); simple = inl refl; leaves_kept = refl; choice_free = tt }
-simplified (Task n) free = record { same = λ blocks. ((λ h. h), (λ h. h)); simple = inr tt; leaves_kept = refl; choice_free = tt }
-simplified (Sequence a b) free =
-    simplified_both Sequence sequence_keeps a b (simple_of a) (simple_of b) (simplified a free.0) (simplified b free.1) (is_empty (simple_of a)) (is_empty (simple_of b)) refl refl
-simplified (Parallel a b) free =
-    simplified_both Parallel parallel_keeps a b (simple_of a) (simple_of b) (simplified a free.0) (simplified b free.1) (is_empty (simple_of a)) (is_empty (simple_of b)) refl refl
-simplified (Choice a b) free = absurd free
-simplified (Isolated a) free = simplified_isolated a (simple_of a) (simplified a free)
+pub simplified : (g : Process) → IsFolded g → IsSimplified g (simple_of g)
+simplified Empty folded = record { same = alike Empty; simple = inl refl; leaves_kept = refl; fixed_kept = refl; folded = tt; choice_free = λ h. h }
+simplified (Task n) folded = record { same = alike (Task n); simple = inr tt; leaves_kept = refl; fixed_kept = refl; folded = tt; choice_free = λ h. h }
+simplified (Sequence a b) folded =
+    simplified_both Sequence sequence_keeps a b (simple_of a) (simple_of b) (simplified a folded.0) (simplified b folded.1) (is_empty (simple_of a)) (is_empty (simple_of b)) refl refl
+simplified (Parallel a b) folded =
+    simplified_both Parallel parallel_keeps a b (simple_of a) (simple_of b) (simplified a folded.0) (simplified b folded.1) (is_empty (simple_of a)) (is_empty (simple_of b)) refl refl
+simplified (Choice a b) folded = simplified_choice a b (simple_of a) (simple_of b) folded.0 (simplified a folded.1) (simplified b folded.2)
+simplified (Isolated a) free = simplified_isolated a (simple_of a) free (simplified a (free_is_folded a free))
 
-pub simplified_as : {g old new : Process} → old ≡ g → IsChoiceFree g → new ≡ simple_of old → IsSimplified g new
-simplified_as {g} e free is = subst (IsSimplified g) (sym (is ∙ ap simple_of e)) (simplified g free)
-
--- A goal without choices has one resolution, which is the goal
-
-pub only_resolution : (g : Process) → IsChoiceFree g → resolutions g ≡ g ∷ []
-only_resolution Empty free = refl
-only_resolution (Task n) free = refl
-only_resolution (Sequence a b) free = λ i. each_with_each Sequence (only_resolution a free.0 i) (only_resolution b free.1 i)
-only_resolution (Parallel a b) free = λ i. each_with_each Parallel (only_resolution a free.0 i) (only_resolution b free.1 i)
-only_resolution (Choice a b) free = absurd free
-only_resolution (Isolated a) free = ap (map Isolated) (only_resolution a free)
-
-pub only_count : (g : Process) → IsChoiceFree g → resolution_count g ≡ 1
-only_count g free = sym (length-resolutions g) ∙ ap length (only_resolution g free)
-
-pub only_at : (g q : Process) → IsChoiceFree g → slice_get (resolutions g) 0 ≡ Some q → g ≡ q
-only_at g q free at = same_Some g q (sym (ap (λ l. slice_get l 0) (only_resolution g free)) ∙ at)
+pub simplified_as : {g old new : Process} → old ≡ g → IsFolded g → new ≡ simple_of old → IsSimplified g new
+simplified_as {g} e folded is = subst (IsSimplified g) (sym (is ∙ ap simple_of e)) (simplified g folded)

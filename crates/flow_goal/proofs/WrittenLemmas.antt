@@ -2,9 +2,10 @@
 use Rattle.std.proofs.Common.{◌≡◌, ℕ, ◌+◌, ◌<◌, ◌≤◌, zero, suc, get_or, List, [], ◌∷◌, ◌++◌, length, drop, Some, slice_get, refl, sym, ◌∙◌, ap, subst, append_assoc, append-nil, zero-add, add-zero, length-append, arith}
 use Rattle.flow_goal.specs.Written.{IsWritten}
 use Rattle.std.specs.List.Sorted.{IsStrictlyIncreasing}
-use Rattle.flow_model.specs.Process.{Process, Empty, Task, Sequence, Parallel, Choice, Isolated, leaves, IsChoiceFree}
+use Rattle.flow_model.specs.Process.{Process, Empty, Task, Sequence, Parallel, Choice, Isolated, leaves}
+use Rattle.flow_model.specs.Folding.{IsFolded, fixed_leaves}
 use Rattle.flow_goal.specs.declared.node.Node.{Node}
-use Rattle.flow_goal.specs.declared.node.Node.TheVariants.{Serial, Fork, Split, Join, Open, Close}
+use Rattle.flow_goal.specs.declared.node.Node.TheVariants.{Serial, Fork, Split, Join, Open, Close, Choose, Or, Chosen}
 use Rattle.flow_goal.specs.Written.{nodes_of, leaf_of, read_on}
 
 -- the leaves from the place on begin with those
@@ -54,43 +55,54 @@ parallel_nodes a b nodes =
     ap (λ l. Fork ∷ l) (append_assoc (nodes_of a) (Split ∷ (nodes_of b ++ Join ∷ [])) nodes
     ∙ ap (λ l. nodes_of a ++ (Split ∷ l)) (append_assoc (nodes_of b) (Join ∷ []) nodes))
 
+pub choice_nodes : (a b : Process) (nodes : List Node) → nodes_of (Choice a b) ++ nodes ≡ Choose ∷ (nodes_of a ++ (Or ∷ (nodes_of b ++ (Chosen ∷ nodes))))
+choice_nodes a b nodes =
+    ap (λ l. Choose ∷ l) (append_assoc (nodes_of a) (Or ∷ (nodes_of b ++ Chosen ∷ [])) nodes
+    ∙ ap (λ l. nodes_of a ++ (Or ∷ l)) (append_assoc (nodes_of b) (Chosen ∷ []) nodes))
+
 pub isolated_nodes : (a : Process) (nodes : List Node) → nodes_of (Isolated a) ++ nodes ≡ Open ∷ (nodes_of a ++ (Close ∷ nodes))
 isolated_nodes a nodes = ap (λ l. Open ∷ l) (append_assoc (nodes_of a) (Close ∷ []) nodes)
 
 -- the nodes of a goal put it on the stack
-pub read_nodes : (g : Process) (more : List Node) (ns : List ℕ) (k : ℕ) (stack : List Process) → IsChoiceFree g → StandAt ns k (leaves g) →
+pub read_nodes : (g : Process) (more : List Node) (ns : List ℕ) (k : ℕ) (stack : List Process) → StandAt ns k (leaves g) →
     read_on (nodes_of g ++ more) ns k stack ≡ read_on more ns (k + length (leaves g)) (g ∷ stack)
-read_nodes Empty more ns k stack free at = ap (λ (j : ℕ). read_on more ns j (Empty ∷ stack)) (omega arith)
-read_nodes (Task n) more ns k stack free at =
+read_nodes Empty more ns k stack at = ap (λ (j : ℕ). read_on more ns j (Empty ∷ stack)) (omega arith)
+read_nodes (Task n) more ns k stack at =
     ap (λ (g : Process). read_on more ns (suc k) (g ∷ stack)) (leaf_there ns k n at.0 at.1)
     ∙ ap (λ (j : ℕ). read_on more ns j (Task n ∷ stack)) (omega arith)
-read_nodes (Sequence a b) more ns k stack free at =
+read_nodes (Sequence a b) more ns k stack at =
     ap (λ (l : List Node). read_on l ns k stack) (sequence_nodes a b more)
-    ∙ read_nodes a (nodes_of b ++ (Serial ∷ more)) ns k stack free.0 (first_stand ns k (leaves a) (leaves b) at)
-    ∙ read_nodes b (Serial ∷ more) ns (k + length (leaves a)) (a ∷ stack) free.1 (second_stand ns k (leaves a) (leaves b) at)
+    ∙ read_nodes a (nodes_of b ++ (Serial ∷ more)) ns k stack (first_stand ns k (leaves a) (leaves b) at)
+    ∙ read_nodes b (Serial ∷ more) ns (k + length (leaves a)) (a ∷ stack) (second_stand ns k (leaves a) (leaves b) at)
     ∙ ap (λ (j : ℕ). read_on more ns j (Sequence a b ∷ stack)) (both_long k (leaves a) (leaves b))
-read_nodes (Parallel a b) more ns k stack free at =
+read_nodes (Parallel a b) more ns k stack at =
     ap (λ (l : List Node). read_on l ns k stack) (parallel_nodes a b more)
-    ∙ read_nodes a (Split ∷ (nodes_of b ++ (Join ∷ more))) ns k stack free.0 (first_stand ns k (leaves a) (leaves b) at)
-    ∙ read_nodes b (Join ∷ more) ns (k + length (leaves a)) (a ∷ stack) free.1 (second_stand ns k (leaves a) (leaves b) at)
+    ∙ read_nodes a (Split ∷ (nodes_of b ++ (Join ∷ more))) ns k stack (first_stand ns k (leaves a) (leaves b) at)
+    ∙ read_nodes b (Join ∷ more) ns (k + length (leaves a)) (a ∷ stack) (second_stand ns k (leaves a) (leaves b) at)
     ∙ ap (λ (j : ℕ). read_on more ns j (Parallel a b ∷ stack)) (both_long k (leaves a) (leaves b))
-read_nodes (Choice a b) more ns k stack free at = absurd free
-read_nodes (Isolated a) more ns k stack free at =
+read_nodes (Choice a b) more ns k stack at =
+    ap (λ (l : List Node). read_on l ns k stack) (choice_nodes a b more)
+    ∙ read_nodes a (Or ∷ (nodes_of b ++ (Chosen ∷ more))) ns k stack (first_stand ns k (leaves a) (leaves b) at)
+    ∙ read_nodes b (Chosen ∷ more) ns (k + length (leaves a)) (a ∷ stack) (second_stand ns k (leaves a) (leaves b) at)
+    ∙ ap (λ (j : ℕ). read_on more ns j (Choice a b ∷ stack)) (both_long k (leaves a) (leaves b))
+read_nodes (Isolated a) more ns k stack at =
     ap (λ (l : List Node). read_on l ns k stack) (isolated_nodes a more)
-    ∙ read_nodes a (Close ∷ more) ns k stack free at
+    ∙ read_nodes a (Close ∷ more) ns k stack at
 
 -- the nodes and leaves of a goal are read as that goal
-pub read_whole : (g : Process) (nodes : List Node) (ns : List ℕ) → IsChoiceFree g → ns ≡ leaves g → nodes ≡ nodes_of g → read_on nodes ns 0 [] ≡ g
-read_whole g nodes ns free listed are =
-    ap (λ (l : List Node). read_on l ns 0 []) (are ∙ sym (append-nil (nodes_of g))) ∙ read_nodes g [] ns 0 [] free ([], listed ∙ sym (append-nil (leaves g)))
+pub read_whole : (g : Process) (nodes : List Node) (ns : List ℕ) → ns ≡ leaves g → nodes ≡ nodes_of g → read_on nodes ns 0 [] ≡ g
+read_whole g nodes ns listed are =
+    ap (λ (l : List Node). read_on l ns 0 []) (are ∙ sym (append-nil (nodes_of g))) ∙ read_nodes g [] ns 0 [] ([], listed ∙ sym (append-nil (leaves g)))
 
-pub read_resolved : (g : Process) (nodes : List Node) (ns : List ℕ) → IsChoiceFree g → ns ≡ leaves g → IsStrictlyIncreasing ns → nodes ≡ nodes_of g → IsWritten nodes ns
-read_resolved g nodes ns free listed rising are =
-    let is : read_on nodes ns 0 [] ≡ g = read_whole g nodes ns free listed are in record {
+pub read_resolved : (g : Process) (nodes : List Node) (ns fixed : List ℕ) → IsFolded g → ns ≡ leaves g → fixed ≡ fixed_leaves g → IsStrictlyIncreasing ns →
+    nodes ≡ nodes_of g → IsWritten nodes ns fixed
+read_resolved g nodes ns fixed folded listed outside rising are =
+    let is : read_on nodes ns 0 [] ≡ g = read_whole g nodes ns listed are in record {
       resolved = record {
-        choice_free = subst (λ (g : Process). IsChoiceFree g) (sym is) free;
+        folded = subst (λ (g : Process). IsFolded g) (sym is) folded;
         listed = listed ∙ ap leaves (sym is);
         rising = rising;
+        fixed_are = outside ∙ ap fixed_leaves (sym is);
       };
       nodes_are = are ∙ ap nodes_of (sym is);
     }

@@ -14,3 +14,5 @@ pub mod Pattern
 pub mod Repeats
 pub mod Times
 pub mod Written
+pub mod LeftSides
+pub mod Keeping

@@ -1,39 +1,41 @@
 -- The resolutions of a goal as texts, of which what they have in common is written once.
-use Rattle.std.specs.Prelude.{◌≡◌, ◌+◌, ◌*◌, ℕ, List, [], ◌∷◌, ◌++◌, length, map, Some, slice_get}
+use Rattle.std.specs.Prelude.{◌≡◌, ◌+◌, ◌*◌, ℕ, Bool, false, List, [], ◌∷◌, ◌++◌, length, map, Some, slice_get}
 use Rattle.std.specs.List.{flat_map}
 use Rattle.flow_model.specs.Lists.{each_with_each}
 use Rattle.flow_model.specs.Process.{Process}
 use Rattle.flow_model.specs.Process as process
-use Rattle.flow_model.specs.Resolution.{resolutions}
+use Rattle.flow_model.specs.Folding.{fixed_leaves, folded_resolutions}
 use Rattle.flow_goal.specs.declared.node.Node.{Node}
 use Rattle.flow_goal.specs.declared.text.Text.{Text}
 use Rattle.flow_goal.specs.declared.pattern.Pattern.{Pattern, Fixed, Both', Either'}
 use Rattle.flow_goal.specs.declared.draft.Draft.{Draft}
 use Rattle.flow_goal.specs.Capped.{capped}
+use Rattle.flow_goal.specs.Folds.{flags_in}
 use Rattle.flow_goal.specs.Written.{nodes_of}
 
--- marks, and leaves
+-- marks, leaves, and those of the leaves that stand outside choices
 pub record Line : Type 0 where
   pub nodes : List Node
   pub leaves : List ℕ
+  pub fixed : List ℕ
 
 abbrev pub nothing : Line
-nothing = record { nodes = []; leaves = [] }
+nothing = record { nodes = []; leaves = []; fixed = [] }
 
 -- the one, and then the other
 abbrev pub then : Line → Line → Line
-then s t = record { nodes = s.nodes ++ t.nodes; leaves = s.leaves ++ t.leaves }
+then s t = record { nodes = s.nodes ++ t.nodes; leaves = s.leaves ++ t.leaves; fixed = s.fixed ++ t.fixed }
 
--- the line of a goal without choices
+-- the line of a goal whose choices all stay
 abbrev pub line : Process → Line
-line q = record { nodes = nodes_of q; leaves = process.leaves q }
+line q = record { nodes = nodes_of q; leaves = process.leaves q; fixed = fixed_leaves q }
 
--- those of the resolutions of a goal
-abbrev pub lines_in : Process → List Line
-lines_in g = map line (resolutions g)
+-- those of the resolutions of a goal, in which the choices stay that hold no leaf of the test
+abbrev pub lines_in : (ℕ → Bool) → Process → List Line
+lines_in apart g = map line (folded_resolutions apart g)
 
 abbrev pub line_of : Text → Line
-line_of text = record { nodes = text.nodes.items; leaves = text.leaves.items }
+line_of text = record { nodes = text.nodes.items; leaves = text.leaves.items; fixed = text.fixed.items }
 
 abbrev pub lines_of : Pattern → List Line
 lines_of (Fixed text) = line_of text ∷ []
@@ -62,6 +64,23 @@ pub record Lays (lines : List Line) (old new : Draft) : Type 0 where
   pub counted : IsCounted old.before → IsCounted new.before
   pub laid : drafted new ≡ each_with_each then (drafted old) lines
 
+-- where the flags begin with those of the goal, the others are left, and its lines were put behind what was drafted
+abbrev pub LaysBy : Process → List Bool → List Bool → Draft → Draft → Type 0
+LaysBy g flags left old new =
+    (apart : ℕ → Bool) (more : List Bool) → flags ≡ flags_in apart false g ++ more → (left ≡ more) × Lays (lines_in apart g) old new
+
+-- the same of a choice of two goals that does not stay, after its own flag
+abbrev pub LaysSides : Process → Process → List Bool → List Bool → Draft → Draft → Type 0
+LaysSides a b flags left old new =
+    (apart : ℕ → Bool) (more : List Bool) → flags ≡ flags_in apart false a ++ (flags_in apart false b ++ more) →
+    (left ≡ more) × Lays (lines_in apart a ++ lines_in apart b) old new
+
+-- where the flags begin with those of the goal, the others are left, and its lines are those of the patterns that came behind others
+abbrev pub GathersBy : Process → List Bool → List Bool → List Pattern → List Pattern → Type 0
+GathersBy g flags left old new =
+    (apart : ℕ → Bool) (more : List Bool) → flags ≡ flags_in apart false g ++ more →
+    (left ≡ more) × (lines_of_all new ≡ lines_of_all old ++ lines_in apart g)
+
 -- it is the resolution of that number
-abbrev pub IsLineOf : Process → ℕ → Text → Type 0
-IsLineOf g number text = (q : Process) × (slice_get (resolutions g) number ≡ Some q) × (text.nodes.items ≡ nodes_of q) × (text.leaves.items ≡ process.leaves q)
+abbrev pub IsLineOf : (ℕ → Bool) → Process → ℕ → Text → Type 0
+IsLineOf apart g number text = (q : Process) × (slice_get (folded_resolutions apart g) number ≡ Some q) × (line_of text ≡ line q)

@@ -3,6 +3,7 @@ use Rattle.std.specs.Prelude.{◌≡◌, ℕ, List, ◌⊎◌, ◌↔◌, Bool, 
 use Rattle.flow_model.specs.declared.operators.Operator.{Operator}
 use Rattle.flow_model.specs.declared.operators.Operator.TheVariants.{Serial, Beside, Either}
 use Rattle.flow_model.specs.Process.{Process, Empty, Task, Sequence, Parallel, Choice, Isolated, IsChoiceFree, leaves}
+use Rattle.flow_model.specs.Folding.{IsFolded, fixed_leaves}
 use Rattle.flow_model.specs.Trace.{Blocks}
 use Rattle.flow_goal.specs.Goal.{together}
 
@@ -31,7 +32,9 @@ pub record IsSimplified (old new : Process) : Type 0 where
   pub same : (blocks : List (List ℕ)) → Blocks new blocks ↔ Blocks old blocks
   pub simple : IsSimple new
   pub leaves_kept : leaves new ≡ leaves old
-  pub choice_free : IsChoiceFree new
+  pub fixed_kept : fixed_leaves new ≡ fixed_leaves old
+  pub folded : IsFolded new
+  pub choice_free : IsChoiceFree old → IsChoiceFree new
 
 -- it is nothing
 abbrev pub is_empty : Process → Bool

@@ -1,9 +1,9 @@
--- A goal without choices that is written from left to right, and how it is read: by a stack of goals, the last one on top.
+-- A goal that is written from left to right, and how it is read: by a stack of goals, the last one on top.
 use Rattle.std.specs.Prelude.{◌≡◌, ℕ, zero, suc, List, [], ◌∷◌, ◌++◌, map, reverse}
 use Rattle.flow_model.specs.Process.{Process, Empty, Task, Sequence, Parallel, Choice, Isolated}
 use Rattle.flow_goal.specs.declared.goal.Goal.{Goal}
 use Rattle.flow_goal.specs.declared.node.Node.{Node}
-use Rattle.flow_goal.specs.declared.node.Node.TheVariants.{Nop, Leaf, Serial, Fork, Split, Join, Open, Close}
+use Rattle.flow_goal.specs.declared.node.Node.TheVariants.{Nop, Leaf, Serial, Fork, Split, Join, Open, Close, Choose, Or, Chosen}
 use Rattle.flow_goal.specs.Goal.{process_of}
 use Rattle.flow_goal.specs.Resolved.{Resolved, IsResolved}
 
@@ -13,7 +13,7 @@ nodes_of Empty = Nop ∷ []
 nodes_of (Task n) = Leaf ∷ []
 nodes_of (Sequence a b) = nodes_of a ++ (nodes_of b ++ Serial ∷ [])
 nodes_of (Parallel a b) = Fork ∷ (nodes_of a ++ (Split ∷ (nodes_of b ++ Join ∷ [])))
-nodes_of (Choice a b) = []
+nodes_of (Choice a b) = Choose ∷ (nodes_of a ++ (Or ∷ (nodes_of b ++ Chosen ∷ [])))
 nodes_of (Isolated a) = Open ∷ (nodes_of a ++ Close ∷ [])
 
 -- the goal on top, and the others; what is missing is nothing
@@ -41,14 +41,17 @@ read_on (Split ∷ nodes) ns k stack = read_on nodes ns k stack
 read_on (Join ∷ nodes) ns k stack = read_on nodes ns k (Parallel (top (rest stack)) (top stack) ∷ rest (rest stack))
 read_on (Open ∷ nodes) ns k stack = read_on nodes ns k stack
 read_on (Close ∷ nodes) ns k stack = read_on nodes ns k (Isolated (top stack) ∷ rest stack)
+read_on (Choose ∷ nodes) ns k stack = read_on nodes ns k stack
+read_on (Or ∷ nodes) ns k stack = read_on nodes ns k stack
+read_on (Chosen ∷ nodes) ns k stack = read_on nodes ns k (Choice (top (rest stack)) (top stack) ∷ rest (rest stack))
 
-abbrev pub read : List Node → List ℕ → Resolved
-read nodes leaves = record { process = read_on nodes leaves 0 []; leaves = leaves }
+abbrev pub read : List Node → List ℕ → List ℕ → Resolved
+read nodes leaves fixed = record { process = read_on nodes leaves 0 []; leaves = leaves; fixed = fixed }
 
 -- the marks are those of the goal that is read
-pub record IsWritten (nodes : List Node) (leaves : List ℕ) : Type 0 where
-  pub resolved : IsResolved (read nodes leaves)
-  pub nodes_are : nodes ≡ nodes_of (read nodes leaves).process
+pub record IsWritten (nodes : List Node) (leaves fixed : List ℕ) : Type 0 where
+  pub resolved : IsResolved (read nodes leaves fixed)
+  pub nodes_are : nodes ≡ nodes_of (read nodes leaves fixed).process
 
 -- the goals of the code's stack, whose top is its last one
 abbrev pub goals_on : List Goal → List Process

@@ -1,10 +1,12 @@
-ghost use Rattle.std.specs.Prelude.{◌≡◌, ◌<◌, ◌≤◌, ◌+◌, ◌∷◌, [], ◌++◌, IfOk, OnOk, length};
+ghost use Rattle.std.specs.Prelude.{◌≡◌, ◌<◌, ◌≤◌, ◌+◌, ◌∷◌, [], ◌++◌, ℕ, Bool, false, IfOk, OnOk, length};
 ghost use Rattle.flow_model.specs.Lists.{Each, each_with_each};
-ghost use Rattle.flow_goal.specs.declared.node.Node.TheVariants.{Leaf};
 ghost use Rattle.flow_goal.specs.Goal.{process_of};
-ghost use Rattle.flow_goal.specs.Pattern.{IsCounted, Lays, drafted, line_of, lines_in, lines_of, lines_of_all, nothing, then};
+ghost use Rattle.flow_goal.specs.Folds.{flags_in};
+ghost use Rattle.flow_goal.specs.Pattern.{GathersBy, IsCounted, Lays, LaysBy, LaysSides, drafted, line, line_of, lines_in, lines_of, lines_of_all, nothing, then};
 
+use crate::flags::{after_choices, after_flag, first_flag};
 use crate::goal::Goal;
+use crate::keeping::{Kept, put_goal};
 use crate::node::Node;
 use crate::pattern::Pattern;
 use crate::text::Text;
@@ -129,15 +131,16 @@ impl Draft {
     }
 
     fn put(&mut self, node: Node) -> Result<(), AllocError>
-        ensures { OnOk result (Lays (record { nodes = node ∷ []; leaves = [] } ∷ []) self.old self.new) }
+        ensures { OnOk result (Lays (record { nodes = node ∷ []; leaves = []; fixed = [] } ∷ []) self.old self.new) }
     {
         self.last.put(node)
     }
 
-    fn put_leaf(&mut self, leaf: u32) -> Result<(), AllocError>
-        ensures { OnOk result (Lays (record { nodes = Leaf ∷ []; leaves = leaf ∷ [] } ∷ []) self.old self.new) }
+    /// A goal whose choices all stay comes next.
+    fn put_goal(&mut self, goal: &Goal) -> Result<(), AllocError>
+        ensures { OnOk result (Lays (line (process_of goal.now) ∷ []) self.old self.new) }
     {
-        self.last.put_leaf(leaf)
+        put_goal(goal, Kept::All, &mut self.last)
     }
 
     /// The pattern of a choice comes next.
@@ -158,72 +161,127 @@ impl Draft {
     }
 }
 
-/// Puts the resolutions of a goal behind what is drafted.
+/// Puts the resolutions of a goal behind what is drafted. The flags begin with those of its choices; returns the others.
 #[cycle(laying)]
-fn lay(alloc: Global, goal: &Goal, draft: &mut Draft) -> Result<(), AllocError>
+fn lay<'a>(
+    alloc: Global,
+    goal: &Goal,
+    flags: &'a [bool],
+    draft: &mut Draft,
+) -> Result<&'a [bool], AllocError>
     requires { IsCounted draft.old.before }
-    ensures { OnOk result (Lays (lines_in (process_of goal.now)) draft.old draft.new) }
+    ensures counted { OnOk result (IsCounted draft.new.before) }
+    ensures laid { IfOk result (λ left. LaysBy (process_of goal.now) flags.now left.now draft.old draft.new) }
 {
     match goal {
-        Goal::Nop => draft.put(Node::Nop),
-        Goal::Leaf(n) => draft.put_leaf(*n),
+        Goal::Nop | Goal::Leaf(_) => {
+            draft.put_goal(goal)?;
+            Ok(flags)
+        }
         Goal::Serial(left, right) => {
-            lay(alloc, left, draft)?;
-            lay(alloc, right, draft)?;
-            draft.put(Node::Serial)
+            let after = lay(alloc, left, flags, draft)?;
+            let after = lay(alloc, right, after, draft)?;
+            draft.put(Node::Serial)?;
+            Ok(after)
         }
         Goal::Beside(left, right) => {
             draft.put(Node::Fork)?;
-            lay(alloc, left, draft)?;
+            let after = lay(alloc, left, flags, draft)?;
             draft.put(Node::Split)?;
-            lay(alloc, right, draft)?;
-            draft.put(Node::Join)
+            let after = lay(alloc, right, after, draft)?;
+            draft.put(Node::Join)?;
+            Ok(after)
         }
         Goal::Either(left, right) => {
-            let mut sides = Vec::new(alloc);
-            gather(alloc, left, &mut sides)?;
-            gather(alloc, right, &mut sides)?;
-            let sides = one_of(alloc, sides)?;
-            draft.choose(alloc, sides)
+            if first_flag(flags) {
+                draft.put_goal(goal)?;
+                return Ok(after_choices(goal, flags));
+            }
+            lay_sides(alloc, left, right, after_flag(flags), draft)
         }
         Goal::Iso(part) => {
             draft.put(Node::Open)?;
-            lay(alloc, part, draft)?;
-            draft.put(Node::Close)
+            let after = lay(alloc, part, flags, draft)?;
+            draft.put(Node::Close)?;
+            Ok(after)
         }
     }
 }
 
-/// Puts the patterns of the sides of a goal behind others. Where one side of a choice is a choice, its sides are taken in its place.
+/// Puts those of the two sides of a choice that does not stay behind what is drafted. The flags begin with those of the
+/// choices inside.
 #[cycle(laying)]
-fn gather(alloc: Global, goal: &Goal, sides: &mut Vec<Pattern>) -> Result<(), AllocError>
+fn lay_sides<'a>(
+    alloc: Global,
+    left: &Goal,
+    right: &Goal,
+    flags: &'a [bool],
+    draft: &mut Draft,
+) -> Result<&'a [bool], AllocError>
+    requires { IsCounted draft.old.before }
+    ensures counted { OnOk result (IsCounted draft.new.before) }
+    ensures laid { IfOk result (λ more. LaysSides (process_of left.now) (process_of right.now) flags.now more.now draft.old draft.new) }
+{
+    let mut sides = Vec::new(alloc);
+    let after = gather(alloc, left, flags, &mut sides)?;
+    let after = gather(alloc, right, after, &mut sides)?;
+    let sides = one_of(alloc, sides)?;
+    draft.choose(alloc, sides)?;
+    Ok(after)
+}
+
+/// Puts the patterns of the sides of a goal behind others. Where one side of a choice is a choice that does not stay, its
+/// sides are taken in its place. The flags begin with those of the goal's choices; returns the others.
+#[cycle(laying)]
+fn gather<'a>(
+    alloc: Global,
+    goal: &Goal,
+    flags: &'a [bool],
+    sides: &mut Vec<Pattern>,
+) -> Result<&'a [bool], AllocError>
     requires { Each IsCounted sides.old.items }
     ensures counted { OnOk result (Each IsCounted sides.new.items) }
     ensures more { OnOk result (length sides.old.items < length sides.new.items) }
-    ensures lines { OnOk result (lines_of_all sides.new.items ≡ lines_of_all sides.old.items ++ lines_in (process_of goal.now)) }
+    ensures lines { IfOk result (λ left. GathersBy (process_of goal.now) flags.now left.now sides.old.items sides.new.items) }
 {
-    match goal {
-        Goal::Either(left, right) => {
-            gather(alloc, left, sides)?;
-            gather(alloc, right, sides)
-        }
-        Goal::Nop | Goal::Leaf(_) | Goal::Serial(..) | Goal::Beside(..) | Goal::Iso(_) => {
-            let side = pattern_of(alloc, goal)?;
-            sides.push(side)?;
-            Ok(())
+    if let Goal::Either(left, right) = goal {
+        if !first_flag(flags) {
+            let after = gather(alloc, left, after_flag(flags), sides)?;
+            return gather(alloc, right, after, sides);
         }
     }
+    add_side(alloc, goal, flags, sides)
 }
 
-/// The resolutions of a goal. It walks the goal once.
+/// Puts the pattern of a goal behind others. The flags begin with those of its choices; returns the others.
 #[cycle(laying)]
-pub(crate) fn pattern_of(alloc: Global, goal: &Goal) -> Result<Pattern, AllocError>
-    ensures counted { IfOk result IsCounted }
-    ensures lines { IfOk result (λ new. lines_of new ≡ lines_in (process_of goal.now)) }
+fn add_side<'a>(
+    alloc: Global,
+    goal: &Goal,
+    flags: &'a [bool],
+    sides: &mut Vec<Pattern>,
+) -> Result<&'a [bool], AllocError>
+    requires { Each IsCounted sides.old.items }
+    ensures counted { OnOk result (Each IsCounted sides.new.items) }
+    ensures more { OnOk result (length sides.old.items < length sides.new.items) }
+    ensures lines { IfOk result (λ left. GathersBy (process_of goal.now) flags.now left.now sides.old.items sides.new.items) }
 {
     let mut draft = Draft::new(alloc);
-    match lay(alloc, goal, &mut draft) {
-        Ok(()) => draft.finish(alloc),
+    let after = lay(alloc, goal, flags, &mut draft)?;
+    let side = draft.finish(alloc)?;
+    sides.push(side)?;
+    Ok(after)
+}
+
+/// The resolutions of a goal, where the flags say of its choices which stay. It walks the goal once, and what stays once more.
+pub(crate) fn pattern_of(alloc: Global, goal: &Goal, flags: &[bool]) -> Result<Pattern, AllocError>
+    ensures counted { IfOk result IsCounted }
+    ensures lines { IfOk result (λ new. (apart : ℕ → Bool) → flags.now ≡ flags_in apart false (process_of goal.now) →
+        lines_of new ≡ lines_in apart (process_of goal.now)) }
+{
+    let mut draft = Draft::new(alloc);
+    match lay(alloc, goal, flags, &mut draft) {
+        Ok(_) => draft.finish(alloc),
         Err(refused) => {
             drop(draft);
             Err(refused)

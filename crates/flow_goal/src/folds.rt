@@ -99,7 +99,7 @@ impl Folds {
     }
 
     /// In how many ways the other choices can be resolved, or the greatest `u64` where there are more.
-    pub fn resolutions(&self) -> u64
+    pub(crate) fn count(&self) -> u64
         ensures { (tree : Labelled) (events : List ℕ) → AreFoldsOf tree events self.now →
             result ≡ min (folded_count (named_by tree.labels events) tree.process) (2 ^ 64 - 1) }
     {

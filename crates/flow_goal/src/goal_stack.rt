@@ -71,7 +71,7 @@ pub(crate) fn read_node(
         ≡ read_on nodes leaves.now next (goals_on stack.new.items)) }
 {
     match node {
-        Node::Fork | Node::Split | Node::Open => {}
+        Node::Fork | Node::Split | Node::Open | Node::Choose | Node::Or => {}
         Node::Nop => put(Goal::Nop, stack)?,
         Node::Leaf => {
             put(leaf_at(leaves, place), stack)?;
@@ -79,6 +79,7 @@ pub(crate) fn read_node(
         }
         Node::Serial => join(alloc, Operator::Serial, stack)?,
         Node::Join => join(alloc, Operator::Beside, stack)?,
+        Node::Chosen => join(alloc, Operator::Either, stack)?,
         Node::Close => isolate(alloc, stack)?,
     }
     Ok(place)

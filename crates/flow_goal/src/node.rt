@@ -1,4 +1,4 @@
-/// A mark of a goal without choices that is written from left to right.
+/// A mark of a goal that is written from left to right. Its choices all stay.
 #[derive(Clone, Copy)]
 pub enum Node {
     Nop,
@@ -16,4 +16,10 @@ pub enum Node {
     Open,
     /// It ends.
     Close,
+    /// A choice begins with the first of its sides.
+    Choose,
+    /// That side ends, and the second begins.
+    Or,
+    /// The second ends.
+    Chosen,
 }

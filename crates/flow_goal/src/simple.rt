@@ -5,9 +5,8 @@ ghost use Rattle.flow_goal.specs.Simple as simple;
 ghost use Rattle.flow_goal.specs.Simple.{IsSimple, IsSimplified};
 
 use crate::choiceless::Choiceless;
-use crate::choices::written;
-use crate::draft::pattern_of;
 use crate::goal::{Goal, together};
+use crate::keeping::{Kept, text_of};
 use flow_model::Operator;
 use std::alloc::{AllocError, Global};
 
@@ -100,24 +99,23 @@ fn simple_of(alloc: Global, goal: &Goal) -> Result<Goal, AllocError>
     }
 }
 
-/// The simpler goal, which is the only resolution of its tree.
+/// The simpler goal.
 fn simplified(alloc: Global, goal: &Choiceless) -> Result<Choiceless, AllocError>
     ensures process { IfOk result (λ new. IsSimplified goal.now.process new.process) }
     ensures leaves { IfOk result (λ new. new.leaves ≡ goal.now.leaves) }
+    ensures fixed { IfOk result (λ new. new.fixed ≡ goal.now.fixed) }
 {
     // what the type keeps of its leaves
     let _leaves = goal.leaves();
+    let _fixed = goal.fixed();
     let whole = goal.goal(alloc)?;
     let tree = simple_of(alloc, &whole);
     drop(whole);
     let tree = tree?;
-    let pattern = pattern_of(alloc, &tree);
+    let text = text_of(alloc, &tree, Kept::All);
     drop(tree);
-    let pattern = pattern?;
-    let text = written(alloc, &pattern, 0, 0);
-    drop(pattern);
     let text = text?;
-    Ok(Choiceless::new(text.nodes, text.leaves))
+    Ok(Choiceless::new(text.nodes, text.leaves, text.fixed))
 }
 
 /// A goal with the same executions and the same leaves, in which there is no `Nop` below another goal and
@@ -126,6 +124,7 @@ pub fn simplify(alloc: Global, goal: Choiceless) -> Result<Choiceless, AllocErro
     ensures traces { IfOk result (λ new. (t : List ℕ) → Trace new.process t ↔ Trace goal.process t) }
     ensures simple { IfOk result (λ new. IsSimple new.process) }
     ensures leaves { IfOk result (λ new. new.leaves ≡ goal.leaves) }
+    ensures fixed { IfOk result (λ new. new.fixed ≡ goal.fixed) }
 {
     let new = simplified(alloc, &goal);
     drop(goal);

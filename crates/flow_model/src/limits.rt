@@ -1,5 +1,5 @@
 /// The most leaves and `nop`s of a workflow's goal, its sub-workflows in place, and the most isolations of it.
-pub const MOST_LEAVES: u32 = 1024;
+pub const MOST_LEAVES: u32 = 4096;
 
 /// The most sub-workflows of a script.
 pub const MOST_FLOWS: u64 = 256;

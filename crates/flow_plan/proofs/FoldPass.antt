@@ -1,5 +1,5 @@
 -- What a pass through the rows of choices leads to.
-use Rattle.std.proofs.Common.{◌≡◌, ℕ, ◌+◌, ◌<◌, ◌≤◌, Bool, false, ◌&&◌, ◌||◌, ◌↔◌, IsTrue, List, [], ◌∷◌, ◌++◌, length, drop, get_or, inl, inr, ◌⊎◌, ⊎_elim, refl, sym, ◌∙◌, subst, add-one, drop-cons}
+use Rattle.std.proofs.Common.{◌≡◌, ℕ, ◌+◌, ◌<◌, ◌≤◌, Bool, false, ◌&&◌, ◌||◌, ◌↔◌, IsTrue, List, [], ◌∷◌, ◌++◌, length, drop, get_or, inl, inr, ◌⊎◌, ⊎_elim, refl, sym, ◌∙◌, ap, subst, add-one, drop-cons}
 use Rattle.std.proofs.Math.Bool.{or-false}
 use Rattle.std.proofs.lemmas.List.{drop_all}
 use Rattle.std.proofs.lemmas.Bool.{false_from_ne_true, and_right}
@@ -42,6 +42,11 @@ pub passes_all : (done : LeafSet LEAF_WORDS) (rows : List FoldRow) (i : ℕ) (fi
     ((end : Sides) → Passes done (drop i rows) last end → Passes done rows first end) → Passes done rows first last
 passes_all done rows i first last past before =
     before last (subst (λ (l : List FoldRow). Passes done l last last) (sym (drop_all i rows past)) refl)
+
+-- what is done stays
+pub done_stays : (done : LeafSet LEAF_WORDS) (rows : List FoldRow) (old new : Sides) → Passes done rows old new → new.done ≡ old.done
+done_stays done [] old new same = ap (λ (s : Sides). s.done) (sym same)
+done_stays done (row ∷ rows) old new (between, takes, rest) = done_stays done rows between new rest ∙ takes.done_stays
 
 -- of rows that tell choices, those of other choices have none of the leaves
 abbrev pub TellRows : List ℕ → List (Process × Process) → List FoldRow → Type 0

@@ -2,6 +2,7 @@
 use Rattle.std.proofs.Common.{◌≡◌, ℕ, Bool, true, false, cond, not, ◌&&◌, ◌↔◌, inl, inr, ⊎_elim, IsTrue, refl, sym, subst, ◌∙◌}
 use Rattle.leaf_rows.specs.Leaves.{has_leaf}
 use Rattle.leaf_rows.specs.declared.leaf_set.LeafSet.{LeafSet}
+use Rattle.flow_plan.specs.declared.cut_sides.CutSides.{CutSides}
 use Rattle.flow_plan.specs.declared.part_row.PartRow.{PartRow}
 use Rattle.flow_plan.specs.Parts.{PartAllows, KeepsBeside, KeepsAfter}
 
@@ -19,8 +20,16 @@ kept_where new true false inner outer P is in_says out_says =
 kept_where new false inside inner outer P is in_says out_says = (λ h. absurd (cc), λ both. absurd (let no = both.0 in cc))
 
 -- a part that is not begun
-pub fresh_outside : {w : ℕ} → (row : PartRow w) (D : ℕ → Type 0) (n : ℕ) → ((k : ℕ) → IsTrue (has_leaf row.inside k) → D k → ⊥) → ¬ IsTrue (has_leaf row.inside n) → PartAllows row D n
-fresh_outside row D n untouched other = record { passes = λ o y z y_in y_done z_in. absurd (untouched y y_in y_done); begins = λ mine. absurd (other mine) }
+module _ {w : ℕ} (row : PartRow w) (sides : CutSides w) (n : ℕ) (untouched : (k : ℕ) → IsTrue (has_leaf row.inside k) → ¬ IsTrue (has_leaf sides.done k)) where
+  pub fresh_outside : ¬ IsTrue (has_leaf row.inside n) → PartAllows row sides n
+  fresh_outside other = record { passes = λ o y z y_in y_done z_in. absurd (untouched y y_in y_done); begins = λ mine. absurd (other mine) }
+
+  pub allows_to_begin : (answer : Bool) → IsTrue (has_leaf row.inside n) → (IsTrue answer ↔ ((k : ℕ) → IsTrue (has_leaf row.outside k) → IsTrue (has_leaf sides.settled k))) →
+      IsTrue answer ↔ PartAllows row sides n
+  allows_to_begin answer mine is = (
+    λ h. record { passes = λ other x y x_in x_done y_in. absurd (other mine); begins = λ m none x out. is.0 h x out },
+    λ allows. is.1 (λ k out. allows.begins mine untouched k out),
+  )
 
 module _ {w : ℕ} (row : PartRow w) (claims : LeafSet w) (n : ℕ) (within meets : Bool) (within_is : IsTrue within ↔ ((k : ℕ) → IsTrue (has_leaf claims k) → IsTrue (has_leaf row.inside k)))
     (meets_is : IsTrue meets ↔ ((k : ℕ) × IsTrue (has_leaf row.inside k) × IsTrue (has_leaf claims k))) where

@@ -4,6 +4,7 @@ pub mod SpanLemmas
 pub mod PartLemmas
 pub mod MarkLemmas
 pub mod SweepLemmas
+pub mod ClosedLemmas
 pub mod Readiness
 pub mod Together
 pub mod Cuts
@@ -15,3 +16,5 @@ pub mod FoldPass
 pub mod FoldRowLemmas
 pub mod SpoiltPass
 pub mod SidesLemmas
+pub mod FoldedGoals
+pub mod Widths

@@ -6,12 +6,12 @@ use Rattle.std.specs.List.Sorted.{IsStrictlyIncreasing}
 use Rattle.leaf_rows.specs.Leaves.{has_leaf}
 use Rattle.leaf_rows.specs.declared.leaf_set.LeafSet.{LeafSet}
 use Rattle.flow_model.specs.Lists.{◌∈◌, AreDistinct}
-use Rattle.flow_model.specs.Process.{Process, Empty, Task, Sequence, Parallel, Choice, Isolated, leaves, IsChoiceFree}
+use Rattle.flow_model.specs.Process.{Process, Empty, Task, Sequence, Parallel, Choice, Isolated, leaves}
 use Rattle.flow_model.proofs.Lists.{mem_append_left, mem_append_right, mem-append, distinct_left, distinct_right}
 use Rattle.flow_goal.specs.declared.node.Node.{Node}
-use Rattle.flow_goal.specs.declared.node.Node.TheVariants.{Serial, Split, Join, Close}
+use Rattle.flow_goal.specs.declared.node.Node.TheVariants.{Serial, Split, Join, Close, Or, Chosen}
 use Rattle.flow_goal.specs.Written.{nodes_of}
-use Rattle.flow_goal.proofs.WrittenLemmas.{StandAt, first_stand, second_stand, sequence_nodes, parallel_nodes, isolated_nodes, both_long, leaf_stands}
+use Rattle.flow_goal.proofs.WrittenLemmas.{StandAt, first_stand, second_stand, sequence_nodes, parallel_nodes, choice_nodes, isolated_nodes, both_long, leaf_stands}
 use Rattle.flow_plan.specs.declared.outline.Outline.{Outline}
 use Rattle.flow_plan.specs.declared.span.Span.{Span}
 use Rattle.flow_plan.specs.declared.sweep.Sweep.{Sweep}
@@ -70,43 +70,48 @@ joined_is a b ahead one two all first second (inr (inr is)) x = is x
 
 -- the marks of a goal make the rows of its leaves
 module _ (q : Process) (ns : List ℕ) where
-  goal_rows : {w : ℕ} → (g : Process) (nodes : List Node) (k : ℕ) (ahead : LeafSet w) (forks rows : List (LeafSet w)) → IsChoiceFree g → AreDistinct (leaves g) → StandAt ns k (leaves g) →
+  goal_rows : {w : ℕ} → (g : Process) (nodes : List Node) (k : ℕ) (ahead : LeafSet w) (forks rows : List (LeafSet w)) → AreDistinct (leaves g) → StandAt ns k (leaves g) →
       ((more : LeafSet w) (added : List (LeafSet w)) → IsBehind g ahead more → HasRows g ahead added → MakesRows q nodes ns (k + length (leaves g)) more forks (rows ++ added)) →
       MakesRows q (nodes_of g ++ nodes) ns k ahead forks rows
-  goal_rows Empty nodes k ahead forks rows free distinct at then =
+  goal_rows Empty nodes k ahead forks rows distinct at then =
       subst (λ (j : ℕ). MakesRows q nodes ns j ahead forks rows) (omega arith)
       (subst (λ l. MakesRows q nodes ns (k + 0) ahead forks l) (append-nil rows)
       (then ahead [] (λ x. (λ h. inl h, λ either. ⊎_elim (λ h. h) (λ none. absurd none) either)) tt))
-  goal_rows {w} (Task n) nodes k ahead forks rows free distinct at then =
+  goal_rows {w} (Task n) nodes k ahead forks rows distinct at then =
       subst (λ o. MatchOption o ⊥ (λ n. (more : LeafSet w) → IsWith n ahead more → MakesRows q nodes ns (k + 1) more forks (rows ++ ahead ∷ [])))
       (sym (leaf_stands ns k n at.0 at.1))
       (λ more is. then more (ahead ∷ []) (behind_leaf n ahead more is) ((λ x. (λ h. inl h, λ either. ⊎_elim (λ h. h) (λ none. absurd none) either)), tt))
-  goal_rows (Sequence a b) nodes k ahead forks rows free distinct at then =
+  goal_rows (Sequence a b) nodes k ahead forks rows distinct at then =
       subst (λ l. MakesRows q l ns k ahead forks rows) (sym (sequence_nodes a b nodes))
-      (goal_rows a (nodes_of b ++ (Serial ∷ nodes)) k ahead forks rows free.0 (distinct_left (leaves a) (leaves b) distinct) (first_stand ns k (leaves a) (leaves b) at)
-      (λ middle one behind_a has_a. goal_rows b (Serial ∷ nodes) (k + length (leaves a)) middle forks (rows ++ one) free.1 (distinct_right (leaves a) (leaves b) distinct) (second_stand ns k (leaves a) (leaves b) at)
+      (goal_rows a (nodes_of b ++ (Serial ∷ nodes)) k ahead forks rows (distinct_left (leaves a) (leaves b) distinct) (first_stand ns k (leaves a) (leaves b) at)
+      (λ middle one behind_a has_a. goal_rows b (Serial ∷ nodes) (k + length (leaves a)) middle forks (rows ++ one) (distinct_right (leaves a) (leaves b) distinct) (second_stand ns k (leaves a) (leaves b) at)
       (λ more two behind_b has_b. rw (both_long k (leaves a) (leaves b), append_assoc rows one two)
       (then more (one ++ two) (behind_sequence a b ahead middle more behind_a behind_b) (has_sequence a b ahead middle one two distinct behind_a has_a has_b)))))
-  goal_rows (Parallel a b) nodes k ahead forks rows free distinct at then =
+  goal_rows (Parallel a b) nodes k ahead forks rows distinct at then =
       subst (λ l. MakesRows q l ns k ahead forks rows) (sym (parallel_nodes a b nodes))
-      (goal_rows a (Split ∷ (nodes_of b ++ (Join ∷ nodes))) k ahead (ahead ∷ forks) rows free.0 (distinct_left (leaves a) (leaves b) distinct) (first_stand ns k (leaves a) (leaves b) at)
-      (λ first one behind_a has_a. goal_rows b (Join ∷ nodes) (k + length (leaves a)) ahead (first ∷ ahead ∷ forks) (rows ++ one) free.1 (distinct_right (leaves a) (leaves b) distinct) (second_stand ns k (leaves a) (leaves b) at)
+      (goal_rows a (Split ∷ (nodes_of b ++ (Join ∷ nodes))) k ahead (ahead ∷ forks) rows (distinct_left (leaves a) (leaves b) distinct) (first_stand ns k (leaves a) (leaves b) at)
+      (λ first one behind_a has_a. goal_rows b (Join ∷ nodes) (k + length (leaves a)) ahead (first ∷ ahead ∷ forks) (rows ++ one) (distinct_right (leaves a) (leaves b) distinct) (second_stand ns k (leaves a) (leaves b) at)
       (λ second two behind_b has_b. λ all is. rw (both_long k (leaves a) (leaves b), append_assoc rows one two)
       (then all (one ++ two) (behind_parallel a b ahead first second all behind_a behind_b (joined_is a b ahead first second all behind_a behind_b is)) (has_parallel a b ahead one two distinct has_a has_b)))))
-  goal_rows (Choice a b) nodes k ahead forks rows free distinct at then = absurd free
-  goal_rows (Isolated a) nodes k ahead forks rows free distinct at then =
-      subst (λ l. MakesRows q l ns k ahead forks rows) (sym (isolated_nodes a nodes)) (goal_rows a (Close ∷ nodes) k ahead forks rows free distinct at then)
+  goal_rows (Choice a b) nodes k ahead forks rows distinct at then =
+      subst (λ l. MakesRows q l ns k ahead forks rows) (sym (choice_nodes a b nodes))
+      (goal_rows a (Or ∷ (nodes_of b ++ (Chosen ∷ nodes))) k ahead (ahead ∷ forks) rows (distinct_left (leaves a) (leaves b) distinct) (first_stand ns k (leaves a) (leaves b) at)
+      (λ first one behind_a has_a. goal_rows b (Chosen ∷ nodes) (k + length (leaves a)) ahead (first ∷ ahead ∷ forks) (rows ++ one) (distinct_right (leaves a) (leaves b) distinct) (second_stand ns k (leaves a) (leaves b) at)
+      (λ second two behind_b has_b. λ all is. rw (both_long k (leaves a) (leaves b), append_assoc rows one two)
+      (then all (one ++ two) (behind_parallel a b ahead first second all behind_a behind_b (joined_is a b ahead first second all behind_a behind_b is)) (has_parallel a b ahead one two distinct has_a has_b)))))
+  goal_rows (Isolated a) nodes k ahead forks rows distinct at then =
+      subst (λ l. MakesRows q l ns k ahead forks rows) (sym (isolated_nodes a nodes)) (goal_rows a (Close ∷ nodes) k ahead forks rows distinct at then)
 
 -- and those of a whole goal the rows of all leaves
-pub begun_rows : {w : ℕ} → (q : Process) (nodes : List Node) (ns : List ℕ) (s : Sweep w) → IsChoiceFree q → IsStrictlyIncreasing ns → nodes ≡ nodes_of q → ns ≡ leaves q → s.place ≡ 0 →
+pub begun_rows : {w : ℕ} → (q : Process) (nodes : List Node) (ns : List ℕ) (s : Sweep w) → IsStrictlyIncreasing ns → nodes ≡ nodes_of q → ns ≡ leaves q → s.place ≡ 0 →
     (empty : LeafSet w) × ((x : ℕ) → has_leaf empty x ≡ false) × (s.sets.items ≡ empty ∷ []) → s.ahead ≡ 0 → s.forks.items ≡ [] → s.rows.items ≡ [] → Completes q nodes ns s
-begun_rows q nodes ns s free rising are listed place (empty, none, sets) ahead forks rows =
+begun_rows q nodes ns s rising are listed place (empty, none, sets) ahead forks rows =
     rw (place, sets, ahead, forks, rows, are) (
       empty,
       [],
       (refl, tt),
       subst (λ l. MakesRows q l ns 0 empty [] []) (append-nil (nodes_of q))
-          (goal_rows q ns q [] 0 empty [] [] free (subst AreDistinct listed (distinct_of_rising ns rising)) ([], listed ∙ sym (append-nil (leaves q)))
+          (goal_rows q ns q [] 0 empty [] [] (subst AreDistinct listed (distinct_of_rising ns rising)) ([], listed ∙ sym (append-nil (leaves q)))
           (λ more added behind has. rw listed (first_rows q empty added none has))),
     )
 
@@ -118,29 +123,33 @@ stands_at_span ns k xs at =
     ap (λ (m : ℕ). take m (drop k ns)) long ∙ ap (take (length xs)) at.1 ∙ take-append_seam xs at.0
 
 module _ (q : Process) (ns : List ℕ) where
-  goal_spans : (g : Process) (nodes : List Node) (k : ℕ) (opens : List ℕ) (spans : List Span) → IsChoiceFree g → StandAt ns k (leaves g) →
+  goal_spans : (g : Process) (nodes : List Node) (k : ℕ) (opens : List ℕ) (spans : List Span) → StandAt ns k (leaves g) →
       ((new : List Span) → AddsSpans g ns k spans new → MakesSpans q nodes (k + length (leaves g)) opens new) →
       MakesSpans q (nodes_of g ++ nodes) k opens spans
-  goal_spans Empty nodes k opens spans free at then =
+  goal_spans Empty nodes k opens spans at then =
       subst (λ (j : ℕ). MakesSpans q nodes j opens spans) (omega arith) (then spans (spans_of_none Empty ns k spans refl))
-  goal_spans (Task n) nodes k opens spans free at then = then spans (spans_of_none (Task n) ns k spans refl)
-  goal_spans (Sequence a b) nodes k opens spans free at then =
+  goal_spans (Task n) nodes k opens spans at then = then spans (spans_of_none (Task n) ns k spans refl)
+  goal_spans (Sequence a b) nodes k opens spans at then =
       subst (λ l. MakesSpans q l k opens spans) (sym (sequence_nodes a b nodes))
-      (goal_spans a (nodes_of b ++ (Serial ∷ nodes)) k opens spans free.0 (first_stand ns k (leaves a) (leaves b) at)
-      (λ mid adds_a. goal_spans b (Serial ∷ nodes) (k + length (leaves a)) opens mid free.1 (second_stand ns k (leaves a) (leaves b) at)
+      (goal_spans a (nodes_of b ++ (Serial ∷ nodes)) k opens spans (first_stand ns k (leaves a) (leaves b) at)
+      (λ mid adds_a. goal_spans b (Serial ∷ nodes) (k + length (leaves a)) opens mid (second_stand ns k (leaves a) (leaves b) at)
       (λ new adds_b. rw (both_long k (leaves a) (leaves b)) (then new (spans_of_both (Sequence a b) a b ns k spans mid new refl refl adds_a adds_b)))))
-  goal_spans (Parallel a b) nodes k opens spans free at then =
+  goal_spans (Parallel a b) nodes k opens spans at then =
       subst (λ l. MakesSpans q l k opens spans) (sym (parallel_nodes a b nodes))
-      (goal_spans a (Split ∷ (nodes_of b ++ (Join ∷ nodes))) k opens spans free.0 (first_stand ns k (leaves a) (leaves b) at)
-      (λ mid adds_a. goal_spans b (Join ∷ nodes) (k + length (leaves a)) opens mid free.1 (second_stand ns k (leaves a) (leaves b) at)
+      (goal_spans a (Split ∷ (nodes_of b ++ (Join ∷ nodes))) k opens spans (first_stand ns k (leaves a) (leaves b) at)
+      (λ mid adds_a. goal_spans b (Join ∷ nodes) (k + length (leaves a)) opens mid (second_stand ns k (leaves a) (leaves b) at)
       (λ new adds_b. rw (both_long k (leaves a) (leaves b)) (then new (spans_of_both (Parallel a b) a b ns k spans mid new refl refl adds_a adds_b)))))
-  goal_spans (Choice a b) nodes k opens spans free at then = absurd free
-  goal_spans (Isolated a) nodes k opens spans free at then =
+  goal_spans (Choice a b) nodes k opens spans at then =
+      subst (λ l. MakesSpans q l k opens spans) (sym (choice_nodes a b nodes))
+      (goal_spans a (Or ∷ (nodes_of b ++ (Chosen ∷ nodes))) k opens spans (first_stand ns k (leaves a) (leaves b) at)
+      (λ mid adds_a. goal_spans b (Chosen ∷ nodes) (k + length (leaves a)) opens mid (second_stand ns k (leaves a) (leaves b) at)
+      (λ new adds_b. rw (both_long k (leaves a) (leaves b)) (then new (spans_of_both (Choice a b) a b ns k spans mid new refl refl adds_a adds_b)))))
+  goal_spans (Isolated a) nodes k opens spans at then =
       subst (λ l. MakesSpans q l k opens spans) (sym (isolated_nodes a nodes))
-      (goal_spans a (Close ∷ nodes) k (k ∷ opens) spans free at
+      (goal_spans a (Close ∷ nodes) k (k ∷ opens) spans at
       (λ mid adds. λ new adds_span. then new (spans_of_isolated a ns (record { first = k; end = k + length (leaves a) }) spans mid new (stands_at_span ns k (leaves a) at) refl adds adds_span)))
 
-pub begun_spans : (q : Process) (nodes : List Node) (o : Outline) → IsChoiceFree q → nodes ≡ nodes_of q → o.place ≡ 0 → o.opens.items ≡ [] → o.spans.items ≡ [] → Outlines q nodes o
-begun_spans q nodes o free are place opens spans =
+pub begun_spans : (q : Process) (nodes : List Node) (o : Outline) → nodes ≡ nodes_of q → o.place ≡ 0 → o.opens.items ≡ [] → o.spans.items ≡ [] → Outlines q nodes o
+begun_spans q nodes o are place opens spans =
     rw (place, opens, spans, are)
-    (subst (λ l. MakesSpans q l 0 [] []) (append-nil (nodes_of q)) (goal_spans q (leaves q) q [] 0 [] [] free ([], sym (append-nil (leaves q))) (λ new adds. adds)))
+    (subst (λ l. MakesSpans q l 0 [] []) (append-nil (nodes_of q)) (goal_spans q (leaves q) q [] 0 [] [] ([], sym (append-nil (leaves q))) (λ new adds. adds)))

@@ -16,7 +16,7 @@ use Rattle.flow_plan.specs.declared.span.Span.{Span}
 use Rattle.flow_plan.specs.Rows.{IsRowOf, AreRowsOf}
 use Rattle.flow_plan.specs.Ahead.{IsInSome, IsOutside}
 use Rattle.flow_plan.specs.Span.{at_span, IsEarlier, AreRising, AddsSpans}
-use Rattle.flow_plan.specs.Parts.{IsOneAtMost, IsPartFor, ArePartsFor, Reaches, IsPartRow, HasTwo, HaveSameLeaves, HaveOtherLeaves, ArePartsOf, PartAllows}
+use Rattle.flow_plan.specs.Parts.{IsOneAtMost, IsPartFor, ArePartsFor, Reaches, IsPartRow, HasTwo, HaveSameLeaves, HaveOtherLeaves, ArePartsOf}
 use Rattle.std.proofs.lemmas.Option.{slice_get-get_or}
 use Rattle.flow_plan.proofs.PlaceLemmas.{place_of_member, read_member}
 use Rattle.std.proofs.lemmas.List.Kept.{AllPairs-from_increasing}
@@ -100,16 +100,6 @@ reach_grown {w} ns rows s old mid new begins own ends reaches front ahead back b
       (λ x. subst (λ (l : List (LeafSet w)). IsTrue (has_leaf new.before x) ↔ IsInSome l x) (sym (span_in_three rows s t begins own ends))
           (twice_more _ _ _ _ _ _ _ (reaches.1 x) (ahead x) (behind x) (some_in_three x _ (at_span t rows) _))),
     )
-
--- ---- what a part allows
-
-pub allows_to_begin : {w : ℕ} → (row : PartRow w) (D : ℕ → Type 0) (n : ℕ) (answer : Bool) → IsTrue (has_leaf row.inside n) →
-    ((k : ℕ) → IsTrue (has_leaf row.inside k) → D k → ⊥) → (IsTrue answer ↔ ((k : ℕ) → IsTrue (has_leaf row.outside k) → D k)) →
-    IsTrue answer ↔ PartAllows row D n
-allows_to_begin row D n answer mine untouched is = (
-  λ h. record { passes = λ other x y x_in x_done y_in. absurd (other mine); begins = λ m none x out. is.0 h x out },
-  λ allows. is.1 (λ k out. allows.begins mine (λ x x_in x_done. untouched x x_in x_done) k out),
-)
 
 -- ---- what stands at the places of a span
 

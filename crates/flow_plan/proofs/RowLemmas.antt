@@ -7,9 +7,11 @@ use Rattle.leaf_rows.specs.declared.leaf_set.LeafSet.{LeafSet}
 use Rattle.flow_model.specs.Lists.{◌∈◌, Each, AreDistinct}
 use Rattle.flow_model.specs.Process.{Process, Sequence, Parallel, leaves}
 use Rattle.flow_model.specs.Ready.{InSequence, DirectlyBefore}
-use Rattle.flow_laws.specs.WellFormed.{AreOfLeaves}
+use Rattle.flow_model.specs.Folding.{fixed_leaves}
 use Rattle.flow_model.proofs.Lists.{mem_append_left, mem_append_right, mem-append, only_one, each_member, distinct_apart, mem-slice_get}
 use Rattle.flow_laws.proofs.GoalParts.{sequence_second}
+use Rattle.flow_fold_laws.specs.Unfolding.{IsFoldedOrdered}
+use Rattle.flow_fold_laws.proofs.Unfoldings.{fixed_in_goal}
 use Rattle.flow_plan.specs.declared.token.OrderToken.{OrderToken}
 use Rattle.flow_plan.specs.Planned.{pairs_of}
 use Rattle.flow_plan.specs.Rows.{IsRowOf, AreRowsOf, HasRows}
@@ -192,9 +194,14 @@ pub pairs_more : (tokens : List OrderToken) (i : ℕ) (d : OrderToken) → i < l
 pairs_more tokens i d within = ap pairs_of (take_more tokens i d within) ∙ map-append (λ (t : OrderToken). (t.sender, t.receiver)) (take i tokens) (get_or tokens i d ∷ [])
 
 -- the senders of pairs of leaves are as small as the leaves
-pub senders_small : (bound : ℕ) (g : Process) (ns : List ℕ) (tokens : List OrderToken) → ns ≡ leaves g → Each (λ n. n < bound) ns → AreOfLeaves g (pairs_of tokens) →
+senders_below : (bound : ℕ) (g : Process) (tokens : List OrderToken) → ((n : ℕ) → n ∈ fixed_leaves g → n < bound) →
+    Each (λ pair. (pair.0 ∈ fixed_leaves g) × (pair.1 ∈ fixed_leaves g)) (pairs_of tokens) →
     (k : ℕ) (d : OrderToken) → k < length tokens → (get_or tokens k d).sender < bound
-senders_small bound g ns [] listed small of_leaves k d within = absurd (omega arith)
-senders_small bound g ns (t ∷ ts) listed small of_leaves zero d within =
-    each_member (λ n. n < bound) ns small t.sender (subst (λ (l : List ℕ). t.sender ∈ l) (sym listed) of_leaves.0.0)
-senders_small bound g ns (t ∷ ts) listed small of_leaves (suc k) d within = senders_small bound g ns ts listed small of_leaves.1 k d (omega arith)
+senders_below bound g [] small of_fixed k d within = absurd (omega arith)
+senders_below bound g (t ∷ ts) small of_fixed zero d within = small t.sender of_fixed.0.0
+senders_below bound g (t ∷ ts) small of_fixed (suc k) d within = senders_below bound g ts small of_fixed.1 k d (omega arith)
+
+pub senders_small : (bound : ℕ) (g : Process) (ns : List ℕ) (tokens : List OrderToken) → ns ≡ leaves g → Each (λ n. n < bound) ns → IsFoldedOrdered g (pairs_of tokens) →
+    (k : ℕ) (d : OrderToken) → k < length tokens → (get_or tokens k d).sender < bound
+senders_small bound g ns tokens listed small ordered = senders_below bound g tokens
+    (λ n m. each_member (λ n. n < bound) ns small n (subst (λ (l : List ℕ). n ∈ l) (sym listed) (fixed_in_goal g n m))) ordered.of_fixed

@@ -24,14 +24,14 @@ use Rattle.flow_plan.specs.declared.fold_row.FoldRow.{FoldRow}
 use Rattle.flow_plan.specs.declared.sides.Sides.{Sides}
 use Rattle.flow_plan.specs.FoldRows.{AreFoldRows}
 use Rattle.flow_plan.specs.Sided.{AreSidesOf}
-use Rattle.flow_plan.proofs.FoldPass.{Passes, settled_pass, closed_pass}
+use Rattle.flow_plan.proofs.FoldPass.{Passes, done_stays, settled_pass, closed_pass}
 use Rattle.flow_plan.proofs.SpoiltPass.{is_out, spoilt_pass, barred_pass}
 
 module _ (rows : List FoldRow) (done banned none : LeafSet LEAF_WORDS) (empty : (n : ℕ) → has_leaf none n ≡ false) (last : Sides)
-    (passed : Passes done rows (record { settled = done; closed = none; barred = banned; spoilt = banned }) last)
+    (passed : Passes done rows (record { done = done; settled = done; closed = none; barred = banned; spoilt = banned }) last)
     (q : Process) (are : AreFoldRows q rows) (folded : IsFolded q) (distinct : AreDistinct (leaves q)) where
   first : Sides
-  first = record { settled = done; closed = none; barred = banned; spoilt = banned }
+  first = record { done = done; settled = done; closed = none; barred = banned; spoilt = banned }
 
   settled_are : (n : ℕ) → n ∈ leaves q → IsTrue (has_leaf last.settled n) ↔ IsSettled q (λ m. IsTrue (has_leaf done m)) n
   settled_are n m =
@@ -68,8 +68,10 @@ module _ (rows : List FoldRow) (done banned none : LeafSet LEAF_WORDS) (empty : 
 
   -- with what is closed off among what is barred, they are the sides of the goal
   pub sides_are : (out : LeafSet LEAF_WORDS) → ((n : ℕ) → has_leaf out n ≡ (has_leaf last.barred n || has_leaf last.closed n)) →
-      AreSidesOf q (λ n. IsTrue (has_leaf done n)) (λ n. IsTrue (has_leaf banned n)) (record { settled = last.settled; closed = last.closed; barred = out; spoilt = last.spoilt })
+      AreSidesOf q (λ n. IsTrue (has_leaf done n)) (λ n. IsTrue (has_leaf banned n)) (record { done = last.done; settled = last.settled; closed = last.closed; barred = out; spoilt = last.spoilt })
+  unfolding first
   sides_are out joined = record {
+    done = λ n. let same = ap (λ set. has_leaf set n) (done_stays done rows first last passed) in (λ h. sym same ∙ h, λ h. same ∙ h);
     settled = settled_are;
     closed = closed_are;
     spoilt = spoilt_are;

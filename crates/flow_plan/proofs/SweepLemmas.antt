@@ -115,3 +115,8 @@ nothing_passed node ns s (inl e) = subst (λ (node : Node). Passes node ns s s) 
 nothing_passed node ns s (inr (inl e)) = subst (λ (node : Node). Passes node ns s s) (sym e) (λ q nodes h. h)
 nothing_passed node ns s (inr (inr (inl e))) = subst (λ (node : Node). Passes node ns s s) (sym e) (λ q nodes h. h)
 nothing_passed node ns s (inr (inr (inr e))) = subst (λ (node : Node). Passes node ns s s) (sym e) (λ q nodes h. h)
+
+-- two marks that are read alike
+pub by_either : (P : Node → Type 0) (node one two : Node) → (node ≡ one) ⊎ (node ≡ two) → P one → P two → P node
+by_either P node one two (inl e) h k = subst P (sym e) h
+by_either P node one two (inr e) h k = subst P (sym e) k

@@ -6,19 +6,18 @@ use Rattle.flow_model.specs.declared.limits.TheConstants.{MOST_LEAVES}
 use Rattle.flow_model.specs.Lists.{◌∈◌, Each}
 use Rattle.flow_model.specs.Process as process
 use Rattle.flow_model.specs.Ready.{DirectlyBefore}
-use Rattle.flow_laws.specs.WellFormed.{IsOrdered}
+use Rattle.flow_fold_laws.specs.Unfolding.{IsFoldedOrdered}
 use Rattle.flow_plan.specs.declared.part_row.PartRow.{PartRow}
-use Rattle.flow_plan.specs.declared.part_row.Use.{Use}
 use Rattle.flow_plan.specs.declared.table.Rows.{Rows}
-use Rattle.flow_plan.specs.declared.table.Rows.TheVariants.{Narrow, Middle}
+use Rattle.flow_plan.specs.declared.table.Rows.TheVariants.{Narrow, Middle, Wide}
 use Rattle.flow_plan.specs.declared.table.Table.{Table}
 use Rattle.flow_plan.specs.Planned.{Planned, pairs_of}
 use Rattle.flow_plan.specs.Rows.{IsRowOf, AreRowsOf}
-use Rattle.flow_plan.specs.Parts.{ArePartsOf, Keeps}
+use Rattle.flow_plan.specs.Parts.{ArePartsOf}
 
 -- for each leaf what is directly before it, and the isolated parts
 pub record AreFieldsOf {w : ℕ} (p : Planned) (before : List (LeafSet w)) (parts : List (PartRow w)) : Type 0 where
-  pub ordered : IsOrdered p.process (pairs_of p.tokens)
+  pub ordered : IsFoldedOrdered p.process (pairs_of p.tokens)
   pub listed : p.leaves ≡ process.leaves p.process
   pub rows : AreRowsOf (DirectlyBefore p.process (pairs_of p.tokens)) p.leaves before
   pub parts_are : ArePartsOf p.process (pairs_of p.tokens) parts
@@ -39,13 +38,9 @@ pub record IsTableOf {w : ℕ} (p : Planned) (t : Table w) : Type 0 where
 abbrev pub AreKept : Planned → Rows → Type 0
 AreKept p (Narrow t) = IsTableOf p t
 AreKept p (Middle t) = IsTableOf p t
+AreKept p (Wide t) = IsTableOf p t
 
 pub record IsPlanOf (p : Planned) (rows : Rows) : Type 0 where
   pub rising : IsStrictlyIncreasing p.leaves
   pub small : Each (λ n. n < MOST_LEAVES) p.leaves
   pub kept : AreKept p rows
-
--- each part keeps the leaf for that use
-abbrev pub EachKeeps : Use → Rows → (ℕ → Type 0) → ℕ → Type 0
-EachKeeps what (Narrow t) P n = Each (λ row. Keeps what row P n) t.parts.items
-EachKeeps what (Middle t) P n = Each (λ row. Keeps what row P n) t.parts.items

@@ -1,10 +1,10 @@
 pub mod Ahead
+pub mod CutSides
 pub mod Fields
 pub mod FoldRows
 pub mod Orders
 pub mod Parts
 pub mod Planned
-pub mod Progress
 pub mod RowMarks
 pub mod Rows
 pub mod Sampled
@@ -14,3 +14,4 @@ pub mod Compilation
 pub mod SpanMarks
 pub mod Span
 pub mod Stacks
+pub mod Widths

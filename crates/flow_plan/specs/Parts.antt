@@ -5,10 +5,11 @@ use Rattle.leaf_rows.specs.declared.leaf_set.LeafSet.{LeafSet}
 use Rattle.flow_model.specs.Lists.{◌∈◌, Each}
 use Rattle.flow_model.specs.Process.{Process, leaves}
 use Rattle.flow_model.specs.Ready.{DirectlyBefore, isolated_parts}
+use Rattle.flow_plan.specs.declared.cut_sides.CutSides.{CutSides}
 use Rattle.flow_plan.specs.declared.part_row.PartRow.{PartRow}
 use Rattle.flow_plan.specs.declared.part_row.Reach.{Reach}
 use Rattle.flow_plan.specs.declared.part_row.Use.{Use}
-use Rattle.flow_plan.specs.declared.part_row.Use.TheVariants.{Next, Beside, First}
+use Rattle.flow_plan.specs.declared.part_row.Use.TheVariants.{Beside, First}
 use Rattle.flow_plan.specs.declared.span.Span.{Span}
 use Rattle.flow_plan.specs.Rows.{IsRowOf}
 use Rattle.flow_plan.specs.Ahead.{IsInSome, IsOutside}
@@ -59,12 +60,18 @@ pub record ArePartsOf {w : ℕ} (q : Process) (pairs : List (ℕ × ℕ)) (rows 
   pub apart : HaveOtherLeaves rows
 
 -- the part lets the leaf come next
-pub record PartAllows {w : ℕ} (row : PartRow w) (Done : ℕ → Type 0) (n : ℕ) : Type 0 where
+pub record PartAllows {w : ℕ} (row : PartRow w) (sides : CutSides w) (n : ℕ) : Type 0 where
   -- it waits until the part is finished, if that is begun
-  pub passes : ¬ IsTrue (has_leaf row.inside n) → (x y : ℕ) → IsTrue (has_leaf row.inside x) → Done x → IsTrue (has_leaf row.inside y) → Done y
+  pub passes : ¬ IsTrue (has_leaf row.inside n) →
+      (x y : ℕ) → IsTrue (has_leaf row.inside x) → IsTrue (has_leaf sides.done x) → IsTrue (has_leaf row.inside y) → IsTrue (has_leaf sides.done y)
   -- it begins the part when nothing outside is waited for
-  pub begins : IsTrue (has_leaf row.inside n) → ((x : ℕ) → IsTrue (has_leaf row.inside x) → ¬ Done x) →
-      (x : ℕ) → IsTrue (has_leaf row.outside x) → Done x
+  pub begins : IsTrue (has_leaf row.inside n) → ((x : ℕ) → IsTrue (has_leaf row.inside x) → ¬ IsTrue (has_leaf sides.done x)) →
+      (x : ℕ) → IsTrue (has_leaf row.outside x) → IsTrue (has_leaf sides.settled x)
+
+-- the part waits for that leaf before it lets the other come next
+abbrev pub IsWaitedFor : {w : ℕ} → PartRow w → CutSides w → ℕ → ℕ → Type 0
+IsWaitedFor row sides n first = (IsTrue (has_leaf row.inside n) × IsTrue (has_leaf row.outside first) × ¬ IsTrue (has_leaf sides.settled first))
+    ⊎ (¬ IsTrue (has_leaf row.inside n) × IsTrue (has_leaf row.inside first) × ¬ IsTrue (has_leaf sides.done first))
 
 -- the part has all with P, or none of them
 abbrev pub KeepsTogether : {w : ℕ} → PartRow w → (ℕ → Type 0) → Type 0
@@ -78,8 +85,7 @@ KeepsBeside row P n = KeepsTogether row (λ x. (x ≡ n) ⊎ P x)
 abbrev pub KeepsAfter : {w : ℕ} → PartRow w → (ℕ → Type 0) → ℕ → Type 0
 KeepsAfter row P n = KeepsTogether row P × (IsTrue (has_leaf row.inside n) → (x : ℕ) → P x → IsTrue (has_leaf row.inside x))
 
--- the part keeps the leaf for that use, by the done or the claimed ones with P
+-- the part keeps the leaf for that use, by the claimed ones with P
 abbrev pub Keeps : {w : ℕ} → Use → PartRow w → (ℕ → Type 0) → ℕ → Type 0
-Keeps Next = PartAllows
 Keeps Beside = KeepsBeside
 Keeps First = KeepsAfter

@@ -1,4 +1,4 @@
--- A plan as its callers see it: a goal without choices, its leaves, and orders of leaves.
+-- A plan as its callers see it: a goal whose choices all stay, its leaves, and orders of leaves.
 use Rattle.std.specs.Prelude.{◌≡◌, ℕ, List, length, map}
 use Rattle.std.proofs.Common.{refl}
 use Rattle.std.specs.Coded.{Coded, code_by, coded×, coded_ℕ, coded_list}

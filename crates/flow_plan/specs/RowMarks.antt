@@ -5,7 +5,7 @@ use Rattle.leaf_rows.specs.declared.leaf_set.LeafSet.{LeafSet}
 use Rattle.flow_model.specs.Process.{Process}
 use Rattle.flow_model.specs.Ready.{InSequence}
 use Rattle.flow_goal.specs.declared.node.Node.{Node}
-use Rattle.flow_goal.specs.declared.node.Node.TheVariants.{Leaf, Fork, Split, Join}
+use Rattle.flow_goal.specs.declared.node.Node.TheVariants.{Leaf, Fork, Split, Join, Choose, Or, Chosen}
 use Rattle.flow_plan.specs.declared.sweep.Sweep.{Sweep}
 use Rattle.flow_plan.specs.Rows.{AreRowsOf}
 use Rattle.flow_plan.specs.Stacks.{WithTop}
@@ -31,6 +31,11 @@ MakesRows {w} q (Leaf ∷ nodes) ns k ahead forks rows = MatchOption (slice_get 
 MakesRows q (Fork ∷ nodes) ns k ahead forks rows = MakesRows q nodes ns k ahead (ahead ∷ forks) rows
 MakesRows q (Split ∷ nodes) ns k ahead forks rows = WithTop forks (λ both more. MakesRows q nodes ns k both (ahead ∷ both ∷ more) rows)
 MakesRows {w} q (Join ∷ nodes) ns k ahead forks rows = WithTop forks (λ side more. WithTop more
+    (λ both rest. (all : LeafSet w) → IsJoined both side ahead all → MakesRows q nodes ns k all rest rows))
+-- the two sides of a choice say nothing of one another either
+MakesRows q (Choose ∷ nodes) ns k ahead forks rows = MakesRows q nodes ns k ahead (ahead ∷ forks) rows
+MakesRows q (Or ∷ nodes) ns k ahead forks rows = WithTop forks (λ both more. MakesRows q nodes ns k both (ahead ∷ both ∷ more) rows)
+MakesRows {w} q (Chosen ∷ nodes) ns k ahead forks rows = WithTop forks (λ side more. WithTop more
     (λ both rest. (all : LeafSet w) → IsJoined both side ahead all → MakesRows q nodes ns k all rest rows))
 MakesRows q (node ∷ nodes) ns k ahead forks rows = MakesRows q nodes ns k ahead forks rows
 

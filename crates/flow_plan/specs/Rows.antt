@@ -19,7 +19,3 @@ AreRowsOf P (n ∷ ns) (row ∷ rows) = IsRowOf (λ x. P x n) row × AreRowsOf P
 -- rows of the leaves of the goal, with what is ahead of the whole goal, and what is before the leaf in it
 abbrev pub HasRows : {w : ℕ} → Process → LeafSet w → List (LeafSet w) → Type 0
 HasRows g ahead rows = AreRowsOf (λ x n. IsTrue (has_leaf ahead x) ⊎ InSequence g x n) (leaves g) rows
-
--- the leaf is not done, and each x with P x of the leaf is
-abbrev pub IsDue : (ℕ → ℕ → Type 0) → (ℕ → Type 0) → ℕ → Type 0
-IsDue P Done n = ¬ Done n × ((x : ℕ) → P x n → Done x)

@@ -1,10 +1,12 @@
 ghost use Rattle.std.specs.Prelude.{◌≡◌, ◌≢◌, [], length, All};
 ghost use Rattle.flow_model.specs.Lists.{Each};
+ghost use Rattle.flow_plan.specs.Compilation.{AreShared};
 ghost use Rattle.flow_plan.specs.Options.{HasSmallLeaves, options_of};
 ghost use Rattle.flow_plan.specs.Sampled.{Sampled};
 ghost use Rattle.flow_plan.specs.Planned.{AreNumbered};
 
 use crate::counts::Counts;
+use crate::fold_row::FoldRow;
 use crate::knot_free::KnotFree;
 use std::marker::Model;
 
@@ -13,6 +15,7 @@ use std::marker::Model;
 pub struct Compiled {
     plans: Vec<KnotFree>,
     counts: Counts,
+    folds: Vec<FoldRow>,
 }
 
 impl Model for Compiled {
@@ -22,22 +25,28 @@ impl Model for Compiled {
 
     ghost coded = { compilation_code };
 
-    ghost view = { λ c. compilation c.plans.items c.counts };
+    ghost view = { λ c. compilation c.plans.items c.counts c.folds.items };
 
-    ghost invariant = { λ c. IsLive (compilation c.plans.items c.counts) };
+    ghost invariant = { λ c. IsLive (compilation c.plans.items c.counts c.folds.items) };
 }
 
 impl Compiled {
-    /// These plans, in the order of their options, and the counts of the workflow.
-    pub fn new(plans: Vec<KnotFree>, counts: Counts) -> Compiled
+    /// These plans, in the order of their options, the counts of the workflow, and the rows of its choices that stay.
+    pub fn new(plans: Vec<KnotFree>, counts: Counts, folds: Vec<FoldRow>) -> Compiled
         requires some { plans.items ≢ [] }
         requires live { counts.live ≡ length plans.items }
         requires small { Each HasSmallLeaves (options_of plans.items) }
         requires numbered { All (λ (s : Sampled). AreNumbered s.plan.tokens) plans.items }
+        requires shared { AreShared folds.items plans.items }
         ensures plans { result.plans ≡ plans.items }
         ensures counts { result.counts ≡ counts }
+        ensures folds { result.folds ≡ folds.items }
     {
-        Compiled { plans, counts }
+        Compiled {
+            plans,
+            counts,
+            folds,
+        }
     }
 
     /// The plans in the order of their options.
@@ -52,12 +61,22 @@ impl Compiled {
         &self.plans
     }
 
-    /// The plans by value, in the order of their options.
-    pub fn into_plans(self) -> Vec<KnotFree>
-        ensures plans { result.items ≡ self.plans }
-        ensures numbered { All (λ (s : Sampled). AreNumbered s.plan.tokens) result.items }
+    /// The rows of the choices that stay, inner ones first. What they say of a leaf, they say of it in each plan that has it.
+    pub fn folds(&self) -> &[FoldRow]
+        ensures folds { result.now ≡ self.now.folds }
+        ensures shared { AreShared self.now.folds self.now.plans }
     {
-        self.plans
+        &self.folds
+    }
+
+    /// The plans by value, in the order of their options, and the rows of the choices that stay.
+    pub fn into_parts(self) -> (Vec<KnotFree>, Vec<FoldRow>)
+        ensures plans { result.0.items ≡ self.plans }
+        ensures folds { result.1.items ≡ self.folds }
+        ensures numbered { All (λ (s : Sampled). AreNumbered s.plan.tokens) result.0.items }
+        ensures shared { AreShared result.1.items result.0.items }
+    {
+        (self.plans, self.folds)
     }
 
     /// How large the workflow is.

@@ -96,6 +96,16 @@ impl FoldRow {
         set.union_between(&self.right, self.from, self.to);
     }
 
+    /// Puts the leaves of both sides in where one of them has that leaf.
+    pub(crate) fn put_in_with(&self, leaf: u32, set: &mut LeafSet<LEAF_WORDS>)
+        requires { leaf < MOST_LEAVES }
+        ensures { (n : ℕ) → IsTrue (has_leaf set.new n) ↔ (IsTrue (has_leaf set.old n) ⊎ (HasLeaf self.now leaf × HasLeaf self.now n)) }
+    {
+        if self.left.has(leaf) || self.right.has(leaf) {
+            self.put_in(set);
+        }
+    }
+
     /// Where all of one side is settled, so is the choice.
     pub(crate) fn settle(&self, settled: &mut LeafSet<LEAF_WORDS>)
         ensures { (n : ℕ) → IsTrue (has_leaf settled.new n) ↔ (IsTrue (has_leaf settled.old n)

@@ -1,9 +1,10 @@
-//! Plans: goals without choices, some leaves of which stand in order, and what may come next in them.
+//! Plans: goals whose choices all stay, some leaves of which stand in order, and what may come next in them.
 #![tactic(auto)]
 
 mod claims;
 mod compiled;
 mod counts;
+mod cut_sides;
 mod fold_row;
 mod knot_free;
 mod outline;
@@ -11,7 +12,6 @@ mod part_row;
 mod parts;
 mod places;
 mod plan;
-mod progress;
 mod rows;
 mod sets;
 mod sides;
@@ -20,6 +20,7 @@ mod steps;
 mod sweep;
 mod table;
 mod token;
+mod words;
 
 pub use claims::distinct;
 pub use compiled::Compiled;
@@ -27,6 +28,7 @@ pub use counts::Counts;
 pub use fold_row::FoldRow;
 pub use knot_free::KnotFree;
 pub use plan::Plan;
-pub use progress::Progress;
 pub use sides::Sides;
+pub use table::{MIDDLE_WORDS, NARROW_WORDS};
 pub use token::OrderToken;
+pub use words::Words;

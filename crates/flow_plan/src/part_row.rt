@@ -1,12 +1,12 @@
-ghost use Rattle.std.specs.Prelude.{◌≡◌, ◌<◌, ◌≤◌, ◌*◌, ◌↔◌, ◌⊎◌, ◌&&◌, if◌then◌else◌, ℕ, IsTrue, List, All, Some, [], ◌∷◌, length};
-ghost use Rattle.flow_model.specs.Ready.{DoneOr};
+ghost use Rattle.std.specs.Prelude.{◌≡◌, ◌<◌, ◌≤◌, ◌*◌, ◌↔◌, ◌⊎◌, ◌&&◌, if◌then◌else◌, ℕ, IsTrue, List, All, length};
 ghost use Rattle.flow_model.specs.Lists.{◌∈◌};
 ghost use Rattle.leaf_rows.specs.Leaves.{has_leaf};
 ghost use Rattle.leaf_rows.specs.declared.leaf_set.LeafSet.{LeafSet};
 ghost use Rattle.flow_plan.specs.Ahead.{IsInSome};
 ghost use Rattle.flow_plan.specs.Parts.{IsPartFor, Reaches};
 
-use crate::sets::{set_of, union};
+use crate::cut_sides::CutSides;
+use crate::sets::{first_outside, set_of, union};
 use crate::span::Span;
 use leaf_rows::LeafSet;
 
@@ -28,8 +28,6 @@ pub(crate) struct Reach<const W: usize> {
 /// For what leaves are kept.
 #[derive(Clone, Copy)]
 pub(crate) enum Use {
-    /// To come next after the done ones.
-    Next,
     /// To follow with the claimed ones in every order.
     Beside,
     /// To come before the claimed ones.
@@ -130,18 +128,19 @@ fn keep<const W: usize>(
 }
 
 impl<const W: usize> PartRow<W> {
-    ghost use Rattle.flow_plan.specs.Parts.{PartAllows, Keeps, KeepsTogether, KeepsBeside, KeepsAfter};
+    ghost use Rattle.std.specs.Prelude.{IfNone, IfSome};
+    ghost use Rattle.flow_plan.specs.Parts.{IsWaitedFor, PartAllows, Keeps, KeepsTogether, KeepsBeside, KeepsAfter};
 
-    /// Whether the part lets the leaf come next: it must be finished once it is begun, and what is
-    /// directly before it must be done before it is begun.
-    pub(crate) fn allows(&self, done: &LeafSet<W>, leaf: u32) -> bool
+    /// Whether the part lets the leaf come next: it must be finished once it is begun, and what is directly before it must
+    /// be settled before it is begun. There is no choice inside, so it is finished where all of it is done.
+    pub(crate) fn allows(&self, sides: &CutSides<W>, leaf: u32) -> bool
         requires { leaf < 64 * W }
-        ensures { IsTrue result ↔ PartAllows self.now (λ x. IsTrue (has_leaf done.now x)) leaf }
+        ensures { IsTrue result ↔ PartAllows self.now sides.now leaf }
     {
-        match (self.inside.meets(done), self.inside.has(leaf)) {
+        match (self.inside.meets(&sides.done), self.inside.has(leaf)) {
             (true, true) | (false, false) => true,
-            (true, false) => self.inside.is_subset(done),
-            (false, true) => self.outside.is_subset(done),
+            (true, false) => self.inside.is_subset(&sides.done),
+            (false, true) => self.outside.is_subset(&sides.settled),
         }
     }
 
@@ -153,14 +152,23 @@ impl<const W: usize> PartRow<W> {
     }
 
     /// Of the leaves those that the part lets come next.
-    fn keep_allowed(&self, done: &LeafSet<W>, leaves: LeafSet<W>) -> LeafSet<W>
-        ensures { (n : ℕ) → IsTrue (has_leaf result n)
-            ↔ (IsTrue (has_leaf leaves.entry n) × PartAllows self.now (λ x. IsTrue (has_leaf done.now x)) n) }
+    pub(crate) fn keep_allowed(&self, sides: &CutSides<W>, leaves: LeafSet<W>) -> LeafSet<W>
+        ensures { (n : ℕ) → IsTrue (has_leaf result n) ↔ (IsTrue (has_leaf leaves.entry n) × PartAllows self.now sides.now n) }
     {
-        if self.inside.meets(done) {
-            keep(leaves, &self.inside, true, self.inside.is_subset(done))
+        if self.inside.meets(&sides.done) {
+            keep(
+                leaves,
+                &self.inside,
+                true,
+                self.inside.is_subset(&sides.done),
+            )
         } else {
-            keep(leaves, &self.inside, self.outside.is_subset(done), true)
+            keep(
+                leaves,
+                &self.inside,
+                self.outside.is_subset(&sides.settled),
+                true,
+            )
         }
     }
 
@@ -186,31 +194,27 @@ impl<const W: usize> PartRow<W> {
         keep(leaves, &self.inside, false, outer)
     }
 
-    /// Of the leaves those that the part keeps for that use, by the done or the claimed ones.
-    pub(crate) fn keep_for(&self, what: Use, others: &LeafSet<W>, leaves: LeafSet<W>) -> LeafSet<W>
+    /// Of the leaves those that the part keeps for that use, by the claimed ones.
+    pub(crate) fn keep_for(&self, what: Use, claims: &LeafSet<W>, leaves: LeafSet<W>) -> LeafSet<W>
         ensures { (n : ℕ) → IsTrue (has_leaf result n)
-            ↔ (IsTrue (has_leaf leaves.entry n) × Keeps what self.now (λ x. IsTrue (has_leaf others.now x)) n) }
+            ↔ (IsTrue (has_leaf leaves.entry n) × Keeps what self.now (λ x. IsTrue (has_leaf claims.now x)) n) }
     {
         match what {
-            Use::Next => self.keep_allowed(others, leaves),
-            Use::Beside => self.keep_beside(others, leaves),
-            Use::First => self.keep_first(others, leaves),
+            Use::Beside => self.keep_beside(claims, leaves),
+            Use::First => self.keep_first(claims, leaves),
         }
     }
 
-    /// The leaf that is missing where the part does not let the leaf come next, if one alone is.
-    pub(crate) fn missing(&self, done: &LeafSet<W>, leaf: u32) -> Option<u32>
+    /// A leaf that the part waits for where it does not let that one come next.
+    pub(crate) fn missing(&self, sides: &CutSides<W>, leaf: u32) -> Option<u32>
         requires { leaf < 64 * W }
-        ensures { (first : ℕ) → ¬ (PartAllows self.now (λ x. IsTrue (has_leaf done.now x)) leaf) →
-            PartAllows self.now (λ x. IsTrue (has_leaf done.now x)) first →
-            PartAllows self.now (DoneOr (λ x. IsTrue (has_leaf done.now x)) (first ∷ [])) leaf → result ≡ Some first }
+        ensures some { IfSome result (IsWaitedFor self.now sides.now leaf) }
+        ensures small { IfSome result (λ first. first < 64 * W) }
+        ensures none { IfNone result (PartAllows self.now sides.now leaf) }
     {
-        let mut missing = if self.inside.has(leaf) {
-            self.outside
-        } else {
-            self.inside
-        };
-        missing.remove_all(done);
-        missing.first()
+        if self.inside.has(leaf) {
+            return first_outside(&self.outside, &sides.settled);
+        }
+        first_outside(&self.inside, &sides.done)
     }
 }

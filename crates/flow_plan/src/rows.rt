@@ -1,7 +1,7 @@
 ghost use Rattle.std.specs.Prelude.{◌≡◌, ◌<◌, ◌≤◌, ◌*◌, length, All, IfOk};
 ghost use Rattle.flow_model.specs.Lists.{Each};
 ghost use Rattle.flow_model.specs.Ready.{InSequence, DirectlyBefore};
-ghost use Rattle.flow_laws.specs.WellFormed.{AreOfLeaves};
+ghost use Rattle.flow_fold_laws.specs.Unfolding.{IsFoldedOrdered};
 ghost use Rattle.flow_plan.specs.declared.token.OrderToken.{OrderToken};
 ghost use Rattle.flow_plan.specs.Planned.{pairs_of};
 ghost use Rattle.flow_plan.specs.Rows.{AreRowsOf};
@@ -58,7 +58,7 @@ pub(crate) fn before_rows<const W: usize>(
 ) -> Result<Vec<LeafSet<W>>, AllocError>
     requires wide { W ≤ 64 }
     requires small { Each (λ n. n < 64 * W) goal.now.leaves }
-    requires of_leaves { AreOfLeaves goal.now.process (pairs_of tokens.now) }
+    requires ordered { IsFoldedOrdered goal.now.process (pairs_of tokens.now) }
     ensures { IfOk result (λ rows.
         AreRowsOf (DirectlyBefore goal.now.process (pairs_of tokens.now)) goal.now.leaves rows.items) }
 {

@@ -1,5 +1,5 @@
 //! Sets of leaves, made of others.
-ghost use Rattle.std.specs.Prelude.{◌≡◌, ◌<◌, ◌≤◌, ◌*◌, ◌==◌, ◌||◌, ℕ, All};
+ghost use Rattle.std.specs.Prelude.{◌≡◌, ◌<◌, ◌≤◌, ◌*◌, ◌==◌, ◌||◌, ℕ, IsTrue, All, IfNone, IfSome};
 ghost use Rattle.flow_model.specs.Lists.{◌∈◌};
 ghost use Rattle.leaf_rows.specs.Leaves.{has_leaf};
 ghost use Rattle.flow_plan.specs.Ahead.{IsInSome};
@@ -40,4 +40,14 @@ pub(crate) fn with<const W: usize>(set: &LeafSet<W>, leaf: u32) -> LeafSet<W>
     let mut more = *set;
     more.insert(leaf);
     more
+}
+
+/// The least leaf of the one set that the other lacks.
+pub(crate) fn first_outside<const W: usize>(one: &LeafSet<W>, other: &LeafSet<W>) -> Option<u32>
+    ensures none { IfNone result ((n : ℕ) → IsTrue (has_leaf one.now n) → IsTrue (has_leaf other.now n)) }
+    ensures some { IfSome result (λ n. n < 64 * W × IsTrue (has_leaf one.now n) × ¬ (IsTrue (has_leaf other.now n))) }
+{
+    let mut outside = *one;
+    outside.remove_all(other);
+    outside.first()
 }

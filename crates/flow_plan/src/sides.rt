@@ -9,9 +9,10 @@ ghost use Rattle.flow_plan.specs.Sided.{AreSidesOf, TakesFold};
 use crate::fold_row::FoldRow;
 use leaf_rows::{LEAF_WORDS, LeafSet};
 
-/// What choices that stay in plans say of leaves, by the done and the banned ones.
+/// The done leaves, and what choices that stay in plans say of leaves by them and the banned ones.
 #[derive(Clone, Copy)]
 pub struct Sides {
+    pub done: LeafSet<LEAF_WORDS>,
     /// Done, or in a choice of which one side is finished.
     pub settled: LeafSet<LEAF_WORDS>,
     /// On a side whose other side is begun.
@@ -31,6 +32,7 @@ impl Sides {
             AreSidesOf q (λ n. IsTrue (has_leaf done.now n)) (λ n. IsTrue (has_leaf banned.now n)) result }
     {
         let mut sides = Sides {
+            done: *done,
             settled: *done,
             closed: LeafSet::new(),
             barred: *banned,

@@ -20,8 +20,8 @@ pub(crate) struct Sweep<const W: usize> {
     pub(crate) sets: Vec<LeafSet<W>>,
     /// The leaves before the next one.
     pub(crate) ahead: usize,
-    /// Of each two goals beside one another that are being read: what is ahead of both, and from the
-    /// second on, above it, what is behind the first.
+    /// Of each two goals beside one another, or sides of a choice, that are being read: what is ahead of both, and
+    /// from the second on, above it, what is behind the first.
     pub(crate) forks: Vec<usize>,
     pub(crate) rows: Vec<LeafSet<W>>,
 }
@@ -36,7 +36,7 @@ impl<const W: usize> Sweep<W> {
         ensures forks { IfOk result (λ new. new.forks.items ≡ []) }
         ensures rows { IfOk result (λ new. new.rows.items ≡ []) }
     {
-        // the empty one, one a leaf, and fewer than leaves for goals beside one another
+        // the empty one, one a leaf, and fewer than leaves for two goals beside one another or two sides
         let mut sets = Vec::with_capacity(alloc, leaves.saturating_mul(2))?;
         sets.push(LeafSet::new())?;
         Ok(Sweep {
@@ -147,9 +147,9 @@ impl<const W: usize> Sweep<W> {
         match node {
             Node::Nop | Node::Serial | Node::Open | Node::Close => Ok(()),
             Node::Leaf => self.pass_leaf(leaves),
-            Node::Fork => self.fork(leaves),
-            Node::Split => self.split(leaves),
-            Node::Join => self.join(leaves),
+            Node::Fork | Node::Choose => self.fork(leaves),
+            Node::Split | Node::Or => self.split(leaves),
+            Node::Join | Node::Chosen => self.join(leaves),
         }
     }
 }

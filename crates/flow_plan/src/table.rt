@@ -1,17 +1,19 @@
 //! The rows of a plan, as wide as its leaves ask for.
-ghost use Rattle.std.specs.Prelude.{◌≡◌, ◌<◌, ◌≤◌, ◌*◌, ◌↔◌, ℕ, IsTrue, IfNone, IfOk, IfSome};
+ghost use Rattle.std.specs.Prelude.{◌≡◌, ◌<◌, ◌≤◌, ◌*◌, ◌↔◌, ℕ, Bool, IsTrue, IfNone, IfOk, IfSome};
 ghost use Rattle.std.specs.List.Sorted.{IsStrictlyIncreasing};
 ghost use Rattle.flow_model.specs.Lists.{◌∈◌, Each};
 ghost use Rattle.flow_model.specs.Process;
 ghost use Rattle.flow_model.specs.Ready.{DirectlyBefore};
-ghost use Rattle.flow_laws.specs.WellFormed.{IsOrdered};
+ghost use Rattle.flow_model.specs.FoldedReady.{IsFinished};
+ghost use Rattle.flow_fold_laws.specs.Unfolding.{IsFoldedOrdered};
 ghost use Rattle.leaf_rows.specs.Leaves.{has_leaf};
+ghost use Rattle.flow_plan.specs.CutSides.{IsFree, TellIn};
 ghost use Rattle.flow_plan.specs.Fields.{AreKept, Fills, IsTableOf};
 ghost use Rattle.flow_plan.specs.Orders.{IsUnblocked, MayComeNext};
 ghost use Rattle.flow_plan.specs.Parts.{KeepsTogether, PartAllows};
 ghost use Rattle.flow_plan.specs.Planned.{Planned, pairs_of, planned};
-ghost use Rattle.flow_plan.specs.Rows.{IsDue};
 
+use crate::cut_sides::CutSides;
 use crate::part_row::PartRow;
 use crate::parts::part_rows;
 use crate::places::place_of;
@@ -24,10 +26,15 @@ use leaf_rows::{LEAF_WORDS, LeafSet};
 use std::alloc::{AllocError, Global};
 
 /// The words of rows in a plan of few leaves.
-pub(crate) const NARROW_WORDS: usize = 2;
+pub const NARROW_WORDS: usize = 2;
+
+/// The words of rows in a plan of more leaves.
+pub const MIDDLE_WORDS: usize = 16;
 
 /// The words of rows in any other plan.
-pub(crate) const MIDDLE_WORDS: usize = 16;
+pub(crate) const WIDE_WORDS: usize = 64;
+
+const _: () = prove!(WIDE_WORDS == LEAF_WORDS);
 
 const _: () = prove!(MOST_LEAVES as usize == 64 * LEAF_WORDS);
 
@@ -42,11 +49,12 @@ pub(crate) struct Table<const W: usize> {
 }
 
 /// Rows as wide as the last leaf asks for. A further width is one more variant here, a line in `by_width`, a line in
-/// `AreKept` and in `EachKeeps`, and a branch in `new`.
+/// `AreKept`, and a branch in `new`.
 #[derive(Drop)]
 pub(crate) enum Rows {
     Narrow(Table<NARROW_WORDS>),
     Middle(Table<MIDDLE_WORDS>),
+    Wide(Table<WIDE_WORDS>),
 }
 
 /// What the table of the rows answers, of whatever width it is.
@@ -55,6 +63,7 @@ macro_rules! by_width {
         match $rows {
             Rows::Narrow($table) => $answer,
             Rows::Middle($table) => $answer,
+            Rows::Wide($table) => $answer,
         }
     };
 }
@@ -80,32 +89,34 @@ impl Rows {
         tokens: &[OrderToken],
     ) -> Result<Rows, AllocError>
         requires small { Each (λ n. n < MOST_LEAVES) goal.now.leaves }
-        requires ordered { IsOrdered goal.now.process (pairs_of tokens.now) }
+        requires ordered { IsFoldedOrdered goal.now.process (pairs_of tokens.now) }
         ensures { IfOk result (λ rows. AreKept (planned goal.now tokens.now) rows) }
     {
         if all_below(goal.leaves(), 64 * NARROW_WORDS as u32) {
             return Ok(Rows::Narrow(Table::new(alloc, goal, tokens)?));
         }
-        Ok(Rows::Middle(Table::new(alloc, goal, tokens)?))
+        if all_below(goal.leaves(), 64 * MIDDLE_WORDS as u32) {
+            return Ok(Rows::Middle(Table::new(alloc, goal, tokens)?));
+        }
+        Ok(Rows::Wide(Table::new(alloc, goal, tokens)?))
     }
 }
 
-/// Whether the leaf is not done, and all of its row is.
-pub(crate) fn frees<const W: usize>(done: &LeafSet<W>, leaf: u32, row: &LeafSet<W>) -> bool
+/// Whether the leaf is neither done nor closed off, and all of its row is settled.
+pub(crate) fn frees<const W: usize>(sides: &CutSides<W>, leaf: u32, row: &LeafSet<W>) -> bool
     requires { leaf < 64 * W }
-    ensures { IsTrue result ↔ IsDue (λ x _. IsTrue (has_leaf row.now x)) (λ x. IsTrue (has_leaf done.now x)) leaf }
+    ensures { IsTrue result ↔ IsFree (λ x _. IsTrue (has_leaf row.now x)) sides.now leaf }
 {
-    !done.has(leaf) && row.is_subset(done)
+    !sides.rule_out(leaf) && row.is_subset(&sides.settled)
 }
 
 /// Whether each part lets the leaf come next.
-fn parts_allow<const W: usize>(parts: &[PartRow<W>], done: &LeafSet<W>, leaf: u32) -> bool
+fn parts_allow<const W: usize>(parts: &[PartRow<W>], sides: &CutSides<W>, leaf: u32) -> bool
     requires { leaf < 64 * W }
-    ensures { IsTrue result
-        ↔ Each (λ row. PartAllows row (λ x. IsTrue (has_leaf done.now x)) leaf) parts.now }
+    ensures { IsTrue result ↔ Each (λ row. PartAllows row sides.now leaf) parts.now }
 {
     for part in parts {
-        if !part.allows(done, leaf) {
+        if !part.allows(sides, leaf) {
             return false;
         }
     }
@@ -131,7 +142,7 @@ impl<const W: usize> Table<W> {
     fn new(alloc: Global, goal: &Choiceless, tokens: &[OrderToken]) -> Result<Table<W>, AllocError>
         requires wide { W ≤ 64 }
         requires within { Each (λ n. n < 64 * W) goal.now.leaves }
-        requires ordered { IsOrdered goal.now.process (pairs_of tokens.now) }
+        requires ordered { IsFoldedOrdered goal.now.process (pairs_of tokens.now) }
         ensures { IfOk result (λ table. IsTableOf (planned goal.now tokens.now) table) }
     {
         let before = before_rows(alloc, goal, tokens)?;
@@ -170,33 +181,41 @@ impl<const W: usize> Table<W> {
         }
     }
 
-    /// Whether the leaf is not done, and all that is directly before it is.
-    fn is_unblocked(&self, leaves: &[u32], done: &LeafSet<W>, leaf: u32) -> bool
+    /// Whether the leaf is neither done nor closed off, and all that is directly before it is settled.
+    fn is_unblocked(&self, leaves: &[u32], sides: &CutSides<W>, leaf: u32) -> bool
         requires { Fills leaves.now self.now.before.items }
         ensures small { IsTrue result → leaf < 64 * W }
-        ensures free { (p : Planned) → IsTableOf p self.now → p.leaves ≡ leaves.now →
-            IsTrue result ↔ IsUnblocked p (λ x. IsTrue (has_leaf done.now x)) leaf }
+        ensures free { (p : Planned) → IsTableOf p self.now → p.leaves ≡ leaves.now → (done : ℕ → Bool) →
+            TellIn p (λ x. IsTrue (done x)) sides.now → IsTrue result ↔ IsUnblocked p (λ x. IsTrue (done x)) leaf }
     {
         match self.row_of(leaves, leaf) {
-            Some(row) => frees(done, leaf, row),
+            Some(row) => frees(sides, leaf, row),
             None => false,
         }
     }
 
     /// Whether the leaf may come next after the done ones.
-    pub(crate) fn ready(&self, leaves: &[u32], done: &LeafSet<W>, leaf: u32) -> bool
+    pub(crate) fn ready(&self, leaves: &[u32], sides: &CutSides<W>, leaf: u32) -> bool
         requires { Fills leaves.now self.now.before.items }
-        ensures { (p : Planned) → IsTableOf p self.now → p.leaves ≡ leaves.now →
-            IsTrue result ↔ MayComeNext p (λ x. IsTrue (has_leaf done.now x)) leaf }
+        ensures { (p : Planned) → IsTableOf p self.now → p.leaves ≡ leaves.now → (done : ℕ → Bool) →
+            TellIn p (λ x. IsTrue (done x)) sides.now → IsTrue result ↔ MayComeNext p (λ x. IsTrue (done x)) leaf }
     {
-        self.is_unblocked(leaves, done, leaf) && parts_allow(&self.parts, done, leaf)
+        self.is_unblocked(leaves, sides, leaf) && parts_allow(&self.parts, sides, leaf)
     }
 
-    /// Whether each leaf of the plan is done.
-    pub(crate) fn complete(&self, done: &LeafSet<W>) -> bool
-        ensures { (p : Planned) → IsTableOf p self.now →
-            IsTrue result ↔ ((n : ℕ) → n ∈ Process.leaves p.process → IsTrue (has_leaf done.now n)) }
+    /// Whether each leaf of the plan is settled.
+    pub(crate) fn complete(&self, sides: &CutSides<W>) -> bool
+        ensures { (p : Planned) → IsTableOf p self.now → (done : ℕ → Bool) →
+            TellIn p (λ x. IsTrue (done x)) sides.now → IsTrue result ↔ IsFinished p.process (λ x. IsTrue (done x)) }
     {
-        self.all.is_subset(done)
+        self.all.is_subset(&sides.settled)
+    }
+
+    /// Whether some leaf of the plan is in the set.
+    pub(crate) fn has_some(&self, set: &LeafSet<W>) -> bool
+        ensures { (p : Planned) → IsTableOf p self.now →
+            IsTrue result ↔ ((n : ℕ) × (n ∈ Process.leaves p.process) × IsTrue (has_leaf set.now n)) }
+    {
+        self.all.meets(set)
     }
 }

@@ -7,21 +7,28 @@ use Rattle.std.proofs.lemmas.List.{map-append, take-append-drop, length-take-le,
 use Rattle.flow_model.specs.declared.limits.TheConstants.{MOST_LEAVES}
 use Rattle.flow_model.specs.Lists.{◌∈◌, Each, AreDistinct}
 use Rattle.flow_model.specs.Process.{leaves}
-use Rattle.flow_model.proofs.MadeLists.{of_map, each-filter}
+use Rattle.flow_model.specs.Ready.{DoneOr}
+use Rattle.flow_model.proofs.MadeLists.{each-filter}
 use Rattle.flow_model.proofs.Lists.{mem-append, mem_append_left, each-append, each_parts, each_member, each_to, each_from_members, distinct_parts, distinct-append, at_most}
 use Rattle.flow_plan.proofs.PlaceLemmas.{read_member}
-use Rattle.flow_residual.specs.declared.ban.Ban.{Ban}
+use Rattle.flow_residual.specs.declared.residual.Ban.{Ban}
 use Rattle.flow_plan.specs.Sampled.{Sampled}
 use Rattle.flow_plan.specs.Options.{options_of, HasSmallLeaves}
 use Rattle.flow_residual.proofs.OptionLemmas.{length-options}
-use Rattle.flow_residual.specs.Remaining.{Remaining, MayComeNext}
+use Rattle.flow_residual.specs.Remaining.{Remaining, MayComeNext, banned}
 use Rattle.flow_residual.specs.View.{pairs_of_bans}
 use Rattle.flow_residual.specs.Options.{EachHas}
-use Rattle.flow_residual.specs.Invariant.{banned, AreFew, IsKept, IsRoomy}
-use Rattle.flow_residual.specs.declared.track.Track.{Track}
-use Rattle.flow_residual.specs.declared.track.Change.{Change}
+use Rattle.leaf_rows.specs.declared.leaf_set.LeafSet.{LeafSet}
+use Rattle.leaf_rows.specs.declared.TheConstants.{LEAF_WORDS}
+use Rattle.flow_model.specs.Resolution.{ChoiceOption}
+use Rattle.flow_plan.specs.declared.fold_row.FoldRow.{FoldRow}
+use Rattle.flow_plan.specs.declared.sides.Sides.{Sides}
+use Rattle.flow_residual.specs.Telling.{AreServing, IsOrderedOption, IsSetOf, Tells}
+use Rattle.flow_residual.specs.Invariant.{AreFew, IsKept, IsRoomy}
+use Rattle.flow_residual.proofs.Avoiding.{begun_not_banned}
+use Rattle.flow_residual.specs.declared.fronts.Change.{Change}
 use Rattle.flow_residual.specs.declared.residual.Residual.TheInside.{Inside}
-use Rattle.flow_residual.specs.Track.{IsTrack, journal_after, bans_after}
+use Rattle.flow_residual.specs.Track.{IsFront, journal_after}
 
 -- ---- few numbers
 
@@ -70,13 +77,12 @@ module _ (r : Remaining) (k : IsKept r) (leaf : ℕ) (next : MayComeNext r leaf)
   next_fresh = next.2.not_done
 
   pub next_free : ¬ (leaf ∈ banned r.bans)
-  next_free m =
-      let (ban, there, is) = of_map (λ (ban : ℕ × ℕ). ban.1) leaf r.bans m in
-      each_member (λ (b : ℕ × ℕ). ¬ (b.1 ∈ leaves next.0.resolution)) r.bans next.1.unbanned ban there (subst (λ n. n ∈ leaves next.0.resolution) is next.2.leaf)
+  next_free = begun_not_banned next.0.resolution (DoneOr (λ n. n ∈ r.journal) (leaf ∷ [])) (λ n. n ∈ banned r.bans) leaf next.3 next.2.leaf (inr (inl refl))
 
   pub kept_push : IsKept (record r { journal = r.journal ++ leaf ∷ [] })
   kept_push = record {
     fits = k.fits;
+    ordered = k.ordered;
     done = one_more r.journal leaf k.done next_small next_fresh;
     bans_few = k.bans_few;
     apart = each_from_members (λ n. ¬ (n ∈ (r.journal ++ leaf ∷ []))) (banned r.bans) (λ n m there. ⊎_elim
@@ -90,6 +96,7 @@ module _ (r : Remaining) (k : IsKept r) (leaf : ℕ) (next : MayComeNext r leaf)
   kept_ban i here =
       let more : banned (r.bans ++ (i, leaf) ∷ []) ≡ banned r.bans ++ leaf ∷ [] = map-append (λ (ban : ℕ × ℕ). ban.1) r.bans ((i, leaf) ∷ []) in record {
         fits = k.fits;
+        ordered = k.ordered;
         done = k.done;
         bans_few = subst AreFew (sym more) (one_more (banned r.bans) leaf k.bans_few next_small next_free);
         apart = subst (Each (λ n. ¬ (n ∈ r.journal))) (sym more) (each-append (λ n. ¬ (n ∈ r.journal)) (banned r.bans) (leaf ∷ []) k.apart (next_fresh, tt));
@@ -135,6 +142,7 @@ module _ (r : Remaining) (k : IsKept r) (i : ℕ) (within : i < length r.journal
         distinct = distinct_left_over stays r.bans k.bans_few.distinct;
       } in record {
         fits = k.fits;
+        ordered = k.ordered;
         done = few_front r.journal i k.done;
         bans_few = subst AreFew (sym more)
             (one_more (banned (filter stays r.bans)) back left (each_member (λ n. n < MOST_LEAVES) r.journal k.done.small back back_done) back_free);
@@ -158,28 +166,37 @@ pub pairs_of_left : (i : ℕ) (bans : List Ban) → pairs_of_bans (filter (λ (b
 pairs_of_left i [] = refl
 pairs_of_left i (ban ∷ bans) = grind (arith, cases_Bool (nat_le ban.index i), pairs_of_left i bans)
 
-pub length-pairs : (bans : List Ban) → length (banned (pairs_of_bans bans)) ≡ length bans
-length-pairs [] = refl
-length-pairs (ban ∷ bans) = ap suc (length-pairs bans)
+-- ---- fronts after a change
 
--- ---- tracks after a change
+-- there is a front for each plan
+pub one_each_lent : (i : Inside) (plans : List Sampled) (lent : List ℕ) → IsRoomy i → plans ≡ i.plans.items → lent ≡ i.fronts.items → length lent ≡ length plans
+one_each_lent i plans lent roomy same_plans same_fronts =
+    ap length same_fronts ∙ roomy.fronts.one_each ∙ length-options i.plans.items ∙ sym (ap length same_plans)
 
--- there is a track for each plan
-pub one_each_lent : (i : Inside) (plans : List Sampled) (lent : List Track) → IsRoomy i → plans ≡ i.plans.items → lent ≡ i.tracks.items → length lent ≡ length plans
-one_each_lent i plans lent roomy same_plans same_tracks =
-    ap length same_tracks ∙ roomy.tracks.one_each ∙ length-options i.plans.items ∙ sym (ap length same_plans)
+-- the vector that was lent has what was made of its fronts
+pub followed : (i : Inside) (change : Change) (plans : List Sampled) (journal lent new : List ℕ) → IsRoomy i → plans ≡ i.plans.items → journal ≡ i.journal.items →
+    lent ≡ i.fronts.items → (EachHas (IsFront journal) (options_of plans) lent → EachHas (IsFront (journal_after change journal)) (options_of plans) new) →
+    EachHas (IsFront (journal_after change i.journal.items)) (options_of i.plans.items) (with_items i.fronts new).items
+followed i change plans journal lent new roomy same_plans same_journal same_fronts makes =
+    let before : EachHas (IsFront journal) (options_of plans) lent =
+    subst (EachHas (IsFront journal) (options_of plans)) (sym same_fronts)
+    (subst₂ (λ (ps : List Sampled) (j : List ℕ). EachHas (IsFront j) (options_of ps) i.fronts.items) (sym same_plans) (sym same_journal) roomy.fronts) in
+    let made : EachHas (IsFront (journal_after change i.journal.items)) (options_of i.plans.items) new =
+    subst₂ (λ (ps : List Sampled) (j : List ℕ). EachHas (IsFront (journal_after change j)) (options_of ps) new) same_plans same_journal (makes before) in
+    subst (EachHas (IsFront (journal_after change i.journal.items)) (options_of i.plans.items))
+    (sym (with_items_is i.fronts new (made.one_each ∙ sym roomy.fronts.one_each ∙ sym i.fronts.ok.0))) made
 
--- the vector that was lent has what was made of its tracks
-pub followed : (i : Inside) (change : Change) (plans : List Sampled) (journal : List ℕ) (lent new : List Track) → IsRoomy i → plans ≡ i.plans.items → journal ≡ i.journal.items →
-    lent ≡ i.tracks.items → ((bans : List (ℕ × ℕ)) → EachHas (IsTrack journal bans) (options_of plans) lent →
-    EachHas (IsTrack (journal_after change journal) (bans_after change bans)) (options_of plans) new) →
-    EachHas (IsTrack (journal_after change i.journal.items) (bans_after change (pairs_of_bans i.bans.items))) (options_of i.plans.items) (with_items i.tracks new).items
-followed i change plans journal lent new roomy same_plans same_journal same_tracks makes =
-    let bans = pairs_of_bans i.bans.items in
-    let before : EachHas (IsTrack journal bans) (options_of plans) lent =
-    subst (EachHas (IsTrack journal bans) (options_of plans)) (sym same_tracks)
-    (subst₂ (λ (ps : List Sampled) (j : List ℕ). EachHas (IsTrack j bans) (options_of ps) i.tracks.items) (sym same_plans) (sym same_journal) roomy.tracks) in
-    let made : EachHas (IsTrack (journal_after change i.journal.items) (bans_after change bans)) (options_of i.plans.items) new =
-    subst₂ (λ (ps : List Sampled) (j : List ℕ). EachHas (IsTrack (journal_after change j) (bans_after change bans)) (options_of ps) new) same_plans same_journal (makes bans before) in
-    subst (EachHas (IsTrack (journal_after change i.journal.items) (bans_after change bans)) (options_of i.plans.items))
-    (sym (with_items_is i.tracks new (made.one_each ∙ sym roomy.tracks.one_each ∙ sym i.tracks.ok.0))) made
+-- what the sides tell, as they are lent
+pub telling : (i : Inside) (plans : List Sampled) (journal : List ℕ) → IsRoomy i → plans ≡ i.plans.items → journal ≡ i.journal.items →
+    (bans : List ℕ) × Tells (options_of plans) journal bans i.sides
+telling i plans journal roomy same_plans same_journal = (
+  banned (pairs_of_bans i.bans.items),
+  subst₂ (λ (ps : List Sampled) (j : List ℕ). Tells (options_of ps) j (banned (pairs_of_bans i.bans.items)) i.sides) (sym same_plans) (sym same_journal) roomy.sides,
+)
+
+-- what they tell when they are made anew
+pub told_again : (i : Inside) → IsRoomy i → (folds : List FoldRow) (journal bans : List ℕ) (done excluded : LeafSet LEAF_WORDS) (sides : Sides) → folds ≡ i.folds.items →
+    ((os : List ChoiceOption) (journal bans : List ℕ) → Each IsOrderedOption os → Each (AreServing folds) os → IsSetOf journal done → IsSetOf bans excluded → Tells os journal bans sides) →
+    IsSetOf journal done → IsSetOf bans excluded → Tells (options_of i.plans.items) journal bans sides
+told_again i roomy folds journal bans done excluded sides same makes done_are banned_are =
+    makes (options_of i.plans.items) journal bans roomy.kept.ordered (subst (λ (l : List FoldRow). Each (AreServing l) (options_of i.plans.items)) (sym same) roomy.served) done_are banned_are

@@ -1,10 +1,13 @@
 pub mod OptionLemmas
-pub mod BanLemmas
+pub mod FoldedSteps
+pub mod Avoiding
+pub mod TellingLemmas
 pub mod FrontLemmas
-pub mod DoneLemmas
+pub mod SetLemmas
 pub mod KeptLemmas
 pub mod FewLemmas
 pub mod QuestionLemmas
+pub mod Following
 pub mod OpenPlaces
 pub mod Numbering
 pub mod Outstanding

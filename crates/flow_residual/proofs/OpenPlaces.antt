@@ -14,7 +14,7 @@ use Rattle.flow_model.proofs.Lists.{each_to, each_member, each_from_members, eac
 use Rattle.flow_plan.proofs.PlaceLemmas.{distinct_of_rising, place_of_member, read_member, rising_never_falls}
 use Rattle.flow_residual.specs.Remaining.{Remaining, IsOf, IsAvoidable}
 use Rattle.flow_residual.specs.Invariant.{AreOpenPlaces}
-use Rattle.flow_residual.proofs.BanLemmas.{mem-filter, of_filter}
+use Rattle.flow_residual.proofs.SetLemmas.{mem-filter, of_filter}
 
 -- ---- of the definitions alone
 

@@ -1,20 +1,15 @@
 -- Options that are looked through one by one, and what stands beside them.
-use Rattle.std.proofs.Common.{◌≡◌, ℕ, zero, suc, ◌+◌, ◌<◌, ◌≤◌, Bool, true, false, ◌↔◌, IsTrue, List, [], ◌∷◌, length, get_or, set, replicate, Some, slice_get, refl, sym, ap, ◌∙◌, subst, subst₂, inl, inr, ◌⊎◌, ⊎_elim, below_more, arith, get_or-set_same, get_or-set_other}
+use Rattle.std.proofs.Common.{◌≡◌, ℕ, zero, suc, ◌+◌, ◌<◌, ◌≤◌, Bool, true, false, ◌↔◌, IsTrue, List, [], ◌∷◌, ◌++◌, length, get_or, set, take, Some, slice_get, refl, sym, ap, ◌∙◌, subst, inl, inr, ◌⊎◌, ⊎_elim, below_more, arith, get_or-set_same, get_or-set_other}
 use Rattle.std.proofs.Math.ListN.{length-set}
-use Rattle.std.proofs.lemmas.List.{get_or-replicate, get_or_default, length-replicate}
+use Rattle.std.proofs.lemmas.List.{get_or_default, map-append, take_all, take_more}
 use Rattle.std.proofs.lemmas.Bool.{cases_lt}
 use Rattle.std.proofs.lemmas.Option.{slice_get_within}
-use Rattle.flow_model.specs.declared.limits.TheConstants.{MOST_LEAVES}
-use Rattle.flow_model.proofs.Lists.{mem-slice_get, each_member}
+use Rattle.flow_model.proofs.Lists.{each-append, mem-slice_get}
 use Rattle.flow_model.specs.Lists.{◌∈◌, Each}
-use Rattle.flow_model.specs.Process.{leaves}
 use Rattle.flow_model.specs.Resolution.{ChoiceOption}
-use Rattle.flow_plan.specs.Orders.{Fits}
 use Rattle.flow_plan.specs.Planned.{Planned}
-use Rattle.flow_plan.specs.Progress.{bound_of}
 use Rattle.flow_plan.specs.Sampled.{Sampled}
-use Rattle.flow_plan.specs.declared.progress.Progress.{Progress}
-use Rattle.flow_plan.specs.Options.{options_of, option_of, HasSmallLeaves}
+use Rattle.flow_plan.specs.Options.{options_of, option_of}
 use Rattle.flow_residual.specs.Options.{SomeOption, NoneBelow, SomeBelow, EachHas}
 
 -- a member stands at some place
@@ -83,23 +78,11 @@ plan_at [] k s within is = absurd (omega arith)
 plan_at (q ∷ plans) zero s within is = ap (λ (t : Sampled). Some (option_of t.plan)) (sym is)
 plan_at (q ∷ plans) (suc k) s within is = plan_at plans k s (omega arith) is
 
--- its leaves may be noted
-pub fits_at : (plans : List Sampled) → Each HasSmallLeaves (options_of plans) → (k : ℕ) (s : Sampled) (p : Planned) (done : Progress) → k < length plans → s ≡ get_or plans k s → p ≡ s.plan →
-    bound_of done ≡ MOST_LEAVES → Fits p done
-fits_at plans fits k s p done within is same bound =
-    let at = plan_at plans k s within is in
-    subst₂ (λ (b : ℕ) (q : Planned). Each (λ n. n < b) (leaves q.process)) (sym bound) (sym same)
-    (each_member HasSmallLeaves (options_of plans) fits (option_of s.plan) (mem-slice_get (options_of plans) k (option_of s.plan) at))
+-- an option stands where its plan does
+pub option_member : (plans : List Sampled) (k : ℕ) (s : Sampled) → k < length plans → s ≡ get_or plans k s → option_of s.plan ∈ options_of plans
+option_member plans k s within is = mem-slice_get (options_of plans) k (option_of s.plan) (plan_at plans k s within is)
 
 -- ---- what stands beside the options
-
-pub each_alike : {A : Type 0} (R : ChoiceOption → A → Type 0) (os : List ChoiceOption) (n : ℕ) (a : A) → n ≡ length os → ((o : ChoiceOption) → R o a) → EachHas R os (replicate n a)
-each_alike R os n a long all = record {
-  one_each = length-replicate n a ∙ long;
-  each = λ k o x at is.
-      let within : k < n = omega (arith, long, slice_get_within os k o at) in
-      subst (R o) (sym (is ∙ get_or-replicate n k a x within)) (all o);
-}
 
 -- those before the place have changed, the others not yet
 pub record AreTurned {A : Type 0} (i : ℕ) (R S : ChoiceOption → A → Type 0) (os : List ChoiceOption) (xs : List A) : Type 0 where
@@ -133,3 +116,16 @@ turned_by R S plans i v d xs s p within is same are makes = turned_set R S (opti
     let here : option_of p ≡ o = same_plan plans i s p o is same at in
     let first : i ≤ i = omega arith in
     subst (λ q. S q v) here (makes (subst (λ q. R q (get_or xs i d)) (sym here) (are.old i first o (get_or xs i d) at (get_or_default xs i d (get_or xs i d) within)))))
+
+-- ---- what each plan says of itself
+
+pub each_plan_more : (P : ChoiceOption → Type 0) (plans : List Sampled) (i : ℕ) (s : Sampled) (p : Planned) → i < length plans → s ≡ get_or plans i s → p ≡ s.plan → P (option_of p) →
+    Each P (options_of (take i plans)) → Each P (options_of (take (i + 1) plans))
+each_plan_more P plans i s p within is same says all =
+    let more : take (i + 1) plans ≡ take i plans ++ s ∷ [] = take_more plans i s within ∙ ap (λ (t : Sampled). take i plans ++ t ∷ []) (sym is) in
+    subst (λ (l : List Sampled). Each P (options_of l)) (sym more)
+    (subst (Each P) (sym (map-append (λ (t : Sampled). option_of t.plan) (take i plans) (s ∷ [])))
+    (each-append P (options_of (take i plans)) (option_of s.plan ∷ []) all (subst (λ (t : Planned). P (option_of t)) same says, tt)))
+
+pub each_plan_all : (P : ChoiceOption → Type 0) (plans : List Sampled) (i : ℕ) → length plans ≤ i → Each P (options_of (take i plans)) → Each P (options_of plans)
+each_plan_all P plans i past all = subst (λ (l : List Sampled). Each P (options_of l)) (take_all i plans past) all

@@ -1,126 +1,43 @@
--- What is possible, by the options that remain and by the workflow.
-use Rattle.std.proofs.Common.{◌≡◌, ℕ, Bool, true, false, not, ◌↔◌, IsTrue, List, [], ◌∷◌, ◌++◌, refl, sym, subst, inl, inr, ◌⊎◌, ⊎_elim, append-nil}
-use Rattle.flow_model.specs.Lists.{◌∈◌, Each, Begins, IsOrderOf}
+-- What plans say of the options that remain, and what is asked of all of them.
+use Rattle.std.proofs.Common.{◌≡◌, ℕ, Bool, true, false, not, ◌&&◌, ◌↔◌, IsTrue, List, [], ◌∷◌, ◌++◌, refl, sym, ◌∙◌, subst, inl, inr, ◌⊎◌, ⊎_elim, append-nil}
+use Rattle.std.proofs.lemmas.Bool.{and_from, and_parts}
+use Rattle.leaf_rows.specs.Leaves.{has_leaf}
+use Rattle.flow_model.specs.Lists.{◌∈◌, Each, IsOrderOf}
 use Rattle.flow_model.specs.Process.{Process, leaves}
-use Rattle.flow_model.specs.Schema.{Schema, IsGood}
-use Rattle.flow_model.specs.Resolution.{ChoiceOption, OptionTrace, options}
-use Rattle.flow_model.specs.Ready.{IsReady, IsReadyRun, IsReadyRunAfter, DoneOr}
-use Rattle.flow_model.specs.Run.{RunState, IsFree, MayFollow, MayAllFollow, MayFollowFirst}
-use Rattle.flow_laws.specs.Orders.{IsAlive}
-use Rattle.flow_model.proofs.Lists.{each_member, each_from_members}
-use Rattle.flow_model.proofs.MadeLists.{order_member, same_order, order_with_last}
+use Rattle.flow_model.specs.Resolution.{ChoiceOption}
+use Rattle.flow_model.specs.Ready.{DoneOr}
+use Rattle.flow_model.specs.FoldedReady.{IsFoldedReady, IsFoldedRunAfter}
 use Rattle.flow_model.specs.Decided.{order_of_none}
-use Rattle.flow_laws.proofs.TraceLeaves.{leaf_of_trace, leaf_in_trace}
-use Rattle.flow_laws.proofs.OptionsLemmas.{option_is_ordered, option_of_good, option_trace_is_good}
-use Rattle.flow_laws.proofs.RunsByStep.{each_two_order}
-use Rattle.flow_laws.proofs.OrdersByTwo.{side_by_side_of, orders_ready, alive_of_follow, follow_of_alive}
-use Rattle.flow_laws.proofs.ReadyRuns.{same_ready, same_run, complete_runs_are_traces}
+use Rattle.flow_model.proofs.Lists.{each_member, each_from_members, mem-append, mem_by_halves, mem_swap}
+use Rattle.flow_model.proofs.MadeLists.{order_member, same_order, order_with_last}
+use Rattle.flow_laws.proofs.RunsByStep.{each_of_orders, two_of_orders, orders_of_two, each_two_order, AreSame}
+use Rattle.flow_fold_laws.proofs.FoldedOrdersByTwo.{same_folded_ready, folded_by_step, folded_ready_after_all}
 use Rattle.flow_plan.specs.Planned.{Planned, pairs_of}
-use Rattle.flow_plan.specs.Progress.{IsDone}
+use Rattle.flow_plan.specs.Sided.{IsDoneIn}
 use Rattle.flow_plan.specs.Orders.{MayComeNext as MayComeNextIn, MayFollowInEveryOrder}
-use Rattle.flow_plan.specs.declared.progress.Progress.{Progress}
-use Rattle.flow_plan.specs.Options.{HasExecution, AreJustThose, option_of}
-use Rattle.flow_plan.proofs.KeptOptions.{kept_has}
-use Rattle.flow_residual.specs.Remaining.{Remaining, IsOf, IsLive, MayComeNext, IsAvoidable}
+use Rattle.flow_plan.specs.Options.{option_of}
+use Rattle.flow_plan.specs.declared.sides.Sides.{Sides}
+use Rattle.flow_residual.specs.Remaining.{Remaining, MayComeNext, StillAvoids, banned}
 use Rattle.flow_residual.specs.Options.{SomeOption}
-use Rattle.flow_residual.specs.Question.{AllFollow, FollowsFirst, TakesAll, TakesFirst, LeavesOut, IsFinished}
-use Rattle.flow_residual.proofs.DoneLemmas.{AreDone}
-
--- ---- the options that have an execution
-
-pub has_kept : (os kept : List ChoiceOption) → AreJustThose HasExecution os kept → (o : ChoiceOption) → o ∈ os → HasExecution o → o ∈ kept
-has_kept [] kept h o m x = absurd m
-has_kept (p ∷ os) kept (inl (g, (rest, e, s))) o (inl i) x = subst (λ (l : List ChoiceOption). o ∈ l) (sym e) (inl i)
-has_kept (p ∷ os) kept (inl (g, (rest, e, s))) o (inr m) x = subst (λ (l : List ChoiceOption). o ∈ l) (sym e) (inr (has_kept os rest s o m x))
-has_kept (p ∷ os) kept (inr (n, s)) o (inl i) x = absurd (n (subst HasExecution i x))
-has_kept (p ∷ os) kept (inr (n, s)) o (inr m) x = has_kept os kept s o m x
-
--- ---- live options are those that are alive
-
-module _ (w : Schema) (s : RunState) (r : Remaining) (f : IsOf w s r) where
-  pub live_of_alive : (o : ChoiceOption) → o ∈ options w → IsAlive s o → IsLive r o
-  live_of_alive o m alive = record {
-    among = has_kept (options w) r.options f.options_are o m alive.has_trace;
-    unbanned = subst (λ (bans : List (ℕ × ℕ)). Each (λ ban. ¬ (ban.1 ∈ leaves o.resolution)) bans) f.bans_are alive.unbanned;
-    journal_ready = subst (IsReadyRun o.resolution o.order) f.journal_is alive.journal;
-  }
-
-  pub option_of_live : (o : ChoiceOption) → o ∈ r.options → (o ∈ options w) × HasExecution o
-  option_of_live o m = kept_has (options w) r.options f.options_are o m
-
-  pub alive_of_live : (o : ChoiceOption) → IsLive r o → IsAlive s o
-  alive_of_live o live = record {
-    has_trace = (option_of_live o live.among).1;
-    unbanned = subst (λ (bans : List (ℕ × ℕ)). Each (λ ban. ¬ (ban.1 ∈ leaves o.resolution)) bans) (sym f.bans_are) live.unbanned;
-    journal = subst (IsReadyRun o.resolution o.order) (sym f.journal_is) live.journal_ready;
-  }
-
-  -- leaves that may follow in an option come next after the journal in a live one, and the other way round
-  pub run_of_follow : (o : ChoiceOption) → o ∈ options w → (next : List ℕ) → MayFollow w s o next →
-      IsLive r o × IsReadyRunAfter o.resolution o.order (λ n. n ∈ r.journal) next
-  run_of_follow o m next follows =
-      let alive = alive_of_follow w f.well_formed s o m next follows in
-      (live_of_alive o m alive.0, subst (λ (j : List ℕ). IsReadyRunAfter o.resolution o.order (λ n. n ∈ j) next) f.journal_is alive.1)
-
-  pub follow_of_run : (o : ChoiceOption) → IsLive r o → (next : List ℕ) → IsReadyRunAfter o.resolution o.order (λ n. n ∈ r.journal) next → MayFollow w s o next
-  follow_of_run o live next run =
-      follow_of_alive w f.well_formed s o (option_of_live o live.among).0 next (alive_of_live o live)
-      (subst (λ (j : List ℕ). IsReadyRunAfter o.resolution o.order (λ n. n ∈ j) next) (sym f.journal_is) run)
-
-  pub may_all_follow : (list : List ℕ) → SomeOption (TakesAll r list) r.options ↔ MayAllFollow w s list
-  may_all_follow list = (
-    λ (o, m, (live, all)). (o, (option_of_live o live.among).0, λ order is. follow_of_run o live order (all order is)),
-    λ (o, m, all). let live = (run_of_follow o m list (all list (same_order list))).0 in
-        (o, live.among, (live, λ order is. (run_of_follow o m order (all order is)).1)),
-  )
-
-  pub may_follow_first : (first : ℕ) (list : List ℕ) → SomeOption (TakesFirst r first list) r.options ↔ MayFollowFirst w s first list
-  may_follow_first first list = (
-    λ (o, m, (live, (ready, all))). (o, (option_of_live o live.among).0, λ order is. follow_of_run o live (first ∷ order) (ready, all order is)),
-    λ (o, m, all). let there = run_of_follow o m (first ∷ list) (all list (same_order list)) in
-        (o, there.0.among, (there.0, (there.1.0, λ order is. (run_of_follow o m (first ∷ order) (all order is)).1.1))),
-  )
-
-  -- a free trace is one of some live option
-  live_of_free : (t : List ℕ) → IsFree w s t → (o : ChoiceOption) × IsLive r o × OptionTrace o t × (o ∈ options w)
-  live_of_free t free =
-      let (o, m, trace) = option_of_good w f.well_formed t free.0 in
-      let begins : Begins t (s.journal ++ []) = subst (Begins t) (sym (append-nil s.journal)) free.1 in
-      (o, (run_of_follow o m [] (t, trace, free, begins)).0, trace, m)
-
-  pub is_avoidable : (leaf : ℕ) → SomeOption (LeavesOut r leaf) r.options ↔ IsAvoidable w s leaf
-  is_avoidable leaf = (
-    λ (o, m, (live, lacks)). let (t, trace, free, begins) = follow_of_run o live [] tt in
-        (t, free, λ there. lacks (leaf_of_trace o.resolution t trace.0 leaf there)),
-    λ (t, free, lacks). let (o, live, trace, m) = live_of_free t free in
-        (o, live.among, (live, λ there. lacks (leaf_in_trace o.resolution (option_is_ordered w f.well_formed o m).choice_free t trace.0 leaf there))),
-  )
-
-  pub is_good : SomeOption (IsFinished r) r.options ↔ IsGood w s.journal
-  is_good = (
-    λ (o, m, run). let there = (option_of_live o m).0 in
-        let ordered = option_is_ordered w f.well_formed o there in
-        option_trace_is_good w f.well_formed s.journal o there
-        ((complete_runs_are_traces o.resolution o.order ordered s.journal).0 (subst (λ (j : List ℕ). IsFinished (record r { journal = j }) o) (sym f.journal_is) run)),
-    λ good. let (o, m, trace) = option_of_good w f.well_formed s.journal good in
-        let ordered = option_is_ordered w f.well_formed o m in (
-          o,
-          has_kept (options w) r.options f.options_are o m (s.journal, trace),
-          subst (λ (j : List ℕ). IsFinished (record r { journal = j }) o) f.journal_is ((complete_runs_are_traces o.resolution o.order ordered s.journal).1 trace),
-        ),
-  )
+use Rattle.flow_residual.specs.Telling.{IsOrderedOption, IsSetOf, Tells}
+use Rattle.flow_residual.specs.Question.{AllFollow, FollowsFirst, FollowsSo, TakesAll, TakesFirst, Takes, TakesInOrder, with_claims, CanBegin, IsBarred}
+use Rattle.flow_residual.specs.declared.question.Stand.{Stand}
+use Rattle.flow_residual.specs.declared.question.Stand.TheVariants.{Among, First}
+use Rattle.flow_residual.proofs.Avoiding.{one_of, together}
+use Rattle.flow_residual.proofs.TellingLemmas.{free_begins, barred_keeps}
+use Rattle.flow_residual.proofs.FewLemmas.{run_of_follows}
+use Rattle.flow_residual.proofs.FoldedSteps.{run_leaf, same_run}
 
 -- ---- what plans say of their options
 
 -- in which order the leaves of a list are told does not matter
-pub orders_moved : (q : Process) (pairs : List (ℕ × ℕ)) (Done : ℕ → Type 0) (list other : List ℕ) → IsOrderOf other list →
-    ((order : List ℕ) → IsOrderOf order list → IsReadyRunAfter q pairs Done order) → (order : List ℕ) → IsOrderOf order other → IsReadyRunAfter q pairs Done order
+orders_moved : (q : Process) (pairs : List (ℕ × ℕ)) (Done : ℕ → Type 0) (list other : List ℕ) → IsOrderOf other list →
+    ((order : List ℕ) → IsOrderOf order list → IsFoldedRunAfter q pairs Done order) → (order : List ℕ) → IsOrderOf order other → IsFoldedRunAfter q pairs Done order
 orders_moved q pairs Done list other is all =
-    let side = side_by_side_of q pairs Done list all in
-    orders_ready q pairs Done other (record {
-      each = each_from_members (IsReady q pairs Done) other (λ x m. each_member (IsReady q pairs Done) list side.each x (order_member x other list is m));
-      two = each_two_order (λ x y. IsReady q pairs (DoneOr Done (x ∷ [])) y) other list is side.two;
-    })
+    let by_step = folded_by_step q pairs in
+    orders_of_two by_step Done (folded_ready_after_all q pairs Done) other
+    (each_from_members (IsFoldedReady q pairs Done) other (λ x m. each_member (IsFoldedReady q pairs Done) list (each_of_orders by_step Done list all) x (order_member x other list is m)))
+    (each_two_order (λ x y. IsFoldedReady q pairs (DoneOr Done (x ∷ [])) y) other list is (two_of_orders by_step Done list all))
 
 last_first : (x : ℕ) (list : List ℕ) → IsOrderOf (x ∷ list) (list ++ x ∷ [])
 last_first x list = (list, [], refl, subst (IsOrderOf list) (sym (append-nil list)) (same_order list))
@@ -128,40 +45,93 @@ last_first x list = (list, [], refl, subst (IsOrderOf list) (sym (append-nil lis
 first_last : (x : ℕ) (list : List ℕ) → IsOrderOf (list ++ x ∷ []) (x ∷ list)
 first_last x list = order_with_last list x [] list (same_order list)
 
-module _ (p : Planned) (done : Progress) (journal : List ℕ) (same : AreDone done journal) where
-  to_journal : (n : ℕ) → IsDone done n → n ∈ journal
-  to_journal n = (same n).0
+module _ (p : Planned) (sides : Sides) (journal : List ℕ) (same : IsSetOf journal sides.done) where
+  as_journal : AreSame (IsDoneIn sides) (λ x. x ∈ journal)
+  as_journal = same
 
-  from_journal : (n : ℕ) → n ∈ journal → IsDone done n
-  from_journal n = (same n).1
+  as_done : AreSame (λ x. x ∈ journal) (IsDoneIn sides)
+  as_done n = ((same n).1, (same n).0)
 
-  comes_next : (n : ℕ) → MayComeNextIn p (IsDone done) n ↔ IsReady p.process (pairs_of p.tokens) (λ x. x ∈ journal) n
+  comes_next : (n : ℕ) → MayComeNextIn p (IsDoneIn sides) n ↔ IsFoldedReady p.process (pairs_of p.tokens) (λ x. x ∈ journal) n
   comes_next n = (
-    same_ready p.process (pairs_of p.tokens) (IsDone done) (λ x. x ∈ journal) n to_journal from_journal,
-    same_ready p.process (pairs_of p.tokens) (λ x. x ∈ journal) (IsDone done) n from_journal to_journal,
+    same_folded_ready p.process (pairs_of p.tokens) (IsDoneIn sides) (λ x. x ∈ journal) n (λ x. (same x).0) (λ x. (same x).1),
+    same_folded_ready p.process (pairs_of p.tokens) (λ x. x ∈ journal) (IsDoneIn sides) n (λ x. (same x).1) (λ x. (same x).0),
   )
 
-  pub next_of_option : (o : ChoiceOption) → option_of p ≡ o → (n : ℕ) → MayComeNextIn p (IsDone done) n ↔ IsReady o.resolution o.order (λ x. x ∈ journal) n
+  pub next_of_option : (o : ChoiceOption) → option_of p ≡ o → (n : ℕ) → MayComeNextIn p (IsDoneIn sides) n ↔ IsFoldedReady o.resolution o.order (λ x. x ∈ journal) n
   next_of_option o is n =
-      subst (λ (q : ChoiceOption). MayComeNextIn p (IsDone done) n ↔ IsReady q.resolution q.order (λ x. x ∈ journal) n) is (comes_next n)
+      subst (λ (q : ChoiceOption). MayComeNextIn p (IsDoneIn sides) n ↔ IsFoldedReady q.resolution q.order (λ x. x ∈ journal) n) is (comes_next n)
 
-  pub all_come_next : (claims : List ℕ) (leaf : ℕ) (o : ChoiceOption) → option_of p ≡ o → MayFollowInEveryOrder p (IsDone done) (leaf ∷ claims) ↔ AllFollow journal (claims ++ leaf ∷ []) o
-  all_come_next claims leaf o is = subst (λ (q : ChoiceOption). MayFollowInEveryOrder p (IsDone done) (leaf ∷ claims) ↔ AllFollow journal (claims ++ leaf ∷ []) q) is (
-    λ all order is. same_run p.process (pairs_of p.tokens) (IsDone done) (λ x. x ∈ journal) order to_journal from_journal
-        (orders_moved p.process (pairs_of p.tokens) (IsDone done) (leaf ∷ claims) (claims ++ leaf ∷ []) (first_last leaf claims) all order is),
-    λ all order is. same_run p.process (pairs_of p.tokens) (λ x. x ∈ journal) (IsDone done) order from_journal to_journal
+  pub all_come_next : (claims : List ℕ) (leaf : ℕ) (o : ChoiceOption) → option_of p ≡ o → MayFollowInEveryOrder p (IsDoneIn sides) (leaf ∷ claims) ↔ AllFollow journal (claims ++ leaf ∷ []) o
+  all_come_next claims leaf o is = subst (λ (q : ChoiceOption). MayFollowInEveryOrder p (IsDoneIn sides) (leaf ∷ claims) ↔ AllFollow journal (claims ++ leaf ∷ []) q) is (
+    λ all order is. same_run p.process (pairs_of p.tokens) (IsDoneIn sides) (λ x. x ∈ journal) order as_journal
+        (orders_moved p.process (pairs_of p.tokens) (IsDoneIn sides) (leaf ∷ claims) (claims ++ leaf ∷ []) (first_last leaf claims) all order is),
+    λ all order is. same_run p.process (pairs_of p.tokens) (λ x. x ∈ journal) (IsDoneIn sides) order as_done
         (orders_moved p.process (pairs_of p.tokens) (λ x. x ∈ journal) (claims ++ leaf ∷ []) (leaf ∷ claims) (last_first leaf claims) all order is),
   )
 
   pub follows_first : (first : ℕ) (claims : List ℕ) (o : ChoiceOption) → option_of p ≡ o →
-      (MayComeNextIn p (IsDone done) first × MayFollowInEveryOrder p (DoneOr (IsDone done) (first ∷ [])) claims) ↔ FollowsFirst journal first claims o
+      (MayComeNextIn p (IsDoneIn sides) first × MayFollowInEveryOrder p (DoneOr (IsDoneIn sides) (first ∷ [])) claims) ↔ FollowsFirst journal first claims o
   follows_first first claims o is =
-      let to = λ (n : ℕ) (d : DoneOr (IsDone done) (first ∷ []) n). ⊎_elim (λ d. inl (to_journal n d)) inr d in
-      let from = λ (n : ℕ) (d : DoneOr (λ x. x ∈ journal) (first ∷ []) n). ⊎_elim (λ d. inl (from_journal n d)) inr d in
-      subst (λ (q : ChoiceOption). (MayComeNextIn p (IsDone done) first × MayFollowInEveryOrder p (DoneOr (IsDone done) (first ∷ [])) claims) ↔ FollowsFirst journal first claims q) is (
-        λ both. ((comes_next first).0 both.0, λ order is. same_run p.process (pairs_of p.tokens) _ _ order to from (both.1 order is)),
-        λ both. ((comes_next first).1 both.0, λ order is. same_run p.process (pairs_of p.tokens) _ _ order from to (both.1 order is)),
+      let later : AreSame (DoneOr (IsDoneIn sides) (first ∷ [])) (DoneOr (λ x. x ∈ journal) (first ∷ [])) =
+      λ n. (⊎_elim (λ d. inl ((same n).0 d)) inr, ⊎_elim (λ d. inl ((same n).1 d)) inr) in
+      let back : AreSame (DoneOr (λ x. x ∈ journal) (first ∷ [])) (DoneOr (IsDoneIn sides) (first ∷ [])) = λ n. ((later n).1, (later n).0) in
+      subst (λ (q : ChoiceOption). (MayComeNextIn p (IsDoneIn sides) first × MayFollowInEveryOrder p (DoneOr (IsDoneIn sides) (first ∷ [])) claims) ↔ FollowsFirst journal first claims q) is (
+        λ both. ((comes_next first).0 both.0, λ order is. same_run p.process (pairs_of p.tokens) _ _ order later (both.1 order is)),
+        λ both. ((comes_next first).1 both.0, λ order is. same_run p.process (pairs_of p.tokens) _ _ order back (both.1 order is)),
       )
+
+-- where the first leaf is already among the done ones
+pub follows_after : (p : Planned) (sides : Sides) (journal : List ℕ) (first : ℕ) (claims : List ℕ) (o : ChoiceOption) → IsSetOf (journal ++ first ∷ []) sides.done → option_of p ≡ o →
+    MayFollowInEveryOrder p (IsDoneIn sides) claims ↔ ((order : List ℕ) → IsOrderOf order claims → IsFoldedRunAfter o.resolution o.order (DoneOr (λ n. n ∈ journal) (first ∷ [])) order)
+follows_after p sides journal first claims o same is =
+    let later : AreSame (IsDoneIn sides) (DoneOr (λ x. x ∈ journal) (first ∷ [])) = λ n. (λ h. halves n ((same n).0 h), λ h. (same n).1 (whole n h)) in
+    let back : AreSame (DoneOr (λ x. x ∈ journal) (first ∷ [])) (IsDoneIn sides) = λ n. ((later n).1, (later n).0) in
+    subst (λ (q : ChoiceOption). MayFollowInEveryOrder p (IsDoneIn sides) claims ↔ ((order : List ℕ) → IsOrderOf order claims → IsFoldedRunAfter q.resolution q.order (DoneOr (λ n. n ∈ journal) (first ∷ [])) order)) is (
+      λ all order is. same_run p.process (pairs_of p.tokens) _ _ order later (all order is),
+      λ all order is. same_run p.process (pairs_of p.tokens) _ _ order back (all order is),
+    )
+  where
+    halves : (n : ℕ) → n ∈ (journal ++ first ∷ []) → DoneOr (λ x. x ∈ journal) (first ∷ []) n
+    halves n m = mem-append n journal (first ∷ []) m
+
+    whole : (n : ℕ) → DoneOr (λ x. x ∈ journal) (first ∷ []) n → n ∈ (journal ++ first ∷ [])
+    whole n = mem_by_halves n journal (first ∷ []) (λ m. m) (λ m. m)
+
+-- ---- leaves that may be begun
+
+-- those that an option takes
+pub taken_member : (o : ChoiceOption) (journal claims : List ℕ) (stand : Stand) (leaf : ℕ) → FollowsSo journal claims stand leaf o → (n : ℕ) → n ∈ with_claims claims stand leaf → n ∈ leaves o.resolution
+taken_member o journal claims stand leaf follows = run_leaf o.resolution o.order (λ n. n ∈ journal) (with_claims claims stand leaf) (run_of_follows o journal claims stand leaf follows)
+
+pub is_claimed : (claims : List ℕ) (stand : Stand) (leaf n : ℕ) → n ∈ with_claims claims stand leaf → n ∈ (leaf ∷ claims)
+is_claimed claims Among leaf n m = mem_swap n claims (leaf ∷ []) m
+is_claimed claims First leaf n m = m
+
+pub claimed_is : (claims : List ℕ) (stand : Stand) (leaf n : ℕ) → n ∈ (leaf ∷ claims) → n ∈ with_claims claims stand leaf
+claimed_is claims Among leaf n m = mem_swap n (leaf ∷ []) claims m
+claimed_is claims First leaf n m = m
+
+-- where each may be begun, a live option in which they may follow stays live
+pub takes_of : (r : Remaining) (claims : List ℕ) (stand : Stand) (leaf : ℕ) (o : ChoiceOption) → TakesInOrder r claims stand leaf o →
+    ((n : ℕ) → n ∈ (leaf ∷ claims) → StillAvoids r (n ∷ []) o) → Takes r claims stand leaf o
+takes_of r claims stand leaf o (live, follows) each = (
+  live,
+  follows,
+  together o.resolution o.order r.journal (banned r.bans) (with_claims claims stand leaf) (run_of_follows o r.journal claims stand leaf follows) live.avoids
+      (λ n m. each n (is_claimed claims stand leaf n m)),
+)
+
+pub takes_where_free : (r : Remaining) (claims : List ℕ) (stand : Stand) (leaf : ℕ) (o : ChoiceOption) → Each (CanBegin r) (leaf ∷ claims) → TakesInOrder r claims stand leaf o → Takes r claims stand leaf o
+takes_where_free r claims stand leaf o free taken = takes_of r claims stand leaf o taken
+    (λ n m. each_member (CanBegin r) (leaf ∷ claims) free n m o taken.0 (taken_member o r.journal claims stand leaf taken.1 n (claimed_is claims stand leaf n m)))
+
+-- a barred leaf is not taken
+pub not_barred : (r : Remaining) (claims : List ℕ) (stand : Stand) (leaf n : ℕ) (o : ChoiceOption) → n ∈ (leaf ∷ claims) → Takes r claims stand leaf o → ¬ (IsBarred r n)
+not_barred r claims stand leaf n o m (live, follows, still) barred =
+    let there = claimed_is claims stand leaf n m in
+    barred o live (taken_member o r.journal claims stand leaf follows n there)
+    (one_of o.resolution (λ x. x ∈ r.journal) (λ x. x ∈ banned r.bans) (with_claims claims stand leaf) n still there)
 
 -- ---- answers
 
@@ -171,17 +141,30 @@ in_words b P Q says same = (λ yes. same.0 (says.0 yes), λ q. says.1 (same.1 q)
 
 -- each leaf of those that an option takes, and the first, may come next
 pub each_comes_next : (r : Remaining) (list : List ℕ) → SomeOption (TakesAll r list) r.options → Each (MayComeNext r) list
-each_comes_next r list (o, m, (live, all)) = each_from_members (MayComeNext r) list (λ n member.
-    (o, live, each_member (IsReady o.resolution o.order (λ x. x ∈ r.journal)) list (side_by_side_of o.resolution o.order (λ x. x ∈ r.journal) list all).each n member))
+each_comes_next r list (o, m, (live, all, still)) = each_from_members (MayComeNext r) list (λ n member. (
+  o,
+  live,
+  each_member (IsFoldedReady o.resolution o.order (λ x. x ∈ r.journal)) list (each_of_orders (folded_by_step o.resolution o.order) (λ x. x ∈ r.journal) list all) n member,
+  one_of o.resolution (λ x. x ∈ r.journal) (λ x. x ∈ banned r.bans) list n still member,
+))
 
 pub first_comes_next : (r : Remaining) (first : ℕ) (list : List ℕ) → SomeOption (TakesFirst r first list) r.options → MayComeNext r first
-first_comes_next r first list (o, m, (live, (ready, all))) = (o, live, ready)
+first_comes_next r first list (o, m, (live, (ready, all), still)) = (
+  o,
+  live,
+  ready,
+  one_of o.resolution (λ x. x ∈ r.journal) (λ x. x ∈ banned r.bans) (first ∷ list) first still (inl refl),
+)
 
 -- with no other leaf
 pub comes_alone : (r : Remaining) (leaf : ℕ) (list : List ℕ) → list ≡ [] → SomeOption (TakesFirst r leaf list) r.options ↔ MayComeNext r leaf
 comes_alone r leaf list none = (
-  λ (o, m, (live, (ready, all))). (o, live, ready),
-  λ (o, live, ready). (o, live.among, (live, (ready, λ order is. rw (order_of_none order (rw none at is)) tt))),
+  first_comes_next r leaf list,
+  λ (o, live, ready, still). (
+    o,
+    live.among,
+    (live, (ready, λ order is. rw (order_of_none order (rw none at is)) tt), subst (λ l. StillAvoids r (leaf ∷ l) o) (sym none) still),
+  ),
 )
 
 -- ---- what is asked of a live option
@@ -189,8 +172,8 @@ comes_alone r leaf list none = (
 pub where_live : (b : Bool) (L F Q : Type 0) → L → (IsTrue b ↔ F) → (F ↔ Q) → IsTrue b ↔ (L × Q)
 where_live b L F Q live says same = (λ yes. (live, same.0 (says.0 yes)), λ both. says.1 (same.1 both.1))
 
-pub where_not_live : (live : Bool) (L Q : Type 0) → (IsTrue live ↔ L) → live ≡ false → IsTrue false ↔ (L × Q)
-where_not_live live L Q says not = (λ wrong. absurd (cc), λ both. let yes = says.1 both.0 in absurd (cc))
+pub not_so : (test : Bool) (L : Type 0) → (IsTrue test ↔ L) → test ≡ false → ¬ L
+not_so test L says is_false l = let yes = says.1 l in cc
 
 pub adds_live : (new now : Bool) (L F Q : Type 0) → L → (IsTrue new ↔ (IsTrue now ⊎ F)) → (F ↔ Q) → IsTrue new ↔ (IsTrue now ⊎ (L × Q))
 adds_live new now L F Q live adds same = (
@@ -198,9 +181,29 @@ adds_live new now L F Q live adds same = (
   λ either. adds.1 (⊎_elim inl (λ both. inr (same.1 both.1)) either),
 )
 
-pub adds_none : (now live : Bool) (L Q : Type 0) → (IsTrue live ↔ L) → live ≡ false → IsTrue now ↔ (IsTrue now ⊎ (L × Q))
-adds_none now live L Q says not = (inl, ⊎_elim (λ old. old) (λ both. let yes = says.1 both.0 in absurd (cc)))
+pub adds_none : (now : Bool) (L Q : Type 0) → ¬ L → IsTrue now ↔ (IsTrue now ⊎ (L × Q))
+adds_none now L Q none = (inl, ⊎_elim (λ old. old) (λ both. absurd (none both.0)))
 
-pub lacks_live : (has : Bool) (L M : Type 0) → L → (IsTrue has ↔ M) → IsTrue (not has) ↔ (L × ¬ M)
-lacks_live true L M live says = (λ wrong. absurd (cc), λ both. absurd (both.1 (says.0 refl)))
-lacks_live false L M live says = (λ _. (live, λ m. let has = says.1 m in absurd (cc)), λ _. refl)
+-- ---- all leaves at once
+
+-- what is found, less the barred leaves
+pub less_barred : (r : Remaining) (sides : Sides) (claims : List ℕ) (stand : Stand) (leaf : ℕ) (found new : Bool) → Tells r.options r.journal (banned r.bans) sides → Each IsOrderedOption r.options →
+    Each (CanBegin r) claims → (IsTrue found ↔ SomeOption (TakesInOrder r claims stand leaf) r.options) → new ≡ (not (has_leaf sides.barred leaf) && found) →
+    IsTrue new ↔ SomeOption (Takes r claims stand leaf) r.options
+less_barred r sides claims stand leaf found new told ordered free says is = (
+  λ yes.
+      let both = and_parts (not (has_leaf sides.barred leaf)) found (sym is ∙ yes) in
+      let (o, m, taken) = says.0 both.1 in
+      (o, m, takes_where_free r claims stand leaf o (free_begins r sides told ordered leaf (λ bars. not_both (has_leaf sides.barred leaf) bars both.0), free) taken),
+  λ (o, m, takes).
+      let open_to : ¬ (IsTrue (has_leaf sides.barred leaf)) = λ bars. not_barred r claims stand leaf leaf o (inl refl) takes (barred_keeps r sides told ordered leaf bars) in
+      is ∙ and_from (not (has_leaf sides.barred leaf)) found (is_not (has_leaf sides.barred leaf) open_to) (says.1 (o, m, (takes.0, takes.1))),
+)
+  where
+    not_both : (b : Bool) → IsTrue b → ¬ (IsTrue (not b))
+    not_both true h wrong = cc
+    not_both false h wrong = cc
+
+    is_not : (b : Bool) → ¬ (IsTrue b) → IsTrue (not b)
+    is_not true none = absurd (none refl)
+    is_not false none = refl

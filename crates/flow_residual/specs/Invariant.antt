@@ -1,22 +1,18 @@
 -- What a residual keeps.
-use Rattle.std.specs.Prelude.{◌≡◌, ◌≤◌, ◌<◌, ◌↔◌, ℕ, IsTrue, List, length, map}
+use Rattle.std.specs.Prelude.{◌≡◌, ◌≤◌, ◌<◌, ◌↔◌, ℕ, IsTrue, List, length}
 use Rattle.std.specs.List.Sorted.{IsStrictlyIncreasing}
 use Rattle.std.specs.Vec.{vec_capacity}
 use Rattle.flow_model.specs.declared.limits.TheConstants.{MOST_LEAVES}
 use Rattle.flow_model.specs.Lists.{◌∈◌, Each, AreDistinct}
 use Rattle.flow_model.specs.Schema.{Schema}
 use Rattle.flow_model.specs.Run.{RunState, IsOpen}
-use Rattle.flow_plan.specs.Progress.{IsDone, bound_of}
 use Rattle.flow_plan.specs.Options.{options_of, HasSmallLeaves}
 use Rattle.flow_residual.specs.declared.residual.Residual.TheInside.{Inside}
-use Rattle.flow_residual.specs.Remaining.{Remaining, IsOf}
+use Rattle.flow_residual.specs.Remaining.{Remaining, IsOf, banned}
 use Rattle.flow_residual.specs.View.{remaining, pairs_of_bans}
 use Rattle.flow_residual.specs.Options.{EachHas}
-use Rattle.flow_residual.specs.Track.{IsNextRow, IsTrack}
-
--- the leaves that are banned
-abbrev pub banned : List (ℕ × ℕ) → List ℕ
-banned bans = map (λ ban. ban.1) bans
+use Rattle.flow_residual.specs.Telling.{AreServing, IsOrderedOption, IsSetOf, Tells}
+use Rattle.flow_residual.specs.Track.{IsFront, IsNextRow}
 
 -- numbers with a place in a row, none of them twice
 pub record AreFew (list : List ℕ) : Type 0 where
@@ -25,6 +21,7 @@ pub record AreFew (list : List ℕ) : Type 0 where
 
 pub record IsKept (r : Remaining) : Type 0 where
   pub fits : Each HasSmallLeaves r.options
+  pub ordered : Each IsOrderedOption r.options
   pub done : AreFew r.journal
   pub bans_few : AreFew (banned r.bans)
   pub apart : Each (λ n. ¬ (n ∈ r.journal)) (banned r.bans)
@@ -36,15 +33,18 @@ pub record AreOpenPlaces (r : Remaining) (opens : List ℕ) : Type 0 where
   pub rising : IsStrictlyIncreasing opens
   pub exact : (w : Schema) (s : RunState) → IsOf w s r → (i : ℕ) → (i ∈ opens) ↔ IsOpen w s i
 
--- the tracks and fresh rows are those of the plans, the done leaves and the open places are those of the journal, and there is room for each leaf in the journal, among
--- the bans and among the open places
+-- the fronts and fresh rows are those of the plans, which the rows of choices serve; the sets are of the journal and the bans, and what
+-- the choices say is by both; the open places are those of the journal; and there is room for each leaf in the journal, among the bans
+-- and among the open places
 pub record IsRoomy (r : Inside) : Type 0 where
   pub kept : IsKept (remaining r.plans.items r.journal.items r.bans.items)
-  pub tracks : EachHas (IsTrack r.journal.items (pairs_of_bans r.bans.items)) (options_of r.plans.items) r.tracks.items
+  pub served : Each (AreServing r.folds.items) (options_of r.plans.items)
+  pub fronts : EachHas (IsFront r.journal.items) (options_of r.plans.items) r.fronts.items
   pub rows_one_each : length r.rows.items ≡ length (options_of r.plans.items)
   pub rows_are : IsTrue r.fresh → EachHas (IsNextRow r.journal.items) (options_of r.plans.items) r.rows.items
-  pub done_bound : bound_of r.done ≡ MOST_LEAVES
-  pub done_are : (n : ℕ) → IsDone r.done n ↔ (n ∈ r.journal.items)
+  pub done_are : IsSetOf r.journal.items r.done
+  pub banned_are : IsSetOf (banned (pairs_of_bans r.bans.items)) r.banned
+  pub sides : Tells (options_of r.plans.items) r.journal.items (banned (pairs_of_bans r.bans.items)) r.sides
   pub journal_room : MOST_LEAVES ≤ vec_capacity r.journal
   pub bans_room : MOST_LEAVES ≤ vec_capacity r.bans
   pub opens : AreOpenPlaces (remaining r.plans.items r.journal.items r.bans.items) r.opens.items

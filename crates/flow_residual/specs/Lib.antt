@@ -1,6 +1,7 @@
 pub mod Remaining
 pub mod View
 pub mod Options
+pub mod Telling
 pub mod Track
 pub mod Invariant
 pub mod Question

@@ -1,13 +1,15 @@
 -- What is still possible: the options, the journal so far, and the leaves that are banned.
-use Rattle.std.specs.Prelude.{◌≡◌, ℕ, List}
+use Rattle.std.specs.Prelude.{◌≡◌, ℕ, List, [], ◌∷◌, map}
 use Rattle.std.proofs.Common.{refl}
 use Rattle.std.specs.Coded.{Coded, code_by, coded×, coded_ℕ, coded_list}
-use Rattle.flow_model.specs.Lists.{◌∈◌, Each}
-use Rattle.flow_model.specs.Process.{leaves}
+use Rattle.flow_model.specs.Lists.{◌∈◌}
 use Rattle.flow_model.specs.Stored.{option_code}
 use Rattle.flow_model.specs.Schema.{Schema}
-use Rattle.flow_model.specs.Resolution.{ChoiceOption, options}
-use Rattle.flow_model.specs.Ready.{IsReady, IsReadyRun}
+use Rattle.flow_model.specs.Resolution.{ChoiceOption}
+use Rattle.flow_model.specs.Ready.{DoneOr}
+use Rattle.flow_model.specs.Folding.{folded_options}
+use Rattle.flow_model.specs.FoldedReady.{IsFoldedReady, IsFoldedRun}
+use Rattle.flow_model.specs.FoldedRun.{CanAvoid}
 use Rattle.flow_model.specs.Run.{RunState, IsFree}
 use Rattle.flow_laws.specs.WellFormed.{IsWellFormed}
 use Rattle.flow_plan.specs.Options.{HasExecution, AreJustThose}
@@ -28,8 +30,8 @@ remaining_code = code_by (List ChoiceOption × (List ℕ × List (ℕ × ℕ)))
 -- it is what remains of the workflow in that state
 pub record IsOf (w : Schema) (s : RunState) (r : Remaining) : Type 0 where
   pub well_formed : IsWellFormed w
-  -- just the options of the workflow that have an execution
-  pub options_are : AreJustThose HasExecution (options w) r.options
+  -- just the options of the workflow that have an execution; the choices stay of which no constraint speaks
+  pub options_are : AreJustThose HasExecution (folded_options w) r.options
   pub journal_is : s.journal ≡ r.journal
   pub bans_are : s.bans ≡ r.bans
 
@@ -37,12 +39,20 @@ pub record IsOf (w : Schema) (s : RunState) (r : Remaining) : Type 0 where
 abbrev pub IsAvoidable : Schema → RunState → ℕ → Type 0
 IsAvoidable w s leaf = (t : List ℕ) × IsFree w s t × ¬ (leaf ∈ t)
 
--- the option holds no banned leaf, and the journal is a ready run of it
+-- the leaves that are banned
+abbrev pub banned : List (ℕ × ℕ) → List ℕ
+banned bans = map (λ ban. ban.1) bans
+
+-- the option can go on without the banned leaves once these are done besides
+abbrev pub StillAvoids : Remaining → List ℕ → ChoiceOption → Type 0
+StillAvoids r list o = CanAvoid o.resolution (DoneOr (λ n. n ∈ r.journal) list) (λ n. n ∈ banned r.bans)
+
+-- the journal is a ready run of the option, which can go on without the banned leaves
 pub record IsLive (r : Remaining) (o : ChoiceOption) : Type 0 where
   pub among : o ∈ r.options
-  pub unbanned : Each (λ ban. ¬ (ban.1 ∈ leaves o.resolution)) r.bans
-  pub journal_ready : IsReadyRun o.resolution o.order r.journal
+  pub avoids : CanAvoid o.resolution (λ n. n ∈ r.journal) (λ n. n ∈ banned r.bans)
+  pub journal_ready : IsFoldedRun o.resolution o.order r.journal
 
--- in some live option the leaf may come next
+-- in some live option the leaf may come next, and the option stays live with it
 abbrev pub MayComeNext : Remaining → ℕ → Type 0
-MayComeNext r leaf = (o : ChoiceOption) × IsLive r o × IsReady o.resolution o.order (λ n. n ∈ r.journal) leaf
+MayComeNext r leaf = (o : ChoiceOption) × IsLive r o × IsFoldedReady o.resolution o.order (λ n. n ∈ r.journal) leaf × StillAvoids r (leaf ∷ []) o

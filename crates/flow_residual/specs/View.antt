@@ -2,7 +2,7 @@
 use Rattle.std.specs.Prelude.{ℕ, List, map}
 use Rattle.flow_plan.specs.Sampled.{Sampled}
 use Rattle.flow_plan.specs.Options.{options_of}
-use Rattle.flow_residual.specs.declared.ban.Ban.{Ban}
+use Rattle.flow_residual.specs.declared.residual.Ban.{Ban}
 use Rattle.flow_residual.specs.Remaining.{Remaining}
 
 -- each ban as the length of the journal and the leaf that was banned there

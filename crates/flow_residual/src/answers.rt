@@ -7,7 +7,7 @@ ghost use Rattle.flow_residual.specs.Remaining.{IsOf, MayComeNext, IsAvoidable};
 
 use crate::question::{Question, Stand};
 use crate::residual::Residual;
-use leaf_rows::LeafSet;
+use leaf_rows::{LEAF_WORDS, LeafSet};
 
 impl Residual {
     /// Whether, in some one option, the claimed leaves and this one may follow in every order.
@@ -16,7 +16,7 @@ impl Residual {
             IsTrue result ↔ MayAllFollow w s (claims.now ++ leaf ∷ []) }
         ensures next { IsTrue result → Each (MayComeNext self.now) (claims.now ++ leaf ∷ []) }
     {
-        self.some_has(Question::Takes(Stand::Among, leaf), claims)
+        self.takes_among(claims, leaf)
     }
 
     /// Whether, in some one option, the leaf may come next, and the claimed leaves then in every order.
@@ -26,11 +26,11 @@ impl Residual {
         ensures next { IsTrue result → MayComeNext self.now leaf }
         ensures alone { claims.now ≡ [] → IsTrue result ↔ MayComeNext self.now leaf }
     {
-        self.some_has(Question::Takes(Stand::First, leaf), claims)
+        self.takes_before(claims, leaf)
     }
 
     /// The leaves that, in some one option, may follow with the claimed ones in every order.
-    pub fn all_that_follow(&self, claims: &[u32]) -> LeafSet<16>
+    pub fn all_that_follow(&self, claims: &[u32]) -> LeafSet<LEAF_WORDS>
         ensures { (w : Schema) (s : RunState) → IsOf w s self.now → (leaf : ℕ) →
             IsTrue (has_leaf result leaf) ↔ MayAllFollow w s (claims.now ++ leaf ∷ []) }
     {
@@ -38,7 +38,7 @@ impl Residual {
     }
 
     /// The leaves that, in some one option, may come next, and the claimed leaves then in every order.
-    pub fn all_that_follow_first(&self, claims: &[u32]) -> LeafSet<16>
+    pub fn all_that_follow_first(&self, claims: &[u32]) -> LeafSet<LEAF_WORDS>
         ensures { (w : Schema) (s : RunState) → IsOf w s self.now → (leaf : ℕ) →
             IsTrue (has_leaf result leaf) ↔ MayFollowFirst w s leaf claims.now }
     {
@@ -49,14 +49,14 @@ impl Residual {
     pub fn can_avoid(&self, leaf: u32) -> bool
         ensures { (w : Schema) (s : RunState) → IsOf w s self.now → IsTrue result ↔ IsAvoidable w s leaf }
     {
-        self.some_has(Question::Without(leaf), &[])
+        self.goes_without(leaf)
     }
 
     /// Whether the journal is a whole execution.
     pub fn is_complete(&self) -> bool
         ensures { (w : Schema) (s : RunState) → IsOf w s self.now → IsTrue result ↔ IsGood w s.journal }
     {
-        self.some_has(Question::Finished, &[])
+        self.some_has(&Question::Finished, &[])
     }
 
     /// The last place of the journal at which another choice is still free.

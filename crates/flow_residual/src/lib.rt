@@ -3,14 +3,13 @@
 #![tactic(auto)]
 
 mod answers;
-mod ban;
 mod claims;
+mod fronts;
 mod given;
 mod question;
 mod residual;
-mod row;
+mod sets;
 mod spared;
-mod track;
 
 pub use claims::Claims;
 pub use given::Given;

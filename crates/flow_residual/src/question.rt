@@ -1,19 +1,21 @@
 //! What is asked of each plan.
-ghost use Rattle.std.specs.Prelude.{◌≡◌, ◌<◌, ◌↔◌, ℕ, IsTrue, Some, ◌⊎◌, length, slice_get};
+ghost use Rattle.std.specs.Prelude.{◌≡◌, ◌<◌, ◌↔◌, ◌⊎◌, ℕ, List, IsTrue, Some, [], ◌∷◌, ◌++◌, length, slice_get};
 ghost use Rattle.flow_model.specs.Lists.{◌∈◌, Each, AreDistinct};
-ghost use Rattle.flow_model.specs.Process.{leaves};
-ghost use Rattle.flow_model.specs.Ready.{IsReady, IsReadyRun};
+ghost use Rattle.flow_model.specs.FoldedReady.{IsFoldedRun};
+ghost use Rattle.flow_model.specs.FoldedRun.{CanAvoid};
 ghost use Rattle.flow_model.specs.Resolution.{ChoiceOption};
 ghost use Rattle.leaf_rows.specs.Leaves.{has_leaf};
+ghost use Rattle.leaf_rows.specs.declared.leaf_set.LeafSet.{LeafSet};
 ghost use Rattle.flow_plan.specs.Rows.{IsRowOf};
 ghost use Rattle.flow_residual.specs.Options.{SomeOption};
-ghost use Rattle.flow_residual.specs.Question.{Takes, LeavesOut, IsFinished, Has};
+ghost use Rattle.flow_residual.specs.Question.{Has, IsAsked, TakesAll, TakesFirst, Takes, TakesInOrder, LeavesOut, IsWhole, AllFollow, FollowsFirst};
+ghost use Rattle.flow_residual.specs.declared.question.Question.TheVariants.{Among, First};
 ghost use Rattle.flow_residual.specs.Remaining.{IsLive};
+ghost use Rattle.flow_residual.specs.Telling.{IsApart, Tells};
 
-use crate::ban::holds;
 use crate::residual::Residual;
-use crate::row::row_of;
-use leaf_rows::LeafSet;
+use flow_plan::Sides;
+use leaf_rows::{LEAF_WORDS, LeafSet};
 
 /// Where a leaf stands to the claimed ones.
 #[derive(Clone, Copy)]
@@ -24,13 +26,16 @@ pub(crate) enum Stand {
     First,
 }
 
-/// What is asked of a plan.
+/// What is asked of a plan about leaves, with what the choices say of it.
 #[derive(Clone, Copy)]
 pub(crate) enum Question {
-    /// Whether it is live, and the leaf may follow so.
-    Takes(Stand, u32),
-    /// Whether it is live without the leaf.
-    Without(u32),
+    /// Whether it is live, and this leaf may follow in every order with them. With what all of them close off.
+    Among(u32, LeafSet<LEAF_WORDS>),
+    /// Whether it is live, and this leaf may follow, and they then in every order. With what is told once this leaf is done, and
+    /// what they close off.
+    First(u32, Sides, LeafSet<LEAF_WORDS>),
+    /// Whether it would be live if they were banned besides. With what is told then.
+    Without(Sides),
     /// Whether the journal is a whole execution of it.
     Finished,
 }
@@ -40,18 +45,19 @@ impl Residual {
     fn follows(&self, place: usize) -> bool
         requires { place < length self.now.options }
         ensures { (o : ChoiceOption) → slice_get self.now.options place ≡ Some o →
-            IsTrue result ↔ IsReadyRun o.resolution o.order self.now.journal }
+            IsTrue result ↔ IsFoldedRun o.resolution o.order self.now.journal }
     {
-        self.track(place).front == self.journal().len()
+        self.front(place) == self.journal().len()
     }
 
-    /// Whether the plan holds no banned leaf.
-    fn is_unbanned(&self, place: usize) -> bool
+    /// Whether the plan at that place follows the journal, and can go on without the banned leaves of which the sides tell.
+    fn goes_on(&self, place: usize, sides: &Sides) -> bool
         requires { place < length self.now.options }
-        ensures { (o : ChoiceOption) → slice_get self.now.options place ≡ Some o →
-            IsTrue result ↔ Each (λ ban. ¬ (ban.1 ∈ leaves o.resolution)) self.now.bans }
+        ensures { (o : ChoiceOption) (bans : List ℕ) → slice_get self.now.options place ≡ Some o →
+            Tells self.now.options self.now.journal bans sides.now → IsTrue result
+            ↔ (IsFoldedRun o.resolution o.order self.now.journal × CanAvoid o.resolution (λ n. n ∈ self.now.journal) (λ n. n ∈ bans)) }
     {
-        self.track(place).banned.is_none()
+        self.follows(place) && !self.plan(place).is_spoilt(sides)
     }
 
     /// Whether the plan at that place is live.
@@ -59,58 +65,73 @@ impl Residual {
         requires { place < length self.now.options }
         ensures { (o : ChoiceOption) → slice_get self.now.options place ≡ Some o → IsTrue result ↔ IsLive self.now o }
     {
-        self.follows(place) && self.is_unbanned(place)
+        self.goes_on(place, self.sides())
     }
 
-    /// Whether the plan at that place is live, and the leaf may follow so.
-    fn takes(&self, place: usize, claims: &[u32], stand: Stand, leaf: u32) -> bool
-        requires { place < length self.now.options }
+    /// Whether the plan at that place is live, and the leaf may follow in every order with the claimed ones, each of which
+    /// may be begun.
+    fn takes(&self, place: usize, claims: &[u32], leaf: u32, apart: &LeafSet<LEAF_WORDS>) -> bool
+        requires place { place < length self.now.options }
+        requires asked { IsAsked self.now claims.now (Among leaf apart.now) }
         ensures { (o : ChoiceOption) → slice_get self.now.options place ≡ Some o →
-            IsTrue result ↔ Takes self.now claims.now stand leaf o }
+            IsTrue result ↔ TakesAll self.now (claims.now ++ leaf ∷ []) o }
     {
-        let done = self.done();
+        self.is_live(place)
+            && self
+                .plan(place)
+                .side_by_side(self.sides(), apart, claims, leaf)
+    }
+
+    /// Whether the plan at that place is live, and the leaf may follow, and then the claimed ones in every order.
+    fn takes_first(
+        &self,
+        place: usize,
+        claims: &[u32],
+        leaf: u32,
+        after: &Sides,
+        apart: &LeafSet<LEAF_WORDS>,
+    ) -> bool
+        requires place { place < length self.now.options }
+        requires asked { IsAsked self.now claims.now (First leaf after.now apart.now) }
+        ensures { (o : ChoiceOption) → slice_get self.now.options place ≡ Some o →
+            IsTrue result ↔ TakesFirst self.now leaf claims.now o }
+    {
         if !self.is_live(place) {
             return false;
         }
-        match stand {
-            Stand::Among => self.plan(place).side_by_side(done, claims, leaf),
-            Stand::First => self.plan(place).may_follow(done, leaf, claims),
-        }
-    }
-
-    /// Whether the plan at that place is live without the leaf.
-    fn leaves_out(&self, place: usize, leaf: u32) -> bool
-        requires { place < length self.now.options }
-        ensures { (o : ChoiceOption) → slice_get self.now.options place ≡ Some o → IsTrue result ↔ LeavesOut self.now leaf o }
-    {
-        self.is_live(place) && !holds(self.plan(place), leaf)
+        let plan = self.plan(place);
+        plan.ready(self.sides(), leaf) && plan.in_every_order(after, apart, claims)
     }
 
     /// Whether the journal is a whole execution of the plan at that place.
-    fn is_finished(&self, place: usize) -> bool
+    fn is_whole(&self, place: usize) -> bool
         requires { place < length self.now.options }
-        ensures { (o : ChoiceOption) → slice_get self.now.options place ≡ Some o → IsTrue result ↔ IsFinished self.now o }
+        ensures { (o : ChoiceOption) → slice_get self.now.options place ≡ Some o → IsTrue result ↔ IsWhole self.now o }
     {
-        let done = self.done();
-        self.follows(place) && self.plan(place).complete(done)
+        self.follows(place) && self.plan(place).complete(self.sides())
     }
 
     /// What the plan at that place answers.
-    fn has(&self, place: usize, question: Question, claims: &[u32]) -> bool
-        requires { place < length self.now.options }
+    fn has(&self, place: usize, question: &Question, claims: &[u32]) -> bool
+        requires place { place < length self.now.options }
+        requires asked { IsAsked self.now claims.now question.now }
         ensures { (o : ChoiceOption) → slice_get self.now.options place ≡ Some o →
-            IsTrue result ↔ Has self.now claims.now question o }
+            IsTrue result ↔ Has self.now claims.now question.now o }
     {
         match question {
-            Question::Takes(stand, leaf) => self.takes(place, claims, stand, leaf),
-            Question::Without(leaf) => self.leaves_out(place, leaf),
-            Question::Finished => self.is_finished(place),
+            Question::Among(leaf, apart) => self.takes(place, claims, *leaf, apart),
+            Question::First(leaf, after, apart) => {
+                self.takes_first(place, claims, *leaf, after, apart)
+            }
+            Question::Without(sides) => self.goes_on(place, sides),
+            Question::Finished => self.is_whole(place),
         }
     }
 
     /// Whether some plan says yes.
-    pub(crate) fn some_has(&self, question: Question, claims: &[u32]) -> bool
-        ensures { IsTrue result ↔ SomeOption (Has self.now claims.now question) self.now.options }
+    pub(crate) fn some_has(&self, question: &Question, claims: &[u32]) -> bool
+        requires { IsAsked self.now claims.now question.now }
+        ensures { IsTrue result ↔ SomeOption (Has self.now claims.now question.now) self.now.options }
     {
         for place in 0..self.count() {
             if self.has(place, question, claims) {
@@ -120,43 +141,102 @@ impl Residual {
         false
     }
 
-    /// Adds to what is found the leaves that the plan at that place takes so.
+    /// Adds to what is found the leaves that the plan at that place takes so, whether or not they may be begun.
     fn add_taken(
         &self,
         place: usize,
         claims: &[u32],
-        row: &LeafSet<16>,
+        row: &LeafSet<LEAF_WORDS>,
+        apart: &LeafSet<LEAF_WORDS>,
         stand: Stand,
-        found: LeafSet<16>,
-    ) -> LeafSet<16>
+        found: &mut LeafSet<LEAF_WORDS>,
+    )
         requires place { place < length self.now.options }
         requires distinct { AreDistinct claims.now }
         requires row { IsRowOf (λ x. x ∈ claims.now) row.now }
+        requires apart { Each (IsApart claims.now apart.now) self.now.options }
         ensures { (o : ChoiceOption) (leaf : ℕ) → slice_get self.now.options place ≡ Some o →
-            IsTrue (has_leaf result leaf) ↔ (IsTrue (has_leaf found leaf) ⊎ Takes self.now claims.now stand leaf o) }
+            IsTrue (has_leaf found.new leaf) ↔ (IsTrue (has_leaf found.old leaf) ⊎ TakesInOrder self.now claims.now stand leaf o) }
     {
-        let done = self.done();
         if !self.is_live(place) {
-            return found;
+            return;
         }
+        let folds = self.folds();
+        let sides = self.sides();
         let next = self.next_row(place);
+        let plan = self.plan(place);
         match stand {
-            Stand::Among => self.plan(place).add_beside(&next, row, found),
-            Stand::First => self.plan(place).add_first(done, &next, claims, row, found),
+            Stand::Among => plan.add_beside(&next, row, apart, found),
+            Stand::First => plan.add_first(folds, sides, &next, claims, row, apart, found),
         }
     }
 
-    /// The leaves that some plan takes so.
-    pub(crate) fn all_taken(&self, claims: &[u32], stand: Stand) -> LeafSet<16>
-        ensures { (leaf : ℕ) → IsTrue (has_leaf result leaf) ↔ SomeOption (Takes self.now claims.now stand leaf) self.now.options }
+    /// The leaves that some plan takes so, whether or not they may be begun.
+    fn all_in_order(
+        &self,
+        claims: &[u32],
+        row: &LeafSet<LEAF_WORDS>,
+        stand: Stand,
+    ) -> LeafSet<LEAF_WORDS>
+        requires distinct { AreDistinct claims.now }
+        requires row { IsRowOf (λ x. x ∈ claims.now) row.now }
+        ensures { (leaf : ℕ) → IsTrue (has_leaf result leaf) ↔ SomeOption (TakesInOrder self.now claims.now stand leaf) self.now.options }
     {
-        let Some(row) = row_of(claims) else {
-            return self.none_taken(claims);
-        };
+        let apart = self.apart(row);
         let mut found = LeafSet::new();
         for place in 0..self.count() {
-            found = self.add_taken(place, claims, &row, stand, found);
+            self.add_taken(place, claims, row, &apart, stand, &mut found);
         }
         found
+    }
+
+    /// The leaves that some plan takes so.
+    pub(crate) fn all_taken(&self, claims: &[u32], stand: Stand) -> LeafSet<LEAF_WORDS>
+        ensures { (leaf : ℕ) → IsTrue (has_leaf result leaf) ↔ SomeOption (Takes self.now claims.now stand leaf) self.now.options }
+    {
+        let Some(row) = self.beginning(claims) else {
+            return LeafSet::new();
+        };
+        let mut found = self.all_in_order(claims, &row, stand);
+        found.remove_all(&self.sides().barred);
+        found
+    }
+
+    /// Whether, in some one option, the claimed leaves and this one may follow in every order.
+    pub(crate) fn takes_among(&self, claims: &[u32], leaf: u32) -> bool
+        ensures { IsTrue result ↔ SomeOption (TakesAll self.now (claims.now ++ leaf ∷ [])) self.now.options }
+    {
+        let Some(mut set) = self.beginning(claims) else {
+            return false;
+        };
+        if !self.may_begin(leaf) {
+            return false;
+        }
+        set.insert(leaf);
+        let apart = self.apart(&set);
+        self.some_has(&Question::Among(leaf, apart), claims)
+    }
+
+    /// Whether, in some one option, the leaf may come next, and the claimed leaves then in every order.
+    pub(crate) fn takes_before(&self, claims: &[u32], leaf: u32) -> bool
+        ensures { IsTrue result ↔ SomeOption (TakesFirst self.now leaf claims.now) self.now.options }
+    {
+        let Some(set) = self.beginning(claims) else {
+            return false;
+        };
+        if !self.may_begin(leaf) {
+            return false;
+        }
+        let after = self.sides_after(leaf);
+        let apart = self.apart(&set);
+        self.some_has(&Question::First(leaf, after, apart), claims)
+    }
+
+    /// Whether some option would be live if the leaf were banned besides.
+    pub(crate) fn goes_without(&self, leaf: u32) -> bool
+        ensures { IsTrue result ↔ SomeOption (LeavesOut self.now (leaf ∷ [])) self.now.options }
+    {
+        let sides = self.sides_without(leaf);
+        self.some_has(&Question::Without(sides), &[leaf])
     }
 }

@@ -1,30 +1,40 @@
-ghost use Rattle.std.specs.Prelude.{◌≡◌, ◌<◌, ◌≤◌, ◌↔◌, ℕ, [], ◌∷◌, ◌++◌, IfOk, IsTrue, if◌then◌else◌, length, take, nat_le, false, Some, slice_get, slice_index};
+ghost use Rattle.std.specs.Prelude.{◌≡◌, ◌<◌, ◌≤◌, ◌↔◌, ℕ, List, [], ◌∷◌, ◌++◌, IfNone, IfOk, IfSome, IsTrue, if◌then◌else◌, length, take, nat_le, false, Some, slice_get, slice_index};
 ghost use Rattle.std.specs.List.{filter};
 ghost use Rattle.std.specs.Vec.{vec_len, vec_capacity};
 ghost use Rattle.flow_model.specs.Lists.{◌∈◌, Each, AreDistinct};
 ghost use Rattle.flow_model.specs.Resolution.{ChoiceOption};
-ghost use Rattle.flow_plan.specs.Progress.{IsDone, bound_of};
-ghost use Rattle.flow_plan.specs.Options.{options_of, option_of, HasSmallLeaves};
+ghost use Rattle.flow_plan.specs.Options.{options_of, option_of};
+ghost use Rattle.flow_plan.specs.Rows.{IsRowOf};
+ghost use Rattle.flow_plan.specs.Sampled.{Sampled};
 ghost use Rattle.flow_residual.specs.Options.{EachHas};
 ghost use Rattle.flow_residual.specs.Invariant.{AreOpenPlaces};
-ghost use Rattle.flow_residual.specs.Track.{IsNextRow, IsTrack};
-ghost use Rattle.flow_residual.specs.Question.{Takes};
-ghost use Rattle.leaf_rows.specs.Leaves.{has_leaf};
+ghost use Rattle.flow_residual.specs.Question.{CanBegin, IsBarred, Takes};
+ghost use Rattle.flow_residual.specs.Remaining.{banned};
+ghost use Rattle.flow_residual.specs.Telling.{AreServing, IsApart, IsOrderedOption, IsSetOf, Tells};
+ghost use Rattle.flow_residual.specs.Track.{IsFront, IsNextRow};
 
-use crate::ban::Ban;
+use crate::fronts::{Change, follow, look};
 use crate::question::Stand;
-use crate::track::{Change, Track, follow, look, progress_of};
+use crate::sets::{closed_by, row_of, set_of, set_of_bans, sides_by};
 use flow_model::MOST_LEAVES;
-use flow_plan::{Compiled, KnotFree, Plan, Progress};
-use leaf_rows::LeafSet;
+use flow_plan::{Compiled, FoldRow, KnotFree, Plan, Sides};
+use leaf_rows::{LEAF_WORDS, LeafSet};
 use std::alloc::{AllocError, Global};
 use std::marker::Model;
+
+/// A leaf that no longer may be in the run.
+#[derive(Clone, Copy)]
+pub(crate) struct Ban {
+    /// How long the journal was when it was banned.
+    pub(crate) index: u32,
+    pub(crate) leaf: u32,
+}
 
 /// The memory of a residual.
 #[derive(Drop)]
 struct Room {
-    tracks: Vec<Track>,
-    rows: Vec<LeafSet<16>>,
+    fronts: Vec<usize>,
+    rows: Vec<LeafSet<LEAF_WORDS>>,
     journal: Vec<u32>,
     bans: Vec<Ban>,
     opens: Vec<u32>,
@@ -33,7 +43,7 @@ struct Room {
 impl Room {
     /// For so many plans, where no leaf is done and none is banned.
     fn new(alloc: Global, plans: &[KnotFree]) -> Result<Room, AllocError>
-        ensures tracks { IfOk result (λ room. EachHas (IsTrack [] []) (options_of plans.now) room.tracks.items) }
+        ensures fronts { IfOk result (λ room. EachHas (IsFront []) (options_of plans.now) room.fronts.items) }
         ensures rows { IfOk result (λ room. length room.rows.items ≡ length (options_of plans.now)) }
         ensures journal { IfOk result (λ room. room.journal.items ≡ []) }
         ensures journal_room { IfOk result (λ room. MOST_LEAVES ≤ vec_capacity room.journal) }
@@ -42,12 +52,9 @@ impl Room {
         ensures opens { IfOk result (λ room. room.opens.items ≡ []) }
         ensures opens_room { IfOk result (λ room. MOST_LEAVES ≤ vec_capacity room.opens) }
     {
-        let start = Track {
-            front: 0,
-            banned: None,
-        };
+        let start: usize = 0;
         Ok(Room {
-            tracks: vec![in alloc; start; plans.len()]?,
+            fronts: vec![in alloc; start; plans.len()]?,
             rows: vec![in alloc; LeafSet::new(); plans.len()]?,
             journal: Vec::with_capacity(alloc, MOST_LEAVES as usize)?,
             bans: Vec::with_capacity(alloc, MOST_LEAVES as usize)?,
@@ -56,21 +63,36 @@ impl Room {
     }
 }
 
+/// What each plan keeps of its goal and its pairs, of all plans at once. Nothing is looked at when it runs.
+fn all_ordered(plans: &[KnotFree])
+    ensures { Each IsOrderedOption (options_of plans.now) }
+{
+    for plan in plans {
+        let _tokens = plan.plan().tokens();
+    }
+}
+
 /// What is still possible in a run. All memory is taken when it is made.
 #[derive(Drop)]
 pub struct Residual {
     plans: Vec<KnotFree>,
-    /// How each of the plans stands to the journal and the bans.
-    tracks: Vec<Track>,
+    /// The choices that stay, for all plans.
+    folds: Vec<FoldRow>,
+    /// How much of the journal is a ready run of each of the plans.
+    fronts: Vec<usize>,
     journal: Vec<u32>,
     /// The leaves of the journal.
-    done: Progress,
+    done: LeafSet<LEAF_WORDS>,
     bans: Vec<Ban>,
+    /// Their leaves.
+    banned: LeafSet<LEAF_WORDS>,
+    /// What the choices tell by the journal and the bans: found once for all plans, where either changes.
+    sides: Sides,
     /// The open places of the journal, the last of them last. A place is open where its leaf could be avoided when it
     /// was pushed, whatever comes later.
     opens: Vec<u32>,
     /// Of each plan that follows the journal, the leaves that may come next, where `fresh`.
-    rows: Vec<LeafSet<16>>,
+    rows: Vec<LeafSet<LEAF_WORDS>>,
     fresh: bool,
 }
 
@@ -110,18 +132,25 @@ impl Residual {
         ensures bans { IfOk result (λ r. r.bans ≡ []) }
     {
         let Room {
-            tracks,
+            fronts,
             rows,
             journal,
             bans,
             opens,
         } = Room::new(alloc, compiled.plans())?;
+        let (plans, folds) = compiled.into_parts();
+        all_ordered(&plans);
+        let none = LeafSet::new();
+        let sides = sides_by(&folds, &none, &none);
         Ok(Residual {
-            plans: compiled.into_plans(),
-            tracks,
+            plans,
+            folds,
+            fronts,
             journal,
-            done: Progress::new(MOST_LEAVES),
+            done: none,
             bans,
+            banned: none,
+            sides,
             opens,
             rows,
             fresh: false,
@@ -143,14 +172,6 @@ impl Residual {
         leaf < MOST_LEAVES && self.done.has(leaf)
     }
 
-    /// The leaves of the journal.
-    pub(crate) fn done(&self) -> &Progress
-        ensures bound { bound_of result.now ≡ MOST_LEAVES }
-        ensures same { (n : ℕ) → IsDone result.now n ↔ (n ∈ self.now.journal) }
-    {
-        &self.done
-    }
-
     /// How many plans there are.
     pub(crate) fn count(&self) -> usize
         ensures { result ≡ length self.now.options }
@@ -162,17 +183,86 @@ impl Residual {
     pub(crate) fn plan(&self, place: usize) -> &Plan
         requires { place < length self.now.options }
         ensures at { slice_get self.now.options place ≡ Some (option_of result.now) }
-        ensures fits { HasSmallLeaves (option_of result.now) }
+        ensures ordered { IsOrderedOption (option_of result.now) }
     {
         self.plans[place].plan()
     }
 
-    /// How the plan at that place stands to the journal and the bans.
-    pub(crate) fn track(&self, place: usize) -> &Track
+    /// How much of the journal is a ready run of the plan at that place.
+    pub(crate) fn front(&self, place: usize) -> usize
         requires { place < length self.now.options }
-        ensures { (o : ChoiceOption) → slice_get self.now.options place ≡ Some o → IsTrack self.now.journal self.now.bans o result.now }
+        ensures { (o : ChoiceOption) → slice_get self.now.options place ≡ Some o → IsFront self.now.journal o result }
     {
-        &self.tracks[place]
+        self.fronts[place]
+    }
+
+    /// The rows of the choices that stay.
+    pub(crate) fn folds(&self) -> &[FoldRow]
+        ensures { Each (AreServing result.now) self.now.options }
+    {
+        &self.folds
+    }
+
+    /// What the choices tell.
+    pub(crate) fn sides(&self) -> &Sides
+        ensures tell { Tells self.now.options self.now.journal (banned self.now.bans) result.now }
+        ensures ordered { Each IsOrderedOption self.now.options }
+    {
+        &self.sides
+    }
+
+    /// What they would tell if the leaf were done.
+    pub(crate) fn sides_after(&self, leaf: u32) -> Sides
+        requires { leaf < MOST_LEAVES }
+        ensures { Tells self.now.options (self.now.journal ++ leaf ∷ []) (banned self.now.bans) result }
+    {
+        let mut done = self.done;
+        done.insert(leaf);
+        sides_by(&self.folds, &done, &self.banned)
+    }
+
+    /// What they would tell if the leaf were banned.
+    pub(crate) fn sides_without(&self, leaf: u32) -> Sides
+        ensures { Tells self.now.options self.now.journal (banned self.now.bans ++ leaf ∷ []) result }
+    {
+        // no option has a greater one
+        if MOST_LEAVES <= leaf {
+            return self.sides;
+        }
+        let mut excluded = self.banned;
+        excluded.insert(leaf);
+        sides_by(&self.folds, &self.done, &excluded)
+    }
+
+    /// The leaves that those of the set close off.
+    pub(crate) fn apart(&self, set: &LeafSet<LEAF_WORDS>) -> LeafSet<LEAF_WORDS>
+        ensures { (list : List ℕ) → IsSetOf list set.now → Each (IsApart list result) self.now.options }
+    {
+        closed_by(&self.folds, set)
+    }
+
+    /// Whether a live plan that has the leaf can go on without the banned ones once it is begun.
+    pub(crate) fn may_begin(&self, leaf: u32) -> bool
+        ensures small { IsTrue result → leaf < MOST_LEAVES }
+        ensures begins { IsTrue result → CanBegin self.now leaf }
+        ensures barred { result ≡ false → IsBarred self.now leaf }
+    {
+        leaf < MOST_LEAVES && !self.sides.barred.has(leaf)
+    }
+
+    /// The claimed leaves as a set, where each may be begun and none stands twice.
+    pub(crate) fn beginning(&self, claims: &[u32]) -> Option<LeafSet<LEAF_WORDS>>
+        ensures some { IfSome result (λ set. AreDistinct claims.now × IsRowOf (λ x. x ∈ claims.now) set × Each (CanBegin self.now) claims.now) }
+        ensures none { IfNone result ((o : ChoiceOption) (stand : Stand) (leaf : ℕ) → ¬ (Takes self.now claims.now stand leaf o)) }
+    {
+        let barred = &self.sides.barred;
+        let Some(set) = row_of(claims) else {
+            return None;
+        };
+        if barred.meets(&set) {
+            return None;
+        }
+        Some(set)
     }
 
     /// The open places of the journal.
@@ -180,17 +270,6 @@ impl Residual {
         ensures { AreOpenPlaces self.now result.now }
     {
         &self.opens
-    }
-
-    /// Nothing may follow with claims that have a leaf twice, or one that has no place in a row.
-    pub(crate) fn none_taken(&self, claims: &[u32]) -> LeafSet<16>
-        requires { ¬ (Each (λ n. n < MOST_LEAVES) claims.now × AreDistinct claims.now) }
-        ensures none { (n : ℕ) → has_leaf result n ≡ false }
-        ensures taken { (o : ChoiceOption) (stand : Stand) (leaf : ℕ) → ¬ (Takes self.now claims.now stand leaf o) }
-    {
-        // what the fields keep says that the leaves of options have a place
-        let _ = &self.plans;
-        LeafSet::new()
     }
 
     /// The leaf is done.
@@ -202,13 +281,14 @@ impl Residual {
         note_place(&mut self.opens, self.journal.len() as u32, is_open);
         follow(
             &self.plans,
-            &mut self.tracks,
+            &mut self.fronts,
             &self.journal,
-            &self.done,
+            &self.sides,
             Change::Done(leaf),
         );
         self.journal.push_reserved(leaf);
-        self.done.note(leaf);
+        self.done.insert(leaf);
+        self.sides = sides_by(&self.folds, &self.done, &self.banned);
         self.fresh = false;
     }
 
@@ -218,15 +298,9 @@ impl Residual {
         ensures { self.new ≡ record self.old { bans = self.old.bans ++ (length self.old.journal, leaf) ∷ [] } }
     {
         let index = self.journal.len() as u32;
-        let ban = Ban { index, leaf };
-        follow(
-            &self.plans,
-            &mut self.tracks,
-            &self.journal,
-            &self.done,
-            Change::Banned(ban),
-        );
-        self.bans.push_reserved(ban);
+        self.bans.push_reserved(Ban { index, leaf });
+        self.banned.insert(leaf);
+        self.sides = sides_by(&self.folds, &self.done, &self.banned);
     }
 
     /// The journal ends before the index, and the leaf that it had there is banned. Later bans are lifted.
@@ -238,19 +312,20 @@ impl Residual {
         } }
     {
         let leaf = self.journal[index as usize];
-        let ban = Ban { index, leaf };
         follow(
             &self.plans,
-            &mut self.tracks,
+            &mut self.fronts,
             &self.journal,
-            &self.done,
-            Change::Back(ban),
+            &self.sides,
+            Change::Back(index),
         );
         self.bans.retain(|ban| ban.index <= index);
-        self.bans.push_reserved(ban);
+        self.bans.push_reserved(Ban { index, leaf });
         self.opens.retain(|place| *place < index);
         self.journal.truncate(index as usize);
-        self.done = progress_of(&self.journal);
+        self.done = set_of(&self.journal);
+        self.banned = set_of_bans(&self.bans);
+        self.sides = sides_by(&self.folds, &self.done, &self.banned);
         self.fresh = false;
     }
 
@@ -261,9 +336,9 @@ impl Residual {
         if !self.fresh {
             look(
                 &self.plans,
-                &self.tracks,
+                &self.fronts,
                 &self.journal,
-                &self.done,
+                &self.sides,
                 &mut self.rows,
             );
             self.fresh = true;
@@ -271,14 +346,14 @@ impl Residual {
     }
 
     /// The leaves that may come next in the plan at that place, where it follows the journal.
-    pub(crate) fn next_row(&self, place: usize) -> LeafSet<16>
+    pub(crate) fn next_row(&self, place: usize) -> LeafSet<LEAF_WORDS>
         requires { place < length self.now.options }
         ensures { (o : ChoiceOption) → slice_get self.now.options place ≡ Some o → IsNextRow self.now.journal o result }
     {
         if self.fresh {
             self.rows[place]
         } else {
-            self.plan(place).next_row(self.done())
+            self.plan(place).next_row(self.sides())
         }
     }
 }

@@ -83,21 +83,21 @@ items_in_order (item ∷ items) (suc m) (suc n) x y less l i j = before_right x 
 -- the item of a number, by its rows
 
 module _ (q : Process) (pairs : List (ℕ × ℕ)) where
-  pub same_length : (ls : List (List ℕ)) (items : List Item) → AreItemsOf q pairs ls items → length ls ≡ length items
+  pub same_length : {words : ℕ} → (ls : List (List ℕ)) (items : List (Item words)) → AreItemsOf q pairs ls items → length ls ≡ length items
   same_length [] [] a = refl
   same_length [] (i ∷ items) a = absurd a
   same_length (l ∷ ls) [] a = absurd a
   same_length (l ∷ ls) (i ∷ items) a = ap suc (same_length ls items a.1)
 
-  pub item_is : (ls : List (List ℕ)) (items : List Item) (n : ℕ) → AreItemsOf q pairs ls items → n < length ls →
-      (item : Item) × (slice_get items n ≡ Some item) × IsItemOf q pairs (item_at ls n) item
+  pub item_is : {words : ℕ} → (ls : List (List ℕ)) (items : List (Item words)) (n : ℕ) → AreItemsOf q pairs ls items → n < length ls →
+      (item : Item words) × (slice_get items n ≡ Some item) × IsItemOf q pairs (item_at ls n) item
   item_is [] [] n a l = absurd (omega arith)
   item_is [] (i ∷ items) n a l = absurd a
   item_is (k ∷ ls) [] n a l = absurd a
   item_is (k ∷ ls) (i ∷ items) zero a l = (i, refl, a.0)
   item_is (k ∷ ls) (i ∷ items) (suc n) a l = item_is ls items n a.1 (omega arith)
 
-  module _ (ls : List (List ℕ)) (items : List Item) (a : AreItemsOf q pairs ls items) where
+  module _ {words : ℕ} (ls : List (List ℕ)) (items : List (Item words)) (a : AreItemsOf q pairs ls items) where
     pub in_list : (n x : ℕ) → IsIn items n x → (n < length ls) × (x ∈ item_at ls n)
     in_list n x h =
         let l : n < length ls = omega (arith, is_within items n x h, same_length ls items a) in
@@ -162,7 +162,7 @@ module _ (q : Process) (pairs : List (ℕ × ℕ)) where
 
 -- the items of a part
 
-module _ (q : Process) (pairs : List (ℕ × ℕ)) (o : IsOrdered q pairs) (part : Process) (p : part ∈ regions q) (items : List Item)
+module _ {words : ℕ} (q : Process) (pairs : List (ℕ × ℕ)) (o : IsOrdered q pairs) (part : Process) (p : part ∈ regions q) (items : List (Item words))
     (a : AreItemsOf q pairs (items_of part) items) where
   part_is_distinct : AreDistinct (leaves part)
   part_is_distinct = region_distinct q part o.distinct p

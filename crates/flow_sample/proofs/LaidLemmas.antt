@@ -5,7 +5,7 @@ use Rattle.flow_model.specs.Lists.{◌∈◌, AreDistinct, AreInOrder, StandsBef
 use Rattle.flow_model.specs.Process.{Process, leaves}
 use Rattle.flow_model.specs.Trace.{Trace}
 use Rattle.flow_model.specs.Ready.{DirectlyBefore, isolated_parts}
-use Rattle.flow_model.specs.Circle.{items_of}
+use Rattle.flow_model.specs.Circle.{items_of, IsCircle}
 use Rattle.flow_laws.specs.WellFormed.{IsOrdered}
 use Rattle.flow_model.proofs.Lists.{distinct-append, before_across, before_left, before_right, before_or_after, not_both_ways, before_members, each_from_members}
 use Rattle.flow_model.specs.Decided.{decide_eq}
@@ -18,10 +18,9 @@ use Rattle.flow_sample.specs.declared.item.Item.{Item}
 use Rattle.flow_sample.specs.Rows.{run_in, IsIn, IsOneOf}
 use Rattle.flow_sample.specs.Arranged.{IsWholeOrder, IsRunOf, TellsRing}
 use Rattle.flow_sample.specs.Items.{item_at, IsLinedUp, IsItemOf, AreItemsOf, TellsCircle}
-use Rattle.flow_sample.specs.Sample.{IsReasonAgainst}
+use Rattle.flow_plan.specs.Options.{HasExecution}
 use Rattle.flow_model.specs.Resolution.{ChoiceOption}
 use Rattle.flow_sample.specs.declared.sample.ExciseRefusal.{ExciseRefusal}
-use Rattle.flow_sample.specs.declared.sample.ExciseRefusal.TheVariants.{Circle, NoMemory}
 use Rattle.flow_sample.proofs.ItemLemmas.{mem-item_at, number_of, same_length, in_list, in_item, waits_list, waits_item, laid_at, one_number, least_is, tells_circle}
 
 -- lists joined in an order
@@ -53,7 +52,7 @@ module _ (f : ℕ → List ℕ) where
       distinct-append (f z) (joined (map f order)) (each z (inl refl)) (distinct_blocks order d.1 (λ n m. each n (inr m)) (λ i j x k l. one i j x (inr k) (inr l)))
       (λ x h k. let r = of_block order x k in d.0 (subst (λ u. u ∈ order) (sym (one z r.0 x (inl refl) (inr r.1) h r.2)) r.1))
 
-module _ (q : Process) (pairs : List (ℕ × ℕ)) (o : IsOrdered q pairs) (part : Process) (p : part ∈ regions q) (items : List Item)
+module _ {words : ℕ} (q : Process) (pairs : List (ℕ × ℕ)) (o : IsOrdered q pairs) (part : Process) (p : part ∈ regions q) (items : List (Item words))
     (a : AreItemsOf q pairs (items_of part) items) (order : List ℕ) (w : IsWholeOrder items order) where
   abbrev f : ℕ → List ℕ
   f n = run_in (slice_get items n)
@@ -147,7 +146,7 @@ module _ (q : Process) (pairs : List (ℕ × ℕ)) (o : IsOrdered q pairs) (part
     together = run_together;
   }
 
-pub laid_run : (q : Process) (pairs : List (ℕ × ℕ)) → IsOrdered q pairs → (part : Process) → part ∈ regions q → (items : List Item) → AreItemsOf q pairs (items_of part) items →
+pub laid_run : {words : ℕ} → (q : Process) (pairs : List (ℕ × ℕ)) → IsOrdered q pairs → (part : Process) → part ∈ regions q → (items : List (Item words)) → AreItemsOf q pairs (items_of part) items →
     (list : List ℕ) → IsRunOf items list → IsLinedUp q pairs (leaves part) list
 laid_run q pairs o part p items a list (order, w, e) = subst (IsLinedUp q pairs (leaves part)) (sym e) (laid q pairs o part p items a order w)
 
@@ -168,27 +167,25 @@ laid_trace q pairs run o l = (
     ordered : (x y : ℕ) → DirectlyBefore q pairs x y → StandsBefore x y run
     ordered x y b = l.before x y (direct_first q pairs o x y b) (direct_second q pairs o x y b) b
 
-pub run_traced : (q : Process) (pairs : List (ℕ × ℕ)) → IsOrdered q pairs → (items seen : List Item) → AreItemsOf q pairs (items_of q) items → seen ≡ items →
+pub run_traced : {words : ℕ} → (q : Process) (pairs : List (ℕ × ℕ)) → IsOrdered q pairs → (items seen : List (Item words)) → AreItemsOf q pairs (items_of q) items → seen ≡ items →
     (r : Result (Vec ℕ Global) ExciseRefusal) → IfOk r (λ run. IsRunOf seen run.items) → IfOk r (λ run. Trace q run.items × AreInOrder pairs run.items)
 run_traced q pairs o items seen a e (Err x) h = tt
 run_traced q pairs o items seen a e (Ok list) h =
     laid_trace q pairs list.items o (laid_run q pairs o q (inl refl) items a list.items (subst (λ z. IsRunOf z list.items) e h))
 
-pub ring_told : (q : Process) (pairs : List (ℕ × ℕ)) → IsOrdered q pairs → (items seen : List Item) → AreItemsOf q pairs (items_of q) items → seen ≡ items →
+pub ring_told : {words : ℕ} → (q : Process) (pairs : List (ℕ × ℕ)) → IsOrdered q pairs → (items seen : List (Item words)) → AreItemsOf q pairs (items_of q) items → seen ≡ items →
     (r : Result (Vec ℕ Global) ExciseRefusal) → IfErr r (TellsRing seen) → IfErr r (TellsCircle q pairs)
 ring_told q pairs o items seen a e (Ok list) h = tt
 ring_told q pairs o items seen a e (Err x) h = tells_circle q pairs o q (inl refl) items a x (subst (λ z. TellsRing z x) e h)
 
--- a circle is a reason
-pub reason : (o : ChoiceOption) → IsOrdered o.resolution o.order → (e : ExciseRefusal) → TellsCircle o.resolution o.order e → IsReasonAgainst o e
-reason o w (Circle circle) c =
-    (λ t. circle_excludes o.resolution o.order w circle.leaves.items c t.0 (arrangement_of o.resolution o.order t.0 w t.1.0 t.1.1), c)
-reason o w NoMemory c = tt
+-- a circle excludes executions
+pub none_by_circle : (o : ChoiceOption) → IsOrdered o.resolution o.order → (circle : List ℕ) → IsCircle o.resolution o.order circle → ¬ (HasExecution o)
+none_by_circle o w circle c t = circle_excludes o.resolution o.order w circle c t.0 (arrangement_of o.resolution o.order t.0 w t.1.0 t.1.1)
 
 -- the items of an isolated part as one item
 
-pub part_item : (q : Process) (pairs : List (ℕ × ℕ)) → IsOrdered q pairs → (body : Process) → body ∈ isolated_parts q → (inner : List Item) →
-    AreItemsOf q pairs (items_of body) inner → (item : Item) → IsOneOf inner item.run.items item → IsRunOf inner item.run.items → IsItemOf q pairs (leaves body) item
+pub part_item : {words : ℕ} → (q : Process) (pairs : List (ℕ × ℕ)) → IsOrdered q pairs → (body : Process) → body ∈ isolated_parts q → (inner : List (Item words)) →
+    AreItemsOf q pairs (items_of body) inner → (item : Item words) → IsOneOf inner item.run.items item → IsRunOf inner item.run.items → IsItemOf q pairs (leaves body) item
 part_item q pairs o body m inner a item u r = record {
   inside = λ x. (λ h. down x ((u.inside x).0 h), λ k. (u.inside x).1 (up x k));
   waits = λ x. (

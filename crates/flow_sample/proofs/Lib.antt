@@ -7,3 +7,5 @@ pub mod PieceLemmas
 pub mod GatheringLemmas
 pub mod TurningLemmas
 pub mod RisingLemmas
+pub mod SideLemmas
+pub mod LeftLemmas

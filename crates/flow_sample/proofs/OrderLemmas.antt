@@ -1,9 +1,8 @@
 -- An order of items that grows, and the walk to the next of them.
-use Rattle.std.proofs.Common.{◌≡◌, ℕ, ◌+◌, ◌-◌, ◌<◌, ◌≤◌, Bool, true, false, not, ◌&&◌, IsTrue, List, [], ◌∷◌, ◌++◌, ◌↔◌, ◌⊎◌, length, get_or, map, refl, sym, ap, ◌∙◌, subst, inl, inr, ⊎_elim, arith, length-append, true≢false, ◌||◌, Some, None, Option, slice_get, take, reverse, nat_le, append-nil}
+use Rattle.std.proofs.Common.{◌≡◌, ℕ, ◌+◌, ◌-◌, ◌<◌, ◌≤◌, Bool, true, false, not, ◌&&◌, IsTrue, List, [], ◌∷◌, ◌++◌, ◌↔◌, ◌⊎◌, length, get_or, map, refl, sym, ap, ◌∙◌, subst, inl, inr, ⊎_elim, arith, length-append, true≢false, ◌||◌, Some, None, Option, slice_get, take, reverse, append-nil}
 use Rattle.std.proofs.lemmas.List.{take_all, take_more, map-append, reverse-append, reverse-reverse}
-use Rattle.std.proofs.lemmas.Bool.{both_ways, cases_lt, le-leb, leb-true, or_cases, or_left, or_right}
+use Rattle.std.proofs.lemmas.Bool.{both_ways, cases_lt, or_cases, or_left, or_right}
 use Rattle.std.proofs.lemmas.Option.{slice_get_past, slice_get_read, slice_get_within, slice_get-get_or, get_or_from_slice_get}
-use Rattle.std.specs.List.Sorted.{IsNonDecreasingBy, IsPartitionPoint}
 use Rattle.std.proofs.Math.Seq.{take-append_seam}
 use Rattle.leaf_rows.specs.declared.leaf_set.LeafSet.{LeafSet}
 use Rattle.leaf_rows.specs.Leaves.{has_leaf}
@@ -13,7 +12,7 @@ use Rattle.flow_model.specs.Decided.{decide_in}
 use Rattle.flow_model.proofs.MadeLists.{joined-append}
 use Rattle.flow_plan.proofs.PlaceLemmas.{read_member}
 use Rattle.flow_sample.specs.declared.item.Item.{Item}
-use Rattle.flow_sample.specs.Rows.{has_inside, has_waits, least_at, least_in, run_in, runs, IsIn, WaitsFor, IsEdge, AreApart}
+use Rattle.flow_sample.specs.Rows.{has_inside, has_waits, run_in, runs, IsIn, WaitsFor, IsEdge, AreApart}
 use Rattle.flow_sample.specs.Arranged.{IsArranged, IsWholeOrder, IsCycle, LeadsOn, TakesIn}
 use Rattle.flow_sample.proofs.RingLemmas.{IsTrail, trail_end}
 
@@ -23,29 +22,29 @@ pub not_and : (a b : Bool) → IsTrue (not a && b) ↔ (¬ (IsTrue a) × IsTrue 
 not_and true b = (λ h. absurd (true≢false (sym h)), λ h. absurd (h.0 refl))
 not_and false b = (λ h. (both_ways false refl, h), λ h. h.1)
 
-row_within : (test : Option Item → ℕ → Bool) (items : List Item) (n x : ℕ) → test None x ≡ false → IsTrue (test (slice_get items n) x) → n < length items
+row_within : {words : ℕ} → (test : Option (Item words) → ℕ → Bool) (items : List (Item words)) (n x : ℕ) → test None x ≡ false → IsTrue (test (slice_get items n) x) → n < length items
 row_within test items n x none h = ⊎_elim (λ l. l)
     (λ l. absurd (both_ways (test None x) none (sym (ap (λ o. test o x) (slice_get_past items n l)) ∙ h))) (cases_lt n (length items))
 
-pub is_within : (items : List Item) (n x : ℕ) → IsIn items n x → n < length items
+pub is_within : {words : ℕ} → (items : List (Item words)) (n x : ℕ) → IsIn items n x → n < length items
 is_within items n x h = row_within has_inside items n x refl h
 
-pub waits_within : (items : List Item) (n x : ℕ) → WaitsFor items n x → n < length items
+pub waits_within : {words : ℕ} → (items : List (Item words)) (n x : ℕ) → WaitsFor items n x → n < length items
 waits_within items n x h = row_within has_waits items n x refl h
 
 -- distinct items, each before the next, that are not in the order yet
-pub record IsPath (items : List Item) (order path : List ℕ) : Type 0 where
+pub record IsPath {words : ℕ} (items : List (Item words)) (order path : List ℕ) : Type 0 where
   pub distinct : AreDistinct path
   pub within : (n : ℕ) → n ∈ path → n < length items
   pub fresh : (n : ℕ) → n ∈ path → ¬ (n ∈ order)
   pub trail : IsTrail items path
 
 -- how many steps a walk may still take
-abbrev pub steps : List Item → List ℕ → List ℕ → ℕ
+abbrev pub steps : {words : ℕ} → List (Item words) → List ℕ → List ℕ → ℕ
 steps items order path = (length items - length order) + (length items - length order) + (length items - length path)
 
-module _ (items : List Item) (w : AreApart items) where
-  pub begun : (left : LeafSet 16) → ((x : ℕ) → IsTrue (has_leaf left x) ↔ ((n : ℕ) × IsIn items n x)) → IsArranged items left []
+module _ {words : ℕ} (items : List (Item words)) (w : AreApart items) where
+  pub begun : (left : LeafSet words) → ((x : ℕ) → IsTrue (has_leaf left x) ↔ ((n : ℕ) × IsIn items n x)) → IsArranged items left []
   begun left all = record {
     distinct = tt;
     within = λ n m. absurd m;
@@ -54,7 +53,7 @@ module _ (items : List Item) (w : AreApart items) where
   }
 
   -- an item that waits for none that is left goes behind the order
-  pub grown : (left new : LeafSet 16) (order longer : List ℕ) (top : ℕ) → IsArranged items left order → top < length items → ¬ (top ∈ order) →
+  pub grown : (left new : LeafSet words) (order longer : List ℕ) (top : ℕ) → IsArranged items left order → top < length items → ¬ (top ∈ order) →
       ((x : ℕ) → WaitsFor items top x → ¬ (IsTrue (has_leaf left x))) →
       ((x : ℕ) → has_leaf new x ≡ (not (has_inside (slice_get items top) x) && has_leaf left x)) → longer ≡ order ++ top ∷ [] → IsArranged items new longer
   grown left new order longer top a there fresh free cleared e = subst (IsArranged items new) (sym e) (record {
@@ -86,19 +85,19 @@ module _ (items : List Item) (w : AreApart items) where
           (decide_in m order)
 
   -- an item that is left is not in the order
-  pub left_out : (left : LeafSet 16) (order : List ℕ) (n x : ℕ) → IsArranged items left order → IsIn items n x → IsTrue (has_leaf left x) → ¬ (n ∈ order)
+  pub left_out : (left : LeafSet words) (order : List ℕ) (n x : ℕ) → IsArranged items left order → IsIn items n x → IsTrue (has_leaf left x) → ¬ (n ∈ order)
   left_out left order n x a i h m =
       let r = (a.rest x).0 h in
       r.2 (subst (λ z. z ∈ order) (w.apart n r.0 x i r.1) m)
 
   -- and one of which no leaf is left is in it
-  pub not_left : (left : LeafSet 16) (order : List ℕ) (n : ℕ) → IsArranged items left order → n < length items →
+  pub not_left : (left : LeafSet words) (order : List ℕ) (n : ℕ) → IsArranged items left order → n < length items →
       ((x : ℕ) → IsIn items n x → ¬ (IsTrue (has_leaf left x))) → n ∈ order
   not_left left order n a l h = ⊎_elim (λ k. k)
       (λ k. let x = w.some n l in absurd (h x.0 x.1 ((a.rest x.0).1 (n, x.1, k))))
       (decide_in n order)
 
-  pub whole_order : (left : LeafSet 16) (order : List ℕ) → IsArranged items left order → ((n : ℕ) → n < length items → n ∈ order) → IsWholeOrder items order
+  pub whole_order : (left : LeafSet words) (order : List ℕ) → IsArranged items left order → ((n : ℕ) → n < length items → n ∈ order) → IsWholeOrder items order
   whole_order left order a all = record {
     distinct = a.distinct;
     within = a.within;
@@ -108,7 +107,7 @@ module _ (items : List Item) (w : AreApart items) where
 
   -- walks
 
-  pub path_on : (left : LeafSet 16) (order path new : List ℕ) (top next : ℕ) (more : List ℕ) → path ≡ top ∷ more → IsArranged items left order → IsPath items order path →
+  pub path_on : (left : LeafSet words) (order path new : List ℕ) (top next : ℕ) (more : List ℕ) → path ≡ top ∷ more → IsArranged items left order → IsPath items order path →
       ((x : ℕ) × IsIn items next x × WaitsFor items top x × IsTrue (has_leaf left x)) → ¬ (next ∈ path) → new ≡ next ∷ path → IsPath items order new
   path_on left order path new top next more e a p (x, i, v, h) fresh f = subst (IsPath items order) (sym f) (record {
     distinct = (fresh, p.distinct);
@@ -137,7 +136,7 @@ module _ (items : List Item) (w : AreApart items) where
       let most = at_most (length items) new p.distinct p.within in
       omega (arith, most, ap length e)
 
-  pub fewer_back : (left : LeafSet 16) (order longer path : List ℕ) (top : ℕ) (more : List ℕ) → path ≡ top ∷ more → IsPath items order path → longer ≡ order ++ top ∷ [] →
+  pub fewer_back : (left : LeafSet words) (order longer path : List ℕ) (top : ℕ) (more : List ℕ) → path ≡ top ∷ more → IsPath items order path → longer ≡ order ++ top ∷ [] →
       IsArranged items left longer → steps items longer more < steps items order path
   fewer_back left order longer path top more e p f a =
       let one = at_most (length items) path p.distinct p.within in
@@ -145,7 +144,7 @@ module _ (items : List Item) (w : AreApart items) where
       omega (arith, one, two, ap length e, ap length f, length-append order (top ∷ []))
 
 -- the first item of a walk
-pub begun_path : (items : List Item) (order path : List ℕ) (start : ℕ) → path ≡ start ∷ [] → start < length items → ¬ (start ∈ order) → IsPath items order path
+pub begun_path : {words : ℕ} → (items : List (Item words)) (order path : List ℕ) (start : ℕ) → path ≡ start ∷ [] → start < length items → ¬ (start ∈ order) → IsPath items order path
 begun_path items order path start e there fresh = subst (IsPath items order) (sym e) (record {
   distinct = ((λ m. m), tt);
   within = λ n m. subst (λ z. z < length items) (sym (only_one n start m)) there;
@@ -179,16 +178,16 @@ rest_of path new top n more e long f =
 
 -- the leaves of the items on a path
 
-abbrev pub AreLeavesOn : List Item → LeafSet 16 → List ℕ → Type 0
+abbrev pub AreLeavesOn : {words : ℕ} → List (Item words) → LeafSet words → List ℕ → Type 0
 AreLeavesOn items set path = (x : ℕ) → IsTrue (has_leaf set x) ↔ ((n : ℕ) × (n ∈ path) × IsIn items n x)
 
-pub leaves_of_one : (items : List Item) (set : LeafSet 16) (start : ℕ) (path : List ℕ) → path ≡ start ∷ [] → ((x : ℕ) → has_inside (slice_get items start) x ≡ has_leaf set x) → AreLeavesOn items set path
+pub leaves_of_one : {words : ℕ} → (items : List (Item words)) (set : LeafSet words) (start : ℕ) (path : List ℕ) → path ≡ start ∷ [] → ((x : ℕ) → has_inside (slice_get items start) x ≡ has_leaf set x) → AreLeavesOn items set path
 leaves_of_one items set start path e same x = (
   λ h. (start, subst (λ z. start ∈ z) (sym e) (inl refl), same x ∙ h),
   λ (n, m, i). sym (same x) ∙ subst (λ z. IsIn items z x) (only_one n start (subst (λ z. n ∈ z) e m)) i,
 )
 
-pub leaves_more : (items : List Item) (old new : LeafSet 16) (next : ℕ) (path longer : List ℕ) → longer ≡ next ∷ path →
+pub leaves_more : {words : ℕ} → (items : List (Item words)) (old new : LeafSet words) (next : ℕ) (path longer : List ℕ) → longer ≡ next ∷ path →
     ((x : ℕ) → has_leaf new x ≡ (has_leaf old x || has_inside (slice_get items next) x)) → AreLeavesOn items old path → AreLeavesOn items new longer
 leaves_more items old new next path longer e add are x = (
   λ h. ⊎_elim (λ o. let r = (are x).0 o in (r.0, subst (λ z. r.0 ∈ z) (sym e) (inr r.1), r.2)) (λ i. (next, subst (λ z. next ∈ z) (sym e) (inl refl), i))
@@ -199,8 +198,8 @@ leaves_more items old new next path longer e add are x = (
       (subst (λ z. n ∈ z) e m),
 )
 
-module _ (items : List Item) (w : AreApart items) (set : LeafSet 16) (path : List ℕ) (are : AreLeavesOn items set path) where
-  pub leaves_less : (new : LeafSet 16) (top : ℕ) (more : List ℕ) → path ≡ top ∷ more → AreDistinct path →
+module _ {words : ℕ} (items : List (Item words)) (w : AreApart items) (set : LeafSet words) (path : List ℕ) (are : AreLeavesOn items set path) where
+  pub leaves_less : (new : LeafSet words) (top : ℕ) (more : List ℕ) → path ≡ top ∷ more → AreDistinct path →
       ((x : ℕ) → has_leaf new x ≡ (not (has_inside (slice_get items top) x) && has_leaf set x)) → AreLeavesOn items new more
   leaves_less new top more e d cleared x =
       let both = not_and (has_inside (slice_get items top) x) (has_leaf set x) in (
@@ -220,41 +219,11 @@ module _ (items : List Item) (w : AreApart items) (set : LeafSet 16) (path : Lis
   pub goes_on : (n : ℕ) → n < length items → ((x : ℕ) → IsIn items n x → ¬ (IsTrue (has_leaf set x))) → ¬ (n ∈ path)
   goes_on n l none m = let x = w.some n l in none x.0 x.1 ((are x.0).1 (n, m, x.1))
 
--- the item of a leaf is the last one whose least leaf is not above it
-
-some_item : (items : List Item) → 0 < length items → Item
-some_item [] l = absurd (omega arith)
-some_item (item ∷ items) l = item
-
-module _ (items : List Item) (w : AreApart items) where
-  told_least : (n : ℕ) (d : Item) → n < length items → least_at items n ≡ (get_or items n d).least
-  told_least n d l = ap least_in (slice_get-get_or items n d l)
-
-  pub leasts_rise : IsNonDecreasingBy (λ (item : Item). item.least) items
-  leasts_rise i j d order within = ⊎_elim
-      (λ less. omega (
-        arith,
-        w.rising i j (least_at items i) (least_at items j) less (w.least i (omega (arith, less, within))) (w.least j within),
-        told_least i d (omega (arith, less, within)),
-        told_least j d within,
-      ))
-      (λ past. let same : i ≡ j = omega (arith, order, past) in omega (arith, ap (λ k. (get_or items k d).least) same))
-      (cases_lt i j)
-
-  pub item_found : (leaf n point : ℕ) → IsIn items n leaf → point ≤ length items →
-      IsPartitionPoint (λ (item : Item). nat_le item.least leaf ≡ true) (λ (item : Item). nat_le item.least leaf ≡ false) items point → n + 1 ≡ point
-  item_found leaf n point i bound p =
-      let l = is_within items n leaf i in
-      let d = some_item items (omega (arith, l)) in
-      ⊎_elim
-      (λ before. ⊎_elim
-      (λ more. let low = leb-true (get_or items (n + 1) d).least leaf (p.0 (n + 1) d (omega arith) more) in
-      let inside : n + 1 < length items = omega (arith, more, bound) in
-      absurd (omega (arith, low, told_least (n + 1) d inside, w.rising n (n + 1) leaf (least_at items (n + 1)) (omega arith) i (w.least (n + 1) inside))))
-      (λ last. omega (arith, before, last))
-      (cases_lt (n + 1) point))
-      (λ past. absurd (true≢false (sym (le-leb (get_or items n d).least leaf (omega (arith, w.none_less n leaf i, told_least n d l))) ∙ p.1 n d past l)))
-      (cases_lt n point)
+-- between these places is the item of the leaf
+pub record IsBetween {words : ℕ} (items : List (Item words)) (leaf first end : ℕ) : Type 0 where
+  pub within : end ≤ length items
+  pub first_in : (n : ℕ) → IsIn items n leaf → first ≤ n
+  pub end_out : (n : ℕ) → IsIn items n leaf → n < end
 
 -- what is held goes on
 
@@ -271,21 +240,21 @@ start_on start order longer path top more e f (inr m) = ⊎_elim
 
 -- rings
 
-on_within : (items : List Item) (first n : ℕ) (more : List ℕ) → LeadsOn items first n more → (m : ℕ) → m ∈ (n ∷ more) → m < length items
+on_within : {words : ℕ} → (items : List (Item words)) (first n : ℕ) (more : List ℕ) → LeadsOn items first n more → (m : ℕ) → m ∈ (n ∷ more) → m < length items
 on_within items first n [] h m (inl e) = subst (λ z. z < length items) (sym e) (is_within items n h.0 h.1)
 on_within items first n [] h m (inr k) = absurd k
 on_within items first n (next ∷ more) h m (inl e) = subst (λ z. z < length items) (sym e) (is_within items n h.0.0 h.0.1)
 on_within items first n (next ∷ more) h m (inr k) = on_within items first next more h.1 m k
 
-pub ring_within : (items : List Item) (ring : List ℕ) → IsCycle items ring → (m : ℕ) → m ∈ ring → m < length items
+pub ring_within : {words : ℕ} → (items : List (Item words)) (ring : List ℕ) → IsCycle items ring → (m : ℕ) → m ∈ ring → m < length items
 ring_within items [] h m k = absurd h
 ring_within items (n ∷ more) h m k = on_within items n n more h m k
 
-pub ring_some : (items : List Item) (ring : List ℕ) → IsCycle items ring → 0 < length ring
+pub ring_some : {words : ℕ} → (items : List (Item words)) (ring : List ℕ) → IsCycle items ring → 0 < length ring
 ring_some items [] h = absurd h
 ring_some items (n ∷ more) h = omega arith
 
-pub each_within : (items : List Item) (order seen : List ℕ) → seen ≡ order → ((n : ℕ) → n ∈ order → n < length items) → Each (λ n. n < length items) seen
+pub each_within : {words : ℕ} → (items : List (Item words)) (order seen : List ℕ) → seen ≡ order → ((n : ℕ) → n ∈ order → n < length items) → Each (λ n. n < length items) seen
 each_within items order seen e h = each_from_members (λ n. n < length items) seen (λ n m. h n (subst (λ z. n ∈ z) e m))
 
 -- one more place passed
@@ -294,14 +263,14 @@ passed_more old new start h k n l =
     elim (cases_lt n start) [ inl i ↦ k.kept n (h n i) | inr i ↦ let e : n ≡ start = omega arith in subst (λ z. z ∈ new) (sym e) k.here ]
 
 -- what the row of the item at a place says
-pub row_at : (test : Option Item → ℕ → Bool) (items : List Item) (n : ℕ) (item : Item) → n < length items → (x : ℕ) → test (slice_get items n) x ≡ test (Some (get_or items n item)) x
+pub row_at : {words : ℕ} → (test : Option (Item words) → ℕ → Bool) (items : List (Item words)) (n : ℕ) (item : Item words) → n < length items → (x : ℕ) → test (slice_get items n) x ≡ test (Some (get_or items n item)) x
 row_at test items n item l x = ap (λ o. test o x) (slice_get-get_or items n item l)
 
 -- the union of rows of items
-abbrev pub IsUnion : (Option Item → ℕ → Bool) → List Item → ℕ → LeafSet 16 → Type 0
+abbrev pub IsUnion : {words : ℕ} → (Option (Item words) → ℕ → Bool) → List (Item words) → ℕ → LeafSet words → Type 0
 IsUnion test items k all = (x : ℕ) → IsTrue (has_leaf all x) ↔ ((n : ℕ) × (n < k) × IsTrue (test (slice_get items n) x))
 
-pub union_more : (test : Option Item → ℕ → Bool) (items : List Item) (k : ℕ) (item : Item) (old new : LeafSet 16) → k < length items → item ≡ get_or items k item →
+pub union_more : {words : ℕ} → (test : Option (Item words) → ℕ → Bool) (items : List (Item words)) (k : ℕ) (item : Item words) (old new : LeafSet words) → k < length items → item ≡ get_or items k item →
     ((x : ℕ) → has_leaf new x ≡ (has_leaf old x || test (Some item) x)) → IsUnion test items k old → IsUnion test items (k + 1) new
 union_more test items k item old new l e add all x =
     let there : test (slice_get items k) x ≡ test (Some item) x = ap (λ o. test o x) (slice_get_read items (length items) k item refl l e) in (
@@ -314,7 +283,7 @@ union_more test items k item old new l e add all x =
     )
 
 -- what is read of each item, with one more
-pub read_more : {A : Type 0} (of : Option Item → A) (items : List Item) (order : List ℕ) (k : ℕ) (item : Item) → k < length order → Each (λ n. n < length items) order →
+pub read_more : {A : Type 0} {words : ℕ} (of : Option (Item words) → A) (items : List (Item words)) (order : List ℕ) (k : ℕ) (item : Item words) → k < length order → Each (λ n. n < length items) order →
     map (λ n. of (slice_get items n)) (take (k + 1) order) ≡ map (λ n. of (slice_get items n)) (take k order) ++ of (Some (get_or items (get_or order k 0) item)) ∷ []
 read_more {A} of items order k item l w =
     let f : ℕ → A = λ n. of (slice_get items n) in
@@ -323,7 +292,7 @@ read_more {A} of items order k item l w =
     ∙ ap (λ o. map f (take k order) ++ of o ∷ []) (slice_get-get_or items (get_or order k 0) item there)
 
 -- and the runs
-pub runs_more : (items : List Item) (order : List ℕ) (k : ℕ) (item : Item) → k < length order → Each (λ n. n < length items) order →
+pub runs_more : {words : ℕ} → (items : List (Item words)) (order : List ℕ) (k : ℕ) (item : Item words) → k < length order → Each (λ n. n < length items) order →
     runs items (take (k + 1) order) ≡ runs items (take k order) ++ (get_or items (get_or order k 0) item).run.items
 runs_more items order k item l w =
     let run : List ℕ = (get_or items (get_or order k 0) item).run.items in
@@ -331,7 +300,7 @@ runs_more items order k item l w =
     ∙ ap (λ z. runs items (take k order) ++ z) (append-nil run)
 
 -- the union of the rows of all items
-pub union_of_all : (test : Option Item → ℕ → Bool) (items : List Item) (k : ℕ) (all : LeafSet 16) → ((n x : ℕ) → IsTrue (test (slice_get items n) x) → n < length items) → length items ≤ k →
+pub union_of_all : {words : ℕ} → (test : Option (Item words) → ℕ → Bool) (items : List (Item words)) (k : ℕ) (all : LeafSet words) → ((n x : ℕ) → IsTrue (test (slice_get items n) x) → n < length items) → length items ≤ k →
     IsUnion test items k all → (x : ℕ) → IsTrue (has_leaf all x) ↔ ((n : ℕ) × IsTrue (test (slice_get items n) x))
 union_of_all test items k all within past are x = (
   λ h. let r = (are x).0 h in (r.0, r.2),
@@ -339,6 +308,6 @@ union_of_all test items k all within past are x = (
 )
 
 -- what an item says by its place
-pub item_row : (test : Option Item → ℕ → Bool) (items : List Item) (n : ℕ) (item : Item) → n < length items → item ≡ get_or items n item → (x : ℕ) →
+pub item_row : {words : ℕ} → (test : Option (Item words) → ℕ → Bool) (items : List (Item words)) (n : ℕ) (item : Item words) → n < length items → item ≡ get_or items n item → (x : ℕ) →
     test (slice_get items n) x ≡ test (Some item) x
 item_row test items n item within is x = ap (λ o. test o x) (slice_get_read items (length items) n item refl within is)

@@ -23,13 +23,13 @@ item_of_some [] x m = absurd m
 item_of_some (n ∷ l) x m = refl
 
 module _ (q : Process) (pairs : List (ℕ × ℕ)) where
-  are_append : (ls ks : List (List ℕ)) (xs ys : List Item) → AreItemsOf q pairs ls xs → AreItemsOf q pairs ks ys → AreItemsOf q pairs (ls ++ ks) (xs ++ ys)
+  are_append : {words : ℕ} → (ls ks : List (List ℕ)) (xs ys : List (Item words)) → AreItemsOf q pairs ls xs → AreItemsOf q pairs ks ys → AreItemsOf q pairs (ls ++ ks) (xs ++ ys)
   are_append [] ks [] ys a b = b
   are_append [] ks (x ∷ xs) ys a b = absurd a
   are_append (l ∷ ls) ks [] ys a b = absurd a
   are_append (l ∷ ls) ks (x ∷ xs) ys a b = (a.0, are_append ls ks xs ys a.1 b)
 
-  pub adds_both : (whole a b : Process) (old mid new : List Item) → items_of whole ≡ items_of a ++ items_of b → AddsItems q pairs a old mid → AddsItems q pairs b mid new →
+  pub adds_both : {words : ℕ} → (whole a b : Process) (old mid new : List (Item words)) → items_of whole ≡ items_of a ++ items_of b → AddsItems q pairs a old mid → AddsItems q pairs b mid new →
       AddsItems q pairs whole old new
   adds_both whole a b old mid new e s t = record {
     added = s.added ++ t.added;
@@ -37,14 +37,14 @@ module _ (q : Process) (pairs : List (ℕ × ℕ)) where
     items = subst (λ z. AreItemsOf q pairs z (s.added ++ t.added)) (sym e) (are_append (items_of a) (items_of b) s.added t.added s.items t.items);
   }
 
-  pub adds_none : (g : Process) (old : List Item) → items_of g ≡ [] → AddsItems q pairs g old old
-  adds_none g old e = record {
+  pub adds_none : {words : ℕ} → (g : Process) (old : List (Item words)) → items_of g ≡ [] → AddsItems q pairs g old old
+  adds_none {words} g old e = record {
     added = [];
     is = sym (append-nil old);
-    items = subst (λ z. AreItemsOf q pairs z []) (sym e) tt;
+    items = subst (λ z. AreItemsOf {words = words} q pairs z []) (sym e) tt;
   }
 
-  pub adds_one : (g : Process) (list : List ℕ) (old new : List Item) (item : Item) → items_of g ≡ list ∷ [] → new ≡ old ++ item ∷ [] → IsItemOf q pairs list item →
+  pub adds_one : {words : ℕ} → (g : Process) (list : List ℕ) (old new : List (Item words)) (item : Item words) → items_of g ≡ list ∷ [] → new ≡ old ++ item ∷ [] → IsItemOf q pairs list item →
       AddsItems q pairs g old new
   adds_one g list old new item e f i = record {
     added = item ∷ [];
@@ -52,7 +52,7 @@ module _ (q : Process) (pairs : List (ℕ × ℕ)) where
     items = subst (λ z. AreItemsOf q pairs z (item ∷ [])) (sym e) (i, tt);
   }
 
-  pub leaf_item : IsOrdered q pairs → (leaf : ℕ) (item : Item) → ((x : ℕ) → IsTrue (has_leaf item.inside x) ↔ (x ≡ leaf)) →
+  pub leaf_item : {words : ℕ} → IsOrdered q pairs → (leaf : ℕ) (item : Item words) → ((x : ℕ) → IsTrue (has_leaf item.inside x) ↔ (x ≡ leaf)) →
       ((x : ℕ) → IsTrue (has_leaf item.waits x) ↔ DirectlyBefore q pairs x leaf) → item.least ≡ leaf → item.run.items ≡ leaf ∷ [] → IsItemOf q pairs (leaf ∷ []) item
   leaf_item o leaf item inside waits least run = record {
     inside = λ x. (λ h. inl ((inside x).0 h), λ m. (inside x).1 (only_one x leaf m));
@@ -71,7 +71,7 @@ module _ (q : Process) (pairs : List (ℕ × ℕ)) where
   }
 
   -- an isolated part with no leaf
-  pub no_item : (body : Process) (old inner : List Item) → AddsItems q pairs body [] inner → inner ≡ [] → AddsItems q pairs (Isolated body) old old
+  pub no_item : {words : ℕ} → (body : Process) (old inner : List (Item words)) → AddsItems q pairs body [] inner → inner ≡ [] → AddsItems q pairs (Isolated body) old old
   no_item body old inner s e = adds_none (Isolated body) old (ap item_of none)
     where
       none : leaves body ≡ []
@@ -80,13 +80,13 @@ module _ (q : Process) (pairs : List (ℕ × ℕ)) where
 
   -- and one with leaves
 
-  module _ (o : IsOrdered q pairs) (rising : Rises (leaves q)) (body : Process) (inner : List Item) (is_part : body ∈ isolated_parts q) (s : AddsItems q pairs body [] inner) where
+  module _ {words : ℕ} (o : IsOrdered q pairs) (rising : Rises (leaves q)) (body : Process) (inner : List (Item words)) (is_part : body ∈ isolated_parts q) (s : AddsItems q pairs body [] inner) where
     are : AreItemsOf q pairs (items_of body) inner
     are = subst (AreItemsOf q pairs (items_of body)) (sym s.is) s.items
 
     -- its items may become one
-    pub can_close : (before : List Item) (Then : List Item → Type 0) →
-        ((new : List Item) → AddsItems q pairs (Isolated body) before new → Then new) → CanClose q pairs inner before Then
+    pub can_close : (before : List (Item words)) (Then : List (Item words) → Type 0) →
+        ((new : List (Item words)) → AddsItems q pairs (Isolated body) before new → Then new) → CanClose q pairs inner before Then
     can_close before Then then = record {
       apart = apart;
       some = λ l. let x = apart.some 0 l in (0, x.0, x.1);

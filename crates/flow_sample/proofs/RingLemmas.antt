@@ -14,7 +14,7 @@ use Rattle.flow_sample.specs.Arranged.{LeadsOn, IsCycle, IsNodeRing}
 pub not_there : (xs : List ℕ) (x : ℕ) → ((k : ℕ) → k < length xs → get_or xs k 0 ≡ x → ⊥) → ¬ (x ∈ xs)
 not_there xs x h m = let (k, within, is) = place_of_member xs x m in h k within is
 
-module _ (items : List Item) where
+module _ {words : ℕ} (items : List (Item words)) where
   -- each item is before the next
   abbrev pub IsTrail : List ℕ → Type 0
   IsTrail [] = Unit {0}

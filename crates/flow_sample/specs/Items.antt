@@ -23,22 +23,22 @@ pub record IsLinedUp (q : Process) (pairs : List (ℕ × ℕ)) (list run : List 
       StandsBefore x y run → StandsBefore y z run → ⊥
 
 -- the item with those leaves
-pub record IsItemOf (q : Process) (pairs : List (ℕ × ℕ)) (list : List ℕ) (item : Item) : Type 0 where
+pub record IsItemOf {words : ℕ} (q : Process) (pairs : List (ℕ × ℕ)) (list : List ℕ) (item : Item words) : Type 0 where
   pub inside : (x : ℕ) → IsTrue (has_leaf item.inside x) ↔ (x ∈ list)
   pub waits : (x : ℕ) → IsTrue (has_leaf item.waits x) ↔ (((y : ℕ) × (y ∈ list) × DirectlyBefore q pairs x y) × ¬ (x ∈ list))
   pub least : item.least ≡ least_of list
   pub run : IsLinedUp q pairs list item.run.items
 
 -- one item a list
-abbrev pub AreItemsOf : Process → List (ℕ × ℕ) → List (List ℕ) → List Item → Type 0
+abbrev pub AreItemsOf : {words : ℕ} → Process → List (ℕ × ℕ) → List (List ℕ) → List (Item words) → Type 0
 AreItemsOf q pairs [] [] = Unit {0}
 AreItemsOf q pairs [] (item ∷ items) = ⊥
 AreItemsOf q pairs (list ∷ lists) [] = ⊥
 AreItemsOf q pairs (list ∷ lists) (item ∷ items) = IsItemOf q pairs list item × AreItemsOf q pairs lists items
 
 -- the items of the goal are added
-pub record AddsItems (q : Process) (pairs : List (ℕ × ℕ)) (g : Process) (old new : List Item) : Type 0 where
-  pub added : List Item
+pub record AddsItems {words : ℕ} (q : Process) (pairs : List (ℕ × ℕ)) (g : Process) (old new : List (Item words)) : Type 0 where
+  pub added : List (Item words)
   pub is : new ≡ old ++ added
   pub items : AreItemsOf q pairs (items_of g) added
 

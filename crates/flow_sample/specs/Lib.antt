@@ -4,3 +4,4 @@ pub mod Arranged
 pub mod ItemMarks
 pub mod Items
 pub mod Sample
+pub mod LeftLeaves

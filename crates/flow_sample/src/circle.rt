@@ -23,7 +23,11 @@ impl Circle {
 }
 
 /// The least leaves of those items.
-fn leasts(alloc: Global, items: &[Item], numbers: &[usize]) -> Result<Vec<u32>, AllocError>
+fn leasts<const W: usize>(
+    alloc: Global,
+    items: &[Item<W>],
+    numbers: &[usize],
+) -> Result<Vec<u32>, AllocError>
     requires { Each (λ number. number < length items.now) numbers.now }
     ensures { IfOk result (λ leaves. leaves.items ≡ map (least_at items.now) numbers.now) }
 {
@@ -45,7 +49,11 @@ fn least_place(list: &[u32]) -> usize
 }
 
 /// The items of a ring as a circle.
-pub(crate) fn circle_of(alloc: Global, items: &[Item], ring: &[usize]) -> Result<Circle, AllocError>
+pub(crate) fn circle_of<const W: usize>(
+    alloc: Global,
+    items: &[Item<W>],
+    ring: &[usize],
+) -> Result<Circle, AllocError>
     requires within { Each (λ number. number < length items.now) ring.now }
     requires some { 0 < length ring.now }
     ensures { IfOk result (λ circle. IsTurned (map (least_at items.now) ring.now) circle.leaves.items) }

@@ -1,5 +1,6 @@
-ghost use Rattle.std.specs.Prelude.{◌≡◌, ◌<◌, ◌+◌, ◌^◌, [], ◌∷◌, List, IfSome, MatchResult, slice_get};
-ghost use Rattle.flow_model.specs.declared.limits.TheConstants.{MOST_LEAVES};
+ghost use Rattle.std.specs.Prelude.{◌≡◌, ◌<◌, ◌≤◌, ◌+◌, ◌*◌, ◌^◌, [], ◌∷◌, List, ℕ, IfSome, MatchResult, slice_get};
+ghost use Rattle.flow_model.specs.Lists.{Each};
+ghost use Rattle.flow_model.specs.Process.{IsChoiceFree};
 ghost use Rattle.flow_plan.specs.Planned.{pairs_of};
 ghost use Rattle.flow_goal.specs.declared.node.Node.{Node};
 ghost use Rattle.flow_goal.specs.declared.node.Node.TheVariants.{Leaf, Open, Close};
@@ -18,17 +19,22 @@ use std::mem;
 
 /// The items of a goal that is read from left to right.
 #[derive(Drop)]
-pub(crate) struct Gathering {
+pub(crate) struct Gathering<const W: usize> {
     /// The place of the next leaf.
     pub(crate) place: usize,
     /// Those of the innermost isolated part that has begun.
-    pub(crate) items: Vec<Item>,
+    pub(crate) items: Vec<Item<W>>,
     /// Those of each part around it.
-    pub(crate) outer: Vec<Vec<Item>>,
+    pub(crate) outer: Vec<Vec<Item<W>>>,
 }
 
 /// Puts the items of an isolated part behind the list, as one.
-fn add_part(alloc: Global, inner: &[Item], items: &mut Vec<Item>) -> Result<(), ExciseRefusal>
+fn add_part<const W: usize>(
+    alloc: Global,
+    inner: &[Item<W>],
+    items: &mut Vec<Item<W>>,
+) -> Result<(), ExciseRefusal>
+    requires wide { W ≤ 64 }
     requires apart { AreApart inner.now }
     requires some { HasSome inner.now }
     ensures { MatchResult result
@@ -41,17 +47,20 @@ fn add_part(alloc: Global, inner: &[Item], items: &mut Vec<Item>) -> Result<(), 
 }
 
 /// The leaf at that place.
-fn leaf_in_place(plan: &Plan, place: usize) -> Option<u32>
+pub(crate) fn leaf_in_place(plan: &Plan, place: usize) -> Option<u32>
     ensures leaf { result ≡ slice_get plan.now.leaves place }
-    ensures small { IfSome result (λ leaf. leaf < MOST_LEAVES) }
+    ensures small { (most : ℕ) → Each (λ n. n < most) plan.now.leaves → IfSome result (λ leaf. leaf < most) }
     ensures next { IfSome result (λ _. place + 1 < 2 ^ 64) }
 {
     plan.leaves().get(place).copied()
 }
 
-impl Gathering {
+impl<const W: usize> Gathering<W> {
     /// A leaf is an item.
     fn leaf(&mut self, alloc: Global, plan: &Plan) -> Result<(), ExciseRefusal>
+        requires wide { W ≤ 64 }
+        requires small { Each (λ n. n < 64 * W) plan.now.leaves }
+        requires choice_free { IsChoiceFree plan.now.process }
         ensures { MatchResult result
             (λ _. ReadsMark plan.now Leaf self.old self.new)
             (TellsCircle plan.now.process (pairs_of plan.now.tokens)) }
@@ -67,6 +76,7 @@ impl Gathering {
 
     /// A part begins.
     fn open(&mut self, alloc: Global, plan: &Plan) -> Result<(), ExciseRefusal>
+        requires { W ≤ 64 }
         ensures { MatchResult result
             (λ _. ReadsMark plan.now Open self.old self.new)
             (TellsCircle plan.now.process (pairs_of plan.now.tokens)) }
@@ -78,7 +88,8 @@ impl Gathering {
 
     /// A part ends: its items are one, unless they wait for each other.
     fn close(&mut self, alloc: Global, plan: &Plan) -> Result<(), ExciseRefusal>
-        requires { (nodes : List Node) × Gathers plan.now (Close ∷ nodes) self.old }
+        requires wide { W ≤ 64 }
+        requires gathers { (nodes : List Node) × Gathers plan.now (Close ∷ nodes) self.old }
         ensures { MatchResult result
             (λ _. ReadsMark plan.now Close self.old self.new)
             (TellsCircle plan.now.process (pairs_of plan.now.tokens)) }
@@ -99,7 +110,10 @@ impl Gathering {
         plan: &Plan,
         node: &Node,
     ) -> Result<(), ExciseRefusal>
-        requires { (nodes : List Node) × Gathers plan.now (node.now ∷ nodes) self.old }
+        requires wide { W ≤ 64 }
+        requires small { Each (λ n. n < 64 * W) plan.now.leaves }
+        requires choice_free { IsChoiceFree plan.now.process }
+        requires gathers { (nodes : List Node) × Gathers plan.now (node.now ∷ nodes) self.old }
         ensures { MatchResult result
             (λ _. ReadsMark plan.now node.now self.old self.new)
             (TellsCircle plan.now.process (pairs_of plan.now.tokens)) }

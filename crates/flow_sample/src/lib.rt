@@ -2,10 +2,12 @@
 //! after Davulcu, Kifer, Ramakrishnan and Ramakrishnan 1998).
 #![tactic(auto)]
 
+mod by_items;
 mod circle;
 mod gathering;
 mod item;
 mod items;
+mod left_leaves;
 mod order;
 mod sample;
 

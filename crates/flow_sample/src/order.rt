@@ -1,4 +1,4 @@
-ghost use Rattle.std.specs.Prelude.{◌≡◌, ◌<◌, ◌&&◌, ◌||◌, ℕ, IsTrue, IfOk, IfErr, MatchOption, MatchResult, length, not, slice_get, slice_index};
+ghost use Rattle.std.specs.Prelude.{◌≡◌, ◌<◌, ◌≤◌, ◌&&◌, ◌||◌, ℕ, IsTrue, IfOk, IfErr, MatchOption, MatchResult, length, not, slice_get, slice_index};
 ghost use Rattle.flow_model.specs.Lists.{◌∈◌, Each};
 ghost use Rattle.leaf_rows.specs.Leaves.{has_leaf};
 ghost use Rattle.flow_sample.specs.Rows.{AreApart, IsIn, WaitsFor, has_inside, runs};
@@ -10,17 +10,29 @@ use crate::sample::ExciseRefusal;
 use leaf_rows::LeafSet;
 use std::alloc::{AllocError, Global};
 
-/// The item that the leaf is in. Leaves rise from item to item, so it is the last whose least leaf is not above this one.
-fn item_with(items: &[Item], leaf: u32) -> usize
+/// The item that the leaf is in. Leaves rise from item to item, so it is the last whose least leaf is not above this one,
+/// which is found by halves.
+fn item_with<const W: usize>(items: &[Item<W>], leaf: u32) -> usize
     requires apart { AreApart items.now }
     requires some { (n : ℕ) × IsIn items.now n leaf }
     ensures { IsIn items.now result leaf }
 {
-    items.partition_point(|item| item.least <= leaf) - 1
+    let mut first = 0;
+    let mut end = items.len();
+    while first + 1 < end {
+        let middle = first + (end - first) / 2;
+        if items[middle].least <= leaf {
+            first = middle;
+        } else {
+            end = middle;
+        }
+    }
+    first
 }
 
 /// An item that the one of that number waits for, and that is left.
-fn blocker(items: &[Item], left: &LeafSet<16>, number: usize) -> Option<usize>
+fn blocker<const W: usize>(items: &[Item<W>], left: &LeafSet<W>, number: usize) -> Option<usize>
+    requires wide { W ≤ 64 }
     requires apart { AreApart items.now }
     requires there { number < length items.now }
     requires within { (x : ℕ) → IsTrue (has_leaf left.now x) → (n : ℕ) × IsIn items.now n x }
@@ -35,7 +47,7 @@ fn blocker(items: &[Item], left: &LeafSet<16>, number: usize) -> Option<usize>
 }
 
 /// Takes the leaves of an item out.
-fn take_out(items: &[Item], number: usize, set: &mut LeafSet<16>)
+fn take_out<const W: usize>(items: &[Item<W>], number: usize, set: &mut LeafSet<W>)
     requires { number < length items.now }
     ensures { (x : ℕ) → has_leaf set.new x ≡ (not (has_inside (slice_get items.now number) x) && has_leaf set.old x) }
 {
@@ -43,7 +55,7 @@ fn take_out(items: &[Item], number: usize, set: &mut LeafSet<16>)
 }
 
 /// Puts the leaves of an item in.
-fn put_in(items: &[Item], number: usize, set: &mut LeafSet<16>)
+fn put_in<const W: usize>(items: &[Item<W>], number: usize, set: &mut LeafSet<W>)
     requires { number < length items.now }
     ensures { (x : ℕ) → has_leaf set.new x ≡ (has_leaf set.old x || has_inside (slice_get items.now number) x) }
 {
@@ -65,8 +77,9 @@ fn place_in_path(path: &[usize], number: usize) -> usize
 }
 
 /// The items of a ring as a refusal.
-fn refusal_of(alloc: Global, items: &[Item], ring: &[usize]) -> ExciseRefusal
-    requires { IsNodeRing items.now ring.now }
+fn refusal_of<const W: usize>(alloc: Global, items: &[Item<W>], ring: &[usize]) -> ExciseRefusal
+    requires wide { W ≤ 64 }
+    requires ring { IsNodeRing items.now ring.now }
     ensures { TellsRing items.now result }
 {
     match circle_of(alloc, items, ring) {
@@ -78,13 +91,14 @@ fn refusal_of(alloc: Global, items: &[Item], ring: &[usize]) -> ExciseRefusal
 /// Puts the item behind the order, and before it those that it waits for, as far as they are left. If
 /// they wait for each other, a circle of them is the refusal. The path goes from the item to one that it
 /// waits for, and on; the leaves on it are a set, so that only a ring that is found is looked for in it.
-fn put_in_order(
+fn put_in_order<const W: usize>(
     alloc: Global,
-    items: &[Item],
+    items: &[Item<W>],
     start: usize,
-    left: &mut LeafSet<16>,
+    left: &mut LeafSet<W>,
     order: &mut Vec<usize>,
 ) -> Result<(), ExciseRefusal>
+    requires wide { W ≤ 64 }
     requires apart { AreApart items.now }
     requires there { start < length items.now }
     requires fresh { ¬ (start ∈ order.old.items) }
@@ -118,7 +132,11 @@ fn put_in_order(
 }
 
 /// The runs of the items in that order.
-fn joined_runs(alloc: Global, items: &[Item], order: &[usize]) -> Result<Vec<u32>, AllocError>
+fn joined_runs<const W: usize>(
+    alloc: Global,
+    items: &[Item<W>],
+    order: &[usize],
+) -> Result<Vec<u32>, AllocError>
     requires { Each (λ n. n < length items.now) order.now }
     ensures { IfOk result (λ run. run.items ≡ runs items.now order.now) }
 {
@@ -131,8 +149,12 @@ fn joined_runs(alloc: Global, items: &[Item], order: &[usize]) -> Result<Vec<u32
 
 /// The runs of the items one after another, each after those that it waits for. If they wait for each
 /// other, a circle of them is the refusal.
-pub(crate) fn run_of(alloc: Global, items: &[Item]) -> Result<Vec<u32>, ExciseRefusal>
-    requires { AreApart items.now }
+pub(crate) fn run_of<const W: usize>(
+    alloc: Global,
+    items: &[Item<W>],
+) -> Result<Vec<u32>, ExciseRefusal>
+    requires wide { W ≤ 64 }
+    requires apart { AreApart items.now }
     ensures ok { IfOk result (λ run. IsRunOf items.now run.items) }
     ensures ring { IfErr result (TellsRing items.now) }
 {

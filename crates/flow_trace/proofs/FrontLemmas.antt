@@ -1,24 +1,25 @@
 -- How long options are followed.
 use Rattle.std.proofs.Common.{◌≡◌, ◌<◌, ◌≤◌, ◌+◌, ◌⊎◌, ℕ, max, Bool, true, false, ◌↔◌, IsTrue, List, [], ◌∷◌, ◌++◌, length, take, drop, get_or, Some, slice_get, refl, sym, ap, ◌∙◌, subst, below_more, arith, inl, inr}
 use Rattle.std.proofs.lemmas.Bool.{cases_lt}
-use Rattle.std.proofs.lemmas.List.{take_all, take_more, take-append-drop}
+use Rattle.std.proofs.lemmas.List.{take_all, take_more, take-append-drop, length-take-le}
 use Rattle.flow_model.specs.declared.limits.TheConstants.{MOST_LEAVES}
 use Rattle.flow_model.specs.Process.{leaves as leaves_of}
 use Rattle.flow_model.specs.Resolution.{ChoiceOption}
-use Rattle.flow_model.proofs.Lists.{mem-slice_get, each_member}
+use Rattle.flow_model.proofs.Lists.{at_most, mem-slice_get, each_member, each_from_members}
 use Rattle.flow_model.proofs.MadeLists.{some_same}
-use Rattle.flow_laws.proofs.ReadyRuns.{run_front, run_grow, ready_at}
-use Rattle.flow_plan.specs.Orders.{MayComeNext}
+use Rattle.flow_plan.specs.Orders.{MayComeNext, TellOf}
 use Rattle.flow_plan.specs.Planned.{Planned}
-use Rattle.flow_plan.specs.Progress.{IsDone}
+use Rattle.flow_plan.specs.Sided.{IsDoneIn}
 use Rattle.flow_plan.specs.Sampled.{Sampled}
-use Rattle.flow_plan.specs.declared.progress.Progress.{Progress}
+use Rattle.flow_plan.specs.declared.sides.Sides.{Sides}
 use Rattle.flow_plan.specs.Options.{options_of, option_of, HasSmallLeaves}
 use Rattle.flow_residual.specs.Options.{SomeOption}
-use Rattle.flow_residual.proofs.DoneLemmas.{AreDone}
+use Rattle.flow_residual.specs.Telling.{Tells}
+use Rattle.flow_residual.proofs.FoldedSteps.{run_front, run_grow, run_leaf, run_distinct, ready_at}
 use Rattle.flow_residual.proofs.OptionLemmas.{none_found, plan_at}
 use Rattle.flow_residual.proofs.QuestionLemmas.{next_of_option}
-use Rattle.flow_trace.specs.Fronts.{Follows, Finishes, Reaches, AreReaching, AreReachingBelow}
+use Rattle.flow_residual.proofs.TellingLemmas.{tell_of}
+use Rattle.flow_trace.specs.Fronts.{AreAlong, Follows, Finishes, Reaches, AreReaching, AreReachingBelow}
 use Rattle.flow_trace.proofs.TraceLemmas.{take_longer}
 
 -- a front is followed where the list is
@@ -33,35 +34,53 @@ longer_not o list k m h none run =
 
 -- ---- one option, leaf by leaf
 
-module _ (p : Planned) (leaves : List ℕ) (i : ℕ) (within : i < length leaves) (done : Progress) (same : AreDone done (take i leaves))
-    (follows : Follows (take i leaves) (option_of p)) (ready : Bool) (says : IsTrue ready ↔ MayComeNext p (IsDone done) (get_or leaves i 0)) where
-  abbrev o : ChoiceOption
-  o = option_of p
+-- a front that is followed is no longer than rows are
+pub is_few : (p : Planned) (leaves : List ℕ) → HasSmallLeaves (option_of p) → (i : ℕ) → Follows (take i leaves) (option_of p) → i ≤ length leaves → i ≤ MOST_LEAVES
+is_few p leaves small i follows within =
+    let distinct = (run_distinct p.process (option_of p).order (λ n. ⊥) (take i leaves) follows).0 in
+    let most = at_most MOST_LEAVES (take i leaves) distinct
+    (λ n m. each_member (λ n. n < MOST_LEAVES) (leaves_of p.process) small n (run_leaf p.process (option_of p).order (λ n. ⊥) (take i leaves) follows n m)) in
+    omega (arith, most, length-take-le i leaves within)
 
-  abbrev leaf : ℕ
-  leaf = get_or leaves i 0
+module _ (p : Planned) (leaves : List ℕ) (all : List Sides) (along : AreAlong (option_of p) leaves all) (small : HasSmallLeaves (option_of p))
+    (i : ℕ) (follows : Follows (take i leaves) (option_of p)) where
+  -- the sides after a front that is followed were made
+  pub is_made : i ≤ length leaves → i < length all
+  is_made within = along.covers i within (each_from_members (λ n. n < MOST_LEAVES) (take i leaves)
+      (λ n m. each_member (λ n. n < MOST_LEAVES) (leaves_of p.process) small n (run_leaf p.process (option_of p).order (λ n. ⊥) (take i leaves) follows n m)))
 
-  more_is : take (i + 1) leaves ≡ take i leaves ++ leaf ∷ []
-  more_is = take_more leaves i 0 within
+  module _ (within : i ≤ length leaves) (sides : Sides) (read : sides ≡ get_or all i sides) where
+    abbrev o : ChoiceOption
+    o = option_of p
 
-  next : IsTrue ready ↔ Follows (take (i + 1) leaves) o
-  next =
-      let at = next_of_option p done (take i leaves) same o refl leaf in (
-        λ is_ready. subst (λ (l : List ℕ). Follows l o) (sym more_is) (run_grow o.resolution o.order (take i leaves) leaf follows (at.0 (says.0 is_ready))),
-        λ run. says.1 (at.1 (ready_at o.resolution o.order (take i leaves) leaf [] (subst (λ (l : List ℕ). Follows l o) more_is run))),
-      )
+    pub told : Tells (option_of p ∷ []) (take i leaves) [] sides
+    told = along.tell i sides (is_made within) read
 
-  pub follows_more : ready ≡ true → Follows (take (i + 1) leaves) o
-  follows_more is_ready = next.0 is_ready
+    pub tells : TellOf p sides
+    tells = tell_of (option_of p ∷ []) (take i leaves) [] sides told (option_of p) (inl refl) p refl
 
-  pub next_small : HasSmallLeaves o → ready ≡ true → leaf < MOST_LEAVES
-  next_small small is_ready = each_member (λ n. n < MOST_LEAVES) (leaves_of p.process) small leaf (says.0 is_ready).leaf
+    module _ (inside : i < length leaves) (ready : Bool) (says : IsTrue ready ↔ MayComeNext p (IsDoneIn sides) (get_or leaves i 0)) where
+      abbrev leaf : ℕ
+      leaf = get_or leaves i 0
 
-  pub stops : ready ≡ false → Reaches leaves o i
-  stops not_ready = record { within = omega (arith, within); follows = follows; no_longer = λ less run. let is_ready = next.1 run in cc }
+      more_is : take (i + 1) leaves ≡ take i leaves ++ leaf ∷ []
+      more_is = take_more leaves i 0 inside
 
-  pub stops_part : ready ≡ false → IsTrue false ↔ Finishes leaves o
-  stops_part not_ready = (λ wrong. absurd (cc), λ whole. let is_ready = next.1 (front_follows o leaves (i + 1) whole.0) in cc)
+      next : IsTrue ready ↔ Follows (take (i + 1) leaves) o
+      next =
+          let at = next_of_option p sides (take i leaves) told.done o refl leaf in (
+            λ is_ready. subst (λ (l : List ℕ). Follows l o) (sym more_is) (run_grow o.resolution o.order (take i leaves) leaf follows (at.0 (says.0 is_ready))),
+            λ run. says.1 (at.1 (ready_at o.resolution o.order (take i leaves) leaf [] (subst (λ (l : List ℕ). Follows l o) more_is run))),
+          )
+
+      pub follows_more : ready ≡ true → Follows (take (i + 1) leaves) o
+      follows_more is_ready = next.0 is_ready
+
+      pub stops : ready ≡ false → Reaches leaves o i
+      stops not_ready = record { within = within; follows = follows; no_longer = λ less run. let is_ready = next.1 run in cc }
+
+      pub stops_part : ready ≡ false → IsTrue false ↔ Finishes leaves o
+      stops_part not_ready = (λ wrong. absurd (cc), λ whole. let is_ready = next.1 (front_follows o leaves (i + 1) whole.0) in cc)
 
 pub reaches_all : (o : ChoiceOption) (leaves : List ℕ) (i : ℕ) → length leaves ≤ i → Follows (take i leaves) o → Reaches leaves o (length leaves)
 reaches_all o leaves i past follows = record {

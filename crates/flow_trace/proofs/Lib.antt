@@ -1,2 +1,3 @@
+pub mod AlongLemmas
 pub mod FrontLemmas
 pub mod TraceLemmas

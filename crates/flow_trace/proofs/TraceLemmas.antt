@@ -7,7 +7,8 @@ use Rattle.flow_model.specs.declared.labels.Label.{Label}
 use Rattle.flow_model.specs.Lists.{◌∈◌, Each, Begins, numbers_from}
 use Rattle.flow_model.specs.Facts.{State, HoldsAt, after_leaf, Runs, replay}
 use Rattle.flow_model.specs.Schema.{Schema, start_of, IsGood}
-use Rattle.flow_model.specs.Resolution.{ChoiceOption, options}
+use Rattle.flow_model.specs.Folding.{folded_options, is_named}
+use Rattle.flow_model.specs.Resolution.{ChoiceOption}
 use Rattle.flow_model.specs.Run.{RunState, first_state}
 use Rattle.flow_model.specs.Verdict.{IsPossible}
 use Rattle.flow_laws.specs.WellFormed.{IsWellFormed, IsConsistent}
@@ -15,9 +16,9 @@ use Rattle.flow_model.proofs.Lists.{mem_append_left, mem_append_right, each_memb
 use Rattle.flow_model.proofs.MadeLists.{numbers_from_below, begins_front}
 use Rattle.flow_laws.proofs.SoundStates.{runs-append, runs_front}
 use Rattle.flow_laws.proofs.TraceLeaves.{leaf_of_trace, distinct_trace}
-use Rattle.flow_laws.proofs.OptionsLemmas.{option_is_ordered, distinct_leaves, option_of_good, option_trace_is_good}
-use Rattle.flow_laws.proofs.ReadyRuns.{fronts_are_ready}
-use Rattle.flow_laws.proofs.CircleOrTrace.{ready_runs_extend}
+use Rattle.flow_laws.proofs.OptionsLemmas.{distinct_leaves}
+use Rattle.flow_fold_laws.proofs.FoldedRunsLemmas.{folded_fronts_are_ready, folded_runs_extend}
+use Rattle.flow_fold_laws.proofs.UnfoldedOptions.{folded_option_is_ordered, folded_option_of_good, folded_option_trace_is_good}
 use Rattle.flow_plan.specs.Options.{HasExecution, AreJustThose}
 use Rattle.flow_plan.proofs.KeptOptions.{kept_has}
 use Rattle.flow_workflow.specs.Definition.{Definition, schema_of}
@@ -26,7 +27,7 @@ use Rattle.flow_facts.specs.Journals.{labels_at}
 use Rattle.flow_facts.proofs.JournalLabels.{replay-labels_at, length-labels_at}
 use Rattle.flow_residual.specs.Options.{SomeOption}
 use Rattle.flow_residual.specs.Remaining.{Remaining, IsOf}
-use Rattle.flow_residual.proofs.QuestionLemmas.{has_kept, is_good}
+use Rattle.flow_residual.proofs.Following.{has_kept, is_good}
 use Rattle.flow_trace.specs.declared.checked.Checked.{Checked}
 use Rattle.flow_trace.specs.declared.checked.Checked.TheVariants.{Execution, Prefix, Bad}
 use Rattle.flow_trace.specs.Fronts.{Follows, Finishes, AreReaching}
@@ -38,18 +39,18 @@ BeginsGood w list = (t : List ℕ) × IsGood w t × Begins t list
 
 -- ---- the options that have an execution
 
-module _ (w : Schema) (f : IsWellFormed w) (os : List ChoiceOption) (are : AreJustThose HasExecution (options w) os) (list : List ℕ) where
+module _ (w : Schema) (f : IsWellFormed w) (os : List ChoiceOption) (are : AreJustThose HasExecution (folded_options w) os) (list : List ℕ) where
   pub followed : SomeOption (Follows list) os ↔ BeginsGood w list
   followed = (
     λ (o, m, run).
-        let (there, (sample, trace)) = kept_has (options w) os are o m in
-        let ordered = option_is_ordered w f o there in
-        let (t, whole, pairs, begins) = ready_runs_extend o.resolution o.order ordered (sample, trace.0, trace.1) list run in
-        (t, option_trace_is_good w f t o there (whole, pairs), begins),
+        let (there, (sample, trace)) = kept_has (folded_options w) os are o m in
+        let ordered = folded_option_is_ordered (is_named w) w f o there in
+        let (t, whole, pairs, begins) = folded_runs_extend o.resolution o.order ordered (sample, trace.0, trace.1) list run in
+        (t, folded_option_trace_is_good (is_named w) w f (λ k h. h) t o there (whole, pairs), begins),
     λ (t, good, begins).
-        let (o, m, trace) = option_of_good w f t good in
-        let ordered = option_is_ordered w f o m in
-        (o, has_kept (options w) os are o m (t, trace), fronts_are_ready o.resolution o.order ordered t list trace.0 trace.1 begins),
+        let (o, m, trace) = folded_option_of_good (is_named w) w f (λ k h. h) t good in
+        let ordered = folded_option_is_ordered (is_named w) w f o m in
+        (o, has_kept (folded_options w) os are o m (t, trace), folded_fronts_are_ready o.resolution o.order ordered t list trace.0 trace.1 begins),
   )
 
   abbrev s : RunState
@@ -135,7 +136,7 @@ front_of_front (suc k) (suc m) [] h = refl
 front_of_front (suc k) (suc m) (x ∷ list) h = ap (λ (l : List ℕ). x ∷ l) (front_of_front k m list (omega arith))
 
 module _ (d : Definition) (f : IsWellFormed (schema_of d)) (consistent : IsConsistent (schema_of d))
-    (os : List ChoiceOption) (are : AreJustThose HasExecution (options (schema_of d)) os)
+    (os : List ChoiceOption) (are : AreJustThose HasExecution (folded_options (schema_of d)) os)
     (leaves : List ℕ) (held : ℕ) (holds : HoldsUpTo d leaves held) (k : ℕ) (reaching : AreReaching (take held leaves) os k) where
   abbrev w : Schema
   w = schema_of d

@@ -26,7 +26,8 @@ pub fn check_trace(
     // its leaves have their numbers, and are few
     let _tree = workflow.tree();
     let held = held_front(alloc, workflow, leaves)?;
-    let (longest, is_whole) = furthest(compiled.plans(), &leaves[..held]);
+    let front = &leaves[..held];
+    let (longest, is_whole) = furthest(alloc, compiled.plans(), compiled.folds(), front)?;
     if longest < leaves.len() {
         return Ok(Checked::Bad(longest as u32));
     }

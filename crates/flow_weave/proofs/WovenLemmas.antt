@@ -3,10 +3,10 @@ use Rattle.std.proofs.Common.{◌≡◌, ℕ, ◌+◌, ◌<◌, ◌↔◌, subst
 use Rattle.std.proofs.lemmas.List.{take_more, map-append}
 use Rattle.flow_model.specs.Lists.{numbers_from}
 use Rattle.flow_model.specs.Process.{Process}
-use Rattle.flow_model.specs.Ready.{IsCompleteRun}
+use Rattle.flow_model.specs.FoldedReady.{IsCompleteFoldedRun}
 use Rattle.flow_model.specs.Resolution.{OptionTrace}
-use Rattle.flow_laws.specs.WellFormed.{IsOrdered}
-use Rattle.flow_laws.proofs.ReadyRuns.{complete_runs_are_traces}
+use Rattle.flow_fold_laws.specs.Unfolding.{IsFoldedOrdered}
+use Rattle.flow_fold_laws.proofs.FoldedRunsLemmas.{folded_complete_runs_are_traces}
 use Rattle.flow_model.proofs.MadeLists.{numbers_from_more}
 use Rattle.flow_plan.specs.declared.token.OrderToken.{OrderToken}
 use Rattle.flow_plan.specs.Planned.{pairs_of, token_numbers}
@@ -25,9 +25,9 @@ numbers_with i old new token is more before =
     ∙ sym (ap (λ (n : ℕ). numbers_from 0 n) (add-one i) ∙ numbers_from_more 0 i ∙ ap (λ (n : ℕ). numbers_from 0 i ++ n ∷ []) (zero-add i))
 
 -- the complete ready runs of a plan are the executions of its option
-pub woven_runs : (q g : Process) (tokens : List OrderToken) (pairs : List (ℕ × ℕ)) → q ≡ g → pairs_of tokens ≡ pairs → IsOrdered q (pairs_of tokens) → (t : List ℕ) →
-    IsCompleteRun q (pairs_of tokens) t ↔ OptionTrace (record { resolution = g; order = pairs }) t
+pub woven_runs : (q g : Process) (tokens : List OrderToken) (pairs : List (ℕ × ℕ)) → q ≡ g → pairs_of tokens ≡ pairs → IsFoldedOrdered q (pairs_of tokens) → (t : List ℕ) →
+    IsCompleteFoldedRun q (pairs_of tokens) t ↔ OptionTrace (record { resolution = g; order = pairs }) t
 woven_runs q g tokens pairs same_goal same_pairs ordered t =
-    let Says : Process → List (ℕ × ℕ) → Type 0 = λ h ps. IsCompleteRun q (pairs_of tokens) t ↔ OptionTrace (record { resolution = h; order = ps }) t in
+    let Says : Process → List (ℕ × ℕ) → Type 0 = λ h ps. IsCompleteFoldedRun q (pairs_of tokens) t ↔ OptionTrace (record { resolution = h; order = ps }) t in
     subst (λ (h : Process). Says h pairs) same_goal
-    (subst (λ (ps : List (ℕ × ℕ)). Says q ps) same_pairs (complete_runs_are_traces q (pairs_of tokens) ordered t))
+    (subst (λ (ps : List (ℕ × ℕ)). Says q ps) same_pairs (folded_complete_runs_are_traces q (pairs_of tokens) ordered t))

@@ -1,9 +1,8 @@
 ghost use Rattle.std.specs.Prelude.{◌≡◌, ◌≢◌, ◌<◌, ◌^◌, ◌↔◌, ℕ, List, IfOk, length, map};
 ghost use Rattle.flow_model.specs.declared.limits.TheConstants.{MOST_LEAVES};
-ghost use Rattle.flow_model.specs.Lists.{Each, numbers_from};
-ghost use Rattle.flow_model.specs.Ready.{IsCompleteRun};
+ghost use Rattle.flow_model.specs.Lists.{◌∈◌, Each, numbers_from};
+ghost use Rattle.flow_model.specs.FoldedReady.{IsCompleteFoldedRun};
 ghost use Rattle.flow_model.specs.Resolution.{OptionTrace};
-ghost use Rattle.flow_laws.specs.WellFormed.{AreOfLeaves};
 ghost use Rattle.flow_plan.specs.Planned.{pairs_of, token_numbers};
 ghost use Rattle.flow_weave.specs.Woven.{option_with};
 
@@ -34,7 +33,7 @@ fn tokens_of(alloc: Global, pairs: &[(u32, u32)]) -> Result<Vec<OrderToken>, All
 pub fn weave(alloc: Global, goal: &Choiceless, order: &OrderSet) -> Result<Plan, AllocError>
     requires few { length order.now.pairs.items < 2 ^ 32 }
     requires small { Each (λ n. n < MOST_LEAVES) goal.now.leaves }
-    requires of_leaves { AreOfLeaves goal.now.process order.now.pairs.items }
+    requires of_fixed { Each (λ pair. (pair.0 ∈ goal.now.fixed) × (pair.1 ∈ goal.now.fixed)) order.now.pairs.items }
     requires different { Each (λ pair. pair.0 ≢ pair.1) order.now.pairs.items }
     ensures process { IfOk result (λ plan. plan.process ≡ goal.now.process) }
     ensures pairs { IfOk result (λ plan. pairs_of plan.tokens ≡ order.now.pairs.items) }
@@ -42,7 +41,7 @@ pub fn weave(alloc: Global, goal: &Choiceless, order: &OrderSet) -> Result<Plan,
         token_numbers plan.tokens ≡ numbers_from 0 (length order.now.pairs.items)) }
     // a run that goes by the plan to its end is an execution of the option
     ensures traces { IfOk result (λ plan. (t : List ℕ) →
-        IsCompleteRun plan.process (pairs_of plan.tokens) t
+        IsCompleteFoldedRun plan.process (pairs_of plan.tokens) t
         ↔ OptionTrace (option_with goal.now.process order.now) t) }
 {
     let tokens = tokens_of(alloc, order.pairs())?;

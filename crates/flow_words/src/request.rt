@@ -27,10 +27,12 @@ pub enum Mode {
     Gen,
     /// Run a generated workflow by workers.
     Large,
+    /// Say of each of many journals whether it is an execution of a workflow, by workers.
+    Audit,
 }
 
 /// All modes.
-pub(crate) const MODES: [Mode; 7] = [
+pub(crate) const MODES: [Mode; 8] = [
     Mode::Drive,
     Mode::Run,
     Mode::Check,
@@ -38,6 +40,7 @@ pub(crate) const MODES: [Mode; 7] = [
     Mode::Trace,
     Mode::Gen,
     Mode::Large,
+    Mode::Audit,
 ];
 
 impl Mode {
@@ -53,6 +56,7 @@ impl Mode {
             Mode::Trace => "trace",
             Mode::Gen => "gen",
             Mode::Large => "large",
+            Mode::Audit => "audit",
         }
     }
 }
@@ -63,7 +67,7 @@ pub struct Request {
     pub mode: Mode,
     /// The greatest length of a history.
     pub steps: u32,
-    /// How many workers run a workflow.
+    /// How many workers run a workflow, or check journals.
     pub workers: u32,
     /// What a workflow is generated from.
     pub seed: u32,

@@ -369,3 +369,28 @@ has_bit_resized w v words other n long same = ⊎_elim
         (λ there. ap (λ b. b && (bit_of words n == 1)) (lt-ltb n (64 * w) there))
         (λ past. rw (le-ltb n (64 * w) past) (sym (ap (λ word. bit_at word (n % 64) == 1) (get_or_past words (n / 64) 0 (omega (arith, past, long))) ∙ ap (λ b. b == 1) (bit_at-zero (n % 64)))))
         (cases_lt n (64 * w))
+
+-- a row that is read as a wider one has the same bits
+pub has_bit_wider : (v w : ℕ) (words : List ℕ) (n : ℕ) → length words ≡ v → v ≤ w → has_bit w words n ≡ has_bit v words n
+has_bit_wider v w words n long fits = has_bit_resized v w words words n long (λ _. refl) ∙ ⊎_elim
+    (λ within. ap (λ b. b && has_bit v words n) (lt-ltb n (64 * w) within))
+    (λ past. ap (λ b. b && has_bit v words n) (le-ltb n (64 * w) past) ∙ sym (has_bit-past v words n (omega (arith, past, fits))))
+    (cases_lt n (64 * w))
+
+-- the words that a narrower row has are joined, and the others are as they were
+pub union_narrow_in_words : (w v : ℕ) (words other both : List ℕ) (i n : ℕ) → length other ≡ v → v ≤ w → v ≤ i
+    → ((k : ℕ) → k < i → get_or both k 0 ≡ bit_or (get_or words k 0) (get_or other k 0)) → ((k : ℕ) → i ≤ k → get_or both k 0 ≡ get_or words k 0)
+    → has_bit w both n ≡ (has_bit w words n || has_bit v other n)
+union_narrow_in_words w v words other both i n long fits all joined after =
+    let same = has_bit_wider v w other n long fits in
+    union_in_words w words other both 0 v i n all (λ k _ below. joined k below) (λ k below. absurd (omega (arith, below))) after
+    (λ has. (omega arith, (has_bit-parts v other n (sym same ∙ has)).0)) ∙ ap (λ b. has_bit w words n || b) same
+
+-- where the words past some are zero, each bit stands in those
+pub within_by_words : (w v : ℕ) (words : List ℕ) (i : ℕ) → w ≤ i → ((k : ℕ) → v ≤ k → k < i → get_or words k 0 ≡ 0) → (k : ℕ) → has_bit w words k ≡ true → k < 64 * v
+within_by_words w v words i all zero_words k has = ⊎_elim
+    (λ below. below)
+    (λ past. let parts = has_bit-parts w words k has in
+    let zero = bit_of-zero_word words k (zero_words (k / 64) (omega (arith, past)) (omega (arith, parts.0, all))) in
+    let wrong = sym zero ∙ parts.1 in absurd (cc))
+    (cases_lt k (64 * v))

@@ -74,6 +74,16 @@ impl<const W: usize> LeafSet<W> {
         }
     }
 
+    /// Puts each member of a set that is as wide or narrower in. It touches no word that the other lacks.
+    pub fn union_narrow<const V: usize>(&mut self, other: &LeafSet<V>)
+        requires { V ≤ W }
+        ensures { (k : ℕ) → has_leaf self.new k ≡ (has_leaf self.old k || has_leaf other.now k) }
+    {
+        for i in 0..V {
+            self.words[i] |= other.words[i];
+        }
+    }
+
     /// Takes each member of the other out.
     #[tactic(auto, using(crate::proofs::Members::lies_within))]
     pub fn remove_all(&mut self, other: &Self)
@@ -128,6 +138,18 @@ impl<const W: usize> LeafSet<W> {
             }
         }
         LeafSet { words }
+    }
+
+    /// Whether a set of that width has room for each member.
+    pub fn is_within<const V: usize>(&self) -> bool
+        ensures { IsTrue result ↔ ((k : ℕ) → IsTrue (has_leaf self.now k) → k < 64 * V) }
+    {
+        for i in V..W {
+            if self.words[i] != 0 {
+                return false;
+            }
+        }
+        true
     }
 
     /// Whether the two have a common member.

@@ -6,4 +6,4 @@ mod leaf_set;
 pub use leaf_set::LeafSet;
 
 /// The words of a set that has room for each leaf that a workflow may have.
-pub const LEAF_WORDS: usize = 16;
+pub const LEAF_WORDS: usize = 64;

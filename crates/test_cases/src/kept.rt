@@ -26,9 +26,9 @@ const ENTRIES: [&str; 7] = [
 
 /// What a call came to.
 #[derive(Drop)]
-pub struct KeptCall {
-    pub status: u8,
-    pub written: Vec<u8>,
+pub(crate) struct KeptCall {
+    pub(crate) status: u8,
+    pub(crate) written: Vec<u8>,
     disk: MemDisk,
 }
 
@@ -39,7 +39,7 @@ impl KeptCall {
     }
 
     /// What the disk shows.
-    pub fn shown(&self, alloc: Global) -> Result<Vec<u8>> {
+    pub(crate) fn shown(&self, alloc: Global) -> Result<Vec<u8>> {
         Ok(self.disk.left(alloc, 0, true)?)
     }
 }
@@ -69,7 +69,7 @@ fn call(
 }
 
 /// The call that a row describes.
-pub fn call_of(alloc: Global, words: &[String], row: &Row<'_>) -> Result<KeptCall> {
+pub(crate) fn call_of(alloc: Global, words: &[String], row: &Row<'_>) -> Result<KeptCall> {
     call(alloc, words, &row.input, &row.before, CALLS, row.room)
 }
 
@@ -142,7 +142,7 @@ fn each_image_goes_on(
 }
 
 /// Whether the call that a row describes, stopped at each call of its disk in turn, leaves of the history what it must.
-pub fn stands_when_stopped(
+pub(crate) fn stands_when_stopped(
     alloc: Global,
     words: &[String],
     row: &Row<'_>,

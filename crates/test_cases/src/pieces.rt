@@ -6,7 +6,7 @@ use std::io::Write;
 /// At the end of a line a backslash leaves out the line feed. Elsewhere `\r` is a carriage return, `\xC3 ` that byte, and
 /// a series in braces is its members: of the numbers 2 to 4 with a comma and a blank between, ``\{2..5`, `e#}`` is
 /// `e2, e3, e4`. In a series `@` is the number and one, and `~` a line feed.
-pub fn push_line(text: &mut Vec<u8>, line: &str) -> Result<()> {
+pub(crate) fn push_line(text: &mut Vec<u8>, line: &str) -> Result<()> {
     let mut pieces = line.split("\\");
     push_plain(text, pieces.next().unwrap_or(""))?;
     for piece in pieces {

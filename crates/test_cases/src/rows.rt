@@ -25,19 +25,19 @@ use std::alloc::Global;
 /// 00
 /// ```
 #[derive(Drop)]
-pub struct Row<'a> {
-    pub name: &'a str,
+pub(crate) struct Row<'a> {
+    pub(crate) name: &'a str,
     /// The command line.
-    pub words: &'a str,
+    pub(crate) words: &'a str,
     /// The number of the status.
-    pub status: u8,
+    pub(crate) status: u8,
     /// How many bytes can be written.
-    pub room: usize,
-    pub input: Vec<u8>,
-    pub output: Vec<u8>,
+    pub(crate) room: usize,
+    pub(crate) input: Vec<u8>,
+    pub(crate) output: Vec<u8>,
     /// The bytes on the disk before the call, and after it.
-    pub before: Vec<u8>,
-    pub after: Vec<u8>,
+    pub(crate) before: Vec<u8>,
+    pub(crate) after: Vec<u8>,
 }
 
 /// More bytes than any row writes.
@@ -71,7 +71,7 @@ fn ending(line: &str) -> Result<(u8, usize)> {
 
 impl<'a> Row<'a> {
     /// The row that the text says; it begins with the name.
-    pub fn read(alloc: Global, text: &'a str) -> Result<Row<'a>> {
+    pub(crate) fn read(alloc: Global, text: &'a str) -> Result<Row<'a>> {
         let mut parts = text.split("---\n");
         let given = parts.next().context("an empty row")?;
         let (name, given) = given.split_once("\n").context("a row without a name")?;

@@ -1,8 +1,9 @@
 //! Doubles for tests of what the program stands on: sources and sinks in memory, cut in pieces or with faults on
-//! purpose, and a gate and a checker at which two tasks and two checks meet.
+//! purpose, a gate and a checker at which two tasks and two checks meet, and a gate that counts what it is asked.
 #![tactic(auto)]
 
 mod copying;
+mod counting_gate;
 mod cut_source;
 mod faulty_sink;
 mod faulty_source;
@@ -12,6 +13,7 @@ mod meet_checker;
 mod mem_sink;
 mod mem_source;
 
+pub use counting_gate::CountingGate;
 pub use cut_source::CutSource;
 pub use faulty_sink::FaultySink;
 pub use faulty_source::FaultySource;

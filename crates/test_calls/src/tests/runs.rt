@@ -1,14 +1,18 @@
-ghost use Rattle.std.specs.Prelude.{IfOk};
+ghost use Rattle.std.specs.Prelude.{◌≡◌, [], IfOk};
 ghost use Rattle.flow_form.specs.Script.{said};
 ghost use Rattle.flow_form.specs.Names.{IsClosed};
 
 use flow_core::{Ask, Call, Core, FailEffect, Told, play};
+use flow_crew::{Begin, Book, End, Move, Post};
 use flow_excise::compile;
 use flow_expand::{Workflow, expand};
-use flow_model::Note;
+use flow_gate::{NoteGate, Outcome};
+use flow_model::{Entry, Note, Step};
 use flow_text::{Script, parse};
+use flow_turn::TurnLock;
 use std::alloc::Global;
 use std::test::Fail;
+use test_doubles::CountingGate;
 
 fn script_of(alloc: Global, text: &[u8]) -> Result<Script, Fail>
     ensures { IfOk result (λ script. IsClosed (said script)) }
@@ -32,7 +36,9 @@ fn workflow_of(alloc: Global, text: &[u8]) -> Result<Workflow, Fail> {
 }
 
 /// A run of the workflow that the text becomes.
-fn start(alloc: Global, text: &[u8]) -> Result<Core, Fail> {
+fn start(alloc: Global, text: &[u8]) -> Result<Core, Fail>
+    ensures { IfOk result (λ core. core.history ≡ []) }
+{
     let workflow = workflow_of(alloc, text)?;
     let Ok(compiled) = compile(alloc, workflow.tree(), workflow.rules()) else {
         return Err(Fail::from("no plans"));
@@ -77,5 +83,57 @@ fn each_thing_is_asked_of_a_run(rt: HostRuntime) -> Result<(), Fail> {
     assert!(rt; matches!(committed, Told::Committed));
     assert_eq!(rt; (core.made(3), core.made(0)), (6, 0));
     assert!(rt; core.holds(0) && core.committed());
+    Ok(())
+}
+
+/// How many entries are of a claim that is given.
+fn claims_in(history: &[Entry]) -> u32 {
+    let mut count = 0u32;
+    for entry in history {
+        if let Step::Took { .. } = entry.step {
+            count = count.wrapping_add(1);
+        }
+    }
+    count
+}
+
+#[test]
+fn who_finishes_asks_once_a_claim(rt: HostRuntime) -> Result<(), Fail> {
+    let core = start(
+        rt.alloc(),
+        b"event a, b, c fail 1, d fail, e; goal (a + b) * c * (d + e);",
+    )?;
+    let gate = CountingGate::new();
+    let mut book = Book::new(core, &gate);
+    assert!(rt; matches!(book.finish(0), End::Committed));
+    let core = book.into_core();
+    assert!(rt; gate.asked() > 0);
+    assert_eq!(rt; claims_in(core.history()), gate.asked());
+    Ok(())
+}
+
+/// The leaf of the task that a caller is to perform.
+fn leaf_of(found: Move) -> Option<u32> {
+    match found {
+        Move::Perform(call) => Some(call.leaf),
+        _ => None,
+    }
+}
+
+#[test]
+fn two_passes_at_one_book(rt: HostRuntime) -> Result<(), Fail> {
+    let core = start(rt.alloc(), b"event a, b; goal a | b;")?;
+    let Ok((lock, mut root)) = TurnLock::new(rt.alloc(), Book::new(core, NoteGate)) else {
+        return Err(Fail::from("no lock"));
+    };
+    let mut first = lock.split(&mut root);
+    let mut second = lock.split(&mut root);
+    let one = lock.with_turn(&rt, &mut first, Begin);
+    let two = lock.with_turn(&rt, &mut second, Begin);
+    lock.join(&mut root, first);
+    lock.join(&mut root, second);
+    let core = lock.close(root).into_core();
+    assert!(rt; leaf_of(one) == Some(0) && leaf_of(two) == Some(1));
+    assert_eq!(rt; (core.made(1), core.made(2), core.made(0)), (1, 1, 0));
     Ok(())
 }

@@ -5,11 +5,11 @@ use flow_cli::{Status, flow};
 use flow_gate::{Call, Gate, NoteGate, Outcome, TableGate};
 use std::alloc::{AllocError, Global};
 use std::sync::Wait;
-use std::sync::atomic::{AtomicBool, AtomicU32, Ordering};
+use std::sync::atomic::{AtomicBool, Ordering};
 use std::test::Fail;
 use std::thread;
 use std::thread::Threads;
-use test_doubles::{MeetGate, MemSink, MemSource};
+use test_doubles::{CountingGate, MeetGate, MemSink, MemSource};
 
 /// More bytes than are written here.
 const ROOM: usize = 4000;
@@ -19,6 +19,9 @@ const TURNS: u64 = 1_000_000_000;
 
 /// The same, where 64 tasks look for each other.
 const FEWER_TURNS: u64 = 1_000_000;
+
+/// How often a task lets others go first whose time is to be long.
+const LONG: u32 = 200_000;
 
 /// `examples/order_desk.flow`.
 const ORDER_DESK: &str = "event receive, check_form, ask_back, register;
@@ -100,6 +103,47 @@ fn two_workers_meet(rt: HostRuntime) {
         "event a, b; goal a | b;",
         &gate,
     );
+    assert!(rt; is_fine_without(told, "failed"));
+}
+
+#[test]
+fn one_worker_meets_nobody(rt: HostRuntime) -> Result<(), Fail> {
+    // nobody comes, however long a task looks
+    let gate = MeetGate::new(0, 1, 1000);
+    let workflow = "event a, b; goal a | b;";
+    let (status, report) = ran(&rt, "flow run --workers 1", workflow, &gate)?;
+    assert!(rt; status == Status::No);
+    assert_eq!(rt; lines_with(std::str::from_utf8(&report)?, "failed"), 1);
+    Ok(())
+}
+
+/// A first task that takes long, before two that are done only where each sees the other at work.
+#[derive(Drop)]
+struct LongFirst {
+    others: MeetGate,
+}
+
+impl Gate for LongFirst {
+    ghost gives = { λ _ _. true };
+
+    fn perform(&self, call: Call) -> Outcome {
+        if call.leaf == 0 {
+            for _ in 0..LONG {
+                thread::yield_now();
+            }
+        }
+        self.others.perform(call)
+    }
+}
+
+/// A worker finds nothing to do before the first task is done: it has to wait, and to come back.
+#[test]
+fn who_waits_comes_back(rt: HostRuntime) {
+    let gate = LongFirst {
+        others: MeetGate::new(1, 2, TURNS),
+    };
+    let workflow = "event a, b, c; goal a * (b | c);";
+    let told = ran(&rt, "flow run --workers 2", workflow, &gate);
     assert!(rt; is_fine_without(told, "failed"));
 }
 
@@ -187,33 +231,16 @@ fn as_many_workers_as_can_be_meet(rt: HostRuntime) {
     assert!(rt; is_fine_without(met(&rt, 64, FEWER_TURNS), "failed"));
 }
 
-/// As the events are declared, with a count of the tasks.
-#[derive(Drop)]
-struct Counting {
-    asked: AtomicU32,
-}
-
-impl Gate for Counting {
-    ghost gives = { λ _ _. true };
-
-    fn perform(&self, call: Call) -> Outcome {
-        self.asked.fetch_add(1, Ordering::SeqCst);
-        NoteGate.perform(call)
-    }
-}
-
 #[test]
 fn each_task_is_asked_for_once(rt: HostRuntime) {
-    let gate = Counting {
-        asked: AtomicU32::new(0),
-    };
+    let gate = CountingGate::new();
     let told = ran(&rt, "flow run --workers 4", ORDER_DESK, &gate);
     let Ok((status, text)) = told else {
         panic!(&rt; "no memory")
     };
     assert!(rt; status == Status::Fine);
     let text = std::str::from_utf8(&text).unwrap_or("");
-    let asked = gate.asked.load(Ordering::SeqCst);
+    let asked = gate.asked();
     assert!(rt; asked > 0);
     assert_eq!(rt; lines_with(text, "took"), asked);
 }

@@ -6,7 +6,7 @@ use Rattle.flow_cli.proofs.drive.drive_script.Goals as goal
 
 pub returns : goal.returns
 returns c =
-    let (d, is, out) = c.in_ok-output.ensures in (
+    let (d, is, out) = c.in_ok-output.ensures.ok in (
       driven d,
       inr (
         c.in_ok-prepared.prepared.workflow,

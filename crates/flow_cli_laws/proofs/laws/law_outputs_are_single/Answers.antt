@@ -1,6 +1,6 @@
 use Rattle.flow_cli_laws.proofs.Whole.{outputs_are_single}
 use Rattle.flow_cli_laws.proofs.Faults.{faults_are_told}
-use Rattle.flow_cli_laws.proofs.Once.{checks_once, traces_once, sessions_once}
+use Rattle.flow_cli_laws.proofs.Once.{checks_once, traces_once, audits_once, sessions_once}
 use Rattle.flow_cli_laws.proofs.laws.law_outputs_are_single.Goals as goal
 
 pub returns-clause-outputs : goal.returns-clause-outputs
@@ -14,6 +14,9 @@ returns-clause-checks c = checks_once
 
 pub returns-clause-traces : goal.returns-clause-traces
 returns-clause-traces c = traces_once
+
+pub returns-clause-audits : goal.returns-clause-audits
+returns-clause-audits c = audits_once
 
 pub returns-clause-sessions : goal.returns-clause-sessions
 returns-clause-sessions c = sessions_once

@@ -7,7 +7,7 @@ use Rattle.flow_plan.specs.declared.token.OrderToken.{OrderToken}
 use Rattle.flow_plan.specs.Planned.{Planned, AreNumbered}
 use Rattle.flow_plan.specs.Sampled.{Sampled}
 use Rattle.flow_weave.specs.Woven.{option_with}
-use Rattle.flow_model.specs.Circle.{IsCircle}
+use Rattle.flow_model.specs.FoldedCircle.{IsFoldedCircle}
 use Rattle.flow_model.specs.Resolution.{ChoiceOption}
 use Rattle.flow_plan.specs.Options.{options_of, HasExecution, HasSmallLeaves, option_of}
 use Rattle.flow_excise.proofs.SiftingLemmas.{numbered}
@@ -33,7 +33,7 @@ returns-in_ok-push-in-Err-Circle c =
     (record {
       resolution = refl;
       way = refl;
-      circle = subst (λ (o : ChoiceOption). IsCircle o.resolution o.order c.in-Err-Circle.circle.leaves.items) same reason.1;
+      circle = subst (λ (o : ChoiceOption). IsFoldedCircle o.resolution o.order c.in-Err-Circle.circle.leaves.items) same reason.1;
     })
 
 -- one plan more, or none for want of memory

@@ -1,12 +1,11 @@
-use Rattle.std.proofs.Common.{◌≡◌, ◌∙◌, ◌<◌, ◌+◌, ◌*◌, Bool, true, false, true≢false, get_or, refl, subst, sym, arith, map}
-use Rattle.flow_model.specs.Resolution.{resolution_count}
-use Rattle.flow_laws.proofs.ResolutionsLemmas.{length-resolutions}
+use Rattle.std.proofs.Common.{◌≡◌, ◌∙◌, ◌<◌, ◌+◌, ◌*◌, ◌/◌, ap, Bool, true, false, true≢false, get_or, refl, subst, sym, arith, map}
+use Rattle.flow_laws.proofs.FoldingLemmas.{length-folded}
 use Rattle.flow_rules.specs.Conjunction.{normal_in}
 use Rattle.flow_rules.specs.EventLeaves.{IsBlank}
 use Rattle.flow_rules.specs.declared.leaf_table.LeafEvents.{LeafEvents}
 use Rattle.flow_excise.specs.declared.sieve.Sieve.{Sieve}
 use Rattle.flow_excise.specs.Executions.{numbered_options}
-use Rattle.flow_excise.specs.Options.{options_by}
+use Rattle.flow_excise.specs.Options.{count_in, folded, options_by}
 use Rattle.flow_excise.specs.Sieve.{HasSifted, HasSiftedTo}
 use Rattle.flow_excise.proofs.BlockLemmas.{block_end, last_block, more_blocks, options_found}
 use Rattle.flow_excise.proofs.SieveLemmas.{met_length, none_sifted, plannable_ways}
@@ -15,15 +14,15 @@ use Rattle.flow_excise.proofs.sifted.sift_all.Goals.{then-has_option+in_ok-block
 
 pub new-requires-then-has_option-clause-numbered : goal.new-requires-then-has_option-clause-numbered
 new-requires-then-has_option-clause-numbered c =
-    more_blocks (resolution_count c.args.tree.now.process) c.loop-number.number c.blocks-number-end.result c.blocks-number-end.ensures c.loop-number-test.true
+    more_blocks (count_in (folded c.args.tree.now c.args.choices.now)) c.loop-number.number c.blocks-number-end.result (c.blocks-number-end.ensures ∙ ap (λ n. (n + 63) / 64) c.requires.choices.counted) c.loop-number-test.true
 
 pub sift_block-requires-clause-long : goal.sift_block-requires-clause-long
 sift_block-requires-clause-long c =
-    met_length c.args.tree.now (normal_in c.args.rules.now) c.args.met.now c.requires.met ∙ length-resolutions c.args.tree.now.process
+    met_length (folded c.args.tree.now c.args.choices.now) (normal_in c.args.rules.now) c.args.met.now c.requires.met ∙ length-folded (folded c.args.tree.now c.args.choices.now).apart c.args.tree.now.process
 
 pub sift_block-requires-clause-plannable : goal.sift_block-requires-clause-plannable
 sift_block-requires-clause-plannable c = λ lane q h there.
-    let tree = c.args.tree.now in
+    let tree = folded c.args.tree.now c.args.choices.now in
     let normal = normal_in c.args.rules.now in
     let block = c.in_ok-block.block in
     plannable_ways tree normal (block.first + lane) q _ (options_found tree normal block lane q c.in_ok-block.ensures.ways h there) there c.requires.plannable
@@ -34,16 +33,16 @@ unmet_at b none false some = refl
 
 pub has_option-requires : goal.has_option-requires
 has_option-requires c =
-    let tree = c.args.tree.now in
-    let more = more_blocks (resolution_count tree.process) c.loop-number.number c.blocks-number-end.result c.blocks-number-end.ensures c.loop-number-test.true in
-    omega (arith, more, met_length tree (normal_in c.args.rules.now) c.args.met.now c.requires.met, length-resolutions tree.process)
+    let tree = folded c.args.tree.now c.args.choices.now in
+    let more = more_blocks (count_in tree) c.loop-number.number c.blocks-number-end.result (c.blocks-number-end.ensures ∙ ap (λ n. (n + 63) / 64) c.requires.choices.counted) c.loop-number-test.true in
+    omega (arith, more, met_length tree (normal_in c.args.rules.now) c.args.met.now c.requires.met, length-folded tree.apart tree.tree.process)
 
 pub loop-number-preserved : goal.loop-number-preserved
 loop-number-preserved c =
-    let tree = c.args.tree.now in
+    let tree = folded c.args.tree.now c.args.choices.now in
     let normal = normal_in c.args.rules.now in
     let number = c.loop-number.number in
-    let more : 64 * number < resolution_count tree.process = more_blocks (resolution_count tree.process) number c.blocks-number-end.result c.blocks-number-end.ensures c.loop-number-test.true in
+    let more : 64 * number < count_in tree = more_blocks (count_in tree) number c.blocks-number-end.result (c.blocks-number-end.ensures ∙ ap (λ n. (n + 63) / 64) c.requires.choices.counted) c.loop-number-test.true in
     elim c.if-has_option.branch [
       | then-has_option+in_ok-block+in_ok-sift_block w ↦
           let block = w.in_ok-block.block in
@@ -67,8 +66,8 @@ loop-number-preserved c =
 
 pub returns : goal.returns
 returns c =
-    let tree = c.args.tree.now in
+    let tree = folded c.args.tree.now c.args.choices.now in
     let normal = normal_in c.args.rules.now in
     let end : c.loop-number.number ≡ c.blocks-number-end.result = omega arith in
     subst (λ qs. HasSifted (numbered_options 0 (map (options_by tree normal) qs)) c.loop-number.sieve)
-    (last_block tree c.loop-number.number c.blocks-number-end.result c.blocks-number-end.ensures end) c.loop-number.invariant.sifted
+    (last_block tree c.loop-number.number c.blocks-number-end.result (c.blocks-number-end.ensures ∙ ap (λ n. (n + 63) / 64) c.requires.choices.counted) end) c.loop-number.invariant.sifted

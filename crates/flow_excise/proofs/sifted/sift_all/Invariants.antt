@@ -1,11 +1,12 @@
 use Rattle.std.proofs.Common.{◌*◌}
 use Rattle.flow_rules.specs.Conjunction.{normal_in}
 use Rattle.flow_rules.specs.EventLeaves.{IsBlank}
+use Rattle.flow_excise.specs.Options.{folded}
 use Rattle.flow_excise.specs.Sieve.{HasSiftedTo}
 use Rattle.flow_excise.proofs.sifted.sift_all.Given as goal
 
 abbrev pub invariant-loop-number : goal.invariant-loop-number
 invariant-loop-number l = record {
   blank : IsBlank l.events;
-  sifted : HasSiftedTo l.tree (normal_in l.rules) (64 * l.number) l.sieve;
+  sifted : HasSiftedTo (folded l.tree l.choices) (normal_in l.rules) (64 * l.number) l.sieve;
 }

@@ -1,10 +1,10 @@
 use Rattle.std.proofs.Common.{◌≡◌, ◌<◌, ◌+◌, false, sym, subst, arith, length}
-use Rattle.flow_model.specs.Resolution.{resolutions}
-use Rattle.flow_laws.proofs.ResolutionsLemmas.{length-resolutions}
+use Rattle.flow_laws.proofs.FoldingLemmas.{length-folded}
 use Rattle.flow_rules.specs.declared.leaf_table.LeafEvents.{LeafEvents}
 use Rattle.flow_rules.specs.EventLeaves.{IsBlank}
 use Rattle.flow_excise.specs.declared.sieve.Sieve.{Sieve}
 use Rattle.flow_excise.specs.Executions.{numbered_ways}
+use Rattle.flow_excise.specs.Options.{folded, resolutions_in}
 use Rattle.flow_excise.specs.Sieve.{HasSiftedTo, Sifts}
 use Rattle.flow_excise.proofs.BlockLemmas.{options_found}
 use Rattle.flow_excise.proofs.SieveLemmas.{met_at, none_found, sift_more, sift_none}
@@ -19,17 +19,17 @@ loop-lane-init c = record {
   blank = c.requires.blank;
   sifted = λ normal ways listed so_far.
       let e : c.args.block.now.first ≡ c.args.block.now.first + 0 = omega arith in
-      subst (λ k. HasSiftedTo c.args.tree.now normal k c.args.sieve.now) e so_far;
+      subst (λ k. HasSiftedTo (folded c.args.tree.now c.args.choices.now) normal k c.args.sieve.now) e so_far;
 }
 
 pub loop-lane-preserved : goal.loop-lane-preserved
 loop-lane-preserved c =
-    let tree = c.args.tree.now in
+    let tree = folded c.args.tree.now c.args.choices.now in
     let block = c.args.block.now in
     let lane = c.loop-lane.lane in
     let number = block.first + lane in
-    let long = length-resolutions tree.process in
-    let below : number < length (resolutions tree.process) = omega (arith, long, c.requires.within, c.loop-lane-test.true) in
+    let long = length-folded tree.apart tree.tree.process in
+    let below : number < length (resolutions_in tree) = omega (arith, long, c.requires.within, c.loop-lane-test.true) in
     let next : number + 1 ≡ block.first + (lane + 1) = omega arith in
     elim c.if-has_options.branch [
       | then-has_options+in_ok-sift_resolution w ↦ record {
@@ -58,4 +58,4 @@ pub returns-clause-sifted : goal.returns-clause-sifted
 returns-clause-sifted c =
     let e : c.loop-lane.lane ≡ c.args.block.now.size = omega arith in
     λ normal ways listed so_far.
-    subst (λ k. HasSiftedTo c.args.tree.now normal (c.args.block.now.first + k) c.loop-lane.sieve) e (c.loop-lane.invariant.sifted normal ways listed so_far)
+    subst (λ k. HasSiftedTo (folded c.args.tree.now c.args.choices.now) normal (c.args.block.now.first + k) c.loop-lane.sieve) e (c.loop-lane.invariant.sifted normal ways listed so_far)

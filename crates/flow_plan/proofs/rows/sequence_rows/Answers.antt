@@ -27,6 +27,6 @@ pub loop-node-init : goal.loop-node-init
 loop-node-init g c =
     let leaves = c.leaves-leaves.ensures in
     let fresh = c.in_ok-sweep.ensures in
-    begun_rows c.args.goal.now.process c.nodes-node-items.result.now c.leaves-leaves.result.now c.in_ok-sweep.sweep c.nodes-node-items.ensures.choice_free
+    begun_rows c.args.goal.now.process c.nodes-node-items.result.now c.leaves-leaves.result.now c.in_ok-sweep.sweep
     (subst IsStrictlyIncreasing (sym leaves.leaves) leaves.rising) c.nodes-node-items.ensures.nodes (leaves.leaves ∙ leaves.listed)
     fresh.place fresh.sets fresh.ahead fresh.forks fresh.rows

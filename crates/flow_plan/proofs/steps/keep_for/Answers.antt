@@ -7,6 +7,6 @@ use Rattle.flow_plan.proofs.steps.keep_for.Goals as goal
 
 pub loop-part-preserved : goal.loop-part-preserved
 loop-part-preserved g c n =
-    kept_step (λ (row : PartRow g.row.W). Keeps c.args.what row (λ x. IsTrue (has_leaf c.args.others.now x)) n) c.args.parts.now c.loop-part.part-index c.part-item.result
+    kept_step (λ (row : PartRow g.row.W). Keeps c.args.what row (λ x. IsTrue (has_leaf c.args.claims.now x)) n) c.args.parts.now c.loop-part.part-index c.part-item.result
     (has_leaf c.keep_for-leaves.result n) (has_leaf c.loop-part.leaves n) (has_leaf c.args.leaves n) c.loop-part-test.true c.part-item.is
     (c.keep_for-leaves.ensures n) (c.loop-part.invariant n)

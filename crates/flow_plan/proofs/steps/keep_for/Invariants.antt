@@ -6,4 +6,4 @@ use Rattle.flow_plan.proofs.steps.keep_for.Given as goal
 
 abbrev pub invariant-loop-part : goal.invariant-loop-part
 invariant-loop-part g l = (n : ℕ) → IsTrue (has_leaf l.leaves n) ↔ (IsTrue (has_leaf l.initial.leaves n)
-    × Each (λ row. Keeps l.what row (λ x. IsTrue (has_leaf l.others x)) n) (take l.part-index l.parts))
+    × Each (λ row. Keeps l.what row (λ x. IsTrue (has_leaf l.claims x)) n) (take l.part-index l.parts))

@@ -1,12 +1,10 @@
-use Rattle.std.proofs.Common.{IsTrue}
-use Rattle.leaf_rows.specs.Leaves.{has_leaf}
 use Rattle.flow_plan.specs.Parts.{PartAllows}
 use Rattle.flow_plan.proofs.StepRows.{each_part_more, every_part, not_every_part}
 use Rattle.flow_plan.proofs.table.parts_allow.Goals as goal
 
 pub loop-part-preserved : goal.loop-part-preserved
 loop-part-preserved g c =
-    each_part_more (λ row. PartAllows row (λ x. IsTrue (has_leaf c.args.done.now x)) c.args.leaf) c.args.parts.now c.loop-part.part-index c.part-item.result
+    each_part_more (λ row. PartAllows row c.args.sides.now c.args.leaf) c.args.parts.now c.loop-part.part-index c.part-item.result
     c.loop-part-test.true c.part-item.is (c.allows.ensures.0 c.if-not-allows.false) c.loop-part.invariant
 
 pub returns : goal.returns

@@ -11,21 +11,21 @@ inside : (numbers : List ℕ) (n i : ℕ) → Each (λ number. number < n) numbe
 inside numbers n i each there = each_member (λ number. number < n) numbers each (get_or numbers i 0) (read_member numbers i there)
 
 pub loop-number-preserved : goal.loop-number-preserved
-loop-number-preserved c =
+loop-number-preserved g c =
     c.in_ok-push.ensures.items
     ∙ ap (λ (z : List ℕ). z ++ (get_or c.args.items.now (get_or c.args.numbers.now c.loop-number.number-index 0) c.index-items-number.result).least ∷ []) c.loop-number.invariant
     ∙ sym (read_more least_in c.args.items.now c.args.numbers.now c.loop-number.number-index c.index-items-number.result c.loop-number-test.true c.requires)
 
 pub returns : goal.returns
-returns c = c.loop-number.invariant ∙ ap (map (least_at c.args.items.now)) (take_all c.loop-number.number-index c.args.numbers.now c.loop-number-test.false)
+returns g c = c.loop-number.invariant ∙ ap (map (least_at c.args.items.now)) (take_all c.loop-number.number-index c.args.numbers.now c.loop-number-test.false)
 
 pub bounds-items-number : goal.bounds-items-number
-bounds-items-number c = inside c.args.numbers.now (length c.args.items.now) c.loop-number.number-index c.requires c.loop-number-test.true
+bounds-items-number g c = inside c.args.numbers.now (length c.args.items.now) c.loop-number.number-index c.requires c.loop-number-test.true
 
 pub bounds-items-number-in-loop-number : goal.bounds-items-number-in-loop-number
-bounds-items-number-in-loop-number c = inside c.args.numbers.now (length c.args.items.now) c.loop-number.number-index c.requires c.loop-number-test.true
+bounds-items-number-in-loop-number g c = inside c.args.numbers.now (length c.args.items.now) c.loop-number.number-index c.requires c.loop-number-test.true
 
 pub offset_bounds-items-number : goal.offset_bounds-items-number
-offset_bounds-items-number c =
+offset_bounds-items-number g c =
     let within : get_or c.args.numbers.now c.loop-number.number-index 0 < length c.args.items.now = inside c.args.numbers.now (length c.args.items.now) c.loop-number.number-index c.requires c.loop-number-test.true in
     omega arith

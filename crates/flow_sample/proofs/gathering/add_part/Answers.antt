@@ -4,7 +4,7 @@ use Rattle.flow_sample.specs.Arranged.{IsRunOf}
 use Rattle.flow_sample.proofs.gathering.add_part.Goals as goal
 
 pub returns : goal.returns
-returns c =
+returns g c =
     let same = sym c.of_part.ensures.runs_so in (
       c.of_part.result,
       c.in_ok-push.ensures.items,

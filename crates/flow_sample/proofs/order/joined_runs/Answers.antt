@@ -7,22 +7,22 @@ use Rattle.flow_sample.proofs.OrderLemmas.{runs_more}
 use Rattle.flow_sample.proofs.order.joined_runs.Goals as goal
 
 pub loop-number-preserved : goal.loop-number-preserved
-loop-number-preserved c =
+loop-number-preserved g c =
     let k = c.loop-number.number-index in
     c.in_ok-extend_from_slice.ensures.items
     ∙ (λ i. c.loop-number.invariant i ++ c.deref.ensures.value i)
     ∙ sym (runs_more c.args.items.now c.args.order.now k c.index-items-number.result c.loop-number-test.true c.requires)
 
 pub returns : goal.returns
-returns c = c.loop-number.invariant ∙ ap (runs c.args.items.now) (take_all c.loop-number.number-index c.args.order.now c.loop-number-test.false)
+returns g c = c.loop-number.invariant ∙ ap (runs c.args.items.now) (take_all c.loop-number.number-index c.args.order.now c.loop-number-test.false)
 
 pub bounds-items-number : goal.bounds-items-number
-bounds-items-number c =
+bounds-items-number g c =
     each_member (λ n. n < length c.args.items.now) c.args.order.now c.requires (get_or c.args.order.now c.loop-number.number-index 0)
     (read_member c.args.order.now c.loop-number.number-index c.loop-number-test.true)
 
 pub offset_bounds-items-number : goal.offset_bounds-items-number
-offset_bounds-items-number c =
+offset_bounds-items-number g c =
     let within : get_or c.args.order.now c.loop-number.number-index 0 < length c.args.items.now =
     each_member (λ n. n < length c.args.items.now) c.args.order.now c.requires (get_or c.args.order.now c.loop-number.number-index 0)
     (read_member c.args.order.now c.loop-number.number-index c.loop-number-test.true) in

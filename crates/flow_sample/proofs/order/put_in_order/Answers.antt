@@ -1,4 +1,4 @@
-use Rattle.std.proofs.Common.{◌<◌, ◌+◌, ◌∙◌, ℕ, List, get_or, reverse, take, ap, subst, sym, inl, inr, refl, ⊎_elim, true≢false}
+use Rattle.std.proofs.Common.{rules, ◌<◌, ◌+◌, ◌∙◌, ℕ, List, get_or, reverse, take, ap, subst, sym, inl, inr, refl, ⊎_elim, true≢false}
 use Rattle.flow_model.specs.Lists.{◌∈◌}
 use Rattle.flow_sample.specs.Rows.{has_inside}
 use Rattle.flow_sample.proofs.RingLemmas.{ring_at}
@@ -6,26 +6,38 @@ use Rattle.flow_plan.proofs.SweepLemmas.{top_of as pushed}
 use Rattle.flow_sample.proofs.OrderLemmas.{begun_path, no_top, top_of, rest_of, grown, path_on, path_back, fewer_on, fewer_back, start_on, holds_on, is_within, row_at, leaves_of_one, leaves_more, leaves_less, came_back, goes_on, AreLeavesOn, IsPath, steps}
 use Rattle.flow_sample.proofs.order.put_in_order.Goals as goal
 
-pub blocker-requires-clause-there : goal.blocker-requires-clause-there
-blocker-requires-clause-there c =
+pub blocker-requires : goal.blocker-requires
+blocker-requires g c =
     let t = top_of c.loop-top.path.items c.deref.result.now c.in-Some.top (_) c.copied.result c.deref.ensures.value c.last.ensures.value c.copied.ensures c.in-Some.is in
-    c.loop-top.invariant.path.within c.in-Some.top (subst (λ (z : List ℕ). c.in-Some.top ∈ z) (sym t.1) (inl refl))
-
-pub blocker-requires-clause-within : goal.blocker-requires-clause-within
-blocker-requires-clause-within c x left = let r = (c.loop-top.invariant.arranged.rest x).0 left in (r.0, r.1)
+    let wide = c.requires.wide in (
+      search rules,
+      (
+        search rules,
+        (
+          wide,
+          (
+            c.requires.apart,
+            (
+              c.loop-top.invariant.path.within c.in-Some.top (subst (λ (z : List ℕ). c.in-Some.top ∈ z) (sym t.1) (inl refl)),
+              λ x left. let r = (c.loop-top.invariant.arranged.rest x).0 left in (r.0, r.1),
+            ),
+          ),
+        ),
+      ),
+    )
 
 pub take_out-requires : goal.take_out-requires
-take_out-requires c =
+take_out-requires g c =
     let t = top_of c.loop-top.path.items c.deref.result.now c.in-Some.top (_) c.copied.result c.deref.ensures.value c.last.ensures.value c.copied.ensures c.in-Some.is in
-    c.loop-top.invariant.path.within c.in-Some.top (subst (λ (z : List ℕ). c.in-Some.top ∈ z) (sym t.1) (inl refl))
+    let wide = c.requires.wide in (search rules, (search rules, c.loop-top.invariant.path.within c.in-Some.top (subst (λ (z : List ℕ). c.in-Some.top ∈ z) (sym t.1) (inl refl))))
 
 pub take_out-requires-in-None : goal.take_out-requires-in-None
-take_out-requires-in-None c =
+take_out-requires-in-None g c =
     let t = top_of c.loop-top.path.items c.deref.result.now c.in-Some.top (_) c.copied.result c.deref.ensures.value c.last.ensures.value c.copied.ensures c.in-Some.is in
-    c.loop-top.invariant.path.within c.in-Some.top (subst (λ (z : List ℕ). c.in-Some.top ∈ z) (sym t.1) (inl refl))
+    let wide = c.requires.wide in (search rules, (search rules, c.loop-top.invariant.path.within c.in-Some.top (subst (λ (z : List ℕ). c.in-Some.top ∈ z) (sym t.1) (inl refl))))
 
 pub loop-top-smaller-in-None : goal.loop-top-smaller-in-None
-loop-top-smaller-in-None c =
+loop-top-smaller-in-None g c =
     let i = c.loop-top.invariant in
     let t = top_of c.loop-top.path.items c.deref.result.now c.in-Some.top (_) c.copied.result c.deref.ensures.value c.last.ensures.value c.copied.ensures c.in-Some.is in
     let here = subst (λ (z : List ℕ). c.in-Some.top ∈ z) (sym t.1) (inl refl) in
@@ -37,7 +49,7 @@ loop-top-smaller-in-None c =
     c.in_ok-push-in-None.ensures.items more)
 
 pub loop-top-preserved-in-None : goal.loop-top-preserved-in-None
-loop-top-preserved-in-None c =
+loop-top-preserved-in-None g c =
     let i = c.loop-top.invariant in
     let t = top_of c.loop-top.path.items c.deref.result.now c.in-Some.top (_) c.copied.result c.deref.ensures.value c.last.ensures.value c.copied.ensures c.in-Some.is in
     let here = subst (λ (z : List ℕ). c.in-Some.top ∈ z) (sym t.1) (inl refl) in
@@ -56,10 +68,10 @@ loop-top-preserved-in-None c =
     }
 
 pub put_in-requires : goal.put_in-requires
-put_in-requires c = is_within c.args.items.now c.in-Some-blocker.next c.in-Some-blocker.ensures.0 c.in-Some-blocker.ensures.1
+put_in-requires g c = let wide = c.requires.wide in (search rules, (search rules, is_within c.args.items.now c.in-Some-blocker.next c.in-Some-blocker.ensures.0 c.in-Some-blocker.ensures.1))
 
 pub place_in_path-place-requires : goal.place_in_path-place-requires
-place_in_path-place-requires c =
+place_in_path-place-requires g c =
     let next = c.in-Some-blocker.next in
     let b = c.in-Some-blocker.ensures in
     let m = c.meets.ensures.0 c.if-meets.true in
@@ -68,17 +80,23 @@ place_in_path-place-requires c =
     (came_back c.args.items.now c.requires.apart c.loop-top.on_path (reverse c.loop-top.path.items) c.loop-top.invariant.leaves next m.0 (row ∙ m.1) m.2)
 
 pub refusal_of-requires : goal.refusal_of-requires
-refusal_of-requires c =
+refusal_of-requires g c =
     let i = c.loop-top.invariant in
     let t = top_of c.loop-top.path.items c.deref.result.now c.in-Some.top (_) c.copied.result c.deref.ensures.value c.last.ensures.value c.copied.ensures c.in-Some.is in
     let b = c.in-Some-blocker.ensures in
     let place = c.place_in_path-place.result in
-    ring_at c.args.items.now (reverse c.loop-top.path.items) c.deref-then-meets.result.now (take (place + 1) c.deref-then-meets-2.result.now) c.in-Some.top t.0 place c.in-Some-blocker.next
-    t.1 i.path.distinct i.path.trail (c.deref-then-meets.ensures.value ∙ c.reverse.ensures.items) c.place_in_path-place.ensures.within c.place_in_path-place.ensures.there
-    (b.0, b.1, b.2) (ap (take (place + 1)) (c.deref-then-meets-2.ensures.value ∙ c.reverse.ensures.items))
+    let wide = c.requires.wide in (
+      search rules,
+      (
+        wide,
+        ring_at c.args.items.now (reverse c.loop-top.path.items) c.deref-then-meets.result.now (take (place + 1) c.deref-then-meets-2.result.now) c.in-Some.top t.0 place c.in-Some-blocker.next
+            t.1 i.path.distinct i.path.trail (c.deref-then-meets.ensures.value ∙ c.reverse.ensures.items) c.place_in_path-place.ensures.within c.place_in_path-place.ensures.there
+            (b.0, b.1, b.2) (ap (take (place + 1)) (c.deref-then-meets-2.ensures.value ∙ c.reverse.ensures.items)),
+      ),
+    )
 
 pub loop-top-smaller : goal.loop-top-smaller
-loop-top-smaller c =
+loop-top-smaller g c =
     let i = c.loop-top.invariant in
     let next = c.in-Some-blocker.next in
     let b = c.in-Some-blocker.ensures in
@@ -93,7 +111,7 @@ loop-top-smaller c =
     new
 
 pub loop-top-preserved : goal.loop-top-preserved
-loop-top-preserved c =
+loop-top-preserved g c =
     let i = c.loop-top.invariant in
     let next = c.in-Some-blocker.next in
     let b = c.in-Some-blocker.ensures in
@@ -112,7 +130,7 @@ loop-top-preserved c =
     }
 
 pub loop-top-init : goal.loop-top-init
-loop-top-init c =
+loop-top-init g c =
     let path = ap reverse c.in_ok-path.ensures.items in
     record {
       arranged = c.requires.arranged;
@@ -124,7 +142,7 @@ loop-top-init c =
     }
 
 pub returns : goal.returns
-returns c =
+returns g c =
     let i = c.loop-top.invariant in
     let none = no_top c.loop-top.path.items c.deref.result.now (_) c.copied.result c.deref.ensures.value c.last.ensures.value c.copied.ensures c.in_default.is in (
       i.arranged,

@@ -5,7 +5,7 @@ use Rattle.flow_sample.proofs.OrderLemmas.{AreLeavesOn, IsPath, steps}
 use Rattle.flow_sample.proofs.order.put_in_order.Given as goal
 
 abbrev pub invariant-loop-top : goal.invariant-loop-top
-invariant-loop-top l = record {
+invariant-loop-top g l = record {
   arranged : IsArranged l.items l.left l.order.items;
   path : IsPath l.items l.order.items (reverse l.path.items);
   leaves : AreLeavesOn l.items l.on_path (reverse l.path.items);
@@ -14,4 +14,4 @@ invariant-loop-top l = record {
 }
 
 abbrev pub decreases-loop-top : goal.decreases-loop-top
-decreases-loop-top l = steps l.items l.order.items (reverse l.path.items)
+decreases-loop-top g l = steps l.items l.order.items (reverse l.path.items)

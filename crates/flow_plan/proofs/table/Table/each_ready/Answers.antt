@@ -1,6 +1,5 @@
 use Rattle.std.proofs.Common.{◌≡◌, ◌+◌, ◌<◌, ◌↔◌, Bool, false, ℕ, List, IsTrue, drop, get_or, length, refl, subst, sym}
 use Rattle.std.proofs.lemmas.List.{drop_all, drop_more}
-use Rattle.leaf_rows.specs.Leaves.{has_leaf}
 use Rattle.flow_model.specs.Lists.{Each}
 use Rattle.flow_model.proofs.Lists.{each_member}
 use Rattle.flow_plan.specs.Orders.{MayComeNext}
@@ -18,18 +17,18 @@ module _ (P : ℕ → Type 0) (list : List ℕ) (i : ℕ) (answer : Bool) (withi
   failed fails = (λ wrong. absurd (cc), λ all. let yes = says.1 (each_member P list all (get_or list i 0) (read_member list i within)) in absurd (cc))
 
 pub loop-leaf-preserved : goal.loop-leaf-preserved
-loop-leaf-preserved g c = λ p table same.
-    passed (MayComeNext p (λ x. IsTrue (has_leaf c.args.done.now x))) c.args.list.now c.loop-leaf.leaf-index c.ready.result
-    c.loop-leaf-test.true (c.ready.ensures p table same) c.if-not-ready.false (c.loop-leaf.invariant p table same)
+loop-leaf-preserved g c = λ p table same done tell.
+    passed (MayComeNext p (λ x. IsTrue (done x))) c.args.list.now c.loop-leaf.leaf-index c.ready.result
+    c.loop-leaf-test.true (c.ready.ensures p table same done tell) c.if-not-ready.false (c.loop-leaf.invariant p table same done tell)
 
 pub returns-then-not-ready : goal.returns-then-not-ready
-returns-then-not-ready g c = λ p table same.
-    failed (MayComeNext p (λ x. IsTrue (has_leaf c.args.done.now x))) c.args.list.now c.loop-leaf.leaf-index c.ready.result
-    c.loop-leaf-test.true (c.ready.ensures p table same) c.if-not-ready.true
+returns-then-not-ready g c = λ p table same done tell.
+    failed (MayComeNext p (λ x. IsTrue (done x))) c.args.list.now c.loop-leaf.leaf-index c.ready.result
+    c.loop-leaf-test.true (c.ready.ensures p table same done tell) c.if-not-ready.true
 
 pub returns : goal.returns
-returns g c = λ p table same. (
-  λ yes. (c.loop-leaf.invariant p table same).1 (subst (λ (l : List ℕ). Each (MayComeNext p (λ x. IsTrue (has_leaf c.args.done.now x))) l)
+returns g c = λ p table same done tell. (
+  λ yes. (c.loop-leaf.invariant p table same done tell).1 (subst (λ (l : List ℕ). Each (MayComeNext p (λ x. IsTrue (done x))) l)
       (sym (drop_all c.loop-leaf.leaf-index c.args.list.now c.loop-leaf-test.false)) tt),
   λ all. refl,
 )

@@ -1,6 +1,5 @@
 use Rattle.std.proofs.Common.{◌↔◌, ℕ, List, IsTrue, subst, sym, ◌∙◌}
 use Rattle.std.proofs.lemmas.Bool.{true≢false}
-use Rattle.leaf_rows.specs.Leaves.{has_leaf}
 use Rattle.flow_model.specs.Lists.{Each}
 use Rattle.flow_plan.specs.declared.part_row.PartRow.{PartRow}
 use Rattle.flow_plan.specs.Parts.{PartAllows}
@@ -8,17 +7,17 @@ use Rattle.flow_plan.proofs.Readiness.{free_of_ready, ready_of_free, parts_of_re
 use Rattle.flow_plan.proofs.table.Table.ready.Goals as goal
 
 pub returns-then-is_unblocked : goal.returns-then-is_unblocked
-returns-then-is_unblocked g c = λ p table same.
-    let D : ℕ → Type 0 = λ x. IsTrue (has_leaf c.args.done.now x) in
-    let free = (c.is_unblocked.ensures.free p table same).0 c.if-is_unblocked.true in
-    let allow : IsTrue c.parts_allow.result ↔ Each (λ row. PartAllows row D c.args.leaf) c.args.self.now.parts.items
-    = subst (λ (parts : List (PartRow g.row.W)). IsTrue c.parts_allow.result ↔ Each (λ row. PartAllows row D c.args.leaf) parts) c.deref.ensures.value c.parts_allow.ensures in (
-      λ yes. ready_of_free table.fields D c.args.leaf free (allow.0 yes),
-      λ ready. allow.1 (parts_of_ready table.fields D c.args.leaf ready),
+returns-then-is_unblocked g c = λ p table same done tell.
+    let D : ℕ → Type 0 = λ x. IsTrue (done x) in
+    let free = (c.is_unblocked.ensures.free p table same done tell).0 c.if-is_unblocked.true in
+    let allow : IsTrue c.parts_allow.result ↔ Each (λ row. PartAllows row c.args.sides.now c.args.leaf) c.args.self.now.parts.items
+    = subst (λ (parts : List (PartRow g.row.W)). IsTrue c.parts_allow.result ↔ Each (λ row. PartAllows row c.args.sides.now c.args.leaf) parts) c.deref.ensures.value c.parts_allow.ensures in (
+      λ yes. ready_of_free table.fields D c.args.sides.now tell c.args.leaf free (allow.0 yes),
+      λ ready. allow.1 (parts_of_ready table.fields D c.args.sides.now tell c.args.leaf ready),
     )
 
 pub returns-else-is_unblocked : goal.returns-else-is_unblocked
-returns-else-is_unblocked g c = λ p table same. (
+returns-else-is_unblocked g c = λ p table same done tell. (
   λ wrong. absurd (true≢false (sym wrong ∙ c.if-is_unblocked.false)),
-  λ ready. absurd (true≢false (sym ((c.is_unblocked.ensures.free p table same).1 (free_of_ready p (λ x. IsTrue (has_leaf c.args.done.now x)) c.args.leaf ready)) ∙ c.if-is_unblocked.false)),
+  λ ready. absurd (true≢false (sym ((c.is_unblocked.ensures.free p table same done tell).1 (free_of_ready table.fields (λ x. IsTrue (done x)) c.args.sides.now tell c.args.leaf ready)) ∙ c.if-is_unblocked.false)),
 )

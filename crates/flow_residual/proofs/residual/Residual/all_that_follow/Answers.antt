@@ -1,6 +1,7 @@
 use Rattle.std.proofs.Common.{[], ◌∷◌, ◌++◌}
 use Rattle.leaf_rows.specs.Leaves.{has_leaf}
-use Rattle.flow_residual.proofs.QuestionLemmas.{may_all_follow, in_words}
+use Rattle.flow_residual.proofs.Following.{may_all_follow}
+use Rattle.flow_residual.proofs.QuestionLemmas.{in_words}
 use Rattle.flow_residual.proofs.residual.Residual.all_that_follow.Goals as goal
 
 pub returns : goal.returns

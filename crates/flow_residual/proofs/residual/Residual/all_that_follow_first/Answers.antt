@@ -1,5 +1,6 @@
 use Rattle.leaf_rows.specs.Leaves.{has_leaf}
-use Rattle.flow_residual.proofs.QuestionLemmas.{may_follow_first, in_words}
+use Rattle.flow_residual.proofs.Following.{may_follow_first}
+use Rattle.flow_residual.proofs.QuestionLemmas.{in_words}
 use Rattle.flow_residual.proofs.residual.Residual.all_that_follow_first.Goals as goal
 
 pub returns : goal.returns

@@ -4,7 +4,7 @@ use Rattle.flow_residual.proofs.residual.Residual.follows.Goals as goal
 
 pub returns : goal.returns
 returns c o at =
-    let front = c.track.result.now.front in
-    let whole = ready_whole o c.args.self.now.journal front (c.track.ensures o at).front in
+    let front = c.front.result in
+    let whole = ready_whole o c.args.self.now.journal front (c.front.ensures o at) in
     let len = ap length c.journal.ensures.leaves in
     (λ told. whole.0 (eqb-true front (length c.journal.result.now) told ∙ len), λ ready. eq-eqb front (length c.journal.result.now) (whole.1 ready ∙ sym len))

@@ -1,4 +1,5 @@
-use Rattle.flow_residual.proofs.QuestionLemmas.{is_good, in_words}
+use Rattle.flow_residual.proofs.Following.{is_good}
+use Rattle.flow_residual.proofs.QuestionLemmas.{in_words}
 use Rattle.flow_residual.proofs.residual.Residual.is_complete.Goals as goal
 
 pub returns : goal.returns

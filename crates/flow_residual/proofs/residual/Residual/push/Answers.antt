@@ -3,19 +3,20 @@ use Rattle.std.specs.Vec.{vec_len, vec_capacity, with_items}
 use Rattle.flow_model.specs.declared.limits.TheConstants.{MOST_LEAVES}
 use Rattle.flow_model.specs.Schema.{Schema}
 use Rattle.flow_model.specs.Run.{RunState}
-use Rattle.flow_residual.specs.declared.track.Change.TheVariants.{Done}
-use Rattle.flow_residual.specs.Remaining.{Remaining, IsOf, IsAvoidable, MayComeNext}
+use Rattle.flow_residual.specs.declared.fronts.Change.TheVariants.{Done}
+use Rattle.flow_residual.specs.Remaining.{Remaining, IsOf, IsAvoidable, MayComeNext, banned}
 use Rattle.flow_residual.specs.View.{remaining}
 use Rattle.flow_residual.specs.Options.{EachHas}
-use Rattle.flow_residual.specs.Track.{IsTrack}
+use Rattle.flow_residual.specs.Telling.{IsSetOf}
+use Rattle.flow_residual.specs.Track.{IsFront}
 use Rattle.flow_residual.specs.Invariant.{AreOpenPlaces, IsKept}
-use Rattle.flow_residual.proofs.DoneLemmas.{AreDone, done_push}
-use Rattle.flow_residual.proofs.KeptLemmas.{at_most_all, room_left, next_small, next_fresh, kept_push, one_each_lent, followed}
+use Rattle.flow_residual.proofs.KeptLemmas.{at_most_all, room_left, next_small, next_fresh, kept_push, one_each_lent, followed, telling, told_again}
 use Rattle.flow_residual.proofs.OpenPlaces.{few_open, opens_pushed}
+use Rattle.flow_residual.proofs.SetLemmas.{set_push}
 use Rattle.flow_residual.proofs.residual.Residual.push.Goals as goal
 
-pub follow-requires-clause-done : goal.follow-requires-clause-done
-follow-requires-clause-done c = subst (AreDone c.self.inside.done) (sym c.deref-2.ensures.value) c.self.invariant.done_are
+pub follow-requires-clause-tell : goal.follow-requires-clause-tell
+follow-requires-clause-tell c = telling c.self.inside c.deref.result.now c.deref-2.result.now c.self.invariant c.deref.ensures.value c.deref-2.ensures.value
 
 pub push_reserved-requires : goal.push_reserved-requires
 push_reserved-requires c =
@@ -28,13 +29,13 @@ push_reserved-requires c =
     let capacity : MOST_LEAVES ≤ vec_capacity i.journal = c.self.invariant.journal_room in
     omega arith
 
-pub note-requires : goal.note-requires
-note-requires c =
+pub insert-requires : goal.insert-requires
+insert-requires c =
     let i = c.self.inside in
     let r : Remaining = remaining i.plans.items i.journal.items i.bans.items in
     let next : MayComeNext r c.args.leaf = subst (λ (q : Remaining). MayComeNext q c.args.leaf) (sym c.self.view_is) c.requires in
     let small : c.args.leaf < MOST_LEAVES = next_small r c.self.invariant.kept c.args.leaf next in
-    omega (arith, small, c.self.invariant.done_bound)
+    omega (arith, small)
 
 pub overflow_cast-len : goal.overflow_cast-len
 overflow_cast-len c =
@@ -66,14 +67,18 @@ invariant_of-self c =
     let place : c.len.result ≡ length i.journal.items = c.len.ensures ∙ i.journal.ok.0 in
     let opens : c.note_place.new.opens.items ≡ (if c.can_avoid-is_open.result then i.opens.items ++ length i.journal.items ∷ [] else i.opens.items) =
     c.note_place.ensures.items ∙ ap (λ n. if c.can_avoid-is_open.result then i.opens.items ++ n ∷ [] else i.opens.items) place in
+    let done : IsSetOf c.push_reserved.new.self.items c.insert.new.self =
+    set_push i.done c.insert.new.self i.journal.items c.push_reserved.new.self.items c.args.leaf c.insert.ensures c.push_reserved.ensures.items k.done_are in
     record {
       kept = subst (λ (journal : List ℕ). IsKept (record r { journal = journal })) more (kept_push r k.kept c.args.leaf next);
-      tracks = subst (λ (journal : List ℕ). EachHas (IsTrack journal r.bans) r.options (with_items i.tracks c.follow.new.tracks).items) more
+      served = k.served;
+      fronts = subst (λ (journal : List ℕ). EachHas (IsFront journal) r.options (with_items i.fronts c.follow.new.fronts).items) more
           (followed i (Done c.args.leaf) _ _ _ _ k c.deref.ensures.value c.deref-2.ensures.value c.deref_mut.ensures.value c.follow.ensures);
-      rows_one_each = c.self.invariant.rows_one_each;
+      rows_one_each = k.rows_one_each;
       rows_are = λ fresh. absurd (true≢false (sym fresh));
-      done_bound = c.note.ensures.bound ∙ k.done_bound;
-      done_are = done_push i.done c.note.new.self i.journal.items c.push_reserved.new.self.items c.args.leaf c.note.ensures.noted c.push_reserved.ensures.items k.done_are;
+      done_are = done;
+      banned_are = k.banned_are;
+      sides = told_again i k _ c.push_reserved.new.self.items (banned r.bans) c.insert.new.self i.banned c.sides_by-self-inside.result c.deref-3.ensures.value c.sides_by-self-inside.ensures done k.banned_are;
       journal_room = let same : vec_capacity c.push_reserved.new.self ≡ vec_capacity i.journal = c.push_reserved.ensures.capacity in
           let room : MOST_LEAVES ≤ vec_capacity i.journal = k.journal_room in omega arith;
       bans_room = k.bans_room;

@@ -4,12 +4,12 @@ use Rattle.flow_sample.proofs.OrderLemmas.{not_and}
 use Rattle.flow_sample.proofs.item.Item.of_part.Goals as goal
 
 pub unreachable-requires : goal.unreachable-requires
-unreachable-requires c =
-    let i = c.requires in
+unreachable-requires g c =
+    let i = c.requires.some in
     true≢false (sym ((c.all_inside-inside.ensures i.1).1 (i.0, i.2)) ∙ c.in_default.ensures.none i.1)
 
 pub returns : goal.returns
-returns c = record {
+returns g c = record {
   inside = c.all_inside-inside.ensures;
   waits = λ x.
       let both = not_and (has_leaf c.all_inside-inside.result x) (has_leaf c.all_waits-waits.result x) in (

@@ -1,0 +1,16 @@
+use Rattle.flow_form.specs.Script.{said}
+use Rattle.flow_cli.proofs.Outcomes.{found_told, stop_told, can_be_told}
+use Rattle.flow_cli.proofs.call.answer_input_by_workers.Goals as goal
+
+pub refuse-requires : goal.refuse-requires
+refuse-requires g c =
+    can_be_told c.args.request.mode g.G.Gate.gives c.args.request (said c.args.input.now.script) c.args.input.now.second.items c.in-Err.stop c.in-Err.ensures
+
+pub returns-in-Ok : goal.returns-in-Ok
+returns-in-Ok g c =
+    found_told c.args.request.mode g.G.Gate.gives c.args.request (said c.args.input.now.script) c.args.input.now.second.items c.in-Ok.report c.in-Ok.ensures
+
+pub returns-in-Err : goal.returns-in-Err
+returns-in-Err g c =
+    stop_told c.args.request.mode g.G.Gate.gives c.args.request (said c.args.input.now.script) c.args.input.now.second.items c.in-Err.stop c.refuse.result c.in-Err.ensures
+    c.refuse.ensures

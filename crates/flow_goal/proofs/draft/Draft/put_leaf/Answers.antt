@@ -1,7 +1,0 @@
-use Rattle.std.proofs.Common.{refl}
-use Rattle.flow_goal.proofs.PatternLemmas.{put_laid}
-use Rattle.flow_goal.proofs.Writing.{ok_taken}
-use Rattle.flow_goal.proofs.draft.Draft.put_leaf.Goals as goal
-
-pub returns : goal.returns
-returns c = ok_taken c.put_leaf.result _ _ c.put_leaf.ensures (put_laid c.args.self.now (record { before = c.args.self.now.before; last = c.put_leaf.new.self }) _ refl)

@@ -1,0 +1,9 @@
+use Rattle.std.proofs.Common.{ℕ, ◌↔◌, IsTrue, take}
+use Rattle.leaf_rows.specs.Leaves.{has_leaf}
+use Rattle.flow_model.specs.Lists.{Each}
+use Rattle.flow_plan.specs.Parts.{PartAllows}
+use Rattle.flow_plan.proofs.steps.keep_allowed.Given as goal
+
+abbrev pub invariant-loop-part : goal.invariant-loop-part
+invariant-loop-part g l = (n : ℕ) → IsTrue (has_leaf l.leaves n) ↔ (IsTrue (has_leaf l.initial.leaves n)
+    × Each (λ row. PartAllows row l.sides n) (take l.part-index l.parts))

@@ -1,0 +1,66 @@
+-- Sets of leaves that grow by one, and lists that some members leave.
+use Rattle.std.proofs.Common.{◌≡◌, ℕ, zero, suc, ◌+◌, ◌<◌, ◌==◌, ◌||◌, Bool, true, false, List, [], ◌∷◌, ◌++◌, length, take, get_or, refl, ap, sym, subst, inl, inr, ⊎_elim, true≢false, ◌∙◌, arith}
+use Rattle.std.specs.List.{filter}
+use Rattle.std.proofs.lemmas.Bool.{cases_Bool}
+use Rattle.std.proofs.lemmas.List.{take_more}
+use Rattle.leaf_rows.specs.Leaves.{has_leaf}
+use Rattle.leaf_rows.specs.declared.leaf_set.LeafSet.{LeafSet}
+use Rattle.leaf_rows.specs.declared.TheConstants.{LEAF_WORDS}
+use Rattle.flow_model.specs.Lists.{◌∈◌}
+use Rattle.flow_model.proofs.Lists.{mem_append_left, mem_append_right, mem-append, mem_swap, each_member, each_from_members}
+use Rattle.flow_model.proofs.MadeLists.{each-filter}
+use Rattle.flow_plan.proofs.RowLemmas.{one_more}
+use Rattle.flow_residual.specs.declared.residual.Ban.{Ban}
+use Rattle.flow_residual.specs.Remaining.{banned}
+use Rattle.flow_residual.specs.View.{pairs_of_bans}
+use Rattle.flow_residual.specs.Telling.{IsSetOf}
+
+-- no leaf
+pub none_in : (set : LeafSet LEAF_WORDS) → ((n : ℕ) → has_leaf set n ≡ false) → IsSetOf [] set
+none_in set none n = (λ h. absurd (true≢false (sym h ∙ none n)), λ m. absurd m)
+
+-- one leaf more
+pub set_push : (old new : LeafSet LEAF_WORDS) (list more : List ℕ) (leaf : ℕ) → ((n : ℕ) → has_leaf new n ≡ (n == leaf || has_leaf old n)) → more ≡ list ++ leaf ∷ [] →
+    IsSetOf list old → IsSetOf more new
+set_push old new list more leaf added is same n =
+    let step = one_more n leaf (has_leaf old n) in (
+      λ h. subst (λ (l : List ℕ). n ∈ l) (sym is)
+          (⊎_elim (λ before. mem_append_left n list (leaf ∷ []) ((same n).0 before)) (λ last. mem_append_right n list (leaf ∷ []) last) (step.0 (sym (added n) ∙ h))),
+      λ m. added n ∙ step.1 (⊎_elim (λ before. inl ((same n).1 before)) inr (mem-append n list (leaf ∷ []) (subst (λ (l : List ℕ). n ∈ l) is m))),
+    )
+
+pub set_more : (old new : LeafSet LEAF_WORDS) (xs : List ℕ) (i : ℕ) → i < length xs → ((n : ℕ) → has_leaf new n ≡ (n == get_or xs i 0 || has_leaf old n)) →
+    IsSetOf (take i xs) old → IsSetOf (take (i + 1) xs) new
+set_more old new xs i within added same = set_push old new (take i xs) (take (i + 1) xs) (get_or xs i 0) added (take_more xs i 0 within) same
+
+-- the order of a list does not matter
+pub set_first : (list : List ℕ) (leaf : ℕ) (set : LeafSet LEAF_WORDS) → IsSetOf (list ++ leaf ∷ []) set → IsSetOf (leaf ∷ list) set
+set_first list leaf set is n = (λ h. mem_swap n list (leaf ∷ []) ((is n).0 h), λ m. (is n).1 (mem_swap n (leaf ∷ []) list m))
+
+-- ---- members that leave a list
+
+pub mem-filter : {A : Type 0} (p : A → Bool) (xs : List A) (x : A) → p x ≡ true → x ∈ xs → x ∈ filter p xs
+mem-filter p [] x stays member = member
+mem-filter p (y ∷ xs) x stays member = grind (arith, cases_Bool (p y), stays, member, mem-filter p xs x stays)
+
+pub of_filter : {A : Type 0} (p : A → Bool) (xs : List A) (x : A) → x ∈ filter p xs → (x ∈ xs) × (p x ≡ true)
+of_filter p xs x member = each_member (λ y. (y ∈ xs) × (p y ≡ true)) (filter p xs)
+    (each-filter (λ y. (y ∈ xs) × (p y ≡ true)) (λ y. y ∈ xs) p xs (λ y stays there. (there, stays)) (each_from_members (λ y. y ∈ xs) xs (λ y m. m))) x member
+
+-- ---- the leaves of bans
+
+pub length-banned : (bans : List Ban) → length (banned (pairs_of_bans bans)) ≡ length bans
+length-banned [] = refl
+length-banned (ban ∷ bans) = ap suc (length-banned bans)
+
+pub banned_at : (bans : List Ban) (i : ℕ) (d : Ban) → i < length bans → get_or (banned (pairs_of_bans bans)) i 0 ≡ (get_or bans i d).leaf
+banned_at [] i d within = absurd (omega arith)
+banned_at (ban ∷ bans) zero d within = refl
+banned_at (ban ∷ bans) (suc i) d within = banned_at bans i d (omega arith)
+
+pub banned_more : (bans new : List Ban) (ban : Ban) → new ≡ bans ++ ban ∷ [] → banned (pairs_of_bans new) ≡ banned (pairs_of_bans bans) ++ ban.leaf ∷ []
+banned_more bans new ban is = ap (λ (l : List Ban). banned (pairs_of_bans l)) is ∙ more bans
+  where
+    more : (list : List Ban) → banned (pairs_of_bans (list ++ ban ∷ [])) ≡ banned (pairs_of_bans list) ++ ban.leaf ∷ []
+    more [] = refl
+    more (b ∷ list) = ap (λ (l : List ℕ). b.leaf ∷ l) (more list)
