@@ -35,10 +35,10 @@ from measuring import TOP
 from worst import TEXTS
 
 # What a mode reads after the workflow, as the ending of a file of examples/.
-MODES = {"check": None, "drive": "session", "run": None, "trace": "journal", "verify": "query"}
+MODES = {"check": None, "drive": "session", "run": None, "trace": "journal", "verify": "query", "audit": "journals"}
 # The calls whose memory, reads and writes fail; what several workers write is not always the same; the last two read nothing.
-CALLS = {"check": None, "drive": "session", "run --workers 1": None, "trace": "journal", "verify": "query"}
-SEVERAL = {"run --workers 4": None}
+CALLS = {"check": None, "drive": "session", "run --workers 1": None, "trace": "journal", "verify": "query", "audit --workers 1": "journals"}
+SEVERAL = {"run --workers 4": None, "audit --workers 4": "journals"}
 UNREAD = {"gen --size 16": None, "large --size 16 --workers 1": None}
 PIECES = [1, 2, 7]
 CALLERS = re.compile(rb"(?m)^[01](: ?|\Z)")
@@ -268,7 +268,8 @@ def undamaged():
     texts = [generated(seed, size).encode() for seed, size in [(1, 1), (2, 2), (3, 8), (4, 16)]]
     texts += [text for text in (make().encode() for make in TEXTS.values()) if len(text) <= GREATEST_TEXT]
     session = b"%%\n" + b"".join(b"take %d\nenabled\ndone %d\nnext\n" % (leaf, leaf + 1) for leaf in range(8)) + b"rewind\ncommit\n"
-    second = {None: b"", "session": session, "journal": b"%%\n0 e0\n1 e1\n2 e2\n", "query": b"%%\nholds precedes e0 e1;\n"}
+    second = {None: b"", "session": session, "journal": b"%%\n0 e0\n1 e1\n2 e2\n", "query": b"%%\nholds precedes e0 e1;\n",
+              "journals": b"%%\n0 e0\n%%\n1 e1\n2 e2\n%%\n"}
     return {mode: [source for name in workflows for source in sources(name, ending)] + [text + b"\n" + second[ending] for text in texts]
             for mode, ending in MODES.items()}
 

@@ -4,7 +4,7 @@
 Usage: bench/sessions.py [PROGRAM] [WORD ..]   the sessions whose names have one of the words, or all of them
 """
 from measuring import TOP, arguments, measured
-from worst import names
+from worst import named, names
 
 MOST_LINES = 16_384
 SESSIONS = {}
@@ -79,15 +79,24 @@ def a_thousand_alternatives_that_fail_looked_at():
 
 
 @session
+def a_thousand_named_alternatives_that_fail_looked_at():
+    lines = []
+    for claim in range(1, MOST_LINES // 4 + 1):
+        lines += [f"take {min(claim - 1, 1023)}", f"fail {claim}", "next", "enabled"]
+    rules = "".join(f" constraint needs e{leaf} e{leaf};" for leaf in range(1024))
+    return driven(of_each(1024, " + ") + rules, lines)
+
+
+@session
 def a_thousand_beside_in_the_longest_history():
     lines = [f"take {leaf}" for leaf in range(1024)] + [f"done {leaf + 1}" for leaf in range(1024)] + ["commit"]
     return driven(of_each(1024, " | "), lines, ["--steps", "1000000"])
 
 
 def many_options(between):
-    """4,096 options of 64 leaves: twelve choices of two, beside 52 events that all options have, from leaf 24 on."""
+    """4,096 options of 64 leaves: twelve choices of two, each with an event that is named, beside 52 events that all options have, from leaf 24 on."""
     choices = " | ".join(f"(a{i} + b{i})" for i in range(12))
-    return f"event {names('a', 12, ', ')}, {names('b', 12, ', ')}, {names('x', 52, ', ')}; goal {choices} | ({names('x', 52, between)});"
+    return f"event {names('a', 12, ', ')}, {names('b', 12, ', ')}, {names('x', 52, ', ')}; goal {choices} | ({names('x', 52, between)});{named(12)}"
 
 
 def taken_and_failed(leaf, looks, claims=()):

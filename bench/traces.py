@@ -4,7 +4,7 @@
 Usage: bench/traces.py [PROGRAM] [WORD ..]   the traces whose names have one of the words, or all of them
 """
 from measuring import arguments, measured
-from worst import choice_events, choices, names
+from worst import choice_events, choices, named, names
 
 TRACES = {}
 
@@ -23,7 +23,7 @@ def of_choices(count, rest, between):
     """So many choices of two events each, beside so many other events; the first of each choice is taken."""
     taken = [(2 * place, f"a{place}") for place in range(count)]
     others = [(2 * count + place, f"e{place}") for place in range(rest)]
-    text = f"event {choice_events(count)}, {names('e', rest, ', ')}; goal {choices(count)} | {names('e', rest, between)};"
+    text = f"event {choice_events(count)}, {names('e', rest, ', ')}; goal {choices(count)} | {names('e', rest, between)};{named(count)}"
     return f"{text}\n%%\n{journal(others + taken)}"
 
 
@@ -51,7 +51,7 @@ def sixty_four_leaves_beside_over_4_096_options():
 def twenty_six_isolated_pairs_over_4_096_options():
     pairs = " | ".join(f"iso(e{2 * pair} * e{2 * pair + 1})" for pair in range(26))
     lines = journal([(24 + place, f"e{place}") for place in range(52)] + [(2 * place, f"a{place}") for place in range(12)])
-    return f"event {choice_events(12)}, {names('e', 52, ', ')}; goal {choices(12)} | {pairs};\n%%\n{lines}"
+    return f"event {choice_events(12)}, {names('e', 52, ', ')}; goal {choices(12)} | {pairs};{named(12)}\n%%\n{lines}"
 
 
 def main():

@@ -250,6 +250,11 @@ def leaves_in_choice():
     return row(" + ")
 
 
+@text
+def leaves_in_choice_each_named():
+    return row(" + ") + "".join(f" constraint needs e{leaf} e{leaf};" for leaf in range(1024))
+
+
 def isolated(inner, count):
     """The goal in so many isolations, by sub-workflows of at most 190."""
     flows, name, left = [], inner, count
@@ -416,48 +421,53 @@ def choice_events(count):
     return f"{names('a', count, ', ')}, {names('b', count, ', ')}"
 
 
+def named(count):
+    """A constraint that asks for nothing and names an event of each choice, so that none of them is folded."""
+    return "".join(f" constraint needs a{number} a{number};" for number in range(count))
+
+
 @text
 def twelve_choices():
-    return f"event {choice_events(12)}; goal {choices(12)};"
+    return f"event {choice_events(12)}; goal {choices(12)};{named(12)}"
 
 
 @text
 def twelve_choices_beside_a_thousand_nothings():
-    return f"event {choice_events(12)}; goal {choices(12)} | {' * '.join('nop' for _ in range(1000))};"
+    return f"event {choice_events(12)}; goal {choices(12)} | {' * '.join('nop' for _ in range(1000))};{named(12)}"
 
 
 @text
 def seven_choices_beside_an_order_of_a_thousand_backwards():
     order = " ".join(f"e{number}" for number in reversed(range(1000)))
-    return f"event {choice_events(7)}, {names('e', 1000, ', ')}; goal {choices(7)} | {names('e', 1000, ' | ')}; constraint order {order};"
+    return f"event {choice_events(7)}, {names('e', 1000, ', ')}; goal {choices(7)} | {names('e', 1000, ' | ')}; constraint order {order};{named(7)}"
 
 
 @text
 def twelve_choices_and_a_thousand_nothings_side_by_side():
-    return f"event {choice_events(12)}; goal {choices(12)} | {' | '.join('nop' for _ in range(1000))};"
+    return f"event {choice_events(12)}; goal {choices(12)} | {' | '.join('nop' for _ in range(1000))};{named(12)}"
 
 
 @text
 def twelve_choices_and_a_thousand_isolated_nothings_side_by_side():
-    return f"event {choice_events(12)}; goal {choices(12)} | {' | '.join('iso(nop)' for _ in range(1000))};"
+    return f"event {choice_events(12)}; goal {choices(12)} | {' | '.join('iso(nop)' for _ in range(1000))};{named(12)}"
 
 
 @text
 def twelve_choices_each_after_isolated_nothings_side_by_side():
     some = " | ".join("iso(nop)" for _ in range(83))
     goal = " | ".join(f"{some} | (a{number} + b{number})" for number in range(12))
-    return f"event {choice_events(12)}; goal {goal};"
+    return f"event {choice_events(12)}; goal {goal};{named(12)}"
 
 
 @text
 def twelve_choices_beside_52_leaves():
-    return f"event {choice_events(12)}, {names('e', 52, ', ')}; goal {choices(12)} | {names('e', 52, ' * ')};"
+    return f"event {choice_events(12)}, {names('e', 52, ', ')}; goal {choices(12)} | {names('e', 52, ' * ')};{named(12)}"
 
 
 @text
 def twelve_choices_beside_52_isolations():
     flows, name = onion(52)
-    return f"event {choice_events(12)}, {names('e', 52, ', ')}; {flows} goal {choices(12)} | {name};"
+    return f"event {choice_events(12)}, {names('e', 52, ', ')}; {flows} goal {choices(12)} | {name};{named(12)}"
 
 
 @text
@@ -467,12 +477,12 @@ def twelve_choices_in_isolations():
         goal = f"iso({goal}) * (a{number} + b{number})"
     for number in range(52):
         goal = f"iso({goal} * e{number})"
-    return f"event {choice_events(12)}, {names('e', 52, ', ')}; goal {goal};"
+    return f"event {choice_events(12)}, {names('e', 52, ', ')}; goal {goal};{named(12)}"
 
 
 @text
 def twelve_choices_and_8_192_names_that_ask_for_nothing():
-    rules = "".join(f" constraint must e{number % 52};" for number in range(8192))
+    rules = "".join(f" constraint must e{number % 52};" for number in range(8168)) + named(12)
     return f"event {choice_events(12)}, {names('e', 52, ', ')}; goal {choices(12)} | {names('e', 52, ' * ')};{rules}"
 
 
@@ -531,7 +541,7 @@ def nested_in(either, both, order):
 def twelve_choices_and_42_orders_inside_190_ands_and_ors():
     rules = "".join(f" constraint {nested(lambda level, rule=rule: f'e{(rule + level) % 9}', f'order e{rule % 8} e{rule % 8 + 1}')};"
                     for rule in range(42))
-    return f"event {choice_events(12)}, {names('e', 9, ', ')}; goal {choices(12)} | {names('e', 9, ' * ')};{rules}"
+    return f"event {choice_events(12)}, {names('e', 9, ', ')}; goal {choices(12)} | {names('e', 9, ' * ')};{rules}{named(12)}"
 
 
 @text
@@ -553,13 +563,13 @@ def twelve_choices_and_21_orders_inside_190_ands_and_ors_of_both_sides():
 
 @text
 def twelve_choices_and_a_side_asked_for_8_191_times():
-    rules = " constraint must a0;" * 8190 + " constraint order e0 e1;"
+    rules = " constraint must a0;" * 8166 + " constraint order e0 e1;" + named(12)
     return f"event {choice_events(12)}, {names('e', 52, ', ')}; goal {choices(12)} | {names('e', 52, ' * ')};{rules}"
 
 
 @text
 def twelve_choices_and_constraints_that_cannot_be_met():
-    rules = "".join(f" constraint must e{number % 52};" for number in range(8191))
+    rules = "".join(f" constraint must e{number % 52};" for number in range(8167)) + named(12)
     return f"event z, {choice_events(12)}, {names('e', 52, ', ')}; goal {choices(12)} | {names('e', 52, ' * ')};{rules} constraint must z;"
 
 
@@ -584,17 +594,17 @@ def options_refused():
 @text
 def options_refused_after_4_096_resolutions():
     rules = "".join(f" constraint never e{n % 52} or order e{n % 51} e{n % 51 + 1} or order e{n % 51 + 1} e{n % 51};" for n in range(1600))
-    return f"event {choice_events(12)}, {names('e', 52, ', ')}; goal {choices(12)} | {names('e', 52, ' | ')};{rules}"
+    return f"event {choice_events(12)}, {names('e', 52, ', ')}; goal {choices(12)} | {names('e', 52, ' | ')};{rules}{named(12)}"
 
 
 @text
 def bulk_refused_after_4_096_resolutions():
-    return f"event {choice_events(12)}, {names('e', 1000, ', ')}; goal {choices(12)} | {names('e', 1000, ' | ')};"
+    return f"event {choice_events(12)}, {names('e', 1000, ', ')}; goal {choices(12)} | {names('e', 1000, ' | ')};{named(12)}"
 
 
 @text
 def choices_refused():
-    return f"event {choice_events(512)}; goal {choices(512)};"
+    return f"event {choice_events(512)}; goal {choices(512)};{named(512)}"
 
 
 # --- what has no execution

@@ -1,6 +1,6 @@
 #!/usr/bin/env python3
-"""Wrong bodies of run_crew and audit that their contracts let through, since none says that threads run: each must fail the tests
-of crates/test_threads.
+"""Wrong bodies of run_crew, Book::finish and audit that their contracts let through, since none says that threads run or how often a
+gate is asked: each must fail the tests of crates/test_threads or crates/test_calls.
 
 Usage: bench/wrong_crews.py [BODY ..]     without one all, and the right body first
 
@@ -17,8 +17,10 @@ import tempfile
 
 TOP = pathlib.Path(__file__).resolve().parent.parent
 CREW = "crates/flow_crew/src/crew.rt"
+BOOK = "crates/flow_crew/src/book.rt"
 AUDITS = "crates/flow_audit/src/audits.rt"
-TESTS = "crates/test_threads/src/tests"
+THREADS = "crates/test_threads"
+CALLS = "crates/test_calls"
 
 # In place of std's: the second begins when the first has ended.
 JOIN = """
@@ -67,6 +69,10 @@ fn map_indices<R: Threads + Sync, X: Send + Drop, F: Fn(usize) -> X + Sync>(
 """
 ALL = "work_all(rt, alloc, held, &gate, workers);"
 STEP = "cuts.len().min(workers as usize)"
+WOKEN = "                idle.notify_one();\n"
+TOLD = "lock.with_turn(rt, &mut pass, Post::new(call, outcome));"
+AGAIN = "Move::Went | Move::Wait(_) => {}\n            Move::Over => break,"
+ASKED = "let outcome = self.perform(call);"
 # Of each body the file, what it changes there, and what it adds at the end.
 BODIES = {
     "right": (CREW, {}, ""),
@@ -75,6 +81,10 @@ BODIES = {
     "one_worker": (CREW, {ALL: ALL.replace("workers", "1")}, ""),
     "three_workers_at_most": (CREW, {ALL: ALL.replace("workers", "workers.min(3)")}, ""),
     "one_worker_less": (CREW, {ALL: ALL.replace("workers", "workers - workers / 64")}, ""),
+    "nobody_is_woken": (CREW, {WOKEN: ""}, ""),
+    "who_waits_leaves": (CREW, {AGAIN: "Move::Went => {}\n            Move::Wait(_) | Move::Over => break,"}, ""),
+    "leaves_after_one_task": (CREW, {TOLD: TOLD + "\n                break;"}, ""),
+    "finisher_asks_twice": (BOOK, {ASKED: "let _first = self.perform(call);\n            " + ASKED}, ""),
     "audit_by_one_thread": (AUDITS, {"use std::thread::{Threads, map_indices};": "use std::thread::Threads;"}, MAP_INDICES),
     "audit_by_one_worker_less": (AUDITS, {STEP: STEP.replace("workers as usize", "workers as usize - 1")}, ""),
 }
@@ -88,9 +98,21 @@ def changed(file, changes):
     file.write_text(text)
 
 
+def ran(crate):
+    """Of each test of the crate whether it passes."""
+    # the interpreter that is asked first would not come to the end of a wait
+    words = ["rt", "try", "--test", "--steps", "1", "--seconds", "600"]
+    done = subprocess.run(words, cwd=crate, capture_output=True, text=True, check=False)
+    told = done.stdout + done.stderr
+    ends = {test: end == "ok" for test, end in re.findall(r"(?m)^test tests::\w+::(\w+) \.\.\. (\w+)", told)}
+    assert ends, told
+    return ends
+
+
 def ends_of_tests(name):
     """Of each test whether it passes with this body."""
     body, changes, more = BODIES[name]
+    tests = [THREADS, CALLS] if name == "right" else [CALLS] if body == BOOK else [THREADS]
     with tempfile.TemporaryDirectory() as place:
         top = pathlib.Path(place)
         shutil.copytree(TOP / "crates", top / "crates", ignore=shutil.ignore_patterns("out"))
@@ -98,14 +120,11 @@ def ends_of_tests(name):
             shutil.copy(TOP / file, top)
         changed(top / body, changes)
         (top / body).write_text((top / body).read_text() + more)
-        for tests in ["workers.rt", "audits.rt"]:
-            changed(top / TESTS / tests, {" = 1_000_000_000;": " = 10_000_000;"})
-        # the interpreter that is asked first would not come to the end of a wait
-        words = ["rt", "try", "--test", "--steps", "1", "--seconds", "600"]
-        ran = subprocess.run(words, cwd=(top / TESTS).parent.parent, capture_output=True, text=True, check=False)
-    told = ran.stdout + ran.stderr
-    ends = {test: end == "ok" for test, end in re.findall(r"(?m)^test tests::\w+::(\w+) \.\.\. (\w+)", told)}
-    assert ends, told
+        for file in ["workers.rt", "audits.rt"]:
+            changed(top / THREADS / "src/tests" / file, {" = 1_000_000_000;": " = 10_000_000;"})
+        ends = {}
+        for crate in tests:
+            ends |= ran(top / crate)
     return ends
 
 
