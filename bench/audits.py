@@ -8,7 +8,7 @@ model    journals of the order desk and of small workflows made at random: execu
          executions in the goal itself. By 1, 4 and 64 workers the program must write the same.
 times    as many journals as an audit may have (1,024) of the order desk, as many as fit of 1,016 leaves over 256 options, and 1,024 of 64
          leaves over 4,096 options, by 1, 2 and 4 workers, by turns in one run: the least milliseconds of so many calls each (five), how many
-         times as fast four workers are as one, and what as many calls of `trace` take, less what each takes to compile the workflow (`check`).
+         times as fast four workers are as one, in all and (`checked`) less what it takes to compile the workflow, and what as many calls of `trace` take, less what each takes to compile the workflow (`check`).
          These figures tell something only on four processors that do nothing else.
 
 --journals sets how many there are in each text (at most 1,024). It needs GNU time (/usr/bin/time). The script ends with 1 where an answer
@@ -25,7 +25,7 @@ import tempfile
 
 from desk import FLOW, Desk, Workflow
 from measuring import TOP, called
-from traces import a_thousand_leaves_over_256_options, sixty_four_leaves_over_4_096_options
+from traces import a_thousand_leaves_by_the_last_of_256_options, sixty_four_leaves_by_the_last_of_4_096_options
 
 MOST_JOURNALS = 1_024
 GREATEST_INPUT = 1_048_576
@@ -179,14 +179,14 @@ def parted(source):
 
 KINDS = {
     "the order desk": desk,
-    "1,016 leaves over 256 options": lambda: parted(a_thousand_leaves_over_256_options()),
-    "64 leaves over 4,096 options": lambda: parted(sixty_four_leaves_over_4_096_options()),
+    "1,016 leaves by the last of 256 options": lambda: parted(a_thousand_leaves_by_the_last_of_256_options()),
+    "64 leaves by the last of 4,096 options": lambda: parted(sixty_four_leaves_by_the_last_of_4_096_options()),
 }
 
 
 def times(program, options):
-    columns = ["1", "2", "4", "1 by 4", "by trace", "1 by trace"]
-    print(f"{'journals':<32}{'count':>6}" + "".join(f"{column:>11}" for column in columns) + "  ends with")
+    columns = ["1", "2", "4", "1 by 4", "checked", "by trace", "1 by trace"]
+    print(f"{'journals':<40}{'count':>6}" + "".join(f"{column:>11}" for column in columns) + "  ends with")
     for name, make in KINDS.items():
         workflow, lines = make()
         room = GREATEST_INPUT - len(workflow) - 2
@@ -201,8 +201,9 @@ def times(program, options):
         if lasts != {f"executions {count} of {count}"}:
             wrong(f"{name}: ends with {lasts}", source)
         by_trace = count * (best[3] - best[4])
-        told = [f"{best[0]:.0f}", f"{best[1]:.0f}", f"{best[2]:.0f}", f"{best[0] / best[2]:.2f}", f"{by_trace:.0f}", f"{best[0] / by_trace:.2f}" if by_trace > 0 else "-"]
-        print(f"{name:<32}{count:>6}" + "".join(f"{column:>11}" for column in told) + f"  {min(lasts)}", flush=True)
+        rest = f"{(best[0] - best[4]) / (best[2] - best[4]):.2f}" if best[2] > best[4] else "-"
+        told = [f"{best[0]:.0f}", f"{best[1]:.0f}", f"{best[2]:.0f}", f"{best[0] / best[2]:.2f}", rest, f"{by_trace:.0f}", f"{best[0] / by_trace:.2f}" if by_trace > 0 else "-"]
+        print(f"{name:<40}{count:>6}" + "".join(f"{column:>11}" for column in told) + f"  {min(lasts)}", flush=True)
 
 
 PARTS = {"model": model, "times": times}

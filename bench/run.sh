@@ -9,7 +9,7 @@ set -u
 cd "$(dirname "$0")" || exit
 program=$(realpath "${1:-../crates/flow/out/flow}")
 status=0
-for bench in worst sessions traces audits large hostile; do
+for bench in worst folded sessions traces audits large hostile; do
     echo "== $bench"
     "./$bench.py" "$program" || status=1
 done

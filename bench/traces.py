@@ -19,9 +19,9 @@ def journal(labels):
     return "".join(f"{leaf} {label}\n" for leaf, label in labels)
 
 
-def of_choices(count, rest, between):
-    """So many choices of two events each, beside so many other events; the first of each choice is taken."""
-    taken = [(2 * place, f"a{place}") for place in range(count)]
+def of_choices(count, rest, between, last=False):
+    """So many choices of two events each, beside so many other events; the first of each choice is taken, or the last."""
+    taken = [(2 * place + last, f"{'ab'[last]}{place}") for place in range(count)]
     others = [(2 * count + place, f"e{place}") for place in range(rest)]
     text = f"event {choice_events(count)}, {names('e', rest, ', ')}; goal {choices(count)} | {names('e', rest, between)};{named(count)}"
     return f"{text}\n%%\n{journal(others + taken)}"
@@ -40,6 +40,16 @@ def a_thousand_leaves_over_256_options():
 @trace
 def sixty_four_leaves_over_4_096_options():
     return of_choices(12, 52, " * ")
+
+
+@trace
+def a_thousand_leaves_by_the_last_of_256_options():
+    return of_choices(8, 1008, " * ", True)
+
+
+@trace
+def sixty_four_leaves_by_the_last_of_4_096_options():
+    return of_choices(12, 52, " * ", True)
 
 
 @trace
