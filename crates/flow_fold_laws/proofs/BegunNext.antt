@@ -12,7 +12,7 @@ use Rattle.flow_model.proofs.Lists.{only_one, mem_append_left, mem_append_right,
 use Rattle.flow_model.proofs.MadeLists.{some_passes, passing_member, none_passes}
 use Rattle.flow_fold_laws.specs.FoldedRows.{spoiled_by_choice, spoiled_by}
 use Rattle.flow_fold_laws.specs.Beginning.{barred_by_choice, barred_by, MayBeginByOnePass}
-use Rattle.flow_fold_laws.proofs.FoldedSettled.{folded_where_free}
+use Rattle.flow_laws.proofs.FoldingLemmas.{folded_where_free}
 use Rattle.flow_fold_laws.proofs.AvoidedTogether.{avoid_less, avoid_begun}
 use Rattle.flow_fold_laws.proofs.FoldedAvoid.{is_in, member_is_in, leaves_others, after_halves, TellsHalf, left_half, right_half, tells_avoided, avoided_in_one_pass}
 

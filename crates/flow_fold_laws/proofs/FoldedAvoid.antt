@@ -12,7 +12,7 @@ use Rattle.flow_model.proofs.Lists.{only_one, mem_append_left, mem_append_right,
 use Rattle.flow_model.proofs.MadeLists.{some_passes, none_passes, each_fails}
 use Rattle.flow_laws.proofs.TraceLeaves.{some_blocks, leaf_of_blocks, blocks_of_none}
 use Rattle.flow_fold_laws.specs.FoldedRows.{spoiled_by_choice, spoiled_by, AvoidedInOnePass}
-use Rattle.flow_fold_laws.proofs.FoldedSettled.{folded_where_free}
+use Rattle.flow_laws.proofs.FoldingLemmas.{folded_where_free}
 use Rattle.flow_fold_laws.proofs.AvoidedTogether.{avoid_less}
 
 abbrev pub is_in : List ℕ → ℕ → Bool

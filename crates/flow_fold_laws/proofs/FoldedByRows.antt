@@ -10,7 +10,8 @@ use Rattle.flow_fold_laws.specs.Unfolding.{IsFoldedOrdered}
 use Rattle.flow_fold_laws.specs.FoldedRows.{IsInFinishedChoice, IsSettled, IsReadyByRows, ReadyByRows}
 use Rattle.flow_laws.proofs.GoalParts.{before_whole_part}
 use Rattle.flow_fold_laws.proofs.OutsideChoices.{fixed_left, fixed_right}
-use Rattle.flow_fold_laws.proofs.FoldedSettled.{in_choice_leaf, finished_settled, folded_where_free, turn_settles, settled_turn}
+use Rattle.flow_laws.proofs.FoldingLemmas.{folded_where_free}
+use Rattle.flow_fold_laws.proofs.FoldedSettled.{in_choice_leaf, finished_settled, turn_settles, settled_turn}
 
 -- What is settled only where it is done
 

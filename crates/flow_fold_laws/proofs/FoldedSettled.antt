@@ -6,6 +6,7 @@ use Rattle.flow_model.specs.Ready.{InSequence}
 use Rattle.flow_model.specs.Folding.{IsFolded}
 use Rattle.flow_model.specs.FoldedReady.{IsFinished, IsClosedOff, IsItsTurn}
 use Rattle.flow_model.proofs.Lists.{one_or_all, only_one, mem_append_left, mem_append_right, mem-append, mem_by_halves, distinct_parts}
+use Rattle.flow_laws.proofs.FoldingLemmas.{folded_where_free}
 use Rattle.flow_laws.proofs.GoalParts.{sequence_first, sequence_second}
 use Rattle.flow_fold_laws.specs.FoldedRows.{IsInFinishedChoice, IsSettled, FinishedBySettled, TurnsBySettled}
 use Rattle.flow_fold_laws.proofs.UnfoldedReady.{nothing_finished}
@@ -92,13 +93,6 @@ pub finished_by_settled : FinishedBySettled
 finished_by_settled q done d = (finished_settled q (λ n. IsTrue (done n)), settled_finished q (λ n. IsTrue (done n)) d)
 
 -- Whose turn it is
-
-pub folded_where_free : (q : Process) → IsChoiceFree q → IsFolded q
-folded_where_free (Sequence a b) (f, g) = (folded_where_free a f, folded_where_free b g)
-folded_where_free (Parallel a b) (f, g) = (folded_where_free a f, folded_where_free b g)
-folded_where_free (Choice a b) f = absurd f
-folded_where_free (Isolated a) f = f
-folded_where_free leaf f = tt
 
 pub turn_settles : (q : Process) (D : ℕ → Type 0) (n : ℕ) → IsItsTurn q D n → (x : ℕ) → InSequence q x n → IsSettled q D x
 turn_settles (Sequence a b) D n (first, f, h) x s = ⊎_elim

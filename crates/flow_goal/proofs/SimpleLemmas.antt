@@ -4,6 +4,7 @@ use Rattle.flow_model.specs.Lists.{joined}
 use Rattle.flow_model.specs.Process.{Process, Empty, Task, Sequence, Parallel, Choice, Isolated, IsChoiceFree, leaves}
 use Rattle.flow_model.specs.Folding.{IsFolded, fixed_leaves}
 use Rattle.flow_model.specs.Trace.{Blocks, Shuffle, both_end, from_left, from_right, as_one}
+use Rattle.flow_laws.proofs.FoldingLemmas.{folded_where_free}
 use Rattle.flow_goal.specs.Simple.{IsBusy, IsSimple, IsSimplified, is_empty, simple_isolation, simple_of}
 
 abbrev SameBlocks : Process → Process → Type 0
@@ -23,15 +24,6 @@ same_isolated a x p blocks = ((λ (v, hv, e). (v, (p v).0 hv, e)), (λ (v, hv, e
 
 then : (a b c : Process) → SameBlocks a b → SameBlocks b c → SameBlocks a c
 then a b c p q blocks = ((λ h. (q blocks).0 ((p blocks).0 h)), (λ h. (p blocks).1 ((q blocks).1 h)))
-
--- a goal without choices is folded
-pub free_is_folded : (g : Process) → IsChoiceFree g → IsFolded g
-free_is_folded Empty free = tt
-free_is_folded (Task n) free = tt
-free_is_folded (Sequence a b) free = (free_is_folded a free.0, free_is_folded b free.1)
-free_is_folded (Parallel a b) free = (free_is_folded a free.0, free_is_folded b free.1)
-free_is_folded (Choice a b) free = absurd free
-free_is_folded (Isolated a) free = free
 
 -- nothing in a sequence
 nothing_first : (b : Process) → SameBlocks b (Sequence Empty b)
@@ -224,7 +216,7 @@ simplified (Sequence a b) folded =
 simplified (Parallel a b) folded =
     simplified_both Parallel parallel_keeps a b (simple_of a) (simple_of b) (simplified a folded.0) (simplified b folded.1) (is_empty (simple_of a)) (is_empty (simple_of b)) refl refl
 simplified (Choice a b) folded = simplified_choice a b (simple_of a) (simple_of b) folded.0 (simplified a folded.1) (simplified b folded.2)
-simplified (Isolated a) free = simplified_isolated a (simple_of a) free (simplified a (free_is_folded a free))
+simplified (Isolated a) free = simplified_isolated a (simple_of a) free (simplified a (folded_where_free a free))
 
 pub simplified_as : {g old new : Process} → old ≡ g → IsFolded g → new ≡ simple_of old → IsSimplified g new
 simplified_as {g} e folded is = subst (IsSimplified g) (sym (is ∙ ap simple_of e)) (simplified g folded)

@@ -80,6 +80,14 @@ may_stay apart a b e =
       right = right;
     }
 
+-- a goal without choices is folded
+pub folded_where_free : (q : Process) → IsChoiceFree q → IsFolded q
+folded_where_free (Sequence a b) (f, g) = (folded_where_free a f, folded_where_free b g)
+folded_where_free (Parallel a b) (f, g) = (folded_where_free a f, folded_where_free b g)
+folded_where_free (Choice a b) f = absurd f
+folded_where_free (Isolated a) f = f
+folded_where_free leaf f = tt
+
 pub foldable_is_folded : (apart : ℕ → Bool) (g : Process) → is_foldable apart g ≡ true → IsFolded g
 foldable_is_folded apart Empty e = tt
 foldable_is_folded apart (Task n) e = tt

@@ -17,3 +17,5 @@ pub mod Run
 pub mod FoldedRun
 pub mod Verdict
 pub mod Stored
+pub mod Takers
+pub mod Duties

@@ -14,6 +14,7 @@ use Rattle.flow_model.specs.Folding.{choices_of}
 use Rattle.flow_fold_laws.proofs.AvoidedTogether.{avoid_less, closed_more, all_may_begin}
 use Rattle.flow_fold_laws.proofs.BegunNext.{member_test}
 use Rattle.flow_fold_laws.proofs.FoldedAvoid.{is_in, avoided_in_one_pass}
+use Rattle.flow_plan.proofs.ClosedLemmas.{closed_turned}
 use Rattle.flow_residual.proofs.FoldedSteps.{run_not_closed}
 
 -- where fewer leaves are begun and fewer are banned
@@ -44,18 +45,6 @@ begun_not_banned (Choice a b) D B x h m d out = ⊎_elim
     (λ r. ⊎_elim (λ way. way.1 (x, r, d)) (λ way. begun_not_banned b D B x way.0 r d out) h) (mem-append x (leaves a) (leaves b) m)
 begun_not_banned (Isolated a) D B x h m d out = begun_not_banned a D B x h m d out
 
--- two leaves close off each other
-closed_by_other : (q : Process) (x y : ℕ) → IsClosedOff q (λ n. n ≡ x) y → IsClosedOff q (λ n. n ≡ y) x
-closed_by_other (Sequence a b) x y = ⊎_elim (λ c. inl (closed_by_other a x y c)) (λ c. inr (closed_by_other b x y c))
-closed_by_other (Parallel a b) x y = ⊎_elim (λ c. inl (closed_by_other a x y c)) (λ c. inr (closed_by_other b x y c))
-closed_by_other (Choice a b) x y = ⊎_elim
-    (⊎_elim
-    (λ (m, (n, k, e)). inl (inr (subst (λ z. z ∈ leaves b) e k, (y, m, refl))))
-    (λ (m, (n, k, e)). inl (inl (subst (λ z. z ∈ leaves a) e k, (y, m, refl)))))
-    (⊎_elim (λ c. inr (inl (closed_by_other a x y c))) (λ c. inr (inr (closed_by_other b x y c))))
-closed_by_other (Isolated a) x y = closed_by_other a x y
-closed_by_other leaf x y = λ c. c
-
 -- leaves that may follow one after another do not close off each other
 run_apart : (q : Process) (pairs : List (ℕ × ℕ)) (D : ℕ → Type 0) (run : List ℕ) → IsFoldedRunAfter q pairs D run → (x y : ℕ) → x ∈ run → y ∈ run → x ≢ y →
     ¬ (IsClosedOff q (λ n. n ≡ x) y)
@@ -64,7 +53,7 @@ run_apart q pairs D (n ∷ run) (r, h) x y (inl e) (inl i) other = absurd (other
 run_apart q pairs D (n ∷ run) (r, h) x y (inl e) (inr k) other = λ c. run_not_closed q pairs (DoneOr D (n ∷ [])) run h y k
     (closed_more q (λ z. z ≡ x) (DoneOr D (n ∷ [])) y (λ z i. inr (inl (i ∙ e))) c)
 run_apart q pairs D (n ∷ run) (r, h) x y (inr m) (inl i) other = λ c. run_not_closed q pairs (DoneOr D (n ∷ [])) run h x m
-    (closed_more q (λ z. z ≡ y) (DoneOr D (n ∷ [])) x (λ z e. inr (inl (e ∙ i))) (closed_by_other q x y c))
+    (closed_more q (λ z. z ≡ y) (DoneOr D (n ∷ [])) x (λ z e. inr (inl (e ∙ i))) (closed_turned q x y c))
 run_apart q pairs D (n ∷ run) (r, h) x y (inr m) (inr k) other = run_apart q pairs (DoneOr D (n ∷ [])) run h x y m k other
 
 -- leaves that may follow one after another, and of which each may be begun, may all be begun

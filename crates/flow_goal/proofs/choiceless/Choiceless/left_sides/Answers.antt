@@ -3,14 +3,14 @@ use Rattle.std.specs.List.Sorted.{IsStrictlyIncreasing}
 use Rattle.flow_goal.specs.LeftSides.{left_sides}
 use Rattle.flow_goal.proofs.KeptLemmas.{left_sides_free, text_of_line}
 use Rattle.flow_goal.proofs.Rising.{left_sides_increase}
-use Rattle.flow_goal.proofs.SimpleLemmas.{free_is_folded}
+use Rattle.flow_laws.proofs.FoldingLemmas.{folded_where_free}
 use Rattle.flow_goal.proofs.choiceless.Choiceless.left_sides.Goals as goal
 
 pub new-requires-clause-written : goal.new-requires-clause-written
 new-requires-clause-written c =
     let g = left_sides c.args.self.now.process in
     let is = text_of_line g c.in_ok-text.text c.in_ok-text.ensures.written in
-    (g, free_is_folded g (left_sides_free c.args.self.now.process), is.nodes, is.leaves_are, is.fixed)
+    (g, folded_where_free g (left_sides_free c.args.self.now.process), is.nodes, is.leaves_are, is.fixed)
 
 pub new-requires-clause-rising : goal.new-requires-clause-rising
 new-requires-clause-rising c =

@@ -3,14 +3,14 @@ use Rattle.std.specs.List.Sorted.{IsStrictlyIncreasing}
 use Rattle.flow_model.specs.Folding.{outside_choices}
 use Rattle.flow_goal.proofs.KeptLemmas.{outside_free, text_of_line}
 use Rattle.flow_goal.proofs.Rising.{outside_increases}
-use Rattle.flow_goal.proofs.SimpleLemmas.{free_is_folded}
+use Rattle.flow_laws.proofs.FoldingLemmas.{folded_where_free}
 use Rattle.flow_goal.proofs.choiceless.Choiceless.outside.Goals as goal
 
 pub new-requires-clause-written : goal.new-requires-clause-written
 new-requires-clause-written c =
     let g = outside_choices c.args.self.now.process in
     let is = text_of_line g c.in_ok-text.text c.in_ok-text.ensures.written in
-    (g, free_is_folded g (outside_free c.args.self.now.process), is.nodes, is.leaves_are, is.fixed)
+    (g, folded_where_free g (outside_free c.args.self.now.process), is.nodes, is.leaves_are, is.fixed)
 
 pub new-requires-clause-rising : goal.new-requires-clause-rising
 new-requires-clause-rising c =
