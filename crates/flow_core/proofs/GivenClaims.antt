@@ -14,6 +14,9 @@ use Rattle.flow_model.specs.Decided.{decide_in, cons_same}
 use Rattle.flow_model.proofs.MadeLists.{some_same}
 use Rattle.flow_laws.proofs.ClaimLemmas.{number_of, some_claim, claim_in, and_parts}
 use Rattle.flow_laws.proofs.SoundStates.{taken_of_current}
+use Rattle.flow_model.specs.Takers.{Takings, takings_of}
+use Rattle.flow_duty_laws.proofs.Claims.{those_at, those_there}
+use Rattle.flow_duty_laws.proofs.Kept.{those_of}
 use Rattle.flow_workflow.specs.Definition.{schema_of}
 use Rattle.flow_workflow.specs.Numbers.{IsKnown}
 use Rattle.flow_residual.specs.Remaining.{MayComeNext, IsAvoidable}
@@ -29,7 +32,7 @@ use Rattle.flow_core.specs.declared.run.Core.TheInside.{Inside}
 use Rattle.flow_core.specs.Next.{CanStep}
 use Rattle.flow_core.specs.Invariant.{run_by, IsRunning}
 use Rattle.flow_core.proofs.JournalLemmas.{next_of_all, next_of_first, journal_within, next_room}
-use Rattle.flow_core.proofs.Steps.{events_at, sound_now}
+use Rattle.flow_core.proofs.Steps.{events_at, takers_in, sound_now}
 use Rattle.flow_core.proofs.Calls.{attempts_are}
 use Rattle.flow_core.proofs.Tests.{claim_is}
 
@@ -37,7 +40,7 @@ abbrev at : ℕ → Claim → Bool
 at number = λ (claim : Claim). nat_eq claim.number number
 
 -- where the claim of a number stands
-find_place : (first : ℕ) (claims : List Claim) (n : ℕ) (claim : Claim) → map number_of claims ≡ numbers_from first (length claims) →
+pub find_place : (first : ℕ) (claims : List Claim) (n : ℕ) (claim : Claim) → map number_of claims ≡ numbers_from first (length claims) →
     find (at n) claims ≡ Some claim → (i : ℕ) × (n ≡ first + i) × (slice_get claims i ≡ Some claim)
 find_place first [] n claim numbered found = cc
 find_place first (x ∷ xs) n claim numbered found =
@@ -142,6 +145,9 @@ module _ (i : Inside) (kept : IsRunning i) where
   abbrev s : RunState
   s = state_of w i.history.items
 
+  abbrev t : Takings
+  t = takings_of i.history.items
+
   pub given_is : (n : ℕ) (o : Option Given) → MatchOption o (claim_at (run_of i.claims) n ≡ None) (IsGivenAt i.claims n) →
       MatchOption o (claim_at s n ≡ None) (IsGiven (run_by i) n)
   given_is n None h = sym (claim_is i.workflow s i.claims kept.kept.claims n) ∙ h
@@ -151,11 +157,15 @@ module _ (i : Inside) (kept : IsRunning i) where
       let found : claim_at s n ≡ Some (claim_of n g) = sym (claim_is i.workflow s i.claims k.claims n) ∙ h.claim in
       let (j, is, there) = find_place 1 s.claims n (claim_of n g) sound.numbered found in
       let event : slice_get i.claims.events j ≡ Some g.event = subst (λ m. slice_get i.claims.events m ≡ Some g.event) (let e : n - 1 ≡ j = omega arith in e) h.event in
+      let taker : slice_get (takers_in t) j ≡ Some g.by =
+      ap (λ l. slice_get l j) (sym k.takers_are) ∙ subst (λ m. slice_get i.claims.takers m ≡ Some g.by) (let e : n - 1 ≡ j = omega arith in e) h.taker in
       record {
         claim = found;
         epoch = each_member (λ (claim : Claim). claim.epoch ≤ s.epoch) s.claims sound.epochs (claim_of n g) (claim_in s.claims n (claim_of n g) found);
         event = events_there w.labels s.claims i.claims.events j (claim_of n g) g.event (ap (events_at w.labels) k.claims.claims_are ∙ k.claims.events_are) there event;
         attempt = h.attempt ∙ sym (attempts_are i.workflow s i.claims k.claims sound g.event n);
+        taking = those_at 1 s.claims t.given j n (those_of w i.history.items) sound.numbered is
+            ∙ those_there s.claims t.given j (claim_of n g) g.by (those_of w i.history.items) there taker;
       }
 
   -- the leaf of a current claim may come next

@@ -6,6 +6,7 @@ pub mod Lawful
 pub mod Calls
 pub mod Tests
 pub mod GivenClaims
+pub mod HoldingLemmas
 pub mod NextLemmas
 pub mod RisingLists
 pub mod SingleLemmas

@@ -56,7 +56,7 @@ pub not_both : (s : RunState) (n : ℕ) → IsAnswered s n → IsUnanswered s n 
 not_both s n a u =
     let (claim, x, y) = both_of s n (λ (c : Claim). IsTrue c.answered) (λ (c : Claim). c.answered ≡ false) a u in true≢false (sym x ∙ y)
 
-unanswered_late : (s : RunState) (n of : ℕ) → IsLateOf s n of → IsUnanswered s n
+pub unanswered_late : (s : RunState) (n of : ℕ) → IsLateOf s n of → IsUnanswered s n
 unanswered_late s n of late =
     let (claim, found, has) = some_claim (λ (c : Claim). (c.answered ≡ false) × (c.epoch ≡ of)) (claim_at s n) late.1 in
     subst (λ o. IsSomeAnd o (λ (c : Claim). c.answered ≡ false)) (sym found) has.0
@@ -131,11 +131,11 @@ module _ (r : Run) (leaf by : ℕ) where
   of_event going event p = ((λ over. not_over r over going), ((λ past. none_event (schema r) leaf past event), ((λ other. other_event (schema r) leaf other event), p)))
 
   is_taken : (a : Result Call TakeRefusal) (after : Run) → Takes r leaf by a after → IsTaken a after
-  is_taken (Err take.Closed) after h = told_at 0 0 (λ i. (Err take.Closed, h.1 i)) h.0 refl
-  is_taken (Err take.NoLeaf) after h = told_at 1 0 (λ i. (Err take.NoLeaf, h.2 i)) ((λ over. not_over r over h.0), h.1) refl
-  is_taken (Err take.WrongKind) after h = told_at 2 0 (λ i. (Err take.WrongKind, h.2 i)) ((λ over. not_over r over h.0), ((λ past. none_other (schema r) leaf past h.1), h.1)) refl
-  is_taken (Err (take.Spent x)) after h = told_at 3 0 (λ i. (Err (take.Spent (h.2.1 i)), h.3 i)) (of_event h.0 h.1 h.2.0) refl
-  is_taken (Err take.NotEnabled) after h = told_at 4 0 (λ i. (Err take.NotEnabled, h.4 i)) (of_event h.0 h.1 ((λ spent. spent h.2), h.3)) refl
+  is_taken (Err take.Closed) after (h, is) = told_at 0 0 (λ i. (Err take.Closed, is i)) h refl
+  is_taken (Err take.NoLeaf) after (h, is) = told_at 1 0 (λ i. (Err take.NoLeaf, is i)) ((λ over. not_over r over h.0), h.1) refl
+  is_taken (Err take.WrongKind) after (h, is) = told_at 2 0 (λ i. (Err take.WrongKind, is i)) ((λ over. not_over r over h.0), ((λ past. none_other (schema r) leaf past h.1), h.1)) refl
+  is_taken (Err (take.Spent x)) after (h, is) = told_at 3 0 (λ i. (Err (take.Spent (h.2.1 i)), is i)) (of_event h.0 h.1 h.2.0) refl
+  is_taken (Err take.NotEnabled) after (h, is) = told_at 4 0 (λ i. (Err take.NotEnabled, is i)) (of_event h.0 h.1 ((λ spent. spent h.2), h.3)) refl
   is_taken (Ok call) after h = told_at 5 0 (λ i. (Ok ((h.4 ∙ ap (λ (a : Run). call_of (schema r) (now a) (next_claim r)) h.3) i), h.3 i)) (of_event h.0 h.2.0 ((λ spent. spent h.1), ((λ cannot. cannot h.2), refl))) refl
 
   abbrev IsPerformed : Result (Unit {0}) DoRefusal → Run → Type 0

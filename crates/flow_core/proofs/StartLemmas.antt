@@ -14,11 +14,11 @@ use Rattle.flow_core.specs.Invariant.{IsKept}
 
 pub kept_first : (w : Definition) (limit : ℕ) (c : Compilation) (r : Remaining) (claimed : Claimed) (v : Course) (kinds : ℕ) (held : List ℕ) (count leaves : ℕ) →
     IsCompiled (schema_of w) c → Each (IsKnown (length w.events) (length w.facts)) w.tree.labels → length w.notes ≡ length w.events → IsWellFormed (schema_of w) →
-    r.options ≡ options_of c.plans → r.journal ≡ [] → r.bans ≡ [] → claimed ≡ record { claims = []; events = []; epoch = 0; room = limit; kinds = kinds } →
+    r.options ≡ options_of c.plans → r.journal ≡ [] → r.bans ≡ [] → claimed ≡ record { claims = []; events = []; takers = []; epoch = 0; room = limit; kinds = kinds } →
     kinds ≡ length w.events → v ≡ course_from held count leaves → held ≡ w.held → count ≡ length w.facts → leaves ≡ length w.tree.labels →
     IsKept w limit [] r claimed v false
 kept_first w limit c r claimed v kinds held count leaves compiled known noted well_formed options_are journal bans claims_are kinds_are course_is held_is count_is leaves_are =
-    let first : Claimed = record { claims = []; events = []; epoch = 0; room = limit; kinds = kinds } in
+    let first : Claimed = record { claims = []; events = []; takers = []; epoch = 0; room = limit; kinds = kinds } in
     subst (λ (n : Claimed). IsKept w limit [] r n v false) (sym claims_are) (subst (λ (u : Course). IsKept w limit [] r first u false) (sym course_is) (record {
       legal = tt;
       consistent = compiled.consistent;
@@ -31,6 +31,7 @@ kept_first w limit c r claimed v kinds held count leaves compiled known noted we
         bans_are = sym bans;
       };
       claims = record { claims_are = refl; epoch_is = refl; events_are = refl; kinds = kinds_are };
+      takers_are = refl;
       course = record { held_is = held_is; count = count_is; labels_are = refl; room = leaves_are };
       committed_is = refl;
       within_limit = omega arith;

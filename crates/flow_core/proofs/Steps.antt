@@ -12,9 +12,11 @@ use Rattle.flow_model.specs.Facts.{event_at, event_in}
 use Rattle.flow_model.specs.Schema.{Schema, IsGood}
 use Rattle.flow_model.specs.Folding.{folded_options}
 use Rattle.flow_model.specs.Decided.{can_all_follow}
+use Rattle.flow_model.specs.Takers.{Taking, Takings, no_takings, next_takings, takings_of}
 use Rattle.flow_model.specs.Run.{Claim, RunState, first_state, next_state, state_after, state_of, current_claims, leaf_of_claim, is_current, IsCurrent, IsOpenIndex, IsAllowed, IsLegalFrom, CanTake, CanDo, answer, spare, with_new_epoch}
 use Rattle.flow_laws.proofs.NeverAtALoss.{sound_state}
 use Rattle.flow_laws.specs.Histories.{IsSound}
+use Rattle.flow_duty_laws.proofs.Kept.{takings_after-append}
 use Rattle.flow_workflow.specs.Definition.{schema_of}
 use Rattle.flow_plan.specs.Options.{HasExecution, AreJustThose}
 use Rattle.flow_residual.specs.Remaining.{Remaining, IsOf}
@@ -86,6 +88,10 @@ event_label other event e = cc
 pub label_of_event : (labels : List Label) (leaf event : ℕ) → event_at labels leaf ≡ Some event → slice_get labels leaf ≡ Some (Event event)
 label_of_event labels leaf event e = event_label (slice_get labels leaf) event e
 
+-- to whom the claims were given
+abbrev pub takers_in : Takings → List ℕ
+takers_in t = map (λ (g : Taking). g.taker) t.given
+
 -- ---- the entries
 
 module _ (i : Inside) (kept : IsRunning i) where
@@ -94,6 +100,9 @@ module _ (i : Inside) (kept : IsRunning i) where
 
   abbrev s : RunState
   s = state_of w i.history.items
+
+  abbrev taken : Takings
+  taken = takings_of i.history.items
 
   -- the state is sound
   pub sound_now : IsSound w s
@@ -107,9 +116,9 @@ module _ (i : Inside) (kept : IsRunning i) where
     -- what an entry owes
     kept_longer : (step : Step) (r : Remaining) (c : Claimed) (v : Course) (committed : Bool) → IsAllowed w s step →
         IsOf w (next_state w s step) r → AreClaimsOf i.workflow (next_state w s step) c → IsCourseOf i.workflow (next_state w s step) v →
-        (next_state w s step).committed ≡ committed → c.room ≡ i.claims.room → length c.claims ≤ length i.claims.claims + 1 → c.epoch ≤ i.claims.epoch + 1 →
+        c.takers ≡ takers_in (next_takings taken by step) → (next_state w s step).committed ≡ committed → c.room ≡ i.claims.room → length c.claims ≤ length i.claims.claims + 1 → c.epoch ≤ i.claims.epoch + 1 →
         Keeps step r c v committed
-    kept_longer step r c v committed allowed remains claims course closed same_room more_claims more_epochs =
+    kept_longer step r c v committed allowed remains claims course takers closed same_room more_claims more_epochs =
         let k = kept.kept in
         let entry : Entry = record { by = by; step = step } in
         let same : state_of w (longer i.history.items by step) ≡ next_state w s step = state_after-append w first_state i.history.items entry in
@@ -124,6 +133,7 @@ module _ (i : Inside) (kept : IsRunning i) where
           noted = k.noted;
           remains = subst (λ (s : RunState). IsOf w s r) (sym same) remains;
           claims = subst (λ (s : RunState). AreClaimsOf i.workflow s c) (sym same) claims;
+          takers_are = takers ∙ ap takers_in (sym (takings_after-append no_takings i.history.items (entry ∷ [])));
           course = subst (λ (s : RunState). IsCourseOf i.workflow s v) (sym same) course;
           committed_is = ap (λ (s : RunState). s.committed) same ∙ closed;
           within_limit = omega arith;
@@ -183,6 +193,7 @@ module _ (i : Inside) (kept : IsRunning i) where
         Keeps (Took claim leaf) i.residual (record i.claims {
           claims = i.claims.claims ++ record { number = length i.claims.claims + 1; leaf = leaf; epoch = i.claims.epoch; answered = false } ∷ [];
           events = i.claims.events ++ event ∷ [];
+          takers = i.claims.takers ++ by ∷ [];
         }) i.world i.committed
     kept_took leaf event claim number at can =
         let k = kept.kept in
@@ -196,7 +207,8 @@ module _ (i : Inside) (kept : IsRunning i) where
               ∙ (λ j. k.claims.events_are j ++ at j ∷ []) ∙ sym (map-append Some i.claims.events (event ∷ []));
           kinds = k.claims.kinds;
         })
-        (same_course (next_state w s (Took claim leaf)) refl) k.committed_is refl
+        (same_course (next_state w s (Took claim leaf)) refl)
+        ((λ j. k.takers_are j ++ by ∷ []) ∙ sym (map-append (λ (g : Taking). g.taker) taken.given (record { claim = claim; leaf = leaf; taker = by } ∷ []))) k.committed_is refl
         (let e : length (i.claims.claims ++ one ∷ []) ≡ length i.claims.claims + 1 = length-append i.claims.claims (one ∷ []) in omega arith) (omega arith)
 
     -- a success is posted
@@ -208,15 +220,17 @@ module _ (i : Inside) (kept : IsRunning i) where
         let j : s.journal ++ leaf_of_claim s claim ∷ [] ≡ s.journal ++ leaf ∷ [] = ap (λ n. s.journal ++ n ∷ []) on in
         kept_longer (Done claim) _ _ _ i.committed current
         (remains after (record i.residual { journal = i.residual.journal ++ leaf ∷ [] }) refl (j ∙ ap (λ (j : List ℕ). j ++ leaf ∷ []) kept.kept.remains.journal_is) kept.kept.remains.bans_are)
-        (answered_claims after claim refl refl) (longer_course after leaf (Event event) j (label_of_event w.labels leaf event at)) kept.kept.committed_is refl
+        (answered_claims after claim refl refl) (longer_course after leaf (Event event) j (label_of_event w.labels leaf event at)) kept.kept.takers_are kept.kept.committed_is refl
         (few_answered claim) (omega arith)
 
     -- a claim is answered, and nothing else changes: a result that came too late, and a failure that every execution needs otherwise
     pub kept_answered : (step : Step) (claim : ℕ) → IsAllowed w s step → next_state w s step ≡ record s { claims = answer claim s.claims } →
+        (next_takings taken by step).given ≡ taken.given →
         Keeps step i.residual (record i.claims { claims = answer claim i.claims.claims }) i.world i.committed
-    kept_answered step claim allowed is =
+    kept_answered step claim allowed is none_given =
         kept_longer step i.residual _ i.world i.committed allowed (same_remains _ (ap (λ (s : RunState). s.journal) is) (ap (λ (s : RunState). s.bans) is))
         (answered_claims _ claim (ap (λ (s : RunState). s.claims) is) (ap (λ (s : RunState). s.epoch) is)) (same_course _ (ap (λ (s : RunState). s.journal) is))
+        (kept.kept.takers_are ∙ ap (map (λ (g : Taking). g.taker)) (sym none_given))
         (ap (λ (s : RunState). s.committed) is ∙ kept.kept.committed_is) refl (few_answered claim) (omega arith)
 
     -- a leaf is done that is no event's
@@ -226,13 +240,13 @@ module _ (i : Inside) (kept : IsRunning i) where
         let after : RunState = next_state w s (Did leaf) in
         kept_longer (Did leaf) _ i.claims _ i.committed can
         (remains after (record i.residual { journal = i.residual.journal ++ leaf ∷ [] }) refl (ap (λ (j : List ℕ). j ++ leaf ∷ []) kept.kept.remains.journal_is) kept.kept.remains.bans_are)
-        (same_claims after refl refl) (longer_course after leaf label refl at) kept.kept.committed_is refl (omega arith) (omega arith)
+        (same_claims after refl refl) (longer_course after leaf label refl at) kept.kept.takers_are kept.kept.committed_is refl (omega arith) (omega arith)
 
     -- the run is over
     pub kept_committed : current_claims s ≡ [] → IsGood w s.journal → Keeps Committed i.residual i.claims i.world true
     kept_committed none good =
         let after : RunState = next_state w s Committed in
-        kept_longer Committed i.residual i.claims i.world true (none, good) (same_remains after refl refl) (same_claims after refl refl) (same_course after refl) refl refl (omega arith) (omega arith)
+        kept_longer Committed i.residual i.claims i.world true (none, good) (same_remains after refl refl) (same_claims after refl refl) (same_course after refl) kept.kept.takers_are refl refl (omega arith) (omega arith)
 
     -- ---- new epochs
 
@@ -246,8 +260,8 @@ module _ (i : Inside) (kept : IsRunning i) where
     kept_raised : (step : Step) (before : RunState) (r : Remaining) (claims : List Claim) (c : Claimed) (v : Course) → IsAllowed w s step →
         next_state w s step ≡ with_new_epoch w before → r.options ≡ i.residual.options → before.journal ≡ r.journal → before.bans ≡ r.bans →
         before.claims ≡ claims → before.epoch ≡ s.epoch → before.committed ≡ s.committed → events_at w.labels claims ≡ map Some i.claims.events → length claims ≡ length i.claims.claims →
-        IsRaised r claims c → IsCourseOf i.workflow (next_state w s step) v → Keeps step r c v i.committed
-    kept_raised step before r claims c v allowed is options journal bans same epoch closed events count (raised, others) course =
+        IsRaised r claims c → IsCourseOf i.workflow (next_state w s step) v → (next_takings taken by step).given ≡ taken.given → Keeps step r c v i.committed
+    kept_raised step before r claims c v allowed is options journal bans same epoch closed events count (raised, others) course none_given =
         let k = kept.kept in
         let at_epoch : before.epoch ≡ i.claims.epoch = epoch ∙ k.claims.epoch_is in
         let new : c.claims ≡ (with_new_epoch w before).claims = raised w before same at_epoch (remains before r options journal bans) in
@@ -262,7 +276,7 @@ module _ (i : Inside) (kept : IsRunning i) where
           events_are = ap (events_at w.labels) new ∙ events-spare w.labels w before [] before.claims ∙ ap (events_at w.labels) same ∙ events ∙ ap (λ (x : Claimed). map Some x.events) (sym others);
           kinds = ap (λ (x : Claimed). x.kinds) others ∙ k.claims.kinds;
         })
-        course (ap (λ (s : RunState). s.committed) is ∙ closed ∙ k.committed_is) (ap (λ (x : Claimed). x.room) others) (omega arith) (omega arith)
+        course (ap (λ (x : Claimed). x.takers) others ∙ k.takers_are ∙ ap (map (λ (g : Taking). g.taker)) (sym none_given)) (ap (λ (s : RunState). s.committed) is ∙ closed ∙ k.committed_is) (ap (λ (x : Claimed). x.room) others) (omega arith) (omega arith)
 
     -- a failure after which an execution goes on without the leaf
     pub kept_switched : (claim leaf : ℕ) (c : Claimed) → IsAllowed w s (Failed claim Switched) → leaf_of_claim s claim ≡ leaf →
@@ -273,7 +287,7 @@ module _ (i : Inside) (kept : IsRunning i) where
         kept_raised (Failed claim Switched) (record s { bans = s.bans ++ (length s.journal, leaf_of_claim s claim) ∷ []; claims = answer claim s.claims })
         (record i.residual { bans = i.residual.bans ++ (length i.residual.journal, leaf) ∷ [] }) (answer claim i.claims.claims) c i.world allowed refl refl k.remains.journal_is
         (λ j. k.remains.bans_are j ++ (length (k.remains.journal_is j), on j) ∷ []) (ap (answer claim) k.claims.claims_are) refl refl
-        (events-answer w.labels claim i.claims.claims ∙ k.claims.events_are) (length-map i.claims.claims _) raised (same_course (next_state w s (Failed claim Switched)) refl)
+        (events-answer w.labels claim i.claims.claims ∙ k.claims.events_are) (length-map i.claims.claims _) raised (same_course (next_state w s (Failed claim Switched)) refl) refl
 
     -- the journal is cut
     abbrev rewound : ℕ → Remaining
@@ -293,4 +307,4 @@ module _ (i : Inside) (kept : IsRunning i) where
           count = k.course.count;
           labels_are = ap (take index) k.course.labels_are ∙ sym (labels_at-take w.labels s.journal index (journal_within w k.remains.well_formed s sound_now));
           room = k.course.room;
-        })
+        }) refl

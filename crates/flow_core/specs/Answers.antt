@@ -36,14 +36,17 @@ IsSpent r limit = ¬ (HasEntryLeft r) × (limit ≡ r.limit)
 abbrev pub next_claim : Run → ℕ
 next_claim r = length (now r).claims + 1
 
+-- why no claim is given on the leaf
+abbrev pub TakeIsRefused : Run → ℕ → TakeRefusal → Type 0
+TakeIsRefused r leaf take.Closed = IsOver r
+TakeIsRefused r leaf take.NoLeaf = IsUncommitted r × (length (schema r).labels ≤ leaf)
+TakeIsRefused r leaf take.WrongKind = IsUncommitted r × IsOtherLeaf (schema r) leaf
+TakeIsRefused r leaf (take.Spent limit) = IsUncommitted r × IsEventLeaf (schema r) leaf × IsSpent r limit
+TakeIsRefused r leaf take.NotEnabled = IsUncommitted r × IsEventLeaf (schema r) leaf × HasEntryLeft r × ¬ (CanTake (schema r) (now r) leaf)
+
 -- a claim on the leaf is asked for
 abbrev pub Takes : Run → ℕ → ℕ → Result Call TakeRefusal → Run → Type 0
-Takes r leaf by (Err take.Closed) after = IsOver r × (after ≡ r)
-Takes r leaf by (Err take.NoLeaf) after = IsUncommitted r × (length (schema r).labels ≤ leaf) × (after ≡ r)
-Takes r leaf by (Err take.WrongKind) after = IsUncommitted r × IsOtherLeaf (schema r) leaf × (after ≡ r)
-Takes r leaf by (Err (take.Spent limit)) after = IsUncommitted r × IsEventLeaf (schema r) leaf × IsSpent r limit × (after ≡ r)
-Takes r leaf by (Err take.NotEnabled) after =
-    IsUncommitted r × IsEventLeaf (schema r) leaf × HasEntryLeft r × ¬ (CanTake (schema r) (now r) leaf) × (after ≡ r)
+Takes r leaf by (Err refusal) after = TakeIsRefused r leaf refusal × (after ≡ r)
 Takes r leaf by (Ok call) after =
     IsUncommitted r × HasEntryLeft r × CanTake (schema r) (now r) leaf × (after ≡ with_entry r by (Took (next_claim r) leaf))
     × (call ≡ call_of (schema r) (now after) (next_claim r))

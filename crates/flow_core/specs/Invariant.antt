@@ -5,6 +5,7 @@ use Rattle.flow_model.specs.declared.history.Entry.{Entry}
 use Rattle.flow_model.specs.Facts.{event_at}
 use Rattle.flow_model.specs.Lists.{Each}
 use Rattle.flow_model.specs.Run.{Claim, RunState, state_of, IsLegal, current_leaves, MayAllFollow, MayFollowFirst}
+use Rattle.flow_model.specs.Takers.{Taking, takings_of}
 use Rattle.flow_laws.specs.WellFormed.{IsConsistent}
 use Rattle.flow_workflow.specs.Definition.{Definition, schema_of}
 use Rattle.flow_workflow.specs.Numbers.{IsKnown}
@@ -41,6 +42,7 @@ pub record IsKept (w : Definition) (limit : ℕ) (history : List Entry) (r : Rem
   pub noted : length w.notes ≡ length w.events
   pub remains : IsOf (schema_of w) (state_of (schema_of w) history) r
   pub claims : AreClaimsOf w (state_of (schema_of w) history) c
+  pub takers_are : c.takers ≡ map (λ (t : Taking). t.taker) (takings_of history).given
   pub course : IsCourseOf w (state_of (schema_of w) history) v
   pub committed_is : (state_of (schema_of w) history).committed ≡ committed
   pub within_limit : length history ≤ limit

@@ -1,6 +1,7 @@
 pub mod Run
 pub mod Lawful
 pub mod Answers
+pub mod Holding
 pub mod Single
 pub mod Claim
 pub mod Next

@@ -5,6 +5,7 @@ mod ahead;
 mod ask;
 mod claim;
 mod commit;
+mod holding;
 mod lists;
 mod make;
 mod next;

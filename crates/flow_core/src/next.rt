@@ -89,7 +89,7 @@ impl Core {
     }
 
     /// Whether the leaf is on the journal. It is not done again, so no plan is asked for it.
-    fn is_done(&self, leaf: u32) -> bool
+    pub(crate) fn is_done(&self, leaf: u32) -> bool
         ensures done { IsTrue result ↔ (leaf ∈ (now self.now).journal) }
         ensures no_step { IsTrue result → ¬ (CanStep self.now leaf) }
         ensures not_left { IsTrue result → ¬ (CanDoAside (schema self.now) (now self.now) leaf) }

@@ -12,10 +12,20 @@ use flow_model::{Call, Step};
 impl Core {
     ghost use Rattle.flow_core.specs.Run.{schema, now, with_entry, IsUncommitted, HasEntryLeft};
     ghost use Rattle.flow_core.specs.Answers.{Takes, next_claim};
+    ghost use Rattle.flow_core.specs.Holding.{MayTake};
 
     /// Gives a claim on an event's leaf: leave to perform its task.
     pub fn take(&mut self, leaf: u32, by: u32) -> Result<Call, TakeRefusal>
         ensures { Takes self.old leaf by result self.new }
+    {
+        let event = self.may_take(leaf)?;
+        Ok(self.give(leaf, event, by))
+    }
+
+    /// The leaf's event, where a claim on it may be given, or why not. The first half of `take`: who may refuse a claim for causes of
+    /// his own asks this first, and then calls `give`.
+    pub fn may_take(&self, leaf: u32) -> Result<u32, TakeRefusal>
+        ensures { MayTake self.now leaf result }
     {
         if self.committed {
             return Err(TakeRefusal::Closed);
@@ -32,7 +42,7 @@ impl Core {
         if !self.can_take(leaf) {
             return Err(TakeRefusal::NotEnabled);
         }
-        Ok(self.give(leaf, event, by))
+        Ok(event)
     }
 
     /// The event of a leaf, if the goal has such a leaf, and it is an event's.
@@ -50,8 +60,8 @@ impl Core {
         !self.claims.has_leaf(leaf) && self.may_all_follow(leaf)
     }
 
-    /// Makes the entry of a claim that may be given.
-    pub(crate) fn give(&mut self, leaf: u32, event: u32, by: u32) -> Call
+    /// Gives the claim that `may_take` allowed: nothing is asked again.
+    pub fn give(&mut self, leaf: u32, event: u32, by: u32) -> Call
         requires open { IsUncommitted self.old }
         requires steps { HasEntryLeft self.old }
         requires event { event_at (schema self.old).labels leaf ≡ Some event }
@@ -60,7 +70,7 @@ impl Core {
         ensures call { result ≡ call_of (schema self.old) (now self.new) (next_claim self.old) }
     {
         let claim = self.next_claim();
-        let attempt = self.claims.give(leaf, event);
+        let attempt = self.claims.give(leaf, event, by);
         let step = Step::Took { claim, leaf };
         enter(&mut self.history, &mut self.looked, by, step);
         Call {

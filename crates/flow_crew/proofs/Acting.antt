@@ -38,17 +38,17 @@ module _ (r : Run) (none : HasNoEnd r) (steps : HasEntryLeft r) where
   module _ (leaf : ℕ) (acts : IsNext r (next.Act leaf)) where
     -- a leaf that can act and is not taken can be done
     pub not_taken : (by : ℕ) (refusal : TakeRefusal) (after : Run) → Takes r leaf by (Err refusal) after → CanDo (schema r) (now r) leaf × (after ≡ r)
-    not_taken by take.Closed after h = absurd (not_over h.0)
-    not_taken by take.NoLeaf after h = elim acts.0.1 [
+    not_taken by take.Closed after (h, is) = absurd (not_over h)
+    not_taken by take.NoLeaf after (h, is) = elim acts.0.1 [
       | inl can ↦ absurd (none_event (schema r) leaf h.1 can.0)
       | inr can ↦ absurd (none_other (schema r) leaf h.1 can.0.0)
     ]
-    not_taken by take.WrongKind after h = elim acts.0.1 [
+    not_taken by take.WrongKind after (h, is) = elim acts.0.1 [
       | inl can ↦ absurd (other_event (schema r) leaf h.1 can.0)
-      | inr can ↦ (can, h.2)
+      | inr can ↦ (can, is)
     ]
-    not_taken by (take.Spent limit) after h = absurd (h.2.0 steps)
-    not_taken by take.NotEnabled after h = elim acts.0.1 [
+    not_taken by (take.Spent limit) after (h, is) = absurd (h.2.0 steps)
+    not_taken by take.NotEnabled after (h, is) = elim acts.0.1 [
       | inl can ↦ absurd (h.3 can)
       | inr can ↦ absurd (other_event (schema r) leaf can.0.0 h.1)
     ]

@@ -1,13 +1,13 @@
 -- Current claims after an entry were current before, or are just given; what is known of who took them stays.
-use Rattle.std.proofs.Common.{◌≡◌, ◌≢◌, ℕ, ◌+◌, ◌≤◌, Bool, true, false, not, ◌&&◌, ◌==◌, if◌then◌else◌, IsTrue, List, [], ◌∷◌, ◌++◌, Option, Some, None, find, refl, sym, ap, ◌∙◌, subst, inl, inr, ⊎_elim, ◌⊎◌, arith, true≢false}
-use Rattle.std.proofs.lemmas.Bool.{cases_Bool, and_parts, eqb-true, eq-eqb}
-use Rattle.flow_model.specs.Lists.{◌∈◌, Each}
+use Rattle.std.proofs.Common.{◌≡◌, ℕ, zero, suc, ◌+◌, ◌≤◌, not, ◌==◌, IsTrue, List, [], ◌∷◌, ◌++◌, length, map, slice_get, Some, find, refl, sym, ap, ◌∙◌, subst, inl, inr, ⊎_elim, ◌⊎◌, arith, true≢false}
+use Rattle.std.proofs.lemmas.Bool.{cases_Bool, and_parts, eqb-true, eq-eqb, ne_eqb}
+use Rattle.flow_model.specs.Lists.{◌∈◌, Each, numbers_from}
 use Rattle.flow_model.specs.Schema.{Schema}
 use Rattle.flow_model.specs.Run.{Claim, RunState, answer, is_current, spare}
-use Rattle.flow_model.specs.Decided.{can_all_follow}
+use Rattle.flow_model.specs.Decided.{can_all_follow, cons_same}
 use Rattle.flow_model.proofs.Lists.{mem-append}
-use Rattle.flow_laws.proofs.ClaimLemmas.{is_of, answered, and_false, renewed, is_spared}
-use Rattle.flow_model.proofs.MadeLists.{of_find, some_same}
+use Rattle.flow_laws.proofs.ClaimLemmas.{number_of, is_of, answered, renewed, is_spared}
+use Rattle.flow_model.proofs.MadeLists.{some_same}
 use Rattle.flow_model.specs.Takers.{Taking, taking_of}
 
 -- a claim of the list is unanswered, of that epoch, of that number and on that leaf
@@ -103,3 +103,36 @@ those_found (d ∷ cs) (t ∷ ts) number c h e = elim (cases_Bool (d.number == n
   | inl is ↦ (t, rw (← h.0, is) refl, sym h.1 ∙ ap (λ (x : Claim). x.leaf) (some_same d c (rw is at e)))
   | inr other ↦ (let (u, f, l) = those_found cs ts number c h.2 (rw other at e) in (u, rw (← h.0, other) f, l))
 ]
+
+-- where claims are numbered in turn, the taking of a number stands at its place
+pub those_at : (first : ℕ) (cs : List Claim) (ts : List Taking) (j n : ℕ) → AreThose cs ts → map number_of cs ≡ numbers_from first (length cs) → n ≡ first + j →
+    taking_of ts n ≡ slice_get ts j
+those_at first [] [] j n h numbered is = refl
+those_at first [] (t ∷ ts) j n h numbered is = absurd h
+those_at first (c ∷ cs) [] j n h numbered is = absurd h
+those_at first (c ∷ cs) (t ∷ ts) zero n h numbered is =
+    let both = cons_same c.number first (map number_of cs) (numbers_from (first + 1) (length cs)) numbered in
+    let here : n ≡ first = omega arith in
+    rw (eq-eqb t.claim n (sym h.0 ∙ both.0 ∙ sym here)) refl
+those_at first (c ∷ cs) (t ∷ ts) (suc j) n h numbered is =
+    let both = cons_same c.number first (map number_of cs) (numbers_from (first + 1) (length cs)) numbered in
+    let here : t.claim ≡ first = sym h.0 ∙ both.0 in
+    rw (ne_eqb t.claim n (omega arith)) (those_at (first + 1) cs ts j n h.2 both.1 (omega arith))
+
+-- the taking at the place of a claim
+pub those_there : (cs : List Claim) (ts : List Taking) (j : ℕ) (c : Claim) (by : ℕ) → AreThose cs ts → slice_get cs j ≡ Some c →
+    slice_get (map (λ (t : Taking). t.taker) ts) j ≡ Some by → slice_get ts j ≡ Some (record { claim = c.number; leaf = c.leaf; taker = by })
+those_there [] ts j c by h at taker = cc
+those_there (x ∷ cs) [] j c by h at taker = absurd h
+those_there (x ∷ cs) (t ∷ ts) zero c by h at taker =
+    let same : x ≡ c = some_same x c at in
+    let who : t.taker ≡ by = some_same t.taker by taker in
+    λ i. Some (record { claim = (sym h.0 ∙ ap number_of same) i; leaf = (sym h.1 ∙ ap (λ (c : Claim). c.leaf) same) i; taker = who i })
+those_there (x ∷ cs) (t ∷ ts) (suc j) c by h at taker = those_there cs ts j c by h.2 at taker
+
+-- what is told of the leaves is the same of both
+pub those_leaves : {A : Type 0} (f : ℕ → A) (cs : List Claim) (ts : List Taking) → AreThose cs ts → map (λ (t : Taking). f t.leaf) ts ≡ map (λ (c : Claim). f c.leaf) cs
+those_leaves f [] [] h = refl
+those_leaves f [] (t ∷ ts) h = absurd h
+those_leaves f (c ∷ cs) [] h = absurd h
+those_leaves f (c ∷ cs) (t ∷ ts) h = λ i. f (sym h.1 i) ∷ those_leaves f cs ts h.2 i

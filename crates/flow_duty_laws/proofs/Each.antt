@@ -1,5 +1,5 @@
 -- Each event leaf that is done has a taker.
-use Rattle.std.proofs.Common.{◌≡◌, ℕ, ◌+◌, Bool, true, false, ◌==◌, IsTrue, List, [], ◌∷◌, ◌++◌, Option, Some, None, take, drop, refl, sym, ap, ◌∙◌, subst, inl, inr, ⊎_elim, ◌⊎◌, arith, true≢false, take-append-drop}
+use Rattle.std.proofs.Common.{◌≡◌, ℕ, ◌+◌, true, false, ◌==◌, IsTrue, List, [], ◌∷◌, Some, take, drop, sym, ap, ◌∙◌, subst, inl, inr, ⊎_elim, ◌⊎◌, true≢false, take-append-drop}
 use Rattle.std.proofs.lemmas.Bool.{cases_Bool, eqb-true, eq-eqb}
 use Rattle.flow_model.specs.declared.history.Entry.{Entry}
 use Rattle.flow_model.specs.declared.history.Step.{Step}
@@ -10,14 +10,14 @@ use Rattle.flow_model.specs.Facts.{event_at}
 use Rattle.flow_model.specs.Schema.{Schema}
 use Rattle.flow_model.specs.Run.{RunState, first_state, is_current, claim_at, leaf_of_claim, IsAllowed, IsLegalFrom, next_state, state_after}
 use Rattle.flow_laws.specs.Histories.{IsSound}
-use Rattle.flow_laws.specs.WellFormed.{IsWellFormed, IsConsistent}
+use Rattle.flow_laws.specs.WellFormed.{IsWellFormed}
 use Rattle.flow_model.proofs.Lists.{mem-append, mem_append_left}
 use Rattle.flow_laws.proofs.ClaimLemmas.{some_claim}
 use Rattle.flow_laws.proofs.SoundStates.{kept_next, first_is_kept}
-use Rattle.flow_model.specs.Takers.{Taking, Takings, no_takings, taking_of, taking_on, onto, next_takings, takings_after}
+use Rattle.flow_model.specs.Takers.{Taking, Takings, no_takings, taking_on, next_takings, takings_after}
 use Rattle.flow_duty_laws.specs.TakerLaws.{DoneLeavesHaveTakers}
 use Rattle.flow_duty_laws.proofs.Claims.{AreThose}
-use Rattle.flow_duty_laws.proofs.Kept.{taking, IsDoneOf, done_of, those_next, did_before}
+use Rattle.flow_duty_laws.proofs.Kept.{taking, done_of, those_next, did_before}
 
 -- the last claim on it that was done is known
 abbrev HasDone : List Taking → ℕ → Type 0

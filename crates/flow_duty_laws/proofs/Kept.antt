@@ -1,23 +1,23 @@
 -- Each entry that may be made keeps the duties.
-use Rattle.std.proofs.Common.{◌≡◌, ◌≢◌, ℕ, ◌+◌, ◌≤◌, Bool, true, false, ◌==◌, IsTrue, List, [], ◌∷◌, ◌++◌, length, map, take, drop, Option, Some, None, find, refl, sym, ap, ◌∙◌, subst, inl, inr, ⊎_elim, ◌⊎◌, arith, true≢false, append_assoc, take-append-drop, ◌<◌, filter, nat_le, slice_index}
+use Rattle.std.proofs.Common.{◌≡◌, ◌≢◌, ℕ, ◌+◌, ◌≤◌, true, false, ◌==◌, IsTrue, List, [], ◌∷◌, ◌++◌, length, map, take, drop, Some, None, refl, sym, ap, ◌∙◌, subst, inl, inr, ⊎_elim, ◌⊎◌, arith, true≢false, take-append-drop, filter, nat_le, slice_index}
 use Rattle.std.proofs.lemmas.Bool.{cases_Bool, eqb-true, eq-eqb}
 use Rattle.flow_model.specs.declared.history.Entry.{Entry}
 use Rattle.flow_model.specs.declared.history.Step.{Step}
 use Rattle.flow_model.specs.declared.history.Step.TheVariants.{Took, Done, Failed, Late, Did, Rewound, Committed}
 use Rattle.flow_model.specs.declared.history.FailEffect.TheVariants.{Switched, Kept}
-use Rattle.flow_model.specs.Lists.{◌∈◌, Each, Begins, numbers_from}
+use Rattle.flow_model.specs.Lists.{◌∈◌, Each}
 use Rattle.flow_model.specs.Facts.{event_at}
 use Rattle.flow_model.specs.Schema.{Schema}
-use Rattle.flow_model.specs.Run.{Claim, RunState, first_state, answer, is_current, claim_at, leaf_of_claim, IsAllowed, IsLegalFrom, next_state, state_after, with_new_epoch, spare}
+use Rattle.flow_model.specs.Run.{Claim, RunState, first_state, answer, is_current, claim_at, leaf_of_claim, IsAllowed, IsLegalFrom, next_state, state_of, state_after, with_new_epoch}
 use Rattle.flow_laws.specs.Histories.{IsSound}
-use Rattle.flow_laws.specs.WellFormed.{IsWellFormed, IsConsistent}
+use Rattle.flow_laws.specs.WellFormed.{IsWellFormed}
 use Rattle.flow_model.proofs.Lists.{mem-append, mem_append_left}
 use Rattle.flow_model.specs.Decided.{decide_eq}
 use Rattle.flow_model.proofs.MadeLists.{of_find, some_same, numbers_from_below}
 use Rattle.flow_laws.proofs.ClaimLemmas.{number_of, answer_keeps, some_claim, claim_in, leaf_of_claim_is}
 use Rattle.flow_laws.proofs.SoundStates.{kept_next, first_is_kept}
 use Rattle.flow_model.specs.Takers.{Taking, Takings, no_takings, taking_of, taking_on, onto, next_takings, takings_after, takings_of, IsOut, IsTakenBy}
-use Rattle.flow_model.specs.Duties.{Duties, IsLeft, IsDutiful, DutiesHold, IsConstraintOf, HasRole}
+use Rattle.flow_model.specs.Duties.{Duties, IsLeft, DutiesHold, IsConstraintOf, HasRole}
 use Rattle.flow_duty_laws.specs.TakerLaws.{DutiesAreKept}
 use Rattle.flow_duty_laws.proofs.Claims.{IsAmong, among_answer, among_append, among_spared, AreThose, those_answer, those_spared, those_more, those_found}
 
@@ -69,11 +69,14 @@ took_taken w s t h those by claim leaf number n user (inl (c, o, m)) = ⊎_elim
   where
     new : Claim
     new = record { number = claim; leaf = leaf; epoch = s.epoch; answered = false }
+
     only : taking c n user ∈ (taking claim leaf by ∷ []) → taking c n user ≡ taking claim leaf by
     only (inl e) = e
     only (inr e) = absurd e
+
     just : taking c n user ≡ taking claim leaf by → IsTook (Took claim leaf) n by user
     just e = ((claim, ap (λ (x : Taking). Took claim x.leaf) (sym e)), ap (λ (x : Taking). x.taker) (sym e))
+
     is_new : taking c n user ∈ t.given → IsAmong s.epoch (new ∷ []) c n → ⊥
     is_new old a =
         let m : c ∈ map number_of s.claims = those_numbers s.claims t.given those (taking c n user) old in
@@ -134,6 +137,46 @@ did_before w journal leaf n event none some m = ⊎_elim (λ k. k) (λ l. absurd
     other (inl e) = let clash : Some event ≡ None = sym some ∙ (ap (event_at w.labels) e ∙ none) in cc
     other (inr e) = e
 
+abbrev switched : RunState → ℕ → RunState
+switched s claim = record s { bans = s.bans ++ (length s.journal, leaf_of_claim s claim) ∷ []; claims = answer claim s.claims }
+
+abbrev cut : RunState → ℕ → RunState
+cut s i = record s { journal = take i s.journal; bans = filter (λ ban. nat_le ban.0 i) s.bans ++ (i, slice_index s.journal i) ∷ [] }
+
+-- a claim that is out after the step was out before it, or the step gave it
+abbrev pub WasOut : RunState → Step → ℕ → ℕ → Type 0
+WasOut s step number n = IsOut s number n ⊎ (step ≡ Took number n)
+
+pub out_before : (w : Schema) (s : RunState) → Each (λ (claim : Claim). claim.epoch ≤ s.epoch) s.claims → (step : Step) (number n : ℕ) → IsOut (next_state w s step) number n →
+    WasOut s step number n
+out_before w s old (Took claim leaf) number n o = ⊎_elim (λ a. inl (out_of s number n a)) (λ a. inr (given a))
+    (among_append s.epoch s.claims (new ∷ []) number n (among_of (next_state w s (Took claim leaf)) number n o))
+  where
+    new : Claim
+    new = record { number = claim; leaf = leaf; epoch = s.epoch; answered = false }
+
+    given : IsAmong s.epoch (new ∷ []) number n → Took claim leaf ≡ Took number n
+    given a = ⊎_elim (λ (e : a.claim ≡ new). λ i. Took ((ap number_of (sym e) ∙ a.number_is) i) ((ap (λ (c : Claim). c.leaf) (sym e) ∙ a.leaf_is) i)) absurd a.given
+out_before w s old (Done claim) number n o = inl (answered_out s claim (s.journal ++ leaf_of_claim s claim ∷ []) number n o)
+out_before w s old (Failed claim Switched) number n o = inl (answered_out s claim s.journal number n (at_bans (spared_out w (switched s claim) still number n o)))
+  where
+    still : Each (λ (c : Claim). c.epoch ≤ s.epoch) (answer claim s.claims)
+    still = answer_keeps (λ (c : Claim). c.epoch ≤ s.epoch) (λ c k. k) claim s.claims old
+
+    at_bans : IsOut (switched s claim) number n → IsOut (record s { journal = s.journal; claims = answer claim s.claims }) number n
+    at_bans o = record { claim = o.claim; given = o.given; current = o.current; number_is = o.number_is; leaf_is = o.leaf_is }
+out_before w s old (Failed claim Kept) number n o = inl (answered_out s claim s.journal number n o)
+out_before w s old (Late claim) number n o = inl (answered_out s claim s.journal number n o)
+out_before w s old (Did leaf) number n o = inl (record { claim = o.claim; given = o.given; current = o.current; number_is = o.number_is; leaf_is = o.leaf_is })
+out_before w s old (Rewound i) number n o =
+    inl (out_of s number n (among_spared w (cut s i) [] s.claims number n old (among_of (next_state w s (Rewound i)) number n o)))
+out_before w s old Committed number n o = inl (record { claim = o.claim; given = o.given; current = o.current; number_is = o.number_is; leaf_is = o.leaf_is })
+
+-- no step but one that gives a claim puts a claim out
+pub still_out : (w : Schema) (s : RunState) → Each (λ (claim : Claim). claim.epoch ≤ s.epoch) s.claims → (step : Step) → ((claim leaf : ℕ) → ¬ (step ≡ Took claim leaf)) →
+    (number n : ℕ) → IsOut (next_state w s step) number n → IsOut s number n
+still_out w s old step none number n o = ⊎_elim (λ before. before) (λ e. absurd (none number n e)) (out_before w s old step number n o)
+
 pub taken_before : (w : Schema) (s : RunState) (t : Takings) → IsSound w s → AreThose s.claims t.given → (by : ℕ) (step : Step) → IsAllowed w s step →
     (n user event : ℕ) → event_at w.labels n ≡ Some event → IsTakenBy (next_state w s step) (next_takings t by step) n user → WasTaken s t by step n user
 taken_before w s t h those by (Took claim leaf) a n user event at taken = took_taken w s t h those by claim leaf a.0 n user taken
@@ -141,43 +184,20 @@ taken_before w s t h those by (Done claim) a n user event at taken =
     let (c, found, current) = some_claim (λ c. IsTrue (is_current s c)) (claim_at s claim) a in
     inl (done_taken w s t claim (done_of s t those claim c found current) n user taken)
 taken_before w s t h those by (Failed claim Switched) a n user event at taken =
-    let s' = record s { bans = s.bans ++ (length s.journal, leaf_of_claim s claim) ∷ []; claims = answer claim s.claims } in
-    let old = answer_keeps (λ (c : Claim). c.epoch ≤ s.epoch) (λ c k. k) claim s.claims h.epochs in
-    inl (same_takings s (with_new_epoch w s') t n user (λ c o. answered_out s claim s.journal c n (at_bans c (spared_out w s' old c n o))) (λ j. j) taken)
-  where
-    at_bans : (c : ℕ) → IsOut (record s { bans = s.bans ++ (length s.journal, leaf_of_claim s claim) ∷ []; claims = answer claim s.claims }) c n →
-        IsOut (record s { journal = s.journal; claims = answer claim s.claims }) c n
-    at_bans c o = record { claim = o.claim; given = o.given; current = o.current; number_is = o.number_is; leaf_is = o.leaf_is }
+    inl (same_takings s (next_state w s (Failed claim Switched)) t n user (λ c o. still_out w s h.epochs (Failed claim Switched) (λ c l e. cc) c n o) (λ j. j) taken)
 taken_before w s t h those by (Failed claim Kept) a n user event at taken =
-    inl (same_takings s (next_state w s (Failed claim Kept)) t n user (λ c o. answered_out s claim s.journal c n o) (λ j. j) taken)
+    inl (same_takings s (next_state w s (Failed claim Kept)) t n user (λ c o. still_out w s h.epochs (Failed claim Kept) (λ c l e. cc) c n o) (λ j. j) taken)
 taken_before w s t h those by (Late claim) a n user event at taken =
-    inl (same_takings s (next_state w s (Late claim)) t n user (λ c o. answered_out s claim s.journal c n o) (λ j. j) taken)
+    inl (same_takings s (next_state w s (Late claim)) t n user (λ c o. still_out w s h.epochs (Late claim) (λ c l e. cc) c n o) (λ j. j) taken)
 taken_before w s t h those by (Did leaf) a n user event at taken =
-    inl (same_takings s (next_state w s (Did leaf)) t n user (λ c o. same_out c o) (did_before w s.journal leaf n event a.0.0.1 at) taken)
-  where
-    same_out : (c : ℕ) → IsOut (next_state w s (Did leaf)) c n → IsOut s c n
-    same_out c o = record { claim = o.claim; given = o.given; current = o.current; number_is = o.number_is; leaf_is = o.leaf_is }
+    inl (same_takings s (next_state w s (Did leaf)) t n user (λ c o. still_out w s h.epochs (Did leaf) (λ c l e. cc) c n o) (did_before w s.journal leaf n event a.0.0.1 at) taken)
 taken_before w s t h those by (Rewound i) a n user event at taken =
-    inl (same_takings s (next_state w s (Rewound i)) t n user (λ c o. same_out c o) (λ j. subst (λ list. n ∈ list) (take-append-drop i s.journal) (mem_append_left n (take i s.journal) (drop i s.journal) j)) taken)
-  where
-    same_out : (c : ℕ) → IsOut (next_state w s (Rewound i)) c n → IsOut s c n
-    same_out c o = out_of s c n (among_spared w cut [] s.claims c n h.epochs (among_of (next_state w s (Rewound i)) c n o))
-      where
-        cut : RunState
-        cut = record s { journal = take i s.journal; bans = filter (λ ban. nat_le ban.0 i) s.bans ++ (i, slice_index s.journal i) ∷ [] }
+    inl (same_takings s (next_state w s (Rewound i)) t n user (λ c o. still_out w s h.epochs (Rewound i) (λ c l e. cc) c n o)
+    (λ j. subst (λ list. n ∈ list) (take-append-drop i s.journal) (mem_append_left n (take i s.journal) (drop i s.journal) j)) taken)
 taken_before w s t h those by Committed a n user event at taken =
-    inl (same_takings s (next_state w s Committed) t n user (λ c o. same_out c o) (λ j. j) taken)
-  where
-    same_out : (c : ℕ) → IsOut (next_state w s Committed) c n → IsOut s c n
-    same_out c o = record { claim = o.claim; given = o.given; current = o.current; number_is = o.number_is; leaf_is = o.leaf_is }
+    inl (same_takings s (next_state w s Committed) t n user (λ c o. still_out w s h.epochs Committed (λ c l e. cc) c n o) (λ j. j) taken)
 
 -- What is known of the takings stays
-
-abbrev switched : RunState → ℕ → RunState
-switched s claim = record s { bans = s.bans ++ (length s.journal, leaf_of_claim s claim) ∷ []; claims = answer claim s.claims }
-
-abbrev cut : RunState → ℕ → RunState
-cut s i = record s { journal = take i s.journal; bans = filter (λ ban. nat_le ban.0 i) s.bans ++ (i, slice_index s.journal i) ∷ [] }
 
 pub those_next : (w : Schema) (s : RunState) (t : Takings) → AreThose s.claims t.given → (by : ℕ) (step : Step) → AreThose (next_state w s step).claims (next_takings t by step).given
 those_next w s t those by (Took claim leaf) = those_more s.claims t.given (record { number = claim; leaf = leaf; epoch = s.epoch; answered = false }) (taking claim leaf by) those refl refl
@@ -188,6 +208,14 @@ those_next w s t those by (Late claim) = those_answer claim s.claims t.given tho
 those_next w s t those by (Did leaf) = those
 those_next w s t those by (Rewound i) = those_spared w (cut s i) [] s.claims t.given those
 those_next w s t those by Committed = those
+
+-- so the claims of a history are those of its takings
+pub those_of : (w : Schema) (history : List Entry) → AreThose (state_of w history).claims (takings_of history).given
+those_of w history = from first_state no_takings tt history
+  where
+    from : (s : RunState) (t : Takings) → AreThose s.claims t.given → (entries : List Entry) → AreThose (state_after w s entries).claims (takings_after t entries).given
+    from s t those [] = those
+    from s t those (entry ∷ entries) = from (next_state w s entry.step) (next_takings t entry.by entry.step) (those_next w s t those entry.by entry.step) entries
 
 -- Duties
 
@@ -209,6 +237,7 @@ module _ (w : Schema) (d : Duties) (s : RunState) (t : Takings) (h : IsSound w s
     where
       allowed_now : (n user event : ℕ) → event_at w.labels n ≡ Some event → IsTakenBy (next_state w s step) (next_takings t by step) n user → HasRole d user event
       allowed_now n user event at taken = ⊎_elim (λ old. k.allowed n user event at old) (λ ((c, e), b). subst (λ u. HasRole d u event) b (left c n event e at).role) (before n user event at taken)
+
       apart_now : (n m user other e f i : ℕ) → event_at w.labels n ≡ Some e → event_at w.labels m ≡ Some f → n ≢ m → IsConstraintOf d.separate i e f →
           IsTakenBy (next_state w s step) (next_takings t by step) n user → IsTakenBy (next_state w s step) (next_takings t by step) m other → user ≢ other
       apart_now n m user other e f i ne mf differ of x y same = by_cases (before n user e ne x) (before m other f mf y)
@@ -218,12 +247,14 @@ module _ (w : Schema) (d : Duties) (s : RunState) (t : Takings) (h : IsSound w s
           by_cases (inr ((c, took), b)) (inl q) = (left c n e took ne).apart i (f, m, of, mf, subst (λ u. IsTakenBy s t m u) (sym same ∙ sym b) q)
           by_cases (inl p) (inr ((c, took), b)) = (left c m f took mf).apart i (e, n, turned d.separate i e f of, ne, subst (λ u. IsTakenBy s t n u) (same ∙ sym b) p)
           by_cases (inr p) (inr q) = differ (one_leaf n m user other p q)
+
       together_now : (n m user other e f i : ℕ) → event_at w.labels n ≡ Some e → event_at w.labels m ≡ Some f → n ≢ m → IsConstraintOf d.bound i e f →
           IsTakenBy (next_state w s step) (next_takings t by step) n user → IsTakenBy (next_state w s step) (next_takings t by step) m other → user ≡ other
       together_now n m user other e f i ne mf differ of x y = by_cases (before n user e ne x) (before m other f mf y)
         where
           none_other : (u v : ℕ) → ¬ (u ≢ v) → u ≡ v
           none_other u v differs = ⊎_elim (λ e. e) (λ n. absurd (differs n)) (decide_eq u v)
+
           by_cases : WasTaken s t by step n user → WasTaken s t by step m other → user ≡ other
           by_cases (inl p) (inl q) = k.together n m user other e f i ne mf differ of p q
           by_cases (inr ((c, took), b)) (inl q) = none_other user other (λ unlike. (left c n e took ne).together i (f, m, other, of, mf, q, (λ same. unlike (sym b ∙ sym same))))
@@ -232,11 +263,7 @@ module _ (w : Schema) (d : Duties) (s : RunState) (t : Takings) (h : IsSound w s
 
 -- From the start
 
-state_after-append : (w : Schema) (s : RunState) (a b : List Entry) → state_after w s (a ++ b) ≡ state_after w (state_after w s a) b
-state_after-append w s [] b = refl
-state_after-append w s (e ∷ a) b = state_after-append w (next_state w s e.step) a b
-
-takings_after-append : (t : Takings) (a b : List Entry) → takings_after t (a ++ b) ≡ takings_after (takings_after t a) b
+pub takings_after-append : (t : Takings) (a b : List Entry) → takings_after t (a ++ b) ≡ takings_after (takings_after t a) b
 takings_after-append t [] b = refl
 takings_after-append t (e ∷ a) b = takings_after-append (next_takings t e.by e.step) a b
 

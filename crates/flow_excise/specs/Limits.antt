@@ -26,6 +26,6 @@ IsTooMany os (TooBulky count) = (length os ≤ MOST_OPTIONS) × ((GREATEST_BULK 
 IsTooMany os (Inconsistent dropped) = ⊥
 IsTooMany os NoMemory = Unit {0}
 
--- the resolutions are too many, which are so many; or nothing is said
+-- The resolutions, which are so many, are too many: that is told. Else memory is wanting.
 abbrev pub HasManyChoices : ℕ → CompileRefusal → Type 0
-HasManyChoices count refusal = ((MOST_RESOLUTIONS < count) × (refusal ≡ TooManyChoices (capped count))) ⊎ (refusal ≡ NoMemory)
+HasManyChoices count refusal = ((MOST_RESOLUTIONS < count) × (refusal ≡ TooManyChoices (capped count))) ⊎ ((count ≤ MOST_RESOLUTIONS) × (refusal ≡ NoMemory))

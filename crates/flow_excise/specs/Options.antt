@@ -4,7 +4,7 @@ use Rattle.std.specs.List.{flat_map}
 use Rattle.flow_model.specs.declared.limits.TheConstants.{MOST_RESOLUTIONS}
 use Rattle.flow_model.specs.Process.{Process}
 use Rattle.flow_model.specs.Constraint.{Constraint}
-use Rattle.flow_model.specs.Folding.{fixed_leaves, folded_count, folded_resolutions}
+use Rattle.flow_model.specs.Folding.{fixed_leaves, folded_count, folded_resolutions, is_named}
 use Rattle.flow_model.specs.Schema.{Schema}
 use Rattle.flow_model.specs.Ways.{Normal, leaf_of_event, ways}
 use Rattle.flow_model.specs.Resolution.{ChoiceOption}
@@ -16,6 +16,14 @@ use Rattle.flow_excise.specs.declared.folded_choices.FoldedChoices.{FoldedChoice
 -- the tree with its rules, with no facts and no notes
 abbrev pub schema_with : Labelled → List Constraint → Schema
 schema_with t rules = record { goal = t.process; labels = t.labels; rules = rules; facts = []; notes = [] }
+
+-- whether the constraints name the event of the leaf
+abbrev pub is_named_in : Labelled → List Constraint → ℕ → Bool
+is_named_in t rules = is_named (schema_with t rules)
+
+-- how many resolutions there are, where the choices stay of which the constraints do not speak
+abbrev pub staying_count : Labelled → List Constraint → ℕ
+staying_count t rules = folded_count (is_named_in t rules) t.process
 
 -- a tree, and the test of leaves that keeps choices apart: the choices stay that hold no leaf of it
 pub record FoldedTree : Type 0 where

@@ -1,14 +1,12 @@
-ghost use Rattle.std.specs.Prelude.{◌≡◌, ◌≢◌, ◌<◌, ◌≤◌, ◌⊎◌, [], List, IfOk, IfErr, length};
-ghost use Rattle.flow_goal.specs.Folds.{AreFoldsOf, named_by};
+ghost use Rattle.std.specs.Prelude.{◌≡◌, ◌≢◌, ◌<◌, ◌≤◌, [], List, IfOk, IfErr, length};
 ghost use Rattle.flow_goal.specs.Repeats.{HoldsNoneTwice};
 ghost use Rattle.flow_model.specs.declared.limits.TheConstants.{MOST_LEAVES, MOST_RESOLUTIONS};
 ghost use Rattle.flow_model.specs.Constraint.{Constraint, all_of};
-ghost use Rattle.flow_model.specs.Folding.{folded_count, named_events};
 ghost use Rattle.flow_rules.specs.Conjunction.{HasWaysOf, normal_in};
 ghost use Rattle.flow_workflow.specs.Rule.{rules_of};
 ghost use Rattle.flow_goal.specs.Capped.{capped};
-ghost use Rattle.flow_excise.specs.declared.refusal.CompileRefusal.TheVariants.{Inconsistent, NoMemory, TooManyChoices};
-ghost use Rattle.flow_excise.specs.Options.{ArePrepared, schema_with};
+ghost use Rattle.flow_excise.specs.declared.refusal.CompileRefusal.TheVariants.{Inconsistent, TooManyChoices};
+ghost use Rattle.flow_excise.specs.Options.{ArePrepared, schema_with, staying_count};
 ghost use Rattle.flow_excise.specs.Compilation.{AreMadeOf, IsRefused};
 ghost use Rattle.flow_plan.specs.Compilation.{AreShared, IsCompiled};
 
@@ -80,10 +78,9 @@ fn compile_by(
 pub fn compile(alloc: Global, tree: &Tree, rules: &[Rule]) -> Result<Compiled, CompileRefusal>
     requires unique { HoldsNoneTwice tree.now }
     requires small { length tree.now.labels ≤ MOST_LEAVES }
-    // where memory is there
-    ensures choices { MOST_RESOLUTIONS < folded_count (named_by tree.now.labels (named_events (all_of (rules_of rules.now)))) tree.now.process →
-        (result ≡ Err (TooManyChoices (capped (folded_count (named_by tree.now.labels (named_events (all_of (rules_of rules.now)))) tree.now.process))))
-        ⊎ (result ≡ Err NoMemory) }
+    // whether memory is there or not
+    ensures choices { MOST_RESOLUTIONS < staying_count tree.now (rules_of rules.now) →
+        result ≡ Err (TooManyChoices (capped (staying_count tree.now (rules_of rules.now)))) }
     ensures refused { IfErr result (IsRefused (schema_with tree.now (rules_of rules.now))) }
     ensures ok { IfOk result (IsCompiled (schema_with tree.now (rules_of rules.now))) }
 {

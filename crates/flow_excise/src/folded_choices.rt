@@ -1,16 +1,15 @@
-ghost use Rattle.std.specs.Prelude.{◌≡◌, ◌<◌, ◌≤◌, ℕ, List, IfOk, IfErr, MatchResult};
+ghost use Rattle.std.specs.Prelude.{◌≤◌, IfOk, IfErr};
 ghost use Rattle.flow_model.specs.declared.limits.TheConstants.{MOST_RESOLUTIONS};
 ghost use Rattle.flow_model.specs.Constraint.{all_of};
-ghost use Rattle.flow_model.specs.Folding.{folded_count, named_events};
-ghost use Rattle.flow_goal.specs.Capped.{capped};
-ghost use Rattle.flow_goal.specs.Folds.{AreFoldsOf, named_by};
+ghost use Rattle.flow_model.specs.Folding.{named_events};
+ghost use Rattle.flow_goal.specs.Folds.{AreFoldsOf};
 ghost use Rattle.flow_workflow.specs.Rule.{rules_of};
-ghost use Rattle.flow_excise.specs.declared.refusal.CompileRefusal.TheVariants.{NoMemory, TooManyChoices};
-ghost use Rattle.flow_excise.specs.Options.{ArePrepared};
+ghost use Rattle.flow_excise.specs.Options.{ArePrepared, staying_count};
 ghost use Rattle.flow_excise.specs.Limits.{HasManyChoices};
 
 use crate::limits::few_resolutions;
 use crate::refusal::CompileRefusal;
+use crate::unseen::refused_unseen;
 use flow_goal::{Choices, Folds, Tree};
 use flow_workflow::{Rule, events_of};
 use std::alloc::{AllocError, Global};
@@ -31,6 +30,17 @@ fn folds_by(alloc: Global, tree: &Tree, rules: &[Rule]) -> Result<Folds, AllocEr
     Folds::new(alloc, tree, &events)
 }
 
+/// The same, and where memory is wanting, whether there are too many resolutions.
+fn folds_or_refusal(alloc: Global, tree: &Tree, rules: &[Rule]) -> Result<Folds, CompileRefusal>
+    ensures folds { IfOk result (AreFoldsOf tree.now (named_events (all_of (rules_of rules.now)))) }
+    ensures refused { IfErr result (HasManyChoices (staying_count tree.now (rules_of rules.now))) }
+{
+    match folds_by(alloc, tree, rules) {
+        Ok(folds) => Ok(folds),
+        Err(_) => Err(refused_unseen(tree, rules)),
+    }
+}
+
 impl FoldedChoices {
     /// Those of a tree, where these rules name events, unless there are too many resolutions.
     pub(crate) fn new(
@@ -40,10 +50,10 @@ impl FoldedChoices {
     ) -> Result<FoldedChoices, CompileRefusal>
         ensures prepared { IfOk result (ArePrepared tree.now) }
         ensures folds { IfOk result (λ choices. AreFoldsOf tree.now (named_events (all_of (rules_of rules.now))) choices.folds) }
-        ensures few { IfOk result (λ _. folded_count (named_by tree.now.labels (named_events (all_of (rules_of rules.now)))) tree.now.process ≤ MOST_RESOLUTIONS) }
-        ensures refused { IfErr result (HasManyChoices (folded_count (named_by tree.now.labels (named_events (all_of (rules_of rules.now)))) tree.now.process)) }
+        ensures few { IfOk result (λ _. staying_count tree.now (rules_of rules.now) ≤ MOST_RESOLUTIONS) }
+        ensures refused { IfErr result (HasManyChoices (staying_count tree.now (rules_of rules.now))) }
     {
-        let folds = folds_by(alloc, tree, rules)?;
+        let folds = folds_or_refusal(alloc, tree, rules)?;
         let count = few_resolutions(tree, &folds)?;
         let prepared = Choices::of(alloc, tree, &folds)?;
         Ok(FoldedChoices {

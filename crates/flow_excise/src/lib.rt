@@ -10,6 +10,7 @@ mod refusal;
 mod sieve;
 mod sifted;
 mod tally;
+mod unseen;
 
 pub use compilation::compile;
 pub use flow_plan::{Compiled, Counts};

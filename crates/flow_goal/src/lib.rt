@@ -32,6 +32,7 @@ pub use flow_model::{Label, Note};
 pub use fold::Fold;
 pub use folds::Folds;
 pub use goal::{Goal, together};
+pub use measure::Measure;
 pub use node::Node;
 pub use repeats::Twice;
 pub use simple::simplify;

@@ -2,9 +2,9 @@ ghost use Rattle.std.specs.Prelude.{◌≡◌, ◌&&◌, ℕ, Bool, not};
 ghost use Rattle.flow_model.specs.Process as process;
 ghost use Rattle.flow_goal.specs.Measure.{both_of, choice_of, isolated_of, measure_of};
 
-/// What is found of a goal to see whether its choices stay.
+/// What is found of a goal to see whether its choices stay. Those of its parts are joined with no memory.
 #[derive(Clone, Copy)]
-pub(crate) struct Measure {
+pub struct Measure {
     /// Some leaf of it keeps the choices apart that it stands in.
     pub(crate) apart: bool,
     /// It may be executed with no block.
@@ -19,7 +19,8 @@ pub(crate) struct Measure {
 }
 
 impl Measure {
-    pub(crate) fn of_nop() -> Measure
+    /// Of the goal with no leaf.
+    pub fn of_nop() -> Measure
         ensures { (apart : ℕ → Bool) → result ≡ measure_of apart process.Empty }
     {
         Measure {
@@ -32,7 +33,8 @@ impl Measure {
         }
     }
 
-    pub(crate) fn of_leaf(apart: bool) -> Measure
+    /// Of a leaf, which keeps the choices apart that it stands in, or does not.
+    pub fn of_leaf(apart: bool) -> Measure
         ensures { (test : ℕ → Bool) (leaf : ℕ) → apart ≡ test leaf → result ≡ measure_of test (process.Task leaf) }
     {
         Measure {
@@ -46,7 +48,7 @@ impl Measure {
     }
 
     /// Of two parts that both stay.
-    pub(crate) fn both(self, other: Measure) -> Measure
+    pub fn both(self, other: Measure) -> Measure
         ensures { result ≡ both_of self other }
     {
         Measure {
@@ -60,7 +62,7 @@ impl Measure {
     }
 
     /// Of the choice of two goals.
-    pub(crate) fn choice(self, other: Measure) -> Measure
+    pub fn choice(self, other: Measure) -> Measure
         ensures { result ≡ choice_of self other }
     {
         let apart = self.apart || other.apart;
@@ -80,6 +82,13 @@ impl Measure {
         }
     }
 
+    /// How many resolutions the goal has where choices stay, or the greatest `u64` where they are more.
+    pub fn resolutions(self) -> u64
+        ensures { result ≡ self.folded }
+    {
+        self.folded
+    }
+
     /// Whether the choice with this measure stays, where it may stand in an isolated part.
     pub(crate) fn stays(self, isolated: bool) -> bool
         ensures { result ≡ (not isolated && self.foldable) }
@@ -88,7 +97,7 @@ impl Measure {
     }
 
     /// Of an isolated part.
-    pub(crate) fn isolated(self) -> Measure
+    pub fn isolated(self) -> Measure
         ensures { result ≡ isolated_of self }
     {
         Measure {

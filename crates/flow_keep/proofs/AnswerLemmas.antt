@@ -5,7 +5,6 @@ use Rattle.flow_model.specs.declared.history.Call.{Call}
 use Rattle.flow_model.specs.declared.history.FailEffect.{FailEffect}
 use Rattle.flow_model.specs.declared.history.Step.TheVariants.{Took, Done, Failed, Late, Did, Rewound, Committed}
 use Rattle.flow_core.specs.declared.refusal.TakeRefusal.{TakeRefusal}
-use Rattle.flow_core.specs.declared.refusal.TakeRefusal.TheVariants as take_refusal
 use Rattle.flow_core.specs.declared.refusal.DoRefusal.{DoRefusal}
 use Rattle.flow_core.specs.declared.refusal.DoRefusal.TheVariants as perform
 use Rattle.flow_core.specs.declared.refusal.PostRefusal.{PostRefusal}
@@ -21,11 +20,7 @@ use Rattle.flow_keep.specs.Answered.{HasOneMore, GrowsAtMost, IsKeptAnswer, IsTo
 
 pub takes_grow : (r : Run) (leaf by : ℕ) (a : Result Call TakeRefusal) (after : Run) → Takes r leaf by a after → GrowsAtMost r by after
 takes_grow r leaf by (Ok call) after h = inr (Took (next_claim r) leaf, h.3)
-takes_grow r leaf by (Err take_refusal.Closed) after h = inl h.1
-takes_grow r leaf by (Err take_refusal.NoLeaf) after h = inl h.2
-takes_grow r leaf by (Err take_refusal.WrongKind) after h = inl h.2
-takes_grow r leaf by (Err (take_refusal.Spent limit)) after h = inl h.3
-takes_grow r leaf by (Err take_refusal.NotEnabled) after h = inl h.4
+takes_grow r leaf by (Err refusal) after h = inl h.1
 
 pub performs_grow : (r : Run) (leaf by : ℕ) (a : Result (Unit {0}) DoRefusal) (after : Run) → Performs r leaf by a after → GrowsAtMost r by after
 performs_grow r leaf by (Ok _) after h = inr (Did leaf, h.4)

@@ -3,3 +3,4 @@ pub mod Cutting
 pub mod Written
 pub mod EachToken
 pub mod Small
+pub mod AsciiLemmas

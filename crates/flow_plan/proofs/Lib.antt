@@ -9,6 +9,7 @@ pub mod Readiness
 pub mod Together
 pub mod Cuts
 pub mod Following
+pub mod CourseLemmas
 pub mod KeepLemmas
 pub mod StepRows
 pub mod KeptOptions

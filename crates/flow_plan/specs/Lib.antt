@@ -15,3 +15,4 @@ pub mod SpanMarks
 pub mod Span
 pub mod Stacks
 pub mod Widths
+pub mod Courses

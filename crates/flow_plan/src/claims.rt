@@ -62,8 +62,8 @@ impl Plan {
     }
 
     /// Whether leaves that may come next, none of them twice, may follow in every order, where it is known which leaves
-    /// they close off.
-    fn go_together(&self, apart: &LeafSet<LEAF_WORDS>, leaves: &LeafSet<LEAF_WORDS>) -> bool
+    /// they close off. It takes no memory.
+    pub fn go_together(&self, apart: &LeafSet<LEAF_WORDS>, leaves: &LeafSet<LEAF_WORDS>) -> bool
         ensures { (done : ℕ → Bool) (list : List ℕ) → IsRowOf (λ x. x ∈ list) leaves.now → AreDistinct list →
             Each (MayComeNext self.now (λ x. IsTrue (done x))) list → AreApart self.now list apart.now →
             IsTrue result ↔ MayFollowInEveryOrder self.now (λ x. IsTrue (done x)) list }

@@ -4,8 +4,10 @@
 mod claims;
 mod compiled;
 mod counts;
+mod course;
 mod cut_sides;
 mod fold_row;
+mod follow;
 mod knot_free;
 mod outline;
 mod part_row;
@@ -25,6 +27,7 @@ mod words;
 pub use claims::distinct;
 pub use compiled::Compiled;
 pub use counts::Counts;
+pub use course::Course;
 pub use fold_row::FoldRow;
 pub use knot_free::KnotFree;
 pub use plan::Plan;

@@ -1,5 +1,5 @@
 //! What may come next in a plan, for all its leaves at once.
-ghost use Rattle.std.specs.Prelude.{◌≡◌, ◌<◌, ◌≤◌, ◌*◌, ◌↔◌, ◌⊎◌, ◌&&◌, not, ℕ, Bool, List, IsTrue, IfNone, IfSome, [], ◌∷◌, length};
+ghost use Rattle.std.specs.Prelude.{◌≡◌, ◌<◌, ◌≤◌, ◌*◌, ◌↔◌, ◌⊎◌, ◌&&◌, ◌||◌, nat_lt, not, ℕ, Bool, List, IsTrue, IfNone, IfSome, [], ◌∷◌, length};
 ghost use Rattle.flow_model.specs.Lists.{◌∈◌, Each, AreDistinct};
 ghost use Rattle.flow_model.specs.Process.{Process, leaves};
 ghost use Rattle.flow_model.specs.Ready.{DirectlyBefore, DoneOr};
@@ -116,6 +116,17 @@ fn both<const W: usize>(one: &LeafSet<W>, other: &LeafSet<W>) -> LeafSet<W>
     all
 }
 
+/// Puts each member of a set of another width in, as far as there is room.
+fn put_in<const V: usize, const W: usize>(found: &mut LeafSet<V>, more: &LeafSet<W>)
+    ensures { (n : ℕ) → has_leaf found.new n ≡ (has_leaf found.old n || (nat_lt n (64 * V) && has_leaf more.now n)) }
+{
+    if W <= V {
+        found.union_narrow(more);
+    } else {
+        found.union_with(&more.resized());
+    }
+}
+
 fn is_empty<const W: usize>(set: &LeafSet<W>) -> bool
     ensures { IsTrue result ↔ ((n : ℕ) → ¬ (IsTrue (has_leaf set.now n))) }
 {
@@ -123,8 +134,8 @@ fn is_empty<const W: usize>(set: &LeafSet<W>) -> bool
 }
 
 /// The first leaf of the list that the set lacks.
-fn first_lacking(list: &[u32], set: &LeafSet<LEAF_WORDS>) -> Option<u32>
-    requires { Each (λ n. n < MOST_LEAVES) list.now }
+fn first_lacking<const V: usize>(list: &[u32], set: &LeafSet<V>) -> Option<u32>
+    requires { Each (λ n. n < 64 * V) list.now }
     ensures none { IfNone result (Each (λ n. IsTrue (has_leaf set.now n)) list.now) }
     ensures some { IfSome result (λ n. n ∈ list.now × ¬ (IsTrue (has_leaf set.now n))) }
 {
@@ -201,12 +212,12 @@ impl<const W: usize> Table<W> {
     }
 
     /// The same, asked by sets of any width, and added to what is found.
-    fn add_beside(
+    fn add_beside<const V: usize>(
         &self,
-        next: &LeafSet<LEAF_WORDS>,
-        claims: &LeafSet<LEAF_WORDS>,
-        apart: &LeafSet<LEAF_WORDS>,
-        found: &mut LeafSet<LEAF_WORDS>,
+        next: &LeafSet<V>,
+        claims: &LeafSet<V>,
+        apart: &LeafSet<V>,
+        found: &mut LeafSet<V>,
     )
         ensures { (p : Planned) → IsTableOf p self.now → (done : ℕ → Bool) (list : List ℕ) → IsRowOf (MayComeNext p (λ x. IsTrue (done x))) next.now →
             IsRowOf (λ x. x ∈ list) claims.now → AreDistinct list → AreApart p list apart.now → (n : ℕ) → IsTrue (has_leaf found.new n)
@@ -221,7 +232,7 @@ impl<const W: usize> Table<W> {
         let closed = apart.resized();
         let so_far = found.resized();
         let more = self.beside(&here, &mine, &closed, &so_far);
-        found.union_narrow(&more);
+        put_in(found, &more);
     }
 
     /// What is found, and the leaves that may come next, and after which the claimed ones may follow in every order, where
@@ -247,12 +258,12 @@ impl<const W: usize> Table<W> {
     }
 
     /// The same, asked by sets of any width, and added to what is found.
-    fn add_before_all(
+    fn add_before_all<const V: usize>(
         &self,
-        next: &LeafSet<LEAF_WORDS>,
-        claims: &LeafSet<LEAF_WORDS>,
-        apart: &LeafSet<LEAF_WORDS>,
-        found: &mut LeafSet<LEAF_WORDS>,
+        next: &LeafSet<V>,
+        claims: &LeafSet<V>,
+        apart: &LeafSet<V>,
+        found: &mut LeafSet<V>,
     )
         requires { (k : ℕ) → IsTrue (has_leaf claims.now k) → IsTrue (has_leaf next.now k) }
         ensures { (p : Planned) → IsTableOf p self.now → (done : ℕ → Bool) (list : List ℕ) → IsRowOf (MayComeNext p (λ x. IsTrue (done x))) next.now →
@@ -265,7 +276,7 @@ impl<const W: usize> Table<W> {
         let closed = apart.resized();
         let so_far = found.resized();
         let more = self.before_all(&here, &mine, &closed, &so_far);
-        found.union_narrow(&more);
+        put_in(found, &more);
     }
 }
 
@@ -275,17 +286,31 @@ impl Plan {
         requires { TellOf self.now sides.now }
         ensures { IsRowOf (MayComeNext self.now (IsDoneIn sides.now)) result }
     {
+        // the rows keep how large its leaves are
+        let _ = &self.rows;
+        self.next_row_in(sides)
+    }
+
+    /// The leaves that may come next after the done ones, as far as a set of that width has room for them. It takes as long
+    /// as the rows of the plan are wide.
+    pub fn next_row_in<const V: usize>(&self, sides: &Sides) -> LeafSet<V>
+        requires wide { V ≤ 64 }
+        requires tell { TellOf self.now sides.now }
+        ensures cut { (x : ℕ) → IsTrue (has_leaf result x) ↔ ((x < 64 * V) × MayComeNext self.now (IsDoneIn sides.now) x) }
+        // all of them, where the set has room for each leaf of the plan
+        ensures whole { Each (λ n. n < 64 * V) self.now.leaves → IsRowOf (MayComeNext self.now (IsDoneIn sides.now)) result }
+    {
         by_width!(&self.rows, table => table.next_row(self.leaves(), &sides.cut()).resized())
     }
 
     /// Adds to what is found the leaves that may follow with the claimed ones in every order, where it is known
     /// which leaves may come next, and which the claimed ones close off.
-    pub fn add_beside(
+    pub fn add_beside<const V: usize>(
         &self,
-        next: &LeafSet<LEAF_WORDS>,
-        claims: &LeafSet<LEAF_WORDS>,
-        apart: &LeafSet<LEAF_WORDS>,
-        found: &mut LeafSet<LEAF_WORDS>,
+        next: &LeafSet<V>,
+        claims: &LeafSet<V>,
+        apart: &LeafSet<V>,
+        found: &mut LeafSet<V>,
     )
         ensures { (done : ℕ → Bool) (list : List ℕ) → IsRowOf (MayComeNext self.now (λ x. IsTrue (done x))) next.now →
             IsRowOf (λ x. x ∈ list) claims.now → AreDistinct list → AreApart self.now list apart.now → (n : ℕ) → IsTrue (has_leaf found.new n)
@@ -328,15 +353,15 @@ impl Plan {
 
     /// Adds to what is found the leaves that may come next, and after which the claimed ones may follow in every
     /// order, where it is known which leaves may come next, and which the claimed ones close off.
-    pub fn add_first(
+    pub fn add_first<const V: usize>(
         &self,
         folds: &[FoldRow],
         sides: &Sides,
-        next: &LeafSet<LEAF_WORDS>,
+        next: &LeafSet<V>,
         list: &[u32],
-        claims: &LeafSet<LEAF_WORDS>,
-        apart: &LeafSet<LEAF_WORDS>,
-        found: &mut LeafSet<LEAF_WORDS>,
+        claims: &LeafSet<V>,
+        apart: &LeafSet<V>,
+        found: &mut LeafSet<V>,
     )
         requires tell { TellOf self.now sides.now }
         requires folds { AreFoldRows self.now.process folds.now }
@@ -353,19 +378,23 @@ impl Plan {
             None => self.add_before_all(next, claims, apart, found),
             Some(leaf) => {
                 let rest = rest_of(next, claims, apart, found);
-                self.add_settling(folds, sides, leaf, list, apart, &rest, found);
+                let others = rest.resized();
+                let closed = apart.resized();
+                let mut all = found.resized();
+                self.add_settling(folds, sides, leaf, list, &closed, &others, &mut all);
+                put_in(found, &all);
             }
         }
     }
 
     /// Adds to what is found the leaves that may come next, and after which the claimed ones may follow in every order, where
     /// each of these may come next.
-    fn add_before_all(
+    fn add_before_all<const V: usize>(
         &self,
-        next: &LeafSet<LEAF_WORDS>,
-        claims: &LeafSet<LEAF_WORDS>,
-        apart: &LeafSet<LEAF_WORDS>,
-        found: &mut LeafSet<LEAF_WORDS>,
+        next: &LeafSet<V>,
+        claims: &LeafSet<V>,
+        apart: &LeafSet<V>,
+        found: &mut LeafSet<V>,
     )
         requires { (k : ℕ) → IsTrue (has_leaf claims.now k) → IsTrue (has_leaf next.now k) }
         ensures { (done : ℕ → Bool) (list : List ℕ) → IsRowOf (MayComeNext self.now (λ x. IsTrue (done x))) next.now →

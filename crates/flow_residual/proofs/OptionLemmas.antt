@@ -1,5 +1,5 @@
 -- Options that are looked through one by one, and what stands beside them.
-use Rattle.std.proofs.Common.{◌≡◌, ℕ, zero, suc, ◌+◌, ◌<◌, ◌≤◌, Bool, true, false, ◌↔◌, IsTrue, List, [], ◌∷◌, ◌++◌, length, get_or, set, take, Some, slice_get, refl, sym, ap, ◌∙◌, subst, inl, inr, ◌⊎◌, ⊎_elim, below_more, arith, get_or-set_same, get_or-set_other}
+use Rattle.std.proofs.Common.{◌≡◌, ℕ, zero, suc, ◌+◌, ◌<◌, ◌≤◌, Bool, false, ◌↔◌, IsTrue, List, [], ◌∷◌, ◌++◌, length, get_or, set, take, Option, Some, None, IfSome, IfNone, is_some, true≢false, slice_get, refl, sym, ap, ◌∙◌, subst, inl, inr, ◌⊎◌, ⊎_elim, below_more, arith, get_or-set_same, get_or-set_other}
 use Rattle.std.proofs.Math.ListN.{length-set}
 use Rattle.std.proofs.lemmas.List.{get_or_default, map-append, take_all, take_more}
 use Rattle.std.proofs.lemmas.Bool.{cases_lt}
@@ -10,7 +10,7 @@ use Rattle.flow_model.specs.Resolution.{ChoiceOption}
 use Rattle.flow_plan.specs.Planned.{Planned}
 use Rattle.flow_plan.specs.Sampled.{Sampled}
 use Rattle.flow_plan.specs.Options.{options_of, option_of}
-use Rattle.flow_residual.specs.Options.{SomeOption, NoneBelow, SomeBelow, EachHas}
+use Rattle.flow_residual.specs.Options.{HasAt, SomeOption, NoneBelow, SomeBelow, EachHas}
 
 -- a member stands at some place
 place_of_option : (os : List ChoiceOption) (o : ChoiceOption) → o ∈ os → (k : ℕ) × (k < length os) × (slice_get os k ≡ Some o)
@@ -28,18 +28,21 @@ option_there (p ∷ os) (suc k) within = option_there os k (omega arith)
 
 module _ (P : ChoiceOption → Type 0) (os : List ChoiceOption) (k : ℕ) where
   -- the answers when one was found, and when none was
-  pub some_found : (b : Bool) → k < length os → ((o : ChoiceOption) → slice_get os k ≡ Some o → IsTrue b ↔ P o) → IsTrue b → IsTrue true ↔ SomeOption P os
-  some_found b within says told = let (o, at) = option_there os k within in (λ _. (o, mem-slice_get os k o at, (says o at).0 told), λ some. refl)
+  pub found_at : (b : Bool) → k < length os → ((o : ChoiceOption) → slice_get os k ≡ Some o → IsTrue b ↔ P o) → IsTrue b → HasAt P os k
+  found_at b within says told = let (o, at) = option_there os k within in (o, at, (says o at).0 told)
+
+  pub some_at : HasAt P os k → SomeOption P os
+  some_at (o, at, has) = (o, mem-slice_get os k o at, has)
 
   pub none_more : (b : Bool) → NoneBelow P os k → ((o : ChoiceOption) → slice_get os k ≡ Some o → IsTrue b ↔ P o) → b ≡ false → NoneBelow P os (k + 1)
   none_more b none says not =
       below_more (λ j. (o : ChoiceOption) → slice_get os j ≡ Some o → ¬ (P o)) k none (λ o at h. let yes = (says o at).1 h in absurd (cc))
 
+  pub none_of_all : length os ≤ k → NoneBelow P os k → ¬ (SomeOption P os)
+  none_of_all past none some = let at = place_of_option os some.0 some.1 in none at.0 (let l = at.1 in omega arith) some.0 at.2 some.2
+
   pub none_found : length os ≤ k → NoneBelow P os k → IsTrue false ↔ SomeOption P os
-  none_found past none = (
-    λ wrong. absurd (cc),
-    λ some. let at = place_of_option os some.0 some.1 in absurd (none at.0 (let l = at.1 in omega arith) some.0 at.2 some.2),
-  )
+  none_found past none = (λ wrong. absurd (cc), λ some. absurd (none_of_all past none some))
 
   -- what is found, option by option
   pub some_more : (new now : Bool) → k < length os → ((o : ChoiceOption) → slice_get os k ≡ Some o → IsTrue new ↔ (IsTrue now ⊎ P o)) → (IsTrue now ↔ SomeBelow P os k) →
@@ -60,6 +63,12 @@ module _ (P : ChoiceOption → Type 0) (os : List ChoiceOption) (k : ℕ) where
     λ h. let found = below.0 h in (found.2, mem-slice_get os found.0 found.2 found.3, found.4),
     λ some. let at = place_of_option os some.0 some.1 in below.1 (at.0, (let l = at.1 in omega (arith, l, past)), some.0, at.2, some.2),
   )
+
+-- whether some place was found
+pub is_found : (P : ChoiceOption → Type 0) (os : List ChoiceOption) (place : Option ℕ) (b : Bool) → b ≡ is_some place → IfSome place (HasAt P os) → IfNone place (¬ (SomeOption P os)) →
+    IsTrue b ↔ SomeOption P os
+is_found P os (Some k) b is some none = (λ _. some_at P os k some, λ _. is)
+is_found P os None b is some none = (λ yes. absurd (true≢false (sym yes ∙ is)), λ has. absurd (none has))
 
 -- ---- the options of plans
 

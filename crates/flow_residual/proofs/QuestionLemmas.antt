@@ -1,16 +1,19 @@
 -- What plans say of the options that remain, and what is asked of all of them.
-use Rattle.std.proofs.Common.{◌≡◌, ℕ, Bool, true, false, not, ◌&&◌, ◌↔◌, IsTrue, List, [], ◌∷◌, ◌++◌, refl, sym, ◌∙◌, subst, inl, inr, ◌⊎◌, ⊎_elim, append-nil}
+use Rattle.std.proofs.Common.{◌≡◌, ◌≢◌, ℕ, Bool, true, false, not, ◌&&◌, ◌↔◌, IsTrue, List, [], ◌∷◌, ◌++◌, refl, sym, ◌∙◌, subst, inl, inr, ◌⊎◌, ⊎_elim, append-nil}
 use Rattle.std.proofs.lemmas.Bool.{and_from, and_parts}
 use Rattle.leaf_rows.specs.Leaves.{has_leaf}
-use Rattle.flow_model.specs.Lists.{◌∈◌, Each, IsOrderOf}
+use Rattle.flow_model.specs.Lists.{◌∈◌, Each, AreDistinct, IsOrderOf}
 use Rattle.flow_model.specs.Process.{Process, leaves}
 use Rattle.flow_model.specs.Resolution.{ChoiceOption}
 use Rattle.flow_model.specs.Ready.{DoneOr}
 use Rattle.flow_model.specs.FoldedReady.{IsFoldedReady, IsFoldedRunAfter}
 use Rattle.flow_model.specs.Decided.{order_of_none}
-use Rattle.flow_model.proofs.Lists.{each_member, each_from_members, mem-append, mem_by_halves, mem_swap}
+use Rattle.flow_model.proofs.Lists.{each_member, each_from_members, mem-append, mem_by_halves, mem_swap, mem_with, split_at}
 use Rattle.flow_model.proofs.MadeLists.{order_member, same_order, order_with_last}
-use Rattle.flow_laws.proofs.RunsByStep.{each_of_orders, two_of_orders, orders_of_two, each_two_order, AreSame}
+use Rattle.flow_laws.specs.WellFormed.{EachTwo}
+use Rattle.flow_laws.proofs.RunsByStep.{each_of_orders, two_of_orders, orders_of_two, each_two_order, each_two_out, AreSame}
+use Rattle.flow_fold_laws.proofs.BegunNext.{member_test}
+use Rattle.flow_fold_laws.proofs.FoldedAvoid.{is_in}
 use Rattle.flow_fold_laws.proofs.FoldedOrdersByTwo.{same_folded_ready, folded_by_step, folded_ready_after_all}
 use Rattle.flow_plan.specs.Planned.{Planned, pairs_of}
 use Rattle.flow_plan.specs.Sided.{IsDoneIn}
@@ -44,6 +47,41 @@ last_first x list = (list, [], refl, subst (IsOrderOf list) (sym (append-nil lis
 
 first_last : (x : ℕ) (list : List ℕ) → IsOrderOf (list ++ x ∷ []) (x ∷ list)
 first_last x list = order_with_last list x [] list (same_order list)
+
+-- two members of a list that are not the same
+two_apart : (R : ℕ → ℕ → Type 0) (list : List ℕ) → EachTwo R list → (x y : ℕ) → x ∈ list → y ∈ list → x ≢ y → R x y × R y x
+two_apart R list two x y x_in y_in other =
+    let (front, back, e) = split_at x list x_in in
+    let apart = (each_two_out R front x back (subst (EachTwo R) e two)).0 in
+    ⊎_elim (λ same. absurd (other (sym same))) (λ m. each_member (λ z. R x z × R z x) (front ++ back) apart y m)
+    (mem_with y x front back (subst (λ (l : List ℕ). y ∈ l) e y_in))
+
+each_two_of : (R : ℕ → ℕ → Type 0) (list some : List ℕ) → EachTwo R list → ((x : ℕ) → x ∈ some → x ∈ list) → AreDistinct some → EachTwo R some
+each_two_of R list [] two within distinct = tt
+each_two_of R list (x ∷ some) two within distinct = (
+  each_from_members (λ y. R x y × R y x) some (λ y m. two_apart R list two x y (within x (inl refl)) (within y (inr m)) (λ same. distinct.0 (subst (λ z. z ∈ some) (sym same) m))),
+  each_two_of R list some two (λ y m. within y (inr m)) distinct.1,
+)
+
+-- of leaves that may follow in every order, so may some of them
+pub some_follow : (q : Process) (pairs : List (ℕ × ℕ)) (Done : ℕ → Type 0) (list some : List ℕ) → ((x : ℕ) → x ∈ some → x ∈ list) → AreDistinct some →
+    ((order : List ℕ) → IsOrderOf order list → IsFoldedRunAfter q pairs Done order) → (order : List ℕ) → IsOrderOf order some → IsFoldedRunAfter q pairs Done order
+some_follow q pairs Done list some within distinct all =
+    let by_step = folded_by_step q pairs in
+    orders_of_two by_step Done (folded_ready_after_all q pairs Done) some
+    (each_from_members (IsFoldedReady q pairs Done) some (λ x m. each_member (IsFoldedReady q pairs Done) list (each_of_orders by_step Done list all) x (within x m)))
+    (each_two_of (λ x y. IsFoldedReady q pairs (DoneOr Done (x ∷ [])) y) list some (two_of_orders by_step Done list all) within distinct)
+
+-- leaves that go together in a plan, by a test of the done ones
+module _ (p : Planned) (journal : List ℕ) where
+  abbrev pub Before : ℕ → Type 0
+  Before x = IsTrue (is_in journal x)
+
+  pub ready_before : (n : ℕ) → IsFoldedReady p.process (pairs_of p.tokens) (λ x. x ∈ journal) n → MayComeNextIn p Before n
+  ready_before n = same_folded_ready p.process (pairs_of p.tokens) (λ x. x ∈ journal) Before n (λ x. (member_test journal x).1) (λ x. (member_test journal x).0)
+
+  pub follow_before : (list : List ℕ) → MayFollowInEveryOrder p Before list → AllFollow journal list (option_of p)
+  follow_before list all order is = same_run p.process (pairs_of p.tokens) Before (λ x. x ∈ journal) order (member_test journal) (all order is)
 
 module _ (p : Planned) (sides : Sides) (journal : List ℕ) (same : IsSetOf journal sides.done) where
   as_journal : AreSame (IsDoneIn sides) (λ x. x ∈ journal)
@@ -135,6 +173,10 @@ not_barred r claims stand leaf n o m (live, follows, still) barred =
 
 -- ---- answers
 
+pub not_both : (b : Bool) → IsTrue b → ¬ (IsTrue (not b))
+not_both true h wrong = cc
+not_both false h wrong = cc
+
 -- what a test says, said in other words
 pub in_words : (b : Bool) (P Q : Type 0) → (IsTrue b ↔ P) → (P ↔ Q) → IsTrue b ↔ Q
 in_words b P Q says same = (λ yes. same.0 (says.0 yes), λ q. says.1 (same.1 q))
@@ -200,10 +242,6 @@ less_barred r sides claims stand leaf found new told ordered free says is = (
       is ∙ and_from (not (has_leaf sides.barred leaf)) found (is_not (has_leaf sides.barred leaf) open_to) (says.1 (o, m, (takes.0, takes.1))),
 )
   where
-    not_both : (b : Bool) → IsTrue b → ¬ (IsTrue (not b))
-    not_both true h wrong = cc
-    not_both false h wrong = cc
-
     is_not : (b : Bool) → ¬ (IsTrue b) → IsTrue (not b)
     is_not true none = absurd (none refl)
     is_not false none = refl

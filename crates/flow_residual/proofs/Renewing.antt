@@ -1,5 +1,5 @@
 -- What a new epoch does to the claims as the code keeps them.
-use Rattle.std.proofs.Common.{◌≡◌, ◌≤◌, ◌<◌, ◌+◌, ℕ, zero, suc, Bool, true, false, ◌&&◌, not, cond, if◌then◌else◌, ◌==◌, List, [], ◌∷◌, ◌++◌, length, map, set, drop, get_or, refl, sym, ap, ◌∙◌, subst, arith, append_assoc}
+use Rattle.std.proofs.Common.{◌≡◌, ◌≤◌, ◌<◌, ◌+◌, ℕ, zero, suc, Bool, true, false, ◌&&◌, not, cond, if◌then◌else◌, ◌==◌, List, [], ◌∷◌, ◌++◌, length, map, set, drop, get_or, slice_index, refl, sym, ap, ◌∙◌, subst, arith, append_assoc}
 use Rattle.std.proofs.lemmas.Bool.{eq-eqb, ne_eqb, cases_Bool, and_parts}
 use Rattle.std.proofs.lemmas.List.{at_drop_more, length-map, length_push}
 use Rattle.flow_model.specs.Lists.{Each}
@@ -9,8 +9,7 @@ use Rattle.flow_model.specs.Run.{RunState, spare}
 use Rattle.flow_laws.proofs.ClaimLemmas.{and_false}
 use Rattle.flow_residual.specs.declared.given.Given.{Given}
 use Rattle.flow_residual.specs.Given.{claims_from, is_out, out_by, out_places, out_leaves, with_epoch, renewed_at}
-use Rattle.flow_residual.specs.Claimed.{count_of}
-use Rattle.flow_residual.specs.Fields.{events_of, claimed, IsKept}
+use Rattle.flow_residual.specs.Fields.{events_of, takers_of, claimed, IsLastOf, IsKept}
 use Rattle.flow_residual.proofs.Counting.{counts_of, counted_alike}
 use Rattle.flow_residual.specs.Spared.{staying, head, tail, picked}
 
@@ -80,14 +79,15 @@ epochs_renewed e bits (g ∷ gs) (h, t) =
     let later : g.epoch ≤ e + 1 = omega arith in
     grind (arith, cases_Bool (is_out e g), cases_Bool (head bits), later, epochs_renewed e bits gs t, epochs_renewed e (tail bits) gs t)
 
-pub kept_renewed : (gs new : List Given) (current new_current leaves new_leaves attempts : List ℕ) (e : ℕ) (bits : List Bool) → IsKept gs current leaves attempts e →
-    new ≡ renew e bits gs → new_current ≡ picked bits current → new_leaves ≡ picked bits leaves → IsKept new new_current new_leaves attempts (e + 1)
-kept_renewed gs new current new_current leaves new_leaves attempts e bits k is places stay = rw (is, places, stay) (record {
+pub kept_renewed : (gs new : List Given) (current new_current leaves new_leaves last : List ℕ) (e : ℕ) (bits : List Bool) → IsKept gs current leaves last e →
+    new ≡ renew e bits gs → new_current ≡ picked bits current → new_leaves ≡ picked bits leaves → IsKept new new_current new_leaves last (e + 1)
+kept_renewed gs new current new_current leaves new_leaves last e bits k is places stay = rw (is, places, stay) (record {
   epochs = epochs_renewed e bits gs k.epochs;
   current_are = ap (picked bits) k.current_are ∙ sym (out_renewed (λ place g. place) (λ k e bit g. refl) e 0 bits gs k.epochs);
   leaves_are = ap (picked bits) k.leaves_are ∙ sym (out_renewed (λ place g. g.leaf) same_leaf e 0 bits gs k.epochs);
   counted = counted_alike [] gs (renew e bits gs) (map-renew counts_of (λ e g. refl) e bits gs) k.counted;
-  totals = λ event h. k.totals event h ∙ ap (count_of event) (sym (map-renew (λ g. g.event) (λ e g. refl) e bits gs));
+  known = subst (Each (λ event. event < length last)) (sym (map-renew (λ g. g.event) (λ e g. refl) e bits gs)) k.known;
+  lasts = λ event h. subst (λ l. IsLastOf l event (slice_index last event)) (sym (map-renew (λ g. g.event) (λ e g. refl) e bits gs)) (k.lasts event h);
 })
 
 pub length-renew : (e : ℕ) (bits : List Bool) (gs : List Given) → length (renew e bits gs) ≡ length gs
@@ -136,4 +136,5 @@ pub renewed_value : (gs new : List Given) (e room kinds : ℕ) (bits : List Bool
     claimed new (e + 1) room kinds ≡ record (claimed gs e room kinds) { claims = claims_from 1 new; epoch = e + 1 }
 renewed_value gs new e room kinds bits is =
     let events : events_of new ≡ events_of gs = ap events_of is ∙ map-renew (λ g. g.event) (λ e g. refl) e bits gs in
-    λ i. record { claims = claims_from 1 new; events = events i; epoch = e + 1; room = room; kinds = kinds }
+    let takers : takers_of new ≡ takers_of gs = ap takers_of is ∙ map-renew (λ g. g.by) (λ e g. refl) e bits gs in
+    λ i. record { claims = claims_from 1 new; events = events i; takers = takers i; epoch = e + 1; room = room; kinds = kinds }

@@ -1,13 +1,28 @@
 -- Leaves that stay are moved to the front, one after another.
-use Rattle.std.proofs.Common.{◌≡◌, ◌≤◌, ◌<◌, ◌+◌, ℕ, Bool, true, false, cond, List, [], ◌∷◌, ◌++◌, length, take, drop, get_or, set, IsTrue, ◌↔◌, refl, sym, ap, ◌∙◌, arith, append_assoc, append-nil, length-set}
-use Rattle.std.proofs.lemmas.Bool.{cases_Bool}
+use Rattle.std.proofs.Common.{◌≡◌, ◌≤◌, ◌<◌, ◌+◌, ◌==◌, ◌&&◌, ◌⊎◌, not, ℕ, Bool, true, false, cond, List, [], ◌∷◌, ◌++◌, length, take, drop, get_or, set, IsTrue, ◌↔◌, refl, sym, ap, subst, inl, inr, ⊎_elim, ◌∙◌, true≢false, arith, append_assoc, append-nil, length-set}
+use Rattle.std.proofs.lemmas.Bool.{cases_Bool, and_parts}
+use Rattle.std.proofs.lemmas.Bool.Decides.{nat_tests}
 use Rattle.std.proofs.lemmas.List.{take_more_set, drop_more, drop-set-lt, drop-drop, drop_all, length_push}
+use Rattle.leaf_rows.specs.Leaves.{has_leaf}
+use Rattle.leaf_rows.specs.declared.leaf_set.LeafSet.{LeafSet}
+use Rattle.leaf_rows.specs.declared.TheConstants.{LEAF_WORDS}
+use Rattle.flow_model.specs.Lists.{◌∈◌, AreDistinct}
+use Rattle.flow_model.specs.FoldedReady.{IsFoldedRunAfter}
+use Rattle.flow_model.specs.Resolution.{ChoiceOption}
 use Rattle.flow_model.specs.Schema.{Schema}
 use Rattle.flow_model.specs.Decided.{can_all_follow}
 use Rattle.flow_model.specs.Run.{RunState, MayAllFollow}
 use Rattle.flow_laws.proofs.ClaimLemmas.{answers_are_the_test}
-use Rattle.flow_residual.specs.Remaining.{Remaining, IsOf}
-use Rattle.flow_residual.specs.Spared.{staying, picked, AreThinned}
+use Rattle.flow_residual.specs.Options.{SomeOption}
+use Rattle.flow_residual.specs.Question.{AllFollow, TakesAll}
+use Rattle.flow_residual.specs.Remaining.{Remaining, IsOf, StillAvoids, banned}
+use Rattle.flow_residual.specs.Spared.{AllStay, AreThinned, IsCandidate, staying, picked}
+use Rattle.flow_residual.specs.Telling.{IsSetOf}
+use Rattle.flow_model.proofs.Lists.{distinct-append, each_member, each_to, mem-append}
+use Rattle.flow_model.proofs.MadeLists.{same_order}
+use Rattle.flow_residual.proofs.Avoiding.{one_of, together}
+use Rattle.flow_residual.proofs.FoldedSteps.{run_distinct}
+use Rattle.flow_residual.proofs.QuestionLemmas.{some_follow}
 
 -- of a list, those looked at whose bit is set stand in front, and those not looked at where they stood
 pub record IsThinned (bits : List Bool) (index kept : ℕ) (was new : List ℕ) : Type 0 where
@@ -101,3 +116,50 @@ all_moved r places leaves i kept ps ls m past = record {
   leaves_are = m.leaves_are.front;
   spared = λ w s of. sym (m.spared w s of ∙ ap (λ l. m.bits ++ staying w s (take kept ls) l) (drop_all i leaves past) ∙ append-nil m.bits);
 }
+
+-- ---- leaves that stay together
+
+module _ (r : Remaining) (claims : List ℕ) where
+  pub none_stay : (set : LeafSet LEAF_WORDS) → ((n : ℕ) → has_leaf set n ≡ false) → AllStay r claims set
+  none_stay set none leaf more distinct each = absurd (true≢false (sym each.0 ∙ none leaf))
+
+  pub one_stays : (set : LeafSet LEAF_WORDS) (leaf : ℕ) → AllStay r claims set → IsTrue (has_leaf set leaf) → SomeOption (TakesAll r (claims ++ leaf ∷ [])) r.options
+  one_stays set leaf all has = all leaf [] ((λ none. none), tt) (has, tt)
+
+  -- one of them is claimed
+  pub others_stay : (old new : LeafSet LEAF_WORDS) (leaf : ℕ) → AllStay r claims old → ((k : ℕ) → has_leaf new k ≡ (not (k == leaf) && has_leaf old k)) → IsTrue (has_leaf old leaf) →
+      AllStay r (claims ++ leaf ∷ []) new
+  others_stay old new leaf all less has next more distinct each =
+      let was : (k : ℕ) → IsTrue (has_leaf new k) → IsTrue (not (k == leaf)) × IsTrue (has_leaf old k) = λ k h. and_parts (not (k == leaf)) (has_leaf old k) (sym (less k) ∙ h) in
+      let gone : ¬ (leaf ∈ (next ∷ more)) = λ m. not_itself leaf (was leaf (each_member (λ n. IsTrue (has_leaf new n)) (next ∷ more) each leaf m)).0 in
+      subst (λ (l : List ℕ). SomeOption (TakesAll r l) r.options) (sym (append_assoc claims (leaf ∷ []) (next ∷ more)))
+      (all leaf (next ∷ more) (gone, distinct) (has, each_to (λ n. IsTrue (has_leaf new n)) (λ n. IsTrue (has_leaf old n)) (next ∷ more) (λ k h. (was k h).1) each))
+    where
+      not_itself : (n : ℕ) → ¬ (IsTrue (not (n == n)))
+      not_itself n h = grind (arith, nat_tests)
+
+  -- an option takes the claimed ones, and all leaves of the set may follow with them
+  pub all_stay : (o : ChoiceOption) (all : List ℕ) (taken set : LeafSet LEAF_WORDS) → o ∈ r.options → TakesAll r claims o → IsSetOf claims taken →
+      ((n : ℕ) → IsTrue (has_leaf set n) → IsCandidate r taken o n) → ((n : ℕ) → (n ∈ claims) ⊎ IsTrue (has_leaf set n) → n ∈ all) → AllFollow r.journal all o → AllStay r claims set
+  all_stay o all taken set there takes is each within follow leaf more distinct has = (o, there, (takes.0, follows, still))
+    where
+      list : List ℕ
+      list = claims ++ leaf ∷ more
+
+      either : (n : ℕ) → n ∈ list → (n ∈ claims) ⊎ IsTrue (has_leaf set n)
+      either n m = ⊎_elim inl (λ new. inr (each_member (λ k. IsTrue (has_leaf set k)) (leaf ∷ more) has n new)) (mem-append n claims (leaf ∷ more) m)
+
+      run_of : (some : List ℕ) → AllFollow r.journal some o → IsFoldedRunAfter o.resolution o.order (λ n. n ∈ r.journal) some
+      run_of some runs = runs some (same_order some)
+
+      apart : AreDistinct list
+      apart = distinct-append claims (leaf ∷ more) (run_distinct o.resolution o.order (λ n. n ∈ r.journal) claims (run_of claims takes.1)).0 distinct
+          (λ n old new. (each n (each_member (λ k. IsTrue (has_leaf set k)) (leaf ∷ more) has n new)).new ((is n).1 old))
+
+      follows : AllFollow r.journal list o
+      follows = some_follow o.resolution o.order (λ n. n ∈ r.journal) all list (λ n m. within n (either n m)) apart follow
+
+      still : StillAvoids r list o
+      still = together o.resolution o.order r.journal (banned r.bans) list (run_of list follows) takes.0.avoids
+          (λ n m. ⊎_elim (λ old. one_of o.resolution (λ k. k ∈ r.journal) (λ k. k ∈ banned r.bans) claims n takes.2 old)
+          (λ new. (each n new).begins o takes.0 (each n new).ready.leaf) (either n m))

@@ -1,5 +1,5 @@
 -- What a residual keeps.
-use Rattle.std.specs.Prelude.{◌≡◌, ◌≤◌, ◌<◌, ◌↔◌, ℕ, IsTrue, List, length}
+use Rattle.std.specs.Prelude.{◌≤◌, ◌<◌, ◌↔◌, ℕ, IsTrue, List, length}
 use Rattle.std.specs.List.Sorted.{IsStrictlyIncreasing}
 use Rattle.std.specs.Vec.{vec_capacity}
 use Rattle.flow_model.specs.declared.limits.TheConstants.{MOST_LEAVES}
@@ -12,7 +12,8 @@ use Rattle.flow_residual.specs.Remaining.{Remaining, IsOf, banned}
 use Rattle.flow_residual.specs.View.{remaining, pairs_of_bans}
 use Rattle.flow_residual.specs.Options.{EachHas}
 use Rattle.flow_residual.specs.Telling.{AreServing, IsOrderedOption, IsSetOf, Tells}
-use Rattle.flow_residual.specs.Track.{IsFront, IsNextRow}
+use Rattle.flow_residual.specs.NextRows.{AreNext}
+use Rattle.flow_residual.specs.Track.{IsFront}
 
 -- numbers with a place in a row, none of them twice
 pub record AreFew (list : List ℕ) : Type 0 where
@@ -40,8 +41,7 @@ pub record IsRoomy (r : Inside) : Type 0 where
   pub kept : IsKept (remaining r.plans.items r.journal.items r.bans.items)
   pub served : Each (AreServing r.folds.items) (options_of r.plans.items)
   pub fronts : EachHas (IsFront r.journal.items) (options_of r.plans.items) r.fronts.items
-  pub rows_one_each : length r.rows.items ≡ length (options_of r.plans.items)
-  pub rows_are : IsTrue r.fresh → EachHas (IsNextRow r.journal.items) (options_of r.plans.items) r.rows.items
+  pub rows_are : IsTrue r.fresh → AreNext r.journal.items (options_of r.plans.items) r.rows
   pub done_are : IsSetOf r.journal.items r.done
   pub banned_are : IsSetOf (banned (pairs_of_bans r.bans.items)) r.banned
   pub sides : Tells (options_of r.plans.items) r.journal.items (banned (pairs_of_bans r.bans.items)) r.sides

@@ -7,6 +7,10 @@ use Rattle.flow_model.specs.Resolution.{ChoiceOption}
 abbrev pub SomeOption : (ChoiceOption → Type 0) → List ChoiceOption → Type 0
 SomeOption P os = (o : ChoiceOption) × (o ∈ os) × P o
 
+-- the option at the place has P
+abbrev pub HasAt : (ChoiceOption → Type 0) → List ChoiceOption → ℕ → Type 0
+HasAt P os k = (o : ChoiceOption) × (slice_get os k ≡ Some o) × P o
+
 -- none of the first so many options of the list has P
 abbrev pub NoneBelow : (ChoiceOption → Type 0) → List ChoiceOption → ℕ → Type 0
 NoneBelow P os k = (j : ℕ) → j < k → (o : ChoiceOption) → slice_get os j ≡ Some o → ¬ (P o)

@@ -32,5 +32,5 @@ pub record Tells (os : List ChoiceOption) (journal bans : List ℕ) (sides : Sid
   pub each : Each (λ o. AreSidesOf o.resolution (IsDoneIn sides) (λ n. IsTrue (list_any (λ x. x == n) bans)) sides) os
 
 -- the set has the leaves of the option that the leaves of the list close off
-abbrev pub IsApart : List ℕ → LeafSet LEAF_WORDS → ChoiceOption → Type 0
+abbrev pub IsApart : {w : ℕ} → List ℕ → LeafSet w → ChoiceOption → Type 0
 IsApart list apart o = (n : ℕ) → n ∈ leaves o.resolution → IsTrue (has_leaf apart n) ↔ IsClosedOff o.resolution (λ x. x ∈ list) n

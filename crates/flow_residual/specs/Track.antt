@@ -4,7 +4,6 @@ use Rattle.flow_model.specs.Lists.{◌∈◌}
 use Rattle.flow_model.specs.Resolution.{ChoiceOption}
 use Rattle.flow_model.specs.FoldedReady.{IsFoldedReady, IsFoldedRun}
 use Rattle.leaf_rows.specs.declared.leaf_set.LeafSet.{LeafSet}
-use Rattle.leaf_rows.specs.declared.TheConstants.{LEAF_WORDS}
 use Rattle.flow_plan.specs.Rows.{IsRowOf}
 use Rattle.flow_residual.specs.declared.fronts.Change.{Change}
 use Rattle.flow_residual.specs.declared.fronts.Change.TheVariants.{Done, Back}
@@ -20,7 +19,7 @@ pub record IsFront (journal : List ℕ) (o : ChoiceOption) (k : ℕ) : Type 0 wh
   pub longest : (m : ℕ) → m ≤ length journal → IsFollowedTo o journal m → m ≤ k
 
 -- the leaves that may come next, where the journal is a ready run of the option
-abbrev pub IsNextRow : List ℕ → ChoiceOption → LeafSet LEAF_WORDS → Type 0
+abbrev pub IsNextRow : {w : ℕ} → List ℕ → ChoiceOption → LeafSet w → Type 0
 IsNextRow journal o row = IsFoldedRun o.resolution o.order journal → IsRowOf (IsFoldedReady o.resolution o.order (λ n. n ∈ journal)) row
 
 abbrev pub journal_after : Change → List ℕ → List ℕ

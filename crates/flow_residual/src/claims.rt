@@ -4,7 +4,7 @@ ghost use Rattle.flow_model.specs.Lists.{◌∈◌};
 ghost use Rattle.flow_model.specs.Schema.{Schema};
 ghost use Rattle.flow_model.specs.Run.{Claim, RunState, current_claims, current_leaves, claim_at, IsCurrent, answer, with_new_epoch};
 ghost use Rattle.flow_residual.specs.Remaining.{IsOf};
-ghost use Rattle.flow_residual.specs.Claimed.{run_of, count_of, IsUnanswered, IsGivenAt};
+ghost use Rattle.flow_residual.specs.Claimed.{run_of, count_of, IsUnanswered, IsGivenAt, IsLastOn};
 
 use crate::given::{Given, at, index_of, renew};
 use crate::residual::Residual;
@@ -20,8 +20,8 @@ pub struct Claims {
     current: Vec<u32>,
     /// The leaves of the current ones, in the same order.
     leaves: Vec<u32>,
-    /// How many claims were given on each event.
-    attempts: Vec<u32>,
+    /// Of each event, the number of the last claim that was given on it; 0 where none was.
+    last: Vec<u32>,
     epoch: u32,
 }
 
@@ -43,13 +43,13 @@ impl Claims {
     /// None given yet, and room for so many, on events below the number of kinds.
     pub fn new(alloc: Global, kinds: u32, room: u32) -> Result<Claims, AllocError>
         requires { room ≤ MOST_ENTRIES }
-        ensures { IfOk result (λ claims. claims ≡ record { claims = []; events = []; epoch = 0; room = room; kinds = kinds }) }
+        ensures { IfOk result (λ claims. claims ≡ record { claims = []; events = []; takers = []; epoch = 0; room = room; kinds = kinds }) }
     {
         Ok(Claims {
             given: Vec::with_capacity(alloc, room as usize)?,
             current: Vec::with_capacity(alloc, room as usize)?,
             leaves: Vec::with_capacity(alloc, room as usize)?,
-            attempts: vec![in alloc; 0; kinds as usize]?,
+            last: vec![in alloc; 0; kinds as usize]?,
             epoch: 0,
         })
     }
@@ -115,26 +115,48 @@ impl Claims {
         }
     }
 
-    /// One more is given, on the leaf of the event. Returns which attempt at the event it is.
-    pub fn give(&mut self, leaf: u32, event: u32) -> u32
+    /// The last claim that was given on the event, if any was.
+    pub fn last_on(&self, event: u32) -> Option<Given>
+        ensures { MatchOption result (¬ (event ∈ self.now.events)) (IsLastOn self.now event) }
+    {
+        if self.last.len() <= event as usize {
+            return None;
+        }
+        self.find(self.last[event as usize])
+    }
+
+    /// How many claims were given on the event.
+    fn attempts(&self, event: u32) -> u32
+        ensures { result ≡ count_of event self.now.events }
+    {
+        match self.last_on(event) {
+            Some(given) => given.attempt,
+            None => 0,
+        }
+    }
+
+    /// One more is given to the caller, on the leaf of the event. Returns which attempt at the event it is.
+    pub fn give(&mut self, leaf: u32, event: u32, by: u32) -> u32
         requires room { length self.old.claims < self.old.room }
         requires kind { event < self.old.kinds }
         ensures value { self.new ≡ record self.old {
           claims = self.old.claims ++ record { number = length self.old.claims + 1; leaf = leaf; epoch = self.old.epoch; answered = false } ∷ [];
           events = self.old.events ++ event ∷ [];
+          takers = self.old.takers ++ by ∷ [];
         } }
         ensures attempt { result ≡ count_of event self.old.events + 1 }
     {
         let place = self.given.len() as u32;
-        let attempt = self.attempts[event as usize] + 1;
+        let attempt = self.attempts(event) + 1;
         let given = Given {
             leaf,
             event,
+            by,
             epoch: self.epoch,
             attempt,
             answered: false,
         };
-        self.attempts[event as usize] = attempt;
+        self.last[event as usize] = place + 1;
         self.given.push_reserved(given);
         self.current.push_reserved(place);
         self.leaves.push_reserved(leaf);

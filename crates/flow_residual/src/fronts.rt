@@ -1,14 +1,13 @@
-//! How far each plan follows the journal, and what may come next in it.
+//! How far each plan follows the journal.
 ghost use Rattle.std.specs.Prelude.{◌≡◌, ◌<◌, ◌↔◌, ℕ, List, [], ◌∷◌, ◌++◌, length};
 ghost use Rattle.flow_model.specs.Lists.{◌∈◌, Each};
 ghost use Rattle.flow_plan.specs.Orders.{TellOf};
 ghost use Rattle.flow_plan.specs.Options.{options_of, option_of};
 ghost use Rattle.flow_residual.specs.Options.{EachHas};
 ghost use Rattle.flow_residual.specs.Telling.{IsSetOf, Tells};
-ghost use Rattle.flow_residual.specs.Track.{IsFront, IsNextRow, journal_after};
+ghost use Rattle.flow_residual.specs.Track.{IsFront, journal_after};
 
 use flow_plan::{KnotFree, Plan, Sides};
-use leaf_rows::{LEAF_WORDS, LeafSet};
 
 /// What happens to the journal.
 #[derive(Clone, Copy)]
@@ -64,36 +63,5 @@ pub(crate) fn follow(
 {
     for (place, front) in fronts.iter_mut().enumerate() {
         *front = after(*front, plans[place].plan(), journal, sides, change);
-    }
-}
-
-/// Makes the row anew, where the plan follows the whole journal: the leaves that may come next.
-fn look_at(plan: &Plan, front: usize, journal: &[u32], sides: &Sides, row: &mut LeafSet<LEAF_WORDS>)
-    requires tell { TellOf plan.now sides.now }
-    requires done { IsSetOf journal.now sides.now.done }
-    requires front { IsFront journal.now (option_of plan.now) front }
-    ensures { IsNextRow journal.now (option_of plan.now) row.new }
-{
-    if front != journal.len() {
-        return;
-    }
-    *row = plan.next_row(sides);
-}
-
-/// Makes the rows of the plans that follow the whole journal.
-pub(crate) fn look(
-    plans: &[KnotFree],
-    fronts: &[usize],
-    journal: &[u32],
-    sides: &Sides,
-    rows: &mut [LeafSet<LEAF_WORDS>],
-)
-    requires tell { (bans : List ℕ) × Tells (options_of plans.now) journal.now bans sides.now }
-    requires fronts { EachHas (IsFront journal.now) (options_of plans.now) fronts.now }
-    requires one_each { length rows.old ≡ length (options_of plans.now) }
-    ensures { EachHas (IsNextRow journal.now) (options_of plans.now) rows.new }
-{
-    for (place, row) in rows.iter_mut().enumerate() {
-        look_at(plans[place].plan(), fronts[place], journal, sides, row);
     }
 }

@@ -8,6 +8,8 @@ ghost use Rattle.flow_residual.specs.Given.{renewed_at};
 pub struct Given {
     pub leaf: u32,
     pub event: u32,
+    /// To whom it was given.
+    pub by: u32,
     /// The epoch in which it was given, or the last that began and spared it.
     pub epoch: u32,
     /// How many claims were given on the event up to this one.

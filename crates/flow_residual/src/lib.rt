@@ -2,10 +2,12 @@
 //! that it has given, with those that a new epoch spares.
 #![tactic(auto)]
 
+mod all_taken;
 mod answers;
 mod claims;
 mod fronts;
 mod given;
+mod next_rows;
 mod question;
 mod residual;
 mod sets;

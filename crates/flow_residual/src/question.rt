@@ -1,5 +1,6 @@
 //! What is asked of each plan.
-ghost use Rattle.std.specs.Prelude.{◌≡◌, ◌<◌, ◌↔◌, ◌⊎◌, ℕ, List, IsTrue, Some, [], ◌∷◌, ◌++◌, length, slice_get};
+ghost use Rattle.std.specs.Prelude.{◌≡◌, ◌<◌, ◌↔◌, ◌⊎◌, ℕ, List, IsTrue, IfNone, IfSome, Some, [], ◌∷◌, ◌++◌, length, slice_get};
+ghost use Rattle.flow_model.specs.declared.limits.TheConstants.{MOST_LEAVES};
 ghost use Rattle.flow_model.specs.Lists.{◌∈◌, Each, AreDistinct};
 ghost use Rattle.flow_model.specs.FoldedReady.{IsFoldedRun};
 ghost use Rattle.flow_model.specs.FoldedRun.{CanAvoid};
@@ -7,7 +8,7 @@ ghost use Rattle.flow_model.specs.Resolution.{ChoiceOption};
 ghost use Rattle.leaf_rows.specs.Leaves.{has_leaf};
 ghost use Rattle.leaf_rows.specs.declared.leaf_set.LeafSet.{LeafSet};
 ghost use Rattle.flow_plan.specs.Rows.{IsRowOf};
-ghost use Rattle.flow_residual.specs.Options.{SomeOption};
+ghost use Rattle.flow_residual.specs.Options.{HasAt, SomeOption};
 ghost use Rattle.flow_residual.specs.Question.{Has, IsAsked, TakesAll, TakesFirst, Takes, TakesInOrder, LeavesOut, IsWhole, AllFollow, FollowsFirst};
 ghost use Rattle.flow_residual.specs.declared.question.Question.TheVariants.{Among, First};
 ghost use Rattle.flow_residual.specs.Remaining.{IsLive};
@@ -61,7 +62,7 @@ impl Residual {
     }
 
     /// Whether the plan at that place is live.
-    fn is_live(&self, place: usize) -> bool
+    pub(crate) fn is_live(&self, place: usize) -> bool
         requires { place < length self.now.options }
         ensures { (o : ChoiceOption) → slice_get self.now.options place ≡ Some o → IsTrue result ↔ IsLive self.now o }
     {
@@ -128,93 +129,50 @@ impl Residual {
         }
     }
 
+    /// The place of the first plan that says yes.
+    fn first_that_has(&self, question: &Question, claims: &[u32]) -> Option<usize>
+        requires { IsAsked self.now claims.now question.now }
+        ensures some { IfSome result (HasAt (Has self.now claims.now question.now) self.now.options) }
+        ensures none { IfNone result (¬ (SomeOption (Has self.now claims.now question.now) self.now.options)) }
+    {
+        for place in 0..self.count() {
+            if self.has(place, question, claims) {
+                return Some(place);
+            }
+        }
+        None
+    }
+
     /// Whether some plan says yes.
     pub(crate) fn some_has(&self, question: &Question, claims: &[u32]) -> bool
         requires { IsAsked self.now claims.now question.now }
         ensures { IsTrue result ↔ SomeOption (Has self.now claims.now question.now) self.now.options }
     {
-        for place in 0..self.count() {
-            if self.has(place, question, claims) {
-                return true;
-            }
-        }
-        false
+        self.first_that_has(question, claims).is_some()
     }
 
-    /// Adds to what is found the leaves that the plan at that place takes so, whether or not they may be begun.
-    fn add_taken(
-        &self,
-        place: usize,
-        claims: &[u32],
-        row: &LeafSet<LEAF_WORDS>,
-        apart: &LeafSet<LEAF_WORDS>,
-        stand: Stand,
-        found: &mut LeafSet<LEAF_WORDS>,
-    )
-        requires place { place < length self.now.options }
-        requires distinct { AreDistinct claims.now }
-        requires row { IsRowOf (λ x. x ∈ claims.now) row.now }
-        requires apart { Each (IsApart claims.now apart.now) self.now.options }
-        ensures { (o : ChoiceOption) (leaf : ℕ) → slice_get self.now.options place ≡ Some o →
-            IsTrue (has_leaf found.new leaf) ↔ (IsTrue (has_leaf found.old leaf) ⊎ TakesInOrder self.now claims.now stand leaf o) }
+    /// The place of a plan in which the claimed leaves and this one may follow in every order.
+    pub(crate) fn taker(&self, claims: &[u32], leaf: u32) -> Option<usize>
+        ensures some { IfSome result (HasAt (TakesAll self.now (claims.now ++ leaf ∷ [])) self.now.options) }
+        ensures small { IfSome result (λ _. leaf < MOST_LEAVES) }
+        ensures none { IfNone result (¬ (SomeOption (TakesAll self.now (claims.now ++ leaf ∷ [])) self.now.options)) }
     {
-        if !self.is_live(place) {
-            return;
-        }
-        let folds = self.folds();
-        let sides = self.sides();
-        let next = self.next_row(place);
-        let plan = self.plan(place);
-        match stand {
-            Stand::Among => plan.add_beside(&next, row, apart, found),
-            Stand::First => plan.add_first(folds, sides, &next, claims, row, apart, found),
-        }
-    }
-
-    /// The leaves that some plan takes so, whether or not they may be begun.
-    fn all_in_order(
-        &self,
-        claims: &[u32],
-        row: &LeafSet<LEAF_WORDS>,
-        stand: Stand,
-    ) -> LeafSet<LEAF_WORDS>
-        requires distinct { AreDistinct claims.now }
-        requires row { IsRowOf (λ x. x ∈ claims.now) row.now }
-        ensures { (leaf : ℕ) → IsTrue (has_leaf result leaf) ↔ SomeOption (TakesInOrder self.now claims.now stand leaf) self.now.options }
-    {
-        let apart = self.apart(row);
-        let mut found = LeafSet::new();
-        for place in 0..self.count() {
-            self.add_taken(place, claims, row, &apart, stand, &mut found);
-        }
-        found
-    }
-
-    /// The leaves that some plan takes so.
-    pub(crate) fn all_taken(&self, claims: &[u32], stand: Stand) -> LeafSet<LEAF_WORDS>
-        ensures { (leaf : ℕ) → IsTrue (has_leaf result leaf) ↔ SomeOption (Takes self.now claims.now stand leaf) self.now.options }
-    {
-        let Some(row) = self.beginning(claims) else {
-            return LeafSet::new();
+        let Some(mut set) = self.beginning(claims) else {
+            return None;
         };
-        let mut found = self.all_in_order(claims, &row, stand);
-        found.remove_all(&self.sides().barred);
-        found
+        if !self.may_begin(leaf) {
+            return None;
+        }
+        set.insert(leaf);
+        let apart = self.apart(&set);
+        self.first_that_has(&Question::Among(leaf, apart), claims)
     }
 
     /// Whether, in some one option, the claimed leaves and this one may follow in every order.
     pub(crate) fn takes_among(&self, claims: &[u32], leaf: u32) -> bool
         ensures { IsTrue result ↔ SomeOption (TakesAll self.now (claims.now ++ leaf ∷ [])) self.now.options }
     {
-        let Some(mut set) = self.beginning(claims) else {
-            return false;
-        };
-        if !self.may_begin(leaf) {
-            return false;
-        }
-        set.insert(leaf);
-        let apart = self.apart(&set);
-        self.some_has(&Question::Among(leaf, apart), claims)
+        self.taker(claims, leaf).is_some()
     }
 
     /// Whether, in some one option, the leaf may come next, and the claimed leaves then in every order.

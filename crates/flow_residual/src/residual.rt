@@ -8,12 +8,14 @@ ghost use Rattle.flow_plan.specs.Rows.{IsRowOf};
 ghost use Rattle.flow_plan.specs.Sampled.{Sampled};
 ghost use Rattle.flow_residual.specs.Options.{EachHas};
 ghost use Rattle.flow_residual.specs.Invariant.{AreOpenPlaces};
+ghost use Rattle.flow_residual.specs.NextRows.{AreNext};
 ghost use Rattle.flow_residual.specs.Question.{CanBegin, IsBarred, Takes};
 ghost use Rattle.flow_residual.specs.Remaining.{banned};
 ghost use Rattle.flow_residual.specs.Telling.{AreServing, IsApart, IsOrderedOption, IsSetOf, Tells};
 ghost use Rattle.flow_residual.specs.Track.{IsFront, IsNextRow};
 
-use crate::fronts::{Change, follow, look};
+use crate::fronts::{Change, follow};
+use crate::next_rows::NextRows;
 use crate::question::Stand;
 use crate::sets::{closed_by, row_of, set_of, set_of_bans, sides_by};
 use flow_model::MOST_LEAVES;
@@ -34,7 +36,7 @@ pub(crate) struct Ban {
 #[derive(Drop)]
 struct Room {
     fronts: Vec<usize>,
-    rows: Vec<LeafSet<LEAF_WORDS>>,
+    rows: NextRows,
     journal: Vec<u32>,
     bans: Vec<Ban>,
     opens: Vec<u32>,
@@ -44,7 +46,6 @@ impl Room {
     /// For so many plans, where no leaf is done and none is banned.
     fn new(alloc: Global, plans: &[KnotFree]) -> Result<Room, AllocError>
         ensures fronts { IfOk result (λ room. EachHas (IsFront []) (options_of plans.now) room.fronts.items) }
-        ensures rows { IfOk result (λ room. length room.rows.items ≡ length (options_of plans.now)) }
         ensures journal { IfOk result (λ room. room.journal.items ≡ []) }
         ensures journal_room { IfOk result (λ room. MOST_LEAVES ≤ vec_capacity room.journal) }
         ensures bans { IfOk result (λ room. room.bans.items ≡ []) }
@@ -55,7 +56,7 @@ impl Room {
         let start: usize = 0;
         Ok(Room {
             fronts: vec![in alloc; start; plans.len()]?,
-            rows: vec![in alloc; LeafSet::new(); plans.len()]?,
+            rows: NextRows::new(alloc, plans)?,
             journal: Vec::with_capacity(alloc, MOST_LEAVES as usize)?,
             bans: Vec::with_capacity(alloc, MOST_LEAVES as usize)?,
             opens: Vec::with_capacity(alloc, MOST_LEAVES as usize)?,
@@ -92,7 +93,7 @@ pub struct Residual {
     /// was pushed, whatever comes later.
     opens: Vec<u32>,
     /// Of each plan that follows the journal, the leaves that may come next, where `fresh`.
-    rows: Vec<LeafSet<LEAF_WORDS>>,
+    rows: NextRows,
     fresh: bool,
 }
 
@@ -334,15 +335,17 @@ impl Residual {
         ensures { self.new ≡ self.old }
     {
         if !self.fresh {
-            look(
-                &self.plans,
-                &self.fronts,
-                &self.journal,
-                &self.sides,
-                &mut self.rows,
-            );
-            self.fresh = true;
+            self.fresh = self
+                .rows
+                .look(&self.plans, &self.fronts, &self.journal, &self.sides);
         }
+    }
+
+    /// The rows of what may come next, where they were made for this journal.
+    pub(crate) fn next_rows(&self) -> Option<&NextRows>
+        ensures { IfSome result (λ rows. AreNext self.now.journal self.now.options rows.now) }
+    {
+        if self.fresh { Some(&self.rows) } else { None }
     }
 
     /// The leaves that may come next in the plan at that place, where it follows the journal.
@@ -350,10 +353,6 @@ impl Residual {
         requires { place < length self.now.options }
         ensures { (o : ChoiceOption) → slice_get self.now.options place ≡ Some o → IsNextRow self.now.journal o result }
     {
-        if self.fresh {
-            self.rows[place]
-        } else {
-            self.plan(place).next_row(self.sides())
-        }
+        self.plan(place).next_row(self.sides())
     }
 }

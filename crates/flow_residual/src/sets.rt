@@ -1,7 +1,8 @@
 //! Leaves as sets, and what the choices that stay tell by them.
-ghost use Rattle.std.specs.Prelude.{◌≡◌, ◌<◌, ◌↔◌, ℕ, List, IsTrue, IfNone, IfSome};
+ghost use Rattle.std.specs.Prelude.{◌≡◌, ◌<◌, ◌↔◌, ◌&&◌, not, ℕ, List, IsTrue, IfNone, IfSome};
 ghost use Rattle.flow_model.specs.Lists.{◌∈◌, Each, AreDistinct};
 ghost use Rattle.flow_model.specs.Resolution.{ChoiceOption};
+ghost use Rattle.leaf_rows.specs.Leaves.{has_leaf};
 ghost use Rattle.flow_plan.specs.Rows.{IsRowOf};
 ghost use Rattle.flow_residual.specs.Remaining.{banned};
 ghost use Rattle.flow_residual.specs.Telling.{AreServing, IsApart, IsOrderedOption, IsSetOf, Tells};
@@ -58,6 +59,15 @@ pub(crate) fn row_of(list: &[u32]) -> Option<LeafSet<LEAF_WORDS>>
     } else {
         None
     }
+}
+
+/// The one set without the members of the other.
+pub(crate) fn less(one: &LeafSet<LEAF_WORDS>, other: &LeafSet<LEAF_WORDS>) -> LeafSet<LEAF_WORDS>
+    ensures { (n : ℕ) → has_leaf result n ≡ (not (has_leaf other.now n) && has_leaf one.now n) }
+{
+    let mut rest = *one;
+    rest.remove_all(other);
+    rest
 }
 
 /// What the choices tell of all options by the done and the banned leaves: one look at each choice.

@@ -7,6 +7,7 @@ use Rattle.flow_form.specs.declared.refusal.TextRefusal.TheVariants.{NotAscii, B
 use Rattle.flow_form.specs.Script.{Said, Asked, Declared, holds, redundant}
 use Rattle.flow_lex.specs.declared.token.Token.{Token}
 use Rattle.flow_lex.specs.Tokens.{Lexed, lexed, IsAscii, IsFirstNotAscii}
+use Rattle.flow_lex.proofs.AsciiLemmas.{ascii_has_none, one_first_byte}
 use Rattle.flow_grammar.specs.Symbol.{Symbol, Placed}
 use Rattle.flow_grammar.specs.Machine.{Reading, gives, expected, too_deep, read_script, read_query}
 use Rattle.flow_grammar.specs.Roles.{script_roles, query_roles, Role, declares, in_goal, in_rule, declared_by, declaring, used_in_goals, used_in_rules}
@@ -109,37 +110,14 @@ Finds read text (no_ascii p) = IsFirstNotAscii text p
 Finds read text (bad_token p) = IsAscii text × ((lexed text).bad ≡ Some p)
 Finds read text (read_as r) = IsAscii text × ((lexed text).bad ≡ None) × (read (symbols_of text (tokens_in text)) ≡ r)
 
-ascii_there : (text : List ℕ) (p : ℕ) → IsAscii text → p < length text → slice_index text p ≤ 127
-ascii_there [] p h l = absurd (omega arith)
-ascii_there (b ∷ bs) zero (h, hs) l = h
-ascii_there (b ∷ bs) (suc p) (h, hs) l = ascii_there bs p hs (omega arith)
-
-ascii_before : (text : List ℕ) (p q : ℕ) → IsAscii (take q text) → p < q → p < length text → slice_index text p ≤ 127
-ascii_before [] p q h l m = absurd (omega arith)
-ascii_before (b ∷ bs) p zero h l m = absurd (omega arith)
-ascii_before (b ∷ bs) zero (suc q) (h, hs) l m = h
-ascii_before (b ∷ bs) (suc p) (suc q) (h, hs) l m = ascii_before bs p q hs (omega arith) (omega arith)
-
-no_first : (text : List ℕ) (p : ℕ) → IsAscii text → IsFirstNotAscii text p → ⊥
-no_first text p ascii h = omega (arith, ascii_there text p ascii h.within, h.there)
-
-not_before : (text : List ℕ) (p q : ℕ) → IsFirstNotAscii text p → IsFirstNotAscii text q → p < q → ⊥
-not_before text p q h g l = omega (arith, ascii_before text p q g.before l h.within, h.there)
-
-one_byte : (text : List ℕ) (p q : ℕ) → IsFirstNotAscii text p → IsFirstNotAscii text q → p ≡ q
-one_byte text p q h g =
-    let least : ¬ (p < q) = not_before text p q h g in
-    let also : ¬ (q < p) = not_before text q p g h in
-    omega (arith, least, also)
-
 one_finding : {V : Type 0} (read : List Symbol → Reading V) (text : List ℕ) (f g : Finding V) → Finds read text f → Finds read text g → f ≡ g
-one_finding read text (no_ascii p) (no_ascii q) h k = ap no_ascii (one_byte text p q h k)
+one_finding read text (no_ascii p) (no_ascii q) h k = ap no_ascii (one_first_byte text p q h k)
 one_finding read text (bad_token p) (bad_token q) (ascii, bad) (ascii', bad') = let same : p ≡ q = cc in ap bad_token same
 one_finding read text (read_as r) (read_as s) (ascii, bad, e) (ascii', bad', e') = ap read_as (sym e ∙ e')
-one_finding read text (no_ascii p) (bad_token q) h (ascii, bad) = absurd (no_first text p ascii h)
-one_finding read text (no_ascii p) (read_as s) h (ascii, bad, e) = absurd (no_first text p ascii h)
-one_finding read text (bad_token p) (no_ascii q) (ascii, bad) k = absurd (no_first text q ascii k)
-one_finding read text (read_as r) (no_ascii q) (ascii, bad, e) k = absurd (no_first text q ascii k)
+one_finding read text (no_ascii p) (bad_token q) h (ascii, bad) = absurd (ascii_has_none text p ascii h)
+one_finding read text (no_ascii p) (read_as s) h (ascii, bad, e) = absurd (ascii_has_none text p ascii h)
+one_finding read text (bad_token p) (no_ascii q) (ascii, bad) k = absurd (ascii_has_none text q ascii k)
+one_finding read text (read_as r) (no_ascii q) (ascii, bad, e) k = absurd (ascii_has_none text q ascii k)
 one_finding read text (bad_token p) (read_as s) (ascii, bad) (ascii', bad', e') = absurd (let differ : Some p ≡ None = sym bad ∙ bad' in cc)
 one_finding read text (read_as r) (bad_token q) (ascii, bad, e) (ascii', bad') = absurd (let differ : Some q ≡ None = sym bad' ∙ bad in cc)
 

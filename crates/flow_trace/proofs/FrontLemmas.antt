@@ -1,25 +1,21 @@
 -- How long options are followed.
-use Rattle.std.proofs.Common.{◌≡◌, ◌<◌, ◌≤◌, ◌+◌, ◌⊎◌, ℕ, max, Bool, true, false, ◌↔◌, IsTrue, List, [], ◌∷◌, ◌++◌, length, take, drop, get_or, Some, slice_get, refl, sym, ap, ◌∙◌, subst, below_more, arith, inl, inr}
+use Rattle.std.proofs.Common.{◌≡◌, ◌<◌, ◌≤◌, ◌+◌, ◌⊎◌, ℕ, zero, suc, max, Bool, true, ◌↔◌, IsTrue, List, [], ◌∷◌, ◌++◌, length, take, drop, get_or, Some, slice_get, refl, sym, ap, ◌∙◌, subst, below_more, arith, inl, inr, ⊎_elim}
 use Rattle.std.proofs.lemmas.Bool.{cases_lt}
-use Rattle.std.proofs.lemmas.List.{take_all, take_more, take-append-drop, length-take-le}
-use Rattle.flow_model.specs.declared.limits.TheConstants.{MOST_LEAVES}
-use Rattle.flow_model.specs.Process.{leaves as leaves_of}
+use Rattle.std.proofs.lemmas.Option.{slice_get-get_or}
+use Rattle.std.proofs.lemmas.List.{take_all, take_more, take-append-drop}
+use Rattle.flow_model.specs.FoldedReady.{IsFinished}
+use Rattle.flow_model.specs.Lists.{◌∈◌}
 use Rattle.flow_model.specs.Resolution.{ChoiceOption}
-use Rattle.flow_model.proofs.Lists.{at_most, mem-slice_get, each_member, each_from_members}
+use Rattle.flow_model.proofs.Lists.{mem-slice_get}
 use Rattle.flow_model.proofs.MadeLists.{some_same}
-use Rattle.flow_plan.specs.Orders.{MayComeNext, TellOf}
+use Rattle.flow_plan.specs.Courses.{AreFollowed}
 use Rattle.flow_plan.specs.Planned.{Planned}
-use Rattle.flow_plan.specs.Sided.{IsDoneIn}
 use Rattle.flow_plan.specs.Sampled.{Sampled}
-use Rattle.flow_plan.specs.declared.sides.Sides.{Sides}
-use Rattle.flow_plan.specs.Options.{options_of, option_of, HasSmallLeaves}
+use Rattle.flow_plan.specs.Options.{options_of, option_of}
 use Rattle.flow_residual.specs.Options.{SomeOption}
-use Rattle.flow_residual.specs.Telling.{Tells}
-use Rattle.flow_residual.proofs.FoldedSteps.{run_front, run_grow, run_leaf, run_distinct, ready_at}
+use Rattle.flow_residual.proofs.FoldedSteps.{run_front, run_grow, ready_at}
 use Rattle.flow_residual.proofs.OptionLemmas.{none_found, plan_at}
-use Rattle.flow_residual.proofs.QuestionLemmas.{next_of_option}
-use Rattle.flow_residual.proofs.TellingLemmas.{tell_of}
-use Rattle.flow_trace.specs.Fronts.{AreAlong, Follows, Finishes, Reaches, AreReaching, AreReachingBelow}
+use Rattle.flow_trace.specs.Fronts.{Follows, Finishes, Reaches, AreReaching, AreReachingBelow}
 use Rattle.flow_trace.proofs.TraceLemmas.{take_longer}
 
 -- a front is followed where the list is
@@ -34,62 +30,38 @@ longer_not o list k m h none run =
 
 -- ---- one option, leaf by leaf
 
--- a front that is followed is no longer than rows are
-pub is_few : (p : Planned) (leaves : List ℕ) → HasSmallLeaves (option_of p) → (i : ℕ) → Follows (take i leaves) (option_of p) → i ≤ length leaves → i ≤ MOST_LEAVES
-is_few p leaves small i follows within =
-    let distinct = (run_distinct p.process (option_of p).order (λ n. ⊥) (take i leaves) follows).0 in
-    let most = at_most MOST_LEAVES (take i leaves) distinct
-    (λ n m. each_member (λ n. n < MOST_LEAVES) (leaves_of p.process) small n (run_leaf p.process (option_of p).order (λ n. ⊥) (take i leaves) follows n m)) in
-    omega (arith, most, length-take-le i leaves within)
+module _ (p : Planned) (list : List ℕ) (k : ℕ) (followed : AreFollowed p list k) where
+  abbrev o : ChoiceOption
+  o = option_of p
 
-module _ (p : Planned) (leaves : List ℕ) (all : List Sides) (along : AreAlong (option_of p) leaves all) (small : HasSmallLeaves (option_of p))
-    (i : ℕ) (follows : Follows (take i leaves) (option_of p)) where
-  -- the sides after a front that is followed were made
-  pub is_made : i ≤ length leaves → i < length all
-  is_made within = along.covers i within (each_from_members (λ n. n < MOST_LEAVES) (take i leaves)
-      (λ n m. each_member (λ n. n < MOST_LEAVES) (leaves_of p.process) small n (run_leaf p.process (option_of p).order (λ n. ⊥) (take i leaves) follows n m)))
+  follows_to : (i : ℕ) → i ≤ k → Follows (take i list) o
+  follows_to zero most = tt
+  follows_to (suc i) most =
+      let more : take (i + 1) list ≡ take i list ++ get_or list i 0 ∷ [] = take_more list i 0 (omega (arith, most, followed.within)) in
+      let grown = run_grow o.resolution o.order (take i list) (get_or list i 0) (follows_to i (omega (arith, most))) (followed.each i (omega (arith, most))) in
+      let same : i + 1 ≡ suc i = omega arith in
+      subst (λ n. Follows (take n list) o) same (subst (λ (l : List ℕ). Follows l o) (sym more) grown)
 
-  module _ (within : i ≤ length leaves) (sides : Sides) (read : sides ≡ get_or all i sides) where
-    abbrev o : ChoiceOption
-    o = option_of p
+  no_longer : k < length list → ¬ (Follows (take (k + 1) list) o)
+  no_longer less run = followed.no_longer less (ready_at o.resolution o.order (take k list) (get_or list k 0) [] (subst (λ (l : List ℕ). Follows l o) (take_more list k 0 less) run))
 
-    pub told : Tells (option_of p ∷ []) (take i leaves) [] sides
-    told = along.tell i sides (is_made within) read
+  pub reaches_so : Reaches list o k
+  reaches_so = record { within = followed.within; follows = follows_to k (omega arith); no_longer = no_longer }
 
-    pub tells : TellOf p sides
-    tells = tell_of (option_of p ∷ []) (take i leaves) [] sides told (option_of p) (inl refl) p refl
-
-    module _ (inside : i < length leaves) (ready : Bool) (says : IsTrue ready ↔ MayComeNext p (IsDoneIn sides) (get_or leaves i 0)) where
-      abbrev leaf : ℕ
-      leaf = get_or leaves i 0
-
-      more_is : take (i + 1) leaves ≡ take i leaves ++ leaf ∷ []
-      more_is = take_more leaves i 0 inside
-
-      next : IsTrue ready ↔ Follows (take (i + 1) leaves) o
-      next =
-          let at = next_of_option p sides (take i leaves) told.done o refl leaf in (
-            λ is_ready. subst (λ (l : List ℕ). Follows l o) (sym more_is) (run_grow o.resolution o.order (take i leaves) leaf follows (at.0 (says.0 is_ready))),
-            λ run. says.1 (at.1 (ready_at o.resolution o.order (take i leaves) leaf [] (subst (λ (l : List ℕ). Follows l o) more_is run))),
-          )
-
-      pub follows_more : ready ≡ true → Follows (take (i + 1) leaves) o
-      follows_more is_ready = next.0 is_ready
-
-      pub stops : ready ≡ false → Reaches leaves o i
-      stops not_ready = record { within = within; follows = follows; no_longer = λ less run. let is_ready = next.1 run in cc }
-
-      pub stops_part : ready ≡ false → IsTrue false ↔ Finishes leaves o
-      stops_part not_ready = (λ wrong. absurd (cc), λ whole. let is_ready = next.1 (front_follows o leaves (i + 1) whole.0) in cc)
-
-pub reaches_all : (o : ChoiceOption) (leaves : List ℕ) (i : ℕ) → length leaves ≤ i → Follows (take i leaves) o → Reaches leaves o (length leaves)
-reaches_all o leaves i past follows = record {
-  within = omega arith;
-  follows = subst (λ (l : List ℕ). Follows l o) (let all = take_all i leaves past in let same = take_all (length leaves) leaves (omega arith) in cc) follows;
-  no_longer = λ less. absurd (omega (arith, less));
-}
+  pub finishes_so : (whole : Bool) → IsTrue whole ↔ ((k ≡ length list) × IsFinished p.process (λ n. n ∈ list)) → IsTrue whole ↔ Finishes list o
+  finishes_so whole says = (
+    λ yes. let (all, finished) = says.0 yes in (subst (λ (l : List ℕ). Follows l o) (take_all k list (omega (arith, all))) (follows_to k (omega arith)), finished),
+    λ (run, finished). ⊎_elim
+        (λ less. absurd (no_longer less (front_follows o list (k + 1) run)))
+        (λ past. says.1 (omega (arith, past, followed.within), finished))
+        (cases_lt k (length list)),
+  )
 
 -- ---- the options, one by one
+
+-- a plan that was read
+pub plan_read : (plans : List Sampled) (i : ℕ) (s : Sampled) → i < length plans → s ≡ get_or plans i s → s ∈ plans
+plan_read plans i s within is = mem-slice_get plans i s (slice_get-get_or plans i s within ∙ ap (λ (t : Sampled). Some t) (sym is))
 
 -- the option of a plan that was read
 pub option_read : (plans : List Sampled) (i : ℕ) (s : Sampled) (p : Planned) → i < length plans → s ≡ get_or plans i s → p ≡ s.plan → slice_get (options_of plans) i ≡ Some (option_of p)

@@ -1,3 +1,2 @@
-pub mod AlongLemmas
 pub mod FrontLemmas
 pub mod TraceLemmas

@@ -1,12 +1,8 @@
 -- How long a front of a list of leaves is a ready run of options.
-use Rattle.std.specs.Prelude.{◌≡◌, ◌<◌, ◌≤◌, ◌+◌, ◌⊎◌, ℕ, List, [], ◌∷◌, length, slice_index_or, take}
+use Rattle.std.specs.Prelude.{◌≡◌, ◌<◌, ◌≤◌, ◌+◌, ◌⊎◌, ℕ, List, length, take}
 use Rattle.flow_model.specs.Resolution.{ChoiceOption}
-use Rattle.flow_model.specs.declared.limits.TheConstants.{MOST_LEAVES}
-use Rattle.flow_model.specs.Lists.{Each}
 use Rattle.flow_model.specs.FoldedReady.{IsFoldedRun, IsCompleteFoldedRun}
-use Rattle.flow_plan.specs.declared.sides.Sides.{Sides}
 use Rattle.flow_residual.specs.Options.{SomeOption, NoneBelow}
-use Rattle.flow_residual.specs.Telling.{Tells}
 
 -- the list is a ready run of the option
 abbrev pub Follows : List ℕ → ChoiceOption → Type 0
@@ -34,9 +30,3 @@ pub record AreReachingBelow (list : List ℕ) (os : List ChoiceOption) (i k : �
   pub follows : (k ≡ 0) ⊎ SomeOption (Follows (take k list)) os
   pub no_longer : k < length list → NoneBelow (Follows (take (k + 1) list)) os i
   pub none_whole : NoneBelow (Finishes list) os i
-
--- what stands at a place tells of the option by the front of that length, and there is such a place where the leaves of the front
--- have places in rows
-pub record AreAlong (o : ChoiceOption) (list : List ℕ) (all : List Sides) : Type 0 where
-  pub tell : (i : ℕ) (sides : Sides) → i < length all → sides ≡ slice_index_or all i sides → Tells (o ∷ []) (take i list) [] sides
-  pub covers : (i : ℕ) → i ≤ length list → Each (λ n. n < MOST_LEAVES) (take i list) → i < length all

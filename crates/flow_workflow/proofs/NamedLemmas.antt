@@ -1,7 +1,7 @@
 -- The events that rules name: of one rule after another, and how they are collected.
-use Rattle.std.proofs.Common.{◌≡◌, ◌+◌, ◌<◌, ◌↔◌, ◌++◌, ◌∷◌, ◌||◌, ◌==◌, [], ℕ, List, Vec, Box, Global, true, false, map, length, take, get_or, true≢false, refl, sym, ap, ◌∙◌, subst, inl, inr, ⊎_elim, append_assoc, append-nil}
+use Rattle.std.proofs.Common.{◌≡◌, ◌+◌, ◌<◌, ◌↔◌, ◌++◌, ◌∷◌, ◌||◌, ◌==◌, [], ℕ, List, Vec, Box, Global, true, false, map, length, take, drop, get_or, true≢false, refl, sym, ap, ◌∙◌, subst, inl, inr, ⊎_elim, append_assoc, append-nil}
 use Rattle.std.proofs.lemmas.Bool.{eqb-true, eq-eqb, or_left, or_right, or_cases}
-use Rattle.std.proofs.lemmas.List.{map-append, take_more}
+use Rattle.std.proofs.lemmas.List.{map-append, take_more, take-append-drop}
 use Rattle.flow_model.specs.Constraint as model
 use Rattle.flow_model.specs.Constraint.{Constraint, all_of}
 use Rattle.flow_model.specs.Folding.{named_events}
@@ -116,22 +116,41 @@ event_noted events i event old next new inside is so_far noted =
 
 -- and of a list of rules
 
-abbrev named_in : List Rule → List ℕ
+abbrev pub named_in : List Rule → List ℕ
 named_in rules = joined (map named_events (rules_of rules))
+
+pub named_in-append : (xs ys : List Rule) → named_in (xs ++ ys) ≡ named_in xs ++ named_in ys
+named_in-append xs ys =
+    ap (λ list. joined (map named_events list)) (map-append rule_of xs ys)
+    ∙ ap joined (map-append named_events (rules_of xs) (rules_of ys))
+    ∙ joined-append (map named_events (rules_of xs)) (map named_events (rules_of ys))
+
+pub named_in-more : (rules : List Rule) (i : ℕ) (r : Rule) → i < length rules → r ≡ get_or rules i r →
+    named_in (take (i + 1) rules) ≡ named_in (take i rules) ++ named_events (rule_of r)
+named_in-more rules i r inside is =
+    ap named_in (take_more rules i r inside ∙ ap (λ (x : Rule). take i rules ++ x ∷ []) (sym is))
+    ∙ named_in-append (take i rules) (r ∷ [])
+    ∙ ap (λ list. named_in (take i rules) ++ list) (append-nil (named_events (rule_of r)))
 
 pub rule_noted : (rules : List Rule) (i : ℕ) (r : Rule) (old next new : NamedEvents) → i < length rules → r ≡ get_or rules i r →
     Notes (joined (map named_events (rules_of (take i rules)))) old next → Notes (named_events (rule_of r)) next new →
     Notes (joined (map named_events (rules_of (take (i + 1) rules)))) old new
 rule_noted rules i r old next new inside is so_far noted =
-    subst (λ list. Notes list old new) (sym more) (noted_more (named_in (take i rules)) (named_events (rule_of r)) old next new so_far noted)
-  where
-    more : named_in (take (i + 1) rules) ≡ named_in (take i rules) ++ named_events (rule_of r)
-    more =
-        ap named_in (take_more rules i r inside ∙ ap (λ (x : Rule). take i rules ++ x ∷ []) (sym is))
-        ∙ ap (λ list. joined (map named_events list)) (map-append rule_of (take i rules) (r ∷ []))
-        ∙ ap joined (map-append named_events (rules_of (take i rules)) (rule_of r ∷ []))
-        ∙ joined-append (map named_events (rules_of (take i rules))) (named_events (rule_of r) ∷ [])
-        ∙ ap (λ list. named_in (take i rules) ++ list) (append-nil (named_events (rule_of r)))
+    subst (λ list. Notes list old new) (sym (named_in-more rules i r inside is)) (noted_more (named_in (take i rules)) (named_events (rule_of r)) old next new so_far noted)
+
+-- whether an event is among them, rule by rule
+
+pub not_yet : (rules : List Rule) (i : ℕ) (r : Rule) (event : ℕ) → i < length rules → r ≡ get_or rules i r →
+    ¬ (event ∈ named_in (take i rules)) → ¬ (event ∈ named_events (rule_of r)) → ¬ (event ∈ named_in (take (i + 1) rules))
+not_yet rules i r event inside is none other m =
+    ⊎_elim none other (mem-append event (named_in (take i rules)) (named_events (rule_of r)) (subst (λ list. event ∈ list) (named_in-more rules i r inside is) m))
+
+pub named_by_one : (rules : List Rule) (i : ℕ) (r : Rule) (event : ℕ) → i < length rules → r ≡ get_or rules i r →
+    event ∈ named_events (rule_of r) → event ∈ named_in rules
+named_by_one rules i r event inside is m =
+    let here = subst (λ list. event ∈ list) (sym (named_in-more rules i r inside is)) (mem_append_right event (named_in (take i rules)) (named_events (rule_of r)) m) in
+    let all = ap named_in (sym (take-append-drop (i + 1) rules)) ∙ named_in-append (take (i + 1) rules) (drop (i + 1) rules) in
+    subst (λ list. event ∈ list) (sym all) (mem_append_left event (named_in (take (i + 1) rules)) (named_in (drop (i + 1) rules)) here)
 
 -- What is found where nothing was noted before
 

@@ -4,6 +4,7 @@
 
 mod label;
 mod named_events;
+mod names;
 mod numbered;
 mod refusal;
 mod rule;
@@ -13,6 +14,7 @@ mod workflow;
 
 pub use label::{push_fact_after, push_label, push_leaf_label};
 pub use named_events::events_of;
+pub use names::names_event;
 pub use numbered::{Key, Numbered};
 pub use refusal::{ExpandRefusal, Part};
 pub use rule::Rule;

@@ -4,4 +4,4 @@ use Rattle.flow_model.specs.Lists.{Each}
 use Rattle.flow_plan.proofs.steps.first_lacking.Given as goal
 
 abbrev pub invariant-loop-leaf : goal.invariant-loop-leaf
-invariant-loop-leaf l = Each (λ n. IsTrue (has_leaf l.set n)) (take l.leaf-index l.list)
+invariant-loop-leaf g l = Each (λ n. IsTrue (has_leaf l.set n)) (take l.leaf-index l.list)

@@ -1,18 +1,12 @@
 use Rattle.std.proofs.Common.{◌≤◌, ◌+◌, true≢false, length, sym, ◌∙◌, subst, arith}
-use Rattle.flow_model.proofs.Lists.{mem-slice_get, each_member}
-use Rattle.flow_plan.specs.Options.{options_of, option_of, HasSmallLeaves}
+use Rattle.flow_plan.specs.Courses.{IsCourse}
+use Rattle.flow_plan.specs.Options.{options_of, option_of}
+use Rattle.flow_plan.specs.Planned.{Planned}
+use Rattle.flow_residual.specs.Telling.{IsOrderedOption}
 use Rattle.flow_residual.proofs.OptionLemmas.{length-options, none_found}
 use Rattle.flow_trace.specs.Fronts.{Finishes, AreReachingBelow}
-use Rattle.flow_trace.proofs.FrontLemmas.{option_read, reaching_more, reaching_all, reaching_whole, some_whole}
+use Rattle.flow_trace.proofs.FrontLemmas.{option_read, plan_read, reaching_more, reaching_all, reaching_whole, some_whole}
 use Rattle.flow_trace.proofs.follow.follow_each.Goals as goal
-
-pub follow-reached-requires-clause-small : goal.follow-reached-requires-clause-small
-follow-reached-requires-clause-small c =
-    let os = options_of c.args.plans.now in
-    let i = c.loop-plan.plan-index in
-    let o = option_of c.plan.result.now in
-    let at = option_read c.args.plans.now i c.plan-item.result c.plan.result.now c.loop-plan-test.true c.plan-item.is c.plan.ensures in
-    each_member HasSmallLeaves os c.requires.small o (mem-slice_get os i o at)
 
 pub returns-then-is_whole-clause-reaching : goal.returns-then-is_whole-clause-reaching
 returns-then-is_whole-clause-reaching c =
@@ -53,10 +47,8 @@ returns-clause-whole c =
     let past : length os ≤ c.loop-plan.plan-index = omega (arith, c.loop-plan-test.false, length-options c.args.plans.now) in
     none_found (Finishes c.args.leaves.now) os c.loop-plan.plan-index past c.loop-plan.invariant.none_whole
 
-pub follow-reached-requires-clause-along : goal.follow-reached-requires-clause-along
-follow-reached-requires-clause-along c =
-    let os = options_of c.args.plans.now in
-    let i = c.loop-plan.plan-index in
-    let o = option_of c.plan.result.now in
-    let at = option_read c.args.plans.now i c.plan-item.result c.plan.result.now c.loop-plan-test.true c.plan-item.is c.plan.ensures in
-    c.requires.along o (mem-slice_get os i o at)
+pub follow-reached-requires : goal.follow-reached-requires
+follow-reached-requires c ordered =
+    let s = c.plan-item.result in
+    subst (λ (p : Planned). IsCourse p c.args.leaves.now c.args.course.now) (sym c.plan.ensures)
+    (c.requires s (plan_read c.args.plans.now c.loop-plan.plan-index s c.loop-plan-test.true c.plan-item.is) (subst (λ (p : Planned). IsOrderedOption (option_of p)) c.plan.ensures ordered))

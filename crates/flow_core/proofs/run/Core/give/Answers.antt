@@ -52,11 +52,11 @@ invariant_of-self c =
     (λ going room. rw c.give-attempt.ensures.value (kept_took i c.self.invariant going room c.args.by c.args.leaf c.args.event c.next_claim-claim.result number at can))
 
 -- the claim given last, and what the gate is asked for it
-last_call : (i i' : Inside) → IsRunning i → IsRunning i' → (leaf event attempt : ℕ) (noted : Note) →
-    i'.claims ≡ record i.claims { claims = i.claims.claims ++ record { number = length i.claims.claims + 1; leaf = leaf; epoch = i.claims.epoch; answered = false } ∷ []; events = i.claims.events ++ event ∷ [] } →
+last_call : (i i' : Inside) → IsRunning i → IsRunning i' → (leaf event by attempt : ℕ) (noted : Note) →
+    i'.claims ≡ record i.claims { claims = i.claims.claims ++ record { number = length i.claims.claims + 1; leaf = leaf; epoch = i.claims.epoch; answered = false } ∷ []; events = i.claims.events ++ event ∷ []; takers = i.claims.takers ++ by ∷ [] } →
     event_at i'.workflow.tree.labels leaf ≡ Some event → attempt ≡ count_of event i.claims.events + 1 → slice_get i'.workflow.notes event ≡ Some noted →
     record { claim = length i.claims.claims + 1; leaf = leaf; event = event; attempt = attempt; note = noted } ≡ call_of (schema (run_by i')) (now (run_by i')) (length i.claims.claims + 1)
-last_call i i' k k' leaf event attempt noted is at tries note_is =
+last_call i i' k k' leaf event by attempt noted is at tries note_is =
     let old : Claimed = i.claims in
     let one : Claim = record { number = length old.claims + 1; leaf = leaf; epoch = old.epoch; answered = false } in
     let n : ℕ = length old.claims + 1 in
@@ -85,5 +85,5 @@ returns-clause-call c =
     sym (ap (λ (ns : List Note). slice_get ns c.args.event) c.notes.ensures.notes) ∙ slice_get-get_or c.notes.result.now c.args.event note.Done (omega arith) in
     let next = next_of i c.self.invariant c.args.self.now c.self.view_is in
     ap (λ n. record { claim = n; leaf = c.args.leaf; event = c.args.event; attempt = c.give-attempt.result; note = noted }) (c.next_claim-claim.ensures ∙ next)
-    ∙ last_call i _ c.self.invariant (invariant_of-self c) c.args.leaf c.args.event c.give-attempt.result noted c.give-attempt.ensures.value at c.give-attempt.ensures.attempt note_is
+    ∙ last_call i _ c.self.invariant (invariant_of-self c) c.args.leaf c.args.event c.args.by c.give-attempt.result noted c.give-attempt.ensures.value at c.give-attempt.ensures.attempt note_is
     ∙ ap (call_of (schema_of i.workflow) after) (sym next) ∙ ap (λ (r : Run). call_of (schema r) after (next_claim c.args.self.now)) c.self.view_is

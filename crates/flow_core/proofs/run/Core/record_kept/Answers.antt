@@ -14,4 +14,4 @@ invariant_of-self c =
     let current = rw (← c.self.view_is) at c.requires.current in
     let needed = rw (← c.self.view_is) at c.requires.needed in
     entered i c.self.invariant c.args.self.now c.self.view_is _ c.args.by (Failed c.args.claim Kept) refl refl c.enter.ensures.unlooked c.enter.ensures.items c.enter.ensures.capacity c.requires.open c.requires.steps
-    (λ going room. rw c.answer.ensures (kept_answered i c.self.invariant going room c.args.by (Failed c.args.claim Kept) c.args.claim (current, needed) refl))
+    (λ going room. rw c.answer.ensures (kept_answered i c.self.invariant going room c.args.by (Failed c.args.claim Kept) c.args.claim (current, needed) refl refl))

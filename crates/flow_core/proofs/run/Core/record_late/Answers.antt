@@ -19,4 +19,4 @@ invariant_of-self c =
     let i = c.self.inside in
     let lapsed = rw (← c.self.view_is) at c.requires.lapsed in
     entered i c.self.invariant c.args.self.now c.self.view_is _ c.args.by (Late c.args.claim) refl refl c.enter.ensures.unlooked c.enter.ensures.items c.enter.ensures.capacity c.requires.open c.requires.steps
-    (λ going room. rw c.answer.ensures (kept_answered i c.self.invariant going room c.args.by (Late c.args.claim) c.args.claim lapsed refl))
+    (λ going room. rw c.answer.ensures (kept_answered i c.self.invariant going room c.args.by (Late c.args.claim) c.args.claim lapsed refl refl))

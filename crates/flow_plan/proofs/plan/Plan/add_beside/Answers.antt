@@ -3,10 +3,10 @@ use Rattle.flow_plan.proofs.Readiness.{kept_in}
 use Rattle.flow_plan.proofs.plan.Plan.add_beside.Goals as goal
 
 pub returns-in-Narrow : goal.returns-in-Narrow
-returns-in-Narrow c = c.add_beside.ensures c.args.self.now (kept_in c.self.inside.rows (Narrow c.in-Narrow.table) c.self.invariant.kept c.self.view_is c.in-Narrow.is)
+returns-in-Narrow g c = c.add_beside.ensures c.args.self.now (kept_in c.self.inside.rows (Narrow c.in-Narrow.table) c.self.invariant.kept c.self.view_is c.in-Narrow.is)
 
 pub returns-in-Middle : goal.returns-in-Middle
-returns-in-Middle c = c.add_beside-in-Middle.ensures c.args.self.now (kept_in c.self.inside.rows (Middle c.in-Middle.table) c.self.invariant.kept c.self.view_is c.in-Middle.is)
+returns-in-Middle g c = c.add_beside-in-Middle.ensures c.args.self.now (kept_in c.self.inside.rows (Middle c.in-Middle.table) c.self.invariant.kept c.self.view_is c.in-Middle.is)
 
 pub returns-in-Wide : goal.returns-in-Wide
-returns-in-Wide c = c.add_beside-in-Wide.ensures c.args.self.now (kept_in c.self.inside.rows (Wide c.in-Wide.table) c.self.invariant.kept c.self.view_is c.in-Wide.is)
+returns-in-Wide g c = c.add_beside-in-Wide.ensures c.args.self.now (kept_in c.self.inside.rows (Wide c.in-Wide.table) c.self.invariant.kept c.self.view_is c.in-Wide.is)

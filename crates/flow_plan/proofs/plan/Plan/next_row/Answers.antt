@@ -1,68 +1,8 @@
-use Rattle.std.proofs.Common.{arith, sym}
-use Rattle.leaf_rows.specs.Leaves.{has_leaf}
-use Rattle.flow_plan.specs.Orders.{MayComeNext}
-use Rattle.flow_plan.specs.Sided.{IsDoneIn}
-use Rattle.flow_plan.specs.declared.table.Rows.TheVariants.{Narrow, Middle, Wide}
-use Rattle.flow_plan.proofs.Cuts.{cut_tells, middle_fits, narrow_fits, wide_fits, wide_row}
-use Rattle.flow_plan.proofs.Readiness.{kept_in, table_filled}
+use Rattle.std.proofs.Common.{◌<◌, subst}
+use Rattle.flow_model.specs.declared.limits.TheConstants.{MOST_LEAVES}
+use Rattle.flow_model.specs.Lists.{Each}
+use Rattle.flow_plan.specs.Planned.{Planned}
 use Rattle.flow_plan.proofs.plan.Plan.next_row.Goals as goal
 
-pub next_row-requires : goal.next_row-requires
-next_row-requires c = (
-  omega arith,
-  (
-    omega arith,
-    (
-      omega arith,
-      table_filled c.in-Narrow.table c.leaves.result.now (kept_in c.self.inside.rows (Narrow c.in-Narrow.table) c.self.invariant.kept c.self.view_is c.in-Narrow.is)
-          c.leaves.ensures.rising c.leaves.ensures.leaves,
-    ),
-  ),
-)
-
-pub returns-in-Narrow : goal.returns-in-Narrow
-returns-in-Narrow c =
-    let table = kept_in c.self.inside.rows (Narrow c.in-Narrow.table) c.self.invariant.kept c.self.view_is c.in-Narrow.is in
-    wide_row (MayComeNext c.args.self.now (IsDoneIn c.args.sides.now)) c.next_row.result c.resized.result narrow_fits c.resized.ensures
-    (c.next_row.ensures c.args.self.now table (sym c.leaves.ensures.leaves) (has_leaf c.args.sides.now.done)
-    (cut_tells c.args.self.now c.in-Narrow.table table c.args.sides.now c.cut.result c.requires c.cut.ensures))
-
-pub next_row-requires-in-Middle : goal.next_row-requires-in-Middle
-next_row-requires-in-Middle c = (
-  omega arith,
-  (
-    omega arith,
-    (
-      omega arith,
-      table_filled c.in-Middle.table c.leaves-in-Middle.result.now (kept_in c.self.inside.rows (Middle c.in-Middle.table) c.self.invariant.kept c.self.view_is c.in-Middle.is)
-          c.leaves-in-Middle.ensures.rising c.leaves-in-Middle.ensures.leaves,
-    ),
-  ),
-)
-
-pub returns-in-Middle : goal.returns-in-Middle
-returns-in-Middle c =
-    let table = kept_in c.self.inside.rows (Middle c.in-Middle.table) c.self.invariant.kept c.self.view_is c.in-Middle.is in
-    wide_row (MayComeNext c.args.self.now (IsDoneIn c.args.sides.now)) c.next_row-in-Middle.result c.resized-in-Middle.result middle_fits c.resized-in-Middle.ensures
-    (c.next_row-in-Middle.ensures c.args.self.now table (sym c.leaves-in-Middle.ensures.leaves) (has_leaf c.args.sides.now.done)
-    (cut_tells c.args.self.now c.in-Middle.table table c.args.sides.now c.cut-in-Middle.result c.requires c.cut-in-Middle.ensures))
-
-pub next_row-requires-in-Wide : goal.next_row-requires-in-Wide
-next_row-requires-in-Wide c = (
-  omega arith,
-  (
-    omega arith,
-    (
-      omega arith,
-      table_filled c.in-Wide.table c.leaves-in-Wide.result.now (kept_in c.self.inside.rows (Wide c.in-Wide.table) c.self.invariant.kept c.self.view_is c.in-Wide.is)
-          c.leaves-in-Wide.ensures.rising c.leaves-in-Wide.ensures.leaves,
-    ),
-  ),
-)
-
-pub returns-in-Wide : goal.returns-in-Wide
-returns-in-Wide c =
-    let table = kept_in c.self.inside.rows (Wide c.in-Wide.table) c.self.invariant.kept c.self.view_is c.in-Wide.is in
-    wide_row (MayComeNext c.args.self.now (IsDoneIn c.args.sides.now)) c.next_row-in-Wide.result c.resized-in-Wide.result wide_fits c.resized-in-Wide.ensures
-    (c.next_row-in-Wide.ensures c.args.self.now table (sym c.leaves-in-Wide.ensures.leaves) (has_leaf c.args.sides.now.done)
-    (cut_tells c.args.self.now c.in-Wide.table table c.args.sides.now c.cut-in-Wide.result c.requires c.cut-in-Wide.ensures))
+pub returns : goal.returns
+returns c = c.next_row_in.ensures.whole (subst (λ (p : Planned). Each (λ n. n < MOST_LEAVES) p.leaves) c.self.view_is c.self.invariant.small)

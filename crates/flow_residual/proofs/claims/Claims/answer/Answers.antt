@@ -69,7 +69,7 @@ invariant_of-self c =
     let same = length-set i.given.items place (answered g) in
     record {
       kept = rw (c.remove.ensures.items, c.remove-in-Some.ensures.items)
-          (kept_answer i.given.items i.current.items i.leaves.items i.attempts.items i.epoch c.self.invariant.kept place g at c.in-Some.index is);
+          (kept_answer i.given.items i.current.items i.leaves.items i.last.items i.epoch c.self.invariant.kept place g at c.in-Some.index is);
       few = omega arith;
       room = c.self.invariant.room;
       current_room = omega (arith, c.remove.ensures.capacity, c.self.invariant.current_room);
@@ -88,7 +88,7 @@ invariant_of-self-in_default c =
     let few = c.self.invariant.few in
     let same = length-set i.given.items place (answered g) in
     record {
-      kept = kept_late i.given.items i.current.items i.leaves.items i.attempts.items i.epoch c.self.invariant.kept place g at is;
+      kept = kept_late i.given.items i.current.items i.leaves.items i.last.items i.epoch c.self.invariant.kept place g at is;
       few = omega arith;
       room = c.self.invariant.room;
       current_room = c.self.invariant.current_room;
@@ -96,13 +96,13 @@ invariant_of-self-in_default c =
     }
 
 new_value : (i : Inside) (v : Claimed) (number : ℕ) (g : Given) → claimed_by i ≡ v → IsUnanswered (run_of v) number → g ≡ get_or i.given.items (number - 1) g →
-    claimed (set i.given.items (number - 1) (answered g)) i.epoch (vec_capacity i.given) (length i.attempts.items) ≡ record v { claims = answer number v.claims }
+    claimed (set i.given.items (number - 1) (answered g)) i.epoch (vec_capacity i.given) (length i.last.items) ≡ record v { claims = answer number v.claims }
 new_value i v number g view h is =
     let t = there_in i v number view h in
     let number_is = t.number_is in
     let n : number ≡ 1 + (number - 1) = omega arith in
-    subst (λ (v : Claimed). claimed (set i.given.items (number - 1) (answered g)) i.epoch (vec_capacity i.given) (length i.attempts.items) ≡ record v { claims = answer number v.claims }) view
-    (answered_value i.given.items i.epoch (vec_capacity i.given) (length i.attempts.items) number (number - 1) g n (read_in i.given.items number g t is))
+    subst (λ (v : Claimed). claimed (set i.given.items (number - 1) (answered g)) i.epoch (vec_capacity i.given) (length i.last.items) ≡ record v { claims = answer number v.claims }) view
+    (answered_value i.given.items i.epoch (vec_capacity i.given) (length i.last.items) number (number - 1) g n (read_in i.given.items number g t is))
 
 pub returns-in-Some : goal.returns-in-Some
 returns-in-Some c = new_value c.self.inside c.args.self.now c.args.claim c.index_mut.result.now c.self.view_is c.requires c.index_mut.ensures.value

@@ -17,5 +17,5 @@ returns c =
     let i = c.self.inside in
     let n : c.args.claim ≡ 1 + (c.args.claim - 1) = omega arith in
     subst (λ (v : Claimed). MatchOption c.at.result (claim_at (run_of v) c.args.claim ≡ None) (IsGivenAt v c.args.claim)) c.self.view_is
-    (found_claim i.given.items i.epoch (vec_capacity i.given) (length i.attempts.items) c.self.invariant.kept.counted c.args.claim (c.args.claim - 1) n c.at.result
+    (found_claim i.given.items i.epoch (vec_capacity i.given) (length i.last.items) c.self.invariant.kept.counted c.args.claim (c.args.claim - 1) n c.at.result
     (c.at.ensures ∙ ap (λ l. slice_get l (c.args.claim - 1)) c.deref.ensures.value))

@@ -24,9 +24,9 @@ cut_is v was new cut bits kept lent same cut_to stay =
     cut_to ∙ ap (take kept) (with_items_is v new (same ∙ ap length lent ∙ sym v.ok.0)) ∙ stay ∙ ap (picked bits) lent
 
 -- what a vector that was lent has when its claims are renewed at the places that stay
-given_is : {Z : Type 0} (v : Vec Given Z) (was new : List Given) (current leaves attempts places : List ℕ) (e : ℕ) (bits : List Bool) → IsKept v.items current leaves attempts e →
+given_is : {Z : Type 0} (v : Vec Given Z) (was new : List Given) (current leaves last places : List ℕ) (e : ℕ) (bits : List Bool) → IsKept v.items current leaves last e →
     was ≡ v.items → places ≡ picked bits current → new ≡ renewed_at (e + 1) places was → (with_items v new).items ≡ renew e bits v.items
-given_is v was new current leaves attempts places e bits k lent stay is =
+given_is v was new current leaves last places e bits k lent stay is =
     let renewed = renewed_is e bits v.items was new current places lent k.current_are stay is in
     with_items_is v new (ap length renewed ∙ length-renew e bits v.items ∙ sym v.ok.0) ∙ renewed
 
@@ -56,7 +56,7 @@ invariant_of-self c =
     cut_is i.leaves c.deref_mut-2.result.now c.thin-kept.new.leaves c.truncate-2.new.self.items bits c.thin-kept.result c.deref_mut-2.ensures.value c.thin-kept.auto.leaves c.truncate-2.ensures.items
     c.thin-kept.ensures.leaves_are in
     let is : new ≡ renew i.epoch bits i.given.items =
-    given_is i.given c.deref_mut-3.result.now c.renew.new.given i.current.items i.leaves.items i.attempts.items c.deref.result.now i.epoch bits k c.deref_mut-3.ensures.value
+    given_is i.given c.deref_mut-3.result.now c.renew.new.given i.current.items i.leaves.items i.last.items c.deref.result.now i.epoch bits k c.deref_mut-3.ensures.value
     (c.deref.ensures.value ∙ current) c.renew.ensures in
     let same : length new ≡ length i.given.items = ap length is ∙ length-renew i.epoch bits i.given.items in
     let few = c.self.invariant.few in
@@ -65,7 +65,7 @@ invariant_of-self c =
     let current_room = c.self.invariant.current_room in
     let leaves_room = c.self.invariant.leaves_room in
     record {
-      kept = kept_renewed i.given.items new i.current.items c.truncate.new.self.items i.leaves.items c.truncate-2.new.self.items i.attempts.items i.epoch bits k is current leaves;
+      kept = kept_renewed i.given.items new i.current.items c.truncate.new.self.items i.leaves.items c.truncate-2.new.self.items i.last.items i.epoch bits k is current leaves;
       few = omega arith;
       room = c.self.invariant.room;
       current_room = omega arith;
@@ -82,7 +82,7 @@ returns-clause-claims c w s claims epoch of =
     cut_is i.current c.deref_mut.result.now c.thin-kept.new.places c.truncate.new.self.items bits c.thin-kept.result c.deref_mut.ensures.value c.thin-kept.auto.places c.truncate.ensures.items
     c.thin-kept.ensures.places_are in
     let is : new ≡ renew i.epoch bits i.given.items =
-    given_is i.given c.deref_mut-3.result.now c.renew.new.given i.current.items i.leaves.items i.attempts.items c.deref.result.now i.epoch bits k c.deref_mut-3.ensures.value
+    given_is i.given c.deref_mut-3.result.now c.renew.new.given i.current.items i.leaves.items i.last.items c.deref.result.now i.epoch bits k c.deref_mut-3.ensures.value
     (c.deref.ensures.value ∙ current) c.renew.ensures in
     spared_claims w s i.given.items new i.epoch i.leaves.items c.deref_mut-2.result.now bits (claims ∙ ap (λ (v : Claimed). v.claims) (sym c.self.view_is))
     (epoch ∙ ap (λ (v : Claimed). v.epoch) (sym c.self.view_is)) k.leaves_are c.deref_mut-2.ensures.value (c.thin-kept.ensures.spared w s of) is
@@ -96,7 +96,7 @@ returns-clause-others c =
     cut_is i.current c.deref_mut.result.now c.thin-kept.new.places c.truncate.new.self.items bits c.thin-kept.result c.deref_mut.ensures.value c.thin-kept.auto.places c.truncate.ensures.items
     c.thin-kept.ensures.places_are in
     let is : new ≡ renew i.epoch bits i.given.items =
-    given_is i.given c.deref_mut-3.result.now c.renew.new.given i.current.items i.leaves.items i.attempts.items c.deref.result.now i.epoch bits c.self.invariant.kept c.deref_mut-3.ensures.value
+    given_is i.given c.deref_mut-3.result.now c.renew.new.given i.current.items i.leaves.items i.last.items c.deref.result.now i.epoch bits c.self.invariant.kept c.deref_mut-3.ensures.value
     (c.deref.ensures.value ∙ current) c.renew.ensures in
-    subst (λ (v : Claimed). claimed new (i.epoch + 1) (vec_capacity i.given) (length i.attempts.items) ≡ record v { claims = claims_from 1 new; epoch = v.epoch + 1 }) c.self.view_is
-    (renewed_value i.given.items new i.epoch (vec_capacity i.given) (length i.attempts.items) bits is)
+    subst (λ (v : Claimed). claimed new (i.epoch + 1) (vec_capacity i.given) (length i.last.items) ≡ record v { claims = claims_from 1 new; epoch = v.epoch + 1 }) c.self.view_is
+    (renewed_value i.given.items new i.epoch (vec_capacity i.given) (length i.last.items) bits is)
