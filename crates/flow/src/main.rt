@@ -1,6 +1,7 @@
-//! `flow` on the standard streams, in eight modes. Of a workflow that is read `check` says whether its constraints
+//! `flow` on the standard streams, in nine modes. Of a workflow that is read `check` says whether its constraints
 //! can be met, `verify` whether a property holds in all its executions, and `trace` whether a journal is one of
-//! them, as `audit` says of many; `drive` drives it by a session, and `run` lets workers run it, whose tasks end as their events announce.
+//! them, as `audit` says of many; `drive` drives it by a session, `duty` by one of users who may take what a policy allows, and `run`
+//! lets workers run it, whose tasks end as their events announce.
 //! `gen` writes a generated workflow, and `large` lets workers run one.
 #![tactic(auto)]
 

@@ -1,4 +1,5 @@
 pub mod Refusals
+pub mod Duties
 pub mod Runs
 pub mod Queries
 pub mod Outcomes

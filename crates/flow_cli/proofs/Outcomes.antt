@@ -1,5 +1,5 @@
 -- What is written of a source, and what becomes of it.
-use Rattle.std.proofs.Common.{◌≡◌, ◌≢◌, ◌<◌, ◌≤◌, ℕ, Bool, List, [], ◌∷◌, length, Option, None, Some, Result, Ok, Err, sym, subst, inl, inr, arith, refl, ◌+◌, ◌∙◌}
+use Rattle.std.proofs.Common.{◌≡◌, ◌≢◌, ◌<◌, ◌≤◌, ℕ, Bool, List, [], ◌∷◌, length, Option, None, Some, Result, Ok, Err, sym, subst, inl, inr, arith, refl, ◌+◌, ◌∙◌, ap}
 use Rattle.std.specs.declared.alloc.AllocError.{AllocError}
 use Rattle.std.specs.Prelude.{◌↔◌, IfOk}
 use Rattle.flow_model.specs.declared.history.Call.{Call}
@@ -9,6 +9,8 @@ use Rattle.flow_model.specs.declared.limits.TheConstants.{GREATEST_INPUT}
 use Rattle.flow_form.specs.declared.refusal.TextRefusal.{TextRefusal}
 use Rattle.flow_form.specs.Script.{Said}
 use Rattle.flow_form.specs.Names.{event_names}
+use Rattle.std.proofs.lemmas.List.{length-drop}
+use Rattle.flow_record.specs.Cut.{cut_of}
 use Rattle.flow_io.specs.Source.{LosesCount}
 use Rattle.flow_trace.specs.declared.checked.Checked.{Checked}
 use Rattle.flow_trace.specs.declared.checked.Checked.TheVariants.{Execution}
@@ -91,6 +93,10 @@ module _ (IsWritten : Status → List ℕ → Type 0) (left : Option (List ℕ))
   }
 
 -- ---- what is written of a source
+
+-- the second part of an input is not too long
+pub second_short : (left : Option (List ℕ)) (said : Said) (second : List ℕ) → IsInputOf left said second → length second ≤ GREATEST_INPUT
+second_short left said second (input, gives, is) = omega (arith, is.short, ap length is.second_is, length-drop (cut_of input).1 input)
 
 -- what comes of what is said is of the input
 pub came_of_input : (mode : Mode) (gives : Call → Outcome → Bool) (request : Request) (said : Said) (text : List ℕ) (came : Result Finding Refused) →

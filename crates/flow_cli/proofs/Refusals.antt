@@ -20,19 +20,22 @@ use Rattle.flow_text.specs.Saying.{Asks}
 use Rattle.flow_record.specs.Session.{session_of, commands}
 use Rattle.flow_record.specs.Journal.{journal_of, journal}
 use Rattle.flow_record.specs.declared.refusal.RecordRefusal.TheVariants.{BadLine, Label, NoMemory}
+use Rattle.flow_policy.specs.Assigned.{Assigned}
+use Rattle.flow_policy.specs.Policy.{IsPolicyOf}
+use Rattle.flow_policy.specs.Session.{duties_of}
 use Rattle.flow_gen.specs.Generated.{generated}
 use Rattle.flow_gen.specs.Laws.{CompilingIsNotRefused}
 use Rattle.flow_findings.specs.declared.refused.Refused.{Refused}
 use Rattle.flow_findings.specs.declared.refused.Refused.TheVariants as refused
 use Rattle.flow_findings.specs.Refusing.{IsOfOptions, IsTold}
 use Rattle.flow_words.specs.declared.request.Mode.{Mode}
-use Rattle.flow_words.specs.declared.request.Mode.TheVariants.{Drive, Run, Check, Verify, Trace, Gen, Large, Audit}
+use Rattle.flow_words.specs.declared.request.Mode.TheVariants.{Drive, Run, Check, Verify, Trace, Gen, Large, Duty, Audit}
 use Rattle.flow_words.specs.declared.request.Request.{Request}
 use Rattle.flow_front.specs.declared.stop.Stop.{Stop}
 use Rattle.flow_front.specs.declared.stop.Stop.TheVariants as stop
 use Rattle.flow_front.specs.Status.{status_of, status_of_compiling}
 use Rattle.flow_front.specs.Stop.{IsStop}
-use Rattle.flow_front.specs.Refusal.{the_session, the_query, the_journals, the_script, the_journal, the_index, the_workflow, the_question, IsCause, IsOfCounts}
+use Rattle.flow_front.specs.Refusal.{the_session, the_query, the_policy, the_duties, the_journals, the_script, the_journal, the_index, the_workflow, the_question, IsCause, IsOfCounts}
 use Rattle.flow_front.specs.Stages.{Then, Prepares}
 use Rattle.flow_front.proofs.Stages.{each_refusal, no_refusal}
 use Rattle.flow_cli.specs.Finding.{Finding, consistent, driven, ran, traced, audited, verified, tried}
@@ -42,6 +45,7 @@ use Rattle.flow_cli.specs.Run.{RunsWorkflow, RunsSaid}
 use Rattle.flow_cli.specs.Trace.{FindsOfLeaves, TracesLeaves, TracesWorkflow, TracesText}
 use Rattle.flow_cli.specs.Verify.{VerifiesProperty, TriesConstraint, VerifiesConstraint, VerifiesWorkflow, VerifiesSaid, VerifiesText}
 use Rattle.flow_cli.specs.Audit.{HasJournals, FindsOfJournals, AuditsSaid, AuditsText}
+use Rattle.flow_cli.specs.Duty.{policy_part, session_part, DrivesUsers, DutySaid, DutyLines, DutyText}
 use Rattle.flow_cli.specs.Output.{Finds, IsOfInput}
 
 of_compiling : (r : CompileRefusal) → IsOfInput (status_of_compiling r)
@@ -65,6 +69,14 @@ module _ (s : Said) where
   query_later : (said : Said) (text : List ℕ) (why : Refused) → IsCause (the_query said text) why → IsLater s why
   query_later said text (refused.Query refusal) h = (h.0, tt)
   query_later said text why h = absurd h
+
+  policy_later : (said : Said) (text : List ℕ) (why : Refused) → IsCause (the_policy said text) why → IsLater s why
+  policy_later said text (refused.Policy refusal) h = (h.0, tt)
+  policy_later said text why h = absurd h
+
+  duties_later : (text : List ℕ) (why : Refused) → IsCause (the_duties text) why → IsLater s why
+  duties_later text (refused.Record (BadLine line)) h = (tt, tt)
+  duties_later text why h = absurd h
 
   journals_later : (text : List ℕ) (why : Refused) → IsCause (the_journals text) why → IsLater s why
   journals_later text (refused.Journals count) h = (tt, tt)
@@ -118,6 +130,15 @@ module _ (s : Said) where
   audits_later text = each_refusal (the_journals text) (HasJournals text) (AuditsSaid s text) (IsLater s) (journals_later text)
       (λ cuts why is. prepares_later (λ w c. FindsOfJournals w text cuts) (λ w c why (found, are, none). no_refusal (IsLater s why) (audited found) why none) why)
 
+  duty_lines_later : (steps : ℕ) (text : List ℕ) (a : Assigned) (why : Refused) → DutyLines s steps text a (Err why) → IsLater s why
+  duty_lines_later steps text a = each_refusal (the_duties text) (λ session. duties_of text ≡ commands session) (DutySaid s steps a) (IsLater s) (duties_later text)
+      (λ session why is. prepares_later (λ w c. DrivesUsers w steps a session)
+      (λ w c why (d, (last, (caller, (is, none)))). no_refusal (IsLater s why) (driven d) why none) why)
+
+  duty_later : (steps : ℕ) (text : List ℕ) (why : Refused) → DutyText s steps text (Err why) → IsLater s why
+  duty_later steps text = each_refusal (the_policy s (policy_part text)) (IsPolicyOf (policy_part text) s) (DutyLines s steps (session_part text)) (IsLater s)
+      (policy_later s (policy_part text)) (λ a why is. duty_lines_later steps (session_part text) a why)
+
   property_later : (w : Definition) (property : Constraint) (why : Refused) → VerifiesProperty w property (Err why) → IsLater s why
   property_later w property = each_refusal (the_question (against (schema_of w) property))
       (λ (told : Verified). IsWithinLimits (against (schema_of w) property) × TellsOfProperty (schema_of w) property told) (λ told came. came ≡ Ok (verified w told))
@@ -147,6 +168,7 @@ finds_later Check gives request s text why h = checks_later s why h
 finds_later Verify gives request s text why h = verifies_later s text why h
 finds_later Trace gives request s text why h = traces_later s text why h
 finds_later Audit gives request s text why h = audits_later s text why h
+finds_later Duty gives request s text why h = duty_later s request.steps text why h
 finds_later Gen gives request s text why h = absurd h
 finds_later Large gives request s text why h = absurd h
 

@@ -35,7 +35,7 @@ use Rattle.flow_drive.specs.Session.{Driven, driven_text}
 pub data Finding : Type 0 where
   -- some execution of the workflow meets every constraint
   consistent : Definition → Counts → Finding
-  -- a session was driven
+  -- a session was driven, of a caller or of users
   driven : Driven → Finding
   -- workers made a run, which came to a verdict
   ran : Run → model.Verdict → Finding

@@ -6,4 +6,5 @@ pub mod Trace
 pub mod Verify
 pub mod Large
 pub mod Audit
+pub mod Duty
 pub mod Output

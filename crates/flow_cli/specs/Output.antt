@@ -8,7 +8,7 @@ use Rattle.flow_form.specs.Names.{event_names}
 use Rattle.flow_findings.specs.declared.refused.Refused.{Refused}
 use Rattle.flow_findings.specs.declared.refused.Refused.TheVariants as refused
 use Rattle.flow_words.specs.declared.request.Mode.{Mode}
-use Rattle.flow_words.specs.declared.request.Mode.TheVariants.{Drive, Run, Check, Verify, Trace, Gen, Large, Audit}
+use Rattle.flow_words.specs.declared.request.Mode.TheVariants.{Drive, Run, Check, Verify, Trace, Gen, Large, Duty, Audit}
 use Rattle.flow_words.specs.declared.request.Request.{Request}
 use Rattle.flow_words.specs.Words.{IsCall, IsNoCall}
 use Rattle.flow_front.specs.declared.status.Status.{Status}
@@ -23,6 +23,7 @@ use Rattle.flow_cli.specs.Run.{RunsSaid}
 use Rattle.flow_cli.specs.Trace.{TracesText}
 use Rattle.flow_cli.specs.Verify.{VerifiesText}
 use Rattle.flow_cli.specs.Large.{RunsGenerated}
+use Rattle.flow_cli.specs.Duty.{DutyText}
 use Rattle.flow_cli.specs.Audit.{AuditsText}
 
 -- the mode reads the source
@@ -38,6 +39,7 @@ AsksNoGate Check = Unit {0}
 AsksNoGate Verify = Unit {0}
 AsksNoGate Trace = Unit {0}
 AsksNoGate Gen = Unit {0}
+AsksNoGate Duty = Unit {0}
 AsksNoGate Audit = Unit {0}
 AsksNoGate Run = ⊥
 AsksNoGate Large = ⊥
@@ -57,6 +59,7 @@ Finds Run gives request s text came = RunsSaid gives s request.steps request.wor
 Finds Check gives request s text came = Checks s came
 Finds Verify gives request s text came = VerifiesText s text came
 Finds Trace gives request s text came = TracesText s text came
+Finds Duty gives request s text came = DutyText s request.steps text came
 Finds Audit gives request s text came = AuditsText s text came
 Finds Gen gives request s text came = ⊥
 Finds Large gives request s text came = ⊥

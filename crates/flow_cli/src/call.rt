@@ -1,7 +1,8 @@
-ghost use Rattle.std.specs.Prelude.{◌≡◌, ◌<◌, ◌-◌, ◌^◌, ◌↔◌, ◌⊎◌, ℕ, Bool, List, [], map, Some, IfOk, IfSome};
+ghost use Rattle.std.specs.Prelude.{◌≡◌, ◌<◌, ◌-◌, ◌≤◌, ◌^◌, ◌↔◌, ◌⊎◌, ℕ, Bool, List, [], length, map, Some, IfOk, IfSome};
 ghost use Rattle.std.specs.String.{string_bytes};
 ghost use Rattle.std.specs.Io.KnownBytes.{Appends};
 ghost use Rattle.flow_io.specs.Sink.{AppendsPart};
+ghost use Rattle.flow_model.specs.declared.limits.TheConstants.{GREATEST_INPUT};
 ghost use Rattle.flow_model.specs.declared.history.Call.{Call};
 ghost use Rattle.flow_model.specs.declared.history.Outcome.{Outcome};
 ghost use Rattle.flow_form.specs.Script.{said};
@@ -16,6 +17,7 @@ ghost use Rattle.flow_cli.specs.Output.{Reads, StartsNoThreads, Finds, IsTold, I
 use crate::audit::Auditors;
 use crate::check::check;
 use crate::drive::drive_text;
+use crate::duty::duty_text;
 use crate::run::Crew;
 use crate::trace::trace_text;
 use crate::verify::verify_text;
@@ -63,6 +65,7 @@ fn find(alloc: Global, request: Request, input: &Input) -> Result<Output, Stop>
     requires reads { Reads request.mode }
     requires alone { StartsNoThreads request.mode }
     requires closed { IsClosed (said input.now.script) }
+    requires short { length input.now.second.items ≤ GREATEST_INPUT }
     ensures { (gives : Call → Outcome → Bool) →
         Answers (Finds request.mode gives request (said input.now.script) input.now.second.items) result }
 {
@@ -72,6 +75,7 @@ fn find(alloc: Global, request: Request, input: &Input) -> Result<Output, Stop>
         Mode::Check => check(alloc, script),
         Mode::Verify => verify_text(alloc, script, &input.second),
         Mode::Trace => trace_text(alloc, script, &input.second),
+        Mode::Duty => duty_text(alloc, script, &input.second, request.steps),
         Mode::Run | Mode::Gen | Mode::Large | Mode::Audit => unreachable!(),
     }
 }
@@ -82,6 +86,7 @@ fn answer_input(alloc: Global, request: Request, input: &Input) -> Result<Output
     requires reads { Reads request.mode }
     requires alone { StartsNoThreads request.mode }
     requires closed { IsClosed (said input.now.script) }
+    requires short { length input.now.second.items ≤ GREATEST_INPUT }
     ensures { (gives : Call → Outcome → Bool) →
         IfOk result (λ output. IsTold (Finds request.mode gives request (said input.now.script) input.now.second.items)
         (said input.now.script) output.status output.text.items) }
@@ -144,7 +149,7 @@ pub fn answer_alone<S: Source>(
 {
     match request.mode {
         Mode::Gen => write_generated(alloc, request),
-        Mode::Drive | Mode::Check | Mode::Verify | Mode::Trace => answer_source(
+        Mode::Drive | Mode::Check | Mode::Verify | Mode::Trace | Mode::Duty => answer_source(
             alloc, request, source,
         ),
         Mode::Run | Mode::Large | Mode::Audit => unreachable!(),
@@ -169,9 +174,13 @@ fn find_by_workers<R: Threads + Wait + Sync, G: Gate>(
     match request.mode {
         Mode::Run => crew_of(rt, request, gate).run_script(alloc, script),
         Mode::Audit => auditors_of(rt, request).audit_text(alloc, script, &input.second),
-        Mode::Drive | Mode::Check | Mode::Verify | Mode::Trace | Mode::Gen | Mode::Large => {
-            unreachable!()
-        }
+        Mode::Drive
+        | Mode::Check
+        | Mode::Verify
+        | Mode::Trace
+        | Mode::Gen
+        | Mode::Large
+        | Mode::Duty => unreachable!(),
     }
 }
 
@@ -236,7 +245,7 @@ fn answer<R: Threads + Wait + Sync, S: Source, G: Gate>(
     ensures unread { ¬ (Reads request.mode) → source.new ≡ source.old }
 {
     match request.mode {
-        Mode::Drive | Mode::Check | Mode::Verify | Mode::Trace | Mode::Gen => {
+        Mode::Drive | Mode::Check | Mode::Verify | Mode::Trace | Mode::Gen | Mode::Duty => {
             answer_alone(alloc, request, source)
         }
         Mode::Run | Mode::Audit => answer_source_by_workers(rt, alloc, request, source, gate),

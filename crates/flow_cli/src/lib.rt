@@ -5,6 +5,7 @@ mod audit;
 mod call;
 mod check;
 mod drive;
+mod duty;
 mod generated;
 mod large;
 mod run;

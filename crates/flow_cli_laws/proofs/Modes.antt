@@ -15,7 +15,13 @@ use Rattle.flow_record.specs.declared.refusal.RecordRefusal.{RecordRefusal}
 use Rattle.flow_record.specs.declared.refusal.RecordRefusal.TheVariants as record_refusal
 use Rattle.flow_record.specs.declared.command.Command.{Command}
 use Rattle.flow_record.specs.Journal.{journal_of, journal}
-use Rattle.flow_record.specs.Session.{session_of, commands}
+use Rattle.flow_record.specs.Session.{SessionText, session_of, commands}
+use Rattle.flow_policy.specs.declared.duty.Duty.{Duty}
+use Rattle.flow_policy.specs.Assigned.{Assigned}
+use Rattle.flow_policy.specs.Policy.{IsPolicyOf}
+use Rattle.flow_policy.specs.Laws.{PoliciesAreSingle}
+use Rattle.flow_policy.specs.Session.{duties_of}
+use Rattle.flow_duty.specs.Single.{UserSessionsAreSingle}
 use Rattle.flow_verify.specs.declared.answers.Verified.{Verified}
 use Rattle.flow_verify.specs.declared.answers.Verified.TheVariants.{Holds, Fails}
 use Rattle.flow_verify.specs.declared.answers.Redundancy.{Redundancy}
@@ -23,12 +29,13 @@ use Rattle.flow_verify.specs.declared.answers.Redundancy.TheVariants.{Redundant,
 use Rattle.flow_verify.specs.Verification.{against, without, TellsOfProperty, TellsOfConstraint}
 use Rattle.flow_findings.specs.declared.refused.Refused.{Refused}
 use Rattle.flow_findings.specs.declared.refused.Refused.TheVariants as refused
-use Rattle.flow_front.specs.Refusal.{the_session, the_query, the_journals, the_script, the_journal, the_index, the_workflow, the_question, IsCause, IsJournalRefusal}
+use Rattle.flow_front.specs.Refusal.{the_session, the_query, the_policy, the_duties, the_journals, the_script, the_journal, the_index, the_workflow, the_question, IsCause, IsJournalRefusal}
 use Rattle.flow_cli.specs.Finding.{Finding, verified, tried}
 use Rattle.flow_cli.specs.Check.{FindsConsistent, ChecksWorkflow, Checks}
 use Rattle.flow_cli.specs.Drive.{DrivesWorkflow, DrivesSaid, DrivesText}
 use Rattle.flow_cli.specs.Trace.{FindsOfLeaves, TracesLeaves, TracesWorkflow, TracesText}
 use Rattle.flow_cli.specs.Audit.{HasJournals, FindsOfJournals, AuditsSaid, AuditsText}
+use Rattle.flow_cli.specs.Duty.{policy_part, session_part, DrivesUsers, DutySaid, DutyLines, DutyText}
 use Rattle.flow_cli.specs.Verify.{VerifiesProperty, TriesConstraint, VerifiesConstraint, VerifiesWorkflow, VerifiesSaid, VerifiesText}
 use Rattle.flow_front.specs.Prepared.{OfWorkflow}
 use Rattle.flow_front.specs.Stages.{Then}
@@ -36,8 +43,8 @@ use Rattle.flow_cli_laws.specs.Single.{IsSingle, OfQuery, ShowsChain, ShowsCircl
 use Rattle.flow_cli_laws.proofs.Agreeing.{Agree, same, wider, then_agree, of_one}
 use Rattle.flow_cli_laws.proofs.Compilations.{question_refused_once, question_not_refused, workflow_refused_alike, workflow_not_refused}
 use Rattle.flow_cli_laws.proofs.Expansions.{expanded_once, refused_alike, not_both_ways}
-use Rattle.flow_cli_laws.proofs.Once.{checks_once, traces_once, audits_once, sessions_once}
-use Rattle.flow_cli_laws.proofs.TextAnswers.{of_text, one_refusal, one_value, not_both}
+use Rattle.flow_cli_laws.proofs.Once.{checks_once, traces_once, audits_once, sessions_once, duty_sessions_once}
+use Rattle.flow_cli_laws.proofs.TextAnswers.{of_text, of_policy, one_refusal, one_value, not_both}
 
 module _ (s : Said) (once : AreDistinct (declared_names s.decls)) where
   abbrev Agrees : (List ℕ → List ℕ → Type 0) → Result Finding Refused → Result Finding Refused → Type 0
@@ -80,7 +87,7 @@ module _ (s : Said) (once : AreDistinct (declared_names s.decls)) where
   no_session text (refused.Record (record_refusal.BadLine n)) session h is = cc
   no_session text r session h is = h
 
-  one_session : (text : List ℕ) (x y : List Command) → session_of text ≡ commands x → session_of text ≡ commands y → y ≡ x
+  one_session : {A : Type 0} (text : SessionText A) (x y : List A) → text ≡ commands x → text ≡ commands y → y ≡ x
   one_session text x y is are = cc
 
   drives_once : (steps : ℕ) (session : List Command) (a b : Result Finding Refused) → DrivesSaid s steps session a → DrivesSaid s steps session b → Agrees (ShowsCause s) a b
@@ -90,8 +97,48 @@ module _ (s : Said) (once : AreDistinct (declared_names s.decls)) where
   pub drive_agrees : (steps : ℕ) (text : List ℕ) (a b : Result Finding Refused) → DrivesText s steps text a → DrivesText s steps text b → Agrees (ShowsCause s) a b
   drive_agrees steps text = then_agree (event_names s.decls) (the_session text) (λ session. session_of text ≡ commands session) (DrivesSaid s steps) (ShowsCause s)
       (λ r q h g. same (event_names s.decls) (ShowsCause s) (Err r) (Err q) (ap Err (session_refused_once text r q h g))) (no_session text)
-      (of_one (event_names s.decls) (λ session. session_of text ≡ commands session) (DrivesSaid s steps) (ShowsCause s) (one_session text)
+      (of_one (event_names s.decls) (λ session. session_of text ≡ commands session) (DrivesSaid s steps) (ShowsCause s) (one_session (session_of text))
       (λ session a b is. drives_once steps session a b))
+
+  -- ---- `duty`
+
+  module _ (policies : PoliciesAreSingle) (users : UserSessionsAreSingle) where
+    policy_refused_once : (text : List ℕ) (r q : Refused) → IsCause (the_policy s text) r → IsCause (the_policy s text) q → r ≡ q
+    policy_refused_once text (refused.Policy r) (refused.Policy q) (of, h) (are, g) =
+        ap refused.Policy (one_refusal (Err r) (Err q) r q refl refl (policies text s (Err r) (Err q) (h, of_policy r of) (g, of_policy q are)))
+    policy_refused_once text r q h g = absurd (assumption)
+
+    no_policy : (text : List ℕ) (r : Refused) (a : Assigned) → IsCause (the_policy s text) r → IsPolicyOf text s a → ⊥
+    no_policy text (refused.Policy r) a (of, h) is = not_both (Err r) (Ok a) r a refl refl (policies text s (Err r) (Ok a) (h, of_policy r of) is)
+    no_policy text r a h is = h
+
+    one_policy : (text : List ℕ) (x y : Assigned) → IsPolicyOf text s x → IsPolicyOf text s y → y ≡ x
+    one_policy text x y is are = one_value (Ok y) (Ok x) y x refl refl (policies text s (Ok y) (Ok x) are is)
+
+    duties_refused_once : (text : List ℕ) (r q : Refused) → IsCause (the_duties text) r → IsCause (the_duties text) q → r ≡ q
+    duties_refused_once text (refused.Record (record_refusal.BadLine n)) (refused.Record (record_refusal.BadLine m)) h g = cc
+    duties_refused_once text r q h g = absurd (assumption)
+
+    no_duties : (text : List ℕ) (r : Refused) (session : List Duty) → IsCause (the_duties text) r → duties_of text ≡ commands session → ⊥
+    no_duties text (refused.Record (record_refusal.BadLine n)) session h is = cc
+    no_duties text r session h is = h
+
+    module _ (steps : ℕ) (of : List ℕ) (a : Assigned) (policy : IsPolicyOf of s a) where
+      duty_said_once : (session : List Duty) (x y : Result Finding Refused) → DutySaid s steps a session x → DutySaid s steps a session y → Agrees (ShowsCause s) x y
+      duty_said_once session = said_once (λ w came. Then (the_workflow (schema_of w)) (IsCompiled (schema_of w)) (λ c. DrivesUsers w steps a session) came) ShowsCircles
+          (λ w. compiled_once w (λ c. DrivesUsers w steps a session) (λ x y p q. duty_sessions_once users w steps of s a policy session x y p.2 q.2))
+
+      duty_lines_once : (text : List ℕ) (x y : Result Finding Refused) → DutyLines s steps text a x → DutyLines s steps text a y → Agrees (ShowsCause s) x y
+      duty_lines_once text = then_agree (event_names s.decls) (the_duties text) (λ session. duties_of text ≡ commands session) (DutySaid s steps a) (ShowsCause s)
+          (λ r q h g. same (event_names s.decls) (ShowsCause s) (Err r) (Err q) (ap Err (duties_refused_once text r q h g))) (no_duties text)
+          (of_one (event_names s.decls) (λ session. duties_of text ≡ commands session) (DutySaid s steps a) (ShowsCause s) (one_session (duties_of text))
+          (λ session x y is. duty_said_once session x y))
+
+    pub duty_agrees : (steps : ℕ) (text : List ℕ) (a b : Result Finding Refused) → DutyText s steps text a → DutyText s steps text b → Agrees (ShowsCause s) a b
+    duty_agrees steps text = then_agree (event_names s.decls) (the_policy s (policy_part text)) (IsPolicyOf (policy_part text) s) (DutyLines s steps (session_part text)) (ShowsCause s)
+        (λ r q h g. same (event_names s.decls) (ShowsCause s) (Err r) (Err q) (ap Err (policy_refused_once (policy_part text) r q h g))) (no_policy (policy_part text))
+        (of_one (event_names s.decls) (IsPolicyOf (policy_part text) s) (DutyLines s steps (session_part text)) (ShowsCause s) (one_policy (policy_part text))
+        (λ a x y policy. duty_lines_once steps (policy_part text) a policy (session_part text) x y))
 
   -- ---- `trace`
 

@@ -1,5 +1,5 @@
 -- What comes of a workflow is settled.
-use Rattle.std.proofs.Common.{◌≡◌, ℕ, List, [], ◌∷◌, ◌++◌, length, codes, Ok, inl, inr, refl, sym, ap, ◌∙◌, subst}
+use Rattle.std.proofs.Common.{◌≡◌, ℕ, List, [], ◌∷◌, length, Ok, inl, inr, sym, ap, ◌∙◌}
 use Rattle.std.proofs.lemmas.List.{length-map}
 use Rattle.flow_model.specs.Folding.{folded_options}
 use Rattle.flow_model.specs.Schema.{Schema}
@@ -14,55 +14,18 @@ use Rattle.flow_trace.proofs.TraceLemmas.{tells_once}
 use Rattle.flow_audit.specs.declared.finding.Finding as audit
 use Rattle.flow_audit.proofs.FindingLemmas.{findings_single}
 use Rattle.flow_core.specs.Run.{Run}
-use Rattle.flow_core.proofs.SingleLemmas.{takes_once, performs_once, posts_done_once, posts_failed_once, rewinds_once, commits_once}
 use Rattle.flow_record.specs.declared.command.Command.{Command}
-use Rattle.flow_record.specs.declared.command.Command.TheVariants as command
-use Rattle.flow_reply.specs.declared.answer.Answer.{Answer}
-use Rattle.flow_reply.specs.declared.answer.Answer.TheVariants as answer
-use Rattle.flow_reply.specs.Reply.{IsReply}
-use Rattle.flow_reply.proofs.OneReply.{one_reply}
-use Rattle.flow_drive.specs.Answers.{Answers}
-use Rattle.flow_drive.specs.Replies.{RepliesTo, Drives}
+use Rattle.flow_drive.proofs.OnceLemmas.{drives_once}
 use Rattle.flow_drive.specs.Session.{Driven, IsSession}
+use Rattle.flow_duty.specs.Single.{UserSessionsAreSingle}
+use Rattle.flow_duty.proofs.Users.{users_distinct}
 use Rattle.flow_cli.specs.Finding.{consistent, driven, traced, audited}
 use Rattle.flow_cli.specs.Check.{FindsConsistent}
 use Rattle.flow_cli.specs.Drive.{driver, first_run, DrivesWorkflow}
 use Rattle.flow_cli.specs.Trace.{FindsOfLeaves}
 use Rattle.flow_cli.specs.Audit.{FindsOfJournals}
-use Rattle.flow_cli_laws.specs.Single.{IsSingle}
-
-module _ (r after other : Run) where
-  abbrev Once : Answer → Answer → Type 0
-  Once a b = (a ≡ b) × (after ≡ other)
-
-  -- a command and an answer of its kind leave one answer and one run
-  answers_once : (by : ℕ) (c : Command) (a b : Answer) → Answers r by c a after → Answers r by c b other → Once a b
-  answers_once by (command.Take leaf) (answer.Took x) (answer.Took y) p q = let e = takes_once r leaf by x y after other p q in (ap answer.Took e.0, e.1)
-  answers_once by (command.Do leaf) (answer.Did x) (answer.Did y) p q = let e = performs_once r leaf by x y after other p q in (ap answer.Did e.0, e.1)
-  answers_once by (command.Done claim) (answer.Done x) (answer.Done y) p q = let e = posts_done_once r claim by x y after other p q in (ap answer.Done e.0, e.1)
-  answers_once by (command.Fail claim) (answer.Failed x) (answer.Failed y) p q = let e = posts_failed_once r claim by x y after other p q in (ap answer.Failed e.0, e.1)
-  answers_once by command.Rewind (answer.Rewound x) (answer.Rewound y) p q = let e = rewinds_once r by x y after other p q in (ap answer.Rewound e.0, e.1)
-  answers_once by command.Commit (answer.Committed x) (answer.Committed y) p q = let e = commits_once r by x y after other p q in (ap answer.Committed e.0, e.1)
-  answers_once by command.Next answer.Shown answer.Shown p q = (refl, p ∙ sym q)
-  answers_once by command.Enabled answer.Shown answer.Shown p q = (refl, p ∙ sym q)
-  answers_once by command.Journal answer.Shown answer.Shown p q = (refl, p ∙ sym q)
-  answers_once by command.Facts answer.Shown answer.Shown p q = (refl, p ∙ sym q)
-  answers_once by c a b p q = absurd (assumption)
-
-  replies_once : (by : ℕ) (c : Command) (line text : List ℕ) → RepliesTo r by c line after → RepliesTo r by c text other → (line ≡ text) × (after ≡ other)
-  replies_once by c line text (a, answers, (one, is, line_is)) (b, answers', (two, is', text_is)) =
-      let same = answers_once by c a b answers answers' in
-      let moved : IsReply other c b one = subst (λ (s : Run). IsReply s c b one) same.1 (subst (λ (x : Answer). IsReply after c x one) same.0 is) in
-      (line_is ∙ ap (λ (t : List ℕ). t ++ codes "\n") (one_reply other c b one two moved is') ∙ sym text_is, same.1)
-
--- a run driven by a session gives one text, and ends as one run
-pub drives_once : (by : ℕ) (r after other : Run) (session : List Command) (one two : List ℕ) → Drives r by session one after → Drives r by session two other →
-    (one ≡ two) × (after ≡ other)
-drives_once by r after other [] one two p q = (p.0 ∙ sym q.0, p.1 ∙ sym q.1)
-drives_once by r after other (c ∷ session) one two (m, (line, (rest, reply, later, is))) (n, (line', (rest', reply', later', is'))) =
-    let first = replies_once r m n by c line line' reply reply' in
-    let others = drives_once by n after other session rest rest' (subst (λ (s : Run). Drives s by session rest after) first.1 later) later' in
-    (is ∙ ap (λ (t : List ℕ). t ++ rest) first.0 ∙ ap (λ (t : List ℕ). line' ++ t) others.0 ∙ sym is', others.1)
+use Rattle.flow_cli.specs.Duty.{nobody, first_desk}
+use Rattle.flow_cli_laws.specs.Single.{IsSingle, DutySessionsAreSingle}
 
 -- what comes of a session is one
 driven_once : (first : Run) (by : ℕ) (session : List Command) (a b : Driven) → IsSession first by session a → IsSession first by session b → a ≡ b
@@ -78,6 +41,12 @@ driven_once first by session a b p q =
 pub sessions_once : (w : Definition) (steps : ℕ) (session : List Command) → IsSingle (DrivesWorkflow w steps session)
 sessions_once w steps session one other (a, p, is) (b, q, are) =
     is ∙ ap (λ (d : Driven). Ok (driven d)) (driven_once (first_run w steps) driver session a b p q) ∙ sym are
+
+-- a workflow that is driven by users under a policy
+pub duty_sessions_once : UserSessionsAreSingle → DutySessionsAreSingle
+duty_sessions_once users w steps text s a policy session one other (d, (last, (caller, (p, is)))) (e, (final, (user, (q, are)))) =
+    let same = users (first_desk w steps a) nobody session (users_distinct text s a policy) d e last final caller user p q in
+    is ∙ ap (λ (x : Driven). Ok (driven x)) same.0 ∙ sym are
 
 -- a list of leaves that is checked against a workflow
 pub traces_once : (w : Definition) (leaves : List ℕ) → IsSingle (FindsOfLeaves w leaves)

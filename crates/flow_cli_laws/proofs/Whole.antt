@@ -11,7 +11,7 @@ use Rattle.flow_findings.specs.declared.refused.Refused.{Refused}
 use Rattle.flow_findings.specs.declared.refused.Refused.TheVariants as refused
 use Rattle.flow_findings.specs.Refusing.{refused_text}
 use Rattle.flow_words.specs.declared.request.Mode.{Mode}
-use Rattle.flow_words.specs.declared.request.Mode.TheVariants.{Drive, Run, Check, Verify, Trace, Gen, Large, Audit}
+use Rattle.flow_words.specs.declared.request.Mode.TheVariants.{Drive, Run, Check, Verify, Trace, Gen, Large, Duty, Audit}
 use Rattle.flow_words.specs.declared.request.Request.{Request}
 use Rattle.flow_words.specs.Words.{OneRequest}
 use Rattle.flow_front.specs.declared.status.Status.{Status}
@@ -19,12 +19,14 @@ use Rattle.flow_front.specs.declared.status.Status.TheVariants.{ReadFault}
 use Rattle.flow_front.specs.Status.{status_of, Tells}
 use Rattle.flow_front.specs.Refusal.{workflow_part, second_part, the_source, IsCause}
 use Rattle.flow_front.specs.Input.{IsInputOf}
+use Rattle.flow_policy.specs.Laws.{PoliciesAreSingle}
+use Rattle.flow_duty.specs.Single.{UserSessionsAreSingle}
 use Rattle.flow_cli.specs.Finding.{Finding, came_text, IsWritten}
 use Rattle.flow_cli.specs.Output.{AsksNoGate, Finds, WritesOf, WritesAs}
 use Rattle.flow_cli_laws.specs.Single.{Shows, OutputsAreSingle}
 use Rattle.flow_cli_laws.proofs.Agreeing.{Agree}
 use Rattle.flow_cli_laws.proofs.TextAnswers.{of_text, one_refusal, one_value, not_both}
-use Rattle.flow_cli_laws.proofs.Modes.{check_agrees, drive_agrees, trace_agrees, audit_agrees, verify_agrees}
+use Rattle.flow_cli_laws.proofs.Modes.{check_agrees, drive_agrees, duty_agrees, trace_agrees, audit_agrees, verify_agrees}
 
 -- what is told of one refusal is one
 told_once : (events : List (List ℕ)) (r q : Refused) (status other : Status) (output text : List ℕ) → r ≡ q →
@@ -103,28 +105,30 @@ module _ (input : List ℕ) where
         (subst (λ (t : List ℕ). P p.said t b) second (subst (λ (s : Said). P s q.second b) said might))) is
         (subst (λ (s : Said). IsWritten (event_names s.decls) b other text) said are)
 
-    mode_once : (gives allows : Call → Outcome → Bool) (request : Request) (mode : Mode) → AsksNoGate mode → ¬ (status ≡ ReadFault) → ¬ (other ≡ ReadFault) →
+    mode_once : PoliciesAreSingle → UserSessionsAreSingle → (gives allows : Call → Outcome → Bool) (request : Request) (mode : Mode) → AsksNoGate mode → ¬ (status ≡ ReadFault) → ¬ (other ≡ ReadFault) →
         WritesAs mode gives request (Some input) status output → WritesAs mode allows request (Some input) other text → Settled mode
-    mode_once gives allows request Drive asks fine also p q = read_once Drive (Finds Drive gives request)
+    mode_once policies users gives allows request Drive asks fine also p q = read_once Drive (Finds Drive gives request)
         (λ s says. drive_agrees s says.named.once request.steps (second_part input)) fine also p q
-    mode_once gives allows request Check asks fine also p q = read_once Check (Finds Check gives request) (λ s says. check_agrees s says.named.once) fine also p q
-    mode_once gives allows request Verify asks fine also p q = read_once Verify (Finds Verify gives request)
+    mode_once policies users gives allows request Check asks fine also p q = read_once Check (Finds Check gives request) (λ s says. check_agrees s says.named.once) fine also p q
+    mode_once policies users gives allows request Verify asks fine also p q = read_once Verify (Finds Verify gives request)
         (λ s says. verify_agrees s says.named.once (second_part input)) fine also p q
-    mode_once gives allows request Trace asks fine also p q = read_once Trace (Finds Trace gives request)
+    mode_once policies users gives allows request Trace asks fine also p q = read_once Trace (Finds Trace gives request)
         (λ s says. trace_agrees s says.named.once (second_part input)) fine also p q
-    mode_once gives allows request Audit asks fine also p q = read_once Audit (Finds Audit gives request)
+    mode_once policies users gives allows request Duty asks fine also p q = read_once Duty (Finds Duty gives request)
+        (λ s says. duty_agrees s says.named.once policies users request.steps (second_part input)) fine also p q
+    mode_once policies users gives allows request Audit asks fine also p q = read_once Audit (Finds Audit gives request)
         (λ s says. audit_agrees s says.named.once (second_part input)) fine also p q
-    mode_once gives allows request Gen asks fine also p q = (p.status_is ∙ sym q.status_is, inl (p.output_is ∙ sym q.output_is))
-    mode_once gives allows request Run asks fine also p q = absurd asks
-    mode_once gives allows request Large asks fine also p q = absurd asks
+    mode_once policies users gives allows request Gen asks fine also p q = (p.status_is ∙ sym q.status_is, inl (p.output_is ∙ sym q.output_is))
+    mode_once policies users gives allows request Run asks fine also p q = absurd asks
+    mode_once policies users gives allows request Large asks fine also p q = absurd asks
 
 -- words are a call for one request, so two outputs for them are of one mode
-pub outputs_are_single : OneRequest → OutputsAreSingle
-outputs_are_single one gives allows words input status other output text quiet fine also (inl (none, told)) (inl (wrong, tells)) =
+pub outputs_are_single : OneRequest → PoliciesAreSingle → UserSessionsAreSingle → OutputsAreSingle
+outputs_are_single one policies users gives allows words input status other output text quiet fine also (inl (none, told)) (inl (wrong, tells)) =
     let same = told_once [] refused.Words refused.Words status other output text refl told tells in record { status_is = same.0; output_is = inl same.1 }
-outputs_are_single one gives allows words input status other output text quiet fine also (inl (none, told)) (inr (request, call, h)) = absurd (none request call)
-outputs_are_single one gives allows words input status other output text quiet fine also (inr (request, call, h)) (inl (none, told)) = absurd (none request call)
-outputs_are_single one gives allows words input status other output text quiet fine also (inr (request, call, h)) (inr (again, recall, g)) =
-    let (is, e) = mode_once input status other output text gives allows request request.mode (quiet request call) fine also h
+outputs_are_single one policies users gives allows words input status other output text quiet fine also (inl (none, told)) (inr (request, call, h)) = absurd (none request call)
+outputs_are_single one policies users gives allows words input status other output text quiet fine also (inr (request, call, h)) (inl (none, told)) = absurd (none request call)
+outputs_are_single one policies users gives allows words input status other output text quiet fine also (inr (request, call, h)) (inr (again, recall, g)) =
+    let (is, e) = mode_once input status other output text policies users gives allows request request.mode (quiet request call) fine also h
     (subst (λ (r : Request). WritesAs r.mode allows r (Some input) other text) (one words again request recall call) g) in
     record { status_is = is; output_is = ⊎_elim inl (λ shows. inr (request, call, shows)) e }

@@ -14,6 +14,9 @@ use Rattle.flow_excise.specs.Executions.{TellOfAll}
 use Rattle.flow_excise.specs.Compilation.{all_numbered}
 use Rattle.flow_plan.specs.Compilation.{Compilation, IsCompiled}
 use Rattle.flow_record.specs.declared.command.Command.{Command}
+use Rattle.flow_policy.specs.declared.duty.Duty as roles
+use Rattle.flow_policy.specs.Assigned.{Assigned}
+use Rattle.flow_policy.specs.Policy.{IsPolicyOf}
 use Rattle.flow_verify.specs.declared.answers.Verified.TheVariants.{Fails}
 use Rattle.flow_verify.specs.declared.answers.Redundancy.TheVariants.{Needed}
 use Rattle.flow_verify.specs.Verification.{TellsOfProperty, TellsOfConstraint}
@@ -22,7 +25,7 @@ use Rattle.flow_findings.specs.declared.refused.Refused.TheVariants as refused
 use Rattle.flow_findings.specs.Refusing.{refused_text, inconsistent_text}
 use Rattle.flow_findings.specs.Judging.{verified_text, redundancy_text}
 use Rattle.flow_words.specs.declared.request.Mode.{Mode}
-use Rattle.flow_words.specs.declared.request.Mode.TheVariants.{Drive, Run, Check, Verify, Trace, Gen, Large, Audit}
+use Rattle.flow_words.specs.declared.request.Mode.TheVariants.{Drive, Run, Check, Verify, Trace, Gen, Large, Duty, Audit}
 use Rattle.flow_words.specs.declared.request.Request.{Request}
 use Rattle.flow_words.specs.Words.{IsCall}
 use Rattle.flow_front.specs.declared.status.Status.{Status}
@@ -34,6 +37,7 @@ use Rattle.flow_cli.specs.Check.{FindsConsistent}
 use Rattle.flow_cli.specs.Drive.{DrivesWorkflow}
 use Rattle.flow_cli.specs.Trace.{FindsOfLeaves}
 use Rattle.flow_cli.specs.Audit.{FindsOfJournals}
+use Rattle.flow_cli.specs.Duty.{DrivesUsers}
 use Rattle.flow_cli.specs.Output.{AsksNoGate, Writes}
 
 -- ---- what is shown where any will do
@@ -87,6 +91,7 @@ abbrev pub Shows : Mode → Said → List ℕ → List ℕ → List ℕ → Type
 Shows Drive s second output text = ShowsCause s output text
 Shows Check s second output text = ShowsCause s output text
 Shows Trace s second output text = ShowsCause s output text
+Shows Duty s second output text = ShowsCause s output text
 Shows Audit s second output text = ShowsCause s output text
 Shows Verify s second output text = OfQuery s second (λ query. ShowsAsked s query output text)
 Shows Run s second output text = ⊥
@@ -136,6 +141,11 @@ TracesAreSingle = (w : Definition) (leaves : List ℕ) → IsSingle (FindsOfLeav
 abbrev pub AuditsAreSingle : Type 0
 AuditsAreSingle = (w : Definition) (text : List ℕ) (cuts : List (ℕ × ℕ)) → IsSingle (FindsOfJournals w text cuts)
 
--- and where it is driven by a session.
+-- where it is driven by a session,
 abbrev pub SessionsAreSingle : Type 0
 SessionsAreSingle = (w : Definition) (steps : ℕ) (session : List Command) → IsSingle (DrivesWorkflow w steps session)
+
+-- and where users drive it under a policy, whatever that is for.
+abbrev pub DutySessionsAreSingle : Type 0
+DutySessionsAreSingle = (w : Definition) (steps : ℕ) (text : List ℕ) (s : Said) (a : Assigned) → IsPolicyOf text s a → (session : List roles.Duty) →
+    IsSingle (DrivesUsers w steps a session)

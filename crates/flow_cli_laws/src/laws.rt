@@ -1,6 +1,8 @@
-ghost use Rattle.flow_cli_laws.specs.Single.{OutputsAreSingle, FaultsAreTold, ChecksAreSingle, TracesAreSingle, AuditsAreSingle, SessionsAreSingle};
+ghost use Rattle.flow_cli_laws.specs.Single.{OutputsAreSingle, FaultsAreTold, ChecksAreSingle, TracesAreSingle, AuditsAreSingle, SessionsAreSingle, DutySessionsAreSingle};
 ghost use Rattle.flow_cli_laws.specs.Done.{DoneRunsAreReported, DoneLargeRunsAreTold, DoneLinesAreSingle};
 
+use flow_duty::law_user_sessions_are_single;
+use flow_policy::law_policies_are_single;
 use flow_words::law_one_request;
 
 /// Where no tasks are performed, what is written and the status are settled by the words and the bytes that are read,
@@ -13,9 +15,12 @@ pub fn law_outputs_are_single()
     ensures traces { TracesAreSingle }
     ensures audits { AuditsAreSingle }
     ensures sessions { SessionsAreSingle }
+    ensures duties { DutySessionsAreSingle }
 {
-    // words are a call for one request alone
+    // words are a call for one request alone, a text is one policy, and a session of users comes to one thing
     law_one_request();
+    law_policies_are_single();
+    law_user_sessions_are_single();
 }
 
 /// Where workers run a workflow in which nothing waits and no task fails, with room for two entries a leaf and one more,

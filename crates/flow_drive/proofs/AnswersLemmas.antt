@@ -5,7 +5,6 @@ use Rattle.flow_model.specs.declared.history.FailEffect.{FailEffect}
 use Rattle.flow_model.specs.declared.history.Step.{Step}
 use Rattle.flow_model.specs.declared.history.Step.TheVariants as step
 use Rattle.flow_core.specs.declared.refusal.TakeRefusal.{TakeRefusal}
-use Rattle.flow_core.specs.declared.refusal.TakeRefusal.TheVariants as take
 use Rattle.flow_core.specs.declared.refusal.DoRefusal.{DoRefusal}
 use Rattle.flow_core.specs.declared.refusal.DoRefusal.TheVariants as perform
 use Rattle.flow_core.specs.declared.refusal.PostRefusal.{PostRefusal}
@@ -34,8 +33,7 @@ goes_on r after by s e = (ap (λ (a : Run). a.definition) e, ap (λ (a : Run). a
 
 module _ (r after : Run) where
   takes_same : (leaf by : ℕ) (a : Result Call TakeRefusal) → Takes r leaf by a after → SameRun r after
-  takes_same leaf by (Err take.Closed) h = is_same r after h.1
-  takes_same leaf by (Err refusal) h = is_same r after (assumption)
+  takes_same leaf by (Err refusal) h = is_same r after h.1
   takes_same leaf by (Ok call) h = goes_on r after by (step.Took (next_claim r) leaf) h.3
 
   performs_same : (leaf by : ℕ) (a : Result (Unit {0}) DoRefusal) → Performs r leaf by a after → SameRun r after

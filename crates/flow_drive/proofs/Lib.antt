@@ -1,2 +1,3 @@
 pub mod AnswersLemmas
 pub mod SessionLemmas
+pub mod OnceLemmas

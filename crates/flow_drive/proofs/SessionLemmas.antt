@@ -1,6 +1,8 @@
 -- Driven sessions, one command after another.
 use Rattle.std.proofs.Common.{◌≡◌, ◌<◌, ◌+◌, ℕ, suc, List, [], ◌∷◌, ◌++◌, length, take, drop, get_or, refl, sym, ap, ◌∙◌, subst, append_assoc, append-nil, inl, inr, drop-cons, Result, Ok, Err}
+use Rattle.std.specs.Prelude.{IfOk}
 use Rattle.std.specs.Result.{OnErr}
+use Rattle.std.specs.declared.alloc.AllocError.{AllocError}
 use Rattle.std.proofs.lemmas.List.{take_more, take-append-drop}
 use Rattle.flow_model.specs.Verdict as model
 use Rattle.flow_model.specs.Verdict.{drive_verdict}
@@ -11,9 +13,10 @@ use Rattle.flow_reply.specs.declared.verdict.Verdict.{Verdict}
 use Rattle.flow_reply.specs.Conclusion.{Means, verdict_text}
 use Rattle.flow_reply.specs.Report.{IsReport}
 use Rattle.flow_reply.proofs.OneReply.{one_report}
+use Rattle.flow_front.specs.declared.output.Output.{Output}
 use Rattle.flow_front.specs.declared.status.Status.{Status}
 use Rattle.flow_drive.specs.Verdict.{ended, report_of}
-use Rattle.flow_drive.specs.Session.{Driven, IsSession, IsDrivenOutput}
+use Rattle.flow_drive.specs.Session.{Driven, came_of, IsSession, IsDrivenOutput}
 use Rattle.flow_record.specs.declared.command.Command.{Command}
 use Rattle.flow_drive.specs.Replies.{RepliesTo, Drives, IsGiven, IsFrontGiven}
 use Rattle.flow_drive.proofs.AnswersLemmas.{SameRun, answers_same}
@@ -87,21 +90,34 @@ drives_same by old new (c ∷ session) text (m, (line, (rest, (answer, answers, 
 pub reported_as : (r : Run) (v : Verdict) (meant : model.Verdict) (text : List ℕ) → Means r v meant → IsReport r v text → text ≡ report_of r meant
 reported_as r v meant text means is = one_report r v text (report_of r meant) is (verdict_text meant, (meant, means, refl), refl)
 
--- a driven session is told: what is written is that of what came of it
-pub told_session : (first last : Run) (by : ℕ) (session : List Command) (verdict : Verdict) (status : Status) (replies report output : List ℕ) →
-    Drives first by session replies last → IsLawful (schema last) last.limit last.history →
-    Means last verdict (drive_verdict (schema last) last.limit last.history) →
-    ((r : Run) (meant : model.Verdict) → Means r verdict meant → status ≡ ended meant) → IsReport last verdict report → output ≡ replies ++ report →
-    (d : Driven) × IsSession first by session d × IsDrivenOutput d status output
-told_session first last by session verdict status replies report output driven lawful means status_is reported output_is =
+-- a concluded run is told: what is written is that of what came of it
+pub told_conclusion : (r : Run) (verdict : Verdict) (status : Status) (replies report output : List ℕ) → Means r verdict (drive_verdict (schema r) r.limit r.history) →
+    ((s : Run) (meant : model.Verdict) → Means s verdict meant → status ≡ ended meant) → IsReport r verdict report → output ≡ replies ++ report →
+    IsDrivenOutput (came_of replies r) status output
+told_conclusion r verdict status replies report output means status_is reported output_is =
+    let meant = drive_verdict (schema r) r.limit r.history in record {
+      status_is = status_is r meant means;
+      output_is = output_is ∙ ap (λ (t : List ℕ). replies ++ t) (reported_as r verdict meant report means reported);
+    }
+
+-- a run of the same workflow with the same limit is as lawful, and came to the same
+pub lawful_since : (first last : Run) → SameRun first last → IsLawful (schema last) last.limit last.history → IsLawful (schema first) first.limit last.history
+lawful_since first last same lawful =
+    subst (λ (n : ℕ). IsLawful (schema first) n last.history) same.1 (subst (λ (v : Definition). IsLawful (schema_of v) last.limit last.history) same.0 lawful)
+
+pub verdict_since : (first last : Run) → SameRun first last → drive_verdict (schema last) last.limit last.history ≡ drive_verdict (schema first) first.limit last.history
+verdict_since first last same =
+    ap (λ (v : Definition). drive_verdict (schema_of v) last.limit last.history) same.0 ∙ ap (λ (n : ℕ). drive_verdict (schema first) n last.history) same.1
+
+-- what came of a session that was concluded
+pub concluded_session : (first last : Run) (by : ℕ) (session : List Command) (replies : List ℕ) → Drives first by session replies last →
+    IsLawful (schema last) last.limit last.history → IsSession first by session (came_of replies last)
+concluded_session first last by session replies driven lawful =
     let same : SameRun first last = drives_same by first last session replies driven in
-    let meant = drive_verdict (schema last) last.limit last.history in
-    let whole : report ≡ report_of last meant = reported_as last verdict meant report means reported in (
-      record { replies = replies; last = last; verdict = meant },
-      record {
-        driven = driven;
-        lawful = subst (λ (n : ℕ). IsLawful (schema first) n last.history) same.1 (subst (λ (v : Definition). IsLawful (schema_of v) last.limit last.history) same.0 lawful);
-        verdict_is = ap (λ (v : Definition). drive_verdict (schema_of v) last.limit last.history) same.0 ∙ ap (λ (n : ℕ). drive_verdict (schema first) n last.history) same.1;
-      },
-      record { status_is = status_is last meant means; output_is = output_is ∙ ap (λ (t : List ℕ). replies ++ t) whole },
-    )
+    record { driven = driven; lawful = lawful_since first last same lawful; verdict_is = verdict_since first last same }
+
+pub concluded_output : (first last : Run) (by : ℕ) (session : List Command) (replies : List ℕ) (result : Result Output AllocError) → Drives first by session replies last →
+    IsLawful (schema last) last.limit last.history → IfOk result (λ output. IsDrivenOutput (came_of replies last) output.status output.text.items) →
+    IfOk result (λ output. (d : Driven) × IsSession first by session d × IsDrivenOutput d output.status output.text.items)
+concluded_output first last by session replies (Ok output) driven lawful is = (came_of replies last, concluded_session first last by session replies driven lawful, is)
+concluded_output first last by session replies (Err e) driven lawful is = tt

@@ -14,6 +14,10 @@ pub record Driven : Type 0 where
   pub last : Run
   pub verdict : model.Verdict
 
+-- what came of replies that led to the run
+abbrev pub came_of : List ℕ → Run → Driven
+came_of replies r = record { replies = replies; last = r; verdict = model.drive_verdict (schema r) r.limit r.history }
+
 -- A session from a run on: a reply to each command, and the run so made. Of its history the headline holds: it is lawful.
 pub record IsSession (first : Run) (by : ℕ) (session : List Command) (d : Driven) : Type 0 where
   pub driven : Drives first by session d.replies d.last

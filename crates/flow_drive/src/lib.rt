@@ -8,5 +8,5 @@ mod verdict;
 
 pub use answers::answer;
 pub use replies::{reply_to, reply_to_all};
-pub use session::drive;
+pub use session::{conclude, drive};
 pub use verdict::{status_of, verdict_of};

@@ -13,6 +13,8 @@ use Rattle.flow_form.specs.declared.refusal.TextRefusal.TheVariants.{NotAscii, B
 use Rattle.flow_form.specs.declared.script.Script.{Script}
 use Rattle.flow_form.specs.Script.{said}
 use Rattle.flow_form.specs.Names.{event_names}
+use Rattle.flow_policy.specs.declared.refusal.PolicyRefusal.{PolicyRefusal}
+use Rattle.flow_policy.specs.declared.refusal.PolicyRefusal.TheVariants as policy
 use Rattle.flow_record.specs.declared.refusal.RecordRefusal.{RecordRefusal}
 use Rattle.flow_record.specs.declared.refusal.RecordRefusal.TheVariants as record_refusal
 use Rattle.flow_record.specs.Number.{spaced_numbers}
@@ -24,7 +26,7 @@ use Rattle.flow_excise.specs.declared.refusal.CompileRefusal.{CompileRefusal}
 use Rattle.flow_excise.specs.declared.refusal.CompileRefusal.TheVariants as compilation
 use Rattle.flow_words.specs.Usage.{usage_text}
 use Rattle.flow_findings.specs.declared.refused.Refused.{Refused}
-use Rattle.flow_findings.specs.declared.refused.Refused.TheVariants.{Words, Read, TooLong, Text, Query, Journals, Record, Expand, NoRule, Compile}
+use Rattle.flow_findings.specs.declared.refused.Refused.TheVariants.{Words, Read, TooLong, Text, Query, Policy, Journals, Record, Expand, NoRule, Compile}
 
 -- what a text needs, in words
 abbrev pub kind_text : Wanted → List ℕ
@@ -62,6 +64,22 @@ IsOfText (Unknown place name) = Unit {0}
 IsOfText (Repeated place name) = Unit {0}
 IsOfText (TooDeep place) = Unit {0}
 IsOfText NoMemory = ⊥
+
+-- why a text is no policy of the workflow; want of memory says nothing of it
+abbrev pub policy_refusal : PolicyRefusal → List ℕ
+policy_refusal (policy.NotAscii place) = codes "policy byte " ++ decimal place
+policy_refusal (policy.BadToken place) = codes "policy token " ++ decimal place
+policy_refusal (policy.Expected place) = codes "policy expected " ++ decimal place
+policy_refusal (policy.Unknown place) = codes "policy unknown " ++ decimal place
+policy_refusal policy.NoMemory = []
+
+-- the refusal is not for want of memory
+abbrev pub IsOfPolicy : PolicyRefusal → Type 0
+IsOfPolicy (policy.NotAscii place) = Unit {0}
+IsOfPolicy (policy.BadToken place) = Unit {0}
+IsOfPolicy (policy.Expected place) = Unit {0}
+IsOfPolicy (policy.Unknown place) = Unit {0}
+IsOfPolicy policy.NoMemory = ⊥
 
 -- each after a blank
 abbrev pub spaced : List (List ℕ) → List ℕ
@@ -137,6 +155,7 @@ IsTold events Read = Unit {0}
 IsTold events TooLong = Unit {0}
 IsTold events (Text refusal) = IsOfText refusal
 IsTold events (Query refusal) = IsOfText refusal
+IsTold events (Policy refusal) = IsOfPolicy refusal
 IsTold events (Journals count) = Unit {0}
 IsTold events (Record refusal) = IsOfLines refusal
 IsTold events (Expand refusal) = IsOfWorkflow events refusal
@@ -150,6 +169,7 @@ refused_text events Read = codes "refused: read\n"
 refused_text events TooLong = codes "refused: " ++ (codes "too long " ++ decimal GREATEST_INPUT) ++ codes "\n"
 refused_text events (Text refusal) = codes "refused: " ++ text_refusal refusal ++ codes "\n"
 refused_text events (Query refusal) = codes "refused: query " ++ text_refusal refusal ++ codes "\n"
+refused_text events (Policy refusal) = codes "refused: " ++ policy_refusal refusal ++ codes "\n"
 refused_text events (Journals count) = codes "refused: " ++ (codes "journals " ++ decimal count) ++ codes "\n"
 refused_text events (Record refusal) = codes "refused: " ++ line_refusal refusal ++ codes "\n"
 refused_text events (Expand refusal) = codes "refused: " ++ expand_refusal events refusal ++ codes "\n"

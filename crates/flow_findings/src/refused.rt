@@ -5,10 +5,11 @@ ghost use Rattle.flow_findings.specs.Refusing.{refused_text, named_by, IsTold};
 use crate::compile_refusal::print_compile_refusal;
 use crate::expand_refusal::print_expand_refusal;
 use crate::refusal_line::print_numbered;
-use crate::text_refusal::{print_line_refusal, print_text_refusal};
+use crate::text_refusal::{print_line_refusal, print_policy_refusal, print_text_refusal};
 use flow_excise::CompileRefusal;
 use flow_form::{Script, TextRefusal};
 use flow_model::GREATEST_INPUT;
+use flow_policy::PolicyRefusal;
 use flow_record::{RecordRefusal, print_pieces};
 use flow_words::print_usage;
 use flow_workflow::ExpandRefusal;
@@ -27,6 +28,8 @@ pub enum Refused {
     Text(TextRefusal),
     /// The text of a query asks nothing.
     Query(TextRefusal),
+    /// The text of a policy says nothing, or not what fits the workflow.
+    Policy(PolicyRefusal),
     /// There are more than `flow_audit::MOST_JOURNALS` journals: so many.
     Journals(u64),
     /// A line of the second part is not as it must be.
@@ -55,6 +58,7 @@ pub fn print_refused(
         Refused::TooLong => print_numbered(alloc, "too long", GREATEST_INPUT as u64),
         Refused::Text(refusal) => print_text_refusal(alloc, b"refused: ", refusal),
         Refused::Query(refusal) => print_text_refusal(alloc, b"refused: query ", refusal),
+        Refused::Policy(refusal) => print_policy_refusal(alloc, refusal),
         Refused::Journals(count) => print_numbered(alloc, "journals", *count),
         Refused::Record(refusal) => print_line_refusal(alloc, refusal),
         Refused::Expand(refusal) => print_expand_refusal(alloc, refusal, script),

@@ -1,10 +1,11 @@
 ghost use Rattle.std.specs.Prelude.{◌≡◌, ◌++◌, codes, IfOk};
 ghost use Rattle.std.specs.Fmt.{decimal};
-ghost use Rattle.flow_findings.specs.Refusing.{kind_text, text_refusal, line_refusal, IsOfText, IsOfLines};
+ghost use Rattle.flow_findings.specs.Refusing.{kind_text, text_refusal, policy_refusal, line_refusal, IsOfText, IsOfPolicy, IsOfLines};
 
 use crate::refusal_line::print_numbered;
 use flow_facts::Name;
 use flow_form::{TextRefusal, Wanted};
+use flow_policy::PolicyRefusal;
 use flow_record::{RecordRefusal, print_pieces};
 use itoa::Buffer;
 use std::alloc::{AllocError, Global};
@@ -20,6 +21,27 @@ pub(crate) fn print_text_refusal(
 {
     let reason = print_reason(alloc, refusal)?;
     print_pieces(alloc, &[head, &reason, b"\n"])
+}
+
+/// Prints the line that says why a text is no policy of the workflow.
+pub(crate) fn print_policy_refusal(
+    alloc: Global,
+    refusal: &PolicyRefusal,
+) -> Result<Vec<u8>, AllocError>
+    requires { IsOfPolicy refusal.now }
+    ensures { IfOk result (λ line. line.items ≡ codes "refused: " ++ policy_refusal refusal.now ++ codes "\n") }
+{
+    match refusal {
+        PolicyRefusal::NotAscii { place } => print_numbered(alloc, "policy byte", *place as u64),
+        PolicyRefusal::BadToken { place } => print_numbered(alloc, "policy token", *place as u64),
+        PolicyRefusal::Expected { place } => print_numbered(
+            alloc,
+            "policy expected",
+            *place as u64,
+        ),
+        PolicyRefusal::Unknown { place } => print_numbered(alloc, "policy unknown", *place as u64),
+        PolicyRefusal::NoMemory => unreachable!(),
+    }
 }
 
 /// Prints the line that says which line of a session or a journal is refused.

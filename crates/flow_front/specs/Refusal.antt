@@ -11,6 +11,8 @@ use Rattle.flow_record.specs.declared.refusal.RecordRefusal.TheVariants.{BadLine
 use Rattle.flow_record.specs.Session as session_text
 use Rattle.flow_record.specs.Journal as journal_text
 use Rattle.flow_workflow.specs.Definition.{Definition}
+use Rattle.flow_policy.specs.Policy.{IsPolicyRefusal}
+use Rattle.flow_policy.specs.Session.{duties_of}
 use Rattle.flow_expand.specs.Refusals.{IsRefusal}
 use Rattle.flow_excise.specs.declared.refusal.CompileRefusal.{CompileRefusal}
 use Rattle.flow_excise.specs.declared.refusal.CompileRefusal.TheVariants as compilation
@@ -19,7 +21,7 @@ use Rattle.flow_audit.specs.declared.cuts.TheConstants.{MOST_JOURNALS}
 use Rattle.flow_audit.specs.Cuts.{cuts_of}
 use Rattle.flow_findings.specs.declared.refused.Refused.{Refused}
 use Rattle.flow_findings.specs.declared.refused.Refused.TheVariants as refused
-use Rattle.flow_findings.specs.Refusing.{IsOfText, IsOfWorkflow, IsOfOptions}
+use Rattle.flow_findings.specs.Refusing.{IsOfText, IsOfPolicy, IsOfWorkflow, IsOfOptions}
 
 -- the text of the workflow in an input
 abbrev pub workflow_part : List ℕ → List ℕ
@@ -38,9 +40,11 @@ Gives (Some bytes) input = input ≡ bytes
 pub data Looked : Type 0 where
   -- a source, the text of a workflow in what it gives
   the_source : Option (List ℕ) → Looked
-  -- a text that is to be a session, a query to what is said, or journals
+  -- a text that is to be a session, a query to what is said, a policy for it, a session of that policy's users, or journals
   the_session : List ℕ → Looked
   the_query : Said → List ℕ → Looked
+  the_policy : Said → List ℕ → Looked
+  the_duties : List ℕ → Looked
   the_journals : List ℕ → Looked
   -- what is said: its sub-workflows, sizes and events
   the_script : Said → Looked
@@ -72,6 +76,8 @@ IsCause (the_source left) (refused.Text refusal) =
     (input : List ℕ) × Gives left input × (length input ≤ GREATEST_INPUT) × IsOfText refusal × IsParseRefusal (workflow_part input) refusal
 IsCause (the_session text) (refused.Record (BadLine line)) = session_text.session_of text ≡ session_text.bad_line line
 IsCause (the_query s text) (refused.Query refusal) = IsOfText refusal × IsQueryRefusal text s refusal
+IsCause (the_policy s text) (refused.Policy refusal) = IsOfPolicy refusal × IsPolicyRefusal text s refusal
+IsCause (the_duties text) (refused.Record (BadLine line)) = duties_of text ≡ session_text.bad_line line
 IsCause (the_journals text) (refused.Journals count) = (count ≡ length (cuts_of text)) × (MOST_JOURNALS < count)
 IsCause (the_script s) (refused.Expand refusal) = IsOfWorkflow (event_names s.decls) refusal × IsRefusal s refusal
 IsCause (the_journal w text) (refused.Record refusal) = IsJournalRefusal w text refusal

@@ -4,6 +4,8 @@ use Rattle.flow_form.specs.declared.refusal.TextRefusal.{TextRefusal}
 use Rattle.flow_form.specs.declared.refusal.TextRefusal.TheVariants as text
 use Rattle.flow_io.specs.declared.failure.ReadRefusal.{ReadRefusal}
 use Rattle.flow_io.specs.declared.failure.ReadRefusal.TheVariants as read
+use Rattle.flow_policy.specs.declared.refusal.PolicyRefusal.{PolicyRefusal}
+use Rattle.flow_policy.specs.declared.refusal.PolicyRefusal.TheVariants as policy
 use Rattle.flow_record.specs.declared.refusal.RecordRefusal.{RecordRefusal}
 use Rattle.flow_record.specs.declared.refusal.RecordRefusal.TheVariants as record_refusal
 use Rattle.flow_workflow.specs.declared.refusal.ExpandRefusal.{ExpandRefusal}
@@ -41,6 +43,10 @@ text_stop other = stop.Refused (refused.Text other)
 abbrev pub query_stop : TextRefusal → Stop
 query_stop text.NoMemory = stop.NoMemory
 query_stop other = stop.Refused (refused.Query other)
+
+abbrev pub policy_stop : PolicyRefusal → Stop
+policy_stop policy.NoMemory = stop.NoMemory
+policy_stop other = stop.Refused (refused.Policy other)
 
 abbrev pub record_stop : RecordRefusal → Stop
 record_stop record_refusal.NoMemory = stop.NoMemory

@@ -54,6 +54,7 @@ impl Status {
             Refused::TooLong
             | Refused::Text(_)
             | Refused::Query(_)
+            | Refused::Policy(_)
             | Refused::Journals(_)
             | Refused::Record(_)
             | Refused::Expand(_)

@@ -5,6 +5,7 @@ use flow_excise::CompileRefusal;
 use flow_findings::Refused;
 use flow_form::TextRefusal;
 use flow_io::ReadRefusal;
+use flow_policy::PolicyRefusal;
 use flow_record::RecordRefusal;
 use flow_workflow::ExpandRefusal;
 use std::alloc::{AllocError, AllocFailed};
@@ -72,6 +73,19 @@ impl From<TextRefusal> for Stop {
         match refusal {
             TextRefusal::NoMemory => Stop::NoMemory,
             refusal => Stop::Refused(Refused::Text(refusal)),
+        }
+    }
+}
+
+impl From<PolicyRefusal> for Stop {
+    ghost use Rattle.flow_front.specs.Stop.{policy_stop};
+
+    ghost from_gives = { λ refusal stop. stop ≡ policy_stop refusal };
+
+    fn from(refusal: PolicyRefusal) -> Stop {
+        match refusal {
+            PolicyRefusal::NoMemory => Stop::NoMemory,
+            refusal => Stop::Refused(Refused::Policy(refusal)),
         }
     }
 }

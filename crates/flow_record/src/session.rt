@@ -1,29 +1,30 @@
 ghost use Rattle.std.specs.Prelude.{◌≡◌, ℕ, IfOk};
 ghost use Rattle.std.specs.Result.{IsErrOf};
 ghost use Rattle.flow_record.specs.Words.{words_of};
-ghost use Rattle.flow_record.specs.Session.{bare_command, numbered_command, line_of, session_of, commands, bad_line};
+ghost use Rattle.flow_record.specs.Session.{bare_command, numbered_command, line_of, session_by, session_of, commands, bad_line};
 
 use crate::command::Command;
+use crate::line::{Line, Sentence};
 use crate::lines::{is_word, split_line};
 use crate::number::read_number;
 use crate::refusal::RecordRefusal;
 use crate::words::split_word;
 use flow_model::MOST_LINES;
-use std::alloc::Global;
-
-/// What one line of a session is.
-#[derive(Clone, Copy)]
-enum Line {
-    /// It has no word.
-    Blank,
-    Holds(Command),
-    Bad,
-}
+use std::alloc::{AllocError, Global};
 
 /// Reads the commands of a session.
 pub fn read_session(alloc: Global, text: &[u8]) -> Result<Vec<Command>, RecordRefusal>
     ensures ok { IfOk result (λ read. session_of text.now ≡ commands read.items) }
     ensures bad { (line : ℕ) → IsErrOf result (RecordRefusal.BadLine line) → session_of text.now ≡ bad_line line }
+    ensures no_label { (line : ℕ) → ¬ (IsErrOf result (RecordRefusal.Label line)) }
+{
+    read_lines(alloc, text)
+}
+
+/// Reads what the lines of a text say, by the rules of a session: a line without words says nothing, and the least bad line is told.
+pub fn read_lines<C: Sentence>(alloc: Global, text: &[u8]) -> Result<Vec<C>, RecordRefusal>
+    ensures ok { IfOk result (λ read. session_by C.said text.now ≡ commands read.items) }
+    ensures bad { (line : ℕ) → IsErrOf result (RecordRefusal.BadLine line) → session_by C.said text.now ≡ bad_line line }
     ensures no_label { (line : ℕ) → ¬ (IsErrOf result (RecordRefusal.Label line)) }
 {
     let mut read = Vec::new(alloc);
@@ -34,7 +35,7 @@ pub fn read_session(alloc: Global, text: &[u8]) -> Result<Vec<Command>, RecordRe
             return Err(RecordRefusal::BadLine { line: number });
         }
         let (line, more) = split_line(rest);
-        match read_line(line) {
+        match C::read(alloc, line)? {
             Line::Blank => {}
             Line::Holds(command) => read.push(command)?,
             Line::Bad => return Err(RecordRefusal::BadLine { line: number }),
@@ -45,8 +46,16 @@ pub fn read_session(alloc: Global, text: &[u8]) -> Result<Vec<Command>, RecordRe
     Ok(read)
 }
 
+impl Sentence for Command {
+    ghost said = { line_of };
+
+    fn read(_alloc: Global, line: &[u8]) -> Result<Line<Command>, AllocError> {
+        Ok(read_line(line))
+    }
+}
+
 /// What a line is by its words.
-fn read_line(line: &[u8]) -> Line
+fn read_line(line: &[u8]) -> Line<Command>
     ensures { result ≡ line_of (words_of line.now) }
 {
     let (first, rest) = split_word(line);

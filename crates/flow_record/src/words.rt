@@ -3,7 +3,7 @@ ghost use Rattle.std.specs.List.{position};
 ghost use Rattle.flow_record.specs.Words.{is_blank, words_of, with_word};
 
 /// The first word of a line, and what stands after it. The word is empty where the line has none.
-pub(crate) fn split_word(line: &[u8]) -> (&[u8], &[u8])
+pub fn split_word(line: &[u8]) -> (&[u8], &[u8])
     ensures { words_of line.now ≡ with_word result.0.now (words_of result.1.now) }
 {
     let words = &line[place_of_word(line).unwrap_or(line.len())..];

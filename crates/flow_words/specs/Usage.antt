@@ -5,10 +5,10 @@ use Rattle.clap.specs.Words.{Rule, Text}
 use Rattle.flow_words.specs.Command.{number_rules}
 use Rattle.flow_words.specs.Words.{mode_word}
 use Rattle.flow_words.specs.declared.request.Mode.{Mode}
-use Rattle.flow_words.specs.declared.request.Mode.TheVariants.{Drive, Run, Check, Verify, Trace, Gen, Large, Audit}
+use Rattle.flow_words.specs.declared.request.Mode.TheVariants.{Drive, Run, Check, Verify, Trace, Gen, Large, Duty, Audit}
 
 abbrev pub modes : List Mode
-modes = Drive ∷ Run ∷ Check ∷ Verify ∷ Trace ∷ Gen ∷ Large ∷ Audit ∷ []
+modes = Drive ∷ Run ∷ Check ∷ Verify ∷ Trace ∷ Gen ∷ Large ∷ Duty ∷ Audit ∷ []
 
 abbrev pub mode_text : Mode → Text
 mode_text mode = codes " " ++ mode_word mode

@@ -5,7 +5,7 @@ use Rattle.flow_model.specs.declared.limits.TheConstants.{GREATEST_SEED, GREATES
 use Rattle.clap.specs.Words.{Row, Text, first_of, matches_of, one_of}
 use Rattle.flow_words.specs.Command.{flow_app, IsRead}
 use Rattle.flow_words.specs.declared.request.Mode.{Mode}
-use Rattle.flow_words.specs.declared.request.Mode.TheVariants.{Drive, Run, Check, Verify, Trace, Gen, Large, Audit}
+use Rattle.flow_words.specs.declared.request.Mode.TheVariants.{Drive, Run, Check, Verify, Trace, Gen, Large, Duty, Audit}
 use Rattle.flow_words.specs.declared.request.Request.{Request}
 
 abbrev pub mode_word : Mode → Text
@@ -16,6 +16,7 @@ mode_word Verify = codes "verify"
 mode_word Trace = codes "trace"
 mode_word Gen = codes "gen"
 mode_word Large = codes "large"
+mode_word Duty = codes "duty"
 mode_word Audit = codes "audit"
 
 -- the rows give that number to the option of that name

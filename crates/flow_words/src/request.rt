@@ -27,12 +27,14 @@ pub enum Mode {
     Gen,
     /// Run a generated workflow by workers.
     Large,
+    /// Drive a workflow by a session of users, each of whom may take what a policy allows.
+    Duty,
     /// Say of each of many journals whether it is an execution of a workflow, by workers.
     Audit,
 }
 
 /// All modes.
-pub(crate) const MODES: [Mode; 8] = [
+pub(crate) const MODES: [Mode; 9] = [
     Mode::Drive,
     Mode::Run,
     Mode::Check,
@@ -40,6 +42,7 @@ pub(crate) const MODES: [Mode; 8] = [
     Mode::Trace,
     Mode::Gen,
     Mode::Large,
+    Mode::Duty,
     Mode::Audit,
 ];
 
@@ -56,6 +59,7 @@ impl Mode {
             Mode::Trace => "trace",
             Mode::Gen => "gen",
             Mode::Large => "large",
+            Mode::Duty => "duty",
             Mode::Audit => "audit",
         }
     }

@@ -1,7 +1,11 @@
 use Rattle.std.proofs.lemmas.Result.{IfOk-weaker}
 use Rattle.flow_form.specs.Script.{said}
-use Rattle.flow_cli.proofs.Outcomes.{all_answered, stopped_read}
+use Rattle.flow_cli.proofs.Outcomes.{second_short, all_answered, stopped_read}
 use Rattle.flow_cli.proofs.call.answer_source.Goals as goal
+
+pub answer_input-output-requires-clause-short : goal.answer_input-output-requires-clause-short
+answer_input-output-requires-clause-short g c =
+    second_short (g.S.Source.left c.args.source.now) (said c.in-Ok.input.script) c.in-Ok.input.second.items c.in-Ok.ensures.input
 
 pub returns-in-Ok : goal.returns-in-Ok
 returns-in-Ok g c = λ gives.

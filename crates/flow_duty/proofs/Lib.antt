@@ -1,0 +1,4 @@
+pub mod DeskLemmas
+pub mod SessionLemmas
+pub mod OnceLemmas
+pub mod Users

@@ -1,0 +1,4 @@
+pub mod Decisions
+pub mod Replies
+pub mod Session
+pub mod Single

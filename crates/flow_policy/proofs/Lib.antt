@@ -1,0 +1,12 @@
+pub mod StageLemmas
+pub mod MentionLemmas
+pub mod FirstLemmas
+pub mod RowLemmas
+pub mod StaffLemmas
+pub mod EventLemmas
+pub mod DraftLemmas
+pub mod PolicyLemmas
+pub mod TableLemmas
+pub mod NameLemmas
+pub mod Single
+pub mod OrderLemmas

@@ -1,0 +1,12 @@
+pub mod Statement
+pub mod Texts
+pub mod Assigned
+pub mod Names
+pub mod Ties
+pub mod Policy
+pub mod Laws
+pub mod Stages
+pub mod Mentions
+pub mod Numbering
+pub mod Tables
+pub mod Session

@@ -1,0 +1,4 @@
+pub mod Dutiful
+pub mod SingleLemmas
+pub mod TakerLemmas
+pub mod TieLemmas

@@ -1,0 +1,5 @@
+pub mod Desked
+pub mod Answers
+pub mod Having
+pub mod Single
+pub mod Invariant
