@@ -35,9 +35,9 @@ from measuring import TOP
 from worst import TEXTS
 
 # What a mode reads after the workflow, as the ending of a file of examples/.
-MODES = {"check": None, "drive": "session", "run": None, "trace": "journal", "verify": "query", "audit": "journals"}
+MODES = {"check": None, "drive": "session", "run": None, "trace": "journal", "verify": "query", "duty": "shift", "audit": "journals"}
 # The calls whose memory, reads and writes fail; what several workers write is not always the same; the last two read nothing.
-CALLS = {"check": None, "drive": "session", "run --workers 1": None, "trace": "journal", "verify": "query", "audit --workers 1": "journals"}
+CALLS = {"check": None, "drive": "session", "run --workers 1": None, "trace": "journal", "verify": "query", "duty": "shift", "audit --workers 1": "journals"}
 SEVERAL = {"run --workers 4": None, "audit --workers 4": "journals"}
 UNREAD = {"gen --size 16": None, "large --size 16 --workers 1": None}
 PIECES = [1, 2, 7]
@@ -59,6 +59,9 @@ def sources(name, ending):
     workflow = (EXAMPLES / f"{name}.flow").read_bytes()
     if ending is None:
         return [workflow]
+    if ending == "shift":
+        # the policy stands between the two
+        workflow += b"".join(policy.read_bytes() for policy in EXAMPLES.glob(f"{name}.policy"))
     return [workflow + more.read_bytes() for more in EXAMPLES.glob(f"{name}.{ending}")]
 
 
@@ -78,7 +81,7 @@ class Use:
 
     def __init__(self, program, library, line, ending):
         self.program, self.library, self.line, self.words = program, library, line, line.split()
-        self.source = sources("order_desk", ending)[0]
+        self.source = sources("back_office" if ending == "shift" else "order_desk", ending)[0]
         self.usual = self.told(*self.call({})[:2])
 
     def call(self, environment, **streams):
@@ -269,6 +272,7 @@ def undamaged():
     texts += [text for text in (make().encode() for make in TEXTS.values()) if len(text) <= GREATEST_TEXT]
     session = b"%%\n" + b"".join(b"take %d\nenabled\ndone %d\nnext\n" % (leaf, leaf + 1) for leaf in range(8)) + b"rewind\ncommit\n"
     second = {None: b"", "session": session, "journal": b"%%\n0 e0\n1 e1\n2 e2\n", "query": b"%%\nholds precedes e0 e1;\n",
+              "shift": b"%%\nrole r = u, v;\nallow r e0, e1, e2;\nseparate e0 e1;\nbind e0 e2;\n%%\nas u\n" + session.removeprefix(b"%%\n"),
               "journals": b"%%\n0 e0\n%%\n1 e1\n2 e2\n%%\n"}
     return {mode: [source for name in workflows for source in sources(name, ending)] + [text + b"\n" + second[ending] for text in texts]
             for mode, ending in MODES.items()}

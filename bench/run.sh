@@ -9,11 +9,13 @@ set -u
 cd "$(dirname "$0")" || exit
 program=$(realpath "${1:-../crates/flow/out/flow}")
 status=0
-for bench in worst folded sessions traces audits large hostile; do
+echo "== documents"
+./documents.py "$program" || status=1
+for bench in worst folded sessions traces audits duties large hostile; do
     echo "== $bench"
     "./$bench.py" "$program" || status=1
 done
-for bench in turns.sh wrong_crews.py; do
+for bench in words.py turns.sh wrong_crews.py; do
     echo "== ${bench%.*}"
     "./$bench" || status=1
 done

@@ -1,0 +1,76 @@
+# Completion of flow and flowkeep for bash: `source completions/flow.bash`, or by ./install.
+# The modes and options are compared with the code by bench/words.py.
+
+_flow_modes=(
+    check
+    drive
+    run
+    trace
+    verify
+    gen
+    large
+    audit
+    duty
+)
+
+_flow_options=(
+    --steps
+    --workers
+    --seed
+    --size
+)
+
+# The words of an array that do not stand on the line yet.
+_flow_unused() {
+    local option word
+    for option in "$@"; do
+        for word in "${COMP_WORDS[@]:1:COMP_CWORD-1}"; do
+            [[ $word == "$option" ]] && continue 2
+        done
+        printf '%s\n' "$option"
+    done
+}
+
+# Whether the line has a mode before the word that is completed.
+_flow_has_mode() {
+    local mode word
+    for word in "${COMP_WORDS[@]:1:COMP_CWORD-1}"; do
+        for mode in "${_flow_modes[@]}"; do
+            [[ $word == "$mode" ]] && return 0
+        done
+    done
+    return 1
+}
+
+# The files whose names begin with a word.
+_flow_files() {
+    compopt -o filenames 2> /dev/null
+    mapfile -t COMPREPLY < <(compgen -f -- "$1")
+}
+
+_flow() {
+    local word=${COMP_WORDS[COMP_CWORD]} before=${COMP_WORDS[COMP_CWORD - 1]}
+    COMPREPLY=()
+    # behind an option stands its number
+    [[ $before == --* || $before == '=' || $word == '=' ]] && return
+    [[ $before == [\<\>]* ]] && _flow_files "$word" && return
+    if [[ $word == -* ]] || _flow_has_mode; then
+        mapfile -t COMPREPLY < <(compgen -W "$(_flow_unused "${_flow_options[@]}")" -- "$word")
+    else
+        mapfile -t COMPREPLY < <(compgen -W "${_flow_modes[*]}" -- "$word")
+    fi
+}
+
+_flowkeep() {
+    local word=${COMP_WORDS[COMP_CWORD]} before=${COMP_WORDS[COMP_CWORD - 1]}
+    COMPREPLY=()
+    [[ $before == --* || $before == '=' || $word == '=' ]] && return
+    if [[ $word == -* ]]; then
+        mapfile -t COMPREPLY < <(compgen -W "$(_flow_unused --steps)" -- "$word")
+    else
+        _flow_files "$word"
+    fi
+}
+
+complete -F _flow flow
+complete -F _flowkeep flowkeep
