@@ -234,7 +234,7 @@ class Run:
         return not self.is_event(leaf) and self.follow([leaf], self.leaves_out())
 
     def enabled(self):
-        if self.committed or len(self.history) == self.steps:
+        if self.committed:
             return []
         return [leaf for leaf in range(len(self.labels)) if self.can_take(leaf) or self.can_do_aside(leaf) and self.holds(leaf)]
 
@@ -513,7 +513,7 @@ def many_constraints(lines):
     room = GREATEST_INPUT - len(takes(lines)) - 200
     others, size = [], 0
     for name in short_names():
-        size += 2 * len(name) + len(",") + len("bind e0e0;")
+        size += 2 * len(name) + len(",") + len("bind  e0e0;")
         if size > room:
             break
         others.append(name)
