@@ -1,5 +1,5 @@
 -- Names each once, and their numbers.
-use Rattle.std.proofs.Common.{◌≡◌, ℕ, Bool, true, false, ◌||◌, List, [], ◌∷◌, ◌++◌, fold, slice_get, Some, refl, sym, ap, ◌∙◌, subst, inl, inr, ◌⊎◌, append_assoc}
+use Rattle.std.proofs.Common.{◌≡◌, ℕ, Bool, true, false, ◌||◌, List, [], ◌∷◌, ◌++◌, fold, slice_get, Option, Some, None, IsTrue, ◌↔◌, refl, sym, ap, ◌∙◌, subst, inl, inr, ◌⊎◌, append_assoc}
 use Rattle.std.specs.Prelude.{if◌then◌else◌}
 use Rattle.std.specs.List.{list_any, flat_map}
 use Rattle.std.specs.Str.{bytes_eq}
@@ -126,3 +126,13 @@ firsts_distinct names = fold_distinct [] names tt
 -- the number of a name is its place
 pub number_at : (names : List (List ℕ)) (n : List ℕ) (i : ℕ) → AreDistinct names → slice_get names i ≡ Some n → event_number names n ≡ i
 number_at names n i d at = place_in bytes_eq bytes_decides names i n d at
+
+-- what stands at a place is the name exactly where its bytes are those of the name
+pub stands_there : (at : Option (List ℕ)) (found name : List ℕ) (r : Bool) → at ≡ Some found → r ≡ bytes_eq found name → IsTrue r ↔ (at ≡ Some name)
+stands_there at found name r is e = (
+  λ t. is ∙ ap Some ((bytes_decides found name).0 (sym e ∙ t)),
+  λ there. e ∙ (bytes_decides found name).1 (let same : Some found ≡ Some name = sym is ∙ there in cc),
+)
+
+pub nothing_there : (at : Option (List ℕ)) (name : List ℕ) → at ≡ None → IsTrue false ↔ (at ≡ Some name)
+nothing_there at name is = (λ t. absurd (let f : false ≡ true = t in cc), λ there. absurd (let none : None ≡ Some name = sym is ∙ there in cc))

@@ -1,4 +1,4 @@
-ghost use Rattle.std.specs.Prelude.{◌≡◌, ◌+◌, ℕ, List, map, fold, IfOk, OnOk, IfErr};
+ghost use Rattle.std.specs.Prelude.{◌≡◌, ◌↔◌, ◌+◌, ℕ, List, Some, map, fold, slice_get, IsTrue, IfOk, OnOk, IfErr};
 ghost use Rattle.flow_model.specs.Lists.{◌∈◌, Each};
 ghost use Rattle.flow_workflow.specs.Numbers.{event_number};
 ghost use Rattle.flow_policy.specs.Mentions.{said_in};
@@ -12,18 +12,33 @@ use crate::stage::Stage;
 use flow_facts::Name;
 use flow_workflow::Numbered;
 use std::alloc::Global;
+use std::cmp::max;
 
-/// The number of the name in the table.
+/// Whether the name stands at that place.
+fn stands_at(names: &[Name], place: u32, name: &[u8]) -> bool
+    ensures { IsTrue result ↔ (slice_get names.now place ≡ Some name.now) }
+{
+    match names.get(place as usize) {
+        Some(found) => found.bytes() == name,
+        None => false,
+    }
+}
+
+/// The number of the name in the table. It is looked up where it is not the one that is guessed.
 fn number_in(
     alloc: Global,
     table: &Numbered<Name>,
+    guess: u32,
     mention: Mention<'_>,
 ) -> Result<u32, PolicyRefusal>
     ensures ok { IfOk result (λ n. ((said_in mention.entry).name ∈ table.now) × (n ≡ event_number table.now (said_in mention.entry).name)) }
     ensures refused { IfErr result (λ refusal. IsMissing table.now (said_in mention.entry) refusal) }
 {
     // no name stands twice in the table
-    let _names = table.as_slice();
+    let names = table.as_slice();
+    if stands_at(names, guess, mention.name) {
+        return Ok(guess);
+    }
     let name = Name::new(alloc, mention.name)?;
     match table.number_of(&name) {
         Some(number) => Ok(number),
@@ -37,12 +52,13 @@ fn number_in(
 fn user_number(
     alloc: Global,
     table: &Numbered<Name>,
+    guess: u32,
     mention: Mention<'_>,
 ) -> Result<u32, PolicyRefusal>
     ensures ok { IfOk result (λ n. ((said_in mention.entry).name ∈ table.now) × (n ≡ event_number table.now (said_in mention.entry).name + 1)) }
     ensures refused { IfErr result (λ refusal. IsMissing table.now (said_in mention.entry) refusal) }
 {
-    match number_in(alloc, table, mention)?.checked_add(1) {
+    match number_in(alloc, table, guess, mention)?.checked_add(1) {
         Some(number) => Ok(number),
         None => Err(PolicyRefusal::NoMemory),
     }
@@ -75,6 +91,9 @@ pub(crate) struct Draft {
     pub(crate) role: u32,
     /// The last event that was named first of a pair.
     pub(crate) first: u32,
+    /// How many users and how many roles were named. A name that stands for the first time has the next number.
+    pub(crate) users: u32,
+    pub(crate) roles: u32,
     /// Users with their roles.
     pub(crate) members: Vec<(u32, u32)>,
     /// Events with the roles that are allowed them.
@@ -89,6 +108,8 @@ fn no_draft(alloc: Global) -> Draft
     Draft {
         role: 0,
         first: 0,
+        users: 0,
+        roles: 0,
         members: Vec::new(alloc),
         allowed: Vec::new(alloc),
         separate: Vec::new(alloc),
@@ -113,10 +134,12 @@ impl Draft {
     {
         match mention.stage {
             Stage::RoleNeeded | Stage::AllowedNeeded => {
-                self.role = number_in(alloc, &staff.roles, mention)?;
+                self.role = number_in(alloc, &staff.roles, self.roles, mention)?;
+                self.roles = max(self.roles, self.role.saturating_add(1));
             }
             Stage::UserNeeded => {
-                let user = user_number(alloc, &staff.users, mention)?;
+                let user = user_number(alloc, &staff.users, self.users, mention)?;
+                self.users = max(self.users, user);
                 self.members.push((user, self.role))?;
             }
             Stage::EventNeeded => {

@@ -13,6 +13,7 @@ mod refusal;
 mod role_table;
 mod staff;
 mod stage;
+mod symbol;
 mod tie;
 mod tie_table;
 

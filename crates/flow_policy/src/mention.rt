@@ -7,8 +7,9 @@ ghost use Rattle.flow_policy.specs.Mentions.{said_in, AreMentions, IsReadRefusal
 
 use crate::refusal::PolicyRefusal;
 use crate::stage::Stage;
+use crate::symbol::symbol_at;
 use flow_lex::Token;
-use flow_reader::{Symbol, symbol_of};
+use flow_reader::Symbol;
 use std::alloc::{AllocError, Global};
 
 /// A name of a policy, lent by its text: the stage of the reading at which it stands, and its place.
@@ -49,7 +50,7 @@ pub(crate) fn mentions_of<'a>(
     let mut stage = Stage::StatementNeeded;
     let mut rest = tokens;
     while let Some((token, more)) = rest.split_first() {
-        let symbol = symbol_of(text, *token);
+        let symbol = symbol_at(text, *token);
         let Some(next) = stage.next(symbol) else {
             return Err(PolicyRefusal::Expected { place: token.start });
         };

@@ -77,6 +77,8 @@ fn policy_with(alloc: Global, users: Numbered<Name>, draft: Draft) -> Result<Pol
     let Draft {
         role: _,
         first: _,
+        users: _,
+        roles: _,
         members,
         allowed,
         separate,
