@@ -4,7 +4,9 @@ use Rattle.leaf_rows.specs.Leaves.{has_leaf}
 use Rattle.leaf_rows.specs.declared.leaf_set.LeafSet.{LeafSet}
 use Rattle.flow_plan.specs.declared.cut_sides.CutSides.{CutSides}
 use Rattle.flow_plan.specs.declared.part_row.PartRow.{PartRow}
-use Rattle.flow_plan.specs.Parts.{PartAllows, KeepsBeside, KeepsAfter}
+use Rattle.flow_plan.specs.declared.part_row.Use.{Use}
+use Rattle.flow_plan.specs.declared.part_row.Use.TheVariants.{Beside, First}
+use Rattle.flow_plan.specs.Parts.{PartAllows, Keeps, KeepsBeside, KeepsAfter}
 
 -- what is not so
 is_not : (b : Bool) → ¬ IsTrue b → IsTrue (not b)
@@ -59,3 +61,9 @@ module _ {w : ℕ} (row : PartRow w) (claims : LeafSet w) (n : ℕ) (within meet
     λ yes. (λ x y x_in y_in has. absurd (apart yes x x_in has), λ inside. absurd (other inside)),
     λ all. is_not meets (λ met. let both = meets_is.0 met in let yes = within_is.1 (λ k claimed. all.0 both.0 k both.2 claimed both.1) in absurd (cc)),
   )
+
+-- beside no claimed ones a part keeps each leaf
+pub keeps_beside_none : {w : ℕ} → (what : Use) (row : PartRow w) (P : ℕ → Type 0) (n : ℕ) → ((x : ℕ) → ¬ P x) → Keeps what row P n
+keeps_beside_none Beside row P n none = λ x y x_in y_in has.
+    ⊎_elim (λ one. ⊎_elim (λ two. subst (λ (k : ℕ). IsTrue (has_leaf row.inside k)) (one ∙ sym two) has) (λ claimed. absurd (none y claimed)) y_in) (λ claimed. absurd (none x claimed)) x_in
+keeps_beside_none First row P n none = (λ x y claimed. absurd (none x claimed), λ inside x claimed. absurd (none x claimed))

@@ -11,6 +11,7 @@ pub mod Cuts
 pub mod Following
 pub mod CourseLemmas
 pub mod KeepLemmas
+pub mod PassedLemmas
 pub mod StepRows
 pub mod KeptOptions
 pub mod FoldPass

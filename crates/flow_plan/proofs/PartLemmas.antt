@@ -16,7 +16,7 @@ use Rattle.flow_plan.specs.declared.span.Span.{Span}
 use Rattle.flow_plan.specs.Rows.{IsRowOf, AreRowsOf}
 use Rattle.flow_plan.specs.Ahead.{IsInSome, IsOutside}
 use Rattle.flow_plan.specs.Span.{at_span, IsEarlier, AreRising, AddsSpans}
-use Rattle.flow_plan.specs.Parts.{IsOneAtMost, IsPartFor, ArePartsFor, Reaches, IsPartRow, HasTwo, HaveSameLeaves, HaveOtherLeaves, ArePartsOf}
+use Rattle.flow_plan.specs.Parts.{IsOneAtMost, IsPartFor, IsPlaced, ArePartsFor, Reaches, IsPartRow, HasTwo, HaveSameLeaves, HaveOtherLeaves, ArePartsOf}
 use Rattle.std.proofs.lemmas.Option.{slice_get-get_or}
 use Rattle.flow_plan.proofs.PlaceLemmas.{place_of_member, read_member}
 use Rattle.std.proofs.lemmas.List.Kept.{AllPairs-from_increasing}
@@ -253,6 +253,12 @@ all_apart ns before (s ∷ spans) (row ∷ rows) rising long order are = (
 
 -- ---- the rows of all parts
 
+row_placed : {w : ℕ} → (ns : List ℕ) (before : List (LeafSet w)) (s : Span) (row : PartRow w) → IsLong ns s → IsPartFor ns before s row → IsPlaced ns row
+row_placed ns before s row long for = record {
+  inside = subst (λ (t : Span). IsRowOf (λ x. x ∈ at_span t ns) row.inside) (sym for.span) for.inside;
+  within = subst (λ (t : Span). t.end ≤ length ns) (sym for.span) long.1;
+}
+
 one_at_most : (xs : List ℕ) → length xs < 2 → IsOneAtMost (λ x. x ∈ xs)
 one_at_most [] short x y hx hy = absurd hx
 one_at_most (z ∷ []) short x y hx hy = ⊎_elim (λ first. ⊎_elim (λ second. first ∙ sym second) (λ none. absurd none) hy) (λ none. absurd none) hx
@@ -286,6 +292,10 @@ parts_of_spans q pairs ns before none spans rows empty listed rising rows_are wh
           (λ span. let row = row_of_span ns before spans rows span.0 are span.1 in
           inr (row.0, row.1, part_row_of q pairs ns before part span.0 row.0 rows_are span.2 row.2))
           (adds.complete part member);
+      placed = each_from_members (IsPlaced (leaves q)) rows (λ row member.
+          let found = span_of_row ns before spans rows row are member in
+          subst (λ (l : List ℕ). IsPlaced l row) listed
+          (row_placed ns before found.0 row (each_member (IsLong ns) spans long found.0 found.1) found.2));
       two = each_from_members HasTwo rows (λ row member.
           let found = span_of_row ns before spans rows row are member in
           has_two ns before found.0 row rising (each_member (IsLong ns) spans long found.0 found.1) found.2);

@@ -4,6 +4,7 @@ pub mod Fields
 pub mod FoldRows
 pub mod Orders
 pub mod Parts
+pub mod Passed
 pub mod Planned
 pub mod RowMarks
 pub mod Rows

@@ -1,5 +1,5 @@
 -- Rows of bits for the isolated parts of a plan.
-use Rattle.std.specs.Prelude.{◌≡◌, ◌≢◌, ℕ, IsTrue, List, [], ◌∷◌, ◌⊎◌}
+use Rattle.std.specs.Prelude.{◌≡◌, ◌≢◌, ◌≤◌, ℕ, IsTrue, List, [], ◌∷◌, ◌⊎◌, length}
 use Rattle.leaf_rows.specs.Leaves.{has_leaf}
 use Rattle.leaf_rows.specs.declared.leaf_set.LeafSet.{LeafSet}
 use Rattle.flow_model.specs.Lists.{◌∈◌, Each}
@@ -21,8 +21,14 @@ IsOneAtMost P = (x y : ℕ) → P x → P y → x ≡ y
 
 -- the row of the leaves at those places
 pub record IsPartFor {w : ℕ} (ns : List ℕ) (before : List (LeafSet w)) (s : Span) (row : PartRow w) : Type 0 where
+  pub span : row.span ≡ s
   pub inside : IsRowOf (λ x. x ∈ at_span s ns) row.inside
   pub outside : IsRowOf (IsOutside (at_span s ns) (at_span s before)) row.outside
+
+-- its leaves are those at the places of its span
+pub record IsPlaced {w : ℕ} (ns : List ℕ) (row : PartRow w) : Type 0 where
+  pub inside : IsRowOf (λ x. x ∈ at_span row.span ns) row.inside
+  pub within : row.span.end ≤ length ns
 
 -- the leaves at the places of its span, and what is in some of their rows
 abbrev pub Reaches : {w : ℕ} → List ℕ → List (LeafSet w) → Reach w → Type 0
@@ -56,6 +62,7 @@ pub record ArePartsOf {w : ℕ} (q : Process) (pairs : List (ℕ × ℕ)) (rows 
   pub sound : (row : PartRow w) → row ∈ rows → (part : Process) × (part ∈ isolated_parts q) × IsPartRow q pairs part row
   pub complete : (part : Process) → part ∈ isolated_parts q →
       IsOneAtMost (λ x. x ∈ leaves part) ⊎ ((row : PartRow w) × (row ∈ rows) × IsPartRow q pairs part row)
+  pub placed : Each (IsPlaced (leaves q)) rows
   pub two : Each HasTwo rows
   pub apart : HaveOtherLeaves rows
 

@@ -12,6 +12,7 @@ mod knot_free;
 mod outline;
 mod part_row;
 mod parts;
+mod passed;
 mod places;
 mod plan;
 mod rows;

@@ -13,6 +13,8 @@ use leaf_rows::LeafSet;
 /// The leaves of an isolated part, and the leaves outside it that are directly before one of them.
 #[derive(Clone, Copy)]
 pub(crate) struct PartRow<const W: usize> {
+    /// The places of its leaves.
+    pub(crate) span: Span,
     inside: LeafSet<W>,
     outside: LeafSet<W>,
 }
@@ -99,6 +101,7 @@ impl<const W: usize> Reach<W> {
         let mut outside = self.before;
         outside.remove_all(&self.inside);
         PartRow {
+            span: self.span,
             inside: self.inside,
             outside,
         }

@@ -1,5 +1,5 @@
 //! What may come next in a plan, for all its leaves at once.
-ghost use Rattle.std.specs.Prelude.{◌≡◌, ◌<◌, ◌≤◌, ◌*◌, ◌↔◌, ◌⊎◌, ◌&&◌, ◌||◌, nat_lt, not, ℕ, Bool, List, IsTrue, IfNone, IfSome, [], ◌∷◌, length};
+ghost use Rattle.std.specs.Prelude.{◌≡◌, ◌<◌, ◌≤◌, ◌*◌, ◌↔◌, ◌⊎◌, ◌&&◌, ◌||◌, nat_lt, not, ℕ, Bool, List, All, IsTrue, IfNone, IfSome, [], ◌∷◌, length};
 ghost use Rattle.flow_model.specs.Lists.{◌∈◌, Each, AreDistinct};
 ghost use Rattle.flow_model.specs.Process.{Process, leaves};
 ghost use Rattle.flow_model.specs.Ready.{DirectlyBefore, DoneOr};
@@ -9,13 +9,14 @@ ghost use Rattle.flow_plan.specs.Fields.{Fills, IsTableOf};
 ghost use Rattle.flow_plan.specs.FoldRows.{AreFoldRows};
 ghost use Rattle.flow_plan.specs.Orders.{AreApart, IsSettledWith, MayComeNext, MayFollowInEveryOrder, TellOf};
 ghost use Rattle.flow_plan.specs.Planned.{Planned};
-ghost use Rattle.flow_plan.specs.Parts.{IsWaitedFor, PartAllows, Keeps};
+ghost use Rattle.flow_plan.specs.Parts.{IsPlaced, IsWaitedFor, PartAllows, Keeps};
 ghost use Rattle.flow_plan.specs.Sided.{IsDoneIn, StandsWith};
 ghost use Rattle.flow_plan.specs.Rows.{AreRowsOf, IsRowOf};
 
 use crate::cut_sides::CutSides;
 use crate::fold_row::FoldRow;
 use crate::part_row::{PartRow, Use};
+use crate::passed::{Kept, Passed};
 use crate::plan::Plan;
 use crate::sets::{first_outside, with};
 use crate::sides::Sides;
@@ -44,19 +45,27 @@ fn free_row<const W: usize>(
     row
 }
 
-/// Of the leaves those that each part lets come next.
+/// Of the leaves those that each part lets come next, where these are all the leaves of the plan.
 fn keep_allowed<const W: usize>(
+    all: &[u32],
     parts: &[PartRow<W>],
     sides: &CutSides<W>,
-    mut leaves: LeafSet<W>,
+    leaves: LeafSet<W>,
 ) -> LeafSet<W>
-    ensures { (n : ℕ) → IsTrue (has_leaf result n) ↔ (IsTrue (has_leaf leaves.entry n)
+    requires { All (λ n. n < 64 * W) all.now }
+    ensures { Each (IsPlaced all.now) parts.now → (n : ℕ) → IsTrue (has_leaf result n) ↔ (IsTrue (has_leaf leaves.entry n)
         × Each (λ row. PartAllows row sides.now n) parts.now) }
 {
+    let mut kept = Kept {
+        leaves,
+        within: None,
+    };
+    let mut passed = Passed::new();
     for part in parts {
-        leaves = part.keep_allowed(sides, leaves);
+        passed = passed.up_to(part, all, sides, &leaves);
+        kept.pass(part, &passed, sides);
     }
-    leaves
+    kept.leaves
 }
 
 /// Of the leaves those that each part keeps for that use, by the claimed ones.
@@ -69,6 +78,9 @@ fn keep_for<const W: usize>(
     ensures { (n : ℕ) → IsTrue (has_leaf result n) ↔ (IsTrue (has_leaf leaves.entry n)
         × Each (λ row. Keeps what row (λ x. IsTrue (has_leaf claims.now x)) n) parts.now) }
 {
+    if is_empty(claims) {
+        return leaves;
+    }
     for part in parts {
         leaves = part.keep_for(what, claims, leaves);
     }
@@ -167,7 +179,7 @@ impl<const W: usize> Table<W> {
             TellIn p (λ x. IsTrue (done x)) sides.now → IsRowOf (MayComeNext p (λ x. IsTrue (done x))) result }
     {
         let free = free_row(leaves, &self.before, sides);
-        keep_allowed(&self.parts, sides, free)
+        keep_allowed(leaves, &self.parts, sides, free)
     }
 
     /// A leaf for which that one waits, where it may not come next yet: no other settles it than one after which that one may.
