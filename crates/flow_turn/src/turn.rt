@@ -13,7 +13,7 @@ use atomic_table::{Seat, Shared};
 use crossbeam_utils::sync::EventCount;
 use std::snapshot::Snapshot;
 use std::sync::Wait;
-use std::thread;
+use std::{hint, thread};
 
 // The words: the tickets drawn, the tickets served, and the entries, each modulo 2^64.
 const DRAWN: usize = 0;
@@ -24,6 +24,10 @@ const ENTRIES: usize = 2;
 
 // The slot of the value.
 const VALUE: usize = 0;
+
+// How often the caller whose ticket comes next looks again before it lets others run: a turn mostly takes less than as many looks, and
+// to be woken takes longer.
+const LOOKS: u32 = 200;
 
 pub(crate) type Top<T> = Shared<
     Option<T>,
@@ -55,11 +59,29 @@ fn is_served<T: Kept>(top: &Top<T>, seat: &mut Chair<T>, ticket: u64) -> bool
     top.load::<Look>(seat, SERVED) == ticket
 }
 
-// Lets other threads run. While it is still another's turn then, it sleeps at its door, since with many callers a mere yield
-// would often give the processor to one whose turn is far off. It is counted at the door before it looks, so that it misses no call.
+// Looks again a while, for a caller whose ticket comes next, and tells whether its turn came. One whose turn is further off does not look.
+fn comes_soon<T: Kept>(top: &Top<T>, ticket: u64) -> bool
+    requires { top.now.table_id.words ≡ 3 }
+{
+    for _ in 0..LOOKS {
+        let served = top.peek(SERVED);
+        if served.wrapping_add(1) != ticket {
+            return served == ticket;
+        }
+        hint::spin_loop();
+    }
+    false
+}
+
+// Where its turn does not come soon, the caller lets other threads run. While it is still another's turn then, it sleeps at its door,
+// since with many callers a mere yield would often give the processor to one whose turn is far off. It is counted at the door before it
+// looks, so that it misses no call.
 fn step_aside<T: Kept, R: Wait>(rt: &R, top: &Top<T>, door: &EventCount, ticket: u64)
     requires { top.now.table_id.words ≡ 3 }
 {
+    if comes_soon(top, ticket) {
+        return;
+    }
     thread::yield_now();
     let key = door.prepare_wait();
     if top.peek(SERVED) != ticket {
