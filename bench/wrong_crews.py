@@ -34,17 +34,17 @@ struct InTurn<'g, G> {
     gate: &'g G,
 }
 
-impl<'g, G: Gate> flow_turn::Job<Held<G>> for InTurn<'g, G> {
+impl<'g, G: Gate + Drop> flow_turn::Job<Book<G>> for InTurn<'g, G> {
     type Answer = Move;
 
     ghost does = { λ _ _ _ _ _. Unit {0} };
 
-    fn run(self, held: &mut Held<G>, by: u32) -> Move {
+    fn run(self, book: &mut Book<G>, by: u32) -> Move {
         let InTurn { gate } = self;
-        match held.begin(by) {
+        match book.begin(by) {
             Move::Perform(call) => {
                 let outcome = gate.perform(call);
-                held.post(call, outcome, by);
+                book.post(call, outcome, by);
                 Move::Went
             }
             other => other,
@@ -67,11 +67,11 @@ fn map_indices<R: Threads + Sync, X: Send + Drop, F: Fn(usize) -> X + Sync>(
     Ok(all)
 }
 """
-ALL = "work_all(rt, alloc, held, &gate, workers);"
+ALL = "work_all(rt, alloc, book, &gate, workers);"
 STEP = "cuts.len().min(workers as usize)"
-WOKEN = "                idle.notify_one();\n"
-TOLD = "lock.with_turn(rt, &mut pass, Post::new(call, outcome));"
-AGAIN = "Move::Went | Move::Wait(_) => {}\n            Move::Over => break,"
+WOKEN = "    idle.notify_one();\n"
+TOLD = "let post = Post::new(call, outcome);\n    lock.with_turn(rt, pass, PostAndBegin { post })"
+AGAIN = "Move::Went | Move::Wait(_) => ask(rt, lock, idle, &mut pass),\n            Move::Over => break,"
 ASKED = "let outcome = self.perform(call);"
 # Of each body the file, what it changes there, and what it adds at the end.
 BODIES = {
@@ -82,8 +82,8 @@ BODIES = {
     "three_workers_at_most": (CREW, {ALL: ALL.replace("workers", "workers.min(3)")}, ""),
     "one_worker_less": (CREW, {ALL: ALL.replace("workers", "workers - workers / 64")}, ""),
     "nobody_is_woken": (CREW, {WOKEN: ""}, ""),
-    "who_waits_leaves": (CREW, {AGAIN: "Move::Went => {}\n            Move::Wait(_) | Move::Over => break,"}, ""),
-    "leaves_after_one_task": (CREW, {TOLD: TOLD + "\n                break;"}, ""),
+    "who_waits_leaves": (CREW, {AGAIN: "Move::Went => ask(rt, lock, idle, &mut pass),\n            Move::Wait(_) | Move::Over => break,"}, ""),
+    "leaves_after_one_task": (CREW, {TOLD: "lock.with_turn(rt, pass, Post::new(call, outcome));\n    Move::Over"}, ""),
     "finisher_asks_twice": (BOOK, {ASKED: "let _first = self.perform(call);\n            " + ASKED}, ""),
     "audit_by_one_thread": (AUDITS, {"use std::thread::{Threads, map_indices};": "use std::thread::Threads;"}, MAP_INDICES),
     "audit_by_one_worker_less": (AUDITS, {STEP: STEP.replace("workers as usize", "workers as usize - 1")}, ""),

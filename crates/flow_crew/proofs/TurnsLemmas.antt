@@ -15,7 +15,7 @@ use Rattle.flow_core.specs.Next.{IsNext}
 use Rattle.flow_core.proofs.SingleLemmas.{other_event, nexts_once, posts_done_once, posts_failed_once, rewinds_once}
 use Rattle.flow_crew.specs.declared.ends.Move.{Move}
 use Rattle.flow_crew.specs.declared.ends.Move.TheVariants.{Wait}
-use Rattle.flow_crew.specs.Moves.{IsNextStep, Advances, move_after, Tells, IsBegun, GoesBack, IsRecorded, IsPosted}
+use Rattle.flow_crew.specs.Moves.{IsNextStep, Advances, move_after, Tells, IsBegun, GoesBack, IsRecorded, IsPosted, IsPostedAndBegun}
 
 -- ---- what `begin` does
 
@@ -89,3 +89,10 @@ posteds_once r call o by after other (inr (inl h)) (inr (inr k)) = absurd (h.1 k
 posteds_once r call o by after other (inr (inr h)) (inl k) = absurd (h.0 k.0.0 k.0.1)
 posteds_once r call o by after other (inr (inr h)) (inr (inl k)) = absurd (k.1 h.1)
 posteds_once r call o by after other (inr (inr h)) (inr (inr k)) = recorded_once r call o by after other h.2 k.2
+
+-- ---- what the two do in one turn
+
+pub both_once : (r : Run) (call : Call) (o : Outcome) (by : ℕ) (a b : Move) (after other : Run) → IsPostedAndBegun r call o by a after → IsPostedAndBegun r call o by b other →
+    (a ≡ b) × (after ≡ other)
+both_once r call o by a b after other (told, posted, begun) (also, same, too) =
+    begins_once told by a b after other begun (subst (λ (run : Run). IsBegun run by b other) (posteds_once r call o by also told same posted) too)

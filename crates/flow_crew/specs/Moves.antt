@@ -76,6 +76,10 @@ IsPosted r call outcome by after =
     ⊎ ((HasNoEnd r × ¬ (IsOut r call) × (after ≡ r))
     ⊎ (HasNoEnd r × IsOut r call × IsRecorded r call outcome by after))
 
+-- A caller tells the outcome of a task, and then asks what to do next.
+abbrev pub IsPostedAndBegun : Run → Call → Outcome → ℕ → Move → Run → Type 0
+IsPostedAndBegun r call outcome by move after = (told : Run) × IsPosted r call outcome by told × IsBegun told by move after
+
 -- the run as it was, with further entries, each of them the caller's
 abbrev pub IsContinued : Run → ℕ → Run → Type 0
 IsContinued r by after =

@@ -9,9 +9,10 @@ ghost use Rattle.flow_crew.specs.Moves.{IsContinued, IsOfWorker, IsOfCrew};
 
 use crate::book::Book;
 use crate::ends::{End, Move};
-use crate::jobs::{Begin, Post};
+use crate::jobs::{Begin, Post, PostAndBegin};
 use crossbeam_utils::sync::EventCount;
 use flow_gate::Gate;
+use flow_model::Call;
 use flow_turn::{NewRefusal, Pass, TurnLock};
 use std::alloc::Global;
 use std::sync::Wait;
@@ -103,8 +104,7 @@ fn work_beside<R: Threads + Wait + Sync, G: Gate + Drop + Send>(
     root
 }
 
-/// One worker: it asks what to do, and performs tasks, until the run has come to an end. Who takes a task wakes one of the
-/// idle, for which there may be another; who waits asks again once woken.
+/// One worker: it asks what to do, and performs tasks, until the run has come to an end. Who waits asks again once woken.
 fn work<R: Wait, G: Gate + Drop>(
     rt: &R,
     lock: &TurnLock<Book<G>>,
@@ -115,19 +115,35 @@ fn work<R: Wait, G: Gate + Drop>(
     requires { pass.lock ≡ lock.now }
     ensures { result.lock ≡ lock.now }
 {
+    let mut told = Move::Went;
     for _ in rt.forever() {
-        match ask(rt, lock, idle, &mut pass) {
-            Move::Perform(call) => {
-                idle.notify_one();
-                let outcome = gate.perform(call);
-                lock.with_turn(rt, &mut pass, Post::new(call, outcome));
-            }
-            Move::Went | Move::Wait(_) => {}
+        told = match told {
+            Move::Perform(call) => perform(rt, lock, idle, gate, &mut pass, call),
+            Move::Went | Move::Wait(_) => ask(rt, lock, idle, &mut pass),
             Move::Over => break,
-        }
+        };
     }
     idle.notify_all();
     pass
+}
+
+/// Performs a task that the worker took, and asks in the turn in which it tells the outcome. First it wakes one of the idle, for
+/// which there may be another task.
+fn perform<R: Wait, G: Gate + Drop>(
+    rt: &R,
+    lock: &TurnLock<Book<G>>,
+    idle: &EventCount,
+    gate: &G,
+    pass: &mut Pass<Book<G>>,
+    call: Call,
+) -> Move
+    requires { pass.old.lock ≡ lock.now }
+    ensures { pass.new.lock ≡ lock.now }
+{
+    idle.notify_one();
+    let outcome = gate.perform(call);
+    let post = Post::new(call, outcome);
+    lock.with_turn(rt, pass, PostAndBegin { post })
 }
 
 /// What the worker is to do. Where that is to wait, it sleeps until it is woken; it is counted among the idle before it asks,

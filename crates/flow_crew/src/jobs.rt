@@ -1,6 +1,6 @@
 //! What callers do to a run in their turns.
 ghost use Rattle.std.specs.Prelude.{◌≡◌, true};
-ghost use Rattle.flow_crew.specs.Moves.{IsBegun, IsPosted};
+ghost use Rattle.flow_crew.specs.Moves.{IsBegun, IsPosted, IsPostedAndBegun};
 
 use crate::book::Book;
 use crate::ends::Move;
@@ -75,5 +75,22 @@ impl<G: Gate + Drop> Job<Book<G>> for Post<G> {
             gate: _,
         } = self;
         book.tracked.post(call, outcome, by);
+    }
+}
+
+/// The caller tells the outcome of a task and asks what to do next, as by `Book::post` and then `Book::begin`, in one turn.
+pub struct PostAndBegin<G: Gate> {
+    pub post: Post<G>,
+}
+
+impl<G: Gate + Drop> Job<Book<G>> for PostAndBegin<G> {
+    type Answer = Move;
+
+    ghost does = { λ job run by move after. IsPostedAndBegun run job.post.call job.post.outcome by move after };
+
+    fn run(self, book: &mut Book<G>, by: u32) -> Move {
+        let PostAndBegin { post } = self;
+        post.run(book, by);
+        Begin.run(book, by)
     }
 }

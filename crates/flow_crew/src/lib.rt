@@ -15,5 +15,5 @@ pub use book::Book;
 pub use crew::run_crew;
 pub use done::law_done_runs_commit;
 pub use ends::{End, Move};
-pub use jobs::{Begin, Post};
+pub use jobs::{Begin, Post, PostAndBegin};
 pub use single::law_turns_are_single;
