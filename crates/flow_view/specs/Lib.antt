@@ -1,0 +1,11 @@
+pub mod Arrows
+pub mod Drawn
+pub mod Flows
+pub mod Follow
+pub mod Overlap
+pub mod Placing
+pub mod Shapes
+pub mod Sizes
+pub mod Sketch
+pub mod Texts
+pub mod Told
