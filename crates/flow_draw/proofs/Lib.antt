@@ -1,0 +1,4 @@
+pub mod InsideLemmas
+pub mod LineLemmas
+pub mod NoteLemmas
+mod SketchSizes

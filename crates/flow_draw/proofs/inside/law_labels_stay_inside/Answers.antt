@@ -1,0 +1,11 @@
+use Rattle.flow_draw.proofs.InsideLemmas.{svg_inside, mermaid_inside, dot_inside}
+use Rattle.flow_draw.proofs.inside.law_labels_stay_inside.Goals as goal
+
+pub returns-clause-svg : goal.returns-clause-svg
+returns-clause-svg c = svg_inside
+
+pub returns-clause-mermaid : goal.returns-clause-mermaid
+returns-clause-mermaid c = mermaid_inside
+
+pub returns-clause-dot : goal.returns-clause-dot
+returns-clause-dot c = dot_inside

@@ -1,0 +1,15 @@
+pub mod Chart
+pub mod ChartLines
+pub mod ChartWords
+pub mod Element
+pub mod Escape
+pub mod Inside
+pub mod Lines
+pub mod Lookup
+pub mod Notes
+pub mod Pieces
+pub mod Svg
+pub mod SvgNotes
+pub mod SvgOrders
+pub mod SvgPage
+pub mod SvgShapes
