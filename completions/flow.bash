@@ -1,4 +1,4 @@
-# Completion of flow and flowkeep for bash: `source completions/flow.bash`, or by ./install.
+# Completion of flow, flowkeep and flowdesk for bash: `source completions/flow.bash`, or by ./install.
 # The modes and options are compared with the code by bench/words.py.
 
 _flow_modes=(
@@ -72,5 +72,22 @@ _flowkeep() {
     fi
 }
 
+_flowdesk() {
+    local word=${COMP_WORDS[COMP_CWORD]} before=${COMP_WORDS[COMP_CWORD - 1]}
+    COMPREPLY=()
+    case $before in
+        --form) mapfile -t COMPREPLY < <(compgen -W "svg mermaid dot" -- "$word") && return ;;
+        --journal) _flow_files "$word" && return ;;
+    esac
+    if [[ $COMP_CWORD -eq 1 ]]; then
+        mapfile -t COMPREPLY < <(compgen -W "draw --help --version" -- "$word")
+    elif [[ $word == -* ]]; then
+        mapfile -t COMPREPLY < <(compgen -W "$(_flow_unused --journal --form)" -- "$word")
+    else
+        _flow_files "$word"
+    fi
+}
+
 complete -F _flow flow
 complete -F _flowkeep flowkeep
+complete -F _flowdesk flowdesk

@@ -1,0 +1,7 @@
+use Rattle.std.proofs.Common.{[], refl}
+use Rattle.std.proofs.lemmas.Result.{IfOk-weaker}
+use Rattle.flow_desk.proofs.desk.draw_workflow.Goals as goal
+
+pub returns-in-Ok-clause-drawn : goal.returns-in-Ok-clause-drawn
+returns-in-Ok-clause-drawn c =
+    IfOk-weaker c.depict-text.result _ _ (λ picture is. (c.in-Ok.workflow, c.in-Ok.ensures.workflow, ([], refl, is))) c.depict-text.ensures.text

@@ -1,0 +1,13 @@
+pub mod Place
+pub mod Report
+pub mod Past
+pub mod Mark
+pub mod Standing
+pub mod Fallen
+pub mod Told
+pub mod Untold
+pub mod Untelling
+pub mod Viewing
+pub mod Stop
+pub mod Stopped
+pub mod Desk

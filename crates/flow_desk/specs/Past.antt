@@ -1,0 +1,42 @@
+-- What a history leaves beside what a core tells of it: the bans, and of each leaf whether the last claim on it failed.
+use Rattle.std.specs.Prelude.{◌≡◌, ◌<◌, ℕ, Bool, true, false, ◌==◌, if◌then◌else◌, List, [], ◌∷◌, ◌++◌, length, Some, slice_get}
+use Rattle.flow_model.specs.declared.history.Entry.{Entry}
+use Rattle.flow_model.specs.declared.history.Step.{Step}
+use Rattle.flow_model.specs.declared.history.Step.TheVariants.{Took, Failed, Rewound}
+use Rattle.flow_model.specs.Schema.{Schema}
+use Rattle.flow_model.specs.Run.{RunState, first_state, leaf_of_claim, next_state, IsLegal}
+use Rattle.flow_core.specs.Run.{Run, schema, now, with_entry}
+
+-- whether the last claim on the leaf failed, after one step more
+abbrev pub next_failed : RunState → ℕ → Bool → Step → Bool
+next_failed s leaf failed (Took claim other) = if other == leaf then false else failed
+next_failed s leaf failed (Failed claim effect) = if leaf_of_claim s claim == leaf then true else failed
+next_failed s leaf failed other = failed
+
+-- the same after the entries, one after another
+abbrev pub failed_after : Schema → RunState → ℕ → Bool → List Entry → Bool
+failed_after w s leaf failed [] = failed
+failed_after w s leaf failed (entry ∷ entries) = failed_after w (next_state w s entry.step) leaf (next_failed s leaf failed entry.step) entries
+
+-- whether the last claim on the leaf failed, in the whole history
+abbrev pub has_failed : Schema → List Entry → ℕ → Bool
+has_failed w history leaf = failed_after w first_state leaf false history
+
+-- the bans are those of the state that the history leaves, and of each leaf it is known whether the last claim on it failed
+pub record IsPast (r : Run) (bans : List (ℕ × ℕ)) (failed : List Bool) : Type 0 where
+  pub bans_are : bans ≡ (now r).bans
+  pub count : length failed ≡ length (schema r).labels
+  pub failed_are : (leaf : ℕ) → leaf < length (schema r).labels → slice_get failed leaf ≡ Some (has_failed (schema r) r.history leaf)
+
+-- the entry is made where the history stays legal with it, and what it leaves is known; else the run stays as it is
+abbrev pub Follows : Run → Entry → Bool → Run → List (ℕ × ℕ) → List Bool → Type 0
+Follows r entry true after bans failed =
+    IsLegal (schema r) r.limit (r.history ++ entry ∷ []) × (after ≡ with_entry r entry.by entry.step) × IsPast after bans failed
+Follows r entry false after bans failed = ¬ (IsLegal (schema r) r.limit (r.history ++ entry ∷ [])) × (after ≡ r)
+
+-- the step neither takes a leaf nor bans one, and no claim fails by it
+abbrev pub LeavesPast : Step → Type 0
+LeavesPast (Took claim leaf) = ⊥
+LeavesPast (Failed claim effect) = ⊥
+LeavesPast (Rewound index) = ⊥
+LeavesPast other = Unit {0}

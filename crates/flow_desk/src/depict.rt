@@ -1,0 +1,135 @@
+ghost use Rattle.std.specs.Prelude.{◌≡◌, map, IfOk, IfErr};
+ghost use Rattle.flow_form.specs.RuleForm.{rule_shape_of};
+ghost use Rattle.flow_form.specs.Script.{said};
+ghost use Rattle.flow_view.specs.Drawn.{drawing};
+ghost use Rattle.flow_view.specs.Sizes.{IsMeasured};
+ghost use Rattle.flow_view.specs.Sketch.{process_in, sketch_of};
+ghost use Rattle.flow_draw.specs.Notes.{note_of};
+ghost use Rattle.flow_desk.specs.Viewing.{view_stop};
+ghost use Rattle.flow_desk.specs.Desk.{AreLabels, IsPrinted, IsDepicted, IsNotDepicted, text_in};
+
+use crate::stop::DeskStop;
+use flow_draw::{Format, notes_of, print_dot, print_mermaid, print_svg};
+use flow_facts::Name;
+use flow_form::{RuleForm, Script};
+use flow_view::{Labels, Mark, Picture, Scene, ViewRefusal, labels_of, picture_of, scene_of};
+use flow_workflow::Workflow;
+use std::alloc::{AllocError, Global};
+
+/// What is drawn of a workflow, with what is shown of its names.
+#[derive(Drop)]
+struct View {
+    labels: Labels,
+    scene: Scene,
+}
+
+/// Why a workflow has no picture, as what stops the desk.
+fn view_stop(refusal: ViewRefusal) -> DeskStop
+    ensures { result ≡ view_stop refusal }
+{
+    match refusal {
+        ViewRefusal::TooLarge => DeskStop::TooLarge,
+        ViewRefusal::NoMemory => DeskStop::NoMemory,
+    }
+}
+
+/// The parts of the picture of a workflow that a script says.
+fn view_of(alloc: Global, script: &Script, workflow: &Workflow) -> Result<View, DeskStop>
+    ensures labels { IfOk result (λ view. AreLabels (said script.now) workflow.now view.labels) }
+    ensures sketch { IfOk result (λ view. sketch_of view.scene ≡ drawing (said script.now) view.labels workflow.now.tree.process) }
+    ensures goal { IfOk result (λ view. process_in (sketch_of view.scene) ≡ workflow.now.tree.process) }
+    ensures measured { IfOk result (λ view. IsMeasured view.scene) }
+    ensures stop { IfErr result (IsNotDepicted (said script.now) workflow.now) }
+{
+    let labels = labels_of(alloc, script, workflow)?;
+    match scene_of(alloc, script, workflow, &labels) {
+        Ok(scene) => Ok(View { labels, scene }),
+        Err(refusal) => {
+            drop(labels);
+            Err(view_stop(refusal))
+        }
+    }
+}
+
+/// The text of a picture in the form that is asked for.
+fn print_in(
+    alloc: Global,
+    form: Format,
+    view: &View,
+    picture: &Picture,
+    marks: &[Mark],
+    notes: &[Name],
+) -> Result<Vec<u8>, AllocError>
+    ensures { IfOk result (λ text. text.items ≡ text_in form (sketch_of view.now.scene) picture.now view.now.labels marks.now notes.now) }
+{
+    let View { labels, scene } = view;
+    let arrows = &picture.arrows;
+    match form {
+        Format::Svg => print_svg(alloc, picture, labels, marks, notes),
+        Format::Mermaid => print_mermaid(alloc, scene, arrows, labels, marks, notes),
+        Format::Dot => print_dot(alloc, scene, arrows, labels, marks, notes),
+    }
+}
+
+/// The text of the picture of a workflow whose parts are these.
+fn print_view(
+    alloc: Global,
+    form: Format,
+    view: &View,
+    workflow: &Workflow,
+    marks: &[Mark],
+    notes: &[Name],
+) -> Result<Vec<u8>, AllocError>
+    requires goal { process_in (sketch_of view.now.scene) ≡ workflow.now.tree.process }
+    requires measured { IsMeasured view.now.scene }
+    ensures { IfOk result (λ text. IsPrinted form (sketch_of view.now.scene) view.now.labels workflow.now marks.now notes.now text.items) }
+{
+    let picture = picture_of(alloc, &view.scene, workflow)?;
+    let text = print_in(alloc, form, view, &picture, marks, notes);
+    drop(picture);
+    text
+}
+
+/// The text of the picture of a workflow that a script says, with a run's marks.
+pub(crate) fn depict(
+    alloc: Global,
+    script: Script,
+    workflow: &Workflow,
+    marks: &[Mark],
+    form: Format,
+) -> Result<Vec<u8>, DeskStop>
+    ensures text { IfOk result (λ text. IsDepicted form (said script) workflow.now marks.now text.items) }
+    ensures stop { IfErr result (IsNotDepicted (said script) workflow.now) }
+{
+    match view_of(alloc, &script, workflow) {
+        Ok(view) => {
+            let Script { decls, goal, rules } = script;
+            drop(decls);
+            drop(goal);
+            Ok(print_all(alloc, form, &view, workflow, marks, rules)?)
+        }
+        Err(stop) => {
+            drop(script);
+            Err(stop)
+        }
+    }
+}
+
+/// The text of a picture with its constraints.
+fn print_all(
+    alloc: Global,
+    form: Format,
+    view: &View,
+    workflow: &Workflow,
+    marks: &[Mark],
+    rules: Vec<RuleForm>,
+) -> Result<Vec<u8>, AllocError>
+    requires goal { process_in (sketch_of view.now.scene) ≡ workflow.now.tree.process }
+    requires measured { IsMeasured view.now.scene }
+    ensures { IfOk result (λ text. IsPrinted form (sketch_of view.now.scene) view.now.labels workflow.now marks.now (map (λ rule. note_of (rule_shape_of rule)) rules.items) text.items) }
+{
+    let notes = notes_of(alloc, rules)?;
+    let text = print_view(alloc, form, view, workflow, marks, &notes);
+    drop(notes);
+    text
+}

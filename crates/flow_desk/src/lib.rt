@@ -1,0 +1,21 @@
+//! Where a run stands at each leaf of its workflow, and the picture that shows it.
+#![tactic(auto)]
+
+mod depict;
+mod desk;
+mod follow;
+mod marks;
+mod past;
+mod place;
+mod replay;
+mod report;
+mod run_file;
+mod source;
+mod stop;
+mod told;
+
+pub use desk::drawn;
+pub use flow_draw::Format;
+pub use place::{Position, position_of};
+pub use run_file::GREATEST_RUN;
+pub use stop::{DeskStop, Telling};

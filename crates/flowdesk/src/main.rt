@@ -1,0 +1,108 @@
+//! `flowdesk`: draws the workflow of a file, and where a run of it stands, to the standard output.
+#![tactic(auto)]
+
+mod message;
+mod words;
+
+use flow_desk::drawn;
+use message::{NO_MEMORY, tell};
+use std::alloc::AllocError;
+use std::env;
+use std::fs::{self, File};
+use std::io::{self, Write};
+use std::process::ExitCode;
+use std::rt::{Env, Files};
+use words::{Call, call_in, desk_command};
+
+/// The status where the words are no call.
+const WORDS: u8 = 2;
+
+/// The status where the picture is not written.
+const WRITE_FAULT: u8 = 5;
+
+/// The status where a file is not read.
+const DISK: u8 = 8;
+
+/// The words of the command line. Where one of them is no text there are none, which is no call either.
+fn words_given(rt: &(impl Env + AllocGlobal)) -> Result<Vec<String>, AllocError> {
+    match env::args(rt) {
+        Ok(args) => Vec::from_iter(rt.alloc(), args),
+        Err(error) if error.kind() == io::ErrorKind::OutOfMemory => Err(AllocError),
+        Err(_) => Ok(Vec::new(rt.alloc())),
+    }
+}
+
+/// Writes that a file was not read, and gives the status.
+fn unread(rt: &impl Eprint, path: &str, error: io::Error) -> u8 {
+    let _ = eprintln!(rt; "{path}: {error}");
+    DISK
+}
+
+/// Writes the picture, and gives the status.
+fn write(rt: &(impl Print + Eprint), picture: &[u8]) -> u8 {
+    let mut out = io::writer(rt);
+    match out.write_all(picture).and_then(|()| out.flush()) {
+        Ok(()) => 0,
+        Err(error) => {
+            let _ = eprintln!(rt; "flowdesk: standard output: {error}");
+            WRITE_FAULT
+        }
+    }
+}
+
+/// The bytes of the run's file, if one is to be shown.
+fn read_run<R: Files<File = File> + AllocGlobal>(
+    rt: &R,
+    journal: Option<&str>,
+) -> io::Result<Option<Vec<u8>>> {
+    match journal {
+        Some(path) => Ok(Some(fs::read(rt, path)?)),
+        None => Ok(None),
+    }
+}
+
+/// Draws what the words ask for, and gives the status.
+fn draw<R: Files<File = File> + AllocGlobal + Print + Eprint>(rt: &R, call: Call<'_>) -> u8 {
+    let text = match fs::read(rt, call.file) {
+        Ok(text) => text,
+        Err(error) => return unread(rt, call.file, error),
+    };
+    let journal = call.journal.unwrap_or("");
+    let run = match read_run(rt, call.journal) {
+        Ok(run) => run,
+        Err(error) => return unread(rt, journal, error),
+    };
+    let picture = match &run {
+        Some(run) => drawn(rt.alloc(), &text, Some(run), call.form),
+        None => drawn(rt.alloc(), &text, None, call.form),
+    };
+    match picture {
+        Ok(picture) => write(rt, &picture),
+        Err(stop) => tell(rt, call.file, &text, journal, &stop),
+    }
+}
+
+/// Reads the words, does what they ask for, and gives the status.
+fn desk<R: Files<File = File> + Env + AllocGlobal + Print + Eprint>(rt: &R) -> u8 {
+    let Ok(words) = words_given(rt) else {
+        return NO_MEMORY;
+    };
+    let Ok(command) = desk_command(rt.alloc()) else {
+        return NO_MEMORY;
+    };
+    match command.try_get_matches_from(words.as_slice()) {
+        Ok(matches) => match call_in(&matches) {
+            Some(call) => draw(rt, call),
+            None => WORDS,
+        },
+        Err(error) => {
+            let status = if error.use_stderr() { WORDS } else { 0 };
+            let _ = error.print(rt);
+            status
+        }
+    }
+}
+
+fn main(rt: HostRuntime) -> ExitCode {
+    ExitCode::from(desk(&rt))
+}
