@@ -1,9 +1,9 @@
 #!/usr/bin/env python3
 """Tries what the documents show: every input and output of them is given to the programs, and must be as it is shown.
 
-Usage: bench/documents.py [--write] [DOCUMENT.md ..] [FLOW [FLOWKEEP]]
+Usage: bench/documents.py [--write] [DOCUMENT.md ..] [FLOW [FLOWKEEP [FLOWDESK]]]
 
-All documents, crates/flow/out/flow and crates/flowkeep/out/flowkeep where they are not given. docs/DOCUMENTS.md has the form of what is shown.
+All documents, and the programs crates/NAME/out/NAME, where they are not given. docs/DOCUMENTS.md has the form of what is shown.
 COOKBOOK and SURPRISES have their blocks as rows of crates/test_cases/data too: each block has its rows and each row its block, byte
 for byte; `--write` writes these rows, with what the program writes. Ends with 1 where a document and the program, or a row, differ.
 """
@@ -21,16 +21,17 @@ from templates import holds_by_hand, named_lists
 TOP = pathlib.Path(__file__).resolve().parent.parent
 DOCUMENTS = ["README.md", "docs/COOKBOOK.md", "docs/SURPRISES.md", "docs/FORMATS.md", "docs/SCALE.md", "examples/README.md"]
 ROWS = {"docs/COOKBOOK.md": "cookbook.rows", "docs/SURPRISES.md": "surprises.rows"}
+PROGRAMS = ["flow", "flowkeep", "flowdesk"]
 LINKED = ["examples", "bench", "docs", "man", "completions", "install", "README.md"]
 # As many journals as an audit takes.
 JOURNALS = 1024
 
 
 class Programs:
-    """The two programs, and a folder in which they are called."""
+    """The programs by their names, and a folder in which they are called."""
 
-    def __init__(self, flow, flowkeep, folder):
-        self.paths, self.folder, self.calls = {"flow": flow, "flowkeep": flowkeep}, folder, 0
+    def __init__(self, paths, folder):
+        self.paths, self.folder, self.calls = paths, folder, 0
 
     def answer(self, call, text):
         """The status of a call, and what it writes."""
@@ -152,7 +153,7 @@ class Document:
 
     def take_output(self, block):
         call, _, wanted = block.rest.partition(" = ")
-        if call.split()[:1] not in (["flow"], ["flowkeep"]):
+        if call.split()[:1] not in [[name] for name in PROGRAMS]:
             raise Faulty(f"{block.place}: an output of no call")
         self.unread = None
         self.add(block, call, joined(self.flow, self.part), wrong_output(block.lines, wanted))
@@ -298,11 +299,11 @@ def write_rows(name, rows):
     (TOP / "crates/test_cases/data" / ROWS[name]).write_text(head + "".join("=== " + row for row in rows))
 
 
-def folder_of(path, flow, flowkeep):
+def folder_of(path, programs):
     """A folder for a document, with links to what its consoles name."""
     (path / "bin").mkdir(parents=True)
-    (path / "bin/flow").symlink_to(flow)
-    (path / "bin/flowkeep").symlink_to(flowkeep)
+    for name, program in programs.items():
+        (path / "bin" / name).symlink_to(program)
     for name in LINKED:
         if (TOP / name).exists():
             (path / name).symlink_to(TOP / name)
@@ -312,12 +313,12 @@ def folder_of(path, flow, flowkeep):
 def main(words):
     paths = [word for word in words if word != "--write" and not word.endswith(".md")]
     named = [word for word in words if word.endswith(".md")] or DOCUMENTS
-    flow = pathlib.Path(paths[0] if paths else TOP / "crates/flow/out/flow").resolve()
-    flowkeep = pathlib.Path(paths[1] if len(paths) > 1 else TOP / "crates/flowkeep/out/flowkeep").resolve()
+    paths += [TOP / f"crates/{name}/out/{name}" for name in PROGRAMS[len(paths):]]
+    called = {name: pathlib.Path(path).resolve() for name, path in zip(PROGRAMS, paths)}
     faults, counts, calls, rowed = [], {}, 0, 0
     with tempfile.TemporaryDirectory(prefix="documents-") as top:
         for number, name in enumerate(name for name in named if (TOP / name).exists()):
-            programs = Programs(flow, flowkeep, folder_of(pathlib.Path(top) / str(number), flow, flowkeep))
+            programs = Programs(called, folder_of(pathlib.Path(top) / str(number), called))
             document = Document(name, programs)
             rows = document.take_all()
             if name in ROWS:
