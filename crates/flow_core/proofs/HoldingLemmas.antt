@@ -27,7 +27,7 @@ use Rattle.flow_core.proofs.Steps.{events_at, sound_now}
 use Rattle.flow_core.proofs.GivenClaims.{find_place, given_is}
 
 -- a claim is found by its number
-found_by_number : (first : ℕ) (claims : List Claim) (x : Claim) → map number_of claims ≡ numbers_from first (length claims) → x ∈ claims →
+pub found_by_number : (first : ℕ) (claims : List Claim) (x : Claim) → map number_of claims ≡ numbers_from first (length claims) → x ∈ claims →
     find (λ (claim : Claim). nat_eq claim.number x.number) claims ≡ Some x
 found_by_number first [] x numbered m = absurd m
 found_by_number first (y ∷ ys) x numbered (inl e) = rw (eq-eqb y.number x.number (ap number_of (sym e))) (ap Some (sym e))

@@ -28,11 +28,6 @@ use Rattle.flow_expand.proofs.Declarations.{flow_found, flows_below, flow_place,
 use Rattle.flow_expand.proofs.LayLemmas.{ready, capped_sum}
 use Rattle.flow_expand.proofs.Endings.{no_recursion}
 
--- what an error says as well
-pub err_to : {T E : Type 0} (r : Result T E) (P Q : E → Type 0) → ((x : E) → P x → Q x) → IfErr r P → IfErr r Q
-err_to (Ok x) P Q f h = h
-err_to (Err e) P Q f h = f e h
-
 pub err_kept : {T E : Type 0} (r : Result T E) (x : E) (P : E → Type 0) → IsErrAnd r (λ e. e ≡ x) → P x → IfErr r P
 err_kept (Ok y) x P is h = tt
 err_kept (Err e) x P is h = subst P (sym is) h

@@ -290,10 +290,6 @@ ready d laid (n ∷ ns) h (here, declared) all = (go (found_in d.flows n) refl, 
     go None e =
         ⊎_elim (λ m. subst (λ l. n ∈ l) (sym h.events) m) (λ m. absurd (found_none d.flows n e (subst (λ l. n ∈ l) (sym h.flows) m))) (of_shuffle (names_split (decls_of d)) n here)
 
-pub ok_to : {T E : Type 0} (r : Result T E) (P Q : T → Type 0) → ((x : T) → P x → Q x) → IfOk r P → IfOk r Q
-ok_to (Ok x) P Q f h = f x h
-ok_to (Err e) P Q f h = h
-
 pub list_step : (decls : List Declared) (layout : List Piece) (by : Operator) (forms : List Form) (i : ℕ) (item : Form) (root : Root) → i < length forms → item ≡ get_or forms i item →
     ListGoes decls layout by (map shape_of (take i forms) ++ shape_of item ∷ []) root → ListGoes decls layout by (map shape_of (take (i + 1) forms)) root
 list_step decls layout by forms i item root lt is h =

@@ -27,14 +27,6 @@ use Rattle.flow_policy.proofs.FirstLemmas.{member_is_first}
 use Rattle.flow_policy.proofs.DraftLemmas.{bare, names_are, users_are, roles_are, pairs_are}
 use Rattle.flow_model.proofs.MadeLists.{mem-map}
 
-pub ok_to : {V E : Type 0} (A B : V → Type 0) (r : Result V E) → ((v : V) → A v → B v) → IfOk r A → IfOk r B
-ok_to A B (Ok v) to h = to v h
-ok_to A B (Err e) to h = h
-
-pub err_to : {V E : Type 0} (A B : E → Type 0) (r : Result V E) → ((e : E) → A e → B e) → IfErr r A → IfErr r B
-err_to A B (Ok v) to h = h
-err_to A B (Err e) to h = to e h
-
 -- what was numbered is what the names assign
 pub mentioned : (ms : List Mentioned) (events : List (List ℕ)) (users : List (List ℕ)) (d : Numbered) (p : Assigned) → users ≡ (names_of ms events).users →
     d ≡ fold (with_mention (names_of ms events)) nothing_numbered ms → Each (IsListed (names_of ms events)) ms → IsAssignedBy users d p → IsMentionedIn ms events p

@@ -1,3 +1,4 @@
+use Rattle.std.proofs.lemmas.Result.{IfErr-weaker}
 use Rattle.std.proofs.Common.{rules, ℕ, ◌≡◌, ◌∙◌, ◌<◌, ◌≤◌, length, map, ap, sym, subst}
 use Rattle.flow_model.specs.declared.limits.TheConstants.{MOST_LEAVES, MOST_RULE_NAMES}
 use Rattle.flow_model.specs.Lists.{◌∈◌, Each}
@@ -12,12 +13,12 @@ use Rattle.flow_expand.specs.Lay.{IsLaid, IsSettled}
 use Rattle.flow_expand.specs.Settlement.{IsFound}
 use Rattle.flow_expand.specs.Refusals.{rule_name_count}
 use Rattle.flow_expand.proofs.Declarations.{goal_declared, names_in_all}
-use Rattle.flow_expand.proofs.LaidGoalLemmas.{all_ready, found_refusal, err_to, err_kept, goal_refusal, rules_refusal, prepared}
+use Rattle.flow_expand.proofs.LaidGoalLemmas.{all_ready, found_refusal, err_kept, goal_refusal, rules_refusal, prepared}
 use Rattle.flow_expand.proofs.laid_goal.lay_goal.Goals as goal
 
 pub returns-in_err-settle_all-clause-refused : goal.returns-in_err-settle_all-clause-refused
 returns-in_err-settle_all-clause-refused c =
-    err_to c.from_residual.result (IsFound (decls_of c.args.directory.now)) _ (λ e h. found_refusal (said c.args.script.now) (decls_of c.args.directory.now) e c.requires.decls c.requires.few h) (search rules)
+    IfErr-weaker c.from_residual.result (IsFound (decls_of c.args.directory.now)) _ (λ e h. found_refusal (said c.args.script.now) (decls_of c.args.directory.now) e c.requires.decls c.requires.few h) (search rules)
 
 pub lay-requires-clause-ready : goal.lay-requires-clause-ready
 lay-requires-clause-ready c =
@@ -33,7 +34,7 @@ returns-in_err-at_most-clause-refused c =
     let d = c.args.directory.now in
     let s = said c.args.script.now in
     let all = λ (k : ℕ) (lt : k < length d.goals.items). c.in_ok-settle_all.ensures.all k (subst (λ n. k < n) (sym d.goals.ok.0) lt) in
-    err_to c.from_residual-in_err-at_most.result (λ e. (MOST_LEAVES < c.most.result) × (e ≡ refusal.TooLarge part.Goal c.most.result)) _
+    IfErr-weaker c.from_residual-in_err-at_most.result (λ e. (MOST_LEAVES < c.most.result) × (e ≡ refusal.TooLarge part.Goal c.most.result)) _
     (goal_refusal d _ _ c.in_ok-settle_all.ensures.settlement.laid all s c.requires.closed c.requires.decls c.requires.few c.lay.new.layout.items c.in_ok-root.root c.in_ok-root.ensures.ok c.most.result c.most.ensures)
     (err_kept c.from_residual-in_err-at_most.result _ _ c.from_residual-in_err-at_most.ensures.1 (subst (λ n. (n < c.most.result) × (c.in_err-at_most.field-0.0 ≡ refusal.TooLarge part.Goal c.most.result)) c.from.ensures c.in_err-at_most.ensures.refused))
 
@@ -45,7 +46,7 @@ returns-in_err-at_most-2-clause-refused c =
     let written : c.count_names.result ≡ capped (rule_name_count s) =
     c.count_names.ensures ∙ ap (λ rs. capped (length (names_in_rules (rule_shapes (map rule_shape_of rs))))) c.deref-2.ensures.value ∙ ap (λ l. capped (length l)) (names_in_all s.rules) in
     let fits : c.most.result ≤ MOST_LEAVES = subst (λ n. c.most.result ≤ n) c.from.ensures c.in_ok-at_most.ensures.ok in
-    err_to c.from_residual-in_err-at_most-2.result (λ e. (MOST_RULE_NAMES < c.count_names.result) × (e ≡ refusal.TooLarge part.Rules c.count_names.result)) _
+    IfErr-weaker c.from_residual-in_err-at_most-2.result (λ e. (MOST_RULE_NAMES < c.count_names.result) × (e ≡ refusal.TooLarge part.Rules c.count_names.result)) _
     (rules_refusal d _ _ c.in_ok-settle_all.ensures.settlement.laid all s c.requires.closed c.requires.decls c.requires.few c.lay.new.layout.items c.in_ok-root.root c.in_ok-root.ensures.ok c.most.result c.most.ensures
     fits c.count_names.result written)
     (err_kept c.from_residual-in_err-at_most-2.result _ _ c.from_residual-in_err-at_most-2.ensures.1 c.in_err-at_most-2.ensures.refused)

@@ -1,3 +1,4 @@
+use Rattle.std.proofs.lemmas.Result.{IfOk-weaker}
 use denote.Param.Weighed.{at_most}
 use Rattle.std.proofs.Common.{arith, refl, sym, ap, subst, ◌∙◌, map, take}
 use Rattle.std.proofs.lemmas.List.{take_all}
@@ -9,7 +10,7 @@ use Rattle.std.specs.Result.{IfOk}
 use Rattle.flow_expand.specs.Expansion.{becomes_nop, becomes_test, becomes_absent, becomes_ins, becomes_del}
 use Rattle.flow_expand.specs.Directory.{decls_of}
 use Rattle.flow_expand.specs.Lay.{IsFront, Goes}
-use Rattle.flow_expand.proofs.LayLemmas.{ok_to, goes_plain, goes_iso, laid_more, begins_twice, front_more, list_step}
+use Rattle.flow_expand.proofs.LayLemmas.{goes_plain, goes_iso, laid_more, begins_twice, front_more, list_step}
 use Rattle.flow_expand.proofs.lay.+laying.Goals as goal
 
 pub lay-returns-in-Nop-clause-ok : goal.lay-returns-in-Nop-clause-ok
@@ -35,7 +36,7 @@ lay-returns-in-Del-clause-ok t c =
 pub lay-returns-in_ok-root-in-Iso-clause-ok : goal.lay-returns-in_ok-root-in-Iso-clause-ok
 lay-returns-in_ok-root-in-Iso-clause-ok t c =
     let same = shape_of-Iso c.args.form.now c.in-Iso.part c.in-Iso.is ∙ ap (λ (f : Form). iso (shape_of f)) (sym c.deref.ensures) in
-    ok_to c.put_isolated.result _ _
+    IfOk-weaker c.put_isolated.result _ _
     (λ whole put. goes_iso _ _ _ _ _ c.in_ok-root-in-Iso.root whole same c.in_ok-root-in-Iso.ensures.ok put)
     c.put_isolated.ensures.ok
 
@@ -57,7 +58,7 @@ pub lay_list-returns-clause-ok : goal.lay_list-returns-clause-ok
 lay_list-returns-clause-ok t c =
     let decls = decls_of c.args.directory.now in
     let front = subst (λ forms. IsFront decls c.loop-place.layout.items c.args.how (map shape_of forms) c.loop-place.before) (take_all c.loop-place.place c.args.forms.now c.loop-place-test.false) c.loop-place.invariant.front in
-    ok_to c.lay_end.result _ _ (λ whole put. put decls (map shape_of c.args.forms.now) front) c.lay_end.ensures.ok
+    IfOk-weaker c.lay_end.result _ _ (λ whole put. put decls (map shape_of c.args.forms.now) front) c.lay_end.ensures.ok
 
 pub lay_list-returns-in_err-next-clause-grown : goal.lay_list-returns-in_err-next-clause-grown
 lay_list-returns-in_err-next-clause-grown t c = begins_twice _ _ _ c.loop-place.invariant.grown c.in_err-next.ensures.grown

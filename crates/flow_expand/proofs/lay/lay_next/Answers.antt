@@ -1,10 +1,11 @@
+use Rattle.std.proofs.lemmas.Result.{IfOk-weaker}
 use Rattle.std.proofs.Common.{subst}
 use Rattle.flow_expand.specs.Lay.{IsFront}
-use Rattle.flow_expand.proofs.LayLemmas.{next_first, next_more, ok_to}
+use Rattle.flow_expand.proofs.LayLemmas.{next_first, next_more}
 use Rattle.flow_expand.proofs.lay.lay_next.Goals as goal
 
 pub returns-in-Some-clause-ok : goal.returns-in-Some-clause-ok
-returns-in-Some-clause-ok c = ok_to c.put_both.result _ _
+returns-in-Some-clause-ok c = IfOk-weaker c.put_both.result _ _
     (λ whole put decls ss s h g. next_more decls c.args.layout.now.items c.put_both.new.layout.items c.args.how ss s c.in-Some.left c.args.next whole
     (subst (IsFront decls c.args.layout.now.items c.args.how ss) c.in-Some.is h) g put)
     c.put_both.ensures.ok

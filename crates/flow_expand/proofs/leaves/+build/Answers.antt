@@ -1,9 +1,10 @@
+use Rattle.std.proofs.lemmas.Result.{IfOk-weaker}
 use Rattle.std.proofs.Common.{ap, arith, ◌∙◌, ◌++◌, ◌∷◌, []}
 use Rattle.flow_model.specs.Process.{Isolated}
 use Rattle.flow_goal.specs.declared.goal.Goal.{Goal}
 use Rattle.flow_goal.specs.Goal.{process_of}
 use Rattle.flow_expand.specs.declared.layout.Piece.TheVariants as piece
-use Rattle.flow_expand.proofs.LayLemmas.{placed_below, ok_to}
+use Rattle.flow_expand.proofs.LayLemmas.{placed_below}
 use Rattle.flow_expand.proofs.LeavesLemmas.{ok_and, piece_at, buildable_first, buildable_second, built_pair_at, buildable_inside, built_inside_at, built_nothing_at, built_event_at, built_fact_at}
 use Rattle.flow_expand.proofs.leaves.+build.Goals as goal
 
@@ -54,7 +55,7 @@ returns-in_ok-number-in-Fact t c =
 pub returns-in_ok-second-in-Pair : goal.returns-in_ok-second-in-Pair
 returns-in_ok-second-in-Pair t c =
     let there = piece_at c.args.layout.now.items c.args.place c.args.leaves.now c.index.result.now (piece.Pair c.in-Pair.how c.in-Pair.left c.in-Pair.right) c.requires c.index.ensures c.in-Pair.is in
-    ok_to c.together.result _ _
+    IfOk-weaker c.together.result _ _
     (λ made same. built_pair_at c.args.layout.now.items c.args.place c.in-Pair.how c.in-Pair.left c.in-Pair.right c.args.leaves.now c.build.new.leaves c.build-in-Pair.new.leaves
     (process_of c.in_ok-first-in-Pair.first) (process_of c.in_ok-second-in-Pair.second) (process_of made) there c.in_ok-first-in-Pair.ensures c.in_ok-second-in-Pair.ensures same)
     c.together.ensures

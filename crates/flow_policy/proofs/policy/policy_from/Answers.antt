@@ -1,10 +1,10 @@
 use Rattle.std.proofs.Common.{map}
-use Rattle.std.proofs.lemmas.Result.{err_from_is_err_and}
+use Rattle.std.proofs.lemmas.Result.{IfOk-weaker, err_from_is_err_and}
 use Rattle.flow_form.specs.Script.{said}
 use Rattle.flow_form.specs.Names.{event_names}
 use Rattle.flow_policy.specs.Mentions.{said_in}
 use Rattle.flow_policy.specs.Numbering.{names_of, AreTablesOf}
-use Rattle.flow_policy.proofs.PolicyLemmas.{ok_to, mentioned}
+use Rattle.flow_policy.proofs.PolicyLemmas.{mentioned}
 use Rattle.flow_policy.proofs.policy.policy_from.Goals as goal
 
 pub returns-in_err-draft-clause-refused : goal.returns-in_err-draft-clause-refused
@@ -19,6 +19,6 @@ returns-clause-ok c =
     let events = event_names (said c.args.script.now).decls in
     let tables : AreTablesOf (names_of ms events) c.in_ok-staff.staff c.in_ok-events.events =
     record { users = c.in_ok-staff.ensures.users; roles = c.in_ok-staff.ensures.roles; events = rw c.deref.ensures.value at c.in_ok-events.ensures } in
-    ok_to _ _ c.policy_with.result
+    IfOk-weaker c.policy_with.result _ _
     (λ p h. mentioned ms events c.in_ok-staff.staff.users _ p c.in_ok-staff.ensures.users (c.in_ok-draft.ensures.numbered (names_of ms events) tables) (c.in_ok-draft.ensures.listed (names_of ms events) tables) h)
     c.policy_with.ensures.ok

@@ -1,10 +1,10 @@
 use Rattle.std.proofs.Common.{subst, map}
-use Rattle.std.proofs.lemmas.Result.{err_from_is_err_and}
+use Rattle.std.proofs.lemmas.Result.{IfOk-weaker, IfErr-weaker, err_from_is_err_and}
 use Rattle.flow_form.specs.Script.{said}
 use Rattle.flow_form.specs.Names.{event_names}
 use Rattle.flow_policy.specs.Mentions.{said_in, AreMentions, IsReadRefusal}
 use Rattle.flow_policy.specs.Numbering.{names_of, IsMentionedIn, IsNumberRefusal}
-use Rattle.flow_policy.proofs.PolicyLemmas.{ok_to, err_to, policy_is, number_refusal, read_refusal}
+use Rattle.flow_policy.proofs.PolicyLemmas.{policy_is, number_refusal, read_refusal}
 use Rattle.flow_policy.proofs.policy.policy_of.Goals as goal
 
 pub returns-in_err-tokens-clause-refused : goal.returns-in_err-tokens-clause-refused
@@ -21,7 +21,7 @@ returns-in_err-mentions-clause-refused c =
 pub returns-clause-ok : goal.returns-clause-ok
 returns-clause-ok c =
     let read = subst (λ l. AreMentions c.args.text.now l c.in_ok-mentions.mentions.items) c.deref.ensures.value c.in_ok-mentions.ensures.ok in
-    ok_to _ _ c.policy_from.result
+    IfOk-weaker c.policy_from.result _ _
     (λ p h. policy_is c.args.text.now (said c.args.script.now) c.in_ok-tokens.tokens.items c.in_ok-mentions.mentions.items p c.in_ok-tokens.ensures.cut read
     (subst (λ l. IsMentionedIn (map said_in l) (event_names (said c.args.script.now).decls) p) c.deref-2.ensures.value h))
     c.policy_from.ensures.ok
@@ -29,7 +29,7 @@ returns-clause-ok c =
 pub returns-clause-refused : goal.returns-clause-refused
 returns-clause-refused c =
     let read = subst (λ l. AreMentions c.args.text.now l c.in_ok-mentions.mentions.items) c.deref.ensures.value c.in_ok-mentions.ensures.ok in
-    err_to _ _ c.policy_from.result
+    IfErr-weaker c.policy_from.result _ _
     (λ e h. number_refusal c.args.text.now (said c.args.script.now) c.in_ok-tokens.tokens.items c.in_ok-mentions.mentions.items e c.in_ok-tokens.ensures.cut read
     (subst (λ l. IsNumberRefusal (names_of (map said_in l) (event_names (said c.args.script.now).decls)) (map said_in l) e) c.deref-2.ensures.value h))
     c.policy_from.ensures.refused
