@@ -12,6 +12,7 @@ pub mod Following
 pub mod CourseLemmas
 pub mod KeepLemmas
 pub mod PassedLemmas
+pub mod KnownLemmas
 pub mod StepRows
 pub mod KeptOptions
 pub mod FoldPass

@@ -11,6 +11,7 @@ use Rattle.flow_plan.specs.declared.part_row.PartRow.{PartRow}
 use Rattle.flow_plan.specs.declared.table.Rows.{Rows}
 use Rattle.flow_plan.specs.declared.table.Rows.TheVariants.{Narrow, Middle, Wide}
 use Rattle.flow_plan.specs.declared.table.Table.{Table}
+use Rattle.flow_plan.specs.Known.{AreSpansOf}
 use Rattle.flow_plan.specs.Planned.{Planned, pairs_of}
 use Rattle.flow_plan.specs.Rows.{IsRowOf, AreRowsOf}
 use Rattle.flow_plan.specs.Parts.{ArePartsOf}
@@ -33,6 +34,7 @@ pub record IsTableOf {w : ℕ} (p : Planned) (t : Table w) : Type 0 where
   pub fields : AreFieldsOf p t.before.items t.parts.items
   pub within : Each (λ n. n < 64 * w) p.leaves
   pub all_are : IsRowOf (λ x. x ∈ p.leaves) t.all
+  pub spans_are : AreSpansOf t.spans.items t.parts.items
 
 -- the rows of a plan, of whatever width
 abbrev pub AreKept : Planned → Rows → Type 0

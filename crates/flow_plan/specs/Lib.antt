@@ -2,6 +2,7 @@ pub mod Ahead
 pub mod CutSides
 pub mod Fields
 pub mod FoldRows
+pub mod Known
 pub mod Orders
 pub mod Parts
 pub mod Passed

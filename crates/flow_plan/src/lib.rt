@@ -9,6 +9,7 @@ mod cut_sides;
 mod fold_row;
 mod follow;
 mod knot_free;
+mod known;
 mod outline;
 mod part_row;
 mod parts;

@@ -134,6 +134,23 @@ impl<const W: usize> PartRow<W> {
     ghost use Rattle.std.specs.Prelude.{IfNone, IfSome};
     ghost use Rattle.flow_plan.specs.Parts.{IsWaitedFor, PartAllows, Keeps, KeepsTogether, KeepsBeside, KeepsAfter};
 
+    /// Whether the leaf is one of the part.
+    pub(crate) fn has(&self, leaf: u32) -> bool
+        requires { leaf < 64 * W }
+        ensures { result ≡ has_leaf self.now.inside leaf }
+    {
+        self.inside.has(leaf)
+    }
+
+    /// Whether the part has the leaf, and is begun.
+    pub(crate) fn is_entered(&self, sides: &CutSides<W>, leaf: u32) -> bool
+        requires { leaf < 64 * W }
+        ensures { IsTrue result → IsTrue (has_leaf self.now.inside leaf)
+            × ((x : ℕ) × IsTrue (has_leaf self.now.inside x) × IsTrue (has_leaf sides.now.done x)) }
+    {
+        self.inside.has(leaf) && self.inside.meets(&sides.done)
+    }
+
     /// Whether the part lets the leaf come next: it must be finished once it is begun, and what is directly before it must
     /// be settled before it is begun. There is no choice inside, so it is finished where all of it is done.
     pub(crate) fn allows(&self, sides: &CutSides<W>, leaf: u32) -> bool

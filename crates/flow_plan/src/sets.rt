@@ -3,6 +3,7 @@ ghost use Rattle.std.specs.Prelude.{◌≡◌, ◌<◌, ◌≤◌, ◌*◌, ◌=
 ghost use Rattle.flow_model.specs.Lists.{◌∈◌};
 ghost use Rattle.leaf_rows.specs.Leaves.{has_leaf};
 ghost use Rattle.flow_plan.specs.Ahead.{IsInSome};
+ghost use Rattle.flow_plan.specs.Parts.{IsOneAtMost};
 ghost use Rattle.flow_plan.specs.Rows.{IsRowOf};
 
 use leaf_rows::LeafSet;
@@ -40,6 +41,18 @@ pub(crate) fn with<const W: usize>(set: &LeafSet<W>, leaf: u32) -> LeafSet<W>
     let mut more = *set;
     more.insert(leaf);
     more
+}
+
+/// Whether the set has no two leaves.
+pub(crate) fn has_one_at_most<const W: usize>(set: &LeafSet<W>) -> bool
+    ensures { IsTrue result → IsOneAtMost (λ n. IsTrue (has_leaf set.now n)) }
+{
+    let Some(first) = set.first() else {
+        return true;
+    };
+    let mut rest = *set;
+    rest.remove(first);
+    rest.first().is_none()
 }
 
 /// The least leaf of the one set that the other lacks.

@@ -8,6 +8,7 @@ ghost use Rattle.flow_plan.specs.CutSides.{IsFree, TellIn};
 ghost use Rattle.flow_plan.specs.Fields.{Fills, IsTableOf};
 ghost use Rattle.flow_plan.specs.FoldRows.{AreFoldRows};
 ghost use Rattle.flow_plan.specs.Orders.{AreApart, IsSettledWith, MayComeNext, MayFollowInEveryOrder, TellOf};
+ghost use Rattle.flow_plan.specs.Known.{AreLaidOut};
 ghost use Rattle.flow_plan.specs.Planned.{Planned};
 ghost use Rattle.flow_plan.specs.Parts.{IsPlaced, IsWaitedFor, PartAllows, Keeps};
 ghost use Rattle.flow_plan.specs.Sided.{IsDoneIn, StandsWith};
@@ -85,22 +86,6 @@ fn keep_for<const W: usize>(
         leaves = part.keep_for(what, claims, leaves);
     }
     leaves
-}
-
-/// A leaf for which some part waits that does not let that one come next.
-fn missing<const W: usize>(parts: &[PartRow<W>], sides: &CutSides<W>, leaf: u32) -> Option<u32>
-    requires { leaf < 64 * W }
-    ensures some { IfSome result (λ first. (row : PartRow W) × row ∈ parts.now × ¬ (PartAllows row sides.now leaf)
-        × IsWaitedFor row sides.now leaf first) }
-    ensures small { IfSome result (λ first. first < 64 * W) }
-    ensures none { IfNone result (Each (λ row. PartAllows row sides.now leaf) parts.now) }
-{
-    for part in parts {
-        if !part.allows(sides, leaf) {
-            return part.missing(sides, leaf);
-        }
-    }
-    None
 }
 
 /// The leaves that come next, and are neither claimed nor found nor closed off by a claimed one.
@@ -199,7 +184,22 @@ impl<const W: usize> Table<W> {
         }
         match first_outside(row, &sides.settled) {
             Some(first) => Some(first),
-            None => missing(&self.parts, sides, leaf),
+            None => self.missing(leaves, sides, leaf),
+        }
+    }
+
+    /// A leaf for which some part waits that does not let that one come next.
+    fn missing(&self, leaves: &[u32], sides: &CutSides<W>, leaf: u32) -> Option<u32>
+        requires small { leaf < 64 * W }
+        requires filled { Fills leaves.now self.now.before.items }
+        ensures some { IfSome result (λ first. (row : PartRow W) × row ∈ self.now.parts.items × ¬ (PartAllows row sides.now leaf)
+            × IsWaitedFor row sides.now leaf first) }
+        ensures small { IfSome result (λ first. first < 64 * W) }
+        ensures none { IfNone result ((ns : List ℕ) → AreLaidOut ns self.now.spans.items self.now.parts.items → Each (λ row. PartAllows row sides.now leaf) self.now.parts.items) }
+    {
+        match self.refusing(leaves, sides, leaf) {
+            Some(part) => part.missing(sides, leaf),
+            None => None,
         }
     }
 

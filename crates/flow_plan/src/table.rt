@@ -1,5 +1,5 @@
 //! The rows of a plan, as wide as its leaves ask for.
-ghost use Rattle.std.specs.Prelude.{◌≡◌, ◌<◌, ◌≤◌, ◌*◌, ◌↔◌, ℕ, Bool, IsTrue, IfNone, IfOk, IfSome};
+ghost use Rattle.std.specs.Prelude.{◌≡◌, ◌<◌, ◌≤◌, ◌*◌, ◌↔◌, ℕ, Bool, List, IsTrue, IfNone, IfOk, IfSome};
 ghost use Rattle.std.specs.List.Sorted.{IsStrictlyIncreasing};
 ghost use Rattle.flow_model.specs.Lists.{◌∈◌, Each};
 ghost use Rattle.flow_model.specs.Process;
@@ -10,15 +10,18 @@ ghost use Rattle.leaf_rows.specs.Leaves.{has_leaf};
 ghost use Rattle.flow_plan.specs.CutSides.{IsFree, TellIn};
 ghost use Rattle.flow_plan.specs.Fields.{AreKept, Fills, IsTableOf};
 ghost use Rattle.flow_plan.specs.Orders.{IsUnblocked, MayComeNext};
-ghost use Rattle.flow_plan.specs.Parts.{KeepsTogether, PartAllows};
+ghost use Rattle.flow_plan.specs.Known.{AreLaidOut, AreSpansOf, IsKnown};
+ghost use Rattle.flow_plan.specs.Parts.{IsPlaced, KeepsTogether, PartAllows};
 ghost use Rattle.flow_plan.specs.Planned.{Planned, pairs_of, planned};
 
 use crate::cut_sides::CutSides;
+use crate::known::{Known, first_behind};
 use crate::part_row::PartRow;
 use crate::parts::part_rows;
 use crate::places::place_of;
 use crate::rows::before_rows;
-use crate::sets::set_of;
+use crate::sets::{has_one_at_most, set_of};
+use crate::span::Span;
 use crate::token::OrderToken;
 use flow_goal::Choiceless;
 use flow_model::MOST_LEAVES;
@@ -34,6 +37,9 @@ pub const MIDDLE_WORDS: usize = 16;
 /// The words of rows in any other plan.
 pub(crate) const WIDE_WORDS: usize = 64;
 
+/// So few parts are looked at one by one.
+const FEW_PARTS: usize = 8;
+
 const _: () = prove!(WIDE_WORDS == LEAF_WORDS);
 
 const _: () = prove!(MOST_LEAVES as usize == 64 * LEAF_WORDS);
@@ -45,7 +51,10 @@ pub(crate) struct Table<const W: usize> {
     pub(crate) all: LeafSet<W>,
     /// For each leaf, the leaves directly before it.
     pub(crate) before: Vec<LeafSet<W>>,
+    /// Inner parts first.
     pub(crate) parts: Vec<PartRow<W>>,
+    /// Where each part stands, once more: most parts are passed over by that alone, and a part is large.
+    pub(crate) spans: Vec<Span>,
 }
 
 /// Rows as wide as the last leaf asks for. A further width is one more variant here, a line in `by_width`, a line in
@@ -110,17 +119,15 @@ pub(crate) fn frees<const W: usize>(sides: &CutSides<W>, leaf: u32, row: &LeafSe
     !sides.rule_out(leaf) && row.is_subset(&sides.settled)
 }
 
-/// Whether each part lets the leaf come next.
-fn parts_allow<const W: usize>(parts: &[PartRow<W>], sides: &CutSides<W>, leaf: u32) -> bool
-    requires { leaf < 64 * W }
-    ensures { IsTrue result ↔ Each (λ row. PartAllows row sides.now leaf) parts.now }
+/// The spans of the parts.
+fn spans_of<const W: usize>(alloc: Global, parts: &[PartRow<W>]) -> Result<Vec<Span>, AllocError>
+    ensures { IfOk result (λ spans. AreSpansOf spans.items parts.now) }
 {
+    let mut spans = Vec::with_capacity(alloc, parts.len())?;
     for part in parts {
-        if !part.allows(sides, leaf) {
-            return false;
-        }
+        spans.push(part.span)?;
     }
-    true
+    Ok(spans)
 }
 
 /// Whether each part has all of the leaves, or none of them.
@@ -128,6 +135,9 @@ pub(crate) fn parts_keep_together<const W: usize>(parts: &[PartRow<W>], leaves: 
     ensures { IsTrue result
         ↔ Each (λ row. KeepsTogether row (λ x. IsTrue (has_leaf leaves.now x))) parts.now }
 {
+    if has_one_at_most(leaves) {
+        return true;
+    }
     for part in parts {
         if !part.keeps_together(leaves) {
             return false;
@@ -147,10 +157,12 @@ impl<const W: usize> Table<W> {
     {
         let before = before_rows(alloc, goal, tokens)?;
         let parts = part_rows(alloc, goal, &before)?;
+        let spans = spans_of(alloc, &parts)?;
         Ok(Table {
             all: set_of(goal.leaves()),
             before,
             parts,
+            spans,
         })
     }
 
@@ -200,7 +212,73 @@ impl<const W: usize> Table<W> {
         ensures { (p : Planned) → IsTableOf p self.now → p.leaves ≡ leaves.now → (done : ℕ → Bool) →
             TellIn p (λ x. IsTrue (done x)) sides.now → IsTrue result ↔ MayComeNext p (λ x. IsTrue (done x)) leaf }
     {
-        self.is_unblocked(leaves, sides, leaf) && parts_allow(&self.parts, sides, leaf)
+        self.is_unblocked(leaves, sides, leaf) && self.parts_allow(leaves, sides, leaf)
+    }
+
+    /// Whether each part lets the leaf come next.
+    fn parts_allow(&self, leaves: &[u32], sides: &CutSides<W>, leaf: u32) -> bool
+        requires small { leaf < 64 * W }
+        requires rising { IsStrictlyIncreasing leaves.now }
+        ensures yes { IsTrue result → (ns : List ℕ) → AreLaidOut ns self.now.spans.items self.now.parts.items → Each (λ row. PartAllows row sides.now leaf) self.now.parts.items }
+        ensures no { Each (λ row. PartAllows row sides.now leaf) self.now.parts.items → IsTrue result }
+    {
+        match self.refusing(leaves, sides, leaf) {
+            Some(_) => false,
+            None => true,
+        }
+    }
+
+    /// What is known before a part is looked at: where the innermost part that has the leaf is begun, each part around it lets the
+    /// leaf come next.
+    fn known_for(&self, leaves: &[u32], sides: &CutSides<W>, leaf: u32) -> Known
+        requires small { leaf < 64 * W }
+        requires rising { IsStrictlyIncreasing leaves.now }
+        ensures { (ns : List ℕ) → Each (IsPlaced ns) self.now.parts.items → IsKnown (λ row. PartAllows row sides.now leaf) ns result }
+    {
+        let nothing = Known {
+            around: None,
+            within: None,
+        };
+        if self.parts.len() < FEW_PARTS {
+            return nothing;
+        }
+        let Some(place) = place_of(leaves, leaf) else {
+            return nothing;
+        };
+        let Some(part) = self.parts.get(first_behind(&self.spans, place)) else {
+            return nothing;
+        };
+        if !part.is_entered(sides, leaf) {
+            return nothing;
+        }
+        Known {
+            around: Some(part.span),
+            within: None,
+        }
+    }
+
+    /// A part that does not let the leaf come next, where there is one. Outer parts come first.
+    pub(crate) fn refusing(
+        &self,
+        leaves: &[u32],
+        sides: &CutSides<W>,
+        leaf: u32,
+    ) -> Option<&PartRow<W>>
+        requires small { leaf < 64 * W }
+        requires rising { IsStrictlyIncreasing leaves.now }
+        ensures some { IfSome result (λ part. part.now ∈ self.now.parts.items × ¬ (PartAllows part.now sides.now leaf)) }
+        ensures none { IfNone result ((ns : List ℕ) → AreLaidOut ns self.now.spans.items self.now.parts.items → Each (λ row. PartAllows row sides.now leaf) self.now.parts.items) }
+    {
+        let mut known = self.known_for(leaves, sides, leaf);
+        let mut rest = self.parts.len().min(self.spans.len());
+        while 0 < rest {
+            rest -= 1;
+            let part = &self.parts[rest];
+            if !known.allows(self.spans[rest], part, sides, leaf) {
+                return Some(part);
+            }
+        }
+        None
     }
 
     /// Whether each leaf of the plan is settled.

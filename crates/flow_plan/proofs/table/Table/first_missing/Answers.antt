@@ -1,10 +1,8 @@
-use Rattle.std.proofs.Common.{ℕ, IsTrue, List, subst}
+use Rattle.std.proofs.Common.{ℕ, IsTrue}
 use Rattle.leaf_rows.specs.Leaves.{has_leaf}
-use Rattle.flow_model.specs.Lists.{◌∈◌, Each}
-use Rattle.flow_plan.specs.declared.part_row.PartRow.{PartRow}
-use Rattle.flow_plan.specs.Parts.{IsWaitedFor, PartAllows}
-use Rattle.std.specs.Option.{IfNone, IfSome}
 use Rattle.flow_plan.proofs.Readiness.{Before}
+use Rattle.flow_model.specs.Process.{leaves}
+use Rattle.flow_plan.proofs.KnownLemmas.{none_placed}
 use Rattle.flow_plan.proofs.StepRows.{not_ruled_out, settled_by_first, settled_by_found}
 use Rattle.flow_plan.proofs.table.Table.first_missing.Goals as goal
 
@@ -20,9 +18,7 @@ returns-in-None-clause-settled g c = λ p table same done tell first refused nex
     let leaf = c.args.leaf in
     let all : (x : ℕ) → Before p x leaf → IsTrue (has_leaf sides.settled x) = λ x direct. c.in-None.ensures.none x ((c.in-Some.ensures.row p table same x).1 direct) in
     settled_by_found table.fields (λ x. IsTrue (done x)) sides tell leaf first refused next after all c.missing.result
-    (subst (λ (parts : List (PartRow g.row.W)). IfSome c.missing.result (λ x. (row : PartRow g.row.W) × (row ∈ parts) × ¬ (PartAllows row sides leaf) × IsWaitedFor row sides leaf x))
-    c.deref.ensures.value c.missing.ensures.some)
-    (subst (λ (parts : List (PartRow g.row.W)). IfNone c.missing.result (Each (λ row. PartAllows row sides leaf) parts)) c.deref.ensures.value c.missing.ensures.none)
+    c.missing.ensures.some (none_placed c.missing.result (leaves p.process) c.args.self.now.spans.items c.args.self.now.parts.items sides leaf (table.fields.parts_are.placed, table.spans_are) c.missing.ensures.none)
 
 pub returns-then-rule_out-clause-settled : goal.returns-then-rule_out-clause-settled
 returns-then-rule_out-clause-settled g c = λ p table same done tell first refused next after.

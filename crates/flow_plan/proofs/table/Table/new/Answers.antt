@@ -2,6 +2,8 @@ use Rattle.std.proofs.Common.{ℕ, List, subst, sym}
 use Rattle.leaf_rows.specs.declared.leaf_set.LeafSet.{LeafSet}
 use Rattle.flow_model.specs.Lists.{◌∈◌}
 use Rattle.flow_model.specs.Ready.{DirectlyBefore}
+use Rattle.flow_plan.specs.declared.part_row.PartRow.{PartRow}
+use Rattle.flow_plan.specs.Known.{AreSpansOf}
 use Rattle.flow_plan.specs.Planned.{pairs_of}
 use Rattle.flow_plan.specs.Rows.{AreRowsOf, IsRowOf}
 use Rattle.flow_plan.proofs.table.Table.new.Goals as goal
@@ -19,4 +21,5 @@ returns g c =
       };
       within = c.requires.within;
       all_are = subst (λ (ns : List ℕ). IsRowOf (λ x. x ∈ ns) c.set_of.result) c.leaves.ensures.leaves c.set_of.ensures;
+      spans_are = subst (λ (parts : List (PartRow g.row.W)). AreSpansOf c.in_ok-spans.spans.items parts) c.deref-2.ensures.value c.in_ok-spans.ensures;
     }

@@ -1,19 +1,15 @@
-use Rattle.std.proofs.Common.{◌↔◌, ℕ, List, IsTrue, subst, sym, ◌∙◌}
+use Rattle.std.proofs.Common.{ℕ, IsTrue, sym, ◌∙◌}
 use Rattle.std.proofs.lemmas.Bool.{true≢false}
-use Rattle.flow_model.specs.Lists.{Each}
-use Rattle.flow_plan.specs.declared.part_row.PartRow.{PartRow}
-use Rattle.flow_plan.specs.Parts.{PartAllows}
+use Rattle.flow_model.specs.Process.{leaves}
 use Rattle.flow_plan.proofs.Readiness.{free_of_ready, ready_of_free, parts_of_ready}
 use Rattle.flow_plan.proofs.table.Table.ready.Goals as goal
 
 pub returns-then-is_unblocked : goal.returns-then-is_unblocked
 returns-then-is_unblocked g c = λ p table same done tell.
     let D : ℕ → Type 0 = λ x. IsTrue (done x) in
-    let free = (c.is_unblocked.ensures.free p table same done tell).0 c.if-is_unblocked.true in
-    let allow : IsTrue c.parts_allow.result ↔ Each (λ row. PartAllows row c.args.sides.now c.args.leaf) c.args.self.now.parts.items
-    = subst (λ (parts : List (PartRow g.row.W)). IsTrue c.parts_allow.result ↔ Each (λ row. PartAllows row c.args.sides.now c.args.leaf) parts) c.deref.ensures.value c.parts_allow.ensures in (
-      λ yes. ready_of_free table.fields D c.args.sides.now tell c.args.leaf free (allow.0 yes),
-      λ ready. allow.1 (parts_of_ready table.fields D c.args.sides.now tell c.args.leaf ready),
+    let free = (c.is_unblocked.ensures.free p table same done tell).0 c.if-is_unblocked.true in (
+      λ yes. ready_of_free table.fields D c.args.sides.now tell c.args.leaf free (c.parts_allow.ensures.yes yes (leaves p.process) (table.fields.parts_are.placed, table.spans_are)),
+      λ ready. c.parts_allow.ensures.no (parts_of_ready table.fields D c.args.sides.now tell c.args.leaf ready),
     )
 
 pub returns-else-is_unblocked : goal.returns-else-is_unblocked
