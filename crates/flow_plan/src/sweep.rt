@@ -2,10 +2,8 @@ ghost use Rattle.std.specs.Prelude.{◌≡◌, ◌<◌, ◌≤◌, ◌*◌, ◌+
 ghost use Rattle.flow_goal.specs.declared.node.Node.TheVariants.{Leaf, Fork, Split, Join};
 ghost use Rattle.flow_model.specs.Lists.{Each};
 ghost use Rattle.leaf_rows.specs.Leaves.{has_leaf};
-ghost use Rattle.leaf_rows.specs.declared.leaf_set.LeafSet.{LeafSet};
-ghost use Rattle.flow_plan.specs.RowMarks.{GoesOn, Passes};
+ghost use Rattle.flow_plan.specs.RowMarks.{Passes};
 
-use crate::sets::with;
 use flow_goal::Node;
 use leaf_rows::LeafSet;
 use std::alloc::{AllocError, Global};
@@ -15,14 +13,11 @@ use std::alloc::{AllocError, Global};
 pub(crate) struct Sweep<const W: usize> {
     /// The place of the next leaf.
     pub(crate) place: usize,
-    /// Sets of leaves, which stay as they are. Others name them by number, so that goals with no leaf
-    /// cost no set.
-    pub(crate) sets: Vec<LeafSet<W>>,
     /// The leaves before the next one.
-    pub(crate) ahead: usize,
+    pub(crate) ahead: LeafSet<W>,
     /// Of each two goals beside one another, or sides of a choice, that are being read: what is ahead of both, and
-    /// from the second on, above it, what is behind the first.
-    pub(crate) forks: Vec<usize>,
+    /// from the second on what is behind the first.
+    pub(crate) forks: Vec<LeafSet<W>>,
     pub(crate) rows: Vec<LeafSet<W>>,
 }
 
@@ -31,19 +26,14 @@ impl<const W: usize> Sweep<W> {
     pub(crate) fn new(alloc: Global, leaves: usize) -> Result<Sweep<W>, AllocError>
         requires { W ≤ 64 }
         ensures place { IfOk result (λ new. new.place ≡ 0) }
-        ensures sets { IfOk result (λ new. (empty : LeafSet W) × ((x : ℕ) → has_leaf empty x ≡ false) × (new.sets.items ≡ empty ∷ [])) }
-        ensures ahead { IfOk result (λ new. new.ahead ≡ 0) }
+        ensures ahead { IfOk result (λ new. (x : ℕ) → has_leaf new.ahead x ≡ false) }
         ensures forks { IfOk result (λ new. new.forks.items ≡ []) }
         ensures rows { IfOk result (λ new. new.rows.items ≡ []) }
     {
-        // the empty one, one a leaf, and fewer than leaves for two goals beside one another or two sides
-        let mut sets = Vec::with_capacity(alloc, leaves.saturating_mul(2))?;
-        sets.push(LeafSet::new())?;
         Ok(Sweep {
             place: 0,
-            sets,
-            ahead: 0,
-            forks: Vec::with_capacity(alloc, leaves)?,
+            ahead: LeafSet::new(),
+            forks: Vec::new(alloc),
             rows: Vec::with_capacity(alloc, leaves)?,
         })
     }
@@ -58,22 +48,6 @@ impl<const W: usize> Sweep<W> {
         leaves.get(self.place).copied()
     }
 
-    /// The set of that number.
-    fn set(&self, number: usize) -> Option<LeafSet<W>>
-        ensures { result ≡ slice_get self.now.sets.items number }
-    {
-        self.sets.get(number).copied()
-    }
-
-    /// From now on the set is ahead.
-    fn go_on(&mut self, set: LeafSet<W>) -> Result<(), AllocError>
-        ensures { OnOk result (GoesOn set.entry self.old self.new) }
-    {
-        self.ahead = self.sets.len();
-        self.sets.push(set)?;
-        Ok(())
-    }
-
     /// Reads a leaf: what is ahead is its row.
     fn pass_leaf(&mut self, leaves: &[u32]) -> Result<(), AllocError>
         requires wide { W ≤ 64 }
@@ -83,13 +57,10 @@ impl<const W: usize> Sweep<W> {
         let Some(leaf) = self.next_leaf(leaves) else {
             return Ok(());
         };
-        let Some(row) = self.set(self.ahead) else {
-            return Ok(());
-        };
-        let more = with(&row, leaf);
-        self.rows.push(row)?;
+        self.rows.push(self.ahead)?;
+        self.ahead.insert(leaf);
         self.place += 1;
-        self.go_on(more)
+        Ok(())
     }
 
     fn fork(&mut self, leaves: &[u32]) -> Result<(), AllocError>
@@ -106,36 +77,20 @@ impl<const W: usize> Sweep<W> {
         let Some(both) = self.forks.pop() else {
             return Ok(());
         };
-        self.forks.push(both)?;
         self.forks.push(self.ahead)?;
         self.ahead = both;
         Ok(())
     }
 
-    /// What is ahead of what follows. Where one of the two goals has no leaf, it is what is behind the other.
+    /// What is ahead of what follows: what is behind one of the two.
     fn join(&mut self, leaves: &[u32]) -> Result<(), AllocError>
-        requires { W ≤ 64 }
         ensures { OnOk result (Passes Join leaves.now self.old self.new) }
     {
         let Some(side) = self.forks.pop() else {
             return Ok(());
         };
-        let Some(both) = self.forks.pop() else {
-            return Ok(());
-        };
-        if self.ahead == both {
-            self.ahead = side;
-            return Ok(());
-        }
-        if side == both {
-            return Ok(());
-        }
-        let (Some(one), Some(two)) = (self.set(self.ahead), self.set(side)) else {
-            return Ok(());
-        };
-        let mut all = one;
-        all.union_with(&two);
-        self.go_on(all)
+        self.ahead.union_with(&side);
+        Ok(())
     }
 
     /// Reads one mark.
