@@ -7,7 +7,8 @@ crates/flowdesk/out/flowdesk and crates/flow/out/flow where they are not given. 
 a run in the middle of it too, and looked at as text:
 
 svg      it is XML; each leaf that `flow check` lists has one box with that label; boxes lie within the picture, and two of them overlap only
-         where one is a frame round the other; no leaf of a series stands left of the one before it
+         where one is a frame round the other; no leaf of a series stands left of the one before it; no two arrows of constraints lie over one
+         another along a lane, nor do two of their numbers, and in the examples no two go up or down at one place
 dot      `dot -Tsvg` takes it, and draws a node with each label
 mermaid  each leaf has one node with that label; `mmdc` takes it, where the machine has that
 
@@ -30,7 +31,7 @@ from generated import text as generated
 from measuring import TOP
 
 SVG = "{http://www.w3.org/2000/svg}"
-EXAMPLES = ["order_desk", "laboratory", "lab_order", "loan", "incident", "kitchen", "back_office"]
+EXAMPLES = ["order_desk", "laboratory", "lab_order", "loan", "incident", "kitchen", "back_office", "knot"]
 SHOWN = {"laboratory.svg": ("laboratory", False)}
 FORMS = ["svg", "mermaid", "dot"]
 MARKS = {"done", "next", "claimed", "failed", "banned"}
@@ -57,6 +58,42 @@ class Box:
 
     def encloses(self, other):
         return self.kind == "frame" and self.left < other.left and other.right < self.right and self.top < other.top and other.bottom < self.bottom
+
+
+class Course:
+    """Where an arrow goes: its ends, from left to right, and the height of its lane."""
+
+    SHAPE = re.compile(r"M(\d+) \d+V(\d+)(?:q0 8 (-?)8 8)?H(\d+)(?:q-?8 0 -?8 -8)?V\d+")
+
+    def __init__(self, path):
+        start, turn, sign, back = self.SHAPE.fullmatch(path.get("d")).group(1, 2, 3, 4)
+        self.name = path.find(f"{SVG}title").text
+        # where its turns are round it is 8 pixels on from each
+        turned = {None: 0, "": 8, "-": -8}[sign]
+        self.start, self.end, self.lane = int(start), int(back) + turned, int(turn) + abs(turned)
+        self.left, self.right = sorted([self.start, self.end])
+
+    def lies_over(self, other):
+        return self.lane == other.lane and self.left <= other.right and other.left <= self.right
+
+    def goes_beside(self, other):
+        return any(abs(one - two) < 4 for one in [self.start, self.end] for two in [other.start, other.end])
+
+
+def try_orders(name, tree, tells_ends):
+    """Looks at the arrows of constraints, and at their numbers."""
+    courses = [Course(path) for path in tree.iter(f"{SVG}path") if path.get("class") == "order"]
+    for one, other in itertools.combinations(courses, 2):
+        if one.lies_over(other):
+            wrong(f"{name}: the arrows of {one.name} and of {other.name} lie over one another")
+        if tells_ends and one.goes_beside(other):
+            wrong(f"{name}: the arrows of {one.name} and of {other.name} go up or down at one place")
+    numbers = [text for text in tree.iter(f"{SVG}text") if text.get("class") == "number" and text.get("dy") == "4"]
+    if [text.text for text in numbers] != [course.name.split()[1].rstrip(":") for course in courses]:
+        wrong(f"{name}: {len(courses)} arrows have {len(numbers)} numbers, or others")
+    for one, other in itertools.combinations(numbers, 2):
+        if one.get("y") == other.get("y") and abs(int(one.get("x")) - int(other.get("x"))) < 36:
+            wrong(f"{name}: numbers {one.text} and {other.text} lie over one another")
 
 
 def boxes_of(tree):
@@ -109,6 +146,7 @@ def try_svg(name, text, labels):
             wrong(f"{name}: the box {box.label} lies outside")
     if len(boxes) > 600:
         return None
+    try_orders(name, tree, name.split(".")[0].split()[0] in EXAMPLES)
     for one, other in itertools.combinations(boxes, 2):
         if not one.is_apart(other) and not one.encloses(other):
             wrong(f"{name}: the boxes {one.label} and {other.label} lie over one another")
@@ -219,6 +257,8 @@ def times(flowdesk, folder):
     }
     texts = {name: f"event {', '.join(names)}; goal {goal};\n" for name, goal in greatest.items()}
     texts["the greatest generated text"] = generated(3, 128)
+    sides = " + ".join(["a * b"] * 64 + names[:4096 - 128])
+    texts["4,096 arrows, 4,096 leaves"] = f"event a, b, {', '.join(names[:4096 - 128])}; goal {sides}; constraint order a b;\n"
     for name, text in texts.items():
         file = folder / "greatest.flow"
         file.write_text(text)

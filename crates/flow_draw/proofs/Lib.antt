@@ -1,4 +1,5 @@
 pub mod InsideLemmas
+pub mod LaneLemmas
 pub mod LineLemmas
 pub mod NoteLemmas
 mod SketchSizes

@@ -1,9 +1,11 @@
 pub mod Chart
 pub mod ChartLines
 pub mod ChartWords
+pub mod Courses
 pub mod Element
 pub mod Escape
 pub mod Inside
+pub mod Lanes
 pub mod Lines
 pub mod Lookup
 pub mod Notes

@@ -1,21 +1,27 @@
 -- A picture of a workflow as an SVG.
-use Rattle.std.specs.Prelude.{ℕ, ◌+◌, ◌-◌, ◌/◌, max, List, ◌++◌, None}
+use Rattle.std.specs.Prelude.{ℕ, ◌+◌, ◌-◌, ◌/◌, max, List, ◌++◌}
 use Rattle.flow_view.specs.declared.labels.Labels.{Labels}
 use Rattle.flow_view.specs.declared.mark.Mark.{Mark}
 use Rattle.flow_view.specs.declared.picture.Picture.{Picture}
+use Rattle.flow_draw.specs.declared.courses.Course.{Course}
+use Rattle.flow_draw.specs.Courses.{courses_of, last_lane}
 use Rattle.flow_draw.specs.SvgNotes.{notes_text, notes_bottom, notes_width, legend_text, legend_bottom, legend_width, left_out_text, left_out_bottom}
-use Rattle.flow_draw.specs.SvgOrders.{orders_text, orders_bottom}
+use Rattle.flow_draw.specs.SvgOrders.{orders_text}
 use Rattle.flow_draw.specs.SvgPage.{page_text, ends_text}
 use Rattle.flow_draw.specs.SvgShapes.{shape_lines}
 
--- the height below the lanes of the arrows
+-- the arrows go in lanes below the picture
+abbrev pub courses_in : Picture → List Course
+courses_in p = courses_of p.shapes.items (p.height - 24) p.arrows.items
+
+-- the height below these lanes
 abbrev pub lanes_bottom : Picture → ℕ
-lanes_bottom p = orders_bottom None (p.height - 24) p.arrows.items + 40
+lanes_bottom p = last_lane (p.height - 24) (courses_in p) + 40
 
 -- the arrows in lanes below the picture, the shapes, which are drawn over them, and whether arrows are left out
 unfoldable pub picture_text : Picture → Labels → List Mark → List ℕ
 picture_text p labels marks =
-    orders_text p.shapes.items None (p.height - 24) p.arrows.items ++ shape_lines labels marks p.shapes.items
+    orders_text (courses_in p) ++ shape_lines labels marks p.shapes.items
     ++ ends_text p.width (p.height / 2) ++ left_out_text (lanes_bottom p) p.left_out
 
 abbrev pub picture_bottom : Picture → ℕ

@@ -1,9 +1,11 @@
 //! A picture of a workflow as text: for browsers, for Mermaid, for Graphviz.
 #![tactic(auto)]
 
+mod apart;
 mod chart;
 mod chart_lines;
 mod chart_words;
+mod courses;
 mod element;
 mod escape;
 mod format;
@@ -19,6 +21,7 @@ mod svg_page;
 mod svg_shapes;
 mod svg_style;
 
+pub use apart::law_arrows_stay_apart;
 pub use chart::{print_dot, print_mermaid};
 pub use escape::push_escaped;
 pub use format::Format;

@@ -1,6 +1,7 @@
 ghost use Rattle.std.specs.Prelude.{◌≡◌, IfOk, OnOk, ◌++◌};
 ghost use Rattle.flow_draw.specs.Svg.{picture_text, picture_bottom, under_text, under_bottom, page_width, svg_text};
 
+use crate::courses::{courses_of, last_lane};
 use crate::element::below;
 use crate::svg_notes::{legend_width, notes_width, push_left_out, push_legend, push_notes};
 use crate::svg_orders::push_orders;
@@ -22,7 +23,7 @@ pub fn print_svg(
     ensures { IfOk result (λ text. text.items ≡ svg_text picture.now labels.now marks.now rules.now) }
 {
     let mut body = Vec::new(alloc);
-    let drawn = push_picture(&mut body, picture, labels, marks)?;
+    let drawn = push_picture(alloc, &mut body, picture, labels, marks)?;
     let bottom = push_under(&mut body, drawn, marks, rules)?;
     let width = below(page_width(picture, marks, rules), 32)?;
     let height = below(bottom, 32)?;
@@ -32,6 +33,7 @@ pub fn print_svg(
 #[tactic(auto, unfolding(crate::specs::Svg::picture_text))]
 /// Adds the arrows, before all else, so that boxes stand over them, and the shapes. It gives how far down they reach.
 fn push_picture(
+    alloc: Global,
     text: &mut Vec<u8>,
     picture: &Picture,
     labels: &Labels,
@@ -42,10 +44,11 @@ fn push_picture(
 {
     let height = picture.height as u64;
     let top = height.saturating_sub(24);
-    let lane = push_orders(text, &picture.shapes, top, &picture.arrows)?;
+    let courses = courses_of(alloc, &picture.shapes, top, &picture.arrows)?;
+    push_orders(text, &courses)?;
     push_shapes(text, &picture.shapes, labels, marks)?;
     push_ends(text, picture.width as u64, height / 2)?;
-    let bottom = below(lane, 40)?;
+    let bottom = below(last_lane(top, &courses), 40)?;
     push_left_out(text, bottom, picture.left_out)
 }
 

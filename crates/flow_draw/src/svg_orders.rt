@@ -1,119 +1,63 @@
-ghost use Rattle.std.specs.Prelude.{◌≡◌, ◌+◌, ◌-◌, ◌*◌, ◌++◌, None, IfOk, OnOk};
-ghost use Rattle.flow_draw.specs.Lookup.{box_of};
-ghost use Rattle.flow_draw.specs.SvgOrders.{course_of, course_line, exit_of, entry_of, lane_of, to_right, to_left, title_text, path_text, order_line, orders_text, orders_bottom};
+ghost use Rattle.std.specs.Prelude.{◌≡◌, ◌+◌, ◌-◌, ◌++◌, OnOk};
+ghost use Rattle.flow_draw.specs.SvgOrders.{title_text, path_text, to_right, to_left, straight, course_line, number_line, orders_text, course_lines, number_lines};
 
+use crate::courses::Course;
 use crate::element::below;
-use crate::lookup::box_of;
 use crate::pieces::{Piece, push_pieces};
 use crate::svg_notes::push_number;
-use flow_view::{Arrow, Place, Shape};
+use flow_view::Arrow;
 use std::alloc::AllocError;
 
-/// Where an arrow goes: down from a box, along a lane below the picture, and up to another box.
-#[derive(Clone, Copy)]
-pub(crate) struct Course {
-    pub(crate) start: u64,
-    pub(crate) top: u64,
-    pub(crate) lane: u64,
-    pub(crate) end: u64,
-    pub(crate) bottom: u64,
+/// Adds the arrows, and the numbers of their constraints, which stand over all arrows.
+pub(crate) fn push_orders(text: &mut Vec<u8>, courses: &[Course]) -> Result<(), AllocError>
+    ensures { OnOk result (text.new.items ≡ text.old.items ++ orders_text courses.now) }
+{
+    push_courses(text, courses)?;
+    push_numbers(text, courses)
 }
 
-/// Adds the arrows. Those of one constraint share a lane, and each constraint has a lane of its own below those before it. It gives the
-/// height of the last lane.
-pub(crate) fn push_orders(
-    text: &mut Vec<u8>,
-    shapes: &[Shape],
-    top: u64,
-    arrows: &[Arrow],
-) -> Result<u64, AllocError>
-    ensures orders { OnOk result (text.new.items ≡ text.old.items ++ orders_text shapes.now None top arrows.now) }
-    ensures bottom { IfOk result (λ y. y ≡ orders_bottom None top arrows.now) }
+fn push_courses(text: &mut Vec<u8>, courses: &[Course]) -> Result<(), AllocError>
+    ensures { OnOk result (text.new.items ≡ text.old.items ++ course_lines courses.now) }
 {
-    let mut last = None;
-    let mut y = top;
-    for arrow in arrows {
-        y = lane_of(last, y, arrow.rule)?;
-        last = Some(arrow.rule);
-        push_order(text, shapes, y, arrow)?;
+    for course in courses {
+        push_course(text, course)?;
     }
-    Ok(y)
+    Ok(())
 }
 
-/// The height of the lane of a constraint, after the lane of that height, which the last one has, if there is one.
-fn lane_of(last: Option<usize>, y: u64, rule: usize) -> Result<u64, AllocError>
-    ensures { IfOk result (λ lane. lane ≡ lane_of last y rule) }
+fn push_numbers(text: &mut Vec<u8>, courses: &[Course]) -> Result<(), AllocError>
+    ensures { OnOk result (text.new.items ≡ text.old.items ++ number_lines courses.now) }
 {
-    match last {
-        Some(before) if before == rule => Ok(y),
-        _ => below(y, 20),
+    for course in courses {
+        push_course_number(text, course)?;
     }
+    Ok(())
 }
 
-/// Adds an arrow, if both of its leaves have a box.
-fn push_order(
-    text: &mut Vec<u8>,
-    shapes: &[Shape],
-    lane: u64,
-    arrow: &Arrow,
-) -> Result<(), AllocError>
-    ensures { OnOk result (text.new.items ≡ text.old.items ++ order_line (box_of shapes.now arrow.now.from) (box_of shapes.now arrow.now.to) lane arrow.now) }
+/// Adds the number of an arrow's constraint, behind the first turn of the arrow.
+fn push_course_number(text: &mut Vec<u8>, course: &Course) -> Result<(), AllocError>
+    ensures { OnOk result (text.new.items ≡ text.old.items ++ number_line course.now) }
 {
-    let (Some(from), Some(to)) = (box_of(shapes, arrow.from), box_of(shapes, arrow.to)) else {
-        return Ok(());
-    };
-    push_course(text, &course_of(&from, &to, lane, arrow), arrow)
-}
-
-fn course_of(from: &Place, to: &Place, lane: u64, arrow: &Arrow) -> Course
-    ensures { result ≡ course_of from.now to.now lane arrow.now }
-{
-    Course {
-        start: exit_of(from, arrow.from),
-        top: from.bottom as u64,
-        lane,
-        end: entry_of(to, arrow.to),
-        bottom: to.bottom as u64,
-    }
-}
-
-/// How far to the right arrows leave a box. Leaves that stand above one another differ.
-fn exit_of(place: &Place, leaf: u32) -> u64
-    ensures { result ≡ exit_of place.now leaf }
-{
-    let aside = 10 + 6 * (leaf as u64 % 3);
-    (place.right as u64).saturating_sub(aside)
-}
-
-/// How far to the right arrows reach a box.
-fn entry_of(place: &Place, leaf: u32) -> u64
-    ensures { result ≡ entry_of place.now leaf }
-{
-    place.left as u64 + (10 + 6 * (leaf as u64 % 3))
-}
-
-fn push_course(text: &mut Vec<u8>, course: &Course, arrow: &Arrow) -> Result<(), AllocError>
-    ensures { OnOk result (text.new.items ≡ text.old.items ++ course_line course.now arrow.now) }
-{
-    if course.start < course.end {
-        push_to_right(text, course, arrow)?;
-        push_number(
-            text,
-            below(course.start, 18)?,
-            course.lane,
-            4,
-            arrow.rule as u64,
-        )
+    let x = if course.start < course.end {
+        below(course.start, 18)?
     } else {
-        push_to_left(text, course, arrow)?;
-        push_number(
-            text,
-            course.start.saturating_sub(18),
-            course.lane,
-            4,
-            arrow.rule as u64,
-        )
+        course.start.saturating_sub(18)
+    };
+    push_number(text, x, course.lane, 4, course.arrow.rule as u64)
+}
+
+/// Adds an arrow. Where its ends are so near that its turns would not find room, these are not round.
+fn push_course(text: &mut Vec<u8>, course: &Course) -> Result<(), AllocError>
+    ensures { OnOk result (text.new.items ≡ text.old.items ++ course_line course.now) }
+{
+    if course.end.saturating_sub(course.start) > 15 {
+        push_to_right(text, course)?;
+    } else if course.start.saturating_sub(course.end) > 15 {
+        push_to_left(text, course)?;
+    } else {
+        push_straight(text, course)?;
     }
+    push_title(text, &course.arrow)
 }
 
 #[tactic(auto, unfolding(crate::specs::SvgOrders::title_text))]
@@ -129,27 +73,31 @@ fn push_title(text: &mut Vec<u8>, arrow: &Arrow) -> Result<(), AllocError>
             Piece::Number(arrow.from as u64),
             Piece::Words(b" before "),
             Piece::Number(arrow.to as u64),
-            Piece::Words(b"</title></path>"),
+            Piece::Words(b"</title></path>\n"),
         ],
     )
 }
 
-fn push_to_right(text: &mut Vec<u8>, course: &Course, arrow: &Arrow) -> Result<(), AllocError>
-    ensures { OnOk result (text.new.items ≡ text.old.items ++ to_right course.now ++ title_text arrow.now) }
+fn push_to_right(text: &mut Vec<u8>, course: &Course) -> Result<(), AllocError>
+    ensures { OnOk result (text.new.items ≡ text.old.items ++ to_right course.now) }
 {
     let turn = course.lane.saturating_sub(8);
     let back = course.end.saturating_sub(8);
-    push_path(text, course, turn, b"q0 8 8 8H", back, b"q8 0 8 -8V")?;
-    push_title(text, arrow)
+    push_path(text, course, turn, b"q0 8 8 8H", back, b"q8 0 8 -8V")
 }
 
-fn push_to_left(text: &mut Vec<u8>, course: &Course, arrow: &Arrow) -> Result<(), AllocError>
-    ensures { OnOk result (text.new.items ≡ text.old.items ++ to_left course.now ++ title_text arrow.now) }
+fn push_to_left(text: &mut Vec<u8>, course: &Course) -> Result<(), AllocError>
+    ensures { OnOk result (text.new.items ≡ text.old.items ++ to_left course.now) }
 {
     let turn = course.lane.saturating_sub(8);
     let back = below(course.end, 8)?;
-    push_path(text, course, turn, b"q0 8 -8 8H", back, b"q-8 0 -8 -8V")?;
-    push_title(text, arrow)
+    push_path(text, course, turn, b"q0 8 -8 8H", back, b"q-8 0 -8 -8V")
+}
+
+fn push_straight(text: &mut Vec<u8>, course: &Course) -> Result<(), AllocError>
+    ensures { OnOk result (text.new.items ≡ text.old.items ++ straight course.now) }
+{
+    push_path(text, course, course.lane, b"H", course.end, b"V")
 }
 
 #[tactic(auto, unfolding(crate::specs::SvgOrders::path_text))]
