@@ -1,6 +1,5 @@
 -- What is drawn of a goal draws that goal.
-use Rattle.std.proofs.Common.{◌≡◌, ℕ, List, Option, Some, None, Result, Ok, Err, refl, ap, ◌∙◌}
-use Rattle.std.specs.Result.{IfOk, IfErr}
+use Rattle.std.proofs.Common.{◌≡◌, ℕ, List, Option, Some, None, refl, ap, ◌∙◌}
 use Rattle.flow_model.specs.declared.operators.Operator.TheVariants as operator
 use Rattle.flow_model.specs.Process.{Process, Empty, Task, Sequence, Parallel, Choice, Isolated}
 use Rattle.flow_form.specs.Form.{Shape}
@@ -54,11 +53,3 @@ pub same_sources : (names names2 : List (List ℕ)) (bodies bodies2 : List Shape
     let one : Sources = record { names = names; bodies = bodies; boxes = boxes; captions = captions } in
     let other : Sources = record { names = names2; bodies = bodies2; boxes = boxes; captions = captions } in one ≡ other
 same_sources names names2 bodies bodies2 boxes captions e f = λ i. record { names = e i; bodies = f i; boxes = boxes; captions = captions }
-
-pub ok_to : {A E : Type 0} (r : Result A E) (P Q : A → Type 0) → ((x : A) → P x → Q x) → IfOk r P → IfOk r Q
-ok_to (Ok x) P Q f h = f x h
-ok_to (Err e) P Q f h = tt
-
-pub err_to : {A E : Type 0} (r : Result A E) (P Q : E → Type 0) → ((e : E) → P e → Q e) → IfErr r P → IfErr r Q
-err_to (Ok x) P Q f h = tt
-err_to (Err e) P Q f h = f e h

@@ -1,5 +1,6 @@
 use Rattle.std.proofs.Common.{◌≡◌, None, List, map, ap, ◌∙◌, subst}
 use Rattle.std.specs.List.{flat_map}
+use Rattle.std.proofs.lemmas.Result.{IfOk-weaker, IfErr-weaker}
 use Rattle.flow_model.specs.Process.{Process}
 use Rattle.flow_form.specs.declared.script.Decl.{Decl}
 use Rattle.flow_form.specs.Form.{shape_of}
@@ -12,14 +13,14 @@ use Rattle.flow_view.specs.Flows.{names_in, goals_in, sources_of}
 use Rattle.flow_view.specs.Sizes.{IsRefusal}
 use Rattle.flow_view.specs.Sketch.{Sketch, process_in}
 use Rattle.flow_view.specs.Texts.{flow_names}
-use Rattle.flow_view.proofs.DrawnLemmas.{drawn_process, same_sources, ok_to, err_to}
+use Rattle.flow_view.proofs.DrawnLemmas.{drawn_process, same_sources}
 use Rattle.flow_view.proofs.build.scene_of.Goals as goal
 
 pub returns-clause-goal : goal.returns-clause-goal
 returns-clause-goal c =
     let same = drawn_process (sources_of c.in_ok-flows.flows c.args.labels.now) (process_of c.goal-goal.result.now) None (whole (shape_of c.args.script.now.goal))
     ∙ c.goal-goal.ensures ∙ ap (λ (t : Labelled). t.process) c.tree.ensures.tree in
-    ok_to c.drawn.result _ _ (λ scene e. ap process_in e ∙ same) c.drawn.ensures.sketch
+    IfOk-weaker c.drawn.result _ _ (λ scene e. ap process_in e ∙ same) c.drawn.ensures.sketch
 
 pub returns-clause-refused : goal.returns-clause-refused
 returns-clause-refused c =
@@ -35,4 +36,4 @@ returns-clause-refused c =
     ≡ drawing (said c.args.script.now) c.args.labels.now c.args.workflow.now.tree.process =
     ap (λ (s : Sources). drawn s (process_of c.goal-goal.result.now) None (whole (shape_of c.args.script.now.goal))) same
     ∙ ap (λ (q : Process). drawn (sources (map declared c.args.script.now.decls.items) c.args.labels.now) q None (whole (shape_of c.args.script.now.goal))) process in
-    err_to c.drawn.result _ _ (λ e h. subst (λ (s : Sketch). IsRefusal s e) is h) c.drawn.ensures.refused
+    IfErr-weaker c.drawn.result _ _ (λ e h. subst (λ (s : Sketch). IsRefusal s e) is h) c.drawn.ensures.refused
