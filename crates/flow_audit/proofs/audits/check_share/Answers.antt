@@ -1,18 +1,18 @@
-use Rattle.std.proofs.Common.{get_or}
+use Rattle.std.proofs.Common.{get_or, refl, rules, arith}
 use Rattle.std.proofs.lemmas.Option.{slice_get-get_or}
-use Rattle.flow_audit.proofs.ShareLemmas.{one_more, next_place}
+use Rattle.flow_audit.proofs.ShareLemmas.{none_yet, one_more}
 use Rattle.flow_audit.proofs.audits.check_share.Goals as goal
 
 pub check_piece-requires-after_bounds : goal.check_piece-requires-after_bounds
 check_piece-requires-after_bounds g c κs within =
-    c.requires.cuts c.loop-place.place _ (slice_get-get_or c.args.cuts.now c.loop-place.place (0, 0) c.loop-place-test.true)
+    c.requires c.fetch_add-place.result _ (slice_get-get_or c.args.cuts.now c.fetch_add-place.result (0, 0) (omega arith))
 
-pub loop-place-preserved : goal.loop-place-preserved
-loop-place-preserved g c = record {
-  so_far = one_more (g.C.Checker.finds c.args.checker.now) c.args.text.now c.args.cuts.now c.args.rest c.args.step
-      c.loop-place.place c.loop-place.found.items c.push.new.self.items (get_or c.args.cuts.now c.loop-place.place (0, 0)) c.in_ok-finding.finding
-      c.in_ok-push.ensures.items c.loop-place.invariant.so_far c.loop-place.invariant.here
-      (slice_get-get_or c.args.cuts.now c.loop-place.place (0, 0) c.loop-place-test.true) c.in_ok-finding.ensures;
-  here = next_place c.loop-place.place c.args.rest c.args.step c.loop-place.found.items c.push.new.self.items c.in_ok-finding.finding
-      c.in_ok-push.ensures.items c.loop-place.invariant.here;
-}
+pub loop-turn-init : goal.loop-turn-init
+loop-turn-init g c =
+    none_yet (g.C.Checker.finds c.args.checker.now) c.args.text.now c.args.cuts.now _ (search rules)
+
+pub loop-turn-preserved : goal.loop-turn-preserved
+loop-turn-preserved g c =
+    one_more (g.C.Checker.finds c.args.checker.now) c.args.text.now c.args.cuts.now c.loop-turn.share.items _ c.fetch_add-place.result
+    (get_or c.args.cuts.now c.fetch_add-place.result (0, 0)) c.in_ok-finding.finding refl c.loop-turn.invariant
+    (slice_get-get_or c.args.cuts.now c.fetch_add-place.result (0, 0) (omega arith)) c.in_ok-finding.ensures
