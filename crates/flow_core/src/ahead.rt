@@ -19,6 +19,14 @@ impl Core {
         }
     }
 
+    /// Is called before a question about one leaf, which is not worth a look ahead. Many such questions about one state are. The run
+    /// stays as it is.
+    pub(crate) fn prepare(&mut self)
+        ensures { self.new ≡ self.old }
+    {
+        self.residual.prepare();
+    }
+
     /// Whether, in some one option, the leaf and those of the claims may follow in every order.
     pub(crate) fn may_all_follow(&self, leaf: u32) -> bool
         ensures { IsTrue result ↔ MayAllFollow (schema self.now) (now self.now) (current_leaves (now self.now) ++ leaf ∷ []) }

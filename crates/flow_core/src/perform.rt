@@ -16,6 +16,13 @@ impl Core {
     pub fn perform(&mut self, leaf: u32, by: u32) -> Result<(), DoRefusal>
         ensures { Performs self.old leaf by result self.new }
     {
+        self.prepare();
+        self.perform_prepared(leaf, by)
+    }
+
+    fn perform_prepared(&mut self, leaf: u32, by: u32) -> Result<(), DoRefusal>
+        ensures { Performs self.old leaf by result self.new }
+    {
         if self.committed {
             return Err(DoRefusal::Closed);
         }

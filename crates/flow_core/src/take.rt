@@ -18,6 +18,13 @@ impl Core {
     pub fn take(&mut self, leaf: u32, by: u32) -> Result<Call, TakeRefusal>
         ensures { Takes self.old leaf by result self.new }
     {
+        self.prepare();
+        self.take_prepared(leaf, by)
+    }
+
+    fn take_prepared(&mut self, leaf: u32, by: u32) -> Result<Call, TakeRefusal>
+        ensures { Takes self.old leaf by result self.new }
+    {
         let event = self.may_take(leaf)?;
         Ok(self.give(leaf, event, by))
     }

@@ -8,7 +8,7 @@ use Rattle.flow_model.specs.Resolution.{ChoiceOption}
 use Rattle.flow_model.specs.Ready.{DoneOr}
 use Rattle.flow_model.specs.FoldedReady.{IsFoldedReady, IsFoldedRunAfter}
 use Rattle.flow_model.specs.Decided.{order_of_none}
-use Rattle.flow_model.proofs.Lists.{each_member, each_from_members, mem-append, mem_by_halves, mem_swap, mem_with, split_at}
+use Rattle.flow_model.proofs.Lists.{distinct_parts, each_member, each_from_members, mem-append, mem_append_right, only_one, mem_by_halves, mem_swap, mem_with, split_at}
 use Rattle.flow_model.proofs.MadeLists.{order_member, same_order, order_with_last}
 use Rattle.flow_laws.specs.WellFormed.{EachTwo}
 use Rattle.flow_laws.proofs.RunsByStep.{each_of_orders, two_of_orders, orders_of_two, each_two_order, each_two_out, AreSame}
@@ -23,13 +23,16 @@ use Rattle.flow_plan.specs.declared.sides.Sides.{Sides}
 use Rattle.flow_residual.specs.Remaining.{Remaining, MayComeNext, StillAvoids, banned}
 use Rattle.flow_residual.specs.Options.{SomeOption}
 use Rattle.flow_residual.specs.Telling.{IsOrderedOption, IsSetOf, Tells}
-use Rattle.flow_residual.specs.Question.{AllFollow, FollowsFirst, FollowsSo, TakesAll, TakesFirst, Takes, TakesInOrder, with_claims, CanBegin, IsBarred}
+use Rattle.flow_residual.specs.Question.{AreWanted, AllFollow, FollowsFirst, FollowsSo, TakesAll, TakesFirst, Takes, TakesInOrder, with_claims, CanBegin, IsBarred}
 use Rattle.flow_residual.specs.declared.question.Stand.{Stand}
 use Rattle.flow_residual.specs.declared.question.Stand.TheVariants.{Among, First}
+use Rattle.flow_residual.specs.declared.question.Question.TheVariants as ask
+use Rattle.leaf_rows.specs.declared.leaf_set.LeafSet.{LeafSet}
+use Rattle.leaf_rows.specs.declared.TheConstants.{LEAF_WORDS}
 use Rattle.flow_residual.proofs.Avoiding.{one_of, together}
 use Rattle.flow_residual.proofs.TellingLemmas.{free_begins, barred_keeps}
 use Rattle.flow_residual.proofs.FewLemmas.{run_of_follows}
-use Rattle.flow_residual.proofs.FoldedSteps.{run_leaf, same_run}
+use Rattle.flow_residual.proofs.FoldedSteps.{run_distinct, run_leaf, same_run}
 
 -- ---- what plans say of their options
 
@@ -245,3 +248,34 @@ less_barred r sides claims stand leaf found new told ordered free says is = (
     is_not : (b : Bool) → ¬ (IsTrue b) → IsTrue (not b)
     is_not true none = absurd (none refl)
     is_not false none = refl
+
+-- ---- what is passed over by rows
+
+-- a leaf that is taken so may come next, and is none of the claimed ones
+pub taken_ready : (o : ChoiceOption) (journal claims : List ℕ) (stand : Stand) (leaf : ℕ) → FollowsSo journal claims stand leaf o → IsFoldedReady o.resolution o.order (λ x. x ∈ journal) leaf
+taken_ready o journal claims Among leaf all = each_member (IsFoldedReady o.resolution o.order (λ x. x ∈ journal)) (claims ++ leaf ∷ [])
+    (each_of_orders (folded_by_step o.resolution o.order) (λ x. x ∈ journal) (claims ++ leaf ∷ []) all) leaf (mem_append_right leaf claims (leaf ∷ []) (inl refl))
+taken_ready o journal claims First leaf both = both.0
+
+pub taken_new : (o : ChoiceOption) (journal claims : List ℕ) (stand : Stand) (leaf : ℕ) → FollowsSo journal claims stand leaf o → ¬ (leaf ∈ claims)
+taken_new o journal claims Among leaf all m =
+    (distinct_parts claims (leaf ∷ []) (run_distinct o.resolution o.order (λ n. n ∈ journal) (claims ++ leaf ∷ []) (run_of_follows o journal claims Among leaf all)).0).2 leaf m (inl refl)
+taken_new o journal claims First leaf both m = (run_distinct o.resolution o.order (λ n. n ∈ journal) (leaf ∷ claims) (run_of_follows o journal claims First leaf both)).0.0 m
+
+-- where what may come next is found already or claimed, nothing is added
+pub adds_seen : (now : Bool) (Q : Type 0) → (Q → IsTrue now) → IsTrue now ↔ (IsTrue now ⊎ Q)
+adds_seen now Q found = (inl, ⊎_elim (λ old. old) found)
+
+-- the leaves that are asked about may come next in an option that says yes
+pub wanted_among : (r : Remaining) (claims : List ℕ) (leaf : ℕ) (apart set : LeafSet LEAF_WORDS) → IsSetOf (claims ++ leaf ∷ []) set → AreWanted r claims (ask.Among leaf apart) set
+wanted_among r claims leaf apart set is o (live, all, still) = (
+  live,
+  λ n there. each_member (IsFoldedReady o.resolution o.order (λ x. x ∈ r.journal)) (claims ++ leaf ∷ [])
+      (each_of_orders (folded_by_step o.resolution o.order) (λ x. x ∈ r.journal) (claims ++ leaf ∷ []) all) n ((is n).0 there),
+)
+
+pub wanted_first : (r : Remaining) (claims : List ℕ) (leaf : ℕ) (after : Sides) (apart set : LeafSet LEAF_WORDS) → IsSetOf (leaf ∷ []) set → AreWanted r claims (ask.First leaf after apart) set
+wanted_first r claims leaf after apart set is o (live, (ready, all), still) = (
+  live,
+  λ n there. subst (IsFoldedReady o.resolution o.order (λ x. x ∈ r.journal)) (sym (only_one n leaf ((is n).0 there))) ready,
+)

@@ -15,6 +15,7 @@ use Rattle.flow_plan.specs.Options.{options_of, HasSmallLeaves}
 use Rattle.flow_residual.specs.declared.residual.Ban.{Ban}
 use Rattle.flow_residual.specs.declared.residual.Residual.TheInside.{Inside}
 use Rattle.flow_residual.specs.Options.{EachHas}
+use Rattle.flow_residual.specs.PlanRows.{AreLeafRows}
 use Rattle.flow_residual.specs.Remaining.{banned}
 use Rattle.flow_residual.specs.View.{remaining, pairs_of_bans}
 use Rattle.flow_residual.specs.Invariant.{AreOpenPlaces, IsKept, IsRoomy}
@@ -52,14 +53,15 @@ no_opens_first plans bans = record {
 
 -- a residual whose plans were handed out to make its fronts
 pub roomy_first : (i : Inside) (turned : List Sampled) → turned ≡ i.plans.items → Each HasSmallLeaves (options_of i.plans.items) → Each IsOrderedOption (options_of i.plans.items) →
-    Each (AreServing i.folds.items) (options_of i.plans.items) → EachHas (IsFront []) (options_of turned) i.fronts.items →
+    Each (AreServing i.folds.items) (options_of i.plans.items) → EachHas (IsFront []) (options_of turned) i.fronts.items → AreLeafRows (options_of turned) i.leaves →
     i.journal.items ≡ [] → i.bans.items ≡ [] → i.fresh ≡ false → IsSetOf [] i.done → IsSetOf [] i.banned → Tells (options_of i.plans.items) [] [] i.sides →
     MOST_LEAVES ≤ vec_capacity i.journal → MOST_LEAVES ≤ vec_capacity i.bans → i.opens.items ≡ [] → MOST_LEAVES ≤ vec_capacity i.opens → IsRoomy i
-roomy_first i turned same fits ordered served fronts no_journal no_bans stale none_done none_banned told journal_room bans_room no_opens opens_room = record {
+roomy_first i turned same fits ordered served fronts leaves no_journal no_bans stale none_done none_banned told journal_room bans_room no_opens opens_room = record {
   kept = kept_first i.plans.items i.journal.items i.bans.items fits ordered no_journal no_bans;
   served = served;
   fronts = subst (λ plans. EachHas (IsFront i.journal.items) (options_of plans) i.fronts.items) same
       (subst (λ (journal : List ℕ). EachHas (IsFront journal) (options_of turned) i.fronts.items) (sym no_journal) fronts);
+  leaves_are = subst (λ plans. AreLeafRows (options_of plans) i.leaves) same leaves;
   rows_are = λ fresh. absurd (true≢false (sym fresh ∙ stale));
   done_are = subst (λ (journal : List ℕ). IsSetOf journal i.done) (sym no_journal) none_done;
   banned_are = subst (λ (bans : List Ban). IsSetOf (banned (pairs_of_bans bans)) i.banned) (sym no_bans) none_banned;

@@ -22,6 +22,7 @@ use Rattle.flow_plan.specs.Orders.{TellOf}
 use Rattle.flow_plan.specs.Planned.{Planned}
 use Rattle.flow_plan.specs.Sided.{AreSidesOf, IsDoneIn}
 use Rattle.flow_residual.specs.Telling.{IsOrderedOption, AreServing, IsSetOf, Tells, IsApart}
+use Rattle.flow_residual.specs.PlanRows.{HasLeafIn}
 use Rattle.flow_residual.specs.Remaining.{Remaining, banned}
 use Rattle.flow_residual.specs.Question.{CanBegin, IsBarred}
 use Rattle.flow_residual.proofs.Avoiding.{avoid_as, avoids_unless_not}
@@ -136,6 +137,10 @@ module _ (os : List ChoiceOption) (journal bans : List ℕ) (sides : Sides) (tol
   later_of_tests : (n : ℕ) → CanAvoid o.resolution (DoneOr (IsDoneIn sides) (n ∷ [])) (λ x. IsTrue (is_in bans x)) → CanAvoid o.resolution (DoneOr (λ x. x ∈ journal) (n ∷ [])) (λ x. x ∈ bans)
   later_of_tests n = avoid_as o.resolution (DoneOr (IsDoneIn sides) (n ∷ [])) (DoneOr (λ x. x ∈ journal) (n ∷ [])) (λ x. IsTrue (is_in bans x)) (λ x. x ∈ bans)
       (λ x. ⊎_elim (λ d. inl ((told.done x).1 d)) inr) (λ x. (member_test bans x).1)
+
+  -- with a leaf that is spoilt it cannot go on
+  pub where_spoilt : HasLeafIn o sides.spoilt → ¬ (CanAvoid o.resolution (λ n. n ∈ journal) (λ n. n ∈ bans))
+  where_spoilt has can = sides_of.spoilt.0 has (to_tests can)
 
   module _ (ordered : IsOrderedOption o) where
     -- whether it is spoilt

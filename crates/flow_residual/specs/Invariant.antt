@@ -12,7 +12,7 @@ use Rattle.flow_residual.specs.Remaining.{Remaining, IsOf, banned}
 use Rattle.flow_residual.specs.View.{remaining, pairs_of_bans}
 use Rattle.flow_residual.specs.Options.{EachHas}
 use Rattle.flow_residual.specs.Telling.{AreServing, IsOrderedOption, IsSetOf, Tells}
-use Rattle.flow_residual.specs.NextRows.{AreNext}
+use Rattle.flow_residual.specs.PlanRows.{AreLeafRows, AreNext}
 use Rattle.flow_residual.specs.Track.{IsFront}
 
 -- numbers with a place in a row, none of them twice
@@ -34,13 +34,14 @@ pub record AreOpenPlaces (r : Remaining) (opens : List ℕ) : Type 0 where
   pub rising : IsStrictlyIncreasing opens
   pub exact : (w : Schema) (s : RunState) → IsOf w s r → (i : ℕ) → (i ∈ opens) ↔ IsOpen w s i
 
--- the fronts and fresh rows are those of the plans, which the rows of choices serve; the sets are of the journal and the bans, and what
+-- the fronts, the leaves and fresh rows are those of the plans, which the rows of choices serve; the sets are of the journal and the bans, and what
 -- the choices say is by both; the open places are those of the journal; and there is room for each leaf in the journal, among the bans
 -- and among the open places
 pub record IsRoomy (r : Inside) : Type 0 where
   pub kept : IsKept (remaining r.plans.items r.journal.items r.bans.items)
   pub served : Each (AreServing r.folds.items) (options_of r.plans.items)
   pub fronts : EachHas (IsFront r.journal.items) (options_of r.plans.items) r.fronts.items
+  pub leaves_are : AreLeafRows (options_of r.plans.items) r.leaves
   pub rows_are : IsTrue r.fresh → AreNext r.journal.items (options_of r.plans.items) r.rows
   pub done_are : IsSetOf r.journal.items r.done
   pub banned_are : IsSetOf (banned (pairs_of_bans r.bans.items)) r.banned

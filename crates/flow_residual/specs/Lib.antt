@@ -3,7 +3,7 @@ pub mod View
 pub mod Options
 pub mod Telling
 pub mod Track
-pub mod NextRows
+pub mod PlanRows
 pub mod Invariant
 pub mod Question
 pub mod Given

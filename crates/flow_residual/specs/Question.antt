@@ -1,5 +1,7 @@
 -- What is possible after the journal, by the options that remain.
-use Rattle.std.specs.Prelude.{ℕ, List, [], ◌∷◌, ◌++◌}
+use Rattle.std.specs.Prelude.{ℕ, IsTrue, List, [], ◌∷◌, ◌++◌}
+use Rattle.leaf_rows.specs.Leaves.{has_leaf}
+use Rattle.leaf_rows.specs.declared.leaf_set.LeafSet.{LeafSet}
 use Rattle.flow_model.specs.Lists.{◌∈◌, Each, IsOrderOf}
 use Rattle.flow_model.specs.Process.{leaves}
 use Rattle.flow_model.specs.Resolution.{ChoiceOption}
@@ -77,3 +79,8 @@ IsAsked r list (ask.First leaf after apart) = Each (CanBegin r) (leaf ∷ list) 
     × Tells r.options (r.journal ++ leaf ∷ []) (banned r.bans) after
 IsAsked r list (ask.Without sides) = Tells r.options r.journal (banned r.bans ++ list) sides
 IsAsked r list ask.Finished = Unit {0}
+
+-- each leaf of the set may come next in an option that says yes, and that is live
+abbrev pub AreWanted : {w : ℕ} → Remaining → List ℕ → Question → LeafSet w → Type 0
+AreWanted r list question wanted = (o : ChoiceOption) → Has r list question o →
+    IsLive r o × ((n : ℕ) → IsTrue (has_leaf wanted n) → IsFoldedReady o.resolution o.order (λ x. x ∈ r.journal) n)

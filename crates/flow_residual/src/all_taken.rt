@@ -11,6 +11,7 @@ ghost use Rattle.flow_residual.specs.Track.{IsNextRow};
 
 use crate::question::Stand;
 use crate::residual::Residual;
+use crate::sets::is_covered;
 use flow_plan::Words;
 use leaf_rows::{LEAF_WORDS, LeafSet};
 
@@ -18,6 +19,32 @@ impl Residual {
     /// Adds to what is found the leaves that the plan at that place takes so, whether or not they may be begun, where it is
     /// known which may come next in it.
     fn add_taken<const W: usize>(
+        &self,
+        place: usize,
+        next: &LeafSet<W>,
+        claims: &[u32],
+        row: &LeafSet<W>,
+        apart: &LeafSet<W>,
+        stand: Stand,
+        found: &mut LeafSet<W>,
+    )
+        requires place { place < length self.now.options }
+        requires next { (o : ChoiceOption) → slice_get self.now.options place ≡ Some o → IsNextRow self.now.journal o next.now }
+        requires distinct { AreDistinct claims.now }
+        requires row { IsRowOf (λ x. x ∈ claims.now) row.now }
+        requires apart { Each (IsApart claims.now apart.now) self.now.options }
+        ensures { (o : ChoiceOption) (leaf : ℕ) → slice_get self.now.options place ≡ Some o →
+            IsTrue (has_leaf found.new leaf) ↔ (IsTrue (has_leaf found.old leaf) ⊎ TakesInOrder self.now claims.now stand leaf o) }
+    {
+        // a leaf that is taken so may come next, and no claimed one is taken twice
+        if is_covered(next, row, found) {
+            return;
+        }
+        self.add_new(place, next, claims, row, apart, stand, found);
+    }
+
+    /// The same, whatever is found already.
+    fn add_new<const W: usize>(
         &self,
         place: usize,
         next: &LeafSet<W>,

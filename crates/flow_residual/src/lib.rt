@@ -8,6 +8,7 @@ mod claims;
 mod fronts;
 mod given;
 mod next_rows;
+mod plan_rows;
 mod question;
 mod residual;
 mod sets;

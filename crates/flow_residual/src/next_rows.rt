@@ -3,42 +3,14 @@ ghost use Rattle.std.specs.Prelude.{◌≡◌, ◌<◌, ◌≤◌, ◌*◌, ℕ,
 ghost use Rattle.flow_model.specs.Lists.{Each};
 ghost use Rattle.flow_plan.specs.Orders.{TellOf};
 ghost use Rattle.flow_plan.specs.Options.{options_of, option_of};
-ghost use Rattle.flow_residual.specs.NextRows.{AreNext};
+ghost use Rattle.flow_residual.specs.PlanRows.{AreNext};
 ghost use Rattle.flow_residual.specs.Options.{EachHas};
 ghost use Rattle.flow_residual.specs.Telling.{IsSetOf, Tells};
 ghost use Rattle.flow_residual.specs.Track.{IsFront, IsNextRow};
 
+use crate::plan_rows::PlanRows;
 use flow_plan::{KnotFree, MIDDLE_WORDS, NARROW_WORDS, Plan, Sides, Words};
 use leaf_rows::{LEAF_WORDS, LeafSet};
-use std::alloc::{AllocError, Global};
-
-/// Of each plan that follows the journal, the leaves that may come next.
-#[derive(Drop)]
-pub(crate) struct NextRows {
-    /// Which of the three have a row a plan. The other two are empty.
-    pub(crate) words: Words,
-    pub(crate) narrow: Vec<LeafSet<NARROW_WORDS>>,
-    pub(crate) middle: Vec<LeafSet<MIDDLE_WORDS>>,
-    pub(crate) wide: Vec<LeafSet<LEAF_WORDS>>,
-}
-
-/// The wider of the two.
-fn wider(one: Words, other: Words) -> Words {
-    match (one, other) {
-        (Words::Wide, _) | (_, Words::Wide) => Words::Wide,
-        (Words::Middle, _) | (_, Words::Middle) => Words::Middle,
-        (Words::Narrow, Words::Narrow) => Words::Narrow,
-    }
-}
-
-/// The width that has room for the leaves of each plan. No answer rests on it: rows that lack room are not made.
-fn widest(plans: &[KnotFree]) -> Words {
-    let mut widest = Words::Narrow;
-    for plan in plans {
-        widest = wider(widest, plan.plan().words());
-    }
-    widest
-}
 
 /// Whether rows of that width have room for each leaf of the plan.
 fn has_room<const W: usize>(plan: &Plan) -> bool
@@ -98,24 +70,7 @@ fn look_all<const W: usize>(
     true
 }
 
-impl NextRows {
-    /// A row for each plan.
-    pub(crate) fn new(alloc: Global, plans: &[KnotFree]) -> Result<NextRows, AllocError> {
-        let words = widest(plans);
-        let count = plans.len();
-        let (narrow, middle, wide) = match words {
-            Words::Narrow => (count, 0, 0),
-            Words::Middle => (0, count, 0),
-            Words::Wide => (0, 0, count),
-        };
-        Ok(NextRows {
-            words,
-            narrow: vec![in alloc; LeafSet::new(); narrow]?,
-            middle: vec![in alloc; LeafSet::new(); middle]?,
-            wide: vec![in alloc; LeafSet::new(); wide]?,
-        })
-    }
-
+impl PlanRows {
     /// Makes the rows of the plans that follow the whole journal. Whether they have room.
     pub(crate) fn look(
         &mut self,

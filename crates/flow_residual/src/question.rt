@@ -1,5 +1,5 @@
 //! What is asked of each plan.
-ghost use Rattle.std.specs.Prelude.{◌≡◌, ◌<◌, ◌↔◌, ◌⊎◌, ℕ, List, IsTrue, IfNone, IfSome, Some, [], ◌∷◌, ◌++◌, length, slice_get};
+ghost use Rattle.std.specs.Prelude.{◌≡◌, ◌<◌, ◌≤◌, ◌↔◌, ◌⊎◌, ℕ, List, IsTrue, IfNone, IfSome, Some, [], ◌∷◌, ◌++◌, length, slice_get};
 ghost use Rattle.flow_model.specs.declared.limits.TheConstants.{MOST_LEAVES};
 ghost use Rattle.flow_model.specs.Lists.{◌∈◌, Each, AreDistinct};
 ghost use Rattle.flow_model.specs.FoldedReady.{IsFoldedRun};
@@ -8,14 +8,15 @@ ghost use Rattle.flow_model.specs.Resolution.{ChoiceOption};
 ghost use Rattle.leaf_rows.specs.Leaves.{has_leaf};
 ghost use Rattle.leaf_rows.specs.declared.leaf_set.LeafSet.{LeafSet};
 ghost use Rattle.flow_plan.specs.Rows.{IsRowOf};
-ghost use Rattle.flow_residual.specs.Options.{HasAt, SomeOption};
-ghost use Rattle.flow_residual.specs.Question.{Has, IsAsked, TakesAll, TakesFirst, Takes, TakesInOrder, LeavesOut, IsWhole, AllFollow, FollowsFirst};
+ghost use Rattle.flow_residual.specs.Options.{EachHas, HasAt, SomeOption};
+ghost use Rattle.flow_residual.specs.Question.{Has, AreWanted, IsAsked, TakesAll, TakesFirst, Takes, TakesInOrder, LeavesOut, IsWhole, AllFollow, FollowsFirst};
 ghost use Rattle.flow_residual.specs.declared.question.Question.TheVariants.{Among, First};
 ghost use Rattle.flow_residual.specs.Remaining.{IsLive};
 ghost use Rattle.flow_residual.specs.Telling.{IsApart, Tells};
+ghost use Rattle.flow_residual.specs.Track.{IsNextRow};
 
 use crate::residual::Residual;
-use flow_plan::Sides;
+use flow_plan::{Sides, Words};
 use leaf_rows::{LEAF_WORDS, LeafSet};
 
 /// Where a leaf stands to the claimed ones.
@@ -51,6 +52,20 @@ impl Residual {
         self.front(place) == self.journal().len()
     }
 
+    /// Whether the plan at that place can go on without the banned leaves of which the sides tell. It is asked only where its row of
+    /// leaves does not tell.
+    fn is_spared(&self, place: usize, sides: &Sides) -> bool
+        requires { place < length self.now.options }
+        ensures { (o : ChoiceOption) (bans : List ℕ) → slice_get self.now.options place ≡ Some o →
+            Tells self.now.options self.now.journal bans sides.now → IsTrue result
+            ↔ CanAvoid o.resolution (λ n. n ∈ self.now.journal) (λ n. n ∈ bans) }
+    {
+        if self.has_leaf_in(place, &sides.spoilt) {
+            return false;
+        }
+        !self.plan(place).is_spoilt(sides)
+    }
+
     /// Whether the plan at that place follows the journal, and can go on without the banned leaves of which the sides tell.
     fn goes_on(&self, place: usize, sides: &Sides) -> bool
         requires { place < length self.now.options }
@@ -58,7 +73,7 @@ impl Residual {
             Tells self.now.options self.now.journal bans sides.now → IsTrue result
             ↔ (IsFoldedRun o.resolution o.order self.now.journal × CanAvoid o.resolution (λ n. n ∈ self.now.journal) (λ n. n ∈ bans)) }
     {
-        self.follows(place) && !self.plan(place).is_spoilt(sides)
+        self.follows(place) && self.is_spared(place, sides)
     }
 
     /// Whether the plan at that place is live.
@@ -143,6 +158,72 @@ impl Residual {
         None
     }
 
+    /// What the plan at that place answers, where its row tells which leaves may come next, and the wanted ones do where it says yes.
+    fn has_by_row<const W: usize>(
+        &self,
+        place: usize,
+        row: &LeafSet<W>,
+        question: &Question,
+        claims: &[u32],
+        wanted: &LeafSet<W>,
+    ) -> bool
+        requires place { place < length self.now.options }
+        requires row { (o : ChoiceOption) → slice_get self.now.options place ≡ Some o → IsNextRow self.now.journal o row.now }
+        requires asked { IsAsked self.now claims.now question.now }
+        requires wanted { AreWanted self.now claims.now question.now wanted.now }
+        ensures { (o : ChoiceOption) → slice_get self.now.options place ≡ Some o →
+            IsTrue result ↔ Has self.now claims.now question.now o }
+    {
+        wanted.is_subset(row) && self.has(place, question, claims)
+    }
+
+    /// The place of the first plan that says yes, where rows tell which leaves may come next in each, and the wanted ones do in
+    /// one that says yes. Where its row lacks one of these, a plan is not asked.
+    fn first_by_rows<const W: usize>(
+        &self,
+        rows: &[LeafSet<W>],
+        question: &Question,
+        claims: &[u32],
+        wanted: &LeafSet<LEAF_WORDS>,
+    ) -> Option<usize>
+        requires wide { W ≤ 64 }
+        requires rows { EachHas (IsNextRow self.now.journal) self.now.options rows.now }
+        requires asked { IsAsked self.now claims.now question.now }
+        requires wanted { AreWanted self.now claims.now question.now wanted.now }
+        ensures some { IfSome result (HasAt (Has self.now claims.now question.now) self.now.options) }
+        ensures none { IfNone result (¬ (SomeOption (Has self.now claims.now question.now) self.now.options)) }
+    {
+        let mine = wanted.resized();
+        for place in 0..self.count() {
+            if self.has_by_row(place, &rows[place], question, claims, &mine) {
+                return Some(place);
+            }
+        }
+        None
+    }
+
+    /// The place of the first plan that says yes, where the wanted leaves may come next in one that does.
+    fn first_that_wants(
+        &self,
+        question: &Question,
+        claims: &[u32],
+        wanted: &LeafSet<LEAF_WORDS>,
+    ) -> Option<usize>
+        requires asked { IsAsked self.now claims.now question.now }
+        requires wanted { AreWanted self.now claims.now question.now wanted.now }
+        ensures some { IfSome result (HasAt (Has self.now claims.now question.now) self.now.options) }
+        ensures none { IfNone result (¬ (SomeOption (Has self.now claims.now question.now) self.now.options)) }
+    {
+        let Some(rows) = self.next_rows() else {
+            return self.first_that_has(question, claims);
+        };
+        match rows.words {
+            Words::Narrow => self.first_by_rows(&rows.narrow, question, claims, wanted),
+            Words::Middle => self.first_by_rows(&rows.middle, question, claims, wanted),
+            Words::Wide => self.first_by_rows(&rows.wide, question, claims, wanted),
+        }
+    }
+
     /// Whether some plan says yes.
     pub(crate) fn some_has(&self, question: &Question, claims: &[u32]) -> bool
         requires { IsAsked self.now claims.now question.now }
@@ -165,7 +246,7 @@ impl Residual {
         }
         set.insert(leaf);
         let apart = self.apart(&set);
-        self.first_that_has(&Question::Among(leaf, apart), claims)
+        self.first_that_wants(&Question::Among(leaf, apart), claims, &set)
     }
 
     /// Whether, in some one option, the claimed leaves and this one may follow in every order.
@@ -187,7 +268,10 @@ impl Residual {
         }
         let after = self.sides_after(leaf);
         let apart = self.apart(&set);
-        self.some_has(&Question::First(leaf, after, apart), claims)
+        let mut next = LeafSet::new();
+        next.insert(leaf);
+        let question = Question::First(leaf, after, apart);
+        self.first_that_wants(&question, claims, &next).is_some()
     }
 
     /// Whether some option would be live if the leaf were banned besides.

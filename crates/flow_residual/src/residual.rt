@@ -8,14 +8,14 @@ ghost use Rattle.flow_plan.specs.Rows.{IsRowOf};
 ghost use Rattle.flow_plan.specs.Sampled.{Sampled};
 ghost use Rattle.flow_residual.specs.Options.{EachHas};
 ghost use Rattle.flow_residual.specs.Invariant.{AreOpenPlaces};
-ghost use Rattle.flow_residual.specs.NextRows.{AreNext};
+ghost use Rattle.flow_residual.specs.PlanRows.{AreLeafRows, AreNext, HasLeafIn};
 ghost use Rattle.flow_residual.specs.Question.{CanBegin, IsBarred, Takes};
 ghost use Rattle.flow_residual.specs.Remaining.{banned};
 ghost use Rattle.flow_residual.specs.Telling.{AreServing, IsApart, IsOrderedOption, IsSetOf, Tells};
 ghost use Rattle.flow_residual.specs.Track.{IsFront, IsNextRow};
 
 use crate::fronts::{Change, follow};
-use crate::next_rows::NextRows;
+use crate::plan_rows::PlanRows;
 use crate::question::Stand;
 use crate::sets::{closed_by, row_of, set_of, set_of_bans, sides_by};
 use flow_model::MOST_LEAVES;
@@ -36,7 +36,8 @@ pub(crate) struct Ban {
 #[derive(Drop)]
 struct Room {
     fronts: Vec<usize>,
-    rows: NextRows,
+    leaves: PlanRows,
+    rows: PlanRows,
     journal: Vec<u32>,
     bans: Vec<Ban>,
     opens: Vec<u32>,
@@ -46,6 +47,7 @@ impl Room {
     /// For so many plans, where no leaf is done and none is banned.
     fn new(alloc: Global, plans: &[KnotFree]) -> Result<Room, AllocError>
         ensures fronts { IfOk result (λ room. EachHas (IsFront []) (options_of plans.now) room.fronts.items) }
+        ensures leaves { IfOk result (λ room. AreLeafRows (options_of plans.now) room.leaves) }
         ensures journal { IfOk result (λ room. room.journal.items ≡ []) }
         ensures journal_room { IfOk result (λ room. MOST_LEAVES ≤ vec_capacity room.journal) }
         ensures bans { IfOk result (λ room. room.bans.items ≡ []) }
@@ -56,7 +58,8 @@ impl Room {
         let start: usize = 0;
         Ok(Room {
             fronts: vec![in alloc; start; plans.len()]?,
-            rows: NextRows::new(alloc, plans)?,
+            leaves: PlanRows::of_leaves(alloc, plans)?,
+            rows: PlanRows::new(alloc, plans)?,
             journal: Vec::with_capacity(alloc, MOST_LEAVES as usize)?,
             bans: Vec::with_capacity(alloc, MOST_LEAVES as usize)?,
             opens: Vec::with_capacity(alloc, MOST_LEAVES as usize)?,
@@ -92,9 +95,13 @@ pub struct Residual {
     /// The open places of the journal, the last of them last. A place is open where its leaf could be avoided when it
     /// was pushed, whatever comes later.
     opens: Vec<u32>,
+    /// The leaves of each plan.
+    leaves: PlanRows,
     /// Of each plan that follows the journal, the leaves that may come next, where `fresh`.
-    rows: NextRows,
+    rows: PlanRows,
     fresh: bool,
+    /// How many questions about a leaf were prepared for while the rows are not fresh.
+    asked: u32,
 }
 
 /// Puts the place behind the others, where it is open.
@@ -134,6 +141,7 @@ impl Residual {
     {
         let Room {
             fronts,
+            leaves,
             rows,
             journal,
             bans,
@@ -153,8 +161,10 @@ impl Residual {
             banned: none,
             sides,
             opens,
+            leaves,
             rows,
             fresh: false,
+            asked: 0,
         })
     }
 
@@ -195,6 +205,13 @@ impl Residual {
         ensures { (o : ChoiceOption) → slice_get self.now.options place ≡ Some o → IsFront self.now.journal o result }
     {
         self.fronts[place]
+    }
+
+    /// Whether the plan at that place has a leaf of the set, as far as its row tells. The plan is not asked.
+    pub(crate) fn has_leaf_in(&self, place: usize, set: &LeafSet<LEAF_WORDS>) -> bool
+        ensures { (o : ChoiceOption) → slice_get self.now.options place ≡ Some o → IsTrue result → HasLeafIn o set.now }
+    {
+        self.leaves.meets(place, set)
     }
 
     /// The rows of the choices that stay.
@@ -291,6 +308,7 @@ impl Residual {
         self.done.insert(leaf);
         self.sides = sides_by(&self.folds, &self.done, &self.banned);
         self.fresh = false;
+        self.asked = 0;
     }
 
     /// The leaf may no longer be in the run.
@@ -328,6 +346,7 @@ impl Residual {
         self.banned = set_of_bans(&self.bans);
         self.sides = sides_by(&self.folds, &self.done, &self.banned);
         self.fresh = false;
+        self.asked = 0;
     }
 
     /// Finds for each plan what may come next, so that the questions about this journal need not.
@@ -341,8 +360,23 @@ impl Residual {
         }
     }
 
+    /// Is called before a question about one leaf. Such a question takes less time than a look ahead, which finds all leaves; but once
+    /// as many have come about this journal as there may be leaves, they have taken as much, and it looks ahead.
+    pub fn prepare(&mut self)
+        ensures { self.new ≡ self.old }
+    {
+        if self.fresh {
+            return;
+        }
+        if self.asked < self.rows.most_leaves() {
+            self.asked += 1;
+        } else {
+            self.look_ahead();
+        }
+    }
+
     /// The rows of what may come next, where they were made for this journal.
-    pub(crate) fn next_rows(&self) -> Option<&NextRows>
+    pub(crate) fn next_rows(&self) -> Option<&PlanRows>
         ensures { IfSome result (λ rows. AreNext self.now.journal self.now.options rows.now) }
     {
         if self.fresh { Some(&self.rows) } else { None }

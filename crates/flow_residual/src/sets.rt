@@ -1,5 +1,5 @@
 //! Leaves as sets, and what the choices that stay tell by them.
-ghost use Rattle.std.specs.Prelude.{◌≡◌, ◌<◌, ◌↔◌, ◌&&◌, not, ℕ, List, IsTrue, IfNone, IfSome};
+ghost use Rattle.std.specs.Prelude.{◌≡◌, ◌<◌, ◌↔◌, ◌⊎◌, ◌&&◌, not, ℕ, List, IsTrue, IfNone, IfSome};
 ghost use Rattle.flow_model.specs.Lists.{◌∈◌, Each, AreDistinct};
 ghost use Rattle.flow_model.specs.Resolution.{ChoiceOption};
 ghost use Rattle.leaf_rows.specs.Leaves.{has_leaf};
@@ -68,6 +68,19 @@ pub(crate) fn less(one: &LeafSet<LEAF_WORDS>, other: &LeafSet<LEAF_WORDS>) -> Le
     let mut rest = *one;
     rest.remove_all(other);
     rest
+}
+
+/// Whether each member of the set is one of the one or of the other.
+pub(crate) fn is_covered<const W: usize>(
+    set: &LeafSet<W>,
+    one: &LeafSet<W>,
+    other: &LeafSet<W>,
+) -> bool
+    ensures { IsTrue result ↔ ((n : ℕ) → IsTrue (has_leaf set.now n) → IsTrue (has_leaf one.now n) ⊎ IsTrue (has_leaf other.now n)) }
+{
+    let mut rest = *set;
+    rest.remove_all(one);
+    rest.is_subset(other)
 }
 
 /// What the choices tell of all options by the done and the banned leaves: one look at each choice.

@@ -52,6 +52,7 @@ invariant_of-self c =
       kept = subst (λ (bans : List (ℕ × ℕ)). IsKept (record r { bans = bans })) more (kept_ban r k.kept c.args.leaf next c.len-index.result (omega (arith, c.len-index.ensures, i.journal.ok.0)));
       served = k.served;
       fronts = k.fronts;
+      leaves_are = k.leaves_are;
       rows_are = k.rows_are;
       done_are = k.done_are;
       banned_are = out;

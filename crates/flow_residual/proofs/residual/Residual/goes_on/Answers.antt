@@ -1,24 +1,5 @@
-use Rattle.std.proofs.Common.{◌≡◌, ◌↔◌, not, IsTrue, sym, ◌∙◌, subst}
-use Rattle.leaf_rows.specs.Leaves.{has_leaf}
-use Rattle.flow_model.specs.FoldedRun.{CanAvoid}
-use Rattle.flow_model.specs.Resolution.{ChoiceOption}
-use Rattle.flow_model.proofs.Lists.{mem-slice_get}
-use Rattle.flow_fold_laws.proofs.FoldedAvoid.{is_in}
-use Rattle.flow_plan.specs.Options.{option_of}
-use Rattle.flow_plan.specs.Sided.{AreSidesOf, IsDoneIn}
-use Rattle.flow_residual.specs.Telling.{IsOrderedOption}
 use Rattle.flow_residual.proofs.QuestionLemmas.{where_live}
-use Rattle.flow_residual.proofs.TellingLemmas.{sides_of, unless_spoilt}
 use Rattle.flow_residual.proofs.residual.Residual.goes_on.Goals as goal
 
 pub returns-then-follows : goal.returns-then-follows
-returns-then-follows c o bans at told =
-    let r = c.args.self.now in
-    let sides = c.args.sides.now in
-    let same : option_of c.plan.result.now ≡ o = (let e = sym c.plan.ensures.at ∙ at in cc) in
-    let there = mem-slice_get r.options c.args.place o at in
-    let tells = sides_of r.options r.journal bans sides told o there in
-    let says = subst (λ (q : ChoiceOption). IsTrue c.is_spoilt.result ↔ ¬ (CanAvoid q.resolution (IsDoneIn sides) (λ n. IsTrue (is_in bans n)))) same
-    (c.is_spoilt.ensures (has_leaf sides.done) (is_in bans) (subst (λ (q : ChoiceOption). AreSidesOf q.resolution (IsDoneIn sides) (λ n. IsTrue (is_in bans n)) sides) (sym same) tells)) in
-    where_live (not c.is_spoilt.result) _ _ _ ((c.follows.ensures o at).0 c.if-follows.true)
-    (unless_spoilt r.options r.journal bans sides told o there (subst IsOrderedOption same c.plan.ensures.ordered) c.is_spoilt.result says) (λ h. h, λ h. h)
+returns-then-follows c o bans at told = where_live c.is_spared.result _ _ _ ((c.follows.ensures o at).0 c.if-follows.true) (c.is_spared.ensures o bans at told) (λ h. h, λ h. h)

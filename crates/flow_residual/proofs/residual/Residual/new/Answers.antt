@@ -18,6 +18,6 @@ invariant_of-result c =
     let none = none_in c.new-none.result c.new-none.ensures in
     roomy_first _ c.plans.result.now (c.plans.ensures.plans ∙ sym c.into_parts-plans.ensures.plans)
     (subst (λ (plans : List Sampled). Each HasSmallLeaves (options_of plans)) (sym c.into_parts-plans.ensures.plans) c.plans.ensures.small)
-    ordered serving room.fronts room.journal room.bans refl none none
+    ordered serving room.fronts room.leaves room.journal room.bans refl none none
     (c.sides_by-sides.ensures (options_of plans) [] [] ordered (subst (λ (l : List FoldRow). Each (AreServing l) (options_of plans)) (sym c.deref-2.ensures.value) serving) none none)
     room.journal_room room.bans_room room.opens room.opens_room

@@ -74,6 +74,7 @@ invariant_of-self c =
       served = k.served;
       fronts = subst (λ (journal : List ℕ). EachHas (IsFront journal) r.options (with_items i.fronts c.follow.new.fronts).items) more
           (followed i (Done c.args.leaf) _ _ _ _ k c.deref.ensures.value c.deref-2.ensures.value c.deref_mut.ensures.value c.follow.ensures);
+      leaves_are = k.leaves_are;
       rows_are = λ fresh. absurd (true≢false (sym fresh));
       done_are = done;
       banned_are = k.banned_are;

@@ -81,6 +81,7 @@ invariant_of-self c =
       served = k.served;
       fronts = subst (λ (journal : List ℕ). EachHas (IsFront journal) r.options (with_items i.fronts c.follow.new.fronts).items) journal
           (followed i (Back index) _ _ _ _ k c.deref.ensures.value c.deref-2.ensures.value c.deref_mut.ensures.value c.follow.ensures);
+      leaves_are = k.leaves_are;
       rows_are = λ fresh. absurd (true≢false (sym fresh));
       done_are = done;
       banned_are = out;
