@@ -7,8 +7,10 @@ model    journals of the order desk and of small workflows made at random: execu
          doubled or exchanged and with lines damaged. What is told of each is told before by the model of bench/desk.py, which looks for
          executions in the goal itself. By 1, 4 and 64 workers the program must write the same.
 times    as many journals as an audit may have (1,024) of the order desk, as many as fit of 1,016 leaves over 256 options, and 1,024 of 64
-         leaves over 4,096 options, by 1, 2 and 4 workers, by turns in one run: the least milliseconds of so many calls each (five), how many
-         times as fast four workers are as one, in all and (`checked`) less what it takes to compile the workflow, and what as many calls of `trace` take, less what each takes to compile the workflow (`check`).
+         leaves over 4,096 options, all of them and with each fourth alone not empty, by 1, 2 and 4 workers, by turns in one run: the least
+         milliseconds of so many calls each (five), how many times as fast four workers are as one, in all and (`checked`) less what it takes to
+         compile the workflow, how many times as fast four calls by one worker each are side by side as in turn (`machine`: threads can gain no
+         more), and what as many calls of `trace` take, less what each takes to compile the workflow (`check`).
          These figures tell something only on four processors that do nothing else.
 
 --journals sets how many there are in each text (at most 1,024). It needs GNU time (/usr/bin/time). The script ends with 1 where an answer
@@ -22,6 +24,7 @@ import re
 import subprocess
 import sys
 import tempfile
+import time
 
 from desk import FLOW, Desk, Workflow
 from measuring import TOP, called
@@ -184,26 +187,53 @@ KINDS = {
 }
 
 
+def all_alike(lines, count):
+    return [lines] * count
+
+
+def each_fourth(lines, count):
+    """Journals of unlike size: three of four are empty."""
+    return [lines if place % 4 == 0 else "" for place in range(count)]
+
+
+ROWS = [(name, all_alike) for name in KINDS] + [("64 leaves by the last of 4,096 options", each_fourth)]
+
+
+def side_by_side(program, source):
+    """The seconds of four calls by one worker each, side by side."""
+    with tempfile.NamedTemporaryFile() as given:
+        given.write(source)
+        given.flush()
+        begun = time.perf_counter()
+        calls = [subprocess.Popen([program, "audit", "--workers", "1"], stdin=open(given.name, "rb"), stdout=subprocess.DEVNULL) for _ in range(4)]
+        for call in calls:
+            call.wait()
+        return time.perf_counter() - begun
+
+
 def times(program, options):
-    columns = ["1", "2", "4", "1 by 4", "checked", "by trace", "1 by trace"]
-    print(f"{'journals':<40}{'count':>6}" + "".join(f"{column:>11}" for column in columns) + "  ends with")
-    for name, make in KINDS.items():
-        workflow, lines = make()
+    columns = ["1", "2", "4", "1 by 4", "checked", "machine", "by trace", "1 by trace"]
+    print(f"{'journals':<52}{'count':>6}" + "".join(f"{column:>11}" for column in columns) + "  ends with")
+    for name, of in ROWS:
+        workflow, lines = KINDS[name]()
         room = GREATEST_INPUT - len(workflow) - 2
         count = min(options.journals, room // (len(lines) + 3))
-        source = input_of(workflow, [lines] * count)
+        journals = of(lines, count)
+        full = sum(1 for journal in journals if journal)
+        source = input_of(workflow, journals)
         one = input_of(workflow, [lines])
         calls = [(["audit", "--workers", "1"], source), (["audit", "--workers", "2"], source), (["audit", "--workers", "4"], source)]
         calls += [(["trace"], one), (["check"], workflow.encode())]
         took = [[called(program, words, given) for words, given in calls] for _ in range(options.calls)]
         best = [1000 * min(spent for spent, _, _ in each) for each in zip(*took)]
+        four = 1000 * min(side_by_side(program, source) for _ in range(options.calls))
         lasts = {last for turn in took for _, _, last in turn[:3]}
-        if lasts != {f"executions {count} of {count}"}:
+        if lasts != {f"executions {full} of {count}"}:
             wrong(f"{name}: ends with {lasts}", source)
-        by_trace = count * (best[3] - best[4])
+        by_trace = full * (best[3] - best[4])
         rest = f"{(best[0] - best[4]) / (best[2] - best[4]):.2f}" if best[2] > best[4] else "-"
-        told = [f"{best[0]:.0f}", f"{best[1]:.0f}", f"{best[2]:.0f}", f"{best[0] / best[2]:.2f}", rest, f"{by_trace:.0f}", f"{best[0] / by_trace:.2f}" if by_trace > 0 else "-"]
-        print(f"{name:<40}{count:>6}" + "".join(f"{column:>11}" for column in told) + f"  {min(lasts)}", flush=True)
+        told = [f"{best[0]:.0f}", f"{best[1]:.0f}", f"{best[2]:.0f}", f"{best[0] / best[2]:.2f}", rest, f"{4 * best[0] / four:.2f}", f"{by_trace:.0f}", f"{best[0] / by_trace:.2f}" if by_trace > 0 else "-"]
+        print(f"{name + ('' if of is all_alike else ', each fourth'):<52}{count:>6}" + "".join(f"{column:>11}" for column in told) + f"  {min(lasts)}", flush=True)
 
 
 PARTS = {"model": model, "times": times}

@@ -1,16 +1,14 @@
 -- The leaves of the claims that are out, found by the numbers of claims.
-use Rattle.std.proofs.Common.{◌≡◌, ◌≤◌, ◌<◌, ◌+◌, ◌-◌, ℕ, false, ◌↔◌, nat_eq, inl, inr, ⊎_elim, IsTrue, IsSomeAnd, List, [], ◌∷◌, ◌++◌, map, length, take, filter, nat_le, slice_index, Some, sym, ap, subst, ◌∙◌, arith}
-use Rattle.std.specs.List.{find}
-use Rattle.std.proofs.lemmas.Bool.{cases_lt, eq-eqb, ne_eqb}
+use Rattle.std.proofs.Common.{◌≡◌, ◌≤◌, ◌<◌, ◌+◌, ◌-◌, ℕ, false, ◌↔◌, inl, inr, ⊎_elim, IsTrue, IsSomeAnd, List, [], ◌∷◌, ◌++◌, length, take, filter, nat_le, slice_index, Some, sym, ap, subst, ◌∙◌, arith}
+use Rattle.std.proofs.lemmas.Bool.{cases_lt}
 use Rattle.std.proofs.lemmas.List.{length-map, length_push, append-nil}
 use Rattle.flow_model.specs.declared.history.Entry.{Entry}
 use Rattle.flow_model.specs.declared.history.Step.{Step}
 use Rattle.flow_model.specs.declared.history.Step.TheVariants.{Took, Done, Failed, Late, Did, Rewound, Committed}
 use Rattle.flow_model.specs.declared.history.FailEffect.TheVariants.{Switched, Kept}
-use Rattle.flow_model.specs.Lists.{◌∈◌, numbers_from}
+use Rattle.flow_model.specs.Lists.{◌∈◌}
 use Rattle.flow_model.specs.Schema.{Schema}
 use Rattle.flow_model.specs.Run.{Claim, RunState, first_state, claim_at, current_claims, current_leaves, leaf_of_claim, is_current, IsCurrent, answer, spare, next_state, state_after}
-use Rattle.flow_model.specs.Decided.{cons_same}
 use Rattle.flow_model.proofs.Lists.{mem-append, mem_append_left, mem_append_right, only_one}
 use Rattle.flow_model.proofs.MadeLists.{mem-map, of_map, numbers_from_least, numbers_from_below}
 use Rattle.flow_laws.specs.Histories.{IsSound}
@@ -19,6 +17,7 @@ use Rattle.flow_residual.proofs.SetLemmas.{mem-filter, of_filter}
 use Rattle.flow_laws.proofs.SoundStates.{legal_length}
 use Rattle.flow_core.specs.Run.{Run, schema, now}
 use Rattle.flow_core.specs.Lawful.{IsLawful}
+use Rattle.flow_core.proofs.HoldingLemmas.{found_by_number}
 use Rattle.flow_desk.specs.Mark.{AddsClaimed}
 
 -- one of the first claims is out, and on the leaf
@@ -41,17 +40,6 @@ one_more s count old new so_far adds leaf = (
         inr (subst (λ n. IsCurrent s (n + 1)) same h.2, h.3 ∙ ap (λ n. leaf_of_claim s (n + 1)) same)
   ])),
 )
-
--- a claim is found by its number
-found_by_number : (first : ℕ) (claims : List Claim) (x : Claim) → map number_of claims ≡ numbers_from first (length claims) → x ∈ claims →
-    find (λ (claim : Claim). nat_eq claim.number x.number) claims ≡ Some x
-found_by_number first [] x numbered m = absurd m
-found_by_number first (y ∷ ys) x numbered (inl e) = rw (eq-eqb y.number x.number (ap number_of (sym e))) (ap Some (sym e))
-found_by_number first (y ∷ ys) x numbered (inr m) =
-    let both = cons_same y.number first (map number_of ys) (numbers_from (first + 1) (length ys)) numbered in
-    let here : y.number ≡ first = both.0 in
-    let later = numbers_from_least (first + 1) (length ys) x.number (subst (λ l. x.number ∈ l) both.1 (mem-map number_of x ys m)) in
-    rw (ne_eqb y.number x.number (omega arith)) (found_by_number (first + 1) ys x both.1 m)
 
 -- a new epoch has as many claims
 length_spared : (w : Schema) (s : RunState) (before : List ℕ) (claims : List Claim) → length (spare w s before claims) ≡ length claims
