@@ -1,18 +1,14 @@
 -- Findings of several workers put in the order of the pieces.
-use Rattle.std.proofs.Common.{◌≡◌, ℕ, zero, suc, ◌⊎◌, List, [], ◌∷◌, ◌++◌, length, Option, Some, None, slice_get, refl, sym, ap, subst, ◌∙◌, ◌+◌, length-append, arith, inl, inr}
+use Rattle.std.proofs.Common.{◌≡◌, ◌<◌, ℕ, zero, suc, ◌⊎◌, List, [], ◌∷◌, ◌++◌, length, Option, Some, None, slice_get, refl, sym, ap, subst, ◌∙◌, ◌+◌, length-append, arith, inl, inr}
 use Rattle.std.proofs.Math.ListN.{replicate, set, length-set}
-use Rattle.std.proofs.lemmas.List.{length-replicate}
+use Rattle.std.proofs.lemmas.List.{length-replicate, get_or-replicate}
+use Rattle.std.proofs.lemmas.Option.{slice_get_within, get_or_from_slice_get}
 use Rattle.flow_model.proofs.MadeLists.{some_same}
 use Rattle.flow_audit.specs.declared.finding.Finding.{Finding}
 use Rattle.flow_audit.specs.Cuts.{piece}
 use Rattle.flow_audit.specs.Findings.{AreFindings}
 use Rattle.flow_audit.specs.Shares.{IsShare}
 use Rattle.flow_audit.proofs.PlaceLemmas.{at_one_more}
-
-at_same : {A : Type 0} (n i : ℕ) (y x : A) → slice_get (replicate n y) i ≡ Some x → y ≡ x
-at_same zero i y x e = cc
-at_same (suc n) zero y x e = some_same y x e
-at_same (suc n) (suc i) y x e = at_same n i y x e
 
 at_set : {A : Type 0} (xs : List A) (k i : ℕ) (y x : A) → slice_get (set xs k y) i ≡ Some x → (slice_get xs i ≡ Some x) ⊎ ((i ≡ k) × (x ≡ y))
 at_set [] k i y x e = inl e
@@ -29,7 +25,10 @@ module _ (Finds : List ℕ → Finding → Type 0) (text : List ℕ) (cuts : Lis
   none_yet share is = record {
     places = ap length is ∙ length-replicate (length cuts) None;
     each = λ place cut finding there stands.
-        let none : None ≡ Some finding = at_same (length cuts) place None (Some finding) (subst (λ (l : List (Option Finding)). slice_get l place ≡ Some (Some finding)) is stands) in cc;
+        let at = subst (λ (l : List (Option Finding)). slice_get l place ≡ Some (Some finding)) is stands in
+        let below = subst (λ (k : ℕ). place < k) (length-replicate (length cuts) None) (slice_get_within (replicate (length cuts) None) place (Some finding) at) in
+        let none : None ≡ Some finding = sym (get_or-replicate (length cuts) place None (Some finding) below)
+        ∙ get_or_from_slice_get (replicate (length cuts) None) place (Some finding) (Some finding) at in cc;
   }
 
   -- one finding is put in its place
