@@ -1,6 +1,6 @@
 -- What is read from the marks of a goal.
 use Rattle.std.proofs.lemmas.Bool.{or_cases, or_left, or_right}
-use Rattle.std.proofs.Common.{◌≡◌, ℕ, ◌+◌, false, IsTrue, List, [], ◌∷◌, ◌++◌, length, MatchOption, inl, inr, ◌⊎◌, ⊎_elim, refl, sym, ap, ◌∙◌, ◌-◌, take, drop, subst, append-nil, append_assoc, arith}
+use Rattle.std.proofs.Common.{◌≡◌, ℕ, ◌+◌, ◌||◌, Bool, true, false, IsTrue, List, [], ◌∷◌, ◌++◌, length, MatchOption, inl, inr, ◌⊎◌, ⊎_elim, refl, sym, ap, ◌∙◌, ◌-◌, take, drop, subst, append-nil, append_assoc, arith}
 use Rattle.std.proofs.Math.Seq.{take-append_seam}
 use Rattle.std.specs.List.Sorted.{IsStrictlyIncreasing}
 use Rattle.leaf_rows.specs.Leaves.{has_leaf}
@@ -16,7 +16,7 @@ use Rattle.flow_plan.specs.declared.outline.Outline.{Outline}
 use Rattle.flow_plan.specs.declared.span.Span.{Span}
 use Rattle.flow_plan.specs.declared.sweep.Sweep.{Sweep}
 use Rattle.flow_plan.specs.Rows.{IsRowOf, HasRows}
-use Rattle.flow_plan.specs.RowMarks.{IsWith, IsUnion, MakesRows, Completes}
+use Rattle.flow_plan.specs.RowMarks.{IsWith, IsJoined, IsUnion, MakesRows, Completes}
 use Rattle.flow_plan.specs.Span.{at_span, AddsSpans}
 use Rattle.flow_plan.specs.SpanMarks.{MakesSpans, Outlines}
 use Rattle.flow_plan.proofs.PlaceLemmas.{distinct_of_rising}
@@ -28,6 +28,16 @@ use Rattle.flow_plan.proofs.SpanLemmas.{spans_of_none, spans_of_both, spans_of_i
 -- what is ahead of what follows a goal
 abbrev pub IsBehind : {w : ℕ} → Process → LeafSet w → LeafSet w → Type 0
 IsBehind g ahead more = IsRowOf (λ x. IsTrue (has_leaf ahead x) ⊎ (x ∈ leaves g)) more
+
+-- one test that follows from the other
+covered : (s t : Bool) → (IsTrue s → IsTrue t) → t ≡ (s || t)
+covered true t h = h refl
+covered false t h = refl
+
+covering : (s t : Bool) → (IsTrue t → IsTrue s) → s ≡ (s || t)
+covering true t h = refl
+covering false true h = h refl
+covering false false h = refl
 
 behind_leaf : {w : ℕ} → (n : ℕ) (ahead more : LeafSet w) → IsWith n ahead more → IsBehind (Task n) ahead more
 behind_leaf n ahead more is x = let one = one_more x n (has_leaf ahead x) in (λ has. one.0 (sym (is x) ∙ has), λ either. is x ∙ one.1 either)
@@ -51,6 +61,13 @@ behind_parallel a b ahead one two all first second is x = (
       (λ in_b. or_left (has_leaf two x) (has_leaf one x) ((second x).1 (inr in_b))) (mem-append x (leaves a) (leaves b) m)) either,
 )
 
+joined_is : {w : ℕ} → (a b : Process) (ahead one two all : LeafSet w) → IsBehind a ahead one → IsBehind b ahead two → IsJoined ahead one two all → IsUnion two one all
+joined_is {w} a b ahead one two all first second (inl (none, same)) x =
+    ap (λ (s : LeafSet w). has_leaf s x) same ∙ covered (has_leaf two x) (has_leaf one x) (λ h. (first x).1 (inl (subst (λ (s : LeafSet w). IsTrue (has_leaf s x)) none h)))
+joined_is {w} a b ahead one two all first second (inr (inl (none, same))) x =
+    ap (λ (s : LeafSet w). has_leaf s x) same ∙ covering (has_leaf two x) (has_leaf one x) (λ h. (second x).1 (inl (subst (λ (s : LeafSet w). IsTrue (has_leaf s x)) none h)))
+joined_is a b ahead one two all first second (inr (inr is)) x = is x
+
 -- the marks of a goal make the rows of its leaves
 module _ (q : Process) (ns : List ℕ) where
   goal_rows : {w : ℕ} → (g : Process) (nodes : List Node) (k : ℕ) (ahead : LeafSet w) (forks rows : List (LeafSet w)) → AreDistinct (leaves g) → StandAt ns k (leaves g) →
@@ -73,26 +90,30 @@ module _ (q : Process) (ns : List ℕ) where
   goal_rows (Parallel a b) nodes k ahead forks rows distinct at then =
       subst (λ l. MakesRows q l ns k ahead forks rows) (sym (parallel_nodes a b nodes))
       (goal_rows a (Split ∷ (nodes_of b ++ (Join ∷ nodes))) k ahead (ahead ∷ forks) rows (distinct_left (leaves a) (leaves b) distinct) (first_stand ns k (leaves a) (leaves b) at)
-      (λ first one behind_a has_a. goal_rows b (Join ∷ nodes) (k + length (leaves a)) ahead (first ∷ forks) (rows ++ one) (distinct_right (leaves a) (leaves b) distinct) (second_stand ns k (leaves a) (leaves b) at)
+      (λ first one behind_a has_a. goal_rows b (Join ∷ nodes) (k + length (leaves a)) ahead (first ∷ ahead ∷ forks) (rows ++ one) (distinct_right (leaves a) (leaves b) distinct) (second_stand ns k (leaves a) (leaves b) at)
       (λ second two behind_b has_b. λ all is. rw (both_long k (leaves a) (leaves b), append_assoc rows one two)
-      (then all (one ++ two) (behind_parallel a b ahead first second all behind_a behind_b is) (has_parallel a b ahead one two distinct has_a has_b)))))
+      (then all (one ++ two) (behind_parallel a b ahead first second all behind_a behind_b (joined_is a b ahead first second all behind_a behind_b is)) (has_parallel a b ahead one two distinct has_a has_b)))))
   goal_rows (Choice a b) nodes k ahead forks rows distinct at then =
       subst (λ l. MakesRows q l ns k ahead forks rows) (sym (choice_nodes a b nodes))
       (goal_rows a (Or ∷ (nodes_of b ++ (Chosen ∷ nodes))) k ahead (ahead ∷ forks) rows (distinct_left (leaves a) (leaves b) distinct) (first_stand ns k (leaves a) (leaves b) at)
-      (λ first one behind_a has_a. goal_rows b (Chosen ∷ nodes) (k + length (leaves a)) ahead (first ∷ forks) (rows ++ one) (distinct_right (leaves a) (leaves b) distinct) (second_stand ns k (leaves a) (leaves b) at)
+      (λ first one behind_a has_a. goal_rows b (Chosen ∷ nodes) (k + length (leaves a)) ahead (first ∷ ahead ∷ forks) (rows ++ one) (distinct_right (leaves a) (leaves b) distinct) (second_stand ns k (leaves a) (leaves b) at)
       (λ second two behind_b has_b. λ all is. rw (both_long k (leaves a) (leaves b), append_assoc rows one two)
-      (then all (one ++ two) (behind_parallel a b ahead first second all behind_a behind_b is) (has_parallel a b ahead one two distinct has_a has_b)))))
+      (then all (one ++ two) (behind_parallel a b ahead first second all behind_a behind_b (joined_is a b ahead first second all behind_a behind_b is)) (has_parallel a b ahead one two distinct has_a has_b)))))
   goal_rows (Isolated a) nodes k ahead forks rows distinct at then =
       subst (λ l. MakesRows q l ns k ahead forks rows) (sym (isolated_nodes a nodes)) (goal_rows a (Close ∷ nodes) k ahead forks rows distinct at then)
 
 -- and those of a whole goal the rows of all leaves
 pub begun_rows : {w : ℕ} → (q : Process) (nodes : List Node) (ns : List ℕ) (s : Sweep w) → IsStrictlyIncreasing ns → nodes ≡ nodes_of q → ns ≡ leaves q → s.place ≡ 0 →
-    ((x : ℕ) → has_leaf s.ahead x ≡ false) → s.forks.items ≡ [] → s.rows.items ≡ [] → Completes q nodes ns s
-begun_rows q nodes ns s rising are listed place none forks rows =
-    rw (place, forks, rows, are)
-    (subst (λ l. MakesRows q l ns 0 s.ahead [] []) (append-nil (nodes_of q))
-    (goal_rows q ns q [] 0 s.ahead [] [] (subst AreDistinct listed (distinct_of_rising ns rising)) ([], listed ∙ sym (append-nil (leaves q)))
-    (λ more added behind has. rw listed (first_rows q s.ahead added none has))))
+    (empty : LeafSet w) × ((x : ℕ) → has_leaf empty x ≡ false) × (s.sets.items ≡ empty ∷ []) → s.ahead ≡ 0 → s.forks.items ≡ [] → s.rows.items ≡ [] → Completes q nodes ns s
+begun_rows q nodes ns s rising are listed place (empty, none, sets) ahead forks rows =
+    rw (place, sets, ahead, forks, rows, are) (
+      empty,
+      [],
+      (refl, tt),
+      subst (λ l. MakesRows q l ns 0 empty [] []) (append-nil (nodes_of q))
+          (goal_rows q ns q [] 0 empty [] [] (subst AreDistinct listed (distinct_of_rising ns rising)) ([], listed ∙ sym (append-nil (leaves q)))
+          (λ more added behind has. rw listed (first_rows q empty added none has))),
+    )
 
 -- ---- spans
 

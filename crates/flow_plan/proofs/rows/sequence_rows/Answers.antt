@@ -21,7 +21,7 @@ returns g c =
     let q = c.args.goal.now.process in
     let done = subst (λ (l : List Node). Completes q l c.leaves-leaves.result.now c.loop-node.sweep)
     (drop_all c.loop-node.node-index c.nodes-node-items.result.now c.loop-node-test.false) c.loop-node.invariant in
-    subst (λ (ns : List ℕ). AreRowsOf (InSequence q) ns c.loop-node.sweep.rows.items) c.leaves-leaves.ensures.leaves done
+    subst (λ (ns : List ℕ). AreRowsOf (InSequence q) ns c.loop-node.sweep.rows.items) c.leaves-leaves.ensures.leaves done.3
 
 pub loop-node-init : goal.loop-node-init
 loop-node-init g c =
@@ -29,4 +29,4 @@ loop-node-init g c =
     let fresh = c.in_ok-sweep.ensures in
     begun_rows c.args.goal.now.process c.nodes-node-items.result.now c.leaves-leaves.result.now c.in_ok-sweep.sweep
     (subst IsStrictlyIncreasing (sym leaves.leaves) leaves.rising) c.nodes-node-items.ensures.nodes (leaves.leaves ∙ leaves.listed)
-    fresh.place fresh.ahead fresh.forks fresh.rows
+    fresh.place fresh.sets fresh.ahead fresh.forks fresh.rows
