@@ -460,6 +460,12 @@ def twelve_choices_each_after_isolated_nothings_side_by_side():
 
 
 @text
+def eleven_choices_beside_a_series_and_isolated_nothings():
+    some = " | ".join("iso(nop)" for _ in range(880))
+    return f"event {choice_events(11)}, {names('x', 110, ', ')}; goal {choices(11)} | ({names('x', 110, ' * ')}) | {some};{named(11)}"
+
+
+@text
 def twelve_choices_beside_52_leaves():
     return f"event {choice_events(12)}, {names('e', 52, ', ')}; goal {choices(12)} | {names('e', 52, ' * ')};{named(12)}"
 
