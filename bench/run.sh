@@ -11,6 +11,8 @@ program=$(realpath "${1:-../crates/flow/out/flow}")
 status=0
 echo "== documents"
 ./documents.py "$program" || status=1
+echo "== model"
+./model.py "$program" || status=1
 for bench in worst folded sessions traces audits duties large hostile; do
     echo "== $bench"
     "./$bench.py" "$program" || status=1
