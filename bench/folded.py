@@ -197,6 +197,27 @@ def isolations_one_in_another_done_and_looked_at(leaves):
     return driven(f"{events}, {names('e', count, ', ')}", f"{goal} | {inner}", lines, *rules, flows=flows)
 
 
+def isolated_pairs(leaves, looks, steps):
+    """Isolated pairs side by side over 64 options, whose leaves are done one after another, each looked at so."""
+    events, goal, rules = named_choices(6)
+    count = (leaves - 12) // 2
+    some = " | ".join(f"iso(e{2 * n} | e{2 * n + 1})" for n in range(count))
+    lines = []
+    for leaf in range(min(2 * count, steps)):
+        lines += [f"take {12 + leaf}", f"done {leaf + 1}", *looks]
+    return driven(f"{events}, {names('e', 2 * count, ', ')}", f"{goal} | {some}", lines, *rules)
+
+
+@case
+def isolated_pairs_done(leaves):
+    return isolated_pairs(leaves, [], leaves)
+
+
+@case
+def isolated_pairs_looked_at_after_each_of_200_steps(leaves):
+    return isolated_pairs(leaves, ["enabled"], 200)
+
+
 @case
 def a_claim_that_waits_for_a_choice_of_tests(leaves):
     tests = " + ".join(f"?p{n}" for n in range(leaves - 8))

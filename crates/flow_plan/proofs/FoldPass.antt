@@ -1,14 +1,13 @@
 -- What a pass through the rows of choices leads to.
 use Rattle.std.proofs.Common.{◌≡◌, ℕ, ◌+◌, ◌<◌, ◌≤◌, Bool, false, ◌&&◌, ◌||◌, ◌↔◌, IsTrue, List, [], ◌∷◌, ◌++◌, length, drop, get_or, inl, inr, ◌⊎◌, ⊎_elim, refl, sym, ◌∙◌, ap, subst, add-one, drop-cons}
 use Rattle.std.proofs.Math.Bool.{or-false}
-use Rattle.std.proofs.lemmas.List.{drop_all}
-use Rattle.std.proofs.lemmas.Bool.{false_from_ne_true, and_right}
+use Rattle.std.proofs.lemmas.List.{drop_all, drop_more}
+use Rattle.std.proofs.lemmas.Bool.{and_right}
 use Rattle.leaf_rows.specs.Leaves.{has_leaf}
 use Rattle.leaf_rows.specs.declared.leaf_set.LeafSet.{LeafSet}
 use Rattle.leaf_rows.specs.declared.TheConstants.{LEAF_WORDS}
 use Rattle.flow_model.specs.Lists.{◌∈◌}
 use Rattle.flow_model.specs.Process.{Process, leaves}
-use Rattle.flow_model.specs.FoldedReady.{IsBegun}
 use Rattle.flow_model.proofs.Lists.{mem_append_left, mem_append_right, mem-append, mem_by_halves}
 use Rattle.flow_fold_laws.specs.FoldedRows.{Covers, Settling}
 use Rattle.flow_fold_laws.specs.SharedFolds.{TellsChoices}
@@ -18,7 +17,7 @@ use Rattle.flow_fold_laws.proofs.StayingChoices.{HaveLeavesIn}
 use Rattle.flow_plan.specs.declared.fold_row.FoldRow.{FoldRow}
 use Rattle.flow_plan.specs.declared.fold_row.Met.{Met}
 use Rattle.flow_plan.specs.declared.sides.Sides.{Sides}
-use Rattle.flow_plan.specs.FoldRows.{IsWithin, HasLeaf, IsFoldRow}
+use Rattle.flow_plan.specs.FoldRows.{CloseOff, ClosesOff, IsWithin, HasLeaf, IsFoldRow}
 use Rattle.flow_plan.specs.Sided.{IsMet, TakesFold}
 
 -- from the one to the other by one choice after the other
@@ -118,47 +117,69 @@ module _ (ns : List ℕ) (done : LeafSet LEAF_WORDS) where
 
   -- What is closed off
 
-  -- the tests of a choice say of the leaves of its sides what is said of its rows
-  begun_sides : (choice : Process × Process) (row : FoldRow) (begun : Met) → IsFoldRow choice row → IsMet row done begun →
-      (IsTrue begun.left ↔ IsBegun choice.0 (λ n. IsTrue (has_leaf done n))) × (IsTrue begun.right ↔ IsBegun choice.1 (λ n. IsTrue (has_leaf done n)))
-  begun_sides choice row begun is met = (
-    (λ e. let (n, m, d) = met.left.0 e in (n, (is.left n).0 m, d), λ (n, m, d). met.left.1 (n, (is.left n).1 m, d)),
-    (λ e. let (n, m, d) = met.right.0 e in (n, (is.right n).0 m, d), λ (n, m, d). met.right.1 (n, (is.right n).1 m, d)),
+  closes_by : (choice : Process × Process) (row : FoldRow) → IsFoldRow choice row → (n : ℕ) → ClosesOff done row n ↔ IsClosedBy choice (λ m. IsTrue (has_leaf done m)) n
+  closes_by choice row is n = (
+    ⊎_elim (λ (h, (x, k, d)). inl ((is.left n).0 h, (x, (is.right x).0 k, d))) (λ (h, (x, k, d)). inr ((is.right n).0 h, (x, (is.left x).0 k, d))),
+    ⊎_elim (λ (m, (x, k, d)). inl ((is.left n).1 m, (x, (is.right x).1 k, d))) (λ (m, (x, k, d)). inr ((is.right n).1 m, (x, (is.left x).1 k, d))),
   )
 
-  closed_step : (choice : Process × Process) (row : FoldRow) (old new : Sides) → IsFoldRow choice row → TakesFold row done old new → (n : ℕ) →
-      IsTrue (has_leaf new.closed n) ↔ (IsTrue (has_leaf old.closed n) ⊎ IsClosedBy choice (λ m. IsTrue (has_leaf done m)) n)
-  closed_step choice row old new is takes n =
-      let begun = takes.begun in
-      let (left, right) = begun_sides choice row begun is takes.begun_are in
-      let (to, from) = either_test (has_leaf old.closed n || (begun.left && has_leaf row.right n)) (begun.right && has_leaf row.left n)
-      (either_test (has_leaf old.closed n) (begun.left && has_leaf row.right n) (λ e. e, λ e. e) (both_tests begun.left (has_leaf row.right n) left (is.right n)))
-      (both_tests begun.right (has_leaf row.left n) right (is.left n)) in (
-        λ e. ⊎_elim (⊎_elim inl (λ (d, m). inr (inr (m, d)))) (λ (d, m). inr (inl (m, d))) (to (sym (takes.closes n) ∙ e)),
-        λ h. takes.closes n ∙ from (⊎_elim (λ k. inl (inl k)) (⊎_elim (λ (m, d). inr (d, m)) (λ (m, d). inl (inr (d, m)))) h),
-      )
-
-  pub closed_pass : (rows : List FoldRow) (choices : List (Process × Process)) (old new : Sides) → TellRows ns choices rows → Passes done rows old new → (n : ℕ) → n ∈ ns →
-      IsTrue (has_leaf new.closed n) ↔ (IsTrue (has_leaf old.closed n) ⊎ IsClosedIn choices (λ m. IsTrue (has_leaf done m)) n)
-  closed_pass [] choices old new e same n m =
-      subst (λ (l : List (Process × Process)). IsTrue (has_leaf new.closed n) ↔ (IsTrue (has_leaf old.closed n) ⊎ IsClosedIn l (λ m. IsTrue (has_leaf done m)) n)) (sym e)
-      (subst (λ (s : Sides). IsTrue (has_leaf s.closed n) ↔ (IsTrue (has_leaf old.closed n) ⊎ ⊥)) same (inl, ⊎_elim (λ h. h) absurd))
-  closed_pass (row ∷ rows) choices old new tells (between, takes, rest) n m = ⊎_elim
+  pub closed_by_rows : (rows : List FoldRow) (choices : List (Process × Process)) → TellRows ns choices rows → (n : ℕ) → n ∈ ns →
+      CloseOff done rows n ↔ IsClosedIn choices (λ m. IsTrue (has_leaf done m)) n
+  closed_by_rows [] choices e n m =
+      subst (λ (l : List (Process × Process)). ⊥ ↔ IsClosedIn l (λ m. IsTrue (has_leaf done m)) n) (sym e) (λ h. h, λ h. h)
+  closed_by_rows (row ∷ rows) choices tells n m = ⊎_elim
       (λ (choice, more, e, is, t).
-      let (to, from) = closed_pass rows more between new t rest n m in
-      let (over, back) = closed_step choice row old between is takes n in
-      subst (λ (l : List (Process × Process)). IsTrue (has_leaf new.closed n) ↔ (IsTrue (has_leaf old.closed n) ⊎ IsClosedIn l (λ m. IsTrue (has_leaf done m)) n)) (sym e) (
-        λ h. ⊎_elim (λ k. ⊎_elim inl (λ j. inr (inl j)) (over k)) (λ k. inr (inr k)) (to h),
-        λ h. from (⊎_elim (λ k. inl (back (inl k))) (⊎_elim (λ k. inl (back (inr k))) inr) h),
+      let (to, from) = closes_by choice row is n in
+      let (over, back) = closed_by_rows rows more t n m in
+      subst (λ (l : List (Process × Process)). CloseOff done (row ∷ rows) n ↔ IsClosedIn l (λ m. IsTrue (has_leaf done m)) n) (sym e) (
+        ⊎_elim (λ k. inl (to k)) (λ k. inr (over k)),
+        ⊎_elim (λ k. inl (from k)) (λ k. inr (back k)),
       ))
       (λ (none, t).
-      let (to, from) = closed_pass rows choices between new t rest n m in
-      let same = kept_closed row old between takes n (none n m) in (
-        λ h. ⊎_elim (λ k. inl (sym same ∙ k)) inr (to h),
-        λ h. from (⊎_elim (λ k. inl (same ∙ k)) inr h),
+      let (over, back) = closed_by_rows rows choices t n m in (
+        ⊎_elim (⊎_elim (λ (h, met). absurd (none n m (inl h))) (λ (h, met). absurd (none n m (inr h)))) over,
+        λ h. inr (back h),
       )) tells
-    where
-      kept_closed : (row : FoldRow) (old new : Sides) → TakesFold row done old new → (n : ℕ) → ¬ (HasLeaf row n) → has_leaf new.closed n ≡ has_leaf old.closed n
-      kept_closed row old new takes n none =
-          takes.closes n ∙ left_alone (has_leaf old.closed n) takes.begun.left (has_leaf row.right n) takes.begun.right (has_leaf row.left n)
-          (false_from_ne_true (has_leaf row.right n) (λ e. none (inr e))) (false_from_ne_true (has_leaf row.left n) (λ e. none (inl e)))
+
+-- whether a row closes the leaf off, or it was closed off before
+closes_off : (row : FoldRow) (done : LeafSet LEAF_WORDS) (begun : Met) → IsMet row done begun → (n : ℕ) (old new : Bool) →
+    new ≡ ((old || (begun.left && has_leaf row.right n)) || (begun.right && has_leaf row.left n)) → IsTrue new ↔ (IsTrue old ⊎ ClosesOff done row n)
+closes_off row done begun met n old new is =
+    let (to, from) = either_test (old || (begun.left && has_leaf row.right n)) (begun.right && has_leaf row.left n)
+    (either_test old (begun.left && has_leaf row.right n) (λ e. e, λ e. e) (both_tests begun.left (has_leaf row.right n) met.left (λ e. e, λ e. e)))
+    (both_tests begun.right (has_leaf row.left n) met.right (λ e. e, λ e. e)) in (
+      λ e. ⊎_elim (⊎_elim inl (λ (d, h). inr (inr (h, d)))) (λ (d, h). inr (inl (h, d))) (to (sym is ∙ e)),
+      λ k. is ∙ from (⊎_elim (λ o. inl (inl o)) (⊎_elim (λ (h, d). inr (d, h)) (λ (h, d). inl (inr (d, h)))) k),
+    )
+
+pub closed_pass : (done : LeafSet LEAF_WORDS) (rows : List FoldRow) (old new : Sides) → Passes done rows old new → (n : ℕ) →
+    IsTrue (has_leaf new.closed n) ↔ (IsTrue (has_leaf old.closed n) ⊎ CloseOff done rows n)
+closed_pass done [] old new same n =
+    subst (λ (s : Sides). IsTrue (has_leaf s.closed n) ↔ (IsTrue (has_leaf old.closed n) ⊎ ⊥)) same (inl, ⊎_elim (λ h. h) absurd)
+closed_pass done (row ∷ rows) old new (between, takes, rest) n =
+    let (to, from) = closed_pass done rows between new rest n in
+    let (over, back) = closes_off row done takes.begun takes.begun_are n (has_leaf old.closed n) (has_leaf between.closed n) (takes.closes n) in (
+      λ h. ⊎_elim (λ k. ⊎_elim inl (λ j. inr (inl j)) (over k)) (λ k. inr (inr k)) (to h),
+      λ h. from (⊎_elim (λ k. inl (back (inl k))) (⊎_elim (λ k. inl (back (inr k))) inr) h),
+    )
+
+-- with the rest of the rows, the set has what all of them close off
+abbrev pub ClosesWithRest : LeafSet LEAF_WORDS → List FoldRow → ℕ → LeafSet LEAF_WORDS → Type 0
+ClosesWithRest done rows i set = (n : ℕ) → (IsTrue (has_leaf set n) ⊎ CloseOff done (drop i rows) n) ↔ CloseOff done rows n
+
+pub closes_more : (done : LeafSet LEAF_WORDS) (rows : List FoldRow) (i : ℕ) (row : FoldRow) (begun : Met) (now new : LeafSet LEAF_WORDS) → i < length rows → row ≡ get_or rows i row →
+    IsMet row done begun → ((n : ℕ) → has_leaf new n ≡ ((has_leaf now n || (begun.left && has_leaf row.right n)) || (begun.right && has_leaf row.left n))) →
+    ClosesWithRest done rows i now → ClosesWithRest done rows (i + 1) new
+closes_more done rows i row begun now new within at met is before n =
+    let (to, from) = closes_off row done begun met n (has_leaf now n) (has_leaf new n) (is n) in
+    let more : drop i rows ≡ row ∷ drop (i + 1) rows = drop_more rows i row within ∙ ap (λ (r : FoldRow). r ∷ drop (i + 1) rows) (sym at) in
+    let (over, back) = subst (λ (l : List FoldRow). (IsTrue (has_leaf now n) ⊎ CloseOff done l n) ↔ CloseOff done rows n) more (before n) in (
+      λ h. over (⊎_elim (λ e. ⊎_elim inl (λ k. inr (inl k)) (to e)) (λ k. inr (inr k)) h),
+      λ h. ⊎_elim (λ e. inl (from (inl e))) (⊎_elim (λ k. inl (from (inr k))) inr) (back h),
+    )
+
+pub closes_all : (done : LeafSet LEAF_WORDS) (rows : List FoldRow) (i : ℕ) (set : LeafSet LEAF_WORDS) → length rows ≤ i → ClosesWithRest done rows i set → (n : ℕ) →
+    IsTrue (has_leaf set n) ↔ CloseOff done rows n
+closes_all done rows i set past before n =
+    let (to, from) = subst (λ (l : List FoldRow). (IsTrue (has_leaf set n) ⊎ CloseOff done l n) ↔ CloseOff done rows n) (drop_all i rows past) (before n) in
+    (λ h. to (inl h), λ k. ⊎_elim (λ h. h) absurd (from k))

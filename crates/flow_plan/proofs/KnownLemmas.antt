@@ -1,15 +1,17 @@
 -- Parts that need not be read.
 use Rattle.std.proofs.Common.{◌≡◌, ℕ, zero, suc, arith, ◌+◌, ◌<◌, ◌≤◌, IsTrue, List, [], ◌∷◌, length, drop, map, get_or, Option, None, Some, ⊎_elim, ◌⊎◌, refl, sym, ap, subst, ◌∙◌}
-use Rattle.std.specs.Option.{IfNone}
 use Rattle.std.proofs.lemmas.List.{drop_more}
+use Rattle.std.specs.Option.{IfNone}
 use Rattle.leaf_rows.specs.Leaves.{has_leaf}
 use Rattle.flow_model.specs.Lists.{Each}
+use Rattle.flow_model.proofs.Lists.{each_member}
 use Rattle.flow_plan.specs.declared.cut_sides.CutSides.{CutSides}
 use Rattle.flow_plan.specs.declared.known.Known.{Known}
 use Rattle.flow_plan.specs.declared.part_row.PartRow.{PartRow}
 use Rattle.flow_plan.specs.declared.span.Span.{Span}
-use Rattle.flow_plan.specs.Known.{AreLaidOut, AreSpansOf, IsAround, IsKnown, IsWithin}
+use Rattle.flow_plan.specs.Known.{AreAside, AreSpansOf, IsAround, IsAside, IsKnown, IsWithin}
 use Rattle.flow_plan.specs.Parts.{IsPlaced, PartAllows}
+use Rattle.flow_plan.specs.Span.{at_span}
 use Rattle.flow_plan.proofs.PassedLemmas.{span_within}
 
 pub known_holds : {w : ℕ} → (P : PartRow w → Type 0) (ns : List ℕ) (known : Known) (row : PartRow w) → IsKnown P ns known → IsAround known.around row.span ⊎ IsWithin known.within row.span → IsPlaced ns row → P row
@@ -45,11 +47,36 @@ pub each_part_before : {w : ℕ} → (P : PartRow w → Type 0) (parts : List (P
 each_part_before {w} P parts i row d within is here others =
     subst (λ (l : List (PartRow w)). Each P l) (sym (drop_more parts i d within)) (subst P is here, others)
 
--- where none is found
-pub none_placed : {w : ℕ} → (found : Option ℕ) (ns : List ℕ) (spans : List Span) (parts : List (PartRow w)) (sides : CutSides w) (n : ℕ) → AreLaidOut ns spans parts →
-    IfNone found ((ns : List ℕ) → AreLaidOut ns spans parts → Each (λ row. PartAllows row sides n) parts) → IfNone found (Each (λ row. PartAllows row sides n) parts)
-none_placed None ns spans parts sides n placed all = all ns placed
-none_placed (Some x) ns spans parts sides n placed all = tt
+-- a part that lacks the leaf, and of which all leaves are done or none is
+pub aside_allows : {w : ℕ} → (ns : List ℕ) (sides : CutSides w) (n : ℕ) (row : PartRow w) → IsPlaced ns row → AreAside sides.done n (at_span row.span ns) →
+    ¬ IsTrue (has_leaf row.inside n) × PartAllows row sides n
+aside_allows ns sides n row placed (so, all) =
+    let at : (x : ℕ) → IsTrue (has_leaf row.inside x) → IsAside sides.done so n x = λ x has.
+    each_member (IsAside sides.done so n) (at_span row.span ns) all x ((placed.inside x).0 has) in (
+      λ mine. (at n mine).0 refl,
+      record {
+        passes = λ lacks x y x_in x_done y_in. (at y y_in).1 ∙ sym (at x x_in).1 ∙ x_done;
+        begins = λ mine. absurd ((at n mine).0 refl);
+      },
+    )
+
+-- what is known where a part lacks the leaf, and lets it come next
+pub known_within : {w : ℕ} → (ns : List ℕ) (sides : CutSides w) (n : ℕ) (row : PartRow w) (span : Span) (known : Known) → span ≡ row.span → IsPlaced ns row →
+    ¬ IsTrue (has_leaf row.inside n) × PartAllows row sides n → IsKnown (λ (row : PartRow w). PartAllows row sides n) ns known →
+    IsKnown (λ (row : PartRow w). PartAllows row sides n) ns (record { around = known.around; within = Some span }) × PartAllows row sides n
+known_within ns sides n row span known same placed (lacks, allows) is = (
+  record {
+    around = is.around;
+    within = λ other there lies. allows_within ns sides n row other placed lacks allows there
+        (subst (λ (s : Span). IsWithin (Some s) other.span) same lies);
+  },
+  allows,
+)
+
+-- what holds where none is found, of which the premise holds
+pub none_given : (P Q : Type 0) (found : Option ℕ) → P → IfNone found (P → Q) → IfNone found Q
+none_given P Q None holds all = all holds
+none_given P Q (Some x) holds all = tt
 
 -- of no part anything
 pub nothing_known : {w : ℕ} → (P : PartRow w → Type 0) (ns : List ℕ) → IsKnown P ns (record { around = None; within = None })

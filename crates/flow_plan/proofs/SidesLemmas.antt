@@ -22,10 +22,18 @@ use Rattle.flow_fold_laws.proofs.FoldedAvoid.{avoided_in_one_pass}
 use Rattle.flow_fold_laws.proofs.BegunNext.{may_begin_by_one_pass}
 use Rattle.flow_plan.specs.declared.fold_row.FoldRow.{FoldRow}
 use Rattle.flow_plan.specs.declared.sides.Sides.{Sides}
-use Rattle.flow_plan.specs.FoldRows.{AreFoldRows}
+use Rattle.flow_plan.specs.FoldRows.{AreFoldRows, CloseOff}
 use Rattle.flow_plan.specs.Sided.{AreSidesOf}
-use Rattle.flow_plan.proofs.FoldPass.{Passes, done_stays, settled_pass, closed_pass}
+use Rattle.flow_plan.proofs.FoldPass.{Passes, done_stays, settled_pass, closed_by_rows, closed_pass}
 use Rattle.flow_plan.proofs.SpoiltPass.{is_out, spoilt_pass, barred_pass}
+
+-- what the rows close off is what is closed off in the goal
+pub closed_off_by : (q : Process) (rows : List FoldRow) (done : LeafSet LEAF_WORDS) → AreFoldRows q rows → (n : ℕ) → n ∈ leaves q →
+    CloseOff done rows n ↔ IsClosedOff q (λ m. IsTrue (has_leaf done m)) n
+closed_off_by q rows done are n m =
+    let (to, from) = closed_by_rows (leaves q) done rows (choices_of q) are n m in
+    let (over, back) = closed_by_choices q (λ x. IsTrue (has_leaf done x)) n in
+    (λ h. back (to h), λ h. from (over h))
 
 module _ (rows : List FoldRow) (done banned none : LeafSet LEAF_WORDS) (empty : (n : ℕ) → has_leaf none n ≡ false) (last : Sides)
     (passed : Passes done rows (record { done = done; settled = done; closed = none; barred = banned; spoilt = banned }) last)
@@ -40,10 +48,10 @@ module _ (rows : List FoldRow) (done banned none : LeafSet LEAF_WORDS) (empty : 
 
   closed_are : (n : ℕ) → n ∈ leaves q → IsTrue (has_leaf last.closed n) ↔ IsClosedOff q (λ m. IsTrue (has_leaf done m)) n
   closed_are n m =
-      let (to, from) = closed_pass (leaves q) done rows (choices_of q) _ last are passed n m in
-      let (over, back) = closed_by_choices q (λ x. IsTrue (has_leaf done x)) n in (
-        λ h. ⊎_elim (λ k. absurd (false≢true (sym (empty n) ∙ k))) back (to h),
-        λ h. from (inr (over h)),
+      let (to, from) = closed_pass done rows _ last passed n in
+      let (over, back) = closed_off_by q rows done are n m in (
+        λ h. ⊎_elim (λ k. absurd (false≢true (sym (empty n) ∙ k))) over (to h),
+        λ h. from (inr (back h)),
       )
 
   spoilt_are : ((n : ℕ) × (n ∈ leaves q) × IsTrue (has_leaf last.spoilt n)) ↔ ¬ (CanAvoid q (λ m. IsTrue (has_leaf done m)) (λ m. IsTrue (has_leaf banned m)))

@@ -1,7 +1,8 @@
 -- Rows of bits for the choices that stay in plans.
-use Rattle.std.specs.Prelude.{◌<◌, ◌≤◌, ◌⊎◌, ◌&&◌, ◌||◌, not, if◌then◌else◌, ℕ, Bool, IsTrue, List}
+use Rattle.std.specs.Prelude.{◌<◌, ◌≤◌, ◌⊎◌, ◌&&◌, ◌||◌, not, if◌then◌else◌, ℕ, Bool, IsTrue, List, [], ◌∷◌}
 use Rattle.leaf_rows.specs.Leaves.{has_leaf}
 use Rattle.leaf_rows.specs.declared.leaf_set.LeafSet.{LeafSet}
+use Rattle.leaf_rows.specs.declared.TheConstants.{LEAF_WORDS}
 use Rattle.flow_model.specs.declared.limits.TheConstants.{MOST_LEAVES}
 use Rattle.flow_model.specs.Lists.{◌∈◌}
 use Rattle.flow_model.specs.Process.{Process, leaves}
@@ -23,6 +24,15 @@ IsWithin one other = (n : ℕ) → IsTrue (has_leaf one n) → IsTrue (has_leaf 
 -- one of the two sides has the leaf
 abbrev pub HasLeaf : FoldRow → ℕ → Type 0
 HasLeaf row n = IsTrue (has_leaf row.left n) ⊎ IsTrue (has_leaf row.right n)
+
+-- one side has the leaf, and the other some leaf of the set
+abbrev pub ClosesOff : LeafSet LEAF_WORDS → FoldRow → ℕ → Type 0
+ClosesOff done row n = (IsTrue (has_leaf row.left n) × Meets row.right done) ⊎ (IsTrue (has_leaf row.right n) × Meets row.left done)
+
+-- some of the rows closes it off
+abbrev pub CloseOff : LeafSet LEAF_WORDS → List FoldRow → ℕ → Type 0
+CloseOff done [] n = ⊥
+CloseOff done (row ∷ rows) n = ClosesOff done row n ⊎ CloseOff done rows n
 
 -- whether the leaf spoils once the choice was looked at, by whether it did before
 abbrev pub spoils_after : FoldRow → Met → Met → Bool → ℕ → Bool

@@ -33,7 +33,7 @@ pub use course::Course;
 pub use fold_row::FoldRow;
 pub use knot_free::KnotFree;
 pub use plan::Plan;
-pub use sides::Sides;
+pub use sides::{Sides, closed_off};
 pub use table::{MIDDLE_WORDS, NARROW_WORDS};
 pub use token::OrderToken;
 pub use words::Words;

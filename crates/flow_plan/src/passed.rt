@@ -79,19 +79,18 @@ impl Passed {
         }
     }
 
-    /// Up to the end of the part.
+    /// Up to that place.
     pub(crate) fn up_to<const W: usize>(
         self,
-        part: &PartRow<W>,
+        end: usize,
         leaves: &[u32],
         sides: &CutSides<W>,
         asked: &LeafSet<W>,
     ) -> Passed
         requires { All (λ n. n < 64 * W) leaves.now }
-        ensures { IsPlaced leaves.now part.now → ArePassed leaves.now sides.now asked.now self →
-            ArePassed leaves.now sides.now asked.now result × (result.place ≡ part.now.span.end) }
+        ensures { end ≤ length leaves.now → ArePassed leaves.now sides.now asked.now self →
+            ArePassed leaves.now sides.now asked.now result × (result.place ≡ end) }
     {
-        let Span { end, .. } = part.span;
         let mut passed = self.not_past(end);
         for place in passed.place..end.min(leaves.len()) {
             passed = passed.with(leaves[place], sides, asked);
@@ -101,32 +100,38 @@ impl Passed {
 }
 
 impl<const W: usize> Kept<W> {
-    /// Whether it is known that the part has all of them.
-    fn lie_in(&self, part: &PartRow<W>) -> bool
-        ensures { IsTrue result → (ns : List ℕ) → IsPlaced ns part.now → IsHeld ns self.now → (n : ℕ) →
-            IsTrue (has_leaf self.now.leaves n) → IsTrue (has_leaf part.now.inside n) }
+    /// Whether it is known that the part there has all of them.
+    fn lie_in(&self, span: Span) -> bool
+        ensures { IsTrue result → (ns : List ℕ) (row : PartRow W) → span ≡ row.span → IsPlaced ns row → IsHeld ns self.now → (n : ℕ) →
+            IsTrue (has_leaf self.now.leaves n) → IsTrue (has_leaf row.inside n) }
     {
         match self.within {
-            Some(held) => held.lies_in(part.span),
+            Some(held) => held.lies_in(span),
             None => false,
         }
     }
 
-    /// Of the leaves those that the part lets come next. Its row is read where it may keep one out: not where it is finished, is not
+    /// Of the leaves those that the part there lets come next. Its row is read where it may keep one out: not where it is finished, is not
     /// begun and has none of them, or has all of them.
-    pub(crate) fn pass(&mut self, part: &PartRow<W>, passed: &Passed, sides: &CutSides<W>)
-        ensures { (ns : List ℕ) (asked : LeafSet W) → IsPlaced ns part.now → ArePassed ns sides.now asked passed.now → passed.now.place ≡ part.now.span.end →
+    pub(crate) fn pass(
+        &mut self,
+        span: Span,
+        part: &PartRow<W>,
+        passed: &Passed,
+        sides: &CutSides<W>,
+    )
+        ensures { (ns : List ℕ) (asked : LeafSet W) → span ≡ part.now.span → IsPlaced ns part.now → ArePassed ns sides.now asked passed.now → passed.now.place ≡ part.now.span.end →
             ((n : ℕ) → IsTrue (has_leaf self.old.leaves n) → IsTrue (has_leaf asked n)) → IsHeld ns self.old →
             IsHeld ns self.new × ((n : ℕ) → IsTrue (has_leaf self.new.leaves n) ↔ (IsTrue (has_leaf self.old.leaves n) × PartAllows part.now sides.now n)) }
     {
-        let Span { first, .. } = part.span;
+        let Span { first, .. } = span;
         if passed.done <= first {
             if first < passed.asked {
                 self.leaves = part.keep_allowed(sides, self.leaves);
             }
-        } else if first < passed.lacking && !self.lie_in(part) {
+        } else if first < passed.lacking && !self.lie_in(span) {
             self.leaves = part.keep_allowed(sides, self.leaves);
-            self.within = Some(part.span);
+            self.within = Some(span);
         }
     }
 }

@@ -1,7 +1,8 @@
 ghost use Rattle.std.specs.Prelude.{◌≡◌, ◌↔◌, ◌||◌, false, ℕ, IsTrue};
 ghost use Rattle.leaf_rows.specs.Leaves.{has_leaf};
-ghost use Rattle.flow_model.specs.Lists.{AreDistinct};
+ghost use Rattle.flow_model.specs.Lists.{◌∈◌, AreDistinct};
 ghost use Rattle.flow_model.specs.Process;
+ghost use Rattle.flow_model.specs.FoldedReady.{IsClosedOff};
 ghost use Rattle.flow_model.specs.Folding.{IsFolded};
 ghost use Rattle.flow_plan.specs.FoldRows.{AreFoldRows};
 ghost use Rattle.flow_plan.specs.Sided.{AreSidesOf, TakesFold};
@@ -21,6 +22,18 @@ pub struct Sides {
     pub barred: LeafSet<LEAF_WORDS>,
     /// A goal that has one of these cannot go on without the banned leaves.
     pub spoilt: LeafSet<LEAF_WORDS>,
+}
+
+/// The leaves that the done ones close off, which is `closed` of the sides that have these as done: it asks less of each choice.
+pub fn closed_off(folds: &[FoldRow], done: &LeafSet<LEAF_WORDS>) -> LeafSet<LEAF_WORDS>
+    ensures { (q : Process.Process) → AreFoldRows q folds.now → (n : ℕ) → n ∈ Process.leaves q →
+        IsTrue (has_leaf result n) ↔ IsClosedOff q (λ m. IsTrue (has_leaf done.now m)) n }
+{
+    let mut closed = LeafSet::new();
+    for fold in folds {
+        fold.close(fold.met(done), &mut closed);
+    }
+    closed
 }
 
 impl Sides {

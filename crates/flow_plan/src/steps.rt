@@ -10,7 +10,7 @@ ghost use Rattle.flow_plan.specs.FoldRows.{AreFoldRows};
 ghost use Rattle.flow_plan.specs.Orders.{AreApart, IsSettledWith, MayComeNext, MayFollowInEveryOrder, TellOf};
 ghost use Rattle.flow_plan.specs.Known.{AreLaidOut};
 ghost use Rattle.flow_plan.specs.Planned.{Planned};
-ghost use Rattle.flow_plan.specs.Parts.{IsPlaced, IsWaitedFor, PartAllows, Keeps};
+ghost use Rattle.flow_plan.specs.Parts.{IsWaitedFor, PartAllows, Keeps};
 ghost use Rattle.flow_plan.specs.Sided.{IsDoneIn, StandsWith};
 ghost use Rattle.flow_plan.specs.Rows.{AreRowsOf, IsRowOf};
 
@@ -21,6 +21,7 @@ use crate::passed::{Kept, Passed};
 use crate::plan::Plan;
 use crate::sets::{first_outside, with};
 use crate::sides::Sides;
+use crate::span::Span;
 use crate::table::{Rows, Table, by_width, frees};
 use flow_model::MOST_LEAVES;
 use leaf_rows::{LEAF_WORDS, LeafSet};
@@ -46,15 +47,17 @@ fn free_row<const W: usize>(
     row
 }
 
-/// Of the leaves those that each part lets come next, where these are all the leaves of the plan.
+/// Of the leaves those that each part lets come next, where these are all the leaves of the plan. Most parts are passed over by their
+/// spans alone.
 fn keep_allowed<const W: usize>(
     all: &[u32],
+    spans: &[Span],
     parts: &[PartRow<W>],
     sides: &CutSides<W>,
     leaves: LeafSet<W>,
 ) -> LeafSet<W>
     requires { All (λ n. n < 64 * W) all.now }
-    ensures { Each (IsPlaced all.now) parts.now → (n : ℕ) → IsTrue (has_leaf result n) ↔ (IsTrue (has_leaf leaves.entry n)
+    ensures { AreLaidOut all.now spans.now parts.now → (n : ℕ) → IsTrue (has_leaf result n) ↔ (IsTrue (has_leaf leaves.entry n)
         × Each (λ row. PartAllows row sides.now n) parts.now) }
 {
     let mut kept = Kept {
@@ -62,9 +65,10 @@ fn keep_allowed<const W: usize>(
         within: None,
     };
     let mut passed = Passed::new();
-    for part in parts {
-        passed = passed.up_to(part, all, sides, &leaves);
-        kept.pass(part, &passed, sides);
+    for place in 0..parts.len().min(spans.len()) {
+        let span = spans[place];
+        passed = passed.up_to(span.end, all, sides, &leaves);
+        kept.pass(span, &parts[place], &passed, sides);
     }
     kept.leaves
 }
@@ -164,7 +168,7 @@ impl<const W: usize> Table<W> {
             TellIn p (λ x. IsTrue (done x)) sides.now → IsRowOf (MayComeNext p (λ x. IsTrue (done x))) result }
     {
         let free = free_row(leaves, &self.before, sides);
-        keep_allowed(leaves, &self.parts, sides, free)
+        keep_allowed(leaves, &self.spans, &self.parts, sides, free)
     }
 
     /// A leaf for which that one waits, where it may not come next yet: no other settles it than one after which that one may.
@@ -195,7 +199,7 @@ impl<const W: usize> Table<W> {
         ensures some { IfSome result (λ first. (row : PartRow W) × row ∈ self.now.parts.items × ¬ (PartAllows row sides.now leaf)
             × IsWaitedFor row sides.now leaf first) }
         ensures small { IfSome result (λ first. first < 64 * W) }
-        ensures none { IfNone result ((ns : List ℕ) → AreLaidOut ns self.now.spans.items self.now.parts.items → Each (λ row. PartAllows row sides.now leaf) self.now.parts.items) }
+        ensures none { IfNone result (AreLaidOut leaves.now self.now.spans.items self.now.parts.items → Each (λ row. PartAllows row sides.now leaf) self.now.parts.items) }
     {
         match self.refusing(leaves, sides, leaf) {
             Some(part) => part.missing(sides, leaf),

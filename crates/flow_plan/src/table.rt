@@ -218,8 +218,8 @@ impl<const W: usize> Table<W> {
     /// Whether each part lets the leaf come next.
     fn parts_allow(&self, leaves: &[u32], sides: &CutSides<W>, leaf: u32) -> bool
         requires small { leaf < 64 * W }
-        requires rising { IsStrictlyIncreasing leaves.now }
-        ensures yes { IsTrue result → (ns : List ℕ) → AreLaidOut ns self.now.spans.items self.now.parts.items → Each (λ row. PartAllows row sides.now leaf) self.now.parts.items }
+        requires filled { Fills leaves.now self.now.before.items }
+        ensures yes { IsTrue result → AreLaidOut leaves.now self.now.spans.items self.now.parts.items → Each (λ row. PartAllows row sides.now leaf) self.now.parts.items }
         ensures no { Each (λ row. PartAllows row sides.now leaf) self.now.parts.items → IsTrue result }
     {
         match self.refusing(leaves, sides, leaf) {
@@ -265,16 +265,16 @@ impl<const W: usize> Table<W> {
         leaf: u32,
     ) -> Option<&PartRow<W>>
         requires small { leaf < 64 * W }
-        requires rising { IsStrictlyIncreasing leaves.now }
+        requires filled { Fills leaves.now self.now.before.items }
         ensures some { IfSome result (λ part. part.now ∈ self.now.parts.items × ¬ (PartAllows part.now sides.now leaf)) }
-        ensures none { IfNone result ((ns : List ℕ) → AreLaidOut ns self.now.spans.items self.now.parts.items → Each (λ row. PartAllows row sides.now leaf) self.now.parts.items) }
+        ensures none { IfNone result (AreLaidOut leaves.now self.now.spans.items self.now.parts.items → Each (λ row. PartAllows row sides.now leaf) self.now.parts.items) }
     {
         let mut known = self.known_for(leaves, sides, leaf);
         let mut rest = self.parts.len().min(self.spans.len());
         while 0 < rest {
             rest -= 1;
             let part = &self.parts[rest];
-            if !known.allows(self.spans[rest], part, sides, leaf) {
+            if !known.allows(self.spans[rest], part, leaves, sides, leaf) {
                 return Some(part);
             }
         }

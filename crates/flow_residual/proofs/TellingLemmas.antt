@@ -9,6 +9,7 @@ use Rattle.flow_model.specs.Process.{Process, Empty, leaves}
 use Rattle.flow_model.specs.Ready.{DoneOr}
 use Rattle.flow_model.specs.Resolution.{ChoiceOption}
 use Rattle.flow_model.specs.Folding.{IsFolded}
+use Rattle.flow_model.specs.FoldedReady.{IsClosedOff}
 use Rattle.flow_model.specs.FoldedRun.{CanAvoid}
 use Rattle.flow_model.proofs.Lists.{each_member, each_from_members, mem-append, mem_append_left, only_one}
 use Rattle.flow_fold_laws.proofs.AvoidedTogether.{HasFewer, avoid_less, closed_more}
@@ -71,12 +72,15 @@ module _ (folds : List FoldRow) (done excluded : LeafSet LEAF_WORDS) (sides : Si
         (subst (λ (b : ℕ → Bool). AreSidesOf o.resolution (λ n. IsTrue (has_leaf done n)) (λ n. IsTrue (b n)) sides) outs (of_option o m)));
   }
 
-  pub closed_of_all : (list : List ℕ) → IsSetOf list done → Each (IsApart list sides.closed) os
-  closed_of_all list is = each_from_members (IsApart list sides.closed) os (λ o m n l.
-      let closed = (of_option o m).closed n l in (
-        λ h. closed_more o.resolution (λ x. IsTrue (has_leaf done x)) (λ x. x ∈ list) n (λ x. (is x).0) (closed.0 h),
-        λ c. closed.1 (closed_more o.resolution (λ x. x ∈ list) (λ x. IsTrue (has_leaf done x)) n (λ x. (is x).1) c),
-      ))
+-- what is closed off in each option that the rows of choices serve
+pub closed_of_all : (folds : List FoldRow) (done closed : LeafSet LEAF_WORDS) →
+    ((q : Process) → AreFoldRows q folds → (n : ℕ) → n ∈ leaves q → IsTrue (has_leaf closed n) ↔ IsClosedOff q (λ m. IsTrue (has_leaf done m)) n) →
+    (os : List ChoiceOption) → Each (AreServing folds) os → (list : List ℕ) → IsSetOf list done → Each (IsApart list closed) os
+closed_of_all folds done closed told os serving list is = each_from_members (IsApart list closed) os (λ o m n l.
+    let (to, from) = told o.resolution (each_member (AreServing folds) os serving o m) n l in (
+      λ h. closed_more o.resolution (λ x. IsTrue (has_leaf done x)) (λ x. x ∈ list) n (λ x. (is x).0) (to h),
+      λ c. from (closed_more o.resolution (λ x. x ∈ list) (λ x. IsTrue (has_leaf done x)) n (λ x. (is x).1) c),
+    ))
 
 -- ---- bans of leaves that no option has
 

@@ -10,7 +10,7 @@ ghost use Rattle.flow_residual.specs.View.{pairs_of_bans};
 
 use crate::residual::Ban;
 use flow_model::MOST_LEAVES;
-use flow_plan::{FoldRow, Sides, distinct};
+use flow_plan::{FoldRow, Sides, closed_off, distinct};
 use leaf_rows::{LEAF_WORDS, LeafSet};
 
 /// The leaves as a set.
@@ -100,5 +100,5 @@ pub(crate) fn closed_by(folds: &[FoldRow], set: &LeafSet<LEAF_WORDS>) -> LeafSet
     ensures { (os : List ChoiceOption) (list : List ℕ) → Each IsOrderedOption os → Each (AreServing folds.now) os →
         IsSetOf list set.now → Each (IsApart list result) os }
 {
-    Sides::new(folds, set, &LeafSet::new()).closed
+    closed_off(folds, set)
 }

@@ -1,8 +1,10 @@
-use Rattle.std.proofs.Common.{ℕ, IsTrue}
+use Rattle.std.proofs.Common.{ℕ, IsTrue, List, subst, sym, ◌∙◌}
 use Rattle.leaf_rows.specs.Leaves.{has_leaf}
 use Rattle.flow_plan.proofs.Readiness.{Before}
-use Rattle.flow_model.specs.Process.{leaves}
-use Rattle.flow_plan.proofs.KnownLemmas.{none_placed}
+use Rattle.flow_model.specs.Lists.{Each}
+use Rattle.flow_plan.specs.Known.{AreLaidOut}
+use Rattle.flow_plan.specs.Parts.{PartAllows}
+use Rattle.flow_plan.proofs.KnownLemmas.{none_given}
 use Rattle.flow_plan.proofs.StepRows.{not_ruled_out, settled_by_first, settled_by_found}
 use Rattle.flow_plan.proofs.table.Table.first_missing.Goals as goal
 
@@ -17,8 +19,10 @@ returns-in-None-clause-settled g c = λ p table same done tell first refused nex
     let sides = c.args.sides.now in
     let leaf = c.args.leaf in
     let all : (x : ℕ) → Before p x leaf → IsTrue (has_leaf sides.settled x) = λ x direct. c.in-None.ensures.none x ((c.in-Some.ensures.row p table same x).1 direct) in
+    let t = c.args.self.now in
+    let laid = subst (λ (ns : List ℕ). AreLaidOut ns t.spans.items t.parts.items) (sym table.fields.listed ∙ same) (table.fields.parts_are.placed, table.spans_are) in
     settled_by_found table.fields (λ x. IsTrue (done x)) sides tell leaf first refused next after all c.missing.result
-    c.missing.ensures.some (none_placed c.missing.result (leaves p.process) c.args.self.now.spans.items c.args.self.now.parts.items sides leaf (table.fields.parts_are.placed, table.spans_are) c.missing.ensures.none)
+    c.missing.ensures.some (none_given (AreLaidOut c.args.leaves.now t.spans.items t.parts.items) (Each (λ row. PartAllows row sides leaf) t.parts.items) c.missing.result laid c.missing.ensures.none)
 
 pub returns-then-rule_out-clause-settled : goal.returns-then-rule_out-clause-settled
 returns-then-rule_out-clause-settled g c = λ p table same done tell first refused next after.

@@ -5,7 +5,9 @@ use Rattle.leaf_rows.specs.Leaves.{has_leaf}
 use Rattle.leaf_rows.specs.declared.leaf_set.LeafSet.{LeafSet}
 use Rattle.flow_model.specs.Lists.{◌∈◌, Each}
 use Rattle.flow_plan.specs.declared.part_row.PartRow.{PartRow}
+use Rattle.flow_plan.specs.declared.span.Span.{Span}
 use Rattle.flow_plan.specs.CutSides.{IsFree}
+use Rattle.flow_plan.specs.Known.{AreLaidOut, AreSpansOf}
 use Rattle.flow_plan.specs.Parts.{IsPlaced, PartAllows}
 use Rattle.flow_plan.specs.Planned.{pairs_of}
 use Rattle.flow_plan.specs.Rows.{AreRowsOf, IsRowOf}
@@ -20,9 +22,11 @@ returns g c = λ p table same done tell.
     let seen = subst (λ (l : List (LeafSet g.row.W)). AreRowsOf (Before p) c.args.leaves.now l) (sym c.deref.ensures.value) rows in
     next_by_rows table.fields (λ x. IsTrue (done x)) sides tell c.free_row-free.result c.keep_allowed.result
     (subst (λ (ns : List ℕ). IsRowOf (λ n. (n ∈ ns) × IsFree (Before p) sides n) c.free_row-free.result) (sym same) (c.free_row-free.ensures p.process (pairs_of p.tokens) seen))
-    (subst (λ (parts : List (PartRow g.row.W)). Each (IsPlaced c.args.leaves.now) parts → (n : ℕ) → IsTrue (has_leaf c.keep_allowed.result n) ↔ (IsTrue (has_leaf c.free_row-free.result n) × Each (λ row. PartAllows row sides n) parts))
-    c.deref-2.ensures.value c.keep_allowed.ensures
-    (subst (λ (ns : List ℕ). Each (IsPlaced ns) c.args.self.now.parts.items) (sym table.fields.listed ∙ same) table.fields.parts_are.placed))
+    (subst (λ (parts : List (PartRow g.row.W)). AreLaidOut c.args.leaves.now c.deref-2.result.now parts → (n : ℕ) → IsTrue (has_leaf c.keep_allowed.result n) ↔ (IsTrue (has_leaf c.free_row-free.result n) × Each (λ row. PartAllows row sides n) parts))
+    c.deref-3.ensures.value c.keep_allowed.ensures (
+      subst (λ (ns : List ℕ). Each (IsPlaced ns) c.args.self.now.parts.items) (sym table.fields.listed ∙ same) table.fields.parts_are.placed,
+      subst (λ (spans : List Span). AreSpansOf spans c.args.self.now.parts.items) (sym c.deref-2.ensures.value) table.spans_are,
+    ))
 
 pub free_row-free-requires : goal.free_row-free-requires
 free_row-free-requires g c =
