@@ -80,21 +80,38 @@ rows_set P Q (m ∷ ns) (row ∷ rows) (suc k) n new at distinct are is to from 
       rows_set P Q ns rows k n new at distinct.1 are.1 is to from,
     )
 
+-- a row that was pushed stands last, and is changed there
+set_last : {w : ℕ} → (rows : List (LeafSet w)) (row new : LeafSet w) → set (rows ++ row ∷ []) (length rows) new ≡ rows ++ new ∷ []
+set_last [] row new = refl
+set_last (first ∷ rows) row new = ap (λ l. first ∷ l) (set_last rows row new)
+
+last_or : {w : ℕ} → (rows : List (LeafSet w)) (row d : LeafSet w) → get_or (rows ++ row ∷ []) (length rows) d ≡ row
+last_or [] row d = refl
+last_or (first ∷ rows) row d = last_or rows row d
+
+pub last_changed : {w : ℕ} → (rows pushed : List (LeafSet w)) (row new : LeafSet w) (k : ℕ) → pushed ≡ rows ++ row ∷ [] → k ≡ length rows → set pushed k new ≡ rows ++ new ∷ []
+last_changed {w} rows pushed row new k e f =
+    ap (λ (l : List (LeafSet w)). set l k new) e ∙ ap (λ (j : ℕ). set (rows ++ row ∷ []) j new) f ∙ set_last rows row new
+
+pub last_stands : {w : ℕ} → (rows pushed : List (LeafSet w)) (row lent : LeafSet w) (k : ℕ) → pushed ≡ rows ++ row ∷ [] → k ≡ length rows → lent ≡ get_or pushed k lent → lent ≡ row
+last_stands {w} rows pushed row lent k e f is =
+    is ∙ ap (λ (l : List (LeafSet w)). get_or l k lent) e ∙ ap (λ (j : ℕ). get_or (rows ++ row ∷ []) j lent) f ∙ last_or rows row lent
+
 -- ---- the rows of a goal
 
 -- in a sequence the leaves of the first part are ahead of the second
-pub has_sequence : {w : ℕ} → (a b : Process) (ahead more : LeafSet w) (one two : List (LeafSet w)) → AreDistinct (leaves a ++ leaves b) →
-    IsRowOf (λ x. IsTrue (has_leaf ahead x) ⊎ (x ∈ leaves a)) more → HasRows a ahead one → HasRows b more two → HasRows (Sequence a b) ahead (one ++ two)
+pub has_sequence : {w : ℕ} → (a b : Process) (ahead more : ℕ → Bool) (one two : List (LeafSet w)) → AreDistinct (leaves a ++ leaves b) →
+    ((x : ℕ) → IsTrue (more x) ↔ (IsTrue (ahead x) ⊎ (x ∈ leaves a))) → HasRows a ahead one → HasRows b more two → HasRows (Sequence a b) ahead (one ++ two)
 has_sequence a b ahead more one two distinct more_is has_a has_b =
-    let P : ℕ → ℕ → Type 0 = λ x n. IsTrue (has_leaf ahead x) ⊎ InSequence (Sequence a b) x n in
+    let P : ℕ → ℕ → Type 0 = λ x n. IsTrue (ahead x) ⊎ InSequence (Sequence a b) x n in
     rows_append P (leaves a) (leaves b) one two
-    (rows_same (λ x n. IsTrue (has_leaf ahead x) ⊎ InSequence a x n) P (leaves a) one
+    (rows_same (λ x n. IsTrue (ahead x) ⊎ InSequence a x n) P (leaves a) one
     (λ n member x either. ⊎_elim (λ h. inl h) (λ h. inr (inl (inr h))) either)
     (λ n member x either. ⊎_elim (λ h. inl h)
     (λ before. ⊎_elim (λ in_a. ⊎_elim (λ (cross : (x ∈ leaves a) × (n ∈ leaves b)). absurd (distinct_apart (leaves a) (leaves b) distinct n member cross.1)) (λ h. inr h) in_a)
     (λ in_b. absurd (distinct_apart (leaves a) (leaves b) distinct n member (sequence_second b x n in_b))) before) either)
     has_a)
-    (rows_same (λ x n. IsTrue (has_leaf more x) ⊎ InSequence b x n) P (leaves b) two
+    (rows_same (λ x n. IsTrue (more x) ⊎ InSequence b x n) P (leaves b) two
     (λ n member x either. ⊎_elim
     (λ h. ⊎_elim (λ ahead_has. inl ahead_has) (λ in_a. inr (inl (inl (in_a, member)))) ((more_is x).0 h))
     (λ h. inr (inr h)) either)
@@ -105,26 +122,26 @@ has_sequence a b ahead more one two distinct more_is has_a has_b =
     has_b)
 
 -- beside one another no part says anything of the other
-pub has_parallel : {w : ℕ} → (a b : Process) (ahead : LeafSet w) (one two : List (LeafSet w)) → AreDistinct (leaves a ++ leaves b) →
+pub has_parallel : {w : ℕ} → (a b : Process) (ahead : ℕ → Bool) (one two : List (LeafSet w)) → AreDistinct (leaves a ++ leaves b) →
     HasRows a ahead one → HasRows b ahead two → HasRows (Parallel a b) ahead (one ++ two)
 has_parallel a b ahead one two distinct has_a has_b =
-    let P : ℕ → ℕ → Type 0 = λ x n. IsTrue (has_leaf ahead x) ⊎ InSequence (Parallel a b) x n in
+    let P : ℕ → ℕ → Type 0 = λ x n. IsTrue (ahead x) ⊎ InSequence (Parallel a b) x n in
     rows_append P (leaves a) (leaves b) one two
-    (rows_same (λ x n. IsTrue (has_leaf ahead x) ⊎ InSequence a x n) P (leaves a) one
+    (rows_same (λ x n. IsTrue (ahead x) ⊎ InSequence a x n) P (leaves a) one
     (λ n member x either. ⊎_elim (λ h. inl h) (λ h. inr (inl h)) either)
     (λ n member x either. ⊎_elim (λ h. inl h)
     (λ before. ⊎_elim (λ h. inr h) (λ h. absurd (distinct_apart (leaves a) (leaves b) distinct n member (sequence_second b x n h))) before) either)
     has_a)
-    (rows_same (λ x n. IsTrue (has_leaf ahead x) ⊎ InSequence b x n) P (leaves b) two
+    (rows_same (λ x n. IsTrue (ahead x) ⊎ InSequence b x n) P (leaves b) two
     (λ n member x either. ⊎_elim (λ h. inl h) (λ h. inr (inr h)) either)
     (λ n member x either. ⊎_elim (λ h. inl h)
     (λ before. ⊎_elim (λ h. absurd (distinct_apart (leaves a) (leaves b) distinct n (sequence_second a x n h) member)) (λ h. inr h) before) either)
     has_b)
 
 -- the rows of the whole goal, of which nothing is ahead
-pub first_rows : {w : ℕ} → (g : Process) (ahead : LeafSet w) (rows : List (LeafSet w)) → ((x : ℕ) → has_leaf ahead x ≡ false) → HasRows g ahead rows →
+pub first_rows : {w : ℕ} → (g : Process) (ahead : ℕ → Bool) (rows : List (LeafSet w)) → ((x : ℕ) → ahead x ≡ false) → HasRows g ahead rows →
     AreRowsOf (InSequence g) (leaves g) rows
-first_rows g ahead rows empty has = rows_same (λ x n. IsTrue (has_leaf ahead x) ⊎ InSequence g x n) (InSequence g) (leaves g) rows
+first_rows g ahead rows empty has = rows_same (λ x n. IsTrue (ahead x) ⊎ InSequence g x n) (InSequence g) (leaves g) rows
     (λ n member x either. ⊎_elim (λ h. let no = empty x in absurd (cc)) (λ h. h) either)
     (λ n member x h. inr h) has
 

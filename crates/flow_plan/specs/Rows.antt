@@ -1,5 +1,5 @@
 -- Rows of bits: for each leaf of a plan the leaves directly before it.
-use Rattle.std.specs.Prelude.{ℕ, IsTrue, List, [], ◌∷◌, ◌⊎◌, ◌↔◌}
+use Rattle.std.specs.Prelude.{ℕ, Bool, IsTrue, List, [], ◌∷◌, ◌⊎◌, ◌↔◌}
 use Rattle.leaf_rows.specs.Leaves.{has_leaf}
 use Rattle.leaf_rows.specs.declared.leaf_set.LeafSet.{LeafSet}
 use Rattle.flow_model.specs.Process.{Process, leaves}
@@ -17,5 +17,5 @@ AreRowsOf P (n ∷ ns) [] = ⊥
 AreRowsOf P (n ∷ ns) (row ∷ rows) = IsRowOf (λ x. P x n) row × AreRowsOf P ns rows
 
 -- rows of the leaves of the goal, with what is ahead of the whole goal, and what is before the leaf in it
-abbrev pub HasRows : {w : ℕ} → Process → LeafSet w → List (LeafSet w) → Type 0
-HasRows g ahead rows = AreRowsOf (λ x n. IsTrue (has_leaf ahead x) ⊎ InSequence g x n) (leaves g) rows
+abbrev pub HasRows : {w : ℕ} → Process → (ℕ → Bool) → List (LeafSet w) → Type 0
+HasRows g ahead rows = AreRowsOf (λ x n. IsTrue (ahead x) ⊎ InSequence g x n) (leaves g) rows

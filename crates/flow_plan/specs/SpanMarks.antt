@@ -1,5 +1,5 @@
 -- Marks of a goal that are read for the spans of its isolated parts.
-use Rattle.std.specs.Prelude.{◌+◌, ℕ, List, [], ◌∷◌, reverse}
+use Rattle.std.specs.Prelude.{◌≡◌, ◌+◌, ℕ, List, [], ◌∷◌, Some, reverse, slice_get}
 use Rattle.flow_model.specs.Process.{Process, leaves}
 use Rattle.flow_goal.specs.declared.node.Node.{Node}
 use Rattle.flow_goal.specs.declared.node.Node.TheVariants.{Leaf, Open, Close}
@@ -12,7 +12,7 @@ use Rattle.flow_plan.specs.Stacks.{WithTop}
 -- begun, and the spans so far
 abbrev pub MakesSpans : Process → List Node → ℕ → List ℕ → List Span → Type 0
 MakesSpans q [] k opens spans = AddsSpans q (leaves q) 0 [] spans
-MakesSpans q (Leaf ∷ nodes) k opens spans = MakesSpans q nodes (k + 1) opens spans
+MakesSpans q (Leaf ∷ nodes) k opens spans = (n : ℕ) × (slice_get (leaves q) k ≡ Some n) × MakesSpans q nodes (k + 1) opens spans
 MakesSpans q (Open ∷ nodes) k opens spans = MakesSpans q nodes k (k ∷ opens) spans
 MakesSpans q (Close ∷ nodes) k opens spans = WithTop opens
     (λ first more. (new : List Span) → AddsSpan (record { first = first; end = k }) spans new → MakesSpans q nodes k more new)

@@ -24,7 +24,12 @@ fn spans_of(alloc: Global, goal: &Choiceless) -> Result<Vec<Span>, AllocError>
         opens: Vec::new(alloc),
         spans: Vec::new(alloc),
     };
+    let leaves = goal.leaves();
     for node in goal.nodes() {
+        // a part that begins after the last leaf has none
+        if outline.place == leaves.len() && outline.opens.is_empty() {
+            return Ok(outline.spans);
+        }
         outline.draw(node)?;
     }
     Ok(outline.spans)

@@ -26,6 +26,10 @@ fn sequence_rows<const W: usize>(
     let leaves = goal.leaves();
     let mut sweep = Sweep::new(alloc, leaves.len())?;
     for node in goal.nodes() {
+        // no mark after the last leaf makes a row
+        if sweep.rows.len() == leaves.len() {
+            return Ok(sweep.rows);
+        }
         sweep.pass(node, leaves)?;
     }
     Ok(sweep.rows)
@@ -42,9 +46,7 @@ fn add_senders<const W: usize>(goal: &Choiceless, tokens: &[OrderToken], rows: &
     let leaves = goal.leaves();
     for token in tokens {
         if let Some(place) = place_of(leaves, token.receiver) {
-            let mut row = rows[place];
-            row.insert(token.sender);
-            rows[place] = row;
+            rows[place].insert(token.sender);
         }
     }
 }
