@@ -18,6 +18,7 @@ import tempfile
 TOP = pathlib.Path(__file__).resolve().parent.parent
 CREW = "crates/flow_crew/src/crew.rt"
 BOOK = "crates/flow_crew/src/book.rt"
+IDLE = "crates/flow_crew/src/idle.rt"
 AUDITS = "crates/flow_audit/src/audits.rt"
 THREADS = "crates/test_threads"
 CALLS = "crates/test_calls"
@@ -69,7 +70,8 @@ fn map_indices<R: Threads + Sync, X: Send + Drop, F: Fn(usize) -> X + Sync>(
 """
 ALL = "work_all(rt, alloc, book, &gate, workers);"
 STEP = "cuts.len().min(workers as usize)"
-WOKEN = "    idle.notify_one();\n"
+WOKEN = "    idle.call_one();\n"
+ANSWERED = "        idle.answer();\n"
 TOLD = "let post = Post::new(call, outcome);\n    lock.with_turn(rt, pass, PostAndBegin { post })"
 AGAIN = "Move::Went | Move::Wait(_) => ask(rt, lock, idle, &mut pass),\n            Move::Over => break,"
 ASKED = "let outcome = self.perform(call);"
@@ -82,6 +84,7 @@ BODIES = {
     "three_workers_at_most": (CREW, {ALL: ALL.replace("workers", "workers.min(3)")}, ""),
     "one_worker_less": (CREW, {ALL: ALL.replace("workers", "workers - workers / 64")}, ""),
     "nobody_is_woken": (CREW, {WOKEN: ""}, ""),
+    "called_once_for_all": (IDLE, {ANSWERED: ""}, ""),
     "who_waits_leaves": (CREW, {AGAIN: "Move::Went => ask(rt, lock, idle, &mut pass),\n            Move::Wait(_) | Move::Over => break,"}, ""),
     "leaves_after_one_task": (CREW, {TOLD: "lock.with_turn(rt, pass, Post::new(call, outcome));\n    Move::Over"}, ""),
     "finisher_asks_twice": (BOOK, {ASKED: "let _first = self.perform(call);\n            " + ASKED}, ""),

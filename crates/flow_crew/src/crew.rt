@@ -9,8 +9,8 @@ ghost use Rattle.flow_crew.specs.Moves.{IsContinued, IsOfWorker, IsOfCrew};
 
 use crate::book::Book;
 use crate::ends::{End, Move};
-use crate::jobs::{Begin, Post, PostAndBegin};
-use crossbeam_utils::sync::EventCount;
+use crate::idle::{AskWhenIdle, Idle};
+use crate::jobs::{Post, PostAndBegin};
 use flow_gate::Gate;
 use flow_model::Call;
 use flow_turn::{NewRefusal, Pass, TurnLock};
@@ -64,7 +64,7 @@ fn work_all<R: Threads + Wait + Sync, G: Gate + Drop + Send>(
 {
     match TurnLock::new(alloc, book) {
         Ok((lock, root)) => {
-            let idle = EventCount::new();
+            let idle = Idle::new();
             let root = work_beside(rt, &lock, &idle, gate, root, workers);
             lock.close(root)
         }
@@ -76,7 +76,7 @@ fn work_all<R: Threads + Wait + Sync, G: Gate + Drop + Send>(
 fn work_beside<R: Threads + Wait + Sync, G: Gate + Drop + Send>(
     rt: &R,
     lock: &TurnLock<Book<G>>,
-    idle: &EventCount,
+    idle: &Idle,
     gate: &G,
     mut root: Pass<Book<G>>,
     workers: u32,
@@ -108,7 +108,7 @@ fn work_beside<R: Threads + Wait + Sync, G: Gate + Drop + Send>(
 fn work<R: Wait, G: Gate + Drop>(
     rt: &R,
     lock: &TurnLock<Book<G>>,
-    idle: &EventCount,
+    idle: &Idle,
     gate: &G,
     mut pass: Pass<Book<G>>,
 ) -> Pass<Book<G>>
@@ -123,16 +123,16 @@ fn work<R: Wait, G: Gate + Drop>(
             Move::Over => break,
         };
     }
-    idle.notify_all();
+    idle.call_all();
     pass
 }
 
-/// Performs a task that the worker took, and asks in the turn in which it tells the outcome. First it wakes one of the idle, for
+/// Performs a task that the worker took, and asks in the turn in which it tells the outcome. First it calls one of the idle, for
 /// which there may be another task.
 fn perform<R: Wait, G: Gate + Drop>(
     rt: &R,
     lock: &TurnLock<Book<G>>,
-    idle: &EventCount,
+    idle: &Idle,
     gate: &G,
     pass: &mut Pass<Book<G>>,
     call: Call,
@@ -140,7 +140,7 @@ fn perform<R: Wait, G: Gate + Drop>(
     requires { pass.old.lock ≡ lock.now }
     ensures { pass.new.lock ≡ lock.now }
 {
-    idle.notify_one();
+    idle.call_one();
     let outcome = gate.perform(call);
     let post = Post::new(call, outcome);
     lock.with_turn(rt, pass, PostAndBegin { post })
@@ -151,14 +151,14 @@ fn perform<R: Wait, G: Gate + Drop>(
 fn ask<R: Wait, G: Gate + Drop>(
     rt: &R,
     lock: &TurnLock<Book<G>>,
-    idle: &EventCount,
+    idle: &Idle,
     pass: &mut Pass<Book<G>>,
 ) -> Move
     requires { pass.old.lock ≡ lock.now }
     ensures { pass.new.lock ≡ lock.now }
 {
-    let key = idle.prepare_wait();
-    let found = lock.with_turn(rt, pass, Begin);
+    let key = idle.count_in();
+    let found = lock.with_turn(rt, pass, AskWhenIdle { idle });
     if let Move::Wait(_) = found {
         key.wait(rt);
     }

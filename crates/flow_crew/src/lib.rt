@@ -6,6 +6,7 @@ mod crew;
 mod done;
 mod ends;
 mod entries;
+mod idle;
 mod jobs;
 mod single;
 mod standing;

@@ -32,11 +32,6 @@ module _ {E F : Type 0} where
   known_by table v = record { lock = table; number = v.number; given = v.given; outs = v.outs; seen = v.seen; mine = v.mine; joined = v.joined; part = v.part }
 
 module _ {T E F : Type 0} (entries : T → List E) where
-  -- the value was taken, and another put in its place
-  pub put_back_in : (me taken put : Seated T E F) (value after : T) → me.1 ≡ (0, Some value) ∷ [] → taken ≡ (me.0, (0, None) ∷ rest me.1) → put ≡ (taken.0, (0, Some after) ∷ rest taken.1) → put ≡ (me.0, (0, Some after) ∷ [])
-  put_back_in me taken put value after held took putting =
-      putting ∙ ((λ i. let m : Seated T E F = took i in (m.0, (0, Some after) ∷ rest m.1)) ∙ (λ i. (me.0, (0, Some after) ∷ rest (held i))))
-
   pub counts_work : (caller : E → ℕ) (fixed : T → F) (part : F) (slots id : ℕ) (me put : Seated T E F) (value after : T) (by before now : ℕ) → me.0.stage ≡ Serving → me.0.seen ≡ entries value → me.0.number ≡ by
       → put ≡ (me.0, (0, Some after) ∷ []) → (grown : Grows caller by (entries value) (entries after)) → before ≡ length (entries value) → now ≡ length (entries after)
       → Allows (IsInTurns entries caller fixed part) slots id put 2 (λ n. (n + (now - before)) % 2 ^ 64) (λ _ n. counted entries put n)

@@ -2,7 +2,7 @@
 //! has a pass, which knows what its caller has seen of the list and what it has added.
 #![tactic(auto)]
 
-mod doors;
+mod entrance;
 mod kept;
 mod lock;
 mod numbers;

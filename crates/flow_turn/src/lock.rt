@@ -1,5 +1,5 @@
 //! The lock, and all that is done with it.
-use crate::doors::Doors;
+use crate::entrance::Entrance;
 use crate::kept::{Job, Kept};
 use crate::pass::Pass;
 use crate::rule::{Cut, Mend, Settle, TurnRule};
@@ -24,7 +24,7 @@ type Desk<T> = Table<
 #[derive(Drop)]
 pub struct TurnLock<T: Kept> {
     table: Desk<T>,
-    doors: Doors,
+    entrance: Entrance,
 }
 
 impl<T: Kept> Model for TurnLock<T> {
@@ -69,7 +69,7 @@ impl<T: Kept> TurnLock<T> {
             Ok((table, seat)) => Ok((
                 TurnLock {
                     table,
-                    doors: Doors::new(),
+                    entrance: Entrance::new(),
                 },
                 Pass {
                     seat,
@@ -110,7 +110,7 @@ impl<T: Kept> TurnLock<T> {
         ensures { Turned T.entries T.caller T.fixed (J.does job) pass.old result pass.new }
     {
         let top = &self.table.shared;
-        take_turn(rt, top, &self.doors, &mut pass.seat, pass.number, job)
+        take_turn(rt, top, &self.entrance, &mut pass.seat, pass.number, job)
     }
 
     /// Ends a pass, and the root has seen what it had.
@@ -153,7 +153,7 @@ impl<T: Kept> TurnLock<T> {
         ensures found { Finds T.entries T.caller T.fixed root.number root.seen root.mine root.joined root.part result }
         ensures callers { Each (λ entry. T.caller entry ≤ root.given) (T.entries result) }
     {
-        let TurnLock { table, doors: _ } = self;
+        let TurnLock { table, entrance: _ } = self;
         let mut closed = table.close_with(root.into_seat());
         let value = closed.take(0).unwrap();
         closed.free();

@@ -1,19 +1,18 @@
-//! One turn at the table behind a lock: a ticket is drawn, the caller waits until it is served, does its job,
-//! puts the value back, counts what was added and passes the turn on.
+//! One turn at the table behind a lock: a ticket is drawn, the caller waits until it is served, does its job with the
+//! value in its slot, counts what was added and passes the turn on.
 ghost use Rattle.std.specs.Prelude.{◌≡◌, ◌≢◌, ◌%◌, ◌^◌, not, [], ◌∷◌, IsTrue, Some};
 ghost use Rattle.flow_turn.specs.declared.view.Stage.TheVariants.{Waiting};
 ghost use Rattle.flow_turn.specs.Steps.{drew, Takes};
 ghost use Rattle.flow_turn.specs.Passes.{IsAtRest, IsSameSeat, IsOfTable, HasTurn, known_of, Works, Turned};
 
-use crate::doors::Doors;
+use crate::entrance::Entrance;
 use crate::kept::{Job, Kept};
 use crate::rule::{Count, Draw, Look, PassOn, TurnRule};
 use crate::view::View;
 use atomic_table::{Seat, Shared};
-use crossbeam_utils::sync::EventCount;
 use std::snapshot::Snapshot;
 use std::sync::Wait;
-use std::{hint, thread};
+use std::thread;
 
 // The words: the tickets drawn, the tickets served, and the entries, each modulo 2^64.
 const DRAWN: usize = 0;
@@ -24,10 +23,6 @@ const ENTRIES: usize = 2;
 
 // The slot of the value.
 const VALUE: usize = 0;
-
-// How often the caller whose ticket comes next looks again before it lets others run: a turn mostly takes less than as many looks, and
-// to be woken takes longer.
-const LOOKS: u32 = 200;
 
 pub(crate) type Top<T> = Shared<
     Option<T>,
@@ -59,38 +54,8 @@ fn is_served<T: Kept>(top: &Top<T>, seat: &mut Chair<T>, ticket: u64) -> bool
     top.load::<Look>(seat, SERVED) == ticket
 }
 
-// Looks again a while, for a caller whose ticket comes next, and tells whether its turn came. One whose turn is further off does not look.
-fn comes_soon<T: Kept>(top: &Top<T>, ticket: u64) -> bool
-    requires { top.now.table_id.words ≡ 3 }
-{
-    for _ in 0..LOOKS {
-        let served = top.peek(SERVED);
-        if served.wrapping_add(1) != ticket {
-            return served == ticket;
-        }
-        hint::spin_loop();
-    }
-    false
-}
-
-// Where its turn does not come soon, the caller lets other threads run. While it is still another's turn then, it sleeps at its door,
-// since with many callers a mere yield would often give the processor to one whose turn is far off. It is counted at the door before it
-// looks, so that it misses no call.
-fn step_aside<T: Kept, R: Wait>(rt: &R, top: &Top<T>, door: &EventCount, ticket: u64)
-    requires { top.now.table_id.words ≡ 3 }
-{
-    if comes_soon(top, ticket) {
-        return;
-    }
-    thread::yield_now();
-    let key = door.prepare_wait();
-    if top.peek(SERVED) != ticket {
-        key.wait(rt);
-    }
-}
-
-// Waits until the ticket is served. While it is another's turn, other threads run.
-fn wait<T: Kept, R: Wait>(rt: &R, top: &Top<T>, doors: &Doors, seat: &mut Chair<T>, ticket: u64)
+// Waits until the ticket is served. One that was drawn inside the entrance is served at once.
+fn wait<T: Kept, R: Wait>(rt: &R, top: &Top<T>, seat: &mut Chair<T>, ticket: u64)
     requires table { IsOfTable top.now.table_id seat.old }
     requires waits { (seat.old.me.0.stage ≡ Waiting) × (ticket ≡ seat.old.me.0.ticket % 2 ^ 64) }
     ensures same { IsSameSeat seat.old seat.new }
@@ -100,7 +65,7 @@ fn wait<T: Kept, R: Wait>(rt: &R, top: &Top<T>, doors: &Doors, seat: &mut Chair<
         if is_served(top, seat, ticket) {
             return;
         }
-        step_aside(rt, top, doors.of(ticket), ticket);
+        thread::yield_now();
     }
     unreachable!()
 }
@@ -114,32 +79,30 @@ fn work<T: Kept, J: Job<T>>(top: &Top<T>, seat: &mut Chair<T>, by: u32, job: J) 
     ensures turn { HasTurn T.entries T.fixed seat.new }
     ensures works { (before : T) × (seat.old.me.1 ≡ (0, Some before) ∷ []) × Works T.entries T.caller T.fixed (J.does job) before (known_of seat.old) result (known_of seat.new) }
 {
-    let mut value = top.exchange(seat, VALUE, None).unwrap();
+    let value = seat.slot_mut(top, VALUE).as_mut().unwrap();
     let before = value.count();
-    let answer = job.run(&mut value, by);
+    let answer = job.run(value, by);
     let added = value.count() - before;
-    top.exchange(seat, VALUE, Some(value));
     top.fetch_add::<Count>(seat, ENTRIES, added);
     answer
 }
 
-// Gives the value back and passes the turn on. Who sleeps at the door of the next ticket looks again.
-fn pass_on<T: Kept>(top: &Top<T>, doors: &Doors, seat: &mut Chair<T>)
+// Gives the value back and passes the turn on.
+fn pass_on<T: Kept>(top: &Top<T>, seat: &mut Chair<T>)
     requires table { IsOfTable top.now.table_id seat.old }
     requires turn { HasTurn T.entries T.fixed seat.old }
     ensures same { IsSameSeat seat.old seat.new }
     ensures rest { IsAtRest seat.new }
     ensures known { known_of seat.new ≡ known_of seat.old }
 {
-    let served = top.fetch_add::<PassOn>(seat, SERVED, 1);
-    doors.of(served.wrapping_add(1)).notify_all();
+    top.fetch_add::<PassOn>(seat, SERVED, 1);
 }
 
 // One turn, of the caller with the number `by`.
 pub(crate) fn take_turn<T: Kept, J: Job<T>, R: Wait>(
     rt: &R,
     top: &Top<T>,
-    doors: &Doors,
+    entrance: &Entrance,
     seat: &mut Chair<T>,
     by: u32,
     job: J,
@@ -151,9 +114,11 @@ pub(crate) fn take_turn<T: Kept, J: Job<T>, R: Wait>(
     ensures rest { IsAtRest seat.new }
     ensures turned { Turned T.entries T.caller T.fixed (J.does job) (known_of seat.old) result (known_of seat.new) }
 {
+    entrance.enter(rt);
     let ticket = draw(top, seat);
-    wait(rt, top, doors, seat, ticket);
+    wait(rt, top, seat, ticket);
     let answer = work(top, seat, by, job);
-    pass_on(top, doors, seat);
+    pass_on(top, seat);
+    entrance.leave();
     answer
 }

@@ -4,10 +4,10 @@ use Rattle.flow_workflow.specs.declared.workflow.Workflow.{Workflow}
 use Rattle.flow_turn.specs.Passes.{Knowledge}
 use denote.Param.{param}
 use denote.Param.Send.{IsSend, IsSync, sendable}
-use Rattle.crossbeam_utils.proofs.sync.event_count.EventCount.TheSendSync.{the_sync as idle_sync}
 use Rattle.flow_turn.proofs.lock.TurnLock.TheSendSync.{the_sync as lock_sync}
 use Rattle.flow_turn.proofs.pass.Pass.TheSendSync.{the_send as pass_send}
 use Rattle.flow_crew.proofs.Sending.{book_send}
+use Rattle.flow_crew.proofs.idle.Idle.TheSendSync.{the_sync as idle_sync}
 use Rattle.flow_crew.proofs.crew.+fn-work_beside-join+arg3+work_beside.Goals as goal
 
 fewer_given : (given workers more : ℕ) → given + workers < 4294967295 → more ≡ given + 1 → workers ≢ 0 → more + (workers - 1) < 4294967295
