@@ -12,6 +12,8 @@ svg      it is XML; each leaf that `flow check` lists has one box with that labe
 dot      `dot -Tsvg` takes it, and draws a node with each label
 mermaid  each leaf has one node with that label; `mmdc` takes it, where the machine has that
 
+A file without an end (/dev/zero) is refused as too long, in less than a gigabyte of memory.
+
 It prints how long the greatest pictures take (4,096 leaves, and 1,024 events over 64 options). docs/pictures has what README shows: the script
 ends with 1 where the program draws something else, and --write writes it. --look makes a PNG of each SVG in FOLDER, in light and in dark, by
 a Chromium without a screen. Ends with 1 where something is not as it is said here.
@@ -20,6 +22,7 @@ import argparse
 import itertools
 import pathlib
 import re
+import resource
 import shutil
 import subprocess
 import sys
@@ -246,6 +249,18 @@ def shown_pictures(flowdesk, options):
             wrong(f"docs/pictures/{picture} is not what is drawn")
 
 
+def endless(flowdesk, folder):
+    """A file without an end is refused as one that is too long, in less than a gigabyte of memory."""
+    def little():
+        resource.setrlimit(resource.RLIMIT_AS, (1 << 30, 1 << 30))
+    file = folder / "small.flow"
+    file.write_text("goal nop;\n")
+    for words, limit in [(["/dev/zero"], 1_048_576), ([str(file), "--journal", "/dev/zero"], 134_217_728)]:
+        done = subprocess.run([flowdesk, "draw", *words], capture_output=True, check=False, preexec_fn=little, text=True)
+        if done.returncode != 3 or done.stderr != f"/dev/zero: refused: too long {limit}\n" or done.stdout:
+            wrong(f"draw {' '.join(words)}: status {done.returncode}, {done.stderr[:80]}")
+
+
 def times(flowdesk, folder):
     """How long the greatest pictures take."""
     names = [f"e{number}" for number in range(4096)]
@@ -283,6 +298,7 @@ def main():
         for name in EXAMPLES:
             try_all(*programs, name, (TOP / f"examples/{name}.flow").read_bytes().partition(b"%%\n")[0], folder, options)
         try_all(*programs, "generated", generated(3, 128).encode(), folder, options)
+        endless(programs[0], folder)
         times(programs[0], folder)
     shown_pictures(programs[0], options)
     print(f"{len(WRONG)} wrong")

@@ -22,8 +22,8 @@ use Rattle.flow_view.specs.Texts.{box_texts, captions}
 use Rattle.flow_draw.specs.declared.format.Format.{Format}
 use Rattle.flow_draw.specs.declared.format.Format.TheVariants.{Svg, Mermaid, Dot}
 use Rattle.flow_draw.specs.Notes.{note_of}
-use Rattle.flow_draw.specs.Svg.{svg_text}
-use Rattle.flow_draw.specs.Chart.{chart_text}
+use Rattle.flow_svg.specs.Svg.{svg_text}
+use Rattle.flow_chart.specs.Chart.{chart_text}
 use Rattle.std.specs.Prelude.{nat_lt, take}
 use Rattle.flow_desk.specs.declared.run_file.TheConstants.{GREATEST_RUN}
 use Rattle.flow_desk.specs.declared.stop.DeskStop.{DeskStop}

@@ -9,9 +9,11 @@ ghost use Rattle.flow_desk.specs.Viewing.{view_stop};
 ghost use Rattle.flow_desk.specs.Desk.{AreLabels, IsPrinted, IsDepicted, IsNotDepicted, text_in};
 
 use crate::stop::DeskStop;
-use flow_draw::{Format, notes_of, print_dot, print_mermaid, print_svg};
+use flow_chart::{print_dot, print_mermaid};
+use flow_draw::{Format, notes_of};
 use flow_facts::Name;
 use flow_form::{RuleForm, Script};
+use flow_svg::print_svg;
 use flow_view::{Labels, Mark, Picture, Scene, ViewRefusal, labels_of, picture_of, scene_of};
 use flow_workflow::Workflow;
 use std::alloc::{AllocError, Global};

@@ -4,6 +4,7 @@
 mod depict;
 mod desk;
 mod follow;
+mod front;
 mod marks;
 mod past;
 mod place;
@@ -16,6 +17,8 @@ mod told;
 
 pub use desk::drawn;
 pub use flow_draw::Format;
+pub use flow_model::GREATEST_INPUT;
+pub use front::read_front;
 pub use place::{Position, position_of};
 pub use run_file::GREATEST_RUN;
 pub use stop::{DeskStop, Telling};

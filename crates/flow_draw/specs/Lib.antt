@@ -1,17 +1,5 @@
-pub mod Chart
-pub mod ChartLines
-pub mod ChartWords
-pub mod Courses
-pub mod Element
 pub mod Escape
 pub mod Inside
-pub mod Lanes
-pub mod Lines
 pub mod Lookup
 pub mod Notes
 pub mod Pieces
-pub mod Svg
-pub mod SvgNotes
-pub mod SvgOrders
-pub mod SvgPage
-pub mod SvgShapes

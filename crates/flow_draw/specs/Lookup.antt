@@ -1,14 +1,11 @@
 -- What is shown at leaves and frames.
-use Rattle.std.specs.Prelude.{ℕ, ◌==◌, if◌then◌else◌, List, [], ◌∷◌, Option, Some, None, slice_get, codes}
+use Rattle.std.specs.Prelude.{ℕ, List, [], slice_get, codes}
 use Rattle.std.specs.Option.{unwrap_or}
 use Rattle.flow_view.specs.declared.labels.Labels.{Labels}
 use Rattle.flow_view.specs.declared.mark.Mark.{Mark}
 use Rattle.flow_view.specs.declared.mark.Mark.TheVariants.{Plain, Done, Next, Claimed, Failed, Banned}
 use Rattle.flow_view.specs.declared.scene.Frame.{Frame}
 use Rattle.flow_view.specs.declared.scene.Frame.TheVariants.{Iso, Called}
-use Rattle.flow_view.specs.declared.shape.Place.{Place}
-use Rattle.flow_view.specs.declared.shape.Shape.{Shape}
-use Rattle.flow_view.specs.declared.shape.Shape.TheVariants as shape
 
 -- the text of that number, and none where there is none
 abbrev pub text_at : List (List ℕ) → ℕ → List ℕ
@@ -31,9 +28,3 @@ mark_word Next = codes "next"
 mark_word Claimed = codes "claimed"
 mark_word Failed = codes "failed"
 mark_word Banned = codes "banned"
-
--- the place of the leaf's box
-abbrev pub box_of : List Shape → ℕ → Option Place
-box_of [] leaf = None
-box_of (shape.Leaf n place ∷ shapes) leaf = if n == leaf then Some place else box_of shapes leaf
-box_of (other ∷ shapes) leaf = box_of shapes leaf

@@ -1,11 +1,11 @@
 ghost use Rattle.std.specs.Prelude.{◌≡◌};
-ghost use Rattle.flow_draw.specs.Lookup.{text_at, frame_caption, mark_at, mark_word, box_of};
+ghost use Rattle.flow_draw.specs.Lookup.{text_at, frame_caption, mark_at, mark_word};
 
 use flow_facts::Name;
-use flow_view::{Frame, Labels, Mark, Place, Shape};
+use flow_view::{Frame, Labels, Mark};
 
 /// The text of that number. It is empty where there is none.
-pub(crate) fn text_at(texts: &[Name], number: usize) -> &[u8]
+pub fn text_at(texts: &[Name], number: usize) -> &[u8]
     ensures { result.now ≡ text_at texts.now number }
 {
     match texts.get(number) {
@@ -15,7 +15,7 @@ pub(crate) fn text_at(texts: &[Name], number: usize) -> &[u8]
 }
 
 /// What is written at the head of a frame.
-pub(crate) fn frame_caption(labels: &Labels, frame: Frame) -> &[u8]
+pub fn frame_caption(labels: &Labels, frame: Frame) -> &[u8]
     ensures { result.now ≡ frame_caption labels.now frame }
 {
     match frame {
@@ -25,7 +25,7 @@ pub(crate) fn frame_caption(labels: &Labels, frame: Frame) -> &[u8]
 }
 
 /// The mark of a leaf. A leaf that has none is plain.
-pub(crate) fn mark_at(marks: &[Mark], leaf: u32) -> Mark
+pub fn mark_at(marks: &[Mark], leaf: u32) -> Mark
     ensures { result ≡ mark_at marks.now leaf }
 {
     match marks.get(leaf as usize) {
@@ -35,7 +35,7 @@ pub(crate) fn mark_at(marks: &[Mark], leaf: u32) -> Mark
 }
 
 /// The word of a mark. It is empty for a plain leaf.
-pub(crate) fn mark_word(mark: Mark) -> &'static [u8]
+pub fn mark_word(mark: Mark) -> &'static [u8]
     ensures { result.now ≡ mark_word mark }
 {
     match mark {
@@ -46,18 +46,4 @@ pub(crate) fn mark_word(mark: Mark) -> &'static [u8]
         Mark::Failed => b"failed",
         Mark::Banned => b"banned",
     }
-}
-
-/// Where the box of a leaf stands.
-pub(crate) fn box_of(shapes: &[Shape], leaf: u32) -> Option<Place>
-    ensures { result ≡ box_of shapes.now leaf }
-{
-    for shape in shapes {
-        if let Shape::Leaf(number, place) = *shape {
-            if number == leaf {
-                return Some(place);
-            }
-        }
-    }
-    None
 }

@@ -1,4 +1,4 @@
-ghost use Rattle.std.specs.Prelude.{◌≡◌, ◌++◌, OnOk};
+ghost use Rattle.std.specs.Prelude.{◌≡◌, ◌+◌, ◌++◌, IfOk, OnOk};
 ghost use Rattle.flow_draw.specs.Pieces.{piece_text, pieces_text};
 
 use crate::escape::push_escaped;
@@ -8,7 +8,7 @@ use std::alloc::AllocError;
 
 /// A piece of a text.
 #[derive(Clone, Copy)]
-pub(crate) enum Piece<'a> {
+pub enum Piece<'a> {
     /// As it is.
     Words(&'a [u8]),
     Number(u64),
@@ -17,7 +17,7 @@ pub(crate) enum Piece<'a> {
 }
 
 /// Adds pieces to a text, one after another.
-pub(crate) fn push_pieces(text: &mut Vec<u8>, pieces: &[Piece]) -> Result<(), AllocError>
+pub fn push_pieces(text: &mut Vec<u8>, pieces: &[Piece]) -> Result<(), AllocError>
     ensures { OnOk result (text.new.items ≡ text.old.items ++ pieces_text pieces.now) }
 {
     for piece in pieces {
@@ -36,5 +36,15 @@ fn push_piece(text: &mut Vec<u8>, piece: &Piece) -> Result<(), AllocError>
             text.extend_from_slice(digits.format(number).as_bytes())
         }
         Piece::Escaped(format, bytes) => push_escaped(text, format, bytes),
+    }
+}
+
+/// The place so much farther down. It is refused where it is no `u64`: so much memory is not there.
+pub fn below(top: u64, by: u64) -> Result<u64, AllocError>
+    ensures { IfOk result (λ place. place ≡ top + by) }
+{
+    match top.checked_add(by) {
+        Some(place) => Ok(place),
+        None => Err(AllocError),
     }
 }

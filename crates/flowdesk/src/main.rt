@@ -1,14 +1,16 @@
 //! `flowdesk`: draws the workflow of a file, and where a run of it stands, to the standard output.
 #![tactic(auto)]
 
+ghost use Rattle.std.specs.Prelude.{◌<◌};
+
 mod message;
 mod words;
 
-use flow_desk::drawn;
+use flow_desk::{GREATEST_INPUT, GREATEST_RUN, drawn, read_front};
 use message::{NO_MEMORY, tell};
 use std::alloc::AllocError;
 use std::env;
-use std::fs::{self, File};
+use std::fs::File;
 use std::io::{self, Write};
 use std::process::ExitCode;
 use std::rt::{Env, Files};
@@ -50,20 +52,31 @@ fn write(rt: &(impl Print + Eprint), picture: &[u8]) -> u8 {
     }
 }
 
+/// The bytes of a file. Of one that is longer than the limit they are one more than that: `drawn` refuses it as it would refuse the whole.
+fn read<R: Files<File = File> + AllocGlobal>(
+    rt: &R,
+    path: &str,
+    limit: usize,
+) -> io::Result<Vec<u8>>
+    requires { limit < usize.MAX }
+{
+    read_front(rt.alloc(), File::open(rt, path)?, limit)
+}
+
 /// The bytes of the run's file, if one is to be shown.
 fn read_run<R: Files<File = File> + AllocGlobal>(
     rt: &R,
     journal: Option<&str>,
 ) -> io::Result<Option<Vec<u8>>> {
     match journal {
-        Some(path) => Ok(Some(fs::read(rt, path)?)),
+        Some(path) => Ok(Some(read(rt, path, GREATEST_RUN)?)),
         None => Ok(None),
     }
 }
 
 /// Draws what the words ask for, and gives the status.
 fn draw<R: Files<File = File> + AllocGlobal + Print + Eprint>(rt: &R, call: Call<'_>) -> u8 {
-    let text = match fs::read(rt, call.file) {
+    let text = match read(rt, call.file, GREATEST_INPUT) {
         Ok(text) => text,
         Err(error) => return unread(rt, call.file, error),
     };

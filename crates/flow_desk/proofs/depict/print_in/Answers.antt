@@ -4,7 +4,7 @@ use Rattle.flow_view.specs.declared.arrow.Arrow.{Arrow}
 use Rattle.flow_view.specs.Sketch.{sketch_of}
 use Rattle.flow_draw.specs.declared.format.Format.{Format}
 use Rattle.flow_draw.specs.declared.format.Format.TheVariants.{Mermaid}
-use Rattle.flow_draw.specs.Chart.{chart_text}
+use Rattle.flow_chart.specs.Chart.{chart_text}
 use Rattle.flow_desk.specs.Desk.{text_in}
 use Rattle.flow_desk.proofs.depict.print_in.Goals as goal
 

@@ -1,7 +1,0 @@
-use Rattle.std.proofs.Common.{◌≡◌, ◌++◌, drop}
-use Rattle.flow_draw.specs.Chart.{note_lines}
-use Rattle.flow_draw.proofs.chart.push_note_lines.Given as goal
-
-abbrev pub invariant-loop-number : goal.invariant-loop-number
-invariant-loop-number l =
-    l.text.items ++ note_lines l.format l.number (drop l.number l.rules) ≡ l.initial.text.items ++ note_lines l.format 0 l.rules

@@ -1,6 +1,0 @@
-use Rattle.std.proofs.Common.{◌≡◌, drop}
-use Rattle.flow_draw.specs.Courses.{courses_after, courses_of}
-use Rattle.flow_draw.proofs.courses.courses_of.Given as goal
-
-abbrev pub invariant-loop-arrow : goal.invariant-loop-arrow
-invariant-loop-arrow l = courses_after l.shapes l.top l.courses.items (drop l.arrow-index l.arrows) ≡ courses_of l.shapes l.top l.arrows

@@ -1,0 +1,9 @@
+pub mod Courses
+pub mod Element
+pub mod Lanes
+pub mod Lines
+pub mod Notes
+pub mod Orders
+pub mod Page
+pub mod Shapes
+pub mod Svg
