@@ -56,8 +56,8 @@ fn under(alloc: Global, labels: &Labels, flow: usize, part: Scene) -> Result<Sce
     framed(alloc, Frame::Called(flow, letters), part)
 }
 
-// Goals are thousands of levels deep: what follows keeps little on the stack. So each kind of goal has a call of its own, and none of these
-// is inlined.
+// Goals are thousands of levels deep: what follows is to keep little on the stack. So each kind of goal has a call of its own, which is not
+// to be inlined. (Rattle's own compiler inlines what is called at one place all the same.)
 
 /// What is drawn of a goal, beside which that is written.
 #[cycle(drawing)]

@@ -50,7 +50,7 @@ fn checked(width: u64, half: u64) -> Result<Size, ViewRefusal>
     })
 }
 
-// The recursion over goals that are thousands of levels deep calls these, and is to keep little on the stack: so none is inlined.
+// The recursion over goals that are thousands of levels deep calls these, and is to keep little on the stack: so none is to be inlined.
 
 /// The box of a leaf that shows so many letters.
 #[inline(never)]
