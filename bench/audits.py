@@ -13,7 +13,7 @@ times    as many journals as an audit may have (1,024) of the order desk, as man
          more), and what as many calls of `trace` take, less what each takes to compile the workflow (`check`).
          These figures tell something only on four processors that do nothing else.
 
---journals sets how many there are in each text (at most 1,024). It needs GNU time (/usr/bin/time). The script ends with 1 where an answer
+--journals sets how many there are in each text (at most 1,024). The script ends with 1 where an answer
 is not the model's, or not the same by other workers, and prints that.
 """
 import argparse
@@ -27,7 +27,7 @@ import tempfile
 import time
 
 from desk import FLOW, Desk, Workflow
-from measuring import TOP, called
+from measuring import TOP
 from traces import a_thousand_leaves_by_the_last_of_256_options, sixty_four_leaves_by_the_last_of_4_096_options
 
 MOST_JOURNALS = 1_024
@@ -199,41 +199,44 @@ def each_fourth(lines, count):
 ROWS = [(name, all_alike) for name in KINDS] + [("64 leaves by the last of 4,096 options", each_fourth)]
 
 
-def side_by_side(program, source):
-    """The seconds of four calls by one worker each, side by side."""
-    with tempfile.NamedTemporaryFile() as given:
-        given.write(source)
-        given.flush()
-        begun = time.perf_counter()
-        calls = [subprocess.Popen([program, "audit", "--workers", "1"], stdin=open(given.name, "rb"), stdout=subprocess.DEVNULL) for _ in range(4)]
-        for call in calls:
-            call.wait()
-        return time.perf_counter() - begun
+def told_by(program, words, files):
+    """The seconds of calls side by side, one a file, and what the first of them wrote. Each reads its file, for a pipe that is filled meanwhile takes time of its own."""
+    begun = time.perf_counter()
+    calls = [subprocess.Popen([program, *words], stdin=open(file, "rb"), stdout=subprocess.PIPE) for file in files]
+    written = [call.communicate()[0].decode() for call in calls]
+    return time.perf_counter() - begun, written[0]
 
 
 def times(program, options):
     columns = ["1", "2", "4", "1 by 4", "checked", "machine", "by trace", "1 by trace"]
     print(f"{'journals':<52}{'count':>6}" + "".join(f"{column:>11}" for column in columns) + "  ends with")
     for name, of in ROWS:
-        workflow, lines = KINDS[name]()
-        room = GREATEST_INPUT - len(workflow) - 2
-        count = min(options.journals, room // (len(lines) + 3))
-        journals = of(lines, count)
-        full = sum(1 for journal in journals if journal)
-        source = input_of(workflow, journals)
-        one = input_of(workflow, [lines])
-        calls = [(["audit", "--workers", "1"], source), (["audit", "--workers", "2"], source), (["audit", "--workers", "4"], source)]
-        calls += [(["trace"], one), (["check"], workflow.encode())]
-        took = [[called(program, words, given) for words, given in calls] for _ in range(options.calls)]
-        best = [1000 * min(spent for spent, _, _ in each) for each in zip(*took)]
-        four = 1000 * min(side_by_side(program, source) for _ in range(options.calls))
-        lasts = {last for turn in took for _, _, last in turn[:3]}
-        if lasts != {f"executions {full} of {count}"}:
-            wrong(f"{name}: ends with {lasts}", source)
-        by_trace = full * (best[3] - best[4])
-        rest = f"{(best[0] - best[4]) / (best[2] - best[4]):.2f}" if best[2] > best[4] else "-"
-        told = [f"{best[0]:.0f}", f"{best[1]:.0f}", f"{best[2]:.0f}", f"{best[0] / best[2]:.2f}", rest, f"{4 * best[0] / four:.2f}", f"{by_trace:.0f}", f"{best[0] / by_trace:.2f}" if by_trace > 0 else "-"]
-        print(f"{name + ('' if of is all_alike else ', each fourth'):<52}{count:>6}" + "".join(f"{column:>11}" for column in told) + f"  {min(lasts)}", flush=True)
+        with tempfile.TemporaryDirectory() as folder:
+            row_of(program, options, name, of, pathlib.Path(folder))
+
+
+def row_of(program, options, name, of, folder):
+    """Prints the row of journals of that kind."""
+    workflow, lines = KINDS[name]()
+    room = GREATEST_INPUT - len(workflow) - 2
+    count = min(options.journals, room // (len(lines) + 3))
+    journals = of(lines, count)
+    full = sum(1 for journal in journals if journal)
+    every, one, alone = folder / "every", folder / "one", folder / "alone"
+    for file, source in [(every, input_of(workflow, journals)), (one, input_of(workflow, [lines])), (alone, workflow.encode())]:
+        file.write_bytes(source)
+    calls = [(["audit", "--workers", str(workers)], [every]) for workers in [1, 2, 4]] + [(["trace"], [one]), (["check"], [alone])]
+    calls.append((["audit", "--workers", "1"], [every] * 4))
+    took = [[told_by(program, words, files) for words, files in calls] for _ in range(options.calls)]
+    best = [1000 * min(spent for spent, _ in each) for each in zip(*took)]
+    lasts = {written.rstrip("\n").split("\n")[-1] for turn in took for _, written in turn[:3]}
+    if lasts != {f"executions {full} of {count}"}:
+        wrong(f"{name}: ends with {lasts}", every.read_bytes())
+    by_trace = full * (best[3] - best[4])
+    rest = f"{(best[0] - best[4]) / (best[2] - best[4]):.2f}" if best[2] > best[4] else "-"
+    told = [*(f"{spent:.1f}" for spent in best[:3]), f"{best[0] / best[2]:.2f}", rest, f"{4 * best[0] / best[5]:.2f}", f"{by_trace:.0f}",
+            f"{best[0] / by_trace:.2f}" if by_trace > 0 else "-"]
+    print(f"{name + ('' if of is all_alike else ', each fourth'):<52}{count:>6}" + "".join(f"{column:>11}" for column in told) + f"  {min(lasts)}", flush=True)
 
 
 PARTS = {"model": model, "times": times}
