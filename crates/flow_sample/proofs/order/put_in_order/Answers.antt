@@ -1,8 +1,8 @@
-use Rattle.std.proofs.Common.{rules, ◌<◌, ◌+◌, ◌∙◌, ℕ, List, get_or, reverse, take, ap, subst, sym, inl, inr, refl, ⊎_elim, true≢false}
+use Rattle.std.proofs.lemmas.List.{reverse-append}
+use Rattle.std.proofs.Common.{rules, ◌<◌, ◌+◌, ◌∙◌, ◌∷◌, ℕ, List, [], get_or, reverse, take, ap, subst, sym, inl, inr, refl, ⊎_elim, true≢false}
 use Rattle.flow_model.specs.Lists.{◌∈◌}
 use Rattle.flow_sample.specs.Rows.{has_inside}
 use Rattle.flow_sample.proofs.RingLemmas.{ring_at}
-use Rattle.flow_plan.proofs.SweepLemmas.{top_of as pushed}
 use Rattle.flow_sample.proofs.OrderLemmas.{begun_path, no_top, top_of, rest_of, grown, path_on, path_back, fewer_on, fewer_back, start_on, holds_on, is_within, row_at, leaves_of_one, leaves_more, leaves_less, came_back, goes_on, AreLeavesOn, IsPath, steps}
 use Rattle.flow_sample.proofs.order.put_in_order.Goals as goal
 
@@ -104,7 +104,7 @@ loop-top-smaller g c =
     let within = is_within c.args.items.now next b.0 b.1 in
     let fresh = goes_on c.args.items.now c.requires.apart c.loop-top.on_path (reverse c.loop-top.path.items) i.leaves next within
     (λ x inside here. true≢false (sym (c.meets.ensures.1 (x, sym (row_at has_inside c.args.items.now next c.index-items-next.result within x) ∙ inside, here)) ∙ c.if-meets.false)) in
-    let new = pushed c.loop-top.path.items c.push-in-Some-blocker.new.self.items next c.in_ok-push-in-Some-blocker.ensures.items in
+    let new = ap reverse c.in_ok-push-in-Some-blocker.ensures.items ∙ reverse-append c.loop-top.path.items (next ∷ []) in
     fewer_on c.args.items.now c.requires.apart c.loop-top.order.items (reverse c.loop-top.path.items) (reverse c.push-in-Some-blocker.new.self.items) next
     (path_on c.args.items.now c.requires.apart c.loop-top.left c.loop-top.order.items (reverse c.loop-top.path.items) (reverse c.push-in-Some-blocker.new.self.items) c.in-Some.top next t.0 t.1
     i.arranged i.path b fresh new)
@@ -119,7 +119,7 @@ loop-top-preserved g c =
     let within = is_within c.args.items.now next b.0 b.1 in
     let fresh = goes_on c.args.items.now c.requires.apart c.loop-top.on_path (reverse c.loop-top.path.items) i.leaves next within
     (λ x inside here. true≢false (sym (c.meets.ensures.1 (x, sym (row_at has_inside c.args.items.now next c.index-items-next.result within x) ∙ inside, here)) ∙ c.if-meets.false)) in
-    let new = pushed c.loop-top.path.items c.push-in-Some-blocker.new.self.items next c.in_ok-push-in-Some-blocker.ensures.items in
+    let new = ap reverse c.in_ok-push-in-Some-blocker.ensures.items ∙ reverse-append c.loop-top.path.items (next ∷ []) in
     record {
       arranged = i.arranged;
       path = path_on c.args.items.now c.requires.apart c.loop-top.left c.loop-top.order.items (reverse c.loop-top.path.items) (reverse c.push-in-Some-blocker.new.self.items) c.in-Some.top next t.0 t.1
