@@ -1,7 +1,7 @@
 #!/usr/bin/env python3
 """What runs by workers take, over a gate whose tasks take no time, are busy on a processor, or sleep, for as many events beside one another.
 
-Usage: bench/workers.py
+Usage: bench/workers.py [PROGRAM]     one that an earlier run made and left; else it is made
 
 Prints for each kind of task and number of workers the least milliseconds of several runs, and how many times the milliseconds of one
 worker that is, or how many times as fast. The numbers of workers take turns in one call. Ends with 1 where four workers take more than
@@ -9,7 +9,8 @@ worker that is, or how many times as fast. The numbers of workers take turns in 
 more), or sixteen less than 12 times as fast over tasks that sleep. The last table has eight busy processes beside four processors, or
 twice as many as there are.
 
-The program is bench/workers/main.txt. It is proved and built in a temporary folder, over the crates of this repository.
+The program is bench/workers/main.txt. It is proved and built in a temporary folder, over the crates of this repository, which takes
+some minutes, and more where they are not proved yet.
 """
 import os
 import pathlib
@@ -41,9 +42,10 @@ def build(place):
     for name, file in PLACES.items():
         (crate / file).parent.mkdir(parents=True, exist_ok=True)
         shutil.copy(TOP / f"bench/workers/{name}.txt", crate / file)
-    check = subprocess.run(["rt", "check", "--jobs", "2"], cwd=crate, stdout=subprocess.PIPE, stderr=subprocess.STDOUT, text=True, check=False)
-    if check.returncode != 0:
-        sys.exit(check.stdout[-4000:])
+    for command in [["rt", "check", "--jobs", "2"], ["rt", "run", "--jobs", "1", "--", "none", "0", "1", "1", "1"]]:
+        made = subprocess.run(command, cwd=crate, stdout=subprocess.PIPE, stderr=subprocess.STDOUT, text=True, check=False)
+        if made.returncode != 0:
+            sys.exit(made.stdout[-4000:])
     return crate
 
 
@@ -76,9 +78,8 @@ def is_fine(kind, took):
 def main():
     fine = True
     with tempfile.TemporaryDirectory() as folder:
-        crate = build(pathlib.Path(folder))
-        program = crate / "out" / CRATE
-        call = [str(program)]
+        program = sys.argv[1] if sys.argv[1:] else build(pathlib.Path(folder)) / "out" / CRATE
+        call = [os.path.abspath(program)]
         for kind, *rest in TABLES:
             took = measured(call, kind, *rest)
             told(f"{kind}, {rest[0]} microseconds", took)
