@@ -466,6 +466,12 @@ def eleven_choices_beside_a_series_and_isolated_nothings():
 
 
 @text
+def eleven_choices_after_isolated_nothings():
+    some = " | ".join("iso(nop)" for _ in range(880))
+    return f"event {choice_events(11)}, {names('x', 110, ', ')}; goal {some} | {choices(11)} | ({names('x', 110, ' * ')});{named(11)}"
+
+
+@text
 def twelve_choices_beside_52_leaves():
     return f"event {choice_events(12)}, {names('e', 52, ', ')}; goal {choices(12)} | {names('e', 52, ' * ')};{named(12)}"
 
