@@ -9,27 +9,25 @@ use Rattle.flow_model.specs.Ways.{Normal, leaf_of_event}
 use Rattle.flow_model.proofs.Lists.{slice_get_append_left}
 use Rattle.flow_model.proofs.MadeLists.{slice_get_append_right, some_same}
 use Rattle.flow_laws.proofs.FoldingLemmas.{length-folded}
-use Rattle.flow_goal.specs.Choices.{HoldsThose}
-use Rattle.flow_goal.specs.declared.choices.Held.{Held}
 use Rattle.flow_rules.specs.declared.lanes.Lanes.{Lanes}
 use Rattle.flow_rules.specs.Lanes.{Shows, has_event}
 use Rattle.flow_excise.specs.declared.block.Block.{Block}
-use Rattle.flow_excise.specs.Block.{AreHeld, AreShown, HasWays, IsBlock, options_in}
+use Rattle.flow_excise.specs.Block.{AreLeafCounts, AreShown, HasLeafCount, HasWays, IsBlock, IsSomeBlock, options_in}
 use Rattle.flow_excise.specs.Options.{FoldedTree, count_in, option_by, options_by, resolutions_in}
 
--- of one resolution more it is told what it holds
-pub held_more : (t : FoldedTree) (first : ℕ) (old : List Held) (held : Held) → HoldsThose t.apart t.tree.process (first + length old) held →
-    AreHeld t first old → AreHeld t first (old ++ held ∷ [])
-held_more t first old held this so_far lane other read = elim (cases_lt lane (length old)) [
+-- of one resolution more it is told how many leaves it has
+pub counts_more : (t : FoldedTree) (first : ℕ) (old : List ℕ) (count : ℕ) → HasLeafCount t (first + length old) count →
+    AreLeafCounts t first old → AreLeafCounts t first (old ++ count ∷ [])
+counts_more t first old count this so_far lane other read = elim (cases_lt lane (length old)) [
   | inl h ↦
-      let before = slice_get-get_or old lane held h in
-      so_far lane other (before ∙ sym (slice_get_append_left old (held ∷ []) lane (get_or old lane held) before) ∙ read)
+      let before = slice_get-get_or old lane count h in
+      so_far lane other (before ∙ sym (slice_get_append_left old (count ∷ []) lane (get_or old lane count) before) ∙ read)
   | inr h ↦
-      let within = slice_get_within (old ++ held ∷ []) lane other read in
-      let last : length old + 0 ≡ lane = omega (arith, length-append old (held ∷ []), within, h) in
+      let within = slice_get_within (old ++ count ∷ []) lane other read in
+      let last : length old + 0 ≡ lane = omega (arith, length-append old (count ∷ []), within, h) in
       let place : first + length old ≡ first + lane = omega (arith, last) in
-      let same = some_same held other (sym (slice_get_append_right old (held ∷ []) 0) ∙ ap (slice_get (old ++ held ∷ [])) last ∙ read) in
-      subst (λ (k : ℕ). HoldsThose t.apart t.tree.process k other) place (subst (HoldsThose t.apart t.tree.process (first + length old)) same this)
+      let same = some_same count other (sym (slice_get_append_right old (count ∷ []) 0) ∙ ap (slice_get (old ++ count ∷ [])) last ∙ read) in
+      subst (λ (k : ℕ). HasLeafCount t k other) place (subst (HasLeafCount t (first + length old)) same this)
 ]
 
 -- one lane more
@@ -73,3 +71,9 @@ last_block t number blocks e h =
 pub options_found : (t : FoldedTree) (n : Normal) (block : Block) (lane : ℕ) (q : Process) → HasWays t n block → lane < block.size →
     slice_get (resolutions_in t) (block.first + lane) ≡ Some q → options_in t block lane q ≡ options_by t n q
 options_found t n block lane q ways h there = ap (map (option_by q)) (ways lane q h there)
+
+-- it has one number
+pub some_block : (t : FoldedTree) (n : Normal) (number : ℕ) (block : Block) → IsBlock t n number block → IsSomeBlock t n block
+some_block t n number block b other is =
+    let same : number ≡ other = omega (arith, b.first, is) in
+    subst (λ (k : ℕ). IsBlock t n k block) same b

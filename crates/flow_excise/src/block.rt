@@ -1,11 +1,11 @@
 ghost use Rattle.std.specs.Prelude.{◌≡◌, ◌<◌, ◌≤◌, ◌*◌, ◌+◌, ◌-◌, ◌/◌, min, IfOk, length};
 ghost use Rattle.flow_model.specs.declared.limits.TheConstants.{MOST_RESOLUTIONS};
 ghost use Rattle.flow_rules.specs.Conjunction.{normal_in};
-ghost use Rattle.flow_excise.specs.Block.{AreHeld, AreShown, IsBlock};
+ghost use Rattle.flow_excise.specs.Block.{AreLeafCounts, AreShown, IsBlock};
 ghost use Rattle.flow_excise.specs.Options.{ArePrepared, count_in, folded};
 
 use crate::folded_choices::FoldedChoices;
-use flow_goal::{Held, Tree};
+use flow_goal::Tree;
 use flow_rules::{Conjunction, Lanes, Narrowed};
 use std::alloc::{AllocError, Global};
 
@@ -16,8 +16,8 @@ pub(crate) struct Block {
     pub(crate) first: u64,
     /// How many they are.
     pub(crate) size: u32,
-    /// What each of them holds.
-    pub(crate) held: Vec<Held>,
+    /// How many leaves each of them has.
+    pub(crate) leaves: Vec<usize>,
     pub(crate) narrowed: Narrowed,
 }
 
@@ -31,34 +31,34 @@ fn size_of(count: u64, number: u64) -> u32
     left.min(64) as u32
 }
 
-/// What so many resolutions from a number on hold. Their leaves outside choices are noted in a lane of its own for each.
-fn block_held(
+/// How many leaves so many resolutions from a number on have. Those outside choices are noted in a lane of its own for each.
+fn block_leaves(
     alloc: Global,
     tree: &Tree,
     choices: &FoldedChoices,
     first: u64,
     size: u32,
     lanes: &mut Lanes,
-) -> Result<Vec<Held>, AllocError>
+) -> Result<Vec<usize>, AllocError>
     requires choices { ArePrepared tree.now choices.now }
     requires within { first + size ≤ count_in (folded tree.now choices.now) }
     requires few { size ≤ 64 }
-    ensures held { IfOk result (λ lists. AreHeld (folded tree.now choices.now) first lists.items) }
-    ensures size { IfOk result (λ lists. length lists.items ≡ size) }
+    ensures leaves { IfOk result (λ leaves. AreLeafCounts (folded tree.now choices.now) first leaves.items) }
+    ensures size { IfOk result (λ leaves. length leaves.items ≡ size) }
     ensures shown { IfOk result (λ _. AreShown (folded tree.now choices.now) first size lanes.new) }
 {
     lanes.clear();
-    let mut lists = Vec::new(alloc);
+    let mut leaves = Vec::new(alloc);
     for lane in 0..size {
         let held = choices.prepared.held(alloc, tree, first + lane as u64)?;
         lanes.note(tree, &held.fixed, lane)?;
-        lists.push(held)?;
+        leaves.push(held.leaves)?;
     }
-    Ok(lists)
+    Ok(leaves)
 }
 
 impl Block {
-    /// The block of that number. What the lanes held before is gone.
+    /// The block of that number. The lanes show its resolutions; what they held before is gone.
     pub(crate) fn new(
         alloc: Global,
         tree: &Tree,
@@ -69,16 +69,17 @@ impl Block {
     ) -> Result<Block, AllocError>
         requires choices { ArePrepared tree.now choices.now }
         requires numbered { 64 * number < count_in (folded tree.now choices.now) }
-        ensures { IfOk result (IsBlock (folded tree.now choices.now) (normal_in rules.now) number) }
+        ensures block { IfOk result (IsBlock (folded tree.now choices.now) (normal_in rules.now) number) }
+        ensures shown { IfOk result (λ block. AreShown (folded tree.now choices.now) block.first block.size lanes.new) }
     {
         let first = 64 * number;
         let size = size_of(choices.count, number);
-        let held = block_held(alloc, tree, choices, first, size, lanes)?;
+        let leaves = block_leaves(alloc, tree, choices, first, size, lanes)?;
         let narrowed = rules.narrowed(alloc, lanes)?;
         Ok(Block {
             first,
             size,
-            held,
+            leaves,
             narrowed,
         })
     }

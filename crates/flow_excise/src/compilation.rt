@@ -68,7 +68,8 @@ fn compile_by(
         Ok(counted) => counted,
         Err(refusal) => return Err(refusal),
     };
-    let sieve = sift_all(alloc, tree, choices, rules, &counted.met)?;
+    let made = counted.last;
+    let sieve = sift_all(alloc, tree, choices, rules, &counted.met, made)?;
     let rows = FoldRow::of_folds(alloc, choices.folds.spans())?;
     compiled_of(sieve, choices.count, counted.tally, rows)
 }

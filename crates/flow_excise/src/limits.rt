@@ -1,7 +1,8 @@
-ghost use Rattle.std.specs.Prelude.{◌≡◌, ◌<◌, ◌≤◌, ℕ, List, IfOk, MatchResult, map};
+ghost use Rattle.std.specs.Prelude.{◌≡◌, ◌<◌, ◌≤◌, ℕ, List, IfOk, IfSome, MatchResult, map};
 ghost use Rattle.flow_model.specs.Folding.{folded_count};
 ghost use Rattle.flow_goal.specs.Folds.{AreFoldsOf, named_by};
 ghost use Rattle.flow_rules.specs.Conjunction.{normal_in};
+ghost use Rattle.flow_excise.specs.Block.{IsSomeBlock};
 ghost use Rattle.flow_excise.specs.Options.{ArePrepared, all_options_by, folded, has_ways, resolutions_in};
 ghost use Rattle.flow_goal.specs.Capped.{capped};
 ghost use Rattle.flow_excise.specs.declared.refusal.CompileRefusal.TheVariants.{TooManyChoices};
@@ -9,7 +10,7 @@ ghost use Rattle.flow_excise.specs.Limits.{AreFew, IsTooMany};
 
 use crate::folded_choices::FoldedChoices;
 use crate::refusal::CompileRefusal;
-use crate::tally::{Counted, whole_tally};
+use crate::tally::{WholeTally, whole_tally};
 use flow_goal::{Folds, Tree, resolutions};
 use flow_model::{GREATEST_BULK, MOST_OPTIONS, MOST_RESOLUTIONS};
 use flow_rules::Conjunction;
@@ -38,12 +39,13 @@ pub(crate) fn few_options(
     tree: &Tree,
     choices: &FoldedChoices,
     rules: &Conjunction,
-) -> Result<Counted, CompileRefusal>
+) -> Result<WholeTally, CompileRefusal>
     requires choices { ArePrepared tree.now choices.now }
     ensures options { MatchResult result
         (λ counted. AreFew (all_options_by (folded tree.now choices.now) (normal_in rules.now)) counted.tally)
         (IsTooMany (all_options_by (folded tree.now choices.now) (normal_in rules.now))) }
     ensures met { IfOk result (λ counted. counted.met.items ≡ map (has_ways (folded tree.now choices.now) (normal_in rules.now)) (resolutions_in (folded tree.now choices.now))) }
+    ensures last { IfOk result (λ counted. IfSome counted.last (IsSomeBlock (folded tree.now choices.now) (normal_in rules.now))) }
 {
     let counted = whole_tally(alloc, tree, choices, rules)?;
     if counted.tally.options > MOST_OPTIONS {

@@ -1,10 +1,10 @@
-ghost use Rattle.std.specs.Prelude.{◌≡◌, ◌<◌, ◌≤◌, ◌↔◌, ◌+◌, ◌*◌, ◌∷◌, [], ℕ, false, get_or, IsTrue, MatchResult, OnOk, length, map, slice_get};
+ghost use Rattle.std.specs.Prelude.{◌≡◌, ◌<◌, ◌≤◌, ◌↔◌, ◌+◌, ◌*◌, ◌∷◌, [], ℕ, false, None, get_or, IfOk, IfSome, IsTrue, MatchResult, OnOk, length, map, slice_get};
 ghost use Rattle.flow_model.specs.Process.{Process};
 ghost use Rattle.flow_model.specs.Ways.{Normal};
 ghost use Rattle.flow_rules.specs.Conjunction.{normal_in};
 ghost use Rattle.flow_rules.specs.EventLeaves.{IsBlank};
 ghost use Rattle.flow_excise.specs.declared.refusal.CompileRefusal.TheVariants.{NoMemory};
-ghost use Rattle.flow_excise.specs.Block.{HasWays, options_in};
+ghost use Rattle.flow_excise.specs.Block.{HasWays, IsBlock, IsSomeBlock, options_in};
 ghost use Rattle.flow_excise.specs.Executions.{numbered_options, numbered_ways};
 ghost use Rattle.flow_excise.specs.Options.{ArePrepared, all_options_by, count_in, folded, has_ways, options_by, resolutions_in};
 ghost use Rattle.flow_excise.specs.Sieve.{ArePlannable, HasSifted, HasSiftedTo, Sifts, options_with, IsPlannable};
@@ -18,7 +18,7 @@ use flow_goal::{Choiceless, Tree};
 use flow_rules::{Conjunction, Lanes, LeafEvents, OrderSet, forget_events, note_events};
 use flow_sample::{ExciseRefusal, excise};
 use flow_weave::weave;
-use std::alloc::Global;
+use std::alloc::{AllocError, Global};
 
 /// Looks at one option.
 fn sift(
@@ -153,16 +153,42 @@ fn has_option(met: &[bool], number: u64) -> bool
     false
 }
 
+/// The block of that number: that which was made, if it is the one, else a new one. What was made is kept no longer.
+fn block_of(
+    alloc: Global,
+    tree: &Tree,
+    choices: &FoldedChoices,
+    rules: &Conjunction,
+    number: u64,
+    lanes: &mut Lanes,
+    made: &mut Option<Block>,
+) -> Result<Block, AllocError>
+    requires choices { ArePrepared tree.now choices.now }
+    requires numbered { 64 * number < count_in (folded tree.now choices.now) }
+    requires made { IfSome made.old (IsSomeBlock (folded tree.now choices.now) (normal_in rules.now)) }
+    ensures block { IfOk result (IsBlock (folded tree.now choices.now) (normal_in rules.now) number) }
+    ensures made { made.new ≡ None }
+{
+    if let Some(block) = made.take() {
+        if block.first == 64 * number {
+            return Ok(block);
+        }
+    }
+    Block::new(alloc, tree, choices, rules, number, lanes)
+}
+
 /// Looks at each option, by resolutions in order and then by ways in order. The list says which
-/// resolutions have options. A block with none of them is not made.
+/// resolutions have options. A block with none of them is not made, nor is one that was made before.
 pub(crate) fn sift_all(
     alloc: Global,
     tree: &Tree,
     choices: &FoldedChoices,
     rules: &Conjunction,
     met: &[bool],
+    mut made: Option<Block>,
 ) -> Result<Sieve, CompileRefusal>
     requires choices { ArePrepared tree.now choices.now }
+    requires made { IfSome made (IsSomeBlock (folded tree.now choices.now) (normal_in rules.now)) }
     requires plannable { ArePlannable (all_options_by (folded tree.now choices.now) (normal_in rules.now)) }
     requires met { met.now ≡ map (has_ways (folded tree.now choices.now) (normal_in rules.now)) (resolutions_in (folded tree.now choices.now)) }
     ensures { MatchResult result
@@ -177,7 +203,7 @@ pub(crate) fn sift_all(
     let mut events = LeafEvents::new(alloc);
     for number in 0..blocks(choices.count) {
         if has_option(met, number) {
-            let block = Block::new(alloc, tree, choices, rules, number, &mut lanes)?;
+            let block = block_of(alloc, tree, choices, rules, number, &mut lanes, &mut made)?;
             sift_block(alloc, tree, choices, met, &block, &mut events, &mut sieve)?;
         }
     }

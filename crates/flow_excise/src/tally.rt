@@ -1,17 +1,14 @@
-ghost use Rattle.std.specs.Prelude.{◌≡◌, ◌<◌, ◌≤◌, ◌+◌, ◌==◌, ◌++◌, ◌∷◌, [], ℕ, Bool, not, IfOk, OnOk, length, map};
-ghost use Rattle.flow_model.specs.Ways.{Normal, leaf_of_event};
+ghost use Rattle.std.specs.Prelude.{◌≡◌, ◌<◌, ◌≤◌, ◌+◌, ◌==◌, ◌++◌, ◌∷◌, [], not, IfOk, IfSome, OnOk, length, map};
+ghost use Rattle.flow_model.specs.Ways.{Normal};
 ghost use Rattle.flow_rules.specs.Conjunction.{normal_in};
-ghost use Rattle.flow_rules.specs.WayCount.{count_of};
-ghost use Rattle.flow_rules.specs.EventLeaves.{IsBlank};
-ghost use Rattle.flow_rules.specs.Narrowed.{ways_in};
-ghost use Rattle.flow_excise.specs.Block.{AreHeld, HasWays};
-ghost use Rattle.flow_excise.specs.Options.{ArePrepared, all_options_by, folded, has_ways, resolutions_in, tree_by};
+ghost use Rattle.flow_excise.specs.Block.{AreLeafCounts, AreShown, HasWays, IsSomeBlock};
+ghost use Rattle.flow_excise.specs.Options.{ArePrepared, FoldedTree, all_options_by, folded, has_ways, resolutions_in};
 ghost use Rattle.flow_excise.specs.Tally.{IsCountedTo, added, tally_by, tally_of};
 
 use crate::block::{Block, blocks};
 use crate::folded_choices::FoldedChoices;
 use flow_goal::Tree;
-use flow_rules::{Conjunction, Lanes, LeafEvents, Narrowed, WayCount, forget_events, note_events};
+use flow_rules::{Conjunction, Lanes, WayCount};
 use std::alloc::{AllocError, Global};
 
 /// How many options there are, and how many leaves and pairs in all of them. What would pass the
@@ -71,44 +68,27 @@ impl Counted {
     }
 }
 
-/// How many ways there are in which these leaves meet the rules that are narrowed for their lane.
-fn ways_in_lane(
-    tree: &Tree,
-    narrowed: &Narrowed,
-    lane: u32,
-    leaves: &[u32],
-    events: &mut LeafEvents,
-) -> Result<WayCount, AllocError>
-    requires lane { lane < 64 }
-    requires blank { IsBlank events.old }
-    ensures count { IfOk result (λ count. count ≡ count_of (ways_in narrowed.now lane (leaf_of_event tree.now.labels leaves.now))) }
-    ensures blank { OnOk result (IsBlank events.new) }
-{
-    note_events(tree, leaves, events)?;
-    let count = narrowed.count(lane, events);
-    forget_events(tree, leaves, events);
-    Ok(count)
+/// What was counted of all resolutions, and the block that was made last for it.
+#[derive(Drop)]
+pub(crate) struct WholeTally {
+    pub(crate) tally: Tally,
+    /// Of each resolution, whether it has an option.
+    pub(crate) met: Vec<bool>,
+    /// Where there is one block alone, it needs no second making.
+    pub(crate) last: Option<Block>,
 }
 
 /// Counts the resolutions of a block behind those before it.
-fn tally_block(
-    tree: &Tree,
-    block: &Block,
-    events: &mut LeafEvents,
-    counted: &mut Counted,
-) -> Result<(), AllocError>
-    requires size { length block.now.held.items ≡ block.now.size }
+fn tally_block(block: &Block, lanes: &Lanes, counted: &mut Counted) -> Result<(), AllocError>
+    requires size { length block.now.leaves.items ≡ block.now.size }
     requires few { block.now.size ≤ 64 }
-    requires blank { IsBlank events.old }
-    ensures counted { OnOk result ((apart : ℕ → Bool) (normal : Normal) → AreHeld (tree_by tree.now apart) block.now.first block.now.held.items →
-        HasWays (tree_by tree.now apart) normal block.now → IsCountedTo (tree_by tree.now apart) normal block.now.first counted.old →
-        IsCountedTo (tree_by tree.now apart) normal (block.now.first + block.now.size) counted.new) }
-    ensures blank { OnOk result (IsBlank events.new) }
+    ensures { OnOk result ((t : FoldedTree) (normal : Normal) → AreLeafCounts t block.now.first block.now.leaves.items →
+        AreShown t block.now.first block.now.size lanes.now → HasWays t normal block.now → IsCountedTo t normal block.now.first counted.old →
+        IsCountedTo t normal (block.now.first + block.now.size) counted.new) }
 {
     for lane in 0..block.size {
-        let held = &block.held[lane as usize];
-        let count = ways_in_lane(tree, &block.narrowed, lane, &held.fixed, events)?;
-        counted.add(held.leaves as u64, count)?;
+        let count = block.narrowed.count(lane, lanes);
+        counted.add(block.leaves[lane as usize] as u64, count)?;
     }
     Ok(())
 }
@@ -119,20 +99,26 @@ pub(crate) fn whole_tally(
     tree: &Tree,
     choices: &FoldedChoices,
     rules: &Conjunction,
-) -> Result<Counted, AllocError>
+) -> Result<WholeTally, AllocError>
     requires choices { ArePrepared tree.now choices.now }
     ensures tally { IfOk result (λ counted. counted.tally ≡ tally_of (all_options_by (folded tree.now choices.now) (normal_in rules.now))) }
     ensures met { IfOk result (λ counted. counted.met.items ≡ map (has_ways (folded tree.now choices.now) (normal_in rules.now)) (resolutions_in (folded tree.now choices.now))) }
+    ensures last { IfOk result (λ counted. IfSome counted.last (IsSomeBlock (folded tree.now choices.now) (normal_in rules.now))) }
 {
     let mut counted = Counted {
         tally: NONE,
         met: Vec::new(alloc),
     };
+    let mut last = None;
     let mut lanes = Lanes::new(alloc);
-    let mut events = LeafEvents::new(alloc);
     for number in 0..blocks(choices.count) {
         let block = Block::new(alloc, tree, choices, rules, number, &mut lanes)?;
-        tally_block(tree, &block, &mut events, &mut counted)?;
+        tally_block(&block, &lanes, &mut counted)?;
+        last = Some(block);
     }
-    Ok(counted)
+    Ok(WholeTally {
+        tally: counted.tally,
+        met: counted.met,
+        last,
+    })
 }

@@ -1,8 +1,10 @@
 -- Texts cut at a byte, and the first line of a text with what stands after it.
-use Rattle.std.proofs.Common.{◌≡◌, ℕ, suc, ◌<◌, Bool, true, false, not, List, [], ◌∷◌, ◌++◌, length, take, drop, refl, sym, ◌∙◌, ap, subst, one-add, eqb-true, eq-eqb, ne_eqb, length-append, if◌then◌else◌, arith, Option, Some, None, inl, inr}
+use Rattle.std.proofs.Common.{◌≡◌, ℕ, suc, ◌<◌, Bool, true, false, not, List, [], ◌∷◌, ◌++◌, get_or, length, take, drop, refl, sym, ◌∙◌, ap, subst, one-add, eqb-true, eq-eqb, ne_eqb, length-append, if◌then◌else◌, arith, Option, Some, None, inl, inr}
 use Rattle.std.specs.Prelude.{◌==◌}
 use Rattle.std.specs.List.{position, position_or_len, list_all}
 use Rattle.std.specs.Option.{option_map}
+use Rattle.std.proofs.lemmas.List.Sums.{position_or_len_is}
+use Rattle.memchr.specs.Find.{IsFirstByte, is_byte}
 use Rattle.std.proofs.lemmas.Bool.{and_parts, and_from, and_right, not-true, lt-ltb, le-ltb, cases_Bool, cases_lt}
 use Rattle.flow_record.specs.Lines.{with_byte, stripped, without_returns, lines_of, cut_at, pieces_of}
 
@@ -37,6 +39,22 @@ parts_are byte text x y e = subst (IsCut byte text) e (cut_is byte text)
 
 pub uncut_lacks : (byte : ℕ) (text : List ℕ) → cut_at byte text ≡ None → lacks byte text ≡ true
 uncut_lacks byte text e = subst (IsCut byte text) e (cut_is byte text)
+
+-- the first place of a byte, as a search tells it
+
+not_passed : (b : Bool) → ¬ (b ≡ true) → b ≡ false
+not_passed true none = absurd (none refl)
+not_passed false none = refl
+
+pub first_place : (byte : ℕ) (text : List ℕ) (found : Option ℕ) → IsFirstByte (is_byte byte) text found → found ≡ position (λ b. b == byte) text
+first_place byte text None none =
+    let at : position_or_len (λ b. b == byte) text ≡ length text =
+    position_or_len_is (λ b. b == byte) text (length text) 0 (omega arith) (λ k below. not_passed (get_or text k 0 == byte) (none k (omega arith) below)) (λ below. absurd (omega arith)) in
+    rw (at, le-ltb (length text) (length text) (omega arith)) refl
+first_place byte text (Some k) (first, passes) =
+    let at : position_or_len (λ b. b == byte) text ≡ k =
+    position_or_len_is (λ b. b == byte) text k 0 (omega (arith, first.high)) (λ j below. not_passed (get_or text j 0 == byte) (first.before j (omega arith) below)) (λ below. passes) in
+    rw (at, lt-ltb k (length text) first.high) refl
 
 -- it is cut at the first place of the byte
 pub cut_at_place : (byte : ℕ) (text : List ℕ) → cut_at byte text ≡ option_map (λ n. (take n text, drop (suc n) text)) (position (λ b. b == byte) text)

@@ -3,6 +3,8 @@ ghost use Rattle.std.specs.List.{position};
 ghost use Rattle.flow_record.specs.Lines.{without_returns, lines_of, stripped, cut_at};
 ghost use Rattle.std.specs.Str.{bytes_eq};
 
+use memchr::memchr;
+
 /// The first line of a text that is not empty, and the text after its line feed.
 pub(crate) fn split_line(text: &[u8]) -> (&[u8], &[u8])
     requires { 0 < length text.now }
@@ -19,7 +21,7 @@ pub(crate) fn split_line(text: &[u8]) -> (&[u8], &[u8])
 fn place_of(text: &[u8], byte: u8) -> Option<usize>
     ensures { result ≡ position (λ b. b == byte) text.now }
 {
-    text.iter().position(|b| *b == byte)
+    memchr(byte, text)
 }
 
 /// A line without the carriage return at its end, if it has one.

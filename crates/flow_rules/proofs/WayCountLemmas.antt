@@ -1,5 +1,6 @@
 -- How many ways lists have that are put together, and how many pairs.
-use Rattle.std.proofs.Common.{◌≡◌, ℕ, suc, ◌+◌, ◌*◌, ◌-◌, ◌^◌, ◌==◌, Bool, true, false, ◌||◌, ◌&&◌, if◌then◌else◌, List, [], ◌∷◌, ◌++◌, length, map, refl, sym, ap, ◌∙◌, inl, inr, arith}
+use Rattle.std.proofs.Common.{◌≡◌, ℕ, suc, ◌+◌, ◌*◌, ◌-◌, ◌^◌, ◌==◌, Bool, true, false, ◌||◌, ◌&&◌, if◌then◌else◌, not, true≢false, List, [], ◌∷◌, ◌++◌, length, map, Option, Some, None, refl, sym, ap, ◌∙◌, inl, inr, arith}
+use Rattle.std.specs.Option.{is_some}
 use Rattle.std.proofs.Math.Nat.{zero-mul, mul-zero, suc-mul, mul-suc, add-mul}
 use Rattle.std.proofs.lemmas.Bool.{ne_eqb}
 use Rattle.std.proofs.lemmas.List.{length-append}
@@ -9,7 +10,7 @@ use Rattle.flow_model.specs.Ways.{free_way, is_free}
 use Rattle.flow_goal.specs.Capped.{capped}
 use Rattle.flow_goal.proofs.Counting.{min_cases, product_capped, sum_capped}
 use Rattle.flow_rules.specs.WayCount.{count_of, counts_beside, counts_of_both, is_free_count}
-use Rattle.flow_rules.specs.WayLists.{both_ways, either_way, is_none}
+use Rattle.flow_rules.specs.WayLists.{both_ways, decided, either_way, is_none, ways_of_pair}
 
 -- lengths
 
@@ -81,3 +82,13 @@ count_beside vs ws p q =
 pub none_left : (ws : List (List (ℕ × ℕ))) → ((count_of ws).ways == 0) ≡ is_none ws
 none_left [] = refl
 none_left (w ∷ ws) = some_left (length ws)
+
+-- two events
+
+pub pair_there : (wanted : Bool) (pair : Option (ℕ × ℕ)) → is_some pair ≡ true → record { ways = 1; pairs = 1 } ≡ count_of (ways_of_pair wanted pair)
+pair_there wanted None there = absurd (true≢false (sym there))
+pair_there wanted (Some pair) there = refl
+
+pub none_there : (wanted : Bool) (pair : Option (ℕ × ℕ)) → is_some pair ≡ false → decided (not wanted) ≡ ways_of_pair wanted pair
+none_there wanted None none = refl
+none_there wanted (Some pair) none = absurd (true≢false none)

@@ -1,5 +1,5 @@
 -- How many ways a list has, and how many pairs, in 64 bits.
-use Rattle.std.specs.Prelude.{ℕ, ◌+◌, ◌*◌, ◌==◌, Bool, ◌&&◌, List, length}
+use Rattle.std.specs.Prelude.{◌≡◌, ℕ, ◌+◌, ◌*◌, ◌==◌, Bool, ◌&&◌, List, Option, is_some, length}
 use Rattle.flow_model.specs.Lists.{joined}
 use Rattle.flow_goal.specs.Capped.{capped}
 use Rattle.flow_rules.specs.declared.way_count.WayCount.{WayCount}
@@ -22,3 +22,7 @@ counts_of_both c d = record {
 -- the counts of ways and others, where neither has the one that asks for nothing
 abbrev pub counts_beside : WayCount → WayCount → WayCount
 counts_beside c d = record { ways = capped (c.ways + d.ways); pairs = capped (c.pairs + d.pairs) }
+
+-- it tells of each event whether it has a leaf
+abbrev pub Tells : (ℕ → Bool) → (ℕ → Option ℕ) → Type 0
+Tells present leaf = (event : ℕ) → present event ≡ is_some (leaf event)

@@ -12,6 +12,7 @@ use crate::leaf_table::LeafEvents;
 use crate::narrow::narrow_rule;
 use crate::normal::Nnf;
 use crate::order_set::OrderSet;
+use crate::presence::Lane;
 use crate::standing::{Standing, standing_of};
 use crate::way_count::{FREE, NONE, WayCount, count_ways};
 use crate::way_lists::{free_way, with_rule};
@@ -108,14 +109,13 @@ pub(crate) fn narrow_each(
     })
 }
 
-fn count_open(rules: &[LaneRule], lane: u32, events: &LeafEvents) -> WayCount
-    requires { lane < 64 }
-    ensures { result ≡ count_of (open_ways lane (leaf_in events.now) rules.now) }
+fn count_open(rules: &[LaneRule], one: &Lane) -> WayCount
+    ensures { (leaf : ℕ → Option ℕ) → Shows one.now.lanes.now one.now.lane leaf → result ≡ count_of (open_ways one.now.lane leaf rules.now) }
 {
     let mut count = FREE;
     for rule in rules {
-        if has_lane(rule.lanes, lane) {
-            count = count.both(count_ways(&rule.rule, events));
+        if has_lane(rule.lanes, one.lane) {
+            count = count.both(count_ways(&rule.rule, one));
         }
     }
     count
@@ -140,15 +140,15 @@ fn list_open(
 }
 
 impl Narrowed {
-    /// How many ways there are in a lane, by the leaves of its events. It takes no memory.
-    pub fn count(&self, lane: u32, events: &LeafEvents) -> WayCount
+    /// How many ways there are in a lane, by which events have a leaf there. It takes no memory.
+    pub fn count(&self, lane: u32, lanes: &Lanes) -> WayCount
         requires { lane < 64 }
-        ensures { result ≡ count_of (ways_in self.now lane (leaf_in events.now)) }
+        ensures { (leaf : ℕ → Option ℕ) → Shows lanes.now lane leaf → result ≡ count_of (ways_in self.now lane leaf) }
     {
         if has_lane(self.unmet, lane) {
             return NONE;
         }
-        count_open(&self.rules, lane, events)
+        count_open(&self.rules, &Lane { lanes, lane })
     }
 
     /// The ways in a lane, in order, by the leaves of its events.

@@ -1,13 +1,13 @@
-ghost use Rattle.std.specs.Prelude.{◌≡◌};
+ghost use Rattle.std.specs.Prelude.{◌≡◌, ℕ, Bool, Option, is_some};
 ghost use Rattle.flow_model.specs.Ways as model;
 ghost use Rattle.flow_model.specs.declared.operators.Connective.TheVariants.{And, Or};
 ghost use Rattle.flow_rules.specs.WayCount.{count_of, counts_beside, counts_of_both, is_free_count};
-ghost use Rattle.flow_rules.specs.EventLeaves.{leaf_in};
 ghost use Rattle.flow_rules.specs.Normal.{normal_of};
-ghost use Rattle.flow_rules.specs.WayLists.{decided, ways_of_pair, ways_of_parts};
+ghost use Rattle.flow_rules.specs.WayCount.{Tells};
+ghost use Rattle.flow_rules.specs.WayLists.{decided, pair_in, ways_of_pair, ways_of_parts};
 
-use crate::leaf_table::LeafEvents;
 use crate::normal::Nnf;
+use crate::presence::Presence;
 use flow_model::Connective;
 
 /// How many ways there are, and how many pairs in all of them. What would pass the greatest number
@@ -65,20 +65,30 @@ impl WayCount {
     }
 }
 
-/// One way with the pair, or where there is none what is decided of it.
-fn order(wanted: bool, pair: Option<(u32, u32)>) -> WayCount
-    ensures { result ≡ count_of (ways_of_pair wanted pair) }
+/// Whether two events have a leaf each.
+fn both_present<E: Presence>(events: &E, first: u32, second: u32) -> bool
+    ensures { (leaf : ℕ → Option ℕ) (wanted : Bool) → Tells (E.present events.now) leaf →
+        result ≡ is_some (pair_in leaf wanted first second) }
 {
-    match pair {
-        Some(_) => PAIR,
-        None => WayCount::decided(!wanted),
+    first != second && events.has(first) && events.has(second)
+}
+
+/// One way with the pair of two events, or where there is no pair what is decided of it.
+fn order<E: Presence>(events: &E, wanted: bool, first: u32, second: u32) -> WayCount
+    ensures { (leaf : ℕ → Option ℕ) → Tells (E.present events.now) leaf →
+        result ≡ count_of (ways_of_pair wanted (pair_in leaf wanted first second)) }
+{
+    if both_present(events, first, second) {
+        PAIR
+    } else {
+        WayCount::decided(!wanted)
     }
 }
 
 /// How many ways there are to meet all parts. It ends where one of them can't be met.
 #[cycle(counting)]
-fn count_all(parts: &[Nnf], events: &LeafEvents) -> WayCount
-    ensures { result ≡ count_of (ways_of_parts And (leaf_in events.now) parts.now) }
+fn count_all<E: Presence>(parts: &[Nnf], events: &E) -> WayCount
+    ensures { (leaf : ℕ → Option ℕ) → Tells (E.present events.now) leaf → result ≡ count_of (ways_of_parts And leaf parts.now) }
 {
     let mut count = FREE;
     for part in parts {
@@ -93,8 +103,8 @@ fn count_all(parts: &[Nnf], events: &LeafEvents) -> WayCount
 
 /// How many ways there are to meet some part. It ends where one of them is met in any order.
 #[cycle(counting)]
-fn count_any(parts: &[Nnf], events: &LeafEvents) -> WayCount
-    ensures { result ≡ count_of (ways_of_parts Or (leaf_in events.now) parts.now) }
+fn count_any<E: Presence>(parts: &[Nnf], events: &E) -> WayCount
+    ensures { (leaf : ℕ → Option ℕ) → Tells (E.present events.now) leaf → result ≡ count_of (ways_of_parts Or leaf parts.now) }
 {
     let mut count = NONE;
     for part in parts {
@@ -107,15 +117,15 @@ fn count_any(parts: &[Nnf], events: &LeafEvents) -> WayCount
     count
 }
 
-/// How many ways there are in which the leaves meet the rule. It takes no memory.
+/// How many ways there are in which the leaves meet the rule: it is enough to know which events have one. It takes no memory.
 #[cycle(counting)]
 #[inline(always)]
-pub fn count_ways(rule: &Nnf, events: &LeafEvents) -> WayCount
-    ensures { result ≡ count_of (model.ways (normal_of rule.now) (leaf_in events.now)) }
+pub fn count_ways<E: Presence>(rule: &Nnf, events: &E) -> WayCount
+    ensures { (leaf : ℕ → Option ℕ) → Tells (E.present events.now) leaf → result ≡ count_of (model.ways (normal_of rule.now) leaf) }
 {
     match rule {
-        Nnf::Event(wanted, event) => WayCount::decided(events.meets(*wanted, *event)),
-        Nnf::Order(wanted, first, second) => order(*wanted, events.pair(*wanted, *first, *second)),
+        Nnf::Event(wanted, event) => WayCount::decided(events.has(*event) == *wanted),
+        Nnf::Order(wanted, first, second) => order(events, *wanted, *first, *second),
         Nnf::Parts(connective, parts) => match connective {
             Connective::And => count_all(parts, events),
             Connective::Or => count_any(parts, events),

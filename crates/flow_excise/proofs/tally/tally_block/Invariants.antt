@@ -1,14 +1,10 @@
-use Rattle.std.proofs.Common.{◌+◌, ℕ, Bool}
+use Rattle.std.proofs.Common.{◌+◌}
 use Rattle.flow_model.specs.Ways.{Normal}
-use Rattle.flow_rules.specs.EventLeaves.{IsBlank}
-use Rattle.flow_excise.specs.Block.{AreHeld, HasWays}
-use Rattle.flow_excise.specs.Options.{tree_by}
+use Rattle.flow_excise.specs.Block.{AreLeafCounts, AreShown, HasWays}
+use Rattle.flow_excise.specs.Options.{FoldedTree}
 use Rattle.flow_excise.specs.Tally.{IsCountedTo}
 use Rattle.flow_excise.proofs.tally.tally_block.Given as goal
 
 abbrev pub invariant-loop-lane : goal.invariant-loop-lane
-invariant-loop-lane l = record {
-  blank : IsBlank l.events;
-  counted : (apart : ℕ → Bool) (normal : Normal) → AreHeld (tree_by l.tree apart) l.block.first l.block.held.items → HasWays (tree_by l.tree apart) normal l.block →
-      IsCountedTo (tree_by l.tree apart) normal l.block.first l.fn.counted → IsCountedTo (tree_by l.tree apart) normal (l.block.first + l.lane) l.counted;
-}
+invariant-loop-lane l = (t : FoldedTree) (normal : Normal) → AreLeafCounts t l.block.first l.block.leaves.items → AreShown t l.block.first l.block.size l.lanes →
+    HasWays t normal l.block → IsCountedTo t normal l.block.first l.fn.counted → IsCountedTo t normal (l.block.first + l.lane) l.counted

@@ -3,7 +3,7 @@ use Rattle.std.specs.List.{flat_map}
 use Rattle.flow_rules.specs.Conjunction.{normal_in}
 use Rattle.flow_excise.specs.Options.{count_in, folded, has_ways, options_by}
 use Rattle.flow_excise.specs.Tally.{IsCountedTo, tally_of}
-use Rattle.flow_excise.proofs.BlockLemmas.{block_end, last_block, more_blocks}
+use Rattle.flow_excise.proofs.BlockLemmas.{block_end, last_block, more_blocks, some_block}
 use Rattle.flow_excise.proofs.TallyLemmas.{counted_same}
 use Rattle.flow_excise.proofs.tally.whole_tally.Goals as goal
 
@@ -18,11 +18,11 @@ loop-number-preserved c =
     let number = c.loop-number.number in
     let block = c.in_ok-block.block in
     let more : 64 * number < count_in tree = more_blocks (count_in tree) number c.blocks-number-end.result (c.blocks-number-end.ensures ∙ ap (λ n. (n + 63) / 64) c.requires.choices.counted) c.loop-number-test.true in
+    let so_far = subst (λ k. IsCountedTo tree normal k c.loop-number.counted) (sym c.in_ok-block.ensures.block.first) c.loop-number.invariant.counted in
     record {
-      blank = c.in_ok-tally_block.ensures.blank;
-      counted = counted_same tree normal (block.first + block.size) (64 * (number + 1)) c.tally_block.new.counted (block_end tree normal number block c.in_ok-block.ensures more)
-          (c.in_ok-tally_block.ensures.counted tree.apart normal c.in_ok-block.ensures.held c.in_ok-block.ensures.ways
-          (subst (λ k. IsCountedTo tree normal k c.loop-number.counted) (sym c.in_ok-block.ensures.first) c.loop-number.invariant.counted));
+      counted = counted_same tree normal (block.first + block.size) (64 * (number + 1)) c.tally_block.new.counted (block_end tree normal number block c.in_ok-block.ensures.block more)
+          (c.in_ok-tally_block.ensures tree normal c.in_ok-block.ensures.block.leaves c.in_ok-block.ensures.shown c.in_ok-block.ensures.block.ways so_far);
+      last = some_block tree normal number block c.in_ok-block.ensures.block;
     }
 
 pub returns-clause-tally : goal.returns-clause-tally
