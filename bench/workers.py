@@ -9,8 +9,8 @@ worker that is, or how many times as fast. The numbers of workers take turns in 
 more), or sixteen less than 12 times as fast over tasks that sleep. The last table has eight busy processes beside four processors, or
 twice as many as there are.
 
-The program is bench/workers/main.txt. It is proved and built in a temporary folder, over the crates of this repository, which takes
-some minutes, and more where they are not proved yet.
+The program is bench/workers/main.txt. `prove` proves and builds it in a temporary folder, over a copy of the crates of this repository:
+what `./prove` proved here is not proved again, so it takes some two minutes after it, and half as long as all of `./prove` without.
 """
 import os
 import pathlib
@@ -36,17 +36,17 @@ TABLES = [
 def build(place):
     """The program, proved and built in the folder over a copy of the crates. What was proved here is not proved again."""
     shutil.copytree(TOP / "crates", place / "crates", symlinks=True)
-    shutil.copy(TOP / "HANDLES", place)
+    for name in ["HANDLES", "prove"]:
+        shutil.copy(TOP / name, place)
     (place / "crates.txt").write_text((TOP / "crates.txt").read_text() + LINE)
     crate = place / "crates" / CRATE
     for name, file in PLACES.items():
         (crate / file).parent.mkdir(parents=True, exist_ok=True)
         shutil.copy(TOP / f"bench/workers/{name}.txt", crate / file)
-    for command in [["rt", "check", "--jobs", "2"], ["rt", "run", "--jobs", "1", "--", "none", "0", "1", "1", "1"]]:
-        made = subprocess.run(command, cwd=crate, stdout=subprocess.PIPE, stderr=subprocess.STDOUT, text=True, check=False)
-        if made.returncode != 0:
-            sys.exit(made.stdout[-4000:])
-    return crate
+    made = subprocess.run(["./prove", CRATE], cwd=place, stdout=subprocess.PIPE, stderr=subprocess.STDOUT, text=True, check=False)
+    if made.returncode != 0:
+        sys.exit(made.stdout[-4000:])
+    return crate / "out" / CRATE
 
 
 def measured(call, kind, micros, events, times, workers):
@@ -78,7 +78,7 @@ def is_fine(kind, took):
 def main():
     fine = True
     with tempfile.TemporaryDirectory() as folder:
-        program = sys.argv[1] if sys.argv[1:] else build(pathlib.Path(folder)) / "out" / CRATE
+        program = sys.argv[1] if sys.argv[1:] else build(pathlib.Path(folder))
         call = [os.path.abspath(program)]
         for kind, *rest in TABLES:
             took = measured(call, kind, *rest)
