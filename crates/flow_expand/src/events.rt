@@ -5,7 +5,7 @@ ghost use Rattle.flow_form.specs.Names.{event_names};
 ghost use Rattle.flow_expand.specs.Numbers.{notes_of};
 
 use flow_facts::Name;
-use flow_form::{Decl, declared_key};
+use flow_form::{Decl, names_key};
 use flow_model::Note;
 use flow_workflow::Numbered;
 use std::alloc::{AllocError, Global};
@@ -23,7 +23,7 @@ impl Events {
         ensures names { IfOk result (λ events. events.names ≡ event_names (map declared decls.now)) }
         ensures notes { IfOk result (λ events. events.notes.items ≡ notes_of (map declared decls.now)) }
     {
-        let mut names = Numbered::new(alloc, declared_key(decls));
+        let mut names = Numbered::new(alloc, names_key(decls));
         let mut notes = Vec::new(alloc);
         for decl in decls {
             if let Decl::Event(name, note) = decl {

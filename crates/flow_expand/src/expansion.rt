@@ -30,7 +30,7 @@ fn goal_of(
     ensures unique { IfOk result (λ goal. HoldsNoneTwice goal.tree) }
 {
     let laid = prepare(alloc, script, events)?;
-    let goal = number(alloc, events.text(), script, &laid)?;
+    let goal = number(alloc, script, &laid)?;
     let again = twice_by_table(alloc, &goal.tree)?;
     if let Some(found) = again {
         drop(goal);

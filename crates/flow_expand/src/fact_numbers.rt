@@ -2,8 +2,8 @@ ghost use Rattle.std.specs.Prelude.{◌≡◌, IfOk, OnOk, map};
 ghost use Rattle.flow_form.specs.Script.{declared};
 ghost use Rattle.flow_expand.specs.Numbers.{with_fact, fact_number, firsts, declared_facts};
 
-use flow_facts::{Fact, TextKey};
-use flow_form::Decl;
+use flow_facts::Fact;
+use flow_form::{Decl, facts_key};
 use flow_workflow::Numbered;
 use std::alloc::{AllocError, Global};
 
@@ -20,14 +20,10 @@ pub(crate) fn number_fact(
 }
 
 /// The facts that are declared, each where it comes first.
-pub(crate) fn declared_fact_set(
-    alloc: Global,
-    text: TextKey,
-    decls: &[Decl],
-) -> Result<Numbered<Fact>, AllocError>
+pub(crate) fn declared_fact_set(alloc: Global, decls: &[Decl]) -> Result<Numbered<Fact>, AllocError>
     ensures { IfOk result (λ facts. facts ≡ firsts (declared_facts (map declared decls.now))) }
 {
-    let mut facts = Numbered::new(alloc, text);
+    let mut facts = Numbered::new(alloc, facts_key(decls));
     for decl in decls {
         if let Decl::Fact(fact) = decl {
             number_fact(alloc, &mut facts, fact)?;

@@ -10,7 +10,6 @@ ghost use Rattle.flow_expand.specs.NumberedGoal.{IsNumberedGoal};
 use crate::fact_numbers::declared_fact_set;
 use crate::laid_goal::LaidGoal;
 use crate::leaves::{Leaves, build};
-use flow_facts::TextKey;
 use flow_form::Script;
 use flow_goal::{Goal, Tree};
 use flow_model::Label;
@@ -53,7 +52,6 @@ fn tree_of(goal: Goal, labels: Vec<Label>) -> Tree
 /// Builds the goal of the layout. The facts that are declared have the first numbers.
 pub(crate) fn number(
     alloc: Global,
-    text: TextKey,
     script: &Script,
     laid: &LaidGoal<'_>,
 ) -> Result<NumberedGoal, AllocError>
@@ -61,7 +59,7 @@ pub(crate) fn number(
     requires prepared { IsPrepared (said script.now) laid.now.layout.items laid.now.root }
     ensures { IfOk result (IsNumberedGoal (said script.now)) }
 {
-    let facts = declared_fact_set(alloc, text, &script.decls)?;
+    let facts = declared_fact_set(alloc, &script.decls)?;
     let held = numbers_below(alloc, facts.count())?;
     let labels = Vec::new(alloc);
     let mut leaves = Leaves { facts, labels };

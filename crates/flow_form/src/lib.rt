@@ -13,4 +13,4 @@ pub use form::Form;
 pub use query::Query;
 pub use refusal::{TextRefusal, Wanted};
 pub use rule_form::RuleForm;
-pub use script::{Decl, Script, declared_key};
+pub use script::{Decl, Script, facts_key, names_key};

@@ -14,14 +14,24 @@ pub enum Decl {
     Flow(Name, Form),
 }
 
-/// The key of the tables of a text's names and facts, made of the names and facts that are declared. Facts that stand at leaves
-/// alone are not in it: there are no more of them than leaves.
-pub fn declared_key(decls: &[Decl]) -> TextKey {
+/// The key of the tables of a text's names, made of the names that are declared.
+pub fn names_key(decls: &[Decl]) -> TextKey {
     let mut read = DefaultHasher::new();
     for decl in decls {
-        match decl {
-            Decl::Fact(fact) => fact.hash(&mut read),
-            Decl::Event(name, _) | Decl::Flow(name, _) => name.hash(&mut read),
+        if let Decl::Event(name, _) | Decl::Flow(name, _) = decl {
+            name.hash(&mut read);
+        }
+    }
+    TextKey::of(&read)
+}
+
+/// The key of the table of a text's facts, made of the facts that are declared. Those that stand at leaves alone are not in it:
+/// there are no more of them than leaves.
+pub fn facts_key(decls: &[Decl]) -> TextKey {
+    let mut read = DefaultHasher::new();
+    for decl in decls {
+        if let Decl::Fact(fact) = decl {
+            fact.hash(&mut read);
         }
     }
     TextKey::of(&read)

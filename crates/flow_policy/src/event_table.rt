@@ -7,7 +7,7 @@ ghost use Rattle.flow_workflow.specs.Numbers.{event_number};
 ghost use Rattle.flow_policy.specs.Numbering.{IsEventTable};
 
 use flow_facts::Name;
-use flow_form::{Decl, declared_key};
+use flow_form::{Decl, names_key};
 use flow_workflow::Numbered;
 use std::alloc::{AllocError, Global};
 
@@ -26,7 +26,7 @@ fn no_events(alloc: Global, decls: &[Decl]) -> EventTable
     ensures { IsEventTable [] result }
 {
     EventTable {
-        names: Numbered::new(alloc, declared_key(decls)),
+        names: Numbered::new(alloc, names_key(decls)),
         places: Vec::new(alloc),
         count: 0,
     }

@@ -1,4 +1,4 @@
-ghost use Rattle.std.specs.Prelude.{◌≡◌, ◌<◌, ◌==◌, ◌&&◌, ◌||◌, ℕ, false, is_some, length, IfSome, OnErr, OnOk};
+ghost use Rattle.std.specs.Prelude.{◌≡◌, ◌<◌, ◌==◌, ◌&&◌, ◌||◌, ℕ, false, get_or, is_some, length, IfSome, OnErr, OnOk};
 ghost use Rattle.flow_model.specs.Facts.{is_event};
 ghost use Rattle.flow_model.specs.Ways as model;
 
@@ -11,6 +11,16 @@ use std::alloc::{AllocError, Global};
 #[derive(Drop)]
 pub struct Lanes {
     words: Vec<u64>,
+}
+
+/// The word of an event: none is marked where there is no such word.
+pub(crate) fn word_at(words: &[u64], event: u32) -> u64
+    ensures { result ≡ get_or words.now event 0 }
+{
+    match words.get(event as usize) {
+        Some(word) => *word,
+        None => 0,
+    }
 }
 
 impl Lanes {
@@ -29,10 +39,14 @@ impl Lanes {
     pub(crate) fn lanes_of(&self, event: u32) -> u64
         ensures { result ≡ word_of self.now event }
     {
-        match self.words.get(event as usize) {
-            Some(word) => *word,
-            None => 0,
-        }
+        word_at(&self.words, event)
+    }
+
+    /// The words by events.
+    pub(crate) fn words(&self) -> &[u64]
+        ensures { result.now ≡ self.now.words.items }
+    {
+        &self.words
     }
 
     /// Marks the event in a lane, if there is one.

@@ -1,8 +1,8 @@
 ghost use Rattle.std.specs.Prelude.{◌≡◌, ◌<◌, ℕ, Option, IfOk};
 ghost use Rattle.flow_model.specs.declared.operators.Connective.TheVariants.{And};
-ghost use Rattle.flow_rules.specs.WayCount.{count_of};
+ghost use Rattle.flow_rules.specs.WayCount.{Tells, count_of};
 ghost use Rattle.flow_rules.specs.EventLeaves.{leaf_in};
-ghost use Rattle.flow_rules.specs.Lanes.{Shows};
+ghost use Rattle.flow_rules.specs.Lanes.{Shows, is_marked};
 ghost use Rattle.flow_rules.specs.Narrowed.{AreFree, IsUnmet, LeftOf, open_ways, ways_in};
 ghost use Rattle.flow_rules.specs.Standing.{has_lane};
 ghost use Rattle.flow_rules.specs.WayLists.{ways_of_sets, ways_of_parts};
@@ -110,7 +110,7 @@ pub(crate) fn narrow_each(
 }
 
 fn count_open(rules: &[LaneRule], one: &Lane) -> WayCount
-    ensures { (leaf : ℕ → Option ℕ) → Shows one.now.lanes.now one.now.lane leaf → result ≡ count_of (open_ways one.now.lane leaf rules.now) }
+    ensures { (leaf : ℕ → Option ℕ) → Tells (is_marked one.now.words.now one.now.lane) leaf → result ≡ count_of (open_ways one.now.lane leaf rules.now) }
 {
     let mut count = FREE;
     for rule in rules {
@@ -148,7 +148,8 @@ impl Narrowed {
         if has_lane(self.unmet, lane) {
             return NONE;
         }
-        count_open(&self.rules, &Lane { lanes, lane })
+        let words = lanes.words();
+        count_open(&self.rules, &Lane { words, lane })
     }
 
     /// The ways in a lane, in order, by the leaves of its events.

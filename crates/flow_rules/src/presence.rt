@@ -1,6 +1,6 @@
 ghost use Rattle.std.specs.Prelude.{◌<◌};
 
-use crate::lanes::Lanes;
+use crate::lanes::word_at;
 use crate::leaf_table::LeafEvents;
 
 /// What tells of events whether they have a leaf.
@@ -26,20 +26,20 @@ impl Presence for LeafEvents {
     }
 }
 
-/// One of up to 64 maps side by side.
+/// One of up to 64 maps side by side, whose words are lent.
 #[derive(Drop)]
 pub(crate) struct Lane<'a> {
-    pub(crate) lanes: &'a Lanes,
+    pub(crate) words: &'a [u64],
     pub(crate) lane: u32,
     ghost within: { lane < 64 },
 }
 
 impl<'a> Presence for Lane<'a> {
-    ghost use Rattle.flow_rules.specs.Lanes.{has_event};
+    ghost use Rattle.flow_rules.specs.Lanes.{is_marked};
 
-    ghost present = { λ one event. has_event one.lanes.now one.lane event };
+    ghost present = { λ one event. is_marked one.words.now one.lane event };
 
     fn has(&self, event: u32) -> bool {
-        self.lanes.lanes_of(event) >> self.lane & 1 == 1
+        word_at(self.words, event) >> self.lane & 1 == 1
     }
 }

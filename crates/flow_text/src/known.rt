@@ -5,7 +5,7 @@ ghost use Rattle.flow_text.specs.KnownNames.{has, has_as_event, is_unknown, Know
 
 use crate::named::Named;
 use flow_facts::{Name, TextKey};
-use flow_form::{Decl, declared_key};
+use flow_form::{Decl, names_key};
 use indexmap::IndexMap;
 use std::alloc::{AllocError, Global};
 
@@ -30,7 +30,7 @@ impl<'a> Known<'a> {
         ensures { IfOk result (λ known. KnowsThose (map declared decls.now) known) }
     {
         let mut known = Known {
-            names: IndexMap::with_hasher(alloc, declared_key(decls)),
+            names: IndexMap::with_hasher(alloc, names_key(decls)),
             is_again: false,
         };
         for decl in decls {

@@ -1,6 +1,6 @@
 -- Keys by their numbers.
-use Rattle.std.proofs.Common.{◌≡◌, ℕ, ◌+◌, ◌<◌, ◌≤◌, ◌^◌, Bool, true, false, ◌||◌, List, [], ◌∷◌, ◌++◌, length, get_or, slice_get, position, Some, refl, sym, ap, ◌∙◌, subst, inl, inr, Result, Ok, Err, OnOk, IfOk, arith}
-use Rattle.std.specs.Prelude.{OnErr, if◌then◌else◌}
+use Rattle.std.proofs.Common.{◌≡◌, ℕ, ◌+◌, ◌<◌, ◌^◌, Bool, true, false, ◌||◌, List, [], ◌∷◌, ◌++◌, length, get_or, slice_get, position, Some, refl, sym, ap, ◌∙◌, subst, inl, inr, arith}
+use Rattle.std.specs.Prelude.{if◌then◌else◌}
 use Rattle.std.specs.List.{list_any}
 use Rattle.std.proofs.lemmas.List.{length-append}
 use Rattle.std.proofs.lemmas.List.Quantifiers.{position-Some}
@@ -8,8 +8,7 @@ use Rattle.std.proofs.lemmas.Option.{slice_get-get_or}
 use Rattle.indexmap.specs.IndexSet.{insert_key}
 use Rattle.flow_model.specs.Lists.{◌∈◌}
 use Rattle.flow_workflow.specs.Numbered.{AreNumbered, IsAdded}
-use Rattle.flow_model.proofs.Lists.{mem-slice_get}
-use Rattle.flow_workflow.proofs.Places.{at_end, distinct_more}
+use Rattle.flow_workflow.proofs.Places.{distinct_more}
 
 module _ {K : Type 0} (eq : K → K → Bool) where
   -- a member is found
@@ -57,21 +56,20 @@ numbered_more old new key are other few grown = subst AreNumbered (sym grown) (r
   few = omega (arith, length-append old (key ∷ []), few);
 })
 
--- a key that was put in was added
-pub put_added : {K E : Type 0} (r : Result ℕ E) (old new : List K) (key : K) → ¬ (key ∈ old) → OnOk r (new ≡ old ++ key ∷ []) → OnOk r (IsAdded old key new)
-put_added (Ok n) old new key other grown = record { there = λ m. absurd (other m); missing = λ _. grown }
-put_added (Err e) old new key other grown = grown
+module _ {K : Type 0} (eq : K → K → Bool) (itself : (k : K) → eq k k ≡ true) (same : (a b : K) → eq a b ≡ true → a ≡ b) where
+  -- a key that is put in was added
+  pub key_added : (keys now : List K) (k : K) → keys ≡ now → IsAdded now k (insert_key eq keys k)
+  key_added keys now k is = subst (λ old. IsAdded old k (insert_key eq keys k)) is (record {
+    there = λ m. ap (λ b. if b then keys else keys ++ k ∷ []) (list_any-member eq itself keys k m);
+    missing = λ new. insert_key-new eq same keys k new;
+  })
 
--- its number is its place
-pub put_numbered : {K E : Type 0} (r : Result ℕ E) (old new : List K) (key : K) → OnOk r (new ≡ old ++ key ∷ []) → IfOk r (λ n. n ≡ length old) → IfOk r (λ n. slice_get new n ≡ Some key)
-put_numbered (Ok n) old new key grown last = (λ i. slice_get (grown i) (last i)) ∙ at_end old key
-put_numbered (Err e) old new key grown last = last
-
--- a key put at the end, or none
-pub put_few : {K E : Type 0} (r : Result ℕ E) (old new : List K) (key : K) → OnOk r (new ≡ old ++ key ∷ []) → OnErr r (new ≡ old) → length new ≤ length old + 1
-put_few (Ok n) old new key is same = omega (arith, ap length is, length-append old (key ∷ []))
-put_few (Err e) old new key is same = omega (arith, ap length same)
-
--- a key that stands somewhere is there already
-pub found_added : {K : Type 0} (keys : List K) (key : K) (n : ℕ) → slice_get keys n ≡ Some key → IsAdded keys key keys
-found_added keys key n at = record { there = λ _. refl; missing = λ out. absurd (out (mem-slice_get keys n key at)) }
+  -- with it the keys are numbered
+  pub key_numbered : (keys : List K) (k : K) → AreNumbered keys → length keys + 1 < 2 ^ 32 → AreNumbered (insert_key eq keys k)
+  key_numbered keys k are few = by (list_any (eq k) keys) refl
+    where
+      by : (b : Bool) → list_any (eq k) keys ≡ b → AreNumbered (insert_key eq keys k)
+      by true e = subst AreNumbered (sym (ap (λ b. if b then keys else keys ++ k ∷ []) e)) are
+      by false e =
+          let new = not_found eq itself keys keys k refl (sym e) in
+          numbered_more keys (insert_key eq keys k) k are new few (insert_key-new eq same keys k new)

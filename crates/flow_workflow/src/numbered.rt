@@ -82,25 +82,22 @@ impl<K: Key> Numbered<K> {
         ensures few { length self.new ≤ length self.old + 1 }
         ensures err { OnErr result (self.new ≡ self.old) }
     {
-        match self.places.get_index_of(key) {
-            Some(place) => Ok(place as u32),
-            None => self.put(key.twin(alloc)?),
+        if self.places.len() < u32::MAX as usize {
+            return self.put(key.twin(alloc)?);
         }
+        self.number_of(key).ok_or(AllocError)
     }
 
-    /// Puts a new key in, at the end.
+    /// Puts the key in where it is new: it is hashed once.
     fn put(&mut self, key: K) -> Result<u32, AllocError>
-        requires { ¬ (key ∈ self.old) }
-        ensures keys { OnOk result (self.new ≡ self.old ++ key ∷ []) }
-        ensures number { IfOk result (λ n. n ≡ length self.old) }
+        requires { length self.old + 1 < 2 ^ 32 }
+        ensures keys { OnOk result (IsAdded self.old key self.new) }
+        ensures number { IfOk result (λ n. slice_get self.new n ≡ Some key) }
         ensures distinct { AreDistinct self.new }
+        ensures few { length self.new ≤ length self.old + 1 }
         ensures err { OnErr result (self.new ≡ self.old) }
     {
-        let place = self.places.len();
-        if place >= u32::MAX as usize {
-            return Err(AllocError);
-        }
-        self.places.insert(key)?;
+        let (place, _) = self.places.insert_full(key)?;
         Ok(place as u32)
     }
 

@@ -1,4 +1,5 @@
 mod calling;
+mod disks;
 mod faults;
 mod pieces;
 mod records;

@@ -1,4 +1,4 @@
-use Rattle.std.proofs.Common.{List, ℕ, nat_eq, true, IsTrue, ◌↔◌, map, ap, ◌∙◌, subst, sym, inl, inr, ⊎_elim, refl}
+use Rattle.std.proofs.Common.{List, nat_eq, IsTrue, ◌↔◌, map, ap, ◌∙◌, subst, sym, inl, inr, refl}
 use Rattle.std.proofs.lemmas.Bool.{eqb-true, eq-eqb}
 use Rattle.flow_model.specs.Folding.{named_events}
 use Rattle.flow_model.specs.Lists.{◌∈◌, joined}
