@@ -1,24 +1,26 @@
-use flow_disk::{Disk, MemDisk};
-use std::test::Fail;
+use flow_disk::{Disk, DiskFailed, MemDisk};
+use std::alloc::{AllocError, Global};
 
-#[test]
-fn a_disk_succeeds_up_to_its_stop_and_room(rt: HostRuntime) -> Result<(), Fail> {
-    let alloc = rt.alloc();
-    let mut disk = MemDisk::new(alloc, Vec::new(alloc), 8, 7)?;
-    let mut buffer = [0; 4];
+/// A disk with room for eight bytes whose sixth call is the last that succeeds.
+fn small_disk(alloc: Global) -> Result<MemDisk, AllocError> {
+    MemDisk::new(alloc, Vec::new(alloc), 8, 6)
+}
+
+/// Five calls, which the disk has room for.
+fn use_disk(disk: &mut MemDisk) -> Result<u64, DiskFailed> {
     disk.open("run.keep")?;
     disk.write_at(0, &[1, 2, 3])?;
     disk.sync()?;
     disk.write_at(1, &[7, 7])?;
-    assert_eq!(rt; disk.len()?, 3);
-    assert_eq!(rt; disk.read_at(1, &mut buffer)?, 2);
-    assert_eq!(rt; buffer, [7, 7, 0, 0]);
+    disk.len()
+}
+
+#[test]
+fn a_disk_succeeds_up_to_its_stop_and_room(rt: HostRuntime) {
+    let Ok(mut disk) = small_disk(rt.alloc()) else {
+        panic!(&rt; "no memory")
+    };
+    assert!(rt; matches!(use_disk(&mut disk), Ok(3)));
     assert!(rt; disk.write_at(2, &[0; 4]).is_err(), "three bytes of room");
-    assert_eq!(rt; disk.left(alloc, 9, true)?.as_slice(), [1, 7, 7].as_slice());
-    assert_eq!(rt;
-        disk.left(alloc, 9, false)?.as_slice(),
-        [1, 9, 9, 9, 9, 9].as_slice()
-    );
-    assert!(rt; disk.sync().is_err(), "the call of number 7");
-    Ok(())
+    assert!(rt; disk.sync().is_err(), "the call of number 6");
 }

@@ -1,4 +1,4 @@
-ghost use Rattle.std.specs.Prelude.{◌≡◌, [], IfOk};
+ghost use Rattle.std.specs.Prelude.{◌≡◌, ◌+◌, ◌<◌, [], IfOk};
 ghost use Rattle.flow_form.specs.Script.{said};
 ghost use Rattle.flow_form.specs.Names.{IsClosed};
 
@@ -9,8 +9,9 @@ use flow_expand::{Workflow, expand};
 use flow_gate::{NoteGate, Outcome};
 use flow_model::{Entry, Note, Step};
 use flow_text::{Script, parse};
-use flow_turn::TurnLock;
+use flow_turn::{Pass, TurnLock};
 use std::alloc::Global;
+use std::sync::Wait;
 use std::test::Fail;
 use test_doubles::CountingGate;
 
@@ -61,9 +62,21 @@ fn is_call(told: Told, claim: u32, leaf: u32) -> bool {
     }
 }
 
-#[test]
-fn each_thing_is_asked_of_a_run(rt: HostRuntime) -> Result<(), Fail> {
-    let mut core = start(rt.alloc(), b"event a, b; goal (a + b) | ins p(x);")?;
+/// Whether it is what the run tells of the ask of that number.
+fn is_told(number: usize, told: Told) -> bool {
+    match number {
+        0 => is_call(told, 1, 1),
+        1 => matches!(told, Told::Failed(FailEffect::Switched)),
+        2 => matches!(told, Told::Refused(9)),
+        3 => is_call(told, 2, 0),
+        4 => matches!(told, Told::Posted),
+        5 => matches!(told, Told::Did),
+        _ => matches!(told, Told::Committed),
+    }
+}
+
+/// One ask after another, and whether the run tells of each what it should.
+fn are_told(core: &mut Core) -> bool {
     let asks = [
         Ask::Take(1),
         Ask::Fail(1),
@@ -73,14 +86,19 @@ fn each_thing_is_asked_of_a_run(rt: HostRuntime) -> Result<(), Fail> {
         Ask::Do(2),
         Ask::Commit,
     ];
-    let [first, failed, refused, second, posted, did, committed] = play(&mut core, &asks, 3);
-    assert!(rt; is_call(first, 1, 1));
-    assert!(rt; matches!(failed, Told::Failed(FailEffect::Switched)));
-    assert!(rt; matches!(refused, Told::Refused(9)));
-    assert!(rt; is_call(second, 2, 0));
-    assert!(rt; matches!(posted, Told::Posted));
-    assert!(rt; matches!(did, Told::Did));
-    assert!(rt; matches!(committed, Told::Committed));
+    let all = play(core, &asks, 3);
+    for (number, told) in all.iter().enumerate() {
+        if !is_told(number, *told) {
+            return false;
+        }
+    }
+    true
+}
+
+#[test]
+fn each_thing_is_asked_of_a_run(rt: HostRuntime) -> Result<(), Fail> {
+    let mut core = start(rt.alloc(), b"event a, b; goal (a + b) | ins p(x);")?;
+    assert!(rt; are_told(&mut core));
     assert_eq!(rt; (core.made(3), core.made(0)), (6, 0));
     assert!(rt; core.holds(0) && core.committed());
     Ok(())
@@ -120,20 +138,33 @@ fn leaf_of(found: Move) -> Option<u32> {
     }
 }
 
+/// Two callers, each with a pass of its own, begin a task each: the leaves of these.
+fn begin_two<R: Wait>(
+    rt: &R,
+    lock: &TurnLock<Book<NoteGate>>,
+    root: &mut Pass<Book<NoteGate>>,
+) -> (Option<u32>, Option<u32>)
+    requires { (root.old.lock ≡ lock.now) × (root.old.number ≡ 0) × (root.old.given + 2 < 4294967295) }
+    ensures { (root.new.lock ≡ lock.now) × (root.new.number ≡ 0) × (root.new.outs ≡ root.old.outs) }
+{
+    let mut first = lock.split(root);
+    let mut second = lock.split(root);
+    let one = lock.with_turn(rt, &mut first, Begin);
+    let two = lock.with_turn(rt, &mut second, Begin);
+    lock.join(root, first);
+    lock.join(root, second);
+    (leaf_of(one), leaf_of(two))
+}
+
 #[test]
 fn two_passes_at_one_book(rt: HostRuntime) -> Result<(), Fail> {
     let core = start(rt.alloc(), b"event a, b; goal a | b;")?;
     let Ok((lock, mut root)) = TurnLock::new(rt.alloc(), Book::new(core, NoteGate)) else {
         return Err(Fail::from("no lock"));
     };
-    let mut first = lock.split(&mut root);
-    let mut second = lock.split(&mut root);
-    let one = lock.with_turn(&rt, &mut first, Begin);
-    let two = lock.with_turn(&rt, &mut second, Begin);
-    lock.join(&mut root, first);
-    lock.join(&mut root, second);
+    let begun = begin_two(&rt, &lock, &mut root);
     let core = lock.close(root).into_core();
-    assert!(rt; leaf_of(one) == Some(0) && leaf_of(two) == Some(1));
+    assert_eq!(rt; begun, (Some(0), Some(1)));
     assert_eq!(rt; (core.made(1), core.made(2), core.made(0)), (1, 1, 0));
     Ok(())
 }
