@@ -95,12 +95,17 @@ fn are_told(core: &mut Core) -> bool {
     true
 }
 
+/// Whether a run that is asked so ends as it should.
+fn is_asked(alloc: Global) -> Result<bool, Fail> {
+    let mut core = start(alloc, b"event a, b; goal (a + b) | ins p(x);")?;
+    let told = are_told(&mut core) && core.holds(0) && core.committed();
+    Ok(told && core.made(3) == 6 && core.made(0) == 0)
+}
+
 #[test]
 fn each_thing_is_asked_of_a_run(rt: HostRuntime) -> Result<(), Fail> {
-    let mut core = start(rt.alloc(), b"event a, b; goal (a + b) | ins p(x);")?;
-    assert!(rt; are_told(&mut core));
-    assert_eq!(rt; (core.made(3), core.made(0)), (6, 0));
-    assert!(rt; core.holds(0) && core.committed());
+    let told = is_asked(rt.alloc())?;
+    assert!(rt; told);
     Ok(())
 }
 
@@ -115,18 +120,21 @@ fn claims_in(history: &[Entry]) -> u32 {
     count
 }
 
-#[test]
-fn who_finishes_asks_once_a_claim(rt: HostRuntime) -> Result<(), Fail> {
-    let core = start(
-        rt.alloc(),
-        b"event a, b, c fail 1, d fail, e; goal (a + b) * c * (d + e);",
-    )?;
+/// Whether a run that one caller finishes asks its gate as often as there are claims.
+fn is_asked_once(alloc: Global) -> Result<bool, Fail> {
+    let text = b"event a, b, c fail 1, d fail, e; goal (a + b) * c * (d + e);";
+    let core = start(alloc, text)?;
     let gate = CountingGate::new();
     let mut book = Book::new(core, &gate);
-    assert!(rt; matches!(book.finish(0), End::Committed));
+    let ended = matches!(book.finish(0), End::Committed);
     let core = book.into_core();
-    assert!(rt; gate.asked() > 0);
-    assert_eq!(rt; claims_in(core.history()), gate.asked());
+    Ok(ended && gate.asked() > 0 && claims_in(core.history()) == gate.asked())
+}
+
+#[test]
+fn who_finishes_asks_once_a_claim(rt: HostRuntime) -> Result<(), Fail> {
+    let told = is_asked_once(rt.alloc())?;
+    assert!(rt; told);
     Ok(())
 }
 
@@ -156,15 +164,33 @@ fn begin_two<R: Wait>(
     (leaf_of(one), leaf_of(two))
 }
 
+/// A lock around a run that has not begun, and its first pass.
+fn lock_of(
+    alloc: Global,
+    core: Core,
+) -> Result<(TurnLock<Book<NoteGate>>, Pass<Book<NoteGate>>), Fail>
+    requires { core.history ≡ [] }
+    ensures { IfOk result (λ made. (made.1.lock ≡ made.0) × (made.1.number ≡ 0) × (made.1.given ≡ 0) × (made.1.outs ≡ 0)) }
+{
+    match TurnLock::new(alloc, Book::new(core, NoteGate)) {
+        Ok(made) => Ok(made),
+        Err(_) => Err(Fail::from("no lock")),
+    }
+}
+
+/// What two callers begin, and whether each of them, and nobody else, made an entry.
+fn begun<R: Wait>(alloc: Global, rt: &R) -> Result<bool, Fail> {
+    let core = start(alloc, b"event a, b; goal a | b;")?;
+    let (lock, mut root) = lock_of(alloc, core)?;
+    let leaves = begin_two(rt, &lock, &mut root);
+    let core = lock.close(root).into_core();
+    let made = (core.made(1), core.made(2), core.made(0)) == (1, 1, 0);
+    Ok(made && leaves == (Some(0), Some(1)))
+}
+
 #[test]
 fn two_passes_at_one_book(rt: HostRuntime) -> Result<(), Fail> {
-    let core = start(rt.alloc(), b"event a, b; goal a | b;")?;
-    let Ok((lock, mut root)) = TurnLock::new(rt.alloc(), Book::new(core, NoteGate)) else {
-        return Err(Fail::from("no lock"));
-    };
-    let begun = begin_two(&rt, &lock, &mut root);
-    let core = lock.close(root).into_core();
-    assert_eq!(rt; begun, (Some(0), Some(1)));
-    assert_eq!(rt; (core.made(1), core.made(2), core.made(0)), (1, 1, 0));
+    let told = begun(rt.alloc(), &rt)?;
+    assert!(rt; told);
     Ok(())
 }
