@@ -1,5 +1,4 @@
 mod calling;
-mod disks;
 mod faults;
 mod pieces;
 mod records;
