@@ -4,9 +4,12 @@
 Usage: bench/dear.py CRATE [ROWS]     after ./prove, by which the crates below it are built
 
 The crate is checked from nothing by one process, which keeps its work in a folder that is removed. A module costs the time between
-the file before it and its own: seconds of this machine, which swing. A goal costs steps, in millions, as the prover counts them,
-with what each tactic took of them: these do not swing, and a million is some six tenths of a second.
+the file before it and its own: seconds of this machine, which swing. They are told by the module, by the function and by the kind
+(`Lts` has who owns what, `Proof` the goals), and in all for what drops values of a type, also one of a crate below, which each crate
+that drops such a value proves. A goal costs steps, in millions, as the prover counts them, with what each tactic took of them: these
+do not swing, and a million is some six tenths of a second.
 """
+import collections
 import json
 import os
 import re
@@ -48,6 +51,14 @@ def modules(kept):
     return [((now - before) / 1e9, name_of(it)) for (before, _), (now, it) in zip(written, written[1:])]
 
 
+def summed(found, key):
+    """The seconds of all modules with the same key."""
+    sums = collections.Counter()
+    for seconds, name in found:
+        sums[key(name)] += seconds
+    return [(seconds, name) for name, seconds in sums.items()]
+
+
 def goals(kept):
     """Steps in millions of each declaration that has their number, its name, and what its tactics took."""
     rows = []
@@ -74,7 +85,16 @@ def main(name, rows):
     with tempfile.TemporaryDirectory() as room:
         check(prove, name, room)
         kept = f"{room}/{os.listdir(room)[0]}"
-        for title, found in (("seconds, module", modules(kept)), ("million steps, goal", goals(kept))):
+        made = modules(kept)
+        drops = [it for it in made if "Destruct" in it[1]]
+        print(f"\n{sum(it for it, _ in drops):.0f} of {sum(it for it, _ in made):.0f} seconds for what drops values")
+        tables = (
+            ("seconds, kind", summed(made, lambda it: it.rsplit(".", 1)[-1])),
+            ("seconds, function", summed(made, lambda it: it.rsplit(".", 1)[0])),
+            ("seconds, module", made),
+            ("million steps, goal", goals(kept)),
+        )
+        for title, found in tables:
             print(f"\n{title}")
             for cost, it in sorted(found, reverse=True)[:rows]:
                 print(f"{cost:7.2f} {it}")
