@@ -14,3 +14,4 @@ pub mod StartLemmas
 pub mod MakeLemmas
 pub mod ListLemmas
 pub mod CallerLemmas
+pub mod Growth

@@ -10,6 +10,11 @@ use Rattle.flow_model.specs.Facts.{HoldsAt}
 use Rattle.flow_model.specs.Run.{Claim, RunState, claim_at, current_claims, database, is_current, IsCurrent, IsOpen, IsOpenIndex, CanTake, CanDoAside}
 use Rattle.flow_model.specs.Verdict.{call_of}
 use Rattle.flow_laws.proofs.ClaimLemmas.{some_claim, and_parts}
+use Rattle.flow_ask.specs.declared.ask.Ask.{Ask}
+use Rattle.flow_ask.specs.declared.ask.Ask.TheVariants as ask
+use Rattle.flow_ask.specs.declared.made.Made.{Made}
+use Rattle.flow_ask.specs.declared.made.Made.TheVariants as made
+use Rattle.flow_ask.specs.declared.refusal.Refusal.{Refusal}
 use Rattle.flow_core.specs.declared.refusal.TakeRefusal.{TakeRefusal}
 use Rattle.flow_core.specs.declared.refusal.TakeRefusal.TheVariants as take
 use Rattle.flow_core.specs.declared.refusal.DoRefusal.{DoRefusal}
@@ -24,6 +29,8 @@ use Rattle.flow_core.specs.declared.next.Next.{Next}
 use Rattle.flow_core.specs.declared.next.Next.TheVariants as next
 use Rattle.flow_core.specs.Run.{Run, schema, now, with_entry, IsUncommitted, HasEntryLeft}
 use Rattle.flow_core.specs.Answers.{IsOver, next_claim, Takes, Performs, IsAnswered, IsUnanswered, IsLateOf, PostIsRefused, HasEffect, PostsDone, PostsFailed, Rewinds, Commits, IsLeast}
+use Rattle.flow_core.specs.Ask.{of_take, of_do, of_post, of_rewind, of_commit, AnswersBy, Answers}
+use Rattle.flow_core.specs.Single.{IsSingle}
 use Rattle.flow_core.specs.Next.{CanAct, IsWaiting, IsNext}
 use Rattle.flow_core.proofs.Calls.{event_below}
 use Rattle.flow_core.proofs.GivenClaims.{unanswered_current}
@@ -231,6 +238,47 @@ rewinds_once r by a b after other h k =
 pub commits_once : (r : Run) (by : ℕ) (a b : Result (Unit {0}) CommitRefusal) (after other : Run) → Commits r by a after → Commits r by b other → (a ≡ b) × (after ≡ other)
 commits_once r by a b after other h k =
     once _ 2 _ _ _ (λ n m p q. le_antisymm (p.1 m q.0) (q.1 n p.0)) a b after other (is_ended r by a after h) (is_ended r by b other k)
+
+-- ---- the answer to an ask
+
+-- what is inside of two answers that are the same
+ok_once : {A R : Type 0} (a b : A) → ◌≡◌ {A = Result A R} (Ok a) (Ok b) → a ≡ b
+ok_once {A} {R} a b same = ap (λ (t : Result A R). value t) same
+  where
+    value : Result A R → A
+    value (Ok x) = x
+    value (Err y) = a
+
+err_once : {A R : Type 0} (a b : R) → ◌≡◌ {A = Result A R} (Err a) (Err b) → a ≡ b
+err_once {A} {R} a b same = ap (λ (t : Result A R). value t) same
+  where
+    value : Result A R → R
+    value (Ok x) = a
+    value (Err y) = y
+
+abbrev is_value : {A R : Type 0} → Result A R → Bool
+is_value (Ok x) = true
+is_value (Err y) = false
+
+pub by_once : {S A R : Type 0} (Table : Result A R → S → Type 0) (made_of : A → Made) (refusal_of : R → Refusal) →
+    ((a b : Result A R) (after other : S) → Table a after → Table b other → (a ≡ b) × (after ≡ other)) →
+    (a b : Result Made Refusal) (after other : S) → AnswersBy Table made_of refusal_of a after → AnswersBy Table made_of refusal_of b other → (a ≡ b) × (after ≡ other)
+by_once Table made_of refusal_of single (Ok a) (Ok b) after other (x, h, is) (y, k, was) =
+    let both = single (Ok x) (Ok y) after other h k in (ap Ok (is ∙ ap made_of (ok_once x y both.0) ∙ sym was), both.1)
+by_once Table made_of refusal_of single (Err a) (Err b) after other (x, h, is) (y, k, was) =
+    let both = single (Err x) (Err y) after other h k in (ap Err (is ∙ ap refusal_of (err_once x y both.0) ∙ sym was), both.1)
+by_once Table made_of refusal_of single (Ok a) (Err b) after other (x, h, is) (y, k, was) =
+    absurd (true≢false (ap is_value (single (Ok x) (Err y) after other h k).0))
+by_once Table made_of refusal_of single (Err a) (Ok b) after other (x, h, is) (y, k, was) =
+    absurd (true≢false (sym (ap is_value (single (Err x) (Ok y) after other h k).0)))
+
+pub answers_once : (r : Run) (ask : Ask) (by : ℕ) → IsSingle (Answers r ask by)
+answers_once r (ask.Take leaf) by = by_once (Takes r leaf by) made.Claim of_take (takes_once r leaf by)
+answers_once r (ask.Do leaf) by = by_once (Performs r leaf by) (λ _. made.Did) of_do (performs_once r leaf by)
+answers_once r (ask.Done claim) by = by_once (PostsDone r claim by) (λ _. made.Done) of_post (posts_done_once r claim by)
+answers_once r (ask.Fail claim) by = by_once (PostsFailed r claim by) made.Failed of_post (posts_failed_once r claim by)
+answers_once r ask.Rewind by = by_once (Rewinds r by) made.Rewound of_rewind (rewinds_once r by)
+answers_once r ask.Commit by = by_once (Commits r by) (λ _. made.Committed) of_commit (commits_once r by)
 
 -- ---- what a run does next
 

@@ -1,11 +1,16 @@
--- A list of asks, one after another.
-use Rattle.std.specs.Prelude.{◌≡◌, ℕ, List, [], ◌∷◌, Result, Ok, Err}
-use Rattle.flow_model.specs.declared.history.Call.{Call}
-use Rattle.flow_model.specs.declared.history.FailEffect.{FailEffect}
-use Rattle.flow_core.specs.declared.ask.Ask.{Ask}
-use Rattle.flow_core.specs.declared.ask.Ask.TheVariants as ask
+-- What a run answers to an ask, and to a list of asks, one after another.
+use Rattle.std.specs.Prelude.{◌≡◌, ◌⊎◌, ℕ, List, [], ◌∷◌, Result, Ok, Err}
+use Rattle.flow_model.specs.declared.history.Step.{Step}
+use Rattle.flow_model.specs.declared.history.Step.TheVariants as step
+use Rattle.flow_ask.specs.declared.ask.Ask.{Ask}
+use Rattle.flow_ask.specs.declared.ask.Ask.TheVariants as ask
+use Rattle.flow_ask.specs.declared.made.Made.{Made}
+use Rattle.flow_ask.specs.declared.made.Made.TheVariants as made
 use Rattle.flow_core.specs.declared.ask.Told.{Told}
 use Rattle.flow_core.specs.declared.ask.Told.TheVariants as told
+use Rattle.flow_ask.specs.declared.refusal.Refusal.{Refusal}
+use Rattle.flow_ask.specs.declared.refusal.Refusal.TheVariants.{Closed, NoLeaf, WrongKind, NotEnabled, TestFalse, NoClaim, Answered, Late, NoChoice, Unfinished, ClaimsOut, Spent}
+use Rattle.flow_ask.specs.Refusal.{number_of}
 use Rattle.flow_core.specs.declared.refusal.TakeRefusal.{TakeRefusal}
 use Rattle.flow_core.specs.declared.refusal.TakeRefusal.TheVariants as take
 use Rattle.flow_core.specs.declared.refusal.DoRefusal.{DoRefusal}
@@ -16,62 +21,92 @@ use Rattle.flow_core.specs.declared.refusal.RewindRefusal.{RewindRefusal}
 use Rattle.flow_core.specs.declared.refusal.RewindRefusal.TheVariants as rewind
 use Rattle.flow_core.specs.declared.refusal.CommitRefusal.{CommitRefusal}
 use Rattle.flow_core.specs.declared.refusal.CommitRefusal.TheVariants as commit
-use Rattle.flow_core.specs.Run.{Run}
+use Rattle.flow_core.specs.Run.{Run, with_entry}
 use Rattle.flow_core.specs.Answers.{Takes, Performs, PostsDone, PostsFailed, Rewinds, Commits}
 
-abbrev pub told_of_take : Result Call TakeRefusal → Told
-told_of_take (Ok call) = told.Call call
-told_of_take (Err take.Closed) = told.Refused 1
-told_of_take (Err take.NoLeaf) = told.Refused 2
-told_of_take (Err take.WrongKind) = told.Refused 3
-told_of_take (Err take.NotEnabled) = told.Refused 4
-told_of_take (Err (take.Spent limit)) = told.Refused 12
+-- the refusals of each call, as refusals of an ask
 
-abbrev pub told_of_do : Result (Unit {0}) DoRefusal → Told
-told_of_do (Ok _) = told.Did
-told_of_do (Err perform.Closed) = told.Refused 1
-told_of_do (Err perform.NoLeaf) = told.Refused 2
-told_of_do (Err perform.WrongKind) = told.Refused 3
-told_of_do (Err perform.NotEnabled) = told.Refused 4
-told_of_do (Err perform.TestFalse) = told.Refused 5
-told_of_do (Err (perform.Spent limit)) = told.Refused 12
+abbrev pub of_take : TakeRefusal → Refusal
+of_take take.Closed = Closed
+of_take take.NoLeaf = NoLeaf
+of_take take.WrongKind = WrongKind
+of_take (take.Spent limit) = Spent limit
+of_take take.NotEnabled = NotEnabled
 
-abbrev pub told_of_post : PostRefusal → Told
-told_of_post post.Closed = told.Refused 1
-told_of_post post.NoClaim = told.Refused 6
-told_of_post post.Answered = told.Refused 7
-told_of_post (post.Late of now) = told.Late of now
-told_of_post (post.Spent limit) = told.Refused 12
+abbrev pub of_do : DoRefusal → Refusal
+of_do perform.Closed = Closed
+of_do perform.NoLeaf = NoLeaf
+of_do perform.WrongKind = WrongKind
+of_do (perform.Spent limit) = Spent limit
+of_do perform.NotEnabled = NotEnabled
+of_do perform.TestFalse = TestFalse
 
-abbrev pub told_of_done : Result (Unit {0}) PostRefusal → Told
-told_of_done (Ok _) = told.Posted
-told_of_done (Err refusal) = told_of_post refusal
+abbrev pub of_post : PostRefusal → Refusal
+of_post post.Closed = Closed
+of_post post.NoClaim = NoClaim
+of_post post.Answered = Answered
+of_post (post.Spent limit) = Spent limit
+of_post (post.Late of now) = Late of now
 
-abbrev pub told_of_fail : Result FailEffect PostRefusal → Told
-told_of_fail (Ok effect) = told.Failed effect
-told_of_fail (Err refusal) = told_of_post refusal
+abbrev pub of_rewind : RewindRefusal → Refusal
+of_rewind rewind.Closed = Closed
+of_rewind (rewind.Spent limit) = Spent limit
+of_rewind rewind.NoChoice = NoChoice
 
-abbrev pub told_of_rewind : Result ℕ RewindRefusal → Told
-told_of_rewind (Ok index) = told.Rewound index
-told_of_rewind (Err rewind.Closed) = told.Refused 1
-told_of_rewind (Err rewind.NoChoice) = told.Refused 9
-told_of_rewind (Err (rewind.Spent limit)) = told.Refused 12
+abbrev pub of_commit : CommitRefusal → Refusal
+of_commit commit.Closed = Closed
+of_commit (commit.Spent limit) = Spent limit
+of_commit (commit.ClaimsOut claim) = ClaimsOut claim
+of_commit commit.Unfinished = Unfinished
 
-abbrev pub told_of_commit : Result (Unit {0}) CommitRefusal → Told
-told_of_commit (Ok _) = told.Committed
-told_of_commit (Err commit.Closed) = told.Refused 1
-told_of_commit (Err commit.Unfinished) = told.Refused 10
-told_of_commit (Err (commit.ClaimsOut claim)) = told.Refused 11
-told_of_commit (Err (commit.Spent limit)) = told.Refused 12
+-- by the table of a call, the answer is what it made, or why it made nothing
+abbrev pub AnswersBy : {S A R : Type 0} → (Result A R → S → Type 0) → (A → Made) → (R → Refusal) → Result Made Refusal → S → Type 0
+AnswersBy {S} {A} {R} Table made_of refusal_of (Ok made) after = (came : A) × Table (Ok came) after × (made ≡ made_of came)
+AnswersBy {S} {A} {R} Table made_of refusal_of (Err refusal) after = (why : R) × Table (Err why) after × (refusal ≡ refusal_of why)
+
+-- the run answers the caller's ask so, and is this afterwards
+abbrev pub Answers : Run → Ask → ℕ → Result Made Refusal → Run → Type 0
+Answers r (ask.Take leaf) by = AnswersBy (Takes r leaf by) made.Claim of_take
+Answers r (ask.Do leaf) by = AnswersBy (Performs r leaf by) (λ _. made.Did) of_do
+Answers r (ask.Done claim) by = AnswersBy (PostsDone r claim by) (λ _. made.Done) of_post
+Answers r (ask.Fail claim) by = AnswersBy (PostsFailed r claim by) made.Failed of_post
+Answers r ask.Rewind by = AnswersBy (Rewinds r by) made.Rewound of_rewind
+Answers r ask.Commit by = AnswersBy (Commits r by) (λ _. made.Committed) of_commit
+
+-- the entry is one that comes of the ask
+abbrev pub ComesOf : Ask → Step → Type 0
+ComesOf (ask.Take leaf) (step.Took claim n) = n ≡ leaf
+ComesOf (ask.Do leaf) (step.Did n) = n ≡ leaf
+ComesOf (ask.Done claim) (step.Done n) = n ≡ claim
+ComesOf (ask.Done claim) (step.Late n) = n ≡ claim
+ComesOf (ask.Fail claim) (step.Failed n effect) = n ≡ claim
+ComesOf (ask.Fail claim) (step.Late n) = n ≡ claim
+ComesOf ask.Rewind (step.Rewound index) = Unit {0}
+ComesOf ask.Commit step.Committed = Unit {0}
+ComesOf other step = ⊥
+
+-- the run has one entry more, of that caller, which comes of the ask
+abbrev pub HasOneMore : Run → Ask → ℕ → Run → Type 0
+HasOneMore r ask by after = (step : Step) × ComesOf ask step × (after ≡ with_entry r by step)
+
+-- the run stays, or has one entry more
+abbrev pub GrowsAtMost : Run → Ask → ℕ → Run → Type 0
+GrowsAtMost r ask by after = (after ≡ r) ⊎ HasOneMore r ask by after
+
+-- an answer, with the number of a refusal
+abbrev pub told_of : Result Made Refusal → Told
+told_of (Ok (made.Claim call)) = told.Call call
+told_of (Ok made.Did) = told.Did
+told_of (Ok made.Done) = told.Posted
+told_of (Ok (made.Failed effect)) = told.Failed effect
+told_of (Ok (made.Rewound index)) = told.Rewound index
+told_of (Ok made.Committed) = told.Committed
+told_of (Err (Late of now)) = told.Late of now
+told_of (Err refusal) = told.Refused (number_of refusal)
 
 -- what is told of an ask, and the run afterwards
 abbrev pub IsTold : Run → Ask → ℕ → Told → Run → Type 0
-IsTold r (ask.Take leaf) by told after = (answer : Result Call TakeRefusal) × Takes r leaf by answer after × (told ≡ told_of_take answer)
-IsTold r (ask.Do leaf) by told after = (answer : Result (Unit {0}) DoRefusal) × Performs r leaf by answer after × (told ≡ told_of_do answer)
-IsTold r (ask.Done claim) by told after = (answer : Result (Unit {0}) PostRefusal) × PostsDone r claim by answer after × (told ≡ told_of_done answer)
-IsTold r (ask.Fail claim) by told after = (answer : Result FailEffect PostRefusal) × PostsFailed r claim by answer after × (told ≡ told_of_fail answer)
-IsTold r ask.Rewind by told after = (answer : Result ℕ RewindRefusal) × Rewinds r by answer after × (told ≡ told_of_rewind answer)
-IsTold r ask.Commit by told after = (answer : Result (Unit {0}) CommitRefusal) × Commits r by answer after × (told ≡ told_of_commit answer)
+IsTold r ask by told after = (answer : Result Made Refusal) × Answers r ask by answer after × (told ≡ told_of answer)
 
 -- each ask is answered in turn, as the asks before it leave the run
 abbrev pub IsPlayed : Run → ℕ → List Ask → List Told → Run → Type 0

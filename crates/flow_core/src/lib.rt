@@ -3,6 +3,7 @@
 
 mod ahead;
 mod ask;
+mod asked;
 mod claim;
 mod commit;
 mod holding;
@@ -17,7 +18,9 @@ mod run;
 mod single;
 mod take;
 
-pub use ask::{Ask, Told, play};
+pub use ask::{Told, play};
+pub use flow_ask::{Answer, Ask, Made, Refusal};
+pub use asked::Asked;
 pub use flow_model::{Call, FailEffect};
 pub use next::Next;
 pub use refusal::{CommitRefusal, DoRefusal, PostRefusal, RewindRefusal, TakeRefusal};

@@ -1,3 +1,6 @@
+ghost use Rattle.std.specs.Prelude.{◌≡◌};
+
+use flow_ask::Refusal;
 use thiserror::Error;
 
 /// Why a leaf is not taken.
@@ -71,4 +74,82 @@ pub enum CommitRefusal {
     ClaimsOut { claim: u32 },
     #[error("the journal is no whole execution")]
     Unfinished,
+}
+
+impl From<TakeRefusal> for Refusal {
+    ghost use Rattle.flow_core.specs.Ask.{of_take};
+
+    ghost from_gives = { λ refusal told. told ≡ of_take refusal };
+
+    fn from(refusal: TakeRefusal) -> Refusal {
+        match refusal {
+            TakeRefusal::Closed => Refusal::Closed,
+            TakeRefusal::NoLeaf => Refusal::NoLeaf,
+            TakeRefusal::WrongKind => Refusal::WrongKind,
+            TakeRefusal::Spent { limit } => Refusal::Spent { limit },
+            TakeRefusal::NotEnabled => Refusal::NotEnabled,
+        }
+    }
+}
+
+impl From<DoRefusal> for Refusal {
+    ghost use Rattle.flow_core.specs.Ask.{of_do};
+
+    ghost from_gives = { λ refusal told. told ≡ of_do refusal };
+
+    fn from(refusal: DoRefusal) -> Refusal {
+        match refusal {
+            DoRefusal::Closed => Refusal::Closed,
+            DoRefusal::NoLeaf => Refusal::NoLeaf,
+            DoRefusal::WrongKind => Refusal::WrongKind,
+            DoRefusal::Spent { limit } => Refusal::Spent { limit },
+            DoRefusal::NotEnabled => Refusal::NotEnabled,
+            DoRefusal::TestFalse => Refusal::TestFalse,
+        }
+    }
+}
+
+impl From<PostRefusal> for Refusal {
+    ghost use Rattle.flow_core.specs.Ask.{of_post};
+
+    ghost from_gives = { λ refusal told. told ≡ of_post refusal };
+
+    fn from(refusal: PostRefusal) -> Refusal {
+        match refusal {
+            PostRefusal::Closed => Refusal::Closed,
+            PostRefusal::NoClaim => Refusal::NoClaim,
+            PostRefusal::Answered => Refusal::Answered,
+            PostRefusal::Spent { limit } => Refusal::Spent { limit },
+            PostRefusal::Late { of, now } => Refusal::Late { of, now },
+        }
+    }
+}
+
+impl From<RewindRefusal> for Refusal {
+    ghost use Rattle.flow_core.specs.Ask.{of_rewind};
+
+    ghost from_gives = { λ refusal told. told ≡ of_rewind refusal };
+
+    fn from(refusal: RewindRefusal) -> Refusal {
+        match refusal {
+            RewindRefusal::Closed => Refusal::Closed,
+            RewindRefusal::Spent { limit } => Refusal::Spent { limit },
+            RewindRefusal::NoChoice => Refusal::NoChoice,
+        }
+    }
+}
+
+impl From<CommitRefusal> for Refusal {
+    ghost use Rattle.flow_core.specs.Ask.{of_commit};
+
+    ghost from_gives = { λ refusal told. told ≡ of_commit refusal };
+
+    fn from(refusal: CommitRefusal) -> Refusal {
+        match refusal {
+            CommitRefusal::Closed => Refusal::Closed,
+            CommitRefusal::Spent { limit } => Refusal::Spent { limit },
+            CommitRefusal::ClaimsOut { claim } => Refusal::ClaimsOut { claim },
+            CommitRefusal::Unfinished => Refusal::Unfinished,
+        }
+    }
 }

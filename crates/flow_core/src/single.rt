@@ -1,5 +1,5 @@
 ghost use Rattle.flow_core.specs.Callers.{CallersMadeAll};
-ghost use Rattle.flow_core.specs.Single.{TakesAreSingle, PerformsAreSingle, PostsAreSingle, RewindsAreSingle, CommitsAreSingle, NextsAreSingle};
+ghost use Rattle.flow_core.specs.Single.{TakesAreSingle, PerformsAreSingle, PostsAreSingle, RewindsAreSingle, CommitsAreSingle, AnswersAreSingle, NextsAreSingle};
 
 /// Each ask has one answer, and leaves one run. So a refusal comes exactly where its cause is the first in the order. What a run
 /// does next is one thing too.
@@ -9,6 +9,7 @@ pub fn law_answers_are_single()
     ensures posts { PostsAreSingle }
     ensures rewinds { RewindsAreSingle }
     ensures commits { CommitsAreSingle }
+    ensures answers { AnswersAreSingle }
     ensures nexts { NextsAreSingle }
 {}
 

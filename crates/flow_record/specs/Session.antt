@@ -3,9 +3,11 @@
 use Rattle.std.specs.Prelude.{ℕ, ◌+◌, nat_lt, if◌then◌else◌, List, [], ◌∷◌, Option, Some, None, codes}
 use Rattle.std.specs.Option.{option_and_then}
 use Rattle.std.specs.Str.{bytes_eq}
+use Rattle.flow_ask.specs.declared.ask.Ask.TheVariants as ask
+use Rattle.flow_ask.specs.declared.ask.Look.TheVariants as look
 use Rattle.flow_model.specs.declared.limits.TheConstants.{MOST_LINES}
 use Rattle.flow_record.specs.declared.command.Command.{Command}
-use Rattle.flow_record.specs.declared.command.Command.TheVariants.{Take, Do, Done, Fail, Rewind, Commit, Next, Enabled, Journal, Facts}
+use Rattle.flow_record.specs.declared.command.Command.TheVariants.{Ask, Look}
 use Rattle.flow_record.specs.declared.line.Line.{Line}
 use Rattle.flow_record.specs.declared.line.Line.TheVariants.{Blank, Holds, Bad}
 use Rattle.flow_record.specs.Lines.{without_returns, lines_of}
@@ -15,12 +17,12 @@ use Rattle.flow_record.specs.Words.{words_of}
 -- the command of one word alone
 abbrev pub bare_command : List ℕ → Option Command
 bare_command word =
-    if bytes_eq word (codes "rewind") then Some Rewind
-    else if bytes_eq word (codes "commit") then Some Commit
-    else if bytes_eq word (codes "next") then Some Next
-    else if bytes_eq word (codes "enabled") then Some Enabled
-    else if bytes_eq word (codes "journal") then Some Journal
-    else if bytes_eq word (codes "facts") then Some Facts
+    if bytes_eq word (codes "rewind") then Some (Ask ask.Rewind)
+    else if bytes_eq word (codes "commit") then Some (Ask ask.Commit)
+    else if bytes_eq word (codes "next") then Some (Look look.Next)
+    else if bytes_eq word (codes "enabled") then Some (Look look.Enabled)
+    else if bytes_eq word (codes "journal") then Some (Look look.Journal)
+    else if bytes_eq word (codes "facts") then Some (Look look.Facts)
     else None
 
 -- the command of a word and the number that follows it
@@ -29,10 +31,10 @@ numbered_command word number = option_and_then command (number_of number)
   where
     command : ℕ → Option Command
     command number =
-        if bytes_eq word (codes "take") then Some (Take number)
-        else if bytes_eq word (codes "do") then Some (Do number)
-        else if bytes_eq word (codes "done") then Some (Done number)
-        else if bytes_eq word (codes "fail") then Some (Fail number)
+        if bytes_eq word (codes "take") then Some (Ask (ask.Take number))
+        else if bytes_eq word (codes "do") then Some (Ask (ask.Do number))
+        else if bytes_eq word (codes "done") then Some (Ask (ask.Done number))
+        else if bytes_eq word (codes "fail") then Some (Ask (ask.Fail number))
         else None
 
 -- the line of a command, if it is one

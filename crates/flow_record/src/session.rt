@@ -9,6 +9,7 @@ use crate::lines::{is_word, split_line};
 use crate::number::read_number;
 use crate::refusal::RecordRefusal;
 use crate::words::split_word;
+use flow_ask::{Ask, Look};
 use flow_model::MOST_LINES;
 use std::alloc::{AllocError, Global};
 
@@ -81,17 +82,17 @@ fn bare_command(word: &[u8]) -> Option<Command>
     ensures { result ≡ bare_command word.now }
 {
     if is_word(word, b"rewind") {
-        Some(Command::Rewind)
+        Some(Command::Ask(Ask::Rewind))
     } else if is_word(word, b"commit") {
-        Some(Command::Commit)
+        Some(Command::Ask(Ask::Commit))
     } else if is_word(word, b"next") {
-        Some(Command::Next)
+        Some(Command::Look(Look::Next))
     } else if is_word(word, b"enabled") {
-        Some(Command::Enabled)
+        Some(Command::Look(Look::Enabled))
     } else if is_word(word, b"journal") {
-        Some(Command::Journal)
+        Some(Command::Look(Look::Journal))
     } else if is_word(word, b"facts") {
-        Some(Command::Facts)
+        Some(Command::Look(Look::Facts))
     } else {
         None
     }
@@ -103,13 +104,13 @@ fn numbered_command(word: &[u8], number: &[u8]) -> Option<Command>
 {
     let number = read_number(number)?;
     if is_word(word, b"take") {
-        Some(Command::Take(number))
+        Some(Command::Ask(Ask::Take(number)))
     } else if is_word(word, b"do") {
-        Some(Command::Do(number))
+        Some(Command::Ask(Ask::Do(number)))
     } else if is_word(word, b"done") {
-        Some(Command::Done(number))
+        Some(Command::Ask(Ask::Done(number)))
     } else if is_word(word, b"fail") {
-        Some(Command::Fail(number))
+        Some(Command::Ask(Ask::Fail(number)))
     } else {
         None
     }

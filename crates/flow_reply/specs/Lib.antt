@@ -1,8 +1,11 @@
 pub mod Words
 pub mod Facts
-pub mod Refusal
-pub mod Reply
+pub mod Answer
+pub mod Look
 pub mod Conclusion
 pub mod Report
 pub mod Single
 pub mod Summary
+pub mod Replies
+pub mod Verdict
+pub mod Session

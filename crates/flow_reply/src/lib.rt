@@ -1,23 +1,27 @@
-//! The lines that the program writes of a run: replies, reports and summaries, each of them first as data.
+//! What is written of a run: answers, looks, reports and summaries, and whole sessions of commands.
 #![tactic(auto)]
 
 mod answer;
 mod conclusion;
+mod ending;
 mod facts;
-mod refusal;
-mod reply;
+mod look;
+mod replies;
 mod report;
+mod session;
 mod single;
 mod summary;
 mod verdict;
 mod words;
 
-pub use answer::Answer;
+pub use answer::print_answer;
 pub use conclusion::{Conclusion, conclusion_of};
+pub use ending::{status_of, verdict_of};
 pub use flow_record::Command;
-pub use refusal::Refusal;
-pub use reply::{Reply, print_reply, reply_of};
+pub use look::print_look;
+pub use replies::{reply_to, reply_to_all};
 pub use report::{Report, print_report, report_of};
+pub use session::{conclude, drive};
 pub use single::law_replies_are_single;
 pub use summary::{Summary, print_summary};
 pub use verdict::Verdict;

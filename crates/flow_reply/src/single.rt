@@ -1,7 +1,7 @@
-ghost use Rattle.flow_reply.specs.Single.{RepliesAreSingle, ReportsAreSingle};
+ghost use Rattle.flow_reply.specs.Single.{LooksAreSingle, ReportsAreSingle};
 
-/// What is written of a run is settled by the run: a command and its answer have one reply, and a verdict one report.
+/// What is written of a run is settled by the run: a look has one text, and a verdict one report. An answer has one by its definition.
 pub fn law_replies_are_single()
-    ensures replies { RepliesAreSingle }
+    ensures looks { LooksAreSingle }
     ensures reports { ReportsAreSingle }
 {}

@@ -1,7 +1,6 @@
 -- Each claim of a run is left to its taker, entry by entry; so duties are kept.
-use Rattle.std.proofs.Common.{◌≡◌, ℕ, List, [], ◌∷◌, ◌++◌, Some, Result, Ok, Err, ◌⊎◌, inl, inr, refl, sym, ap, ◌∙◌, subst, append-nil}
+use Rattle.std.proofs.Common.{◌≡◌, ℕ, List, [], ◌∷◌, ◌++◌, Some, inl, inr, refl, sym, ap, ◌∙◌, subst, append-nil}
 use Rattle.flow_model.specs.declared.history.Entry.{Entry}
-use Rattle.flow_model.specs.declared.history.FailEffect.{FailEffect}
 use Rattle.flow_model.specs.declared.history.Step.{Step}
 use Rattle.flow_model.specs.declared.history.Step.TheVariants.{Took, Done, Failed, Late, Did, Rewound, Committed}
 use Rattle.flow_model.specs.Decided.{cons_same, not_empty}
@@ -14,16 +13,10 @@ use Rattle.flow_model.proofs.MadeLists.{two_cuts, some_same}
 use Rattle.flow_laws.specs.Histories.{IsSound}
 use Rattle.flow_laws.specs.WellFormed.{IsWellFormed, IsConsistent}
 use Rattle.flow_duty_laws.proofs.Kept.{duties_are_kept}
-use Rattle.flow_core.specs.declared.refusal.DoRefusal.{DoRefusal}
-use Rattle.flow_core.specs.declared.refusal.DoRefusal.TheVariants as perform
-use Rattle.flow_core.specs.declared.refusal.PostRefusal.{PostRefusal}
-use Rattle.flow_core.specs.declared.refusal.PostRefusal.TheVariants as post
-use Rattle.flow_core.specs.declared.refusal.RewindRefusal.{RewindRefusal}
-use Rattle.flow_core.specs.declared.refusal.RewindRefusal.TheVariants as rewind
-use Rattle.flow_core.specs.declared.refusal.CommitRefusal.{CommitRefusal}
-use Rattle.flow_core.specs.declared.refusal.CommitRefusal.TheVariants as commit
 use Rattle.flow_core.specs.Run.{Run, schema, with_entry}
-use Rattle.flow_core.specs.Answers.{Performs, PostIsRefused, PostsDone, PostsFailed, Rewinds, Commits}
+use Rattle.flow_ask.specs.declared.ask.Ask.{Ask}
+use Rattle.flow_ask.specs.declared.ask.Ask.TheVariants as ask
+use Rattle.flow_core.specs.Ask.{ComesOf, GrowsAtMost}
 use Rattle.flow_core.specs.Lawful.{IsLawful}
 use Rattle.flow_roles.specs.Desked.{Desked, KeepsDuties}
 use Rattle.flow_roles.specs.Answers.{IsLeftTo}
@@ -52,53 +45,25 @@ one_more w d history last dutiful left earlier later by claim leaf event e at = 
 abbrev pub GivesNone : Step → Type 0
 GivesNone step = (claim leaf : ℕ) → ¬ (step ≡ Took claim leaf)
 
--- the run is as it was, or has one entry more, which gives no claim
-abbrev pub StaysOrGoesOn : Run → Run → Type 0
-StaysOrGoesOn r after = (after ≡ r) ⊎ ((by : ℕ) × (step : Step) × GivesNone step × (after ≡ with_entry r by step))
-
-pub performed : (r : Run) (leaf by : ℕ) (answer : Result (Unit {0}) DoRefusal) (after : Run) → Performs r leaf by answer after → StaysOrGoesOn r after
-performed r leaf by (Err perform.Closed) after h = inl h.1
-performed r leaf by (Err perform.NoLeaf) after h = inl h.2
-performed r leaf by (Err perform.WrongKind) after h = inl h.2
-performed r leaf by (Err (perform.Spent limit)) after h = inl h.3
-performed r leaf by (Err perform.NotEnabled) after h = inl h.4
-performed r leaf by (Err perform.TestFalse) after h = inl h.4
-performed r leaf by (Ok x) after h = inr (by, Did leaf, (λ claim leaf e. cc), h.4)
-
-refused : (r : Run) (claim by : ℕ) (refusal : PostRefusal) (after : Run) → PostIsRefused r claim by refusal after → StaysOrGoesOn r after
-refused r claim by post.Closed after h = inl h.1
-refused r claim by post.NoClaim after h = inl h.2
-refused r claim by post.Answered after h = inl h.2
-refused r claim by (post.Spent limit) after h = inl h.3
-refused r claim by (post.Late of at) after h = inr (by, Late claim, (λ claim leaf e. cc), h.4)
-
-pub done_posted : (r : Run) (claim by : ℕ) (answer : Result (Unit {0}) PostRefusal) (after : Run) → PostsDone r claim by answer after → StaysOrGoesOn r after
-done_posted r claim by (Err refusal) after h = refused r claim by refusal after h
-done_posted r claim by (Ok x) after h = inr (by, Done claim, (λ claim leaf e. cc), h.3)
-
-pub failed_posted : (r : Run) (claim by : ℕ) (answer : Result FailEffect PostRefusal) (after : Run) → PostsFailed r claim by answer after → StaysOrGoesOn r after
-failed_posted r claim by (Err refusal) after h = refused r claim by refusal after h
-failed_posted r claim by (Ok effect) after h = inr (by, Failed claim effect, (λ claim leaf e. cc), h.4)
-
-pub rewound : (r : Run) (by : ℕ) (answer : Result ℕ RewindRefusal) (after : Run) → Rewinds r by answer after → StaysOrGoesOn r after
-rewound r by (Err rewind.Closed) after h = inl h.1
-rewound r by (Err (rewind.Spent limit)) after h = inl h.2
-rewound r by (Err rewind.NoChoice) after h = inl h.3
-rewound r by (Ok index) after h = inr (by, Rewound index, (λ claim leaf e. cc), h.3)
-
-pub committed : (r : Run) (by : ℕ) (answer : Result (Unit {0}) CommitRefusal) (after : Run) → Commits r by answer after → StaysOrGoesOn r after
-committed r by (Err commit.Closed) after h = inl h.1
-committed r by (Err (commit.Spent limit)) after h = inl h.2
-committed r by (Err (commit.ClaimsOut claim)) after h = inl h.3
-committed r by (Err commit.Unfinished) after h = inl h.4
-committed r by (Ok x) after h = inr (by, Committed, (λ claim leaf e. cc), h.4)
+-- what comes of an ask that is no take
+gives_none : (what : Ask) (step : Step) → ((leaf : ℕ) → ¬ (what ≡ ask.Take leaf)) → ComesOf what step → GivesNone step
+gives_none (ask.Take leaf) step other comes = absurd (other leaf refl)
+gives_none (ask.Do n) (Did leaf) other comes = λ claim leaf e. cc
+gives_none (ask.Done n) (Done claim) other comes = λ claim leaf e. cc
+gives_none (ask.Done n) (Late claim) other comes = λ claim leaf e. cc
+gives_none (ask.Fail n) (Failed claim effect) other comes = λ claim leaf e. cc
+gives_none (ask.Fail n) (Late claim) other comes = λ claim leaf e. cc
+gives_none ask.Rewind (Rewound index) other comes = λ claim leaf e. cc
+gives_none ask.Commit Committed other comes = λ claim leaf e. cc
+gives_none what step other comes = absurd comes
 
 -- so what a desk keeps stays
-pub still_dutiful : (d : Duties) (r after : Run) → StaysOrGoesOn r after → IsDutiful (schema r) d r.history → IsDutiful (schema after) d after.history
-still_dutiful d r after (inl same) dutiful = subst (λ (x : Run). IsDutiful (schema x) d x.history) (sym same) dutiful
-still_dutiful d r after (inr (by, step, none, is)) dutiful =
+pub still_dutiful : (d : Duties) (r after : Run) (what : Ask) (by : ℕ) → ((leaf : ℕ) → ¬ (what ≡ ask.Take leaf)) → GrowsAtMost r what by after →
+    IsDutiful (schema r) d r.history → IsDutiful (schema after) d after.history
+still_dutiful d r after what by other (inl same) dutiful = subst (λ (x : Run). IsDutiful (schema x) d x.history) (sym same) dutiful
+still_dutiful d r after what by other (inr (step, comes, is)) dutiful =
     subst (λ (x : Run). IsDutiful (schema x) d x.history) (sym is)
-    (one_more (schema r) d r.history (record { by = by; step = step }) dutiful (λ claim leaf event took at. absurd (none claim leaf took)))
+    (one_more (schema r) d r.history (record { by = by; step = step }) dutiful (λ claim leaf event took at. absurd (gives_none what step other comes claim leaf took)))
 
 pub none_dutiful : (w : Schema) (d : Duties) → IsDutiful w d []
 none_dutiful w d earlier later by claim leaf event e at = absurd (not_empty earlier (took_by by claim leaf) later e)

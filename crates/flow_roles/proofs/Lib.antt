@@ -1,4 +1,5 @@
 pub mod Dutiful
+pub mod Growth
 pub mod SingleLemmas
 pub mod TakerLemmas
 pub mod TieLemmas

@@ -1,6 +1,7 @@
 //! The desk of a run: users take tasks at it, under a policy.
 #![tactic(auto)]
 
+mod answer;
 mod desk;
 mod post;
 mod refusal;

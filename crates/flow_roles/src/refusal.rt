@@ -1,3 +1,7 @@
+ghost use Rattle.std.specs.Prelude.{◌≡◌};
+
+use flow_ask::Refusal;
+use flow_core::{PostRefusal, TakeRefusal};
 use std::error::Error;
 use thiserror::Error;
 
@@ -24,4 +28,47 @@ pub enum DutyRefusal<R: Error> {
     Core(R),
     #[error(transparent)]
     Denied(Denied),
+}
+
+impl From<Denied> for Refusal {
+    ghost use Rattle.flow_roles.specs.Ask.{of_denied};
+
+    ghost from_gives = { λ denied told. told ≡ of_denied denied };
+
+    fn from(denied: Denied) -> Refusal {
+        match denied {
+            Denied::Role => Refusal::Role,
+            Denied::Separate(index) => Refusal::Separate(index),
+            Denied::Bind(index) => Refusal::Bind(index),
+            Denied::Holder(_) => Refusal::Holder,
+        }
+    }
+}
+
+impl From<DutyRefusal<TakeRefusal>> for Refusal {
+    ghost use Rattle.flow_core.specs.Ask.{of_take};
+    ghost use Rattle.flow_roles.specs.Ask.{of_duty};
+
+    ghost from_gives = { λ refusal told. told ≡ of_duty of_take refusal };
+
+    fn from(refusal: DutyRefusal<TakeRefusal>) -> Refusal {
+        match refusal {
+            DutyRefusal::Core(refusal) => Refusal::from(refusal),
+            DutyRefusal::Denied(denied) => Refusal::from(denied),
+        }
+    }
+}
+
+impl From<DutyRefusal<PostRefusal>> for Refusal {
+    ghost use Rattle.flow_core.specs.Ask.{of_post};
+    ghost use Rattle.flow_roles.specs.Ask.{of_duty};
+
+    ghost from_gives = { λ refusal told. told ≡ of_duty of_post refusal };
+
+    fn from(refusal: DutyRefusal<PostRefusal>) -> Refusal {
+        match refusal {
+            DutyRefusal::Core(refusal) => Refusal::from(refusal),
+            DutyRefusal::Denied(denied) => Refusal::from(denied),
+        }
+    }
 }

@@ -1,7 +1,7 @@
 use Rattle.std.proofs.Common.{◌≡◌, ◌<◌, ◌≤◌, ◌+◌, ℕ, List, [], ◌∷◌, ◌++◌, length, take, set, get_or, refl, sym, ◌∙◌, subst, subst₂, arith, length-set}
 use Rattle.std.proofs.lemmas.List.{length-replicate, take_all, take_more, take_more_set}
-use Rattle.flow_core.specs.declared.ask.Ask.{Ask}
-use Rattle.flow_core.specs.declared.ask.Ask.TheVariants.{Take}
+use Rattle.flow_ask.specs.declared.ask.Ask.{Ask}
+use Rattle.flow_ask.specs.declared.ask.Ask.TheVariants.{Take}
 use Rattle.flow_core.specs.declared.ask.Told.{Told}
 use Rattle.flow_core.specs.Run.{Run}
 use Rattle.flow_core.specs.Ask.{IsTold, IsPlayed}
@@ -20,13 +20,13 @@ loop-index-preserved g c =
     let i : ℕ = c.loop-index.index in
     let asks : take (i + 1) c.args.asks.now ≡ take i c.args.asks.now ++ get_or c.args.asks.now i (Take 0) ∷ [] =
     take_more c.args.asks.now i (Take 0) (let e : length c.args.asks.now ≡ g.row.N = c.told-asks in let h : i < g.row.N = c.loop-index-test.true in omega arith) in
-    let tolds : take (i + 1) (set c.loop-index.told i c.answer.result) ≡ take i c.loop-index.told ++ c.answer.result ∷ [] =
-    take_more_set c.loop-index.told i c.answer.result (let e : length c.loop-index.told ≡ g.row.N = c.loop-index.invariant.as_many in let h : i < g.row.N = c.loop-index-test.true in omega arith) in
+    let tolds : take (i + 1) (set c.loop-index.told i c.from.result) ≡ take i c.loop-index.told ++ c.from.result ∷ [] =
+    take_more_set c.loop-index.told i c.from.result (let e : length c.loop-index.told ≡ g.row.N = c.loop-index.invariant.as_many in let h : i < g.row.N = c.loop-index-test.true in omega arith) in
     record {
       played = subst₂ (λ (asks : List Ask) (tolds : List Told). IsPlayed c.args.core.now c.args.by asks tolds c.answer.new.self) (sym asks) (sym tolds)
-          (played-append c.args.core.now c.args.by (take i c.args.asks.now) (take i c.loop-index.told) c.loop-index.core (get_or c.args.asks.now i (Take 0)) c.answer.result c.answer.new.self
-          c.loop-index.invariant.played c.answer.ensures);
-      as_many = length-set c.loop-index.told i c.answer.result ∙ c.loop-index.invariant.as_many;
+          (played-append c.args.core.now c.args.by (take i c.args.asks.now) (take i c.loop-index.told) c.loop-index.core (get_or c.args.asks.now i (Take 0)) c.from.result c.answer.new.self
+          c.loop-index.invariant.played (c.answer.result, c.answer.ensures, c.from.ensures));
+      as_many = length-set c.loop-index.told i c.from.result ∙ c.loop-index.invariant.as_many;
     }
 
 pub returns : goal.returns

@@ -1,8 +1,10 @@
-use Rattle.flow_roles.proofs.Dutiful.{done_posted, still_dutiful}
+use Rattle.flow_ask.specs.declared.ask.Ask.TheVariants as ask
+use Rattle.flow_core.proofs.Growth.{done_grow}
+use Rattle.flow_roles.proofs.Dutiful.{still_dutiful}
 use Rattle.flow_roles.proofs.desk.Desk.done.Goals as goal
 
 pub invariant_of-self : goal.invariant_of-self
 invariant_of-self c =
     let before = c.self.inside.core in
     let after = c.done.new.self in
-    still_dutiful c.self.inside.policy.duties before after (done_posted before c.args.claim c.args.by c.done.result after c.done.ensures) c.self.invariant
+    still_dutiful c.self.inside.policy.duties before after (ask.Done c.args.claim) c.args.by (λ leaf e. cc) (done_grow before after c.args.claim c.args.by c.done.result c.done.ensures) c.self.invariant
