@@ -21,7 +21,7 @@ use Rattle.flow_front.specs.Status.{Tells}
 use Rattle.flow_front.specs.Refusal.{the_source, IsCause}
 use Rattle.flow_front.specs.Input.{IsInputOf}
 use Rattle.flow_front.specs.Prepared.{IsNotPrepared}
-use Rattle.flow_drive.specs.Verdict.{ended}
+use Rattle.flow_reply.specs.Verdict.{ended}
 
 -- an end in the words of reports
 abbrev pub verdict_of : End → Verdict

@@ -9,7 +9,7 @@ use Rattle.flow_expand.specs.Workflows.{IsExpanded}
 use Rattle.flow_policy.specs.Assigned.{Assigned}
 use Rattle.flow_policy.specs.declared.duty.Duty.{Duty}
 use Rattle.flow_roles.specs.Desked.{Desked}
-use Rattle.flow_drive.specs.Session.{Driven, IsDrivenOutput}
+use Rattle.flow_reply.specs.Session.{Driven, IsDrivenOutput}
 use Rattle.flow_duty.specs.Session.{IsUserSession}
 use Rattle.flow_front.specs.declared.output.Output.{Output}
 use Rattle.flow_cli.specs.Finding.{driven, IsFound}

@@ -33,7 +33,7 @@ use Rattle.flow_front.specs.Status.{Tells}
 use Rattle.flow_front.specs.Stop.{IsStop, TellsStop}
 use Rattle.flow_front.specs.Refusal.{the_source, IsCause}
 use Rattle.flow_front.specs.Input.{IsInputOf, IsReadWhole, LeavesSource}
-use Rattle.flow_drive.specs.Verdict.{ended}
+use Rattle.flow_reply.specs.Verdict.{ended}
 use Rattle.flow_cli.specs.Finding.{Finding, driven, ran, traced, audited, verified, tried, summarized, status_of_checked, status_of_found, finding_status, came_status, IsFound, Answers}
 use Rattle.flow_cli.specs.Large.{RunsGenerated}
 use Rattle.flow_cli.specs.Output.{Reads, Finds, IsTold, WritesOf, WritesAs, IsWhole, IsOfInput, IsOver, IsTakenFrom, IsOutcome, IsSummarized}

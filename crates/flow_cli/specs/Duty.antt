@@ -12,7 +12,7 @@ use Rattle.flow_policy.specs.Session.{duties_of}
 use Rattle.flow_findings.specs.declared.refused.Refused.{Refused}
 use Rattle.flow_front.specs.Refusal.{the_policy, the_duties}
 use Rattle.flow_front.specs.Stages.{Then, Prepares}
-use Rattle.flow_drive.specs.Session.{Driven}
+use Rattle.flow_reply.specs.Session.{Driven}
 use Rattle.flow_duty.specs.Session.{IsUserSession}
 use Rattle.flow_cli.specs.Finding.{Finding, driven}
 use Rattle.flow_cli.specs.Drive.{first_run}

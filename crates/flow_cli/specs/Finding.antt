@@ -29,8 +29,8 @@ use Rattle.flow_front.specs.declared.output.Output.{Output}
 use Rattle.flow_front.specs.declared.stop.Stop.{Stop}
 use Rattle.flow_front.specs.Status.{status_of}
 use Rattle.flow_front.specs.Stages.{Comes}
-use Rattle.flow_drive.specs.Verdict.{ended, report_of}
-use Rattle.flow_drive.specs.Session.{Driven, driven_text}
+use Rattle.flow_reply.specs.Verdict.{ended, report_of}
+use Rattle.flow_reply.specs.Session.{Driven, driven_text}
 
 pub data Finding : Type 0 where
   -- some execution of the workflow meets every constraint

@@ -4,10 +4,10 @@ ghost use Rattle.flow_cli.specs.Finding.{Answers};
 ghost use Rattle.flow_cli.specs.Drive.{IsStepCount, DrivesSaid, DrivesText};
 
 use flow_core::Core;
-use flow_drive::drive;
 use flow_form::Script;
 use flow_front::{Output, Prepared, Stop, prepare};
 use flow_record::{Command, read_session};
+use flow_reply::drive;
 use std::alloc::Global;
 
 /// The number of the caller that makes the entries of a session.

@@ -8,11 +8,10 @@ ghost use Rattle.flow_cli.specs.Run.{IsCrew, verdict_of, HasRun, RunsWorkflow, R
 
 use flow_core::Core;
 use flow_crew::{Book, End, run_crew};
-use flow_drive::status_of;
 use flow_form::Script;
 use flow_front::{Output, Prepared, Stop, prepare};
 use flow_gate::Gate;
-use flow_reply::{Verdict, print_report};
+use flow_reply::{Verdict, print_report, status_of};
 use std::alloc::{AllocError, Global};
 use std::sync::Wait;
 use std::thread::Threads;

@@ -25,7 +25,7 @@ use Rattle.flow_words.specs.Words.{OneRequest}
 use Rattle.flow_front.specs.declared.status.Status.{Status}
 use Rattle.flow_front.specs.declared.status.Status.TheVariants.{ReadFault}
 use Rattle.flow_front.specs.Refusal.{workflow_part, second_part, the_workflow, IsCause}
-use Rattle.flow_drive.specs.Verdict.{ended, report_of}
+use Rattle.flow_reply.specs.Verdict.{ended, report_of}
 use Rattle.flow_cli.specs.Finding.{Finding, ran, IsWritten}
 use Rattle.flow_cli.specs.Run.{IsRunOf, RunsWorkflow, RunsSaid}
 use Rattle.flow_cli.specs.Output.{WritesAs}

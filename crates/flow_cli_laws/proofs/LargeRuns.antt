@@ -26,7 +26,7 @@ use Rattle.flow_words.specs.declared.request.Mode.{Mode}
 use Rattle.flow_words.specs.declared.request.Request.{Request}
 use Rattle.flow_words.specs.Words.{IsWithin, OneRequest}
 use Rattle.flow_front.specs.declared.status.Status.{Status}
-use Rattle.flow_drive.specs.Verdict.{ended}
+use Rattle.flow_reply.specs.Verdict.{ended}
 use Rattle.flow_cli.specs.Finding.{Finding, summarized, summary_line, IsWritten}
 use Rattle.flow_cli.specs.Large.{summary_of, IsSummaryOf}
 use Rattle.flow_cli.specs.Run.{IsRunOf}

@@ -21,7 +21,7 @@ use Rattle.flow_words.specs.Words.{IsCall, IsWithin}
 use Rattle.flow_front.specs.declared.status.Status.{Status}
 use Rattle.flow_front.specs.declared.status.Status.TheVariants.{Fine, ReadFault}
 use Rattle.flow_front.specs.Refusal.{workflow_part}
-use Rattle.flow_drive.specs.Verdict.{report_of}
+use Rattle.flow_reply.specs.Verdict.{report_of}
 use Rattle.flow_reply.specs.declared.summary.Summary.{Summary}
 use Rattle.flow_gen.specs.Generated.{generated}
 use Rattle.flow_gen.specs.Laws.{choice_count}

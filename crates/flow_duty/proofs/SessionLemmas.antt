@@ -1,8 +1,7 @@
 -- Sessions of users, one line after another.
-use Rattle.std.proofs.Common.{◌≡◌, ◌<◌, ◌+◌, ℕ, suc, List, [], ◌∷◌, ◌++◌, length, take, drop, get_or, refl, sym, ap, ◌∙◌, subst, append_assoc, append-nil, inl, inr, drop-cons, Result, Ok, Err}
+use Rattle.std.proofs.Common.{◌≡◌, ℕ, List, [], ◌∷◌, Result, Ok, Err, refl, ap, ◌∙◌, subst}
 use Rattle.std.specs.Prelude.{IfOk}
 use Rattle.std.specs.declared.alloc.AllocError.{AllocError}
-use Rattle.std.proofs.lemmas.List.{take_more, take-append-drop}
 use Rattle.flow_model.specs.Run.{state_of}
 use Rattle.flow_model.specs.Takers.{takings_of}
 use Rattle.flow_model.specs.Duties.{DutiesHold}
@@ -10,91 +9,26 @@ use Rattle.flow_workflow.specs.Definition.{Definition, schema_of}
 use Rattle.flow_core.specs.Run.{Run, schema}
 use Rattle.flow_core.specs.Lawful.{IsLawful}
 use Rattle.flow_front.specs.declared.output.Output.{Output}
-use Rattle.flow_drive.specs.Session.{Driven, came_of, IsDrivenOutput}
-use Rattle.flow_drive.proofs.SessionLemmas.{lawful_since, verdict_since}
+use Rattle.flow_reply.specs.Replies.{Goes}
+use Rattle.flow_reply.specs.Session.{Driven, came_of, IsDrivenOutput}
+use Rattle.flow_reply.proofs.SessionLemmas.{lawful_since, verdict_since}
 use Rattle.flow_policy.specs.Assigned.{Assigned}
 use Rattle.flow_policy.specs.declared.duty.Duty.{Duty}
 use Rattle.flow_roles.specs.Desked.{Desked, KeepsDuties}
-use Rattle.flow_duty.specs.Replies.{RepliesToLine, IsLineGiven, DrivesDesk, IsFrontGiven}
+use Rattle.flow_duty.specs.Replies.{Replied, DrivesDesk}
 use Rattle.flow_duty.specs.Session.{IsUserSession}
-use Rattle.flow_duty.proofs.DeskLemmas.{SameDesk, line_same, line_given}
-
--- a session goes on with one line more
-drives_more : (old middle new : Desked) (by user caller : ℕ) (session : List Duty) (line : Duty) (text reply : List ℕ) → DrivesDesk old by session text middle user →
-    RepliesToLine middle user line reply new caller → DrivesDesk old by (session ++ line ∷ []) (text ++ reply) new caller
-drives_more old middle new by user caller [] line text reply d r = (
-  new,
-  (
-    caller,
-    (
-      reply,
-      (
-        [],
-        subst (λ (p : Desked). RepliesToLine p by line reply new caller) d.1 (subst (λ (u : ℕ). RepliesToLine middle u line reply new caller) d.2 r),
-        (refl, refl, refl),
-        ap (λ t. t ++ reply) d.0 ∙ sym (append-nil reply),
-      ),
-    ),
-  ),
-)
-drives_more old middle new by user caller (c ∷ session) line text reply (m, (u, (l, (rest, first, later, e)))) r =
-    (m, (u, (l, (rest ++ reply, first, drives_more m middle new u user caller session line rest reply later r, ap (λ t. t ++ reply) e ∙ append_assoc l rest reply))))
-
--- the front of a session goes on with the next line
-pub drives_next : (old middle new : Desked) (by user caller : ℕ) (session : List Duty) (i : ℕ) (d : Duty) (text reply both : List ℕ) → i < length session →
-    DrivesDesk old by (take i session) text middle user → RepliesToLine middle user (get_or session i d) reply new caller → both ≡ text ++ reply →
-    DrivesDesk old by (take (i + 1) session) both new caller
-drives_next old middle new by user caller session i d text reply both within driven replied is =
-    subst (λ (t : List ℕ). DrivesDesk old by (take (i + 1) session) t new caller) (sym is)
-    (subst (λ (front : List Duty). DrivesDesk old by front (text ++ reply) new caller) (sym (take_more session i d within))
-    (drives_more old middle new by user caller (take i session) (get_or session i d) text reply driven replied))
-
--- ---- where memory was wanted for what is told
-
--- no line was given
-none_given : (old new : Desked) (by caller : ℕ) (session : List Duty) → new ≡ old → caller ≡ by → IsFrontGiven old by session new caller
-none_given old new by caller [] same is = (same, is)
-none_given old new by caller (line ∷ session) same is = inl (same, is)
-
--- those before were given, and were told of
-front_given : (old new : Desked) (by caller : ℕ) (front rest : List Duty) (text : List ℕ) → DrivesDesk old by front text new caller →
-    IsFrontGiven old by (front ++ rest) new caller
-front_given old new by caller [] rest text d = none_given old new by caller rest d.1 d.2
-front_given old new by caller (line ∷ front) rest text (m, (u, (reply, (others, replied, later, e)))) =
-    inr (m, (u, (line_given old m by u line reply replied, front_given m new u caller front rest others later)))
-
--- those before were told of, and one more was given
-one_more_given : (old middle new : Desked) (by user caller : ℕ) (front rest : List Duty) (text : List ℕ) (d : Duty) → DrivesDesk old by front text middle user →
-    IsLineGiven middle user d new caller → IsFrontGiven old by (front ++ d ∷ rest) new caller
-one_more_given old middle new by user caller [] rest text d driven given =
-    let same : IsLineGiven old user d new caller = subst (λ (p : Desked). IsLineGiven p user d new caller) driven.1 given in
-    inr (new, (caller, (subst (λ (u : ℕ). IsLineGiven old u d new caller) driven.2 same, none_given new new caller caller rest refl refl)))
-one_more_given old middle new by user caller (line ∷ front) rest text d (m, (u, (reply, (others, replied, later, e)))) given =
-    inr (m, (u, (line_given old m by u line reply replied, one_more_given m middle new u user caller front rest others d later given)))
-
--- all were given
-pub all_given : (old new : Desked) (by caller : ℕ) (session : List Duty) (text : List ℕ) → DrivesDesk old by session text new caller → IsFrontGiven old by session new caller
-all_given old new by caller session text d =
-    subst (λ (all : List Duty). IsFrontGiven old by all new caller) (append-nil session) (front_given old new by caller session [] text d)
-
--- of a session those before the next line were told of, and that one was given
-pub next_given : (old middle new : Desked) (by user caller : ℕ) (session : List Duty) (i : ℕ) (d : Duty) (text : List ℕ) → i < length session →
-    DrivesDesk old by (take i session) text middle user → IsLineGiven middle user (get_or session i d) new caller → IsFrontGiven old by session new caller
-next_given old middle new by user caller session i d text within driven given =
-    subst (λ (all : List Duty). IsFrontGiven old by all new caller)
-    (ap (λ (rest : List Duty). take i session ++ rest) (sym (drop-cons session i d within)) ∙ take-append-drop i session)
-    (one_more_given old middle new by user caller (take i session) (drop (suc i) session) text (get_or session i d) driven given)
-
--- ---- a whole session
+use Rattle.flow_duty.proofs.DeskLemmas.{SameDesk, is_same, line_same}
 
 -- a session is of one workflow, one limit and one policy
-drives_same : (old new : Desked) (by caller : ℕ) (session : List Duty) (text : List ℕ) → DrivesDesk old by session text new caller → SameDesk old new
-drives_same old new by caller [] text d =
-    ((ap (λ (a : Desked). a.run.definition) d.1, ap (λ (a : Desked). a.run.limit) d.1), ap (λ (a : Desked). a.assigned) d.1)
-drives_same old new by caller (c ∷ session) text (m, (u, (reply, (rest, replied, later, e)))) =
-    let first = line_same old m by u c reply replied in
-    let others = drives_same m new u caller session rest later in
+goes_same : (s t : Desked × ℕ) (session : List Duty) (text : List ℕ) → Goes Replied s session text t → SameDesk s.0 t.0
+goes_same s t [] text d = is_same s.0 t.0 (ap (λ (p : Desked × ℕ). p.0) d.1)
+goes_same s t (c ∷ session) text (m, (reply, (rest, replied, later, e))) =
+    let first = line_same s.0 m.0 s.1 m.1 c reply replied in
+    let others = goes_same m t session rest later in
     ((others.0.0 ∙ first.0.0, others.0.1 ∙ first.0.1), others.1 ∙ first.1)
+
+drives_same : (old new : Desked) (by caller : ℕ) (session : List Duty) (text : List ℕ) → DrivesDesk old by session text new caller → SameDesk old new
+drives_same old new by caller session text d = goes_same (old, by) (new, caller) session text d
 
 -- what came of a session that was concluded
 user_session : (first last : Desked) (by caller : ℕ) (session : List Duty) (replies : List ℕ) → DrivesDesk first by session replies last caller →

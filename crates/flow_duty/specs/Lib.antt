@@ -1,4 +1,3 @@
-pub mod Decisions
 pub mod Replies
 pub mod Session
 pub mod Single

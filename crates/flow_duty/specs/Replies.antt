@@ -1,13 +1,13 @@
 -- What is replied to the lines of users, who calls from then on, and the desk that comes of them.
-use Rattle.std.specs.Prelude.{◌≡◌, ◌≤◌, ◌-◌, ◌⊎◌, ℕ, List, [], ◌∷◌, ◌++◌, Some, slice_get, codes}
+use Rattle.std.specs.Prelude.{◌≡◌, ◌≤◌, ◌-◌, ◌⊎◌, ℕ, List, ◌++◌, Some, slice_get, codes}
 use Rattle.flow_model.specs.Lists.{◌∈◌}
 use Rattle.flow_record.specs.declared.command.Command.{Command as RunCommand}
 use Rattle.flow_policy.specs.Assigned.{Assigned}
 use Rattle.flow_policy.specs.declared.duty.Duty.{Duty}
 use Rattle.flow_policy.specs.declared.duty.Duty.TheVariants.{As, Command}
 use Rattle.flow_roles.specs.Desked.{Desked}
-use Rattle.flow_duty.specs.declared.decision.Decision.{Decision}
-use Rattle.flow_duty.specs.Decisions.{Decides, IsDecisionLine}
+use Rattle.flow_roles.specs.Ask.{DeskAnswers}
+use Rattle.flow_reply.specs.Replies.{Replies, Given, Goes, GoesPart}
 
 -- the user of that name has the number
 abbrev pub IsUser : Assigned → List ℕ → ℕ → Type 0
@@ -22,13 +22,12 @@ CallsAs a by name line caller =
 abbrev pub IsCalled : Assigned → ℕ → List ℕ → ℕ → Type 0
 IsCalled a by name caller = IsUser a name caller ⊎ (¬ (name ∈ a.users) × (caller ≡ by))
 
+abbrev pub IsSame : Desked → Desked → Type 0
+IsSame one other = other ≡ one
+
 -- the desk replies to the caller's command by this line, and is this afterwards
 abbrev pub RepliesToCommand : Desked → ℕ → RunCommand → List ℕ → Desked → Type 0
-RepliesToCommand d by command line after = (decision : Decision) × Decides d by command decision after × IsDecisionLine after.run command decision line
-
--- the caller's command was given to the desk, whatever was told of it, and the desk is this afterwards
-abbrev pub IsCommandGiven : Desked → ℕ → RunCommand → Desked → Type 0
-IsCommandGiven d by command after = (decision : Decision) × Decides d by command decision after
+RepliesToCommand d by command line after = Replies (λ desk. desk.run) DeskAnswers IsSame by d command line after
 
 -- the reply to a line, the desk afterwards, and who calls from then on
 abbrev pub RepliesToLine : Desked → ℕ → Duty → List ℕ → Desked → ℕ → Type 0
@@ -38,18 +37,20 @@ RepliesToLine d by (Command command) line after caller = RepliesToCommand d by c
 -- the line was given, whatever was told of it
 abbrev pub IsLineGiven : Desked → ℕ → Duty → Desked → ℕ → Type 0
 IsLineGiven d by (As name) after caller = IsCalled d.assigned by name caller × (after ≡ d)
-IsLineGiven d by (Command command) after caller = IsCommandGiven d by command after × (caller ≡ by)
+IsLineGiven d by (Command command) after caller = Given DeskAnswers IsSame by d command after × (caller ≡ by)
+
+-- ---- a desk, and who calls at it
+
+abbrev pub Replied : Desked × ℕ → Duty → List ℕ → Desked × ℕ → Type 0
+Replied s line reply t = RepliesToLine s.0 s.1 line reply t.0 t.1
+
+abbrev pub WasGiven : Desked × ℕ → Duty → Desked × ℕ → Type 0
+WasGiven s line t = IsLineGiven s.0 s.1 line t.0 t.1
 
 -- the desk replies to the lines of a session, one after another, by these; it is this afterwards, and this one calls then
 abbrev pub DrivesDesk : Desked → ℕ → List Duty → List ℕ → Desked → ℕ → Type 0
-DrivesDesk d by [] text after caller = (text ≡ []) × (after ≡ d) × (caller ≡ by)
-DrivesDesk d by (line ∷ lines) text after caller =
-    (next : Desked) × ((user : ℕ) × ((reply : List ℕ) × ((rest : List ℕ) ×
-    RepliesToLine d by line reply next user × DrivesDesk next user lines rest after caller × (text ≡ reply ++ rest))))
+DrivesDesk d by lines text after caller = Goes Replied (d, by) lines text (after, caller)
 
 -- the first of the lines, none or some or all of them, were given, and no other; the desk is this afterwards, and this one calls then
 abbrev pub IsFrontGiven : Desked → ℕ → List Duty → Desked → ℕ → Type 0
-IsFrontGiven d by [] after caller = (after ≡ d) × (caller ≡ by)
-IsFrontGiven d by (line ∷ lines) after caller =
-    ((after ≡ d) × (caller ≡ by))
-    ⊎ ((next : Desked) × ((user : ℕ) × (IsLineGiven d by line next user × IsFrontGiven next user lines after caller)))
+IsFrontGiven d by lines after caller = GoesPart WasGiven (d, by) lines (after, caller)

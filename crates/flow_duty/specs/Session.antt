@@ -8,7 +8,7 @@ use Rattle.flow_model.specs.Duties.{DutiesHold}
 use Rattle.flow_model.specs.Verdict as model
 use Rattle.flow_core.specs.Run.{schema}
 use Rattle.flow_core.specs.Lawful.{IsLawful}
-use Rattle.flow_drive.specs.Session.{Driven}
+use Rattle.flow_reply.specs.Session.{Driven}
 use Rattle.flow_policy.specs.declared.duty.Duty.{Duty}
 use Rattle.flow_roles.specs.Desked.{Desked}
 use Rattle.flow_duty.specs.Replies.{DrivesDesk}

@@ -1,7 +1,7 @@
 -- A session of users comes to one thing.
 use Rattle.std.specs.Prelude.{◌≡◌, ℕ, List}
 use Rattle.flow_model.specs.Lists.{AreDistinct}
-use Rattle.flow_drive.specs.Session.{Driven}
+use Rattle.flow_reply.specs.Session.{Driven}
 use Rattle.flow_policy.specs.declared.duty.Duty.{Duty}
 use Rattle.flow_roles.specs.Desked.{Desked}
 use Rattle.flow_duty.specs.Session.{IsUserSession}

@@ -1,10 +1,9 @@
 ghost use Rattle.std.specs.Prelude.{◌≡◌, IfOk, OnErr};
-ghost use Rattle.flow_duty.specs.Replies.{CallsAs, IsCalled, RepliesToCommand, IsCommandGiven, RepliesToLine, IsLineGiven, DrivesDesk, IsFrontGiven};
+ghost use Rattle.flow_duty.specs.Replies.{CallsAs, IsCalled, RepliesToLine, IsLineGiven, DrivesDesk, IsFrontGiven};
 
-use crate::decision::{decide, print_decision};
 use flow_facts::Name;
 use flow_policy::{Duty, Policy};
-use flow_record::{Command, print_pieces};
+use flow_record::print_pieces;
 use flow_roles::Desk;
 use std::alloc::{AllocError, Global};
 
@@ -21,7 +20,7 @@ pub fn reply_to(
 {
     match line {
         Duty::As(name) => call(alloc, desk.policy(), caller, name),
-        Duty::Command(command) => reply_to_command(alloc, desk, *caller, command),
+        Duty::Command(command) => flow_reply::reply_to(alloc, desk, command, *caller),
     }
 }
 
@@ -42,20 +41,6 @@ fn call(
         }
         None => Vec::from_slice(alloc, b"refused user\n"),
     }
-}
-
-/// Gives the command of a caller to the desk, and gives the line of the reply.
-fn reply_to_command(
-    alloc: Global,
-    desk: &mut Desk,
-    by: u32,
-    command: &Command,
-) -> Result<Vec<u8>, AllocError>
-    ensures ok { IfOk result (λ reply. RepliesToCommand desk.old by command.now reply.items desk.new) }
-    ensures err { OnErr result (IsCommandGiven desk.old by command.now desk.new) }
-{
-    let decision = decide(desk, command, by);
-    print_decision(alloc, desk, command, &decision)
 }
 
 /// Goes through the lines of a session, and gives the replies.

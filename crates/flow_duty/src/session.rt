@@ -1,12 +1,12 @@
 ghost use Rattle.std.specs.Prelude.{IfOk, OnErr};
-ghost use Rattle.flow_drive.specs.Session.{Driven, IsDrivenOutput};
+ghost use Rattle.flow_reply.specs.Session.{Driven, IsDrivenOutput};
 ghost use Rattle.flow_duty.specs.Replies.{IsFrontGiven};
 ghost use Rattle.flow_duty.specs.Session.{IsUserSession};
 
 use crate::replies::reply_to_all;
-use flow_drive::conclude;
 use flow_front::Output;
 use flow_policy::Duty;
+use flow_reply::conclude;
 use flow_roles::Desk;
 use std::alloc::{AllocError, Global};
 

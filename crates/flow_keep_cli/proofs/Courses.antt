@@ -3,7 +3,7 @@ use Rattle.std.proofs.Common.{◌≡◌, ◌∙◌, ◌⊎◌, inl, inr, ℕ, Li
 use Rattle.flow_model.specs.Verdict as model
 use Rattle.flow_record.specs.declared.command.Command.{Command}
 use Rattle.flow_workflow.specs.Definition.{Definition}
-use Rattle.flow_drive.specs.Verdict.{ended}
+use Rattle.flow_reply.specs.Verdict.{ended}
 use Rattle.flow_core.specs.Run.{Run}
 use Rattle.flow_keep_cli.specs.declared.begin.Hindrance.{Hindrance}
 use Rattle.flow_keep_cli.specs.declared.begin.Hindrance.TheVariants as hindrance

@@ -11,8 +11,8 @@ use Rattle.flow_reply.specs.Reply.{IsReplyLine}
 use Rattle.flow_io.specs.Sink.{AppendsPart}
 use Rattle.flow_keep.specs.Records.{Keeps}
 use Rattle.flow_keep.specs.Kept.{KeepsEither}
-use Rattle.flow_drive.specs.Answers.{Answers}
-use Rattle.flow_drive.specs.Replies.{Drives}
+use Rattle.flow_reply.specs.Answers.{Answers}
+use Rattle.flow_reply.specs.Replies.{Drives}
 use Rattle.flow_keep_cli.specs.declared.replies.Cut.TheVariants as cut
 use Rattle.flow_keep_cli.specs.declared.status.KeepStatus.{KeepStatus}
 use Rattle.flow_keep_cli.specs.declared.status.KeepStatus.TheVariants as ending

@@ -7,10 +7,10 @@ use Rattle.flow_workflow.specs.Definition.{Definition, schema_of}
 use Rattle.flow_core.specs.Run.{Run, schema}
 use Rattle.flow_core.specs.Lawful.{IsLawful}
 use Rattle.flow_record.specs.declared.command.Command.{Command}
-use Rattle.flow_drive.specs.Replies.{Drives}
-use Rattle.flow_drive.specs.Session.{driven_text}
-use Rattle.flow_drive.proofs.AnswersLemmas.{SameRun}
-use Rattle.flow_drive.proofs.SessionLemmas.{drives_same}
+use Rattle.flow_reply.specs.Replies.{Drives}
+use Rattle.flow_reply.specs.Session.{driven_text}
+use Rattle.flow_reply.proofs.AnswersLemmas.{SameRun}
+use Rattle.flow_reply.proofs.SessionLemmas.{drives_same}
 use Rattle.flow_keep.specs.Records.{Keeps}
 use Rattle.flow_keep_cli.specs.declared.status.KeepStatus.{KeepStatus}
 use Rattle.flow_keep_cli.specs.Session.{driver, driven_report, IsCut, BehindStatus, IsWhole}

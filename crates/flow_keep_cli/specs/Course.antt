@@ -20,7 +20,7 @@ use Rattle.flow_keep_cli.specs.Lines.{kept_line, open_line, disk_line, foreign_l
 use Rattle.flow_keep_cli.specs.Session as session
 use Rattle.flow_keep_cli.specs.Session.{driven_report, BehindStatus, IsCut}
 use Rattle.flow_keep_cli.specs.Status.{status_of}
-use Rattle.flow_drive.specs.Verdict.{ended}
+use Rattle.flow_reply.specs.Verdict.{ended}
 use Rattle.flow_keep_cli.specs.Asked.{Wanted, IsWanted, IsRefused}
 
 -- the text is written with that status, or after a write that failed a front of it, and not all

@@ -5,10 +5,10 @@ use Rattle.flow_model.specs.Verdict.{drive_verdict}
 use Rattle.flow_core.specs.Run.{Run, schema}
 use Rattle.flow_record.specs.declared.command.Command.{Command}
 use Rattle.flow_reply.specs.declared.answer.Answer.{Answer}
-use Rattle.flow_drive.specs.Answers.{Answers}
-use Rattle.flow_drive.specs.Replies.{RepliesTo, Drives}
-use Rattle.flow_drive.specs.Verdict.{ended, report_of}
-use Rattle.flow_drive.specs.Session.{Driven, IsSession, driven_text}
+use Rattle.flow_reply.specs.Answers.{Answers}
+use Rattle.flow_reply.specs.Replies.{RepliesTo, Drives}
+use Rattle.flow_reply.specs.Verdict.{ended, report_of}
+use Rattle.flow_reply.specs.Session.{Driven, IsSession, driven_text}
 use Rattle.flow_keep.specs.Records.{Keeps}
 use Rattle.flow_keep_cli.specs.declared.replies.Cut.{Cut}
 use Rattle.flow_keep_cli.specs.declared.replies.Cut.TheVariants as cut

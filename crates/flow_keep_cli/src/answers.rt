@@ -2,7 +2,7 @@ ghost use Rattle.std.specs.Prelude.{◌≡◌, ◌-◌, ◌^◌, ◌<◌, ℕ, L
 ghost use Rattle.flow_disk.specs.Disk.{CountsFault};
 ghost use Rattle.flow_reply.specs.Reply.{IsAnswerTo};
 ghost use Rattle.flow_reply.specs.declared.answer.Answer.{Answer};
-ghost use Rattle.flow_drive.specs.Answers.{Answers};
+ghost use Rattle.flow_reply.specs.Answers.{Answers};
 ghost use Rattle.flow_keep.specs.Records.{Keeps};
 ghost use Rattle.flow_keep.specs.Kept.{KeepsEither};
 ghost use Rattle.flow_keep.specs.Holding.{run_of, disk_of, is_broken};

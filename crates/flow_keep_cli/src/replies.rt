@@ -1,6 +1,6 @@
 ghost use Rattle.std.specs.Prelude.{◌≡◌, ◌-◌, ◌^◌, ◌<◌, ℕ, List, [], false, IfErr, OnOk};
 ghost use Rattle.std.specs.Io.KnownBytes.{Appends};
-ghost use Rattle.flow_drive.specs.Replies.{Drives};
+ghost use Rattle.flow_reply.specs.Replies.{Drives};
 ghost use Rattle.flow_keep.specs.Holding.{run_of, disk_of, is_broken};
 ghost use Rattle.flow_keep_cli.specs.Session.{driver, IsCut, BehindReplies, CountsCut};
 

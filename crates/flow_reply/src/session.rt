@@ -4,8 +4,8 @@ ghost use Rattle.flow_core.specs.Lawful.{IsLawful};
 ghost use Rattle.flow_reply.specs.Replies.{IsFrontGiven};
 ghost use Rattle.flow_reply.specs.Session.{Driven, came_of, IsSession, IsDrivenOutput};
 
-use crate::replies::reply_to_all;
 use crate::ending::{status_of, verdict_of};
+use crate::replies::reply_to_all;
 use crate::report::print_report;
 use flow_core::Core;
 use flow_front::Output;

@@ -12,14 +12,18 @@ use Rattle.flow_core.specs.declared.refusal.PostRefusal.TheVariants as post
 use Rattle.flow_core.specs.Run.{Run, schema, now, with_entry}
 use Rattle.flow_core.specs.Answers.{next_claim, TakeIsRefused, Performs, PostIsRefused, PostsDone, PostsFailed, Rewinds, Commits}
 use Rattle.flow_core.specs.Holding.{IsTakeable, MayPost}
-use Rattle.flow_core.proofs.SingleLemmas.{not_over, not_both, takes_once, performs_once, posts_done_once, posts_failed_once, rewinds_once, commits_once}
+use Rattle.flow_core.proofs.SingleLemmas.{not_over, not_both, takes_once, performs_once, posts_done_once, posts_failed_once, rewinds_once, commits_once, by_once}
 use Rattle.flow_roles.specs.declared.refusal.Denied.{Denied}
 use Rattle.flow_roles.specs.declared.refusal.Denied.TheVariants.{Role, Separate, Bind, Holder}
 use Rattle.flow_roles.specs.declared.refusal.DutyRefusal.{DutyRefusal}
 use Rattle.flow_roles.specs.declared.refusal.DutyRefusal.TheVariants as duty
 use Rattle.flow_roles.specs.Desked.{Desked}
 use Rattle.flow_roles.specs.Answers.{IsLeftTo, IsDenied, WithPolicy, IsHolder, DeskPostIsRefused, DeskPostsDone, DeskPostsFailed}
-use Rattle.flow_roles.specs.Single.{IsSingleAtDesk, DeskTakesAreSingle, DeskPostsAreSingle, DeskOthersAreSingle}
+use Rattle.flow_roles.specs.Single.{IsSingleAtDesk, DeskTakesAreSingle, DeskPostsAreSingle, DeskOthersAreSingle, DeskAnswersAreSingle}
+use Rattle.flow_roles.specs.Ask.{of_duty}
+use Rattle.flow_ask.specs.declared.ask.Ask.TheVariants as ask
+use Rattle.flow_ask.specs.declared.made.Made.TheVariants as made
+use Rattle.flow_core.specs.Ask.{of_take, of_do, of_post, of_rewind, of_commit}
 
 -- What the run answers, under the policy that stays
 
@@ -175,3 +179,11 @@ others_at_desk d leaf by = (
   with_policy_once (Rewinds d.run by) (rewinds_once d.run by) d,
   with_policy_once (Commits d.run by) (commits_once d.run by) d,
 )
+
+pub answers_at_desk : DeskAnswersAreSingle
+answers_at_desk d (ask.Take leaf) by = by_once _ made.Claim (of_duty of_take) (takes_at_desk d leaf by)
+answers_at_desk d (ask.Do leaf) by = by_once _ (λ _. made.Did) of_do (others_at_desk d leaf by).0
+answers_at_desk d (ask.Done claim) by = by_once _ (λ _. made.Done) (of_duty of_post) (posts_at_desk d claim by).0
+answers_at_desk d (ask.Fail claim) by = by_once _ made.Failed (of_duty of_post) (posts_at_desk d claim by).1
+answers_at_desk d ask.Rewind by = by_once _ made.Rewound of_rewind (others_at_desk d 0 by).1
+answers_at_desk d ask.Commit by = by_once _ (λ _. made.Committed) of_commit (others_at_desk d 0 by).2

@@ -1,6 +1,8 @@
 -- Each ask at a desk has one answer, and leaves one run under the same policy.
 use Rattle.std.specs.Prelude.{◌≡◌, ℕ}
+use Rattle.flow_ask.specs.declared.ask.Ask.{Ask}
 use Rattle.flow_roles.specs.Desked.{Desked}
+use Rattle.flow_roles.specs.Ask.{DeskAnswers}
 use Rattle.flow_roles.specs.Answers.{DeskTakes, DeskPostsDone, DeskPostsFailed, DeskPerforms, DeskRewinds, DeskCommits}
 
 -- two answers are the same, and so are the desks that they leave
@@ -15,3 +17,6 @@ DeskPostsAreSingle = (d : Desked) (claim by : ℕ) → IsSingleAtDesk (DeskPosts
 
 abbrev pub DeskOthersAreSingle : Type 0
 DeskOthersAreSingle = (d : Desked) (leaf by : ℕ) → IsSingleAtDesk (DeskPerforms d leaf by) × IsSingleAtDesk (DeskRewinds d by) × IsSingleAtDesk (DeskCommits d by)
+
+abbrev pub DeskAnswersAreSingle : Type 0
+DeskAnswersAreSingle = (d : Desked) (ask : Ask) (by : ℕ) → IsSingleAtDesk (DeskAnswers d ask by)

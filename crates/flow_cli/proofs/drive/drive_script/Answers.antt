@@ -1,6 +1,6 @@
 use Rattle.std.proofs.Common.{refl, subst, inr}
 use Rattle.flow_core.specs.Run.{Run}
-use Rattle.flow_drive.specs.Session.{IsSession}
+use Rattle.flow_reply.specs.Session.{IsSession}
 use Rattle.flow_cli.specs.Finding.{driven}
 use Rattle.flow_cli.proofs.drive.drive_script.Goals as goal
 

@@ -1,5 +1,7 @@
-use Rattle.flow_drive.proofs.SessionLemmas.{after_error}
-use Rattle.flow_duty.proofs.SessionLemmas.{session_output, all_given}
+use Rattle.flow_reply.proofs.SessionLemmas.{after_error, all_given}
+use Rattle.flow_duty.specs.Replies.{Replied, WasGiven}
+use Rattle.flow_duty.proofs.DeskLemmas.{line_given}
+use Rattle.flow_duty.proofs.SessionLemmas.{session_output}
 use Rattle.flow_duty.proofs.session.drive.Goals as goal
 
 pub returns-clause-ok : goal.returns-clause-ok
@@ -10,4 +12,5 @@ returns-clause-ok c =
 pub returns-clause-err : goal.returns-clause-err
 returns-clause-err c =
     after_error c.conclude.result
-    (all_given c.args.desk.now c.reply_to_all.new.desk c.args.caller.now c.reply_to_all.new.caller c.args.lines.now c.in_ok-replies.replies.items c.in_ok-replies.ensures.ok)
+    (all_given Replied WasGiven (λ s t line reply replied. line_given s.0 t.0 s.1 t.1 line reply replied) (c.args.desk.now, c.args.caller.now)
+    (c.reply_to_all.new.desk, c.reply_to_all.new.caller) c.args.lines.now c.in_ok-replies.replies.items c.in_ok-replies.ensures.ok)

@@ -2,7 +2,7 @@ use Rattle.std.proofs.Common.{sym, subst}
 use Rattle.flow_core.specs.Answers as core
 use Rattle.flow_record.specs.declared.command.Command.{Command}
 use Rattle.flow_reply.specs.declared.answer.Answer.TheVariants.{Took, Did, Done, Failed, Rewound, Committed}
-use Rattle.flow_drive.specs.Answers.{Answers}
+use Rattle.flow_reply.specs.Answers.{Answers}
 use Rattle.flow_keep.specs.Holding.{run_of, is_broken}
 use Rattle.flow_keep_cli.specs.Session.{driver}
 use Rattle.flow_keep_cli.proofs.Faults.{failed_of}

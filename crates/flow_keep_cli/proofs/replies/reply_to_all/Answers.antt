@@ -4,7 +4,7 @@ use Rattle.std.proofs.KnownBytes.{Appends-trans}
 use Rattle.flow_core.specs.Run.{Run}
 use Rattle.flow_record.specs.declared.command.Command.TheVariants.{Take}
 use Rattle.flow_reply.specs.Reply.{IsReplyLine}
-use Rattle.flow_drive.proofs.SessionLemmas.{drives_next}
+use Rattle.flow_reply.proofs.SessionLemmas.{drives_next}
 use Rattle.flow_keep.specs.Holding.{run_of, disk_of}
 use Rattle.flow_keep_cli.specs.Session.{driver}
 use Rattle.flow_keep_cli.proofs.Cuts.{cut_disk, cut_memory, cut_sink}

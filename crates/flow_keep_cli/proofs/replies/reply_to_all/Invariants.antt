@@ -1,6 +1,6 @@
 use Rattle.std.proofs.Common.{◌≡◌, ℕ, List, false, take}
 use Rattle.std.specs.Io.KnownBytes.{Appends}
-use Rattle.flow_drive.specs.Replies.{Drives}
+use Rattle.flow_reply.specs.Replies.{Drives}
 use Rattle.flow_keep.specs.Holding.{run_of, disk_of, is_broken}
 use Rattle.flow_keep_cli.specs.Session.{driver}
 use Rattle.flow_keep_cli.proofs.replies.reply_to_all.Given as goal

@@ -1,5 +1,5 @@
 use Rattle.std.proofs.Common.{refl}
-use Rattle.flow_drive.proofs.SessionLemmas.{reported_as}
+use Rattle.flow_reply.proofs.SessionLemmas.{reported_as}
 use Rattle.flow_cli.specs.Finding as finding
 use Rattle.flow_cli.proofs.run.Crew.report.Goals as goal
 

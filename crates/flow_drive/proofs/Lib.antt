@@ -1,3 +1,0 @@
-pub mod AnswersLemmas
-pub mod SessionLemmas
-pub mod OnceLemmas

@@ -1,4 +1,0 @@
-pub mod Answers
-pub mod Replies
-pub mod Verdict
-pub mod Session
