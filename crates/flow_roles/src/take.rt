@@ -26,7 +26,7 @@ impl Desk {
     }
 
     /// The first duty that keeps the event from the user.
-    fn denial(&self, event: u32, by: u32) -> Option<Denied>
+    pub(crate) fn denial(&self, event: u32, by: u32) -> Option<Denied>
         ensures { MatchOption result (IsLeftTo self.now by event) (IsDenied self.now by event) }
     {
         if !self.policy.has_role(by, event) {
