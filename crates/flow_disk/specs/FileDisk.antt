@@ -1,5 +1,5 @@
 -- Which file is open, and when every call but `open` fails.
-use Rattle.std.specs.Prelude.{◌≡◌, ◌⊎◌, ℕ, true, Option, Some, None, IsNone}
+use Rattle.std.specs.Prelude.{◌≡◌, ◌⊎◌, ℕ, true, Option, Some, None}
 use Rattle.flow_disk.specs.declared.file_disk.FileDisk.{FileDisk}
 
 -- the number of any file that is open: nothing is told of which it is

@@ -65,11 +65,12 @@ IsOfFault (looked.Refused output) = output.status ≡ front.ReadFault
 abbrev pub IsTaken : Option (List ℕ) → Option (List ℕ) → Type 0
 IsTaken left left' = IsReadWhole left left' ⊎ LosesCount left left' (GREATEST_INPUT + 1)
 
--- the same by what came of it: all of it where it asks for a session, or for one of a workflow that no execution meets
+-- all of it is read, but where the input is too long, or the source failed
 abbrev pub IsTakenBy : Option (List ℕ) → Option (List ℕ) → Looked → Type 0
 IsTakenBy left left' (looked.Ready asked) = IsReadWhole left left'
 IsTakenBy left left' (looked.Refused output) =
-    (output.status ≡ front.No → IsReadWhole left left') × (¬ (output.status ≡ front.ReadFault) → IsTaken left left')
+    IsReadWhole left left'
+    ⊎ (((output.status ≡ front.Refused) × LosesCount left left' (GREATEST_INPUT + 1)) ⊎ (output.status ≡ front.ReadFault))
 
 -- a session of a workflow, kept in the file of that path, in so many steps at most
 pub record Wanted : Type 0 where

@@ -57,6 +57,7 @@ fn look_in(alloc: Global, input: &Input) -> Result<Looked, AllocError>
 }
 
 /// What a source asks for, or why it is refused, in words.
+#[tactic(auto, using(crate::proofs::Taken::taken_whole, crate::proofs::Taken::taken_stopped))]
 pub(crate) fn look<S: Source>(alloc: Global, source: &mut S) -> Result<Looked, AllocError>
     requires { S.faults source.old < 2 ^ 64 - 1 }
     ensures looked { IfOk result (IsLooked (S.left source.old)) }

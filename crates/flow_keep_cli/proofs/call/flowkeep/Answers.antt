@@ -14,6 +14,7 @@ module _ (g : _) (c : goal.After-keep_session g) where
 
   is_wanted : IsWanted (map (λ word. string_bytes word) c.args.words.now) (g.S.Source.left c.args.source.now) wanted
   is_wanted = record {
+    no_help = λ help. let asked = c.asks_for_help.ensures.1 help in cc;
     call = c.in-Some.ensures.call;
     compiled = c.in-Ok-Ready.asked.compiled;
     asked = subst (λ (l : Looked). IsLooked (g.S.Source.left c.args.source.now) l) c.in-Ok-Ready.field-0-is c.in-Ok-Ready.ensures.looked;
@@ -43,7 +44,7 @@ turned g c =
     let output = c.in-Ok-Refused.output in
     let looked = subst (λ (l : Looked). IsLooked source l) c.in-Ok-Refused.field-0-is c.in-Ok-Refused.ensures.looked in
     let refused = subst (λ (text : List ℕ). IsRefusedBy source output.status text) (sym c.deref.ensures.value) looked in
-    (refl, (c.from.result, (c.deref.result.now, inr (c.in-Some.call.path.now, (c.in-Some.call.steps, c.in-Some.ensures.call, (output.status, c.from.ensures, refused))), c.say-status.ensures.said)))
+    (refl, (c.from.result, (c.deref.result.now, inr ((λ help. let asked = c.asks_for_help.ensures.1 help in cc), inr (c.in-Some.call.path.now, (c.in-Some.call.steps, c.in-Some.ensures.call, (output.status, c.from.ensures, refused)))), c.say-status.ensures.said)))
 
 pub returns-in-Ok-Refused-clause-whole : goal.returns-in-Ok-Refused-clause-whole
 returns-in-Ok-Refused-clause-whole g c = λ over. inl (turned g c)
