@@ -24,7 +24,8 @@ use std::alloc::Global;
 const WORDS_TEXT: &[u8] = b"refused: words\nusage: flowkeep PATH [--steps N]\n";
 
 /// What is written where help is asked for.
-const HELP_TEXT: &[u8] = b"usage: flowkeep PATH [--steps N]\n\nDrives a workflow by a session, and keeps the run in the file PATH. Standard input has the\nworkflow, a line `%%` and the session. With the file of an earlier call the run goes on.\n\n  --steps N   the greatest number of entries of the history; 65536 where it is not given\n  --help      writes this text\n";
+const HELP_TEXT: &[u8] =
+    b"usage: flowkeep PATH [--steps N]\n\nDrives a workflow by a session, and keeps the run in the file PATH. Standard input has the\nworkflow, a line `%%` and the session. With the file of an earlier call the run goes on.\n\n  --steps N   the greatest number of entries of the history; 65536 where it is not given\n  --help      writes this text\n";
 
 /// Keeps a session in the file that the call names.
 fn keep_session<K: Sink, D: Disk>(

@@ -79,9 +79,21 @@ fn tell<R: Print>(rt: &R, what: &str, tried: Result<bool, DiskFailed>) -> Result
 }
 
 fn main(rt: HostRuntime) -> Result<()> {
-    tell(&rt, "what is written is kept at its place", keeps_what_is_written(&rt))?;
-    tell(&rt, "a file is for one at a time", is_for_one_at_a_time(&rt))?;
+    tell(
+        &rt,
+        "what is written is kept at its place",
+        keeps_what_is_written(&rt),
+    )?;
+    tell(
+        &rt,
+        "a file is for one at a time",
+        is_for_one_at_a_time(&rt),
+    )?;
     tell(&rt, "a folder is refused", Ok(refuses_a_folder(&rt)))?;
     tell(&rt, "what fails is told", tells_what_fails(&rt))?;
-    tell(&rt, "no part is taken for the whole", takes_no_part_for_the_whole(&rt))
+    tell(
+        &rt,
+        "no part is taken for the whole",
+        takes_no_part_for_the_whole(&rt),
+    )
 }
